@@ -1,7 +1,6 @@
 -- A face without a repeated vertex has four different corners.
 use Rattle.std.proofs.Common.{◌≡◌, ◌≢◌, ℕ, zero, suc, ◌<◌, Bool, true, false, cond, eqb, List, [], ◌∷◌, length, get_or}
-use Rattle.std.proofs.Common.{Option, Some, None, sym, arith, refl}
-use Rattle.std.proofs.Common.{◌⊎◌, inl, inr, ◌∙◌, subst}
+use Rattle.std.proofs.Common.{Option, Some, None, sym, arith, refl, ◌⊎◌, inl, inr, ◌∙◌, subst}
 use Rattle.std.proofs.lemmas.Bool.{or_parts, or_cases, eqb-true, eqb-false, false≢true}
 use Rattle.std.proofs.lemmas.Option.{none-some, same_Some}
 use Rattle.std.specs.List.{list_any}

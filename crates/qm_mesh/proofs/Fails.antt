@@ -1,8 +1,7 @@
 -- A list that is refused is no manifold.
 use Rattle.std.proofs.Common.{◌≡◌, ◌≢◌, ℕ, ◌<◌, [], length, get_or, Result, Ok, Err, IfErr, subst, refl, arith}
 use Rattle.def_mesh.specs.{Faces.Faces, Faults.IsFirstFault, Manifold.IsManifold, declared.Place.Place}
-use Rattle.def_mesh.specs.declared.Place.TheVariants.{Repeated, EdgeTwice}
-use Rattle.def_mesh.specs.declared.Place.TheVariants.{TwoFans}
+use Rattle.def_mesh.specs.declared.Place.TheVariants.{Repeated, EdgeTwice, TwoFans}
 use Rattle.qm_mesh.specs.{Refusals.IsRefusal, declared.fail.MeshFail.MeshFail}
 use Rattle.qm_mesh.specs.declared.fail.MeshFail.TheVariants.{NotManifold, Memory}
 use Rattle.qm_mesh.proofs.Corners.{not_repeat_free}

@@ -2,13 +2,11 @@
 use Rattle.std.proofs.Common.{◌≡◌, ◌⊎◌, ℕ, ◌<◌, Bool, true, false, not, ◌||◌, cond, List, length, get_or, Some, None}
 use Rattle.std.proofs.Common.{is_some, sym, subst, ap, ◌∙◌, inl, inr, arith}
 use Rattle.std.proofs.lemmas.Bool.{cases_Bool, or_left, or_right, or_from, or_cases, eqb-true, eq-eqb, ne_eqb}
-use Rattle.std.proofs.lemmas.Bool.{not_from_true, not_from_false}
-use Rattle.std.proofs.lemmas.List.FromFn.{length-range_with_len, get_or-range_with_len}
-use Rattle.std.proofs.lemmas.List.Sums.{list_all-from_AllPass}
-use Rattle.std.proofs.lemmas.List.Folds.{list_all_at}
+use Rattle.std.proofs.lemmas.{Bool.not_from_true, Bool.not_from_false, List.Sums.list_all-from_AllPass}
+use Rattle.std.proofs.lemmas.List.{FromFn.length-range_with_len, FromFn.get_or-range_with_len, Folds.list_all_at}
 use Rattle.std.specs.Bool.{MatchBool}
-use Rattle.def_mesh.specs.{Faces.Faces, Darts.darts, Darts.all_darts, Darts.from_of, Darts.to_of, Darts.next_of}
-use Rattle.def_mesh.specs.{Darts.prev_of, Darts.twin_of, Manifold.IsManifold, Kinds.is_end, Kinds.is_inner}
+use Rattle.def_mesh.specs.{Faces.Faces, Manifold.IsManifold, Kinds.is_end, Kinds.is_inner}
+use Rattle.def_mesh.specs.Darts.{darts, all_darts, from_of, to_of, next_of, prev_of, twin_of}
 use Rattle.qm_mesh.specs.Pairs.{ArePartners, IsPaired, IsAlone}
 use Rattle.mesh_laws.proofs.Darts.{next_of_low, prev_of_low, prev_of-next_of, next_of-prev_of}
 use Rattle.mesh_laws.proofs.Fans.{IsFan}

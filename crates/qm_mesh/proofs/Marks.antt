@@ -1,6 +1,6 @@
 -- The pass over the vertices that pairs darts: each step keeps what the loops know.
 use Rattle.std.proofs.Common.{◌≡◌, ◌≢◌, ◌⊎◌, ℕ, ◌+◌, ◌<◌, ◌≤◌, List, length, get_or, set, Option, Some, None, sym}
-use Rattle.std.proofs.Common.{subst, ap, ◌∙◌, refl, inl, inr, arith}
+use Rattle.std.proofs.Common.{ap, ◌∙◌, refl, inl, inr, arith}
 use Rattle.std.proofs.lemmas.Bool.{cases_eq, cases_lt, cases_order}
 use Rattle.std.proofs.lemmas.List.{get_or-set_same, get_or-set_other, set_past}
 use Rattle.std.specs.Option.{option_or}
@@ -41,46 +41,35 @@ put_darts faces old at d all low u p = elim (cases_eq u at) [
   | inr ne ↦ rw (get_or-set_other old at u d 0 ne) (all u p)
 ]
 
-put_marks : (faces : Faces) (v : ℕ) (fan : List ℕ) → IsFan faces v fan → (i : ℕ) (old : List ℕ) → i < length fan
-    → to_of faces (get_or fan i 0) < length old → ((t : ℕ) → t < i → IsMark faces v old (get_or fan t 0))
-    → (get_or old (to_of faces (get_or fan i 0)) 0 < get_or fan i 0
-    → ¬ Runs faces (get_or old (to_of faces (get_or fan i 0)) 0) v (to_of faces (get_or fan i 0))) → (t : ℕ)
-    → t < i + 1 → IsMark faces v (set old (to_of faces (get_or fan i 0)) (get_or fan i 0)) (get_or fan t 0)
-put_marks faces v fan h i old l low marks new t k = by_place t k (last_or i t k)
-  where
-    by_place : (t : ℕ) → t < i + 1 → (t < i) ⊎ (t ≡ i)
-        → IsMark faces v (set old (to_of faces (get_or fan i 0)) (get_or fan i 0)) (get_or fan t 0)
-    by_place t k (inr s) = subst (λ (x : ℕ). IsMark faces v (set old (to_of faces (get_or fan i 0)) (get_or fan i 0))
-        (get_or fan x 0)) (sym s)
-        (let g : get_or (set old (to_of faces (get_or fan i 0)) (get_or fan i 0)) (to_of faces (get_or fan i 0)) 0
-        ≡ get_or fan i 0 = get_or-set_same old _ _ 0 low in
-        record { runs = (ap (from_of faces) g ∙ h.leaves i l, ap (to_of faces) g); least = omega (arith, g) })
-    by_place t k (inl b) = elim (cases_eq (to_of faces (get_or fan t 0)) (to_of faces (get_or fan i 0))) [
-      | inl s ↦ absurd (new
-          (omega (arith, ap (λ x. get_or old x 0) s, (marks t b).least, h.increasing t i b l))
-          (subst (λ (x : ℕ). Runs faces (get_or old x 0) v x) s (marks t b).runs))
-      | inr ne ↦ let g : get_or (set old (to_of faces (get_or fan i 0)) (get_or fan i 0)) (to_of faces (get_or fan t 0))
-          0 ≡ get_or old (to_of faces (get_or fan t 0)) 0 = get_or-set_other old _ _ _ 0 ne in
-          record {
-            runs = subst (λ (x : ℕ). Runs faces x v (to_of faces (get_or fan t 0))) (sym g) (marks t b).runs;
-            least = omega (arith, g, (marks t b).least);
-          }
-    ]
+module _ {faces : Faces} {v : ℕ} {fan : List ℕ} (h : IsFan faces v fan) {i : ℕ} (old : List ℕ) (l : i < length fan)
+    (marks : (t : ℕ) → t < i → IsMark faces v old (get_or fan t 0))
+    (new : get_or old (to_of faces (get_or fan i 0)) 0 < get_or fan i 0
+    → ¬ Runs faces (get_or old (to_of faces (get_or fan i 0)) 0) v (to_of faces (get_or fan i 0))) where
+  put_marks : to_of faces (get_or fan i 0) < length old → (t : ℕ) → t < i + 1
+      → IsMark faces v (set old (to_of faces (get_or fan i 0)) (get_or fan i 0)) (get_or fan t 0)
+  put_marks low t k = by_place t k (last_or i t k)
+    where
+      by_place : (t : ℕ) → t < i + 1 → (t < i) ⊎ (t ≡ i)
+          → IsMark faces v (set old (to_of faces (get_or fan i 0)) (get_or fan i 0)) (get_or fan t 0)
+      by_place t k (inr s) =
+          let g : get_or (set old (to_of faces (get_or fan i 0)) (get_or fan i 0)) (to_of faces (get_or fan i 0)) 0
+          ≡ get_or fan i 0 = get_or-set_same old _ _ 0 low in
+          rw s (record { runs = (ap (from_of faces) g ∙ h.leaves i l, ap (to_of faces) g); least = omega (arith, g) })
+      by_place t k (inl b) = elim (cases_eq (to_of faces (get_or fan t 0)) (to_of faces (get_or fan i 0))) [
+        | inl s ↦ absurd (new (omega (arith, ap (λ x. get_or old x 0) s, (marks t b).least, h.increasing t i b l))
+            (rw (← s) (marks t b).runs))
+        | inr ne ↦ let g : get_or (set old (to_of faces (get_or fan i 0)) (get_or fan i 0))
+            (to_of faces (get_or fan t 0)) 0 ≡ get_or old (to_of faces (get_or fan t 0)) 0 =
+            get_or-set_other old _ _ _ 0 ne in
+            record { runs = rw g (marks t b).runs; least = omega (arith, g, (marks t b).least) }
+      ]
 
--- No dart before d runs as it does.
-put_none : (faces : Faces) (v : ℕ) (fan : List ℕ) → IsFan faces v fan → (i : ℕ) (old : List ℕ) → i < length fan
-    → ((t : ℕ) → t < i → IsMark faces v old (get_or fan t 0))
-    → (get_or old (to_of faces (get_or fan i 0)) 0 < get_or fan i 0
-    → ¬ Runs faces (get_or old (to_of faces (get_or fan i 0)) 0) v (to_of faces (get_or fan i 0))) → (j : ℕ)
-    → j < get_or fan i 0 → from_of faces j ≡ v → ¬ IsSameEdge faces j (get_or fan i 0)
-put_none faces v fan h i old l marks new j low start same =
-    let p : (r : ℕ) × (r < i) × (get_or fan r 0 ≡ j) = earlier_place faces v fan h i j l low start in
-    at_mark p.0 p.1 p.2
-  where
-    at_mark : (s : ℕ) → s < i → get_or fan s 0 ≡ j → ⊥
-    at_mark s b e = new
-        (omega (arith, ap (λ x. get_or old x 0) (ap (to_of faces) e ∙ same.1), (marks s b).least))
-        (subst (λ (x : ℕ). Runs faces (get_or old x 0) v x) (ap (to_of faces) e ∙ same.1) (marks s b).runs)
+  -- No dart before d runs as it does.
+  put_none : (j : ℕ) → j < get_or fan i 0 → from_of faces j ≡ v → ¬ IsSameEdge faces j (get_or fan i 0)
+  put_none j low start same =
+      let p : (r : ℕ) × (r < i) × (get_or fan r 0 ≡ j) = earlier_place faces v fan h i j l low start in
+      let e : to_of faces (get_or fan p.0 0) ≡ to_of faces (get_or fan i 0) = ap (to_of faces) p.2 ∙ same.1 in
+      new (omega (arith, ap (λ x. get_or old x 0) e, p.2, (marks p.0 p.1).least)) (rw (← e) (marks p.0 p.1).runs)
 
 put_first : (faces : Faces) (v : ℕ) (fan : List ℕ) (i : ℕ) → ((j : ℕ) → j < get_or fan i 0 → from_of faces j ≡ v
     → ¬ IsSameEdge faces j (get_or fan i 0)) → (o : Option Doubled) → FirstBefore faces v fan i o
@@ -91,8 +80,7 @@ put_first faces v fan i here None none = λ j t k. by_place j t (last_or i t k)
     by_place : (j t : ℕ) → (t < i) ⊎ (t ≡ i) → j < get_or fan t 0 → from_of faces j ≡ v
         → ¬ IsSameEdge faces j (get_or fan t 0)
     by_place j t (inl b) = none j t b
-    by_place j t (inr s) = subst (λ (x : ℕ). j < get_or fan x 0 → from_of faces j ≡ v
-        → ¬ IsSameEdge faces j (get_or fan x 0)) (sym s) (here j)
+    by_place j t (inr s) = rw s (here j)
 
 -- A lesser dart that runs as d does, at its end.
 kept_marks : (faces : Faces) (v : ℕ) (fan old : List ℕ) (i m : ℕ)
@@ -103,12 +91,7 @@ kept_marks faces v fan old i m marks e low runs t k = by_place t (last_or i t k)
   where
     by_place : (t : ℕ) → (t < i) ⊎ (t ≡ i) → IsMark faces v old (get_or fan t 0)
     by_place t (inl b) = marks t b
-    by_place t (inr s) = subst (λ (x : ℕ). IsMark faces v old (get_or fan x 0)) (sym s)
-        (record {
-          runs = subst (λ (x : ℕ). Runs faces x v (to_of faces (get_or fan i 0))) e runs;
-          least =
-              omega (arith, e);
-        })
+    by_place t (inr s) = rw s (record { runs = rw (← e) runs; least = omega (arith, e) })
 
 found_first : (faces : Faces) (v : ℕ) (fan : List ℕ) → IsFan faces v fan → (i m d : ℕ) → i < length fan
     → d ≡ get_or fan i 0 → m < get_or fan i 0 → Runs faces m v (to_of faces (get_or fan i 0)) → (o : Option Doubled)
@@ -119,8 +102,7 @@ found_first faces v fan h i m d l e low runs None none = (
   record {
     before = omega (arith, e);
     is_dart = omega (arith, e, h.dart i l);
-    same =
-        (runs.0 ∙ sym (h.leaves i l) ∙ ap (from_of faces) (sym e), runs.1 ∙ ap (to_of faces) (sym e));
+    same = rw e (runs.0 ∙ sym (h.leaves i l), runs.1);
   },
   nothing,
 )
@@ -129,41 +111,37 @@ found_first faces v fan h i m d l e low runs None none = (
     nothing j k less below start same =
         let p : (r : ℕ) × (r < i) × (get_or fan r 0 ≡ k) =
         earlier_place faces v fan h i k l (omega (arith, e)) (sym same.0 ∙ start) in
-        none j p.0 p.1 (omega (arith, p.2)) start (subst (λ (x : ℕ). IsSameEdge faces j x) (sym p.2) same)
+        none j p.0 p.1 (omega (arith, p.2)) start (rw p.2 same)
 
 -- One dart more of the fan.
-pub mark_more : (faces : Faces) (v : ℕ) (fan : List ℕ) → IsFan faces v fan
-    → (i : ℕ) (old new : List ℕ) (twice found : Option Doubled) → i < length fan → to_of faces (get_or fan i 0)
-    < length old → AreMarkedBefore faces v fan i old twice → MarksOne faces v (get_or fan i 0) old new found
+pub mark_more : {faces : Faces} {v i : ℕ} {fan old : List ℕ} {twice : Option Doubled} (new : List ℕ)
+    (found : Option Doubled) → IsFan faces v fan
+    → i < length fan → to_of faces (get_or fan i 0) < length old → AreMarkedBefore faces v fan i old twice
+    → MarksOne faces v (get_or fan i 0) old new found
     → AreMarkedBefore faces v fan (i + 1) new (option_or twice found)
-mark_more faces v fan h i old new twice None l low b m = rw m.0 (record {
+mark_more {faces} {v} {i} {fan} {old} {twice} new None h l low b m = rw m.0 (record {
   darts = put_darts faces old _ _ b.darts (h.dart i l);
-  marks = put_marks faces v fan h i old l low b.marks m.1;
-  first = put_first faces v fan i (put_none faces v fan h i old l b.marks m.1) twice b.first;
+  marks = put_marks h old l b.marks m.1 low;
+  first = put_first faces v fan i (put_none h old l b.marks m.1) twice b.first;
 })
-mark_more faces v fan h i old new twice (Some q) l low b m = rw m.0 (record {
+mark_more {faces} {v} {i} {fan} {old} {twice} new (Some q) h l low b m = rw m.0 (record {
   darts = b.darts;
   marks = kept_marks faces v fan old i q.earlier b.marks m.1 m.3 m.4;
   first = found_first faces v fan h i q.earlier q.later l m.2 m.3 m.4 twice b.first;
 })
 
 -- The whole fan has been taken.
-pub marked_all : (faces : Faces) (v : ℕ) (fan : List ℕ) → IsFan faces v fan
-    → (i : ℕ) (by_end : List ℕ) (twice : Option Doubled) → length fan ≤ i → AreMarkedBefore faces v fan i by_end twice
-    → AreMarked faces v by_end
-marked_all faces v fan h i by_end twice l b d low e =
-    let p : (t : ℕ) × (t < length fan) × (get_or fan t 0 ≡ d) = h.place d low e in
-    subst (λ (x : ℕ). Runs faces (get_or by_end (to_of faces x) 0) v (to_of faces x)) p.2
-    (b.marks p.0 (omega (arith, p.1))).runs
+pub marked_all : {faces : Faces} {v i : ℕ} {fan by_end : List ℕ} {twice : Option Doubled} → IsFan faces v fan
+    → length fan ≤ i → AreMarkedBefore faces v fan i by_end twice → AreMarked faces v by_end
+marked_all h l b d low e =
+    let p = h.place d low e in rw (← p.2) (b.marks p.0 (omega (arith, p.1))).runs
 
-pub first_of_all : (faces : Faces) (v : ℕ) (fan : List ℕ) → IsFan faces v fan
-    → (i : ℕ) (by_end : List ℕ) (twice : Option Doubled) → length fan ≤ i → AreMarkedBefore faces v fan i by_end twice
-    → IsFirstAt faces v twice
-first_of_all faces v fan h i by_end (Some p) l b = b.first
-first_of_all faces v fan h i by_end None l b = λ j k less below start same.
-    let p : (r : ℕ) × (r < length fan) × (get_or fan r 0 ≡ k) = h.place k below (sym same.0 ∙ start) in
-    b.first j p.0 (omega (arith, p.1)) (omega (arith, p.2)) start (subst (λ (x : ℕ). IsSameEdge faces j x) (sym p.2)
-    same)
+pub first_of_all : {faces : Faces} {v i : ℕ} {fan by_end : List ℕ} {twice : Option Doubled} → IsFan faces v fan
+    → length fan ≤ i → AreMarkedBefore faces v fan i by_end twice → IsFirstAt faces v twice
+first_of_all {twice = Some p} h l b = b.first
+first_of_all {twice = None} h l b = λ j k less below start same.
+    let p = h.place k below (sym same.0 ∙ start) in
+    b.first j p.0 (omega (arith, p.1)) (omega (arith, p.2)) start (rw p.2 same)
 
 -- The darts that arrive before the first i corners of v have their partners, and no dart that ends elsewhere changed.
 pub record ArePairedBefore (faces : Faces) (v : ℕ) (fan : List ℕ) (i : ℕ) (old new : List ℕ) : Type 0 where
@@ -200,8 +178,7 @@ pub paired_all : (faces : Faces) (v : ℕ) (fan : List ℕ) → IsFan faces v fa
 paired_all faces v fan h i old now l b e low ends =
     let p : (t : ℕ) × (t < length fan) × (get_or fan t 0 ≡ next_of e) =
     h.place (next_of e) (next_of_low faces e low) ends in
-    subst (λ (x : ℕ). IsPartner faces x (get_or now x 0)) (ap prev_of p.2 ∙ prev_of-next_of e)
-    (b.each p.0 (omega (arith, p.1)))
+    rw (← prev_of-next_of e, ← p.2) (b.each p.0 (omega (arith, p.1)))
 
 -- Fewer darts, fewer that follow another.
 fewer : (faces : Faces) (v m n : ℕ) → n ≤ m → NoneTwice faces v m → NoneTwice faces v n
@@ -211,29 +188,24 @@ fewer faces v m n l none j k less below start same = none j k less (omega arith)
 one_more : (faces : Faces) (v top : ℕ) → ((u : ℕ) → u < v → NoneTwice faces u top) → NoneTwice faces v top → (u : ℕ)
     → u < v + 1 → NoneTwice faces u top
 one_more faces v top before here u l =
-    elim (last_or v u l) [ inl b ↦ before u b | inr s ↦ subst (λ (x : ℕ). NoneTwice faces x top) (sym s) here ]
+    elim (last_or v u l) [ inl b ↦ before u b | inr s ↦ rw s here ]
 
 pub lesser_first : (faces : Faces) (v : ℕ) (a b c : Option Doubled) → IsFirstBelow faces v a → IsFirstAt faces v b
     → IsEarlier a b c → IsFirstBelow faces (v + 1) c
-lesser_first faces v None None c below here e = subst (λ (x : Option Doubled). IsFirstBelow faces (v + 1) x) (sym e)
-    (one_more faces v (darts faces) below here)
-lesser_first faces v None (Some q) c below here e =
-    subst (λ (x : Option Doubled). IsFirstBelow faces (v + 1) x) (sym e) (
-      here.0,
-      one_more faces v q.later (λ u l. fewer faces u (darts faces) q.later (omega (arith, here.0.is_dart))
-          (below u l)) here.1,
-    )
-lesser_first faces v (Some p) None c below here e =
-    subst (λ (x : Option Doubled). IsFirstBelow faces (v + 1) x) (sym e) (
-      below.0,
-      one_more faces v p.later below.1 (fewer faces v (darts faces) p.later (omega (arith, below.0.is_dart))
-          here),
-    )
-lesser_first faces v (Some p) (Some q) c below here (inl e) =
-    subst (λ (x : Option Doubled). IsFirstBelow faces (v + 1) x) (sym e.1)
+lesser_first faces v None None c below here e = rw e (one_more faces v (darts faces) below here)
+lesser_first faces v None (Some q) c below here e = rw e (
+  here.0,
+  one_more faces v q.later
+      (λ u l. fewer faces u (darts faces) q.later (omega (arith, here.0.is_dart)) (below u l)) here.1,
+)
+lesser_first faces v (Some p) None c below here e = rw e (
+  below.0,
+  one_more faces v p.later below.1
+      (fewer faces v (darts faces) p.later (omega (arith, below.0.is_dart)) here),
+)
+lesser_first faces v (Some p) (Some q) c below here (inl e) = rw e.1
     (here.0, one_more faces v q.later (λ u l. fewer faces u p.later q.later (omega (arith, e.0)) (below.1 u l)) here.1)
-lesser_first faces v (Some p) (Some q) c below here (inr e) =
-    subst (λ (x : Option Doubled). IsFirstBelow faces (v + 1) x) (sym e.1)
+lesser_first faces v (Some p) (Some q) c below here (inr e) = rw e.1
     (below.0, one_more faces v p.later below.1 (fewer faces v q.later p.later (omega (arith, e.0)) here.1))
 
 -- Partners of the darts that arrive at the vertices below v, and at v.

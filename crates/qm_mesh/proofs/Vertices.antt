@@ -1,12 +1,10 @@
 -- The number of vertices, and the length of a fan.
-use Rattle.std.proofs.Common.{◌≡◌, ℕ, zero, suc, ◌+◌, ◌*◌, ◌/◌, ◌%◌}
-use Rattle.std.proofs.Common.{◌<◌, true, IsTrue, ltb, eqb, List, []}
-use Rattle.std.proofs.Common.{length, get_or, ap, ◌∙◌, sym, subst, refl}
-use Rattle.std.proofs.{Common.arith, lemmas.Bool.ltb-true, lemmas.Bool.eqb-true, lemmas.List.Sums.AllPass-from_list_all}
-use Rattle.std.proofs.{lemmas.List.Folds.Any-from_list_any, lemmas.List.get_or_default}
+use Rattle.std.proofs.Common.{◌≡◌, ℕ, zero, suc, ◌+◌, ◌*◌, ◌/◌, ◌%◌, ◌<◌, true, IsTrue, ltb, eqb, List, [], length}
+use Rattle.std.proofs.Common.{get_or, ap, ◌∙◌, sym, subst, refl, arith}
+use Rattle.std.proofs.lemmas.{Bool.ltb-true, Bool.eqb-true, List.Sums.AllPass-from_list_all, List.get_or_default}
+use Rattle.std.proofs.lemmas.List.Folds.{Any-from_list_any}
 use Rattle.std.specs.List.{list_all, list_any, Any}
-use Rattle.def_mesh.specs.Faces.{Faces, corner}
-use Rattle.def_mesh.specs.Darts.{darts, next_of, to_of, from_of}
+use Rattle.def_mesh.specs.{Faces.Faces, Faces.corner, Darts.darts, Darts.next_of, Darts.to_of, Darts.from_of}
 use Rattle.def_mesh.specs.Vertices.{vertex_count, faces_at, fan_of, names_below, UsesEach}
 use Rattle.qm_mesh.specs.Tables.{NamesBelow, HasCorners}
 use Rattle.mesh_laws.proofs.{Darts.next_of_low, Fans.IsFan, Fans.is_fan, Vertices.all_below, Vertices.count_least}

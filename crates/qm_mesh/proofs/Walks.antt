@@ -1,8 +1,7 @@
 -- Walks round a vertex: what stays so as a walk goes on, and two of them together.
 use Rattle.std.proofs.Common.{◌≡◌, ◌≢◌, ◌⊎◌, ℕ, suc, ◌<◌, Bool, true, false, not, List, length, get_or, set, Some, sym}
-use Rattle.std.proofs.Common.{subst, ap, ◌∙◌, inl, inr}
+use Rattle.std.proofs.{Common.subst, Common.ap, Common.◌∙◌, Common.inl, Common.inr, lemmas.Option.same_Some}
 use Rattle.std.proofs.lemmas.Bool.{cases_eq, cases_lt, cases_Bool, false≢true}
-use Rattle.std.proofs.lemmas.Option.{same_Some}
 use Rattle.std.proofs.lemmas.List.{get_or-set_same, get_or-set_other, get_or_past}
 use Rattle.qm_mesh.specs.Turns.{beside_of, IsSeen, Reaches, IsClosed, IsBehind, IsWalk, IsVisit}
 

@@ -1,8 +1,6 @@
-use Rattle.std.proofs.Common.{◌≡◌, ℕ, length, ap, subst, sym, arith}
-use Rattle.std.proofs.lemmas.List.{length-map}
+use Rattle.std.proofs.{Common.◌≡◌, Common.ℕ, Common.length, Common.ap, Common.arith, lemmas.List.length-map}
 use Rattle.smallvec.specs.SmallVec.{SmallVec}
-use Rattle.def_mesh.specs.Vertices.{vertex_count, UsesEach}
-use Rattle.qm_mesh.specs.Tables.{AreFans}
+use Rattle.def_mesh.specs.Vertices.{vertex_count}
 use Rattle.qm_mesh.proofs.Vertices.{count_is, below_from, corners_from}
 use Rattle.qm_mesh.proofs.manifold.checked_mesh.Goals as goal
 
@@ -19,11 +17,11 @@ from_tables-requires c =
           one_fan = c.in_ok-check_fans.ensures.ok;
         };
         few = c.requires.few;
-        used = subst (λ (n : ℕ). UsesEach n c.args.faces.now) (sym e) c.requires.used;
+        used = rw e c.requires.used;
       };
       small = omega (arith, e, c.ranges.vertices.fits);
       partners = c.in_ok-twins.ensures.ok;
-      each_fan = subst (λ (n : ℕ). AreFans c.args.faces.now n c.in_ok-fans.fans.items) (sym e) c.in_ok-fans.ensures;
+      each_fan = rw e c.in_ok-fans.ensures;
     }
 
 pub check_fans-requires : goal.check_fans-requires

@@ -3,60 +3,57 @@ use Rattle.def_mesh.specs.Vertices.{fan_of}
 use Rattle.qm_mesh.proofs.FanTables.{fan_found}
 use Rattle.qm_mesh.proofs.OneFan.{IsVisited, visited, not_seen, checked_more, two_fans_first, one_fan_all}
 use Rattle.mesh_laws.proofs.Fans.{IsFan, is_fan}
+use Rattle.qm_mesh.proofs.one_fan.check_each.Goals.{After-as_slice, After-is_one_fan}
 use Rattle.qm_mesh.proofs.one_fan.check_each.Goals as goal
 
+-- The darts are those of the vertex, and there is one.
+are : (c : After-as_slice) → c.as_slice.result.now ≡ fan_of c.args.faces.now c.loop-v.v
+are c = c.as_slice.ensures ∙ fan_found _ _ _ _ _ c.requires.tables.each_fan c.loop-v-test.true c.index-fans-v.is
+
+fan : (c : After-as_slice) → IsFan c.args.faces.now c.loop-v.v c.as_slice.result.now
+fan c = is_fan _ _ _ (are c)
+
+used : (c : After-as_slice) → 0 < length c.as_slice.result.now
+used c = omega (arith, ap length (are c), c.requires.tables.used c.loop-v.v c.loop-v-test.true)
+
 pub is_one_fan-requires-clause-used : goal.is_one_fan-requires-clause-used
-is_one_fan-requires-clause-used c =
-    let e : c.as_slice.result.now ≡ fan_of c.args.faces.now c.loop-v.v =
-    c.as_slice.ensures ∙ fan_found _ _ _ _ _ c.requires.tables.each_fan c.loop-v-test.true c.index-fans-v.is in
-    omega (arith, ap length e, c.requires.tables.used c.loop-v.v c.loop-v-test.true)
+is_one_fan-requires-clause-used c = used (goal.at.is_one_fan-requires-clause-used c).After-as_slice
 
 pub is_one_fan-requires-clause-darts : goal.is_one_fan-requires-clause-darts
 is_one_fan-requires-clause-darts c t l =
-    let e : c.as_slice.result.now ≡ fan_of c.args.faces.now c.loop-v.v =
-    c.as_slice.ensures ∙ fan_found _ _ _ _ _ c.requires.tables.each_fan c.loop-v-test.true c.index-fans-v.is in
-    let h : IsFan c.args.faces.now c.loop-v.v c.as_slice.result.now = is_fan _ _ _ e in
+    let h = fan (goal.at.is_one_fan-requires-clause-darts c).After-as_slice in
     omega (arith, h.dart t l, c.requires.tables.partners.long)
 
 pub is_one_fan-requires-clause-unseen : goal.is_one_fan-requires-clause-unseen
 is_one_fan-requires-clause-unseen c =
-    let e : c.as_slice.result.now ≡ fan_of c.args.faces.now c.loop-v.v =
-    c.as_slice.ensures ∙ fan_found _ _ _ _ _ c.requires.tables.each_fan c.loop-v-test.true c.index-fans-v.is in
-    let h : IsFan c.args.faces.now c.loop-v.v c.as_slice.result.now = is_fan _ _ _ e in
-    let used : 0 < length c.as_slice.result.now =
-    omega (arith, ap length e, c.requires.tables.used c.loop-v.v c.loop-v-test.true) in
-    not_seen _ _ _ c.loop-v.invariant _ (h.dart 0 used) (h.leaves 0 used)
+    let at = (goal.at.is_one_fan-requires-clause-unseen c).After-as_slice in
+    not_seen _ _ _ c.loop-v.invariant _ ((fan at).dart 0 (used at)) ((fan at).leaves 0 (used at))
+
+-- What the turn around the vertex saw.
+visit : (c : After-is_one_fan) → IsFan c.args.faces.now c.loop-v.v c.as_slice.result.now
+    → 0 < length c.as_slice.result.now → IsVisited c.args.faces.now c.args.twins.now c.loop-v.v
+    (get_or c.as_slice.result.now 0 0) c.loop-v.seen c.is_one_fan.new.seen
+visit c h some =
+    let tables = c.requires.tables in
+    visited h some tables.partners tables.repeat_free tables.once
+    c.loop-v.invariant (omega (arith, c.is_one_fan.auto.seen, c.loop-v.invariant.long)) c.is_one_fan.ensures.visit
 
 pub returns-then-not-is_one_fan-clause-err : goal.returns-then-not-is_one_fan-clause-err
 returns-then-not-is_one_fan-clause-err c =
-    let e : c.as_slice.result.now ≡ fan_of c.args.faces.now c.loop-v.v =
-    c.as_slice.ensures ∙ fan_found _ _ _ _ _ c.requires.tables.each_fan c.loop-v-test.true c.index-fans-v.is in
-    let h : IsFan c.args.faces.now c.loop-v.v c.as_slice.result.now = is_fan _ _ _ e in
-    let used : 0 < length c.as_slice.result.now =
-    omega (arith, ap length e, c.requires.tables.used c.loop-v.v c.loop-v-test.true) in
-    let w : IsVisited c.args.faces.now c.args.twins.now c.loop-v.v (get_or c.as_slice.result.now 0 0) c.loop-v.seen
-    c.is_one_fan.new.seen =
-    visited _ _ _ _ _ _ h used c.requires.tables.partners c.requires.tables.repeat_free c.requires.tables.once
-    c.loop-v.invariant (omega (arith, c.is_one_fan.auto.seen, c.loop-v.invariant.long))
-    c.is_one_fan.ensures.visit in (
+    let at = goal.at.returns-then-not-is_one_fan-clause-err c in
+    let h = fan at.After-as_slice in (
       c.requires.tables.repeat_free,
       c.requires.tables.once,
-      two_fans_first _ _ _ _ _ _ h w c.loop-v.invariant c.if-not-is_one_fan.ensures.all,
+      two_fans_first h (visit at.After-is_one_fan h (used at.After-as_slice)) c.loop-v.invariant
+          c.if-not-is_one_fan.ensures.all,
     )
 
 pub loop-v-preserved : goal.loop-v-preserved
 loop-v-preserved c =
-    let e : c.as_slice.result.now ≡ fan_of c.args.faces.now c.loop-v.v =
-    c.as_slice.ensures ∙ fan_found _ _ _ _ _ c.requires.tables.each_fan c.loop-v-test.true c.index-fans-v.is in
-    let h : IsFan c.args.faces.now c.loop-v.v c.as_slice.result.now = is_fan _ _ _ e in
-    let used : 0 < length c.as_slice.result.now =
-    omega (arith, ap length e, c.requires.tables.used c.loop-v.v c.loop-v-test.true) in
-    let w : IsVisited c.args.faces.now c.args.twins.now c.loop-v.v (get_or c.as_slice.result.now 0 0) c.loop-v.seen
-    c.is_one_fan.new.seen =
-    visited _ _ _ _ _ _ h used c.requires.tables.partners c.requires.tables.repeat_free c.requires.tables.once
-    c.loop-v.invariant (omega (arith, c.is_one_fan.auto.seen, c.loop-v.invariant.long))
-    c.is_one_fan.ensures.visit in
-    checked_more _ _ _ _ _ _ h w c.loop-v.invariant c.if-not-is_one_fan.ensures.all
+    let at = goal.at.loop-v-preserved c in
+    let h = fan at.After-as_slice in
+    checked_more h (visit at.After-is_one_fan h (used at.After-as_slice)) c.loop-v.invariant
+    c.if-not-is_one_fan.ensures.all
 
 pub returns-clause-ok : goal.returns-clause-ok
 returns-clause-ok c = one_fan_all c.args.faces.now _ _ _ c.requires.tables.within c.loop-v-test.false c.loop-v.invariant

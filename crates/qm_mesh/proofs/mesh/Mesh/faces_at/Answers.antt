@@ -1,4 +1,4 @@
-use Rattle.std.proofs.Common.{◌≡◌, ℕ, ◌<◌, List, length, get_or, ap, subst, ◌∙◌, arith}
+use Rattle.std.proofs.Common.{◌≡◌, ℕ, ◌<◌, List, length, get_or, ap, ◌∙◌, arith}
 use Rattle.std.proofs.lemmas.List.{length-map}
 use Rattle.smallvec.specs.SmallVec.{SmallVec}
 use Rattle.def_mesh.specs.{Faces.Faces, Vertices.faces_at, Vertices.vertex_count}
@@ -7,28 +7,25 @@ use Rattle.qm_mesh.proofs.FanTables.{fan_found}
 use Rattle.mesh_laws.proofs.Vertices.{fan_short}
 use Rattle.qm_mesh.proofs.mesh.Mesh.faces_at.Goals as goal
 
-count : (faces : Faces) (twins : List ℕ) (fans : List (SmallVec ℕ)) (v : ℕ) (fan : SmallVec ℕ)
+count : {faces : Faces} {twins : List ℕ} {fans : List (SmallVec ℕ)} (v : ℕ) (fan : SmallVec ℕ)
     → IsMeshOf faces twins fans → v < vertex_count faces → fan ≡ get_or fans v fan → length fan.items ≡ faces_at faces v
-count faces twins fans v fan k l e =
-    ap length (fan_found faces (vertex_count faces) v fans fan k.each_fan
+count {fans = fans} v fan k l e =
+    ap length (fan_found _ _ v fans fan k.each_fan
     (omega (arith, k.each_fan.long, length-map fans (λ (f : SmallVec ℕ). f.items))) e)
 
 pub overflow_cast-result : goal.overflow_cast-result
 overflow_cast-result c =
-    let k : IsMeshOf c.args.self.now c.self.inside.twins.items c.self.inside.fans.items =
-    subst (λ (f : Faces). IsMeshOf f c.self.inside.twins.items c.self.inside.fans.items) c.self.view_is
-    c.self.invariant in
+    let k = rw c.self.view_is at c.self.invariant in
     omega (
       arith,
       c.len.ensures.value,
-      count c.args.self.now _ _ c.args.v _ k c.requires c.index.ensures,
-      fan_short c.args.self.now c.args.v,
+      count c.args.v _ k c.requires c.index.ensures,
+      fan_short c.args.self.now
+          c.args.v,
       k.mesh.few,
     )
 
 pub returns : goal.returns
 returns c =
-    let k : IsMeshOf c.args.self.now c.self.inside.twins.items c.self.inside.fans.items =
-    subst (λ (f : Faces). IsMeshOf f c.self.inside.twins.items c.self.inside.fans.items) c.self.view_is
-    c.self.invariant in
-    c.len.ensures.value ∙ count c.args.self.now _ _ c.args.v _ k c.requires c.index.ensures
+    let k = rw c.self.view_is at c.self.invariant in
+    c.len.ensures.value ∙ count c.args.v _ k c.requires c.index.ensures

@@ -1,15 +1,11 @@
-use Rattle.std.proofs.Common.{ℕ, length, ap, subst, arith}
-use Rattle.qm_mesh.specs.Tables.{IsMeshOf}
+use Rattle.std.proofs.Common.{length, ap, arith}
 use Rattle.mesh_laws.proofs.{Fans.is_fan, Darts.prev_of_low}
 use Rattle.qm_mesh.proofs.Inner.{inner_is}
 use Rattle.qm_mesh.proofs.mesh.Mesh.is_inner.Goals as goal
-use Rattle.def_mesh.specs.Faces.{Faces}
 
 pub all_paired-requires-clause-darts : goal.all_paired-requires-clause-darts
 all_paired-requires-clause-darts c t l =
-    let k : IsMeshOf c.args.self.now c.self.inside.twins.items c.self.inside.fans.items =
-    subst (λ (f : Faces). IsMeshOf f c.self.inside.twins.items c.self.inside.fans.items) c.self.view_is
-    c.self.invariant in
+    let k = rw c.self.view_is at c.self.invariant in
     omega (
       arith,
       ap length c.deref.ensures.value,
@@ -19,9 +15,7 @@ all_paired-requires-clause-darts c t l =
 
 pub all_paired-requires-clause-before : goal.all_paired-requires-clause-before
 all_paired-requires-clause-before c t l =
-    let k : IsMeshOf c.args.self.now c.self.inside.twins.items c.self.inside.fans.items =
-    subst (λ (f : Faces). IsMeshOf f c.self.inside.twins.items c.self.inside.fans.items) c.self.view_is
-    c.self.invariant in
+    let k = rw c.self.view_is at c.self.invariant in
     omega (
       arith,
       ap length c.deref.ensures.value,
@@ -31,8 +25,6 @@ all_paired-requires-clause-before c t l =
 
 pub returns : goal.returns
 returns c =
-    let k : IsMeshOf c.args.self.now c.self.inside.twins.items c.self.inside.fans.items =
-    subst (λ (f : Faces). IsMeshOf f c.self.inside.twins.items c.self.inside.fans.items) c.self.view_is
-    c.self.invariant in
+    let k = rw c.self.view_is at c.self.invariant in
     inner_is c.args.self.now c.deref.result.now c.args.v c.fan.result.now k.mesh.manifold
     (rw c.deref.ensures.value k.partners) (is_fan _ _ _ c.fan.ensures) c.all_paired.result c.all_paired.ensures

@@ -3,12 +3,13 @@ use Rattle.smallvec.specs.SmallVec.{SmallVec}
 use Rattle.qm_mesh.proofs.mesh.Mesh.vertices.Goals as goal
 
 pub overflow_cast-result : goal.overflow_cast-result
-overflow_cast-result c = let e = c.len.ensures in
+overflow_cast-result c =
+    let fans = c.self.inside.fans in
     omega (
       arith,
       c.len.ensures,
-      c.self.inside.fans.ok.0,
+      fans.ok.0,
       c.self.invariant.each_fan.long,
       c.self.invariant.small,
-      length-map c.self.inside.fans.items (λ (fan : SmallVec ℕ). fan.items),
+      length-map fans.items (λ (fan : SmallVec ℕ). fan.items),
     )
