@@ -20,7 +20,7 @@ pub both_ok : {T E P Q R : Type 0} (r : Result T E) → (P → Q → R) → OnOk
 both_ok (Ok x) f p q = f p q
 both_ok (Err e) f p q = p
 
-module _ (faces : Faces) (marks rest : List Bool) (cutting : IsCutting faces marks) (place : Place)
+module _ {faces : Faces} {marks : List Bool} (rest : List Bool) (cutting : IsCutting faces marks) (place : Place)
     (is : IsSeam (half_edges faces) (is_on marks) place.start place.seam) (long : length rest ≡ length marks)
     (without : IsWithout (half_edges faces) (is_on marks) (is_on rest) place.start place.seam.far place.seam.long) where
   pub cutting_after : IsCutting faces rest
@@ -28,9 +28,8 @@ module _ (faces : Faces) (marks rest : List Bool) (cutting : IsCutting faces mar
     few = cutting.few;
     long = long ∙ cutting.long;
     laws = cutting.laws;
-    full =
-        join_law (half_edges faces) (is_on marks) (is_on rest) place.start place.seam.far place.seam.long cutting.laws
-        cutting.full is.joinable without;
+    full = join_law (half_edges faces) (is_on marks) (is_on rest) place.start place.seam.far place.seam.long
+        cutting.laws cutting.full is.joinable without;
   }
 
   -- What is left was there.
@@ -51,8 +50,7 @@ module _ (faces : Faces) (marks rest : List Bool) (cutting : IsCutting faces mar
       free = free;
       name = place.seam.name;
       named = is.named;
-      first = λ r u m d arc y on.
-          use_name r u m arc y (name_there (half_edges faces) r u m arc.glued.near.some) d on;
+      first = λ r u m d arc y on. use_name r u m arc y (name_there (half_edges faces) r u m arc.glued.near.some) d on;
     };
     long = long;
     without = without;
@@ -64,9 +62,9 @@ module _ (faces : Faces) (marks rest : List Bool) (cutting : IsCutting faces mar
       use_name r u m arc y n d on = omega (arith, least r u m n.0 arc y n.1, n.1.least d on)
 
   -- No arc has its name any more.
-  pub name_gone : (s t n name : ℕ) → IsJoinable (half_edges faces) (is_on rest) s t n
+  pub name_gone : {s t n name : ℕ} → IsJoinable (half_edges faces) (is_on rest) s t n
       → IsNameOf (half_edges faces) s t n name → name ≢ place.seam.name
-  name_gone s t n name arc named e =
+  name_gone {s} {t} {n} {name} arc named e =
       true≢false
       (sym (on_cut (half_edges faces) cutting.laws (is_on rest) cutting_after.full s t n arc.glued name named.on)
       ∙ (ap (is_on rest) e ∙ without.gone place.seam.name is.named.on))
@@ -77,21 +75,19 @@ module _ (faces : Faces) (marks rest : List Bool) (cutting : IsCutting faces mar
       is.joinable.glued place.seam.name is.named.on) (without.gone place.seam.name is.named.on)
 
   -- What is joinable then was joinable before, or is noted anew.
-  module _ (near far : Round) (ones : IsRound (half_edges faces) (is_on marks) place.start near)
+  module _ {near far : Round} (ones : IsRound (half_edges faces) (is_on marks) place.start near)
       (others : IsRound (half_edges faces) (is_on marks) place.seam.far far) where
     near_end : (m : ℕ) × (k : ℕ)
         × StandsOn (half_edges faces) (is_on rest) near.fourth m k ((half_edges faces).prev place.start)
-    near_end = near_over (half_edges faces) cutting.laws (is_on marks) (is_on rest) cutting.full place.start
-        place.seam.far place.seam.long is.joinable without near far ones others
+    near_end = near_over cutting.laws cutting.full is.joinable without ones others
 
     far_end : (m : ℕ) × (k : ℕ)
         × StandsOn (half_edges faces) (is_on rest) far.fourth m k ((half_edges faces).prev place.seam.far)
-    far_end = near_over (half_edges faces) cutting.laws (is_on marks) (is_on rest) cutting.full place.seam.far
-        place.start place.seam.long
+    far_end = near_over cutting.laws cutting.full
         (turned_arc (half_edges faces) cutting.laws (is_on marks) cutting.full place.start place.seam.far
         place.seam.long is.joinable)
         (other_without (half_edges faces) (is_on marks) (is_on rest) place.start place.seam.far place.seam.long without)
-        far near others ones
+        others ones
 
     module _ (old between new : BTreeSet ℕ) (starts one_starts new_starts : List ℕ) where
       abbrev IsNotedFrom : (c : ℕ) (names : BTreeSet ℕ) (table : List ℕ) → Type 0
@@ -115,9 +111,6 @@ module _ (faces : Faces) (marks rest : List Bool) (cutting : IsCutting faces mar
               → IsNoted new new_starts s t name
           by_arc (inl before) = still s t n name arc named (kept s t n name arc named (was before))
           by_arc (inr (inl o)) = still s t n name arc named
-              (noted_over (half_edges faces) cutting.laws (is_on rest) cutting_after.full near.fourth near_end.0
-              near_end.1 ((half_edges faces).prev place.start) near_end.2 between one_starts near_noted s t n name arc
-              o named)
-          by_arc (inr (inr o)) = noted_over (half_edges faces) cutting.laws (is_on rest) cutting_after.full far.fourth
-              far_end.0 far_end.1 ((half_edges faces).prev place.seam.far) far_end.2 new new_starts far_noted s t n
-              name arc o named
+              (noted_over cutting.laws cutting_after.full near_end.2 between one_starts near_noted arc o named)
+          by_arc (inr (inr o)) = noted_over cutting.laws cutting_after.full far_end.2 new new_starts far_noted arc o
+              named

@@ -18,7 +18,7 @@ use Rattle.qm_merge.specs.declared.seams.Seam.{Seam}
 -- Another number is not at a number's place.
 at_bits : (a b : Bool) → b ≡ false → is_eq (cond a Less (cond b Equal Greater)) ≡ false
 at_bits true b e = refl
-at_bits false b e = ap (λ x. is_eq (cond x Equal Greater)) e
+at_bits false b e = cc e
 
 pub apart_at : (k q : ℕ) → (k ≡ q → ⊥) → is_at (nat_cmp k) q ≡ false
 apart_at k q ne = at_bits (ltb k q) (eqb k q) (ne_eqb k q ne)
@@ -26,14 +26,14 @@ apart_at k q ne = at_bits (ltb k q) (eqb k q) (ne_eqb k q ne)
 module _ (old new : BTreeSet ℕ) (k : ℕ) where
   pub put_kept : sorted.Updates nat_cmp old new k true → (name : ℕ) → Waits old name → Waits new name
   put_kept up name w = elim (cases_eq k name) [
-    | inl e ↦ subst (λ (x : ℕ). Waits new x) e up.1
+    | inl e ↦ rw (← e) up.1
     | inr ne ↦ up.2 name (apart_at k name ne) ∙ w
   ]
 
   pub put_below : sorted.Updates nat_cmp old new k true → (count : ℕ) → k < count → AreBelow old count
       → AreBelow new count
   put_below up count low below name w = elim (cases_eq k name) [
-    | inl e ↦ subst (λ (x : ℕ). x < count) e low
+    | inl e ↦ rw (← e) low
     | inr ne ↦ below name (sym (up.2 name (apart_at k name ne)) ∙ w)
   ]
 
@@ -42,7 +42,7 @@ module _ (old new : BTreeSet ℕ) (k : ℕ) where
 
   pub taken_below : sorted.Updates nat_cmp old new k false → (count : ℕ) → AreBelow old count → AreBelow new count
   taken_below up count below name w = elim (cases_eq k name) [
-    | inl e ↦ absurd (false≢true (sym up.1 ∙ subst (λ (x : ℕ). Waits new x) (sym e) w))
+    | inl e ↦ absurd (false≢true (sym up.1 ∙ rw e w))
     | inr ne ↦ below name (sym (up.2 name (apart_at k name ne)) ∙ w)
   ]
 
@@ -60,51 +60,45 @@ pub other_noted : (names : BTreeSet ℕ) (starts : List ℕ) (s t name : ℕ) �
     → IsNoted names starts t s name
 other_noted names starts s t name is = (is.0, elim is.1 [ inl e ↦ inr e | inr e ↦ inl e ])
 
-module _ (mesh : HalfEdges) (laws : IsQuadManifold mesh) (cut : Cut) (full : IsCut mesh cut) where
+module _ {mesh : HalfEdges} (laws : IsQuadManifold mesh) {cut : Cut} (full : IsCut mesh cut) where
   -- A seam has the name of each joinable arc that begins there.
-  pub seam_name : (s : ℕ) (seam : Seam) → IsSeam mesh cut s seam → (t n name : ℕ) → IsJoinable mesh cut s t n
+  pub seam_name : {s : ℕ} {seam : Seam} → IsSeam mesh cut s seam → {t n name : ℕ} → IsJoinable mesh cut s t n
       → IsNameOf mesh s t n name → seam.name ≡ name
-  seam_name s seam is t n name arc named =
+  seam_name {s} {seam} is {t} {n} {name} arc named =
       let far : (seam.far ≡ t) × (seam.long ≡ n) =
       one_far mesh laws cut full s seam.far t seam.long n is.joinable.glued arc.glued in
-      one_name mesh s t n seam.name name
-      (subst (λ (x : ℕ). IsNameOf mesh s t x seam.name) far.1
-      (subst (λ (x : ℕ). IsNameOf mesh s x seam.long seam.name) far.0 is.named)) named
+      one_name mesh s t n seam.name name (rw (← far.1, ← far.0) is.named) named
 
   -- A seam may leave where each joinable arc may that begins there on one side.
-  pub seam_free : (may : Leave) → ((a b c : ℕ) → may a b c ≡ true → may b a c ≡ true) → (start : ℕ) (seam : Seam)
-      → IsSeam mesh cut start seam → (s t n : ℕ) → IsJoinable mesh cut s t n → may s t n ≡ true
+  pub seam_free : (may : Leave) → ((a b c : ℕ) → may a b c ≡ true → may b a c ≡ true) → {start : ℕ} {seam : Seam}
+      → IsSeam mesh cut start seam → {s t n : ℕ} → IsJoinable mesh cut s t n → may s t n ≡ true
       → (start ≡ s) ⊎ (start ≡ t) → may start seam.far seam.long ≡ true
-  seam_free may turn start seam is s t n arc free side = by_side side
+  seam_free may turn {start} {seam} is {s} {t} {n} arc free side = by_side side
     where
       from : (c b : ℕ) → start ≡ c → IsJoinable mesh cut c b n → may c b n ≡ true → may start seam.far seam.long ≡ true
-      from c b e joined y =
-          let here : IsJoinable mesh cut start b n = subst (λ (x : ℕ). IsJoinable mesh cut x b n) (sym e) joined in
+      from c b e joined y = let here : IsJoinable mesh cut start b n = rw e joined in
           let far : (seam.far ≡ b) × (seam.long ≡ n) =
           one_far mesh laws cut full start seam.far b seam.long n is.joinable.glued here.glued in
-          subst (λ (x : ℕ). may start seam.far x ≡ true) (sym far.1)
-          (subst (λ (x : ℕ). may start x n ≡ true) (sym far.0) (subst (λ (x : ℕ). may x b n ≡ true) (sym e) y))
+          rw (far.1, far.0, e) y
 
       by_side : (start ≡ s) ⊎ (start ≡ t) → may start seam.far seam.long ≡ true
       by_side (inl e) = from s t e arc free
       by_side (inr e) = from t s e (turned_arc mesh laws cut full s t n arc) (turn s t n free)
 
   -- No joinable arc has a name that none has which begins at its start.
-  pub none_named : (start name : ℕ) → ((t n : ℕ) → IsJoinable mesh cut start t n → IsNameOf mesh start t n name → ⊥)
-      → (s t n : ℕ) → IsJoinable mesh cut s t n → IsNameOf mesh s t n name → (start ≡ s) ⊎ (start ≡ t) → ⊥
-  none_named start name none s t n arc named (inl e) =
-      none t n (subst (λ (x : ℕ). IsJoinable mesh cut x t n) (sym e) arc)
-      (subst (λ (x : ℕ). IsNameOf mesh x t n name) (sym e) named)
-  none_named start name none s t n arc named (inr e) =
-      none s n (subst (λ (x : ℕ). IsJoinable mesh cut x s n) (sym e) (turned_arc mesh laws cut full s t n arc))
-      (subst (λ (x : ℕ). IsNameOf mesh x s n name) (sym e) (name_other mesh s t n name named))
+  pub none_named : (start : ℕ) {name : ℕ} → ((t n : ℕ) → IsJoinable mesh cut start t n → IsNameOf mesh start t n name
+      → ⊥)
+      → {s t n : ℕ} → IsJoinable mesh cut s t n → IsNameOf mesh s t n name → (start ≡ s) ⊎ (start ≡ t) → ⊥
+  none_named start none {t} {n} arc named (inl e) = none t n (rw e arc) (rw e named)
+  none_named start {name} none {s} {t} {n} arc named (inr e) = none s n (rw e (turned_arc mesh laws cut full s t n arc))
+      (rw e (name_other mesh s t n name named))
 
   -- A joinable arc over d begins, on one side, where the side of d does: it is noted where that start is.
-  pub noted_over : (start m k d : ℕ) → StandsOn mesh cut start m k d → (names : BTreeSet ℕ) (starts : List ℕ)
+  pub noted_over : {start m k d : ℕ} → StandsOn mesh cut start m k d → (names : BTreeSet ℕ) (starts : List ℕ)
       → ((t n name : ℕ) → IsJoinable mesh cut start t n → IsNameOf mesh start t n name
-      → IsNoted names starts start t name) → (s t n name : ℕ) → IsJoinable mesh cut s t n → IsOnArc mesh s t n d
+      → IsNoted names starts start t name) → {s t n name : ℕ} → IsJoinable mesh cut s t n → IsOnArc mesh s t n d
       → IsNameOf mesh s t n name → IsNoted names starts s t name
-  noted_over start m k d on names starts noted s t n name arc o named = by_side o.0 o.1 o.2
+  noted_over {start} {m} {k} {d} on names starts noted {s} {t} {n} {name} arc o named = by_side o.0 o.1 o.2
     where
       is : (c j : ℕ) → IsWholeSide mesh cut c n → j < n → d ≡ easts mesh c j → start ≡ c
       is c j side l e = (one_place mesh laws cut full start m c n k j on.side side on.low l (on.at ∙ e)).0
@@ -112,25 +106,23 @@ module _ (mesh : HalfEdges) (laws : IsQuadManifold mesh) (cut : Cut) (full : IsC
       by_side : (j : ℕ) → j < n → (d ≡ easts mesh s j) ⊎ (d ≡ easts mesh t j) → IsNoted names starts s t name
       by_side j l (inl e) =
           let same : start ≡ s = is s j arc.glued.near l e in
-          subst (λ (x : ℕ). IsNoted names starts x t name) same (noted t n name
-          (subst (λ (x : ℕ). IsJoinable mesh cut x t n) (sym same) arc)
+          rw (← same) (noted t n name (subst (λ (x : ℕ). IsJoinable mesh cut x t n) (sym same) arc)
           (subst (λ (x : ℕ). IsNameOf mesh x t n name) (sym same) named))
       by_side j l (inr e) =
           let same : start ≡ t = is t j arc.glued.far l e in
-          other_noted names starts t s name (subst (λ (x : ℕ). IsNoted names starts x s name) same (noted s n name
-          (subst (λ (x : ℕ). IsJoinable mesh cut x s n) (sym same) (turned_arc mesh laws cut full s t n arc))
-          (subst (λ (x : ℕ). IsNameOf mesh x s n name) (sym same) (name_other mesh s t n name named))))
+          other_noted names starts t s name (rw (← same) (noted s n name (subst (λ (x : ℕ). IsJoinable mesh cut x s n)
+          (sym same) (turned_arc mesh laws cut full s t n arc)) (subst (λ (x : ℕ). IsNameOf mesh x s n name)
+          (sym same) (name_other mesh s t n name named))))
 
   -- One arc more is noted.
-  module _ (s : ℕ) (seam : Seam) (is : IsSeam mesh cut s seam) (old new : BTreeSet ℕ) (starts : List ℕ)
+  module _ {s : ℕ} {seam : Seam} (is : IsSeam mesh cut s seam) (old new : BTreeSet ℕ) (starts : List ℕ)
       (updates : sorted.Updates nat_cmp old new seam.name true) (low : seam.name < length starts) where
     pub noted_new : (t n name : ℕ) → IsJoinable mesh cut s t n → IsNameOf mesh s t n name
         → IsNoted new (set starts seam.name s) s t name
     noted_new t n name arc named =
-        let same : seam.name ≡ name = seam_name s seam is t n name arc named in (
-          subst (λ (x : ℕ). Waits new x) same updates.1,
-          inl (subst (λ (x : ℕ). at (set starts seam.name s) x ≡ s) same
-              (get_or-set_same starts seam.name s 0 low)),
+        let same : seam.name ≡ name = seam_name is arc named in (
+          rw (← same) updates.1,
+          inl (rw (← same) (get_or-set_same starts seam.name s 0 low)),
         )
 
     pub noted_still : (r u m name : ℕ) → IsJoinable mesh cut r u m → IsNameOf mesh r u m name
@@ -141,15 +133,14 @@ module _ (mesh : HalfEdges) (laws : IsQuadManifold mesh) (cut : Cut) (full : IsC
         by_arc : name ≡ seam.name → AreOneArc s seam.far r u
             → (at (set starts seam.name s) name ≡ r) ⊎ (at (set starts seam.name s) name ≡ u)
         by_arc e one =
-            let here : at (set starts seam.name s) name ≡ s = subst (λ (x : ℕ). at (set starts seam.name s) x ≡ s)
-            (sym e) (get_or-set_same starts seam.name s 0 low) in
+            let here : at (set starts seam.name s) name ≡ s = rw e (get_or-set_same starts seam.name s 0 low) in
             elim one [ inl p ↦ inl (here ∙ p.0) | inr p ↦ inr (here ∙ p.0) ]
 
         by_name : (name ≡ seam.name) ⊎ (name ≡ seam.name → ⊥)
             → (at (set starts seam.name s) name ≡ r) ⊎ (at (set starts seam.name s) name ≡ u)
         by_name (inl e) = by_arc e
             (one_arc mesh laws cut full s seam.far seam.long r u m name is.joinable.glued arc.glued
-            (subst (λ (x : ℕ). IsOnArc mesh s seam.far seam.long x) (sym e) is.named.on) named.on).0
+            (rw e is.named.on) named.on).0
         by_name (inr ne) =
             let kept : at (set starts seam.name s) name ≡ at starts name =
             get_or-set_other starts seam.name name s 0 ne in

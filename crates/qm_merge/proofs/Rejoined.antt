@@ -1,9 +1,9 @@
 -- The sides of patches when an arc leaves: those before its ends go on along those behind it, and the others stay.
-use Rattle.std.proofs.Common.{◌≡◌, ◌⊎◌, ℕ, zero, suc, ◌+◌, ◌-◌, ◌<◌, true, false, sym, ◌∙◌, ap, subst, refl}
+use Rattle.std.proofs.Common.{◌≡◌, ◌⊎◌, ℕ, zero, suc, ◌+◌, ◌-◌, ◌<◌, true, false, sym, ◌∙◌, ap, refl, subst}
 use Rattle.std.proofs.Common.{inl, inr, true≢false, arith}
 use Rattle.std.proofs.lemmas.Bool.{cases_eq, cases_order}
 use Rattle.def_mesh.specs.HalfEdges.{HalfEdges, IsQuadManifold}
-use Rattle.def_cut.specs.{Cuts.Cut, Cuts.IsCorner, Cuts.IsCut, Steps.or_zero, Steps.step_east, Steps.easts}
+use Rattle.def_cut.specs.{Cuts.Cut, Cuts.IsCorner, Cuts.IsCut, Steps.easts}
 use Rattle.cut_laws.proofs.Classes.{linked_back, links_join}
 use Rattle.def_merge.specs.Joins.{AreInOne, IsJoinable, IsOnArc, IsWholeSide, IsWithout}
 use Rattle.merge_laws.proofs.ArcDarts.{less, opened, still}
@@ -11,7 +11,7 @@ use Rattle.merge_laws.proofs.Sides.{StandsOn, first_place, one_size, side_low}
 use Rattle.qm_merge.specs.{Walks.IsNextCorner, Links.IsRound, declared.links.Round.Round}
 use Rattle.qm_merge.proofs.Rounds.{around, closes, next_is_corner, one_next, opposite}
 
-module _ (mesh : HalfEdges) (laws : IsQuadManifold mesh) (cut rest : Cut) (full : IsCut mesh cut) (s t n : ℕ)
+module _ {mesh : HalfEdges} (laws : IsQuadManifold mesh) {cut rest : Cut} (full : IsCut mesh cut) {s t n : ℕ}
     (arc : IsJoinable mesh cut s t n) (without : IsWithout mesh cut rest s t n) where
   -- A corner on the arc is where one of its sides begins.
   on_start : (c : ℕ) → IsCorner mesh cut c → IsOnArc mesh s t n c → (c ≡ s) ⊎ (c ≡ t)
@@ -19,9 +19,8 @@ module _ (mesh : HalfEdges) (laws : IsQuadManifold mesh) (cut rest : Cut) (full 
     where
       start : (b k : ℕ) → IsWholeSide mesh cut b n → k < n → c ≡ easts mesh b k → c ≡ b
       start b k side l e =
-          let first : k ≡ 0 =
-          first_place mesh laws cut full b n side k l (ap (λ x. cut (mesh.prev x)) (sym e) ∙ corner.2) in
-          e ∙ ap (easts mesh b) first
+          let first : k ≡ 0 = first_place mesh laws cut full b n side k l (cc (e, corner.2)) in
+          cc (e, first)
 
       by_side : (k : ℕ) → k < n → (c ≡ easts mesh s k) ⊎ (c ≡ easts mesh t k) → (c ≡ s) ⊎ (c ≡ t)
       by_side k l (inl e) = inl (start s k arc.glued.near l e)
@@ -36,12 +35,11 @@ module _ (mesh : HalfEdges) (laws : IsQuadManifold mesh) (cut rest : Cut) (full 
       end b k side l e = by_place (cases_eq (suc k) n)
         where
           here : c ≡ mesh.next (easts mesh b k)
-          here = sym (laws.next_prev c) ∙ ap mesh.next e
+          here = cc (laws.next_prev c, e)
 
           by_place : (suc k ≡ n) ⊎ (suc k ≡ n → ⊥) → IsNextCorner mesh cut b c
-          by_place (inl q) = (k, subst (λ (m : ℕ). IsWholeSide mesh cut b m) (sym q) side, here)
-          by_place (inr ne) =
-              absurd (true≢false (sym corner.1 ∙ (ap cut here ∙ side.inside k (omega (arith, l, ne)))))
+          by_place (inl q) = (k, rw q side, here)
+          by_place (inr ne) = absurd (true≢false (cc (corner.1, here, side.inside k (omega (arith, l, ne)))))
 
       by_side : (k : ℕ) → k < n → (mesh.prev c ≡ easts mesh s k) ⊎ (mesh.prev c ≡ easts mesh t k)
           → IsNextCorner mesh cut s c ⊎ IsNextCorner mesh cut t c
@@ -82,18 +80,17 @@ module _ (mesh : HalfEdges) (laws : IsQuadManifold mesh) (cut rest : Cut) (full 
       low k l = laws.next_low (easts mesh c k) (side_low mesh laws cut full c m side k l)
 
       next : (k : ℕ) → suc k ≡ m → IsNextCorner mesh cut c (mesh.next (easts mesh c k))
-      next k e = (k, subst (λ (x : ℕ). IsWholeSide mesh cut c x) (sym e) side, refl)
+      next k e = (k, rw e side, refl)
 
       off : (k : ℕ) → suc k ≡ m → IsOnArc mesh s t n (mesh.next (easts mesh c k)) → ⊥
-      off k e o =
-          elim (on_start (mesh.next (easts mesh c k))
-          (next_is_corner mesh laws cut full c (mesh.next (easts mesh c k)) (next k e)) o) [
-            | inl q ↦ not_s (subst (λ (x : ℕ). IsNextCorner mesh cut c x) q (next k e))
-            | inr q ↦ not_t (subst (λ (x : ℕ). IsNextCorner mesh cut c x) q (next k e))
+      off k e o = elim (on_start (mesh.next (easts mesh c k))
+          (next_is_corner laws full (next k e)) o) [
+            | inl q ↦ not_s (rw (← q) (next k e))
+            | inr q ↦ not_t (rw (← q) (next k e))
           ]
 
   -- The side from p that ends at s goes on along the one from q, which begins where the other side of the arc ends.
-  module _ (p q x a b : ℕ) (before : IsWholeSide mesh cut p (suc a)) (meets : s ≡ mesh.next (easts mesh p a))
+  module _ {p q x a b : ℕ} (before : IsWholeSide mesh cut p (suc a)) (meets : s ≡ mesh.next (easts mesh p a))
       (behind : IsWholeSide mesh cut q (suc b)) (ends : x ≡ mesh.next (easts mesh q b))
       (turn : IsNextCorner mesh cut t q)
       (corner : IsCorner mesh rest p) (other : IsOnArc mesh s t n x → ⊥) where
@@ -103,20 +100,18 @@ module _ (mesh : HalfEdges) (laws : IsQuadManifold mesh) (cut rest : Cut) (full 
         at : (k : ℕ) → IsWholeSide mesh cut t (suc k) → q ≡ mesh.next (easts mesh t k) → easts mesh p (suc a) ≡ q
         at k side is =
             let size : suc k ≡ n = one_size mesh laws cut full t (suc k) n side arc.glued.far in
-            ap (λ o. mesh.next (or_zero o)) (ap mesh.twin (sym meets) ∙ arc.glued.across 0 k (omega (arith, size)))
-            ∙ sym is
+            cc (meets, arc.glued.across 0 k (omega (arith, size)), is)
 
     along : (i j : ℕ) → i ≡ suc a + j → easts mesh p i ≡ easts mesh q j
-    along i zero e = let here : i ≡ suc a = omega (arith, e) in ap (easts mesh p) here ∙ over
+    along i zero e = let here : i ≡ suc a = omega (arith, e) in cc (here, over)
     along zero (suc j) e = absurd (omega (arith, e))
-    along (suc i) (suc j) e = ap (step_east mesh) (along i j (omega (arith, e)))
+    along (suc i) (suc j) e = cc (along i j (omega (arith, e)))
 
     inside : (k : ℕ) → suc k < suc a + suc b → rest (mesh.next (easts mesh p k)) ≡ false
     inside k l = by_order (cases_order k a)
       where
         by_order : (k ≡ a) ⊎ ((k < a) ⊎ (a < k)) → rest (mesh.next (easts mesh p k)) ≡ false
-        by_order (inl e) = ap (λ i. rest (mesh.next (easts mesh p i))) e
-            ∙ (ap rest (sym meets) ∙ without.gone s (0, arc.glued.near.some, inl refl))
+        by_order (inl e) = cc (e, meets, without.gone s (0, arc.glued.near.some, inl refl))
         by_order (inr (inl less)) = opened mesh laws cut rest s t n without (mesh.next (easts mesh p k))
             (laws.next_low (easts mesh p k) (side_low mesh laws cut full p (suc a) before k (omega (arith, less))))
             (before.inside k (omega (arith, less)))
@@ -129,12 +124,11 @@ module _ (mesh : HalfEdges) (laws : IsQuadManifold mesh) (cut rest : Cut) (full 
                 (behind.inside j h)
 
     last : (k : ℕ) → suc k ≡ suc a + suc b → mesh.next (easts mesh p k) ≡ x
-    last k e = ap mesh.next (along k b (omega (arith, e))) ∙ sym ends
+    last k e = cc (along k b (omega (arith, e)), ends)
 
     shut : rest x ≡ true
     shut = still mesh laws cut rest s t n without x
-        (subst (λ (z : ℕ). z < mesh.count) (sym ends)
-        (laws.next_low (easts mesh q b) (side_low mesh laws cut full q (suc b) behind b (omega arith)))) other
+        (rw ends (laws.next_low (easts mesh q b) (side_low mesh laws cut full q (suc b) behind b (omega arith)))) other
         (ap cut ends ∙ behind.ends b refl)
 
     pub grown_side : IsWholeSide mesh rest p (suc a + suc b)
@@ -149,30 +143,26 @@ module _ (mesh : HalfEdges) (laws : IsQuadManifold mesh) (cut rest : Cut) (full 
     grown_end = sym (last (suc a + suc b - 1) (omega arith))
 
   -- The corners of the two patches.
-  module _ (near far : Round) (ones : IsRound mesh cut s near) (others : IsRound mesh cut t far) where
+  module _ {near far : Round} (ones : IsRound mesh cut s near) (others : IsRound mesh cut t far) where
     pub near_closes : IsNextCorner mesh cut near.fourth s
-    near_closes = closes mesh laws cut full s near.second near.third near.fourth ones.second ones.third ones.fourth
+    near_closes = closes laws full ones.second ones.third ones.fourth
 
     pub near_corner : IsCorner mesh cut near.fourth
-    near_corner = next_is_corner mesh laws cut full near.third near.fourth ones.fourth
+    near_corner = next_is_corner laws full ones.fourth
 
     -- Those of the near patch are none of the far one.
     foreign : (x : ℕ) → AreInOne mesh cut s x → AreInOne mesh cut t x → ⊥
     foreign x a b =
-        arc.apart (links_join mesh laws cut s x t a
-        (linked_back mesh laws cut full t x arc.glued.far.corner.0 b))
+        arc.apart (links_join mesh laws cut s x t a (linked_back mesh laws cut full t x arc.glued.far.corner.0 b))
 
     near_in : (x : ℕ) → (x ≡ s) ⊎ ((x ≡ near.second) ⊎ ((x ≡ near.third) ⊎ (x ≡ near.fourth))) → AreInOne mesh cut s x
-    near_in x is = around mesh laws cut full s near.second near.third near.fourth ones.second ones.third ones.fourth x
-        is
+    near_in x is = around laws full ones.second ones.third ones.fourth x is
 
     far_in : (x : ℕ) → (x ≡ t) ⊎ ((x ≡ far.second) ⊎ ((x ≡ far.third) ⊎ (x ≡ far.fourth))) → AreInOne mesh cut t x
-    far_in x is =
-        around mesh laws cut full t far.second far.third far.fourth others.second others.third others.fourth x is
+    far_in x is = around laws full others.second others.third others.fourth x is
 
     near_opposite : near.third ≡ s → ⊥
-    near_opposite e =
-        opposite mesh laws cut full s near.second near.third near.fourth ones.second ones.third ones.fourth e
+    near_opposite e = opposite laws full ones.second ones.third ones.fourth e
 
     pub fourths_differ : near.fourth ≡ far.fourth → ⊥
     fourths_differ e =
@@ -180,27 +170,22 @@ module _ (mesh : HalfEdges) (laws : IsQuadManifold mesh) (cut rest : Cut) (full 
 
     -- The corner before the arc stays, and so does the one behind it.
     pub near_stays : IsCorner mesh rest near.fourth
-    near_stays = corner_stays near.fourth near_corner
-        (λ e. near_opposite (one_next mesh laws cut full near.second near.third s ones.third
-        (subst (λ (x : ℕ). IsNextCorner mesh cut x s) (e ∙ sym (second_is e)) near_closes)))
+    near_stays = corner_stays near.fourth near_corner (λ e. near_opposite (one_next laws full ones.third
+        (rw (← e ∙ sym (second_is e)) near_closes)))
         (λ e. foreign near.fourth (near_in near.fourth (inr (inr (inr refl)))) (far_in near.fourth (inl e)))
-        (λ next. near_opposite (one_next mesh laws cut full near.second near.third s ones.third
-        (subst (λ (x : ℕ). IsNextCorner mesh cut x s)
-        (one_next mesh laws cut full s near.fourth near.second next ones.second) near_closes)))
+        (λ next. near_opposite (one_next laws full ones.third (rw (← one_next laws full next ones.second) near_closes)))
         (λ next. foreign near.fourth (near_in near.fourth (inr (inr (inr refl)))) (far_in near.fourth
-        (inr (inl (one_next mesh laws cut full t near.fourth far.second next others.second)))))
+        (inr (inl (one_next laws full next others.second)))))
       where
         -- A corner that is the next of itself would be all four.
         second_is : near.fourth ≡ s → near.second ≡ s
-        second_is e = one_next mesh laws cut full s near.second s ones.second
-            (subst (λ (x : ℕ). IsNextCorner mesh cut x s) e near_closes)
+        second_is e = one_next laws full ones.second (subst (λ (x : ℕ). IsNextCorner mesh cut x s) e near_closes)
 
     pub far_third_off : IsOnArc mesh s t n far.third → ⊥
     far_third_off o =
-        elim (on_start far.third (next_is_corner mesh laws cut full far.second far.third others.third) o) [
+        elim (on_start far.third (next_is_corner laws full others.third) o) [
           | inl e ↦ foreign far.third (near_in far.third (inl e)) (far_in far.third (inr (inr (inl refl))))
-          | inr e ↦ opposite mesh laws cut full t far.second far.third far.fourth others.second others.third
-              others.fourth e
+          | inr e ↦ opposite laws full others.second others.third others.fourth e
         ]
 
     -- The side before s, as it goes on.
@@ -216,12 +201,8 @@ module _ (mesh : HalfEdges) (laws : IsQuadManifold mesh) (cut rest : Cut) (full 
             let left : suc i ≡ a = one_size mesh laws cut full near.fourth (suc i) a before one in
             let right : suc j ≡ b = one_size mesh laws cut full far.second (suc j) b behind two in
             let sum : suc i + suc j ≡ a + b = omega (arith, left, right) in (
-              subst (λ (m : ℕ). IsWholeSide mesh rest near.fourth m) sum
-                  (grown_side near.fourth far.second far.third i j before meets behind ends others.second near_stays
-                  far_third_off),
-              subst (λ (m : ℕ). far.third ≡ mesh.next (easts mesh near.fourth (m - 1))) sum
-                  (grown_end near.fourth far.second far.third i j before meets behind ends others.second near_stays
-                  far_third_off),
+              rw (← sum) (grown_side before meets behind ends others.second near_stays far_third_off),
+              rw (← sum) (grown_end before meets behind ends others.second near_stays far_third_off),
             )
 
     -- The dart before the arc stands on it.
@@ -235,9 +216,8 @@ module _ (mesh : HalfEdges) (laws : IsQuadManifold mesh) (cut rest : Cut) (full 
           suc i + suc j,
           i,
           record {
-            side = grown_side near.fourth far.second far.third i j before meets behind ends others.second near_stays
-                far_third_off;
+            side = grown_side before meets behind ends others.second near_stays far_third_off;
             low = omega arith;
-            at = sym (laws.prev_next (easts mesh near.fourth i)) ∙ ap mesh.prev (sym meets);
+            at = cc (laws.prev_next (easts mesh near.fourth i), meets);
           },
         )

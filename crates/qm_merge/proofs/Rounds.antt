@@ -1,5 +1,5 @@
 -- The corners of a patch, one after the other.
-use Rattle.std.proofs.Common.{◌≡◌, ◌⊎◌, Bool, ◌||◌, eqb, ℕ, suc, ◌-◌, ◌<◌, true, false, sym, ◌∙◌, ap, subst, refl, inl}
+use Rattle.std.proofs.Common.{◌≡◌, ◌⊎◌, Bool, ◌||◌, eqb, ℕ, suc, ◌-◌, ◌<◌, true, false, sym, ◌∙◌, ap, refl, inl}
 use Rattle.std.proofs.Common.{inr, arith}
 use Rattle.std.proofs.lemmas.Bool.{false≢true, eq-eqb, eqb-true, or_cases, or_left, or_right}
 use Rattle.def_mesh.specs.HalfEdges.{HalfEdges, IsQuadManifold}
@@ -35,86 +35,76 @@ among_four s e f g t on = elim (or_cases (eqb s t) (eqb e t || (eqb f t || (eqb 
 
 pub is_among_four : (s e f g t : ℕ) → IsOneOf s e f g t → has_four s e f g t ≡ true
 is_among_four s e f g t (inl is) = or_left (eqb s t) (eqb e t || (eqb f t || (eqb g t || false))) (eq-eqb s t (sym is))
-is_among_four s e f g t (inr (inl is)) =
-    or_right (eqb s t) (eqb e t || (eqb f t || (eqb g t || false)))
+is_among_four s e f g t (inr (inl is)) = or_right (eqb s t) (eqb e t || (eqb f t || (eqb g t || false)))
     (or_left (eqb e t) (eqb f t || (eqb g t || false)) (eq-eqb e t (sym is)))
-is_among_four s e f g t (inr (inr (inl is))) =
-    or_right (eqb s t) (eqb e t || (eqb f t || (eqb g t || false)))
+is_among_four s e f g t (inr (inr (inl is))) = or_right (eqb s t) (eqb e t || (eqb f t || (eqb g t || false)))
     (or_right (eqb e t) (eqb f t || (eqb g t || false)) (or_left (eqb f t) (eqb g t || false) (eq-eqb f t (sym is))))
 is_among_four s e f g t (inr (inr (inr is))) =
-    or_right (eqb s t) (eqb e t || (eqb f t || (eqb g t || false)))
-    (or_right (eqb e t) (eqb f t || (eqb g t || false))
+    or_right (eqb s t) (eqb e t || (eqb f t || (eqb g t || false))) (or_right (eqb e t) (eqb f t || (eqb g t || false))
     (or_right (eqb f t) (eqb g t || false) (or_left (eqb g t) false (eq-eqb g t (sym is)))))
 
-module _ (mesh : HalfEdges) (laws : IsQuadManifold mesh) (cut : Cut) (full : IsCut mesh cut) where
-  pub next_is_corner : (c d : ℕ) → IsNextCorner mesh cut c d → IsCorner mesh cut d
-  next_is_corner c d n = at n.0 n.1 n.2
+module _ {mesh : HalfEdges} (laws : IsQuadManifold mesh) {cut : Cut} (full : IsCut mesh cut) where
+  pub next_is_corner : {c d : ℕ} → IsNextCorner mesh cut c d → IsCorner mesh cut d
+  next_is_corner {c} {d} n = at n.0 n.1 n.2
     where
       at : (k : ℕ) → IsWholeSide mesh cut c (suc k) → d ≡ mesh.next (easts mesh c k) → IsCorner mesh cut d
       at k side is =
           let low : easts mesh c k < mesh.count = side_low mesh laws cut full c (suc k) side k (omega arith) in (
-            subst (λ (x : ℕ). x < mesh.count) (sym is) (laws.next_low (easts mesh c k) low),
-            ap cut is
-                ∙ side.ends k refl,
-            ap (λ x. cut (mesh.prev x)) is
-                ∙ (ap cut (laws.prev_next (easts mesh c k))
-                ∙ side_on mesh laws cut full c (suc k) side k (omega arith)),
+            rw is (laws.next_low (easts mesh c k) low),
+            ap cut is ∙ side.ends k refl,
+            cc (is, laws.prev_next (easts mesh c k), side_on mesh laws cut full c (suc k) side k (omega arith)),
           )
 
   -- A corner has one next corner, and is the next of one.
-  pub one_next : (c d e : ℕ) → IsNextCorner mesh cut c d → IsNextCorner mesh cut c e → d ≡ e
-  one_next c d e a b = at a.0 b.0 a.1 b.1 a.2 b.2
+  pub one_next : {c d e : ℕ} → IsNextCorner mesh cut c d → IsNextCorner mesh cut c e → d ≡ e
+  one_next {c} {d} {e} a b = at a.0 b.0 a.1 b.1 a.2 b.2
     where
       at : (k j : ℕ) → IsWholeSide mesh cut c (suc k) → IsWholeSide mesh cut c (suc j) → d ≡ mesh.next (easts mesh c k)
           → e ≡ mesh.next (easts mesh c j) → d ≡ e
       at k j one two p q =
           let sizes : suc k ≡ suc j = one_size mesh laws cut full c (suc k) (suc j) one two in
           let same : k ≡ j = omega (arith, sizes) in
-          p ∙ (ap (λ x. mesh.next (easts mesh c x)) same ∙ sym q)
+          cc (p, same, q)
 
-  pub one_before : (c d e : ℕ) → IsNextCorner mesh cut c e → IsNextCorner mesh cut d e → c ≡ d
-  one_before c d e a b = at a.0 b.0 a.1 b.1 a.2 b.2
+  pub one_before : {c d e : ℕ} → IsNextCorner mesh cut c e → IsNextCorner mesh cut d e → c ≡ d
+  one_before {c} {d} {e} a b = at a.0 b.0 a.1 b.1 a.2 b.2
     where
       at : (k j : ℕ) → IsWholeSide mesh cut c (suc k) → IsWholeSide mesh cut d (suc j) → e ≡ mesh.next (easts mesh c k)
           → e ≡ mesh.next (easts mesh d j) → c ≡ d
       at k j one two p q =
-          let same : easts mesh c k ≡ easts mesh d j = sym (laws.prev_next (easts mesh c k))
-          ∙ (ap mesh.prev (sym p ∙ q) ∙ laws.prev_next (easts mesh d j)) in
+          let same : easts mesh c k ≡ easts mesh d j =
+          cc (laws.prev_next (easts mesh c k), p, q, laws.prev_next (easts mesh d j)) in
           (one_place mesh laws cut full c (suc k) d (suc j) k j one two (omega arith) (omega arith) same).0
 
   -- Round a patch.
-  module _ (s e f g : ℕ) (one : IsNextCorner mesh cut s e) (two : IsNextCorner mesh cut e f)
+  module _ {s e f g : ℕ} (one : IsNextCorner mesh cut s e) (two : IsNextCorner mesh cut e f)
       (three : IsNextCorner mesh cut f g) where
     abbrev w : ℕ
     w = suc one.0
 
-    module _ (h : ℕ) (grid : IsGrid mesh cut w h (grown mesh s)) where
+    module _ {h : ℕ} (grid : IsGrid mesh cut w h (grown mesh s)) where
       column : w - 1 ≡ one.0
       column = omega arith
 
       second : e ≡ mesh.next (grown mesh s (w - 1) 0)
-      second = one.2 ∙ ap (λ x. mesh.next (grown mesh s x 0)) (sym column)
+      second = cc (one.2, column)
 
       tall : suc two.0 ≡ h
       tall = one_size mesh laws cut full e (suc two.0) h two.1
-          (subst (λ (x : ℕ). IsWholeSide mesh cut x h) (sym second)
-          (east_side mesh laws cut full w h (grown mesh s) grid))
+          (rw second (east_side mesh laws cut full w h (grown mesh s) grid))
 
       third : f ≡ mesh.next (mesh.next (grown mesh s (w - 1) (h - 1)))
       third =
           let top : two.0 ≡ h - 1 = omega (arith, tall) in
-          two.2 ∙ (ap (λ x. mesh.next (easts mesh x two.0)) second
-          ∙ (ap mesh.next (along_east mesh laws cut full w h (grown mesh s) grid two.0 (omega (arith, tall)))
-          ∙ ap (λ x. mesh.next (mesh.next (grown mesh s (w - 1) x))) top))
+          cc (two.2, second, along_east mesh laws cut full w h (grown mesh s) grid two.0 (omega (arith, tall)), top)
 
       wide : suc three.0 ≡ w
       wide = one_size mesh laws cut full f (suc three.0) w three.1
-          (subst (λ (x : ℕ). IsWholeSide mesh cut x w) (sym third)
-          (north_side mesh laws cut full w h (grown mesh s) grid))
+          (rw third (north_side mesh laws cut full w h (grown mesh s) grid))
 
       fourth : g ≡ mesh.next (mesh.next (mesh.next (grown mesh s 0 (h - 1))))
-      fourth = three.2 ∙ (ap (λ x. mesh.next (easts mesh x three.0)) third
-          ∙ ap mesh.next (along_north mesh laws cut full w h (grown mesh s) grid three.0 0 (omega (arith, wide))))
+      fourth =
+          cc (three.2, third, along_north mesh laws cut full w h (grown mesh s) grid three.0 0 (omega (arith, wide)))
 
       last_column : w - 1 < w
       last_column = omega arith
@@ -141,14 +131,14 @@ module _ (mesh : HalfEdges) (laws : IsQuadManifold mesh) (cut : Cut) (full : IsC
     around t is = by_grid (grid_on mesh laws cut full s w one.1)
       where
         by_grid : (h : ℕ) × IsGrid mesh cut w h (grown mesh s) → AreInOne mesh cut s t
-        by_grid p = linked_in mesh laws cut full w p.0 (grown mesh s) p.1 t (inside p.0 p.1 t is)
+        by_grid p = linked_in mesh laws cut full w p.0 (grown mesh s) p.1 t (inside p.1 t is)
 
     pub is_one_of : (t : ℕ) → IsCorner mesh cut t → AreInOne mesh cut s t → IsOneOf s e f g t
     is_one_of t corner a = by_grid (grid_on mesh laws cut full s w one.1)
       where
         by_grid : (h : ℕ) × IsGrid mesh cut w h (grown mesh s) → IsOneOf s e f g t
         by_grid p =
-            found p.0 p.1 t (corner_in mesh laws cut full w p.0 (grown mesh s) p.1 t
+            found p.1 t (corner_in mesh laws cut full w p.0 (grown mesh s) p.1 t
             (closed mesh laws cut full w p.0 (grown mesh s) p.1 s t a.0 a.1
             (first_in mesh laws cut full w p.0 (grown mesh s) p.1)) corner)
 
@@ -160,21 +150,19 @@ module _ (mesh : HalfEdges) (laws : IsQuadManifold mesh) (cut : Cut) (full : IsC
         by_grid p = (two.0, side, back)
           where
             west : IsWholeSide mesh cut g p.0
-            west = subst (λ (x : ℕ). IsWholeSide mesh cut x p.0) (sym (fourth p.0 p.1))
-                (west_side mesh laws cut full w p.0 (grown mesh s) p.1)
+            west = rw (fourth p.1) (west_side mesh laws cut full w p.0 (grown mesh s) p.1)
 
             side : IsWholeSide mesh cut g (suc two.0)
-            side = subst (λ (n : ℕ). IsWholeSide mesh cut g n) (sym (tall p.0 p.1)) west
+            side = rw (tall p.1) west
 
             back : s ≡ mesh.next (easts mesh g two.0)
-            back = sym (laws.four_sides s)
-                ∙ sym (ap (λ x. mesh.next (easts mesh x two.0)) (fourth p.0 p.1)
+            back = sym (laws.four_sides s) ∙ sym (ap (λ x. mesh.next (easts mesh x two.0)) (fourth p.1)
                 ∙ ap mesh.next (along_west mesh laws cut full w p.0 (grown mesh s) p.1 two.0 0
-                (omega (arith, tall p.0 p.1))))
+                (omega (arith, tall p.1))))
 
     pub opposite : f ≡ s → ⊥
     opposite same = by_grid (grid_on mesh laws cut full s w one.1)
       where
         by_grid : (h : ℕ) × IsGrid mesh cut w h (grown mesh s) → ⊥
         by_grid p = never_south mesh laws cut full w p.0 (grown mesh s) p.1 2 0 (w - 1) (p.0 - 1) (omega arith)
-            (omega arith) (omega arith) (last_column p.0 p.1) (last_row p.0 p.1) (sym same ∙ third p.0 p.1)
+            (omega arith) (omega arith) (last_column p.1) (last_row p.1) (sym same ∙ third p.1)

@@ -12,20 +12,19 @@ use Rattle.mesh_laws.proofs.Vertices.{all_below}
 use Rattle.merge_laws.proofs.Spared.{spared_law, unmarked_from}
 use Rattle.qm_merge.specs.Beside.{IsBeside, IsEndOpen}
 
-module _ (faces : Faces) (marks breaks cut : List Bool) (is : IsBeside faces marks breaks cut) where
+module _ {faces : Faces} {marks breaks cut : List Bool} (is : IsBeside faces marks breaks cut) where
   pub breaks_long : length breaks ≡ vertex_count faces
   breaks_long = ap length is.broken
       ∙ (length-map (all_vertices faces) (is_break faces marks) ∙ length-range_with_len 0 (vertex_count faces))
 
   told : (d : ℕ) → d < darts faces → is_on breaks (from_of faces d) ≡ is_break faces marks (from_of faces d)
-  told d l = ap (λ xs. is_on xs (from_of faces d)) is.broken
-      ∙ get_or-map-range_with_len (is_break faces marks) 0 (vertex_count faces) (from_of faces d) (from_of faces d)
-      false (all_below faces d l) (omega arith)
+  told d l = ap (λ xs. is_on xs (from_of faces d)) is.broken ∙ get_or-map-range_with_len (is_break faces marks) 0
+      (vertex_count faces) (from_of faces d) (from_of faces d) false (all_below faces d l) (omega arith)
 
   pub crossed_there : (d : ℕ) → d < darts faces → is_on breaks (from_of faces d) ≡ true → HasCross (half_edges faces) d
   crossed_there d l y = break_cross faces is.manifold marks is.lines d l (sym (told d l) ∙ y)
 
-  module _ (s t n : ℕ) (arc : IsJoinable (half_edges faces) (is_on cut) s t n) where
+  module _ {s t n : ℕ} (arc : IsJoinable (half_edges faces) (is_on cut) s t n) where
     open_free : (r u : ℕ) → r < darts faces → IsEndOpen faces breaks cut r u → IsEndFree faces marks cut r u
     open_free r u l o y a b first second = o (told r l ∙ y) a b first second
 

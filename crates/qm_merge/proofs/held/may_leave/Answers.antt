@@ -5,46 +5,33 @@ use Rattle.qm_merge.proofs.held.may_leave.Goals as goal
 pub returns-then-marks-place : goal.returns-then-marks-place
 returns-then-marks-place c = (
   λ y. absurd (false≢true y),
-  λ y.
-      absurd (false≢true
-      (sym (may_then c.args.mesh.now c.args.marks.now c.args.breaks.now c.args.cut.now c.requires.beside
-      c.args.place.start
-      c.args.place.seam.far c.args.place.seam.long c.requires.seam.joinable y).0 ∙ c.if-marks-place.true)),
+  λ y. absurd (false≢true (sym (may_then c.requires.beside c.requires.seam.joinable y).0 ∙ c.if-marks-place.true)),
 )
 
 pub is_end_free-requires-clause-long : goal.is_end_free-requires-clause-long
-is_end_free-requires-clause-long c =
-    breaks_long c.args.mesh.now c.args.marks.now c.args.breaks.now c.args.cut.now c.requires.beside
+is_end_free-requires-clause-long c = breaks_long c.requires.beside
 
 pub is_end_free-requires-clause-crossed : goal.is_end_free-requires-clause-crossed
-is_end_free-requires-clause-crossed c =
-    crossed_there c.args.mesh.now c.args.marks.now c.args.breaks.now c.args.cut.now c.requires.beside c.args.place.start
+is_end_free-requires-clause-crossed c = crossed_there c.requires.beside c.args.place.start
     c.requires.seam.joinable.glued.near.corner.0
 
 pub returns-then-not-is_end_free : goal.returns-then-not-is_end_free
 returns-then-not-is_end_free c = (
   λ y. absurd (false≢true y),
-  λ y. absurd (false≢true (sym c.if-not-is_end_free.true
-      ∙ c.is_end_free.ensures.1 (may_then c.args.mesh.now c.args.marks.now c.args.breaks.now c.args.cut.now
-      c.requires.beside c.args.place.start c.args.place.seam.far c.args.place.seam.long c.requires.seam.joinable y).1)),
+  λ y. absurd (false≢true (sym c.if-not-is_end_free.true ∙ c.is_end_free.ensures.1 (may_then
+      c.requires.beside c.requires.seam.joinable y).1)),
 )
 
 pub is_end_free-requires-2-clause-long : goal.is_end_free-requires-2-clause-long
-is_end_free-requires-2-clause-long c =
-    breaks_long c.args.mesh.now c.args.marks.now c.args.breaks.now c.args.cut.now c.requires.beside
+is_end_free-requires-2-clause-long c = breaks_long c.requires.beside
 
 pub is_end_free-requires-2-clause-crossed : goal.is_end_free-requires-2-clause-crossed
-is_end_free-requires-2-clause-crossed c =
-    crossed_there c.args.mesh.now c.args.marks.now c.args.breaks.now c.args.cut.now c.requires.beside
-    c.args.place.seam.far
+is_end_free-requires-2-clause-crossed c = crossed_there c.requires.beside c.args.place.seam.far
     c.requires.seam.joinable.glued.far.corner.0
 
 pub returns : goal.returns
 returns c = (
-  λ y. may_from c.args.mesh.now c.args.marks.now c.args.breaks.now c.args.cut.now c.requires.beside c.args.place.start
-      c.args.place.seam.far c.args.place.seam.long c.requires.seam.joinable c.if-marks-place.false
+  λ y. may_from c.requires.beside c.requires.seam.joinable c.if-marks-place.false
       (c.is_end_free.ensures.0 c.if-not-is_end_free.false) (c.is_end_free-2.ensures.0 y),
-  λ y. c.is_end_free-2.ensures.1
-      (may_then c.args.mesh.now c.args.marks.now c.args.breaks.now c.args.cut.now c.requires.beside c.args.place.start
-      c.args.place.seam.far c.args.place.seam.long c.requires.seam.joinable y).2,
+  λ y. c.is_end_free-2.ensures.1 (may_then c.requires.beside c.requires.seam.joinable y).2,
 )

@@ -1,6 +1,4 @@
 use Rattle.std.proofs.Common.{sym, ◌∙◌}
-use Rattle.def_mesh.specs.HalfEdges.{half_edges}
-use Rattle.def_cut.specs.FullCut.{is_on}
 use Rattle.qm_merge.proofs.Rounds.{around, is_one_of, among_four, is_among_four}
 use Rattle.qm_merge.proofs.links.is_around.Goals as goal
 
@@ -9,10 +7,8 @@ returns c =
     let f = c.requires.cutting in
     let r = c.round_from-round.result in
     let is = c.round_from-round.ensures in (
-      λ h. around (half_edges c.args.mesh.now) f.laws (is_on c.args.cut.now) f.full c.args.s r.second r.third r.fourth
-          is.second is.third is.fourth c.args.t
+      λ h. around f.laws f.full is.second is.third is.fourth c.args.t
           (among_four c.args.s r.second r.third r.fourth c.args.t (sym c.contains.ensures.value ∙ h)),
       λ a. c.contains.ensures.value ∙ is_among_four c.args.s r.second r.third r.fourth c.args.t
-          (is_one_of (half_edges c.args.mesh.now) f.laws (is_on c.args.cut.now) f.full c.args.s r.second r.third
-          r.fourth is.second is.third is.fourth c.args.t c.requires.other a),
+          (is_one_of f.laws f.full is.second is.third is.fourth c.args.t c.requires.other a),
     )

@@ -1,9 +1,6 @@
-use Rattle.std.proofs.Common.{◌+◌, ◌≤◌, ◌^◌, ℕ, List, sym, subst, arith}
+use Rattle.std.proofs.Common.{◌+◌, ◌≤◌, ◌^◌, arith}
 use Rattle.std.proofs.lemmas.Result.{on_ok_weaker}
 use Rattle.std.specs.BTreeSet.{btree_set_len}
-use Rattle.def_mesh.specs.HalfEdges.{half_edges}
-use Rattle.def_cut.specs.FullCut.{is_on}
-use Rattle.qm_merge.specs.Waiting.{IsNoted}
 use Rattle.qm_merge.proofs.Dropped.{both_ok, cutting_after, marks_fewer, wait_still}
 use Rattle.qm_merge.proofs.{Linked.has_room, Linked.links_after, Rounds.next_is_corner}
 use Rattle.qm_merge.proofs.merged.drop_first.Goals as goal
@@ -11,62 +8,53 @@ use Rattle.qm_merge.proofs.merged.drop_first.Goals as goal
 pub join_rounds-requires : goal.join_rounds-requires
 join_rounds-requires c =
     let f = c.requires.cutting in
-    has_room (half_edges c.args.mesh.now) f.laws (is_on c.args.cut.now) f.full c.args.links.now c.requires.links
-    c.args.place.start c.args.place.seam.far c.round_from-near.result c.round_from-far.result
+    has_room f.laws f.full c.args.links.now c.requires.links
     c.round_from-near.ensures c.round_from-far.ensures (2 ^ 32) (omega (arith, f.few))
 
 pub note_from-requires-clause-cutting : goal.note_from-requires-clause-cutting
-note_from-requires-clause-cutting c =
-    cutting_after c.args.mesh.now c.args.cut.now c.drop_seam.new.cut c.requires.cutting c.args.place c.requires.seam
+note_from-requires-clause-cutting c = cutting_after c.drop_seam.new.cut c.requires.cutting c.args.place c.requires.seam
     c.drop_seam.ensures.long c.drop_seam.ensures.without
 
 pub note_from-requires-clause-links : goal.note_from-requires-clause-links
 note_from-requires-clause-links c =
     let f = c.requires.cutting in
-    links_after (half_edges c.args.mesh.now) f.laws (is_on c.args.cut.now) (is_on c.drop_seam.new.cut) f.full
-    c.args.place.start c.args.place.seam.far c.args.place.seam.long c.requires.seam.joinable
-    c.drop_seam.ensures.without c.round_from-near.result c.round_from-far.result c.round_from-near.ensures
-    c.round_from-far.ensures c.args.links.now c.join_rounds.new.links c.requires.links c.join_rounds.ensures
+    links_after f.laws f.full c.requires.seam.joinable c.drop_seam.ensures.without c.round_from-near.ensures
+    c.round_from-far.ensures c.requires.links c.join_rounds.ensures
 
 pub note_from-requires-clause-dart : goal.note_from-requires-clause-dart
 note_from-requires-clause-dart c =
     let f = c.requires.cutting in
-    (next_is_corner (half_edges c.args.mesh.now) f.laws (is_on c.args.cut.now) f.full c.round_from-near.result.third
-    c.round_from-near.result.fourth c.round_from-near.ensures.fourth).0
+    (next_is_corner f.laws f.full c.round_from-near.ensures.fourth).0
 
 pub returns-in_err-note_from-clause-cutting : goal.returns-in_err-note_from-clause-cutting
-returns-in_err-note_from-clause-cutting c =
-    cutting_after c.args.mesh.now c.args.cut.now c.drop_seam.new.cut c.requires.cutting c.args.place c.requires.seam
+returns-in_err-note_from-clause-cutting c = cutting_after c.drop_seam.new.cut c.requires.cutting c.args.place
+    c.requires.seam
     c.drop_seam.ensures.long c.drop_seam.ensures.without
 
 pub note_from-requires-2-clause-cutting : goal.note_from-requires-2-clause-cutting
-note_from-requires-2-clause-cutting c =
-    cutting_after c.args.mesh.now c.args.cut.now c.drop_seam.new.cut c.requires.cutting c.args.place c.requires.seam
+note_from-requires-2-clause-cutting c = cutting_after c.drop_seam.new.cut c.requires.cutting c.args.place
+    c.requires.seam
     c.drop_seam.ensures.long c.drop_seam.ensures.without
 
 pub note_from-requires-2-clause-dart : goal.note_from-requires-2-clause-dart
 note_from-requires-2-clause-dart c =
     let f = c.requires.cutting in
-    (next_is_corner (half_edges c.args.mesh.now) f.laws (is_on c.args.cut.now) f.full c.round_from-far.result.third
-    c.round_from-far.result.fourth c.round_from-far.ensures.fourth).0
+    (next_is_corner f.laws f.full c.round_from-far.ensures.fourth).0
 
 pub returns-clause-cutting : goal.returns-clause-cutting
-returns-clause-cutting c = cutting_after c.args.mesh.now c.args.cut.now c.drop_seam.new.cut c.requires.cutting
+returns-clause-cutting c = cutting_after c.drop_seam.new.cut c.requires.cutting
     c.args.place c.requires.seam c.drop_seam.ensures.long c.drop_seam.ensures.without
 
 pub returns-clause-waiting : goal.returns-clause-waiting
 returns-clause-waiting c =
     let one = c.in_ok-note_from.ensures in
     both_ok c.note_from-2.result (λ noted kept.
-    wait_still c.args.mesh.now c.args.cut.now c.drop_seam.new.cut c.requires.cutting c.args.place c.requires.seam
-    c.drop_seam.ensures.long c.drop_seam.ensures.without c.round_from-near.result c.round_from-far.result
+    wait_still c.drop_seam.new.cut c.requires.cutting c.args.place c.requires.seam
+    c.drop_seam.ensures.long c.drop_seam.ensures.without
     c.round_from-near.ensures c.round_from-far.ensures c.args.names.now c.note_from.new.names
     c.note_from-2.new.names c.args.links.now.starts.items c.note_from.new.links.starts.items
-    c.note_from-2.new.links.starts.items one.noted
-    (λ r u m name arc named old. one.kept r u m name arc named
-    (subst (λ (xs : List ℕ). IsNoted c.args.names.now xs r u name) (sym c.join_rounds.ensures.starts) old))
-    noted kept)
-    c.note_from-2.ensures.noted c.note_from-2.ensures.kept
+    c.note_from-2.new.links.starts.items one.noted (λ r u m name arc named old. one.kept r u m name arc named
+    (rw c.join_rounds.ensures.starts old)) noted kept) c.note_from-2.ensures.noted c.note_from-2.ensures.kept
 
 pub returns-clause-below : goal.returns-clause-below
 returns-clause-below c = on_ok_weaker c.note_from-2.result
@@ -81,7 +69,6 @@ returns-clause-fewer c =
       arith,
       few,
       one,
-      marks_fewer c.args.mesh.now c.args.cut.now c.drop_seam.new.cut c.requires.cutting
-          c.args.place c.requires.seam c.drop_seam.ensures.long c.drop_seam.ensures.without,
-    ))
-    c.note_from-2.ensures.few
+      marks_fewer c.drop_seam.new.cut c.requires.cutting c.args.place c.requires.seam c.drop_seam.ensures.long
+          c.drop_seam.ensures.without,
+    )) c.note_from-2.ensures.few

@@ -1,8 +1,6 @@
-use Rattle.std.proofs.Common.{rules, ◌≡◌, Bool, List, map, replicate, false, sym, ◌∙◌, ap, subst}
+use Rattle.std.proofs.Common.{rules, ◌≡◌, replicate, false, ◌∙◌}
 use Rattle.std.proofs.lemmas.Result.{IfOk-weaker}
-use Rattle.def_mesh.specs.{Darts.darts, Vertices.all_vertices, Vertices.vertex_count}
-use Rattle.def_feature.specs.{Beside.IsCutBeside, Marks.is_break}
-use Rattle.def_merge.specs.{Beside.may_beside, Merged.IsMergedBy}
+use Rattle.def_mesh.specs.{Darts.darts, Vertices.vertex_count}
 use Rattle.merge_laws.proofs.NoLines.{none_beside, none_broken, none_merged}
 use Rattle.qm_merge.proofs.merged.merge.Goals as goal
 use Rattle.qm_merge.proofs.merged.merge.Goals.{After-deref-2}
@@ -16,19 +14,15 @@ marks_are c =
 pub merge_beside-requires-clause-breaks : goal.merge_beside-requires-clause-breaks
 merge_beside-requires-clause-breaks c =
     let items : c.in_ok-breaks.breaks.items ≡ replicate (vertex_count c.args.mesh.now) false = search rules in
-    c.deref-2.ensures.value ∙ (items ∙ (none_broken c.args.mesh.now
-    ∙ ap (λ (ms : List Bool). map (is_break c.args.mesh.now ms) (all_vertices c.args.mesh.now)) (sym (marks_are c))))
+    cc (c.deref-2.ensures.value, items, none_broken c.args.mesh.now, marks_are c)
 
 pub merge_beside-requires-clause-beside : goal.merge_beside-requires-clause-beside
 merge_beside-requires-clause-beside c =
-    subst (λ (ms : List Bool). IsCutBeside c.args.mesh.now ms c.args.graph.now.covered.items) (sym (marks_are c))
-    (none_beside c.args.mesh.now c.args.graph.now.covered.items c.requires.cut)
+    rw (marks_are c) (none_beside c.args.mesh.now c.args.graph.now.covered.items c.requires.cut)
 
 pub returns-clause-merged : goal.returns-clause-merged
 returns-clause-merged c =
     let items : c.in_ok-marks.marks.items ≡ replicate (darts c.args.mesh.now) false = search rules in
     IfOk-weaker c.merge_beside.result _ _
     (λ g merged. none_merged c.args.mesh.now c.args.graph.now.covered.items g.covered.items
-    (subst (λ (ms : List Bool). IsMergedBy c.args.mesh.now (may_beside c.args.mesh.now ms)
-    c.args.graph.now.covered.items g.covered.items) (c.deref.ensures.value ∙ items) merged))
-    c.merge_beside.ensures.merged
+    (rw (← c.deref.ensures.value ∙ items) merged)) c.merge_beside.ensures.merged

@@ -1,4 +1,4 @@
-use Rattle.std.proofs.Common.{true, refl, ◌≡◌, ◌⊎◌, ℕ, suc, length, sym, ◌∙◌, ap, subst, inl, inr, arith}
+use Rattle.std.proofs.Common.{true, refl, ◌≡◌, ◌⊎◌, ℕ, suc, length, sym, ◌∙◌, inl, inr, arith}
 use Rattle.std.proofs.lemmas.Bool.{cases_lt, false≢true}
 use Rattle.std.proofs.lemmas.Map.Keys.{le_from_not_gt}
 use Rattle.def_mesh.specs.{Darts.darts, HalfEdges.half_edges}
@@ -35,9 +35,8 @@ may_leave-requires-clause-beside c =
     }
 
 pub drop_first-requires-clause-below : goal.drop_first-requires-clause-below
-drop_first-requires-clause-below c =
-    taken_below c.loop-name.names c.pop_first.new.self c.in-Some.name c.in-Some.ensures.updates (darts c.args.mesh.now)
-    c.loop-name.invariant.below
+drop_first-requires-clause-below c = taken_below c.loop-name.names c.pop_first.new.self c.in-Some.name
+    c.in-Some.ensures.updates (darts c.args.mesh.now) c.loop-name.invariant.below
 
 pub loop-name-preserved-in-Continue-branch-3 : goal.loop-name-preserved-in-Continue-branch-3
 loop-name-preserved-in-Continue-branch-3 c =
@@ -53,8 +52,8 @@ loop-name-preserved-in-Continue-branch-3 c =
         (
           c.loop-name.cut,
           before.1,
-          step_taken c.args.mesh.now c.loop-name.cut c.drop_first.new.cut
-              c.loop-name.invariant.cutting c.in-Some-place_of.place p.found e.long e.without
+          step_taken c.drop_first.new.cut c.loop-name.invariant.cutting c.in-Some-place_of.place p.found e.long
+              e.without
               (may_beside c.args.mesh.now c.args.marks.now) (c.may_leave.ensures.0 c.if-may_leave.true)
               (λ r u m name arc free named. omega (
                 arith,
@@ -67,11 +66,11 @@ loop-name-preserved-in-Continue-branch-3 c =
       waiting = λ s t n name arc free named. e.waiting s t n name arc named (λ old.
           let w = c.loop-name.invariant.waiting s t n name old
           (held_law c.args.mesh.now c.args.marks.now c.loop-name.cut c.drop_first.new.cut s t n
-          (less_on c.args.mesh.now c.loop-name.cut c.drop_first.new.cut c.loop-name.invariant.cutting
+          (less_on c.drop_first.new.cut c.loop-name.invariant.cutting
           c.in-Some-place_of.place p.found e.long e.without) free) named in (
             taken_kept c.loop-name.names c.pop_first.new.self c.in-Some.name c.in-Some.ensures.updates name
-                (λ same. name_gone c.args.mesh.now c.loop-name.cut c.drop_first.new.cut c.loop-name.invariant.cutting
-                c.in-Some-place_of.place p.found e.long e.without s t n name arc named (same ∙ sym p.named)) w.0,
+                (λ same. name_gone c.drop_first.new.cut c.loop-name.invariant.cutting
+                c.in-Some-place_of.place p.found e.long e.without arc named (same ∙ sym p.named)) w.0,
             w.1,
           ));
       below = e.below;
@@ -90,14 +89,12 @@ loop-name-preserved-else-may_leave c =
           let w = c.loop-name.invariant.waiting s t n name arc free named in (
             taken_kept c.loop-name.names c.pop_first.new.self c.in-Some.name c.in-Some.ensures.updates name (λ same.
                 let start : c.in-Some-place_of.place.start ≡ at c.loop-name.links.starts.items name =
-                p.start ∙ ap (at c.loop-name.links.starts.items) (sym same) in
+                cc (p.start, same) in
                 let side : (c.in-Some-place_of.place.start ≡ s) ⊎ (c.in-Some-place_of.place.start ≡ t) =
                 elim w.1 [ inl q ↦ inl (start ∙ q) | inr q ↦ inr (start ∙ q) ] in
-                false≢true (sym c.if-may_leave.false
-                ∙ c.may_leave.ensures.1 (seam_free (half_edges c.args.mesh.now) f.laws (is_on c.loop-name.cut) f.full
+                false≢true (sym c.if-may_leave.false ∙ c.may_leave.ensures.1 (seam_free f.laws f.full
                 (may_beside c.args.mesh.now c.args.marks.now c.loop-name.cut)
-                (turned_may c.args.mesh.now c.args.marks.now c.loop-name.cut) c.in-Some-place_of.place.start
-                c.in-Some-place_of.place.seam p.found s t n arc free side))) w.0,
+                (turned_may c.args.mesh.now c.args.marks.now c.loop-name.cut) p.found arc free side))) w.0,
             w.1,
           );
       below = taken_below c.loop-name.names c.pop_first.new.self c.in-Some.name c.in-Some.ensures.updates
@@ -116,14 +113,13 @@ loop-name-preserved c =
           let w = c.loop-name.invariant.waiting s t n name arc free named in (
             taken_kept c.loop-name.names c.pop_first.new.self c.in-Some.name c.in-Some.ensures.updates name (λ same.
                 let start : at c.loop-name.links.starts.items c.in-Some.name ≡ at c.loop-name.links.starts.items name =
-                ap (at c.loop-name.links.starts.items) (sym same) in
+                cc same in
                 let side : (at c.loop-name.links.starts.items c.in-Some.name ≡ s)
                 ⊎ (at c.loop-name.links.starts.items c.in-Some.name ≡ t) =
                 elim w.1 [ inl q ↦ inl (start ∙ q) | inr q ↦ inr (start ∙ q) ] in
-                none_named (half_edges c.args.mesh.now) f.laws (is_on c.loop-name.cut) f.full
-                (at c.loop-name.links.starts.items c.in-Some.name) c.in-Some.name c.in_default-place_of.ensures.none s t
-                n
-                arc (subst (λ (x : ℕ). IsNameOf (half_edges c.args.mesh.now) s t n x) same named) side) w.0,
+                none_named f.laws f.full
+                (at c.loop-name.links.starts.items c.in-Some.name) c.in_default-place_of.ensures.none
+                arc (rw (← same) named) side) w.0,
             w.1,
           );
       below = taken_below c.loop-name.names c.pop_first.new.self c.in-Some.name c.in-Some.ensures.updates

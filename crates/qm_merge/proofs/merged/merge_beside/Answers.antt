@@ -1,6 +1,4 @@
-use Rattle.std.proofs.Common.{rules, ◌≡◌, Bool, List, sym, subst}
-use Rattle.def_feature.specs.Beside.{IsCutBeside}
-use Rattle.qm_grid.specs.Cutting.{IsCutting}
+use Rattle.std.proofs.Common.{rules, ◌≡◌}
 use Rattle.qm_grid.proofs.Cuttings.{to_cutting}
 use Rattle.qm_merge.proofs.merged.merge_beside.Goals as goal
 
@@ -12,9 +10,8 @@ merge_all-requires c =
         manifold = c.faces.ensures.mesh.manifold;
         lines = c.requires.marks;
         broken = c.requires.breaks;
-        keeps = subst (λ (xs : List Bool). IsCutBeside c.args.mesh.now c.args.marks.now xs) (sym same)
-            c.requires.beside;
+        keeps = rw same c.requires.beside;
       };
-      cutting = subst (λ (xs : List Bool). IsCutting c.args.mesh.now xs) (sym same)
-          (to_cutting c.args.mesh.now c.args.graph.now.covered.items c.faces.ensures.mesh c.requires.beside.full);
+      cutting = rw same (to_cutting c.args.mesh.now c.args.graph.now.covered.items c.faces.ensures.mesh
+          c.requires.beside.full);
     }

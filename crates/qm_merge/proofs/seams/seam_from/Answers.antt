@@ -16,5 +16,4 @@ returns-clause-found c = IfSome_then c.glued_from.result c.glued_from.ensures.fo
 })
 
 pub returns-clause-none : goal.returns-clause-none
-returns-clause-none c =
-    none_then c.glued_from.result c.glued_from.ensures.none (λ none t n arc. none t n arc.glued)
+returns-clause-none c = none_then c.glued_from.result c.glued_from.ensures.none (λ none t n arc. none t n arc.glued)

@@ -1,8 +1,7 @@
-use Rattle.std.proofs.{Common.ℕ, Common.sym, Common.subst, Common.inl, Common.inr, Common.arith, lemmas.Bool.cases_eq}
+use Rattle.std.proofs.{Common.ℕ, Common.subst, Common.inl, Common.inr, Common.arith, lemmas.Bool.cases_eq}
 use Rattle.def_mesh.specs.HalfEdges.{half_edges}
 use Rattle.def_cut.specs.FullCut.{is_on}
 use Rattle.def_merge.specs.Joins.{IsJoinable, IsNameOf}
-use Rattle.qm_merge.specs.Waiting.{IsNoted}
 use Rattle.qm_merge.proofs.waiting.all_names.Goals as goal
 
 pub loop-d-preserved : goal.loop-d-preserved
@@ -12,11 +11,9 @@ loop-d-preserved c =
       links = e.links;
       starts = e.starts;
       all = λ s t n name l arc named. elim (cases_eq s c.loop-d.d) [
-        | inl same ↦ subst (λ (x : ℕ). IsNoted c.note_from.new.names c.note_from.new.links.starts.items x t name)
-            (sym same)
-            (e.noted t n name
-            (subst (λ (x : ℕ). IsJoinable (half_edges c.args.mesh.now) (is_on c.args.cut.now) x t n) same arc)
-            (subst (λ (x : ℕ). IsNameOf (half_edges c.args.mesh.now) x t n name) same named))
+        | inl same ↦ rw same (e.noted t n name (subst (λ (x : ℕ). IsJoinable (half_edges c.args.mesh.now)
+            (is_on c.args.cut.now) x t n) same arc) (subst (λ (x : ℕ). IsNameOf (half_edges c.args.mesh.now) x t n name)
+            same named))
         | inr ne ↦ e.kept s t n name arc named (c.loop-d.invariant.all s t n name (omega (arith, l, ne)) arc named)
       ];
       below = e.below c.loop-d.invariant.below;

@@ -19,7 +19,7 @@ pub returns-in_ok-insert-clause-noted : goal.returns-in_ok-insert-clause-noted
 returns-in_ok-insert-clause-noted c =
     let f = c.requires.cutting in
     let seam = c.in-Some.ensures.found in
-    noted_new (half_edges c.args.mesh.now) f.laws (is_on c.args.cut.now) f.full c.args.s c.in-Some.seam seam
+    noted_new f.laws f.full seam
     c.args.names.now c.insert.new.self c.args.links.now.starts.items c.in_ok-insert.ensures.updates
     (omega (
       arith,
@@ -32,7 +32,7 @@ pub returns-in_ok-insert-clause-kept : goal.returns-in_ok-insert-clause-kept
 returns-in_ok-insert-clause-kept c =
     let f = c.requires.cutting in
     let seam = c.in-Some.ensures.found in
-    noted_still (half_edges c.args.mesh.now) f.laws (is_on c.args.cut.now) f.full c.args.s c.in-Some.seam seam
+    noted_still f.laws f.full seam
     c.args.names.now c.insert.new.self c.args.links.now.starts.items c.in_ok-insert.ensures.updates
     (omega (
       arith,
