@@ -8,8 +8,8 @@ use Rattle.def_certtext.specs.{declared.certs.Rise.Rise, declared.certs.Rising.T
 use Rattle.def_certtext.specs.declared.certs.Round.{Round}
 use Rattle.def_fit.specs.{Aims.fit_settings, declared.fit.Fit.Fit}
 use Rattle.def_flow.specs.{Accepted.certificate, Descent.IsSolution, Network.Network, declared.cert.Cert.Cert}
-use Rattle.def_flow.specs.{declared.limits.TheConstants.MAX_FLOOR, declared.net.Arc.Arc, declared.net.Settings.Settings}
-use Rattle.def_layout.specs.{Lengths.AreLengths as AreArcLengths, Lengths.Lengths, Plans.Plan, Plans.layout_of}
+use Rattle.def_flow.specs.{declared.limits.TheConstants.MAX_FLOOR, declared.net.Settings.Settings}
+use Rattle.def_layout.specs.{Lengths.AreLengths as AreArcLengths, Plans.Plan, Plans.layout_of}
 use Rattle.def_layoutnet.specs.Floors.{floor_of, HasFloors}
 use Rattle.def_math.specs.Counts.{count_below}
 use Rattle.def_remesh.specs.{Certified.AreKept, Certified.IsCertified, Keeping.IsKept, Keeping.IsNetFor}
@@ -24,38 +24,36 @@ use Rattle.sum_laws.proofs.Counts.{count_below_same}
 use Rattle.qm_remesh.specs.Rounds.{room_of, IsFitNet, IsLedBy}
 
 -- Before the first round.
-pub led_first : (plan : Plan) (settings : Settings) (net : Network) (cert : Cert) → IsSolution net (certificate cert)
+pub led_first : {plan : Plan} {settings : Settings} {net : Network} {cert : Cert} → IsSolution net (certificate cert)
     → IsLedBy plan settings net [] net cert
-led_first plan settings net cert is =
+led_first is =
     record { solved = is; even = λ even. even; led = λ wish for. tt; behind = λ wish for. for }
 
-module _ (fit : Fit) (plan : Plan) (first net : Network) (rounds : List Round) (cert : Cert)
+module _ {fit : Fit} {plan : Plan} {first net : Network} {rounds : List Round} {cert : Cert}
     (fits : IsFitNet fit plan first) (is : IsLedBy plan (fit_settings fit) first rounds net cert) where
   -- The network with the floors that rose.
   pub net_behind :
       IsNetWith fits.wish plan (fit_settings fit) (floors_behind rounds (given_floors (fit_settings fit))) net
   net_behind = is.behind fits.wish fits.for
 
-  pub led_long : (xs : List ℕ) → xs ≡ cert.x.items → length xs ≡ length plan.arcs
-  led_long xs same = ap length same ∙ is.solved.accepted.count ∙ net_behind.is.long
+  pub led_long : {xs : List ℕ} → xs ≡ cert.x.items → length xs ≡ length plan.arcs
+  led_long same = ap length same ∙ is.solved.accepted.count ∙ net_behind.is.long
 
-  pub led_lengths : (xs : List ℕ) → xs ≡ cert.x.items → AreArcLengths (layout_of plan) (lengths_in xs)
-  led_lengths xs same = are_lengths plan (fit_settings fit) net cert xs net_behind is.solved same
+  pub led_lengths : {xs : List ℕ} → xs ≡ cert.x.items → AreArcLengths (layout_of plan) (lengths_in xs)
+  led_lengths {xs} same = are_lengths plan (fit_settings fit) net cert xs net_behind is.solved same
 
-module _ (wish : Wish) (plan : Plan) (settings : Settings) (first net : Network) (rounds : List Round) (cert : Cert)
+module _ {wish : Wish} {plan : Plan} {settings : Settings} {first net : Network} {rounds : List Round} {cert : Cert}
     (for : IsNetFor wish plan settings first) (is : IsLedBy plan settings first rounds net cert) where
   pub kept_risen : AreKept wish plan settings Rounds (risen_by rounds (alone (lists_of cert)))
-  kept_risen =
-      led_kept (IsCertified wish plan settings) plan rounds (given_floors settings) (alone (lists_of cert))
-      (is.led wish for)
-      (solved plan settings net cert (is.behind wish for) is.solved)
+  kept_risen = led_kept (IsCertified wish plan settings) plan rounds (given_floors settings) (alone (lists_of cert))
+      (is.led wish for) (solved plan settings net cert (is.behind wish for) is.solved)
 
   used_is : (used (risen_by rounds (alone (lists_of cert)))).x ≡ cert.x.items
-  used_is = ap (λ l. l.x) (used_behind rounds (alone (lists_of cert)))
+  used_is = cc (used_behind rounds (alone (lists_of cert)))
 
-  pub keeps_risen : (xs : List ℕ) (tables : Tables) → xs ≡ cert.x.items → IsNumbered plan xs tables
+  pub keeps_risen : {xs : List ℕ} {tables : Tables} → xs ≡ cert.x.items → IsNumbered plan xs tables
       → IsKept wish plan settings Rounds (risen_by rounds (alone (lists_of cert))) tables
-  keeps_risen xs tables same =
+  keeps_risen {xs} {tables} same =
       keeps plan settings Rounds (risen_by rounds (alone (lists_of cert))) xs tables (same ∙ sym used_is) kept_risen
 
   pub fine_risen : (faces : ℕ) → AreTooFine plan cert.x.items faces
@@ -63,14 +61,13 @@ module _ (wish : Wish) (plan : Plan) (settings : Settings) (first net : Network)
   fine_risen faces = subst (λ (xs : List ℕ). AreTooFine plan xs faces) (sym used_is)
 
 -- Each arc whose floor rises is one of the network.
-pub all_there : (plan : Plan) (xs : List ℕ) (rises : List Rise) (n : ℕ) → n ≡ length plan.arcs
+pub all_there : (plan : Plan) (xs : List ℕ) {rises : List Rise} {n : ℕ} → n ≡ length plan.arcs
     → AreNeeded (layout_of plan) (lengths_in xs) rises → All (λ (rise : Rise). rise.arc < n) rises
-all_there plan xs rises n long needed k d low =
-    subst (λ (rise : Rise). rise.arc < n) (get_or_default rises k (record { arc = 0; floor = 0 }) d low)
-    (omega (arith, (needed.each k low).there, long))
+all_there plan xs {rises} long needed k d low =
+    rw (← get_or_default rises k (record { arc = 0; floor = 0 }) d low) (omega (arith, (needed.each k low).there, long))
 
 -- One round more.
-module _ (plan : Plan) (settings : Settings) (first net next : Network) (rounds : List Round) (round : Round)
+module _ {plan : Plan} {settings : Settings} {first net next : Network} {rounds : List Round} (round : Round)
     (is : IsLedBy plan settings first rounds net round.cert)
     (needed : AreNeeded (layout_of plan) (lengths_in round.cert.x.items) round.rises.items)
     (has : HasFloors net (risen_floors round.rises.items (floor_of net.arcs)) next) where
@@ -87,8 +84,7 @@ module _ (plan : Plan) (settings : Settings) (first net next : Network) (rounds 
           coarse = coarse;
           doubled = doubled;
         }) needed;
-    behind = λ wish for. subst (λ (floors : Lengths). IsNetWith wish plan settings floors next)
-        (sym (behind_more rounds round (given_floors settings))) (higher wish for);
+    behind = λ wish for. rw (behind_more rounds round (given_floors settings)) (higher wish for);
   }
     where
       higher : (wish : Wish) → IsNetFor wish plan settings first → IsNetWith wish plan settings
@@ -117,4 +113,4 @@ module _ (plan : Plan) (settings : Settings) (first net next : Network) (rounds 
           ap (count_below (λ a. MAX_FLOOR - floor_of next.arcs a)) (has.long ∙ long)
           ∙ count_below_same (λ a. MAX_FLOOR - floor_of next.arcs a)
           (λ a. MAX_FLOOR - risen_floors round.rises.items (floor_of net.arcs) a) (length plan.arcs)
-          (λ a low. ap (λ (arc : Arc). MAX_FLOOR - arc.floor) (has.arcs a (omega (arith, low, long))))
+          (λ a low. cc (has.arcs a (omega (arith, low, long))))

@@ -9,12 +9,12 @@ use Rattle.def_layout.specs.{Arcs.long_at, Plans.Plan, Plans.layout_of}
 use Rattle.def_layoutnet.specs.{LayoutNet.IsNetOf, MeshLayouts.IsSomeLayout}
 use Rattle.def_remesh.specs.{Keeping.IsNetFor, Tasks.old_lengths}
 
-pub net_for : (plan : Plan) (settings : Settings) (auto : Bool) (net : Network) → IsSomeLayout plan
+pub net_for : {plan : Plan} {settings : Settings} {auto : Bool} {net : Network} → IsSomeLayout plan
     → AreInRange settings auto
     → IsNetOf (layout_of plan) (long_at plan.arcs) (long_at plan.arcs) settings (λ a. settings.floor) net
     → IsWithinBounds net
     → tangle_number net ≤ MAX_TANGLE → IsNetFor old_lengths plan settings net
-net_for plan settings auto net mesh range is bounds small =
+net_for mesh range is bounds small =
     record { mesh = mesh; floor = λ arc. range.floor.low; is = is; bounds = bounds; untangled = small }
 
 -- They rise at once, in rounds or never.

@@ -22,15 +22,15 @@ no_mesh aim wish plan settings rising (layouts.TooFine faces kept) near why = (n
 no_mesh aim wish plan settings rising (layouts.Doubled u v cert) near why = (near, why)
 
 -- Wishes that do not scale the old lengths are in thousandths of an edge, and their sum is bounded.
-pub unscaled : (aim : Aim) (wish : Wish) (plan : Plan) → ((p q : ℕ) → aim ≡ Scale p q → ⊥) → AreAimedNear aim wish plan
+pub unscaled : {aim : Aim} (wish : Wish) (plan : Plan) → ((p q : ℕ) → aim ≡ Scale p q → ⊥) → AreAimedNear aim wish plan
     → (numerator aim ≡ 1) × (denominator aim ≡ 1000) × AreNear wish plan
-unscaled (Scale p q) wish plan other near = absurd (other p q refl)
-unscaled (Edge edge) wish plan other near = (refl, refl, near)
-unscaled Wishes wish plan other near = (refl, refl, near)
+unscaled {aim = Scale p q} wish plan other near = absurd (other p q refl)
+unscaled {aim = Edge edge} wish plan other near = (refl, refl, near)
+unscaled {aim = Wishes} wish plan other near = (refl, refl, near)
 
 -- The greatest floor that an arc may get is no greater than any floor may be.
-pub greatest_high : (fit : Fit) → IsFit fit → greatest_floor fit ≤ MAX_FLOOR
-greatest_high fit is = by_test fit.auto
+pub greatest_high : {fit : Fit} → IsFit fit → greatest_floor fit ≤ MAX_FLOOR
+greatest_high {fit} is = by_test fit.auto
   where
     by_test : (auto : Bool) → (if auto then MAX_FLOOR else fit.floor) ≤ MAX_FLOOR
     by_test true = omega arith

@@ -1,10 +1,9 @@
-use Rattle.std.proofs.Common.{Bool, subst, sym}
 use Rattle.error_laws.proofs.Errors.{handed}
-use Rattle.def_certtext.specs.{CertLines.certificates_of, Risings.rounds_if, declared.certs.Rising.TheVariants.Never}
+use Rattle.def_certtext.specs.{Risings.rounds_if}
 use Rattle.def_fit.specs.Aims.{aimed, fit_settings}
-use Rattle.def_flow.specs.{Network.network, declared.net.Settings.Settings}
+use Rattle.def_flow.specs.{Network.network}
 use Rattle.def_metric.specs.declared.fail.SizeFail.TheVariants.{Layout}
-use Rattle.def_remesh.specs.{Keeping.IsKept, Keeping.IsNetFor, Refusals.IsLayoutFail, Tasks.Wish}
+use Rattle.def_remesh.specs.{Keeping.IsNetFor, Tasks.Wish}
 use Rattle.qm_remesh.proofs.{Sizes.no_mesh, fitted.keep_fit.Goals.After-fit_settings}
 use Rattle.qm_remesh.proofs.fitted.keep_fit.Goals as goal
 
@@ -15,18 +14,12 @@ returns-in_err-kept-clause-refused c =
     handed _ _ (Layout c.in_err-kept.field-0.0) c.from_residual-in_err-kept.ensures.1
     (no_mesh c.args.fit.now.aim wish c.args.cut.now.plan (fit_settings c.args.fit.now) (rounds_if c.args.fit.now.auto)
     c.in_err-kept.field-0.0 c.in_ok-net.ensures.near
-    (subst
-    (λ (auto : Bool). IsLayoutFail wish c.args.cut.now.plan (fit_settings c.args.fit.now) (rounds_if auto)
-    c.in_err-kept.field-0.0)
-    (sym c.if-fit.true) (c.in_err-kept.ensures.refused wish c.in_ok-net.ensures.net)))
+    (rw c.if-fit.true (c.in_err-kept.ensures.refused wish c.in_ok-net.ensures.net)))
 
 pub returns-then-fit-clause-kept : goal.returns-then-fit-clause-kept
 returns-then-fit-clause-kept c =
     let wish : Wish = aimed c.args.fit.now.aim c.args.cut.now.soup c.args.wishes.now in
-    subst
-    (λ (auto : Bool). IsKept wish c.args.cut.now.plan (fit_settings c.args.fit.now) (rounds_if auto)
-    (certificates_of c.in_ok-kept.kept.certs) c.in_ok-kept.kept.numbering)
-    (sym c.if-fit.true) (c.in_ok-kept.ensures.kept wish c.in_ok-net.ensures.net)
+    rw c.if-fit.true (c.in_ok-kept.ensures.kept wish c.in_ok-net.ensures.net)
 
 -- Where they do not.
 abbrev wished : (c : After-fit_settings) → Wish
@@ -34,9 +27,7 @@ wished c = aimed c.args.fit.now.aim c.args.cut.now.soup c.args.wishes.now
 
 -- The network of the settings that are kept.
 net : (c : After-fit_settings) → IsNetFor (wished c) c.args.cut.now.plan c.fit_settings.result (network c.in_ok-net.net)
-net c =
-    subst (λ (s : Settings). IsNetFor (wished c) c.args.cut.now.plan s (network c.in_ok-net.net))
-    (sym c.fit_settings.ensures) c.in_ok-net.ensures.net
+net c = rw c.fit_settings.ensures c.in_ok-net.ensures.net
 
 pub returns-in_err-kept-2-clause-refused : goal.returns-in_err-kept-2-clause-refused
 returns-in_err-kept-2-clause-refused c =
@@ -44,21 +35,9 @@ returns-in_err-kept-2-clause-refused c =
     handed _ _ (Layout c.in_err-kept-2.field-0.0) c.from_residual-in_err-kept-2.ensures.1
     (no_mesh c.args.fit.now.aim (wished at) c.args.cut.now.plan (fit_settings c.args.fit.now)
     (rounds_if c.args.fit.now.auto) c.in_err-kept-2.field-0.0 c.in_ok-net.ensures.near
-    (subst
-    (λ (auto : Bool). IsLayoutFail (wished at) c.args.cut.now.plan (fit_settings c.args.fit.now) (rounds_if auto)
-    c.in_err-kept-2.field-0.0)
-    (sym c.if-fit.false)
-    (subst (λ (s : Settings). IsLayoutFail (wished at) c.args.cut.now.plan s Never c.in_err-kept-2.field-0.0)
-    c.fit_settings.ensures (c.in_err-kept-2.ensures.refused (wished at) (net at)))))
+    (rw (c.if-fit.false, ← c.fit_settings.ensures) (c.in_err-kept-2.ensures.refused (wished at) (net at))))
 
 pub returns-clause-kept : goal.returns-clause-kept
 returns-clause-kept c =
     let at = (goal.at.returns-clause-kept c).After-fit_settings in
-    subst
-    (λ (auto : Bool). IsKept (wished at) c.args.cut.now.plan (fit_settings c.args.fit.now) (rounds_if auto)
-    (certificates_of c.in_ok-kept-2.kept.certs) c.in_ok-kept-2.kept.numbering)
-    (sym c.if-fit.false)
-    (subst
-    (λ (s : Settings). IsKept (wished at) c.args.cut.now.plan s Never (certificates_of c.in_ok-kept-2.kept.certs)
-    c.in_ok-kept-2.kept.numbering)
-    c.fit_settings.ensures (c.in_ok-kept-2.ensures.kept (wished at) (net at)))
+    rw (c.if-fit.false, ← c.fit_settings.ensures) (c.in_ok-kept-2.ensures.kept (wished at) (net at))

@@ -1,7 +1,6 @@
 use Rattle.std.proofs.Common.{List, ℕ, ap, sym, subst, ◌∙◌}
-use Rattle.def_fit.specs.Aims.{fit_settings}
-use Rattle.def_flow.specs.{Descent.IsStartOf, Network.network}
 use Rattle.def_metric.specs.Starts.{times_long}
+use Rattle.def_flow.specs.{Descent.IsStartOf, Network.network}
 use Rattle.qm_metric.proofs.StartLaws.{start_at}
 use Rattle.qm_remesh.specs.Rounds.{greatest_floor}
 use Rattle.qm_remesh.proofs.Sizes.{greatest_high, unscaled}
@@ -11,14 +10,13 @@ pub solve_near-requires : goal.solve_near-requires
 solve_near-requires c =
     let plan = c.args.cut.now.plan in
     let has = c.requires.net in
-    let wishes = unscaled c.args.fit.now.aim has.0 plan c.in_default.not-Scale has.3 in
+    let wishes = unscaled has.0 plan c.in_default.not-Scale has.3 in
     record {
       bounds = has.2.bounds;
       tangle = has.2.untangled;
       start = subst (λ (xs : List ℕ). IsStartOf (network c.args.net.now) xs)
           (sym (c.in_ok-start-in_default.ensures ∙ ap (times_long c.greatest_floor.result) c.layout.ensures.plan
           ∙ ap (λ (n : ℕ). times_long n plan) c.greatest_floor.ensures))
-          (start_at has.0 plan (fit_settings c.args.fit.now) has.1 (network c.args.net.now) has.2
-          (greatest_floor c.args.fit.now)
-          (λ k low. (c.requires.floors k low, greatest_high c.args.fit.now c.requires.fit)) wishes.0 wishes.1 wishes.2);
+          (start_at _ _ _ _ _ has.2 (greatest_floor c.args.fit.now) (λ k low.
+          (c.requires.floors k low, greatest_high c.requires.fit)) wishes.0 wishes.1 wishes.2);
     }

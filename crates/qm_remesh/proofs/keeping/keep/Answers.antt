@@ -1,8 +1,8 @@
-use Rattle.std.proofs.Common.{ℕ, sym, subst}
+use Rattle.std.proofs.Common.{sym, subst, ℕ}
 use Rattle.def_flow.specs.Network.{network}
-use Rattle.def_layout.specs.{Arcs.long_at, Plans.layout_of, Plans.plan, Plans.Plan}
-use Rattle.def_layoutnet.specs.{LayoutNet.HasNoNet, LayoutNet.IsNetOf, MeshLayouts.IsSomeLayout}
-use Rattle.def_remesh.specs.{Keeping.IsNetFor, Refusals.IsTangledAt, Tasks.old_lengths}
+use Rattle.def_layout.specs.{Plans.plan, Arcs.long_at, Plans.layout_of, Plans.Plan}
+use Rattle.def_layoutnet.specs.{MeshLayouts.IsSomeLayout, LayoutNet.HasNoNet}
+use Rattle.def_remesh.specs.{Keeping.IsNetFor, Tasks.old_lengths, Refusals.IsTangledAt}
 use Rattle.qm_remesh.proofs.{Nets.net_for, keeping.keep.Goals.In-Ok}
 use Rattle.qm_remesh.proofs.keeping.keep.Goals as goal
 
@@ -19,10 +19,7 @@ returns-in-Err-Tangled-clause-refused c =
     c.in-Err-Tangled.field-0-is c.in-Err-Tangled.ensures.tangled))
 
 net : (c : In-Ok) → IsNetFor old_lengths c.args.cut.now.plan c.args.terms.settings (network c.in-Ok.net)
-net c =
-    net_for _ _ _ _ c.layout.ensures.laid.0 c.requires.settings
-    (subst (λ (p : Plan). IsNetOf (layout_of p) (long_at p.arcs) (long_at p.arcs) c.args.terms.settings
-    (λ a. c.args.terms.settings.floor) (network c.in-Ok.net)) c.layout.ensures.plan c.in-Ok.ensures.net)
+net c = net_for c.layout.ensures.laid.0 c.requires.settings (rw (← c.layout.ensures.plan) c.in-Ok.ensures.net)
     c.in-Ok.ensures.bounds c.in-Ok.ensures.small
 
 pub keep_solved-requires-clause-net : goal.keep_solved-requires-clause-net

@@ -1,16 +1,10 @@
-use Rattle.std.specs.Prelude.{IfErr, IfOk}
-use Rattle.std.proofs.Common.{subst, sym}
-use Rattle.def_certtext.specs.{CertLines.certificates_of, declared.certs.Rising.Rising}
-use Rattle.def_flow.specs.Network.{network}
-use Rattle.def_remesh.specs.{Keeping.IsKept, Refusals.IsLayoutFail}
 use Rattle.remesh_laws.proofs.Keeps.{are_lengths, doubled_first, doubled_some, keeps_first, low_floor, solved, too_fine}
 use Rattle.qm_remesh.proofs.Nets.{never_rises}
 use Rattle.qm_remesh.proofs.keeping.keep_solved.Goals as goal
 
 pub plan_over-requires-clause-lengths : goal.plan_over-requires-clause-lengths
 plan_over-requires-clause-lengths c =
-    are_lengths _ c.args.terms.settings (network c.args.net) c.args.first _ c.requires.net.1 c.requires.solved
-    c.deref.ensures.value
+    are_lengths _ _ _ c.args.first _ c.requires.net.1 c.requires.solved c.deref.ensures.value
 
 pub raise-requires-clause-coarse : goal.raise-requires-clause-coarse
 raise-requires-clause-coarse c =
@@ -23,9 +17,8 @@ raise-requires-clause-doubled c =
     c.in-Err-Doubled.field-0-is c.in-Err-Doubled.ensures.refused).1
 
 pub returns-in-Ok-clause-kept : goal.returns-in-Ok-clause-kept
-returns-in-Ok-clause-kept c = λ wish for.
-    keeps_first _ _ _ c.args.first _ _ c.deref.ensures.value
-    (solved _ c.args.terms.settings (network c.args.net) c.args.first for c.requires.solved)
+returns-in-Ok-clause-kept c = λ wish for. keeps_first _ _ _ c.args.first _ _ c.deref.ensures.value
+    (solved _ _ _ c.args.first for c.requires.solved)
     (record {
       numbering = c.in-Ok.ensures.numbering;
       lengths = c.in-Ok.ensures.lengths;
@@ -35,34 +28,26 @@ returns-in-Ok-clause-kept c = λ wish for.
 
 pub returns-in-Err-TooFine-clause-refused : goal.returns-in-Err-TooFine-clause-refused
 returns-in-Err-TooFine-clause-refused c = λ wish for. (
-  solved _ c.args.terms.settings (network c.args.net) c.args.first for c.requires.solved,
+  solved _ _ _ c.args.first for c.requires.solved,
   too_fine _ _ _ c.in-Err-TooFine.field-0 _ c.deref.ensures.value c.in-Err-TooFine.field-0-is
       c.in-Err-TooFine.ensures.refused,
 )
 
 pub returns-in-Third-clause-kept : goal.returns-in-Third-clause-kept
-returns-in-Third-clause-kept c = λ wish for.
-    subst
-    (λ (rising : Rising). IfOk c.raise.result (λ kept. IsKept wish c.args.cut.now.plan c.args.terms.settings rising
-    (certificates_of kept.certs) kept.numbering))
-    (sym c.in-Third.is) (c.raise.ensures.kept wish for)
+returns-in-Third-clause-kept c = λ wish for. rw c.in-Third.is (c.raise.ensures.kept wish for)
 
 pub returns-in-Third-clause-refused : goal.returns-in-Third-clause-refused
-returns-in-Third-clause-refused c = λ wish for.
-    subst
-    (λ (rising : Rising). IfErr c.raise.result (IsLayoutFail wish c.args.cut.now.plan c.args.terms.settings rising))
-    (sym c.in-Third.is) (c.raise.ensures.refused wish for)
+returns-in-Third-clause-refused c = λ wish for. rw c.in-Third.is (c.raise.ensures.refused wish for)
 
 pub returns-in_default-clause-refused : goal.returns-in_default-clause-refused
 returns-in_default-clause-refused c = λ wish for.
     let both = doubled_first _ _ _ c.in-Err-Doubled.field-0 _ _ c.deref.ensures.value c.in-Err-Doubled.field-0-is
     c.in-Err-Doubled.ensures.refused in
-    let certified = solved _ c.args.terms.settings (network c.args.net) c.args.first for c.requires.solved in
+    let certified = solved _ _ _ c.args.first for c.requires.solved in
     record {
       given = never_rises c.args.terms.rising c.in_default.not-Third c.requires.known;
       low = low_floor _ c.args.terms.settings c.args.first _ c.plan_over.result c.in-Err-Doubled.field-0 _ _
-          c.deref.ensures.value
-          certified c.plan_over.ensures.safe c.in-Err-Doubled.is c.in-Err-Doubled.field-0-is;
+          c.deref.ensures.value certified c.plan_over.ensures.safe c.in-Err-Doubled.is c.in-Err-Doubled.field-0-is;
       certified = certified;
       coarse = both.0;
       pair = both.1;

@@ -11,7 +11,7 @@ use Rattle.qm_remesh.proofs.prices.prices_of.Goals as goal
 prices_more : (net : Network) (xs : List ℕ) (n : ℕ) (prices : List ℤ) (one : ℤ) → ArePrices net xs n prices
     → one ≡ price_at net (arc_at net.arcs n) (slice_index xs n) → ArePrices net xs (n + 1) (prices ++ one ∷ [])
 prices_more net xs n prices one are is = record {
-  long = length_push prices one ∙ ap (λ (m : ℕ). m + 1) are.long;
+  long = cc (length_push prices one, are.long);
   each = below_more
       (λ (k : ℕ). slice_index_or (prices ++ one ∷ []) k (pos 0) ≡ price_at net (arc_at net.arcs k) (slice_index xs k)) n
       (λ k low. get_or_append_left prices (one ∷ []) (pos 0) k (omega (arith, low, are.long)) ∙ are.each k low)
@@ -27,9 +27,7 @@ loop-k-preserved c =
     omega (arith, c.loop-k-test.true, ap length c.deref-arc-items.ensures.value) in
     let here : slice_index_or c.deref-arc-items.result.now c.loop-k.k no_arc
     ≡ arc_at c.args.net.now.arcs.items c.loop-k.k =
-    ap (λ (arcs : List Arc). slice_index_or arcs c.loop-k.k no_arc) c.deref-arc-items.ensures.value
-    ∙ get_or_default c.args.net.now.arcs.items c.loop-k.k no_arc _ low in
+    cc (c.deref-arc-items.ensures.value, get_or_default c.args.net.now.arcs.items c.loop-k.k no_arc _ low) in
     rw c.in_ok-push.ensures.items
     (prices_more (network c.args.net.now) c.args.x.now c.loop-k.k c.loop-k.prices.items _ c.loop-k.invariant
-    (to_z-of_z w64 c.price_of.result (search rules) ∙ c.price_of.ensures
-    ∙ ap (λ (arc : Arc). price_at (network c.args.net.now) arc (slice_index c.args.x.now c.loop-k.k)) here))
+    (cc (to_z-of_z w64 c.price_of.result (search rules), c.price_of.ensures, here)))

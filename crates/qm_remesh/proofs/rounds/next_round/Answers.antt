@@ -1,15 +1,13 @@
-use Rattle.std.proofs.Common.{◌≡◌, ℕ, List, length, sym, ◌∙◌, ap, subst, arith}
-use Rattle.def_certtext.specs.{declared.certs.Rise.Rise, declared.certs.Round.Round}
+use Rattle.std.proofs.Common.{◌≡◌, length, sym, subst, arith}
 use Rattle.def_fit.specs.Aims.{fit_settings}
-use Rattle.def_flow.specs.{Admissible.AreNetLengths, Network.network}
+use Rattle.def_flow.specs.{Network.network}
 use Rattle.def_layout.specs.Plans.{layout_of}
 use Rattle.def_layoutnet.specs.Floors.{floor_of, HasFloors}
-use Rattle.def_remesh.specs.{Keeping.IsNetWith, NewPoints.lengths_in, Remeshed.AreDoubled, Rises.risen_floors}
+use Rattle.def_remesh.specs.{Keeping.IsNetWith, NewPoints.lengths_in, Rises.risen_floors}
 use Rattle.def_remesh.specs.{Rises.AreNeeded, Tasks.given_floors}
 use Rattle.qm_layoutnet.proofs.Floors.{floor_high, floors_even}
 use Rattle.remesh_laws.proofs.{Rounds.net_risen, Writable.arcs_few}
 use Rattle.remesh_laws.specs.Keeps.{floors_behind}
-use Rattle.qm_remesh.specs.Rounds.{IsLedBy}
 use Rattle.qm_remesh.proofs.Leading.{all_there, led_lengths, led_long, led_on, net_behind, room_less}
 use Rattle.qm_remesh.proofs.rounds.next_round.Goals.{After-deref, After-deref-2, After-with_rises-higher, In_ok-rises}
 use Rattle.qm_remesh.proofs.rounds.next_round.Goals as goal
@@ -17,34 +15,27 @@ use Rattle.qm_remesh.proofs.rounds.next_round.Goals as goal
 -- The network with the floors that rose before.
 before : (c : After-deref) → IsNetWith c.requires.led.1.wish c.args.cut.now.plan (fit_settings c.args.fit.now)
     (floors_behind c.args.led.rounds.items (given_floors (fit_settings c.args.fit.now))) (network c.args.led.net)
-before c =
-    net_behind c.args.fit.now c.args.cut.now.plan c.requires.led.0 (network c.args.led.net) c.args.led.rounds.items
-    c.args.led.cert c.requires.led.1 c.requires.led.2
+before c = net_behind c.requires.led.1 c.requires.led.2
 
 pub prices_of-requires-clause-bounds : goal.prices_of-requires-clause-bounds
 prices_of-requires-clause-bounds c = (before (goal.at.prices_of-requires-clause-bounds c).After-deref).bounds
 
 pub prices_of-requires-clause-lengths : goal.prices_of-requires-clause-lengths
-prices_of-requires-clause-lengths c =
-    subst (AreNetLengths c.args.led.net.arcs.items) (sym c.deref.ensures.value) c.requires.led.2.solved.lengths
+prices_of-requires-clause-lengths c = rw c.deref.ensures.value c.requires.led.2.solved.lengths
 
 pub rises_over-requires-clause-prices : goal.rises_over-requires-clause-prices
 rises_over-requires-clause-prices c =
-    ap length c.deref-3.ensures.value ∙ c.in_ok-prices.ensures.long ∙ sym c.requires.led.2.solved.accepted.count
-    ∙ ap length (sym c.deref-2.ensures.value)
+    let many = c.requires.led.2.solved.accepted.count in
+    cc (c.deref-3.ensures.value, c.in_ok-prices.ensures.long, many, c.deref-2.ensures.value)
 
 long : (c : After-deref-2) → length c.deref-2.result.now ≡ length c.args.cut.now.plan.arcs
-long c =
-    led_long c.args.fit.now c.args.cut.now.plan c.requires.led.0 (network c.args.led.net) c.args.led.rounds.items
-    c.args.led.cert c.requires.led.1 c.requires.led.2 c.deref-2.result.now c.deref-2.ensures.value
+long c = led_long c.requires.led.1 c.requires.led.2 c.deref-2.ensures.value
 
 pub rises_over-requires-clause-long : goal.rises_over-requires-clause-long
 rises_over-requires-clause-long c = long (goal.at.rises_over-requires-clause-long c).After-deref-2
 
 pub rises_over-requires-clause-lengths : goal.rises_over-requires-clause-lengths
-rises_over-requires-clause-lengths c =
-    led_lengths c.args.fit.now c.args.cut.now.plan c.requires.led.0 (network c.args.led.net) c.args.led.rounds.items
-    c.args.led.cert c.requires.led.1 c.requires.led.2 c.deref-2.result.now c.deref-2.ensures.value
+rises_over-requires-clause-lengths c = led_lengths c.requires.led.1 c.requires.led.2 c.deref-2.ensures.value
 
 pub rises_over-requires-clause-few : goal.rises_over-requires-clause-few
 rises_over-requires-clause-few c =
@@ -52,33 +43,24 @@ rises_over-requires-clause-few c =
     omega (arith, long at.After-deref-2, arcs_few c.args.cut.now.plan (before at.After-deref).mesh)
 
 pub rises_over-requires-clause-doubled : goal.rises_over-requires-clause-doubled
-rises_over-requires-clause-doubled c =
-    subst (AreDoubled c.args.cut.now.plan) (sym c.deref-2.ensures.value) c.requires.doubled
+rises_over-requires-clause-doubled c = rw c.deref-2.ensures.value c.requires.doubled
 
 -- The floors rise as the lengths need it.
 needed : (c : In_ok-rises) → AreNeeded (layout_of c.args.cut.now.plan) (lengths_in c.args.led.cert.x.items)
     c.in_ok-rises.rises.items
-needed c =
-    subst
-    (λ (xs : List ℕ). AreNeeded (layout_of c.args.cut.now.plan) (lengths_in xs) c.in_ok-rises.rises.items)
-    c.deref-2.ensures.value c.in_ok-rises.ensures
+needed c = rw (← c.deref-2.ensures.value) c.in_ok-rises.ensures
 
 pub with_rises-higher-requires : goal.with_rises-higher-requires
 with_rises-higher-requires c =
     let at = goal.at.with_rises-higher-requires c in
-    all_there c.args.cut.now.plan c.args.led.cert.x.items c.deref-4.result.now (length c.args.led.net.arcs.items)
-    (before at.After-deref).is.long
+    all_there c.args.cut.now.plan c.args.led.cert.x.items (before at.After-deref).is.long
     (subst (AreNeeded (layout_of c.args.cut.now.plan) (lengths_in c.args.led.cert.x.items))
     (sym c.deref-4.ensures.value) (needed at.In_ok-rises))
 
 -- So they do in the network.
 has : (c : After-with_rises-higher) → HasFloors (network c.args.led.net)
     (risen_floors c.in_ok-rises.rises.items (floor_of c.args.led.net.arcs.items)) (network c.with_rises-higher.result)
-has c =
-    subst
-    (λ (rises : List Rise). HasFloors (network c.args.led.net)
-    (risen_floors rises (floor_of c.args.led.net.arcs.items)) (network c.with_rises-higher.result))
-    c.deref-4.ensures.value c.with_rises-higher.ensures
+has c = rw (← c.deref-4.ensures.value) c.with_rises-higher.ensures
 
 -- It is the network with these floors.
 after : (c : After-with_rises-higher)
@@ -89,9 +71,7 @@ after : (c : After-with_rises-higher)
     (risen_floors c.in_ok-rises.rises.items
     (floors_behind c.args.led.rounds.items (given_floors (fit_settings c.args.fit.now))))
     (network c.with_rises-higher.result)
-after c before needed =
-    net_risen c.args.cut.now.plan (fit_settings c.args.fit.now) c.args.led.cert.x.items c.in_ok-rises.rises.items
-    (network c.args.led.net) (network c.with_rises-higher.result) before needed (has c)
+after c before needed = net_risen _ _ c.args.led.cert.x.items _ _ _ before needed (has c)
 
 pub solve_fit-requires-clause-net : goal.solve_fit-requires-clause-net
 solve_fit-requires-clause-net c =
@@ -106,31 +86,23 @@ solve_fit-requires-clause-net c =
 pub solve_fit-requires-clause-floors : goal.solve_fit-requires-clause-floors
 solve_fit-requires-clause-floors c = λ k low.
     let at = goal.at.solve_fit-requires-clause-floors c in
-    rw c.requires.fit.1 (floor_high (network c.with_rises-higher.result)
-    (after at.After-with_rises-higher (before at.After-deref) (needed at.In_ok-rises)).bounds k low)
+    let net = after at.After-with_rises-higher (before at.After-deref) (needed at.In_ok-rises) in
+    rw c.requires.fit.1 (floor_high _ net.bounds k low)
 
 pub solve_fit-requires-clause-even : goal.solve_fit-requires-clause-even
 solve_fit-requires-clause-even c = λ p q scale.
     let at = (goal.at.solve_fit-requires-clause-even c).After-with_rises-higher in
-    floors_even (network c.args.led.net) (risen_floors c.in_ok-rises.rises.items (floor_of c.args.led.net.arcs.items))
-    (network c.with_rises-higher.result) (has at) (c.requires.led.2.even (c.requires.led.1.even p q scale))
+    floors_even _ _ _ (has at) (c.requires.led.2.even (c.requires.led.1.even p q scale))
 
 pub returns-clause-led : goal.returns-clause-led
 returns-clause-led c = λ first is.
     let at = goal.at.returns-clause-led c in
-    subst
-    (λ (rounds : List Round). IsLedBy c.args.cut.now.plan (fit_settings c.args.fit.now) first rounds
-    (network c.with_rises-higher.result) c.in_ok-next.next)
-    (sym c.in_ok-push_round.ensures)
-    (led_on c.args.cut.now.plan (fit_settings c.args.fit.now) first (network c.args.led.net)
-    (network c.with_rises-higher.result) c.args.led.rounds.items
-    (record { cert = c.args.led.cert; rises = c.in_ok-rises.rises }) is (needed at.In_ok-rises)
-    (has at.After-with_rises-higher) c.in_ok-next.next c.requires.coarse c.requires.doubled c.in_ok-next.ensures)
+    rw c.in_ok-push_round.ensures (led_on (record { cert = c.args.led.cert; rises = c.in_ok-rises.rises }) is
+    (needed at.In_ok-rises) (has at.After-with_rises-higher) c.in_ok-next.next c.requires.coarse c.requires.doubled
+    c.in_ok-next.ensures)
 
 pub returns-clause-risen : goal.returns-clause-risen
 returns-clause-risen c =
     let at = goal.at.returns-clause-risen c in
-    room_less c.args.cut.now.plan (fit_settings c.args.fit.now) c.requires.led.0 (network c.args.led.net)
-    (network c.with_rises-higher.result) c.args.led.rounds.items
-    (record { cert = c.args.led.cert; rises = c.in_ok-rises.rises }) c.requires.led.2 (needed at.In_ok-rises)
-    (has at.After-with_rises-higher) (before at.After-deref).is.long
+    room_less (record { cert = c.args.led.cert; rises = c.in_ok-rises.rises }) c.requires.led.2
+    (needed at.In_ok-rises) (has at.After-with_rises-higher) (before at.After-deref).is.long
