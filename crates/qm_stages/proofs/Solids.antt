@@ -1,6 +1,6 @@
 -- A mesh whose numbers are those of its types can be written.
 use Rattle.std.specs.{Prelude.nat_lt, Prelude.slice_index_or, List.list_all}
-use Rattle.std.proofs.Common.{◌≡◌, ◌<◌, ◌^◌, ◌≤◌, ℕ, true, List, [], ◌∷◌, refl, length, arith, eq-eqb, ap, ◌∙◌}
+use Rattle.std.proofs.Common.{◌≡◌, ◌<◌, ◌^◌, ◌≤◌, ℕ, true, List, [], ◌∷◌, refl, length, arith, eq-eqb}
 use Rattle.std.proofs.lemmas.Bool.{and_from, and_parts, lt-ltb, ltb-true}
 use Rattle.std.proofs.lemmas.List.{get_or_default}
 use Rattle.std.proofs.lemmas.List.Sums.{list_all-from_AllPass}
@@ -29,9 +29,8 @@ solid_of soup mesh near four n few below = record {
   mesh = mesh;
   printable = record {
     positions = near;
-    quads = list_all-from_AllPass is_quad soup.faces
-        (λ f d l. eq-eqb (length (slice_index_or soup.faces f d)) 4 (ap length (get_or_default soup.faces f d [] l)
-        ∙ four f l));
+    quads = list_all-from_AllPass is_quad soup.faces (λ f d l. eq-eqb (length (slice_index_or soup.faces f d)) 4
+        (cc (get_or_default soup.faces f d [] l, four f l)));
     corners = names_more n (2 ^ 32) (omega (arith, few)) soup.faces below;
   };
 }

@@ -1,7 +1,5 @@
-use Rattle.std.proofs.Common.{rules, ◌≡◌, List, ℤ, true, length, ◌∙◌, subst}
-use Rattle.std.specs.List.{list_all}
+use Rattle.std.proofs.Common.{rules, ◌≡◌, true, length, ◌∙◌, subst}
 use Rattle.def_mesh.specs.{Meshes.IsMesh, Vertices.names_below}
-use Rattle.def_text.specs.Laws.{is_position}
 use Rattle.def_written.specs.Laws.{AreQuads}
 use Rattle.qm_stages.proofs.Solids.{solid_of}
 use Rattle.qm_stages.proofs.meshed.Meshed.new.Goals as goal
@@ -12,7 +10,5 @@ returns-in-Ok-clause-solid c =
     let places : c.deref-in-Ok.result.now ≡ c.args.soup.pos = search rules in
     let faces : c.faces.result.now ≡ c.args.soup.faces = c.faces.ensures.value ∙ same in
     let below : names_below (length c.args.soup.pos) c.args.soup.faces ≡ true = search rules in
-    solid_of c.args.soup (subst IsMesh same c.faces.ensures.mesh)
-    (subst (λ (ps : List (List ℤ)). list_all is_position ps ≡ true) places c.are_near.ensures)
-    (subst AreQuads faces c.are_quads.ensures)
-    (length c.args.soup.pos) c.requires.few.0 below
+    solid_of c.args.soup (subst IsMesh same c.faces.ensures.mesh) (rw (← places) c.are_near.ensures)
+    (subst AreQuads faces c.are_quads.ensures) (length c.args.soup.pos) c.requires.few.0 below

@@ -1,10 +1,6 @@
-use Rattle.std.proofs.Common.{◌≡◌, ◌<◌, sym, ◌∙◌, ap, subst}
-use Rattle.def_layout.specs.Plans.{layout_of, plan, Plan}
-use Rattle.def_mesh.specs.{Faces.Faces, Vertices.vertex_count}
-use Rattle.def_text.specs.Types.{Positions}
-use Rattle.def_written.specs.Numbers.{vertices}
-use Rattle.def_remesh.specs.{CutSoups.Regrid, NewPoints.lengths_in, NewSoup.spaced_place, Placings.IsMeshLayout}
-use Rattle.def_remesh.specs.Placings.{LiesBetween}
+use Rattle.std.proofs.Common.{◌≡◌, ◌∙◌, ap}
+use Rattle.def_remesh.specs.{CutSoups.Regrid}
+use Rattle.def_layout.specs.Plans.{plan}
 use Rattle.qm_stages.proofs.regridded.Regridded.place_near.Goals.{After-mesh, After-pos}
 use Rattle.qm_stages.proofs.regridded.Regridded.place_near.Goals as goal
 
@@ -16,27 +12,19 @@ places c = c.pos.ensures.value ∙ ap (λ (new : Regrid). new.soup.pos) c.self.v
 
 pub place_near-requires-clause-layout : goal.place_near-requires-clause-layout
 place_near-requires-clause-layout c =
-    subst (λ (fs : Faces). IsMeshLayout fs (plan c.placed.result.t.now))
-    (sym (faces (goal.at.place_near-requires-clause-layout c).After-mesh))
-    (subst (λ (p : Plan). IsMeshLayout c.args.self.now.soup.faces p) (sym c.placed.ensures.plan) c.placed.ensures.laid)
+    rw (faces (goal.at.place_near-requires-clause-layout c).After-mesh, c.placed.ensures.plan) c.placed.ensures.laid
 
 pub place_near-requires-clause-positions : goal.place_near-requires-clause-positions
-place_near-requires-clause-positions c = c.pos.ensures.each ∙ ap vertex_count (sym c.mesh.ensures)
+place_near-requires-clause-positions c = cc (c.pos.ensures.each, c.mesh.ensures)
 
 pub place_near-requires-clause-vertex : goal.place_near-requires-clause-vertex
-place_near-requires-clause-vertex c =
-    subst (λ n. c.args.v < n)
-    (λ i. vertices (layout_of (sym c.placed.ensures.plan i)) (lengths_in (sym c.placed.ensures.lengths i)))
-    c.requires.vertex
+place_near-requires-clause-vertex c = rw (← c.placed.ensures.plan, ← c.placed.ensures.lengths) at c.requires.vertex
 
 pub returns-clause-value : goal.returns-clause-value
 returns-clause-value c =
-    c.place_near.ensures.value
-    ∙ (λ i. spaced_place (faces (goal.at.returns-clause-value c).After-mesh i) (c.placed.ensures.plan i)
-    (places (goal.at.returns-clause-value c).After-pos i) (c.placed.ensures.shares i)
-    (lengths_in (c.placed.ensures.lengths i)) c.args.v)
+    let at = goal.at.returns-clause-value c in
+    let is = c.placed.ensures in
+    cc (c.place_near.ensures.value, faces at.After-mesh, is.plan, places at.After-pos, is.shares, is.lengths)
 
 pub returns-clause-between : goal.returns-clause-between
-returns-clause-between c =
-    subst (λ (ps : Positions). LiesBetween ps c.place_near.result) (places (goal.at.returns-clause-between c).After-pos)
-    c.place_near.ensures.between
+returns-clause-between c = rw (← places (goal.at.returns-clause-between c).After-pos) c.place_near.ensures.between
