@@ -163,12 +163,14 @@ none_short g d sum off is =
     rw (none, is) refl
 
 -- The verdict on a dual of the right shape.
-pub shaped_verdict : (g : WeightedGraph) (d : DualLists) → length d.y ≡ g.n → AreNestedSets g.n (length d.z) d.up
+pub shaped_verdict : (g : WeightedGraph) (d : DualLists) {n : ℕ} → n ≡ g.n → length d.y ≡ n
+    → AreNestedSets n (length d.z) d.up
     → verdict g d ≡ refuse (even_fault g.n d) (λ k. Even k (set_size g.n d k))
     (refuse (negative_fault d) (λ k. Negative k)
     (refuse (short_fault g d) (λ k. Short k (load g.n d (edge_at g k)) (pos 2 *ℤ (edge_at g k).cost))
     (Yes (dual_sum d))))
-shaped_verdict g d numbers nested = let none : shape_fault g.n d ≡ None = no_shape_fault g.n d numbers nested in
+shaped_verdict g d {n} over numbers nested =
+    let none : shape_fault g.n d ≡ None = rw (← over) (no_shape_fault n d numbers nested) in
     rw none refl
 
 -- The sets of unlawful sizes, by a table of the sizes.

@@ -8,6 +8,7 @@ ghost use Rattle.def_matching.specs.Matching.{matching_cost, IsPerfect};
 ghost use Rattle.qm_dual.specs.Nest.{IsNest};
 
 use crate::loads::{Tables, check_loads};
+use crate::nest::Nested;
 use crate::paths::path_heads;
 use crate::sizes::set_sizes;
 use crate::small::SmallGraph;
@@ -32,26 +33,24 @@ pub fn dual_ok(alloc: Global, g: &SmallGraph, d: &Dual) -> Result<Verdict, Memor
     if let Some(index) = shape_fault_of(g.n(), d) {
         return Ok(Verdict::Shape { index });
     }
-    check_sets(alloc, g, d)
+    check_sets(alloc, g, &Nested { n: g.n(), whole: d })
 }
 
 /// The verdict on a dual of the right shape.
-fn check_sets(alloc: Global, g: &SmallGraph, d: &Dual) -> Result<Verdict, Memory>
-    requires small { IsSmallDual (dual d.now) }
-    requires numbers { length d.now.y.items ≡ g.now.graph.n }
-    requires nest { IsNest g.now.graph.n (dual d.now) }
-    ensures { IfOk result (λ v. v ≡ verdict g.now.graph (dual d.now)) }
+fn check_sets(alloc: Global, g: &SmallGraph, d: &Nested) -> Result<Verdict, Memory>
+    requires { d.now.n ≡ g.now.graph.n }
+    ensures { IfOk result (λ v. v ≡ verdict g.now.graph (dual d.now.whole.now)) }
 {
-    let sizes = set_sizes(alloc, g.n(), d)?;
+    let sizes = set_sizes(alloc, d)?;
     if let Some(set) = even_set(&sizes) {
         let size = sizes[set as usize];
         return Ok(Verdict::Even { set, size });
     }
-    if let Some(set) = negative_set(&d.z) {
+    if let Some(set) = negative_set(&d.whole.z) {
         return Ok(Verdict::Negative { set });
     }
-    let sums = nested_sums(alloc, g.n(), d)?;
-    let heads = path_heads(alloc, g.n(), d, &sizes)?;
+    let sums = nested_sums(alloc, d)?;
+    let heads = path_heads(alloc, d, &sizes)?;
     Ok(check_loads(g, d, &Tables { sums, heads }))
 }
 

@@ -1,15 +1,15 @@
 //! The loads of edges.
 
 ghost use Rattle.std.specs.Prelude.{◌≡◌, ◌^◌, ◌<◌, ◌≤◌, ◌*ℤ◌, ℕ, pos, length, unsigned_abs};
-ghost use Rattle.def_matching.specs.Dual.{dual, dual_sum, load, IsSmallDual, short_fault, refuse};
+ghost use Rattle.def_matching.specs.Dual.{dual, dual_sum, load, short_fault, refuse};
 ghost use Rattle.def_matching.specs.Matching.{edge_at};
-ghost use Rattle.qm_dual.specs.Nest.{apart, named_sum, AreTables, IsNest};
+ghost use Rattle.qm_dual.specs.Nest.{apart, named_sum, AreTables};
 
-use crate::nest::set_around_vertex;
+use crate::nest::{Nested, set_around_vertex};
 use crate::paths::meeting;
 use crate::small::SmallGraph;
 use crate::sums::{sum_of, sum_of_dual};
-use def_matching::{Dual, Verdict, WEdge};
+use def_matching::{Verdict, WEdge};
 
 /// For each set the sum of the numbers around it, and the head of its path.
 #[derive(Drop)]
@@ -19,19 +19,17 @@ pub(crate) struct Tables {
 }
 
 /// The verdict on a dual whose sets are in order: the least edge whose load is above twice its cost, or the sum.
-pub(crate) fn check_loads(g: &SmallGraph, d: &Dual, tables: &Tables) -> Verdict
-    requires small { IsSmallDual (dual d.now) }
-    requires numbers { length d.now.y.items ≡ g.now.graph.n }
-    requires nest { IsNest g.now.graph.n (dual d.now) }
-    requires tables { AreTables g.now.graph.n (dual d.now) tables.now.sums.items tables.now.heads.items }
-    ensures { result ≡ refuse (short_fault g.now.graph (dual d.now))
-        (λ k. Verdict.Short k (load g.now.graph.n (dual d.now) (edge_at g.now.graph k))
+pub(crate) fn check_loads(g: &SmallGraph, d: &Nested, tables: &Tables) -> Verdict
+    requires over { d.now.n ≡ g.now.graph.n }
+    requires tables { AreTables d.now.n (dual d.now.whole.now) tables.now.sums.items tables.now.heads.items }
+    ensures { result ≡ refuse (short_fault g.now.graph (dual d.now.whole.now))
+        (λ k. Verdict.Short k (load g.now.graph.n (dual d.now.whole.now) (edge_at g.now.graph k))
         (pos 2 *ℤ (edge_at g.now.graph k).cost))
-        (Verdict.Yes (dual_sum (dual d.now))) }
+        (Verdict.Yes (dual_sum (dual d.now.whole.now))) }
 {
     for k in 0..g.edge_count() {
         let edge = g.edge(k);
-        let load = load_of(g.n(), d, tables, &edge);
+        let load = load_of(d, tables, &edge);
         let cost = 2 * i128::from(edge.cost);
         if load > cost {
             return Verdict::Short {
@@ -47,30 +45,25 @@ pub(crate) fn check_loads(g: &SmallGraph, d: &Dual, tables: &Tables) -> Verdict
 }
 
 /// The load of an edge. Logarithmic in the number of vertices.
-fn load_of(n: u32, d: &Dual, tables: &Tables, edge: &WEdge) -> i128
-    requires nest { IsNest n (dual d.now) }
-    requires numbers { length d.now.y.items ≡ n }
-    requires small { IsSmallDual (dual d.now) }
-    requires tables { AreTables n (dual d.now) tables.now.sums.items tables.now.heads.items }
-    requires ends { (edge.now.u < n) × (edge.now.v < n) }
-    ensures { result ≡ load n (dual d.now) edge.now }
+fn load_of(d: &Nested, tables: &Tables, edge: &WEdge) -> i128
+    requires tables { AreTables d.now.n (dual d.now.whole.now) tables.now.sums.items tables.now.heads.items }
+    requires ends { (edge.now.u < d.now.n) × (edge.now.v < d.now.n) }
+    ensures { result ≡ load d.now.n (dual d.now.whole.now) edge.now }
 {
-    let ends = i128::from(d.y[edge.u as usize]) + i128::from(d.y[edge.v as usize]);
-    let first = set_around_vertex(n, d, edge.u);
-    let second = set_around_vertex(n, d, edge.v);
-    ends + crossing_sum(n, d, tables, first, second)
+    let ends = i128::from(d.whole.y[edge.u as usize]) + i128::from(d.whole.y[edge.v as usize]);
+    let first = set_around_vertex(d, edge.u);
+    let second = set_around_vertex(d, edge.v);
+    ends + crossing_sum(d, tables, first, second)
 }
 
 /// The sum of the `z` of the sets around exactly one of two entries of `up`.
-fn crossing_sum(n: u32, d: &Dual, tables: &Tables, a: u32, b: u32) -> i128
-    requires nest { IsNest n (dual d.now) }
-    requires small { IsSmallDual (dual d.now) }
-    requires tables { AreTables n (dual d.now) tables.now.sums.items tables.now.heads.items }
-    requires entries { (a ≤ length d.now.z.items) × (b ≤ length d.now.z.items) }
-    ensures value { result ≡ apart n (dual d.now) a b }
+fn crossing_sum(d: &Nested, tables: &Tables, a: u32, b: u32) -> i128
+    requires tables { AreTables d.now.n (dual d.now.whole.now) tables.now.sums.items tables.now.heads.items }
+    requires entries { (a ≤ length d.now.whole.now.z.items) × (b ≤ length d.now.whole.now.z.items) }
+    ensures value { result ≡ apart d.now.n (dual d.now.whole.now) a b }
     ensures small { unsigned_abs result ≤ 2 ^ 92 }
 {
-    let both = sum_at(tables, meeting(n, d, &tables.heads, a, b));
+    let both = sum_at(tables, meeting(d, &tables.heads, a, b));
     sum_at(tables, a) + sum_at(tables, b) - (both + both)
 }
 

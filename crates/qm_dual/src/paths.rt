@@ -2,37 +2,35 @@
 
 ghost use Rattle.std.specs.Prelude.{◌≡◌, ◌+◌, ◌-◌, ◌^◌, ◌<◌, ◌≤◌, ◌≢◌, ◌==◌, ◌&&◌, not, if◌then◌else◌, length};
 ghost use Rattle.std.specs.Prelude.{slice_index, IfOk};
-ghost use Rattle.def_matching.specs.Dual.{dual};
-ghost use Rattle.qm_dual.specs.Nest.{AreHeads, ArePicks, IsMeeting, IsNest, HaveSameSets, left, pick_with};
+ghost use Rattle.qm_dual.specs.Nest.{AreHeads, ArePicks, IsMeeting, HaveSameSets, left, pick_with};
 
 use crate::check::Memory;
-use crate::nest::set_around_set;
-use def_matching::Dual;
+use crate::nest::{Nested, set_around_set};
 use std::alloc::Global;
 
 /// The paths into which the sets fall: each set's entry names the head of its path, from 1. A path goes from a set to
 /// the set around it as long as that holds no greater set, so climbing leaves one path for another at most as often as
 /// the size of a set doubles. Linear in the sets.
-pub(crate) fn path_heads(alloc: Global, n: u32, d: &Dual, sizes: &[u32]) -> Result<Vec<u32>, Memory>
-    requires nest { IsNest n (dual d.now) }
-    requires sized { length sizes.now ≡ length d.now.z.items }
-    ensures { IfOk result (λ heads. AreHeads n (length d.now.z.items) d.now.up.items heads.items) }
+pub(crate) fn path_heads(alloc: Global, d: &Nested, sizes: &[u32]) -> Result<Vec<u32>, Memory>
+    requires { length sizes.now ≡ length d.now.whole.now.z.items }
+    ensures { IfOk result (λ heads.
+        AreHeads d.now.n (length d.now.whole.now.z.items) d.now.whole.now.up.items heads.items) }
 {
-    let picks = greatest_inside(alloc, n, d, sizes)?;
-    heads_by(alloc, n, d, &picks)
+    let picks = greatest_inside(alloc, d, sizes)?;
+    heads_by(alloc, d, &picks)
 }
 
 /// The heads, where each set picks one inside it.
-fn heads_by(alloc: Global, n: u32, d: &Dual, picks: &[u32]) -> Result<Vec<u32>, Memory>
-    requires nest { IsNest n (dual d.now) }
-    requires picked { length picks.now ≡ length d.now.z.items }
-    ensures { IfOk result (λ heads. AreHeads n (length d.now.z.items) d.now.up.items heads.items) }
+fn heads_by(alloc: Global, d: &Nested, picks: &[u32]) -> Result<Vec<u32>, Memory>
+    requires { length picks.now ≡ length d.now.whole.now.z.items }
+    ensures { IfOk result (λ heads.
+        AreHeads d.now.n (length d.now.whole.now.z.items) d.now.whole.now.up.items heads.items) }
 {
-    let mut heads = vec![in alloc; 0u32; d.z.len()]?;
-    let mut k = d.z.len();
+    let mut heads = vec![in alloc; 0u32; d.whole.z.len()]?;
+    let mut k = d.whole.z.len();
     while k > 0 {
         k -= 1;
-        heads[k] = head_of(picks, &heads, set_around_set(n, d, k), k as u32);
+        heads[k] = head_of(picks, &heads, set_around_set(d, k), k as u32);
     }
     Ok(heads)
 }
@@ -54,15 +52,15 @@ fn head_of(picks: &[u32], heads: &[u32], entry: u32, set: u32) -> u32
 }
 
 /// For each set the greatest of the sets directly inside it, from 1, or 0 if there is none.
-fn greatest_inside(alloc: Global, n: u32, d: &Dual, sizes: &[u32]) -> Result<Vec<u32>, Memory>
-    requires nest { IsNest n (dual d.now) }
-    requires sized { length sizes.now ≡ length d.now.z.items }
+fn greatest_inside(alloc: Global, d: &Nested, sizes: &[u32]) -> Result<Vec<u32>, Memory>
+    requires { length sizes.now ≡ length d.now.whole.now.z.items }
     ensures { IfOk result (λ picks.
-        ArePicks n (length d.now.z.items) (length d.now.z.items) d.now.up.items sizes.now picks.items) }
+        ArePicks d.now.n (length d.now.whole.now.z.items) (length d.now.whole.now.z.items) d.now.whole.now.up.items
+        sizes.now picks.items) }
 {
-    let mut picks = vec![in alloc; 0u32; d.z.len()]?;
-    for k in 0..d.z.len() {
-        let entry = set_around_set(n, d, k);
+    let mut picks = vec![in alloc; 0u32; d.whole.z.len()]?;
+    for k in 0..d.whole.z.len() {
+        let entry = set_around_set(d, k);
         if entry != 0 {
             let place = entry as usize - 1;
             picks[place] = greater(sizes, picks[place], k as u32);
@@ -87,18 +85,17 @@ fn greater(sizes: &[u32], rival: u32, k: u32) -> u32
 
 /// The least set around two entries of `up`, from 1, or 0 if there is none. It climbs by paths, so in a number of
 /// turns that is logarithmic in the number of vertices.
-pub(crate) fn meeting(n: u32, d: &Dual, heads: &[u32], a: u32, b: u32) -> u32
-    requires nest { IsNest n (dual d.now) }
-    requires headed { AreHeads n (length d.now.z.items) d.now.up.items heads.now }
-    requires first { a ≤ length d.now.z.items }
-    requires second { b ≤ length d.now.z.items }
-    ensures low { result ≤ length d.now.z.items }
-    ensures least { IsMeeting n (length d.now.z.items) d.now.up.items a b result }
+pub(crate) fn meeting(d: &Nested, heads: &[u32], a: u32, b: u32) -> u32
+    requires headed { AreHeads d.now.n (length d.now.whole.now.z.items) d.now.whole.now.up.items heads.now }
+    requires first { a ≤ length d.now.whole.now.z.items }
+    requires second { b ≤ length d.now.whole.now.z.items }
+    ensures low { result ≤ length d.now.whole.now.z.items }
+    ensures least { IsMeeting d.now.n (length d.now.whole.now.z.items) d.now.whole.now.up.items a b result }
 {
     let mut first = a;
     let mut second = b;
     while first != 0 && second != 0 && heads[first as usize - 1] != heads[second as usize - 1] {
-        (first, second) = leave_path(n, d, heads, first, second);
+        (first, second) = leave_path(d, heads, first, second);
     }
     if first == 0 || second == 0 {
         0
@@ -108,43 +105,41 @@ pub(crate) fn meeting(n: u32, d: &Dual, heads: &[u32], a: u32, b: u32) -> u32
 }
 
 /// Two entries, of which the one with the lower head has left its path.
-fn leave_path(n: u32, d: &Dual, heads: &[u32], a: u32, b: u32) -> (u32, u32)
-    requires nest { IsNest n (dual d.now) }
-    requires headed { AreHeads n (length d.now.z.items) d.now.up.items heads.now }
-    requires first { (a ≢ 0) × (a ≤ length d.now.z.items) }
-    requires second { (b ≢ 0) × (b ≤ length d.now.z.items) }
+fn leave_path(d: &Nested, heads: &[u32], a: u32, b: u32) -> (u32, u32)
+    requires headed { AreHeads d.now.n (length d.now.whole.now.z.items) d.now.whole.now.up.items heads.now }
+    requires first { (a ≢ 0) × (a ≤ length d.now.whole.now.z.items) }
+    requires second { (b ≢ 0) × (b ≤ length d.now.whole.now.z.items) }
     requires apart { slice_index heads.now (a - 1) ≢ slice_index heads.now (b - 1) }
-    ensures low { (result.0 ≤ length d.now.z.items) × (result.1 ≤ length d.now.z.items) }
-    ensures same { HaveSameSets n (length d.now.z.items) d.now.up.items a b result.0 result.1 }
-    ensures less { left (length d.now.z.items) result.0 + left (length d.now.z.items) result.1
-        < left (length d.now.z.items) a + left (length d.now.z.items) b }
+    ensures low { (result.0 ≤ length d.now.whole.now.z.items) × (result.1 ≤ length d.now.whole.now.z.items) }
+    ensures same { HaveSameSets d.now.n (length d.now.whole.now.z.items) d.now.whole.now.up.items a b
+        result.0 result.1 }
+    ensures less { left (length d.now.whole.now.z.items) result.0 + left (length d.now.whole.now.z.items) result.1
+        < left (length d.now.whole.now.z.items) a + left (length d.now.whole.now.z.items) b }
 {
     if heads[a as usize - 1] < heads[b as usize - 1] {
-        (past_head(n, d, heads, a), b)
+        (past_head(d, heads, a), b)
     } else {
-        (a, past_head(n, d, heads, b))
+        (a, past_head(d, heads, b))
     }
 }
 
 /// The entry of the head of the path on which the set of an entry lies.
-fn past_head(n: u32, d: &Dual, heads: &[u32], entry: u32) -> u32
-    requires nest { IsNest n (dual d.now) }
-    requires headed { AreHeads n (length d.now.z.items) d.now.up.items heads.now }
-    requires named { (entry ≢ 0) × (entry ≤ length d.now.z.items) }
-    ensures value { result ≡ slice_index d.now.up.items (n + (slice_index heads.now (entry - 1) - 1)) }
-    ensures low { result ≤ length d.now.z.items }
-    ensures less { left (length d.now.z.items) result < left (length d.now.z.items) entry }
+fn past_head(d: &Nested, heads: &[u32], entry: u32) -> u32
+    requires headed { AreHeads d.now.n (length d.now.whole.now.z.items) d.now.whole.now.up.items heads.now }
+    requires named { (entry ≢ 0) × (entry ≤ length d.now.whole.now.z.items) }
+    ensures value { result ≡ slice_index d.now.whole.now.up.items (d.now.n + (slice_index heads.now (entry - 1) - 1)) }
+    ensures low { result ≤ length d.now.whole.now.z.items }
+    ensures less { left (length d.now.whole.now.z.items) result < left (length d.now.whole.now.z.items) entry }
 {
-    set_around_set(n, d, head_above(n, d, heads, entry) as usize - 1)
+    set_around_set(d, head_above(d, heads, entry) as usize - 1)
 }
 
 /// The head of the path on which the set of an entry lies, from 1.
-fn head_above(n: u32, d: &Dual, heads: &[u32], entry: u32) -> u32
-    requires nest { IsNest n (dual d.now) }
-    requires headed { AreHeads n (length d.now.z.items) d.now.up.items heads.now }
-    requires named { (entry ≢ 0) × (entry ≤ length d.now.z.items) }
+fn head_above(d: &Nested, heads: &[u32], entry: u32) -> u32
+    requires headed { AreHeads d.now.n (length d.now.whole.now.z.items) d.now.whole.now.up.items heads.now }
+    requires named { (entry ≢ 0) × (entry ≤ length d.now.whole.now.z.items) }
     ensures value { result ≡ slice_index heads.now (entry - 1) }
-    ensures later { (entry ≤ result) × (result ≤ length d.now.z.items) }
+    ensures later { (entry ≤ result) × (result ≤ length d.now.whole.now.z.items) }
 {
     heads[entry as usize - 1]
 }

@@ -2,44 +2,40 @@
 
 ghost use Rattle.std.specs.Prelude.{◌≡◌, ◌+◌, ◌-◌, ◌^◌, ◌<◌, ◌≤◌, length, replicate, slice_index, IfOk};
 ghost use Rattle.def_matching.specs.Dual.{dual};
-ghost use Rattle.qm_dual.specs.Nest.{AreTallies, AreSizes, IsNest, tally_with};
+ghost use Rattle.qm_dual.specs.Nest.{AreTallies, AreSizes, tally_with};
 
 use crate::check::Memory;
-use crate::nest::{set_around_set, set_around_vertex};
-use def_matching::Dual;
+use crate::nest::{Nested, set_around_set, set_around_vertex};
 use std::alloc::Global;
 
 /// How many vertices each set holds. Linear in the entries of `up`.
-pub(crate) fn set_sizes(alloc: Global, n: u32, d: &Dual) -> Result<Vec<u32>, Memory>
-    requires nest { IsNest n (dual d.now) }
-    ensures { IfOk result (λ sizes. AreSizes n (dual d.now) sizes.items) }
+pub(crate) fn set_sizes(alloc: Global, d: &Nested) -> Result<Vec<u32>, Memory>
+    ensures { IfOk result (λ sizes. AreSizes d.now.n (dual d.now.whole.now) sizes.items) }
 {
-    let mut sizes = vec![in alloc; 0u32; d.z.len()]?;
-    count_direct(n, d, &mut sizes);
-    pass_up(n, d, &mut sizes);
+    let mut sizes = vec![in alloc; 0u32; d.whole.z.len()]?;
+    count_direct(d, &mut sizes);
+    pass_up(d, &mut sizes);
     Ok(sizes)
 }
 
 /// Counts for each set the vertices that have it as the smallest around them.
-fn count_direct(n: u32, d: &Dual, sizes: &mut [u32])
-    requires nest { IsNest n (dual d.now) }
-    requires start { sizes.old ≡ replicate (length d.now.z.items) 0 }
-    ensures { AreTallies n (length d.now.z.items) d.now.up.items n (λ k. 0) sizes.new }
+fn count_direct(d: &Nested, sizes: &mut [u32])
+    requires { sizes.old ≡ replicate (length d.now.whole.now.z.items) 0 }
+    ensures { AreTallies d.now.n (length d.now.whole.now.z.items) d.now.whole.now.up.items d.now.n (λ k. 0) sizes.new }
 {
-    for v in 0..n {
-        tally(sizes, set_around_vertex(n, d, v), 1);
+    for v in 0..d.n {
+        tally(sizes, set_around_vertex(d, v), 1);
     }
 }
 
 /// Adds what each set holds to the set around it, from the smallest sets on.
-fn pass_up(n: u32, d: &Dual, sizes: &mut [u32])
-    requires nest { IsNest n (dual d.now) }
-    requires start { AreTallies n (length d.now.z.items) d.now.up.items n (λ k. 0) sizes.old }
-    ensures { AreSizes n (dual d.now) sizes.new }
+fn pass_up(d: &Nested, sizes: &mut [u32])
+    requires { AreTallies d.now.n (length d.now.whole.now.z.items) d.now.whole.now.up.items d.now.n (λ k. 0) sizes.old }
+    ensures { AreSizes d.now.n (dual d.now.whole.now) sizes.new }
 {
     for k in 0..sizes.len() {
         let size = sizes[k];
-        tally(sizes, set_around_set(n, d, k), size);
+        tally(sizes, set_around_set(d, k), size);
     }
 }
 

@@ -2,38 +2,33 @@
 
 ghost use Rattle.std.specs.Prelude.{◌≡◌, ◌+◌, ◌^◌, ◌<◌, ◌≤◌, length, unsigned_abs, IfOk};
 ghost use Rattle.def_math.specs.Sums.{total};
-ghost use Rattle.def_matching.specs.Dual.{dual, dual_sum, AreSmall, IsSmallDual};
-ghost use Rattle.qm_dual.specs.Nest.{around, named_sum, AreSums, IsNest};
+ghost use Rattle.def_matching.specs.Dual.{dual, dual_sum, AreSmall};
+ghost use Rattle.qm_dual.specs.Nest.{around, named_sum, AreSums};
 
 use crate::check::Memory;
-use crate::nest::set_around_set;
-use def_matching::Dual;
+use crate::nest::{Nested, set_around_set};
 use std::alloc::Global;
 
 /// For each set the sum of its `z` and of those of the sets around it. Linear in the sets.
-pub(crate) fn nested_sums(alloc: Global, n: u32, d: &Dual) -> Result<Vec<i128>, Memory>
-    requires nest { IsNest n (dual d.now) }
-    requires small { IsSmallDual (dual d.now) }
-    ensures { IfOk result (λ sums. AreSums n (dual d.now) 0 sums.items) }
+pub(crate) fn nested_sums(alloc: Global, d: &Nested) -> Result<Vec<i128>, Memory>
+    ensures { IfOk result (λ sums. AreSums d.now.n (dual d.now.whole.now) 0 sums.items) }
 {
-    let mut sums = vec![in alloc; 0i128; d.z.len()]?;
-    let mut k = d.z.len();
+    let mut sums = vec![in alloc; 0i128; d.whole.z.len()]?;
+    let mut k = d.whole.z.len();
     while k > 0 {
         k -= 1;
-        sums[k] = own_sum(n, d, &sums, k);
+        sums[k] = own_sum(d, &sums, k);
     }
     Ok(sums)
 }
 
 /// The sum of the `z` of a set and of those of the sets around it, from the sums of the later sets.
-fn own_sum(n: u32, d: &Dual, sums: &[i128], k: usize) -> i128
-    requires nest { IsNest n (dual d.now) }
-    requires small { IsSmallDual (dual d.now) }
-    requires inner { k < length d.now.z.items }
-    requires summed { AreSums n (dual d.now) (k + 1) sums.now }
-    ensures { result ≡ around n (dual d.now) (k + 1) }
+fn own_sum(d: &Nested, sums: &[i128], k: usize) -> i128
+    requires inner { k < length d.now.whole.now.z.items }
+    requires summed { AreSums d.now.n (dual d.now.whole.now) (k + 1) sums.now }
+    ensures { result ≡ around d.now.n (dual d.now.whole.now) (k + 1) }
 {
-    i128::from(d.z[k]) + sum_of(sums, set_around_set(n, d, k))
+    i128::from(d.whole.z[k]) + sum_of(sums, set_around_set(d, k))
 }
 
 /// The sum of the set that an entry of `up` names, or 0 if it names none.
@@ -49,12 +44,10 @@ pub(crate) fn sum_of(sums: &[i128], entry: u32) -> i128
 }
 
 /// The sum of a dual: of all `y` and all `z`.
-pub(crate) fn sum_of_dual(d: &Dual) -> i128
-    requires few { length d.now.y.items ≤ 2 ^ 25 }
-    requires small { IsSmallDual (dual d.now) }
-    ensures { result ≡ dual_sum (dual d.now) }
+pub(crate) fn sum_of_dual(d: &Nested) -> i128
+    ensures { result ≡ dual_sum (dual d.now.whole.now) }
 {
-    sum(&d.y) + sum(&d.z)
+    sum(&d.whole.y) + sum(&d.whole.z)
 }
 
 fn sum(numbers: &[i64]) -> i128

@@ -16,11 +16,12 @@ returns-then-load-cost c =
     let cost : to_z w128 (of_z w128 (pos 2 *ℤ to_z w128 (of_z w128 c.from-cost.result)))
     ≡ pos 2 *ℤ (edge_at c.args.g.now.graph c.loop-k.k).cost =
     omega (arith, ints, c.from-cost.ensures, ap (λ (e : WEdge). e.cost) c.edge-edge.ensures.value) in
-    let sum : to_z w128 (of_z w128 c.load_of-load.result) ≡ load c.args.g.now.graph.n (dual c.args.d.now)
+    let sum : to_z w128 (of_z w128 c.load_of-load.result) ≡ load c.args.g.now.graph.n (dual c.args.d.now.whole.now)
     (edge_at c.args.g.now.graph c.loop-k.k) = plain c.load_of-load.result c.load_of-load.type_inv
-    ∙ (c.load_of-load.ensures ∙ (ap (λ n. load n (dual c.args.d.now) c.edge-edge.result) c.n.ensures.value
-    ∙ ap (load c.args.g.now.graph.n (dual c.args.d.now)) c.edge-edge.ensures.value)) in
-    short_found c.args.g.now.graph (dual c.args.d.now) c.loop-k.k (to_z w128 (of_z w128 c.load_of-load.result))
+    ∙ (c.load_of-load.ensures ∙ (ap (λ n. load n (dual c.args.d.now.whole.now) c.edge-edge.result) c.requires.over
+    ∙ ap (load c.args.g.now.graph.n (dual c.args.d.now.whole.now)) c.edge-edge.ensures.value)) in
+    short_found c.args.g.now.graph (dual c.args.d.now.whole.now) c.loop-k.k
+    (to_z w128 (of_z w128 c.load_of-load.result))
     (to_z w128 (of_z w128 (pos 2 *ℤ to_z w128 (of_z w128 c.from-cost.result))))
     (omega (arith, c.edge_count-k-end.ensures.value)) c.loop-k.invariant sum cost c.if-load-cost.true
 
@@ -30,13 +31,13 @@ loop-k-preserved c =
     let cost : to_z w128 (of_z w128 (pos 2 *ℤ to_z w128 (of_z w128 c.from-cost.result)))
     ≡ pos 2 *ℤ (edge_at c.args.g.now.graph c.loop-k.k).cost =
     omega (arith, ints, c.from-cost.ensures, ap (λ (e : WEdge). e.cost) c.edge-edge.ensures.value) in
-    let sum : to_z w128 (of_z w128 c.load_of-load.result) ≡ load c.args.g.now.graph.n (dual c.args.d.now)
+    let sum : to_z w128 (of_z w128 c.load_of-load.result) ≡ load c.args.g.now.graph.n (dual c.args.d.now.whole.now)
     (edge_at c.args.g.now.graph c.loop-k.k) = plain c.load_of-load.result c.load_of-load.type_inv
-    ∙ (c.load_of-load.ensures ∙ (ap (λ n. load n (dual c.args.d.now) c.edge-edge.result) c.n.ensures.value
-    ∙ ap (load c.args.g.now.graph.n (dual c.args.d.now)) c.edge-edge.ensures.value)) in
+    ∙ (c.load_of-load.ensures ∙ (ap (λ n. load n (dual c.args.d.now.whole.now) c.edge-edge.result) c.requires.over
+    ∙ ap (load c.args.g.now.graph.n (dual c.args.d.now.whole.now)) c.edge-edge.ensures.value)) in
     below_more _ _ c.loop-k.invariant (rw (← cost, ← sum) c.if-load-cost.false)
 
 pub returns : goal.returns
-returns c = none_short c.args.g.now.graph (dual c.args.d.now) (to_z w128 (of_z w128 c.sum_of_dual.result))
+returns c = none_short c.args.g.now.graph (dual c.args.d.now.whole.now) (to_z w128 (of_z w128 c.sum_of_dual.result))
     (λ j l. c.loop-k.invariant j (omega (arith, c.edge_count-k-end.ensures.value, c.loop-k-test.false, l)))
     (plain c.sum_of_dual.result c.sum_of_dual.type_inv ∙ c.sum_of_dual.ensures)

@@ -4,4 +4,4 @@ use Rattle.qm_dual.proofs.loads.check_loads.Given as goal
 
 abbrev pub invariant-loop-k : goal.invariant-loop-k
 invariant-loop-k l = (j : ℕ) → j < l.k
-    → int_lt (pos 2 *ℤ (edge_at l.g.graph j).cost) (load l.g.graph.n (dual l.d) (edge_at l.g.graph j)) ≡ false
+    → int_lt (pos 2 *ℤ (edge_at l.g.graph j).cost) (load l.g.graph.n (dual l.d.whole.now) (edge_at l.g.graph j)) ≡ false

@@ -6,10 +6,10 @@ use Rattle.qm_dual.proofs.Gathered.{named_small, apart_sums, plain_difference, a
 use Rattle.qm_dual.proofs.loads.crossing_sum.Goals as goal
 
 -- The sum of each named set is small.
-small : (c : goal.After-sum_at-2) (entry : ℕ) → entry ≤ length (dual c.args.d.now).z
-    → unsigned_abs (named_sum c.args.tables.now.sums.items entry) ≤ length (dual c.args.d.now).z * 10 ^ 18
-small c = named_small c.args.n (dual c.args.d.now) c.args.tables.now.sums.items c.requires.tables.summed
-    c.requires.small.small_z
+small : (c : goal.After-sum_at-2) (entry : ℕ) → entry ≤ length (dual c.args.d.now.whole.now).z
+    → unsigned_abs (named_sum c.args.tables.now.sums.items entry) ≤ length (dual c.args.d.now.whole.now).z * 10 ^ 18
+small c = named_small c.args.d.now.n (dual c.args.d.now.whole.now) c.args.tables.now.sums.items c.requires.tables.summed
+    c.args.d.now.small.small_z
 
 pub overflow_add-result : goal.overflow_add-result
 overflow_add-result c = omega (
@@ -49,7 +49,8 @@ returns-clause-value c =
       c.sum_at.ensures,
       c.sum_at-2.ensures,
       c.sum_at-both.ensures,
-      apart_sums c.args.n (dual c.args.d.now) c.args.tables.now.sums.items c.requires.tables.summed c.args.a
+      apart_sums c.args.d.now.n (dual c.args.d.now.whole.now) c.args.tables.now.sums.items c.requires.tables.summed
+          c.args.a
           c.args.b c.meeting.result c.requires.entries.0 c.requires.entries.1 c.meeting.ensures.low
           c.meeting.ensures.least,
     )

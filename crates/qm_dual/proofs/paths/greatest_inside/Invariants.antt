@@ -3,4 +3,4 @@ use Rattle.qm_dual.specs.Nest.{ArePicks}
 use Rattle.qm_dual.proofs.paths.greatest_inside.Given as goal
 
 abbrev pub invariant-loop-k : goal.invariant-loop-k
-invariant-loop-k l = ArePicks l.n (length l.d.z.items) l.k l.d.up.items l.sizes l.picks.items
+invariant-loop-k l = ArePicks l.d.n (length l.d.whole.now.z.items) l.k l.d.whole.now.up.items l.sizes l.picks.items

@@ -4,9 +4,10 @@ use Rattle.qm_dual.proofs.paths.heads_by.Given as goal
 
 abbrev pub invariant-loop-k : goal.invariant-loop-k
 invariant-loop-k l = record {
-  low : l.k ≤ length l.d.z.items;
-  count : length l.heads.items ≡ length l.d.z.items;
-  each : (j : ℕ) → l.k ≤ j → j < length l.d.z.items → IsHead l.n l.d.up.items (slice_index l.picks) l.heads.items j;
+  low : l.k ≤ length l.d.whole.now.z.items;
+  count : length l.heads.items ≡ length l.d.whole.now.z.items;
+  each : (j : ℕ) → l.k ≤ j → j < length l.d.whole.now.z.items → IsHead l.d.n l.d.whole.now.up.items
+      (slice_index l.picks) l.heads.items j;
 }
 
 abbrev pub decreases-loop-k : goal.decreases-loop-k

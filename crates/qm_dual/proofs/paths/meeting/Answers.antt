@@ -13,9 +13,11 @@ returns-else-second-eq0-clause-least c =
       | then-loop-first-test+else-second-ne0 w ↦ absurd (omega (arith, c.if-second-eq0.false))
       | else-loop-first-test w ↦ absurd (omega (arith, c.if-second-eq0.false))
     ] in
-    λ k. ap (climbs c.args.n c.args.d.now.up.items (length c.args.d.now.z.items) k) c.max.ensures
-    ∙ (meeting_found c.args.n (length c.args.d.now.z.items) c.args.d.now.up.items c.args.heads.now
-    c.requires.nest.nested c.requires.headed c.loop-first.first c.loop-first.second (c.loop-first.first - 1)
+    λ k. ap (climbs c.args.d.now.n c.args.d.now.whole.now.up.items (length c.args.d.now.whole.now.z.items) k)
+    c.max.ensures
+    ∙ (meeting_found c.args.d.now.n (length c.args.d.now.whole.now.z.items) c.args.d.now.whole.now.up.items
+    c.args.heads.now
+    c.args.d.now.nest.nested c.requires.headed c.loop-first.first c.loop-first.second (c.loop-first.first - 1)
     (c.loop-first.second - 1) (omega (arith, c.if-second-eq0.false)) (omega (arith, c.if-second-eq0.false))
     (omega (arith, c.if-second-eq0.false)) (omega (arith, c.if-second-eq0.false)) heads k
     ∙ sym (c.loop-first.invariant.same k))
@@ -23,5 +25,6 @@ returns-else-second-eq0-clause-least c =
 pub returns-then-second-eq0-clause-least : goal.returns-then-second-eq0-clause-least
 returns-then-second-eq0-clause-least c =
     let none : (c.loop-first.first ≡ 0) ⊎ (c.loop-first.second ≡ 0) = grind (arith, c.if-second-eq0.either) in
-    λ k. meeting_none c.args.n (length c.args.d.now.z.items) c.args.d.now.up.items c.loop-first.first
+    λ k. meeting_none c.args.d.now.n (length c.args.d.now.whole.now.z.items) c.args.d.now.whole.now.up.items
+    c.loop-first.first
     c.loop-first.second none k ∙ sym (c.loop-first.invariant.same k)

@@ -4,7 +4,11 @@ use Rattle.qm_dual.specs.Nest.{AreSums}
 use Rattle.qm_dual.proofs.sums.nested_sums.Given as goal
 
 abbrev pub invariant-loop-k : goal.invariant-loop-k
-invariant-loop-k l = record { low : l.k ≤ length l.d.z.items; sums : AreSums l.n (dual l.d) l.k l.sums.items }
+invariant-loop-k l = record {
+  low : l.k ≤ length l.d.whole.now.z.items;
+  sums : AreSums l.d.n (dual l.d.whole.now) l.k
+      l.sums.items;
+}
 
 abbrev pub decreases-loop-k : goal.decreases-loop-k
 decreases-loop-k l = l.k

@@ -8,45 +8,50 @@ use Rattle.qm_dual.proofs.sums.own_sum.Goals as goal
 
 pub overflow_add-result : goal.overflow_add-result
 overflow_add-result c =
-    let small : unsigned_abs (slice_index_or c.args.d.now.z.items c.args.k (pos 0)) < 10 ^ 18 =
-    c.requires.small.small_z c.args.k c.requires.inner in
-    let outer : c.sum_of.result ≡ around c.args.n (dual c.args.d.now) c.set_around_set.result =
-    c.sum_of.ensures ∙ named_later c.args.n (dual c.args.d.now) c.args.k c.args.sums.now c.requires.summed
+    let small : unsigned_abs (slice_index_or c.args.d.now.whole.now.z.items c.args.k (pos 0)) < 10 ^ 18 =
+    c.args.d.now.small.small_z c.args.k c.requires.inner in
+    let outer : c.sum_of.result ≡ around c.args.d.now.n (dual c.args.d.now.whole.now) c.set_around_set.result =
+    c.sum_of.ensures ∙ named_later c.args.d.now.n (dual c.args.d.now.whole.now) c.args.k c.args.sums.now
+    c.requires.summed
     c.set_around_set.result c.set_around_set.ensures.later in
     omega (
       arith,
       ints,
-      get_or_read c.args.d.now.z.items c.args.k c.index.result.now c.requires.inner c.index.ensures
+      get_or_read c.args.d.now.whole.now.z.items c.args.k c.index.result.now c.requires.inner c.index.ensures
           (pos 0),
       small,
       outer,
-      around_small c.args.n (dual c.args.d.now) c.requires.small.small_z
+      around_small c.args.d.now.n (dual c.args.d.now.whole.now) c.args.d.now.small.small_z
           c.set_around_set.result,
     )
 
 pub returns : goal.returns
 returns c =
-    let small : unsigned_abs (slice_index_or c.args.d.now.z.items c.args.k (pos 0)) < 10 ^ 18 =
-    c.requires.small.small_z c.args.k c.requires.inner in
-    let outer : c.sum_of.result ≡ around c.args.n (dual c.args.d.now) c.set_around_set.result =
-    c.sum_of.ensures ∙ named_later c.args.n (dual c.args.d.now) c.args.k c.args.sums.now c.requires.summed
+    let small : unsigned_abs (slice_index_or c.args.d.now.whole.now.z.items c.args.k (pos 0)) < 10 ^ 18 =
+    c.args.d.now.small.small_z c.args.k c.requires.inner in
+    let outer : c.sum_of.result ≡ around c.args.d.now.n (dual c.args.d.now.whole.now) c.set_around_set.result =
+    c.sum_of.ensures ∙ named_later c.args.d.now.n (dual c.args.d.now.whole.now) c.args.k c.args.sums.now
+    c.requires.summed
     c.set_around_set.result c.set_around_set.ensures.later in
-    let same : around c.args.n (dual c.args.d.now) c.set_around_set.result
-    ≡ around c.args.n (dual c.args.d.now) (slice_index c.args.d.now.up.items (c.args.n + c.args.k)) =
-    ap (around c.args.n (dual c.args.d.now)) c.set_around_set.ensures.value in
-    let step : around c.args.n (dual c.args.d.now) (c.args.k + 1) ≡ z_at (dual c.args.d.now) c.args.k +ℤ around c.args.n
-    (dual c.args.d.now) (slice_index c.args.d.now.up.items (c.args.n + c.args.k)) =
-    ap (around c.args.n (dual c.args.d.now)) (add-one c.args.k) ∙ around_step c.args.n (dual c.args.d.now)
-    c.requires.nest.nested c.args.k c.requires.inner in
+    let same : around c.args.d.now.n (dual c.args.d.now.whole.now) c.set_around_set.result
+    ≡ around c.args.d.now.n (dual c.args.d.now.whole.now) (slice_index c.args.d.now.whole.now.up.items
+    (c.args.d.now.n + c.args.k)) =
+    ap (around c.args.d.now.n (dual c.args.d.now.whole.now)) c.set_around_set.ensures.value in
+    let step : around c.args.d.now.n (dual c.args.d.now.whole.now) (c.args.k + 1) ≡ z_at (dual c.args.d.now.whole.now)
+    c.args.k +ℤ around c.args.d.now.n
+    (dual c.args.d.now.whole.now) (slice_index c.args.d.now.whole.now.up.items (c.args.d.now.n + c.args.k)) =
+    ap (around c.args.d.now.n (dual c.args.d.now.whole.now)) (add-one c.args.k) ∙ around_step c.args.d.now.n
+    (dual c.args.d.now.whole.now)
+    c.args.d.now.nest.nested c.args.k c.requires.inner in
     omega (
       arith,
       ints,
-      get_or_read c.args.d.now.z.items c.args.k c.index.result.now c.requires.inner c.index.ensures
+      get_or_read c.args.d.now.whole.now.z.items c.args.k c.index.result.now c.requires.inner c.index.ensures
           (pos 0),
       small,
       outer,
       same,
       step,
-      around_small c.args.n (dual c.args.d.now) c.requires.small.small_z
+      around_small c.args.d.now.n (dual c.args.d.now.whole.now) c.args.d.now.small.small_z
           c.set_around_set.result,
     )
