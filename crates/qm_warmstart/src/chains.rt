@@ -1,31 +1,34 @@
 //! Chains: arcs that go on one from the other, and so have one length in each admissible list.
 
-ghost use Rattle.std.specs.Prelude.{◌≡◌, ◌≢◌, ℕ, ◌*◌, ◌/◌, ◌^◌, ◌<◌, ◌≤◌, length, IfOk, IfSome};
+ghost use Rattle.std.specs.Prelude.{◌≡◌, ◌≢◌, ◌*◌, ◌/◌, ◌^◌, ◌<◌, ◌≤◌, length, IfOk};
 ghost use Rattle.std.specs.List.{All};
-ghost use Rattle.def_flow.specs.Network.{network, IsWithinBounds};
-ghost use Rattle.qm_warmstart.specs.Tables.{AreChains, AreEnds};
+ghost use Rattle.qm_warmstart.specs.Tables.{AreBelow, AreChains};
 
 use crate::Memory;
-use def_flow::{End, Net};
+use crate::small_net::SmallNet;
 use smallvec::SmallVec;
 use std::alloc::Global;
 
-/// The arcs of a chain in turn, each told by the end at which it is entered: arc `a` has its left end as `2 * a` and
-/// its right one, which may lie at no node, as `2 * a + 1`.
+/// The arcs of a chain in turn, each told by the end at which it is entered.
 pub(crate) type Chain = SmallVec<u32, 4>;
 
-/// The end with a number, unless it lies at no node.
-pub(crate) fn end_at(net: &Net, end: u32) -> Option<End>
-    requires bounds { IsWithinBounds (network net.now) }
-    requires end { end < 2 * length net.now.arcs.items }
-    ensures { IfSome result (λ end. end.node < net.now.nodes) }
-{
-    let arc = &net.arcs[end as usize / 2];
-    if end % 2 == 0 {
-        Some(arc.left)
-    } else {
-        arc.right
-    }
+/// The arcs of a network, in chains.
+#[derive(Drop)]
+pub(crate) struct Chains<'a> {
+    pub(crate) net: SmallNet<'a>,
+    pub(crate) all: Vec<Chain>,
+    ghost some: { 1 ≤ length all.items },
+    ghost few: { length all.items ≤ 2 ^ 28 },
+    ghost ends: { AreChains (length net.whole.now.arcs.items) all.items },
+}
+
+/// For each end, the end of another arc that it is joined to, or the end itself.
+#[derive(Drop)]
+struct Joined<'a> {
+    net: SmallNet<'a>,
+    at: Vec<u32>,
+    ghost long: { length at.items ≡ 2 * length net.whole.now.arcs.items },
+    ghost ends: { AreBelow (2 * length net.whole.now.arcs.items) at.items },
 }
 
 /// The other end of the same arc.
@@ -38,23 +41,19 @@ pub(crate) fn across(end: u32) -> u32
 }
 
 /// All arcs of a network, in chains. Linear.
-pub(crate) fn chains_of(alloc: Global, net: &Net) -> Result<Vec<Chain>, Memory>
-    requires bounds { IsWithinBounds (network net.now) }
-    requires few { (1 ≤ length net.now.arcs.items) × (length net.now.arcs.items ≤ 2 ^ 28) }
-    ensures some { IfOk result (λ chains. 1 ≤ length chains.items) }
-    ensures few { IfOk result (λ chains. length chains.items ≤ length net.now.arcs.items) }
-    ensures ends { IfOk result (λ chains. AreChains (length net.now.arcs.items) chains.items) }
+pub(crate) fn chains_of<'a>(alloc: Global, net: SmallNet<'a>) -> Result<Chains<'a>, Memory>
+    ensures { IfOk result (λ chains. chains.net.whole.now ≡ net.entry.whole.now) }
 {
     let joined = joined_ends(alloc, net)?;
-    let mut taken = vec![in alloc; false; net.arcs.len()]?;
-    let mut chains = Vec::new(alloc);
-    for arc in 0..net.arcs.len() {
+    let mut taken = vec![in alloc; false; net.whole.arcs.len()]?;
+    let mut all = Vec::new(alloc);
+    for arc in 0..net.whole.arcs.len() {
         if !taken[arc] {
-            let first = first_of(&joined, 2 * arc as u32);
-            chains.push(chain_from(alloc, &joined, &mut taken, first)?)?;
+            let first = joined.first_of(2 * arc as u32);
+            all.push(joined.chain_from(alloc, &mut taken, first)?)?;
         }
     }
-    Ok(chains)
+    Ok(Chains { net, all })
 }
 
 /// How many ends lie at a node, and the last two of them.
@@ -65,33 +64,27 @@ struct Site {
     two: u32,
 }
 
-/// For each end, the end of another arc that it is joined to, or the end itself. Joined are the two ends at a node that
-/// has no more, where one has a plus and the other a minus.
-fn joined_ends(alloc: Global, net: &Net) -> Result<Vec<u32>, Memory>
-    requires bounds { IsWithinBounds (network net.now) }
-    requires few { (1 ≤ length net.now.arcs.items) × (length net.now.arcs.items ≤ 2 ^ 28) }
-    ensures { IfOk result (λ joined. AreEnds (length net.now.arcs.items) joined.items) }
+/// Joined are the two ends at a node that has no more, where one has a plus and the other a minus.
+fn joined_ends<'a>(alloc: Global, net: SmallNet<'a>) -> Result<Joined<'a>, Memory>
+    ensures { IfOk result (λ joined. joined.net.whole.now ≡ net.entry.whole.now) }
 {
-    let ends = 2 * net.arcs.len() as u32;
-    let mut joined = Vec::with_capacity(alloc, ends as usize)?;
-    for end in 0..ends {
-        joined.push(end)?;
+    let mut at = Vec::with_capacity(alloc, net.ends() as usize)?;
+    for end in 0..net.ends() {
+        at.push(end)?;
     }
     for site in &sites_of(alloc, net)? {
         let Site { many, one, two } = *site;
-        if many == 2 && is_one_length(net, one, two) {
-            joined[one as usize] = two;
-            joined[two as usize] = one;
+        if many == 2 && is_one_length(net, *site) {
+            at[one as usize] = two;
+            at[two as usize] = one;
         }
     }
-    Ok(joined)
+    Ok(Joined { net, at })
 }
 
 /// The ends at each node.
-fn sites_of(alloc: Global, net: &Net) -> Result<Vec<Site>, Memory>
-    requires bounds { IsWithinBounds (network net.now) }
-    requires few { (1 ≤ length net.now.arcs.items) × (length net.now.arcs.items ≤ 2 ^ 28) }
-    ensures { let ends = 2 * length net.now.arcs.items in
+fn sites_of(alloc: Global, net: SmallNet<'_>) -> Result<Vec<Site>, Memory>
+    ensures { let ends = 2 * length net.entry.whole.now.arcs.items in
         IfOk result (λ sites. All (λ site. (site.one < ends) × (site.two < ends)) sites.items) }
 {
     let none = Site {
@@ -99,9 +92,9 @@ fn sites_of(alloc: Global, net: &Net) -> Result<Vec<Site>, Memory>
         one: 0,
         two: 0,
     };
-    let mut sites = vec![in alloc; none; net.nodes as usize]?;
-    for end in 0..2 * net.arcs.len() as u32 {
-        if let Some(place) = end_at(net, end) {
+    let mut sites = vec![in alloc; none; net.whole.nodes as usize]?;
+    for end in 0..net.ends() {
+        if let Some(place) = net.end(end) {
             let site = sites[place.node as usize];
             sites[place.node as usize] = Site {
                 many: site.many.saturating_add(1),
@@ -113,62 +106,55 @@ fn sites_of(alloc: Global, net: &Net) -> Result<Vec<Site>, Memory>
     Ok(sites)
 }
 
-/// Whether two ends at one node, where no other lies, belong to two arcs, which then have the same length.
-fn is_one_length(net: &Net, one: u32, two: u32) -> bool
-    requires bounds { IsWithinBounds (network net.now) }
-    requires one { one < 2 * length net.now.arcs.items }
-    requires two { two < 2 * length net.now.arcs.items }
+/// Whether the two ends at a node, where no other lies, belong to two arcs, which then have the same length.
+fn is_one_length(net: SmallNet<'_>, site: Site) -> bool
+    requires { let ends = 2 * length net.whole.now.arcs.items in (site.one < ends) × (site.two < ends) }
 {
-    match (end_at(net, one), end_at(net, two)) {
-        (Some(here), Some(there)) => one / 2 != two / 2 && here.plus != there.plus,
+    match (net.end(site.one), net.end(site.two)) {
+        (Some(here), Some(there)) => site.one / 2 != site.two / 2 && here.plus != there.plus,
         _ => false,
     }
 }
 
-/// The first end of the chain of an end, back from there; in a ring, the end itself.
-fn first_of(joined: &[u32], end: u32) -> u32
-    requires joined { (arcs : ℕ) × (arcs ≤ 2 ^ 28) × AreEnds arcs joined.now }
-    requires end { end < length joined.now }
-    ensures { result < length joined.now }
-{
-    let mut first = end;
-    for _ in 0..joined.len() {
-        let before = joined[first as usize];
-        if before == first {
-            return first;
+impl Joined<'_> {
+    /// The first end of the chain of an end, back from there; in a ring, the end itself.
+    fn first_of(&self, end: u32) -> u32
+        requires { end < length self.now.at.items }
+        ensures { result < length self.now.at.items }
+    {
+        let mut first = end;
+        for _ in 0..self.at.len() {
+            let before = self.at[first as usize];
+            if before == first {
+                return first;
+            }
+            first = across(before);
+            if first == end {
+                return first;
+            }
         }
-        first = across(before);
-        if first == end {
-            return first;
-        }
+        first
     }
-    first
-}
 
-/// The chain from an end on, whose arcs are marked as taken.
-fn chain_from(
-    alloc: Global,
-    joined: &[u32],
-    taken: &mut [bool],
-    first: u32,
-) -> Result<Chain, Memory>
-    requires few { length taken.old ≤ 2 ^ 28 }
-    requires joined { AreEnds (length taken.old) joined.now }
-    requires first { first < 2 * length taken.old }
-    ensures long { length taken.new ≡ length taken.old }
-    ensures ends { IfOk result (λ chain. All (λ end. end < 2 * length taken.old) chain.items) }
-{
-    let mut chain = Chain::new(alloc);
-    let mut here = first;
-    for _ in 0..taken.len() {
-        chain.push(here)?;
-        taken[here as usize / 2] = true;
-        let last = across(here);
-        let next = joined[last as usize];
-        if next == last || taken[next as usize / 2] {
-            break;
+    /// The chain from an end on, whose arcs are marked as taken.
+    fn chain_from(&self, alloc: Global, taken: &mut [bool], first: u32) -> Result<Chain, Memory>
+        requires taken { length taken.old ≡ length self.now.net.whole.now.arcs.items }
+        requires first { first < length self.now.at.items }
+        ensures long { length taken.new ≡ length taken.old }
+        ensures ends { IfOk result (λ chain. AreBelow (2 * length taken.old) chain.items) }
+    {
+        let mut chain = Chain::new(alloc);
+        let mut here = first;
+        for _ in 0..taken.len() {
+            chain.push(here)?;
+            taken[here as usize / 2] = true;
+            let last = across(here);
+            let next = self.at[last as usize];
+            if next == last || taken[next as usize / 2] {
+                break;
+            }
+            here = next;
         }
-        here = next;
+        Ok(chain)
     }
-    Ok(chain)
 }

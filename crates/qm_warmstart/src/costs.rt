@@ -1,11 +1,10 @@
 //! What an arc costs by its length, and what the arcs of a chain cost together.
 
-ghost use Rattle.std.specs.Prelude.{◌*◌, ◌^◌, ◌<◌, ◌≤◌, length};
-ghost use Rattle.std.specs.List.{All};
-ghost use Rattle.def_flow.specs.Network.{network, IsWithinBounds};
+ghost use Rattle.std.specs.Prelude.{◌*◌, ◌^◌, ◌≤◌, length};
+ghost use Rattle.qm_warmstart.specs.Tables.{AreBelow};
 
 use crate::Memory;
-use def_flow::Net;
+use crate::small_net::SmallNet;
 use std::alloc::Global;
 
 /// The cost of an arc: its weight times how far `q` times its length is from `p` times its old one.
@@ -36,21 +35,6 @@ impl Cost {
             i64::from(self.q)
         };
         i64::from(self.weight) * (i64::from(self.q) - 2 * below)
-    }
-}
-
-/// The cost of an arc of a network.
-pub(crate) fn cost_of(net: &Net, arc: u32) -> Cost
-    requires bounds { IsWithinBounds (network net.now) }
-    requires arc { arc < length net.now.arcs.items }
-    ensures { 1 ≤ result.q }
-{
-    let arc = &net.arcs[arc as usize];
-    Cost {
-        weight: arc.weight as u16,
-        p: net.p as u16,
-        q: net.q as u16,
-        old: arc.old,
     }
 }
 
@@ -107,16 +91,15 @@ impl Slope {
 }
 
 /// What one more costs by how long a chain is, its arcs told by their ends.
-pub(crate) fn slope_of(alloc: Global, net: &Net, chain: &[u32]) -> Result<Slope, Memory>
-    requires bounds { IsWithinBounds (network net.now) }
-    requires chain { All (λ end. end < 2 * length net.now.arcs.items) chain.now }
+pub(crate) fn slope_of(alloc: Global, net: SmallNet<'_>, chain: &[u32]) -> Result<Slope, Memory>
+    requires { AreBelow (2 * length net.whole.now.arcs.items) chain.now }
 {
     let mut bends = Vec::with_capacity(alloc, chain.len().saturating_mul(2))?;
     let mut before = 0i64;
     let mut floor = 1u64;
     for end in chain {
-        floor = floor.max(u64::from(net.arcs[*end as usize / 2].floor));
-        let cost = cost_of(net, *end / 2);
+        floor = floor.max(u64::from(net.floor(*end)));
+        let cost = net.cost(*end);
         let most = i64::from(cost.weight) * i64::from(cost.q);
         // One more costs least up to what is wanted, most beyond it, and something between on the step across.
         let across = cost.target() / u64::from(cost.q);

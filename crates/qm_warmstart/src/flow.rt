@@ -1,7 +1,6 @@
 //! Lengths over the double cover, what is too much at each node, prices, and what each step costs.
 
 ghost use Rattle.std.specs.Prelude.{◌≡◌, ◌*◌, ◌<◌, ◌≤◌, length, IfOk};
-ghost use Rattle.qm_warmstart.specs.Tables.{IsCover, IsOver, exit_count, way_count};
 
 use crate::Memory;
 use crate::costs::Slope;
@@ -16,11 +15,13 @@ pub(crate) const BARRED: i64 = i64::MAX;
 /// What the ground takes: all that is brought there.
 const ALL: i64 = i64::MIN / 2;
 
-/// A length for each way, what the lengths add up to at each node, a price for each node, and what each exit costs.
+/// Lengths over a cover: one for each way, what they add up to at each node, a price for each node, and what each exit
+/// costs.
 ///
 /// All costs are doubled, so that mirrored prices are whole numbers.
 #[derive(Debug, Drop)]
-pub(crate) struct Flow {
+pub(crate) struct Flow<'a> {
+    pub(crate) cover: &'a Cover,
     /// Whether the flow is its own mirror image. Then both ways of a chain have one length, which is kept doubled at
     /// the first of them, and a step along one goes half of it on both; what is too much is counted in halves, and the
     /// ground takes all.
@@ -31,18 +32,22 @@ pub(crate) struct Flow {
     pub(crate) excess: Vec<i64>,
     pub(crate) prices: Vec<i64>,
     pub(crate) costs: Vec<i64>,
+    ghost measured: { length lengths.items ≡ length cover.now.ways.items },
+    ghost added: { length excess.items ≡ cover.now.nodes },
+    ghost priced: { length prices.items ≡ cover.now.nodes },
+    ghost costed: { length costs.items ≡ length cover.now.exits.items },
 }
 
 /// The mirrored flow of the lengths of least cost, which they are at each scale. Linear.
-pub(crate) fn first_flow(alloc: Global, cover: &Cover) -> Result<Flow, Memory>
-    requires { IsCover cover.now }
-    ensures { IfOk result (IsOver cover.now) }
+pub(crate) fn first_flow<'a>(alloc: Global, cover: &'a Cover) -> Result<Flow<'a>, Memory>
+    ensures { IfOk result (λ flow. flow.cover.now ≡ cover.now) }
 {
     let mut lengths = vec![in alloc; 0u64; cover.ways.len()]?;
     for (chain, slope) in cover.slopes.iter().enumerate() {
         lengths[2 * chain] = slope.least().min(MAX_LENGTH).saturating_mul(2);
     }
     let mut flow = Flow {
+        cover,
         mirrored: true,
         scale: first_scale(cover),
         lengths,
@@ -50,63 +55,55 @@ pub(crate) fn first_flow(alloc: Global, cover: &Cover) -> Result<Flow, Memory>
         prices: vec![in alloc; 0i64; cover.nodes as usize]?,
         costs: vec![in alloc; 0i64; cover.exits.len()]?,
     };
-    weigh(cover, &mut flow);
+    flow.weigh();
     Ok(flow)
 }
 
-/// Gives each way of a mirrored flow a length of its own: half of what was kept at both, with one more for the second
-/// where that is odd. Linear.
-pub(crate) fn unfold(cover: &Cover, flow: &mut Flow)
-    requires cover { IsCover cover.now }
-    requires flow { IsOver cover.now flow.old }
-    ensures { IsOver cover.now flow.new }
-{
-    for chain in 0..cover.slopes.len() {
-        let twice = flow.lengths[2 * chain];
-        flow.lengths[2 * chain] = twice / 2;
-        flow.lengths[2 * chain + 1] = twice - twice / 2;
+impl Flow<'_> {
+    /// Gives each way of a mirrored flow a length of its own: half of what was kept at both, with one more for the
+    /// second where that is odd. Linear.
+    pub(crate) fn unfold(&mut self)
+        ensures { self.new.cover.now ≡ self.old.cover.now }
+    {
+        for chain in 0..self.cover.slopes.len() {
+            let twice = self.lengths[2 * chain];
+            self.lengths[2 * chain] = twice / 2;
+            self.lengths[2 * chain + 1] = twice - twice / 2;
+        }
+        self.mirrored = false;
+        self.weigh();
     }
-    flow.mirrored = false;
-    weigh(cover, flow);
-}
 
-/// Gives both ways of each chain one whole length, and the ground all that is brought there. Linear.
-pub(crate) fn share(cover: &Cover, lengths: &[u64], flow: &mut Flow)
-    requires cover { IsCover cover.now }
-    requires lengths { way_count cover.now ≡ 2 * length lengths.now }
-    requires flow { IsOver cover.now flow.old }
-    ensures { IsOver cover.now flow.new }
-{
-    for (chain, length) in lengths.iter().enumerate() {
-        flow.lengths[2 * chain] = *length;
-        flow.lengths[2 * chain + 1] = *length;
+    /// Gives both ways of each chain one whole length, and the ground all that is brought there. Linear.
+    pub(crate) fn share(&mut self, lengths: &[u64])
+        requires { length self.old.cover.now.slopes.items ≡ length lengths.now }
+        ensures { self.new.cover.now ≡ self.old.cover.now }
+    {
+        for (chain, length) in lengths.iter().enumerate() {
+            self.lengths[2 * chain] = *length;
+            self.lengths[2 * chain + 1] = *length;
+        }
+        self.mirrored = false;
+        self.weigh();
+        self.excess[self.cover.ground() as usize] = ALL;
     }
-    flow.mirrored = false;
-    weigh(cover, flow);
-    flow.excess[cover.ground() as usize] = ALL;
-}
 
-/// Adds up at each node what its ways bring, and finds what each step costs.
-pub(crate) fn weigh(cover: &Cover, flow: &mut Flow)
-    requires cover { IsCover cover.now }
-    requires flow { IsOver cover.now flow.old }
-    ensures { IsOver cover.now flow.new }
-{
-    for excess in &mut flow.excess {
-        *excess = 0;
+    /// Adds up at each node what its ways bring, and finds what each step costs.
+    pub(crate) fn weigh(&mut self)
+        ensures { self.new.cover.now ≡ self.old.cover.now }
+    {
+        empty(&mut self.excess);
+        for way in 0..self.cover.ways.len() as u32 {
+            let Way { plus, minus } = self.cover.way(way);
+            let length = self.length(way).min(4 * MAX_LENGTH) as i64;
+            self.bring(minus, plus, length);
+            self.charge(way);
+        }
+        if self.mirrored {
+            self.excess[self.cover.ground() as usize] = ALL;
+        }
     }
-    for way in 0..cover.ways.len() as u32 {
-        let Way { plus, minus } = cover.way(way);
-        let length = flow.length(way).min(4 * MAX_LENGTH) as i64;
-        bring(cover, flow, minus, plus, length);
-        charge(cover, flow, way);
-    }
-    if flow.mirrored {
-        flow.excess[cover.ground() as usize] = ALL;
-    }
-}
 
-impl Flow {
     /// Where the length of a way is kept.
     fn place(&self, way: u32) -> usize
         ensures { result ≤ way }
@@ -120,7 +117,7 @@ impl Flow {
 
     /// The length of a way; in a mirrored flow, twice as much.
     fn length(&self, way: u32) -> u64
-        requires { way < length self.now.lengths.items }
+        requires { way < length self.now.cover.now.ways.items }
     {
         self.lengths[self.place(way)]
     }
@@ -140,8 +137,8 @@ impl Flow {
     /// What an exit costs by prices, at which no step of a least flow costs less than nothing.
     #[inline(always)]
     pub(crate) fn reduced(&self, price: i64, place: u32, to: u32) -> i64
-        requires place { place < length self.now.costs.items }
-        requires to { to < length self.now.prices.items }
+        requires place { place < length self.now.cover.now.exits.items }
+        requires to { to < self.now.cover.now.nodes }
     {
         let cost = self.costs[place as usize];
         if cost == BARRED {
@@ -151,75 +148,87 @@ impl Flow {
                 .saturating_sub(self.prices[to as usize])
         }
     }
-}
 
-/// Takes so much away at one node and adds it at another.
-pub(crate) fn bring(cover: &Cover, flow: &mut Flow, from: u32, to: u32, much: i64)
-    requires flow { IsOver cover.now flow.old }
-    requires nodes { (from < cover.now.nodes) × (to < cover.now.nodes) }
-    ensures { IsOver cover.now flow.new }
-{
-    flow.excess[from as usize] = flow.excess[from as usize].saturating_sub(much);
-    flow.excess[to as usize] = flow.excess[to as usize].saturating_add(much);
-}
+    /// Takes so much away at one node and adds it at another.
+    pub(crate) fn bring(&mut self, from: u32, to: u32, much: i64)
+        requires { (from < self.old.cover.now.nodes) × (to < self.old.cover.now.nodes) }
+        ensures { self.new.cover.now ≡ self.old.cover.now }
+    {
+        self.excess[from as usize] = self.excess[from as usize].saturating_sub(much);
+        self.excess[to as usize] = self.excess[to as usize].saturating_add(much);
+    }
 
-/// Finds what the steps along a way cost.
-fn charge(cover: &Cover, flow: &mut Flow, way: u32)
-    requires cover { IsCover cover.now }
-    requires flow { IsOver cover.now flow.old }
-    requires way { way < way_count cover.now }
-    ensures { IsOver cover.now flow.new }
-{
-    let (slope, length, fold) = (cover.slope(way), flow.length(way), flow.fold());
-    let more = cover.place(Step { way, more: true });
-    let less = cover.place(Step { way, more: false });
-    flow.costs[more as usize] = if length < fold * MAX_LENGTH {
-        flow.rise(slope, length).saturating_mul(2)
-    } else {
-        BARRED
-    };
-    flow.costs[less as usize] = if length > slope.floor.saturating_mul(fold) {
-        flow.rise(slope, length - 1).saturating_mul(-2)
-    } else {
-        BARRED
-    };
-}
+    /// Finds what the steps along a way cost.
+    fn charge(&mut self, way: u32)
+        requires { way < length self.old.cover.now.ways.items }
+        ensures { self.new.cover.now ≡ self.old.cover.now }
+    {
+        let cover = self.cover;
+        let (slope, length, fold) = (cover.slope(way), self.length(way), self.fold());
+        let more = cover.place(Step { way, more: true });
+        let less = cover.place(Step { way, more: false });
+        self.costs[more as usize] = if length < fold * MAX_LENGTH {
+            self.rise(slope, length).saturating_mul(2)
+        } else {
+            BARRED
+        };
+        self.costs[less as usize] = if length > slope.floor.saturating_mul(fold) {
+            self.rise(slope, length - 1).saturating_mul(-2)
+        } else {
+            BARRED
+        };
+    }
 
-/// Whether a step may be gone so many times, each time for what the first costs.
-pub(crate) fn is_even(cover: &Cover, flow: &Flow, step: Step, times: u64) -> bool
-    requires cover { IsCover cover.now }
-    requires flow { IsOver cover.now flow.now }
-    requires way { step.way < way_count cover.now }
-    requires times { 1 ≤ times }
-{
-    let (slope, length, fold) = (cover.slope(step.way), flow.length(step.way), flow.fold());
-    if step.more {
-        length <= fold * MAX_LENGTH
-            && times <= fold * MAX_LENGTH - length
-            && flow.rise(slope, length) == flow.rise(slope, length + times - 1)
-    } else {
-        let least = slope.floor.saturating_mul(fold);
-        length > least
-            && times <= length - least
-            && flow.rise(slope, length - 1) == flow.rise(slope, length - times)
+    /// Whether a step may be gone so many times, each time for what the first costs.
+    pub(crate) fn is_even(&self, step: Step, times: u64) -> bool
+        requires way { step.way < length self.now.cover.now.ways.items }
+        requires times { 1 ≤ times }
+    {
+        let slope = self.cover.slope(step.way);
+        let (length, fold) = (self.length(step.way), self.fold());
+        if step.more {
+            length <= fold * MAX_LENGTH
+                && times <= fold * MAX_LENGTH - length
+                && self.rise(slope, length) == self.rise(slope, length + times - 1)
+        } else {
+            let least = slope.floor.saturating_mul(fold);
+            length > least
+                && times <= length - least
+                && self.rise(slope, length - 1) == self.rise(slope, length - times)
+        }
+    }
+
+    /// Whether a step takes the last that a chain can give, where each way has a length of its own.
+    pub(crate) fn is_last(&self, step: Step) -> bool
+        requires { step.way < length self.now.cover.now.ways.items }
+    {
+        !step.more
+            && self.lengths[step.way as usize] <= self.cover.slope(step.way).floor.saturating_add(1)
+    }
+
+    /// Goes so many times along a step.
+    pub(crate) fn go(&mut self, step: Step, times: u64)
+        requires { step.way < length self.old.cover.now.ways.items }
+        ensures { self.new.cover.now ≡ self.old.cover.now }
+    {
+        let place = self.place(step.way);
+        self.lengths[place] = if step.more {
+            self.lengths[place].saturating_add(times)
+        } else {
+            self.lengths[place].saturating_sub(times)
+        };
+        self.charge(step.way);
+        if self.mirrored {
+            self.charge(self.cover.other(step.way));
+        }
     }
 }
 
-/// Goes so many times along a step.
-pub(crate) fn go(cover: &Cover, flow: &mut Flow, step: Step, times: u64)
-    requires cover { IsCover cover.now }
-    requires flow { IsOver cover.now flow.old }
-    requires way { step.way < way_count cover.now }
-    ensures { IsOver cover.now flow.new }
+/// Nothing is too much anywhere.
+fn empty(excess: &mut [i64])
+    ensures { length excess.new ≡ length excess.old }
 {
-    let place = flow.place(step.way);
-    flow.lengths[place] = if step.more {
-        flow.lengths[place].saturating_add(times)
-    } else {
-        flow.lengths[place].saturating_sub(times)
-    };
-    charge(cover, flow, step.way);
-    if flow.mirrored {
-        charge(cover, flow, cover.other(step.way));
+    for excess in excess {
+        *excess = 0;
     }
 }

@@ -1,12 +1,11 @@
 //! Levels: how many steps that cost nothing lead to a node from one that has too much.
 
-ghost use Rattle.std.specs.Prelude.{◌<◌, IfOk, OnOk};
-ghost use Rattle.std.specs.List.{All};
-ghost use Rattle.qm_warmstart.specs.Tables.{IsCover, IsLevels, IsOver};
+ghost use Rattle.std.specs.Prelude.{◌≡◌, ◌<◌, length, IfOk};
+ghost use Rattle.qm_warmstart.specs.Tables.{AreBelow};
 
 use crate::Memory;
 use crate::cover::Cover;
-use crate::flow::Flow;
+use crate::phases::Room;
 use std::alloc::Global;
 
 /// The level of a node that no such steps lead to.
@@ -23,12 +22,15 @@ pub(crate) struct Levels {
     /// The nodes with a level in its order, and the live ones.
     pub(crate) reached: Vec<u32>,
     pub(crate) alive: Vec<u32>,
+    ghost marked: { length live.items ≡ length level.items },
+    ghost looked: { length next.items ≡ length level.items },
+    ghost risen: { AreBelow (length level.items) reached.items },
+    ghost enlivened: { AreBelow (length level.items) alive.items },
 }
 
 /// Levels that have not been found.
 pub(crate) fn no_levels(alloc: Global, cover: &Cover) -> Result<Levels, Memory>
-    requires { IsCover cover.now }
-    ensures { IfOk result (IsLevels cover.now.nodes) }
+    ensures { IfOk result (λ levels. length levels.level.items ≡ cover.now.nodes) }
 {
     let nodes = cover.nodes as usize;
     Ok(Levels {
@@ -40,163 +42,157 @@ pub(crate) fn no_levels(alloc: Global, cover: &Cover) -> Result<Levels, Memory>
     })
 }
 
-/// Finds the levels from all sources on, the live nodes, and whether there are any. The ground of a mirrored flow is
-/// an end and is not opened. Linear in the exits of the nodes that are reached, each of which takes one of the fuel.
-pub(crate) fn find_levels(
-    cover: &Cover,
-    flow: &Flow,
-    sources: &[u32],
-    levels: &mut Levels,
-    fuel: &mut u32,
-) -> Result<bool, Memory>
-    requires cover { IsCover cover.now }
-    requires flow { IsOver cover.now flow.now }
-    requires sources { All (λ node. node < cover.now.nodes) sources.now }
-    requires levels { IsLevels cover.now.nodes levels.old }
-    ensures { OnOk result (IsLevels cover.now.nodes levels.new) }
-{
-    clear(cover, levels);
-    for source in sources {
-        rise_to(cover, levels, *source, 0)?;
-    }
-    for k in 0..cover.nodes as usize {
-        if k >= levels.reached.len() {
-            break;
+impl Levels {
+    /// Forgets levels, in the time that they took.
+    fn clear(&mut self)
+        ensures { length self.new.level.items ≡ length self.old.level.items }
+    {
+        for k in 0..self.reached.len() {
+            let node = self.reached[k];
+            self.level[node as usize] = NO_LEVEL;
+            self.live[node as usize] = false;
         }
-        let node = levels.reached[k];
-        if !flow.mirrored || node != cover.ground() {
-            level_from(cover, flow, levels, node, fuel)?;
+        self.reached.clear();
+        self.alive.clear();
+    }
+
+    /// Notes that a node is live.
+    fn enliven(&mut self, node: u32) -> Result<(), Memory>
+        requires { node < length self.old.level.items }
+        ensures { length self.new.level.items ≡ length self.old.level.items }
+    {
+        if !self.live[node as usize] {
+            self.live[node as usize] = true;
+            self.alive.push(node)?;
         }
+        Ok(())
     }
-    if !levels.alive.is_empty() {
-        revive(cover, flow, levels, fuel)?;
+
+    /// Goes on to the next exit of a node.
+    pub(crate) fn pass(&mut self, node: u32)
+        requires { node < length self.old.level.items }
+        ensures { length self.new.level.items ≡ length self.old.level.items }
+    {
+        self.next[node as usize] = self.next[node as usize].saturating_add(1);
     }
-    Ok(!levels.alive.is_empty())
+
+    /// Takes its level from a node.
+    pub(crate) fn sink(&mut self, node: u32)
+        requires { node < length self.old.level.items }
+        ensures { length self.new.level.items ≡ length self.old.level.items }
+    {
+        self.level[node as usize] = NO_LEVEL;
+    }
 }
 
-/// Forgets levels, in the time that they took.
-fn clear(cover: &Cover, levels: &mut Levels)
-    requires { IsLevels cover.now.nodes levels.old }
-    ensures { IsLevels cover.now.nodes levels.new }
-{
-    for k in 0..levels.reached.len() {
-        let node = levels.reached[k];
-        levels.level[node as usize] = NO_LEVEL;
-        levels.live[node as usize] = false;
-    }
-    levels.reached.clear();
-    levels.alive.clear();
-}
-
-/// Gives a node its level, unless it has one.
-fn rise_to(cover: &Cover, levels: &mut Levels, node: u32, level: u32) -> Result<(), Memory>
-    requires cover { IsCover cover.now }
-    requires node { node < cover.now.nodes }
-    requires levels { IsLevels cover.now.nodes levels.old }
-    ensures { OnOk result (IsLevels cover.now.nodes levels.new) }
-{
-    if levels.level[node as usize] == NO_LEVEL {
-        levels.level[node as usize] = level;
-        levels.next[node as usize] = cover.exits_of(node).0;
-        levels.reached.push(node)?;
-    }
-    Ok(())
-}
-
-/// Notes that a node is live.
-fn enliven(cover: &Cover, levels: &mut Levels, node: u32) -> Result<(), Memory>
-    requires node { node < cover.now.nodes }
-    requires levels { IsLevels cover.now.nodes levels.old }
-    ensures { OnOk result (IsLevels cover.now.nodes levels.new) }
-{
-    if !levels.live[node as usize] {
-        levels.live[node as usize] = true;
-        levels.alive.push(node)?;
-    }
-    Ok(())
-}
-
-/// Gives the next level to what the exits of a node lead to. The ends are live, and in a mirrored flow the nodes before
-/// the ground.
-fn level_from(
-    cover: &Cover,
-    flow: &Flow,
-    levels: &mut Levels,
-    node: u32,
-    fuel: &mut u32,
-) -> Result<(), Memory>
-    requires cover { IsCover cover.now }
-    requires flow { IsOver cover.now flow.now }
-    requires levels { IsLevels cover.now.nodes levels.old }
-    requires node { node < cover.now.nodes }
-    ensures { OnOk result (IsLevels cover.now.nodes levels.new) }
-{
-    let level = levels.level[node as usize].saturating_add(1);
-    let price = flow.prices[node as usize];
-    let (first, end) = cover.exits_of(node);
-    for place in first..end {
-        *fuel = fuel.saturating_sub(1);
-        let to = cover.exit(place).to;
-        if flow.reduced(price, place, to) <= 0 {
-            rise_to(cover, levels, to, level)?;
-            if flow.excess[to as usize] < 0 {
-                let is_ground = flow.mirrored && to == cover.ground();
-                enliven(cover, levels, if is_ground { node } else { to })?;
+impl Room<'_> {
+    /// Finds the levels from all sources on that are awake, the live nodes, and whether there are any. The ground of a
+    /// mirrored flow is an end and is not opened. Linear in the exits of the nodes that are reached, each of which
+    /// takes one of the fuel.
+    pub(crate) fn find_levels(&mut self, fuel: &mut u32) -> Result<bool, Memory>
+        ensures { self.new.search ≡ self.old.search }
+    {
+        let cover = self.search.flow.cover;
+        self.levels.clear();
+        for k in 0..self.awake.len() {
+            let source = self.awake[k];
+            self.rise_to(source, 0)?;
+        }
+        for k in 0..cover.nodes as usize {
+            if k >= self.levels.reached.len() {
+                break;
+            }
+            let node = self.levels.reached[k];
+            if !self.search.flow.mirrored || node != cover.ground() {
+                self.level_from(node, fuel)?;
             }
         }
-    }
-    Ok(())
-}
-
-/// Finds the nodes from which such steps lead to those that are live already: in a mirrored flow by the exits of their
-/// mirror images, and else all that have a level.
-fn revive(cover: &Cover, flow: &Flow, levels: &mut Levels, fuel: &mut u32) -> Result<(), Memory>
-    requires cover { IsCover cover.now }
-    requires flow { IsOver cover.now flow.now }
-    requires levels { IsLevels cover.now.nodes levels.old }
-    ensures { OnOk result (IsLevels cover.now.nodes levels.new) }
-{
-    for k in 0..cover.nodes as usize {
-        if flow.mirrored && k < levels.alive.len() {
-            let node = levels.alive[k];
-            revive_before(cover, flow, levels, node, fuel)?;
-        } else if !flow.mirrored && k < levels.reached.len() {
-            let node = levels.reached[k];
-            enliven(cover, levels, node)?;
-        } else {
-            break;
+        if !self.levels.alive.is_empty() {
+            self.revive(fuel)?;
         }
+        Ok(!self.levels.alive.is_empty())
     }
-    Ok(())
-}
 
-/// The nodes from which such a step leads to a live one are live.
-fn revive_before(
-    cover: &Cover,
-    flow: &Flow,
-    levels: &mut Levels,
-    node: u32,
-    fuel: &mut u32,
-) -> Result<(), Memory>
-    requires cover { IsCover cover.now }
-    requires flow { IsOver cover.now flow.now }
-    requires levels { IsLevels cover.now.nodes levels.old }
-    requires node { node < cover.now.nodes }
-    ensures { OnOk result (IsLevels cover.now.nodes levels.new) }
-{
-    let image = cover.mirror(node);
-    let price = flow.prices[image as usize];
-    let (first, end) = cover.exits_of(image);
-    for place in first..end {
-        *fuel = fuel.saturating_sub(1);
-        let to = cover.exit(place).to;
-        let before = cover.mirror(to);
-        if levels.level[before as usize] != NO_LEVEL
-            && to != cover.ground()
-            && flow.reduced(price, place, to) <= 0
-        {
-            enliven(cover, levels, before)?;
+    /// Gives a node its level, unless it has one.
+    fn rise_to(&mut self, node: u32, level: u32) -> Result<(), Memory>
+        requires { node < self.old.search.flow.cover.now.nodes }
+        ensures search { self.new.search ≡ self.old.search }
+        ensures awake { self.new.awake ≡ self.old.awake }
+    {
+        let cover = self.search.flow.cover;
+        let levels = &mut self.levels;
+        if levels.level[node as usize] == NO_LEVEL {
+            levels.level[node as usize] = level;
+            levels.next[node as usize] = cover.exits_of(node).0;
+            levels.reached.push(node)?;
         }
+        Ok(())
     }
-    Ok(())
+
+    /// Gives the next level to what the exits of a node lead to. The ends are live, and in a mirrored flow the nodes
+    /// before the ground.
+    fn level_from(&mut self, node: u32, fuel: &mut u32) -> Result<(), Memory>
+        requires { node < self.old.search.flow.cover.now.nodes }
+        ensures { self.new.search ≡ self.old.search }
+    {
+        let cover = self.search.flow.cover;
+        let level = self.levels.level[node as usize].saturating_add(1);
+        let price = self.search.flow.prices[node as usize];
+        let (first, end) = cover.exits_of(node);
+        for place in first..end {
+            *fuel = fuel.saturating_sub(1);
+            let to = cover.exit(place).to;
+            if self.search.flow.reduced(price, place, to) <= 0 {
+                self.rise_to(to, level)?;
+                if self.search.flow.excess[to as usize] < 0 {
+                    let is_ground = self.search.flow.mirrored && to == cover.ground();
+                    self.levels.enliven(if is_ground { node } else { to })?;
+                }
+            }
+        }
+        Ok(())
+    }
+
+    /// Finds the nodes from which such steps lead to those that are live already: in a mirrored flow by the exits of
+    /// their mirror images, and else all that have a level.
+    fn revive(&mut self, fuel: &mut u32) -> Result<(), Memory>
+        ensures { self.new.search ≡ self.old.search }
+    {
+        for k in 0..self.search.flow.cover.nodes as usize {
+            let mirrored = self.search.flow.mirrored;
+            if mirrored && k < self.levels.alive.len() {
+                let node = self.levels.alive[k];
+                self.revive_before(node, fuel)?;
+            } else if !mirrored && k < self.levels.reached.len() {
+                let node = self.levels.reached[k];
+                self.levels.enliven(node)?;
+            } else {
+                break;
+            }
+        }
+        Ok(())
+    }
+
+    /// The nodes from which such a step leads to a live one are live.
+    fn revive_before(&mut self, node: u32, fuel: &mut u32) -> Result<(), Memory>
+        requires { node < self.old.search.flow.cover.now.nodes }
+        ensures { self.new.search ≡ self.old.search }
+    {
+        let cover = self.search.flow.cover;
+        let image = cover.mirror(node);
+        let price = self.search.flow.prices[image as usize];
+        let (first, end) = cover.exits_of(image);
+        for place in first..end {
+            *fuel = fuel.saturating_sub(1);
+            let to = cover.exit(place).to;
+            let before = cover.mirror(to);
+            if self.levels.level[before as usize] != NO_LEVEL
+                && to != cover.ground()
+                && self.search.flow.reduced(price, place, to) <= 0
+            {
+                self.levels.enliven(before)?;
+            }
+        }
+        Ok(())
+    }
 }

@@ -19,6 +19,7 @@ mod pricing;
 mod repair;
 mod scaling;
 mod search;
+mod small_net;
 mod start;
 mod trails;
 mod worth;

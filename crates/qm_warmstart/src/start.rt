@@ -1,16 +1,16 @@
 //! The start: lengths and prices.
 
-ghost use Rattle.std.specs.Prelude.{◌≡◌, ◌*◌, ◌<◌, length, IfOk, IfSome};
+ghost use Rattle.std.specs.Prelude.{◌≡◌, ◌*◌, length, IfOk, IfSome};
 ghost use Rattle.def_flow.specs.Network.{network, IsWithinBounds};
-ghost use Rattle.std.specs.List.{All};
-ghost use Rattle.qm_warmstart.specs.Tables.{AreChains};
+ghost use Rattle.qm_warmstart.specs.Tables.{AreBelow};
 
 use crate::Memory;
-use crate::chains::{Chain, chains_of};
+use crate::chains::{Chains, chains_of};
 use crate::cover::cover_of;
 use crate::flow::{Flow, first_flow};
 use crate::phases::relax;
-use crate::repair::repair;
+use crate::search::no_search;
+use crate::small_net::SmallNet;
 use crate::trails::round;
 use crate::worth::prices_of;
 use def_flow::Net;
@@ -45,30 +45,29 @@ pub fn near_start(alloc: Global, net: &Net) -> Result<Option<Start>, Memory>
     if net.arcs.is_empty() || net.nodes > MOST || net.arcs.len() > MOST as usize {
         return Ok(None);
     }
-    let chains = chains_of(alloc, net)?;
-    let cover = cover_of(alloc, net, &chains)?;
-    let mut flow = first_flow(alloc, &cover)?;
+    let chains = chains_of(alloc, SmallNet { whole: net })?;
+    let cover = cover_of(alloc, &chains)?;
+    let flow = first_flow(alloc, &cover)?;
     let looks = LOOKS.saturating_mul(net.arcs.len() as u32).min(MOST_LOOKS);
     let mut fuel = looks;
-    relax(alloc, &cover, &mut flow, &mut fuel)?;
-    let prices = prices_of(alloc, net, &chains, &flow)?;
-    let rounded = round(alloc, &cover, &flow)?;
+    let mut search = relax(alloc, no_search(alloc, flow)?, &mut fuel)?;
+    let prices = prices_of(alloc, &chains, &search.flow)?;
+    let rounded = round(alloc, &search.flow)?;
     fuel = looks;
-    if repair(alloc, &cover, &rounded, &mut flow, &mut fuel)?.is_none() {
+    if search.repair(&rounded, &mut fuel)?.is_none() {
         return Ok(None);
     }
-    let lengths = lengths_of(alloc, net.arcs.len(), &chains, &flow)?;
+    let lengths = lengths_of(alloc, &chains, &search.flow)?;
     Ok(Some(Start { lengths, prices }))
 }
 
 /// The length of each arc: that of the first way of its chain.
-fn lengths_of(alloc: Global, arcs: usize, chains: &[Chain], flow: &Flow) -> Result<Vec<u64>, Memory>
-    requires chains { AreChains arcs chains.now }
-    requires lengths { length flow.now.lengths.items ≡ 2 * length chains.now }
-    ensures { IfOk result (λ lengths. length lengths.items ≡ arcs) }
+fn lengths_of(alloc: Global, chains: &Chains<'_>, flow: &Flow<'_>) -> Result<Vec<u64>, Memory>
+    requires { length flow.now.cover.now.slopes.items ≡ length chains.now.all.items }
+    ensures { IfOk result (λ lengths. length lengths.items ≡ length chains.now.net.whole.now.arcs.items) }
 {
-    let mut lengths = vec![in alloc; 0u64; arcs]?;
-    for (k, chain) in chains.iter().enumerate() {
+    let mut lengths = vec![in alloc; 0u64; chains.net.whole.arcs.len()]?;
+    for (k, chain) in chains.all.iter().enumerate() {
         give(&mut lengths, chain.as_slice(), flow.lengths[2 * k]);
     }
     Ok(lengths)
@@ -76,7 +75,7 @@ fn lengths_of(alloc: Global, arcs: usize, chains: &[Chain], flow: &Flow) -> Resu
 
 /// Gives each arc of a chain its length.
 fn give(lengths: &mut [u64], chain: &[u32], long: u64)
-    requires { All (λ end. end < 2 * length lengths.old) chain.now }
+    requires { AreBelow (2 * length lengths.old) chain.now }
     ensures { length lengths.new ≡ length lengths.old }
 {
     for end in chain {

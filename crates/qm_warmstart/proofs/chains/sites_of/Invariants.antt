@@ -1,9 +1,9 @@
-use Rattle.std.proofs.Common.{◌≡◌, ◌*◌, ◌<◌, length}
+use Rattle.std.proofs.Common.{◌≡◌, ◌<◌, ◌*◌, length}
 use Rattle.std.specs.List.{All}
 use Rattle.qm_warmstart.specs.declared.chains.Site.{Site}
 use Rattle.qm_warmstart.proofs.chains.sites_of.Given as goal
 
 abbrev pub invariant-loop-end : goal.invariant-loop-end
-invariant-loop-end l = (length l.sites.items ≡ l.net.nodes)
-    × All (λ (site : Site). (site.one < 2 * length l.net.arcs.items) × (site.two < 2 * length l.net.arcs.items))
+invariant-loop-end l = (length l.sites.items ≡ l.net.whole.now.nodes)
+    × All (λ (site : Site). let ends = 2 * length l.net.whole.now.arcs.items in (site.one < ends) × (site.two < ends))
     l.sites.items

@@ -4,5 +4,5 @@ use Rattle.qm_warmstart.specs.Tables.{LeadsWithin}
 use Rattle.qm_warmstart.proofs.cover.ways_of.Given as goal
 
 abbrev pub invariant-loop-chain : goal.invariant-loop-chain
-invariant-loop-chain l = (length l.ways.items ≡ 2 * l.chain-index)
-    × All (LeadsWithin (2 * l.net.nodes + 1)) l.ways.items
+invariant-loop-chain l = (length l.all.items ≡ 2 * l.chain-index)
+    × All (LeadsWithin (2 * l.net.whole.now.nodes + 1)) l.all.items

@@ -1,8 +1,8 @@
-use Rattle.std.proofs.Common.{◌≡◌, ◌<◌, ◌≤◌, length}
-use Rattle.std.specs.List.{All}
+use Rattle.std.proofs.Common.{◌≡◌, ◌≤◌, length}
+use Rattle.qm_warmstart.specs.Tables.{AreBelow}
 use Rattle.qm_warmstart.proofs.phases.keep_open.Given as goal
 
 abbrev pub invariant-loop-k : goal.invariant-loop-k
 invariant-loop-k l = (length l.nodes.items ≡ length l.initial.nodes.items)
     × (l.kept ≤ l.k)
-    × All (λ node. node < l.cover.nodes) l.nodes.items
+    × AreBelow l.flow.cover.now.nodes l.nodes.items

@@ -1,5 +1,0 @@
-use Rattle.qm_warmstart.specs.Tables.{IsSearch, way_count}
-use Rattle.qm_warmstart.proofs.centering.spread.Given as goal
-
-abbrev pub invariant-loop : goal.invariant-loop
-invariant-loop l = IsSearch l.cover.nodes (way_count l.cover) l.search

@@ -1,5 +1,0 @@
-use Rattle.qm_warmstart.specs.Tables.{IsLevels}
-use Rattle.qm_warmstart.proofs.levels.revive_before.Given as goal
-
-abbrev pub invariant-loop-place : goal.invariant-loop-place
-invariant-loop-place l = IsLevels l.cover.nodes l.levels

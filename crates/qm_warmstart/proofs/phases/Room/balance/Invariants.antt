@@ -1,0 +1,5 @@
+use Rattle.std.proofs.Common.{◌≡◌}
+use Rattle.qm_warmstart.proofs.phases.Room.balance.Given as goal
+
+abbrev pub invariant-loop : goal.invariant-loop
+invariant-loop l = l.self.search.flow.cover.now ≡ l.initial.self.search.flow.cover.now
