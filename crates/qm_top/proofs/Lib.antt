@@ -1,9 +1,11 @@
 mod Asides
+mod BenchLines
 mod Benched
 mod Blocked
 mod Checked
 mod Complete
 mod Creased
+mod Deviations
 mod Fits
 mod Fitted
 mod Framed

@@ -9,11 +9,11 @@ ghost use Rattle.qm_top.specs.Writing.{IsOfLayout, IsUnwritten, WroteText};
 
 use crate::input::mesh_of;
 use crate::refusal::Refusal;
+use crate::summary::summary_of;
 use def_run::{Command, MAX_SIZE};
 use qm_gen::steps_mesh;
 use qm_io::{Sink, write_all};
 use qm_stages::Meshed;
-use qm_summary::summary_of;
 use std::alloc::Global;
 
 /// Makes the mesh of a size, remeshes it, and writes the line that sums it up. It reads nothing.

@@ -8,6 +8,7 @@ mod coarse;
 mod command;
 mod crease;
 mod cuts;
+mod deviation;
 mod error_line;
 mod finishing;
 mod fit;
@@ -24,6 +25,7 @@ mod refine;
 mod refusal;
 mod remesh;
 mod size;
+mod summary;
 mod tidy;
 mod why_line;
 

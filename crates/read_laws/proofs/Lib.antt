@@ -1,3 +1,4 @@
+pub mod Accepted
 mod SaidLines
 mod SaidTexts
 pub mod Soups

@@ -3,7 +3,7 @@ use Rattle.std.specs.Prelude.{codes}
 use Rattle.std.proofs.Common.{◌≡◌, ◌++◌, false, [], None, length, inr, sym, subst, ap, ◌∙◌, arith, refl}
 use Rattle.std.proofs.lemmas.List.FromFn.{get_or-map-range_with_len}
 use Rattle.std.proofs.lemmas.Bool.{false≢true}
-use Rattle.check_laws.proofs.Accepted.{accepts_law, head_there, last_line, plain_begins, IsHeadTest}
+use Rattle.read_laws.proofs.Accepted.{accepts_law, head_there, last_line, plain_begins, IsHeadTest}
 use Rattle.def_certtext.specs.CertLines.{alone, Certificates, line_text, raised, risen, used}
 use Rattle.def_certtext.specs.Risings.{third_if}
 use Rattle.def_certtext.specs.declared.certs.Rising.{Rising}

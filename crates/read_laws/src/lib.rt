@@ -6,6 +6,7 @@ ghost use Rattle.def_readlaws.specs.ReadLayouts.{OneChosenLaw, OneTracedLaw, Tas
 ghost use Rattle.def_readlaws.specs.ReadMarks.{AsidesInLaw, MarksInLaw};
 ghost use Rattle.def_readlaws.specs.ReadMeshes.{MeshTextLaw, SoupInLaw};
 ghost use Rattle.def_readlaws.specs.ReadPairs.{AcceptsTextLaw};
+ghost use Rattle.def_recheck.specs.Accepting.{AcceptsLaw};
 ghost use Rattle.def_readlaws.specs.ReadSpots.{FinishedSpotsLaw, RefinedSpotsLaw, SpotTextLaw};
 
 /// The soup of a text that is read can be written.
@@ -43,7 +44,12 @@ pub fn task_layout_law()
     ensures { TaskLayoutLaw }
 {}
 
-/// What `remesh` writes for bytes is accepted behind them.
+/// What `remesh` writes for a mesh is accepted behind the text of that mesh.
+pub fn accepts_law()
+    ensures { AcceptsLaw }
+{}
+
+/// What it writes for bytes is accepted behind them.
 pub fn accepts_text_law()
     ensures { AcceptsTextLaw }
 {}

@@ -10,7 +10,7 @@ use Rattle.def_remesh.specs.{Keeping.IsKept, declared.tables.Tables.Tables, Task
 use Rattle.def_run.specs.Bench.{bench_settings}
 use Rattle.plan_laws.proofs.MeshLayouts.{laid_of}
 use Rattle.qm_layoutnet.proofs.OneNet.{one_net_law}
-use Rattle.qm_summary.specs.Deviation.{IsKeptDeviation}
+use Rattle.qm_top.specs.Deviation.{IsKeptDeviation}
 use Rattle.remesh_laws.proofs.Solved.{writable_short}
 
 -- A network and what is kept, of the same layout, where the settings are those of a benchmark.

@@ -16,7 +16,7 @@ use std::alloc::Global;
 /// The line of the benchmark of this size, whose mesh this is.
 ///
 /// The time is linear in the faces, and beyond it that of the least lengths.
-pub fn summary_of(alloc: Global, meshed: Meshed, size: u32) -> Result<Vec<u8>, LayoutFail>
+pub(crate) fn summary_of(alloc: Global, meshed: Meshed, size: u32) -> Result<Vec<u8>, LayoutFail>
     requires { meshed ≡ steps_soup size }
     ensures text { IfOk result (λ text. WritesBench size text.items) }
     ensures refused { IfErr result (IsBenchFail size) }

@@ -10,8 +10,8 @@ use Rattle.def_remesh.specs.Placings.{IsMeshLayout}
 use Rattle.def_run.specs.Bench.{bench_faces, IsBenchFail}
 use Rattle.def_text.specs.FaceSet.{FaceSet}
 use Rattle.qm_report.proofs.TableReads.{filter_few}
-use Rattle.qm_summary.proofs.Lines.{same_line, size_fails, traced_in}
-use Rattle.qm_summary.proofs.summary.summary_of.Goals as goal
+use Rattle.qm_top.proofs.BenchLines.{same_line, size_fails, traced_in}
+use Rattle.qm_top.proofs.summary.summary_of.Goals as goal
 
 pub new-cut-requires : goal.new-cut-requires
 new-cut-requires c = subst (λ (fs : Faces). IsMeshLayout fs (plan c.in_ok-layout.layout)) c.mesh-mesh.ensures

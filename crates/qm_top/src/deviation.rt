@@ -5,7 +5,7 @@ ghost use Rattle.def_certtext.specs.declared.certs.Rising.TheVariants.{Never};
 ghost use Rattle.def_remesh.specs.Refusals.{IsLayoutFail};
 ghost use Rattle.def_remesh.specs.Tasks.{old_lengths};
 ghost use Rattle.def_run.specs.Bench.{bench_settings};
-ghost use Rattle.qm_summary.specs.Deviation.{IsKeptDeviation};
+ghost use Rattle.qm_top.specs.Deviation.{IsKeptDeviation};
 
 use def_certtext::{Rising, Terms};
 use def_flow::{Settings, Weight};

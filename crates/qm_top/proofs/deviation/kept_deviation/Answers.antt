@@ -5,8 +5,8 @@ use Rattle.def_certtext.specs.CertLines.{certificates_of, Lists}
 use Rattle.def_flow.specs.{Admissible.deviation, Admissible.entries, Admissible.AreNetLengths, Network.network}
 use Rattle.def_layout.specs.Plans.{plan}
 use Rattle.def_layoutnet.specs.MeshLayouts.{IsSomeLayout}
-use Rattle.qm_summary.proofs.Deviations.{bench_kept, bench_net, deviation_kept, kept_lengths}
-use Rattle.qm_summary.proofs.deviation.kept_deviation.Goals as goal
+use Rattle.qm_top.proofs.Deviations.{bench_kept, bench_net, deviation_kept, kept_lengths}
+use Rattle.qm_top.proofs.deviation.kept_deviation.Goals as goal
 
 pub net_of-requires-clause-layout : goal.net_of-requires-clause-layout
 net_of-requires-clause-layout c = subst IsSomeLayout (sym c.layout-t.ensures.plan) c.layout-t.ensures.laid.0

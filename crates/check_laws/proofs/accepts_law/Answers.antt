@@ -1,5 +1,0 @@
-use Rattle.check_laws.proofs.Accepted.{accepts_law}
-use Rattle.check_laws.proofs.accepts_law.Goals as goal
-
-pub returns : goal.returns
-returns c = accepts_law

@@ -1,2 +1,0 @@
-mod Deviations
-mod Lines
