@@ -12,6 +12,7 @@ use Rattle.def_written.specs.Points.{Point, arc_point, use_point, use_over, offs
 use Rattle.def_written.specs.NewFaces.{dart_start, dart_end}
 use Rattle.def_written.specs.Edges.{Edge, on_arc, flat, steep, IsEdge, edge_start, edge_end}
 use Rattle.written_laws.proofs.Sides.{slot, IsOn, place_on, over_is, size_some}
+use Rattle.written_laws.proofs.Rims.{dart_is}
 use Rattle.written_laws.proofs.Borders.{at_low, at_from, at_to}
 
 -- An edge, run along in its direction or against it.
@@ -97,42 +98,33 @@ module _ (l : Layout) (x : Lengths) where
     pub sees : {d : CellDart} → IsDart l x d → IsWithin d ⊎ ((w : Slot) × (o : ℕ) × IsOnBorder d w o)
     sees {d} is = by_way d.patch d.i d.j d.way is
       where
+        within : {d : CellDart} {B : Type 0} → course_of d ≡ inner_course d.patch d.i d.j d.way
+            → IsEdge l x (inner_course d.patch d.i d.j d.way).edge → IsWithin d ⊎ B
+        within c e = inl (record { course = c; is_edge = e })
+
         by_way : (p i j : ℕ) (w : Way) → IsDart l x (dart p i j w) → IsWithin (dart p i j w)
             ⊎ ((v : Slot) × (o : ℕ) × IsOnBorder (dart p i j w) v o)
         by_way p i j south d = elim (cases_eq j 0) [
-          | inl z ↦ inr (on_border (dart p i j south) p south i d.patch_low d.i_low (λ t. dart p i (z t) south))
-          | inr some ↦ inl (record {
-            course = cond-false (j == 0) _ _ (ne_eqb j 0 some);
-            is_edge = (d.patch_low, d.i_low, omega arith, d.j_low);
-          })
+          | inl z ↦ inr (on_border (dart p i j south) p south i d.patch_low d.i_low (dart_is p south refl z))
+          | inr some ↦ within (cond-false (j == 0) _ _ (ne_eqb j 0 some)) (d.patch_low, d.i_low, omega arith, d.j_low)
         ]
         by_way p i j east d = elim (cases_eq (i + 1) (wide l x p)) [
-          | inl z ↦ let e : i ≡ wide l x p - 1 = omega arith in
-              inr (on_border (dart p i j east) p east j d.patch_low (omega (arith, len.upright p d.patch_low, d.j_low))
-              (λ t. dart p (e t) j east))
-          | inr some ↦ inl (record {
-            course = cond-false (i + 1 == wide l x p) _ _ (ne_eqb (i + 1) (wide l x p) some);
-            is_edge = (d.patch_low, omega arith, omega (arith, d.i_low), d.j_low);
-          })
+          | inl z ↦ inr (on_border (dart p i j east) p east j d.patch_low
+              (omega (arith, len.upright p d.patch_low, d.j_low)) (dart_is p east (omega arith) refl))
+          | inr some ↦ within (cond-false (i + 1 == wide l x p) _ _ (ne_eqb (i + 1) (wide l x p) some))
+              (d.patch_low, omega arith, omega (arith, d.i_low), d.j_low)
         ]
         by_way p i j north d = elim (cases_eq (j + 1) (high l x p)) [
-          | inl z ↦ let e : i ≡ wide l x p - 1 - (wide l x p - 1 - i) = omega (arith, d.i_low) in
-              let f : j ≡ high l x p - 1 = omega arith in
-              inr (on_border (dart p i j north) p north (wide l x p - 1 - i) d.patch_low
-              (omega (arith, len.across p d.patch_low, d.i_low)) (λ t. dart p (e t) (f t) north))
-          | inr some ↦ inl (record {
-            course = cond-false (j + 1 == high l x p) _ _ (ne_eqb (j + 1) (high l x p) some);
-            is_edge = (d.patch_low, d.i_low, omega arith, omega (arith, d.j_low));
-          })
+          | inl z ↦ inr (on_border (dart p i j north) p north (wide l x p - 1 - i) d.patch_low
+              (omega (arith, len.across p d.patch_low, d.i_low))
+              (dart_is p north (omega (arith, d.i_low)) (omega arith)))
+          | inr some ↦ within (cond-false (j + 1 == high l x p) _ _ (ne_eqb (j + 1) (high l x p) some))
+              (d.patch_low, d.i_low, omega arith, omega (arith, d.j_low))
         ]
         by_way p i j west d = elim (cases_eq i 0) [
-          | inl z ↦ let f : j ≡ high l x p - 1 - (high l x p - 1 - j) = omega (arith, d.j_low) in
-              inr (on_border (dart p i j west) p west (high l x p - 1 - j) d.patch_low (omega (arith, d.j_low))
-              (λ t. dart p (z t) (f t) west))
-          | inr some ↦ inl (record {
-            course = cond-false (i == 0) _ _ (ne_eqb i 0 some);
-            is_edge = (d.patch_low, omega arith, d.i_low, d.j_low);
-          })
+          | inl z ↦ inr (on_border (dart p i j west) p west (high l x p - 1 - j) d.patch_low (omega (arith, d.j_low))
+              (dart_is p west z (omega (arith, d.j_low))))
+          | inr some ↦ within (cond-false (i == 0) _ _ (ne_eqb i 0 some)) (d.patch_low, omega arith, d.i_low, d.j_low)
         ]
 
     rim_course : (p : ℕ) (s : Way) (t : ℕ) → p < l.patches → t < size l x p s → course_of (dart_along l x p s t)
@@ -214,8 +206,8 @@ module _ (l : Layout) (x : Lengths) where
     -- Darts with one course are one.
     inner_back : (p i j : ℕ) (w : Way) → inner_dart (inner_course p i j w) ≡ dart p i j w
     inner_back p i j south = refl
-    inner_back p i j east = let e : i + 1 - 1 ≡ i = omega arith in λ t. dart p (e t) j east
-    inner_back p i j north = let e : j + 1 - 1 ≡ j = omega arith in λ t. dart p i (e t) north
+    inner_back p i j east = dart_is p east (omega arith) refl
+    inner_back p i j north = dart_is p north refl (omega arith)
     inner_back p i j west = refl
 
     pub inner_no_arc : (p i j : ℕ) (w : Way) → is_arc (inner_course p i j w).edge ≡ false

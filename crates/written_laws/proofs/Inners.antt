@@ -93,11 +93,14 @@ module _ {l : Layout} {x : Lengths} {laid : IsSurface l} {len : AreLengths l x} 
         at (inl e) = inl (is_v.there (slot_dart l x w o) is_d (at_from l x laid len w o is less ∙ e))
         at (inr e) = inr (ends_back is_d (at_to l x laid len w o is less ∙ e))
 
-    -- So many darts leave the vertex, where they are told by numbers.
-    pub fan_most : (n : ℕ) (code : (d : CellDart) → IsDart l x d → dart_start l x d ≡ a → (k : ℕ) × (k < n))
+    -- So many darts leave the vertex, where numbers tell them apart and each number is that of one.
+    pub fan_is : (n : ℕ) (code : (d : CellDart) → IsDart l x d → dart_start l x d ≡ a → (k : ℕ) × (k < n))
         → ((d e : CellDart) (b : IsDart l x d) (c : IsDart l x e) (f : dart_start l x d ≡ a) (g : dart_start l x e ≡ a)
-        → (code d b f).0 ≡ (code e c g).0 → d ≡ e) → faces_at F v ≤ n
-    fan_most n code once = omega (arith, filter_long (λ d. from_of F d == v) (darts F), passing_all n, most)
+        → (code d b f).0 ≡ (code e c g).0 → d ≡ e)
+        → (at : (k : ℕ) → k < n → (d : CellDart) × IsDart l x d × (dart_start l x d ≡ a))
+        → ((k m : ℕ) (b : k < n) (c : m < n) → (at k b).0 ≡ (at m c).0 → k ≡ m) → faces_at F v ≡ n
+    fan_is n code once at apart =
+        omega (arith, filter_long (λ d. from_of F d == v) (darts F), passing_all n, most, least)
       where
         leaves : (k : ℕ) (low : k < darts F) → (from_of F k == v) ≡ true → dart_start l x (model.onto k low).0 ≡ a
         leaves k low s = is_v.back (model.onto k low).0 (model.onto k low).1
@@ -105,21 +108,16 @@ module _ {l : Layout} {x : Lengths} {laid : IsSurface l} {len : AreLengths l x} 
 
         most : passing (λ d. from_of F d == v) (darts F) ≤ passing (λ k. true) n
         most = passing_le (λ d. from_of F d == v) (λ k. true) (darts F) n
-            (λ k low s. let c : (k : ℕ) × (k < n) = code (model.onto k low).0 (model.onto k low).1 (leaves k low s) in
-            (c.0, c.1, refl))
+            (λ k low s. let c = code (model.onto k low).0 (model.onto k low).1 (leaves k low s) in (c.0, c.1, refl))
             (λ k m low s less r same. sym (model.onto k low).2
             ∙ ap cell (once (model.onto k low).0 (model.onto m less).0 (model.onto k low).1 (model.onto m less).1
-            (leaves k low s) (leaves m less r) same)
-            ∙ (model.onto m less).2)
+            (leaves k low s) (leaves m less r) same) ∙ (model.onto m less).2)
 
-    pub fan_least : (n : ℕ) (at : (k : ℕ) → k < n → (d : CellDart) × IsDart l x d × (dart_start l x d ≡ a))
-        → ((k m : ℕ) (b : k < n) (c : m < n) → (at k b).0 ≡ (at m c).0 → k ≡ m) → n ≤ faces_at F v
-    fan_least n at once = omega (arith, filter_long (λ d. from_of F d == v) (darts F), passing_all n, least)
-      where
+        there : (k : ℕ) (low : k < n) → (from_of F (cell (at k low).0) == v) ≡ true
+        there k low = eq-eqb _ v (is_v.there (at k low).0 (at k low).1 (at k low).2)
+
         least : passing (λ k. true) n ≤ passing (λ d. from_of F d == v) (darts F)
-        least = passing_le (λ k. true) (λ d. from_of F d == v) n (darts F) (λ k low on. (
-          cell (at k low).0,
-          model.low (at k low).0 (at k low).1,
-          eq-eqb (from_of F (cell (at k low).0)) v (is_v.there (at k low).0 (at k low).1 (at k low).2),
-        )) (λ k m low on less off same. once k m low less
+        least = passing_le (λ k. true) (λ d. from_of F d == v) n (darts F)
+            (λ k low on. (cell (at k low).0, model.low (at k low).0 (at k low).1, there k low))
+            (λ k m low on less off same. apart k m low less
             (model.same (at k low).0 (at m less).0 (at k low).1 (at m less).1 same))

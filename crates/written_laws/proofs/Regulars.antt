@@ -15,7 +15,7 @@ use Rattle.written_laws.proofs.Borders.{sort_dart, inner_from, use_back, use_not
 use Rattle.written_laws.proofs.NewDarts.{turn, way_of, way_turn, turn_way, turn_low}
 use Rattle.written_laws.proofs.{Spokes.point_sort, Spots.spot_dart, Spots.at_once, Spots.spot_is}
 use Rattle.written_laws.proofs.{Spots.spot_at, Spots.sort_spot, Spots.spot_once, Models.IsModel, Inners.AreShared}
-use Rattle.written_laws.proofs.Inners.{IsVertex, inner_if, inner_only, fan_most, fan_least}
+use Rattle.written_laws.proofs.Inners.{IsVertex, inner_if, inner_only, fan_is}
 
 column_once : (i k : ℕ) (w : Way) → column i w ≡ column k w → i ≡ k
 column_once i k = elim [ south ↦ λ e. e | east ↦ λ e. omega arith | north ↦ λ e. omega arith | west ↦ λ e. e ]
@@ -158,19 +158,11 @@ module _ {l : Layout} {x : Lengths} (laid : IsSurface l) (len : AreLengths l x) 
             (record { patch_low = is.0; i_low = is.2; j_low = omega (arith, is.4) }, ap (point l x p i) r ∙ hub)
 
         four : faces_at F v ≡ 4
-        four = omega (arith, most, least)
-          where
-            most : faces_at F v ≤ 4
-            most = fan_most model is_v 4 (λ d is_d f. (turn d.way, turn_low d.way)) once
-
-            least : 4 ≤ faces_at F v
-            least = fan_least model is_v 4 (λ k low. (
-              hub_dart p i j (way_of k),
-              (at_hub (way_of k)).0,
-              (at_hub (way_of k)).1,
-            )) (λ k m low less same. sym (turn_way k low)
-                ∙ ap turn (sym (hub_way p i j (way_of k)) ∙ ap (λ (d : CellDart). d.way) same
-                ∙ hub_way p i j (way_of m)) ∙ turn_way m less)
+        four = fan_is model is_v 4 (λ d is_d f. (turn d.way, turn_low d.way)) once
+            (λ k low. let h = at_hub (way_of k) in (hub_dart p i j (way_of k), h.0, h.1))
+            (λ k m low less same. sym (turn_way k low)
+            ∙ ap turn (sym (hub_way p i j (way_of k)) ∙ ap (λ (d : CellDart). d.way) same ∙ hub_way p i j (way_of m))
+            ∙ turn_way m less)
 
     module _ (a k : ℕ) {v : ℕ} (is : IsPoint l x (along a k)) (is_v : IsVertex model (along a k) v)
       where
@@ -249,7 +241,11 @@ module _ {l : Layout} {x : Lengths} (laid : IsSurface l) (len : AreLengths l x) 
             ]
 
             two : faces_at F v ≡ 2
-            two = omega (arith, most, least)
+            two = fan_is model is_v 2 coded once
+                (λ c low. let d = first_dart (behind_of c) in (spot_dart l x first.0 k (behind_of c), d.0, d.1))
+                (λ c m low less same. sym (code_back_first c low)
+                ∙ ap (code true) (spot_once laid len first.0 k (behind_of c) (behind_of m) same)
+                ∙ code_back_first m less)
               where
                 coded : (d : CellDart) → IsDart l x d → dart_start l x d ≡ along a k → (c : ℕ) × (c < 2)
                 coded d is_d leaves = (code true (along_sort is_d leaves).2, code_first (along_sort is_d leaves).2)
@@ -262,18 +258,6 @@ module _ {l : Layout} {x : Lengths} (laid : IsSurface l) (len : AreLengths l x) 
                     along_once s.3 r.3
                     (forward s.0 s.3.at.is_slot s.3.arc ∙ sym (forward r.0 r.3.at.is_slot r.3.arc))
                     (sym (code_behind true s.2) ∙ ap behind_of same ∙ code_behind true r.2)
-
-                most : faces_at F v ≤ 2
-                most = fan_most model is_v 2 coded once
-
-                least : 2 ≤ faces_at F v
-                least = fan_least model is_v 2 (λ c low. (
-                  spot_dart l x first.0 k (behind_of c),
-                  (first_dart (behind_of c)).0,
-                  (first_dart (behind_of c)).1,
-                )) (λ c m low less same. sym (code_back_first c low)
-                    ∙ ap (code true) (spot_once laid len first.0 k (behind_of c) (behind_of m) same)
-                    ∙ code_back_first m less)
 
         along_shared : (u : Slot) → IsOtherSlot l first.0 u → is_regular F v ≡ true
         along_shared u other = regular_by v four (inner_if model is_v shared) refl
@@ -341,7 +325,10 @@ module _ {l : Layout} {x : Lengths} (laid : IsSurface l) (len : AreLengths l x) 
                 (spot_at laid len (x a - k) b other.0 (omega (arith, long, is.1, is.2)) (λ s. omega (arith, is.2))))).0)
 
             four : faces_at F v ≡ 4
-            four = omega (arith, most, least)
+            four = fan_is model is_v 4 coded once (λ c low. let b = both_is (forward_of c) (behind_of c) in
+                (both (forward_of c) (behind_of c), b.0, b.1))
+                (λ c m low less same. sym (code_back c low)
+                ∙ both_once (forward_of c) (forward_of m) (behind_of c) (behind_of m) same ∙ code_back m less)
               where
                 coded : (d : CellDart) → IsDart l x d → dart_start l x d ≡ along a k → (c : ℕ) × (c < 4)
                 coded d is_d leaves = (
@@ -359,17 +346,6 @@ module _ {l : Layout} {x : Lengths} (laid : IsSurface l) (len : AreLengths l x) 
                     ∙ code_forward (use_of l r.0).forward r.2)
                     (sym (code_behind (use_of l s.0).forward s.2) ∙ ap behind_of same
                     ∙ code_behind (use_of l r.0).forward r.2)
-
-                most : faces_at F v ≤ 4
-                most = fan_most model is_v 4 coded once
-
-                least : 4 ≤ faces_at F v
-                least = fan_least model is_v 4 (λ c low. (
-                  both (forward_of c) (behind_of c),
-                  (both_is (forward_of c) (behind_of c)).0,
-                  (both_is (forward_of c) (behind_of c)).1,
-                )) (λ c m low less same. sym (code_back c low)
-                    ∙ both_once (forward_of c) (forward_of m) (behind_of c) (behind_of m) same ∙ code_back m less)
 
         pub along_regular : is_regular F v ≡ true
         along_regular = elim (laid.other first.0 first.1) [ inl u ↦ along_shared u.0 u.1 | inr none ↦ along_alone none ]

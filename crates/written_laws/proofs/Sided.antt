@@ -12,7 +12,8 @@ use Rattle.def_layout.specs.Lengths.{Lengths, reach, size, AreLengths}
 use Rattle.def_layout.specs.Cells.{CellDart, IsDart, dart, next, prev, dart_along, slot_dart}
 use Rattle.def_layout.specs.Embeddings.{IsEmbedding}
 use Rattle.def_written.specs.NewFaces.{column, row}
-use Rattle.written_laws.proofs.{Sides.slot, Sides.use_some, Sides.last_reach, Turning.IsTurning, Rims.corner_next}
+use Rattle.written_laws.proofs.{Sides.slot, Sides.use_some, Sides.last_reach, Turning.IsTurning}
+use Rattle.written_laws.proofs.Rims.{dart_is, corner_next}
 use Rattle.written_laws.proofs.{Borders.at_is, Borders.before_is, Fans.before_related, Spots.rim_slot}
 
 module _ (m : HalfEdges) (laws : IsQuadManifold m) (l : Layout) (x : Lengths) (paved : HasWholeSides l)
@@ -66,24 +67,18 @@ module _ (m : HalfEdges) (laws : IsQuadManifold m) (l : Layout) (x : Lengths) (p
       → AreFromOne (dart p i j w) (dart p k n (side_after w))
   left_from p i j k n south d e c r = before_twin (dart p i j south) e refl
       (s.east_of p k n d.patch_low (omega (arith, c, d.i_low)) e.j_low
-      ∙ ap (λ (q : CellDart). Some (cell q)) (λ t. dart p (sym c t) (sym r t) west))
-  left_from p i j k n east d e c r =
-      let a : k ≡ i = omega (arith, c) in
-      before_twin (dart p i j east) e refl
+      ∙ ap (λ (q : CellDart). Some (cell q)) (dart_is p west (sym c) (sym r)))
+  left_from p i j k n east d e c r = before_twin (dart p i j east) e refl
       (s.north_of p k n d.patch_low e.i_low (omega (arith, r, d.j_low))
-      ∙ ap (λ (q : CellDart). Some (cell q)) (λ t. dart p (a t) (sym r t) south))
-  left_from p i j k n north d e c r =
-      let b : j ≡ n = omega (arith, r) in
-      twin_before (dart p i j north) (dart p k n west)
+      ∙ ap (λ (q : CellDart). Some (cell q)) (dart_is p south (omega (arith, c)) (sym r)))
+  left_from p i j k n north d e c r = twin_before (dart p i j north) (dart p k n west)
       (record { patch_low = d.patch_low; i_low = d.i_low; j_low = d.j_low }) refl
       (s.east_of p i j d.patch_low (omega (arith, c, e.i_low)) d.j_low
-      ∙ ap (λ (q : CellDart). Some (cell q)) (λ t. dart p (c t) (b t) west))
-  left_from p i j k n west d e c r = twin_before (dart p i j west) (dart p k n south) (record {
-    patch_low = d.patch_low;
-    i_low = d.i_low;
-    j_low = d.j_low;
-  }) refl (s.north_of p i j d.patch_low d.i_low (omega (arith, r, e.j_low))
-      ∙ ap (λ (q : CellDart). Some (cell q)) (λ t. dart p (c t) (r t) south))
+      ∙ ap (λ (q : CellDart). Some (cell q)) (dart_is p west c (omega (arith, r))))
+  left_from p i j k n west d e c r = twin_before (dart p i j west) (dart p k n south)
+      (record { patch_low = d.patch_low; i_low = d.i_low; j_low = d.j_low }) refl
+      (s.north_of p i j d.patch_low d.i_low (omega (arith, r, e.j_low))
+      ∙ ap (λ (q : CellDart). Some (cell q)) (dart_is p south c r))
 
   pub from_turning : IsTurning l x AreFromOne
   from_turning = record {
