@@ -124,8 +124,7 @@ first_length : (net : Network) (step : ℕ) (a : Arc) (arcs : List Arc) (x : ℕ
     → length ons ≡ length (units net step (a ∷ arcs) (x ∷ xs)) → (length (take (cap step a x) ons) ≡ cap step a x)
     × (length (drop (cap step a x) ons) ≡ length (units net step arcs xs))
 first_length net step a arcs x xs ons l =
-    let whole : length ons ≡ cap step a x + length (units net step arcs xs) =
-    omega (
+    let whole : length ons ≡ cap step a x + length (units net step arcs xs) = omega (
       arith,
       length-append (units_from net step a (low step a x) 0 (cap step a x)) (units net step arcs xs),
       units_length,

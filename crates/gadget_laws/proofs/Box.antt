@@ -178,14 +178,11 @@ same_active net step xs js ys is zs positive box other by bz v =
       arith,
       mul-add,
       box_ends net step v true net.arcs xs js ys box,
-      box_ends net step v false
-          net.arcs xs js ys box,
+      box_ends net step v false net.arcs xs js ys box,
       box_ends net step v true net.arcs xs is zs other,
-      box_ends net step v false net.arcs xs
-          is zs other,
+      box_ends net step v false net.arcs xs is zs other,
       balanced_list net.arcs ys (box_length step net.arcs xs js ys box) by v,
-      balanced_list net.arcs zs
-          (box_length step net.arcs xs is zs other) bz v,
+      balanced_list net.arcs zs (box_length step net.arcs xs is zs other) bz v,
     )
 
     equal : plus js + minus is ≡ minus js + plus is

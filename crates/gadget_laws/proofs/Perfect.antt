@@ -103,8 +103,7 @@ lone_ok nodes copies_at b c left ms at le first =
       arith,
       ints,
       lone_pick (at_ends (only b)) copies_at b c left (pos 1) ms worth,
-      one_more
-          (left_marks copies_at ms left) (lone_inner copies_at ms left) (at_ends (only b) (inner_link b c left))
+      one_more (left_marks copies_at ms left) (lone_inner copies_at ms left) (at_ends (only b) (inner_link b c left))
           (inner_one b).0,
     )
 
