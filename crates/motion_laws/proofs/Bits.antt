@@ -29,13 +29,8 @@ IsOfFour d p q r x = (x ≡ d) ⊎ ((x ≡ p) ⊎ ((x ≡ q) ⊎ (x ≡ r)))
 -- A cross seen from the next dart.
 pub rotated : (mesh : HalfEdges) → IsQuadManifold mesh → (d a b c : ℕ) → d < mesh.count → IsCross mesh d a b c
     → IsCross mesh a b c d
-rotated mesh laws d a b c low x = record {
-  first = x.second;
-  second = x.third;
-  third = x.last;
-  last = x.first;
-  apart = a_c mesh laws d a b c low x;
-}
+rotated mesh laws d a b c low x =
+    record { first = x.second; second = x.third; third = x.last; last = x.first; apart = a_c mesh laws d a b c low x }
 
 module _ (g : Terrain) (d p q r : ℕ) (round : AreRound g d p q r) where
   -- Who else arrives beside d alone decides.

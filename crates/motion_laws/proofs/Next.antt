@@ -48,8 +48,7 @@ module _ (g : Terrain) (stood : ℕ → Bool) (ds : List ℕ) where
       let rest = next_from rs e in
       elim (from_rider r r.stop (ridden (map (ride g stood ds) rs)) e refl m) [
         | inl f ↦ (r.dart, rw f.0 (among_here r.dart r.dart (ridden rs) refl), f.1, f.2)
-        | inr k ↦ let n : (d : ℕ) × (is_among d (ridden rs) ≡ true) × (stop_of g stood ds d ≡ None)
-            × (e ≡ or_else (straight g d) d) = rest k in (n.0, with_later r.stop r.dart n.0 (ridden rs) n.1, n.2, n.3)
+        | inr k ↦ let n = rest k in (n.0, with_later r.stop r.dart n.0 (ridden rs) n.1, n.2, n.3)
       ]
 
   -- And each rider that goes on rides its next dart.

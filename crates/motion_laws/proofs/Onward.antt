@@ -251,10 +251,8 @@ module _ (g : Terrain) (t : IsTerrain g) (begins : ℕ → Bool) (first : State)
 
         by_cross : IsCrossedAt g s (end_of g d) → CutGoesOn g.half cut d
         by_cross x = by_place x.x x.a x.b x.c x.low x.at x.cross (soon_cut x.x x.soon) (soon_cut x.b x.facing)
-            (one_of_four g.half t.half x.x x.a x.b x.c x.low x.cross (g.half.next d) (record {
-              low = next_low;
-              at = sym x.at;
-            }))
+            (one_of_four g.half t.half x.x x.a x.b x.c x.low x.cross (g.half.next d)
+            (record { low = next_low; at = sym x.at }))
 
         by_kind : (g.boundary (end_of g d) ≡ true) ⊎ (g.boundary (end_of g d) ≡ false)
             → (g.singular (end_of g d) ≡ true) ⊎ (g.singular (end_of g d) ≡ false) → CutGoesOn g.half cut d

@@ -368,14 +368,12 @@ module _ (g : Terrain) (t : IsTerrain g) (starts : List ℕ) (begin : IsStarted 
   in_history zero d m = absurd (false≢true m)
   in_history (suc k) d m = elim (among_append d (ridden (after_steps g starts k).riders) (history k) m) [
     | inl a ↦ (k, omega arith, a)
-    | inr b ↦ let r : (i : ℕ) × (i < k) × (is_among d (ridden (after_steps g starts i).riders) ≡ true) =
-        in_history k d b in (r.0, omega (arith, r.1), r.2)
+    | inr b ↦ let r = in_history k d b in (r.0, omega (arith, r.1), r.2)
   ]
 
   not_before : (k d : ℕ) → is_among d (ridden (after_steps g starts k).riders) ≡ true → is_among d (history k) ≡ true
       → ⊥
-  not_before k d m b = let r : (i : ℕ) × (i < k) × (is_among d (ridden (after_steps g starts i).riders) ≡ true) =
-      in_history k d b in ridden_once g t starts begin d r.0 k r.1 r.2 m
+  not_before k d m b = let r = in_history k d b in ridden_once g t starts begin d r.0 k r.1 r.2 m
 
   history_apart : (k : ℕ) → AreApart (history k)
   history_apart zero = tt
@@ -383,8 +381,7 @@ module _ (g : Terrain) (t : IsTerrain g) (starts : List ℕ) (begin : IsStarted 
       (after_reached g t starts begin k).apart (history_apart k) (not_before k)
 
   history_low : (k d : ℕ) → is_among d (history k) ≡ true → d < g.half.count
-  history_low k d m = let r : (i : ℕ) × (i < k) × (is_among d (ridden (after_steps g starts i).riders) ≡ true) =
-      in_history k d m in (after_reached g t starts begin r.0).low d r.2
+  history_low k d m = let r = in_history k d m in (after_reached g t starts begin r.0).low d r.2
 
   pub bounded : (x : EventState) (c : ℕ) → IsWithin x c → c ≤ g.half.count
   bounded x c w = omega (
@@ -479,8 +476,7 @@ module _ (g : Terrain) (t : IsTerrain g) (starts : List ℕ) (begin : IsStarted 
           → ((l : ℕ) → (j : ℕ) × (finish g k (after_steps g starts l) ≡ after_steps g starts j))
           → (j : ℕ) × (finish g (suc k) (after_steps g starts i) ≡ after_steps g starts j)
       at [] is rest = (i, at_rest g (suc k) (after_steps g starts i) is)
-      at (d ∷ ds) is rest = let r : (j : ℕ) × (finish g k (after_steps g starts (suc i)) ≡ after_steps g starts j) =
-          rest (suc i) in (r.0, runs_on g k d ds (after_steps g starts i) is ∙ r.1)
+      at (d ∷ ds) is rest = let r = rest (suc i) in (r.0, runs_on g k d ds (after_steps g starts i) is ∙ r.1)
 
   alike : (i j : ℕ) → ridden (after_steps g starts i).riders ≡ [] → ridden (after_steps g starts j).riders ≡ []
       → ((after_steps g starts i).riders ≡ (after_steps g starts j).riders)

@@ -62,8 +62,7 @@ module _ (g : Terrain) (stood : ℕ → Bool) (ds : List ℕ) where
   pub long : (V : ℕ → Bool) (bs rs : List Moving) (ns : List (Option ℕ)) → AreShown g stood ds V bs rs ns
       → (length rs ≡ length bs) × (length ns ≡ length bs)
   long V [] [] [] a = (refl, refl)
-  long V (b ∷ bs) (r ∷ rs) (n ∷ ns) a = let l : (length rs ≡ length bs) × (length ns ≡ length bs) =
-      long V bs rs ns a.2 in (ap suc l.0, ap suc l.1)
+  long V (b ∷ bs) (r ∷ rs) (n ∷ ns) a = let l = long V bs rs ns a.2 in (ap suc l.0, ap suc l.1)
   long V _ _ _ a = absurd a
 
   -- Who waits runs and has no note.

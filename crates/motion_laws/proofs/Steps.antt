@@ -22,14 +22,8 @@ use Rattle.motion_laws.proofs.Next.{next_from, next_to, next_apart}
 pub trail_more : (m : HalfEdges) (begin cut more : ℕ → Bool) → ((d : ℕ) → cut d ≡ true → more d ≡ true) → (d k : ℕ)
     → Trail m begin cut d k → Trail m begin more d k
 trail_more m begin cut more grown d zero t = t
-trail_more m begin cut more grown d (suc k) t = (
-  t.0,
-  trail_more m begin cut more grown t.0 k t.1,
-  t.2,
-  grown t.0 t.3,
-  t.4,
-  t.5,
-)
+trail_more m begin cut more grown d (suc k) t =
+    (t.0, trail_more m begin cut more grown t.0 k t.1, t.2, grown t.0 t.3, t.4, t.5)
 
 -- When a rider goes on.
 pub record GoesOn (g : Terrain) (stood : ℕ → Bool) (ds : List ℕ) (d : ℕ) : Type 0 where
@@ -89,8 +83,7 @@ module _ (g : Terrain) (t : IsTerrain g) where
         two_bits_of g d (g.half.prev a) (g.half.prev b) (g.half.prev c) (round_of g t.half d a b c (low d m) x)
         (arrivals g ds (end_of g d)) (apart_filter (arrives_at g ds (end_of g d)) ds apart)
         (in_filter (arrives_at g ds (end_of g d)) d ds m (arrives d (end_of g d) m refl off))
-        (λ y n. let f : (is_among y ds ≡ true) × (arrives_at g ds (end_of g d) y ≡ true) =
-        from_filter (arrives_at g ds (end_of g d)) y ds n in
+        (λ y n. let f = from_filter (arrives_at g ds (end_of g d)) y ds n in
         let p = and_parts _ _ f.1 in
         of_round g t.half d a b c (low d m) x y (low y f.0) (eqb-true _ _ p.0))
         ∙ (ap (λ k. not k && not (is_among (g.half.prev b) (arrivals g ds (end_of g d))))
@@ -405,8 +398,7 @@ module _ (g : Terrain) (t : IsTerrain g) where
     step_keeps = record {
       apart = step_apart;
       low = λ e m. (next_is e m).2.low;
-      left = λ e m. let n : (d : ℕ) × (is_among d (ridden s.riders) ≡ true) × IsNext s.stood (ridden s.riders) d e =
-          next_is e m in ap (step g s).stood n.2.at ∙ stands n.0 n.1;
+      left = λ e m. let n = next_is e m in ap (step g s).stood n.2.at ∙ stands n.0 n.1;
       alike = step_alike;
       ends = step_ends;
       kept = λ d k. inl (soon_then d (r.kept d k));
