@@ -127,16 +127,14 @@ module _ (mesh : HalfEdges) (laws : IsQuadManifold mesh) (cut : Cut) (full : IsC
     where
       by_sides : (k j : ℕ) → k < n → j < m → (d ≡ easts mesh s k) ⊎ (d ≡ easts mesh t k) → (d ≡ easts mesh r j)
           ⊎ (d ≡ easts mesh u j) → AreOneArc s t r u × (n ≡ m)
-      by_sides k j lk lj (inl e) (inl f) = let p : (s ≡ r) × (t ≡ u) × (n ≡ m) =
-          one_near k j one two lk lj (sym e ∙ f) in (inl (p.0, p.1), p.2)
-      by_sides k j lk lj (inl e) (inr f) = let p : (s ≡ u) × (t ≡ r) × (n ≡ m) =
-          one_near k j one (turned_glued mesh laws cut full two) lk lj (sym e ∙ f) in
+      by_sides k j lk lj (inl e) (inl f) = let p = one_near k j one two lk lj (sym e ∙ f) in (inl (p.0, p.1), p.2)
+      by_sides k j lk lj (inl e) (inr f) =
+          let p = one_near k j one (turned_glued mesh laws cut full two) lk lj (sym e ∙ f) in
           (inr (p.0, p.1), p.2)
-      by_sides k j lk lj (inr e) (inl f) = let p : (t ≡ r) × (s ≡ u) × (n ≡ m) =
-          one_near k j (turned_glued mesh laws cut full one) two lk lj (sym e ∙ f) in
+      by_sides k j lk lj (inr e) (inl f) =
+          let p = one_near k j (turned_glued mesh laws cut full one) two lk lj (sym e ∙ f) in
           (inr (p.1, p.0), p.2)
-      by_sides k j lk lj (inr e) (inr f) = let p : (t ≡ u) × (s ≡ r) × (n ≡ m) =
-          one_near k j (turned_glued mesh laws cut full one)
+      by_sides k j lk lj (inr e) (inr f) = let p = one_near k j (turned_glued mesh laws cut full one)
           (turned_glued mesh laws cut full two) lk lj (sym e ∙ f) in (inl (p.1, p.0), p.2)
 
   module _ {rest : Cut} {s t n : ℕ} (arc : IsJoinable mesh cut s t n) (without : IsWithout mesh cut rest s t n) where

@@ -45,8 +45,7 @@ implies = elim [ true ↦ λ b e is. e | false ↦ λ b e is. absurd (false≢tr
 all_from : (p : ℕ → Bool) (ds : List ℕ) → ((d : ℕ) → is_among d ds ≡ true → p d ≡ true) → list_all p ds ≡ true
 all_from p ds each = elim (cases_Bool (list_all p ds)) [
   | inl y ↦ y
-  | inr off ↦ let r : (d : ℕ) × (is_among d ds ≡ true) × (p d ≡ false) =
-      not_all p ds off in absurd (false≢true (sym r.2 ∙ each r.0 r.1))
+  | inr off ↦ let r = not_all p ds off in absurd (false≢true (sym r.2 ∙ each r.0 r.1))
 ]
 
 -- The test of a cut is what it says.

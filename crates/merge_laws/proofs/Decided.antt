@@ -190,11 +190,10 @@ module _ {mesh : HalfEdges} (laws : IsQuadManifold mesh) {cut : Cut} (full : IsC
               by_from (inr never) = inr none
                 where
                   none : Over d → ⊥
-                  none (r, u, m, arc, free, (j, l, inl e)) = let same : (r ≡ c) × (m ≡ n) =
-                      begins arc j l e in never (u, m, rw same.0 at arc)
-                  none (r, u, m, arc, free, (j, l, inr e)) = let same : (u ≡ c) × (m ≡ n) =
-                      begins (turned_arc mesh laws cut full r u m arc) j l e in never
-                      (r, m, rw same.0 at (turned_arc mesh laws cut full r u m arc))
+                  none (r, u, m, arc, free, (j, l, inl e)) =
+                      let same = begins arc j l e in never (u, m, rw same.0 at arc)
+                  none (r, u, m, arc, free, (j, l, inr e)) = let same = begins (turned_arc mesh laws cut full r u m arc)
+                      j l e in never (r, m, rw same.0 at (turned_arc mesh laws cut full r u m arc))
               by_from (inl f) = by_tests (cases_Bool (may c f.0 n)) (cases_Bool (may f.0 c n))
                 where
                   here : IsJoinable mesh cut c f.0 n

@@ -91,8 +91,7 @@ module _ (faces : Faces) (may : MayLeave) (laws : IsQuadManifold (half_edges fac
           fewer : marked (without marks s t n) < marked marks
           fewer = count_below_lt (λ x. cond (is_on (without marks s t n) x) 1 0) (λ x. cond (is_on marks x) 1 0)
               (darts faces) d low (λ x l. rw (value x l) (left_le (is_on marks x) (on_or_not mesh s t n x)))
-              (let off : is_on (without marks s t n) d ≡ false = value d low
-              ∙ left_on (is_on marks d) (on_or_not mesh s t n d) on in
+              (let off = value d low ∙ left_on (is_on marks d) (on_or_not mesh s t n d) on in
               let was : is_on marks d ≡ true = on_cut mesh laws (is_on marks) cut.full s t n arc.glued d on in
               let zero_now = ap (λ (b : Bool). cond {A = ℕ} b 1 0) off in
               let one_before : ◌≡◌ {A = ℕ} (cond (is_on marks d) 1 0) 1 = ap (λ (b : Bool). cond {A = ℕ} b 1 0) was in

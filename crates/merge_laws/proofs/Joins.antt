@@ -200,10 +200,10 @@ module _ (mesh : HalfEdges) (laws : IsQuadManifold mesh) (cut : Cut) (full : IsC
 
       along : (e : ℕ) → cut (mesh.next d) ≡ false → mesh.twin (mesh.next d) ≡ Some e → (k : ℕ) → k < n
           → (mesh.next e ≡ easts mesh s k) ⊎ (mesh.next e ≡ easts mesh t k) → IsOnArc mesh s t n d
-      along e off tw k lk (inl is) = let p : (j : ℕ) × (j < n) × (d ≡ easts mesh s j) =
-          gap_on mesh laws cut full s t n arc h g grid other without d e l off tw k lk is in (p.0, p.1, inl p.2)
-      along e off tw k lk (inr is) = let p : (j : ℕ) × (j < n) × (d ≡ easts mesh t j) =
-          gap_on mesh laws cut full t s n back g h other grid without_back d e l off tw k lk is in
+      along e off tw k lk (inl is) =
+          let p = gap_on mesh laws cut full s t n arc h g grid other without d e l off tw k lk is in (p.0, p.1, inl p.2)
+      along e off tw k lk (inr is) =
+          let p = gap_on mesh laws cut full t s n back g h other grid without_back d e l off tw k lk is in
           (p.0, p.1, inr p.2)
 
       straight : cut (mesh.next d) ≡ false → GoesOn mesh cut d → GoesOn mesh rest d
@@ -240,8 +240,7 @@ module _ (mesh : HalfEdges) (laws : IsQuadManifold mesh) (cut : Cut) (full : IsC
       by_edges : (cut d ≡ true) ⊎ (cut d ≡ false) → (cut (mesh.prev d) ≡ true) ⊎ (cut (mesh.prev d) ≡ false)
           → HasCross mesh d
       by_edges (inl c) before = let o : IsOnArc mesh s t n d = on_arc d l c off.0 in at o.0 o.1 o.2
-      by_edges (inr c) (inl b) = let o : IsOnArc mesh s t n (mesh.prev d) =
-          on_arc (mesh.prev d) (laws.prev_low d l) b off.1 in after c o.0 o.1 o.2
+      by_edges (inr c) (inl b) = let o = on_arc (mesh.prev d) (laws.prev_low d l) b off.1 in after c o.0 o.1 o.2
       by_edges (inr c) (inr b) = cross_at mesh laws cut full d l (c, b)
 
   corner : (d : ℕ) → d < mesh.count → CornerOf mesh rest d
@@ -284,8 +283,7 @@ module _ (mesh : HalfEdges) (laws : IsQuadManifold mesh) (cut : Cut) (full : IsC
       alike d e l tw = by_on (on_or_not mesh s t n d) (on_or_not mesh s t n e)
         where
           paired : (x y : ℕ) → mesh.twin x ≡ Some y → IsOnArc mesh s t n x → IsOnArc mesh s t n y
-          paired x y is o = let p : (z : ℕ) × (mesh.twin x ≡ Some z) × IsOnArc mesh s t n z =
-              on_twin mesh laws cut full arc.glued x o in subst (λ (z : ℕ). IsOnArc mesh s t n z)
+          paired x y is o = let p = on_twin mesh laws cut full arc.glued x o in subst (λ (z : ℕ). IsOnArc mesh s t n z)
               (same_Some p.0 y (sym p.1 ∙ is)) p.2
 
           by_on : IsOnArc mesh s t n d ⊎ (IsOnArc mesh s t n d → ⊥) → IsOnArc mesh s t n e ⊎ (IsOnArc mesh s t n e → ⊥)
@@ -300,8 +298,8 @@ module _ (mesh : HalfEdges) (laws : IsQuadManifold mesh) (cut : Cut) (full : IsC
       boundary d l is = keeps d l none (full.boundary d l is)
         where
           none : IsOnArc mesh s t n d → ⊥
-          none o = let p : (z : ℕ) × (mesh.twin d ≡ Some z) × IsOnArc mesh s t n z =
-              on_twin mesh laws cut full arc.glued d o in let clash : None ≡ Some p.0 = sym is ∙ p.1 in absurd cc
+          none o = let p = on_twin mesh laws cut full arc.glued d o in let clash : None ≡ Some p.0 = sym is
+              ∙ p.1 in absurd cc
 
 pub join_law : JoinLaw
 join_law mesh cut rest s t n laws full arc without =
