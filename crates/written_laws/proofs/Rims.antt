@@ -8,7 +8,7 @@ use Rattle.def_layout.specs.Cells.{CellDart, IsDart, dart, next, dart_along}
 use Rattle.def_written.specs.Points.{side_point, point}
 use Rattle.def_written.specs.NewFaces.{column, row, dart_start, dart_end}
 use Rattle.written_laws.proofs.Grid.{wide_some, high_some, point_north, point_west, point_east}
-use Rattle.written_laws.proofs.Turning.{IsTurning, grid_related}
+use Rattle.written_laws.proofs.Turning.{IsTurning, is_dart, grid_related}
 
 -- Where a dart begins in its patch.
 abbrev pub column_of : (d : CellDart) → ℕ
@@ -37,21 +37,12 @@ dart_is p w a b = λ t. dart p (a t) (b t) w
 module _ {l : Layout} {x : Lengths} (paved : HasWholeSides l) (len : AreLengths l x) where
   pub rim_is : (p : ℕ) (s : Way) (t : ℕ) → p < l.patches → t < size l x p s → IsDart l x (dart_along l x p s t)
   rim_is p south t low less = record { patch_low = low; i_low = less; j_low = high_some l x paved len p low }
-  rim_is p east t low less = record {
-    patch_low = low;
-    i_low = omega (arith, wide_some l x paved len p low);
-    j_low = omega (arith, len.upright p low);
-  }
-  rim_is p north t low less = record {
-    patch_low = low;
-    i_low = omega (arith, wide_some l x paved len p low);
-    j_low = omega (arith, high_some l x paved len p low);
-  }
-  rim_is p west t low less = record {
-    patch_low = low;
-    i_low = wide_some l x paved len p low;
-    j_low = omega (arith, high_some l x paved len p low);
-  }
+  rim_is p east t low less =
+      is_dart p _ t east low (omega (arith, wide_some l x paved len p low)) (omega (arith, len.upright p low))
+  rim_is p north t low less = is_dart p _ _ north low (omega (arith, wide_some l x paved len p low))
+      (omega (arith, high_some l x paved len p low))
+  rim_is p west t low less =
+      is_dart p 0 _ west low (wide_some l x paved len p low) (omega (arith, high_some l x paved len p low))
 
   -- A border dart begins at its place of the side, and ends at the next one.
   pub rim_column : (p : ℕ) (s : Way) (t : ℕ) → p < l.patches → t < size l x p s

@@ -12,7 +12,7 @@ use Rattle.def_layout.specs.Lengths.{Lengths, reach, size, AreLengths}
 use Rattle.def_layout.specs.Cells.{CellDart, IsDart, dart, next, prev, dart_along, slot_dart}
 use Rattle.def_layout.specs.Embeddings.{IsEmbedding}
 use Rattle.def_written.specs.NewFaces.{column, row}
-use Rattle.written_laws.proofs.{Sides.slot, Sides.use_some, Sides.last_reach, Turning.IsTurning}
+use Rattle.written_laws.proofs.{Sides.slot, Sides.use_some, Sides.last_reach, Turning.IsTurning, Turning.is_dart}
 use Rattle.written_laws.proofs.Rims.{dart_is, corner_next}
 use Rattle.written_laws.proofs.{Borders.at_is, Borders.before_is, Fans.before_related, Spots.rim_slot}
 
@@ -72,11 +72,11 @@ module _ (m : HalfEdges) (laws : IsQuadManifold m) (l : Layout) (x : Lengths) (p
       (s.north_of p k n d.patch_low e.i_low (omega (arith, r, d.j_low))
       ∙ ap (λ (q : CellDart). Some (cell q)) (dart_is p south (omega (arith, c)) (sym r)))
   left_from p i j k n north d e c r = twin_before (dart p i j north) (dart p k n west)
-      (record { patch_low = d.patch_low; i_low = d.i_low; j_low = d.j_low }) refl
+      (is_dart p i j east d.patch_low d.i_low d.j_low) refl
       (s.east_of p i j d.patch_low (omega (arith, c, e.i_low)) d.j_low
       ∙ ap (λ (q : CellDart). Some (cell q)) (dart_is p west c (omega (arith, r))))
   left_from p i j k n west d e c r = twin_before (dart p i j west) (dart p k n south)
-      (record { patch_low = d.patch_low; i_low = d.i_low; j_low = d.j_low }) refl
+      (is_dart p i j north d.patch_low d.i_low d.j_low) refl
       (s.north_of p i j d.patch_low d.i_low (omega (arith, r, e.j_low))
       ∙ ap (λ (q : CellDart). Some (cell q)) (dart_is p south c r))
 

@@ -17,11 +17,12 @@ pub record IsTurning (l : Layout) (x : Lengths) (R : CellDart → CellDart → T
   pub over : (w v : Slot) (o : ℕ) → IsSlot l w → IsOtherSlot l w v → o < x (use_of l w).arc
       → R (next (slot_dart l x w o)) (slot_dart l x v (x (use_of l w).arc - 1 - o))
 
-module _ {l : Layout} {x : Lengths} {R : CellDart → CellDart → Type 0} (turning : IsTurning l x R) where
-  -- A cell holds darts of all four ways.
-  pub is_dart : (p i j : ℕ) (w : Way) → p < l.patches → i < wide l x p → j < high l x p → IsDart l x (dart p i j w)
-  is_dart p i j w low i_low j_low = record { patch_low = low; i_low = i_low; j_low = j_low }
+-- A cell holds darts of all four ways.
+pub is_dart : {l : Layout} {x : Lengths} (p i j : ℕ) (w : Way) → p < l.patches → i < wide l x p → j < high l x p
+    → IsDart l x (dart p i j w)
+is_dart p i j w low i_low j_low = record { patch_low = low; i_low = i_low; j_low = j_low }
 
+module _ {l : Layout} {x : Lengths} {R : CellDart → CellDart → Type 0} (turning : IsTurning l x R) where
   same_cell : (p i j k m : ℕ) (w : Way) → i ≡ k → j ≡ m → R (dart p i j w) (dart p k m w)
   same_cell p i j k m w a b = turning.self (dart p i j w) (dart p k m w) (λ t. dart p (a t) (b t) w)
 
