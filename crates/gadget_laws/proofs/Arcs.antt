@@ -1,7 +1,7 @@
 -- Any states of the units tell a list of the box: the cost of the units that are on is at least its deviation.
 use Rattle.std.proofs.Common.{◌≡◌, ℕ, zero, suc, ◌+◌, ◌*◌, ◌%◌, ◌<◌, ◌≤◌, Bool, true, false, ◌==◌, List, []}
 use Rattle.std.proofs.Common.{◌∷◌, ◌++◌, length, take, drop, Option, ℤ, pos, ◌+ℤ◌, ◌-ℤ◌, ◌≤ℤ◌, refl, sym, ◌∙◌, ap}
-use Rattle.std.proofs.Common.{inl, inr, ◌⊎◌, add-mul, mul-add, one-mul, zero-mul, zero-add, add-zero}
+use Rattle.std.proofs.Common.{inl, inr, add-mul, mul-add, one-mul, zero-mul, zero-add, add-zero}
 use Rattle.std.proofs.Common.{length-append, arith}
 use Rattle.std.proofs.lemmas.Int.{ints}
 use Rattle.std.proofs.lemmas.Bool.{cases_lt}
@@ -11,7 +11,7 @@ use Rattle.def_flow.specs.Admissible.{IsAdmissible, IsBalanced, arc_deviation}
 use Rattle.def_flow.specs.{Admissible.deviation, Admissible.entries, Units.arcwise, Units.down, Units.low, Units.cap}
 use Rattle.def_flow.specs.Units.{units_from, units, states_at, active, rim_active}
 use Rattle.def_flow.specs.{Units.cost_on, MatchingGraph.matching_graph, declared.net.Arc.Arc, declared.net.End.End}
-use Rattle.def_flow.specs.{declared.units.ArcUnit.ArcUnit, Nearby.IsPart, Gadget.IsInBox, Gadget.lows, Gadget.caps}
+use Rattle.def_flow.specs.{declared.units.ArcUnit.ArcUnit, Gadget.IsInBox, Gadget.lows, Gadget.caps}
 use Rattle.def_matching.specs.Matching.{IsPerfect, matching_cost}
 use Rattle.network_laws.proofs.Lift.{arc_convex}
 use Rattle.gadget_laws.specs.{Marks.trues, Box.IsRaised, Told.marks_from, Told.states_told, Told.steps_told}

@@ -16,7 +16,7 @@ use Rattle.def_flow.specs.MatchingGraph.{are_alike, links_by, unit_size, units_l
 use Rattle.def_flow.specs.MatchingGraph.{rim, rim_links, first_fresh, lone_vertex, graph_by}
 use Rattle.def_flow.specs.declared.net.End.{End}
 use Rattle.def_flow.specs.declared.units.ArcUnit.{ArcUnit}
-use Rattle.gadget_laws.specs.Marks.{keep, chosen, places}
+use Rattle.gadget_laws.specs.Marks.{chosen, places}
 use Rattle.gadget_laws.specs.Told.{past, marks_from, width_by, state_told, states_told}
 use Rattle.gadget_laws.proofs.{Pick.picked, Pick.picked_chosen, Pick.at_places, Chain.at_ends, Chain.picked_free}
 use Rattle.gadget_laws.proofs.{Chain.rim_free, Unit.ends_active, Units.UnitsAt, Links.copies_below, Links.IsPast}

@@ -1,7 +1,7 @@
 -- The matching graph has at most 9/16 of the tangle number of vertices, and at most 9/8 of it of edges.
 use Rattle.std.proofs.Common.{◌≡◌, ◌≢◌, ℕ, zero, suc, ◌+◌, ◌-◌, ◌*◌, ◌%◌, ◌<◌, ◌≤◌, Bool, true, false, cond, ◌&&◌, ◌==◌}
 use Rattle.std.proofs.Common.{List, [], ◌∷◌, length, Option, Some, None, option_to_list, pos, ◌≤ℤ◌, refl, sym, ◌∙◌}
-use Rattle.std.proofs.Common.{ap, inl, inr, ◌⊎◌, add-mul, mul-add, mul_comm, mul_left_comm, zero-mul, mul-le-mul_left}
+use Rattle.std.proofs.Common.{ap, inl, inr, add-mul, mul-add, mul_comm, mul_left_comm, zero-mul, mul-le-mul_left}
 use Rattle.std.proofs.Common.{mul-le-mul_right, length-append, eq-eqb, ne_eqb, leb-true, nat_le, IsTrue, arith}
 use Rattle.std.proofs.lemmas.Int.{ints}
 use Rattle.std.proofs.lemmas.Bool.{and_parts, cases_eq}

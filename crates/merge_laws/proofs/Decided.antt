@@ -6,7 +6,7 @@ use Rattle.std.proofs.lemmas.Option.{same_Some}
 use Rattle.def_mesh.specs.HalfEdges.{HalfEdges, IsQuadManifold}
 use Rattle.def_cut.specs.{Cuts.Cut, Cuts.IsCorner, Cuts.IsCut, Grids.IsGrid, Steps.easts, Steps.spin}
 use Rattle.cut_laws.specs.Grown.{grown, IsGrown}
-use Rattle.cut_laws.proofs.{Classes.In, Classes.closed, Classes.first_in, Classes.linked_in, Grown.grow}
+use Rattle.cut_laws.proofs.{Classes.closed, Classes.first_in, Classes.linked_in, Grown.grow}
 use Rattle.def_merge.specs.Joins.{AreInOne, IsJoinable, IsOnArc, IsWholeSide, Leave}
 use Rattle.merge_laws.proofs.ArcDarts.{on_cut, turned_arc}
 use Rattle.merge_laws.proofs.Sides.{IsFirstDart, StandsOn, corner_in, grid_on, one_place, one_size, side_low, side_on}

@@ -1,13 +1,13 @@
 -- What is joinable in a layout is joinable in its cut.
 use Rattle.std.proofs.Common.{◌≡◌, ℕ, suc, ◌+◌, ◌-◌, ◌<◌, Bool, true, false, not, Some, sym, ◌∙◌, ap, subst, refl}
 use Rattle.std.proofs.Common.{arith}
-use Rattle.def_mesh.specs.{HalfEdges.HalfEdges, HalfEdges.IsQuadManifold, HalfEdges.half_edges, Vertices.vertex_count}
-use Rattle.def_cut.specs.{Cuts.Cut, Cuts.IsCut, FullCut.is_on, Grids.IsGrid, Grids.Rectangle, Grids.cell_of}
-use Rattle.def_cut.specs.{Grids.patch_at, Steps.face_of, Steps.easts}
+use Rattle.def_mesh.specs.{HalfEdges.HalfEdges, HalfEdges.IsQuadManifold}
+use Rattle.def_cut.specs.{Cuts.Cut, Cuts.IsCut, Grids.IsGrid, Grids.Rectangle, Grids.cell_of}
+use Rattle.def_cut.specs.{Grids.patch_at, Steps.easts}
 use Rattle.cut_laws.proofs.{Darts.prev_three, Classes.In, Classes.in_low}
 use Rattle.def_layout.specs.{Arcs.path_at, Arcs.long_at, Arcs.dart_at, Arcs.LiesAt, Borders.side_size}
 use Rattle.def_layout.specs.{Borders.border_dart, Layouts.Way, Layouts.south, Layouts.east, Layouts.north, Layouts.west}
-use Rattle.def_layout.specs.{Layouts.Slot, Layouts.IsSlot, Layouts.use_of, Lengths.reach, Nodes.is_node, Plans.Plan}
+use Rattle.def_layout.specs.{Layouts.Slot, Layouts.IsSlot, Layouts.use_of, Lengths.reach, Plans.Plan}
 use Rattle.def_layout.specs.Plans.{layout_of, IsDartLayout}
 use Rattle.mesh_laws.proofs.HalfEdges.{manifold_law}
 use Rattle.face_laws.proofs.FullCuts.{full_cut_law}

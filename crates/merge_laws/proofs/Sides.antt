@@ -3,12 +3,12 @@ use Rattle.std.proofs.Common.{◌≡◌, ◌⊎◌, ℕ, zero, suc, ◌+◌, ◌
 use Rattle.std.proofs.Common.{inr, true≢false, arith}
 use Rattle.std.proofs.lemmas.Bool.{cases_eq, cases_order}
 use Rattle.def_mesh.specs.HalfEdges.{HalfEdges, IsQuadManifold}
-use Rattle.def_cut.specs.{Cuts.Cut, Cuts.Links, Cuts.IsCorner, Cuts.IsCut, Grids.Cells, Grids.IsGrid, Steps.spin}
+use Rattle.def_cut.specs.{Cuts.Cut, Cuts.IsCorner, Cuts.IsCut, Grids.Cells, Grids.IsGrid, Steps.spin}
 use Rattle.def_cut.specs.Steps.{or_zero, step_east, easts}
-use Rattle.cut_laws.specs.Grown.{grown, IsRow, IsGrown}
+use Rattle.cut_laws.specs.Grown.{grown, IsRow}
 use Rattle.cut_laws.proofs.{Darts.prev_three, Darts.next_same, Darts.twin_same, Rows.east_twin, Rows.west_off}
 use Rattle.cut_laws.proofs.{Rows.row_low, Rows.row_south, Folds.west, Folds.south, Folds.west_open, Folds.south_open}
-use Rattle.cut_laws.proofs.Classes.{In, AreLinked, linked_back, closed, first_in}
+use Rattle.cut_laws.proofs.Classes.{In, linked_back, closed, first_in}
 use Rattle.cut_laws.proofs.Grown.{grow, grown_grid}
 use Rattle.def_merge.specs.Joins.{IsWholeSide}
 

@@ -9,10 +9,10 @@ use Rattle.def_layout.specs.{declared.tmesh.SideArc.SideArc, Layouts.Layout, Lay
 use Rattle.def_layout.specs.{Layouts.use_of, Layouts.start_node, Layouts.end_node, Surfaces.IsSurface}
 use Rattle.def_layout.specs.{Surfaces.IsOtherSlot, Lengths.Lengths, Lengths.reach, Lengths.AreLengths, Cells.CellDart}
 use Rattle.def_layout.specs.Cells.{IsDart}
-use Rattle.def_written.specs.{Points.node, Points.inside, Points.use_point, NewFaces.dart_start}
+use Rattle.def_written.specs.{Points.node, Points.use_point, NewFaces.dart_start}
 use Rattle.written_laws.proofs.{Runs.count_rises, Tallies.passing, Tallies.passing_le, Tallies.filter_long, Sides.slot}
 use Rattle.written_laws.proofs.Sides.{long_at, use_begins, use_ends, use_inner, use_some}
-use Rattle.written_laws.proofs.{Rims.column_of, Rims.row_of, Borders.IsAt, Borders.sort_dart}
+use Rattle.written_laws.proofs.{Borders.IsAt, Borders.sort_dart}
 use Rattle.written_laws.proofs.{Borders.inner_from, Spots.place_at, Spots.spot_dart, Spots.at_once, Spots.spot_is}
 use Rattle.written_laws.proofs.{Spots.spot_at, Spots.sort_spot, Spots.spot_once, Models.IsModel, Inners.AreShared}
 use Rattle.written_laws.proofs.Inners.{IsVertex, inner_if, inner_only}

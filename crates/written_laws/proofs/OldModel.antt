@@ -22,7 +22,7 @@ use Rattle.written_laws.proofs.Courses.{course_once, IsAcross, IsWithin, IsOnBor
 use Rattle.written_laws.proofs.{Courses.sees, Manifold.before_after, Across.across_border, Across.across_within}
 use Rattle.written_laws.proofs.Across.{across_or_alone, across_ends, alone_not_across, IsAlone}
 use Rattle.written_laws.proofs.{Spots.place_at, Spots.at_place, Spots.at_once, Spots.rim_is_at}
-use Rattle.written_laws.proofs.{NodeKinds.node_sort, Models.IsModel, Sided.AreFromOne, Sided.from_turning, Sided.starts}
+use Rattle.written_laws.proofs.{NodeKinds.node_sort, Models.IsModel, Sided.from_turning, Sided.starts}
 use Rattle.written_laws.proofs.Sided.{laid_in}
 
 -- Going back and on leads to the same dart.

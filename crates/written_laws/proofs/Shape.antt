@@ -5,12 +5,12 @@ use Rattle.std.proofs.lemmas.Bool.{false≢true}
 use Rattle.std.specs.Prelude.{◌==◌}
 use Rattle.def_mesh.specs.{Faces.Faces, Darts.from_of, Darts.to_of, Manifold.IsManifold}
 use Rattle.def_mesh.specs.{Vertices.faces_at, Vertices.vertex_count, Kinds.is_inner, Kinds.is_regular, Kinds.kind_of}
-use Rattle.def_mesh.specs.{HalfEdges.IsQuadManifold, HalfEdges.half_edges, declared.Kind.Kind}
+use Rattle.def_mesh.specs.{HalfEdges.half_edges, declared.Kind.Kind}
 use Rattle.def_mesh.specs.declared.Kind.TheVariants.{Regular, Singular}
 use Rattle.def_mesh.specs.declared.Kind.TheVariants.{Corner, Reflex}
 use Rattle.def_layout.specs.Layouts.{Layout, use_of}
 use Rattle.def_layout.specs.{Surfaces.HasWholeSides, Surfaces.IsSurface, Fans.HasFans, Lengths.Lengths}
-use Rattle.def_layout.specs.{Lengths.AreLengths, Cells.CellDart, Cells.IsDart, Cells.next, Cells.slot_dart}
+use Rattle.def_layout.specs.{Lengths.AreLengths, Cells.CellDart, Cells.IsDart, Cells.next}
 use Rattle.def_layout.specs.Embeddings.{IsEmbedding}
 use Rattle.def_written.specs.Points.{Point, node, along, inside, IsPoint}
 use Rattle.def_written.specs.{Numbers.vertex_number, Numbers.vertices, NewFaces.dart_start, NewFaces.dart_end}

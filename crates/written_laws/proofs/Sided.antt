@@ -1,7 +1,7 @@
 -- A layout that lies in a mesh is laid.
-use Rattle.std.proofs.lemmas.Bool.{cases_Bool}
 use Rattle.std.proofs.Common.{◌≡◌, ℕ, zero, suc, ◌+◌, ◌-◌, ◌<◌, Bool, true, false, not, Some, refl, sym, ◌∙◌, ap}
 use Rattle.std.proofs.Common.{arith, inl, inr}
+use Rattle.std.proofs.lemmas.Bool.{cases_Bool}
 use Rattle.std.proofs.lemmas.Option.{same_Some}
 use Rattle.def_mesh.specs.HalfEdges.{HalfEdges, IsQuadManifold}
 use Rattle.def_layout.specs.declared.tmesh.SideArc.{SideArc}
