@@ -1,9 +1,11 @@
 -- What is read of the arcs in a slice.
-use Rattle.std.proofs.Common.{◌≡◌, ℕ, ◌<◌, Bool, List, [], map, length, get_or, sym, ◌∙◌, ap, subst}
-use Rattle.std.proofs.lemmas.List.{get_or-map}
+use Rattle.std.proofs.Common.{◌≡◌, ℕ, ◌<◌, Bool, List, [], map, length, get_or, sym, ◌∙◌, ap, subst, arith}
+use Rattle.std.proofs.lemmas.Grind.{get_or_default_zero}
+use Rattle.std.proofs.lemmas.List.{get_or-map, length-map}
 use Rattle.def_mesh.specs.{Faces.Faces, Darts.darts, HalfEdges.half_edges}
 use Rattle.def_cut.specs.{FullCut.is_on, Grids.rectangle, Grids.patch_at, declared.patch.Patch.Patch}
-use Rattle.def_layout.specs.{Arcs.Path, Arcs.path, Arcs.path_at, Arcs.long_at, Nodes.is_node, declared.tmesh.TArc.TArc}
+use Rattle.def_layout.specs.Arcs.{Path}
+use Rattle.def_layout.specs.{Arcs.path, Arcs.path_at, Arcs.long_at, Nodes.is_node, declared.tmesh.TArc.TArc}
 use Rattle.layout_laws.specs.Named.{run_list}
 use Rattle.layout_laws.proofs.{Runs.run_low, Uses.run_entry}
 use Rattle.qm_tmesh.specs.{Tables.IsMarked, Tables.IsNamedRun, Uses.AreNamed}
@@ -28,6 +30,47 @@ module _ (faces : Faces) (cut marks : List Bool) (marked : IsMarked faces cut ma
           (sym (ap (λ (xs : List ℕ). get_or xs k 0) p.2 ∙ run_entry (half_edges faces) p.0 (long_at arcs a) k lk))
           (run_low (half_edges faces) marked.laws (is_on cut) marked.full (is_node faces cut) marked.stand p.0
           (long_at arcs a) p.1.run k lk)
+
+-- A named arc that was read has darts, which are darts of the mesh.
+pub record IsArcRead (faces : Faces) (arcs : List TArc) (a : ℕ) (arc : TArc) : Type 0 where
+  pub same : path_at (map path arcs) a ≡ path arc
+  pub low : a < length (map path arcs)
+  pub some : 0 < length arc.darts.items
+  pub below : (k : ℕ) → k < length arc.darts.items → get_or arc.darts.items k 0 < darts faces
+
+pub arc_read : {faces : Faces} {cut marks : List Bool} → IsMarked faces cut marks → (arcs : List TArc)
+    → AreNamed faces cut (map path arcs) → {a : ℕ} {arc : TArc} → a < length arcs → arc ≡ get_or arcs a arc
+    → IsArcRead faces arcs a arc
+arc_read {faces} {cut} marked arcs named {a} {arc} l is = record {
+  same = same;
+  low = low;
+  some = rw same at run.1.run.some;
+  below = rw same at below;
+}
+  where
+    same : path_at (map path arcs) a ≡ path arc
+    same = read_arc arcs a arc l is
+
+    low : a < length (map path arcs)
+    low = omega (arith, l, length-map arcs path)
+
+    long : ℕ
+    long = long_at (map path arcs) a
+
+    run : (s : ℕ) × IsNamedRun faces cut s (long_at (map path arcs) a)
+        × ((path_at (map path arcs) a).darts ≡ run_list (half_edges faces) s (long_at (map path arcs) a))
+    run = named.each a low
+
+    below : (k : ℕ) → k < long_at (map path arcs) a → get_or (path_at (map path arcs) a).darts k 0 < darts faces
+    below k less = rw (ap (λ (xs : List ℕ). get_or xs k 0) run.2 ∙ run_entry (half_edges faces) run.0 long k less)
+        (run_low (half_edges faces) marked.laws (is_on cut) marked.full (is_node faces cut) marked.stand run.0
+        long run.1.run k less)
+
+-- A number at place k of a list, where it was read at an equal place.
+pub read_at : (items : List ℕ) (k : ℕ) {place d : ℕ} → d ≡ get_or items place d → place ≡ k → k < length items
+    → d ≡ get_or items k 0
+read_at items k {place} {d} e same low =
+    e ∙ (get_or_default_zero items place d (omega (arith, same, low)) ∙ ap (λ x. get_or items x 0) same)
 
 -- The patch that was read.
 pub read_patch : (patches : List Patch) (p : ℕ) (x : Patch) → p < length patches → x ≡ get_or patches p x

@@ -112,8 +112,7 @@ module _ (faces : Faces) (cut marks : List Bool) (marked : IsMarked faces cut ma
           old o = (
             o.0,
             omega (arith, o.1, one_more arcs p),
-            ap (λ (q : Path). q.darts) (arc_front arcs p o.0 o.1)
-                ∙ o.2,
+            ap (λ (q : Path). q.darts) (arc_front arcs p o.0 o.1) ∙ o.2,
           )
 
           by_name : (run_name (half_edges faces) r k ≡ m) ⊎ (run_name (half_edges faces) r k ≡ m → ⊥)
@@ -125,12 +124,11 @@ module _ (faces : Faces) (cut marks : List Bool) (marked : IsMarked faces cut ma
               (is_node faces cut) marked.stand s n r k named other (is ∙ sym e) in (
                 length arcs,
                 omega (arith, one_more arcs p),
-                ap (λ (q : Path). q.darts) (arc_end arcs p)
-                    ∙ (list ∙ (ap (λ x. run_list (half_edges faces) x n) one.0
+                ap (λ (q : Path). q.darts) (arc_end arcs p) ∙ (list ∙ (ap (λ x. run_list (half_edges faces) x n) one.0
                     ∙ ap (run_list (half_edges faces) r) one.1)),
               )
 
   -- The ends of a run are nodes, and have their places.
-  pub node_place : (list places : List ℕ) (v : ℕ) → ArePlaces marks list places → v < vertex_count faces
+  pub node_place : (list places : List ℕ) {v : ℕ} → ArePlaces marks list places → v < vertex_count faces
       → is_node faces cut v ≡ true → (get_or places v 0 < length list) × (get_or list (get_or places v 0) 0 ≡ v)
-  node_place list places v p l on = p.1 v (omega (arith, marked.many)) (marked.told v l ∙ on)
+  node_place list places {v} p l on = p.1 v (omega (arith, marked.many)) (marked.told v l ∙ on)

@@ -132,7 +132,7 @@ module _ (faces : Faces) (cut marks : List Bool) (marked : IsMarked faces cut ma
       low : (s n : ℕ) → IsNamedRun faces cut s n → (a : ℕ) × (a < length arcs)
           × ((path_at arcs a).darts ≡ run_list (half_edges faces) s n)
       low s n named = let h : run_list (half_edges faces) s n ≡ run_list (half_edges faces) s n = refl in
-          below.all s n named (omega (arith, name_low faces cut marks marked s n named))
+          below.all s n named (omega (arith, name_low marked s n named))
 
       along : (s n k : ℕ) → k < n → easts (half_edges faces) s k ≡ d → (a : ℕ) × (a < length arcs)
           × ((path_at arcs a).darts ≡ run_list (half_edges faces) s n) → Covered d

@@ -1,16 +1,16 @@
 -- The sides of patches are split into uses of arcs.
 use Rattle.std.proofs.Common.{◌≡◌, ℕ, suc, ◌+◌, ◌<◌, ◌≤◌, Bool, true, List, length, get_or, Some, option_map, sym, ◌∙◌}
 use Rattle.std.proofs.Common.{ap, subst, arith}
-use Rattle.def_mesh.specs.{Faces.Faces, Darts.darts, Darts.from_of, Darts.next_of, Darts.straight_of}
-use Rattle.def_mesh.specs.HalfEdges.{half_edges}
+use Rattle.def_mesh.specs.Darts.{darts, from_of, next_of, straight_of}
+use Rattle.def_mesh.specs.{Faces.Faces, HalfEdges.half_edges}
 use Rattle.def_cut.specs.{FullCut.is_on, Grids.Rectangle, Steps.easts}
 use Rattle.def_layout.specs.{Arcs.IsRun, Arcs.Path, Arcs.path_at, Arcs.long_at, Arcs.LiesAt, Borders.side_size}
 use Rattle.def_layout.specs.{Borders.border_dart, Layouts.Way, Nodes.is_node, declared.tmesh.SideArc.SideArc}
 use Rattle.layout_laws.specs.Named.{run_list}
 use Rattle.layout_laws.proofs.Borders.{IsLine, line, line_easts, line_begins, run_fits, next_begins}
 use Rattle.layout_laws.proofs.Uses.{IsUse, run_long, run_entry, named_arc, use_run}
-use Rattle.qm_tmesh.specs.{Four.AreRuns, Four.IsPatchOf, Four.HasSide, Sides.HasUseAt, Sides.IsSplit, Tables.IsNamedRun}
-use Rattle.qm_tmesh.specs.Uses.{use_in}
+use Rattle.qm_tmesh.specs.Four.{AreRuns, IsPatchOf, HasSide}
+use Rattle.qm_tmesh.specs.{Sides.HasUseAt, Sides.IsSplit, Tables.IsNamedRun, Uses.use_in}
 
 module _ (faces : Faces) (arcs : List Path) (uses : List SideArc) (runs : AreRuns faces arcs uses) where
   -- What begins with the first dart of a use.
@@ -22,8 +22,7 @@ module _ (faces : Faces) (arcs : List Path) (uses : List SideArc) (runs : AreRun
           × ((path_at arcs a).darts ≡ run_list (half_edges faces) s (long_at arcs a))
           → IsUse (half_edges faces) (is_on runs.cut) (is_node faces runs.cut) (path_at arcs a).darts f d
       by_named p = subst (λ (xs : List ℕ). IsUse (half_edges faces) (is_on runs.cut) (is_node faces runs.cut) xs f d)
-          (sym p.2)
-          (use_run (half_edges faces) runs.laws (is_on runs.cut) runs.full (is_node faces runs.cut) runs.stand
+          (sym p.2) (use_run (half_edges faces) runs.laws (is_on runs.cut) runs.full (is_node faces runs.cut) runs.stand
           (run_list (half_edges faces) p.0 (long_at arcs a)) f d
           (named_arc (half_edges faces) runs.laws (is_on runs.cut) runs.full (is_node faces runs.cut) runs.stand
           p.0 (long_at arcs a) p.1) (subst (λ (xs : List ℕ). LiesAt (half_edges faces) xs f 0 d) p.2 at))
@@ -119,16 +118,13 @@ module _ (faces : Faces) (arcs : List Path) (uses : List SideArc) (runs : AreRun
       where
         fitted : (t : ℕ) → ((use_in uses
             (get_or (run_list (half_edges faces) (border_dart (half_edges faces) p way 0) (side_size p way)) t
-            0)).arc < length arcs) × (0
-            < long_at arcs (use_in uses
+            0)).arc < length arcs) × (0 < long_at arcs (use_in uses
             (get_or (run_list (half_edges faces) (border_dart (half_edges faces) p way 0) (side_size p way)) t
             0)).arc) × (t + long_at arcs
             (use_in uses (get_or (run_list (half_edges faces) (border_dart (half_edges faces) p way 0)
-            (side_size p way)) t 0)).arc ≤ side_size p way)
-            × (t + long_at arcs (use_in uses
+            (side_size p way)) t 0)).arc ≤ side_size p way) × (t + long_at arcs (use_in uses
             (get_or (run_list (half_edges faces) (border_dart (half_edges faces) p way 0) (side_size p way)) t
-            0)).arc < side_size p way
-            → begins (t + long_at arcs
+            0)).arc < side_size p way → begins (t + long_at arcs
             (use_in uses (get_or (run_list (half_edges faces) (border_dart (half_edges faces) p way 0)
             (side_size p way)) t 0)).arc) ≡ true)
             → HasUseAt arcs uses (run_list (half_edges faces) (border_dart (half_edges faces) p way 0)

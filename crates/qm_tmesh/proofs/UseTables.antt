@@ -274,7 +274,7 @@ module _ (faces : Faces) (cut marks : List Bool) (marked : IsMarked faces cut ma
         where
           low : (s n : ℕ) → IsNamedRun faces cut s n → run_name (half_edges faces) s n < m
           low s n named = let h : run_name (half_edges faces) s n < darts faces =
-              name_low faces cut marks marked s n named in omega arith
+              name_low marked s n named in omega arith
 
           along : IsNamedRun faces cut d n → (a : ℕ) × (a < length arcs)
               × ((path_at arcs a).darts ≡ run_list (half_edges faces) d n) → ((use_in uses d).arc < length arcs)

@@ -4,11 +4,11 @@ use Rattle.std.proofs.Common.{length, get_or, set, Some, option_map, sym, ◌∙
 use Rattle.std.proofs.Common.{arith}
 use Rattle.std.proofs.lemmas.Bool.{cases_eq, false≢true}
 use Rattle.std.proofs.lemmas.List.{get_or-set_same, get_or-set_other, length-set, get_or_append_left, get_or-append-add}
-use Rattle.std.proofs.lemmas.List.FromFn.{map-range_with_len_more}
 use Rattle.std.proofs.lemmas.List.{append-nil}
+use Rattle.std.proofs.lemmas.List.FromFn.{map-range_with_len_more}
 use Rattle.std.specs.List.{filter, range_with_len}
-use Rattle.def_mesh.specs.{Faces.Faces, Darts.darts, Darts.from_of, Darts.next_of, Darts.twin_of, Darts.straight_of}
-use Rattle.def_mesh.specs.{Vertices.fan_of, HalfEdges.half_edges}
+use Rattle.def_mesh.specs.Darts.{darts, from_of, next_of, twin_of, straight_of}
+use Rattle.def_mesh.specs.{Faces.Faces, Vertices.fan_of, HalfEdges.half_edges}
 use Rattle.def_cut.specs.{FullCut.is_on, Grids.least_of, Steps.step_east, Steps.easts}
 use Rattle.def_layout.specs.{Arcs.end_vertex, Arcs.IsRun, Nodes.is_node}
 use Rattle.list_laws.proofs.Filters.{filter_range_more}
@@ -33,7 +33,15 @@ pub least_is : (xs : List ℕ) (m : ℕ) → 0 < length xs → ((k : ℕ) → k 
     → (k : ℕ) × (k < length xs) × (get_or xs k 0 ≡ m) → m ≡ least_of xs
 least_is xs m some below among = omega (arith, least_low xs m some below, least_high xs among.0 among.1, among.2)
 
-module _ (faces : Faces) (cut nodes : List Bool) (marked : IsMarked faces cut nodes) where
+-- From dart s a walk has come to dart d, i darts on, and has met no node.
+pub record IsWalk (faces : Faces) (cut : List Bool) (s d i : ℕ) : Type 0 where
+  pub low : s < darts faces
+  pub on : is_on cut s ≡ true
+  pub begins : is_node faces cut (from_of faces s) ≡ true
+  pub at : d ≡ easts (half_edges faces) s i
+  pub inner : (k : ℕ) → k < i → is_node faces cut (end_vertex (half_edges faces) (easts (half_edges faces) s k)) ≡ false
+
+module _ {faces : Faces} {cut nodes : List Bool} (marked : IsMarked faces cut nodes) where
   goes : (d : ℕ) → d < darts faces → is_on cut d ≡ true → is_node faces cut (end_vertex (half_edges faces) d) ≡ false
       → GoesStraight (half_edges faces) (is_on cut) d
   goes d l on inner = on_from (half_edges faces) marked.laws (is_on cut) marked.full (is_node faces cut) marked.stand d
@@ -44,9 +52,9 @@ module _ (faces : Faces) (cut nodes : List Bool) (marked : IsMarked faces cut no
   straight_is d l on inner = ap (option_map next_of) (goes d l on inner).over
       ∙ ap Some (marked.laws.next_prev (step_east (half_edges faces) d))
 
-  module _ (s d i : ℕ) (low : s < darts faces) (on : is_on cut s ≡ true) (begins : is_node faces cut (from_of faces s)
-      ≡ true) (at : d ≡ easts (half_edges faces) s i) (inner : (k : ℕ) → k < i
-      → is_node faces cut (end_vertex (half_edges faces) (easts (half_edges faces) s k)) ≡ false) where
+  module _ {s d i : ℕ} (walk : IsWalk faces cut s d i) where
+    open walk use {low, on, begins, at, inner}
+
     pub walk_low : (d < darts faces) × (is_on cut d ≡ true)
     walk_low = let w : (easts (half_edges faces) s i < darts faces)
         × (is_on cut (easts (half_edges faces) s i) ≡ true) =
@@ -67,14 +75,14 @@ module _ (faces : Faces) (cut nodes : List Bool) (marked : IsMarked faces cut no
     walk_run ends = walk_done (half_edges faces) marked.laws (is_on cut) marked.full (is_node faces cut) marked.stand s
         i low on begins inner (ap (λ x. is_node faces cut (end_vertex (half_edges faces) x)) (sym at) ∙ ends)
 
-    pub walk_listed : (now new : List ℕ) → now ≡ run_list (half_edges faces) s i → new ≡ now ++ d ∷ []
+    pub walk_listed : {now new : List ℕ} → now ≡ run_list (half_edges faces) s i → new ≡ now ++ d ∷ []
         → new ≡ run_list (half_edges faces) s (i + 1)
-    walk_listed now new listed put =
+    walk_listed listed put =
         put ∙ (ap (λ xs. xs ++ d ∷ []) listed ∙ (ap (λ x. run_list (half_edges faces) s i ++ x ∷ []) at
         ∙ sym (map-range_with_len_more (easts (half_edges faces) s) 0 i i (omega arith))))
 
-    pub walk_at : (e : ℕ) → e ≡ step_east (half_edges faces) d → e ≡ easts (half_edges faces) s (i + 1)
-    walk_at e is = let n : suc i ≡ i + 1 = omega arith in
+    pub walk_at : {e : ℕ} → e ≡ step_east (half_edges faces) d → e ≡ easts (half_edges faces) s (i + 1)
+    walk_at is = let n : suc i ≡ i + 1 = omega arith in
         is ∙ (ap (step_east (half_edges faces)) at ∙ ap (easts (half_edges faces) s) n)
 
     pub walk_end : darts faces ≤ i → ⊥
@@ -172,8 +180,7 @@ module _ (faces : Faces) (cut nodes : List Bool) (marked : IsMarked faces cut no
           sym (ap (λ x. get_or (set starts name s) x 0) e ∙ here) in (
             n,
             subst (λ (x : ℕ). IsNamedRun faces cut x n) at named,
-            ap (λ x. run_name (half_edges faces) x n) (sym at)
-                ∙ (is ∙ sym e),
+            ap (λ x. run_name (half_edges faces) x n) (sym at) ∙ (is ∙ sym e),
           )
       right m l ne (inr other) =
           let at : get_or starts m 0 ≡ get_or (set starts name s) m 0 =
@@ -245,8 +252,7 @@ module _ (p : ℕ → Bool) (v : ℕ) (list places more : List ℕ) (listed : li
               stands u (omega arith) pu in
               let at : get_or more u 0 ≡ get_or places u 0 = place_old u (omega arith) in (
                 omega (arith, at, s.0, size),
-                ap (get_or_at new) at
-                    ∙ (ap (λ (xs : List ℕ). get_or xs (get_or places u 0) 0) is
+                ap (get_or_at new) at ∙ (ap (λ (xs : List ℕ). get_or xs (get_or places u 0) 0) is
                     ∙ (get_or_append_left list (v ∷ []) 0 (get_or places u 0) s.0 ∙ s.1)),
               )
 

@@ -4,34 +4,31 @@ use Rattle.def_mesh.specs.{Darts.to_of, HalfEdges.half_edges}
 use Rattle.def_cut.specs.Steps.{easts}
 use Rattle.def_layout.specs.Nodes.{is_node}
 use Rattle.layout_laws.proofs.Uses.{run_entry}
-use Rattle.qm_tmesh.proofs.{Walks.run_darts, ArcTables.node_place}
+use Rattle.qm_tmesh.proofs.{Walks.run_darts, ArcTables.node_place, ArcReads.read_at}
 use Rattle.qm_tmesh.proofs.arcs.arc_from.Goals as goal
 
 pub to-requires : goal.to-requires
 to-requires c =
-    let e : c.index-end.result.now ≡ get_or c.in_ok-darts.darts.items (length c.in_ok-darts.darts.items - 1) 0 =
-    c.index-end.ensures ∙ (get_or_default_zero c.in_ok-darts.darts.items _ _
-    (omega (arith, c.len.ensures, c.in_ok-darts.darts.ok.0, c.in_ok-darts.ensures.run.some))
-    ∙ ap (λ x. get_or c.in_ok-darts.darts.items x 0) (omega (arith, c.len.ensures, c.in_ok-darts.darts.ok.0))) in
+    let e = read_at c.in_ok-darts.darts.items (length c.in_ok-darts.darts.items - 1) c.index-end.ensures
+    (omega (arith, c.len.ensures, c.in_ok-darts.darts.ok.0)) (omega (arith, c.in_ok-darts.ensures.run.some)) in
     omega (
       arith,
-      run_darts c.args.mesh.now c.args.cut.now c.args.nodes.now.marks.items c.requires.marked c.args.start
-          c.in_ok-darts.darts.items c.in_ok-darts.ensures.run c.in_ok-darts.ensures.darts
-          (length c.in_ok-darts.darts.items - 1) (omega (arith, c.in_ok-darts.ensures.run.some)),
+      e,
+      run_darts c.requires.marked c.args.start c.in_ok-darts.darts.items c.in_ok-darts.ensures.run
+          c.in_ok-darts.ensures.darts (length c.in_ok-darts.darts.items - 1)
+          (omega (arith, c.in_ok-darts.ensures.run.some)),
     )
 
 pub returns : goal.returns
 returns c =
-    let n = length c.in_ok-darts.darts.items in
-    let e : c.index-end.result.now ≡ get_or c.in_ok-darts.darts.items (length c.in_ok-darts.darts.items - 1) 0 =
-    c.index-end.ensures ∙ (get_or_default_zero c.in_ok-darts.darts.items _ _
-    (omega (arith, c.len.ensures, c.in_ok-darts.darts.ok.0, c.in_ok-darts.ensures.run.some))
-    ∙ ap (λ x. get_or c.in_ok-darts.darts.items x 0) (omega (arith, c.len.ensures, c.in_ok-darts.darts.ok.0))) in
+    let back = length c.in_ok-darts.darts.items - 1 in
+    let e = read_at c.in_ok-darts.darts.items (length c.in_ok-darts.darts.items - 1) c.index-end.ensures
+    (omega (arith, c.len.ensures, c.in_ok-darts.darts.ok.0)) (omega (arith, c.in_ok-darts.ensures.run.some)) in
     let end : c.index-end.result.now ≡ easts (half_edges c.args.mesh.now) c.args.start
     (length c.in_ok-darts.darts.items - 1) =
-    e ∙ (ap (λ (xs : List ℕ). get_or xs (length c.in_ok-darts.darts.items - 1) 0) c.in_ok-darts.ensures.darts
-    ∙ run_entry (half_edges c.args.mesh.now) c.args.start (length c.in_ok-darts.darts.items)
-    (length c.in_ok-darts.darts.items - 1) (omega (arith, c.in_ok-darts.ensures.run.some))) in
+    e ∙ (ap (λ (xs : List ℕ). get_or xs back 0) c.in_ok-darts.ensures.darts
+    ∙ run_entry (half_edges c.args.mesh.now) c.args.start (length c.in_ok-darts.darts.items) back
+    (omega (arith, c.in_ok-darts.ensures.run.some))) in
     let from_node : is_node c.args.mesh.now c.args.cut.now c.from.result ≡ true =
     ap (is_node c.args.mesh.now c.args.cut.now) c.from.ensures.value ∙ c.requires.begins in
     let to_node : is_node c.args.mesh.now c.args.cut.now c.to.result ≡ true =
@@ -40,10 +37,10 @@ returns c =
     (omega (arith, c.in_ok-darts.ensures.run.some)) in
     let one = node_place c.args.mesh.now c.args.cut.now c.args.nodes.now.marks.items c.requires.marked
     c.args.nodes.now.listed.list.items c.args.nodes.now.listed.list.items c.args.nodes.now.listed.places.items
-    c.from.result c.args.nodes.now.placed c.from.ensures.vertex from_node in
+    c.args.nodes.now.placed c.from.ensures.vertex from_node in
     let two = node_place c.args.mesh.now c.args.cut.now c.args.nodes.now.marks.items c.requires.marked
     c.args.nodes.now.listed.list.items c.args.nodes.now.listed.list.items c.args.nodes.now.listed.places.items
-    c.to.result c.args.nodes.now.placed c.to.ensures.vertex to_node in
+    c.args.nodes.now.placed c.to.ensures.vertex to_node in
     let first : c.index-first.result.now ≡ get_or c.args.nodes.now.listed.places.items c.from.result 0 =
     c.index-first.ensures ∙ get_or_default_zero c.args.nodes.now.listed.places.items _ _
     (omega (arith, c.args.nodes.now.placed.0, c.requires.marked.many, c.from.ensures.vertex)) in
@@ -57,8 +54,7 @@ returns c =
       last_low = omega (arith, last, two.0);
       first_at = ap (λ x. get_or c.args.nodes.now.listed.list.items x 0) first ∙ (one.1 ∙ c.from.ensures.value);
       last_at = λ k z. let same : length c.in_ok-darts.darts.items - 1 ≡ k = omega arith in
-          ap (λ x. get_or c.args.nodes.now.listed.list.items x 0) last
-          ∙ (two.1 ∙ (c.to.ensures.value
+          ap (λ x. get_or c.args.nodes.now.listed.list.items x 0) last ∙ (two.1 ∙ (c.to.ensures.value
           ∙ (ap (to_of c.args.mesh.now) end
           ∙ ap (λ x. to_of c.args.mesh.now (easts (half_edges c.args.mesh.now) c.args.start x)) same)));
     }

@@ -11,19 +11,18 @@ pub returns-then-not-cut-s : goal.returns-then-not-cut-s
 returns-then-not-cut-s c = λ n named. elim c.then-not-cut-s.branch [
   | then-not-cut-s-via-then-not-cut-s w ↦ false≢true (sym w.if-not-cut-s.true ∙ named.run.on 0 named.run.some)
   | then-not-cut-s-via-else-not-cut-s+then-not-nodes-from w ↦ false≢true (sym w.if-not-nodes-from.true
-      ∙ (ap (is_on c.args.nodes.now) w.from.ensures.value
-      ∙ (node_from c.args.mesh.now c.args.cut.now c.args.nodes.now c.requires.marked c.args.s c.requires.dart
+      ∙ (ap (is_on c.args.nodes.now) w.from.ensures.value ∙ (node_from c.requires.marked c.args.s c.requires.dart
       ∙ named.run.begins)))
 ]
 
 pub run-requires-clause-begins : goal.run-requires-clause-begins
 run-requires-clause-begins c =
-    sym (node_from c.args.mesh.now c.args.cut.now c.args.nodes.now c.requires.marked c.args.s c.requires.dart)
+    sym (node_from c.requires.marked c.args.s c.requires.dart)
     ∙ (ap (is_on c.args.nodes.now) (sym c.from.ensures.value) ∙ c.if-not-nodes-from.false)
 
 pub is_least-requires : goal.is_least-requires
 is_least-requires c = subst (λ (xs : List ℕ). (k : ℕ) → k < length xs → get_or xs k 0 < darts c.args.mesh.now)
-    (sym c.deref-2.ensures.value) (run_darts c.args.mesh.now c.args.cut.now c.args.nodes.now c.requires.marked c.args.s
+    (sym c.deref-2.ensures.value) (run_darts c.requires.marked c.args.s
     c.in_ok-darts.darts.items c.in_ok-darts.ensures.run c.in_ok-darts.ensures.darts)
 
 pub returns-then-is_least : goal.returns-then-is_least
@@ -32,7 +31,7 @@ returns-then-is_least c =
     let name : c.least-name.result ≡ least_of c.in_ok-darts.darts.items = c.least-name.ensures
     ∙ ap least_of c.deref.ensures.value in (
       length c.in_ok-darts.darts.items,
-      run_named c.args.mesh.now c.args.cut.now c.args.nodes.now c.requires.marked c.args.s c.in_ok-darts.darts.items
+      run_named c.requires.marked c.args.s c.in_ok-darts.darts.items
           c.in_ok-darts.ensures.run c.in_ok-darts.ensures.darts
           (rw (c.deref-2.ensures.value, name) at c.if-is_least.ensures),
       sym (ap least_of c.in_ok-darts.ensures.darts) ∙ sym name,
@@ -42,6 +41,5 @@ pub returns : goal.returns
 returns c =
     let name : c.least-name.result ≡ least_of c.in_ok-darts.darts.items = c.least-name.ensures
     ∙ ap least_of c.deref.ensures.value in
-    run_unnamed c.args.mesh.now c.args.cut.now c.args.nodes.now c.requires.marked c.args.s c.in_ok-darts.darts.items
-    c.in_ok-darts.ensures.run c.in_ok-darts.ensures.darts
-    (rw (c.deref-2.ensures.value, name) at c.if-is_least.ensures)
+    run_unnamed c.requires.marked c.args.s c.in_ok-darts.darts.items
+    c.in_ok-darts.ensures.run c.in_ok-darts.ensures.darts (rw (c.deref-2.ensures.value, name) at c.if-is_least.ensures)

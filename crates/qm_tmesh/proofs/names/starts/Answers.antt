@@ -13,7 +13,7 @@ index_mut-requires c =
     rw c.in-Some.is at c.in_ok-name.ensures in
     omega (
       arith,
-      name_low c.args.mesh.now c.args.cut.now c.args.nodes.now c.requires c.loop-s.s found.0 found.1,
+      name_low c.requires c.loop-s.s found.0 found.1,
       found.2,
       c.loop-s.invariant.long,
       c.requires.long,
@@ -28,8 +28,8 @@ loop-s-preserved c =
           let found : (n : ℕ) × IsNamedRun c.args.mesh.now c.args.cut.now c.loop-s.s n
           × (run_name (half_edges c.args.mesh.now) c.loop-s.s n ≡ w.in-Some.name) =
           rw w.in-Some.is at c.in_ok-name.ensures in
-          rw w.starts-is (starts_more c.args.mesh.now c.args.cut.now c.args.nodes.now c.requires c.loop-s.s found.0
+          rw w.starts-is (starts_more c.requires c.loop-s.s found.0
           w.in-Some.name c.loop-s.starts.items low c.loop-s.invariant found.1 found.2)
-      | in_default w ↦ rw w.starts-is (starts_skip c.args.mesh.now c.args.cut.now c.args.nodes.now c.requires c.loop-s.s
+      | in_default w ↦ rw w.starts-is (starts_skip c.requires c.loop-s.s
           c.loop-s.starts.items c.loop-s.invariant (rw w.in_default.is at c.in_ok-name.ensures))
     ]

@@ -11,8 +11,7 @@ loop-v-preserved c =
     c.in_ok-push.ensures.items ∙ ap (λ x. c.loop-v.places.items ++ x ∷ [])
     (omega (arith, c.len.ensures, c.loop-v.list.ok.0)) in
     let long : length c.push.new.self.items ≡ c.loop-v.v + 1 =
-    ap length put ∙ (length-append c.loop-v.places.items (length c.loop-v.list.items ∷ [])
-    ∙ omega (arith, i.long)) in
+    ap length put ∙ (length-append c.loop-v.places.items (length c.loop-v.list.items ∷ []) ∙ omega (arith, i.long)) in
     elim c.if-on.branch [
       | then-on+in_ok-push-2 w ↦
           let is : w.push-then-on.new.self.items ≡ c.loop-v.list.items ++ c.loop-v.v ∷ [] =

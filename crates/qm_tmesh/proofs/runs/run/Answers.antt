@@ -1,39 +1,43 @@
-use Rattle.std.proofs.Common.{◌≡◌, ℕ, ◌<◌, ◌+◌, true, false, Some, is_some, ap, sym, subst, ◌∙◌, arith, length}
+use Rattle.std.proofs.Common.{rules, ◌≡◌, ◌+◌, true, false, is_some, length, ap, sym, ◌∙◌, refl, arith}
 use Rattle.std.proofs.lemmas.Option.{same_Some}
-use Rattle.def_mesh.specs.{Darts.straight_of, Vertices.vertex_count, HalfEdges.half_edges}
+use Rattle.def_mesh.specs.HalfEdges.{half_edges}
 use Rattle.def_cut.specs.{Steps.step_east, FullCut.is_on}
-use Rattle.def_layout.specs.{Arcs.end_vertex, Arcs.IsRun, Nodes.is_node}
+use Rattle.def_layout.specs.{Arcs.end_vertex, Nodes.is_node}
 use Rattle.layout_laws.specs.Named.{run_list}
 use Rattle.layout_laws.proofs.Uses.{run_long}
 use Rattle.qm_tmesh.proofs.Walks.{walk_straight, walk_inner, walk_run, walk_listed, walk_at, walk_end}
 use Rattle.qm_tmesh.proofs.runs.run.Goals as goal
+
+pub steps-init : goal.steps-init
+steps-init c = record {
+  walk = record {
+    low = c.requires.dart;
+    on = c.requires.on;
+    begins = c.requires.begins;
+    at = refl;
+    inner = λ k less. absurd (omega (arith, less));
+  };
+  low = c.requires.dart;
+  listed = search rules;
+}
 
 pub returns-then-nodes-to-clause-run : goal.returns-then-nodes-to-clause-run
 returns-then-nodes-to-clause-run c =
     let i = c.steps.invariant in
     let q = c.requires in
     let node : is_node c.args.mesh.now c.args.cut.now (end_vertex (half_edges c.args.mesh.now) c.steps.d) ≡ true =
-    sym (q.marked.told (end_vertex (half_edges c.args.mesh.now) c.steps.d)
-    (subst (λ (x : ℕ). x < vertex_count c.args.mesh.now) c.to.ensures.value c.to.ensures.vertex))
+    sym (q.marked.told _ (rw c.to.ensures.value at c.to.ensures.vertex))
     ∙ (ap (is_on c.args.nodes.now) (sym c.to.ensures.value) ∙ c.if-nodes-to.true) in
-    let listed : c.push.new.self.items ≡ run_list (half_edges c.args.mesh.now) c.args.start (c.steps.counter + 1) =
-    walk_listed c.args.mesh.now c.args.cut.now c.args.nodes.now q.marked c.args.start c.steps.d c.steps.counter
-    q.dart q.on q.begins i.at i.inner c.steps.darts.items c.push.new.self.items i.listed
-    c.in_ok-push.ensures.items in
+    let listed = walk_listed q.marked i.walk i.listed c.in_ok-push.ensures.items in
     let long : length c.push.new.self.items ≡ c.steps.counter + 1 =
     ap length listed ∙ run_long (half_edges c.args.mesh.now) c.args.start (c.steps.counter + 1) in
-    subst (λ (n : ℕ). IsRun (half_edges c.args.mesh.now) (is_on c.args.cut.now) (is_node c.args.mesh.now c.args.cut.now)
-    c.args.start n) (sym long) (walk_run c.args.mesh.now c.args.cut.now c.args.nodes.now q.marked c.args.start
-    c.steps.d c.steps.counter q.dart q.on q.begins i.at i.inner node)
+    rw long (walk_run q.marked i.walk node)
 
 pub returns-then-nodes-to-clause-darts : goal.returns-then-nodes-to-clause-darts
 returns-then-nodes-to-clause-darts c =
     let i = c.steps.invariant in
     let q = c.requires in
-    let listed : c.push.new.self.items ≡ run_list (half_edges c.args.mesh.now) c.args.start (c.steps.counter + 1) =
-    walk_listed c.args.mesh.now c.args.cut.now c.args.nodes.now q.marked c.args.start c.steps.d c.steps.counter
-    q.dart q.on q.begins i.at i.inner c.steps.darts.items c.push.new.self.items i.listed
-    c.in_ok-push.ensures.items in
+    let listed = walk_listed q.marked i.walk i.listed c.in_ok-push.ensures.items in
     let long : length c.push.new.self.items ≡ c.steps.counter + 1 =
     ap length listed ∙ run_long (half_edges c.args.mesh.now) c.args.start (c.steps.counter + 1) in
     listed ∙ ap (run_list (half_edges c.args.mesh.now) c.args.start) (sym long)
@@ -43,42 +47,31 @@ unwrap-d-requires c =
     let i = c.steps.invariant in
     let q = c.requires in
     let node : is_node c.args.mesh.now c.args.cut.now (end_vertex (half_edges c.args.mesh.now) c.steps.d) ≡ false =
-    sym (q.marked.told (end_vertex (half_edges c.args.mesh.now) c.steps.d)
-    (subst (λ (x : ℕ). x < vertex_count c.args.mesh.now) c.to.ensures.value c.to.ensures.vertex))
+    sym (q.marked.told _ (rw c.to.ensures.value at c.to.ensures.vertex))
     ∙ (ap (is_on c.args.nodes.now) (sym c.to.ensures.value) ∙ c.if-nodes-to.false) in
-    let is : c.straight.result ≡ Some (step_east (half_edges c.args.mesh.now) c.steps.d) = c.straight.ensures.value
-    ∙ walk_straight c.args.mesh.now c.args.cut.now c.args.nodes.now q.marked c.args.start c.steps.d c.steps.counter
-    q.dart q.on q.begins i.at i.inner node in
-    ap is_some is
+    ap is_some (c.straight.ensures.value ∙ walk_straight q.marked i.walk node)
 
 pub steps-preserved : goal.steps-preserved
 steps-preserved c =
     let i = c.steps.invariant in
     let q = c.requires in
     let node : is_node c.args.mesh.now c.args.cut.now (end_vertex (half_edges c.args.mesh.now) c.steps.d) ≡ false =
-    sym (q.marked.told (end_vertex (half_edges c.args.mesh.now) c.steps.d)
-    (subst (λ (x : ℕ). x < vertex_count c.args.mesh.now) c.to.ensures.value c.to.ensures.vertex))
+    sym (q.marked.told _ (rw c.to.ensures.value at c.to.ensures.vertex))
     ∙ (ap (is_on c.args.nodes.now) (sym c.to.ensures.value) ∙ c.if-nodes-to.false) in
-    let straight : straight_of c.args.mesh.now c.steps.d ≡ Some (step_east (half_edges c.args.mesh.now) c.steps.d) =
-    walk_straight c.args.mesh.now c.args.cut.now c.args.nodes.now q.marked c.args.start c.steps.d c.steps.counter
-    q.dart q.on q.begins i.at i.inner node in
-    let is : c.unwrap-d.result ≡ step_east (half_edges c.args.mesh.now) c.steps.d =
-    same_Some c.unwrap-d.result (step_east (half_edges c.args.mesh.now) c.steps.d) (sym c.unwrap-d.ensures
-    ∙ (c.straight.ensures.value ∙ straight)) in
+    let is = same_Some c.unwrap-d.result (step_east (half_edges c.args.mesh.now) c.steps.d)
+    (sym c.unwrap-d.ensures ∙ (c.straight.ensures.value ∙ walk_straight q.marked i.walk node)) in
     record {
-      at = walk_at c.args.mesh.now c.args.cut.now c.args.nodes.now q.marked c.args.start c.steps.d c.steps.counter
-          q.dart q.on q.begins i.at i.inner c.unwrap-d.result is;
+      walk = record {
+        low = q.dart;
+        on = q.on;
+        begins = q.begins;
+        at = walk_at q.marked i.walk is;
+        inner = walk_inner q.marked i.walk node;
+      };
       low = rw c.unwrap-d.ensures at c.straight.ensures.dart;
-      inner = walk_inner c.args.mesh.now c.args.cut.now c.args.nodes.now q.marked c.args.start c.steps.d c.steps.counter
-          q.dart q.on q.begins i.at i.inner node;
-      listed = walk_listed c.args.mesh.now c.args.cut.now c.args.nodes.now q.marked c.args.start c.steps.d
-          c.steps.counter q.dart q.on q.begins i.at i.inner c.steps.darts.items c.push.new.self.items i.listed
-          c.in_ok-push.ensures.items;
+      listed = walk_listed q.marked i.walk i.listed c.in_ok-push.ensures.items;
     }
 
 pub unreachable-requires : goal.unreachable-requires
 unreachable-requires c =
-    let i = c.steps.invariant in
-    let q = c.requires in
-    walk_end c.args.mesh.now c.args.cut.now c.args.nodes.now q.marked c.args.start c.steps.d c.steps.counter q.dart q.on
-    q.begins i.at i.inner (omega (arith, c.steps-test.false, q.marked.long))
+    walk_end c.requires.marked c.steps.invariant.walk (omega (arith, c.steps-test.false, c.requires.marked.long))

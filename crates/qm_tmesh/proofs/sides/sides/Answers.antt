@@ -1,18 +1,16 @@
-use Rattle.std.proofs.Common.{◌≡◌, ◌+◌, List, [], ◌∷◌, ◌++◌, map, length, get_or, ap, sym, subst, ◌∙◌, length-append}
-use Rattle.std.proofs.Common.{arith}
+use Rattle.std.proofs.Common.{◌≡◌, ◌+◌, List, [], ◌∷◌, ◌++◌, map, length, get_or, ap, ◌∙◌, length-append, arith}
 use Rattle.std.proofs.lemmas.List.{map-append, length-map, get_or_append_left, get_or-append-add}
-use Rattle.def_cut.specs.Grids.{Rectangle, rectangle, patch_at}
+use Rattle.def_cut.specs.Grids.{rectangle, patch_at}
 use Rattle.def_layout.specs.{Arcs.path, declared.tmesh.SideArc.SideArc}
-use Rattle.qm_tmesh.specs.Four.{IsPatchOf, AreFour, four_of}
+use Rattle.qm_tmesh.specs.Four.{AreFour, four_of}
 use Rattle.qm_tmesh.proofs.{ArcReads.read_patch, Walks.below_next}
 use Rattle.qm_tmesh.proofs.sides.sides.Goals as goal
 
 pub four_sides-requires : goal.four_sides-requires
 four_sides-requires c = (
   c.requires.0,
-  subst (λ (p : Rectangle). IsPatchOf c.args.mesh.now c.requires.0.cut p)
-      (read_patch c.args.patches.now c.loop-patch.patch-index c.patch-item.result c.loop-patch-test.true
-      c.patch-item.is) (c.requires.1 c.loop-patch.patch-index
+  rw (read_patch c.args.patches.now c.loop-patch.patch-index c.patch-item.result c.loop-patch-test.true c.patch-item.is)
+      at (c.requires.1 c.loop-patch.patch-index
       (omega (arith, c.loop-patch-test.true, length-map c.args.patches.now rectangle))),
 )
 
@@ -30,21 +28,14 @@ loop-patch-preserved c =
           ∙ omega (arith, i.count));
       each = below_next (λ p. AreFour c.args.mesh.now (map path c.args.runs.now.arcs.items) c.args.runs.now.uses.items
           (patch_at (map rectangle c.args.patches.now) p) (get_or (map four_of c.push.new.self.items) p []))
-          c.loop-patch.patch-index
-          (λ p l. subst (λ (four : List (List SideArc)). AreFour c.args.mesh.now (map path c.args.runs.now.arcs.items)
-          c.args.runs.now.uses.items (patch_at (map rectangle c.args.patches.now) p) four)
-          (sym (ap (λ (xs : List (List (List SideArc))). get_or xs p []) list
+          c.loop-patch.patch-index (λ p l. rw (ap (λ (xs : List (List (List SideArc))). get_or xs p []) list
           ∙ get_or_append_left (map four_of c.loop-patch.sides.items) (four_of c.in_ok-four.four ∷ []) [] p
-          (omega (arith, size, l)))) (i.each p l))
-          (subst (λ (four : List (List SideArc)). AreFour c.args.mesh.now (map path c.args.runs.now.arcs.items)
-          c.args.runs.now.uses.items (patch_at (map rectangle c.args.patches.now) c.loop-patch.patch-index)
-          four)
-          (sym (ap (λ (xs : List (List (List SideArc))). get_or xs c.loop-patch.patch-index []) list
-          ∙ (ap (λ x. get_or (map four_of c.loop-patch.sides.items ++ four_of c.in_ok-four.four ∷ []) x [])
-          place ∙ get_or-append-add (map four_of c.loop-patch.sides.items) (four_of c.in_ok-four.four ∷ []) 0
-          [])))
-          (subst (λ (p : Rectangle). AreFour c.args.mesh.now (map path c.args.runs.now.arcs.items)
-          c.args.runs.now.uses.items p (four_of c.in_ok-four.four))
-          (sym (read_patch c.args.patches.now c.loop-patch.patch-index c.patch-item.result c.loop-patch-test.true
-          c.patch-item.is)) c.in_ok-four.ensures));
+          (omega (arith, size, l))) (i.each p l))
+          (rw (
+            ap (λ (xs : List (List (List SideArc))). get_or xs c.loop-patch.patch-index []) list
+                ∙ (ap (λ x. get_or (map four_of c.loop-patch.sides.items ++ four_of c.in_ok-four.four ∷ []) x []) place
+                ∙ get_or-append-add (map four_of c.loop-patch.sides.items) (four_of c.in_ok-four.four ∷ []) 0 []),
+            read_patch c.args.patches.now c.loop-patch.patch-index c.patch-item.result c.loop-patch-test.true
+                c.patch-item.is,
+          ) c.in_ok-four.ensures);
     }
