@@ -1,16 +1,16 @@
 -- Deviations are far from the ends of their type.
-use Rattle.std.proofs.Common.{◌≡◌, ℕ, ◌*◌, ◌^◌, ◌<◌, ◌≤◌, List, length, pos, unsigned_abs, ◌-ℤ◌, ◌*ℤ◌, ◌&&◌}
-use Rattle.std.proofs.Common.{nat_le, true, ◌∙◌, ap, mul-le-mul, leb-true}
-use Rattle.std.proofs.{Common.arith, lemmas.Int.ints, lemmas.Bool.and_parts}
-use Rattle.std.specs.{Prelude.slice_index, Prelude.nat_lt, List.list_all}
+use Rattle.std.proofs.Common.{◌≡◌, ℕ, ◌*◌, ◌^◌, ◌<◌, ◌≤◌, List, length, pos, unsigned_abs, ◌-ℤ◌, ◌*ℤ◌}
+use Rattle.std.proofs.Common.{◌∙◌, ap, mul-le-mul}
+use Rattle.std.proofs.{Common.arith, lemmas.Int.ints}
+use Rattle.std.specs.Prelude.{slice_index}
 use Rattle.def_math.specs.Counts.{count_below}
 use Rattle.sum_laws.proofs.Counts.{count_below_le, count_below_ones, count_below_times}
-use Rattle.def_flow.specs.Network.{Network, IsWithinBounds, arc_at, ends}
+use Rattle.def_flow.specs.Network.{Network, IsWithinBounds, arc_at}
 use Rattle.def_flow.specs.{Admissible.arc_deviation, Admissible.deviation, Admissible.entries, Units.low}
 use Rattle.def_flow.specs.{declared.net.Arc.Arc, Admissible.AreNetLengths, Gadget.lows}
 use Rattle.gadget_laws.proofs.Box.{arcwise_length}
 use Rattle.qm_gadget.proofs.Arcwise.{arcwise_at}
-use Rattle.qm_net.proofs.Within.{arc_bounded}
+use Rattle.qm_net.proofs.Within.{IsBoundedArc, arc_within}
 
 -- The deviation of an arc of a network within bounds.
 arc_small : (net : Network) (k y : ℕ) → IsWithinBounds net → k < length net.arcs → y ≤ 10 ^ 12
@@ -20,38 +20,20 @@ arc_small net k y bounds l short = omega (arith, heavy, apart)
     a : Arc
     a = arc_at net.arcs k
 
-    tests : ((nat_le 1 a.weight && nat_le a.weight 1000 && nat_le a.old 4000000000 && nat_le 1 a.floor
-        && nat_le a.floor 3) ≡ true)
-        × (list_all (λ e. nat_lt e.node net.nodes) (ends a) ≡ true)
-    tests = and_parts (nat_le 1 a.weight && nat_le a.weight 1000 && nat_le a.old 4000000000 && nat_le 1 a.floor
-        && nat_le a.floor 3) _
-        (arc_bounded net bounds k l)
-
-    above : ((nat_le 1 a.weight && nat_le a.weight 1000 && nat_le a.old 4000000000) ≡ true) × (nat_le 1 a.floor ≡ true)
-    above = and_parts (nat_le 1 a.weight && nat_le a.weight 1000 && nat_le a.old 4000000000) (nat_le 1 a.floor)
-        (and_parts (nat_le 1 a.weight && nat_le a.weight 1000 && nat_le a.old 4000000000 && nat_le 1 a.floor)
-        (nat_le a.floor 3) tests.0).0
-
-    numbers : ((nat_le 1 a.weight && nat_le a.weight 1000) ≡ true) × (nat_le a.old 4000000000 ≡ true)
-    numbers = and_parts (nat_le 1 a.weight && nat_le a.weight 1000) (nat_le a.old 4000000000) above.0
-
-    old : a.old ≤ 4000000000
-    old = leb-true a.old 4000000000 numbers.1
-
-    weight : a.weight ≤ 1000
-    weight = leb-true a.weight 1000 (and_parts (nat_le 1 a.weight) (nat_le a.weight 1000) numbers.0).1
+    within : IsBoundedArc net.nodes a
+    within = arc_within bounds l
 
     scaled : net.q * y ≤ 1000 * 10 ^ 12
     scaled = mul-le-mul bounds.q_high short
 
     wanted : net.p * a.old ≤ 1000 * 4000000000
-    wanted = mul-le-mul bounds.p_high old
+    wanted = mul-le-mul bounds.p_high within.old
 
     apart : unsigned_abs (pos net.q *ℤ pos y -ℤ pos (net.p * a.old)) ≤ 2 * 10 ^ 15
     apart = omega (arith, ints, scaled, wanted)
 
     heavy : a.weight * unsigned_abs (pos net.q *ℤ pos y -ℤ pos (net.p * a.old)) ≤ 1000 * (2 * 10 ^ 15)
-    heavy = mul-le-mul weight apart
+    heavy = mul-le-mul within.weight_high apart
 
 -- The deviation of a list of lengths.
 pub deviation_small : (net : Network) (xs : List ℕ) → IsWithinBounds net → AreNetLengths net.arcs xs

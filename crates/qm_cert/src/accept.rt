@@ -15,6 +15,7 @@ use def_flow::{Cert, CertVerdict, MAX_LENGTH, MAX_TANGLE, Net};
 use def_matching::Verdict;
 use qm_dual::{SmallGraph, dual_ok};
 use qm_gadget::graph_of;
+use qm_net::BoundedNet;
 use std::alloc::Global;
 
 /// The verdict on a certificate for a network. After `Yes` its list is least among all admissible lists of whole
@@ -35,23 +36,23 @@ pub fn accepts(alloc: Global, net: &Net, cert: &Cert) -> Result<CertVerdict, Mem
     ensures least { IfOk result (λ v.
         (d : ℤ) → v ≡ CertVerdict.Yes d → IsLeast (network net.now) (entries cert.now.x.items)) }
 {
-    let fault = list_fault(alloc, net, &cert.x)?;
+    let bounded = BoundedNet { whole: net };
+    let fault = list_fault(alloc, &bounded, &cert.x)?;
     match fault {
         Some(verdict) => Ok(verdict),
-        None => check_dual(alloc, net, cert),
+        None => check_dual(alloc, &bounded, cert),
     }
 }
 
 /// The verdict on a certificate whose list has no fault.
-fn check_dual(alloc: Global, net: &Net, cert: &Cert) -> Result<CertVerdict, Memory>
-    requires bounds { IsWithinBounds (network net.now) }
-    requires lengths { AreNetLengths net.now.arcs.items cert.now.x.items }
-    requires admissible { IsAdmissible (network net.now) (entries cert.now.x.items) }
+fn check_dual(alloc: Global, net: &BoundedNet, cert: &Cert) -> Result<CertVerdict, Memory>
+    requires lengths { AreNetLengths net.now.whole.now.arcs.items cert.now.x.items }
+    requires admissible { IsAdmissible (network net.now.whole.now) (entries cert.now.x.items) }
     requires dual { IsSmallDual (dual cert.now.dual) }
-    requires tangle { tangle_number (network net.now) ≤ MAX_TANGLE }
+    requires tangle { tangle_number (network net.now.whole.now) ≤ MAX_TANGLE }
     ensures { IfOk result (λ v.
-        v ≡ refuse_dual (verdict (matching_graph (network net.now) 1 cert.now.x.items) (dual cert.now.dual))
-        (sums_verdict (network net.now) (certificate cert.now))) }
+        v ≡ refuse_dual (verdict (matching_graph (network net.now.whole.now) 1 cert.now.x.items) (dual cert.now.dual))
+        (sums_verdict (network net.now.whole.now) (certificate cert.now))) }
 {
     let gadget = graph_of(alloc, net, &cert.x, 1)?;
     let verdict = dual_ok(

@@ -4,41 +4,42 @@ ghost use Rattle.std.specs.Prelude.{◌≡◌, ◌+◌, ◌*◌, ◌^◌, ◌<�
 ghost use Rattle.std.specs.Prelude.{IfOk, IfSome};
 ghost use Rattle.def_math.specs.Searches.{least};
 ghost use Rattle.def_math.specs.Tables.{IsRaised};
-ghost use Rattle.def_flow.specs.Network.{network, IsWithinBounds};
+ghost use Rattle.def_flow.specs.Network.{network};
 ghost use Rattle.def_flow.specs.Accepted.{below_fault};
 ghost use Rattle.def_flow.specs.Admissible.{AreNetLengths};
 ghost use Rattle.qm_cert.specs.Sides.{arc_put, end_put, AreSides};
 
 use def_flow::{Arc, End, MAX_LENGTH, Net};
+use qm_net::BoundedNet;
 use std::alloc::{AllocError, Global};
 
 /// For each node the sum of the lengths at its ends on one side. Linear.
 pub(crate) fn side_sums(
     alloc: Global,
-    net: &Net,
+    net: &BoundedNet,
     x: &[u64],
     plus: bool,
 ) -> Result<Vec<u128>, AllocError>
-    requires bounds { IsWithinBounds (network net.now) }
-    requires lengths { AreNetLengths net.now.arcs.items x.now }
+    requires { AreNetLengths net.now.whole.now.arcs.items x.now }
     ensures sides { IfOk result (λ sums.
-        AreSides net.now.nodes net.now.arcs.items x.now plus (length net.now.arcs.items) sums.items) }
+        AreSides net.now.whole.now.nodes net.now.whole.now.arcs.items x.now plus
+        (length net.now.whole.now.arcs.items) sums.items) }
     ensures few { IfOk result (λ sums. length sums.items < 2 ^ 32) }
 {
-    let mut sums = vec![in alloc; 0u128; net.nodes as usize]?;
+    let mut sums = vec![in alloc; 0u128; net.whole.nodes as usize]?;
     add_arcs(net, x, plus, &mut sums);
     Ok(sums)
 }
 
 /// Adds the lengths of all arcs at those of their ends that are on a side.
-fn add_arcs(net: &Net, x: &[u64], plus: bool, sums: &mut [u128])
-    requires bounds { IsWithinBounds (network net.now) }
-    requires lengths { AreNetLengths net.now.arcs.items x.now }
-    requires start { sums.old ≡ replicate net.now.nodes 0 }
-    ensures { AreSides net.now.nodes net.now.arcs.items x.now plus (length net.now.arcs.items) sums.new }
+fn add_arcs(net: &BoundedNet, x: &[u64], plus: bool, sums: &mut [u128])
+    requires lengths { AreNetLengths net.now.whole.now.arcs.items x.now }
+    requires start { sums.old ≡ replicate net.now.whole.now.nodes 0 }
+    ensures { AreSides net.now.whole.now.nodes net.now.whole.now.arcs.items x.now plus
+        (length net.now.whole.now.arcs.items) sums.new }
 {
-    for (k, arc) in net.arcs.iter().enumerate() {
-        add_arc(sums, arc, x[k], plus);
+    for (k, entry) in x.iter().enumerate() {
+        add_arc(sums, net.arc(k), *entry, plus);
     }
 }
 

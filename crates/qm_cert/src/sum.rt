@@ -2,26 +2,25 @@
 
 ghost use Rattle.std.specs.Prelude.{◌≡◌, ◌^◌, ◌≤◌, pos, ◌-ℤ◌, ◌*ℤ◌, if◌then◌else◌, unsigned_abs};
 ghost use Rattle.std.specs.Ordering.{int_eq};
-ghost use Rattle.def_flow.specs.Network.{network, IsWithinBounds};
+ghost use Rattle.def_flow.specs.Network.{network};
 ghost use Rattle.def_flow.specs.Gadget.{lows as lows_of_list};
 ghost use Rattle.def_matching.specs.Dual.{dual_sum};
 ghost use Rattle.def_flow.specs.Accepted.{certificate, sums_verdict};
 ghost use Rattle.def_flow.specs.Admissible.{AreNetLengths};
 
-use def_flow::{Cert, CertVerdict, Net};
-use qm_net::deviation;
+use def_flow::{Cert, CertVerdict};
+use qm_net::{BoundedNet, deviation};
 
 /// The verdict on a certificate whose list is admissible and whose dual says yes: by the dual's sum and twice the
 /// cost of the units that are on, which is the deviation of the list less that of its lows. Linear.
-pub(crate) fn sum_verdict(net: &Net, cert: &Cert, lows: &[u64], sum: i128) -> CertVerdict
-    requires bounds { IsWithinBounds (network net.now) }
-    requires lengths { AreNetLengths net.now.arcs.items cert.now.x.items }
-    requires lows { lows.now ≡ lows_of_list (network net.now) 1 cert.now.x.items }
+pub(crate) fn sum_verdict(net: &BoundedNet, cert: &Cert, lows: &[u64], sum: i128) -> CertVerdict
+    requires lengths { AreNetLengths net.now.whole.now.arcs.items cert.now.x.items }
+    requires lows { lows.now ≡ lows_of_list (network net.now.whole.now) 1 cert.now.x.items }
     requires sum { sum ≡ dual_sum (certificate cert.now).dual }
-    ensures { result ≡ sums_verdict (network net.now) (certificate cert.now) }
+    ensures { result ≡ sums_verdict (network net.now.whole.now) (certificate cert.now) }
 {
-    let far = deviation(net, &cert.x);
-    verdict_by_sum(far, sum, twice_between(deviation(net, lows), far))
+    let far = deviation(net.whole, &cert.x);
+    verdict_by_sum(far, sum, twice_between(deviation(net.whole, lows), far))
 }
 
 /// Twice the way from one number to another.

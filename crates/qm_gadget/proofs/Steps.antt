@@ -1,6 +1,6 @@
 -- Lists in the box, by the steps that their entries are above the lows.
-use Rattle.std.proofs.Common.{◌≡◌, ℕ, suc, ◌-◌, ◌*◌, ◌/◌, ◌%◌, ◌^◌, ◌<◌, ◌≤◌, ◌==◌, Bool, true, false, List, [], ◌∷◌}
-use Rattle.std.proofs.Common.{length, refl, sym, ◌∙◌, ap, inl, inr, ◌⊎◌, length-append, arith}
+use Rattle.std.proofs.Common.{◌≡◌, ℕ, suc, ◌%◌, ◌^◌, ◌≤◌, ◌==◌, Bool, true, false, List, [], ◌∷◌}
+use Rattle.std.proofs.Common.{length, refl, ◌∙◌, ap, inl, inr, length-append, arith}
 use Rattle.std.proofs.lemmas.Bool.{cases_lt}
 use Rattle.std.proofs.lemmas.List.{get_or_past}
 use Rattle.std.specs.Prelude.{slice_index}
@@ -9,36 +9,13 @@ use Rattle.def_flow.specs.Network.{Network}
 use Rattle.def_flow.specs.Units.{units_over, units, states_over, states, active, rim_active}
 use Rattle.def_flow.specs.MatchingGraph.{graph_by, lone_vertex, first_fresh, rim, units_links, rim_links}
 use Rattle.def_flow.specs.declared.units.ArcUnit.{ArcUnit}
-use Rattle.def_flow.specs.Gadget.{IsStepUp, IsInBox, caps, lows}
+use Rattle.def_flow.specs.Gadget.{caps, lows}
 use Rattle.gadget_laws.specs.Box.{ups, matching_told}
 use Rattle.gadget_laws.specs.Marks.{places, states_marks, units_marks, rim_marks, rim_states}
-use Rattle.gadget_laws.proofs.{Steps.quotient, Steps.step_up, Chain.rim_length, Units.units_length, Units.states_length}
+use Rattle.gadget_laws.proofs.{Chain.rim_length, Units.units_length, Units.states_length}
 use Rattle.qm_gadget.specs.{Layout.copies_in, Marked.rim_by, Ready.IsReady, Ready.IsPlan, Ready.marks_over}
 use Rattle.qm_gadget.specs.{Ready.own_states as states_of_caps, declared.plan.Plan.Plan}
 use Rattle.qm_gadget.proofs.{ByLows.own_states, Numbers.rim_is, OfList.plan_counts, NodeCounts.active_low}
-
--- No entry of a list in the box is more than 4 steps up.
-pub ups_small : (step : ℕ) (lows caps ys : List ℕ) → 1 ≤ step → IsInBox step lows caps ys
-    → ((k : ℕ) → k < length lows → slice_index caps k ≤ 4) → (k : ℕ) → (slice_index ys k - slice_index lows k) / step
-    ≤ 4
-ups_small step lows caps ys some are most k = by_place (cases_lt k (length ys))
-  where
-    by_place : (k < length ys) ⊎ (length ys ≤ k) → (slice_index ys k - slice_index lows k) / step ≤ 4
-    by_place (inl l) = inside (are.each k l)
-      where
-        inside : IsStepUp (slice_index lows k) (slice_index caps k) step (slice_index ys k)
-            → (slice_index ys k - slice_index lows k) / step ≤ 4
-        inside e = omega (
-          arith,
-          step_up e.up step (slice_index lows k) (slice_index ys k) some e.is,
-          e.few,
-          most k (omega (arith, are.count)),
-        )
-    by_place (inr h) =
-        let none : slice_index ys k - slice_index lows k ≡ 0 = omega (arith, get_or_past ys k 0 h) in
-        let start : 0 * step ≡ 0 = omega arith in
-        let zero_up : 0 / step ≡ 0 = ap (λ n. n / step) (sym start) ∙ quotient 0 step some in
-        omega (arith, ap (λ n. n / step) none, zero_up)
 
 -- There is a number of steps for each entry.
 pub ups_length : (step : ℕ) (ls ys : List ℕ) → length ls ≡ length ys → length (ups step ls ys) ≡ length ls

@@ -2,25 +2,27 @@
 
 ghost use Rattle.std.specs.Prelude.{◌≡◌, ◌+◌, ◌*◌, ◌≤◌, length, IfOk};
 ghost use Rattle.def_flow.specs.Units.{arcwise, down, low, cap};
+ghost use Rattle.def_flow.specs.Network.{network};
+ghost use Rattle.def_flow.specs.declared.limits.TheConstants.{MAX_STEP};
 ghost use Rattle.qm_net.specs.Balance.{AreHigh};
+ghost use Rattle.std.proofs.Props.{props};
+ghost use Rattle.qm_gadget.specs.Layout.{EndsBelow-prop};
+ghost use Rattle.qm_gadget.specs.Ready.{IsReady};
 
-use def_flow::{Arc, MAX_STEP, Net};
+use def_flow::{Arc, Net};
+use qm_net::BoundedNet;
 use std::alloc::{AllocError, Global};
 
 /// The lengths that the units of all arcs can give: the least length of each arc, its number of units, and the step.
+/// There are few units, and their ends are at nodes.
 #[derive(Clone, Copy)]
 pub(crate) struct Boxes<'a> {
+    pub net: BoundedNet<'a>,
     pub lows: &'a [u64],
     pub caps: &'a [u32],
     pub step: u64,
-}
-
-/// The lengths that the units of one arc can give.
-#[derive(Clone, Copy)]
-pub(crate) struct OwnBox {
-    pub low: u64,
-    pub cap: u32,
-    pub step: u64,
+    ghost steps: { (1 ≤ step) × (step ≤ MAX_STEP) },
+    ghost ready: { IsReady (network net.whole.now) step lows.now caps.now } by { Prim.hlevel (EndsBelow-prop, props) },
 }
 
 /// How many steps an arc of this length can give up, at most 2 of them.

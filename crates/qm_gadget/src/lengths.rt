@@ -4,7 +4,7 @@ ghost use Rattle.std.specs.Prelude.{◌≡◌, ◌+◌, ◌*◌, ◌^◌, ◌<�
 ghost use Rattle.std.specs.Prelude.{slice_index, IfOk, OnOk};
 ghost use Rattle.std.specs.Bool.{beq};
 ghost use Rattle.def_math.specs.Counts.{count};
-ghost use Rattle.def_flow.specs.Network.{network, IsWithinBounds};
+ghost use Rattle.def_flow.specs.Network.{network};
 ghost use Rattle.def_flow.specs.Admissible.{deviation, entries, IsAdmissible};
 ghost use Rattle.def_math.specs.Increasing.{IsIncreasing};
 ghost use Rattle.def_flow.specs.Gadget.{IsGadgetOf, IsInBox};
@@ -12,56 +12,54 @@ ghost use Rattle.def_matching.specs.Matching.{graph, matching_cost, IsPerfect};
 ghost use Rattle.gadget_laws.specs.Marks.{trues};
 ghost use Rattle.gadget_laws.specs.Told.{marks_from, states_told};
 ghost use Rattle.qm_gadget.specs.Layout.{copies_in, AreAtNodes};
-ghost use Rattle.qm_gadget.specs.Over.{AreBoxes};
-ghost use Rattle.qm_gadget.specs.Ready.{IsReady};
 ghost use Rattle.qm_gadget.specs.Read.{first_below, skip_below, width_of_unit, lengths_by, lengths_read, widths_over};
 
 use crate::Memory;
 use crate::boxes::Boxes;
 use crate::marks::width_of;
 use crate::plan::plan_of;
-use def_flow::{ArcUnit, Gadget, MAX_STEP, Net};
+use def_flow::{ArcUnit, Gadget};
+use qm_net::BoundedNet;
 use std::alloc::{AllocError, Global};
 
 /// The admissible list of lengths that a perfect matching of a gadget's graph tells. Its deviation less that of the
 /// lows is at most the cost of the matching. Linear in the arcs, nodes, units and edges of the matching.
-pub fn lengths_of(alloc: Global, net: &Net, g: &Gadget, m: &[u32]) -> Result<Vec<u64>, Memory>
-    requires bounds { IsWithinBounds (network net.now) }
-    requires gadget { IsGadgetOf (network net.now) g.now }
+pub fn lengths_of(
+    alloc: Global,
+    net: &BoundedNet,
+    g: &Gadget,
+    m: &[u32],
+) -> Result<Vec<u64>, Memory>
+    requires gadget { IsGadgetOf (network net.now.whole.now) g.now }
     requires perfect { IsPerfect (graph g.now.graph) m.now }
-    ensures count { IfOk result (λ ys. length ys.items ≡ length net.now.arcs.items) }
-    ensures admissible { IfOk result (λ ys. IsAdmissible (network net.now) (entries ys.items)) }
+    ensures count { IfOk result (λ ys. length ys.items ≡ length net.now.whole.now.arcs.items) }
+    ensures admissible { IfOk result (λ ys. IsAdmissible (network net.now.whole.now) (entries ys.items)) }
     ensures inside { IfOk result (λ ys. IsInBox g.now.step g.now.low.items g.now.cap.items ys.items) }
     ensures cost { IfOk result (λ ys.
-        (pos (deviation (network net.now) (entries ys.items))
-        -ℤ pos (deviation (network net.now) (entries g.now.low.items))) ≤ℤ matching_cost (graph g.now.graph) m.now) }
+        (pos (deviation (network net.now.whole.now) (entries ys.items))
+        -ℤ pos (deviation (network net.now.whole.now) (entries g.now.low.items)))
+        ≤ℤ matching_cost (graph g.now.graph) m.now) }
 {
     let boxes = Boxes {
+        net: *net,
         lows: &g.low,
         caps: &g.cap,
         step: g.step,
     };
-    lengths_over(alloc, net, &boxes, m, g.graph.edges.len() as u32)
+    lengths_over(alloc, &boxes, m, g.graph.edges.len() as u32)
 }
 
 /// The same, by the lows and caps of the gadget and the number of its edges.
-fn lengths_over(
-    alloc: Global,
-    net: &Net,
-    boxes: &Boxes,
-    m: &[u32],
-    edges: u32,
-) -> Result<Vec<u64>, AllocError>
-    requires bounds { IsWithinBounds (network net.now) }
-    requires step { (1 ≤ boxes.now.step) × (boxes.now.step ≤ MAX_STEP) }
-    requires ready { IsReady (network net.now) boxes.now.step boxes.now.lows.now boxes.now.caps.now }
+fn lengths_over(alloc: Global, boxes: &Boxes, m: &[u32], edges: u32) -> Result<Vec<u64>, AllocError>
     requires edges { (edges ≤ 2 ^ 26)
-        × (widths_over (network net.now) boxes.now.step boxes.now.lows.now boxes.now.caps.now ≤ edges) }
+        × (widths_over (network boxes.now.net.whole.now) boxes.now.step boxes.now.lows.now boxes.now.caps.now ≤ edges) }
     requires increasing { IsIncreasing 0 edges m.now }
     ensures { IfOk result (λ ys.
-        ys.items ≡ lengths_read (network net.now) boxes.now.step boxes.now.lows.now boxes.now.caps.now edges m.now) }
+        ys.items
+        ≡ lengths_read (network boxes.now.net.whole.now) boxes.now.step boxes.now.lows.now boxes.now.caps.now
+        edges m.now) }
 {
-    let plan = plan_of(alloc, net, boxes)?;
+    let plan = plan_of(alloc, boxes)?;
     let ons = states_in(alloc, &plan.counts, &plan.units, m, edges)?;
     raise(alloc, boxes, &ons)
 }
@@ -125,8 +123,6 @@ fn past_below(m: &[u32], at: usize, end: u32) -> usize
 
 /// The lengths where of each arc as many units are on as the states say.
 fn raise(alloc: Global, boxes: &Boxes, ons: &[bool]) -> Result<Vec<u64>, AllocError>
-    requires step { boxes.now.step ≤ MAX_STEP }
-    requires boxes { AreBoxes (length boxes.now.lows.now) boxes.now.lows.now boxes.now.caps.now }
     ensures { IfOk result (λ ys. ys.items ≡ lengths_by boxes.now.step boxes.now.lows.now boxes.now.caps.now ons.now) }
 {
     let mut ys = Vec::new(alloc);

@@ -7,11 +7,12 @@ ghost use Rattle.def_flow.specs.Units.{active_at};
 ghost use Rattle.def_flow.specs.Units.{is_active as is_active_end};
 ghost use Rattle.gadget_laws.specs.Marks.{places, choice, end_marks, marks_by, units_marks};
 ghost use Rattle.gadget_laws.specs.Told.{width_by};
-ghost use Rattle.qm_gadget.specs.Layout.{copies_in, IsAtNodes, AreAtNodes};
+ghost use Rattle.std.proofs.Props.{props};
+ghost use Rattle.qm_gadget.specs.Layout.{copies_in, IsAtNodes, AreAtNodes, EndsBelow-prop};
 ghost use Rattle.qm_gadget.specs.Marked.{right_marks};
 
 use crate::edges::have_like_signs;
-use crate::states::{bump, is_active};
+use crate::states::{Stated, bump, is_active};
 use def_flow::{ArcUnit, End};
 use std::alloc::{AllocError, Global};
 
@@ -174,49 +175,50 @@ pub(crate) fn width_of(counts: &[u32], unit: &ArcUnit) -> u32
     }
 }
 
+/// Units, each in a state, over nodes with copies, of which each node has few.
+#[derive(Clone, Copy)]
+pub(crate) struct Laid<'a> {
+    pub counts: &'a [u32],
+    pub stated: Stated<'a>,
+    ghost at: { AreAtNodes (length counts.now) stated.units.now } by { Prim.hlevel (EndsBelow-prop, props) },
+    ghost few: { (v : ℕ) → slice_index counts.now v ≤ 2 ^ 27 },
+}
+
 /// Adds the chosen edges of all units, and gives the number of the first edge past them.
 pub(crate) fn push_units_marks(
     alloc: Global,
     m: &mut Vec<u32>,
-    counts: &[u32],
-    units: &[ArcUnit],
-    ons: &[bool],
+    laid: &Laid,
 ) -> Result<u32, AllocError>
-    requires at { AreAtNodes (length counts.now) units.now }
-    requires states { length units.now ≡ length ons.now }
-    requires few { (length units.now ≤ 2 ^ 25) × ((v : ℕ) → slice_index counts.now v ≤ 2 ^ 27) }
-    requires short { length (units_marks (copies_in counts.now) (λ v. 0) units.now ons.now) ≤ 2 ^ 26 }
+    requires { length (units_marks (copies_in laid.now.counts.now) (λ v. 0) laid.now.stated.units.now
+        laid.now.stated.ons.now) ≤ 2 ^ 26 }
     ensures marks { OnOk result
-        (m.new.items ≡ m.old.items ++ places 0 (units_marks (copies_in counts.now) (λ v. 0) units.now ons.now)) }
-    ensures past { IfOk result (λ past. past ≡ length (units_marks (copies_in counts.now) (λ v. 0) units.now ons.now)) }
+        (m.new.items ≡ m.old.items ++ places 0 (units_marks (copies_in laid.now.counts.now) (λ v. 0)
+        laid.now.stated.units.now laid.now.stated.ons.now)) }
+    ensures past { IfOk result (λ past. past ≡ length (units_marks (copies_in laid.now.counts.now) (λ v. 0)
+        laid.now.stated.units.now laid.now.stated.ons.now)) }
 {
-    let mut used = vec![in alloc; 0u32; counts.len()]?;
-    push_all_marks(m, counts, &mut used, units, ons)
+    let mut used = vec![in alloc; 0u32; laid.counts.len()]?;
+    push_all_marks(m, laid, &mut used)
 }
 
 /// The same, where copies are in use before.
-fn push_all_marks(
-    m: &mut Vec<u32>,
-    counts: &[u32],
-    used: &mut [u32],
-    units: &[ArcUnit],
-    ons: &[bool],
-) -> Result<u32, AllocError>
-    requires at { AreAtNodes (length counts.now) units.now }
-    requires states { length units.now ≡ length ons.now }
-    requires few { (length units.now ≤ 2 ^ 25) × ((v : ℕ) → slice_index counts.now v ≤ 2 ^ 27) }
-    requires start { used.old ≡ replicate (length counts.now) 0 }
-    requires short { length (units_marks (copies_in counts.now) (copies_in used.old) units.now ons.now) ≤ 2 ^ 26 }
+fn push_all_marks(m: &mut Vec<u32>, laid: &Laid, used: &mut [u32]) -> Result<u32, AllocError>
+    requires start { used.old ≡ replicate (length laid.now.counts.now) 0 }
+    requires short { length (units_marks (copies_in laid.now.counts.now) (copies_in used.old)
+        laid.now.stated.units.now laid.now.stated.ons.now) ≤ 2 ^ 26 }
     ensures marks { OnOk result
-        (m.new.items ≡ m.old.items
-        ++ places 0 (units_marks (copies_in counts.now) (copies_in used.old) units.now ons.now)) }
+        (m.new.items ≡ m.old.items ++ places 0 (units_marks (copies_in laid.now.counts.now) (copies_in used.old)
+        laid.now.stated.units.now laid.now.stated.ons.now)) }
     ensures past { IfOk result (λ past.
-        past ≡ length (units_marks (copies_in counts.now) (copies_in used.old) units.now ons.now)) }
+        past ≡ length (units_marks (copies_in laid.now.counts.now) (copies_in used.old)
+        laid.now.stated.units.now laid.now.stated.ons.now)) }
 {
     let mut k = 0;
-    for (i, unit) in units.iter().enumerate() {
-        push_unit_marks(m, k, counts, used, &Switched { unit, on: ons[i] })?;
-        k += width_of(counts, unit);
+    for (i, unit) in laid.stated.units.iter().enumerate() {
+        let on = laid.stated.ons[i];
+        push_unit_marks(m, k, laid.counts, used, &Switched { unit, on })?;
+        k += width_of(laid.counts, unit);
     }
     Ok(k)
 }

@@ -6,22 +6,17 @@ ghost use Rattle.gadget_laws.specs.Marks.{places, rim_states, with_state, differ
 ghost use Rattle.qm_gadget.specs.Marked.{mark_if, rim_by, turn_marks};
 
 use crate::marks::push_mark;
-use crate::states::is_active;
+use crate::states::{Stated, is_active};
 use def_flow::ArcUnit;
 use std::alloc::{AllocError, Global};
 
 /// Whether each unit with one end waits for a mate at the rim.
-pub(crate) fn rim_states_of(
-    alloc: Global,
-    units: &[ArcUnit],
-    ons: &[bool],
-) -> Result<Vec<bool>, AllocError>
-    requires { length units.now ≡ length ons.now }
-    ensures { IfOk result (λ states. states.items ≡ rim_states units.now ons.now) }
+pub(crate) fn rim_states_of(alloc: Global, stated: &Stated) -> Result<Vec<bool>, AllocError>
+    ensures { IfOk result (λ states. states.items ≡ rim_states stated.now.units.now stated.now.ons.now) }
 {
     let mut states = Vec::new(alloc);
-    for (k, unit) in units.iter().enumerate() {
-        push_rim_state(&mut states, unit, ons[k])?;
+    for (k, unit) in stated.units.iter().enumerate() {
+        push_rim_state(&mut states, unit, stated.ons[k])?;
     }
     Ok(states)
 }

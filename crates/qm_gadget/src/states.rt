@@ -61,33 +61,37 @@ pub(crate) fn is_active(end: &End, on: bool) -> bool
     end.plus == on
 }
 
+/// Units, each in a state. There are few.
+#[derive(Clone, Copy)]
+pub(crate) struct Stated<'a> {
+    pub units: &'a [ArcUnit],
+    pub ons: &'a [bool],
+    ghost each: { length units.now ≡ length ons.now },
+    ghost few: { length units.now ≤ 2 ^ 25 },
+}
+
 /// How many active unit ends there are at each node.
 pub(crate) fn count_active(
     alloc: Global,
     nodes: u32,
-    units: &[ArcUnit],
-    ons: &[bool],
+    stated: &Stated,
 ) -> Result<Vec<u32>, AllocError>
-    requires states { length units.now ≡ length ons.now }
-    requires few { length units.now ≤ 2 ^ 25 }
-    requires at { AreAtNodes nodes units.now }
-    ensures { IfOk result (λ counts. AreCounts nodes units.now ons.now counts.items) }
+    requires { AreAtNodes nodes stated.now.units.now }
+    ensures { IfOk result (λ counts. AreCounts nodes stated.now.units.now stated.now.ons.now counts.items) }
 {
     let mut counts = vec![in alloc; 0u32; nodes as usize]?;
-    bump_all(&mut counts, units, ons);
+    bump_all(&mut counts, stated);
     Ok(counts)
 }
 
 /// Adds to the number of each node its active unit ends.
-fn bump_all(counts: &mut [u32], units: &[ArcUnit], ons: &[bool])
-    requires states { length units.now ≡ length ons.now }
-    requires few { length units.now ≤ 2 ^ 25 }
-    requires at { AreAtNodes (length counts.old) units.now }
+fn bump_all(counts: &mut [u32], stated: &Stated)
+    requires at { AreAtNodes (length counts.old) stated.now.units.now }
     requires start { counts.old ≡ replicate (length counts.old) 0 }
-    ensures { AreCounts (length counts.old) units.now ons.now counts.new }
+    ensures { AreCounts (length counts.old) stated.now.units.now stated.now.ons.now counts.new }
 {
-    for (k, unit) in units.iter().enumerate() {
-        bump_unit(counts, unit, ons[k]);
+    for (k, unit) in stated.units.iter().enumerate() {
+        bump_unit(counts, unit, stated.ons[k]);
     }
 }
 
@@ -115,13 +119,12 @@ pub(crate) fn bump(counts: &mut [u32], end: &End, on: bool)
 }
 
 /// Whether an odd number of units with one end are active.
-pub(crate) fn is_rim_odd(units: &[ArcUnit], ons: &[bool]) -> bool
-    requires { length units.now ≡ length ons.now }
-    ensures { result ≡ (rim_active units.now ons.now % 2 == 1) }
+pub(crate) fn is_rim_odd(stated: &Stated) -> bool
+    ensures { result ≡ (rim_active stated.now.units.now stated.now.ons.now % 2 == 1) }
 {
     let mut odd = false;
-    for (k, unit) in units.iter().enumerate() {
-        odd = odd != is_rim_active(unit, ons[k]);
+    for (k, unit) in stated.units.iter().enumerate() {
+        odd = odd != is_rim_active(unit, stated.ons[k]);
     }
     odd
 }

@@ -16,7 +16,7 @@ use Rattle.def_flow.specs.{Network.Network, Network.IsWithinBounds, Network.arc_
 use Rattle.def_flow.specs.{Admissible.is_on_side, Admissible.side_sum, Admissible.IsBalanced, declared.net.Arc.Arc}
 use Rattle.def_flow.specs.declared.net.End.{End}
 use Rattle.qm_net.specs.Balance.{signed, weighed, weighed_right, weighed_arc, side_so_far, AreBalances, IsBlockBalanced}
-use Rattle.qm_net.proofs.Within.{arc_bounded, ends_bounded}
+use Rattle.qm_net.proofs.Within.{arc_within}
 
 -- What an end puts on the plus side of a node, less what it puts on the minus side.
 abbrev pub effect : ℕ → ℕ → End → ℤ
@@ -189,8 +189,7 @@ balances_none arcs xs first bs is = record {
 pub no_side_past : (net : Network) → IsWithinBounds net → (xs : List ℕ) (plus : Bool) (v : ℕ) → net.nodes ≤ v
     → side_sum net.arcs (entries xs) plus v ≡ pos 0
 no_side_past net within xs plus v past =
-    total_below_none _ (length net.arcs)
-    (λ k l. none k (ends (arc_at net.arcs k)) (ends_bounded net.nodes (arc_at net.arcs k) (arc_bounded net within k l)))
+    total_below_none _ (length net.arcs) (λ k l. none k (ends (arc_at net.arcs k)) (arc_within within l).ends)
   where
     none : (k : ℕ) (es : List End) → list_all (λ (e : End). nat_lt e.node net.nodes) es ≡ true
         → total (λ e. cond (is_on_side v plus e) (entries xs k) (pos 0)) es ≡ pos 0

@@ -9,6 +9,7 @@ ghost use Rattle.def_flow.specs.Admissible.{entries, IsAdmissible, IsBalanced};
 ghost use Rattle.qm_net.specs.Balance.{signed, weighed, weighed_arc, AreBalances, AreHigh, IsBlockBalanced};
 ghost use Rattle.def_flow.specs.Admissible.{AreNetLengths};
 
+use crate::bounded::BoundedNet;
 use def_flow::{Arc, End, MAX_LENGTH, Net};
 
 /// How many nodes are looked at in one pass over the arcs.
@@ -22,7 +23,7 @@ pub fn admissible(net: &Net, x: &[u64]) -> bool
     requires lengths { AreNetLengths net.now.arcs.items x.now }
     ensures { IsTrue result ↔ IsAdmissible (network net.now) (entries x.now) }
 {
-    are_high(&net.arcs, x) && are_balanced(net, x)
+    are_high(&net.arcs, x) && are_balanced(&BoundedNet { whole: net }, x)
 }
 
 /// Whether each length is at least the floor of its arc.
@@ -39,12 +40,11 @@ fn are_high(arcs: &[Arc], x: &[u64]) -> bool
 }
 
 /// Whether both sides of each node have equal sums.
-fn are_balanced(net: &Net, x: &[u64]) -> bool
-    requires bounds { IsWithinBounds (network net.now) }
-    requires lengths { AreNetLengths net.now.arcs.items x.now }
-    ensures { IsTrue result ↔ IsBalanced net.now.arcs.items (entries x.now) }
+fn are_balanced(net: &BoundedNet, x: &[u64]) -> bool
+    requires { AreNetLengths net.now.whole.now.arcs.items x.now }
+    ensures { IsTrue result ↔ IsBalanced net.now.whole.now.arcs.items (entries x.now) }
 {
-    let nodes = net.nodes as usize;
+    let nodes = net.whole.nodes as usize;
     let mut first = 0;
     while first < nodes {
         if !is_block_balanced(net, x, first) {
@@ -56,11 +56,10 @@ fn are_balanced(net: &Net, x: &[u64]) -> bool
 }
 
 /// Whether both sides of each node of a block have equal sums.
-fn is_block_balanced(net: &Net, x: &[u64], first: usize) -> bool
-    requires few { length net.now.arcs.items < 2 ^ 32 }
-    requires lengths { AreNetLengths net.now.arcs.items x.now }
+fn is_block_balanced(net: &BoundedNet, x: &[u64], first: usize) -> bool
+    requires lengths { AreNetLengths net.now.whole.now.arcs.items x.now }
     requires low { first < 2 ^ 32 }
-    ensures { IsTrue result ↔ IsBlockBalanced net.now.arcs.items x.now first (first + 2048) }
+    ensures { IsTrue result ↔ IsBlockBalanced net.now.whole.now.arcs.items x.now first (first + 2048) }
 {
     let mut balances = [0i128; BLOCK];
     weigh_arcs(net, x, first, &mut balances);
@@ -75,15 +74,14 @@ fn are_zero(numbers: &[i128]) -> bool
 }
 
 /// Weighs the lengths of all arcs at the nodes of a block.
-fn weigh_arcs(net: &Net, x: &[u64], first: usize, balances: &mut [i128])
-    requires few { length net.now.arcs.items < 2 ^ 32 }
-    requires lengths { AreNetLengths net.now.arcs.items x.now }
+fn weigh_arcs(net: &BoundedNet, x: &[u64], first: usize, balances: &mut [i128])
+    requires lengths { AreNetLengths net.now.whole.now.arcs.items x.now }
     requires low { first < 2 ^ 32 }
     requires start { balances.old ≡ replicate 2048 (pos 0) }
-    ensures { AreBalances net.now.arcs.items x.now first (length net.now.arcs.items) balances.new }
+    ensures { AreBalances net.now.whole.now.arcs.items x.now first (length net.now.whole.now.arcs.items) balances.new }
 {
-    for (k, arc) in net.arcs.iter().enumerate() {
-        weigh_arc(first, arc, x[k], balances);
+    for (k, entry) in x.iter().enumerate() {
+        weigh_arc(first, net.arc(k), *entry, balances);
     }
 }
 

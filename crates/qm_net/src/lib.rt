@@ -2,11 +2,13 @@
 #![tactic(auto)]
 
 mod balance;
+mod bounded;
 mod bounds;
 mod tangle;
 mod wanted;
 
 pub use balance::admissible;
+pub use bounded::BoundedNet;
 pub use bounds::{are_lengths, is_within_bounds};
 pub use def_flow::{Arc, End, Net};
 pub use tangle::tangle_of;

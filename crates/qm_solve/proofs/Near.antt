@@ -1,9 +1,9 @@
 -- A list that is no farther from what is wanted than the start has no great length.
 use Rattle.std.proofs.Common.{◌≡◌, ℕ, suc, ◌+◌, ◌*◌, ◌^◌, ◌<◌, ◌≤◌}
-use Rattle.std.proofs.Common.{◌&&◌, ◌↔◌, true, false, not, nat_le, List}
-use Rattle.std.proofs.{Common.length, Common.true≢false, Common.leb-true, Common.arith, lemmas.List.get_or_default}
+use Rattle.std.proofs.Common.{◌↔◌, true, false, not, List}
+use Rattle.std.proofs.{Common.length, Common.true≢false, Common.arith, lemmas.List.get_or_default}
 use Rattle.std.proofs.lemmas.List.Sums.{AllPass-from_list_all, list_all-from_AllPass}
-use Rattle.std.proofs.{Math.Nat.mul-le-mul_left, Math.Nat.mul-le-mul_right, lemmas.Int.ints, lemmas.Bool.and_parts}
+use Rattle.std.proofs.{Math.Nat.mul-le-mul_left, Math.Nat.mul-le-mul_right, lemmas.Int.ints}
 use Rattle.std.proofs.lemmas.Bool.{cases_lt}
 use Rattle.std.proofs.Common.{pos, ◌-ℤ◌, ◌*ℤ◌, mul-add, mul_comm, mul-one, inl, inr, sym, ◌∙◌, ap, subst, None}
 use Rattle.std.specs.{Prelude.slice_index, Prelude.unsigned_abs, Prelude.int_lt, List.list_all}
@@ -11,7 +11,7 @@ use Rattle.table_laws.proofs.Ranges.{part_low}
 use Rattle.def_flow.specs.{Network.Network, Network.IsWithinBounds, Network.arc_at, Admissible.AreNetLengths}
 use Rattle.def_flow.specs.Admissible.{IsAdmissible, arc_deviation, deviation, entries}
 use Rattle.def_flow.specs.{Descent.IsStartOf, declared.net.Arc.Arc}
-use Rattle.qm_net.proofs.Within.{arc_bounded}
+use Rattle.qm_net.proofs.Within.{arc_within}
 use Rattle.qm_solve.specs.Rounds.{is_near_arc}
 
 -- What a factor of one or more leaves.
@@ -37,13 +37,6 @@ lengths_near net start xs bounds from count nearer = record { count = count; sma
         let a : Arc = arc_at net.arcs k in
         let inner : k < length net.arcs = omega (arith, count) in
         let far : ℕ = unsigned_abs (pos net.q *ℤ pos (slice_index xs k) -ℤ pos (net.p * a.old)) in
-        let bounded = and_parts (nat_le 1 a.weight && nat_le a.weight 1000 && nat_le a.old 4000000000
-        && nat_le 1 a.floor && nat_le a.floor 3) _ (arc_bounded net bounds k inner) in
-        let floors = and_parts (nat_le 1 a.weight && nat_le a.weight 1000 && nat_le a.old 4000000000
-        && nat_le 1 a.floor) _ bounded.0 in
-        let numbers = and_parts (nat_le 1 a.weight && nat_le a.weight 1000 && nat_le a.old 4000000000) _ floors.0 in
-        let weights = and_parts (nat_le 1 a.weight && nat_le a.weight 1000) _ numbers.0 in
-        let heavy : 1 ≤ a.weight = leb-true 1 a.weight (and_parts (nat_le 1 a.weight) _ weights.0).0 in
         let part : a.weight * far ≤ deviation net (entries xs) =
         omega (
           arith,
@@ -51,7 +44,7 @@ lengths_near net start xs bounds from count nearer = record { count = count; sma
               inner,
         ) in
         short net.q net.p a.old (slice_index xs k) (deviation net (entries start)) (10 ^ 12) bounds.q_low
-        (omega (arith, factor a.weight far heavy, part, nearer)) (from.near k inner)
+        (omega (arith, factor a.weight far (arc_within bounds inner).weight_low, part, nearer)) (from.near k inner)
 
 -- The test of the range.
 test_is : (net : Network) (d : ℕ) (a : Arc) → (is_near_arc net (pos d) a ≡ true) ↔ (net.p * a.old + d ≤ 10 ^ 12 * net.q)

@@ -15,7 +15,7 @@ use Rattle.def_flow.specs.Network.{Network, IsWithinBounds, is_bounded, arc_at, 
 use Rattle.def_flow.specs.Admissible.{IsBalanced, IsEven, arc_deviation, deviation}
 use Rattle.def_flow.specs.{Admissible.entries, Admissible.is_on_side, Admissible.side_sum, Descent.IsStartOf}
 use Rattle.def_flow.specs.{Descent.greatest_floor, declared.net.Arc.Arc, declared.net.End.End, Descent.times_old}
-use Rattle.qm_net.proofs.Within.{arc_bounded}
+use Rattle.qm_net.proofs.Within.{arc_within}
 
 -- A factor of all terms.
 total_times : {X : Type 0} (c : ℤ) (f : X → ℤ) (xs : List X) → total (λ x. c *ℤ f x) xs ≡ c *ℤ total f xs
@@ -80,17 +80,10 @@ far_sum net c bounds below above =
         ≤ 1000 * (3 * net.q) * (arc_at net.arcs k).old
     each k l =
         let a : Arc = arc_at net.arcs k in
-        let bounded = and_parts (nat_le 1 a.weight && nat_le a.weight 1000 && nat_le a.old 4000000000
-        && nat_le 1 a.floor && nat_le a.floor 3) _ (arc_bounded net bounds k l) in
-        let floors = and_parts (nat_le 1 a.weight && nat_le a.weight 1000 && nat_le a.old 4000000000
-        && nat_le 1 a.floor) _ bounded.0 in
-        let numbers = and_parts (nat_le 1 a.weight && nat_le a.weight 1000 && nat_le a.old 4000000000) _ floors.0 in
-        let weights = and_parts (nat_le 1 a.weight && nat_le a.weight 1000) _ numbers.0 in
-        let light : a.weight ≤ 1000 = leb-true a.weight 1000 (and_parts (nat_le 1 a.weight) _ weights.0).1 in
         let near : unsigned_abs (pos net.q *ℤ pos (c * a.old) -ℤ pos (net.p * a.old)) ≤ 3 * net.q * a.old =
         apart net.q net.p c a.old below above in
         let all : a.weight * unsigned_abs (pos net.q *ℤ pos (c * a.old) -ℤ pos (net.p * a.old))
-        ≤ 1000 * (3 * net.q * a.old) = mul-le-mul light near in
+        ≤ 1000 * (3 * net.q * a.old) = mul-le-mul (arc_within bounds l).weight_high near in
         rw (multiple_at c net.arcs k l) (omega (arith, all, mul_assoc 1000 (3 * net.q) a.old))
 
 -- A multiple by a number near the scale, and no less than any floor.

@@ -1,26 +1,32 @@
 //! The descent in rounds.
 
-ghost use Rattle.std.specs.Prelude.{◌≡◌, ◌+◌, ◌≤◌, ◌<◌, ◌*◌, None, length, IfOk, IfSome, OnOk};
+ghost use Rattle.std.specs.Prelude.{◌≡◌, ◌+◌, ◌≤◌, ◌<◌, ◌*◌, None, length, IfOk, IfSome};
 ghost use Rattle.def_matching.specs.Dual.{dual};
 ghost use Rattle.def_flow.specs.Network.{network, tangle_number, IsWithinBounds};
 ghost use Rattle.def_flow.specs.Accepted.{certificate};
 ghost use Rattle.def_flow.specs.Admissible.{deviation, entries};
 ghost use Rattle.def_flow.specs.Descent.{IsSolution, IsStartOf};
+ghost use Rattle.def_flow.specs.declared.limits.TheConstants.{MAX_STEP, MAX_TANGLE};
 
 use crate::Memory;
 use crate::round::{Round, improve};
-use def_flow::{Arc, Cert, MAX_OLD, MAX_SCALE, MAX_STEP, MAX_TANGLE, Net};
+use def_flow::{Arc, Cert, MAX_OLD, MAX_SCALE, MAX_STEP, Net};
 use def_matching::Dual;
+use qm_net::BoundedNet;
 use qm_warmstart::Start;
 use std::alloc::Global;
 
-/// A descent on its way: an admissible list, how far the next round steps, and prices of the nodes for rounds of step
-/// 1, where any are known.
+/// A descent on its way: an admissible list of a network, how far the next round steps, and prices of the nodes for
+/// rounds of step 1, where any are known.
 #[derive(Debug, Drop)]
-pub struct Descent {
+pub struct Descent<'a> {
+    pub net: BoundedNet<'a>,
     pub x: Vec<u64>,
     pub step: u64,
     pub prices: Vec<i64>,
+    pub ghost tangle: { tangle_number (network net.whole.now) ≤ MAX_TANGLE },
+    pub ghost start: { IsStartOf (network net.whole.now) x.items },
+    pub ghost steps: { (1 ≤ step) × (step ≤ MAX_STEP) },
 }
 
 /// A least list of lengths, with the certificate that shows it to be least, by a descent from an admissible list.
@@ -37,19 +43,18 @@ pub fn solve_from(alloc: Global, net: &Net, start: &[u64]) -> Result<Cert, Memor
         lengths: Vec::from_slice(alloc, start)?,
         prices: Vec::new(alloc),
     };
-    descend(alloc, net, start)
+    descend(alloc, &BoundedNet { whole: net }, start)
 }
 
 /// The descent from an admissible list.
-pub(crate) fn descend(alloc: Global, net: &Net, start: Start) -> Result<Cert, Memory>
-    requires bounds { IsWithinBounds (network net.now) }
-    requires tangle { tangle_number (network net.now) ≤ MAX_TANGLE }
-    requires start { IsStartOf (network net.now) start.lengths.items }
-    ensures { IfOk result (λ cert. IsSolution (network net.now) (certificate cert)) }
+pub(crate) fn descend(alloc: Global, net: &BoundedNet, start: Start) -> Result<Cert, Memory>
+    requires tangle { tangle_number (network net.now.whole.now) ≤ MAX_TANGLE }
+    requires start { IsStartOf (network net.now.whole.now) start.lengths.items }
+    ensures { IfOk result (λ cert. IsSolution (network net.now.whole.now) (certificate cert)) }
 {
     let mut descent = first_descent(net, start);
     loop {
-        if let Some(dual) = turn(alloc, net, &mut descent)? {
+        if let Some(dual) = turn(alloc, &mut descent)? {
             let Descent { x, .. } = descent;
             return Ok(Cert { x, dual });
         }
@@ -58,11 +63,10 @@ pub(crate) fn descend(alloc: Global, net: &Net, start: Start) -> Result<Cert, Me
 
 /// A descent that has not begun. A list with prices is near a least one, and its prices are those of steps of 1, so
 /// they are taken at once. Linear.
-pub fn first_descent(net: &Net, start: Start) -> Descent
-    requires bounds { IsWithinBounds (network net.now) }
-    requires start { IsStartOf (network net.now) start.lengths.items }
-    ensures start { IsStartOf (network net.now) result.x.items }
-    ensures step { (1 ≤ result.step) × (result.step ≤ MAX_STEP) }
+pub fn first_descent<'a>(net: &BoundedNet<'a>, start: Start) -> Descent<'a>
+    requires tangle { tangle_number (network net.now.whole.now) ≤ MAX_TANGLE }
+    requires start { IsStartOf (network net.now.whole.now) start.lengths.items }
+    ensures { result.net.whole.now ≡ net.now.whole.now }
 {
     let step = if start.prices.is_empty() {
         first_step(net, &start.lengths)
@@ -70,6 +74,7 @@ pub fn first_descent(net: &Net, start: Start) -> Descent
         1
     };
     Descent {
+        net: *net,
         x: start.lengths,
         step,
         prices: start.prices,
@@ -78,20 +83,15 @@ pub fn first_descent(net: &Net, start: Start) -> Descent
 
 /// One round: where it finds no better list with step 1, the dual of its matching makes the list's certificate. Else
 /// the list is better or the step is shorter.
-pub fn turn(alloc: Global, net: &Net, descent: &mut Descent) -> Result<Option<Dual>, Memory>
-    requires bounds { IsWithinBounds (network net.now) }
-    requires tangle { tangle_number (network net.now) ≤ MAX_TANGLE }
-    requires start { IsStartOf (network net.now) descent.old.x.items }
-    requires step { (1 ≤ descent.old.step) × (descent.old.step ≤ MAX_STEP) }
+pub fn turn(alloc: Global, descent: &mut Descent) -> Result<Option<Dual>, Memory>
+    ensures net { descent.new.net.whole.now ≡ descent.old.net.whole.now }
     ensures done { IfOk result (λ found. IfSome found (λ d.
-        IsSolution (network net.now) (record { x = descent.new.x.items; dual = dual d }))) }
-    ensures start { OnOk result (IsStartOf (network net.now) descent.new.x.items) }
-    ensures step { OnOk result ((1 ≤ descent.new.step) × (descent.new.step ≤ MAX_STEP)) }
+        IsSolution (network descent.old.net.whole.now) (record { x = descent.new.x.items; dual = dual d }))) }
     ensures nearer { IfOk result (λ found. found ≡ None
-        → deviation (network net.now) (entries descent.new.x.items) + descent.new.step
-        < deviation (network net.now) (entries descent.old.x.items) + descent.old.step) }
+        → deviation (network descent.old.net.whole.now) (entries descent.new.x.items) + descent.new.step
+        < deviation (network descent.old.net.whole.now) (entries descent.old.x.items) + descent.old.step) }
 {
-    match improve(alloc, net, &descent.x, descent.step, &descent.prices)? {
+    match improve(alloc, descent)? {
         Round::Better { x } => descent.x = x,
         Round::Least { dual } => {
             if descent.step == 1 {
@@ -104,13 +104,12 @@ pub fn turn(alloc: Global, net: &Net, descent: &mut Descent) -> Result<Option<Du
 }
 
 /// The first step: the greatest power of two that some arc is twice as far from what is wanted. Linear.
-fn first_step(net: &Net, start: &[u64]) -> u64
-    requires scale { 1 ≤ net.now.q }
-    requires start { IsStartOf (network net.now) start.now }
+fn first_step(net: &BoundedNet, start: &[u64]) -> u64
+    requires { IsStartOf (network net.now.whole.now) start.now }
     ensures { (1 ≤ result) × (result ≤ MAX_STEP) }
 {
     let mut step = 1;
-    for (k, arc) in net.arcs.iter().enumerate() {
+    for (k, arc) in net.whole.arcs.iter().enumerate() {
         step = longer_step(step, distance(net, arc, start[k]));
     }
     step
@@ -129,9 +128,7 @@ fn longer_step(step: u64, far: u64) -> u64
 }
 
 /// How far an arc of this length is from what is wanted of it, rounded down.
-fn distance(net: &Net, arc: &Arc, length: u64) -> u64
-    requires { 1 ≤ net.now.q }
-{
-    let wanted = u64::from(net.p) * u64::from(arc.old) / u64::from(net.q);
+fn distance(net: &BoundedNet, arc: &Arc, length: u64) -> u64 {
+    let wanted = u64::from(net.whole.p) * u64::from(arc.old) / u64::from(net.whole.q);
     length.abs_diff(wanted)
 }

@@ -1,16 +1,16 @@
 //! One round of the descent.
 
-ghost use Rattle.std.specs.Prelude.{◌≡◌, ◌≤◌, ◌<◌, ◌^◌, ◌*◌, ℕ, pos, length, slice_index_or};
+ghost use Rattle.std.specs.Prelude.{◌≡◌, ◌≤◌, ℕ, pos, length, slice_index_or};
 ghost use Rattle.std.specs.Prelude.{unsigned_abs, IfOk};
 ghost use Rattle.def_matching.specs.Matching.{graph, IsSmallGraph};
-ghost use Rattle.def_flow.specs.Network.{network, tangle_number, IsWithinBounds};
-ghost use Rattle.def_flow.specs.Admissible.{entries, AreNetLengths, IsAdmissible};
+ghost use Rattle.def_flow.specs.Network.{network};
 ghost use Rattle.qm_solve.specs.Rounds.{IsRound};
 
 use crate::Memory;
+use crate::descent::Descent;
 use crate::idle::without_idle_sets;
 use crate::priced::wishes_of;
-use def_flow::{Gadget, MAX_STEP, MAX_TANGLE, Net};
+use def_flow::{Gadget, Net};
 use def_matching::Dual;
 use qm_dual::SmallGraph;
 use qm_gadget::{graph_of, lengths_of, matching_of};
@@ -25,27 +25,18 @@ pub(crate) enum Round {
     Least { dual: Dual },
 }
 
-/// A round with steps of this length, from the admissible list `x`. It takes one least matching.
-pub(crate) fn improve(
-    alloc: Global,
-    net: &Net,
-    x: &[u64],
-    step: u64,
-    prices: &[i64],
-) -> Result<Round, Memory>
-    requires bounds { IsWithinBounds (network net.now) }
-    requires lengths { AreNetLengths net.now.arcs.items x.now }
-    requires admissible { IsAdmissible (network net.now) (entries x.now) }
-    requires tangle { tangle_number (network net.now) ≤ MAX_TANGLE }
-    requires step { (1 ≤ step) × (step ≤ MAX_STEP) }
-    ensures { IfOk result (λ round. IsRound (network net.now) step x.now round) }
+/// The round that a descent has before it. It takes one least matching.
+pub(crate) fn improve(alloc: Global, descent: &Descent) -> Result<Round, Memory>
+    ensures { IfOk result (λ round.
+        IsRound (network descent.now.net.whole.now) descent.now.step descent.now.x.items round) }
 {
-    let gadget = graph_of(alloc, net, x, step)?;
+    let net = &descent.net;
+    let gadget = graph_of(alloc, net, &descent.x, descent.step)?;
     let graph = SmallGraph {
         whole: &gadget.graph,
     };
-    let known = matching_of(alloc, net, &gadget, x)?;
-    let wish = first_wishes(alloc, net, &gadget, prices)?;
+    let known = matching_of(alloc, net, &gadget, &descent.x)?;
+    let wish = first_wishes(alloc, net.whole, &gadget, &descent.prices)?;
     let (edges, dual) = best_near(alloc, &graph, &known, &wish)?;
     if cost_of(&graph, &edges) < cost_of(&graph, &known) {
         let x = lengths_of(alloc, net, &gadget, &edges)?;

@@ -12,7 +12,7 @@ ghost use Rattle.qm_solve.specs.Rounds.{is_near_arc};
 use crate::Memory;
 use crate::descent::descend;
 use def_flow::{Arc, Cert, MAX_LENGTH, MAX_TANGLE, Net};
-use qm_net::{admissible, are_lengths, deviation};
+use qm_net::{BoundedNet, admissible, are_lengths, deviation};
 use qm_warmstart::{Start, near_start};
 use std::alloc::Global;
 
@@ -24,8 +24,9 @@ pub fn solve(alloc: Global, net: &Net) -> Result<Cert, Memory>
     requires tangle { tangle_number (network net.now) ≤ MAX_TANGLE }
     ensures { IfOk result (λ cert. IsSolution (network net.now) (certificate cert)) }
 {
-    let start = start_of(alloc, net)?;
-    descend(alloc, net, start)
+    let net = BoundedNet { whole: net };
+    let start = start_of(alloc, &net)?;
+    descend(alloc, &net, start)
 }
 
 /// The same for any network: where no list near what is wanted is found, the descent begins at `start`.
@@ -35,16 +36,16 @@ pub fn solve_near(alloc: Global, net: &Net, start: Vec<u64>) -> Result<Cert, Mem
     requires start { IsStartOf (network net.now) start.items }
     ensures { IfOk result (λ cert. IsSolution (network net.now) (certificate cert)) }
 {
-    let start = near_or(alloc, net, start)?;
-    descend(alloc, net, start)
+    let net = BoundedNet { whole: net };
+    let start = near_or(alloc, &net, start)?;
+    descend(alloc, &net, start)
 }
 
 /// The list that `solve` starts from: one near what is wanted where that serves, and else a multiple of the old
 /// lengths, which serves for each even network. The former comes with prices of the nodes, the latter with none.
-pub fn start_of(alloc: Global, net: &Net) -> Result<Start, Memory>
-    requires { IsWithinBounds (network net.now) }
-    ensures { IsEven (network net.now)
-        → IfOk result (λ start. IsStartOf (network net.now) start.lengths.items) }
+pub fn start_of(alloc: Global, net: &BoundedNet) -> Result<Start, Memory>
+    ensures { IsEven (network net.now.whole.now)
+        → IfOk result (λ start. IsStartOf (network net.now.whole.now) start.lengths.items) }
 {
     let lengths = old_multiple(alloc, net)?;
     near_or(alloc, net, lengths)
@@ -52,12 +53,11 @@ pub fn start_of(alloc: Global, net: &Net) -> Result<Start, Memory>
 
 /// A list near what is wanted that may start the descent, with prices of the nodes, where one is found; and else this
 /// list, with none.
-fn near_or(alloc: Global, net: &Net, start: Vec<u64>) -> Result<Start, Memory>
-    requires { IsWithinBounds (network net.now) }
-    ensures { IsStartOf (network net.now) start.items
-        → IfOk result (λ near. IsStartOf (network net.now) near.lengths.items) }
+fn near_or(alloc: Global, net: &BoundedNet, start: Vec<u64>) -> Result<Start, Memory>
+    ensures { IsStartOf (network net.now.whole.now) start.items
+        → IfOk result (λ near. IsStartOf (network net.now.whole.now) near.lengths.items) }
 {
-    if let Some(near) = near_start(alloc, net)? {
+    if let Some(near) = near_start(alloc, net.whole)? {
         if is_start(net, &near.lengths) {
             return Ok(near);
         }
@@ -70,10 +70,10 @@ fn near_or(alloc: Global, net: &Net, start: Vec<u64>) -> Result<Start, Memory>
 
 /// The old lengths, so many times that each is at least its floor and near what is wanted. The list is admissible where
 /// the old lengths are. Linear.
-pub(crate) fn old_multiple(alloc: Global, net: &Net) -> Result<Vec<u64>, Memory>
-    requires { IsWithinBounds (network net.now) }
-    ensures { IfOk result (λ lengths. lengths.items ≡ old_multiple (network net.now)) }
+pub(crate) fn old_multiple(alloc: Global, net: &BoundedNet) -> Result<Vec<u64>, Memory>
+    ensures { IfOk result (λ lengths. lengths.items ≡ old_multiple (network net.now.whole.now)) }
 {
+    let net = net.whole;
     multiple(
         alloc,
         &net.arcs,
@@ -105,14 +105,13 @@ pub(crate) fn multiple(alloc: Global, arcs: &[Arc], times: u64) -> Result<Vec<u6
 }
 
 /// Whether a list may start the descent: it is admissible, and no list of less deviation has too great a length.
-pub fn is_start(net: &Net, x: &[u64]) -> bool
-    requires { IsWithinBounds (network net.now) }
-    ensures { IsTrue result ↔ IsStartOf (network net.now) x.now }
+pub fn is_start(net: &BoundedNet, x: &[u64]) -> bool
+    ensures { IsTrue result ↔ IsStartOf (network net.now.whole.now) x.now }
 {
-    if !are_lengths(net, x) || !admissible(net, x) {
+    if !are_lengths(net.whole, x) || !admissible(net.whole, x) {
         return false;
     }
-    is_near(net, deviation(net, x))
+    is_near(net.whole, deviation(net.whole, x))
 }
 
 /// Whether all lengths stay in range where the deviation is no greater. Linear.

@@ -12,5 +12,5 @@ returns c =
     c.difference.ensures
     ∙ (ap (λ xs. compared_verdict xs c.deref-2.result.now) c.deref.ensures.value
     ∙ (ap (compared_verdict c.in_ok-plus.plus.items) c.deref-2.ensures.value
-    ∙ compared_is (network c.args.net.now) c.args.x.now c.in_ok-plus.plus.items c.in_ok-minus.minus.items
+    ∙ compared_is (network c.args.net.now.whole.now) c.args.x.now c.in_ok-plus.plus.items c.in_ok-minus.minus.items
     c.in_ok-plus.ensures.sides c.in_ok-minus.ensures.sides))

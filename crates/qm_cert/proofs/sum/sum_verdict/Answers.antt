@@ -19,24 +19,25 @@ far_is net given xs r small is same = back r small ∙ (is ∙ ap (λ l. pos (de
 
 pub deviation-requires-clause-lengths : goal.deviation-requires-clause-lengths
 deviation-requires-clause-lengths c =
-    rw c.requires.lows (lows_lengths (network c.args.net.now) c.args.cert.now.x.items c.requires.lengths)
+    rw c.requires.lows (lows_lengths (network c.args.net.now.whole.now) c.args.cert.now.x.items c.requires.lengths)
 
 pub twice_between-requires-clause-near : goal.twice_between-requires-clause-near
 twice_between-requires-clause-near c =
-    rw (far_is (network c.args.net.now) c.args.lows.now _ c.deviation.result c.deviation.type_inv c.deviation.ensures
-    c.requires.lows) (deviation_small (network c.args.net.now)
-    (lows (network c.args.net.now) 1 c.args.cert.now.x.items) c.requires.bounds
-    (lows_lengths (network c.args.net.now) c.args.cert.now.x.items c.requires.lengths))
+    rw (far_is (network c.args.net.now.whole.now) c.args.lows.now _ c.deviation.result c.deviation.type_inv
+    c.deviation.ensures c.requires.lows) (deviation_small (network c.args.net.now.whole.now)
+    (lows (network c.args.net.now.whole.now) 1 c.args.cert.now.x.items) c.args.net.now.bounds
+    (lows_lengths (network c.args.net.now.whole.now) c.args.cert.now.x.items c.requires.lengths))
 
 pub twice_between-requires-clause-far : goal.twice_between-requires-clause-far
 twice_between-requires-clause-far c =
-    rw (far_is (network c.args.net.now) c.deref.result.now c.args.cert.now.x.items c.deviation-far.result
+    rw (far_is (network c.args.net.now.whole.now) c.deref.result.now c.args.cert.now.x.items c.deviation-far.result
     c.deviation-far.type_inv c.deviation-far.ensures c.deref.ensures.value)
-    (deviation_small (network c.args.net.now) c.args.cert.now.x.items c.requires.bounds c.requires.lengths)
+    (deviation_small (network c.args.net.now.whole.now) c.args.cert.now.x.items c.args.net.now.bounds
+    c.requires.lengths)
 
 pub returns : goal.returns
 returns c =
-    let net : Network = network c.args.net.now in
+    let net : Network = network c.args.net.now.whole.now in
     let xs : List ℕ = c.args.cert.now.x.items in
     let near : to_z w128 (of_z w128 c.deviation.result) ≡ pos (deviation net (entries (lows net 1 xs))) =
     far_is net c.args.lows.now (lows net 1 xs) c.deviation.result c.deviation.type_inv c.deviation.ensures

@@ -5,11 +5,14 @@ use Rattle.qm_gadget.proofs.marks.push_all_marks.Given as goal
 
 abbrev pub invariant-loop-i : goal.invariant-loop-i
 invariant-loop-i l = record {
-  marks : l.m.items ++ places l.k (units_marks (copies_in l.counts) (copies_in l.used) (drop l.i l.units)
-      (drop l.i l.ons)) ≡ l.initial.m.items
-      ++ places 0 (units_marks (copies_in l.counts) (copies_in l.initial.used) l.units l.ons);
-  place : l.k + length (units_marks (copies_in l.counts) (copies_in l.used) (drop l.i l.units) (drop l.i l.ons))
-      ≡ length (units_marks (copies_in l.counts) (copies_in l.initial.used) l.units l.ons);
-  long : length l.used ≡ length l.counts;
+  marks : l.m.items ++ places l.k (units_marks (copies_in l.laid.counts.now) (copies_in l.used)
+      (drop l.i l.laid.stated.units.now) (drop l.i l.laid.stated.ons.now)) ≡ l.initial.m.items
+      ++ places 0 (units_marks (copies_in l.laid.counts.now) (copies_in l.initial.used) l.laid.stated.units.now
+      l.laid.stated.ons.now);
+  place : l.k + length (units_marks (copies_in l.laid.counts.now) (copies_in l.used) (drop l.i l.laid.stated.units.now)
+      (drop l.i l.laid.stated.ons.now))
+      ≡ length (units_marks (copies_in l.laid.counts.now) (copies_in l.initial.used) l.laid.stated.units.now
+      l.laid.stated.ons.now);
+  long : length l.used ≡ length l.laid.counts.now;
   small : (v : ℕ) → slice_index l.used v ≤ 2 * l.i;
 }

@@ -10,10 +10,11 @@ pub bump_unit-requires-clause-small : goal.bump_unit-requires-clause-small
 bump_unit-requires-clause-small c =
     λ v. omega (
       arith,
-      counts_few c.args.units.now c.args.ons.now c.loop-k.k (length c.args.counts.now) c.loop-k.counts
-          c.loop-k.invariant v,
+      counts_few c.args.stated.now.units.now c.args.stated.now.ons.now c.loop-k.k (length c.args.counts.now)
+          c.loop-k.counts c.loop-k.invariant v,
     )
 
 pub loop-k-preserved : goal.loop-k-preserved
-loop-k-preserved c = counts_more c.args.units.now c.args.ons.now c.loop-k.k (length c.args.counts.now) no_unit false
-    c.loop-k.counts c.bump_unit.new.counts c.loop-k-test.true c.requires.states c.loop-k.invariant c.bump_unit.ensures
+loop-k-preserved c = counts_more c.args.stated.now.units.now c.args.stated.now.ons.now c.loop-k.k
+    (length c.args.counts.now) no_unit false c.loop-k.counts c.bump_unit.new.counts c.loop-k-test.true
+    c.args.stated.now.each c.loop-k.invariant c.bump_unit.ensures

@@ -4,4 +4,5 @@ use Rattle.def_flow.specs.Units.{active}
 use Rattle.qm_gadget.proofs.states.bump_all.Given as goal
 
 abbrev pub invariant-loop-k : goal.invariant-loop-k
-invariant-loop-k l = IsTally (λ v. active v (take l.k l.units) (take l.k l.ons)) (length l.initial.counts) l.counts
+invariant-loop-k l = IsTally (λ v. active v (take l.k l.stated.units.now) (take l.k l.stated.ons.now))
+    (length l.initial.counts) l.counts

@@ -10,9 +10,9 @@ pub loop-k-preserved : goal.loop-k-preserved
 loop-k-preserved c = omega (
   arith,
   c.loop-k.invariant,
-  differ_parity c.loop-k.odd c.is_rim_active-odd.result
-      (rim_active (drop (c.loop-k.k + 1) c.args.units.now) (drop (c.loop-k.k + 1) c.args.ons.now)),
+  differ_parity c.loop-k.odd c.is_rim_active-odd.result (rim_active (drop (c.loop-k.k + 1) c.args.stated.now.units.now)
+      (drop (c.loop-k.k + 1) c.args.stated.now.ons.now)),
   c.is_rim_active-odd.ensures,
-  rim_step c.args.units.now c.args.ons.now c.loop-k.k no_unit false c.loop-k-test.true
-      c.requires,
+  rim_step c.args.stated.now.units.now c.args.stated.now.ons.now c.loop-k.k no_unit false c.loop-k-test.true
+      c.args.stated.now.each,
 )

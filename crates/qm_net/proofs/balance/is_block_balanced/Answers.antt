@@ -4,8 +4,8 @@ use Rattle.qm_net.proofs.balance.is_block_balanced.Goals as goal
 
 pub returns : goal.returns
 returns c = (
-  λ on. balanced_by_zeros c.args.net.now.arcs.items c.args.x.now c.args.first c.weigh_arcs.new.balances
+  λ on. balanced_by_zeros c.args.net.now.whole.now.arcs.items c.args.x.now c.args.first c.weigh_arcs.new.balances
       c.weigh_arcs.ensures (sym c.are_zero.ensures ∙ on),
-  λ balanced. c.are_zero.ensures ∙ zeros_by_balanced c.args.net.now.arcs.items c.args.x.now c.args.first
+  λ balanced. c.are_zero.ensures ∙ zeros_by_balanced c.args.net.now.whole.now.arcs.items c.args.x.now c.args.first
       c.weigh_arcs.new.balances c.weigh_arcs.ensures balanced,
 )

@@ -20,8 +20,8 @@ returns-then-not-are_lengths c = (
   λ no. absurd (false≢true no),
   λ from. elim c.then-not-are_lengths.branch [
     | then-not-are_lengths-via-then-not-are_lengths w ↦
-        absurd (true≢false (sym (c.are_lengths.ensures.1 (start_lengths (network c.args.net.now) c.args.x.now c.requires
-        from)) ∙ w.if-not-are_lengths.true))
+        absurd (true≢false (sym (c.are_lengths.ensures.1 (start_lengths (network c.args.net.now.whole.now) c.args.x.now
+        c.args.net.now.bounds from)) ∙ w.if-not-are_lengths.true))
     | then-not-are_lengths-via-else-not-are_lengths+then-not-admissible w ↦
         absurd (true≢false (sym (w.admissible.ensures.1 from.admissible) ∙ w.if-not-admissible.true))
   ],
@@ -29,14 +29,13 @@ returns-then-not-are_lengths c = (
 
 pub returns : goal.returns
 returns c =
-    let lengths : AreNetLengths c.args.net.now.arcs.items c.args.x.now =
+    let lengths : AreNetLengths c.args.net.now.whole.now.arcs.items c.args.x.now =
     c.are_lengths.ensures.0 c.if-not-are_lengths.false in
-    let admissible : IsAdmissible (network c.args.net.now) (entries c.args.x.now) =
+    let admissible : IsAdmissible (network c.args.net.now.whole.now) (entries c.args.x.now) =
     c.admissible.ensures.0 c.if-not-admissible.false in
-    let test : c.is_near.result
-    ≡ list_all (is_near_arc (network c.args.net.now)
-    (pos (deviation (network c.args.net.now) (entries c.args.x.now)))) c.args.net.now.arcs.items =
-    c.is_near.ensures ∙ ap (λ d. list_all (is_near_arc (network c.args.net.now) d) c.args.net.now.arcs.items)
-    (plain c.deviation.result c.deviation.type_inv ∙ c.deviation.ensures) in
-    let law = near_is (network c.args.net.now) c.args.x.now c.requires lengths admissible in
+    let test : c.is_near.result ≡ list_all (is_near_arc (network c.args.net.now.whole.now)
+    (pos (deviation (network c.args.net.now.whole.now) (entries c.args.x.now)))) c.args.net.now.whole.now.arcs.items =
+    c.is_near.ensures ∙ ap (λ d. list_all (is_near_arc (network c.args.net.now.whole.now) d)
+    c.args.net.now.whole.now.arcs.items) (plain c.deviation.result c.deviation.type_inv ∙ c.deviation.ensures) in
+    let law = near_is (network c.args.net.now.whole.now) c.args.x.now c.args.net.now.bounds lengths admissible in
     (λ on. law.0 (sym test ∙ on), λ from. test ∙ law.1 from)

@@ -6,18 +6,18 @@ use Rattle.qm_solve.proofs.start.old_multiple.Goals as goal
 
 pub multiple-requires : goal.multiple-requires
 multiple-requires c =
-    let p : ℕ = c.args.net.now.p in
-    let q : ℕ = c.args.net.now.q in
+    let p : ℕ = c.args.net.now.whole.now.p in
+    let q : ℕ = c.args.net.now.whole.now.q in
     let whole : q * (p / q) + p % q ≡ p = omega arith in
-    let some : p / q ≤ q * (p / q) = omega (arith, mul-le-mul_right (p / q) c.requires.q_low) in
-    let floor : greatest_floor c.args.net.now.arcs.items ≤ 3 =
-    greatest_low c.args.net.now.nodes c.args.net.now.arcs.items c.requires.arcs in
+    let some : p / q ≤ q * (p / q) = omega (arith, mul-le-mul_right (p / q) c.args.net.now.bounds.q_low) in
+    let floor : greatest_floor c.args.net.now.whole.now.arcs.items ≤ 3 =
+    greatest_low c.args.net.now.whole.now.nodes c.args.net.now.whole.now.arcs.items c.args.net.now.bounds.arcs in
     omega (
       arith,
       whole,
       some,
       floor,
-      c.requires.p_high,
+      c.args.net.now.bounds.p_high,
       c.from.ensures,
       c.max.ensures,
       c.greatest_floor.ensures,

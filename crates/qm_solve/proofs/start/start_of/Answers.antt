@@ -5,4 +5,4 @@ use Rattle.qm_solve.proofs.start.start_of.Goals as goal
 
 pub returns : goal.returns
 returns c = λ even. c.near_or.ensures
-    (rw c.in_ok-lengths.ensures (even_start (network c.args.net.now) _ c.requires even refl))
+    (rw c.in_ok-lengths.ensures (even_start (network c.args.net.now.whole.now) _ c.args.net.now.bounds even refl))
