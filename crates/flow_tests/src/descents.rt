@@ -2,7 +2,7 @@
 
 use crate::samples::{CUBE, FLAPS, QUAD, TREBLED};
 use def_flow::{MAX_TANGLE, Net};
-use qm_net::{deviation, is_within_bounds, tangle_of};
+use qm_net::{BoundedNet, deviation, is_within_bounds, tangle_of};
 use qm_nettext::read_net;
 use qm_solve::{Memory, is_start, solve_from, start_of};
 use std::alloc::Global;
@@ -67,9 +67,10 @@ fn least_of(alloc: Global, net: &Net) -> Result<Option<(i128, i128)>, Memory> {
     if !is_within_bounds(net) || tangle_of(alloc, net)? > u128::from(MAX_TANGLE) {
         return Ok(None);
     }
-    let near = start_of(alloc, net)?.lengths;
+    let bounded = BoundedNet { whole: net };
+    let near = start_of(alloc, &bounded)?.lengths;
     let far = old_multiple(alloc, net)?;
-    if !is_start(net, &near) || !is_start(net, &far) {
+    if !is_start(&bounded, &near) || !is_start(&bounded, &far) {
         return Ok(None);
     }
     let near = solve_from(alloc, net, &near)?;

@@ -1,12 +1,10 @@
 //! The descent of a network to its least deviation, and what it took.
 
-ghost use Rattle.def_flow.specs.Network.{network, IsWithinBounds};
-
 use crate::graphs::multiple;
 use crate::left::deviation_of;
 use crate::rounds::descend;
-use def_flow::{MAX_TANGLE, Net};
-use qm_net::{is_within_bounds, tangle_of};
+use def_flow::MAX_TANGLE;
+use qm_net::{BoundedNet, is_within_bounds, tangle_of};
 use qm_nettext::{NetFail, read_net};
 use qm_solve::{first_descent, is_start, start_of};
 use qm_warmstart::Start;
@@ -47,18 +45,16 @@ pub(crate) fn tell_descent(
     }
     let reading = begun.elapsed(rt)?;
     let begun = Instant::now(rt)?;
-    let start = begin(rt.alloc(), &net, from)?;
+    let bounded = BoundedNet { whole: &net };
+    let start = begin(rt.alloc(), &bounded, from)?;
     let starting = begun.elapsed(rt)?;
-    if !is_start(&net, &start.lengths) {
+    if !is_start(&bounded, &start.lengths) {
         return Ok(ExitCode::from(5));
     }
-    let mut descent = first_descent(&net, start);
-    println!(rt;
-        "tangle: {tangle}\nstart: {}",
-        deviation_of(&net, &descent.x)
-    )?;
-    let rounds = descend(rt, &net, &mut descent)?;
-    let least = deviation_of(&net, &descent.x);
+    let mut descent = first_descent(&bounded, start);
+    println!(rt; "tangle: {tangle}\nstart: {}", deviation_of(&descent))?;
+    let rounds = descend(rt, &mut descent)?;
+    let least = deviation_of(&descent);
     println!(rt;
         "rounds: {}\nsearches left: {}\nsets: {}\nleast: {least}",
         rounds.count, rounds.left, rounds.sets
@@ -70,13 +66,11 @@ pub(crate) fn tell_descent(
 }
 
 /// The list that a descent begins with.
-fn begin(alloc: Global, net: &Net, from: Beginning) -> Result<Start, AllocError>
-    requires { IsWithinBounds (network net.now) }
-{
+fn begin(alloc: Global, net: &BoundedNet, from: Beginning) -> Result<Start, AllocError> {
     match from {
         Beginning::Near => start_of(alloc, net),
         Beginning::Old => Ok(Start {
-            lengths: multiple(alloc, net)?,
+            lengths: multiple(alloc, net.whole)?,
             prices: Vec::new(alloc),
         }),
     }

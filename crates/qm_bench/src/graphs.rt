@@ -9,7 +9,7 @@ use def_matching::{MAX_EDGES, MAX_VERTICES, WEdge, WGraph};
 use qm_dual::SmallGraph;
 use qm_gadget::{graph_of, matching_of};
 use qm_match::{best, is_perfect};
-use qm_net::{admissible, are_lengths, is_within_bounds, tangle_of};
+use qm_net::{BoundedNet, admissible, are_lengths, is_within_bounds, tangle_of};
 use qm_nettext::{NetFail, read_net};
 use std::alloc::{AllocError, Global};
 
@@ -74,6 +74,7 @@ pub(crate) fn write_graph(alloc: Global, text: &str) -> Result<Option<String>, A
     if !are_lengths(&net, &x) || !admissible(&net, &x) {
         return Ok(None);
     }
+    let net = BoundedNet { whole: &net };
     let gadget = graph_of(alloc, &net, &x, 1)?;
     let known = matching_of(alloc, &net, &gadget, &x)?;
     Ok(Some(task_text(alloc, &gadget.graph, &known)?))

@@ -1,11 +1,8 @@
 //! What the first dual of a round leaves to be searched.
 
-ghost use Rattle.std.specs.Prelude.{◌≡◌, ◌≤◌, ◌<◌, ℕ, length};
+ghost use Rattle.std.specs.Prelude.{◌≡◌, length};
 ghost use Rattle.def_matching.specs.Matching.{graph};
-ghost use Rattle.def_flow.specs.Network.{network, tangle_number, IsWithinBounds};
-ghost use Rattle.def_flow.specs.Descent.{IsStartOf};
 
-use def_flow::{MAX_STEP, MAX_TANGLE, Net};
 use def_matching::WGraph;
 use qm_dual::SmallGraph;
 use qm_fraction::{Fraction, least_fraction};
@@ -17,15 +14,11 @@ use std::alloc::{AllocError, Global};
 
 /// How many searches the matching of the next round needs, once its first dual is led to that of a least fractional
 /// matching, where it is: each matches two vertices that no tight edge matched.
-pub(crate) fn searches_left(alloc: Global, net: &Net, descent: &Descent) -> Result<u64, AllocError>
-    requires bounds { IsWithinBounds (network net.now) }
-    requires tangle { tangle_number (network net.now) ≤ MAX_TANGLE }
-    requires start { IsStartOf (network net.now) descent.now.x.items }
-    requires step { (1 ≤ descent.now.step) × (descent.now.step ≤ MAX_STEP) }
-{
+pub(crate) fn searches_left(alloc: Global, descent: &Descent) -> Result<u64, AllocError> {
+    let net = &descent.net;
     let gadget = graph_of(alloc, net, &descent.x, descent.step)?;
     let known = matching_of(alloc, net, &gadget, &descent.x)?;
-    let wish = first_wishes(alloc, net, &gadget, &descent.prices)?;
+    let wish = first_wishes(alloc, net.whole, &gadget, &descent.prices)?;
     let graph = SmallGraph {
         whole: &gadget.graph,
     };
@@ -51,12 +44,9 @@ pub(crate) fn searches_left(alloc: Global, net: &Net, descent: &Descent) -> Resu
     Ok(left as u64 / 2)
 }
 
-/// How far a list that a descent may start from is from what is wanted.
-pub(crate) fn deviation_of(net: &Net, x: &[u64]) -> i128
-    requires bounds { IsWithinBounds (network net.now) }
-    requires start { IsStartOf (network net.now) x.now }
-{
-    deviation(net, x)
+/// How far the list of a descent is from what is wanted.
+pub(crate) fn deviation_of(descent: &Descent) -> i128 {
+    deviation(descent.net.whole, &descent.x)
 }
 
 /// Matches an edge that is tight and whose ends are not matched.

@@ -1,11 +1,6 @@
 //! The rounds of a descent, counted and timed.
 
-ghost use Rattle.std.specs.Prelude.{◌≤◌, OnOk};
-ghost use Rattle.def_flow.specs.Network.{network, tangle_number, IsWithinBounds};
-ghost use Rattle.def_flow.specs.Descent.{IsStartOf};
-
 use crate::left::searches_left;
-use def_flow::{MAX_STEP, MAX_TANGLE, Net};
 use qm_solve::{Descent, turn};
 use std::io;
 use std::time::{Duration, Instant};
@@ -21,19 +16,13 @@ pub(crate) struct Rounds {
 }
 
 /// Turns a descent until its list is least.
-pub(crate) fn descend(rt: &HostRuntime, net: &Net, descent: &mut Descent) -> io::Result<Rounds>
-    requires bounds { IsWithinBounds (network net.now) }
-    requires tangle { tangle_number (network net.now) ≤ MAX_TANGLE }
-    requires start { IsStartOf (network net.now) descent.old.x.items }
-    requires step { (1 ≤ descent.old.step) × (descent.old.step ≤ MAX_STEP) }
-    ensures { OnOk result (IsStartOf (network net.now) descent.new.x.items) }
-{
+pub(crate) fn descend(rt: &HostRuntime, descent: &mut Descent) -> io::Result<Rounds> {
     let (mut count, mut left, mut turning) = (0u64, 0u64, Duration::ZERO);
     loop {
         count = count.saturating_add(1);
-        left = left.saturating_add(searches_left(rt.alloc(), net, descent)?);
+        left = left.saturating_add(searches_left(rt.alloc(), descent)?);
         let begun = Instant::now(rt)?;
-        let found = turn(rt.alloc(), net, descent)?;
+        let found = turn(rt.alloc(), descent)?;
         turning = turning.saturating_add(begun.elapsed(rt)?);
         if let Some(dual) = found {
             return Ok(Rounds {

@@ -1,16 +1,16 @@
 //! Work on one network: its matching graph, and the verdict on duals over it.
 
 ghost use Rattle.std.specs.Prelude.{◌≤◌};
-ghost use Rattle.def_flow.specs.Network.{network, tangle_number, IsWithinBounds};
+ghost use Rattle.def_flow.specs.Network.{network, tangle_number};
 ghost use Rattle.def_flow.specs.Admissible.{entries, IsAdmissible};
 ghost use Rattle.def_flow.specs.Admissible.{AreNetLengths};
 
 use crate::network::{lengths, network as measured};
 use crate::sets::{Shape, dual_of};
-use def_flow::{MAX_TANGLE, Net};
+use def_flow::MAX_TANGLE;
 use qm_dual::{SmallGraph, dual_ok};
 use qm_gadget::graph_of;
-use qm_net::{admissible, are_lengths, is_within_bounds, tangle_of};
+use qm_net::{BoundedNet, admissible, are_lengths, is_within_bounds, tangle_of};
 use std::alloc::{AllocError, Global};
 use std::io;
 use std::process::ExitCode;
@@ -31,6 +31,7 @@ pub(crate) fn tell_work(rt: &HostRuntime, name: &str, times: u32) -> io::Result<
     if tangle_of(rt.alloc(), &net)? > u128::from(MAX_TANGLE) {
         return Ok(ExitCode::from(5));
     }
+    let net = BoundedNet { whole: &net };
     let told = run(rt.alloc(), &net, &x, task_named(name), times)?;
     println!(rt; "{told}")?;
     Ok(ExitCode::SUCCESS)
@@ -53,11 +54,16 @@ enum Task {
 }
 
 /// Does a task as often as is asked, and tells what came of it.
-fn run(alloc: Global, net: &Net, x: &[u64], task: Task, times: u32) -> Result<String, AllocError>
-    requires bounds { IsWithinBounds (network net.now) }
-    requires lengths { AreNetLengths net.now.arcs.items x.now }
-    requires admissible { IsAdmissible (network net.now) (entries x.now) }
-    requires tangle { tangle_number (network net.now) ≤ MAX_TANGLE }
+fn run(
+    alloc: Global,
+    net: &BoundedNet,
+    x: &[u64],
+    task: Task,
+    times: u32,
+) -> Result<String, AllocError>
+    requires lengths { AreNetLengths net.now.whole.now.arcs.items x.now }
+    requires admissible { IsAdmissible (network net.now.whole.now) (entries x.now) }
+    requires tangle { tangle_number (network net.now.whole.now) ≤ MAX_TANGLE }
 {
     match task {
         Task::Graph => build(alloc, net, x, times),
@@ -76,11 +82,10 @@ fn run(alloc: Global, net: &Net, x: &[u64], task: Task, times: u32) -> Result<St
 }
 
 /// Builds the matching graph, and tells how many vertices and edges it has.
-fn build(alloc: Global, net: &Net, x: &[u64], times: u32) -> Result<String, AllocError>
-    requires bounds { IsWithinBounds (network net.now) }
-    requires lengths { AreNetLengths net.now.arcs.items x.now }
-    requires admissible { IsAdmissible (network net.now) (entries x.now) }
-    requires tangle { tangle_number (network net.now) ≤ MAX_TANGLE }
+fn build(alloc: Global, net: &BoundedNet, x: &[u64], times: u32) -> Result<String, AllocError>
+    requires lengths { AreNetLengths net.now.whole.now.arcs.items x.now }
+    requires admissible { IsAdmissible (network net.now.whole.now) (entries x.now) }
+    requires tangle { tangle_number (network net.now.whole.now) ≤ MAX_TANGLE }
 {
     let mut vertices = 0;
     let mut edges = 0;

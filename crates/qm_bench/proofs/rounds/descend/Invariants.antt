@@ -1,13 +1,9 @@
-use Rattle.std.proofs.Common.{◌+◌, ◌≤◌}
-use Rattle.def_flow.specs.{Network.network, Admissible.deviation, Admissible.entries, Descent.IsStartOf}
+use Rattle.std.proofs.Common.{◌≡◌, ◌+◌}
+use Rattle.def_flow.specs.{Network.network, Admissible.deviation, Admissible.entries}
 use Rattle.qm_bench.proofs.rounds.descend.Given as goal
 
 abbrev pub invariant-loop-left : goal.invariant-loop-left
-invariant-loop-left l = record {
-  start : IsStartOf (network l.net) l.descent.x.items;
-  low : 1 ≤ l.descent.step;
-  high : l.descent.step ≤ 4096;
-}
+invariant-loop-left l = l.descent.net.whole.now ≡ l.initial.descent.net.whole.now
 
 abbrev pub decreases-loop-left : goal.decreases-loop-left
-decreases-loop-left l = deviation (network l.net) (entries l.descent.x.items) + l.descent.step
+decreases-loop-left l = deviation (network l.descent.net.whole.now) (entries l.descent.x.items) + l.descent.step
