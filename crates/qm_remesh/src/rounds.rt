@@ -21,6 +21,7 @@ use def_flow::{Cert, Net};
 use def_remesh::{Kept, LayoutFail, StitchFail};
 use qm_layoutnet::with_rises;
 use qm_metric::fit_settings;
+use qm_net::BoundedNet;
 use qm_stages::{CutMesh, plan_over, rises_over};
 use qm_write::Remesh;
 use std::alloc::{AllocError, Global};
@@ -111,7 +112,8 @@ fn next_round(alloc: Global, cut: &CutMesh, fit: &Fit, led: Led) -> Result<Led, 
     ensures risen { IfOk result (λ next. room_of next.net.arcs.items < room_of led.net.arcs.items) }
 {
     let Led { rounds, net, cert } = led;
-    let prices = prices_of(alloc, &net, &cert.x)?;
+    let bounded = BoundedNet { whole: &net };
+    let prices = prices_of(alloc, &bounded, &cert.x)?;
     let rises = rises_over(alloc, cut, &cert.x, &prices)?;
     let higher = with_rises(net, &rises);
     let next = solve_fit(alloc, cut, fit, &higher)?;

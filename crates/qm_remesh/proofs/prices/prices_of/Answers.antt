@@ -1,9 +1,9 @@
-use Rattle.std.proofs.Common.{◌≡◌, ◌+◌, ◌<◌, ◌∷◌, ◌++◌, [], ℕ, List, None, false, below_more, length, ◌∙◌, ap, arith}
+use Rattle.std.proofs.Common.{◌≡◌, ◌+◌, ◌∷◌, ◌++◌, [], ℕ, List, below_more, ◌∙◌, ap, arith}
 use Rattle.std.proofs.Common.{pos, rules, w64}
 use Rattle.std.proofs.lemmas.Int.{to_z-of_z}
-use Rattle.std.proofs.lemmas.List.{get_or_append_left, get_or_default, get_or_push, length_push}
+use Rattle.std.proofs.lemmas.List.{get_or_append_left, get_or_push, length_push}
 use Rattle.std.specs.Prelude.{slice_index, slice_index_or, ℤ}
-use Rattle.def_flow.specs.{Network.arc_at, Network.network, Network.Network, declared.net.Arc.Arc}
+use Rattle.def_flow.specs.{Network.arc_at, Network.network, Network.Network}
 use Rattle.qm_remesh.specs.Rounds.{price_at, ArePrices}
 use Rattle.qm_remesh.proofs.prices.prices_of.Goals as goal
 
@@ -18,16 +18,8 @@ prices_more net xs n prices one are is = record {
       (get_or_push prices one (pos 0) n are.long ∙ is);
 }
 
-abbrev no_arc : Arc
-no_arc = record { left = record { node = 0; plus = false }; right = None; old = 0; weight = 0; floor = 0 }
-
 pub loop-k-preserved : goal.loop-k-preserved
 loop-k-preserved c =
-    let low : c.loop-k.k < length c.args.net.now.arcs.items =
-    omega (arith, c.loop-k-test.true, ap length c.deref-arc-items.ensures.value) in
-    let here : slice_index_or c.deref-arc-items.result.now c.loop-k.k no_arc
-    ≡ arc_at c.args.net.now.arcs.items c.loop-k.k =
-    cc (c.deref-arc-items.ensures.value, get_or_default c.args.net.now.arcs.items c.loop-k.k no_arc _ low) in
     rw c.in_ok-push.ensures.items
-    (prices_more (network c.args.net.now) c.args.x.now c.loop-k.k c.loop-k.prices.items _ c.loop-k.invariant
-    (cc (to_z-of_z w64 c.price_of.result (search rules), c.price_of.ensures, here)))
+    (prices_more (network c.args.net.now.whole.now) c.args.x.now c.loop-k.k c.loop-k.prices.items _ c.loop-k.invariant
+    (to_z-of_z w64 c.price_of.result (search rules) ∙ c.price_of.ensures))

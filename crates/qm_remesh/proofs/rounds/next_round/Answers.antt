@@ -17,11 +17,13 @@ before : (c : After-deref) → IsNetWith c.requires.led.1.wish c.args.cut.now.pl
     (floors_behind c.args.led.rounds.items (given_floors (fit_settings c.args.fit.now))) (network c.args.led.net)
 before c = net_behind c.requires.led.1 c.requires.led.2
 
-pub prices_of-requires-clause-bounds : goal.prices_of-requires-clause-bounds
-prices_of-requires-clause-bounds c = (before (goal.at.prices_of-requires-clause-bounds c).After-deref).bounds
+pub invariant_of-bounded : goal.invariant_of-bounded
+invariant_of-bounded c = record {
+  bounds = (net_behind c.requires.led.1 c.requires.led.2).bounds;
+}
 
-pub prices_of-requires-clause-lengths : goal.prices_of-requires-clause-lengths
-prices_of-requires-clause-lengths c = rw c.deref.ensures.value c.requires.led.2.solved.lengths
+pub prices_of-requires : goal.prices_of-requires
+prices_of-requires c = rw c.deref.ensures.value c.requires.led.2.solved.lengths
 
 pub rises_over-requires-clause-prices : goal.rises_over-requires-clause-prices
 rises_over-requires-clause-prices c =
