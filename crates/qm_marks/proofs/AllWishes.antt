@@ -1,17 +1,15 @@
 -- Wishes line by line: what is known after some lines of a text.
-use Rattle.std.proofs.Common.{◌≡◌, ℕ, ◌+◌, ◌-◌, ◌<◌, ◌≤◌, Bool, true, false, cond, List, [], ◌∷◌, ◌++◌, codes, length}
-use Rattle.std.proofs.Common.{map, take, drop, get_or, Ok, Err, refl, sym, ap, subst, ◌∙◌, arith, length-take}
-use Rattle.std.proofs.lemmas.Bool.{false_from_ne_true, true≢false}
+use Rattle.std.proofs.Common.{◌≡◌, ℕ, ◌+◌, ◌-◌, ◌<◌, ◌≤◌, true, false, cond, List, [], ◌∷◌, ◌++◌, codes, length}
+use Rattle.std.proofs.Common.{map, take, drop, get_or, Ok, refl, sym, ap, ◌∙◌, arith, length-take}
+use Rattle.std.proofs.lemmas.{Bool.false_from_ne_true, Bool.true≢false, Slice.Eq.bytes_eq-Decides}
 use Rattle.std.proofs.lemmas.List.{at_drop_more, drop_all, get_or-take, get_or_default, length-map, same_lists}
 use Rattle.std.proofs.lemmas.List.FromFn.{get_or-map-range_with_len, length-range_with_len}
-use Rattle.std.proofs.lemmas.Slice.Eq.{bytes_eq-Decides}
 use Rattle.std.specs.{Prelude.slice_range, List.All, List.range_with_len, Str.bytes_eq}
-use Rattle.def_fit.specs.WishLines.{all_wish_fails, all_wished, edge_wishes, first_or_wishes, is_wish_line, said_fails}
-use Rattle.def_fit.specs.WishLines.{vertex_line_count, wish_fails, wish_or}
-use Rattle.def_fit.specs.WishLines.{wish_words, wished_by, wishes_of, wishes_said, Wished}
-use Rattle.def_fit.specs.declared.fit.TheConstants.{MAX_WISH}
+use Rattle.def_fit.specs.WishLines.{all_wish_fails, all_wished, edge_wishes, is_wish_line, said_fails}
+use Rattle.def_fit.specs.WishLines.{vertex_line_count, wish_fails, wish_or, wish_words, wished_by, wishes_of}
+use Rattle.def_fit.specs.{WishLines.wishes_said, WishLines.Wished, declared.fit.TheConstants.MAX_WISH}
 use Rattle.def_io.specs.{Bytes.Bytes, Bytes.Lines, Lines.lines_of}
-use Rattle.def_marks.specs.{Chains.runs_between, declared.fail.MarkFail.MarkFail}
+use Rattle.def_marks.specs.{Chains.runs_between}
 use Rattle.def_mesh.specs.{Darts.darts, Faces.Faces}
 use Rattle.def_text.specs.FaceSet.{FaceSet}
 use Rattle.qm_marks.specs.Wishing.{pieces_of, TakesWish}
@@ -41,111 +39,62 @@ pub record IsAtWish (soup : FaceSet) (lines : Lines) (all i : ℕ) (list : List 
       ≡ wish_or soup.faces d 1000 (all_wished soup.names lines)
   pub small : (d : ℕ) → d < darts soup.faces → get_or list d 0 ≤ MAX_WISH
 
-module _ (soup : FaceSet) (lines : Lines) (all : ℕ) where
-  pub at_first : (wishes : List ℕ) → length wishes ≡ darts soup.faces
-      → ((d : ℕ) → d < darts soup.faces → get_or wishes d 0 ≡ 1000) → IsAtWish soup lines all 0 wishes
-  at_first wishes long each = record {
-    long = long;
-    fails = refl;
-    wishes = λ d l. ap (λ (n : ℕ). wish_or soup.faces d n (all_wished soup.names lines)) (each d l);
-    small = λ d l. omega (arith, each d l);
-  }
-
-  module _ (i : ℕ) (wishes : List ℕ) (known : IsAtWish soup lines all i wishes) (low : i < length lines) where
-    line : Bytes
+module _ {soup : FaceSet} {lines : Lines} {all i : ℕ} {wishes : List ℕ} (known : IsAtWish soup lines all i wishes) where
+  module _ (low : i < length lines) where
+    abbrev line : Bytes
     line = get_or lines i []
 
-    said : List Wished
-    said = cond (is_wish_line (get_or lines i [])) (wishes_said soup.names (wished_by (wish_words (get_or lines i []))))
-        []
+    abbrev said : List Wished
+    said = cond (is_wish_line line) (wishes_said soup.names (wished_by (wish_words line))) []
 
-    fails_next : all_wish_fails soup all 1 lines ≡ wish_fails soup all (i + 1) (get_or lines i [])
+    fails_next : all_wish_fails soup all 1 lines ≡ wish_fails soup all (i + 1) line
         ++ all_wish_fails soup all (i + 1 + 1) (drop (i + 1) lines)
     fails_next = sym known.fails ∙ at_drop_more (all_wish_fails soup all (i + 1)) lines i [] low
 
     -- A line that is accepted.
-    more : (new : List ℕ) → wish_fails soup all (i + 1) (get_or lines i []) ≡ [] → length new ≡ darts soup.faces
-        → ((d : ℕ) → d < darts soup.faces → get_or new d 0 ≡ wish_or soup.faces d (get_or wishes d 0)
-        (cond (is_wish_line (get_or lines i [])) (wishes_said soup.names (wished_by (wish_words (get_or lines i []))))
-        []))
+    more : (new : List ℕ) → wish_fails soup all (i + 1) line ≡ [] → length new ≡ darts soup.faces
+        → ((d : ℕ) → d < darts soup.faces → get_or new d 0 ≡ wish_or soup.faces d (get_or wishes d 0) said)
         → ((d : ℕ) → d < darts soup.faces → get_or new d 0 ≤ MAX_WISH) → IsAtWish soup lines all (i + 1) new
     more new accepted long each few = record {
       long = long;
-      fails = sym (fails_next ∙ ap (λ (fs : List MarkFail). fs ++ all_wish_fails soup all (i + 1 + 1)
-          (drop (i + 1) lines)) accepted);
-      wishes = λ d l.
-          ap (λ (n : ℕ). wish_or soup.faces d n (all_wished soup.names (drop (i + 1) lines))) (each d l)
-          ∙ sym (wish_or_more soup.faces d (get_or wishes d 0)
-          (cond (is_wish_line (get_or lines i [])) (wishes_said soup.names (wished_by (wish_words (get_or lines i []))))
-          [])
-          (all_wished soup.names (drop (i + 1) lines)))
+      fails = sym (rw accepted at fails_next);
+      wishes = λ d l. rw (each d l) (
+          sym (wish_or_more soup.faces d (get_or wishes d 0) said (all_wished soup.names (drop (i + 1) lines)))
           ∙ sym (at_drop_more (λ (ls : Lines). wish_or soup.faces d (get_or wishes d 0) (all_wished soup.names ls))
-          lines i [] low)
-          ∙ known.wishes d l;
+          lines i [] low) ∙ known.wishes d l);
       small = few;
     }
 
     -- One that wishes for nothing.
-    pub at_other : bytes_eq (take 3 (get_or lines i [])) (codes "#w ") ≡ false → IsAtWish soup lines all (i + 1) wishes
+    pub at_other : bytes_eq (take 3 line) (codes "#w ") ≡ false → IsAtWish soup lines all (i + 1) wishes
     at_other other =
-        let off : is_wish_line (get_or lines i []) ≡ false = other_line (get_or lines i []) other in
-        more wishes (ap (λ (b : Bool). cond b (said_fails soup all (i + 1) (wished_by (wish_words (get_or lines i []))))
-        []) off) known.long
-        (λ d l. ap
-        (λ (b : Bool). wish_or soup.faces d (get_or wishes d 0)
-        (cond b (wishes_said soup.names (wished_by (wish_words (get_or lines i [])))) [])) (sym off))
-        known.small
+        let off : is_wish_line line ≡ false = other_line line other in
+        more wishes (rw off refl) known.long (λ d l. rw off refl) known.small
 
-    module _ (begins : bytes_eq (take 3 (get_or lines i [])) (codes "#w ") ≡ true) (rest : Bytes) (behind : rest
-        ≡ drop 3 (get_or lines i [])) where
-      on : is_wish_line (get_or lines i []) ≡ true
-      on = wishes_line (get_or lines i []) begins
-
-      says : wish_fails soup all (i + 1) (get_or lines i []) ≡ said_fails soup all (i + 1) (wished_by (pieces_of rest))
-      says =
-          ap (λ (b : Bool). cond b (said_fails soup all (i + 1) (wished_by (wish_words (get_or lines i [])))) []) on
-          ∙ ap (λ (r : Bytes). said_fails soup all (i + 1) (wished_by (pieces_of r))) (sym behind)
+    module _ (begins : bytes_eq (take 3 line) (codes "#w ") ≡ true) {rest : Bytes} (behind : rest ≡ drop 3 line) where
+      on : is_wish_line line ≡ true
+      on = wishes_line line begins
 
       -- One that is taken.
       pub at_wish : (new : List ℕ) → length new ≡ darts soup.faces
           → TakesWish soup all (i + 1) (pieces_of rest) wishes new → IsAtWish soup lines all (i + 1) new
       at_wish new long took =
-          more new (says ∙ took.accepted) long
-          (λ d l. took.wishes d l
-          ∙ ap (λ (r : Bytes). wish_or soup.faces d (get_or wishes d 0)
-          (wishes_said soup.names (wished_by (pieces_of r)))) behind
-          ∙ ap
-          (λ (b : Bool). wish_or soup.faces d (get_or wishes d 0)
-          (cond b (wishes_said soup.names (wished_by (wish_words (get_or lines i [])))) [])) (sym on))
+          let says : wish_fails soup all (i + 1) line ≡ said_fails soup all (i + 1) (wished_by (pieces_of rest)) =
+          rw (on, behind) refl in
+          more new (says ∙ took.accepted) long (λ d l. rw (on, ← behind) (took.wishes d l))
           (λ d l. took.small d l (known.small d l))
 
-      -- One that is refused.
-      pub refused_wish : (fail : MarkFail) → said_fails soup all (i + 1) (wished_by (pieces_of rest)) ≡ fail ∷ []
-          → all ≡ vertex_line_count lines
-          → wishes_of soup lines ≡ Err fail
-      refused_wish fail why count =
-          (λ j. first_or_wishes (all_wish_fails soup (sym count j) 1 lines)
-          (edge_wishes soup.faces (all_wished soup.names lines)))
-          ∙ ap (λ (fs : List MarkFail). first_or_wishes fs (edge_wishes soup.faces (all_wished soup.names lines)))
-          (fails_next ∙ ap (λ (fs : List MarkFail). fs ++ all_wish_fails soup all (i + 1 + 1) (drop (i + 1) lines))
-          (says ∙ why))
-
   -- Behind the last line.
-  module _ (i : ℕ) (wishes : List ℕ) (known : IsAtWish soup lines all i wishes) (high : length lines ≤ i) where
+  module _ (high : length lines ≤ i) where
     none_left : drop i lines ≡ []
     none_left = drop_all i lines high
 
     each : (d : ℕ) → d < darts soup.faces → get_or wishes d 0 ≡ wish_or soup.faces d 1000 (all_wished soup.names lines)
-    each d l = ap (λ (ls : Lines). wish_or soup.faces d (get_or wishes d 0) (all_wished soup.names ls)) (sym none_left)
-        ∙ known.wishes d l
+    each d l = rw none_left at (known.wishes d l)
 
     pub at_last : all ≡ vertex_line_count lines → wishes_of soup lines ≡ Ok wishes
     at_last count =
-        (λ j. first_or_wishes (all_wish_fails soup (sym count j) 1 lines)
-        (edge_wishes soup.faces (all_wished soup.names lines)))
-        ∙ ap (λ (fs : List MarkFail). first_or_wishes fs (edge_wishes soup.faces (all_wished soup.names lines)))
-        (sym known.fails ∙ ap (all_wish_fails soup all (i + 1)) none_left)
-        ∙ ap (λ (ws : List ℕ). Ok ws) listed
+        rw (← count, ← known.fails, none_left, listed) refl
       where
         listed : edge_wishes soup.faces (all_wished soup.names lines) ≡ wishes
         listed =
@@ -158,12 +107,8 @@ module _ (soup : FaceSet) (lines : Lines) (all : ℕ) where
             get_or-map-range_with_len f 0 (darts soup.faces) k k d low (omega arith)
             ∙ sym (get_or_default wishes k d 0 (omega (arith, low, known.long)) ∙ each k low))
 
-    pub at_long : length wishes ≡ darts soup.faces
-    at_long = known.long
-
     pub at_small : All (λ wish. wish ≤ MAX_WISH) wishes
-    at_small k d l = subst (λ (n : ℕ). n ≤ MAX_WISH) (get_or_default wishes k 0 d l)
-        (known.small k (omega (arith, l, known.long)))
+    at_small k d l = rw (← get_or_default wishes k 0 d l) (known.small k (omega (arith, l, known.long)))
 
 -- All lines before one, and the list of one number.
 pub first_lines : (lines : Lines) (after : ℕ) → slice_range lines 0 after ≡ take after lines

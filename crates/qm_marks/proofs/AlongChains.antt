@@ -1,11 +1,10 @@
 -- The marks along chains of edges are those of inner edges, equal at twins.
 use Rattle.std.proofs.Common.{◌≡◌, ℕ, ◌+◌, ◌<◌, Bool, false, eqb, ◌&&◌, ◌||◌, List, Option, Some, is_some, sym, ap, ◌∙◌}
-use Rattle.std.proofs.Common.{arith}
-use Rattle.std.proofs.lemmas.List.{length-map}
+use Rattle.std.proofs.{Common.arith, lemmas.List.length-map}
 use Rattle.std.proofs.lemmas.List.FromFn.{length-range_with_len, get_or-map-range_with_len}
 use Rattle.std.specs.List.{list_any}
-use Rattle.def_mesh.specs.{Faces.Faces, Darts.IsTwin, Darts.all_darts, Darts.darts, Darts.from_of, Darts.to_of}
-use Rattle.def_mesh.specs.{Darts.twin_of, Manifold.IsManifold}
+use Rattle.def_mesh.specs.{Faces.Faces, Manifold.IsManifold}
+use Rattle.def_mesh.specs.Darts.{IsTwin, all_darts, darts, from_of, to_of, twin_of}
 use Rattle.def_cut.specs.FullCut.{is_on}
 use Rattle.def_marks.specs.Chains.{is_along_chains, link_at, marks_along, runs_along, runs_between, step_places}
 use Rattle.def_feature.specs.Marks.{AreMarks}

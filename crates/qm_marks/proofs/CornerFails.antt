@@ -1,12 +1,11 @@
 -- Why the corners of a line are refused, by what is read of them.
 use Rattle.std.proofs.Common.{◌≡◌, ℕ, ltb, Bool, true, false, not, ◌||◌, List, [], ◌∷◌, length, map, refl, sym, ap, ◌∙◌}
 use Rattle.std.proofs.Math.Bool.{or-true}
-use Rattle.std.proofs.lemmas.Bool.{or_parts}
-use Rattle.std.proofs.lemmas.List.{length-map}
+use Rattle.std.proofs.lemmas.{Bool.or_parts, List.length-map}
 use Rattle.std.specs.List.{list_all, list_any}
 use Rattle.def_text.specs.{FaceSet.FaceSet, Types.Words, declared.index.Index.Index}
-use Rattle.def_marks.specs.{Chains.is_chain, Lines.corner_fails, Lines.corner_index, Lines.is_line_corner}
-use Rattle.def_marks.specs.Lines.{is_malformed, is_nothing, named_chain, named_vertex}
+use Rattle.def_marks.specs.{Chains.is_chain, Lines.named_vertex}
+use Rattle.def_marks.specs.Lines.{corner_fails, corner_index, is_line_corner, is_malformed, is_nothing, named_chain}
 use Rattle.def_marks.specs.declared.fail.MarkFail.TheVariants.{NotEdge, Range}
 
 module _ (all before : ℕ) (corners : Words) (right : Bool) (indices : List Index) (is : right

@@ -3,9 +3,8 @@ use Rattle.std.proofs.Common.{◌≡◌, ◌≢◌, ◌⊎◌, ℕ, ◌+◌, ◌
 use Rattle.std.proofs.Common.{length, get_or, set, Some, None, is_some, sym, ap, ◌∙◌, refl, inl, inr, arith}
 use Rattle.std.proofs.Math.Bool.{and-true, or-false, or_comm}
 use Rattle.std.proofs.lemmas.Bool.{and_from, and_parts, cases_eq, eq-eqb, eqb-true, false≢true, false_from_ne_true}
-use Rattle.std.proofs.lemmas.Bool.{or_cases, or_left, or_right}
+use Rattle.std.proofs.lemmas.{Bool.or_cases, Bool.or_left, Bool.or_right, Option.none-some}
 use Rattle.std.proofs.lemmas.List.{get_or-set_other, get_or-set_same, length-set}
-use Rattle.std.proofs.lemmas.Option.{none-some}
 use Rattle.std.proofs.lemmas.List.Folds.{list_all-append, list_all_at, list_any-append}
 use Rattle.std.proofs.lemmas.List.FromFn.{get_or-range_with_len, length-range_with_len}
 use Rattle.std.specs.List.{list_all, list_any, range_with_len}
@@ -32,7 +31,7 @@ module _ (faces : Faces) (m : IsManifold faces) where
   pub mark_none : (d : ℕ) (marks : List Bool) → d < darts faces → twin_of faces d ≡ None → (x : ℕ) → x < darts faces
       → is_on marks x ≡ (is_on marks x
       || (is_some (twin_of faces x) && runs_between faces (from_of faces d) (to_of faces d) x))
-  mark_none d marks ld none x lx = sym (ap (λ b. is_on marks x || b) off ∙ or-false (is_on marks x))
+  mark_none d marks ld none x lx = rw (off, or-false (is_on marks x)) refl
     where
       refuted : (x ≡ d) ⊎ IsTwin faces d x → is_some (twin_of faces x) ≡ true → ⊥
       refuted (inl e) some = false≢true (sym (ap is_some none) ∙ (ap (λ y. is_some (twin_of faces y)) (sym e) ∙ some))
@@ -91,33 +90,29 @@ module _ (faces : Faces) (m : IsManifold faces) where
           let off : (is_some (twin_of faces x) && runs_between faces (from_of faces d) (to_of faces d) x) ≡ false =
           false_from_ne_true _ (λ on. refuted ne other
           (on_edge d x ld lx (and_parts (is_some (twin_of faces x)) _ on).1)) in
-          get_or-set_other (set marks d true) t x true false ne ∙ (get_or-set_other marks d x true false other
-          ∙ sym (ap (λ b. is_on marks x || b) off ∙ or-false (is_on marks x)))
+          get_or-set_other (set marks d true) t x true false ne ∙ get_or-set_other marks d x true false other
+          ∙ rw (off, or-false (is_on marks x)) refl
 
 -- A dart between u and v has the darts of its edge between its own ends.
 pub same_edge : (faces : Faces) (u v d x : ℕ) → runs_between faces u v d ≡ true
     → runs_between faces (from_of faces d) (to_of faces d) x ≡ runs_between faces u v x
 same_edge faces u v d x on = elim (or_cases _ _ on) [
   | inl a ↦ let p : (eqb (from_of faces d) u ≡ true) × (eqb (to_of faces d) v ≡ true) = and_parts _ _ a in
-      ap (λ y. runs_between faces y (to_of faces d) x) (eqb-true _ _ p.0)
-      ∙ ap (λ y. runs_between faces u y x) (eqb-true _ _ p.1)
+      rw (eqb-true _ _ p.0, eqb-true _ _ p.1) refl
   | inr b ↦ let p : (eqb (from_of faces d) v ≡ true) × (eqb (to_of faces d) u ≡ true) = and_parts _ _ b in
-      ap (λ y. runs_between faces y (to_of faces d) x) (eqb-true _ _ p.0)
-      ∙ (ap (λ y. runs_between faces v y x) (eqb-true _ _ p.1)
-      ∙ or_comm (eqb (from_of faces x) v && eqb (to_of faces x) u) (eqb (from_of faces x) u && eqb (to_of faces x) v))
+      rw (eqb-true _ _ p.0, eqb-true _ _ p.1)
+      (or_comm (eqb (from_of faces x) v && eqb (to_of faces x) u) (eqb (from_of faces x) u && eqb (to_of faces x) v))
 ]
 
 any_more : (p : ℕ → Bool) (n : ℕ) → list_any p (range_with_len 0 (n + 1)) ≡ (list_any p (range_with_len 0 n) || p n)
-any_more p n = ap (list_any p) (range_more n) ∙ (list_any-append p (range_with_len 0 n) (n ∷ [])
-    ∙ ap (λ b. list_any p (range_with_len 0 n) || b) (or-false (p n)))
+any_more p n = rw (range_more n, list_any-append p (range_with_len 0 n) (n ∷ []), or-false (p n)) refl
 
 -- One step more of a chain.
 pub step_more : (now old : Bool) (some : Bool) (p : ℕ → Bool) (k : ℕ) (mid : Bool)
     → mid ≡ (old || (some && list_any p (range_with_len 0 k)))
     → now ≡ (mid || (some && p k)) → now ≡ (old || (some && list_any p (range_with_len 0 (k + 1))))
 step_more now old some p k mid before step =
-    step ∙ (ap (λ b. b || (some && p k)) before ∙ (merged old some (list_any p (range_with_len 0 k)) (p k)
-    ∙ ap (λ b. old || (some && b)) (sym (any_more p k))))
+    rw (step, before, any_more p k) (merged old some (list_any p (range_with_len 0 k)) (p k))
   where
     merged : (o s a b : Bool) → ((o || (s && a)) || (s && b)) ≡ (o || (s && (a || b)))
     merged true s a b = refl
@@ -133,8 +128,7 @@ pub record IsChainTo (faces : Faces) (chain : List ℕ) (old now : List Bool) (n
       && list_any (λ k. runs_between faces (link_at chain k) (link_at chain (k + 1)) d) (range_with_len 0 n)))
 
 all_more : (p : ℕ → Bool) (n : ℕ) → list_all p (range_with_len 0 (n + 1)) ≡ (list_all p (range_with_len 0 n) && p n)
-all_more p n = ap (list_all p) (range_more n) ∙ (list_all-append p (range_with_len 0 n) (n ∷ [])
-    ∙ ap (λ b. list_all p (range_with_len 0 n) && b) (and-true (p n)))
+all_more p n = rw (range_more n, list_all-append p (range_with_len 0 n) (n ∷ []), and-true (p n)) refl
 
 pub chain_more : (faces : Faces) (chain : List ℕ) (old now new : List Bool) (n : ℕ) → IsChainTo faces chain old now n
     → length new ≡ darts faces

@@ -1,6 +1,6 @@
 -- Darts in a table of keys by their ends.
-use Rattle.std.proofs.Common.{◌≡◌, ◌≢◌, ℕ, ◌+◌, ◌-◌, ◌*◌, ◌/◌, ◌%◌, ◌^◌, ◌<◌, ◌≤◌, Bool, true, false, List, [], ◌∷◌}
-use Rattle.std.proofs.Common.{◌++◌, cond, length, map, get_or, sym, subst, ap, ◌∙◌, arith}
+use Rattle.std.proofs.Common.{◌≡◌, ◌≢◌, ℕ, ◌+◌, ◌-◌, ◌*◌, ◌/◌, ◌%◌, ◌^◌, ◌<◌, ◌≤◌, true, false, List, [], ◌∷◌, refl}
+use Rattle.std.proofs.Common.{◌++◌, length, map, get_or, sym, subst, ap, ◌∙◌, arith}
 use Rattle.std.proofs.lemmas.List.{append-nil, get_or-map, length-map, map-append}
 use Rattle.std.proofs.lemmas.List.Elements.{at_from_Contains, Contains-get_or}
 use Rattle.std.proofs.lemmas.List.Sorted.{Contains-permutation, IsPermutation-sym}
@@ -28,7 +28,7 @@ sorted_are faces few old keys are moved rising = record { rising = rising; each 
         Contains-permutation keys old (get_or keys k 0) (IsPermutation-sym old keys moved)
         (Contains-get_or keys k 0 l) in
         let at = at_from_Contains (map (dart_key faces) busy) (get_or keys k 0)
-        (subst (λ (xs : List ℕ). Contains xs (get_or keys k 0)) are c) in
+        (rw are at c) in
         by_place at.0 (omega (arith, at.1, length-map busy (dart_key faces))) (at.2 0)
       where
         by_place : (t : ℕ) → t < length busy → get_or (map (dart_key faces) busy) t 0 ≡ get_or keys k 0
@@ -41,12 +41,8 @@ sorted_are faces few old keys are moved rising = record { rising = rising; each 
 
     has : (d : ℕ) → d < darts faces → is_busy faces few d ≡ true → (k : ℕ) × (k < length keys)
         × (get_or keys k 0 ≡ dart_key faces d)
-    has d l on = by_place (place_of (is_busy faces few) 0 (darts faces) d (record {
-      low = omega arith;
-      high =
-          omega arith;
-      passes = on;
-    }))
+    has d l on = by_place (place_of (is_busy faces few) 0 (darts faces) d
+        (record { low = omega arith; high = omega arith; passes = on }))
       where
         by_place : (t : ℕ) × (t < length busy) × (get_or busy t 0 ≡ d) → (k : ℕ) × (k < length keys)
             × (get_or keys k 0 ≡ dart_key faces d)
@@ -95,7 +91,7 @@ module _ (faces : Faces) (few : ℕ) (keys : List ℕ) (are : AreEnds faces few 
           ∙ (sym (ap (λ x. x / 2 ^ 32) is) ∙ (same ∙ key_ends u v 0 (omega arith)))) in
           let dart : get_or keys place 0 % 2 ^ 32 ≡ d = ap (λ x. x % 2 ^ 32) is
           ∙ mod-mul-add (from_of faces d * 2 ^ 32 + to_of faces d) (2 ^ 32) d (omega arith) in
-          subst (λ (x : ℕ). IsBetween faces u v x) (sym dart) (record { low = ld; from = ends.0; to = ends.1 })
+          rw dart (record { low = ld; from = ends.0; to = ends.1 })
 
   -- Where none of these ends is at the least place, no busy dart runs between them.
   pub not_in_table : IsLeastPlace keys (key_of u v 0) place
@@ -116,15 +112,11 @@ pub keys_on : (faces : Faces) (few d key : ℕ) → is_busy faces few d ≡ true
     → map (dart_key faces) (filter (is_busy faces few) (range_with_len 0 (d + 1)))
     ≡ map (dart_key faces) (filter (is_busy faces few) (range_with_len 0 d)) ++ key ∷ []
 keys_on faces few d key on is =
-    ap (map (dart_key faces)) (filter_range_more (is_busy faces few) d
-    ∙ ap (λ (b : Bool). filter (is_busy faces few) (range_with_len 0 d) ++ cond b (d ∷ []) []) on)
-    ∙ (map-append (dart_key faces) (filter (is_busy faces few) (range_with_len 0 d)) (d ∷ [])
-    ∙ ap (λ k. map (dart_key faces) (filter (is_busy faces few) (range_with_len 0 d)) ++ k ∷ []) (sym is))
+    rw (filter_range_more (is_busy faces few) d, on, is)
+    (map-append (dart_key faces) (filter (is_busy faces few) (range_with_len 0 d)) (d ∷ []))
 
 pub keys_off : (faces : Faces) (few d : ℕ) → is_busy faces few d ≡ false
     → map (dart_key faces) (filter (is_busy faces few) (range_with_len 0 (d + 1)))
     ≡ map (dart_key faces) (filter (is_busy faces few) (range_with_len 0 d))
 keys_off faces few d off =
-    ap (map (dart_key faces)) (filter_range_more (is_busy faces few) d
-    ∙ (ap (λ (b : Bool). filter (is_busy faces few) (range_with_len 0 d) ++ cond b (d ∷ []) []) off
-    ∙ append-nil (filter (is_busy faces few) (range_with_len 0 d))))
+    rw (filter_range_more (is_busy faces few) d, off, append-nil (filter (is_busy faces few) (range_with_len 0 d))) refl

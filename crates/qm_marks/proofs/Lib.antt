@@ -9,4 +9,3 @@ mod LineMarks
 mod NamePlaces
 mod OneWish
 mod Pieces
-mod Ranges

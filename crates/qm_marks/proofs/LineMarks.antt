@@ -1,8 +1,7 @@
 -- Marks line by line: what is known after some lines of a text.
-use Rattle.std.proofs.Common.{◌≡◌, ℕ, ◌+◌, ◌<◌, ◌≤◌, Bool, true, false, cond, ◌&&◌, ◌||◌, List, [], ◌∷◌, ◌++◌, length}
-use Rattle.std.proofs.Common.{map, is_some, sym, subst, ap, ◌∙◌, refl, arith, Ok, Err}
-use Rattle.std.proofs.lemmas.List.{get_or_default, length-map, same_lists}
-use Rattle.std.proofs.lemmas.List.FromFn.{length-range_with_len}
+use Rattle.std.proofs.Common.{◌≡◌, ℕ, ◌+◌, ◌<◌, ◌≤◌, Bool, true, false, cond, ◌&&◌, ◌||◌, List, [], ◌∷◌, length, map}
+use Rattle.std.proofs.Common.{is_some, sym, ap, ◌∙◌, refl, arith, Ok, Err}
+use Rattle.std.proofs.lemmas.{List.get_or_default, List.length-map, List.same_lists, List.FromFn.length-range_with_len}
 use Rattle.std.proofs.lemmas.List.Sums.{sum_by-cons}
 use Rattle.std.specs.{Prelude.slice_range, List.count_by, List.flat_map, List.list_any}
 use Rattle.def_cut.specs.FullCut.{is_on}
@@ -11,14 +10,14 @@ use Rattle.def_mesh.specs.{Faces.Faces, Darts.all_darts, Darts.darts, Darts.twin
 use Rattle.def_feature.specs.Marks.{AreMarks}
 use Rattle.def_text.specs.{FaceSet.FaceSet, Logical.Logical, Logical.logical_lines, Reading.is_vertex_line}
 use Rattle.def_text.specs.declared.limits.TheConstants.{MAX_V_LINES}
-use Rattle.def_marks.specs.{Chains.is_along_chains, Chains.marks_along, Chains.runs_along, Lines.first_fail}
-use Rattle.def_marks.specs.Lines.{line_chain, line_fails, marks_of, Placed, placed_lines}
-use Rattle.def_marks.specs.{Lines.text_lines, Lines.vertex_lines_in, declared.fail.MarkFail.MarkFail}
+use Rattle.def_marks.specs.{Chains.is_along_chains, Chains.marks_along, Chains.runs_along, Lines.vertex_lines_in}
+use Rattle.def_marks.specs.Lines.{first_fail, line_chain, line_fails, marks_of, Placed, placed_lines, text_lines}
+use Rattle.def_marks.specs.declared.fail.MarkFail.{MarkFail}
 use Rattle.qm_marks.proofs.AlongChains.{mark_along, marks_are}
-use Rattle.qm_marks.proofs.Ranges.{next_lines, range_none, span_within}
+use Rattle.qm_obj.proofs.Ranges.{next_lines, range_none, span_within}
 use Rattle.qm_obj.specs.{Ahead.span, Lines.first_logical}
-use Rattle.qm_marks.specs.{Keys.AreEnds, declared.ends.TheConstants.FEW, Reading.IsBegun, Reading.IsReading}
-use Rattle.qm_marks.specs.{Reading.line_at, Reading.placed_at, Reading.TookLine, declared.lines.MarkReader.MarkReader}
+use Rattle.qm_marks.specs.Reading.{IsBegun, IsReading, line_at, placed_at, TookLine}
+use Rattle.qm_marks.specs.declared.lines.MarkReader.{MarkReader}
 
 -- Whether dart d runs along the chain of some line.
 abbrev pub is_said : (soup : FaceSet) (placed : List Placed) (d : ℕ) → Bool
@@ -61,47 +60,39 @@ module _ (soup : FaceSet) (mesh : Faces) where
         ∙ (λ i. is_some (twin_of soup.faces d) && is_said soup (placed_lines (begun.all_is i) (begun.none i) lines) d);
   }
 
-  module _ (all : List Placed) (line : Logical) (rest : List Logical) (old : MarkReader)
+module _ {soup : FaceSet} {mesh : Faces} where
+  module _ {all : List Placed} {line : Logical} {rest : List Logical} {old : MarkReader}
       (known : IsLeft soup mesh all (line ∷ rest) old) where
     pub room : old.before + vertex_lines_in line ≤ old.all
     room = omega (arith, known.left, count_cons line rest)
 
     -- One line more.
-    pub left_more : (new : MarkReader) → TookLine soup old new line → IsLeft soup mesh all rest new
-    left_more new took = record {
+    pub left_more : {new : MarkReader} → TookLine soup old new line → IsLeft soup mesh all rest new
+    left_more {new} took = record {
       reads = record {
         same = known.reads.same;
-        ends = subst (λ (xs : List ℕ). AreEnds mesh FEW xs) (sym took.same.keys) known.reads.ends;
+        ends = rw took.same.keys known.reads.ends;
         long = took.same.long ∙ ap darts (sym known.reads.same);
         within = omega (arith, took.before, took.same.all, room);
         few = known.reads.few;
       };
       left = omega (arith, known.left, count_cons line rest, took.before, took.same.all);
       fails = (λ i. flat_map (line_fails soup) (placed_lines (took.same.all i) (took.before i) rest))
-          ∙ (sym (ap (λ fails. fails ++ flat_map (line_fails soup)
-          (placed_lines old.all (old.before + vertex_lines_in line) rest)) took.accepted) ∙ known.fails);
+          ∙ (rw took.accepted at known.fails);
       marks = λ d l. (λ i. is_on new.marks.items d
           || (is_some (twin_of soup.faces d) && is_said soup (placed_lines (took.same.all i) (took.before i) rest) d))
-          ∙ (ap (λ b. b || (is_some (twin_of soup.faces d)
-          && is_said soup (placed_lines old.all (old.before + vertex_lines_in line) rest) d))
-          (took.marked d l)
-          ∙ (merged (is_on old.marks.items d) (is_some (twin_of soup.faces d))
+          ∙ rw (took.marked d l) (merged (is_on old.marks.items d) (is_some (twin_of soup.faces d))
           (runs_along soup.faces (line_chain soup (placed_at old.all old.before line)) d)
           (is_said soup (placed_lines old.all (old.before + vertex_lines_in line) rest) d)
-          ∙ known.marks d l));
+          ∙ known.marks d l);
     }
 
     -- A line that is refused is the first one.
     pub left_refused : (fail : MarkFail) → line_fails soup (placed_at old.all old.before line) ≡ fail ∷ []
         → marks_of soup all ≡ Err fail
-    left_refused fail is =
-        let some : flat_map (line_fails soup) all
-        ≡ fail ∷ flat_map (line_fails soup) (placed_lines old.all (old.before + vertex_lines_in line) rest) =
-        sym known.fails ∙ ap (λ fails. fails
-        ++ flat_map (line_fails soup) (placed_lines old.all (old.before + vertex_lines_in line) rest)) is in
-        ap (λ fails. first_fail fails (marks_along soup.faces (map (line_chain soup) all))) some
+    left_refused fail is = rw (← known.fails, is) refl
 
-  module _ (all : List Placed) (reader : MarkReader) (known : IsLeft soup mesh all [] reader) where
+  module _ {all : List Placed} {reader : MarkReader} (known : IsLeft soup mesh all [] reader) where
     long : length reader.marks.items ≡ darts soup.faces
     long = known.reads.long ∙ ap darts known.reads.same
 
@@ -131,11 +122,10 @@ module _ (soup : FaceSet) (mesh : Faces) where
         ∙ ap Ok (sym left_same)
 
 -- What is read of a line is its number and its text.
-pub took_line : (soup : FaceSet) (old new : MarkReader) (line : Logical) (text : List ℕ) → text ≡ line.text
+pub took_line : {soup : FaceSet} {old new : MarkReader} (line : Logical) {text : List ℕ} → text ≡ line.text
     → TookLine soup old new (line_at line.number text) → TookLine soup old new line
-took_line soup old new line text is took =
-    let t : TookLine soup old new (line_at line.number line.text) =
-    subst (λ (xs : List ℕ). TookLine soup old new (line_at line.number xs)) is took in
+took_line line is took =
+    let t = rw is at took in
     record { accepted = t.accepted; same = t.same; before = t.before; marked = t.marked }
 
 pub fails_line : (soup : FaceSet) (all before : ℕ) (line : Logical) (text : List ℕ) → text ≡ line.text
@@ -149,7 +139,7 @@ pub record IsAtLine (soup : FaceSet) (mesh : Faces) (all : Lines) (first i after
   pub left : IsLeft soup mesh (text_lines (logical_lines (first + 1) (slice_range all first after)))
       (logical_lines (i + 1) (slice_range all i after)) reader
 
-module _ (soup : FaceSet) (mesh : Faces) (all : Lines) (first i after : ℕ) (reader : MarkReader)
+module _ {soup : FaceSet} {mesh : Faces} {all : Lines} {first i after : ℕ} {reader : MarkReader}
     (at : IsAtLine soup mesh all first i after reader) where
   module _ (lt : i < after) (within : after ≤ length all) where
     abbrev pub line : Logical
@@ -158,42 +148,32 @@ module _ (soup : FaceSet) (mesh : Faces) (all : Lines) (first i after : ℕ) (re
     ahead : IsLeft soup mesh (text_lines (logical_lines (first + 1) (slice_range all first after)))
         (line ∷ logical_lines (i + span (slice_range all i after) + 1)
         (slice_range all (i + span (slice_range all i after)) after)) reader
-    ahead = subst (λ (ls : List Logical). IsLeft soup mesh
-        (text_lines (logical_lines (first + 1) (slice_range all first after))) ls reader)
-        (next_lines all i after lt within) at.left
+    ahead = rw (← next_lines all i after lt within) at.left
 
     pub at_room : reader.before + vertex_lines_in line ≤ reader.all
-    at_room = room soup mesh _ line _ reader ahead
+    at_room = room ahead
 
     pub at_refused : (fail : MarkFail) → line_fails soup (placed_at reader.all reader.before line) ≡ fail ∷ []
         → marks_of soup (text_lines (logical_lines (first + 1) (slice_range all first after))) ≡ Err fail
-    at_refused fail is = left_refused soup mesh _ line _ reader ahead fail is
+    at_refused fail is = left_refused ahead fail is
 
-    pub at_next : (next : ℕ) (new : MarkReader) → next ≡ i + span (slice_range all i after)
+    pub at_next : {next : ℕ} {new : MarkReader} → next ≡ i + span (slice_range all i after)
         → TookLine soup reader new line → IsAtLine soup mesh all first next after new
-    at_next next new is took = subst (λ (n : ℕ). IsAtLine soup mesh all first n after new) (sym is) (record {
-      within = (span_within all i after lt within).1;
-      left = left_more soup mesh _ line _ reader ahead new took;
-    })
+    at_next is took = rw is (record { within = (span_within all i after lt within).1; left = left_more ahead took })
 
   ends : after ≤ i → IsLeft soup mesh (text_lines (logical_lines (first + 1) (slice_range all first after))) [] reader
   ends past =
       let end : i ≡ after = omega (arith, at.within, past) in
-      let none : slice_range all i after ≡ [] = ap (λ n. slice_range all n after) end ∙ range_none all after in
-      subst (λ (ls : Lines). IsLeft soup mesh (text_lines (logical_lines (first + 1) (slice_range all first after)))
-      (logical_lines (i + 1) ls) reader) none at.left
+      let none : slice_range all i after ≡ [] = rw end (range_none all after) in
+      let left = at.left in rw none at left
 
   pub at_end : after ≤ i → marks_of soup (text_lines (logical_lines (first + 1) (slice_range all first after)))
       ≡ Ok reader.marks.items
-  at_end past = left_none soup mesh _ reader (ends past)
+  at_end past = left_none (ends past)
 
   pub at_inner : after ≤ i → IsManifold mesh → AreMarks mesh reader.marks.items
   at_inner past m =
-      let same = (ends past).reads.same in
-      subst (λ (marks : List Bool). AreMarks mesh marks)
-      (ap (λ (faces : Faces). marks_along faces
-      (map (line_chain soup) (text_lines (logical_lines (first + 1) (slice_range all first after))))) same
-      ∙ sym (left_same soup mesh _ reader (ends past)))
+      rw (left_same (ends past), ← (ends past).reads.same)
       (marks_are mesh (map (line_chain soup) (text_lines (logical_lines (first + 1) (slice_range all first after)))) m)
 
 -- Before the first line.
@@ -204,7 +184,7 @@ pub at_first : (soup : FaceSet) (mesh : Faces) (all : Lines) (first after count 
 at_first soup mesh all first after count reader order same few is begun = record {
   within = order;
   left = left_begun soup mesh (logical_lines (first + 1) (slice_range all first after)) reader same few
-      (subst (λ (n : ℕ). IsBegun mesh n reader) is begun);
+      (rw (← is) begun);
 }
 
 -- The `v` lines before line i are counted.
@@ -214,11 +194,11 @@ pub record IsCounted (all : Lines) (first i after count : ℕ) : Type 0 where
   pub left : count + count_by is_vertex_line (logical_lines (i + 1) (slice_range all i after))
       ≡ count_by is_vertex_line (logical_lines (first + 1) (slice_range all first after))
 
-pub counted_next : (all : Lines) (first i after count next more : ℕ) → i < after → after ≤ length all
+pub counted_next : {all : Lines} {first i after count next more : ℕ} → i < after → after ≤ length all
     → IsCounted all first i after count → next ≡ i + span (slice_range all i after)
     → more ≡ vertex_lines_in (first_logical (i + 1) (slice_range all i after))
     → IsCounted all first next after (count + more)
-counted_next all first i after count next more lt within at is are =
+counted_next {all} {first} {i} {after} {count} {next} {more} lt within at is are =
     let line = first_logical (i + 1) (slice_range all i after) in
     let rest : logical_lines (i + 1) (slice_range all i after)
     ≡ line ∷ logical_lines (next + 1) (slice_range all next after) = rw is (next_lines all i after lt within) in

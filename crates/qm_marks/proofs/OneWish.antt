@@ -1,13 +1,11 @@
 -- What one line wishes, and the wishes at the darts of one edge.
-use Rattle.std.proofs.Common.{◌≡◌, ◌≢◌, ◌⊎◌, ℕ, ◌-◌, ◌^◌, ◌<◌, ◌≤◌, Bool, true, false, ◌||◌, cond, List}
-use Rattle.std.proofs.Common.{[], ◌∷◌, length, get_or, set, Option, Some, None, refl, sym, ap, subst, ◌∙◌, inl}
-use Rattle.std.proofs.Common.{inr, arith}
-use Rattle.std.proofs.lemmas.Bool.{and_from, cases_eq, cases_lt, eq-eqb, false_from_ne_true, le-ltb, lt-ltb}
-use Rattle.std.proofs.lemmas.Bool.{or_left, or_right, true≢false}
+use Rattle.std.proofs.Common.{◌≡◌, ◌≢◌, ◌⊎◌, ℕ, ◌-◌, ◌^◌, ◌<◌, ◌≤◌, Bool, true, false, ◌||◌, cond, List, [], ◌∷◌}
+use Rattle.std.proofs.Common.{length, get_or, set, Some, None, refl, sym, ap, ◌∙◌, inl, inr, arith}
+use Rattle.std.proofs.lemmas.Bool.{and_from, cases_eq, cases_lt, eq-eqb, false_from_ne_true, le-ltb, lt-ltb, or_left}
+use Rattle.std.proofs.lemmas.{Bool.or_right, Bool.true≢false, Option.none-some}
 use Rattle.std.proofs.lemmas.List.{get_or-set_other, get_or-set_same, length-set}
-use Rattle.std.proofs.lemmas.Option.{none-some}
 use Rattle.std.specs.Prelude.{min, nat_lt}
-use Rattle.def_fit.specs.WishLines.{is_out_of_range, said_fails, vertex_named, wish_or, wished_by, wishes_said, Wished}
+use Rattle.def_fit.specs.WishLines.{is_out_of_range, said_fails, vertex_named, wished_by}
 use Rattle.def_fit.specs.declared.fit.TheConstants.{MAX_WISH}
 use Rattle.def_marks.specs.Chains.{is_edge, runs_between}
 use Rattle.def_marks.specs.declared.fail.MarkFail.TheVariants.{Range, NotEdge}
@@ -50,13 +48,7 @@ module _ (soup : FaceSet) (all number : ℕ) (words : Words) (low : all < 2 ^ 32
     -- A number that is out of range.
     pub takes_far : (nat_lt all said.u || nat_lt all said.v || nat_lt MAX_WISH said.wish) ≡ true
         → said_fails soup all number (wished_by words) ≡ Range number ∷ []
-    takes_far far =
-        ap (said_fails soup all number) is.told
-        ∙ ap
-        (λ (b : Bool). cond b (Range number ∷ [])
-        (cond (is_edge soup.faces (vertex_named soup.names is.wished.u) (vertex_named soup.names is.wished.v)) []
-        (NotEdge number ∷ [])))
-        (sym far_same ∙ far)
+    takes_far far = rw (is.told, sym far_same ∙ far) refl
 
     module _ (near : (nat_lt all said.u || nat_lt all said.v || nat_lt MAX_WISH said.wish) ≡ false) where
       off : (nat_lt all said.u ≡ false) × (nat_lt all said.v ≡ false) × (nat_lt MAX_WISH said.wish ≡ false)
@@ -89,19 +81,11 @@ module _ (soup : FaceSet) (all number : ℕ) (words : Words) (low : all < 2 ^ 32
       by_edge : said_fails soup all number (wished_by words)
           ≡ cond (is_edge soup.faces (vertex_named soup.names said.u) (vertex_named soup.names said.v)) []
           (NotEdge number ∷ [])
-      by_edge =
-          ap (said_fails soup all number) is.told
-          ∙ ap
-          (λ (b : Bool). cond b (Range number ∷ [])
-          (cond (is_edge soup.faces (vertex_named soup.names is.wished.u) (vertex_named soup.names is.wished.v)) []
-          (NotEdge number ∷ [])))
-          (sym far_same ∙ near)
-          ∙ (λ i. cond (is_edge soup.faces (vertex_named soup.names (sym u_is i))
-          (vertex_named soup.names (sym v_is i))) [] (NotEdge number ∷ []))
+      by_edge = rw (is.told, sym far_same ∙ near, u_is, v_is) refl
 
       pub takes_no_edge : is_edge soup.faces (vertex_named soup.names said.u) (vertex_named soup.names said.v) ≡ false
           → said_fails soup all number (wished_by words) ≡ NotEdge number ∷ []
-      takes_no_edge none = by_edge ∙ ap (λ (b : Bool). cond b [] (NotEdge number ∷ [])) none
+      takes_no_edge none = by_edge ∙ rw none refl
 
       -- The wish is put at the darts of the edge.
       pub takes_wish : (old new : List ℕ)
@@ -111,15 +95,9 @@ module _ (soup : FaceSet) (all number : ℕ) (words : Words) (low : all < 2 ^ 32
           (get_or old d 0))
           → TakesWish soup all number words old new
       takes_wish old new edge put = record {
-        accepted = by_edge ∙ ap (λ (b : Bool). cond b [] (NotEdge number ∷ [])) edge;
-        wishes = λ d l.
-            put d l
-            ∙ (λ i. cond (runs_between soup.faces (vertex_named soup.names (u_is i)) (vertex_named soup.names (v_is i))
-            d) (wish_is i) (get_or old d 0))
-            ∙ ap (λ (o : Option Wished). wish_or soup.faces d (get_or old d 0) (wishes_said soup.names o))
-            (sym is.told);
-        small = λ d l few. subst (λ (n : ℕ). n ≤ MAX_WISH) (sym (put d l))
-            (by_test (runs_between soup.faces _ _ d) (get_or old d 0) few);
+        accepted = by_edge ∙ rw edge refl;
+        wishes = λ d l. rw (is.told, ← u_is, ← v_is, ← wish_is) (put d l);
+        small = λ d l few. rw (put d l) (by_test (runs_between soup.faces _ _ d) (get_or old d 0) few);
       }
         where
           by_test : (b : Bool) (before : ℕ) → before ≤ MAX_WISH → cond b said.wish before ≤ MAX_WISH
@@ -136,20 +114,20 @@ module _ (faces : Faces) (m : IsManifold faces) (wishes : List ℕ) (wish d : �
   at_dart : (list : List ℕ) (x : ℕ) → runs_between faces (from_of faces d) (to_of faces d) x ≡ true
       → get_or list x 0 ≡ wish
       → get_or list x 0 ≡ cond (runs_between faces (from_of faces d) (to_of faces d) x) wish (get_or wishes x 0)
-  at_dart list x on is = is ∙ ap (λ (b : Bool). cond b wish (get_or wishes x 0)) (sym on)
+  at_dart list x on is = rw on is
 
   at_rest : (list : List ℕ) (x : ℕ) → runs_between faces (from_of faces d) (to_of faces d) x ≡ false
       → get_or list x 0 ≡ get_or wishes x 0
       → get_or list x 0 ≡ cond (runs_between faces (from_of faces d) (to_of faces d) x) wish (get_or wishes x 0)
-  at_rest list x off is = is ∙ ap (λ (b : Bool). cond b wish (get_or wishes x 0)) (sym off)
+  at_rest list x off is = rw off is
 
   -- An edge of one dart.
   pub put_one : twin_of faces d ≡ None → (x : ℕ) → x < darts faces
       → get_or (set wishes d wish) x 0 ≡ cond (runs_between faces (from_of faces d) (to_of faces d) x) wish
       (get_or wishes x 0)
   put_one none x lx = elim (cases_eq x d) [
-    | inl e ↦ at_dart (set wishes d wish) x (ap (runs_between faces (from_of faces d) (to_of faces d)) e ∙ runs_self)
-        (ap (λ (k : ℕ). get_or (set wishes d wish) k 0) e ∙ get_or-set_same wishes d wish 0 (omega (arith, ld, long)))
+    | inl e ↦ at_dart (set wishes d wish) x (rw e runs_self)
+        (rw e (get_or-set_same wishes d wish 0 (omega (arith, ld, long))))
     | inr ne ↦ at_rest (set wishes d wish) x (false_from_ne_true _ (λ on. refuted ne (on_edge faces m d x ld lx on)))
         (get_or-set_other wishes d x wish 0 ne)
   ]
@@ -166,14 +144,11 @@ module _ (faces : Faces) (m : IsManifold faces) (wishes : List ℕ) (wish d : �
     | inl e ↦ at_dart (set (set wishes d wish) t wish) x
         (or_right _ _ (and_from _ _ (eq-eqb _ _ (ap (from_of faces) e ∙ is.1))
         (eq-eqb _ _ (ap (to_of faces) e ∙ is.2))))
-        (ap (λ (k : ℕ). get_or (set (set wishes d wish) t wish) k 0) e
-        ∙ get_or-set_same (set wishes d wish) t wish 0 (omega (arith, is.0, long, length-set wishes d wish)))
+        (rw e (get_or-set_same (set wishes d wish) t wish 0 (omega (arith, is.0, long, length-set wishes d wish))))
     | inr ne ↦ elim (cases_eq x d) [
-      | inl e ↦ at_dart (set (set wishes d wish) t wish) x (ap (runs_between faces (from_of faces d) (to_of faces d)) e
-          ∙ runs_self)
+      | inl e ↦ at_dart (set (set wishes d wish) t wish) x (rw e runs_self)
           (get_or-set_other (set wishes d wish) t x wish 0 ne
-          ∙ (ap (λ (k : ℕ). get_or (set wishes d wish) k 0) e
-          ∙ get_or-set_same wishes d wish 0 (omega (arith, ld, long))))
+          ∙ rw e (get_or-set_same wishes d wish 0 (omega (arith, ld, long))))
       | inr other ↦ at_rest (set (set wishes d wish) t wish) x
           (false_from_ne_true _ (λ on. refuted ne other (on_edge faces m d x ld lx on)))
           (get_or-set_other (set wishes d wish) t x wish 0 ne ∙ get_or-set_other wishes d x wish 0 other)

@@ -1,13 +1,10 @@
 -- Pieces of a text that are divided by one blank each, and the numbers that they write.
-use Rattle.std.proofs.Common.{◌≡◌, ℕ, ◌+◌, ◌-◌, ◌^◌, ◌<◌, ◌≤◌, Bool, true, false, eqb, ◌&&◌, ◌||◌, not, cond, [], ◌∷◌}
-use Rattle.std.proofs.Common.{length, take, drop, get_or, Option, Some, None, is_some, MatchOption, refl, sym, ap, ◌∙◌}
-use Rattle.std.proofs.Common.{arith, length-drop}
-use Rattle.std.proofs.lemmas.List.{drop-drop, take_all}
+use Rattle.std.proofs.Common.{◌≡◌, ℕ, ◌+◌, ◌-◌, ◌^◌, ◌<◌, ◌≤◌, Bool, true, false, eqb, cond, [], ◌∷◌, length, take}
+use Rattle.std.proofs.Common.{drop, Option, Some, None, is_some, MatchOption, refl, sym, ap, ◌∙◌, arith, length-drop}
+use Rattle.std.proofs.lemmas.{List.drop-drop, List.take_all, List.Sums.fails_before_first, Bool.true≢false}
 use Rattle.std.proofs.lemmas.List.Splits.{length-slice_split, slice_split_first, slice_split_none}
-use Rattle.std.proofs.lemmas.List.Sums.{fails_before_first}
-use Rattle.std.proofs.lemmas.Bool.{true≢false}
 use Rattle.std.proofs.lemmas.Option.{none-some, same_Some}
-use Rattle.std.specs.{Prelude.min, List.All, List.position_or_len}
+use Rattle.std.specs.{Prelude.min, List.position_or_len}
 use Rattle.def_fit.specs.WishLines.{is_counting, is_whole, wished_by}
 use Rattle.def_io.specs.Bytes.{Bytes}
 use Rattle.def_text.specs.{Digits.number_written, Types.Word, Types.Words}
@@ -63,10 +60,7 @@ pub three_said : (text behind last u v : Bytes) (said : Said) → pieces_of text
     → IsSaid (pieces_of text) said
 three_said text behind last u v said one two three first second third = record {
   wished = record { u = number_written u; v = number_written v; wish = number_written last };
-  told =
-      ap wished_by (one ∙ (λ i. u ∷ two i) ∙ (λ i. u ∷ v ∷ three i))
-      ∙ (λ i. cond (firsts.0 i && seconds.0 i && thirds.0 i)
-      (Some (record { u = number_written u; v = number_written v; wish = number_written last })) None);
+  told = rw (one, two, three, firsts.0, seconds.0, thirds.0) refl;
   u = firsts.1;
   v = seconds.1;
   wish = thirds.1;

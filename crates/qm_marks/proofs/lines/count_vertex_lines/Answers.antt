@@ -4,7 +4,8 @@ use Rattle.def_io.specs.Lines.{lines_of}
 use Rattle.def_text.specs.{Reading.begins_with, Words.words}
 use Rattle.qm_obj.specs.Ahead.{span, text_ahead}
 use Rattle.qm_obj.proofs.Groups.{group_span, group_text}
-use Rattle.qm_marks.proofs.{LineMarks.counted_next, Ranges.single_span, Ranges.single_text, Ranges.span_within}
+use Rattle.qm_obj.proofs.Ranges.{single_span, single_text, span_within}
+use Rattle.qm_marks.proofs.LineMarks.{counted_next}
 use Rattle.qm_marks.proofs.lines.count_vertex_lines.Goals.{After-drop-joined}
 use Rattle.qm_marks.proofs.lines.count_vertex_lines.Goals as goal
 
@@ -23,16 +24,14 @@ loop-i-preserved-then-may_go_on c =
     let text : c.deref.result.now ≡ text_ahead (slice_range (lines_of c.args.lines.now) c.loop-i.i c.args.after) =
     c.deref.ensures.value ∙ (c.in_ok-joined.ensures.bytes
     ∙ group_text (slice_range (lines_of c.args.lines.now) c.loop-i.i c.args.after)) in
-    counted_next (lines_of c.args.lines.now) c.args.first c.loop-i.i c.args.after c.loop-i.count
-    c.in_ok-joined.joined.next c.vertices_of-count.result c.loop-i-test.true c.requires.within c.loop-i.invariant
+    counted_next c.loop-i-test.true c.requires.within c.loop-i.invariant
     (next c)
     (c.vertices_of-count.ensures ∙ ap (λ xs. cond (begins_with 118 (words xs)) 1 0) text)
 
 pub loop-i-preserved : goal.loop-i-preserved
 loop-i-preserved c =
     let off = c.may_go_on.ensures c.if-may_go_on.false in
-    counted_next (lines_of c.args.lines.now) c.args.first c.loop-i.i c.args.after c.loop-i.count (c.loop-i.i + 1)
-    c.vertices_of-count-else-may_go_on.result c.loop-i-test.true c.requires.within c.loop-i.invariant
+    counted_next c.loop-i-test.true c.requires.within c.loop-i.invariant
     (ap (λ n. c.loop-i.i + n) (single_span (lines_of c.args.lines.now) c.loop-i.i c.args.after c.loop-i-test.true
     c.requires.within c.line-line.result.now c.line-line.ensures off))
     (c.vertices_of-count-else-may_go_on.ensures ∙ ap (λ xs. cond (begins_with 118 (words xs)) 1 0)

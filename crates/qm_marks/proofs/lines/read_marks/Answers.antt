@@ -2,18 +2,15 @@ use Rattle.std.proofs.Common.{arith}
 use Rattle.def_io.specs.Lines.{lines_of}
 use Rattle.error_laws.proofs.Errors.{handed}
 use Rattle.qm_marks.proofs.LineMarks.{at_end, at_inner, at_next, at_refused, at_room}
-use Rattle.qm_marks.proofs.Ranges.{span_within}
+use Rattle.qm_obj.proofs.Ranges.{span_within}
 use Rattle.qm_marks.proofs.lines.read_marks.Goals as goal
 
 pub take_logical-requires-clause-room : goal.take_logical-requires-clause-room
-take_logical-requires-clause-room c = at_room c.args.soup.now c.args.mesh.now (lines_of c.args.lines.now) c.args.first
-    c.loop-i.i c.args.after c.loop-i.reader c.loop-i.invariant c.loop-i-test.true c.requires.within
+take_logical-requires-clause-room c = at_room c.loop-i.invariant c.loop-i-test.true c.requires.within
 
 pub returns-in_err-i-clause-refused : goal.returns-in_err-i-clause-refused
-returns-in_err-i-clause-refused c = handed _ _ _ c.from_residual-in_err-i.ensures.1
-    (λ other. at_refused c.args.soup.now c.args.mesh.now (lines_of c.args.lines.now) c.args.first c.loop-i.i
-    c.args.after c.loop-i.reader c.loop-i.invariant c.loop-i-test.true c.requires.within _
-    (c.in_err-i.ensures.refused other))
+returns-in_err-i-clause-refused c = handed _ _ _ c.from_residual-in_err-i.ensures.1 (λ other.
+    at_refused c.loop-i.invariant c.loop-i-test.true c.requires.within _ (c.in_err-i.ensures.refused other))
 
 pub loop-i-smaller : goal.loop-i-smaller
 loop-i-smaller c =
@@ -21,14 +18,11 @@ loop-i-smaller c =
     omega (arith, c.in_ok-i.ensures.next, within.0, within.1)
 
 pub loop-i-preserved : goal.loop-i-preserved
-loop-i-preserved c = at_next c.args.soup.now c.args.mesh.now (lines_of c.args.lines.now) c.args.first c.loop-i.i
-    c.args.after c.loop-i.reader c.loop-i.invariant c.loop-i-test.true c.requires.within _ _ c.in_ok-i.ensures.next
-    c.in_ok-i.ensures.took
+loop-i-preserved c =
+    at_next c.loop-i.invariant c.loop-i-test.true c.requires.within c.in_ok-i.ensures.next c.in_ok-i.ensures.took
 
 pub returns-clause-marks : goal.returns-clause-marks
-returns-clause-marks c = at_end c.args.soup.now c.args.mesh.now (lines_of c.args.lines.now) c.args.first c.loop-i.i
-    c.args.after c.loop-i.reader c.loop-i.invariant c.loop-i-test.false
+returns-clause-marks c = at_end c.loop-i.invariant c.loop-i-test.false
 
 pub returns-clause-inner : goal.returns-clause-inner
-returns-clause-inner c = at_inner c.args.soup.now c.args.mesh.now (lines_of c.args.lines.now) c.args.first c.loop-i.i
-    c.args.after c.loop-i.reader c.loop-i.invariant c.loop-i-test.false c.faces-known.ensures.mesh.manifold
+returns-clause-inner c = at_inner c.loop-i.invariant c.loop-i-test.false c.faces-known.ensures.mesh.manifold

@@ -1,12 +1,10 @@
-use Rattle.std.proofs.Common.{◌≡◌, ◌≤◌, ◌+◌, ℕ, List, sym, subst, ap, ◌∙◌}
+use Rattle.std.proofs.Common.{◌≡◌, ◌+◌, sym, ap, ◌∙◌}
 use Rattle.std.specs.Prelude.{slice_range}
 use Rattle.def_io.specs.Lines.{lines_of}
-use Rattle.def_marks.specs.Lines.{vertex_lines_in}
 use Rattle.error_laws.proofs.Errors.{handed}
 use Rattle.qm_obj.specs.{Ahead.text_ahead, Lines.first_logical}
-use Rattle.qm_obj.proofs.Groups.{group_span, group_text}
-use Rattle.qm_marks.specs.Reading.{line_at}
-use Rattle.qm_marks.proofs.{LineMarks.fails_line, LineMarks.took_line, Ranges.single_span, Ranges.single_text}
+use Rattle.qm_obj.proofs.{Groups.group_span, Groups.group_text, Ranges.single_span, Ranges.single_text}
+use Rattle.qm_marks.proofs.LineMarks.{fails_line, took_line}
 use Rattle.qm_marks.proofs.lines.take_logical.Goals.{After-before_comment, After-deref}
 use Rattle.qm_marks.proofs.lines.take_logical.Goals as goal
 
@@ -24,16 +22,13 @@ line_text c = c.before_comment.ensures ∙ single_text (lines_of c.args.given.no
     (c.may_go_on.ensures c.if-may_go_on.false)
 
 pub take-requires-clause-room : goal.take-requires-clause-room
-take-requires-clause-room c =
-    subst (λ (xs : List ℕ). c.args.reader.now.before + vertex_lines_in (line_at (c.args.i + 1) xs)
-    ≤ c.args.reader.now.all) (sym (joined_text c)) c.requires.room
+take-requires-clause-room c = rw (joined_text c) c.requires.room
 
 pub returns-in_err-take-clause-refused : goal.returns-in_err-take-clause-refused
 returns-in_err-take-clause-refused c = handed _ _ _ c.from_residual-in_err-take.ensures.1
     (λ other. sym (fails_line c.args.given.now.soup.now c.args.reader.now.all c.args.reader.now.before
     (first_logical (c.args.i + 1) (slice_range (lines_of c.args.given.now.lines.now) c.args.i c.args.after))
-    c.deref.result.now
-    (joined_text (goal.at.returns-in_err-take-clause-refused c).After-deref)) ∙ c.in_err-take.ensures.refused other)
+    _ (joined_text (goal.at.returns-in_err-take-clause-refused c).After-deref)) ∙ c.in_err-take.ensures.refused other)
 
 pub returns-then-may_go_on-clause-next : goal.returns-then-may_go_on-clause-next
 returns-then-may_go_on-clause-next c = c.in_ok-joined.ensures.next
@@ -41,22 +36,18 @@ returns-then-may_go_on-clause-next c = c.in_ok-joined.ensures.next
 
 pub returns-then-may_go_on-clause-took : goal.returns-then-may_go_on-clause-took
 returns-then-may_go_on-clause-took c =
-    took_line c.args.given.now.soup.now c.args.reader.now c.take.new.self
+    took_line
     (first_logical (c.args.i + 1) (slice_range (lines_of c.args.given.now.lines.now) c.args.i c.args.after))
-    c.deref.result.now
     (joined_text (goal.at.returns-then-may_go_on-clause-took c).After-deref) c.in_ok-take.ensures.took
 
 pub take-requires-2-clause-room : goal.take-requires-2-clause-room
-take-requires-2-clause-room c =
-    subst (λ (xs : List ℕ). c.args.reader.now.before + vertex_lines_in (line_at (c.args.i + 1) xs)
-    ≤ c.args.reader.now.all) (sym (line_text c)) c.requires.room
+take-requires-2-clause-room c = rw (line_text c) c.requires.room
 
 pub returns-in_err-take-2-clause-refused : goal.returns-in_err-take-2-clause-refused
 returns-in_err-take-2-clause-refused c = handed _ _ _ c.from_residual-in_err-take-2.ensures.1
     (λ other. sym (fails_line c.args.given.now.soup.now c.args.reader.now.all c.args.reader.now.before
     (first_logical (c.args.i + 1) (slice_range (lines_of c.args.given.now.lines.now) c.args.i c.args.after))
-    c.before_comment.result.now
-    (line_text (goal.at.returns-in_err-take-2-clause-refused c).After-before_comment))
+    _ (line_text (goal.at.returns-in_err-take-2-clause-refused c).After-before_comment))
     ∙ c.in_err-take-2.ensures.refused other)
 
 pub returns-clause-next : goal.returns-clause-next
@@ -66,7 +57,6 @@ returns-clause-next c = ap (λ n. c.args.i + n) (single_span (lines_of c.args.gi
 
 pub returns-clause-took : goal.returns-clause-took
 returns-clause-took c =
-    took_line c.args.given.now.soup.now c.args.reader.now c.take-2.new.self
+    took_line
     (first_logical (c.args.i + 1) (slice_range (lines_of c.args.given.now.lines.now) c.args.i c.args.after))
-    c.before_comment.result.now
     (line_text (goal.at.returns-clause-took c).After-before_comment) c.in_ok-take-2.ensures.took

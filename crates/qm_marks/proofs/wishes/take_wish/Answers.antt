@@ -1,20 +1,16 @@
-use Rattle.std.proofs.Common.{◌≡◌, ◌<◌, ℕ, List, cond, get_or, ap, sym, subst, ◌∙◌}
+use Rattle.std.proofs.Common.{◌≡◌, cond, get_or, sym, ◌∙◌}
 use Rattle.def_fit.specs.WishLines.{vertex_named}
 use Rattle.def_marks.specs.Chains.{is_edge, runs_between}
-use Rattle.def_mesh.specs.{Darts.darts, Faces.Faces}
-use Rattle.def_text.specs.FaceSet.{FaceSet}
 use Rattle.qm_marks.proofs.{OneWish.takes_no_edge, OneWish.takes_wish, wishes.take_wish.Goals.After-put_wish}
 use Rattle.qm_marks.specs.Wishing.{pieces_of}
 use Rattle.qm_marks.proofs.wishes.take_wish.Goals as goal
 
 -- The vertices of the line.
 u_is : (c : After-put_wish) → c.vertex_at.result ≡ vertex_named c.args.places.now.soup.now.names c.in-Some.said.u
-u_is c = c.vertex_at.ensures ∙ ap (λ (names : List ℕ). vertex_named names c.in-Some.said.u) (c.deref.ensures.value
-    ∙ ap (λ (s : FaceSet). s.names) c.soup.view_is)
+u_is c = rw (← c.soup.view_is, ← c.deref.ensures.value) c.vertex_at.ensures
 
 v_is : (c : After-put_wish) → c.vertex_at-2.result ≡ vertex_named c.args.places.now.soup.now.names c.in-Some.said.v
-v_is c = c.vertex_at-2.ensures ∙ ap (λ (names : List ℕ). vertex_named names c.in-Some.said.v) (c.deref-2.ensures.value
-    ∙ ap (λ (s : FaceSet). s.names) c.soup.view_is)
+v_is c = rw (← c.soup.view_is, ← c.deref-2.ensures.value) c.vertex_at-2.ensures
 
 -- They have an edge where a wish was put.
 edge_is : (c : After-put_wish) → c.put_wish.result ≡ is_edge c.args.places.now.soup.now.faces
@@ -30,7 +26,7 @@ returns-then-put_wish-clause-took c =
     c.is_far.ensures.few c.in-Some.said
     c.in-Some.ensures (sym c.is_far.ensures.far ∙ c.if-is_far.false) c.args.wishes.now c.put_wish.new.wishes
     (sym (edge_is at) ∙ c.if-put_wish.true)
-    (λ d low. c.put_wish.ensures.wishes c.if-put_wish.true d (subst (λ (fs : Faces). d < darts fs) (sym same) low)
+    (λ d low. c.put_wish.ensures.wishes c.if-put_wish.true d (rw same low)
     ∙ (λ i. cond (runs_between (same i) (u_is at i) (v_is at i) d) c.in-Some.said.wish (get_or c.args.wishes.now d 0)))
 
 pub returns-else-put_wish-clause-refused : goal.returns-else-put_wish-clause-refused

@@ -1,6 +1,5 @@
 use Rattle.std.proofs.Common.{◌≡◌, Bool, List, Ok, true, false, ltb, not, ◌||◌, ◌&&◌, is_some, length, map, refl, sym}
-use Rattle.std.proofs.Common.{ap, ◌∙◌, arith}
-use Rattle.std.proofs.lemmas.List.{with_items_is}
+use Rattle.std.proofs.{Common.ap, Common.◌∙◌, Common.arith, lemmas.List.with_items_is}
 use Rattle.std.specs.List.{list_any}
 use Rattle.def_cut.specs.FullCut.{is_on}
 use Rattle.def_marks.specs.Chains.{is_chain, runs_along}
