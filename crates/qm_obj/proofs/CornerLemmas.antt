@@ -1,10 +1,8 @@
 -- Corners and the indices between their slashes.
 use Rattle.std.proofs.Common.{◌≡◌, ℕ, suc, ◌+◌, ◌-◌, ◌^◌, ◌<◌, ◌≤◌, min, Bool, true, false, cond, not, ◌&&◌, ◌||◌, List}
 use Rattle.std.proofs.Common.{[], ◌∷◌, length, take, drop, refl, sym, ap, ◌∙◌, arith, eqb, ltb, leb, Some, None, inl}
-use Rattle.std.proofs.Common.{inr, ◌⊎◌}
+use Rattle.std.proofs.{Common.inr, Common.◌⊎◌, lemmas.Bool.or_cases, lemmas.Bool.or_from, lemmas.List.take_all}
 use Rattle.std.proofs.lemmas.Bool.{and_left, and_parts, and_right, eqb-true, false≢true, leb-true, lt-leb, ne_eqb}
-use Rattle.std.proofs.lemmas.Bool.{or_cases, or_from}
-use Rattle.std.proofs.lemmas.List.{take_all}
 use Rattle.std.proofs.lemmas.Bool.Decides.{nat_tests}
 use Rattle.std.specs.Char.{is_ascii_digit}
 use Rattle.std.specs.List.{before_first, list_all, list_any, onto_first, position_or_len, slice_split}

@@ -1,30 +1,24 @@
 -- Lines and pieces that are taken one by one, and what is then kept.
 use Rattle.std.proofs.Common.{◌≡◌, ℕ, ◌+◌, ◌-◌, ◌<◌, ◌≤◌, true, false, eqb, List, [], ◌∷◌, ◌++◌, length, refl, sym, ◌≢◌}
-use Rattle.std.proofs.Common.{ap, ◌∙◌, arith, Option, Some, None, Result, Err}
-use Rattle.std.proofs.lemmas.Bool.{eqb-true, false≢true, lt-ltb, or_from}
-use Rattle.std.proofs.lemmas.List.{append-nil, append_assoc, length-append}
-use Rattle.std.proofs.lemmas.List.Folds.{list_any-append}
-use Rattle.std.specs.{Prelude.is_some, List.list_any}
-use Rattle.def_feed.specs.{Feed.StandsFor, Feed.is_line_feed, Kept.KeptText, Kept.kept_readings, Kept.logical_behind}
-use Rattle.def_feed.specs.Kept.{soup_with, soup_with_lines}
+use Rattle.std.proofs.Common.{ap, ◌∙◌, arith, Option, Some, None, Result, Err, map}
+use Rattle.std.proofs.lemmas.{Bool.eqb-true, Bool.false≢true, Bool.lt-ltb, Bool.or_from, List.Folds.list_any-append}
+use Rattle.std.proofs.lemmas.{List.append-nil, List.append_assoc, List.length-append, Result.IfErr-weaker}
+use Rattle.std.specs.{Prelude.is_some, Prelude.IfErr, List.list_any}
+use Rattle.def_feed.specs.Feed.{StandsFor, is_line_feed}
+use Rattle.def_feed.specs.Kept.{KeptText, kept_readings, logical_behind, soup_with, soup_with_lines, face_readings}
 use Rattle.def_io.specs.{Bytes.Bytes, Bytes.Lines, Lines.line_of, Lines.lines_of}
 use Rattle.def_mesh.specs.Faces.{Faces}
-use Rattle.def_text.specs.{FaceSet.FaceSet, Logical.Logical, Logical.continues, Logical.is_hash, Logical.logical_lines}
-use Rattle.def_text.specs.{Logical.with_space, Text.soup_in, Text.soup_of, Types.Positions}
-use Rattle.def_text.specs.{declared.reading.Reading.TheVariants.Refused, declared.refusal.ObjFail.ObjFail}
-use Rattle.def_text.specs.{declared.refusal.ObjFail.TheVariants.Limit, declared.refusal.Which.TheVariants.Line}
+use Rattle.def_text.specs.{FaceSet.FaceSet, Text.soup_in, Text.soup_of, Types.Positions}
+use Rattle.def_text.specs.Logical.{Logical, continues, is_hash, logical_lines, with_space}
+use Rattle.def_text.specs.declared.reading.Reading.TheVariants.{Refused, Position}
+use Rattle.def_text.specs.declared.refusal.{ObjFail.ObjFail, ObjFail.TheVariants.Limit, ObjFail.TheVariants.Memory}
+use Rattle.def_text.specs.declared.refusal.Which.TheVariants.{Line}
 use Rattle.qm_obj.specs.Feeding.{IsSound, RefusesLine, RefusesPiece, TookLine, TookPiece, number_by}
 use Rattle.qm_obj.specs.Lines.{Took, line_as, next_said}
 use Rattle.qm_obj.proofs.PrefixLemmas.{BeginsWith, bare_more, begins_behind, behind_held, behind_nothing}
 use Rattle.qm_obj.proofs.JoinLemmas.{length-with_space}
 use Rattle.qm_obj.proofs.KeptLemmas.{Fits, Follows, line_taken, stops_at}
 use Rattle.qm_obj.proofs.TailLemmas.{FirstLine, count_append, count_none, first_line, lines_fed, lines_open}
-use Rattle.def_feed.specs.Kept.{face_readings}
-use Rattle.def_text.specs.declared.reading.Reading.TheVariants.{Position}
-use Rattle.std.proofs.Common.{map}
-use Rattle.def_text.specs.declared.refusal.ObjFail.TheVariants.{Memory}
-use Rattle.std.proofs.lemmas.Result.{IfErr-weaker}
-use Rattle.std.specs.Prelude.{IfErr}
 
 -- Whether bytes are empty, by their number.
 pub is_nothing : {xs : Bytes} {n : ℕ} → true ≡ eqb n 0 → n ≡ length xs → xs ≡ []

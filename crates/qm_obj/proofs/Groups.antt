@@ -4,7 +4,7 @@ use Rattle.std.proofs.Common.{slice_index_or, refl, sym, ap, ◌∙◌, arith}
 use Rattle.std.proofs.lemmas.List.{append-nil, length-append}
 use Rattle.std.specs.List.{before_first, flat_map}
 use Rattle.def_io.specs.Bytes.{Lines}
-use Rattle.def_text.specs.Logical.{continues, first_group, groups_of, is_hash, joined, logical, logical_lines}
+use Rattle.def_text.specs.Logical.{continues, first_group, groups_of, is_hash, joined, logical_lines}
 use Rattle.def_text.specs.Logical.{numbered_groups, part_of, with_line, with_space}
 use Rattle.qm_obj.specs.{Ahead.size_ahead, Ahead.span, Ahead.text_ahead, Lines.first_logical}
 
@@ -69,10 +69,5 @@ pub logical_step : (number : ℕ) (line : List ℕ) (lines : Lines)
     ∷ logical_lines (number + span (line ∷ lines)) (drop (span (line ∷ lines)) (line ∷ lines))
 logical_step number line lines =
     let all = line ∷ lines in
-    let rest = groups_of (drop (span all) all) in
-    let first : logical number (prefix all) ≡ first_logical number all =
-    ap (λ n. record { number = number; size = n; text = joined (prefix all) }) (prefix_size all)
-    ∙ ap (λ text. record { number = number; size = size_ahead all; text = text }) (prefix_text all) in
     ap (numbered_groups number) (groups_step line lines)
-    ∙ ap (λ n. logical number (prefix all) ∷ numbered_groups (number + n) rest) (prefix_span all)
-    ∙ ap (λ l. l ∷ numbered_groups (number + span all) rest) first
+    ∙ rw (prefix_span all, prefix_size all, prefix_text all) refl

@@ -3,20 +3,16 @@ use Rattle.std.proofs.Common.{◌≡◌, ℕ, zero, suc, ◌+◌, ◌-◌, ◌<�
 use Rattle.std.proofs.Common.{length, take, get_or, refl, sym, ap, ◌∙◌, arith, subst, eqb}
 use Rattle.std.proofs.lemmas.Bool.Decides.{nat_tests}
 use Rattle.std.proofs.lemmas.Bool.{and_parts, false≢true, not-true, or_from, or_parts}
-use Rattle.std.proofs.lemmas.List.{append_assoc, length-append, length-take}
-use Rattle.std.proofs.lemmas.List.Folds.{list_any-append}
+use Rattle.std.proofs.lemmas.{List.append_assoc, List.length-append, List.length-take, List.Folds.list_any-append}
 use Rattle.std.specs.{List.before_first, List.list_any, List.position_or_len, Prelude.slice_range}
-use Rattle.def_text.specs.Logical.{continues, is_hash, with_space, Logical}
-use Rattle.qm_obj.specs.{Ahead.text_ahead, Ahead.size_ahead, Ahead.span, Lines.first_logical}
-use Rattle.qm_obj.specs.{Lines.line_as, Lines.uncommented}
-use Rattle.qm_obj.proofs.Ranges.{here, range_cons}
-use Rattle.qm_obj.proofs.WordLemmas.{uncommented_is, uncommented_none}
+use Rattle.def_text.specs.{Logical.continues, Logical.is_hash, Logical.with_space, Logical.Logical, Types.Positions}
+use Rattle.qm_obj.specs.Ahead.{text_ahead, size_ahead, span}
+use Rattle.qm_obj.specs.Lines.{first_logical, line_as, uncommented, Took, next_said}
+use Rattle.qm_obj.proofs.{Ranges.here, Ranges.range_cons, WordLemmas.uncommented_is, WordLemmas.uncommented_none}
 use Rattle.def_io.specs.Bytes.{Lines}
 use Rattle.def_mesh.specs.Faces.{Faces}
-use Rattle.def_text.specs.Types.{Positions}
 use Rattle.def_text.specs.declared.reading.Reading.TheVariants.{Refused}
 use Rattle.def_text.specs.declared.refusal.ObjFail.{ObjFail}
-use Rattle.qm_obj.specs.Lines.{Took, next_said}
 
 -- A comment is found before the end exactly where there is one.
 pub no_hash : (line : List ℕ) → eqb (position_or_len is_hash line) (length line) ≡ not (list_any is_hash line)

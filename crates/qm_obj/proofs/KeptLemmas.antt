@@ -1,29 +1,23 @@
 -- The soup of what is kept, with more lines behind it.
 use Rattle.std.proofs.Common.{◌≡◌, ◌≢◌, ℕ, ◌+◌, ◌^◌, ◌≤◌, Bool, true, false, cond, List, [], ◌∷◌, ◌++◌, length, map, ℤ}
 use Rattle.std.proofs.Common.{refl, sym, ap, ◌∙◌, arith, ltb, Option, Some, None, Result, Ok, Err}
-use Rattle.std.proofs.lemmas.Bool.{and_from}
-use Rattle.std.proofs.lemmas.List.{append-nil, append_assoc, length-append, length-map}
-use Rattle.std.proofs.lemmas.List.Concat.{flat_map-append}
-use Rattle.std.proofs.lemmas.List.Folds.{list_all-append}
-use Rattle.std.proofs.lemmas.List.Sums.{sum_by_push}
+use Rattle.std.proofs.lemmas.{Bool.and_from, List.append-nil, List.append_assoc, List.length-append, List.length-map}
+use Rattle.std.proofs.lemmas.List.{Concat.flat_map-append, Folds.list_all-append, Sums.sum_by_push}
 use Rattle.std.proofs.lemmas.Result.{IfErr-weaker, IfOk-weaker}
 use Rattle.std.specs.{Prelude.IfErr, Prelude.IfOk, List.count_by, List.flat_map, List.list_all, List.list_any}
 use Rattle.def_feed.specs.Kept.{face_readings, readings_behind}
 use Rattle.def_mesh.specs.Faces.{Faces}
-use Rattle.def_text.specs.{FaceSet.FaceSet, Logical.Logical, Reading.is_face_line, Reading.is_vertex_line}
-use Rattle.def_text.specs.{Reading.reading, Text.face_in, Text.face_set, Text.faces, Text.first_refusal, Text.late_in}
-use Rattle.def_text.specs.Text.{position_in, positions, readings, refusal_in, soup_of}
-use Rattle.def_text.specs.{Types.Positions, declared.reading.Reading.Reading}
-use Rattle.def_text.specs.declared.reading.Reading.TheVariants.{Passed, Position}
-use Rattle.def_text.specs.declared.reading.Reading.TheVariants.{Face, Refused}
-use Rattle.def_text.specs.{declared.refusal.ObjFail.ObjFail, declared.refusal.ObjFail.TheVariants.Memory}
-use Rattle.def_text.specs.declared.refusal.ObjFail.TheVariants.{Range}
-use Rattle.qm_obj.specs.{Indices.clamped, Indices.with_clamped, Kept.IsLate, Kept.first_late, Lines.Took, Lines.line_in}
-use Rattle.qm_obj.specs.Lines.{next_said}
-use Rattle.qm_obj.proofs.ListLemmas.{parts_none}
+use Rattle.def_text.specs.{FaceSet.FaceSet, Logical.Logical, Text.refusal_in, Text.soup_of, Types.Positions}
+use Rattle.def_text.specs.Reading.{is_face_line, is_vertex_line, reading}
+use Rattle.def_text.specs.Text.{face_in, face_set, faces, first_refusal, late_in, position_in, positions, readings}
+use Rattle.def_text.specs.declared.reading.Reading.{Reading}
+use Rattle.def_text.specs.declared.reading.Reading.TheVariants.{Passed, Position, Face, Refused}
+use Rattle.def_text.specs.declared.refusal.{ObjFail.ObjFail, ObjFail.TheVariants.Memory, ObjFail.TheVariants.Range}
+use Rattle.qm_obj.specs.{Indices.clamped, Indices.with_clamped, Kept.IsLate, Kept.first_late}
+use Rattle.qm_obj.specs.Lines.{Took, line_in, next_said}
+use Rattle.qm_obj.proofs.{ListLemmas.parts_none, SoupLemmas.few_pos, SoupLemmas.same_faces}
 use Rattle.qm_obj.proofs.ReadLemmas.{any_clamped, face_clamped, late_none, late_some, line_clamped, position_clamped}
 use Rattle.qm_obj.proofs.ReadLemmas.{positive_clamped, refusal_clamped, refused_clamped, unclamped_face}
-use Rattle.qm_obj.proofs.SoupLemmas.{few_pos, same_faces}
 use Rattle.qm_obj.proofs.SuitLemmas.{Suits, reading_suits}
 
 -- What the kept positions and faces say, apart.

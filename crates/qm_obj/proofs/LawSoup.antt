@@ -1,39 +1,30 @@
 -- What the lines of a canonical text say, and the soup that they have.
 use Rattle.std.proofs.Common.{◌≡◌, ℕ, ℤ, pos, zero, suc, ◌+◌, ◌-◌, ◌^◌, ◌<◌, ◌≤◌, Bool, true, false, cond, not, ◌&&◌}
-use Rattle.std.proofs.Common.{List, [], ◌∷◌, ◌++◌, length, take, map, get_or, refl, sym, ap, ◌∙◌, arith, eqb}
-use Rattle.std.proofs.Common.{ltb, add-one, Ok}
-use Rattle.std.proofs.lemmas.Bool.{and_from, and_parts, cond-false, eqb-true, le-ltb, ltb-false, ltb-true}
-use Rattle.std.proofs.lemmas.Bool.{ne_eqb, not-true, or_from}
+use Rattle.std.proofs.Common.{List, [], ◌∷◌, ◌++◌, length, take, map, get_or, refl, sym, ap, ◌∙◌, arith, eqb, ltb}
+use Rattle.std.proofs.{Common.add-one, Common.Ok, lemmas.Bool.not-true, lemmas.Bool.or_from, lemmas.List.take_all}
+use Rattle.std.proofs.lemmas.Bool.{and_from, and_parts, cond-false, eqb-true, le-ltb, ltb-false, ltb-true, ne_eqb}
 use Rattle.std.proofs.lemmas.List.{append-nil, append_assoc, get_or-map, get_or_default, length-map, same_lists}
-use Rattle.std.proofs.lemmas.List.{take_all}
-use Rattle.std.proofs.lemmas.List.Concat.{flat_map-append}
-use Rattle.std.proofs.lemmas.List.Elements.{filter-append}
-use Rattle.std.proofs.lemmas.List.Folds.{flat_map-map}
-use Rattle.std.proofs.lemmas.List.Sums.{sum_by_push}
+use Rattle.std.proofs.lemmas.List.{Concat.flat_map-append, Elements.filter-append, Folds.flat_map-map, Sums.sum_by_push}
 use Rattle.std.proofs.lemmas.Fmt.{decimal_nonempty}
-use Rattle.std.specs.{Prelude.decimal, Prelude.unsigned_abs, Char.is_ascii_digit, List.count_by, List.filter}
-use Rattle.std.specs.List.{flat_map, list_all, list_any}
+use Rattle.std.specs.{Prelude.decimal, Prelude.unsigned_abs, Char.is_ascii_digit}
+use Rattle.std.specs.List.{count_by, filter, flat_map, list_all, list_any}
 use Rattle.def_text.specs.Canonical.{canonical_text, face_text, micro_text, position_text}
-use Rattle.def_text.specs.Corner.{are_indices, is_corner_word, is_out, is_slash, resolved}
-use Rattle.def_text.specs.{Corner.used_index, Decimal.is_decimal, Decimal.is_far, Decimal.rounded, Digits.is_negative}
-use Rattle.def_text.specs.{Digits.is_number, Digits.is_signed, Digits.number_written, Digits.unsigned, FaceSet.FaceSet}
-use Rattle.def_text.specs.{FaceSet.IsSoup, Logical.Logical, Logical.logical_lines, Reading.begins_with}
-use Rattle.def_text.specs.Reading.{is_face_line, is_position_count, is_vertex_line, reading}
-use Rattle.def_text.specs.{Reading.words_reading, Text.face_in, Text.face_set, Text.faces}
-use Rattle.def_text.specs.Text.{late_in, numbers_to, position_in, position_of, readings}
-use Rattle.def_text.specs.{Text.refusal_in, Text.soup_of, Text.text_soup, Text.used_to, Text.line_vertex, Words.words}
-use Rattle.def_text.specs.{declared.reading.Reading.Reading, declared.reading.Reading.TheVariants.Position}
-use Rattle.def_text.specs.declared.reading.Reading.TheVariants.{Face}
+use Rattle.def_text.specs.Corner.{are_indices, is_corner_word, is_out, is_slash, resolved, used_index}
+use Rattle.def_text.specs.{Decimal.is_decimal, Decimal.is_far, Decimal.rounded, FaceSet.FaceSet, FaceSet.IsSoup}
+use Rattle.def_text.specs.Digits.{is_negative, is_number, is_signed, number_written, unsigned}
+use Rattle.def_text.specs.{Logical.Logical, Logical.logical_lines, Words.words, declared.reading.Reading.Reading}
+use Rattle.def_text.specs.Reading.{begins_with, is_face_line, is_position_count, is_vertex_line, reading, words_reading}
+use Rattle.def_text.specs.Text.{face_in, face_set, faces, late_in, numbers_to, position_in, position_of, readings}
+use Rattle.def_text.specs.Text.{refusal_in, soup_of, text_soup, used_to, line_vertex}
+use Rattle.def_text.specs.declared.reading.Reading.TheVariants.{Position, Face}
 use Rattle.def_text.specs.{Laws.ReadsBack, Laws.is_position, Laws.is_quad, Types.Positions}
 use Rattle.def_mesh.specs.{Vertices.is_used, Faces.Faces}
 use Rattle.def_io.specs.{Lines.lines_of, Bytes.Lines}
 use Rattle.qm_obj.proofs.CornerLemmas.{behind_none, digits_index, no_slash, whole_word}
 use Rattle.qm_obj.proofs.LawText.{IsLine, IsWord, decimal_word, line_tame, line_text, line_words, lines_split}
-use Rattle.qm_obj.proofs.LawText.{logical_plain, micro_word, plain_lines}
-use Rattle.qm_obj.proofs.KeptLemmas.{positions_said, positions_silent}
+use Rattle.qm_obj.proofs.{LawText.logical_plain, LawText.micro_word, LawText.plain_lines, ListLemmas.passes_at}
+use Rattle.qm_obj.proofs.{KeptLemmas.positions_said, KeptLemmas.positions_silent, ReadLemmas.readings_append}
 use Rattle.qm_obj.proofs.LineLemmas.{face_rest, vertex_rest}
-use Rattle.qm_obj.proofs.ListLemmas.{passes_at}
-use Rattle.qm_obj.proofs.ReadLemmas.{readings_append}
 use Rattle.qm_obj.proofs.SoupLemmas.{are_below, length-numbers_to, numbers_at, used_renumbered}
 use Rattle.qm_dec.proofs.{ReadBack.canonical_law, Texts.decimal_digits, Texts.decimal_number}
 
@@ -392,32 +383,26 @@ text_back s is =
     (passes_at is_quad s.faces k [] is.quads l) (passes_at (are_below (length s.pos)) s.faces k [] soup.in_range
     l))) in
     let cut : lines_of (canonical_text s) ≡ lines = ap lines_of (text_lines s) ∙ lines_split lines each in
-    let logical : logical_lines 1 lines ≡ plain_lines 1 (map position_line s.pos)
-    ++ plain_lines (1 + length (map position_line s.pos)) (map face_line s.faces) =
-    logical_plain 1 lines each ∙ plain_append 1 (map position_line s.pos) (map face_line s.faces) in
+    let ps = map position_line s.pos in
+    let fs = map face_line s.faces in
+    let n = 1 + length ps in
+    let named = map (λ f. map (λ v. v + 1) f) s.faces in
+    let logical : logical_lines 1 lines ≡ plain_lines 1 ps ++ plain_lines n fs =
+    logical_plain 1 lines each ∙ plain_append 1 ps fs in
     let prefix : PositionsSaid [] 1 s.pos = positions_are_said [] 1 s.pos is.positions (omega arith) in
-    let behind : readings (plain_lines 1 (map position_line s.pos)) (plain_lines (1 + length (map position_line s.pos))
-    (map face_line s.faces)) ≡ faces_from (1 + length (map position_line s.pos)) s.faces =
-    faces_said (length s.pos) (plain_lines 1 (map position_line s.pos)) (1 + length (map position_line s.pos)) s.faces
-    is.few_vertices (prefix.vertices ∙ omega arith) is.quads soup.in_range (omega (arith, prefix.no_faces)) in
-    let said : readings [] (logical_lines 1 lines) ≡ map Position s.pos
-    ++ faces_from (1 + length (map position_line s.pos)) s.faces =
-    ap (readings []) logical ∙ readings_append [] (plain_lines 1 (map position_line s.pos))
-    (plain_lines (1 + length (map position_line s.pos)) (map face_line s.faces)) ∙ rw (prefix.are, behind) refl in
-    let used : AllUsed (map (λ f. map (λ v. v + 1) f) s.faces) (length s.pos) = all_used_to s soup in
-    let names : used_to (map (λ f. map (λ v. v + 1) f) s.faces) (length s.pos) ≡ numbers_to (length s.pos) =
-    used.kept (length s.pos) (omega arith) in
-    ap (text_soup 1) cut ∙ ap soup_of said ∙ soup_said s.pos s.faces (1 + length (map position_line s.pos))
-    soup.in_range
-    ∙ ap Ok (same_parts (face_set s.pos (map (λ f. map (λ v. v + 1) f) s.faces)) (record {
-      pos = s.pos;
-      faces =
-          s.faces;
-      names = numbers_to (length s.pos);
-    })
+    let behind : readings (plain_lines 1 ps) (plain_lines n fs) ≡ faces_from n s.faces =
+    faces_said (length s.pos) (plain_lines 1 ps) n s.faces is.few_vertices (prefix.vertices ∙ omega arith) is.quads
+    soup.in_range (omega (arith, prefix.no_faces)) in
+    let said : readings [] (logical_lines 1 lines) ≡ map Position s.pos ++ faces_from n s.faces =
+    ap (readings []) logical ∙ readings_append [] (plain_lines 1 ps) (plain_lines n fs)
+    ∙ rw (prefix.are, behind) refl in
+    let used : AllUsed named (length s.pos) = all_used_to s soup in
+    let names : used_to named (length s.pos) ≡ numbers_to (length s.pos) = used.kept (length s.pos) (omega arith) in
+    ap (text_soup 1) cut ∙ ap soup_of said ∙ soup_said s.pos s.faces n soup.in_range
+    ∙ ap Ok (same_parts (face_set s.pos named)
+    (record { pos = s.pos; faces = s.faces; names = numbers_to (length s.pos) })
     (ap (map (position_of s.pos)) names ∙ positions_back s.pos)
-    (faces_back (map (λ f. map (λ v. v + 1) f) s.faces) (length s.pos) used s.faces soup.in_range)
-    names)
+    (faces_back named (length s.pos) used s.faces soup.in_range) names)
   where
     same_parts : (s t : FaceSet) → s.pos ≡ t.pos → s.faces ≡ t.faces → s.names ≡ t.names → s ≡ t
     same_parts s t p q r = λ i. record { pos = p i; faces = q i; names = r i }

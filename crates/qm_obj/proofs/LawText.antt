@@ -1,17 +1,15 @@
 -- The lines and the words of a canonical text.
 use Rattle.std.proofs.Common.{◌≡◌, ℕ, ℤ, zero, suc, ◌+◌, ◌-◌, ◌*◌, ◌/◌, ◌%◌, ◌^◌, ◌<◌, ◌≤◌, Bool, true, false, cond}
 use Rattle.std.proofs.Common.{not, ◌&&◌, List, [], ◌∷◌, ◌++◌, length, take, drop, map, get_or, refl, ap, ◌∙◌, arith}
-use Rattle.std.proofs.Common.{eqb, leb}
+use Rattle.std.proofs.{Common.eqb, Common.leb, lemmas.Bool.Decides.nat_tests, lemmas.List.Folds.list_all-append}
 use Rattle.std.proofs.lemmas.Bool.{and_from, and_parts, le-leb, leb-true, not-true}
-use Rattle.std.proofs.lemmas.Bool.Decides.{nat_tests}
 use Rattle.std.proofs.lemmas.Fmt.{decimal_nonempty, length-decimal-le}
 use Rattle.std.proofs.lemmas.List.{append_assoc, get_or_at, length-append, length-drop, length-take, take_all, take_at}
-use Rattle.std.proofs.lemmas.List.Folds.{list_all-append}
 use Rattle.std.specs.{Prelude.decimal, Prelude.int_lt, Prelude.pos, Prelude.unsigned_abs, Char.is_ascii_digit}
 use Rattle.std.specs.List.{before_first, flat_map, list_all, position_or_len, suffix_len}
-use Rattle.def_text.specs.Canonical.{fraction_text, micro_text, minus_text, six_digits}
-use Rattle.def_text.specs.{Canonical.without_zeros, Logical.Logical, Logical.continues, Logical.is_hash}
-use Rattle.def_text.specs.{Logical.logical_lines, Words.ends_word, Words.is_blank, Words.words, Types.Words}
+use Rattle.def_text.specs.Canonical.{fraction_text, micro_text, minus_text, six_digits, without_zeros}
+use Rattle.def_text.specs.{Logical.Logical, Logical.continues, Logical.is_hash, Logical.logical_lines, Types.Words}
+use Rattle.def_text.specs.Words.{ends_word, is_blank, words}
 use Rattle.qm_obj.proofs.{Groups.logical_step, ListLemmas.passes_at}
 use Rattle.def_io.specs.Lines.{byte_in_front, line_of, lines_of, pieces, without_last}
 use Rattle.def_io.specs.Bytes.{Lines}
@@ -67,6 +65,9 @@ pub record IsWord (word : List ℕ) : Type 0 where
   pub some : 0 < length word
   pub short : length word ≤ 60
 
+abbrev pub AreWords : Words → Type 0
+AreWords ws = (k : ℕ) → k < length ws → IsWord (get_or ws k [])
+
 pub decimal_word : (n : ℕ) → n < 2 ^ 64 → IsWord (decimal n)
 decimal_word n l = record {
   plain = all_from is_ascii_digit is_plain digit_plain (decimal n) (decimal_digits n l);
@@ -85,13 +86,11 @@ fraction_plain n small = by_zero (eqb n 0)
         (all_drop is_plain 1 (decimal (10 ^ 6 + n)) (decimal_word (10 ^ 6 + n) (omega arith)).plain)
 
     long : length (without_zeros (six_digits n)) ≤ 20
-    long = omega (
-      arith,
-      length-take (length (six_digits n) - suffix_len (λ digit. eqb digit 48) (six_digits n))
-          (six_digits n),
-      length-drop 1 (decimal (10 ^ 6 + n)),
-      length-decimal-le 20 (10 ^ 6 + n) (omega arith) (omega arith) (omega arith),
-    )
+    long =
+        let kept = length (six_digits n) - suffix_len (λ digit. eqb digit 48) (six_digits n) in
+        let all : length (decimal (10 ^ 6 + n)) ≤ 20 =
+        length-decimal-le 20 (10 ^ 6 + n) (omega arith) (omega arith) (omega arith) in
+        omega (arith, length-take kept (six_digits n), length-drop 1 (decimal (10 ^ 6 + n)))
 
     by_zero : (t : Bool) → (list_all is_plain (cond t [] (46 ∷ without_zeros (six_digits n))) ≡ true)
         × (length (cond t [] (46 ∷ without_zeros (six_digits n))) ≤ 21)
@@ -148,16 +147,15 @@ word_then b (c ∷ cs) rest plain ends =
         ≡ (b ∷ c ∷ cs) ∷ words rest
     by_tests t u off stays again = rw (off, stays, again) refl
 
-words_behind : (ws : Words) → ((k : ℕ) → k < length ws → IsWord (get_or ws k [])) → words (flat_map (λ w. 32 ∷ w) ws)
-    ≡ ws
+words_behind : (ws : Words) → AreWords ws → words (flat_map (λ w. 32 ∷ w) ws) ≡ ws
 words_behind [] each = refl
 words_behind ([] ∷ ws) each = absurd (omega (arith, (each 0 (omega arith)).some))
 words_behind ((b ∷ bs) ∷ ws) each =
     word_then b bs (flat_map (λ w. 32 ∷ w) ws) (each 0 (omega arith)).plain (blank_next ws)
     ∙ ap (λ rest. (b ∷ bs) ∷ rest) (words_behind ws (λ k l. each (suc k) (omega arith)))
 
-pub line_words : (letter : ℕ) (ws : Words) → is_blank letter ≡ false
-    → ((k : ℕ) → k < length ws → IsWord (get_or ws k [])) → words (line_text letter ws) ≡ (letter ∷ []) ∷ ws
+pub line_words : (letter : ℕ) (ws : Words) → is_blank letter ≡ false → AreWords ws
+    → words (line_text letter ws) ≡ (letter ∷ []) ∷ ws
 line_words letter ws bare each = by_tests (is_blank letter) bare
   where
     by_tests : (t : Bool) → t ≡ false
@@ -167,36 +165,32 @@ line_words letter ws bare each = by_tests (is_blank letter) bare
     by_tests t off = rw (off, blank_next ws) (ap (λ rest. (letter ∷ []) ∷ rest) (words_behind ws each))
 
 -- Its bytes are tame, and it is short.
-behind_tame : (ws : Words) → ((k : ℕ) → k < length ws → IsWord (get_or ws k []))
-    → list_all is_tame (flat_map (λ w. 32 ∷ w) ws) ≡ true
+behind_tame : (ws : Words) → AreWords ws → list_all is_tame (flat_map (λ w. 32 ∷ w) ws) ≡ true
 behind_tame [] each = refl
 behind_tame (w ∷ ws) each =
     all_both is_tame (32 ∷ w) (flat_map (λ w. 32 ∷ w) ws)
     (all_from is_plain is_tame plain_tame w (each 0 (omega arith)).plain)
     (behind_tame ws (λ k l. each (suc k) (omega arith)))
 
-behind_short : (ws : Words) → ((k : ℕ) → k < length ws → IsWord (get_or ws k [])) → length (flat_map (λ w. 32 ∷ w) ws)
-    ≤ length ws * 61
+behind_short : (ws : Words) → AreWords ws → length (flat_map (λ w. 32 ∷ w) ws) ≤ length ws * 61
 behind_short [] each = omega arith
 behind_short (w ∷ ws) each =
+    let first : length w ≤ 60 = (each 0 (omega arith)).short in
     omega (
       arith,
       length-append (32 ∷ w) (flat_map (λ w. 32 ∷ w) ws),
-      (each 0 (omega arith)).short,
-      behind_short ws (λ k l. each (suc k) (omega arith)),
+      behind_short ws
+          (λ k l. each (suc k) (omega arith)),
     )
 
 pub record IsLine (line : List ℕ) : Type 0 where
   pub tame : list_all is_tame line ≡ true
   pub short : length line ≤ 65536
 
-pub line_tame : (letter : ℕ) (ws : Words) → is_tame letter ≡ true → length ws ≤ 4
-    → ((k : ℕ) → k < length ws → IsWord (get_or ws k [])) → IsLine (line_text letter ws)
-line_tame letter ws tame few each = record {
-  tame = and_from _ _ tame (behind_tame ws each);
-  short =
-      omega (arith, behind_short ws each);
-}
+pub line_tame : (letter : ℕ) (ws : Words) → is_tame letter ≡ true → length ws ≤ 4 → AreWords ws
+    → IsLine (line_text letter ws)
+line_tame letter ws tame few each =
+    record { tame = and_from _ _ tame (behind_tame ws each); short = omega (arith, behind_short ws each) }
 
 -- A byte that ends no line.
 abbrev pub is_inside : ℕ → Bool

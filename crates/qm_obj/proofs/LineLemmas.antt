@@ -1,15 +1,13 @@
 -- What `v` lines and `f` lines say, refusal by refusal.
 use Rattle.std.proofs.Common.{◌≡◌, ℕ, ℤ, ◌^◌, ◌<◌, ◌≤◌, Bool, true, false, cond, ◌&&◌, ◌||◌, List, [], ◌∷◌, length, map}
 use Rattle.std.proofs.Common.{take, refl, sym, ap, ◌∙◌, arith, eqb, leb, Some, None}
-use Rattle.std.proofs.lemmas.Bool.{lt-leb, or_parts}
-use Rattle.std.proofs.lemmas.Bool.Decides.{nat_tests}
+use Rattle.std.proofs.lemmas.{Bool.lt-leb, Bool.or_parts, Bool.Decides.nat_tests}
 use Rattle.std.specs.List.{list_all, list_any}
-use Rattle.def_text.specs.Corner.{is_corner_word, is_out, resolved, used_index}
+use Rattle.def_text.specs.{Corner.is_corner_word, Corner.is_out, Corner.resolved, Corner.used_index, Types.Words}
 use Rattle.def_text.specs.Decimal.{is_decimal, is_far, rounded}
 use Rattle.def_text.specs.Reading.{face_reading, is_position_count, vertex_reading}
 use Rattle.def_text.specs.declared.reading.Reading.TheVariants.{Position, Face, Refused}
 use Rattle.def_text.specs.declared.refusal.ObjFail.TheVariants.{Syntax, NotQuad, Range}
-use Rattle.def_text.specs.Types.{Words}
 use Rattle.qm_obj.specs.Indices.{clamped, corner_of, with_clamped}
 use Rattle.qm_obj.specs.declared.position.Coordinate.TheVariants.{Near, Far}
 use Rattle.qm_obj.specs.Positions.{all_near, coordinate, in_front}

@@ -1,14 +1,13 @@
 -- Logical lines of which the first begins with text that is joined.
 use Rattle.std.proofs.Common.{◌≡◌, ℕ, suc, ◌+◌, ◌-◌, ◌<◌, ◌≤◌, Bool, true, false, cond, List, [], ◌∷◌, ◌++◌, length}
 use Rattle.std.proofs.Common.{take, refl, sym, ap, ◌∙◌, arith}
-use Rattle.std.proofs.lemmas.Bool.{and_parts, not-true, or_from}
+use Rattle.std.proofs.lemmas.{Bool.and_parts, Bool.not-true, Bool.or_from, List.Folds.list_any-append}
 use Rattle.std.proofs.lemmas.List.{append-nil, append_assoc, length-append}
-use Rattle.std.proofs.lemmas.List.Folds.{list_any-append}
 use Rattle.std.specs.List.{before_first, flat_map, list_any}
 use Rattle.def_feed.specs.Kept.{KeptText, logical_behind, with_front, with_joined}
 use Rattle.def_io.specs.Bytes.{Bytes, Lines}
-use Rattle.def_text.specs.Logical.{Logical, continues, groups_of, is_hash, joined, logical, logical_lines}
-use Rattle.def_text.specs.Logical.{numbered_groups, part_of, with_line, with_space}
+use Rattle.def_text.specs.Logical.{Logical, continues, groups_of, is_hash, joined, logical_lines, part_of}
+use Rattle.def_text.specs.Logical.{numbered_groups, with_line, with_space}
 use Rattle.qm_obj.specs.{Ahead.size_ahead, Feeding.number_by, Lines.first_logical, Lines.line_as}
 use Rattle.qm_obj.proofs.{Groups.logical_step, JoinLemmas.any_take, JoinLemmas.cut_none, JoinLemmas.length-with_space}
 use Rattle.qm_obj.proofs.WordLemmas.{uncommented_is, uncommented_none}
@@ -21,14 +20,11 @@ joined_some number prefix lines some = grind (arith)
 -- Text in front of text in front.
 prefix_more : (number other : ℕ) (prefix more : Bytes) (lines : List Logical)
     → with_front number prefix (with_front other more lines) ≡ with_front number (prefix ++ more) lines
-prefix_more number other prefix more [] =
-    ap (λ n. record { number = number; size = n; text = prefix ++ more } ∷ []) (sym (length-append prefix more))
+prefix_more number other prefix more [] = rw (length-append prefix more) refl
 prefix_more number other prefix more (line ∷ lines) =
     let size : length prefix + (length more + line.size) ≡ length (prefix ++ more) + line.size =
     omega (arith, length-append prefix more) in
-    ap (λ n. record { number = number; size = n; text = prefix ++ (more ++ line.text) } ∷ lines) size
-    ∙ ap (λ text. record { number = number; size = length (prefix ++ more) + line.size; text = text } ∷ lines)
-    (sym (append_assoc prefix more line.text))
+    rw (size, append_assoc prefix more line.text) refl
 
 -- A line that goes on stands in front of the logical line behind it.
 pub logical_goes_on : (number : ℕ) (line : Bytes) (lines : Lines) → continues line ≡ true
@@ -38,52 +34,31 @@ logical_goes_on number line lines on = by_groups (groups_of lines)
     part : part_of line ≡ with_space line
     part = rw on refl
 
-    first : (group : Lines) → logical number (line ∷ group) ≡ record {
-      number = number;
-      size =
-          length (with_space line) + length (flat_map (λ l. l) group);
-      text = with_space line ++ joined group;
-    }
-    first group =
-        let size : length (line ++ flat_map (λ l. l) group)
-        ≡ length (with_space line) + length (flat_map (λ l. l) group) =
-        omega (arith, length-append line (flat_map (λ l. l) group), length-with_space line on) in
-        ap (λ n. record { number = number; size = n; text = part_of line ++ joined group }) size
-        ∙ ap (λ text. record {
-          number = number;
-          size = length (with_space line) + length (flat_map (λ l. l) group);
-          text = text ++ joined group;
-        }) part
+    size : (group : Lines) → length (line ++ flat_map (λ l. l) group)
+        ≡ length (with_space line) + length (flat_map (λ l. l) group)
+    size group = omega (arith, length-append line (flat_map (λ l. l) group), length-with_space line on)
 
     by_groups : (groups : List Lines) → numbered_groups number (with_line line groups)
         ≡ with_front number (with_space line) (numbered_groups (number + 1) groups)
     by_groups [] =
-        let none : with_space line ++ [] ≡ with_space line = append-nil (with_space line) in
-        let size : length (with_space line) + 0 ≡ length (with_space line) = omega arith in
-        ap (λ l. l ∷ []) (first [] ∙ ap (λ n. record { number = number; size = n; text = with_space line ++ [] }) size
-        ∙ ap (λ text. record { number = number; size = length (with_space line); text = text }) none)
+        let none : length (with_space line) + 0 ≡ length (with_space line) = omega arith in
+        rw (on, size [], append-nil (with_space line), none) refl
     by_groups (group ∷ groups) =
         let n : number + suc (length group) ≡ number + 1 + length group = omega arith in
-        ap (numbered_groups number) (by_more (continues line) on)
-        ∙ ap (λ l. l ∷ numbered_groups (number + suc (length group)) groups) (first group)
-        ∙ ap (λ m. record {
+        rw (on, size group, n) (ap (λ (text : Bytes). record {
           number = number;
           size = length (with_space line) + length (flat_map (λ l. l) group);
-          text =
-              with_space line ++ joined group;
-        } ∷ numbered_groups m groups) n
-      where
-        by_more : (t : Bool) → t ≡ true → cond t ((line ∷ group) ∷ groups) ((line ∷ []) ∷ group ∷ groups)
-            ≡ (line ∷ group) ∷ groups
-        by_more t is = grind (arith)
+          text = text ++ joined group;
+        } ∷ numbered_groups (number + 1 + length group) groups) part)
 
 -- A line that does not go on is a logical line.
 pub logical_ends : (number : ℕ) (line : Bytes) (lines : Lines) → continues line ≡ false
-    → logical_lines number (line ∷ lines) ≡ record {
-      number = number;
+    → logical_lines number (line ∷ lines)
+    ≡ record {
+      number =
+          number;
       size = length line;
-      text =
-          before_first is_hash line;
+      text = before_first is_hash line;
     } ∷ logical_lines (number + 1) lines
 logical_ends number line lines off = logical_step number line lines ∙ grind (arith)
 

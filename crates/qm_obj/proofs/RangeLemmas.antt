@@ -1,18 +1,14 @@
 -- The logical lines of a text that a reader takes one by one.
-use Rattle.std.proofs.Common.{◌≡◌, ℕ, ◌+◌, ◌<◌, ◌≤◌, List, [], ◌∷◌, ◌++◌}
-use Rattle.std.proofs.Common.{length, map, refl, sym, ◌∙◌, arith}
-use Rattle.std.proofs.Common.{Err}
+use Rattle.std.proofs.Common.{◌≡◌, ℕ, ◌+◌, ◌<◌, ◌≤◌, List, [], ◌∷◌, ◌++◌, length, map, refl, sym, ◌∙◌, arith, Err}
 use Rattle.std.proofs.lemmas.List.{append-nil}
 use Rattle.std.specs.Prelude.{slice_range}
-use Rattle.def_text.specs.{Logical.logical_lines}
-use Rattle.def_text.specs.{Text.soup_of, Text.text_soup, declared.refusal.ObjFail.ObjFail}
-use Rattle.def_text.specs.declared.reading.Reading.TheVariants.{Position}
-use Rattle.def_text.specs.{declared.reading.Reading.TheVariants.Refused, Types.Positions}
+use Rattle.def_text.specs.{Logical.logical_lines, Text.soup_of, Text.text_soup, declared.refusal.ObjFail.ObjFail}
+use Rattle.def_text.specs.declared.reading.Reading.TheVariants.{Position, Refused}
+use Rattle.def_text.specs.Types.{Positions}
 use Rattle.qm_obj.proofs.Ranges.{next_lines, range_none, span_within}
 use Rattle.qm_obj.proofs.KeptLemmas.{Fits, Follows, line_taken, nothing_kept, stops_at}
 use Rattle.def_feed.specs.Kept.{face_readings, readings_behind}
-use Rattle.qm_obj.specs.{Ahead.span}
-use Rattle.qm_obj.specs.Lines.{Took, first_logical, next_said}
+use Rattle.qm_obj.specs.{Ahead.span, Lines.Took, Lines.first_logical, Lines.next_said}
 use Rattle.def_mesh.specs.Faces.{Faces}
 use Rattle.def_io.specs.Bytes.{Lines}
 

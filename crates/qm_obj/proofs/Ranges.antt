@@ -1,6 +1,5 @@
 -- The logical line with which a range of physical lines begins.
-use Rattle.std.proofs.Common.{◌≡◌, ℕ, suc, ◌+◌, ◌-◌, ◌<◌, ◌≤◌, false, List, [], ◌∷◌, length, drop, get_or, refl}
-use Rattle.std.proofs.Common.{arith}
+use Rattle.std.proofs.Common.{◌≡◌, ℕ, suc, ◌+◌, ◌-◌, ◌<◌, ◌≤◌, false, List, [], ◌∷◌, length, drop, get_or, refl, arith}
 use Rattle.std.proofs.lemmas.List.{drop_more}
 use Rattle.std.specs.{Prelude.slice_range, List.before_first}
 use Rattle.def_io.specs.Bytes.{Lines}

@@ -1,21 +1,14 @@
 -- What lines say one behind the other, which faces are late, and what clamping changes.
-use Rattle.std.proofs.Common.{◌≡◌, ℕ, ◌-◌, ◌^◌, ◌≤◌, min, Bool, true, false, cond, List, [], ◌∷◌, ◌++◌}
-use Rattle.std.proofs.Common.{map, refl, arith, ltb, Some, None}
-use Rattle.std.proofs.Common.{Err}
+use Rattle.std.proofs.Common.{◌≡◌, ℕ, ◌-◌, ◌^◌, ◌≤◌, min, Bool, true, false, cond, List, [], ◌∷◌, ◌++◌, map, refl}
+use Rattle.std.proofs.{Common.arith, Common.ltb, Common.Some, Common.None, Common.Err, lemmas.Bool.Decides.nat_tests}
 use Rattle.std.proofs.lemmas.Bool.{and_from, and_parts, ltb-false, or_parts}
-use Rattle.std.proofs.lemmas.Bool.Decides.{nat_tests}
 use Rattle.std.proofs.lemmas.List.{append-nil, append_assoc}
 use Rattle.std.specs.List.{flat_map, list_all, list_any}
-use Rattle.def_text.specs.{Logical.Logical}
-use Rattle.def_text.specs.{Text.face_in, Text.faces}
-use Rattle.def_text.specs.Text.{first_refusal, late_in, position_in, readings}
-use Rattle.def_text.specs.{Text.refusal_in, declared.refusal.ObjFail.ObjFail}
+use Rattle.def_text.specs.{Logical.Logical, declared.refusal.ObjFail.ObjFail, declared.reading.Reading.Reading}
+use Rattle.def_text.specs.Text.{face_in, faces, first_refusal, late_in, position_in, readings, refusal_in}
 use Rattle.def_text.specs.declared.refusal.ObjFail.TheVariants.{Range}
-use Rattle.def_text.specs.{declared.reading.Reading.Reading, declared.reading.Reading.TheVariants.Passed}
-use Rattle.def_text.specs.declared.reading.Reading.TheVariants.{Position, Face}
-use Rattle.def_text.specs.{declared.reading.Reading.TheVariants.Refused}
-use Rattle.qm_obj.specs.{Indices.clamped, Indices.with_clamped, Kept.first_late}
-use Rattle.qm_obj.specs.Lines.{line_in}
+use Rattle.def_text.specs.declared.reading.Reading.TheVariants.{Passed, Position, Face, Refused}
+use Rattle.qm_obj.specs.{Indices.clamped, Indices.with_clamped, Kept.first_late, Lines.line_in}
 use Rattle.def_mesh.specs.Faces.{Faces}
 
 -- What two lists of lines say, one behind the other.

@@ -1,18 +1,16 @@
 -- The used positions and the faces over them are a soup.
 use Rattle.std.proofs.Common.{◌≡◌, ℕ, zero, suc, ◌+◌, ◌-◌, ◌<◌, ◌≤◌, Bool, true, false, cond, ◌&&◌, nat_lt, List, []}
-use Rattle.std.proofs.Common.{◌∷◌, ◌++◌, length, map, get_or, refl, sym, ap, ◌∙◌, arith, subst, eqb, ltb, leb, Some}
-use Rattle.std.proofs.Common.{None, inl, inr, ◌⊎◌}
+use Rattle.std.proofs.Common.{◌∷◌, ◌++◌, length, map, get_or, refl, sym, ap, ◌∙◌, arith, eqb, ltb, leb, Some}
+use Rattle.std.proofs.{Common.None, Common.inl, Common.inr, Common.◌⊎◌, lemmas.List.Folds.list_any_at}
 use Rattle.std.proofs.lemmas.Bool.{and_from, and_parts, cases_lt, eq-eqb, eqb-true, false≢true, le-leb, leb-true}
 use Rattle.std.proofs.lemmas.Bool.{lt-ltb, ltb-false, ltb-true, or_left, or_right, or_cases, or_parts}
 use Rattle.std.proofs.lemmas.List.{append-nil, get_or_append_left, get_or_push, length-append, length-map, length_push}
-use Rattle.std.proofs.lemmas.List.Elements.{filter-append, filter_passes}
-use Rattle.std.proofs.lemmas.List.Folds.{list_any_at}
-use Rattle.std.proofs.lemmas.List.Kept.{IsStrictlyIncreasing-filter}
+use Rattle.std.proofs.lemmas.List.{Elements.filter-append, Elements.filter_passes, Kept.IsStrictlyIncreasing-filter}
 use Rattle.std.proofs.lemmas.List.Sums.{count_by-le-length, length-filter}
 use Rattle.std.specs.{Prelude.IsTrue, List.list_all, List.list_any, List.Sorted.IsStrictlyIncreasing}
 use Rattle.def_mesh.specs.{Vertices.is_used, Faces.Faces}
-use Rattle.def_text.specs.{FaceSet.IsSoup, Text.face_set, Text.numbers_to, Text.position_of, Text.used_to}
-use Rattle.def_text.specs.{Text.line_vertex, Types.Positions}
+use Rattle.def_text.specs.{FaceSet.IsSoup, Types.Positions}
+use Rattle.def_text.specs.Text.{face_set, numbers_to, position_of, used_to, line_vertex}
 use Rattle.qm_obj.specs.Kept.{are_numbers, first_late}
 
 -- Each of these numbers is below n.
@@ -61,8 +59,7 @@ rank_below faces n (suc k) some le is =
     ∙ rw is (length_push (used_to faces k) (suc k)) in
     let up : suc k + (n - suc k) ≡ n = omega arith in
     let grown : length (used_to faces (suc k)) ≤ length (used_to faces n) =
-    subst (λ (m : ℕ). length (used_to faces (suc k)) ≤ length (used_to faces m)) up
-    (used_grows faces (suc k) (n - suc k)) in
+    rw up at (used_grows faces (suc k) (n - suc k)) in
     rw e (omega arith)
 rank_below faces n zero some le is = absurd (omega arith)
 
@@ -159,11 +156,10 @@ face_set_is_soup positions faces known = record {
       (below_all faces (length positions) faces known (all_used faces));
   used = λ v l.
       let lt : v < length (used_to faces (length positions)) =
-      subst (λ (m : ℕ). v < m) (length-map (used_to faces (length positions)) (position_of positions)) l in
+      rw (length-map (used_to faces (length positions)) (position_of positions)) at l in
       let is : is_used faces (get_or (used_to faces (length positions)) v 0) ≡ true =
       filter_passes (is_used faces) (numbers_to (length positions)) v 0 lt in
-      subst (λ (w : ℕ). is_used (map (λ corners. map (line_vertex faces) corners) faces) w ≡ true)
-      (rank_at faces (length positions) v lt)
+      rw (rank_at faces (length positions) v lt) at
       (used_renumbered (line_vertex faces) (get_or (used_to faces (length positions)) v 0) faces is);
   named = sym (length-map (used_to faces (length positions)) (position_of positions));
   increasing = IsStrictlyIncreasing-filter (is_used faces) (numbers_to (length positions))

@@ -5,16 +5,13 @@ use Rattle.std.proofs.lemmas.Bool.{and_from, eqb-true, leb-false, ne_eqb, or_par
 use Rattle.std.proofs.lemmas.Bool.Decides.{nat_tests}
 use Rattle.std.specs.List.{list_all, list_any}
 use Rattle.def_text.specs.{Corner.is_out, Corner.resolved, Corner.used_index, Decimal.rounded, Logical.Logical}
-use Rattle.def_text.specs.Reading.{begins_with, face_reading, is_face_line, is_letter}
-use Rattle.def_text.specs.Reading.{is_vertex_line, reading, vertex_reading, words_reading}
-use Rattle.def_text.specs.{Text.face_in, Text.faces, Text.position_in, Text.refusal_in, Words.words}
-use Rattle.def_text.specs.{declared.refusal.ObjFail.ObjFail, declared.refusal.ObjFail.TheVariants.Limit}
-use Rattle.def_text.specs.declared.refusal.ObjFail.TheVariants.{NotQuad, Range}
-use Rattle.def_text.specs.{declared.refusal.ObjFail.TheVariants.Syntax, declared.refusal.Which.TheVariants.Faces}
-use Rattle.def_text.specs.declared.refusal.Which.TheVariants.{Line, Vertices}
-use Rattle.def_text.specs.{declared.reading.Reading.Reading, declared.reading.Reading.TheVariants.Passed}
-use Rattle.def_text.specs.declared.reading.Reading.TheVariants.{Position, Face}
-use Rattle.def_text.specs.{declared.reading.Reading.TheVariants.Refused, Types.Words}
+use Rattle.def_text.specs.Reading.{begins_with, face_reading, is_face_line, is_letter, is_vertex_line, reading}
+use Rattle.def_text.specs.{Reading.vertex_reading, Reading.words_reading, Words.words, declared.refusal.ObjFail.ObjFail}
+use Rattle.def_text.specs.{Text.face_in, Text.faces, Text.position_in, Text.refusal_in, Types.Words}
+use Rattle.def_text.specs.declared.refusal.ObjFail.TheVariants.{Limit, NotQuad, Range, Syntax}
+use Rattle.def_text.specs.declared.refusal.Which.TheVariants.{Faces, Line, Vertices}
+use Rattle.def_text.specs.declared.reading.Reading.{Reading}
+use Rattle.def_text.specs.declared.reading.Reading.TheVariants.{Passed, Position, Face, Refused}
 
 -- What a line says fits its kind and the limits.
 pub record Suits (vertices faces : ℕ) (line : Logical) (said : Reading) : Type 0 where

@@ -1,12 +1,10 @@
 use Rattle.std.proofs.Common.{◌≡◌, true, map, arith, sym, ◌∙◌, ap}
-use Rattle.std.proofs.{lemmas.Bool.eq-eqb, lemmas.Bool.ne_eqb, lemmas.List.take_all}
-use Rattle.def_text.specs.{Corner.is_corner_word, declared.reading.Reading.TheVariants.Face}
-use Rattle.def_text.specs.{declared.reading.Reading.TheVariants.Refused, declared.refusal.ObjFail.TheVariants.NotQuad}
-use Rattle.def_text.specs.Words.{words}
+use Rattle.std.proofs.lemmas.{Bool.eq-eqb, Bool.ne_eqb, List.take_all}
+use Rattle.def_text.specs.{Corner.is_corner_word, declared.refusal.ObjFail.TheVariants.NotQuad, Words.words}
+use Rattle.def_text.specs.declared.reading.Reading.TheVariants.{Face, Refused}
 use Rattle.qm_obj.specs.{Indices.corner_of, Lines.uncommented}
 use Rattle.qm_obj.proofs.LineLemmas.{face_count, face_in, face_out, face_syntax}
-use Rattle.qm_obj.proofs.WordLemmas.{AreRead, all_read, fewer_left, read_bad, read_more}
-use Rattle.qm_obj.proofs.WordLemmas.{next_read, words_short}
+use Rattle.qm_obj.proofs.WordLemmas.{AreRead, all_read, fewer_left, read_bad, read_more, next_read, words_short}
 use Rattle.qm_obj.proofs.line.read_face.Goals.{After-is_empty}
 use Rattle.qm_obj.proofs.line.read_face.Goals as goal
 

@@ -4,8 +4,7 @@ use Rattle.std.specs.List.{list_all}
 use Rattle.def_text.specs.{Decimal.is_decimal, Reading.is_position_count, Words.words}
 use Rattle.qm_obj.specs.{Positions.all_near, Positions.coordinate, Lines.uncommented}
 use Rattle.qm_obj.proofs.LineLemmas.{position_words, vertex_far, vertex_position, vertex_syntax}
-use Rattle.qm_obj.proofs.WordLemmas.{AreRead, all_read, fewer_left, read_bad, read_more}
-use Rattle.qm_obj.proofs.WordLemmas.{next_read, words_short}
+use Rattle.qm_obj.proofs.WordLemmas.{AreRead, all_read, fewer_left, read_bad, read_more, next_read, words_short}
 use Rattle.qm_obj.proofs.line.read_vertex.Goals.{After-is_empty}
 use Rattle.qm_obj.proofs.line.read_vertex.Goals as goal
 

@@ -3,8 +3,7 @@ use Rattle.std.specs.Prelude.{slice_range}
 use Rattle.error_laws.proofs.Errors.{handed}
 use Rattle.def_io.specs.Lines.{lines_of}
 use Rattle.qm_obj.specs.Lines.{first_logical, line_as}
-use Rattle.qm_obj.proofs.JoinLemmas.{same_refused, same_took, single_logical}
-use Rattle.qm_obj.proofs.Ranges.{single_span}
+use Rattle.qm_obj.proofs.{JoinLemmas.same_refused, JoinLemmas.same_took, JoinLemmas.single_logical, Ranges.single_span}
 use Rattle.qm_obj.proofs.read.take_logical.Goals.{After-goes_on}
 use Rattle.qm_obj.proofs.read.take_logical.Goals as goal
 

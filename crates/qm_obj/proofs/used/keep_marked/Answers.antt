@@ -1,6 +1,5 @@
 use Rattle.std.proofs.Common.{◌≡◌, ◌+◌, ◌∷◌, ◌++◌, [], length, get_or, arith, ◌∙◌, ap, below_more}
-use Rattle.std.proofs.lemmas.Grind.{common_steps}
-use Rattle.std.proofs.lemmas.List.{length_push, get_or_push, get_or_append_left}
+use Rattle.std.proofs.lemmas.{Grind.common_steps, List.length_push, List.get_or_push, List.get_or_append_left}
 use Rattle.qm_obj.specs.Kept.{chosen}
 use Rattle.qm_obj.proofs.UsedLemmas.{kept_mark, kept_skip}
 use Rattle.qm_obj.proofs.used.keep_marked.Goals.{then-marks-k+in_ok-keep_position, else-marks-k}

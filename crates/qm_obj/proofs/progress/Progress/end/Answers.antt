@@ -2,10 +2,9 @@ use Rattle.std.proofs.Common.{◌∙◌, refl, ap, [], ◌≢◌}
 use Rattle.std.proofs.lemmas.Result.{IfErr-weaker, on_ok_weaker}
 use Rattle.def_io.specs.Lines.{line_of}
 use Rattle.qm_obj.proofs.FeedLemmas.{ended_tail, is_nothing, is_something}
-use Rattle.qm_obj.proofs.progress.Progress.end.Goals as goal
 use Rattle.def_text.specs.declared.refusal.ObjFail.TheVariants.{Memory}
-use Rattle.qm_obj.specs.Feeding.{RefusesLine, TookLine}
-use Rattle.qm_obj.specs.Views.{kept_of}
+use Rattle.qm_obj.specs.{Feeding.RefusesLine, Feeding.TookLine, Views.kept_of}
+use Rattle.qm_obj.proofs.progress.Progress.end.Goals as goal
 
 pub returns-then-is_empty-clause-same : goal.returns-then-is_empty-clause-same
 returns-then-is_empty-clause-same c = rw (is_nothing c.if-is_empty.ensures c.args.self.now.tail.ok.0) refl

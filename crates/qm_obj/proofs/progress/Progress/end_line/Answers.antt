@@ -1,11 +1,10 @@
 use Rattle.std.proofs.Common.{◌≡◌, ◌∷◌, [], ◌≢◌}
 use Rattle.std.proofs.lemmas.Result.{IfErr-weaker, on_ok_weaker}
 use Rattle.error_laws.proofs.Errors.{handed}
-use Rattle.qm_obj.specs.Views.{kept_at, kept_of}
+use Rattle.qm_obj.specs.{Views.kept_at, Views.kept_of, Feeding.RefusesLine}
 use Rattle.qm_obj.proofs.FeedLemmas.{both_taken, each_behind, fed_piece, fed_refused, is_nothing, refused_before}
-use Rattle.qm_obj.proofs.progress.Progress.end_line.Goals as goal
 use Rattle.def_text.specs.declared.refusal.ObjFail.TheVariants.{Memory}
-use Rattle.qm_obj.specs.Feeding.{RefusesLine}
+use Rattle.qm_obj.proofs.progress.Progress.end_line.Goals as goal
 
 pub returns-then-is_empty-clause-took : goal.returns-then-is_empty-clause-took
 returns-then-is_empty-clause-took c =

@@ -1,11 +1,10 @@
-use Rattle.std.proofs.{Common.◌≡◌, Common.◌++◌, Common.refl, lemmas.List.append-nil}
+use Rattle.std.proofs.{Common.◌≡◌, Common.◌++◌, Common.refl, Common.[], lemmas.List.append-nil}
 use Rattle.error_laws.proofs.Errors.{handed}
 use Rattle.def_io.specs.Lines.{line_of}
 use Rattle.qm_obj.specs.Views.{kept_of}
 use Rattle.qm_obj.proofs.FeedLemmas.{fed_piece, fed_refused}
 use Rattle.qm_obj.proofs.progress.Progress.end_tail.Goals.{After-line_of}
 use Rattle.qm_obj.proofs.progress.Progress.end_tail.Goals as goal
-use Rattle.std.proofs.Common.{[]}
 
 -- The line that ends.
 line : (c : After-line_of) → c.line_of.result.now ≡ line_of (c.args.self.now.tail.items ++ [])

@@ -1,6 +1,5 @@
 use Rattle.std.proofs.Common.{◌+◌, ◌-◌, length, take, drop, arith}
-use Rattle.std.proofs.lemmas.List.{length-drop, length-take, take-append-drop}
-use Rattle.std.proofs.lemmas.Result.{on_ok_weaker}
+use Rattle.std.proofs.lemmas.{List.length-drop, List.length-take, List.take-append-drop, Result.on_ok_weaker}
 use Rattle.error_laws.proofs.Errors.{handed}
 use Rattle.qm_obj.specs.Views.{kept_at}
 use Rattle.qm_obj.proofs.FeedLemmas.{both_taken, each_behind, refused_before, refused_behind}
