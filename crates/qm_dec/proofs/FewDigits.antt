@@ -1,16 +1,14 @@
 -- Decimals of few digits without an exponent.
 use Rattle.std.proofs.Common.{◌≡◌, ℕ, ◌+◌, ◌-◌, ◌*◌, ◌^◌, ◌<◌, ◌≤◌, min, true, List, [], ◌∷◌, ◌++◌, length, take, drop}
-use Rattle.std.proofs.Common.{get_or, sym, ap, ◌∙◌, refl, subst, arith, Option, Some, None}
-use Rattle.std.proofs.lemmas.Bool.{and_from, le-leb}
+use Rattle.std.proofs.Common.{get_or, sym, ap, ◌∙◌, refl, arith, Option, Some, None}
+use Rattle.std.proofs.lemmas.{Bool.and_from, Bool.le-leb, List.take_all, Nat.pow-add}
 use Rattle.std.proofs.lemmas.List.{append-nil, length-map, length-take, nil_from_length, take-append-drop, take-take}
-use Rattle.std.proofs.lemmas.List.{take_all}
-use Rattle.std.proofs.lemmas.Nat.{pow-add}
 use Rattle.std.proofs.Math.Nat.{mul-le-mul_left, mul-le-mul_right, mul_assoc, pow-le-pow_right}
 use Rattle.std.specs.{Prelude.IfSome, Char.is_ascii_digit, Int.Digits.number_from_digits_after, List.list_all}
 use Rattle.def_text.specs.{Decimal.is_exponent, Digits.is_number, Digits.number_written, Digits.unsigned}
 use Rattle.qm_dec.specs.Sizes.{IsSize}
-use Rattle.qm_dec.proofs.{Clamps.ten_power, Digits.after_is, Digits.number_append, ReadBack.HasParts}
-use Rattle.qm_dec.proofs.ReadBack.{digits_number, parts_size, plain_parts, pointed_parts}
+use Rattle.qm_dec.proofs.{Clamps.ten_power, Digits.after_is, Digits.number_append}
+use Rattle.qm_dec.proofs.ReadBack.{HasParts, digits_number, parts_size, plain_parts, pointed_parts}
 use Rattle.qm_scan.proofs.Numbers.{number_small, values}
 
 ten_most : (i j : ℕ) → i ≤ j → 10 ^ i ≤ 10 ^ j
@@ -80,51 +78,47 @@ pub record IsPrefix (body : List ℕ) (count n : ℕ) : Type 0 where
   all : list_all is_ascii_digit (take count body) ≡ true
   is : n ≡ number_written (take count body)
 
-pub prefix_is : (body : List ℕ) (most count n : ℕ) → most ≡ min (length body) 9 → count ≤ length (take most body)
+pub prefix_is : {body : List ℕ} {most count n : ℕ} → most ≡ min (length body) 9 → count ≤ length (take most body)
     → list_all is_ascii_digit (take count (take most body)) ≡ true
     → n ≡ number_written (take count (take most body)) → IsPrefix body count n
-prefix_is body most count n is within all value =
+prefix_is {body} {most} {count} {n} is within all value =
     let few : length (take most body) ≡ min most (length body) = length-take most body in
     let same : take count (take most body) ≡ take count body = take-take count most body (omega arith) in
     record {
       long = length-take count body ∙ omega arith;
       nine = omega arith;
-      all = ap (list_all is_ascii_digit) (sym same) ∙ all;
-      is = value ∙ ap number_written same;
+      all = rw same at all;
+      is = rw same at value;
     }
 
-pub prefix_small : (body : List ℕ) (count n : ℕ) → IsPrefix body count n → n < 10 ^ 9
-prefix_small body count n prefix =
+pub prefix_small : {body : List ℕ} {count n : ℕ} → IsPrefix body count n → n < 10 ^ 9
+prefix_small {body} {count} prefix =
     omega (arith, prefix.is, nine_small (take count body) prefix.all (omega (arith, prefix.long, prefix.nine)))
 
 split_prefix : (body rest : List ℕ) (count : ℕ) → rest ≡ drop count body → body ≡ take count body ++ rest
-split_prefix body rest count is = sym (take-append-drop count body) ∙ ap (λ xs. take count body ++ xs) (sym is)
+split_prefix body rest count is = rw (is, take-append-drop count body) refl
 
 -- The size of a word by its prefix and what stands behind it.
-pub whole_size : (word body rest : List ℕ) (count n : ℕ) → length word ≤ 64 → body ≡ unsigned word
+pub whole_size : (word : List ℕ) {body rest : List ℕ} {count n : ℕ} → length word ≤ 64 → body ≡ unsigned word
     → IsPrefix body count n → (count ≡ 0 → ⊥) → rest ≡ drop count body → length rest ≡ 0 → IsSize word (n * 10 ^ 6)
-whole_size word body rest count n short is prefix some behind none =
+whole_size word {body} {rest} {count} short is prefix some behind none =
     let nothing : rest ≡ [] = nil_from_length rest none in
     let body_is : body ≡ take count body = split_prefix body rest count behind
-    ∙ ap (λ xs. take count body ++ xs) nothing ∙ append-nil (take count body) in
-    subst (λ m. IsSize word (m * 10 ^ 6)) (sym prefix.is)
-    (whole_is word (take count body) short (sym is ∙ body_is) (omega (arith, prefix.long))
+    ∙ rw nothing (append-nil (take count body)) in
+    rw prefix.is (whole_is word (take count body) short (sym is ∙ body_is) (omega (arith, prefix.long))
     (omega (arith, prefix.long, prefix.nine)) prefix.all)
 
-pub pointed_size : (word body rest fraction : List ℕ) (count n size : ℕ) → length word ≤ 64 → body ≡ unsigned word
+pub pointed_size : (word : List ℕ) {body rest fraction : List ℕ} {count n : ℕ} (size : ℕ) → length word ≤ 64 → body
+    ≡ unsigned word
     → IsPrefix body count n → (count ≡ 0 → ⊥) → rest ≡ drop count body → 0 < length rest → get_or rest 0 0 ≡ 46
     → fraction ≡ drop 1 rest → (list_all is_ascii_digit fraction ≡ true) × (length fraction ≤ 6)
     × (size ≡ number_from_digits_after 10 n (values fraction) * 10 ^ (6 - length fraction)) → IsSize word size
-pointed_size word body rest fraction count n size short is prefix some behind more point tail good =
+pointed_size word {body} {rest} {fraction} {count} {n} size short is prefix some behind more point tail good =
     let rest_is : rest ≡ 46 ∷ fraction = first_is rest 46 more point ∙ ap (λ xs. 46 ∷ xs) (sym tail) in
     let body_is : body ≡ take count body ++ 46 ∷ fraction = split_prefix body rest count behind
     ∙ ap (λ xs. take count body ++ xs) rest_is in
-    let value : number_from_digits_after 10 (number_written (take count body)) (values fraction) * 10 ^
-    (6 - length fraction) ≡ size =
-    ap (λ m. number_from_digits_after 10 m (values fraction) * 10 ^ (6 - length fraction)) (sym prefix.is)
-    ∙ sym good.2 in
-    subst (λ m. IsSize word m) value
-    (pointed_is word (take count body) fraction short (sym is ∙ body_is) (omega (arith, prefix.long))
+    rw (good.2, prefix.is) (pointed_is word (take count body) fraction short (sym is ∙ body_is)
+    (omega (arith, prefix.long))
     (omega (arith, prefix.long, prefix.nine)) prefix.all good.0 good.1)
   where
     first_is : (xs : List ℕ) (x : ℕ) → 0 < length xs → get_or xs 0 0 ≡ x → xs ≡ x ∷ drop 1 xs
@@ -141,6 +135,4 @@ pub read_small : (w : ℕ) (ys : List ℕ) (count n p : ℕ) → w < 10 ^ 9 → 
     → n ≡ number_from_digits_after 10 w (values (take count ys)) → p ≡ 10 ^ (6 - length ys) → n * p < 10 ^ 15
 read_small w ys count n p few six within all whole is power =
     let same : take count ys ≡ ys = take_all count ys whole in
-    subst (λ m. m < 10 ^ 15) (sym (ap (λ m. m * p) (is ∙ ap (λ ds. number_from_digits_after 10 w (values ds)) same)
-    ∙ ap (λ q. number_from_digits_after 10 w (values ys) * q) power))
-    (size_small w ys few (ap (list_all is_ascii_digit) (sym same) ∙ all) six)
+    rw (is, power, same) (size_small w ys few (rw same at all) six)

@@ -1,8 +1,7 @@
 -- The parts of a ratio's word.
 use Rattle.std.proofs.Common.{◌≡◌, ℕ, suc, ◌+◌, ◌<◌, ◌≤◌, min, Bool, true, false, not, cond, eqb, List, [], ◌∷◌, ◌++◌}
 use Rattle.std.proofs.Common.{length, take, drop, get_or, sym, ap, ◌∙◌, subst, refl, arith}
-use Rattle.std.proofs.lemmas.Bool.{false≢true, eqb-true}
-use Rattle.std.proofs.lemmas.List.{take_at, drop_at, take-append-drop}
+use Rattle.std.proofs.lemmas.{Bool.false≢true, Bool.eqb-true, List.take_at, List.drop_at, List.take-append-drop}
 use Rattle.std.specs.{Prelude.decimal, Char.is_ascii_digit, List.list_all, List.position_or_len}
 use Rattle.def_text.specs.{Digits.number_written, Ratio.IsRatio}
 use Rattle.qm_dec.specs.Sizes.{clamped}

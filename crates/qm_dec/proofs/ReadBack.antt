@@ -3,25 +3,20 @@ use Rattle.std.proofs.Common.{◌≡◌, ℕ, zero, suc, ◌+◌, ◌-◌, ◌*�
 use Rattle.std.proofs.Common.{neg_ℤ, Bool, true, false, not, cond, eqb, List, [], ◌∷◌, ◌++◌, length, take, drop, get_or}
 use Rattle.std.proofs.Common.{sym, ap, ◌∙◌, refl, inl, inr, arith, length-append}
 use Rattle.std.proofs.lemmas.Bool.{and_from, and_parts, or_from, le-leb, le-ltb, cases_eq, eqb-true, ne_eqb, cond-true}
-use Rattle.std.proofs.lemmas.Bool.{cond-false}
-use Rattle.std.proofs.lemmas.Int.{ints}
-use Rattle.std.proofs.lemmas.Fmt.{decimal_digit, decimal_step, decimal_nonempty}
+use Rattle.std.proofs.lemmas.{Bool.cond-false, Int.ints, Fmt.decimal_digit, Fmt.decimal_step, Fmt.decimal_nonempty}
 use Rattle.std.proofs.lemmas.List.{take_all, take_at, drop_at, drop_all, take_more, length-map, length-take}
-use Rattle.std.proofs.lemmas.List.{append_assoc, append-nil}
-use Rattle.std.proofs.lemmas.List.Folds.{list_all-append}
+use Rattle.std.proofs.lemmas.{List.append_assoc, List.append-nil, List.Folds.list_all-append, Nat.pow-add}
 use Rattle.std.proofs.Math.Nat.{pow-suc, mul_assoc}
-use Rattle.std.proofs.lemmas.Nat.{pow-add}
-use Rattle.std.specs.{Prelude.decimal, Char.is_ascii_digit, List.list_all, List.position_or_len, List.before_first}
-use Rattle.std.specs.List.{after_first}
+use Rattle.std.specs.{Prelude.decimal, Char.is_ascii_digit}
+use Rattle.std.specs.List.{list_all, position_or_len, before_first, after_first}
 use Rattle.def_text.specs.Canonical.{fraction_text, micro_text, six_digits, without_zeros}
 use Rattle.def_text.specs.Decimal.{all_digits, exponent, fraction_digits, is_decimal, is_exponent, is_mark, is_point}
-use Rattle.def_text.specs.Decimal.{mantissa, power, rounded_size, scaled}
+use Rattle.def_text.specs.{Decimal.mantissa, Decimal.power, Decimal.rounded_size, Decimal.scaled, Laws.CanonicalLaw}
 use Rattle.def_text.specs.Digits.{is_negative, is_number, number_written, unsigned}
-use Rattle.def_text.specs.Laws.{CanonicalLaw}
 use Rattle.qm_dec.proofs.{Digits.after_is, Digits.digits_before, Digits.number_append, Forms.number_both}
-use Rattle.qm_dec.proofs.{Scaling.digits_behind, Texts.decimal_digits, Texts.decimal_number, Texts.digit_other}
-use Rattle.qm_dec.proofs.{Texts.digits_fail, Texts.first_at, Texts.none_first, Trims.fraction_short, Trims.whole_short}
-use Rattle.qm_dec.proofs.Trims.{without_zeros-other, without_zeros-zero}
+use Rattle.qm_dec.proofs.Scaling.{digits_behind}
+use Rattle.qm_dec.proofs.Texts.{decimal_digits, decimal_number, digit_other, digits_fail, first_at, none_first}
+use Rattle.qm_dec.proofs.Trims.{fraction_short, whole_short, without_zeros-other, without_zeros-zero}
 use Rattle.qm_scan.proofs.Numbers.{digit_small, values}
 
 -- A million and a number below it are printed with seven digits, the first of which is 1.

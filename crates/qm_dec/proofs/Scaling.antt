@@ -2,12 +2,9 @@
 -- least 5.
 use Rattle.std.proofs.Common.{◌≡◌, ℕ, suc, ◌+◌, ◌-◌, ◌*◌, ◌/◌, ◌^◌, ◌<◌, ◌≤◌, pos, negsuc, ◌-ℤ◌, ◌+ℤ◌, neg_ℤ, min, true}
 use Rattle.std.proofs.Common.{cond, ltb, List, length, take, drop, get_or, inl, inr, sym, ap, ◌∙◌, subst, refl, arith}
-use Rattle.std.proofs.lemmas.Bool.{cases_lt, lt-ltb, le-ltb, and_parts}
-use Rattle.std.proofs.lemmas.Int.{ints}
-use Rattle.std.proofs.lemmas.Nat.{div-mul-add}
+use Rattle.std.proofs.lemmas.{Bool.cases_lt, Bool.lt-ltb, Bool.le-ltb, Bool.and_parts, Int.ints, Nat.div-mul-add}
 use Rattle.std.proofs.Math.Nat.{pow-suc, pow-succ', pow-le-pow_right, mul-le-mul_right, div-eq_of_lt}
-use Rattle.std.proofs.lemmas.List.{take-append-drop, length-drop, length-map}
-use Rattle.std.proofs.lemmas.List.Folds.{list_all-append}
+use Rattle.std.proofs.lemmas.{List.take-append-drop, List.length-drop, List.length-map, List.Folds.list_all-append}
 use Rattle.std.proofs.lemmas.List.Sums.{AllPass-from_list_all}
 use Rattle.std.specs.{Char.is_ascii_digit, List.list_all}
 use Rattle.def_text.specs.{Decimal.scaled, Digits.number_written}

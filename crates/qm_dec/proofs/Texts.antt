@@ -1,8 +1,7 @@
 -- Numbers as they are printed: their digits, their value, their length, and where other bytes stand among them.
 use Rattle.std.proofs.Common.{◌≡◌, ℕ, ◌+◌, ◌%◌, ◌^◌, ◌<◌, Bool, true, false, not, cond, eqb, List, [], ◌∷◌, ◌++◌}
-use Rattle.std.proofs.Common.{length, ap, ◌∙◌, refl, arith}
+use Rattle.std.proofs.{Common.length, Common.ap, Common.◌∙◌, Common.refl, Common.arith, lemmas.Fmt.decimal_by_steps}
 use Rattle.std.proofs.lemmas.Bool.{and_parts, and_from, le-leb, not_from_true, not_from_false, ne_eqb}
-use Rattle.std.proofs.lemmas.Fmt.{decimal_by_steps}
 use Rattle.std.proofs.lemmas.List.Folds.{list_all-append}
 use Rattle.std.specs.{Prelude.decimal, Char.is_ascii_digit, List.list_all, List.position_or_len, List.prefix_len}
 use Rattle.def_text.specs.Digits.{number_written}

@@ -1,10 +1,8 @@
 -- The canonical text of a number: zeros at the end of digits, and lengths.
-use Rattle.std.proofs.Common.{◌≡◌, ℕ, ◌+◌, ◌-◌, ◌<◌, ◌≤◌, cond, List}
-use Rattle.std.proofs.Common.{[], ◌∷◌, ◌++◌, length, take, refl, ap}
-use Rattle.std.proofs.{Common.◌∙◌, Common.arith, Common.eqb, lemmas.List.reverse-append, lemmas.List.take-append-le}
-use Rattle.std.proofs.{lemmas.List.take_all, lemmas.List.length_push, lemmas.Bool.ne_eqb}
-use Rattle.std.proofs.{lemmas.List.Sums.suffix_len-le-length, Common.◌^◌, Common.◌/◌, Common.set}
-use Rattle.std.proofs.{lemmas.Fmt.length-decimal-le, lemmas.List.length-take, lemmas.List.length-drop}
+use Rattle.std.proofs.Common.{◌≡◌, ℕ, ◌+◌, ◌-◌, ◌<◌, ◌≤◌, cond, List, [], ◌∷◌, ◌++◌, length, take, refl, ap, ◌∙◌, arith}
+use Rattle.std.proofs.{Common.eqb, Common.◌^◌, Common.◌/◌, Common.set, lemmas.Bool.ne_eqb, lemmas.Fmt.length-decimal-le}
+use Rattle.std.proofs.lemmas.List.{reverse-append, take-append-le, take_all, length_push, length-take, length-drop}
+use Rattle.std.proofs.lemmas.List.Sums.{suffix_len-le-length}
 use Rattle.std.specs.{List.suffix_len, List.prefix_len, Prelude.decimal}
 use Rattle.def_text.specs.Canonical.{fraction_text, six_digits, without_zeros}
 

@@ -1,11 +1,9 @@
-use Rattle.std.proofs.Common.{◌≡◌, ℕ, ◌+◌, min, ℤ, pos, neg_ℤ, ◌+ℤ◌, ◌-ℤ◌, true, ◌++◌, drop, length, length-append, ap}
-use Rattle.std.proofs.Common.{sym, ◌∙◌, arith}
+use Rattle.std.proofs.Common.{◌≡◌, min, pos, neg_ℤ, true, ◌++◌, drop, length, length-append, ap, sym, ◌∙◌, arith}
 use Rattle.std.specs.{Char.is_ascii_digit, List.list_all}
-use Rattle.def_text.specs.Decimal.{power, scaled}
-use Rattle.def_text.specs.Digits.{is_negative, is_number, number_written, unsigned}
-use Rattle.qm_dec.specs.Sizes.{clamped}
+use Rattle.def_text.specs.{Decimal.power, Digits.is_negative, Digits.is_number, Digits.number_written, Digits.unsigned}
 use Rattle.qm_dec.proofs.Forms.{exponent_is, number_digits, number_parts, power_above, power_below, some_from}
 use Rattle.qm_dec.proofs.Scaling.{power_up, power_down}
+use Rattle.qm_dec.proofs.read.size_in_millionths.Goals.{After-small_power-power}
 use Rattle.qm_dec.proofs.read.size_in_millionths.Goals as goal
 
 pub size_of-requires-clause-whole : goal.size_of-requires-clause-whole
@@ -35,37 +33,28 @@ small_power-power-requires c =
     ap is_number (c.unsigned.ensures ∙ ap unsigned c.behind_first-rest.ensures)
     ∙ sym (exponent_is c.args.exponent.now (some_from _ c.if-is_empty.ensures)) ∙ c.requires.exponent
 
+-- The power, cut off at a bound.
+bounded : (c : After-small_power-power)
+    → c.small_power-power.result ≡ min (number_written (unsigned (drop 1 c.args.exponent.now))) 1000
+bounded c = rw (← c.behind_first-rest.ensures, ← c.unsigned.ensures) c.small_power-power.ensures
+
 pub returns-then-is_negative : goal.returns-then-is_negative
 returns-then-is_negative c =
-    let digits : list_all is_ascii_digit (c.args.whole.now ++ c.args.fraction.now) ≡ true =
-    number_digits (c.args.whole.now ++ c.args.fraction.now) c.requires.number in
-    let p : c.small_power-power.result ≡ min (number_written (unsigned (drop 1 c.args.exponent.now))) 1000 =
-    c.small_power-power.ensures ∙ ap (λ ds. min (number_written ds) 1000) (c.unsigned.ensures
-    ∙ ap unsigned c.behind_first-rest.ensures) in
+    let digits = c.args.whole.now ++ c.args.fraction.now in
+    let all : list_all is_ascii_digit digits ≡ true = number_digits digits c.requires.number in
     let e : power c.args.exponent.now ≡ neg_ℤ (pos (number_written (unsigned (drop 1 c.args.exponent.now)))) =
     power_below c.args.exponent.now (some_from _ c.if-is_empty.ensures)
     (ap is_negative (sym c.behind_first-rest.ensures) ∙ sym c.if-is_negative.ensures) in
-    c.size_of-then-is_negative.ensures
-    ∙ ap (λ (k : ℕ). clamped (scaled (number_written (c.args.whole.now ++ c.args.fraction.now))
-    (pos 6 -ℤ pos (length c.args.fraction.now + k)))) p
-    ∙ power_down (c.args.whole.now ++ c.args.fraction.now) (length c.args.fraction.now)
-    (number_written (unsigned (drop 1 c.args.exponent.now))) digits
-    (omega (arith, length-append c.args.whole.now c.args.fraction.now, c.requires.short))
-    ∙ ap (λ (z : ℤ). clamped (scaled (number_written (c.args.whole.now ++ c.args.fraction.now))
-    ((z +ℤ pos 6) -ℤ pos (length c.args.fraction.now)))) (sym e)
+    rw (c.size_of-then-is_negative.ensures, bounded (goal.at.returns-then-is_negative c).After-small_power-power, e)
+    (power_down digits (length c.args.fraction.now) (number_written (unsigned (drop 1 c.args.exponent.now))) all
+    (omega (arith, length-append c.args.whole.now c.args.fraction.now, c.requires.short)))
 
 pub returns-else-is_negative : goal.returns-else-is_negative
 returns-else-is_negative c =
-    let p : c.small_power-power.result ≡ min (number_written (unsigned (drop 1 c.args.exponent.now))) 1000 =
-    c.small_power-power.ensures ∙ ap (λ ds. min (number_written ds) 1000) (c.unsigned.ensures
-    ∙ ap unsigned c.behind_first-rest.ensures) in
+    let digits = c.args.whole.now ++ c.args.fraction.now in
     let e : power c.args.exponent.now ≡ pos (number_written (unsigned (drop 1 c.args.exponent.now))) =
     power_above c.args.exponent.now (some_from _ c.if-is_empty.ensures)
     (ap is_negative (sym c.behind_first-rest.ensures) ∙ sym c.if-is_negative.ensures) in
-    c.size_of-else-is_negative.ensures
-    ∙ ap (λ (k : ℕ). clamped (scaled (number_written (c.args.whole.now ++ c.args.fraction.now))
-    (pos (6 + k) -ℤ pos (length c.args.fraction.now)))) p
-    ∙ power_up (number_written (c.args.whole.now ++ c.args.fraction.now)) (length c.args.fraction.now)
-    (number_written (unsigned (drop 1 c.args.exponent.now))) (omega (arith, c.requires.short))
-    ∙ ap (λ (z : ℤ). clamped (scaled (number_written (c.args.whole.now ++ c.args.fraction.now))
-    ((z +ℤ pos 6) -ℤ pos (length c.args.fraction.now)))) (sym e)
+    rw (c.size_of-else-is_negative.ensures, bounded (goal.at.returns-else-is_negative c).After-small_power-power, e)
+    (power_up (number_written digits) (length c.args.fraction.now)
+    (number_written (unsigned (drop 1 c.args.exponent.now))) (omega (arith, c.requires.short)))
