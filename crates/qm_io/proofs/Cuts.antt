@@ -1,10 +1,8 @@
 -- A text whose lines are cut off one after another.
 use Rattle.std.proofs.Common.{◌≡◌, ◌+◌, ◌-◌, ◌<◌, ◌≤◌, ◌==◌, ℕ, zero, suc, true, false, [], ◌∷◌, ◌++◌, length, take}
 use Rattle.std.proofs.Common.{drop, map, get_or, slice_index_or, inl, inr, refl, sym, ◌∙◌, ap, arith, length-append}
-use Rattle.std.proofs.Common.{length-drop}
-use Rattle.std.proofs.lemmas.Bool.{cases_Bool}
+use Rattle.std.proofs.{Common.length-drop, lemmas.Bool.cases_Bool, lemmas.List.take_at}
 use Rattle.std.proofs.lemmas.List.{drop-drop, drop-map, drop_at, get_or-drop, length-map, take-append-drop, take-map}
-use Rattle.std.proofs.lemmas.List.{take_at}
 use Rattle.std.proofs.lemmas.List.Concat.{flat_map-append}
 use Rattle.std.specs.List.{flat_map}
 use Rattle.def_io.specs.Bytes.{Bytes, Lines}

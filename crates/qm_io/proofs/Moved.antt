@@ -1,8 +1,7 @@
 -- Facts on bytes that move between a program and its streams.
 use Rattle.std.proofs.Common.{◌≡◌, ℕ, ◌+◌, ◌-◌, ◌≤◌, List, ◌++◌, Option, Some, None, length, take, drop, refl, sym, ◌∙◌}
-use Rattle.std.proofs.Common.{ap, arith, append_assoc, length-drop}
+use Rattle.std.proofs.{Common.ap, Common.arith, Common.append_assoc, Common.length-drop, Math.Seq.take-add}
 use Rattle.std.proofs.lemmas.List.{take_rest, drop-drop}
-use Rattle.std.proofs.Math.Seq.{take-add}
 use Rattle.def_io.specs.Moves.{gave, took}
 
 -- A sink that took a prefix, and then a prefix of the rest, took a prefix.

@@ -1,9 +1,7 @@
 -- Facts on the pieces of a text and on the positions after them.
 use Rattle.std.proofs.Common.{◌≡◌, ℕ, zero, suc, ◌+◌, ◌-◌, ◌==◌, ◌<◌, ◌≤◌, Bool, true, false, if◌then◌else◌, List, []}
 use Rattle.std.proofs.Common.{◌∷◌, ◌++◌, length, take, drop, map, slice_index, slice_index_or, refl, sym, ◌∙◌, ap}
-use Rattle.std.proofs.Common.{arith, length-append}
-use Rattle.std.proofs.lemmas.Bool.{or_from}
-use Rattle.std.proofs.lemmas.List.{length-map}
+use Rattle.std.proofs.{Common.arith, Common.length-append, lemmas.Bool.or_from, lemmas.List.length-map}
 use Rattle.std.specs.List.{flat_map, list_any}
 use Rattle.def_io.specs.Lines.{byte_in_front, pieces, line_of, lines_of, tail_of}
 use Rattle.qm_io.specs.Ends.{ends_from}

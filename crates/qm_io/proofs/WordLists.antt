@@ -2,8 +2,7 @@
 use Rattle.std.proofs.Common.{◌≡◌, ◌<◌, ◌≤◌, ◌+◌, ◌⊎◌, ◌++◌, ◌∷◌, [], ℕ, List, Option, Some, None, length, map, get_or}
 use Rattle.std.proofs.Common.{sym, subst, ◌∙◌, ap, inl, inr, arith, length-append}
 use Rattle.std.proofs.Math.Seq.{get_or-append_seam}
-use Rattle.std.proofs.lemmas.List.{get_or_append_left, map-append}
-use Rattle.std.proofs.lemmas.Bool.{cases_lt}
+use Rattle.std.proofs.lemmas.{List.get_or_append_left, List.map-append, Bool.cases_lt}
 use Rattle.std.specs.{Prelude.IfSome, Str.IsUtf8}
 use Rattle.def_io.specs.{Bytes.Bytes, Bytes.Lines, Words.IsReadAs, Words.IsReadAt, Words.IsWordAt}
 use Rattle.qm_io.specs.WordLists.{ReadsSome}

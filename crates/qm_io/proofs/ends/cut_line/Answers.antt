@@ -1,18 +1,17 @@
-use Rattle.std.proofs.Common.{◌≡◌, ◌-◌, ◌<◌, ◌∷◌, ℕ, List, length, take, drop, map, sym, ◌∙◌, ap, ap₂, arith}
+use Rattle.std.proofs.Common.{◌≡◌, ◌-◌, ◌<◌, ◌∷◌, ℕ, List, length, take, drop, map, sym, ◌∙◌, ap, arith, refl}
 use Rattle.std.proofs.Common.{length-drop}
 use Rattle.std.specs.List.{flat_map}
-use Rattle.def_io.specs.Lines.{line_of, lines_of, pieces, tail_of}
+use Rattle.def_io.specs.Lines.{line_of, pieces, tail_of}
 use Rattle.qm_io.proofs.Pieces.{flat-pieces}
 use Rattle.qm_io.proofs.ends.cut_line.Goals as goal
 
 -- The two parts of a text are its first piece and the rest.
-module _ (bs piece rest : List ℕ) (n : ℕ) (front : piece ≡ take n bs) (back : rest ≡ drop n bs) (first : pieces bs
-    ≡ take (n - 0) bs ∷ pieces (drop n bs)) where
+module _ (bs : List ℕ) {piece rest : List ℕ} (n : ℕ) (front : piece ≡ take n bs) (back : rest ≡ drop n bs)
+    (first : pieces bs ≡ take (n - 0) bs ∷ pieces (drop n bs)) where
   is_cut : pieces bs ≡ piece ∷ pieces rest
   is_cut =
       let whole : n - 0 ≡ n = omega arith in
-      first ∙ (ap (λ (k : ℕ). take k bs ∷ pieces (drop n bs)) whole ∙ ap₂ (λ (p r : List ℕ). p ∷ pieces r) (sym front)
-      (sym back))
+      cc (first, whole, front, back)
 
   is_rest : rest ≡ tail_of 1 bs
   is_rest = sym (flat-pieces rest) ∙ ap (λ (ps : List (List ℕ)). flat_map (λ p. p) (drop 1 ps)) (sym is_cut)
@@ -22,11 +21,10 @@ module _ (bs piece rest : List ℕ) (n : ℕ) (front : piece ≡ take n bs) (bac
 
 pub returns-clause-line : goal.returns-clause-line
 returns-clause-line c =
-    ap (map line_of) (is_cut c.args.bytes.now c.split_at.result.0.now c.split_at.result.1.now c.end_of_piece.result
-    c.split_at.ensures.front c.split_at.ensures.back c.end_of_piece.ensures.first)
-    ∙ ap (λ (l : List ℕ). l ∷ lines_of c.split_at.result.1.now) (sym c.line_of.ensures)
+    ap (map line_of) (is_cut c.args.bytes.now c.end_of_piece.result c.split_at.ensures.front c.split_at.ensures.back
+    c.end_of_piece.ensures.first) ∙ rw c.line_of.ensures refl
 
 pub returns-clause-rest : goal.returns-clause-rest
 returns-clause-rest c =
-    is_rest c.args.bytes.now c.split_at.result.0.now c.split_at.result.1.now c.end_of_piece.result
-    c.split_at.ensures.front c.split_at.ensures.back c.end_of_piece.ensures.first
+    is_rest c.args.bytes.now c.end_of_piece.result c.split_at.ensures.front c.split_at.ensures.back
+    c.end_of_piece.ensures.first

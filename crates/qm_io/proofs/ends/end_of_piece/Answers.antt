@@ -1,5 +1,4 @@
-use Rattle.std.proofs.Common.{◌≡◌, ℕ, suc, List, ◌+◌, ◌-◌, ◌<◌, ◌∷◌, [], take, drop, length, refl, sym, ◌∙◌, ap, arith}
-use Rattle.std.proofs.Common.{length-drop}
+use Rattle.std.proofs.Common.{◌≡◌, ℕ, suc, List, ◌+◌, ◌-◌, ◌<◌, ◌∷◌, take, drop, length, refl, ap, arith, length-drop}
 use Rattle.std.proofs.lemmas.List.{take_rest, drop-drop}
 use Rattle.std.proofs.Math.Seq.{drop-length}
 use Rattle.memchr.specs.Find.{Nowhere, NoneBefore, Passes, is_byte}
@@ -14,12 +13,8 @@ ends_behind : (bs rest : List ℕ) (start k n : ℕ) → rest ≡ drop start bs
 ends_behind bs rest start k n is found end =
     let many : n - start ≡ suc k = omega arith in
     let place : start + suc k ≡ n = omega arith in
-    ap pieces (sym is)
-    ∙ pieces-first rest k found.0.high found.1 (λ j m. found.0.before j (omega arith) m)
-    ∙ ap (λ (xs : List ℕ). take (suc k) xs ∷ pieces (drop (suc k) xs)) is
-    ∙ ap (λ (m : ℕ). take m (drop start bs) ∷ pieces (drop (suc k) (drop start bs))) (sym many)
-    ∙ ap (λ (xs : List ℕ). take (n - start) (drop start bs) ∷ pieces xs) (drop-drop (suc k) start bs
-    ∙ ap (λ (m : ℕ). drop m bs) place)
+    let first = pieces-first rest k found.0.high found.1 (λ j m. found.0.before j (omega arith) m) in
+    cc (first, is, many, drop-drop (suc k) start bs, place)
 
 -- With no LF the rest is the piece.
 is_whole : (bs rest : List ℕ) (start : ℕ) → rest ≡ drop start bs → start < length bs
@@ -27,10 +22,8 @@ is_whole : (bs rest : List ℕ) (start : ℕ) → rest ≡ drop start bs → sta
     → pieces (drop start bs) ≡ take (length bs - start) (drop start bs) ∷ pieces (drop (length bs) bs)
 is_whole bs rest start is there none =
     let some : 0 < length rest = omega (arith, ap length is, length-drop start bs) in
-    ap pieces (sym is)
-    ∙ pieces-none rest some (λ j m. none j (omega arith) m)
-    ∙ ap (λ (xs : List ℕ). xs ∷ []) (is ∙ sym (take_rest bs start))
-    ∙ ap (λ (xs : List ℕ). take (length bs - start) (drop start bs) ∷ pieces xs) (sym (drop-length bs))
+    let one = pieces-none rest some (λ j m. none j (omega arith) m) in
+    rw (drop-length bs, take_rest bs start, ← is) one
 
 pub returns-in-Some-clause-first : goal.returns-in-Some-clause-first
 returns-in-Some-clause-first c =

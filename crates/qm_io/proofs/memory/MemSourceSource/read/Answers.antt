@@ -9,12 +9,9 @@ given : (bytes rest copied buf : List ℕ) (at n m : ℕ) → rest ≡ drop at b
     → copied ≡ take n rest → drop at bytes ≡ take n (copied ++ drop n buf) ++ drop (at + n) bytes
 given bytes rest copied buf at n m is few copy =
     let long : length copied ≡ n = ap length copy ∙ length-take-le n rest (omega arith) in
-    let prefix : take n (copied ++ drop n buf) ≡ take n rest =
-    ap (λ (k : ℕ). take k (copied ++ drop n buf)) (sym long) ∙ take-append_seam copied (drop n buf) ∙ copy in
-    sym is
-    ∙ sym (take-append-drop n rest)
-    ∙ ap (λ (xs : List ℕ). xs ++ drop n rest) (sym prefix)
-    ∙ ap (λ (xs : List ℕ). take n (copied ++ drop n buf) ++ xs) (ap (drop n) is ∙ drop-drop n at bytes)
+    let prefix : take n (copied ++ drop n buf) ≡ copied =
+    ap (λ (k : ℕ). take k (copied ++ drop n buf)) (sym long) ∙ take-append_seam copied (drop n buf) in
+    cc (is, take-append-drop n rest, prefix, copy, drop-drop n at bytes)
 
 pub returns-clause-gives : goal.returns-clause-gives
 returns-clause-gives c =
