@@ -3,5 +3,6 @@ mod Numberings
 mod Edges
 pub mod KindReads
 mod Seeds
+mod Tables
 mod Walking
 mod Longest

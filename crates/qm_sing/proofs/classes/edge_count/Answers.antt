@@ -1,34 +1,20 @@
-use Rattle.std.proofs.Common.{ℕ, cond, Bool, ap, arith}
+use Rattle.std.proofs.Common.{length, ℕ, cond, Bool, ap, arith}
 use Rattle.def_mesh.specs.{Darts.twin_of, Components.is_lesser}
 use Rattle.qm_sing.proofs.Edges.{filter_few, one_more}
 use Rattle.qm_sing.proofs.classes.edge_count.Goals.{then-is_lesser_dart, else-is_lesser_dart}
 use Rattle.qm_sing.proofs.classes.edge_count.Goals as goal
 
 pub overflow_add-edges : goal.overflow_add-edges
-overflow_add-edges c = omega (
-  arith,
-  c.loop-d.invariant,
-  filter_few (λ d. is_lesser d (twin_of c.args.mesh.now d))
-      c.loop-d.d,
-  c.loop-d-test.true,
-  c.faces.ensures.mesh.few,
-  ap Rattle.std.proofs.Common.length c.faces.ensures.value,
-)
+overflow_add-edges c =
+    let few = filter_few (λ d. is_lesser d (twin_of c.args.mesh.now d)) c.loop-d.d in
+    omega (arith, c.loop-d.invariant, few, c.faces.ensures.mesh.few, ap length c.faces.ensures.value)
 
 pub loop-d-preserved : goal.loop-d-preserved
-loop-d-preserved c = elim c.if-is_lesser_dart.branch [
-  | then-is_lesser_dart w ↦ omega (
-    arith,
-    w.edges-is,
-    c.loop-d.invariant,
-    one_more (λ d. is_lesser d (twin_of c.args.mesh.now d)) c.loop-d.d,
-    ap {B = ℕ} (λ (b : Bool). cond b 1 0) w.if-is_lesser_dart.ensures,
-  )
-  | else-is_lesser_dart w ↦ omega (
-    arith,
-    w.edges-is,
-    c.loop-d.invariant,
-    one_more (λ d. is_lesser d (twin_of c.args.mesh.now d)) c.loop-d.d,
-    ap {B = ℕ} (λ (b : Bool). cond b 1 0) w.if-is_lesser_dart.ensures,
-  )
-]
+loop-d-preserved c =
+    let more = one_more (λ d. is_lesser d (twin_of c.args.mesh.now d)) c.loop-d.d in
+    elim c.if-is_lesser_dart.branch [
+      | then-is_lesser_dart w ↦
+          omega (arith, w.edges-is, more, ap {B = ℕ} (λ (b : Bool). cond b 1 0) w.if-is_lesser_dart.ensures)
+      | else-is_lesser_dart w ↦
+          omega (arith, w.edges-is, more, ap {B = ℕ} (λ (b : Bool). cond b 1 0) w.if-is_lesser_dart.ensures)
+    ]

@@ -18,31 +18,20 @@ loop-f-init c =
     }
 
 pub flood-requires-clause-number : goal.flood-requires-clause-number
-flood-requires-clause-number c = omega (
-  arith,
-  c.loop-f-test.true,
-  c.faces-faces.ensures.mesh.few,
-  ap length c.faces-faces.ensures.value,
-  numbering_low c.args.mesh.now c.loop-f.f c.loop-f.components
-      c.loop-f.numbers.items (omega (arith, c.loop-f-test.true, ap length c.faces-faces.ensures.value))
-      c.loop-f.invariant.numbering,
-)
+flood-requires-clause-number c =
+    let low : c.loop-f.f < length c.args.mesh.now = omega (arith, ap length c.faces-faces.ensures.value) in
+    let below = numbering_low c.args.mesh.now c.loop-f.f _ _ (omega arith) c.loop-f.invariant.numbering in
+    omega (arith, c.faces-faces.ensures.mesh.few, below)
 
 pub flood-requires-clause-closed : goal.flood-requires-clause-closed
 flood-requires-clause-closed c =
-    rw c.deref_mut.ensures.value (numbering_closed c.args.mesh.now c.loop-f.f c.loop-f.components c.loop-f.numbers.items
-    c.loop-f.invariant.numbering)
+    rw c.deref_mut.ensures.value (numbering_closed _ _ _ _ c.loop-f.invariant.numbering)
 
 pub overflow_add-components : goal.overflow_add-components
-overflow_add-components c = omega (
-  arith,
-  c.loop-f-test.true,
-  c.faces-faces.ensures.mesh.few,
-  ap length c.faces-faces.ensures.value,
-  numbering_low c.args.mesh.now c.loop-f.f c.loop-f.components
-      c.loop-f.numbers.items (omega (arith, c.loop-f-test.true, ap length c.faces-faces.ensures.value))
-      c.loop-f.invariant.numbering,
-)
+overflow_add-components c =
+    let low : c.loop-f.f < length c.args.mesh.now = omega (arith, ap length c.faces-faces.ensures.value) in
+    let below = numbering_low c.args.mesh.now c.loop-f.f _ _ (omega arith) c.loop-f.invariant.numbering in
+    omega (arith, c.faces-faces.ensures.mesh.few, below)
 
 pub loop-f-preserved : goal.loop-f-preserved
 loop-f-preserved c =
@@ -51,20 +40,14 @@ loop-f-preserved c =
     let low : c.loop-f.f < length c.loop-f.numbers.items = omega (arith, lf, c.loop-f.invariant.numbering.long) in
     let read : get_or c.loop-f.numbers.items c.loop-f.f 0 ≡ c.index.result.now =
     sym (c.index.ensures ∙ get_or_default_zero c.loop-f.numbers.items c.loop-f.f c.index.result.now low) in
+    let few = numbering_low c.args.mesh.now c.loop-f.f _ _ (omega arith) c.loop-f.invariant.numbering in
     elim c.if-index.branch [
       | then-index+in_ok-flood w ↦ rw (w.numbers-is, w.components-is, w.waiting-is) (record {
         numbering = subst (λ (xs : List ℕ). IsNumbering c.args.mesh.now (c.loop-f.f + 1) (c.loop-f.components + 1) xs)
             (sym (with_items_is c.loop-f.numbers w.flood.new.numbers (w.flood.auto.numbers ∙ w.deref_mut.ensures.len)))
             (numbering_more c.args.mesh.now c.loop-f.f c.loop-f.components w.deref_mut.result.now w.flood.new.numbers lf
             (rw w.deref_mut.ensures.value (read ∙ w.if-index.true))
-            (λ e. absurd (omega (
-              arith,
-              e,
-              lf,
-              c.faces-faces.ensures.mesh.few,
-              numbering_low c.args.mesh.now c.loop-f.f c.loop-f.components c.loop-f.numbers.items (omega arith)
-                  c.loop-f.invariant.numbering,
-            )))
+            (λ e. absurd (omega (arith, e, lf, c.faces-faces.ensures.mesh.few, few)))
             (rw w.deref_mut.ensures.value c.loop-f.invariant.numbering) w.in_ok-flood.ensures.flooded);
         empty = w.in_ok-flood.ensures.empty;
       })
@@ -77,20 +60,12 @@ loop-f-preserved c =
 
 pub returns-clause-numbers : goal.returns-clause-numbers
 returns-clause-numbers c =
-    let e : c.loop-f.f ≡ length c.args.mesh.now = omega (
-      arith,
-      c.loop-f-test.false,
-      c.loop-f.auto.f-end,
-      ap length c.faces-faces.ensures.value,
-    ) in
+    let e : c.loop-f.f ≡ length c.args.mesh.now =
+    omega (arith, c.loop-f-test.false, c.loop-f.auto.f-end, ap length c.faces-faces.ensures.value) in
     numbers_are c.args.mesh.now c.loop-f.components c.loop-f.numbers.items (rw (← e) c.loop-f.invariant.numbering)
 
 pub returns-clause-many : goal.returns-clause-many
 returns-clause-many c =
-    let e : c.loop-f.f ≡ length c.args.mesh.now = omega (
-      arith,
-      c.loop-f-test.false,
-      c.loop-f.auto.f-end,
-      ap length c.faces-faces.ensures.value,
-    ) in
+    let e : c.loop-f.f ≡ length c.args.mesh.now =
+    omega (arith, c.loop-f-test.false, c.loop-f.auto.f-end, ap length c.faces-faces.ensures.value) in
     count_is c.args.mesh.now c.loop-f.components c.loop-f.numbers.items (rw (← e) c.loop-f.invariant.numbering)

@@ -1,4 +1,4 @@
-use Rattle.std.proofs.Common.{rules, ◌≡◌, ◌<◌, ℕ, List, length, get_or, replicate, sym, subst, ap, ◌∙◌, arith}
+use Rattle.std.proofs.Common.{rules, ◌≡◌, ◌<◌, length, get_or, replicate, sym, ap, ◌∙◌, arith}
 use Rattle.std.proofs.lemmas.List.{get_or_default, length-map, with_items_is}
 use Rattle.std.specs.Vec.{with_items}
 use Rattle.def_mesh.specs.Darts.{darts}
@@ -22,33 +22,24 @@ loop-d-preserved c =
     (omega (arith, low, c.loop-d.invariant.run_long)) in
     elim c.if-index.branch [
       | then-index+in_ok-push+in_ok-push-2 w ↦
-          let count : w.len-r.result ≡ length c.loop-d.invariant.lists =
-          w.len-r.ensures ∙ (c.loop-d.table.len.ok.0
-          ∙ (ap length c.loop-d.invariant.lengths ∙ length-map c.loop-d.invariant.lists length)) in
+          let lists = c.loop-d.invariant.lists in
+          let many = length-map lists length in
+          let count : w.len-r.result ≡ length lists =
+          cc (w.len-r.ensures, c.loop-d.table.len.ok.0, c.loop-d.invariant.lengths, many) in
           let run : (with_items c.loop-d.table.run w.number-line.new.run).items ≡ w.number-line.new.run =
           with_items_is c.loop-d.table.run w.number-line.new.run (w.number-line.auto.run
           ∙ w.deref_mut.ensures.len) in
           let at : (with_items c.loop-d.table.at w.number-line.new.at).items ≡ w.number-line.new.at =
           with_items_is c.loop-d.table.at w.number-line.new.at (w.number-line.auto.at
           ∙ w.deref_mut-then-index.ensures.len) in
-          let line : IsLine c.args.mesh.now w.first_of-first.result (length c.loop-d.invariant.lists)
-          w.number-line.result c.loop-d.table.run.items w.number-line.new.run c.loop-d.table.at.items
-          w.number-line.new.at =
-          subst (λ (r : ℕ). IsLine c.args.mesh.now w.first_of-first.result r w.number-line.result
-          c.loop-d.table.run.items w.number-line.new.run c.loop-d.table.at.items w.number-line.new.at) count
-          (subst (λ (xs : List ℕ). IsLine c.args.mesh.now w.first_of-first.result w.len-r.result w.number-line.result xs
-          w.number-line.new.run c.loop-d.table.at.items w.number-line.new.at) w.deref_mut.ensures.value
-          (subst (λ (xs : List ℕ). IsLine c.args.mesh.now w.first_of-first.result w.len-r.result w.number-line.result
-          w.deref_mut.result.now w.number-line.new.run xs w.number-line.new.at)
-          w.deref_mut-then-index.ensures.value w.number-line.ensures)) in
+          let line : IsLine c.args.mesh.now w.first_of-first.result (length lists) w.number-line.result
+          c.loop-d.table.run.items w.number-line.new.run c.loop-d.table.at.items w.number-line.new.at =
+          rw (← count, ← w.deref_mut.ensures.value, ← w.deref_mut-then-index.ensures.value) w.number-line.ensures in
           rw (w.table-is, run, at, w.in_ok-push.ensures.items, w.in_ok-push-2.ensures.items)
-          (one_more c.args.mesh.now c.faces.ensures.mesh.manifold c.loop-d.d w.first_of-first.result
-          w.number-line.result c.loop-d.table.run.items w.number-line.new.run c.loop-d.table.at.items
-          w.number-line.new.at c.loop-d.table.len.items c.loop-d.table.closed.items
-          c.loop-d.invariant low (omega (arith, c.faces.ensures.mesh.few)) (sym read ∙ w.if-index.true)
+          (one_more _ c.faces.ensures.mesh.manifold _ _ _ _ _ _ _ _ _ c.loop-d.invariant low
+          (omega (arith, c.faces.ensures.mesh.few)) (sym read ∙ w.if-index.true)
           w.first_of-first.ensures line (w.number-line.auto.run ∙ ap length w.deref_mut.ensures.value)
           (w.number-line.auto.at ∙ ap length w.deref_mut-then-index.ensures.value))
-      | else-index w ↦ rw w.table-is (passed_by c.args.mesh.now c.loop-d.d c.loop-d.table.run.items
-          c.loop-d.table.at.items c.loop-d.table.len.items c.loop-d.table.closed.items
-          (λ e. w.if-index.false (read ∙ e)) c.loop-d.invariant)
+      | else-index w ↦
+          rw w.table-is (passed_by _ _ _ _ _ _ (λ e. w.if-index.false (read ∙ e)) c.loop-d.invariant)
     ]

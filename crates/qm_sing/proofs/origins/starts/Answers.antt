@@ -1,30 +1,22 @@
-use Rattle.std.proofs.Common.{◌≡◌, ◌<◌, get_or, is_some, false, ◌++◌, ◌∷◌, [], length, ap, ◌∙◌, sym, arith}
-use Rattle.std.proofs.lemmas.List.{length-map}
-use Rattle.std.proofs.lemmas.List.FromFn.{length-range_with_len}
-use Rattle.def_mesh.specs.{Kinds.kind_of, Vertices.all_vertices, Vertices.vertex_count, Darts.darts}
+use Rattle.std.proofs.Common.{◌≡◌, ◌<◌, is_some, false, ◌++◌, ◌∷◌, [], length, ap, ◌∙◌, sym, arith}
+use Rattle.def_mesh.specs.{Darts.darts}
 use Rattle.def_mesh.specs.{Components.is_start, Components.seeds, declared.Kind.TheVariants.Regular}
 use Rattle.qm_sing.proofs.{Edges.filter_on, Edges.filter_off, KindReads.kind_read, Seeds.mark_test, Seeds.start_told}
+use Rattle.qm_sing.proofs.Tables.{kinds_long}
 use Rattle.qm_sing.proofs.origins.starts.Goals.{then-may_start+in_ok-push, else-may_start}
 use Rattle.qm_sing.proofs.origins.starts.Goals as goal
 
 pub bounds-kinds-v : goal.bounds-kinds-v
-bounds-kinds-v c = omega (
-  arith,
-  c.from-v.ensures.vertex,
-  ap length c.requires.kinds,
-  length-map (all_vertices c.args.mesh.now) (kind_of c.args.mesh.now),
-  length-range_with_len 0 (vertex_count c.args.mesh.now),
-)
+bounds-kinds-v c = omega (arith, c.from-v.ensures.vertex, kinds_long c.args.mesh.now c.requires.kinds)
 
 pub loop-d-preserved : goal.loop-d-preserved
 loop-d-preserved c =
     let ld : c.loop-d.d < darts c.args.mesh.now = omega (arith, c.loop-d-test.true, ap length c.faces.ensures.value) in
     let t : c.may_start.result ≡ is_start c.args.mesh.now (seeds c.args.mesh.now) c.loop-d.d =
-    start_told c.args.mesh.now c.loop-d.d c.from-v.result (get_or c.args.kinds.now c.from-v.result Regular)
-    c.is_some.result (get_or c.args.marks.now c.from-v.result false) c.may_start.result c.from-v.ensures.value
-    (kind_read c.args.mesh.now c.args.kinds.now c.from-v.result Regular c.from-v.ensures.vertex c.requires.kinds)
+    start_told _ _ _ _ _ _ _ c.from-v.ensures.value
+    (kind_read _ _ c.from-v.result Regular c.from-v.ensures.vertex c.requires.kinds)
     (c.is_some.ensures ∙ ap is_some c.twin.ensures.value)
-    (mark_test c.args.mesh.now c.faces.ensures.mesh.manifold c.args.marks.now c.from-v.result c.requires.marks)
+    (mark_test _ c.faces.ensures.mesh.manifold c.args.marks.now c.from-v.result c.requires.marks)
     c.from-v.ensures.vertex ld c.may_start.ensures in
     elim c.if-may_start.branch [
       | then-may_start+in_ok-push w ↦ rw (w.starts-is, w.in_ok-push.ensures.items)
