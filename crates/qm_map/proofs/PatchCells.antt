@@ -1,5 +1,5 @@
 -- The cells of a patch, and the lines of all patches.
-use Rattle.std.proofs.Common.{◌≡◌, ℕ, ◌*◌, ◌/◌, ◌%◌, ◌<◌, List, Option, length, map, subst, arith}
+use Rattle.std.proofs.Common.{◌≡◌, ℕ, ◌*◌, ◌/◌, ◌%◌, ◌<◌, List, Option, length, map, arith}
 use Rattle.std.proofs.Math.Nat.{mul_comm}
 use Rattle.std.specs.List.{flat_map, range_with_len}
 use Rattle.def_layout.specs.{Lengths.Lengths, Plans.Plan, Plans.layout_of}
@@ -17,5 +17,4 @@ all_lines plan shares new = by_patches (layout_of plan) new (dart_home plan shar
 
 -- Cell k lies in a column and a row.
 pub in_grid : (w h k : ℕ) → k < w * h → (k % w < w) × (k / w < h) × (0 < w)
-in_grid w h k less =
-    let at = in_rows w h k (subst (λ n. k < n) (mul_comm w h) less) in (at.0, at.1, omega (arith, at.0))
+in_grid w h k less = let at = in_rows w h k (rw (← mul_comm w h) less) in (at.0, at.1, omega (arith, at.0))

@@ -1,9 +1,7 @@
-use Rattle.std.proofs.Common.{◌≡◌, ℕ, ◌<◌, length, map, ap, subst, arith}
-use Rattle.std.proofs.lemmas.List.{length-map}
-use Rattle.std.specs.List.{flat_map, range_with_len}
-use Rattle.def_cut.specs.Grids.{rectangle}
-use Rattle.def_io.specs.Bytes.{Bytes}
+use Rattle.std.proofs.Common.{◌≡◌, ◌<◌, length, arith, ap}
 use Rattle.def_layout.specs.Plans.{Plan}
+use Rattle.std.proofs.lemmas.List.{length-map}
+use Rattle.def_cut.specs.Grids.{rectangle}
 use Rattle.def_remesh.specs.{NewPoints.lengths_in, CutSoups.CutSoup}
 use Rattle.qm_map.specs.PatchLines.{patch_lines}
 use Rattle.qm_map.proofs.PatchCells.{all_lines}
@@ -37,17 +35,15 @@ returns-in_err-put_patch-clause-part g c =
       ap (λ (k : CutSoup). length k.plan.patches) c.cut.ensures,
     ) in
     of_error c.from_residual.result
-    (subst (λ (text : Bytes). g.T.Output.stops c.args.out.now c.put_patch.new.out text) (all_lines t shares x)
-    (stops_at_number g.T.Output.takes g.T.Output.stops laws.stops_later laws.stops_before (patch_lines t shares x)
-    (λ p. p)
-    (length t.patches) c.loop-patch.patch _ _ _ low c.loop-patch.invariant c.in_err-put_patch.ensures.part))
+    (rw (← all_lines t shares x) (stops_at_number g.T.Output.takes g.T.Output.stops laws.stops_later laws.stops_before
+    (patch_lines t shares x) (λ p. p) (length t.patches) c.loop-patch.patch _ _ _ low c.loop-patch.invariant
+    c.in_err-put_patch.ensures.part))
 
 pub loop-patch-preserved : goal.loop-patch-preserved
 loop-patch-preserved g c =
     let laws = g.met.T.Output in
     takes_number g.T.Output.takes laws.takes_more (patch_lines c.args.new.now.plan c.args.new.now.shares
-    (lengths_in c.args.new.now.lengths))
-    (λ p. p)
+    (lengths_in c.args.new.now.lengths)) (λ p. p)
     c.loop-patch.patch _ _ _ c.loop-patch.invariant c.in_ok-put_patch.ensures.whole
 
 pub returns-clause-whole : goal.returns-clause-whole
@@ -65,7 +61,4 @@ returns-clause-whole g c =
       ap (λ (p : Plan). length p.patches) c.layout.ensures.plan,
       ap (λ (k : CutSoup). length k.plan.patches) c.cut.ensures,
     ) in
-    subst (λ (text : Bytes). g.T.Output.takes c.args.out.now c.loop-patch.out text) (all_lines t shares x)
-    (subst (λ (n : ℕ). g.T.Output.takes c.args.out.now c.loop-patch.out
-    (flat_map (patch_lines t shares x) (map (λ p. p) (range_with_len 0 n))))
-    all c.loop-patch.invariant)
+    rw (← all_lines t shares x, ← all) c.loop-patch.invariant

@@ -1,6 +1,4 @@
-use Rattle.std.specs.Prelude.{OnErr, OnOk}
-use Rattle.std.proofs.Common.{◌≡◌, ◌∙◌, subst}
-use Rattle.def_io.specs.Bytes.{Bytes}
+use Rattle.std.proofs.Common.{◌≡◌, ◌∙◌}
 use Rattle.def_map.specs.MapText.{seen_text}
 use Rattle.qm_map.proofs.cells.put_corner.Goals as goal
 
@@ -8,12 +6,10 @@ pub returns-clause-whole : goal.returns-clause-whole
 returns-clause-whole g c =
     let line : c.as_bytes.result.now ≡ seen_text c.args.seen = c.as_bytes.ensures.value ∙ c.as_str.ensures.value
     ∙ c.seen_text.ensures in
-    subst (λ (text : Bytes). OnOk c.put.result (g.T.Output.takes c.args.out.now c.put.new.self text)) line
-    c.put.ensures.whole
+    rw (← line) c.put.ensures.whole
 
 pub returns-clause-part : goal.returns-clause-part
 returns-clause-part g c =
     let line : c.as_bytes.result.now ≡ seen_text c.args.seen = c.as_bytes.ensures.value ∙ c.as_str.ensures.value
     ∙ c.seen_text.ensures in
-    subst (λ (text : Bytes). OnErr c.put.result (g.T.Output.stops c.args.out.now c.put.new.self text)) line
-    c.put.ensures.part
+    rw (← line) c.put.ensures.part

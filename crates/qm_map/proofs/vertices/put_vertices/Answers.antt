@@ -1,7 +1,6 @@
-use Rattle.std.proofs.Common.{◌≡◌, ℕ, map, sym, subst, arith}
-use Rattle.std.specs.List.{flat_map, range_with_len}
+use Rattle.std.proofs.Common.{◌≡◌, subst, arith, sym}
 use Rattle.def_layout.specs.Plans.{layout_of}
-use Rattle.def_map.specs.{Laws.IsSpot, MapText.spot_line, Spots.spot_at}
+use Rattle.def_map.specs.{MapText.spot_line, Spots.spot_at, Laws.IsSpot}
 use Rattle.def_remesh.specs.{NewPoints.lengths_in, CutSoups.CutSoup}
 use Rattle.def_written.specs.Numbers.{vertices}
 use Rattle.qm_output.proofs.{Prefixes.of_error, Lists.stops_at_number, Lists.takes_number}
@@ -28,8 +27,7 @@ returns-in_err-put_spot-clause-part g c =
     (stops_at_number g.T.Output.takes g.T.Output.stops laws.stops_later laws.stops_before
     (spot_line soup.faces soup.names) (spot_at t shares x)
     (vertices (layout_of t) x) c.loop-v.v _ _ _ (omega (arith, c.loop-v-test.true, c.vertices-v-end.ensures))
-    c.loop-v.invariant
-    (subst (g.T.Output.stops c.loop-v.out c.put_spot.new.out) line c.in_err-put_spot.ensures.part))
+    c.loop-v.invariant (subst (g.T.Output.stops c.loop-v.out c.put_spot.new.out) line c.in_err-put_spot.ensures.part))
 
 pub loop-v-preserved : goal.loop-v-preserved
 loop-v-preserved g c =
@@ -42,9 +40,7 @@ loop-v-preserved g c =
     ≡ spot_line soup.faces soup.names (spot_at t shares x c.loop-v.v) =
     λ k. spot_line (c.cut.ensures k).soup.faces (c.cut.ensures k).soup.names (c.spot_near-spot.ensures.value k) in
     takes_number g.T.Output.takes laws.takes_more (spot_line soup.faces soup.names) (spot_at t shares x) c.loop-v.v _ _
-    _
-    c.loop-v.invariant
-    (subst (g.T.Output.takes c.loop-v.out c.put_spot.new.out) line c.in_ok-put_spot.ensures.whole)
+    _ c.loop-v.invariant (subst (g.T.Output.takes c.loop-v.out c.put_spot.new.out) line c.in_ok-put_spot.ensures.whole)
 
 pub returns-clause-whole : goal.returns-clause-whole
 returns-clause-whole g c =
@@ -58,6 +54,4 @@ returns-clause-whole g c =
       c.loop-v-test.false,
       c.loop-v.auto.v-end,
     ) in
-    subst (λ (n : ℕ). g.T.Output.takes c.args.out.now c.loop-v.out
-    (flat_map (spot_line soup.faces soup.names) (map (spot_at t shares x) (range_with_len 0 n))))
-    all c.loop-v.invariant
+    rw (← all) c.loop-v.invariant
