@@ -1,5 +1,5 @@
 -- The first darts of the riders of a traced graph.
-use Rattle.std.proofs.Common.{ℕ, ◌<◌, List, [], ◌∷◌, length, get_or, sym, subst, arith}
+use Rattle.std.proofs.Common.{ℕ, ◌<◌, List, [], ◌∷◌, length, get_or, arith}
 use Rattle.std.proofs.lemmas.List.FromFn.{get_or-range_with_len, length-range_with_len}
 use Rattle.std.proofs.lemmas.List.Elements.{All-nil, All-cons, All-head, All-tail, All-filter}
 use Rattle.std.specs.List.{All}
@@ -12,8 +12,7 @@ from_firsts : (n : ℕ) (ms : List Moving) (ds : List ℕ) (rs : List Rider)
     → AreRiders ms ds rs → All (λ d. d < n) ds → All (λ (r : Rider). r.start < n) rs
 from_firsts n [] [] [] are low = All-nil (λ (r : Rider). r.start < n)
 from_firsts n (m ∷ ms) (d ∷ ds) (r ∷ rs) are low =
-    All-cons (λ (x : Rider). x.start < n) r rs
-    (subst (λ (x : ℕ). x < n) (sym are.0.start) (All-head (λ (x : ℕ). x < n) d ds low))
+    All-cons (λ (x : Rider). x.start < n) r rs (rw are.0.start (All-head (λ (x : ℕ). x < n) d ds low))
     (from_firsts n ms ds rs are.1 (All-tail (λ (x : ℕ). x < n) d ds low))
 from_firsts n _ _ _ are low = absurd are
 

@@ -1,6 +1,6 @@
 -- The lines of the layout of a chosen cut.
 use Rattle.std.proofs.Common.{◌≡◌, ℕ, ◌+◌, ◌<◌, Bool, List, [], ◌∷◌, ◌++◌, Option, Some, None, length, map, get_or}
-use Rattle.std.proofs.Common.{codes, refl, sym, ap, ◌∙◌, subst, append_assoc, append-nil, arith}
+use Rattle.std.proofs.Common.{codes, refl, sym, ap, ◌∙◌, append_assoc, append-nil, arith, subst}
 use Rattle.std.proofs.lemmas.Grind.{flat_map-append}
 use Rattle.std.proofs.lemmas.List.{get_or_default, get_or-map}
 use Rattle.std.specs.{Prelude.decimal, Prelude.slice_index, Prelude.if◌then◌else◌, List.flat_map}
@@ -23,25 +23,21 @@ none_breaks soup [] = refl
 none_breaks soup (v ∷ vs) = none_breaks soup vs
 
 -- An arc that was read.
-pub arc_read : (t : TMesh) (here : Plan) (a : ℕ) (arc : TArc) → plan t ≡ here → a < length here.arcs
+pub arc_read : (t : TMesh) {here : Plan} (a : ℕ) {arc : TArc} → plan t ≡ here → a < length here.arcs
     → a < length t.arcs.items → arc ≡ get_or t.arcs.items a arc → path_at here.arcs a ≡ path arc
-arc_read t here a arc same low less is =
-    ap (λ (p : Plan). path_at p.arcs a) (sym same)
-    ∙ get_or-map path t.arcs.items a arc (record { first = 0; last = 0; darts = [] }) less ∙ ap path (sym is)
+arc_read t a {arc} same low less is = ap (λ (p : Plan). path_at p.arcs a) (sym same) ∙ get_or-map path t.arcs.items a
+    arc (record { first = 0; last = 0; darts = [] }) less ∙ ap path (sym is)
 
 -- Its darts are darts of the mesh.
-pub along_low : (faces : Faces) (here : Plan) → IsMeshLayout faces here → (a : ℕ) (arc : TArc) (ds : List ℕ)
+pub along_low : (faces : Faces) (here : Plan) → IsMeshLayout faces here → (a : ℕ) (arc : TArc) {ds : List ℕ}
     → a < length here.arcs → path_at here.arcs a ≡ path arc → ds ≡ arc.darts.items
     → (k d : ℕ) → k < length ds → get_or ds k d < darts faces
-along_low faces here (is, same) a arc ds low read items k d less =
-    subst (λ (n : ℕ). n < darts faces) (sym value)
-    (subst (λ (fs : Faces). slice_index (path_at here.arcs a).darts k < darts fs) same
-    ((in_mesh is.faces is.marks here is.mesh is.quads is.cut is.laid).arc_low a k low
-    (omega (arith, less, ap (λ (xs : List ℕ). length xs) items, ap (λ (p : Path). length p.darts) read))))
+along_low faces here (is, same) a arc {ds} low read items k d less =
+    rw (value, ← same) ((in_mesh is.faces is.marks here is.mesh is.quads is.cut is.laid).arc_low a k low
+    (omega (arith, less, ap (λ (xs : List ℕ). length xs) items, ap (λ (p : Path). length p.darts) read)))
   where
     value : get_or ds k d ≡ slice_index (path_at here.arcs a).darts k
-    value = get_or_default ds k d 0 less ∙ ap (λ (xs : List ℕ). get_or xs k 0) items
-        ∙ ap (λ (p : Path). get_or p.darts k 0) (sym read)
+    value = cc (get_or_default ds k d 0 less, items, read)
 
 -- Its last node is a node.
 pub last_node : (faces : Faces) (here : Plan) → IsMeshLayout faces here → (a : ℕ) (arc : TArc)
@@ -50,16 +46,14 @@ last_node faces here (is, same) a arc low read =
     subst (λ (p : Path). p.last < length here.nodes) read (is.laid.last_low a low)
 
 -- Text t5 has a line more than text t0.
-pub line_behind : (word ns : List ℕ) (x y z : ℕ) (t0 t1 t2 t3 t4 t5 : List ℕ) → t1 ≡ t0 ++ word
+pub line_behind : (word ns : List ℕ) (x y z : ℕ) (t0 : List ℕ) {t1 t2 t3 t4 t5 : List ℕ} → t1 ≡ t0 ++ word
     → t2 ≡ t1 ++ numbers_text (x ∷ y ∷ []) → t3 ≡ t2 ++ numbers_text ns → t4 ≡ t3 ++ SPACE ∷ decimal z
     → t5 ≡ t4 ++ LINE_FEED ∷ [] → t5 ≡ t0 ++ numbers_line word (x ∷ y ∷ (ns ++ z ∷ []))
-line_behind word ns x y z t0 t1 t2 t3 t4 t5 e1 e2 e3 e4 e5 =
-    behind t0 (word ++ numbers_text (x ∷ y ∷ (ns ++ z ∷ []))) (LINE_FEED ∷ []) t4 t5
-    (behind t0 (word ++ numbers_text (x ∷ y ∷ []) ++ numbers_text ns) (SPACE ∷ decimal z) t3 t4
-    (behind t0 (word ++ numbers_text (x ∷ y ∷ [])) (numbers_text ns) t2 t3
-    (behind t0 word (numbers_text (x ∷ y ∷ [])) t1 t2 e1 e2) e3)
-    e4 ∙ ap (λ (text : List ℕ). t0 ++ text) whole)
-    e5
+line_behind word ns x y z t0 e1 e2 e3 e4 e5 =
+    behind t0 (word ++ numbers_text (x ∷ y ∷ (ns ++ z ∷ []))) (LINE_FEED ∷ [])
+    (behind t0 (word ++ numbers_text (x ∷ y ∷ []) ++ numbers_text ns) (SPACE ∷ decimal z)
+    (behind t0 (word ++ numbers_text (x ∷ y ∷ [])) (numbers_text ns)
+    (behind t0 word (numbers_text (x ∷ y ∷ [])) e1 e2) e3) e4 ∙ ap (λ (text : List ℕ). t0 ++ text) whole) e5
   where
     all : numbers_text (x ∷ y ∷ (ns ++ z ∷ [])) ≡ numbers_text (x ∷ y ∷ []) ++ (numbers_text ns ++ SPACE ∷ decimal z)
     all = flat_map-append (λ n. SPACE ∷ decimal n) (x ∷ y ∷ []) (ns ++ z ∷ [])
@@ -81,8 +75,7 @@ along_names : (soup : FaceSet) (ds : List ℕ) (v : ℕ)
     → along_numbers soup ds ++ (place_in_file soup.names v + 1) ∷ []
     ≡ map (λ v. place_in_file soup.names v + 1) (map (from_of soup.faces) ds ++ v ∷ [])
 along_names soup [] v = refl
-along_names soup (d ∷ ds) v =
-    ap (λ (xs : List ℕ). (place_in_file soup.names (from_of soup.faces d) + 1) ∷ xs) (along_names soup ds v)
+along_names soup (d ∷ ds) v = cc (along_names soup ds v)
 
 abbrev path_numbers : (soup : FaceSet) (here : Plan) (a : ℕ) (p : Path) → List ℕ
 path_numbers soup here a p = (a + 1) ∷ length p.darts
@@ -100,8 +93,7 @@ arc_written soup kept here a arc read =
   where
     by_kept : (kept : Option (List Bool))
         → numbers_line (word_of kept arc) (path_numbers soup here a (path arc)) ≡ whole_arc_line soup kept here a
-    by_kept None = ap (λ (p : Path). numbers_line (codes "arc") (path_numbers soup here a p)) (sym read)
+    by_kept None = cc read
     by_kept (Some marks) =
         ap (λ (p : Path). numbers_line (if is_on marks (slice_index p.darts 0) then codes "marked" else codes "arc")
-        (path_numbers soup here a p))
-        (sym read)
+        (path_numbers soup here a p)) (sym read)

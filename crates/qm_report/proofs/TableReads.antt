@@ -9,13 +9,13 @@ use Rattle.def_layout.specs.{declared.tmesh.Side.Side, declared.tmesh.SideArc.Si
 use Rattle.def_report.specs.GraphText.{numbers_line}
 
 -- Text b is text t with the line of the arcs behind it that were read.
-pub side_behind : (sides : List (List Side)) (p k : ℕ) (four : List Side) (side : Side)
+pub side_behind : (sides : List (List Side)) (p k : ℕ) {four : List Side} (side : Side)
     → p < length sides → four ≡ get_or sides p four → length (get_or (map (map arcs_of) sides) p []) ≡ 4 → k < 4
-    → (word t b : List ℕ) (arcs : List SideArc) → arcs ≡ (get_or four k side).arcs.items
+    → (word t : List ℕ) {b : List ℕ} {arcs : List SideArc} → arcs ≡ (get_or four k side).arcs.items
     → b ≡ t ++ numbers_line word (map (λ (used : SideArc). used.arc + 1) arcs)
     → b ≡ t ++ numbers_line word
     (map (λ (used : SideArc). used.arc + 1) (get_or (get_or (map (map arcs_of) sides) p []) k []))
-side_behind sides p k four side l is many lk word t b arcs read e =
+side_behind sides p k {four} side l is many lk word t read e =
     e ∙ ap (λ (xs : List SideArc). t ++ numbers_line word (map (λ (used : SideArc). used.arc + 1) xs))
     (read ∙ sym (read_side sides p k four side l is many lk))
 

@@ -1,5 +1,5 @@
 use mir.Syntax.{w64, w128}
-use Rattle.std.proofs.Common.{◌≡◌, ◌≤◌, ℤ, ◌∷◌, [], length, to_z, of_z}
+use Rattle.std.proofs.Common.{◌≡◌, ◌≤◌, ◌∷◌, [], length, to_z, of_z, ℤ}
 use Rattle.std.proofs.{Common.Ok, Common.ap, Common.sym, Common.◌∙◌, Common.arith, lemmas.Int.ints}
 use Rattle.std.specs.Prelude.{codes}
 use Rattle.def_io.specs.declared.TheConstants.{LINE_FEED}
@@ -25,13 +25,11 @@ returns c =
     let t3 = c.push_count-3.new.text.items in
     let t4 = c.push_named.new.text.items in
     let t5 = c.push_count-4.new.text.items in
-    let vertices = number_behind t [] (codes "vertices ") _ _ t t1
+    let vertices = number_behind t [] (codes "vertices ")
     c.vertices.ensures.value (nothing_behind t) c.in_ok-push_count.ensures in
-    let edges = number_behind t _ (codes " edges ") _ _ t1 t2
-    c.edge_count.ensures vertices c.in_ok-push_count-2.ensures in
-    let faces = number_behind t _ (codes " faces ") _ _ t2 t3
+    let edges = number_behind t _ (codes " edges ") c.edge_count.ensures vertices c.in_ok-push_count-2.ensures in
+    let faces = number_behind t _ (codes " faces ")
     (ap length c.faces.ensures.value) edges c.in_ok-push_count-3.ensures in
-    let euler = signed_behind t _ (codes " euler ") _ (euler mesh) t3 t4 faces c.in_ok-push_named.ensures passed in
-    let components = number_behind t _ (codes " components ") _ _ t4 t5
-    c.requires euler c.in_ok-push_count-4.ensures in
-    behind t _ (LINE_FEED ∷ []) t5 c.push.new.self.items components c.in_ok-push.ensures.items
+    let euler = signed_behind t _ (codes " euler ") faces c.in_ok-push_named.ensures passed in
+    let components = number_behind t _ (codes " components ") c.requires euler c.in_ok-push_count-4.ensures in
+    behind t _ (LINE_FEED ∷ []) components c.in_ok-push.ensures.items

@@ -1,8 +1,8 @@
-use Rattle.std.proofs.Common.{◌≡◌, ◌<◌, ℕ, ◌++◌, length, ap, ◌∙◌}
+use Rattle.std.proofs.Common.{◌≡◌, ◌<◌, ◌++◌, length, ap}
 use Rattle.std.proofs.{Common.arith, lemmas.List.length-map, lemmas.List.FromFn.length-range_with_len}
-use Rattle.def_mesh.specs.{Kinds.kind_of, Vertices.all_vertices, Vertices.vertex_count, declared.Kind.Kind}
+use Rattle.def_mesh.specs.{Kinds.kind_of, Vertices.all_vertices, Vertices.vertex_count}
 use Rattle.def_mesh.specs.declared.Kind.TheVariants.{Regular}
-use Rattle.def_report.specs.GraphText.{kind_line, vertex_line}
+use Rattle.def_report.specs.GraphText.{vertex_line}
 use Rattle.qm_sing.proofs.KindReads.{kind_read}
 use Rattle.qm_report.proofs.Texts.{piece_behind}
 use Rattle.qm_report.proofs.graph.push_vertices.Goals as goal
@@ -25,7 +25,5 @@ loop-v-preserved c =
     let low : v < vertex_count mesh = omega (arith, c.loop-v-test.true, c.vertices-v-end.ensures.value) in
     let kind = kind_read mesh c.args.kinds.now v Regular low c.requires in
     let line : c.push_vertex.new.text.items ≡ t ++ vertex_line mesh v =
-    c.in_ok-push_vertex.ensures
-    ∙ (ap (λ (k : Kind). t ++ kind_line k v c.faces_at.result) kind
-    ∙ ap (λ (n : ℕ). t ++ kind_line (kind_of mesh v) v n) c.faces_at.ensures) in
-    piece_behind (vertex_line mesh) v c.args.text.now.items t c.push_vertex.new.text.items c.loop-v.invariant line
+    cc (c.in_ok-push_vertex.ensures, kind, c.faces_at.ensures) in
+    piece_behind (vertex_line mesh) v c.args.text.now.items c.loop-v.invariant line

@@ -1,6 +1,6 @@
-use Rattle.std.proofs.Common.{◌≡◌, ◌<◌, ◌+◌, ℕ, List, [], ◌∷◌, ◌++◌, length, get_or, sym, ap, ◌∙◌, arith}
+use Rattle.std.proofs.Common.{◌≡◌, ◌<◌, ◌+◌, ℕ, List, [], ◌∷◌, ◌++◌, length, ap, ◌∙◌, arith, get_or}
 use Rattle.std.proofs.lemmas.List.{get_or_default, length-map}
-use Rattle.std.specs.Prelude.{option_copied, slice_index}
+use Rattle.std.specs.Prelude.{option_copied}
 use Rattle.def_cuttext.specs.LayoutText.{place_in_file}
 use Rattle.def_layout.specs.{Arcs.path, Arcs.path_at, Plans.vertex_at, Plans.Plan}
 use Rattle.def_report.specs.GraphText.{numbers_line}
@@ -15,9 +15,8 @@ push_along-requires c =
     let less : c.args.a < length t.arcs.items =
     omega (arith, c.requires, ap (λ (p : Plan). length p.arcs) c.layout-t.ensures.plan, length-map t.arcs.items path) in
     let read : path_at cut.plan.arcs c.args.a ≡ path arc =
-    arc_read t cut.plan c.args.a arc c.layout-t.ensures.plan c.requires less c.index-arc.ensures in
-    along_low cut.soup.faces cut.plan c.layout-t.ensures.laid c.args.a arc c.deref.result.now c.requires read
-    c.deref.ensures.value
+    arc_read t c.args.a c.layout-t.ensures.plan c.requires less c.index-arc.ensures in
+    along_low cut.soup.faces cut.plan c.layout-t.ensures.laid c.args.a arc c.requires read c.deref.ensures.value
 
 pub index-requires : goal.index-requires
 index-requires c =
@@ -27,7 +26,7 @@ index-requires c =
     let less : c.args.a < length t.arcs.items =
     omega (arith, c.requires, ap (λ (p : Plan). length p.arcs) c.layout-t.ensures.plan, length-map t.arcs.items path) in
     let read : path_at cut.plan.arcs c.args.a ≡ path arc =
-    arc_read t cut.plan c.args.a arc c.layout-t.ensures.plan c.requires less c.index-arc.ensures in
+    arc_read t c.args.a c.layout-t.ensures.plan c.requires less c.index-arc.ensures in
     omega (
       arith,
       last_node cut.soup.faces cut.plan c.layout-t.ensures.laid c.args.a arc c.requires read,
@@ -44,7 +43,7 @@ returns c =
     let less : c.args.a < length t.arcs.items =
     omega (arith, c.requires, ap (λ (p : Plan). length p.arcs) c.layout-t.ensures.plan, length-map t.arcs.items path) in
     let read : path_at cut.plan.arcs c.args.a ≡ path arc =
-    arc_read t cut.plan c.args.a arc c.layout-t.ensures.plan c.requires less c.index-arc.ensures in
+    arc_read t c.args.a c.layout-t.ensures.plan c.requires less c.index-arc.ensures in
     let node : arc.last < length cut.plan.nodes =
     last_node cut.soup.faces cut.plan c.layout-t.ensures.laid c.args.a arc c.requires read in
     let vertex : c.index.result.now ≡ vertex_at cut.plan arc.last =
@@ -55,11 +54,8 @@ returns c =
     let many : c.len.result ≡ length arc.darts.items = c.len.ensures ∙ arc.darts.ok.0 in
     let t0 = c.args.text.now.items in
     let line = line_behind c.arc_word-word.result.now (along_numbers cut.soup c.deref.result.now) (c.args.a + 1)
-    c.len.result (c.from.result + 1)
-    t0 _ _ _ _ _
-    c.in_ok-extend_from_slice.ensures.items c.in_ok-push_numbers.ensures c.in_ok-push_along.ensures
-    c.in_ok-push_spaced.ensures c.in_ok-push.ensures.items in
-    line
-    ∙ (λ i. t0 ++ numbers_line (c.arc_word-word.ensures i)
+    c.len.result (c.from.result + 1) t0 c.in_ok-extend_from_slice.ensures.items c.in_ok-push_numbers.ensures
+    c.in_ok-push_along.ensures c.in_ok-push_spaced.ensures c.in_ok-push.ensures.items in
+    line ∙ (λ i. t0 ++ numbers_line (c.arc_word-word.ensures i)
     ((c.args.a + 1) ∷ many i ∷ (along_numbers cut.soup (c.deref.ensures.value i) ++ (last i + 1) ∷ [])))
     ∙ ap (λ (xs : List ℕ). t0 ++ xs) (arc_written cut.soup kept cut.plan c.args.a arc read)

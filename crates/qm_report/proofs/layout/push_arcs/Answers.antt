@@ -1,6 +1,6 @@
-use Rattle.std.proofs.Common.{◌≡◌, ℕ, ◌++◌, length, ap, subst, arith}
+use Rattle.std.proofs.Common.{◌≡◌, length, arith, ap}
 use Rattle.std.proofs.lemmas.List.{length-map}
-use Rattle.std.specs.{Prelude.option_copied, List.flat_map, List.range_with_len}
+use Rattle.std.specs.{Prelude.option_copied}
 use Rattle.def_cuttext.specs.LayoutText.{whole_arc_line}
 use Rattle.def_layout.specs.{Arcs.path, Plans.Plan}
 use Rattle.qm_report.proofs.Texts.{piece_behind}
@@ -10,8 +10,7 @@ pub loop-a-preserved : goal.loop-a-preserved
 loop-a-preserved c =
     let cut = c.args.cut.now in
     piece_behind (whole_arc_line cut.soup (option_copied c.args.kept) cut.plan) c.loop-a.a c.args.text.now.items
-    c.loop-a.text.items
-    c.push_arc.new.text.items c.loop-a.invariant c.in_ok-push_arc.ensures
+    c.loop-a.invariant c.in_ok-push_arc.ensures
 
 pub returns : goal.returns
 returns c =
@@ -27,7 +26,4 @@ returns c =
       length-map t.arcs.items path,
       ap (λ (p : Plan). length p.arcs) c.layout.ensures.plan,
     ) in
-    subst
-    (λ (n : ℕ). c.loop-a.text.items ≡ c.args.text.now.items
-    ++ flat_map (whole_arc_line cut.soup (option_copied c.args.kept) cut.plan) (range_with_len 0 n))
-    all c.loop-a.invariant
+    rw (← all) c.loop-a.invariant

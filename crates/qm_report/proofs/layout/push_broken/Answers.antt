@@ -2,7 +2,6 @@ use Rattle.std.proofs.Common.{◌≡◌, ◌<◌, ◌+◌, ℕ, Bool, true, fals
 use Rattle.std.proofs.Common.{sym, ap, ◌∙◌, arith}
 use Rattle.std.proofs.lemmas.List.{length-map}
 use Rattle.std.proofs.lemmas.List.FromFn.{get_or-map-range_with_len, length-range_with_len}
-use Rattle.std.specs.List.{range_with_len}
 use Rattle.def_cuttext.specs.LayoutText.{break_line, place_in_file}
 use Rattle.def_feature.specs.Marks.{is_break}
 use Rattle.def_mesh.specs.{Faces.Faces, Vertices.all_vertices, Vertices.vertex_count}
@@ -34,23 +33,19 @@ loop-v-preserved c =
     let t0 = c.args.text.now.items in
     let b = c.index.result.now in
     let low : v < vertex_count mesh = omega (arith, c.loop-v-test.true, c.vertices-v-end.ensures.value) in
-    let broken : b ≡ is_break soup.faces marks v =
-    c.index.ensures ∙ ap (λ (bs : List Bool). get_or bs v b) c.in_ok-broken.ensures
-    ∙ get_or-map-range_with_len (is_break mesh marks) 0 (vertex_count mesh) v v b low (omega arith)
-    ∙ ap (λ (fs : Faces). is_break fs marks v) c.mesh-mesh.ensures in
+    let broken : b ≡ is_break soup.faces marks v = c.index.ensures ∙ ap (λ (bs : List Bool). get_or bs v b)
+    c.in_ok-broken.ensures ∙ get_or-map-range_with_len (is_break mesh marks) 0 (vertex_count mesh) v v b low
+    (omega arith) ∙ ap (λ (fs : Faces). is_break fs marks v) c.mesh-mesh.ensures in
     elim c.if-index.branch [
       | then-index+in_ok-push_line w ↦
           let is : is_break soup.faces marks v ≡ true = sym broken ∙ w.if-index.true in
           let line : w.push_line.new.text.items ≡ t ++ numbers_line (codes "break") ((place_in_file soup.names v + 1)
           ∷ []) =
-          w.in_ok-push_line.ensures
-          ∙ ap (λ (n : ℕ). t ++ numbers_line (codes "break") ((n + 1) ∷ []))
+          w.in_ok-push_line.ensures ∙ ap (λ (n : ℕ). t ++ numbers_line (codes "break") ((n + 1) ∷ []))
           (w.from.ensures ∙ w.place_in_file.ensures ∙ ap (λ (names : List ℕ). place_in_file names v)
           c.names-names.ensures.value) in
-          rw w.text-is (piece_behind (break_line soup (Some marks)) v t0 t w.push_line.new.text.items c.loop-v.invariant
-          (rw is line))
+          rw w.text-is (piece_behind (break_line soup (Some marks)) v t0 c.loop-v.invariant (rw is line))
       | else-index w ↦
           let is : is_break soup.faces marks v ≡ false = sym broken ∙ w.if-index.false in
-          rw w.text-is (piece_behind (break_line soup (Some marks)) v t0 t t c.loop-v.invariant
-          (rw is (nothing_behind t)))
+          rw w.text-is (piece_behind (break_line soup (Some marks)) v t0 c.loop-v.invariant (rw is (nothing_behind t)))
     ]

@@ -1,7 +1,7 @@
-use Rattle.std.proofs.Common.{◌≡◌, ◌<◌, ℕ, List, ◌++◌, length, ap, ◌∙◌}
+use Rattle.std.proofs.Common.{◌≡◌, ◌<◌, ◌++◌, length, ap, ◌∙◌}
 use Rattle.std.proofs.{Common.arith, lemmas.List.length-map, lemmas.List.FromFn.length-range_with_len}
 use Rattle.def_cuttext.specs.LayoutText.{named_line, place_in_file}
-use Rattle.def_mesh.specs.{Faces.Faces, Kinds.kind_of, Vertices.all_vertices, Vertices.faces_at, Vertices.vertex_count}
+use Rattle.def_mesh.specs.{Kinds.kind_of, Vertices.all_vertices, Vertices.faces_at, Vertices.vertex_count}
 use Rattle.def_mesh.specs.{declared.Kind.Kind, declared.Kind.TheVariants.Regular}
 use Rattle.def_report.specs.GraphText.{kind_line}
 use Rattle.qm_sing.proofs.KindReads.{kind_read}
@@ -31,11 +31,10 @@ loop-v-preserved c =
     omega (arith, c.loop-v-test.true, c.vertices-v-end.ensures.value, ap vertex_count c.mesh-mesh.ensures) in
     let kind = kind_read faces c.args.kinds.now v Regular low c.requires in
     let place : c.place_in_file-place.result ≡ place_in_file soup.names v =
-    c.place_in_file-place.ensures ∙ ap (λ (names : List ℕ). place_in_file names v) c.names.ensures.value in
-    let many : c.faces_at.result ≡ faces_at faces v =
-    c.faces_at.ensures ∙ ap (λ (fs : Faces). faces_at fs v) c.mesh-mesh.ensures in
+    cc (c.place_in_file-place.ensures, c.names.ensures.value) in
+    let many : c.faces_at.result ≡ faces_at faces v = cc (c.faces_at.ensures, c.mesh-mesh.ensures) in
     let line : c.push_vertex.new.text.items ≡ t ++ named_line soup v =
     c.in_ok-push_vertex.ensures
     ∙ (ap (λ (k : Kind). t ++ kind_line k c.place_in_file-place.result c.faces_at.result) kind
     ∙ (λ i. t ++ kind_line (kind_of faces v) (place i) (many i))) in
-    piece_behind (named_line soup) v c.args.text.now.items t c.push_vertex.new.text.items c.loop-v.invariant line
+    piece_behind (named_line soup) v c.args.text.now.items c.loop-v.invariant line

@@ -8,6 +8,6 @@ loop-p-preserved c =
     let layout = plan c.args.t.now in
     let t = c.loop-p.text.items in
     let now = c.push_sides.new.text.items in
-    let both = behind t (size_line layout c.loop-p.p) (side_lines layout c.loop-p.p) c.push_size.new.text.items now
+    let both = behind t (size_line layout c.loop-p.p) (side_lines layout c.loop-p.p)
     c.in_ok-push_size.ensures c.in_ok-push_sides.ensures in
-    piece_behind (patch_lines layout) c.loop-p.p c.args.text.now.items t now c.loop-p.invariant both
+    piece_behind (patch_lines layout) c.loop-p.p c.args.text.now.items c.loop-p.invariant both

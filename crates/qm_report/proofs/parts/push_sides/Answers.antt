@@ -13,12 +13,12 @@ returns c =
     let t2 = c.push_side-2.new.text.items in
     let t3 = c.push_side-3.new.text.items in
     let t4 = c.push_side-4.new.text.items in
-    let south = side_behind sides p 0 four _ c.requires.low c.index-sides.ensures c.requires.four (omega arith)
-    (codes "south") t0 t1 c.deref.result.now c.deref.ensures.value c.in_ok-push_side.ensures in
-    let east = side_behind sides p 1 four _ c.requires.low c.index-sides.ensures c.requires.four (omega arith)
-    (codes "east") t1 t2 c.deref-2.result.now c.deref-2.ensures.value c.in_ok-push_side-2.ensures in
-    let north = side_behind sides p 2 four _ c.requires.low c.index-sides.ensures c.requires.four (omega arith)
-    (codes "north") t2 t3 c.deref-3.result.now c.deref-3.ensures.value c.in_ok-push_side-3.ensures in
-    let west = side_behind sides p 3 four _ c.requires.low c.index-sides.ensures c.requires.four (omega arith)
-    (codes "west") t3 t4 c.deref-4.result.now c.deref-4.ensures.value c.in_ok-push_side-4.ensures in
-    behind t0 _ _ t3 t4 (behind t0 _ _ t2 t3 (behind t0 _ _ t1 t2 south east) north) west
+    let south = side_behind sides p 0 _ c.requires.low c.index-sides.ensures c.requires.four (omega arith)
+    (codes "south") t0 c.deref.ensures.value c.in_ok-push_side.ensures in
+    let east = side_behind sides p 1 _ c.requires.low c.index-sides.ensures c.requires.four (omega arith)
+    (codes "east") t1 c.deref-2.ensures.value c.in_ok-push_side-2.ensures in
+    let north = side_behind sides p 2 _ c.requires.low c.index-sides.ensures c.requires.four (omega arith)
+    (codes "north") t2 c.deref-3.ensures.value c.in_ok-push_side-3.ensures in
+    let west = side_behind sides p 3 _ c.requires.low c.index-sides.ensures c.requires.four (omega arith)
+    (codes "west") t3 c.deref-4.ensures.value c.in_ok-push_side-4.ensures in
+    behind t0 _ _ (behind t0 _ _ (behind t0 _ _ south east) north) west
