@@ -326,8 +326,7 @@ module _ (mesh : HalfEdges) (laws : IsQuadManifold mesh) (cut : Cut) (full : IsC
   no_quarter i j li lj at =
       let two = carry 1 i j at.a at.b li lj at.a_low at.b_low at in
       no_half_turn i j li lj (record {
-        a =
-            two.a;
+        a = two.a;
         b = two.b;
         a_low = two.a_low;
         b_low = two.b_low;

@@ -246,9 +246,8 @@ module _ (mesh : HalfEdges) (laws : IsQuadManifold mesh) (cut : Cut) (full : IsC
     inside = λ i l. ap (λ x. cut (mesh.next x)) (row_above row off i (omega arith))
         ∙ (square (easts mesh s i) (row_low s w row i (omega arith)) (row.inside i l)
         (row_north_off row off i (omega arith))).0;
-    ends = λ i e. ap (λ x. cut (mesh.next x)) (row_above row off i (omega arith))
-        ∙ east_on (easts mesh s i) (row_low s w row i (omega arith)) (row.ends i e)
-        (row_north_off row off i (omega arith));
+    ends = λ i e. ap (λ x. cut (mesh.next x)) (row_above row off i (omega arith)) ∙ east_on (easts mesh s i)
+        (row_low s w row i (omega arith)) (row.ends i e) (row_north_off row off i (omega arith));
   }
 
   -- A row whose west edge is cut ends.

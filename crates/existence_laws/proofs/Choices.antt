@@ -25,8 +25,7 @@ chosen {X} d P (suc n) each = with_last (chosen d P n (λ k l. each k (omega (ar
         by_place : (k : ℕ) → k < suc n → (k ≡ n) ⊎ (k ≡ n → ⊥) → P k (get_or (xs ++ x ∷ []) k d)
         by_place k l (inl e) = subst (λ (i : ℕ). P i (get_or (xs ++ x ∷ []) i d)) (sym e)
             (subst (P n) (sym at_end) here)
-        by_place k l (inr ne) =
-            subst (P k) (sym (get_or_append_left xs (x ∷ []) d k (omega (arith, l, ne, long))))
+        by_place k l (inr ne) = subst (P k) (sym (get_or_append_left xs (x ∷ []) d k (omega (arith, l, ne, long))))
             (all k (omega (arith, l, ne)))
 
 -- The least number that passes a test, where some number does.

@@ -75,8 +75,7 @@ module _ (faces : Faces) (cut : List Bool) (cutting : IsCutting faces cut) where
   found zero low = (
     replicate (length faces) false,
     [],
-    found_none faces cut cutting (replicate (length faces) false)
-        refl,
+    found_none faces cut cutting (replicate (length faces) false) refl,
   )
   found (suc n) low = next (found n (omega (arith, low)))
     where

@@ -21,9 +21,8 @@ module _ (arcs : List Path) (uses : List SideArc) (line : List ℕ) (starts : �
   grown zero t used far so = (used, record { total = so.at ∙ omega (arith, far, so.high); each = so.each })
   grown (suc fuel) t used far so = by_end (cases_lt t (length line)) (λ next us l is. grown fuel next us l is)
     where
-      by_end : (t < length line) ⊎ (length line ≤ t)
-          → ((next : ℕ) (us : List SideArc) → length line ≤ next + fuel → IsSideSoFar arcs uses line starts next us
-          → (us : List SideArc) × IsSideOf arcs uses line us)
+      by_end : (t < length line) ⊎ (length line ≤ t) → ((next : ℕ) (us : List SideArc) → length line ≤ next + fuel
+          → IsSideSoFar arcs uses line starts next us → (us : List SideArc) × IsSideOf arcs uses line us)
           → (us : List SideArc) × IsSideOf arcs uses line us
       by_end (inr end) rest = (used, record { total = so.at ∙ omega (arith, end, so.high); each = so.each })
       by_end (inl low) rest =
@@ -38,8 +37,7 @@ module _ (arcs : List Path) (uses : List SideArc) (line : List ℕ) (starts : �
     at = refl;
     high = omega arith;
     next = split.first;
-    each =
-        λ k l. absurd (omega (arith, l));
+    each = λ k l. absurd (omega (arith, l));
   })
 
 module _ (faces : Faces) (arcs : List Path) (uses : List SideArc) (runs : AreRuns faces arcs uses) where

@@ -100,8 +100,7 @@ module _ (faces : Faces) (laws : IsQuadManifold (half_edges faces)) where
       each x lx (inr at) = let t : (t : ℕ) × (twin_of faces (prev_of (next_of x)) ≡ Some t) =
           (both_twins (half_edges faces) laws d c.0 c.1 c.2 l c.3 (next_of x) (record {
             low = laws.next_low x lx;
-            at =
-                at;
+            at = at;
           })).0 in (t.0, ap (twin_of faces) (sym (laws.prev_next x)) ∙ t.1)
 
   pub cross_faces : (d : ℕ) → d < darts faces → HasCross (half_edges faces) d → faces_at faces (from_of faces d) ≡ 4

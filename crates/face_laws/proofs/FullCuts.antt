@@ -110,8 +110,7 @@ module _ (faces : Faces) (laws : IsQuadManifold (half_edges faces)) (marks : Lis
             inr (λ x l s. elim (cases_eq x n) [
               | inl e ↦ (
                 ap (is_on marks) e ∙ off,
-                ap (λ y. is_on marks (prev_of y)) e
-                    ∙ clear,
+                ap (λ y. is_on marks (prev_of y)) e ∙ clear,
               )
               | inr ne ↦ none x (omega arith) s
             ])
@@ -138,8 +137,7 @@ module _ (faces : Faces) (laws : IsQuadManifold (half_edges faces)) (marks : Lis
             ⊎ ((is_on marks c ≡ false) × (twin_of faces c ≡ Some e)) → (k : ℕ) × IsChain faces marks (d / 4) (e / 4) k
         by_step c lc r (inl s) = (
           r.0,
-          subst (λ (g : ℕ). IsChain faces marks (d / 4) g r.0) (sym (next_face c) ∙ ap (λ x. x / 4) (sym s))
-              r.1,
+          subst (λ (g : ℕ). IsChain faces marks (d / 4) g r.0) (sym (next_face c) ∙ ap (λ x. x / 4) (sym s)) r.1,
         )
         by_step c lc r (inr o) = (suc r.0, (c, e, r.1, lc, o.0, o.1, refl))
 

@@ -222,8 +222,7 @@ module _ (faces : Faces) (m : IsManifold faces) (marks : List Bool) (marked : Ar
             ∙ ahead);
         straight = (
           prev_of d,
-          ap (λ x. twin_of faces (next_of x)) is
-              ∙ (ap (twin_of faces) (laws.next_prev a) ∙ a_twin),
+          ap (λ x. twin_of faces (next_of x)) is ∙ (ap (twin_of faces) (laws.next_prev a) ∙ a_twin),
           sym (laws.next_prev d),
         );
         cross = (a, b, c, k);

@@ -279,8 +279,7 @@ module _ (faces : Faces) (m : IsManifold faces) (marks : List Bool) (marked : Ar
                 at = at;
                 cross = k;
                 soon = inl on;
-                facing =
-                    inl (and_from _ _ (straight x a b c lx k (and_parts _ _ on).0) (ap is_some t.1));
+                facing = inl (and_from _ _ (straight x a b c lx k (and_parts _ _ on).0) (ap is_some t.1));
               }
 
       by_dart : (x : ℕ) × (is_among x (all_darts faces) ≡ true)

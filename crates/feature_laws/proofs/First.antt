@@ -27,8 +27,7 @@ use Rattle.feature_laws.proofs.Lines.{marked_trail}
 -- Among the starts.
 pub origin_in : (faces : Faces) (marks : List Bool) (d : ℕ) → d < darts faces → is_origin faces marks d ≡ true
     → is_on marks d ≡ false → is_among d (marked_starts faces marks) ≡ true
-origin_in faces marks d l y off =
-    in_filter (λ e. is_origin faces marks e && not (is_on marks e)) d (all_darts faces)
+origin_in faces marks d l y off = in_filter (λ e. is_origin faces marks e && not (is_on marks e)) d (all_darts faces)
     (among_range 0 (darts faces) d (omega arith) (omega arith)) (and_from _ _ y (not_from_false _ off))
 
 pub origin_of : (faces : Faces) (marks : List Bool) (d : ℕ) → is_among d (marked_starts faces marks) ≡ true

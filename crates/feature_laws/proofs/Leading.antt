@@ -66,8 +66,7 @@ module _ (faces : Faces) (s : ℕ) (old : List Bool) where
       by_mark x e g (inl same) = inr same
       by_mark x e g (inr on) = elim (is.closed x e on g) [
         | inl y ↦ inl (set_kept now next e l y)
-        | inr same ↦ let ahead : e ≡ next =
-            same_Some e next (sym g ∙ (ap (follower faces) same ∙ f)) in inl
+        | inr same ↦ let ahead : e ≡ next = same_Some e next (sym g ∙ (ap (follower faces) same ∙ f)) in inl
             (ap (is_on (set now next true)) ahead ∙ set_there now next l)
       ]
 

@@ -60,8 +60,7 @@ module _ (faces : Faces) (m : IsManifold faces) (marks : List Bool) (starts : Li
         ∙ length-range_with_len 0 (darts faces));
     lined = λ d l. (
       λ y. to d l (twin_of faces d) refl (sym (value d l) ∙ y),
-      λ y. value d l
-          ∙ from d l (twin_of faces d) refl y,
+      λ y. value d l ∙ from d l (twin_of faces d) refl y,
     );
   }
     where

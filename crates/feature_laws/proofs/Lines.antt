@@ -35,8 +35,7 @@ least_below f (suc n) = by_last (least_below f n)
       | inr more ↦ (
         i,
         omega (arith, l),
-        λ j h. elim (cases_eq j (suc n))
-            [ inl e ↦ omega (arith, more, ap f e) | inr ne ↦ least j (omega arith) ],
+        λ j h. elim (cases_eq j (suc n)) [ inl e ↦ omega (arith, more, ap f e) | inr ne ↦ least j (omega arith) ],
       )
     ]
 
@@ -119,8 +118,7 @@ module _ (faces : Faces) (m : IsManifold faces) (marks : List Bool) (marked : Ar
               → goes_round faces marks (from_of faces (backs faces d least.0)) n (backs faces d j) ≡ true
               → elim o as (λ o. Bool) [
                 | None ↦ false
-                | Some e ↦ goes_round faces marks
-                    (from_of faces (backs faces d least.0)) n e
+                | Some e ↦ goes_round faces marks (from_of faces (backs faces d least.0)) n e
               ] ≡ true
           on_from o j is y = rw is y
 

@@ -89,8 +89,7 @@ module _ {g : Darts} {f : Forest} {r : ℕ} {new : Forest} {o : Opening} (opened
 
   pub place : (x : ℕ) → Place x
   place x = elim (cases_eq (f.nest.up x) b) [
-    | inl up ↦ elim (cases_eq x b)
-        [ inl e ↦ inl e | inr ne ↦ inr (inl (opening.all x up ne)) ]
+    | inl up ↦ elim (cases_eq x b) [ inl e ↦ inl e | inr ne ↦ inr (inl (opening.all x up ne)) ]
     | inr ne ↦ inr (inr ne)
   ]
 
@@ -162,8 +161,7 @@ module _ {g : Darts} {f : Forest} {r : ℕ} {new : Forest} {o : Opening} (opened
       tops : (v : ℕ) → v < g.n → (f.out v ≡ b) ⊎ (f.out v ≢ b) → new.nest.up (new.out v) ≡ new.out v
       tops v l (inl e) = let p = opening.part_of v l e in
           rw (out_in v l e, sym p.2) (is.parts_out (o.q p.0) (opening.parts p.0 p.1).0)
-      tops v l (inr ne) =
-          rw (out_old v l ne) (kept_up (f.out v) (out_not_part v l ne) ∙ valid.outermost.tops v l)
+      tops v l (inr ne) = rw (out_old v l ne) (kept_up (f.out v) (out_not_part v l ne) ∙ valid.outermost.tops v l)
 
       by_outs : (x u v : ℕ) → u < g.n → v < g.n → x ≢ b → f.holds x u ≡ true → f.holds x v ≡ true → f.out u ≡ f.out v
           → (f.out u ≡ b) ⊎ (f.out u ≢ b) → new.out u ≡ new.out v

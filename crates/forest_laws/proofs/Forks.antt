@@ -214,9 +214,8 @@ module _ {g : Darts} (are : AreDarts g) {f : Forest} {r : ℕ} (valid : IsValid 
           em,
           en,
           lij,
-          way_differs are valid tree c m n named_c
-              (omega (arith, met.y_low, em, lij, lj)) (omega (arith, met.y_low, en, lj))
-              (sym (at_right i m em) ∙ e ∙ at_right j n en),
+          way_differs are valid tree c m n named_c (omega (arith, met.y_low, em, lij, lj))
+              (omega (arith, met.y_low, en, lj)) (sym (at_right i m em) ∙ e ∙ at_right j n en),
         )
 
     -- The darts between them.

@@ -91,5 +91,4 @@ module _ {g : Darts} (are : AreDarts g) {f : Forest} (nested : IsNested g f) whe
 
       each : (k : ℕ) → k ≤ ring_sum f.nest.after (blossom_size g.n f) (f.nest.head b) k
       each zero = omega arith
-      each (suc k) =
-          omega (arith, each k, odd_blossom (walk f.nest.after (f.nest.head b) k) (part_used ring k))
+      each (suc k) = omega (arith, each k, odd_blossom (walk f.nest.after (f.nest.head b) k) (part_used ring k))

@@ -140,8 +140,7 @@ module _ {g : Darts} (are : AreDarts g) {f : Forest} {r : ℕ} (valid : IsValid 
         hit_other {x = r} {b = b} (λ e. some_none (f.mate b) w.0 w.1 (ap f.mate e ∙ tree.root_free)),
       )
 
-      by_label : (l : Label) → f.label b ≡ l → total_below (pair_at b) f.size
-          ≡ weight_change (f.label b) t -ℤ hit r b
+      by_label : (l : Label) → f.label b ≡ l → total_below (pair_at b) f.size ≡ weight_change (f.label b) t -ℤ hit r b
       by_label Outer outer = by_outer outer (tree.outer b outer)
       by_label Inner inner =
           let child_off : (c : ℕ) → f.label c ≡ Inner → inner_of g f c ≢ b =

@@ -144,19 +144,16 @@ module _ {g : Darts} {f : Forest} {r : ℕ} {new : Forest} {inside : ℕ → Boo
       tops : (v : ℕ) → v < g.n → (inside (f.out v) ≡ true) ⊎ (inside (f.out v) ≡ false)
           → new.nest.up (new.out v) ≡ new.out v
       tops v l (inl on) = rw (out_on v l on) up_b
-      tops v l (inr off) =
-          rw (out_off v l off) (up_off (f.out v) (unused.no_out v l) off ∙ valid.outermost.tops v l)
+      tops v l (inr off) = rw (out_off v l off) (up_off (f.out v) (unused.no_out v l) off ∙ valid.outermost.tops v l)
 
       together : (x u v : ℕ) → u < g.n → v < g.n → new.holds x u ≡ true → new.holds x v ≡ true → (x ≡ b) ⊎ (x ≢ b)
           → new.out u ≡ new.out v
-      together x u v lu lv hu hv (inl e) =
-          out_on u lu (sym (is.holds_new u lu) ∙ ap (λ y. new.holds y u) (sym e) ∙ hu)
+      together x u v lu lv hu hv (inl e) = out_on u lu (sym (is.holds_new u lu) ∙ ap (λ y. new.holds y u) (sym e) ∙ hu)
           ∙ sym (out_on v lv (sym (is.holds_new v lv) ∙ ap (λ y. new.holds y v) (sym e) ∙ hv))
       together x u v lu lv hu hv (inr ne) = rw (
         is.out u lu,
         is.out v lv,
-        valid.outermost.together x u v lu lv
-            (sym (is.holds_old x u ne lu) ∙ hu) (sym (is.holds_old x v ne lv) ∙ hv),
+        valid.outermost.together x u v lu lv (sym (is.holds_old x u ne lu) ∙ hu) (sym (is.holds_old x v ne lv) ∙ hv),
       ) refl
 
       named : (x : ℕ) → new.label x ≢ Outside → Place x → IsOutermost g.n new x

@@ -39,8 +39,7 @@ module _ {g : Darts} {f : Forest} {r : ℕ} {new : Forest} {inside : ℕ → Boo
   outer_after : {d : ℕ} → IsTight g f d → f.label (f.out (far g d)) ≡ Outer → (new.label (new.out (far g d)) ≡ Outer)
       × (depths (new.out (far g d)) ≤ tree.depth (f.out (far g d)))
   outer_after {d} tight outer = elim (cases_Bool (inside (f.out (far g d)))) [
-    | inl on ↦ rw (beyond_on shrink tight on)
-        (label_b shrink, omega (arith, depth_b, cycle.above (f.out (far g d)) on))
+    | inl on ↦ rw (beyond_on shrink tight on) (label_b shrink, omega (arith, depth_b, cycle.above (f.out (far g d)) on))
     | inr off ↦ (beyond_label shrink tight off ∙ outer, omega (arith, beyond_depth tight off))
   ]
 

@@ -229,8 +229,7 @@ module _ {g : Darts} (are : AreDarts g) {f : Forest} {r : ℕ} (valid : IsValid 
           at_place back (is_inn at _) =
               let kept = almost.kept inn (inner_named inn_inner) (omega (arith, inn_depth)) in
               absurd (na (old_owner x half.here (sym (ap mate (sym at) ∙ back) ∙ kept ∙ pair.back)))
-          at_place back (is_a at _) =
-              absurd (ni (old_partner x half.here (sym (ap mate (sym at) ∙ back) ∙ own ∙ was)))
+          at_place back (is_a at _) = absurd (ni (old_partner x half.here (sym (ap mate (sym at) ∙ back) ∙ own ∙ was)))
           at_place back (is_other _ _ same) = same ∙ back
 
           by_case : (mate (f.out (far g x)) ≡ Some (g.twin x))

@@ -147,8 +147,7 @@ module _ (mesh : HalfEdges) (laws : IsQuadManifold mesh) (cut : Cut) (full : IsC
       west,
       p.h - 1 - j,
       omega arith,
-      ap (λ x. mesh.prev (cell_of p 0 x)) row
-          ∙ (prev_three mesh laws (cell_of p 0 j) ∙ sym e),
+      ap (λ x. mesh.prev (cell_of p 0 x)) row ∙ (prev_three mesh laws (cell_of p 0 j) ∙ sym e),
     )
     on_side (suc (suc (suc zero))) (suc i) j d li lj e on =
         absurd (true≢false (sym on ∙ (ap cut (e ∙ sym (prev_three mesh laws (cell_of p (suc i) j)))
@@ -184,8 +183,7 @@ module _ (mesh : HalfEdges) (laws : IsQuadManifold mesh) (cut : Cut) (full : IsC
         done k h before on = (
           k + 1,
           record {
-            run = walk_done mesh laws cut full node nodes (b u) k (line.low u l) (line.on u l) begins before
-                on;
+            run = walk_done mesh laws cut full node nodes (b u) k (line.low u l) (line.on u l) begins before on;
             fits = omega arith;
           },
         )

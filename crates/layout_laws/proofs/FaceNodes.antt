@@ -89,9 +89,8 @@ module _ (faces : Faces) (laws : IsQuadManifold (half_edges faces)) (marks : Lis
   two_and_one v x y z lx ly lz ax ay az ne onx ony lone off =
       let some : 2 ≤ length (filter (is_on marks) (fan_of faces v)) =
       fan_least faces v (is_on marks) 2 (of_two x y) each (two_apart x y ne) in
-      let one : 1 ≤ length (filter (is_lone_before faces marks) (fan_of faces v)) =
-      fan_least faces v (is_lone_before faces marks) 1 (λ j. z) (λ j l. (lz, az, passes))
-      (λ i j li lj e. omega arith) in
+      let one : 1 ≤ length (filter (is_lone_before faces marks) (fan_of faces v)) = fan_least faces v
+      (is_lone_before faces marks) 1 (λ j. z) (λ j l. (lz, az, passes)) (λ i j li lj e. omega arith) in
       let few : cut_degree faces marks v ≤ 2 = degree_at v off in
       omega arith
     where
@@ -163,8 +162,7 @@ module _ (faces : Faces) (laws : IsQuadManifold (half_edges faces)) (marks : Lis
               each (suc zero) l = record { low = ly; at = ay }
               each (suc (suc zero)) l = record {
                 low = laws.next_low s ls;
-                at = (laws.twin_ends (next_of t) s ly some).1
-                    ∙ ay;
+                at = (laws.twin_ends (next_of t) s ly some).1 ∙ ay;
               }
               each (suc (suc (suc j))) l = absurd (omega arith)
 
@@ -210,15 +208,13 @@ module _ (faces : Faces) (laws : IsQuadManifold (half_edges faces)) (marks : Lis
           by_next None none =
               let second : (t : ℕ) × (twin_of faces a ≡ Some t) × (twin_of faces (next_of t) ≡ None) =
               two_faces (from_of faces d) a fan la aa none in
-              let same : second.0 ≡ prev_of d =
-              same_Some second.0 (prev_of d) (sym second.1 ∙ laws.twin_twin (prev_of d) a (laws.prev_low d ld)
-              is) in
+              let same : second.0 ≡ prev_of d = same_Some second.0 (prev_of d)
+              (sym second.1 ∙ laws.twin_twin (prev_of d) a (laws.prev_low d ld) is) in
               record {
                 turn = is;
                 apart = d_a;
                 lone = none;
-                end =
-                    ap (twin_of faces) (sym (ap next_of same ∙ laws.next_prev d)) ∙ second.2;
+                end = ap (twin_of faces) (sym (ap next_of same ∙ laws.next_prev d)) ∙ second.2;
               }
           by_next (Some b) some = absurd (by_place (cases_eq b d))
             where
@@ -240,16 +236,14 @@ module _ (faces : Faces) (laws : IsQuadManifold (half_edges faces)) (marks : Lis
                   both x (inl s) = (
                     (
                       prev_of a,
-                      ap (twin_of faces) s ∙ laws.twin_twin (prev_of a) d (laws.prev_low a la)
-                          home,
+                      ap (twin_of faces) s ∙ laws.twin_twin (prev_of a) d (laws.prev_low a la) home,
                     ),
                     (a, ap (λ k. twin_of faces (prev_of k)) s ∙ is),
                   )
                   both x (inr s) = (
                     (
                       prev_of d,
-                      ap (twin_of faces) s ∙ laws.twin_twin (prev_of d) a (laws.prev_low d ld)
-                          is,
+                      ap (twin_of faces) s ∙ laws.twin_twin (prev_of d) a (laws.prev_low d ld) is,
                     ),
                     (d, ap (λ k. twin_of faces (prev_of k)) s ∙ home),
                   )

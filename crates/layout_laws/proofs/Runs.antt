@@ -31,8 +31,7 @@ module _ (mesh : HalfEdges) (laws : IsQuadManifold mesh) (cut : Cut) (full : IsC
     low =
         subst (λ (x : ℕ). x < mesh.count) (sym e)
         (laws.next_low t (laws.twin_low (mesh.next d) t (laws.next_low d l) is));
-    from =
-        ap mesh.from e ∙ (laws.twin_ends (mesh.next d) t (laws.next_low d l) is).1;
+    from = ap mesh.from e ∙ (laws.twin_ends (mesh.next d) t (laws.next_low d l) is).1;
     on = ap cut e ∙ on;
   }
     where
@@ -303,9 +302,8 @@ module _ (mesh : HalfEdges) (laws : IsQuadManifold mesh) (cut : Cut) (full : IsC
       inner : IsDouble (easts mesh s i) (easts mesh s (suc j))
           → (mesh.twin (easts mesh s (suc i)) ≡ Some (easts mesh s j) → ⊥) → ⊥
       inner d rest =
-          let same : d.after ≡ easts mesh s j =
-          east_same d.after (easts mesh s j) d.low (run_low s n run j (omega arith)) d.over
-          (run_goes s n run j l).over d.back in
+          let same : d.after ≡ easts mesh s j = east_same d.after (easts mesh s j) d.low
+          (run_low s n run j (omega arith)) d.over (run_goes s n run j l).over d.back in
           rest (d.is ∙ ap Some same)
 
   pub no_mirror : (s n i j : ℕ) → IsRun mesh cut node s n → i < n → j < n → mesh.twin (easts mesh s i)

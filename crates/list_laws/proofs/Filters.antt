@@ -38,8 +38,7 @@ kept_at p a (suc n) t l =
 pub place_of : (p : ℕ → Bool) (a n x : ℕ) → IsKept p a n x → (t : ℕ) × (t < length (filter p (range_with_len a n)))
     × (get_or (filter p (range_with_len a n)) t 0 ≡ x)
 place_of p a zero x k = absurd (omega arith)
-place_of p a (suc n) x k =
-    at (p a) refl (filter p (range_with_len (a + 1) n))
+place_of p a (suc n) x k = at (p a) refl (filter p (range_with_len (a + 1) n))
     (λ m. place_of p (a + 1) n x (record { low = m; high = omega arith; passes = k.passes }))
   where
     at : (b : Bool) → p a ≡ b → (xs : List ℕ) → (a + 1 ≤ x → (t : ℕ) × (t < length xs) × (get_or xs t 0 ≡ x))
@@ -131,6 +130,5 @@ range_any p a (suc n) t = elim (or_cases _ _ t) [
 pub map_range_same : {X : Type 0} (f g : ℕ → X) (a n : ℕ) → ((x : ℕ) → a ≤ x → x < a + n → f x ≡ g x)
     → map f (range_with_len a n) ≡ map g (range_with_len a n)
 map_range_same f g a zero same = refl
-map_range_same f g a (suc n) same =
-    rw (same a (omega arith) (omega arith))
+map_range_same f g a (suc n) same = rw (same a (omega arith) (omega arith))
     (ap (λ xs. g a ∷ xs) (map_range_same f g (a + 1) n (λ x l h. same x (omega arith) (omega arith))))

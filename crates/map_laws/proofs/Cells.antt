@@ -73,7 +73,5 @@ module _ (l : Layout) (x : Lengths) where
       here : n < l.patches
           → map (λ k. item (cell_dart n k)) (range_with_len 0 (wide l x n * high l x n))
           ≡ map (λ k. item (dart_of l x (cells_before l x n + k) south)) (range_with_len 0 (wide l x n * high l x n))
-      here n_low =
-          map_range_same (λ k. item (cell_dart n k)) (λ k. item (dart_of l x (cells_before l x n + k) south)) 0
-          (wide l x n * high l x n)
-          (λ k from less. ap item (sym (cell_is n k n_low (omega (arith, less)))))
+      here n_low = map_range_same (λ k. item (cell_dart n k)) (λ k. item (dart_of l x (cells_before l x n + k) south)) 0
+          (wide l x n * high l x n) (λ k from less. ap item (sym (cell_is n k n_low (omega (arith, less)))))

@@ -16,15 +16,13 @@ module _ (l : Layout) (new : Lengths) where
 
   pub at_arc : (v : ℕ) → l.nodes ≤ v → v < l.nodes + before_arc new l.arcs
       → point_at l new v ≡ along_arcs l new (v - l.nodes)
-  at_arc v from low =
-      cond-false (nat_lt v l.nodes) _ _ (le-ltb _ _ from)
-      ∙ cond-true (nat_lt v (l.nodes + before_arc new l.arcs)) _ _ (lt-ltb _ _ low)
+  at_arc v from low = cond-false (nat_lt v l.nodes) _ _ (le-ltb _ _ from) ∙ cond-true
+      (nat_lt v (l.nodes + before_arc new l.arcs)) _ _ (lt-ltb _ _ low)
 
   pub at_patch : (v : ℕ) → l.nodes + before_arc new l.arcs ≤ v
       → point_at l new v ≡ inside_patches l new (v - (l.nodes + before_arc new l.arcs))
-  at_patch v from =
-      cond-false (nat_lt v l.nodes) _ _ (le-ltb _ _ (omega (arith, from)))
-      ∙ cond-false (nat_lt v (l.nodes + before_arc new l.arcs)) _ _ (le-ltb _ _ from)
+  at_patch v from = cond-false (nat_lt v l.nodes) _ _ (le-ltb _ _ (omega (arith, from))) ∙ cond-false
+      (nat_lt v (l.nodes + before_arc new l.arcs)) _ _ (le-ltb _ _ from)
 
   along_is : (t : ℕ) → t < before_arc new l.arcs → IsPoint l new (along_arcs l new t)
   along_is t low =

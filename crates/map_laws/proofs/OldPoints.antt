@@ -65,8 +65,7 @@ module _ (plan : Plan) (is : IsSomeLayout plan) where
         at_is l x laid.paved len r.0 0 r.1 some,
         at_from l x laid len r.0 0 r.1 some ∙ use_begins l x (use_of l r.0) some ∙ ap node r.2,
         starts (half_edges is.faces) (manifold_law is.faces in_mesh.manifold) l x in_mesh.paved in_mesh.lengths cell
-            (vertex_at plan) (dart_at plan.arcs) sided r.0 r.1
-            ∙ ap (vertex_at plan) r.2,
+            (vertex_at plan) (dart_at plan.arcs) sided r.0 r.1 ∙ ap (vertex_at plan) r.2,
       )
   point_vertex (along a k) low =
       let f : (w : Slot) × IsSlot l w × (use_of l w ≡ record { arc = a; forward = true }) = laid.forward a low.0 in

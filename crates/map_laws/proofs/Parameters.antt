@@ -33,13 +33,11 @@ module _ (l : Layout) (old new : Lengths) (spacing : ArcSpacing) (laid : IsSurfa
     (n_len : AreLengths l new) (spaced : IsSpacing l old new spacing) where
   -- The last arc of a side lies at its end.
   over_end : (p : ℕ) (s : Way) → p < l.patches → use_over l new p s (size l new p s) ≡ l.many p s - 1
-  over_end p s low =
-      run_last (reach l new p s) (l.many p s) (size l new p s) (laid.paved.sides_full p s low)
+  over_end p s low = run_last (reach l new p s) (l.many p s) (size l new p s) (laid.paved.sides_full p s low)
       (omega (arith, last_reach l new laid.paved n_len p s low))
 
   last_low : (p : ℕ) (s : Way) → p < l.patches → (l.use_at p s (l.many p s - 1)).arc < l.arcs
-  last_low p s low =
-      laid.paved.arc_low (slot p s (l.many p s - 1))
+  last_low p s low = laid.paved.arc_low (slot p s (l.many p s - 1))
       (record { patch_low = low; low = omega (arith, laid.paved.sides_full p s low) })
 
   -- At the end of a side the parameter is its old length.
@@ -74,9 +72,8 @@ module _ (l : Layout) (old new : Lengths) (spacing : ArcSpacing) (laid : IsSurfa
   back_begin p s low =
       let first = first_slot l new laid.paved n_len p s low in
       let used : SideArc = l.use_at p s 0 in
-      let over : use_over l new p s 0 ≡ 0 =
-      run_place (long_at l new p s) (l.many p s) 0 0 first.low (use_some l new laid.paved n_len (slot p s 0)
-      first) in
+      let over : use_over l new p s 0 ≡ 0 = run_place (long_at l new p s) (l.many p s) 0 0 first.low
+      (use_some l new laid.paved n_len (slot p s 0) first) in
       let upto : reach l old p s 1 ≤ size l old p s =
       count_rises (long_at l old p s) 1 (l.many p s) (omega (arith, first.low)) in
       let same : new used.arc - (0 - reach l new p s 0) ≡ new used.arc = omega arith in
@@ -174,12 +171,9 @@ module _ (l : Layout) (old new : Lengths) (spacing : ArcSpacing) (laid : IsSurfa
       ))
 
   pub v_less : (p i j : ℕ) → IsPoint l new (inside p i j) → parameter_v l old new spacing p i j < ONE * high l old p
-  v_less p i j is =
-      mean_less (parameter_back l old new spacing p west (high l new p - j)) (parameter l old new spacing p east j)
-      (ONE * high l old p)
-      (wide l new p) i
-      (omega (arith, is.1, is.2)) (omega (arith, is.2)) (back_less p west (high l new p - j) is.0 (omega (arith, is.4))
-      (omega (arith, is.3, is.4)))
+  v_less p i j is = mean_less (parameter_back l old new spacing p west (high l new p - j))
+      (parameter l old new spacing p east j) (ONE * high l old p) (wide l new p) i (omega (arith, is.1, is.2))
+      (omega (arith, is.2)) (back_less p west (high l new p - j) is.0 (omega (arith, is.4)) (omega (arith, is.3, is.4)))
       (omega (arith, o_len.upright p is.0, ahead_less p east j is.0 (omega (arith, is.4, n_len.upright p is.0))))
 
   -- Those of any grid point are at most that.
@@ -200,10 +194,9 @@ module _ (l : Layout) (old new : Lengths) (spacing : ArcSpacing) (laid : IsSurfa
   pub v_upto : (p i j : ℕ) → p < l.patches → i ≤ wide l new p → j ≤ high l new p
       → parameter_v l old new spacing p i j ≤ ONE * high l old p
   v_upto p i j low i_le j_le =
-      let less : parameter_v l old new spacing p i j < ONE * high l old p + 1 =
-      mean_less (parameter_back l old new spacing p west (high l new p - j)) (parameter l old new spacing p east j)
-      (ONE * high l old p + 1) (wide l new p) i
-      (wide_some l new laid.paved n_len p low) i_le
+      let less : parameter_v l old new spacing p i j < ONE * high l old p + 1 = mean_less
+      (parameter_back l old new spacing p west (high l new p - j)) (parameter l old new spacing p east j)
+      (ONE * high l old p + 1) (wide l new p) i (wide_some l new laid.paved n_len p low) i_le
       (omega (arith, back_most p west (high l new p - j) low (omega arith)))
       (omega (arith, o_len.upright p low, ahead_most p east j low (omega (arith, n_len.upright p low, j_le)))) in
       omega (arith, less)

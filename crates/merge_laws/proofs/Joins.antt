@@ -104,8 +104,7 @@ module _ (mesh : HalfEdges) (laws : IsQuadManifold mesh) (cut : Cut) (full : IsC
 
     -- So does the edge before its start.
     pub start_stays : rest (mesh.prev s) ≡ true
-    start_stays = ap rest (prev_three mesh laws s)
-        ∙ still mesh laws cut rest s t n without (spin mesh 3 s)
+    start_stays = ap rest (prev_three mesh laws s) ∙ still mesh laws cut rest s t n without (spin mesh 3 s)
         (rw (prev_three mesh laws s) at (laws.prev_low s arc.glued.near.corner.0))
         (clear 3 0 0 (omega arith) (omega arith) arc.glued.near.some grid.tall)
         (ap cut (sym (prev_three mesh laws s)) ∙ arc.glued.near.corner.2)

@@ -71,8 +71,7 @@ neighbour_step faces once d e low high same n = by_case (meet_cases _ _ _ _ n)
     by_case (inl a) = inr (false, (low, same ∙ sym (before_from faces e), a))
     by_case (inr (inl a)) = inr (true, (high, sym same ∙ sym (before_from faces d), a))
     by_case (inr (inr (inl a))) = inl (once d e low high (same, a))
-    by_case (inr (inr (inr a))) = inl
-        (sym (next_of-prev_of d)
+    by_case (inr (inr (inr a))) = inl (sym (next_of-prev_of d)
         ∙ ap next_of (once (prev_of d) (prev_of e) (prev_of_low faces d low) (prev_of_low faces e high) (
           a,
           before_from faces d ∙ same ∙ sym (before_from faces e),

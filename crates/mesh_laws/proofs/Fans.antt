@@ -17,8 +17,7 @@ fan_of_is faces v = record {
   leaves = λ t l. eqb-true _ v (kept t l).passes;
   place = λ d l e. place_of (λ k. eqb (from_of faces k) v) 0 (darts faces) d (record {
     low = omega arith;
-    high =
-        omega arith;
+    high = omega arith;
     passes = eq-eqb _ v e;
   });
   increasing = rises (λ k. eqb (from_of faces k) v) 0 (darts faces);

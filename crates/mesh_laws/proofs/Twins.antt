@@ -15,8 +15,7 @@ twin_reverse faces d e is = and_from _ _ (eq-eqb _ _ is.1) (eq-eqb _ _ is.2)
 -- With each edge once, the twin is that dart that has the ends exchanged.
 pub twin_found : (faces : Faces) → HasEdgesOnce faces → (d e : ℕ) → IsTwin faces d e → twin_of faces d ≡ Some e
 twin_found faces once d e is = find_one (is_reverse faces d) 0 (darts faces) e (omega arith) (omega (arith, is.0))
-    (twin_reverse faces d e is)
-    (λ y l h r. let t : IsTwin faces d y = reverse_twin faces d y (omega arith) r in
+    (twin_reverse faces d e is) (λ y l h r. let t : IsTwin faces d y = reverse_twin faces d y (omega arith) r in
     once y e t.0 is.0 (t.1 ∙ sym is.1, t.2 ∙ sym is.2))
 
 pub twin_none : (faces : Faces) (d : ℕ) → ((e : ℕ) → ¬ IsTwin faces d e) → twin_of faces d ≡ None

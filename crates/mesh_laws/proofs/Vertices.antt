@@ -29,13 +29,11 @@ pub all_below : (faces : Faces) → (d : ℕ) → d < darts faces → from_of fa
 all_below faces d l = omega (
   arith,
   from_at faces d l,
-  below_bound (map (from_of faces) (all_darts faces)) d
-      (omega (arith, from_count faces)),
+  below_bound (map (from_of faces) (all_darts faces)) d (omega (arith, from_count faces)),
 )
 
 pub count_least : (faces : Faces) (n : ℕ) → ((d : ℕ) → d < darts faces → from_of faces d < n) → vertex_count faces ≤ n
-count_least faces n within =
-    least_bound (map (from_of faces) (all_darts faces)) n
+count_least faces n within = least_bound (map (from_of faces) (all_darts faces)) n
     (λ i l. omega (
       arith,
       from_at faces i (omega (arith, from_count faces)),
@@ -46,7 +44,6 @@ count_least faces n within =
 pub fan_short : (faces : Faces) (v : ℕ) → faces_at faces v ≤ darts faces
 fan_short faces v = omega (
   arith,
-  length-filter_both (λ d. eqb (from_of faces d) v) (λ d. not (eqb (from_of faces d) v))
-      (λ d. refl) (all_darts faces),
+  length-filter_both (λ d. eqb (from_of faces d) v) (λ d. not (eqb (from_of faces d) v)) (λ d. refl) (all_darts faces),
   length-range_with_len 0 (darts faces),
 )

@@ -48,8 +48,7 @@ pub record IsShown (g : Terrain) (n : ℕ) (s : State) (x : EventState) : Type 0
   pub stood_long : length x.stood ≡ n
   pub covered_long : length x.covered ≡ g.half.count
   pub settled_long : length x.settled ≡ n
-  pub stood : (v : ℕ) → v < n
-      → is_on x.stood v ≡ (s.stood v
+  pub stood : (v : ℕ) → v < n → is_on x.stood v ≡ (s.stood v
       || (is_on x.settled v && Rattle.std.specs.List.list_any (arrives_at g (ridden s.riders) v) (ridden s.riders)))
   pub covered : (d : ℕ) → d < g.half.count
       → is_on x.covered d ≡ (s.covered d || (is_among d (darts_in x.noted) || is_met g (darts_in x.noted) d))

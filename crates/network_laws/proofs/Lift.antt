@@ -39,10 +39,8 @@ arc_convex net a x other c part =
     omega (
       arith,
       mul-le-mul_left a.weight shifted,
-      mul-add a.weight (unsigned_abs ((pos net.q *ℤ (x +ℤ c)) -ℤ t))
-          (unsigned_abs ((pos net.q *ℤ (other -ℤ c)) -ℤ t)),
-      mul-add a.weight (unsigned_abs ((pos net.q *ℤ x) -ℤ t))
-          (unsigned_abs ((pos net.q *ℤ other) -ℤ t)),
+      mul-add a.weight (unsigned_abs ((pos net.q *ℤ (x +ℤ c)) -ℤ t)) (unsigned_abs ((pos net.q *ℤ (other -ℤ c)) -ℤ t)),
+      mul-add a.weight (unsigned_abs ((pos net.q *ℤ x) -ℤ t)) (unsigned_abs ((pos net.q *ℤ other) -ℤ t)),
     )
   where
     t : ℤ
@@ -144,12 +142,10 @@ nearer net x other ax ao better on = by_differ (differ_or_not x other (length ne
             (p.part k l)).0;
         balanced = balanced_sum net.arcs x c ax.balanced p.balanced;
       },
-      λ k l. (let e : (x k +ℤ c k) -ℤ x k ≡ c k =
-          omega (arith, ints) in rw e (p.small k l)),
+      λ k l. (let e : (x k +ℤ c k) -ℤ x k ≡ c k = omega (arith, ints) in rw e (p.small k l)),
       here,
     )
-    by_part c p (inr not_here) =
-        on (λ k. other k -ℤ c k)
+    by_part c p (inr not_here) = on (λ k. other k -ℤ c k)
         (record {
           high = λ k l. (part_high (pos (arc_at net.arcs k).floor) (x k) (other k) (c k) (ax.high k l) (ao.high k l)
               (p.part k l)).1;
@@ -174,8 +170,7 @@ nearer net x other ax ao better on = by_differ (differ_or_not x other (length ne
     by_differ (inr same) =
         absurd (omega (
           arith,
-          count_below_same _ _ (length net.arcs) (λ k l. ap (arc_deviation net (arc_at net.arcs k))
-              (same k l)),
+          count_below_same _ _ (length net.arcs) (λ k l. ap (arc_deviation net (arc_at net.arcs k)) (same k l)),
         ))
     by_differ (inl (k, l, differ)) = taken (walk_law net x other k ax ao l differ)
       where

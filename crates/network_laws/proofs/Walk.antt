@@ -206,8 +206,7 @@ module _ (left right : ℕ → Option Port) where
                 step = record { arc = k; back = false };
                 within = lk;
                 leaves = h.0;
-                unused =
-                    omega (arith, ints, h.1);
+                unused = omega (arith, ints, h.1);
               }
           by_end (inr other) =
               let h : (opposite (right k) ≡ Some p) × (pos 0 <ℤ left_over k) =
@@ -216,8 +215,7 @@ module _ (left right : ℕ → Option Port) where
                 step = record { arc = k; back = true };
                 within = lk;
                 leaves = h.0;
-                unused =
-                    omega (arith, ints, h.1);
+                unused = omega (arith, ints, h.1);
               }
 
   -- A path and a step that goes on from it, with no port reached twice so far.
@@ -396,8 +394,7 @@ module _ (left right : ℕ → Option Port) where
     arc = l;
     within = λ k. omega arith;
     unused = c;
-    once =
-        λ q. omega arith;
+    once = λ q. omega arith;
     start = refl;
   }
 

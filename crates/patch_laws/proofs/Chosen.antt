@@ -22,8 +22,7 @@ module _ (faces : Faces) where
   pub to_plain : (patches : Patches) (cut : List Bool) → IsKeepingCut faces (replicate (darts faces) false) patches cut
       → IsPlainCut faces patches cut
   to_plain Traced cut is = is ∙ same_cut faces
-  to_plain Merged cut is =
-      subst (λ (whole : List Bool). IsMergedCut faces whole cut) (same_cut faces)
+  to_plain Merged cut is = subst (λ (whole : List Bool). IsMergedCut faces whole cut) (same_cut faces)
       (none_merged faces (marked_cut faces none) cut is)
   to_plain Conforming cut is = is
 

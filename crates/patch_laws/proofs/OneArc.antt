@@ -133,9 +133,8 @@ module _ (faces : Faces) (m : IsManifold faces) (marks : List Bool) (marked : Ar
       where
         by_cross : HasCross (half_edges faces) p → cut_degree faces cut (from_of faces p) ≤ 2
         by_cross (a, b, c, k) =
-            let some : length (filter (is_on cut) (fan_of faces (from_of faces p))) ≤ 2 =
-            at_most_two a c (filter (is_on cut) (fan_of faces (from_of faces p)))
-            (fan_apart (is_on cut) (from_of faces p))
+            let some : length (filter (is_on cut) (fan_of faces (from_of faces p))) ≤ 2 = at_most_two a c
+            (filter (is_on cut) (fan_of faces (from_of faces p))) (fan_apart (is_on cut) (from_of faces p))
             (λ d n. each d (fan_there (is_on cut) (from_of faces p) d n)) in
             let lone : length (filter (is_lone_before faces cut) (fan_of faces (from_of faces p))) ≡ 0 =
             none_there (filter (is_lone_before faces cut) (fan_of faces (from_of faces p)))
@@ -191,9 +190,8 @@ module _ (faces : Faces) (m : IsManifold faces) (marks : List Bool) (marked : Ar
           where
             third : (d ≡ p → ⊥) → (d ≡ x → ⊥) → ⊥
             third ne nx =
-                let three : 3 ≤ faces_at faces (from_of faces p) =
-                (has_fan faces (from_of faces p)).least 3 (of_four p x d d)
-                (record { each = each; apart = apart }) in
+                let three : 3 ≤ faces_at faces (from_of faces p) = (has_fan faces (from_of faces p)).least 3
+                (of_four p x d d) (record { each = each; apart = apart }) in
                 let both : faces_at faces (from_of faces p) ≡ 2 = outer_two out in
                 omega arith
               where

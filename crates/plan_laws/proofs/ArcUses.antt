@@ -20,8 +20,7 @@ module _ (m : HalfEdges) (laws : IsQuadManifold m) (cut : Cut) (full : IsCut m c
   on_run a k low less = (are.each a low).each k less
 
   pub dart_low : (a k : ℕ) → a < length arcs → k < long_at arcs a → dart_at arcs a k < m.count
-  dart_low a k low less =
-      subst (λ (d : ℕ). d < m.count) (sym (on_run a k low less))
+  dart_low a k low less = subst (λ (d : ℕ). d < m.count) (sym (on_run a k low less))
       (run_low m laws cut full node nodes (dart_at arcs a 0) (long_at arcs a) (run a low) k less)
 
   -- Arcs are told by their names.
@@ -122,9 +121,8 @@ module _ (m : HalfEdges) (laws : IsQuadManifold m) (cut : Cut) (full : IsCut m c
               (subst (λ (s : ℕ). IsRun m cut node s (long_at arcs a)) place.0 (one_run a a_low)) back.run
 
           across : (i n : ℕ) → i + suc n ≡ long_at others b → m.twin (dart_at others b i) ≡ Some (dart_at arcs a n)
-          across i n sum =
-              ap m.twin ((them.each b b_low).each i (omega arith)) ∙ back.twin i n sum
-              ∙ ap Some (ap (λ s. easts m s n) (sym place.0) ∙ sym ((are.each a a_low).each n (omega (arith, long))))
+          across i n sum = ap m.twin ((them.each b b_low).each i (omega arith)) ∙ back.twin i n sum ∙ ap Some
+              (ap (λ s. easts m s n) (sym place.0) ∙ sym ((are.each a a_low).each n (omega (arith, long))))
 
           b_less : name_at others b < name_at arcs a
           b_less =

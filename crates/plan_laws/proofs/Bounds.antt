@@ -81,9 +81,8 @@ module _ (l : Layout) (old x : Lengths) (k : ℕ) (laid : IsSurface l) (len : Ar
     where
       term : (m : ℕ) → m < l.many p s → x (l.use_at p s m).arc ≤ k * old (l.use_at p s m).arc
       term m less =
-          let some : 0 < old (l.use_at p s m).arc =
-          len.some (l.use_at p s m).arc (laid.paved.arc_low (record { patch = p; side = s; at = m })
-          (record { patch_low = low; low = less })) in
+          let some : 0 < old (l.use_at p s m).arc = len.some (l.use_at p s m).arc
+          (laid.paved.arc_low (record { patch = p; side = s; at = m }) (record { patch_low = low; low = less })) in
           by_parts (x (l.use_at p s m).arc) (old (l.use_at p s m).arc) (most (l.use_at p s m).arc) some
         where
           by_parts : (a b : ℕ) → a ≤ k → 0 < b → a ≤ k * b

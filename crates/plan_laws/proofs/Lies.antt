@@ -98,21 +98,18 @@ module _ (m : HalfEdges) (laws : IsQuadManifold m) (cut : Cut) (full : IsCut m c
             record {
               patch_low = c.4;
               i_low = omega (arith, c.5.i_low, lay.sizes c.0 south c.4);
-              j_low =
-                  omega (arith, c.5.j_low, lay.sizes c.0 west c.4);
+              j_low = omega (arith, c.5.j_low, lay.sizes c.0 west c.4);
             },
             sym w.1 ∙ sym c.5.is,
           )
 
   -- Nodes have vertices of their own.
   pub node_kept : (n : ℕ) → n < length t.nodes → IsKept node 0 v_count (vertex_at t n)
-  node_kept n low =
-      subst (λ (xs : List ℕ). IsKept node 0 v_count (get_or xs n 0)) (sym lay.nodes)
+  node_kept n low = subst (λ (xs : List ℕ). IsKept node 0 v_count (get_or xs n 0)) (sym lay.nodes)
       (kept_at node 0 v_count n (subst (λ (xs : List ℕ). n < length xs) lay.nodes low))
 
   vertices_rise : (i j : ℕ) → i < j → j < length t.nodes → vertex_at t i < vertex_at t j
-  vertices_rise i j less low =
-      subst (λ (xs : List ℕ). get_or xs i 0 < get_or xs j 0) (sym lay.nodes)
+  vertices_rise i j less low = subst (λ (xs : List ℕ). get_or xs i 0 < get_or xs j 0) (sym lay.nodes)
       (rises node 0 v_count i j less (subst (λ (xs : List ℕ). j < length xs) lay.nodes low))
 
   pub vertex_same : (i j : ℕ) → i < length t.nodes → j < length t.nodes → vertex_at t i ≡ vertex_at t j → i ≡ j
@@ -132,9 +129,8 @@ module _ (m : HalfEdges) (laws : IsQuadManifold m) (cut : Cut) (full : IsCut m c
   rim_dart p north k low =
       λ r. m.next (m.next (cell_of (patch_at t.patches p) (lay.sizes p south low r - 1 - k)
       (lay.sizes p west low r - 1)))
-  rim_dart p west k low =
-      ap (λ h. m.next (m.next (m.next (cell_of (patch_at t.patches p) 0 (h - 1 - k))))) (lay.sizes p west low)
-      ∙ prev_is m laws (cell_of (patch_at t.patches p) 0 ((patch_at t.patches p).h - 1 - k))
+  rim_dart p west k low = ap (λ h. m.next (m.next (m.next (cell_of (patch_at t.patches p) 0 (h - 1 - k)))))
+      (lay.sizes p west low) ∙ prev_is m laws (cell_of (patch_at t.patches p) 0 ((patch_at t.patches p).h - 1 - k))
 
   -- A dart of the cut lies at a slot.
   pub record StandsAt (d : ℕ) (w : Slot) (o : ℕ) : Type 0 where
@@ -172,9 +168,8 @@ module _ (m : HalfEdges) (laws : IsQuadManifold m) (cut : Cut) (full : IsCut m c
   one_use : (a : ℕ) (f : Bool) (k d : ℕ) (w : Slot) (o : ℕ) → a < length t.arcs → k < long_at t.arcs a
       → LiesAt m (path_at t.arcs a).darts f k d → StandsAt d w o
       → ((use_of l w).arc ≡ a) × ((use_of l w).forward ≡ f) × (o ≡ k)
-  one_use a f k d w o a_low k_low at s =
-      same_use m laws cut full node nodes t.arcs lay.arcs (use_of l w).arc a (use_of l w).forward f o k d
-      (lay.uses w s.is_slot) a_low s.low k_low s.lies at
+  one_use a f k d w o a_low k_low at s = same_use m laws cut full node nodes t.arcs lay.arcs (use_of l w).arc a
+      (use_of l w).forward f o k d (lay.uses w s.is_slot) a_low s.low k_low s.lies at
 
   arc_dart_low : (a k : ℕ) → a < length t.arcs → k < long_at t.arcs a → dart_at t.arcs a k < m.count
   arc_dart_low a k low less = dart_low m laws cut full node nodes t.arcs lay.arcs a k low less
@@ -230,9 +225,8 @@ module _ (m : HalfEdges) (laws : IsQuadManifold m) (cut : Cut) (full : IsCut m c
         ),
       )
       by_way true e u twin =
-          let on : (u < m.count) × (cut u ≡ true) =
-          twin_on (dart_at t.arcs (use_of l w).arc 0) u (arc_dart_low (use_of l w).arc 0 a_low some) twin
-          (arc_on (use_of l w).arc 0 a_low some) in
+          let on : (u < m.count) × (cut u ≡ true) = twin_on (dart_at t.arcs (use_of l w).arc 0) u
+          (arc_dart_low (use_of l w).arc 0 a_low some) twin (arc_on (use_of l w).arc 0 a_low some) in
           let s : (v : Slot) × (o : ℕ) × StandsAt u v o = stands u on.0 on.1 in
           let one : ((use_of l s.0).arc ≡ (use_of l w).arc) × ((use_of l s.0).forward ≡ false)
           × (s.1 ≡ long_at t.arcs (use_of l w).arc - 1 - 0) =

@@ -54,8 +54,7 @@ module _ (m : HalfEdges) (laws : IsQuadManifold m) (cut : Cut) (full : IsCut m c
               record {
                 at = b;
                 low = b_low;
-                name = one_name_both m laws cut full node nodes arcs are others them a b 0 o
-                    low b_low s;
+                name = one_name_both m laws cut full node nodes arcs are others them a b 0 o low b_low s;
                 long = s.long;
                 each = s.each;
               }
@@ -200,9 +199,8 @@ module _ (m : HalfEdges) (laws : IsQuadManifold m) (cut : Cut) (full : IsCut m c
       agree p s (suc k) low one other i l = by_last (cases_eq i k) (agree p s k low (omega arith) (omega arith))
         where
           by_last : (i ≡ k) ⊎ (i ≡ k → ⊥) → ((j : ℕ) → j < k → here p s j ≡ there p s j) → here p s i ≡ there p s i
-          by_last (inl e) before =
-              subst (λ (j : ℕ). here p s j ≡ there p s j) (sym e) (one_more p s k low (omega arith) (omega arith)
-              before)
+          by_last (inl e) before = subst (λ (j : ℕ). here p s j ≡ there p s j) (sym e)
+              (one_more p s k low (omega arith) (omega arith) before)
           by_last (inr ne) before = before i (omega arith)
 
       -- They have as many uses, since both are as long as the side of the patch.
@@ -257,8 +255,7 @@ module _ (m : HalfEdges) (laws : IsQuadManifold m) (cut : Cut) (full : IsCut m c
       nodes = nodes_same i;
       arcs = arcs_same i;
       patches = patches_same i;
-      sides =
-          sides_same i;
+      sides = sides_same i;
     }
       where
         nodes_same : t.nodes ≡ u.nodes
@@ -274,23 +271,20 @@ module _ (m : HalfEdges) (laws : IsQuadManifold m) (cut : Cut) (full : IsCut m c
         moved =
             subst (λ (xs : List Rectangle). IsDartLayout m cut node face v (record {
               nodes = t.nodes;
-              arcs =
-                  t.arcs;
+              arcs = t.arcs;
               patches = xs;
               sides = u.sides;
             })) (sym patches_same)
             (subst (λ (xs : List Path). IsDartLayout m cut node face v (record {
               nodes = t.nodes;
               arcs = xs;
-              patches =
-                  u.patches;
+              patches = u.patches;
               sides = u.sides;
             })) (sym arcs_same)
             (subst (λ (xs : List ℕ). IsDartLayout m cut node face v (record {
               nodes = xs;
               arcs = u.arcs;
-              patches =
-                  u.patches;
+              patches = u.patches;
               sides = u.sides;
             })) (sym nodes_same) lu))
 

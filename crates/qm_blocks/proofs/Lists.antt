@@ -29,10 +29,9 @@ module _ {X : Type 0} (a b c d : List X) (missing : X) where
   joined_long = omega (arith, length-append ((a ++ b) ++ c) d, length-append (a ++ b) c, length-append a b)
 
   in_first : (k : ℕ) → k < length a → get_or joined k missing ≡ get_or a k missing
-  in_first k low =
-      get_or_append_left ((a ++ b) ++ c) d missing k (omega (arith, low, length-append (a ++ b) c, length-append a b))
-      ∙ get_or_append_left (a ++ b) c missing k (omega (arith, low, length-append a b))
-      ∙ get_or_append_left a b missing k low
+  in_first k low = get_or_append_left ((a ++ b) ++ c) d missing k
+      (omega (arith, low, length-append (a ++ b) c, length-append a b)) ∙ get_or_append_left (a ++ b) c missing k
+      (omega (arith, low, length-append a b)) ∙ get_or_append_left a b missing k low
 
   in_second : (k : ℕ) → k < length b → get_or joined (length a + k) missing ≡ get_or b k missing
   in_second k low =
@@ -66,19 +65,17 @@ module _ (plan : Plan) (x : Lengths) (table : List (Option Spot)) where
 
   side_reads : (p : ℕ) (s : Way) (at : ℕ) (missing : Link) → at < length (side_at plan p s)
       → get_or (side_links plan x table p s) at missing ≡ link_on table x (side_name s) (side_at plan p s) at
-  side_reads p s at missing low =
-      get_or-map-range_with_len (link_on table x (side_name s) (side_at plan p s)) 0 (length (side_at plan p s)) at at
-      missing low (omega arith)
+  side_reads p s at missing low = get_or-map-range_with_len (link_on table x (side_name s) (side_at plan p s)) 0
+      (length (side_at plan p s)) at at missing low (omega arith)
 
   -- So has a block.
   block_long : (p : ℕ) → length (block_links plan x table p)
       ≡ arcs_before (layout_of plan) p west + length (side_at plan p west)
   block_long p =
-      let all : length (block_links plan x table p) ≡ length (side_links plan x table p south)
-      + length (side_links plan x table p east)
-      + length (side_links plan x table p north) + length (side_links plan x table p west)
-      = joined_long (side_links plan x table p south) (side_links plan x table p east) (side_links plan x table p north)
-      (side_links plan x table p west) (link_on table x (side_name south) [] 0) in
+      let all : length (block_links plan x table p) ≡ length (side_links plan x table p south) + length
+      (side_links plan x table p east) + length (side_links plan x table p north) + length
+      (side_links plan x table p west) = joined_long (side_links plan x table p south) (side_links plan x table p east)
+      (side_links plan x table p north) (side_links plan x table p west) (link_on table x (side_name south) [] 0) in
       omega (arith, all, side_long p south, side_long p east, side_long p north, side_long p west)
 
   block_reads : (p : ℕ) (s : Way) (at : ℕ) (missing : Link) → at < length (side_at plan p s)
@@ -138,10 +135,9 @@ module _ (plan : Plan) (x : Lengths) (table : List (Option Spot)) where
           × IsLinkOf (layout_of plan) x w link
       each w slot = (
         link_on table x (side_name w.side) (side_at plan w.patch w.side) w.at,
-        ap (λ ls. slice_get ls (place_in (layout_of plan) w)) (block_at w.patch slot.patch_low)
-            ∙ slice_get-get_or (block_links plan x table w.patch) (place_in (layout_of plan) w) missing
-            (in_block w.side slot.low)
-            ∙ ap Some (block_reads w.patch w.side w.at missing slot.low),
+        ap (λ ls. slice_get ls (place_in (layout_of plan) w)) (block_at w.patch slot.patch_low) ∙ slice_get-get_or
+            (block_links plan x table w.patch) (place_in (layout_of plan) w) missing (in_block w.side slot.low) ∙ ap
+            Some (block_reads w.patch w.side w.at missing slot.low),
         record {
           side = refl;
           from = refl;

@@ -45,8 +45,7 @@ link_to side from len other side' from' = record {
   side = side;
   from = from;
   len = len;
-  other =
-      Some (other, side', from');
+  other = Some (other, side', from');
 }
 
 -- What an option holds, whether it holds a point of a block's side, and the parts of that.

@@ -16,8 +16,7 @@ turned_back one other rev = record { arc = sym rev.arc; turned = twice one.forwa
 one_reverse : (one other next : SideArc) → AreReverse one other → AreReverse one next → next ≡ other
 one_reverse one other next rev rev' = λ t. record {
   arc = (rev'.arc ∙ sym rev.arc) t;
-  forward =
-      (rev'.turned ∙ sym rev.turned) t;
+  forward = (rev'.turned ∙ sym rev.turned) t;
 }
 
 pub symmetric : SymmetricLaw

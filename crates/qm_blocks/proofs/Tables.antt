@@ -184,9 +184,8 @@ module _ (l : Layout) (x : Lengths) (laid : IsSurface l) (table : List (Option S
     (are : HasSpots l x (IsSlot l) table) where
   -- What stands in a whole table behind a slot: the spot of its other slot, if there is one.
   pub other_spot : (w v : Slot) → IsOtherSlot l w v → spot_at table (back_key (use_of l w)) ≡ Some (spot_of l x v)
-  other_spot w v across =
-      ap (spot_at table) (sym (back_is (use_of l w) (use_of l v) across.1)) ∙ here (spot_at table (key_of (use_of l v)))
-      refl
+  other_spot w v across = ap (spot_at table) (sym (back_is (use_of l w) (use_of l v) across.1)) ∙ here
+      (spot_at table (key_of (use_of l v))) refl
     where
       here : (o : Option Spot) → spot_at table (key_of (use_of l v)) ≡ o → spot_at table (key_of (use_of l v))
           ≡ Some (spot_of l x v)

@@ -23,6 +23,5 @@ pub takes_one : {T : Type 0} (takes : T → T → List ℕ → Type 0)
     → ((a b c : T) (s t : List ℕ) → takes a b s → takes b c t → takes a c (s ++ t))
     → (f : ℕ → List ℕ) (i : ℕ) (a b c : T) → takes a b (flat_map f (range_with_len 0 i)) → takes b c (f i)
     → takes a c (flat_map f (range_with_len 0 (i + 1)))
-takes_one takes more f i a b c took next =
-    subst (takes a c) (by_number f (i + 1))
+takes_one takes more f i a b c took next = subst (takes a c) (by_number f (i + 1))
     (takes_number takes more f (λ k. k) i a b c (subst (takes a b) (sym (by_number f i)) took) next)

@@ -118,8 +118,7 @@ admissible_none : (net : Network) (xs : List ℕ) → length xs ≡ length net.a
 admissible_none net xs count a =
     let same : (length xs == length net.arcs) ≡ true = eq-eqb (length xs) (length net.arcs) count in
     let below : below_fault net xs ≡ None = least_none (λ j. nat_lt (slice_index xs j) (arc_at net.arcs j).floor)
-    (length net.arcs)
-    (λ k l. le-ltb (slice_index xs k) (arc_at net.arcs k).floor (omega (arith, ints, a.high k l))) in
+    (length net.arcs) (λ k l. le-ltb (slice_index xs k) (arc_at net.arcs k).floor (omega (arith, ints, a.high k l))) in
     let unequal : unequal_fault net xs ≡ None =
     least_none (λ u. not (int_eq (side_sum net.arcs (entries xs) true u) (side_sum net.arcs (entries xs) false u)))
     net.nodes (λ v l. ap not

@@ -49,8 +49,7 @@ deviation_small net xs bounds are = omega (arith, each, whole, bounds.few)
         ∙ ap (λ n. 10 ^ 19 * n) (count_below_ones (length net.arcs))
 
 -- The lows are lengths too.
-pub lows_lengths : (net : Network) (xs : List ℕ) → AreNetLengths net.arcs xs
-    → AreNetLengths net.arcs (lows net 1 xs)
+pub lows_lengths : (net : Network) (xs : List ℕ) → AreNetLengths net.arcs xs → AreNetLengths net.arcs (lows net 1 xs)
 lows_lengths net xs are = record {
   count = arcwise_length (low 1) net.arcs xs are.count;
   small = λ k l. (let lk : k < length net.arcs = omega (arith, arcwise_length (low 1) net.arcs xs are.count) in

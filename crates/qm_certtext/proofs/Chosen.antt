@@ -66,26 +66,21 @@ rounds_back front plain adds (risen first rises after) able =
 -- The lines of certificates say these.
 pub chosen_certs : (rising : Rising) (certificates : Certificates) → AreWritable rising certificates
     → certificates ≡ certificates_in rising (certificate_lines rising certificates)
-chosen_certs Never (alone cert) able =
-    sym (rw (no_third cert) (ap (λ (l : Lists). alone l) (lists_back cert able.ups)))
-chosen_certs Third (alone cert) able =
-    sym (rw (no_third cert) (ap (λ (l : Lists). alone l) (lists_back cert able.ups)))
+chosen_certs Never (alone cert) able = sym (rw (no_third cert) (ap (λ (l : Lists). alone l) (lists_back cert able.ups)))
+chosen_certs Third (alone cert) able = sym (rw (no_third cert) (ap (λ (l : Lists). alone l) (lists_back cert able.ups)))
 chosen_certs Never (raised first cert) able = absurd (never_third able.0)
 chosen_certs Third (raised first cert) able =
     let prefix : List CertLine = Floor 1 ∷ said_by first in
     let some : list_any is_third (prefix ++ Floor 3 ∷ said_by cert) ≡ true =
     any_append is_third prefix (Floor 3 ∷ said_by cert) ∙ rw (no_third first) refl in
-    let before : lists_in (before_first is_third (prefix ++ Floor 3 ∷ said_by cert)) ≡ first =
-    ap lists_in (before_first_one is_third prefix (Floor 3) (said_by cert) (no_third first) refl)
-    ∙ lists_back first able.1.ups in
-    let behind : lists_in (after_first is_third (prefix ++ Floor 3 ∷ said_by cert)) ≡ cert =
-    ap lists_in (after_first_one is_third prefix (Floor 3) (said_by cert) (no_third first) refl)
-    ∙ lists_back cert able.2.ups in
+    let before : lists_in (before_first is_third (prefix ++ Floor 3 ∷ said_by cert)) ≡ first = ap lists_in
+    (before_first_one is_third prefix (Floor 3) (said_by cert) (no_third first) refl) ∙ lists_back first able.1.ups in
+    let behind : lists_in (after_first is_third (prefix ++ Floor 3 ∷ said_by cert)) ≡ cert = ap lists_in
+    (after_first_one is_third prefix (Floor 3) (said_by cert) (no_third first) refl) ∙ lists_back cert able.2.ups in
     sym (rw some (λ i. raised (before i) (behind i)))
 chosen_certs Never (risen first rises after) able = absurd (never_rounds able.0)
 chosen_certs Third (risen first rises after) able = absurd (third_rounds able.0)
-chosen_certs Rounds certificates able =
-    sym (rounds_back (Floor 1 ∷ []) refl (λ said. refl) certificates able)
+chosen_certs Rounds certificates able = sym (rounds_back (Floor 1 ∷ []) refl (λ said. refl) certificates able)
 
 -- What may stand where no floor rises may stand anywhere.
 may_more : (rising : Rising) (line : CertLine) → may_stand Never line ≡ true → may_stand rising line ≡ true

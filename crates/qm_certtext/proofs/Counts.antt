@@ -154,9 +154,8 @@ signed_bare (negsuc k) low = digits_fail (λ b. eqb b 32) (digit_other 32 (omega
 pub place_of_space : (text : Word) (z : ℤ) (up : ℕ) → unsigned_abs z < 10 ^ 18
     → text ≡ signed_decimal z ++ 32 ∷ decimal up
     → position_or_len (λ b. eqb b 32) text ≡ length (signed_decimal z)
-place_of_space text z up low is =
-    ap (position_or_len (λ b. eqb b 32)) is ∙ first_at (λ b. eqb b 32) (signed_decimal z) 32 (decimal up)
-    (signed_bare z low) refl
+place_of_space text z up low is = ap (position_or_len (λ b. eqb b 32)) is ∙ first_at (λ b. eqb b 32) (signed_decimal z)
+    32 (decimal up) (signed_bare z low) refl
 
 pub small_parts : (z : ℤ) (up : ℕ) → is_small z up ≡ true → (unsigned_abs z < 10 ^ 18) × (up < 2 ^ 32)
 small_parts z up is =
@@ -184,8 +183,7 @@ module _ (text prefix behind : Word) (i : ℕ) (place : i ≡ position_or_len (�
   pub no_up : (rest : Word) → rest ≡ drop 1 behind → ((n : ℕ) → n ≤ 2 ^ 32 - 1 → rest ≡ decimal n → ⊥)
       → (z : ℤ) (up : ℕ) → is_small z up ≡ true
       → text ≡ signed_decimal z ++ 32 ∷ decimal up → ⊥
-  no_up rest is none z up small same =
-      none up (omega (arith, (small_parts z up small).1))
+  no_up rest is none z up small same = none up (omega (arith, (small_parts z up small).1))
       (is ∙ ap (drop 1) (parts_are z up (small_parts z up small).0 same).1)
 
   pub both_read : (rest : Word) (z : ℤ) (up : ℕ) → 0 < length behind → rest ≡ drop 1 behind → unsigned_abs z < 10 ^ 18
@@ -198,9 +196,8 @@ module _ (text prefix behind : Word) (i : ℕ) (place : i ≡ position_or_len (�
   )
     where
       first_space : (x : ℕ) (xs : Word) → x ∷ xs ≡ drop (position_or_len (λ b. eqb b 32) text) text → eqb x 32 ≡ true
-      first_space x xs same =
-          ap (λ (w : Word). eqb (get_or w 0 0) 32) same
-          ∙ first_passes (λ b. eqb b 32) text (subst (λ (w : Word). 0 < length w) same (omega arith))
+      first_space x xs same = ap (λ (w : Word). eqb (get_or w 0 0) 32) same ∙ first_passes (λ b. eqb b 32) text
+          (subst (λ (w : Word). 0 < length w) same (omega arith))
 
       by_behind : (b : Word) → behind ≡ b → 0 < length b → b ≡ 32 ∷ drop 1 b
       by_behind [] same none = absurd (omega arith)
@@ -236,9 +233,8 @@ module _ (text prefix behind : Word) (i : ℕ) (place : i ≡ position_or_len (�
   pub rise_not_zero : (n : ℕ) → n ≡ 0 → prefix ≡ decimal n → (rise : Rise) → may_tell Rounds rise ≡ true
       → text ≡ decimal (rise.arc + 1) ++ 32 ∷ decimal rise.floor → ⊥
   rise_not_zero n none is rise may same =
-      let equal : n ≡ rise.arc + 1 =
-      decimal_injective n (rise.arc + 1) (omega (arith, none)) (omega (arith, (rise_low Rounds rise may).0))
-      (sym is ∙ (rise_parts rise may same).0) in
+      let equal : n ≡ rise.arc + 1 = decimal_injective n (rise.arc + 1) (omega (arith, none))
+      (omega (arith, (rise_low Rounds rise may).0)) (sym is ∙ (rise_parts rise may same).0) in
       omega (arith, none, equal)
 
   pub rise_read : (rest : Word) (number floor : ℕ) → 0 < length behind → rest ≡ drop 1 behind → 0 < number

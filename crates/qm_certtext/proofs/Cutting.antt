@@ -17,9 +17,8 @@ use Rattle.qm_dec.proofs.Texts.{decimal_digits, digit_other, digits_fail, first_
 -- A text with and without this prefix.
 pub stripped : (prefix text rest : Word) → bytes_eq (take (length prefix) text) prefix ≡ true
     → rest ≡ drop (length prefix) text → text ≡ prefix ++ rest
-stripped prefix text rest is behind =
-    sym (take-append-drop (length prefix) text) ∙ ap₂ ◌++◌ ((bytes_eq-Decides (take (length prefix) text) prefix).0 is)
-    (sym behind)
+stripped prefix text rest is behind = sym (take-append-drop (length prefix) text) ∙ ap₂ ◌++◌
+    ((bytes_eq-Decides (take (length prefix) text) prefix).0 is) (sym behind)
 
 pub not_stripped : (prefix text rest : Word) → bytes_eq (take (length prefix) text) prefix ≡ false
     → text ≡ prefix ++ rest → ⊥
@@ -116,9 +115,8 @@ floor_bare floor false may = digits_bare (decimal floor) (decimal_digits floor (
 
 -- The parts of a head line, from the right.
 nested : (a b c d e f : Word) → a ++ b ++ c ++ d ++ e ++ f ≡ a ++ (b ++ (c ++ (d ++ (e ++ f))))
-nested a b c d e f =
-    append_assoc (((a ++ b) ++ c) ++ d) e f ∙ append_assoc ((a ++ b) ++ c) d (e ++ f)
-    ∙ append_assoc (a ++ b) c (d ++ (e ++ f)) ∙ append_assoc a b (c ++ (d ++ (e ++ f)))
+nested a b c d e f = append_assoc (((a ++ b) ++ c) ++ d) e f ∙ append_assoc ((a ++ b) ++ c) d (e ++ f) ∙ append_assoc
+    (a ++ b) c (d ++ (e ++ f)) ∙ append_assoc a b (c ++ (d ++ (e ++ f)))
 
 pub asked_cut : (prefix line : Word) (settings : Settings) (auto : Bool) → AreInRange settings auto
     → line ≡ asked_line prefix settings auto

@@ -78,9 +78,8 @@ module _ {X : Type 0} (p : X → Bool) where
 more : {Y : Type 0} (f : CertLine → List Y) (old new : List Y) (said : List CertLine) (line : CertLine)
     → old ≡ flat_map f said → new ≡ old ++ f line
     → new ≡ flat_map f (said ++ line ∷ [])
-more f old new said line is grown =
-    grown ∙ ap (λ (ys : List _). ys ++ f line) is ∙ ap (λ (ys : List _). flat_map f said ++ ys)
-    (sym (append-nil (f line))) ∙ sym (flat_map-append f said (line ∷ []))
+more f old new said line is grown = grown ∙ ap (λ (ys : List _). ys ++ f line) is ∙ ap
+    (λ (ys : List _). flat_map f said ++ ys) (sym (append-nil (f line))) ∙ sym (flat_map-append f said (line ∷ []))
 
 -- What a line adds to lists.
 pub record Adds (old new : Parts) (line : CertLine) : Type 0 where

@@ -27,8 +27,7 @@ module _ (bytes tail : Bytes) (line : ℕ) (is : tail ≡ tail_of line bytes) wh
 
   pub tail_tells : (made : Made) → TellHow (slice_index_or (lines_of tail) 0 []) (drop 1 (lines_of tail)) made
       → TellHow (slice_index_or (lines_of bytes) line []) (drop (line + 1) (lines_of bytes)) made
-  tail_tells made tells =
-      subst (λ (head : Bytes). TellHow head (drop (line + 1) (lines_of bytes)) made) head_is
+  tail_tells made tells = subst (λ (head : Bytes). TellHow head (drop (line + 1) (lines_of bytes)) made) head_is
       (subst (λ (behind : Lines). TellHow (slice_index_or (lines_of tail) 0 []) behind made) behind_is tells)
 
   pub tail_fails : (fail : CertFail) → IsCertFail (slice_index_or (lines_of tail) 0 []) (line + 2)

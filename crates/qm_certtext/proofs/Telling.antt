@@ -35,8 +35,7 @@ same_dual rest y z u v small_y small_z one two =
     let second = small_parts z v small_z in
     let both = split_once rest y z u v first.0 second.0 one two in (
       one_number y z first.0 second.0 both.0,
-      decimal_injective u v (omega (arith, first.1)) (omega (arith, second.1))
-          both.1,
+      decimal_injective u v (omega (arith, first.1)) (omega (arith, second.1)) both.1,
     )
 
 -- A text is one line.
@@ -127,8 +126,7 @@ lengths_all [] = refl
 lengths_all (x ∷ xs) = ap (λ (ys : List ℕ). x ∷ ys) (lengths_all xs)
 
 numbers_all : (f : CertLine → List ℤ) (kind : ℤ → ℕ → CertLine) → ((z : ℤ) (u : ℕ) → f (kind z u) ≡ z ∷ [])
-    → (zs : List ℤ) (us : List ℕ) → length us ≡ length zs
-    → flat_map f (dual_lines kind zs us) ≡ zs
+    → (zs : List ℤ) (us : List ℕ) → length us ≡ length zs → flat_map f (dual_lines kind zs us) ≡ zs
 numbers_all f kind one [] us long = refl
 numbers_all f kind one (z ∷ zs) [] long = absurd (omega arith)
 numbers_all f kind one (z ∷ zs) (u ∷ us) long =
@@ -155,31 +153,27 @@ lists_back lists ups =
     let a = map Length lists.x in
     let b = dual_lines Vertex lists.y (take (length lists.y) lists.up) in
     let c = dual_lines Set lists.z (drop (length lists.y) lists.up) in
-    let x : flat_map length_in (said_by lists) ≡ lists.x =
-    three length_in a b c
-    ∙ ap₂ ◌++◌ (ap₂ ◌++◌ (lengths_all lists.x) (numbered_none length_in Vertex (λ z u. refl) lists.y _))
-    (numbered_none length_in Set (λ z u. refl) lists.z _)
-    ∙ append-nil _ ∙ append-nil lists.x in
+    let x : flat_map length_in (said_by lists) ≡ lists.x = three length_in a b c ∙ ap₂ ◌++◌
+    (ap₂ ◌++◌ (lengths_all lists.x) (numbered_none length_in Vertex (λ z u. refl) lists.y _))
+    (numbered_none length_in Set (λ z u. refl) lists.z _) ∙ append-nil _ ∙ append-nil lists.x in
     let y : flat_map vertex_in (said_by lists) ≡ lists.y =
     three vertex_in a b c
     ∙ ap₂ ◌++◌ (ap₂ ◌++◌ (lengths_none vertex_in (λ n. refl) lists.x)
     (numbers_all vertex_in Vertex (λ z u. refl) lists.y _ prefix))
     (numbered_none vertex_in Set (λ z u. refl) lists.z _)
     ∙ append-nil lists.y in
-    let z : flat_map set_in (said_by lists) ≡ lists.z =
-    three set_in a b c
-    ∙ ap₂ ◌++◌ (ap₂ ◌++◌ (lengths_none set_in (λ n. refl) lists.x) (numbered_none set_in Vertex (λ z u. refl) lists.y
-    _)) (numbers_all set_in Set (λ z u. refl) lists.z _ back) in
+    let z : flat_map set_in (said_by lists) ≡ lists.z = three set_in a b c ∙ ap₂ ◌++◌
+    (ap₂ ◌++◌ (lengths_none set_in (λ n. refl) lists.x) (numbered_none set_in Vertex (λ z u. refl) lists.y _))
+    (numbers_all set_in Set (λ z u. refl) lists.z _ back) in
     let u : flat_map vertex_up_in (said_by lists) ≡ take (length lists.y) lists.up =
     three vertex_up_in a b c
     ∙ ap₂ ◌++◌ (ap₂ ◌++◌ (lengths_none vertex_up_in (λ n. refl) lists.x)
     (ups_all vertex_up_in Vertex (λ z u. refl) lists.y _ prefix)) (numbered_none vertex_up_in Set (λ z u. refl)
     lists.z _)
     ∙ append-nil _ in
-    let v : flat_map set_up_in (said_by lists) ≡ drop (length lists.y) lists.up =
-    three set_up_in a b c
-    ∙ ap₂ ◌++◌ (ap₂ ◌++◌ (lengths_none set_up_in (λ n. refl) lists.x) (numbered_none set_up_in Vertex (λ z u. refl)
-    lists.y _)) (ups_all set_up_in Set (λ z u. refl) lists.z _ back) in
+    let v : flat_map set_up_in (said_by lists) ≡ drop (length lists.y) lists.up = three set_up_in a b c ∙ ap₂ ◌++◌
+    (ap₂ ◌++◌ (lengths_none set_up_in (λ n. refl) lists.x) (numbered_none set_up_in Vertex (λ z u. refl) lists.y _))
+    (ups_all set_up_in Set (λ z u. refl) lists.z _ back) in
     let up : flat_map vertex_up_in (said_by lists) ++ flat_map set_up_in (said_by lists) ≡ lists.up =
     ap₂ ◌++◌ u v ∙ take-append-drop (length lists.y) lists.up in
     λ i. record { x = x i; y = y i; z = z i; up = up i }

@@ -74,15 +74,13 @@ pub lines_inside : (rising : Rising) (said : List CertLine) → list_all (may_st
 lines_inside rising [] all k low = absurd (omega arith)
 lines_inside rising (line ∷ said) all zero low =
     line_inside rising line (and_parts (may_stand rising line) (list_all (may_stand rising) said) all).0
-lines_inside rising (line ∷ said) all (suc k) low =
-    lines_inside rising said (and_parts (may_stand rising line) (list_all (may_stand rising) said) all).1 k
-    (omega arith)
+lines_inside rising (line ∷ said) all (suc k) low = lines_inside rising said
+    (and_parts (may_stand rising line) (list_all (may_stand rising) said) all).1 k (omega arith)
 
 -- So is a line that ends with settings, as a head line does.
 abbrev pub settings_line : (front : Word) (settings : Settings) (auto : Bool) → Word
-settings_line front settings auto =
-    front ++ scale_text settings ++ codes " floor " ++ floor_text settings.floor auto ++ codes " weight "
-    ++ weight_text settings.weight
+settings_line front settings auto = front ++ scale_text settings ++ codes " floor " ++ floor_text settings.floor auto ++
+    codes " weight " ++ weight_text settings.weight
 
 -- The word of a floor ends no line.
 pub floor_inside : (floor : ℕ) (auto : Bool) → IsFloor floor auto → list_all is_inside (floor_text floor auto) ≡ true
@@ -158,17 +156,15 @@ mesh_and_said soup said =
 behind_inside : (rising : Rising) (soup : FaceSet) (said : List CertLine) → IsPrintable soup
     → list_all (may_stand rising) said ≡ true → (k : ℕ) → k < length (canonical_lines soup ++ map line_text said)
     → list_all is_inside (get_or (canonical_lines soup ++ map line_text said) k []) ≡ true
-behind_inside rising soup said able allowed =
-    each_both (λ l. list_all is_inside l ≡ true) (canonical_lines soup) (map line_text said) []
-    (mesh_inside soup able) (lines_inside rising said allowed)
+behind_inside rising soup said able allowed = each_both (λ l. list_all is_inside l ≡ true) (canonical_lines soup)
+    (map line_text said) [] (mesh_inside soup able) (lines_inside rising said allowed)
 
 -- The lines of the text behind a head line.
 pub lines_behind : (rising : Rising) (soup : FaceSet) (said : List CertLine) → IsPrintable soup
     → list_all (may_stand rising) said ≡ true
     → lines_of (canonical_text soup ++ text_of said) ≡ canonical_lines soup ++ map line_text said
-lines_behind rising soup said able allowed =
-    ap lines_of (mesh_and_said soup said)
-    ∙ lines_back (canonical_lines soup ++ map line_text said) (behind_inside rising soup said able allowed)
+lines_behind rising soup said able allowed = ap lines_of (mesh_and_said soup said) ∙ lines_back
+    (canonical_lines soup ++ map line_text said) (behind_inside rising soup said able allowed)
 
 -- All lines of a text with some head line.
 pub lines_whole : (head : Word) (rising : Rising) (soup : FaceSet) (said : List CertLine)
@@ -194,8 +190,7 @@ marked_are soup said =
 
 -- One line behind a prefix is of one settings.
 pub same_asked : (prefix line : Word) (s t : Settings) (a b : Bool) → AreInRange s a → line ≡ asked_line prefix s a
-    → AreInRange t b → line ≡ asked_line prefix t b
-    → (s ≡ t) × (a ≡ b)
+    → AreInRange t b → line ≡ asked_line prefix t b → (s ≡ t) × (a ≡ b)
 same_asked prefix line s t a b range is other also =
     let cut = asked_cut prefix line s a range is in
     same_settings _ _ _ s t a b (asked_words prefix line _ _ _ s a cut range is)

@@ -49,8 +49,7 @@ same_weight _ _ is = absurd cc
 
 -- Three words have one settings.
 pub same_settings : (scale floor weight : Word) (s t : Settings) (a b : Bool) → AreWordsOf scale floor weight s a
-    → AreWordsOf scale floor weight t b
-    → (s ≡ t) × (a ≡ b)
+    → AreWordsOf scale floor weight t b → (s ≡ t) × (a ≡ b)
 same_settings scale floor weight s t a b one two =
     let r = as_ratio scale s a one.scaled one.in_range in
     let v = as_ratio scale t b two.scaled two.in_range in

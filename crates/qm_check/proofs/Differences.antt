@@ -69,8 +69,7 @@ take_whole (x ∷ text) = ap (λ (xs : Bytes). x ∷ xs) (take_whole text)
 pub longer_differ : (given text : Bytes) (before now : Compared) → before ≡ record { at = 0; rest = given }
     → IsAlike before now text
     → now.rest ≢ [] → DifferFrom given text (now.at + 1)
-longer_differ given text before now fresh is some =
-    subst (DifferFrom given text) at
+longer_differ given text before now fresh is some = subst (DifferFrom given text) at
     (subst (λ (xs : Bytes). DifferFrom xs text (suc (length text))) all (record {
       counted = omega arith;
       before = (let back : suc (length text) - 1 ≡ length text = omega arith in

@@ -49,8 +49,7 @@ module _ (bytes : Bytes) (mark : HeadAt) (fit : AnyFit) (finished : Finished)
     mark = given.is;
     written = is.written;
     arcs_told = arcs_told ∙ ap (λ (p : Plan). length p.arcs) plan_is;
-    faces_told = faces_told
-        ∙ ap (λ (new : Regrid). face_count (layout_of new.plan) (lengths_in new.lengths)) is.new;
+    faces_told = faces_told ∙ ap (λ (new : Regrid). face_count (layout_of new.plan) (lengths_in new.lengths)) is.new;
     net = is.net;
     of_layout = is.of_layout.is;
     deviation_told = deviates_told ∙ is.deviates;

@@ -62,8 +62,7 @@ weight_inside weights.Plain = refl
 weight_inside weights.Length = refl
 
 aim_inside : (aim : Aim) → IsAim aim → list_all is_inside (aim_text aim) ≡ true
-aim_inside (Scale p q) is =
-    both_inside (codes "scale:" ++ decimal p) (47 ∷ decimal q)
+aim_inside (Scale p q) is = both_inside (codes "scale:" ++ decimal p) (47 ∷ decimal q)
     (both_inside (codes "scale:") (decimal p) refl (number_inside p (omega (arith, is.1))))
     (number_inside q (omega (arith, is.3)))
 aim_inside (Edge edge) is = both_inside (codes "edge:") (micro_text edge) refl (micro_inside edge is.1)
@@ -119,8 +118,7 @@ range_of keep patches Wishes floor auto weight spacing is at =
     record { p_low = omega arith; p_high = omega arith; q_low = omega arith; q_high = omega arith; floor = at }
 
 pub fit_range : (fit : Fit) → IsFit fit → AreInRange (fit_settings fit) fit.auto
-fit_range fit is =
-    range_of fit.keep fit.patches fit.aim fit.floor fit.auto fit.weight fit.spacing is.aim is.floor
+fit_range fit is = range_of fit.keep fit.patches fit.aim fit.floor fit.auto fit.weight fit.spacing is.aim is.floor
 
 -- Floors rise where that is asked for.
 pub third_rises : (auto : Bool) → may_rise (third_if auto) ≡ auto

@@ -36,8 +36,7 @@ module _ (wish : Wish) (plan : Plan) (net : Network) where
   wrong_of settings cert (why.Verdict verdict) for (told, refuted) = record {
     net = net;
     of_layout = for.is;
-    told =
-        told;
+    told = told;
     refuted = refuted;
   }
   wrong_of settings cert (why.TooFine faces) for (is, fine) = (solved plan settings net cert for is, fine)
@@ -67,9 +66,8 @@ module _ (wish : Wish) (plan : Plan) (net : Network) where
       → IsDoubling wish plan settings (given_floors settings) (lists_of first)
       → IsNetWith wish plan settings (λ arc. 3) net → GivesNone plan net third fail
       → IsUnused wish plan settings (raised (lists_of first) (lists_of third)) fail
-  unused_third settings first third fail doubling for =
-      unused_by settings (raised (lists_of first) (lists_of third)) third fail
-      (λ why none. inr (doubling, wrong_of settings third why for none))
+  unused_third settings first third fail doubling for = unused_by settings (raised (lists_of first) (lists_of third))
+      third fail (λ why none. inr (doubling, wrong_of settings third why for none))
 
   -- It is used.
   pub checked_third : (higher : Network) (terms : Terms) (first third : Cert) (tables : Tables) (deviates : ℕ)
@@ -121,8 +119,7 @@ module _ (wish : Wish) (plan : Plan) (settings : Settings) (start : Network) (ro
   wrong_there : (after : Certificates) (why : Why)
       → AreWrong wish plan settings (floors_behind rounds (given_floors settings)) (1 + length rounds) after why
       → AreWrong wish plan settings (given_floors settings) 1 (risen_by rounds after) why
-  wrong_there after why =
-      wrong_behind wish plan settings rounds (given_floors settings) 1 after why passed.led
+  wrong_there after why = wrong_behind wish plan settings rounds (given_floors settings) 1 after why passed.led
 
   -- The certificate behind them gives no lengths.
   pub unused_there : (after told : Certificates) (cert : Cert) (fail : CheckFail) → told ≡ risen_by rounds after

@@ -55,9 +55,8 @@ module _ (bytes : Bytes) (mark : HeadAt) (marked : IsMarkedAt bytes mark) where
 
   -- The mesh in front of a map.
   front_mesh : (has : HasMap bytes) → (soup : FaceSet) × IsMeshText (front_of mark.line bytes) soup
-  front_mesh (text, wrote) =
-      subst (λ (n : ℕ). (soup : FaceSet) × IsMeshText (front_of n bytes) soup) (line_is text wrote)
-      (new_mesh wrote.command (front_of wrote.line bytes) (tail_of wrote.line bytes) wrote.written)
+  front_mesh (text, wrote) = subst (λ (n : ℕ). (soup : FaceSet) × IsMeshText (front_of n bytes) soup)
+      (line_is text wrote) (new_mesh wrote.command (front_of wrote.line bytes) (tail_of wrote.line bytes) wrote.written)
 
   -- The bytes in front have no mesh.
   pub no_front : (fail : CheckFail) → IsNoOld (front_of mark.line bytes) fail → IsMapFail bytes fail
@@ -77,8 +76,7 @@ module _ (bytes : Bytes) (mark : HeadAt) (marked : IsMarkedAt bytes mark) where
 
   -- The line is that of no command.
   pub no_command : (old : FaceSet) → IsOld (front_of mark.line bytes) old
-      → ((command : Command) → ¬ IsMarkLine (head_of bytes mark.line) command)
-      → IsMapFail bytes (NotAccepted why.Head)
+      → ((command : Command) → ¬ IsMarkLine (head_of bytes mark.line) command) → IsMapFail bytes (NotAccepted why.Head)
   no_command old is none = (
     record { line = mark.line; soup = old; front = record { divided = marked.last; mesh = is.mesh }; none = none },
     λ (has : HasMap bytes).
@@ -121,14 +119,12 @@ module _ (bytes : Bytes) (mark : HeadAt) (old : FaceSet) (command : Command)
   headed = record {
     soup = old;
     front = record { divided = given.marked.last; mesh = given.read.mesh };
-    mark =
-        given.is;
+    mark = given.is;
   }
 
   -- Bytes that have a map are written by this command.
   given_writes : HasMap bytes → WritesNew command front text
-  given_writes (map, wrote) =
-      subst (λ (c : Command). WritesNew c front text)
+  given_writes (map, wrote) = subst (λ (c : Command). WritesNew c front text)
       (given.alone wrote.command (subst (λ (n : ℕ). IsMarkLine (head_of bytes n) wrote.command) same wrote.mark))
       (subst (λ (n : ℕ). WritesNew wrote.command (front_of n bytes) (tail_of n bytes)) same wrote.written)
     where
@@ -173,8 +169,7 @@ module _ (bytes : Bytes) (mark : HeadAt) (old : FaceSet) (command : Command)
             soup = ready.cut.soup;
             mesh = ready_mesh;
             asked = for.only.asked;
-            cut =
-                for.holds.laid_out.laid;
+            cut = for.holds.laid_out.laid;
           };
           untangled = untangled for.task.wish ready.cut.plan for.task.settings (network ready.net) for.holds.net;
           reason = reason;
@@ -235,8 +230,7 @@ module _ (bytes : Bytes) (mark : HeadAt) (cut : CutSoup) (by : ℕ) (given : IsG
     unlike = record {
       plan = cut.plan;
       mesh = record { soup = cut.soup; mesh = given.read.mesh; cut = laid };
-      reason =
-          reason;
+      reason = reason;
     };
   }
 
@@ -246,9 +240,8 @@ module _ (bytes : Bytes) (mark : HeadAt) (cut : CutSoup) (by : ℕ) (given : IsG
   one_plan wrote = (
     same,
     one_layout_law cut.soup.faces (traced_marks cut.soup.faces) given.read.mesh.manifold
-        (graph_law cut.soup.faces given.read.mesh.manifold).1
-        wrote.refined.plan cut.plan (subst (λ (s : FaceSet). IsTracedLayout s.faces wrote.refined.plan) same
-        wrote.refined.cut) laid,
+        (graph_law cut.soup.faces given.read.mesh.manifold).1 wrote.refined.plan cut.plan
+        (subst (λ (s : FaceSet). IsTracedLayout s.faces wrote.refined.plan) same wrote.refined.cut) laid,
   )
     where
       same : wrote.soup ≡ cut.soup
@@ -299,8 +292,7 @@ module _ (bytes : Bytes) (mark : HeadAt) (cut : CutSoup) (by : ℕ) (given : IsG
           fits = are.few;
           written = written ∙ (λ i. refined_text by (are.soup i) (are.plan i));
           shape = shape_of cut.soup (traced_marks cut.soup.faces) cut.plan (multiple_of by (long_at cut.plan.arcs))
-              given.read.solid
-              (graph_law cut.soup.faces given.read.mesh.manifold).1 laid are.shape;
+              given.read.solid (graph_law cut.soup.faces given.read.mesh.manifold).1 laid are.shape;
         };
       };
       said = λ i. map_text (are.soup i) (are.plan i) (are.shares i) (are.lengths i);

@@ -38,8 +38,7 @@ headless bytes none pair = false≢true (sym (none pair.line pair.divided.there)
 -- What the lines in front of a pair say is said of those in front of the last head line.
 pair_said : (bytes : Bytes) (line : ℕ) (pair : IsCheckedPair bytes) → IsLastHead (lines_of bytes) line
     → text_soup 1 (take line (lines_of bytes)) ≡ Ok pair.soup
-pair_said bytes line pair divided =
-    subst (λ (n : ℕ). text_soup 1 (take n (lines_of bytes)) ≡ Ok pair.soup)
+pair_said bytes line pair divided = subst (λ (n : ℕ). text_soup 1 (take n (lines_of bytes)) ≡ Ok pair.soup)
     (one_last begins_head (lines_of bytes) pair.line line pair.divided divided) pair.said
 
 -- One whose old text is refused is no pair.
@@ -67,8 +66,7 @@ module _ (bytes front : Bytes) (line : ℕ) (divided : IsLastHead (lines_of byte
       let refused : RefusesOldText bytes fail = record {
         line = line;
         divided = divided;
-        said =
-            front_said (Err fail) says;
+        said = front_said (Err fail) says;
       } in
       (refused, other, old_refused bytes fail refused)
   no_old (NotManifold place soup) (says, fault, refuted) =
@@ -101,8 +99,7 @@ module _ (bytes front : Bytes) (line : ℕ) (divided : IsLastHead (lines_of byte
             soup = soup;
             old = has_soup soup is.mesh;
             manifold = is.mesh.manifold;
-            headless =
-                none;
+            headless = none;
             refuted = refuted;
           },
           refuted,

@@ -123,10 +123,8 @@ module _ (settings : Settings) (auto : Bool) where
           (traced_marks soup.faces) refl is,
       λ plan laid. tt,
     );
-    tangled =
-        λ bytes count why. tasks_by (AsksToFind (remeshed settings auto) (head_line settings auto))
-        (asks_of (Remesh settings auto)) remesh_gives bytes
-        (answers.Tangled count) why;
+    tangled = λ bytes count why. tasks_by (AsksToFind (remeshed settings auto) (head_line settings auto))
+        (asks_of (Remesh settings auto)) remesh_gives bytes (answers.Tangled count) why;
     far = λ bytes sum far. absurd (far.unbounded tt);
     lines =
         λ bytes fail has. absurd
@@ -155,11 +153,9 @@ module _ (settings : Settings) where
       inside = named_inside (codes "coarse") settings refl range;
     };
     gives = λ bytes soup task asked. coarse_gives bytes soup task asked.0;
-    takes =
-        λ bytes soup task is.
+    takes = λ bytes soup task is.
         (plain_takes coarse coarse_head (λ b s. refl) bytes soup task is.0 is.1 is.2, λ plan laid. tt);
-    tangled =
-        λ bytes count why. tasks_by (AsksToFind coarse coarse_head) (asks_of (Coarse settings)) coarse_gives bytes
+    tangled = λ bytes count why. tasks_by (AsksToFind coarse coarse_head) (asks_of (Coarse settings)) coarse_gives bytes
         (answers.Tangled count) why;
     far = λ bytes sum far. absurd (far.unbounded tt);
     lines = λ bytes fail has. absurd (plain_lines coarse coarse_head (λ b s. refl) bytes fail has);
@@ -229,8 +225,7 @@ module _ (settings : Settings) where
         (tasks_by (AsksToFind crease crease_head) (asks_of (Crease settings)) crease_gives bytes
         (answers.Tangled count) why);
     far = λ bytes sum far. absurd (far.unbounded tt);
-    lines =
-        λ bytes fail has.
+    lines = λ bytes fail has.
         record { soup = has.soup; mesh = has.mesh; said = crease_fails (marks_in bytes has.soup) fail has.said };
     writes = λ bytes text wrote. wrote;
   }
@@ -285,10 +280,8 @@ module _ (edge : ℤ) (floor : ℕ) where
       plain_takes sized (size_head edge floor) (λ b s. refl) bytes soup task (traced_marks soup.faces) refl asked.0,
       subst (λ (t : Task). HasNearWishes (Edge edge) soup t) (sym asked.0) asked.1,
     );
-    tangled =
-        λ bytes count why. tasks_by (AsksToFind sized (size_head edge floor))
-        (λ b soup task. task ≡ size_task edge floor soup) size_gives bytes
-        (answers.Tangled count) why;
+    tangled = λ bytes count why. tasks_by (AsksToFind sized (size_head edge floor))
+        (λ b soup task. task ≡ size_task edge floor soup) size_gives bytes (answers.Tangled count) why;
     far = size_far;
     lines = λ bytes fail has. absurd (plain_lines sized (size_head edge floor) (λ b s. refl) bytes fail has);
     writes = λ bytes text wrote. wrote;
@@ -326,18 +319,16 @@ point_by : (command : Command) (line : Bytes) → IsMarkLine line command
 point_by (Remesh settings auto) line is =
     subst (λ (l : Bytes). IsPoint (Remesh settings auto) l (remeshed settings auto)) (sym is.written)
     (remesh_point settings auto is.in_range)
-point_by (Crease settings) line is =
-    subst (λ (l : Bytes). IsPoint (Crease settings) l (crease settings)) (sym is.written)
-    (crease_point settings is.in_range)
+point_by (Crease settings) line is = subst (λ (l : Bytes). IsPoint (Crease settings) l (crease settings))
+    (sym is.written) (crease_point settings is.in_range)
 point_by (Size edge floor) line is =
     subst (λ (l : Bytes). IsPoint (Size edge floor) l (sized edge floor)) (sym is.written)
     (size_point edge floor (record {
       aim = (is.low, is.near);
       floor = record { low = is.floor_low; high = is.floor_high; at_first = λ e. cc };
     }) is.near)
-point_by (Coarse settings) line is =
-    subst (λ (l : Bytes). IsPoint (Coarse settings) l (coarse settings)) (sym is.written)
-    (coarse_point settings is.in_range)
+point_by (Coarse settings) line is = subst (λ (l : Bytes). IsPoint (Coarse settings) l (coarse settings))
+    (sym is.written) (coarse_point settings is.in_range)
 point_by (Fit fit) line is =
     subst (λ (l : Bytes). IsPoint (Fit fit) l (chosen fit)) (sym is.written) (fit_point fit is.in_range)
 point_by _ line is = tt

@@ -180,8 +180,7 @@ parts_stand (Set z u ∷ said) all =
 parts_stand (Floor f ∷ said) all =
     line_stands (Floor f) (parts_of said) (and_parts _ _ all).0 (parts_stand said (and_parts _ _ all).1)
 
-parts_reach : (parts : List Part) → MayStand parts → held parts ≤ MAX_BYTES
-    → AreInReach Rounds (certificates_by parts)
+parts_reach : (parts : List Part) → MayStand parts → held parts ≤ MAX_BYTES → AreInReach Rounds (certificates_by parts)
 parts_reach [] may few = in_reach Rounds [] refl (omega arith)
 parts_reach (part ∷ parts) may few = by_test (length part.rises == 0)
     (in_reach Rounds part.said may.0 (omega (arith, few))) (parts_reach parts may.1 (omega (arith, few)))

@@ -155,9 +155,8 @@ module _ (judged : Judged) (able : IsJudgeable judged) (shown : IsShown judged.t
   -- The certificates that are compared with are those too, and their text is the one that is given.
   other_fine : (told : Certificates) (why : Why) → told ≡ is.certificates → TellsOtherText judged told why → ⊥
   other_fine told (why.Byte at) are other =
-      let whole : other.certificates ≡ is.certificates =
-      front_whole judged.task.wish judged.plan judged.task.settings judged.task.rising
-      (given_floors judged.task.settings) other.certificates is.certificates
+      let whole : other.certificates ≡ is.certificates = front_whole judged.task.wish judged.plan judged.task.settings
+      judged.task.rising (given_floors judged.task.settings) other.certificates is.certificates
       (subst (AreFront other.certificates) are other.front) is.kept other.undoubled in
       other.differ.there
       (ap (take at) (is.written ∙ ap (finished_text judged.task judged.soup judged.plan) (sym whole)))

@@ -24,8 +24,7 @@ use Rattle.qm_check.specs.{declared.least.Least.Least, declared.ready.Frame.Fram
 -- A text that is written for a mesh shows the only task that is asked.
 shown_only : (asks : Asks) (front text : Bytes) (soup : FaceSet) (task : Task) → IsMeshText front soup
     → ((other : Task) → asks front soup other → other ≡ task) → WritesFinished asks front text → IsShown task soup text
-shown_only asks front text soup task mesh alone wrote =
-    subst (λ (t : Task). IsShown t soup text)
+shown_only asks front text soup task mesh alone wrote = subst (λ (t : Task). IsShown t soup text)
     (alone wrote.task (subst (λ (s : FaceSet). asks front s wrote.task) same wrote.asked))
     (subst (λ (s : FaceSet). IsShown wrote.task s text) same wrote.shown)
   where
@@ -34,17 +33,14 @@ shown_only asks front text soup task mesh alone wrote =
 
 -- What is asked of a command that finds least lengths is finished by what it writes.
 finished_by : (command : Command) (front text : Bytes) (soup : FaceSet) (task : Task) → asks_of command front soup task
-    → WritesNew command front text
-    → WritesFinished (asks_of command) front text
+    → WritesNew command front text → WritesFinished (asks_of command) front text
 finished_by (commands.Refine by) front text soup task asked wrote = absurd asked
 finished_by _ front text soup task asked wrote = wrote
 
 pub shown_by : (command : Command) (front text : Bytes) (soup : FaceSet) (task : Task) → IsMeshText front soup
-    → IsOnlyTask command front soup task
-    → WritesNew command front text → IsShown task soup text
-shown_by command front text soup task mesh only wrote =
-    shown_only (asks_of command) front text soup task mesh only.alone
-    (finished_by command front text soup task only.asked wrote)
+    → IsOnlyTask command front soup task → WritesNew command front text → IsShown task soup text
+shown_by command front text soup task mesh only wrote = shown_only (asks_of command) front text soup task mesh
+    only.alone (finished_by command front text soup task only.asked wrote)
 
 -- The mesh of a text with the layout of the cut that is chosen, beside what its lines say.
 pub record IsCutBy (least : Least) (text : Bytes) (cut : CutSoup) (asides : Asides) : Type 0 where

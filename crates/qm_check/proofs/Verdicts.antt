@@ -230,8 +230,7 @@ module _ (bytes : Bytes) (line : ℕ) (task : Task) (ready : Ready) (is : IsRead
             undoubled = kept.undoubled;
             written = written ∙ text;
             shape = shape_of ready.cut.soup task.marks ready.cut.plan (lengths_in (used certificates).x)
-                is.laid_out.solid is.laid_out.full
-                is.laid_out.laid kept.shape;
+                is.laid_out.solid is.laid_out.full is.laid_out.laid kept.shape;
           };
           certified = kept.kept;
         };

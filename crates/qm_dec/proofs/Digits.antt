@@ -32,10 +32,9 @@ after_clamped n vs = ap clamped (after_is (clamped n) vs) ∙ clamp_linear n (10
 pub after_more : (n : ℕ) (ds : List ℕ) (i : ℕ) → i < length ds
     → number_from_digits_after 10 n (values (take (i + 1) ds)) ≡ number_from_digits_after 10 n (values (take i ds)) * 10
     + (get_or ds i 0 - 48)
-after_more n ds i l =
-    ap (λ xs. number_from_digits_after 10 n (values xs)) (take_more ds i 0 l)
-    ∙ ap (number_from_digits_after 10 n) (map_push (λ d. d - 48) (take i ds) (get_or ds i 0))
-    ∙ number_after_append 10 n (values (take i ds)) ((get_or ds i 0 - 48) ∷ [])
+after_more n ds i l = ap (λ xs. number_from_digits_after 10 n (values xs)) (take_more ds i 0 l) ∙ ap
+    (number_from_digits_after 10 n) (map_push (λ d. d - 48) (take i ds) (get_or ds i 0)) ∙ number_after_append 10 n
+    (values (take i ds)) ((get_or ds i 0 - 48) ∷ [])
 
 -- digits in two parts
 pub number_append : (xs ys : List ℕ) → number_written (xs ++ ys) ≡ number_from_digits_after 10 (number_written xs)
@@ -54,10 +53,9 @@ pub step_more : (n v x : ℕ) (ds : List ℕ) (i : ℕ) → i < length ds
     → v ≡ clamped (number_from_digits_after 10 n (values (take i ds)))
     → x ≡ min (v * 10 + (get_or ds i 0 - 48)) (10 ^ 15)
     → x ≡ clamped (number_from_digits_after 10 n (values (take (i + 1) ds)))
-step_more n v x ds i l p q =
-    q ∙ ap (λ m. clamped (m * 10 + (get_or ds i 0 - 48))) p
-    ∙ clamp_linear (number_from_digits_after 10 n (values (take i ds))) 10 (get_or ds i 0 - 48) (omega arith)
-    ∙ ap clamped (sym (after_more n ds i l))
+step_more n v x ds i l p q = q ∙ ap (λ m. clamped (m * 10 + (get_or ds i 0 - 48))) p ∙ clamp_linear
+    (number_from_digits_after 10 n (values (take i ds))) 10 (get_or ds i 0 - 48) (omega arith) ∙ ap clamped
+    (sym (after_more n ds i l))
 
 -- digits before a place
 pub digits_before : (ds : List ℕ) (i : ℕ) → list_all is_ascii_digit ds ≡ true → list_all is_ascii_digit (take i ds)

@@ -136,9 +136,8 @@ plain_parts word ds is all =
 pub pointed_parts : (word ds ys : List ℕ) → unsigned word ≡ ds ++ 46 ∷ ys → list_all is_ascii_digit ds ≡ true
     → list_all is_ascii_digit ys ≡ true → HasParts word (ds ++ ys) ys
 pointed_parts word ds ys is all rest =
-    let m : (mantissa word ≡ ds ++ 46 ∷ ys) × (exponent word ≡ []) =
-    unmarked word (ds ++ 46 ∷ ys) is (list_all-append (λ x. not (is_mark x)) ds (46 ∷ ys)
-    ∙ and_from _ _ (no_marks ds all) (no_marks ys rest)) in
+    let m : (mantissa word ≡ ds ++ 46 ∷ ys) × (exponent word ≡ []) = unmarked word (ds ++ 46 ∷ ys) is
+    (list_all-append (λ x. not (is_mark x)) ds (46 ∷ ys) ∙ and_from _ _ (no_marks ds all) (no_marks ys rest)) in
     let p : position_or_len is_point (ds ++ 46 ∷ ys) ≡ length ds = first_at is_point ds 46 ys (no_points ds all) refl in
     let f : fraction_digits word ≡ ys = ap (after_first is_point) m.0 ∙ ap (λ n. drop (n + 1) (ds ++ 46 ∷ ys)) p
     ∙ ap (λ (xs : List ℕ). drop (length ds + 1) xs) (sym (append_assoc ds (46 ∷ []) ys))
@@ -147,8 +146,7 @@ pointed_parts word ds ys is all rest =
     ∙ take_at ds (46 ∷ ys) _ (sym p) in
     record {
       all = ap (λ (xs : List ℕ). xs ++ fraction_digits word) b ∙ ap (λ (xs : List ℕ). ds ++ xs) f;
-      behind =
-          f;
+      behind = f;
       no_power = m.1;
     }
 
@@ -250,9 +248,8 @@ text_short n l = omega (
 
 pub canonical_law : CanonicalLaw
 canonical_law (pos n) l =
-    let t : micro_text (pos n) ≡ decimal (n / 10 ^ 6) ++ fraction_text (n % 10 ^ 6) =
-    ap (λ b. cond b (45 ∷ []) [] ++ decimal (n / 10 ^ 6) ++ fraction_text (n % 10 ^ 6))
-    (le-ltb n 0 (omega arith)) in
+    let t : micro_text (pos n) ≡ decimal (n / 10 ^ 6) ++ fraction_text (n % 10 ^ 6) = ap
+    (λ b. cond b (45 ∷ []) [] ++ decimal (n / 10 ^ 6) ++ fraction_text (n % 10 ^ 6)) (le-ltb n 0 (omega arith)) in
     let s : (unsigned (decimal (n / 10 ^ 6) ++ fraction_text (n % 10 ^ 6)) ≡ decimal (n / 10 ^ 6)
     ++ fraction_text (n % 10 ^ 6)) × (is_negative (decimal (n / 10 ^ 6) ++ fraction_text (n % 10 ^ 6)) ≡ false) =
     no_sign (decimal (n / 10 ^ 6)) (fraction_text (n % 10 ^ 6)) (decimal_nonempty (n / 10 ^ 6) (omega arith))

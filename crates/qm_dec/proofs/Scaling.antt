@@ -48,12 +48,11 @@ digits_behind ds i all =
 number_at : (ds : List ℕ) (i k : ℕ) → i + suc k ≡ length ds
     → number_written ds ≡ (number_written (take i ds) * 10 + (get_or ds i 0 - 48)) * 10 ^ k + number_written
     (drop (i + 1) ds)
-number_at ds i k e =
-    ap number_written (sym (take-append-drop (i + 1) ds)) ∙ number_append (take (i + 1) ds) (drop (i + 1) ds)
-    ∙ after_is (number_written (take (i + 1) ds)) (values (drop (i + 1) ds))
-    ∙ ap (λ n. number_written (take (i + 1) ds) * 10 ^ n + number_written (drop (i + 1) ds))
-    (length-map (drop (i + 1) ds) (λ d. d - 48) ∙ length-drop (i + 1) ds ∙ omega arith)
-    ∙ ap (λ n. n * 10 ^ k + number_written (drop (i + 1) ds)) (after_more 0 ds i (omega arith))
+number_at ds i k e = ap number_written (sym (take-append-drop (i + 1) ds)) ∙ number_append (take (i + 1) ds)
+    (drop (i + 1) ds) ∙ after_is (number_written (take (i + 1) ds)) (values (drop (i + 1) ds)) ∙ ap
+    (λ n. number_written (take (i + 1) ds) * 10 ^ n + number_written (drop (i + 1) ds))
+    (length-map (drop (i + 1) ds) (λ d. d - 48) ∙ length-drop (i + 1) ds ∙ omega arith) ∙ ap
+    (λ n. n * 10 ^ k + number_written (drop (i + 1) ds)) (after_more 0 ds i (omega arith))
 
 behind_small : (ds : List ℕ) (i k : ℕ) → list_all is_ascii_digit ds ≡ true → i + suc k ≡ length ds
     → number_written (drop (i + 1) ds) < 10 ^ k

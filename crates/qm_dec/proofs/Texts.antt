@@ -20,10 +20,8 @@ decimal_digits n l = decimal_by_steps (λ m ds. list_all is_ascii_digit ds ≡ t
     n l
 
 pub decimal_number : (n : ℕ) → n < 2 ^ 64 → number_written (decimal n) ≡ n
-decimal_number n l = decimal_by_steps (λ m ds. number_written ds ≡ m)
-    (λ m s. omega arith)
-    (λ m ds s e. number_append ds ((48 + m % 10) ∷ []) ∙ omega arith)
-    n l
+decimal_number n l = decimal_by_steps (λ m ds. number_written ds ≡ m) (λ m s. omega arith)
+    (λ m ds s e. number_append ds ((48 + m % 10) ∷ []) ∙ omega arith) n l
 
 -- the first byte that passes a test, behind bytes that do not
 pub none_first : (b : ℕ → Bool) (xs : List ℕ) → list_all (λ x. not (b x)) xs ≡ true → position_or_len b xs ≡ length xs

@@ -162,9 +162,8 @@ last_before n m up nested (suc steps) q b l on ne =
 pub path_chain : (n m : ℕ) (up heads : List ℕ) → AreNestedSets n m up → AreHeads n m up heads → (fuel a b : ℕ)
     → m ≤ fuel + a → a < b → b < m → slice_index heads a ≡ slice_index heads b → climbs n up m b (suc a) ≡ true
 path_chain n m up heads nested are zero a b enough less low same = absurd (omega arith)
-path_chain n m up heads nested are (suc fuel) a b enough less low same =
-    by_head (are.each a (omega arith)) (λ c d later l lower e. path_chain n m up heads nested are fuel c d (omega arith)
-    l lower e)
+path_chain n m up heads nested are (suc fuel) a b enough less low same = by_head (are.each a (omega arith))
+    (λ c d later l lower e. path_chain n m up heads nested are fuel c d (omega arith) l lower e)
   where
     high : (j : ℕ) → j < m → (j < slice_index heads j) × (slice_index heads j ≤ m)
     high j l = head_later n m up heads nested are m j (omega arith) l

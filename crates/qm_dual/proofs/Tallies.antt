@@ -141,8 +141,7 @@ pub tallies_pass : (n m : ℕ) (up : List ℕ) → AreNestedSets n m up → (k :
 tallies_pass n m up nested k sizes lk are =
     record {
       count = length_with sizes (slice_index up (n + k)) (slice_index sizes k) ∙ are.count;
-      each =
-          λ j l. by_order j l (cases_lt k j);
+      each = λ j l. by_order j l (cases_lt k j);
     }
   where
     unmoved : (j : ℕ) → (slice_index up (n + k) ≡ suc j → ⊥) → (entry : ℕ) → slice_index up (n + k) ≡ entry

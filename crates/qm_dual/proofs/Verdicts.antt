@@ -45,9 +45,8 @@ pub no_shape_fault : (n : ℕ) (d : DualLists) → length d.y ≡ n → AreNeste
 no_shape_fault n d ny nested =
     let first : (length d.y == n) ≡ true = eq-eqb (length d.y) n ny in
     let second : (length d.up == n + length d.z) ≡ true = eq-eqb (length d.up) (n + length d.z) nested.entries in
-    let rest : least (λ i. not (is_up n (length d.z) i (slice_index d.up i))) (n + length d.z) ≡ None =
-    least_none (λ i. not (is_up n (length d.z) i (slice_index d.up i))) (n + length d.z)
-    (λ i l. ap not (nested.later i l)) in
+    let rest : least (λ i. not (is_up n (length d.z) i (slice_index d.up i))) (n + length d.z) ≡ None = least_none
+    (λ i. not (is_up n (length d.z) i (slice_index d.up i))) (n + length d.z) (λ i l. ap not (nested.later i l)) in
     rw (first, second) rest
 
 pub yes_says : (g : WeightedGraph) (d : DualLists) (s : ℤ) → verdict g d ≡ Yes s → SaysYes g d × (s ≡ dual_sum d)

@@ -66,8 +66,7 @@ odd_leaves s n es below once odd =
     omega (
       arith,
       ints,
-      ends_once (λ (e : WEdge). e.u) (λ (e : WEdge). e.v) (λ v. pos (cond (s v) 1 0)) n es below
-          once,
+      ends_once (λ (e : WEdge). e.u) (λ (e : WEdge). e.v) (λ v. pos (cond (s v) 1 0)) n es below once,
       count_below_total (λ v. cond (s v) 1 0) n,
       ends_held s es,
     ) in
@@ -92,8 +91,7 @@ weak_duality g d is says m perfect =
       arith,
       ints,
       loads_low g d says 0 m perfect.increasing,
-      total_sum (λ (e : WEdge). y_at d e.u +ℤ y_at d e.v)
-          (λ (e : WEdge). total_below (λ k. sets k e) (length d.z)) es,
+      total_sum (λ (e : WEdge). y_at d e.u +ℤ y_at d e.v) (λ (e : WEdge). total_below (λ k. sets k e) (length d.z)) es,
       ends_once (λ (e : WEdge). e.u) (λ (e : WEdge). e.v) (y_at d) g.n es below perfect.once,
       two_orders sets (length d.z) es,
       zs,

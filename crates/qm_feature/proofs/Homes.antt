@@ -93,10 +93,9 @@ module _ (faces : Faces) (m : IsManifold faces) (table : RunTable) (are : AreRun
               ≡ true
           by_dart (d, n, g) =
               let f : (d < darts faces) × (from_of faces d ≡ v) = from_fan faces v d n in
-              let ring : IsRing faces m table are marks v (run_at table.run.items d) (are.run_low d f.0) =
-              all_round faces m table are marks v (run_at table.run.items d) (are.run_low d f.0)
-              (get_or table.at.items d 0) (are.at_low d f.0)
-              (ap (goes_round faces marks v (darts faces)) (are.stands d f.0) ∙ g) in
+              let ring : IsRing faces m table are marks v (run_at table.run.items d) (are.run_low d f.0) = all_round
+              faces m table are marks v (run_at table.run.items d) (are.run_low d f.0) (get_or table.at.items d 0)
+              (are.at_low d f.0) (ap (goes_round faces marks v (darts faces)) (are.stands d f.0) ∙ g) in
               any_at (λ x. eqb (from_of faces x) v && is_home faces table.run.items whole least x) d (all_darts faces)
               (among_range 0 (darts faces) d (omega arith) (omega (arith, f.0)))
               (and_from _ _ (eq-eqb _ _ f.1)

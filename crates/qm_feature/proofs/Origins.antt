@@ -44,8 +44,7 @@ pub starts_told : (faces : Faces) (starts : List ℕ) (marks none begun breaks :
 starts_told faces starts marks none begun breaks d one two three result l s e each b is_one is_two is_three is =
     is ∙ rw (
       is_one ∙ begun_is faces starts none begun d l s e each,
-      is_two
-          ∙ ap (λ x. is_some (twin_of faces d) && x) (break_is faces marks breaks d l b),
+      is_two ∙ ap (λ x. is_some (twin_of faces d) && x) (break_is faces marks breaks d l b),
       is_three,
     ) refl
 

@@ -45,12 +45,10 @@ module _ (faces : Faces) (m : IsManifold faces) where
       | inl less ↦ (
         suc j,
         less,
-        same_Some _ _
-            (sym (long_q.straight j less) ∙ (ap (follower faces) e ∙ long_p.straight i l)),
+        same_Some _ _ (sym (long_q.straight j less) ∙ (ap (follower faces) e ∙ long_p.straight i l)),
       )
-      | inr more ↦ let last : length q - 1 ≡ j =
-          omega arith in long_q.ends (get_or p (suc i) 0) (ap (λ k. follower faces (get_or q k 0)) last
-          ∙ (ap (follower faces) e ∙ long_p.straight i l))
+      | inr more ↦ let last : length q - 1 ≡ j = omega arith in long_q.ends (get_or p (suc i) 0)
+          (ap (λ k. follower faces (get_or q k 0)) last ∙ (ap (follower faces) e ∙ long_p.straight i l))
     ]
 
     before_held : (i : ℕ) → suc i < length p → HasDart q (get_or p (suc i) 0) → HasDart q (get_or p i 0)
@@ -59,9 +57,8 @@ module _ (faces : Faces) (m : IsManifold faces) where
     before_held i l (suc j, h, e) = (
       j,
       omega (arith, h),
-      one_before (get_or q j 0) (get_or p i 0) (get_or q (suc j) 0)
-          (long_q.low j (omega (arith, h))) (long_p.low i (omega (arith, l))) (long_q.straight j h)
-          (long_p.straight i l ∙ ap Some (sym e)),
+      one_before (get_or q j 0) (get_or p i 0) (get_or q (suc j) 0) (long_q.low j (omega (arith, h)))
+          (long_p.low i (omega (arith, l))) (long_q.straight j h) (long_p.straight i l ∙ ap Some (sym e)),
     )
 
     -- From place i on, and back from it.
@@ -72,18 +69,15 @@ module _ (faces : Faces) (m : IsManifold faces) where
 
     held_back : (i n : ℕ) → i + n < length p → HasDart q (get_or p (i + n) 0) → HasDart q (get_or p i 0)
     held_back i zero l h = let s : i + 0 ≡ i = omega arith in subst (λ (k : ℕ). HasDart q (get_or p k 0)) s h
-    held_back i (suc n) l h = let s : i + suc n ≡ suc (i + n) =
-        omega arith in held_back i n (omega (arith, l))
+    held_back i (suc n) l h = let s : i + suc n ≡ suc (i + n) = omega arith in held_back i n (omega (arith, l))
         (before_held (i + n) (omega (arith, l)) (subst (λ (k : ℕ). HasDart q (get_or p k 0)) s h))
 
     all_held : (i j k : ℕ) → i < length p → j < length q → get_or p i 0 ≡ get_or q j 0 → k < length p
         → HasDart q (get_or p k 0)
     all_held i j k li lj e lk = elim (cases_lt i k) [
-      | inl less ↦ let s : i + (k - i) ≡ k =
-          omega (arith, less) in subst (λ (x : ℕ). HasDart q (get_or p x 0)) s
+      | inl less ↦ let s : i + (k - i) ≡ k = omega (arith, less) in subst (λ (x : ℕ). HasDart q (get_or p x 0)) s
           (held_on i (k - i) (omega (arith, s, lk)) (j, lj, sym e))
-      | inr more ↦ let s : k + (i - k) ≡ i =
-          omega (arith, more) in held_back k (i - k) (omega (arith, s, li))
+      | inr more ↦ let s : k + (i - k) ≡ i = omega (arith, more) in held_back k (i - k) (omega (arith, s, li))
           (subst (λ (x : ℕ). HasDart q (get_or p x 0)) (sym s) (j, lj, sym e))
     ]
 
@@ -98,9 +92,8 @@ module _ (faces : Faces) (m : IsManifold faces) where
       where
         by_least : IsBefore (nth_run are.lists q) (nth_run are.lists r) → ⊥
         by_least (k, lk, below) =
-            let h : HasDart (nth_run are.lists r) (get_or (nth_run are.lists q) k 0) =
-            all_held (nth_run are.lists q) (nth_run are.lists r) (are.runs q (omega (arith, less, l)))
-            (are.runs r l) i j k li lj e lk in
+            let h : HasDart (nth_run are.lists r) (get_or (nth_run are.lists q) k 0) = all_held (nth_run are.lists q)
+            (nth_run are.lists r) (are.runs q (omega (arith, less, l))) (are.runs r l) i j k li lj e lk in
             absurd (omega (arith, h.2, below h.0 h.1))
 
     -- A dart stands in one run alone.
@@ -158,9 +151,8 @@ module _ (faces : Faces) (m : IsManifold faces) where
         | inr more ↦ let last : length (nth_run are.lists r) - 1 ≡ k = omega arith in (
           0,
           long.some,
-          ap (λ x. follower faces (get_or (nth_run are.lists r) x 0)) (sym last)
-              ∙ found_first (follower faces (last_dart (nth_run are.lists r))) (first_dart (nth_run are.lists r))
-              closed,
+          ap (λ x. follower faces (get_or (nth_run are.lists r) x 0)) (sym last) ∙ found_first
+              (follower faces (last_dart (nth_run are.lists r))) (first_dart (nth_run are.lists r)) closed,
         )
       ]
 
@@ -218,9 +210,8 @@ module _ (faces : Faces) (m : IsManifold faces) where
       along p (suc n) k h g =
           let s : p + suc n ≡ suc (p + n) = omega arith in
           let t : n + suc k ≡ suc n + k = omega arith in
-          let before : goes_round faces marks v (suc k) (get_or (nth_run are.lists r) (p + n) 0) ≡ true =
-          along p n (suc k) (omega (arith, h))
-          (ap (λ i. goes_round faces marks v i (get_or (nth_run are.lists r) p 0)) t ∙ g) in
+          let before : goes_round faces marks v (suc k) (get_or (nth_run are.lists r) (p + n) 0) ≡ true = along p n
+          (suc k) (omega (arith, h)) (ap (λ i. goes_round faces marks v i (get_or (nth_run are.lists r) p 0)) t ∙ g) in
           let w : (y : ℕ) × (follower faces (get_or (nth_run are.lists r) (p + n) 0) ≡ Some y)
           × (goes_round faces marks v k y ≡ true) = walk_next k (get_or (nth_run are.lists r) (p + n) 0) before in
           let is : get_or (nth_run are.lists r) (suc (p + n)) 0 ≡ w.0 =
@@ -238,8 +229,7 @@ module _ (faces : Faces) (m : IsManifold faces) where
             | inl s ↦ s
             | inr o ↦ elim o [
               | inl less ↦ absurd (long.differ i j less lj e)
-              | inr more
-                  ↦ absurd (long.differ j i more li (sym e))
+              | inr more ↦ absurd (long.differ j i more li (sym e))
             ]
           ]
 

@@ -29,6 +29,5 @@ written_edge edge low near =
     let law = canonical_law edge near in
     record {
       value = (law.0, ap is_far law.1 ∙ le-ltb 999_999_999_999_999 (unsigned_abs edge) near, sym law.1);
-      low =
-          low;
+      low = low;
     }

@@ -5,15 +5,7 @@ use Rattle.std.proofs.lemmas.List.{append-nil, append_cancel_left, take_at}
 use Rattle.std.proofs.lemmas.Fmt.{decimal_digit}
 use Rattle.def_certtext.specs.{HeadLine.head_line, Settings.floor_text, Settings.weight_text, Settings.IsFloor}
 use Rattle.def_fit.specs.Aims.{IsAim, IsFit}
-use Rattle.def_fit.specs.FitWords.{
-  aim_text,
-  fit_head,
-  keep_word,
-  patches_word,
-  spacing_word,
-  AreFitWords,
-  IsAimWord,
-}
+use Rattle.def_fit.specs.FitWords.{aim_text, fit_head, keep_word, patches_word, spacing_word, AreFitWords, IsAimWord}
 use Rattle.def_fit.specs.{declared.fit.Aim.Aim, declared.fit.Aim.TheVariants.Scale, declared.fit.Aim.TheVariants.Edge}
 use Rattle.def_fit.specs.{declared.fit.Aim.TheVariants.Wishes, declared.fit.Fit.Fit}
 use Rattle.def_flow.specs.declared.net.Weight.{Weight}
@@ -44,8 +36,7 @@ aim_bare (Edge edge) is = micro_bare edge is.1
 aim_bare Wishes is = refl
 
 floor_bare : (floor : ℕ) (auto : Bool) → IsFloor floor auto → is_bare (floor_text floor auto) ≡ true
-floor_bare floor auto is =
-    (asked_cut [] _ (record { p = 1; q = 1; floor = floor; weight = Plain }) auto
+floor_bare floor auto is = (asked_cut [] _ (record { p = 1; q = 1; floor = floor; weight = Plain }) auto
     (record {
       p_low = omega arith;
       p_high = omega arith;
@@ -157,8 +148,7 @@ module _ (line r0 : Word) (is : line ≡ fit_front ++ r0) where
               ∙ (at_floor k p a f w s cut).1)
 
           pub no_weight : ((word rest : Word) → is_bare word ≡ true → r4 ≡ word ++ (codes " spacing " ++ rest) → ⊥)
-              → (k p a f w s : Word)
-              → IsFitCut line k p a f w s → ⊥
+              → (k p a f w s : Word) → IsFitCut line k p a f w s → ⊥
           no_weight none k p a f w s cut = none w _ cut.weight_bare (at_weight k p a f w s cut).1
 
           pub cut_whole : (weight spacing : Word) → is_bare weight ≡ true

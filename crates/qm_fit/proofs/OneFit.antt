@@ -62,8 +62,7 @@ scale_words word p q written is = record {
   scaled = written;
   bounded = refl;
   weighed = refl;
-  in_range =
-      scale_range p q is;
+  in_range = scale_range p q is;
 }
 
 -- A word asks for one aim.
@@ -115,9 +114,8 @@ same_fit keep patches aim floor weight spacing one two first second =
     let cuts : one.patches ≡ two.patches = same_patches _ _ (sym first.cut ∙ second.cut) in
     let aims : one.aim ≡ two.aim = same_aim aim one.aim two.aim first.in_range.aim first.aimed second.in_range.aim
     second.aimed in
-    let leasts : (least one ≡ least two) × (one.auto ≡ two.auto) =
-    same_settings _ _ _ (least one) (least two) one.auto two.auto (least_words one _ _ _ _ _ _ first)
-    (least_words two _ _ _ _ _ _ second) in
+    let leasts : (least one ≡ least two) × (one.auto ≡ two.auto) = same_settings _ _ _ (least one) (least two) one.auto
+    two.auto (least_words one _ _ _ _ _ _ first) (least_words two _ _ _ _ _ _ second) in
     let spacings : one.spacing ≡ two.spacing = same_spacing _ _ (sym first.spaced ∙ second.spaced) in
     λ i. record {
       keep = keeps i;

@@ -130,16 +130,14 @@ module _ {n : ℕ} {up : ℕ → ℕ} (rank : ℕ → ℕ) {out : ℕ → ℕ} (
           let right : cond (splits (climbs up n x) (up x) y) (weight x) (pos 0) ≡ pos 0 =
           ap (λ (s : Bool). cond (cond s (not (climbs up n x y)) (climbs up n x y)) (weight x) (pos 0))
           not_further ∙ ap (λ (s : Bool). cond s (weight x) (pos 0)) not_from_y in
-          let one : cond (eqb x x) (weight x) (pos 0) ≡ weight x =
-          cond-true _ _ _ (eq-eqb x x refl) in
+          let one : cond (eqb x x) (weight x) (pos 0) ≡ weight x = cond-true _ _ _ (eq-eqb x x refl) in
           omega (arith, ints, left, right, one))
       | inr nb ↦ (let same : climbs up n b x ≡ climbs up n b (up x) = climbs_step u x b lu wx
           ∙ rw (ne_eqb x b (λ e. nb (sym e))) in
           let left : cond (splits (climbs up n b) x y) (weight b) (pos 0) ≡ cond (splits (climbs up n b) (up x) y)
           (weight b) (pos 0) = ap (λ (s : Bool). cond (cond s (not (climbs up n b y)) (climbs up n b y))
           (weight b) (pos 0)) same in
-          let none : cond (eqb b x) (weight x) (pos 0) ≡ pos 0 =
-          cond-false _ _ _ (ne_eqb b x nb) in
+          let none : cond (eqb b x) (weight x) (pos 0) ≡ pos 0 = cond-false _ _ _ (ne_eqb b x nb) in
           omega (arith, ints, left, none))
     ]
 

@@ -52,8 +52,7 @@ module _ {t : ForestTables} (known : IsLaminar t) {g : WeightedGraph} (valid : I
 
   set_once : (b : ℕ) → length t.hand ≤ b → b < length t.up → get_or t.parts b 0 ≢ 0 → leaving t marks b ≡ 1
   set_once b high low live =
-      let w : (v : ℕ) × (v < length t.hand) × (v ≢ 0) × (f.holds b v ≡ true) =
-      another known valid b 0 high low live in
+      let w : (v : ℕ) × (v < length t.hand) × (v ≢ 0) × (f.holds b v ≡ true) = another known valid b 0 high low live in
       round_ends round ended b low
       ∙ (due_same known valid b w.0 (length marks) w.1 w.3 ∙ due_one known valid w.0 w.1
       (edges_is known valid size are) (matched w.0 (rw valid.vertices at w.1)))

@@ -153,8 +153,7 @@ module _ {g : WeightedGraph} {t0 t2 : ForestTables} {b mate link first last many
       joints3 k l = rw (
         at3 course.front k,
         ap (λ (f : Forest). f.nest.joint (walk f2.nest.after course.front k)) seen3,
-      )
-          (joint_low (walk f2.nest.after course.front k) ((circle_at course.front front_marked).marked k))
+      ) (joint_low (walk f2.nest.after course.front k) ((circle_at course.front front_marked).marked k))
 
       way2 : IsCourse f2.nest.after (f2.out (d.near (in_tree ready).dart)) (f2.out (d.near (f0.link b)))
           (f0.nest.parts b) course

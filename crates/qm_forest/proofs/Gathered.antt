@@ -247,8 +247,7 @@ module _ {s : Inside} {h2 : Handles} {l2 : Lists} {r2 : Rings} {pool2 : List (Op
       | inr off ↦ rw (
         out_off v lv off,
         hand_off v lv off,
-        get_or-set_other hid.leader b (out v) handle 0
-            (no_out free v lv),
+        get_or-set_other hid.leader b (out v) handle 0 (no_out free v lv),
       ) (tied.nest.led v lv)
     ];
     leaders = λ x lx used. elim (cases_eq x b) [
@@ -261,8 +260,7 @@ module _ {s : Inside} {h2 : Handles} {l2 : Lists} {r2 : Rings} {pool2 : List (Op
           tied.nest.leaders x lx (still_used x ne used) in (was.0, holds_old x _ ne was.0 ∙ was.1))
     ];
     members = λ x lx used. elim (cases_eq x b) [
-      | inl same ↦ rw (same, first_b, last_b, rank_b)
-          (list_renamed _ new_list (λ v lv. sym (holds_new enclosing v lv)))
+      | inl same ↦ rw (same, first_b, last_b, rank_b) (list_renamed _ new_list (λ v lv. sym (holds_new enclosing v lv)))
       | inr ne ↦ rw (first_old x ne, last_old x ne, rank_old x ne)
           (list_renamed _ (old_list x lx (still_used x ne used)) (λ v lv. sym (holds_old x v ne lv)))
     ];

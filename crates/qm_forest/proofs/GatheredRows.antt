@@ -101,8 +101,7 @@ module _ {t : ForestTables} {hid : HiddenTables} {front many b big : ℕ} (free 
 
   -- Who has the handle that is kept is in the row.
   pub own_handle : (v : ℕ) → v < n → get_or t.hand v 0 ≡ handle → out v ≡ big
-  own_handle v l e =
-      sym (ap out (tied.nest.led v l) ∙ leader_out tied.nest v l) ∙ (ap out e ∙ handle_at.1)
+  own_handle v l e = sym (ap out (tied.nest.led v l) ∙ leader_out tied.nest v l) ∙ (ap out e ∙ handle_at.1)
 
   pub held : (k v : ℕ) → k < many → v < n → climbs (up_at t.up) n (at k) v ≡ eqb (out v) (at k)
   held k v lk lv = by_test (ring.tops k lk) (cases_Bool (climbs (up_at t.up) n (at k) v)) (cases_eq (out v) (at k))

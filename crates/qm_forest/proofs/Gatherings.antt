@@ -61,8 +61,7 @@ module _ {s : Inside} {pool2 : List (Option Node)} {front many b : ℕ} (taken :
   set_low = omega (arith, took.is, slice_get_within s.pool took.id None took.free, tied.pool.room)
 
   -- The row with a blossom of it: the first one, where no other is meant.
-  pub row : {big : ℕ} → ((k : ℕ) × (k < many) × (at k ≡ big))
-      → FreeRow (seen_in s) (hidden_in s) front many b big
+  pub row : {big : ℕ} → ((k : ℕ) × (k < many) × (at k ≡ big)) → FreeRow (seen_in s) (hidden_in s) front many b big
   row on = record {
     tied = tied;
     ring = ring;

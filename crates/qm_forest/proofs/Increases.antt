@@ -132,8 +132,7 @@ module _ {g : WeightedGraph} (is : IsSmallGraph g) {s : ForestTables} (valid : I
       climb_low : {x y i j : ℕ} → IsClimbing darts f a c x y i j → x ≢ y → level c - j ≤ level a - i → i < level a
       climb_low is ne high = can_climb are (rooted_here a named_a) (the_tree a named_a).2 a c named_a named_c is ne high
 
-      climb_rises : {x y i j : ℕ} → IsClimbing darts f a c x y i j → x ≢ y → level c - j ≤ level a - i
-          → rise x ≢ None
+      climb_rises : {x y i j : ℕ} → IsClimbing darts f a c x y i j → x ≢ y → level c - j ≤ level a - i → rise x ≢ None
       climb_rises {i} is ne high = rw is.x_is (place_rises a named_a i (climb_low is ne high))
 
       climb_turn : {x y : ℕ} {x2 : ℕ} {i j : ℕ} → IsClimbing darts f a c x y i j → x ≢ y → level c - j ≤ level a - i
@@ -180,9 +179,8 @@ module _ {g : WeightedGraph} (is : IsSmallGraph g) {s : ForestTables} (valid : I
   }
 
   -- Where a climber is not at the root, some steps bring him nearer.
-  pub climbed_nearer : (at : ℕ) {next steps : ℕ} (reach : ℕ) → f.label at ≢ Outside
-      → (d : ℕ) × (rise at ≡ Some d) → next ≡ way at steps → steps ≡ min reach (level at) → 1 ≤ reach
-      → level next < level at
+  pub climbed_nearer : (at : ℕ) {next steps : ℕ} (reach : ℕ) → f.label at ≢ Outside → (d : ℕ) × (rise at ≡ Some d)
+      → next ≡ way at steps → steps ≡ min reach (level at) → 1 ≤ reach → level next < level at
   climbed_nearer at {next} {steps} reach named up next_is steps_is some =
       let low : steps ≤ level at = omega (arith, steps_is) in
       omega (
@@ -198,10 +196,8 @@ module _ {g : WeightedGraph} (is : IsSmallGraph g) {s : ForestTables} (valid : I
       → HasClimbed darts f a at left → rise at ≡ None → AreOnBoth darts f a c left (level c)
   root_on_both {a} c {at} named_a named_c is off =
       let r : ℕ = (the_tree a named_a).0 in
-      let on : f.label (way c (level c)) ≢
-      Outside = way_named c named_c (level c) (omega arith) in
-      let end : way c (level c) ≡ r =
-      level_zero are (rooted_here a named_a) (the_tree a named_a).2 (way c (level c)) on
+      let on : f.label (way c (level c)) ≢ Outside = way_named c named_c (level c) (omega arith) in
+      let end : way c (level c) ≡ r = level_zero are (rooted_here a named_a) (the_tree a named_a).2 (way c (level c)) on
       (omega (arith, way_level c named_c (level c) (omega arith))) in
       let here : at ≡ r = (at_root are (rooted_here a named_a) (the_tree a named_a).2 at
       (climbed_named named_a is) off).0 in

@@ -54,8 +54,7 @@ module _ {t : ForestTables} (known : IsLaminar t) {g : WeightedGraph} (valid : I
   around_in : (b u : ℕ) → u < length t.hand → within t u b ≡ true → within t b (f.out u) ≡ true
   around_in b u lu on =
       let wb : (j : ℕ) × (walk (up_at t.up) u j ≡ b) = where_in (rising known) u b on in
-      let wo : (j : ℕ) × (walk (up_at t.up) u j ≡ f.out u) =
-      where_in (rising known) u (f.out u) (own u lu) in
+      let wo : (j : ℕ) × (walk (up_at t.up) u j ≡ f.out u) = where_in (rising known) u (f.out u) (own u lu) in
       elim (in_line (rising known) u wb.0 wo.0 wb.1 wo.1) [
         | inl m ↦ in_where (rising known) b m.0 (top_rank u lu) m.1
         | inr m ↦ in_where (rising known) b 0 (top_rank u lu) (sym m.1 ∙ walk_fixed (up_at t.up) m.0 (top_stays u lu))
@@ -65,8 +64,7 @@ module _ {t : ForestTables} (known : IsLaminar t) {g : WeightedGraph} (valid : I
       ≡ true
   through b u w lu first second =
       let wb : (j : ℕ) × (walk (up_at t.up) w j ≡ b) = where_in (rising known) w b first in
-      let wo : (j : ℕ) × (walk (up_at t.up) b j ≡ f.out u) =
-      where_in (rising known) b (f.out u) second in
+      let wo : (j : ℕ) × (walk (up_at t.up) b j ≡ f.out u) = where_in (rising known) b (f.out u) second in
       in_where (rising known) w (wb.0 + wo.0)
       (top_rank u lu) (walk_sum (up_at t.up) w wb.0 wo.0 ∙ (ap (λ x. walk (up_at t.up) x wo.0) wb.1 ∙ wo.1))
 
@@ -74,10 +72,8 @@ module _ {t : ForestTables} (known : IsLaminar t) {g : WeightedGraph} (valid : I
   not_both : (b u v : ℕ) → u < length t.hand → v < length t.hand → f.out u ≢ f.out v → within t b (f.out u) ≡ true
       → within t b (f.out v) ≡ true → ⊥
   not_both b u v lu lv ne on other =
-      let wu : (j : ℕ) × (walk (up_at t.up) b j ≡ f.out u) =
-      where_in (rising known) b (f.out u) on in
-      let wv : (j : ℕ) × (walk (up_at t.up) b j ≡ f.out v) =
-      where_in (rising known) b (f.out v) other in
+      let wu : (j : ℕ) × (walk (up_at t.up) b j ≡ f.out u) = where_in (rising known) b (f.out u) on in
+      let wv : (j : ℕ) × (walk (up_at t.up) b j ≡ f.out v) = where_in (rising known) b (f.out v) other in
       elim (in_line (rising known) b wu.0 wv.0 wu.1 wv.1) [
         | inl m ↦ ne (sym (walk_fixed (up_at t.up) m.0 (top_stays u lu)) ∙ m.1)
         | inr m ↦ ne (sym m.1 ∙ walk_fixed (up_at t.up) m.0 (top_stays v lv))

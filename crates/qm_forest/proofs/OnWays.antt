@@ -68,9 +68,8 @@ pub way_begins : {g : WeightedGraph} {t : ForestTables} → IsSmallGraph g → I
     → Reaches (darts_of g) (forest_of t) start → (forest_of t).mate ((forest_of t).out (far (darts_of g) start)) ≡ None
     → {mate : ℕ → Option ℕ} {a : ℕ} → mate ≡ set_at (forest_of t).mate ((forest_of t).out (far (darts_of g) start))
     (Some ((darts_of g).twin start)) → a ≡ (forest_of t).out ((darts_of g).near start) → IsOnWay g t start mate a start
-way_begins {g} {t} is valid {start} reach free {mate} {a} mate_is a_is =
-    by_tree (tree_of (are_darts is.lawful) valid.valid
-    ((forest_of t).out ((darts_of g).near start)) (outer_named reach.outer))
+way_begins {g} {t} is valid {start} reach free {mate} {a} mate_is a_is = by_tree
+    (tree_of (are_darts is.lawful) valid.valid ((forest_of t).out ((darts_of g).near start)) (outer_named reach.outer))
   where
     by_tree : (r : ℕ) × (t.root ≡ Some r) × IsTree (darts_of g) (forest_of t) r → IsOnWay g t start mate a start
     by_tree w = record {
@@ -137,8 +136,7 @@ module _ {g : WeightedGraph} {t : ForestTables} {start : ℕ} {mate : ℕ → Op
       (inner_is' ∙ sym (inner_is are valid_top way.tree a old way.almost.outer own))) in
       let less : far_up a ≡ suc (far_up (parent_of d f a)) =
       fewer_steps are valid_top way.tree a old way.almost.outer own in
-      let same : far_up a2 ≡ far_up (parent_of d f a) =
-      ap far_up parent in
+      let same : far_up a2 ≡ far_up (parent_of d f a) = ap far_up parent in
       omega arith
 
   -- The blossom at hand is outermost, and its number low.
@@ -225,9 +223,8 @@ pub augmented : {t : ForestTables} (s u : ForestTables) {g : WeightedGraph} → 
     ≡ remated (forest_of t) (forest_of s).mate → forest_of u ≡ with_mates (forest_of s) (forest_of s).mate → u.hand
     ≡ t.hand → u.root ≡ None → fixed_of u ≡ fixed_of t → ((r : ℕ) × (t.root ≡ Some r)
     × IsAugmented (darts_of g) (forest_of t) (forest_of u) r start) × IsValidFor g u
-augmented {t} s u {g} is valid {start} reach done seen ended hand root fixed =
-    by_tree (tree_of (are_darts is.lawful) valid.valid
-    ((forest_of t).out ((darts_of g).near start)) (outer_named reach.outer))
+augmented {t} s u {g} is valid {start} reach done seen ended hand root fixed = by_tree
+    (tree_of (are_darts is.lawful) valid.valid ((forest_of t).out ((darts_of g).near start)) (outer_named reach.outer))
   where
     whole : forest_of u ≡ with_mates (forest_of t) (forest_of s).mate
     whole = ended ∙ ap (λ (f : Forest). with_mates f (forest_of s).mate) seen

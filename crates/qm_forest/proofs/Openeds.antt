@@ -194,8 +194,7 @@ module _ {g : WeightedGraph} {t0 : ForestTables} {b : ℕ} (ready : CanOpen g t0
         ∙ writes_at f2.link way sides count k l differ)
 
     link_last : f6.link last ≡ f0.link b
-    link_last = ap (λ (f : Forest). f.link last) on
-        ∙ set_here (hung matched front count forward).link last (f0.link b)
+    link_last = ap (λ (f : Forest). f.link last) on ∙ set_here (hung matched front count forward).link last (f0.link b)
 
     label_off : (x : ℕ) → inside x ≡ false → f6.label x ≡ f2.label x
     label_off x off = label_missed x (λ k lk e. true_false (ap inside (sym e) ∙ ring.marked k) off)
@@ -217,8 +216,7 @@ module _ {g : WeightedGraph} {t0 : ForestTables} {b : ℕ} (ready : CanOpen g t0
       links : (i : ℕ) → i < turns → f6.link (q (2 * i)) ≡ e (2 * i)
       ends : q (2 * turns) ≡ last
 
-    opened_is : {q e : ℕ → ℕ} {turns : ℕ} → HasPlaces q e turns
-        → IsOpened d f0 f6 (opening_at ready parted q e turns)
+    opened_is : {q e : ℕ → ℕ} {turns : ℕ} → HasPlaces q e turns → IsOpened d f0 f6 (opening_at ready parted q e turns)
     opened_is places = record {
       size = ap (λ (f : Forest). f.size) on ∙ parted.size;
       weight = λ x. ap (λ (f : Forest). f.weight x) on ∙ ap (λ h. h x) parted.weight;

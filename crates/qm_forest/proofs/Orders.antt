@@ -35,9 +35,8 @@ first_terms f n (suc m) l = by_size (cases_lt m n) (λ h. first_terms f n m h)
     by_size : (m < n) ⊎ (n ≤ m) → (n ≤ m → total_below (λ b. cond (nat_lt b n) (f b) (pos 0)) m ≡ total_below f n)
         → total_below (λ b. cond (nat_lt b n) (f b) (pos 0)) m +ℤ cond (nat_lt m n) (f m) (pos 0) ≡ total_below f n
     by_size (inl h) more =
-        let all : total_below (λ b. cond (nat_lt b n) (f b) (pos 0)) m ≡ total_below f m =
-        total_below_same (λ b. cond (nat_lt b n) (f b) (pos 0)) f m (λ b lb. cond-true _ _ _
-        (lt-ltb b n (omega (arith, lb, h)))) in
+        let all : total_below (λ b. cond (nat_lt b n) (f b) (pos 0)) m ≡ total_below f m = total_below_same
+        (λ b. cond (nat_lt b n) (f b) (pos 0)) f m (λ b lb. cond-true _ _ _ (lt-ltb b n (omega (arith, lb, h)))) in
         let here : cond (nat_lt m n) (f m) (pos 0) ≡ f m = cond-true _ _ _ (lt-ltb m n h) in
         let e : suc m ≡ n = omega (arith, l, h) in
         omega (arith, ints, all, here) ∙ ap (total_below f) e

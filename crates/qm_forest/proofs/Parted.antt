@@ -285,8 +285,7 @@ module _ {s : Inside} {h2 : Handles} {r2 : Rings} {pool2 : List (Option Node)} {
     own = λ x v on lv held. (let p : (k : ℕ) × (k < many) × (at k ≡ x) = listed_place _ _ many x on in
         out_new v lv ∙ (part_fresh way p.0 v p.1 lv (rw p.2 held) ∙ p.2));
     ended = λ v lv at_b. never way v n lv (sym (out_new v lv) ∙ at_b);
-    together = λ x u v lu lv ne hu hv. out_new u lu
-        ∙ (fresh_together way x u v lu lv ne hu hv ∙ sym (out_new v lv));
+    together = λ x u v lu lv ne hu hv. out_new u lu ∙ (fresh_together way x u v lu lv ne hu hv ∙ sym (out_new v lv));
     weight = refl;
     label = refl;
     mate = refl;

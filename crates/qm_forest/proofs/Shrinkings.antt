@@ -146,9 +146,8 @@ module _ {g : WeightedGraph} {t0 : ForestTables} {start top left right : ℕ}
   joint_at k l = by_place (cases_lt k left) (cases_eq k left)
     where
       by_place : (k < left) ⊎ (left ≤ k) → (k ≡ left) ⊎ (k ≢ left) → joint (at k) ≡ ring_dart d f a c left start k
-      by_place (inl lk) x = lain_left ways f.nest.joint downs start
-          ups k lk ∙ sym (dart_left are whole tree_is.2 a c named_a named_c top
-          left right met outer_a outer_c tight refl refl k lk)
+      by_place (inl lk) x = lain_left ways f.nest.joint downs start ups k lk ∙ sym
+          (dart_left are whole tree_is.2 a c named_a named_c top left right met outer_a outer_c tight refl refl k lk)
       by_place (inr h) (inl e) = ap (λ j. joint (at j)) e ∙ (lain_over ways f.nest.joint downs start ups
           ∙ sym (dart_over are whole tree_is.2 a c named_a named_c top left right met outer_a outer_c tight refl refl
           e))

@@ -150,9 +150,8 @@ sets_more {t} {b} {xs} high live has = record {
       let last : count (λ (set : ℕ × ℕ). f set.1) (xs ++ (get_or t.rank b 0, b) ∷ [])
       ≡ count (λ (set : ℕ × ℕ). f set.1) xs + (f b + 0) =
       count_append (λ (set : ℕ × ℕ). f set.1) xs ((get_or t.rank b 0, b) ∷ []) in
-      let here : live_at (length t.hand) (λ k. get_or t.parts k 0) b * f b ≡ 1 * f b =
-      ap (λ (m : ℕ). m * f b) (cond-false _ _ _ (le-ltb b (length t.hand) high) ∙ cond-false _ _ _
-      (ne_eqb (get_or t.parts b 0) 0 live)) in
+      let here : live_at (length t.hand) (λ k. get_or t.parts k 0) b * f b ≡ 1 * f b = ap (λ (m : ℕ). m * f b)
+      (cond-false _ _ _ (le-ltb b (length t.hand) high) ∙ cond-false _ _ _ (ne_eqb (get_or t.parts b 0) 0 live)) in
       let up : count_below (λ c. live_at (length t.hand) (λ k. get_or t.parts k 0) c * f c) (b + 1)
       ≡ count_below (λ c. live_at (length t.hand) (λ k. get_or t.parts k 0) c * f c) (suc b) =
       (let o : b + 1 ≡ suc b = omega arith in

@@ -27,6 +27,5 @@ three_parts old mid next now xs ys zs first second third =
 pub rung_parts : {X : Type 0} (old one two three now : List X) (xs : List X) (y : X) (ys : List X) (z : X)
     → one ≡ old ++ xs → two ≡ one ++ y ∷ [] → three ≡ two ++ ys → now ≡ three ++ z ∷ []
     → now ≡ old ++ (xs ++ (y ∷ ys ++ z ∷ []))
-rung_parts old one two three now xs y ys z first second third fourth =
-    two_parts old one now xs (y ∷ ys ++ z ∷ []) first (three_parts one two three now (y ∷ []) ys (z ∷ []) second third
-    fourth)
+rung_parts old one two three now xs y ys z first second third fourth = two_parts old one now xs (y ∷ ys ++ z ∷ []) first
+    (three_parts one two three now (y ∷ []) ys (z ∷ []) second third fourth)

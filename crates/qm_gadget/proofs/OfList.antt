@@ -65,8 +65,7 @@ graph_cheap net step xs bounds count admissible tangle short k l =
     let low : unsigned_abs (edge_at g k).cost ≤ 4096000000 = omega (arith, costs net step xs bounds k l) in
     omega (
       arith,
-      mul-le-mul {n₁ = g.n} {m₁ = unsigned_abs (edge_at g k).cost} {n₂ = 20000000} {m₂ = 4096000000} few
-          low,
+      mul-le-mul {n₁ = g.n} {m₁ = unsigned_abs (edge_at g k).cost} {n₂ = 20000000} {m₂ = 4096000000} few low,
     )
 
 -- The lows and caps of an admissible list.
@@ -88,8 +87,7 @@ list_ready net step xs bounds lengths admissible tangle = record {
   few = omega (
     arith,
     units_few (units net step net.arcs xs),
-    graph_small net step xs bounds lengths.count admissible
-        tangle,
+    graph_small net step xs bounds lengths.count admissible tangle,
   );
   at = at_by_index net.nodes (units net step net.arcs xs)
       (units_at net step net.arcs xs (arcs_at net.nodes net.arcs bounds.arcs));

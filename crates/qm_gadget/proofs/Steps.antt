@@ -94,8 +94,7 @@ plan_few net step ls cs p ready plan = (omega (arith, ap length plan.units, read
       | inl l ↦ omega (
         arith,
         plan.counts.each v l,
-        active_low v (units_over net step net.arcs ls cs)
-            (states_of_caps cs),
+        active_low v (units_over net step net.arcs ls cs) (states_of_caps cs),
         ready.few,
       )
       | inr h ↦ omega (arith, get_or_past p.counts.items v 0 (omega (arith, plan.counts.count)))

@@ -15,42 +15,35 @@ map_more f n = ap (map f) (range_more n) ∙ map-append f (range_with_len 0 n) (
 
 pub flat_more : {X : Type 0} (f : ℕ → List X) (n : ℕ) → flat_map f (range_with_len 0 (n + 1))
     ≡ flat_map f (range_with_len 0 n) ++ f n
-flat_more f n =
-    ap (flat_map f) (range_more n) ∙ flat_map-append f (range_with_len 0 n) (n ∷ [])
-    ∙ ap (λ (ys : List _). flat_map f (range_with_len 0 n) ++ ys) (append-nil (f n))
+flat_more f n = ap (flat_map f) (range_more n) ∙ flat_map-append f (range_with_len 0 n) (n ∷ []) ∙ ap
+    (λ (ys : List _). flat_map f (range_with_len 0 n) ++ ys) (append-nil (f n))
 
 -- A number that passes, and one that does not.
 pub taken_more : {X : Type 0} (f : ℕ → X) (p : ℕ → Bool) (n : ℕ) → p n ≡ true
     → map f (filter p (range_with_len 0 (n + 1))) ≡ map f (filter p (range_with_len 0 n)) ++ f n ∷ []
-taken_more f p n is =
-    ap (λ (ns : List ℕ). map f (filter p ns)) (range_more n)
-    ∙ ap (map f) (filter-append p (range_with_len 0 n) (n ∷ []))
-    ∙ ap (λ (ns : List ℕ). map f (filter p (range_with_len 0 n) ++ ns)) (rw is refl)
-    ∙ map-append f (filter p (range_with_len 0 n)) (n ∷ [])
+taken_more f p n is = ap (λ (ns : List ℕ). map f (filter p ns)) (range_more n) ∙ ap (map f)
+    (filter-append p (range_with_len 0 n) (n ∷ [])) ∙ ap (λ (ns : List ℕ). map f (filter p (range_with_len 0 n) ++ ns))
+    (rw is refl) ∙ map-append f (filter p (range_with_len 0 n)) (n ∷ [])
 
 pub left_more : {X : Type 0} (f : ℕ → X) (p : ℕ → Bool) (n : ℕ) → p n ≡ false
     → map f (filter p (range_with_len 0 (n + 1))) ≡ map f (filter p (range_with_len 0 n))
-left_more f p n isnt =
-    ap (λ (ns : List ℕ). map f (filter p ns)) (range_more n)
-    ∙ ap (map f) (filter-append p (range_with_len 0 n) (n ∷ []))
-    ∙ ap (λ (ns : List ℕ). map f (filter p (range_with_len 0 n) ++ ns)) (rw isnt refl)
-    ∙ ap (map f) (append-nil (filter p (range_with_len 0 n)))
+left_more f p n isnt = ap (λ (ns : List ℕ). map f (filter p ns)) (range_more n) ∙ ap (map f)
+    (filter-append p (range_with_len 0 n) (n ∷ [])) ∙ ap (λ (ns : List ℕ). map f (filter p (range_with_len 0 n) ++ ns))
+    (rw isnt refl) ∙ ap (map f) (append-nil (filter p (range_with_len 0 n)))
 
 -- One item more of a list in the making.
 pub pushed_more : {X : Type 0} (f : ℕ → X) (n : ℕ) (before old new : List X)
     → old ≡ before ++ map f (range_with_len 0 n) → new ≡ old ++ f n ∷ []
     → new ≡ before ++ map f (range_with_len 0 (n + 1))
-pushed_more f n before old new is grown =
-    grown ∙ ap (λ (xs : List _). xs ++ f n ∷ []) is ∙ append_assoc before (map f (range_with_len 0 n)) (f n ∷ [])
-    ∙ ap (λ (xs : List _). before ++ xs) (sym (map_more f n))
+pushed_more f n before old new is grown = grown ∙ ap (λ (xs : List _). xs ++ f n ∷ []) is ∙ append_assoc before
+    (map f (range_with_len 0 n)) (f n ∷ []) ∙ ap (λ (xs : List _). before ++ xs) (sym (map_more f n))
 
 pub taken_push : {X : Type 0} (f : ℕ → X) (p : ℕ → Bool) (n : ℕ) (before old new : List X)
     → old ≡ before ++ map f (filter p (range_with_len 0 n)) → p n ≡ true
     → new ≡ old ++ f n ∷ [] → new ≡ before ++ map f (filter p (range_with_len 0 (n + 1)))
-taken_push f p n before old new is passes grown =
-    grown ∙ ap (λ (xs : List _). xs ++ f n ∷ []) is ∙ append_assoc before (map f (filter p (range_with_len 0 n)))
-    (f n ∷ [])
-    ∙ ap (λ (xs : List _). before ++ xs) (sym (taken_more f p n passes))
+taken_push f p n before old new is passes grown = grown ∙ ap (λ (xs : List _). xs ++ f n ∷ []) is ∙ append_assoc before
+    (map f (filter p (range_with_len 0 n))) (f n ∷ []) ∙ ap (λ (xs : List _). before ++ xs)
+    (sym (taken_more f p n passes))
 
 pub left_push : {X : Type 0} (f : ℕ → X) (p : ℕ → Bool) (n : ℕ) (before old : List X)
     → old ≡ before ++ map f (filter p (range_with_len 0 n)) → p n ≡ false

@@ -98,8 +98,7 @@ module _ (faces : Faces) (cut : List Bool) (cutting : IsCutting faces cut) where
             record {
               i_low = omega arith;
               j_low = place_row q.0 p.w p.h wide low;
-              is =
-                  s.1 ∙ ap (λ n. spin (half_edges faces) s.0 (get_or p.cells n 0)) (place_is q.0 p.w wide);
+              is = s.1 ∙ ap (λ n. spin (half_edges faces) s.0 (get_or p.cells n 0)) (place_is q.0 p.w wide);
             },
           )
 
@@ -124,8 +123,7 @@ module _ (faces : Faces) (cut : List Bool) (cutting : IsCutting faces cut) where
     tiles = record {
       patch = λ p l. absurd (omega arith);
       sized = λ p l. absurd (omega arith);
-      ordered =
-          λ p l. absurd (omega arith);
+      ordered = λ p l. absurd (omega arith);
     };
     below = λ k l. absurd (omega arith);
   }
@@ -218,8 +216,7 @@ module _ (faces : Faces) (cut : List Bool) (cutting : IsCutting faces cut) where
       long = long ∙ so.long;
       done = λ g l h. was_or_is g h
           ∙ elim (cases_eq g f) [
-            | inl e ↦ or_right (get_or seen g false) (lies_in p.cells g) (ap (lies_in p.cells) e
-                ∙ own)
+            | inl e ↦ or_right (get_or seen g false) (lies_in p.cells g) (ap (lies_in p.cells) e ∙ own)
             | inr ne ↦ or_left (get_or seen g false) (lies_in p.cells g) (so.done g (omega arith) h)
           ];
       listed = listed;

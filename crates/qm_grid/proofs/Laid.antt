@@ -140,8 +140,7 @@ module _ (faces : Faces) (cut : List Bool) (cutting : IsCutting faces cut) (d w 
           b = 0;
           a_low = g.wide;
           b_low = g.tall;
-          is =
-              refl;
+          is = refl;
         },
       ))
     where

@@ -64,9 +64,8 @@ module _ (mesh : HalfEdges) (laws : IsQuadManifold mesh) (cut : Cut) (full : IsC
   pub rows_up : (s w h : ℕ) → IsRow mesh cut s w → ((k : ℕ) → k < h → cut (mesh.next (mesh.next (norths mesh s k)))
       ≡ false) → IsRow mesh cut (norths mesh s h) w
   rows_up s w zero row before = row
-  rows_up s w (suc h) row before =
-      next_row mesh laws cut full (norths mesh s h) w (rows_up s w h row (λ k l. before k (omega arith)))
-      (before h (omega arith))
+  rows_up s w (suc h) row before = next_row mesh laws cut full (norths mesh s h) w
+      (rows_up s w h row (λ k l. before k (omega arith))) (before h (omega arith))
 
   module _ (s d h v : ℕ) (at : d ≡ norths mesh s h) (row : IsRow mesh cut d v) (before : (k : ℕ) → k < h
       → cut (mesh.next (mesh.next (norths mesh s k))) ≡ false) where

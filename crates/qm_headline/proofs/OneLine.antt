@@ -78,6 +78,5 @@ pub read_only : (line : Word) (o : Option Command)
 read_only line None none command = (λ is. absurd (none-some command is), λ mark. absurd (none command mark))
 read_only line (Some read) mark command = (
   λ is. subst (IsMarkLine line) (same_Some read command is) mark,
-  λ other. ap (λ (k : Command). Some k)
-      (one_line line read command mark other),
+  λ other. ap (λ (k : Command). Some k) (one_line line read command mark other),
 )

@@ -23,6 +23,5 @@ multiple_read line rest (Some n) is read = record {
 
 -- It is one.
 pub one_multiple : (line : Word) (m n : ℕ) → IsRefineHead line m → IsRefineHead line n → m ≡ n
-one_multiple line m n one two =
-    decimal_injective m n (omega (arith, one.high)) (omega (arith, two.high))
+one_multiple line m n one two = decimal_injective m n (omega (arith, one.high)) (omega (arith, two.high))
     (append_cancel_left refine_front (decimal m) (decimal n) (sym one.written ∙ two.written))

@@ -42,9 +42,8 @@ near_read word read value = by_order (cases_lt 999_999_999_999_999 (unsigned_abs
 -- The parts of the line, from the right.
 nested : (edge : ℤ) (floor : ℕ)
     → size_head edge floor ≡ size_front ++ (micro_text edge ++ (floor_mark ++ decimal floor))
-nested edge floor =
-    append_assoc (size_front ++ micro_text edge) floor_mark (decimal floor)
-    ∙ append_assoc size_front (micro_text edge) (floor_mark ++ decimal floor)
+nested edge floor = append_assoc (size_front ++ micro_text edge) floor_mark (decimal floor) ∙ append_assoc size_front
+    (micro_text edge) (floor_mark ++ decimal floor)
 
 pub no_front : (line : Word) → bytes_eq (take (length size_front) line) size_front ≡ false → (edge : ℤ) (floor : ℕ)
     → IsSizeHead line edge floor → ⊥
@@ -62,9 +61,8 @@ module _ (line rest : Word) (is : line ≡ size_front ++ rest) where
 
   module _ (word more : Word) (bare : is_bare word ≡ true) (split : rest ≡ word ++ (floor_mark ++ more)) where
     words_are : (edge : ℤ) (floor : ℕ) → IsSizeHead line edge floor → (word ≡ micro_text edge) × (more ≡ decimal floor)
-    words_are edge floor head =
-        one_word word (micro_text edge) more (decimal floor) floor_mark bare (micro_bare edge head.near) refl
-        (sym split ∙ behind edge floor head)
+    words_are edge floor head = one_word word (micro_text edge) more (decimal floor) floor_mark bare
+        (micro_bare edge head.near) refl (sym split ∙ behind edge floor head)
 
     pub no_edge : ((edge : ℤ) → pos 1 ≤ℤ edge → unsigned_abs edge ≤ 999_999_999_999_999 → word ≡ micro_text edge → ⊥)
         → (edge : ℤ) (floor : ℕ) → IsSizeHead line edge floor → ⊥

@@ -88,17 +88,15 @@ module _ (bs rest : Bytes) (i : ℕ) (at : rest ≡ tail_of i bs) where
     arith,
     ap length both,
     ap length at,
-    length-append (flat_map (λ p. p) (take i (pieces bs)))
-        (tail_of i bs),
+    length-append (flat_map (λ p. p) (take i (pieces bs))) (tail_of i bs),
   )
 
   pub rest_low : length rest ≤ length bs
   rest_low = omega (arith, sizes)
 
   pub rest_is : drop (length bs - length rest) bs ≡ tail_of i bs
-  rest_is =
-      ap (λ (xs : Bytes). drop (length bs - length rest) xs) both
-      ∙ drop_at (flat_map (λ p. p) (take i (pieces bs))) (tail_of i bs) (length bs - length rest) (omega (arith, sizes))
+  rest_is = ap (λ (xs : Bytes). drop (length bs - length rest) xs) both ∙ drop_at
+      (flat_map (λ p. p) (take i (pieces bs))) (tail_of i bs) (length bs - length rest) (omega (arith, sizes))
 
   -- The lines before it are the first ones.
   pub first_lines : lines_of (take (length bs - length rest) bs) ≡ take i (lines_of bs)

@@ -97,8 +97,7 @@ piece-cut bs i n l is =
     ∙ take-prefix (slice_index_or (pieces bs) i []) (flat_map (λ p. p) (drop (suc i) (pieces bs))) n is
 
 -- No piece ends behind the text.
-pub end-low : (s : ℕ) (ps : List (List ℕ)) (i : ℕ) → i ≤ length ps
-    → begin s ps i ≤ s + length (flat_map (λ p. p) ps)
+pub end-low : (s : ℕ) (ps : List (List ℕ)) (i : ℕ) → i ≤ length ps → begin s ps i ≤ s + length (flat_map (λ p. p) ps)
 end-low s ps zero l = omega arith
 end-low s [] (suc i) l = absurd (omega arith)
 end-low s (p ∷ ps) (suc i) l =
@@ -115,22 +114,19 @@ other b differs ps = by_test (b == 10) differs
 
 -- Where the first LF stands at `k`, the first piece ends behind it.
 pub pieces-first : (bs : List ℕ) (k : ℕ) → k < length bs → (slice_index bs k == 10) ≡ true
-    → ((j : ℕ) → j < k → (slice_index bs j == 10) ≡ true → ⊥)
-    → pieces bs ≡ take (suc k) bs ∷ pieces (drop (suc k) bs)
+    → ((j : ℕ) → j < k → (slice_index bs j == 10) ≡ true → ⊥) → pieces bs ≡ take (suc k) bs ∷ pieces (drop (suc k) bs)
 pieces-first [] k l is none = absurd (omega arith)
 pieces-first (b ∷ bs) zero l is none = rw is refl
-pieces-first (b ∷ bs) (suc k) l is none =
-    other b (none 0 (omega arith)) (pieces bs)
-    ∙ ap (byte_in_front b) (pieces-first bs k (omega arith) is (λ j m. none (suc j) (omega arith)))
+pieces-first (b ∷ bs) (suc k) l is none = other b (none 0 (omega arith)) (pieces bs) ∙ ap (byte_in_front b)
+    (pieces-first bs k (omega arith) is (λ j m. none (suc j) (omega arith)))
 
 -- A text without LF that is not empty is one piece.
 pub pieces-none : (bs : List ℕ) → 0 < length bs
     → ((j : ℕ) → j < length bs → (slice_index bs j == 10) ≡ true → ⊥) → pieces bs ≡ bs ∷ []
 pieces-none [] l none = absurd (omega arith)
 pieces-none (b ∷ []) l none = other b (none 0 (omega arith)) []
-pieces-none (b ∷ c ∷ bs) l none =
-    other b (none 0 (omega arith)) (pieces (c ∷ bs))
-    ∙ ap (byte_in_front b) (pieces-none (c ∷ bs) (omega arith) (λ j m. none (suc j) (omega arith)))
+pieces-none (b ∷ c ∷ bs) l none = other b (none 0 (omega arith)) (pieces (c ∷ bs)) ∙ ap (byte_in_front b)
+    (pieces-none (c ∷ bs) (omega arith) (λ j m. none (suc j) (omega arith)))
 
 -- Each line has its piece.
 pub piece-there : (bs : List ℕ) (i : ℕ) → i < length (lines_of bs) → i < length (pieces bs)
@@ -157,9 +153,8 @@ begin-within bs i l = omega (arith, end-low 0 (pieces bs) i (omega arith), ap le
 
 -- The bytes from where a piece begins on are the tail.
 pub tail-cut : (bs : List ℕ) (i : ℕ) → i < length (pieces bs) → drop (begin 0 (pieces bs) i) bs ≡ tail_of i bs
-tail-cut bs i l =
-    ap (drop (begin 0 (pieces bs) i)) (sym (flat-pieces bs))
-    ∙ drop-begin 0 (begin 0 (pieces bs) i) (pieces bs) i (omega arith) (omega arith)
+tail-cut bs i l = ap (drop (begin 0 (pieces bs) i)) (sym (flat-pieces bs)) ∙ drop-begin 0 (begin 0 (pieces bs) i)
+    (pieces bs) i (omega arith) (omega arith)
 
 -- Where no byte before `k` is a LF, the prefix up to `k` has none.
 pub none_in_front : (bs : List ℕ) (k : ℕ) → ((j : ℕ) → j < k → (slice_index bs j == 10) ≡ true → ⊥)

@@ -16,8 +16,7 @@ word_read most (Some given) i bytes word is fits text other = (
   is.0,
   subst (λ (given : Bytes). IsReadAs most given word) (sym is.1) (record {
     text = λ good _. text good;
-    other =
-        by_other;
+    other = by_other;
   }),
 )
   where

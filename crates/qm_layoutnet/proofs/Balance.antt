@@ -86,8 +86,7 @@ node_low q east n h = omega arith
 node_low q north n h = omega arith
 node_low q west n h = omega arith
 
-module _
-    (l : Layout) (old wish : Lengths) (set : Settings) (floor : Lengths) (net : Network) (laid : IsSurface l)
+module _ (l : Layout) (old wish : Lengths) (set : Settings) (floor : Lengths) (net : Network) (laid : IsSurface l)
     (is : IsNetOf l old wish set floor net)
     (x : ℕ → ℤ) where
   -- The slot with number j on a side of a patch.
@@ -102,23 +101,20 @@ module _
   hits_none : (p : ℕ) (s : Way) (k : ℕ) (forward : Bool)
       → ((j : ℕ) → j < l.many p s → l.use_at p s j ≡ use_of_arc k forward → ⊥) → hits p s k forward ≡ pos 0
   hits_none p s k forward never = total_below_none (λ j. cond (is_hit k forward (l.use_at p s j)) (x k) (pos 0))
-      (l.many p s)
-      (λ j low. ap (λ (b : Bool). cond b (x k) (pos 0)) (no_hit k forward (l.use_at p s j) (never j low)))
+      (l.many p s) (λ j low. ap (λ (b : Bool). cond b (x k) (pos 0)) (no_hit k forward (l.use_at p s j) (never j low)))
 
   -- Where slot w has it, that is the entry of the arc, if w is on the side.
   hits_at : (p : ℕ) (s : Way) (k : ℕ) (forward : Bool) (w : Slot) → p < l.patches → IsSlot l w
       → use_of l w ≡ use_of_arc k forward
       → hits p s k forward ≡ cond (is_on_side (node_of p s) (is_plus s) (end_at w.patch w.side)) (x k) (pos 0)
-  hits_at p s k forward w low slot e =
-      by_place ((w.patch == p) && is_way s w.side) refl ∙ ap (λ (b : Bool). cond b (x k) (pos 0))
-      (sym (counts_at p w.patch s w.side))
+  hits_at p s k forward w low slot e = by_place ((w.patch == p) && is_way s w.side) refl ∙ ap
+      (λ (b : Bool). cond b (x k) (pos 0)) (sym (counts_at p w.patch s w.side))
     where
       there : ((w.patch == p) && is_way s w.side) ≡ true → (w.patch ≡ p) × (w.side ≡ s)
       there yes_ = elim (cases_eq w.patch p) [
         | inl same ↦ (
           same,
-          way_is s w.side (sym (ap (λ (b : Bool). b && is_way s w.side) (eq-eqb w.patch p same))
-              ∙ yes_),
+          way_is s w.side (sym (ap (λ (b : Bool). b && is_way s w.side) (eq-eqb w.patch p same)) ∙ yes_),
         )
         | inr ne ↦ absurd (false≢true (sym (ap (λ (b : Bool). b && is_way s w.side) (ne_eqb w.patch p ne)) ∙ yes_))
       ]

@@ -66,9 +66,8 @@ ends_begin l set runs long = record {
     at a low = open_at set runs a (omega (arith, low, long, path_long runs))
 
 -- When all slots are done, these are the arcs of the network.
-pub net_is : (l : Layout) (old : Lengths) (set : Settings) (net : Network) → net.nodes ≡ 2 * l.patches
-    → net.p ≡ set.p → net.q ≡ set.q
-    → AreEnds l old set (PatchesBelow l.patches) net.arcs → IsNetOf l old old set (λ a. set.floor) net
+pub net_is : (l : Layout) (old : Lengths) (set : Settings) (net : Network) → net.nodes ≡ 2 * l.patches → net.p ≡ set.p
+    → net.q ≡ set.q → AreEnds l old set (PatchesBelow l.patches) net.arcs → IsNetOf l old old set (λ a. set.floor) net
 net_is l old set net nodes p q are = record {
   nodes = nodes;
   p = p;
@@ -108,8 +107,7 @@ module _ (l : Layout) (x : Lengths) (set : Settings) (net : Network) (laid : IsS
     small = omega (
       arith,
       count_at (λ a. a.old) net.arcs,
-      count_below_same (λ k. (arc_at net.arcs k).old) x
-          (length net.arcs) old_at,
+      count_below_same (λ k. (arc_at net.arcs k).old) x (length net.arcs) old_at,
       ap (count_below x) is.long,
       few,
     );

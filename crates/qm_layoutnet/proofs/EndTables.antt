@@ -67,8 +67,7 @@ same_number _ _ e = absurd (omega arith)
 module _ (l : Layout) (old : Lengths) (set : Settings) (laid : IsSurface l) where
   -- The ends are those of the slots that are done, however that is said.
   pub same_ends : (done now : Slot → Type 0) (arcs : List Arc) → ((w : Slot) → IsSlot l w → now w → done w)
-      → ((w : Slot) → IsSlot l w → done w → now w)
-      → AreEnds l old set done arcs → AreEnds l old set now arcs
+      → ((w : Slot) → IsSlot l w → done w → now w) → AreEnds l old set done arcs → AreEnds l old set now arcs
   same_ends done now arcs back on are = record {
     long = are.long;
     olds = are.olds;

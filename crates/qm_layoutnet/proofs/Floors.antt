@@ -45,8 +45,7 @@ pub floor_high : (net : Network) → IsWithinBounds net → (k : ℕ) → k < le
     → (arc_at net.arcs k).floor ≤ MAX_FLOOR
 floor_high net b k l =
     let a : Arc = arc_at net.arcs k in
-    let low : Bool =
-    nat_le 1 a.weight && nat_le a.weight MAX_WEIGHT && nat_le a.old MAX_OLD && nat_le 1 a.floor in
+    let low : Bool = nat_le 1 a.weight && nat_le a.weight MAX_WEIGHT && nat_le a.old MAX_OLD && nat_le 1 a.floor in
     let parts = and_parts (low && nat_le a.floor MAX_FLOOR) _ (arc_bounded net b k l) in
     leb-true a.floor MAX_FLOOR (and_parts low _ parts.0).1
 

@@ -49,8 +49,7 @@ one_net_law l old wish set floor laid one other is also = λ i. record {
         by_ends h = λ i. record {
           left = left i;
           right = by_right h.right i;
-          old =
-              (is.olds a low ∙ sym (also.olds a low)) i;
+          old = (is.olds a low ∙ sym (also.olds a low)) i;
           weight = (is.weights a low ∙ sym (also.weights a low)) i;
           floor = (is.floors a low ∙ sym (also.floors a low)) i;
         }
@@ -69,5 +68,4 @@ one_net_law l old wish set floor laid one other is also = λ i. record {
 
     arcs : one.arcs ≡ other.arcs
     arcs = ext_get_or (record { left = record { node = 0; plus = true }; right = None; old = 0; weight = 0; floor = 0 })
-        one.arcs
-        other.arcs (is.long ∙ sym also.long) arc
+        one.arcs other.arcs (is.long ∙ sym also.long) arc

@@ -6,8 +6,7 @@ use Rattle.def_flow.specs.{Admissible.is_on_side, Admissible.side_sum, Network.N
 use Rattle.def_flow.specs.{Network.ends, Network.tangle_number, declared.net.Arc.Arc, declared.net.End.End}
 use Rattle.qm_layoutnet.proofs.Built.{count_at}
 
-module _
-    (net new : Network) (nodes : new.nodes ≡ net.nodes) (long : length new.arcs ≡ length net.arcs)
+module _ (net new : Network) (nodes : new.nodes ≡ net.nodes) (long : length new.arcs ≡ length net.arcs)
     (same : (k : ℕ) → k < length net.arcs → ends (arc_at new.arcs k) ≡ ends (arc_at net.arcs k)) where
   degree_same : (v : ℕ) → degree new.arcs v ≡ degree net.arcs v
   degree_same v =
@@ -23,19 +22,15 @@ module _
       at_v a = count (λ (e : End). cond (e.node == v) 1 0) (ends a)
 
   pub tangle_same : tangle_number new ≡ tangle_number net
-  tangle_same =
-      ap (count_below (λ v. 16 * (degree new.arcs v * degree new.arcs v))) nodes
-      ∙ count_below_same (λ v. 16 * (degree new.arcs v * degree new.arcs v))
-      (λ v. 16 * (degree net.arcs v * degree net.arcs v)) net.nodes
+  tangle_same = ap (count_below (λ v. 16 * (degree new.arcs v * degree new.arcs v))) nodes ∙ count_below_same
+      (λ v. 16 * (degree new.arcs v * degree new.arcs v)) (λ v. 16 * (degree net.arcs v * degree net.arcs v)) net.nodes
       (λ v l. ap (λ (d : ℕ). 16 * (d * d)) (degree_same v))
 
   -- Equal entries have equal sums.
   pub sums_same : (x y : ℕ → ℤ) (plus : Bool) (v : ℕ) → ((k : ℕ) → k < length net.arcs → x k ≡ y k)
       → side_sum new.arcs x plus v ≡ side_sum net.arcs y plus v
-  sums_same x y plus v equal =
-      ap (total_below (λ k. put (x k) (ends (arc_at new.arcs k)))) long
-      ∙ total_below_same (λ k. put (x k) (ends (arc_at new.arcs k))) (λ k. put (y k) (ends (arc_at net.arcs k)))
-      (length net.arcs)
+  sums_same x y plus v equal = ap (total_below (λ k. put (x k) (ends (arc_at new.arcs k)))) long ∙ total_below_same
+      (λ k. put (x k) (ends (arc_at new.arcs k))) (λ k. put (y k) (ends (arc_at net.arcs k))) (length net.arcs)
       (λ k l. ap (λ z. put z (ends (arc_at new.arcs k))) (equal k l) ∙ ap (put (y k)) (same k l))
     where
       put : (z : ℤ) (es : List End) → ℤ

@@ -23,8 +23,7 @@ one_below : (u n : ℕ) → count_below (λ v. cond (u == v) 1 0) n ≤ 1
 one_below u zero = omega arith
 one_below u (suc n) = elim (cases_eq u n) [
   | inl e ↦
-      let none : count_below (λ v. cond (u == v) 1 0) n ≡ 0 =
-      count_below_none (λ v. cond (u == v) 1 0) n
+      let none : count_below (λ v. cond (u == v) 1 0) n ≡ 0 = count_below_none (λ v. cond (u == v) 1 0) n
       (λ v l. ap (λ (b : Bool). cond b 1 0) (ne_eqb u v (λ s. omega (arith, s, e)))) in
       let here : ◌≡◌ {A = ℕ} (cond (u == n) 1 0) 1 = ap (λ (b : Bool). cond b 1 0) (eq-eqb u n e) in
       omega (arith, none, here)
@@ -77,8 +76,7 @@ tangle_small net few = omega (arith, each, times, degrees_few net.arcs net.nodes
 
     each : tangle_number net ≤ count_below (λ v. 2 ^ 28 * degree net.arcs v) net.nodes
     each = count_below_le (λ v. 16 * (degree net.arcs v * degree net.arcs v)) (λ v. 2 ^ 28 * degree net.arcs v)
-        net.nodes
-        (λ v l. square (degree net.arcs v) (omega (arith, degree_few net.arcs v)))
+        net.nodes (λ v l. square (degree net.arcs v) (omega (arith, degree_few net.arcs v)))
 
     times : count_below (λ v. 2 ^ 28 * degree net.arcs v) net.nodes ≡ 2 ^ 28 * count_below (degree net.arcs) net.nodes
     times = count_below_times (2 ^ 28) (degree net.arcs) net.nodes

@@ -89,9 +89,8 @@ pub runs_short : (t : TMesh) → IsSomeLayout (plan t)
     → All (λ (run : TArc). length run.darts.items < 2 ^ 32) t.arcs.items
 runs_short t is k d l =
     let low : k < length (plan t).arcs = omega (arith, l, length-map t.arcs.items path) in
-    let long : long_at (plan t).arcs k ≡ length (get_or t.arcs.items k d).darts.items =
-    ap (λ (p : Path). length p.darts) (get_or-map path t.arcs.items k d (record { first = 0; last = 0; darts = [] })
-    l) in
+    let long : long_at (plan t).arcs k ≡ length (get_or t.arcs.items k d).darts.items = ap
+    (λ (p : Path). length p.darts) (get_or-map path t.arcs.items k d (record { first = 0; last = 0; darts = [] }) l) in
     omega (
       arith,
       long,

@@ -93,8 +93,7 @@ module _ {soup : FaceSet} {lines : Lines} {all i : ℕ} {wishes : List ℕ} (kno
     each d l = rw none_left at (known.wishes d l)
 
     pub at_last : all ≡ vertex_line_count lines → wishes_of soup lines ≡ Ok wishes
-    at_last count =
-        rw (← count, ← known.fails, none_left, listed) refl
+    at_last count = rw (← count, ← known.fails, none_left, listed) refl
       where
         listed : edge_wishes soup.faces (all_wished soup.names lines) ≡ wishes
         listed =

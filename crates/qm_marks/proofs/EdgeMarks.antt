@@ -83,8 +83,7 @@ module _ (faces : Faces) (m : IsManifold faces) where
       refuted ne other (inl e) = other e
       refuted ne other (inr tw) = ne (m.edges_once x t lx is.0 (tw.1 ∙ sym is.1, tw.2 ∙ sym is.2))
 
-      at_other : x ≢ t → x ≢ d
-          → is_on new x ≡ (is_on marks x
+      at_other : x ≢ t → x ≢ d → is_on new x ≡ (is_on marks x
           || (is_some (twin_of faces x) && runs_between faces (from_of faces d) (to_of faces d) x))
       at_other ne other =
           let off : (is_some (twin_of faces x) && runs_between faces (from_of faces d) (to_of faces d) x) ≡ false =
@@ -131,10 +130,8 @@ all_more : (p : ℕ → Bool) (n : ℕ) → list_all p (range_with_len 0 (n + 1)
 all_more p n = rw (range_more n, list_all-append p (range_with_len 0 n) (n ∷ []), and-true (p n)) refl
 
 pub chain_more : (faces : Faces) (chain : List ℕ) (old now new : List Bool) (n : ℕ) → IsChainTo faces chain old now n
-    → length new ≡ darts faces
-    → is_edge faces (link_at chain n) (link_at chain (n + 1)) ≡ true
-    → ((d : ℕ) → d < darts faces
-    → is_on new d ≡ (is_on now d
+    → length new ≡ darts faces → is_edge faces (link_at chain n) (link_at chain (n + 1)) ≡ true
+    → ((d : ℕ) → d < darts faces → is_on new d ≡ (is_on now d
     || (is_some (twin_of faces d) && runs_between faces (link_at chain n) (link_at chain (n + 1)) d)))
     → IsChainTo faces chain old new (n + 1)
 chain_more faces chain old now new n to long edge step = record {

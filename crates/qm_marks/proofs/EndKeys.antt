@@ -24,11 +24,9 @@ sorted_are faces few old keys are moved rising = record { rising = rising; each 
 
     each : (k : ℕ) → k < length keys → (d : ℕ) × (d < darts faces) × (get_or keys k 0 ≡ dart_key faces d)
     each k l =
-        let c : Contains old (get_or keys k 0) =
-        Contains-permutation keys old (get_or keys k 0) (IsPermutation-sym old keys moved)
-        (Contains-get_or keys k 0 l) in
-        let at = at_from_Contains (map (dart_key faces) busy) (get_or keys k 0)
-        (rw are at c) in
+        let c : Contains old (get_or keys k 0) = Contains-permutation keys old (get_or keys k 0)
+        (IsPermutation-sym old keys moved) (Contains-get_or keys k 0 l) in
+        let at = at_from_Contains (map (dart_key faces) busy) (get_or keys k 0) (rw are at c) in
         by_place at.0 (omega (arith, at.1, length-map busy (dart_key faces))) (at.2 0)
       where
         by_place : (t : ℕ) → t < length busy → get_or (map (dart_key faces) busy) t 0 ≡ get_or keys k 0
@@ -111,8 +109,7 @@ module _ (faces : Faces) (few : ℕ) (keys : List ℕ) (are : AreEnds faces few 
 pub keys_on : (faces : Faces) (few d key : ℕ) → is_busy faces few d ≡ true → key ≡ dart_key faces d
     → map (dart_key faces) (filter (is_busy faces few) (range_with_len 0 (d + 1)))
     ≡ map (dart_key faces) (filter (is_busy faces few) (range_with_len 0 d)) ++ key ∷ []
-keys_on faces few d key on is =
-    rw (filter_range_more (is_busy faces few) d, on, is)
+keys_on faces few d key on is = rw (filter_range_more (is_busy faces few) d, on, is)
     (map-append (dart_key faces) (filter (is_busy faces few) (range_with_len 0 d)) (d ∷ []))
 
 pub keys_off : (faces : Faces) (few d : ℕ) → is_busy faces few d ≡ false

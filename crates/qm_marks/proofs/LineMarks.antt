@@ -29,8 +29,7 @@ pub record IsLeft (soup : FaceSet) (mesh : Faces) (all : List Placed) (rest : Li
   pub reads : IsReading soup mesh reader
   pub left : reader.before + count_by is_vertex_line rest ≡ reader.all
   pub fails : flat_map (line_fails soup) (placed_lines reader.all reader.before rest) ≡ flat_map (line_fails soup) all
-  pub marks : (d : ℕ) → d < darts soup.faces
-      → (is_on reader.marks.items d
+  pub marks : (d : ℕ) → d < darts soup.faces → (is_on reader.marks.items d
       || (is_some (twin_of soup.faces d) && is_said soup (placed_lines reader.all reader.before rest) d))
       ≡ is_along_chains soup.faces (map (line_chain soup) all) d
 

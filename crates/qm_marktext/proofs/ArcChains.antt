@@ -150,9 +150,8 @@ inner_more before k some =
 -- The parts of a line, put one behind another.
 parts_are : (text front inner last : Bytes) → (((text ++ LINE ∷ front) ++ inner) ++ last) ++ LINE_FEED ∷ []
     ≡ text ++ (LINE ∷ (front ++ (inner ++ (last ++ []))) ++ LINE_FEED ∷ [])
-parts_are [] front inner last =
-    ap (λ (xs : Bytes). LINE ∷ xs ++ LINE_FEED ∷ []) (append_assoc front inner last
-    ∙ ap (λ (xs : Bytes). front ++ (inner ++ xs)) (sym (append-nil last)))
+parts_are [] front inner last = ap (λ (xs : Bytes). LINE ∷ xs ++ LINE_FEED ∷ [])
+    (append_assoc front inner last ∙ ap (λ (xs : Bytes). front ++ (inner ++ xs)) (sym (append-nil last)))
 parts_are (t ∷ text) front inner last = ap (λ (xs : Bytes). t ∷ xs) (parts_are text front inner last)
 
 -- The whole line.

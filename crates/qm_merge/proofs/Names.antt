@@ -87,8 +87,7 @@ module _ {mesh : HalfEdges} (laws : IsQuadManifold mesh) {cut : Cut} (full : IsC
 
   -- No joinable arc has a name that none has which begins at its start.
   pub none_named : (start : ℕ) {name : ℕ} → ((t n : ℕ) → IsJoinable mesh cut start t n → IsNameOf mesh start t n name
-      → ⊥)
-      → {s t n : ℕ} → IsJoinable mesh cut s t n → IsNameOf mesh s t n name → (start ≡ s) ⊎ (start ≡ t) → ⊥
+      → ⊥) → {s t n : ℕ} → IsJoinable mesh cut s t n → IsNameOf mesh s t n name → (start ≡ s) ⊎ (start ≡ t) → ⊥
   none_named start none {t} {n} arc named (inl e) = none t n (rw e arc) (rw e named)
   none_named start {name} none {s} {t} {n} arc named (inr e) = none s n (rw e (turned_arc mesh laws cut full s t n arc))
       (rw e (name_other mesh s t n name named))

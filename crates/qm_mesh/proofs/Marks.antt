@@ -154,8 +154,7 @@ pub pair_more : (faces : Faces) (v : ℕ) (fan : List ℕ) (i : ℕ) (old now : 
     → ArePairedBefore faces v fan i old now → ArePairedBefore faces v fan (i + 1) old (set now e t)
 pair_more faces v fan i old now e t is_prev low ends is b = record {
   each = λ s k. at s (last_or i s k);
-  others =
-      others;
+  others = others;
 }
   where
     here : (d : ℕ) → d ≡ e → IsPartner faces d (get_or (set now e t) d 0)
@@ -187,8 +186,7 @@ fewer faces v m n l none j k less below start same = none j k less (omega arith)
 -- One vertex more.
 one_more : (faces : Faces) (v top : ℕ) → ((u : ℕ) → u < v → NoneTwice faces u top) → NoneTwice faces v top → (u : ℕ)
     → u < v + 1 → NoneTwice faces u top
-one_more faces v top before here u l =
-    elim (last_or v u l) [ inl b ↦ before u b | inr s ↦ rw s here ]
+one_more faces v top before here u l = elim (last_or v u l) [ inl b ↦ before u b | inr s ↦ rw s here ]
 
 pub lesser_first : (faces : Faces) (v : ℕ) (a b c : Option Doubled) → IsFirstBelow faces v a → IsFirstAt faces v b
     → IsEarlier a b c → IsFirstBelow faces (v + 1) c
@@ -200,8 +198,7 @@ lesser_first faces v None (Some q) c below here e = rw e (
 )
 lesser_first faces v (Some p) None c below here e = rw e (
   below.0,
-  one_more faces v p.later below.1
-      (fewer faces v (darts faces) p.later (omega (arith, below.0.is_dart)) here),
+  one_more faces v p.later below.1 (fewer faces v (darts faces) p.later (omega (arith, below.0.is_dart)) here),
 )
 lesser_first faces v (Some p) (Some q) c below here (inl e) = rw e.1
     (here.0, one_more faces v q.later (λ u l. fewer faces u p.later q.later (omega (arith, e.0)) (below.1 u l)) here.1)

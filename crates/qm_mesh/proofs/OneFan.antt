@@ -30,8 +30,7 @@ module _ {faces : Faces} {twins : List ℕ} (p : ArePartners faces twins) where
       ]
   beside_found false d e l b = by_partner (get_or twins d 0) (p.each d l) b
     where
-      by_partner : (t : ℕ) → IsPartner faces d t → behind false d t ≡ Some e
-          → Step faces false d e × (e < darts faces)
+      by_partner : (t : ℕ) → IsPartner faces d t → behind false d t ≡ Some e → Step faces false d e × (e < darts faces)
       by_partner t (inr none) b = absurd (cc (rw (eq-eqb t d none.0) at b))
       by_partner t (inl is) b = elim (cases_Bool (eqb t d)) [
         | inl q ↦ absurd (cc (rw q at b))
@@ -104,8 +103,7 @@ module _ {faces : Faces} {twins : List ℕ} {v first : ℕ} {old new : List Bool
     where
       by_side : (k : ℕ) → k < darts faces → e < darts faces → (left : Bool) → Step faces left k e
           → IsClosed left twins new k ⊎ IsBehind (not left) twins new k → IsSeen new e
-      by_side k low high left s (inl closed) =
-          closed e (beside_all w.partners w.once w.free left k e low high s)
+      by_side k low high left s (inl closed) = closed e (beside_all w.partners w.once w.free left k e low high s)
       by_side k low high left s (inr h) = by_other h.0 h.1 h.2
         where
           by_other : (c : ℕ) → IsSeen new c → beside_of (not left) twins c ≡ Some k → IsSeen new e
@@ -186,8 +184,7 @@ module _ {faces : Faces} {twins : List ℕ} {v : ℕ} {fan : List ℕ} {old new 
       by_vertex u (inr e) = rw e (one_fan_from w each)
 
   -- A vertex with more.
-  pub two_fans_first : (t : ℕ) × (t < length fan) × (get_or new (get_or fan t 0) false ≡ false)
-      → IsFirstTwoFans faces v
+  pub two_fans_first : (t : ℕ) × (t < length fan) × (get_or new (get_or fan t 0) false ≡ false) → IsFirstTwoFans faces v
   two_fans_first t = record {
     two_fans = two_fans_from w (get_or fan t.0 0) (h.dart t.0 t.1) (h.leaves t.0 t.1) t.2;
     least = c.one_fan;

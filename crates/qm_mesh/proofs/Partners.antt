@@ -9,8 +9,7 @@ use Rattle.mesh_laws.proofs.{Chains.ends_differ, Twins.twin_found, Twins.twin_no
 -- What the table has for a dart.
 pub partner_is : (faces : Faces) → IsRepeatFree faces → HasEdgesOnce faces → (d t : ℕ) → d < darts faces
     → IsPartner faces d t → twin_of faces d ≡ cond (eqb t d) None (Some t)
-partner_is faces free once d t l (inl is) = twin_found faces once d t is
-    ∙ sym (ap (λ b. cond b None (Some t))
-    (ne_eqb t d (λ s. ends_differ faces free d l (ap (from_of faces) (sym s) ∙ is.1))))
+partner_is faces free once d t l (inl is) = twin_found faces once d t is ∙ sym
+    (ap (λ b. cond b None (Some t)) (ne_eqb t d (λ s. ends_differ faces free d l (ap (from_of faces) (sym s) ∙ is.1))))
 partner_is faces free once d t l (inr none) = twin_none faces d none.1
     ∙ sym (ap (λ b. cond b None (Some t)) (eq-eqb t d none.0))

@@ -42,9 +42,8 @@ corners_from faces four n used v l = by_face (Any-from_list_any (λ face. list_a
     by_corner : (f : ℕ) → f < length faces → Any (λ u. eqb u v ≡ true) (get_or faces f []) → 0 < faces_at faces v
     by_corner f low (i, u, m, is, t) =
         let four_long : length (get_or faces f []) ≡ 4 = four f low in
-        let e : from_of faces (4 * f + i) ≡ v = ap (λ g. corner faces g ((4 * f + i) % 4)) (omega arith)
-        ∙ ap (corner faces f) (omega arith) ∙ get_or_default (get_or faces f []) i 0 u (omega arith) ∙ is
-        ∙ eqb-true u v t in
+        let e : from_of faces (4 * f + i) ≡ v = ap (λ g. corner faces g ((4 * f + i) % 4)) (omega arith) ∙ ap
+        (corner faces f) (omega arith) ∙ get_or_default (get_or faces f []) i 0 u (omega arith) ∙ is ∙ eqb-true u v t in
         let p : (t : ℕ) × (t < length (fan_of faces v)) × (get_or (fan_of faces v) t 0 ≡ 4 * f + i) =
         (is_fan faces v (fan_of faces v) refl).place (4 * f + i) (omega arith) e in
         omega (arith, p.1)

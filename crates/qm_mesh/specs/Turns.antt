@@ -1,28 +1,6 @@
 -- Turning from corner to corner round a vertex, by the table of partners alone.
-use Rattle.std.specs.Prelude.{
-  ◌≡◌,
-  ◌⊎◌,
-  ℕ,
-  zero,
-  suc,
-  ◌%◌,
-  ◌*◌,
-  ◌<◌,
-  ◌≤◌,
-  length,
-  Bool,
-  true,
-  false,
-  cond,
-  not,
-  ◌==◌,
-  List,
-  slice_index,
-  slice_index_or,
-  Option,
-  Some,
-  None,
-}
+use Rattle.std.specs.Prelude.{◌≡◌, ◌⊎◌, ℕ, zero, suc, ◌%◌, ◌*◌, ◌<◌, ◌≤◌, length, Bool, true, false, cond, not, ◌==◌}
+use Rattle.std.specs.Prelude.{List, slice_index, slice_index_or, Option, Some, None}
 use Rattle.def_mesh.specs.Darts.{next_of, prev_of}
 use Rattle.def_mesh.specs.declared.TheConstants.{MAX_FACES}
 

@@ -21,22 +21,18 @@ module _ (faces : Faces) (places : Positions) (laws : IsQuadManifold (half_edges
   abbrev Inside : (path : List ℕ) → Type 0
   Inside path = All (λ (d : ℕ). d < darts faces) path
 
-  path_table : (path table : List ℕ) → IsTable faces table
-      → IsTable faces (with_path faces places table path)
-  path_table path table is =
-      fold_keeps (with_edge faces places) (IsTable faces) table path
+  path_table : (path table : List ℕ) → IsTable faces table → IsTable faces (with_path faces places table path)
+  path_table path table is = fold_keeps (with_edge faces places) (IsTable faces) table path
       (λ k d b low kept. edge_table faces places laws b (get_or path k d) kept) is
 
   path_stays : (path table : List ℕ) (c : ℕ) → Inside path → Stands faces places c table
       → Stands faces places c (with_path faces places table path)
-  path_stays path table c inside is =
-      fold_keeps (with_edge faces places) (Stands faces places c) table path
+  path_stays path table c inside is = fold_keeps (with_edge faces places) (Stands faces places c) table path
       (λ k d b low kept. edge_stays faces places laws b (get_or path k d) c (inside k d low) kept) is
 
   -- The length stands at each dart of the edges of a path.
-  path_put : (path table : List ℕ) (k c : ℕ) → Inside path → k < length path
-      → AreOfOne faces (slice_index path k) c → IsTable faces table
-      → Stands faces places c (with_path faces places table path)
+  path_put : (path table : List ℕ) (k c : ℕ) → Inside path → k < length path → AreOfOne faces (slice_index path k) c
+      → IsTable faces table → Stands faces places c (with_path faces places table path)
   path_put path table k c inside low touches is =
       fold_makes (with_edge faces places) (IsTable faces) (Stands faces places c) table path k
       low
@@ -47,8 +43,7 @@ module _ (faces : Faces) (places : Positions) (laws : IsQuadManifold (half_edges
       is
 
   -- At another dart nothing changes.
-  path_off : (path table : List ℕ) (c : ℕ)
-      → ((k : ℕ) → k < length path → ¬ AreOfOne faces (slice_index path k) c)
+  path_off : (path table : List ℕ) (c : ℕ) → ((k : ℕ) → k < length path → ¬ AreOfOne faces (slice_index path k) c)
       → slice_index table c ≡ 0 → slice_index (with_path faces places table path) c ≡ 0
   path_off path table c off is =
       fold_keeps (with_edge faces places) (λ (t : List ℕ). slice_index t c ≡ 0) table path
@@ -87,10 +82,9 @@ module _ (faces : Faces) (places : Positions) (laws : IsQuadManifold (half_edges
     filled = with_arcs faces places (replicate (darts faces) 0) arcs
 
     table : IsTable faces filled
-    table =
-        fold_keeps (λ (t : List ℕ) (arc : TArc). with_path faces places t arc.darts.items) (IsTable faces)
-        (replicate (darts faces) 0) arcs
-        (λ k arc b low kept. path_table (get_or arcs k arc).darts.items b kept) (length-replicate (darts faces) 0)
+    table = fold_keeps (λ (t : List ℕ) (arc : TArc). with_path faces places t arc.darts.items) (IsTable faces)
+        (replicate (darts faces) 0) arcs (λ k arc b low kept. path_table (get_or arcs k arc).darts.items b kept)
+        (length-replicate (darts faces) 0)
 
     -- A dart of the cut has its length.
     filled_on : (c : ℕ) → c < darts faces → is_on marks c ≡ true → slice_index filled c ≡ edge_length faces places c

@@ -41,8 +41,7 @@ module _ (faces : Faces) (places : Positions) (laws : IsQuadManifold (half_edges
     )
   ]
 
-  dart_off : (table : List ℕ) (d c : ℕ) → d ≢ c
-      → slice_index (with_dart faces places table d) c ≡ slice_index table c
+  dart_off : (table : List ℕ) (d c : ℕ) → d ≢ c → slice_index (with_dart faces places table d) c ≡ slice_index table c
   dart_off table d c ne = get_or-set_other table d c (edge_length faces places d) 0 (λ e. ne (sym e))
 
   -- What the darts of an edge do.
@@ -65,15 +64,13 @@ module _ (faces : Faces) (places : Positions) (laws : IsQuadManifold (half_edges
 
   pub edge_put : (table : List ℕ) (d c : ℕ) → d < darts faces → AreOfOne faces d c → IsTable faces table
       → Stands faces places c (with_edge faces places table d)
-  edge_put table d c low (inl same) is =
-      subst (λ (e : ℕ). Stands faces places e (with_edge faces places table d)) same
+  edge_put table d c low (inl same) is = subst (λ (e : ℕ). Stands faces places e (with_edge faces places table d)) same
       (by (twin_of faces d) (λ e found. laws.twin_low d e low found))
     where
       by : (twin : Option ℕ) → ((e : ℕ) → twin ≡ Some e → e < darts faces)
           → Stands faces places d (with_twin faces places (with_dart faces places table d) twin)
       by None inside = dart_put table d low is
-      by (Some e) inside =
-          dart_stays (with_dart faces places table d) e d (inside e refl) (dart_put table d low is)
+      by (Some e) inside = dart_stays (with_dart faces places table d) e d (inside e refl) (dart_put table d low is)
   edge_put table d c low (inr twin) is =
       subst (λ (o : Option ℕ). Stands faces places c (with_twin faces places (with_dart faces places table d) o))
       (sym twin)
@@ -86,6 +83,5 @@ module _ (faces : Faces) (places : Positions) (laws : IsQuadManifold (half_edges
       by : (twin : Option ℕ) → (twin ≢ Some c)
           → slice_index (with_twin faces places (with_dart faces places table d) twin) c ≡ slice_index table c
       by None ne = dart_off table d c (λ is. off (inl is))
-      by (Some e) ne =
-          dart_off (with_dart faces places table d) e c (λ is. ne (ap Some is))
-          ∙ dart_off table d c (λ is. off (inl is))
+      by (Some e) ne = dart_off (with_dart faces places table d) e c (λ is. ne (ap Some is)) ∙ dart_off table d c
+          (λ is. off (inl is))

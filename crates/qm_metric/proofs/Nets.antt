@@ -49,8 +49,7 @@ settings_fit fit is =
       q_low = scale.2;
       q_high = scale.3;
       floor_low = is.floor.low;
-      floor_high =
-          is.floor.high;
+      floor_high = is.floor.high;
     }
   where
     by_aim : (aim : Aim) → IsAim aim → (1 ≤ numerator aim) × (numerator aim ≤ 1000) × (1 ≤ denominator aim)
@@ -105,8 +104,7 @@ module _ (t : TMesh) (f : List ℕ → ℕ) (settings : Settings) (lies : IsSome
         part k l = omega (arith, part_low (along f (plan t)) k (length (plan t).arcs) (inner k l))
 
         entry : (k : ℕ) → k < length net.arcs → slice_index wishes k ≡ along f (plan t) k
-        entry k l =
-            ap (λ (ws : List ℕ). slice_index ws k) are ∙ whole_entry f (2 ^ 32 - 1) t.arcs.items k (inner k l)
+        entry k l = ap (λ (ws : List ℕ). slice_index ws k) are ∙ whole_entry f (2 ^ 32 - 1) t.arcs.items k (inner k l)
             (omega (arith, few))
 
         exact : HasWishes net (along f (plan t)) new

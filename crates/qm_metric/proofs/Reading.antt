@@ -66,6 +66,5 @@ times_same times (run ∷ runs) = ap (λ (ns : List ℕ). times * length run.dar
 pub entry_more : (g : TArc → ℕ) (runs : List TArc) (i : ℕ) (d : TArc) (xs new : List ℕ) (n : ℕ) → i < length runs
     → xs ≡ map g (take i runs) → n ≡ g (get_or runs i d)
     → new ≡ xs ++ n ∷ [] → new ≡ map g (take (i + 1) runs)
-entry_more g runs i d xs new n low before here pushed =
-    pushed ∙ (λ j. before j ++ here j ∷ []) ∙ sym (map-append g (take i runs) (get_or runs i d ∷ []))
-    ∙ sym (ap (map g) (take_more runs i d low))
+entry_more g runs i d xs new n low before here pushed = pushed ∙ (λ j. before j ++ here j ∷ []) ∙ sym
+    (map-append g (take i runs) (get_or runs i d ∷ [])) ∙ sym (ap (map g) (take_more runs i d low))

@@ -65,8 +65,7 @@ module _
       (entries xs)).1 (record {
         across = λ p low. along p south low ∙ (ap (λ n. pos (times * n)) (sym (len.across p low))
             ∙ sym (along p north low));
-        upright = λ p low. along p east low ∙ (ap (λ n. pos (times * n)) (len.upright p low)
-            ∙ sym (along p west low));
+        upright = λ p low. along p east low ∙ (ap (λ n. pos (times * n)) (len.upright p low) ∙ sym (along p west low));
       })
 
   arc_low : (k : ℕ) → k < length net.arcs → k < length plan.arcs
@@ -75,8 +74,7 @@ module _
   -- No length is below the floor of its arc.
   tall : (k : ℕ) → k < length net.arcs → pos (arc_at net.arcs k).floor ≤ℤ entries xs k
   tall k low =
-      let some : times * 1 ≤ times * x k =
-      mul-le-mul_left times (len.some k (arc_low k low)) in
+      let some : times * 1 ≤ times * x k = mul-le-mul_left times (len.some k (arc_low k low)) in
       rw (entry k (arc_low k low)) (omega (arith, ints, some, mul-one times, (above k low).0))
 
   -- How far an arc is from its wish.
@@ -84,13 +82,11 @@ module _
       ≤ 1000 * (3000 * x k + wish plan k)
   far k low =
       let inner : k < length plan.arcs = arc_low k low in
-      let same : arc_deviation net (arc_at net.arcs k) (entries xs k)
-      ≡ weight_of settings.weight (x k) * unsigned_abs (pos 1000 *ℤ pos (times * x k) -ℤ pos
-      (1 * wish plan k)) =
+      let same : arc_deviation net (arc_at net.arcs k) (entries xs k) ≡ weight_of settings.weight (x k) * unsigned_abs
+      (pos 1000 *ℤ pos (times * x k) -ℤ pos (1 * wish plan k)) =
       (λ i. is.is.weights k inner i * unsigned_abs (pos ((is.is.q ∙ parts) i) *ℤ entry k inner i -ℤ pos
       ((is.is.p ∙ unit) i * is.is.olds k inner i))) in
-      let high : times * x k ≤ 3 * x k =
-      mul-le-mul_right (x k) (above k low).1 in
+      let high : times * x k ≤ 3 * x k = mul-le-mul_right (x k) (above k low).1 in
       let few : unsigned_abs (pos 1000 *ℤ pos (times * x k) -ℤ pos (1 * wish plan k))
       ≤ 3000 * x k + wish plan k = omega (arith, ints, high) in
       let both = mul-le (weight_of settings.weight (x k))

@@ -97,8 +97,7 @@ weighed_arc_read first a x bs j l = by_right a.right
       arith,
       ints,
       one,
-      weighed_read first e x (weighed first a.left x bs) j
-          (omega (arith, weighed_length first a.left x bs)),
+      weighed_read first e x (weighed first a.left x bs) j (omega (arith, weighed_length first a.left x bs)),
     )
 
 -- What one more arc puts on both sides of a node.
@@ -142,8 +141,7 @@ balances_more arcs xs first k bs short are = record {
   each = λ j l. omega (
     arith,
     ints,
-    weighed_arc_read first (arc_at arcs k) (slice_index xs k) bs j
-        (omega (arith, are.count)),
+    weighed_arc_read first (arc_at arcs k) (slice_index xs k) bs j (omega (arith, are.count)),
     are.each j l,
     sides_more arcs xs (first + j) k,
   );
@@ -173,8 +171,7 @@ pub balances_none : (arcs : List Arc) (xs : List ℕ) (first : ℕ) (bs : List �
     → AreBalances arcs xs first 0 bs
 balances_none arcs xs first bs is = record {
   count = ap length is ∙ length-replicate 2048 (pos 0);
-  each =
-      λ j l. zeros j;
+  each = λ j l. zeros j;
   small = λ j. omega (arith, ap unsigned_abs (zeros j));
 }
   where
@@ -207,8 +204,7 @@ pub balanced_everywhere : (net : Network) → IsWithinBounds net → (xs : List 
     → IsBlockBalanced net.arcs xs 0 end → IsBalanced net.arcs (entries xs)
 balanced_everywhere net within xs end far block v = elim (cases_lt v end) [
   | inl l ↦ block v (omega arith) l
-  | inr h ↦ no_side_past net within xs true v (omega arith)
-      ∙ sym (no_side_past net within xs false v (omega arith))
+  | inr h ↦ no_side_past net within xs true v (omega arith) ∙ sym (no_side_past net within xs false v (omega arith))
 ]
 
 -- Balances are all zero exactly if the block is balanced.
@@ -218,9 +214,8 @@ pub balanced_by_zeros : (arcs : List Arc) (xs : List ℕ) (first : ℕ) (bs : Li
 balanced_by_zeros arcs xs first bs are on v low high =
     let place : first + (v - first) ≡ v = omega arith in
     let inner : v - first < 2048 = omega arith in
-    let zero_there : get_or bs (v - first) (pos 0) ≡ pos 0 =
-    (Decides-int_eq (get_or bs (v - first) (pos 0)) (pos 0)).0 (AllPass-from_list_all (λ z. int_eq z (pos 0)) bs on
-    (v - first) (pos 0) (omega (arith, are.count))) in
+    let zero_there : get_or bs (v - first) (pos 0) ≡ pos 0 = (Decides-int_eq (get_or bs (v - first) (pos 0)) (pos 0)).0
+    (AllPass-from_list_all (λ z. int_eq z (pos 0)) bs on (v - first) (pos 0) (omega (arith, are.count))) in
     let sums : get_or bs (v - first) (pos 0) ≡ side_sum arcs (entries xs) true v -ℤ side_sum arcs (entries xs) false v =
     are.each (v - first) inner ∙ ap (λ i. side_sum arcs (entries xs) true i -ℤ side_sum arcs (entries xs) false i)
     place in

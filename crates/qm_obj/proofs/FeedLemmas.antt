@@ -130,8 +130,7 @@ module _ {old : KeptText} (sound : IsSound old) (some : 0 < length old.joined) w
 -- The lines of a text behind what is kept of it, where the line ends in this piece.
 fed_lines : (tail prefix more : Bytes) → list_any is_line_feed tail ≡ false → list_any is_line_feed prefix ≡ false
     → lines_of (tail ++ ((prefix ++ 10 ∷ []) ++ more)) ≡ line_of (tail ++ prefix) ∷ lines_of more
-fed_lines tail prefix more none off =
-    rw (append_assoc prefix (10 ∷ []) more, ← append_assoc tail prefix (10 ∷ more))
+fed_lines tail prefix more none off = rw (append_assoc prefix (10 ∷ []) more, ← append_assoc tail prefix (10 ∷ more))
     (lines_fed (tail ++ prefix) more (list_any-append is_line_feed tail prefix ∙ or_from _ _ none off))
 
 module _ {old : KeptText} (sound : IsSound old) where

@@ -94,9 +94,8 @@ few_behind v f (line ∷ lines) few none =
     let nones : (refusal_in said ≡ []) × (flat_map refusal_in behind ≡ []) = parts_none _ _ none in
     let one : length (position_in said) ≡ cond (is_vertex_line line) 1 0 = fits.vertex nones.0 in
     let fewer : v + length (position_in said) ≤ 2 ^ 21 = fits.few_vertices few in
-    let again : v + cond (is_vertex_line line) 1 0 + length (positions behind) ≤ 2 ^ 21 =
-    few_behind (v + cond (is_vertex_line line) 1 0) (f + cond (is_face_line line) 1 0) lines (omega arith)
-    nones.1 in
+    let again : v + cond (is_vertex_line line) 1 0 + length (positions behind) ≤ 2 ^ 21 = few_behind
+    (v + cond (is_vertex_line line) 1 0) (f + cond (is_face_line line) 1 0) lines (omega arith) nones.1 in
     let many : length (position_in said ++ positions behind) ≡ length (position_in said) + length (positions behind) =
     length-append (position_in said) (positions behind) in
     omega (arith, again, one, many)
@@ -234,9 +233,8 @@ pub stops_at : (p : Positions) (c : Faces) (l : List ℕ) (line : Logical) (rest
     → length l ≡ length c → next_said p c line ≡ Refused fail
     → soup_of ((map (λ position. Position position) p ++ face_readings l c) ++ readings_behind (length p) (length c)
     (line ∷ rest)) ≡ Err fail
-stops_at p c l line rest sizes is =
-    kept_soup_is p c l (readings_behind (length p) (length c) (line ∷ rest)) sizes
-    ∙ rw (refused_clamped (reading (length p) (length c) line) _ is) refl
+stops_at p c l line rest sizes is = kept_soup_is p c l (readings_behind (length p) (length c) (line ∷ rest)) sizes ∙ rw
+    (refused_clamped (reading (length p) (length c) line) _ is) refl
 
 -- What all lines together say, where nothing was kept.
 readings_by_counts : (before lines : List Logical) → readings before lines
@@ -268,8 +266,7 @@ module _ {p : Positions} {c : Faces} {l : List ℕ} (old : Fits p c l) where
       → IfOk r (λ s. soup_of (map (λ position. Position position) p ++ face_readings l c) ≡ Ok s)
   finished_soup r = IfOk-weaker r _ _ (λ s (is : (first_late (length p) c l ≡ None) × (s ≡ face_set p c)).
       nothing_behind ∙ rw (
-        late_none (length p) (face_readings l c)
-            (rw (faces_said l c old.sizes, faces_lined l c old.sizes) is.0),
+        late_none (length p) (face_readings l c) (rw (faces_said l c old.sizes, faces_lined l c old.sizes) is.0),
         is.1,
       ) refl)
 

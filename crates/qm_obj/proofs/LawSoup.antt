@@ -77,9 +77,8 @@ near position is k d l =
 
 position_words : (position : List ℤ) → is_position position ≡ true → (k : ℕ) → k < length (map micro_text position)
     → IsWord (get_or (map micro_text position) k [])
-position_words position is =
-    each_map IsWord micro_text position (pos 0) [] (λ k l. micro_word (get_or position k (pos 0))
-    (near position is k (pos 0) l))
+position_words position is = each_map IsWord micro_text position (pos 0) []
+    (λ k l. micro_word (get_or position k (pos 0)) (near position is k (pos 0) l))
 
 record PositionBack (position : List ℤ) : Type 0 where
   right : list_all is_decimal (map micro_text position) ≡ true
@@ -160,8 +159,7 @@ record FaceBack (vertices : ℕ) (face : List ℕ) : Type 0 where
   inside : list_any (λ w. is_out vertices (used_index w)) (map vertex_word face) ≡ false
   same : map (λ w. resolved vertices (used_index w)) (map vertex_word face) ≡ map (λ v. v + 1) face
 
-face_back : (vertices : ℕ) (face : List ℕ) → vertices ≤ 2 ^ 21 → are_below vertices face ≡ true
-    → FaceBack vertices face
+face_back : (vertices : ℕ) (face : List ℕ) → vertices ≤ 2 ^ 21 → are_below vertices face ≡ true → FaceBack vertices face
 face_back vertices [] few all = record { corners = refl; inside = refl; same = refl }
 face_back vertices (v ∷ vs) few all =
     let parts : (ltb v vertices ≡ true) × (are_below vertices vs ≡ true) = and_parts _ _ all in
@@ -316,9 +314,8 @@ soup_said ps fs n below =
     let said = map Position ps ++ faces_from n fs in
     let p : flat_map position_in said ≡ ps = flat_map-append position_in (map Position ps) (faces_from n fs)
     ∙ rw (positions_said ps, positions_of_faces n fs) (append-nil ps) in
-    let f : flat_map face_in said ≡ map (λ f. map (λ v. v + 1) f) fs =
-    flat_map-append face_in (map Position ps) (faces_from n fs)
-    ∙ rw (positions_silent face_in (λ _. refl) ps, faces_of_faces n fs) refl in
+    let f : flat_map face_in said ≡ map (λ f. map (λ v. v + 1) f) fs = flat_map-append face_in (map Position ps)
+    (faces_from n fs) ∙ rw (positions_silent face_in (λ _. refl) ps, faces_of_faces n fs) refl in
     let r : flat_map refusal_in said ≡ [] = flat_map-append refusal_in (map Position ps) (faces_from n fs)
     ∙ rw (positions_silent refusal_in (λ _. refl) ps, refusals_of_faces n fs) refl in
     let late = late_in (length ps) in
@@ -393,9 +390,8 @@ text_back s is =
     let behind : readings (plain_lines 1 ps) (plain_lines n fs) ≡ faces_from n s.faces =
     faces_said (length s.pos) (plain_lines 1 ps) n s.faces is.few_vertices (prefix.vertices ∙ omega arith) is.quads
     soup.in_range (omega (arith, prefix.no_faces)) in
-    let said : readings [] (logical_lines 1 lines) ≡ map Position s.pos ++ faces_from n s.faces =
-    ap (readings []) logical ∙ readings_append [] (plain_lines 1 ps) (plain_lines n fs)
-    ∙ rw (prefix.are, behind) refl in
+    let said : readings [] (logical_lines 1 lines) ≡ map Position s.pos ++ faces_from n s.faces = ap (readings [])
+    logical ∙ readings_append [] (plain_lines 1 ps) (plain_lines n fs) ∙ rw (prefix.are, behind) refl in
     let used : AllUsed named (length s.pos) = all_used_to s soup in
     let names : used_to named (length s.pos) ≡ numbers_to (length s.pos) = used.kept (length s.pos) (omega arith) in
     ap (text_soup 1) cut ∙ ap soup_of said ∙ soup_said s.pos s.faces n soup.in_range

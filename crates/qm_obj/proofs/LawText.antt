@@ -150,9 +150,8 @@ word_then b (c ∷ cs) rest plain ends =
 words_behind : (ws : Words) → AreWords ws → words (flat_map (λ w. 32 ∷ w) ws) ≡ ws
 words_behind [] each = refl
 words_behind ([] ∷ ws) each = absurd (omega (arith, (each 0 (omega arith)).some))
-words_behind ((b ∷ bs) ∷ ws) each =
-    word_then b bs (flat_map (λ w. 32 ∷ w) ws) (each 0 (omega arith)).plain (blank_next ws)
-    ∙ ap (λ rest. (b ∷ bs) ∷ rest) (words_behind ws (λ k l. each (suc k) (omega arith)))
+words_behind ((b ∷ bs) ∷ ws) each = word_then b bs (flat_map (λ w. 32 ∷ w) ws) (each 0 (omega arith)).plain
+    (blank_next ws) ∙ ap (λ rest. (b ∷ bs) ∷ rest) (words_behind ws (λ k l. each (suc k) (omega arith)))
 
 pub line_words : (letter : ℕ) (ws : Words) → is_blank letter ≡ false → AreWords ws
     → words (line_text letter ws) ≡ (letter ∷ []) ∷ ws
@@ -179,8 +178,7 @@ behind_short (w ∷ ws) each =
     omega (
       arith,
       length-append (32 ∷ w) (flat_map (λ w. 32 ∷ w) ws),
-      behind_short ws
-          (λ k l. each (suc k) (omega arith)),
+      behind_short ws (λ k l. each (suc k) (omega arith)),
     )
 
 pub record IsLine (line : List ℕ) : Type 0 where

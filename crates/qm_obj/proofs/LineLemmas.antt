@@ -46,9 +46,8 @@ module _ (line vertices : ℕ) (ws : Words) (few : vertices < 2 ^ 21) where
 
     pub vertex_position : {position : List ℤ} → all_near (map coordinate (take 3 ws)) ≡ Some position
         → Position position ≡ vertex_reading line vertices ws
-    vertex_position {position} is =
-        by_far (list_any (λ w. is_far (rounded w)) (take 3 ws)) (sym (all_coordinates (take 3 ws)) ∙ is)
-        ∙ sym vertex_rest
+    vertex_position {position} is = by_far (list_any (λ w. is_far (rounded w)) (take 3 ws))
+        (sym (all_coordinates (take 3 ws)) ∙ is) ∙ sym vertex_rest
       where
         by_far : (t : Bool) → cond t None (Some (map rounded (take 3 ws))) ≡ Some position → Position position
             ≡ cond t (Refused (Range line)) (Position (map rounded (take 3 ws)))

@@ -55,8 +55,7 @@ logical_goes_on number line lines on = by_groups (groups_of lines)
 pub logical_ends : (number : ℕ) (line : Bytes) (lines : Lines) → continues line ≡ false
     → logical_lines number (line ∷ lines)
     ≡ record {
-      number =
-          number;
+      number = number;
       size = length line;
       text = before_first is_hash line;
     } ∷ logical_lines (number + 1) lines
@@ -123,15 +122,13 @@ behind_held kept line lines on = by_joined kept.joined
         (logical_lines (kept.next + 1) lines)
     by_joined [] = logical_goes_on kept.next line lines on
         ∙ sym (joined_some kept.next (with_space line) (logical_lines (kept.next + 1) lines) (some []))
-    by_joined (b ∷ bs) =
-        ap (with_front kept.begun (b ∷ bs)) (logical_goes_on kept.next line lines on)
-        ∙ prefix_more kept.begun kept.next (b ∷ bs) (with_space line) (logical_lines (kept.next + 1) lines)
-        ∙ sym (joined_some kept.begun (b ∷ bs ++ with_space line) (logical_lines (kept.next + 1) lines) (some (b ∷ bs)))
+    by_joined (b ∷ bs) = ap (with_front kept.begun (b ∷ bs)) (logical_goes_on kept.next line lines on) ∙ prefix_more
+        kept.begun kept.next (b ∷ bs) (with_space line) (logical_lines (kept.next + 1) lines) ∙ sym
+        (joined_some kept.begun (b ∷ bs ++ with_space line) (logical_lines (kept.next + 1) lines) (some (b ∷ bs)))
 
 -- A line that ends, alone and behind what is joined.
 pub behind_alone : (kept : KeptText) (line : Bytes) → continues line ≡ false → kept.joined ≡ [] → (lines : Lines)
-    → logical_behind kept (line ∷ lines)
-    ≡ line_as kept.next (length line) line ∷ logical_lines (kept.next + 1) lines
+    → logical_behind kept (line ∷ lines) ≡ line_as kept.next (length line) line ∷ logical_lines (kept.next + 1) lines
 behind_alone kept line off none lines = rw (none, uncommented_is line) (logical_ends kept.next line lines off)
 
 pub behind_joined : (kept : KeptText) (line : Bytes) → continues line ≡ false → 0 < length kept.joined
@@ -150,8 +147,7 @@ behind_joined kept line off some bare lines =
 -- What is joined, where no line comes behind.
 pub behind_nothing : (kept : KeptText) → 0 < length kept.joined → list_any is_hash kept.joined ≡ false
     → logical_behind kept [] ≡ line_as kept.begun (length kept.joined) kept.joined ∷ []
-behind_nothing kept some bare =
-    rw (uncommented_none kept.joined bare) (joined_some kept.begun kept.joined [] some)
+behind_nothing kept some bare = rw (uncommented_none kept.joined bare) (joined_some kept.begun kept.joined [] some)
 
 -- What is joined has no comment, with a line more that goes on.
 pub bare_more : (prefix line : Bytes) → list_any is_hash prefix ≡ false → continues line ≡ true

@@ -15,8 +15,7 @@ use Rattle.def_mesh.specs.Faces.{Faces}
 pub readings_append : (before xs ys : List Logical) → readings before (xs ++ ys) ≡ readings before xs
     ++ readings (before ++ xs) ys
 readings_append before [] ys = rw (append-nil before) refl
-readings_append before (x ∷ xs) ys =
-    rw (readings_append (before ++ x ∷ []) xs ys, append_assoc before (x ∷ []) xs) refl
+readings_append before (x ∷ xs) ys = rw (readings_append (before ++ x ∷ []) xs ys, append_assoc before (x ∷ []) xs) refl
 
 -- The late refusals are those of the faces, in order.
 pub late_none : (n : ℕ) (said : List Reading) → first_late n (faces said) (flat_map line_in said) ≡ None

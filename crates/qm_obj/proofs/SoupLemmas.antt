@@ -92,8 +92,7 @@ rank_at faces (suc n) v lt =
 corners_used : (faces some : Faces) → ((f : ℕ) → f < length some → (j : ℕ) → j < length (get_or some f [])
     → is_used faces (get_or (get_or some f []) j 0) ≡ true) → list_all (list_all (is_used faces)) some ≡ true
 corners_used faces [] each = refl
-corners_used faces (x ∷ xs) each =
-    and_from _ _ (along x (λ j l. each 0 (omega arith) j l))
+corners_used faces (x ∷ xs) each = and_from _ _ (along x (λ j l. each 0 (omega arith) j l))
     (corners_used faces xs (λ f l j m. each (suc f) (omega arith) j m))
   where
     along : (ys : List ℕ) → ((j : ℕ) → j < length ys → is_used faces (get_or ys j 0) ≡ true)

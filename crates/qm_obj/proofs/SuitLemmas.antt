@@ -109,9 +109,8 @@ reading_suits vertices faces line = by_size (ltb 65536 line.size)
         → is_letter 102 word ≡ f
         → Suits vertices faces line (cond v (vertex_reading line.number vertices ws)
         (cond f (face_reading line.number vertices faces ws) Passed))
-    by_letter word ws true f are v-is f-is =
-        by_vertex ws _ _ _ refl (ap (begins_with 118) are ∙ v-is) (ap (begins_with 102) are
-        ∙ one_letter 118 102 (λ (e : ◌≡◌ {A = ℕ} 118 102). omega arith) word v-is)
+    by_letter word ws true f are v-is f-is = by_vertex ws _ _ _ refl (ap (begins_with 118) are ∙ v-is)
+        (ap (begins_with 102) are ∙ one_letter 118 102 (λ (e : ◌≡◌ {A = ℕ} 118 102). omega arith) word v-is)
     by_letter word ws false true are v-is f-is = by_face ws _ _ _ _ refl refl (ap (begins_with 118) are ∙ v-is)
         (ap (begins_with 102) are ∙ f-is)
     by_letter word ws false false are v-is f-is = suits_passed vertices faces line (ap (begins_with 118) are ∙ v-is)

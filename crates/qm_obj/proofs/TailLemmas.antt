@@ -56,8 +56,7 @@ record Opens (prefix all : Bytes) : Type 0 where
 
 opens : (prefix more : Bytes) → list_any is_line_feed prefix ≡ false → 0 < length prefix → Opens prefix (prefix ++ more)
 opens [] more none some = absurd (omega arith)
-opens (b ∷ []) more none some =
-    by_pieces (pieces more) refl
+opens (b ∷ []) more none some = by_pieces (pieces more) refl
   where
     by_pieces : (ps : Lines) → pieces more ≡ ps → Opens (b ∷ []) (b ∷ more)
     by_pieces [] is = record { behind = []; rest = []; are = rw ((or_parts (eqb b 10) false none).0, is) refl }

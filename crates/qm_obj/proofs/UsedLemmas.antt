@@ -113,9 +113,8 @@ made_of positions faces marks made vertices marked known counted names pos renum
     (names ∙ all)
   where
     each : (k : ℕ) → 0 < k → k ≤ length positions → get_or vertices (k - 1) 0 ≡ line_vertex faces k
-    each k some le =
-        counted.each (k - 1) (omega (arith, marked.size))
-        ∙ ap length (chosen_used faces (length positions) marks marked (k - 1) (omega arith))
+    each k some le = counted.each (k - 1) (omega (arith, marked.size)) ∙ ap length
+        (chosen_used faces (length positions) marks marked (k - 1) (omega arith))
 
     same_parts : (s t : FaceSet) → s.pos ≡ t.pos → s.faces ≡ t.faces → s.names ≡ t.names → s ≡ t
     same_parts s t p q r = λ i. record { pos = p i; faces = q i; names = r i }

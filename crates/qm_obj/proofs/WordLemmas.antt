@@ -228,9 +228,8 @@ pub by_first_word : (line vertices faces : ℕ) (all rest : Words) (first : List
     ≡ cond (is_letter 118 first) (vertex_reading line vertices rest)
     (cond (is_letter 102 first) (with_clamped (face_reading line vertices faces rest)) Passed)
 by_first_word line vertices faces all rest [] is = ap (λ ws. with_clamped (words_reading line vertices faces ws)) is
-by_first_word line vertices faces all rest (b ∷ bs) is =
-    ap (λ ws. with_clamped (words_reading line vertices faces ws)) is
-    ∙ by_letter (is_letter 118 (b ∷ bs)) (is_letter 102 (b ∷ bs))
+by_first_word line vertices faces all rest (b ∷ bs) is = ap (λ ws. with_clamped (words_reading line vertices faces ws))
+    is ∙ by_letter (is_letter 118 (b ∷ bs)) (is_letter 102 (b ∷ bs))
   where
     by_letter : (v f : Bool)
         → with_clamped (cond v (vertex_reading line vertices rest) (cond f (face_reading line vertices faces rest)

@@ -11,12 +11,10 @@ use Rattle.std.specs.List.{flat_map, range_with_len}
 -- The texts of items are those up to one, that one's, and those behind it.
 items_apart : {X : Type 0} (f : X → List ℕ) (xs : List X) (i : ℕ) (d : X) → i < length xs
     → (flat_map f (take i xs) ++ f (get_or xs i d)) ++ flat_map f (drop (suc i) xs) ≡ flat_map f xs
-items_apart f xs i d low =
-    append_assoc (flat_map f (take i xs)) (f (get_or xs i d)) (flat_map f (drop (suc i) xs))
-    ∙ ap (λ (ys : List ℕ). flat_map f (take i xs) ++ ys) (sym (flat_map-cons f (get_or xs i d) (drop (suc i) xs)))
-    ∙ sym (flat_map-append f (take i xs) (get_or xs i d ∷ drop (suc i) xs))
-    ∙ ap (λ ys. flat_map f (take i xs ++ ys)) (sym (drop-cons xs i d low))
-    ∙ ap (flat_map f) (take-append-drop i xs)
+items_apart f xs i d low = append_assoc (flat_map f (take i xs)) (f (get_or xs i d)) (flat_map f (drop (suc i) xs)) ∙ ap
+    (λ (ys : List ℕ). flat_map f (take i xs) ++ ys) (sym (flat_map-cons f (get_or xs i d) (drop (suc i) xs))) ∙ sym
+    (flat_map-append f (take i xs) (get_or xs i d ∷ drop (suc i) xs)) ∙ ap (λ ys. flat_map f (take i xs ++ ys))
+    (sym (drop-cons xs i d low)) ∙ ap (flat_map f) (take-append-drop i xs)
 
 -- What stops at one item stops within the text of all.
 pub stops_at_item : {T X : Type 0} (takes stops : T → T → List ℕ → Type 0)
@@ -24,8 +22,7 @@ pub stops_at_item : {T X : Type 0} (takes stops : T → T → List ℕ → Type 
     → ((a b : T) (s t : List ℕ) → stops a b s → stops a b (s ++ t))
     → (f : X → List ℕ) (xs : List X) (i : ℕ) (d : X) (a b c : T) → i < length xs
     → takes a b (flat_map f (take i xs)) → stops b c (f (get_or xs i d)) → stops a c (flat_map f xs)
-stops_at_item takes stops later before f xs i d a b c low took stopped =
-    subst (stops a c) (items_apart f xs i d low)
+stops_at_item takes stops later before f xs i d a b c low took stopped = subst (stops a c) (items_apart f xs i d low)
     (before a c _ (flat_map f (drop (suc i) xs)) (later a b c _ _ took stopped))
 
 -- The same of items that are told by their numbers.

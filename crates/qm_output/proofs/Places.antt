@@ -26,10 +26,8 @@ differs_at given piece at n fits same most inside = record {
   byte = get_or piece n 0;
   more = drop (suc n) piece;
   said = sym (take-append-drop n piece) ∙ ap (λ (xs : Bytes). take n piece ++ xs) (drop-cons piece n 0 inside);
-  alike =
-      sym (take-append-drop n (drop at given))
-      ∙ ap (λ (xs : Bytes). xs ++ drop n (drop at given)) same
-      ∙ ap (λ (xs : Bytes). take n piece ++ xs) (drop-drop n at given);
+  alike = sym (take-append-drop n (drop at given)) ∙ ap (λ (xs : Bytes). xs ++ drop n (drop at given)) same ∙ ap
+      (λ (xs : Bytes). take n piece ++ xs) (drop-drop n at given);
   lacks = subst (LacksFirst (get_or piece n 0)) (drop-drop n at given) (by_end (cases_lt n (length (drop at given))));
   counted = let e : length (take n piece) ≡ n = length_take in omega (arith, e);
 }
@@ -39,8 +37,7 @@ differs_at given piece at n fits same most inside = record {
 
     by_end : (n < length (drop at given)) ⊎ (length (drop at given) ≤ n)
         → LacksFirst (get_or piece n 0) (drop n (drop at given))
-    by_end (inl more) =
-        subst (LacksFirst (get_or piece n 0)) (sym (drop-cons (drop at given) n 0 more))
+    by_end (inl more) = subst (LacksFirst (get_or piece n 0)) (sym (drop-cons (drop at given) n 0 more))
         (λ same. most more inside (sym same))
     by_end (inr over) = subst (LacksFirst (get_or piece n 0)) (sym (drop_all n (drop at given) over)) tt
 

@@ -27,17 +27,15 @@ prefix_broke taken now faults faults_now held text left prefix rose = record {
 -- It took a prefix of what waited.
 pub held_broke : (taken now : Told) (faults faults_now : ℕ) (held left : Bytes) → TookPrefix taken now held
     → Rose faults faults_now → BrokeOff (buffered taken faults held) (buffered now faults_now left) []
-held_broke taken now faults faults_now held left prefix rose =
-    prefix_broke taken now faults faults_now held [] left (subst (TookPrefix taken now) (sym (append-nil held)) prefix)
-    rose
+held_broke taken now faults faults_now held left prefix rose = prefix_broke taken now faults faults_now held [] left
+    (subst (TookPrefix taken now) (sym (append-nil held)) prefix) rose
 
 -- It took a prefix of a text before which nothing waited.
 pub text_broke : (taken now : Told) (faults faults_now : ℕ) (held text left : Bytes) → held ≡ []
     → TookPrefix taken now text
     → Rose faults faults_now → BrokeOff (buffered taken faults held) (buffered now faults_now left) text
-text_broke taken now faults faults_now held text left none prefix rose =
-    prefix_broke taken now faults faults_now held text left
-    (subst (λ (xs : Bytes). TookPrefix taken now (xs ++ text)) (sym none) prefix) rose
+text_broke taken now faults faults_now held text left none prefix rose = prefix_broke taken now faults faults_now held
+    text left (subst (λ (xs : Bytes). TookPrefix taken now (xs ++ text)) (sym none) prefix) rose
 
 -- Where nothing had waited, the sink took a prefix of the text.
 pub text_prefix : (before now : Buffered) (text : Bytes) → before.held ≡ [] → BrokeOff before now text
@@ -54,8 +52,7 @@ text_prefix before now text none broke =
 pub rest_prefix : (before mid now : Buffered) (text : Bytes) → before.held ≡ [] → PassedOn before mid text
     → BrokeOff mid now []
     → TookPrefix before.taken now.taken text
-rest_prefix before mid now text none passed broke =
-    subst (TookPrefix before.taken now.taken) (append-nil text)
+rest_prefix before mid now text none passed broke = subst (TookPrefix before.taken now.taken) (append-nil text)
     (text_prefix before now (text ++ []) none (broke_later before mid now text [] passed broke))
 
 -- Where the text was put whole, and then all that waited was taken, the sink took the text.
@@ -64,10 +61,6 @@ pub text_whole : (before mid now : Buffered) (text : Bytes) → before.held ≡ 
     → now.held ≡ [] → now.taken ≡ took before.taken text
 text_whole before mid now text none first last empty =
     let all : PassedOn before now (text ++ []) = passed_more before mid now text [] first last in
-    let same : text ≡ all.sent =
-    sym (append-nil text)
-    ∙ ap (λ (xs : Bytes). xs ++ (text ++ [])) (sym none)
-    ∙ all.whole
-    ∙ ap (λ (xs : Bytes). all.sent ++ xs) empty
-    ∙ append-nil all.sent in
+    let same : text ≡ all.sent = sym (append-nil text) ∙ ap (λ (xs : Bytes). xs ++ (text ++ [])) (sym none) ∙ all.whole
+    ∙ ap (λ (xs : Bytes). all.sent ++ xs) empty ∙ append-nil all.sent in
     all.moved ∙ ap (took before.taken) (sym same)

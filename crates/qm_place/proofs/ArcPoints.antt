@@ -58,14 +58,12 @@ module _ (plan : Plan) (new : Lengths) (o : Option Spaced) (told : IsSpaced plan
   pub read_inner : {index read : ℕ} → index ≡ before_arc new arc + k - 1
       → read ≡ get_or spaced.parameters.items index read
       → read ≡ (spacing_by plan (shares_in o) new).parameter_of arc true k
-  read_inner {index} {read} place same =
-      get_or_read spaced.parameters.items index read (omega (arith, place, inner_low)) same 0
-      ∙ ap (slice_index spaced.parameters.items) place ∙ inner_value
+  read_inner {index} {read} place same = get_or_read spaced.parameters.items index read
+      (omega (arith, place, inner_low)) same 0 ∙ ap (slice_index spaced.parameters.items) place ∙ inner_value
 
 -- The parts of a step by shares are those of a parameter.
 parts_are : (old new : Lengths) (shares : Shares) (arc k : ℕ) → (shared_step old new shares arc k).parts ≡ ONE
-parts_are old new shares arc k =
-    cond_both (k == 0) (edge_begin 0) _ (λ (s : Step). s.parts ≡ ONE) (λ e. refl)
+parts_are old new shares arc k = cond_both (k == 0) (edge_begin 0) _ (λ (s : Step). s.parts ≡ ONE) (λ e. refl)
     (λ e. cond_both (k == new arc) (edge_begin (old arc)) _ (λ (s : Step). s.parts ≡ ONE) (λ f. refl) (λ f. refl))
 
 -- A parameter tells its step.

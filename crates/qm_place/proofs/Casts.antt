@@ -143,8 +143,7 @@ way_is p q {r} {some} {parts} less p_small q_small r_is r_small =
     ∙ ap (λ z. p +ℤ z) (r_is ∙ ap (λ z. int_div_euclid ((pos (2 * some) *ℤ z) +ℤ pos parts) (pos (2 * parts))) gap)
   where
     gap : to_z w64 (of_z w64 (to_z w64 (of_z w64 q) -ℤ to_z w64 (of_z w64 p))) ≡ q -ℤ p
-    gap =
-        (λ i. to_z w64 (of_z w64 (kept_half q (omega (arith, q_small)) i -ℤ kept_half p (omega (arith, p_small)) i)))
+    gap = (λ i. to_z w64 (of_z w64 (kept_half q (omega (arith, q_small)) i -ℤ kept_half p (omega (arith, p_small)) i)))
         ∙ kept_half (q -ℤ p) (omega (arith, ints, p_small, q_small))
 
 pub sum_is : (a b c d : ℤ) → unsigned_abs a ≤ 2 ^ 116 → unsigned_abs b ≤ 2 ^ 116 → unsigned_abs c ≤ 2 ^ 116

@@ -90,9 +90,8 @@ cell_low {a} {b} {patch} is a_low b_low = by_parts patch.w patch.h a b (length p
 
 pub cell_read : {t : TMesh} {p : ℕ} {a b d : ℕ} {patch : Patch} → IsOldPatch t p patch → a < patch.w → b < patch.h
     → d ≡ get_or patch.cells.items (b * patch.w + a) d → d ≡ cell_of (patch_at (plan t).patches p) a b
-cell_read {t} {p} {a} {b} {d} {patch} is a_low b_low read =
-    get_or_read patch.cells.items (b * patch.w + a) d (cell_low is a_low b_low) read 0
-    ∙ ap (λ (r : Rectangle). cell_of r a b) is.same
+cell_read {t} {p} {a} {b} {d} {patch} is a_low b_low read = get_or_read patch.cells.items (b * patch.w + a) d
+    (cell_low is a_low b_low) read 0 ∙ ap (λ (r : Rectangle). cell_of r a b) is.same
 
 -- The rim of a patch.
 pub rim_read : (plan : Plan) (tables : PlaceTables) {p : ℕ} {rim : Rim} → length tables.rims.items ≡ length plan.patches

@@ -53,9 +53,8 @@ module _ (plan : Plan) (shares : Option (List ℕ)) (new : Lengths) where
           (length plan.patches) place p o → IsInside plan new p place
       by_run p o here =
           let offset : place - before_patch (layout_of plan) new p ≡ o = omega (arith, here.place) in
-          let less : o < (high (layout_of plan) new p - 1) * (wide (layout_of plan) new p - 1) =
-          subst (λ n. o < n) (mul_comm (wide (layout_of plan) new p - 1) (high (layout_of plan) new p - 1))
-          here.inside in
+          let less : o < (high (layout_of plan) new p - 1) * (wide (layout_of plan) new p - 1) = subst (λ n. o < n)
+          (mul_comm (wide (layout_of plan) new p - 1) (high (layout_of plan) new p - 1)) here.inside in
           let rows = in_rows (wide (layout_of plan) new p - 1) (high (layout_of plan) new p - 1) o less in
           record {
             low = here.low;

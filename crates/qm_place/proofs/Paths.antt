@@ -76,8 +76,7 @@ module _ (share : ℕ → ℕ) (m n k : ℕ) (all : ℕ) (whole : all ≡ count_
   -- As a part of its share it is a part of a parameter.
   pub part_low : n * before ≤ k * all → e ≡ (inner_step share m n k).edge
       → ONE * (k * all - n * before) / (n * share e) < ONE
-  part_low from same =
-      div_less (ONE * (k * all - n * before)) ONE (n * share e) (omega (arith, rest_low from same))
+  part_low from same = div_less (ONE * (k * all - n * before)) ONE (n * share e) (omega (arith, rest_low from same))
       (omega (arith, rest_low from same))
 
 -- The parameter of an inner point of an arc of a layout is that of the path of its darts.
@@ -90,10 +89,7 @@ arc_parameter plan new shares arc {k} same some less =
     (λ i. step_parameter (inner_step (counted (share_by (same i) shares false) (length (same i))) (length (same i))
     (new arc) (place i))) ∙ ap step_parameter (sym inside)
   where
-    inside : shared_step (long_at plan.arcs) new (shares_along plan shares) arc k
-        ≡ inner_step (counted (shares_along plan shares arc) (long_at plan.arcs arc)) (long_at plan.arcs arc) (new arc)
-        k
-    inside =
-        cond-false (k == 0) (edge_begin 0) _ (ne_eqb k 0 (λ e. omega (arith, e, some)))
-        ∙ cond-false (k == new arc) (edge_begin (long_at plan.arcs arc)) _
-        (ne_eqb k (new arc) (λ e. omega (arith, e, less)))
+    inside : shared_step (long_at plan.arcs) new (shares_along plan shares) arc k ≡ inner_step
+        (counted (shares_along plan shares arc) (long_at plan.arcs arc)) (long_at plan.arcs arc) (new arc) k
+    inside = cond-false (k == 0) (edge_begin 0) _ (ne_eqb k 0 (λ e. omega (arith, e, some))) ∙ cond-false (k == new arc)
+        (edge_begin (long_at plan.arcs arc)) _ (ne_eqb k (new arc) (λ e. omega (arith, e, less)))

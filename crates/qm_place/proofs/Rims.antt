@@ -100,9 +100,8 @@ read t {list} {p} {i} {side} {s} {us} fine low us_is i_low way = record {
     is_slot = record { patch_low = p_low; low = omega (arith, i_low, ap (λ (xs : List SideArc). length xs) same) }
 
     used_is : get_or us i (record { arc = 0; forward = false }) ≡ (layout_of (plan t)).use_at p s i
-    used_is =
-        get_or_default us i (record { arc = 0; forward = false }) (record { arc = 0; forward = true }) i_low
-        ∙ ap (λ (xs : List SideArc). get_or xs i (record { arc = 0; forward = true })) same
+    used_is = get_or_default us i (record { arc = 0; forward = false }) (record { arc = 0; forward = true }) i_low ∙ ap
+        (λ (xs : List SideArc). get_or xs i (record { arc = 0; forward = true })) same
 
     arc : (get_or us i (record { arc = 0; forward = false })).arc ≡ ((layout_of (plan t)).use_at p s i).arc
     arc = ap (λ (u : SideArc). u.arc) used_is

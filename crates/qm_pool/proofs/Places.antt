@@ -34,8 +34,7 @@ pub left_low : (nodes : List (Option Node)) (free : List ℕ) (left k : ℕ) (n 
 left_low nodes free left k n are at =
     omega (
       arith,
-      some_live nodes k n (slice_get_within nodes k (Some n) at)
-          (get_or_from_slice_get nodes k (Some n) None at),
+      some_live nodes k n (slice_get_within nodes k (Some n) at) (get_or_from_slice_get nodes k (Some n) None at),
       are.all,
       are.room,
     )
@@ -171,7 +170,6 @@ pub written : (nodes new : List (Option Node)) (k : ℕ) (n : Node) (old : Optio
 written nodes new k n old at is =
     let low : k < length nodes = slice_get_within nodes k old at in
     let size : length (set nodes k (Some n)) ≡ length nodes = length-set nodes k (Some n) in
-    let found : slice_get (set nodes k (Some n)) k ≡ Some (Some n) =
-    slice_get-get_or (set nodes k (Some n)) k None (omega arith)
-    ∙ ap (λ (o : Option Node). Some o) (get_or-set_same nodes k (Some n) None low) in
+    let found : slice_get (set nodes k (Some n)) k ≡ Some (Some n) = slice_get-get_or (set nodes k (Some n)) k None
+    (omega arith) ∙ ap (λ (o : Option Node). Some o) (get_or-set_same nodes k (Some n) None low) in
     (n, subst (λ (xs : List (Option Node)). slice_get xs k ≡ Some (Some n)) (sym is) found)

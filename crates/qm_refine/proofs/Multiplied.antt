@@ -66,9 +66,8 @@ module _ (plan : Plan) (is : IsSomeLayout plan) where
       by_place : (a < length plan.arcs) ⊎ (length plan.arcs ≤ a) → long_at plan.arcs a ≤ 2 ^ 23
       by_place (inl low) = omega (arith, arc_few a low, is.mesh.few)
       by_place (inr high) =
-          let none : long_at plan.arcs a ≡ 0 =
-          ap (λ (p : Path). length p.darts) (get_or-eq_default plan.arcs (record { first = 0; last = 0; darts = [] })
-          high) in
+          let none : long_at plan.arcs a ≡ 0 = ap (λ (p : Path). length p.darts)
+          (get_or-eq_default plan.arcs (record { first = 0; last = 0; darts = [] }) high) in
           omega (arith, none)
 
   -- Nor is a multiple.
@@ -91,8 +90,7 @@ arcs_short t is k d l =
     ap (λ (p : Path). length p.darts) (lists.get_or-map path t.arcs.items k d (record {
       first = 0;
       last = 0;
-      darts =
-          [];
+      darts = [];
     }) l) in
     omega (arith, long, long_few (plan t) is k)
 

@@ -35,10 +35,9 @@ number_small ds all = subst (λ (n : ℕ). number_written ds < 10 ^ n) (length-m
 -- One digit more.
 pub number_more : (word : List ℕ) (i : ℕ) → i < length word → number_written (take (i + 1) word)
     ≡ number_written (take i word) * 10 + (get_or word i 0 - 48)
-number_more word i l =
-    ap number_written (take_more word i 0 l)
-    ∙ ap (number_from_digits 10) (map_push (λ d. d - 48) (take i word) (get_or word i 0))
-    ∙ number_push 10 (map (λ d. d - 48) (take i word)) (get_or word i 0 - 48)
+number_more word i l = ap number_written (take_more word i 0 l) ∙ ap (number_from_digits 10)
+    (map_push (λ d. d - 48) (take i word) (get_or word i 0)) ∙ number_push 10 (map (λ d. d - 48) (take i word))
+    (get_or word i 0 - 48)
 
 -- A clamped number takes one digit more.
 pub clamped_more : (n d clamp : ℕ) → min (min (min n clamp * 10) clamp + d) clamp ≡ min (n * 10 + d) clamp

@@ -175,8 +175,7 @@ spread_more faces f component i old now w0 w ne less lf s = at (twin_of faces (4
             fresh g l k is_none = elim (cases_eq g (e / 4)) [
               | inl q ↦ (
                 ap (λ y. get_or (set now (e / 4) component) y 0) q ∙ value,
-                ap (share_edge faces f) q
-                    ∙ shared_by faces f (4 * f + i) e (omega arith) (omega arith) is,
+                ap (share_edge faces f) q ∙ shared_by faces f (4 * f + i) e (omega arith) (omega arith) is,
                 subst (λ (y : ℕ). Waits (w ++ (e / 4) ∷ []) y) (sym q) (waits_new w (e / 4)),
               )
               | inr other ↦ let o : (get_or now g 0 ≡ component) × (share_edge faces f g ≡ true) × Waits w g =
@@ -189,8 +188,7 @@ spread_more faces f component i old now w0 w ne less lf s = at (twin_of faces (4
             come g k = elim (cases_eq g (e / 4)) [
               | inl q ↦ inr (
                 ap (λ y. get_or old y 0) q ∙ unnumbered,
-                ap (λ y. get_or (set now (e / 4) component) y 0) q
-                    ∙ value,
+                ap (λ y. get_or (set now (e / 4) component) y 0) q ∙ value,
               )
               | inr other ↦ elim (waits_cases w (e / 4) g k) [
                 | inr q ↦ absurd (other (sym q))
@@ -213,8 +211,7 @@ flood_none faces first component old [] more lf is long ne none e = rw e (record
   fresh = λ g l k o. elim (cases_eq g first) [
     | inl q ↦ (
       ap (λ y. get_or (set old first component) y 0) q ∙ value,
-      ap (is_marked (component_of faces first)) q
-          ∙ own_mark faces first lf,
+      ap (is_marked (component_of faces first)) q ∙ own_mark faces first lf,
     )
     | inr other ↦ absurd (k (get_or-set_other old first g component 0 other ∙ o))
   ];

@@ -64,8 +64,7 @@ module _ (faces : Faces) (m : IsManifold faces) (d first r : ℕ) (line : Line) 
         by_place (suc i, h, e) = (
           i,
           omega arith,
-          same_Some _ _ (sym (on.goes j (omega arith))
-              ∙ (ap (follower faces) e ∙ undone i (omega arith))),
+          same_Some _ _ (sym (on.goes j (omega arith)) ∙ (ap (follower faces) e ∙ undone i (omega arith))),
         )
 
     goes_round : (i : ℕ) → i ≤ back.steps → follower faces (walked (leader faces) d i) ≡ None → ⊥
@@ -228,17 +227,15 @@ module _ (faces : Faces) (m : IsManifold faces) (d : ℕ) (run at : List ℕ) (l
       → get_or run x 0 ≡ NONE → get_or run y 0 ≡ NONE
   after_fresh few x y l is fresh = elim (cases_eq (get_or run y 0) NONE) [
     | inl e ↦ e
-    | inr ne ↦ absurd (by_place (get_or run y 0) (get_or at y 0) (found.there y (follower_low faces m x y l is)
-        ne))
+    | inr ne ↦ absurd (by_place (get_or run y 0) (get_or at y 0) (found.there y (follower_low faces m x y l is) ne))
   ]
     where
       by_place : (r k : ℕ) → (r < length lists) × (k < length (nth_run lists r)) × (get_or (nth_run lists r) k 0 ≡ y)
           → ⊥
       by_place r zero (lr, lk, s) = held few r x lr ((found.runs r lr).begins x l (is ∙ ap Some (sym s))) fresh
       by_place r (suc k) (lr, lk, s) =
-          let e : get_or (nth_run lists r) k 0 ≡ x =
-          one_follower faces m (get_or (nth_run lists r) k 0) x y ((found.runs r lr).low k (omega arith)) l
-          ((found.runs r lr).straight k lk ∙ ap Some s) is in
+          let e : get_or (nth_run lists r) k 0 ≡ x = one_follower faces m (get_or (nth_run lists r) k 0) x y
+          ((found.runs r lr).low k (omega arith)) l ((found.runs r lr).straight k lk ∙ ap Some s) is in
           none_told few r k lr (omega arith) (ap (λ (z : ℕ). get_or run z 0) e ∙ fresh)
 
 -- One run more is found.

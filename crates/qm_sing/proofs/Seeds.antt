@@ -139,8 +139,7 @@ module _ (faces : Faces) (m : IsManifold faces) where
       place_grows (f + 1) (g - (f + 1)) (omega arith) in
       omega (
         arith,
-        subst (λ (x : ℕ). place_among (least_faces faces) (f + 1) ≤ place_among (least_faces faces) x) k
-            grows,
+        subst (λ (x : ℕ). place_among (least_faces faces) (f + 1) ≤ place_among (least_faces faces) x) k grows,
         place_next faces f (omega arith),
         ap {B = ℕ} (λ (b : Bool). cond b 1 0) (eq-eqb (least_face faces f) f own),
       )
@@ -248,8 +247,7 @@ module _ (faces : Faces) (m : IsManifold faces) where
           × (least_face faces f ≡ f) × (e < darts faces) × (from_of faces e ≡ v) × (least_face faces (e / 4) ≡ f)
           × ((d : ℕ) → d < darts faces → least_face faces (d / 4) ≡ f → (is_regular faces (from_of faces d) ≡ true)
           × (v ≤ from_of faces d))
-      by_face (f, z, h, o, t) =
-          (f, e.0, lf, own, e.1, e.2, to_number f e.0 lf e.1 own e.3, each)
+      by_face (f, z, h, o, t) = (f, e.0, lf, own, e.1, e.2, to_number f e.0 lf e.1 own e.3, each)
         where
           lf : f < length faces
           lf = omega arith
@@ -512,8 +510,7 @@ marks_on faces n d marks low s k = record {
     | inl q ↦ ap (λ v. get_or (set marks (from_of faces d) true) v false) q ∙ get_or-set_same marks (from_of faces d)
         true false (omega (arith, low, k.long))
     | inr ne ↦ elim (last_or d e l) [
-      | inl h ↦ get_or-set_other marks (from_of faces d) (from_of faces e) true false ne
-          ∙ k.all e h t
+      | inl h ↦ get_or-set_other marks (from_of faces d) (from_of faces e) true false ne ∙ k.all e h t
       | inr q ↦ absurd (ne (ap (from_of faces) q))
     ]
   ];

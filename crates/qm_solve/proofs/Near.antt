@@ -40,8 +40,7 @@ lengths_near net start xs bounds from count nearer = record { count = count; sma
         let part : a.weight * far ≤ deviation net (entries xs) =
         omega (
           arith,
-          part_low (λ j. arc_deviation net (arc_at net.arcs j) (entries xs j)) k (length net.arcs)
-              inner,
+          part_low (λ j. arc_deviation net (arc_at net.arcs j) (entries xs j)) k (length net.arcs) inner,
         ) in
         short net.q net.p a.old (slice_index xs k) (deviation net (entries start)) (10 ^ 12) bounds.q_low
         (omega (arith, factor a.weight far (arc_within bounds inner).weight_low, part, nearer)) (from.near k inner)
@@ -71,8 +70,7 @@ near_is net xs bounds lengths admissible = (
   λ on. record {
     count = lengths.count;
     admissible = admissible;
-    near =
-        λ k l. (test_is net (deviation net (entries xs)) (arc_at net.arcs k)).0
+    near = λ k l. (test_is net (deviation net (entries xs)) (arc_at net.arcs k)).0
         (AllPass-from_list_all (is_near_arc net (pos (deviation net (entries xs)))) net.arcs on k _ l);
   },
   λ from. list_all-from_AllPass (is_near_arc net (pos (deviation net (entries xs)))) net.arcs

@@ -39,16 +39,14 @@ module _ (plan : Plan) (list : List ℕ) (fine : IsFine plan list) where
       omega (
         arith,
         few_points,
-        term_room (λ a. lengths_in list a - 1) (length plan.arcs) arc
-            (omega (arith, low, fine.long)),
+        term_room (λ a. lengths_in list a - 1) (length plan.arcs) arc (omega (arith, low, fine.long)),
       )
 
   pub sides_short : (p : ℕ) (s : Way) → p < length plan.patches → size (layout_of plan) (lengths_in list) p s < 2 ^ 32
   sides_short p s low = omega (
     arith,
     fine.few,
-    side_few (layout_of plan) (lengths_in list) (laid_of plan fine.mesh)
-        fine.lengths p s low,
+    side_few (layout_of plan) (lengths_in list) (laid_of plan fine.mesh) fine.lengths p s low,
   )
 
   pub points_short : count_below (λ arc. lengths_in list arc - 1) (length list) < 2 ^ 32
@@ -88,8 +86,7 @@ module _ (plan : Plan) (list : List ℕ) (fine : IsFine plan list) where
 
         by_long : (p s : ℕ) → p < length plan.patches → (w : Way) × (way_number w ≡ s) → (less ≤ long_by tables p s)
             × (0 < long_by tables p s)
-        by_long p s low w =
-            subst (λ (k : ℕ). (less ≤ long_by tables p k) × (0 < long_by tables p k)) w.1
+        by_long p s low w = subst (λ (k : ℕ). (less ≤ long_by tables p k) × (0 < long_by tables p k)) w.1
             (let some : 0 < size (layout_of plan) (lengths_in list) p w.0 =
             size_some (layout_of plan) (lengths_in list) (laid_of plan fine.mesh).paved fine.lengths p w.0 low in
             (omega (arith, one, some, long_is p w.0 low), omega (arith, some, long_is p w.0 low)))

@@ -40,9 +40,8 @@ module _ (plan : Plan) (xs : List ℕ) (prices : List ℤ) (rs : List Remedy) (m
       let c = are.each _ (Contains-get_or rs 0 (record { key = 0; price = pos 0; run = Arc 0 }) has) in
       of_remedy c.0 c.1 c.3
     where
-      of_remedy : (r : Remedy) → IsCheapestIn rs r
-          → ((arc : ℕ) → arc < length plan.arcs → IsArcOf plan r.run arc → get_or marks arc false ≡ true)
-          → (arc : ℕ) × (arc < length xs) × IsShortTight marks xs arc
+      of_remedy : (r : Remedy) → IsCheapestIn rs r → ((arc : ℕ) → arc < length plan.arcs → IsArcOf plan r.run arc
+          → get_or marks arc false ≡ true) → (arc : ℕ) × (arc < length xs) × IsShortTight marks xs arc
       of_remedy r is all =
           let remedy : IsRemedy plan x prices r = (found r).0 is.has in
           let short = remedy.1.short in
@@ -53,8 +52,7 @@ module _ (plan : Plan) (xs : List ℕ) (prices : List ℤ) (rs : List Remedy) (m
   choice_needed not_long = by_some some refl
     where
       by_some : (b : Bool) → some ≡ b → AreNeeded (layout_of plan) x rises
-      by_some true is =
-          chosen_needed (layout_of plan) xs marks long rises marked
+      by_some true is = chosen_needed (layout_of plan) xs marks long rises marked
           (subst (λ (b : Bool). AreRisesUpto b marks xs (length xs) rises) is risen) (some_short (on is))
       by_some false is =
           all_needed (layout_of plan) xs marks long rises

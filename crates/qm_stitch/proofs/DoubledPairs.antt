@@ -201,8 +201,7 @@ module _ (l : Layout) (x : Lengths) (laid : IsSurface l) (len : AreLengths l x) 
             (
               edge_at k,
               edge_is k k_low,
-              subst (λ v. HasEnds l x (edge_at k) (key / 2 ^ 32) v)
-                  (sym same) ends.1,
+              subst (λ v. HasEnds l x (edge_at k) (key / 2 ^ 32) v) (sym same) ends.1,
             ),
           ),
         )

@@ -39,8 +39,7 @@ module _ (rs : List Remedy) (ordered : AreInOrder rs) where
   abbrev IsFirst : (k : ℕ) → Type 0
   IsFirst k = (k ≡ 0) ⊎ ((remedy_at rs (k - 1)).key ≢ (remedy_at rs k).key)
 
-  find_first : (j : ℕ) → j < length rs
-      → (k : ℕ) × (k ≤ j) × ((remedy_at rs k).key ≡ (remedy_at rs j).key) × IsFirst k
+  find_first : (j : ℕ) → j < length rs → (k : ℕ) × (k ≤ j) × ((remedy_at rs k).key ≡ (remedy_at rs j).key) × IsFirst k
   find_first zero low = (0, omega arith, refl, inl refl)
   find_first (suc j) low = elim (cases_eq (remedy_at rs j).key (remedy_at rs (suc j)).key) [
     | inl same ↦
@@ -88,8 +87,7 @@ module _ (rs : List Remedy) (ordered : AreInOrder rs) where
 pub marks_next : (old now new : List Bool) (P : ℕ → ℕ → Type 0) (n : ℕ) → length now ≡ length old
     → AddsMarks old now (λ arc. (k : ℕ) × (k < n) × P k arc) → AddsMarks now new (P n)
     → AddsMarks old new (λ arc. (k : ℕ) × (k < n + 1) × P k arc)
-marks_next old now new P n long first second arc low =
-    (λ on. there (b.0 on), λ is. b.1 (back is))
+marks_next old now new P n long first second arc low = (λ on. there (b.0 on), λ is. b.1 (back is))
   where
     a : (get_or now arc false ≡ true) ↔ ((get_or old arc false ≡ true) ⊎ ((k : ℕ) × (k < n) × P k arc))
     a = first arc low
@@ -97,16 +95,14 @@ marks_next old now new P n long first second arc low =
     b : (get_or new arc false ≡ true) ↔ ((get_or now arc false ≡ true) ⊎ P n arc)
     b = second arc (omega (arith, low, long))
 
-    there : (get_or now arc false ≡ true) ⊎ P n arc
-        → (get_or old arc false ≡ true) ⊎ ((k : ℕ) × (k < n + 1) × P k arc)
+    there : (get_or now arc false ≡ true) ⊎ P n arc → (get_or old arc false ≡ true) ⊎ ((k : ℕ) × (k < n + 1) × P k arc)
     there (inr is) = inr (n, omega arith, is)
     there (inl on) = elim (a.0 on) [
       | inl before ↦ inl before
       | inr (k, less, is) ↦ inr (k, omega (arith, less), is)
     ]
 
-    back : (get_or old arc false ≡ true) ⊎ ((k : ℕ) × (k < n + 1) × P k arc)
-        → (get_or now arc false ≡ true) ⊎ P n arc
+    back : (get_or old arc false ≡ true) ⊎ ((k : ℕ) × (k < n + 1) × P k arc) → (get_or now arc false ≡ true) ⊎ P n arc
     back (inl before) = inl (a.1 (inl before))
     back (inr (k, less, is)) = elim (cases_eq k n) [
       | inl same ↦ inr (subst (λ (j : ℕ). P j arc) same is)
@@ -147,8 +143,7 @@ marks_of plan xs ys none marks moved ordered long longer blank adds = record {
       );
 }
   where
-    of_mark : (arc : ℕ) → arc < length plan.arcs
-        → (get_or none arc false ≡ true) ⊎ IsFirstUpto plan ys (length ys) arc
+    of_mark : (arc : ℕ) → arc < length plan.arcs → (get_or none arc false ≡ true) ⊎ IsFirstUpto plan ys (length ys) arc
         → (r : Remedy) × IsCheapestIn xs r × IsArcOf plan r.run arc
     of_mark arc low (inl on) = absurd (false≢true (sym (blank arc low) ∙ on))
     of_mark arc low (inr (k, less, (first, of))) = (

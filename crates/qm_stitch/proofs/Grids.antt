@@ -29,9 +29,8 @@ module _ (l : Layout) (x : Lengths) (p i j : ℕ) where
       ∙ cond-true (j == high l x p) _ _ (eq-eqb j (high l x p) top)
 
   pub on_west : j ≢ 0 → j ≢ high l x p → i ≡ 0 → point l x p i j ≡ side_point l x p west (high l x p - j)
-  on_west j_some j_low none =
-      cond-false (j == 0) _ _ (ne_eqb j 0 j_some) ∙ cond-false (j == high l x p) _ _ (ne_eqb j (high l x p) j_low)
-      ∙ cond-true (i == 0) _ _ (eq-eqb i 0 none)
+  on_west j_some j_low none = cond-false (j == 0) _ _ (ne_eqb j 0 j_some) ∙ cond-false (j == high l x p) _ _
+      (ne_eqb j (high l x p) j_low) ∙ cond-true (i == 0) _ _ (eq-eqb i 0 none)
 
   pub on_east : j ≢ 0 → j ≢ high l x p → i ≢ 0 → i ≡ wide l x p → point l x p i j ≡ side_point l x p east j
   on_east j_some j_low i_some end =
@@ -58,8 +57,7 @@ tables_are plan t is = record {
   );
   short = λ p s low. omega (
     arith,
-    side_few (layout_of plan) (lengths_in t.lengths.items) (laid_of plan is.mesh)
-        is.lengths p s low,
+    side_few (layout_of plan) (lengths_in t.lengths.items) (laid_of plan is.mesh) is.lengths p s low,
     is.few,
   );
   nodes = is.nodes;
@@ -171,19 +169,15 @@ module _ (plan : Plan) (t : Tables) (is : AreTables plan t) where
   pub table_full : (p s : ℕ) (sides : List (List RunStarts)) (table : List ℕ) → p < length plan.patches → s < 4
       → sides ≡ t.sides.items
       → table ≡ table_in (tables_of sides) p s → 0 < length table
-  table_full p s sides table low way same table_is =
-      subst (λ (xs : List ℕ). 0 < length xs)
-      (sym (table_is ∙ ap (λ (ys : List (List RunStarts)). table_in (tables_of ys) p s) same))
-      (table_some p s low way)
+  table_full p s sides table low way same table_is = subst (λ (xs : List ℕ). 0 < length xs)
+      (sym (table_is ∙ ap (λ (ys : List (List RunStarts)). table_in (tables_of ys) p s) same)) (table_some p s low way)
 
   pub size_read : (p : ℕ) (s : Way) (sides : List (List RunStarts)) (table : List ℕ) (v : ℕ) → p < length plan.patches
       → sides ≡ t.sides.items
       → table ≡ table_in (tables_of sides) p (way_number s) → v ≡ slice_index table (length table - 1)
       → v ≡ size (layout_of plan) (lengths_in t.lengths.items) p s
-  size_read p s sides table v low same table_is read =
-      read ∙ ap (λ (xs : List ℕ). slice_index xs (length xs - 1)) (table_is
-      ∙ ap (λ (ys : List (List RunStarts)). table_in (tables_of ys) p (way_number s)) same)
-      ∙ long_is p s low
+  size_read p s sides table v low same table_is read = read ∙ ap (λ (xs : List ℕ). slice_index xs (length xs - 1))
+      (table_is ∙ ap (λ (ys : List (List RunStarts)). table_in (tables_of ys) p (way_number s)) same) ∙ long_is p s low
 
   -- The cell with a number.
   pub record IsCell (f : ℕ) : Type 0 where
@@ -245,23 +239,20 @@ module _ (plan : Plan) (t : Tables) (is : AreTables plan t) where
   -- The end of the arcs' inner points.
   pub along_end : (list : List ℕ) (v : ℕ) → list ≡ t.along.begin.items → v ≡ slice_index list (length list - 1)
       → v ≡ before_arc (lengths_in t.lengths.items) (length plan.arcs)
-  along_end list v same read =
-      read ∙ ap (λ (xs : List ℕ). slice_index xs (length xs - 1)) same
-      ∙ last_is (λ a. lengths_in t.lengths.items a - 1) (length plan.arcs) t.along.begin.items is.along
+  along_end list v same read = read ∙ ap (λ (xs : List ℕ). slice_index xs (length xs - 1)) same ∙ last_is
+      (λ a. lengths_in t.lengths.items a - 1) (length plan.arcs) t.along.begin.items is.along
 
   -- The end of the patches' inner points.
   pub inside_end : (list : List ℕ) (v : ℕ) → list ≡ t.inside.begin.items → v ≡ slice_index list (length list - 1)
       → v ≡ before_patch (layout_of plan) (lengths_in t.lengths.items) (length plan.patches)
-  inside_end list v same read =
-      read ∙ ap (λ (xs : List ℕ). slice_index xs (length xs - 1)) same
-      ∙ last_is (λ p. (wide l x p - 1) * (high l x p - 1)) (length plan.patches) t.inside.begin.items is.inside
+  inside_end list v same read = read ∙ ap (λ (xs : List ℕ). slice_index xs (length xs - 1)) same ∙ last_is
+      (λ p. (wide l x p - 1) * (high l x p - 1)) (length plan.patches) t.inside.begin.items is.inside
 
   -- The end of the patches' cells.
   pub cells_end : (list : List ℕ) (v : ℕ) → list ≡ t.cells.begin.items → v ≡ slice_index list (length list - 1)
       → v ≡ face_count (layout_of plan) (lengths_in t.lengths.items)
-  cells_end list v same read =
-      read ∙ ap (λ (xs : List ℕ). slice_index xs (length xs - 1)) same
-      ∙ last_is (λ p. wide l x p * high l x p) (length plan.patches) t.cells.begin.items is.cells
+  cells_end list v same read = read ∙ ap (λ (xs : List ℕ). slice_index xs (length xs - 1)) same ∙ last_is
+      (λ p. wide l x p * high l x p) (length plan.patches) t.cells.begin.items is.cells
 
   -- An inner point of a patch.
   pub inside_here : (p i j columns begin end : ℕ) → p < length plan.patches

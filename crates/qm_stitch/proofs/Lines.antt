@@ -133,8 +133,7 @@ module _ (priced : Priced) where
       edge k = line_edge line.upright line.patch line.number k
 
       long_some : 0 < long
-      long_some =
-          size_some l x priced.numbered.numbers.paved priced.numbered.numbers.lengths line.patch
+      long_some = size_some l x priced.numbered.numbers.paved priced.numbered.numbers.lengths line.patch
           (along_lines line.upright) inside.patch
 
       edge_is : (k : ℕ) → k < long → IsEdge l x (edge k)
@@ -279,14 +278,12 @@ module _ (priced : Priced) where
     none_along run none r (same, (e, by)) = none (subst (IsShortRun (plan priced.numbered.t.now) x) same by.short)
 
     -- Those along all arcs and all sides are all.
-    all_along : (r : Remedy) → IsPricedRemedy priced r
-        → IsAlongArcs priced l.arcs r ⊎ IsAlongPatches priced l.patches r
+    all_along : (r : Remedy) → IsPricedRemedy priced r → IsAlongArcs priced l.arcs r ⊎ IsAlongPatches priced l.patches r
     all_along r has = by_run r.run refl (remedy_in (plan priced.numbered.t.now) x priced.prices.now r has)
       where
         by_run : (run : Run) → r.run ≡ run → IsRunIn (plan priced.numbered.t.now) r.run
             → IsAlongArcs priced l.arcs r ⊎ IsAlongPatches priced l.patches r
-        by_run (Arc a) same there =
-            inl (a, subst (IsRunIn (plan priced.numbered.t.now)) same there, (same, has))
+        by_run (Arc a) same there = inl (a, subst (IsRunIn (plan priced.numbered.t.now)) same there, (same, has))
         by_run (Side p s) same there =
             let at : (p < l.patches) × (s < 4) = subst (IsRunIn (plan priced.numbered.t.now)) same there in
             inr (p, at.0, (s, at.1, (same, has)))

@@ -29,16 +29,14 @@ no_use = record { arc = 0; forward = true }
 on_side : (plan : Plan) (p : ℕ) (way : Way) (arc : ℕ) → is_on (side_at plan p way) arc ≡ true
     → IsOnSide (layout_of plan) p way arc
 on_side plan p way arc on =
-    let r : (i : ℕ) × (i < length (side_at plan p way))
-    × (((get_or (side_at plan p way) i no_use).arc == arc) ≡ true) =
+    let r : (i : ℕ) × (i < length (side_at plan p way)) × (((get_or (side_at plan p way) i no_use).arc == arc) ≡ true) =
     any_at (λ (used : SideArc). used.arc == arc) (side_at plan p way) no_use on in
     (r.0, r.1, eqb-true (get_or (side_at plan p way) r.0 no_use).arc arc r.2)
 
 side_on : (plan : Plan) (p : ℕ) (way : Way) (arc : ℕ) → IsOnSide (layout_of plan) p way arc
     → is_on (side_at plan p way) arc ≡ true
-side_on plan p way arc (at, low, same) =
-    list_any_at (λ (used : SideArc). used.arc == arc) (side_at plan p way) at no_use low
-    (eq-eqb (get_or (side_at plan p way) at no_use).arc arc same)
+side_on plan p way arc (at, low, same) = list_any_at (λ (used : SideArc). used.arc == arc) (side_at plan p way) at
+    no_use low (eq-eqb (get_or (side_at plan p way) at no_use).arc arc same)
 
 -- Marks of the arcs in use on a side.
 pub adds_side : (plan : Plan) (p s : ℕ) (side : List SideArc) (old new : List Bool) → side ≡ arcs_on plan p s
@@ -81,8 +79,7 @@ to_beside l true p arc (inr is) = inl is
 pub adds_lines : (l : Layout) (x : Lengths) (u : Bool) (p : ℕ) (old mid new : List Bool) → length mid ≡ length old
     → IsDoubledIn l x u p → AddsMarks old mid (IsOnSide l p (along_lines u))
     → AddsMarks mid new (IsOnSide l p (across u)) → AddsMarks old new (IsTightAt l x u p)
-adds_lines l x u p old mid new long doubled first second arc low =
-    (λ on. there (b.0 on), λ is. b.1 (back is))
+adds_lines l x u p old mid new long doubled first second arc low = (λ on. there (b.0 on), λ is. b.1 (back is))
   where
     a : (get_or mid arc false ≡ true) ↔ ((get_or old arc false ≡ true) ⊎ IsOnSide l p (along_lines u) arc)
     a = first arc low
@@ -110,8 +107,7 @@ adds_lines l x u p old mid new long doubled first second arc low =
 pub adds_patch : (l : Layout) (x : Lengths) (p : ℕ) (old now mid new : List Bool) → length now ≡ length old
     → length mid ≡ length now → AddsMarks old now (IsTightUpto l x p) → AddsMarks now mid (IsTightAt l x false p)
     → AddsMarks mid new (IsTightAt l x true p) → AddsMarks old new (IsTightUpto l x (p + 1))
-adds_patch l x p old now mid new long longer before rows columns arc low =
-    (λ on. there (c.0 on), λ is. c.1 (back is))
+adds_patch l x p old now mid new long longer before rows columns arc low = (λ on. there (c.0 on), λ is. c.1 (back is))
   where
     a : (get_or now arc false ≡ true) ↔ ((get_or old arc false ≡ true) ⊎ IsTightUpto l x p arc)
     a = before arc low

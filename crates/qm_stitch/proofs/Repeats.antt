@@ -131,8 +131,7 @@ module _ (keys : List ℕ) (increasing : IsNonDecreasing keys) where
       → IsLeastRepeat keys (get_or keys place 0)
   first_is place low none on = record {
     is = at_repeat place low on;
-    least =
-        λ other is. by_place other (repeat_at other is);
+    least = λ other is. by_place other (repeat_at other is);
   }
     where
       by_place : (other : ℕ) → (k : ℕ) × (k < length keys) × (get_or keys k 0 ≡ other) × (is_repeat_at keys k ≡ true)
@@ -155,8 +154,7 @@ module _ (keys : List ℕ) (increasing : IsNonDecreasing keys) where
 
   pub before_repeats : (place key : ℕ) → place < length keys → get_or keys place 0 ≡ key → 0 < place
       → get_or keys (place - 1) 0 ≡ key → IsRepeat keys key
-  before_repeats place key low at some before =
-      inr (place - 1, place, omega (arith, some), low, before, at)
+  before_repeats place key low at some before = inr (place - 1, place, omega (arith, some), low, before, at)
 
   pub beside : (place key : ℕ) → place < length keys → get_or keys place 0 ≡ key → IsRepeat keys key
       → (is_repeat_at keys place ≡ true) ⊎ ((0 < place) × (get_or keys (place - 1) 0 ≡ key))

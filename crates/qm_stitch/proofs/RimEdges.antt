@@ -67,9 +67,8 @@ by_ends P first last false a b = All-cons P first [] a (All-nil P)
 
 fresh_ends : (first last : Edge) (several : Bool) → (several ≡ true → first ≢ last)
     → IsFresh (first ∷ cond several (last ∷ []) [])
-fresh_ends first last true apart =
-    AllPairs-cons (λ x y. x ≢ y) first (last ∷ []) (All-cons (λ y. first ≢ y) last [] (apart refl)
-    (All-nil (λ y. first ≢ y)))
+fresh_ends first last true apart = AllPairs-cons (λ x y. x ≢ y) first (last ∷ [])
+    (All-cons (λ y. first ≢ y) last [] (apart refl) (All-nil (λ y. first ≢ y)))
     (AllPairs-cons (λ x y. x ≢ y) last [] (All-nil (λ y. last ≢ y)) fresh_nil)
 fresh_ends first last false apart = AllPairs-cons (λ x y. x ≢ y) first [] (All-nil (λ y. first ≢ y)) fresh_nil
 
@@ -88,9 +87,8 @@ module _ (l : Layout) (x : Lengths) where
       (each n (size l x p (along_lines u) - 1)))
 
   each_in : (P : Edge → Type 0) (p : ℕ) → ((u : Bool) (n k : ℕ) → P (line_edge u p n k)) → All P (ends_in l x p)
-  each_in P p each =
-      All-append P (all_lines l x false p) (all_lines l x true p) (each_line P false p (high l x p - 1) (each false))
-      (each_line P true p (wide l x p - 1) (each true))
+  each_in P p each = All-append P (all_lines l x false p) (all_lines l x true p)
+      (each_line P false p (high l x p - 1) (each false)) (each_line P true p (wide l x p - 1) (each true))
 
   fresh_lines : (u : Bool) (p lines : ℕ) → IsFresh (lines_upto l x u p lines)
   fresh_lines u p lines =
@@ -101,10 +99,8 @@ module _ (l : Layout) (x : Lengths) where
       (line_is u p n 0) (line_is u p n (size l x p (along_lines u) - 1)))
 
   fresh_patch : (p : ℕ) → IsFresh (ends_in l x p)
-  fresh_patch p =
-      fresh_append (all_lines l x false p) (all_lines l x true p) (fresh_lines false p (high l x p - 1))
-      (fresh_lines true p (wide l x p - 1))
-      (λ e f in_rows in_columns same.
+  fresh_patch p = fresh_append (all_lines l x false p) (all_lines l x true p) (fresh_lines false p (high l x p - 1))
+      (fresh_lines true p (wide l x p - 1)) (λ e f in_rows in_columns same.
       let a : kind e ≡ 1 = All-contains (λ e. kind e ≡ 1) (all_lines l x false p) e
       (each_line (λ e. kind e ≡ 1) false p (high l x p - 1) (kind_is false p)) in_rows in
       let b : kind f ≡ 2 = All-contains (λ e. kind e ≡ 2) (all_lines l x true p) f

@@ -28,8 +28,7 @@ module _ {X : Type 0} where
           (i, i_left, get_or_default xs i (get_or xs i d) d i_left) (
             j - length xs,
             right j_right,
-            get_or_default ys (j - length xs) (get_or ys (j - length xs) d) d
-                (right j_right),
+            get_or_default ys (j - length xs) (get_or ys (j - length xs) d) d (right j_right),
           )
           (sym (get_or_append_left xs ys d i i_left) ∙ same ∙ get_or-append_right xs ys (length xs) j d refl j_right)
       | inr i_right ↦ λ same. fresh_y (i - length xs) (j - length xs) d (omega (arith, less, i_right)) (right j_right)
@@ -65,9 +64,8 @@ module _ {X : Type 0} where
   pub fresh_parts : (part : ℕ → List X) (tag : X → ℕ) (first many : ℕ) → ((k : ℕ) → IsFresh (part k))
       → ((k : ℕ) → All (λ x. tag x ≡ k) (part k)) → IsFresh (flat_map part (range_with_len first many))
   fresh_parts part tag first zero fresh tags = fresh_nil
-  fresh_parts part tag first (suc many) fresh tags =
-      fresh_append (part first) (flat_map part (range_with_len (first + 1) many)) (fresh first)
-      (fresh_parts part tag (first + 1) many fresh tags)
+  fresh_parts part tag first (suc many) fresh tags = fresh_append (part first)
+      (flat_map part (range_with_len (first + 1) many)) (fresh first) (fresh_parts part tag (first + 1) many fresh tags)
       (λ x y in_first in_rest same.
       let x_tag : tag x ≡ first = All-contains (λ z. tag z ≡ first) (part first) x (tags first) in_first in
       let y_tag : first + 1 ≤ tag y =
@@ -101,17 +99,15 @@ module _ {X : Type 0} where
   in_range item many k low = (
     k,
     omega (arith, low, length-map-range_with_len item 0 many),
-    get_or-map-range_with_len item 0 many k k (item k)
-        low (omega arith),
+    get_or-map-range_with_len item 0 many k k (item k) low (omega arith),
   )
 
 -- Two lists behind each other.
 pub both_next : {X Y : Type 0} (f : X → Y) (us vs : List X) (xs ys zs : List Y) → ys ≡ xs ++ map f us
     → zs ≡ ys ++ map f vs
     → zs ≡ xs ++ map f (us ++ vs)
-both_next f us vs xs ys zs first second =
-    second ∙ ap (λ ws. ws ++ map f vs) first ∙ append_assoc xs (map f us) (map f vs)
-    ∙ ap (λ ws. xs ++ ws) (sym (map-append f us vs))
+both_next f us vs xs ys zs first second = second ∙ ap (λ ws. ws ++ map f vs) first ∙ append_assoc xs (map f us)
+    (map f vs) ∙ ap (λ ws. xs ++ ws) (sym (map-append f us vs))
 
 -- One item, and a second one in one of two cases.
 pub first_next : {X Y : Type 0} (f : X → Y) (first last : X) (several : Bool) (xs ys zs : List Y) (y z : Y)
@@ -140,9 +136,8 @@ item_next f item many before ys zs y so_far more is =
 
 -- One part more.
 range_next : (first many : ℕ) → range_with_len first (many + 1) ≡ range_with_len first many ++ (first + many) ∷ []
-range_next first many =
-    sym (map-id _) ∙ map-range_with_len_more (λ k. k) first many (first + many) refl
-    ∙ ap (λ ks. ks ++ (first + many) ∷ []) (map-id _)
+range_next first many = sym (map-id _) ∙ map-range_with_len_more (λ k. k) first many (first + many) refl ∙ ap
+    (λ ks. ks ++ (first + many) ∷ []) (map-id _)
 
 more_parts : {X : Type 0} (part : ℕ → List X) (first many : ℕ)
     → flat_map part (range_with_len first (many + 1)) ≡ flat_map part (range_with_len first many) ++ part (first + many)

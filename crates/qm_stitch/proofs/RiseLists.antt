@@ -49,15 +49,13 @@ module _ (some : Bool) (tight : List Bool) (xs : List ℕ) where
           (sym (at_new (k + 1) (omega (arith, last, before))))
           (omega (arith, same, are.below k before)))
     ];
-    floors = λ k k_low. by_place
-        (λ r. (r.arc < length xs) × IsFloorOf some tight xs r.arc r.floor) k k_low
+    floors = λ k k_low. by_place (λ r. (r.arc < length xs) × IsFloorOf some tight xs r.arc r.floor) k k_low
         (are.floors k) (omega (arith, same, low), is);
     each = λ a floor a_low has. elim (cases_eq a arc) [
       | inl this ↦ (
         length rises,
         omega (arith, longer),
-        ap (λ (r : Rise). r.arc) (at_new (length rises) refl)
-            ∙ same ∙ sym this,
+        ap (λ (r : Rise). r.arc) (at_new (length rises) refl) ∙ same ∙ sym this,
       )
       | inr other ↦
           let old = are.each a floor (omega (arith, a_low, other)) has in
@@ -144,8 +142,7 @@ module _
             let s = told.0 on in
             let inner : s.0 < l.arcs = omega (arith, s.1, long) in
             absurd (omega (arith, all s.0 inner ((tells s.0 inner).0 s.2.0), s.2.1))
-        by_some false off (inl (t, same)) =
-            absurd (omega (arith, tight_long off rise.arc is.there t, is.low, same))
+        by_some false off (inl (t, same)) = absurd (omega (arith, tight_long off rise.arc is.there t, is.low, same))
         by_some false off (inr (all, same)) = (omega (arith, is.short, same), same)
 
     needed_is : (rises : List Rise) → AreNeeded l (lengths_in xs) rises
@@ -167,8 +164,7 @@ module _
 -- Rises of tight arcs are needed, and where no tight arc is short those of all short arcs.
 module _ (l : Layout) (xs : List ℕ) (chosen : List Bool) (long : length xs ≡ l.arcs) (rises : List Rise) where
   pub chosen_needed : ((arc : ℕ) → arc < l.arcs → get_or chosen arc false ≡ true → IsTightArc l (lengths_in xs) arc)
-      → AreRisesUpto true chosen xs (length xs) rises
-      → (arc : ℕ) × (arc < length xs) × IsShortTight chosen xs arc
+      → AreRisesUpto true chosen xs (length xs) rises → (arc : ℕ) × (arc < length xs) × IsShortTight chosen xs arc
       → AreNeeded l (lengths_in xs) rises
   chosen_needed sound are (arc, low, (marked, short)) = record {
     some = let has = are.each arc (lengths_in xs arc + 1) low (short, marked, refl) in omega (arith, has.1);

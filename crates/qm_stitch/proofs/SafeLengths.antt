@@ -67,6 +67,5 @@ module _ (plan : Plan) (list : List ℕ) (long : length list ≡ length plan.arc
 pub shapes_kept : (plan : Plan) (lengths : Lengths) → AreLengths (layout_of plan) lengths
     → IsUndoubled (layout_of plan) lengths
     → KeepsShapes plan lengths
-shapes_kept plan lengths len undoubled faces marks mesh quads cut laid =
-    keeps_shape_law faces (layout_of plan) (long_at plan.arcs) (vertex_at plan)
-    (plan_law faces marks plan mesh quads cut laid) lengths len undoubled
+shapes_kept plan lengths len undoubled faces marks mesh quads cut laid = keeps_shape_law faces (layout_of plan)
+    (long_at plan.arcs) (vertex_at plan) (plan_law faces marks plan mesh quads cut laid) lengths len undoubled

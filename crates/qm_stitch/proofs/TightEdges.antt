@@ -50,8 +50,7 @@ tight_of l x arc (inr (p, true, low, ((n, (k, is)), beside))) = tight_by l x arc
 
 of_tight : (l : Layout) (x : Lengths) (arc : ℕ) → IsTightArc l x arc
     → IsDoubledOn l x arc ⊎ IsTightUpto l x l.patches arc
-of_tight l x arc t =
-    by_edge t.edge (record { is = t.is; u = t.u; v = t.v; ends = t.ends; doubled = t.doubled }) t.along
+of_tight l x arc t = by_edge t.edge (record { is = t.is; u = t.u; v = t.v; ends = t.ends; doubled = t.doubled }) t.along
   where
     by_edge : (e : Edge) → IsDoubled l x e → RunsAlong l e arc → IsDoubledOn l x arc ⊎ IsTightUpto l x l.patches arc
     by_edge (on_arc a k) is along = inl (k, subst (λ (b : ℕ). IsDoubled l x (on_arc b k)) along is)

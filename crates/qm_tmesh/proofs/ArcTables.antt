@@ -40,8 +40,7 @@ module _ (faces : Faces) (cut marks : List Bool) (marked : IsMarked faces cut ma
   arcs_none = record {
     each = λ a l. absurd (omega arith);
     ordered = λ a l. absurd (omega arith);
-    below =
-        λ a l. absurd (omega arith);
+    below = λ a l. absurd (omega arith);
     all = λ s n named l. absurd (omega arith);
   }
 

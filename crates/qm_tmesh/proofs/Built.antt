@@ -71,9 +71,8 @@ pub split_begins : (arcs : List Path) (uses : List SideArc) (line : List ℕ) (b
     → begins (reach_in arcs used k) ≡ true
 split_begins arcs uses line begins used split side zero l = split.first (let h : reach_in arcs used 0 < length line =
     (side.each 0 l).0 in omega arith)
-split_begins arcs uses line begins used split side (suc k) l =
-    next (side.each k (omega arith)) (side.each (suc k) l).0 (split_begins arcs uses line begins used split side k
-    (omega arith))
+split_begins arcs uses line begins used split side (suc k) l = next (side.each k (omega arith)) (side.each (suc k) l).0
+    (split_begins arcs uses line begins used split side k (omega arith))
   where
     next : (reach_in arcs used k < length line) × (use_in used k ≡ use_in uses (get_or line (reach_in arcs used k) 0))
         → reach_in arcs used (suc k) < length line → begins (reach_in arcs used k) ≡ true
@@ -278,9 +277,8 @@ module _ (faces : Faces) (cut marks : List Bool) (marked : IsMarked faces cut ma
           b.2.last_at k e ∙ ap (to_of faces) (sym (dart_is a k b.0 b.2 (omega arith)));
       sided = all.count;
       four = λ p l. (all.each p l).count;
-      sizes = λ p way l. (side p way l).total
-          ∙ run_long (half_edges faces) (border_dart (half_edges faces) (patch_at ps p) way 0)
-          (side_size (patch_at ps p) way);
+      sizes = λ p way l. (side p way l).total ∙ run_long (half_edges faces)
+          (border_dart (half_edges faces) (patch_at ps p) way 0) (side_size (patch_at ps p) way);
       uses = λ slot is. (slot_use slot.patch slot.side slot.at is.patch_low is.low).0;
       used = λ slot offset is lo. (slot_use slot.patch slot.side slot.at is.patch_low is.low).1 offset lo;
     }

@@ -133,8 +133,7 @@ module _ (faces : Faces) (arcs : List Path) (uses : List SideArc) (runs : AreRun
           low = f.0;
           some = f.1;
           fits = omega (arith, f.2, size);
-          next =
-              λ far. f.3 (omega (arith, size));
+          next = λ far. f.3 (omega (arith, size));
         }
 
 -- A side that begins with this dart.

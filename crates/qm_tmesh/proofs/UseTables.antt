@@ -169,9 +169,8 @@ module _ (faces : Faces) (cut marks : List Bool) (marked : IsMarked faces cut ma
             ∙ get_or-set_other uses first e (record { arc = a; forward = true }) (record { arc = 0; forward = true }) ne
 
         here1 : use_in one first ≡ record { arc = a; forward = true }
-        here1 = ap (λ (xs : List SideArc). use_in xs first) e1
-            ∙ get_or-set_same uses first (record { arc = a; forward = true }) (record { arc = 0; forward = true })
-            (omega (arith, so.long))
+        here1 = ap (λ (xs : List SideArc). use_in xs first) e1 ∙ get_or-set_same uses first
+            (record { arc = a; forward = true }) (record { arc = 0; forward = true }) (omega (arith, so.long))
 
         at_first : LiesAt (half_edges faces) (path_at arcs a).darts true 0 first
         at_first = ef
@@ -179,8 +178,7 @@ module _ (faces : Faces) (cut marks : List Bool) (marked : IsMarked faces cut ma
         by_last : (o : Option ℕ) → last ≡ o → HasUsesBelow faces arcs (a + 1) new
         by_last None is = record {
           long = ap length (off is) ∙ long1;
-          each =
-              λ b e f lb l at. ap (λ (xs : List SideArc). use_in xs e) (off is) ∙ each b e f lb l at (cases_eq b a);
+          each = λ b e f lb l at. ap (λ (xs : List SideArc). use_in xs e) (off is) ∙ each b e f lb l at (cases_eq b a);
         }
           where
             each : (b e : ℕ) (f : Bool) → b < a + 1 → b < length arcs
@@ -199,10 +197,8 @@ module _ (faces : Faces) (cut marks : List Bool) (marked : IsMarked faces cut ma
                 no_twin : None ≡ Some e → ⊥
                 no_twin q = absurd cc
         by_last (Some t) is = record {
-          long =
-              ap length (on t is) ∙ (length-set one t (record { arc = a; forward = false }) ∙ long1);
-          each =
-              λ b e f lb l at. ap (λ (xs : List SideArc). use_in xs e) (on t is) ∙ each b e f lb l at (cases_eq b a);
+          long = ap length (on t is) ∙ (length-set one t (record { arc = a; forward = false }) ∙ long1);
+          each = λ b e f lb l at. ap (λ (xs : List SideArc). use_in xs e) (on t is) ∙ each b e f lb l at (cases_eq b a);
         }
           where
             at_last : LiesAt (half_edges faces) (path_at arcs a).darts false 0 t

@@ -144,10 +144,8 @@ chain_passed chain short = record {
 }
   where
     part : part_of (chain_line chain) ≡ chain_line chain
-    part =
-        ap (λ (t : Bool). if t then with_space (chain_line chain) else before_first is_hash (chain_line chain))
-        (no_continuation (chain_line chain) (chain_tame chain))
-        ∙ whole_line (chain_line chain) (chain_tame chain)
+    part = ap (λ (t : Bool). if t then with_space (chain_line chain) else before_first is_hash (chain_line chain))
+        (no_continuation (chain_line chain) (chain_tame chain)) ∙ whole_line (chain_line chain) (chain_tame chain)
 
 chains_passed : (chains : List (List ℕ))
     → ((k : ℕ) → k < length (map chain_line chains) → length (get_or (map chain_line chains) k []) ≤ 65536)

@@ -36,8 +36,7 @@ module _ (size : ℕ) (input out : Change) (unread : IsUnread input) where
       whole = (unread, refl);
       soup = steps_soup size;
       looks = refl;
-      numbers =
-          none.2;
+      numbers = none.2;
     };
     calm = λ f m. unread.1;
   }

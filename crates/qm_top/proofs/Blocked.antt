@@ -57,8 +57,7 @@ blocks_writer by input out soup manifold read calm = record {
   writes = λ text blocked. record {
     soup = soup;
     mesh = record { said = read.said; manifold = manifold };
-    blocked =
-        blocked;
+    blocked = blocked;
   };
   read = λ text blocked. tt;
   ends = layout_ends (commands.Blocks by) (FailsToRefine by soup) input out calm

@@ -162,8 +162,7 @@ fit_not_both fit bytes answer takes refuses = by_parts answer refuses
   where
     by_parts : (answer : Answer) → RefusesAsides fit bytes answer ⊎ RefusesTask (AsksForNearFit fit) bytes answer → ⊥
     by_parts answer (inl none) = asides_not_refused fit bytes answer takes.asides none
-    by_parts answer (inr why) =
-        task_not_both (AsksForNearFit fit) bytes answer
+    by_parts answer (inr why) = task_not_both (AsksForNearFit fit) bytes answer
         (near_finished (AsksToFit fit) (AsksForNearFit fit) bytes (λ soup task near. near.0) takes.finished) why
 
 -- Bytes whose lines that are kept are not refused have no refusal of them, and so no refusal of a layout.

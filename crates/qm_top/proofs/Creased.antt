@@ -79,6 +79,5 @@ module _ (settings : Settings) (bytes : Bytes) (read : FaceSet) (cut : CutSoup) 
   -- Where its layout is refused its task fails.
   pub creased_fails : (fail : LayoutFail) → IsLayoutFail old_lengths cut.plan settings Never fail
       → FailsAsked (AsksToCrease settings) bytes read fail
-  creased_fails fail why =
-      subst (λ (s : FaceSet). FailsAsked (AsksToCrease settings) bytes s fail) same
+  creased_fails fail why = subst (λ (s : FaceSet). FailsAsked (AsksToCrease settings) bytes s fail) same
       (creased_task settings cut.soup.faces marks, asked, (cut.plan, on, why))

@@ -36,8 +36,7 @@ pub bench_kept : (plan : Plan) (settings : Settings) (certificates : Certificate
 bench_kept plan settings certificates tables same kept =
     subst (λ (s : Settings). IsKept old_lengths plan s Never certificates tables) same kept
 
-module _
-    (plan : Plan) (tables : Tables) (net : Network)
+module _ (plan : Plan) (tables : Tables) (net : Network)
     (is : IsNetOf (layout_of plan) (long_at plan.arcs) (long_at plan.arcs) bench_settings (λ a. 1) net) where
   -- The kept lengths are lengths of the layout's network.
   pub kept_lengths : (certificates : Certificates) → IsKept old_lengths plan bench_settings Never certificates tables
@@ -56,10 +55,8 @@ module _
   deviation_kept (raised first cert) told mesh kept says = absurd (no_third kept.kept.0)
   deviation_kept (risen first rises after) told mesh kept says = absurd (no_rounds kept.kept.0)
   deviation_kept (alone cert) told mesh kept says =
-      let one : net ≡ kept.kept.lengths.net =
-      one_net_law (layout_of plan) (long_at plan.arcs) (long_at plan.arcs) bench_settings (λ a. 1) (laid_of plan mesh)
-      net
-      kept.kept.lengths.net is kept.kept.lengths.of_layout in
+      let one : net ≡ kept.kept.lengths.net = one_net_law (layout_of plan) (long_at plan.arcs) (long_at plan.arcs)
+      bench_settings (λ a. 1) (laid_of plan mesh) net kept.kept.lengths.net is kept.kept.lengths.of_layout in
       record {
         cert = cert;
         certified = kept.kept;

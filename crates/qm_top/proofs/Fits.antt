@@ -123,9 +123,8 @@ module _ (fit : AnyFit) (bytes : Bytes) (read : FaceSet) (cut : CutSoup) (asides
       → ((marks : List Bool) → IsFullCut cut.soup.faces marks → IsCutLayout cut.soup.faces marks cut.plan
       → framed.shares ≡ shares_of fit cut.soup asides.wishes marks)
       → ShowsAsked (AsksForNearFit fit) bytes read (framed_text framed cut.soup cut.plan)
-  fit_shown framed near is kept head between shares =
-      aimed_shown fit.aim (AsksToFit fit) (AsksForNearFit fit) bytes read cut same task asked chosen.2 nearly framed
-      laid near is kept head between (shares chosen.0 full chosen.2)
+  fit_shown framed near is kept head between shares = aimed_shown fit.aim (AsksToFit fit) (AsksForNearFit fit) bytes
+      read cut same task asked chosen.2 nearly framed laid near is kept head between (shares chosen.0 full chosen.2)
 
   -- It is not written where there is no network for its wishes, or where least lengths give no new mesh.
   pub fit_fails : {O : Type 0} (says : Bytes → Type 0) (out : Stream O) → IsStill out → (fail : SizeFail)
@@ -134,6 +133,5 @@ module _ (fit : AnyFit) (bytes : Bytes) (read : FaceSet) (cut : CutSoup) (asides
       → IsUnwritten says (IsOfWishes (FailsNear (AsksToFit fit) (AsksForNearFit fit) bytes read)
       (IsFarTask fit.aim (AsksToFit fit) bytes read)) out
       (refusal_of_size fail)
-  fit_fails says out still fail why =
-      aimed_fails fit.aim (AsksToFit fit) (AsksForNearFit fit) bytes read cut same task asked chosen.2 nearly says
-      out still fail why
+  fit_fails says out still fail why = aimed_fails fit.aim (AsksToFit fit) (AsksForNearFit fit) bytes read cut same task
+      asked chosen.2 nearly says out still fail why

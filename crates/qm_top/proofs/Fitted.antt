@@ -47,8 +47,7 @@ pub record IsAimed (command : Command) (aim : Aim) (asks near : Asks) : Type 0 w
 
 -- What such a command keeps that has read a mesh.
 module _ (command : Command) (aim : Aim) (asks near : Asks) (input out : Change) (soup : FaceSet)
-    (needs : NeedsMesh command)
-    (aimed : IsAimed command aim asks near) (manifold : IsManifold soup.faces)
+    (needs : NeedsMesh command) (aimed : IsAimed command aim asks near) (manifold : IsManifold soup.faces)
     (read : ReadSoup MAX_BYTES input.told input.told_now soup)
     (calm : input.faults_now ≡ input.faults) where
   mesh : IsMeshText read.bytes soup
@@ -66,8 +65,7 @@ module _ (command : Command) (aim : Aim) (asks near : Asks) (input out : Change)
   refuses : (fail : LayoutFail) → FailsNear asks near read.bytes soup fail
       → Cause command input out (answer_of_layout fail)
   refuses layouts.Memory why = tt
-  refuses (layouts.Tangled count) (task, asked, (plan, cut, why)) =
-      ended_by (answers.Tangled count)
+  refuses (layouts.Tangled count) (task, asked, (plan, cut, why)) = ended_by (answers.Tangled count)
       (aimed.tangled read.bytes count (refused asks (answers.Tangled count) task plan asked cut why))
   refuses (layouts.TooFine faces kept) (task, asked, (plan, cut, why)) =
       ended_by (answers.TooFine faces kept)
@@ -84,8 +82,7 @@ module _ (command : Command) (aim : Aim) (asks near : Asks) (input out : Change)
       record {
         cause = ended_by (answers.Far sum) (aimed.far read.bytes soup sum mesh far);
         names = λ p same. cc;
-        calm =
-            λ _ _. calm;
+        calm = λ _ _. calm;
       }
   ends r why = layout_ends command (FailsNear asks near read.bytes soup) input out calm refuses r why
 
@@ -104,8 +101,7 @@ module _ (command : Command) (aim : Aim) (asks near : Asks) (input out : Change)
 
 -- What it writes of a mesh over its cut, and why it does not.
 module _ (aim : Aim) (asks near : Asks) (bytes : Bytes) (read : FaceSet) (cut : CutSoup) (same : cut.soup ≡ read)
-    (task : Task)
-    (asked : asks bytes cut.soup task) (on : IsCutLayout cut.soup.faces task.marks cut.plan)
+    (task : Task) (asked : asks bytes cut.soup task) (on : IsCutLayout cut.soup.faces task.marks cut.plan)
     (nearly : AreAimedNear aim task.wish cut.plan → near bytes cut.soup task) where
   -- What is kept of a layout is written for it.
   pub aimed_shown : (framed : Framed) → IsMeshLayout cut.soup.faces cut.plan → AreAimedNear aim task.wish cut.plan
@@ -120,8 +116,7 @@ module _ (aim : Aim) (asks near : Asks) (bytes : Bytes) (read : FaceSet) (cut : 
       subst (λ (s : FaceSet). ShowsAsked near bytes s (framed_text framed cut.soup cut.plan)) same (
         task,
         nearly close,
-        framed_shown task framed _ cut.soup cut.plan laid on is refl refl kept head between
-            shares,
+        framed_shown task framed _ cut.soup cut.plan laid on is refl refl kept head between shares,
       )
 
   fails_for : {O : Type 0} (says : Bytes → Type 0) (out : Stream O) → IsStill out → (fail : SizeFail)

@@ -65,9 +65,8 @@ put_refused says why out text puts.Memory said memory prefix rose same = (same r
 
 -- A text that was not written is not, whatever it says besides, and whatever layouts are refused besides.
 pub unwritten_weaker : {O : Type 0} (says more : Bytes → Type 0) (fails others : LayoutFail → Type 0) (out : Stream O)
-    → ((text : Bytes) → says text → more text)
-    → ((fail : LayoutFail) → fails fail → others fail) → (r : Refusal) → IsUnwritten says (IsOfLayout fails) out r
-    → IsUnwritten more (IsOfLayout others) out r
+    → ((text : Bytes) → says text → more text) → ((fail : LayoutFail) → fails fail → others fail) → (r : Refusal)
+    → IsUnwritten says (IsOfLayout fails) out r → IsUnwritten more (IsOfLayout others) out r
 unwritten_weaker says more fails others out weaker besides (Layout fail) none = (none.0, besides fail none.1)
 unwritten_weaker says more fails others out weaker besides (Write fail) broke =
     record { text = broke.text; said = weaker broke.text broke.said; prefix = broke.prefix; fault = broke.fault }

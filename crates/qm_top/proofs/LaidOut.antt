@@ -41,8 +41,7 @@ grids_refuse keep patches by bytes (marks.NotEdge line) other has = inr has
 
 -- The cut mesh of bytes with a mesh and lines that are kept.
 module _ (keep : Keep) (patches : Patches) (bytes : Bytes) (read : FaceSet) (kept marks : Option (List Bool))
-    (cut : CutSoup)
-    (mesh : IsMeshText bytes read) (said : kept_in keep bytes read ≡ Ok kept) (copied : marks ≡ kept)
+    (cut : CutSoup) (mesh : IsMeshText bytes read) (said : kept_in keep bytes read ≡ Ok kept) (copied : marks ≡ kept)
     (same : cut.soup ≡ read) (chosen : IsChosenLayout cut.soup.faces marks patches cut.plan) where
   abbrev has_kept : HasKept keep bytes
   has_kept = record {

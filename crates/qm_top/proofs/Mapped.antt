@@ -88,8 +88,7 @@ module _ (command : Command) (input out : Change) (bytes : Bytes) (like : Refuse
       record {
         cause = front_cause fail none.0 none.2;
         names = λ p is. absurd (obj_place fail p is);
-        calm =
-            λ f m. calm;
+        calm = λ f m. calm;
       }
   unmapped_ends (NotManifold named) none =
       let fault = none.0.fault in record {
@@ -114,8 +113,7 @@ module _ (command : Command) (input out : Change) (bytes : Bytes) (like : Refuse
       record {
         cause = marks_cause fail none.0 none.1 none.2;
         names = λ p is. absurd (marks_place fail p is);
-        calm =
-            λ f m. calm;
+        calm = λ f m. calm;
       }
   unmapped_ends (Layout (layouts.Tangled count)) none =
       record { cause = refused _ none; names = λ p is. cc; calm = λ f m. calm }

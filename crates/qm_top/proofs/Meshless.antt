@@ -26,8 +26,7 @@ module _ (command : Command) (needs : NeedsMesh command) (input out : Change) (b
   -- The text has no mesh.
   pub meshless_ended : (r : Refusal) → IsMeshless bytes r → Ended command input out r
   meshless_ended (Soup soup.Memory) why = input_ended command input out (Soup soup.Memory) needs tt
-  meshless_ended (Soup (soup.Obj fail)) why =
-      input_ended command input out (Soup (soup.Obj fail)) needs
+  meshless_ended (Soup (soup.Obj fail)) why = input_ended command input out (Soup (soup.Obj fail)) needs
       (record { bytes = bytes; whole = whole; said = why.0 }, why.1, calm)
   meshless_ended (NotManifold named) why = input_ended command input out (NotManifold named) needs (record {
     soup = why.soup;
@@ -100,8 +99,7 @@ pub text_meshed : (bytes : Bytes) (soup : FaceSet) (result : Result FaceSet Refu
 text_meshed bytes soup (Ok read) said same manifold =
     record {
       said = said ∙ ap Ok (sym same);
-      manifold =
-          subst (λ (s : FaceSet). IsManifold s.faces) (sym same) manifold;
+      manifold = subst (λ (s : FaceSet). IsManifold s.faces) (sym same) manifold;
     }
 text_meshed bytes soup (Err r) said same manifold = tt
 

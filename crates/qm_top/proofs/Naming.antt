@@ -17,8 +17,7 @@ use Rattle.qm_top.specs.Named.{IsNamed}
 repeat_low : (n : ℕ) (seen vs : List ℕ) (v : ℕ) → repeat_after seen vs ≡ Some v
     → ((j : ℕ) → j < length vs → get_or vs j 0 < n) → v < n
 repeat_low n seen [] v is low = absurd (none-some v is)
-repeat_low n seen (x ∷ xs) v is low =
-    by_test (list_any (λ u. eqb u x) seen) is
+repeat_low n seen (x ∷ xs) v is low = by_test (list_any (λ u. eqb u x) seen) is
     (λ e. repeat_low n (x ∷ seen) xs v e (λ j l. low (suc j) (omega (arith, l))))
   where
     by_test : (b : Bool) → cond b (Some x) (repeat_after (x ∷ seen) xs) ≡ Some v
@@ -47,8 +46,7 @@ named_where s (Repeated f v) soup quads fault =
         ap (λ g. corner s.faces g ((4 * f + j) % 4)) (omega (arith, l, four))
         ∙ ap (corner s.faces f) (omega (arith, l, four)) in
         subst (λ k. k < length s.pos) e (within (4 * f + j) (omega (arith, l, four, fault.is_face)))
-named_where s (EdgeTwice from to face1 face2) soup quads (free, (d, e, twice)) =
-    and_from _ _
+named_where s (EdgeTwice from to face1 face2) soup quads (free, (d, e, twice)) = and_from _ _
     (lt-ltb from _ (omega (arith, soup.named, twice.start, within e twice.first.is_dart)))
     (one_named s.names to (omega (
       arith,

@@ -107,8 +107,7 @@ refine_writer by input out soup manifold read calm = record {
   writes = λ text shows. record {
     soup = soup;
     mesh = record { said = read.said; manifold = manifold };
-    refined =
-        shows.refined;
+    refined = shows.refined;
   };
   read = λ text shows. shows.read;
   ends = layout_ends (Refine by) (FailsToRefine by soup) input out calm

@@ -176,8 +176,7 @@ input_ended command input out (Soup (soup.Obj fail)) needs why = record {
 input_ended command input out (Soup soup.Memory) needs why = record {
   cause = tt;
   names = λ p is. cc;
-  calm =
-      λ f m. absurd (m refl);
+  calm = λ f m. absurd (m refl);
 }
 input_ended command input out (NotManifold named) needs why = record {
   cause = record {
@@ -185,8 +184,7 @@ input_ended command input out (NotManifold named) needs why = record {
     whole = needs.reads input why.read.bytes why.read.whole;
     said = needs.refuses why.read.bytes (answers.NotManifold named.place) (record {
       soup = why.soup;
-      said =
-          why.read.said;
+      said = why.read.said;
       fault = why.fault;
       refuted = why.refuted;
     });
@@ -203,8 +201,7 @@ input_ended command input out (NotManifold named) needs why = record {
 input_ended command input out refusals.Memory needs why = record {
   cause = tt;
   names = λ p is. cc;
-  calm =
-      λ f m. absurd (m refl);
+  calm = λ f m. absurd (m refl);
 }
 input_ended command input out _ needs why = absurd why
 

@@ -117,9 +117,8 @@ pub remesh_tasked : (settings : Settings) (auto : Bool) → AreInRange settings 
     → IsTasked (commands.Remesh settings auto) (AsksToRemesh settings auto)
 remesh_tasked settings auto range = record {
   writes = λ bytes text said. said;
-  read = λ bytes text said read.
-      task_reread (AsksToRemesh settings auto) bytes text said (remesh_task settings auto said.soup.faces) said.asked
-      (head_aside settings auto range) none_aside read;
+  read = λ bytes text said read. task_reread (AsksToRemesh settings auto) bytes text said
+      (remesh_task settings auto said.soup.faces) said.asked (head_aside settings auto range) none_aside read;
   refuses = λ bytes answer why. why;
 }
 
@@ -142,9 +141,8 @@ pub coarse_tasked : (settings : Settings) → AreInRange settings false
     → IsTasked (commands.Coarse settings) (AsksToMerge settings)
 coarse_tasked settings range = record {
   writes = λ bytes text said. said;
-  read = λ bytes text said read.
-      task_reread (AsksToMerge settings) bytes text said (named_task (codes "coarse") settings said.asked.0)
-      said.asked.2 (coarse_aside settings range) none_aside read;
+  read = λ bytes text said read. task_reread (AsksToMerge settings) bytes text said
+      (named_task (codes "coarse") settings said.asked.0) said.asked.2 (coarse_aside settings range) none_aside read;
   refuses = λ bytes answer why. why;
 }
 
@@ -153,12 +151,10 @@ module _ (asks : Asks) (bytes : Bytes) (soup read : FaceSet) (same : soup ≡ re
   -- What is done for a task is done for whoever asks for it.
   pub asked_done : (out : Change) → OnOk result (WroteText (ShowsTask task soup) out)
       → OnOk result (WroteText (ShowsAsked asks bytes read) out)
-  asked_done out done =
-      subst (λ (s : FaceSet). OnOk result (WroteText (ShowsAsked asks bytes s) out)) same
+  asked_done out done = subst (λ (s : FaceSet). OnOk result (WroteText (ShowsAsked asks bytes s) out)) same
       (on_ok_weaker result (λ (wrote : WroteText (ShowsTask task soup) out). record {
         text = wrote.text;
-        said =
-            (task, asked, wrote.said);
+        said = (task, asked, wrote.said);
         written = wrote.written;
       }) done)
 

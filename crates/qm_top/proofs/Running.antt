@@ -43,9 +43,8 @@ module _ {S O E : Type 0} (words : Words) (input : Stream S) (out : Stream O) (e
     calm = λ _ _. calm;
   }
 
-  module _ (read : Command) (spoken : IsCommand words read)
-      (accepts : (k : Command) → IsCommand words k → (◌≡◌ {A = Result Command WordsFail} (Ok read) (Ok k))
-      ⊎ (Ok read ≡ Err words_fail.Memory))
+  module _ (read : Command) (spoken : IsCommand words read) (accepts : (k : Command) → IsCommand words k
+      → (◌≡◌ {A = Result Command WordsFail} (Ok read) (Ok k)) ⊎ (Ok read ≡ Err words_fail.Memory))
       (unasked : (size : ℕ) → Bench size ≡ read → IsStill input) where
     -- The command is done.
     pub done_run : Finished read input.change out.change → IsStill err → RunsTo words input out err answers.Done
@@ -74,16 +73,13 @@ module _ {S O E : Type 0} (words : Words) (input : Stream S) (out : Stream O) (e
       ran = λ usage memory. record {
         command = read;
         line = spoken;
-        cause =
-            subst (Cause read input.change out.change) (sym is) ended.cause;
+        cause = subst (Cause read input.change out.change) (sym is) ended.cause;
       };
       reread = λ done. absurd (refused done);
       told = λ _. says_why words read input.change err.change r answer names line spoken is named ended.names text said;
-      complete = λ command other good.
-          completes_as read command input.change out.change answer (answer_of r) is
+      complete = λ command other good. completes_as read command input.change out.change answer (answer_of r) is
           (same_command read command (accepts command other)) ended.cause good;
-      settled = λ command other held.
-          settles_as read command input.change out.change answer (answer_of r) is
+      settled = λ command other held. settles_as read command input.change out.change answer (answer_of r) is
           (same_command read command (accepts command other)) ended.cause held;
       untouched = λ _ other. untouched (λ fault. other (is ∙ fault));
       quiet = λ done. absurd (refused done);

@@ -55,8 +55,7 @@ near_held asks near left more held = record {
       held.untangled task plan (record {
         soup = has.soup;
         mesh = has.mesh;
-        asked =
-            more held.bytes has.soup task has.asked;
+        asked = more held.bytes has.soup task has.asked;
         cut = has.cut;
       }) count;
 }
@@ -76,10 +75,8 @@ size_settles edge floor left held (Far sum) far =
     absurd (far_not_near edge floor sum held.held.bytes held.held.soup held.held.mesh held.near far)
 size_settles edge floor left held (Tangled count) refuses =
     held_settles (AsksForSize edge floor) left held.held (Tangled count) refuses
-size_settles edge floor left held answer refuses =
-    held_settles (AsksForNearSize edge floor) left
-    (near_held (AsksForSize edge floor) (AsksForNearSize edge floor) left (λ bytes soup task near. near.0)
-    held.held)
+size_settles edge floor left held answer refuses = held_settles (AsksForNearSize edge floor) left
+    (near_held (AsksForSize edge floor) (AsksForNearSize edge floor) left (λ bytes soup task near. near.0) held.held)
     answer refuses
 
 size_refused : (edge : ℤ) (floor : ℕ) (input : Change) (answer : Answer) → HoldsSize edge floor input.told
@@ -147,22 +144,18 @@ settles : (command : Command) (input out : Change) (answer : Answer) → Cause c
 settles (Remesh settings auto) input out answer why held =
     settles_if (Remesh settings auto) input out answer (λ more. not_too_long _ _ held.bytes held.held held.within more)
     (λ refusal bad. task_settles (AsksToRemesh settings auto) input bad.bytes refusal held bad.whole bad.said) why
-settles (Bench size) input out answer why held =
-    settles_if (Bench size) input out answer (λ more. more) (λ refusal bad. bench_settles size refusal held bad.said)
-    why
-settles (Crease settings) input out answer why held =
-    settles_if (Crease settings) input out answer
+settles (Bench size) input out answer why held = settles_if (Bench size) input out answer (λ more. more)
+    (λ refusal bad. bench_settles size refusal held bad.said) why
+settles (Crease settings) input out answer why held = settles_if (Crease settings) input out answer
     (λ more. not_too_long _ _ held.holds.bytes held.holds.held held.holds.within more)
     (λ refusal bad. crease_settles settings input bad.bytes refusal held bad.whole bad.said) why
-settles (Size edge floor) input out answer why held =
-    settles_if (Size edge floor) input out answer
+settles (Size edge floor) input out answer why held = settles_if (Size edge floor) input out answer
     (λ more. not_too_long _ _ held.held.bytes held.held.held held.held.within more)
     (λ refusal bad. size_refused edge floor input refusal held bad) why
 settles (Coarse settings) input out answer why held =
     settles_if (Coarse settings) input out answer (λ more. not_too_long _ _ held.bytes held.held held.within more)
     (λ refusal bad. task_settles (AsksToMerge settings) input bad.bytes refusal held bad.whole bad.said) why
-settles (Fit fit) input out answer why held =
-    settles_if (Fit fit) input out answer
+settles (Fit fit) input out answer why held = settles_if (Fit fit) input out answer
     (λ more. not_too_long _ _ held.held.bytes held.held.held held.held.within more)
     (λ refusal bad. fit_refused fit input refusal held bad) why
 settles _ input out answer why held = absurd held

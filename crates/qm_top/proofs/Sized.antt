@@ -56,9 +56,8 @@ module _ (edge : ℤ) (floor : ℕ) where
       → IsAimed (Size edge floor) (Edge edge) (AsksForSize edge floor) (AsksForNearSize edge floor)
   size_aimed near few = record {
     writes = λ bytes text said. said;
-    read = λ bytes text said read.
-        task_reread (AsksForNearSize edge floor) bytes text said (size_task edge floor said.soup) said.asked.0
-        (size_aside edge near floor few) none_aside read;
+    read = λ bytes text said read. task_reread (AsksForNearSize edge floor) bytes text said
+        (size_task edge floor said.soup) said.asked.0 (size_aside edge near floor few) none_aside read;
     tangled = λ bytes count why. why;
     far = far_text;
     refuses = refuses;
@@ -72,8 +71,7 @@ module _ (edge : ℤ) (floor : ℕ) where
   size_near bytes cut laid traced near = (
     refl,
     near_on (Edge edge) (soup_targets edge cut.soup) cut.soup.faces (traced_marks cut.soup.faces) cut.plan manifold
-        (graph_law cut.soup.faces manifold).1
-        traced near,
+        (graph_law cut.soup.faces manifold).1 traced near,
   )
     where
       manifold : IsManifold cut.soup.faces

@@ -91,8 +91,7 @@ layout_ends command fails input out calm refuses (Layout fail) why =
 layout_ends command fails input out calm refuses refusals.Memory why = record {
   cause = tt;
   names = λ p same. cc;
-  calm =
-      λ _ _. calm;
+  calm = λ _ _. calm;
 }
 layout_ends command fails input out calm refuses _ why = absurd why
 

@@ -17,9 +17,8 @@ low_more keys {from} {k} {least} {new} low is j high less = by_last (cases_lt j 
         omega (arith, is)
 
 -- It is one of them.
-pub one_more : (keys : List ℕ) {from k least new : ℕ}
-    → ((j : ℕ) × (from ≤ j) × (j < k) × (get_or keys j 0 ≡ least)) → from ≤ k → new ≡ min least (get_or keys k 0)
-    → (j : ℕ) × (from ≤ j) × (j < k + 1) × (get_or keys j 0 ≡ new)
+pub one_more : (keys : List ℕ) {from k least new : ℕ} → ((j : ℕ) × (from ≤ j) × (j < k) × (get_or keys j 0 ≡ least))
+    → from ≤ k → new ≡ min least (get_or keys k 0) → (j : ℕ) × (from ≤ j) × (j < k + 1) × (get_or keys j 0 ≡ new)
 one_more keys {from} {k} {least} {new} one high is = by_key (cases_lt (get_or keys k 0) least)
   where
     by_key : (get_or keys k 0 < least) ⊎ (least ≤ get_or keys k 0)

@@ -110,9 +110,8 @@ module _ {faces : Faces} (m : IsManifold faces) {marks : List Bool} {k : ℕ} {r
 
   pub next_riders : (new : List Moving) → length new ≡ length riders → AreRode faces stood taken queue riders new
       → new ≡ (state_at faces marks (suc k)).riders
-  next_riders new long each =
-      ext_get_or (begun 0) new (map f riders) (long ∙ sym (length-map riders f)) (λ r l. at r (omega (arith, l, long)))
-      ∙ ap (map f) i.riders_are
+  next_riders new long each = ext_get_or (begun 0) new (map f riders) (long ∙ sym (length-map riders f))
+      (λ r l. at r (omega (arith, l, long))) ∙ ap (map f) i.riders_are
     where
       f : Moving → Moving
       f = ride (terrain_of faces) now.stood (ridden now.riders)

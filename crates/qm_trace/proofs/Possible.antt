@@ -18,9 +18,8 @@ pub none_wait : (rs : List Moving) (ns : List (Option ℕ))
     → ((r : ℕ) → r < length rs → is_waiting (rider_at rs r).stop (note_at ns r) ≡ false) → waiting rs ns ≡ 0
 none_wait [] ns none = refl
 none_wait (q ∷ rs) [] none = refl
-none_wait (q ∷ rs) (n ∷ ns) none =
-    ap (λ (b : Bool). more_if b (waiting rs ns)) (none 0 (omega arith))
-    ∙ none_wait rs ns (λ r l. none (suc r) (omega (arith, l)))
+none_wait (q ∷ rs) (n ∷ ns) none = ap (λ (b : Bool). more_if b (waiting rs ns)) (none 0 (omega arith)) ∙ none_wait rs ns
+    (λ r l. none (suc r) (omega (arith, l)))
 
 -- The same of other lists that are equal.
 pub none_there : (read rs : List Moving) (noted ns : List (Option ℕ)) → read ≡ rs → noted ≡ ns

@@ -250,8 +250,7 @@ module _ {faces : Faces} {x : EventState} {v : ℕ} {notes : Notes} {site : Site
       (settle_parts k).2 then s.riders x.riders x.noted shown.riders)) (λ d n. leaves d (among_ridden d n))
 
   -- The riders told so are those of the settling.
-  module _ {new : Riders} (counted : AreCounted new x.noted)
-      (told_so : (r : ℕ) → rider_at new.list.items r
+  module _ {new : Riders} (counted : AreCounted new x.noted) (told_so : (r : ℕ) → rider_at new.list.items r
       ≡ told_by faces site notes.taken.items v (note_at x.noted r) (rider_at x.riders r)) where
     riders_are : new.list.items ≡ (decided_at g x v).riders
     riders_are = ext_get_or (begun 0) new.list.items (decided_at g x v).riders

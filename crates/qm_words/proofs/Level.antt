@@ -60,9 +60,8 @@ fault_is : (names words : Words)
     (or_else [] (or_else (settle_fault (rules names) false (end names (rests [] None) words))
     (or_else (defaults_fault (end_rows names (rests [] None) words) (rules names))
     (missing names (fold with_default (end_rows names (rests [] None) words) (rules names))))))
-fault_is names words =
-    ap (λ (a : App). built_fault a nothing_held words) (built_is names)
-    ∙ leaf_fault (record { top = shape names; subs = [] }) nothing_held words refl
+fault_is names words = ap (λ (a : App). built_fault a nothing_held words) (built_is names) ∙ leaf_fault
+    (record { top = shape names; subs = [] }) nothing_held words refl
 
 passes_of : (names words : Words) → fault_of (options_app names) words ≡ []
     → Passes names words (rests [] None) × (missing names (end_rows names (rests [] None) words) ≡ [])
@@ -156,9 +155,8 @@ pub taken : (names words : Words) (found : Found) → list_any is_end words ≡ 
 taken names words found ends quiet is =
     let parts = passes_of names words quiet in
     let read : Read names words [] (rests [] None) = sound names words ends parts.0 in
-    let rows : clap.rows_of found ≡ rows_of read.rest =
-    is ∙ ap (λ (a : App). rows_after a.top.rules [] words) (built_is names)
-    ∙ same_rows names (end_rows names (rests [] None) words) ∙ read.rows in
+    let rows : clap.rows_of found ≡ rows_of read.rest = is ∙ ap (λ (a : App). rows_after a.top.rules [] words)
+    (built_is names) ∙ same_rows names (end_rows names (rests [] None) words) ∙ read.rows in
     let given : list_any (is_missing (rows_of read.rest)) (rules names) ≡ false =
     none_missing names (rows_of read.rest) (ap (missing names) (sym read.rows) ∙ parts.1) in
     let each : list_all (λ name. count_of name (map with_hyphens read.rest) == 1) names ≡ true =

@@ -43,8 +43,7 @@ app_all names i now far is = is ∙ ap (λ (ns : List (Bor Word)). options_app (
 -- clap took the words.
 pub took : (names words : Words) (a : App) (m : ArgMatches) → a ≡ options_app names → list_any is_end words ≡ false
     → (is_simple_and_free a ≡ true → fault_of a words ≡ []) → HasMatchesOf a words m → Reads names words (found_of m)
-took names words a m is ends quiet rows =
-    taken names words (found_of m) ends
+took names words a m is ends quiet rows = taken names words (found_of m) ends
     (subst (λ (b : App). fault_of b words ≡ []) is (quiet (ap is_simple_and_free is ∙ simple_free names)))
     ((subst (λ (b : App). HasMatchesOf b words m) is rows) (simple names)).0
 

@@ -81,8 +81,7 @@ once_of (n ∷ names) uses name all known =
 
 -- A name among these is one of them.
 known_plain : (names : Words) (uses : Uses) (n : Word) → list_all (λ name. is_plain (value_of name uses)) names ≡ true
-    → is_known names n ≡ true
-    → is_plain (value_of n uses) ≡ true
+    → is_known names n ≡ true → is_plain (value_of n uses) ≡ true
 known_plain [] uses n all known = absurd (false≢true known)
 known_plain (name ∷ names) uses n all known =
     let parts = and_parts (is_plain (value_of name uses)) (list_all (λ m. is_plain (value_of m uses)) names) all in

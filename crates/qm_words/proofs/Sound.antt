@@ -173,9 +173,8 @@ module _ (names : Words) (word : Word) (words : Words) where
               → Read names (word ∷ words) (all_of uses last) (rests uses last)
           by_letter None c = bad (rests uses last) UnknownArgument passes
               (garbled_fault names (rows_of uses) (pending last) word byte bytes e l s c)
-          by_letter (Some letter) c =
-              bad (rests uses last) UnknownArgument passes (short_fault names (rows_of uses) (pending last) idle word
-              byte bytes letter e l s c)
+          by_letter (Some letter) c = bad (rests uses last) UnknownArgument passes
+              (short_fault names (rows_of uses) (pending last) idle word byte bytes letter e l s c)
       by_view (flag name l e is none) apart = elim (cases_Bool (is_known names name)) [
         | inl there ↦ by_flag wait uses last good known apart.1 passes name l e is none there
         | inr unknown ↦ bad (rests uses last) UnknownArgument passes (unknown_fault names (rows_of uses) (pending last)
@@ -197,18 +196,16 @@ module _ (names : Words) (word : Word) (words : Words) where
 
       by_view : View word → (is_end word ≡ false) × (list_any is_end words ≡ false)
           → ReadValue names (word ∷ words) uses id (waits uses id)
-      by_view (plain l s e) apart =
-          by_value rest uses id good known apart.1 passes (value_walk names (rows_of uses) id (by_id names id known)
-          (same_name id) word e l s)
+      by_view (plain l s e) apart = by_value rest uses id good known apart.1 passes
+          (value_walk names (rows_of uses) id (by_id names id known) (same_name id) word e l s)
       by_view (short byte bytes l s e) apart = by_letter (slice_get (chars (byte ∷ bytes)) 0) refl
         where
           by_letter : (o : Option ℕ) → slice_get (chars (byte ∷ bytes)) 0 ≡ o
               → ReadValue names (word ∷ words) uses id (waits uses id)
           by_letter None c = by_value rest uses id good known apart.1 passes
               (garbled_value_walk names (rows_of uses) id (by_id names id known) (same_name id) word byte bytes e l s c)
-          by_letter (Some letter) c =
-              bad (waits uses id) UnknownArgument passes (short_fault names (rows_of uses) (Some (id, [])) (option id)
-              word byte bytes letter e l s c)
+          by_letter (Some letter) c = bad (waits uses id) UnknownArgument passes
+              (short_fault names (rows_of uses) (Some (id, [])) (option id) word byte bytes letter e l s c)
       by_view (flag name l e is none) apart = elim (cases_Bool (is_known names name)) [
         | inl there ↦ bad (waits uses id) InvalidValue passes (flag_fault names (rows_of uses) (Some (id, []))
             (option id) word name e l (by_long names name there)

@@ -87,8 +87,7 @@ module _ (names : Words) (rows : List Row) (pending : Pending) where
 
   -- `-letters`
   pub short_fault : (waiting : Waiting) (word : Word) (byte : ℕ) (bytes : Word) (letter : ℕ) → is_end word ≡ false
-      → long_of word ≡ None
-      → short_of word ≡ Some (byte ∷ bytes) → slice_get (chars (byte ∷ bytes)) 0 ≡ Some letter
+      → long_of word ≡ None → short_of word ≡ Some (byte ∷ bytes) → slice_get (chars (byte ∷ bytes)) 0 ≡ Some letter
       → fault_at names (stands rows pending waiting) word ≡ UnknownArgument ∷ []
   unfolding bundle_met flags_fault
   short_fault idle word byte bytes letter e l s c = rw (e, l, s, c, no_short names letter) refl

@@ -7,10 +7,9 @@ use Rattle.def_text.specs.FaceSet.{FaceSet}
 use Rattle.qm_write.specs.{Framing.framed_text, Framing.IsFramed, declared.text.Framed.Framed}
 
 module _ (task : Task) (framed : Framed) (soup : FaceSet) (plan : Plan) (is : IsFramed task framed soup plan) where
-  pieces_are : framed_text framed soup plan
-      ≡ (task.head ++ 10 ∷ [])
-      ++ text_behind_head (task.between plan (lengths_in (used (certificates_of framed.remesh.certs)).x)) task.rising
-      soup plan task.shares (certificates_of framed.remesh.certs)
+  pieces_are : framed_text framed soup plan ≡ (task.head ++ 10 ∷ []) ++ text_behind_head
+      (task.between plan (lengths_in (used (certificates_of framed.remesh.certs)).x)) task.rising soup plan task.shares
+      (certificates_of framed.remesh.certs)
   pieces_are = λ i. is.head i ++ text_behind_head (is.between i) (is.rising i) soup plan (is.shares i)
       (certificates_of framed.remesh.certs)
 

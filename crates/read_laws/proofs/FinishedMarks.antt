@@ -105,9 +105,8 @@ module _ (soup : FaceSet) (plan : Plan) (shares : Option (List ℕ)) (new : Leng
   chain_of : (a : ℕ) → a < length plan.arcs
       → IsChainOf (spaced_soup soup plan shares new) (arc_chain (layout_of plan) new a)
   chain_of a low =
-      let long : length (arc_chain (layout_of plan) new a) ≡ new a + 1 =
-      length-map-range_with_len (λ k. vertex_number (layout_of plan) new (arc_point (layout_of plan) new a k)) 0
-      (new a + 1) in
+      let long : length (arc_chain (layout_of plan) new a) ≡ new a + 1 = length-map-range_with_len
+      (λ k. vertex_number (layout_of plan) new (arc_point (layout_of plan) new a k)) 0 (new a + 1) in
       record {
         long = omega (arith, long, len.some a low);
         low = λ k less.
@@ -119,8 +118,7 @@ module _ (soup : FaceSet) (plan : Plan) (shares : Option (List ℕ)) (new : Leng
   chains_of : (marks : List Bool) (k : ℕ) → k < length (marked_arc_chains marks plan new)
       → IsChainOf (spaced_soup soup plan shares new) (get_or (marked_arc_chains marks plan new) k [])
   chains_of marks = each_passing (IsChainOf (spaced_soup soup plan shares new)) (arc_chain (layout_of plan) new)
-      (is_marked_arc marks plan) (range_with_len 0 (length plan.arcs))
-      (λ k less.
+      (is_marked_arc marks plan) (range_with_len 0 (length plan.arcs)) (λ k less.
       let inside : k < length plan.arcs = omega (arith, less, length-range_with_len 0 (length plan.arcs)) in
       chain_of (get_or (range_with_len 0 (length plan.arcs)) k 0)
       (omega (arith, get_or-range_with_len 0 (length plan.arcs) k 0 inside, inside)))

@@ -61,9 +61,8 @@ one_chosen faces kept patches mesh marks = record {
     one = layout_law faces cut.cut mesh full
 
 pub one_chosen_law : OneChosenLaw
-one_chosen_law fit bytes soup asides is said =
-    one_chosen soup.faces asides.kept fit.patches (mesh_text_law bytes soup is).1
-    (asides_in_law fit bytes soup asides is said)
+one_chosen_law fit bytes soup asides is said = one_chosen soup.faces asides.kept fit.patches
+    (mesh_text_law bytes soup is).1 (asides_in_law fit bytes soup asides is said)
 
 -- The cut that a task asks for is full.
 full_task : (command : Command) (bytes : Bytes) (soup : FaceSet) (task : Task) → IsMeshText bytes soup
@@ -76,11 +75,9 @@ full_task (Crease settings) bytes soup task is asked =
     (marks_in_law bytes soup asked.0 is asked.1) refl)
 full_task (Size edge floor) bytes soup task is asked =
     subst (λ (t : Task). IsFullCut soup.faces t.marks) (sym asked.0) (graph_law soup.faces is.manifold).1
-full_task (Coarse settings) bytes soup task is asked =
-    subst (λ (t : Task). IsFullCut soup.faces t.marks) (sym asked.2) (chosen_cut_law soup.faces None Merged asked.0
-    is.manifold tt asked.1)
-full_task (Fit fit) bytes soup task is asked =
-    by_parts asked.0.0 asked.0.1 asked.0.2 asked.0.3 asked.0.4
+full_task (Coarse settings) bytes soup task is asked = subst (λ (t : Task). IsFullCut soup.faces t.marks) (sym asked.2)
+    (chosen_cut_law soup.faces None Merged asked.0 is.manifold tt asked.1)
+full_task (Fit fit) bytes soup task is asked = by_parts asked.0.0 asked.0.1 asked.0.2 asked.0.3 asked.0.4
   where
     by_parts : (asides : Asides) (cut : List Bool) → asides_in fit bytes soup ≡ Ok asides
         → IsChosenCut soup.faces asides.kept fit.patches cut

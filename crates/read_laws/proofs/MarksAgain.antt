@@ -119,9 +119,8 @@ module _ (soup : FaceSet) (all : ℕ) where
       more : (p : Placed) {others : List Placed} → IsChainOf soup chain → p.all ≡ all → p.line.text ≡ chain_line chain
           → Gives soup others chains → Gives soup (p ∷ others) (chain ∷ chains)
       more p {others} is same text behind =
-          let said : (line_fails soup p ≡ []) × (line_chain soup p ≡ chain) =
-          chain_said_law soup chain p names few (omega (arith, many, same)) (text ∙ sym (line_is chain)) is.long is.low
-          is.edges in
+          let said : (line_fails soup p ≡ []) × (line_chain soup p ≡ chain) = chain_said_law soup chain p names few
+          (omega (arith, many, same)) (text ∙ sym (line_is chain)) is.long is.low is.edges in
           record {
             fails = ap (λ fs. fs ++ flat_map (line_fails soup) others) said.0 ∙ behind.fails;
             along = λ d i. runs_along soup.faces (said.1 i) d || behind.along d i;
@@ -175,8 +174,7 @@ module _ (front behind : Bytes) (soup : FaceSet) (chains : List (List ℕ)) (bef
 
   face_words : (face : List ℕ) → are_below (length soup.pos) face ≡ true → (k : ℕ) → k < length (map vertex_word face)
       → IsWord (get_or (map vertex_word face) k [])
-  face_words face below = each_map IsWord vertex_word face 0 [] (λ k low.
-      decimal_word (get_or face k 0 + 1)
+  face_words face below = each_map IsWord vertex_word face 0 [] (λ k low. decimal_word (get_or face k 0 + 1)
       (omega (
         arith,
         fine.few_vertices,

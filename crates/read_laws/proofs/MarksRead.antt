@@ -94,6 +94,5 @@ kept_marks keeps.Lines bytes soup kept is said = by_marks (marks_in bytes soup) 
         subst (AreKeptMarks soup.faces) same (marks_in_law bytes soup marks is read)
 
 pub asides_in_law : AsidesInLaw
-asides_in_law fit bytes soup asides is said =
-    kept_marks fit.keep bytes soup asides.kept is (kept_of (kept_in fit.keep bytes soup) (wished_in fit.aim bytes soup)
-    asides said)
+asides_in_law fit bytes soup asides is said = kept_marks fit.keep bytes soup asides.kept is
+    (kept_of (kept_in fit.keep bytes soup) (wished_in fit.aim bytes soup) asides said)

@@ -89,8 +89,7 @@ module _ (l : Layout) (x : Lengths) where
         (step i (omega (
           arith,
           inside,
-          length-map-range_with_len (λ k. vertex_number l x (arc_point l x a k)) 0
-              (x a + 1),
+          length-map-range_with_len (λ k. vertex_number l x (arc_point l x a k)) 0 (x a + 1),
         ))))
       where
         step : (k : ℕ) → k < x a

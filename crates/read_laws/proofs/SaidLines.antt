@@ -74,8 +74,7 @@ module _ (vertices faces : ℕ) (line : Logical) where
   }
 
   said_position : (position : List ℤ) → is_vertex_line line ≡ true → is_face_line line ≡ false → vertices < 2 ^ 21
-      → is_position position ≡ true
-      → IsSaid vertices faces line (Position position)
+      → is_position position ≡ true → IsSaid vertices faces line (Position position)
   said_position position vertex no_face few near = record {
     vertex = rw vertex refl;
     face = rw no_face refl;
@@ -138,9 +137,8 @@ module _ (vertices faces : ℕ) (line : Logical) where
       → is_letter 102 word ≡ f
       → Says (cond v (vertex_reading line.number vertices ws) (cond f (face_reading line.number vertices faces ws)
       Passed))
-  by_letter word ws true f are v-is f-is =
-      by_vertex ws _ _ _ _ refl refl refl (ap (begins_with 118) are ∙ v-is) (ap (begins_with 102) are
-      ∙ one_letter 118 102 (λ (e : ◌≡◌ {A = ℕ} 118 102). omega arith) word v-is)
+  by_letter word ws true f are v-is f-is = by_vertex ws _ _ _ _ refl refl refl (ap (begins_with 118) are ∙ v-is)
+      (ap (begins_with 102) are ∙ one_letter 118 102 (λ (e : ◌≡◌ {A = ℕ} 118 102). omega arith) word v-is)
   by_letter word ws false true are v-is f-is = by_face ws _ _ _ _ refl refl refl (ap (begins_with 118) are ∙ v-is)
       (ap (begins_with 102) are ∙ f-is)
   by_letter word ws false false are v-is f-is =

@@ -86,7 +86,6 @@ are_known n (Face line corners ∷ said) none positive =
         → list_all (are_numbers n) (corners ∷ faces said) ≡ true
     by_late true is found some again = cc found
     by_late false is found some again =
-        let one : (are_numbers n corners ≡ true) × (true ≡ true) =
-        and_parts _ _ (none_late n (corners ∷ []) (line ∷ []) refl (and_from _ _ some refl)
-        (ap (λ t. cond t (Some line) None) is)) in
+        let one : (are_numbers n corners ≡ true) × (true ≡ true) = and_parts _ _
+        (none_late n (corners ∷ []) (line ∷ []) refl (and_from _ _ some refl) (ap (λ t. cond t (Some line) None) is)) in
         and_from _ _ one.0 (again found)

@@ -23,9 +23,8 @@ use Rattle.read_laws.proofs.SaidTexts.{are_known, are_said, AreSaid}
 used_near : (ps : Positions) (fs : Faces) (n : ℕ) → n ≤ length ps → list_all is_position ps ≡ true
     → list_all is_position (map (position_of ps) (used_to fs n)) ≡ true
 used_near ps fs zero few near = refl
-used_near ps fs (suc n) few near =
-    ap (λ ks. list_all is_position (map (position_of ps) ks)) (used_more fs n)
-    ∙ by_used (is_used fs (suc n)) (used_near ps fs n (omega arith) near)
+used_near ps fs (suc n) few near = ap (λ ks. list_all is_position (map (position_of ps) ks)) (used_more fs n) ∙ by_used
+    (is_used fs (suc n)) (used_near ps fs n (omega arith) near)
   where
     here : is_position (position_of ps (suc n)) ≡ true
     here = let e : suc n - 1 ≡ n = omega arith in rw e (passes_at is_position ps n [] near (omega arith))

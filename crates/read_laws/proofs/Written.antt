@@ -81,9 +81,8 @@ mark_test : IsHeadTest begins_mark
 mark_test = record { head = λ settings auto. refl; cert = cert_marks; plain = plain_begins (codes "quadq 1 ") }
 
 pub accepts_text_law : AcceptsTextLaw
-accepts_text_law settings auto old text range ends wrote =
-    told_pair (old ++ text) no_fit (accepts_law settings auto old text wrote.soup range wrote.mesh.said ends solid
-    shown)
+accepts_text_law settings auto old text range ends wrote = told_pair (old ++ text) no_fit
+    (accepts_law settings auto old text wrote.soup range wrote.mesh.said ends solid shown)
   where
     solid : IsSolid wrote.soup
     solid = (mesh_text_law old wrote.soup wrote.mesh).0
@@ -149,8 +148,7 @@ finished_spots_law command bytes text wrote range =
       cut = full;
       laid = finished.cut;
     } in
-    let lengths : AreLengths (layout_of finished.plan) new =
-    used_lengths wrote.task.wish finished.plan wrote.task.settings wrote.task.rising finished.certificates
-    range.floor.low finished.lengths in
+    let lengths : AreLengths (layout_of finished.plan) new = used_lengths wrote.task.wish finished.plan
+    wrote.task.settings wrote.task.rising finished.certificates range.floor.low finished.lengths in
     spot_text_law bytes wrote.soup wrote.task.marks finished.plan wrote.task.shares new wrote.mesh full finished.cut
     lengths (spacing_is finished.plan laid new lengths finished.coarse wrote.task.shares)

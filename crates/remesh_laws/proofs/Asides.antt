@@ -106,8 +106,7 @@ pub line_aside : (line : Bytes) → get_or line 0 0 ≡ 35 → list_all is_insid
 line_aside line begins inside short =
     record {
       ended = ends_last line;
-      each = subst (λ (ls : Lines). (k : ℕ) → k < length ls
-          → IsPassedOver (get_or ls k [])) (sym lines) one;
+      each = subst (λ (ls : Lines). (k : ℕ) → k < length ls → IsPassedOver (get_or ls k [])) (sym lines) one;
     }
   where
     at : (k : ℕ) → k < 1 → list_all is_inside (get_or (line ∷ []) k []) ≡ true
@@ -145,8 +144,7 @@ dual_short letter z up may =
     )
 
 -- So is a line that tells a rise.
-rise_short : (rise : Rise) → (rise.arc < 2 ^ 32) × (rise.floor ≤ MAX_FLOOR)
-    → length (line_text (RiseLine rise)) ≤ 65536
+rise_short : (rise : Rise) → (rise.arc < 2 ^ 32) × (rise.floor ≤ MAX_FLOOR) → length (line_text (RiseLine rise)) ≤ 65536
 rise_short rise low = omega (
   arith,
   length-append (decimal (rise.arc + 1)) (32 ∷ decimal rise.floor),
@@ -159,8 +157,7 @@ cert_passed rising (Length n) may =
     hash_passed (line_text (Length n)) refl (omega (arith, number_short n (omega (arith, leb-true n (10 ^ 12) may))))
 cert_passed rising (Vertex z up) may = hash_passed (line_text (Vertex z up)) refl (dual_short 121 z up may)
 cert_passed rising (Set z up) may = hash_passed (line_text (Set z up)) refl (dual_short 115 z up may)
-cert_passed rising (Floor floor) may =
-    hash_passed (line_text (Floor floor)) refl
+cert_passed rising (Floor floor) may = hash_passed (line_text (Floor floor)) refl
     (omega (arith, number_short floor (omega (arith, floor_low rising floor may))))
 cert_passed rising (RiseLine rise) may =
     hash_passed (line_text (RiseLine rise)) refl (rise_short rise (rise_low rising rise may))
@@ -171,9 +168,8 @@ certs_passed : (rising : Rising) (said : List CertLine) → list_all (may_stand 
 certs_passed rising [] all k low = absurd (omega (arith, low))
 certs_passed rising (line ∷ said) all zero low =
     cert_passed rising line (and_parts (may_stand rising line) (list_all (may_stand rising) said) all).0
-certs_passed rising (line ∷ said) all (suc k) low =
-    certs_passed rising said (and_parts (may_stand rising line) (list_all (may_stand rising) said) all).1 k
-    (omega (arith, low))
+certs_passed rising (line ∷ said) all (suc k) low = certs_passed rising said
+    (and_parts (may_stand rising line) (list_all (may_stand rising) said) all).1 k (omega (arith, low))
 
 pub cert_lines_passed : (rising : Rising) (said : List CertLine) → list_all (may_stand rising) said ≡ true → (k : ℕ)
     → k < length (lines_of (text_of said))

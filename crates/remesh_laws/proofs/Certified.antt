@@ -28,9 +28,8 @@ lengths_behind : (wish : Wish) (plan : Plan) (settings : Settings) (rising : Ris
 lengths_behind wish plan settings rising (alone cert) floors some kept = certified_lengths plan settings cert some kept
 lengths_behind wish plan settings rising (raised first cert) floors some kept =
     certified_lengths plan settings cert (λ arc. omega arith) kept.2
-lengths_behind wish plan settings rising (risen first rises after) floors some kept =
-    lengths_behind wish plan settings rising after (risen_floors rises floors)
-    (needed_some plan first.x rises floors kept.2 some) kept.3
+lengths_behind wish plan settings rising (risen first rises after) floors some kept = lengths_behind wish plan settings
+    rising after (risen_floors rises floors) (needed_some plan first.x rises floors kept.2 some) kept.3
 
 pub used_lengths : (wish : Wish) (plan : Plan) (settings : Settings) (rising : Rising) (certificates : Certificates)
     → 1 ≤ settings.floor

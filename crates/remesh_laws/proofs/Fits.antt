@@ -16,15 +16,13 @@ least_for plan settings floors cert is =
     record {
       net = is.lengths.net;
       of_layout = is.lengths.of_layout;
-      count =
-          is.lengths.count ∙ is.lengths.of_layout.long;
+      count = is.lengths.count ∙ is.lengths.of_layout.long;
       least = is.lengths.least;
     }
 
 -- So the lengths that are used give too many faces only where those of some least lists do.
 pub fits_not_fine : (wish : Wish) (plan : Plan) (settings : Settings) (rising : Rising) (faces : ℕ) (kept : Kept)
-    → IsRemeshable wish plan settings rising
-    → IsFineBy wish plan settings rising faces kept → ⊥
+    → IsRemeshable wish plan settings rising → IsFineBy wish plan settings rising faces kept → ⊥
 fits_not_fine wish plan settings rising faces (Multiple by) fits fine = absurd fine
 fits_not_fine wish plan settings rising faces (Least certs) fits fine = absurd (omega (
   arith,
@@ -35,8 +33,6 @@ fits_not_fine wish plan settings rising faces (Least certs) fits fine = absurd (
 ))
 
 pub fits_not_doubled : (wish : Wish) (plan : Plan) (settings : Settings) (rising : Rising) (u v : ℕ) (cert : Cert)
-    → IsRemeshable wish plan settings rising
-    → IsDoubledBy wish plan settings rising u v cert → ⊥
-fits_not_doubled wish plan settings rising u v cert fits by =
-    fits.undoubled by.given by.low cert.x.items
+    → IsRemeshable wish plan settings rising → IsDoubledBy wish plan settings rising u v cert → ⊥
+fits_not_doubled wish plan settings rising u v cert fits by = fits.undoubled by.given by.low cert.x.items
     (least_for plan settings (given_floors settings) (lists_of cert) by.certified) u v by.pair.doubled

@@ -69,8 +69,7 @@ pub keeps_first : {wish : Wish} (plan : Plan) (settings : Settings) (rising : Ri
     (tables : Tables) → xs ≡ cert.x.items
     → IsCertified wish plan settings (given_floors settings) (lists_of cert) → IsNumbered plan xs tables
     → IsKept wish plan settings rising (alone (lists_of cert)) tables
-keeps_first plan settings rising cert xs tables =
-    keeps plan settings rising (alone (lists_of cert)) xs tables
+keeps_first plan settings rising cert xs tables = keeps plan settings rising (alone (lists_of cert)) xs tables
 
 pub keeps_third : {wish : Wish} (plan : Plan) (settings : Settings) (first third : Cert) (xs : List ℕ) (tables : Tables)
     → xs ≡ third.x.items
@@ -100,8 +99,7 @@ doubled_some plan ys u v first = (u, v, first.doubled)
 
 -- No length is too great, also beyond the last arc.
 pub bounded : (net : Network) (cert : Cert) (xs : List ℕ) → IsSolution net (certificate cert) → xs ≡ cert.x.items
-    → (arc : ℕ)
-    → lengths_in xs arc ≤ MAX_LENGTH
+    → (arc : ℕ) → lengths_in xs arc ≤ MAX_LENGTH
 bounded net cert xs is same arc = subst (λ (ys : List ℕ). lengths_in ys arc ≤ MAX_LENGTH) (sym same)
     (by_arc (cases_lt arc (length cert.x.items)))
   where
@@ -112,8 +110,7 @@ bounded net cert xs is same arc = subst (λ (ys : List ℕ). lengths_in ys arc �
 -- Lengths for the greatest floors are long.
 pub long_lengths : {wish : Wish} {floors : Lengths} (plan : Plan) (settings : Settings) (net : Network) (cert : Cert)
     → IsNetWith wish plan settings floors net → IsSolution net (certificate cert)
-    → ((k : ℕ) → k < length net.arcs → MAX_FLOOR ≤ (arc_at net.arcs k).floor)
-    → AreLong plan (lengths_in cert.x.items)
+    → ((k : ℕ) → k < length net.arcs → MAX_FLOOR ≤ (arc_at net.arcs k).floor) → AreLong plan (lengths_in cert.x.items)
 long_lengths plan settings net cert for is high a low =
     let inner : a < length net.arcs = omega (arith, low, for.is.long) in
     omega (arith, ints, is.accepted.admissible.high a inner, high a inner)
@@ -141,8 +138,7 @@ low_floor plan settings cert xs result fail u v same is safe told doubled = by_f
 
     by_floor : (settings.floor < MAX_FLOOR) ⊎ (MAX_FLOOR ≤ settings.floor) → settings.floor < MAX_FLOOR
     by_floor (inl low) = low
-    by_floor (inr high) =
-        absurd (none_doubled plan xs cert.x.items result fail u v same (long high) safe told doubled)
+    by_floor (inr high) = absurd (none_doubled plan xs cert.x.items result fail u v same (long high) safe told doubled)
 
 -- The new mesh has the shape of the one that the layout lies in.
 pub kept_shape : (soup : FaceSet) (plan : Plan) (xs : List ℕ) → IsMeshLayout soup.faces plan

@@ -50,9 +50,8 @@ chain_line chain = 108 ∷ flat_map (λ vertex. 32 ∷ decimal (vertex + 1)) cha
 
 words_tame : (chain : List ℕ) → list_all is_tame (flat_map (λ vertex. 32 ∷ decimal (vertex + 1)) chain) ≡ true
 words_tame [] = refl
-words_tame (vertex ∷ chain) =
-    list_all-append is_tame (32 ∷ decimal (vertex + 1)) (flat_map (λ v. 32 ∷ decimal (v + 1)) chain)
-    ∙ and_from _ _ (decimal_tame (vertex + 1)) (words_tame chain)
+words_tame (vertex ∷ chain) = list_all-append is_tame (32 ∷ decimal (vertex + 1))
+    (flat_map (λ v. 32 ∷ decimal (v + 1)) chain) ∙ and_from _ _ (decimal_tame (vertex + 1)) (words_tame chain)
 
 pub chain_tame : (chain : List ℕ) → list_all is_tame (chain_line chain) ≡ true
 chain_tame chain = words_tame chain
@@ -105,6 +104,5 @@ module _ (marks : List Bool) (plan : Plan) (new : Lengths) where
   pub marked_silent : IsSilent (marked_text marks plan new)
   marked_silent = record {
     ended = marked_ended;
-    plain = ap (filter is_hash_line) marked_lines
-        ∙ chains_plain marked_chains;
+    plain = ap (filter is_hash_line) marked_lines ∙ chains_plain marked_chains;
   }

@@ -43,10 +43,8 @@ module _ (l : Layout) (x : Lengths) (laid : IsSurface l) (len : AreLengths l x) 
       (and_from _ _ (corner_low f north low) (and_from _ _ (corner_low f west low) refl)))
 
   corners_low : names_below (vertices l x) (new_faces l x) ≡ true
-  corners_low =
-      list_all-map (λ face. list_all (λ v. nat_lt v (vertices l x)) face) (new_face l x)
-      (range_with_len 0 (face_count l x))
-      ∙ passes_range _ (face_count l x) face_low
+  corners_low = list_all-map (λ face. list_all (λ v. nat_lt v (vertices l x)) face) (new_face l x)
+      (range_with_len 0 (face_count l x)) ∙ passes_range _ (face_count l x) face_low
 
   all_quads : list_all is_quad (new_faces l x) ≡ true
   all_quads = list_all-map is_quad (new_face l x) (range_with_len 0 (face_count l x))

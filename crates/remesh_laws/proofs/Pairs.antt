@@ -20,6 +20,5 @@ tail_told bytes line by only made =
     behind = tail_behind line bytes
 
 pub pair_law : PairLaw
-pair_law bytes pair solid made =
-    tail_told bytes pair.line (made_by pair.settings pair.auto pair.remeshed.certificates)
+pair_law bytes pair solid made = tail_told bytes pair.line (made_by pair.settings pair.auto pair.remeshed.certificates)
     (told_law pair.settings pair.auto pair.soup (tail_of pair.line bytes) pair.in_range solid pair.remeshed) made

@@ -54,8 +54,7 @@ faced m n corners = record {
   position = refl;
   face = refl;
   refusal = λ none. none;
-  late =
-      λ v. by_test (list_any (λ corner. ltb v corner) corners);
+  late = λ v. by_test (list_any (λ corner. ltb v corner) corners);
 }
   where
     by_test : (t : Bool) → (if t then Range m ∷ [] else []) ≡ [] → (if t then Range n ∷ [] else []) ≡ []
@@ -81,8 +80,7 @@ module _ (m n vertices many : ℕ) where
       by_tests false false false = placed _
 
   face_alike : (ws : Words) → IsAlike (face_reading m vertices many ws) (face_reading n vertices many ws)
-  face_alike ws =
-      by_tests (nat_le MAX_F_LINES many) (not (list_all is_corner_word ws)) (not (length ws == 4))
+  face_alike ws = by_tests (nat_le MAX_F_LINES many) (not (list_all is_corner_word ws)) (not (length ws == 4))
       (list_any (λ word. is_out vertices (used_index word)) ws)
     where
       by_tests : (a b c d : Bool)
@@ -166,8 +164,7 @@ alike before after m n [] same = record {
   positions = refl;
   faces = refl;
   refusals = λ none. none;
-  late =
-      λ v none. none;
+  late = λ v none. none;
 }
 alike before after m n (group ∷ groups) same =
     with_rest first
@@ -260,9 +257,8 @@ ArePassed lines = (k : ℕ) → k < length lines → IsPassedOver (get_or lines 
 module _ (lines : Lines) (soup : FaceSet) (said : text_soup 1 lines ≡ Ok soup) where
   behind_front : (front : Lines) (n : ℕ) (before : List Logical) → ArePassed front → SameCounts [] before
       → soup_of (readings before (logical_lines n (front ++ lines))) ≡ Ok soup
-  behind_front [] n before each none =
-      alike_soup (readings [] (logical_lines 1 lines)) (readings before (logical_lines n lines)) soup
-      (alike [] before 1 n (groups_of lines) none) said
+  behind_front [] n before each none = alike_soup (readings [] (logical_lines 1 lines))
+      (readings before (logical_lines n lines)) soup (alike [] before 1 n (groups_of lines) none) said
   behind_front (line ∷ front) n before each none =
       let first : IsPassedOver line = each 0 (omega arith) in
       ap (λ (ls : List Logical). soup_of (readings before ls)) (one_line n line (front ++ lines) first.whole)

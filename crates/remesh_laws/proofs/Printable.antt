@@ -157,11 +157,9 @@ module _ (soup : FaceSet) (solid : IsSolid soup) (plan : Plan) (is : IsSomeLayou
   pub printable : IsPrintable (spaced_soup soup plan shares x)
   printable = record {
     positions = list_all-map is_position (spaced_place soup.faces plan soup.pos shares x)
-        (range_with_len 0 (vertices (layout_of plan) x))
-        ∙ passes_range _ (vertices (layout_of plan) x) place_fine;
+        (range_with_len 0 (vertices (layout_of plan) x)) ∙ passes_range _ (vertices (layout_of plan) x) place_fine;
     quads = list_all-map is_quad (new_face (layout_of plan) x) (range_with_len 0 (face_count (layout_of plan) x))
         ∙ passes_range _ (face_count (layout_of plan) x) (λ f low. refl);
     corners = list_all-map (λ face. list_all (λ v. nat_lt v (2 ^ 32)) face) (new_face (layout_of plan) x)
-        (range_with_len 0 (face_count (layout_of plan) x))
-        ∙ passes_range _ (face_count (layout_of plan) x) face_fine;
+        (range_with_len 0 (face_count (layout_of plan) x)) ∙ passes_range _ (face_count (layout_of plan) x) face_fine;
   }

@@ -31,10 +31,8 @@ framed : (front behind : Bytes) (soup : FaceSet) → IsWritableSoup soup → sou
     → IsAside front
     → ((k : ℕ) → k < length (lines_of behind) → IsPassedOver (get_or (lines_of behind) k []))
     → soup_in (front ++ (canonical_text soup ++ behind)) ≡ Ok soup
-framed front behind soup is names before after =
-    ap (text_soup 1) lines
-    ∙ passed_over (lines_of front) (lines_of (canonical_text soup)) (lines_of behind) soup before.each
-    (canonical_whole soup is) after
+framed front behind soup is names before after = ap (text_soup 1) lines ∙ passed_over (lines_of front)
+    (lines_of (canonical_text soup)) (lines_of behind) soup before.each (canonical_whole soup is) after
     (text_back soup is ∙ ap Ok (λ i. record { pos = soup.pos; faces = soup.faces; names = sym names i }))
   where
     lines : lines_of (front ++ (canonical_text soup ++ behind)) ≡ lines_of front
@@ -47,8 +45,7 @@ pub kept_allowed : (wish : Wish) (plan : Plan) (settings : Settings) (rising : R
     → IsSomeLayout plan
     → AreKeptBy (HasLeastLengths wish plan settings) plan (given_floors settings) rising certificates
     → list_all (may_stand rising) (certificate_lines rising certificates) ≡ true
-kept_allowed wish plan settings rising certificates mesh kept =
-    chosen_allowed rising certificates
+kept_allowed wish plan settings rising certificates mesh kept = chosen_allowed rising certificates
     (kept_writable wish plan settings rising certificates (given_floors settings) mesh kept)
 
 module _ (soup : FaceSet) (plan : Plan) (x : Lengths) (laid : IsSurface (layout_of plan))
@@ -65,8 +62,7 @@ module _ (soup : FaceSet) (plan : Plan) (x : Lengths) (laid : IsSurface (layout_
 -- The text of a refined mesh.
 pub refined_read : (by : ℕ) (soup : FaceSet) (plan : Plan) → IsSomeLayout plan → 0 < by → by < 2 ^ 64
     → IsReadAgain (refined_text by soup plan) (new_soup soup plan (multiple_of by (long_at plan.arcs)))
-refined_read by soup plan is some low =
-    mesh_read soup plan (multiple_of by (long_at plan.arcs)) (laid_of plan is)
+refined_read by soup plan is some low = mesh_read soup plan (multiple_of by (long_at plan.arcs)) (laid_of plan is)
     (multiple_law is.faces (layout_of plan) (long_at plan.arcs) (vertex_at plan) (lies plan is) by some).0
     (refine_head by) (refine_aside by low)
 
@@ -77,12 +73,10 @@ pub task_read : (task : Task) (soup : FaceSet) (plan : Plan) (certificates : Cer
     certificates → IsAside (task.head ++ 10 ∷ []) → IsAside (task.between plan (lengths_in (used certificates).x))
     → IsReadAgain (finished_text task soup plan certificates)
     (spaced_soup soup plan task.shares (lengths_in (used certificates).x))
-task_read task soup plan certificates mesh len kept head between is =
-    ap soup_in (sym (append_assoc task.head (10 ∷ []) _))
-    ∙ framed (task.head ++ 10 ∷ []) (task.between plan new ++ certs) (spaced_soup soup plan task.shares new)
-    (writable soup plan task.shares new (laid_of plan mesh) len is)
-    (new_names soup plan task.shares new (laid_of plan mesh) len)
-    head behind
+task_read task soup plan certificates mesh len kept head between is = ap soup_in
+    (sym (append_assoc task.head (10 ∷ []) _)) ∙ framed (task.head ++ 10 ∷ []) (task.between plan new ++ certs)
+    (spaced_soup soup plan task.shares new) (writable soup plan task.shares new (laid_of plan mesh) len is)
+    (new_names soup plan task.shares new (laid_of plan mesh) len) head behind
   where
     new : Lengths
     new = lengths_in (used certificates).x
@@ -99,10 +93,9 @@ task_read task soup plan certificates mesh len kept head between is =
         (kept_allowed task.wish plan task.settings task.rising certificates mesh kept)))
 
 pub read_again_law : ReadAgainLaw
-read_again_law settings auto soup text range solid is few_vertices few_faces =
-    ap soup_in is.written
-    ∙ task_read (remesh_task settings auto soup.faces) soup is.plan is.certificates mesh lengths
-    is.lengths (head_aside settings auto range)
+read_again_law settings auto soup text range solid is few_vertices few_faces = ap soup_in is.written ∙ task_read
+    (remesh_task settings auto soup.faces) soup is.plan is.certificates mesh lengths is.lengths
+    (head_aside settings auto range)
     none_aside (record {
       near = (printable soup solid is.plan mesh None (lengths_in (used is.certificates).x) lengths is.coarse).positions;
       few_vertices = few_vertices;

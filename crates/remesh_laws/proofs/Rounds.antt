@@ -82,8 +82,7 @@ risen_same (rise ∷ rises) floors others arc same =
 risen_some : (rises : List Rise) (floors : Lengths) (arc : ℕ)
     → ((k : ℕ) → k < length rises → 1 ≤ (rise_at rises k).floor) → 1 ≤ floors arc → 1 ≤ risen_floors rises floors arc
 risen_some [] floors arc rose some = some
-risen_some (rise ∷ rises) floors arc rose some =
-    by_test (arc == rise.arc) (rose 0 (omega arith))
+risen_some (rise ∷ rises) floors arc rose some = by_test (arc == rise.arc) (rose 0 (omega arith))
     (risen_some rises floors arc (λ k low. rose (suc k) (omega (arith, low))) some)
   where
     by_test : (t : Bool) → 1 ≤ rise.floor → 1 ≤ risen_floors rises floors arc
@@ -120,9 +119,8 @@ pub net_risen : {wish : Wish} {floors : Lengths} (plan : Plan) (settings : Setti
     (net next : Network) → IsNetWith wish plan settings floors net
     → AreNeeded (layout_of plan) (lengths_in xs) rises → HasFloors net (risen_floors rises (floor_of net.arcs)) next
     → IsNetWith wish plan settings (risen_floors rises floors) next
-net_risen {wish} {floors} plan settings xs rises net next for needed has =
-    raised_net plan settings (risen_floors rises floors) net next (needed_some plan xs rises floors needed for.floor)
-    high
+net_risen {wish} {floors} plan settings xs rises net next for needed has = raised_net plan settings
+    (risen_floors rises floors) net next (needed_some plan xs rises floors needed for.floor) high
     for (record {
       nodes = has.nodes;
       p = has.p;
@@ -134,8 +132,7 @@ net_risen {wish} {floors} plan settings xs rises net next for needed has =
     floor_is : (k : ℕ) → k < length net.arcs → floor_of net.arcs k ≡ floors k
     floor_is k low = for.is.floors k (omega (arith, low, for.is.long))
 
-    same : (k : ℕ) → k < length net.arcs
-        → risen_floors rises (floor_of net.arcs) k ≡ risen_floors rises floors k
+    same : (k : ℕ) → k < length net.arcs → risen_floors rises (floor_of net.arcs) k ≡ risen_floors rises floors k
     same k low = risen_same rises (floor_of net.arcs) floors k (floor_is k low)
 
     high : (k : ℕ) → k < length net.arcs → risen_floors rises floors k ≤ MAX_FLOOR

@@ -112,15 +112,13 @@ stay_low {g} is {f} {new} {risen} {old} {keys} low mended turned k l = by_mended
       at_set g new risen k he,
       set_key_none (new.label (set_of g k)) (new.weight (set_of g k)) risen ne,
       at_set g f risen k he,
-    )
-        (set_key_low (f.label (set_of g k)) (f.weight (set_of g k)) risen))
+    ) (set_key_low (f.label (set_of g k)) (f.weight (set_of g k)) risen))
     by_set same he (inl inner) = by_sets (turned.sets (set_of g k) (omega arith) inner)
       where
         leaf_is : leaf_of g (set_of g k) ≡ k
         leaf_is = omega (arith, he)
 
-        by_sets : IsSetRight g f new risen keys (set_of g k)
-            → get_or keys k 0 ≤ true_key g new risen k
+        by_sets : IsSetRight g f new risen keys (set_of g k) → get_or keys k 0 ≤ true_key g new risen k
         by_sets (inr right) = exact (ap (λ x. get_or keys x 0) (sym leaf_is)
             ∙ (right ∙ ap (true_key g new risen) leaf_is))
         by_sets (inl w) =
@@ -147,8 +145,7 @@ true_key_low g f risen k = by_leaf (cases_lt k (length g.edges))
     by_leaf (inl le) = rw (at_edge g f risen k le) (edge_key_low (f.label (f.out (edge_at g k).u))
         (f.label (f.out (edge_at g k).v)) (eqb (f.out (edge_at g k).u) (f.out (edge_at g k).v))
         (unsigned_abs (slack_of g f k)) risen)
-    by_leaf (inr he) =
-        rw (at_set g f risen k he) (set_key_low (f.label (set_of g k)) (f.weight (set_of g k)) risen)
+    by_leaf (inr he) = rw (at_set g f risen k he) (set_key_low (f.label (set_of g k)) (f.weight (set_of g k)) risen)
 
 -- The edges at a vertex of a set of vertices.
 right_at : (g : WeightedGraph) (f : Forest) (risen : ℕ) (keys : List ℕ) (set : ℕ → Bool) {w : ℕ}
@@ -351,8 +348,7 @@ module _ {g : WeightedGraph} (is : IsGraph g) {f new : Forest} {r : ℕ} {o : Op
       by_label w j l at lj e (inr ne) =
           inr (right_at g new risen keys (new.holds (o.q j)) (right j lj ne) (part_held w j l at lj e))
 
-      ends : (w : ℕ) → w < g.n → (f.out w ≡ o.b) ⊎ (f.out w ≢ o.b) → IsQuiet f new w
-          ⊎ AreRight g new risen keys w
+      ends : (w : ℕ) → w < g.n → (f.out w ≡ o.b) ⊎ (f.out w ≢ o.b) → IsQuiet f new w ⊎ AreRight g new risen keys w
       ends w l (inl at) = let p : (j : ℕ) × (j ≤ 2 * o.half) × (o.q j ≡ o.part w) = opening.part_of w l at in
           by_label w p.0 l at p.1 p.2 (inner_cases (new.label (o.q p.0)))
       ends w l (inr ne) = inl (inl (ap new.label (opened_old w l ne) ∙ opened_label w l ne))

@@ -200,13 +200,11 @@ module _ (faces : Faces) (laws : IsQuadManifold (half_edges faces)) where
         each x lx (inr at) = elim (leaves (next_of x) (laws.next_low x lx) at) [
           | inl e ↦ (
             next_of t,
-            ap (twin_of faces) (sym (laws.prev_next x) ∙ (ap prev_of e ∙ laws.prev_next d))
-                ∙ d_twin,
+            ap (twin_of faces) (sym (laws.prev_next x) ∙ (ap prev_of e ∙ laws.prev_next d)) ∙ d_twin,
           )
           | inr e ↦ (
             next_of d,
-            ap (twin_of faces) (sym (laws.prev_next x) ∙ (ap prev_of e ∙ laws.prev_next t))
-                ∙ t_twin,
+            ap (twin_of faces) (sym (laws.prev_next x) ∙ (ap prev_of e ∙ laws.prev_next t)) ∙ t_twin,
           )
         ]
 

@@ -124,9 +124,8 @@ module _ (faces : Faces) (m : IsManifold faces) where
 
     joined : (e : ℕ) → e < darts faces → is_marked marks (e / 4) ≡ true → (k : ℕ) × Joins (half_edges faces) d e k
     joined e le k =
-        let s : (n : ℕ) × Shares faces (d / 4) (e / 4) n =
-        sound faces (d / 4) (length faces) (e / 4) f_low (omega arith)
-        (ap (λ (b : List Bool). is_marked b (e / 4)) (sym marks_are) ∙ k) in
+        let s : (n : ℕ) × Shares faces (d / 4) (e / 4) n = sound faces (d / 4) (length faces) (e / 4) f_low
+        (omega arith) (ap (λ (b : List Bool). is_marked b (e / 4)) (sym marks_are) ∙ k) in
         joins_shares (d / 4) (e / 4) d e s.0 s.1 refl refl
 
     at_vertex : (v : ℕ) → is_among v (vertices_in faces marks) ≡ true → (e : ℕ) × (e < darts faces)

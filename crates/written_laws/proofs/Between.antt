@@ -10,23 +10,8 @@ use Rattle.def_layout.specs.{Layouts.west, Layouts.Layout, Surfaces.IsSurface, L
 use Rattle.def_layout.specs.{Lengths.size, Lengths.wide, Lengths.high, Lengths.AreLengths, Cells.IsDart, Cells.dart}
 use Rattle.def_written.specs.Points.{Point, node, along, inside, IsPoint, arc_point, use_over, offset_at, point}
 use Rattle.def_written.specs.Edges.{on_arc}
-use Rattle.def_written.specs.Places.{
-  Coordinate,
-  on_the_way,
-  arc_place,
-  ONE,
-  parameter,
-  parameter_back,
-  parameter_u,
-  parameter_v,
-  cell_at,
-  rest_at,
-  blend,
-  inside_place,
-  place_of,
-  ArcSpacing,
-  Step,
-}
+use Rattle.def_written.specs.Places.{Coordinate, on_the_way, arc_place, ONE, parameter, parameter_back, parameter_u}
+use Rattle.def_written.specs.Places.{parameter_v, cell_at, rest_at, blend, inside_place, place_of, ArcSpacing, Step}
 use Rattle.def_written.specs.Places.{parameter_u, parameter_v, cell_at, rest_at, blend}
 use Rattle.def_written.specs.{Places.inside_place, Places.place_of, Spacings.IsSpacing, Laws.BetweenLaw}
 use Rattle.written_laws.proofs.{Runs.count_rises, Sides.IsOn, Sides.place_on, Sides.long_at, Grid.wide_some}

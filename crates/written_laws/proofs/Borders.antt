@@ -139,10 +139,9 @@ module _ (l : Layout) (x : Lengths) where
                 patch = refl;
                 column = b.column ∙ ap (side_column l x d.patch s) on.place;
                 row = b.row ∙ ap (side_row l x d.patch s) on.place;
-                leaves = (λ k. point l x d.patch (b.column k) (b.row k))
-                    ∙ border_point l x laid len d.patch s t is.patch_low (omega (arith, b.low))
-                    ∙ ap (side_point l x d.patch s) on.place ∙ side_in l x (offset_at l x d.patch s t) on.is_slot
-                    on.inside;
+                leaves = (λ k. point l x d.patch (b.column k) (b.row k)) ∙ border_point l x laid len d.patch s t
+                    is.patch_low (omega (arith, b.low)) ∙ ap (side_point l x d.patch s) on.place ∙ side_in l x
+                    (offset_at l x d.patch s t) on.is_slot on.inside;
               },
             )
 

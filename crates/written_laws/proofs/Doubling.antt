@@ -61,9 +61,8 @@ module _ (l : Layout) (y : Lengths) where
 
   arc_double : (a k : ℕ) → arc_point l (scale 2 y) a (2 * k) ≡ double (arc_point l y a k)
   arc_double a k = elim (cases_eq k 0) [
-    | inl e ↦ cond-true (2 * k == 0) _ _ (eq-eqb (2 * k) 0 (omega arith))
-        ∙ ap double (sym (cond-true (k == 0) (node (l.first a)) (cond (k == y a) (node (l.last a)) (along a k))
-        (eq-eqb k 0 e)))
+    | inl e ↦ cond-true (2 * k == 0) _ _ (eq-eqb (2 * k) 0 (omega arith)) ∙ ap double
+        (sym (cond-true (k == 0) (node (l.first a)) (cond (k == y a) (node (l.last a)) (along a k)) (eq-eqb k 0 e)))
     | inr some ↦ cond-false (2 * k == 0) _ _ (ne_eqb (2 * k) 0 (λ z. some (omega arith))) ∙ elim (cases_eq k (y a)) [
       | inl e ↦ cond-true (2 * k == 2 * y a) _ _ (eq-eqb (2 * k) (2 * y a) (ap (λ n. 2 * n) e))
           ∙ ap double (sym (cond-true (k == y a) (node (l.last a)) (along a k) (eq-eqb k (y a) e)))

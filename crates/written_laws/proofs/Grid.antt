@@ -48,7 +48,6 @@ module _ (l : Layout) (x : Lengths) (laid : IsSurface l) (len : AreLengths l x) 
   ]
 
   pub point_inside : (p i j : ℕ) → 0 < i → i < wide l x p → 0 < j → j < high l x p → point l x p i j ≡ inside p i j
-  point_inside p i j i_some i_low j_some j_low = cond-false (j == 0) _ _ (ne_eqb j 0 (λ z. omega arith))
-      ∙ cond-false (j == high l x p) _ _ (ne_eqb j (high l x p) (λ z. omega arith))
-      ∙ cond-false (i == 0) _ _ (ne_eqb i 0 (λ z. omega arith))
-      ∙ cond-false (i == wide l x p) _ _ (ne_eqb i (wide l x p) (λ z. omega arith))
+  point_inside p i j i_some i_low j_some j_low = cond-false (j == 0) _ _ (ne_eqb j 0 (λ z. omega arith)) ∙ cond-false
+      (j == high l x p) _ _ (ne_eqb j (high l x p) (λ z. omega arith)) ∙ cond-false (i == 0) _ _
+      (ne_eqb i 0 (λ z. omega arith)) ∙ cond-false (i == wide l x p) _ _ (ne_eqb i (wide l x p) (λ z. omega arith))

@@ -237,9 +237,8 @@ module _ (l : Layout) (x : Lengths) (laid : IsSurface l) (len : AreLengths l x) 
           dart_number l x (model.onto k low).0,
           number_of (model.onto k low).1,
           refl,
-        )) (λ k m a on b too same. sym (model.onto k a).2
-            ∙ ap cell (dart_same l x (model.onto k a).0 (model.onto m b).0 (model.onto k a).1 (model.onto m b).1 same)
-            ∙ (model.onto m b).2)
+        )) (λ k m a on b too same. sym (model.onto k a).2 ∙ ap cell (dart_same l x (model.onto k a).0 (model.onto m b).0
+            (model.onto k a).1 (model.onto m b).1 same) ∙ (model.onto m b).2)
 
         least : passing (λ k. true) (4 * face_count l x) ≤ passing (λ k. true) (darts F)
         least = passing_le (λ k. true) (λ k. true) (4 * face_count l x) (darts F)

@@ -58,9 +58,8 @@ module _ {faces : Faces} (man : IsManifold faces) {l : Layout} {x : Lengths} (pa
 
     to_is : (d e : CellDart) → IsDart l x d → IsDart l x e → dart_end l x d ≡ dart_end l x e → to_of faces (cell d)
         ≡ to_of faces (cell e)
-    to_is d e is_d is_e same = ap (from_of faces) (sym (model.turned d is_d))
-        ∙ model.alike (next d) (next e) (next_is l x d is_d) (next_is l x e is_e) same
-        ∙ ap (from_of faces) (model.turned e is_e)
+    to_is d e is_d is_e same = ap (from_of faces) (sym (model.turned d is_d)) ∙ model.alike (next d) (next e)
+        (next_is l x d is_d) (next_is l x e is_e) same ∙ ap (from_of faces) (model.turned e is_e)
 
     -- Runners with the same ends, or with exchanged ones, run along one edge.
     same_way : {e f : Edge} {d c : CellDart} {a b : Bool} → IsRunner e d a → IsRunner f c b

@@ -121,9 +121,8 @@ module _ {l : Layout} {x : Lengths} (laid : IsSurface l) (len : AreLengths l x) 
     patch = patch;
     column = c;
     row = r;
-    leaves = (λ k. point l x (patch k) (c k) (r k))
-        ∙ border_point l x laid len w.patch w.side (place_at l x w o) is.patch_low
-        (omega (arith, at_low l x laid.paved len o is less)) ∙ side_in l x o is less;
+    leaves = (λ k. point l x (patch k) (c k) (r k)) ∙ border_point l x laid len w.patch w.side (place_at l x w o)
+        is.patch_low (omega (arith, at_low l x laid.paved len o is less)) ∙ side_in l x o is less;
   }
 
   -- It is at one place of one slot.

@@ -27,8 +27,7 @@ loop-patch-preserved c patch low = elim (cases_lt patch c.loop-patch.patch) [
 ]
 
 pub returns : goal.returns
-returns c on patch low =
-    c.loop-patch.invariant patch
+returns c on patch low = c.loop-patch.invariant patch
     (omega (
       arith,
       low,

@@ -8,12 +8,9 @@ pub stitch-requires-clause-layout : goal.stitch-requires-clause-layout
 stitch-requires-clause-layout g c = subst IsSomeLayout (sym c.layout.ensures.plan) c.layout.ensures.laid.0
 
 pub stitch-requires-clause-long : goal.stitch-requires-clause-long
-stitch-requires-clause-long g c =
-    (c.are_lengths.ensures c.if-not-are_lengths.false).long
-    ∙ ap (λ (p : Plan). length p.arcs) (sym c.layout.ensures.plan)
-    ∙ length-map c.layout.result.now.arcs.items path
+stitch-requires-clause-long g c = (c.are_lengths.ensures c.if-not-are_lengths.false).long ∙ ap
+    (λ (p : Plan). length p.arcs) (sym c.layout.ensures.plan) ∙ length-map c.layout.result.now.arcs.items path
 
 pub stitch-requires-clause-lengths : goal.stitch-requires-clause-lengths
-stitch-requires-clause-lengths g c =
-    subst (λ (p : Plan). AreLengths (layout_of p) (lengths_in c.args.lengths.now)) (sym c.layout.ensures.plan)
-    (c.are_lengths.ensures c.if-not-are_lengths.false).lengths
+stitch-requires-clause-lengths g c = subst (λ (p : Plan). AreLengths (layout_of p) (lengths_in c.args.lengths.now))
+    (sym c.layout.ensures.plan) (c.are_lengths.ensures c.if-not-are_lengths.false).lengths

@@ -8,50 +8,42 @@ use Rattle.qm_blocks.proofs.Measures.{arcs_low, side_small}
 use Rattle.qm_blocks.proofs.linking.block_links.Goals as goal
 
 pub push_links-requires-clause-low : goal.push_links-requires-clause-low
-push_links-requires-clause-low c =
-    arcs_low (plan c.args.t.now) c.args.x.now c.requires.measured c.args.block
+push_links-requires-clause-low c = arcs_low (plan c.args.t.now) c.args.x.now c.requires.measured c.args.block
     (omega (arith, c.requires.block, length-map c.args.t.now.patches.items rectangle)) south c.side_of.result.now
     c.side_of.ensures
 
 pub push_links-requires-clause-small : goal.push_links-requires-clause-small
-push_links-requires-clause-small c =
-    side_small (plan c.args.t.now) c.args.x.now c.requires.measured c.args.block
+push_links-requires-clause-small c = side_small (plan c.args.t.now) c.args.x.now c.requires.measured c.args.block
     (omega (arith, c.requires.block, length-map c.args.t.now.patches.items rectangle)) south c.side_of.result.now
     c.side_of.ensures
 
 pub push_links-requires-2-clause-low : goal.push_links-requires-2-clause-low
-push_links-requires-2-clause-low c =
-    arcs_low (plan c.args.t.now) c.args.x.now c.requires.measured c.args.block
+push_links-requires-2-clause-low c = arcs_low (plan c.args.t.now) c.args.x.now c.requires.measured c.args.block
     (omega (arith, c.requires.block, length-map c.args.t.now.patches.items rectangle)) east c.side_of-2.result.now
     c.side_of-2.ensures
 
 pub push_links-requires-2-clause-small : goal.push_links-requires-2-clause-small
-push_links-requires-2-clause-small c =
-    side_small (plan c.args.t.now) c.args.x.now c.requires.measured c.args.block
+push_links-requires-2-clause-small c = side_small (plan c.args.t.now) c.args.x.now c.requires.measured c.args.block
     (omega (arith, c.requires.block, length-map c.args.t.now.patches.items rectangle)) east c.side_of-2.result.now
     c.side_of-2.ensures
 
 pub push_links-requires-3-clause-low : goal.push_links-requires-3-clause-low
-push_links-requires-3-clause-low c =
-    arcs_low (plan c.args.t.now) c.args.x.now c.requires.measured c.args.block
+push_links-requires-3-clause-low c = arcs_low (plan c.args.t.now) c.args.x.now c.requires.measured c.args.block
     (omega (arith, c.requires.block, length-map c.args.t.now.patches.items rectangle)) north c.side_of-3.result.now
     c.side_of-3.ensures
 
 pub push_links-requires-3-clause-small : goal.push_links-requires-3-clause-small
-push_links-requires-3-clause-small c =
-    side_small (plan c.args.t.now) c.args.x.now c.requires.measured c.args.block
+push_links-requires-3-clause-small c = side_small (plan c.args.t.now) c.args.x.now c.requires.measured c.args.block
     (omega (arith, c.requires.block, length-map c.args.t.now.patches.items rectangle)) north c.side_of-3.result.now
     c.side_of-3.ensures
 
 pub push_links-requires-4-clause-low : goal.push_links-requires-4-clause-low
-push_links-requires-4-clause-low c =
-    arcs_low (plan c.args.t.now) c.args.x.now c.requires.measured c.args.block
+push_links-requires-4-clause-low c = arcs_low (plan c.args.t.now) c.args.x.now c.requires.measured c.args.block
     (omega (arith, c.requires.block, length-map c.args.t.now.patches.items rectangle)) west c.side_of-4.result.now
     c.side_of-4.ensures
 
 pub push_links-requires-4-clause-small : goal.push_links-requires-4-clause-small
-push_links-requires-4-clause-small c =
-    side_small (plan c.args.t.now) c.args.x.now c.requires.measured c.args.block
+push_links-requires-4-clause-small c = side_small (plan c.args.t.now) c.args.x.now c.requires.measured c.args.block
     (omega (arith, c.requires.block, length-map c.args.t.now.patches.items rectangle)) west c.side_of-4.result.now
     c.side_of-4.ensures
 

@@ -28,8 +28,7 @@ loop-used-preserved c =
     (c.loop-used.invariant.from i)) in
     record {
       pushed = list_more (link_on c.args.table.now x c.args.name side) k c.args.links.now.items c.loop-used.links.items
-          c.push.new.self.items
-          c.link_at-link.result c.loop-used.invariant.pushed c.in_ok-push.ensures.items here;
+          c.push.new.self.items c.link_at-link.result c.loop-used.invariant.pushed c.in_ok-push.ensures.items here;
       from = omega (
         arith,
         count_step (sizes_on side x) k,

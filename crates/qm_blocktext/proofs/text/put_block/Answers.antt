@@ -54,10 +54,9 @@ around : (blocks : Blocks) (block : ℕ) (cut : CutSoup) (t : TMesh) (four : Lis
     → cut ≡ record { soup = blocks.points.soup; plan = blocks.points.plan } → plan t ≡ cut.plan
     → IsMeshLayout cut.soup.faces cut.plan → four ≡ get_or t.sides.items block four
     → arcs_of four ≡ arcs_around blocks.points.plan block
-around blocks block cut t four low of same laid read =
-    arcs_round t cut.plan same laid.0 block
-    (omega (arith, low, blocks.linked, ap (λ (k : CutSoup). length k.plan.patches) of)) four read
-    ∙ ap (λ (k : CutSoup). arcs_around k.plan block) of
+around blocks block cut t four low of same laid read = arcs_round t cut.plan same laid.0 block
+    (omega (arith, low, blocks.linked, ap (λ (k : CutSoup). length k.plan.patches) of)) four read ∙ ap
+    (λ (k : CutSoup). arcs_around k.plan block) of
 
 pub index-requires : goal.index-requires
 index-requires g c =
@@ -75,8 +74,7 @@ returns-clause-whole g c =
     let links = own blocks c.args.block c.as_slice-links.result.now c.index-links-block.result c.requires
     c.as_slice-links.ensures.value c.index-links-block.is in
     let arcs = around blocks c.args.block c.cut.result.now c.layout-layout.result.now c.index.result.now c.requires
-    c.cut.ensures
-    c.layout-layout.ensures.plan c.layout-layout.ensures.laid c.index.ensures in
+    c.cut.ensures c.layout-layout.ensures.plan c.layout-layout.ensures.laid c.index.ensures in
     on_ok_weaker c.put_links.result
     (λ last. laws.takes_more _ _ _ (size_in blocks.points c.args.block) (rest_of blocks c.args.block)
     c.in_ok-put_size.ensures.whole
@@ -92,8 +90,7 @@ returns-clause-part g c =
     let links = own blocks c.args.block c.as_slice-links.result.now c.index-links-block.result c.requires
     c.as_slice-links.ensures.value c.index-links-block.is in
     let arcs = around blocks c.args.block c.cut.result.now c.layout-layout.result.now c.index.result.now c.requires
-    c.cut.ensures
-    c.layout-layout.ensures.plan c.layout-layout.ensures.laid c.index.ensures in
+    c.cut.ensures c.layout-layout.ensures.plan c.layout-layout.ensures.laid c.index.ensures in
     on_err_weaker c.put_links.result
     (λ last. laws.stops_later _ _ _ (size_in blocks.points c.args.block) (rest_of blocks c.args.block)
     c.in_ok-put_size.ensures.whole

@@ -17,10 +17,8 @@ returns-in_err-put_block-clause-part g c =
     c.in_err-put_block.ensures.part)
 
 pub loop-block-preserved : goal.loop-block-preserved
-loop-block-preserved g c =
-    takes_one g.T.Output.takes g.met.T.Output.takes_more (lines_at c.args.blocks.now) c.loop-block.block _ _ _
-    c.loop-block.invariant
-    c.in_ok-put_block.ensures.whole
+loop-block-preserved g c = takes_one g.T.Output.takes g.met.T.Output.takes_more (lines_at c.args.blocks.now)
+    c.loop-block.block _ _ _ c.loop-block.invariant c.in_ok-put_block.ensures.whole
 
 pub returns-clause-whole : goal.returns-clause-whole
 returns-clause-whole g c =

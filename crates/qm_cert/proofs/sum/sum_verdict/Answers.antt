@@ -39,9 +39,8 @@ pub returns : goal.returns
 returns c =
     let net : Network = network c.args.net.now.whole.now in
     let xs : List ℕ = c.args.cert.now.x.items in
-    let near : to_z w128 (of_z w128 c.deviation.result) ≡ pos (deviation net (entries (lows net 1 xs))) =
-    far_is net c.args.lows.now (lows net 1 xs) c.deviation.result c.deviation.type_inv c.deviation.ensures
-    c.requires.lows in
+    let near : to_z w128 (of_z w128 c.deviation.result) ≡ pos (deviation net (entries (lows net 1 xs))) = far_is net
+    c.args.lows.now (lows net 1 xs) c.deviation.result c.deviation.type_inv c.deviation.ensures c.requires.lows in
     let far : to_z w128 (of_z w128 c.deviation-far.result) ≡ pos (deviation net (entries xs)) =
     far_is net c.deref.result.now xs c.deviation-far.result c.deviation-far.type_inv c.deviation-far.ensures
     c.deref.ensures.value in

@@ -3,6 +3,5 @@ use Rattle.def_certtext.specs.{CertLines.dual_lines, CertLines.text_of, declared
 use Rattle.qm_certtext.proofs.cert.push_vertices.Given as goal
 
 abbrev pub invariant-loop-i : goal.invariant-loop-i
-invariant-loop-i l =
-    l.text.items ++ text_of (dual_lines Vertex (drop l.i l.numbers) (drop l.i l.ups)) ≡ l.fn.text.items
+invariant-loop-i l = l.text.items ++ text_of (dual_lines Vertex (drop l.i l.numbers) (drop l.i l.ups)) ≡ l.fn.text.items
     ++ text_of (dual_lines Vertex l.numbers l.ups)

@@ -4,6 +4,5 @@ use Rattle.qm_certtext.specs.RoundLines.{round_lines}
 use Rattle.qm_certtext.proofs.certs.push_rounds.Given as goal
 
 abbrev pub invariant-loop-round : goal.invariant-loop-round
-invariant-loop-round l =
-    l.text.items ++ text_of (round_lines (drop l.round-index l.rounds)) ≡ l.fn.text.items
-    ++ text_of (round_lines l.rounds)
+invariant-loop-round l = l.text.items ++ text_of (round_lines (drop l.round-index l.rounds)) ≡ l.fn.text.items ++
+    text_of (round_lines l.rounds)

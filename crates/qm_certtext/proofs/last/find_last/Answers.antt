@@ -7,8 +7,7 @@ pub lines-init : goal.lines-init
 lines-init c = record {
   rest = whole_tail c.args.bytes.now;
   low = omega arith;
-  found =
-      λ k l. absurd (omega (arith, l));
+  found = λ k l. absurd (omega (arith, l));
 }
 
 pub overflow_sub-at : goal.overflow_sub-at
@@ -26,8 +25,7 @@ lines-preserved c =
     c.in-Some.behind.now c.in-Some.ensures.line c.in-Some.ensures.rest in
     record {
       rest = cut_behind c.args.bytes.now c.lines.rest.now c.lines.i c.lines.invariant.rest c.in-Some.line.now
-          c.in-Some.behind.now c.in-Some.ensures.line
-          c.in-Some.ensures.rest;
+          c.in-Some.behind.now c.in-Some.ensures.line c.in-Some.ensures.rest;
       low = omega (arith, there);
       found = found_more c.args.prefix.now c.args.bytes.now c.lines.rest.now c.in-Some.line.now c.lines.i _
           c.lines.found _ c.lines.invariant.rest
@@ -38,8 +36,7 @@ lines-preserved c =
     }
 
 pub returns-clause-last : goal.returns-clause-last
-returns-clause-last c =
-    found_last c.args.prefix.now c.args.bytes.now c.lines.i c.lines.found c.lines.invariant.low
+returns-clause-last c = found_last c.args.prefix.now c.args.bytes.now c.lines.i c.lines.found c.lines.invariant.low
     (cut_ended c.args.bytes.now c.lines.rest.now c.lines.i c.lines.invariant.rest c.in_default.ensures.line)
     c.lines.invariant.found
 

@@ -5,10 +5,7 @@ use Rattle.qm_certtext.proofs.Letters.{floor_low, not_floor}
 use Rattle.qm_certtext.proofs.line.read_floor.Goals as goal
 
 pub returns-in_default : goal.returns-in_default
-returns-in_default c =
-    not_floor c.args.rising c.args.rest.now
-    (λ n may is.
-    let same : c.in-Some.floor ≡ n =
-    decimal_injective c.in-Some.floor n (omega (arith, c.in-Some.ensures.0))
+returns-in_default c = not_floor c.args.rising c.args.rest.now (λ n may is.
+    let same : c.in-Some.floor ≡ n = decimal_injective c.in-Some.floor n (omega (arith, c.in-Some.ensures.0))
     (omega (arith, floor_low c.args.rising n may)) (sym c.in-Some.ensures.1 ∙ is) in
     false≢true (c.if-may_name.ensures ∙ ap (may_name c.args.rising) same ∙ may))

@@ -8,22 +8,18 @@ use Rattle.qm_certtext.proofs.Counts.{both_read, no_behind, no_number, no_up, so
 use Rattle.qm_certtext.proofs.numbers.read_numbered.Goals as goal
 
 pub returns-then-is_empty : goal.returns-then-is_empty
-returns-then-is_empty c =
-    no_behind c.args.text.now c.split_at.result.0.now c.split_at.result.1.now _ c.find_byte.ensures.exact
-    c.split_at.ensures.front c.split_at.ensures.back
+returns-then-is_empty c = no_behind c.args.text.now c.split_at.result.0.now c.split_at.result.1.now _
+    c.find_byte.ensures.exact c.split_at.ensures.front c.split_at.ensures.back
     (eqb-true (length c.split_at.result.1.now) 0 (sym c.if-is_empty.ensures))
 
 pub returns-in_default : goal.returns-in_default
-returns-in_default c =
-    no_number c.args.text.now c.split_at.result.0.now c.split_at.result.1.now _ c.find_byte.ensures.exact
-    c.split_at.ensures.front c.split_at.ensures.back
-    c.in_default.ensures
+returns-in_default c = no_number c.args.text.now c.split_at.result.0.now c.split_at.result.1.now _
+    c.find_byte.ensures.exact c.split_at.ensures.front c.split_at.ensures.back c.in_default.ensures
 
 pub returns-in_default-read_count : goal.returns-in_default-read_count
-returns-in_default-read_count c =
-    no_up c.args.text.now c.split_at.result.0.now c.split_at.result.1.now _ c.find_byte.ensures.exact
-    c.split_at.ensures.front c.split_at.ensures.back
-    c.behind_first.result.now c.behind_first.ensures c.in_default-read_count.ensures
+returns-in_default-read_count c = no_up c.args.text.now c.split_at.result.0.now c.split_at.result.1.now _
+    c.find_byte.ensures.exact c.split_at.ensures.front c.split_at.ensures.back c.behind_first.result.now
+    c.behind_first.ensures c.in_default-read_count.ensures
 
 pub returns : goal.returns
 returns c =

@@ -51,8 +51,7 @@ lines-preserved c =
     record {
       order = omega (arith, c.lines.invariant.order);
       rest = cut_behind c.args.text.now c.lines.rest.now k c.lines.invariant.rest line c.in-Some.behind.now
-          c.in-Some.ensures.line c.in-Some.ensures.rest
-          ∙ ap (λ (n : ℕ). tail_of n c.args.text.now) (sym next);
+          c.in-Some.ensures.line c.in-Some.ensures.rest ∙ ap (λ (n : ℕ). tail_of n c.args.text.now) (sym next);
       low = omega (arith, there, next);
       read = subst (λ (n : ℕ). ReadSome c.args.rising (take n (lines_of c.args.text.now)) c.take_text.new.found)
           (sym next)

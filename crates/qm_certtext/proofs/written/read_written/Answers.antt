@@ -4,8 +4,7 @@ use Rattle.qm_certtext.proofs.Tails.{few_lines, tail_fails, tail_tells}
 use Rattle.qm_certtext.proofs.written.read_written.Goals as goal
 
 pub read_tail-requires : goal.read_tail-requires
-read_tail-requires c =
-    few_lines c.args.lines.now c.tail.result.now c.args.first c.tail.ensures c.requires
+read_tail-requires c = few_lines c.args.lines.now c.tail.result.now c.args.first c.tail.ensures c.requires
     (omega (arith, c.count-count.ensures, c.count-count.type_inv))
 
 pub returns-clause-reads : goal.returns-clause-reads

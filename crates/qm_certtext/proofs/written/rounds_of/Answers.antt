@@ -3,6 +3,5 @@ use Rattle.qm_certtext.proofs.Ending.{rounds_are}
 use Rattle.qm_certtext.proofs.written.rounds_of.Goals as goal
 
 pub returns : goal.returns
-returns c =
-    rounds_are c.args.found c.end_round.new.self (lists_of c.in_ok-cert.cert) c.in_ok-end_round.ensures
+returns c = rounds_are c.args.found c.end_round.new.self (lists_of c.in_ok-cert.cert) c.in_ok-end_round.ensures
     c.in_ok-cert.ensures

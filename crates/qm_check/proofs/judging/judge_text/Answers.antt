@@ -26,8 +26,7 @@ check_certs-requires-clause-net c = (
 )
 
 pub check_certs-requires-clause-reach : goal.check_certs-requires-clause-reach
-check_certs-requires-clause-reach c =
-    told_reach c.args.bytes.now c.args.head.line c.args.ready.frame.terms.rising
+check_certs-requires-clause-reach c = told_reach c.args.bytes.now c.args.head.line c.args.ready.frame.terms.rising
     (certificates_of c.in_ok-certs.certs) c.requires.few c.in_ok-certs.ensures.told
 
 pub returns-in_err-checked-clause-refused : goal.returns-in_err-checked-clause-refused
@@ -48,8 +47,7 @@ lines_between-requires c = (
 )
 
 pub compare-requires-clause-few : goal.compare-requires-clause-few
-compare-requires-clause-few c =
-    subst (λ (given : Bytes). length given ≤ MAX_BYTES) (sym c.written_text.ensures)
+compare-requires-clause-few c = subst (λ (given : Bytes). length given ≤ MAX_BYTES) (sym c.written_text.ensures)
     (tail_few c.args.head.line c.args.bytes.now c.requires.few)
 
 pub compare-requires-clause-kept : goal.compare-requires-clause-kept

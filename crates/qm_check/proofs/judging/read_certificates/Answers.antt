@@ -18,9 +18,8 @@ read_certs-requires c =
     )
 
 pub returns-in-Ok-clause-told : goal.returns-in-Ok-clause-told
-returns-in-Ok-clause-told c =
-    subst (λ (behind : Lines). TellCerts c.args.rising behind (certificates_of c.in-Ok.certs)) c.text_behind.ensures
-    c.in-Ok.ensures.reads
+returns-in-Ok-clause-told c = subst (λ (behind : Lines). TellCerts c.args.rising behind (certificates_of c.in-Ok.certs))
+    c.text_behind.ensures c.in-Ok.ensures.reads
 
 pub returns-in-Err-Line-clause-refused : goal.returns-in-Err-Line-clause-refused
 returns-in-Err-Line-clause-refused c =

@@ -13,10 +13,8 @@ returns-in_err-deviation-clause-refused c =
     c.from_residual.ensures.1 (c.in_err-deviation.ensures.refused c.args.cut.now.plan)
 
 pub plan_over-requires-clause-lengths : goal.plan_over-requires-clause-lengths
-plan_over-requires-clause-lengths c =
-    are_lengths c.args.cut.now.plan c.requires.net.1 (network c.args.net.now) c.args.cert.now _ c.requires.net.3
-    c.in_ok-deviation.ensures.solved
-    c.deref.ensures.value
+plan_over-requires-clause-lengths c = are_lengths c.args.cut.now.plan c.requires.net.1 (network c.args.net.now)
+    c.args.cert.now _ c.requires.net.3 c.in_ok-deviation.ensures.solved c.deref.ensures.value
 
 pub returns-in-Ok-clause-gives : goal.returns-in-Ok-clause-gives
 returns-in-Ok-clause-gives c = (

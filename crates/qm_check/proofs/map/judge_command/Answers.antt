@@ -13,9 +13,8 @@ judge_refined-requires-clause-given c =
     subst (IsGivenTo c.args.bytes.now c.args.mark c.args.old) c.in-Refine.is c.requires.given
 
 pub returns-in_err-finished-clause-refused : goal.returns-in_err-finished-clause-refused
-returns-in_err-finished-clause-refused c =
-    handed (IsMapFail c.args.bytes.now) c.from_residual.result c.in_err-finished.field-0.0
-    c.from_residual.ensures.1 c.in_err-finished.ensures.refused
+returns-in_err-finished-clause-refused c = handed (IsMapFail c.args.bytes.now) c.from_residual.result
+    c.in_err-finished.field-0.0 c.from_residual.ensures.1 c.in_err-finished.ensures.refused
 
 pub returns-in-Some-clause-mapped : goal.returns-in-Some-clause-mapped
 returns-in-Some-clause-mapped c =

@@ -23,9 +23,8 @@ told c = told_by c c.requires.given.0 c.requires.given.1 c.requires.given.2
 
 ready_is : (c : In_ok-ready) → IsLeastLine c.requires.given.0 c.head_line.result.now c.args.least.now
     → IsReadyFor c.requires.given.0 (front_of c.args.mark.line c.args.bytes.now) c.in_ok-ready.ready
-ready_is c told =
-    subst (λ (text : Bytes). IsReadyFor c.requires.given.0 text c.in_ok-ready.ready) c.old_text-text.ensures.front
-    (c.in_ok-ready.ensures.ready c.requires.given.0 told)
+ready_is c told = subst (λ (text : Bytes). IsReadyFor c.requires.given.0 text c.in_ok-ready.ready)
+    c.old_text-text.ensures.front (c.in_ok-ready.ensures.ready c.requires.given.0 told)
 
 pub ready_for-requires-clause-few : goal.ready_for-requires-clause-few
 ready_for-requires-clause-few c = omega (arith, c.requires.few, c.old_text-text.ensures.few)

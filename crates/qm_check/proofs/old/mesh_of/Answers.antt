@@ -5,13 +5,11 @@ use Rattle.qm_check.specs.Ready.{IsOld}
 use Rattle.qm_check.proofs.old.mesh_of.Goals as goal
 
 pub returns-in-Ok-clause-old : goal.returns-in-Ok-clause-old
-returns-in-Ok-clause-old c text said =
-    subst (IsOld text) (sym c.in-Ok.ensures.soup)
+returns-in-Ok-clause-old c text said = subst (IsOld text) (sym c.in-Ok.ensures.soup)
     (record {
       mesh = record { said = said; manifold = c.in-Ok.ensures.manifold };
       solid = c.in-Ok.ensures.solid;
-      few =
-          c.requires.0;
+      few = c.requires.0;
     })
 
 pub returns-in-Err-NotManifold-clause-refused : goal.returns-in-Err-NotManifold-clause-refused

@@ -10,6 +10,5 @@ pub returns-in-Ok-clause-refused : goal.returns-in-Ok-clause-refused
 returns-in-Ok-clause-refused c = c.mesh_of.ensures.refused c.args.text.now c.in-Ok.ensures.soup
 
 pub returns-in-Err-clause-refused : goal.returns-in-Err-clause-refused
-returns-in-Err-clause-refused c =
-    subst (IsNoOld c.args.text.now) (sym c.refusal_of.ensures)
+returns-in-Err-clause-refused c = subst (IsNoOld c.args.text.now) (sym c.refusal_of.ensures)
     (old_fails c.args.text.now c.in-Err.fail c.in-Err.ensures.refused)

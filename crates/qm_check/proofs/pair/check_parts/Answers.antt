@@ -18,8 +18,7 @@ asked c = record {
   divided = c.requires.head.last;
   lines = c.old_text-text.ensures.lines;
   read = c.in_ok-old.ensures.old;
-  head =
-      subst (λ (line : Bytes). IsHead line c.in-Some.asked.settings c.in-Some.asked.auto) c.head_line-line.ensures
+  head = subst (λ (line : Bytes). IsHead line c.in-Some.asked.settings c.in-Some.asked.auto) c.head_line-line.ensures
       c.in-Some.ensures;
 }
 
@@ -41,8 +40,7 @@ returns-in_default-clause-refused c =
 pub ready_for-requires-clause-line : goal.ready_for-requires-clause-line
 ready_for-requires-clause-line c = (
   Remesh c.in-Some.asked.settings c.in-Some.asked.auto,
-  remesh_line c.head_line-line.result.now c.in-Some.asked
-      c.remeshed.result c.in-Some.ensures c.remeshed.ensures,
+  remesh_line c.head_line-line.result.now c.in-Some.asked c.remeshed.result c.in-Some.ensures c.remeshed.ensures,
 )
 
 pub ready_for-requires-clause-few : goal.ready_for-requires-clause-few

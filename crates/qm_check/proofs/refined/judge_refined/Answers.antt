@@ -41,14 +41,12 @@ returns-in_err-new-clause-refused c =
     c.in_err-new.ensures.refused)
 
 pub compare_refined-requires-clause-few : goal.compare_refined-requires-clause-few
-compare_refined-requires-clause-few c =
-    subst (λ (given : Bytes). length given ≤ MAX_BYTES) (sym c.written_text.ensures)
+compare_refined-requires-clause-few c = subst (λ (given : Bytes). length given ≤ MAX_BYTES) (sym c.written_text.ensures)
     (tail_few c.args.mark.line c.args.bytes.now c.requires.few)
 
 pub compare_refined-requires-clause-lengths : goal.compare_refined-requires-clause-lengths
-compare_refined-requires-clause-lengths c =
-    c.in_ok-new.ensures.refined.lengths ∙ ap (λ (p : Plan). multiple_of c.args.by (long_at p.arcs))
-    (sym c.in_ok-new.ensures.refined.plan)
+compare_refined-requires-clause-lengths c = c.in_ok-new.ensures.refined.lengths ∙ ap
+    (λ (p : Plan). multiple_of c.args.by (long_at p.arcs)) (sym c.in_ok-new.ensures.refined.plan)
 
 pub returns-in_err-compare_refined-clause-refused : goal.returns-in_err-compare_refined-clause-refused
 returns-in_err-compare_refined-clause-refused c =

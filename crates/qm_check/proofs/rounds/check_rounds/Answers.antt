@@ -23,8 +23,7 @@ pub rounds-init : goal.rounds-init
 rounds-init c =
     let gives = c.into_iter-round-iterator.ensures.into_iter_gives in
     record {
-      left =
-          ap (λ (xs : List Round). xs ++ into_iter_items c.into_iter-round-iterator.result)
+      left = ap (λ (xs : List Round). xs ++ into_iter_items c.into_iter-round-iterator.result)
           c.new-passed.ensures.items ∙ gives.0;
       many = omega (arith, gives.1, ap length gives.0, c.args.run.rounds.ok.0);
       passed = λ wish for. subst (λ (xs : List Round). ArePassed wish c.args.cut.now.plan c.args.terms.settings
@@ -48,10 +47,8 @@ from c = risen (lists_of c.in-Some.round.cert) c.in-Some.round.rises.items (afte
 
 told_is : (c : In-Some) → risen_by c.args.run.rounds.items (alone (lists_of c.args.run.cert))
     ≡ risen_by c.rounds.passed.items (from c)
-told_is c =
-    ap (λ (xs : List Round). risen_by xs (alone (lists_of c.args.run.cert))) (sym (left_is c))
-    ∙ risen_append c.rounds.passed.items (c.in-Some.round ∷ into_iter_items c.next.new.self)
-    (alone (lists_of c.args.run.cert))
+told_is c = ap (λ (xs : List Round). risen_by xs (alone (lists_of c.args.run.cert))) (sym (left_is c)) ∙ risen_append
+    c.rounds.passed.items (c.in-Some.round ∷ into_iter_items c.next.new.self) (alone (lists_of c.args.run.cert))
 
 pub check_lengths-requires-clause-net : goal.check_lengths-requires-clause-net
 check_lengths-requires-clause-net c = (

@@ -7,16 +7,14 @@ use Rattle.qm_dec.proofs.plain.add_digits.Goals as goal
 pub overflow_mul-value : goal.overflow_mul-value
 overflow_mul-value c = omega (
   arith,
-  after_room c.args.value c.args.text.now c.loop-i.i c.requires.small
-      c.loop-i.invariant.digits c.requires.short,
+  after_room c.args.value c.args.text.now c.loop-i.i c.requires.small c.loop-i.invariant.digits c.requires.short,
   c.loop-i.invariant.so_far,
 )
 
 pub overflow_add-value : goal.overflow_add-value
 overflow_add-value c = omega (
   arith,
-  after_room c.args.value c.args.text.now c.loop-i.i c.requires.small
-      c.loop-i.invariant.digits c.requires.short,
+  after_room c.args.value c.args.text.now c.loop-i.i c.requires.small c.loop-i.invariant.digits c.requires.short,
   c.loop-i.invariant.so_far,
   c.from.ensures,
 )

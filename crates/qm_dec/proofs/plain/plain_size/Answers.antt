@@ -18,8 +18,7 @@ pub with_fraction-requires : goal.with_fraction-requires
 with_fraction-requires c = prefix_small (whole (goal.at.with_fraction-requires c).After-add_digits-whole)
 
 pub returns-then-is_empty : goal.returns-then-is_empty
-returns-then-is_empty c =
-    whole_size c.args.word.now c.requires c.unsigned-body.ensures
+returns-then-is_empty c = whole_size c.args.word.now c.requires c.unsigned-body.ensures
     (whole (goal.at.returns-then-is_empty c).After-add_digits-whole) c.if-count-eq0.false c.split_at.ensures.back
     (eqb-true _ _ (sym c.if-is_empty.ensures))
 

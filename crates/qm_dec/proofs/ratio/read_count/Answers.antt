@@ -9,14 +9,12 @@ returns-then-not-are_digits c n l h is =
 
 pub returns-then-n-eq0 : goal.returns-then-n-eq0
 returns-then-n-eq0 c n l h is =
-    let e : c.min-n.result ≡ n =
-    printed_read c.args.word.now n c.min-n.result (c.min-n.ensures ∙ ap (λ k. min k 10001) c.number_after.ensures)
-    (omega (arith, c.requires, h)) is in
+    let e : c.min-n.result ≡ n = printed_read c.args.word.now n c.min-n.result
+    (c.min-n.ensures ∙ ap (λ k. min k 10001) c.number_after.ensures) (omega (arith, c.requires, h)) is in
     absurd (omega (arith, e, c.then-n-eq0.either))
 
 pub returns-else-is_written : goal.returns-else-is_written
 returns-else-is_written c n l h is =
-    let e : c.min-n.result ≡ n =
-    printed_read c.args.word.now n c.min-n.result (c.min-n.ensures ∙ ap (λ k. min k 10001) c.number_after.ensures)
-    (omega (arith, c.requires, h)) is in
+    let e : c.min-n.result ≡ n = printed_read c.args.word.now n c.min-n.result
+    (c.min-n.ensures ∙ ap (λ k. min k 10001) c.number_after.ensures) (omega (arith, c.requires, h)) is in
     false≢true (c.if-is_written.ensures.1 (is ∙ ap decimal (sym e)))

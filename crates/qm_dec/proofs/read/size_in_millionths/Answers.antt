@@ -29,9 +29,8 @@ size_of-requires-else-is_negative-clause-fraction c =
     (number_parts c.args.whole.now c.args.fraction.now c.requires.number).1
 
 pub small_power-power-requires : goal.small_power-power-requires
-small_power-power-requires c =
-    ap is_number (c.unsigned.ensures ∙ ap unsigned c.behind_first-rest.ensures)
-    ∙ sym (exponent_is c.args.exponent.now (some_from _ c.if-is_empty.ensures)) ∙ c.requires.exponent
+small_power-power-requires c = ap is_number (c.unsigned.ensures ∙ ap unsigned c.behind_first-rest.ensures) ∙ sym
+    (exponent_is c.args.exponent.now (some_from _ c.if-is_empty.ensures)) ∙ c.requires.exponent
 
 -- The power, cut off at a bound.
 bounded : (c : After-small_power-power)

@@ -10,17 +10,15 @@ returns-then-last-count c =
     (omega (arith, length-append c.args.whole.now c.args.fraction.now))))
 
 pub returns-then-digit_at-lt53 : goal.returns-then-digit_at-lt53
-returns-then-digit_at-lt53 c =
-    cut_below (c.args.whole.now ++ c.args.fraction.now) (length c.args.whole.now + length c.args.fraction.now -
-    c.args.last) c.args.last _ c.digit_at.result (digits_both c.args.whole.now c.args.fraction.now
-    c.requires.whole c.requires.fraction)
-    c.requires.some (omega (arith, length-append c.args.whole.now c.args.fraction.now)) c.first_digits-value.ensures
-    c.digit_at.ensures c.if-digit_at-lt53.true
+returns-then-digit_at-lt53 c = cut_below (c.args.whole.now ++ c.args.fraction.now)
+    (length c.args.whole.now + length c.args.fraction.now - c.args.last) c.args.last _ c.digit_at.result
+    (digits_both c.args.whole.now c.args.fraction.now c.requires.whole c.requires.fraction) c.requires.some
+    (omega (arith, length-append c.args.whole.now c.args.fraction.now)) c.first_digits-value.ensures c.digit_at.ensures
+    c.if-digit_at-lt53.true
 
 pub returns-else-digit_at-lt53 : goal.returns-else-digit_at-lt53
-returns-else-digit_at-lt53 c =
-    cut_above (c.args.whole.now ++ c.args.fraction.now) (length c.args.whole.now + length c.args.fraction.now -
-    c.args.last) c.args.last c.first_digits-value.result c.digit_at.result _
-    (digits_both c.args.whole.now c.args.fraction.now c.requires.whole c.requires.fraction)
+returns-else-digit_at-lt53 c = cut_above (c.args.whole.now ++ c.args.fraction.now)
+    (length c.args.whole.now + length c.args.fraction.now - c.args.last) c.args.last c.first_digits-value.result
+    c.digit_at.result _ (digits_both c.args.whole.now c.args.fraction.now c.requires.whole c.requires.fraction)
     c.requires.some (omega (arith, length-append c.args.whole.now c.args.fraction.now)) c.first_digits-value.ensures
     c.digit_at.ensures c.if-digit_at-lt53.false c.min.ensures

@@ -50,8 +50,7 @@ returns-clause-value c =
       c.sum_at-2.ensures,
       c.sum_at-both.ensures,
       apart_sums c.args.d.now.n (dual c.args.d.now.whole.now) c.args.tables.now.sums.items c.requires.tables.summed
-          c.args.a
-          c.args.b c.meeting.result c.requires.entries.0 c.requires.entries.1 c.meeting.ensures.low
+          c.args.a c.args.b c.meeting.result c.requires.entries.0 c.requires.entries.1 c.meeting.ensures.low
           c.meeting.ensures.least,
     )
 

@@ -9,8 +9,7 @@ returns-then-heads-a-clause-same c =
       arith,
       head_later c.args.d.now.n (length c.args.d.now.whole.now.z.items) c.args.d.now.whole.now.up.items c.args.heads.now
           c.args.d.now.nest.nested c.requires.headed (length c.args.d.now.whole.now.z.items) (c.args.a - 1)
-          (omega arith)
-          (omega arith),
+          (omega arith) (omega arith),
     ) in
     rw c.past_head.ensures.value (leave_entries c.args.d.now.n (length c.args.d.now.whole.now.z.items)
     c.args.d.now.whole.now.up.items
@@ -25,8 +24,7 @@ returns-else-heads-a-clause-same c =
       arith,
       head_later c.args.d.now.n (length c.args.d.now.whole.now.z.items) c.args.d.now.whole.now.up.items c.args.heads.now
           c.args.d.now.nest.nested c.requires.headed (length c.args.d.now.whole.now.z.items) (c.args.b - 1)
-          (omega arith)
-          (omega arith),
+          (omega arith) (omega arith),
     ) in
     rw c.past_head-else-heads-a.ensures.value (leave_entries_back c.args.d.now.n (length c.args.d.now.whole.now.z.items)
     c.args.d.now.whole.now.up.items c.args.heads.now c.args.d.now.nest.nested c.requires.headed c.args.a c.args.b

@@ -7,6 +7,5 @@ tally-requires-clause-fits c =
     omega (
       arith,
       tallies_low c.args.d.now.n (length c.args.d.now.whole.now.z.items) c.args.d.now.whole.now.up.items c.loop-v.v
-          (λ k. 0)
-          c.loop-v.sizes c.loop-v.invariant (c.set_around_vertex.result - 1),
+          (λ k. 0) c.loop-v.sizes c.loop-v.invariant (c.set_around_vertex.result - 1),
     )

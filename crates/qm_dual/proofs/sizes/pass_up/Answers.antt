@@ -9,11 +9,9 @@ tally-requires-clause-fits c =
     omega (
       arith,
       tallies_low c.args.d.now.n (length c.args.d.now.whole.now.z.items) c.args.d.now.whole.now.up.items c.args.d.now.n
-          (λ j. min j c.loop-k.k)
-          c.loop-k.sizes c.loop-k.invariant (c.set_around_set.result - 1),
+          (λ j. min j c.loop-k.k) c.loop-k.sizes c.loop-k.invariant (c.set_around_set.result - 1),
       tallies_low c.args.d.now.n (length c.args.d.now.whole.now.z.items) c.args.d.now.whole.now.up.items c.args.d.now.n
-          (λ j. min j c.loop-k.k)
-          c.loop-k.sizes c.loop-k.invariant c.loop-k.k,
+          (λ j. min j c.loop-k.k) c.loop-k.sizes c.loop-k.invariant c.loop-k.k,
     )
 
 pub loop-k-preserved : goal.loop-k-preserved

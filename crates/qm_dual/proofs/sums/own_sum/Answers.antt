@@ -17,12 +17,10 @@ overflow_add-result c =
     omega (
       arith,
       ints,
-      get_or_read c.args.d.now.whole.now.z.items c.args.k c.index.result.now c.requires.inner c.index.ensures
-          (pos 0),
+      get_or_read c.args.d.now.whole.now.z.items c.args.k c.index.result.now c.requires.inner c.index.ensures (pos 0),
       small,
       outer,
-      around_small c.args.d.now.n (dual c.args.d.now.whole.now) c.args.d.now.small.small_z
-          c.set_around_set.result,
+      around_small c.args.d.now.n (dual c.args.d.now.whole.now) c.args.d.now.small.small_z c.set_around_set.result,
     )
 
 pub returns : goal.returns
@@ -33,9 +31,8 @@ returns c =
     c.sum_of.ensures ∙ named_later c.args.d.now.n (dual c.args.d.now.whole.now) c.args.k c.args.sums.now
     c.requires.summed
     c.set_around_set.result c.set_around_set.ensures.later in
-    let same : around c.args.d.now.n (dual c.args.d.now.whole.now) c.set_around_set.result
-    ≡ around c.args.d.now.n (dual c.args.d.now.whole.now) (slice_index c.args.d.now.whole.now.up.items
-    (c.args.d.now.n + c.args.k)) =
+    let same : around c.args.d.now.n (dual c.args.d.now.whole.now) c.set_around_set.result ≡ around c.args.d.now.n
+    (dual c.args.d.now.whole.now) (slice_index c.args.d.now.whole.now.up.items (c.args.d.now.n + c.args.k)) =
     ap (around c.args.d.now.n (dual c.args.d.now.whole.now)) c.set_around_set.ensures.value in
     let step : around c.args.d.now.n (dual c.args.d.now.whole.now) (c.args.k + 1) ≡ z_at (dual c.args.d.now.whole.now)
     c.args.k +ℤ around c.args.d.now.n
@@ -46,12 +43,10 @@ returns c =
     omega (
       arith,
       ints,
-      get_or_read c.args.d.now.whole.now.z.items c.args.k c.index.result.now c.requires.inner c.index.ensures
-          (pos 0),
+      get_or_read c.args.d.now.whole.now.z.items c.args.k c.index.result.now c.requires.inner c.index.ensures (pos 0),
       small,
       outer,
       same,
       step,
-      around_small c.args.d.now.n (dual c.args.d.now.whole.now) c.args.d.now.small.small_z
-          c.set_around_set.result,
+      around_small c.args.d.now.n (dual c.args.d.now.whole.now) c.args.d.now.small.small_z c.set_around_set.result,
     )

@@ -23,9 +23,8 @@ pub returns : goal.returns
 returns c =
     let items : c.deref_mut.result.now ≡ c.args.marks.now = search rules in
     let starts : c.deref-3.result.now ≡ marked_starts c.args.mesh.now c.args.marks.now = search rules in
-    let sources : c.deref-4.result.now ≡ c.mark_starts.new.begun =
-    c.deref-4.ensures.value ∙ with_items_is c.in_ok-sources.sources c.mark_starts.new.begun
-    (c.mark_starts.auto.begun ∙ c.deref_mut.ensures.len) in
+    let sources : c.deref-4.result.now ≡ c.mark_starts.new.begun = c.deref-4.ensures.value ∙ with_items_is
+    c.in_ok-sources.sources c.mark_starts.new.begun (c.mark_starts.auto.begun ∙ c.deref_mut.ensures.len) in
     let told : (d : ℕ) → is_on c.deref-4.result.now d ≡ cond (is_among d c.deref-3.result.now) true
     (is_on c.args.marks.now d) = λ d.
     ap (λ (xs : List Bool). is_on xs d) sources

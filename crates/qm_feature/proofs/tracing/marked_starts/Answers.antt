@@ -15,8 +15,7 @@ mark_starts-requires c d n =
     let items : c.in_ok-begun.begun.items ≡ replicate (darts c.args.mesh.now) false = search rules in
     omega (
       arith,
-      (started c.args.mesh.now c.faces.ensures.mesh.manifold).low d (sym (ap (is_among d) c.requires.starts)
-          ∙ n),
+      (started c.args.mesh.now c.faces.ensures.mesh.manifold).low d (sym (ap (is_among d) c.requires.starts) ∙ n),
       ap length (c.deref_mut.ensures.value ∙ items),
       length-replicate (darts c.args.mesh.now) false,
     )

@@ -84,8 +84,7 @@ loop-preserved c =
           (λ k. get_or c.args.lists.now.last.items (walk (λ k. get_or c.args.after.now k 0) c.args.front k) 0)
           (λ k. get_or c.args.lists.now.first.items (walk (λ k. get_or c.args.after.now k 0) c.args.front (suc k)) 0)
           c.loop.counter (omega (arith, end_is at.After-index-end, ends, c.loop.invariant.size))
-          c.loop.invariant.following (end_is at.After-index-end) (first_is at.After-index)
-          (add-one c.loop.counter);
+          c.loop.invariant.following (end_is at.After-index-end) (first_is at.After-index) (add-one c.loop.counter);
       size = length-set c.loop.lists.following.items c.index-end.result.now c.index.result.now ∙ c.loop.invariant.size;
       first = c.loop.invariant.first;
       last = c.loop.invariant.last;

@@ -4,6 +4,5 @@ use Rattle.qm_fraction.specs.Exits.{IsExitWithin}
 use Rattle.qm_fraction.proofs.exits.exits_of.Given as goal
 
 abbrev pub invariant-loop-d : goal.invariant-loop-d
-invariant-loop-d l = (length l.free.items ≡ l.g.graph.n + 1)
-    × (length l.all.items ≡ 2 * length l.g.graph.edges)
-    × All (IsExitWithin l.g.graph.n) l.all.items
+invariant-loop-d l = (length l.free.items ≡ l.g.graph.n + 1) × (length l.all.items ≡ 2 * length l.g.graph.edges) × All
+    (IsExitWithin l.g.graph.n) l.all.items

@@ -7,9 +7,8 @@ push_fan-requires c =
     let first : c.index.result.now ≡ slice_index c.args.copies.now.firsts.items c.args.end.now.node =
     get_or_read c.args.copies.now.firsts.items c.args.end.now.node c.index.result.now
     (omega (arith, c.args.copies.now.laid_out.count)) c.index.ensures 0 in
-    let count : c.index-2.result.now ≡ slice_index c.args.copies.now.counts.items c.args.end.now.node =
-    get_or_read c.args.copies.now.counts.items c.args.end.now.node c.index-2.result.now c.requires.at
-    c.index-2.ensures 0 in
+    let count : c.index-2.result.now ≡ slice_index c.args.copies.now.counts.items c.args.end.now.node = get_or_read
+    c.args.copies.now.counts.items c.args.end.now.node c.index-2.result.now c.requires.at c.index-2.ensures 0 in
     omega (
       arith,
       first,

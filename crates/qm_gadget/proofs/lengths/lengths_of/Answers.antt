@@ -13,9 +13,8 @@ overflow_cast-len c = omega (
 )
 
 pub invariant_of-boxes-clause-ready : goal.invariant_of-boxes-clause-ready
-invariant_of-boxes-clause-ready c =
-    rw (c.deref.ensures.value, c.deref-2.ensures.value) (gadget_ready (network c.args.net.now.whole.now) c.args.g.now
-    c.args.net.now.bounds c.requires.gadget)
+invariant_of-boxes-clause-ready c = rw (c.deref.ensures.value, c.deref-2.ensures.value)
+    (gadget_ready (network c.args.net.now.whole.now) c.args.g.now c.args.net.now.bounds c.requires.gadget)
 
 pub lengths_over-requires-clause-edges : goal.lengths_over-requires-clause-edges
 lengths_over-requires-clause-edges c = (

@@ -18,9 +18,8 @@ states_in-requires-clause-wide c =
     rw (
       c.deref.ensures.value,
       c.deref-2.ensures.value,
-      plan_counts (network c.args.boxes.now.net.whole.now) c.args.boxes.now.step
-          c.args.boxes.now.lows.now c.args.boxes.now.caps.now c.in_ok-plan.plan c.args.boxes.now.ready
-          c.in_ok-plan.ensures,
+      plan_counts (network c.args.boxes.now.net.whole.now) c.args.boxes.now.step c.args.boxes.now.lows.now
+          c.args.boxes.now.caps.now c.in_ok-plan.plan c.args.boxes.now.ready c.in_ok-plan.ensures,
       c.in_ok-plan.ensures.units,
     ) c.requires.edges.1
 

@@ -12,8 +12,7 @@ firsts counts us ons = units_marks (copies_in counts) (λ v. 0) us ons
 
 -- The marks of the edges at the rim.
 abbrev lasts : List ℕ → Bool → List ArcUnit → List Bool → List Bool
-lasts counts lone us ons =
-    rim_marks (lone_vertex (length counts) (copies_in counts) lone us) lone
+lasts counts lone us ons = rim_marks (lone_vertex (length counts) (copies_in counts) lone us) lone
     (first_fresh (length counts) (copies_in counts) lone us) (rim_states us ons)
 
 pub push_rim_marks-requires : goal.push_rim_marks-requires

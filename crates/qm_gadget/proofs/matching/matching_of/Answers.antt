@@ -4,9 +4,8 @@ use Rattle.qm_gadget.proofs.Told.{gadget_ready, gadget_short, gadget_matching}
 use Rattle.qm_gadget.proofs.matching.matching_of.Goals as goal
 
 pub invariant_of-boxes-clause-ready : goal.invariant_of-boxes-clause-ready
-invariant_of-boxes-clause-ready c =
-    rw (c.deref.ensures.value, c.deref-2.ensures.value) (gadget_ready (network c.args.net.now.whole.now) c.args.g.now
-    c.args.net.now.bounds c.requires.gadget)
+invariant_of-boxes-clause-ready c = rw (c.deref.ensures.value, c.deref-2.ensures.value)
+    (gadget_ready (network c.args.net.now.whole.now) c.args.g.now c.args.net.now.bounds c.requires.gadget)
 
 pub matching_by-requires-clause-inside : goal.matching_by-requires-clause-inside
 matching_by-requires-clause-inside c = rw (c.deref.ensures.value, c.deref-2.ensures.value) c.requires.inside

@@ -13,7 +13,6 @@ bounds-heights-column c =
     )
 
 pub returns : goal.returns
-returns c =
-    ap (λ (hs : List ℕ). get_or hs (c.args.column / 3) 0) c.requires.heights
-    ∙ get_or-map-range_with_len (block_height c.args.n) 0 c.args.n (c.args.column / 3) (c.args.column / 3) 0
-    (omega (arith, c.requires.inside)) (omega arith)
+returns c = ap (λ (hs : List ℕ). get_or hs (c.args.column / 3) 0) c.requires.heights ∙ get_or-map-range_with_len
+    (block_height c.args.n) 0 c.args.n (c.args.column / 3) (c.args.column / 3) 0 (omega (arith, c.requires.inside))
+    (omega arith)

@@ -4,6 +4,5 @@ use Rattle.def_gen.specs.Steps.{cell, column_height}
 use Rattle.qm_gen.proofs.steps.push_cells.Given as goal
 
 abbrev pub invariant-loop-column : goal.invariant-loop-column
-invariant-loop-column l = l.cells.items ≡ l.fn.cells.items
-    ++ map (λ column. cell l.n column l.row) (filter (λ column. nat_lt l.row (column_height l.n column))
-    (range_with_len 0 l.column))
+invariant-loop-column l = l.cells.items ≡ l.fn.cells.items ++ map (λ column. cell l.n column l.row)
+    (filter (λ column. nat_lt l.row (column_height l.n column)) (range_with_len 0 l.column))

@@ -26,8 +26,7 @@ invariant_of-result c =
     subst (λ (names : List ℕ). IsSoup (record {
       pos = c.pos.inside.pos.items;
       faces = c.pos.inside.faces.items;
-      names =
-          names;
+      names = names;
     }))
     (sym (c.in_ok-names.ensures ∙ ap numbers_to count))
     (with_numbers c.pos.inside.pos.items c.pos.inside.faces.items c.pos.inside.names.items c.pos.invariant)

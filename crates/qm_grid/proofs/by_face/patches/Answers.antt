@@ -5,8 +5,7 @@ use Rattle.qm_grid.proofs.by_face.patches.Goals as goal
 
 pub heads-requires : goal.heads-requires
 heads-requires c = record {
-  cutting =
-      subst (λ (xs : List Bool). IsCutting c.args.mesh.now xs) (sym c.as_slice-cut.ensures.value)
+  cutting = subst (λ (xs : List Bool). IsCutting c.args.mesh.now xs) (sym c.as_slice-cut.ensures.value)
       (to_cutting c.args.mesh.now c.args.graph.now.covered.items c.faces.ensures.mesh c.requires.cut);
 }
 

@@ -3,8 +3,7 @@ use Rattle.qm_headline.proofs.Refined.{multiple_read, refine_front}
 use Rattle.qm_headline.proofs.mark.read_multiple.Goals as goal
 
 pub returns-in-Some : goal.returns-in-Some
-returns-in-Some c =
-    multiple_read c.args.line.now c.in-Some.rest.now c.read_count.result
+returns-in-Some c = multiple_read c.args.line.now c.in-Some.rest.now c.read_count.result
     (stripped refine_front c.args.line.now c.in-Some.rest.now c.in-Some.ensures.cases.0 c.in-Some.ensures.cases.1)
     c.read_count.ensures
 

@@ -6,16 +6,14 @@ use Rattle.qm_headline.proofs.Sizes.{near_read, read_is}
 use Rattle.qm_headline.proofs.size.read_written.Goals as goal
 
 pub returns-in_default : goal.returns-in_default
-returns-in_default c edge low near is =
-    c.in_default.ensures.none refl edge
+returns-in_default c edge low near is = c.in_default.ensures.none refl edge
     (subst (λ (w : Word). IsEdgeLength w edge) (sym is) (written_edge edge low near))
 
 pub returns-then-is_micro_text : goal.returns-then-is_micro_text
 returns-then-is_micro_text c = (
   c.if-is_micro_text.ensures.0 refl,
   c.in-Some.ensures.value.low,
-  near_read c.args.word.now c.in-Some.edge
-      c.in-Some.ensures.value.value,
+  near_read c.args.word.now c.in-Some.edge c.in-Some.ensures.value.value,
 )
 
 pub returns-else-is_micro_text : goal.returns-else-is_micro_text

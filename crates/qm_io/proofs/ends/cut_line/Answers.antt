@@ -25,6 +25,5 @@ returns-clause-line c =
     c.end_of_piece.ensures.first) ∙ rw c.line_of.ensures refl
 
 pub returns-clause-rest : goal.returns-clause-rest
-returns-clause-rest c =
-    is_rest c.args.bytes.now c.end_of_piece.result c.split_at.ensures.front c.split_at.ensures.back
+returns-clause-rest c = is_rest c.args.bytes.now c.end_of_piece.result c.split_at.ensures.front c.split_at.ensures.back
     c.end_of_piece.ensures.first

@@ -26,10 +26,8 @@ is_whole bs rest start is there none =
     rw (drop-length bs, take_rest bs start, ← is) one
 
 pub returns-in-Some-clause-first : goal.returns-in-Some-clause-first
-returns-in-Some-clause-first c =
-    ends_behind c.args.bytes.now _ c.args.start c.in-Some.ahead (c.args.start + c.in-Some.ahead + 1)
-    (take_rest c.args.bytes.now c.args.start) c.in-Some.ensures refl
+returns-in-Some-clause-first c = ends_behind c.args.bytes.now _ c.args.start c.in-Some.ahead
+    (c.args.start + c.in-Some.ahead + 1) (take_rest c.args.bytes.now c.args.start) c.in-Some.ensures refl
 
 pub returns-in-None-clause-first : goal.returns-in-None-clause-first
-returns-in-None-clause-first c =
-    is_whole _ _ _ (take_rest c.args.bytes.now c.args.start) c.requires c.in-None.ensures
+returns-in-None-clause-first c = is_whole _ _ _ (take_rest c.args.bytes.now c.args.start) c.requires c.in-None.ensures

@@ -4,7 +4,5 @@ use Rattle.qm_io.proofs.Pieces.{line-piece, piece-there}
 use Rattle.qm_io.proofs.lines.line_at.Goals as goal
 
 pub returns : goal.returns
-returns c =
-    c.line_of.ensures
-    ∙ ap line_of c.piece_at.ensures
-    ∙ line-piece (pieces c.args.bytes.now) c.args.i (piece-there c.args.bytes.now c.args.i c.requires.there)
+returns c = c.line_of.ensures ∙ ap line_of c.piece_at.ensures ∙ line-piece (pieces c.args.bytes.now) c.args.i
+    (piece-there c.args.bytes.now c.args.i c.requires.there)

@@ -14,6 +14,5 @@ overflow_cast-result c =
     )
 
 pub returns : goal.returns
-returns c =
-    ap length c.requires.cut ∙ length-ends_from 0 (pieces c.args.bytes.now)
-    ∙ sym (length-map (pieces c.args.bytes.now) line_of)
+returns c = ap length c.requires.cut ∙ length-ends_from 0 (pieces c.args.bytes.now) ∙ sym
+    (length-map (pieces c.args.bytes.now) line_of)

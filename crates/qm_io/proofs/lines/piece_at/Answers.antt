@@ -26,12 +26,10 @@ module _ (bs : List ℕ) {es : List ℕ} {i start end : ℕ} (cut : es ≡ ends_
       ap (λ (m : ℕ). take (end - start) (drop m bs)) start_is ∙ piece-cut bs i (end - start) (piece-there bs i l) many
 
 pub start_of-requires : goal.start_of-requires
-start_of-requires c =
-    omega (arith, end-there c.args.bytes.now c.args.ends.now c.args.i c.requires.cut c.requires.there)
+start_of-requires c = omega (arith, end-there c.args.bytes.now c.args.ends.now c.args.i c.requires.cut c.requires.there)
 
 pub end_of-requires : goal.end_of-requires
-end_of-requires c =
-    omega (arith, end-there c.args.bytes.now c.args.ends.now c.args.i c.requires.cut c.requires.there)
+end_of-requires c = omega (arith, end-there c.args.bytes.now c.args.ends.now c.args.i c.requires.cut c.requires.there)
 
 pub slice_bounds-result-count : goal.slice_bounds-result-count
 slice_bounds-result-count c =
@@ -42,8 +40,7 @@ slice_bounds-result-start c =
     in_order c.args.bytes.now c.requires.cut c.start_of.ensures c.end_of.ensures c.requires.there
 
 pub slice_bounds-result-end : goal.slice_bounds-result-end
-slice_bounds-result-end c =
-    within c.args.bytes.now c.requires.cut c.start_of.ensures c.end_of.ensures c.requires.there
+slice_bounds-result-end c = within c.args.bytes.now c.requires.cut c.start_of.ensures c.end_of.ensures c.requires.there
 
 pub returns : goal.returns
 returns c = cut_out c.args.bytes.now c.requires.cut c.start_of.ensures c.end_of.ensures c.requires.there

@@ -14,8 +14,7 @@ module _ (bs : List ℕ) {es : List ℕ} {i start : ℕ} (cut : es ≡ ends_from
   is_tail = take_rest bs start ∙ ap (λ (m : ℕ). drop m bs) (rw cut at is) ∙ tail-cut bs i (piece-there bs i l)
 
 pub start_of-requires : goal.start_of-requires
-start_of-requires c =
-    omega (arith, end-there c.args.bytes.now c.args.ends.now c.args.i c.requires.cut c.requires.there)
+start_of-requires c = omega (arith, end-there c.args.bytes.now c.args.ends.now c.args.i c.requires.cut c.requires.there)
 
 pub slice_bounds-result-count : goal.slice_bounds-result-count
 slice_bounds-result-count c = starts_within c.args.bytes.now c.requires.cut c.start_of.ensures c.requires.there

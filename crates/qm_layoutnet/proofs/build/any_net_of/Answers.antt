@@ -13,9 +13,8 @@ use Rattle.plan_laws.proofs.MeshLayouts.{laid_of, lengths_of}
 use Rattle.qm_layoutnet.proofs.build.any_net_of.Goals as goal
 
 pub open_arcs-requires : goal.open_arcs-requires
-open_arcs-requires c =
-    subst (λ (runs : List TArc). All (λ (run : TArc). length run.darts.items < 2 ^ 32) runs) (sym c.deref.ensures.value)
-    (runs_short c.args.t.now c.requires.layout)
+open_arcs-requires c = subst (λ (runs : List TArc). All (λ (run : TArc). length run.darts.items < 2 ^ 32) runs)
+    (sym c.deref.ensures.value) (runs_short c.args.t.now c.requires.layout)
 
 pub put_all_ends-requires-clause-laid : goal.put_all_ends-requires-clause-laid
 put_all_ends-requires-clause-laid c = laid_of (plan c.args.t.now) c.requires.layout

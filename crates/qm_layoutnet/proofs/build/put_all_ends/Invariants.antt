@@ -7,8 +7,7 @@ use Rattle.qm_layoutnet.proofs.build.put_all_ends.Given as goal
 -- the slots of the patches below p are done
 abbrev pub invariant-loop-p : goal.invariant-loop-p
 invariant-loop-p l = record {
-  done : (set : Settings) → AreEnds (layout_of (plan l.t)) (long_at (plan l.t).arcs) set (PatchesBelow 0)
-      l.initial.arcs
+  done : (set : Settings) → AreEnds (layout_of (plan l.t)) (long_at (plan l.t).arcs) set (PatchesBelow 0) l.initial.arcs
       → AreEnds (layout_of (plan l.t)) (long_at (plan l.t).arcs) set (PatchesBelow l.p) l.arcs;
   long : length l.arcs ≡ length l.initial.arcs;
 }

@@ -10,7 +10,6 @@ returns-then-not-mark_edge-clause-chain c =
     ∙ c.if-not-mark_edge.true))
 
 pub loop-k-preserved : goal.loop-k-preserved
-loop-k-preserved c =
-    chain_more c.args.mesh.now c.args.chain.now c.args.marks.now c.loop-k.marks c.mark_edge.new.marks c.loop-k.k
-    c.loop-k.invariant c.mark_edge.ensures.long
-    (sym c.mark_edge.ensures.edge ∙ c.if-not-mark_edge.false) (c.mark_edge.ensures.marks c.if-not-mark_edge.false)
+loop-k-preserved c = chain_more c.args.mesh.now c.args.chain.now c.args.marks.now c.loop-k.marks c.mark_edge.new.marks
+    c.loop-k.k c.loop-k.invariant c.mark_edge.ensures.long (sym c.mark_edge.ensures.edge ∙ c.if-not-mark_edge.false)
+    (c.mark_edge.ensures.marks c.if-not-mark_edge.false)

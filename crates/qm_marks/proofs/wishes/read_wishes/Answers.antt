@@ -27,12 +27,10 @@ loop-i-preserved c =
     ]
 
 pub returns-clause-wishes : goal.returns-clause-wishes
-returns-clause-wishes c =
-    at_last c.loop-i.invariant
+returns-clause-wishes c = at_last c.loop-i.invariant
     (omega (arith, c.loop-i-test.false, length-take c.args.after (lines_of c.args.lines.now)))
     (c.in_ok-count_vertex_lines.ensures ∙ ap vertex_line_count (first_lines (lines_of c.args.lines.now) c.args.after))
 
 pub returns-clause-small : goal.returns-clause-small
-returns-clause-small c =
-    at_small c.loop-i.invariant
+returns-clause-small c = at_small c.loop-i.invariant
     (omega (arith, c.loop-i-test.false, length-take c.args.after (lines_of c.args.lines.now)))

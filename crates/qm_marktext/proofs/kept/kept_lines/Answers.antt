@@ -17,13 +17,11 @@ numbered : (c : After-deref) → c.deref.result.now ≡ c.args.remesh.now.number
 numbered c = used_are c ∙ sym c.requires.1.lengths
 
 pub marked_lines-requires-clause-long : goal.marked_lines-requires-clause-long
-marked_lines-requires-clause-long c =
-    ap length (numbered c) ∙ c.requires.1.numbering.long ∙ ap (λ (p : Plan). length p.arcs) (sym c.layout.ensures.plan)
-    ∙ length-map c.layout.result.now.arcs.items path
+marked_lines-requires-clause-long c = ap length (numbered c) ∙ c.requires.1.numbering.long ∙ ap
+    (λ (p : Plan). length p.arcs) (sym c.layout.ensures.plan) ∙ length-map c.layout.result.now.arcs.items path
 
 pub marked_lines-requires-clause-some : goal.marked_lines-requires-clause-some
-marked_lines-requires-clause-some c a low =
-    subst (λ (xs : List ℕ). 0 < lengths_in xs a) (sym (numbered c))
+marked_lines-requires-clause-some c a low = subst (λ (xs : List ℕ). 0 < lengths_in xs a) (sym (numbered c))
     (c.requires.1.numbering.lengths.some a (omega (
       arith,
       low,

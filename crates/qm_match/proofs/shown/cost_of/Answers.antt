@@ -18,9 +18,8 @@ loop-edge-preserved c =
     let fits : FitsSigned w64 c.edge.result.cost = search rules in
     let few : length c.args.matching.now ≤ length c.args.g.now.graph.edges =
     omega (arith, increasing_few 0 (length c.args.g.now.graph.edges) c.args.matching.now c.requires.increasing) in
-    let more : matching_cost c.args.g.now.graph (take (c.loop-edge.edge-index + 1) c.args.matching.now)
-    ≡ matching_cost c.args.g.now.graph (take c.loop-edge.edge-index c.args.matching.now) +ℤ
-    (edge_at c.args.g.now.graph k).cost =
+    let more : matching_cost c.args.g.now.graph (take (c.loop-edge.edge-index + 1) c.args.matching.now) ≡ matching_cost
+    c.args.g.now.graph (take c.loop-edge.edge-index c.args.matching.now) +ℤ (edge_at c.args.g.now.graph k).cost =
     cost_take c.args.g.now.graph c.args.matching.now c.loop-edge.edge-index c.loop-edge-test.true in
     record {
       value = omega (

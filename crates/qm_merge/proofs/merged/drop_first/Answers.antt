@@ -28,13 +28,11 @@ note_from-requires-clause-dart c =
 
 pub returns-in_err-note_from-clause-cutting : goal.returns-in_err-note_from-clause-cutting
 returns-in_err-note_from-clause-cutting c = cutting_after c.drop_seam.new.cut c.requires.cutting c.args.place
-    c.requires.seam
-    c.drop_seam.ensures.long c.drop_seam.ensures.without
+    c.requires.seam c.drop_seam.ensures.long c.drop_seam.ensures.without
 
 pub note_from-requires-2-clause-cutting : goal.note_from-requires-2-clause-cutting
 note_from-requires-2-clause-cutting c = cutting_after c.drop_seam.new.cut c.requires.cutting c.args.place
-    c.requires.seam
-    c.drop_seam.ensures.long c.drop_seam.ensures.without
+    c.requires.seam c.drop_seam.ensures.long c.drop_seam.ensures.without
 
 pub note_from-requires-2-clause-dart : goal.note_from-requires-2-clause-dart
 note_from-requires-2-clause-dart c =

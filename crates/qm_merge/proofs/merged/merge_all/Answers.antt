@@ -53,8 +53,7 @@ loop-name-preserved-in-Continue-branch-3 c =
           c.loop-name.cut,
           before.1,
           step_taken c.drop_first.new.cut c.loop-name.invariant.cutting c.in-Some-place_of.place p.found e.long
-              e.without
-              (may_beside c.args.mesh.now c.args.marks.now) (c.may_leave.ensures.0 c.if-may_leave.true)
+              e.without (may_beside c.args.mesh.now c.args.marks.now) (c.may_leave.ensures.0 c.if-may_leave.true)
               (λ r u m name arc free named. omega (
                 arith,
                 p.named,

@@ -6,9 +6,8 @@ use Rattle.qm_mesh.proofs.manifold.checked_mesh.Goals as goal
 
 pub from_tables-requires : goal.from_tables-requires
 from_tables-requires c =
-    let e : vertex_count c.args.faces.now ≡ c.args.vertices =
-    count_is c.args.faces.now c.args.vertices (below_from _ c.told-faces _ c.requires.within)
-    (corners_from _ c.told-faces _ c.requires.used) in
+    let e : vertex_count c.args.faces.now ≡ c.args.vertices = count_is c.args.faces.now c.args.vertices
+    (below_from _ c.told-faces _ c.requires.within) (corners_from _ c.told-faces _ c.requires.used) in
     record {
       mesh = record {
         manifold = record {

@@ -22,8 +22,7 @@ loop-d-preserved c =
     (omega (
       arith,
       c.loop-d.auto.by_end,
-      end_low c.args.faces.now
-          _ _ c.requires.within (h.dart c.loop-d.d-index c.loop-d-test.true),
+      end_low c.args.faces.now _ _ c.requires.within (h.dart c.loop-d.d-index c.loop-d-test.true),
     )) c.loop-d.invariant c.mark_one-found.ensures)
 
 pub returns-clause-marked : goal.returns-clause-marked

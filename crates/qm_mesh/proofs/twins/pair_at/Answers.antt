@@ -10,8 +10,7 @@ low : (c : After-prev-e) → c.prev-e.result < darts c.args.faces.now
 low c = before_low _ _ _ c.prev-e.ensures ((is_fan _ _ _ c.requires.fan).dart c.loop-d.d-index c.loop-d-test.true)
 
 ends : (c : After-prev-e) → to_of c.args.faces.now c.prev-e.result ≡ c.args.v
-ends c =
-    before_ends _ _ _ _ c.prev-e.ensures ((is_fan _ _ _ c.requires.fan).leaves c.loop-d.d-index c.loop-d-test.true)
+ends c = before_ends _ _ _ _ c.prev-e.ensures ((is_fan _ _ _ c.requires.fan).leaves c.loop-d.d-index c.loop-d-test.true)
 
 pub partner-requires-clause-dart : goal.partner-requires-clause-dart
 partner-requires-clause-dart c = low (goal.at.partner-requires-clause-dart c).After-prev-e
@@ -23,8 +22,7 @@ pub partner-requires-clause-within : goal.partner-requires-clause-within
 partner-requires-clause-within c = c.requires.within _ (low (goal.at.partner-requires-clause-within c).After-prev-e)
 
 pub bounds-twins-e : goal.bounds-twins-e
-bounds-twins-e c =
-    omega (arith, low (goal.at.bounds-twins-e c).After-prev-e, c.loop-d.auto.twins, c.requires.long)
+bounds-twins-e c = omega (arith, low (goal.at.bounds-twins-e c).After-prev-e, c.loop-d.auto.twins, c.requires.long)
 
 pub loop-d-preserved : goal.loop-d-preserved
 loop-d-preserved c =

@@ -9,6 +9,5 @@ returns-in-Some-clause-small c =
     c.edge_length.ensures.small c.requires.small)
 
 pub returns-in_default-clause-small : goal.returns-in_default-clause-small
-returns-in_default-clause-small c =
-    All-set (λ (share : ℕ). share < 2 ^ 62) c.args.lengths.now c.args.dart c.edge_length.result
-    c.edge_length.ensures.small c.requires.small
+returns-in_default-clause-small c = All-set (λ (share : ℕ). share < 2 ^ 62) c.args.lengths.now c.args.dart
+    c.edge_length.result c.edge_length.ensures.small c.requires.small

@@ -9,6 +9,5 @@ pub returns-in-None-clause-value : goal.returns-in-None-clause-value
 returns-in-None-clause-value c =
     (root_law c.args.n c.ranges.n.fits).1 _ (record {
       low = c.isqrt.ensures.square_le;
-      high =
-          c.isqrt.ensures.next_square_gt;
+      high = c.isqrt.ensures.next_square_gt;
     })

@@ -7,9 +7,8 @@ use Rattle.qm_metric.proofs.Reading.{times_same}
 use Rattle.qm_metric.proofs.start.old_start.Goals as goal
 
 pub times_long-requires : goal.times_long-requires
-times_long-requires c =
-    subst (λ (runs : List TArc). All (λ (run : TArc). length run.darts.items < 2 ^ 32) runs) (sym c.deref.ensures.value)
-    (runs_short c.args.t.now c.requires.layout)
+times_long-requires c = subst (λ (runs : List TArc). All (λ (run : TArc). length run.darts.items < 2 ^ 32) runs)
+    (sym c.deref.ensures.value) (runs_short c.args.t.now c.requires.layout)
 
 pub returns : goal.returns
 returns c =

@@ -5,9 +5,8 @@ use Rattle.qm_metric.proofs.sums.sum_along.Goals as goal
 pub loop-dart-preserved : goal.loop-dart-preserved
 loop-dart-preserved c =
     let dart : ℕ = get_or c.args.path.now c.loop-dart.dart-index 0 in
-    let value : c.from-sum.result ≡ get_or c.args.wishes.now dart 1000 =
-    c.from-sum.ensures ∙ get_or_default c.args.wishes.now dart 0 1000
-    (c.requires.inside c.loop-dart.dart-index 0 c.loop-dart-test.true) in
+    let value : c.from-sum.result ≡ get_or c.args.wishes.now dart 1000 = c.from-sum.ensures ∙ get_or_default
+    c.args.wishes.now dart 0 1000 (c.requires.inside c.loop-dart.dart-index 0 c.loop-dart-test.true) in
     record {
       sum = omega (
         arith,

@@ -23,8 +23,7 @@ loop-run-preserved c =
         count_take f c.run-item.result c.args.runs.now c.loop-run.run-index c.loop-run-test.true,
       );
       found = entry_more (λ run. min (f run) (2 ^ 32 - 1)) c.args.runs.now c.loop-run.run-index c.run-item.result
-          c.loop-run.found.items
-          c.push.new.self.items c.min.result c.loop-run-test.true c.loop-run.invariant.found cut
+          c.loop-run.found.items c.push.new.self.items c.min.result c.loop-run-test.true c.loop-run.invariant.found cut
           c.in_ok-push.ensures.items;
       small = omega (arith, c.loop-run.invariant.small, c.wish_along-wish.ensures.small);
     }

@@ -36,8 +36,7 @@ read c empty = all_read c.words.invariant _ _ (sym c.next_word.ensures.first) (s
 -- Four corners are the numbers that the four words name.
 four : (c : After-is_empty) → c.is_empty.result ≡ true → c.words.count ≡ 4
     → c.words.corners ≡ map (corner_of c.args.vertices) (words (uncommented c.args.text.now))
-four c empty is =
-    rw (← take_all 4 (words (uncommented c.args.text.now)) (omega (arith, (read c empty).many)))
+four c empty is = rw (← take_all 4 (words (uncommented c.args.text.now)) (omega (arith, (read c empty).many)))
     ((read c empty).filled (omega arith))
 
 pub returns-then-count-ne4 : goal.returns-then-count-ne4

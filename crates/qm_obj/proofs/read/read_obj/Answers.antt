@@ -5,8 +5,7 @@ use Rattle.qm_obj.proofs.RangeLemmas.{at_end, at_next, at_refused, at_start}
 use Rattle.qm_obj.proofs.read.read_obj.Goals as goal
 
 pub loop-i-init : goal.loop-i-init
-loop-i-init c =
-    rw (c.new-reader.ensures.positions, c.new-reader.ensures.faces, c.new-reader.ensures.lines)
+loop-i-init c = rw (c.new-reader.ensures.positions, c.new-reader.ensures.faces, c.new-reader.ensures.lines)
     (at_start (lines_of c.args.lines.now) c.args.first c.args.after c.requires.order)
 
 pub returns-clause-soup : goal.returns-clause-soup
@@ -18,8 +17,7 @@ pub returns-clause-few : goal.returns-clause-few
 returns-clause-few c = finished_few c.loop-i.invariant.fits c.finish.result c.finish.ensures.soup
 
 pub returns-clause-refused : goal.returns-clause-refused
-returns-clause-refused c =
-    rw (at_end c.loop-i.invariant c.loop-i-test.false)
+returns-clause-refused c = rw (at_end c.loop-i.invariant c.loop-i-test.false)
     (finished_refused c.loop-i.invariant.fits c.finish.result c.finish.ensures.late)
 
 pub loop-i-preserved : goal.loop-i-preserved

@@ -21,9 +21,8 @@ take-requires-clause-cut c =
 -- The line that is read is the first logical one.
 same : (c : After-deref) → line_as (c.args.i + 1) c.in_ok-joined.joined.size c.deref.result.now
     ≡ first_logical (c.args.i + 1) (slice_range (lines_of c.args.lines.now) c.args.i c.args.after)
-same c =
-    joined_logical (slice_range (lines_of c.args.lines.now) c.args.i c.args.after)
-    (c.args.i + 1) c.in_ok-joined.ensures.size (c.deref.ensures.value ∙ c.in_ok-joined.ensures.bytes)
+same c = joined_logical (slice_range (lines_of c.args.lines.now) c.args.i c.args.after) (c.args.i + 1)
+    c.in_ok-joined.ensures.size (c.deref.ensures.value ∙ c.in_ok-joined.ensures.bytes)
 
 pub returns-clause-kept : goal.returns-clause-kept
 returns-clause-kept c = same_took (same (goal.at.returns-clause-kept c).After-deref) c.in_ok-take.ensures.kept

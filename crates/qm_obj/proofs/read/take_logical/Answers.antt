@@ -17,8 +17,7 @@ returns-clause-next c =
 same : (c : After-goes_on) → c.goes_on.result ≡ false
     → line_as (c.args.i + 1) (length c.line-line.result.now) c.line-line.result.now
     ≡ first_logical (c.args.i + 1) (slice_range (lines_of c.args.lines.now) c.args.i c.args.after)
-same c off =
-    single_logical (lines_of c.args.lines.now) c.args.i c.args.after c.requires.begins c.requires.within
+same c off = single_logical (lines_of c.args.lines.now) c.args.i c.args.after c.requires.begins c.requires.within
     c.line-line.result.now c.line-line.ensures (sym c.goes_on.ensures ∙ off)
 
 pub returns-clause-kept : goal.returns-clause-kept

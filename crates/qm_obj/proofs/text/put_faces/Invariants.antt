@@ -4,5 +4,4 @@ use Rattle.def_text.specs.Canonical.{face_text}
 use Rattle.qm_obj.proofs.text.put_faces.Given as goal
 
 abbrev pub invariant-loop-face : goal.invariant-loop-face
-invariant-loop-face g l =
-    g.T.Output.takes l.initial.out l.out (flat_map face_text (take l.face-index l.faces))
+invariant-loop-face g l = g.T.Output.takes l.initial.out l.out (flat_map face_text (take l.face-index l.faces))

@@ -6,8 +6,7 @@ use Rattle.qm_obj.proofs.words.skip_blanks.Given as goal
 abbrev pub invariant-loop-rest : goal.invariant-loop-rest
 invariant-loop-rest l = record {
   same : words (uncommented l.rest) ≡ words (uncommented l.text);
-  shorter : length l.rest
-      ≤ length l.text;
+  shorter : length l.rest ≤ length l.text;
 }
 
 abbrev pub decreases-loop-rest : goal.decreases-loop-rest

@@ -29,9 +29,8 @@ room side lengths starts k low are small =
     omega (arith, upto, small, size_is side lengths k low, end)
 
 pub push_start-requires-clause-small : goal.push_start-requires-clause-small
-push_start-requires-clause-small c =
-    room c.args.side.now c.args.lengths.now c.loop-used.starts.begin.items c.loop-used.used-index c.loop-used-test.true
-    c.loop-used.invariant c.requires.small
+push_start-requires-clause-small c = room c.args.side.now c.args.lengths.now c.loop-used.starts.begin.items
+    c.loop-used.used-index c.loop-used-test.true c.loop-used.invariant c.requires.small
 
 pub loop-used-preserved : goal.loop-used-preserved
 loop-used-preserved c =

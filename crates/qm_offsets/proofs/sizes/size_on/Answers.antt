@@ -48,7 +48,5 @@ size_of-requires-clause-small c =
     )
 
 pub returns : goal.returns
-returns c way is =
-    c.size_of.ensures ∙ side_long (plan c.args.t.now) c.args.patch way (lengths_in c.args.lengths.now)
-    c.side_of.result.now
-    (c.side_of.ensures ∙ ap (arcs_on (plan c.args.t.now) c.args.patch) (sym is))
+returns c way is = c.size_of.ensures ∙ side_long (plan c.args.t.now) c.args.patch way (lengths_in c.args.lengths.now)
+    c.side_of.result.now (c.side_of.ensures ∙ ap (arcs_on (plan c.args.t.now) c.args.patch) (sym is))

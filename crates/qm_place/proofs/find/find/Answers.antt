@@ -34,8 +34,7 @@ along_spot-requires c =
     let nodes = c.len-nodes.ensures ∙ c.args.placed.now.t.now.nodes.ok.0 in
     let low : c.args.v - c.len-nodes.result < before_arc x (length t.arcs) =
     omega (arith, nodes, c.if-v-nodes.false, c.if-v-arcs_end.true, c.arcs_end-arcs_end.ensures) in
-    let same : c.spot_near-near.result ≡ run_at (before_arc x) (length t.arcs)
-    (c.args.v - c.len-nodes.result) =
+    let same : c.spot_near-near.result ≡ run_at (before_arc x) (length t.arcs) (c.args.v - c.len-nodes.result) =
     c.spot_near-near.ensures.run (λ b. x b - 1) (length t.arcs) (rw c.deref.ensures.value are.along) in
     record {
       along = on_arc t (shares_by c.args.placed.now) x low same;
@@ -49,8 +48,7 @@ returns-then-v-arcs_end c =
     let nodes = c.len-nodes.ensures ∙ c.args.placed.now.t.now.nodes.ok.0 in
     let low : c.args.v - c.len-nodes.result < before_arc x (length t.arcs) =
     omega (arith, nodes, c.if-v-nodes.false, c.if-v-arcs_end.true, c.arcs_end-arcs_end.ensures) in
-    let same : c.spot_near-near.result ≡ run_at (before_arc x) (length t.arcs)
-    (c.args.v - c.len-nodes.result) =
+    let same : c.spot_near-near.result ≡ run_at (before_arc x) (length t.arcs) (c.args.v - c.len-nodes.result) =
     c.spot_near-near.ensures.run (λ b. x b - 1) (length t.arcs) (rw c.deref.ensures.value are.along) in
     found_on t (shares_by c.args.placed.now) x
     (omega (arith, nodes, c.if-v-nodes.false)) (ap (λ n. c.args.v - n) nodes) low same c.along_spot.ensures

@@ -43,24 +43,20 @@ overflow_add-j-2 c =
     )
 
 pub grid_point-south_west-requires-clause-grid : goal.grid_point-south_west-requires-clause-grid
-grid_point-south_west-requires-clause-grid c =
-    on_grid c.args.placed.now.t.now c.args.placed.now.placed c.requires.patch c.requires.column c.requires.row
-    (omega arith) (omega arith)
+grid_point-south_west-requires-clause-grid c = on_grid c.args.placed.now.t.now c.args.placed.now.placed c.requires.patch
+    c.requires.column c.requires.row (omega arith) (omega arith)
 
 pub grid_point-south_east-requires-clause-grid : goal.grid_point-south_east-requires-clause-grid
-grid_point-south_east-requires-clause-grid c =
-    on_grid c.args.placed.now.t.now c.args.placed.now.placed c.requires.patch c.requires.column c.requires.row
-    (omega arith) (omega arith)
+grid_point-south_east-requires-clause-grid c = on_grid c.args.placed.now.t.now c.args.placed.now.placed c.requires.patch
+    c.requires.column c.requires.row (omega arith) (omega arith)
 
 pub grid_point-north_east-requires-clause-grid : goal.grid_point-north_east-requires-clause-grid
-grid_point-north_east-requires-clause-grid c =
-    on_grid c.args.placed.now.t.now c.args.placed.now.placed c.requires.patch c.requires.column c.requires.row
-    (omega arith) (omega arith)
+grid_point-north_east-requires-clause-grid c = on_grid c.args.placed.now.t.now c.args.placed.now.placed c.requires.patch
+    c.requires.column c.requires.row (omega arith) (omega arith)
 
 pub grid_point-north_west-requires-clause-grid : goal.grid_point-north_west-requires-clause-grid
-grid_point-north_west-requires-clause-grid c =
-    on_grid c.args.placed.now.t.now c.args.placed.now.placed c.requires.patch c.requires.column c.requires.row
-    (omega arith) (omega arith)
+grid_point-north_west-requires-clause-grid c = on_grid c.args.placed.now.t.now c.args.placed.now.placed c.requires.patch
+    c.requires.column c.requires.row (omega arith) (omega arith)
 
 pub cell_at-a-requires : goal.cell_at-a-requires
 cell_at-a-requires c =
@@ -82,24 +78,20 @@ index-requires c =
     )
 
 pub seen_from-requires-clause-cell : goal.seen_from-requires-clause-cell
-seen_from-requires-clause-cell c =
-    cell_few c.args.placed.now.t.now c.args.placed.now.placed c.requires.patch c.index-old.ensures
-    c.cell_at-a.ensures.low c.cell_at-b.ensures.low
+seen_from-requires-clause-cell c = cell_few c.args.placed.now.t.now c.args.placed.now.placed c.requires.patch
+    c.index-old.ensures c.cell_at-a.ensures.low c.cell_at-b.ensures.low
 
 pub seen_from-requires-2-clause-cell : goal.seen_from-requires-2-clause-cell
-seen_from-requires-2-clause-cell c =
-    cell_few c.args.placed.now.t.now c.args.placed.now.placed c.requires.patch c.index-old.ensures
-    c.cell_at-a.ensures.low c.cell_at-b.ensures.low
+seen_from-requires-2-clause-cell c = cell_few c.args.placed.now.t.now c.args.placed.now.placed c.requires.patch
+    c.index-old.ensures c.cell_at-a.ensures.low c.cell_at-b.ensures.low
 
 pub seen_from-requires-3-clause-cell : goal.seen_from-requires-3-clause-cell
-seen_from-requires-3-clause-cell c =
-    cell_few c.args.placed.now.t.now c.args.placed.now.placed c.requires.patch c.index-old.ensures
-    c.cell_at-a.ensures.low c.cell_at-b.ensures.low
+seen_from-requires-3-clause-cell c = cell_few c.args.placed.now.t.now c.args.placed.now.placed c.requires.patch
+    c.index-old.ensures c.cell_at-a.ensures.low c.cell_at-b.ensures.low
 
 pub seen_from-requires-4-clause-cell : goal.seen_from-requires-4-clause-cell
-seen_from-requires-4-clause-cell c =
-    cell_few c.args.placed.now.t.now c.args.placed.now.placed c.requires.patch c.index-old.ensures
-    c.cell_at-a.ensures.low c.cell_at-b.ensures.low
+seen_from-requires-4-clause-cell c = cell_few c.args.placed.now.t.now c.args.placed.now.placed c.requires.patch
+    c.index-old.ensures c.cell_at-a.ensures.low c.cell_at-b.ensures.low
 
 pub returns : goal.returns
 returns c =

@@ -71,8 +71,7 @@ loop-used-preserved c = record {
 
     old_is : (s : Way) → way_number s ≡ c.args.side → c.len-old.result ≡ long_at (plan c.args.places.now.t.now).arcs
         (get_or c.side_of-used-items.result.now c.loop-used.used-index (record { arc = 0; forward = false })).arc
-    old_is s way =
-        c.len-old.ensures ∙ c.index.result.now.darts.ok.0 ∙ old_read c.args.places.now.t.now
+    old_is s way = c.len-old.ensures ∙ c.index.result.now.darts.ok.0 ∙ old_read c.args.places.now.t.now
         (here s way).arc_low c.index.ensures
 
     start_is : (s : Way) (way : way_number s ≡ c.args.side) → c.start_of-start.result

@@ -22,9 +22,8 @@ pub index-requires-2 : goal.index-requires-2
 index-requires-2 c =
     let old = arc_read c.args.placed.now.t.now c.args.placed.now.placed c.requires.arc c.index.ensures in
     let long = c.len.ensures ∙ c.index.result.now.darts.ok.0 ∙ old.long in
-    let place : c.from.result * c.len.result / c.from-parts.result
-    ≡ c.args.k * long_at (plan c.args.placed.now.t.now).arcs
-    c.args.arc / c.args.parts =
+    let place : c.from.result * c.len.result / c.from-parts.result ≡ c.args.k * long_at
+    (plan c.args.placed.now.t.now).arcs c.args.arc / c.args.parts =
     λ i. c.from.ensures i * long i / c.from-parts.ensures i in
     omega (arith, place, c.requires.low, old.long, c.index.result.now.darts.ok.0)
 
@@ -32,9 +31,8 @@ pub returns-clause-dart : goal.returns-clause-dart
 returns-clause-dart c =
     let old = arc_read c.args.placed.now.t.now c.args.placed.now.placed c.requires.arc c.index.ensures in
     let long = c.len.ensures ∙ c.index.result.now.darts.ok.0 ∙ old.long in
-    let place : c.from.result * c.len.result / c.from-parts.result
-    ≡ c.args.k * long_at (plan c.args.placed.now.t.now).arcs
-    c.args.arc / c.args.parts =
+    let place : c.from.result * c.len.result / c.from-parts.result ≡ c.args.k * long_at
+    (plan c.args.placed.now.t.now).arcs c.args.arc / c.args.parts =
     λ i. c.from.ensures i * long i / c.from-parts.ensures i in
     let less : c.from.result * c.len.result / c.from-parts.result < length c.index.result.now.darts.items =
     omega (arith, place, c.requires.low, old.long) in

@@ -23,8 +23,7 @@ less c =
     c.requires.edge
 
 few : (c : After-from-5) → c.args.new * share_in c.args.path.now c.args.at.edge ≤ 2 ^ 32 * 2 ^ 62
-few c =
-    mul-le c.args.new (share_in c.args.path.now c.args.at.edge) (2 ^ 32) (2 ^ 62) (omega (arith, c.ranges.new.fits))
+few c = mul-le c.args.new (share_in c.args.path.now c.args.at.edge) (2 ^ 32) (2 ^ 62) (omega (arith, c.ranges.new.fits))
     (omega (arith, c.share_at.ensures.small, c.share_at.ensures.value))
 
 part : (c : After-from-5) → c.from-5.result * (c.from.result * c.args.path.now.all - c.from-2.result * c.args.at.before)

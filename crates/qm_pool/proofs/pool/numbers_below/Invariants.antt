@@ -4,6 +4,5 @@ use Rattle.qm_pool.proofs.pool.numbers_below.Given as goal
 abbrev pub invariant-loop-i : goal.invariant-loop-i
 invariant-loop-i l = record {
   size : length l.numbers.items ≡ l.i;
-  each : (k : ℕ) → k < l.i → get_or l.numbers.items k 0
-      ≡ k;
+  each : (k : ℕ) → k < l.i → get_or l.numbers.items k 0 ≡ k;
 }

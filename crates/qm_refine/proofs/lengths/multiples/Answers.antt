@@ -48,8 +48,7 @@ pub returns-clause-multiple : goal.returns-clause-multiple
 returns-clause-multiple c = same c
 
 pub returns-clause-lengths : goal.returns-clause-lengths
-returns-clause-lengths c some =
-    subst (AreLengths (layout_of c.args.cut.now.plan)) (sym (same c))
+returns-clause-lengths c some = subst (AreLengths (layout_of c.args.cut.now.plan)) (sym (same c))
     (are_multiples c.args.cut.now.plan c.layout-layout.ensures.laid.0 c.args.by some)
 
 pub returns-clause-bounded : goal.returns-clause-bounded

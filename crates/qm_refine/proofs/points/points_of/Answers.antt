@@ -5,7 +5,5 @@ use Rattle.def_written.specs.NewFaces.{face_count}
 use Rattle.qm_refine.proofs.points.points_of.Goals as goal
 
 pub returns-clause-few : goal.returns-clause-few
-returns-clause-few c =
-    subst (λ (xs : List ℕ). face_count (layout_of c.args.cut.plan) (lengths_in xs) ≤ MAX_NEW_FACES)
-    c.in_ok-numbering.ensures.lengths
-    c.in_ok-numbering.ensures.numbering.few
+returns-clause-few c = subst (λ (xs : List ℕ). face_count (layout_of c.args.cut.plan) (lengths_in xs) ≤ MAX_NEW_FACES)
+    c.in_ok-numbering.ensures.lengths c.in_ok-numbering.ensures.numbering.few

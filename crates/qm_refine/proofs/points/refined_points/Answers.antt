@@ -13,8 +13,7 @@ same : (c : After-deref) → lengths_in c.deref.result.now ≡ multiple_of c.arg
 same c = ap lengths_in c.deref.ensures.value ∙ c.in_ok-lengths.ensures.multiple
 
 pub returns-clause-new : goal.returns-clause-new
-returns-clause-new c =
-    IfOk-weaker c.points_of.result _ _
+returns-clause-new c = IfOk-weaker c.points_of.result _ _
     (λ new is. (
       ap (λ (n : Regrid). n.soup) is,
       ap (λ (n : Regrid). n.plan) is,
@@ -36,14 +35,11 @@ returns-clause-refused c =
     c.points_of.ensures.refused
 
 pub returns-clause-shape : goal.returns-clause-shape
-returns-clause-shape c =
-    subst (λ (l : Lengths). OnOk c.points_of.result (KeepsShapes c.args.cut.plan l))
-    (same (goal.at.returns-clause-shape c).After-deref)
-    c.points_of.ensures.shape
+returns-clause-shape c = subst (λ (l : Lengths). OnOk c.points_of.result (KeepsShapes c.args.cut.plan l))
+    (same (goal.at.returns-clause-shape c).After-deref) c.points_of.ensures.shape
 
 pub returns-clause-undoubled : goal.returns-clause-undoubled
-returns-clause-undoubled c =
-    c.points_of.ensures.safe
+returns-clause-undoubled c = c.points_of.ensures.safe
     (inr (
       c.args.by,
       c.requires.some,

@@ -4,6 +4,5 @@ use Rattle.qm_report.proofs.Texts.{piece_behind}
 use Rattle.qm_report.proofs.parts.push_arcs.Goals as goal
 
 pub loop-a-preserved : goal.loop-a-preserved
-loop-a-preserved c =
-    piece_behind (arc_line (plan c.args.t.now)) c.loop-a.a c.args.text.now.items c.loop-a.invariant
+loop-a-preserved c = piece_behind (arc_line (plan c.args.t.now)) c.loop-a.a c.args.text.now.items c.loop-a.invariant
     c.in_ok-push_arc.ensures

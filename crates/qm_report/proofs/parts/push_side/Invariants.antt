@@ -4,6 +4,5 @@ use Rattle.def_report.specs.GraphText.{numbers_text}
 use Rattle.qm_report.proofs.parts.push_side.Given as goal
 
 abbrev pub invariant-loop-used : goal.invariant-loop-used
-invariant-loop-used l =
-    l.text.items ≡ l.fn.text.items ++ l.word
-    ++ numbers_text (map (λ (used : SideArc). used.arc + 1) (take l.used-index l.arcs))
+invariant-loop-used l = l.text.items ≡ l.fn.text.items ++ l.word ++ numbers_text
+    (map (λ (used : SideArc). used.arc + 1) (take l.used-index l.arcs))

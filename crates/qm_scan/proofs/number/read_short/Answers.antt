@@ -7,16 +7,14 @@ use Rattle.qm_scan.proofs.number.read_short.Goals as goal
 pub overflow_mul-n : goal.overflow_mul-n
 overflow_mul-n c = omega (
   arith,
-  taken_small c.args.word.now c.loop-byte.byte-index c.loop-byte-test.true c.requires
-      c.loop-byte.invariant.digits,
+  taken_small c.args.word.now c.loop-byte.byte-index c.loop-byte-test.true c.requires c.loop-byte.invariant.digits,
   c.loop-byte.invariant.so_far,
 )
 
 pub overflow_add-n : goal.overflow_add-n
 overflow_add-n c = omega (
   arith,
-  taken_small c.args.word.now c.loop-byte.byte-index c.loop-byte-test.true c.requires
-      c.loop-byte.invariant.digits,
+  taken_small c.args.word.now c.loop-byte.byte-index c.loop-byte-test.true c.requires c.loop-byte.invariant.digits,
   c.loop-byte.invariant.so_far,
   c.from.ensures,
 )

@@ -13,8 +13,7 @@ loop-f-init c =
     record {
       numbering = numbering_none c.args.mesh.now c.in_ok-numbers.numbers.items
           (e ∙ ap (λ (xs : List (List ℕ)). replicate (length xs) NONE) c.faces-faces.ensures.value);
-      empty =
-          ap length c.new-waiting.ensures.items;
+      empty = ap length c.new-waiting.ensures.items;
     }
 
 pub flood-requires-clause-number : goal.flood-requires-clause-number
@@ -24,8 +23,7 @@ flood-requires-clause-number c =
     omega (arith, c.faces-faces.ensures.mesh.few, below)
 
 pub flood-requires-clause-closed : goal.flood-requires-clause-closed
-flood-requires-clause-closed c =
-    rw c.deref_mut.ensures.value (numbering_closed _ _ _ _ c.loop-f.invariant.numbering)
+flood-requires-clause-closed c = rw c.deref_mut.ensures.value (numbering_closed _ _ _ _ c.loop-f.invariant.numbering)
 
 pub overflow_add-components : goal.overflow_add-components
 overflow_add-components c =

@@ -5,8 +5,7 @@ use Rattle.qm_sing.proofs.Tables.{kinds_long, number_there, numbers_long}
 use Rattle.qm_sing.proofs.rings.gather.Goals as goal
 
 pub bounds-component-d : goal.bounds-component-d
-bounds-component-d c =
-    omega (arith, numbers_long c.args.mesh.now c.requires.component, ap length c.faces.ensures.value)
+bounds-component-d c = omega (arith, numbers_long c.args.mesh.now c.requires.component, ap length c.faces.ensures.value)
 
 pub bounds-kinds-v : goal.bounds-kinds-v
 bounds-kinds-v c = omega (arith, c.from-v.ensures.vertex, kinds_long c.args.mesh.now c.requires.kinds)

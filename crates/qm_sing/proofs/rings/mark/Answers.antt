@@ -8,8 +8,7 @@ use Rattle.qm_sing.proofs.rings.mark.Goals.{then-is_least, else-is_least}
 use Rattle.qm_sing.proofs.rings.mark.Goals as goal
 
 pub bounds-component-d : goal.bounds-component-d
-bounds-component-d c =
-    omega (arith, numbers_long c.args.mesh.now c.requires.component, ap length c.faces.ensures.value)
+bounds-component-d c = omega (arith, numbers_long c.args.mesh.now c.requires.component, ap length c.faces.ensures.value)
 
 pub is_least-requires-clause-regular : goal.is_least-requires-clause-regular
 is_least-requires-clause-regular c =

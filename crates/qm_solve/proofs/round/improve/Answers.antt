@@ -45,8 +45,7 @@ returns-then-cost_of c =
       arith,
       ints,
       c.in_ok-x.ensures.cost,
-      ap (matching_cost (graph c.in_ok-gadget.gadget.graph))
-          c.deref-then-cost_of.ensures.value,
+      ap (matching_cost (graph c.in_ok-gadget.gadget.graph)) c.deref-then-cost_of.ensures.value,
     ))
 
 pub returns : goal.returns

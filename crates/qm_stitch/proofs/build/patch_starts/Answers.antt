@@ -23,8 +23,7 @@ overflow_mul-wide c =
       arith,
       product,
       term_room (product_by (tables_of c.args.sides.now) c.args.less) (length (tables_of c.args.sides.now))
-          c.loop-patch.patch
-          (omega (arith, c.loop-patch-test.true, length-map c.args.sides.now begins_of)),
+          c.loop-patch.patch (omega (arith, c.loop-patch-test.true, length-map c.args.sides.now begins_of)),
       c.requires.small,
     )
 
@@ -41,9 +40,8 @@ push_start-requires-clause-small c =
       arith,
       product,
       next_room (product_by (tables_of c.args.sides.now) c.args.less) (length (tables_of c.args.sides.now))
-          c.loop-patch.patch
-          c.loop-patch.starts.begin.items (omega (arith, c.loop-patch-test.true, length-map c.args.sides.now begins_of))
-          c.loop-patch.invariant,
+          c.loop-patch.patch c.loop-patch.starts.begin.items
+          (omega (arith, c.loop-patch-test.true, length-map c.args.sides.now begins_of)) c.loop-patch.invariant,
       c.requires.small,
     )
 

@@ -12,14 +12,12 @@ pub short_lengths-requires : goal.short_lengths-requires
 short_lengths-requires c = lengths_short (plan c.args.t.now) c.args.lengths.now c.requires.fine
 
 pub side_tables-requires-clause-small : goal.side_tables-requires-clause-small
-side_tables-requires-clause-small c p s low =
-    sides_short (plan c.args.t.now) c.deref.result.now
+side_tables-requires-clause-small c p s low = sides_short (plan c.args.t.now) c.deref.result.now
     (subst (IsFine (plan c.args.t.now)) (sym (c.deref.ensures.value ∙ c.in_ok-lengths.ensures)) c.requires.fine) p s
     (omega (arith, low, length-map c.args.t.now.patches.items rectangle))
 
 pub inner_points-requires-clause-small : goal.inner_points-requires-clause-small
-inner_points-requires-clause-small c =
-    points_short (plan c.args.t.now) c.deref-2.result.now
+inner_points-requires-clause-small c = points_short (plan c.args.t.now) c.deref-2.result.now
     (subst (IsFine (plan c.args.t.now)) (sym (c.deref-2.ensures.value ∙ c.in_ok-lengths.ensures)) c.requires.fine)
 
 pub patch_starts-requires : goal.patch_starts-requires

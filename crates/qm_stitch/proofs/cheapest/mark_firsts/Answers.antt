@@ -8,7 +8,6 @@ pub loop-k-init : goal.loop-k-init
 loop-k-init c = marks_none c.args.chosen.now _ (λ arc is. omega (arith, is.1))
 
 pub loop-k-preserved : goal.loop-k-preserved
-loop-k-preserved c =
-    marks_next c.args.chosen.now c.loop-k.chosen c.mark_first.new.chosen
+loop-k-preserved c = marks_next c.args.chosen.now c.loop-k.chosen c.mark_first.new.chosen
     (IsFirstWith (plan c.args.numbered.now.t.now) c.args.remedies.now) c.loop-k.k c.loop-k.auto.chosen
     c.loop-k.invariant c.mark_first.ensures

@@ -6,8 +6,7 @@ use Rattle.qm_stitch.proofs.SafeLengths.{safe_undoubled, shapes_kept}
 use Rattle.qm_stitch.proofs.planning.plan.Goals as goal
 
 pub returns-then-are_safe-clause-undoubled : goal.returns-then-are_safe-clause-undoubled
-returns-then-are_safe-clause-undoubled c =
-    safe_undoubled (plan c.args.t.now) c.args.lengths.now
+returns-then-are_safe-clause-undoubled c = safe_undoubled (plan c.args.t.now) c.args.lengths.now
     (omega (arith, c.requires.long, length-map c.args.t.now.arcs.items path)) c.requires.layout c.requires.lengths
     (c.are_safe.ensures.0 c.if-are_safe.true)
 

@@ -32,8 +32,7 @@ pub side_number-requires-clause-some : goal.side_number-requires-clause-some
 side_number-requires-clause-some c = (there c).some
 
 pub side_number-requires-clause-low : goal.side_number-requires-clause-low
-side_number-requires-clause-low c =
-    subst (λ (n : ℕ). All (λ (used : SideArc). used.arc < n) c.uses_on.result.now)
+side_number-requires-clause-low c = subst (λ (n : ℕ). All (λ (used : SideArc). used.arc < n) c.uses_on.result.now)
     (length-map c.args.numbered.now.t.now.arcs.items path) (there c).low
 
 pub side_number-requires-clause-starts : goal.side_number-requires-clause-starts

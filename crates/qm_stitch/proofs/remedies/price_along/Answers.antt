@@ -11,9 +11,8 @@ use Rattle.qm_stitch.proofs.remedies.price_along.Goals as goal
 more : (x : Lengths) (prices : List ℤ) (uses : List SideArc) (i : ℕ) (d : SideArc) → i < length uses
     → price_along x prices (take (i + 1) uses)
     ≡ price_along x prices (take i uses) +ℤ (short_price x prices (get_or uses i d).arc +ℤ pos 0)
-more x prices uses i d low =
-    ap (price_along x prices) (take_more uses i d low)
-    ∙ total_append (λ (u : SideArc). short_price x prices u.arc) (take i uses) (get_or uses i d ∷ [])
+more x prices uses i d low = ap (price_along x prices) (take_more uses i d low) ∙ total_append
+    (λ (u : SideArc). short_price x prices u.arc) (take i uses) (get_or uses i d ∷ [])
 
 pub loop-used-preserved : goal.loop-used-preserved
 loop-used-preserved c =

@@ -43,9 +43,8 @@ loop-k-preserved c =
     c.in_ok-push_remedy.ensures)
 
 pub returns : goal.returns
-returns c =
-    arc_adds c.args.priced.now c.requires.priced c.args.arc c.loop-k.k c.args.found.now.items c.loop-k.found.items
-    (omega (arith, c.requires.arc, length-map c.args.priced.now.numbered.t.now.arcs.items path))
+returns c = arc_adds c.args.priced.now c.requires.priced c.args.arc c.loop-k.k c.args.found.now.items
+    c.loop-k.found.items (omega (arith, c.requires.arc, length-map c.args.priced.now.numbered.t.now.arcs.items path))
     (c.is_short_arc.ensures.0 c.if-not-is_short_arc.false)
     (omega (
       arith,

@@ -8,8 +8,7 @@ pub loop-arc-init : goal.loop-arc-init
 loop-arc-init c = adds_none c.args.found.now.items _ (λ r is. omega (arith, is.1))
 
 pub loop-arc-preserved : goal.loop-arc-preserved
-loop-arc-preserved c =
-    adds_next c.args.found.now.items c.loop-arc.found.items c.push_arc.new.found.items
+loop-arc-preserved c = adds_next c.args.found.now.items c.loop-arc.found.items c.push_arc.new.found.items
     (λ a. IsAlong c.args.priced.now (Arc a)) c.loop-arc.arc c.loop-arc.invariant c.in_ok-push_arc.ensures
 
 pub returns : goal.returns

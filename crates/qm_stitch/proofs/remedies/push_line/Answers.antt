@@ -11,8 +11,7 @@ long c = size (layout_in c.args.priced.now.numbered) (lengths_by c.args.priced.n
     (along_lines c.args.line.upright)
 
 some : (c : After-size_at-last) → 0 < long c
-some c =
-    size_some (layout_in c.args.priced.now.numbered) (lengths_by c.args.priced.now.numbered)
+some c = size_some (layout_in c.args.priced.now.numbered) (lengths_by c.args.priced.now.numbered)
     c.args.priced.now.numbered.numbers.paved c.args.priced.now.numbered.numbers.lengths c.args.line.patch
     (along_lines c.args.line.upright) c.requires.line.patch
 

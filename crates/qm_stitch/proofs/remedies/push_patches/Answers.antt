@@ -7,8 +7,7 @@ pub loop-patch-init : goal.loop-patch-init
 loop-patch-init c = adds_none c.args.found.now.items _ (λ r is. omega (arith, is.1))
 
 pub loop-patch-preserved : goal.loop-patch-preserved
-loop-patch-preserved c =
-    adds_next c.args.found.now.items c.loop-patch.found.items c.push_sides.new.found.items
+loop-patch-preserved c = adds_next c.args.found.now.items c.loop-patch.found.items c.push_sides.new.found.items
     (λ p. IsAlongSides c.args.priced.now p 4) c.loop-patch.patch c.loop-patch.invariant c.in_ok-push_sides.ensures
 
 pub returns : goal.returns

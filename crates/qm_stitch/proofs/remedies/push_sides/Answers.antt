@@ -8,8 +8,7 @@ pub loop-side-init : goal.loop-side-init
 loop-side-init c = adds_none c.args.found.now.items _ (λ r is. omega (arith, is.1))
 
 pub loop-side-preserved : goal.loop-side-preserved
-loop-side-preserved c =
-    adds_next c.args.found.now.items c.loop-side.found.items c.push_side.new.found.items
+loop-side-preserved c = adds_next c.args.found.now.items c.loop-side.found.items c.push_side.new.found.items
     (λ s. IsAlong c.args.priced.now (Side c.args.patch s)) c.loop-side.side c.loop-side.invariant
     c.in_ok-push_side.ensures
 

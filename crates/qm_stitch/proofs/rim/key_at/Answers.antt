@@ -20,7 +20,6 @@ overflow_add-at c =
     )
 
 pub returns : goal.returns
-returns c =
-    c.key_for.ensures ∙ (λ i. pair_key (c.line_point-from.ensures i) (c.line_point-to.ensures i))
-    ∙ key_is (layout_in c.args.numbered.now) (lengths_by c.args.numbered.now) c.args.line.upright c.args.line.patch
+returns c = c.key_for.ensures ∙ (λ i. pair_key (c.line_point-from.ensures i) (c.line_point-to.ensures i)) ∙ key_is
+    (layout_in c.args.numbered.now) (lengths_by c.args.numbered.now) c.args.line.upright c.args.line.patch
     c.args.line.number c.args.at

@@ -5,6 +5,5 @@ use Rattle.qm_stitch.specs.{Rims.keys_of, Lengthened.layout_in, Lengthened.lengt
 use Rattle.qm_stitch.proofs.rim.push_arc.Given as goal
 
 abbrev pub invariant-loop-k : goal.invariant-loop-k
-invariant-loop-k l =
-    l.keys.items ≡ l.initial.keys.items
-    ++ keys_of (layout_in l.numbered) (lengths_by l.numbered) (map (on_arc l.arc) (range_with_len 0 l.k))
+invariant-loop-k l = l.keys.items ≡ l.initial.keys.items ++ keys_of (layout_in l.numbered) (lengths_by l.numbered)
+    (map (on_arc l.arc) (range_with_len 0 l.k))

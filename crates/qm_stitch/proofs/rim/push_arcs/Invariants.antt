@@ -3,6 +3,5 @@ use Rattle.qm_stitch.specs.{Rims.arcs_upto, Rims.keys_of, Lengthened.layout_in, 
 use Rattle.qm_stitch.proofs.rim.push_arcs.Given as goal
 
 abbrev pub invariant-loop-arc : goal.invariant-loop-arc
-invariant-loop-arc l =
-    l.keys.items ≡ l.initial.keys.items
-    ++ keys_of (layout_in l.numbered) (lengths_by l.numbered) (arcs_upto (lengths_by l.numbered) l.arc)
+invariant-loop-arc l = l.keys.items ≡ l.initial.keys.items ++ keys_of (layout_in l.numbered) (lengths_by l.numbered)
+    (arcs_upto (lengths_by l.numbered) l.arc)

@@ -8,9 +8,8 @@ use Rattle.qm_stitch.proofs.RimLists.{first_alone, first_next}
 use Rattle.qm_stitch.proofs.rim.push_line.Goals as goal
 
 pub key_at-requires-clause-low : goal.key_at-requires-clause-low
-key_at-requires-clause-low c =
-    size_some (layout_in c.args.numbered.now) (lengths_by c.args.numbered.now) c.args.numbered.now.numbers.paved
-    c.args.numbered.now.numbers.lengths c.args.line.patch
+key_at-requires-clause-low c = size_some (layout_in c.args.numbered.now) (lengths_by c.args.numbered.now)
+    c.args.numbered.now.numbers.paved c.args.numbered.now.numbers.lengths c.args.line.patch
     (along_lines c.args.line.upright) c.requires.line.patch
 
 pub key_at-requires-then-long-gt1-clause-low : goal.key_at-requires-then-long-gt1-clause-low
@@ -18,8 +17,7 @@ key_at-requires-then-long-gt1-clause-low c =
     omega (
       arith,
       c.if-long-gt1.true,
-      c.size_at-long.ensures (along_lines c.args.line.upright)
-          c.side_along.ensures.side,
+      c.size_at-long.ensures (along_lines c.args.line.upright) c.side_along.ensures.side,
     )
 
 pub returns-in_ok-push-2 : goal.returns-in_ok-push-2

@@ -27,8 +27,7 @@ push_line-requires c = record {
     inside = omega (
       arith,
       c.loop-number-test.true,
-      c.size_at-number-end.ensures (along_lines (not c.args.upright))
-          c.side_along.ensures.side,
+      c.size_at-number-end.ensures (along_lines (not c.args.upright)) c.side_along.ensures.side,
     );
   };
 }
@@ -42,8 +41,7 @@ loop-number-preserved c =
       upto = omega (
         arith,
         c.loop-number-test.true,
-        c.size_at-number-end.ensures (along_lines (not c.args.upright))
-            c.side_along.ensures.side,
+        c.size_at-number-end.ensures (along_lines (not c.args.upright)) c.side_along.ensures.side,
       );
       items = subst (λ (n : ℕ). c.push_line.new.keys.items ≡ c.args.keys.now.items
           ++ keys_of (layout_in c.args.numbered.now) (lengths_by c.args.numbered.now)

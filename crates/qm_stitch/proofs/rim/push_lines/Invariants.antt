@@ -8,7 +8,6 @@ abbrev pub invariant-loop-number : goal.invariant-loop-number
 invariant-loop-number l = record {
   some : 1 ≤ l.number;
   upto : l.number ≤ size (layout_in l.numbered) (lengths_by l.numbered) l.patch (along_lines (not l.upright));
-  items : l.keys.items ≡ l.initial.keys.items
-      ++ keys_of (layout_in l.numbered) (lengths_by l.numbered)
+  items : l.keys.items ≡ l.initial.keys.items ++ keys_of (layout_in l.numbered) (lengths_by l.numbered)
       (lines_upto (layout_in l.numbered) (lengths_by l.numbered) l.upright l.patch (l.number - 1));
 }

@@ -11,15 +11,13 @@ low : (t : TMesh) (patch : ℕ) → patch < length t.patches.items → patch < l
 low t patch less = omega (arith, less, length-map t.patches.items rectangle)
 
 pub last_of-requires : goal.last_of-requires
-last_of-requires c =
-    table_full (plan c.args.numbered.now.t.now) c.args.numbered.now.tables.now c.args.numbered.now.numbers c.args.patch
-    c.args.side c.deref.result.now c.starts_on.result.now
+last_of-requires c = table_full (plan c.args.numbered.now.t.now) c.args.numbered.now.tables.now
+    c.args.numbered.now.numbers c.args.patch c.args.side c.deref.result.now c.starts_on.result.now
     (low c.args.numbered.now.t.now c.args.patch c.requires.patch) c.requires.side c.deref.ensures.value
     c.starts_on.ensures
 
 pub returns : goal.returns
-returns c way same =
-    size_read (plan c.args.numbered.now.t.now) c.args.numbered.now.tables.now c.args.numbered.now.numbers c.args.patch
-    way c.deref.result.now c.starts_on.result.now c.last_of.result
+returns c way same = size_read (plan c.args.numbered.now.t.now) c.args.numbered.now.tables.now
+    c.args.numbered.now.numbers c.args.patch way c.deref.result.now c.starts_on.result.now c.last_of.result
     (low c.args.numbered.now.t.now c.args.patch c.requires.patch) c.deref.ensures.value
     (c.starts_on.ensures ∙ ap (table_in (tables_of c.deref.result.now) c.args.patch) (sym same)) c.last_of.ensures

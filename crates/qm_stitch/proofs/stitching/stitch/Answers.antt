@@ -6,9 +6,8 @@ use Rattle.qm_stitch.proofs.stitching.stitch.Goals as goal
 
 pub returns-clause-mesh : goal.returns-clause-mesh
 returns-clause-mesh c = record {
-  count = c.vertices.ensures (plan c.args.t.now) c.in_ok-numbering.ensures.numbering
-      ∙ ap (λ (list : List ℕ). vertices (layout_of (plan c.args.t.now)) (lengths_in list))
-      c.in_ok-numbering.ensures.lengths;
+  count = c.vertices.ensures (plan c.args.t.now) c.in_ok-numbering.ensures.numbering ∙ ap
+      (λ (list : List ℕ). vertices (layout_of (plan c.args.t.now)) (lengths_in list)) c.in_ok-numbering.ensures.lengths;
   faces = c.in_ok-faces.ensures
       ∙ (λ i. new_faces (layout_of (plan (c.on.ensures.layout i))) (lengths_in (c.on.ensures.tables i).lengths.items))
       ∙ ap (λ (list : List ℕ). new_faces (layout_of (plan c.args.t.now)) (lengths_in list))

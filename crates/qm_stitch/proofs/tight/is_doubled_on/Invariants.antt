@@ -4,5 +4,4 @@ use Rattle.qm_stitch.specs.{Lengthened.layout_in, Lengthened.lengths_by, Tight.I
 use Rattle.qm_stitch.proofs.tight.is_doubled_on.Given as goal
 
 abbrev pub invariant-loop-k : goal.invariant-loop-k
-invariant-loop-k l =
-    (k : ℕ) → k < l.k → ¬ IsDoubled (layout_in l.numbered) (lengths_by l.numbered) (on_arc l.arc k)
+invariant-loop-k l = (k : ℕ) → k < l.k → ¬ IsDoubled (layout_in l.numbered) (lengths_by l.numbered) (on_arc l.arc k)

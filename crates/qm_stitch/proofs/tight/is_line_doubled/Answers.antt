@@ -12,8 +12,7 @@ long c = size (layout_in c.args.numbered.now) (lengths_by c.args.numbered.now) c
     (along_lines c.args.line.upright)
 
 some : (c : After-size_at-last) → 0 < long c
-some c =
-    size_some (layout_in c.args.numbered.now) (lengths_by c.args.numbered.now) c.args.numbered.now.numbers.paved
+some c = size_some (layout_in c.args.numbered.now) (lengths_by c.args.numbered.now) c.args.numbered.now.numbers.paved
     c.args.numbered.now.numbers.lengths c.args.line.patch (along_lines c.args.line.upright) c.requires.line.patch
 
 long_is : (c : After-size_at-last) → c.size_at-last.result ≡ long c
@@ -27,8 +26,7 @@ told : (c : After-size_at-last)
     → (IsRepeat c.args.keys.now (key c 0) ⊎ IsRepeat c.args.keys.now (key c (long c - 1)))
     ↔ IsLineDoubled (layout_in c.args.numbered.now) (lengths_by c.args.numbered.now) c.args.line.upright
     c.args.line.patch c.args.line.number
-told c =
-    line_tells (layout_in c.args.numbered.now) (lengths_by c.args.numbered.now) c.requires.laid
+told c = line_tells (layout_in c.args.numbered.now) (lengths_by c.args.numbered.now) c.requires.laid
     c.args.numbered.now.numbers.lengths c.args.numbered.now.numbers.few c.args.keys.now c.args.line.upright
     c.args.line.patch c.args.line.number c.requires.keys c.requires.line.patch c.requires.some c.requires.line.inside
     (some c)

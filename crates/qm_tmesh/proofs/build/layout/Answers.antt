@@ -71,11 +71,9 @@ returns c =
     subst (λ (xs : List Bool). IsDartLayout (half_edges c.args.mesh.now) (is_on xs) (is_node c.args.mesh.now xs) face_of
     (vertex_count c.args.mesh.now) (record {
       nodes = c.in_ok-nodes.nodes.listed.list.items;
-      arcs =
-          (map path c.in_ok-arcs.arcs.items);
+      arcs = (map path c.in_ok-arcs.arcs.items);
       patches = map rectangle c.args.patches.items;
-      sides =
-          map four_of c.in_ok-sides.sides.items;
+      sides = map four_of c.in_ok-sides.sides.items;
     })) c.as_slice-cut.ensures.value
     (is_layout c.args.mesh.now c.as_slice-cut.result.now c.in_ok-nodes.nodes.marks.items
     (marked_of c.args.mesh.now c.args.graph.now.covered.items c.as_slice-cut.result.now

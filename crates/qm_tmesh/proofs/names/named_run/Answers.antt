@@ -31,9 +31,8 @@ returns-then-is_least c =
     let name : c.least-name.result ≡ least_of c.in_ok-darts.darts.items = c.least-name.ensures
     ∙ ap least_of c.deref.ensures.value in (
       length c.in_ok-darts.darts.items,
-      run_named c.requires.marked c.args.s c.in_ok-darts.darts.items
-          c.in_ok-darts.ensures.run c.in_ok-darts.ensures.darts
-          (rw (c.deref-2.ensures.value, name) at c.if-is_least.ensures),
+      run_named c.requires.marked c.args.s c.in_ok-darts.darts.items c.in_ok-darts.ensures.run
+          c.in_ok-darts.ensures.darts (rw (c.deref-2.ensures.value, name) at c.if-is_least.ensures),
       sym (ap least_of c.in_ok-darts.ensures.darts) ∙ sym name,
     )
 

@@ -20,10 +20,8 @@ loop-v-preserved c =
           c.push.new.self.items i.listed i.long i.stands put w.push-then-on.new.self.items is w.if-on.true in
           rw w.list-is (record {
             listed = both.0;
-            few =
-                omega (arith, ap length is, length-append c.loop-v.list.items (c.loop-v.v ∷ []), i.few);
-            long =
-                long;
+            few = omega (arith, ap length is, length-append c.loop-v.list.items (c.loop-v.v ∷ []), i.few);
+            long = long;
             stands = both.1;
           })
       | else-on w ↦

@@ -62,9 +62,8 @@ returns c = record { count = refl; each = by_way }
         (get_or (four_of (c.in_ok-south.south ∷ c.in_ok-east.east ∷ c.in_ok-north.north ∷ c.in_ok-west.west ∷ []))
         (way_number way) [])
     by_way south = rw (south_west c.requires.1 c.index-4.ensures) at c.in_ok-south.ensures
-    by_way east =
-        rw (c.next-south_east.ensures.value ∙ ap next_of (south_east c.requires.1 c.index.ensures))
-        at c.in_ok-east.ensures
+    by_way east = rw (c.next-south_east.ensures.value ∙ ap next_of (south_east c.requires.1 c.index.ensures)) at
+        c.in_ok-east.ensures
     by_way north =
         let e = north_east c.requires.1 c.index-2.ensures (omega (arith, c.len.ensures, c.args.patch.now.cells.ok.0)) in
         rw (c.next-north_east.ensures.value ∙ ap next_of (c.next.ensures.value ∙ ap next_of e)) at c.in_ok-north.ensures

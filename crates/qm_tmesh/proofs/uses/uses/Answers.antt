@@ -43,9 +43,8 @@ loop-a-preserved c =
     let one = set c.loop-a.uses.items c.index-first.result.now (record { arc = c.loop-a.a; forward = true }) in
     let twin = c.twin.ensures.value ∙ ap (twin_of c.args.mesh.now) last in
     let low : c.index-first.result.now < darts c.args.mesh.now = omega (arith, first, arc.below 0 arc.some) in
-    let more = uses_more c.args.mesh.now c.args.cut.now c.args.nodes.now c.requires.marked
-    (map path c.args.arcs.now) c.requires.arcs c.loop-a.a c.index-first.result.now c.twin.result c.loop-a.uses.items
-    one in
+    let more = uses_more c.args.mesh.now c.args.cut.now c.args.nodes.now c.requires.marked (map path c.args.arcs.now)
+    c.requires.arcs c.loop-a.a c.index-first.result.now c.twin.result c.loop-a.uses.items one in
     let begins : c.index-first.result.now ≡ get_or (path_at (map path c.args.arcs.now) c.loop-a.a).darts 0 0 =
     rw arc.same first in
     let ends : c.twin.result ≡ twin_of c.args.mesh.now (get_or (path_at (map path c.args.arcs.now) c.loop-a.a).darts

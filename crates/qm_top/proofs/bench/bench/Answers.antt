@@ -10,8 +10,7 @@ pub bench_mesh-requires : goal.bench_mesh-requires
 bench_mesh-requires g c = c.in_ok-made.ensures.soup ∙ c.in_ok-soup.ensures.soup
 
 pub returns-in_err-soup : goal.returns-in_err-soup
-returns-in_err-soup g c state =
-    handed_run _ _ _ _ _ c.from_residual.ensures.1 (memory_ended _ _ _) refl
+returns-in_err-soup g c state = handed_run _ _ _ _ _ c.from_residual.ensures.1 (memory_ended _ _ _) refl
 
 pub returns-in_err-made : goal.returns-in_err-made
 returns-in_err-made g c state =
@@ -21,7 +20,5 @@ returns-in_err-made g c state =
     c.in_err-made.ensures.refused)) refl
 
 pub returns : goal.returns
-returns g c state =
-    writer_runs _ _ _ _ _ (bench_writer c.args.size (change state state) _ (refl, refl)) c.bench_mesh.result
-    c.bench_mesh.ensures.done
-    c.bench_mesh.ensures.refused
+returns g c state = writer_runs _ _ _ _ _ (bench_writer c.args.size (change state state) _ (refl, refl))
+    c.bench_mesh.result c.bench_mesh.ensures.done c.bench_mesh.ensures.refused

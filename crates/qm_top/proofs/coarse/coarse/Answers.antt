@@ -5,8 +5,7 @@ use Rattle.qm_top.proofs.{Remeshed.task_writer, Writers.writer_runs}
 use Rattle.qm_top.proofs.coarse.coarse.Goals as goal
 
 pub returns-in_err-read : goal.returns-in_err-read
-returns-in_err-read g c =
-    handed_run _ _ _ _ c.in_err-read.field-0.0 c.from_residual.ensures.1
+returns-in_err-read g c = handed_run _ _ _ _ c.in_err-read.field-0.0 c.from_residual.ensures.1
     (input_ended _ _ _ c.in_err-read.field-0.0 (coarse_needs c.args.settings) c.in_err-read.ensures.refused) refl
 
 pub returns : goal.returns

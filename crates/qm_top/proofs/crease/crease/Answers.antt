@@ -26,8 +26,7 @@ returns-in_err-marks g c =
     (record {
       soup = c.in_ok-read.read;
       mesh = c.in_ok-read.ensures.mesh;
-      said =
-          c.in_err-marks.ensures.refused other;
+      said = c.in_err-marks.ensures.refused other;
     }))) refl
 
 pub returns : goal.returns

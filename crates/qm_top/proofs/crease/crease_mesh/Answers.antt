@@ -14,16 +14,12 @@ pub chosen_cut-requires : goal.chosen_cut-requires
 chosen_cut-requires g c = subst (AreMarks c.args.read.faces) (sym c.as_slice.ensures.value) c.requires.marks
 
 pub lines_between-requires : goal.lines_between-requires
-lines_between-requires g c =
-    kept_for old_lengths c.in_ok-cut.cut.plan c.in_ok-remesh.remesh
-    (record { settings = c.args.settings; rising = Never }) c.in_ok-remesh.ensures.terms
-    c.in_ok-remesh.ensures.kept
+lines_between-requires g c = kept_for old_lengths c.in_ok-cut.cut.plan c.in_ok-remesh.remesh
+    (record { settings = c.args.settings; rising = Never }) c.in_ok-remesh.ensures.terms c.in_ok-remesh.ensures.kept
 
 pub write_framed-requires : goal.write_framed-requires
-write_framed-requires g c =
-    kept_for old_lengths c.in_ok-cut.cut.plan c.in_ok-remesh.remesh
-    (record { settings = c.args.settings; rising = Never }) c.in_ok-remesh.ensures.terms
-    c.in_ok-remesh.ensures.kept
+write_framed-requires g c = kept_for old_lengths c.in_ok-cut.cut.plan c.in_ok-remesh.remesh
+    (record { settings = c.args.settings; rising = Never }) c.in_ok-remesh.ensures.terms c.in_ok-remesh.ensures.kept
 
 pub returns-in_err-remesh-clause-refused : goal.returns-in_err-remesh-clause-refused
 returns-in_err-remesh-clause-refused g c bytes said =

@@ -19,9 +19,8 @@ pub returns-clause-soup : goal.returns-clause-soup
 returns-clause-soup c = ap (λ (k : CutSoup). k.soup) c.new.ensures
 
 pub returns-clause-chosen : goal.returns-clause-chosen
-returns-clause-chosen c =
-    on_cut (λ fs p. IsChosenLayout fs (option_copied c.args.kept) c.args.patches p) _ _ _ _ c.mesh.ensures c.new.ensures
-    c.in_ok-layout.ensures.chosen
+returns-clause-chosen c = on_cut (λ fs p. IsChosenLayout fs (option_copied c.args.kept) c.args.patches p) _ _ _ _
+    c.mesh.ensures c.new.ensures c.in_ok-layout.ensures.chosen
 
 pub returns-clause-laid : goal.returns-clause-laid
 returns-clause-laid c = on_cut IsMeshLayout _ _ _ _ c.mesh.ensures c.new.ensures c.in_ok-layout.ensures.mesh

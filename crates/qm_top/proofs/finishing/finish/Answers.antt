@@ -8,9 +8,8 @@ use Rattle.qm_top.specs.{Finishing.headed_task, Writing.refusal_of_put, Writing.
 use Rattle.qm_top.proofs.finishing.finish.Goals as goal
 
 pub write_framed-requires : goal.write_framed-requires
-write_framed-requires g c =
-    kept_for old_lengths c.args.cut.plan c.in_ok-remesh.remesh c.args.headed.terms c.in_ok-remesh.ensures.terms
-    c.in_ok-remesh.ensures.kept
+write_framed-requires g c = kept_for old_lengths c.args.cut.plan c.in_ok-remesh.remesh c.args.headed.terms
+    c.in_ok-remesh.ensures.terms c.in_ok-remesh.ensures.kept
 
 pub returns-in_err-remesh-clause-refused : goal.returns-in_err-remesh-clause-refused
 returns-in_err-remesh-clause-refused g c = λ marks head on is.

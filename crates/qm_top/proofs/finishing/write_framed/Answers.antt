@@ -17,10 +17,9 @@ returns-in_err-put_framed-clause-prefix g c is =
 
 pub returns-clause-whole : goal.returns-clause-whole
 returns-clause-whole g c =
-    let whole : (g.O.Sink.state c.flush.new.self.sink.now).told
-    ≡ took (g.O.Sink.state c.new-text.result.sink.now).told (framed_text c.args.framed c.args.cut.soup c.args.cut.plan)
-    = text_whole _ _ _ _ c.new-text.ensures.empty c.in_ok-put_framed.ensures.whole.1 c.in_ok-flush.ensures.whole
-    c.in_ok-flush.ensures.empty in
+    let whole : (g.O.Sink.state c.flush.new.self.sink.now).told ≡ took (g.O.Sink.state c.new-text.result.sink.now).told
+    (framed_text c.args.framed c.args.cut.soup c.args.cut.plan) = text_whole _ _ _ _ c.new-text.ensures.empty
+    c.in_ok-put_framed.ensures.whole.1 c.in_ok-flush.ensures.whole c.in_ok-flush.ensures.empty in
     search rules
 
 pub returns-in_err-flush-clause-prefix : goal.returns-in_err-flush-clause-prefix

@@ -26,8 +26,7 @@ returns-in_err-asides g c =
     (record {
       soup = c.in_ok-read.read;
       mesh = c.in_ok-read.ensures.mesh;
-      said =
-          c.in_err-asides.ensures.refused other;
+      said = c.in_err-asides.ensures.refused other;
     }))) refl
 
 pub returns : goal.returns
@@ -43,7 +42,6 @@ returns g c =
     (record {
       bytes = lines;
       whole = record { given = given.bytes; ended = given.whole; few = given.short };
-      said =
-          mesh.said;
+      said = mesh.said;
     }) given.calm)
     c.fit_mesh.result (c.fit_mesh.ensures.done lines said) (c.fit_mesh.ensures.refused lines said)

@@ -15,16 +15,14 @@ use Rattle.qm_top.specs.Writing.{refusal_of_put, ShowsAsked}
 use Rattle.qm_top.proofs.fit.fit_mesh.Goals as goal
 
 pub lines_between-requires : goal.lines_between-requires
-lines_between-requires g c =
-    kept_for (aimed c.args.fit.now.aim c.in_ok-cut.cut.soup c.deref.result.now) c.in_ok-cut.cut.plan
-    c.in_ok-remesh.remesh
+lines_between-requires g c = kept_for (aimed c.args.fit.now.aim c.in_ok-cut.cut.soup c.deref.result.now)
+    c.in_ok-cut.cut.plan c.in_ok-remesh.remesh
     (record { settings = fit_settings c.args.fit.now; rising = rounds_if c.args.fit.now.auto })
     c.in_ok-remesh.ensures.terms c.in_ok-remesh.ensures.kept
 
 pub write_framed-requires : goal.write_framed-requires
-write_framed-requires g c =
-    kept_for (aimed c.args.fit.now.aim c.in_ok-cut.cut.soup c.deref.result.now) c.in_ok-cut.cut.plan
-    c.in_ok-remesh.remesh
+write_framed-requires g c = kept_for (aimed c.args.fit.now.aim c.in_ok-cut.cut.soup c.deref.result.now)
+    c.in_ok-cut.cut.plan c.in_ok-remesh.remesh
     (record { settings = fit_settings c.args.fit.now; rising = rounds_if c.args.fit.now.auto })
     c.in_ok-remesh.ensures.terms c.in_ok-remesh.ensures.kept
 
@@ -105,7 +103,6 @@ returns-clause-done g c bytes said =
       text = framed_text framed cut.soup cut.plan;
       said = fit_shown fit bytes c.args.read cut asides made.soup (said ∙ ap Ok parts)
           (subst (AreKeptMarks c.args.read.faces) (sym c.as_deref-kept.ensures.value) c.requires.marks) made.laid
-          made.chosen framed kept.near
-          kept.terms kept.kept c.in_ok-head.ensures c.in_ok-between.ensures shares;
+          made.chosen framed kept.near kept.terms kept.kept c.in_ok-head.ensures c.in_ok-between.ensures shares;
       written = c.in_ok-write_framed.ensures.whole;
     }

@@ -30,8 +30,7 @@ returns-in_err-kept g c =
     (record {
       soup = c.in_ok-read.read;
       mesh = c.in_ok-read.ensures.mesh;
-      said =
-          c.in_err-kept.ensures.refused other;
+      said = c.in_err-kept.ensures.refused other;
     }))) refl
 
 pub chosen_cut-requires : goal.chosen_cut-requires

@@ -15,6 +15,5 @@ returns-in-Err-NotManifold-clause-refused c =
     (ap Err c.in-Err-NotManifold.field-0-is) in (
       subst (IsFirstFault c.args.soup.faces) (sym c.named_place.ensures.place) bad.1,
       bad.2,
-      c.named_place.ensures.names
-          ∙ ap (λ (s : FaceSet). s.names) bad.0,
+      c.named_place.ensures.names ∙ ap (λ (s : FaceSet). s.names) bad.0,
     )

@@ -11,7 +11,6 @@ returns g c =
     (subst (ReadWhole MAX_BYTES _ _) (sym c.deref.ensures.value) (record {
       given = read.bytes;
       ended = read.whole;
-      few =
-          read.short;
+      few = read.short;
     })) read.calm)
     c.map_bytes.result c.map_bytes.ensures.done c.map_bytes.ensures.refused

@@ -20,15 +20,13 @@ returns-in_ok-write_map-in-Ok-clause-done g c =
     record {
       text = mapped_text c.in-Ok.new;
       said = c.in-Ok.ensures.map;
-      written =
-          c.in_ok-write_map-in-Ok.ensures.whole;
+      written = c.in_ok-write_map-in-Ok.ensures.whole;
     }
 
 pub judged_refusal-requires : goal.judged_refusal-requires
 judged_refusal-requires g c = map_placed c.args.bytes.now _ c.in-Err.ensures.refused
 
 pub returns-in-Err-clause-refused : goal.returns-in-Err-clause-refused
-returns-in-Err-clause-refused g c =
-    not_begun (WritesMap c.args.bytes.now) (IsNoMapFor c.args.bytes.now)
+returns-in-Err-clause-refused g c = not_begun (WritesMap c.args.bytes.now) (IsNoMapFor c.args.bytes.now)
     (stream g.O.Sink.state c.args.out.now c.args.out.now) (λ fail none. none) refl c.judged_refusal.result
     (c.judged_refusal.ensures.mapped c.args.bytes.now c.in-Err.ensures.refused)

@@ -8,26 +8,20 @@ use Rattle.qm_top.proofs.map.write_map.Goals as goal
 pub returns-in_err-put_map-clause-prefix : goal.returns-in_err-put_map-clause-prefix
 returns-in_err-put_map-clause-prefix g c =
     let prefix : TookPrefix (g.O.Sink.state c.new-text.result.sink.now).told
-    (g.O.Sink.state c.put_map.new.out.sink.now).told
-    (mapped_text c.args.new.now)
-    = text_prefix _ _ _ c.new-text.ensures.empty c.in_err-put_map.ensures.part.1 in
+    (g.O.Sink.state c.put_map.new.out.sink.now).told (mapped_text c.args.new.now) = text_prefix _ _ _
+    c.new-text.ensures.empty c.in_err-put_map.ensures.part.1 in
     of_error c.from_residual.result (search rules)
 
 pub returns-clause-prefix : goal.returns-clause-prefix
-returns-clause-prefix g c =
-    on_err_weaker c.flush.result
-    (λ broke.
+returns-clause-prefix g c = on_err_weaker c.flush.result (λ broke.
     let prefix : TookPrefix (g.O.Sink.state c.new-text.result.sink.now).told
-    (g.O.Sink.state c.flush.new.self.sink.now).told
-    (mapped_text c.args.new.now)
-    = rest_prefix _ _ _ _ c.new-text.ensures.empty c.in_ok-put_map.ensures.whole.1 broke in
+    (g.O.Sink.state c.flush.new.self.sink.now).told (mapped_text c.args.new.now) = rest_prefix _ _ _ _
+    c.new-text.ensures.empty c.in_ok-put_map.ensures.whole.1 broke in
     search rules)
     c.flush.ensures.part
 
 pub returns-clause-whole : goal.returns-clause-whole
-returns-clause-whole g c =
-    on_ok_weaker c.flush.result
-    (λ both.
+returns-clause-whole g c = on_ok_weaker c.flush.result (λ both.
     let whole : (g.O.Sink.state c.flush.new.self.sink.now).told
     ≡ took (g.O.Sink.state c.new-text.result.sink.now).told (mapped_text c.args.new.now)
     = text_whole _ _ _ _ c.new-text.ensures.empty c.in_ok-put_map.ensures.whole.1 both.0 both.1 in

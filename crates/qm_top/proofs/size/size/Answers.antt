@@ -7,8 +7,7 @@ use Rattle.qm_top.proofs.{Sized.size_aimed, Writers.writer_runs}
 use Rattle.qm_top.proofs.size.size.Goals as goal
 
 pub returns-in_err-read : goal.returns-in_err-read
-returns-in_err-read g c =
-    handed_run _ _ _ _ c.in_err-read.field-0.0 c.from_residual.ensures.1
+returns-in_err-read g c = handed_run _ _ _ _ c.in_err-read.field-0.0 c.from_residual.ensures.1
     (input_ended _ _ _ c.in_err-read.field-0.0 (size_needs c.args.edge c.args.floor) c.in_err-read.ensures.refused) refl
 
 pub returns : goal.returns

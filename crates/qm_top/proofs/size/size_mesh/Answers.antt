@@ -12,10 +12,9 @@ use Rattle.qm_top.specs.Writing.{refusal_of_put, ShowsAsked}
 use Rattle.qm_top.proofs.size.size_mesh.Goals as goal
 
 pub write_framed-requires : goal.write_framed-requires
-write_framed-requires g c =
-    kept_for (soup_targets c.args.edge c.in_ok-cut.cut.soup) c.in_ok-cut.cut.plan c.in_ok-remesh.remesh
-    (record { settings = edge_settings c.args.floor; rising = Never }) c.in_ok-remesh.ensures.terms
-    c.in_ok-remesh.ensures.kept
+write_framed-requires g c = kept_for (soup_targets c.args.edge c.in_ok-cut.cut.soup) c.in_ok-cut.cut.plan
+    c.in_ok-remesh.remesh (record { settings = edge_settings c.args.floor; rising = Never })
+    c.in_ok-remesh.ensures.terms c.in_ok-remesh.ensures.kept
 
 pub returns-in_err-remesh-clause-refused : goal.returns-in_err-remesh-clause-refused
 returns-in_err-remesh-clause-refused g c bytes =

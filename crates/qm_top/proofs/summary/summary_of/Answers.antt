@@ -75,8 +75,7 @@ returns-clause-text c =
       manifold = subst IsManifold same c.faces.ensures.mesh.manifold;
       plan = on;
       cut = traced_in c.args.size c.args.meshed c.mesh-mesh.result.now (plan c.in_ok-layout.layout) c.new-cut.result
-          c.requires c.mesh-mesh.ensures
-          c.new-cut.ensures c.in_ok-layout.ensures.traced;
+          c.requires c.mesh-mesh.ensures c.new-cut.ensures c.in_ok-layout.ensures.traced;
       cert = kept.cert;
       certified = kept.certified;
       coarse = kept.coarse;
@@ -89,9 +88,7 @@ returns-clause-text c =
         patches = c.len-2.result;
         arcs = c.len-3.result;
         deviation = to_z w128 (of_z w128 c.in_ok-deviation.deviation);
-      }) (bench_faces c.args.size) on _
-          (c.vertices-vertices.ensures.value ∙ ap vertex_count same)
-          (c.edge_count-edges.ensures ∙ ap edge_count same)
-          (ap length (c.faces.ensures.value ∙ same))
-          riders patches arcs (fits ∙ kept.is);
+      }) (bench_faces c.args.size) on _ (c.vertices-vertices.ensures.value ∙ ap vertex_count same)
+          (c.edge_count-edges.ensures ∙ ap edge_count same) (ap length (c.faces.ensures.value ∙ same)) riders patches
+          arcs (fits ∙ kept.is);
     }

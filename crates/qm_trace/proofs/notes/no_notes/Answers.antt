@@ -16,8 +16,7 @@ returns-clause-notes c =
       noted = c.in_ok-noted.noted;
       taken = c.in_ok-taken.taken;
       places = c.in_ok-places.places;
-      queue =
-          c.in_ok-queue.queue;
+      queue = c.in_ok-queue.queue;
     }) c.in_ok-noted.noted.items (noted ∙ ap (λ n. replicate n None) (sym long))
     (λ d. ap (λ (xs : List Bool). is_on xs d) taken ∙ none_on c.args.darts d) (ap length places
     ∙ (length-replicate c.args.darts 0 ∙ sym (ap length taken ∙ length-replicate c.args.darts false)))

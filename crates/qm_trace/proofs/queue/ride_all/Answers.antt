@@ -7,8 +7,7 @@ pub ride_each-requires-clause-can : goal.ride_each-requires-clause-can
 ride_each-requires-clause-can c = rw c.deref_mut.ensures.value c.requires.can
 
 pub returns : goal.returns
-returns c marks k i =
-    with_items_is c.args.riders.now c.ride_each.new.riders (c.ride_each.auto.riders ∙ c.deref_mut.ensures.len)
-    ∙ next_riders c.faces-known.ensures.mesh.manifold i c.ride_each.new.riders
-    (c.ride_each.auto.riders ∙ ap length c.deref_mut.ensures.value)
+returns c marks k i = with_items_is c.args.riders.now c.ride_each.new.riders
+    (c.ride_each.auto.riders ∙ c.deref_mut.ensures.len) ∙ next_riders c.faces-known.ensures.mesh.manifold i
+    c.ride_each.new.riders (c.ride_each.auto.riders ∙ ap length c.deref_mut.ensures.value)
     (rw c.deref_mut.ensures.value at c.ride_each.ensures)

@@ -4,6 +4,5 @@ use Rattle.qm_warmstart.specs.Tables.{IsPlaced}
 use Rattle.qm_warmstart.proofs.cover.places_of.Given as goal
 
 abbrev pub invariant-loop-way : goal.invariant-loop-way
-invariant-loop-way l = (l.exits.ways ≡ l.initial.exits.ways)
-    × (length l.places.items ≡ l.way)
-    × All (IsPlaced (2 * length l.initial.exits.ways.all.items)) l.places.items
+invariant-loop-way l = (l.exits.ways ≡ l.initial.exits.ways) × (length l.places.items ≡ l.way) × All
+    (IsPlaced (2 * length l.initial.exits.ways.all.items)) l.places.items

@@ -3,6 +3,5 @@ use Rattle.qm_warmstart.specs.Tables.{AreBelow}
 use Rattle.qm_warmstart.proofs.phases.keep_open.Given as goal
 
 abbrev pub invariant-loop-k : goal.invariant-loop-k
-invariant-loop-k l = (length l.nodes.items ≡ length l.initial.nodes.items)
-    × (l.kept ≤ l.k)
-    × AreBelow l.flow.cover.now.nodes l.nodes.items
+invariant-loop-k l = (length l.nodes.items ≡ length l.initial.nodes.items) × (l.kept ≤ l.k) × AreBelow
+    l.flow.cover.now.nodes l.nodes.items

@@ -8,18 +8,15 @@ returns-then-has_end-clause-refuses c usage uses line plain =
     true≢false (c.if-has_end.ensures ∙ line_no_end _ _ uses c.requires line plain)
 
 pub loop-name-preserved : goal.loop-name-preserved
-loop-name-preserved c =
-    app_more c.args.names.now c.loop-name.name-index _ _ _ c.loop-name-test.true c.loop-name.invariant
-    c.in_ok-command.ensures.shape
+loop-name-preserved c = app_more c.args.names.now c.loop-name.name-index _ _ _ c.loop-name-test.true
+    c.loop-name.invariant c.in_ok-command.ensures.shape
 
 pub returns-in-Ok-clause-reads : goal.returns-in-Ok-clause-reads
-returns-in-Ok-clause-reads c =
-    took (texts c.args.names.now) (map string_bytes c.args.words.now) _ c.in-Ok.matches
+returns-in-Ok-clause-reads c = took (texts c.args.names.now) (map string_bytes c.args.words.now) _ c.in-Ok.matches
     (app_all c.args.names.now c.loop-name.name-index _ c.loop-name-test.false c.loop-name.invariant)
     (sym c.if-has_end.ensures) c.in-Ok.ensures.kinds c.in-Ok.ensures.matches
 
 pub returns-in-Err-clause-refuses : goal.returns-in-Err-clause-refuses
-returns-in-Err-clause-refuses c =
-    refused (texts c.args.names.now) (map string_bytes c.args.words.now) _ c.in-Err.error c.cause.result
-    (app_all c.args.names.now c.loop-name.name-index _ c.loop-name-test.false c.loop-name.invariant)
+returns-in-Err-clause-refuses c = refused (texts c.args.names.now) (map string_bytes c.args.words.now) _ c.in-Err.error
+    c.cause.result (app_all c.args.names.now c.loop-name.name-index _ c.loop-name-test.false c.loop-name.invariant)
     c.requires c.in-Err.ensures.kinds c.cause.ensures.memory

@@ -4,6 +4,5 @@ use Rattle.qm_words.proofs.Plain.{no_fit}
 use Rattle.qm_words.proofs.values.fit_of.Goals as goal
 
 pub returns-in_err-matches-clause-refuses : goal.returns-in_err-matches-clause-refuses
-returns-in_err-matches-clause-refuses c =
-    handed _ _ c.in_err-matches.field-0.0 c.from_residual.ensures.1
+returns-in_err-matches-clause-refuses c = handed _ _ c.in_err-matches.field-0.0 c.from_residual.ensures.1
     (λ usage fit has. no_fit (map string_bytes c.args.words.now) fit (c.in_err-matches.ensures.refuses usage) has)

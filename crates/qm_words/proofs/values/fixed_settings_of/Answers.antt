@@ -4,8 +4,7 @@ use Rattle.qm_words.proofs.Unique.{same_asked}
 use Rattle.qm_words.proofs.values.fixed_settings_of.Goals as goal
 
 pub returns-in_err-asked-clause-refuses : goal.returns-in_err-asked-clause-refuses
-returns-in_err-asked-clause-refuses c =
-    handed _ _ c.in_err-asked.field-0.0 c.from_residual.ensures.1
+returns-in_err-asked-clause-refuses c = handed _ _ c.in_err-asked.field-0.0 c.from_residual.ensures.1
     (λ usage settings has. c.in_err-asked.ensures.refuses usage settings _ has)
 
 pub returns-then-asked-clause-refuses : goal.returns-then-asked-clause-refuses

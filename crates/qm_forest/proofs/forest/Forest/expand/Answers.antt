@@ -58,8 +58,7 @@ outermost-last-requires c =
     vertex_low it c.open.ensures c.near-2.result c.link-link.result c.near-2.ensures (link_low it c.link-link.ensures)
 
 pub match_parts-requires-clause-low : goal.match_parts-requires-clause-low
-match_parts-requires-clause-low c =
-    places_low (opened (goal.at.match_parts-requires-clause-low c).After-outermost-last)
+match_parts-requires-clause-low c = places_low (opened (goal.at.match_parts-requires-clause-low c).After-outermost-last)
 
 pub match_parts-requires-clause-joints : goal.match_parts-requires-clause-joints
 match_parts-requires-clause-joints c =
@@ -71,18 +70,15 @@ course-course-requires-clause-reached c =
     c.match_parts.ensures.seen c.match_parts.ensures.same
 
 pub course-course-requires-clause-low : goal.course-course-requires-clause-low
-course-course-requires-clause-low c =
-    low3 (opened (goal.at.course-course-requires-clause-low c).After-outermost-last)
+course-course-requires-clause-low c = low3 (opened (goal.at.course-course-requires-clause-low c).After-outermost-last)
     c.match_parts.ensures.seen c.match_parts.ensures.same
 
 pub hang_parts-requires-clause-tops : goal.hang_parts-requires-clause-tops
-hang_parts-requires-clause-tops c =
-    tops3 (opened (goal.at.hang_parts-requires-clause-tops c).After-outermost-last)
+hang_parts-requires-clause-tops c = tops3 (opened (goal.at.hang_parts-requires-clause-tops c).After-outermost-last)
     c.match_parts.ensures.seen c.match_parts.ensures.same c.course-course.ensures
 
 pub hang_parts-requires-clause-low : goal.hang_parts-requires-clause-low
-hang_parts-requires-clause-low c =
-    front_low (opened (goal.at.hang_parts-requires-clause-low c).After-outermost-last)
+hang_parts-requires-clause-low c = front_low (opened (goal.at.hang_parts-requires-clause-low c).After-outermost-last)
     c.match_parts.ensures.seen c.match_parts.ensures.same c.course-course.ensures
 
 pub hang_parts-requires-clause-joints : goal.hang_parts-requires-clause-joints
@@ -91,8 +87,7 @@ hang_parts-requires-clause-joints c =
     c.match_parts.ensures.seen c.match_parts.ensures.same c.course-course.ensures
 
 pub returns-clause-changed : goal.returns-clause-changed
-returns-clause-changed c =
-    expanded (opened (goal.at.returns-clause-changed c).After-outermost-last)
+returns-clause-changed c = expanded (opened (goal.at.returns-clause-changed c).After-outermost-last)
     c.match_parts.ensures.seen c.match_parts.ensures.same c.course-course.ensures c.hang_parts.new.self
     c.hang_parts.ensures.seen c.set_link.ensures.seen
 

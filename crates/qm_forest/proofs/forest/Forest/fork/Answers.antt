@@ -9,9 +9,8 @@ use Rattle.qm_forest.proofs.forest.Forest.fork.Goals as goal
 -- The first climber goes on.
 gone_on : (c : After-above-x) → IsClimbing (darts_of c.args.g.now.graph) (forest_of c.args.self.now) c.args.a c.args.c
     c.above-x.result c.loop-x.y (c.loop-x.left + 1) c.loop-x.right
-gone_on c = both_turn c.args.g.now.small c.requires.valid c.requires.first c.requires.second
-    c.meeting-high.ensures.both c.loop-x.invariant c.loop-x-test.true (omega (arith, c.if-high-left.false))
-    c.above-x.ensures.value
+gone_on c = both_turn c.args.g.now.small c.requires.valid c.requires.first c.requires.second c.meeting-high.ensures.both
+    c.loop-x.invariant c.loop-x-test.true (omega (arith, c.if-high-left.false)) c.above-x.ensures.value
 
 pub above-x-requires-clause-named : goal.above-x-requires-clause-named
 above-x-requires-clause-named c = climb_named c.args.g.now.small c.requires.valid c.args.a c.args.c c.requires.first

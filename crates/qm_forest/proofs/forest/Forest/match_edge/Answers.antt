@@ -21,16 +21,14 @@ b_is c = c.outermost-b.ensures.value ∙ ap (forest_of c.args.self.now).out c.st
 pub pair-requires-clause-pairing : goal.pair-requires-clause-pairing
 pair-requires-clause-pairing c =
     let at = goal.at.pair-requires-clause-pairing c in
-    let on : matches c.args.self.now c.args.e ≡ true =
-    sym (matches_as at.After-is_mate-matched) ∙ c.if-matched.true in
+    let on : matches c.args.self.now c.args.e ≡ true = sym (matches_as at.After-is_mate-matched) ∙ c.if-matched.true in
     rw (a_is at.After-is_mate-matched, b_is at.After-outermost-b)
     (matches_is c.requires.room.laminar c.requires.room.sound.1 c.args.e on).pairing
 
 pub returns-then-matched-clause-done : goal.returns-then-matched-clause-done
 returns-then-matched-clause-done c =
     let at = goal.at.returns-then-matched-clause-done c in
-    let on : matches c.args.self.now c.args.e ≡ true =
-    sym (matches_as at.After-is_mate-matched) ∙ c.if-matched.true in
+    let on : matches c.args.self.now c.args.e ≡ true = sym (matches_as at.After-is_mate-matched) ∙ c.if-matched.true in
     edge_more c.requires.room.laminar c.requires.room.sound.1 c.args.e (c.args.e + 1) refl c.requires.room.marks
     c.requires.room.left_out (matches_is c.requires.room.laminar c.requires.room.sound.1 c.args.e on).mate
     c.pair.ensures.marks (rw (a_is at.After-is_mate-matched, b_is at.After-outermost-b) at c.pair.ensures.left_out)

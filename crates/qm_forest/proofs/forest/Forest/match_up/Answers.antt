@@ -38,9 +38,8 @@ loop-p-preserved c =
     let next = next_rank known c.args.c lv c.requires.held c.loop-p.invariant.above c.loop-p-test.true in
     record {
       above = rw c.up_at-p.ensures.value more;
-      held = ap (within c.args.self.now c.args.v) c.up_at-p.ensures.value
-          ∙ held_more known c.args.c lv c.requires.held c.loop-p.invariant.above c.loop-p-test.true
-          c.loop-p.invariant.held;
+      held = ap (within c.args.self.now c.args.v) c.up_at-p.ensures.value ∙ held_more known c.args.c lv c.requires.held
+          c.loop-p.invariant.above c.loop-p-test.true c.loop-p.invariant.held;
       low = c.up_at-p.ensures.low;
       room = c.match_ring.ensures.room;
       done = λ rest due r. rw c.up_at-p.ensures.value (c.match_ring.ensures.done _ due

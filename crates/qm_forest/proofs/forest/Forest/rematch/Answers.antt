@@ -30,8 +30,7 @@ up_is : (c : After-link-up) → c.link-up.result ≡ (forest_of c.args.self.now)
 up_is c = c.link-up.ensures ∙ link_same (forest_of c.args.self.now) _ _ (changed c)
 
 up_is_low : (c : After-link-up) → c.link-up.result < 2 * length c.args.g.now.graph.edges
-up_is_low c =
-    up_low c.loop-old.invariant.way c.in-Some.old (sym c.mate.ensures ∙ c.in-Some.is) (inner_is c) (up_is c)
+up_is_low c = up_low c.loop-old.invariant.way c.in-Some.old (sym c.mate.ensures ∙ c.in-Some.is) (inner_is c) (up_is c)
 
 -- So is the outer blossom on the other side of that one.
 changed_twice : (c : After-link-up) {f : Forest} → f ≡ mated (forest_of c.set_mate-in-Some.new.self)

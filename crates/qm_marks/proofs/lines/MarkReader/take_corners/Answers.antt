@@ -81,8 +81,7 @@ returns-clause-took c =
       same = record {
         all = refl;
         keys = refl;
-        long =
-            ap length items ∙ (c.mark_chain.ensures.long ∙ ap darts c.requires.reads.same);
+        long = ap length items ∙ (c.mark_chain.ensures.long ∙ ap darts c.requires.reads.same);
       };
       before = refl;
       marked = λ d l. ap (λ (xs : List Bool). is_on xs d) items

@@ -8,8 +8,7 @@ use Rattle.qm_match.proofs.Taken.{shrunk_less, shrunk_way, unmarked}
 use Rattle.qm_match.proofs.search.Search.shrink.Goals as goal
 
 pub outermost-set-requires : goal.outermost-set-requires
-outermost-set-requires c =
-    subst (λ n. c.edge.result.u < n) (sym c.shrink.ensures.valid.vertices) c.edge.ensures.ends.0
+outermost-set-requires c = subst (λ n. c.edge.result.u < n) (sym c.shrink.ensures.valid.vertices) c.edge.ensures.ends.0
 
 pub mend_parts-requires-clause-set : goal.mend_parts-requires-clause-set
 mend_parts-requires-clause-set c =

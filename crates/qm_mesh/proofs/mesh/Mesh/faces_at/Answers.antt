@@ -20,8 +20,7 @@ overflow_cast-result c =
       arith,
       c.len.ensures.value,
       count c.args.v _ k c.requires c.index.ensures,
-      fan_short c.args.self.now
-          c.args.v,
+      fan_short c.args.self.now c.args.v,
       k.mesh.few,
     )
 

@@ -9,8 +9,7 @@ returns-then-is_some c =
     rw (← c.self.view_is) (λ text stands. stands_still c.args.piece.now c.if-is_some.ensures stands)
 
 pub returns-in-Ok : goal.returns-in-Ok
-returns-in-Ok c =
-    rw (← c.self.view_is) (λ text stands. stands_more c.if-is_some.ensures c.in-Ok.ensures.took stands)
+returns-in-Ok c = rw (← c.self.view_is) (λ text stands. stands_more c.if-is_some.ensures c.in-Ok.ensures.took stands)
 
 pub returns-in-Err : goal.returns-in-Err
 returns-in-Err c =

@@ -16,8 +16,7 @@ returns-then-size-gt-MAX_LINE-clause-refused c = λ _.
     (omega (arith, c.len.ensures, old.joined.ok.0, c.if-size-gt-MAX_LINE.true)))
 
 -- The bytes that are read.
-text : (c : After-deref)
-    → c.deref.result.now ≡ c.args.self.now.joined.items ++ before_first is_hash c.args.line.now
+text : (c : After-deref) → c.deref.result.now ≡ c.args.self.now.joined.items ++ before_first is_hash c.args.line.now
 text c = cc (c.deref.ensures.value, c.in_ok-append.ensures.grown, c.before_comment.ensures)
 
 pub returns-in_err-take-clause-refused : goal.returns-in_err-take-clause-refused

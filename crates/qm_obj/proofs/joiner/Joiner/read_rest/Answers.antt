@@ -21,8 +21,7 @@ returns-in_err-take-clause-refused c =
 read : (c : After-clear) → Follows c.args.self.now.reader.positions.items c.take.new.self.positions.items
     c.args.self.now.reader.faces.items c.take.new.self.faces.items c.args.self.now.reader.lines.items
     c.take.new.self.lines.items (last_line (kept_of c.args.self.now [])) []
-read c =
-    line_taken (last_line (kept_of c.args.self.now [])) [] (fits c.requires.sound)
+read c = line_taken (last_line (kept_of c.args.self.now [])) [] (fits c.requires.sound)
     (rw (c.len.ensures ∙ c.args.self.now.joined.ok.0, c.deref.ensures.value) at c.in_ok-take.ensures.kept)
 
 pub returns-clause-sound : goal.returns-clause-sound

@@ -28,5 +28,4 @@ pub returns-clause-took : goal.returns-clause-took
 returns-clause-took c = on_ok_weaker _ (λ took. both_taken c.in_ok-keep.ensures.took took) c.end_tail.ensures.took
 
 pub returns-clause-refused : goal.returns-clause-refused
-returns-clause-refused c =
-    each_behind (10 ∷ []) c.end_tail.result c.in_ok-keep.ensures.took c.end_tail.ensures.refused
+returns-clause-refused c = each_behind (10 ∷ []) c.end_tail.result c.in_ok-keep.ensures.took c.end_tail.ensures.refused

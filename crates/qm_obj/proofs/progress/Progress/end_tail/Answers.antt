@@ -16,6 +16,5 @@ returns-in_err-take-clause-refused c = handed _ _ _ c.from_residual.ensures.1 (Î
     (line (goal.at.returns-in_err-take-clause-refused c).After-line_of) (c.in_err-take.ensures.refused other))
 
 pub returns-clause-took : goal.returns-clause-took
-returns-clause-took c =
-    fed_piece c.requires.sound {new = kept_of c.take.new.self c.clear.new.self.items} [] refl
+returns-clause-took c = fed_piece c.requires.sound {new = kept_of c.take.new.self c.clear.new.self.items} [] refl
     (line (goal.at.returns-clause-took c).After-line_of) c.clear.ensures.items c.in_ok-take.ensures.took

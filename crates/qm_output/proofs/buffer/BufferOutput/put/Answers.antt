@@ -11,8 +11,7 @@ returns-in_err-make_room-clause-part g c =
     )
 
 pub returns-then-piece-self-clause-whole : goal.returns-then-piece-self-clause-whole
-returns-then-piece-self-clause-whole g c =
-    on_ok_weaker c.pass.result
+returns-then-piece-self-clause-whole g c = on_ok_weaker c.pass.result
     (λ passed. (
       c.pass.ensures.same ∙ c.in_ok-make_room.ensures.same,
       passed_more _ _ _ _ c.args.piece.now c.in_ok-make_room.ensures.whole passed,
@@ -20,8 +19,7 @@ returns-then-piece-self-clause-whole g c =
     c.pass.ensures.whole
 
 pub returns-then-piece-self-clause-part : goal.returns-then-piece-self-clause-part
-returns-then-piece-self-clause-part g c =
-    on_err_weaker c.pass.result
+returns-then-piece-self-clause-part g c = on_err_weaker c.pass.result
     (λ broke. (
       c.pass.ensures.same ∙ c.in_ok-make_room.ensures.same,
       broke_later _ _ _ _ c.args.piece.now c.in_ok-make_room.ensures.whole broke,

@@ -7,10 +7,8 @@ pub placer-requires-clause-layout : goal.placer-requires-clause-layout
 placer-requires-clause-layout c = rw (c.mesh.ensures, c.layout.ensures.plan) c.layout.ensures.laid
 
 pub placer-requires-clause-long : goal.placer-requires-clause-long
-placer-requires-clause-long c =
-    ap length (sym c.requires.lengths) ∙ c.requires.numbering.long
-    ∙ ap (λ (p : Plan). length p.arcs) (sym c.layout.ensures.plan)
-    ∙ length-map c.layout.result.now.arcs.items path
+placer-requires-clause-long c = ap length (sym c.requires.lengths) ∙ c.requires.numbering.long ∙ ap
+    (λ (p : Plan). length p.arcs) (sym c.layout.ensures.plan) ∙ length-map c.layout.result.now.arcs.items path
 
 pub placer-requires-clause-lengths : goal.placer-requires-clause-lengths
 placer-requires-clause-lengths c = rw (c.requires.lengths, ← c.layout.ensures.plan) at c.requires.numbering.lengths

@@ -99,6 +99,5 @@ returns-clause-event c =
     (covered ∙ (c.cover_edge.ensures ∙ rw c.deref_mut.ensures.value refl))))
 
 pub returns-clause-motion : goal.returns-clause-motion
-returns-clause-motion c =
-    subst (IsMotionOn c.args.mesh.now) (sym (returns-clause-event c)) (rode_on c.vertices-vertices.ensures.mesh.manifold
-    c.requires.motion c.args.r c.requires.rider c.requires.possible)
+returns-clause-motion c = subst (IsMotionOn c.args.mesh.now) (sym (returns-clause-event c))
+    (rode_on c.vertices-vertices.ensures.mesh.manifold c.requires.motion c.args.r c.requires.rider c.requires.possible)

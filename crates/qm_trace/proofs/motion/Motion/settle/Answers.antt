@@ -95,8 +95,7 @@ returns-then-self-eq0-clause-event c =
     c.tell_all.ensures.told c.if-self-eq0.true c.clear.ensures.noted c.clear.ensures.settled))
 
 pub returns-then-self-eq0-clause-motion : goal.returns-then-self-eq0-clause-motion
-returns-then-self-eq0-clause-motion c =
-    subst (IsMotionOn c.args.mesh.now) (sym (returns-then-self-eq0-clause-event c))
+returns-then-self-eq0-clause-motion c = subst (IsMotionOn c.args.mesh.now) (sym (returns-then-self-eq0-clause-event c))
     (settled_on c.faces-known.ensures.mesh.manifold c.requires.motion c.args.v c.requires.possible)
 
 pub returns-else-self-eq0-clause-event : goal.returns-else-self-eq0-clause-event
@@ -108,6 +107,5 @@ returns-else-self-eq0-clause-event c =
     c.tell_all.ensures.told c.if-self-eq0.false))
 
 pub returns-else-self-eq0-clause-motion : goal.returns-else-self-eq0-clause-motion
-returns-else-self-eq0-clause-motion c =
-    subst (IsMotionOn c.args.mesh.now) (sym (returns-else-self-eq0-clause-event c))
+returns-else-self-eq0-clause-motion c = subst (IsMotionOn c.args.mesh.now) (sym (returns-else-self-eq0-clause-event c))
     (settled_on c.faces-known.ensures.mesh.manifold c.requires.motion c.args.v c.requires.possible)
