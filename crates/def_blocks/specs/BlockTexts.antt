@@ -5,7 +5,7 @@ use Rattle.std.specs.List.{flat_map, range_with_len}
 use Rattle.def_io.specs.Bytes.{Bytes}
 use Rattle.def_io.specs.declared.TheConstants.{LINE_FEED}
 use Rattle.def_layout.specs.Lengths.{Lengths, wide, high}
-use Rattle.def_layout.specs.Plans.{Plan, layout_of}
+use Rattle.def_layout.specs.Layouts.{Layout, gluing_of}
 use Rattle.def_mesh.specs.Faces.{Faces}
 use Rattle.def_remesh.specs.NewSoup.{new_place}
 use Rattle.def_text.specs.Canonical.{micro_text}
@@ -23,23 +23,23 @@ point_line position = drop 1 (flat_map (λ z. SPACE ∷ micro_text z) position +
 
 -- The place of the new vertex at a grid point of a block.
 abbrev pub grid_place :
-    (faces : Faces) (plan : Plan) (places : Positions) (new : Lengths) (block j i : ℕ) → Position
-grid_place faces plan places new block j i =
-    new_place faces plan places new (grid_vertex (layout_of plan) new block i j)
+    (faces : Faces) (layout : Layout) (places : Positions) (new : Lengths) (block j i : ℕ) → Position
+grid_place faces layout places new block j i =
+    new_place faces layout places new (grid_vertex (gluing_of layout) new block i j)
 
 -- The places of a row of a block, from west to east.
-abbrev pub row_places : (faces : Faces) (plan : Plan) (places : Positions) (new : Lengths) (block j : ℕ) → Positions
-row_places faces plan places new block j =
-    map (grid_place faces plan places new block j) (range_with_len 0 (wide (layout_of plan) new block + 1))
+abbrev pub row_places : (faces : Faces) (layout : Layout) (places : Positions) (new : Lengths) (block j : ℕ) → Positions
+row_places faces layout places new block j =
+    map (grid_place faces layout places new block j) (range_with_len 0 (wide (gluing_of layout) new block + 1))
 
 -- The lines of these points.
 abbrev pub row_text : (places : Positions) → Bytes
 row_text places = flat_map point_line places
 
 -- The lines of all points of a block, row by row from the south.
-abbrev pub points_text : (faces : Faces) (plan : Plan) (places : Positions) (new : Lengths) (block : ℕ) → Bytes
-points_text faces plan places new block = flat_map row_text
-    (map (row_places faces plan places new block) (range_with_len 0 (high (layout_of plan) new block + 1)))
+abbrev pub points_text : (faces : Faces) (layout : Layout) (places : Positions) (new : Lengths) (block : ℕ) → Bytes
+points_text faces layout places new block = flat_map row_text
+    (map (row_places faces layout places new block) (range_with_len 0 (high (gluing_of layout) new block + 1)))
 
 -- The word of a side.
 abbrev pub side_text : (name : SideName) → Bytes
@@ -68,16 +68,17 @@ block_line number wide high =
     codes "block " ++ decimal number ++ codes " " ++ decimal wide ++ codes " " ++ decimal high ++ codes "\n"
 
 -- The lines of a block: its size, its points and its links.
-abbrev pub block_lines : (old : FaceSet) (plan : Plan) (new : Lengths) (links : List (List Link)) (block : ℕ) → Bytes
-block_lines old plan new links block =
-    block_line (block + 1) (wide (layout_of plan) new block) (high (layout_of plan) new block)
-    ++ (points_text old.faces plan old.pos new block ++ flat_map link_line (slice_index_or links block []))
+abbrev pub block_lines : (old : FaceSet) (layout : Layout) (new : Lengths) (links : List (List Link)) (block : ℕ)
+    → Bytes
+block_lines old layout new links block =
+    block_line (block + 1) (wide (gluing_of layout) new block) (high (gluing_of layout) new block)
+    ++ (points_text old.faces layout old.pos new block ++ flat_map link_line (slice_index_or links block []))
 
 -- The first two lines: how many parts each edge has, and how many blocks there are.
 abbrev pub blocks_head : (by blocks : ℕ) → Bytes
 blocks_head by blocks = codes "quadq blocks 1 by " ++ decimal by ++ codes "\nblocks " ++ decimal blocks ++ codes "\n"
 
 -- All lines.
-abbrev pub blocks_text : (by : ℕ) (old : FaceSet) (plan : Plan) (new : Lengths) (links : List (List Link)) → Bytes
-blocks_text by old plan new links = blocks_head by (length plan.patches)
-    ++ flat_map (block_lines old plan new links) (range_with_len 0 (length plan.patches))
+abbrev pub blocks_text : (by : ℕ) (old : FaceSet) (layout : Layout) (new : Lengths) (links : List (List Link)) → Bytes
+blocks_text by old layout new links = blocks_head by (length layout.patches)
+    ++ flat_map (block_lines old layout new links) (range_with_len 0 (length layout.patches))

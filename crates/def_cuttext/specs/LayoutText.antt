@@ -6,7 +6,7 @@ use Rattle.def_feature.specs.Marks.{is_break}
 use Rattle.def_fit.specs.FitWords.{keep_word, patches_word}
 use Rattle.def_io.specs.Bytes.{Bytes}
 use Rattle.def_layout.specs.Arcs.{path_at}
-use Rattle.def_layout.specs.Plans.{Plan, vertex_at}
+use Rattle.def_layout.specs.Layouts.{Layout, vertex_at}
 use Rattle.def_marks.specs.MarkedText.{is_marked_arc}
 use Rattle.def_mesh.specs.Components.{seeds}
 use Rattle.def_mesh.specs.Darts.{from_of}
@@ -35,20 +35,20 @@ break_line soup (Some marks) vertex =
     then numbers_line (codes "break") ((place_in_file soup.names vertex + 1) ∷ []) else []
 
 -- The vertices along an arc, in its direction.
-abbrev pub vertices_along : (faces : Faces) (plan : Plan) (arc : ℕ) → List ℕ
-vertices_along faces plan arc =
-    map (from_of faces) (path_at plan.arcs arc).darts ++ vertex_at plan (path_at plan.arcs arc).last ∷ []
+abbrev pub vertices_along : (faces : Faces) (layout : Layout) (arc : ℕ) → List ℕ
+vertices_along faces layout arc =
+    map (from_of faces) (path_at layout.arcs arc).darts ++ vertex_at layout (path_at layout.arcs arc).last ∷ []
 
 -- The word of an arc: whether its edges are marked.
-abbrev pub arc_word : (kept : Option (List Bool)) (plan : Plan) (arc : ℕ) → Bytes
-arc_word None plan arc = codes "arc"
-arc_word (Some marks) plan arc = if is_marked_arc marks plan arc then codes "marked" else codes "arc"
+abbrev pub arc_word : (kept : Option (List Bool)) (layout : Layout) (arc : ℕ) → Bytes
+arc_word None layout arc = codes "arc"
+arc_word (Some marks) layout arc = if is_marked_arc marks layout arc then codes "marked" else codes "arc"
 
 -- The line of an arc: its number, its length and its vertices.
-abbrev pub whole_arc_line : (soup : FaceSet) (kept : Option (List Bool)) (plan : Plan) (arc : ℕ) → Bytes
-whole_arc_line soup kept plan arc = numbers_line (arc_word kept plan arc)
-    ((arc + 1) ∷ length (path_at plan.arcs arc).darts
-    ∷ map (λ v. place_in_file soup.names v + 1) (vertices_along soup.faces plan arc))
+abbrev pub whole_arc_line : (soup : FaceSet) (kept : Option (List Bool)) (layout : Layout) (arc : ℕ) → Bytes
+whole_arc_line soup kept layout arc = numbers_line (arc_word kept layout arc)
+    ((arc + 1) ∷ length (path_at layout.arcs arc).darts
+    ∷ map (λ v. place_in_file soup.names v + 1) (vertices_along soup.faces layout arc))
 
 -- The first line.
 abbrev pub layout_head : (keep : Keep) (patches : Patches) → Bytes
@@ -57,11 +57,11 @@ layout_head keep patches =
 
 -- The whole text of a soup with its layout.
 abbrev pub layout_text :
-    (keep : Keep) (patches : Patches) (soup : FaceSet) (kept : Option (List Bool)) (plan : Plan) → Bytes
-layout_text keep patches soup kept plan = layout_head keep patches
+    (keep : Keep) (patches : Patches) (soup : FaceSet) (kept : Option (List Bool)) (layout : Layout) → Bytes
+layout_text keep patches soup kept layout = layout_head keep patches
     ++ counts_line soup.faces
     ++ flat_map (named_line soup) (all_vertices soup.faces)
     ++ flat_map (λ v. seed_line (place_in_file soup.names v)) (seeds soup.faces)
     ++ flat_map (break_line soup kept) (all_vertices soup.faces)
-    ++ flat_map (whole_arc_line soup kept plan) (range_with_len 0 (length plan.arcs))
-    ++ flat_map (patch_lines plan) (range_with_len 0 (length plan.patches))
+    ++ flat_map (whole_arc_line soup kept layout) (range_with_len 0 (length layout.arcs))
+    ++ flat_map (patch_lines layout) (range_with_len 0 (length layout.patches))

@@ -4,7 +4,7 @@ use Rattle.def_certtext.specs.Settings.{IsFloor}
 use Rattle.def_certtext.specs.declared.certs.Rising.{Rising}
 use Rattle.def_flow.specs.declared.net.Settings.{Settings}
 use Rattle.def_layout.specs.Arcs.{path_at}
-use Rattle.def_layout.specs.Plans.{Plan}
+use Rattle.def_layout.specs.Layouts.{Layout}
 use Rattle.def_math.specs.Counts.{count}
 use Rattle.def_metric.specs.Fails.{AreNear, IsFar}
 use Rattle.def_metric.specs.Targets.{targets}
@@ -22,7 +22,7 @@ use Rattle.def_fit.specs.declared.fit.Fit.{Fit}
 
 -- The wishes for the edges of an arc, added up. An edge for which nothing is wished counts as one.
 abbrev pub wishes_along : (wishes : List ℕ) → Wish
-wishes_along wishes plan arc = count (λ d. slice_index_or wishes d EDGE_PARTS) (path_at plan.arcs arc).darts
+wishes_along wishes layout arc = count (λ d. slice_index_or wishes d EDGE_PARTS) (path_at layout.arcs arc).darts
 
 -- The lengths that are wished for, where each dart has one of these wishes.
 abbrev pub aimed : (aim : Aim) (soup : FaceSet) (wishes : List ℕ) → Wish
@@ -49,9 +49,9 @@ fit_settings fit = record {
 }
 
 -- Wishes in parts of an edge add up to no more than the limit. Old lengths always do.
-abbrev pub AreAimedNear : (aim : Aim) (wish : Wish) (plan : Plan) → Type 0
-AreAimedNear (Scale p q) wish plan = ⊤
-AreAimedNear _ wish plan = AreNear wish plan
+abbrev pub AreAimedNear : (aim : Aim) (wish : Wish) (layout : Layout) → Type 0
+AreAimedNear (Scale p q) wish layout = ⊤
+AreAimedNear _ wish layout = AreNear wish layout
 
 -- An aim that may be asked for.
 abbrev pub IsAim : (aim : Aim) → Type 0
@@ -66,10 +66,11 @@ pub record IsFit (fit : Fit) : Type 0 where
 
 -- Why a layout is not remeshed with these wishes: want of memory says nothing of them.
 abbrev pub IsFitFail :
-    (aim : Aim) (wish : Wish) (plan : Plan) (settings : Settings) (rising : Rising) (fail : SizeFail) → Type 0
-IsFitFail aim wish plan settings rising (sizes.Far sum) =
-    (¬ AreAimedNear aim wish plan) × IsFar wish plan settings sum
-IsFitFail aim wish plan settings rising (sizes.Layout (layouts.Tangled count)) = IsTangledAt wish plan settings count
-IsFitFail aim wish plan settings rising (sizes.Layout layouts.Memory) = ⊤
-IsFitFail aim wish plan settings rising (sizes.Layout failed) =
-    AreAimedNear aim wish plan × IsLayoutFail wish plan settings rising failed
+    (aim : Aim) (wish : Wish) (layout : Layout) (settings : Settings) (rising : Rising) (fail : SizeFail) → Type 0
+IsFitFail aim wish layout settings rising (sizes.Far sum) =
+    (¬ AreAimedNear aim wish layout) × IsFar wish layout settings sum
+IsFitFail aim wish layout settings rising (sizes.Layout (layouts.Tangled count)) =
+    IsTangledAt wish layout settings count
+IsFitFail aim wish layout settings rising (sizes.Layout layouts.Memory) = ⊤
+IsFitFail aim wish layout settings rising (sizes.Layout failed) =
+    AreAimedNear aim wish layout × IsLayoutFail wish layout settings rising failed

@@ -4,7 +4,7 @@ use Rattle.std.specs.Result.{result_map_both}
 use Rattle.def_certtext.specs.Risings.{rounds_if}
 use Rattle.def_io.specs.Bytes.{Bytes}
 use Rattle.def_layout.specs.Lengths.{Lengths}
-use Rattle.def_layout.specs.Plans.{Plan}
+use Rattle.def_layout.specs.Layouts.{Layout}
 use Rattle.def_marks.specs.Lines.{marks_in}
 use Rattle.def_marks.specs.MarkedText.{marked_text}
 use Rattle.def_marks.specs.declared.fail.MarkFail.{MarkFail}
@@ -48,9 +48,9 @@ abbrev pub asides_in : (fit : Fit) (bytes : Bytes) (soup : FaceSet) → Result A
 asides_in fit bytes soup = asides_by (kept_in fit.keep bytes soup) (wished_in fit.aim bytes soup)
 
 -- The lines behind the new mesh: those of the marked arcs, where marks are kept.
-abbrev pub kept_text : (kept : Option (List Bool)) (plan : Plan) (new : Lengths) → Bytes
-kept_text None plan new = []
-kept_text (Some marks) plan new = marked_text marks plan new
+abbrev pub kept_text : (kept : Option (List Bool)) (layout : Layout) (new : Lengths) → Bytes
+kept_text None layout new = []
+kept_text (Some marks) layout new = marked_text marks layout new
 
 -- A remesh of a soup over a cut, with the lengths that are aimed at.
 abbrev pub fit_task : (fit : Fit) (soup : FaceSet) (asides : Asides) (cut : List Bool) → Task

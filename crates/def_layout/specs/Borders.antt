@@ -2,7 +2,7 @@
 use Rattle.std.specs.Prelude.{ℕ, ◌-◌}
 use Rattle.def_mesh.specs.HalfEdges.{HalfEdges}
 use Rattle.def_cut.specs.Grids.{Rectangle, cell_of}
-use Rattle.def_layout.specs.Layouts.{Way, south, east, north, west}
+use Rattle.def_layout.specs.Gluings.{Way, south, east, north, west}
 
 -- How many cells a side has.
 abbrev pub side_size : (patch : Rectangle) (side : Way) → ℕ

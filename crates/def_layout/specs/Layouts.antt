@@ -1,73 +1,87 @@
--- Layouts as data: neither a mesh nor a length is meant.
-use Rattle.std.specs.Prelude.{◌≡◌, ℕ, zero, suc, ◌-◌, ◌<◌, cond, not}
+-- The layout of a mesh and a cut.
+use Rattle.std.specs.Prelude.{◌≡◌, ℕ, suc, ◌+◌, ◌<◌, Bool, List, [], filter, map, length, slice_index, slice_index_or}
+use Rattle.std.specs.Prelude.{true}
+use Rattle.std.specs.List.{range_with_len}
+use Rattle.def_mesh.specs.HalfEdges.{HalfEdges}
+use Rattle.def_cut.specs.Cuts.{Cut}
+use Rattle.def_cut.specs.Grids.{Rectangle, rectangle, patch_at, IsPartition}
+use Rattle.def_layout.specs.Arcs.{end_vertex, Path, path, path_at, dart_at, long_at, LiesAt, AreArcs}
+use Rattle.def_layout.specs.Borders.{side_size, border_dart}
+use Rattle.def_layout.specs.Gluings.{Way, south, east, north, west, Gluing, Slot, IsSlot, use_of}
+use Rattle.def_layout.specs.Lengths.{reach, size}
+use Rattle.def_layout.specs.declared.tmesh.Side.{Side}
 use Rattle.def_layout.specs.declared.tmesh.SideArc.{SideArc}
+use Rattle.def_layout.specs.declared.tmesh.TMesh.{TMesh}
 
--- The sides of a patch.
-pub data Way : Type 0 where
-  south : Way
-  east : Way
-  north : Way
-  west : Way
+-- The arcs along each of the four sides of each patch.
+abbrev pub PatchSides : Type 0
+PatchSides = List (List (List SideArc))
 
--- The next side, counter-clockwise.
-abbrev pub side_after : (side : Way) → Way
-side_after south = east
-side_after east = north
-side_after north = west
-side_after west = south
-
--- The side before it.
-abbrev pub side_before : (side : Way) → Way
-side_before south = west
-side_before east = south
-side_before north = east
-side_before west = north
-
--- A layout has so many nodes, arcs and patches. Each arc runs from its first node to its last one. A side of a patch
--- uses so many arcs, one after the other, counter-clockwise, each in its own direction or against it.
+-- A layout of a mesh as contracts see it.
 pub record Layout : Type 0 where
-  pub nodes : ℕ
-  pub arcs : ℕ
-  pub patches : ℕ
-  pub first : (arc : ℕ) → ℕ
-  pub last : (arc : ℕ) → ℕ
-  pub many : (patch : ℕ) (side : Way) → ℕ
-  pub use_at : (patch : ℕ) (side : Way) (at : ℕ) → SideArc
+  pub nodes : List ℕ
+  pub arcs : List Path
+  pub patches : List Rectangle
+  pub sides : PatchSides
 
--- The node where an arc in use begins.
-abbrev pub start_node : (layout : Layout) (arc : SideArc) → ℕ
-start_node layout arc = cond arc.forward (layout.first arc.arc) (layout.last arc.arc)
+-- The layout that the code's tables hold.
+abbrev pub layout_of : (tmesh : TMesh) → Layout
+layout_of tmesh = record {
+  nodes = tmesh.nodes.items;
+  arcs = map path tmesh.arcs.items;
+  patches = map rectangle tmesh.patches.items;
+  sides = map (λ four. map (λ (side : Side). side.arcs.items) four) tmesh.sides.items;
+}
 
--- The node where it ends.
-abbrev pub end_node : (layout : Layout) (arc : SideArc) → ℕ
-end_node layout arc = cond arc.forward (layout.last arc.arc) (layout.first arc.arc)
+-- The place of a side among the four.
+abbrev pub way_number : (side : Way) → ℕ
+way_number south = 0
+way_number east = 1
+way_number north = 2
+way_number west = 3
 
--- One arc used in both directions.
-pub record AreReverse (one other : SideArc) : Type 0 where
-  pub arc : other.arc ≡ one.arc
-  pub turned : other.forward ≡ not one.forward
+-- The arcs of a side of a patch.
+abbrev pub side_at : (layout : Layout) (patch : ℕ) (side : Way) → List SideArc
+side_at layout patch side = slice_index_or (slice_index_or layout.sides patch []) (way_number side) []
 
--- A place where a side uses an arc: the side of a patch, and the number of the arc on it.
-pub record Slot : Type 0 where
-  pub patch : ℕ
-  pub side : Way
-  pub at : ℕ
+-- The vertex of a node.
+abbrev pub vertex_at : (layout : Layout) (node : ℕ) → ℕ
+vertex_at layout node = slice_index layout.nodes node
 
--- A slot of a layout.
-pub record IsSlot (layout : Layout) (slot : Slot) : Type 0 where
-  pub patch_low : slot.patch < layout.patches
-  pub low : slot.at < layout.many slot.patch slot.side
+-- What is left when the mesh is forgotten.
+abbrev pub gluing_of : (layout : Layout) → Gluing
+gluing_of layout = record {
+  nodes = length layout.nodes;
+  arcs = length layout.arcs;
+  patches = length layout.patches;
+  first = λ arc. (path_at layout.arcs arc).first;
+  last = λ arc. (path_at layout.arcs arc).last;
+  many = λ patch side. length (side_at layout patch side);
+  use_at = λ patch side at. slice_index_or (side_at layout patch side) at (record { arc = 0; forward = true });
+}
 
--- The arc that is used there.
-abbrev pub use_of : (layout : Layout) (slot : Slot) → SideArc
-use_of layout slot = layout.use_at slot.patch slot.side slot.at
-
--- The slot before that at a place of a side, going round the patch.
-abbrev pub slot_before : (layout : Layout) (patch : ℕ) (side : Way) (at : ℕ) → Slot
-slot_before layout patch side zero =
-    record { patch = patch; side = side_before side; at = layout.many patch (side_before side) - 1 }
-slot_before layout patch side (suc at) = record { patch = patch; side = side; at = at }
-
--- The arc that is used before a slot, going round the patch.
-abbrev pub use_before : (layout : Layout) (slot : Slot) → SideArc
-use_before layout slot = use_of layout (slot_before layout slot.patch slot.side slot.at)
+-- The layout of a cut mesh with these nodes among its first `vertices` vertices. Dart d lies in face `face_of d`.
+pub record IsDartLayout
+    (mesh : HalfEdges) (cut : Cut) (node : ℕ → Bool) (face_of : ℕ → ℕ) (vertices : ℕ) (layout : Layout) : Type 0 where
+  pub patches : IsPartition mesh cut face_of layout.patches
+  pub nodes : layout.nodes ≡ filter node (range_with_len 0 vertices)
+  pub arcs : AreArcs mesh cut node layout.arcs
+  -- An arc runs from its first node to its last one.
+  pub first_low : (arc : ℕ) → arc < length layout.arcs → (path_at layout.arcs arc).first < length layout.nodes
+  pub last_low : (arc : ℕ) → arc < length layout.arcs → (path_at layout.arcs arc).last < length layout.nodes
+  pub first_at : (arc : ℕ) → arc < length layout.arcs
+      → vertex_at layout (path_at layout.arcs arc).first ≡ mesh.from (dart_at layout.arcs arc 0)
+  pub last_at : (arc k : ℕ) → arc < length layout.arcs → suc k ≡ long_at layout.arcs arc
+      → vertex_at layout (path_at layout.arcs arc).last ≡ end_vertex mesh (dart_at layout.arcs arc k)
+  -- Each patch has four sides, whose arcs make up its border, one after the other.
+  pub sided : length layout.sides ≡ length layout.patches
+  pub four : (patch : ℕ) → patch < length layout.patches → length (slice_index_or layout.sides patch []) ≡ 4
+  pub sizes : (patch : ℕ) (side : Way) → patch < length layout.patches
+      → size (gluing_of layout) (long_at layout.arcs) patch side ≡ side_size (patch_at layout.patches patch) side
+  pub uses : (slot : Slot) → IsSlot (gluing_of layout) slot → (use_of (gluing_of layout) slot).arc < length layout.arcs
+  pub used : (slot : Slot) (offset : ℕ) → IsSlot (gluing_of layout) slot
+      → offset < long_at layout.arcs (use_of (gluing_of layout) slot).arc
+      → LiesAt mesh (path_at layout.arcs (use_of (gluing_of layout) slot).arc).darts
+      (use_of (gluing_of layout) slot).forward offset
+      (border_dart mesh (patch_at layout.patches slot.patch) slot.side
+      (reach (gluing_of layout) (long_at layout.arcs) slot.patch slot.side slot.at + offset))

@@ -1,4 +1,4 @@
-pub mod Layouts
+pub mod Gluings
 pub mod Surfaces
 pub mod Fans
 pub mod Lengths
@@ -7,6 +7,6 @@ pub mod Embeddings
 pub mod Arcs
 pub mod Nodes
 pub mod Borders
-pub mod Plans
+pub mod Layouts
 pub mod NodeLaws
 pub mod FaceLayouts

@@ -6,7 +6,7 @@ use Rattle.def_flow.specs.declared.net.End.{End}
 use Rattle.def_flow.specs.declared.net.Settings.{Settings}
 use Rattle.def_flow.specs.declared.net.Weight.{Weight}
 use Rattle.def_flow.specs.declared.net.Weight.TheVariants.{Plain, Length}
-use Rattle.def_layout.specs.Layouts.{Way, south, east, north, west, Layout, Slot, IsSlot, use_of}
+use Rattle.def_layout.specs.Gluings.{Way, south, east, north, west, Gluing, Slot, IsSlot, use_of}
 use Rattle.def_layout.specs.Lengths.{Lengths}
 use Rattle.def_layoutnet.specs.declared.NetFail.{NetFail}
 use Rattle.def_layoutnet.specs.declared.NetFail.TheVariants as fail
@@ -47,31 +47,31 @@ pub record AreSettings (settings : Settings) : Type 0 where
 -- deviate, and these floors. Its arcs are those of the layout. The left end of an arc is on the side that uses it in
 -- its own direction, the right end on the side that uses it in the other, if there is one.
 pub record IsNetOf
-    (layout : Layout) (old wish : Lengths) (settings : Settings) (floor : Lengths) (net : Network)
+    (gluing : Gluing) (old wish : Lengths) (settings : Settings) (floor : Lengths) (net : Network)
     : Type 0 where
-  pub nodes : net.nodes ≡ 2 * layout.patches
+  pub nodes : net.nodes ≡ 2 * gluing.patches
   pub p : net.p ≡ settings.p
   pub q : net.q ≡ settings.q
-  pub long : length net.arcs ≡ layout.arcs
-  pub olds : (a : ℕ) → a < layout.arcs → (arc_at net.arcs a).old ≡ wish a
-  pub weights : (a : ℕ) → a < layout.arcs → (arc_at net.arcs a).weight ≡ weight_of settings.weight (old a)
-  pub floors : (a : ℕ) → a < layout.arcs → (arc_at net.arcs a).floor ≡ floor a
-  pub left : (w : Slot) → IsSlot layout w → (use_of layout w).forward ≡ true
-      → (arc_at net.arcs (use_of layout w).arc).left ≡ end_at w.patch w.side
-  pub right : (w : Slot) → IsSlot layout w → (use_of layout w).forward ≡ false
-      → (arc_at net.arcs (use_of layout w).arc).right ≡ Some (end_at w.patch w.side)
-  pub alone : (a : ℕ) → a < layout.arcs
-      → ((w : Slot) → IsSlot layout w → (use_of layout w).arc ≡ a → (use_of layout w).forward ≡ true)
+  pub long : length net.arcs ≡ gluing.arcs
+  pub olds : (a : ℕ) → a < gluing.arcs → (arc_at net.arcs a).old ≡ wish a
+  pub weights : (a : ℕ) → a < gluing.arcs → (arc_at net.arcs a).weight ≡ weight_of settings.weight (old a)
+  pub floors : (a : ℕ) → a < gluing.arcs → (arc_at net.arcs a).floor ≡ floor a
+  pub left : (w : Slot) → IsSlot gluing w → (use_of gluing w).forward ≡ true
+      → (arc_at net.arcs (use_of gluing w).arc).left ≡ end_at w.patch w.side
+  pub right : (w : Slot) → IsSlot gluing w → (use_of gluing w).forward ≡ false
+      → (arc_at net.arcs (use_of gluing w).arc).right ≡ Some (end_at w.patch w.side)
+  pub alone : (a : ℕ) → a < gluing.arcs
+      → ((w : Slot) → IsSlot gluing w → (use_of gluing w).arc ≡ a → (use_of gluing w).forward ≡ true)
       → (arc_at net.arcs a).right ≡ None
 
 -- A network of the layout, with a tangle number that is too great.
-pub record IsTangled (layout : Layout) (old wish : Lengths) (settings : Settings) (count : ℕ) : Type 0 where
+pub record IsTangled (gluing : Gluing) (old wish : Lengths) (settings : Settings) (count : ℕ) : Type 0 where
   pub net : Network
-  pub is : IsNetOf layout old wish settings (λ a. settings.floor) net
+  pub is : IsNetOf gluing old wish settings (λ a. settings.floor) net
   pub told : count ≡ tangle_number net
   pub high : MAX_TANGLE < count
 
 -- Why a layout has no network, where there is memory.
-abbrev pub HasNoNet : (layout : Layout) (old wish : Lengths) (settings : Settings) (fail : NetFail) → Type 0
-HasNoNet layout old wish settings (fail.Tangled count) = IsTangled layout old wish settings count
-HasNoNet layout old wish settings fail.Memory = ⊤
+abbrev pub HasNoNet : (gluing : Gluing) (old wish : Lengths) (settings : Settings) (fail : NetFail) → Type 0
+HasNoNet gluing old wish settings (fail.Tangled count) = IsTangled gluing old wish settings count
+HasNoNet gluing old wish settings fail.Memory = ⊤

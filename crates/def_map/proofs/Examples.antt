@@ -1,7 +1,7 @@
 -- The text of where new vertices and faces lie, computed on a square and on two squares in a row.
 use Rattle.std.proofs.Common.{◌≡◌, ℕ, true, [], ◌∷◌, ◌++◌, refl}
 use Rattle.std.specs.{Prelude.codes, Prelude.None, Prelude.Some, Fmt.digits}
-use Rattle.def_layout.specs.{Plans.Plan, declared.tmesh.SideArc.SideArc}
+use Rattle.def_layout.specs.{Layouts.Layout, declared.tmesh.SideArc.SideArc}
 use Rattle.def_remesh.specs.NewPoints.{lengths_in}
 use Rattle.def_text.specs.FaceSet.{FaceSet}
 use Rattle.def_map.specs.MapText.{map_text}
@@ -13,8 +13,8 @@ abbrev ahead : (arc : ℕ) → SideArc
 ahead a = record { arc = a; forward = true }
 
 -- Its four edges are arcs round one patch.
-abbrev square_plan : Plan
-square_plan = record {
+abbrev square_layout : Layout
+square_layout = record {
   nodes = 0 ∷ 1 ∷ 2 ∷ 3 ∷ [];
   arcs = record { first = 0; last = 1; darts = 0 ∷ [] } ∷ record { first = 1; last = 2; darts = 1 ∷ [] } ∷
       record { first = 2; last = 3; darts = 2 ∷ [] } ∷ record { first = 3; last = 0; darts = 3 ∷ [] } ∷ [];
@@ -30,8 +30,8 @@ strip = record {
   names = 1 ∷ 3 ∷ 4 ∷ 5 ∷ 6 ∷ 8 ∷ [];
 }
 
-abbrev strip_plan : Plan
-strip_plan = record {
+abbrev strip_layout : Layout
+strip_layout = record {
   nodes = 0 ∷ 2 ∷ 3 ∷ 5 ∷ [];
   arcs = record { first = 0; last = 1; darts = 0 ∷ 5 ∷ [] } ∷ record { first = 3; last = 2; darts = 7 ∷ 2 ∷ [] } ∷
       record { first = 2; last = 0; darts = 3 ∷ [] } ∷ record { first = 1; last = 3; darts = 6 ∷ [] } ∷ [];
@@ -40,7 +40,7 @@ strip_plan = record {
 }
 
 -- Each edge is divided in two.
-square_doubled : map_text square square_plan None (lengths_in (2 ∷ 2 ∷ 2 ∷ 2 ∷ [])) ≡
+square_doubled : map_text square square_layout None (lengths_in (2 ∷ 2 ∷ 2 ∷ 2 ∷ [])) ≡
     codes "quadq map 1\n" ++
     codes "vertices 9 faces 4\n" ++
     codes "vertex 1\n" ++
@@ -60,7 +60,7 @@ unfolding digits
 square_doubled = refl
 
 -- Three faces for two. Parameters and their means are rounded down, so the middle one lies in the face to the west.
-strip_thirds : map_text strip strip_plan None (lengths_in (3 ∷ 3 ∷ 1 ∷ 1 ∷ [])) ≡
+strip_thirds : map_text strip strip_layout None (lengths_in (3 ∷ 3 ∷ 1 ∷ 1 ∷ [])) ≡
     codes "quadq map 1\n" ++
     codes "vertices 8 faces 3\n" ++
     codes "vertex 1\n" ++
@@ -78,7 +78,7 @@ unfolding digits
 strip_thirds = refl
 
 -- One face for two. Its middle lies on the edge between them, so it lies in the face to the east, and reaches out.
-strip_whole : map_text strip strip_plan None (lengths_in (1 ∷ 1 ∷ 1 ∷ 1 ∷ [])) ≡
+strip_whole : map_text strip strip_layout None (lengths_in (1 ∷ 1 ∷ 1 ∷ 1 ∷ [])) ≡
     codes "quadq map 1\n" ++
     codes "vertices 4 faces 1\n" ++
     codes "vertex 1\n" ++
@@ -90,7 +90,7 @@ unfolding digits
 strip_whole = refl
 
 -- Four columns and two rows: inner points of arcs that lie at old vertices.
-strip_doubled : map_text strip strip_plan None (lengths_in (4 ∷ 4 ∷ 2 ∷ 2 ∷ [])) ≡
+strip_doubled : map_text strip strip_layout None (lengths_in (4 ∷ 4 ∷ 2 ∷ 2 ∷ [])) ≡
     codes "quadq map 1\n" ++
     codes "vertices 15 faces 8\n" ++
     codes "vertex 1\n" ++
@@ -120,7 +120,7 @@ unfolding digits
 strip_doubled = refl
 
 -- The same by shares: the second half of the south edge has three quarters of them, and the north edge has none.
-strip_shared : map_text strip strip_plan (Some (1000 ∷ 0 ∷ 0 ∷ 0 ∷ 0 ∷ 3000 ∷ 0 ∷ 0 ∷ []))
+strip_shared : map_text strip strip_layout (Some (1000 ∷ 0 ∷ 0 ∷ 0 ∷ 0 ∷ 3000 ∷ 0 ∷ 0 ∷ []))
     (lengths_in (3 ∷ 3 ∷ 1 ∷ 1 ∷ [])) ≡
     codes "quadq map 1\n" ++
     codes "vertices 8 faces 3\n" ++

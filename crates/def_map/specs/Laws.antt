@@ -2,7 +2,7 @@
 use Rattle.std.specs.Prelude.{◌≡◌, ℕ, ◌<◌, List, Option}
 use Rattle.def_layout.specs.Arcs.{long_at}
 use Rattle.def_layout.specs.Lengths.{Lengths, AreLengths}
-use Rattle.def_layout.specs.Plans.{Plan, layout_of}
+use Rattle.def_layout.specs.Layouts.{Layout, gluing_of}
 use Rattle.def_mesh.specs.Darts.{darts}
 use Rattle.def_mesh.specs.Faces.{Faces}
 use Rattle.def_mesh.specs.Vertices.{vertex_count}
@@ -27,9 +27,10 @@ IsSpot faces (InFace spot) = (spot.dart < darts faces) × (spot.s < ONE) × (spo
 
 -- Each new vertex lies in the old mesh, and the place that is computed from where it lies is its place.
 abbrev pub SpotLaw : Type 0
-SpotLaw = (faces : Faces) (plan : Plan) (shares : Option (List ℕ)) (new : Lengths) → IsMeshLayout faces plan
-    → AreLengths (layout_of plan) new → IsSpacing (layout_of plan) (long_at plan.arcs) new (spacing_by plan shares new)
-    → (v : ℕ) → v < vertices (layout_of plan) new
-    → IsSpot faces (spot_at plan shares new v)
+SpotLaw = (faces : Faces) (layout : Layout) (shares : Option (List ℕ)) (new : Lengths) → IsMeshLayout faces layout
+    → AreLengths (gluing_of layout) new
+    → IsSpacing (gluing_of layout) (long_at layout.arcs) new (spacing_by layout shares new)
+    → (v : ℕ) → v < vertices (gluing_of layout) new
+    → IsSpot faces (spot_at layout shares new v)
     × ((places : Positions)
-    → spot_place faces places (spot_at plan shares new v) ≡ spaced_place faces plan places shares new v)
+    → spot_place faces places (spot_at layout shares new v) ≡ spaced_place faces layout places shares new v)

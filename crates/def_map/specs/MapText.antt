@@ -18,7 +18,7 @@ use Rattle.std.specs.Fmt.{signed_decimal}
 use Rattle.std.specs.List.{flat_map, range_with_len}
 use Rattle.def_io.specs.Bytes.{Bytes}
 use Rattle.def_layout.specs.Lengths.{Lengths}
-use Rattle.def_layout.specs.Plans.{Plan, layout_of}
+use Rattle.def_layout.specs.Layouts.{Layout, gluing_of}
 use Rattle.def_mesh.specs.Darts.{from_of, to_of}
 use Rattle.def_mesh.specs.Faces.{Faces}
 use Rattle.def_text.specs.FaceSet.{FaceSet}
@@ -88,18 +88,18 @@ map_head vertices faces =
     codes "quadq map 1\nvertices " ++ decimal vertices ++ codes " faces " ++ decimal faces ++ codes "\n"
 
 -- The lines of all new vertices, by number.
-abbrev pub vertex_lines : (faces : Faces) (names : List ℕ) (plan : Plan) (shares : Option (List ℕ)) (new : Lengths)
+abbrev pub vertex_lines : (faces : Faces) (names : List ℕ) (layout : Layout) (shares : Option (List ℕ)) (new : Lengths)
     → Bytes
-vertex_lines faces names plan shares new = flat_map (spot_line faces names)
-    (map (spot_at plan shares new) (range_with_len 0 (vertices (layout_of plan) new)))
+vertex_lines faces names layout shares new = flat_map (spot_line faces names)
+    (map (spot_at layout shares new) (range_with_len 0 (vertices (gluing_of layout) new)))
 
 -- Those of all new faces.
-abbrev pub cell_lines : (plan : Plan) (shares : Option (List ℕ)) (new : Lengths) → Bytes
-cell_lines plan shares new =
-    flat_map cell_line (map (home_at plan shares new) (range_with_len 0 (face_count (layout_of plan) new)))
+abbrev pub cell_lines : (layout : Layout) (shares : Option (List ℕ)) (new : Lengths) → Bytes
+cell_lines layout shares new =
+    flat_map cell_line (map (home_at layout shares new) (range_with_len 0 (face_count (gluing_of layout) new)))
 
 -- The whole text.
-abbrev pub map_text : (soup : FaceSet) (plan : Plan) (shares : Option (List ℕ)) (new : Lengths) → Bytes
-map_text soup plan shares new =
-    map_head (vertices (layout_of plan) new) (face_count (layout_of plan) new)
-    ++ (vertex_lines soup.faces soup.names plan shares new ++ cell_lines plan shares new)
+abbrev pub map_text : (soup : FaceSet) (layout : Layout) (shares : Option (List ℕ)) (new : Lengths) → Bytes
+map_text soup layout shares new =
+    map_head (vertices (gluing_of layout) new) (face_count (gluing_of layout) new)
+    ++ (vertex_lines soup.faces soup.names layout shares new ++ cell_lines layout shares new)

@@ -9,8 +9,8 @@ use Rattle.def_cut.specs.Grids.{patch_at, IsPartition, Rectangle}
 use Rattle.def_layout.specs.Arcs.{long_at}
 use Rattle.def_layout.specs.Borders.{border_dart}
 use Rattle.def_layout.specs.FaceLayouts.{IsCutLayout}
-use Rattle.def_layout.specs.Layouts.{Slot, use_of}
-use Rattle.def_layout.specs.Plans.{layout_of, Plan}
+use Rattle.def_layout.specs.Gluings.{Slot, use_of}
+use Rattle.def_layout.specs.Layouts.{gluing_of, Layout}
 use Rattle.def_merge.specs.Joins.{IsJoinable, IsOnArc, IsWithout}
 use Rattle.def_merge.specs.Merged.{IsMergedBy, MayLeave}
 use Rattle.def_merge.specs.Layouts.{IsJoinableAt}
@@ -45,9 +45,9 @@ MergedLaw = (faces : Faces) (may : MayLeave) (marks : List Bool) → IsManifold 
 
 -- What is joinable in a layout is joinable in its cut, at the sides where it lies.
 abbrev pub JoinableLaw : Type 0
-JoinableLaw = (faces : Faces) (marks : List Bool) (plan : Plan) → IsManifold faces → IsFullCut faces marks
-    → IsCutLayout faces marks plan → (one other : Slot) → IsJoinableAt (layout_of plan) one other
+JoinableLaw = (faces : Faces) (marks : List Bool) (layout : Layout) → IsManifold faces → IsFullCut faces marks
+    → IsCutLayout faces marks layout → (one other : Slot) → IsJoinableAt (gluing_of layout) one other
     → IsJoinable (half_edges faces) (is_on marks)
-    (border_dart (half_edges faces) (patch_at plan.patches one.patch) one.side 0)
-    (border_dart (half_edges faces) (patch_at plan.patches other.patch) other.side 0)
-    (long_at plan.arcs (use_of (layout_of plan) one).arc)
+    (border_dart (half_edges faces) (patch_at layout.patches one.patch) one.side 0)
+    (border_dart (half_edges faces) (patch_at layout.patches other.patch) other.side 0)
+    (long_at layout.arcs (use_of (gluing_of layout) one).arc)

@@ -2,7 +2,7 @@
 use Rattle.std.specs.Prelude.{◌≡◌, ℕ, ◌<◌, ◌≤◌, ⊤}
 use Rattle.def_certtext.specs.declared.certs.Rising.TheVariants.{Never}
 use Rattle.def_flow.specs.declared.net.Settings.{Settings}
-use Rattle.def_layout.specs.Plans.{Plan}
+use Rattle.def_layout.specs.Layouts.{Layout}
 use Rattle.def_layoutnet.specs.declared.NetFail.{NetFail}
 use Rattle.def_layoutnet.specs.declared.NetFail.TheVariants as nets
 use Rattle.def_remesh.specs.Refusals.{IsLayoutFail, IsTangledAt}
@@ -16,13 +16,13 @@ use Rattle.def_metric.specs.declared.fail.SizeFail.TheVariants as sizes
 use Rattle.def_metric.specs.declared.limits.TheConstants.{MAX_TARGETS}
 
 -- The targets add up to no more than the limit.
-abbrev pub AreNear : (wish : Wish) (plan : Plan) → Type 0
-AreNear wish plan = wish_sum wish plan ≤ MAX_TARGETS
+abbrev pub AreNear : (wish : Wish) (layout : Layout) → Type 0
+AreNear wish layout = wish_sum wish layout ≤ MAX_TARGETS
 
 -- They add up to this sum, which is too great, and their network is not too tangled.
-pub record IsFar (wish : Wish) (plan : Plan) (settings : Settings) (sum : ℕ) : Type 0 where
-  pub untangled : (count : ℕ) → ¬ IsTangledAt wish plan settings count
-  pub told : sum ≡ wish_sum wish plan
+pub record IsFar (wish : Wish) (layout : Layout) (settings : Settings) (sum : ℕ) : Type 0 where
+  pub untangled : (count : ℕ) → ¬ IsTangledAt wish layout settings count
+  pub told : sum ≡ wish_sum wish layout
   pub high : MAX_TARGETS < sum
 
 -- A layout that has no network at all has none for them.
@@ -37,9 +37,10 @@ size_fail_of (Far sum) = sizes.Far sum
 size_fail_of Memory = sizes.Layout layouts.Memory
 
 -- Why it is not remeshed: it has no network, or least lengths give too many faces or double an edge.
-abbrev pub IsSizeFail : (wish : Wish) (plan : Plan) (floor : ℕ) (fail : SizeFail) → Type 0
-IsSizeFail wish plan floor (sizes.Far sum) = IsFar wish plan (edge_settings floor) sum
-IsSizeFail wish plan floor (sizes.Layout (layouts.Tangled count)) = IsTangledAt wish plan (edge_settings floor) count
-IsSizeFail wish plan floor (sizes.Layout layouts.Memory) = ⊤
-IsSizeFail wish plan floor (sizes.Layout failed) =
-    AreNear wish plan × IsLayoutFail wish plan (edge_settings floor) Never failed
+abbrev pub IsSizeFail : (wish : Wish) (layout : Layout) (floor : ℕ) (fail : SizeFail) → Type 0
+IsSizeFail wish layout floor (sizes.Far sum) = IsFar wish layout (edge_settings floor) sum
+IsSizeFail wish layout floor (sizes.Layout (layouts.Tangled count)) =
+    IsTangledAt wish layout (edge_settings floor) count
+IsSizeFail wish layout floor (sizes.Layout layouts.Memory) = ⊤
+IsSizeFail wish layout floor (sizes.Layout failed) =
+    AreNear wish layout × IsLayoutFail wish layout (edge_settings floor) Never failed

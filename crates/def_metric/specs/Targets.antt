@@ -6,7 +6,7 @@ use Rattle.def_mesh.specs.Faces.{Faces}
 use Rattle.def_flow.specs.declared.net.Settings.{Settings}
 use Rattle.def_flow.specs.declared.net.Weight.TheVariants.{Plain}
 use Rattle.def_layout.specs.Arcs.{path_at}
-use Rattle.def_layout.specs.Plans.{Plan}
+use Rattle.def_layout.specs.Layouts.{Layout}
 use Rattle.def_remesh.specs.Placings.{coordinate_in}
 use Rattle.def_remesh.specs.Tasks.{Wish}
 use Rattle.def_text.specs.Types.{Position, Positions}
@@ -40,11 +40,11 @@ target_of faces places edge darts = EDGE_PARTS * measure_of faces places darts /
 
 -- The targets of all arcs of a layout.
 abbrev pub targets : (faces : Faces) (places : Positions) (edge : ℕ) → Wish
-targets faces places edge plan arc = target_of faces places edge (path_at plan.arcs arc).darts
+targets faces places edge layout arc = target_of faces places edge (path_at layout.arcs arc).darts
 
 -- Their sum.
-abbrev pub wish_sum : (wish : Wish) (plan : Plan) → ℕ
-wish_sum wish plan = count_below (wish plan) (length plan.arcs)
+abbrev pub wish_sum : (wish : Wish) (layout : Layout) → ℕ
+wish_sum wish layout = count_below (wish layout) (length layout.arcs)
 
 -- Targets are in thousandths, and all arcs are weighed alike.
 abbrev pub edge_settings : (floor : ℕ) → Settings

@@ -56,10 +56,10 @@ impl From<NetFail> for MetricFail {
 
 impl From<AllocError> for SizeFail {
     ghost use Rattle.std.specs.Prelude.{◌≡◌};
-    ghost use Rattle.def_metric.specs.declared.fail.SizeFail.TheVariants.{Layout};
+    ghost use Rattle.def_metric.specs.declared.fail.SizeFail.TheVariants as sizes;
     ghost use Rattle.def_remesh.specs.declared.kept.LayoutFail.TheVariants as layouts;
 
-    ghost from_gives = { λ _ e. e ≡ Layout layouts.Memory };
+    ghost from_gives = { λ _ e. e ≡ sizes.Layout layouts.Memory };
 
     fn from(_: AllocError) -> SizeFail {
         SizeFail::Layout {
@@ -89,9 +89,9 @@ impl From<MetricFail> for SizeFail {
 
 impl From<LayoutFail> for SizeFail {
     ghost use Rattle.std.specs.Prelude.{◌≡◌};
-    ghost use Rattle.def_metric.specs.declared.fail.SizeFail.TheVariants.{Layout};
+    ghost use Rattle.def_metric.specs.declared.fail.SizeFail.TheVariants as sizes;
 
-    ghost from_gives = { λ fail e. e ≡ Layout fail };
+    ghost from_gives = { λ fail e. e ≡ sizes.Layout fail };
 
     fn from(fail: LayoutFail) -> SizeFail {
         SizeFail::Layout { fail }

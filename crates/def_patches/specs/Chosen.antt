@@ -4,7 +4,7 @@ use Rattle.def_mesh.specs.Darts.{darts}
 use Rattle.def_mesh.specs.Faces.{Faces}
 use Rattle.def_cut.specs.Traced.{traced_marks}
 use Rattle.def_layout.specs.FaceLayouts.{IsCutLayout}
-use Rattle.def_layout.specs.Plans.{Plan}
+use Rattle.def_layout.specs.Layouts.{Layout}
 use Rattle.def_feature.specs.Conforming.{IsConforming}
 use Rattle.def_feature.specs.Marked.{marked_cut}
 use Rattle.def_feature.specs.Marks.{AreMarks}
@@ -37,6 +37,6 @@ IsChosenCut faces None patches cut = IsPlainCut faces patches cut
 IsChosenCut faces (Some marks) patches cut = IsKeepingCut faces marks patches cut
 
 -- The layout of the cut that is chosen.
-abbrev pub IsChosenLayout : (faces : Faces) (kept : Option (List Bool)) (patches : Patches) (plan : Plan) → Type 0
-IsChosenLayout faces kept patches plan =
-    (cut : List Bool) × IsChosenCut faces kept patches cut × IsCutLayout faces cut plan
+abbrev pub IsChosenLayout : (faces : Faces) (kept : Option (List Bool)) (patches : Patches) (layout : Layout) → Type 0
+IsChosenLayout faces kept patches layout =
+    (cut : List Bool) × IsChosenCut faces kept patches cut × IsCutLayout faces cut layout

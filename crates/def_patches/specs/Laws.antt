@@ -6,9 +6,9 @@ use Rattle.def_mesh.specs.Manifold.{IsManifold}
 use Rattle.def_cut.specs.FullCut.{is_on, IsFullCut}
 use Rattle.def_cut.specs.Steps.{easts}
 use Rattle.def_layout.specs.Arcs.{IsRun}
-use Rattle.def_layout.specs.Layouts.{Way}
+use Rattle.def_layout.specs.Gluings.{Way}
 use Rattle.def_layout.specs.Nodes.{is_node}
-use Rattle.def_layout.specs.Plans.{layout_of, Plan}
+use Rattle.def_layout.specs.Layouts.{gluing_of, Layout}
 use Rattle.def_feature.specs.Beside.{IsCutBeside}
 use Rattle.def_feature.specs.Marks.{AreMarks}
 use Rattle.def_patches.specs.Chosen.{AreKeptMarks, IsChosenCut, IsChosenLayout}
@@ -50,6 +50,6 @@ NoMarksLaw = (faces : Faces) (marks : List Bool) (patches : Patches) (cut : List
 
 -- Each side of each patch of a conforming cut is one arc.
 abbrev pub OneArcLaw : Type 0
-OneArcLaw = (faces : Faces) (kept : Option (List Bool)) (plan : Plan) → IsManifold faces → AreKeptMarks faces kept
-    → IsChosenLayout faces kept Conforming plan → (patch : ℕ) (side : Way) → patch < length plan.patches
-    → (layout_of plan).many patch side ≡ 1
+OneArcLaw = (faces : Faces) (kept : Option (List Bool)) (layout : Layout) → IsManifold faces → AreKeptMarks faces kept
+    → IsChosenLayout faces kept Conforming layout → (patch : ℕ) (side : Way) → patch < length layout.patches
+    → (gluing_of layout).many patch side ≡ 1

@@ -10,7 +10,7 @@ use Rattle.def_io.specs.Bytes.{Bytes}
 use Rattle.def_io.specs.Lines.{lines_of}
 use Rattle.def_io.specs.declared.TheConstants.{LINE_FEED}
 use Rattle.def_layout.specs.Lengths.{Lengths}
-use Rattle.def_layout.specs.Plans.{layout_of, Plan}
+use Rattle.def_layout.specs.Layouts.{gluing_of, Layout}
 use Rattle.def_marks.specs.Chains.{is_chain, link_at, marks_along, runs_between}
 use Rattle.def_marks.specs.Lines.{line_chain, line_fails, marks_in, Placed}
 use Rattle.def_marks.specs.MarkedText.{arc_chain, chain_text, is_marked_arc, marked_text}
@@ -27,28 +27,28 @@ use Rattle.def_text.specs.declared.limits.TheConstants.{MAX_V_LINES}
 use Rattle.def_written.specs.NewFaces.{new_faces}
 
 -- Dart d of the new mesh runs between the vertices at places k and k + 1 of the chain of an arc.
-abbrev pub RunsOn : (plan : Plan) (new : Lengths) (arc k d : ℕ) → Type 0
-RunsOn plan new arc k d =
-    runs_between (new_faces (layout_of plan) new) (link_at (arc_chain (layout_of plan) new arc) k)
-    (link_at (arc_chain (layout_of plan) new arc) (k + 1)) d
+abbrev pub RunsOn : (layout : Layout) (new : Lengths) (arc k d : ℕ) → Type 0
+RunsOn layout new arc k d =
+    runs_between (new_faces (gluing_of layout) new) (link_at (arc_chain (gluing_of layout) new arc) k)
+    (link_at (arc_chain (gluing_of layout) new arc) (k + 1)) d
     ≡ true
 
 -- Each chain of an arc is one of edges of the new mesh; no edge is named twice, neither by one chain nor by two; and
 -- the chains of whichever arcs mark inner edges.
-pub record AreNewChains (plan : Plan) (new : Lengths) : Type 0 where
-  pub chain : (arc : ℕ) → arc < length plan.arcs
-      → is_chain (new_faces (layout_of plan) new) (arc_chain (layout_of plan) new arc) ≡ true
-  pub once : (arc k other m d : ℕ) → arc < length plan.arcs → other < length plan.arcs → k < new arc → m < new other
-      → RunsOn plan new arc k d → RunsOn plan new other m d → (arc ≡ other) × (k ≡ m)
-  pub marked : (arcs : List ℕ) → AreMarks (new_faces (layout_of plan) new)
-      (marks_along (new_faces (layout_of plan) new) (map (arc_chain (layout_of plan) new) arcs))
+pub record AreNewChains (layout : Layout) (new : Lengths) : Type 0 where
+  pub chain : (arc : ℕ) → arc < length layout.arcs
+      → is_chain (new_faces (gluing_of layout) new) (arc_chain (gluing_of layout) new arc) ≡ true
+  pub once : (arc k other m d : ℕ) → arc < length layout.arcs → other < length layout.arcs → k < new arc → m < new other
+      → RunsOn layout new arc k d → RunsOn layout new other m d → (arc ≡ other) × (k ≡ m)
+  pub marked : (arcs : List ℕ) → AreMarks (new_faces (gluing_of layout) new)
+      (marks_along (new_faces (gluing_of layout) new) (map (arc_chain (gluing_of layout) new) arcs))
 
 -- So are the chains of what a command wrote which finds least lengths: the `l` lines behind its new mesh name some of
 -- them.
 abbrev pub FinishedChainsLaw : Type 0
 FinishedChainsLaw = (command : Command) (bytes text : Bytes) (wrote : WritesFinished (asks_of command) bytes text)
     → AreInRange wrote.task.settings (may_rise wrote.task.rising)
-    → AreNewChains wrote.shown.finished.plan (lengths_in (used wrote.shown.finished.certificates).x)
+    → AreNewChains wrote.shown.finished.layout (lengths_in (used wrote.shown.finished.certificates).x)
 
 -- The line of a chain says this chain, where it is read behind the text of a mesh whose vertices are numbered from 1,
 -- and where it is one of edges of this mesh.
@@ -80,9 +80,9 @@ MarksAgainLaw = (front behind : Bytes) (soup : FaceSet) (chains : List (List ℕ
     ≡ Ok (marks_along soup.faces chains)
 
 -- The chains of the marked arcs of a layout, in order of arcs.
-abbrev pub marked_arc_chains : (marks : List Bool) (plan : Plan) (new : Lengths) → List (List ℕ)
-marked_arc_chains marks plan new =
-    map (arc_chain (layout_of plan) new) (filter (is_marked_arc marks plan) (range_with_len 0 (length plan.arcs)))
+abbrev pub marked_arc_chains : (marks : List Bool) (layout : Layout) (new : Lengths) → List (List ℕ)
+marked_arc_chains marks layout new =
+    map (arc_chain (gluing_of layout) new) (filter (is_marked_arc marks layout) (range_with_len 0 (length layout.arcs)))
 
 -- Where a command wrote the lines of marked arcs behind its new mesh, and its text is read as that mesh, its `l` lines
 -- are read as the marks along the chains of these arcs. Its head line begins with `#`.
@@ -93,4 +93,4 @@ FinishedMarksLaw = (command : Command) (bytes text : Bytes) (marks : List Bool)
     → soup_in text ≡ Ok (finished_soup wrote.task wrote.soup text wrote.shown.finished)
     → marks_in text (finished_soup wrote.task wrote.soup text wrote.shown.finished)
     ≡ Ok (marks_along (finished_soup wrote.task wrote.soup text wrote.shown.finished).faces
-    (marked_arc_chains marks wrote.shown.finished.plan (lengths_in (used wrote.shown.finished.certificates).x)))
+    (marked_arc_chains marks wrote.shown.finished.layout (lengths_in (used wrote.shown.finished.certificates).x)))

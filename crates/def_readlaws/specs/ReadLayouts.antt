@@ -6,7 +6,7 @@ use Rattle.def_fit.specs.FitTasks.{Asides, asides_in}
 use Rattle.def_fit.specs.declared.fit.Fit.{Fit as AnyFit}
 use Rattle.def_io.specs.Bytes.{Bytes}
 use Rattle.def_layout.specs.FaceLayouts.{IsCutLayout}
-use Rattle.def_layout.specs.Plans.{Plan}
+use Rattle.def_layout.specs.Layouts.{Layout}
 use Rattle.def_mesh.specs.Faces.{Faces}
 use Rattle.def_patches.specs.Chosen.{IsChosenCut, IsChosenLayout}
 use Rattle.def_patches.specs.declared.Patches.{Patches}
@@ -20,10 +20,10 @@ use Rattle.def_text.specs.FaceSet.{FaceSet}
 
 -- There is a layout to which the mesh of the bytes is cut by its motorcycle graph, which is a full cut, and no other.
 pub record HasOneTraced (bytes : Bytes) : Type 0 where
-  pub plan : Plan
-  pub traced : HasTracedLayout bytes plan
+  pub layout : Layout
+  pub traced : HasTracedLayout bytes layout
   pub full : IsFullCut traced.soup.faces (traced_marks traced.soup.faces)
-  pub alone : (other : Plan) → HasTracedLayout bytes other → other ≡ plan
+  pub alone : (other : Layout) → HasTracedLayout bytes other → other ≡ layout
 
 -- The bytes of a mesh have exactly one layout.
 abbrev pub OneTracedLaw : Type 0
@@ -31,12 +31,12 @@ OneTracedLaw = (bytes : Bytes) → HasMesh bytes → HasOneTraced bytes
 
 -- There is a layout of the chosen cut, which is a full cut, and no other.
 pub record HasOneChosen (faces : Faces) (kept : Option (List Bool)) (patches : Patches) : Type 0 where
-  pub plan : Plan
+  pub layout : Layout
   pub cut : List Bool
   pub chosen : IsChosenCut faces kept patches cut
   pub full : IsFullCut faces cut
-  pub laid : IsCutLayout faces cut plan
-  pub alone : (other : Plan) → IsChosenLayout faces kept patches other → other ≡ plan
+  pub laid : IsCutLayout faces cut layout
+  pub alone : (other : Layout) → IsChosenLayout faces kept patches other → other ≡ layout
 
 -- The bytes of a mesh have exactly one layout for each fit, where no line that it looks at is refused.
 abbrev pub OneChosenLaw : Type 0

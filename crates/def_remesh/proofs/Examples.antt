@@ -1,7 +1,7 @@
 -- The definitions of the new soup and of its places, computed on a square and on the stepped cylinder.
 use Rattle.std.proofs.Common.{◌≡◌, ℕ, true, false, [], ◌∷◌, map, ℤ, pos, None, refl}
 use Rattle.std.specs.Prelude.{neg_ℤ}
-use Rattle.def_layout.specs.{declared.tmesh.SideArc.SideArc, Plans.Plan, Arcs.long_at}
+use Rattle.def_layout.specs.{declared.tmesh.SideArc.SideArc, Layouts.Layout, Arcs.long_at}
 use Rattle.def_text.specs.{FaceSet.FaceSet, Types.Position, Types.Positions}
 use Rattle.def_remesh.specs.{NewSoup.new_places, NewSoup.new_soup, NewPoints.lengths_in, NewPoints.multiple_of}
 use Rattle.def_remesh.specs.{Refined.refined_faces, Spaced.shares_along}
@@ -19,8 +19,8 @@ abbrev ahead : (arc : ℕ) → SideArc
 ahead a = record { arc = a; forward = true }
 
 -- Its four edges are arcs round one patch.
-abbrev plan : Plan
-plan = record {
+abbrev layout : Layout
+layout = record {
   nodes = 0 ∷ 1 ∷ 2 ∷ 3 ∷ [];
   arcs = record { first = 0; last = 1; darts = 0 ∷ [] } ∷ record { first = 1; last = 2; darts = 1 ∷ [] } ∷
       record { first = 2; last = 3; darts = 2 ∷ [] } ∷ record { first = 3; last = 0; darts = 3 ∷ [] } ∷ [];
@@ -28,7 +28,7 @@ plan = record {
   sides = ((ahead 0 ∷ []) ∷ (ahead 1 ∷ []) ∷ (ahead 2 ∷ []) ∷ (ahead 3 ∷ []) ∷ []) ∷ [];
 }
 
-square_soup : new_soup square plan (multiple_of 2 (long_at plan.arcs)) ≡ record {
+square_soup : new_soup square layout (multiple_of 2 (long_at layout.arcs)) ≡ record {
   pos = (pos 0 ∷ pos 0 ∷ pos 0 ∷ []) ∷ (pos 2000000 ∷ pos 0 ∷ pos 0 ∷ []) ∷
       (pos 2000000 ∷ pos 2000000 ∷ pos 0 ∷ []) ∷ (pos 0 ∷ pos 2000000 ∷ pos 0 ∷ []) ∷
       (pos 1000000 ∷ pos 0 ∷ pos 0 ∷ []) ∷ (pos 2000000 ∷ pos 1000000 ∷ pos 0 ∷ []) ∷
@@ -39,7 +39,7 @@ square_soup : new_soup square plan (multiple_of 2 (long_at plan.arcs)) ≡ recor
 }
 square_soup = refl
 
-square_faces : refined_faces 1000 plan ≡ 1000000
+square_faces : refined_faces 1000 layout ≡ 1000000
 square_faces = refl
 
 abbrev minus : (n : ℕ) → ℤ
@@ -53,7 +53,7 @@ abbrev large : Positions
 large = at (pos 0) (pos 0) (pos 0) ∷ at (pos 3000000) (pos 0) (pos 0) ∷
     at (pos 3000000) (pos 3000000) (pos 0) ∷ at (pos 0) (pos 3000000) (pos 0) ∷ []
 
-large_places : new_places square.faces plan large None (multiple_of 3 (long_at plan.arcs)) ≡
+large_places : new_places square.faces layout large None (multiple_of 3 (long_at layout.arcs)) ≡
     at (pos 0) (pos 0) (pos 0) ∷ at (pos 3000000) (pos 0) (pos 0) ∷ at (pos 3000000) (pos 3000000) (pos 0) ∷
     at (pos 0) (pos 3000000) (pos 0) ∷ at (pos 1000000) (pos 0) (pos 0) ∷ at (pos 2000000) (pos 0) (pos 0) ∷
     at (pos 3000000) (pos 1000000) (pos 0) ∷ at (pos 3000000) (pos 2000000) (pos 0) ∷
@@ -98,7 +98,7 @@ cylinder = record {
   names = [];
 }
 
-abbrev steps : Plan
+abbrev steps : Layout
 steps = record {
   nodes = 0 ∷ 3 ∷ 18 ∷ 21 ∷ 32 ∷ 35 ∷ [];
   arcs = record { first = 0; last = 1; darts = 0 ∷ 4 ∷ 8 ∷ [] } ∷

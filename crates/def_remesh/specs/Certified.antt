@@ -5,7 +5,7 @@ use Rattle.def_flow.specs.Accepted.{Certificate, IsAccepted}
 use Rattle.def_flow.specs.declared.net.Settings.{Settings}
 use Rattle.def_io.specs.Bytes.{Bytes}
 use Rattle.def_layout.specs.Lengths.{Lengths}
-use Rattle.def_layout.specs.Plans.{Plan}
+use Rattle.def_layout.specs.Layouts.{Layout}
 use Rattle.def_text.specs.FaceSet.{FaceSet}
 use Rattle.def_remesh.specs.Remeshed.{AreKeptBy, HasLeastLengths, IsDoublingBy, IsFinished}
 use Rattle.def_remesh.specs.Tasks.{given_floors, Task, Wish}
@@ -17,22 +17,22 @@ certificate_of lists = record { x = lists.x; dual = record { y = lists.y; z = li
 
 -- A certificate that is accepted for its network, so that its lengths are least.
 pub record IsCertified
-    (wish : Wish) (plan : Plan) (settings : Settings) (floors : Lengths) (cert : Lists)
+    (wish : Wish) (layout : Layout) (settings : Settings) (floors : Lengths) (cert : Lists)
     : Type 0 where
-  pub lengths : HasLeastLengths wish plan settings floors cert
+  pub lengths : HasLeastLengths wish layout settings floors cert
   pub accepted : IsAccepted lengths.net (certificate_of cert)
 
 -- Such a certificate, whose lengths double an edge of a new mesh with few faces.
-abbrev pub IsDoubling : (wish : Wish) (plan : Plan) (settings : Settings) (floors : Lengths) (cert : Lists) → Type 0
-IsDoubling wish plan settings floors cert = IsDoublingBy (IsCertified wish plan settings) plan floors cert
+abbrev pub IsDoubling : (wish : Wish) (layout : Layout) (settings : Settings) (floors : Lengths) (cert : Lists) → Type 0
+IsDoubling wish layout settings floors cert = IsDoublingBy (IsCertified wish layout settings) layout floors cert
 
 -- The accepted certificates of a remesh.
 abbrev pub AreKept :
-    (wish : Wish) (plan : Plan) (settings : Settings) (rising : Rising) (certificates : Certificates) → Type 0
-AreKept wish plan settings rising certificates =
-    AreKeptBy (IsCertified wish plan settings) plan (given_floors settings) rising certificates
+    (wish : Wish) (layout : Layout) (settings : Settings) (rising : Rising) (certificates : Certificates) → Type 0
+AreKept wish layout settings rising certificates =
+    AreKeptBy (IsCertified wish layout settings) layout (given_floors settings) rising certificates
 
 -- A task that is finished for a soup, as accepted certificates show.
 pub record IsShown (task : Task) (soup : FaceSet) (text : Bytes) : Type 0 where
   pub finished : IsFinished task soup text
-  pub certified : AreKept task.wish finished.plan task.settings task.rising finished.certificates
+  pub certified : AreKept task.wish finished.layout task.settings task.rising finished.certificates

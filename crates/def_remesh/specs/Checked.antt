@@ -25,7 +25,7 @@ pub record IsCheckedPair (bytes : Bytes) : Type 0 where
   pub auto : Bool
   pub in_range : AreInRange settings auto
   pub remeshed : IsRemeshed settings auto soup (tail_of line bytes)
-  pub certified : AreKept old_lengths remeshed.plan settings (third_if auto) remeshed.certificates
+  pub certified : AreKept old_lengths remeshed.layout settings (third_if auto) remeshed.certificates
 
 -- The line that is written then, with the numbers of arcs and of new faces, and the deviation of the used lengths.
 abbrev pub accepted_line : (arcs faces deviation : ℕ) → Bytes

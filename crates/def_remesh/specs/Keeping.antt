@@ -6,7 +6,7 @@ use Rattle.def_flow.specs.Network.{Network, tangle_number, IsWithinBounds}
 use Rattle.def_flow.specs.declared.limits.TheConstants.{MAX_TANGLE}
 use Rattle.def_flow.specs.declared.net.Settings.{Settings}
 use Rattle.def_layout.specs.Lengths.{Lengths}
-use Rattle.def_layout.specs.Plans.{Plan, layout_of}
+use Rattle.def_layout.specs.Layouts.{Layout, gluing_of}
 use Rattle.def_layoutnet.specs.LayoutNet.{IsNetOf}
 use Rattle.def_layoutnet.specs.MeshLayouts.{IsSomeLayout}
 use Rattle.def_written.specs.Edges.{IsUndoubled}
@@ -20,26 +20,27 @@ use Rattle.def_remesh.specs.declared.tables.Tables.{Tables}
 
 -- A network of a layout with these wished lengths and floors, within bounds and not too tangled.
 pub record IsNetWith
-    (wish : Wish) (plan : Plan) (settings : Settings) (floors : Lengths) (net : Network)
+    (wish : Wish) (layout : Layout) (settings : Settings) (floors : Lengths) (net : Network)
     : Type 0 where
-  pub mesh : IsSomeLayout plan
+  pub mesh : IsSomeLayout layout
   pub floor : (arc : ℕ) → 1 ≤ floors arc
-  pub is : IsNetOf (layout_of plan) (old_lengths plan) (wish plan) settings floors net
+  pub is : IsNetOf (gluing_of layout) (old_lengths layout) (wish layout) settings floors net
   pub bounds : IsWithinBounds net
   pub untangled : tangle_number net ≤ MAX_TANGLE
 
 -- The same with the given floors.
-abbrev pub IsNetFor : (wish : Wish) (plan : Plan) (settings : Settings) (net : Network) → Type 0
-IsNetFor wish plan settings net = IsNetWith wish plan settings (given_floors settings) net
+abbrev pub IsNetFor : (wish : Wish) (layout : Layout) (settings : Settings) (net : Network) → Type 0
+IsNetFor wish layout settings net = IsNetWith wish layout settings (given_floors settings) net
 
 -- The certificates of a remesh, and the numbers of the new mesh at the lengths that are used. It has no more faces than
 -- a new mesh may have, no edge of it is doubled, and it keeps the shape of the old one.
 pub record IsKept
-    (wish : Wish) (plan : Plan) (settings : Settings) (rising : Rising) (certificates : Certificates) (tables : Tables)
+    (wish : Wish) (layout : Layout) (settings : Settings) (rising : Rising) (certificates : Certificates)
+    (tables : Tables)
     : Type 0 where
-  pub kept : AreKept wish plan settings rising certificates
-  pub coarse : AreCoarse plan (used certificates).x
-  pub undoubled : IsUndoubled (layout_of plan) (lengths_in (used certificates).x)
-  pub shape : KeepsShapes plan (lengths_in (used certificates).x)
-  pub numbering : IsNumbering plan tables
+  pub kept : AreKept wish layout settings rising certificates
+  pub coarse : AreCoarse layout (used certificates).x
+  pub undoubled : IsUndoubled (gluing_of layout) (lengths_in (used certificates).x)
+  pub shape : KeepsShapes layout (lengths_in (used certificates).x)
+  pub numbering : IsNumbering layout tables
   pub lengths : tables.lengths.items ≡ (used certificates).x

@@ -3,15 +3,15 @@ use Rattle.std.specs.Prelude.{◌≡◌, Bool, List}
 use Rattle.def_cut.specs.FullCut.{IsFullCut}
 use Rattle.def_cut.specs.Traced.{traced_marks}
 use Rattle.def_layout.specs.FaceLayouts.{IsCutLayout}
-use Rattle.def_layout.specs.Plans.{Plan}
+use Rattle.def_layout.specs.Layouts.{Layout}
 use Rattle.def_mesh.specs.Faces.{Faces}
 use Rattle.def_mesh.specs.Meshes.{IsMesh}
 
 -- There is a layout of these faces and this cut, and no other.
 pub record HasOneLayout (faces : Faces) (marks : List Bool) : Type 0 where
-  pub plan : Plan
-  pub laid : IsCutLayout faces marks plan
-  pub alone : (other : Plan) → IsCutLayout faces marks other → other ≡ plan
+  pub layout : Layout
+  pub laid : IsCutLayout faces marks layout
+  pub alone : (other : Layout) → IsCutLayout faces marks other → other ≡ layout
 
 -- Each full cut of a mesh has exactly one layout.
 abbrev pub LayoutLaw : Type 0

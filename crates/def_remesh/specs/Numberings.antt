@@ -3,9 +3,9 @@ use Rattle.std.specs.Prelude.{◌≡◌, ℕ, ◌+◌, ◌-◌, ◌*◌, ◌<◌
 use Rattle.std.specs.Prelude.{slice_index, slice_index_or}
 use Rattle.def_math.specs.Counts.{count_below}
 use Rattle.def_layout.specs.declared.tmesh.SideArc.{SideArc}
-use Rattle.def_layout.specs.Layouts.{Way}
+use Rattle.def_layout.specs.Gluings.{Way}
 use Rattle.def_layout.specs.Lengths.{Lengths, wide, high, AreLengths}
-use Rattle.def_layout.specs.Plans.{Plan, layout_of, way_number, side_at}
+use Rattle.def_layout.specs.Layouts.{Layout, gluing_of, way_number, side_at}
 use Rattle.def_layoutnet.specs.MeshLayouts.{IsSomeLayout}
 use Rattle.def_written.specs.NewFaces.{face_count}
 use Rattle.def_remesh.specs.NewPoints.{lengths_in}
@@ -39,32 +39,32 @@ abbrev pub table_at : (sides : SideTables) (patch : ℕ) (side : Way) → List �
 table_at sides patch side = slice_index_or (slice_index_or sides patch []) (way_number side) []
 
 -- The tables say where the arcs on each side begin.
-pub record AreSideStarts (plan : Plan) (lengths : Lengths) (sides : SideTables) : Type 0 where
-  pub sided : length sides ≡ length plan.patches
-  pub four : (patch : ℕ) → patch < length plan.patches → length (slice_index_or sides patch []) ≡ 4
-  pub each : (patch : ℕ) (side : Way) → patch < length plan.patches
-      → AreRunStarts (sizes_on (side_at plan patch side) lengths) (length (side_at plan patch side))
+pub record AreSideStarts (layout : Layout) (lengths : Lengths) (sides : SideTables) : Type 0 where
+  pub sided : length sides ≡ length layout.patches
+  pub four : (patch : ℕ) → patch < length layout.patches → length (slice_index_or sides patch []) ≡ 4
+  pub each : (patch : ℕ) (side : Way) → patch < length layout.patches
+      → AreRunStarts (sizes_on (side_at layout patch side) lengths) (length (side_at layout patch side))
       (table_at sides patch side)
 
 -- The tables number the points and the faces of the layout of a mesh, with the lengths that they hold.
-pub record IsNumbering (plan : Plan) (tables : Tables) : Type 0 where
-  pub mesh : IsSomeLayout plan
-  pub long : length tables.lengths.items ≡ length plan.arcs
-  pub lengths : AreLengths (layout_of plan) (lengths_in tables.lengths.items)
-  pub few : face_count (layout_of plan) (lengths_in tables.lengths.items) ≤ MAX_NEW_FACES
-  pub nodes : tables.nodes ≡ length plan.nodes
-  pub along : AreRunStarts (λ a. lengths_in tables.lengths.items a - 1) (length plan.arcs) tables.along.begin.items
+pub record IsNumbering (layout : Layout) (tables : Tables) : Type 0 where
+  pub mesh : IsSomeLayout layout
+  pub long : length tables.lengths.items ≡ length layout.arcs
+  pub lengths : AreLengths (gluing_of layout) (lengths_in tables.lengths.items)
+  pub few : face_count (gluing_of layout) (lengths_in tables.lengths.items) ≤ MAX_NEW_FACES
+  pub nodes : tables.nodes ≡ length layout.nodes
+  pub along : AreRunStarts (λ a. lengths_in tables.lengths.items a - 1) (length layout.arcs) tables.along.begin.items
   pub inside : AreRunStarts
-      (λ p. (wide (layout_of plan) (lengths_in tables.lengths.items) p - 1)
-      * (high (layout_of plan) (lengths_in tables.lengths.items) p - 1))
-      (length plan.patches) tables.inside.begin.items
+      (λ p. (wide (gluing_of layout) (lengths_in tables.lengths.items) p - 1)
+      * (high (gluing_of layout) (lengths_in tables.lengths.items) p - 1))
+      (length layout.patches) tables.inside.begin.items
   pub cells : AreRunStarts
-      (λ p. wide (layout_of plan) (lengths_in tables.lengths.items) p
-      * high (layout_of plan) (lengths_in tables.lengths.items) p)
-      (length plan.patches) tables.cells.begin.items
-  pub sides : AreSideStarts plan (lengths_in tables.lengths.items) (tables_of tables.sides.items)
+      (λ p. wide (gluing_of layout) (lengths_in tables.lengths.items) p
+      * high (gluing_of layout) (lengths_in tables.lengths.items) p)
+      (length layout.patches) tables.cells.begin.items
+  pub sides : AreSideStarts layout (lengths_in tables.lengths.items) (tables_of tables.sides.items)
 
 -- The tables number the layout of some mesh.
 pub record HoldsFor (tables : Tables) : Type 0 where
-  pub plan : Plan
-  pub numbers : IsNumbering plan tables
+  pub layout : Layout
+  pub numbers : IsNumbering layout tables

@@ -21,11 +21,11 @@ ends_line (byte ∷ next ∷ bytes) = ends_line (next ∷ bytes)
 
 -- The mesh that a finished task of a soup wrote.
 abbrev pub finished_soup : (task : Task) (soup : FaceSet) (text : Bytes) (is : IsFinished task soup text) → FaceSet
-finished_soup task soup text is = spaced_soup soup is.plan task.shares (lengths_in (used is.certificates).x)
+finished_soup task soup text is = spaced_soup soup is.layout task.shares (lengths_in (used is.certificates).x)
 
 -- Its lines between that mesh and the certificates.
 abbrev pub lines_between : (task : Task) (soup : FaceSet) (text : Bytes) (is : IsFinished task soup text) → Bytes
-lines_between task soup text is = task.between is.plan (lengths_in (used is.certificates).x)
+lines_between task soup text is = task.between is.layout (lengths_in (used is.certificates).x)
 
 -- A soup within the limits of the reader.
 pub record IsReadable (soup : FaceSet) : Type 0 where

@@ -8,16 +8,16 @@ use Rattle.def_flow.specs.declared.net.Settings.{Settings}
 use Rattle.def_io.specs.Bytes.{Bytes}
 use Rattle.def_layout.specs.Arcs.{long_at}
 use Rattle.def_layout.specs.Lengths.{Lengths}
-use Rattle.def_layout.specs.Plans.{Plan}
+use Rattle.def_layout.specs.Layouts.{Layout}
 use Rattle.def_mesh.specs.Faces.{Faces}
 
 -- The lengths that are wished for the arcs of a layout, before they are scaled.
 abbrev pub Wish : Type 0
-Wish = (plan : Plan) → Lengths
+Wish = (layout : Layout) → Lengths
 
 -- The old lengths.
 abbrev pub old_lengths : Wish
-old_lengths plan = long_at plan.arcs
+old_lengths layout = long_at layout.arcs
 
 -- The floors of the arcs before any rises.
 abbrev pub given_floors : (settings : Settings) → Lengths
@@ -33,7 +33,7 @@ pub record Task : Type 0 where
   pub rising : Rising
   pub shares : Option (List ℕ)
   pub head : Bytes
-  pub between : (plan : Plan) (new : Lengths) → Bytes
+  pub between : (layout : Layout) (new : Lengths) → Bytes
 
 -- A remesh of these faces over their motorcycle graph, with even spacing.
 abbrev pub remesh_task : (settings : Settings) (auto : Bool) (faces : Faces) → Task
@@ -44,5 +44,5 @@ remesh_task settings auto faces = record {
   rising = third_if auto;
   shares = None;
   head = head_line settings auto;
-  between = λ plan new. [];
+  between = λ layout new. [];
 }

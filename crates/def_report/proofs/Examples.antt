@@ -5,7 +5,7 @@ use Rattle.def_mesh.specs.Faces.{Faces}
 use Rattle.def_cut.specs.{Grids.Rectangle, declared.graph.Rider.Rider, declared.graph.Stop.Stop}
 use Rattle.def_cut.specs.declared.graph.Stop.TheVariants.{Boundary, Middle}
 use Rattle.def_cut.specs.declared.graph.Stop.TheVariants.{Tie}
-use Rattle.def_layout.specs.{Arcs.Path, Plans.Plan, declared.tmesh.SideArc.SideArc}
+use Rattle.def_layout.specs.{Arcs.Path, Layouts.Layout, declared.tmesh.SideArc.SideArc}
 use Rattle.def_report.specs.GraphText.{graph_text}
 
 abbrev rider : (start rides : ℕ) (stop : Stop) → Rider
@@ -33,8 +33,8 @@ notched =
 abbrev notched_riders : List Rider
 notched_riders = rider 13 2 (Tie 15) ∷ rider 16 3 (Boundary 8) ∷ rider 38 3 (Boundary 14) ∷ rider 43 2 (Tie 7) ∷ []
 
-abbrev notched_plan : Plan
-notched_plan = record {
+abbrev notched_layout : Layout
+notched_layout = record {
   nodes = 0 ∷ 3 ∷ 4 ∷ 5 ∷ 7 ∷ 8 ∷ 14 ∷ 15 ∷ 17 ∷ 18 ∷ 19 ∷ 22 ∷ [];
   arcs = arc 0 1 3 ∷ arc 4 3 2 ∷ arc 3 0 1 ∷ arc 1 5 1 ∷ arc 5 4 1 ∷ arc 2 3 1 ∷ arc 3 7 2 ∷ arc 6 2 2
       ∷ arc 4 8 2 ∷ arc 5 9 2 ∷ arc 7 6 1 ∷ arc 8 7 2 ∷ arc 9 8 1 ∷ arc 11 10 3 ∷ arc 10 6 1 ∷ arc 8 11 1 ∷ [];
@@ -45,7 +45,7 @@ notched_plan = record {
       ∷ ((along 10 ∷ along 11 ∷ []) ∷ (along 15 ∷ []) ∷ (along 13 ∷ []) ∷ (along 14 ∷ []) ∷ []) ∷ [];
 }
 
-notched_text : graph_text notched notched_riders notched_plan ≡
+notched_text : graph_text notched notched_riders notched_layout ≡
     codes "quadq graph 1\nvertices 23 edges 36 faces 14 euler 1 components 1\ncorner 1 1\ncorner 4 1\n"
     ++ codes "corner 5 1\nreflex 6 3\nreflex 18 3\ncorner 19 1\ncorner 20 1\ncorner 23 1\nrider 6 11 2 tie 16\n"
     ++ codes "rider 6 7 3 boundary 9\nrider 18 17 3 boundary 15\nrider 18 13 2 tie 8\narc 1 1 4 3\narc 2 8 6 2\n"
@@ -68,15 +68,15 @@ torus =
 abbrev torus_riders : List Rider
 torus_riders = rider 0 2 (Tie 2) ∷ rider 13 2 (Tie 8) ∷ rider 51 2 (Tie 8) ∷ rider 62 2 (Tie 2) ∷ []
 
-abbrev torus_plan : Plan
-torus_plan = record {
+abbrev torus_layout : Layout
+torus_layout = record {
   nodes = 0 ∷ [];
   arcs = arc 0 0 4 ∷ arc 0 0 4 ∷ [];
   patches = patch 4 4 ∷ [];
   sides = ((along 0 ∷ []) ∷ (along 1 ∷ []) ∷ (along 0 ∷ []) ∷ (along 1 ∷ []) ∷ []) ∷ [];
 }
 
-torus_text : graph_text torus torus_riders torus_plan ≡
+torus_text : graph_text torus torus_riders torus_layout ≡
     codes "quadq graph 1\nvertices 16 edges 32 faces 16 euler 0 components 1\nseed 1\nrider 1 2 2 tie 3\n"
     ++ codes "rider 1 5 2 tie 9\nrider 1 13 2 tie 9\nrider 1 4 2 tie 3\narc 1 1 1 4\narc 2 1 1 4\npatch 1 4 4\n"
     ++ codes "south 1\neast 2\nnorth 1\nwest 2\n"
@@ -95,15 +95,15 @@ cylinder =
 abbrev cylinder_riders : List Rider
 cylinder_riders = rider 21 3 (Boundary 18) ∷ []
 
-abbrev cylinder_plan : Plan
-cylinder_plan = record {
+abbrev cylinder_layout : Layout
+cylinder_layout = record {
   nodes = 0 ∷ 18 ∷ [];
   arcs = arc 0 0 6 ∷ arc 1 0 3 ∷ arc 1 1 6 ∷ [];
   patches = patch 6 3 ∷ [];
   sides = ((along 0 ∷ []) ∷ (along 1 ∷ []) ∷ (along 2 ∷ []) ∷ (along 1 ∷ []) ∷ []) ∷ [];
 }
 
-cylinder_text : graph_text cylinder cylinder_riders cylinder_plan ≡
+cylinder_text : graph_text cylinder cylinder_riders cylinder_layout ≡
     codes "quadq graph 1\nvertices 24 edges 42 faces 18 euler 0 components 1\nseed 1\nrider 1 7 3 boundary 19\n"
     ++ codes "arc 1 1 1 6\narc 2 19 1 3\narc 3 19 19 6\npatch 1 6 3\nsouth 1\neast 2\nnorth 3\nwest 2\n"
 unfolding digits
@@ -123,8 +123,8 @@ cube_riders = rider 0 1 (Middle 3 2) ∷ rider 1 1 (Middle 2 1) ∷ rider 2 1 (M
     ∷ rider 16 1 (Middle 2 3) ∷ rider 17 1 (Middle 3 7) ∷ rider 18 1 (Middle 7 6) ∷ rider 19 1 (Middle 6 2)
     ∷ rider 20 1 (Middle 3 0) ∷ rider 21 1 (Middle 0 4) ∷ rider 22 1 (Middle 4 7) ∷ rider 23 1 (Middle 7 3) ∷ []
 
-abbrev cube_plan : Plan
-cube_plan = record {
+abbrev cube_layout : Layout
+cube_layout = record {
   nodes = 0 ∷ 1 ∷ 2 ∷ 3 ∷ 4 ∷ 5 ∷ 6 ∷ 7 ∷ [];
   arcs = arc 3 2 1 ∷ arc 2 1 1 ∷ arc 1 0 1 ∷ arc 0 3 1 ∷ arc 4 5 1 ∷ arc 5 6 1 ∷ arc 6 7 1 ∷ arc 7 4 1
       ∷ arc 1 5 1 ∷ arc 4 0 1 ∷ arc 2 6 1 ∷ arc 3 7 1 ∷ [];
@@ -136,7 +136,7 @@ cube_plan = record {
       ∷ []) ∷ (along 7 ∷ []) ∷ (along 11 ∷ []) ∷ []) ∷ [];
 }
 
-cube_text : graph_text cube cube_riders cube_plan ≡
+cube_text : graph_text cube cube_riders cube_layout ≡
     codes "quadq graph 1\nvertices 8 edges 12 faces 6 euler 2 components 1\nsingular 1 3\nsingular 2 3\n"
     ++ codes "singular 3 3\nsingular 4 3\nsingular 5 3\nsingular 6 3\nsingular 7 3\nsingular 8 3\n"
     ++ codes "rider 4 3 1 middle 4 3\nrider 3 2 1 middle 3 2\nrider 2 1 1 middle 2 1\nrider 1 4 1 middle 1 4\n"
@@ -178,8 +178,8 @@ flaps_riders = rider 0 3 (Tie 6) ∷ rider 34 3 (Tie 13) ∷ rider 36 3 (Tie 13)
     ∷ rider 72 3 (Tie 25) ∷ rider 106 3 (Tie 6) ∷ rider 128 3 (Tie 6) ∷ rider 176 3 (Tie 13)
     ∷ rider 224 3 (Tie 25) ∷ []
 
-abbrev flaps_plan : Plan
-flaps_plan = record {
+abbrev flaps_layout : Layout
+flaps_layout = record {
   nodes = 0 ∷ 6 ∷ 13 ∷ 15 ∷ 25 ∷ 27 ∷ 36 ∷ 44 ∷ 50 ∷ 58 ∷ 64 ∷ 72 ∷ 78 ∷ [];
   arcs = arc 0 1 3 ∷ arc 2 0 3 ∷ arc 1 3 3 ∷ arc 3 2 3 ∷ arc 4 0 3 ∷ arc 2 5 3 ∷ arc 5 4 3 ∷ arc 4 6 3
       ∷ arc 6 1 3 ∷ arc 6 7 2 ∷ arc 8 3 2 ∷ arc 7 8 6 ∷ arc 3 9 2 ∷ arc 10 5 2 ∷ arc 9 10 6 ∷ arc 5 11 2
@@ -192,7 +192,7 @@ flaps_plan = record {
       ∷ []) ∷ (along 17 ∷ []) ∷ (along 16 ∷ []) ∷ (along 7 ∷ along 6 ∷ []) ∷ []) ∷ [];
 }
 
-flaps_text : graph_text flaps flaps_riders flaps_plan ≡
+flaps_text : graph_text flaps flaps_riders flaps_layout ≡
     codes "quadq graph 1\nvertices 79 edges 141 faces 63 euler 1 components 1\nsingular 1 3\nreflex 16 3\n"
     ++ codes "reflex 28 3\nreflex 37 3\ncorner 45 1\ncorner 51 1\ncorner 59 1\ncorner 65 1\ncorner 73 1\n"
     ++ codes "corner 79 1\nrider 1 2 3 tie 7\nrider 16 15 3 tie 14\nrider 1 4 3 tie 14\nrider 28 27 3 tie 26\n"

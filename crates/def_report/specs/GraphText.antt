@@ -17,8 +17,8 @@ use Rattle.def_cut.specs.declared.graph.Rider.{Rider}
 use Rattle.def_cut.specs.declared.graph.Stop.{Stop}
 use Rattle.def_cut.specs.declared.graph.Stop.TheVariants as stop
 use Rattle.def_layout.specs.Arcs.{path_at, long_at}
-use Rattle.def_layout.specs.Layouts.{Way, south, east, north, west}
-use Rattle.def_layout.specs.Plans.{Plan, side_at, vertex_at}
+use Rattle.def_layout.specs.Gluings.{Way, south, east, north, west}
+use Rattle.def_layout.specs.Layouts.{Layout, side_at, vertex_at}
 use Rattle.def_layout.specs.declared.tmesh.SideArc.{SideArc}
 
 -- Numbers, each after a space.
@@ -68,10 +68,10 @@ rider_line faces rider = codes "rider"
     ++ stop_line rider.stop
 
 -- The line of an arc: its number, the vertices at its ends, and its length.
-abbrev pub arc_line : (plan : Plan) (arc : ℕ) → Bytes
-arc_line plan arc = numbers_line (codes "arc")
-    ((arc + 1) ∷ (vertex_at plan (path_at plan.arcs arc).first + 1)
-    ∷ (vertex_at plan (path_at plan.arcs arc).last + 1) ∷ long_at plan.arcs arc ∷ [])
+abbrev pub arc_line : (layout : Layout) (arc : ℕ) → Bytes
+arc_line layout arc = numbers_line (codes "arc")
+    ((arc + 1) ∷ (vertex_at layout (path_at layout.arcs arc).first + 1)
+    ∷ (vertex_at layout (path_at layout.arcs arc).last + 1) ∷ long_at layout.arcs arc ∷ [])
 
 -- The word of a side.
 abbrev pub side_word : (side : Way) → Bytes
@@ -81,30 +81,31 @@ side_word north = codes "north"
 side_word west = codes "west"
 
 -- The line of a side of a patch: its arcs, in order.
-abbrev pub side_line : (plan : Plan) (patch : ℕ) (side : Way) → Bytes
-side_line plan patch side =
-    numbers_line (side_word side) (map (λ (used : SideArc). used.arc + 1) (side_at plan patch side))
+abbrev pub side_line : (layout : Layout) (patch : ℕ) (side : Way) → Bytes
+side_line layout patch side =
+    numbers_line (side_word side) (map (λ (used : SideArc). used.arc + 1) (side_at layout patch side))
 
 -- The line of a patch: its number, its width and its height.
-abbrev pub size_line : (plan : Plan) (patch : ℕ) → Bytes
-size_line plan patch =
-    numbers_line (codes "patch") ((patch + 1) ∷ (patch_at plan.patches patch).w ∷ (patch_at plan.patches patch).h ∷ [])
+abbrev pub size_line : (layout : Layout) (patch : ℕ) → Bytes
+size_line layout patch =
+    numbers_line (codes "patch")
+    ((patch + 1) ∷ (patch_at layout.patches patch).w ∷ (patch_at layout.patches patch).h ∷ [])
 
 -- The lines of its sides.
-abbrev pub side_lines : (plan : Plan) (patch : ℕ) → Bytes
-side_lines plan patch = side_line plan patch south ++ side_line plan patch east
-    ++ side_line plan patch north ++ side_line plan patch west
+abbrev pub side_lines : (layout : Layout) (patch : ℕ) → Bytes
+side_lines layout patch = side_line layout patch south ++ side_line layout patch east
+    ++ side_line layout patch north ++ side_line layout patch west
 
 -- The lines of a patch and its sides.
-abbrev pub patch_lines : (plan : Plan) (patch : ℕ) → Bytes
-patch_lines plan patch = size_line plan patch ++ side_lines plan patch
+abbrev pub patch_lines : (layout : Layout) (patch : ℕ) → Bytes
+patch_lines layout patch = size_line layout patch ++ side_lines layout patch
 
 -- The whole text of a mesh with these riders and this layout.
-abbrev pub graph_text : (faces : Faces) (riders : List Rider) (plan : Plan) → Bytes
-graph_text faces riders plan = codes "quadq graph 1\n"
+abbrev pub graph_text : (faces : Faces) (riders : List Rider) (layout : Layout) → Bytes
+graph_text faces riders layout = codes "quadq graph 1\n"
     ++ counts_line faces
     ++ flat_map (vertex_line faces) (all_vertices faces)
     ++ flat_map seed_line (seeds faces)
     ++ flat_map (rider_line faces) riders
-    ++ flat_map (arc_line plan) (range_with_len 0 (length plan.arcs))
-    ++ flat_map (patch_lines plan) (range_with_len 0 (length plan.patches))
+    ++ flat_map (arc_line layout) (range_with_len 0 (length layout.arcs))
+    ++ flat_map (patch_lines layout) (range_with_len 0 (length layout.patches))

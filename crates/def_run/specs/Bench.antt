@@ -7,7 +7,7 @@ use Rattle.def_flow.specs.declared.net.Settings.{Settings}
 use Rattle.def_flow.specs.declared.net.Weight.TheVariants.{Plain}
 use Rattle.def_gen.specs.Steps.{steps_soup}
 use Rattle.def_io.specs.Bytes.{Bytes}
-use Rattle.def_layout.specs.Plans.{Plan, layout_of}
+use Rattle.def_layout.specs.Layouts.{Layout, gluing_of}
 use Rattle.def_mesh.specs.Components.{edge_count, start_darts}
 use Rattle.def_mesh.specs.Faces.{Faces}
 use Rattle.def_mesh.specs.Faults.{IsFirstFault}
@@ -36,14 +36,14 @@ abbrev pub bench_faces : (size : ℕ) → Faces
 bench_faces size = (steps_soup size).faces
 
 -- What is counted of a mesh and its layout. The deviation is that of a certificate's lengths.
-abbrev pub counts_of : (faces : Faces) (plan : Plan) (deviation : ℕ) → Counts
-counts_of faces plan deviation = record {
+abbrev pub counts_of : (faces : Faces) (layout : Layout) (deviation : ℕ) → Counts
+counts_of faces layout deviation = record {
   vertices = vertex_count faces;
   edges = edge_count faces;
   faces = length faces;
   riders = length (start_darts faces);
-  patches = length plan.patches;
-  arcs = length plan.arcs;
+  patches = length layout.patches;
+  arcs = length layout.arcs;
   deviation = pos deviation;
 }
 
@@ -51,30 +51,32 @@ counts_of faces plan deviation = record {
 -- give a new mesh.
 pub record WritesBench (size : ℕ) (text : Bytes) : Type 0 where
   pub manifold : IsManifold (bench_faces size)
-  pub plan : Plan
-  pub cut : IsTracedLayout (bench_faces size) plan
+  pub layout : Layout
+  pub cut : IsTracedLayout (bench_faces size) layout
   pub cert : Lists
-  pub certified : IsCertified old_lengths plan bench_settings (given_floors bench_settings) cert
-  pub coarse : AreCoarse plan cert.x
-  pub undoubled : IsUndoubled (layout_of plan) (lengths_in cert.x)
+  pub certified : IsCertified old_lengths layout bench_settings (given_floors bench_settings) cert
+  pub coarse : AreCoarse layout cert.x
+  pub undoubled : IsUndoubled (gluing_of layout) (lengths_in cert.x)
   pub said : text
-      ≡ bench_line size (counts_of (bench_faces size) plan (deviation certified.lengths.net (entries cert.x)))
+      ≡ bench_line size (counts_of (bench_faces size) layout (deviation certified.lengths.net (entries cert.x)))
 
 -- It refuses a size with this answer: the mesh is no manifold, or its layout is refused.
 abbrev pub RefusesToBench : (size : ℕ) (answer : Answer) → Type 0
 RefusesToBench size (NotManifold place) =
     IsFirstFault (bench_faces size) place × (¬ IsManifold (bench_faces size))
 RefusesToBench size answer =
-    (plan : Plan) × IsTracedLayout (bench_faces size) plan × RefusesLayout old_lengths plan bench_settings Never answer
+    (layout : Layout) × IsTracedLayout (bench_faces size) layout
+    × RefusesLayout old_lengths layout bench_settings Never answer
 
 -- Why the mesh of a size is not remeshed. Want of memory says nothing of it.
 abbrev pub IsBenchFail : (size : ℕ) (failed : LayoutFail) → Type 0
 IsBenchFail size layout_fail.Memory = ⊤
 IsBenchFail size failed =
-    (plan : Plan) × IsTracedLayout (bench_faces size) plan × IsLayoutFail old_lengths plan bench_settings Never failed
+    (layout : Layout) × IsTracedLayout (bench_faces size) layout
+    × IsLayoutFail old_lengths layout bench_settings Never failed
 
 -- The mesh of this size is remeshed whatever least lists are kept.
 pub record HasBench (size : ℕ) : Type 0 where
   pub manifold : IsManifold (bench_faces size)
-  pub fits : (plan : Plan) → IsTracedLayout (bench_faces size) plan
-      → IsRemeshable old_lengths plan bench_settings Never
+  pub fits : (layout : Layout) → IsTracedLayout (bench_faces size) layout
+      → IsRemeshable old_lengths layout bench_settings Never

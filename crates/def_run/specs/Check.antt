@@ -8,7 +8,7 @@ use Rattle.def_flow.specs.Network.{Network}
 use Rattle.def_flow.specs.declared.net.Settings.{Settings}
 use Rattle.def_io.specs.Bytes.{Bytes}
 use Rattle.def_io.specs.Lines.{lines_of}
-use Rattle.def_layout.specs.Plans.{Plan, layout_of}
+use Rattle.def_layout.specs.Layouts.{Layout, gluing_of}
 use Rattle.def_layoutnet.specs.LayoutNet.{IsNetOf}
 use Rattle.def_mesh.specs.Faults.{IsFirstFault}
 use Rattle.def_mesh.specs.Manifold.{IsManifold}
@@ -33,11 +33,11 @@ use Rattle.def_run.specs.declared.answer.Why.TheVariants as why
 -- A checked pair, with the numbers that are told of it.
 pub record IsCountedPair (bytes : Bytes) (arcs faces deviates : ℕ) : Type 0 where
   pub pair : IsCheckedPair bytes
-  pub arcs_told : arcs ≡ length pair.remeshed.plan.arcs
-  pub faces_told : faces ≡ face_count (layout_of pair.remeshed.plan) (lengths_in (used pair.remeshed.certificates).x)
+  pub arcs_told : arcs ≡ length pair.remeshed.layout.arcs
+  pub faces_told : faces ≡ face_count (gluing_of pair.remeshed.layout) (lengths_in (used pair.remeshed.certificates).x)
   pub net : Network
-  pub of_layout : IsNetOf (layout_of pair.remeshed.plan) (old_lengths pair.remeshed.plan)
-      (old_lengths pair.remeshed.plan) pair.settings (λ a. pair.settings.floor) net
+  pub of_layout : IsNetOf (gluing_of pair.remeshed.layout) (old_lengths pair.remeshed.layout)
+      (old_lengths pair.remeshed.layout) pair.settings (λ a. pair.settings.floor) net
   pub deviation_told : deviates ≡ deviation net (entries (used pair.remeshed.certificates).x)
 
 -- The last line that begins as a head line does.
@@ -81,8 +81,8 @@ pub record IsAsked (bytes : Bytes) : Type 0 where
   pub settings : Settings
   pub auto : Bool
   pub head : IsHead (head_of bytes line) settings auto
-  pub plan : Plan
-  pub cut : IsTracedLayout soup.faces plan
+  pub layout : Layout
+  pub cut : IsTracedLayout soup.faces layout
 
 -- The text behind its head line, which is judged as that of a remesh of its mesh.
 abbrev pub judged_of : (bytes : Bytes) (asked : IsAsked bytes) → Judged
@@ -90,14 +90,14 @@ judged_of bytes asked = record {
   bytes = bytes;
   line = asked.line;
   soup = asked.soup;
-  plan = asked.plan;
+  layout = asked.layout;
   task = remesh_task asked.settings asked.auto asked.soup.faces;
 }
 
 -- The bytes are no checked pair, for this reason.
 pub record IsNoPair (bytes : Bytes) (why : Why) : Type 0 where
   pub asked : IsAsked bytes
-  pub untangled : (count : ℕ) → ¬ IsTangledAt old_lengths asked.plan asked.settings count
+  pub untangled : (count : ℕ) → ¬ IsTangledAt old_lengths asked.layout asked.settings count
   pub reason : IsReason (judged_of bytes asked) why
   pub refuted : ¬ IsCheckedPair bytes
 
@@ -110,7 +110,7 @@ IsNotAccepted bytes why = IsNoPair bytes why
 -- The network of the old mesh is too tangled.
 pub record IsTangledOld (bytes : Bytes) (count : ℕ) : Type 0 where
   pub asked : IsAsked bytes
-  pub tangled : IsTangledAt old_lengths asked.plan asked.settings count
+  pub tangled : IsTangledAt old_lengths asked.layout asked.settings count
   pub refuted : ¬ IsCheckedPair bytes
 
 -- It refuses these bytes with this answer.

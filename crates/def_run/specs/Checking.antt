@@ -7,7 +7,7 @@ use Rattle.def_flow.specs.Admissible.{deviation, entries}
 use Rattle.def_flow.specs.Network.{Network}
 use Rattle.def_io.specs.Bytes.{Bytes}
 use Rattle.def_io.specs.Lines.{lines_of, tail_of}
-use Rattle.def_layout.specs.Plans.{layout_of}
+use Rattle.def_layout.specs.Layouts.{gluing_of}
 use Rattle.def_layoutnet.specs.LayoutNet.{IsNetOf}
 use Rattle.def_remesh.specs.Checked.{accepted_line, IsCheckedPair}
 use Rattle.def_remesh.specs.NewPoints.{lengths_in}
@@ -41,12 +41,12 @@ pub record IsCountedFit (bytes : Bytes) (arcs faces deviates : ℕ) : Type 0 whe
   pub fit : AnyFit
   pub mark : IsFitHead (head_of bytes line) fit
   pub written : WritesFinished (AsksForNearFit fit) (front_of line bytes) (tail_of line bytes)
-  pub arcs_told : arcs ≡ length written.shown.finished.plan.arcs
-  pub faces_told : faces ≡ face_count (layout_of written.shown.finished.plan)
+  pub arcs_told : arcs ≡ length written.shown.finished.layout.arcs
+  pub faces_told : faces ≡ face_count (gluing_of written.shown.finished.layout)
       (lengths_in (used written.shown.finished.certificates).x)
   pub net : Network
-  pub of_layout : IsNetOf (layout_of written.shown.finished.plan) (old_lengths written.shown.finished.plan)
-      (written.task.wish written.shown.finished.plan) written.task.settings (λ a. written.task.settings.floor) net
+  pub of_layout : IsNetOf (gluing_of written.shown.finished.layout) (old_lengths written.shown.finished.layout)
+      (written.task.wish written.shown.finished.layout) written.task.settings (λ a. written.task.settings.floor) net
   pub deviation_told : deviates ≡ deviation net (entries (used written.shown.finished.certificates).x)
 
 -- What is judged is accepted, with these numbers.

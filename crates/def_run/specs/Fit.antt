@@ -6,7 +6,7 @@ use Rattle.def_fit.specs.declared.fit.Aim.{Aim}
 use Rattle.def_fit.specs.declared.fit.Fit.{Fit as AnyFit}
 use Rattle.def_io.specs.Bytes.{Bytes, Told}
 use Rattle.def_layout.specs.FaceLayouts.{IsCutLayout}
-use Rattle.def_layout.specs.Plans.{Plan}
+use Rattle.def_layout.specs.Layouts.{Layout}
 use Rattle.def_marks.specs.declared.fail.MarkFail.{MarkFail}
 use Rattle.def_marks.specs.declared.fail.MarkFail.TheVariants as marks
 use Rattle.def_metric.specs.Fails.{IsFar}
@@ -26,7 +26,8 @@ AsksToFit fit bytes soup task =
 
 -- The wishes of a task for its layout add up to no more than the limit.
 abbrev pub HasNearWishes : (aim : Aim) (soup : FaceSet) (task : Task) → Type 0
-HasNearWishes aim soup task = (plan : Plan) → IsCutLayout soup.faces task.marks plan → AreAimedNear aim task.wish plan
+HasNearWishes aim soup task =
+    (layout : Layout) → IsCutLayout soup.faces task.marks layout → AreAimedNear aim task.wish layout
 
 -- The task is asked for where they do.
 abbrev pub AsksForNearFit : (fit : AnyFit) → Asks
@@ -48,10 +49,10 @@ RefusesAsides fit bytes _ = ⊥
 -- The bytes have a mesh, and the wishes of what is asked of it add up to this sum.
 pub record IsFarFit (fit : AnyFit) (bytes : Bytes) (sum : ℕ) : Type 0 where
   pub task : Task
-  pub plan : Plan
-  pub asked : HasTask (AsksToFit fit) bytes task plan
-  pub unbounded : ¬ AreAimedNear fit.aim task.wish plan
-  pub far : IsFar task.wish plan task.settings sum
+  pub layout : Layout
+  pub asked : HasTask (AsksToFit fit) bytes task layout
+  pub unbounded : ¬ AreAimedNear fit.aim task.wish layout
+  pub far : IsFar task.wish layout task.settings sum
 
 -- The answer with which it refuses bytes: they have no mesh, or a line beside it is refused; a network that is too
 -- tangled comes before wishes that are too great, and these before all that least lengths show.

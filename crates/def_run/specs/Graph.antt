@@ -6,7 +6,7 @@ use Rattle.def_mesh.specs.Faces.{Faces}
 use Rattle.def_cut.specs.Traced.{last_state, traced_marks, AreRiders}
 use Rattle.def_cut.specs.declared.graph.Rider.{Rider}
 use Rattle.def_layout.specs.FaceLayouts.{IsCutLayout}
-use Rattle.def_layout.specs.Plans.{Plan}
+use Rattle.def_layout.specs.Layouts.{Layout}
 use Rattle.def_report.specs.GraphText.{graph_text}
 use Rattle.def_text.specs.FaceSet.{FaceSet}
 use Rattle.def_run.specs.Mesh.{IsMeshText, IsNoMesh}
@@ -16,7 +16,7 @@ use Rattle.def_run.specs.declared.answer.Answer.{Answer}
 pub record IsGraphText (faces : Faces) (text : Bytes) : Type 0 where
   pub riders : List Rider
   pub rode : AreRiders (last_state faces).riders (start_darts faces) riders
-  pub layout : Plan
+  pub layout : Layout
   pub laid : IsCutLayout faces (traced_marks faces) layout
   pub said : text ≡ graph_text faces riders layout
 

@@ -22,6 +22,6 @@ named_task name settings marks = record {
   settings = settings;
   rising = Never;
   head = named_head name settings;
-  between = λ plan new. [];
+  between = λ layout new. [];
   shares = None;
 }

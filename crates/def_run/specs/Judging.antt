@@ -12,7 +12,7 @@ use Rattle.def_flow.specs.declared.net.Settings.{Settings}
 use Rattle.def_io.specs.Bytes.{Bytes, Lines}
 use Rattle.def_io.specs.Lines.{lines_of, tail_of}
 use Rattle.def_layout.specs.Lengths.{Lengths}
-use Rattle.def_layout.specs.Plans.{Plan, layout_of}
+use Rattle.def_layout.specs.Layouts.{Layout, gluing_of}
 use Rattle.def_layoutnet.specs.LayoutNet.{IsNetOf}
 use Rattle.def_remesh.specs.NewPoints.{lengths_in}
 use Rattle.def_remesh.specs.Certified.{AreKept, certificate_of, IsCertified, IsDoubling}
@@ -31,7 +31,7 @@ pub record Judged : Type 0 where
   pub bytes : Bytes
   pub line : ℕ
   pub soup : FaceSet
-  pub plan : Plan
+  pub layout : Layout
   pub task : Task
 
 -- The text itself.
@@ -44,46 +44,46 @@ behind_in judged = drop (judged.line + 1) (lines_of judged.bytes)
 
 -- The verdict on a certificate for a layout with these wished lengths, settings and floors.
 pub record HasVerdict
-    (wish : Wish) (plan : Plan) (settings : Settings) (floors : Lengths) (cert : Lists) (verdict : CertVerdict)
+    (wish : Wish) (layout : Layout) (settings : Settings) (floors : Lengths) (cert : Lists) (verdict : CertVerdict)
     : Type 0 where
   pub net : Network
-  pub of_layout : IsNetOf (layout_of plan) (old_lengths plan) (wish plan) settings floors net
+  pub of_layout : IsNetOf (gluing_of layout) (old_lengths layout) (wish layout) settings floors net
   pub told : verdict ≡ cert_verdict net (certificate_of cert)
   pub refuted : (d : ℤ) → verdict ≢ certs.Yes d
 
 -- What is wrong with a certificate for these floors: its verdict, or that its lengths give too many faces.
 abbrev pub IsWrong :
-    (wish : Wish) (plan : Plan) (settings : Settings) (floors : Lengths) (cert : Lists) (why : Why) → Type 0
-IsWrong wish plan settings floors cert (why.Verdict verdict) = HasVerdict wish plan settings floors cert verdict
-IsWrong wish plan settings floors cert (why.TooFine faces) =
-    IsCertified wish plan settings floors cert × AreTooFine plan cert.x faces
-IsWrong wish plan settings floors cert _ = ⊥
+    (wish : Wish) (layout : Layout) (settings : Settings) (floors : Lengths) (cert : Lists) (why : Why) → Type 0
+IsWrong wish layout settings floors cert (why.Verdict verdict) = HasVerdict wish layout settings floors cert verdict
+IsWrong wish layout settings floors cert (why.TooFine faces) =
+    IsCertified wish layout settings floors cert × AreTooFine layout cert.x faces
+IsWrong wish layout settings floors cert _ = ⊥
 
 -- The only certificate is accepted, and its lengths double an edge, first at these vertices.
 abbrev pub IsLoneDoubled :
-    (wish : Wish) (plan : Plan) (settings : Settings) (floors : Lengths) (cert : Lists) (why : Why) → Type 0
-IsLoneDoubled wish plan settings floors cert (why.Doubled u v) = IsCertified wish plan settings floors cert
-    × AreCoarse plan cert.x × IsFirstDoubled (layout_of plan) (lengths_in cert.x) u v
-IsLoneDoubled wish plan settings floors cert _ = ⊥
+    (wish : Wish) (layout : Layout) (settings : Settings) (floors : Lengths) (cert : Lists) (why : Why) → Type 0
+IsLoneDoubled wish layout settings floors cert (why.Doubled u v) = IsCertified wish layout settings floors cert
+    × AreCoarse layout cert.x × IsFirstDoubled (gluing_of layout) (lengths_in cert.x) u v
+IsLoneDoubled wish layout settings floors cert _ = ⊥
 
 -- The floors that rise in the round of this number are not those that have to.
-abbrev pub AreUnneeded : (plan : Plan) (first : Lists) (rises : List Rise) (round : ℕ) (why : Why) → Type 0
-AreUnneeded plan first rises round (why.Rises number) =
-    (number ≡ round) × (¬ AreNeeded (layout_of plan) (lengths_in first.x) rises)
-AreUnneeded plan first rises round _ = ⊥
+abbrev pub AreUnneeded : (layout : Layout) (first : Lists) (rises : List Rise) (round : ℕ) (why : Why) → Type 0
+AreUnneeded layout first rises round (why.Rises number) =
+    (number ≡ round) × (¬ AreNeeded (gluing_of layout) (lengths_in first.x) rises)
+AreUnneeded layout first rises round _ = ⊥
 
 -- What is wrong with the certificates from a round on that begins with these floors. Rounds count from 1.
-abbrev pub AreWrong : (wish : Wish) (plan : Plan) (settings : Settings) (floors : Lengths) (round : ℕ)
+abbrev pub AreWrong : (wish : Wish) (layout : Layout) (settings : Settings) (floors : Lengths) (round : ℕ)
     (certificates : Certificates) (why : Why) → Type 0
-AreWrong wish plan settings floors round (alone cert) why =
-    IsWrong wish plan settings floors cert why ⊎ IsLoneDoubled wish plan settings floors cert why
-AreWrong wish plan settings floors round (raised first cert) why = IsWrong wish plan settings floors first why
-    ⊎ (IsDoubling wish plan settings floors first × IsWrong wish plan settings (λ arc. MAX_FLOOR) cert why)
-AreWrong wish plan settings floors round (risen first rises after) why = IsWrong wish plan settings floors first why
-    ⊎ (IsDoubling wish plan settings floors first
-    × (AreUnneeded plan first rises (round + 1) why
-    ⊎ (AreNeeded (layout_of plan) (lengths_in first.x) rises
-    × AreWrong wish plan settings (risen_floors rises floors) (round + 1) after why)))
+AreWrong wish layout settings floors round (alone cert) why =
+    IsWrong wish layout settings floors cert why ⊎ IsLoneDoubled wish layout settings floors cert why
+AreWrong wish layout settings floors round (raised first cert) why = IsWrong wish layout settings floors first why
+    ⊎ (IsDoubling wish layout settings floors first × IsWrong wish layout settings (λ arc. MAX_FLOOR) cert why)
+AreWrong wish layout settings floors round (risen first rises after) why = IsWrong wish layout settings floors first why
+    ⊎ (IsDoubling wish layout settings floors first
+    × (AreUnneeded layout first rises (round + 1) why
+    ⊎ (AreNeeded (gluing_of layout) (lengths_in first.x) rises
+    × AreWrong wish layout settings (risen_floors rises floors) (round + 1) after why)))
 
 -- The first certificate of these.
 abbrev pub first_of : (certificates : Certificates) → Lists
@@ -108,10 +108,10 @@ pub record DifferFrom (one other : Bytes) (at : ℕ) : Type 0 where
 pub record IsOtherText (judged : Judged) (told : Certificates) (at : ℕ) : Type 0 where
   pub certificates : Certificates
   pub front : AreFront certificates told
-  pub kept : AreKept judged.task.wish judged.plan judged.task.settings judged.task.rising certificates
-  pub coarse : AreCoarse judged.plan (used certificates).x
-  pub undoubled : IsUndoubled (layout_of judged.plan) (lengths_in (used certificates).x)
-  pub differ : DifferFrom (text_in judged) (finished_text judged.task judged.soup judged.plan certificates) at
+  pub kept : AreKept judged.task.wish judged.layout judged.task.settings judged.task.rising certificates
+  pub coarse : AreCoarse judged.layout (used certificates).x
+  pub undoubled : IsUndoubled (gluing_of judged.layout) (lengths_in (used certificates).x)
+  pub differ : DifferFrom (text_in judged) (finished_text judged.task judged.soup judged.layout certificates) at
 
 -- The text is not that of the certificates that it tells.
 abbrev pub TellsOtherText : (judged : Judged) (told : Certificates) (why : Why) → Type 0
@@ -122,7 +122,8 @@ TellsOtherText judged told _ = ⊥
 pub record IsWrongText (judged : Judged) (why : Why) : Type 0 where
   pub told : Certificates
   pub tells : TellCerts judged.task.rising (behind_in judged) told
-  pub wrong : AreWrong judged.task.wish judged.plan judged.task.settings (given_floors judged.task.settings) 1 told why
+  pub wrong : AreWrong judged.task.wish judged.layout judged.task.settings (given_floors judged.task.settings) 1 told
+      why
       ⊎ TellsOtherText judged told why
 
 -- The first thing that is wrong behind a head line.

@@ -3,7 +3,7 @@ use Rattle.std.specs.Prelude.{◌≡◌, ◌⊎◌, Bool, List, Option, Ok, Err}
 use Rattle.def_cuttext.specs.LayoutText.{layout_text}
 use Rattle.def_fit.specs.FitTasks.{kept_in}
 use Rattle.def_io.specs.Bytes.{Bytes}
-use Rattle.def_layout.specs.Plans.{Plan}
+use Rattle.def_layout.specs.Layouts.{Layout}
 use Rattle.def_marks.specs.declared.fail.MarkFail.{MarkFail}
 use Rattle.def_marks.specs.declared.fail.MarkFail.TheVariants as marks
 use Rattle.def_patches.specs.Chosen.{IsChosenLayout}
@@ -22,15 +22,15 @@ pub record HasKept (keep : Keep) (bytes : Bytes) : Type 0 where
   pub said : kept_in keep bytes soup ≡ Ok kept
 
 -- They are cut so to this layout.
-pub record HasChosenLayout (keep : Keep) (patches : Patches) (bytes : Bytes) (plan : Plan) : Type 0 where
+pub record HasChosenLayout (keep : Keep) (patches : Patches) (bytes : Bytes) (layout : Layout) : Type 0 where
   pub has : HasKept keep bytes
-  pub cut : IsChosenLayout has.soup.faces has.kept patches plan
+  pub cut : IsChosenLayout has.soup.faces has.kept patches layout
 
 -- For these bytes it writes this text: that of the layout of the chosen cut.
 pub record WritesLayout (keep : Keep) (patches : Patches) (bytes text : Bytes) : Type 0 where
-  pub plan : Plan
-  pub layout : HasChosenLayout keep patches bytes plan
-  pub said : text ≡ layout_text keep patches layout.has.soup layout.has.kept plan
+  pub layout : Layout
+  pub laid_out : HasChosenLayout keep patches bytes layout
+  pub said : text ≡ layout_text keep patches laid_out.has.soup laid_out.has.kept layout
 
 -- The bytes have a mesh, and this is the first refusal of the lines that are kept.
 pub record HasKeptFail (keep : Keep) (bytes : Bytes) (fail : MarkFail) : Type 0 where

@@ -4,7 +4,7 @@ use Rattle.def_certtext.specs.CertLines.{used}
 use Rattle.def_io.specs.Bytes.{Bytes}
 use Rattle.def_io.specs.Lines.{lines_of, tail_of}
 use Rattle.def_layout.specs.Arcs.{long_at}
-use Rattle.def_layout.specs.Plans.{Plan}
+use Rattle.def_layout.specs.Layouts.{Layout}
 use Rattle.def_map.specs.MapText.{map_text}
 use Rattle.def_remesh.specs.NewPoints.{lengths_in, multiple_of}
 use Rattle.def_remesh.specs.Refined.{refined_faces, refined_text}
@@ -46,12 +46,13 @@ WritesNew command front text = WritesFinished (asks_of command) front text
 -- The map of a text that `refine` wrote.
 abbrev pub refined_map : (by : ℕ) (front text : Bytes) (said : WritesRefined by front text) → Bytes
 refined_map by front text said =
-    map_text said.soup said.refined.plan None (multiple_of by (long_at said.refined.plan.arcs))
+    map_text said.soup said.refined.layout None (multiple_of by (long_at said.refined.layout.arcs))
 
 -- The map of the text of a finished task.
 abbrev pub finished_map : (asks : Asks) (front text : Bytes) (said : WritesFinished asks front text) → Bytes
 finished_map asks front text said =
-    map_text said.soup said.shown.finished.plan said.task.shares (lengths_in (used said.shown.finished.certificates).x)
+    map_text said.soup said.shown.finished.layout said.task.shares
+    (lengths_in (used said.shown.finished.certificates).x)
 
 -- A command wrote the text of a new mesh, and this is its map: of the same layout with the same lengths and spacing.
 abbrev pub IsMapOf : (command : Command) (front text : Bytes) (said : WritesNew command front text) (map : Bytes)
@@ -118,25 +119,25 @@ pub record IsRefusedFront (bytes : Bytes) (answer : Answer) : Type 0 where
   pub said : RefusesNew command (front_of line bytes) answer
 
 -- Why a text is not that of a mesh which is refined so: that mesh has too many faces, or its text is another one.
-abbrev pub IsNotRefined : (by : ℕ) (soup : FaceSet) (plan : Plan) (text : Bytes) (why : Why) → Type 0
-IsNotRefined by soup plan text (why.TooFine faces) = (faces ≡ refined_faces by plan) × (MAX_NEW_FACES < faces)
-IsNotRefined by soup plan text (why.Byte at) =
-    (refined_faces by plan ≤ MAX_NEW_FACES) × DifferFrom text (refined_text by soup plan) at
-IsNotRefined by soup plan text _ = ⊥
+abbrev pub IsNotRefined : (by : ℕ) (soup : FaceSet) (layout : Layout) (text : Bytes) (why : Why) → Type 0
+IsNotRefined by soup layout text (why.TooFine faces) = (faces ≡ refined_faces by layout) × (MAX_NEW_FACES < faces)
+IsNotRefined by soup layout text (why.Byte at) =
+    (refined_faces by layout ≤ MAX_NEW_FACES) × DifferFrom text (refined_text by soup layout) at
+IsNotRefined by soup layout text _ = ⊥
 
 -- The bytes from the line on are no text that `refine` writes for those before it.
 pub record IsUnrefined (by : ℕ) (front text : Bytes) (why : Why) : Type 0 where
-  pub plan : Plan
-  pub mesh : HasTracedLayout front plan
-  pub reason : IsNotRefined by mesh.soup plan text why
+  pub layout : Layout
+  pub mesh : HasTracedLayout front layout
+  pub reason : IsNotRefined by mesh.soup layout text why
 
 -- They are no text of a task that is asked for.
 pub record IsUnfinished (asks : Asks) (bytes : Bytes) (line : ℕ) (why : Why) : Type 0 where
   pub task : Task
-  pub plan : Plan
-  pub mesh : HasTask asks (front_of line bytes) task plan
-  pub untangled : (count : ℕ) → ¬ IsTangledAt task.wish plan task.settings count
-  pub reason : IsReason (record { bytes = bytes; line = line; soup = mesh.soup; plan = plan; task = task }) why
+  pub layout : Layout
+  pub mesh : HasTask asks (front_of line bytes) task layout
+  pub untangled : (count : ℕ) → ¬ IsTangledAt task.wish layout task.settings count
+  pub reason : IsReason (record { bytes = bytes; line = line; soup = mesh.soup; layout = layout; task = task }) why
 
 -- They are no text that the command writes for those before it.
 abbrev pub IsUnlike : (command : Command) (bytes : Bytes) (line : ℕ) (why : Why) → Type 0

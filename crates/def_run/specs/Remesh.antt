@@ -5,7 +5,7 @@ use Rattle.def_cut.specs.Traced.{traced_marks}
 use Rattle.def_flow.specs.declared.net.Settings.{Settings}
 use Rattle.def_io.specs.Bytes.{Bytes, Told}
 use Rattle.def_layout.specs.FaceLayouts.{IsCutLayout}
-use Rattle.def_layout.specs.Plans.{Plan}
+use Rattle.def_layout.specs.Layouts.{Layout}
 use Rattle.def_mesh.specs.Faces.{Faces}
 use Rattle.def_remesh.specs.Refusals.{IsDoubledBy, IsFineBy, IsRemeshable, IsTangledAt}
 use Rattle.def_remesh.specs.Certified.{IsShown}
@@ -17,14 +17,14 @@ use Rattle.def_run.specs.declared.answer.Answer.{Answer}
 use Rattle.def_run.specs.declared.answer.Answer.TheVariants.{Done, Tangled, TooFine, Doubled}
 
 -- The layout that the motorcycle graph of these faces cuts.
-abbrev pub IsTracedLayout : (faces : Faces) (plan : Plan) → Type 0
-IsTracedLayout faces plan = IsCutLayout faces (traced_marks faces) plan
+abbrev pub IsTracedLayout : (faces : Faces) (layout : Layout) → Type 0
+IsTracedLayout faces layout = IsCutLayout faces (traced_marks faces) layout
 
 -- The bytes have a mesh that is cut to this layout.
-pub record HasTracedLayout (bytes : Bytes) (plan : Plan) : Type 0 where
+pub record HasTracedLayout (bytes : Bytes) (layout : Layout) : Type 0 where
   pub soup : FaceSet
   pub mesh : IsMeshText bytes soup
-  pub cut : IsTracedLayout soup.faces plan
+  pub cut : IsTracedLayout soup.faces layout
 
 -- What a command asks for of bytes that have a soup.
 abbrev pub Asks : Type 1
@@ -43,33 +43,33 @@ pub record WritesFinished (asks : Asks) (bytes text : Bytes) : Type 0 where
   pub shown : IsShown task soup text
 
 -- The bytes have a mesh of which this task is asked, whose cut gives this layout.
-pub record HasTask (asks : Asks) (bytes : Bytes) (task : Task) (plan : Plan) : Type 0 where
+pub record HasTask (asks : Asks) (bytes : Bytes) (task : Task) (layout : Layout) : Type 0 where
   pub soup : FaceSet
   pub mesh : IsMeshText bytes soup
   pub asked : asks bytes soup task
-  pub cut : IsCutLayout soup.faces task.marks plan
+  pub cut : IsCutLayout soup.faces task.marks layout
 
 -- Why a layout is not remeshed: its network is too tangled, or the kept lengths give too many faces or double an edge.
 abbrev pub RefusesLayout :
-    (wish : Wish) (plan : Plan) (settings : Settings) (rising : Rising) (answer : Answer) → Type 0
-RefusesLayout wish plan settings rising (Tangled count) = IsTangledAt wish plan settings count
-RefusesLayout wish plan settings rising (TooFine faces kept) = IsFineBy wish plan settings rising faces kept
-RefusesLayout wish plan settings rising (Doubled u v cert) = IsDoubledBy wish plan settings rising u v cert
-RefusesLayout wish plan settings rising _ = ⊥
+    (wish : Wish) (layout : Layout) (settings : Settings) (rising : Rising) (answer : Answer) → Type 0
+RefusesLayout wish layout settings rising (Tangled count) = IsTangledAt wish layout settings count
+RefusesLayout wish layout settings rising (TooFine faces kept) = IsFineBy wish layout settings rising faces kept
+RefusesLayout wish layout settings rising (Doubled u v cert) = IsDoubledBy wish layout settings rising u v cert
+RefusesLayout wish layout settings rising _ = ⊥
 
 -- It refuses these bytes with this answer: they have no mesh, or the layout of a task is refused.
 abbrev pub RefusesTask : (asks : Asks) (bytes : Bytes) (answer : Answer) → Type 0
 RefusesTask asks bytes answer =
     IsNoMesh bytes answer
-    ⊎ ((task : Task) × (plan : Plan) × HasTask asks bytes task plan
-    × RefusesLayout task.wish plan task.settings task.rising answer)
+    ⊎ ((task : Task) × (layout : Layout) × HasTask asks bytes task layout
+    × RefusesLayout task.wish layout task.settings task.rising answer)
 
 -- The bytes have a mesh, each task of which is finished whatever least lists are kept.
 pub record HasFinished (asks : Asks) (bytes : Bytes) : Type 0 where
   pub soup : FaceSet
   pub mesh : IsMeshText bytes soup
-  pub fits : (task : Task) (plan : Plan) → HasTask asks bytes task plan
-      → IsRemeshable task.wish plan task.settings task.rising
+  pub fits : (task : Task) (layout : Layout) → HasTask asks bytes task layout
+      → IsRemeshable task.wish layout task.settings task.rising
 
 -- A source that holds the bytes of a mesh, no task of which has a network that is too tangled.
 pub record HoldsUntangled (asks : Asks) (left : Told) : Type 0 where
@@ -78,8 +78,8 @@ pub record HoldsUntangled (asks : Asks) (left : Told) : Type 0 where
   pub within : length bytes ≤ MAX_BYTES
   pub soup : FaceSet
   pub mesh : IsMeshText bytes soup
-  pub untangled : (task : Task) (plan : Plan) → HasTask asks bytes task plan → (count : ℕ)
-      → ¬ IsTangledAt task.wish plan task.settings count
+  pub untangled : (task : Task) (layout : Layout) → HasTask asks bytes task layout → (count : ℕ)
+      → ¬ IsTangledAt task.wish layout task.settings count
 
 -- Least lengths were found: they are written, or they give too many faces or double an edge.
 abbrev pub IsSettled : (answer : Answer) → Type 0

@@ -31,7 +31,7 @@ RereadsTask asks bytes text said = IsReadAgain text (finished_soup said.task sai
 -- of marked edges is too long.
 abbrev pub Rereads : (command : Command) (bytes text : Bytes) (said : Writes command bytes text) → Type 0
 Rereads (Refine by) bytes text said =
-    IsReadAgain text (new_soup said.soup said.refined.plan (multiple_of by (long_at said.refined.plan.arcs)))
+    IsReadAgain text (new_soup said.soup said.refined.layout (multiple_of by (long_at said.refined.layout.arcs)))
 Rereads (Remesh settings auto) bytes text said = RereadsTask (AsksToRemesh settings auto) bytes text said
 Rereads (Crease settings) bytes text said = HasShortLines (lines_between said.task said.soup text said.shown.finished)
     → RereadsTask (AsksToCrease settings) bytes text said

@@ -3,7 +3,7 @@ use Rattle.std.specs.Prelude.{◌≡◌, ℕ, ◌++◌, [], codes, decimal, None
 use Rattle.def_certtext.specs.declared.certs.Rising.TheVariants.{Never}
 use Rattle.def_cut.specs.Traced.{traced_marks}
 use Rattle.def_io.specs.Bytes.{Bytes, Told}
-use Rattle.def_layout.specs.Plans.{Plan}
+use Rattle.def_layout.specs.Layouts.{Layout}
 use Rattle.def_metric.specs.Fails.{AreNear, IsFar}
 use Rattle.def_metric.specs.Targets.{edge_settings, targets}
 use Rattle.def_remesh.specs.Tasks.{Task, Wish}
@@ -30,7 +30,7 @@ size_task edge floor soup = record {
   settings = edge_settings floor;
   rising = Never;
   head = size_head edge floor;
-  between = λ plan new. [];
+  between = λ layout new. [];
   shares = None;
 }
 
@@ -39,7 +39,8 @@ AsksForSize edge floor bytes soup task = task ≡ size_task edge floor soup
 
 -- The targets of the layout of the motorcycle graph add up to no more than the limit.
 abbrev pub HasNearTargets : (edge : ℤ) (soup : FaceSet) → Type 0
-HasNearTargets edge soup = (plan : Plan) → IsTracedLayout soup.faces plan → AreNear (soup_targets edge soup) plan
+HasNearTargets edge soup =
+    (layout : Layout) → IsTracedLayout soup.faces layout → AreNear (soup_targets edge soup) layout
 
 -- The task is asked where they do.
 abbrev pub AsksForNearSize : (edge : ℤ) (floor : ℕ) → Asks
@@ -49,9 +50,9 @@ AsksForNearSize edge floor bytes soup task = AsksForSize edge floor bytes soup t
 pub record IsFarText (edge : ℤ) (floor : ℕ) (bytes : Bytes) (sum : ℕ) : Type 0 where
   pub soup : FaceSet
   pub mesh : IsMeshText bytes soup
-  pub plan : Plan
-  pub cut : IsTracedLayout soup.faces plan
-  pub far : IsFar (soup_targets edge soup) plan (edge_settings floor) sum
+  pub layout : Layout
+  pub cut : IsTracedLayout soup.faces layout
+  pub far : IsFar (soup_targets edge soup) layout (edge_settings floor) sum
 
 -- The answer with which it refuses bytes. A network that is too tangled comes before targets that are too great, and
 -- these before all that least lengths show.

@@ -1,7 +1,7 @@
 -- The commands that solve, and the sources for which they find least lengths.
 use Rattle.std.specs.Prelude.{ℕ}
 use Rattle.def_io.specs.Bytes.{Told}
-use Rattle.def_layout.specs.Plans.{Plan}
+use Rattle.def_layout.specs.Layouts.{Layout}
 use Rattle.def_mesh.specs.Manifold.{IsManifold}
 use Rattle.def_remesh.specs.Refusals.{IsTangledAt}
 use Rattle.def_remesh.specs.Tasks.{old_lengths}
@@ -17,8 +17,8 @@ use Rattle.def_run.specs.declared.command.Command.TheVariants.{Remesh, Bench, Cr
 -- The mesh of this size has a network that is not too tangled.
 pub record IsUntangledBench (size : ℕ) : Type 0 where
   pub manifold : IsManifold (bench_faces size)
-  pub untangled : (plan : Plan) → IsTracedLayout (bench_faces size) plan → (count : ℕ)
-      → ¬ IsTangledAt old_lengths plan bench_settings count
+  pub untangled : (layout : Layout) → IsTracedLayout (bench_faces size) layout → (count : ℕ)
+      → ¬ IsTangledAt old_lengths layout bench_settings count
 
 -- A source that holds what a command solves, with a network that is not too tangled.
 abbrev pub IsUntangled : (command : Command) (left : Told) → Type 0

@@ -2,8 +2,8 @@
 use Rattle.std.proofs.Common.{◌≡◌, ℕ, true, false, List, [], ◌∷◌, length, map, pos, negsuc, cond, nat_lt, refl, inl}
 use Rattle.std.proofs.Common.{inr, arith}
 use Rattle.std.specs.Prelude.{slice_index_or, ◌-◌, ◌*◌, ◌/◌, ◌==◌, ◌||◌}
-use Rattle.def_layout.specs.{declared.tmesh.SideArc.SideArc, Layouts.Way, Layouts.south, Layouts.east, Layouts.north}
-use Rattle.def_layout.specs.{Layouts.west, Layouts.Layout, Lengths.Lengths}
+use Rattle.def_layout.specs.{declared.tmesh.SideArc.SideArc, Gluings.Way, Gluings.south, Gluings.east, Gluings.north}
+use Rattle.def_layout.specs.{Gluings.west, Gluings.Gluing, Lengths.Lengths}
 use Rattle.def_written.specs.{Points.node, Points.along, Points.inside, Numbers.vertices, NewFaces.new_faces}
 use Rattle.def_written.specs.{Edges.on_arc, Edges.IsDoubledAt, Places.Coordinate, Places.even, Places.ONE}
 use Rattle.def_written.specs.{Places.parameter, Places.parameter_back, Places.place_of, Places.Step, Spacings.shared}
@@ -25,7 +25,7 @@ abbrev side_of : (sides : List (List (List SideArc))) (patch : ℕ) (side : Way)
 side_of sides p s = slice_index_or (slice_index_or sides p []) (turn s) []
 
 -- The layout with so many nodes, arcs between these nodes, and these sides.
-abbrev table : (nodes : ℕ) (firsts lasts : List ℕ) (sides : List (List (List SideArc))) → Layout
+abbrev table : (nodes : ℕ) (firsts lasts : List ℕ) (sides : List (List (List SideArc))) → Gluing
 table nodes firsts lasts sides = record {
   nodes = nodes;
   arcs = length firsts;
@@ -40,7 +40,7 @@ abbrev lengths : (numbers : List ℕ) → Lengths
 lengths xs a = slice_index_or xs a 0
 
 -- A quad, cut in four.
-abbrev quad : Layout
+abbrev quad : Gluing
 quad = table 4 (0 ∷ 1 ∷ 2 ∷ 3 ∷ []) (1 ∷ 2 ∷ 3 ∷ 0 ∷ [])
     (((ahead 0 ∷ []) ∷ (ahead 1 ∷ []) ∷ (ahead 2 ∷ []) ∷ (ahead 3 ∷ []) ∷ []) ∷ [])
 
@@ -52,7 +52,7 @@ quad_faces : new_faces quad (lengths (2 ∷ 2 ∷ 2 ∷ 2 ∷ [])) ≡
 quad_faces = refl
 
 -- The stepped cylinder.
-abbrev cylinder : Layout
+abbrev cylinder : Gluing
 cylinder = table 6 (0 ∷ 2 ∷ 1 ∷ 1 ∷ 3 ∷ 2 ∷ 4 ∷ 3 ∷ 5 ∷ []) (1 ∷ 0 ∷ 3 ∷ 0 ∷ 2 ∷ 3 ∷ 2 ∷ 5 ∷ 4 ∷ [])
     (((ahead 0 ∷ []) ∷ (ahead 2 ∷ []) ∷ (ahead 4 ∷ []) ∷ (ahead 1 ∷ []) ∷ [])
     ∷ ((ahead 3 ∷ []) ∷ (back 1 ∷ []) ∷ (ahead 5 ∷ []) ∷ (back 2 ∷ []) ∷ [])
@@ -66,7 +66,7 @@ cylinder_faces : new_faces cylinder (lengths (1 ∷ 1 ∷ 1 ∷ 1 ∷ 1 ∷ 1 �
 cylinder_faces = refl
 
 -- A torus with one node.
-abbrev torus : Layout
+abbrev torus : Gluing
 torus = table 1 (0 ∷ 0 ∷ []) (0 ∷ 0 ∷ [])
     (((ahead 0 ∷ []) ∷ (back 1 ∷ []) ∷ (back 0 ∷ []) ∷ (ahead 1 ∷ []) ∷ []) ∷ [])
 
@@ -79,7 +79,7 @@ torus_faces : new_faces torus (lengths (3 ∷ 2 ∷ [])) ≡
 torus_faces = refl
 
 -- The pillow after one of its arcs is taken away: two sides use an arc in both directions.
-abbrev pillow : Layout
+abbrev pillow : Gluing
 pillow = table 4 (2 ∷ 1 ∷ 3 ∷ []) (0 ∷ 3 ∷ 2 ∷ [])
     (((ahead 0 ∷ back 0 ∷ []) ∷ (back 2 ∷ []) ∷ (back 1 ∷ ahead 1 ∷ []) ∷ (ahead 2 ∷ []) ∷ []) ∷ [])
 

@@ -6,4 +6,4 @@ pub mod Shape
 pub mod Places
 pub mod Spacings
 pub mod Laws
-pub mod PlanLaws
+pub mod EmbeddingLaws

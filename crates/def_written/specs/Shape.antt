@@ -6,7 +6,7 @@ use Rattle.def_mesh.specs.Vertices.{faces_at, vertex_count}
 use Rattle.def_mesh.specs.Kinds.{is_regular, kind_of}
 use Rattle.def_mesh.specs.Components.{euler}
 
--- Node n of the layout stands for this vertex, old and new.
+-- Node n of the gluing stands for this vertex, old and new.
 pub record IsKeptNode (old new : Faces) (vertex : ℕ → ℕ) (n : ℕ) : Type 0 where
   pub kind : kind_of new n ≡ kind_of old (vertex n)
   pub faces : faces_at new n ≡ faces_at old (vertex n)

@@ -3,20 +3,20 @@
 use Rattle.std.specs.Prelude.{◌≡◌, ℕ, ◌+◌, ◌-◌, ◌*◌, ◌/◌, ◌<◌, ◌==◌, Bool, true, false, cond}
 use Rattle.def_math.specs.Counts.{count_below}
 use Rattle.def_math.specs.Runs.{run_at}
-use Rattle.def_layout.specs.Layouts.{Layout}
+use Rattle.def_layout.specs.Gluings.{Gluing}
 use Rattle.def_layout.specs.Lengths.{Lengths}
 use Rattle.def_written.specs.Places.{ONE, ArcSpacing, Step}
 
 -- From either end the parameter runs from 0 to the old length, which only the other end has, and each place before the
 -- end of an arc lies before the end of one of its old edges.
-pub record IsSpacing (layout : Layout) (old new : Lengths) (spacing : ArcSpacing) : Type 0 where
-  pub begins : (arc : ℕ) (forward : Bool) → arc < layout.arcs → spacing.parameter_of arc forward 0 ≡ 0
-  pub ends : (arc : ℕ) (forward : Bool) → arc < layout.arcs
+pub record IsSpacing (gluing : Gluing) (old new : Lengths) (spacing : ArcSpacing) : Type 0 where
+  pub begins : (arc : ℕ) (forward : Bool) → arc < gluing.arcs → spacing.parameter_of arc forward 0 ≡ 0
+  pub ends : (arc : ℕ) (forward : Bool) → arc < gluing.arcs
       → spacing.parameter_of arc forward (new arc) ≡ ONE * old arc
-  pub below : (arc : ℕ) (forward : Bool) (k : ℕ) → arc < layout.arcs → k < new arc
+  pub below : (arc : ℕ) (forward : Bool) (k : ℕ) → arc < gluing.arcs → k < new arc
       → spacing.parameter_of arc forward k < ONE * old arc
-  pub edges : (arc k : ℕ) → arc < layout.arcs → k < new arc → (spacing.step arc k).edge < old arc
-  pub parts : (arc k : ℕ) → arc < layout.arcs → k < new arc → (spacing.step arc k).some < (spacing.step arc k).parts
+  pub edges : (arc k : ℕ) → arc < gluing.arcs → k < new arc → (spacing.step arc k).edge < old arc
+  pub parts : (arc k : ℕ) → arc < gluing.arcs → k < new arc → (spacing.step arc k).some < (spacing.step arc k).parts
 
 -- What each old edge of an arc asks for: the edges of an arc are counted from 0.
 abbrev pub Shares : Type 0

@@ -2,11 +2,11 @@
 use Rattle.std.proofs.Common.{◌/◌, Bool, List, length, map, refl, arith}
 use Rattle.std.specs.List.{range_with_len}
 use Rattle.def_cut.specs.{FullCut.is_on, FullCut.IsFullCut, Grids.IsPartition, Grids.Rectangle, Traced.traced_marks}
-use Rattle.def_layout.specs.{Arcs.Path, FaceLayouts.IsCutLayout, Nodes.is_node, Plans.Plan}
+use Rattle.def_layout.specs.{Arcs.Path, FaceLayouts.IsCutLayout, Nodes.is_node, Layouts.Layout}
 use Rattle.def_layout.specs.declared.tmesh.SideArc.{SideArc}
 use Rattle.def_mesh.specs.{Darts.darts, Faces.Faces, HalfEdges.half_edges, Meshes.IsMesh, Vertices.vertex_count}
 use Rattle.def_remesh.specs.LayoutLaws.{HasOneLayout, LayoutLaw, TracedLayoutLaw}
-use Rattle.plan_laws.proofs.OnePlan.{one_layout_law}
+use Rattle.embedding_laws.proofs.OneLayout.{one_layout_law}
 use Rattle.qm_grid.proofs.Cuttings.{to_cutting}
 use Rattle.qm_tmesh.specs.{Arcs.AreArcsBelow, Four.AreAllFour, Tables.IsMarked, Uses.HasUsesBelow}
 use Rattle.qm_tmesh.proofs.{Built.have_patches, Built.is_layout, Built.to_marked, UseTables.to_named}
@@ -25,15 +25,15 @@ module _ (faces : Faces) (marks : List Bool) (mesh : IsMesh faces) (full : IsFul
       (arcs : List Path)
       (below : AreArcsBelow faces marks (node_list faces marks nodes marked) (darts faces) arcs)
       (uses : List SideArc) (table : HasUsesBelow faces arcs (length arcs) uses)
-      → (sides : List (List (List SideArc))) × AreAllFour faces arcs uses ps sides → (plan : Plan)
-      × IsCutLayout faces marks plan
+      → (sides : List (List (List SideArc))) × AreAllFour faces arcs uses ps sides → (layout : Layout)
+      × IsCutLayout faces marks layout
   with_sides ps parts arcs below uses table (sides, all) = (
     record { nodes = node_list faces marks nodes marked; arcs = arcs; patches = ps; sides = sides },
     is_layout faces marks nodes marked (darts faces) (omega arith) (node_list faces marks nodes marked) arcs uses ps
         (λ d. d / 4) parts below table sides all refl,
   )
 
-  exists : (plan : Plan) × IsCutLayout faces marks plan
+  exists : (layout : Layout) × IsCutLayout faces marks layout
   exists =
       let ps = patches_exist faces marks (to_cutting faces marks mesh full) in
       let arcs = arcs_exist faces marks nodes marked ps.0 ps.1 in
@@ -46,7 +46,7 @@ module _ (faces : Faces) (marks : List Bool) (mesh : IsMesh faces) (full : IsFul
 
   one : HasOneLayout faces marks
   one = record {
-    plan = exists.0;
+    layout = exists.0;
     laid = exists.1;
     alone = λ other also. one_layout_law faces marks mesh.manifold full other exists.0 also exists.1;
   }

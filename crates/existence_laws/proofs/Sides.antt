@@ -3,8 +3,8 @@ use Rattle.std.proofs.Common.{◌⊎◌, ℕ, zero, suc, ◌+◌, ◌<◌, ◌�
 use Rattle.std.proofs.Common.{inl, inr, arith}
 use Rattle.std.proofs.lemmas.Bool.{cases_lt}
 use Rattle.def_cut.specs.Grids.{patch_at, Rectangle}
-use Rattle.def_layout.specs.{Arcs.long_at, Arcs.Path, Borders.border_dart, Borders.side_size, Layouts.east}
-use Rattle.def_layout.specs.{Layouts.north, Layouts.south, Layouts.west, Layouts.Way, Plans.way_number}
+use Rattle.def_layout.specs.{Arcs.long_at, Arcs.Path, Borders.border_dart, Borders.side_size, Gluings.east}
+use Rattle.def_layout.specs.{Gluings.north, Gluings.south, Gluings.west, Gluings.Way, Layouts.way_number}
 use Rattle.def_layout.specs.declared.tmesh.SideArc.{SideArc}
 use Rattle.def_mesh.specs.{Faces.Faces, HalfEdges.half_edges}
 use Rattle.layout_laws.specs.Named.{run_list}

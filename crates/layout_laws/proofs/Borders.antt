@@ -7,8 +7,8 @@ use Rattle.def_mesh.specs.HalfEdges.{HalfEdges, IsQuadManifold}
 use Rattle.def_cut.specs.{Cuts.Cut, Cuts.IsCut, Grids.Cells, Grids.IsGrid, Grids.Rectangle, Grids.cell_of}
 use Rattle.def_cut.specs.{Grids.patch_at, Grids.IsSide, Grids.IsPartition, Steps.spin, Steps.or_zero, Steps.easts}
 use Rattle.def_cut.specs.{Steps.step_east as go}
-use Rattle.def_layout.specs.{Arcs.end_vertex, Arcs.IsRun, Borders.side_size, Borders.border_dart, Layouts.Way}
-use Rattle.def_layout.specs.{Layouts.south, Layouts.east, Layouts.north, Layouts.west, Nodes.AreNodes}
+use Rattle.def_layout.specs.{Arcs.end_vertex, Arcs.IsRun, Borders.side_size, Borders.border_dart, Gluings.Way}
+use Rattle.def_layout.specs.{Gluings.south, Gluings.east, Gluings.north, Gluings.west, Nodes.AreNodes}
 use Rattle.cut_laws.proofs.{Darts.prev_three, Darts.prev_twice, Folds.west_open, Folds.south_open}
 use Rattle.cut_laws.proofs.{Folds.west as west_link, Folds.south as south_link}
 use Rattle.layout_laws.proofs.Runs.{walk_done}

@@ -4,7 +4,7 @@ use Rattle.std.proofs.Common.{ap₂, append_assoc, append-nil, arith}
 use Rattle.std.proofs.lemmas.Grind.{flat_map-append}
 use Rattle.std.proofs.lemmas.List.FromFn.{map-range_with_len_more}
 use Rattle.std.specs.List.{flat_map, range_with_len}
-use Rattle.def_layout.specs.{Cells.CellDart, Cells.dart, Layouts.south, Layouts.Layout, Lengths.Lengths, Lengths.wide}
+use Rattle.def_layout.specs.{Cells.CellDart, Cells.dart, Gluings.south, Gluings.Gluing, Lengths.Lengths, Lengths.wide}
 use Rattle.def_layout.specs.Lengths.{high}
 use Rattle.def_written.specs.NewFaces.{cell_in, cells_before, dart_of, patch_of}
 use Rattle.list_laws.proofs.Filters.{map_range_same}
@@ -28,7 +28,7 @@ range_join item a (suc n) =
     (sym (map-range_with_len_more (λ k. item (a + k)) 0 n n (omega arith)))
     ∙ ap (λ m. map item (range_with_len 0 a) ++ map (λ k. item (a + k)) (range_with_len 0 m)) one
 
-module _ (l : Layout) (x : Lengths) where
+module _ (l : Gluing) (x : Lengths) where
   -- Cell k of a patch, counted row by row, by its south side.
   abbrev pub cell_dart : (p k : ℕ) → CellDart
   cell_dart p k = dart p (k % wide l x p) (k / wide l x p) south

@@ -4,12 +4,12 @@ use Rattle.std.proofs.Math.Nat.{mul_comm}
 use Rattle.std.proofs.lemmas.Bool.{cases_lt, cond-true, cond-false, le-ltb, lt-ltb}
 use Rattle.std.specs.Prelude.{nat_lt}
 use Rattle.def_math.specs.Runs.{run_at}
-use Rattle.def_layout.specs.{Layouts.Layout, Lengths.Lengths, Lengths.wide, Lengths.high}
+use Rattle.def_layout.specs.{Gluings.Gluing, Lengths.Lengths, Lengths.wide, Lengths.high}
 use Rattle.def_written.specs.{Numbers.before_arc, Numbers.before_patch, Numbers.vertices, Points.node, Points.IsPoint}
 use Rattle.def_remesh.specs.NewPoints.{along_arcs, inside_patches, point_at}
 use Rattle.written_laws.proofs.{EdgeNumbers.in_rows, Runs.run_here, Runs.IsInRun}
 
-module _ (l : Layout) (new : Lengths) where
+module _ (l : Gluing) (new : Lengths) where
   -- It is a node, or lies on an arc, or inside a patch.
   pub at_node : (v : ℕ) → v < l.nodes → point_at l new v ≡ node v
   at_node v low = cond-true (nat_lt v l.nodes) _ _ (lt-ltb _ _ low)

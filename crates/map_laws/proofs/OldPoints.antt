@@ -4,45 +4,47 @@ use Rattle.def_mesh.specs.{Darts.darts, Darts.next_of, Darts.from_of, Darts.to_o
 use Rattle.def_mesh.specs.Vertices.{vertex_count}
 use Rattle.def_cut.specs.Grids.{cell_of, patch_at}
 use Rattle.def_layout.specs.{Arcs.dart_at, Arcs.long_at, Cells.CellDart, Cells.IsDart, Cells.dart, Cells.next}
-use Rattle.def_layout.specs.{Cells.slot_dart, Surfaces.IsSurface, Layouts.Way, Layouts.south, Layouts.east}
-use Rattle.def_layout.specs.Layouts.{north, west, Layout, Slot, IsSlot, use_of}
-use Rattle.def_layout.specs.{Layouts.start_node, Lengths.Lengths, Lengths.wide, Lengths.high, Lengths.AreLengths}
-use Rattle.def_layout.specs.{Plans.Plan, Plans.layout_of, Plans.vertex_at, Embeddings.IsEmbedding}
+use Rattle.def_layout.specs.{Cells.slot_dart, Surfaces.IsSurface, Gluings.Way, Gluings.south, Gluings.east}
+use Rattle.def_layout.specs.Gluings.{north, west, Gluing, Slot, IsSlot, use_of}
+use Rattle.def_layout.specs.{Gluings.start_node, Lengths.Lengths, Lengths.wide, Lengths.high, Lengths.AreLengths}
+use Rattle.def_layout.specs.{Layouts.Layout, Layouts.gluing_of, Layouts.vertex_at, Embeddings.IsEmbedding}
 use Rattle.def_layout.specs.declared.tmesh.SideArc.{SideArc}
 use Rattle.def_layoutnet.specs.MeshLayouts.{IsSomeLayout}
 use Rattle.def_written.specs.{Laws.LiesInMesh, NewFaces.dart_start, Points.Point, Points.node, Points.along}
 use Rattle.def_written.specs.Points.{inside, IsPoint, arc_point, use_point, point}
 use Rattle.def_remesh.specs.NewPoints.{old_vertex}
 use Rattle.mesh_laws.proofs.{HalfEdges.manifold_law, Vertices.all_below}
-use Rattle.plan_laws.proofs.{Lies.cell_dart, PlanLies.in_mesh as sides_in_mesh, MeshLayouts.lies, MeshLayouts.laid_of}
-use Rattle.plan_laws.proofs.MeshLayouts.{lengths_of}
+use Rattle.embedding_laws.proofs.{Lies.cell_dart, LayoutLies.in_mesh as sides_in_mesh, MeshLayouts.lies}
+use Rattle.embedding_laws.proofs.{MeshLayouts.laid_of}
+use Rattle.embedding_laws.proofs.MeshLayouts.{lengths_of}
 use Rattle.written_laws.proofs.{Borders.at_is, Borders.at_from, Borders.at_to, Borders.from_is, Grid.point_inside}
 use Rattle.written_laws.proofs.{NewDarts.next_is, OldModel.old_model, Sided.starts, Sides.use_begins, Sides.use_some}
 use Rattle.written_laws.proofs.Sides.{arc_inner}
 
-module _ (plan : Plan) (is : IsSomeLayout plan) where
-  abbrev l : Layout
-  l = layout_of plan
+module _ (layout : Layout) (is : IsSomeLayout layout) where
+  abbrev l : Gluing
+  l = gluing_of layout
 
   abbrev x : Lengths
-  x = long_at plan.arcs
+  x = long_at layout.arcs
 
-  laid : IsSurface (layout_of plan)
-  laid = laid_of plan is
+  laid : IsSurface (gluing_of layout)
+  laid = laid_of layout is
 
-  len : AreLengths (layout_of plan) (long_at plan.arcs)
-  len = lengths_of plan is
+  len : AreLengths (gluing_of layout) (long_at layout.arcs)
+  len = lengths_of layout is
 
-  in_mesh : LiesInMesh is.faces (layout_of plan) (long_at plan.arcs) (vertex_at plan)
-  in_mesh = lies plan is
+  in_mesh : LiesInMesh is.faces (gluing_of layout) (long_at layout.arcs) (vertex_at layout)
+  in_mesh = lies layout is
 
   -- The dart of the mesh for a dart of a cell.
   abbrev cell : (d : CellDart) → ℕ
-  cell = cell_dart (half_edges is.faces) plan
+  cell = cell_dart (half_edges is.faces) layout
 
-  sided : IsEmbedding (half_edges is.faces) (layout_of plan) (long_at plan.arcs) (cell_dart (half_edges is.faces) plan)
-      (vertex_at plan) (dart_at plan.arcs)
-  sided = sides_in_mesh is.faces is.marks plan is.mesh is.quads is.cut is.laid
+  sided : IsEmbedding (half_edges is.faces) (gluing_of layout) (long_at layout.arcs)
+      (cell_dart (half_edges is.faces) layout)
+      (vertex_at layout) (dart_at layout.arcs)
+  sided = sides_in_mesh is.faces is.marks layout is.mesh is.quads is.cut is.laid
 
   next_cell : (d : CellDart) → cell (next d) ≡ next_of (cell d)
   next_cell d = sided.turned d
@@ -50,14 +52,15 @@ module _ (plan : Plan) (is : IsSomeLayout plan) where
   alike : (d e : CellDart) → IsDart l x d → IsDart l x e → dart_start l x d ≡ dart_start l x e
       → from_of is.faces (cell d) ≡ from_of is.faces (cell e)
   alike d e is_d is_e same =
-      (old_model is.faces in_mesh.manifold l x in_mesh.paved in_mesh.lengths cell (vertex_at plan) (dart_at plan.arcs)
+      (old_model is.faces in_mesh.manifold l x in_mesh.paved in_mesh.lengths cell (vertex_at layout)
+      (dart_at layout.arcs)
       sided in_mesh.quads).alike
       d e is_d is_e same
 
   -- At each point a dart leaves the old vertex.
   point_vertex : (a : Point) → IsPoint l x a
       → (d : CellDart) × IsDart l x d × (dart_start l x d ≡ a)
-      × (from_of is.faces (cell d) ≡ old_vertex is.faces plan a)
+      × (from_of is.faces (cell d) ≡ old_vertex is.faces layout a)
   point_vertex (node n) low =
       let r : (w : Slot) × IsSlot l w × (start_node l (use_of l w) ≡ n) = laid.reached n low in
       let some : 0 < x (use_of l r.0).arc = use_some l x laid.paved len r.0 r.1 in (
@@ -65,7 +68,7 @@ module _ (plan : Plan) (is : IsSomeLayout plan) where
         at_is l x laid.paved len r.0 0 r.1 some,
         at_from l x laid len r.0 0 r.1 some ∙ use_begins l x (use_of l r.0) some ∙ ap node r.2,
         starts (half_edges is.faces) (manifold_law is.faces in_mesh.manifold) l x in_mesh.paved in_mesh.lengths cell
-            (vertex_at plan) (dart_at plan.arcs) sided r.0 r.1 ∙ ap (vertex_at plan) r.2,
+            (vertex_at layout) (dart_at layout.arcs) sided r.0 r.1 ∙ ap (vertex_at layout) r.2,
       )
   point_vertex (along a k) low =
       let f : (w : Slot) × IsSlot l w × (use_of l w ≡ record { arc = a; forward = true }) = laid.forward a low.0 in
@@ -75,7 +78,7 @@ module _ (plan : Plan) (is : IsSomeLayout plan) where
         at_from l x laid len f.0 k f.1 less ∙ ap (λ (u : SideArc). use_point l x u k) f.2
             ∙ arc_inner l x a k low.1 low.2,
         ap (from_of is.faces) (sided.ahead f.0 k f.1 less (ap (λ (u : SideArc). u.forward) f.2)
-            ∙ ap (λ (u : SideArc). dart_at plan.arcs u.arc k) f.2),
+            ∙ ap (λ (u : SideArc). dart_at layout.arcs u.arc k) f.2),
       )
   point_vertex (inside p i j) low = (
     dart p i j south,
@@ -85,34 +88,35 @@ module _ (plan : Plan) (is : IsSomeLayout plan) where
   )
 
   -- It is a vertex of the mesh.
-  pub old_low : (a : Point) → IsPoint (layout_of plan) (long_at plan.arcs) a
-      → old_vertex is.faces plan a < vertex_count is.faces
+  pub old_low : (a : Point) → IsPoint (gluing_of layout) (long_at layout.arcs) a
+      → old_vertex is.faces layout a < vertex_count is.faces
   old_low a low =
       let e = point_vertex a low in
       subst (λ v. v < vertex_count is.faces) e.3 (all_below is.faces (cell e.0) (sided.low e.0 e.1))
 
-  old_from : (d : CellDart) → IsDart l x d → old_vertex is.faces plan (dart_start l x d) ≡ from_of is.faces (cell d)
+  old_from : (d : CellDart) → IsDart l x d → old_vertex is.faces layout (dart_start l x d) ≡ from_of is.faces (cell d)
   old_from d is_d = by_vertex (point_vertex (dart_start l x d) (from_is l x laid len d is_d))
     where
       by_vertex : (e : CellDart) × IsDart l x e × (dart_start l x e ≡ dart_start l x d)
-          × (from_of is.faces (cell e) ≡ old_vertex is.faces plan (dart_start l x d))
-          → old_vertex is.faces plan (dart_start l x d) ≡ from_of is.faces (cell d)
+          × (from_of is.faces (cell e) ≡ old_vertex is.faces layout (dart_start l x d))
+          → old_vertex is.faces layout (dart_start l x d) ≡ from_of is.faces (cell d)
       by_vertex e = sym e.3 ∙ alike e.0 d e.1 is_d e.2
 
   -- The corners of an old cell.
   pub record AreCorners (p a b d : ℕ) : Type 0 where
     pub low : d < darts is.faces
-    pub south_west : old_vertex is.faces plan (point (layout_of plan) (long_at plan.arcs) p a b) ≡ from_of is.faces d
-    pub south_east : old_vertex is.faces plan (point (layout_of plan) (long_at plan.arcs) p (a + 1) b)
+    pub south_west : old_vertex is.faces layout (point (gluing_of layout) (long_at layout.arcs) p a b)
+        ≡ from_of is.faces d
+    pub south_east : old_vertex is.faces layout (point (gluing_of layout) (long_at layout.arcs) p (a + 1) b)
         ≡ from_of is.faces (next_of d)
-    pub north_east : old_vertex is.faces plan (point (layout_of plan) (long_at plan.arcs) p (a + 1) (b + 1))
+    pub north_east : old_vertex is.faces layout (point (gluing_of layout) (long_at layout.arcs) p (a + 1) (b + 1))
         ≡ from_of is.faces (next_of (next_of d))
-    pub north_west : old_vertex is.faces plan (point (layout_of plan) (long_at plan.arcs) p a (b + 1))
+    pub north_west : old_vertex is.faces layout (point (gluing_of layout) (long_at layout.arcs) p a (b + 1))
         ≡ from_of is.faces (next_of (next_of (next_of d)))
 
-  pub corners : (p a b : ℕ) → p < length plan.patches → a < wide (layout_of plan) (long_at plan.arcs) p
-      → b < high (layout_of plan) (long_at plan.arcs) p
-      → AreCorners p a b (cell_of (patch_at plan.patches p) a b)
+  pub corners : (p a b : ℕ) → p < length layout.patches → a < wide (gluing_of layout) (long_at layout.arcs) p
+      → b < high (gluing_of layout) (long_at layout.arcs) p
+      → AreCorners p a b (cell_of (patch_at layout.patches p) a b)
   corners p a b p_low a_low b_low = record {
     low = sided.low (dart p a b south) (at south);
     south_west = old_from (dart p a b south) (at south);
@@ -130,20 +134,21 @@ module _ (plan : Plan) (is : IsSomeLayout plan) where
   -- The ends of a dart of an arc.
   pub record AreEnds (a i d : ℕ) : Type 0 where
     pub low : d < darts is.faces
-    pub first : old_vertex is.faces plan (arc_point (layout_of plan) (long_at plan.arcs) a i) ≡ from_of is.faces d
-    pub last : old_vertex is.faces plan (arc_point (layout_of plan) (long_at plan.arcs) a (i + 1)) ≡ to_of is.faces d
+    pub first : old_vertex is.faces layout (arc_point (gluing_of layout) (long_at layout.arcs) a i) ≡ from_of is.faces d
+    pub last : old_vertex is.faces layout (arc_point (gluing_of layout) (long_at layout.arcs) a (i + 1))
+        ≡ to_of is.faces d
 
-  pub ends : (a i : ℕ) → a < length plan.arcs → i < long_at plan.arcs a → AreEnds a i (dart_at plan.arcs a i)
+  pub ends : (a i : ℕ) → a < length layout.arcs → i < long_at layout.arcs a → AreEnds a i (dart_at layout.arcs a i)
   ends a i a_low i_low = by_slot (laid.forward a a_low)
     where
       by_slot : (w : Slot) × IsSlot l w × (use_of l w ≡ record { arc = a; forward = true })
-          → AreEnds a i (dart_at plan.arcs a i)
+          → AreEnds a i (dart_at layout.arcs a i)
       by_slot f = record {
         low = sided.arc_low a i a_low i_low;
-        first = ap (old_vertex is.faces plan)
+        first = ap (old_vertex is.faces layout)
             (sym (at_from l x laid len f.0 i f.1 less ∙ ap (λ (u : SideArc). use_point l x u i) f.2))
             ∙ old_from (slot_dart l x f.0 i) is_dart ∙ ap (from_of is.faces) here;
-        last = ap (old_vertex is.faces plan)
+        last = ap (old_vertex is.faces layout)
             (sym (at_to l x laid len f.0 i f.1 less ∙ ap (λ (u : SideArc). use_point l x u (i + 1)) f.2))
             ∙ old_from (next (slot_dart l x f.0 i)) (next_is l x (slot_dart l x f.0 i) is_dart)
             ∙ ap (from_of is.faces) (next_cell (slot_dart l x f.0 i) ∙ ap next_of here);
@@ -155,6 +160,6 @@ module _ (plan : Plan) (is : IsSomeLayout plan) where
           is_dart : IsDart l x (slot_dart l x f.0 i)
           is_dart = at_is l x laid.paved len f.0 i f.1 less
 
-          here : cell (slot_dart l x f.0 i) ≡ dart_at plan.arcs a i
+          here : cell (slot_dart l x f.0 i) ≡ dart_at layout.arcs a i
           here = sided.ahead f.0 i f.1 less (ap (λ (u : SideArc). u.forward) f.2)
-              ∙ ap (λ (u : SideArc). dart_at plan.arcs u.arc i) f.2
+              ∙ ap (λ (u : SideArc). dart_at layout.arcs u.arc i) f.2

@@ -2,8 +2,8 @@
 use Rattle.std.proofs.Common.{◌≡◌, ℕ, zero, suc, ◌+◌, ◌-◌, ◌*◌, ◌/◌, ◌<◌, ◌≤◌, Bool, not, ◌∙◌, ap, inl, inr, arith}
 use Rattle.std.proofs.lemmas.Bool.{cases_eq, cases_lt}
 use Rattle.std.proofs.lemmas.Nat.{mul-le}
-use Rattle.def_layout.specs.{Surfaces.IsSurface, declared.tmesh.SideArc.SideArc, Layouts.Way, Layouts.south}
-use Rattle.def_layout.specs.{Layouts.east, Layouts.north, Layouts.west, Layouts.Layout, Lengths.Lengths, Lengths.reach}
+use Rattle.def_layout.specs.{Surfaces.IsSurface, declared.tmesh.SideArc.SideArc, Gluings.Way, Gluings.south}
+use Rattle.def_layout.specs.{Gluings.east, Gluings.north, Gluings.west, Gluings.Gluing, Lengths.Lengths, Lengths.reach}
 use Rattle.def_layout.specs.Lengths.{size, wide, high, AreLengths}
 use Rattle.def_written.specs.Places.{ONE, parameter, parameter_back, parameter_u, parameter_v, rest_at, ArcSpacing}
 use Rattle.def_written.specs.Spacings.{IsSpacing}
@@ -29,7 +29,7 @@ mean_less a b m h j some le a_low b_low =
         → a * k + b * j < m * h
     by_parts k a_le b_le same whole = omega (arith, a_le, b_le, same, whole, some)
 
-module _ (l : Layout) (old new : Lengths) (spacing : ArcSpacing) (laid : IsSurface l) (o_len : AreLengths l old)
+module _ (l : Gluing) (old new : Lengths) (spacing : ArcSpacing) (laid : IsSurface l) (o_len : AreLengths l old)
     (n_len : AreLengths l new) (spaced : IsSpacing l old new spacing) where
   -- The last arc of a side lies at its end.
   over_end : (p : ℕ) (s : Way) → p < l.patches → use_over l new p s (size l new p s) ≡ l.many p s - 1

@@ -1,8 +1,8 @@
 -- New vertices lie in the old mesh, and have the places that are computed from there.
 use Rattle.std.proofs.Common.{◌≡◌, ℕ, ◌<◌, List, length, Option, refl, sym, subst, arith}
 use Rattle.def_cut.specs.Grids.{cell_of, patch_at}
-use Rattle.def_layout.specs.{Arcs.dart_at, Arcs.long_at, Layouts.Layout, Lengths.Lengths, Lengths.wide, Lengths.high}
-use Rattle.def_layout.specs.{Lengths.AreLengths, Plans.Plan, Plans.layout_of}
+use Rattle.def_layout.specs.{Arcs.dart_at, Arcs.long_at, Gluings.Gluing, Lengths.Lengths, Lengths.wide, Lengths.high}
+use Rattle.def_layout.specs.{Lengths.AreLengths, Layouts.Layout, Layouts.gluing_of}
 use Rattle.def_layoutnet.specs.MeshLayouts.{IsSomeLayout}
 use Rattle.def_mesh.specs.Faces.{Faces}
 use Rattle.def_text.specs.Types.{Positions}
@@ -15,48 +15,49 @@ use Rattle.def_map.specs.{SpotPlaces.spot_place, Spots.spot_at, Spots.spot_of}
 use Rattle.map_laws.proofs.Numbered.{is_point}
 use Rattle.map_laws.proofs.OldPoints.{corners, ends, old_low, AreCorners, AreEnds}
 use Rattle.map_laws.proofs.Parameters.{rest_less, u_less, v_less}
-use Rattle.plan_laws.proofs.MeshLayouts.{laid_of, lengths_of}
+use Rattle.embedding_laws.proofs.MeshLayouts.{laid_of, lengths_of}
 use Rattle.written_laws.proofs.Grid.{wide_some, high_some}
 
 -- The spot of a point lies in the mesh, and the place that is computed from it is that of the point.
-pub record IsSpotOf (faces : Faces) (plan : Plan) (shares : Option (List ℕ)) (new : Lengths) (point : Point) : Type 0
+pub record IsSpotOf (faces : Faces) (layout : Layout) (shares : Option (List ℕ)) (new : Lengths) (point : Point) : Type
+    0
   where
-    pub within : IsSpot faces (spot_of plan new (spacing_by plan shares new) point)
-    pub place : (places : Positions) → spot_place faces places (spot_of plan new (spacing_by plan shares new) point)
-        ≡ on_axes (new_coordinate faces plan places shares new point)
+    pub within : IsSpot faces (spot_of layout new (spacing_by layout shares new) point)
+    pub place : (places : Positions) → spot_place faces places (spot_of layout new (spacing_by layout shares new) point)
+        ≡ on_axes (new_coordinate faces layout places shares new point)
 
-module _ (plan : Plan) (is : IsSomeLayout plan) (shares : Option (List ℕ)) (new : Lengths)
-    (len : AreLengths (layout_of plan) new)
-    (spaced : IsSpacing (layout_of plan) (long_at plan.arcs) new (spacing_by plan shares new)) where
-  abbrev l : Layout
-  l = layout_of plan
+module _ (layout : Layout) (is : IsSomeLayout layout) (shares : Option (List ℕ)) (new : Lengths)
+    (len : AreLengths (gluing_of layout) new)
+    (spaced : IsSpacing (gluing_of layout) (long_at layout.arcs) new (spacing_by layout shares new)) where
+  abbrev l : Gluing
+  l = gluing_of layout
 
   abbrev old : Lengths
-  old = long_at plan.arcs
+  old = long_at layout.arcs
 
   abbrev spacing : ArcSpacing
-  spacing = spacing_by plan shares new
+  spacing = spacing_by layout shares new
 
   -- A point of an arc.
-  on_dart : (arc k : ℕ) → arc < length plan.arcs → k < new arc → IsSpotOf is.faces plan shares new (along arc k)
+  on_dart : (arc k : ℕ) → arc < length layout.arcs → k < new arc → IsSpotOf is.faces layout shares new (along arc k)
   on_dart arc k low less = record {
     within = (e.low, spaced.parts arc k low less);
     place = λ places t. on_axes (λ axis. on_the_way (coordinate_at places (sym e.first t) axis)
         (coordinate_at places (sym e.last t) axis) (spacing.step arc k).some (spacing.step arc k).parts);
   }
     where
-      e : AreEnds plan is arc (spacing.step arc k).edge (dart_at plan.arcs arc (spacing.step arc k).edge)
-      e = ends plan is arc (spacing.step arc k).edge low (spaced.edges arc k low less)
+      e : AreEnds layout is arc (spacing.step arc k).edge (dart_at layout.arcs arc (spacing.step arc k).edge)
+      e = ends layout is arc (spacing.step arc k).edge low (spaced.edges arc k low less)
 
   -- A point of a patch.
-  in_cell : (patch i j : ℕ) → IsPoint l new (inside patch i j) → IsSpotOf is.faces plan shares new (inside patch i j)
+  in_cell : (patch i j : ℕ) → IsPoint l new (inside patch i j) → IsSpotOf is.faces layout shares new (inside patch i j)
   in_cell patch i j inner = record {
     within = (
       e.low,
       rest_less (wide l old patch) (parameter_u l old new spacing patch i j) wide_pos
-          (u_less l old new spacing (laid_of plan is) (lengths_of plan is) len spaced patch i j inner),
+          (u_less l old new spacing (laid_of layout is) (lengths_of layout is) len spaced patch i j inner),
       rest_less (high l old patch) (parameter_v l old new spacing patch i j) high_pos
-          (v_less l old new spacing (laid_of plan is) (lengths_of plan is) len spaced patch i j inner),
+          (v_less l old new spacing (laid_of layout is) (lengths_of layout is) len spaced patch i j inner),
     );
     place = λ places t. on_axes (λ axis. blend (rest_at (wide l old patch) (parameter_u l old new spacing patch i j))
         (rest_at (high l old patch) (parameter_v l old new spacing patch i j))
@@ -65,32 +66,34 @@ module _ (plan : Plan) (is : IsSomeLayout plan) (shares : Option (List ℕ)) (ne
   }
     where
       wide_pos : 0 < wide l old patch
-      wide_pos = wide_some l old (laid_of plan is).paved (lengths_of plan is) patch inner.0
+      wide_pos = wide_some l old (laid_of layout is).paved (lengths_of layout is) patch inner.0
 
       high_pos : 0 < high l old patch
-      high_pos = high_some l old (laid_of plan is).paved (lengths_of plan is) patch inner.0
+      high_pos = high_some l old (laid_of layout is).paved (lengths_of layout is) patch inner.0
 
-      e : AreCorners plan is patch (cell_at (wide l old patch) (parameter_u l old new spacing patch i j))
+      e : AreCorners layout is patch (cell_at (wide l old patch) (parameter_u l old new spacing patch i j))
           (cell_at (high l old patch) (parameter_v l old new spacing patch i j))
-          (cell_of (patch_at plan.patches patch) (cell_at (wide l old patch) (parameter_u l old new spacing patch i j))
+          (cell_of (patch_at layout.patches patch)
+          (cell_at (wide l old patch) (parameter_u l old new spacing patch i j))
           (cell_at (high l old patch) (parameter_v l old new spacing patch i j)))
-      e = corners plan is patch (cell_at (wide l old patch) (parameter_u l old new spacing patch i j))
+      e = corners layout is patch (cell_at (wide l old patch) (parameter_u l old new spacing patch i j))
           (cell_at (high l old patch) (parameter_v l old new spacing patch i j))
           inner.0 (omega (arith, wide_pos)) (omega (arith, high_pos))
 
   -- Any point.
-  spot_is : (a : Point) → IsPoint l new a → IsSpotOf is.faces plan shares new a
-  spot_is (node n) low = record { within = old_low plan is (node n) low; place = λ places. refl }
+  spot_is : (a : Point) → IsPoint l new a → IsSpotOf is.faces layout shares new a
+  spot_is (node n) low = record { within = old_low layout is (node n) low; place = λ places. refl }
   spot_is (along a k) low = on_dart a k low.0 low.2
   spot_is (inside p i j) low = in_cell p i j low
 
 pub spot_law : SpotLaw
-spot_law faces plan shares new (is, same) len spaced v low =
-    by_point (subst (λ (F : Faces). IsSpotOf F plan shares new (point_at (layout_of plan) new v)) same
-    (spot_is plan is shares new len spaced (point_at (layout_of plan) new v) (is_point (layout_of plan) new v low)))
+spot_law faces layout shares new (is, same) len spaced v low =
+    by_point (subst (λ (F : Faces). IsSpotOf F layout shares new (point_at (gluing_of layout) new v)) same
+    (spot_is layout is shares new len spaced (point_at (gluing_of layout) new v)
+    (is_point (gluing_of layout) new v low)))
   where
-    by_point : IsSpotOf faces plan shares new (point_at (layout_of plan) new v)
-        → IsSpot faces (spot_at plan shares new v)
-        × ((places : Positions) → spot_place faces places (spot_at plan shares new v)
-        ≡ spaced_place faces plan places shares new v)
+    by_point : IsSpotOf faces layout shares new (point_at (gluing_of layout) new v)
+        → IsSpot faces (spot_at layout shares new v)
+        × ((places : Positions) → spot_place faces places (spot_at layout shares new v)
+        ≡ spaced_place faces layout places shares new v)
     by_point at = (at.within, at.place)

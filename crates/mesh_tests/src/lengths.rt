@@ -2,9 +2,9 @@
 
 ghost use Rattle.std.specs.Prelude.{◌≡◌, ◌<◌, ◌≤◌, ℕ, length, true};
 ghost use Rattle.def_flow.specs.declared.limits.TheConstants.{MAX_LENGTH};
-ghost use Rattle.def_layout.specs.Layouts.{Way};
+ghost use Rattle.def_layout.specs.Gluings.{Way};
 ghost use Rattle.def_layout.specs.Lengths.{size};
-ghost use Rattle.def_layout.specs.Plans.{layout_of, way_number};
+ghost use Rattle.def_layout.specs.Layouts.{gluing_of, way_number};
 ghost use Rattle.def_remesh.specs.NewPoints.{lengths_in};
 ghost use Rattle.mesh_tests.specs.Fits.{AreEven, FitsLayout};
 
@@ -14,7 +14,7 @@ use qm_stages::CutMesh;
 
 /// Whether these are lengths of a layout: one for each arc, from 1 to the limit, with equal sums on opposite sides.
 pub(crate) fn are_lengths(cut: &CutMesh, lengths: &[u64]) -> bool
-    ensures { result ≡ true → FitsLayout cut.now.plan lengths.now }
+    ensures { result ≡ true → FitsLayout cut.now.layout lengths.now }
 {
     lengths.len() == cut.layout().arcs.len() && are_short(lengths) && are_even(cut, lengths)
 }
@@ -34,10 +34,10 @@ fn are_short(lengths: &[u64]) -> bool
 
 /// Whether opposite sides of each patch have equal sums.
 fn are_even(cut: &CutMesh, lengths: &[u64]) -> bool
-    requires long { length lengths.now ≡ length cut.now.plan.arcs }
+    requires long { length lengths.now ≡ length cut.now.layout.arcs }
     requires bounded { (arc : ℕ) → lengths_in lengths.now arc ≤ MAX_LENGTH }
-    ensures { result ≡ true → (patch : ℕ) → patch < length cut.now.plan.patches
-        → AreEven (layout_of cut.now.plan) (lengths_in lengths.now) patch }
+    ensures { result ≡ true → (patch : ℕ) → patch < length cut.now.layout.patches
+        → AreEven (gluing_of cut.now.layout) (lengths_in lengths.now) patch }
 {
     for patch in 0..cut.layout().patches.len() {
         if !is_even(cut, patch, lengths) {
@@ -49,10 +49,10 @@ fn are_even(cut: &CutMesh, lengths: &[u64]) -> bool
 
 /// Whether opposite sides of a patch have equal sums.
 fn is_even(cut: &CutMesh, patch: usize, lengths: &[u64]) -> bool
-    requires patch { patch < length cut.now.plan.patches }
-    requires long { length lengths.now ≡ length cut.now.plan.arcs }
+    requires patch { patch < length cut.now.layout.patches }
+    requires long { length lengths.now ≡ length cut.now.layout.arcs }
     requires bounded { (arc : ℕ) → lengths_in lengths.now arc ≤ MAX_LENGTH }
-    ensures { result ≡ true → AreEven (layout_of cut.now.plan) (lengths_in lengths.now) patch }
+    ensures { result ≡ true → AreEven (gluing_of cut.now.layout) (lengths_in lengths.now) patch }
 {
     let south = sum_on(cut, patch, 0, lengths);
     let east = sum_on(cut, patch, 1, lengths);
@@ -63,12 +63,12 @@ fn is_even(cut: &CutMesh, patch: usize, lengths: &[u64]) -> bool
 
 /// The sum on a side of a patch.
 fn sum_on(cut: &CutMesh, patch: usize, side: usize, lengths: &[u64]) -> u64
-    requires patch { patch < length cut.now.plan.patches }
+    requires patch { patch < length cut.now.layout.patches }
     requires side { side < 4 }
-    requires long { length lengths.now ≡ length cut.now.plan.arcs }
+    requires long { length lengths.now ≡ length cut.now.layout.arcs }
     requires bounded { (arc : ℕ) → lengths_in lengths.now arc ≤ MAX_LENGTH }
     ensures { (way : Way) → way_number way ≡ side
-        → result ≡ size (layout_of cut.now.plan) (lengths_in lengths.now) patch way }
+        → result ≡ size (gluing_of cut.now.layout) (lengths_in lengths.now) patch way }
 {
     size_on(cut.layout(), patch, side, lengths)
 }

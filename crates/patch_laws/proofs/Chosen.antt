@@ -93,7 +93,7 @@ no_marks_law faces marks patches cut m marked unmarked = (
         (marked.long ∙ sym (length-replicate (darts faces) false)) (λ d l. unmarked d ∙ sym (off faces d))
 
 pub one_arc_law : OneArcLaw
-one_arc_law faces (Some marks) plan m marked (cut, is, laid) patch side low =
-    one_arc faces m marks marked cut is plan laid patch side low
-one_arc_law faces None plan m kept (cut, is, laid) patch side low =
-    one_arc faces m (replicate (darts faces) false) (are_none faces) cut is plan laid patch side low
+one_arc_law faces (Some marks) layout m marked (cut, is, laid) patch side low =
+    one_arc faces m marks marked cut is layout laid patch side low
+one_arc_law faces None layout m kept (cut, is, laid) patch side low =
+    one_arc faces m (replicate (darts faces) false) (are_none faces) cut is layout laid patch side low

@@ -14,8 +14,8 @@ use Rattle.def_mesh.specs.Vertices.{fan_of, faces_at}
 use Rattle.def_cut.specs.{Cuts.HasCross, Cuts.IsCut, FullCut.is_on, Grids.patch_at, Motion.is_among, Steps.easts}
 use Rattle.def_feature.specs.{Conforming.IsConforming, Marks.AreMarks}
 use Rattle.def_layout.specs.{Arcs.IsArc, Arcs.path_at, Arcs.long_at, Borders.side_size, Borders.border_dart}
-use Rattle.def_layout.specs.{FaceLayouts.IsCutLayout, Layouts.Way, Lengths.reach, Nodes.is_lone_before}
-use Rattle.def_layout.specs.{Nodes.cut_degree, Nodes.is_node, Plans.Plan, Plans.layout_of}
+use Rattle.def_layout.specs.{FaceLayouts.IsCutLayout, Gluings.Way, Lengths.reach, Nodes.is_lone_before}
+use Rattle.def_layout.specs.{Nodes.cut_degree, Nodes.is_node, Layouts.Layout, Layouts.gluing_of}
 use Rattle.def_merge.specs.Joins.{IsWholeSide}
 use Rattle.cut_laws.proofs.Crosses.{Leaves, of_four, one_of_four, both_twins, no_fix, low_a, low_b}
 use Rattle.face_laws.proofs.{Fans.has_fan, Fans.regular_cross, FullCuts.full_cut_law}
@@ -258,43 +258,45 @@ module _ (faces : Faces) (m : IsManifold faces) (marks : List Bool) (marked : Ar
       (side_low mesh laws (is_on cut) full s n side (suc k) l)
       (side_link mesh laws (is_on cut) full s n side k l) (side.inside k l)
 
-  module _ (plan : Plan) (lay : IsCutLayout faces cut plan) (patch : ℕ) (side : Way) (low : patch < length plan.patches)
+  module _ (layout : Layout) (lay : IsCutLayout faces cut layout) (patch : ℕ) (side : Way)
+      (low : patch < length layout.patches)
     where
       abbrev sides : ℕ
-      sides = (layout_of plan).many patch side
+      sides = (gluing_of layout).many patch side
 
       abbrev lengths : ℕ → ℕ
-      lengths k = long_at plan.arcs ((layout_of plan).use_at patch side k).arc
+      lengths k = long_at layout.arcs ((gluing_of layout).use_at patch side k).arc
 
-      lined_up : IsBorder (half_edges faces) (is_on cut) (patch_at plan.patches patch) side
-      lined_up = border mesh laws (is_on cut) full (patch_at plan.patches patch) (lay.patches.patch patch low).grid side
+      lined_up : IsBorder (half_edges faces) (is_on cut) (patch_at layout.patches patch) side
+      lined_up = border mesh laws (is_on cut) full (patch_at layout.patches patch) (lay.patches.patch patch low).grid
+          side
 
-      sized : count_below lengths sides ≡ side_size (patch_at plan.patches patch) side
+      sized : count_below lengths sides ≡ side_size (patch_at layout.patches patch) side
       sized = lay.sizes patch side low
 
       arc_there : (k : ℕ) → k < sides
           → IsArc (half_edges faces) (is_on cut) (is_node faces cut)
-          (path_at plan.arcs ((layout_of plan).use_at patch side k).arc).darts
-      arc_there k l = lay.arcs.each ((layout_of plan).use_at patch side k).arc
+          (path_at layout.arcs ((gluing_of layout).use_at patch side k).arc).darts
+      arc_there k l = lay.arcs.each ((gluing_of layout).use_at patch side k).arc
           (lay.uses (record { patch = patch; side = side; at = k }) (record { patch_low = low; low = l }))
 
       -- An arc in use begins at a node.
-      node_at : (k : ℕ) → k < sides → reach (layout_of plan) (long_at plan.arcs) patch side k < side_size
-          (patch_at plan.patches patch) side
+      node_at : (k : ℕ) → k < sides → reach (gluing_of layout) (long_at layout.arcs) patch side k < side_size
+          (patch_at layout.patches patch) side
           → is_node faces cut (from_of faces
-          (border_dart (half_edges faces) (patch_at plan.patches patch) side
-          (reach (layout_of plan) (long_at plan.arcs) patch side k))) ≡ true
+          (border_dart (half_edges faces) (patch_at layout.patches patch) side
+          (reach (gluing_of layout) (long_at layout.arcs) patch side k))) ≡ true
       node_at k l place =
-          let none : reach (layout_of plan) (long_at plan.arcs) patch side k + 0 ≡ reach (layout_of plan)
-          (long_at plan.arcs) patch side k = omega arith in
+          let none : reach (gluing_of layout) (long_at layout.arcs) patch side k + 0 ≡ reach (gluing_of layout)
+          (long_at layout.arcs) patch side k = omega arith in
           ap
           (λ z. is_node faces cut (from_of faces
-          (border_dart (half_edges faces) (patch_at plan.patches patch) side z))) (sym none)
+          (border_dart (half_edges faces) (patch_at layout.patches patch) side z))) (sym none)
           ∙ (use_run mesh laws (is_on cut) full (is_node faces cut) (are_nodes faces laws cut full)
-          (path_at plan.arcs ((layout_of plan).use_at patch side k).arc).darts
-          ((layout_of plan).use_at patch side k).forward
-          (border_dart (half_edges faces) (patch_at plan.patches patch) side
-          (reach (layout_of plan) (long_at plan.arcs) patch side k + 0)) (arc_there k l)
+          (path_at layout.arcs ((gluing_of layout).use_at patch side k).arc).darts
+          ((gluing_of layout).use_at patch side k).forward
+          (border_dart (half_edges faces) (patch_at layout.patches patch) side
+          (reach (gluing_of layout) (long_at layout.arcs) patch side k + 0)) (arc_there k l)
           (lay.used (record { patch = patch; side = side; at = k }) 0 (record { patch_low = low; low = l })
           (arc_there k l).run.some)).run.begins
 
@@ -310,7 +312,7 @@ module _ (faces : Faces) (m : IsManifold faces) (marks : List Bool) (marked : Ar
               second : 0 < lengths 1
               second = (arc_there 1 l).run.some
 
-              place : count_below lengths 1 < side_size (patch_at plan.patches patch) side
+              place : count_below lengths 1 < side_size (patch_at layout.patches patch) side
               place =
                   let grown : count_below lengths 2 ≤ count_below lengths (sides - 2 + 2) =
                   count_on lengths 2 (sides - 2) in
@@ -321,18 +323,19 @@ module _ (faces : Faces) (m : IsManifold faces) (marks : List Bool) (marked : Ar
               before = omega (arith, first)
 
               off : is_node faces cut (from_of faces
-                  (border_dart (half_edges faces) (patch_at plan.patches patch) side (count_below lengths 1))) ≡ false
+                  (border_dart (half_edges faces) (patch_at layout.patches patch) side (count_below lengths 1))) ≡ false
               off = ap (λ z. is_node faces cut (from_of faces z)) (sym (lined_up.along (count_below lengths 1) place)
-                  ∙ ap (easts (half_edges faces) (border_dart (half_edges faces) (patch_at plan.patches patch) side 0))
+                  ∙ ap (easts (half_edges faces)
+                  (border_dart (half_edges faces) (patch_at layout.patches patch) side 0))
                   (sym before))
-                  ∙ no_node_inside (border_dart (half_edges faces) (patch_at plan.patches patch) side 0)
-                  (side_size (patch_at plan.patches patch) side) lined_up.whole (lengths 0 - 1)
+                  ∙ no_node_inside (border_dart (half_edges faces) (patch_at layout.patches patch) side 0)
+                  (side_size (patch_at layout.patches patch) side) lined_up.whole (lengths 0 - 1)
                   (omega (arith, before, place))
 
           by_size : (1 < sides) ⊎ (sides ≤ 1) → (sides ≡ 0) ⊎ (sides ≡ 0 → ⊥) → sides ≡ 1
           by_size (inl l) e = absurd (two_arcs l)
           by_size (inr l) (inl e) =
               let none : count_below lengths sides ≡ 0 = ap (count_below lengths) e in
-              let some : 0 < side_size (patch_at plan.patches patch) side = lined_up.whole.some in
+              let some : 0 < side_size (patch_at layout.patches patch) side = lined_up.whole.some in
               absurd (omega (arith, none, sized, some))
           by_size (inr l) (inr ne) = omega (arith, l, ne)

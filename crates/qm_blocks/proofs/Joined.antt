@@ -3,7 +3,7 @@ use Rattle.std.proofs.Common.{◌≡◌, ℕ, ◌+◌, ◌-◌, ◌<◌, ◌≤�
 use Rattle.std.proofs.Common.{refl, sym, ◌∙◌, ap, inl, inr, arith}
 use Rattle.std.proofs.lemmas.Bool.{false≢true}
 use Rattle.def_layout.specs.Surfaces.{IsSurface, IsOtherSlot}
-use Rattle.def_layout.specs.Layouts.{Way, south, east, north, west, Layout, Slot, IsSlot, use_of}
+use Rattle.def_layout.specs.Gluings.{Way, south, east, north, west, Gluing, Slot, IsSlot, use_of}
 use Rattle.def_layout.specs.Lengths.{Lengths, size, AreLengths}
 use Rattle.def_written.specs.{Numbers.vertex_number, Points.side_point, Points.use_point}
 use Rattle.def_blocks.specs.{Laws.LinkedPointsLaw, Links.first_point, Links.side_name, Links.IsLinkOf}
@@ -11,7 +11,7 @@ use Rattle.def_blocks.specs.{SidePoints.side_vertex, declared.link.SideName.Side
 use Rattle.written_laws.proofs.{Borders.use_back, Rims.border_point, Sides.reach_low, Sides.side_upto}
 use Rattle.qm_blocks.proofs.Mutual.{block_part, from_part, is_linked, link_to, side_part, slot_of_link}
 
-module _ (l : Layout) (x : Lengths) (laid : IsSurface l) (len : AreLengths l x) where
+module _ (l : Gluing) (x : Lengths) (laid : IsSurface l) (len : AreLengths l x) where
   -- The vertex at a point of a side is that of the arc that lies there.
   vertex_on : (p : ℕ) (s : Way) (t : ℕ) → p < l.patches → t ≤ size l x p s
       → side_vertex l x p (side_name s) t ≡ vertex_number l x (side_point l x p s t)

@@ -6,7 +6,7 @@ use Rattle.std.proofs.lemmas.Bool.{false≢true}
 use Rattle.std.proofs.lemmas.Bool.Decides.{leb_tells}
 use Rattle.std.proofs.lemmas.Option.{get_or_from_slice_get, slice_get-get_or, slice_get_within}
 use Rattle.def_layout.specs.Surfaces.{IsSurface, IsOtherSlot}
-use Rattle.def_layout.specs.Layouts.{Way, south, east, north, west, Layout, Slot, IsSlot, use_of}
+use Rattle.def_layout.specs.Gluings.{Way, south, east, north, west, Gluing, Slot, IsSlot, use_of}
 use Rattle.def_layout.specs.Lengths.{Lengths}
 use Rattle.std.specs.List.{Contains}
 use Rattle.def_blocks.specs.{Laws.HasLink, Laws.MutualLaw, Links.arcs_before, Links.first_point, Links.place_in}
@@ -15,7 +15,7 @@ use Rattle.def_blocks.specs.{declared.link.SideName.SideName, declared.link.Side
 use Rattle.qm_blocks.proofs.Slots.{turned_back}
 
 -- Each place of a patch is that of a slot.
-slot_at : (l : Layout) (p k : ℕ) → k < arcs_before l p west + l.many p west
+slot_at : (l : Gluing) (p k : ℕ) → k < arcs_before l p west + l.many p west
     → (s : Way) × (at : ℕ) × (at < l.many p s) × (arcs_before l p s + at ≡ k)
 slot_at l p k low = elim (leb_tells (l.many p south) k) [
   | inr less ↦ let e : 0 + k ≡ k = omega arith in (south, k, less.1, e)
@@ -69,7 +69,7 @@ abbrev pub from_part : (o : Option (ℕ × SideName × ℕ)) → ℕ
 from_part (Some x) = x.2
 from_part None = 0
 
-module _ (l : Layout) (x : Lengths) (laid : IsSurface l) (links : List (List Link)) (are : AreLinks l x links) where
+module _ (l : Gluing) (x : Lengths) (laid : IsSurface l) (links : List (List Link)) (are : AreLinks l x links) where
   -- A link of a block is that of a slot.
   pub slot_of_link : (p k : ℕ) (link : Link) → p < l.patches → k < length (slice_index_or links p [])
       → slice_index_or (slice_index_or links p []) k link ≡ link

@@ -1,7 +1,7 @@
 -- Slots by the arcs that they use.
 use Rattle.std.proofs.Common.{◌≡◌, ◌≢◌, ◌⊎◌, Bool, true, false, not, refl, sym, ◌∙◌, ap, inl, inr}
-use Rattle.def_layout.specs.{declared.tmesh.SideArc.SideArc, Surfaces.IsSurface, Surfaces.IsOtherSlot, Layouts.Layout}
-use Rattle.def_layout.specs.Layouts.{Slot, IsSlot, AreReverse, use_of}
+use Rattle.def_layout.specs.{declared.tmesh.SideArc.SideArc, Surfaces.IsSurface, Surfaces.IsOtherSlot, Gluings.Gluing}
+use Rattle.def_layout.specs.Gluings.{Slot, IsSlot, AreReverse, use_of}
 use Rattle.def_blocks.specs.Laws.{SymmetricLaw, TwoLinksLaw}
 
 -- An arc that is used the other way round.
@@ -27,7 +27,7 @@ symmetric l laid one other is across = (
 )
 
 -- A slot that uses the arc of another slot is that slot, or the other slot of it.
-same_or_other : (l : Layout) → IsSurface l → (w v : Slot) → IsSlot l w → IsSlot l v
+same_or_other : (l : Gluing) → IsSurface l → (w v : Slot) → IsSlot l w → IsSlot l v
     → (use_of l w).arc ≡ (use_of l v).arc
     → (w ≡ v) ⊎ IsOtherSlot l v w
 same_or_other l laid w v is is' same = by_way (use_of l w).forward (use_of l v).forward refl refl
@@ -39,7 +39,7 @@ same_or_other l laid w v is is' same = by_way (use_of l w).forward (use_of l v).
     by_way false true e f = inr (is, record { arc = same; turned = e ∙ sym (ap not f) })
 
 -- No slot is its own other slot.
-not_own : (l : Layout) (w v : Slot) → IsOtherSlot l w v → w ≢ v
+not_own : (l : Gluing) (w v : Slot) → IsOtherSlot l w v → w ≢ v
 not_own l w v across e = by_way (use_of l w).forward (ap (λ u. (use_of l u).forward) e ∙ across.1.turned)
   where
     by_way : (b : Bool) → b ≡ not b → ⊥

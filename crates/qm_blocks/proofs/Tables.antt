@@ -6,10 +6,10 @@ use Rattle.std.proofs.{Common.inl, Common.inr, Common.arith, lemmas.Bool.cases_e
 use Rattle.std.proofs.lemmas.List.{get_or-set_other, get_or-set_same, length-set}
 use Rattle.std.proofs.{lemmas.Option.same_Some, Math.ListN.set}
 use Rattle.std.specs.Option.{is_some}
-use Rattle.def_layout.specs.{Surfaces.IsSurface, Surfaces.IsOtherSlot, Layouts.Way, Layouts.south, Layouts.east}
-use Rattle.def_layout.specs.Layouts.{north, west, Layout, Slot, IsSlot}
-use Rattle.def_layout.specs.{Layouts.AreReverse, Layouts.use_of, Lengths.Lengths, Plans.Plan, Plans.layout_of}
-use Rattle.def_layout.specs.{Plans.side_at, declared.tmesh.SideArc.SideArc}
+use Rattle.def_layout.specs.{Surfaces.IsSurface, Surfaces.IsOtherSlot, Gluings.Way, Gluings.south, Gluings.east}
+use Rattle.def_layout.specs.Gluings.{north, west, Gluing, Slot, IsSlot}
+use Rattle.def_layout.specs.{Gluings.AreReverse, Gluings.use_of, Lengths.Lengths, Layouts.Layout, Layouts.gluing_of}
+use Rattle.def_layout.specs.{Layouts.side_at, declared.tmesh.SideArc.SideArc}
 use Rattle.def_remesh.specs.Numberings.{used_at}
 use Rattle.def_blocks.specs.{Links.side_name, declared.link.SideName.SideName}
 use Rattle.qm_blocks.specs.Spots.{back_key, key_of, spot_at, spot_of, spot_on, HasSpots, HasUses, HavePut}
@@ -61,23 +61,23 @@ use_more side lengths block name many old mid low are = record {
     before k spot (inr (at, less, is, same)) = inr (at, omega arith, is, same)
 
 -- The slots of a side have put theirs.
-pub side_put : (plan : Plan) (x : Lengths) (block : ℕ) (way : Way) (side : List SideArc) (name : SideName)
+pub side_put : (layout : Layout) (x : Lengths) (block : ℕ) (way : Way) (side : List SideArc) (name : SideName)
     (old new : List (Option Spot))
-    → side ≡ side_at plan block way → name ≡ side_name way → block < length plan.patches
+    → side ≡ side_at layout block way → name ≡ side_name way → block < length layout.patches
     → HasUses side x block name (length side) old new
-    → HavePut (layout_of plan) x (IsOnSide block way) old new
-side_put plan x block way side name old new same named low uses = record {
+    → HavePut (gluing_of layout) x (IsOnSide block way) old new
+side_put layout x block way side name old new same named low uses = record {
   long = put_in.long;
   kept = put_in.kept;
   put = put;
   only = λ key spot e. from_uses key spot (put_in.only key spot e);
 }
   where
-    l : Layout
-    l = layout_of plan
+    l : Gluing
+    l = gluing_of layout
 
     arcs : List SideArc
-    arcs = side_at plan block way
+    arcs = side_at layout block way
 
     put_in : HasUses arcs x block (side_name way) (length arcs) old new
     put_in = subst (λ n. HasUses arcs x block n (length arcs) old new) named
@@ -87,7 +87,8 @@ side_put plan x block way side name old new same named low uses = record {
     put w slot (p, s) =
         let e : w ≡ record { patch = block; side = way; at = w.at } =
         λ t. record { patch = p t; side = s t; at = w.at } in
-        let less : w.at < length arcs = subst (λ (v : Slot). v.at < length (side_at plan v.patch v.side)) e slot.low in
+        let less : w.at < length arcs = subst (λ (v : Slot). v.at < length (side_at layout v.patch v.side)) e
+        slot.low in
         subst (λ (v : Slot). is_some (spot_at new (key_of (use_of l v))) ≡ true) (sym e) (put_in.put w.at less)
 
     from_uses : (key : ℕ) (spot : Spot)
@@ -100,7 +101,7 @@ side_put plan x block way side name old new same named low uses = record {
         inr (record { patch = block; side = way; at = at }, record { patch_low = low; low = less }, is, here)
 
 -- So have those of two sides, one after the other.
-pub both_put : (l : Layout) (x : Lengths) (one other : Slot → Type 0) (old mid new : List (Option Spot))
+pub both_put : (l : Gluing) (x : Lengths) (one other : Slot → Type 0) (old mid new : List (Option Spot))
     → HavePut l x one old mid
     → HavePut l x other mid new → HavePut l x (λ w. one w ⊎ other w) old new
 both_put l x one other old mid new first second = record {
@@ -123,7 +124,7 @@ both_put l x one other old mid new first second = record {
     told key spot (inr here) = inr here
 
 -- The four sides of a block are the block.
-pub block_put : (l : Layout) (x : Lengths) (block : ℕ) (old new : List (Option Spot))
+pub block_put : (l : Gluing) (x : Lengths) (block : ℕ) (old new : List (Option Spot))
     → HavePut l x (λ w. ((IsOnSide block south w ⊎ IsOnSide block east w) ⊎ IsOnSide block north w)
     ⊎ IsOnSide block west w) old new
     → HavePut l x (IsOnBlock block) old new
@@ -180,7 +181,7 @@ reverse_is u v e =
     let rev : AreReverse u turned = record { arc = refl; turned = refl } in
     subst (AreReverse u) (sym (key_same v turned (e ∙ sym (back_is u turned rev)))) rev
 
-module _ (l : Layout) (x : Lengths) (laid : IsSurface l) (table : List (Option Spot))
+module _ (l : Gluing) (x : Lengths) (laid : IsSurface l) (table : List (Option Spot))
     (are : HasSpots l x (IsSlot l) table) where
   -- What stands in a whole table behind a slot: the spot of its other slot, if there is one.
   pub other_spot : (w v : Slot) → IsOtherSlot l w v → spot_at table (back_key (use_of l w)) ≡ Some (spot_of l x v)

@@ -5,9 +5,9 @@ use Rattle.std.specs.List.{range_with_len}
 use Rattle.std.specs.Option.{is_some}
 use Rattle.def_math.specs.Counts.{count_below}
 use Rattle.def_flow.specs.declared.limits.TheConstants.{MAX_LENGTH}
-use Rattle.def_layout.specs.Layouts.{Way, south, east, north, west, Layout, Slot, IsSlot, use_of}
+use Rattle.def_layout.specs.Gluings.{Way, south, east, north, west, Gluing, Slot, IsSlot, use_of}
 use Rattle.def_layout.specs.Lengths.{Lengths}
-use Rattle.def_layout.specs.Plans.{Plan, side_at}
+use Rattle.def_layout.specs.Layouts.{Layout, side_at}
 use Rattle.def_layout.specs.declared.tmesh.SideArc.{SideArc}
 use Rattle.def_layoutnet.specs.MeshLayouts.{IsSomeLayout}
 use Rattle.def_remesh.specs.NewPoints.{lengths_in}
@@ -17,9 +17,9 @@ use Rattle.def_blocks.specs.declared.link.Link.{Link}
 use Rattle.def_blocks.specs.declared.link.SideName.{SideName}
 
 -- The layout of a mesh, and a length for each of its arcs.
-pub record IsMeasured (plan : Plan) (lengths : List ℕ) : Type 0 where
-  pub layout : IsSomeLayout plan
-  pub long : length lengths ≡ length plan.arcs
+pub record IsMeasured (layout : Layout) (lengths : List ℕ) : Type 0 where
+  pub laid_out : IsSomeLayout layout
+  pub long : length lengths ≡ length layout.arcs
   pub bounded : (arc : ℕ) → lengths_in lengths arc ≤ MAX_LENGTH
 
 -- A block, one of its sides, and a point there.
@@ -27,8 +27,8 @@ abbrev pub Spot : Type 0
 Spot = ℕ × SideName × ℕ
 
 -- The first point of a slot on the side of its block.
-abbrev pub spot_of : (layout : Layout) (lengths : Lengths) (slot : Slot) → Spot
-spot_of layout lengths slot = (slot.patch, side_name slot.side, first_point layout lengths slot)
+abbrev pub spot_of : (gluing : Gluing) (lengths : Lengths) (slot : Slot) → Spot
+spot_of gluing lengths slot = (slot.patch, side_name slot.side, first_point gluing lengths slot)
 
 -- Each arc has two places in a table of spots: one for its own direction, and one before it for the other.
 abbrev pub key_of : (used : SideArc) → ℕ
@@ -58,25 +58,25 @@ pub record HasUses
 
 -- These slots have put their spots into a table, and no others.
 pub record HavePut
-    (layout : Layout) (lengths : Lengths) (now : Slot → Type 0) (old new : List (Option Spot))
+    (gluing : Gluing) (lengths : Lengths) (now : Slot → Type 0) (old new : List (Option Spot))
     : Type 0 where
   pub long : length new ≡ length old
   pub kept : (key : ℕ) → is_some (spot_at old key) ≡ true → is_some (spot_at new key) ≡ true
-  pub put : (slot : Slot) → IsSlot layout slot → now slot
-      → is_some (spot_at new (key_of (use_of layout slot))) ≡ true
+  pub put : (slot : Slot) → IsSlot gluing slot → now slot
+      → is_some (spot_at new (key_of (use_of gluing slot))) ≡ true
   pub only : (key : ℕ) (spot : Spot) → spot_at new key ≡ Some spot → (spot_at old key ≡ Some spot)
-      ⊎ ((slot : Slot) × IsSlot layout slot
-      × (key_of (use_of layout slot) ≡ key) × (spot_of layout lengths slot ≡ spot))
+      ⊎ ((slot : Slot) × IsSlot gluing slot
+      × (key_of (use_of gluing slot) ≡ key) × (spot_of gluing lengths slot ≡ spot))
 
 -- A table has the spots of the slots that are done, and none that is not the spot of a slot.
 pub record HasSpots
-    (layout : Layout) (lengths : Lengths) (done : Slot → Type 0) (table : List (Option Spot))
+    (gluing : Gluing) (lengths : Lengths) (done : Slot → Type 0) (table : List (Option Spot))
     : Type 0 where
-  pub long : length table ≡ 2 * layout.arcs
-  pub put : (slot : Slot) → IsSlot layout slot → done slot
-      → is_some (spot_at table (key_of (use_of layout slot))) ≡ true
+  pub long : length table ≡ 2 * gluing.arcs
+  pub put : (slot : Slot) → IsSlot gluing slot → done slot
+      → is_some (spot_at table (key_of (use_of gluing slot))) ≡ true
   pub only : (key : ℕ) (spot : Spot) → spot_at table key ≡ Some spot
-      → (slot : Slot) × IsSlot layout slot × (key_of (use_of layout slot) ≡ key) × (spot_of layout lengths slot ≡ spot)
+      → (slot : Slot) × IsSlot gluing slot × (key_of (use_of gluing slot) ≡ key) × (spot_of gluing lengths slot ≡ spot)
 
 -- The slots of a side of a block.
 abbrev pub IsOnSide : (block : ℕ) (side : Way) (slot : Slot) → Type 0
@@ -108,16 +108,16 @@ links_on table lengths name side = map (link_on table lengths name side) (range_
 
 -- Those of a side of a block.
 abbrev pub side_links :
-    (plan : Plan) (lengths : Lengths) (table : List (Option Spot)) (block : ℕ) (side : Way) → List Link
-side_links plan lengths table block side = links_on table lengths (side_name side) (side_at plan block side)
+    (layout : Layout) (lengths : Lengths) (table : List (Option Spot)) (block : ℕ) (side : Way) → List Link
+side_links layout lengths table block side = links_on table lengths (side_name side) (side_at layout block side)
 
 -- The links of a block, side after side.
-abbrev pub block_links : (plan : Plan) (lengths : Lengths) (table : List (Option Spot)) (block : ℕ) → List Link
-block_links plan lengths table block =
-    ((side_links plan lengths table block south ++ side_links plan lengths table block east)
-    ++ side_links plan lengths table block north)
-    ++ side_links plan lengths table block west
+abbrev pub block_links : (layout : Layout) (lengths : Lengths) (table : List (Option Spot)) (block : ℕ) → List Link
+block_links layout lengths table block =
+    ((side_links layout lengths table block south ++ side_links layout lengths table block east)
+    ++ side_links layout lengths table block north)
+    ++ side_links layout lengths table block west
 
 -- The links of all blocks.
-abbrev pub all_links : (plan : Plan) (lengths : Lengths) (table : List (Option Spot)) → List (List Link)
-all_links plan lengths table = map (block_links plan lengths table) (range_with_len 0 (length plan.patches))
+abbrev pub all_links : (layout : Layout) (lengths : Lengths) (table : List (Option Spot)) → List (List Link)
+all_links layout lengths table = map (block_links layout lengths table) (range_with_len 0 (length layout.patches))

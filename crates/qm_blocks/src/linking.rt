@@ -4,8 +4,8 @@ ghost use Rattle.std.specs.Prelude.{◌≡◌, ◌≤◌, ◌<◌, ◌*◌, ◌+
 ghost use Rattle.std.specs.List.{All};
 ghost use Rattle.def_math.specs.Counts.{count_below};
 ghost use Rattle.def_flow.specs.declared.limits.TheConstants.{MAX_LENGTH};
-ghost use Rattle.def_layout.specs.Layouts.{Way};
-ghost use Rattle.def_layout.specs.Plans.{layout_of, plan, way_number};
+ghost use Rattle.def_layout.specs.Gluings.{Way};
+ghost use Rattle.def_layout.specs.Layouts.{gluing_of, layout_of, way_number};
 ghost use Rattle.def_layout.specs.declared.tmesh.SideArc.{SideArc as Used};
 ghost use Rattle.def_layoutnet.specs.MeshLayouts.{IsSomeLayout};
 ghost use Rattle.def_remesh.specs.NewPoints.{lengths_in};
@@ -21,10 +21,10 @@ use std::alloc::{AllocError, Global};
 
 /// The links of each block, side after side, each along its side. Linear in the arcs.
 pub fn links(alloc: Global, t: &TMesh, x: &[u64]) -> Result<Vec<Vec<Link>>, AllocError>
-    requires layout { IsSomeLayout (plan t.now) }
+    requires layout { IsSomeLayout (layout_of t.now) }
     requires long { length x.now ≡ length t.now.arcs.items }
     requires bounded { (arc : ℕ) → lengths_in x.now arc ≤ MAX_LENGTH }
-    ensures { IfOk result (λ links. AreLinks (layout_of (plan t.now)) (lengths_in x.now)
+    ensures { IfOk result (λ links. AreLinks (gluing_of (layout_of t.now)) (lengths_in x.now)
         (map (λ block. block.items) links.items)) }
 {
     let table = spots_of(alloc, t, x)?;
@@ -44,10 +44,10 @@ fn block_links(
     table: &[Option<(u32, SideName, u64)>],
     block: usize,
 ) -> Result<Vec<Link>, AllocError>
-    requires measured { IsMeasured (plan t.now) x.now }
+    requires measured { IsMeasured (layout_of t.now) x.now }
     requires block { block < length t.now.patches.items }
     requires long { length table.now ≡ 2 * length x.now }
-    ensures { IfOk result (λ links. links.items ≡ block_links (plan t.now) (lengths_in x.now) table.now block) }
+    ensures { IfOk result (λ links. links.items ≡ block_links (layout_of t.now) (lengths_in x.now) table.now block) }
 {
     let mut links = Vec::new(alloc);
     push_links(&mut links, x, table, side_of(t, block, 0), name_of(0))?;

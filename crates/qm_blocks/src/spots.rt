@@ -3,8 +3,8 @@
 ghost use Rattle.std.specs.Prelude.{◌≡◌, ◌<◌, ◌*◌, ◌^◌, ℕ, length, IfOk};
 ghost use Rattle.std.specs.List.{All};
 ghost use Rattle.def_math.specs.Counts.{count_below};
-ghost use Rattle.def_layout.specs.Layouts.{Way, IsSlot};
-ghost use Rattle.def_layout.specs.Plans.{layout_of, plan, way_number};
+ghost use Rattle.def_layout.specs.Gluings.{Way, IsSlot};
+ghost use Rattle.def_layout.specs.Layouts.{gluing_of, layout_of, way_number};
 ghost use Rattle.def_layout.specs.declared.tmesh.SideArc.{SideArc as Used};
 ghost use Rattle.def_remesh.specs.NewPoints.{lengths_in};
 ghost use Rattle.def_remesh.specs.Numberings.{sizes_on};
@@ -49,9 +49,9 @@ pub(crate) fn spots_of(
     t: &TMesh,
     x: &[u64],
 ) -> Result<Vec<Option<(u32, SideName, u64)>>, AllocError>
-    requires { IsMeasured (plan t.now) x.now }
+    requires { IsMeasured (layout_of t.now) x.now }
     ensures { IfOk result (λ table.
-        HasSpots (layout_of (plan t.now)) (lengths_in x.now) (IsSlot (layout_of (plan t.now))) table.items) }
+        HasSpots (gluing_of (layout_of t.now)) (lengths_in x.now) (IsSlot (gluing_of (layout_of t.now))) table.items) }
 {
     let mut table = vec![in alloc; None; 2 * t.arcs.len()]?;
     for block in 0..t.patches.len() {
@@ -62,10 +62,10 @@ pub(crate) fn spots_of(
 
 /// Puts in the spots of a block.
 fn put_block(table: &mut [Option<(u32, SideName, u64)>], t: &TMesh, x: &[u64], block: usize)
-    requires measured { IsMeasured (plan t.now) x.now }
+    requires measured { IsMeasured (layout_of t.now) x.now }
     requires block { block < length t.now.patches.items }
     requires long { length table.old ≡ 2 * length x.now }
-    ensures { HavePut (layout_of (plan t.now)) (lengths_in x.now) (IsOnBlock block) table.old table.new }
+    ensures { HavePut (gluing_of (layout_of t.now)) (lengths_in x.now) (IsOnBlock block) table.old table.new }
 {
     put_side(table, t, x, block, 0);
     put_side(table, t, x, block, 1);
@@ -81,12 +81,12 @@ fn put_side(
     block: usize,
     side: usize,
 )
-    requires measured { IsMeasured (plan t.now) x.now }
+    requires measured { IsMeasured (layout_of t.now) x.now }
     requires block { block < length t.now.patches.items }
     requires side { side < 4 }
     requires long { length table.old ≡ 2 * length x.now }
     ensures { (way : Way) → way_number way ≡ side
-        → HavePut (layout_of (plan t.now)) (lengths_in x.now) (IsOnSide block way) table.old table.new }
+        → HavePut (gluing_of (layout_of t.now)) (lengths_in x.now) (IsOnSide block way) table.old table.new }
 {
     put_uses(
         table,

@@ -7,7 +7,8 @@ use Rattle.std.proofs.lemmas.Option.{slice_get-get_or, slice_get-map}
 use Rattle.std.specs.{Prelude.slice_get, List.flat_map}
 use Rattle.def_blocks.specs.declared.link.Link.{Link}
 use Rattle.def_cuttext.specs.GridsText.{arc_link_line, arc_link_lines, arcs_around}
-use Rattle.def_layout.specs.{Plans.plan, Plans.Plan, declared.tmesh.Side.Side, declared.tmesh.SideArc.SideArc}
+use Rattle.def_layout.specs.{Layouts.layout_of, Layouts.Layout, declared.tmesh.Side.Side}
+use Rattle.def_layout.specs.{declared.tmesh.SideArc.SideArc}
 use Rattle.def_layout.specs.declared.tmesh.TMesh.{TMesh}
 use Rattle.def_layoutnet.specs.MeshLayouts.{IsSomeLayout}
 use Rattle.qm_blocktext.specs.Gridded.{arcs_of}
@@ -133,16 +134,23 @@ four_round (s ∷ e ∷ n ∷ w ∷ []) many =
     ∙ append_assoc (numbers s) (numbers e) (numbers n ++ numbers w)))
 four_round (s ∷ e ∷ n ∷ w ∷ x ∷ xs) many = absurd (omega (arith, many))
 
-module _ (t : TMesh) (here : Plan) (same : plan t ≡ here) (is : IsSomeLayout here) (p : ℕ)
+module _ (t : TMesh) (here : Layout) (same : layout_of t ≡ here) (is : IsSomeLayout here) (p : ℕ)
     (low : p < length here.patches) where
   -- A block has its sides.
   pub sides_low : p < length t.sides.items
   sides_low =
-      omega (arith, low, is.laid.sided, ap (λ (q : Plan). length q.sides) same, length-map t.sides.items (map items_of))
+      omega (
+        arith,
+        low,
+        is.laid.sided,
+        ap (λ (q : Layout). length q.sides) same,
+        length-map t.sides.items
+            (map items_of),
+      )
 
   -- Their arcs are those around it.
   pub arcs_round : (four : List Side) → four ≡ get_or t.sides.items p four → arcs_of four ≡ arcs_around here p
-  arcs_round four read = four_round four many ∙ sym (ap around found) ∙ ap (λ (q : Plan). arcs_around q p) same
+  arcs_round four read = four_round four many ∙ sym (ap around found) ∙ ap (λ (q : Layout). arcs_around q p) same
     where
       found : get_or (map (map items_of) t.sides.items) p [] ≡ map items_of four
       found = get_or-map (map items_of) t.sides.items p four [] sides_low ∙ ap (map items_of) (sym read)
@@ -151,7 +159,7 @@ module _ (t : TMesh) (here : Plan) (same : plan t ≡ here) (is : IsSomeLayout h
       many = omega (
         arith,
         is.laid.four p low,
-        ap (λ (q : Plan). length (get_or q.sides p [])) same,
+        ap (λ (q : Layout). length (get_or q.sides p [])) same,
         ap (λ (xs : List (List SideArc)). length xs) found,
         length-map four items_of,
       )

@@ -14,6 +14,6 @@ pub struct Blocks {
     pub by: u32,
     pub points: Regridded,
     pub links: Vec<Vec<Link>>,
-    pub ghost linked: { length links.items ≡ length points.plan.patches },
+    pub ghost linked: { length links.items ≡ length points.layout.patches },
     pub ghost even: { points.shares ≡ None },
 }

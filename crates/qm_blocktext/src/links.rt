@@ -3,7 +3,7 @@
 ghost use Rattle.std.specs.Prelude.{◌≤◌, map, IfOk, OnOk, OnErr};
 ghost use Rattle.std.specs.List.{flat_map};
 ghost use Rattle.def_layout.specs.Arcs.{long_at};
-ghost use Rattle.def_layout.specs.Plans.{layout_of};
+ghost use Rattle.def_layout.specs.Layouts.{gluing_of};
 ghost use Rattle.def_remesh.specs.NewPoints.{multiple_of};
 ghost use Rattle.def_run.specs.declared.command.TheConstants.{MAX_MULTIPLE};
 ghost use Rattle.def_blocks.specs.BlockTexts.{link_line};
@@ -26,7 +26,7 @@ use std::alloc::{AllocError, Global};
 /// The links of the blocks of a layout with `by` times its old lengths. Linear in the arcs.
 pub fn links_by(alloc: Global, cut: &CutMesh, by: u32) -> Result<Vec<Vec<Link>>, AllocError>
     requires { by ≤ MAX_MULTIPLE }
-    ensures { IfOk result (λ links. AreLinks (layout_of cut.now.plan) (multiple_of by (long_at cut.now.plan.arcs))
+    ensures { IfOk result (λ links. AreLinks (gluing_of cut.now.layout) (multiple_of by (long_at cut.now.layout.arcs))
         (map (λ block. block.items) links.items)) }
 {
     let lengths = multiples(alloc, cut, by)?;

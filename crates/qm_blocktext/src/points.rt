@@ -22,7 +22,7 @@ pub(crate) fn put_points<T: Output>(
     new: &Regridded,
     block: usize,
 ) -> Result<(), Stopped>
-    requires block { block < length new.now.plan.patches }
+    requires block { block < length new.now.layout.patches }
     requires even { new.now.shares ≡ None }
     ensures whole { OnOk result (T.takes out.old out.new (points_in new.now block)) }
     ensures part { OnErr result (T.stops out.old out.new (points_in new.now block)) }
@@ -43,7 +43,7 @@ fn put_row<T: Output>(
     j: u32,
     near: &mut Near,
 ) -> Result<(), Stopped>
-    requires block { block < length new.now.plan.patches }
+    requires block { block < length new.now.layout.patches }
     requires row { j ≤ height_in new.now block }
     requires even { new.now.shares ≡ None }
     ensures whole { OnOk result (T.takes out.old out.new (row_text (row_in new.now block j))) }

@@ -16,7 +16,7 @@ use std::alloc::{AllocError, Global};
 /// The text of blocks as a whole.
 pub fn block_text(alloc: Global, blocks: &Blocks) -> Result<Vec<u8>, AllocError>
     ensures { IfOk result (λ text. text.items ≡ chosen_text blocks.now.chosen blocks.now.by
-        blocks.now.points.soup blocks.now.points.plan (lengths_in blocks.now.points.lengths)
+        blocks.now.points.soup blocks.now.points.layout (lengths_in blocks.now.points.lengths)
         (map (λ block. block.items) blocks.now.links.items)) }
 {
     let mut text = MemText::new(alloc);
@@ -30,10 +30,10 @@ pub fn block_text(alloc: Global, blocks: &Blocks) -> Result<Vec<u8>, AllocError>
 /// each link. Linear in the points but for those on sides, which are logarithmic in the arcs; without memory.
 pub fn put_blocks<T: Output>(out: &mut T, blocks: &Blocks) -> Result<(), Stopped>
     ensures whole { OnOk result (T.takes out.old out.new
-        (chosen_text blocks.now.chosen blocks.now.by blocks.now.points.soup blocks.now.points.plan
+        (chosen_text blocks.now.chosen blocks.now.by blocks.now.points.soup blocks.now.points.layout
         (lengths_in blocks.now.points.lengths) (map (λ block. block.items) blocks.now.links.items))) }
     ensures part { OnErr result (T.stops out.old out.new
-        (chosen_text blocks.now.chosen blocks.now.by blocks.now.points.soup blocks.now.points.plan
+        (chosen_text blocks.now.chosen blocks.now.by blocks.now.points.soup blocks.now.points.layout
         (lengths_in blocks.now.points.lengths) (map (λ block. block.items) blocks.now.links.items))) }
 {
     put_line(

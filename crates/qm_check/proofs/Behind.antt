@@ -4,7 +4,7 @@ use Rattle.def_certtext.specs.CertLines.{alone, lists_of, risen, risen_by, Certi
 use Rattle.def_certtext.specs.declared.certs.Rising.{Rising}
 use Rattle.def_certtext.specs.declared.certs.Round.{Round}
 use Rattle.def_flow.specs.declared.net.Settings.{Settings}
-use Rattle.def_layout.specs.{Lengths.Lengths, Plans.Plan}
+use Rattle.def_layout.specs.{Lengths.Lengths, Layouts.Layout}
 use Rattle.def_remesh.specs.{Certified.IsCertified, Remeshed.AreKeptBy, Rises.risen_floors, Tasks.Wish}
 use Rattle.def_run.specs.{Judging.first_of, Judging.AreFront, Judging.AreWrong, declared.answer.Why.Why}
 use Rattle.qm_check.specs.Checked.{AreInReach}
@@ -30,35 +30,36 @@ front_behind [] cert others first = first
 front_behind (round ∷ rounds) cert others first = (risen_by rounds others, refl, front_behind rounds cert others first)
 
 -- What is kept behind rounds is kept with them, where floors rise as these certificates say.
-pub kept_led : (fits : Lengths → Lists → Type 0) (plan : Plan) (rising : Rising) (rounds : List Round)
+pub kept_led : (fits : Lengths → Lists → Type 0) (layout : Layout) (rising : Rising) (rounds : List Round)
     (floors : Lengths) (last after : Certificates) → AreInReach rising (risen_by rounds last)
-    → AreLed fits plan rounds floors
-    → AreKeptBy fits plan (floors_behind rounds floors) rising after
-    → AreKeptBy fits plan floors rising (risen_by rounds after)
-kept_led fits plan rising [] floors last after reach led kept = kept
-kept_led fits plan rising (round ∷ rounds) floors last after reach led kept = (
+    → AreLed fits layout rounds floors
+    → AreKeptBy fits layout (floors_behind rounds floors) rising after
+    → AreKeptBy fits layout floors rising (risen_by rounds after)
+kept_led fits layout rising [] floors last after reach led kept = kept
+kept_led fits layout rising (round ∷ rounds) floors last after reach led kept = (
   reach.2,
   led.0,
   led.1,
-  kept_led fits plan rising rounds (risen_floors round.rises.items floors) last after reach.1 led.2 kept,
+  kept_led fits layout rising rounds (risen_floors round.rises.items floors) last after reach.1 led.2 kept,
 )
 
 -- What is wrong behind rounds that lead there is wrong with them in front.
-pub wrong_behind : (wish : Wish) (plan : Plan) (settings : Settings) (rounds : List Round) (floors : Lengths) (n : ℕ)
-    (after : Certificates) (why : Why) → AreLed (IsCertified wish plan settings) plan rounds floors
-    → AreWrong wish plan settings (floors_behind rounds floors) (n + length rounds) after why
-    → AreWrong wish plan settings floors n (risen_by rounds after) why
-wrong_behind wish plan settings [] floors n after why led wrong =
+pub wrong_behind : (wish : Wish) (layout : Layout) (settings : Settings) (rounds : List Round) (floors : Lengths)
+    (n : ℕ)
+    (after : Certificates) (why : Why) → AreLed (IsCertified wish layout settings) layout rounds floors
+    → AreWrong wish layout settings (floors_behind rounds floors) (n + length rounds) after why
+    → AreWrong wish layout settings floors n (risen_by rounds after) why
+wrong_behind wish layout settings [] floors n after why led wrong =
     let none : n + 0 ≡ n = omega arith in
-    subst (λ (k : ℕ). AreWrong wish plan settings floors k after why) none wrong
-wrong_behind wish plan settings (round ∷ rounds) floors n after why led wrong =
+    subst (λ (k : ℕ). AreWrong wish layout settings floors k after why) none wrong
+wrong_behind wish layout settings (round ∷ rounds) floors n after why led wrong =
     let next : n + suc (length rounds) ≡ n + 1 + length rounds = omega arith in
     let behind : Lengths = risen_floors round.rises.items floors in
     inr (
       led.0,
       inr (
         led.1,
-        wrong_behind wish plan settings rounds behind (n + 1) after why led.2
-            (subst (λ (k : ℕ). AreWrong wish plan settings (floors_behind rounds behind) k after why) next wrong),
+        wrong_behind wish layout settings rounds behind (n + 1) after why led.2
+            (subst (λ (k : ℕ). AreWrong wish layout settings (floors_behind rounds behind) k after why) next wrong),
       ),
     )

@@ -3,7 +3,7 @@ use Rattle.std.proofs.Common.{◌≡◌, ◌<◌, ◌^◌, ℕ, true, length, re
 use Rattle.std.proofs.lemmas.Bool.{false≢true}
 use Rattle.def_fit.specs.declared.fit.Fit.{Fit as AnyFit}
 use Rattle.def_io.specs.{Bytes.Bytes, Lines.tail_of}
-use Rattle.def_layout.specs.Plans.{layout_of, Plan}
+use Rattle.def_layout.specs.Layouts.{gluing_of, Layout}
 use Rattle.def_remesh.specs.{CutSoups.Regrid, NewPoints.lengths_in}
 use Rattle.def_run.specs.Checking.{begins_fit, IsCountedFit}
 use Rattle.def_run.specs.MarkLines.{front_of, IsMarkLine}
@@ -27,19 +27,19 @@ only_fit line _ begins is = absurd is
 
 module _ (bytes : Bytes) (mark : HeadAt) (fit : AnyFit) (finished : Finished)
     (is : IsFound (Fit fit) (front_of mark.line bytes) (tail_of mark.line bytes) finished) where
-  plan_is : finished.new.plan ≡ is.written.shown.finished.plan
-  plan_is = ap (λ (new : Regrid). new.plan) is.new
+  layout_is : finished.new.layout ≡ is.written.shown.finished.layout
+  layout_is = ap (λ (new : Regrid). new.layout) is.new
 
   -- Its arcs are those of the network.
-  pub few_found : length finished.new.plan.arcs < 2 ^ 32
+  pub few_found : length finished.new.layout.arcs < 2 ^ 32
   few_found =
-      let long : length is.net.arcs ≡ length is.written.shown.finished.plan.arcs = is.of_layout.is.long in
-      omega (arith, ap (λ (p : Plan). length p.arcs) plan_is, long, is.of_layout.bounds.few)
+      let long : length is.net.arcs ≡ length is.written.shown.finished.layout.arcs = is.of_layout.is.long in
+      omega (arith, ap (λ (p : Layout). length p.arcs) layout_is, long, is.of_layout.bounds.few)
 
   -- These numbers are told of it.
   pub counted_fit : (old : FaceSet) → IsGivenTo bytes mark old (Fit fit) → (arcs faces deviates : ℕ)
-      → arcs ≡ length finished.new.plan.arcs
-      → faces ≡ face_count (layout_of finished.new.plan) (lengths_in finished.new.lengths)
+      → arcs ≡ length finished.new.layout.arcs
+      → faces ≡ face_count (gluing_of finished.new.layout) (lengths_in finished.new.lengths)
       → deviates ≡ finished.deviation
       → IsCountedFit bytes arcs faces deviates
   counted_fit old given arcs faces deviates arcs_told faces_told deviates_told = record {
@@ -48,8 +48,8 @@ module _ (bytes : Bytes) (mark : HeadAt) (fit : AnyFit) (finished : Finished)
     fit = fit;
     mark = given.is;
     written = is.written;
-    arcs_told = arcs_told ∙ ap (λ (p : Plan). length p.arcs) plan_is;
-    faces_told = faces_told ∙ ap (λ (new : Regrid). face_count (layout_of new.plan) (lengths_in new.lengths)) is.new;
+    arcs_told = arcs_told ∙ ap (λ (p : Layout). length p.arcs) layout_is;
+    faces_told = faces_told ∙ ap (λ (new : Regrid). face_count (gluing_of new.layout) (lengths_in new.lengths)) is.new;
     net = is.net;
     of_layout = is.of_layout.is;
     deviation_told = deviates_told ∙ is.deviates;

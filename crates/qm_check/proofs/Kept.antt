@@ -10,7 +10,7 @@ use Rattle.def_certtext.specs.{declared.certs.Rising.TheVariants.Third, declared
 use Rattle.def_certtext.specs.declared.certs.Terms.{Terms}
 use Rattle.def_flow.specs.{Accepted.certificate, Admissible.deviation, Admissible.entries, Descent.IsSolution}
 use Rattle.def_flow.specs.{Network.Network, declared.cert.Cert.Cert, declared.net.Settings.Settings}
-use Rattle.def_layout.specs.{Layouts.Layout, Lengths.Lengths, Plans.Plan, Plans.layout_of}
+use Rattle.def_layout.specs.{Gluings.Gluing, Lengths.Lengths, Layouts.Layout, Layouts.gluing_of}
 use Rattle.def_layoutnet.specs.Floors.{floor_of, HasFloors}
 use Rattle.def_remesh.specs.{Certified.IsCertified, Certified.IsDoubling, Keeping.IsNetFor, Keeping.IsNetWith}
 use Rattle.def_remesh.specs.{NewPoints.lengths_in, Remeshed.AreKeptBy, Rises.risen_floors, Rises.AreNeeded}
@@ -28,62 +28,62 @@ use Rattle.remesh_laws.specs.Keeps.{floors_behind}
 use Rattle.remesh_laws.proofs.Keeps.{doubled_some, keeps, solved}
 use Rattle.remesh_laws.proofs.Rounds.{behind_more, led_more, net_risen, used_behind}
 
-module _ (wish : Wish) (plan : Plan) (net : Network) where
+module _ (wish : Wish) (layout : Layout) (net : Network) where
   -- A certificate that gives no lengths is wrong.
   wrong_of : {floors : Lengths} (settings : Settings) (cert : Cert) (why : Why)
-      → IsNetWith wish plan settings floors net → GivesNone plan net cert (NotAccepted why)
-      → IsWrong wish plan settings floors (lists_of cert) why
+      → IsNetWith wish layout settings floors net → GivesNone layout net cert (NotAccepted why)
+      → IsWrong wish layout settings floors (lists_of cert) why
   wrong_of settings cert (why.Verdict verdict) for (told, refuted) = record {
     net = net;
     of_layout = for.is;
     told = told;
     refuted = refuted;
   }
-  wrong_of settings cert (why.TooFine faces) for (is, fine) = (solved plan settings net cert for is, fine)
+  wrong_of settings cert (why.TooFine faces) for (is, fine) = (solved layout settings net cert for is, fine)
   wrong_of settings cert _ for none = absurd none
 
   -- So the certificates of a text have a wrong one.
   unused_by : (settings : Settings) (told : Certificates) (cert : Cert) (fail : CheckFail)
-      → ((why : Why) → GivesNone plan net cert (NotAccepted why)
-      → AreWrong wish plan settings (given_floors settings) 1 told why)
-      → GivesNone plan net cert fail → IsUnused wish plan settings told fail
+      → ((why : Why) → GivesNone layout net cert (NotAccepted why)
+      → AreWrong wish layout settings (given_floors settings) 1 told why)
+      → GivesNone layout net cert fail → IsUnused wish layout settings told fail
   unused_by settings told cert (NotAccepted why) wrong none = wrong why none
   unused_by settings told cert Memory wrong none = tt
   unused_by settings told cert _ wrong none = absurd none
 
   -- Lengths that double an edge are doubling.
   pub doubling_of : {floors : Lengths} (settings : Settings) (cert : Cert) (u v : ℕ)
-      → IsNetWith wish plan settings floors net → IsSolution net (certificate cert)
-      → Gives plan net cert.x.items (Doubled u v) → IsDoubling wish plan settings floors (lists_of cert)
+      → IsNetWith wish layout settings floors net → IsSolution net (certificate cert)
+      → Gives layout net cert.x.items (Doubled u v) → IsDoubling wish layout settings floors (lists_of cert)
   doubling_of settings cert u v for is gives = record {
-    fit = solved plan settings net cert for is;
+    fit = solved layout settings net cert for is;
     coarse = gives.0;
-    doubled = doubled_some plan cert.x.items u v gives.1;
+    doubled = doubled_some layout cert.x.items u v gives.1;
   }
 
   -- The one for floor 3 is wrong.
   pub unused_third : (settings : Settings) (first third : Cert) (fail : CheckFail)
-      → IsDoubling wish plan settings (given_floors settings) (lists_of first)
-      → IsNetWith wish plan settings (λ arc. 3) net → GivesNone plan net third fail
-      → IsUnused wish plan settings (raised (lists_of first) (lists_of third)) fail
+      → IsDoubling wish layout settings (given_floors settings) (lists_of first)
+      → IsNetWith wish layout settings (λ arc. 3) net → GivesNone layout net third fail
+      → IsUnused wish layout settings (raised (lists_of first) (lists_of third)) fail
   unused_third settings first third fail doubling for = unused_by settings (raised (lists_of first) (lists_of third))
       third fail (λ why none. inr (doubling, wrong_of settings third why for none))
 
   -- It is used.
   pub checked_third : (higher : Network) (terms : Terms) (first third : Cert) (tables : Tables) (deviates : ℕ)
       → terms.rising ≡ Third
-      → IsDoubling wish plan terms.settings (given_floors terms.settings) (lists_of first)
-      → IsNetWith wish plan terms.settings (λ arc. 3) higher
+      → IsDoubling wish layout terms.settings (given_floors terms.settings) (lists_of first)
+      → IsNetWith wish layout terms.settings (λ arc. 3) higher
       → HasFloors net (λ a. 3) higher
-      → IsSolution higher (certificate third) → Gives plan higher third.x.items (Whole tables deviates)
-      → IsChecked wish plan net terms (raised (lists_of first) (lists_of third))
+      → IsSolution higher (certificate third) → Gives layout higher third.x.items (Whole tables deviates)
+      → IsChecked wish layout net terms (raised (lists_of first) (lists_of third))
       (record {
         remesh = record { terms = terms; certs = Raised first third; numbering = tables };
         deviation = deviates;
       })
   checked_third higher terms first third tables deviates rising doubling for has is gives = record {
-    kept = keeps plan terms.settings terms.rising (raised (lists_of first) (lists_of third)) third.x.items tables refl
-        (rising, doubling, solved plan terms.settings higher third for is) gives.0;
+    kept = keeps layout terms.settings terms.rising (raised (lists_of first) (lists_of third)) third.x.items tables refl
+        (rising, doubling, solved layout terms.settings higher third for is) gives.0;
     found = refl;
     front = refl;
     deviates = gives.1 ∙ floors_deviation net (λ a. 3) higher has (entries third.x.items);
@@ -92,80 +92,81 @@ module _ (wish : Wish) (plan : Plan) (net : Network) where
 -- ---- Behind rounds.
 
 -- Floors that have to rise are those of arcs.
-pub needed_there : (layout : Layout) (lengths : Lengths) (rises : List Rise) → AreNeeded layout lengths rises
-    → (k : ℕ) (d : Rise) → k < length rises → (slice_index_or rises k d).arc < layout.arcs
-needed_there layout lengths rises needed k d low =
-    subst (λ (r : Rise). r.arc < layout.arcs) (get_or_default rises k _ d low) (needed.each k low).there
+pub needed_there : (gluing : Gluing) (lengths : Lengths) (rises : List Rise) → AreNeeded gluing lengths rises
+    → (k : ℕ) (d : Rise) → k < length rises → (slice_index_or rises k d).arc < gluing.arcs
+needed_there gluing lengths rises needed k d low =
+    subst (λ (r : Rise). r.arc < gluing.arcs) (get_or_default rises k _ d low) (needed.each k low).there
 
 -- No round is passed at the beginning.
-pub passed_none : (wish : Wish) (plan : Plan) (settings : Settings) (net : Network) → IsNetFor wish plan settings net
-    → ArePassed wish plan settings net [] net
-passed_none wish plan settings net for = record { led = tt; risen = for; even = λ x. refl }
+pub passed_none : (wish : Wish) (layout : Layout) (settings : Settings) (net : Network)
+    → IsNetFor wish layout settings net
+    → ArePassed wish layout settings net [] net
+passed_none wish layout settings net for = record { led = tt; risen = for; even = λ x. refl }
 
 -- The first of certificates is wrong.
-first_wrong : (wish : Wish) (plan : Plan) (settings : Settings) (floors : Lengths) (round : ℕ) (cert : Lists)
-    (told : Certificates) (why : Why) → first_of told ≡ cert → IsWrong wish plan settings floors cert why
-    → AreWrong wish plan settings floors round told why
-first_wrong wish plan settings floors round cert (alone other) why same wrong =
-    inl (subst (λ (c : Lists). IsWrong wish plan settings floors c why) (sym same) wrong)
-first_wrong wish plan settings floors round cert (raised first other) why same wrong =
-    inl (subst (λ (c : Lists). IsWrong wish plan settings floors c why) (sym same) wrong)
-first_wrong wish plan settings floors round cert (risen first rises after) why same wrong =
-    inl (subst (λ (c : Lists). IsWrong wish plan settings floors c why) (sym same) wrong)
+first_wrong : (wish : Wish) (layout : Layout) (settings : Settings) (floors : Lengths) (round : ℕ) (cert : Lists)
+    (told : Certificates) (why : Why) → first_of told ≡ cert → IsWrong wish layout settings floors cert why
+    → AreWrong wish layout settings floors round told why
+first_wrong wish layout settings floors round cert (alone other) why same wrong =
+    inl (subst (λ (c : Lists). IsWrong wish layout settings floors c why) (sym same) wrong)
+first_wrong wish layout settings floors round cert (raised first other) why same wrong =
+    inl (subst (λ (c : Lists). IsWrong wish layout settings floors c why) (sym same) wrong)
+first_wrong wish layout settings floors round cert (risen first rises after) why same wrong =
+    inl (subst (λ (c : Lists). IsWrong wish layout settings floors c why) (sym same) wrong)
 
-module _ (wish : Wish) (plan : Plan) (settings : Settings) (start : Network) (rounds : List Round) (net : Network)
-    (passed : ArePassed wish plan settings start rounds net) where
+module _ (wish : Wish) (layout : Layout) (settings : Settings) (start : Network) (rounds : List Round) (net : Network)
+    (passed : ArePassed wish layout settings start rounds net) where
   -- The rounds in front are numbered from 1.
   wrong_there : (after : Certificates) (why : Why)
-      → AreWrong wish plan settings (floors_behind rounds (given_floors settings)) (1 + length rounds) after why
-      → AreWrong wish plan settings (given_floors settings) 1 (risen_by rounds after) why
-  wrong_there after why = wrong_behind wish plan settings rounds (given_floors settings) 1 after why passed.led
+      → AreWrong wish layout settings (floors_behind rounds (given_floors settings)) (1 + length rounds) after why
+      → AreWrong wish layout settings (given_floors settings) 1 (risen_by rounds after) why
+  wrong_there after why = wrong_behind wish layout settings rounds (given_floors settings) 1 after why passed.led
 
   -- The certificate behind them gives no lengths.
   pub unused_there : (after told : Certificates) (cert : Cert) (fail : CheckFail) → told ≡ risen_by rounds after
-      → first_of after ≡ lists_of cert → GivesNone plan net cert fail → IsUnused wish plan settings told fail
+      → first_of after ≡ lists_of cert → GivesNone layout net cert fail → IsUnused wish layout settings told fail
   unused_there after told cert fail is first =
-      unused_by wish plan net settings told cert fail
-      (λ why none. subst (λ (c : Certificates). AreWrong wish plan settings (given_floors settings) 1 c why) (sym is)
+      unused_by wish layout net settings told cert fail
+      (λ why none. subst (λ (c : Certificates). AreWrong wish layout settings (given_floors settings) 1 c why) (sym is)
       (wrong_there after why
-      (first_wrong wish plan settings (floors_behind rounds (given_floors settings)) (1 + length rounds)
-      (lists_of cert) after why first (wrong_of wish plan net settings cert why passed.risen none))))
+      (first_wrong wish layout settings (floors_behind rounds (given_floors settings)) (1 + length rounds)
+      (lists_of cert) after why first (wrong_of wish layout net settings cert why passed.risen none))))
 
   -- It is the last, and its lengths double an edge.
   pub unused_last : (told : Certificates) (cert : Cert) (u v : ℕ) → told ≡ risen_by rounds (alone (lists_of cert))
-      → IsSolution net (certificate cert) → Gives plan net cert.x.items (Doubled u v)
-      → IsUnused wish plan settings told (NotAccepted (why.Doubled u v))
+      → IsSolution net (certificate cert) → Gives layout net cert.x.items (Doubled u v)
+      → IsUnused wish layout settings told (NotAccepted (why.Doubled u v))
   unused_last told cert u v is solution gives =
-      subst (λ (c : Certificates). AreWrong wish plan settings (given_floors settings) 1 c (why.Doubled u v)) (sym is)
+      subst (λ (c : Certificates). AreWrong wish layout settings (given_floors settings) 1 c (why.Doubled u v)) (sym is)
       (wrong_there (alone (lists_of cert)) (why.Doubled u v)
-      (inr (solved plan settings net cert passed.risen solution, gives.0, gives.1)))
+      (inr (solved layout settings net cert passed.risen solution, gives.0, gives.1)))
 
   -- The floors that rise behind it do not have to.
   pub unused_rises : (round : Round) (after told : Certificates) (number : ℕ) (fail : CheckFail)
       → told ≡ risen_by rounds (risen (lists_of round.cert) round.rises.items after)
       → number ≡ length rounds + 2
-      → IsDoubling wish plan settings (floors_behind rounds (given_floors settings)) (lists_of round.cert)
-      → IsNoRise plan round number fail → IsUnused wish plan settings told fail
+      → IsDoubling wish layout settings (floors_behind rounds (given_floors settings)) (lists_of round.cert)
+      → IsNoRise layout round number fail → IsUnused wish layout settings told fail
   unused_rises round after told number (NotAccepted why) is numbered doubling none =
       let place : number ≡ 1 + length rounds + 1 = omega (arith, numbered) in
-      subst (λ (c : Certificates). AreWrong wish plan settings (given_floors settings) 1 c why) (sym is)
+      subst (λ (c : Certificates). AreWrong wish layout settings (given_floors settings) 1 c why) (sym is)
       (wrong_there (risen (lists_of round.cert) round.rises.items after) why
-      (inr (doubling, inl (subst (λ (n : ℕ). IsNoRise plan round n (NotAccepted why)) place none))))
+      (inr (doubling, inl (subst (λ (n : ℕ). IsNoRise layout round n (NotAccepted why)) place none))))
   unused_rises round after told number Memory is numbered doubling none = tt
   unused_rises round after told number _ is numbered doubling none = absurd none
 
   -- One more is passed.
   pub passed_more : (round : Round) (next : Network)
-      → IsDoubling wish plan settings (floors_behind rounds (given_floors settings)) (lists_of round.cert)
-      → AreNeeded (layout_of plan) (lengths_in round.cert.x.items) round.rises.items
+      → IsDoubling wish layout settings (floors_behind rounds (given_floors settings)) (lists_of round.cert)
+      → AreNeeded (gluing_of layout) (lengths_in round.cert.x.items) round.rises.items
       → HasFloors net (risen_floors round.rises.items (floor_of net.arcs)) next
-      → ArePassed wish plan settings start (rounds ++ round ∷ []) next
+      → ArePassed wish layout settings start (rounds ++ round ∷ []) next
   passed_more round next doubling needed has = record {
-    led = led_more (IsCertified wish plan settings) plan rounds round (given_floors settings) passed.led doubling
+    led = led_more (IsCertified wish layout settings) layout rounds round (given_floors settings) passed.led doubling
         needed;
-    risen = subst (λ (floors : Lengths). IsNetWith wish plan settings floors next)
+    risen = subst (λ (floors : Lengths). IsNetWith wish layout settings floors next)
         (sym (behind_more rounds round (given_floors settings)))
-        (net_risen plan settings round.cert.x.items round.rises.items net next passed.risen needed has);
+        (net_risen layout settings round.cert.x.items round.rises.items net next passed.risen needed has);
     even = λ x. floors_deviation net (risen_floors round.rises.items (floor_of net.arcs)) next has x ∙ passed.even x;
   }
 
@@ -173,8 +174,8 @@ module _ (wish : Wish) (plan : Plan) (settings : Settings) (start : Network) (ro
   pub checked_there : (rising : Rising) (after told : Certificates) (cert : Cert) (certs : Certs) (tables : Tables)
       (deviates : ℕ) → told ≡ risen_by rounds after → first_of after ≡ lists_of cert → AreInReach rising told
       → certificates_of certs ≡ risen_by rounds (alone (lists_of cert))
-      → IsSolution net (certificate cert) → Gives plan net cert.x.items (Whole tables deviates)
-      → IsChecked wish plan start (record { settings = settings; rising = rising }) told (record {
+      → IsSolution net (certificate cert) → Gives layout net cert.x.items (Whole tables deviates)
+      → IsChecked wish layout start (record { settings = settings; rising = rising }) told (record {
         remesh = record {
           terms = record { settings = settings; rising = rising };
           certs = certs;
@@ -183,12 +184,13 @@ module _ (wish : Wish) (plan : Plan) (settings : Settings) (start : Network) (ro
         deviation = deviates;
       })
   checked_there rising after told cert certs tables deviates is first reach same solution gives = record {
-    kept = keeps plan settings rising (certificates_of certs) cert.x.items tables (ap (λ (c : Lists). c.x) (sym last))
-        (subst (λ (c : Certificates). AreKeptBy (IsCertified wish plan settings) plan (given_floors settings) rising c)
+    kept = keeps layout settings rising (certificates_of certs) cert.x.items tables (ap (λ (c : Lists). c.x) (sym last))
+        (subst (λ (c : Certificates). AreKeptBy (IsCertified wish layout settings) layout (given_floors settings)
+        rising c)
         (sym same)
-        (kept_led (IsCertified wish plan settings) plan rising rounds (given_floors settings) after
+        (kept_led (IsCertified wish layout settings) layout rising rounds (given_floors settings) after
         (alone (lists_of cert)) (subst (AreInReach rising) is reach) passed.led
-        (solved plan settings net cert passed.risen solution)))
+        (solved layout settings net cert passed.risen solution)))
         gives.0;
     found = refl;
     front = subst (AreFront (certificates_of certs)) (sym is)

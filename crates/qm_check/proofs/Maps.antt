@@ -5,7 +5,7 @@ use Rattle.def_certtext.specs.CertLines.{used}
 use Rattle.def_cut.specs.Traced.{traced_marks}
 use Rattle.def_flow.specs.Network.{network}
 use Rattle.def_io.specs.{Bytes.Bytes, Lines.lines_of, Lines.tail_of}
-use Rattle.def_layout.specs.{Arcs.long_at, Plans.Plan}
+use Rattle.def_layout.specs.{Arcs.long_at, Layouts.Layout}
 use Rattle.def_map.specs.MapText.{map_text}
 use Rattle.def_mesh.specs.Manifold.{IsManifold}
 use Rattle.def_remesh.specs.{Certified.IsShown, CutSoups.CutSoup, CutSoups.Regrid, Keeping.IsNetFor}
@@ -28,7 +28,7 @@ use Rattle.def_run.specs.declared.command.Command.{Command}
 use Rattle.def_run.specs.declared.command.Command.TheVariants.{Refine, Remesh, Crease, Size, Coarse, Fit}
 use Rattle.def_run.specs.declared.answer.Why.TheVariants as why
 use Rattle.def_text.specs.FaceSet.{FaceSet}
-use Rattle.plan_laws.proofs.OnePlan.{one_layout_law}
+use Rattle.embedding_laws.proofs.OneLayout.{one_layout_law}
 use Rattle.site_laws.proofs.Laws.{graph_law}
 use Rattle.qm_certtext.specs.declared.last.HeadAt.{HeadAt}
 use Rattle.remesh_laws.proofs.LastLines.{one_last}
@@ -96,7 +96,7 @@ written_by (Refine by) front text wrote = absurd wrote.asked
 written_by _ front text wrote = wrote
 
 map_is : (command : Command) (front text : Bytes) (wrote : WritesFinished (asks_of command) front text)
-    → IsMapOf command front text (written_by command front text wrote) (map_text wrote.soup wrote.shown.finished.plan
+    → IsMapOf command front text (written_by command front text wrote) (map_text wrote.soup wrote.shown.finished.layout
     wrote.task.shares (lengths_in (used wrote.shown.finished.certificates).x))
 unfolding written_by
 map_is (Refine by) front text wrote = absurd wrote.asked
@@ -164,14 +164,14 @@ module _ (bytes : Bytes) (mark : HeadAt) (old : FaceSet) (command : Command)
         headed = headed;
         unlike = unlike_of command bytes mark.line why (record {
           task = for.task;
-          plan = ready.cut.plan;
+          layout = ready.cut.layout;
           mesh = record {
             soup = ready.cut.soup;
             mesh = ready_mesh;
             asked = for.only.asked;
             cut = for.holds.laid_out.laid;
           };
-          untangled = untangled for.task.wish ready.cut.plan for.task.settings (network ready.net) for.holds.net;
+          untangled = untangled for.task.wish ready.cut.layout for.task.settings (network ready.net) for.holds.net;
           reason = reason;
         });
       },
@@ -202,8 +202,8 @@ module _ (bytes : Bytes) (mark : HeadAt) (old : FaceSet) (command : Command)
       };
       new = by.new;
       net = network ready.net;
-      of_layout = subst (λ (p : Plan). IsNetFor for.task.wish p for.task.settings (network ready.net))
-          (sym by.plan_is) for.holds.net;
+      of_layout = subst (λ (p : Layout). IsNetFor for.task.wish p for.task.settings (network ready.net))
+          (sym by.layout_is) for.holds.net;
       deviates = by.deviates;
     }
 
@@ -221,40 +221,41 @@ module _ (bytes : Bytes) (mark : HeadAt) (old : FaceSet) (command : Command)
 -- ---- A refined mesh.
 
 module _ (bytes : Bytes) (mark : HeadAt) (cut : CutSoup) (by : ℕ) (given : IsGivenTo bytes mark cut.soup (Refine by))
-    (laid : IsTracedLayout cut.soup.faces cut.plan) where
-  refined_other : (why : Why) → IsNotRefined by cut.soup cut.plan (tail_of mark.line bytes) why → HasOtherText bytes why
+    (laid : IsTracedLayout cut.soup.faces cut.layout) where
+  refined_other : (why : Why) → IsNotRefined by cut.soup cut.layout (tail_of mark.line bytes) why
+      → HasOtherText bytes why
   refined_other why reason = record {
     line = mark.line;
     command = Refine by;
     headed = headed bytes mark cut.soup (Refine by) given;
     unlike = record {
-      plan = cut.plan;
+      layout = cut.layout;
       mesh = record { soup = cut.soup; mesh = given.read.mesh; cut = laid };
       reason = reason;
     };
   }
 
   -- What is written for these bytes is written over this layout.
-  one_plan : (wrote : WritesRefined by (front_of mark.line bytes) (tail_of mark.line bytes)) → (wrote.soup ≡ cut.soup)
-      × (wrote.refined.plan ≡ cut.plan)
-  one_plan wrote = (
+  one_layout : (wrote : WritesRefined by (front_of mark.line bytes) (tail_of mark.line bytes)) → (wrote.soup ≡ cut.soup)
+      × (wrote.refined.layout ≡ cut.layout)
+  one_layout wrote = (
     same,
     one_layout_law cut.soup.faces (traced_marks cut.soup.faces) given.read.mesh.manifold
-        (graph_law cut.soup.faces given.read.mesh.manifold).1 wrote.refined.plan cut.plan
-        (subst (λ (s : FaceSet). IsTracedLayout s.faces wrote.refined.plan) same wrote.refined.cut) laid,
+        (graph_law cut.soup.faces given.read.mesh.manifold).1 wrote.refined.layout cut.layout
+        (subst (λ (s : FaceSet). IsTracedLayout s.faces wrote.refined.layout) same wrote.refined.cut) laid,
   )
     where
       same : wrote.soup ≡ cut.soup
       same = one_ok _ wrote.soup cut.soup wrote.mesh.said given.read.mesh.said
 
   -- There are too many faces.
-  pub no_points : (fail : CheckFail) → HasNoPoints by cut.plan fail → IsMapFail bytes fail
+  pub no_points : (fail : CheckFail) → HasNoPoints by cut.layout fail → IsMapFail bytes fail
   no_points (NotAccepted (why.TooFine faces)) fine = (
     refined_other (why.TooFine faces) fine,
     λ (has : HasMap bytes).
         let wrote = given_writes bytes mark cut.soup (Refine by) given has in
-        let few : refined_faces by cut.plan ≤ MAX_NEW_FACES =
-        subst (λ (p : Plan). refined_faces by p ≤ MAX_NEW_FACES) (one_plan wrote).1 wrote.refined.fits in
+        let few : refined_faces by cut.layout ≤ MAX_NEW_FACES =
+        subst (λ (p : Layout). refined_faces by p ≤ MAX_NEW_FACES) (one_layout wrote).1 wrote.refined.fits in
         absurd (omega (arith, few, fine.0, fine.1)),
   )
   no_points Memory none = tt
@@ -262,22 +263,23 @@ module _ (bytes : Bytes) (mark : HeadAt) (cut : CutSoup) (by : ℕ) (given : IsG
 
   module _ (new : Regrid) (are : IsRefinedBy by cut new) where
     -- The text is another one.
-    pub other_refined : (fail : CheckFail) → IsDifference (tail_of mark.line bytes) (refined_text by new.soup new.plan)
+    pub other_refined : (fail : CheckFail)
+        → IsDifference (tail_of mark.line bytes) (refined_text by new.soup new.layout)
         fail → IsMapFail bytes fail
     other_refined (NotAccepted (why.Byte at)) differ =
         let moved = subst (λ (t : Bytes). IsDifference (tail_of mark.line bytes) t (NotAccepted (why.Byte at)))
-        (λ i. refined_text by (are.soup i) (are.plan i)) differ in (
+        (λ i. refined_text by (are.soup i) (are.layout i)) differ in (
           refined_other (why.Byte at) (are.few, moved),
           λ (has : HasMap bytes).
               let wrote = given_writes bytes mark cut.soup (Refine by) given has in
-              let both = one_plan wrote in
+              let both = one_layout wrote in
               moved.there (ap (take at) (wrote.refined.written ∙ (λ i. refined_text by (both.0 i) (both.1 i)))),
         )
     other_refined Memory differ = tt
     other_refined _ differ = absurd differ
 
     -- It is that of the refined mesh.
-    pub refined_mapped : tail_of mark.line bytes ≡ refined_text by new.soup new.plan → HasMapOf bytes new
+    pub refined_mapped : tail_of mark.line bytes ≡ refined_text by new.soup new.layout → HasMapOf bytes new
     refined_mapped written = record {
       line = mark.line;
       divided = given.marked.last;
@@ -287,13 +289,13 @@ module _ (bytes : Bytes) (mark : HeadAt) (cut : CutSoup) (by : ℕ) (given : IsG
         soup = cut.soup;
         mesh = given.read.mesh;
         refined = record {
-          plan = cut.plan;
+          layout = cut.layout;
           cut = laid;
           fits = are.few;
-          written = written ∙ (λ i. refined_text by (are.soup i) (are.plan i));
-          shape = shape_of cut.soup (traced_marks cut.soup.faces) cut.plan (multiple_of by (long_at cut.plan.arcs))
+          written = written ∙ (λ i. refined_text by (are.soup i) (are.layout i));
+          shape = shape_of cut.soup (traced_marks cut.soup.faces) cut.layout (multiple_of by (long_at cut.layout.arcs))
               given.read.solid (graph_law cut.soup.faces given.read.mesh.manifold).1 laid are.shape;
         };
       };
-      said = λ i. map_text (are.soup i) (are.plan i) (are.shares i) (are.lengths i);
+      said = λ i. map_text (are.soup i) (are.layout i) (are.shares i) (are.lengths i);
     }

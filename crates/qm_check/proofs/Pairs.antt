@@ -5,7 +5,7 @@ use Rattle.std.proofs.lemmas.Bool.{false≢true}
 use Rattle.def_certtext.specs.{HeadLine.begins_head, HeadLine.HasNoHead, HeadLine.IsLastHead, Reading.IsHead}
 use Rattle.def_flow.specs.{Network.network, declared.net.Settings.Settings}
 use Rattle.def_io.specs.{Bytes.Bytes, Lines.lines_of, Lines.tail_of}
-use Rattle.def_layout.specs.{FaceLayouts.IsCutLayout, Plans.layout_of, Plans.Plan}
+use Rattle.def_layout.specs.{FaceLayouts.IsCutLayout, Layouts.gluing_of, Layouts.Layout}
 use Rattle.def_layoutnet.specs.LayoutNet.{IsNetOf}
 use Rattle.def_mesh.specs.Manifold.{IsManifold}
 use Rattle.def_remesh.specs.{Certified.IsShown, Checked.IsCheckedPair, CutSoups.Regrid, NewPoints.lengths_in}
@@ -138,9 +138,10 @@ module _ (bytes front : Bytes) (line : ℕ) (soup : FaceSet) (settings : Setting
       heads = same_head (head_of bytes line) pair.settings settings pair.auto auto
           (pair_head bytes front line given.divided given.lines soup given.read pair) given.head
 
-  abbrev asked_with : (old : FaceSet) (mesh : IsMeshText front old) (plan : Plan) (cut : IsTracedLayout old.faces plan)
+  abbrev asked_with : (old : FaceSet) (mesh : IsMeshText front old) (layout : Layout)
+      (cut : IsTracedLayout old.faces layout)
       → IsAsked bytes
-  asked_with old mesh plan cut = record {
+  asked_with old mesh layout cut = record {
     line = line;
     soup = old;
     old = has_soup bytes front line given.divided given.lines old mesh;
@@ -148,25 +149,25 @@ module _ (bytes front : Bytes) (line : ℕ) (soup : FaceSet) (settings : Setting
     settings = settings;
     auto = auto;
     head = given.head;
-    plan = plan;
+    layout = layout;
     cut = cut;
   }
 
   -- Nothing is made ready to judge it by.
   pub unmade_fails : (fail : CheckFail) → IsUnmade (Remesh settings auto) front fail → IsPairFail bytes fail
   unmade_fails (Tangled count) (inl none, never) = absurd none
-  unmade_fails (Tangled count) (inr (task, plan, has, tangled), never) =
+  unmade_fails (Tangled count) (inr (task, layout, has, tangled), never) =
       let refuted : IsCheckedPair bytes → ⊥ = λ pair. never text (pair_writes pair) in (
         record {
-          asked = asked_with has.soup has.mesh plan (subst (λ (t : Task). IsCutLayout has.soup.faces t.marks plan)
+          asked = asked_with has.soup has.mesh layout (subst (λ (t : Task). IsCutLayout has.soup.faces t.marks layout)
               has.asked has.cut);
-          tangled = subst (λ (t : Task). IsTangledAt t.wish plan t.settings count) has.asked tangled;
+          tangled = subst (λ (t : Task). IsTangledAt t.wish layout t.settings count) has.asked tangled;
           refuted = refuted;
         },
         refuted,
       )
   unmade_fails (Far sum) (inl none, never) = absurd none
-  unmade_fails (Far sum) (inr (task, plan, has, none), never) = absurd none
+  unmade_fails (Far sum) (inr (task, layout, has, none), never) = absurd none
   unmade_fails (Marks fail) (none, other, never) = absurd none
   unmade_fails Memory none = tt
   unmade_fails _ none = absurd none
@@ -191,8 +192,8 @@ module _ (bytes front : Bytes) (line : ℕ) (soup : FaceSet) (settings : Setting
         (shown_by (Remesh settings auto) front text ready.cut.soup for.task ready_mesh
         for.only (pair_writes pair))) in (
           record {
-            asked = asked_with ready.cut.soup ready_mesh ready.cut.plan is.laid_out.laid;
-            untangled = untangled old_lengths ready.cut.plan settings (network ready.net) is.net;
+            asked = asked_with ready.cut.soup ready_mesh ready.cut.layout is.laid_out.laid;
+            untangled = untangled old_lengths ready.cut.layout settings (network ready.net) is.net;
             reason = reason;
             refuted = refuted;
           },
@@ -219,18 +220,18 @@ module _ (bytes front : Bytes) (line : ℕ) (soup : FaceSet) (settings : Setting
       by : Finishes task ready text finished
       by = subst (λ (t : Task). Finishes t ready text finished) for.only.asked finishes
 
-      plan_is : finished.new.plan ≡ by.shown.finished.plan
-      plan_is = ap (λ (new : Regrid). new.plan) by.new
+      layout_is : finished.new.layout ≡ by.shown.finished.layout
+      layout_is = ap (λ (new : Regrid). new.layout) by.new
 
       -- Its arcs are those of the network.
-      pub few_arcs : length finished.new.plan.arcs < 2 ^ 32
+      pub few_arcs : length finished.new.layout.arcs < 2 ^ 32
       few_arcs =
-          let long : length (network ready.net).arcs ≡ length ready.cut.plan.arcs = is.net.is.long in
-          omega (arith, ap (λ (p : Plan). length p.arcs) (plan_is ∙ by.plan_is), long, is.net.bounds.few)
+          let long : length (network ready.net).arcs ≡ length ready.cut.layout.arcs = is.net.is.long in
+          omega (arith, ap (λ (p : Layout). length p.arcs) (layout_is ∙ by.layout_is), long, is.net.bounds.few)
 
       -- It is that of a remesh, with these numbers.
-      pub counted : (arcs faces deviates : ℕ) → arcs ≡ length finished.new.plan.arcs
-          → faces ≡ face_count (layout_of finished.new.plan) (lengths_in finished.new.lengths)
+      pub counted : (arcs faces deviates : ℕ) → arcs ≡ length finished.new.layout.arcs
+          → faces ≡ face_count (gluing_of finished.new.layout) (lengths_in finished.new.lengths)
           → deviates ≡ finished.deviation
           → IsCountedPair bytes arcs faces deviates
       counted arcs faces deviates arcs_told faces_told deviates_told = record {
@@ -246,11 +247,11 @@ module _ (bytes front : Bytes) (line : ℕ) (soup : FaceSet) (settings : Setting
           remeshed = by.shown.finished;
           certified = by.shown.certified;
         };
-        arcs_told = arcs_told ∙ ap (λ (p : Plan). length p.arcs) plan_is;
-        faces_told = faces_told ∙ ap (λ (new : Regrid). face_count (layout_of new.plan) (lengths_in new.lengths))
+        arcs_told = arcs_told ∙ ap (λ (p : Layout). length p.arcs) layout_is;
+        faces_told = faces_told ∙ ap (λ (new : Regrid). face_count (gluing_of new.layout) (lengths_in new.lengths))
             by.new;
         net = network ready.net;
-        of_layout = subst (λ (p : Plan). IsNetOf (layout_of p) (old_lengths p) (old_lengths p) settings
-            (λ a. settings.floor) (network ready.net)) (sym by.plan_is) is.net.is;
+        of_layout = subst (λ (p : Layout). IsNetOf (gluing_of p) (old_lengths p) (old_lengths p) settings
+            (λ a. settings.floor) (network ready.net)) (sym by.layout_is) is.net.is;
         deviation_told = deviates_told ∙ by.deviates;
       }

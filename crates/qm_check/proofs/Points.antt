@@ -12,7 +12,7 @@ use Rattle.def_fit.specs.{declared.fit.Fit.Fit as AnyFit, declared.fit.Spacing.T
 use Rattle.def_flow.specs.declared.net.Settings.{Settings}
 use Rattle.def_flow.specs.declared.net.Weight.TheVariants as weights
 use Rattle.def_io.specs.Bytes.{Bytes}
-use Rattle.def_layout.specs.{FaceLayouts.IsCutLayout, Plans.Plan}
+use Rattle.def_layout.specs.{FaceLayouts.IsCutLayout, Layouts.Layout}
 use Rattle.def_marks.specs.{Lines.marks_in, declared.fail.MarkFail.MarkFail}
 use Rattle.def_metric.specs.Fails.{IsFar}
 use Rattle.def_patches.specs.Chosen.{IsChosenCut, IsPlainCut}
@@ -37,10 +37,10 @@ use Rattle.qm_check.specs.declared.least.Least.{Least}
 -- The wishes of what is asked for add up to this sum, which is too great.
 pub record IsFarFrom (least : Least) (line bytes : Bytes) (sum : ℕ) : Type 0 where
   pub task : Task
-  pub plan : Plan
-  pub asked : HasTask (AsksToFind least line) bytes task plan
-  pub unbounded : ¬ AreAimedNear least.fit.aim task.wish plan
-  pub far : IsFar task.wish plan task.settings sum
+  pub layout : Layout
+  pub asked : HasTask (AsksToFind least line) bytes task layout
+  pub unbounded : ¬ AreAimedNear least.fit.aim task.wish layout
+  pub far : IsFar task.wish layout task.settings sum
 
 -- A command with this head line asks for what is found, and refuses what is not.
 pub record IsPoint (command : Command) (line : Bytes) (least : Least) : Type 0 where
@@ -61,10 +61,10 @@ tasks_by : (one other : Asks)
     → (bytes : Bytes) (answer : Answer)
     → RefusesTask one bytes answer → RefusesTask other bytes answer
 tasks_by one other gives bytes answer (inl none) = inl none
-tasks_by one other gives bytes answer (inr (task, plan, has, why)) =
+tasks_by one other gives bytes answer (inr (task, layout, has, why)) =
     inr (
       task,
-      plan,
+      layout,
       record { soup = has.soup; mesh = has.mesh; asked = gives bytes has.soup task has.asked; cut = has.cut },
       why,
     )
@@ -121,7 +121,7 @@ module _ (settings : Settings) (auto : Bool) where
     takes = λ bytes soup task is. (
       plain_takes (remeshed settings auto) (head_line settings auto) (λ b s. refl) bytes soup task
           (traced_marks soup.faces) refl is,
-      λ plan laid. tt,
+      λ layout laid. tt,
     );
     tangled = λ bytes count why. tasks_by (AsksToFind (remeshed settings auto) (head_line settings auto))
         (asks_of (Remesh settings auto)) remesh_gives bytes (answers.Tangled count) why;
@@ -154,7 +154,7 @@ module _ (settings : Settings) where
     };
     gives = λ bytes soup task asked. coarse_gives bytes soup task asked.0;
     takes = λ bytes soup task is.
-        (plain_takes coarse coarse_head (λ b s. refl) bytes soup task is.0 is.1 is.2, λ plan laid. tt);
+        (plain_takes coarse coarse_head (λ b s. refl) bytes soup task is.0 is.1 is.2, λ layout laid. tt);
     tangled = λ bytes count why. tasks_by (AsksToFind coarse coarse_head) (asks_of (Coarse settings)) coarse_gives bytes
         (answers.Tangled count) why;
     far = λ bytes sum far. absurd (far.unbounded tt);
@@ -219,7 +219,7 @@ module _ (settings : Settings) where
       inside = named_inside (codes "crease") settings refl range;
     };
     gives = λ bytes soup task asked. crease_gives bytes soup task asked.0;
-    takes = λ bytes soup task is. (crease_takes bytes soup task is, λ plan laid. tt);
+    takes = λ bytes soup task is. (crease_takes bytes soup task is, λ layout laid. tt);
     tangled =
         λ bytes count why. inr
         (tasks_by (AsksToFind crease crease_head) (asks_of (Crease settings)) crease_gives bytes
@@ -257,9 +257,9 @@ module _ (edge : ℤ) (floor : ℕ) where
   size_far bytes sum far = record {
     soup = far.asked.soup;
     mesh = far.asked.mesh;
-    plan = far.plan;
-    cut = subst (λ (t : Task). IsCutLayout far.asked.soup.faces t.marks far.plan) same far.asked.cut;
-    far = subst (λ (t : Task). IsFar t.wish far.plan t.settings sum) same far.far;
+    layout = far.layout;
+    cut = subst (λ (t : Task). IsCutLayout far.asked.soup.faces t.marks far.layout) same far.asked.cut;
+    far = subst (λ (t : Task). IsFar t.wish far.layout t.settings sum) same far.far;
   }
     where
       same : far.task ≡ size_task edge floor far.asked.soup
@@ -305,7 +305,7 @@ fit_point fit is = record {
   tangled = λ bytes count why. why;
   far = λ bytes sum far. record {
     task = far.task;
-    plan = far.plan;
+    layout = far.layout;
     asked = far.asked;
     unbounded = far.unbounded;
     far = far.far;

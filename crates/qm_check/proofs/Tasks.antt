@@ -3,7 +3,7 @@ use Rattle.std.proofs.Common.{◌≡◌, Bool, List, ◌∷◌, ◌++◌, [], Ok
 use Rattle.def_cut.specs.FullCut.{IsFullCut}
 use Rattle.def_fit.specs.{Aims.AreAimedNear, FitTasks.asides_in, FitTasks.kept_text, FitTasks.Asides, Shares.shares_of}
 use Rattle.def_io.specs.Bytes.{Bytes}
-use Rattle.def_layout.specs.{FaceLayouts.IsCutLayout, Plans.Plan}
+use Rattle.def_layout.specs.{FaceLayouts.IsCutLayout, Layouts.Layout}
 use Rattle.def_patches.specs.{Chosen.AreKeptMarks, Chosen.IsChosenCut, Chosen.IsChosenLayout, Laws.IsOneCut}
 use Rattle.def_remesh.specs.{Certified.IsShown, CutSoups.CutSoup, Tasks.Task}
 use Rattle.def_run.specs.{Fit.HasNearWishes, Map.asks_of, Map.WritesNew, Mesh.IsMeshText, Remesh.Asks, Remesh.HasTask}
@@ -15,7 +15,7 @@ use Rattle.def_run.specs.{declared.check_fail.CheckFail.TheVariants.Memory, decl
 use Rattle.def_run.specs.declared.command.Command.TheVariants as commands
 use Rattle.def_text.specs.FaceSet.{FaceSet}
 use Rattle.patch_laws.proofs.Chosen.{chosen_cut_law, one_cut_law}
-use Rattle.plan_laws.proofs.OnePlan.{one_layout_law}
+use Rattle.embedding_laws.proofs.OneLayout.{one_layout_law}
 use Rattle.qm_check.proofs.{Points.IsPoint, Refuted.shown_untangled, Results.ok_or_err, Results.one_ok}
 use Rattle.qm_check.specs.{Least.least_task, Least.terms_of, Least.AsksToFind, Least.HasNoNet, Making.IsOnlyTask}
 use Rattle.qm_check.specs.{Making.IsUnmade, Ready.marks_of, Ready.IsAsideFail, Ready.IsLaidOut, Ready.IsOld}
@@ -48,14 +48,14 @@ pub record IsCutBy (least : Least) (text : Bytes) (cut : CutSoup) (asides : Asid
   pub inner : AreKeptMarks cut.soup.faces asides.kept
   pub edges : List Bool
   pub chosen : IsChosenCut cut.soup.faces asides.kept least.fit.patches edges
-  pub laid : IsCutLayout cut.soup.faces edges cut.plan
+  pub laid : IsCutLayout cut.soup.faces edges cut.layout
 
-pub cut_by : (least : Least) (text : Bytes) (old : FaceSet) (plan : Plan) (cut : CutSoup) (asides : Asides)
-    → cut ≡ record { soup = old; plan = plan }
+pub cut_by : (least : Least) (text : Bytes) (old : FaceSet) (layout : Layout) (cut : CutSoup) (asides : Asides)
+    → cut ≡ record { soup = old; layout = layout }
     → asides_in least.fit text old ≡ Ok asides → AreKeptMarks old.faces asides.kept
-    → IsChosenLayout old.faces asides.kept least.fit.patches plan
+    → IsChosenLayout old.faces asides.kept least.fit.patches layout
     → IsCutBy least text cut asides
-cut_by least text old plan cut asides is said inner (edges, chosen, laid) =
+cut_by least text old layout cut asides is said inner (edges, chosen, laid) =
     subst (λ (c : CutSoup). IsCutBy least text c asides) (sym is)
     (record { said = said; inner = inner; edges = edges; chosen = chosen; laid = laid })
 
@@ -106,38 +106,38 @@ module _ (command : Command) (line text : Bytes) (least : Least) (point : IsPoin
     only_asked other also = alone other (point.takes text cut.soup other also).0
 
     -- Wishes that are not too great for a layout are so for the one layout of the cut.
-    near_all : AreAimedNear least.fit.aim task.wish cut.plan → HasNearWishes least.fit.aim cut.soup task
-    near_all near plan laid =
+    near_all : AreAimedNear least.fit.aim task.wish cut.layout → HasNearWishes least.fit.aim cut.soup task
+    near_all near layout laid =
         subst (AreAimedNear least.fit.aim task.wish)
-        (one_layout_law cut.soup.faces by.edges old.mesh.manifold full cut.plan plan by.laid laid) near
+        (one_layout_law cut.soup.faces by.edges old.mesh.manifold full cut.layout layout by.laid laid) near
 
-    pub only_for : AreAimedNear least.fit.aim task.wish cut.plan → IsOnlyTask command text cut.soup task
+    pub only_for : AreAimedNear least.fit.aim task.wish cut.layout → IsOnlyTask command text cut.soup task
     only_for near = record { asked = point.gives text cut.soup task (asked, near_all near); alone = only_asked }
 
-    has : HasTask (AsksToFind least line) text task cut.plan
+    has : HasTask (AsksToFind least line) text task cut.layout
     has = record { soup = cut.soup; mesh = old.mesh; asked = asked; cut = by.laid }
 
     -- What is written has wishes that are not too great.
     written_near : (written : Bytes) → WritesFinished (asks_of command) text written
-        → AreAimedNear least.fit.aim task.wish cut.plan
+        → AreAimedNear least.fit.aim task.wish cut.layout
     written_near written made =
         let same : made.soup ≡ cut.soup = one_ok _ made.soup cut.soup made.mesh.said old.mesh.said in
         let moved : asks_of command text cut.soup made.task =
         subst (λ (s : FaceSet). asks_of command text s made.task) same made.asked in
         subst (λ (t : Task). HasNearWishes least.fit.aim cut.soup t) (only_asked made.task moved)
-        (point.takes text cut.soup made.task moved).1 cut.plan by.laid
+        (point.takes text cut.soup made.task moved).1 cut.layout by.laid
 
     -- There is no network.
-    pub net_unmade : (fail : CheckFail) → HasNoNet least.fit.aim task.wish cut.plan task.settings fail
+    pub net_unmade : (fail : CheckFail) → HasNoNet least.fit.aim task.wish cut.layout task.settings fail
         → IsUnmade command text fail
     net_unmade (Tangled count) tangled = (
-      point.tangled text count (inr (task, cut.plan, has, tangled)),
-      λ written wrote. shown_untangled task cut.soup written cut.plan old.solid full by.laid
+      point.tangled text count (inr (task, cut.layout, has, tangled)),
+      λ written wrote. shown_untangled task cut.soup written cut.layout old.solid full by.laid
           (shown_only (asks_of command) text written cut.soup task old.mesh only_asked
           (point.writes text written wrote)) count tangled,
     )
     net_unmade (Far sum) (unbounded, far) = (
-      point.far text sum (record { task = task; plan = cut.plan; asked = has; unbounded = unbounded; far = far }),
+      point.far text sum (record { task = task; layout = cut.layout; asked = has; unbounded = unbounded; far = far }),
       λ written wrote. unbounded (written_near written (point.writes text written wrote)),
     )
     net_unmade Memory none = tt
@@ -146,7 +146,7 @@ module _ (command : Command) (line text : Bytes) (least : Least) (point : IsPoin
     -- The mesh is laid out for the task.
     pub laid_for : (frame : Frame) → frame.terms ≡ terms_of least → frame.head.items ≡ line ++ 10 ∷ []
         → marks_of frame ≡ asides.kept
-        → ((marks : List Bool) → IsFullCut cut.soup.faces marks → IsCutLayout cut.soup.faces marks cut.plan
+        → ((marks : List Bool) → IsFullCut cut.soup.faces marks → IsCutLayout cut.soup.faces marks cut.layout
         → frame.shares ≡ shares_of least.fit cut.soup asides.wishes marks)
         → IsLaidOut task cut frame
     laid_for frame is ended marks shares = record {
@@ -157,6 +157,6 @@ module _ (command : Command) (line text : Bytes) (least : Least) (point : IsPoin
       terms = is;
       head = ended;
       inside = point.head.inside;
-      between = λ plan new. λ i. kept_text (sym marks i) plan new;
+      between = λ layout new. λ i. kept_text (sym marks i) layout new;
       shares = sym (shares by.edges full by.laid);
     }

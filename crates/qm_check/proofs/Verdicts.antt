@@ -9,7 +9,8 @@ use Rattle.def_cut.specs.FullCut.{IsFullCut}
 use Rattle.def_fit.specs.FitTasks.{kept_text}
 use Rattle.def_flow.specs.{Network.network, Network.tangle_number, Network.Network, declared.net.Settings.Settings}
 use Rattle.def_io.specs.{Bytes.Bytes, Lines.lines_of}
-use Rattle.def_layout.specs.{FaceLayouts.IsCutLayout, Lengths.Lengths, Plans.layout_of, Plans.vertex_at, Plans.Plan}
+use Rattle.def_layout.specs.{FaceLayouts.IsCutLayout, Lengths.Lengths, Layouts.gluing_of, Layouts.vertex_at}
+use Rattle.def_layout.specs.{Layouts.Layout}
 use Rattle.def_remesh.specs.{Certified.IsShown, CutSoups.Regrid, Keeping.IsKept, Keeping.IsNetFor, NewPoints.lengths_in}
 use Rattle.def_remesh.specs.{Refusals.IsTangledAt, Remeshed.finished_text, Stitched.KeepsShapes, Rises.risen_floors}
 use Rattle.def_remesh.specs.{Tasks.given_floors, Tasks.Task, Tasks.Wish, TextLaws.IsSolid}
@@ -31,24 +32,25 @@ use Rattle.remesh_laws.proofs.{Keeps.least_of, MarkedLines.marked_silent, Printa
 use Rattle.remesh_laws.specs.Asides.{IsSilent}
 
 -- A network that is not too tangled is the only one.
-pub untangled : (wish : Wish) (plan : Plan) (settings : Settings) (net : Network) → IsNetFor wish plan settings net
-    → (count : ℕ) → IsTangledAt wish plan settings count → ⊥
-untangled wish plan settings net for count tangled =
-    let same : tangled.net ≡ net = one_net wish plan for.mesh settings _ tangled.net net tangled.is for.is in
+pub untangled : (wish : Wish) (layout : Layout) (settings : Settings) (net : Network)
+    → IsNetFor wish layout settings net
+    → (count : ℕ) → IsTangledAt wish layout settings count → ⊥
+untangled wish layout settings net for count tangled =
+    let same : tangled.net ≡ net = one_net wish layout for.mesh settings _ tangled.net net tangled.is for.is in
     absurd (omega (arith, tangled.high, tangled.told, ap tangle_number same, for.untangled))
 
 -- New faces that keep the shape of each mesh with a layout keep that of this one.
-pub shape_of : (soup : FaceSet) (marks : List Bool) (plan : Plan) (new : Lengths) → IsSolid soup
-    → IsFullCut soup.faces marks → IsCutLayout soup.faces marks plan
-    → KeepsShapes plan new → KeepsShape soup.faces (new_faces (layout_of plan) new) (layout_of plan).nodes
-    (vertex_at plan)
-shape_of soup marks plan new solid full laid shapes =
+pub shape_of : (soup : FaceSet) (marks : List Bool) (layout : Layout) (new : Lengths) → IsSolid soup
+    → IsFullCut soup.faces marks → IsCutLayout soup.faces marks layout
+    → KeepsShapes layout new → KeepsShape soup.faces (new_faces (gluing_of layout) new) (gluing_of layout).nodes
+    (vertex_at layout)
+shape_of soup marks layout new solid full laid shapes =
     shapes soup.faces marks solid.mesh (quads_of soup.faces solid.printable.quads) full laid
 
 -- The lines between are no lines of certificates.
-between_silent : (marks : Option (List Bool)) (plan : Plan) (new : Lengths) → IsSilent (kept_text marks plan new)
-between_silent None plan new = none_silent
-between_silent (Some marks) plan new = marked_silent marks plan new
+between_silent : (marks : Option (List Bool)) (layout : Layout) (new : Lengths) → IsSilent (kept_text marks layout new)
+between_silent None layout new = none_silent
+between_silent (Some marks) layout new = marked_silent marks layout new
 
 -- What may be told of certificates.
 abbrev TellsOfCerts : (why : Why) → Type 0
@@ -59,25 +61,25 @@ TellsOfCerts (why.Rises round) = ⊤
 TellsOfCerts _ = ⊥
 
 -- What is wrong with certificates is told of them.
-module _ (wish : Wish) (plan : Plan) (settings : Settings) where
-  cert_tells : (floors : Lengths) (cert : Lists) (why : Why) → IsWrong wish plan settings floors cert why
+module _ (wish : Wish) (layout : Layout) (settings : Settings) where
+  cert_tells : (floors : Lengths) (cert : Lists) (why : Why) → IsWrong wish layout settings floors cert why
       → TellsOfCerts why
   cert_tells floors cert (why.Verdict verdict) wrong = tt
   cert_tells floors cert (why.TooFine faces) wrong = tt
   cert_tells floors cert _ wrong = absurd wrong
 
-  lone_tells : (floors : Lengths) (cert : Lists) (why : Why) → IsLoneDoubled wish plan settings floors cert why
+  lone_tells : (floors : Lengths) (cert : Lists) (why : Why) → IsLoneDoubled wish layout settings floors cert why
       → TellsOfCerts why
   lone_tells floors cert (why.Doubled u v) wrong = tt
   lone_tells floors cert _ wrong = absurd wrong
 
-  rises_tell : (first : Lists) (rises : List Rise) (round : ℕ) (why : Why) → AreUnneeded plan first rises round why
+  rises_tell : (first : Lists) (rises : List Rise) (round : ℕ) (why : Why) → AreUnneeded layout first rises round why
       → TellsOfCerts why
   rises_tell first rises round (why.Rises number) wrong = tt
   rises_tell first rises round _ wrong = absurd wrong
 
   wrong_tells : (floors : Lengths) (round : ℕ) (told : Certificates) (why : Why)
-      → AreWrong wish plan settings floors round told why → TellsOfCerts why
+      → AreWrong wish layout settings floors round told why → TellsOfCerts why
   wrong_tells floors round (alone cert) why (inl wrong) = cert_tells floors cert why wrong
   wrong_tells floors round (alone cert) why (inr lone) = lone_tells floors cert why lone
   wrong_tells floors round (raised first cert) why (inl wrong) = cert_tells floors first why wrong
@@ -99,8 +101,8 @@ module _ (bytes : Bytes) (line : ℕ) (task : Task) (ready : Ready) (is : IsRead
     full = is.laid_out.full;
     laid = is.laid_out.laid;
     inside = is.laid_out.inside;
-    silent = λ plan new. subst IsSilent (sym (is.laid_out.between plan new))
-        (between_silent (marks_of ready.frame) plan new);
+    silent = λ layout new. subst IsSilent (sym (is.laid_out.between layout new))
+        (between_silent (marks_of ready.frame) layout new);
   }
 
   terms_are : ready.frame.terms ≡ record { settings = task.settings; rising = task.rising }
@@ -121,8 +123,8 @@ module _ (bytes : Bytes) (line : ℕ) (task : Task) (ready : Ready) (is : IsRead
       × (¬ IsShown task ready.cut.soup (text_in judged))
   both why wrong = (wrong, λ shown. text_refuted judged able shown why wrong)
 
-  pub net_is : IsNetFor task.wish ready.cut.plan ready.frame.terms.settings (network ready.net)
-  net_is = subst (λ (t : Terms). IsNetFor task.wish ready.cut.plan t.settings (network ready.net)) (sym terms_are)
+  pub net_is : IsNetFor task.wish ready.cut.layout ready.frame.terms.settings (network ready.net)
+  net_is = subst (λ (t : Terms). IsNetFor task.wish ready.cut.layout t.settings (network ready.net)) (sym terms_are)
       is.net
 
   module _ (told : Certificates) (reads : TellCerts ready.frame.terms.rising (drop (line + 1)
@@ -131,7 +133,7 @@ module _ (bytes : Bytes) (line : ℕ) (task : Task) (ready : Ready) (is : IsRead
     tells = subst (λ (t : Terms). TellCerts t.rising (behind_in judged) told) terms_are reads
 
     abbrev AreBad : (why : Why) → Type 0
-    AreBad why = AreWrong task.wish ready.cut.plan task.settings (given_floors task.settings) 1 told why
+    AreBad why = AreWrong task.wish ready.cut.layout task.settings (given_floors task.settings) 1 told why
 
     cert_wrong : (why : Why) → AreBad why → IsWrongText judged why
     cert_wrong why wrong = record { told = told; tells = tells; wrong = inl wrong }
@@ -143,24 +145,24 @@ module _ (bytes : Bytes) (line : ℕ) (task : Task) (ready : Ready) (is : IsRead
     bad_by (why.Rises round) wrong said = both (why.Rises round) (cert_wrong (why.Rises round) wrong)
     bad_by _ wrong said = absurd said
 
-    wrong_by : (fail : CheckFail) → IsUnused task.wish ready.cut.plan task.settings told fail → IsTextFail judged fail
+    wrong_by : (fail : CheckFail) → IsUnused task.wish ready.cut.layout task.settings told fail → IsTextFail judged fail
     wrong_by (NotAccepted why) by =
-        bad_by why by (wrong_tells task.wish ready.cut.plan task.settings (given_floors task.settings) 1 told why by)
+        bad_by why by (wrong_tells task.wish ready.cut.layout task.settings (given_floors task.settings) 1 told why by)
     wrong_by Memory by = tt
     wrong_by _ by = absurd by
 
     -- The certificates are not used.
-    pub unused : (fail : CheckFail) → IsUnused task.wish ready.cut.plan ready.frame.terms.settings told fail
+    pub unused : (fail : CheckFail) → IsUnused task.wish ready.cut.layout ready.frame.terms.settings told fail
         → IsTextFail judged fail
-    unused fail by = wrong_by fail (subst (λ (t : Terms). IsUnused task.wish ready.cut.plan t.settings told fail)
+    unused fail by = wrong_by fail (subst (λ (t : Terms). IsUnused task.wish ready.cut.layout t.settings told fail)
         terms_are by)
 
     module _ (framed : Framed) (deviates : ℕ)
-        (right : IsChecked task.wish ready.cut.plan (network ready.net) ready.frame.terms told
+        (right : IsChecked task.wish ready.cut.layout (network ready.net) ready.frame.terms told
         (record { remesh = framed.remesh; deviation = deviates }))
         (head : framed.head.items ≡ ready.frame.head.items)
         (between : framed.between.items
-        ≡ kept_text (marks_of ready.frame) ready.cut.plan
+        ≡ kept_text (marks_of ready.frame) ready.cut.layout
         (lengths_in (used (certificates_of framed.remesh.certs)).x))
         (shares : framed.shares ≡ ready.frame.shares) where
       abbrev certificates : Certificates
@@ -169,28 +171,29 @@ module _ (bytes : Bytes) (line : ℕ) (task : Task) (ready : Ready) (is : IsRead
       found_by : framed.remesh.terms ≡ record { settings = task.settings; rising = task.rising }
       found_by = right.found ∙ terms_are
 
-      kept : IsKept task.wish ready.cut.plan task.settings task.rising certificates framed.remesh.numbering
-      kept = subst (λ (t : Terms). IsKept task.wish ready.cut.plan t.settings t.rising certificates
+      kept : IsKept task.wish ready.cut.layout task.settings task.rising certificates framed.remesh.numbering
+      kept = subst (λ (t : Terms). IsKept task.wish ready.cut.layout t.settings t.rising certificates
           framed.remesh.numbering) found_by right.kept
 
       -- What is kept is in the frame of the task.
-      in_frame : IsFramed task framed ready.cut.soup ready.cut.plan
+      in_frame : IsFramed task framed ready.cut.soup ready.cut.layout
       in_frame = record {
         cut = is.laid_out.laid;
         settings = ap (λ (t : Terms). t.settings) found_by;
         rising = ap (λ (t : Terms). t.rising) found_by;
         kept = kept;
         head = head ∙ is.laid_out.head;
-        between = between ∙ sym (is.laid_out.between ready.cut.plan (lengths_in (used certificates).x));
+        between = between ∙ sym (is.laid_out.between ready.cut.layout (lengths_in (used certificates).x));
         shares = shares ∙ sym is.laid_out.shares;
       }
 
-      text : framed_text framed ready.cut.soup ready.cut.plan ≡ finished_text task ready.cut.soup ready.cut.plan
+      text : framed_text framed ready.cut.soup ready.cut.layout ≡ finished_text task ready.cut.soup ready.cut.layout
           certificates
-      text = text_is task framed ready.cut.soup ready.cut.plan in_frame
+      text = text_is task framed ready.cut.soup ready.cut.layout in_frame
 
       -- The text is another one.
-      pub other : (fail : CheckFail) → IsDifference (text_in judged) (framed_text framed ready.cut.soup ready.cut.plan)
+      pub other : (fail : CheckFail)
+          → IsDifference (text_in judged) (framed_text framed ready.cut.soup ready.cut.layout)
           fail → IsTextFail judged fail
       other (NotAccepted (why.Byte at)) differ = both (why.Byte at) (record {
         told = told;
@@ -210,34 +213,34 @@ module _ (bytes : Bytes) (line : ℕ) (task : Task) (ready : Ready) (is : IsRead
       abbrev at_lengths : (xs : List ℕ) → Regrid
       at_lengths xs = record {
         soup = ready.cut.soup;
-        plan = ready.cut.plan;
+        layout = ready.cut.layout;
         lengths = xs;
         shares = framed.shares;
       }
 
       -- It is that of the task.
       pub finishes : (new : Regrid) → new ≡ at_lengths framed.remesh.numbering.lengths.items
-          → text_in judged ≡ framed_text framed ready.cut.soup ready.cut.plan
+          → text_in judged ≡ framed_text framed ready.cut.soup ready.cut.layout
           → Finishes task ready (text_in judged) (record { new = new; deviation = deviates })
       finishes new are written = record {
         shown = record {
           finished = record {
-            plan = ready.cut.plan;
+            layout = ready.cut.layout;
             cut = is.laid_out.laid;
             certificates = certificates;
-            lengths = least_of task.wish ready.cut.plan task.settings task.rising certificates kept.kept;
+            lengths = least_of task.wish ready.cut.layout task.settings task.rising certificates kept.kept;
             coarse = kept.coarse;
             undoubled = kept.undoubled;
             written = written ∙ text;
-            shape = shape_of ready.cut.soup task.marks ready.cut.plan (lengths_in (used certificates).x)
+            shape = shape_of ready.cut.soup task.marks ready.cut.layout (lengths_in (used certificates).x)
                 is.laid_out.solid is.laid_out.full is.laid_out.laid kept.shape;
           };
           certified = kept.kept;
         };
-        plan_is = refl;
+        layout_is = refl;
         new = are ∙ (λ i. record {
           soup = ready.cut.soup;
-          plan = ready.cut.plan;
+          layout = ready.cut.layout;
           lengths = kept.lengths i;
           shares = in_frame.shares i;
         });

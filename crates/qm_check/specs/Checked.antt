@@ -15,7 +15,7 @@ use Rattle.def_flow.specs.declared.cert.CertVerdict.TheVariants.{Yes}
 use Rattle.def_flow.specs.declared.limits.TheConstants.{MAX_FLOOR, MAX_LENGTH}
 use Rattle.def_flow.specs.declared.net.Settings.{Settings}
 use Rattle.def_io.specs.Bytes.{Bytes}
-use Rattle.def_layout.specs.Plans.{Plan, layout_of}
+use Rattle.def_layout.specs.Layouts.{Layout, gluing_of}
 use Rattle.def_matching.specs.Dual.{IsSmallDual}
 use Rattle.def_remesh.specs.Keeping.{IsKept, IsNetWith}
 use Rattle.def_remesh.specs.NewPoints.{lengths_in}
@@ -50,41 +50,43 @@ abbrev pub AreHighest : (net : Network) → Type 0
 AreHighest net = (k : ℕ) → k < length net.arcs → MAX_FLOOR ≤ (arc_at net.arcs k).floor
 
 -- What lengths give: a new mesh, or a doubled edge, which comes only where some floor is below the greatest.
-abbrev pub Gives : (plan : Plan) (net : Network) (xs : List ℕ) (lengths : Lengths) → Type 0
-Gives plan net xs (Whole numbering deviates) = IsNumbered plan xs numbering × (deviates ≡ deviation net (entries xs))
-Gives plan net xs (Doubled u v) =
-    AreCoarse plan xs × IsFirstDoubled (layout_of plan) (lengths_in xs) u v × (¬ AreHighest net)
+abbrev pub Gives : (layout : Layout) (net : Network) (xs : List ℕ) (lengths : Lengths) → Type 0
+Gives layout net xs (Whole numbering deviates) =
+    IsNumbered layout xs numbering × (deviates ≡ deviation net (entries xs))
+Gives layout net xs (Doubled u v) =
+    AreCoarse layout xs × IsFirstDoubled (gluing_of layout) (lengths_in xs) u v × (¬ AreHighest net)
 
 -- Why a certificate gives no lengths: its verdict, or that it is accepted and its lengths give too many faces.
-abbrev pub GivesNone : (plan : Plan) (net : Network) (cert : Cert) (fail : CheckFail) → Type 0
-GivesNone plan net cert (NotAccepted (why.Verdict verdict)) =
+abbrev pub GivesNone : (layout : Layout) (net : Network) (cert : Cert) (fail : CheckFail) → Type 0
+GivesNone layout net cert (NotAccepted (why.Verdict verdict)) =
     (verdict ≡ cert_verdict net (certificate cert)) × ((d : ℤ) → verdict ≢ Yes d)
-GivesNone plan net cert (NotAccepted (why.TooFine faces)) =
-    IsSolution net (certificate cert) × AreTooFine plan cert.x.items faces
-GivesNone plan net cert Memory = ⊤
-GivesNone plan net cert _ = ⊥
+GivesNone layout net cert (NotAccepted (why.TooFine faces)) =
+    IsSolution net (certificate cert) × AreTooFine layout cert.x.items faces
+GivesNone layout net cert Memory = ⊤
+GivesNone layout net cert _ = ⊥
 
 -- Why the floors of a round are not raised: they do not have to rise.
-abbrev pub IsNoRise : (plan : Plan) (before : Round) (number : ℕ) (fail : CheckFail) → Type 0
-IsNoRise plan before number (NotAccepted why) = AreUnneeded plan (lists_of before.cert) before.rises.items number why
-IsNoRise plan before number Memory = ⊤
-IsNoRise plan before number _ = ⊥
+abbrev pub IsNoRise : (layout : Layout) (before : Round) (number : ℕ) (fail : CheckFail) → Type 0
+IsNoRise layout before number (NotAccepted why) =
+    AreUnneeded layout (lists_of before.cert) before.rises.items number why
+IsNoRise layout before number Memory = ⊤
+IsNoRise layout before number _ = ⊥
 
 -- Rounds of a text that are passed: their certificates are accepted and double an edge each, and the floors that rise
 -- have to. The network has the floors behind them, and lists deviate as much there as in the first one.
 pub record ArePassed
-    (wish : Wish) (plan : Plan) (settings : Settings) (start : Network) (rounds : List Round) (net : Network)
+    (wish : Wish) (layout : Layout) (settings : Settings) (start : Network) (rounds : List Round) (net : Network)
     : Type 0 where
-  pub led : AreLed (IsCertified wish plan settings) plan rounds (given_floors settings)
-  pub risen : IsNetWith wish plan settings (floors_behind rounds (given_floors settings)) net
+  pub led : AreLed (IsCertified wish layout settings) layout rounds (given_floors settings)
+  pub risen : IsNetWith wish layout settings (floors_behind rounds (given_floors settings)) net
   pub even : (x : ℕ → ℤ) → deviation net x ≡ deviation start x
 
 -- What is kept by the certificates of a text: those up to the ones that are used, the numbers of the new mesh, and the
 -- deviation.
 pub record IsChecked
-    (wish : Wish) (plan : Plan) (net : Network) (terms : Terms) (told : Certificates) (checked : Checked)
+    (wish : Wish) (layout : Layout) (net : Network) (terms : Terms) (told : Certificates) (checked : Checked)
     : Type 0 where
-  pub kept : IsKept wish plan checked.remesh.terms.settings checked.remesh.terms.rising
+  pub kept : IsKept wish layout checked.remesh.terms.settings checked.remesh.terms.rising
       (certificates_of checked.remesh.certs) checked.remesh.numbering
   pub found : checked.remesh.terms ≡ terms
   pub front : AreFront (certificates_of checked.remesh.certs) told
@@ -92,10 +94,10 @@ pub record IsChecked
 
 -- Why the certificates of a text are not used.
 abbrev pub IsUnused :
-    (wish : Wish) (plan : Plan) (settings : Settings) (told : Certificates) (fail : CheckFail) → Type 0
-IsUnused wish plan settings told (NotAccepted why) = AreWrong wish plan settings (given_floors settings) 1 told why
-IsUnused wish plan settings told Memory = ⊤
-IsUnused wish plan settings told _ = ⊥
+    (wish : Wish) (layout : Layout) (settings : Settings) (told : Certificates) (fail : CheckFail) → Type 0
+IsUnused wish layout settings told (NotAccepted why) = AreWrong wish layout settings (given_floors settings) 1 told why
+IsUnused wish layout settings told Memory = ⊤
+IsUnused wish layout settings told _ = ⊥
 
 -- The bytes are not this text.
 abbrev pub IsDifference : (given text : Bytes) (fail : CheckFail) → Type 0

@@ -16,15 +16,15 @@ use Rattle.qm_check.specs.declared.ready.Ready.{Ready}
 
 -- The text from a line on, with what it is judged by.
 abbrev pub judged_by : (bytes : Bytes) (line : ℕ) (cut : CutSoup) (task : Task) → Judged
-judged_by bytes line cut task = record { bytes = bytes; line = line; soup = cut.soup; plan = cut.plan; task = task }
+judged_by bytes line cut task = record { bytes = bytes; line = line; soup = cut.soup; layout = cut.layout; task = task }
 
 -- A text finishes a task, with this new mesh and this deviation.
 pub record Finishes (task : Task) (ready : Ready) (text : Bytes) (finished : Finished) : Type 0 where
   pub shown : IsShown task ready.cut.soup text
-  pub plan_is : shown.finished.plan ≡ ready.cut.plan
+  pub layout_is : shown.finished.layout ≡ ready.cut.layout
   pub new : finished.new ≡ record {
     soup = ready.cut.soup;
-    plan = shown.finished.plan;
+    layout = shown.finished.layout;
     lengths = (used shown.finished.certificates).x;
     shares = task.shares;
   }

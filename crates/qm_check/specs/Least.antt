@@ -13,7 +13,7 @@ use Rattle.def_fit.specs.declared.fit.Spacing.TheVariants.{Even}
 use Rattle.def_flow.specs.declared.net.Settings.{Settings}
 use Rattle.def_flow.specs.declared.net.Weight.TheVariants.{Plain}
 use Rattle.def_io.specs.Bytes.{Bytes}
-use Rattle.def_layout.specs.Plans.{Plan}
+use Rattle.def_layout.specs.Layouts.{Layout}
 use Rattle.def_metric.specs.Fails.{IsFar}
 use Rattle.def_patches.specs.Chosen.{IsChosenCut}
 use Rattle.def_patches.specs.declared.Keep.{Keep}
@@ -102,8 +102,8 @@ AsksToFindNear least head bytes soup task =
     AsksToFind least head bytes soup task × HasNearWishes least.fit.aim soup task
 
 -- Why there is no network for it, where there is memory.
-abbrev pub HasNoNet : (aim : Aim) (wish : Wish) (plan : Plan) (settings : Settings) (fail : CheckFail) → Type 0
-HasNoNet aim wish plan settings (Tangled count) = IsTangledAt wish plan settings count
-HasNoNet aim wish plan settings (Far sum) = (¬ AreAimedNear aim wish plan) × IsFar wish plan settings sum
-HasNoNet aim wish plan settings Memory = ⊤
-HasNoNet aim wish plan settings _ = ⊥
+abbrev pub HasNoNet : (aim : Aim) (wish : Wish) (layout : Layout) (settings : Settings) (fail : CheckFail) → Type 0
+HasNoNet aim wish layout settings (Tangled count) = IsTangledAt wish layout settings count
+HasNoNet aim wish layout settings (Far sum) = (¬ AreAimedNear aim wish layout) × IsFar wish layout settings sum
+HasNoNet aim wish layout settings Memory = ⊤
+HasNoNet aim wish layout settings _ = ⊥

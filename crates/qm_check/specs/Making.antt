@@ -68,12 +68,12 @@ pub record IsFound (command : Command) (front text : Bytes) (finished : Finished
   pub written : WritesFinished (asks_of command) front text
   pub new : finished.new ≡ record {
     soup = written.soup;
-    plan = written.shown.finished.plan;
+    layout = written.shown.finished.layout;
     lengths = (used written.shown.finished.certificates).x;
     shares = written.task.shares;
   }
   pub net : Network
-  pub of_layout : IsNetFor written.task.wish written.shown.finished.plan written.task.settings net
+  pub of_layout : IsNetFor written.task.wish written.shown.finished.layout written.task.settings net
   pub deviates : finished.deviation ≡ deviation net (entries (used written.shown.finished.certificates).x)
 
 -- The last line that begins as a head line does stands there, and begins as that of `fit`.
@@ -83,4 +83,4 @@ pub record IsFitAt (bytes : Bytes) (mark : HeadAt) : Type 0 where
 
 -- The bytes have the map of this new mesh.
 abbrev pub HasMapOf : (bytes : Bytes) (new : Regrid) → Type 0
-HasMapOf bytes new = WritesMap bytes (map_text new.soup new.plan new.shares (lengths_in new.lengths))
+HasMapOf bytes new = WritesMap bytes (map_text new.soup new.layout new.shares (lengths_in new.lengths))

@@ -1,7 +1,7 @@
 -- A refined mesh.
 use Rattle.std.specs.Prelude.{◌≡◌, ◌<◌, ◌≤◌, ℕ, None, ⊤}
 use Rattle.def_layout.specs.Arcs.{long_at}
-use Rattle.def_layout.specs.Plans.{Plan}
+use Rattle.def_layout.specs.Layouts.{Layout}
 use Rattle.def_remesh.specs.CutSoups.{CutSoup, Regrid}
 use Rattle.def_remesh.specs.NewPoints.{lengths_in, multiple_of}
 use Rattle.def_remesh.specs.Refined.{refined_faces}
@@ -14,14 +14,14 @@ use Rattle.def_run.specs.declared.check_fail.CheckFail.TheVariants.{NotAccepted,
 -- The new mesh of a layout with a multiple of the old lengths: its faces are not too many, and keep the old shape.
 pub record IsRefinedBy (by : ℕ) (cut : CutSoup) (new : Regrid) : Type 0 where
   pub soup : new.soup ≡ cut.soup
-  pub plan : new.plan ≡ cut.plan
-  pub lengths : lengths_in new.lengths ≡ multiple_of by (long_at cut.plan.arcs)
+  pub layout : new.layout ≡ cut.layout
+  pub lengths : lengths_in new.lengths ≡ multiple_of by (long_at cut.layout.arcs)
   pub shares : new.shares ≡ None
-  pub shape : KeepsShapes cut.plan (multiple_of by (long_at cut.plan.arcs))
-  pub few : refined_faces by cut.plan ≤ MAX_NEW_FACES
+  pub shape : KeepsShapes cut.layout (multiple_of by (long_at cut.layout.arcs))
+  pub few : refined_faces by cut.layout ≤ MAX_NEW_FACES
 
 -- Why there is none, where there is memory: there are too many faces.
-abbrev pub HasNoPoints : (by : ℕ) (plan : Plan) (fail : CheckFail) → Type 0
-HasNoPoints by plan (NotAccepted (why.TooFine faces)) = (faces ≡ refined_faces by plan) × (MAX_NEW_FACES < faces)
-HasNoPoints by plan Memory = ⊤
-HasNoPoints by plan _ = ⊥
+abbrev pub HasNoPoints : (by : ℕ) (layout : Layout) (fail : CheckFail) → Type 0
+HasNoPoints by layout (NotAccepted (why.TooFine faces)) = (faces ≡ refined_faces by layout) × (MAX_NEW_FACES < faces)
+HasNoPoints by layout Memory = ⊤
+HasNoPoints by layout _ = ⊥

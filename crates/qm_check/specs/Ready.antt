@@ -17,7 +17,7 @@ use Rattle.def_io.specs.Lines.{lines_of, tail_of}
 use Rattle.def_io.specs.declared.TheConstants.{LINE_FEED}
 use Rattle.def_layout.specs.FaceLayouts.{IsCutLayout}
 use Rattle.def_layout.specs.Lengths.{Lengths}
-use Rattle.def_layout.specs.Plans.{Plan}
+use Rattle.def_layout.specs.Layouts.{Layout}
 use Rattle.def_marks.specs.declared.fail.MarkFail.TheVariants as marks
 use Rattle.def_mesh.specs.Faults.{IsFirstFault}
 use Rattle.def_mesh.specs.Manifold.{IsManifold}
@@ -72,18 +72,18 @@ marks_of frame = option_map (λ marks. marks.items) frame.marks
 pub record IsLaidOut (task : Task) (cut : CutSoup) (frame : Frame) : Type 0 where
   pub solid : IsSolid cut.soup
   pub full : IsFullCut cut.soup.faces task.marks
-  pub laid : IsCutLayout cut.soup.faces task.marks cut.plan
+  pub laid : IsCutLayout cut.soup.faces task.marks cut.layout
   pub range : AreInRange task.settings (may_rise task.rising)
   pub terms : frame.terms ≡ record { settings = task.settings; rising = task.rising }
   pub head : frame.head.items ≡ task.head ++ LINE_FEED ∷ []
   pub inside : list_all is_inside task.head ≡ true
-  pub between : (plan : Plan) (new : Lengths) → task.between plan new ≡ kept_text (marks_of frame) plan new
+  pub between : (layout : Layout) (new : Lengths) → task.between layout new ≡ kept_text (marks_of frame) layout new
   pub shares : task.shares ≡ frame.shares
 
 -- The same with the network of the task.
 pub record IsReady (task : Task) (ready : Ready) : Type 0 where
   pub laid_out : IsLaidOut task ready.cut ready.frame
-  pub net : IsNetFor task.wish ready.cut.plan task.settings (network ready.net)
+  pub net : IsNetFor task.wish ready.cut.layout task.settings (network ready.net)
 
 -- Why the lines behind a head line tell nothing: one of them is bad.
 abbrev pub TellsNothing : (rising : Rising) (bytes : Bytes) (line : ℕ) (fail : CheckFail) → Type 0

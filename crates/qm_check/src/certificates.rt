@@ -33,12 +33,12 @@ pub(crate) fn check_certs(
     terms: Terms,
     certs: Certs,
 ) -> Result<Checked, CheckFail>
-    requires net { (wish : Wish) × IsNetFor wish cut.now.plan terms.settings (network net) }
+    requires net { (wish : Wish) × IsNetFor wish cut.now.layout terms.settings (network net) }
     requires reach { AreInReach terms.rising (certificates_of certs) }
-    ensures checked { (wish : Wish) → IsNetFor wish cut.now.plan terms.settings (network net)
-        → IfOk result (IsChecked wish cut.now.plan (network net) terms (certificates_of certs)) }
-    ensures unused { (wish : Wish) → IsNetFor wish cut.now.plan terms.settings (network net)
-        → IfErr result (IsUnused wish cut.now.plan terms.settings (certificates_of certs)) }
+    ensures checked { (wish : Wish) → IsNetFor wish cut.now.layout terms.settings (network net)
+        → IfOk result (IsChecked wish cut.now.layout (network net) terms (certificates_of certs)) }
+    ensures unused { (wish : Wish) → IsNetFor wish cut.now.layout terms.settings (network net)
+        → IfErr result (IsUnused wish cut.now.layout terms.settings (certificates_of certs)) }
 {
     match certs {
         Certs::Alone { cert } => check_only(alloc, cut, &net, terms, cert),
@@ -68,12 +68,12 @@ fn check_only(
     terms: Terms,
     cert: Cert,
 ) -> Result<Checked, CheckFail>
-    requires net { (wish : Wish) × IsNetFor wish cut.now.plan terms.settings (network net.now) }
+    requires net { (wish : Wish) × IsNetFor wish cut.now.layout terms.settings (network net.now) }
     requires cert { IsInReach (lists_of cert) }
-    ensures checked { (wish : Wish) → IsNetFor wish cut.now.plan terms.settings (network net.now)
-        → IfOk result (IsChecked wish cut.now.plan (network net.now) terms (alone (lists_of cert))) }
-    ensures unused { (wish : Wish) → IsNetFor wish cut.now.plan terms.settings (network net.now)
-        → IfErr result (IsUnused wish cut.now.plan terms.settings (alone (lists_of cert))) }
+    ensures checked { (wish : Wish) → IsNetFor wish cut.now.layout terms.settings (network net.now)
+        → IfOk result (IsChecked wish cut.now.layout (network net.now) terms (alone (lists_of cert))) }
+    ensures unused { (wish : Wish) → IsNetFor wish cut.now.layout terms.settings (network net.now)
+        → IfErr result (IsUnused wish cut.now.layout terms.settings (alone (lists_of cert))) }
 {
     match check_lengths(alloc, cut, net, &cert)? {
         Lengths::Whole {
@@ -101,13 +101,13 @@ fn check_both(
     terms: Terms,
     pair: Pair,
 ) -> Result<Checked, CheckFail>
-    requires net { (wish : Wish) × IsNetFor wish cut.now.plan terms.settings (network net) }
+    requires net { (wish : Wish) × IsNetFor wish cut.now.layout terms.settings (network net) }
     requires reach { AreInReach terms.rising (raised (lists_of pair.first) (lists_of pair.third)) }
-    ensures checked { (wish : Wish) → IsNetFor wish cut.now.plan terms.settings (network net)
-        → IfOk result (IsChecked wish cut.now.plan (network net) terms
+    ensures checked { (wish : Wish) → IsNetFor wish cut.now.layout terms.settings (network net)
+        → IfOk result (IsChecked wish cut.now.layout (network net) terms
         (raised (lists_of pair.first) (lists_of pair.third))) }
-    ensures unused { (wish : Wish) → IsNetFor wish cut.now.plan terms.settings (network net)
-        → IfErr result (IsUnused wish cut.now.plan terms.settings
+    ensures unused { (wish : Wish) → IsNetFor wish cut.now.layout terms.settings (network net)
+        → IfErr result (IsUnused wish cut.now.layout terms.settings
         (raised (lists_of pair.first) (lists_of pair.third))) }
 {
     match check_lengths(alloc, cut, &net, &pair.first)? {
@@ -134,15 +134,15 @@ fn check_third(
     terms: Terms,
     pair: Pair,
 ) -> Result<Checked, CheckFail>
-    requires net { (wish : Wish) × IsNetFor wish cut.now.plan terms.settings (network net) }
+    requires net { (wish : Wish) × IsNetFor wish cut.now.layout terms.settings (network net) }
     requires reach { AreInReach terms.rising (raised (lists_of pair.first) (lists_of pair.third)) }
-    requires doubling { (wish : Wish) → IsNetFor wish cut.now.plan terms.settings (network net)
-        → IsDoubling wish cut.now.plan terms.settings (given_floors terms.settings) (lists_of pair.first) }
-    ensures checked { (wish : Wish) → IsNetFor wish cut.now.plan terms.settings (network net)
-        → IfOk result (IsChecked wish cut.now.plan (network net) terms
+    requires doubling { (wish : Wish) → IsNetFor wish cut.now.layout terms.settings (network net)
+        → IsDoubling wish cut.now.layout terms.settings (given_floors terms.settings) (lists_of pair.first) }
+    ensures checked { (wish : Wish) → IsNetFor wish cut.now.layout terms.settings (network net)
+        → IfOk result (IsChecked wish cut.now.layout (network net) terms
         (raised (lists_of pair.first) (lists_of pair.third))) }
-    ensures unused { (wish : Wish) → IsNetFor wish cut.now.plan terms.settings (network net)
-        → IfErr result (IsUnused wish cut.now.plan terms.settings
+    ensures unused { (wish : Wish) → IsNetFor wish cut.now.layout terms.settings (network net)
+        → IfErr result (IsUnused wish cut.now.layout terms.settings
         (raised (lists_of pair.first) (lists_of pair.third))) }
 {
     let higher = with_floor(net, MAX_FLOOR);

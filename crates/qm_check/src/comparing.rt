@@ -23,16 +23,16 @@ pub(crate) fn compare(
     framed: Framed,
 ) -> Result<Regridded, CheckFail>
     requires few { length given.now ≤ MAX_BYTES }
-    requires kept { (wish : Wish) × IsKept wish cut.plan framed.remesh.terms.settings framed.remesh.terms.rising
+    requires kept { (wish : Wish) × IsKept wish cut.layout framed.remesh.terms.settings framed.remesh.terms.rising
         (certificates_of framed.remesh.certs) framed.remesh.numbering }
-    ensures same { OnOk result (given.now ≡ framed_text framed cut.soup cut.plan) }
+    ensures same { OnOk result (given.now ≡ framed_text framed cut.soup cut.layout) }
     ensures new { IfOk result (λ new. new ≡ record {
       soup = cut.soup;
-      plan = cut.plan;
+      layout = cut.layout;
       lengths = framed.remesh.numbering.lengths.items;
       shares = framed.shares;
     }) }
-    ensures other { IfErr result (IsDifference given.now (framed_text framed cut.soup cut.plan)) }
+    ensures other { IfErr result (IsDifference given.now (framed_text framed cut.soup cut.layout)) }
 {
     let mut comparison = Comparison::new(given);
     match put_framed(alloc, &mut comparison, cut, framed) {

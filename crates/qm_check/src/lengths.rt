@@ -8,7 +8,7 @@ ghost use Rattle.def_flow.specs.Descent.{IsSolution};
 ghost use Rattle.def_flow.specs.Network.{network};
 ghost use Rattle.def_flow.specs.declared.net.Settings.{Settings as AnySettings};
 ghost use Rattle.def_layout.specs.Lengths.{Lengths as AnyLengths};
-ghost use Rattle.def_layout.specs.Plans.{Plan};
+ghost use Rattle.def_layout.specs.Layouts.{Layout};
 ghost use Rattle.qm_check.specs.Checked.{Gives, GivesNone, IsInReach};
 ghost use Rattle.def_remesh.specs.Keeping.{IsNetWith};
 ghost use Rattle.def_remesh.specs.Tasks.{Wish};
@@ -44,11 +44,11 @@ pub(crate) fn check_lengths(
     cert: &Cert,
 ) -> Result<Lengths, CheckFail>
     requires net { (wish : Wish) × (settings : AnySettings) × (floors : AnyLengths)
-        × IsNetWith wish cut.now.plan settings floors (network net.now) }
+        × IsNetWith wish cut.now.layout settings floors (network net.now) }
     requires cert { IsInReach (lists_of cert.now) }
     ensures solved { OnOk result (IsSolution (network net.now) (certificate cert.now)) }
-    ensures gives { IfOk result (Gives cut.now.plan (network net.now) cert.now.x.items) }
-    ensures refused { IfErr result (GivesNone cut.now.plan (network net.now) cert.now) }
+    ensures gives { IfOk result (Gives cut.now.layout (network net.now) cert.now.x.items) }
+    ensures refused { IfErr result (GivesNone cut.now.layout (network net.now) cert.now) }
 {
     let deviation = accepted_deviation(alloc, net, cert)?;
     match plan_over(alloc, cut, &cert.x) {
@@ -66,12 +66,12 @@ pub(crate) fn check_lengths(
 
 /// How far the lengths of an accepted certificate are from what is wanted.
 fn accepted_deviation(alloc: Global, net: &Net, cert: &Cert) -> Result<u128, CheckFail>
-    requires net { (wish : Wish) × (settings : AnySettings) × (floors : AnyLengths) × (plan : Plan)
-        × IsNetWith wish plan settings floors (network net.now) }
+    requires net { (wish : Wish) × (settings : AnySettings) × (floors : AnyLengths) × (layout : Layout)
+        × IsNetWith wish layout settings floors (network net.now) }
     requires cert { IsInReach (lists_of cert.now) }
     ensures solved { OnOk result (IsSolution (network net.now) (certificate cert.now)) }
     ensures told { IfOk result (λ d. d ≡ deviation_of (network net.now) (entries cert.now.x.items)) }
-    ensures refused { (plan : Plan) → IfErr result (GivesNone plan (network net.now) cert.now) }
+    ensures refused { (layout : Layout) → IfErr result (GivesNone layout (network net.now) cert.now) }
 {
     match accepts(alloc, net, cert)? {
         CertVerdict::Yes { deviation } => Ok(deviation.unsigned_abs()),

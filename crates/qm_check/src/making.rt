@@ -61,11 +61,11 @@ pub(crate) fn ready_for(
 fn net_near(alloc: Global, cut: &CutMesh, fit: &Fit, wishes: &[u32]) -> Result<Net, CheckFail>
     requires fit { IsFit fit.now }
     requires wishes { fit.now.aim ≡ Aim.Wishes → length wishes.now ≡ darts cut.now.soup.faces }
-    ensures net { IfOk result (λ net. IsNetFor (aimed fit.now.aim cut.now.soup wishes.now) cut.now.plan
+    ensures net { IfOk result (λ net. IsNetFor (aimed fit.now.aim cut.now.soup wishes.now) cut.now.layout
         (fit_settings fit.now) (network net)) }
     ensures near { OnOk result
-        (AreAimedNear fit.now.aim (aimed fit.now.aim cut.now.soup wishes.now) cut.now.plan) }
-    ensures none { IfErr result (HasNoNet fit.now.aim (aimed fit.now.aim cut.now.soup wishes.now) cut.now.plan
+        (AreAimedNear fit.now.aim (aimed fit.now.aim cut.now.soup wishes.now) cut.now.layout) }
+    ensures none { IfErr result (HasNoNet fit.now.aim (aimed fit.now.aim cut.now.soup wishes.now) cut.now.layout
         (fit_settings fit.now)) }
 {
     match net_for(alloc, cut, fit, wishes) {

@@ -29,7 +29,7 @@ use std::alloc::Global;
 pub fn judge(alloc: Global, bytes: &[u8]) -> Result<Regridded, CheckFail>
     requires { length bytes.now ≤ MAX_BYTES }
     ensures map { IfOk result (λ new. WritesMap bytes.now
-        (map_text new.soup new.plan new.shares (lengths_in new.lengths))) }
+        (map_text new.soup new.layout new.shares (lengths_in new.lengths))) }
     ensures refused { IfErr result (IsMapFail bytes.now) }
 {
     match find_mark(bytes) {

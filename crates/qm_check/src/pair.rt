@@ -1,7 +1,7 @@
 //! One text of a pair, from its bytes to the verdict.
 
 ghost use Rattle.std.specs.Prelude.{◌≡◌, ◌≤◌, ◌<◌, ◌^◌, length, IfErr, IfOk, MatchOption};
-ghost use Rattle.def_layout.specs.Plans.{layout_of};
+ghost use Rattle.def_layout.specs.Layouts.{gluing_of};
 ghost use Rattle.def_remesh.specs.NewPoints.{lengths_in};
 ghost use Rattle.def_run.specs.Check.{IsCountedPair};
 ghost use Rattle.def_run.specs.CheckFails.{IsCheckFail, IsPairFail};
@@ -109,10 +109,10 @@ fn check_parts(alloc: Global, bytes: &[u8], head: HeadAt) -> Result<Accepted, Ch
 
 /// What is told of a text that is finished.
 fn told_of(finished: &Finished) -> Accepted
-    requires { length finished.now.new.plan.arcs < 2 ^ 32 }
-    ensures arcs { result.arcs ≡ length finished.now.new.plan.arcs }
+    requires { length finished.now.new.layout.arcs < 2 ^ 32 }
+    ensures arcs { result.arcs ≡ length finished.now.new.layout.arcs }
     ensures faces { result.faces
-        ≡ face_count (layout_of finished.now.new.plan) (lengths_in finished.now.new.lengths) }
+        ≡ face_count (gluing_of finished.now.new.layout) (lengths_in finished.now.new.lengths) }
     ensures deviation { result.deviation ≡ finished.now.deviation }
 {
     let layout = finished.new.cut().layout();

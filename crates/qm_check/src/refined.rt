@@ -47,7 +47,7 @@ fn points_by(alloc: Global, by: u32, cut: CutMesh) -> Result<Regridded, CheckFai
     requires some { 1 ≤ by }
     requires few { by ≤ MAX_MULTIPLE }
     ensures refined { IfOk result (IsRefinedBy by cut) }
-    ensures refused { IfErr result (HasNoPoints by cut.plan) }
+    ensures refused { IfErr result (HasNoPoints by cut.layout) }
 {
     match refined_points(alloc, cut, by) {
         Ok(new) => Ok(new),
@@ -62,10 +62,10 @@ fn points_by(alloc: Global, by: u32, cut: CutMesh) -> Result<Regridded, CheckFai
 /// Compares the bytes with the text of the refined mesh, which is made piece by piece and not kept.
 fn compare_refined(given: &[u8], by: u32, new: &Regridded) -> Result<(), CheckFail>
     requires few { length given.now ≤ MAX_BYTES }
-    requires lengths { lengths_in new.now.lengths ≡ multiple_of by (long_at new.now.plan.arcs) }
+    requires lengths { lengths_in new.now.lengths ≡ multiple_of by (long_at new.now.layout.arcs) }
     requires even { new.now.shares ≡ None }
-    ensures same { OnOk result (given.now ≡ refined_text by new.now.soup new.now.plan) }
-    ensures other { IfErr result (IsDifference given.now (refined_text by new.now.soup new.now.plan)) }
+    ensures same { OnOk result (given.now ≡ refined_text by new.now.soup new.now.layout) }
+    ensures other { IfErr result (IsDifference given.now (refined_text by new.now.soup new.now.layout)) }
 {
     let mut comparison = Comparison::new(given);
     match put_refined(&mut comparison, by, new) {

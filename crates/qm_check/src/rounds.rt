@@ -4,7 +4,7 @@ ghost use Rattle.std.specs.Prelude.{◌≡◌, ◌∷◌, ◌++◌, [], length, 
 ghost use Rattle.def_certtext.specs.CertLines.{alone, lists_of, risen_by};
 ghost use Rattle.def_flow.specs.Network.{network};
 ghost use Rattle.def_layout.specs.Lengths.{AreLengths};
-ghost use Rattle.def_layout.specs.Plans.{layout_of};
+ghost use Rattle.def_layout.specs.Layouts.{gluing_of};
 ghost use Rattle.def_remesh.specs.Keeping.{IsNetFor};
 ghost use Rattle.def_remesh.specs.NewPoints.{lengths_in};
 ghost use Rattle.def_remesh.specs.Remeshed.{AreCoarse};
@@ -39,13 +39,13 @@ pub(crate) fn check_rounds(
     terms: Terms,
     run: Run,
 ) -> Result<Checked, CheckFail>
-    requires net { (wish : Wish) × IsNetFor wish cut.now.plan terms.settings (network net) }
+    requires net { (wish : Wish) × IsNetFor wish cut.now.layout terms.settings (network net) }
     requires reach { AreInReach terms.rising (risen_by run.rounds.items (alone (lists_of run.cert))) }
-    ensures checked { (wish : Wish) → IsNetFor wish cut.now.plan terms.settings (network net)
-        → IfOk result (IsChecked wish cut.now.plan (network net) terms
+    ensures checked { (wish : Wish) → IsNetFor wish cut.now.layout terms.settings (network net)
+        → IfOk result (IsChecked wish cut.now.layout (network net) terms
         (risen_by run.rounds.items (alone (lists_of run.cert)))) }
-    ensures unused { (wish : Wish) → IsNetFor wish cut.now.plan terms.settings (network net)
-        → IfErr result (IsUnused wish cut.now.plan terms.settings
+    ensures unused { (wish : Wish) → IsNetFor wish cut.now.layout terms.settings (network net)
+        → IfErr result (IsUnused wish cut.now.layout terms.settings
         (risen_by run.rounds.items (alone (lists_of run.cert)))) }
 {
     let Run { rounds, cert } = run;
@@ -90,12 +90,12 @@ pub(crate) fn check_rounds(
 
 /// Checks that the floors which rise behind a certificate have to. It names the round that they begin.
 fn check_rises(alloc: Global, cut: &CutMesh, round: &Round, number: u64) -> Result<(), CheckFail>
-    requires long { length round.now.cert.x.items ≡ length cut.now.plan.arcs }
-    requires lengths { AreLengths (layout_of cut.now.plan) (lengths_in round.now.cert.x.items) }
-    requires coarse { AreCoarse cut.now.plan round.now.cert.x.items }
+    requires long { length round.now.cert.x.items ≡ length cut.now.layout.arcs }
+    requires lengths { AreLengths (gluing_of cut.now.layout) (lengths_in round.now.cert.x.items) }
+    requires coarse { AreCoarse cut.now.layout round.now.cert.x.items }
     ensures needed { OnOk result
-        (AreNeeded (layout_of cut.now.plan) (lengths_in round.now.cert.x.items) round.now.rises.items) }
-    ensures refused { IfErr result (IsNoRise cut.now.plan round.now number) }
+        (AreNeeded (gluing_of cut.now.layout) (lengths_in round.now.cert.x.items) round.now.rises.items) }
+    ensures refused { IfErr result (IsNoRise cut.now.layout round.now number) }
 {
     if are_needed_over(alloc, cut, &round.cert.x, &round.rises)? {
         return Ok(());

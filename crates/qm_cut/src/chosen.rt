@@ -3,7 +3,7 @@
 ghost use Rattle.std.specs.Prelude.{◌≡◌, option_copied, IfOk};
 ghost use Rattle.def_feature.specs.Conforming.{IsConforming};
 ghost use Rattle.def_feature.specs.Marks.{AreMarks};
-ghost use Rattle.def_layout.specs.Plans.{plan};
+ghost use Rattle.def_layout.specs.Layouts.{layout_of};
 ghost use Rattle.def_layoutnet.specs.MeshLayouts.{IsSomeLayout};
 ghost use Rattle.def_mesh.specs.Sources.{AreSources};
 ghost use Rattle.def_patches.specs.Chosen.{AreKeptMarks, IsChosenCut, IsChosenLayout, IsKeepingCut, IsPlainCut};
@@ -30,8 +30,8 @@ pub fn chosen_layout(
     patches: Patches,
 ) -> Result<TMesh, AllocError>
     requires { AreKeptMarks mesh.now (option_copied kept) }
-    ensures chosen { IfOk result (λ t. IsChosenLayout mesh.now (option_copied kept.entry) patches (plan t)) }
-    ensures mesh { IfOk result (λ t. (is : IsSomeLayout (plan t)) × (is.faces ≡ mesh.now)) }
+    ensures chosen { IfOk result (λ t. IsChosenLayout mesh.now (option_copied kept.entry) patches (layout_of t)) }
+    ensures mesh { IfOk result (λ t. (is : IsSomeLayout (layout_of t)) × (is.faces ≡ mesh.now)) }
 {
     let _known = mesh.faces();
     let sources = sources(alloc, mesh)?;

@@ -9,9 +9,9 @@ use Rattle.def_math.specs.Sums.{total, total_below}
 use Rattle.sum_laws.proofs.Sums.{total_below_none, total_below_one, total_below_same}
 use Rattle.def_flow.specs.{Admissible.is_on_side, Admissible.side_sum, Admissible.IsBalanced, Network.Network}
 use Rattle.def_flow.specs.{Network.arc_at, Network.ends, declared.net.End.End, declared.net.Settings.Settings}
-use Rattle.def_layout.specs.{declared.tmesh.SideArc.SideArc, Layouts.Way, Layouts.south, Layouts.east, Layouts.north}
-use Rattle.def_layout.specs.Layouts.{west, Layout, Slot, IsSlot, AreReverse}
-use Rattle.def_layout.specs.{Layouts.use_of, Surfaces.IsSurface, Surfaces.IsOtherSlot, Lengths.Lengths}
+use Rattle.def_layout.specs.{declared.tmesh.SideArc.SideArc, Gluings.Way, Gluings.south, Gluings.east, Gluings.north}
+use Rattle.def_layout.specs.Gluings.{west, Gluing, Slot, IsSlot, AreReverse}
+use Rattle.def_layout.specs.{Gluings.use_of, Surfaces.IsSurface, Surfaces.IsOtherSlot, Lengths.Lengths}
 use Rattle.def_layoutnet.specs.LayoutNet.{node_of, is_plus, end_at, IsNetOf}
 use Rattle.def_layoutnet.specs.LayoutNetLaws.{sum_along, AreOpposite, BalanceLaw}
 use Rattle.qm_layoutnet.proofs.Hits.{is_hit, use_of_arc, hit_of, no_hit, along_is}
@@ -86,7 +86,7 @@ node_low q east n h = omega arith
 node_low q north n h = omega arith
 node_low q west n h = omega arith
 
-module _ (l : Layout) (old wish : Lengths) (set : Settings) (floor : Lengths) (net : Network) (laid : IsSurface l)
+module _ (l : Gluing) (old wish : Lengths) (set : Settings) (floor : Lengths) (net : Network) (laid : IsSurface l)
     (is : IsNetOf l old wish set floor net)
     (x : ℕ → ℤ) where
   -- The slot with number j on a side of a patch.

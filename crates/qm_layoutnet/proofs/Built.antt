@@ -14,8 +14,8 @@ use Rattle.def_flow.specs.{declared.net.Arc.Arc, declared.net.End.End, declared.
 use Rattle.def_flow.specs.{declared.net.Weight.Weight, declared.net.Weight.TheVariants.Plain}
 use Rattle.def_flow.specs.declared.net.Weight.TheVariants.{Length}
 use Rattle.def_layout.specs.{declared.tmesh.SideArc.SideArc, declared.tmesh.TArc.TArc, Arcs.path, Arcs.long_at}
-use Rattle.def_layout.specs.Layouts.{Way, south, east, north, west, Layout}
-use Rattle.def_layout.specs.{Layouts.Slot, Layouts.IsSlot, Layouts.use_of, Surfaces.IsSurface, Lengths.Lengths}
+use Rattle.def_layout.specs.Gluings.{Way, south, east, north, west, Gluing}
+use Rattle.def_layout.specs.{Gluings.Slot, Gluings.IsSlot, Gluings.use_of, Surfaces.IsSurface, Lengths.Lengths}
 use Rattle.def_layout.specs.Lengths.{size, AreLengths}
 use Rattle.def_layoutnet.specs.LayoutNet.{end_at, weight_of, AreSettings, IsNetOf}
 use Rattle.def_layoutnet.specs.LayoutNetLaws.{sum_along}
@@ -50,7 +50,7 @@ path_long : (runs : List TArc) → length (map path runs) ≡ length runs
 path_long [] = refl
 path_long (r ∷ rs) = omega (arith, path_long rs)
 
-pub ends_begin : (l : Layout) (set : Settings) (runs : List TArc) → length (map path runs) ≡ l.arcs
+pub ends_begin : (l : Gluing) (set : Settings) (runs : List TArc) → length (map path runs) ≡ l.arcs
     → AreEnds l (long_at (map path runs)) set (PatchesBelow 0) (map (open_arc set) runs)
 ends_begin l set runs long = record {
   long = open_long set runs ∙ long;
@@ -66,7 +66,7 @@ ends_begin l set runs long = record {
     at a low = open_at set runs a (omega (arith, low, long, path_long runs))
 
 -- When all slots are done, these are the arcs of the network.
-pub net_is : (l : Layout) (old : Lengths) (set : Settings) (net : Network) → net.nodes ≡ 2 * l.patches → net.p ≡ set.p
+pub net_is : (l : Gluing) (old : Lengths) (set : Settings) (net : Network) → net.nodes ≡ 2 * l.patches → net.p ≡ set.p
     → net.q ≡ set.q → AreEnds l old set (PatchesBelow l.patches) net.arcs → IsNetOf l old old set (λ a. set.floor) net
 net_is l old set net nodes p q are = record {
   nodes = nodes;
@@ -81,7 +81,7 @@ net_is l old set net nodes p q are = record {
   alone = λ a low only. are.alone a low (λ w slot d e. only w slot e);
 }
 
-module _ (l : Layout) (x : Lengths) (set : Settings) (net : Network) (laid : IsSurface l) (len : AreLengths l x)
+module _ (l : Gluing) (x : Lengths) (set : Settings) (net : Network) (laid : IsSurface l) (len : AreLengths l x)
     (few : count_below x l.arcs ≤ 2 ^ 23)
     (in_range : AreSettings set) (floor : Lengths) (floors : (a : ℕ) → a < l.arcs → (1 ≤ floor a)
     × (floor a ≤ MAX_FLOOR)) (is : IsNetOf l x x set floor net) where

@@ -6,9 +6,9 @@ use Rattle.std.proofs.lemmas.Bool.{cases_eq, false≢true, cases_Bool}
 use Rattle.std.proofs.lemmas.List.{get_or-set_same, get_or-set_other, length-set}
 use Rattle.std.specs.List.{All}
 use Rattle.def_flow.specs.{Network.arc_at, declared.net.Arc.Arc, declared.net.End.End, declared.net.Settings.Settings}
-use Rattle.def_layout.specs.{declared.tmesh.SideArc.SideArc, Layouts.Way, Layouts.south, Layouts.east, Layouts.north}
-use Rattle.def_layout.specs.Layouts.{west, Layout, Slot, IsSlot, use_of}
-use Rattle.def_layout.specs.{Surfaces.IsSurface, Lengths.Lengths, Plans.way_number}
+use Rattle.def_layout.specs.{declared.tmesh.SideArc.SideArc, Gluings.Way, Gluings.south, Gluings.east, Gluings.north}
+use Rattle.def_layout.specs.Gluings.{west, Gluing, Slot, IsSlot, use_of}
+use Rattle.def_layout.specs.{Surfaces.IsSurface, Lengths.Lengths, Layouts.way_number}
 use Rattle.def_layoutnet.specs.LayoutNet.{end_at, weight_of}
 use Rattle.qm_layoutnet.specs.Ends.{with_side, with_end, with_ends, with_four, AreEnds, PatchesBelow, SlotsBelow}
 use Rattle.qm_layoutnet.proofs.Hits.{use_of_arc}
@@ -64,7 +64,7 @@ same_number north north e = refl
 same_number west west e = refl
 same_number _ _ e = absurd (omega arith)
 
-module _ (l : Layout) (old : Lengths) (set : Settings) (laid : IsSurface l) where
+module _ (l : Gluing) (old : Lengths) (set : Settings) (laid : IsSurface l) where
   -- The ends are those of the slots that are done, however that is said.
   pub same_ends : (done now : Slot → Type 0) (arcs : List Arc) → ((w : Slot) → IsSlot l w → now w → done w)
       → ((w : Slot) → IsSlot l w → done w → now w) → AreEnds l old set done arcs → AreEnds l old set now arcs

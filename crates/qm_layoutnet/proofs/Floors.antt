@@ -11,7 +11,7 @@ use Rattle.def_flow.specs.Network.{Network, arc_at, ends, is_bounded, tangle_num
 use Rattle.def_flow.specs.{Network.IsWithinBounds, declared.limits.TheConstants.MAX_FLOOR}
 use Rattle.def_flow.specs.declared.limits.TheConstants.{MAX_OLD, MAX_WEIGHT}
 use Rattle.def_flow.specs.{declared.net.Arc.Arc, declared.net.End.End, declared.net.Settings.Settings}
-use Rattle.def_layout.specs.{Layouts.Layout, Layouts.use_of, Lengths.Lengths, Surfaces.IsSurface}
+use Rattle.def_layout.specs.{Gluings.Gluing, Gluings.use_of, Lengths.Lengths, Surfaces.IsSurface}
 use Rattle.def_layoutnet.specs.{LayoutNet.IsNetOf, Floors.at_floor, Floors.HasFloors}
 use Rattle.qm_net.proofs.Within.{arc_bounded}
 use Rattle.qm_layoutnet.specs.Floors.{AreFloored}
@@ -123,7 +123,7 @@ module _ (net : Network) (floor : Lengths) (new : Network) (has : HasFloors net 
               ∙ (ap (λ (t : Bool). t && all) (le-leb (floor k) MAX_FLOOR (within k l).1) ∙ parts.1))
 
 -- It is the network of the layout for these floors.
-pub floored : (l : Layout) (old wish : Lengths) (settings : Settings) (before floor : Lengths) (net new : Network)
+pub floored : (l : Gluing) (old wish : Lengths) (settings : Settings) (before floor : Lengths) (net new : Network)
     → IsSurface l → IsNetOf l old wish settings before net → HasFloors net floor new
     → IsNetOf l old wish settings floor new
 floored l old wish settings before floor net new laid is has = record {

@@ -3,12 +3,12 @@ use Rattle.std.proofs.Common.{◌≡◌, ◌⊎◌, ℕ, ◌<◌, Bool, true, fa
 use Rattle.std.proofs.Common.{inl, inr, arith}
 use Rattle.std.proofs.lemmas.List.{ext_get_or}
 use Rattle.def_flow.specs.{Network.Network, Network.arc_at, declared.net.Settings.Settings}
-use Rattle.def_layout.specs.{declared.tmesh.SideArc.SideArc, Layouts.Layout, Layouts.Slot, Layouts.IsSlot}
-use Rattle.def_layout.specs.{Layouts.use_of, Lengths.Lengths}
+use Rattle.def_layout.specs.{declared.tmesh.SideArc.SideArc, Gluings.Gluing, Gluings.Slot, Gluings.IsSlot}
+use Rattle.def_layout.specs.{Gluings.use_of, Lengths.Lengths}
 use Rattle.def_layoutnet.specs.{LayoutNet.end_at, LayoutNet.IsNetOf, LayoutNetLaws.OneNetLaw}
 use Rattle.qm_layoutnet.proofs.{Hits.use_of_arc, Balance.has_ends, Balance.HasEnds}
 
-module _ (l : Layout) (old wish : Lengths) (set : Settings) (floor : Lengths) (net : Network)
+module _ (l : Gluing) (old wish : Lengths) (set : Settings) (floor : Lengths) (net : Network)
     (is : IsNetOf l old wish set floor net) where
   -- The end of a slot that uses arc a in its own direction, and of one that uses it in the other.
   left_at : (a : ℕ) (w : Slot) → IsSlot l w → use_of l w ≡ use_of_arc a true → (arc_at net.arcs a).left

@@ -2,11 +2,11 @@
 use Rattle.std.proofs.Common.{◌≡◌, ℕ, pos, sym, ap, ◌∙◌, arith}
 use Rattle.std.proofs.lemmas.Int.{ints}
 use Rattle.sum_laws.proofs.Counts.{count_below_total}
-use Rattle.def_layout.specs.Layouts.{Way, south, east, north, west, Layout}
+use Rattle.def_layout.specs.Gluings.{Way, south, east, north, west, Gluing}
 use Rattle.def_layout.specs.Lengths.{size, Lengths}
 use Rattle.def_layoutnet.specs.LayoutNetLaws.{sum_along, OppositeLaw}
 
-module _ (l : Layout) (x : Lengths) (p : ℕ) where
+module _ (l : Gluing) (x : Lengths) (p : ℕ) where
   -- The size of a side is the sum of its whole numbers.
   pub size_is : (s : Way) → pos (size l x p s) ≡ sum_along l (λ arc. pos (x arc)) p s
   size_is s = count_below_total (λ k. x (l.use_at p s k).arc) (l.many p s)

@@ -7,7 +7,7 @@ use Rattle.std.proofs.lemmas.List.{drop_all, drop_more, get_or-set_other, length
 use Rattle.std.specs.Prelude.{◌==◌, None, true}
 use Rattle.def_certtext.specs.declared.certs.Rise.{Rise}
 use Rattle.def_flow.specs.{Network.arc_at, declared.limits.TheConstants.MAX_FLOOR, declared.net.Arc.Arc}
-use Rattle.def_layout.specs.{Layouts.Layout, Lengths.Lengths}
+use Rattle.def_layout.specs.{Gluings.Gluing, Lengths.Lengths}
 use Rattle.def_math.specs.Counts.{count_below}
 use Rattle.def_remesh.specs.Rises.{rise_at, risen_floors, AreNeeded, IsNeeded}
 use Rattle.sum_laws.proofs.Counts.{count_below_lt}
@@ -72,7 +72,7 @@ risen_is P (r ∷ rs) floors a rose stayed = elim (cases_eq a r.arc) [
       (risen_is P rs floors a (λ k low. rose (suc k) (omega (arith, low))) stayed)
 ]
 
-module _ (l : Layout) (x : Lengths) (rises : List Rise) (are : AreNeeded l x rises) (floors : Lengths) where
+module _ (l : Gluing) (x : Lengths) (rises : List Rise) (are : AreNeeded l x rises) (floors : Lengths) where
   -- They are within the bounds.
   pub risen_low : (a : ℕ) → (1 ≤ floors a) × (floors a ≤ MAX_FLOOR)
       → (1 ≤ risen_floors rises floors a) × (risen_floors rises floors a ≤ MAX_FLOOR)

@@ -6,9 +6,9 @@ use Rattle.def_flow.specs.declared.net.End.{End}
 use Rattle.def_flow.specs.declared.net.Settings.{Settings}
 use Rattle.def_layout.specs.declared.tmesh.SideArc.{SideArc}
 use Rattle.def_layout.specs.declared.tmesh.TArc.{TArc}
-use Rattle.def_layout.specs.Layouts.{Way, south, east, north, west, Layout, Slot, IsSlot, use_of}
+use Rattle.def_layout.specs.Gluings.{Way, south, east, north, west, Gluing, Slot, IsSlot, use_of}
 use Rattle.def_layout.specs.Lengths.{Lengths}
-use Rattle.def_layout.specs.Plans.{way_number}
+use Rattle.def_layout.specs.Layouts.{way_number}
 use Rattle.def_layoutnet.specs.LayoutNet.{end_at, weight_of}
 
 -- An arc with one more end: on the left where it is used in its own direction, else on the right.
@@ -32,18 +32,18 @@ with_four patch side arcs = with_ends (end_at patch west) (side west)
 
 -- The arcs of a layout have the ends of the slots that are done.
 pub record AreEnds
-    (layout : Layout) (old : Lengths) (set : Settings) (done : Slot → Type 0) (arcs : List Arc)
+    (gluing : Gluing) (old : Lengths) (set : Settings) (done : Slot → Type 0) (arcs : List Arc)
     : Type 0 where
-  pub long : length arcs ≡ layout.arcs
-  pub olds : (a : ℕ) → a < layout.arcs → (arc_at arcs a).old ≡ old a
-  pub weights : (a : ℕ) → a < layout.arcs → (arc_at arcs a).weight ≡ weight_of set.weight (old a)
-  pub floors : (a : ℕ) → a < layout.arcs → (arc_at arcs a).floor ≡ set.floor
-  pub left : (w : Slot) → IsSlot layout w → done w → (use_of layout w).forward ≡ true
-      → (arc_at arcs (use_of layout w).arc).left ≡ end_at w.patch w.side
-  pub right : (w : Slot) → IsSlot layout w → done w → (use_of layout w).forward ≡ false
-      → (arc_at arcs (use_of layout w).arc).right ≡ Some (end_at w.patch w.side)
-  pub alone : (a : ℕ) → a < layout.arcs
-      → ((w : Slot) → IsSlot layout w → done w → (use_of layout w).arc ≡ a → (use_of layout w).forward ≡ true)
+  pub long : length arcs ≡ gluing.arcs
+  pub olds : (a : ℕ) → a < gluing.arcs → (arc_at arcs a).old ≡ old a
+  pub weights : (a : ℕ) → a < gluing.arcs → (arc_at arcs a).weight ≡ weight_of set.weight (old a)
+  pub floors : (a : ℕ) → a < gluing.arcs → (arc_at arcs a).floor ≡ set.floor
+  pub left : (w : Slot) → IsSlot gluing w → done w → (use_of gluing w).forward ≡ true
+      → (arc_at arcs (use_of gluing w).arc).left ≡ end_at w.patch w.side
+  pub right : (w : Slot) → IsSlot gluing w → done w → (use_of gluing w).forward ≡ false
+      → (arc_at arcs (use_of gluing w).arc).right ≡ Some (end_at w.patch w.side)
+  pub alone : (a : ℕ) → a < gluing.arcs
+      → ((w : Slot) → IsSlot gluing w → done w → (use_of gluing w).arc ≡ a → (use_of gluing w).forward ≡ true)
       → (arc_at arcs a).right ≡ None
 
 -- The slots of the patches below p are done.

@@ -5,9 +5,9 @@ ghost use Rattle.std.specs.List.{All};
 ghost use Rattle.def_flow.specs.Admissible.{IsEven};
 ghost use Rattle.def_flow.specs.Network.{network, tangle_number, IsWithinBounds};
 ghost use Rattle.def_layout.specs.Arcs.{long_at};
-ghost use Rattle.def_layout.specs.Plans.{layout_of, plan, side_at};
+ghost use Rattle.def_layout.specs.Layouts.{gluing_of, layout_of, side_at};
 ghost use Rattle.def_layout.specs.Surfaces.{IsSurface};
-ghost use Rattle.def_layout.specs.Layouts.{Way};
+ghost use Rattle.def_layout.specs.Gluings.{Way};
 ghost use Rattle.def_flow.specs.declared.net.Settings.{Settings as Asked};
 ghost use Rattle.def_layout.specs.declared.tmesh.SideArc.{SideArc};
 ghost use Rattle.def_layoutnet.specs.LayoutNet.{AreSettings, HasNoNet, IsNetOf};
@@ -24,17 +24,18 @@ use std::alloc::{AllocError, Global};
 
 /// The network of the layout of a mesh near its old lengths. Linear in the arcs and in the sides of patches.
 pub fn net_of(alloc: Global, t: &TMesh, set: &Settings) -> Result<Net, NetFail>
-    requires layout { IsSomeLayout (plan t.now) }
+    requires layout { IsSomeLayout (layout_of t.now) }
     requires settings { AreSettings set.now }
     ensures net { IfOk result (λ net.
-        IsNetOf (layout_of (plan t.now)) (long_at (plan t.now).arcs) (long_at (plan t.now).arcs) set.now
+        IsNetOf (gluing_of (layout_of t.now)) (long_at (layout_of t.now).arcs) (long_at (layout_of t.now).arcs) set.now
         (λ a. set.now.floor)
         (network net)) }
     ensures even { IfOk result (λ net. IsEven (network net)) }
     ensures bounds { IfOk result (λ net. IsWithinBounds (network net)) }
     ensures small { IfOk result (λ net. tangle_number (network net) ≤ MAX_TANGLE) }
     ensures tangled { IfErr result
-        (HasNoNet (layout_of (plan t.now)) (long_at (plan t.now).arcs) (long_at (plan t.now).arcs) set.now) }
+        (HasNoNet (gluing_of (layout_of t.now)) (long_at (layout_of t.now).arcs) (long_at (layout_of t.now).arcs)
+        set.now) }
 {
     let net = any_net_of(alloc, t, set)?;
     let tangle = tangle_of(alloc, &net)?;
@@ -48,10 +49,10 @@ pub fn net_of(alloc: Global, t: &TMesh, set: &Settings) -> Result<Net, NetFail>
 
 /// The network, whatever its tangle number is.
 fn any_net_of(alloc: Global, t: &TMesh, set: &Settings) -> Result<Net, AllocError>
-    requires layout { IsSomeLayout (plan t.now) }
+    requires layout { IsSomeLayout (layout_of t.now) }
     requires settings { AreSettings set.now }
     ensures net { IfOk result (λ net.
-        IsNetOf (layout_of (plan t.now)) (long_at (plan t.now).arcs) (long_at (plan t.now).arcs) set.now
+        IsNetOf (gluing_of (layout_of t.now)) (long_at (layout_of t.now).arcs) (long_at (layout_of t.now).arcs) set.now
         (λ a. set.now.floor) (network net)) }
     ensures even { IfOk result (λ net. IsEven (network net)) }
     ensures bounds { IfOk result (λ net. IsWithinBounds (network net)) }
@@ -69,14 +70,15 @@ fn any_net_of(alloc: Global, t: &TMesh, set: &Settings) -> Result<Net, AllocErro
 
 /// Puts in the ends of all sides.
 fn put_all_ends(arcs: &mut [Arc], t: &TMesh)
-    requires laid { IsSurface (layout_of (plan t.now)) }
+    requires laid { IsSurface (gluing_of (layout_of t.now)) }
     requires sided { length t.now.sides.items ≡ length t.now.patches.items }
     requires few { length t.now.patches.items ≤ 2 ^ 23 }
-    requires four { (p : ℕ) → p < length t.now.patches.items → length (slice_index_or (plan t.now).sides p []) ≡ 4 }
+    requires four { (p : ℕ) → p < length t.now.patches.items
+        → length (slice_index_or (layout_of t.now).sides p []) ≡ 4 }
     requires long { length arcs.old ≡ length t.now.arcs.items }
     ensures { (set : Asked)
-        → AreEnds (layout_of (plan t.now)) (long_at (plan t.now).arcs) set (PatchesBelow 0) arcs.old
-        → AreEnds (layout_of (plan t.now)) (long_at (plan t.now).arcs) set
+        → AreEnds (gluing_of (layout_of t.now)) (long_at (layout_of t.now).arcs) set (PatchesBelow 0) arcs.old
+        → AreEnds (gluing_of (layout_of t.now)) (long_at (layout_of t.now).arcs) set
         (PatchesBelow (length t.now.patches.items)) arcs.new }
 {
     for p in 0..t.sides.len() {
@@ -88,9 +90,10 @@ fn put_all_ends(arcs: &mut [Arc], t: &TMesh)
 fn put_four(arcs: &mut [Arc], t: &TMesh, p: u32)
     requires low { p < length t.now.sides.items }
     requires few { p < 2 ^ 23 }
-    requires four { length (slice_index_or (plan t.now).sides p []) ≡ 4 }
-    requires uses { (side : Way) → All (λ (used : SideArc). used.arc < length arcs.old) (side_at (plan t.now) p side) }
-    ensures { arcs.new ≡ with_four p (side_at (plan t.now) p) arcs.old }
+    requires four { length (slice_index_or (layout_of t.now).sides p []) ≡ 4 }
+    requires uses { (side : Way)
+        → All (λ (used : SideArc). used.arc < length arcs.old) (side_at (layout_of t.now) p side) }
+    ensures { arcs.new ≡ with_four p (side_at (layout_of t.now) p) arcs.old }
 {
     let four = &t.sides[p as usize];
     put_ends(arcs, &four[0].arcs, end_at(2 * p, true));

@@ -2,17 +2,18 @@
 use Rattle.std.proofs.Common.{◌≡◌, ℕ, ◌*◌, ◌/◌, ◌%◌, ◌<◌, List, Option, length, map, arith}
 use Rattle.std.proofs.Math.Nat.{mul_comm}
 use Rattle.std.specs.List.{flat_map, range_with_len}
-use Rattle.def_layout.specs.{Lengths.Lengths, Plans.Plan, Plans.layout_of}
+use Rattle.def_layout.specs.{Lengths.Lengths, Layouts.Layout, Layouts.gluing_of}
 use Rattle.def_map.specs.{Homes.dart_home, MapText.cell_line, MapText.cell_lines}
 use Rattle.map_laws.proofs.Cells.{by_patches}
 use Rattle.qm_map.specs.PatchLines.{patch_lines}
 use Rattle.written_laws.proofs.EdgeNumbers.{in_rows}
 
 -- The lines of all patches are those of all cells.
-pub all_lines : (plan : Plan) (shares : Option (List ℕ)) (new : Lengths)
-    → flat_map (patch_lines plan shares new) (map (λ p. p) (range_with_len 0 (length plan.patches)))
-    ≡ cell_lines plan shares new
-all_lines plan shares new = by_patches (layout_of plan) new (dart_home plan shares new) cell_line (length plan.patches)
+pub all_lines : (layout : Layout) (shares : Option (List ℕ)) (new : Lengths)
+    → flat_map (patch_lines layout shares new) (map (λ p. p) (range_with_len 0 (length layout.patches)))
+    ≡ cell_lines layout shares new
+all_lines layout shares new =
+    by_patches (gluing_of layout) new (dart_home layout shares new) cell_line (length layout.patches)
     (omega arith)
 
 -- Cell k lies in a column and a row.

@@ -15,9 +15,9 @@ use qm_stages::Regridded;
 /// Puts a line for each face, patch by patch.
 pub(crate) fn put_cells<T: Output>(out: &mut T, new: &Regridded) -> Result<(), Stopped>
     ensures whole { OnOk result (T.takes out.old out.new
-        (cell_lines new.now.plan new.now.shares (lengths_in new.now.lengths))) }
+        (cell_lines new.now.layout new.now.shares (lengths_in new.now.lengths))) }
     ensures part { OnErr result (T.stops out.old out.new
-        (cell_lines new.now.plan new.now.shares (lengths_in new.now.lengths))) }
+        (cell_lines new.now.layout new.now.shares (lengths_in new.now.lengths))) }
 {
     for patch in 0..new.cut().layout().patches.len() {
         put_patch(out, new, patch)?;
@@ -27,11 +27,11 @@ pub(crate) fn put_cells<T: Output>(out: &mut T, new: &Regridded) -> Result<(), S
 
 /// Puts a line for each face of a patch, row by row.
 fn put_patch<T: Output>(out: &mut T, new: &Regridded, patch: usize) -> Result<(), Stopped>
-    requires { patch < length new.now.plan.patches }
+    requires { patch < length new.now.layout.patches }
     ensures whole { OnOk result (T.takes out.old out.new
-        (patch_lines new.now.plan new.now.shares (lengths_in new.now.lengths) patch)) }
+        (patch_lines new.now.layout new.now.shares (lengths_in new.now.lengths) patch)) }
     ensures part { OnErr result (T.stops out.old out.new
-        (patch_lines new.now.plan new.now.shares (lengths_in new.now.lengths) patch)) }
+        (patch_lines new.now.layout new.now.shares (lengths_in new.now.lengths) patch)) }
 {
     let rim = new.rim(patch);
     for k in 0..rim.wide * rim.high {

@@ -15,9 +15,11 @@ use qm_stages::{CutMesh, Regridded};
 /// Puts a line for each vertex.
 pub(crate) fn put_vertices<T: Output>(out: &mut T, new: &Regridded) -> Result<(), Stopped>
     ensures whole { OnOk result (T.takes out.old out.new
-        (vertex_lines new.now.soup.faces new.now.soup.names new.now.plan new.now.shares (lengths_in new.now.lengths))) }
+        (vertex_lines new.now.soup.faces new.now.soup.names new.now.layout new.now.shares
+        (lengths_in new.now.lengths))) }
     ensures part { OnErr result (T.stops out.old out.new
-        (vertex_lines new.now.soup.faces new.now.soup.names new.now.plan new.now.shares (lengths_in new.now.lengths))) }
+        (vertex_lines new.now.soup.faces new.now.soup.names new.now.layout new.now.shares
+        (lengths_in new.now.lengths))) }
 {
     let mut near = Near::new();
     for v in 0..new.vertices() {

@@ -9,8 +9,8 @@ use Rattle.std.specs.{Prelude.decimal, Prelude.slice_index, List.flat_map, List.
 use Rattle.list_laws.proofs.Filters.{range_more}
 use Rattle.def_math.specs.Counts.{count_below}
 use Rattle.def_cut.specs.FullCut.{is_on}
-use Rattle.def_layout.specs.{Arcs.Path, Arcs.path, Arcs.path_at, Layouts.Layout, Lengths.Lengths, Plans.layout_of}
-use Rattle.def_layout.specs.{Plans.Plan, Plans.plan, declared.tmesh.TArc.TArc, declared.tmesh.TMesh.TMesh}
+use Rattle.def_layout.specs.{Arcs.Path, Arcs.path, Arcs.path_at, Gluings.Gluing, Lengths.Lengths, Layouts.gluing_of}
+use Rattle.def_layout.specs.{Layouts.Layout, Layouts.layout_of, declared.tmesh.TArc.TArc, declared.tmesh.TMesh.TMesh}
 use Rattle.def_remesh.specs.NewPoints.{lengths_in}
 use Rattle.def_io.specs.{Bytes.Bytes, declared.TheConstants.LINE_FEED}
 use Rattle.def_marks.specs.declared.fail.TheConstants.{LINE}
@@ -29,51 +29,51 @@ grows f a (suc n) =
     let e : a + suc n ≡ suc (a + n) = omega arith in
     omega (arith, grows f a n, ap (count_below f) e)
 
-module _ (layout : Layout) (new : Lengths) (few : vertices layout new < 2 ^ 32) (a : ℕ) (low : a < layout.arcs) where
+module _ (gluing : Gluing) (new : Lengths) (few : vertices gluing new < 2 ^ 32) (a : ℕ) (low : a < gluing.arcs) where
   -- The inner points of arc a and those before them are few.
-  pub arc_few : layout.nodes + before_arc new a + (new a - 1) < 2 ^ 32
+  pub arc_few : gluing.nodes + before_arc new a + (new a - 1) < 2 ^ 32
   arc_few =
-      let e : suc a + (layout.arcs - suc a) ≡ layout.arcs = omega (arith, low) in
-      omega (arith, few, grows (λ b. new b - 1) (suc a) (layout.arcs - suc a), ap (count_below (λ b. new b - 1)) e)
+      let e : suc a + (gluing.arcs - suc a) ≡ gluing.arcs = omega (arith, low) in
+      omega (arith, few, grows (λ b. new b - 1) (suc a) (gluing.arcs - suc a), ap (count_below (λ b. new b - 1)) e)
 
   module _ (some : 0 < new a) where
     abbrev f : ℕ → ℕ
-    f k = vertex_number layout new (arc_point layout new a k)
+    f k = vertex_number gluing new (arc_point gluing new a k)
 
-    first_is : f 0 ≡ layout.first a
+    first_is : f 0 ≡ gluing.first a
     first_is = refl
 
-    last_is : f (new a) ≡ layout.last a
-    last_is = ap (vertex_number layout new)
-        (cond-false (eqb (new a) 0) (node (layout.first a)) (cond (eqb (new a) (new a)) (node (layout.last a))
+    last_is : f (new a) ≡ gluing.last a
+    last_is = ap (vertex_number gluing new)
+        (cond-false (eqb (new a) 0) (node (gluing.first a)) (cond (eqb (new a) (new a)) (node (gluing.last a))
         (along a (new a))) (ne_eqb (new a) 0 (λ (z : new a ≡ 0). let h : new a ≡ 0 = z in omega (arith, some)))
-        ∙ cond-true (eqb (new a) (new a)) (node (layout.last a)) (along a (new a)) (eq-eqb (new a) (new a) refl))
+        ∙ cond-true (eqb (new a) (new a)) (node (gluing.last a)) (along a (new a)) (eq-eqb (new a) (new a) refl))
 
-    inner_is : (k : ℕ) → 0 < k → k < new a → f k ≡ layout.nodes + before_arc new a + (k - 1)
-    inner_is k positive less = ap (vertex_number layout new)
-        (cond-false (eqb k 0) (node (layout.first a)) (cond (eqb k (new a)) (node (layout.last a)) (along a k))
+    inner_is : (k : ℕ) → 0 < k → k < new a → f k ≡ gluing.nodes + before_arc new a + (k - 1)
+    inner_is k positive less = ap (vertex_number gluing new)
+        (cond-false (eqb k 0) (node (gluing.first a)) (cond (eqb k (new a)) (node (gluing.last a)) (along a k))
         (ne_eqb k 0 (λ (z : k ≡ 0). let h : k ≡ 0 = z in omega (arith, positive)))
-        ∙ cond-false (eqb k (new a)) (node (layout.last a)) (along a k)
+        ∙ cond-false (eqb k (new a)) (node (gluing.last a)) (along a k)
         (ne_eqb k (new a) (λ (z : k ≡ new a). let h : k ≡ new a = z in omega (arith, less))))
 
     -- The chain of an arc.
-    pub chain_is : arc_chain layout new a ≡ chain_from (layout.first a) (layout.nodes + before_arc new a) (new a)
-        (layout.last a)
+    pub chain_is : arc_chain gluing new a ≡ chain_from (gluing.first a) (gluing.nodes + before_arc new a) (new a)
+        (gluing.last a)
     chain_is =
         let e : new a ≡ suc (new a - 1) = omega (arith, some) in
         let split : map f (range_with_len 0 (new a + 1)) ≡ map f (range_with_len 0 (new a)) ++ f (new a) ∷ [] =
         ap (map f) (range_more (new a)) ∙ map-append f (range_with_len 0 (new a)) (new a ∷ []) in
-        let front : map f (range_with_len 0 (new a)) ≡ layout.first a ∷ map f (range_with_len 1 (new a - 1)) =
+        let front : map f (range_with_len 0 (new a)) ≡ gluing.first a ∷ map f (range_with_len 1 (new a - 1)) =
         ap (λ n. map f (range_with_len 0 n)) e in
-        split ∙ (λ i. front i ++ last_is i ∷ []) ∙ ap (λ xs. layout.first a ∷ xs ++ layout.last a ∷ []) same
+        split ∙ (λ i. front i ++ last_is i ∷ []) ∙ ap (λ xs. gluing.first a ∷ xs ++ gluing.last a ∷ []) same
       where
-        same : map f (range_with_len 1 (new a - 1)) ≡ map (λ k. layout.nodes + before_arc new a + k)
+        same : map f (range_with_len 1 (new a - 1)) ≡ map (λ k. gluing.nodes + before_arc new a + k)
             (range_with_len 0 (new a - 1))
-        same = same_lists (map f (range_with_len 1 (new a - 1))) (map (λ k. layout.nodes + before_arc new a + k)
+        same = same_lists (map f (range_with_len 1 (new a - 1))) (map (λ k. gluing.nodes + before_arc new a + k)
             (range_with_len 0 (new a - 1)))
             (length-map (range_with_len 1 (new a - 1)) f
             ∙ (length-range_with_len 1 (new a - 1)
-            ∙ sym (length-map (range_with_len 0 (new a - 1)) (λ k. layout.nodes + before_arc new a + k)
+            ∙ sym (length-map (range_with_len 0 (new a - 1)) (λ k. gluing.nodes + before_arc new a + k)
             ∙ length-range_with_len 0 (new a - 1))))
             (λ k d l.
             let m : k < new a - 1 = omega (
@@ -84,44 +84,45 @@ module _ (layout : Layout) (new : Lengths) (few : vertices layout new < 2 ^ 32) 
             ) in
             get_or-map-range_with_len f 1 (new a - 1) k (1 + k) d m refl
             ∙ (inner_is (1 + k) (omega arith) (omega (arith, m)) ∙ (omega arith
-            ∙ sym (get_or-map-range_with_len (λ k. layout.nodes + before_arc new a + k) 0 (new a - 1) k k d m
+            ∙ sym (get_or-map-range_with_len (λ k. gluing.nodes + before_arc new a + k) 0 (new a - 1) k k d m
             (omega arith)))))
 
 -- One arc more.
-pub text_more : (marks : List Bool) (plan : Plan) (new : Lengths) (n : ℕ)
-    → flat_map (arc_text marks plan new) (range_with_len 0 (n + 1))
-    ≡ flat_map (arc_text marks plan new) (range_with_len 0 n) ++ arc_text marks plan new n
-text_more marks plan new n =
-    ap (flat_map (arc_text marks plan new)) (range_more n)
-    ∙ (flat_map-append (arc_text marks plan new) (range_with_len 0 n) (n ∷ [])
-    ∙ ap (λ xs. flat_map (arc_text marks plan new) (range_with_len 0 n) ++ xs)
-    (append-nil (arc_text marks plan new n)))
+pub text_more : (marks : List Bool) (layout : Layout) (new : Lengths) (n : ℕ)
+    → flat_map (arc_text marks layout new) (range_with_len 0 (n + 1))
+    ≡ flat_map (arc_text marks layout new) (range_with_len 0 n) ++ arc_text marks layout new n
+text_more marks layout new n =
+    ap (flat_map (arc_text marks layout new)) (range_more n)
+    ∙ (flat_map-append (arc_text marks layout new) (range_with_len 0 n) (n ∷ [])
+    ∙ ap (λ xs. flat_map (arc_text marks layout new) (range_with_len 0 n) ++ xs)
+    (append-nil (arc_text marks layout new n)))
 
--- The arc of a plan.
+-- The arc of a layout.
 pub arc_is : (t : TMesh) (a : ℕ) (arc : TArc) → a < length t.arcs.items → arc ≡ get_or t.arcs.items a arc
-    → path_at (plan t).arcs a ≡ path arc
+    → path_at (layout_of t).arcs a ≡ path arc
 arc_is t a arc low is = get_or-map path t.arcs.items a arc (record { first = 0; last = 0; darts = [] }) low
     ∙ ap path (sym is)
 
 module _ (marks : List Bool) (t : TMesh) (x : List ℕ) (a : ℕ) (arc : TArc) (low : a < length t.arcs.items) (is : arc
     ≡ get_or t.arcs.items a arc) where
   -- A marked arc has its line,
-  pub text_on : vertices (layout_of (plan t)) (lengths_in x) < 2 ^ 32 → 0 < lengths_in x a
+  pub text_on : vertices (gluing_of (layout_of t)) (lengths_in x) < 2 ^ 32 → 0 < lengths_in x a
       → is_on marks (slice_index arc.darts.items 0) ≡ true
-      → arc_text marks (plan t) (lengths_in x) a
+      → arc_text marks (layout_of t) (lengths_in x) a
       ≡ chain_text (chain_from arc.first (length t.nodes.items + before_arc (lengths_in x) a) (lengths_in x a)
       arc.last)
   text_on few some on =
-      ap (λ (b : Bool). cond b (chain_text (arc_chain (layout_of (plan t)) (lengths_in x) a)) [])
+      ap (λ (b : Bool). cond b (chain_text (arc_chain (gluing_of (layout_of t)) (lengths_in x) a)) [])
       (ap (λ (p : Path). is_on marks (slice_index p.darts 0)) (arc_is t a arc low is) ∙ on)
-      ∙ ap chain_text (chain_is (layout_of (plan t)) (lengths_in x) few a
+      ∙ ap chain_text (chain_is (gluing_of (layout_of t)) (lengths_in x) few a
       (omega (arith, low, length-map t.arcs.items path)) some
       ∙ ap (λ (p : Path). chain_from p.first (length t.nodes.items + before_arc (lengths_in x) a) (lengths_in x a)
       p.last) (arc_is t a arc low is))
 
   -- and any other none.
-  pub text_off : is_on marks (slice_index arc.darts.items 0) ≡ false → arc_text marks (plan t) (lengths_in x) a ≡ []
-  text_off off = ap (λ (b : Bool). cond b (chain_text (arc_chain (layout_of (plan t)) (lengths_in x) a)) [])
+  pub text_off : is_on marks (slice_index arc.darts.items 0) ≡ false
+      → arc_text marks (layout_of t) (lengths_in x) a ≡ []
+  text_off off = ap (λ (b : Bool). cond b (chain_text (arc_chain (gluing_of (layout_of t)) (lengths_in x) a)) [])
       (ap (λ (p : Path). is_on marks (slice_index p.darts 0)) (arc_is t a arc low is) ∙ off)
 
 -- What is written of a vertex.

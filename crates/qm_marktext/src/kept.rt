@@ -21,9 +21,9 @@ pub fn kept_lines(
     cut: &CutMesh,
     remesh: &Remesh,
 ) -> Result<Vec<u8>, Memory>
-    requires { (wish : Wish) × IsKept wish cut.now.plan remesh.now.terms.settings remesh.now.terms.rising
+    requires { (wish : Wish) × IsKept wish cut.now.layout remesh.now.terms.settings remesh.now.terms.rising
         (certificates_of remesh.now.certs) remesh.now.numbering }
-    ensures { IfOk result (λ text. text.items ≡ marked_text marks.now cut.now.plan
+    ensures { IfOk result (λ text. text.items ≡ marked_text marks.now cut.now.layout
         (lengths_in (used (certificates_of remesh.now.certs)).x)) }
 {
     let _count = remesh.numbering.vertices();
@@ -37,9 +37,9 @@ pub fn lines_between(
     cut: &CutMesh,
     remesh: &Remesh,
 ) -> Result<Vec<u8>, Memory>
-    requires { (wish : Wish) × IsKept wish cut.now.plan remesh.now.terms.settings remesh.now.terms.rising
+    requires { (wish : Wish) × IsKept wish cut.now.layout remesh.now.terms.settings remesh.now.terms.rising
         (certificates_of remesh.now.certs) remesh.now.numbering }
-    ensures { IfOk result (λ text. text.items ≡ kept_text (option_copied kept.entry) cut.now.plan
+    ensures { IfOk result (λ text. text.items ≡ kept_text (option_copied kept.entry) cut.now.layout
         (lengths_in (used (certificates_of remesh.now.certs)).x)) }
 {
     match kept {

@@ -2,7 +2,7 @@
 
 ghost use Rattle.std.specs.Prelude.{◌≡◌, ◌<◌, ◌≤◌, ◌+◌, ◌-◌, ◌^◌, ◌++◌, ℕ, IfOk, OnOk, length, slice_index};
 ghost use Rattle.def_cut.specs.FullCut.{is_on};
-ghost use Rattle.def_layout.specs.Plans.{layout_of, plan};
+ghost use Rattle.def_layout.specs.Layouts.{gluing_of, layout_of};
 ghost use Rattle.def_marks.specs.MarkedText.{chain_text, is_marked_arc, marked_text};
 ghost use Rattle.def_remesh.specs.NewPoints.{lengths_in};
 ghost use Rattle.def_written.specs.Numbers.{vertices};
@@ -20,8 +20,8 @@ use std::alloc::Global;
 pub fn marked_lines(alloc: Global, marks: &[bool], t: &TMesh, x: &[u64]) -> Result<Vec<u8>, Memory>
     requires long { length x.now ≡ length t.now.arcs.items }
     requires some { (a : ℕ) → a < length x.now → 0 < lengths_in x.now a }
-    requires few { vertices (layout_of (plan t.now)) (lengths_in x.now) < 2 ^ 32 }
-    ensures { IfOk result (λ text. text.items ≡ marked_text marks.now (plan t.now) (lengths_in x.now)) }
+    requires few { vertices (gluing_of (layout_of t.now)) (lengths_in x.now) < 2 ^ 32 }
+    ensures { IfOk result (λ text. text.items ≡ marked_text marks.now (layout_of t.now) (lengths_in x.now)) }
 {
     let mut text = Vec::new(alloc);
     let mut before = t.nodes.len() as u64;

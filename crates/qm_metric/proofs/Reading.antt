@@ -5,7 +5,7 @@ use Rattle.std.proofs.lemmas.List.{get_or_default, get_or-map, length-map, map-a
 use Rattle.std.specs.{Prelude.min, Prelude.slice_index, List.All}
 use Rattle.def_math.specs.Counts.{count, count_below}
 use Rattle.def_mesh.specs.Darts.{darts}
-use Rattle.def_layout.specs.{Arcs.Path, Arcs.dart_at, Arcs.long_at, Arcs.path, Arcs.path_at, Plans.plan}
+use Rattle.def_layout.specs.{Arcs.Path, Arcs.dart_at, Arcs.long_at, Arcs.path, Arcs.path_at, Layouts.layout_of}
 use Rattle.def_layout.specs.{declared.tmesh.TArc.TArc, declared.tmesh.TMesh.TMesh}
 use Rattle.def_layoutnet.specs.MeshLayouts.{IsSomeLayout}
 use Rattle.sum_laws.proofs.Counts.{count_below_prefix}
@@ -13,18 +13,18 @@ use Rattle.table_laws.proofs.Ranges.{part_low}
 use Rattle.qm_layoutnet.proofs.Whole.{arc_inside}
 
 -- The darts of all arcs are darts of the mesh.
-pub runs_inside : (t : TMesh) (is : IsSomeLayout (plan t))
+pub runs_inside : (t : TMesh) (is : IsSomeLayout (layout_of t))
     → All (λ (run : TArc). All (λ (d : ℕ). d < darts is.faces) run.darts.items) t.arcs.items
 runs_inside t is k run low j d less =
     let none : Path = record { first = 0; last = 0; darts = [] } in
-    let same : path_at (plan t).arcs k ≡ path (get_or t.arcs.items k run) =
+    let same : path_at (layout_of t).arcs k ≡ path (get_or t.arcs.items k run) =
     get_or-map path t.arcs.items k run none low in
-    let here : dart_at (plan t).arcs k j ≡ get_or (get_or t.arcs.items k run).darts.items j 0 =
+    let here : dart_at (layout_of t).arcs k j ≡ get_or (get_or t.arcs.items k run).darts.items j 0 =
     ap (λ (p : Path). slice_index p.darts j) same in
-    let long : long_at (plan t).arcs k ≡ length (get_or t.arcs.items k run).darts.items =
+    let long : long_at (layout_of t).arcs k ≡ length (get_or t.arcs.items k run).darts.items =
     ap (λ (p : Path). length p.darts) same in
     subst (λ (e : ℕ). e < darts is.faces) (here ∙ get_or_default (get_or t.arcs.items k run).darts.items j 0 d less)
-    (arc_inside (plan t) is k j (omega (arith, low, length-map t.arcs.items path)) (omega (arith, less, long)))
+    (arc_inside (layout_of t) is k j (omega (arith, low, length-map t.arcs.items path)) (omega (arith, less, long)))
 
 -- A sum along the arcs is one over their numbers.
 pub sum_is : (f : List ℕ → ℕ) (runs : List TArc) → count (λ (run : TArc). f run.darts.items) runs

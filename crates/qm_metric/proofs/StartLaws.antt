@@ -8,9 +8,9 @@ use Rattle.def_flow.specs.Admissible.{arc_deviation, deviation, entries, IsBalan
 use Rattle.def_flow.specs.{Descent.IsStartOf, Network.Network, Network.arc_at, declared.limits.TheConstants.MAX_FLOOR}
 use Rattle.def_flow.specs.{declared.net.Settings.Settings, declared.net.Weight.Weight}
 use Rattle.def_flow.specs.declared.net.Weight.TheVariants.{Plain, Length}
-use Rattle.def_layout.specs.{Arcs.Path, Arcs.long_at, Surfaces.IsSurface, Layouts.Way, Layouts.south, Layouts.east}
-use Rattle.def_layout.specs.{Layouts.north, Layouts.west, Layouts.Layout, Lengths.Lengths, Lengths.size}
-use Rattle.def_layout.specs.{Lengths.AreLengths, Plans.Plan, Plans.layout_of}
+use Rattle.def_layout.specs.{Arcs.Path, Arcs.long_at, Surfaces.IsSurface, Gluings.Way, Gluings.south, Gluings.east}
+use Rattle.def_layout.specs.{Gluings.north, Gluings.west, Gluings.Gluing, Lengths.Lengths, Lengths.size}
+use Rattle.def_layout.specs.{Lengths.AreLengths, Layouts.Layout, Layouts.gluing_of}
 use Rattle.def_layoutnet.specs.{LayoutNet.weight_of, LayoutNetLaws.sum_along}
 use Rattle.def_remesh.specs.{Keeping.IsNetWith, Tasks.given_floors, Tasks.Wish}
 use Rattle.def_metric.specs.{Fails.AreNear, Starts.times_long, Starts.StartLaw, Targets.wish_sum}
@@ -18,7 +18,7 @@ use Rattle.def_metric.specs.declared.limits.TheConstants.{MAX_TARGETS}
 use Rattle.sum_laws.proofs.Counts.{count_below_le, count_below_sum, count_below_times, count_below_total}
 use Rattle.sum_laws.proofs.Sums.{total_below_same}
 use Rattle.table_laws.proofs.Ranges.{part_low}
-use Rattle.plan_laws.proofs.MeshLayouts.{laid_of, lengths_of}
+use Rattle.embedding_laws.proofs.MeshLayouts.{laid_of, lengths_of}
 use Rattle.qm_layoutnet.proofs.{Balance.balance_law, Floors.floor_high, Whole.lengths_few}
 
 -- No weight is above 1000.
@@ -27,27 +27,27 @@ weight_low Plain old = omega arith
 weight_low Length old = omega arith
 
 module _
-    (wish : Wish) (plan : Plan) (settings : Settings) (floors : Lengths) (net : Network)
-    (is : IsNetWith wish plan settings floors net) (times : ℕ)
+    (wish : Wish) (layout : Layout) (settings : Settings) (floors : Lengths) (net : Network)
+    (is : IsNetWith wish layout settings floors net) (times : ℕ)
     (above : (k : ℕ) → k < length net.arcs → ((arc_at net.arcs k).floor ≤ times) × (times ≤ MAX_FLOOR))
-    (unit : settings.p ≡ 1) (parts : settings.q ≡ 1000) (near : AreNear wish plan) where
-  abbrev l : Layout
-  l = layout_of plan
+    (unit : settings.p ≡ 1) (parts : settings.q ≡ 1000) (near : AreNear wish layout) where
+  abbrev l : Gluing
+  l = gluing_of layout
 
   abbrev x : Lengths
-  x = long_at plan.arcs
+  x = long_at layout.arcs
 
   abbrev xs : List ℕ
-  xs = times_long times plan
+  xs = times_long times layout
 
-  laid : IsSurface (layout_of plan)
-  laid = laid_of plan is.mesh
+  laid : IsSurface (gluing_of layout)
+  laid = laid_of layout is.mesh
 
-  len : AreLengths (layout_of plan) (long_at plan.arcs)
-  len = lengths_of plan is.mesh
+  len : AreLengths (gluing_of layout) (long_at layout.arcs)
+  len = lengths_of layout is.mesh
 
-  entry : (a : ℕ) → a < length plan.arcs → entries xs a ≡ pos (times * x a)
-  entry a low = ap pos (get_or-map (λ (run : Path). times * length run.darts) plan.arcs a
+  entry : (a : ℕ) → a < length layout.arcs → entries xs a ≡ pos (times * x a)
+  entry a low = ap pos (get_or-map (λ (run : Path). times * length run.darts) layout.arcs a
       (record { first = 0; last = 0; darts = [] }) 0 low)
 
   -- Opposite sides are equal.
@@ -61,14 +61,14 @@ module _
       ∙ ap pos (count_below_times times (λ k. x (l.use_at p s k).arc) (l.many p s))
 
   balanced : IsBalanced net.arcs (entries xs)
-  balanced = (balance_law l (long_at plan.arcs) (wish plan) settings floors net laid is.is
+  balanced = (balance_law l (long_at layout.arcs) (wish layout) settings floors net laid is.is
       (entries xs)).1 (record {
         across = λ p low. along p south low ∙ (ap (λ n. pos (times * n)) (sym (len.across p low))
             ∙ sym (along p north low));
         upright = λ p low. along p east low ∙ (ap (λ n. pos (times * n)) (len.upright p low) ∙ sym (along p west low));
       })
 
-  arc_low : (k : ℕ) → k < length net.arcs → k < length plan.arcs
+  arc_low : (k : ℕ) → k < length net.arcs → k < length layout.arcs
   arc_low k low = omega (arith, low, is.is.long)
 
   -- No length is below the floor of its arc.
@@ -79,51 +79,52 @@ module _
 
   -- How far an arc is from its wish.
   far : (k : ℕ) → k < length net.arcs → arc_deviation net (arc_at net.arcs k) (entries xs k)
-      ≤ 1000 * (3000 * x k + wish plan k)
+      ≤ 1000 * (3000 * x k + wish layout k)
   far k low =
-      let inner : k < length plan.arcs = arc_low k low in
+      let inner : k < length layout.arcs = arc_low k low in
       let same : arc_deviation net (arc_at net.arcs k) (entries xs k) ≡ weight_of settings.weight (x k) * unsigned_abs
-      (pos 1000 *ℤ pos (times * x k) -ℤ pos (1 * wish plan k)) =
+      (pos 1000 *ℤ pos (times * x k) -ℤ pos (1 * wish layout k)) =
       (λ i. is.is.weights k inner i * unsigned_abs (pos ((is.is.q ∙ parts) i) *ℤ entry k inner i -ℤ pos
       ((is.is.p ∙ unit) i * is.is.olds k inner i))) in
       let high : times * x k ≤ 3 * x k = mul-le-mul_right (x k) (above k low).1 in
-      let few : unsigned_abs (pos 1000 *ℤ pos (times * x k) -ℤ pos (1 * wish plan k))
-      ≤ 3000 * x k + wish plan k = omega (arith, ints, high) in
+      let few : unsigned_abs (pos 1000 *ℤ pos (times * x k) -ℤ pos (1 * wish layout k))
+      ≤ 3000 * x k + wish layout k = omega (arith, ints, high) in
       let both = mul-le (weight_of settings.weight (x k))
-      (unsigned_abs (pos 1000 *ℤ pos (times * x k) -ℤ pos (1 * wish plan k)))
-      1000 (3000 * x k + wish plan k) (weight_low settings.weight (x k)) few in
+      (unsigned_abs (pos 1000 *ℤ pos (times * x k) -ℤ pos (1 * wish layout k)))
+      1000 (3000 * x k + wish layout k) (weight_low settings.weight (x k)) few in
       omega (arith, same, both)
 
   all_far : deviation net (entries xs) ≤ 1000 * (3000 * 2 ^ 23 + MAX_TARGETS)
   all_far =
       let each = count_below_le (λ k. arc_deviation net (arc_at net.arcs k) (entries xs k))
-      (λ k. 1000 * (3000 * x k + wish plan k)) (length net.arcs) far in
-      let heavy = count_below_times 1000 (λ k. 3000 * x k + wish plan k) (length net.arcs) in
-      let sum = count_below_sum (λ k. 3000 * x k) (wish plan) (length net.arcs) in
+      (λ k. 1000 * (3000 * x k + wish layout k)) (length net.arcs) far in
+      let heavy = count_below_times 1000 (λ k. 3000 * x k + wish layout k) (length net.arcs) in
+      let sum = count_below_sum (λ k. 3000 * x k) (wish layout) (length net.arcs) in
       let times = count_below_times 3000 x (length net.arcs) in
-      let lengths : count_below x (length net.arcs) ≡ count_below x (length plan.arcs) =
+      let lengths : count_below x (length net.arcs) ≡ count_below x (length layout.arcs) =
       ap (count_below x) is.is.long in
-      let wishes : count_below (wish plan) (length net.arcs) ≡ wish_sum wish plan =
-      ap (count_below (wish plan)) is.is.long in
-      omega (arith, each, heavy, sum, times, lengths, wishes, near, lengths_few plan is.mesh, is.mesh.mesh.few)
+      let wishes : count_below (wish layout) (length net.arcs) ≡ wish_sum wish layout =
+      ap (count_below (wish layout)) is.is.long in
+      omega (arith, each, heavy, sum, times, lengths, wishes, near, lengths_few layout is.mesh, is.mesh.mesh.few)
 
   close : (k : ℕ) → k < length net.arcs → net.p * (arc_at net.arcs k).old + deviation net (entries xs) ≤ 10 ^ 12 * net.q
   close k low =
-      let inner : k < length plan.arcs = arc_low k low in
-      let wanted : net.p * (arc_at net.arcs k).old ≡ 1 * wish plan k =
+      let inner : k < length layout.arcs = arc_low k low in
+      let wanted : net.p * (arc_at net.arcs k).old ≡ 1 * wish layout k =
       (λ i. (is.is.p ∙ unit) i * is.is.olds k inner i) in
-      let part : wish plan k ≤ wish_sum wish plan = omega (arith, part_low (wish plan) k (length plan.arcs) inner) in
+      let part : wish layout k ≤ wish_sum wish layout = omega
+      (arith, part_low (wish layout) k (length layout.arcs) inner) in
       omega (arith, wanted, part, near, all_far, is.is.q, parts)
 
   pub start_at : IsStartOf net xs
   start_at = record {
-    count = length-map plan.arcs (λ (run : Path). times * length run.darts) ∙ sym is.is.long;
+    count = length-map layout.arcs (λ (run : Path). times * length run.darts) ∙ sym is.is.long;
     admissible = record { high = tall; balanced = balanced };
     near = close;
   }
 
 pub start_law : StartLaw
-start_law wish plan settings net is =
-    start_at wish plan settings (given_floors settings) net is settings.floor (λ k low.
+start_law wish layout settings net is =
+    start_at wish layout settings (given_floors settings) net is settings.floor (λ k low.
     let same : (arc_at net.arcs k).floor ≡ settings.floor = is.is.floors k (omega (arith, low, is.is.long)) in
     (omega (arith, same), omega (arith, same, floor_high net is.bounds k low)))

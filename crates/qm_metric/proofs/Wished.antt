@@ -8,7 +8,7 @@ use Rattle.def_flow.specs.declared.limits.TheConstants.{MAX_FLOOR, MAX_OLD, MAX_
 use Rattle.def_flow.specs.declared.net.Arc.{Arc}
 use Rattle.def_flow.specs.declared.net.End.{End}
 use Rattle.def_flow.specs.declared.net.Settings.{Settings}
-use Rattle.def_layout.specs.{Surfaces.IsSurface, Layouts.Layout, Layouts.use_of, Lengths.Lengths}
+use Rattle.def_layout.specs.{Surfaces.IsSurface, Gluings.Gluing, Gluings.use_of, Lengths.Lengths}
 use Rattle.def_layoutnet.specs.LayoutNet.{IsNetOf, IsTangled}
 use Rattle.qm_layoutnet.proofs.{Built.all_pass, OneNet.one_net_law, SameEnds.tangle_same}
 use Rattle.qm_net.proofs.Within.{arc_bounded}
@@ -56,7 +56,7 @@ module _ (net : Network) (wish : Lengths) (new : Network) (has : HasWishes net w
               ∙ (ap (λ (t : Bool). t && all) high.1 ∙ parts.1)))
 
 -- It is the network of the layout for these wishes.
-pub wished : (l : Layout) (old wish : Lengths) (settings : Settings) (net new : Network) → IsSurface l
+pub wished : (l : Gluing) (old wish : Lengths) (settings : Settings) (net new : Network) → IsSurface l
     → IsNetOf l old old settings (λ a. settings.floor) net → HasWishes net wish new
     → IsNetOf l old wish settings (λ a. settings.floor) new
 wished l old wish settings net new laid is has = record {
@@ -103,7 +103,7 @@ has_wishes wish net = record {
 }
 
 -- A layout is too tangled for other wishes where it is for some.
-pub tangled_for : (l : Layout) (old wish : Lengths) (settings : Settings) (count : ℕ) → IsSurface l
+pub tangled_for : (l : Gluing) (old wish : Lengths) (settings : Settings) (count : ℕ) → IsSurface l
     → IsTangled l old old settings count → IsTangled l old wish settings count
 tangled_for l old wish settings count laid is = record {
   net = rewished_net wish is.net;
@@ -113,7 +113,7 @@ tangled_for l old wish settings count laid is = record {
 }
 
 -- And it is not where it is not.
-pub untangled_for : (l : Layout) (old wish : Lengths) (settings : Settings) (net : Network) → IsSurface l
+pub untangled_for : (l : Gluing) (old wish : Lengths) (settings : Settings) (net : Network) → IsSurface l
     → IsNetOf l old old settings (λ a. settings.floor) net → tangle_number net ≤ MAX_TANGLE
     → (count : ℕ) → IsTangled l old wish settings count → ⊥
 untangled_for l old wish settings net laid is low count tangled =

@@ -22,7 +22,7 @@ use std::alloc::{AllocError, Global};
 /// in those of the cut, as a root takes at most 64 steps.
 pub(crate) fn cut_lengths(alloc: Global, cut: &CutMesh) -> Result<DartShares, AllocError>
     ensures { (marks : List Bool) → IsFullCut cut.now.soup.faces marks
-        → IsCutLayout cut.now.soup.faces marks cut.now.plan
+        → IsCutLayout cut.now.soup.faces marks cut.now.layout
         → IfOk result (λ shares. shares ≡ map (cut_length cut.now.soup marks) (all_darts cut.now.soup.faces)) }
 {
     let mesh = cut.mesh();

@@ -24,13 +24,13 @@ use std::alloc::Global;
 pub fn net_for(alloc: Global, cut: &CutMesh, fit: &Fit, wishes: &[u32]) -> Result<Net, MetricFail>
     requires fit { IsFit fit.now }
     requires wishes { fit.now.aim ≡ Aim.Wishes → length wishes.now ≡ darts cut.now.soup.faces }
-    ensures net { IfOk result (λ net. IsNetFor (aimed fit.now.aim cut.now.soup wishes.now) cut.now.plan
+    ensures net { IfOk result (λ net. IsNetFor (aimed fit.now.aim cut.now.soup wishes.now) cut.now.layout
         (fit_settings fit.now) (network net)) }
     ensures near { OnOk result
-        (AreAimedNear fit.now.aim (aimed fit.now.aim cut.now.soup wishes.now) cut.now.plan) }
+        (AreAimedNear fit.now.aim (aimed fit.now.aim cut.now.soup wishes.now) cut.now.layout) }
     ensures even { (p q : ℕ) → fit.now.aim ≡ Aim.Scale p q → IfOk result (λ net. IsEven (network net)) }
     ensures refused { IfErr result (λ fail. IsFitFail fit.now.aim (aimed fit.now.aim cut.now.soup wishes.now)
-        cut.now.plan (fit_settings fit.now) (rounds_if fit.now.auto) (size_fail_of fail)) }
+        cut.now.layout (fit_settings fit.now) (rounds_if fit.now.auto) (size_fail_of fail)) }
 {
     let layout = cut.layout();
     let net = net_of(alloc, layout, &fit_settings(fit))?;

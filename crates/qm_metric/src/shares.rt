@@ -21,7 +21,7 @@ pub fn shares_of(
     wishes: &[u32],
 ) -> Result<Option<DartShares>, AllocError>
     ensures { (marks : List Bool) → IsFullCut cut.now.soup.faces marks
-        → IsCutLayout cut.now.soup.faces marks cut.now.plan
+        → IsCutLayout cut.now.soup.faces marks cut.now.layout
         → IfOk result (λ shares. shares ≡ shares_of fit.now cut.now.soup wishes.now marks) }
 {
     match fit.spacing {
@@ -41,7 +41,7 @@ fn aimed_shares(
     wishes: &[u32],
 ) -> Result<DartShares, AllocError>
     ensures { (marks : List Bool) → IsFullCut cut.now.soup.faces marks
-        → IsCutLayout cut.now.soup.faces marks cut.now.plan
+        → IsCutLayout cut.now.soup.faces marks cut.now.layout
         → IfOk result (λ shares. shares ≡ aimed_shares aim.now cut.now.soup wishes.now marks) }
 {
     match aim {

@@ -2,7 +2,7 @@
 
 ghost use Rattle.std.specs.Prelude.{◌≡◌, ◌<◌, ◌≤◌, ◌*◌, ◌^◌, length, map, IfOk};
 ghost use Rattle.std.specs.List.{All};
-ghost use Rattle.def_layout.specs.Plans.{plan};
+ghost use Rattle.def_layout.specs.Layouts.{layout_of};
 ghost use Rattle.def_layout.specs.declared.tmesh.TArc.{TArc as Run};
 ghost use Rattle.def_layoutnet.specs.MeshLayouts.{IsSomeLayout};
 ghost use Rattle.def_metric.specs.Starts.{times_long};
@@ -12,8 +12,8 @@ use std::alloc::{AllocError, Global};
 
 /// The old lengths times the floor: a start of the descent, whatever lengths are wished for. Linear in the arcs.
 pub fn old_start(alloc: Global, t: &TMesh, floor: u32) -> Result<Vec<u64>, AllocError>
-    requires layout { IsSomeLayout (plan t.now) }
-    ensures { IfOk result (λ start. start.items ≡ times_long floor (plan t.now)) }
+    requires layout { IsSomeLayout (layout_of t.now) }
+    ensures { IfOk result (λ start. start.items ≡ times_long floor (layout_of t.now)) }
 {
     times_long(alloc, &t.arcs, floor)
 }

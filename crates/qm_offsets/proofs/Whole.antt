@@ -3,39 +3,42 @@ use Rattle.std.proofs.Common.{◌≡◌, ℕ, zero, suc, ◌<◌, true, false, L
 use Rattle.std.proofs.lemmas.List.{get_or_default}
 use Rattle.std.specs.List.{All}
 use Rattle.def_math.specs.Counts.{count_below}
-use Rattle.def_layout.specs.{Surfaces.HasWholeSides, Layouts.Way, Layouts.south, Layouts.east, Layouts.north}
-use Rattle.def_layout.specs.{Layouts.west, Lengths.Lengths, Lengths.size, Plans.Plan, Plans.layout_of, Plans.way_number}
-use Rattle.def_layout.specs.{Plans.side_at, declared.tmesh.SideArc.SideArc}
+use Rattle.def_layout.specs.{Surfaces.HasWholeSides, Gluings.Way, Gluings.south, Gluings.east, Gluings.north}
+use Rattle.def_layout.specs.{Gluings.west, Lengths.Lengths, Lengths.size, Layouts.Layout, Layouts.gluing_of}
+use Rattle.def_layout.specs.{Layouts.way_number}
+use Rattle.def_layout.specs.{Layouts.side_at, declared.tmesh.SideArc.SideArc}
 use Rattle.def_remesh.specs.Numberings.{sizes_on, used_at}
 use Rattle.def_layoutnet.specs.MeshLayouts.{IsSomeLayout}
 use Rattle.qm_offsets.specs.Fours.{AreSides}
-pub use Rattle.plan_laws.proofs.MeshLayouts.{laid_of, lengths_of, lies}
+pub use Rattle.embedding_laws.proofs.MeshLayouts.{laid_of, lengths_of, lies}
 
 -- The arcs that sides use.
-pub arcs_low : (plan : Plan) → HasWholeSides (layout_of plan) → (patch : ℕ) (side : Way) (n : ℕ) (list : List SideArc)
-    → patch < length plan.patches
-    → n ≡ length plan.arcs → list ≡ side_at plan patch side → All (λ (used : SideArc). used.arc < n) list
-arcs_low plan paved patch side n list low long same =
+pub arcs_low : (layout : Layout) → HasWholeSides (gluing_of layout)
+    → (patch : ℕ) (side : Way) (n : ℕ) (list : List SideArc)
+    → patch < length layout.patches
+    → n ≡ length layout.arcs → list ≡ side_at layout patch side → All (λ (used : SideArc). used.arc < n) list
+arcs_low layout paved patch side n list low long same =
     subst (λ (us : List SideArc). All (λ (used : SideArc). used.arc < n) us) (sym same)
     (λ k d less. let arc = paved.arc_low (record { patch = patch; side = side; at = k })
     (record { patch_low = low; low = less }) in
-    let read = get_or_default (side_at plan patch side) k d (record { arc = 0; forward = true }) less in
+    let read = get_or_default (side_at layout patch side) k d (record { arc = 0; forward = true }) less in
     omega (arith, arc, ap (λ (u : SideArc). u.arc) read, long))
 
-pub uses_low : (plan : Plan) → IsSomeLayout plan → (patch : ℕ) (side : Way) (n : ℕ) (list : List SideArc)
-    → patch < length plan.patches
-    → n ≡ length plan.arcs → list ≡ side_at plan patch side → All (λ (used : SideArc). used.arc < n) list
-uses_low plan is = arcs_low plan (laid_of plan is).paved
+pub uses_low : (layout : Layout) → IsSomeLayout layout → (patch : ℕ) (side : Way) (n : ℕ) (list : List SideArc)
+    → patch < length layout.patches
+    → n ≡ length layout.arcs → list ≡ side_at layout patch side → All (λ (used : SideArc). used.arc < n) list
+uses_low layout is = arcs_low layout (laid_of layout is).paved
 
 -- What is read of the sides of the layout of a mesh.
-pub sides_of : (plan : Plan) → IsSomeLayout plan → AreSides plan
-sides_of plan is = record { sided = is.laid.sided; four = is.laid.four; paved = (laid_of plan is).paved }
+pub sides_of : (layout : Layout) → IsSomeLayout layout → AreSides layout
+sides_of layout is = record { sided = is.laid.sided; four = is.laid.four; paved = (laid_of layout is).paved }
 
 -- A side that is read is as long as its lengths say.
-pub side_long : (plan : Plan) (patch : ℕ) (side : Way) (lengths : Lengths) (list : List SideArc)
-    → list ≡ side_at plan patch side
-    → count_below (sizes_on list lengths) (length list) ≡ size (layout_of plan) lengths patch side
-side_long plan patch side lengths list same = ap (λ (us : List SideArc). count_below (sizes_on us lengths) (length us))
+pub side_long : (layout : Layout) (patch : ℕ) (side : Way) (lengths : Lengths) (list : List SideArc)
+    → list ≡ side_at layout patch side
+    → count_below (sizes_on list lengths) (length list) ≡ size (gluing_of layout) lengths patch side
+side_long layout patch side lengths list same =
+    ap (λ (us : List SideArc). count_below (sizes_on us lengths) (length us))
     same
 
 -- What is read of a side.

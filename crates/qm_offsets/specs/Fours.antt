@@ -1,9 +1,9 @@
 -- The tables of the four sides of a patch.
 use Rattle.std.specs.Prelude.{◌≡◌, ◌<◌, ℕ, List, [], length, map, slice_index_or}
 use Rattle.def_layout.specs.Surfaces.{HasWholeSides}
-use Rattle.def_layout.specs.Layouts.{Way}
+use Rattle.def_layout.specs.Gluings.{Way}
 use Rattle.def_layout.specs.Lengths.{Lengths}
-use Rattle.def_layout.specs.Plans.{Plan, PatchSides, layout_of, way_number, side_at}
+use Rattle.def_layout.specs.Layouts.{Layout, PatchSides, gluing_of, way_number, side_at}
 use Rattle.def_layout.specs.declared.tmesh.Side.{Side}
 use Rattle.def_layout.specs.declared.tmesh.SideArc.{SideArc}
 use Rattle.def_remesh.specs.Numberings.{sizes_on, AreRunStarts}
@@ -18,23 +18,23 @@ abbrev pub uses_in : (sides : List (List Side)) → PatchSides
 uses_in sides = map (λ four. map (λ (side : Side). side.arcs.items) four) sides
 
 -- The arcs of a side, by the number of that.
-abbrev pub arcs_on : (plan : Plan) (patch side : ℕ) → List SideArc
-arcs_on plan patch side = slice_index_or (slice_index_or plan.sides patch []) side []
+abbrev pub arcs_on : (layout : Layout) (patch side : ℕ) → List SideArc
+arcs_on layout patch side = slice_index_or (slice_index_or layout.sides patch []) side []
 
 -- The table is that of a side of a patch.
-abbrev pub IsTableOf : (plan : Plan) (lengths : Lengths) (patch side : ℕ) (table : List ℕ) → Type 0
-IsTableOf plan lengths patch side table =
-    AreRunStarts (sizes_on (arcs_on plan patch side) lengths) (length (arcs_on plan patch side)) table
+abbrev pub IsTableOf : (layout : Layout) (lengths : Lengths) (patch side : ℕ) (table : List ℕ) → Type 0
+IsTableOf layout lengths patch side table =
+    AreRunStarts (sizes_on (arcs_on layout patch side) lengths) (length (arcs_on layout patch side)) table
 
 -- The tables are those of the sides of a patch.
-pub record AreFourStarts (plan : Plan) (lengths : Lengths) (patch : ℕ) (four : List (List ℕ)) : Type 0 where
+pub record AreFourStarts (layout : Layout) (lengths : Lengths) (patch : ℕ) (four : List (List ℕ)) : Type 0 where
   pub count : length four ≡ 4
   pub each : (side : Way)
-      → AreRunStarts (sizes_on (side_at plan patch side) lengths) (length (side_at plan patch side))
+      → AreRunStarts (sizes_on (side_at layout patch side) lengths) (length (side_at layout patch side))
       (slice_index_or four (way_number side) [])
 
 -- Each patch has four sides, which are not empty and name arcs that exist.
-pub record AreSides (plan : Plan) : Type 0 where
-  pub sided : length plan.sides ≡ length plan.patches
-  pub four : (patch : ℕ) → patch < length plan.patches → length (slice_index_or plan.sides patch []) ≡ 4
-  pub paved : HasWholeSides (layout_of plan)
+pub record AreSides (layout : Layout) : Type 0 where
+  pub sided : length layout.sides ≡ length layout.patches
+  pub four : (patch : ℕ) → patch < length layout.patches → length (slice_index_or layout.sides patch []) ≡ 4
+  pub paved : HasWholeSides (gluing_of layout)

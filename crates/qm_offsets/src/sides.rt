@@ -3,9 +3,9 @@
 ghost use Rattle.std.specs.Prelude.{◌≡◌, ◌<◌, ◌^◌, ℕ, [], length, map, slice_index_or, IfOk};
 ghost use Rattle.std.specs.List.{All};
 ghost use Rattle.def_math.specs.Counts.{count_below};
-ghost use Rattle.def_layout.specs.Layouts.{Way};
+ghost use Rattle.def_layout.specs.Gluings.{Way};
 ghost use Rattle.def_layout.specs.Lengths.{size};
-ghost use Rattle.def_layout.specs.Plans.{layout_of, plan};
+ghost use Rattle.def_layout.specs.Layouts.{gluing_of, layout_of};
 ghost use Rattle.def_layout.specs.declared.tmesh.Side.{Side as Arcs};
 ghost use Rattle.def_layout.specs.declared.tmesh.SideArc.{SideArc as Used};
 ghost use Rattle.def_layoutnet.specs.MeshLayouts.{IsSomeLayout};
@@ -34,10 +34,10 @@ pub fn uses_on(sides: &[[Side; 4]], patch: usize, side: usize) -> &[SideArc]
 
 /// The same, of the layout of a mesh.
 pub fn side_of(t: &TMesh, patch: usize, side: usize) -> &[SideArc]
-    requires layout { IsSomeLayout (plan t.now) }
+    requires layout { IsSomeLayout (layout_of t.now) }
     requires low { patch < length t.now.patches.items }
     requires side { side < 4 }
-    ensures { result.now ≡ slice_index_or (slice_index_or (plan t.now).sides patch []) side [] }
+    ensures { result.now ≡ slice_index_or (slice_index_or (layout_of t.now).sides patch []) side [] }
 {
     uses_on(&t.sides, patch, side)
 }
@@ -77,7 +77,7 @@ fn starts_of(
     requires low { patch < length summed.now.t.now.patches.items }
     requires side { side < 4 }
     ensures { IfOk result (λ starts.
-        IsTableOf (plan summed.now.t.now) (lengths_in summed.now.lengths.now) patch side starts.begin.items) }
+        IsTableOf (layout_of summed.now.t.now) (lengths_in summed.now.lengths.now) patch side starts.begin.items) }
 {
     let arcs = uses_on(&summed.t.sides, patch, side);
     side_starts(alloc, arcs, summed.lengths)
@@ -87,7 +87,7 @@ fn starts_of(
 fn four_starts(alloc: Global, summed: &Summed, patch: usize) -> Result<[RunStarts; 4], AllocError>
     requires { patch < length summed.now.t.now.patches.items }
     ensures { IfOk result (λ four.
-        AreFourStarts (plan summed.now.t.now) (lengths_in summed.now.lengths.now) patch (begins_of four)) }
+        AreFourStarts (layout_of summed.now.t.now) (lengths_in summed.now.lengths.now) patch (begins_of four)) }
 {
     let south = starts_of(alloc, summed, patch, 0)?;
     let east = starts_of(alloc, summed, patch, 1)?;
@@ -102,11 +102,11 @@ pub fn side_tables(
     t: &TMesh,
     lengths: &[u32],
 ) -> Result<Vec<[RunStarts; 4]>, AllocError>
-    requires layout { IsSomeLayout (plan t.now) }
+    requires layout { IsSomeLayout (layout_of t.now) }
     requires long { length lengths.now ≡ length t.now.arcs.items }
     requires small { (patch : ℕ) (side : Way) → patch < length t.now.patches.items
-        → size (layout_of (plan t.now)) (lengths_in lengths.now) patch side < 2 ^ 32 }
-    ensures { IfOk result (λ sides. AreSideStarts (plan t.now) (lengths_in lengths.now) (tables_of sides.items)) }
+        → size (gluing_of (layout_of t.now)) (lengths_in lengths.now) patch side < 2 ^ 32 }
+    ensures { IfOk result (λ sides. AreSideStarts (layout_of t.now) (lengths_in lengths.now) (tables_of sides.items)) }
 {
     let summed = Summed { t, lengths };
     let mut tables = Vec::with_capacity(alloc, t.patches.len())?;

@@ -4,7 +4,8 @@ use Rattle.std.proofs.Common.{sym, ◌∙◌, ap, subst, arith}
 use Rattle.std.specs.Prelude.{◌==◌, slice_index}
 use Rattle.std.proofs.lemmas.Bool.{cond_both}
 use Rattle.std.proofs.lemmas.List.{get_or_read, length-map}
-use Rattle.def_layout.specs.{Arcs.dart_at, Arcs.long_at, Arcs.path, Plans.Plan, Plans.layout_of, Plans.plan}
+use Rattle.def_layout.specs.{Arcs.dart_at, Arcs.long_at, Arcs.path, Layouts.Layout, Layouts.gluing_of}
+use Rattle.def_layout.specs.{Layouts.layout_of}
 use Rattle.def_layout.specs.{Lengths.Lengths, declared.tmesh.TArc.TArc, declared.tmesh.TMesh.TMesh}
 use Rattle.def_layoutnet.specs.MeshLayouts.{IsSomeLayout}
 use Rattle.def_map.specs.{Spots.edge_spot, declared.spot.EdgeSpot.EdgeSpot}
@@ -12,52 +13,52 @@ use Rattle.def_written.specs.Spacings.{edge_begin, shared_step, step_parameter, 
 use Rattle.def_written.specs.{Numbers.before_arc, Places.ONE, Places.Step}
 use Rattle.def_remesh.specs.{Placings.shares_in, Placings.IsSpaced, Spaced.shares_along, Spaced.spacing_by}
 use Rattle.def_remesh.specs.{declared.places.Spaced.Spaced, NewPoints.lengths_in}
-use Rattle.plan_laws.proofs.{Bounds.vertices_few, MeshLayouts.laid_of}
+use Rattle.embedding_laws.proofs.{Bounds.vertices_few, MeshLayouts.laid_of}
 use Rattle.written_laws.proofs.Runs.{place_low}
 use Rattle.qm_place.specs.ArcTables.{AreFine}
 use Rattle.qm_place.proofs.Rims.{old_read, old_short}
 
 -- An arc that is read is short.
-pub read_short : (t : TMesh) {a : ℕ} {arc : TArc} → IsSomeLayout (plan t) → a < length t.arcs.items
+pub read_short : (t : TMesh) {a : ℕ} {arc : TArc} → IsSomeLayout (layout_of t) → a < length t.arcs.items
     → arc ≡ get_or t.arcs.items a arc → length arc.darts.items ≤ 2 ^ 21
 read_short t {a} {arc} is low read =
     omega (
       arith,
       old_read t low read,
-      old_short (plan t) is a (omega (arith, low, length-map t.arcs.items path)),
+      old_short (layout_of t) is a (omega (arith, low, length-map t.arcs.items path)),
     )
 
 -- Inner points of arcs are few.
-pub points_few : {plan : Plan} {list : List ℕ} → AreFine plan list → {arc place : ℕ} → arc < length plan.arcs
+pub points_few : {layout : Layout} {list : List ℕ} → AreFine layout list → {arc place : ℕ} → arc < length layout.arcs
     → place < lengths_in list arc - 1 → before_arc (lengths_in list) arc + place < 2 ^ 23
-points_few {plan} {list} fine {arc} {place} low less =
+points_few {layout} {list} fine {arc} {place} low less =
     omega (
       arith,
-      place_low (λ b. lengths_in list b - 1) (length plan.arcs) arc place low less,
-      vertices_few (layout_of plan) (lengths_in list) (laid_of plan fine.mesh) fine.lengths,
+      place_low (λ b. lengths_in list b - 1) (length layout.arcs) arc place low less,
+      vertices_few (gluing_of layout) (lengths_in list) (laid_of layout fine.mesh) fine.lengths,
       fine.few,
     )
 
-module _ (plan : Plan) (new : Lengths) (o : Option Spaced) (told : IsSpaced plan new o) (spaced : Spaced)
-    (is : o ≡ Some spaced) (arc k : ℕ) (low : arc < length plan.arcs) (some : 0 < k) (less : k < new arc) where
+module _ (layout : Layout) (new : Lengths) (o : Option Spaced) (told : IsSpaced layout new o) (spaced : Spaced)
+    (is : o ≡ Some spaced) (arc k : ℕ) (low : arc < length layout.arcs) (some : 0 < k) (less : k < new arc) where
   pub inner_low : before_arc new arc + k - 1 < length spaced.parameters.items
   inner_low = omega (
     arith,
     (told spaced is).long,
-    place_low (λ b. new b - 1) (length plan.arcs) arc (k - 1) low (omega (arith, some, less)),
+    place_low (λ b. new b - 1) (length layout.arcs) arc (k - 1) low (omega (arith, some, less)),
     some,
   )
 
   inner_value : slice_index spaced.parameters.items (before_arc new arc + k - 1)
-      ≡ (spacing_by plan (shares_in o) new).parameter_of arc true k
+      ≡ (spacing_by layout (shares_in o) new).parameter_of arc true k
   inner_value =
       (told spaced is).each arc k low some less
-      ∙ ap (λ (p : Option Spaced). (spacing_by plan (shares_in p) new).parameter_of arc true k) (sym is)
+      ∙ ap (λ (p : Option Spaced). (spacing_by layout (shares_in p) new).parameter_of arc true k) (sym is)
 
   -- What is read there.
   pub read_inner : {index read : ℕ} → index ≡ before_arc new arc + k - 1
       → read ≡ get_or spaced.parameters.items index read
-      → read ≡ (spacing_by plan (shares_in o) new).parameter_of arc true k
+      → read ≡ (spacing_by layout (shares_in o) new).parameter_of arc true k
   read_inner {index} {read} place same = get_or_read spaced.parameters.items index read
       (omega (arith, place, inner_low)) same 0 ∙ ap (slice_index spaced.parameters.items) place ∙ inner_value
 
@@ -74,32 +75,33 @@ some_told : (step : Step) → step.some < ONE → step_parameter step % ONE ≡ 
 some_told step less = omega (arith, less)
 
 -- Where a point of an arc lies, by its parameter.
-pub spot_told : (plan : Plan) {new : Lengths} {o : Option Spaced} (spaced : Spaced) → o ≡ Some spaced
-    → IsSpacing (layout_of plan) (long_at plan.arcs) new (spacing_by plan (shares_in o) new) → {arc k parameter : ℕ}
-    → arc < length plan.arcs → k < new arc
-    → parameter ≡ (spacing_by plan (shares_in o) new).parameter_of arc true k → {spot : EdgeSpot}
-    → spot ≡ record { dart = dart_at plan.arcs arc (parameter / ONE); some = parameter % ONE; parts = ONE }
-    → spot ≡ edge_spot plan (spacing_by plan (shares_in o) new) arc k
-spot_told plan {new} spaced is spacing {arc} {k} {parameter} low less told spot_is =
+pub spot_told : (layout : Layout) {new : Lengths} {o : Option Spaced} (spaced : Spaced) → o ≡ Some spaced
+    → IsSpacing (gluing_of layout) (long_at layout.arcs) new (spacing_by layout (shares_in o) new)
+    → {arc k parameter : ℕ}
+    → arc < length layout.arcs → k < new arc
+    → parameter ≡ (spacing_by layout (shares_in o) new).parameter_of arc true k → {spot : EdgeSpot}
+    → spot ≡ record { dart = dart_at layout.arcs arc (parameter / ONE); some = parameter % ONE; parts = ONE }
+    → spot ≡ edge_spot layout (spacing_by layout (shares_in o) new) arc k
+spot_told layout {new} spaced is spacing {arc} {k} {parameter} low less told spot_is =
     spot_is ∙ (λ i. record {
-      dart = dart_at plan.arcs arc ((ap (λ n. n / ONE) here ∙ edge_told step some) i);
+      dart = dart_at layout.arcs arc ((ap (λ n. n / ONE) here ∙ edge_told step some) i);
       some = (ap (λ n. n % ONE) here ∙ some_told step some) i;
       parts = sym parts i;
     })
-    ∙ ap (λ (p : Option Spaced). edge_spot plan (spacing_by plan (shares_in p) new) arc k) (sym is)
+    ∙ ap (λ (p : Option Spaced). edge_spot layout (spacing_by layout (shares_in p) new) arc k) (sym is)
   where
     step : Step
-    step = shared_step (long_at plan.arcs) new (shares_along plan spaced.shares) arc k
+    step = shared_step (long_at layout.arcs) new (shares_along layout spaced.shares) arc k
 
-    parts : (shared_step (long_at plan.arcs) new (shares_along plan spaced.shares) arc k).parts ≡ ONE
-    parts = parts_are (long_at plan.arcs) new (shares_along plan spaced.shares) arc k
+    parts : (shared_step (long_at layout.arcs) new (shares_along layout spaced.shares) arc k).parts ≡ ONE
+    parts = parts_are (long_at layout.arcs) new (shares_along layout spaced.shares) arc k
 
-    spacing_here : IsSpacing (layout_of plan) (long_at plan.arcs) new (spacing_by plan (Some spaced.shares) new)
-    spacing_here = subst (λ (p : Option Spaced). IsSpacing (layout_of plan) (long_at plan.arcs) new
-        (spacing_by plan (shares_in p) new)) is spacing
+    spacing_here : IsSpacing (gluing_of layout) (long_at layout.arcs) new (spacing_by layout (Some spaced.shares) new)
+    spacing_here = subst (λ (p : Option Spaced). IsSpacing (gluing_of layout) (long_at layout.arcs) new
+        (spacing_by layout (shares_in p) new)) is spacing
 
-    some : (shared_step (long_at plan.arcs) new (shares_along plan spaced.shares) arc k).some < ONE
+    some : (shared_step (long_at layout.arcs) new (shares_along layout spaced.shares) arc k).some < ONE
     some = omega (arith, spacing_here.parts arc k low less, parts)
 
-    here : parameter ≡ step_parameter (shared_step (long_at plan.arcs) new (shares_along plan spaced.shares) arc k)
-    here = told ∙ ap (λ (p : Option Spaced). (spacing_by plan (shares_in p) new).parameter_of arc true k) is
+    here : parameter ≡ step_parameter (shared_step (long_at layout.arcs) new (shares_along layout spaced.shares) arc k)
+    here = told ∙ ap (λ (p : Option Spaced). (spacing_by layout (shares_in p) new).parameter_of arc true k) is

@@ -2,21 +2,21 @@
 use Rattle.std.proofs.Common.{◌≡◌, ℕ, ◌-◌, ◌*◌, ◌^◌, ◌<◌, ◌≤◌, List, length, ap, arith}
 use Rattle.std.specs.Prelude.{slice_index}
 use Rattle.def_math.specs.Counts.{count_below}
-use Rattle.def_layout.specs.{Lengths.wide, Lengths.high, Plans.Plan, Plans.layout_of}
+use Rattle.def_layout.specs.{Lengths.wide, Lengths.high, Layouts.Layout, Layouts.gluing_of}
 use Rattle.def_written.specs.{Numbers.vertices, Places.ArcSpacing}
 use Rattle.def_remesh.specs.Placings.{rim_at, IsRim}
 use Rattle.def_remesh.specs.{NewPoints.lengths_in, Numberings.AreRunStarts, declared.places.Rim.Rim}
 use Rattle.sum_laws.proofs.Counts.{count_below_same}
-use Rattle.plan_laws.proofs.Bounds.{vertices_few}
+use Rattle.embedding_laws.proofs.Bounds.{vertices_few}
 use Rattle.qm_offsets.proofs.{Spots.starts_same, Spots.term_room, Whole.laid_of}
 use Rattle.written_laws.proofs.Grid.{wide_some, high_some}
 use Rattle.qm_place.specs.{ArcTables.AreFine, Spots.inner_of}
 
-module _ (plan : Plan) (list : List ℕ) (fine : AreFine plan list) where
-  few_points : vertices (layout_of plan) (lengths_in list) ≤ 2 ^ 23
+module _ (layout : Layout) (list : List ℕ) (fine : AreFine layout list) where
+  few_points : vertices (gluing_of layout) (lengths_in list) ≤ 2 ^ 23
   few_points = omega (
     arith,
-    vertices_few (layout_of plan) (lengths_in list) (laid_of plan fine.mesh) fine.lengths,
+    vertices_few (gluing_of layout) (lengths_in list) (laid_of layout fine.mesh) fine.lengths,
     fine.few,
   )
 
@@ -26,7 +26,7 @@ module _ (plan : Plan) (list : List ℕ) (fine : AreFine plan list) where
       omega (
         arith,
         few_points,
-        term_room (λ a. lengths_in list a - 1) (length plan.arcs) arc (omega (arith, low, fine.long)),
+        term_room (λ a. lengths_in list a - 1) (length layout.arcs) arc (omega (arith, low, fine.long)),
       )
 
   pub points_short : count_below (λ arc. lengths_in list arc - 1) (length list) < 2 ^ 32
@@ -34,18 +34,18 @@ module _ (plan : Plan) (list : List ℕ) (fine : AreFine plan list) where
 
   -- How many points lie in a patch.
   abbrev inner : ℕ → ℕ
-  inner p = (wide (layout_of plan) (lengths_in list) p - 1) * (high (layout_of plan) (lengths_in list) p - 1)
+  inner p = (wide (gluing_of layout) (lengths_in list) p - 1) * (high (gluing_of layout) (lengths_in list) p - 1)
 
   module _ (spacing : ArcSpacing) (rims : List Rim) (parameters : List ℕ) {count : ℕ} (all : count
-      ≡ length plan.patches)
-      (are : (p : ℕ) → p < count → IsRim plan (lengths_in list) spacing p (rim_at rims p) parameters) where
+      ≡ length layout.patches)
+      (are : (p : ℕ) → p < count → IsRim layout (lengths_in list) spacing p (rim_at rims p) parameters) where
     -- Patches are not empty.
     pub rims_some : (p : ℕ) → p < count → (0 < (rim_at rims p).wide) × (0 < (rim_at rims p).high)
     rims_some p low =
-        let at : p < length plan.patches = omega (arith, low, all) in
-        let paved = (laid_of plan fine.mesh).paved in (
-          omega (arith, (are p low).wide, wide_some (layout_of plan) (lengths_in list) paved fine.lengths p at),
-          omega (arith, (are p low).high, high_some (layout_of plan) (lengths_in list) paved fine.lengths p at),
+        let at : p < length layout.patches = omega (arith, low, all) in
+        let paved = (laid_of layout fine.mesh).paved in (
+          omega (arith, (are p low).wide, wide_some (gluing_of layout) (lengths_in list) paved fine.lengths p at),
+          omega (arith, (are p low).high, high_some (gluing_of layout) (lengths_in list) paved fine.lengths p at),
         )
 
     inner_is : (p : ℕ) → p < count → inner_of rims p ≡ inner p
@@ -56,6 +56,6 @@ module _ (plan : Plan) (list : List ℕ) (fine : AreFine plan list) where
         omega (arith, few_points, ap (count_below inner) all, count_below_same (inner_of rims) inner count inner_is)
 
     pub inner_starts : (starts : List ℕ) → AreRunStarts (inner_of rims) count starts
-        → AreRunStarts (λ p. (wide (layout_of plan) (lengths_in list) p - 1) *
-        (high (layout_of plan) (lengths_in list) p - 1)) (length plan.patches) starts
+        → AreRunStarts (λ p. (wide (gluing_of layout) (lengths_in list) p - 1) *
+        (high (gluing_of layout) (lengths_in list) p - 1)) (length layout.patches) starts
     inner_starts starts begin = rw (← all) (starts_same (inner_of rims) inner count starts inner_is begin)

@@ -6,7 +6,8 @@ use Rattle.std.proofs.lemmas.Nat.{mul-le}
 use Rattle.std.specs.Prelude.{slice_index}
 use Rattle.def_cut.specs.{Grids.Rectangle, Grids.cell_of, Grids.patch_at, Grids.rectangle, declared.patch.Patch.Patch}
 use Rattle.def_layout.specs.Arcs.{Path, dart_at, long_at, path}
-use Rattle.def_layout.specs.{Plans.Plan, Plans.layout_of, Plans.plan, Layouts.west, Lengths.wide, Lengths.high}
+use Rattle.def_layout.specs.{Layouts.Layout, Layouts.gluing_of, Layouts.layout_of, Gluings.west, Lengths.wide}
+use Rattle.def_layout.specs.{Lengths.high}
 use Rattle.def_layout.specs.{declared.tmesh.TArc.TArc, declared.tmesh.TMesh.TMesh}
 use Rattle.def_written.specs.Numbers.{before_patch}
 use Rattle.def_remesh.specs.{Placings.rim_at, Placings.spacing_in, Placings.IsRim, NewPoints.lengths_in}
@@ -24,37 +25,37 @@ start_read {k} {v} {starts} are low read = get_or_read starts k v (omega (arith,
 
 -- A dart of an arc.
 pub dart_read : (t : TMesh) {a i j : ℕ} {arc : TArc} {d : ℕ} → a < length t.arcs.items → arc ≡ get_or t.arcs.items a arc
-    → i < length arc.darts.items → d ≡ get_or arc.darts.items i d → i ≡ j → d ≡ dart_at (plan t).arcs a j
+    → i < length arc.darts.items → d ≡ get_or arc.darts.items i d → i ≡ j → d ≡ dart_at (layout_of t).arcs a j
 dart_read t {a} {i} {arc} {d} low same i_low read place =
     get_or_read arc.darts.items i d i_low read 0 ∙ ap (λ (q : Path). slice_index q.darts i) (ap path same
     ∙ sym (get_or-map path t.arcs.items a arc (record { first = 0; last = 0; darts = [] }) low))
-    ∙ ap (dart_at (plan t).arcs a) place
+    ∙ ap (dart_at (layout_of t).arcs a) place
 
 -- An arc.
 pub record IsOldArc (t : TMesh) (a : ℕ) (arc : TArc) : Type 0 where
-  pub long : length arc.darts.items ≡ long_at (plan t).arcs a
-  pub short : long_at (plan t).arcs a ≤ 2 ^ 21
+  pub long : length arc.darts.items ≡ long_at (layout_of t).arcs a
+  pub short : long_at (layout_of t).arcs a ≤ 2 ^ 21
 
-pub arc_read : (t : TMesh) {tables : PlaceTables} {a : ℕ} {arc : TArc} → ArePlaced (plan t) tables
+pub arc_read : (t : TMesh) {tables : PlaceTables} {a : ℕ} {arc : TArc} → ArePlaced (layout_of t) tables
     → a < length t.arcs.items → arc ≡ get_or t.arcs.items a arc → IsOldArc t a arc
 arc_read t {a} {arc} is low read = record {
   long = old_read t low read;
   short = is.arcs a a_low;
 }
   where
-    a_low : a < length (plan t).arcs
+    a_low : a < length (layout_of t).arcs
     a_low = omega (arith, low, length-map t.arcs.items path)
 
 -- A patch.
 pub record IsOldPatch (t : TMesh) (p : ℕ) (patch : Patch) : Type 0 where
-  pub same : rectangle patch ≡ patch_at (plan t).patches p
-  pub wide : patch.w ≡ wide (layout_of (plan t)) (long_at (plan t).arcs) p
-  pub high : patch.h ≡ high (layout_of (plan t)) (long_at (plan t).arcs) p
+  pub same : rectangle patch ≡ patch_at (layout_of t).patches p
+  pub wide : patch.w ≡ wide (gluing_of (layout_of t)) (long_at (layout_of t).arcs) p
+  pub high : patch.h ≡ high (gluing_of (layout_of t)) (long_at (layout_of t).arcs) p
   pub some : 0 < patch.w
   pub tall : 0 < patch.h
   pub cells : length patch.cells.items ≡ patch.h * patch.w
 
-pub patch_read : (t : TMesh) {tables : PlaceTables} {p : ℕ} {patch : Patch} → ArePlaced (plan t) tables
+pub patch_read : (t : TMesh) {tables : PlaceTables} {p : ℕ} {patch : Patch} → ArePlaced (layout_of t) tables
     → p < length t.patches.items → patch ≡ get_or t.patches.items p patch → IsOldPatch t p patch
 patch_read t {p = p} {patch = patch} is low read = record {
   same = same;
@@ -66,17 +67,17 @@ patch_read t {p = p} {patch = patch} is low read = record {
       ∙ (λ k. (sym same k).h * (sym same k).w);
 }
   where
-    p_low : p < length (plan t).patches
+    p_low : p < length (layout_of t).patches
     p_low = omega (arith, low, length-map t.patches.items rectangle)
 
-    same : rectangle patch ≡ patch_at (plan t).patches p
+    same : rectangle patch ≡ patch_at (layout_of t).patches p
     same = ap rectangle read ∙ sym (get_or-map rectangle t.patches.items p patch (record { w = 0; h = 0; cells = [] })
         low)
 
-    wide_is : patch.w ≡ wide (layout_of (plan t)) (long_at (plan t).arcs) p
+    wide_is : patch.w ≡ wide (gluing_of (layout_of t)) (long_at (layout_of t).arcs) p
     wide_is = ap (λ (r : Rectangle). r.w) same ∙ (is.patches p p_low).width
 
-    high_is : patch.h ≡ high (layout_of (plan t)) (long_at (plan t).arcs) p
+    high_is : patch.h ≡ high (gluing_of (layout_of t)) (long_at (layout_of t).arcs) p
     high_is = ap (λ (r : Rectangle). r.h) same ∙ (is.patches p p_low).height
 
 -- A cell of a patch.
@@ -89,22 +90,24 @@ cell_low {a} {b} {patch} is a_low b_low = by_parts patch.w patch.h a b (length p
         mul-le (b + 1) w h w (omega arith) (omega arith) in omega (arith, le)
 
 pub cell_read : {t : TMesh} {p : ℕ} {a b d : ℕ} {patch : Patch} → IsOldPatch t p patch → a < patch.w → b < patch.h
-    → d ≡ get_or patch.cells.items (b * patch.w + a) d → d ≡ cell_of (patch_at (plan t).patches p) a b
+    → d ≡ get_or patch.cells.items (b * patch.w + a) d → d ≡ cell_of (patch_at (layout_of t).patches p) a b
 cell_read {t} {p} {a} {b} {d} {patch} is a_low b_low read = get_or_read patch.cells.items (b * patch.w + a) d
     (cell_low is a_low b_low) read 0 ∙ ap (λ (r : Rectangle). cell_of r a b) is.same
 
 -- The rim of a patch.
-pub rim_read : (plan : Plan) (tables : PlaceTables) {p : ℕ} {rim : Rim} → length tables.rims.items ≡ length plan.patches
-    → p < length plan.patches → rim ≡ get_or tables.rims.items p rim → rim ≡ rim_at tables.rims.items p
-rim_read plan tables {p} {rim} rimmed low read = get_or_read tables.rims.items p rim (omega (arith, rimmed, low)) read
+pub rim_read : (layout : Layout) (tables : PlaceTables) {p : ℕ} {rim : Rim}
+    → length tables.rims.items ≡ length layout.patches
+    → p < length layout.patches → rim ≡ get_or tables.rims.items p rim → rim ≡ rim_at tables.rims.items p
+rim_read layout tables {p} {rim} rimmed low read = get_or_read tables.rims.items p rim (omega (arith, rimmed, low)) read
     (record { wide = 0; high = 0; begin = 0 })
 
 pub record IsRimRead (t : TMesh) (tables : PlaceTables) (p : ℕ) (rim : Rim) : Type 0 where
-  pub low : p < length (plan t).patches
+  pub low : p < length (layout_of t).patches
   pub same : rim ≡ rim_at tables.rims.items p
-  pub is : IsRim (plan t) (lengths_in tables.lengths.items) (spacing_in (plan t) tables) p rim tables.parameters.items
+  pub is : IsRim (layout_of t) (lengths_in tables.lengths.items) (spacing_in (layout_of t) tables) p rim
+      tables.parameters.items
 
-pub rim_here : (t : TMesh) {tables : PlaceTables} {p : ℕ} {rim : Rim} → ArePlaced (plan t) tables
+pub rim_here : (t : TMesh) {tables : PlaceTables} {p : ℕ} {rim : Rim} → ArePlaced (layout_of t) tables
     → p < length t.patches.items → rim ≡ get_or tables.rims.items p rim → IsRimRead t tables p rim
 rim_here t {tables} {p} {rim} are low read = record {
   low = p_low;
@@ -112,14 +115,14 @@ rim_here t {tables} {p} {rim} are low read = record {
   is = rw same (are.rims p p_low);
 }
   where
-    p_low : p < length (plan t).patches
+    p_low : p < length (layout_of t).patches
     p_low = omega (arith, low, length-map t.patches.items rectangle)
 
     same : rim ≡ rim_at tables.rims.items p
-    same = rim_read (plan t) tables are.rimmed p_low read
+    same = rim_read (layout_of t) tables are.rimmed p_low read
 
-pub rim_room : {plan : Plan} (tables : PlaceTables) {p : ℕ} {rim : Rim} {list : List ℕ} → p < length plan.patches
-    → IsRim plan (lengths_in tables.lengths.items) (spacing_in plan tables) p rim tables.parameters.items
+pub rim_room : {layout : Layout} (tables : PlaceTables) {p : ℕ} {rim : Rim} {list : List ℕ} → p < length layout.patches
+    → IsRim layout (lengths_in tables.lengths.items) (spacing_in layout tables) p rim tables.parameters.items
     → list ≡ tables.parameters.items → HasRoom rim list
 rim_room tables low is same =
     omega (arith, (is.sides west).room, is.wide, is.high, ap (λ (xs : List ℕ). length xs) same)
@@ -138,15 +141,15 @@ some_runs f zero less = absurd (omega arith)
 some_runs f (suc n) less = omega arith
 
 -- Where the inner points of a patch begin, and how wide it is.
-pub record IsOffset (plan : Plan) (tables : PlaceTables) (patch begin columns : ℕ) : Type 0 where
-  pub begin_is : begin ≡ before_patch (layout_of plan) (lengths_in tables.lengths.items) patch
-  pub columns_are : columns ≡ wide (layout_of plan) (lengths_in tables.lengths.items) patch
+pub record IsOffset (layout : Layout) (tables : PlaceTables) (patch begin columns : ℕ) : Type 0 where
+  pub begin_is : begin ≡ before_patch (gluing_of layout) (lengths_in tables.lengths.items) patch
+  pub columns_are : columns ≡ wide (gluing_of layout) (lengths_in tables.lengths.items) patch
 
-pub offset_read : {plan : Plan} {tables : PlaceTables} (are : ArePlaced plan tables) {patch begin : ℕ} {rim : Rim}
-    → patch < length plan.patches
+pub offset_read : {layout : Layout} {tables : PlaceTables} (are : ArePlaced layout tables) {patch begin : ℕ} {rim : Rim}
+    → patch < length layout.patches
     → begin ≡ get_or tables.inside.begin.items patch begin → rim ≡ get_or tables.rims.items patch rim
-    → IsOffset plan tables patch begin rim.wide
-offset_read {plan} {tables} are {patch} {begin} {rim} low begin_read rim_is = record {
+    → IsOffset layout tables patch begin rim.wide
+offset_read {layout} {tables} are {patch} {begin} {rim} low begin_read rim_is = record {
   begin_is = start_read are.inside low begin_read;
-  columns_are = ap (λ (r : Rim). r.wide) (rim_read plan tables are.rimmed low rim_is) ∙ (are.rims patch low).wide;
+  columns_are = ap (λ (r : Rim). r.wide) (rim_read layout tables are.rimmed low rim_is) ∙ (are.rims patch low).wide;
 }

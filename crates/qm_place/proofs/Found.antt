@@ -4,9 +4,9 @@ use Rattle.std.proofs.Common.{◌∙◌, ap, subst, arith}
 use Rattle.std.proofs.Math.Nat.{mul_comm}
 use Rattle.def_math.specs.Runs.{run_at}
 use Rattle.def_mesh.specs.Faces.{Faces}
-use Rattle.def_layout.specs.Layouts.{Layout, south, east, north, west}
+use Rattle.def_layout.specs.Gluings.{Gluing, south, east, north, west}
 use Rattle.def_layout.specs.Lengths.{Lengths, wide, high, AreLengths}
-use Rattle.def_layout.specs.{Plans.Plan, Plans.layout_of, Plans.vertex_at, Arcs.long_at}
+use Rattle.def_layout.specs.{Layouts.Layout, Layouts.gluing_of, Layouts.vertex_at, Arcs.long_at}
 use Rattle.def_layoutnet.specs.MeshLayouts.{IsSomeLayout}
 use Rattle.def_written.specs.Places.{ONE, parameter, parameter_back, ArcSpacing}
 use Rattle.def_written.specs.Points.{Point, node, along, inside, IsPoint}
@@ -22,179 +22,184 @@ use Rattle.map_laws.proofs.Parameters.{ahead_end, back_end, u_upto, v_upto}
 use Rattle.map_laws.proofs.Spaced.{spacing_is}
 use Rattle.written_laws.proofs.{Spacings.even_edge, Spacings.step_is, Runs.run_here, Runs.IsInRun, EdgeNumbers.in_rows}
 use Rattle.written_laws.proofs.Grid.{wide_some, high_some}
-use Rattle.plan_laws.proofs.Bounds.{side_few, vertices_few}
+use Rattle.embedding_laws.proofs.Bounds.{side_few, vertices_few}
 use Rattle.qm_offsets.proofs.{Spots.term_room, Whole.laid_of, Whole.lengths_of}
 use Rattle.qm_place.proofs.Rims.{old_few, old_short}
 use Rattle.qm_place.specs.Spots.{grid_point, HasEnds, IsAlong, IsInside, IsShort, IsSmall}
 use Rattle.qm_place.specs.Placed.{ArePlaced, IsSized}
 
-module _ (plan : Plan) (shares : Option (List ℕ)) (new : Lengths) where
+module _ (layout : Layout) (shares : Option (List ℕ)) (new : Lengths) where
   -- Where a number of a vertex leads.
-  pub on_arc : {place arc : ℕ} → place < before_arc new (length plan.arcs)
-      → arc ≡ run_at (before_arc new) (length plan.arcs) place → IsAlong plan new arc place
-  on_arc {place} low same = subst (λ a. IsAlong plan new a place) (sym same) (record {
+  pub on_arc : {place arc : ℕ} → place < before_arc new (length layout.arcs)
+      → arc ≡ run_at (before_arc new) (length layout.arcs) place → IsAlong layout new arc place
+  on_arc {place} low same = subst (λ a. IsAlong layout new a place) (sym same) (record {
     low = here.low;
     from = omega (arith, here.place);
     upto = omega (arith, here.inside);
   })
     where
-      here : IsInRun (λ b. new b - 1) (length plan.arcs) place (run_at (before_arc new) (length plan.arcs) place)
-          (place - before_arc new (run_at (before_arc new) (length plan.arcs) place))
-      here = run_here (λ b. new b - 1) (length plan.arcs) place low
+      here : IsInRun (λ b. new b - 1) (length layout.arcs) place (run_at (before_arc new) (length layout.arcs) place)
+          (place - before_arc new (run_at (before_arc new) (length layout.arcs) place))
+      here = run_here (λ b. new b - 1) (length layout.arcs) place low
 
-  pub in_patch : {place patch : ℕ} → place < before_patch (layout_of plan) new (length plan.patches)
-      → patch ≡ run_at (before_patch (layout_of plan) new) (length plan.patches) place → IsInside plan new patch place
+  pub in_patch : {place patch : ℕ} → place < before_patch (gluing_of layout) new (length layout.patches)
+      → patch ≡ run_at (before_patch (gluing_of layout) new) (length layout.patches) place
+      → IsInside layout new patch place
   in_patch {place} low same =
-      subst (λ p. IsInside plan new p place) (sym same)
-      (by_run _ _ (run_here (λ q. (wide (layout_of plan) new q - 1) * (high (layout_of plan) new q - 1))
-      (length plan.patches) place low))
+      subst (λ p. IsInside layout new p place) (sym same)
+      (by_run _ _ (run_here (λ q. (wide (gluing_of layout) new q - 1) * (high (gluing_of layout) new q - 1))
+      (length layout.patches) place low))
     where
-      by_run : (p o : ℕ) → IsInRun (λ q. (wide (layout_of plan) new q - 1) * (high (layout_of plan) new q - 1))
-          (length plan.patches) place p o → IsInside plan new p place
+      by_run : (p o : ℕ) → IsInRun (λ q. (wide (gluing_of layout) new q - 1) * (high (gluing_of layout) new q - 1))
+          (length layout.patches) place p o → IsInside layout new p place
       by_run p o here =
-          let offset : place - before_patch (layout_of plan) new p ≡ o = omega (arith, here.place) in
-          let less : o < (high (layout_of plan) new p - 1) * (wide (layout_of plan) new p - 1) = subst (λ n. o < n)
-          (mul_comm (wide (layout_of plan) new p - 1) (high (layout_of plan) new p - 1)) here.inside in
-          let rows = in_rows (wide (layout_of plan) new p - 1) (high (layout_of plan) new p - 1) o less in
+          let offset : place - before_patch (gluing_of layout) new p ≡ o = omega (arith, here.place) in
+          let less : o < (high (gluing_of layout) new p - 1) * (wide (gluing_of layout) new p - 1) = subst (λ n. o < n)
+          (mul_comm (wide (gluing_of layout) new p - 1) (high (gluing_of layout) new p - 1)) here.inside in
+          let rows = in_rows (wide (gluing_of layout) new p - 1) (high (gluing_of layout) new p - 1) o less in
           record {
             low = here.low;
             from = omega (arith, here.place);
-            column = omega (arith, ap (λ k. k % (wide (layout_of plan) new p - 1)) offset, rows.0);
-            row = omega (arith, ap (λ k. k / (wide (layout_of plan) new p - 1)) offset, rows.1);
+            column = omega (arith, ap (λ k. k % (wide (gluing_of layout) new p - 1)) offset, rows.0);
+            row = omega (arith, ap (λ k. k / (wide (gluing_of layout) new p - 1)) offset, rows.1);
             some = omega (arith, rows.0);
           }
 
   -- A node, by its number.
-  pub found_at : {v u : ℕ} → v < length plan.nodes → u ≡ vertex_at plan v → AtVertex u ≡ spot_at plan shares new v
-  found_at {v} low same = ap AtVertex same ∙ ap (spot_of plan new (spacing_by plan shares new))
-      (sym (at_node (layout_of plan) new v low))
+  pub found_at : {v u : ℕ} → v < length layout.nodes → u ≡ vertex_at layout v → AtVertex u ≡ spot_at layout shares new v
+  found_at {v} low same = ap AtVertex same ∙ ap (spot_of layout new (spacing_by layout shares new))
+      (sym (at_node (gluing_of layout) new v low))
 
   -- A vertex on an arc.
-  pub found_on : {v place arc : ℕ} {spot : EdgeSpot} → length plan.nodes ≤ v → place ≡ v - length plan.nodes
-      → place < before_arc new (length plan.arcs) → arc ≡ run_at (before_arc new) (length plan.arcs) place
-      → spot ≡ edge_spot plan (spacing_by plan shares new) arc (place - before_arc new arc + 1)
-      → OnEdge spot ≡ spot_at plan shares new v
+  pub found_on : {v place arc : ℕ} {spot : EdgeSpot} → length layout.nodes ≤ v → place ≡ v - length layout.nodes
+      → place < before_arc new (length layout.arcs) → arc ≡ run_at (before_arc new) (length layout.arcs) place
+      → spot ≡ edge_spot layout (spacing_by layout shares new) arc (place - before_arc new arc + 1)
+      → OnEdge spot ≡ spot_at layout shares new v
   found_on {v} {place} from place_is low same spot_is =
       ap OnEdge spot_is
-      ∙ (λ t. spot_of plan new (spacing_by plan shares new) (along (same t) (place - before_arc new (same t) + 1)))
-      ∙ ap (λ k. spot_of plan new (spacing_by plan shares new) (along_arcs (layout_of plan) new k)) place_is
-      ∙ ap (spot_of plan new (spacing_by plan shares new))
-      (sym (at_arc (layout_of plan) new v from (omega (arith, from, low, place_is))))
+      ∙ (λ t. spot_of layout new (spacing_by layout shares new) (along (same t) (place - before_arc new (same t) + 1)))
+      ∙ ap (λ k. spot_of layout new (spacing_by layout shares new) (along_arcs (gluing_of layout) new k)) place_is
+      ∙ ap (spot_of layout new (spacing_by layout shares new))
+      (sym (at_arc (gluing_of layout) new v from (omega (arith, from, low, place_is))))
 
   -- A vertex inside a patch.
-  pub found_in : {v place patch : ℕ} {spot : FaceSpot} → length plan.nodes + before_arc new (length plan.arcs) ≤ v
-      → place ≡ v - (length plan.nodes + before_arc new (length plan.arcs))
-      → patch ≡ run_at (before_patch (layout_of plan) new) (length plan.patches) place
-      → spot ≡ face_spot plan new (spacing_by plan shares new) patch
-      ((place - before_patch (layout_of plan) new patch) % (wide (layout_of plan) new patch - 1) + 1)
-      ((place - before_patch (layout_of plan) new patch) / (wide (layout_of plan) new patch - 1) + 1)
-      → InFace spot ≡ spot_at plan shares new v
+  pub found_in : {v place patch : ℕ} {spot : FaceSpot} → length layout.nodes + before_arc new (length layout.arcs) ≤ v
+      → place ≡ v - (length layout.nodes + before_arc new (length layout.arcs))
+      → patch ≡ run_at (before_patch (gluing_of layout) new) (length layout.patches) place
+      → spot ≡ face_spot layout new (spacing_by layout shares new) patch
+      ((place - before_patch (gluing_of layout) new patch) % (wide (gluing_of layout) new patch - 1) + 1)
+      ((place - before_patch (gluing_of layout) new patch) / (wide (gluing_of layout) new patch - 1) + 1)
+      → InFace spot ≡ spot_at layout shares new v
   found_in {v} {place} from place_is same spot_is =
-      ap InFace spot_is ∙ (λ t. spot_of plan new (spacing_by plan shares new) (inside (same t)
-      ((place - before_patch (layout_of plan) new (same t)) % (wide (layout_of plan) new (same t) - 1) + 1)
-      ((place - before_patch (layout_of plan) new (same t)) / (wide (layout_of plan) new (same t) - 1) + 1)))
-      ∙ ap (λ k. spot_of plan new (spacing_by plan shares new) (inside_patches (layout_of plan) new k)) place_is
-      ∙ ap (spot_of plan new (spacing_by plan shares new)) (sym (at_patch (layout_of plan) new v from))
+      ap InFace spot_is ∙ (λ t. spot_of layout new (spacing_by layout shares new) (inside (same t)
+      ((place - before_patch (gluing_of layout) new (same t)) % (wide (gluing_of layout) new (same t) - 1) + 1)
+      ((place - before_patch (gluing_of layout) new (same t)) / (wide (gluing_of layout) new (same t) - 1) + 1)))
+      ∙ ap (λ k. spot_of layout new (spacing_by layout shares new) (inside_patches (gluing_of layout) new k)) place_is
+      ∙ ap (spot_of layout new (spacing_by layout shares new)) (sym (at_patch (gluing_of layout) new v from))
 
 -- Edges are divided in few parts.
-pub short_step : {plan : Plan} (shares : Option (List ℕ)) {new : Lengths} → IsSomeLayout plan
-    → AreLengths (layout_of plan) new → ((arc : ℕ) → arc < length plan.arcs → new arc ≤ 2 ^ 24)
-    → {arc k : ℕ} → arc < length plan.arcs → k < new arc → ((spacing_by plan shares new).step arc k).parts ≤ ONE
+pub short_step : {layout : Layout} (shares : Option (List ℕ)) {new : Lengths} → IsSomeLayout layout
+    → AreLengths (gluing_of layout) new → ((arc : ℕ) → arc < length layout.arcs → new arc ≤ 2 ^ 24)
+    → {arc k : ℕ} → arc < length layout.arcs → k < new arc → ((spacing_by layout shares new).step arc k).parts ≤ ONE
 short_step None is len short {arc} {k} low less = omega (arith, short arc low)
-short_step {plan} (Some shares) {new} is len short {arc} {k} low less =
+short_step {layout} (Some shares) {new} is len short {arc} {k} low less =
     omega (
       arith,
-      (step_is (layout_of plan) (long_at plan.arcs) new (shares_along plan shares) (lengths_of plan is) len
+      (step_is (gluing_of layout) (long_at layout.arcs) new (shares_along layout shares) (lengths_of layout is) len
           arc k low less).parts,
     )
 
-pub short_spot : {plan : Plan} (shares : Option (List ℕ)) {new : Lengths} → IsSomeLayout plan
-    → AreLengths (layout_of plan) new → ((arc : ℕ) → arc < length plan.arcs → new arc ≤ 2 ^ 24) → {v : ℕ}
-    → v < vertices (layout_of plan) new → IsShort (spot_at plan shares new v)
-short_spot {plan} shares {new} is len short {v} low =
-    by_point (point_at (layout_of plan) new v) (is_point (layout_of plan) new v low)
+pub short_spot : {layout : Layout} (shares : Option (List ℕ)) {new : Lengths} → IsSomeLayout layout
+    → AreLengths (gluing_of layout) new → ((arc : ℕ) → arc < length layout.arcs → new arc ≤ 2 ^ 24) → {v : ℕ}
+    → v < vertices (gluing_of layout) new → IsShort (spot_at layout shares new v)
+short_spot {layout} shares {new} is len short {v} low =
+    by_point (point_at (gluing_of layout) new v) (is_point (gluing_of layout) new v low)
   where
-    by_point : (a : Point) → IsPoint (layout_of plan) new a → IsShort (spot_of plan new (spacing_by plan shares new) a)
+    by_point : (a : Point) → IsPoint (gluing_of layout) new a
+        → IsShort (spot_of layout new (spacing_by layout shares new) a)
     by_point (node n) is_a = tt
     by_point (along arc k) is_a = short_step shares is len short is_a.0 is_a.2
     by_point (inside p i j) is_a = tt
 
-module _ (faces : Faces) (plan : Plan) (tables : PlaceTables) (are : ArePlaces faces plan tables) where
-  abbrev l : Layout
-  l = layout_of plan
+module _ (faces : Faces) (layout : Layout) (tables : PlaceTables) (are : ArePlaces faces layout tables) where
+  abbrev l : Gluing
+  l = gluing_of layout
 
   abbrev old : Lengths
-  old = long_at plan.arcs
+  old = long_at layout.arcs
 
   abbrev new : Lengths
   new = lengths_in tables.lengths.items
 
   abbrev spacing : ArcSpacing
-  spacing = spacing_in plan tables
+  spacing = spacing_in layout tables
 
-  abbrev is : IsSomeLayout plan
-  is = are.layout.0
+  abbrev is : IsSomeLayout layout
+  is = are.laid_out.0
 
   -- All numbers are small.
-  few_points : vertices (layout_of plan) (lengths_in tables.lengths.items) ≤ 2 ^ 23
-  few_points = omega (arith, vertices_few l new (laid_of plan is) are.lengths, are.few)
+  few_points : vertices (gluing_of layout) (lengths_in tables.lengths.items) ≤ 2 ^ 23
+  few_points = omega (arith, vertices_few l new (laid_of layout is) are.lengths, are.few)
 
   -- Lengths are short.
-  new_short : (arc : ℕ) → arc < length plan.arcs → lengths_in tables.lengths.items arc ≤ 2 ^ 24
-  new_short arc low = omega (arith, term_room (λ b. new b - 1) (length plan.arcs) arc low, few_points)
+  new_short : (arc : ℕ) → arc < length layout.arcs → lengths_in tables.lengths.items arc ≤ 2 ^ 24
+  new_short arc low = omega (arith, term_room (λ b. new b - 1) (length layout.arcs) arc low, few_points)
 
-  spaced : IsSpacing (layout_of plan) (long_at plan.arcs) (lengths_in tables.lengths.items) (spacing_in plan tables)
-  spaced = spacing_is plan is new are.lengths are.few (shares_in tables.spaced)
+  spaced : IsSpacing (gluing_of layout) (long_at layout.arcs) (lengths_in tables.lengths.items)
+      (spacing_in layout tables)
+  spaced = spacing_is layout is new are.lengths are.few (shares_in tables.spaced)
 
-  patch_narrow : (p : ℕ) → p < length plan.patches → wide (layout_of plan) (lengths_in tables.lengths.items) p ≤ 2 ^ 21
-  patch_narrow p low = omega (arith, side_few l new (laid_of plan is) are.lengths p south low, are.few)
+  patch_narrow : (p : ℕ) → p < length layout.patches
+      → wide (gluing_of layout) (lengths_in tables.lengths.items) p ≤ 2 ^ 21
+  patch_narrow p low = omega (arith, side_few l new (laid_of layout is) are.lengths p south low, are.few)
 
-  patch_short : (p : ℕ) → p < length plan.patches → high (layout_of plan) (lengths_in tables.lengths.items) p ≤ 2 ^ 21
-  patch_short p low = omega (arith, side_few l new (laid_of plan is) are.lengths p west low, are.few)
+  patch_short : (p : ℕ) → p < length layout.patches
+      → high (gluing_of layout) (lengths_in tables.lengths.items) p ≤ 2 ^ 21
+  patch_short p low = omega (arith, side_few l new (laid_of layout is) are.lengths p west low, are.few)
 
   -- What is read of the tables.
-  sized : (p : ℕ) → p < length plan.patches → IsSized plan p
+  sized : (p : ℕ) → p < length layout.patches → IsSized layout p
   sized p low = record {
     width = sym (is.laid.sizes p south low);
     height = sym (is.laid.sizes p west low);
-    some = wide_some l old (laid_of plan is).paved (lengths_of plan is) p low;
-    tall = high_some l old (laid_of plan is).paved (lengths_of plan is) p low;
+    some = wide_some l old (laid_of layout is).paved (lengths_of layout is) p low;
+    tall = high_some l old (laid_of layout is).paved (lengths_of layout is) p low;
     few_columns = old_few is south low;
     few_rows = old_few is west low;
     cells = is.laid.patches.sized p low;
   }
 
   -- What stands in no table.
-  ends_of : (p : ℕ) → p < length plan.patches → HasEnds plan new spacing p
+  ends_of : (p : ℕ) → p < length layout.patches → HasEnds layout new spacing p
   ends_of p low = record {
-    south = ahead_end l old new spacing (laid_of plan is) (lengths_of plan is) are.lengths spaced p south low;
+    south = ahead_end l old new spacing (laid_of layout is) (lengths_of layout is) are.lengths spaced p south low;
     east = ap (parameter l old new spacing p east) (sym (are.lengths.upright p low))
-        ∙ ahead_end l old new spacing (laid_of plan is) (lengths_of plan is) are.lengths spaced p east low
-        ∙ omega (arith, (lengths_of plan is).upright p low);
+        ∙ ahead_end l old new spacing (laid_of layout is) (lengths_of layout is) are.lengths spaced p east low
+        ∙ omega (arith, (lengths_of layout is).upright p low);
     north = ap (parameter_back l old new spacing p north) (sym (are.lengths.across p low))
-        ∙ back_end l old new spacing (laid_of plan is) (lengths_of plan is) are.lengths spaced p north low;
-    west = back_end l old new spacing (laid_of plan is) (lengths_of plan is) are.lengths spaced p west low;
+        ∙ back_end l old new spacing (laid_of layout is) (lengths_of layout is) are.lengths spaced p north low;
+    west = back_end l old new spacing (laid_of layout is) (lengths_of layout is) are.lengths spaced p west low;
   }
 
-  small_of : (p i j : ℕ) → p < length plan.patches → i ≤ wide l new p → j ≤ high l new p
-      → IsSmall (grid_point plan new spacing p i j)
+  small_of : (p i j : ℕ) → p < length layout.patches → i ≤ wide l new p → j ≤ high l new p
+      → IsSmall (grid_point layout new spacing p i j)
   small_of p i j low i_le j_le = (
     omega (
       arith,
-      u_upto l old new spacing (laid_of plan is) (lengths_of plan is) are.lengths spaced p i j low i_le j_le,
+      u_upto l old new spacing (laid_of layout is) (lengths_of layout is) are.lengths spaced p i j low i_le j_le,
       old_few is south low,
     ),
     omega (
       arith,
-      v_upto l old new spacing (laid_of plan is) (lengths_of plan is) are.lengths spaced p i j low i_le j_le,
+      v_upto l old new spacing (laid_of layout is) (lengths_of layout is) are.lengths spaced p i j low i_le j_le,
       old_few is west low,
     ),
   )
 
-  pub placed_of : ArePlaced plan tables
+  pub placed_of : ArePlaced layout tables
   placed_of = record {
-    arcs = old_short plan is;
-    darts = even_edge l old new (lengths_of plan is) are.lengths;
+    arcs = old_short layout is;
+    darts = even_edge l old new (lengths_of layout is) are.lengths;
     patches = sized;
     long = are.long;
     lengths = are.lengths;

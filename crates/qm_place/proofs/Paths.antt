@@ -7,7 +7,7 @@ use Rattle.std.proofs.lemmas.Nat.{mul-le}
 use Rattle.def_math.specs.{Counts.count_below, Runs.run_at}
 use Rattle.def_written.specs.Spacings.{counted, edge_begin, inner_step, shared_step, step_parameter}
 use Rattle.def_written.specs.Places.{ONE}
-use Rattle.def_layout.specs.{Arcs.long_at, Arcs.path_at, Lengths.Lengths, Plans.Plan}
+use Rattle.def_layout.specs.{Arcs.long_at, Arcs.path_at, Lengths.Lengths, Layouts.Layout}
 use Rattle.def_remesh.specs.Spaced.{shares_along}
 use Rattle.written_laws.proofs.{Runs.count_rises, Runs.run_to, Spacings.div_less}
 use Rattle.qm_place.specs.Paths.{share_by}
@@ -80,16 +80,16 @@ module _ (share : ℕ → ℕ) (m n k : ℕ) (all : ℕ) (whole : all ≡ count_
       (omega (arith, rest_low from same))
 
 -- The parameter of an inner point of an arc of a layout is that of the path of its darts.
-pub arc_parameter : (plan : Plan) (new : Lengths) (shares : List ℕ) (arc : ℕ) {k : ℕ} {darts : List ℕ}
-    → darts ≡ (path_at plan.arcs arc).darts → 0 < k → k < new arc
+pub arc_parameter : (layout : Layout) (new : Lengths) (shares : List ℕ) (arc : ℕ) {k : ℕ} {darts : List ℕ}
+    → darts ≡ (path_at layout.arcs arc).darts → 0 < k → k < new arc
     → step_parameter (inner_step (counted (share_by darts shares false) (length darts)) (length darts) (new arc)
-    (k - 1 + 1)) ≡ step_parameter (shared_step (long_at plan.arcs) new (shares_along plan shares) arc k)
-arc_parameter plan new shares arc {k} same some less =
+    (k - 1 + 1)) ≡ step_parameter (shared_step (long_at layout.arcs) new (shares_along layout shares) arc k)
+arc_parameter layout new shares arc {k} same some less =
     let place : k - 1 + 1 ≡ k = omega (arith, some) in
     (λ i. step_parameter (inner_step (counted (share_by (same i) shares false) (length (same i))) (length (same i))
     (new arc) (place i))) ∙ ap step_parameter (sym inside)
   where
-    inside : shared_step (long_at plan.arcs) new (shares_along plan shares) arc k ≡ inner_step
-        (counted (shares_along plan shares arc) (long_at plan.arcs arc)) (long_at plan.arcs arc) (new arc) k
+    inside : shared_step (long_at layout.arcs) new (shares_along layout shares) arc k ≡ inner_step
+        (counted (shares_along layout shares arc) (long_at layout.arcs arc)) (long_at layout.arcs arc) (new arc) k
     inside = cond-false (k == 0) (edge_begin 0) _ (ne_eqb k 0 (λ e. omega (arith, e, some))) ∙ cond-false (k == new arc)
-        (edge_begin (long_at plan.arcs arc)) _ (ne_eqb k (new arc) (λ e. omega (arith, e, less)))
+        (edge_begin (long_at layout.arcs arc)) _ (ne_eqb k (new arc) (λ e. omega (arith, e, less)))

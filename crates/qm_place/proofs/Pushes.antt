@@ -6,8 +6,9 @@ use Rattle.std.proofs.lemmas.List.{get_or_append_left, get_or_push}
 use Rattle.std.proofs.lemmas.Nat.{mul-le}
 use Rattle.std.proofs.Math.Nat.{mul_comm}
 use Rattle.std.specs.Prelude.{slice_index}
-use Rattle.def_layout.specs.Layouts.{Way, south, east, north, west, Layout, IsSlot}
-use Rattle.def_layout.specs.{Lengths.Lengths, Lengths.reach, Lengths.size, Plans.Plan, Plans.layout_of, Plans.plan}
+use Rattle.def_layout.specs.Gluings.{Way, south, east, north, west, Gluing, IsSlot}
+use Rattle.def_layout.specs.{Lengths.Lengths, Lengths.reach, Lengths.size, Layouts.Layout, Layouts.gluing_of}
+use Rattle.def_layout.specs.{Layouts.layout_of}
 use Rattle.def_layout.specs.{Arcs.long_at, declared.tmesh.SideArc.SideArc}
 use Rattle.def_written.specs.{Places.ONE, Places.parameter, Places.parameter_back, Places.ArcSpacing, Points.use_over}
 use Rattle.def_remesh.specs.Placings.{side_parameter, AreParameters}
@@ -58,19 +59,20 @@ part_most {k} old {new} le some = div_most (ONE * k * old) (ONE * old) new some 
         subst (λ z. i * m ≤ z) (mul_comm n m) (mul-le i m n m less (omega arith)) in omega (arith, e)
 
 -- Parameters that were put behind others, and stay there.
-pub parameters_in : (plan : Plan) (new : Lengths) (spacing : ArcSpacing) (p : ℕ) (s : Way) {begin : ℕ} {a : List ℕ}
+pub parameters_in : (layout : Layout) (new : Lengths) (spacing : ArcSpacing) (p : ℕ) (s : Way) {begin : ℕ} {a : List ℕ}
     {b c : List ℕ}
-    → begin ≡ length a → ArePushed a b (size (layout_of plan) new p s) (side_parameter plan new spacing p s)
-    → IsKept b c → AreParameters plan new spacing p s begin c
-parameters_in plan new spacing p s {begin} {a} {c} here p_ed kept = record {
+    → begin ≡ length a → ArePushed a b (size (gluing_of layout) new p s) (side_parameter layout new spacing p s)
+    → IsKept b c → AreParameters layout new spacing p s begin c
+parameters_in layout new spacing p s {begin} {a} {c} here p_ed kept = record {
   room = omega (arith, here, p_ed.long, kept.long);
   each = λ k low.
       let place : begin + k ≡ length a + k = omega (arith, here) in
       ap (slice_index c) place ∙ kept.kept (length a + k) (omega (arith, low, p_ed.long)) ∙ p_ed.each k low;
 }
 
-pub parameters_kept : {plan : Plan} {new : Lengths} {spacing : ArcSpacing} {p : ℕ} {s : Way} {begin : ℕ} {a b : List ℕ}
-    → IsKept a b → AreParameters plan new spacing p s begin a → AreParameters plan new spacing p s begin b
+pub parameters_kept : {layout : Layout} {new : Lengths} {spacing : ArcSpacing} {p : ℕ} {s : Way} {begin : ℕ}
+    {a b : List ℕ}
+    → IsKept a b → AreParameters layout new spacing p s begin a → AreParameters layout new spacing p s begin b
 parameters_kept {begin} kept are = record {
   room = omega (arith, are.room, kept.long);
   each = λ k low. kept.kept (begin + k) (omega (arith, low, are.room)) ∙ are.each k low;
@@ -83,7 +85,7 @@ is_back east = false
 is_back north = true
 is_back west = true
 
-module _ (l : Layout) (old new : Lengths) (spacing : ArcSpacing) (p i : ℕ) (s : Way) (is : IsSlot l (slot p s i))
+module _ (l : Gluing) (old new : Lengths) (spacing : ArcSpacing) (p i : ℕ) (s : Way) (is : IsSlot l (slot p s i))
     (o : ℕ)
     (low : o < new (l.use_at p s i).arc) where
   over : use_over l new p s (reach l new p s i + o) ≡ i
@@ -124,20 +126,20 @@ module _ (l : Layout) (old new : Lengths) (spacing : ArcSpacing) (p i : ℕ) (s 
   against_slot e = ap (λ n. on_arc spacing n (new used.arc) used true o) e ∙ sym behind
 
 -- Where the parameters of the arc at a slot begin: so much of the side lies before the arc, counted from the same end.
-abbrev pub start_by : (l : Layout) (old : Lengths) (p i : ℕ) (s : Way) → ℕ
+abbrev pub start_by : (l : Gluing) (old : Lengths) (p i : ℕ) (s : Way) → ℕ
 start_by l old p i s = cond (is_back s) (size l old p s - reach l old p s i - old (l.use_at p s i).arc)
     (reach l old p s i)
 
-module _ (plan : Plan) (new : Lengths) (spacing : ArcSpacing) (p i : ℕ) where
-  abbrev l : Layout
-  l = layout_of plan
+module _ (layout : Layout) (new : Lengths) (spacing : ArcSpacing) (p i : ℕ) where
+  abbrev l : Gluing
+  l = gluing_of layout
 
   abbrev old : Lengths
-  old = long_at plan.arcs
+  old = long_at layout.arcs
 
   pub slot_parameter : (s : Way) → IsSlot l (slot p s i) → {o start : ℕ} → o < new (l.use_at p s i).arc
       → start ≡ start_by l old p i s → on_arc spacing start (new (l.use_at p s i).arc) (l.use_at p s i) (is_back s) o
-      ≡ side_parameter plan new spacing p s (reach l new p s i + o)
+      ≡ side_parameter layout new spacing p s (reach l new p s i + o)
   slot_parameter south is {o} {start} low e = along_slot l old new spacing p i south is o low e
   slot_parameter east is {o} {start} low e = along_slot l old new spacing p i east is o low e
   slot_parameter north is {o} {start} low e = against_slot l old new spacing p i north is o low e

@@ -4,15 +4,15 @@ use Rattle.std.proofs.Common.{sym, ◌∙◌, ap, arith}
 use Rattle.std.proofs.lemmas.List.{get_or_default, get_or-map, length-map}
 use Rattle.std.specs.Prelude.{nat_le}
 use Rattle.def_cut.specs.Grids.{rectangle}
-use Rattle.def_layout.specs.Layouts.{Way, south, east, north, west, Slot, IsSlot, use_of}
-use Rattle.def_layout.specs.Plans.{Plan, layout_of, way_number, plan, side_at}
+use Rattle.def_layout.specs.Gluings.{Way, south, east, north, west, Slot, IsSlot, use_of}
+use Rattle.def_layout.specs.Layouts.{Layout, gluing_of, way_number, layout_of, side_at}
 use Rattle.def_layout.specs.{Arcs.Path, Arcs.long_at, Arcs.path, Lengths.Lengths, Lengths.reach, Lengths.size}
 use Rattle.def_layout.specs.{declared.tmesh.SideArc.SideArc, declared.tmesh.TArc.TArc, declared.tmesh.TMesh.TMesh}
 use Rattle.def_layoutnet.specs.MeshLayouts.{IsSomeLayout}
 use Rattle.def_written.specs.Places.{ArcSpacing}
 use Rattle.def_remesh.specs.Placings.{parameters_from, side_parameter, AreParameters, IsRim}
 use Rattle.def_remesh.specs.{NewPoints.lengths_in, declared.places.Rim.Rim}
-use Rattle.plan_laws.proofs.Bounds.{old_faces, side_few}
+use Rattle.embedding_laws.proofs.Bounds.{old_faces, side_few}
 use Rattle.qm_offsets.proofs.{Spots.count_step, Whole.laid_of, Whole.lengths_of}
 use Rattle.written_laws.proofs.Sides.{reach_low, slot}
 use Rattle.qm_place.specs.{Pushed.on_arc, Pushed.ArePushed, Pushed.IsKept, ArcTables.AreFine}
@@ -20,58 +20,64 @@ use Rattle.qm_place.proofs.Pushes.{is_back, kept_on, parameters_in, parameters_k
 use Rattle.qm_place.proofs.Pushes.{slot_parameter, start_by}
 
 -- Sides are short.
-pub old_few : {plan : Plan} → IsSomeLayout plan → {p : ℕ} (s : Way) → p < length plan.patches
-    → size (layout_of plan) (long_at plan.arcs) p s ≤ 2 ^ 21
-old_few {plan} is {p} s low =
+pub old_few : {layout : Layout} → IsSomeLayout layout → {p : ℕ} (s : Way) → p < length layout.patches
+    → size (gluing_of layout) (long_at layout.arcs) p s ≤ 2 ^ 21
+old_few {layout} is {p} s low =
     omega (
       arith,
-      side_few (layout_of plan) (long_at plan.arcs) (laid_of plan is) (lengths_of plan is) p s low,
-      old_faces plan is,
+      side_few (gluing_of layout) (long_at layout.arcs) (laid_of layout is) (lengths_of layout is) p s low,
+      old_faces layout is,
     )
 
-pub new_few : {plan : Plan} {list : List ℕ} → AreFine plan list → {p : ℕ} (s : Way) → p < length plan.patches
-    → size (layout_of plan) (lengths_in list) p s ≤ 2 ^ 21
-new_few {plan} {list} fine {p} s low =
-    omega (arith, side_few (layout_of plan) (lengths_in list) (laid_of plan fine.mesh) fine.lengths p s low, fine.few)
+pub new_few : {layout : Layout} {list : List ℕ} → AreFine layout list → {p : ℕ} (s : Way) → p < length layout.patches
+    → size (gluing_of layout) (lengths_in list) p s ≤ 2 ^ 21
+new_few {layout} {list} fine {p} s low =
+    omega (
+      arith,
+      side_few (gluing_of layout) (lengths_in list) (laid_of layout fine.mesh) fine.lengths p s low,
+      fine.few,
+    )
 
 -- Arcs are short.
-pub old_short : (plan : Plan) → IsSomeLayout plan → (arc : ℕ) → arc < length plan.arcs → long_at plan.arcs arc ≤ 2 ^ 21
-old_short plan is arc low = by_slot ((laid_of plan is).forward arc low)
+pub old_short : (layout : Layout) → IsSomeLayout layout → (arc : ℕ) → arc < length layout.arcs
+    → long_at layout.arcs arc ≤ 2 ^ 21
+old_short layout is arc low = by_slot ((laid_of layout is).forward arc low)
   where
-    by_slot : (w : Slot) × IsSlot (layout_of plan) w
-        × (use_of (layout_of plan) w ≡ record { arc = arc; forward = true }) → long_at plan.arcs arc ≤ 2 ^ 21
+    by_slot : (w : Slot) × IsSlot (gluing_of layout) w
+        × (use_of (gluing_of layout) w ≡ record { arc = arc; forward = true }) → long_at layout.arcs arc ≤ 2 ^ 21
     by_slot f =
         omega (
           arith,
-          reach_low (layout_of plan) (long_at plan.arcs) f.0 f.1,
+          reach_low (gluing_of layout) (long_at layout.arcs) f.0 f.1,
           old_few is f.0.side f.1.patch_low,
-          ap (λ (u : SideArc). long_at plan.arcs u.arc) f.2,
+          ap (λ (u : SideArc). long_at layout.arcs u.arc) f.2,
         )
 
 -- What is read of an arc.
 pub old_read : (t : TMesh) {a : ℕ} {arc : TArc} → a < length t.arcs.items → arc ≡ get_or t.arcs.items a arc
-    → length arc.darts.items ≡ long_at (plan t).arcs a
+    → length arc.darts.items ≡ long_at (layout_of t).arcs a
 old_read t {a} {arc} low same =
     ap (λ (z : TArc). length z.darts.items) same ∙ sym (ap (λ (q : Path). length q.darts)
     (get_or-map path t.arcs.items a arc (record { first = 0; last = 0; darts = [] }) low))
 
 -- The arc at a place of a side, as it is read.
 pub record IsRead (t : TMesh) (list : List ℕ) (p i : ℕ) (s : Way) (used : SideArc) : Type 0 where
-  pub is_slot : IsSlot (layout_of (plan t)) (slot p s i)
+  pub is_slot : IsSlot (gluing_of (layout_of t)) (slot p s i)
   pub arc_low : used.arc < length t.arcs.items
   pub listed : used.arc < length list
-  pub same : used ≡ (layout_of (plan t)).use_at p s i
-  pub old_upto : reach (layout_of (plan t)) (long_at (plan t).arcs) p s i + long_at (plan t).arcs used.arc
-      ≤ size (layout_of (plan t)) (long_at (plan t).arcs) p s
-  pub old_short : size (layout_of (plan t)) (long_at (plan t).arcs) p s ≤ 2 ^ 21
-  pub old_next : reach (layout_of (plan t)) (long_at (plan t).arcs) p s (i + 1)
-      ≡ reach (layout_of (plan t)) (long_at (plan t).arcs) p s i + long_at (plan t).arcs used.arc
-  pub new_next : reach (layout_of (plan t)) (lengths_in list) p s (i + 1)
-      ≡ reach (layout_of (plan t)) (lengths_in list) p s i + lengths_in list used.arc
+  pub same : used ≡ (gluing_of (layout_of t)).use_at p s i
+  pub old_upto : reach (gluing_of (layout_of t)) (long_at (layout_of t).arcs) p s i + long_at (layout_of t).arcs
+      used.arc
+      ≤ size (gluing_of (layout_of t)) (long_at (layout_of t).arcs) p s
+  pub old_short : size (gluing_of (layout_of t)) (long_at (layout_of t).arcs) p s ≤ 2 ^ 21
+  pub old_next : reach (gluing_of (layout_of t)) (long_at (layout_of t).arcs) p s (i + 1)
+      ≡ reach (gluing_of (layout_of t)) (long_at (layout_of t).arcs) p s i + long_at (layout_of t).arcs used.arc
+  pub new_next : reach (gluing_of (layout_of t)) (lengths_in list) p s (i + 1)
+      ≡ reach (gluing_of (layout_of t)) (lengths_in list) p s i + lengths_in list used.arc
 
-pub read : (t : TMesh) {list : List ℕ} {p i side : ℕ} {s : Way} {us : List SideArc} → AreFine (plan t) list
+pub read : (t : TMesh) {list : List ℕ} {p i side : ℕ} {s : Way} {us : List SideArc} → AreFine (layout_of t) list
     → p < length t.patches.items
-    → us ≡ get_or (get_or (plan t).sides p []) side [] → i < length us → way_number s ≡ side
+    → us ≡ get_or (get_or (layout_of t).sides p []) side [] → i < length us → way_number s ≡ side
     → IsRead t list p i s (get_or us i (record { arc = 0; forward = false }))
 read t {list} {p} {i} {side} {s} {us} fine low us_is i_low way = record {
   is_slot = is_slot;
@@ -80,34 +86,35 @@ read t {list} {p} {i} {side} {s} {us} fine low us_is i_low way = record {
   same = used_is;
   old_upto = omega (
     arith,
-    reach_low (layout_of (plan t)) (long_at (plan t).arcs) (slot p s i) is_slot,
-    ap (long_at (plan t).arcs) arc,
+    reach_low (gluing_of (layout_of t)) (long_at (layout_of t).arcs) (slot p s i) is_slot,
+    ap (long_at (layout_of t).arcs) arc,
   );
   old_short = old_few fine.mesh s p_low;
-  old_next = count_step (λ k. long_at (plan t).arcs ((layout_of (plan t)).use_at p s k).arc) i
-      ∙ ap (λ a. reach (layout_of (plan t)) (long_at (plan t).arcs) p s i + long_at (plan t).arcs a) (sym arc);
-  new_next = count_step (λ k. lengths_in list ((layout_of (plan t)).use_at p s k).arc) i
-      ∙ ap (λ a. reach (layout_of (plan t)) (lengths_in list) p s i + lengths_in list a) (sym arc);
+  old_next = count_step (λ k. long_at (layout_of t).arcs ((gluing_of (layout_of t)).use_at p s k).arc) i
+      ∙ ap (λ a. reach (gluing_of (layout_of t)) (long_at (layout_of t).arcs) p s i + long_at (layout_of t).arcs a)
+      (sym arc);
+  new_next = count_step (λ k. lengths_in list ((gluing_of (layout_of t)).use_at p s k).arc) i
+      ∙ ap (λ a. reach (gluing_of (layout_of t)) (lengths_in list) p s i + lengths_in list a) (sym arc);
 }
   where
-    p_low : p < length (plan t).patches
+    p_low : p < length (layout_of t).patches
     p_low = omega (arith, low, length-map t.patches.items rectangle)
 
-    same : us ≡ side_at (plan t) p s
-    same = us_is ∙ ap (λ k. get_or (get_or (plan t).sides p []) k []) (sym way)
+    same : us ≡ side_at (layout_of t) p s
+    same = us_is ∙ ap (λ k. get_or (get_or (layout_of t).sides p []) k []) (sym way)
 
-    is_slot : IsSlot (layout_of (plan t)) (slot p s i)
+    is_slot : IsSlot (gluing_of (layout_of t)) (slot p s i)
     is_slot = record { patch_low = p_low; low = omega (arith, i_low, ap (λ (xs : List SideArc). length xs) same) }
 
-    used_is : get_or us i (record { arc = 0; forward = false }) ≡ (layout_of (plan t)).use_at p s i
+    used_is : get_or us i (record { arc = 0; forward = false }) ≡ (gluing_of (layout_of t)).use_at p s i
     used_is = get_or_default us i (record { arc = 0; forward = false }) (record { arc = 0; forward = true }) i_low ∙ ap
         (λ (xs : List SideArc). get_or xs i (record { arc = 0; forward = true })) same
 
-    arc : (get_or us i (record { arc = 0; forward = false })).arc ≡ ((layout_of (plan t)).use_at p s i).arc
+    arc : (get_or us i (record { arc = 0; forward = false })).arc ≡ ((gluing_of (layout_of t)).use_at p s i).arc
     arc = ap (λ (u : SideArc). u.arc) used_is
 
-    arc_less : ((layout_of (plan t)).use_at p s i).arc < length (plan t).arcs
-    arc_less = (laid_of (plan t) fine.mesh).paved.arc_low (slot p s i) is_slot
+    arc_less : ((gluing_of (layout_of t)).use_at p s i).arc < length (layout_of t).arcs
+    arc_less = (laid_of (layout_of t) fine.mesh).paved.arc_low (slot p s i) is_slot
 
 -- North and west are the sides numbered from 2 on.
 pub back_by : (s : Way) {side : ℕ} → way_number s ≡ side → nat_le 2 side ≡ is_back s
@@ -122,20 +129,21 @@ back_by s way = ap (λ k. nat_le 2 k) (sym way) ∙ by_way s
 -- Another arc of a side is put there.
 pub side_more : {t : TMesh} {list : List ℕ} (spacing : ArcSpacing) {p i : ℕ} {s : Way} {used : SideArc} {z : List ℕ}
     {a b : List ℕ} {start : ℕ} {back : Bool} → IsRead t list p i s used → back ≡ is_back s
-    → start ≡ start_by (layout_of (plan t)) (long_at (plan t).arcs) p i s
-    → ArePushed z a (reach (layout_of (plan t)) (lengths_in list) p s i)
-    (side_parameter (plan t) (lengths_in list) spacing p s)
+    → start ≡ start_by (gluing_of (layout_of t)) (long_at (layout_of t).arcs) p i s
+    → ArePushed z a (reach (gluing_of (layout_of t)) (lengths_in list) p s i)
+    (side_parameter (layout_of t) (lengths_in list) spacing p s)
     → ArePushed a b (lengths_in list used.arc) (on_arc spacing start (lengths_in list used.arc) used back)
-    → ArePushed z b (reach (layout_of (plan t)) (lengths_in list) p s (i + 1))
-    (side_parameter (plan t) (lengths_in list) spacing p s)
+    → ArePushed z b (reach (gluing_of (layout_of t)) (lengths_in list) p s (i + 1))
+    (side_parameter (layout_of t) (lengths_in list) spacing p s)
 side_more {t} {list} spacing {p} {i} {s} {used} {z} {a} {b} {start} {back} is back_is start_is before more =
     rw is.new_next (pushed_join before more same)
   where
     same : (o : ℕ) → o < lengths_in list used.arc → on_arc spacing start (lengths_in list used.arc) used back o
-        ≡ side_parameter (plan t) (lengths_in list) spacing p s (reach (layout_of (plan t)) (lengths_in list) p s i + o)
+        ≡ side_parameter (layout_of t) (lengths_in list) spacing p s
+        (reach (gluing_of (layout_of t)) (lengths_in list) p s i + o)
     same o low =
         (λ k. on_arc spacing start (lengths_in list (is.same k).arc) (is.same k) (back_is k) o)
-        ∙ slot_parameter (plan t) (lengths_in list) spacing p i s is.is_slot
+        ∙ slot_parameter (layout_of t) (lengths_in list) spacing p i s is.is_slot
         (omega (arith, low, ap (λ (u : SideArc). lengths_in list u.arc) is.same)) start_is
 
 pub start_few : {w : ℕ} (b o : ℕ) (back : Bool) → b + o ≤ w → w ≤ 2 ^ 21 → cond back (w - b - o) b ≤ 2 ^ 21
@@ -143,19 +151,19 @@ start_few b o true le few = omega arith
 start_few b o false le few = omega arith
 
 -- The four sides of a patch.
-pub rim_built : {plan : Plan} {list : List ℕ} (spacing : ArcSpacing) → AreFine plan list → {p : ℕ}
-    → p < length plan.patches → {z a b c d : List ℕ} {begin : ℕ} {w h : ℕ}
-    → ArePushed z a (size (layout_of plan) (lengths_in list) p south)
-    (side_parameter plan (lengths_in list) spacing p south)
-    → ArePushed a b (size (layout_of plan) (lengths_in list) p east)
-    (side_parameter plan (lengths_in list) spacing p east)
-    → ArePushed b c (size (layout_of plan) (lengths_in list) p north)
-    (side_parameter plan (lengths_in list) spacing p north)
-    → ArePushed c d (size (layout_of plan) (lengths_in list) p west)
-    (side_parameter plan (lengths_in list) spacing p west)
+pub rim_built : {layout : Layout} {list : List ℕ} (spacing : ArcSpacing) → AreFine layout list → {p : ℕ}
+    → p < length layout.patches → {z a b c d : List ℕ} {begin : ℕ} {w h : ℕ}
+    → ArePushed z a (size (gluing_of layout) (lengths_in list) p south)
+    (side_parameter layout (lengths_in list) spacing p south)
+    → ArePushed a b (size (gluing_of layout) (lengths_in list) p east)
+    (side_parameter layout (lengths_in list) spacing p east)
+    → ArePushed b c (size (gluing_of layout) (lengths_in list) p north)
+    (side_parameter layout (lengths_in list) spacing p north)
+    → ArePushed c d (size (gluing_of layout) (lengths_in list) p west)
+    (side_parameter layout (lengths_in list) spacing p west)
     → begin ≡ length z → w ≡ length a - begin → h ≡ length b - begin - w
-    → IsRim plan (lengths_in list) spacing p (record { wide = w; high = h; begin = begin }) d
-rim_built {plan} {list} spacing fine {p} low {z} {a} {b} {c} {d} {begin} {w} {h} first second third fourth begin_is
+    → IsRim layout (lengths_in list) spacing p (record { wide = w; high = h; begin = begin }) d
+rim_built {layout} {list} spacing fine {p} low {z} {a} {b} {c} {d} {begin} {w} {h} first second third fourth begin_is
     w_is h_is = record {
       wide = omega (arith, first.long, begin_is, w_is);
       high = omega (arith, first.long, second.long, begin_is, w_is, h_is, fine.lengths.upright p low);
@@ -174,18 +182,18 @@ rim_built {plan} {list} spacing fine {p} low {z} {a} {b} {c} {d} {begin} {w} {h}
     itself : IsKept d d
     itself = record { long = omega arith; kept = λ k less. refl }
 
-    sides : (s : Way) → AreParameters plan (lengths_in list) spacing p s
+    sides : (s : Way) → AreParameters layout (lengths_in list) spacing p s
         (parameters_from (record { wide = w; high = h; begin = begin }) s) d
-    sides south = parameters_in plan (lengths_in list) spacing p south begin_is first from_a
-    sides east = parameters_in plan (lengths_in list) spacing p east
+    sides south = parameters_in layout (lengths_in list) spacing p south begin_is first from_a
+    sides east = parameters_in layout (lengths_in list) spacing p east
         (omega (arith, first.long, begin_is, w_is)) second from_b
-    sides north = parameters_in plan (lengths_in list) spacing p north
+    sides north = parameters_in layout (lengths_in list) spacing p north
         (omega (arith, first.long, second.long, begin_is, w_is, h_is)) third from_c
-    sides west = parameters_in plan (lengths_in list) spacing p west
+    sides west = parameters_in layout (lengths_in list) spacing p west
         (omega (arith, first.long, second.long, third.long, begin_is, w_is, h_is, fine.lengths.across p low)) fourth
         itself
 
-pub rim_kept : {plan : Plan} {new : Lengths} {spacing : ArcSpacing} {p : ℕ} {rim : Rim} {a : List ℕ} {b : List ℕ}
-    → IsKept a b → IsRim plan new spacing p rim a → IsRim plan new spacing p rim b
-rim_kept {plan} {new} {spacing} {p} {a} {b} kept is =
+pub rim_kept : {layout : Layout} {new : Lengths} {spacing : ArcSpacing} {p : ℕ} {rim : Rim} {a : List ℕ} {b : List ℕ}
+    → IsKept a b → IsRim layout new spacing p rim a → IsRim layout new spacing p rim b
+rim_kept {layout} {new} {spacing} {p} {a} {b} kept is =
     record { wide = is.wide; high = is.high; sides = λ s. parameters_kept kept (is.sides s) }

@@ -1,9 +1,9 @@
 -- Where new points lie in the old mesh, and where grid points lie in their patch.
 use Rattle.std.specs.Prelude.{◌≡◌, ℕ, ◌+◌, ◌-◌, ◌*◌, ◌/◌, ◌%◌, ◌^◌, ◌<◌, ◌≤◌, List, length, ⊤, pos, ◌-ℤ◌}
 use Rattle.def_layout.specs.Arcs.{long_at}
-use Rattle.def_layout.specs.Layouts.{south, east, north, west}
+use Rattle.def_layout.specs.Gluings.{south, east, north, west}
 use Rattle.def_layout.specs.Lengths.{Lengths, wide, high}
-use Rattle.def_layout.specs.Plans.{Plan, layout_of}
+use Rattle.def_layout.specs.Layouts.{Layout, gluing_of}
 use Rattle.def_map.specs.declared.home.Seen.{Seen}
 use Rattle.def_map.specs.declared.spot.Spot.{Spot}
 use Rattle.def_map.specs.declared.spot.Spot.TheVariants.{AtVertex, InFace, OnEdge}
@@ -22,23 +22,23 @@ abbrev pub HasRoom : (rim : Rim) (parameters : List ℕ) → Type 0
 HasRoom rim parameters = rim.begin + 2 * (rim.wide + rim.high) ≤ length parameters
 
 -- The parameters at the ends of the sides of a patch, which stand in no list.
-pub record HasEnds (plan : Plan) (new : Lengths) (spacing : ArcSpacing) (patch : ℕ) : Type 0 where
-  pub south : side_parameter plan new spacing patch south (wide (layout_of plan) new patch)
-      ≡ ONE * wide (layout_of plan) (long_at plan.arcs) patch
-  pub east : side_parameter plan new spacing patch east (high (layout_of plan) new patch)
-      ≡ ONE * high (layout_of plan) (long_at plan.arcs) patch
-  pub north : side_parameter plan new spacing patch north (wide (layout_of plan) new patch) ≡ 0
-  pub west : side_parameter plan new spacing patch west (high (layout_of plan) new patch) ≡ 0
+pub record HasEnds (layout : Layout) (new : Lengths) (spacing : ArcSpacing) (patch : ℕ) : Type 0 where
+  pub south : side_parameter layout new spacing patch south (wide (gluing_of layout) new patch)
+      ≡ ONE * wide (gluing_of layout) (long_at layout.arcs) patch
+  pub east : side_parameter layout new spacing patch east (high (gluing_of layout) new patch)
+      ≡ ONE * high (gluing_of layout) (long_at layout.arcs) patch
+  pub north : side_parameter layout new spacing patch north (wide (gluing_of layout) new patch) ≡ 0
+  pub west : side_parameter layout new spacing patch west (high (gluing_of layout) new patch) ≡ 0
 
 -- How many points lie inside a patch.
 abbrev pub inner_of : (rims : List Rim) (patch : ℕ) → ℕ
 inner_of rims patch = ((rim_at rims patch).wide - 1) * ((rim_at rims patch).high - 1)
 
 -- The parameters of a grid point of a patch.
-abbrev pub grid_point : (plan : Plan) (new : Lengths) (spacing : ArcSpacing) (patch i j : ℕ) → GridPoint
-grid_point plan new spacing patch i j = record {
-  u = parameter_u (layout_of plan) (long_at plan.arcs) new spacing patch i j;
-  v = parameter_v (layout_of plan) (long_at plan.arcs) new spacing patch i j;
+abbrev pub grid_point : (layout : Layout) (new : Lengths) (spacing : ArcSpacing) (patch i j : ℕ) → GridPoint
+grid_point layout new spacing patch i j = record {
+  u = parameter_u (gluing_of layout) (long_at layout.arcs) new spacing patch i j;
+  v = parameter_v (gluing_of layout) (long_at layout.arcs) new spacing patch i j;
 }
 
 -- They are small.
@@ -51,20 +51,20 @@ seen_from point column row =
     record { s = pos point.u -ℤ pos (column * ONE); t = pos point.v -ℤ pos (row * ONE) }
 
 -- An inner point of the arcs lies on this one.
-pub record IsAlong (plan : Plan) (new : Lengths) (arc place : ℕ) : Type 0 where
-  pub low : arc < length plan.arcs
+pub record IsAlong (layout : Layout) (new : Lengths) (arc place : ℕ) : Type 0 where
+  pub low : arc < length layout.arcs
   pub from : before_arc new arc ≤ place
   pub upto : place - before_arc new arc + 1 < new arc
 
 -- An inner point of the patches lies in this one.
-pub record IsInside (plan : Plan) (new : Lengths) (patch place : ℕ) : Type 0 where
-  pub low : patch < length plan.patches
-  pub from : before_patch (layout_of plan) new patch ≤ place
-  pub column : (place - before_patch (layout_of plan) new patch) % (wide (layout_of plan) new patch - 1) + 1
-      < wide (layout_of plan) new patch
-  pub row : (place - before_patch (layout_of plan) new patch) / (wide (layout_of plan) new patch - 1) + 1
-      < high (layout_of plan) new patch
-  pub some : 1 < wide (layout_of plan) new patch
+pub record IsInside (layout : Layout) (new : Lengths) (patch place : ℕ) : Type 0 where
+  pub low : patch < length layout.patches
+  pub from : before_patch (gluing_of layout) new patch ≤ place
+  pub column : (place - before_patch (gluing_of layout) new patch) % (wide (gluing_of layout) new patch - 1) + 1
+      < wide (gluing_of layout) new patch
+  pub row : (place - before_patch (gluing_of layout) new patch) / (wide (gluing_of layout) new patch - 1) + 1
+      < high (gluing_of layout) new patch
+  pub some : 1 < wide (gluing_of layout) new patch
 
 -- The way along an edge has no more parts than places are computed for.
 abbrev pub IsShort : (spot : Spot) → Type 0

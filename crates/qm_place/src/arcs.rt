@@ -2,7 +2,7 @@
 
 ghost use Rattle.std.specs.Prelude.{◌≡◌, ◌<◌, ◌≤◌, ◌*◌, ◌/◌, true, length, Some};
 ghost use Rattle.def_layout.specs.Arcs.{long_at};
-ghost use Rattle.def_layout.specs.Plans.{plan};
+ghost use Rattle.def_layout.specs.Layouts.{layout_of};
 ghost use Rattle.def_written.specs.Places.{ONE};
 ghost use Rattle.def_remesh.specs.NewPoints.{lengths_in};
 ghost use Rattle.qm_place.specs.OnArcs.{spacing_on, AreArcPlaces};
@@ -52,7 +52,7 @@ fn shared_part(places: &ArcPlaces, spaced: &Spaced, arc: usize, k: u32) -> u64
     requires arc { arc < length places.now.t.now.arcs.items }
     requires place { k ≤ lengths_in places.now.lengths.now arc }
     ensures value { result ≡ (spacing_on places.now).parameter_of arc true k }
-    ensures low { result ≤ ONE * long_at (plan places.now.t.now).arcs arc }
+    ensures low { result ≤ ONE * long_at (layout_of places.now.t.now).arcs arc }
 {
     if k == 0 {
         return 0;

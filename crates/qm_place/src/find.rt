@@ -1,10 +1,10 @@
 //! Which point a number names, and where that lies.
 
 ghost use Rattle.std.specs.Prelude.{◌≡◌, ◌<◌, ◌+◌, length};
-ghost use Rattle.def_layout.specs.Plans.{layout_of};
+ghost use Rattle.def_layout.specs.Layouts.{gluing_of};
 ghost use Rattle.def_map.specs.Spots.{spot_at};
 ghost use Rattle.def_written.specs.Numbers.{before_arc, vertices};
-ghost use Rattle.qm_place.specs.Lengthened.{lengths_by, plan_in, shares_by};
+ghost use Rattle.qm_place.specs.Lengthened.{lengths_by, layout_in, shares_by};
 
 use crate::placed::Placed;
 use crate::spots::{along_spot, inside_spot};
@@ -27,8 +27,8 @@ impl Near {
 
 /// Where vertex v lies. In constant time where it is near the last one, else logarithmic.
 pub(crate) fn find(placed: &Placed, v: u32, near: &mut Near) -> Spot
-    requires vertex { v < vertices (layout_of (plan_in placed.now)) (lengths_by placed.now) }
-    ensures { result ≡ spot_at (plan_in placed.now) (shares_by placed.now) (lengths_by placed.now) v }
+    requires vertex { v < vertices (gluing_of (layout_in placed.now)) (lengths_by placed.now) }
+    ensures { result ≡ spot_at (layout_in placed.now) (shares_by placed.now) (lengths_by placed.now) v }
 {
     let nodes = placed.t.nodes.len() as u32;
     if v < nodes {
@@ -46,7 +46,7 @@ pub(crate) fn find(placed: &Placed, v: u32, near: &mut Near) -> Spot
 /// How many vertices are nodes or lie on arcs.
 fn arcs_end(placed: &Placed) -> u32
     ensures { result ≡ length placed.now.t.now.nodes.items
-        + before_arc (lengths_by placed.now) (length (plan_in placed.now).arcs) }
+        + before_arc (lengths_by placed.now) (length (layout_in placed.now).arcs) }
 {
     let along = &placed.tables.along.begin;
     placed.t.nodes.len() as u32 + along[along.len() - 1]

@@ -3,7 +3,7 @@
 ghost use Rattle.std.specs.Prelude.{◌≡◌, ◌<◌, ◌≤◌, ◌+◌, ◌-◌, ◌*◌, ◌/◌, ℕ, length, slice_index};
 ghost use Rattle.def_layout.specs.Arcs.{long_at};
 ghost use Rattle.def_layout.specs.Lengths.{wide, high, AreLengths, Lengths};
-ghost use Rattle.def_layout.specs.Plans.{layout_of, Plan};
+ghost use Rattle.def_layout.specs.Layouts.{gluing_of, Layout};
 ghost use Rattle.def_written.specs.Places.{cell_at, parameter_u, parameter_v, ArcSpacing};
 ghost use Rattle.def_remesh.specs.Placings.{IsRim};
 ghost use Rattle.qm_place.specs.Spots.{HasEnds, HasRoom, IsOnGrid};
@@ -16,11 +16,11 @@ use def_remesh::Rim;
 pub(crate) fn across(parameters: &[u64], rim: Rim, columns: u32, i: u32, j: u32) -> u64
     requires room { HasRoom rim parameters.now }
     requires grid { IsOnGrid rim i j }
-    ensures { (plan : Plan) (new : Lengths) (spacing : ArcSpacing) (patch : ℕ) → patch < (layout_of plan).patches
-        → AreLengths (layout_of plan) new → IsRim plan new spacing patch rim parameters.now
-        → HasEnds plan new spacing patch
-        → columns ≡ wide (layout_of plan) (long_at plan.arcs) patch
-        → result ≡ parameter_u (layout_of plan) (long_at plan.arcs) new spacing patch i j }
+    ensures { (layout : Layout) (new : Lengths) (spacing : ArcSpacing) (patch : ℕ) → patch < (gluing_of layout).patches
+        → AreLengths (gluing_of layout) new → IsRim layout new spacing patch rim parameters.now
+        → HasEnds layout new spacing patch
+        → columns ≡ wide (gluing_of layout) (long_at layout.arcs) patch
+        → result ≡ parameter_u (gluing_of layout) (long_at layout.arcs) new spacing patch i j }
 {
     let south = at_place(
         parameters,
@@ -38,11 +38,11 @@ pub(crate) fn across(parameters: &[u64], rim: Rim, columns: u32, i: u32, j: u32)
 pub(crate) fn upright(parameters: &[u64], rim: Rim, rows: u32, i: u32, j: u32) -> u64
     requires room { HasRoom rim parameters.now }
     requires grid { IsOnGrid rim i j }
-    ensures { (plan : Plan) (new : Lengths) (spacing : ArcSpacing) (patch : ℕ) → patch < (layout_of plan).patches
-        → AreLengths (layout_of plan) new → IsRim plan new spacing patch rim parameters.now
-        → HasEnds plan new spacing patch
-        → rows ≡ high (layout_of plan) (long_at plan.arcs) patch
-        → result ≡ parameter_v (layout_of plan) (long_at plan.arcs) new spacing patch i j }
+    ensures { (layout : Layout) (new : Lengths) (spacing : ArcSpacing) (patch : ℕ) → patch < (gluing_of layout).patches
+        → AreLengths (gluing_of layout) new → IsRim layout new spacing patch rim parameters.now
+        → HasEnds layout new spacing patch
+        → rows ≡ high (gluing_of layout) (long_at layout.arcs) patch
+        → result ≡ parameter_v (gluing_of layout) (long_at layout.arcs) new spacing patch i j }
 {
     let east_begin = rim.begin + rim.wide as usize;
     let east = at_place(parameters, east_begin, rim.high, j, EDGE * u64::from(rows));

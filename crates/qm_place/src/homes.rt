@@ -2,10 +2,10 @@
 
 ghost use Rattle.std.specs.Prelude.{◌≡◌, ◌<◌, ◌≤◌, ◌+◌, ◌*◌, ◌/◌, ◌^◌, length, pos, ◌-ℤ◌};
 ghost use Rattle.def_layout.specs.Lengths.{wide, high};
-ghost use Rattle.def_layout.specs.Plans.{layout_of};
+ghost use Rattle.def_layout.specs.Layouts.{gluing_of};
 ghost use Rattle.def_map.specs.Homes.{home_of};
 ghost use Rattle.def_written.specs.Places.{ONE};
-ghost use Rattle.qm_place.specs.Lengthened.{lengths_by, plan_in, shares_by};
+ghost use Rattle.qm_place.specs.Lengthened.{lengths_by, layout_in, shares_by};
 ghost use Rattle.qm_place.specs.Spots.{seen_from, IsSmall};
 
 use crate::grid::cell_at;
@@ -17,9 +17,9 @@ use def_map::{Home, Seen};
 /// Where cell (i, j) of a patch lies.
 pub(crate) fn cell_home(placed: &Placed, patch: usize, i: u32, j: u32) -> Home
     requires patch { patch < length placed.now.t.now.patches.items }
-    requires column { i < wide (layout_of (plan_in placed.now)) (lengths_by placed.now) patch }
-    requires row { j < high (layout_of (plan_in placed.now)) (lengths_by placed.now) patch }
-    ensures { result ≡ home_of (plan_in placed.now) (shares_by placed.now) (lengths_by placed.now) patch i j }
+    requires column { i < wide (gluing_of (layout_in placed.now)) (lengths_by placed.now) patch }
+    requires row { j < high (gluing_of (layout_in placed.now)) (lengths_by placed.now) patch }
+    ensures { result ≡ home_of (layout_in placed.now) (shares_by placed.now) (lengths_by placed.now) patch i j }
 {
     let south_west = grid_point(placed, patch, i, j);
     let south_east = grid_point(placed, patch, i + 1, j);

@@ -1,6 +1,6 @@
 //! A layout and the tables that tell where its new points lie.
 
-ghost use Rattle.def_layout.specs.Plans.{plan};
+ghost use Rattle.def_layout.specs.Layouts.{layout_of};
 ghost use Rattle.qm_place.specs.Placed.{ArePlaced};
 
 use def_layout::TMesh;
@@ -11,5 +11,5 @@ use def_remesh::PlaceTables;
 pub struct Placed<'a> {
     pub t: &'a TMesh,
     pub tables: &'a PlaceTables,
-    ghost placed: { ArePlaced (plan t.now) tables.now },
+    ghost placed: { ArePlaced (layout_of t.now) tables.now },
 }

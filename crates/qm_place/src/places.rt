@@ -5,7 +5,7 @@ ghost use Rattle.def_math.specs.Counts.{count_below};
 ghost use Rattle.def_mesh.specs.Faces.{Faces};
 ghost use Rattle.def_mesh.specs.Vertices.{vertex_count};
 ghost use Rattle.def_layout.specs.Lengths.{wide, high, AreLengths};
-ghost use Rattle.def_layout.specs.Plans.{layout_of, plan};
+ghost use Rattle.def_layout.specs.Layouts.{gluing_of, layout_of};
 ghost use Rattle.def_map.specs.Homes.{home_of};
 ghost use Rattle.def_map.specs.Spots.{spot_at};
 ghost use Rattle.def_written.specs.NewFaces.{face_count};
@@ -62,11 +62,11 @@ pub fn placer(
     x: &[u64],
     shares: Option<DartShares>,
 ) -> Result<Places, AllocError>
-    requires layout { IsMeshLayout mesh.now (plan t.now) }
+    requires layout { IsMeshLayout mesh.now (layout_of t.now) }
     requires long { length x.now ≡ length t.now.arcs.items }
-    requires lengths { AreLengths (layout_of (plan t.now)) (lengths_in x.now) }
-    requires few { face_count (layout_of (plan t.now)) (lengths_in x.now) ≤ MAX_NEW_FACES }
-    ensures places { IfOk result (λ places. ArePlaces mesh.now (plan t.now) places) }
+    requires lengths { AreLengths (gluing_of (layout_of t.now)) (lengths_in x.now) }
+    requires few { face_count (gluing_of (layout_of t.now)) (lengths_in x.now) ≤ MAX_NEW_FACES }
+    ensures places { IfOk result (λ places. ArePlaces mesh.now (layout_of t.now) places) }
     ensures lengths { IfOk result (λ places. places.lengths.items ≡ x.now) }
     ensures shares { IfOk result (λ places. shares_in places.spaced ≡ shares) }
 {
@@ -100,8 +100,8 @@ fn spaced_by(
     lengths: &[u32],
     shares: Option<DartShares>,
 ) -> Result<Option<Spaced>, AllocError>
-    requires fine { AreFine (plan t.now) lengths.now }
-    ensures spaced { IfOk result (λ spaced. IsSpaced (plan t.now) (lengths_in lengths.now) spaced) }
+    requires fine { AreFine (layout_of t.now) lengths.now }
+    ensures spaced { IfOk result (λ spaced. IsSpaced (layout_of t.now) (lengths_in lengths.now) spaced) }
     ensures shares { IfOk result (λ spaced. shares_in spaced ≡ shares) }
 {
     match shares {
@@ -130,7 +130,7 @@ fn inner_starts(alloc: Global, rims: &[Rim]) -> Result<RunStarts, AllocError>
 impl Places {
     /// The places with the layout of which they are.
     pub fn on<'a>(&'a self, t: &'a TMesh) -> Placed<'a>
-        requires { (faces : Faces) × ArePlaces faces (plan t.now) self.now }
+        requires { (faces : Faces) × ArePlaces faces (layout_of t.now) self.now }
         ensures layout { result.t.now ≡ t.now }
         ensures tables { result.tables.now ≡ self.now }
     {
@@ -143,12 +143,12 @@ impl Placed<'_> {
     /// The place of the new vertex v, and where it was found. In constant time where it is near the last one, else
     /// logarithmic.
     pub fn place_near(&self, mesh: &Mesh, pos: &[[Micro; 3]], v: u32, near: &mut Near) -> [Micro; 3]
-        requires layout { IsMeshLayout mesh.now (plan self.now.t.now) }
+        requires layout { IsMeshLayout mesh.now (layout_of self.now.t.now) }
         requires positions { length pos.now ≡ vertex_count mesh.now }
-        requires vertex { v < vertices (layout_of (plan self.now.t.now))
+        requires vertex { v < vertices (gluing_of (layout_of self.now.t.now))
             (lengths_in self.now.tables.now.lengths.items) }
         ensures value { result
-            ≡ spaced_place mesh.now (plan self.now.t.now) pos.now (shares_in self.now.tables.now.spaced)
+            ≡ spaced_place mesh.now (layout_of self.now.t.now) pos.now (shares_in self.now.tables.now.spaced)
             (lengths_in self.now.tables.now.lengths.items) v }
         ensures between { LiesBetween pos.now result }
     {
@@ -158,9 +158,9 @@ impl Placed<'_> {
 
     /// Where the new vertex v lies in the old mesh. In constant time where it is near the last one, else logarithmic.
     pub fn spot_near(&self, v: u32, near: &mut Near) -> Spot
-        requires vertex { v < vertices (layout_of (plan self.now.t.now))
+        requires vertex { v < vertices (gluing_of (layout_of self.now.t.now))
             (lengths_in self.now.tables.now.lengths.items) }
-        ensures { result ≡ spot_at (plan self.now.t.now) (shares_in self.now.tables.now.spaced)
+        ensures { result ≡ spot_at (layout_of self.now.t.now) (shares_in self.now.tables.now.spaced)
             (lengths_in self.now.tables.now.lengths.items) v }
     {
         find(self, v, near)
@@ -169,12 +169,12 @@ impl Placed<'_> {
     /// Where the new face in column i and row j of a patch lies in the old mesh.
     pub fn home(&self, patch: usize, i: u32, j: u32) -> Home
         requires patch { patch < length self.now.t.now.patches.items }
-        requires column { i < wide (layout_of (plan self.now.t.now))
+        requires column { i < wide (gluing_of (layout_of self.now.t.now))
             (lengths_in self.now.tables.now.lengths.items) patch }
-        requires row { j < high (layout_of (plan self.now.t.now))
+        requires row { j < high (gluing_of (layout_of self.now.t.now))
             (lengths_in self.now.tables.now.lengths.items) patch }
         ensures { result
-            ≡ home_of (plan self.now.t.now) (shares_in self.now.tables.now.spaced)
+            ≡ home_of (layout_of self.now.t.now) (shares_in self.now.tables.now.spaced)
             (lengths_in self.now.tables.now.lengths.items) patch i j }
     {
         cell_home(self, patch, i, j)
@@ -184,9 +184,9 @@ impl Placed<'_> {
     pub fn rim(&self, patch: usize) -> Rim
         requires patch { patch < length self.now.t.now.patches.items }
         ensures wide { result.wide
-            ≡ wide (layout_of (plan self.now.t.now)) (lengths_in self.now.tables.now.lengths.items) patch }
+            ≡ wide (gluing_of (layout_of self.now.t.now)) (lengths_in self.now.tables.now.lengths.items) patch }
         ensures high { result.high
-            ≡ high (layout_of (plan self.now.t.now)) (lengths_in self.now.tables.now.lengths.items) patch }
+            ≡ high (gluing_of (layout_of self.now.t.now)) (lengths_in self.now.tables.now.lengths.items) patch }
         ensures few { result.wide * result.high ≤ MAX_NEW_FACES }
         ensures short { (result.wide ≤ 2 ^ 21) × (result.high ≤ 2 ^ 21) }
     {

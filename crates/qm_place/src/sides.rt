@@ -2,9 +2,9 @@
 
 ghost use Rattle.std.specs.Prelude.{◌≡◌, ◌≤◌, ◌<◌, ◌+◌, ◌-◌, ℕ, cond, length, IfOk, OnOk};
 ghost use Rattle.def_layout.specs.Arcs.{long_at};
-ghost use Rattle.def_layout.specs.Layouts.{Way};
+ghost use Rattle.def_layout.specs.Gluings.{Way};
 ghost use Rattle.def_layout.specs.Lengths.{size};
-ghost use Rattle.def_layout.specs.Plans.{layout_of, way_number, plan};
+ghost use Rattle.def_layout.specs.Layouts.{gluing_of, way_number, layout_of};
 ghost use Rattle.def_layoutnet.specs.MeshLayouts.{IsSomeLayout};
 ghost use Rattle.def_remesh.specs.NewPoints.{lengths_in};
 ghost use Rattle.def_remesh.specs.Placings.{rim_at, side_parameter, IsRim};
@@ -31,7 +31,7 @@ pub(crate) fn sides_of(alloc: Global, places: &ArcPlaces) -> Result<Sides, Alloc
     requires are { AreArcPlaces places.now }
     ensures count { IfOk result (λ sides. length sides.rims.items ≡ length places.now.t.now.patches.items) }
     ensures rims { IfOk result (λ sides. (patch : ℕ) → patch < length places.now.t.now.patches.items
-        → IsRim (plan places.now.t.now) (lengths_in places.now.lengths.now) (spacing_on places.now) patch
+        → IsRim (layout_of places.now.t.now) (lengths_in places.now.lengths.now) (spacing_on places.now) patch
         (rim_at sides.rims.items patch) sides.parameters.items) }
 {
     let patches = places.t.patches.len();
@@ -52,7 +52,7 @@ fn push_patch(
 ) -> Result<Rim, AllocError>
     requires are { AreArcPlaces places.now }
     requires low { patch < length places.now.t.now.patches.items }
-    ensures rim { IfOk result (λ rim. IsRim (plan places.now.t.now) (lengths_in places.now.lengths.now)
+    ensures rim { IfOk result (λ rim. IsRim (layout_of places.now.t.now) (lengths_in places.now.lengths.now)
         (spacing_on places.now) patch rim parameters.new.items) }
     ensures kept { OnOk result (IsKept parameters.old.items parameters.new.items) }
 {
@@ -82,8 +82,8 @@ fn push_side(
     requires low { patch < length places.now.t.now.patches.items }
     requires side { side < 4 }
     ensures { OnOk result ((way : Way) → way_number way ≡ side → ArePushed parameters.old.items parameters.new.items
-        (size (layout_of (plan places.now.t.now)) (lengths_in places.now.lengths.now) patch way)
-        (side_parameter (plan places.now.t.now) (lengths_in places.now.lengths.now) (spacing_on places.now) patch
+        (size (gluing_of (layout_of places.now.t.now)) (lengths_in places.now.lengths.now) patch way)
+        (side_parameter (layout_of places.now.t.now) (lengths_in places.now.lengths.now) (spacing_on places.now) patch
         way)) }
 {
     let back = side >= 2;
@@ -109,11 +109,11 @@ fn start_of(whole: u64, before: u64, old: u64, back: bool) -> u64
 
 /// How many old edges a side has.
 fn old_size(t: &TMesh, patch: usize, side: usize) -> u64
-    requires layout { IsSomeLayout (plan t.now) }
+    requires layout { IsSomeLayout (layout_of t.now) }
     requires low { patch < length t.now.patches.items }
     requires side { side < 4 }
     ensures { (way : Way) → way_number way ≡ side
-        → result ≡ size (layout_of (plan t.now)) (long_at (plan t.now).arcs) patch way }
+        → result ≡ size (gluing_of (layout_of t.now)) (long_at (layout_of t.now).arcs) patch way }
 {
     if side % 2 == 0 {
         u64::from(t.patches[patch].w)

@@ -1,7 +1,7 @@
 //! The parameters of the inner points of arcs by shares.
 
 ghost use Rattle.std.specs.Prelude.{◌≡◌, ◌<◌, ◌≤◌, ◌+◌, ◌-◌, IfOk, OnOk, Some, false, length};
-ghost use Rattle.def_layout.specs.Plans.{plan};
+ghost use Rattle.def_layout.specs.Layouts.{layout_of};
 ghost use Rattle.def_written.specs.Spacings.{counted, inner_step, step_parameter};
 ghost use Rattle.def_remesh.specs.NewPoints.{lengths_in};
 ghost use Rattle.def_remesh.specs.Placings.{AreSpaced};
@@ -25,9 +25,9 @@ pub(crate) fn shared_parameters(
     lengths: &[u32],
     shares: &DartShares,
 ) -> Result<Vec<u64>, AllocError>
-    requires fine { AreFine (plan t.now) lengths.now }
-    ensures { IfOk result (λ parameters. AreSpaced (plan t.now) (lengths_in lengths.now)
-        (spacing_by (plan t.now) (Some shares.now) (lengths_in lengths.now)) parameters.items) }
+    requires fine { AreFine (layout_of t.now) lengths.now }
+    ensures { IfOk result (λ parameters. AreSpaced (layout_of t.now) (lengths_in lengths.now)
+        (spacing_by (layout_of t.now) (Some shares.now) (lengths_in lengths.now)) parameters.items) }
 {
     let mut parameters = Vec::new(alloc);
     for arc in 0..t.arcs.len() {

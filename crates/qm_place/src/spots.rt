@@ -3,12 +3,12 @@
 ghost use Rattle.std.specs.Prelude.{◌≡◌, ◌<◌, ◌≤◌, ◌+◌, ◌-◌, ◌*◌, ◌/◌, ◌%◌, ◌^◌, ℕ, length};
 ghost use Rattle.def_layout.specs.Arcs.{dart_at, long_at};
 ghost use Rattle.def_layout.specs.Lengths.{wide};
-ghost use Rattle.def_layout.specs.Plans.{layout_of};
+ghost use Rattle.def_layout.specs.Layouts.{gluing_of};
 ghost use Rattle.def_map.specs.Spots.{edge_spot, face_spot};
 ghost use Rattle.def_written.specs.Numbers.{before_arc, before_patch};
 ghost use Rattle.def_written.specs.Places.{ONE};
 ghost use Rattle.def_remesh.specs.Placings.{rim_at};
-ghost use Rattle.qm_place.specs.Lengthened.{lengths_by, plan_in, spacing_at};
+ghost use Rattle.qm_place.specs.Lengthened.{lengths_by, layout_in, spacing_at};
 ghost use Rattle.qm_place.specs.Spots.{grid_point, IsAlong, IsInside, IsOnGrid, IsSmall};
 
 use crate::grid::{across, cell_at, upright};
@@ -18,8 +18,8 @@ use def_map::{EdgeSpot, FaceSpot};
 
 /// An inner point of the arcs, counted from the first one, which lies on this arc.
 pub(crate) fn along_spot(placed: &Placed, arc: usize, place: u32) -> EdgeSpot
-    requires along { IsAlong (plan_in placed.now) (lengths_by placed.now) arc place }
-    ensures { result ≡ edge_spot (plan_in placed.now) (spacing_at placed.now) arc
+    requires along { IsAlong (layout_in placed.now) (lengths_by placed.now) arc place }
+    ensures { result ≡ edge_spot (layout_in placed.now) (spacing_at placed.now) arc
         (place - before_arc (lengths_by placed.now) arc + 1) }
 {
     match &placed.tables.spaced {
@@ -35,10 +35,10 @@ pub(crate) fn along_spot(placed: &Placed, arc: usize, place: u32) -> EdgeSpot
 fn even_spot(placed: &Placed, arc: usize, k: u32, parts: u32) -> EdgeSpot
     requires arc { arc < length placed.now.t.now.arcs.items }
     requires place { (k < parts) × (parts ≤ 2 ^ 24) }
-    requires low { k * long_at (plan_in placed.now).arcs arc / parts < long_at (plan_in placed.now).arcs arc }
-    ensures dart { result.dart ≡ dart_at (plan_in placed.now).arcs arc
-        (k * long_at (plan_in placed.now).arcs arc / parts) }
-    ensures some { result.some ≡ k * long_at (plan_in placed.now).arcs arc % parts }
+    requires low { k * long_at (layout_in placed.now).arcs arc / parts < long_at (layout_in placed.now).arcs arc }
+    ensures dart { result.dart ≡ dart_at (layout_in placed.now).arcs arc
+        (k * long_at (layout_in placed.now).arcs arc / parts) }
+    ensures some { result.some ≡ k * long_at (layout_in placed.now).arcs arc % parts }
     ensures parts { result.parts ≡ parts }
 {
     let darts = &placed.t.arcs[arc].darts;
@@ -54,9 +54,9 @@ fn even_spot(placed: &Placed, arc: usize, k: u32, parts: u32) -> EdgeSpot
 /// The place of an arc with this parameter.
 fn shared_spot(placed: &Placed, arc: usize, parameter: u64) -> EdgeSpot
     requires arc { arc < length placed.now.t.now.arcs.items }
-    requires low { parameter < ONE * long_at (plan_in placed.now).arcs arc }
+    requires low { parameter < ONE * long_at (layout_in placed.now).arcs arc }
     ensures { result ≡ record {
-      dart = dart_at (plan_in placed.now).arcs arc (parameter / ONE);
+      dart = dart_at (layout_in placed.now).arcs arc (parameter / ONE);
       some = parameter % ONE;
       parts = ONE;
     } }
@@ -71,12 +71,12 @@ fn shared_spot(placed: &Placed, arc: usize, parameter: u64) -> EdgeSpot
 
 /// An inner point of the patches, counted from the first one, which lies in this patch.
 pub(crate) fn inside_spot(placed: &Placed, patch: usize, place: u32) -> FaceSpot
-    requires inside { IsInside (plan_in placed.now) (lengths_by placed.now) patch place }
-    ensures { result ≡ face_spot (plan_in placed.now) (lengths_by placed.now) (spacing_at placed.now) patch
-        ((place - before_patch (layout_of (plan_in placed.now)) (lengths_by placed.now) patch)
-        % (wide (layout_of (plan_in placed.now)) (lengths_by placed.now) patch - 1) + 1)
-        ((place - before_patch (layout_of (plan_in placed.now)) (lengths_by placed.now) patch)
-        / (wide (layout_of (plan_in placed.now)) (lengths_by placed.now) patch - 1) + 1) }
+    requires inside { IsInside (layout_in placed.now) (lengths_by placed.now) patch place }
+    ensures { result ≡ face_spot (layout_in placed.now) (lengths_by placed.now) (spacing_at placed.now) patch
+        ((place - before_patch (gluing_of (layout_in placed.now)) (lengths_by placed.now) patch)
+        % (wide (gluing_of (layout_in placed.now)) (lengths_by placed.now) patch - 1) + 1)
+        ((place - before_patch (gluing_of (layout_in placed.now)) (lengths_by placed.now) patch)
+        / (wide (gluing_of (layout_in placed.now)) (lengths_by placed.now) patch - 1) + 1) }
 {
     let offset = place - placed.tables.inside.begin[patch];
     let row = placed.tables.rims[patch].wide - 1;
@@ -87,7 +87,7 @@ pub(crate) fn inside_spot(placed: &Placed, patch: usize, place: u32) -> FaceSpot
 fn cell_spot(placed: &Placed, patch: usize, i: u32, j: u32) -> FaceSpot
     requires patch { patch < length placed.now.t.now.patches.items }
     requires grid { IsOnGrid (rim_at placed.now.tables.now.rims.items patch) i j }
-    ensures { result ≡ face_spot (plan_in placed.now) (lengths_by placed.now) (spacing_at placed.now) patch i j }
+    ensures { result ≡ face_spot (layout_in placed.now) (lengths_by placed.now) (spacing_at placed.now) patch i j }
 {
     let point = grid_point(placed, patch, i, j);
     let old = &placed.t.patches[patch];
@@ -111,7 +111,8 @@ pub(crate) struct GridPoint {
 pub(crate) fn grid_point(placed: &Placed, patch: usize, i: u32, j: u32) -> GridPoint
     requires patch { patch < length placed.now.t.now.patches.items }
     requires grid { IsOnGrid (rim_at placed.now.tables.now.rims.items patch) i j }
-    ensures value { result ≡ grid_point (plan_in placed.now) (lengths_by placed.now) (spacing_at placed.now) patch i j }
+    ensures value { result
+        ≡ grid_point (layout_in placed.now) (lengths_by placed.now) (spacing_at placed.now) patch i j }
     ensures small { IsSmall result }
 {
     let rim = placed.tables.rims[patch];

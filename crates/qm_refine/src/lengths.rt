@@ -4,7 +4,7 @@ ghost use Rattle.std.specs.Prelude.{◌≡◌, ◌≤◌, ◌*◌, ℕ, length, 
 ghost use Rattle.def_flow.specs.declared.limits.TheConstants.{MAX_LENGTH};
 ghost use Rattle.def_layout.specs.Arcs.{long_at, Path};
 ghost use Rattle.def_layout.specs.Lengths.{AreLengths};
-ghost use Rattle.def_layout.specs.Plans.{layout_of};
+ghost use Rattle.def_layout.specs.Layouts.{gluing_of};
 ghost use Rattle.def_remesh.specs.NewPoints.{lengths_in, multiple_of};
 ghost use Rattle.def_run.specs.declared.command.TheConstants.{MAX_MULTIPLE};
 
@@ -15,11 +15,11 @@ use std::alloc::{AllocError, Global};
 pub fn multiples(alloc: Global, cut: &CutMesh, by: u32) -> Result<Vec<u64>, AllocError>
     requires few { by ≤ MAX_MULTIPLE }
     ensures value { IfOk result (λ lengths.
-        lengths.items ≡ map (λ (arc : Path). by * length arc.darts) cut.now.plan.arcs) }
+        lengths.items ≡ map (λ (arc : Path). by * length arc.darts) cut.now.layout.arcs) }
     ensures multiple { IfOk result (λ lengths.
-        lengths_in lengths.items ≡ multiple_of by (long_at cut.now.plan.arcs)) }
+        lengths_in lengths.items ≡ multiple_of by (long_at cut.now.layout.arcs)) }
     ensures lengths { 1 ≤ by
-        → IfOk result (λ lengths. AreLengths (layout_of cut.now.plan) (lengths_in lengths.items)) }
+        → IfOk result (λ lengths. AreLengths (gluing_of cut.now.layout) (lengths_in lengths.items)) }
     ensures bounded { IfOk result (λ lengths. (arc : ℕ) → lengths_in lengths.items arc ≤ MAX_LENGTH) }
 {
     let layout = cut.layout();

@@ -13,10 +13,10 @@ use qm_write::put_new_mesh;
 
 /// Puts the head line and the text of the mesh with `by` times the old lengths. Its cost is that of `put_new_mesh`.
 pub fn put_refined<T: Output>(out: &mut T, by: u32, new: &Regridded) -> Result<(), Stopped>
-    requires lengths { lengths_in new.now.lengths ≡ multiple_of by (long_at new.now.plan.arcs) }
+    requires lengths { lengths_in new.now.lengths ≡ multiple_of by (long_at new.now.layout.arcs) }
     requires even { new.now.shares ≡ None }
-    ensures whole { OnOk result (T.takes out.old out.new (refined_text by new.now.soup new.now.plan)) }
-    ensures part { OnErr result (T.stops out.old out.new (refined_text by new.now.soup new.now.plan)) }
+    ensures whole { OnOk result (T.takes out.old out.new (refined_text by new.now.soup new.now.layout)) }
+    ensures part { OnErr result (T.stops out.old out.new (refined_text by new.now.soup new.now.layout)) }
 {
     put_head(out, by)?;
     put_new_mesh(out, new)

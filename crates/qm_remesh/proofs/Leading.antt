@@ -9,7 +9,7 @@ use Rattle.def_certtext.specs.declared.certs.Round.{Round}
 use Rattle.def_fit.specs.{Aims.fit_settings, declared.fit.Fit.Fit}
 use Rattle.def_flow.specs.{Accepted.certificate, Descent.IsSolution, Network.Network, declared.cert.Cert.Cert}
 use Rattle.def_flow.specs.{declared.limits.TheConstants.MAX_FLOOR, declared.net.Settings.Settings}
-use Rattle.def_layout.specs.{Lengths.AreLengths as AreArcLengths, Plans.Plan, Plans.layout_of}
+use Rattle.def_layout.specs.{Lengths.AreLengths as AreArcLengths, Layouts.Layout, Layouts.gluing_of}
 use Rattle.def_layoutnet.specs.Floors.{floor_of, HasFloors}
 use Rattle.def_math.specs.Counts.{count_below}
 use Rattle.def_remesh.specs.{Certified.AreKept, Certified.IsCertified, Keeping.IsKept, Keeping.IsNetFor}
@@ -24,93 +24,94 @@ use Rattle.sum_laws.proofs.Counts.{count_below_same}
 use Rattle.qm_remesh.specs.Rounds.{room_of, IsFitNet, IsLedBy}
 
 -- Before the first round.
-pub led_first : {plan : Plan} {settings : Settings} {net : Network} {cert : Cert} → IsSolution net (certificate cert)
-    → IsLedBy plan settings net [] net cert
+pub led_first : {layout : Layout} {settings : Settings} {net : Network} {cert : Cert}
+    → IsSolution net (certificate cert)
+    → IsLedBy layout settings net [] net cert
 led_first is =
     record { solved = is; even = λ even. even; led = λ wish for. tt; behind = λ wish for. for }
 
-module _ {fit : Fit} {plan : Plan} {first net : Network} {rounds : List Round} {cert : Cert}
-    (fits : IsFitNet fit plan first) (is : IsLedBy plan (fit_settings fit) first rounds net cert) where
+module _ {fit : Fit} {layout : Layout} {first net : Network} {rounds : List Round} {cert : Cert}
+    (fits : IsFitNet fit layout first) (is : IsLedBy layout (fit_settings fit) first rounds net cert) where
   -- The network with the floors that rose.
   pub net_behind :
-      IsNetWith fits.wish plan (fit_settings fit) (floors_behind rounds (given_floors (fit_settings fit))) net
+      IsNetWith fits.wish layout (fit_settings fit) (floors_behind rounds (given_floors (fit_settings fit))) net
   net_behind = is.behind fits.wish fits.for
 
-  pub led_long : {xs : List ℕ} → xs ≡ cert.x.items → length xs ≡ length plan.arcs
+  pub led_long : {xs : List ℕ} → xs ≡ cert.x.items → length xs ≡ length layout.arcs
   led_long same = ap length same ∙ is.solved.accepted.count ∙ net_behind.is.long
 
-  pub led_lengths : {xs : List ℕ} → xs ≡ cert.x.items → AreArcLengths (layout_of plan) (lengths_in xs)
-  led_lengths {xs} same = are_lengths plan (fit_settings fit) net cert xs net_behind is.solved same
+  pub led_lengths : {xs : List ℕ} → xs ≡ cert.x.items → AreArcLengths (gluing_of layout) (lengths_in xs)
+  led_lengths {xs} same = are_lengths layout (fit_settings fit) net cert xs net_behind is.solved same
 
-module _ {wish : Wish} {plan : Plan} {settings : Settings} {first net : Network} {rounds : List Round} {cert : Cert}
-    (for : IsNetFor wish plan settings first) (is : IsLedBy plan settings first rounds net cert) where
-  pub kept_risen : AreKept wish plan settings Rounds (risen_by rounds (alone (lists_of cert)))
-  kept_risen = led_kept (IsCertified wish plan settings) plan rounds (given_floors settings) (alone (lists_of cert))
-      (is.led wish for) (solved plan settings net cert (is.behind wish for) is.solved)
+module _ {wish : Wish} {layout : Layout} {settings : Settings} {first net : Network} {rounds : List Round} {cert : Cert}
+    (for : IsNetFor wish layout settings first) (is : IsLedBy layout settings first rounds net cert) where
+  pub kept_risen : AreKept wish layout settings Rounds (risen_by rounds (alone (lists_of cert)))
+  kept_risen = led_kept (IsCertified wish layout settings) layout rounds (given_floors settings) (alone (lists_of cert))
+      (is.led wish for) (solved layout settings net cert (is.behind wish for) is.solved)
 
   used_is : (used (risen_by rounds (alone (lists_of cert)))).x ≡ cert.x.items
   used_is = cc (used_behind rounds (alone (lists_of cert)))
 
-  pub keeps_risen : {xs : List ℕ} {tables : Tables} → xs ≡ cert.x.items → IsNumbered plan xs tables
-      → IsKept wish plan settings Rounds (risen_by rounds (alone (lists_of cert))) tables
+  pub keeps_risen : {xs : List ℕ} {tables : Tables} → xs ≡ cert.x.items → IsNumbered layout xs tables
+      → IsKept wish layout settings Rounds (risen_by rounds (alone (lists_of cert))) tables
   keeps_risen {xs} {tables} same =
-      keeps plan settings Rounds (risen_by rounds (alone (lists_of cert))) xs tables (same ∙ sym used_is) kept_risen
+      keeps layout settings Rounds (risen_by rounds (alone (lists_of cert))) xs tables (same ∙ sym used_is) kept_risen
 
-  pub fine_risen : (faces : ℕ) → AreTooFine plan cert.x.items faces
-      → AreTooFine plan (used (risen_by rounds (alone (lists_of cert)))).x faces
-  fine_risen faces = subst (λ (xs : List ℕ). AreTooFine plan xs faces) (sym used_is)
+  pub fine_risen : (faces : ℕ) → AreTooFine layout cert.x.items faces
+      → AreTooFine layout (used (risen_by rounds (alone (lists_of cert)))).x faces
+  fine_risen faces = subst (λ (xs : List ℕ). AreTooFine layout xs faces) (sym used_is)
 
 -- Each arc whose floor rises is one of the network.
-pub all_there : (plan : Plan) (xs : List ℕ) {rises : List Rise} {n : ℕ} → n ≡ length plan.arcs
-    → AreNeeded (layout_of plan) (lengths_in xs) rises → All (λ (rise : Rise). rise.arc < n) rises
-all_there plan xs {rises} long needed k d low =
+pub all_there : (layout : Layout) (xs : List ℕ) {rises : List Rise} {n : ℕ} → n ≡ length layout.arcs
+    → AreNeeded (gluing_of layout) (lengths_in xs) rises → All (λ (rise : Rise). rise.arc < n) rises
+all_there layout xs {rises} long needed k d low =
     rw (← get_or_default rises k (record { arc = 0; floor = 0 }) d low) (omega (arith, (needed.each k low).there, long))
 
 -- One round more.
-module _ {plan : Plan} {settings : Settings} {first net next : Network} {rounds : List Round} (round : Round)
-    (is : IsLedBy plan settings first rounds net round.cert)
-    (needed : AreNeeded (layout_of plan) (lengths_in round.cert.x.items) round.rises.items)
+module _ {layout : Layout} {settings : Settings} {first net next : Network} {rounds : List Round} (round : Round)
+    (is : IsLedBy layout settings first rounds net round.cert)
+    (needed : AreNeeded (gluing_of layout) (lengths_in round.cert.x.items) round.rises.items)
     (has : HasFloors net (risen_floors round.rises.items (floor_of net.arcs)) next) where
-  pub led_on : (new : Cert) → AreCoarse plan round.cert.x.items → AreDoubled plan round.cert.x.items
+  pub led_on : (new : Cert) → AreCoarse layout round.cert.x.items → AreDoubled layout round.cert.x.items
       → IsSolution next (certificate new)
-      → IsLedBy plan settings first (rounds ++ round ∷ []) next new
+      → IsLedBy layout settings first (rounds ++ round ∷ []) next new
   led_on new coarse doubled solves = record {
     solved = solves;
     even = λ even. floors_even net (risen_floors round.rises.items (floor_of net.arcs)) next has (is.even even);
     led = λ wish for.
-        led_more (IsCertified wish plan settings) plan rounds round (given_floors settings) (is.led wish for)
+        led_more (IsCertified wish layout settings) layout rounds round (given_floors settings) (is.led wish for)
         (record {
-          fit = solved plan settings net round.cert (is.behind wish for) is.solved;
+          fit = solved layout settings net round.cert (is.behind wish for) is.solved;
           coarse = coarse;
           doubled = doubled;
         }) needed;
     behind = λ wish for. rw (behind_more rounds round (given_floors settings)) (higher wish for);
   }
     where
-      higher : (wish : Wish) → IsNetFor wish plan settings first → IsNetWith wish plan settings
+      higher : (wish : Wish) → IsNetFor wish layout settings first → IsNetWith wish layout settings
           (risen_floors round.rises.items (floors_behind rounds (given_floors settings))) next
       higher wish for =
-          net_risen plan settings round.cert.x.items round.rises.items net next (is.behind wish for) needed has
+          net_risen layout settings round.cert.x.items round.rises.items net next (is.behind wish for) needed has
 
   -- The floors are nearer to the greatest then.
-  pub room_less : length net.arcs ≡ length plan.arcs → room_of next.arcs < room_of net.arcs
+  pub room_less : length net.arcs ≡ length layout.arcs → room_of next.arcs < room_of net.arcs
   room_less long = omega (arith, old, new, less)
     where
-      above : (a : ℕ) → a < (layout_of plan).arcs → floor_of net.arcs a ≤ lengths_in round.cert.x.items a
+      above : (a : ℕ) → a < (gluing_of layout).arcs → floor_of net.arcs a ≤ lengths_in round.cert.x.items a
       above a low = omega (arith, ints, is.solved.accepted.admissible.high a (omega (arith, low, long)))
 
-      less : count_below (λ a. MAX_FLOOR - risen_floors round.rises.items (floor_of net.arcs) a) (length plan.arcs)
-          < count_below (λ a. MAX_FLOOR - floor_of net.arcs a) (length plan.arcs)
-      less = risen_more (layout_of plan) (lengths_in round.cert.x.items) round.rises.items needed (floor_of net.arcs)
+      less : count_below (λ a. MAX_FLOOR - risen_floors round.rises.items (floor_of net.arcs) a) (length layout.arcs)
+          < count_below (λ a. MAX_FLOOR - floor_of net.arcs a) (length layout.arcs)
+      less = risen_more (gluing_of layout) (lengths_in round.cert.x.items) round.rises.items needed (floor_of net.arcs)
           above
 
-      old : room_of net.arcs ≡ count_below (λ a. MAX_FLOOR - floor_of net.arcs a) (length plan.arcs)
+      old : room_of net.arcs ≡ count_below (λ a. MAX_FLOOR - floor_of net.arcs a) (length layout.arcs)
       old = ap (count_below (λ a. MAX_FLOOR - floor_of net.arcs a)) long
 
       new : room_of next.arcs
-          ≡ count_below (λ a. MAX_FLOOR - risen_floors round.rises.items (floor_of net.arcs) a) (length plan.arcs)
+          ≡ count_below (λ a. MAX_FLOOR - risen_floors round.rises.items (floor_of net.arcs) a) (length layout.arcs)
       new =
           ap (count_below (λ a. MAX_FLOOR - floor_of next.arcs a)) (has.long ∙ long)
           ∙ count_below_same (λ a. MAX_FLOOR - floor_of next.arcs a)
-          (λ a. MAX_FLOOR - risen_floors round.rises.items (floor_of net.arcs) a) (length plan.arcs)
+          (λ a. MAX_FLOOR - risen_floors round.rises.items (floor_of net.arcs) a) (length layout.arcs)
           (λ a low. cc (has.arcs a (omega (arith, low, long))))

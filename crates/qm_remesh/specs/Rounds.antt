@@ -13,7 +13,7 @@ use Rattle.def_flow.specs.declared.cert.Cert.{Cert}
 use Rattle.def_flow.specs.declared.limits.TheConstants.{MAX_FLOOR}
 use Rattle.def_flow.specs.declared.net.Arc.{Arc}
 use Rattle.def_flow.specs.declared.net.Settings.{Settings}
-use Rattle.def_layout.specs.Plans.{Plan}
+use Rattle.def_layout.specs.Layouts.{Layout}
 use Rattle.def_layoutnet.specs.Floors.{floor_of}
 use Rattle.def_math.specs.Counts.{count_below}
 use Rattle.def_remesh.specs.Certified.{IsCertified}
@@ -26,23 +26,23 @@ abbrev pub greatest_floor : (fit : Fit) → ℕ
 greatest_floor fit = if fit.auto then MAX_FLOOR else fit.floor
 
 -- The network of a layout for what a fit aims at.
-pub record IsFitNet (fit : Fit) (plan : Plan) (net : Network) : Type 0 where
+pub record IsFitNet (fit : Fit) (layout : Layout) (net : Network) : Type 0 where
   pub wish : Wish
-  pub for : IsNetFor wish plan (fit_settings fit) net
-  pub near : AreAimedNear fit.aim wish plan
+  pub for : IsNetFor wish layout (fit_settings fit) net
+  pub near : AreAimedNear fit.aim wish layout
   pub even : (p q : ℕ) → fit.aim ≡ Scale p q → IsEven net
 
 -- Rounds of a layout whose network was this at first, the network with the floors that rose in them, and a certificate
 -- that solves it.
 pub record IsLedBy
-    (plan : Plan) (settings : Settings) (first : Network) (rounds : List Round) (net : Network) (cert : Cert)
+    (layout : Layout) (settings : Settings) (first : Network) (rounds : List Round) (net : Network) (cert : Cert)
     : Type 0 where
   pub solved : IsSolution net (certificate cert)
   pub even : IsEven first → IsEven net
-  pub led : (wish : Wish) → IsNetFor wish plan settings first
-      → AreLed (IsCertified wish plan settings) plan rounds (given_floors settings)
-  pub behind : (wish : Wish) → IsNetFor wish plan settings first
-      → IsNetWith wish plan settings (floors_behind rounds (given_floors settings)) net
+  pub led : (wish : Wish) → IsNetFor wish layout settings first
+      → AreLed (IsCertified wish layout settings) layout rounds (given_floors settings)
+  pub behind : (wish : Wish) → IsNetFor wish layout settings first
+      → IsNetWith wish layout settings (floors_behind rounds (given_floors settings)) net
 
 -- How far the floors of arcs are below the greatest, in all.
 abbrev pub room_of : (arcs : List Arc) → ℕ

@@ -35,15 +35,15 @@ use std::alloc::{AllocError, Global};
 pub fn keep_fit(alloc: Global, cut: &CutMesh, fit: &Fit, wishes: &[u32]) -> Result<Remesh, SizeFail>
     requires fit { IsFit fit.now }
     requires wishes { fit.now.aim ≡ Aim.Wishes → length wishes.now ≡ darts cut.now.soup.faces }
-    ensures kept { IfOk result (λ kept. IsKept (aimed fit.now.aim cut.now.soup wishes.now) cut.now.plan
+    ensures kept { IfOk result (λ kept. IsKept (aimed fit.now.aim cut.now.soup wishes.now) cut.now.layout
         (fit_settings fit.now) (rounds_if fit.now.auto) (certificates_of kept.certs) kept.numbering) }
     ensures terms { IfOk result (λ kept.
         kept.terms ≡ record { settings = fit_settings fit.now; rising = rounds_if fit.now.auto }) }
-    ensures laid { IsMeshLayout cut.now.soup.faces cut.now.plan }
+    ensures laid { IsMeshLayout cut.now.soup.faces cut.now.layout }
     ensures near { OnOk result
-        (AreAimedNear fit.now.aim (aimed fit.now.aim cut.now.soup wishes.now) cut.now.plan) }
+        (AreAimedNear fit.now.aim (aimed fit.now.aim cut.now.soup wishes.now) cut.now.layout) }
     ensures refused { IfErr result
-        (IsFitFail fit.now.aim (aimed fit.now.aim cut.now.soup wishes.now) cut.now.plan (fit_settings fit.now)
+        (IsFitFail fit.now.aim (aimed fit.now.aim cut.now.soup wishes.now) cut.now.layout (fit_settings fit.now)
         (rounds_if fit.now.auto)) }
 {
     let _laid = cut.layout();
@@ -70,8 +70,8 @@ pub(crate) fn solve_fit(
 ) -> Result<Cert, AllocError>
     requires fit { IsFit fit.now }
     requires net { (wish : Wish) × (floors : Lengths)
-        × IsNetWith wish cut.now.plan (fit_settings fit.now) floors (network net.now)
-        × AreAimedNear fit.now.aim wish cut.now.plan }
+        × IsNetWith wish cut.now.layout (fit_settings fit.now) floors (network net.now)
+        × AreAimedNear fit.now.aim wish cut.now.layout }
     requires floors { (k : ℕ) → k < length net.now.arcs.items
         → (arc_at net.now.arcs.items k).floor ≤ greatest_floor fit.now }
     requires even { (p q : ℕ) → fit.now.aim ≡ Aim.Scale p q → IsEven (network net.now) }

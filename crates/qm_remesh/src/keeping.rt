@@ -32,11 +32,11 @@ use std::alloc::Global;
 pub fn keep(alloc: Global, cut: &CutMesh, terms: Terms) -> Result<Remesh, LayoutFail>
     requires known { terms.rising ≢ Rounds }
     requires settings { AreInRange terms.settings (may_rise terms.rising) }
-    ensures kept { IfOk result (λ kept. IsKept old_lengths cut.now.plan terms.settings terms.rising
+    ensures kept { IfOk result (λ kept. IsKept old_lengths cut.now.layout terms.settings terms.rising
         (certificates_of kept.certs) kept.numbering) }
     ensures terms { IfOk result (λ kept. kept.terms ≡ terms) }
-    ensures laid { IsMeshLayout cut.now.soup.faces cut.now.plan }
-    ensures refused { IfErr result (IsLayoutFail old_lengths cut.now.plan terms.settings terms.rising) }
+    ensures laid { IsMeshLayout cut.now.soup.faces cut.now.layout }
+    ensures refused { IfErr result (IsLayoutFail old_lengths cut.now.layout terms.settings terms.rising) }
 {
     let net = match net_of(alloc, cut.layout(), &terms.settings) {
         Ok(net) => net,
@@ -57,15 +57,15 @@ pub fn keep_solved(
     first: Cert,
 ) -> Result<Remesh, LayoutFail>
     requires known { terms.rising ≢ Rounds }
-    requires net { (wish : Wish) × IsNetFor wish cut.now.plan terms.settings (network net) }
+    requires net { (wish : Wish) × IsNetFor wish cut.now.layout terms.settings (network net) }
     requires solved { IsSolution (network net) (certificate first) }
     requires even { terms.rising ≡ Third → IsEven (network net) }
-    ensures kept { (wish : Wish) → IsNetFor wish cut.now.plan terms.settings (network net)
-        → IfOk result (λ kept. IsKept wish cut.now.plan terms.settings terms.rising
+    ensures kept { (wish : Wish) → IsNetFor wish cut.now.layout terms.settings (network net)
+        → IfOk result (λ kept. IsKept wish cut.now.layout terms.settings terms.rising
         (certificates_of kept.certs) kept.numbering) }
     ensures terms { IfOk result (λ kept. kept.terms ≡ terms) }
-    ensures refused { (wish : Wish) → IsNetFor wish cut.now.plan terms.settings (network net)
-        → IfErr result (IsLayoutFail wish cut.now.plan terms.settings terms.rising) }
+    ensures refused { (wish : Wish) → IsNetFor wish cut.now.layout terms.settings (network net)
+        → IfErr result (IsLayoutFail wish cut.now.layout terms.settings terms.rising) }
 {
     match plan_over(alloc, cut, &first.x) {
         Ok(numbering) => Ok(Remesh {
@@ -95,17 +95,17 @@ fn raise(
     net: Net,
     first: Cert,
 ) -> Result<Remesh, LayoutFail>
-    requires net { (wish : Wish) × IsNetFor wish cut.now.plan settings (network net) }
+    requires net { (wish : Wish) × IsNetFor wish cut.now.layout settings (network net) }
     requires solved { IsSolution (network net) (certificate first) }
     requires even { IsEven (network net) }
-    requires coarse { AreCoarse cut.now.plan first.x.items }
-    requires doubled { AreDoubled cut.now.plan first.x.items }
-    ensures kept { (wish : Wish) → IsNetFor wish cut.now.plan settings (network net)
-        → IfOk result (λ kept. IsKept wish cut.now.plan settings Third
+    requires coarse { AreCoarse cut.now.layout first.x.items }
+    requires doubled { AreDoubled cut.now.layout first.x.items }
+    ensures kept { (wish : Wish) → IsNetFor wish cut.now.layout settings (network net)
+        → IfOk result (λ kept. IsKept wish cut.now.layout settings Third
         (certificates_of kept.certs) kept.numbering) }
     ensures terms { IfOk result (λ kept. kept.terms ≡ record { settings = settings; rising = Third }) }
-    ensures refused { (wish : Wish) → IsNetFor wish cut.now.plan settings (network net)
-        → IfErr result (IsLayoutFail wish cut.now.plan settings Third) }
+    ensures refused { (wish : Wish) → IsNetFor wish cut.now.layout settings (network net)
+        → IfErr result (IsLayoutFail wish cut.now.layout settings Third) }
 {
     let raised = with_floor(net, MAX_FLOOR);
     let cert = solve(alloc, &raised)?;

@@ -47,14 +47,14 @@ pub(crate) fn keep_rounds(
     first: Cert,
 ) -> Result<Remesh, LayoutFail>
     requires fit { IsFit fit.now × (fit.now.auto ≡ true) }
-    requires net { IsFitNet fit.now cut.now.plan (network net) }
+    requires net { IsFitNet fit.now cut.now.layout (network net) }
     requires solved { IsSolution (network net) (certificate first) }
-    ensures kept { (wish : Wish) → IsNetFor wish cut.now.plan (fit_settings fit.now) (network net)
-        → IfOk result (λ kept. IsKept wish cut.now.plan (fit_settings fit.now) Rounds
+    ensures kept { (wish : Wish) → IsNetFor wish cut.now.layout (fit_settings fit.now) (network net)
+        → IfOk result (λ kept. IsKept wish cut.now.layout (fit_settings fit.now) Rounds
         (certificates_of kept.certs) kept.numbering) }
     ensures terms { IfOk result (λ kept. kept.terms ≡ record { settings = fit_settings fit.now; rising = Rounds }) }
-    ensures refused { (wish : Wish) → IsNetFor wish cut.now.plan (fit_settings fit.now) (network net)
-        → IfErr result (IsLayoutFail wish cut.now.plan (fit_settings fit.now) Rounds) }
+    ensures refused { (wish : Wish) → IsNetFor wish cut.now.layout (fit_settings fit.now) (network net)
+        → IfErr result (IsLayoutFail wish cut.now.layout (fit_settings fit.now) Rounds) }
 {
     let terms = Terms {
         settings: fit_settings(fit),
@@ -101,13 +101,13 @@ fn certs_of(led: Led) -> Certs
 /// A round more: floors rise for the lengths, and the network is solved again.
 fn next_round(alloc: Global, cut: &CutMesh, fit: &Fit, led: Led) -> Result<Led, AllocError>
     requires fit { IsFit fit.now × (fit.now.auto ≡ true) }
-    requires led { (first : Network) × IsFitNet fit.now cut.now.plan first
-        × IsLedBy cut.now.plan (fit_settings fit.now) first led.rounds.items (network led.net) led.cert }
-    requires coarse { AreCoarse cut.now.plan led.cert.x.items }
-    requires doubled { AreDoubled cut.now.plan led.cert.x.items }
+    requires led { (first : Network) × IsFitNet fit.now cut.now.layout first
+        × IsLedBy cut.now.layout (fit_settings fit.now) first led.rounds.items (network led.net) led.cert }
+    requires coarse { AreCoarse cut.now.layout led.cert.x.items }
+    requires doubled { AreDoubled cut.now.layout led.cert.x.items }
     ensures led { (first : Network)
-        → IsLedBy cut.now.plan (fit_settings fit.now) first led.rounds.items (network led.net) led.cert
-        → IfOk result (λ next. IsLedBy cut.now.plan (fit_settings fit.now) first next.rounds.items (network next.net)
+        → IsLedBy cut.now.layout (fit_settings fit.now) first led.rounds.items (network led.net) led.cert
+        → IfOk result (λ next. IsLedBy cut.now.layout (fit_settings fit.now) first next.rounds.items (network next.net)
         next.cert) }
     ensures risen { IfOk result (λ next. room_of next.net.arcs.items < room_of led.net.arcs.items) }
 {

@@ -24,15 +24,15 @@ pub fn keep_sized(alloc: Global, cut: &CutMesh, edge: Micro, floor: u32) -> Resu
     requires edge { whole 1 ≤ℤ edge }
     requires floor { (1 ≤ floor) × (floor ≤ MAX_FLOOR) }
     ensures kept { IfOk result (λ kept. IsKept
-        (targets cut.now.soup.faces cut.now.soup.pos (unsigned_abs edge)) cut.now.plan (edge_settings floor) Never
+        (targets cut.now.soup.faces cut.now.soup.pos (unsigned_abs edge)) cut.now.layout (edge_settings floor) Never
         (certificates_of kept.certs) kept.numbering) }
     ensures terms { IfOk result (λ kept.
         kept.terms ≡ record { settings = edge_settings floor; rising = Never }) }
-    ensures laid { IsMeshLayout cut.now.soup.faces cut.now.plan }
+    ensures laid { IsMeshLayout cut.now.soup.faces cut.now.layout }
     ensures near { OnOk result
-        (AreNear (targets cut.now.soup.faces cut.now.soup.pos (unsigned_abs edge)) cut.now.plan) }
+        (AreNear (targets cut.now.soup.faces cut.now.soup.pos (unsigned_abs edge)) cut.now.layout) }
     ensures refused { IfErr result
-        (IsSizeFail (targets cut.now.soup.faces cut.now.soup.pos (unsigned_abs edge)) cut.now.plan floor) }
+        (IsSizeFail (targets cut.now.soup.faces cut.now.soup.pos (unsigned_abs edge)) cut.now.layout floor) }
 {
     keep_fit(alloc, cut, &edge_fit(edge, floor), &[])
 }

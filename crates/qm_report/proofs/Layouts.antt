@@ -7,13 +7,13 @@ use Rattle.std.specs.{Prelude.decimal, Prelude.slice_index, Prelude.if◌then◌
 use Rattle.def_cut.specs.FullCut.{is_on}
 use Rattle.def_cuttext.specs.LayoutText.{break_line, place_in_file, whole_arc_line}
 use Rattle.def_io.specs.declared.TheConstants.{LINE_FEED}
-use Rattle.def_layout.specs.{Arcs.path, Arcs.path_at, Arcs.Path, Plans.plan, Plans.vertex_at, Plans.Plan}
+use Rattle.def_layout.specs.{Arcs.path, Arcs.path_at, Arcs.Path, Layouts.layout_of, Layouts.vertex_at, Layouts.Layout}
 use Rattle.def_layout.specs.{declared.tmesh.TArc.TArc, declared.tmesh.TMesh.TMesh}
 use Rattle.def_mesh.specs.{Darts.darts, Darts.from_of, Faces.Faces}
 use Rattle.def_remesh.specs.Placings.{IsMeshLayout}
 use Rattle.def_report.specs.GraphText.{numbers_line, numbers_text}
 use Rattle.def_text.specs.{FaceSet.FaceSet, declared.letters.TheConstants.SPACE}
-use Rattle.plan_laws.proofs.PlanLies.{in_mesh}
+use Rattle.embedding_laws.proofs.LayoutLies.{in_mesh}
 use Rattle.qm_report.specs.Words.{word_of}
 use Rattle.qm_report.proofs.Texts.{behind}
 
@@ -23,13 +23,13 @@ none_breaks soup [] = refl
 none_breaks soup (v ∷ vs) = none_breaks soup vs
 
 -- An arc that was read.
-pub arc_read : (t : TMesh) {here : Plan} (a : ℕ) {arc : TArc} → plan t ≡ here → a < length here.arcs
+pub arc_read : (t : TMesh) {here : Layout} (a : ℕ) {arc : TArc} → layout_of t ≡ here → a < length here.arcs
     → a < length t.arcs.items → arc ≡ get_or t.arcs.items a arc → path_at here.arcs a ≡ path arc
-arc_read t a {arc} same low less is = ap (λ (p : Plan). path_at p.arcs a) (sym same) ∙ get_or-map path t.arcs.items a
+arc_read t a {arc} same low less is = ap (λ (p : Layout). path_at p.arcs a) (sym same) ∙ get_or-map path t.arcs.items a
     arc (record { first = 0; last = 0; darts = [] }) less ∙ ap path (sym is)
 
 -- Its darts are darts of the mesh.
-pub along_low : (faces : Faces) (here : Plan) → IsMeshLayout faces here → (a : ℕ) (arc : TArc) {ds : List ℕ}
+pub along_low : (faces : Faces) (here : Layout) → IsMeshLayout faces here → (a : ℕ) (arc : TArc) {ds : List ℕ}
     → a < length here.arcs → path_at here.arcs a ≡ path arc → ds ≡ arc.darts.items
     → (k d : ℕ) → k < length ds → get_or ds k d < darts faces
 along_low faces here (is, same) a arc {ds} low read items k d less =
@@ -40,7 +40,7 @@ along_low faces here (is, same) a arc {ds} low read items k d less =
     value = cc (get_or_default ds k d 0 less, items, read)
 
 -- Its last node is a node.
-pub last_node : (faces : Faces) (here : Plan) → IsMeshLayout faces here → (a : ℕ) (arc : TArc)
+pub last_node : (faces : Faces) (here : Layout) → IsMeshLayout faces here → (a : ℕ) (arc : TArc)
     → a < length here.arcs → path_at here.arcs a ≡ path arc → arc.last < length here.nodes
 last_node faces here (is, same) a arc low read =
     subst (λ (p : Path). p.last < length here.nodes) read (is.laid.last_low a low)
@@ -77,12 +77,12 @@ along_names : (soup : FaceSet) (ds : List ℕ) (v : ℕ)
 along_names soup [] v = refl
 along_names soup (d ∷ ds) v = cc (along_names soup ds v)
 
-abbrev path_numbers : (soup : FaceSet) (here : Plan) (a : ℕ) (p : Path) → List ℕ
+abbrev path_numbers : (soup : FaceSet) (here : Layout) (a : ℕ) (p : Path) → List ℕ
 path_numbers soup here a p = (a + 1) ∷ length p.darts
     ∷ map (λ v. place_in_file soup.names v + 1) (map (from_of soup.faces) p.darts ++ vertex_at here p.last ∷ [])
 
 -- The line of an arc.
-pub arc_written : (soup : FaceSet) (kept : Option (List Bool)) (here : Plan) (a : ℕ) (arc : TArc)
+pub arc_written : (soup : FaceSet) (kept : Option (List Bool)) (here : Layout) (a : ℕ) (arc : TArc)
     → path_at here.arcs a ≡ path arc
     → numbers_line (word_of kept arc) ((a + 1) ∷ length arc.darts.items
     ∷ (along_numbers soup arc.darts.items ++ (place_in_file soup.names (vertex_at here arc.last) + 1) ∷ []))

@@ -8,7 +8,7 @@ ghost use Rattle.def_mesh.specs.Sources.{AreSources};
 ghost use Rattle.def_mesh.specs.Vertices.{all_vertices};
 ghost use Rattle.def_cut.specs.Traced.{IsGraphOf};
 ghost use Rattle.def_layout.specs.FaceLayouts.{IsCutLayout};
-ghost use Rattle.def_layout.specs.Plans.{plan};
+ghost use Rattle.def_layout.specs.Layouts.{layout_of};
 ghost use Rattle.def_report.specs.GraphText.{counts_line, graph_text as text_of, kind_line, seed_line, vertex_line};
 
 use crate::Memory;
@@ -33,8 +33,8 @@ pub fn graph_text(
 ) -> Result<Vec<u8>, Memory>
     requires sources { AreSources mesh.now src.now }
     requires graph { IsGraphOf mesh.now g.now }
-    requires layout { IsCutLayout mesh.now g.now.covered.items (plan t.now) }
-    ensures { IfOk result (λ text. text.items ≡ text_of mesh.now g.now.riders.items (plan t.now)) }
+    requires layout { IsCutLayout mesh.now g.now.covered.items (layout_of t.now) }
+    ensures { IfOk result (λ text. text.items ≡ text_of mesh.now g.now.riders.items (layout_of t.now)) }
 {
     let mut text = Vec::new(alloc);
     text.extend_from_slice(b"quadq graph 1\n")?;

@@ -38,7 +38,7 @@ pub fn layout_text(
 ) -> Result<Vec<u8>, Memory>
     requires { AreKeptMarks cut.now.soup.faces (option_copied kept) }
     ensures { IfOk result (λ text. text.items
-        ≡ laid_text keep patches cut.now.soup (option_copied kept.entry) cut.now.plan) }
+        ≡ laid_text keep patches cut.now.soup (option_copied kept.entry) cut.now.layout) }
 {
     let sources = sources(alloc, cut.mesh())?;
     let mut text = Vec::new(alloc);
@@ -143,8 +143,8 @@ fn push_broken(
 /// The arcs, with their lengths and all their vertices.
 fn push_arcs(text: &mut Vec<u8>, cut: &CutMesh, kept: Option<&[bool]>) -> Result<(), Memory>
     ensures { OnOk result (text.new.items ≡ text.old.items
-        ++ flat_map (whole_arc_line cut.now.soup (option_copied kept.entry) cut.now.plan)
-        (range_with_len 0 (length cut.now.plan.arcs))) }
+        ++ flat_map (whole_arc_line cut.now.soup (option_copied kept.entry) cut.now.layout)
+        (range_with_len 0 (length cut.now.layout.arcs))) }
 {
     for a in 0..cut.layout().arcs.len() {
         push_arc(text, cut, kept, a)?;
@@ -159,9 +159,9 @@ fn push_arc(
     kept: Option<&[bool]>,
     a: usize,
 ) -> Result<(), Memory>
-    requires { a < length cut.now.plan.arcs }
+    requires { a < length cut.now.layout.arcs }
     ensures { OnOk result (text.new.items ≡ text.old.items
-        ++ whole_arc_line cut.now.soup (option_copied kept.entry) cut.now.plan a) }
+        ++ whole_arc_line cut.now.soup (option_copied kept.entry) cut.now.layout a) }
 {
     let t = cut.layout();
     let arc = &t.arcs[a];

@@ -4,7 +4,7 @@ ghost use Rattle.std.specs.Prelude.{◌≡◌, ◌<◌, ◌++◌, ◌+◌, ℕ, 
 ghost use Rattle.std.specs.List.{flat_map, range_with_len};
 ghost use Rattle.def_layout.specs.declared.tmesh.SideArc.{SideArc as Used};
 ghost use Rattle.def_layout.specs.Arcs.{path_at};
-ghost use Rattle.def_layout.specs.Plans.{plan};
+ghost use Rattle.def_layout.specs.Layouts.{layout_of};
 ghost use Rattle.def_report.specs.GraphText.{arc_line, numbers_line, patch_lines, side_lines, size_line};
 
 use crate::Memory;
@@ -15,12 +15,12 @@ use qm_print::push_spaced;
 
 /// Puts the lines of all arcs of a layout at the end of a text.
 pub(crate) fn push_arcs(text: &mut Vec<u8>, t: &TMesh) -> Result<(), Memory>
-    requires first { (arc : ℕ) → arc < length (plan t.now).arcs
-        → (path_at (plan t.now).arcs arc).first < length t.now.nodes.items }
-    requires last { (arc : ℕ) → arc < length (plan t.now).arcs
-        → (path_at (plan t.now).arcs arc).last < length t.now.nodes.items }
+    requires first { (arc : ℕ) → arc < length (layout_of t.now).arcs
+        → (path_at (layout_of t.now).arcs arc).first < length t.now.nodes.items }
+    requires last { (arc : ℕ) → arc < length (layout_of t.now).arcs
+        → (path_at (layout_of t.now).arcs arc).last < length t.now.nodes.items }
     ensures { OnOk result (text.new.items ≡
-        text.old.items ++ flat_map (arc_line (plan t.now)) (range_with_len 0 (length (plan t.now).arcs))) }
+        text.old.items ++ flat_map (arc_line (layout_of t.now)) (range_with_len 0 (length (layout_of t.now).arcs))) }
 {
     for a in 0..t.arcs.len() {
         push_arc(text, t, a)?;
@@ -31,9 +31,9 @@ pub(crate) fn push_arcs(text: &mut Vec<u8>, t: &TMesh) -> Result<(), Memory>
 /// An arc: its number, the vertices at its ends, and its length.
 fn push_arc(text: &mut Vec<u8>, t: &TMesh, a: usize) -> Result<(), Memory>
     requires low { a < length t.now.arcs.items }
-    requires first { (path_at (plan t.now).arcs a).first < length t.now.nodes.items }
-    requires last { (path_at (plan t.now).arcs a).last < length t.now.nodes.items }
-    ensures { OnOk result (text.new.items ≡ text.old.items ++ arc_line (plan t.now) a) }
+    requires first { (path_at (layout_of t.now).arcs a).first < length t.now.nodes.items }
+    requires last { (path_at (layout_of t.now).arcs a).last < length t.now.nodes.items }
+    ensures { OnOk result (text.new.items ≡ text.old.items ++ arc_line (layout_of t.now) a) }
 {
     let arc = &t.arcs[a];
     let first = u64::from(t.nodes[arc.first as usize]) + 1;
@@ -47,11 +47,12 @@ fn push_arc(text: &mut Vec<u8>, t: &TMesh, a: usize) -> Result<(), Memory>
 
 /// Puts the lines of all patches of a layout and their sides at the end of a text.
 pub(crate) fn push_patches(text: &mut Vec<u8>, t: &TMesh) -> Result<(), Memory>
-    requires sided { length (plan t.now).sides ≡ length (plan t.now).patches }
-    requires four { (patch : ℕ) → patch < length (plan t.now).patches
-        → length (slice_index_or (plan t.now).sides patch []) ≡ 4 }
+    requires sided { length (layout_of t.now).sides ≡ length (layout_of t.now).patches }
+    requires four { (patch : ℕ) → patch < length (layout_of t.now).patches
+        → length (slice_index_or (layout_of t.now).sides patch []) ≡ 4 }
     ensures { OnOk result (text.new.items ≡
-        text.old.items ++ flat_map (patch_lines (plan t.now)) (range_with_len 0 (length (plan t.now).patches))) }
+        text.old.items ++ flat_map (patch_lines (layout_of t.now))
+        (range_with_len 0 (length (layout_of t.now).patches))) }
 {
     for p in 0..t.patches.len() {
         push_size(text, t, p)?;
@@ -63,7 +64,7 @@ pub(crate) fn push_patches(text: &mut Vec<u8>, t: &TMesh) -> Result<(), Memory>
 /// A patch: its number, its width and its height.
 fn push_size(text: &mut Vec<u8>, t: &TMesh, p: usize) -> Result<(), Memory>
     requires { p < length t.now.patches.items }
-    ensures { OnOk result (text.new.items ≡ text.old.items ++ size_line (plan t.now) p) }
+    ensures { OnOk result (text.new.items ≡ text.old.items ++ size_line (layout_of t.now) p) }
 {
     let patch = &t.patches[p];
     push_line(
@@ -76,8 +77,8 @@ fn push_size(text: &mut Vec<u8>, t: &TMesh, p: usize) -> Result<(), Memory>
 /// The four sides of a patch.
 fn push_sides(text: &mut Vec<u8>, t: &TMesh, p: usize) -> Result<(), Memory>
     requires low { p < length t.now.sides.items }
-    requires four { length (slice_index_or (plan t.now).sides p []) ≡ 4 }
-    ensures { OnOk result (text.new.items ≡ text.old.items ++ side_lines (plan t.now) p) }
+    requires four { length (slice_index_or (layout_of t.now).sides p []) ≡ 4 }
+    ensures { OnOk result (text.new.items ≡ text.old.items ++ side_lines (layout_of t.now) p) }
 {
     let sides = &t.sides[p];
     push_side(text, b"south", &sides[0].arcs)?;

@@ -1,12 +1,12 @@
 -- Grid points are points.
 use Rattle.std.proofs.Common.{◌≡◌, ℕ, ◌+◌, ◌-◌, ◌<◌, ◌≤◌, inl, inr, subst, arith}
 use Rattle.std.proofs.lemmas.Bool.{cases_eq}
-use Rattle.def_layout.specs.{Cells.dart, Surfaces.IsSurface, Layouts.south, Layouts.east, Layouts.north, Layouts.west}
-use Rattle.def_layout.specs.{Layouts.Layout, Lengths.Lengths, Lengths.wide, Lengths.high, Lengths.AreLengths}
+use Rattle.def_layout.specs.{Cells.dart, Surfaces.IsSurface, Gluings.south, Gluings.east, Gluings.north, Gluings.west}
+use Rattle.def_layout.specs.{Gluings.Gluing, Lengths.Lengths, Lengths.wide, Lengths.high, Lengths.AreLengths}
 use Rattle.def_written.specs.{Numbers.vertex_number, Numbers.vertices, Points.point, Points.IsPoint}
 use Rattle.written_laws.proofs.{Borders.from_is, Grid.high_some, Grid.wide_some, Numbers.number_low}
 
-module _ (l : Layout) (x : Lengths) (laid : IsSurface l) (len : AreLengths l x) where
+module _ (l : Gluing) (x : Lengths) (laid : IsSurface l) (len : AreLengths l x) where
   -- A grid point is where a dart of a cell begins.
   grid_point : (p i j : ℕ) → p < l.patches → i ≤ wide l x p → j ≤ high l x p → IsPoint l x (point l x p i j)
   grid_point p i j low i_le j_le = elim (cases_eq i (wide l x p)) [

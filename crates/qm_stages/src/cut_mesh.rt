@@ -1,7 +1,7 @@
 //! A soup with its mesh and the layout of a full cut.
 
 ghost use Rattle.std.specs.Prelude.{◌≡◌, length};
-ghost use Rattle.def_layout.specs.Plans.{plan};
+ghost use Rattle.def_layout.specs.Layouts.{layout_of};
 ghost use Rattle.def_mesh.specs.Vertices.{vertex_count};
 ghost use Rattle.def_remesh.specs.Placings.{IsMeshLayout};
 
@@ -19,22 +19,22 @@ pub struct CutMesh {
 }
 
 impl Model for CutMesh {
-    ghost use Rattle.def_layout.specs.Plans.{plan};
+    ghost use Rattle.def_layout.specs.Layouts.{layout_of};
     ghost use Rattle.def_remesh.specs.CutSoups.{CutSoup};
     ghost use Rattle.def_remesh.specs.Placings.{IsMeshLayout};
 
     ghost Value = { CutSoup };
 
-    ghost view = { λ c. record { soup = c.meshed; plan = plan c.layout } };
+    ghost view = { λ c. record { soup = c.meshed; layout = layout_of c.layout } };
 
-    ghost invariant = { λ c. IsMeshLayout c.meshed.faces (plan c.layout) };
+    ghost invariant = { λ c. IsMeshLayout c.meshed.faces (layout_of c.layout) };
 }
 
 impl CutMesh {
     /// A mesh with the layout of some full cut of it.
     pub fn new(meshed: Meshed, layout: TMesh) -> CutMesh
-        requires { IsMeshLayout meshed.faces (plan layout) }
-        ensures { result ≡ record { soup = meshed; plan = plan layout } }
+        requires { IsMeshLayout meshed.faces (layout_of layout) }
+        ensures { result ≡ record { soup = meshed; layout = layout_of layout } }
     {
         CutMesh { meshed, layout }
     }
@@ -55,8 +55,8 @@ impl CutMesh {
 
     /// The layout.
     pub fn layout(&self) -> &TMesh
-        ensures plan { plan result.now ≡ self.now.plan }
-        ensures laid { IsMeshLayout self.now.soup.faces self.now.plan }
+        ensures layout { layout_of result.now ≡ self.now.layout }
+        ensures laid { IsMeshLayout self.now.soup.faces self.now.layout }
     {
         &self.layout
     }

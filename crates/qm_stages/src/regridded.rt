@@ -2,7 +2,7 @@
 
 ghost use Rattle.std.specs.Prelude.{◌≡◌, ◌<◌, ◌≤◌, ◌*◌, ◌^◌, length, IfOk};
 ghost use Rattle.def_layout.specs.Lengths.{wide, high, AreLengths};
-ghost use Rattle.def_layout.specs.Plans.{layout_of, plan};
+ghost use Rattle.def_layout.specs.Layouts.{gluing_of, layout_of};
 ghost use Rattle.def_map.specs.Homes.{home_of};
 ghost use Rattle.def_map.specs.Laws.{IsSpot};
 ghost use Rattle.def_map.specs.Spots.{spot_at};
@@ -43,12 +43,12 @@ impl Model for Regridded {
 
     ghost view = { λ r. record {
       soup = r.cut.soup;
-      plan = r.cut.plan;
+      layout = r.cut.layout;
       lengths = r.numbering.lengths.items;
       shares = shares_in r.places.spaced;
     } };
 
-    ghost invariant = { λ r. IsNumbering r.cut.plan r.numbering × ArePlaces r.cut.soup.faces r.cut.plan r.places
+    ghost invariant = { λ r. IsNumbering r.cut.layout r.numbering × ArePlaces r.cut.soup.faces r.cut.layout r.places
         × (r.places.lengths.items ≡ r.numbering.lengths.items) };
 }
 
@@ -62,10 +62,10 @@ impl Regridded {
         x: &[u64],
         shares: Option<DartShares>,
     ) -> Result<Regridded, AllocError>
-        requires numbering { IsNumbering cut.plan numbering }
+        requires numbering { IsNumbering cut.layout numbering }
         requires lengths { numbering.lengths.items ≡ x.now }
         ensures { IfOk result (λ new.
-            new ≡ record { soup = cut.soup; plan = cut.plan; lengths = x.now; shares = shares }) }
+            new ≡ record { soup = cut.soup; layout = cut.layout; lengths = x.now; shares = shares }) }
     {
         let places = placer(alloc, cut.mesh(), cut.layout(), x, shares)?;
         Ok(Regridded {
@@ -77,29 +77,29 @@ impl Regridded {
 
     /// The mesh that is cut.
     pub fn cut(&self) -> &CutMesh
-        ensures { result.now ≡ record { soup = self.now.soup; plan = self.now.plan } }
+        ensures { result.now ≡ record { soup = self.now.soup; layout = self.now.layout } }
     {
         &self.cut
     }
 
     /// How many vertices there are.
     pub fn vertices(&self) -> u32
-        ensures { result ≡ vertices (layout_of self.now.plan) (lengths_in self.now.lengths) }
+        ensures { result ≡ vertices (gluing_of self.now.layout) (lengths_in self.now.lengths) }
     {
         self.numbering.vertices()
     }
 
     /// How many faces there are.
     pub fn faces(&self) -> u32
-        ensures { result ≡ face_count (layout_of self.now.plan) (lengths_in self.now.lengths) }
+        ensures { result ≡ face_count (gluing_of self.now.layout) (lengths_in self.now.lengths) }
     {
         self.numbering.faces()
     }
 
     /// Face f: the numbers of its corners.
     pub fn face(&self, f: u32) -> [u32; 4]
-        requires face { f < face_count (layout_of self.now.plan) (lengths_in self.now.lengths) }
-        ensures { result ≡ new_face (layout_of self.now.plan) (lengths_in self.now.lengths) f }
+        requires face { f < face_count (gluing_of self.now.layout) (lengths_in self.now.lengths) }
+        ensures { result ≡ new_face (gluing_of self.now.layout) (lengths_in self.now.lengths) f }
     {
         self.numbered().face(f)
     }
@@ -107,21 +107,21 @@ impl Regridded {
     /// The number of grid point (i, j) of a patch. In constant time inside the patch, and logarithmic in the arcs of a
     /// side on that.
     pub fn point(&self, patch: usize, i: u32, j: u32) -> u32
-        requires patch { patch < length self.now.plan.patches }
-        requires column { i ≤ wide (layout_of self.now.plan) (lengths_in self.now.lengths) patch }
-        requires row { j ≤ high (layout_of self.now.plan) (lengths_in self.now.lengths) patch }
-        ensures number { result ≡ vertex_number (layout_of self.now.plan) (lengths_in self.now.lengths)
-            (point (layout_of self.now.plan) (lengths_in self.now.lengths) patch i j) }
-        ensures vertex { result < vertices (layout_of self.now.plan) (lengths_in self.now.lengths) }
+        requires patch { patch < length self.now.layout.patches }
+        requires column { i ≤ wide (gluing_of self.now.layout) (lengths_in self.now.lengths) patch }
+        requires row { j ≤ high (gluing_of self.now.layout) (lengths_in self.now.lengths) patch }
+        ensures number { result ≡ vertex_number (gluing_of self.now.layout) (lengths_in self.now.lengths)
+            (point (gluing_of self.now.layout) (lengths_in self.now.lengths) patch i j) }
+        ensures vertex { result < vertices (gluing_of self.now.layout) (lengths_in self.now.lengths) }
     {
         self.numbered().point(patch, i, j)
     }
 
     /// The place of vertex v, and where it was found. In constant time where it is near the last one, else logarithmic.
     pub fn place_near(&self, v: u32, near: &mut Near) -> [Micro; 3]
-        requires vertex { v < vertices (layout_of self.now.plan) (lengths_in self.now.lengths) }
+        requires vertex { v < vertices (gluing_of self.now.layout) (lengths_in self.now.lengths) }
         ensures value { result
-            ≡ spaced_place self.now.soup.faces self.now.plan self.now.soup.pos self.now.shares
+            ≡ spaced_place self.now.soup.faces self.now.layout self.now.soup.pos self.now.shares
             (lengths_in self.now.lengths) v }
         ensures between { LiesBetween self.now.soup.pos result }
     {
@@ -131,8 +131,8 @@ impl Regridded {
 
     /// Where vertex v lies in the old mesh. In constant time where it is near the last one, else logarithmic.
     pub fn spot_near(&self, v: u32, near: &mut Near) -> Spot
-        requires vertex { v < vertices (layout_of self.now.plan) (lengths_in self.now.lengths) }
-        ensures value { result ≡ spot_at self.now.plan self.now.shares (lengths_in self.now.lengths) v }
+        requires vertex { v < vertices (gluing_of self.now.layout) (lengths_in self.now.lengths) }
+        ensures value { result ≡ spot_at self.now.layout self.now.shares (lengths_in self.now.lengths) v }
         ensures spot { IsSpot self.now.soup.faces result }
     {
         self.placed().spot_near(v, near)
@@ -140,19 +140,19 @@ impl Regridded {
 
     /// Where the face in column i and row j of a patch lies in the old mesh.
     pub fn home(&self, patch: usize, i: u32, j: u32) -> Home
-        requires patch { patch < length self.now.plan.patches }
-        requires column { i < wide (layout_of self.now.plan) (lengths_in self.now.lengths) patch }
-        requires row { j < high (layout_of self.now.plan) (lengths_in self.now.lengths) patch }
-        ensures { result ≡ home_of self.now.plan self.now.shares (lengths_in self.now.lengths) patch i j }
+        requires patch { patch < length self.now.layout.patches }
+        requires column { i < wide (gluing_of self.now.layout) (lengths_in self.now.lengths) patch }
+        requires row { j < high (gluing_of self.now.layout) (lengths_in self.now.lengths) patch }
+        ensures { result ≡ home_of self.now.layout self.now.shares (lengths_in self.now.lengths) patch i j }
     {
         self.placed().home(patch, i, j)
     }
 
     /// The new size of a patch: how wide it is, and how high.
     pub fn rim(&self, patch: usize) -> Rim
-        requires patch { patch < length self.now.plan.patches }
-        ensures wide { result.wide ≡ wide (layout_of self.now.plan) (lengths_in self.now.lengths) patch }
-        ensures high { result.high ≡ high (layout_of self.now.plan) (lengths_in self.now.lengths) patch }
+        requires patch { patch < length self.now.layout.patches }
+        ensures wide { result.wide ≡ wide (gluing_of self.now.layout) (lengths_in self.now.lengths) patch }
+        ensures high { result.high ≡ high (gluing_of self.now.layout) (lengths_in self.now.lengths) patch }
         ensures few { result.wide * result.high ≤ MAX_NEW_FACES }
         ensures short { (result.wide ≤ 2 ^ 21) × (result.high ≤ 2 ^ 21) }
     {
@@ -161,22 +161,22 @@ impl Regridded {
 
     /// What numbers points and faces.
     fn numbered(&self) -> Numbered<'_>
-        ensures plan { plan result.t.now ≡ self.now.plan }
+        ensures layout { layout_of result.t.now ≡ self.now.layout }
         ensures lengths { result.tables.now.lengths.items ≡ self.now.lengths }
-        ensures laid { IsMeshLayout self.now.soup.faces self.now.plan }
-        ensures even { AreLengths (layout_of self.now.plan) (lengths_in self.now.lengths) }
+        ensures laid { IsMeshLayout self.now.soup.faces self.now.layout }
+        ensures even { AreLengths (gluing_of self.now.layout) (lengths_in self.now.lengths) }
     {
         self.numbering.on(self.cut.layout())
     }
 
     /// What tells where points lie.
     fn placed(&self) -> Placed<'_>
-        ensures plan { plan result.t.now ≡ self.now.plan }
+        ensures layout { layout_of result.t.now ≡ self.now.layout }
         ensures lengths { result.tables.now.lengths.items ≡ self.now.lengths }
         ensures shares { shares_in result.tables.now.spaced ≡ self.now.shares }
-        ensures laid { IsMeshLayout self.now.soup.faces self.now.plan }
-        ensures even { AreLengths (layout_of self.now.plan) (lengths_in self.now.lengths) }
-        ensures few { face_count (layout_of self.now.plan) (lengths_in self.now.lengths) ≤ MAX_NEW_FACES }
+        ensures laid { IsMeshLayout self.now.soup.faces self.now.layout }
+        ensures even { AreLengths (gluing_of self.now.layout) (lengths_in self.now.lengths) }
+        ensures few { face_count (gluing_of self.now.layout) (lengths_in self.now.lengths) ≤ MAX_NEW_FACES }
     {
         self.places.on(self.cut.layout())
     }

@@ -2,7 +2,7 @@
 
 ghost use Rattle.std.specs.Prelude.{◌≡◌, ◌↔◌, ◌<◌, ◌^◌, length, IfOk, IsTrue};
 ghost use Rattle.def_layout.specs.Lengths.{AreLengths};
-ghost use Rattle.def_layout.specs.Plans.{layout_of};
+ghost use Rattle.def_layout.specs.Layouts.{gluing_of};
 ghost use Rattle.def_remesh.specs.NewPoints.{lengths_in};
 ghost use Rattle.def_remesh.specs.Remeshed.{AreCoarse, AreDoubled};
 ghost use Rattle.def_remesh.specs.Rises.{AreNeeded};
@@ -19,13 +19,13 @@ pub fn rises_over(
     lengths: &[u64],
     prices: &[i64],
 ) -> Result<Vec<Rise>, AllocError>
-    requires long { length lengths.now ≡ length cut.now.plan.arcs }
-    requires lengths { AreLengths (layout_of cut.now.plan) (lengths_in lengths.now) }
+    requires long { length lengths.now ≡ length cut.now.layout.arcs }
+    requires lengths { AreLengths (gluing_of cut.now.layout) (lengths_in lengths.now) }
     requires few { length lengths.now < 2 ^ 32 }
-    requires coarse { AreCoarse cut.now.plan lengths.now }
-    requires doubled { AreDoubled cut.now.plan lengths.now }
+    requires coarse { AreCoarse cut.now.layout lengths.now }
+    requires doubled { AreDoubled cut.now.layout lengths.now }
     requires prices { length prices.now ≡ length lengths.now }
-    ensures { IfOk result (λ rises. AreNeeded (layout_of cut.now.plan) (lengths_in lengths.now) rises.items) }
+    ensures { IfOk result (λ rises. AreNeeded (gluing_of cut.now.layout) (lengths_in lengths.now) rises.items) }
 {
     needed_rises(alloc, cut.layout(), lengths, prices)
 }
@@ -37,11 +37,11 @@ pub fn are_needed_over(
     lengths: &[u64],
     rises: &[Rise],
 ) -> Result<bool, AllocError>
-    requires long { length lengths.now ≡ length cut.now.plan.arcs }
-    requires lengths { AreLengths (layout_of cut.now.plan) (lengths_in lengths.now) }
-    requires coarse { AreCoarse cut.now.plan lengths.now }
+    requires long { length lengths.now ≡ length cut.now.layout.arcs }
+    requires lengths { AreLengths (gluing_of cut.now.layout) (lengths_in lengths.now) }
+    requires coarse { AreCoarse cut.now.layout lengths.now }
     ensures { IfOk result (λ are.
-        IsTrue are ↔ AreNeeded (layout_of cut.now.plan) (lengths_in lengths.now) rises.now) }
+        IsTrue are ↔ AreNeeded (gluing_of cut.now.layout) (lengths_in lengths.now) rises.now) }
 {
     are_needed(alloc, cut.layout(), lengths, rises)
 }

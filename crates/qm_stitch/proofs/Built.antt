@@ -4,8 +4,8 @@ use Rattle.std.proofs.lemmas.Nat.{mul-le}
 use Rattle.std.proofs.lemmas.List.{length-map}
 use Rattle.std.specs.Prelude.{slice_index}
 use Rattle.def_math.specs.Counts.{count_below}
-use Rattle.def_layout.specs.{Layouts.Way, Layouts.south, Layouts.west, Lengths.size, Lengths.wide, Lengths.high}
-use Rattle.def_layout.specs.Plans.{Plan, layout_of, way_number, side_at}
+use Rattle.def_layout.specs.{Gluings.Way, Gluings.south, Gluings.west, Lengths.size, Lengths.wide, Lengths.high}
+use Rattle.def_layout.specs.Layouts.{Layout, gluing_of, way_number, side_at}
 use Rattle.def_written.specs.Numbers.{vertices}
 use Rattle.def_remesh.specs.NewPoints.{lengths_in}
 use Rattle.def_remesh.specs.Numberings.{sizes_on, table_at, tables_of, AreRunStarts, AreSideStarts, IsNumbering}
@@ -13,7 +13,7 @@ use Rattle.def_remesh.specs.declared.tables.Tables.{Tables}
 use Rattle.sum_laws.proofs.Counts.{count_below_le, count_below_same}
 use Rattle.qm_offsets.specs.Fours.{begins_of}
 use Rattle.qm_offsets.proofs.{Spots.last_is, Spots.term_room, Whole.way_for}
-use Rattle.plan_laws.proofs.{MeshLayouts.laid_of, Bounds.side_few, Bounds.vertices_few}
+use Rattle.embedding_laws.proofs.{MeshLayouts.laid_of, Bounds.side_few, Bounds.vertices_few}
 use Rattle.written_laws.proofs.Sides.{size_some}
 use Rattle.qm_stitch.specs.Sizes.{long_by, product_by, table_in, AreRows, IsFine}
 
@@ -25,11 +25,11 @@ starts_same f g n starts same are = record {
   each = λ k low. are.each k low ∙ count_below_same f g k (λ j less. same j (omega arith));
 }
 
-module _ (plan : Plan) (list : List ℕ) (fine : IsFine plan list) where
-  pub few_points : vertices (layout_of plan) (lengths_in list) ≤ 2 ^ 23
+module _ (layout : Layout) (list : List ℕ) (fine : IsFine layout list) where
+  pub few_points : vertices (gluing_of layout) (lengths_in list) ≤ 2 ^ 23
   few_points = omega (
     arith,
-    vertices_few (layout_of plan) (lengths_in list) (laid_of plan fine.mesh) fine.lengths,
+    vertices_few (gluing_of layout) (lengths_in list) (laid_of layout fine.mesh) fine.lengths,
     fine.few,
   )
 
@@ -39,28 +39,29 @@ module _ (plan : Plan) (list : List ℕ) (fine : IsFine plan list) where
       omega (
         arith,
         few_points,
-        term_room (λ a. lengths_in list a - 1) (length plan.arcs) arc (omega (arith, low, fine.long)),
+        term_room (λ a. lengths_in list a - 1) (length layout.arcs) arc (omega (arith, low, fine.long)),
       )
 
-  pub sides_short : (p : ℕ) (s : Way) → p < length plan.patches → size (layout_of plan) (lengths_in list) p s < 2 ^ 32
+  pub sides_short : (p : ℕ) (s : Way) → p < length layout.patches
+      → size (gluing_of layout) (lengths_in list) p s < 2 ^ 32
   sides_short p s low = omega (
     arith,
     fine.few,
-    side_few (layout_of plan) (lengths_in list) (laid_of plan fine.mesh) fine.lengths p s low,
+    side_few (gluing_of layout) (lengths_in list) (laid_of layout fine.mesh) fine.lengths p s low,
   )
 
   pub points_short : count_below (λ arc. lengths_in list arc - 1) (length list) < 2 ^ 32
   points_short = omega (arith, few_points, ap (count_below (λ arc. lengths_in list arc - 1)) fine.long)
 
-  module _ (tables : List (List (List ℕ))) (are : AreSideStarts plan (lengths_in list) tables) where
-    long_is : (p : ℕ) (s : Way) → p < length plan.patches → long_by tables p (way_number s)
-        ≡ size (layout_of plan) (lengths_in list) p s
-    long_is p s low = last_is (sizes_on (side_at plan p s) (lengths_in list)) (length (side_at plan p s))
+  module _ (tables : List (List (List ℕ))) (are : AreSideStarts layout (lengths_in list) tables) where
+    long_is : (p : ℕ) (s : Way) → p < length layout.patches → long_by tables p (way_number s)
+        ≡ size (gluing_of layout) (lengths_in list) p s
+    long_is p s low = last_is (sizes_on (side_at layout p s) (lengths_in list)) (length (side_at layout p s))
         (table_at tables p s) (are.each p s low)
 
-    pub product_is : (less p : ℕ) → p < length plan.patches
-        → product_by tables less p ≡ (wide (layout_of plan) (lengths_in list) p - less) *
-        (high (layout_of plan) (lengths_in list) p - less)
+    pub product_is : (less p : ℕ) → p < length layout.patches
+        → product_by tables less p ≡ (wide (gluing_of layout) (lengths_in list) p - less) *
+        (high (gluing_of layout) (lengths_in list) p - less)
     product_is less p low = λ i. (long_is p south low i - less) * (long_is p west low i - less)
 
     pub rows : (less : ℕ) → less ≤ 1 → AreRows tables less
@@ -70,36 +71,40 @@ module _ (plan : Plan) (list : List ℕ) (fine : IsFine plan list) where
       long = λ p s low way. by_long p s (omega (arith, low, are.sided)) (way_for s way);
       small = omega (
         arith,
-        count_below_le (product_by tables less) (λ p. wide (layout_of plan) (lengths_in list) p * high (layout_of plan)
+        count_below_le (product_by tables less)
+            (λ p. wide (gluing_of layout) (lengths_in list) p * high (gluing_of layout)
             (lengths_in list) p) (length tables)
             (λ p low. term p (omega (arith, low, are.sided))),
-        ap (count_below (λ p. wide (layout_of plan) (lengths_in list) p * high (layout_of plan) (lengths_in list) p))
+        ap (count_below (λ p. wide (gluing_of layout) (lengths_in list) p * high (gluing_of layout) (lengths_in list)
+            p))
             are.sided,
         fine.few,
       );
     }
       where
-        by_some : (p s : ℕ) → p < length plan.patches → (w : Way) × (way_number w ≡ s)
+        by_some : (p s : ℕ) → p < length layout.patches → (w : Way) × (way_number w ≡ s)
             → 0 < length (table_in tables p s)
         by_some p s low w = subst (λ (k : ℕ). 0 < length (table_in tables p k)) w.1
             (omega (arith, (are.each p w.0 low).count))
 
-        by_long : (p s : ℕ) → p < length plan.patches → (w : Way) × (way_number w ≡ s) → (less ≤ long_by tables p s)
+        by_long : (p s : ℕ) → p < length layout.patches → (w : Way) × (way_number w ≡ s) → (less ≤ long_by tables p s)
             × (0 < long_by tables p s)
         by_long p s low w = subst (λ (k : ℕ). (less ≤ long_by tables p k) × (0 < long_by tables p k)) w.1
-            (let some : 0 < size (layout_of plan) (lengths_in list) p w.0 =
-            size_some (layout_of plan) (lengths_in list) (laid_of plan fine.mesh).paved fine.lengths p w.0 low in
+            (let some : 0 < size (gluing_of layout) (lengths_in list) p w.0 =
+            size_some (gluing_of layout) (lengths_in list) (laid_of layout fine.mesh).paved fine.lengths p w.0 low in
             (omega (arith, one, some, long_is p w.0 low), omega (arith, some, long_is p w.0 low)))
 
-        term : (p : ℕ) → p < length plan.patches → product_by tables less p ≤ wide (layout_of plan) (lengths_in list) p
-            * high (layout_of plan) (lengths_in list) p
+        term : (p : ℕ) → p < length layout.patches
+            → product_by tables less p ≤ wide (gluing_of layout) (lengths_in list) p
+            * high (gluing_of layout) (lengths_in list) p
         term p low =
             omega (
               arith,
               product_is less p low,
-              mul-le (wide (layout_of plan) (lengths_in list) p - less) (high (layout_of plan) (lengths_in list) p -
+              mul-le (wide (gluing_of layout) (lengths_in list) p - less) (high (gluing_of layout) (lengths_in list) p -
                   less)
-                  (wide (layout_of plan) (lengths_in list) p) (high (layout_of plan) (lengths_in list) p) (omega arith)
+                  (wide (gluing_of layout) (lengths_in list) p) (high (gluing_of layout) (lengths_in list) p)
+                  (omega arith)
                   (omega arith),
             )
 
@@ -107,13 +112,13 @@ no_less : (n : ℕ) → n - 0 ≡ n
 no_less n = omega arith
 
 -- All tables together.
-pub built : (plan : Plan) (t : Tables) (fine : IsFine plan t.lengths.items) → t.nodes ≡ length plan.nodes
+pub built : (layout : Layout) (t : Tables) (fine : IsFine layout t.lengths.items) → t.nodes ≡ length layout.nodes
     → AreRunStarts (λ arc. lengths_in t.lengths.items arc - 1) (length t.lengths.items) t.along.begin.items
-    → AreSideStarts plan (lengths_in t.lengths.items) (tables_of t.sides.items)
+    → AreSideStarts layout (lengths_in t.lengths.items) (tables_of t.sides.items)
     → AreRunStarts (product_by (tables_of t.sides.items) 1) (length t.sides.items) t.inside.begin.items
     → AreRunStarts (product_by (tables_of t.sides.items) 0) (length t.sides.items) t.cells.begin.items
-    → IsNumbering plan t
-built plan t fine nodes along sides inside cells = record {
+    → IsNumbering layout t
+built layout t fine nodes along sides inside cells = record {
   mesh = fine.mesh;
   long = fine.long;
   lengths = fine.lengths;
@@ -121,16 +126,16 @@ built plan t fine nodes along sides inside cells = record {
   nodes = nodes;
   along = subst (λ (n : ℕ). AreRunStarts (λ arc. lengths_in t.lengths.items arc - 1) n t.along.begin.items) fine.long
       along;
-  inside = starts_same _ _ (length plan.patches) t.inside.begin.items
-      (product_is plan t.lengths.items fine (tables_of t.sides.items) sides 1)
+  inside = starts_same _ _ (length layout.patches) t.inside.begin.items
+      (product_is layout t.lengths.items fine (tables_of t.sides.items) sides 1)
       (subst (λ (n : ℕ). AreRunStarts (product_by (tables_of t.sides.items) 1) n t.inside.begin.items) many inside);
-  cells = starts_same _ _ (length plan.patches) t.cells.begin.items (λ p low. product_is plan t.lengths.items fine
+  cells = starts_same _ _ (length layout.patches) t.cells.begin.items (λ p low. product_is layout t.lengths.items fine
       (tables_of t.sides.items) sides 0 p low
-      ∙ (λ i. no_less (wide (layout_of plan) (lengths_in t.lengths.items) p) i * no_less
-      (high (layout_of plan) (lengths_in t.lengths.items) p) i))
+      ∙ (λ i. no_less (wide (gluing_of layout) (lengths_in t.lengths.items) p) i * no_less
+      (high (gluing_of layout) (lengths_in t.lengths.items) p) i))
       (subst (λ (n : ℕ). AreRunStarts (product_by (tables_of t.sides.items) 0) n t.cells.begin.items) many cells);
   sides = sides;
 }
   where
-    many : length t.sides.items ≡ length plan.patches
+    many : length t.sides.items ≡ length layout.patches
     many = sym (length-map t.sides.items begins_of) ∙ sides.sided

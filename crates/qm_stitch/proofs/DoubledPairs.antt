@@ -4,7 +4,7 @@ use Rattle.std.proofs.Common.{ap, subst, inl, inr, arith}
 use Rattle.std.proofs.lemmas.Bool.{cases_lt}
 use Rattle.std.proofs.lemmas.List.{get_or-map, get_or_default, length-map}
 use Rattle.std.specs.{Prelude.min, Prelude.max, List.Contains}
-use Rattle.def_layout.specs.{Layouts.Way, Layouts.east, Layouts.north, Layouts.Layout, Surfaces.IsSurface}
+use Rattle.def_layout.specs.{Gluings.Way, Gluings.east, Gluings.north, Gluings.Gluing, Surfaces.IsSurface}
 use Rattle.def_layout.specs.Lengths.{Lengths, AreLengths}
 use Rattle.def_written.specs.{Points.inside, Numbers.vertex_number, Numbers.vertices, Edges.Edge, Edges.on_arc}
 use Rattle.def_written.specs.Edges.{flat, steep, IsEdge, edge_start, edge_end, HasEnds}
@@ -28,7 +28,7 @@ split_key a b key a_low b_low is =
       | inr more ↦ (omega arith, inl (omega arith, omega arith))
     ]
 
-module _ (l : Layout) (x : Lengths) (laid : IsSurface l) (len : AreLengths l x) where
+module _ (l : Gluing) (x : Lengths) (laid : IsSurface l) (len : AreLengths l x) where
   -- An edge between two inner points of a patch leaves one of them in a direction.
   record IsHub (e : Edge) : Type 0 where
     p : ℕ

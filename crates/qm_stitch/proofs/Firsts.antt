@@ -8,7 +8,7 @@ use Rattle.std.proofs.lemmas.List.{get_or_default}
 use Rattle.std.proofs.lemmas.List.Elements.{Contains-get_or}
 use Rattle.std.proofs.lemmas.List.Sorted.{Contains-permutation, IsPermutation-sym}
 use Rattle.std.specs.{List.Contains, List.Sorted.IsPermutation, Prelude.◌≤ℤ◌}
-use Rattle.def_layout.specs.Plans.{Plan}
+use Rattle.def_layout.specs.Layouts.{Layout}
 use Rattle.qm_stitch.specs.Remedies.{remedy_at, AreInOrder, AreMarksOf, IsArcOf, IsCheapestIn, IsFirstUpto}
 use Rattle.qm_stitch.specs.Tight.{AddsMarks}
 use Rattle.qm_stitch.specs.declared.remedy.Remedy.{Remedy}
@@ -125,11 +125,11 @@ cheapest_moved xs ys r moved is = record {
 }
 
 -- Marks of the arcs of the first remedies of a list in order are those of cheapest ones.
-pub marks_of : (plan : Plan) (xs ys : List Remedy) (none marks : List Bool) → IsPermutation xs ys → AreInOrder ys
-    → length none ≡ length plan.arcs → length marks ≡ length none
-    → ((arc : ℕ) → arc < length plan.arcs → get_or none arc false ≡ false)
-    → AddsMarks none marks (IsFirstUpto plan ys (length ys)) → AreMarksOf plan xs marks
-marks_of plan xs ys none marks moved ordered long longer blank adds = record {
+pub marks_of : (layout : Layout) (xs ys : List Remedy) (none marks : List Bool) → IsPermutation xs ys → AreInOrder ys
+    → length none ≡ length layout.arcs → length marks ≡ length none
+    → ((arc : ℕ) → arc < length layout.arcs → get_or none arc false ≡ false)
+    → AddsMarks none marks (IsFirstUpto layout ys (length ys)) → AreMarksOf layout xs marks
+marks_of layout xs ys none marks moved ordered long longer blank adds = record {
   long = longer ∙ long;
   only = λ arc low on. of_mark arc low ((adds arc (omega (arith, low, long))).0 on);
   each = λ some has.
@@ -143,8 +143,9 @@ marks_of plan xs ys none marks moved ordered long longer blank adds = record {
       );
 }
   where
-    of_mark : (arc : ℕ) → arc < length plan.arcs → (get_or none arc false ≡ true) ⊎ IsFirstUpto plan ys (length ys) arc
-        → (r : Remedy) × IsCheapestIn xs r × IsArcOf plan r.run arc
+    of_mark : (arc : ℕ) → arc < length layout.arcs → (get_or none arc false ≡ true)
+        ⊎ IsFirstUpto layout ys (length ys) arc
+        → (r : Remedy) × IsCheapestIn xs r × IsArcOf layout r.run arc
     of_mark arc low (inl on) = absurd (false≢true (sym (blank arc low) ∙ on))
     of_mark arc low (inr (k, less, (first, of))) = (
       remedy_at ys k,

@@ -6,9 +6,9 @@ use Rattle.std.proofs.lemmas.List.{get_or_read}
 use Rattle.std.proofs.Math.Nat.{mul_comm}
 use Rattle.std.specs.{Prelude.◌==◌, Prelude.slice_index, List.All}
 use Rattle.def_math.specs.{Counts.count_below, Runs.run_at}
-use Rattle.def_layout.specs.{declared.tmesh.SideArc.SideArc, Layouts.Way, Layouts.east, Layouts.north, Layouts.west}
-use Rattle.def_layout.specs.{Layouts.Layout, Lengths.Lengths, Lengths.size, Lengths.wide, Lengths.high, Plans.Plan}
-use Rattle.def_layout.specs.Plans.{layout_of, way_number, side_at}
+use Rattle.def_layout.specs.{declared.tmesh.SideArc.SideArc, Gluings.Way, Gluings.east, Gluings.north, Gluings.west}
+use Rattle.def_layout.specs.{Gluings.Gluing, Lengths.Lengths, Lengths.size, Lengths.wide, Lengths.high, Layouts.Layout}
+use Rattle.def_layout.specs.Layouts.{gluing_of, way_number, side_at}
 use Rattle.def_written.specs.Numbers.{before_arc, before_patch, vertex_number as point_name}
 use Rattle.def_written.specs.NewFaces.{cells_before, face_count, patch_of, cell_in}
 use Rattle.def_written.specs.Points.{along, inside, arc_point, use_point, side_point, point}
@@ -19,11 +19,11 @@ use Rattle.written_laws.proofs.{Runs.run_here, Runs.run_low, Runs.IsInRun, EdgeN
 use Rattle.written_laws.proofs.Sides.{arc_inner}
 use Rattle.qm_offsets.proofs.Spots.{last_is, within_run}
 use Rattle.qm_offsets.proofs.Whole.{arcs_low, read_size, read_used, way_for}
-use Rattle.plan_laws.proofs.{MeshLayouts.laid_of, Bounds.side_few, Bounds.vertices_few}
+use Rattle.embedding_laws.proofs.{MeshLayouts.laid_of, Bounds.side_few, Bounds.vertices_few}
 use Rattle.qm_stitch.specs.{Numbered.AreTables, Sizes.long_by, Sizes.table_in, Sizes.point_on}
 
 -- Which side a grid point lies on.
-module _ (l : Layout) (x : Lengths) (p i j : ℕ) where
+module _ (l : Gluing) (x : Lengths) (p i j : ℕ) where
   pub on_north : j ≢ 0 → j ≡ high l x p → point l x p i j ≡ side_point l x p north (wide l x p - i)
   on_north j_some top = cond-false (j == 0) _ _ (ne_eqb j 0 j_some)
       ∙ cond-true (j == high l x p) _ _ (eq-eqb j (high l x p) top)
@@ -43,21 +43,21 @@ module _ (l : Layout) (x : Lengths) (p i j : ℕ) where
       ∙ cond-false (i == 0) _ _ (ne_eqb i 0 i_some) ∙ cond-false (i == wide l x p) _ _ (ne_eqb i (wide l x p) i_low)
 
 -- What is read of tables that number the layout of a mesh.
-pub tables_are : (plan : Plan) (t : Tables) → IsNumbering plan t → AreTables plan t
-tables_are plan t is = record {
-  paved = (laid_of plan is.mesh).paved;
+pub tables_are : (layout : Layout) (t : Tables) → IsNumbering layout t → AreTables layout t
+tables_are layout t is = record {
+  paved = (laid_of layout is.mesh).paved;
   sided = is.mesh.laid.sided;
   four = is.mesh.laid.four;
   long = is.long;
   lengths = is.lengths;
   few = omega (
     arith,
-    vertices_few (layout_of plan) (lengths_in t.lengths.items) (laid_of plan is.mesh) is.lengths,
+    vertices_few (gluing_of layout) (lengths_in t.lengths.items) (laid_of layout is.mesh) is.lengths,
     is.few,
   );
   short = λ p s low. omega (
     arith,
-    side_few (layout_of plan) (lengths_in t.lengths.items) (laid_of plan is.mesh) is.lengths p s low,
+    side_few (gluing_of layout) (lengths_in t.lengths.items) (laid_of layout is.mesh) is.lengths p s low,
     is.few,
   );
   nodes = is.nodes;
@@ -67,20 +67,20 @@ tables_are plan t is = record {
   sides = is.sides;
 }
 
-module _ (plan : Plan) (t : Tables) (is : AreTables plan t) where
-  abbrev l : Layout
-  l = layout_of plan
+module _ (layout : Layout) (t : Tables) (is : AreTables layout t) where
+  abbrev l : Gluing
+  l = gluing_of layout
 
   abbrev x : Lengths
   x = lengths_in t.lengths.items
 
   -- The tables of a side.
-  pub long_is : (p : ℕ) (s : Way) → p < length plan.patches
-      → long_by (tables_of t.sides.items) p (way_number s) ≡ size (layout_of plan) (lengths_in t.lengths.items) p s
-  long_is p s low = last_is (sizes_on (side_at plan p s) x) (length (side_at plan p s))
+  pub long_is : (p : ℕ) (s : Way) → p < length layout.patches
+      → long_by (tables_of t.sides.items) p (way_number s) ≡ size (gluing_of layout) (lengths_in t.lengths.items) p s
+  long_is p s low = last_is (sizes_on (side_at layout p s) x) (length (side_at layout p s))
       (table_at (tables_of t.sides.items) p s) (is.sides.each p s low)
 
-  pub table_some : (p s : ℕ) → p < length plan.patches → s < 4 → 0 < length (table_in (tables_of t.sides.items) p s)
+  pub table_some : (p s : ℕ) → p < length layout.patches → s < 4 → 0 < length (table_in (tables_of t.sides.items) p s)
   table_some p s low way = by_way (way_for s way)
     where
       by_way : (w : Way) × (way_number w ≡ s) → 0 < length (table_in (tables_of t.sides.items) p s)
@@ -88,13 +88,13 @@ module _ (plan : Plan) (t : Tables) (is : AreTables plan t) where
           (omega (arith, (is.sides.each p w.0 low).count))
 
   -- What is read of the tables.
-  pub along_at : (a v : ℕ) → a < length plan.arcs → v ≡ get_or t.along.begin.items a v
+  pub along_at : (a v : ℕ) → a < length layout.arcs → v ≡ get_or t.along.begin.items a v
       → v ≡ before_arc (lengths_in t.lengths.items) a
   along_at a v low read = get_or_read t.along.begin.items a v (omega (arith, low, is.along.count)) read 0
       ∙ is.along.each a (omega (arith, low))
 
   -- An inner point of an arc.
-  pub arc_here : (a k v w : ℕ) → a < length plan.arcs → k ≤ lengths_in t.lengths.items a → k ≢ 0 → k ≢ v
+  pub arc_here : (a k v w : ℕ) → a < length layout.arcs → k ≤ lengths_in t.lengths.items a → k ≢ 0 → k ≢ v
       → v ≡ get_or t.lengths.items a v → w ≡ get_or t.along.begin.items a w
       → (t.nodes + w + (k - 1) ≡ point_name l x (arc_point l x a k)) × (t.nodes + w + (k - 1) < 2 ^ 23)
   arc_here a k v w low upto some other read_v read_w =
@@ -111,9 +111,9 @@ module _ (plan : Plan) (t : Tables) (is : AreTables plan t) where
     pub from : get_or starts at 0 ≤ place
     pub upto : place - get_or starts at 0
         ≤ lengths_in t.lengths.items (get_or side at (record { arc = 0; forward = false })).arc
-    pub point : use_point (layout_of plan) (lengths_in t.lengths.items)
+    pub point : use_point (gluing_of layout) (lengths_in t.lengths.items)
         (get_or side at (record { arc = 0; forward = false })) (place - get_or starts at 0)
-        ≡ point_on (layout_of plan) (lengths_in t.lengths.items) side place
+        ≡ point_on (gluing_of layout) (lengths_in t.lengths.items) side place
 
   pub there : (side : List SideArc) (starts : List ℕ) (place at : ℕ) → 0 < length side
       → AreRunStarts (sizes_on side (lengths_in t.lengths.items)) (length side) starts
@@ -140,63 +140,65 @@ module _ (plan : Plan) (t : Tables) (is : AreTables plan t) where
   -- A side of a patch and its table.
   pub record IsBorder (p s : ℕ) (side : List SideArc) (starts : List ℕ) : Type 0 where
     pub some : 0 < length side
-    pub low : All (λ (used : SideArc). used.arc < length plan.arcs) side
+    pub low : All (λ (used : SideArc). used.arc < length layout.arcs) side
     pub starts_are : AreRunStarts (sizes_on side (lengths_in t.lengths.items)) (length side) starts
     pub long : count_below (sizes_on side (lengths_in t.lengths.items)) (length side)
         ≡ long_by (tables_of t.sides.items) p s
 
-  pub border : (p s : ℕ) (side : List SideArc) (starts : List ℕ) → p < length plan.patches → s < 4
-      → side ≡ get_or (get_or plan.sides p []) s [] → starts ≡ table_in (tables_of t.sides.items) p s
+  pub border : (p s : ℕ) (side : List SideArc) (starts : List ℕ) → p < length layout.patches → s < 4
+      → side ≡ get_or (get_or layout.sides p []) s [] → starts ≡ table_in (tables_of t.sides.items) p s
       → IsBorder p s side starts
   border p s side starts low way side_is starts_is =
       subst (λ (us : List SideArc). IsBorder p s us starts) (sym side_is)
-      (subst (λ (xs : List ℕ). IsBorder p s (get_or (get_or plan.sides p []) s []) xs) (sym starts_is)
+      (subst (λ (xs : List ℕ). IsBorder p s (get_or (get_or layout.sides p []) s []) xs) (sym starts_is)
       (by_way (way_for s way)))
     where
       by_way : (w : Way) × (way_number w ≡ s)
-          → IsBorder p s (get_or (get_or plan.sides p []) s []) (table_in (tables_of t.sides.items) p s)
+          → IsBorder p s (get_or (get_or layout.sides p []) s []) (table_in (tables_of t.sides.items) p s)
       by_way w =
-          subst (λ (k : ℕ). IsBorder p k (get_or (get_or plan.sides p []) k [])
+          subst (λ (k : ℕ). IsBorder p k (get_or (get_or layout.sides p []) k [])
           (table_in (tables_of t.sides.items) p k)) w.1
           (record {
             some = is.paved.sides_full p w.0 low;
-            low = arcs_low plan is.paved p w.0 (length plan.arcs) (side_at plan p w.0) low refl refl;
+            low = arcs_low layout is.paved p w.0 (length layout.arcs) (side_at layout p w.0) low refl refl;
             starts_are = is.sides.each p w.0 low;
             long = sym (long_is p w.0 low);
           })
 
   -- The end of a table is the length of its side.
-  pub table_full : (p s : ℕ) (sides : List (List RunStarts)) (table : List ℕ) → p < length plan.patches → s < 4
+  pub table_full : (p s : ℕ) (sides : List (List RunStarts)) (table : List ℕ) → p < length layout.patches → s < 4
       → sides ≡ t.sides.items
       → table ≡ table_in (tables_of sides) p s → 0 < length table
   table_full p s sides table low way same table_is = subst (λ (xs : List ℕ). 0 < length xs)
       (sym (table_is ∙ ap (λ (ys : List (List RunStarts)). table_in (tables_of ys) p s) same)) (table_some p s low way)
 
-  pub size_read : (p : ℕ) (s : Way) (sides : List (List RunStarts)) (table : List ℕ) (v : ℕ) → p < length plan.patches
+  pub size_read : (p : ℕ) (s : Way) (sides : List (List RunStarts)) (table : List ℕ) (v : ℕ) → p < length layout.patches
       → sides ≡ t.sides.items
       → table ≡ table_in (tables_of sides) p (way_number s) → v ≡ slice_index table (length table - 1)
-      → v ≡ size (layout_of plan) (lengths_in t.lengths.items) p s
+      → v ≡ size (gluing_of layout) (lengths_in t.lengths.items) p s
   size_read p s sides table v low same table_is read = read ∙ ap (λ (xs : List ℕ). slice_index xs (length xs - 1))
       (table_is ∙ ap (λ (ys : List (List RunStarts)). table_in (tables_of ys) p (way_number s)) same) ∙ long_is p s low
 
   -- The cell with a number.
   pub record IsCell (f : ℕ) : Type 0 where
-    pub patch_low : patch_of (layout_of plan) (lengths_in t.lengths.items) f < length plan.patches
-    pub from : cells_before (layout_of plan) (lengths_in t.lengths.items)
-        (patch_of (layout_of plan) (lengths_in t.lengths.items) f) ≤ f
-    pub some : 0 < wide (layout_of plan) (lengths_in t.lengths.items)
-        (patch_of (layout_of plan) (lengths_in t.lengths.items) f)
-    pub column : cell_in (layout_of plan) (lengths_in t.lengths.items) f % wide (layout_of plan)
-        (lengths_in t.lengths.items) (patch_of (layout_of plan) (lengths_in t.lengths.items) f)
-        < wide (layout_of plan) (lengths_in t.lengths.items) (patch_of (layout_of plan) (lengths_in t.lengths.items) f)
-    pub row : cell_in (layout_of plan) (lengths_in t.lengths.items) f / wide (layout_of plan)
-        (lengths_in t.lengths.items) (patch_of (layout_of plan) (lengths_in t.lengths.items) f)
-        < high (layout_of plan) (lengths_in t.lengths.items) (patch_of (layout_of plan) (lengths_in t.lengths.items) f)
+    pub patch_low : patch_of (gluing_of layout) (lengths_in t.lengths.items) f < length layout.patches
+    pub from : cells_before (gluing_of layout) (lengths_in t.lengths.items)
+        (patch_of (gluing_of layout) (lengths_in t.lengths.items) f) ≤ f
+    pub some : 0 < wide (gluing_of layout) (lengths_in t.lengths.items)
+        (patch_of (gluing_of layout) (lengths_in t.lengths.items) f)
+    pub column : cell_in (gluing_of layout) (lengths_in t.lengths.items) f % wide (gluing_of layout)
+        (lengths_in t.lengths.items) (patch_of (gluing_of layout) (lengths_in t.lengths.items) f)
+        < wide (gluing_of layout) (lengths_in t.lengths.items)
+        (patch_of (gluing_of layout) (lengths_in t.lengths.items) f)
+    pub row : cell_in (gluing_of layout) (lengths_in t.lengths.items) f / wide (gluing_of layout)
+        (lengths_in t.lengths.items) (patch_of (gluing_of layout) (lengths_in t.lengths.items) f)
+        < high (gluing_of layout) (lengths_in t.lengths.items)
+        (patch_of (gluing_of layout) (lengths_in t.lengths.items) f)
 
-  pub cell_is : (f : ℕ) → f < face_count (layout_of plan) (lengths_in t.lengths.items) → IsCell f
+  pub cell_is : (f : ℕ) → f < face_count (gluing_of layout) (lengths_in t.lengths.items) → IsCell f
   cell_is f low =
-      let h : IsInRun (λ p. wide l x p * high l x p) (length plan.patches) f (patch_of l x f) (cell_in l x f) =
-      run_here (λ p. wide l x p * high l x p) (length plan.patches) f low in
+      let h : IsInRun (λ p. wide l x p * high l x p) (length layout.patches) f (patch_of l x f) (cell_in l x f) =
+      run_here (λ p. wide l x p * high l x p) (length layout.patches) f low in
       let less : cell_in l x f < high l x (patch_of l x f) * wide l x (patch_of l x f) =
       subst (λ k. cell_in l x f < k) (mul_comm (wide l x (patch_of l x f)) (high l x (patch_of l x f))) h.inside in
       let r = in_rows (wide l x (patch_of l x f)) (high l x (patch_of l x f)) (cell_in l x f) less in
@@ -204,65 +206,65 @@ module _ (plan : Plan) (t : Tables) (is : AreTables plan t) where
 
   -- A face that is found: its patch, where the cells of that begin, and how wide it is.
   pub record IsFaceAt (f patch begin columns : ℕ) : Type 0 where
-    pub patch_is : patch ≡ patch_of (layout_of plan) (lengths_in t.lengths.items) f
-    pub begin_is : begin ≡ cells_before (layout_of plan) (lengths_in t.lengths.items)
-        (patch_of (layout_of plan) (lengths_in t.lengths.items) f)
-    pub columns_are : columns ≡ wide (layout_of plan) (lengths_in t.lengths.items)
-        (patch_of (layout_of plan) (lengths_in t.lengths.items) f)
+    pub patch_is : patch ≡ patch_of (gluing_of layout) (lengths_in t.lengths.items) f
+    pub begin_is : begin ≡ cells_before (gluing_of layout) (lengths_in t.lengths.items)
+        (patch_of (gluing_of layout) (lengths_in t.lengths.items) f)
+    pub columns_are : columns ≡ wide (gluing_of layout) (lengths_in t.lengths.items)
+        (patch_of (gluing_of layout) (lengths_in t.lengths.items) f)
 
-  pub column_low : (f patch begin columns : ℕ) → f < face_count (layout_of plan) (lengths_in t.lengths.items)
+  pub column_low : (f patch begin columns : ℕ) → f < face_count (gluing_of layout) (lengths_in t.lengths.items)
       → IsFaceAt f patch begin columns
-      → (f - begin) % columns < wide (layout_of plan) (lengths_in t.lengths.items) patch
+      → (f - begin) % columns < wide (gluing_of layout) (lengths_in t.lengths.items) patch
   column_low f patch begin columns low at =
       let e : (f - begin) % columns ≡ cell_in l x f % wide l x (patch_of l x f) =
       λ k. (f - at.begin_is k) % at.columns_are k in
       omega (arith, e, (cell_is f low).column, ap (wide l x) at.patch_is)
 
-  pub row_low : (f patch begin columns : ℕ) → f < face_count (layout_of plan) (lengths_in t.lengths.items)
+  pub row_low : (f patch begin columns : ℕ) → f < face_count (gluing_of layout) (lengths_in t.lengths.items)
       → IsFaceAt f patch begin columns
-      → (f - begin) / columns < high (layout_of plan) (lengths_in t.lengths.items) patch
+      → (f - begin) / columns < high (gluing_of layout) (lengths_in t.lengths.items) patch
   row_low f patch begin columns low at =
       let e : (f - begin) / columns ≡ cell_in l x f / wide l x (patch_of l x f) =
       λ k. (f - at.begin_is k) / at.columns_are k in
       omega (arith, e, (cell_is f low).row, ap (high l x) at.patch_is)
 
-  pub cells_at : (p v : ℕ) → p < length plan.patches → v ≡ get_or t.cells.begin.items p v
-      → v ≡ cells_before (layout_of plan) (lengths_in t.lengths.items) p
+  pub cells_at : (p v : ℕ) → p < length layout.patches → v ≡ get_or t.cells.begin.items p v
+      → v ≡ cells_before (gluing_of layout) (lengths_in t.lengths.items) p
   cells_at p v low read = get_or_read t.cells.begin.items p v (omega (arith, low, is.cells.count)) read 0
       ∙ is.cells.each p (omega (arith, low))
 
-  pub inside_at : (p v : ℕ) → p < length plan.patches → v ≡ get_or t.inside.begin.items p v
-      → v ≡ before_patch (layout_of plan) (lengths_in t.lengths.items) p
+  pub inside_at : (p v : ℕ) → p < length layout.patches → v ≡ get_or t.inside.begin.items p v
+      → v ≡ before_patch (gluing_of layout) (lengths_in t.lengths.items) p
   inside_at p v low read = get_or_read t.inside.begin.items p v (omega (arith, low, is.inside.count)) read 0
       ∙ is.inside.each p (omega (arith, low))
 
   -- The end of the arcs' inner points.
   pub along_end : (list : List ℕ) (v : ℕ) → list ≡ t.along.begin.items → v ≡ slice_index list (length list - 1)
-      → v ≡ before_arc (lengths_in t.lengths.items) (length plan.arcs)
+      → v ≡ before_arc (lengths_in t.lengths.items) (length layout.arcs)
   along_end list v same read = read ∙ ap (λ (xs : List ℕ). slice_index xs (length xs - 1)) same ∙ last_is
-      (λ a. lengths_in t.lengths.items a - 1) (length plan.arcs) t.along.begin.items is.along
+      (λ a. lengths_in t.lengths.items a - 1) (length layout.arcs) t.along.begin.items is.along
 
   -- The end of the patches' inner points.
   pub inside_end : (list : List ℕ) (v : ℕ) → list ≡ t.inside.begin.items → v ≡ slice_index list (length list - 1)
-      → v ≡ before_patch (layout_of plan) (lengths_in t.lengths.items) (length plan.patches)
+      → v ≡ before_patch (gluing_of layout) (lengths_in t.lengths.items) (length layout.patches)
   inside_end list v same read = read ∙ ap (λ (xs : List ℕ). slice_index xs (length xs - 1)) same ∙ last_is
-      (λ p. (wide l x p - 1) * (high l x p - 1)) (length plan.patches) t.inside.begin.items is.inside
+      (λ p. (wide l x p - 1) * (high l x p - 1)) (length layout.patches) t.inside.begin.items is.inside
 
   -- The end of the patches' cells.
   pub cells_end : (list : List ℕ) (v : ℕ) → list ≡ t.cells.begin.items → v ≡ slice_index list (length list - 1)
-      → v ≡ face_count (layout_of plan) (lengths_in t.lengths.items)
+      → v ≡ face_count (gluing_of layout) (lengths_in t.lengths.items)
   cells_end list v same read = read ∙ ap (λ (xs : List ℕ). slice_index xs (length xs - 1)) same ∙ last_is
-      (λ p. wide l x p * high l x p) (length plan.patches) t.cells.begin.items is.cells
+      (λ p. wide l x p * high l x p) (length layout.patches) t.cells.begin.items is.cells
 
   -- An inner point of a patch.
-  pub inside_here : (p i j columns begin end : ℕ) → p < length plan.patches
-      → i ≤ wide (layout_of plan) (lengths_in t.lengths.items) p
-      → j ≤ high (layout_of plan) (lengths_in t.lengths.items) p → j ≢ 0
-      → j ≢ high (layout_of plan) (lengths_in t.lengths.items) p
-      → i ≢ 0 → i ≢ wide (layout_of plan) (lengths_in t.lengths.items) p
-      → columns ≡ wide (layout_of plan) (lengths_in t.lengths.items) p
-      → begin ≡ before_patch (layout_of plan) (lengths_in t.lengths.items) p
-      → end ≡ before_arc (lengths_in t.lengths.items) (length plan.arcs)
+  pub inside_here : (p i j columns begin end : ℕ) → p < length layout.patches
+      → i ≤ wide (gluing_of layout) (lengths_in t.lengths.items) p
+      → j ≤ high (gluing_of layout) (lengths_in t.lengths.items) p → j ≢ 0
+      → j ≢ high (gluing_of layout) (lengths_in t.lengths.items) p
+      → i ≢ 0 → i ≢ wide (gluing_of layout) (lengths_in t.lengths.items) p
+      → columns ≡ wide (gluing_of layout) (lengths_in t.lengths.items) p
+      → begin ≡ before_patch (gluing_of layout) (lengths_in t.lengths.items) p
+      → end ≡ before_arc (lengths_in t.lengths.items) (length layout.arcs)
       → (t.nodes + end + begin + ((j - 1) * (columns - 1) + (i - 1)) ≡ point_name l x (point l x p i j))
       × (t.nodes + end + begin + ((j - 1) * (columns - 1) + (i - 1)) < 2 ^ 23)
   inside_here p i j columns begin end low i_upto j_upto j_some j_low i_some i_low columns_are begin_is end_is =

@@ -3,11 +3,11 @@ use Rattle.std.proofs.Common.{◌≡◌, ◌⊎◌, ◌↔◌, ℕ, zero, suc, �
 use Rattle.std.proofs.Common.{refl, sym, ◌∙◌, ap, subst, inl, inr, arith}
 use Rattle.std.specs.{List.Contains, Prelude.◌==◌, Prelude.ℤ}
 use Rattle.def_flow.specs.declared.limits.TheConstants.{MAX_FLOOR}
-use Rattle.def_layout.specs.{Layouts.Layout, Lengths.Lengths, Lengths.size, Plans.plan}
+use Rattle.def_layout.specs.{Gluings.Gluing, Lengths.Lengths, Lengths.size, Layouts.layout_of}
 use Rattle.def_written.specs.Edges.{Edge, on_arc, flat, steep, IsEdge}
 use Rattle.qm_offsets.specs.Fours.{arcs_on}
 use Rattle.written_laws.proofs.Sides.{size_some}
-use Rattle.qm_stitch.specs.{Lengthened.layout_in, Lengthened.lengths_by}
+use Rattle.qm_stitch.specs.{Lengthened.gluing_in, Lengthened.lengths_by}
 use Rattle.qm_stitch.specs.Remedies.{price_along, price_of, short_price, AddsRemedies, IsAlong, IsAlongArcs}
 use Rattle.qm_stitch.specs.Remedies.{IsAlongPatches, IsByLine, IsPriced, IsPricedRemedy, IsRunIn, IsRunOf, IsShortRun}
 use Rattle.qm_stitch.specs.Rims.{along_lines, key_of, line_edge, IsLine, IsRepeat}
@@ -91,8 +91,8 @@ run_arc (steep q i j) a (inl same) = absurd (arc_apart a q 1 same)
 run_arc (steep q i j) a (inr same) = absurd (arc_apart a q 3 same)
 
 module _ (priced : Priced) where
-  abbrev l : Layout
-  l = layout_in priced.numbered
+  abbrev l : Gluing
+  l = gluing_in priced.numbered
 
   abbrev x : Lengths
   x = lengths_by priced.numbered
@@ -184,8 +184,8 @@ module _ (priced : Priced) where
     -- All lines along a side.
     pub side_adds : (p s lines : ℕ) (price : ℤ) (old new : List Remedy) → s < 4
         → lines ≡ size l x p (along_lines (not (s % 2 == 1)))
-        → price ≡ price_along x priced.prices.now (arcs_on (plan priced.numbered.t.now) p s)
-        → IsShortRun (plan priced.numbered.t.now) x (Side p s)
+        → price ≡ price_along x priced.prices.now (arcs_on (layout_of priced.numbered.t.now) p s)
+        → IsShortRun (layout_of priced.numbered.t.now) x (Side p s)
         → AddsRemedies old new (λ r. (n : ℕ) × (n < lines) × IsInLine p s price n r)
         → AddsRemedies old new (IsAlong priced (Side p s))
     side_adds p s lines price old new low lines_is price_is short adds =
@@ -200,8 +200,9 @@ module _ (priced : Priced) where
               doubled = by.doubled;
               key = by.key;
               run = subst (IsRunOf (line_edge (s % 2 == 1) p n by.at)) (sym by.run) (side_run s low p n by.at);
-              short = subst (IsShortRun (plan priced.numbered.t.now) x) (sym by.run) short;
-              price = by.price ∙ price_is ∙ ap (price_of (plan priced.numbered.t.now) x priced.prices.now) (sym by.run);
+              short = subst (IsShortRun (layout_of priced.numbered.t.now) x) (sym by.run) short;
+              price = by.price ∙ price_is
+                  ∙ ap (price_of (layout_of priced.numbered.t.now) x priced.prices.now) (sym by.run);
             },
           ),
         )
@@ -221,7 +222,7 @@ module _ (priced : Priced) where
                       at = k;
                       doubled = subst (IsDoubled l x) e_is by.doubled;
                       key = by.key ∙ ap (key_of l x) e_is;
-                      price = by.price ∙ ap (price_of (plan priced.numbered.t.now) x priced.prices.now) same
+                      price = by.price ∙ ap (price_of (layout_of priced.numbered.t.now) x priced.prices.now) same
                           ∙ sym price_is;
                       run = same;
                     },
@@ -250,9 +251,9 @@ module _ (priced : Priced) where
                   doubled = (tells (on_arc a k) (low, omega (arith, less, many_is))).0 repeats;
                   key = ap (λ (b : Remedy). b.key) same;
                   run = run;
-                  short = subst (IsShortRun (plan priced.numbered.t.now) x) (sym run) (a, refl, short);
+                  short = subst (IsShortRun (layout_of priced.numbered.t.now) x) (sym run) (a, refl, short);
                   price = ap (λ (b : Remedy). b.price) same
-                      ∙ ap (price_of (plan priced.numbered.t.now) x priced.prices.now) (sym run);
+                      ∙ ap (price_of (layout_of priced.numbered.t.now) x priced.prices.now) (sym run);
                 },
               ),
             )
@@ -267,25 +268,25 @@ module _ (priced : Priced) where
                   omega (arith, doubled.is.1, many_is),
                   (
                     remedy_is r (key_of l x (on_arc a k)) price (Arc a) (by.key ∙ ap (key_of l x) e_is)
-                        (by.price ∙ ap (price_of (plan priced.numbered.t.now) x priced.prices.now) same) same,
+                        (by.price ∙ ap (price_of (layout_of priced.numbered.t.now) x priced.prices.now) same) same,
                     (tells (on_arc a k) doubled.is).1 doubled,
                   ),
                 )
 
     -- Where an arc is not short, there is none along it; and where no arc on a side is, there is none along that.
-    pub none_along : (run : Run) → ¬ IsShortRun (plan priced.numbered.t.now) x run → (r : Remedy)
+    pub none_along : (run : Run) → ¬ IsShortRun (layout_of priced.numbered.t.now) x run → (r : Remedy)
         → ¬ IsAlong priced run r
-    none_along run none r (same, (e, by)) = none (subst (IsShortRun (plan priced.numbered.t.now) x) same by.short)
+    none_along run none r (same, (e, by)) = none (subst (IsShortRun (layout_of priced.numbered.t.now) x) same by.short)
 
     -- Those along all arcs and all sides are all.
     all_along : (r : Remedy) → IsPricedRemedy priced r → IsAlongArcs priced l.arcs r ⊎ IsAlongPatches priced l.patches r
-    all_along r has = by_run r.run refl (remedy_in (plan priced.numbered.t.now) x priced.prices.now r has)
+    all_along r has = by_run r.run refl (remedy_in (layout_of priced.numbered.t.now) x priced.prices.now r has)
       where
-        by_run : (run : Run) → r.run ≡ run → IsRunIn (plan priced.numbered.t.now) r.run
+        by_run : (run : Run) → r.run ≡ run → IsRunIn (layout_of priced.numbered.t.now) r.run
             → IsAlongArcs priced l.arcs r ⊎ IsAlongPatches priced l.patches r
-        by_run (Arc a) same there = inl (a, subst (IsRunIn (plan priced.numbered.t.now)) same there, (same, has))
+        by_run (Arc a) same there = inl (a, subst (IsRunIn (layout_of priced.numbered.t.now)) same there, (same, has))
         by_run (Side p s) same there =
-            let at : (p < l.patches) × (s < 4) = subst (IsRunIn (plan priced.numbered.t.now)) same there in
+            let at : (p < l.patches) × (s < 4) = subst (IsRunIn (layout_of priced.numbered.t.now)) same there in
             inr (p, at.0, (s, at.1, (same, has)))
 
     pub all_found : (none first all : List Remedy) (arcs patches : ℕ) → none ≡ [] → arcs ≡ l.arcs → patches ≡ l.patches

@@ -6,7 +6,7 @@ use Rattle.std.proofs.lemmas.List.Elements.{All-append, All-cons, All-contains, 
 use Rattle.std.proofs.lemmas.List.Elements.{Contains-append_right}
 use Rattle.std.proofs.lemmas.List.Kept.{AllPairs-cons}
 use Rattle.std.specs.{Prelude.nat_lt, List.All, List.Contains}
-use Rattle.def_layout.specs.{Layouts.Layout, Surfaces.HasWholeSides, Lengths.Lengths, Lengths.size, Lengths.wide}
+use Rattle.def_layout.specs.{Gluings.Gluing, Surfaces.HasWholeSides, Lengths.Lengths, Lengths.size, Lengths.wide}
 use Rattle.def_layout.specs.Lengths.{high, AreLengths}
 use Rattle.def_written.specs.Edges.{Edge, on_arc, flat, steep, IsEdge}
 use Rattle.written_laws.proofs.Sides.{size_some}
@@ -76,7 +76,7 @@ fresh_line : (u : Bool) (p long n : ℕ) → IsFresh (line_ends u p long n)
 fresh_line u p long n = fresh_ends (line_edge u p n 0) (line_edge u p n (long - 1)) (nat_lt 1 long)
     (λ several same. omega (arith, ltb-true 1 long several, place_is u p n 0, place_is u p n (long - 1), ap place same))
 
-module _ (l : Layout) (x : Lengths) where
+module _ (l : Gluing) (x : Lengths) where
   -- What is true of all edges of lines.
   each_line : (P : Edge → Type 0) (u : Bool) (p lines : ℕ) → ((n k : ℕ) → P (line_edge u p n k))
       → All P (lines_upto l x u p lines)

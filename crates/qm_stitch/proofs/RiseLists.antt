@@ -6,7 +6,7 @@ use Rattle.std.proofs.lemmas.Bool.{cases_eq, cases_lt, false≢true}
 use Rattle.std.proofs.lemmas.List.{get_or_append_left, get_or_push}
 use Rattle.def_certtext.specs.declared.certs.Rise.{Rise}
 use Rattle.def_flow.specs.declared.limits.TheConstants.{MAX_FLOOR}
-use Rattle.def_layout.specs.Layouts.{Layout}
+use Rattle.def_layout.specs.Gluings.{Gluing}
 use Rattle.def_remesh.specs.NewPoints.{lengths_in}
 use Rattle.def_remesh.specs.Rises.{rise_at, AreNeeded, AreTightLong, IsNeeded, IsTightArc}
 use Rattle.qm_stitch.specs.Raised.{AreFloors, AreOrdered, AreRisesUpto, IsFloorOf, IsShortTight}
@@ -95,7 +95,7 @@ find_short xs (suc n) = elim (cases_lt (lengths_in xs n) MAX_FLOOR) [
 ]
 
 module _
-    (l : Layout) (xs : List ℕ) (tight : List Bool) (long : length xs ≡ l.arcs)
+    (l : Gluing) (xs : List ℕ) (tight : List Bool) (long : length xs ≡ l.arcs)
     (tells : (arc : ℕ) → arc < l.arcs → (get_or tight arc false ≡ true) ↔ IsTightArc l (lengths_in xs) arc)
     (some : Bool) (told : (some ≡ true) ↔ ((arc : ℕ) × (arc < length xs) × IsShortTight tight xs arc))
   where
@@ -162,7 +162,7 @@ module _
     needed_are rises = (λ all. is_needed rises all.0 all.1 all.2, needed_is rises)
 
 -- Rises of tight arcs are needed, and where no tight arc is short those of all short arcs.
-module _ (l : Layout) (xs : List ℕ) (chosen : List Bool) (long : length xs ≡ l.arcs) (rises : List Rise) where
+module _ (l : Gluing) (xs : List ℕ) (chosen : List Bool) (long : length xs ≡ l.arcs) (rises : List Rise) where
   pub chosen_needed : ((arc : ℕ) → arc < l.arcs → get_or chosen arc false ≡ true → IsTightArc l (lengths_in xs) arc)
       → AreRisesUpto true chosen xs (length xs) rises → (arc : ℕ) × (arc < length xs) × IsShortTight chosen xs arc
       → AreNeeded l (lengths_in xs) rises

@@ -3,7 +3,8 @@ use Rattle.std.proofs.Common.{◌≡◌, ◌<◌, ℕ, List, length, refl, sym, 
 use Rattle.std.proofs.lemmas.Bool.{cases_lt}
 use Rattle.std.specs.Prelude.{ℤ}
 use Rattle.def_flow.specs.declared.limits.TheConstants.{MAX_FLOOR}
-use Rattle.def_layout.specs.{Layouts.Way, Lengths.Lengths, Plans.layout_of, Plans.side_at, Plans.way_number, Plans.Plan}
+use Rattle.def_layout.specs.{Gluings.Way, Lengths.Lengths, Layouts.gluing_of, Layouts.side_at, Layouts.way_number}
+use Rattle.def_layout.specs.{Layouts.Layout}
 use Rattle.def_layout.specs.{Surfaces.HasWholeSides, declared.tmesh.SideArc.SideArc}
 use Rattle.def_remesh.specs.Numberings.{used_at}
 use Rattle.def_remesh.specs.Rises.{AreTightLong, IsTightArc, RunsAlong}
@@ -17,38 +18,38 @@ use Rattle.qm_stitch.specs.declared.remedy.Run.{Run}
 use Rattle.qm_stitch.specs.declared.remedy.Run.TheVariants.{Arc, Side}
 
 -- An edge runs along the arcs of its runs, and along no others.
-along : (plan : Plan) (e : Edge) (run : Run) (arc : ℕ) → IsRunOf e run → IsArcOf plan run arc
-    → RunsAlong (layout_of plan) e arc
-along plan (on_arc a k) run arc is has = subst (λ (r : Run). IsArcOf plan r arc) is has
-along plan (flat p i j) run arc (inl is) has = inl (subst (λ (r : Run). IsArcOf plan r arc) is has)
-along plan (flat p i j) run arc (inr is) has = inr (subst (λ (r : Run). IsArcOf plan r arc) is has)
-along plan (steep p i j) run arc (inl is) has = inl (subst (λ (r : Run). IsArcOf plan r arc) is has)
-along plan (steep p i j) run arc (inr is) has = inr (subst (λ (r : Run). IsArcOf plan r arc) is has)
+along : (layout : Layout) (e : Edge) (run : Run) (arc : ℕ) → IsRunOf e run → IsArcOf layout run arc
+    → RunsAlong (gluing_of layout) e arc
+along layout (on_arc a k) run arc is has = subst (λ (r : Run). IsArcOf layout r arc) is has
+along layout (flat p i j) run arc (inl is) has = inl (subst (λ (r : Run). IsArcOf layout r arc) is has)
+along layout (flat p i j) run arc (inr is) has = inr (subst (λ (r : Run). IsArcOf layout r arc) is has)
+along layout (steep p i j) run arc (inl is) has = inl (subst (λ (r : Run). IsArcOf layout r arc) is has)
+along layout (steep p i j) run arc (inr is) has = inr (subst (λ (r : Run). IsArcOf layout r arc) is has)
 
-run_along : (plan : Plan) (e : Edge) (arc : ℕ) → RunsAlong (layout_of plan) e arc
-    → (run : Run) × IsRunOf e run × IsArcOf plan run arc
-run_along plan (on_arc a k) arc has = (Arc a, refl, has)
-run_along plan (flat p i j) arc (inl has) = (Side p 0, inl refl, has)
-run_along plan (flat p i j) arc (inr has) = (Side p 2, inr refl, has)
-run_along plan (steep p i j) arc (inl has) = (Side p 1, inl refl, has)
-run_along plan (steep p i j) arc (inr has) = (Side p 3, inr refl, has)
+run_along : (layout : Layout) (e : Edge) (arc : ℕ) → RunsAlong (gluing_of layout) e arc
+    → (run : Run) × IsRunOf e run × IsArcOf layout run arc
+run_along layout (on_arc a k) arc has = (Arc a, refl, has)
+run_along layout (flat p i j) arc (inl has) = (Side p 0, inl refl, has)
+run_along layout (flat p i j) arc (inr has) = (Side p 2, inr refl, has)
+run_along layout (steep p i j) arc (inl has) = (Side p 1, inl refl, has)
+run_along layout (steep p i j) arc (inr has) = (Side p 3, inr refl, has)
 
 -- There are these arcs.
-run_in : (plan : Plan) (x : Lengths) (e : Edge) (run : Run) → IsEdge (layout_of plan) x e → IsRunOf e run
-    → IsRunIn plan run
-run_in plan x (on_arc a k) run is same = subst (IsRunIn plan) (sym same) is.0
-run_in plan x (flat p i j) run is (inl same) = subst (IsRunIn plan) (sym same) (is.0, omega arith)
-run_in plan x (flat p i j) run is (inr same) = subst (IsRunIn plan) (sym same) (is.0, omega arith)
-run_in plan x (steep p i j) run is (inl same) = subst (IsRunIn plan) (sym same) (is.0, omega arith)
-run_in plan x (steep p i j) run is (inr same) = subst (IsRunIn plan) (sym same) (is.0, omega arith)
+run_in : (layout : Layout) (x : Lengths) (e : Edge) (run : Run) → IsEdge (gluing_of layout) x e → IsRunOf e run
+    → IsRunIn layout run
+run_in layout x (on_arc a k) run is same = subst (IsRunIn layout) (sym same) is.0
+run_in layout x (flat p i j) run is (inl same) = subst (IsRunIn layout) (sym same) (is.0, omega arith)
+run_in layout x (flat p i j) run is (inr same) = subst (IsRunIn layout) (sym same) (is.0, omega arith)
+run_in layout x (steep p i j) run is (inl same) = subst (IsRunIn layout) (sym same) (is.0, omega arith)
+run_in layout x (steep p i j) run is (inr same) = subst (IsRunIn layout) (sym same) (is.0, omega arith)
 
-module _ (plan : Plan) (x : Lengths) (prices : List ℤ) where
-  pub remedy_in : (r : Remedy) → IsRemedy plan x prices r → IsRunIn plan r.run
-  remedy_in r (e, is) = run_in plan x e r.run is.doubled.is is.run
+module _ (layout : Layout) (x : Lengths) (prices : List ℤ) where
+  pub remedy_in : (r : Remedy) → IsRemedy layout x prices r → IsRunIn layout r.run
+  remedy_in r (e, is) = run_in layout x e r.run is.doubled.is is.run
 
   -- The arcs of a remedy are tight.
-  pub remedy_tight : (r : Remedy) (arc : ℕ) → IsRemedy plan x prices r → IsArcOf plan r.run arc
-      → IsTightArc (layout_of plan) x arc
+  pub remedy_tight : (r : Remedy) (arc : ℕ) → IsRemedy layout x prices r → IsArcOf layout r.run arc
+      → IsTightArc (gluing_of layout) x arc
   remedy_tight r arc (e, is) has = record {
     edge = e;
     u = is.doubled.u;
@@ -56,15 +57,15 @@ module _ (plan : Plan) (x : Lengths) (prices : List ℤ) where
     is = is.doubled.is;
     ends = is.doubled.ends;
     doubled = is.doubled.doubled;
-    along = along plan e r.run arc is.run has;
+    along = along layout e r.run arc is.run has;
   }
 
   -- Where a tight arc is short, there is a remedy.
-  tight_remedy : (arc : ℕ) → IsTightArc (layout_of plan) x arc → x arc < MAX_FLOOR
-      → (r : Remedy) × IsRemedy plan x prices r
+  tight_remedy : (arc : ℕ) → IsTightArc (gluing_of layout) x arc → x arc < MAX_FLOOR
+      → (r : Remedy) × IsRemedy layout x prices r
   tight_remedy arc t short =
-      let run = run_along plan t.edge arc t.along in (
-        record { key = key_of (layout_of plan) x t.edge; price = price_of plan x prices run.0; run = run.0 },
+      let run = run_along layout t.edge arc t.along in (
+        record { key = key_of (gluing_of layout) x t.edge; price = price_of layout x prices run.0; run = run.0 },
         (
           t.edge,
           record {
@@ -77,34 +78,34 @@ module _ (plan : Plan) (x : Lengths) (prices : List ℤ) where
         ),
       )
 
-  pub none_short : ((r : Remedy) → ¬ IsRemedy plan x prices r) → AreTightLong (layout_of plan) x
+  pub none_short : ((r : Remedy) → ¬ IsRemedy layout x prices r) → AreTightLong (gluing_of layout) x
   none_short none arc low t = elim (cases_lt (x arc) MAX_FLOOR) [
     | inl short ↦ let some = tight_remedy arc t short in absurd (none some.0 some.1)
     | inr high ↦ high
   ]
 
 -- Short arcs in use are short arcs of a side.
-pub uses_short : (plan : Plan) (x : Lengths) (p s : ℕ) (uses : List SideArc) → uses ≡ arcs_on plan p s
-    → IsSomeShort x uses → IsShortRun plan x (Side p s)
-uses_short plan x p s uses same some = of_uses (subst (IsSomeShort x) same some)
+pub uses_short : (layout : Layout) (x : Lengths) (p s : ℕ) (uses : List SideArc) → uses ≡ arcs_on layout p s
+    → IsSomeShort x uses → IsShortRun layout x (Side p s)
+uses_short layout x p s uses same some = of_uses (subst (IsSomeShort x) same some)
   where
-    of_uses : IsSomeShort x (arcs_on plan p s) → IsShortRun plan x (Side p s)
-    of_uses (at, low, short) = ((used_at (arcs_on plan p s) at).arc, (at, low, refl), short)
+    of_uses : IsSomeShort x (arcs_on layout p s) → IsShortRun layout x (Side p s)
+    of_uses (at, low, short) = ((used_at (arcs_on layout p s) at).arc, (at, low, refl), short)
 
-pub short_uses : (plan : Plan) (x : Lengths) (p s : ℕ) (uses : List SideArc) → uses ≡ arcs_on plan p s
-    → IsShortRun plan x (Side p s) → IsSomeShort x uses
-short_uses plan x p s uses same (arc, (at, low, is), short) =
+pub short_uses : (layout : Layout) (x : Lengths) (p s : ℕ) (uses : List SideArc) → uses ≡ arcs_on layout p s
+    → IsShortRun layout x (Side p s) → IsSomeShort x uses
+short_uses layout x p s uses same (arc, (at, low, is), short) =
     subst (IsSomeShort x) (sym same) (at, low, subst (λ (a : ℕ). x a < MAX_FLOOR) (sym is) short)
 
 -- What the arcs of a run are numbers of.
-pub arc_low : (plan : Plan) (run : Run) (arc : ℕ) → HasWholeSides (layout_of plan) → IsRunIn plan run
-    → IsArcOf plan run arc → arc < length plan.arcs
-arc_low plan (Arc a) arc paved there same = omega (arith, there, same)
-arc_low plan (Side p s) arc paved there has = by_way (way_for s there.1)
+pub arc_low : (layout : Layout) (run : Run) (arc : ℕ) → HasWholeSides (gluing_of layout) → IsRunIn layout run
+    → IsArcOf layout run arc → arc < length layout.arcs
+arc_low layout (Arc a) arc paved there same = omega (arith, there, same)
+arc_low layout (Side p s) arc paved there has = by_way (way_for s there.1)
   where
-    by_way : (w : Way) × (way_number w ≡ s) → arc < length plan.arcs
+    by_way : (w : Way) × (way_number w ≡ s) → arc < length layout.arcs
     by_way (w, same) =
-        let on : IsArcOf plan (Side p (way_number w)) arc =
-        subst (λ (t : ℕ). IsArcOf plan (Side p t) arc) (sym same) has in
-        subst (λ (b : ℕ). b < length plan.arcs) on.2
-        (arcs_low plan paved p w (length plan.arcs) (side_at plan p w) there.0 refl refl on.0 _ on.1)
+        let on : IsArcOf layout (Side p (way_number w)) arc =
+        subst (λ (t : ℕ). IsArcOf layout (Side p t) arc) (sym same) has in
+        subst (λ (b : ℕ). b < length layout.arcs) on.2
+        (arcs_low layout paved p w (length layout.arcs) (side_at layout p w) there.0 refl refl on.0 _ on.1)

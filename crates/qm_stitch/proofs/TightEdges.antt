@@ -3,7 +3,7 @@ use Rattle.std.proofs.Common.{◌≡◌, ◌⊎◌, ◌↔◌, ℕ, ◌+◌, ◌
 use Rattle.std.proofs.Common.{length, get_or, refl, sym, ◌∙◌, ap, subst, inl, inr, arith}
 use Rattle.std.proofs.lemmas.Bool.{cases_eq, cases_lt}
 use Rattle.std.proofs.lemmas.List.Sorted.{IsPermutation-sym}
-use Rattle.def_layout.specs.{Layouts.Layout, Surfaces.IsSurface, Lengths.Lengths, Lengths.size, Lengths.AreLengths}
+use Rattle.def_layout.specs.{Gluings.Gluing, Surfaces.IsSurface, Lengths.Lengths, Lengths.size, Lengths.AreLengths}
 use Rattle.def_remesh.specs.Rises.{IsTightArc, RunsAlong}
 use Rattle.def_written.specs.Edges.{Edge, on_arc, flat, steep, IsEdge, HasEnds, HasLoop, HasPair}
 use Rattle.def_written.specs.Numbers.{vertices}
@@ -14,23 +14,23 @@ use Rattle.qm_stitch.proofs.Repeats.{repeat_moved}
 use Rattle.qm_stitch.proofs.RimEdges.{IsDeep}
 
 -- An edge of a line is one of the layout exactly where its numbers are.
-pub line_is : (l : Layout) (x : Lengths) (u : Bool) (p n k : ℕ) → p < l.patches → 0 < n
+pub line_is : (l : Gluing) (x : Lengths) (u : Bool) (p n k : ℕ) → p < l.patches → 0 < n
     → n < size l x p (along_lines (not u)) → k < size l x p (along_lines u) → IsEdge l x (line_edge u p n k)
 line_is l x false p n k low some up less = (low, less, some, up)
 line_is l x true p n k low some up less = (low, some, up, less)
 
-pub line_parts : (l : Layout) (x : Lengths) (u : Bool) (p n k : ℕ) → IsEdge l x (line_edge u p n k)
+pub line_parts : (l : Gluing) (x : Lengths) (u : Bool) (p n k : ℕ) → IsEdge l x (line_edge u p n k)
     → (0 < n) × (n < size l x p (along_lines (not u))) × (k < size l x p (along_lines u))
 line_parts l x false p n k is = (is.2, is.3, is.1)
 line_parts l x true p n k is = (is.1, is.2, is.3)
 
-line_deep : (l : Layout) (x : Lengths) (u : Bool) (p n k : ℕ) → 0 < k → k + 1 < size l x p (along_lines u)
+line_deep : (l : Gluing) (x : Lengths) (u : Bool) (p n k : ℕ) → 0 < k → k + 1 < size l x p (along_lines u)
     → IsDeep l x (line_edge u p n k)
 line_deep l x false p n k some less = (some, less)
 line_deep l x true p n k some less = (some, less)
 
 -- An arc along a doubled edge is tight.
-tight_by : (l : Layout) (x : Lengths) (arc : ℕ) (e : Edge) → IsDoubled l x e → RunsAlong l e arc → IsTightArc l x arc
+tight_by : (l : Gluing) (x : Lengths) (arc : ℕ) (e : Edge) → IsDoubled l x e → RunsAlong l e arc → IsTightArc l x arc
 tight_by l x arc e is along = record {
   edge = e;
   u = is.u;
@@ -42,13 +42,13 @@ tight_by l x arc e is along = record {
 }
 
 -- So an arc is where an edge of it is doubled, or one in a line beside it.
-tight_of : (l : Layout) (x : Lengths) (arc : ℕ) → IsDoubledOn l x arc ⊎ IsTightUpto l x l.patches arc
+tight_of : (l : Gluing) (x : Lengths) (arc : ℕ) → IsDoubledOn l x arc ⊎ IsTightUpto l x l.patches arc
     → IsTightArc l x arc
 tight_of l x arc (inl (k, is)) = tight_by l x arc (on_arc arc k) is refl
 tight_of l x arc (inr (p, false, low, ((n, (k, is)), beside))) = tight_by l x arc (flat p k n) is beside
 tight_of l x arc (inr (p, true, low, ((n, (k, is)), beside))) = tight_by l x arc (steep p n k) is beside
 
-of_tight : (l : Layout) (x : Lengths) (arc : ℕ) → IsTightArc l x arc
+of_tight : (l : Gluing) (x : Lengths) (arc : ℕ) → IsTightArc l x arc
     → IsDoubledOn l x arc ⊎ IsTightUpto l x l.patches arc
 of_tight l x arc t = by_edge t.edge (record { is = t.is; u = t.u; v = t.v; ends = t.ends; doubled = t.doubled }) t.along
   where
@@ -58,7 +58,7 @@ of_tight l x arc t = by_edge t.edge (record { is = t.is; u = t.u; v = t.v; ends 
     by_edge (steep p i j) is along = inr (p, true, is.is.0, ((i, (j, is)), along))
 
 -- The marks of arcs with doubled edges, and those that patches add, are the marks of tight arcs.
-pub tight_told : (l : Layout) (x : Lengths) (n : ℕ) (on old new : List Bool) → n ≡ l.patches → old ≡ on
+pub tight_told : (l : Gluing) (x : Lengths) (n : ℕ) (on old new : List Bool) → n ≡ l.patches → old ≡ on
     → length on ≡ l.arcs → ((arc : ℕ) → arc < l.arcs → (get_or on arc false ≡ true) ↔ IsDoubledOn l x arc)
     → AddsMarks old new (IsTightUpto l x n) → (arc : ℕ) → arc < l.arcs
     → (get_or new arc false ≡ true) ↔ IsTightArc l x arc
@@ -78,7 +78,7 @@ tight_told l x n on old new all same long each adds arc low =
     to_more (inl is) = inl (subst (λ (xs : List Bool). get_or xs arc false ≡ true) (sym same) ((each arc low).1 is))
     to_more (inr is) = inr (subst (λ (m : ℕ). IsTightUpto l x m arc) (sym all) is)
 
-module _ (l : Layout) (x : Lengths) (laid : IsSurface l) (len : AreLengths l x) where
+module _ (l : Gluing) (x : Lengths) (laid : IsSurface l) (len : AreLengths l x) where
   -- An edge between two inner points of a patch is not doubled.
   never_deep : (e : Edge) → IsDoubled l x e → IsDeep l x e → ⊥
   never_deep e is deep = by_case is.doubled.1

@@ -2,7 +2,7 @@
 use Rattle.std.specs.Prelude.{◌≡◌, ◌⊎◌, ℕ, ◌+◌, ◌-◌, ◌*◌, ◌/◌, ◌%◌, ◌^◌, ◌<◌, ◌≤◌, ◌==◌, ◌&&◌, ◌||◌, nat_lt}
 use Rattle.std.specs.Prelude.{min, max, Bool, true, false, not, cond, List, [], ◌∷◌, ◌++◌, map, length, slice_index}
 use Rattle.std.specs.List.{flat_map, range_with_len, Contains}
-use Rattle.def_layout.specs.Layouts.{Way, south, west, Layout}
+use Rattle.def_layout.specs.Gluings.{Way, south, west, Gluing}
 use Rattle.def_layout.specs.Lengths.{Lengths, size}
 use Rattle.qm_stitch.specs.declared.rim.Line.{Line}
 use Rattle.def_written.specs.Edges.{Edge, on_arc, flat, steep, edge_start, edge_end}
@@ -19,9 +19,9 @@ line_edge false patch line at = flat patch at line
 line_edge true patch line at = steep patch line at
 
 -- The point of such a line, so many edges after its beginning.
-abbrev pub line_point : (layout : Layout) (lengths : Lengths) (upright : Bool) (patch line at : ℕ) → Point
-line_point layout lengths false patch line at = point layout lengths patch at line
-line_point layout lengths true patch line at = point layout lengths patch line at
+abbrev pub line_point : (gluing : Gluing) (lengths : Lengths) (upright : Bool) (patch line at : ℕ) → Point
+line_point gluing lengths false patch line at = point gluing lengths patch at line
+line_point gluing lengths true patch line at = point gluing lengths patch line at
 
 -- A side along which such lines run.
 abbrev pub along_lines : (upright : Bool) → Way
@@ -34,47 +34,47 @@ line_ends upright patch long line =
     line_edge upright patch line 0 ∷ cond (nat_lt 1 long) (line_edge upright patch line (long - 1) ∷ []) []
 
 -- Those of the lines inside a patch, from line 1 to this one.
-abbrev pub lines_upto : (layout : Layout) (lengths : Lengths) (upright : Bool) (patch lines : ℕ) → List Edge
-lines_upto layout lengths upright patch lines =
-    flat_map (line_ends upright patch (size layout lengths patch (along_lines upright))) (range_with_len 1 lines)
+abbrev pub lines_upto : (gluing : Gluing) (lengths : Lengths) (upright : Bool) (patch lines : ℕ) → List Edge
+lines_upto gluing lengths upright patch lines =
+    flat_map (line_ends upright patch (size gluing lengths patch (along_lines upright))) (range_with_len 1 lines)
 
 -- Those of all lines inside a patch.
-abbrev pub all_lines : (layout : Layout) (lengths : Lengths) (upright : Bool) (patch : ℕ) → List Edge
-all_lines layout lengths upright patch =
-    lines_upto layout lengths upright patch (size layout lengths patch (along_lines (not upright)) - 1)
+abbrev pub all_lines : (gluing : Gluing) (lengths : Lengths) (upright : Bool) (patch : ℕ) → List Edge
+all_lines gluing lengths upright patch =
+    lines_upto gluing lengths upright patch (size gluing lengths patch (along_lines (not upright)) - 1)
 
 -- Those of a patch.
-abbrev pub ends_in : (layout : Layout) (lengths : Lengths) (patch : ℕ) → List Edge
-ends_in layout lengths patch = all_lines layout lengths false patch ++ all_lines layout lengths true patch
+abbrev pub ends_in : (gluing : Gluing) (lengths : Lengths) (patch : ℕ) → List Edge
+ends_in gluing lengths patch = all_lines gluing lengths false patch ++ all_lines gluing lengths true patch
 
 -- Those of the first arcs, and of the first patches.
 abbrev pub arcs_upto : (lengths : Lengths) (arcs : ℕ) → List Edge
 arcs_upto lengths arcs = flat_map (segments lengths) (range_with_len 0 arcs)
 
-abbrev pub patches_upto : (layout : Layout) (lengths : Lengths) (patches : ℕ) → List Edge
-patches_upto layout lengths patches = flat_map (ends_in layout lengths) (range_with_len 0 patches)
+abbrev pub patches_upto : (gluing : Gluing) (lengths : Lengths) (patches : ℕ) → List Edge
+patches_upto gluing lengths patches = flat_map (ends_in gluing lengths) (range_with_len 0 patches)
 
 -- All of them.
-abbrev pub rim_edges : (layout : Layout) (lengths : Lengths) → List Edge
-rim_edges layout lengths = arcs_upto lengths layout.arcs ++ patches_upto layout lengths layout.patches
+abbrev pub rim_edges : (gluing : Gluing) (lengths : Lengths) → List Edge
+rim_edges gluing lengths = arcs_upto lengths gluing.arcs ++ patches_upto gluing lengths gluing.patches
 
 -- A line inside a patch: between its first and its last line.
-pub record IsLine (layout : Layout) (lengths : Lengths) (line : Line) : Type 0 where
-  pub patch : line.patch < layout.patches
-  pub inside : line.number < size layout lengths line.patch (along_lines (not line.upright))
+pub record IsLine (gluing : Gluing) (lengths : Lengths) (line : Line) : Type 0 where
+  pub patch : line.patch < gluing.patches
+  pub inside : line.number < size gluing lengths line.patch (along_lines (not line.upright))
 
 -- The key of a pair of vertices: the lesser one, then the greater one.
 abbrev pub pair_key : (u v : ℕ) → ℕ
 pair_key u v = min u v * 2 ^ 32 + max u v
 
 -- The key of an edge.
-abbrev pub key_of : (layout : Layout) (lengths : Lengths) (edge : Edge) → ℕ
-key_of layout lengths edge =
-    pair_key (vertex_number layout lengths (edge_start layout lengths edge))
-    (vertex_number layout lengths (edge_end layout lengths edge))
+abbrev pub key_of : (gluing : Gluing) (lengths : Lengths) (edge : Edge) → ℕ
+key_of gluing lengths edge =
+    pair_key (vertex_number gluing lengths (edge_start gluing lengths edge))
+    (vertex_number gluing lengths (edge_end gluing lengths edge))
 
-abbrev pub keys_of : (layout : Layout) (lengths : Lengths) (edges : List Edge) → List ℕ
-keys_of layout lengths edges = map (key_of layout lengths) edges
+abbrev pub keys_of : (gluing : Gluing) (lengths : Lengths) (edges : List Edge) → List ℕ
+keys_of gluing lengths edges = map (key_of gluing lengths) edges
 
 -- Both vertices of a key are the same.
 abbrev pub is_loop : (key : ℕ) → Bool

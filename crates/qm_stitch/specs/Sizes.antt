@@ -4,11 +4,11 @@ use Rattle.def_math.specs.Counts.{count_below}
 use Rattle.def_math.specs.Runs.{run_at}
 use Rattle.def_layout.specs.declared.tmesh.SideArc.{SideArc}
 use Rattle.def_layout.specs.Lengths.{Lengths, AreLengths}
-use Rattle.def_layout.specs.Plans.{Plan, layout_of}
+use Rattle.def_layout.specs.Layouts.{Layout, gluing_of}
 use Rattle.def_layoutnet.specs.MeshLayouts.{IsSomeLayout}
 use Rattle.def_written.specs.NewFaces.{face_count}
 use Rattle.def_written.specs.Points.{Point, use_point}
-use Rattle.def_layout.specs.Layouts.{Layout}
+use Rattle.def_layout.specs.Gluings.{Gluing}
 use Rattle.def_remesh.specs.NewPoints.{lengths_in}
 use Rattle.def_remesh.specs.Numberings.{sizes_on, used_at, SideTables}
 use Rattle.def_remesh.specs.declared.fail.StitchFail.{StitchFail}
@@ -16,18 +16,18 @@ use Rattle.def_remesh.specs.declared.fail.StitchFail.TheVariants.{TooFine, Doubl
 use Rattle.def_remesh.specs.declared.limits.TheConstants.{MAX_NEW_FACES}
 
 -- Lengths that give no more faces than a new mesh may have.
-pub record IsFine (plan : Plan) (list : List ℕ) : Type 0 where
-  pub mesh : IsSomeLayout plan
-  pub long : length list ≡ length plan.arcs
-  pub lengths : AreLengths (layout_of plan) (lengths_in list)
-  pub few : face_count (layout_of plan) (lengths_in list) ≤ MAX_NEW_FACES
+pub record IsFine (layout : Layout) (list : List ℕ) : Type 0 where
+  pub mesh : IsSomeLayout layout
+  pub long : length list ≡ length layout.arcs
+  pub lengths : AreLengths (gluing_of layout) (lengths_in list)
+  pub few : face_count (gluing_of layout) (lengths_in list) ≤ MAX_NEW_FACES
 
 -- The layout with these lengths has so many faces, more than a new mesh may have.
-abbrev pub IsTooFine : (layout : Layout) (lengths : Lengths) (fail : StitchFail) → Type 0
-IsTooFine layout lengths (TooFine faces) =
-    (faces ≡ face_count layout lengths) × (MAX_NEW_FACES < face_count layout lengths)
-IsTooFine layout lengths (Doubled u v) = ⊥
-IsTooFine layout lengths Memory = ⊤
+abbrev pub IsTooFine : (gluing : Gluing) (lengths : Lengths) (fail : StitchFail) → Type 0
+IsTooFine gluing lengths (TooFine faces) =
+    (faces ≡ face_count gluing lengths) × (MAX_NEW_FACES < face_count gluing lengths)
+IsTooFine gluing lengths (Doubled u v) = ⊥
+IsTooFine gluing lengths Memory = ⊤
 
 -- The table of a side.
 abbrev pub table_in : (tables : SideTables) (patch side : ℕ) → List ℕ
@@ -50,7 +50,7 @@ pub record AreRows (tables : SideTables) (less : ℕ) : Type 0 where
   pub small : count_below (product_by tables less) (length tables) ≤ 2 * MAX_NEW_FACES * 2
 
 -- The point at a place of a side.
-abbrev pub point_on : (layout : Layout) (lengths : Lengths) (side : List SideArc) (place : ℕ) → Point
-point_on layout lengths side place =
+abbrev pub point_on : (gluing : Gluing) (lengths : Lengths) (side : List SideArc) (place : ℕ) → Point
+point_on gluing lengths side place =
     let at = run_at (count_below (sizes_on side lengths)) (length side) place in
-    use_point layout lengths (used_at side at) (place - count_below (sizes_on side lengths) at)
+    use_point gluing lengths (used_at side at) (place - count_below (sizes_on side lengths) at)

@@ -1,7 +1,7 @@
 //! The numbering of a layout with lengths, whether or not an edge is doubled.
 
 ghost use Rattle.std.specs.Prelude.{◌≡◌, ◌<◌, ◌≤◌, ◌-◌, ℕ, length, IfOk, IfErr};
-ghost use Rattle.def_layout.specs.Plans.{layout_of, plan};
+ghost use Rattle.def_layout.specs.Layouts.{gluing_of, layout_of};
 ghost use Rattle.def_layoutnet.specs.MeshLayouts.{IsSomeLayout};
 ghost use Rattle.def_remesh.specs.NewPoints.{lengths_in};
 ghost use Rattle.def_remesh.specs.Numberings.{tables_of, AreRunStarts, IsNumbering};
@@ -19,11 +19,11 @@ use std::alloc::{AllocError, Global};
 /// The numbering of the points and faces of a layout with these lengths, also where an edge is doubled. It is refused
 /// as `TooFine` exactly where there are more faces than the limit.
 pub(crate) fn number(alloc: Global, stretched: &Stretched) -> Result<Numbering, StitchFail>
-    requires layout { IsSomeLayout (plan stretched.now.t.now) }
-    ensures numbering { IfOk result (λ n. IsNumbering (plan stretched.now.t.now) n) }
+    requires layout { IsSomeLayout (layout_of stretched.now.t.now) }
+    ensures numbering { IfOk result (λ n. IsNumbering (layout_of stretched.now.t.now) n) }
     ensures lengths { IfOk result (λ n. n.lengths.items ≡ stretched.now.lengths.now) }
     ensures refused { IfErr result
-        (IsTooFine (layout_of (plan stretched.now.t.now)) (lengths_in stretched.now.lengths.now)) }
+        (IsTooFine (gluing_of (layout_of stretched.now.t.now)) (lengths_in stretched.now.lengths.now)) }
 {
     let faces = count_faces(stretched);
     if faces > u128::from(MAX_NEW_FACES) {
@@ -35,8 +35,8 @@ pub(crate) fn number(alloc: Global, stretched: &Stretched) -> Result<Numbering, 
 
 /// The tables of a numbering.
 pub(crate) fn tables(alloc: Global, t: &TMesh, lengths: &[u64]) -> Result<Tables, AllocError>
-    requires fine { IsFine (plan t.now) lengths.now }
-    ensures numbering { IfOk result (λ tables. IsNumbering (plan t.now) tables) }
+    requires fine { IsFine (layout_of t.now) lengths.now }
+    ensures numbering { IfOk result (λ tables. IsNumbering (layout_of t.now) tables) }
     ensures lengths { IfOk result (λ tables. tables.lengths.items ≡ lengths.now) }
 {
     let lengths = short_lengths(alloc, lengths)?;

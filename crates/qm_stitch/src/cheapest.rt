@@ -3,7 +3,7 @@
 ghost use Rattle.std.specs.Prelude.{◌≡◌, ◌<◌, length, IfOk};
 ghost use Rattle.std.specs.List.{All};
 ghost use Rattle.std.specs.List.Sorted.{IsPermutation};
-ghost use Rattle.def_layout.specs.Plans.{plan};
+ghost use Rattle.def_layout.specs.Layouts.{layout_of};
 ghost use Rattle.qm_stitch.specs.Remedies.{AreInOrder, AreMarksOf, IsArcOf, IsFirstUpto, IsFirstWith, IsRunIn};
 ghost use Rattle.qm_stitch.specs.Tight.{AddsMarks};
 ghost use Rattle.qm_stitch.specs.declared.remedy.Remedy.{Remedy as AnyRemedy};
@@ -19,8 +19,8 @@ pub(crate) fn cheapest_arcs(
     numbered: &Numbered,
     remedies: Vec<Remedy>,
 ) -> Result<Vec<bool>, AllocError>
-    requires { All (λ (remedy : AnyRemedy). IsRunIn (plan numbered.now.t.now) remedy.run) remedies.items }
-    ensures { IfOk result (λ chosen. AreMarksOf (plan numbered.now.t.now) remedies.items chosen.items) }
+    requires { All (λ (remedy : AnyRemedy). IsRunIn (layout_of numbered.now.t.now) remedy.run) remedies.items }
+    ensures { IfOk result (λ chosen. AreMarksOf (layout_of numbered.now.t.now) remedies.items chosen.items) }
 {
     let mut sorted = remedies;
     sort(&mut sorted);
@@ -40,9 +40,9 @@ fn sort(remedies: &mut Vec<Remedy>)
 /// Marks the arcs of the first remedy of each pair, of remedies in order.
 fn mark_firsts(chosen: &mut [bool], numbered: &Numbered, remedies: &[Remedy])
     requires long { length chosen.old ≡ length numbered.now.t.now.arcs.items }
-    requires runs { All (λ (remedy : AnyRemedy). IsRunIn (plan numbered.now.t.now) remedy.run) remedies.now }
+    requires runs { All (λ (remedy : AnyRemedy). IsRunIn (layout_of numbered.now.t.now) remedy.run) remedies.now }
     ensures { AddsMarks chosen.old chosen.new
-        (IsFirstUpto (plan numbered.now.t.now) remedies.now (length remedies.now)) }
+        (IsFirstUpto (layout_of numbered.now.t.now) remedies.now (length remedies.now)) }
 {
     for k in 0..remedies.len() {
         mark_first(chosen, numbered, remedies, k);
@@ -52,9 +52,9 @@ fn mark_firsts(chosen: &mut [bool], numbered: &Numbered, remedies: &[Remedy])
 /// Marks the arcs of a remedy where it is the first one of its pair.
 fn mark_first(chosen: &mut [bool], numbered: &Numbered, remedies: &[Remedy], k: usize)
     requires long { length chosen.old ≡ length numbered.now.t.now.arcs.items }
-    requires runs { All (λ (remedy : AnyRemedy). IsRunIn (plan numbered.now.t.now) remedy.run) remedies.now }
+    requires runs { All (λ (remedy : AnyRemedy). IsRunIn (layout_of numbered.now.t.now) remedy.run) remedies.now }
     requires low { k < length remedies.now }
-    ensures { AddsMarks chosen.old chosen.new (IsFirstWith (plan numbered.now.t.now) remedies.now k) }
+    ensures { AddsMarks chosen.old chosen.new (IsFirstWith (layout_of numbered.now.t.now) remedies.now k) }
 {
     let remedy = remedies[k];
     if k == 0 || remedies[k - 1].key != remedy.key {
@@ -65,8 +65,8 @@ fn mark_first(chosen: &mut [bool], numbered: &Numbered, remedies: &[Remedy], k: 
 /// Marks arcs along an edge.
 fn mark_run(chosen: &mut [bool], numbered: &Numbered, run: Run)
     requires long { length chosen.old ≡ length numbered.now.t.now.arcs.items }
-    requires run { IsRunIn (plan numbered.now.t.now) run }
-    ensures { AddsMarks chosen.old chosen.new (IsArcOf (plan numbered.now.t.now) run) }
+    requires run { IsRunIn (layout_of numbered.now.t.now) run }
+    ensures { AddsMarks chosen.old chosen.new (IsArcOf (layout_of numbered.now.t.now) run) }
 {
     match run {
         Run::Arc(arc) => chosen[arc] = true,

@@ -2,7 +2,7 @@
 
 ghost use Rattle.std.specs.Prelude.{◌≡◌, ◌<◌};
 ghost use Rattle.def_written.specs.NewFaces.{face_count, new_face};
-ghost use Rattle.qm_stitch.specs.Lengthened.{layout_in, lengths_by};
+ghost use Rattle.qm_stitch.specs.Lengthened.{gluing_in, lengths_by};
 ghost use Rattle.qm_stitch.specs.Cells.{IsCellOf};
 
 use crate::numbered::Numbered;
@@ -20,8 +20,8 @@ pub struct Cell {
 
 /// Face f: the numbers of its corners.
 pub(crate) fn face_of(numbered: &Numbered, f: u32) -> [u32; 4]
-    requires face { f < face_count (layout_in numbered.now) (lengths_by numbered.now) }
-    ensures { result ≡ new_face (layout_in numbered.now) (lengths_by numbered.now) f }
+    requires face { f < face_count (gluing_in numbered.now) (lengths_by numbered.now) }
+    ensures { result ≡ new_face (gluing_in numbered.now) (lengths_by numbered.now) f }
 {
     let cell = cell_of(numbered, f);
     let (patch, i, j) = (cell.patch, cell.i, cell.j);
@@ -35,8 +35,8 @@ pub(crate) fn face_of(numbered: &Numbered, f: u32) -> [u32; 4]
 
 /// The cell of face f. Logarithmic in the patches.
 fn cell_of(numbered: &Numbered, f: u32) -> Cell
-    requires face { f < face_count (layout_in numbered.now) (lengths_by numbered.now) }
-    ensures { IsCellOf (layout_in numbered.now) (lengths_by numbered.now) f result }
+    requires face { f < face_count (gluing_in numbered.now) (lengths_by numbered.now) }
+    ensures { IsCellOf (gluing_in numbered.now) (lengths_by numbered.now) f result }
 {
     let patch = spot_in(&numbered.tables.cells.begin, f);
     let cell = f - numbered.tables.cells.begin[patch];

@@ -1,6 +1,6 @@
 //! A layout and the tables that number it.
 
-ghost use Rattle.def_layout.specs.Plans.{plan};
+ghost use Rattle.def_layout.specs.Layouts.{layout_of};
 ghost use Rattle.qm_stitch.specs.Numbered.{AreTables};
 
 use def_layout::TMesh;
@@ -11,5 +11,5 @@ use def_remesh::Tables;
 pub struct Numbered<'a> {
     pub t: &'a TMesh,
     pub tables: &'a Tables,
-    ghost numbers: { AreTables (plan t.now) tables.now },
+    ghost numbers: { AreTables (layout_of t.now) tables.now },
 }

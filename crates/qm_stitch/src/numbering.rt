@@ -2,7 +2,7 @@
 
 ghost use Rattle.std.specs.Prelude.{◌≡◌, ◌<◌, ◌≤◌, length};
 ghost use Rattle.def_layout.specs.Lengths.{wide, high};
-ghost use Rattle.def_layout.specs.Plans.{layout_of, plan, Plan};
+ghost use Rattle.def_layout.specs.Layouts.{gluing_of, layout_of, Layout};
 ghost use Rattle.def_written.specs.NewFaces.{face_count, new_face};
 ghost use Rattle.def_written.specs.Numbers.{vertex_number, vertices};
 ghost use Rattle.def_written.specs.Points.{point};
@@ -37,32 +37,32 @@ impl Model for Numbering {
 impl Numbering {
     /// How many vertices there are.
     pub fn vertices(&self) -> u32
-        ensures { (plan : Plan) → IsNumbering plan self.now
-            → result ≡ vertices (layout_of plan) (lengths_in self.now.lengths.items) }
+        ensures { (layout : Layout) → IsNumbering layout self.now
+            → result ≡ vertices (gluing_of layout) (lengths_in self.now.lengths.items) }
     {
         self.tables.nodes + last_of(&self.tables.along.begin) + last_of(&self.tables.inside.begin)
     }
 
     /// How many faces there are.
     pub fn faces(&self) -> u32
-        ensures { (plan : Plan) → IsNumbering plan self.now
-            → result ≡ face_count (layout_of plan) (lengths_in self.now.lengths.items) }
+        ensures { (layout : Layout) → IsNumbering layout self.now
+            → result ≡ face_count (gluing_of layout) (lengths_in self.now.lengths.items) }
     {
         last_of(&self.tables.cells.begin)
     }
 
     /// Face f, for the layout that was numbered.
     pub fn face(&self, t: &TMesh, f: u32) -> [u32; 4]
-        requires numbering { IsNumbering (plan t.now) self.now }
-        requires face { f < face_count (layout_of (plan t.now)) (lengths_in self.now.lengths.items) }
-        ensures { result ≡ new_face (layout_of (plan t.now)) (lengths_in self.now.lengths.items) f }
+        requires numbering { IsNumbering (layout_of t.now) self.now }
+        requires face { f < face_count (gluing_of (layout_of t.now)) (lengths_in self.now.lengths.items) }
+        ensures { result ≡ new_face (gluing_of (layout_of t.now)) (lengths_in self.now.lengths.items) f }
     {
         self.on(t).face(f)
     }
 
     /// The numbers with the layout that was numbered.
     pub fn on<'a>(&'a self, t: &'a TMesh) -> Numbered<'a>
-        requires { IsNumbering (plan t.now) self.now }
+        requires { IsNumbering (layout_of t.now) self.now }
         ensures layout { result.t.now ≡ t.now }
         ensures tables { result.tables.now ≡ self.now }
     {
@@ -74,8 +74,9 @@ impl Numbering {
 impl Numbered<'_> {
     /// Face f.
     pub fn face(&self, f: u32) -> [u32; 4]
-        requires { f < face_count (layout_of (plan self.now.t.now)) (lengths_in self.now.tables.now.lengths.items) }
-        ensures { result ≡ new_face (layout_of (plan self.now.t.now))
+        requires { f < face_count (gluing_of (layout_of self.now.t.now))
+            (lengths_in self.now.tables.now.lengths.items) }
+        ensures { result ≡ new_face (gluing_of (layout_of self.now.t.now))
             (lengths_in self.now.tables.now.lengths.items) f }
     {
         face_of(self, f)
@@ -85,13 +86,13 @@ impl Numbered<'_> {
     /// side on that.
     pub fn point(&self, patch: usize, i: u32, j: u32) -> u32
         requires patch { patch < length self.now.t.now.patches.items }
-        requires column { i ≤ wide (layout_of (plan self.now.t.now))
+        requires column { i ≤ wide (gluing_of (layout_of self.now.t.now))
             (lengths_in self.now.tables.now.lengths.items) patch }
-        requires row { j ≤ high (layout_of (plan self.now.t.now))
+        requires row { j ≤ high (gluing_of (layout_of self.now.t.now))
             (lengths_in self.now.tables.now.lengths.items) patch }
-        ensures { result ≡ vertex_number (layout_of (plan self.now.t.now))
+        ensures { result ≡ vertex_number (gluing_of (layout_of self.now.t.now))
             (lengths_in self.now.tables.now.lengths.items)
-            (point (layout_of (plan self.now.t.now)) (lengths_in self.now.tables.now.lengths.items) patch i j) }
+            (point (gluing_of (layout_of self.now.t.now)) (lengths_in self.now.tables.now.lengths.items) patch i j) }
     {
         point_number(self, patch, i, j)
     }

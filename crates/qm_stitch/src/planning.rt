@@ -3,7 +3,7 @@
 ghost use Rattle.std.specs.Prelude.{◌≡◌, ◌≤◌, ℕ, length, IfErr, IfOk, IsErrOf, OnOk};
 ghost use Rattle.def_flow.specs.declared.limits.TheConstants.{MAX_LENGTH};
 ghost use Rattle.def_layout.specs.Lengths.{AreLengths};
-ghost use Rattle.def_layout.specs.Plans.{layout_of, plan as plan_of};
+ghost use Rattle.def_layout.specs.Layouts.{gluing_of, layout_of};
 ghost use Rattle.def_layoutnet.specs.MeshLayouts.{IsSomeLayout};
 ghost use Rattle.def_written.specs.Edges.{IsUndoubled};
 ghost use Rattle.def_remesh.specs.NewPoints.{lengths_in};
@@ -24,16 +24,16 @@ use std::alloc::Global;
 /// least pair of vertices where one is. n log n in the edges that have an end on a side of a patch; lengths that are
 /// safe are not searched.
 pub fn plan(alloc: Global, t: &TMesh, lengths: &[u64]) -> Result<Numbering, StitchFail>
-    requires layout { IsSomeLayout (plan_of t.now) }
+    requires layout { IsSomeLayout (layout_of t.now) }
     requires long { length lengths.now ≡ length t.now.arcs.items }
-    requires lengths { AreLengths (layout_of (plan_of t.now)) (lengths_in lengths.now) }
+    requires lengths { AreLengths (gluing_of (layout_of t.now)) (lengths_in lengths.now) }
     requires bounded { (arc : ℕ) → lengths_in lengths.now arc ≤ MAX_LENGTH }
-    ensures numbering { IfOk result (λ n. IsNumbering (plan_of t.now) n) }
+    ensures numbering { IfOk result (λ n. IsNumbering (layout_of t.now) n) }
     ensures lengths { IfOk result (λ n. n.lengths.items ≡ lengths.now) }
-    ensures undoubled { OnOk result (IsUndoubled (layout_of (plan_of t.now)) (lengths_in lengths.now)) }
-    ensures shape { OnOk result (KeepsShapes (plan_of t.now) (lengths_in lengths.now)) }
-    ensures refused { IfErr result (IsUnstitched (layout_of (plan_of t.now)) (lengths_in lengths.now)) }
-    ensures safe { AreSafe (plan_of t.now) (lengths_in lengths.now)
+    ensures undoubled { OnOk result (IsUndoubled (gluing_of (layout_of t.now)) (lengths_in lengths.now)) }
+    ensures shape { OnOk result (KeepsShapes (layout_of t.now) (lengths_in lengths.now)) }
+    ensures refused { IfErr result (IsUnstitched (gluing_of (layout_of t.now)) (lengths_in lengths.now)) }
+    ensures safe { AreSafe (layout_of t.now) (lengths_in lengths.now)
         → (u v : ℕ) → ¬ IsErrOf result (StitchFail.Doubled u v) }
 {
     let stretched = Stretched { t, lengths };

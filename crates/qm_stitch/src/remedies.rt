@@ -4,7 +4,7 @@ ghost use Rattle.std.specs.Prelude.{◌≡◌, ◌↔◌, ◌<◌, length, IfOk,
 ghost use Rattle.std.specs.List.{All, Contains};
 ghost use Rattle.def_flow.specs.declared.limits.TheConstants.{MAX_FLOOR};
 ghost use Rattle.def_layout.specs.declared.tmesh.SideArc.{SideArc as Used};
-ghost use Rattle.qm_stitch.specs.Lengthened.{layout_in, lengths_by};
+ghost use Rattle.qm_stitch.specs.Lengthened.{gluing_in, lengths_by};
 ghost use Rattle.qm_stitch.specs.Remedies.{price_along as price_of_uses, short_price as price_if_short};
 ghost use Rattle.qm_stitch.specs.Remedies.{AddsRemedies, IsAlong, IsAlongArcs, IsAlongPatches, IsAlongSides};
 ghost use Rattle.qm_stitch.specs.Remedies.{IsByLine, IsPriced, IsPricedRemedy, IsSomeShort};
@@ -138,7 +138,7 @@ fn push_line(
     run: Run,
 ) -> Result<(), AllocError>
     requires priced { IsPriced priced.now }
-    requires line { IsLine (layout_in priced.now.numbered) (lengths_by priced.now.numbered) line }
+    requires line { IsLine (gluing_in priced.now.numbered) (lengths_by priced.now.numbered) line }
     requires some { 0 < line.number }
     ensures { OnOk result (AddsRemedies found.old.items found.new.items (IsByLine priced.now line price run)) }
 {

@@ -3,10 +3,10 @@
 
 ghost use Rattle.std.specs.Prelude.{◌≡◌, ◌<◌, ◌≤◌, ◌-◌, ◌++◌, length, IfOk, OnOk};
 ghost use Rattle.def_layout.specs.Lengths.{size};
-ghost use Rattle.def_layout.specs.Plans.{way_number as side_number};
+ghost use Rattle.def_layout.specs.Layouts.{way_number as side_number};
 ghost use Rattle.def_written.specs.Edges.{on_arc};
 ghost use Rattle.def_written.specs.Numbers.{vertex_number as point_name};
-ghost use Rattle.qm_stitch.specs.Lengthened.{layout_in, lengths_by};
+ghost use Rattle.qm_stitch.specs.Lengthened.{gluing_in, lengths_by};
 ghost use Rattle.qm_stitch.specs.Rims.{all_lines, along_lines, arcs_upto, key_of, keys_of, line_edge, line_ends};
 ghost use Rattle.qm_stitch.specs.Rims.{line_point as spot_on, patches_upto, rim_edges, segments, IsLine};
 
@@ -19,8 +19,8 @@ use std::alloc::{AllocError, Global};
 /// The keys of all edges that have an end on a side, each once.
 pub(crate) fn rim_keys(alloc: Global, numbered: &Numbered) -> Result<Vec<u64>, AllocError>
     ensures { IfOk result (λ keys. keys.items
-        ≡ keys_of (layout_in numbered.now) (lengths_by numbered.now)
-        (rim_edges (layout_in numbered.now) (lengths_by numbered.now))) }
+        ≡ keys_of (gluing_in numbered.now) (lengths_by numbered.now)
+        (rim_edges (gluing_in numbered.now) (lengths_by numbered.now))) }
 {
     let mut keys = Vec::new(alloc);
     push_arcs(&mut keys, numbered)?;
@@ -31,7 +31,7 @@ pub(crate) fn rim_keys(alloc: Global, numbered: &Numbered) -> Result<Vec<u64>, A
 /// Puts the keys of the edges of all arcs behind the others.
 fn push_arcs(keys: &mut Vec<u64>, numbered: &Numbered) -> Result<(), AllocError>
     ensures { OnOk result (keys.new.items ≡ keys.old.items
-        ++ keys_of (layout_in numbered.now) (lengths_by numbered.now)
+        ++ keys_of (gluing_in numbered.now) (lengths_by numbered.now)
         (arcs_upto (lengths_by numbered.now) (length numbered.now.t.now.arcs.items))) }
 {
     for arc in 0..numbered.t.arcs.len() {
@@ -44,7 +44,7 @@ fn push_arcs(keys: &mut Vec<u64>, numbered: &Numbered) -> Result<(), AllocError>
 fn push_arc(keys: &mut Vec<u64>, numbered: &Numbered, arc: usize) -> Result<(), AllocError>
     requires arc { arc < length numbered.now.t.now.arcs.items }
     ensures { OnOk result (keys.new.items ≡ keys.old.items
-        ++ keys_of (layout_in numbered.now) (lengths_by numbered.now)
+        ++ keys_of (gluing_in numbered.now) (lengths_by numbered.now)
         (segments (lengths_by numbered.now) arc)) }
 {
     for k in 0..numbered.tables.lengths[arc] {
@@ -57,7 +57,7 @@ fn push_arc(keys: &mut Vec<u64>, numbered: &Numbered, arc: usize) -> Result<(), 
 pub(crate) fn arc_key(numbered: &Numbered, arc: usize, k: u32) -> u64
     requires arc { arc < length numbered.now.t.now.arcs.items }
     requires low { k < lengths_by numbered.now arc }
-    ensures { result ≡ key_of (layout_in numbered.now) (lengths_by numbered.now) (on_arc arc k) }
+    ensures { result ≡ key_of (gluing_in numbered.now) (lengths_by numbered.now) (on_arc arc k) }
 {
     let from = arc_number(numbered, arc, k);
     let to = arc_number(numbered, arc, k + 1);
@@ -67,8 +67,8 @@ pub(crate) fn arc_key(numbered: &Numbered, arc: usize, k: u32) -> u64
 /// Puts the keys of the edges of all patches that have an end on a side behind the others.
 fn push_patches(keys: &mut Vec<u64>, numbered: &Numbered) -> Result<(), AllocError>
     ensures { OnOk result (keys.new.items ≡ keys.old.items
-        ++ keys_of (layout_in numbered.now) (lengths_by numbered.now)
-        (patches_upto (layout_in numbered.now) (lengths_by numbered.now) (length numbered.now.t.now.patches.items))) }
+        ++ keys_of (gluing_in numbered.now) (lengths_by numbered.now)
+        (patches_upto (gluing_in numbered.now) (lengths_by numbered.now) (length numbered.now.t.now.patches.items))) }
 {
     for patch in 0..numbered.t.patches.len() {
         push_lines(keys, numbered, patch, false)?;
@@ -94,8 +94,8 @@ fn push_lines(
 ) -> Result<(), AllocError>
     requires patch { patch < length numbered.now.t.now.patches.items }
     ensures { OnOk result (keys.new.items ≡ keys.old.items
-        ++ keys_of (layout_in numbered.now) (lengths_by numbered.now)
-        (all_lines (layout_in numbered.now) (lengths_by numbered.now) upright patch)) }
+        ++ keys_of (gluing_in numbered.now) (lengths_by numbered.now)
+        (all_lines (gluing_in numbered.now) (lengths_by numbered.now) upright patch)) }
 {
     for number in 1..size_at(numbered, patch, side_along(!upright)) {
         let line = Line {
@@ -110,11 +110,11 @@ fn push_lines(
 
 /// Puts the keys of the first and the last edge of a line behind the others, which may be one edge.
 fn push_line(keys: &mut Vec<u64>, numbered: &Numbered, line: Line) -> Result<(), AllocError>
-    requires line { IsLine (layout_in numbered.now) (lengths_by numbered.now) line }
+    requires line { IsLine (gluing_in numbered.now) (lengths_by numbered.now) line }
     ensures { OnOk result (keys.new.items ≡ keys.old.items
-        ++ keys_of (layout_in numbered.now) (lengths_by numbered.now)
+        ++ keys_of (gluing_in numbered.now) (lengths_by numbered.now)
         (line_ends line.upright line.patch
-        (size (layout_in numbered.now) (lengths_by numbered.now) line.patch (along_lines line.upright))
+        (size (gluing_in numbered.now) (lengths_by numbered.now) line.patch (along_lines line.upright))
         line.number)) }
 {
     let long = size_at(numbered, line.patch, side_along(line.upright));
@@ -135,10 +135,10 @@ pub(crate) fn side_along(upright: bool) -> usize
 
 /// The key of an edge of a line, so many edges after its first one.
 pub(crate) fn key_at(numbered: &Numbered, line: Line, at: u32) -> u64
-    requires line { IsLine (layout_in numbered.now) (lengths_by numbered.now) line }
-    requires low { at < size (layout_in numbered.now) (lengths_by numbered.now) line.patch
+    requires line { IsLine (gluing_in numbered.now) (lengths_by numbered.now) line }
+    requires low { at < size (gluing_in numbered.now) (lengths_by numbered.now) line.patch
         (along_lines line.upright) }
-    ensures { result ≡ key_of (layout_in numbered.now) (lengths_by numbered.now)
+    ensures { result ≡ key_of (gluing_in numbered.now) (lengths_by numbered.now)
         (line_edge line.upright line.patch line.number at) }
 {
     let from = line_point(numbered, line, at);
@@ -148,11 +148,11 @@ pub(crate) fn key_at(numbered: &Numbered, line: Line, at: u32) -> u64
 
 /// The number of a point of a line, so many edges after its beginning.
 fn line_point(numbered: &Numbered, line: Line, at: u32) -> u32
-    requires line { IsLine (layout_in numbered.now) (lengths_by numbered.now) line }
-    requires upto { at ≤ size (layout_in numbered.now) (lengths_by numbered.now) line.patch
+    requires line { IsLine (gluing_in numbered.now) (lengths_by numbered.now) line }
+    requires upto { at ≤ size (gluing_in numbered.now) (lengths_by numbered.now) line.patch
         (along_lines line.upright) }
-    ensures { result ≡ point_name (layout_in numbered.now) (lengths_by numbered.now)
-        (spot_on (layout_in numbered.now) (lengths_by numbered.now)
+    ensures { result ≡ point_name (gluing_in numbered.now) (lengths_by numbered.now)
+        (spot_on (gluing_in numbered.now) (lengths_by numbered.now)
         line.upright line.patch line.number at) }
 {
     if line.upright {

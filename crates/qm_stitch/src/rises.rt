@@ -3,12 +3,12 @@
 ghost use Rattle.std.specs.Prelude.{◌≡◌, ◌↔◌, ◌<◌, ◌≤◌, ◌^◌, ℕ, length, IfOk, IsTrue, Some};
 ghost use Rattle.def_flow.specs.declared.limits.TheConstants.{MAX_FLOOR};
 ghost use Rattle.def_layout.specs.Lengths.{AreLengths};
-ghost use Rattle.def_layout.specs.Plans.{layout_of, plan};
+ghost use Rattle.def_layout.specs.Layouts.{gluing_of, layout_of};
 ghost use Rattle.def_layoutnet.specs.MeshLayouts.{IsSomeLayout};
 ghost use Rattle.def_remesh.specs.NewPoints.{lengths_in};
 ghost use Rattle.def_remesh.specs.Remeshed.{AreCoarse, AreDoubled};
 ghost use Rattle.def_remesh.specs.Rises.{AreNeeded};
-ghost use Rattle.qm_stitch.specs.Lengthened.{layout_in};
+ghost use Rattle.qm_stitch.specs.Lengthened.{gluing_in};
 ghost use Rattle.qm_stitch.specs.Raised.{AreFloors, AreOrdered, AreRisesUpto, IsFloorFor, IsFloorOf};
 ghost use Rattle.qm_stitch.specs.Raised.{IsShortTight};
 ghost use Rattle.qm_stitch.specs.Remedies.{FollowCheapest, IsPriced};
@@ -36,14 +36,14 @@ pub fn needed_rises(
     lengths: &[u64],
     prices: &[i64],
 ) -> Result<Vec<Rise>, AllocError>
-    requires layout { IsSomeLayout (plan t.now) }
+    requires layout { IsSomeLayout (layout_of t.now) }
     requires long { length lengths.now ≡ length t.now.arcs.items }
-    requires lengths { AreLengths (layout_of (plan t.now)) (lengths_in lengths.now) }
+    requires lengths { AreLengths (gluing_of (layout_of t.now)) (lengths_in lengths.now) }
     requires few { length lengths.now < 2 ^ 32 }
-    requires coarse { AreCoarse (plan t.now) lengths.now }
-    requires doubled { AreDoubled (plan t.now) lengths.now }
+    requires coarse { AreCoarse (layout_of t.now) lengths.now }
+    requires doubled { AreDoubled (layout_of t.now) lengths.now }
     requires prices { length prices.now ≡ length lengths.now }
-    ensures { IfOk result (λ rises. AreNeeded (layout_of (plan t.now)) (lengths_in lengths.now) rises.items) }
+    ensures { IfOk result (λ rises. AreNeeded (gluing_of (layout_of t.now)) (lengths_in lengths.now) rises.items) }
 {
     let tables = tables(alloc, t, lengths)?;
     let numbered = Numbered { t, tables: &tables };
@@ -64,9 +64,10 @@ fn cheapest_rises(alloc: Global, priced: &Priced, lengths: &[u64]) -> Result<Vec
     requires few { length lengths.now < 2 ^ 32 }
     requires short { ¬ ((arc : ℕ) → arc < length lengths.now → MAX_FLOOR ≤ lengths_in lengths.now arc) }
     ensures needed { IfOk result (λ rises.
-        AreNeeded (layout_in priced.now.numbered) (lengths_in lengths.now) rises.items) }
+        AreNeeded (gluing_in priced.now.numbered) (lengths_in lengths.now) rises.items) }
     ensures cheapest { IfOk result (λ rises.
-        FollowCheapest (plan priced.now.numbered.t.now) (lengths_in lengths.now) priced.now.prices.now rises.items) }
+        FollowCheapest (layout_of priced.now.numbered.t.now) (lengths_in lengths.now) priced.now.prices.now
+        rises.items) }
 {
     let remedies = remedies(alloc, priced)?;
     let some = is_any(&remedies);
@@ -112,12 +113,12 @@ pub fn are_needed(
     lengths: &[u64],
     rises: &[Rise],
 ) -> Result<bool, AllocError>
-    requires layout { IsSomeLayout (plan t.now) }
+    requires layout { IsSomeLayout (layout_of t.now) }
     requires long { length lengths.now ≡ length t.now.arcs.items }
-    requires lengths { AreLengths (layout_of (plan t.now)) (lengths_in lengths.now) }
-    requires coarse { AreCoarse (plan t.now) lengths.now }
+    requires lengths { AreLengths (gluing_of (layout_of t.now)) (lengths_in lengths.now) }
+    requires coarse { AreCoarse (layout_of t.now) lengths.now }
     ensures { IfOk result (λ are.
-        IsTrue are ↔ AreNeeded (layout_of (plan t.now)) (lengths_in lengths.now) rises.now) }
+        IsTrue are ↔ AreNeeded (gluing_of (layout_of t.now)) (lengths_in lengths.now) rises.now) }
 {
     let tight = tight_arcs(alloc, t, lengths)?;
     Ok(are_rises(lengths, &tight, is_some_short(lengths, &tight), rises))

@@ -2,7 +2,7 @@
 
 ghost use Rattle.std.specs.Prelude.{◌≡◌, ◌<◌, ◌≤◌, ◌↔◌, ℕ, length, IsTrue};
 ghost use Rattle.def_layout.specs.Arcs.{long_at};
-ghost use Rattle.def_layout.specs.Plans.{plan};
+ghost use Rattle.def_layout.specs.Layouts.{layout_of};
 ghost use Rattle.def_remesh.specs.NewPoints.{lengths_in, multiple_of};
 ghost use Rattle.def_remesh.specs.Stitched.{AreMultiples, AreSafe};
 
@@ -10,7 +10,7 @@ use crate::stretched::Stretched;
 
 /// Whether all lengths are at least 3, or are the old ones, so many times. Linear in the arcs.
 pub(crate) fn are_safe(stretched: &Stretched) -> bool
-    ensures { IsTrue result ↔ AreSafe (plan stretched.now.t.now) (lengths_in stretched.now.lengths.now) }
+    ensures { IsTrue result ↔ AreSafe (layout_of stretched.now.t.now) (lengths_in stretched.now.lengths.now) }
 {
     are_long(stretched.lengths) || are_multiples(stretched)
 }
@@ -29,7 +29,7 @@ fn are_long(lengths: &[u64]) -> bool
 
 /// Whether all lengths are the old ones, so many times.
 fn are_multiples(stretched: &Stretched) -> bool
-    ensures { IsTrue result ↔ AreMultiples (plan stretched.now.t.now) (lengths_in stretched.now.lengths.now) }
+    ensures { IsTrue result ↔ AreMultiples (layout_of stretched.now.t.now) (lengths_in stretched.now.lengths.now) }
 {
     if stretched.lengths.is_empty() {
         return true;
@@ -41,7 +41,8 @@ fn are_multiples(stretched: &Stretched) -> bool
 /// Whether all lengths are so many times the old ones.
 fn are_times(stretched: &Stretched, by: u64) -> bool
     ensures { IsTrue result ↔ ((arc : ℕ) → arc < length stretched.now.lengths.now
-        → lengths_in stretched.now.lengths.now arc ≡ multiple_of by (long_at (plan stretched.now.t.now).arcs) arc) }
+        → lengths_in stretched.now.lengths.now arc
+        ≡ multiple_of by (long_at (layout_of stretched.now.t.now).arcs) arc) }
 {
     for arc in 0..stretched.lengths.len() {
         let old = stretched.t.arcs[arc].darts.len();

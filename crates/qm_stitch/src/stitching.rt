@@ -3,13 +3,13 @@
 ghost use Rattle.std.specs.Prelude.{◌≡◌, ◌≤◌, ℕ, length, IfErr, IfOk, IsErrOf, OnOk};
 ghost use Rattle.def_flow.specs.declared.limits.TheConstants.{MAX_LENGTH};
 ghost use Rattle.def_layout.specs.Lengths.{AreLengths};
-ghost use Rattle.def_layout.specs.Plans.{layout_of, plan as plan_of};
+ghost use Rattle.def_layout.specs.Layouts.{gluing_of, layout_of};
 ghost use Rattle.def_layoutnet.specs.MeshLayouts.{IsSomeLayout};
 ghost use Rattle.def_written.specs.Edges.{IsUndoubled};
 ghost use Rattle.def_written.specs.NewFaces.{new_faces};
 ghost use Rattle.def_remesh.specs.NewPoints.{lengths_in};
 ghost use Rattle.def_remesh.specs.Stitched.{AreSafe, IsNewMesh, IsUnstitched, KeepsShapes};
-ghost use Rattle.qm_stitch.specs.Lengthened.{layout_in, lengths_by};
+ghost use Rattle.qm_stitch.specs.Lengthened.{gluing_in, lengths_by};
 
 use crate::face::face_of;
 use crate::numbered::Numbered;
@@ -21,15 +21,15 @@ use std::alloc::{AllocError, Global};
 
 /// The mesh that a layout gives at these lengths, with the refusals of `plan`. Linear in its faces, besides.
 pub fn stitch(alloc: Global, t: &TMesh, lengths: &[u64]) -> Result<NewMesh, StitchFail>
-    requires layout { IsSomeLayout (plan_of t.now) }
+    requires layout { IsSomeLayout (layout_of t.now) }
     requires long { length lengths.now ≡ length t.now.arcs.items }
-    requires lengths { AreLengths (layout_of (plan_of t.now)) (lengths_in lengths.now) }
+    requires lengths { AreLengths (gluing_of (layout_of t.now)) (lengths_in lengths.now) }
     requires bounded { (arc : ℕ) → lengths_in lengths.now arc ≤ MAX_LENGTH }
-    ensures mesh { IfOk result (IsNewMesh (plan_of t.now) (lengths_in lengths.now)) }
-    ensures undoubled { OnOk result (IsUndoubled (layout_of (plan_of t.now)) (lengths_in lengths.now)) }
-    ensures shape { OnOk result (KeepsShapes (plan_of t.now) (lengths_in lengths.now)) }
-    ensures refused { IfErr result (IsUnstitched (layout_of (plan_of t.now)) (lengths_in lengths.now)) }
-    ensures safe { AreSafe (plan_of t.now) (lengths_in lengths.now)
+    ensures mesh { IfOk result (IsNewMesh (layout_of t.now) (lengths_in lengths.now)) }
+    ensures undoubled { OnOk result (IsUndoubled (gluing_of (layout_of t.now)) (lengths_in lengths.now)) }
+    ensures shape { OnOk result (KeepsShapes (layout_of t.now) (lengths_in lengths.now)) }
+    ensures refused { IfErr result (IsUnstitched (gluing_of (layout_of t.now)) (lengths_in lengths.now)) }
+    ensures safe { AreSafe (layout_of t.now) (lengths_in lengths.now)
         → (u v : ℕ) → ¬ IsErrOf result (StitchFail.Doubled u v) }
 {
     let numbering = plan(alloc, t, lengths)?;
@@ -42,7 +42,7 @@ pub fn stitch(alloc: Global, t: &TMesh, lengths: &[u64]) -> Result<NewMesh, Stit
 
 /// All faces, by their numbers.
 fn all_faces(alloc: Global, numbered: &Numbered) -> Result<Vec<[u32; 4]>, AllocError>
-    ensures { IfOk result (λ faces. faces.items ≡ new_faces (layout_in numbered.now) (lengths_by numbered.now)) }
+    ensures { IfOk result (λ faces. faces.items ≡ new_faces (gluing_in numbered.now) (lengths_by numbered.now)) }
 {
     let count = last_of(&numbered.tables.cells.begin);
     let mut faces = Vec::with_capacity(alloc, count as usize)?;

@@ -2,16 +2,16 @@
 
 ghost use Rattle.std.specs.Prelude.{◌≡◌, ◌↔◌, ◌<◌, ◌||◌, ℕ, false, length, slice_index_or, IfOk, IsTrue};
 ghost use Rattle.std.specs.List.{All};
-ghost use Rattle.def_layout.specs.Layouts.{Way};
+ghost use Rattle.def_layout.specs.Gluings.{Way};
 ghost use Rattle.def_layout.specs.Lengths.{AreLengths};
-ghost use Rattle.def_layout.specs.Plans.{layout_of, plan, way_number as side_number};
+ghost use Rattle.def_layout.specs.Layouts.{gluing_of, layout_of, way_number as side_number};
 ghost use Rattle.def_layout.specs.Surfaces.{IsSurface};
 ghost use Rattle.def_layout.specs.declared.tmesh.SideArc.{SideArc as Used};
 ghost use Rattle.def_layoutnet.specs.MeshLayouts.{IsSomeLayout};
 ghost use Rattle.def_remesh.specs.NewPoints.{lengths_in};
 ghost use Rattle.def_remesh.specs.Remeshed.{AreCoarse};
 ghost use Rattle.def_remesh.specs.Rises.{IsOnSide, IsTightArc};
-ghost use Rattle.qm_stitch.specs.Lengthened.{layout_in, lengths_by};
+ghost use Rattle.qm_stitch.specs.Lengthened.{gluing_in, lengths_by};
 ghost use Rattle.qm_stitch.specs.Rims.{IsLine};
 ghost use Rattle.qm_stitch.specs.Tight.{is_on, AddsMarks, AreRimKeys, IsDoubledIn, IsDoubledOn};
 ghost use Rattle.qm_stitch.specs.Tight.{IsLineDoubled, IsTightAt, IsTightUpto};
@@ -27,14 +27,14 @@ use std::alloc::{AllocError, Global};
 
 /// Whether each arc is tight: a doubled edge runs along it. n log n in the edges that have an end on a side of a patch.
 pub fn tight_arcs(alloc: Global, t: &TMesh, lengths: &[u64]) -> Result<Vec<bool>, AllocError>
-    requires layout { IsSomeLayout (plan t.now) }
+    requires layout { IsSomeLayout (layout_of t.now) }
     requires long { length lengths.now ≡ length t.now.arcs.items }
-    requires lengths { AreLengths (layout_of (plan t.now)) (lengths_in lengths.now) }
-    requires coarse { AreCoarse (plan t.now) lengths.now }
+    requires lengths { AreLengths (gluing_of (layout_of t.now)) (lengths_in lengths.now) }
+    requires coarse { AreCoarse (layout_of t.now) lengths.now }
     ensures long { IfOk result (λ tight. length tight.items ≡ length t.now.arcs.items) }
     ensures each { IfOk result (λ tight. (arc : ℕ) → arc < length t.now.arcs.items
         → IsTrue (slice_index_or tight.items arc false)
-        ↔ IsTightArc (layout_of (plan t.now)) (lengths_in lengths.now) arc) }
+        ↔ IsTightArc (gluing_of (layout_of t.now)) (lengths_in lengths.now) arc) }
 {
     let tables = tables(alloc, t, lengths)?;
     let numbered = Numbered { t, tables: &tables };
@@ -47,12 +47,12 @@ pub fn tight_arcs(alloc: Global, t: &TMesh, lengths: &[u64]) -> Result<Vec<bool>
 
 /// Whether each arc has a doubled edge.
 fn doubled_arcs(alloc: Global, numbered: &Numbered, keys: &[u64]) -> Result<Vec<bool>, AllocError>
-    requires laid { IsSurface (layout_in numbered.now) }
-    requires keys { AreRimKeys (layout_in numbered.now) (lengths_by numbered.now) keys.now }
+    requires laid { IsSurface (gluing_in numbered.now) }
+    requires keys { AreRimKeys (gluing_in numbered.now) (lengths_by numbered.now) keys.now }
     ensures long { IfOk result (λ on. length on.items ≡ length numbered.now.t.now.arcs.items) }
     ensures each { IfOk result (λ on. (arc : ℕ) → arc < length numbered.now.t.now.arcs.items
         → IsTrue (slice_index_or on.items arc false)
-        ↔ IsDoubledOn (layout_in numbered.now) (lengths_by numbered.now) arc) }
+        ↔ IsDoubledOn (gluing_in numbered.now) (lengths_by numbered.now) arc) }
 {
     let mut on = Vec::new(alloc);
     for arc in 0..numbered.t.arcs.len() {
@@ -64,9 +64,9 @@ fn doubled_arcs(alloc: Global, numbered: &Numbered, keys: &[u64]) -> Result<Vec<
 /// Whether an arc has a doubled edge.
 fn is_doubled_on(numbered: &Numbered, keys: &[u64], arc: usize) -> bool
     requires arc { arc < length numbered.now.t.now.arcs.items }
-    requires laid { IsSurface (layout_in numbered.now) }
-    requires keys { AreRimKeys (layout_in numbered.now) (lengths_by numbered.now) keys.now }
-    ensures { IsTrue result ↔ IsDoubledOn (layout_in numbered.now) (lengths_by numbered.now) arc }
+    requires laid { IsSurface (gluing_in numbered.now) }
+    requires keys { AreRimKeys (gluing_in numbered.now) (lengths_by numbered.now) keys.now }
+    ensures { IsTrue result ↔ IsDoubledOn (gluing_in numbered.now) (lengths_by numbered.now) arc }
 {
     for k in 0..numbered.tables.lengths[arc] {
         if is_repeat(keys, arc_key(numbered, arc, k)) {
@@ -79,9 +79,9 @@ fn is_doubled_on(numbered: &Numbered, keys: &[u64], arc: usize) -> bool
 /// Marks the arcs along which doubled edges inside patches run.
 fn mark_patches(tight: &mut [bool], numbered: &Numbered, keys: &[u64])
     requires long { length tight.old ≡ length numbered.now.t.now.arcs.items }
-    requires laid { IsSurface (layout_in numbered.now) }
-    requires keys { AreRimKeys (layout_in numbered.now) (lengths_by numbered.now) keys.now }
-    ensures { AddsMarks tight.old tight.new (IsTightUpto (layout_in numbered.now) (lengths_by numbered.now)
+    requires laid { IsSurface (gluing_in numbered.now) }
+    requires keys { AreRimKeys (gluing_in numbered.now) (lengths_by numbered.now) keys.now }
+    ensures { AddsMarks tight.old tight.new (IsTightUpto (gluing_in numbered.now) (lengths_by numbered.now)
         (length numbered.now.t.now.patches.items)) }
 {
     for patch in 0..numbered.t.patches.len() {
@@ -95,10 +95,10 @@ fn mark_patches(tight: &mut [bool], numbered: &Numbered, keys: &[u64])
 fn mark_lines(tight: &mut [bool], numbered: &Numbered, keys: &[u64], patch: usize, upright: bool)
     requires patch { patch < length numbered.now.t.now.patches.items }
     requires long { length tight.old ≡ length numbered.now.t.now.arcs.items }
-    requires laid { IsSurface (layout_in numbered.now) }
-    requires keys { AreRimKeys (layout_in numbered.now) (lengths_by numbered.now) keys.now }
+    requires laid { IsSurface (gluing_in numbered.now) }
+    requires keys { AreRimKeys (gluing_in numbered.now) (lengths_by numbered.now) keys.now }
     ensures { AddsMarks tight.old tight.new
-        (IsTightAt (layout_in numbered.now) (lengths_by numbered.now) upright patch) }
+        (IsTightAt (gluing_in numbered.now) (lengths_by numbered.now) upright patch) }
 {
     if is_doubled_in(numbered, keys, patch, upright) {
         let side = side_along(upright);
@@ -113,7 +113,7 @@ pub(crate) fn mark_side(tight: &mut [bool], numbered: &Numbered, patch: usize, s
     requires side { side < 4 }
     requires long { length tight.old ≡ length numbered.now.t.now.arcs.items }
     ensures { (way : Way) → side_number way ≡ side
-        → AddsMarks tight.old tight.new (IsOnSide (layout_in numbered.now) patch way) }
+        → AddsMarks tight.old tight.new (IsOnSide (gluing_in numbered.now) patch way) }
 {
     mark_uses(tight, uses_on(&numbered.t.sides, patch, side));
 }
@@ -132,9 +132,9 @@ fn mark_uses(tight: &mut [bool], uses: &[SideArc])
 /// Whether a row inside a patch has a doubled edge, or a column.
 fn is_doubled_in(numbered: &Numbered, keys: &[u64], patch: usize, upright: bool) -> bool
     requires patch { patch < length numbered.now.t.now.patches.items }
-    requires laid { IsSurface (layout_in numbered.now) }
-    requires keys { AreRimKeys (layout_in numbered.now) (lengths_by numbered.now) keys.now }
-    ensures { IsTrue result ↔ IsDoubledIn (layout_in numbered.now) (lengths_by numbered.now) upright patch }
+    requires laid { IsSurface (gluing_in numbered.now) }
+    requires keys { AreRimKeys (gluing_in numbered.now) (lengths_by numbered.now) keys.now }
+    ensures { IsTrue result ↔ IsDoubledIn (gluing_in numbered.now) (lengths_by numbered.now) upright patch }
 {
     for number in 1..size_at(numbered, patch, side_along(!upright)) {
         let line = Line {
@@ -151,11 +151,11 @@ fn is_doubled_in(numbered: &Numbered, keys: &[u64], patch: usize, upright: bool)
 
 /// Whether a line has a doubled edge: its first or its last one.
 fn is_line_doubled(numbered: &Numbered, keys: &[u64], line: Line) -> bool
-    requires laid { IsSurface (layout_in numbered.now) }
-    requires keys { AreRimKeys (layout_in numbered.now) (lengths_by numbered.now) keys.now }
-    requires line { IsLine (layout_in numbered.now) (lengths_by numbered.now) line }
+    requires laid { IsSurface (gluing_in numbered.now) }
+    requires keys { AreRimKeys (gluing_in numbered.now) (lengths_by numbered.now) keys.now }
+    requires line { IsLine (gluing_in numbered.now) (lengths_by numbered.now) line }
     requires some { 0 < line.number }
-    ensures { IsTrue result ↔ IsLineDoubled (layout_in numbered.now) (lengths_by numbered.now)
+    ensures { IsTrue result ↔ IsLineDoubled (gluing_in numbered.now) (lengths_by numbered.now)
         line.upright line.patch line.number }
 {
     let last = size_at(numbered, line.patch, side_along(line.upright)) - 1;

@@ -10,8 +10,8 @@ use Rattle.def_mesh.specs.{Vertices.vertex_count, HalfEdges.half_edges}
 use Rattle.def_cut.specs.{FullCut.is_on, FullCut.IsFullCut, Grids.Rectangle, Grids.patch_at, Grids.IsPartition}
 use Rattle.def_cut.specs.Steps.{easts}
 use Rattle.def_layout.specs.Arcs.{IsRun, Path, path, path_at, dart_at, long_at, IsArc}
-use Rattle.def_layout.specs.{Arcs.LiesAt, Borders.side_size, Borders.border_dart, Layouts.Way, Nodes.is_node}
-use Rattle.def_layout.specs.{Plans.way_number, Plans.IsDartLayout, declared.tmesh.SideArc.SideArc}
+use Rattle.def_layout.specs.{Arcs.LiesAt, Borders.side_size, Borders.border_dart, Gluings.Way, Nodes.is_node}
+use Rattle.def_layout.specs.{Layouts.way_number, Layouts.IsDartLayout, declared.tmesh.SideArc.SideArc}
 use Rattle.def_layout.specs.declared.tmesh.TArc.{TArc}
 use Rattle.mesh_laws.proofs.HalfEdges.{manifold_law}
 use Rattle.face_laws.proofs.FullCuts.{full_cut_law}

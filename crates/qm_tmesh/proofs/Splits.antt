@@ -5,7 +5,7 @@ use Rattle.def_mesh.specs.Darts.{darts, from_of, next_of, straight_of}
 use Rattle.def_mesh.specs.{Faces.Faces, HalfEdges.half_edges}
 use Rattle.def_cut.specs.{FullCut.is_on, Grids.Rectangle, Steps.easts}
 use Rattle.def_layout.specs.{Arcs.IsRun, Arcs.Path, Arcs.path_at, Arcs.long_at, Arcs.LiesAt, Borders.side_size}
-use Rattle.def_layout.specs.{Borders.border_dart, Layouts.Way, Nodes.is_node, declared.tmesh.SideArc.SideArc}
+use Rattle.def_layout.specs.{Borders.border_dart, Gluings.Way, Nodes.is_node, declared.tmesh.SideArc.SideArc}
 use Rattle.layout_laws.specs.Named.{run_list}
 use Rattle.layout_laws.proofs.Borders.{IsLine, line, line_easts, line_begins, run_fits, next_begins}
 use Rattle.layout_laws.proofs.Uses.{IsUse, run_long, run_entry, named_arc, use_run}

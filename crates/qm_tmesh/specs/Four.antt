@@ -7,9 +7,9 @@ use Rattle.def_cut.specs.FullCut.{is_on}
 use Rattle.def_cut.specs.Grids.{Rectangle, cell_of, patch_at, IsPatch}
 use Rattle.def_layout.specs.Arcs.{Path}
 use Rattle.def_layout.specs.Borders.{side_size, border_dart}
-use Rattle.def_layout.specs.Layouts.{Way}
+use Rattle.def_layout.specs.Gluings.{Way}
 use Rattle.def_layout.specs.Nodes.{is_node, AreNodes}
-use Rattle.def_layout.specs.Plans.{way_number, PatchSides}
+use Rattle.def_layout.specs.Layouts.{way_number, PatchSides}
 use Rattle.def_layout.specs.declared.tmesh.Side.{Side}
 use Rattle.def_layout.specs.declared.tmesh.SideArc.{SideArc}
 use Rattle.layout_laws.specs.Named.{run_list}

@@ -6,7 +6,7 @@ ghost use Rattle.def_cut.specs.FullCut.{is_on, IsFullCut};
 ghost use Rattle.def_cut.specs.Grids.{rectangle, IsPartition};
 ghost use Rattle.def_cut.specs.Steps.{face_of};
 ghost use Rattle.def_layout.specs.FaceLayouts.{IsCutLayout};
-ghost use Rattle.def_layout.specs.Plans.{plan};
+ghost use Rattle.def_layout.specs.Layouts.{layout_of};
 
 use crate::Memory;
 use crate::arcs::arcs;
@@ -30,7 +30,7 @@ pub fn layout(
     requires cut { IsFullCut mesh.now graph.now.covered.items }
     requires patches { IsPartition (half_edges mesh.now) (is_on graph.now.covered.items) face_of
         (map rectangle patches.items) }
-    ensures { IfOk result (λ t. IsCutLayout mesh.now graph.now.covered.items (plan t)) }
+    ensures { IfOk result (λ t. IsCutLayout mesh.now graph.now.covered.items (layout_of t)) }
 {
     let cut = graph.covered.as_slice();
     let nodes = find_nodes(alloc, mesh, cut)?;

@@ -14,7 +14,7 @@ use Rattle.def_fit.specs.declared.fit.Spacing.TheVariants.{Even, Wished}
 use Rattle.def_flow.specs.{declared.net.Settings.Settings, declared.net.Weight.Weight}
 use Rattle.def_flow.specs.declared.net.Weight.TheVariants as weights
 use Rattle.def_io.specs.Bytes.{Bytes, Lines}
-use Rattle.def_layout.specs.{Lengths.Lengths, Plans.Plan}
+use Rattle.def_layout.specs.{Lengths.Lengths, Layouts.Layout}
 use Rattle.def_marks.specs.MarkedText.{marked_text}
 use Rattle.def_patches.specs.{declared.Keep.Keep, declared.Patches.Patches, declared.Patches.TheVariants.Traced}
 use Rattle.def_patches.specs.declared.Patches.TheVariants.{Merged, Conforming}
@@ -155,14 +155,14 @@ chains_passed (chain ∷ chains) short zero low = chain_passed chain (short 0 lo
 chains_passed (chain ∷ chains) short (suc k) low =
     chains_passed chains (λ j l. short (suc j) (omega (arith, l))) k (omega (arith, low))
 
-module _ (marks : List Bool) (plan : Plan) (new : Lengths) where
+module _ (marks : List Bool) (layout : Layout) (new : Lengths) where
   -- They are passed over where none is too long.
-  pub marked_aside : HasShortLines (marked_text marks plan new) → IsAside (marked_text marks plan new)
+  pub marked_aside : HasShortLines (marked_text marks layout new) → IsAside (marked_text marks layout new)
   marked_aside short = record {
-    ended = marked_ended marks plan new;
+    ended = marked_ended marks layout new;
     each = subst
         (λ (ls : Lines). ((k : ℕ) → k < length ls → length (get_or ls k []) ≤ 65536) → (k : ℕ) → k < length ls
         → IsPassedOver (get_or ls k []))
-        (sym (marked_lines marks plan new))
-        (chains_passed (marked_chains marks plan new)) short;
+        (sym (marked_lines marks layout new))
+        (chains_passed (marked_chains marks layout new)) short;
   }

@@ -2,7 +2,7 @@
 use Rattle.std.proofs.Common.{◌≡◌, ℕ, pos, length, sym, ◌∙◌, ap, subst}
 use Rattle.def_certtext.specs.declared.certs.Rising.TheVariants.{Never}
 use Rattle.def_gen.specs.Steps.{steps_soup}
-use Rattle.def_layout.specs.Plans.{Plan}
+use Rattle.def_layout.specs.Layouts.{Layout}
 use Rattle.def_mesh.specs.{Components.edge_count, Components.start_darts, Faces.Faces, Vertices.vertex_count}
 use Rattle.def_remesh.specs.{CutSoups.CutSoup, Refusals.IsLayoutFail, declared.kept.LayoutFail.LayoutFail}
 use Rattle.def_remesh.specs.Tasks.{old_lengths}
@@ -13,12 +13,12 @@ use Rattle.def_run.specs.Remesh.{IsTracedLayout}
 use Rattle.def_text.specs.FaceSet.{FaceSet}
 
 -- Counts that are those of a mesh and its layout give its line.
-pub same_line : (size : ℕ) (told : Counts) (faces : Faces) (plan : Plan) (deviation : ℕ)
+pub same_line : (size : ℕ) (told : Counts) (faces : Faces) (layout : Layout) (deviation : ℕ)
     → told.vertices ≡ vertex_count faces → told.edges ≡ edge_count faces → told.faces ≡ length faces
-    → told.riders ≡ length (start_darts faces) → told.patches ≡ length plan.patches → told.arcs ≡ length plan.arcs
-    → told.deviation ≡ pos deviation → bench_line size told ≡ bench_line size (counts_of faces plan deviation)
-same_line size told faces plan deviation vertices edges many riders patches arcs far =
-    let same : told ≡ counts_of faces plan deviation = λ i. record {
+    → told.riders ≡ length (start_darts faces) → told.patches ≡ length layout.patches → told.arcs ≡ length layout.arcs
+    → told.deviation ≡ pos deviation → bench_line size told ≡ bench_line size (counts_of faces layout deviation)
+same_line size told faces layout deviation vertices edges many riders patches arcs far =
+    let same : told ≡ counts_of faces layout deviation = λ i. record {
       vertices = vertices i;
       edges = edges i;
       faces = many i;
@@ -30,17 +30,18 @@ same_line size told faces plan deviation vertices edges many riders patches arcs
     ap (bench_line size) same
 
 -- A layout of a mesh that is that of a size is one of the size.
-pub traced_in : (size : ℕ) (soup : FaceSet) (faces : Faces) (plan : Plan) (cut : CutSoup) → soup ≡ steps_soup size
+pub traced_in : (size : ℕ) (soup : FaceSet) (faces : Faces) (layout : Layout) (cut : CutSoup) → soup ≡ steps_soup size
     → faces ≡ soup.faces
-    → cut ≡ record { soup = soup; plan = plan } → IsTracedLayout faces plan → IsTracedLayout (bench_faces size) cut.plan
-traced_in size soup faces plan cut is same made traced =
-    subst (IsTracedLayout (bench_faces size)) (ap (λ (k : CutSoup). k.plan) (sym made))
-    (subst (λ (fs : Faces). IsTracedLayout fs plan) (same ∙ ap (λ (s : FaceSet). s.faces) is) traced)
+    → cut ≡ record { soup = soup; layout = layout } → IsTracedLayout faces layout
+    → IsTracedLayout (bench_faces size) cut.layout
+traced_in size soup faces layout cut is same made traced =
+    subst (IsTracedLayout (bench_faces size)) (ap (λ (k : CutSoup). k.layout) (sym made))
+    (subst (λ (fs : Faces). IsTracedLayout fs layout) (same ∙ ap (λ (s : FaceSet). s.faces) is) traced)
 
 -- A layout of the mesh of a size that is refused is why the size is.
-pub size_fails : (size : ℕ) (plan : Plan) (failed : LayoutFail) → IsTracedLayout (bench_faces size) plan
-    → IsLayoutFail old_lengths plan bench_settings Never failed → IsBenchFail size failed
-size_fails size plan (fail.Tangled count) cut why = (plan, cut, why)
-size_fails size plan (fail.TooFine faces kept) cut why = (plan, cut, why)
-size_fails size plan (fail.Doubled u v cert) cut why = (plan, cut, why)
-size_fails size plan fail.Memory cut why = tt
+pub size_fails : (size : ℕ) (layout : Layout) (failed : LayoutFail) → IsTracedLayout (bench_faces size) layout
+    → IsLayoutFail old_lengths layout bench_settings Never failed → IsBenchFail size failed
+size_fails size layout (fail.Tangled count) cut why = (layout, cut, why)
+size_fails size layout (fail.TooFine faces kept) cut why = (layout, cut, why)
+size_fails size layout (fail.Doubled u v cert) cut why = (layout, cut, why)
+size_fails size layout fail.Memory cut why = tt

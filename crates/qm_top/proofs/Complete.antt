@@ -35,7 +35,7 @@ use Rattle.def_run.specs.CommandLines.{IsAcceptedLine, IsCommand}
 use Rattle.def_patches.specs.{declared.Keep.Keep, declared.Patches.Patches}
 use Rattle.def_flow.specs.declared.net.Settings.{Settings}
 use Rattle.def_remesh.specs.{Refusals.IsRemeshable, Tasks.old_lengths, Tasks.Task, Tasks.Wish}
-use Rattle.def_layout.specs.Plans.{Plan}
+use Rattle.def_layout.specs.Layouts.{Layout}
 use Rattle.def_run.specs.declared.words.WordsFail.TheVariants as words_fail
 use Rattle.remesh_laws.proofs.Fits.{fits_not_doubled, fits_not_fine}
 use Rattle.qm_top.proofs.{Checked.accepted_not_refused, Creased.marks_not_refused}
@@ -60,26 +60,26 @@ mesh_not_refused bytes soup _ mesh none = absurd none
 
 -- Bytes whose mesh is refined are not refused.
 refine_not_both : (by : ℕ) (bytes : Bytes) (answer : Answer) → HasRefined by bytes → RefusesToRefine by bytes answer → ⊥
-refine_not_both by bytes (TooFine faces kept) takes (plan, cut, fine) =
-    absurd (omega (arith, fine.counted, fine.many, takes.fits plan cut))
+refine_not_both by bytes (TooFine faces kept) takes (layout, cut, fine) =
+    absurd (omega (arith, fine.counted, fine.many, takes.fits layout cut))
 refine_not_both by bytes answer takes refuses = mesh_not_refused bytes takes.soup answer takes.mesh refuses
 
 -- Bytes whose mesh is remeshed whatever least lists are kept are not refused.
-layout_not_both : (wish : Wish) (settings : Settings) (rising : Rising) (plan : Plan) (answer : Answer)
-    → IsRemeshable wish plan settings rising
-    → RefusesLayout wish plan settings rising answer → ⊥
-layout_not_both wish settings rising plan (Tangled count) fits refuses = fits.untangled count refuses
-layout_not_both wish settings rising plan (TooFine faces kept) fits refuses =
-    fits_not_fine wish plan settings rising faces kept fits refuses
-layout_not_both wish settings rising plan (Doubled u v cert) fits refuses =
-    fits_not_doubled wish plan settings rising u v cert fits refuses
-layout_not_both wish settings rising plan _ fits refuses = absurd refuses
+layout_not_both : (wish : Wish) (settings : Settings) (rising : Rising) (layout : Layout) (answer : Answer)
+    → IsRemeshable wish layout settings rising
+    → RefusesLayout wish layout settings rising answer → ⊥
+layout_not_both wish settings rising layout (Tangled count) fits refuses = fits.untangled count refuses
+layout_not_both wish settings rising layout (TooFine faces kept) fits refuses =
+    fits_not_fine wish layout settings rising faces kept fits refuses
+layout_not_both wish settings rising layout (Doubled u v cert) fits refuses =
+    fits_not_doubled wish layout settings rising u v cert fits refuses
+layout_not_both wish settings rising layout _ fits refuses = absurd refuses
 
 task_not_both : (asks : Asks) (bytes : Bytes) (answer : Answer) → HasFinished asks bytes → RefusesTask asks bytes answer
     → ⊥
 task_not_both asks bytes answer takes (inl none) = mesh_not_refused bytes takes.soup answer takes.mesh none
-task_not_both asks bytes answer takes (inr (task, plan, has, why)) =
-    layout_not_both task.wish task.settings task.rising plan answer (takes.fits task plan has) why
+task_not_both asks bytes answer takes (inr (task, layout, has, why)) =
+    layout_not_both task.wish task.settings task.rising layout answer (takes.fits task layout has) why
 
 -- What is asked for under a condition is finished with all that is asked for.
 near_finished : (asks near : Asks) (bytes : Bytes)
@@ -88,7 +88,7 @@ near_finished : (asks near : Asks) (bytes : Bytes)
 near_finished asks near bytes more finished = record {
   soup = finished.soup;
   mesh = finished.mesh;
-  fits = λ task plan has. finished.fits task plan
+  fits = λ task layout has. finished.fits task layout
       (record { soup = has.soup; mesh = has.mesh; asked = more has.soup task has.asked; cut = has.cut });
 }
 
@@ -99,7 +99,7 @@ far_not_near edge floor sum bytes soup mesh near is =
     let both : ◌≡◌ {A = Result FaceSet ObjFail} (Ok is.soup) (Ok soup) = sym is.mesh.said ∙ mesh.said in
     let same : is.soup ≡ soup = cc in
     let here : HasNearTargets edge is.soup = subst (HasNearTargets edge) (sym same) near in
-    absurd (omega (arith, here is.plan is.cut, is.far.told, is.far.high))
+    absurd (omega (arith, here is.layout is.cut, is.far.told, is.far.high))
 
 -- Bytes that it takes are not refused.
 pub size_not_both : (edge : ℤ) (floor : ℕ) (bytes : Bytes) (answer : Answer) → HasSize edge floor bytes
@@ -116,8 +116,8 @@ size_not_both edge floor bytes answer takes refuses =
 -- So is the mesh of a size.
 bench_not_both : (size : ℕ) (answer : Answer) → HasBench size → RefusesToBench size answer → ⊥
 bench_not_both size (NotManifold place) takes refuses = refuses.1 takes.manifold
-bench_not_both size answer takes (plan, cut, why) =
-    layout_not_both old_lengths bench_settings Never plan answer (takes.fits plan cut) why
+bench_not_both size answer takes (layout, cut, why) =
+    layout_not_both old_lengths bench_settings Never layout answer (takes.fits layout cut) why
 
 -- Bytes with marks are refused for what is asked of them alone.
 crease_not_both : (settings : Settings) (bytes : Bytes) (answer : Answer) → HasCreased settings bytes
@@ -152,7 +152,7 @@ wishes_not_near fit bytes sum has is =
     let near : (task : Task) → AsksToFit fit bytes is.asked.soup task → HasNearWishes fit.aim is.asked.soup task =
     subst (λ (s : FaceSet). (task : Task) → AsksToFit fit bytes s task → HasNearWishes fit.aim s task) (sym same)
     has.near in
-    is.unbounded (near is.task is.asked.asked is.plan is.asked.cut)
+    is.unbounded (near is.task is.asked.asked is.layout is.asked.cut)
 
 fit_not_both : (fit : AnyFit) (bytes : Bytes) (answer : Answer) → HasFit fit bytes → RefusesFit fit bytes answer → ⊥
 fit_not_both fit bytes (Far sum) takes far = wishes_not_near fit bytes sum takes.asides far
@@ -189,8 +189,8 @@ lay_out_not_both keep bytes answer takes (inr why) = kept_not_refused keep bytes
 
 grids_not_both : (keep : Keep) (patches : Patches) (by : ℕ) (bytes : Bytes) (answer : Answer)
     → HasGrids keep patches by bytes → RefusesGrids keep patches by bytes answer → ⊥
-grids_not_both keep patches by bytes (TooFine faces kept) takes (plan, layout, fine) =
-    absurd (omega (arith, fine.counted, fine.many, takes.fits plan layout))
+grids_not_both keep patches by bytes (TooFine faces kept) takes (layout, laid_out, fine) =
+    absurd (omega (arith, fine.counted, fine.many, takes.fits layout laid_out))
 grids_not_both keep patches by bytes answer takes refuses = lay_out_not_both keep bytes answer takes.has refuses
 
 -- No command both takes bytes and refuses them.

@@ -7,7 +7,7 @@ use Rattle.def_certtext.specs.{declared.certs.Rising.TheVariants.Never, CertLine
 use Rattle.def_feature.specs.Marked.{marked_cut}
 use Rattle.def_flow.specs.declared.net.Settings.{Settings}
 use Rattle.def_io.specs.{Bytes.Bytes, declared.TheConstants.LINE_FEED}
-use Rattle.def_layout.specs.{FaceLayouts.IsCutLayout, Plans.Plan}
+use Rattle.def_layout.specs.{FaceLayouts.IsCutLayout, Layouts.Layout}
 use Rattle.def_marks.specs.{Lines.marks_in, MarkedText.marked_text, declared.fail.MarkFail.MarkFail}
 use Rattle.def_marks.specs.declared.fail.MarkFail.TheVariants as marks
 use Rattle.def_remesh.specs.{CutSoups.CutSoup, Keeping.IsKept, NewPoints.lengths_in, Placings.IsMeshLayout}
@@ -50,34 +50,35 @@ marks_not_refused bytes (NotEdge line) has none = mark_fails bytes (marks.NotEdg
 marks_not_refused bytes _ has none = absurd none
 
 -- The chosen cut is the marked one.
-pub chosen_marked : (faces : Faces) (marks : List Bool) (plan : Plan) → IsChosenLayout faces (Some marks) Traced plan
-    → IsCutLayout faces (marked_cut faces marks) plan
-chosen_marked faces marks plan chosen = subst (λ (cut : List Bool). IsCutLayout faces cut plan) chosen.1 chosen.2
+pub chosen_marked : (faces : Faces) (marks : List Bool) (layout : Layout)
+    → IsChosenLayout faces (Some marks) Traced layout
+    → IsCutLayout faces (marked_cut faces marks) layout
+chosen_marked faces marks layout chosen = subst (λ (cut : List Bool). IsCutLayout faces cut layout) chosen.1 chosen.2
 
 module _ (settings : Settings) (bytes : Bytes) (read : FaceSet) (cut : CutSoup) (marks : List Bool)
     (same : cut.soup ≡ read) (said : marks_in bytes read ≡ Ok marks)
-    (on : IsCutLayout cut.soup.faces (marked_cut cut.soup.faces marks) cut.plan) where
+    (on : IsCutLayout cut.soup.faces (marked_cut cut.soup.faces marks) cut.layout) where
   asked : AsksToCrease settings bytes cut.soup (creased_task settings cut.soup.faces marks)
   asked = (marks, subst (λ (s : FaceSet). marks_in bytes s ≡ Ok marks) (sym same) said, refl)
 
   -- What is kept of a mesh with its marks is written for its task.
-  pub creased_shown : (framed : Framed) → IsMeshLayout cut.soup.faces cut.plan
+  pub creased_shown : (framed : Framed) → IsMeshLayout cut.soup.faces cut.layout
       → framed.remesh.terms ≡ record { settings = settings; rising = Never }
-      → IsKept old_lengths cut.plan settings Never (certificates_of framed.remesh.certs) framed.remesh.numbering
+      → IsKept old_lengths cut.layout settings Never (certificates_of framed.remesh.certs) framed.remesh.numbering
       → framed.head.items ≡ named_head (codes "crease") settings ++ LINE_FEED ∷ []
-      → framed.between.items ≡ marked_text marks cut.plan (lengths_in (used (certificates_of framed.remesh.certs)).x)
+      → framed.between.items ≡ marked_text marks cut.layout (lengths_in (used (certificates_of framed.remesh.certs)).x)
       → framed.shares ≡ None
-      → ShowsAsked (AsksToCrease settings) bytes read (framed_text framed cut.soup cut.plan)
+      → ShowsAsked (AsksToCrease settings) bytes read (framed_text framed cut.soup cut.layout)
   creased_shown framed laid is kept head between even =
-      subst (λ (s : FaceSet). ShowsAsked (AsksToCrease settings) bytes s (framed_text framed cut.soup cut.plan)) same (
+      rw (← same) (
         creased_task settings cut.soup.faces marks,
         asked,
-        framed_shown (creased_task settings cut.soup.faces marks) framed _ cut.soup cut.plan laid on is refl refl kept
+        framed_shown (creased_task settings cut.soup.faces marks) framed _ cut.soup cut.layout laid on is refl refl kept
             head between even,
       )
 
   -- Where its layout is refused its task fails.
-  pub creased_fails : (fail : LayoutFail) → IsLayoutFail old_lengths cut.plan settings Never fail
+  pub creased_fails : (fail : LayoutFail) → IsLayoutFail old_lengths cut.layout settings Never fail
       → FailsAsked (AsksToCrease settings) bytes read fail
   creased_fails fail why = subst (λ (s : FaceSet). FailsAsked (AsksToCrease settings) bytes s fail) same
-      (creased_task settings cut.soup.faces marks, asked, (cut.plan, on, why))
+      (creased_task settings cut.soup.faces marks, asked, (cut.layout, on, why))

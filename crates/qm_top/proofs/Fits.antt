@@ -7,7 +7,7 @@ use Rattle.def_fit.specs.Aims.{aimed, fit_settings, AreAimedNear, IsFit, IsFitFa
 use Rattle.def_fit.specs.{FitTasks.asides_in, FitTasks.fit_task, FitTasks.kept_text, FitTasks.Asides, FitWords.fit_head}
 use Rattle.def_fit.specs.{Shares.shares_of, declared.fit.Fit.Fit as AnyFit}
 use Rattle.def_io.specs.{Bytes.Bytes, Moves.IsStill, Moves.Stream}
-use Rattle.def_layout.specs.{FaceLayouts.IsCutLayout, Lengths.Lengths, Plans.Plan}
+use Rattle.def_layout.specs.{FaceLayouts.IsCutLayout, Lengths.Lengths, Layouts.Layout}
 use Rattle.def_marks.specs.declared.fail.MarkFail.{MarkFail}
 use Rattle.def_marks.specs.declared.fail.MarkFail.TheVariants as marks
 use Rattle.def_mesh.specs.Manifold.{IsManifold}
@@ -51,10 +51,10 @@ asides_refuse fit bytes (marks.Range line) other has = inl has
 asides_refuse fit bytes (marks.NotEdge line) other has = inl has
 
 -- The lines behind the new mesh are passed over.
-kept_aside : (kept : Option (List Bool)) (plan : Plan) (new : Lengths) → HasShortLines (kept_text kept plan new)
-    → IsAside (kept_text kept plan new)
-kept_aside None plan new short = none_aside
-kept_aside (Some marks) plan new short = marked_aside marks plan new short
+kept_aside : (kept : Option (List Bool)) (layout : Layout) (new : Lengths) → HasShortLines (kept_text kept layout new)
+    → IsAside (kept_text kept layout new)
+kept_aside None layout new short = none_aside
+kept_aside (Some marks) layout new short = marked_aside marks layout new short
 
 pub fit_aimed : (fit : AnyFit) → IsFit fit → IsAimed (Fit fit) fit.aim (AsksToFit fit) (AsksForNearFit fit)
 fit_aimed fit is = record {
@@ -64,13 +64,13 @@ fit_aimed fit is = record {
       let new = lengths_in (used said.shown.finished.certificates).x in
       task_reread (AsksForNearFit fit) bytes text said (fit_task fit said.soup asked.0 asked.1) asked.4
       (fit_aside fit is)
-      (kept_aside asked.0.kept said.shown.finished.plan new
-      (subst (λ (t : Task). HasShortLines (t.between said.shown.finished.plan new)) asked.4 short))
+      (kept_aside asked.0.kept said.shown.finished.layout new
+      (subst (λ (t : Task). HasShortLines (t.between said.shown.finished.layout new)) asked.4 short))
       read;
   tangled = λ bytes count why. why;
   far = λ bytes soup sum mesh far. record {
     task = far.task;
-    plan = far.plan;
+    layout = far.layout;
     asked = record { soup = soup; mesh = mesh; asked = far.asked; cut = far.cut };
     unbounded = far.unbounded;
     far = far.far;
@@ -93,8 +93,8 @@ asides_by_parts asides kept wishes one other i = record { kept = sym one i; wish
 -- The task that it asks for over a chosen cut.
 module _ (fit : AnyFit) (bytes : Bytes) (read : FaceSet) (cut : CutSoup) (asides : Asides) (same : cut.soup ≡ read)
     (said : asides_in fit bytes read ≡ Ok asides) (each : AreKeptMarks read.faces asides.kept)
-    (laid : IsMeshLayout cut.soup.faces cut.plan)
-    (chosen : IsChosenLayout cut.soup.faces asides.kept fit.patches cut.plan) where
+    (laid : IsMeshLayout cut.soup.faces cut.layout)
+    (chosen : IsChosenLayout cut.soup.faces asides.kept fit.patches cut.layout) where
   abbrev task : Task
   task = fit_task fit cut.soup asides chosen.0
 
@@ -109,26 +109,26 @@ module _ (fit : AnyFit) (bytes : Bytes) (read : FaceSet) (cut : CutSoup) (asides
       (subst (λ (s : FaceSet). AreKeptMarks s.faces asides.kept) (sym same) each) chosen.1
 
   -- It is asked where its wishes are not too great.
-  nearly : AreAimedNear fit.aim task.wish cut.plan → AsksForNearFit fit bytes cut.soup task
-  nearly near = (asked, near_on fit.aim task.wish cut.soup.faces chosen.0 cut.plan manifold full chosen.2 near)
+  nearly : AreAimedNear fit.aim task.wish cut.layout → AsksForNearFit fit bytes cut.soup task
+  nearly near = (asked, near_on fit.aim task.wish cut.soup.faces chosen.0 cut.layout manifold full chosen.2 near)
 
   -- What is kept of it is written.
-  pub fit_shown : (framed : Framed) → AreAimedNear fit.aim (aimed fit.aim cut.soup asides.wishes) cut.plan
+  pub fit_shown : (framed : Framed) → AreAimedNear fit.aim (aimed fit.aim cut.soup asides.wishes) cut.layout
       → framed.remesh.terms ≡ record { settings = fit_settings fit; rising = rounds_if fit.auto }
-      → IsKept (aimed fit.aim cut.soup asides.wishes) cut.plan (fit_settings fit) (rounds_if fit.auto)
+      → IsKept (aimed fit.aim cut.soup asides.wishes) cut.layout (fit_settings fit) (rounds_if fit.auto)
       (certificates_of framed.remesh.certs) framed.remesh.numbering
       → framed.head.items ≡ fit_head fit ++ 10 ∷ []
-      → framed.between.items ≡ kept_text asides.kept cut.plan
+      → framed.between.items ≡ kept_text asides.kept cut.layout
       (lengths_in (used (certificates_of framed.remesh.certs)).x)
-      → ((marks : List Bool) → IsFullCut cut.soup.faces marks → IsCutLayout cut.soup.faces marks cut.plan
+      → ((marks : List Bool) → IsFullCut cut.soup.faces marks → IsCutLayout cut.soup.faces marks cut.layout
       → framed.shares ≡ shares_of fit cut.soup asides.wishes marks)
-      → ShowsAsked (AsksForNearFit fit) bytes read (framed_text framed cut.soup cut.plan)
+      → ShowsAsked (AsksForNearFit fit) bytes read (framed_text framed cut.soup cut.layout)
   fit_shown framed near is kept head between shares = aimed_shown fit.aim (AsksToFit fit) (AsksForNearFit fit) bytes
       read cut same task asked chosen.2 nearly framed laid near is kept head between (shares chosen.0 full chosen.2)
 
   -- It is not written where there is no network for its wishes, or where least lengths give no new mesh.
   pub fit_fails : {O : Type 0} (says : Bytes → Type 0) (out : Stream O) → IsStill out → (fail : SizeFail)
-      → IsFitFail fit.aim (aimed fit.aim cut.soup asides.wishes) cut.plan (fit_settings fit)
+      → IsFitFail fit.aim (aimed fit.aim cut.soup asides.wishes) cut.layout (fit_settings fit)
       (rounds_if fit.auto) fail
       → IsUnwritten says (IsOfWishes (FailsNear (AsksToFit fit) (AsksForNearFit fit) bytes read)
       (IsFarTask fit.aim (AsksToFit fit) bytes read)) out

@@ -4,7 +4,7 @@ use Rattle.def_certtext.specs.CertLines.{certificates_of, used}
 use Rattle.def_cut.specs.FullCut.{IsFullCut}
 use Rattle.def_fit.specs.{Aims.AreAimedNear, Aims.IsFitFail, declared.fit.Aim.Aim}
 use Rattle.def_io.specs.{Bytes.Bytes, Moves.Change, Moves.IsStill, Moves.Stream}
-use Rattle.def_layout.specs.{FaceLayouts.IsCutLayout, Plans.Plan}
+use Rattle.def_layout.specs.{FaceLayouts.IsCutLayout, Layouts.Layout}
 use Rattle.def_mesh.specs.{Faces.Faces, Manifold.IsManifold}
 use Rattle.def_metric.specs.declared.fail.SizeFail.{SizeFail}
 use Rattle.def_metric.specs.declared.fail.SizeFail.TheVariants as sizes
@@ -16,7 +16,7 @@ use Rattle.def_run.specs.Remesh.{IsSettled, RefusesLayout, RefusesTask, WritesFi
 use Rattle.def_run.specs.{Reread.Rereads, declared.answer.Answer.Answer, declared.command.Command.Command}
 use Rattle.def_run.specs.declared.answer.Answer.TheVariants as answers
 use Rattle.def_text.specs.{FaceSet.FaceSet, Input.ReadSoup, declared.limits.TheConstants.MAX_BYTES}
-use Rattle.plan_laws.proofs.OnePlan.{one_layout_law}
+use Rattle.embedding_laws.proofs.OneLayout.{one_layout_law}
 use Rattle.qm_top.proofs.{Framed.framed_shown, Refusals.NeedsMesh, Remeshed.IsReadAside, Writers.layout_ends}
 use Rattle.qm_top.proofs.Writers.{IsWriter}
 use Rattle.qm_top.specs.{Fitting.FailsNear, Fitting.IsFarTask, Fitting.IsOfWishes, Refusals.answer_of_layout}
@@ -25,12 +25,12 @@ use Rattle.qm_top.specs.{declared.refusal.Refusal.Refusal, declared.refusal.Refu
 use Rattle.qm_write.specs.{Framing.framed_text, declared.text.Framed.Framed}
 
 -- Wishes that are not too great for a layout are so for each layout of its cut: there is one.
-pub near_on : (aim : Aim) (wish : Wish) (faces : Faces) (edges : List Bool) (plan : Plan) → IsManifold faces
+pub near_on : (aim : Aim) (wish : Wish) (faces : Faces) (edges : List Bool) (layout : Layout) → IsManifold faces
     → IsFullCut faces edges
-    → IsCutLayout faces edges plan → AreAimedNear aim wish plan → (other : Plan) → IsCutLayout faces edges other
+    → IsCutLayout faces edges layout → AreAimedNear aim wish layout → (other : Layout) → IsCutLayout faces edges other
     → AreAimedNear aim wish other
-near_on aim wish faces edges plan manifold full on near other also =
-    subst (AreAimedNear aim wish) (one_layout_law faces edges manifold full plan other on also) near
+near_on aim wish faces edges layout manifold full on near other also =
+    subst (AreAimedNear aim wish) (one_layout_law faces edges manifold full layout other on also) near
 
 -- What a command does that asks for a task where its wishes are not too great: it writes it finished, so that it is
 -- read again, or refuses it; a network that is too tangled comes before wishes that are too great.
@@ -53,11 +53,11 @@ module _ (command : Command) (aim : Aim) (asks near : Asks) (input out : Change)
   mesh : IsMeshText read.bytes soup
   mesh = record { said = read.said; manifold = manifold }
 
-  refused : (by : Asks) (answer : Answer) (task : Task) (plan : Plan) → by read.bytes soup task
-      → IsCutLayout soup.faces task.marks plan
-      → RefusesLayout task.wish plan task.settings task.rising answer → RefusesTask by read.bytes answer
-  refused by answer task plan asked cut why =
-      inr (task, plan, record { soup = soup; mesh = mesh; asked = asked; cut = cut }, why)
+  refused : (by : Asks) (answer : Answer) (task : Task) (layout : Layout) → by read.bytes soup task
+      → IsCutLayout soup.faces task.marks layout
+      → RefusesLayout task.wish layout task.settings task.rising answer → RefusesTask by read.bytes answer
+  refused by answer task layout asked cut why =
+      inr (task, layout, record { soup = soup; mesh = mesh; asked = asked; cut = cut }, why)
 
   ended_by : (answer : Answer) → Refuses command read.bytes answer → Refused command input answer
   ended_by answer said = record { bytes = read.bytes; whole = needs.reads input read.bytes read.whole; said = said }
@@ -65,16 +65,16 @@ module _ (command : Command) (aim : Aim) (asks near : Asks) (input out : Change)
   refuses : (fail : LayoutFail) → FailsNear asks near read.bytes soup fail
       → Cause command input out (answer_of_layout fail)
   refuses layouts.Memory why = tt
-  refuses (layouts.Tangled count) (task, asked, (plan, cut, why)) = ended_by (answers.Tangled count)
-      (aimed.tangled read.bytes count (refused asks (answers.Tangled count) task plan asked cut why))
-  refuses (layouts.TooFine faces kept) (task, asked, (plan, cut, why)) =
+  refuses (layouts.Tangled count) (task, asked, (layout, cut, why)) = ended_by (answers.Tangled count)
+      (aimed.tangled read.bytes count (refused asks (answers.Tangled count) task layout asked cut why))
+  refuses (layouts.TooFine faces kept) (task, asked, (layout, cut, why)) =
       ended_by (answers.TooFine faces kept)
       (aimed.refuses read.bytes (answers.TooFine faces kept) tt
-      (refused near (answers.TooFine faces kept) task plan asked cut why))
-  refuses (layouts.Doubled u v cert) (task, asked, (plan, cut, why)) =
+      (refused near (answers.TooFine faces kept) task layout asked cut why))
+  refuses (layouts.Doubled u v cert) (task, asked, (layout, cut, why)) =
       ended_by (answers.Doubled u v cert)
       (aimed.refuses read.bytes (answers.Doubled u v cert) tt
-      (refused near (answers.Doubled u v cert) task plan asked cut why))
+      (refused near (answers.Doubled u v cert) task layout asked cut why))
 
   ends : (r : Refusal) → IsOfWishes (FailsNear asks near read.bytes soup) (IsFarTask aim asks read.bytes soup) r
       → Ended command input out r
@@ -101,40 +101,40 @@ module _ (command : Command) (aim : Aim) (asks near : Asks) (input out : Change)
 
 -- What it writes of a mesh over its cut, and why it does not.
 module _ (aim : Aim) (asks near : Asks) (bytes : Bytes) (read : FaceSet) (cut : CutSoup) (same : cut.soup ≡ read)
-    (task : Task) (asked : asks bytes cut.soup task) (on : IsCutLayout cut.soup.faces task.marks cut.plan)
-    (nearly : AreAimedNear aim task.wish cut.plan → near bytes cut.soup task) where
+    (task : Task) (asked : asks bytes cut.soup task) (on : IsCutLayout cut.soup.faces task.marks cut.layout)
+    (nearly : AreAimedNear aim task.wish cut.layout → near bytes cut.soup task) where
   -- What is kept of a layout is written for it.
-  pub aimed_shown : (framed : Framed) → IsMeshLayout cut.soup.faces cut.plan → AreAimedNear aim task.wish cut.plan
+  pub aimed_shown : (framed : Framed) → IsMeshLayout cut.soup.faces cut.layout → AreAimedNear aim task.wish cut.layout
       → framed.remesh.terms ≡ record { settings = task.settings; rising = task.rising }
-      → IsKept task.wish cut.plan task.settings task.rising (certificates_of framed.remesh.certs)
+      → IsKept task.wish cut.layout task.settings task.rising (certificates_of framed.remesh.certs)
       framed.remesh.numbering
       → framed.head.items ≡ task.head ++ 10 ∷ []
-      → framed.between.items ≡ task.between cut.plan (lengths_in (used (certificates_of framed.remesh.certs)).x)
+      → framed.between.items ≡ task.between cut.layout (lengths_in (used (certificates_of framed.remesh.certs)).x)
       → framed.shares ≡ task.shares
-      → ShowsAsked near bytes read (framed_text framed cut.soup cut.plan)
+      → ShowsAsked near bytes read (framed_text framed cut.soup cut.layout)
   aimed_shown framed laid close is kept head between shares =
-      subst (λ (s : FaceSet). ShowsAsked near bytes s (framed_text framed cut.soup cut.plan)) same (
+      subst (λ (s : FaceSet). ShowsAsked near bytes s (framed_text framed cut.soup cut.layout)) same (
         task,
         nearly close,
-        framed_shown task framed _ cut.soup cut.plan laid on is refl refl kept head between shares,
+        framed_shown task framed _ cut.soup cut.layout laid on is refl refl kept head between shares,
       )
 
   fails_for : {O : Type 0} (says : Bytes → Type 0) (out : Stream O) → IsStill out → (fail : SizeFail)
-      → IsFitFail aim task.wish cut.plan task.settings task.rising fail
+      → IsFitFail aim task.wish cut.layout task.settings task.rising fail
       → IsUnwritten says (IsOfWishes (FailsNear asks near bytes cut.soup) (IsFarTask aim asks bytes cut.soup)) out
       (refusal_of_size fail)
   fails_for says out still (sizes.Far sum) why =
-      (still, record { task = task; asked = asked; plan = cut.plan; cut = on; unbounded = why.0; far = why.1 })
-  fails_for says out still (sizes.Layout (layouts.Tangled count)) why = (still, (task, asked, (cut.plan, on, why)))
+      (still, record { task = task; asked = asked; layout = cut.layout; cut = on; unbounded = why.0; far = why.1 })
+  fails_for says out still (sizes.Layout (layouts.Tangled count)) why = (still, (task, asked, (cut.layout, on, why)))
   fails_for says out still (sizes.Layout layouts.Memory) why = (still, tt)
   fails_for says out still (sizes.Layout (layouts.TooFine faces kept)) (close, why) =
-      (still, (task, nearly close, (cut.plan, on, why)))
+      (still, (task, nearly close, (cut.layout, on, why)))
   fails_for says out still (sizes.Layout (layouts.Doubled u v cert)) (close, why) =
-      (still, (task, nearly close, (cut.plan, on, why)))
+      (still, (task, nearly close, (cut.layout, on, why)))
 
   -- It is not written where a layout has no least lengths for its wishes, or none that give a new mesh.
   pub aimed_fails : {O : Type 0} (says : Bytes → Type 0) (out : Stream O) → IsStill out → (fail : SizeFail)
-      → IsFitFail aim task.wish cut.plan task.settings task.rising fail
+      → IsFitFail aim task.wish cut.layout task.settings task.rising fail
       → IsUnwritten says (IsOfWishes (FailsNear asks near bytes read) (IsFarTask aim asks bytes read)) out
       (refusal_of_size fail)
   aimed_fails says out still fail why =

@@ -18,7 +18,7 @@ use Rattle.qm_top.proofs.{Asides.marked_aside, Framed.unwritten_weaker, Refusals
 use Rattle.qm_top.specs.{Refusals.answer_of_layout, Finishing.headed_task, Writing.FailsAsked, Writing.FailsTask}
 use Rattle.qm_top.specs.Writing.{IsOfLayout, IsUnwritten, ShowsAsked, WroteText}
 use Rattle.qm_top.specs.declared.refusal.Refusal.{Refusal}
-use Rattle.def_layout.specs.{FaceLayouts.IsCutLayout, Plans.Plan}
+use Rattle.def_layout.specs.{FaceLayouts.IsCutLayout, Layouts.Layout}
 use Rattle.def_run.specs.{Causes.Cause, Causes.Refused, Causes.Refuses, Causes.Writes, Coarse.AsksToMerge}
 use Rattle.def_run.specs.{Crease.creased_task, Crease.AsksToCrease, Heads.named_task, Mesh.IsMeshText, Remesh.Asks}
 use Rattle.def_run.specs.Remesh.{AsksToRemesh, RefusesLayout, RefusesTask, WritesFinished}
@@ -38,12 +38,12 @@ IsReadAside asks bytes text said = IsAside (said.task.head ++ 10 ∷ [])
 -- It does where the lines of the task that was asked are such.
 pub task_reread : (asks : Asks) (bytes text : Bytes) (said : WritesFinished asks bytes text) (task : Task)
     → said.task ≡ task → IsAside (task.head ++ 10 ∷ [])
-    → IsAside (task.between said.shown.finished.plan (lengths_in (used said.shown.finished.certificates).x))
+    → IsAside (task.between said.shown.finished.layout (lengths_in (used said.shown.finished.certificates).x))
     → IsReadAside asks bytes text said → RereadsTask asks bytes text said
 task_reread asks bytes text said task is head between read =
     read (subst (λ (t : Task). IsAside (t.head ++ 10 ∷ [])) (sym is) head)
     (subst (λ (t : Task). IsAside
-    (t.between said.shown.finished.plan (lengths_in (used said.shown.finished.certificates).x))) (sym is)
+    (t.between said.shown.finished.layout (lengths_in (used said.shown.finished.certificates).x))) (sym is)
     between)
 
 -- What a command does that asks for a task: it writes it finished, so that it is read again, or refuses it.
@@ -73,25 +73,25 @@ task_writer command asks input out soup needs tasked manifold read calm = record
     mesh : IsMeshText read.bytes soup
     mesh = record { said = read.said; manifold = manifold }
 
-    refused : (answer : Answer) (task : Task) (plan : Plan) → asks read.bytes soup task
-        → IsCutLayout soup.faces task.marks plan
-        → RefusesLayout task.wish plan task.settings task.rising answer → Refused command input answer
-    refused answer task plan asked cut why = record {
+    refused : (answer : Answer) (task : Task) (layout : Layout) → asks read.bytes soup task
+        → IsCutLayout soup.faces task.marks layout
+        → RefusesLayout task.wish layout task.settings task.rising answer → Refused command input answer
+    refused answer task layout asked cut why = record {
       bytes = read.bytes;
       whole = needs.reads input read.bytes read.whole;
       said = tasked.refuses read.bytes answer
-          (inr (task, plan, record { soup = soup; mesh = mesh; asked = asked; cut = cut }, why));
+          (inr (task, layout, record { soup = soup; mesh = mesh; asked = asked; cut = cut }, why));
     }
 
     refuses : (fail : LayoutFail) → FailsAsked asks read.bytes soup fail
         → Cause command input out (answer_of_layout fail)
     refuses layouts.Memory why = tt
-    refuses (layouts.Tangled count) (task, asked, (plan, cut, why)) =
-        refused (answers.Tangled count) task plan asked cut why
-    refuses (layouts.TooFine faces kept) (task, asked, (plan, cut, why)) =
-        refused (answers.TooFine faces kept) task plan asked cut why
-    refuses (layouts.Doubled u v cert) (task, asked, (plan, cut, why)) =
-        refused (answers.Doubled u v cert) task plan asked cut why
+    refuses (layouts.Tangled count) (task, asked, (layout, cut, why)) =
+        refused (answers.Tangled count) task layout asked cut why
+    refuses (layouts.TooFine faces kept) (task, asked, (layout, cut, why)) =
+        refused (answers.TooFine faces kept) task layout asked cut why
+    refuses (layouts.Doubled u v cert) (task, asked, (layout, cut, why)) =
+        refused (answers.Doubled u v cert) task layout asked cut why
 
 -- The commands that do so.
 -- A remesh has no rounds.
@@ -129,9 +129,9 @@ crease_tasked settings range = record {
   read = λ bytes text said read short.
       task_reread (AsksToCrease settings) bytes text said (creased_task settings said.soup.faces said.asked.0)
       said.asked.2 (crease_aside settings range)
-      (marked_aside said.asked.0 said.shown.finished.plan (lengths_in (used said.shown.finished.certificates).x)
+      (marked_aside said.asked.0 said.shown.finished.layout (lengths_in (used said.shown.finished.certificates).x)
       (subst (λ (t : Task). HasShortLines
-      (t.between said.shown.finished.plan (lengths_in (used said.shown.finished.certificates).x)))
+      (t.between said.shown.finished.layout (lengths_in (used said.shown.finished.certificates).x)))
       said.asked.2 short))
       read;
   refuses = λ bytes answer why. inr why;

@@ -4,7 +4,7 @@ use Rattle.def_certtext.specs.{declared.certs.Rising.Rising, declared.certs.Risi
 use Rattle.def_flow.specs.declared.net.Settings.{Settings}
 use Rattle.def_fit.specs.declared.fit.Fit.{Fit as AnyFit}
 use Rattle.def_io.specs.{Bytes.Bytes, Bytes.Told, Faults.Rose, Moves.Change}
-use Rattle.def_layout.specs.Plans.{Plan}
+use Rattle.def_layout.specs.Layouts.{Layout}
 use Rattle.def_remesh.specs.{Refusals.IsTangledAt, Tasks.old_lengths, Tasks.Task, Tasks.Wish}
 use Rattle.def_run.specs.Bench.{bench_settings, RefusesToBench}
 use Rattle.def_run.specs.Causes.{Cause, ReadsTooMany, Refused}
@@ -26,20 +26,20 @@ use Rattle.qm_top.proofs.Complete.{asides_not_refused, far_not_near, mesh_not_re
 use Rattle.qm_top.proofs.Complete.{same_bytes, wishes_not_near}
 
 -- A layout that is not too tangled is refused for its least lengths alone.
-layout_settles : (wish : Wish) (settings : Settings) (rising : Rising) (plan : Plan) (answer : Answer)
-    → ((count : ℕ) → ¬ IsTangledAt wish plan settings count)
-    → RefusesLayout wish plan settings rising answer → IsSettled answer
-layout_settles wish settings rising plan (Tangled count) fits why = absurd (fits count why)
-layout_settles wish settings rising plan (TooFine faces kept) fits why = tt
-layout_settles wish settings rising plan (Doubled u v cert) fits why = tt
-layout_settles wish settings rising plan _ fits why = absurd why
+layout_settles : (wish : Wish) (settings : Settings) (rising : Rising) (layout : Layout) (answer : Answer)
+    → ((count : ℕ) → ¬ IsTangledAt wish layout settings count)
+    → RefusesLayout wish layout settings rising answer → IsSettled answer
+layout_settles wish settings rising layout (Tangled count) fits why = absurd (fits count why)
+layout_settles wish settings rising layout (TooFine faces kept) fits why = tt
+layout_settles wish settings rising layout (Doubled u v cert) fits why = tt
+layout_settles wish settings rising layout _ fits why = absurd why
 
 -- So are the bytes that a source held.
 held_settles : (asks : Asks) (left : Told) (held : HoldsUntangled asks left) (answer : Answer)
     → RefusesTask asks held.bytes answer → IsSettled answer
 held_settles asks left held answer (inl none) = absurd (mesh_not_refused held.bytes held.soup answer held.mesh none)
-held_settles asks left held answer (inr (task, plan, has, why)) =
-    layout_settles task.wish task.settings task.rising plan answer (held.untangled task plan has) why
+held_settles asks left held answer (inr (task, layout, has, why)) =
+    layout_settles task.wish task.settings task.rising layout answer (held.untangled task layout has) why
 
 -- What is asked for under a condition is held with all that is asked for.
 abbrev near_held : (asks near : Asks) (left : Told)
@@ -51,8 +51,8 @@ near_held asks near left more held = record {
   within = held.within;
   soup = held.soup;
   mesh = held.mesh;
-  untangled = λ task plan has count.
-      held.untangled task plan (record {
+  untangled = λ task layout has count.
+      held.untangled task layout (record {
         soup = has.soup;
         mesh = has.mesh;
         asked = more held.bytes has.soup task has.asked;
@@ -123,8 +123,8 @@ crease_settles settings input bytes answer held whole (inr why) =
 -- So is the mesh of a size.
 bench_settles : (size : ℕ) (answer : Answer) → IsUntangledBench size → RefusesToBench size answer → IsSettled answer
 bench_settles size (NotManifold place) held refuses = absurd (refuses.1 held.manifold)
-bench_settles size answer held (plan, cut, why) =
-    layout_settles old_lengths bench_settings Never plan answer (held.untangled plan cut) why
+bench_settles size answer held (layout, cut, why) =
+    layout_settles old_lengths bench_settings Never layout answer (held.untangled layout cut) why
 
 -- A command that refuses for its least lengths alone finds them, or memory is wanting or a stream failed.
 settles_if : (command : Command) (input out : Change) (answer : Answer) → (ReadsTooMany command input → ⊥)

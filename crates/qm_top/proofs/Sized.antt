@@ -5,7 +5,7 @@ use Rattle.def_certtext.specs.declared.certs.Rising.TheVariants.{Never}
 use Rattle.def_cut.specs.Traced.{traced_marks}
 use Rattle.def_fit.specs.{Aims.IsFitFail, declared.fit.Aim.TheVariants.Edge}
 use Rattle.def_io.specs.Bytes.{Bytes}
-use Rattle.def_layout.specs.{FaceLayouts.IsCutLayout, Plans.Plan}
+use Rattle.def_layout.specs.{FaceLayouts.IsCutLayout, Layouts.Layout}
 use Rattle.def_mesh.specs.Manifold.{IsManifold}
 use Rattle.def_metric.specs.{Fails.AreNear, Fails.IsFar, Fails.IsSizeFail, Targets.edge_settings}
 use Rattle.def_metric.specs.declared.fail.SizeFail.{SizeFail}
@@ -23,15 +23,15 @@ use Rattle.remesh_laws.proofs.Asides.{none_aside}
 use Rattle.site_laws.proofs.Laws.{graph_law}
 
 -- Why a layout is not remeshed with edges of a given length, as the failure of an aim.
-pub size_fail_as : (edge : ℤ) (wish : Wish) (plan : Plan) (floor : ℕ) (fail : SizeFail)
-    → IsSizeFail wish plan floor fail
-    → IsFitFail (Edge edge) wish plan (edge_settings floor) Never fail
-size_fail_as edge wish plan floor (sizes.Far sum) far =
-    (λ (near : AreNear wish plan). absurd (omega (arith, near, far.told, far.high)), far)
-size_fail_as edge wish plan floor (sizes.Layout (layouts.Tangled count)) why = why
-size_fail_as edge wish plan floor (sizes.Layout layouts.Memory) why = tt
-size_fail_as edge wish plan floor (sizes.Layout (layouts.TooFine faces kept)) why = why
-size_fail_as edge wish plan floor (sizes.Layout (layouts.Doubled u v cert)) why = why
+pub size_fail_as : (edge : ℤ) (wish : Wish) (layout : Layout) (floor : ℕ) (fail : SizeFail)
+    → IsSizeFail wish layout floor fail
+    → IsFitFail (Edge edge) wish layout (edge_settings floor) Never fail
+size_fail_as edge wish layout floor (sizes.Far sum) far =
+    (λ (near : AreNear wish layout). absurd (omega (arith, near, far.told, far.high)), far)
+size_fail_as edge wish layout floor (sizes.Layout (layouts.Tangled count)) why = why
+size_fail_as edge wish layout floor (sizes.Layout layouts.Memory) why = tt
+size_fail_as edge wish layout floor (sizes.Layout (layouts.TooFine faces kept)) why = why
+size_fail_as edge wish layout floor (sizes.Layout (layouts.Doubled u v cert)) why = why
 
 module _ (edge : ℤ) (floor : ℕ) where
   -- Its targets are too great.
@@ -41,9 +41,9 @@ module _ (edge : ℤ) (floor : ℕ) where
   far_text bytes soup sum mesh far = record {
     soup = soup;
     mesh = mesh;
-    plan = far.plan;
-    cut = subst (λ (t : Task). IsCutLayout soup.faces t.marks far.plan) far.asked far.cut;
-    far = subst (λ (t : Task). IsFar t.wish far.plan t.settings sum) far.asked far.far;
+    layout = far.layout;
+    cut = subst (λ (t : Task). IsCutLayout soup.faces t.marks far.layout) far.asked far.cut;
+    far = subst (λ (t : Task). IsFar t.wish far.layout t.settings sum) far.asked far.far;
   }
 
   refuses : (bytes : Bytes) (answer : Answer) → IsSettled answer → RefusesTask (AsksForNearSize edge floor) bytes answer
@@ -64,13 +64,13 @@ module _ (edge : ℤ) (floor : ℕ) where
   }
 
   -- The task is asked, where its targets are not too great: the motorcycle graph has one layout.
-  pub size_near : (bytes : Bytes) (cut : CutSoup) → IsMeshLayout cut.soup.faces cut.plan
-      → IsTracedLayout cut.soup.faces cut.plan
-      → AreNear (soup_targets edge cut.soup) cut.plan
+  pub size_near : (bytes : Bytes) (cut : CutSoup) → IsMeshLayout cut.soup.faces cut.layout
+      → IsTracedLayout cut.soup.faces cut.layout
+      → AreNear (soup_targets edge cut.soup) cut.layout
       → AsksForNearSize edge floor bytes cut.soup (size_task edge floor cut.soup)
   size_near bytes cut laid traced near = (
     refl,
-    near_on (Edge edge) (soup_targets edge cut.soup) cut.soup.faces (traced_marks cut.soup.faces) cut.plan manifold
+    near_on (Edge edge) (soup_targets edge cut.soup) cut.soup.faces (traced_marks cut.soup.faces) cut.layout manifold
         (graph_law cut.soup.faces manifold).1 traced near,
   )
     where

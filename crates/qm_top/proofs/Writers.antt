@@ -2,7 +2,7 @@
 use Rattle.std.specs.Prelude.{IfErr, OnOk}
 use Rattle.std.proofs.Common.{◌≡◌, ◌≢◌, Result, Ok, Err, sym, subst, refl}
 use Rattle.def_io.specs.{Bytes.Bytes, Moves.Change, Moves.Stream, declared.fails.WriteFail.WriteFail}
-use Rattle.def_layout.specs.Plans.{Plan}
+use Rattle.def_layout.specs.Layouts.{Layout}
 use Rattle.def_mesh.specs.{Faces.Faces, declared.Place.Place}
 use Rattle.def_remesh.specs.{CutSoups.CutSoup, declared.kept.LayoutFail.LayoutFail}
 use Rattle.def_remesh.specs.declared.kept.LayoutFail.TheVariants as layouts
@@ -11,15 +11,15 @@ use Rattle.def_run.specs.declared.answer.Answer.TheVariants as answers
 use Rattle.def_text.specs.FaceSet.{FaceSet}
 use Rattle.qm_top.specs.{Refusals.answer_of, Refusals.answer_of_layout, Refusals.Ended, Runs.HasRun, Writing.IsOfLayout}
 use Rattle.qm_top.specs.{Writing.IsUnwritten, Writing.WroteText, declared.refusal.Refusal.Refusal}
-use Rattle.qm_top.specs.declared.refusal.Refusal.TheVariants.{Layout, Write}
+use Rattle.qm_top.specs.declared.refusal.Refusal.TheVariants.{Write}
 use Rattle.qm_top.specs.declared.refusal.Refusal.TheVariants as refusals
 
 -- What holds of a mesh and a layout holds of the cut mesh that is made of both.
-pub on_cut : (P : Faces → Plan → Type 0) (faces : Faces) (soup : FaceSet) (plan : Plan) (cut : CutSoup)
+pub on_cut : (P : Faces → Layout → Type 0) (faces : Faces) (soup : FaceSet) (layout : Layout) (cut : CutSoup)
     → faces ≡ soup.faces
-    → cut ≡ record { soup = soup; plan = plan } → P faces plan → P cut.soup.faces cut.plan
-on_cut P faces soup plan cut same made holds =
-    subst (λ (k : CutSoup). P k.soup.faces k.plan) (sym made) (subst (λ (fs : Faces). P fs plan) same holds)
+    → cut ≡ record { soup = soup; layout = layout } → P faces layout → P cut.soup.faces cut.layout
+on_cut P faces soup layout cut same made holds =
+    subst (λ (k : CutSoup). P k.soup.faces k.layout) (sym made) (subst (λ (fs : Faces). P fs layout) same holds)
 
 -- No layout's refusal names a place.
 layout_place : (fail : LayoutFail) (p : Place) → answer_of_layout fail ≡ answers.NotManifold p → ⊥
@@ -86,7 +86,7 @@ pub layout_ends : (command : Command) (fails : LayoutFail → Type 0) (input out
     → input.faults_now ≡ input.faults
     → ((fail : LayoutFail) → fails fail → Cause command input out (answer_of_layout fail))
     → (r : Refusal) → IsOfLayout fails r → Ended command input out r
-layout_ends command fails input out calm refuses (Layout fail) why =
+layout_ends command fails input out calm refuses (refusals.Layout fail) why =
     record { cause = refuses fail why; names = λ p same. absurd (layout_place fail p same); calm = λ _ _. calm }
 layout_ends command fails input out calm refuses refusals.Memory why = record {
   cause = tt;

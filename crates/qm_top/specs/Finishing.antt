@@ -13,6 +13,6 @@ headed_task terms marks head = record {
   settings = terms.settings;
   rising = terms.rising;
   head = head;
-  between = λ plan new. [];
+  between = λ layout new. [];
   shares = None;
 }

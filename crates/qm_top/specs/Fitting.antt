@@ -4,7 +4,7 @@ use Rattle.def_fit.specs.Aims.{AreAimedNear}
 use Rattle.def_fit.specs.declared.fit.Aim.{Aim}
 use Rattle.def_io.specs.Bytes.{Bytes}
 use Rattle.def_layout.specs.FaceLayouts.{IsCutLayout}
-use Rattle.def_layout.specs.Plans.{Plan}
+use Rattle.def_layout.specs.Layouts.{Layout}
 use Rattle.def_metric.specs.Fails.{IsFar}
 use Rattle.def_remesh.specs.Tasks.{Task}
 use Rattle.def_remesh.specs.declared.kept.LayoutFail.{LayoutFail}
@@ -25,10 +25,10 @@ FailsNear asks near bytes soup failed = FailsAsked near bytes soup failed
 pub record IsFarTask (aim : Aim) (asks : Asks) (bytes : Bytes) (soup : FaceSet) (sum : ℕ) : Type 0 where
   pub task : Task
   pub asked : asks bytes soup task
-  pub plan : Plan
-  pub cut : IsCutLayout soup.faces task.marks plan
-  pub unbounded : ¬ AreAimedNear aim task.wish plan
-  pub far : IsFar task.wish plan task.settings sum
+  pub layout : Layout
+  pub cut : IsCutLayout soup.faces task.marks layout
+  pub unbounded : ¬ AreAimedNear aim task.wish layout
+  pub far : IsFar task.wish layout task.settings sum
 
 -- Its wishes are too great, or its layout is refused, or memory was wanting.
 abbrev pub IsOfWishes : (fails : LayoutFail → Type 0) (far : ℕ → Type 0) (refusal : Refusal) → Type 0

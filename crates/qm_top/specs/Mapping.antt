@@ -19,7 +19,7 @@ use Rattle.qm_top.specs.declared.refusal.Refusal.TheVariants as refusals
 
 -- The map of a new mesh.
 abbrev pub mapped_text : (new : Regrid) → Bytes
-mapped_text new = map_text new.soup new.plan new.shares (lengths_in new.lengths)
+mapped_text new = map_text new.soup new.layout new.shares (lengths_in new.lengths)
 
 -- The faces of the text in front are no manifold, first at this place, with the numbers of that text.
 pub record NamesFrontFault (bytes : Bytes) (named : NamedPlace) : Type 0 where

@@ -3,7 +3,7 @@ use Rattle.std.specs.Prelude.{◌≡◌, ⊤}
 use Rattle.def_io.specs.Bytes.{Bytes}
 use Rattle.def_io.specs.Faults.{Rose}
 use Rattle.def_io.specs.Moves.{Change, IsStill, Stream, took, TookPrefix}
-use Rattle.def_layout.specs.Plans.{Plan}
+use Rattle.def_layout.specs.Layouts.{Layout}
 use Rattle.def_io.specs.declared.fails.WriteFail.TheVariants as writes
 use Rattle.def_remesh.specs.Refusals.{IsLayoutFail}
 use Rattle.qm_write.specs.declared.text.PutFail.{PutFail}
@@ -11,7 +11,7 @@ use Rattle.qm_write.specs.declared.text.PutFail.TheVariants as puts
 use Rattle.def_remesh.specs.declared.kept.LayoutFail.{LayoutFail}
 use Rattle.def_text.specs.FaceSet.{FaceSet}
 use Rattle.qm_top.specs.declared.refusal.Refusal.{Refusal}
-use Rattle.qm_top.specs.declared.refusal.Refusal.TheVariants.{Layout, Write}
+use Rattle.qm_top.specs.declared.refusal.Refusal.TheVariants.{Write}
 use Rattle.qm_top.specs.declared.refusal.Refusal.TheVariants as refusals
 use Rattle.def_layout.specs.FaceLayouts.{IsCutLayout}
 use Rattle.def_remesh.specs.Tasks.{Task}
@@ -39,15 +39,15 @@ IsUnwritten says why out refusal = IsStill out × why refusal
 
 -- A layout is refused, or memory was wanting.
 abbrev pub IsOfLayout : (fails : LayoutFail → Type 0) (refusal : Refusal) → Type 0
-IsOfLayout fails (Layout fail) = fails fail
+IsOfLayout fails (refusals.Layout fail) = fails fail
 IsOfLayout fails refusals.Memory = ⊤
 IsOfLayout fails _ = ⊥
 
 -- Why a task of a soup is not finished: its layout is refused.
 abbrev pub FailsTask : (task : Task) (soup : FaceSet) (failed : LayoutFail) → Type 0
 FailsTask task soup failed =
-    (plan : Plan) × IsCutLayout soup.faces task.marks plan
-    × IsLayoutFail task.wish plan task.settings task.rising failed
+    (layout : Layout) × IsCutLayout soup.faces task.marks layout
+    × IsLayoutFail task.wish layout task.settings task.rising failed
 
 -- A text that finishes a task which is asked of these bytes and their soup.
 abbrev pub ShowsAsked : (asks : Asks) (bytes : Bytes) (soup : FaceSet) (text : Bytes) → Type 0

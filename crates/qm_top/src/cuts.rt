@@ -14,8 +14,8 @@ use std::alloc::Global;
 /// A mesh with its motorcycle graph.
 pub(crate) fn traced_cut(alloc: Global, read: Meshed) -> Result<CutMesh, Memory>
     ensures soup { IfOk result (λ cut. cut.soup ≡ read) }
-    ensures traced { IfOk result (λ cut. IsTracedLayout cut.soup.faces cut.plan) }
-    ensures laid { IfOk result (λ cut. IsMeshLayout cut.soup.faces cut.plan) }
+    ensures traced { IfOk result (λ cut. IsTracedLayout cut.soup.faces cut.layout) }
+    ensures laid { IfOk result (λ cut. IsMeshLayout cut.soup.faces cut.layout) }
 {
     let layout = traced_layout(alloc, read.mesh())?;
     Ok(CutMesh::new(read, layout))
@@ -30,8 +30,8 @@ pub(crate) fn chosen_cut(
 ) -> Result<CutMesh, Memory>
     requires { AreKeptMarks read.faces (option_copied kept) }
     ensures soup { IfOk result (λ cut. cut.soup ≡ read) }
-    ensures chosen { IfOk result (λ cut. IsChosenLayout cut.soup.faces (option_copied kept.entry) patches cut.plan) }
-    ensures laid { IfOk result (λ cut. IsMeshLayout cut.soup.faces cut.plan) }
+    ensures chosen { IfOk result (λ cut. IsChosenLayout cut.soup.faces (option_copied kept.entry) patches cut.layout) }
+    ensures laid { IfOk result (λ cut. IsMeshLayout cut.soup.faces cut.layout) }
 {
     let layout = chosen_layout(alloc, read.mesh(), kept, patches)?;
     Ok(CutMesh::new(read, layout))

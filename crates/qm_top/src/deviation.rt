@@ -21,10 +21,10 @@ use std::alloc::Global;
 ///
 /// The time is that of `keep`.
 pub(crate) fn kept_deviation(alloc: Global, cut: &CutMesh) -> Result<i128, LayoutFail>
-    ensures kept { IfOk result (IsKeptDeviation cut.now.plan) }
+    ensures kept { IfOk result (IsKeptDeviation cut.now.layout) }
     ensures small { IfOk result (λ deviation. deviation <ℤ pos (2 ^ 127)) }
-    ensures few { OnOk result ((length cut.now.plan.patches < 2 ^ 32) × (length cut.now.plan.arcs < 2 ^ 32)) }
-    ensures refused { IfErr result (IsLayoutFail old_lengths cut.now.plan bench_settings Never) }
+    ensures few { OnOk result ((length cut.now.layout.patches < 2 ^ 32) × (length cut.now.layout.arcs < 2 ^ 32)) }
+    ensures refused { IfErr result (IsLayoutFail old_lengths cut.now.layout bench_settings Never) }
 {
     let settings = half();
     let terms = Terms {

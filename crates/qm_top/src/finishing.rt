@@ -42,11 +42,11 @@ pub(crate) fn finish<O: Sink>(
 ) -> Result<(), Refusal>
     requires known { headed.terms.rising ≢ Rounds }
     requires settings { AreInRange headed.terms.settings (may_rise headed.terms.rising) }
-    ensures done { (marks : List Bool) (head : Bytes) → IsCutLayout cut.soup.faces marks cut.plan
+    ensures done { (marks : List Bool) (head : Bytes) → IsCutLayout cut.soup.faces marks cut.layout
         → headed.head.items ≡ head ++ LINE_FEED ∷ []
         → OnOk result (WroteText (ShowsTask (headed_task headed.terms marks head) cut.soup)
         (change (O.state out.old) (O.state out.new))) }
-    ensures refused { (marks : List Bool) (head : Bytes) → IsCutLayout cut.soup.faces marks cut.plan
+    ensures refused { (marks : List Bool) (head : Bytes) → IsCutLayout cut.soup.faces marks cut.layout
         → headed.head.items ≡ head ++ LINE_FEED ∷ []
         → IfErr result (IsUnwritten (ShowsTask (headed_task headed.terms marks head) cut.soup)
         (IsOfLayout (FailsTask (headed_task headed.terms marks head) cut.soup)) (stream O.state out.old out.new)) }
@@ -69,12 +69,12 @@ pub(crate) fn write_framed<O: Sink>(
     framed: Framed,
     out: &mut O,
 ) -> Result<(), PutFail>
-    requires { (wish : Wish) × IsKept wish cut.plan framed.remesh.terms.settings framed.remesh.terms.rising
+    requires { (wish : Wish) × IsKept wish cut.layout framed.remesh.terms.settings framed.remesh.terms.rising
         (certificates_of framed.remesh.certs) framed.remesh.numbering }
     ensures whole { OnOk result ((O.state out.new).told
-        ≡ took (O.state out.old).told (framed_text framed cut.soup cut.plan)) }
+        ≡ took (O.state out.old).told (framed_text framed cut.soup cut.layout)) }
     ensures prefix { IsErrOf result PutFail.Stopped → TookPrefix (O.state out.old).told (O.state out.new).told
-        (framed_text framed cut.soup cut.plan) }
+        (framed_text framed cut.soup cut.layout) }
     ensures fault { IsErrOf result PutFail.Stopped → Rose (O.state out.old).faults (O.state out.new).faults }
     ensures untouched { IsErrOf result PutFail.Memory → out.new ≡ out.old }
 {

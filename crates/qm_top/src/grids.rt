@@ -57,11 +57,11 @@ fn write_grids<O: Sink>(
 ) -> Result<(), Refusal>
     requires some { 1 ≤ by }
     requires few { by ≤ MAX_MULTIPLE }
-    requires laid { IsMeshLayout cut.soup.faces cut.plan }
+    requires laid { IsMeshLayout cut.soup.faces cut.layout }
     ensures done { OnOk result (WroteText (IsGridded chosen.keep chosen.patches by cut)
         (change (O.state out.old) (O.state out.new))) }
     ensures refused { IfErr result (IsUnwritten (IsGridded chosen.keep chosen.patches by cut)
-        (IsOfLayout (FailsBy by cut.plan)) (stream O.state out.old out.new)) }
+        (IsOfLayout (FailsBy by cut.layout)) (stream O.state out.old out.new)) }
 {
     let blocks = grids_by(alloc, chosen, by, cut)?;
     let mut room = Room::new(alloc)?;
@@ -74,7 +74,7 @@ fn grids_by(alloc: Global, chosen: Chosen, by: u32, cut: CutMesh) -> Result<Bloc
     requires some { 1 ≤ by }
     requires few { by ≤ MAX_MULTIPLE }
     ensures blocks { IfOk result (AreGridsBy chosen by cut) }
-    ensures refused { IfErr result (FailsBy by cut.plan) }
+    ensures refused { IfErr result (FailsBy by cut.layout) }
 {
     let points = refined_cut(alloc, by, cut)?;
     let blocks = blocks_of(alloc, Some(chosen), by, points)?;

@@ -51,9 +51,9 @@ fn write_layout<O: Sink>(
 ) -> Result<(), Refusal>
     requires { AreKeptMarks cut.now.soup.faces (option_copied kept) }
     ensures done { OnOk result (WroteText (λ (text : Bytes). text ≡ text_of chosen.keep chosen.patches cut.now.soup
-        (option_copied kept.entry) cut.now.plan) (change (O.state out.old) (O.state out.new))) }
+        (option_copied kept.entry) cut.now.layout) (change (O.state out.old) (O.state out.new))) }
     ensures refused { IfErr result (IsUnwritten (λ (text : Bytes). text ≡ text_of chosen.keep chosen.patches
-        cut.now.soup (option_copied kept.entry) cut.now.plan) (IsOfLayout FailsNever)
+        cut.now.soup (option_copied kept.entry) cut.now.layout) (IsOfLayout FailsNever)
         (stream O.state out.old out.new)) }
 {
     let text = layout_text(alloc, chosen.keep, chosen.patches, cut, kept)?;

@@ -72,11 +72,11 @@ pub(crate) fn refined(alloc: Global, by: u32, read: Meshed) -> Result<Regridded,
 pub(crate) fn refined_cut(alloc: Global, by: u32, cut: CutMesh) -> Result<Regridded, LayoutFail>
     requires some { 1 ≤ by }
     requires few { by ≤ MAX_MULTIPLE }
-    ensures new { IfOk result (λ new. (new.soup ≡ cut.soup) × (new.plan ≡ cut.plan)
-        × (lengths_in new.lengths ≡ multiple_of by (long_at cut.plan.arcs)) × (new.shares ≡ None)) }
-    ensures few { OnOk result (refined_faces by cut.plan ≤ MAX_NEW_FACES) }
-    ensures shape { OnOk result (KeepsShapes cut.plan (multiple_of by (long_at cut.plan.arcs))) }
-    ensures refused { IfErr result (FailsBy by cut.plan) }
+    ensures new { IfOk result (λ new. (new.soup ≡ cut.soup) × (new.layout ≡ cut.layout)
+        × (lengths_in new.lengths ≡ multiple_of by (long_at cut.layout.arcs)) × (new.shares ≡ None)) }
+    ensures few { OnOk result (refined_faces by cut.layout ≤ MAX_NEW_FACES) }
+    ensures shape { OnOk result (KeepsShapes cut.layout (multiple_of by (long_at cut.layout.arcs))) }
+    ensures refused { IfErr result (FailsBy by cut.layout) }
 {
     match refined_points(alloc, cut, by) {
         Ok(new) => Ok(new),
@@ -96,12 +96,12 @@ fn write_refined<O: Sink>(
     out: &mut O,
     room: &mut Room,
 ) -> Result<(), Stopped>
-    requires lengths { lengths_in new.now.lengths ≡ multiple_of by (long_at new.now.plan.arcs) }
+    requires lengths { lengths_in new.now.lengths ≡ multiple_of by (long_at new.now.layout.arcs) }
     requires even { new.now.shares ≡ None }
     ensures whole { OnOk result ((O.state out.new).told
-        ≡ took (O.state out.old).told (refined_text by new.now.soup new.now.plan)) }
+        ≡ took (O.state out.old).told (refined_text by new.now.soup new.now.layout)) }
     ensures prefix { OnErr result (TookPrefix (O.state out.old).told (O.state out.new).told
-        (refined_text by new.now.soup new.now.plan)) }
+        (refined_text by new.now.soup new.now.layout)) }
     ensures fault { OnErr result (Rose (O.state out.old).faults (O.state out.new).faults) }
 {
     let mut text = Buffer::new(out, room);

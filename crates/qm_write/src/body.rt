@@ -15,9 +15,9 @@ use qm_stages::Regridded;
 /// of faces' corners on borders, which are logarithmic; without memory.
 pub fn put_new_mesh<T: Output>(out: &mut T, new: &Regridded) -> Result<(), Stopped>
     ensures whole { OnOk result (T.takes out.old out.new
-        (canonical_text (spaced_soup new.now.soup new.now.plan new.now.shares (lengths_in new.now.lengths)))) }
+        (canonical_text (spaced_soup new.now.soup new.now.layout new.now.shares (lengths_in new.now.lengths)))) }
     ensures part { OnErr result (T.stops out.old out.new
-        (canonical_text (spaced_soup new.now.soup new.now.plan new.now.shares (lengths_in new.now.lengths)))) }
+        (canonical_text (spaced_soup new.now.soup new.now.layout new.now.shares (lengths_in new.now.lengths)))) }
 {
     put_vertices(out, new)?;
     put_faces(out, new)

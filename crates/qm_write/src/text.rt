@@ -69,18 +69,18 @@ pub fn put_framed<T: Output>(
     cut: CutMesh,
     framed: Framed,
 ) -> Result<Regridded, PutFail>
-    requires kept { (wish : Wish) × IsKept wish cut.plan framed.remesh.terms.settings framed.remesh.terms.rising
+    requires kept { (wish : Wish) × IsKept wish cut.layout framed.remesh.terms.settings framed.remesh.terms.rising
         (certificates_of framed.remesh.certs) framed.remesh.numbering }
     ensures whole { OnOk result (T.takes out.old out.new (framed.head.items
-        ++ text_behind_head framed.between.items framed.remesh.terms.rising cut.soup cut.plan
+        ++ text_behind_head framed.between.items framed.remesh.terms.rising cut.soup cut.layout
         framed.shares (certificates_of framed.remesh.certs))) }
     ensures part { IsErrOf result PutFail.Stopped → T.stops out.old out.new (framed.head.items
-        ++ text_behind_head framed.between.items framed.remesh.terms.rising cut.soup cut.plan
+        ++ text_behind_head framed.between.items framed.remesh.terms.rising cut.soup cut.layout
         framed.shares (certificates_of framed.remesh.certs)) }
     ensures untouched { IsErrOf result PutFail.Memory → out.new ≡ out.old }
     ensures new { IfOk result (λ new. new ≡ record {
       soup = cut.soup;
-      plan = cut.plan;
+      layout = cut.layout;
       lengths = framed.remesh.numbering.lengths.items;
       shares = framed.shares;
     }) }
@@ -119,10 +119,10 @@ struct Frame {
 /// Puts the head line, the lines of the new mesh, those behind it, and those of the certificates.
 fn put_parts<T: Output>(out: &mut T, frame: &Frame, new: &Regridded) -> Result<(), Stopped>
     ensures whole { OnOk result (T.takes out.old out.new (frame.now.head.items
-        ++ (canonical_text (spaced_soup new.now.soup new.now.plan new.now.shares (lengths_in new.now.lengths))
+        ++ (canonical_text (spaced_soup new.now.soup new.now.layout new.now.shares (lengths_in new.now.lengths))
         ++ (frame.now.between.items ++ frame.now.certificates.items)))) }
     ensures part { OnErr result (T.stops out.old out.new (frame.now.head.items
-        ++ (canonical_text (spaced_soup new.now.soup new.now.plan new.now.shares (lengths_in new.now.lengths))
+        ++ (canonical_text (spaced_soup new.now.soup new.now.layout new.now.shares (lengths_in new.now.lengths))
         ++ (frame.now.between.items ++ frame.now.certificates.items)))) }
 {
     out.put(&frame.head)?;

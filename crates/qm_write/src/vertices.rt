@@ -15,9 +15,9 @@ use qm_stages::Regridded;
 /// Puts a line for each vertex.
 pub(crate) fn put_vertices<T: Output>(out: &mut T, new: &Regridded) -> Result<(), Stopped>
     ensures whole { OnOk result (T.takes out.old out.new (flat_map position_text
-        (new_places new.now.soup.faces new.now.plan new.now.soup.pos new.now.shares (lengths_in new.now.lengths)))) }
+        (new_places new.now.soup.faces new.now.layout new.now.soup.pos new.now.shares (lengths_in new.now.lengths)))) }
     ensures part { OnErr result (T.stops out.old out.new (flat_map position_text
-        (new_places new.now.soup.faces new.now.plan new.now.soup.pos new.now.shares (lengths_in new.now.lengths)))) }
+        (new_places new.now.soup.faces new.now.layout new.now.soup.pos new.now.shares (lengths_in new.now.lengths)))) }
 {
     let mut near = Near::new();
     for v in 0..new.vertices() {

@@ -12,7 +12,7 @@ use Rattle.def_certtext.specs.{declared.certs.Rising.Rising, declared.CertLine.T
 use Rattle.def_certtext.specs.declared.CertLine.TheVariants.{Vertex, Set}
 use Rattle.def_certtext.specs.{declared.CertLine.TheVariants.Floor, declared.CertLine.TheVariants.Rise as rise_line}
 use Rattle.def_io.specs.{Bytes.Bytes, Lines.lines_of}
-use Rattle.def_layout.specs.{Lengths.AreLengths, Lengths.Lengths, Plans.layout_of, Plans.Plan}
+use Rattle.def_layout.specs.{Lengths.AreLengths, Lengths.Lengths, Layouts.gluing_of, Layouts.Layout}
 use Rattle.def_layoutnet.specs.MeshLayouts.{IsSomeLayout}
 use Rattle.def_marks.specs.Lines.{marks_in}
 use Rattle.def_marks.specs.MarkedText.{arc_chain, arc_text, chain_text, is_marked_arc}
@@ -20,7 +20,7 @@ use Rattle.def_readlaws.specs.ReadChains.{AreHashLines, FinishedMarksLaw, IsChai
 use Rattle.def_remesh.specs.{NewPoints.lengths_in, NewSoup.spaced_place, NewSoup.spaced_soup, ReadAgain.ends_line}
 use Rattle.def_text.specs.{Canonical.canonical_text, FaceSet.FaceSet, Text.numbers_to}
 use Rattle.def_written.specs.{Edges.on_arc, Numbers.vertex_number, Numbers.vertices, Points.arc_point, Points.IsPoint}
-use Rattle.plan_laws.proofs.MeshLayouts.{laid_of}
+use Rattle.embedding_laws.proofs.MeshLayouts.{laid_of}
 use Rattle.qm_certtext.proofs.Texts.{lines_inside}
 use Rattle.qm_obj.proofs.LawText.{lines_back}
 use Rattle.remesh_laws.proofs.{Asides.ends_lines, ReadAgain.kept_allowed, Certified.used_lengths}
@@ -68,82 +68,84 @@ each_passing P f p (x ∷ xs) each k low =
     by_test false first rest j l = rest j l
 
 -- The lines of marked arcs are those of their chains.
-marked_is : (marks : List Bool) (plan : Plan) (new : Lengths) (arcs : List ℕ)
-    → flat_map (arc_text marks plan new) arcs
-    ≡ flat_map chain_text (map (arc_chain (layout_of plan) new) (filter (is_marked_arc marks plan) arcs))
-marked_is marks plan new [] = refl
-marked_is marks plan new (arc ∷ arcs) = by_test (is_marked_arc marks plan arc) (marked_is marks plan new arcs)
+marked_is : (marks : List Bool) (layout : Layout) (new : Lengths) (arcs : List ℕ)
+    → flat_map (arc_text marks layout new) arcs
+    ≡ flat_map chain_text (map (arc_chain (gluing_of layout) new) (filter (is_marked_arc marks layout) arcs))
+marked_is marks layout new [] = refl
+marked_is marks layout new (arc ∷ arcs) = by_test (is_marked_arc marks layout arc) (marked_is marks layout new arcs)
   where
     by_test : (t : Bool)
-        → flat_map (arc_text marks plan new) arcs
-        ≡ flat_map chain_text (map (arc_chain (layout_of plan) new) (filter (is_marked_arc marks plan) arcs))
-        → cond t (chain_text (arc_chain (layout_of plan) new arc)) [] ++ flat_map (arc_text marks plan new) arcs
-        ≡ flat_map chain_text (map (arc_chain (layout_of plan) new)
-        (cond t (arc ∷ filter (is_marked_arc marks plan) arcs) (filter (is_marked_arc marks plan) arcs)))
-    by_test true rest = ap (λ (bytes : Bytes). chain_text (arc_chain (layout_of plan) new arc) ++ bytes) rest
+        → flat_map (arc_text marks layout new) arcs
+        ≡ flat_map chain_text (map (arc_chain (gluing_of layout) new) (filter (is_marked_arc marks layout) arcs))
+        → cond t (chain_text (arc_chain (gluing_of layout) new arc)) [] ++ flat_map (arc_text marks layout new) arcs
+        ≡ flat_map chain_text (map (arc_chain (gluing_of layout) new)
+        (cond t (arc ∷ filter (is_marked_arc marks layout) arcs) (filter (is_marked_arc marks layout) arcs)))
+    by_test true rest = ap (λ (bytes : Bytes). chain_text (arc_chain (gluing_of layout) new arc) ++ bytes) rest
     by_test false rest = rest
 
-module _ (soup : FaceSet) (plan : Plan) (shares : Option (List ℕ)) (new : Lengths) (is : IsSomeLayout plan)
-    (len : AreLengths (layout_of plan) new) where
-  many : length (spaced_soup soup plan shares new).pos ≡ vertices (layout_of plan) new
-  many = length-map-range_with_len (spaced_place soup.faces plan soup.pos shares new) 0 (vertices (layout_of plan) new)
+module _ (soup : FaceSet) (layout : Layout) (shares : Option (List ℕ)) (new : Lengths) (is : IsSomeLayout layout)
+    (len : AreLengths (gluing_of layout) new) where
+  many : length (spaced_soup soup layout shares new).pos ≡ vertices (gluing_of layout) new
+  many = length-map-range_with_len (spaced_place soup.faces layout soup.pos shares new) 0
+      (vertices (gluing_of layout) new)
 
   -- The points of an arc are points.
-  on_arc_low : (a k : ℕ) → a < length plan.arcs → k < new a + 1
-      → vertex_number (layout_of plan) new (arc_point (layout_of plan) new a k) < vertices (layout_of plan) new
-  on_arc_low a k low less = (numbers_law (layout_of plan) new).low (arc_point (layout_of plan) new a k)
+  on_arc_low : (a k : ℕ) → a < length layout.arcs → k < new a + 1
+      → vertex_number (gluing_of layout) new (arc_point (gluing_of layout) new a k) < vertices (gluing_of layout) new
+  on_arc_low a k low less = (numbers_law (gluing_of layout) new).low (arc_point (gluing_of layout) new a k)
       (by_place (cases_lt k (new a)))
     where
-      by_place : (k < new a) ⊎ (new a ≤ k) → IsPoint (layout_of plan) new (arc_point (layout_of plan) new a k)
-      by_place (inl inside) = (edge_points (layout_of plan) new (laid_of plan is) len (on_arc a k) (low, inside)).0
+      by_place : (k < new a) ⊎ (new a ≤ k) → IsPoint (gluing_of layout) new (arc_point (gluing_of layout) new a k)
+      by_place (inl inside) = (edge_points (gluing_of layout) new (laid_of layout is) len (on_arc a k) (low, inside)).0
       by_place (inr end) =
           let some : 0 < new a = len.some a low in
           let last : new a - 1 + 1 ≡ k = omega (arith, some, end, less) in
-          subst (λ j. IsPoint (layout_of plan) new (arc_point (layout_of plan) new a j)) last
-          (edge_points (layout_of plan) new (laid_of plan is) len (on_arc a (new a - 1)) (low, omega (arith, some))).1
+          subst (λ j. IsPoint (gluing_of layout) new (arc_point (gluing_of layout) new a j)) last
+          (edge_points (gluing_of layout) new (laid_of layout is) len (on_arc a (new a - 1))
+          (low, omega (arith, some))).1
 
-  chain_of : (a : ℕ) → a < length plan.arcs
-      → IsChainOf (spaced_soup soup plan shares new) (arc_chain (layout_of plan) new a)
+  chain_of : (a : ℕ) → a < length layout.arcs
+      → IsChainOf (spaced_soup soup layout shares new) (arc_chain (gluing_of layout) new a)
   chain_of a low =
-      let long : length (arc_chain (layout_of plan) new a) ≡ new a + 1 = length-map-range_with_len
-      (λ k. vertex_number (layout_of plan) new (arc_point (layout_of plan) new a k)) 0 (new a + 1) in
+      let long : length (arc_chain (gluing_of layout) new a) ≡ new a + 1 = length-map-range_with_len
+      (λ k. vertex_number (gluing_of layout) new (arc_point (gluing_of layout) new a k)) 0 (new a + 1) in
       record {
         long = omega (arith, long, len.some a low);
         low = λ k less.
             let inside : k < new a + 1 = omega (arith, less, long) in
-            omega (arith, at_link (layout_of plan) new a k inside, on_arc_low a k low inside, many);
-        edges = chain_is (layout_of plan) new (laid_of plan is) len a low;
+            omega (arith, at_link (gluing_of layout) new a k inside, on_arc_low a k low inside, many);
+        edges = chain_is (gluing_of layout) new (laid_of layout is) len a low;
       }
 
-  chains_of : (marks : List Bool) (k : ℕ) → k < length (marked_arc_chains marks plan new)
-      → IsChainOf (spaced_soup soup plan shares new) (get_or (marked_arc_chains marks plan new) k [])
-  chains_of marks = each_passing (IsChainOf (spaced_soup soup plan shares new)) (arc_chain (layout_of plan) new)
-      (is_marked_arc marks plan) (range_with_len 0 (length plan.arcs)) (λ k less.
-      let inside : k < length plan.arcs = omega (arith, less, length-range_with_len 0 (length plan.arcs)) in
-      chain_of (get_or (range_with_len 0 (length plan.arcs)) k 0)
-      (omega (arith, get_or-range_with_len 0 (length plan.arcs) k 0 inside, inside)))
+  chains_of : (marks : List Bool) (k : ℕ) → k < length (marked_arc_chains marks layout new)
+      → IsChainOf (spaced_soup soup layout shares new) (get_or (marked_arc_chains marks layout new) k [])
+  chains_of marks = each_passing (IsChainOf (spaced_soup soup layout shares new)) (arc_chain (gluing_of layout) new)
+      (is_marked_arc marks layout) (range_with_len 0 (length layout.arcs)) (λ k less.
+      let inside : k < length layout.arcs = omega (arith, less, length-range_with_len 0 (length layout.arcs)) in
+      chain_of (get_or (range_with_len 0 (length layout.arcs)) k 0)
+      (omega (arith, get_or-range_with_len 0 (length layout.arcs) k 0 inside, inside)))
 
 pub finished_marks_law : FinishedMarksLaw
 finished_marks_law command bytes text marks wrote range head between read =
-    ap (λ (t : Bytes). marks_in t (spaced_soup wrote.soup wrote.shown.finished.plan wrote.task.shares
+    ap (λ (t : Bytes). marks_in t (spaced_soup wrote.soup wrote.shown.finished.layout wrote.task.shares
     (lengths_in (used wrote.shown.finished.certificates).x))) text_is
     ∙ marks_again_law (wrote.task.head ++ 10 ∷ [])
     (text_of (certificate_lines wrote.task.rising wrote.shown.finished.certificates))
-    (spaced_soup wrote.soup wrote.shown.finished.plan wrote.task.shares
+    (spaced_soup wrote.soup wrote.shown.finished.layout wrote.task.shares
     (lengths_in (used wrote.shown.finished.certificates).x))
-    (marked_arc_chains marks wrote.shown.finished.plan (lengths_in (used wrote.shown.finished.certificates).x)) head
+    (marked_arc_chains marks wrote.shown.finished.layout (lengths_in (used wrote.shown.finished.certificates).x)) head
     (cert_lines wrote.task.rising (certificate_lines wrote.task.rising wrote.shown.finished.certificates)
-    (kept_allowed wrote.task.wish wrote.shown.finished.plan wrote.task.settings wrote.task.rising
+    (kept_allowed wrote.task.wish wrote.shown.finished.layout wrote.task.settings wrote.task.rising
     wrote.shown.finished.certificates some wrote.shown.finished.lengths))
-    (soup_in_law text (spaced_soup wrote.soup wrote.shown.finished.plan wrote.task.shares
+    (soup_in_law text (spaced_soup wrote.soup wrote.shown.finished.layout wrote.task.shares
     (lengths_in (used wrote.shown.finished.certificates).x)) read)
-    (ap numbers_to (sym (many wrote.soup wrote.shown.finished.plan wrote.task.shares
+    (ap numbers_to (sym (many wrote.soup wrote.shown.finished.layout wrote.task.shares
     (lengths_in (used wrote.shown.finished.certificates).x) some len)))
-    (chains_of wrote.soup wrote.shown.finished.plan wrote.task.shares
+    (chains_of wrote.soup wrote.shown.finished.layout wrote.task.shares
     (lengths_in (used wrote.shown.finished.certificates).x) some len
     marks)
   where
-    some : IsSomeLayout wrote.shown.finished.plan
+    some : IsSomeLayout wrote.shown.finished.layout
     some =
         let mesh = mesh_text_law bytes wrote.soup wrote.mesh in
         record {
@@ -155,29 +157,29 @@ finished_marks_law command bytes text marks wrote range head between read =
           laid = wrote.shown.finished.cut;
         }
 
-    len : AreLengths (layout_of wrote.shown.finished.plan) (lengths_in (used wrote.shown.finished.certificates).x)
-    len = used_lengths wrote.task.wish wrote.shown.finished.plan wrote.task.settings wrote.task.rising
+    len : AreLengths (gluing_of wrote.shown.finished.layout) (lengths_in (used wrote.shown.finished.certificates).x)
+    len = used_lengths wrote.task.wish wrote.shown.finished.layout wrote.task.settings wrote.task.rising
         wrote.shown.finished.certificates range.floor.low wrote.shown.finished.lengths
 
     text_is : text ≡ (wrote.task.head ++ 10 ∷ [])
-        ++ (canonical_text (spaced_soup wrote.soup wrote.shown.finished.plan wrote.task.shares
+        ++ (canonical_text (spaced_soup wrote.soup wrote.shown.finished.layout wrote.task.shares
         (lengths_in (used wrote.shown.finished.certificates).x))
-        ++ (flat_map chain_text (marked_arc_chains marks wrote.shown.finished.plan
+        ++ (flat_map chain_text (marked_arc_chains marks wrote.shown.finished.layout
         (lengths_in (used wrote.shown.finished.certificates).x))
         ++ text_of (certificate_lines wrote.task.rising wrote.shown.finished.certificates)))
     text_is =
         wrote.shown.finished.written
         ∙ ((λ i. wrote.task.head
-        ++ 10 ∷ (canonical_text (spaced_soup wrote.soup wrote.shown.finished.plan wrote.task.shares
+        ++ 10 ∷ (canonical_text (spaced_soup wrote.soup wrote.shown.finished.layout wrote.task.shares
         (lengths_in (used wrote.shown.finished.certificates).x))
-        ++ ((ap (λ f. f wrote.shown.finished.plan (lengths_in (used wrote.shown.finished.certificates).x))
-        between ∙ marked_is marks wrote.shown.finished.plan
+        ++ ((ap (λ f. f wrote.shown.finished.layout (lengths_in (used wrote.shown.finished.certificates).x))
+        between ∙ marked_is marks wrote.shown.finished.layout
         (lengths_in (used wrote.shown.finished.certificates).x)
-        (range_with_len 0 (length wrote.shown.finished.plan.arcs))) i
+        (range_with_len 0 (length wrote.shown.finished.layout.arcs))) i
         ++ text_of (certificate_lines wrote.task.rising wrote.shown.finished.certificates))))
         ∙ sym (append_assoc wrote.task.head (10 ∷ [])
-        (canonical_text (spaced_soup wrote.soup wrote.shown.finished.plan wrote.task.shares
+        (canonical_text (spaced_soup wrote.soup wrote.shown.finished.layout wrote.task.shares
         (lengths_in (used wrote.shown.finished.certificates).x))
-        ++ (flat_map chain_text (marked_arc_chains marks wrote.shown.finished.plan
+        ++ (flat_map chain_text (marked_arc_chains marks wrote.shown.finished.layout
         (lengths_in (used wrote.shown.finished.certificates).x))
         ++ text_of (certificate_lines wrote.task.rising wrote.shown.finished.certificates)))))

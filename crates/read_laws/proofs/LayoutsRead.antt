@@ -27,7 +27,7 @@ one_soup bytes soup other is also = let same : Ok other ≡ Ok soup = sym also.s
 
 pub one_traced_law : OneTracedLaw
 one_traced_law bytes has = record {
-  plan = one.plan;
+  layout = one.layout;
   traced = record { soup = has.soup; mesh = has.mesh; cut = one.laid };
   full = (graph_law has.soup.faces has.mesh.manifold).1;
   alone = λ other also.
@@ -42,7 +42,7 @@ one_traced_law bytes has = record {
 one_chosen : (faces : Faces) (kept : Option (List Bool)) (patches : Patches) → IsMesh faces → AreKeptMarks faces kept
     → HasOneChosen faces kept patches
 one_chosen faces kept patches mesh marks = record {
-  plan = one.plan;
+  layout = one.layout;
   cut = cut.cut;
   chosen = cut.chosen;
   full = full;

@@ -8,8 +8,8 @@ use Rattle.std.proofs.lemmas.List.FromFn.{length-range_with_len}
 use Rattle.std.proofs.lemmas.List.Sums.{list_all-from_AllPass}
 use Rattle.std.specs.List.{range_with_len}
 use Rattle.def_certtext.specs.CertLines.{used}
-use Rattle.def_layout.specs.{Arcs.long_at, Fans.HasFans, Cells.CellDart, Cells.IsDart, Layouts.Layout}
-use Rattle.def_layout.specs.{Lengths.AreLengths, Lengths.Lengths, Plans.layout_of, Plans.Plan, Plans.vertex_at}
+use Rattle.def_layout.specs.{Arcs.long_at, Fans.HasFans, Cells.CellDart, Cells.IsDart, Gluings.Gluing}
+use Rattle.def_layout.specs.{Lengths.AreLengths, Lengths.Lengths, Layouts.gluing_of, Layouts.Layout, Layouts.vertex_at}
 use Rattle.def_layout.specs.Surfaces.{IsSurface}
 use Rattle.def_layoutnet.specs.MeshLayouts.{IsSomeLayout}
 use Rattle.def_marks.specs.Chains.{is_chain, is_edge, link_at, runs_between, step_places}
@@ -19,7 +19,7 @@ use Rattle.def_readlaws.specs.ReadChains.{AreNewChains, FinishedChainsLaw}
 use Rattle.def_remesh.specs.NewPoints.{lengths_in}
 use Rattle.def_written.specs.{Edges.Edge, Edges.IsEdge, Edges.IsUndoubled, Edges.on_arc, NewFaces.new_faces}
 use Rattle.def_written.specs.{Numbers.vertex_number, Points.arc_point}
-use Rattle.plan_laws.proofs.MeshLayouts.{laid_of, lies}
+use Rattle.embedding_laws.proofs.MeshLayouts.{laid_of, lies}
 use Rattle.remesh_laws.proofs.Certified.{used_lengths}
 use Rattle.written_laws.proofs.Courses.{course, course_from, course_of, course_to}
 use Rattle.written_laws.proofs.{Courses.end_at, Courses.start_at, EdgeDarts.edge_dart, EdgeDarts.edge_points}
@@ -39,7 +39,7 @@ ends_of faces u v d runs = by_way (or_cases _ _ runs)
     by_way (inl both) = inl (eqb-true _ _ (and_parts _ _ both).0, eqb-true _ _ (and_parts _ _ both).1)
     by_way (inr both) = inr (eqb-true _ _ (and_parts _ _ both).0, eqb-true _ _ (and_parts _ _ both).1)
 
-module _ (l : Layout) (x : Lengths) where
+module _ (l : Gluing) (x : Lengths) where
   -- The vertex at a place of the chain of an arc.
   pub at_link : (a k : ℕ) → k < x a + 1 → link_at (arc_chain l x a) k ≡ vertex_number l x (arc_point l x a k)
   at_link a k low = get_or-map-range_with_len (λ k. vertex_number l x (arc_point l x a k)) 0 (x a + 1) k k 0 low
@@ -147,40 +147,41 @@ module _ (l : Layout) (x : Lengths) where
             (edge_points l x laid len (on_arc a k) is).1 (edge_points l x laid len (on_arc b m) also).1 (sym s.0
             ∙ t.0))
 
-new_chains : (plan : Plan) (new : Lengths) → IsSomeLayout plan → AreLengths (layout_of plan) new
-    → IsUndoubled (layout_of plan) new → AreNewChains plan new
-new_chains plan new is len undoubled = record {
-  chain = λ arc low. chain_is (layout_of plan) new (laid_of plan is) len arc low;
+new_chains : (layout : Layout) (new : Lengths) → IsSomeLayout layout → AreLengths (gluing_of layout) new
+    → IsUndoubled (gluing_of layout) new → AreNewChains layout new
+new_chains layout new is len undoubled = record {
+  chain = λ arc low. chain_is (gluing_of layout) new (laid_of layout is) len arc low;
   once = λ a k b m d low also less fewer runs and_runs.
-      let same : on_arc a k ≡ on_arc b m = one_edge (layout_of plan) new (laid_of plan is) len undoubled a k b m d (
+      let same : on_arc a k ≡ on_arc b m = one_edge (gluing_of layout) new (laid_of layout is) len undoubled a k b m d (
         low,
         less,
       ) (also, fewer)
       (along a k d less runs) (along b m d fewer and_runs) in
       let arcs : a ≡ b = cc same in let places : k ≡ m = cc same in (arcs, places);
-  marked = λ arcs. chain_marks (new_faces (layout_of plan) new) (map (arc_chain (layout_of plan) new) arcs) manifold;
+  marked = λ arcs. chain_marks (new_faces (gluing_of layout) new) (map (arc_chain (gluing_of layout) new) arcs)
+      manifold;
 }
   where
-    manifold : IsManifold (new_faces (layout_of plan) new)
+    manifold : IsManifold (new_faces (gluing_of layout) new)
     manifold =
-        let surface : IsSurface (layout_of plan) × HasFans (layout_of plan) =
-        laid_law is.faces (layout_of plan) (long_at plan.arcs) (vertex_at plan) (lies plan is) in
-        new_manifold_law (layout_of plan) new surface.0 surface.1 len undoubled
+        let surface : IsSurface (gluing_of layout) × HasFans (gluing_of layout) =
+        laid_law is.faces (gluing_of layout) (long_at layout.arcs) (vertex_at layout) (lies layout is) in
+        new_manifold_law (gluing_of layout) new surface.0 surface.1 len undoubled
 
     along : (a k d : ℕ) → k < new a
-        → runs_between (new_faces (layout_of plan) new) (link_at (arc_chain (layout_of plan) new a) k)
-        (link_at (arc_chain (layout_of plan) new a) (k + 1)) d ≡ true
-        → runs_between (new_faces (layout_of plan) new)
-        (vertex_number (layout_of plan) new (arc_point (layout_of plan) new a k))
-        (vertex_number (layout_of plan) new (arc_point (layout_of plan) new a (k + 1))) d ≡ true
+        → runs_between (new_faces (gluing_of layout) new) (link_at (arc_chain (gluing_of layout) new a) k)
+        (link_at (arc_chain (gluing_of layout) new a) (k + 1)) d ≡ true
+        → runs_between (new_faces (gluing_of layout) new)
+        (vertex_number (gluing_of layout) new (arc_point (gluing_of layout) new a k))
+        (vertex_number (gluing_of layout) new (arc_point (gluing_of layout) new a (k + 1))) d ≡ true
     along a k d less runs =
-        (λ t. runs_between (new_faces (layout_of plan) new) (sym (at_link (layout_of plan) new a k (omega arith)) t)
-        (sym (at_link (layout_of plan) new a (k + 1) (omega arith)) t) d) ∙ runs
+        (λ t. runs_between (new_faces (gluing_of layout) new) (sym (at_link (gluing_of layout) new a k (omega arith)) t)
+        (sym (at_link (gluing_of layout) new a (k + 1) (omega arith)) t) d) ∙ runs
 
 pub finished_chains_law : FinishedChainsLaw
 finished_chains_law command bytes text wrote range =
     let mesh = mesh_text_law bytes wrote.soup wrote.mesh in
-    new_chains wrote.shown.finished.plan (lengths_in (used wrote.shown.finished.certificates).x)
+    new_chains wrote.shown.finished.layout (lengths_in (used wrote.shown.finished.certificates).x)
     (record {
       faces = wrote.soup.faces;
       mesh = mesh.1;
@@ -189,6 +190,6 @@ finished_chains_law command bytes text wrote range =
       cut = (task_layout_law command bytes wrote.soup wrote.task wrote.mesh wrote.asked).0;
       laid = wrote.shown.finished.cut;
     })
-    (used_lengths wrote.task.wish wrote.shown.finished.plan wrote.task.settings wrote.task.rising
+    (used_lengths wrote.task.wish wrote.shown.finished.layout wrote.task.settings wrote.task.rising
     wrote.shown.finished.certificates range.floor.low wrote.shown.finished.lengths)
     wrote.shown.finished.undoubled

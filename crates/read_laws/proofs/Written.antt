@@ -11,8 +11,8 @@ use Rattle.def_certtext.specs.declared.CertLine.{CertLine}
 use Rattle.def_certtext.specs.declared.CertLine.TheVariants.{Length, Vertex, Set, Floor, Rise as rise_line}
 use Rattle.def_flow.specs.{Admissible.deviation, Admissible.entries, Network.Network, declared.net.Settings.Settings}
 use Rattle.def_io.specs.{Bytes.Bytes, Lines.lines_of}
-use Rattle.def_layout.specs.{Arcs.long_at, Lengths.AreLengths, Lengths.Lengths, Plans.layout_of, Plans.Plan}
-use Rattle.def_layout.specs.Plans.{vertex_at}
+use Rattle.def_layout.specs.{Arcs.long_at, Lengths.AreLengths, Lengths.Lengths, Layouts.gluing_of, Layouts.Layout}
+use Rattle.def_layout.specs.Layouts.{vertex_at}
 use Rattle.def_cut.specs.{FullCut.IsFullCut, Traced.traced_marks}
 use Rattle.def_layoutnet.specs.{LayoutNet.IsNetOf, MeshLayouts.IsSomeLayout}
 use Rattle.def_readlaws.specs.ReadPairs.{AcceptsTextLaw}
@@ -24,29 +24,30 @@ use Rattle.def_run.specs.{Check.head_of, Checking.begins_fit, Checking.HasFitTex
 use Rattle.def_run.specs.MarkLines.{begins_mark}
 use Rattle.def_written.specs.{Laws.LiesInMesh, Numbers.vertices}
 use Rattle.map_laws.proofs.{Spaced.spacing_is, SpotPlaces.spot_law}
-use Rattle.plan_laws.proofs.PlanLies.{plan_law}
+use Rattle.embedding_laws.proofs.LayoutLies.{embedding_law}
 use Rattle.remesh_laws.proofs.{LastLines.one_last, Certified.used_lengths}
 use Rattle.site_laws.proofs.Laws.{graph_law}
 use Rattle.written_laws.proofs.{Shape.multiple_law, Spacings.even_law}
 use Rattle.read_laws.proofs.{LayoutsRead.task_layout_law, Soups.mesh_text_law}
 
 -- Kept certificates have the network of their layout.
-net_of : (plan : Plan) (settings : Settings) (rising : Rising) (certificates : Certificates)
-    → AreKeptBy (HasLeastLengths old_lengths plan settings) plan (given_floors settings) rising certificates
-    → (net : Network) × IsNetOf (layout_of plan) (old_lengths plan) (old_lengths plan) settings (λ a. settings.floor)
+net_of : (layout : Layout) (settings : Settings) (rising : Rising) (certificates : Certificates)
+    → AreKeptBy (HasLeastLengths old_lengths layout settings) layout (given_floors settings) rising certificates
+    → (net : Network) × IsNetOf (gluing_of layout) (old_lengths layout) (old_lengths layout) settings
+    (λ a. settings.floor)
     net
-net_of plan settings rising (alone cert) kept = (kept.net, kept.of_layout)
-net_of plan settings rising (raised first cert) kept = (kept.1.fit.net, kept.1.fit.of_layout)
-net_of plan settings rising (risen first rises after) kept = (kept.1.fit.net, kept.1.fit.of_layout)
+net_of layout settings rising (alone cert) kept = (kept.net, kept.of_layout)
+net_of layout settings rising (raised first cert) kept = (kept.1.fit.net, kept.1.fit.of_layout)
+net_of layout settings rising (risen first rises after) kept = (kept.1.fit.net, kept.1.fit.of_layout)
 
 -- A checked pair that is no text of `fit` has the line that tells its numbers.
 told_pair : (bytes : Bytes) → ¬ HasFitText bytes → IsCheckedPair bytes → (line : Bytes) × WritesAccepted bytes line
 told_pair bytes other pair =
-    by_net (net_of pair.remeshed.plan pair.settings (third_if pair.auto) pair.remeshed.certificates
+    by_net (net_of pair.remeshed.layout pair.settings (third_if pair.auto) pair.remeshed.certificates
     pair.remeshed.lengths)
   where
-    by_net : (net : Network) × IsNetOf (layout_of pair.remeshed.plan) (old_lengths pair.remeshed.plan)
-        (old_lengths pair.remeshed.plan) pair.settings (λ a. pair.settings.floor) net
+    by_net : (net : Network) × IsNetOf (gluing_of pair.remeshed.layout) (old_lengths pair.remeshed.layout)
+        (old_lengths pair.remeshed.layout) pair.settings (λ a. pair.settings.floor) net
         → (line : Bytes) × WritesAccepted bytes line
     by_net of = (
       accepted_line _ _ _,
@@ -100,39 +101,39 @@ accepts_text_law settings auto old text range ends wrote = told_pair (old ++ tex
         ∙ head_there settings auto old text wrote.soup range ends solid shown)) ∙ fit.begins)
 
 pub spot_text_law : SpotTextLaw
-spot_text_law bytes soup marks plan shares new is full laid long spaced v low =
+spot_text_law bytes soup marks layout shares new is full laid long spaced v low =
     let mesh = mesh_text_law bytes soup is in
-    let spot = spot_law soup.faces plan shares new
+    let spot = spot_law soup.faces layout shares new
     (record { faces = soup.faces; mesh = mesh.1; quads = mesh.2; marks = marks; cut = full; laid = laid }, refl) long
     spaced v low in (
       spot.0,
       spot.1 soup.pos
-          ∙ sym (get_or-map-range_with_len (spaced_place soup.faces plan soup.pos shares new) 0
-          (vertices (layout_of plan) new) v
+          ∙ sym (get_or-map-range_with_len (spaced_place soup.faces layout soup.pos shares new) 0
+          (vertices (gluing_of layout) new) v
           v [] low (omega arith)),
     )
 
 pub refined_spots_law : RefinedSpotsLaw
 refined_spots_law by bytes text some wrote =
-    spot_text_law bytes wrote.soup _ wrote.refined.plan None new wrote.mesh full wrote.refined.cut lengths
-    (even_law (layout_of wrote.refined.plan) (long_at wrote.refined.plan.arcs) new lies.lengths lengths)
+    spot_text_law bytes wrote.soup _ wrote.refined.layout None new wrote.mesh full wrote.refined.cut lengths
+    (even_law (gluing_of wrote.refined.layout) (long_at wrote.refined.layout.arcs) new lies.lengths lengths)
   where
     full : IsFullCut wrote.soup.faces (traced_marks wrote.soup.faces)
     full = (graph_law wrote.soup.faces wrote.mesh.manifold).1
 
     new : Lengths
-    new = multiple_of by (long_at wrote.refined.plan.arcs)
+    new = multiple_of by (long_at wrote.refined.layout.arcs)
 
-    lies : LiesInMesh wrote.soup.faces (layout_of wrote.refined.plan) (long_at wrote.refined.plan.arcs)
-        (vertex_at wrote.refined.plan)
+    lies : LiesInMesh wrote.soup.faces (gluing_of wrote.refined.layout) (long_at wrote.refined.layout.arcs)
+        (vertex_at wrote.refined.layout)
     lies =
         let mesh = mesh_text_law bytes wrote.soup wrote.mesh in
-        plan_law wrote.soup.faces (traced_marks wrote.soup.faces) wrote.refined.plan mesh.1 mesh.2 full
+        embedding_law wrote.soup.faces (traced_marks wrote.soup.faces) wrote.refined.layout mesh.1 mesh.2 full
         wrote.refined.cut
 
-    lengths : AreLengths (layout_of wrote.refined.plan) new
-    lengths = (multiple_law wrote.soup.faces (layout_of wrote.refined.plan) (long_at wrote.refined.plan.arcs)
-        (vertex_at wrote.refined.plan) lies by some).0
+    lengths : AreLengths (gluing_of wrote.refined.layout) new
+    lengths = (multiple_law wrote.soup.faces (gluing_of wrote.refined.layout) (long_at wrote.refined.layout.arcs)
+        (vertex_at wrote.refined.layout) lies by some).0
 
 pub finished_spots_law : FinishedSpotsLaw
 finished_spots_law command bytes text wrote range =
@@ -140,7 +141,7 @@ finished_spots_law command bytes text wrote range =
     let new : Lengths = lengths_in (used finished.certificates).x in
     let mesh = mesh_text_law bytes wrote.soup wrote.mesh in
     let full = (task_layout_law command bytes wrote.soup wrote.task wrote.mesh wrote.asked).0 in
-    let laid : IsSomeLayout finished.plan = record {
+    let laid : IsSomeLayout finished.layout = record {
       faces = wrote.soup.faces;
       mesh = mesh.1;
       quads = mesh.2;
@@ -148,7 +149,7 @@ finished_spots_law command bytes text wrote range =
       cut = full;
       laid = finished.cut;
     } in
-    let lengths : AreLengths (layout_of finished.plan) new = used_lengths wrote.task.wish finished.plan
+    let lengths : AreLengths (gluing_of finished.layout) new = used_lengths wrote.task.wish finished.layout
     wrote.task.settings wrote.task.rising finished.certificates range.floor.low finished.lengths in
-    spot_text_law bytes wrote.soup wrote.task.marks finished.plan wrote.task.shares new wrote.mesh full finished.cut
-    lengths (spacing_is finished.plan laid new lengths finished.coarse wrote.task.shares)
+    spot_text_law bytes wrote.soup wrote.task.marks finished.layout wrote.task.shares new wrote.mesh full finished.cut
+    lengths (spacing_is finished.layout laid new lengths finished.coarse wrote.task.shares)

@@ -9,8 +9,9 @@ use Rattle.def_certtext.specs.declared.certs.Rising.TheVariants.{Third}
 use Rattle.def_flow.specs.{Accepted.certificate, Descent.IsSolution, Network.arc_at, Network.Network}
 use Rattle.def_flow.specs.{declared.cert.Cert.Cert, declared.limits.TheConstants.MAX_FLOOR}
 use Rattle.def_flow.specs.{declared.limits.TheConstants.MAX_LENGTH, declared.net.Settings.Settings}
-use Rattle.def_layout.specs.{FaceLayouts.IsCutLayout, Lengths.AreLengths as AreArcLengths, Lengths.Lengths, Plans.Plan}
-use Rattle.def_layout.specs.Plans.{layout_of, vertex_at}
+use Rattle.def_layout.specs.{FaceLayouts.IsCutLayout, Lengths.AreLengths as AreArcLengths, Lengths.Lengths}
+use Rattle.def_layout.specs.{Layouts.Layout}
+use Rattle.def_layout.specs.Layouts.{gluing_of, vertex_at}
 use Rattle.def_mesh.specs.Faces.{Faces}
 use Rattle.def_remesh.specs.{Placings.IsMeshLayout, Keeping.IsKept, NewPoints.lengths_in, Refusals.AreTooFine}
 use Rattle.def_remesh.specs.{Certified.AreKept, Certified.IsCertified, Remeshed.AreKeptBy, Remeshed.HasLeastLengths}
@@ -27,75 +28,77 @@ use Rattle.remesh_laws.proofs.{Certified.certified_lengths, ReadAgain.task_read,
 use Rattle.remesh_laws.proofs.Solved.{certified}
 
 -- Its solution is certified.
-pub solved : {wish : Wish} {floors : Lengths} (plan : Plan) (settings : Settings) (net : Network) (cert : Cert)
-    → IsNetWith wish plan settings floors net → IsSolution net (certificate cert)
-    → IsCertified wish plan settings floors (lists_of cert)
-solved plan settings net cert for is = certified _ plan settings _ net (lists_of cert) for.mesh for.is for.bounds
+pub solved : {wish : Wish} {floors : Lengths} (layout : Layout) (settings : Settings) (net : Network) (cert : Cert)
+    → IsNetWith wish layout settings floors net → IsSolution net (certificate cert)
+    → IsCertified wish layout settings floors (lists_of cert)
+solved layout settings net cert for is = certified _ layout settings _ net (lists_of cert) for.mesh for.is for.bounds
     for.untangled is
 
 -- So its lengths are lengths of the layout, also under another name.
-pub are_lengths : {wish : Wish} {floors : Lengths} (plan : Plan) (settings : Settings) (net : Network) (cert : Cert)
-    (xs : List ℕ) → IsNetWith wish plan settings floors net
-    → IsSolution net (certificate cert) → xs ≡ cert.x.items → AreArcLengths (layout_of plan) (lengths_in xs)
-are_lengths plan settings net cert xs for is same =
-    subst (λ (ys : List ℕ). AreArcLengths (layout_of plan) (lengths_in ys)) (sym same)
-    (certified_lengths plan settings (lists_of cert) for.floor (solved plan settings net cert for is).lengths)
+pub are_lengths : {wish : Wish} {floors : Lengths} (layout : Layout) (settings : Settings) (net : Network) (cert : Cert)
+    (xs : List ℕ) → IsNetWith wish layout settings floors net
+    → IsSolution net (certificate cert) → xs ≡ cert.x.items → AreArcLengths (gluing_of layout) (lengths_in xs)
+are_lengths layout settings net cert xs for is same =
+    subst (λ (ys : List ℕ). AreArcLengths (gluing_of layout) (lengths_in ys)) (sym same)
+    (certified_lengths layout settings (lists_of cert) for.floor (solved layout settings net cert for is).lengths)
 
 -- The network with floor 3.
-pub third_net : {wish : Wish} {floors : Lengths} (plan : Plan) (settings : Settings) (net other : Network)
-    → IsNetWith wish plan settings floors net → HasFloors net (λ a. 3) other
-    → IsNetWith wish plan settings (λ a. 3) other
-third_net plan settings net other =
-    raised_net plan settings (λ a. 3) net other (λ arc. omega arith) (λ arc low. omega arith)
+pub third_net : {wish : Wish} {floors : Lengths} (layout : Layout) (settings : Settings) (net other : Network)
+    → IsNetWith wish layout settings floors net → HasFloors net (λ a. 3) other
+    → IsNetWith wish layout settings (λ a. 3) other
+third_net layout settings net other =
+    raised_net layout settings (λ a. 3) net other (λ arc. omega arith) (λ arc low. omega arith)
 
 -- Kept certificates, with the numbers of the new mesh at the lengths that are used.
-pub keeps : {wish : Wish} (plan : Plan) (settings : Settings) (rising : Rising) (certificates : Certificates)
+pub keeps : {wish : Wish} (layout : Layout) (settings : Settings) (rising : Rising) (certificates : Certificates)
     (xs : List ℕ) (tables : Tables) → xs ≡ (used certificates).x
-    → AreKept wish plan settings rising certificates → IsNumbered plan xs tables
-    → IsKept wish plan settings rising certificates tables
-keeps {wish} plan settings rising certificates xs tables same kept numbered = record {
+    → AreKept wish layout settings rising certificates → IsNumbered layout xs tables
+    → IsKept wish layout settings rising certificates tables
+keeps {wish} layout settings rising certificates xs tables same kept numbered = record {
   kept = kept;
-  coarse = subst (AreCoarse plan) is.lengths is.numbering.few;
+  coarse = subst (AreCoarse layout) is.lengths is.numbering.few;
   undoubled = is.undoubled;
   shape = is.shape;
   numbering = is.numbering;
   lengths = is.lengths;
 }
   where
-    is : IsNumbered plan (used certificates).x tables
-    is = subst (λ (ys : List ℕ). IsNumbered plan ys tables) same numbered
+    is : IsNumbered layout (used certificates).x tables
+    is = subst (λ (ys : List ℕ). IsNumbered layout ys tables) same numbered
 
-pub keeps_first : {wish : Wish} (plan : Plan) (settings : Settings) (rising : Rising) (cert : Cert) (xs : List ℕ)
+pub keeps_first : {wish : Wish} (layout : Layout) (settings : Settings) (rising : Rising) (cert : Cert) (xs : List ℕ)
     (tables : Tables) → xs ≡ cert.x.items
-    → IsCertified wish plan settings (given_floors settings) (lists_of cert) → IsNumbered plan xs tables
-    → IsKept wish plan settings rising (alone (lists_of cert)) tables
-keeps_first plan settings rising cert xs tables = keeps plan settings rising (alone (lists_of cert)) xs tables
+    → IsCertified wish layout settings (given_floors settings) (lists_of cert) → IsNumbered layout xs tables
+    → IsKept wish layout settings rising (alone (lists_of cert)) tables
+keeps_first layout settings rising cert xs tables = keeps layout settings rising (alone (lists_of cert)) xs tables
 
-pub keeps_third : {wish : Wish} (plan : Plan) (settings : Settings) (first third : Cert) (xs : List ℕ) (tables : Tables)
+pub keeps_third : {wish : Wish} (layout : Layout) (settings : Settings) (first third : Cert) (xs : List ℕ)
+    (tables : Tables)
     → xs ≡ third.x.items
-    → AreKept wish plan settings Third (raised (lists_of first) (lists_of third)) → IsNumbered plan xs tables
-    → IsKept wish plan settings Third (raised (lists_of first) (lists_of third)) tables
-keeps_third plan settings first third xs tables =
-    keeps plan settings Third (raised (lists_of first) (lists_of third)) xs tables
+    → AreKept wish layout settings Third (raised (lists_of first) (lists_of third)) → IsNumbered layout xs tables
+    → IsKept wish layout settings Third (raised (lists_of first) (lists_of third)) tables
+keeps_third layout settings first third xs tables =
+    keeps layout settings Third (raised (lists_of first) (lists_of third)) xs tables
 
 -- A refusal of lengths, of this kind, is one of the same lengths under another name.
-pub too_fine : (plan : Plan) (xs ys : List ℕ) (fail : StitchFail) (faces : ℕ) → xs ≡ ys → fail ≡ fails.TooFine faces
-    → IsUnstitched (layout_of plan) (lengths_in xs) fail → AreTooFine plan ys faces
-too_fine plan xs ys fail faces same is refused =
-    let told : IsUnstitched (layout_of plan) (lengths_in xs) (fails.TooFine faces) =
-    subst (IsUnstitched (layout_of plan) (lengths_in xs)) is refused in
-    subst (λ (zs : List ℕ). AreTooFine plan zs faces) same (told.0, omega (arith, told.0, told.1))
+pub too_fine : (layout : Layout) (xs ys : List ℕ) (fail : StitchFail) (faces : ℕ) → xs ≡ ys → fail ≡ fails.TooFine faces
+    → IsUnstitched (gluing_of layout) (lengths_in xs) fail → AreTooFine layout ys faces
+too_fine layout xs ys fail faces same is refused =
+    let told : IsUnstitched (gluing_of layout) (lengths_in xs) (fails.TooFine faces) =
+    subst (IsUnstitched (gluing_of layout) (lengths_in xs)) is refused in
+    subst (λ (zs : List ℕ). AreTooFine layout zs faces) same (told.0, omega (arith, told.0, told.1))
 
-pub doubled_first : (plan : Plan) (xs ys : List ℕ) (fail : StitchFail) (u v : ℕ) → xs ≡ ys → fail ≡ fails.Doubled u v
-    → IsUnstitched (layout_of plan) (lengths_in xs) fail → AreCoarse plan ys
-    × IsFirstDoubled (layout_of plan) (lengths_in ys) u v
-doubled_first plan xs ys fail u v same is refused =
-    subst (λ (zs : List ℕ). AreCoarse plan zs × IsFirstDoubled (layout_of plan) (lengths_in zs) u v) same
-    (subst (IsUnstitched (layout_of plan) (lengths_in xs)) is refused)
+pub doubled_first : (layout : Layout) (xs ys : List ℕ) (fail : StitchFail) (u v : ℕ) → xs ≡ ys
+    → fail ≡ fails.Doubled u v
+    → IsUnstitched (gluing_of layout) (lengths_in xs) fail → AreCoarse layout ys
+    × IsFirstDoubled (gluing_of layout) (lengths_in ys) u v
+doubled_first layout xs ys fail u v same is refused =
+    subst (λ (zs : List ℕ). AreCoarse layout zs × IsFirstDoubled (gluing_of layout) (lengths_in zs) u v) same
+    (subst (IsUnstitched (gluing_of layout) (lengths_in xs)) is refused)
 
-pub doubled_some : (plan : Plan) (ys : List ℕ) (u v : ℕ) → IsFirstDoubled (layout_of plan) (lengths_in ys) u v
-    → AreDoubled plan ys
-doubled_some plan ys u v first = (u, v, first.doubled)
+pub doubled_some : (layout : Layout) (ys : List ℕ) (u v : ℕ) → IsFirstDoubled (gluing_of layout) (lengths_in ys) u v
+    → AreDoubled layout ys
+doubled_some layout ys u v first = (u, v, first.doubled)
 
 -- No length is too great, also beyond the last arc.
 pub bounded : (net : Network) (cert : Cert) (xs : List ℕ) → IsSolution net (certificate cert) → xs ≡ cert.x.items
@@ -108,78 +111,84 @@ bounded net cert xs is same arc = subst (λ (ys : List ℕ). lengths_in ys arc �
     by_arc (inr high) = omega (arith, get_or_past cert.x.items arc 0 high)
 
 -- Lengths for the greatest floors are long.
-pub long_lengths : {wish : Wish} {floors : Lengths} (plan : Plan) (settings : Settings) (net : Network) (cert : Cert)
-    → IsNetWith wish plan settings floors net → IsSolution net (certificate cert)
-    → ((k : ℕ) → k < length net.arcs → MAX_FLOOR ≤ (arc_at net.arcs k).floor) → AreLong plan (lengths_in cert.x.items)
-long_lengths plan settings net cert for is high a low =
+pub long_lengths : {wish : Wish} {floors : Lengths} (layout : Layout) (settings : Settings) (net : Network)
+    (cert : Cert)
+    → IsNetWith wish layout settings floors net → IsSolution net (certificate cert)
+    → ((k : ℕ) → k < length net.arcs → MAX_FLOOR ≤ (arc_at net.arcs k).floor) → AreLong layout (lengths_in cert.x.items)
+long_lengths layout settings net cert for is high a low =
     let inner : a < length net.arcs = omega (arith, low, for.is.long) in
     omega (arith, ints, is.accepted.admissible.high a inner, high a inner)
 
 -- Long lengths double no edge.
-pub none_doubled : {T : Type 0} (plan : Plan) (xs ys : List ℕ) (result : Result T StitchFail) (fail : StitchFail)
-    (u v : ℕ) → xs ≡ ys → AreLong plan (lengths_in ys)
-    → (AreSafe plan (lengths_in xs) → (a b : ℕ) → ¬ IsErrOf result (fails.Doubled a b))
+pub none_doubled : {T : Type 0} (layout : Layout) (xs ys : List ℕ) (result : Result T StitchFail) (fail : StitchFail)
+    (u v : ℕ) → xs ≡ ys → AreLong layout (lengths_in ys)
+    → (AreSafe layout (lengths_in xs) → (a b : ℕ) → ¬ IsErrOf result (fails.Doubled a b))
     → result ≡ Err fail → fail ≡ fails.Doubled u v → ⊥
-none_doubled plan xs ys result fail u v same long safe told doubled =
-    safe (inl (subst (λ (zs : List ℕ). AreLong plan (lengths_in zs)) (sym same) long)) u v (told ∙ ap Err doubled)
+none_doubled layout xs ys result fail u v same long safe told doubled =
+    safe (inl (subst (λ (zs : List ℕ). AreLong layout (lengths_in zs)) (sym same) long)) u v (told ∙ ap Err doubled)
 
 -- So lengths that double one are for a lower floor.
-pub low_floor : {T : Type 0} {wish : Wish} (plan : Plan) (settings : Settings) (cert : Cert) (xs : List ℕ)
+pub low_floor : {T : Type 0} {wish : Wish} (layout : Layout) (settings : Settings) (cert : Cert) (xs : List ℕ)
     (result : Result T StitchFail) (fail : StitchFail) (u v : ℕ)
-    → xs ≡ cert.x.items → IsCertified wish plan settings (given_floors settings) (lists_of cert)
-    → (AreSafe plan (lengths_in xs) → (a b : ℕ) → ¬ IsErrOf result (fails.Doubled a b))
+    → xs ≡ cert.x.items → IsCertified wish layout settings (given_floors settings) (lists_of cert)
+    → (AreSafe layout (lengths_in xs) → (a b : ℕ) → ¬ IsErrOf result (fails.Doubled a b))
     → result ≡ Err fail → fail ≡ fails.Doubled u v → settings.floor < MAX_FLOOR
-low_floor plan settings cert xs result fail u v same is safe told doubled = by_floor (cases_lt settings.floor MAX_FLOOR)
+low_floor layout settings cert xs result fail u v same is safe told doubled =
+    by_floor (cases_lt settings.floor MAX_FLOOR)
   where
-    long : MAX_FLOOR ≤ settings.floor → AreLong plan (lengths_in cert.x.items)
+    long : MAX_FLOOR ≤ settings.floor → AreLong layout (lengths_in cert.x.items)
     long high a low =
         let above = is.lengths.least.admissible.high a (omega (arith, low, is.lengths.of_layout.long)) in
         omega (arith, ints, above, high, is.lengths.of_layout.floors a low)
 
     by_floor : (settings.floor < MAX_FLOOR) ⊎ (MAX_FLOOR ≤ settings.floor) → settings.floor < MAX_FLOOR
     by_floor (inl low) = low
-    by_floor (inr high) = absurd (none_doubled plan xs cert.x.items result fail u v same (long high) safe told doubled)
+    by_floor (inr high) = absurd
+        (none_doubled layout xs cert.x.items result fail u v same (long high) safe told doubled)
 
 -- The new mesh has the shape of the one that the layout lies in.
-pub kept_shape : (soup : FaceSet) (plan : Plan) (xs : List ℕ) → IsMeshLayout soup.faces plan
-    → KeepsShapes plan (lengths_in xs)
-    → KeepsShape soup.faces (new_faces (layout_of plan) (lengths_in xs)) (layout_of plan).nodes (vertex_at plan)
-kept_shape soup plan xs lies shapes = subst
-    (λ (fs : Faces). KeepsShape fs (new_faces (layout_of plan) (lengths_in xs)) (layout_of plan).nodes (vertex_at plan))
+pub kept_shape : (soup : FaceSet) (layout : Layout) (xs : List ℕ) → IsMeshLayout soup.faces layout
+    → KeepsShapes layout (lengths_in xs)
+    → KeepsShape soup.faces (new_faces (gluing_of layout) (lengths_in xs)) (gluing_of layout).nodes (vertex_at layout)
+kept_shape soup layout xs lies shapes = subst
+    (λ (fs : Faces). KeepsShape fs (new_faces (gluing_of layout) (lengths_in xs)) (gluing_of layout).nodes
+    (vertex_at layout))
     lies.1
     (shapes lies.0.faces lies.0.marks lies.0.mesh lies.0.quads lies.0.cut lies.0.laid)
 
 -- Accepted certificates have least lengths.
-pub least_of : (wish : Wish) (plan : Plan) (settings : Settings) (rising : Rising) (certificates : Certificates)
-    → AreKept wish plan settings rising certificates
-    → AreKeptBy (HasLeastLengths wish plan settings) plan (given_floors settings) rising certificates
-least_of wish plan settings rising certificates =
-    kept_by plan (given_floors settings) rising certificates (λ floors cert is. is.lengths)
+pub least_of : (wish : Wish) (layout : Layout) (settings : Settings) (rising : Rising) (certificates : Certificates)
+    → AreKept wish layout settings rising certificates
+    → AreKeptBy (HasLeastLengths wish layout settings) layout (given_floors settings) rising certificates
+least_of wish layout settings rising certificates =
+    kept_by layout (given_floors settings) rising certificates (λ floors cert is. is.lengths)
 
 -- What is kept of a layout that a task's cut gives finishes the task, and shows it.
-pub shown : (task : Task) (soup : FaceSet) (plan : Plan) (certificates : Certificates) (tables : Tables)
-    → IsMeshLayout soup.faces plan
-    → IsCutLayout soup.faces task.marks plan → IsKept task.wish plan task.settings task.rising certificates tables
-    → ShowsTask task soup (finished_text task soup plan certificates)
-shown task soup plan certificates tables lies cut kept =
-    let lengths : AreKeptBy (HasLeastLengths task.wish plan task.settings) plan (given_floors task.settings) task.rising
+pub shown : (task : Task) (soup : FaceSet) (layout : Layout) (certificates : Certificates) (tables : Tables)
+    → IsMeshLayout soup.faces layout
+    → IsCutLayout soup.faces task.marks layout → IsKept task.wish layout task.settings task.rising certificates tables
+    → ShowsTask task soup (finished_text task soup layout certificates)
+shown task soup layout certificates tables lies cut kept =
+    let lengths : AreKeptBy (HasLeastLengths task.wish layout task.settings) layout (given_floors task.settings)
+    task.rising
     certificates =
-    least_of task.wish plan task.settings task.rising certificates kept.kept in
+    least_of task.wish layout task.settings task.rising certificates kept.kept in
     record {
       shown = record {
         finished = record {
-          plan = plan;
+          layout = layout;
           cut = cut;
           certificates = certificates;
           lengths = lengths;
           coarse = kept.coarse;
           undoubled = kept.undoubled;
           written = refl;
-          shape = kept_shape soup plan (used certificates).x lies kept.shape;
+          shape = kept_shape soup layout (used certificates).x lies kept.shape;
         };
         certified = kept.kept;
       };
-      read = task_read task soup plan certificates kept.numbering.mesh
-          (subst (λ (xs : List ℕ). AreArcLengths (layout_of plan) (lengths_in xs)) kept.lengths kept.numbering.lengths)
+      read = task_read task soup layout certificates kept.numbering.mesh
+          (subst (λ (xs : List ℕ). AreArcLengths (gluing_of layout) (lengths_in xs)) kept.lengths
+          kept.numbering.lengths)
           lengths;
     }

@@ -8,7 +8,7 @@ use Rattle.std.specs.{Fmt.digit_glyph, Fmt.digits, Fmt.digits_onto, List.flat_ma
 use Rattle.std.specs.Prelude.{◌==◌, decimal, if◌then◌else◌, nat_lt}
 use Rattle.def_certtext.specs.Reading.{is_hash_line}
 use Rattle.def_io.specs.{Bytes.Bytes, Lines.lines_of}
-use Rattle.def_layout.specs.{Lengths.Lengths, Plans.layout_of, Plans.Plan}
+use Rattle.def_layout.specs.{Lengths.Lengths, Layouts.gluing_of, Layouts.Layout}
 use Rattle.def_marks.specs.MarkedText.{arc_chain, arc_text, chain_text, is_marked_arc, marked_text}
 use Rattle.def_remesh.specs.ReadAgain.{ends_line}
 use Rattle.qm_obj.proofs.LawText.{is_inside, is_tame, lines_back, tame_inside}
@@ -67,41 +67,42 @@ chains_plain : (chains : List (List ℕ)) → filter is_hash_line (map chain_lin
 chains_plain [] = refl
 chains_plain (chain ∷ chains) = chains_plain chains
 
-module _ (marks : List Bool) (plan : Plan) (new : Lengths) where
+module _ (marks : List Bool) (layout : Layout) (new : Lengths) where
   -- The chains of the marked ones of some arcs.
   abbrev chains_in : (arcs : List ℕ) → List (List ℕ)
   chains_in [] = []
   chains_in (arc ∷ arcs) =
-      if is_marked_arc marks plan arc then arc_chain (layout_of plan) new arc ∷ chains_in arcs else chains_in arcs
+      if is_marked_arc marks layout arc then arc_chain (gluing_of layout) new arc ∷ chains_in arcs else chains_in arcs
 
-  text_is : (arcs : List ℕ) → flat_map (arc_text marks plan new) arcs
+  text_is : (arcs : List ℕ) → flat_map (arc_text marks layout new) arcs
       ≡ flat_map (λ l. l ++ 10 ∷ []) (map chain_line (chains_in arcs))
   text_is [] = refl
-  text_is (arc ∷ arcs) = by_test (is_marked_arc marks plan arc) (text_is arcs)
+  text_is (arc ∷ arcs) = by_test (is_marked_arc marks layout arc) (text_is arcs)
     where
-      by_test : (t : Bool) → flat_map (arc_text marks plan new) arcs
+      by_test : (t : Bool) → flat_map (arc_text marks layout new) arcs
           ≡ flat_map (λ l. l ++ 10 ∷ []) (map chain_line (chains_in arcs))
-          → (if t then chain_text (arc_chain (layout_of plan) new arc) else []) ++ flat_map (arc_text marks plan new)
+          → (if t then chain_text (arc_chain (gluing_of layout) new arc) else []) ++ flat_map
+          (arc_text marks layout new)
           arcs
           ≡ flat_map (λ l. l ++ 10 ∷ [])
-          (map chain_line (if t then arc_chain (layout_of plan) new arc ∷ chains_in arcs else chains_in arcs))
-      by_test true same = ap (λ (t : Bytes). chain_text (arc_chain (layout_of plan) new arc) ++ t) same
+          (map chain_line (if t then arc_chain (gluing_of layout) new arc ∷ chains_in arcs else chains_in arcs))
+      by_test true same = ap (λ (t : Bytes). chain_text (arc_chain (gluing_of layout) new arc) ++ t) same
       by_test false same = same
 
   -- The chains of all marked arcs.
   abbrev pub marked_chains : List (List ℕ)
-  marked_chains = chains_in (range_with_len 0 (length plan.arcs))
+  marked_chains = chains_in (range_with_len 0 (length layout.arcs))
 
-  pub chains_text : marked_text marks plan new ≡ flat_map (λ l. l ++ 10 ∷ []) (map chain_line marked_chains)
-  chains_text = text_is (range_with_len 0 (length plan.arcs))
+  pub chains_text : marked_text marks layout new ≡ flat_map (λ l. l ++ 10 ∷ []) (map chain_line marked_chains)
+  chains_text = text_is (range_with_len 0 (length layout.arcs))
 
-  pub marked_lines : lines_of (marked_text marks plan new) ≡ map chain_line marked_chains
+  pub marked_lines : lines_of (marked_text marks layout new) ≡ map chain_line marked_chains
   marked_lines = ap lines_of chains_text ∙ lines_back (map chain_line marked_chains) (chains_inside marked_chains)
 
-  pub marked_ended : ends_line (marked_text marks plan new) ≡ true
+  pub marked_ended : ends_line (marked_text marks layout new) ≡ true
   marked_ended = ap ends_line chains_text ∙ ends_lines (map chain_line marked_chains)
 
-  pub marked_silent : IsSilent (marked_text marks plan new)
+  pub marked_silent : IsSilent (marked_text marks layout new)
   marked_silent = record {
     ended = marked_ended;
     plain = ap (filter is_hash_line) marked_lines ∙ chains_plain marked_chains;

@@ -3,9 +3,9 @@ use Rattle.std.proofs.Common.{◌≡◌, ℕ, ◌<◌, true, List, Option, lengt
 use Rattle.std.proofs.{Common.refl, Common.sym, Common.◌∙◌, Common.ap, Common.subst, lemmas.Bool.and_from}
 use Rattle.std.proofs.{lemmas.Bool.lt-ltb, lemmas.List.FromFn.length-map-range_with_len, lemmas.List.Folds.list_all-map}
 use Rattle.std.specs.{Prelude.nat_lt, List.list_all, List.range_with_len}
-use Rattle.def_layout.specs.{Cells.CellDart, Cells.IsDart, Surfaces.IsSurface, Layouts.Layout, Layouts.Way}
-use Rattle.def_layout.specs.{Layouts.south, Layouts.east, Layouts.north, Layouts.west, Lengths.Lengths}
-use Rattle.def_layout.specs.{Lengths.AreLengths, Plans.Plan, Plans.layout_of}
+use Rattle.def_layout.specs.{Cells.CellDart, Cells.IsDart, Surfaces.IsSurface, Gluings.Gluing, Gluings.Way}
+use Rattle.def_layout.specs.{Gluings.south, Gluings.east, Gluings.north, Gluings.west, Lengths.Lengths}
+use Rattle.def_layout.specs.{Lengths.AreLengths, Layouts.Layout, Layouts.gluing_of}
 use Rattle.def_mesh.specs.Vertices.{is_used, names_below, UsesEach}
 use Rattle.def_text.specs.{FaceSet.FaceSet, FaceSet.IsSoup, Laws.is_quad, Laws.IsWritableSoup, Text.numbers_to}
 use Rattle.def_written.specs.NewFaces.{cell_vertex, dart_of, dart_start, face_count, new_face, new_faces}
@@ -18,7 +18,7 @@ use Rattle.written_laws.proofs.{Borders.from_is, EdgeNumbers.point_onto, Models.
 use Rattle.written_laws.proofs.{Models.point_dart, NewDarts.cell_is, NewDarts.dart_low, NewDarts.dart_number}
 use Rattle.written_laws.proofs.{NewDarts.number_from, Numbers.number_low}
 
-module _ (l : Layout) (x : Lengths) (laid : IsSurface l) (len : AreLengths l x) where
+module _ (l : Gluing) (x : Lengths) (laid : IsSurface l) (len : AreLengths l x) where
   -- Each new vertex is a corner of some face.
   uses : (v : ℕ) → v < vertices l x → is_used (new_faces l x) v ≡ true
   uses v low = by_point (point_onto l x v low)
@@ -50,31 +50,33 @@ module _ (l : Layout) (x : Lengths) (laid : IsSurface l) (len : AreLengths l x) 
   all_quads = list_all-map is_quad (new_face l x) (range_with_len 0 (face_count l x))
       ∙ passes_range _ (face_count l x) (λ f low. refl)
 
-module _ (soup : FaceSet) (plan : Plan) (shares : Option (List ℕ)) (x : Lengths) (laid : IsSurface (layout_of plan))
-    (len : AreLengths (layout_of plan) x) where
+module _ (soup : FaceSet) (layout : Layout) (shares : Option (List ℕ)) (x : Lengths)
+    (laid : IsSurface (gluing_of layout))
+    (len : AreLengths (gluing_of layout) x) where
   abbrev new : FaceSet
-  new = spaced_soup soup plan shares x
+  new = spaced_soup soup layout shares x
 
-  many : length new.pos ≡ vertices (layout_of plan) x
-  many = length-map-range_with_len (spaced_place soup.faces plan soup.pos shares x) 0 (vertices (layout_of plan) x)
+  many : length new.pos ≡ vertices (gluing_of layout) x
+  many = length-map-range_with_len (spaced_place soup.faces layout soup.pos shares x) 0 (vertices (gluing_of layout) x)
 
   pub new_names : new.names ≡ numbers_to (length new.pos)
   new_names = ap numbers_to (sym many)
 
   is_soup : IsSoup new
   is_soup = record {
-    in_range = subst (λ (n : ℕ). names_below n (new_faces (layout_of plan) x) ≡ true) (sym many)
-        (corners_low (layout_of plan) x laid len);
-    used = subst (λ (n : ℕ). UsesEach n (new_faces (layout_of plan) x)) (sym many) (uses (layout_of plan) x laid len);
-    named = length-numbers_to (vertices (layout_of plan) x) ∙ sym many;
-    increasing = numbers_rise (vertices (layout_of plan) x);
+    in_range = subst (λ (n : ℕ). names_below n (new_faces (gluing_of layout) x) ≡ true) (sym many)
+        (corners_low (gluing_of layout) x laid len);
+    used = subst (λ (n : ℕ). UsesEach n (new_faces (gluing_of layout) x)) (sym many)
+        (uses (gluing_of layout) x laid len);
+    named = length-numbers_to (vertices (gluing_of layout) x) ∙ sym many;
+    increasing = numbers_rise (vertices (gluing_of layout) x);
   }
 
   pub writable : IsReadable new → IsWritableSoup new
   writable is = record {
     soup = is_soup;
     positions = is.near;
-    quads = all_quads (layout_of plan) x laid len;
+    quads = all_quads (gluing_of layout) x laid len;
     few_vertices = is.few_vertices;
     few_faces = is.few_faces;
   }

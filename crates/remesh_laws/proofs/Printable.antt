@@ -15,9 +15,10 @@ use Rattle.def_mesh.specs.Faces.{Faces}
 use Rattle.def_text.specs.{Decimal.is_far, FaceSet.FaceSet, Laws.is_position, Laws.is_quad, Types.Positions}
 use Rattle.def_text.specs.declared.limits.TheConstants.{MAX_MICRO}
 use Rattle.def_certtext.specs.Laws.{IsPrintable}
-use Rattle.def_layout.specs.{Arcs.long_at, Layouts.Layout, Layouts.Way, Layouts.south, Layouts.east, Layouts.north}
-use Rattle.def_layout.specs.{Layouts.west, Lengths.Lengths, Lengths.wide, Lengths.high, Lengths.AreLengths, Plans.Plan}
-use Rattle.def_layout.specs.{Plans.layout_of, FaceLayouts.IsCutLayout}
+use Rattle.def_layout.specs.{Arcs.long_at, Gluings.Gluing, Gluings.Way, Gluings.south, Gluings.east, Gluings.north}
+use Rattle.def_layout.specs.{Gluings.west, Lengths.Lengths, Lengths.wide, Lengths.high, Lengths.AreLengths}
+use Rattle.def_layout.specs.{Layouts.Layout}
+use Rattle.def_layout.specs.{Layouts.gluing_of, FaceLayouts.IsCutLayout}
 use Rattle.def_written.specs.NewFaces.{face_count, dart_start, new_face, dart_of}
 use Rattle.def_written.specs.{NewFaces.cell_vertex, Numbers.before_arc, Numbers.before_patch, Numbers.vertices}
 use Rattle.def_written.specs.{Points.IsPoint, Laws.AreQuads}
@@ -27,7 +28,7 @@ use Rattle.def_remesh.specs.{TextLaws.IsSolid, declared.limits.TheConstants.MAX_
 use Rattle.def_remesh.specs.{NewPoints.inside_patches, NewPoints.old_vertex, NewPoints.point_at, NewSoup.coordinate}
 use Rattle.def_remesh.specs.{NewSoup.new_coordinate, NewSoup.spaced_place, NewSoup.spaced_soup, Spaced.spacing_by}
 use Rattle.map_laws.proofs.Spaced.{spacing_is}
-use Rattle.plan_laws.proofs.{Bounds.vertices_few, MeshLayouts.laid_of, MeshLayouts.lengths_of}
+use Rattle.embedding_laws.proofs.{Bounds.vertices_few, MeshLayouts.laid_of, MeshLayouts.lengths_of}
 use Rattle.site_laws.proofs.Laws.{graph_law}
 
 -- What holds at each number of a range passes.
@@ -37,7 +38,7 @@ passes_range p n each = list_all-from_AllPass p (range_with_len 0 n)
     ap p (get_or-range_with_len 0 n k x low ∙ omega arith) ∙ each k low)
 
 -- The point with a number is a point.
-pub point_is : (l : Layout) (x : Lengths) (v : ℕ) → v < vertices l x → IsPoint l x (point_at l x v)
+pub point_is : (l : Gluing) (x : Lengths) (v : ℕ) → v < vertices l x → IsPoint l x (point_at l x v)
 point_is l x v low = by_node (cases_lt v l.nodes)
   where
     ends : ℕ
@@ -106,9 +107,9 @@ quads_of (face ∷ faces) all zero low = (Decides-eqb (length face) 4).0 (and_pa
 quads_of (face ∷ faces) all (suc f) low = quads_of faces (and_parts _ _ all).1 f (omega (arith, low))
 
 -- The layout of a full cut is the layout of a mesh.
-pub cut_layout : (soup : FaceSet) (marks : List Bool) (plan : Plan) → IsSolid soup → IsFullCut soup.faces marks
-    → IsCutLayout soup.faces marks plan → IsSomeLayout plan
-cut_layout soup marks plan solid full cut = record {
+pub cut_layout : (soup : FaceSet) (marks : List Bool) (layout : Layout) → IsSolid soup → IsFullCut soup.faces marks
+    → IsCutLayout soup.faces marks layout → IsSomeLayout layout
+cut_layout soup marks layout solid full cut = record {
   faces = soup.faces;
   mesh = solid.mesh;
   quads = quads_of soup.faces solid.printable.quads;
@@ -118,48 +119,50 @@ cut_layout soup marks plan solid full cut = record {
 }
 
 -- So is the one that a traced graph cuts.
-pub mesh_layout : (soup : FaceSet) (plan : Plan) → IsSolid soup → IsCutLayout soup.faces (traced_marks soup.faces) plan
-    → IsSomeLayout plan
-mesh_layout soup plan solid cut =
-    cut_layout soup (traced_marks soup.faces) plan solid (graph_law soup.faces solid.mesh.manifold).1 cut
+pub mesh_layout : (soup : FaceSet) (layout : Layout) → IsSolid soup
+    → IsCutLayout soup.faces (traced_marks soup.faces) layout
+    → IsSomeLayout layout
+mesh_layout soup layout solid cut =
+    cut_layout soup (traced_marks soup.faces) layout solid (graph_law soup.faces solid.mesh.manifold).1 cut
 
-module _ (soup : FaceSet) (solid : IsSolid soup) (plan : Plan) (is : IsSomeLayout plan) (shares : Option (List ℕ))
-    (x : Lengths) (len : AreLengths (layout_of plan) x)
-    (few : face_count (layout_of plan) x ≤ MAX_NEW_FACES) where
-  place_fine : (v : ℕ) → v < vertices (layout_of plan) x
-      → is_position (spaced_place soup.faces plan soup.pos shares x v) ≡ true
+module _ (soup : FaceSet) (solid : IsSolid soup) (layout : Layout) (is : IsSomeLayout layout) (shares : Option (List ℕ))
+    (x : Lengths) (len : AreLengths (gluing_of layout) x)
+    (few : face_count (gluing_of layout) x ≤ MAX_NEW_FACES) where
+  place_fine : (v : ℕ) → v < vertices (gluing_of layout) x
+      → is_position (spaced_place soup.faces layout soup.pos shares x v) ≡ true
   place_fine v low = and_from _ _ (fine 0) (and_from _ _ (fine 1) (and_from _ _ (fine 2) refl))
     where
-      fine : (axis : ℕ) → not (is_far (new_coordinate soup.faces plan soup.pos shares x
-          (point_at (layout_of plan) x v) axis)) ≡ true
+      fine : (axis : ℕ) → not (is_far (new_coordinate soup.faces layout soup.pos shares x
+          (point_at (gluing_of layout) x v) axis)) ≡ true
       fine axis =
-          let both = between_law (layout_of plan) (long_at plan.arcs) x (spacing_by plan shares x)
-          (coordinate soup.faces plan soup.pos axis) (neg_ℤ (pos MAX_MICRO)) (pos MAX_MICRO)
-          (laid_of plan is) (lengths_of plan is) len (spacing_is plan is x len few shares)
-          (λ a at. coordinate_within soup.pos (old_vertex soup.faces plan a) axis solid.printable.positions)
-          (point_at (layout_of plan) x v) (point_is (layout_of plan) x v low) in
+          let both = between_law (gluing_of layout) (long_at layout.arcs) x (spacing_by layout shares x)
+          (coordinate soup.faces layout soup.pos axis) (neg_ℤ (pos MAX_MICRO)) (pos MAX_MICRO)
+          (laid_of layout is) (lengths_of layout is) len (spacing_is layout is x len few shares)
+          (λ a at. coordinate_within soup.pos (old_vertex soup.faces layout a) axis solid.printable.positions)
+          (point_at (gluing_of layout) x v) (point_is (gluing_of layout) x v low) in
           near _ both.0 both.1
 
-  corner_fine : (f : ℕ) (w : Way) → f < face_count (layout_of plan) x
-      → nat_lt (cell_vertex (layout_of plan) x f w) (2 ^ 32) ≡ true
+  corner_fine : (f : ℕ) (w : Way) → f < face_count (gluing_of layout) x
+      → nat_lt (cell_vertex (gluing_of layout) x f w) (2 ^ 32) ≡ true
   corner_fine f w low =
-      let at : cell_vertex (layout_of plan) x f w < vertices (layout_of plan) x =
-      number_low (layout_of plan) x (dart_start (layout_of plan) x (dart_of (layout_of plan) x f w))
-      (from_is (layout_of plan) x (laid_of plan is) len (dart_of (layout_of plan) x f w)
-      (cell_is (layout_of plan) x (laid_of plan is) len f w low)) in
-      lt-ltb _ _ (omega (arith, at, few, vertices_few (layout_of plan) x (laid_of plan is) len))
+      let at : cell_vertex (gluing_of layout) x f w < vertices (gluing_of layout) x =
+      number_low (gluing_of layout) x (dart_start (gluing_of layout) x (dart_of (gluing_of layout) x f w))
+      (from_is (gluing_of layout) x (laid_of layout is) len (dart_of (gluing_of layout) x f w)
+      (cell_is (gluing_of layout) x (laid_of layout is) len f w low)) in
+      lt-ltb _ _ (omega (arith, at, few, vertices_few (gluing_of layout) x (laid_of layout is) len))
 
-  face_fine : (f : ℕ) → f < face_count (layout_of plan) x
-      → list_all (λ v. nat_lt v (2 ^ 32)) (new_face (layout_of plan) x f) ≡ true
+  face_fine : (f : ℕ) → f < face_count (gluing_of layout) x
+      → list_all (λ v. nat_lt v (2 ^ 32)) (new_face (gluing_of layout) x f) ≡ true
   face_fine f low = and_from _ _ (corner_fine f south low) (and_from _ _ (corner_fine f east low)
       (and_from _ _ (corner_fine f north low) (and_from _ _ (corner_fine f west low) refl)))
 
-  pub printable : IsPrintable (spaced_soup soup plan shares x)
+  pub printable : IsPrintable (spaced_soup soup layout shares x)
   printable = record {
-    positions = list_all-map is_position (spaced_place soup.faces plan soup.pos shares x)
-        (range_with_len 0 (vertices (layout_of plan) x)) ∙ passes_range _ (vertices (layout_of plan) x) place_fine;
-    quads = list_all-map is_quad (new_face (layout_of plan) x) (range_with_len 0 (face_count (layout_of plan) x))
-        ∙ passes_range _ (face_count (layout_of plan) x) (λ f low. refl);
-    corners = list_all-map (λ face. list_all (λ v. nat_lt v (2 ^ 32)) face) (new_face (layout_of plan) x)
-        (range_with_len 0 (face_count (layout_of plan) x)) ∙ passes_range _ (face_count (layout_of plan) x) face_fine;
+    positions = list_all-map is_position (spaced_place soup.faces layout soup.pos shares x)
+        (range_with_len 0 (vertices (gluing_of layout) x)) ∙ passes_range _ (vertices (gluing_of layout) x) place_fine;
+    quads = list_all-map is_quad (new_face (gluing_of layout) x) (range_with_len 0 (face_count (gluing_of layout) x))
+        ∙ passes_range _ (face_count (gluing_of layout) x) (λ f low. refl);
+    corners = list_all-map (λ face. list_all (λ v. nat_lt v (2 ^ 32)) face) (new_face (gluing_of layout) x)
+        (range_with_len 0 (face_count (gluing_of layout) x))
+        ∙ passes_range _ (face_count (gluing_of layout) x) face_fine;
   }

@@ -7,8 +7,8 @@ use Rattle.def_certtext.specs.{CertLines.text_of, CertLines.used, CertLines.Cert
 use Rattle.def_certtext.specs.{Reading.may_stand, Risings.third_if, declared.certs.Rising.Rising}
 use Rattle.def_flow.specs.declared.net.Settings.{Settings}
 use Rattle.def_io.specs.{Bytes.Bytes, Bytes.Lines, Lines.lines_of}
-use Rattle.def_layout.specs.{Arcs.long_at, Surfaces.IsSurface, Lengths.AreLengths, Lengths.Lengths, Plans.Plan}
-use Rattle.def_layout.specs.Plans.{layout_of, vertex_at}
+use Rattle.def_layout.specs.{Arcs.long_at, Surfaces.IsSurface, Lengths.AreLengths, Lengths.Lengths, Layouts.Layout}
+use Rattle.def_layout.specs.Layouts.{gluing_of, vertex_at}
 use Rattle.def_layoutnet.specs.MeshLayouts.{IsSomeLayout}
 use Rattle.def_text.specs.{Canonical.canonical_text, FaceSet.FaceSet, Laws.IsWritableSoup, Text.numbers_to}
 use Rattle.def_text.specs.Text.{soup_in, text_soup}
@@ -23,7 +23,7 @@ use Rattle.remesh_laws.proofs.{Asides.head_aside, Asides.none_aside, Asides.refi
 use Rattle.remesh_laws.proofs.{Joined.lines_append, NewSoups.new_names, NewSoups.writable, PassedOver.passed_over}
 use Rattle.remesh_laws.proofs.{Printable.mesh_layout, Printable.printable, Writable.kept_writable}
 use Rattle.remesh_laws.specs.Asides.{IsAside, IsPassedOver}
-use Rattle.plan_laws.proofs.MeshLayouts.{laid_of, lies}
+use Rattle.embedding_laws.proofs.MeshLayouts.{laid_of, lies}
 use Rattle.written_laws.proofs.Shape.{multiple_law}
 
 -- The canonical text of a soup whose vertices are numbered from 1 in order, between lines that are passed over.
@@ -41,42 +41,43 @@ framed front behind soup is names before after = ap (text_soup 1) lines ∙ pass
         ∙ ap (λ (ls : Lines). lines_of front ++ ls) (lines_append (canonical_text soup) behind (canonical_ends soup))
 
 -- The lines of certificates that can be written may stand.
-pub kept_allowed : (wish : Wish) (plan : Plan) (settings : Settings) (rising : Rising) (certificates : Certificates)
-    → IsSomeLayout plan
-    → AreKeptBy (HasLeastLengths wish plan settings) plan (given_floors settings) rising certificates
+pub kept_allowed : (wish : Wish) (layout : Layout) (settings : Settings) (rising : Rising) (certificates : Certificates)
+    → IsSomeLayout layout
+    → AreKeptBy (HasLeastLengths wish layout settings) layout (given_floors settings) rising certificates
     → list_all (may_stand rising) (certificate_lines rising certificates) ≡ true
-kept_allowed wish plan settings rising certificates mesh kept = chosen_allowed rising certificates
-    (kept_writable wish plan settings rising certificates (given_floors settings) mesh kept)
+kept_allowed wish layout settings rising certificates mesh kept = chosen_allowed rising certificates
+    (kept_writable wish layout settings rising certificates (given_floors settings) mesh kept)
 
-module _ (soup : FaceSet) (plan : Plan) (x : Lengths) (laid : IsSurface (layout_of plan))
-    (len : AreLengths (layout_of plan) x) where
+module _ (soup : FaceSet) (layout : Layout) (x : Lengths) (laid : IsSurface (gluing_of layout))
+    (len : AreLengths (gluing_of layout) x) where
   -- The new mesh behind lines that are passed over, as that of a refined mesh.
-  pub mesh_read : (front : Bytes) → IsAside front → IsReadAgain (front ++ canonical_text (new_soup soup plan x))
-      (new_soup soup plan x)
+  pub mesh_read : (front : Bytes) → IsAside front → IsReadAgain (front ++ canonical_text (new_soup soup layout x))
+      (new_soup soup layout x)
   mesh_read front before is =
-      ap (λ (t : Bytes). soup_in (front ++ t)) (sym (append-nil (canonical_text (new_soup soup plan x))))
-      ∙ framed front [] (new_soup soup plan x) (writable soup plan None x laid len is)
-      (new_names soup plan None x laid len)
+      ap (λ (t : Bytes). soup_in (front ++ t)) (sym (append-nil (canonical_text (new_soup soup layout x))))
+      ∙ framed front [] (new_soup soup layout x) (writable soup layout None x laid len is)
+      (new_names soup layout None x laid len)
       before (λ k l. absurd (omega (arith, l)))
 
 -- The text of a refined mesh.
-pub refined_read : (by : ℕ) (soup : FaceSet) (plan : Plan) → IsSomeLayout plan → 0 < by → by < 2 ^ 64
-    → IsReadAgain (refined_text by soup plan) (new_soup soup plan (multiple_of by (long_at plan.arcs)))
-refined_read by soup plan is some low = mesh_read soup plan (multiple_of by (long_at plan.arcs)) (laid_of plan is)
-    (multiple_law is.faces (layout_of plan) (long_at plan.arcs) (vertex_at plan) (lies plan is) by some).0
+pub refined_read : (by : ℕ) (soup : FaceSet) (layout : Layout) → IsSomeLayout layout → 0 < by → by < 2 ^ 64
+    → IsReadAgain (refined_text by soup layout) (new_soup soup layout (multiple_of by (long_at layout.arcs)))
+refined_read by soup layout is some low =
+    mesh_read soup layout (multiple_of by (long_at layout.arcs)) (laid_of layout is)
+    (multiple_law is.faces (gluing_of layout) (long_at layout.arcs) (vertex_at layout) (lies layout is) by some).0
     (refine_head by) (refine_aside by low)
 
 -- The text of a task.
-pub task_read : (task : Task) (soup : FaceSet) (plan : Plan) (certificates : Certificates) → IsSomeLayout plan
-    → AreLengths (layout_of plan) (lengths_in (used certificates).x)
-    → AreKeptBy (HasLeastLengths task.wish plan task.settings) plan (given_floors task.settings) task.rising
-    certificates → IsAside (task.head ++ 10 ∷ []) → IsAside (task.between plan (lengths_in (used certificates).x))
-    → IsReadAgain (finished_text task soup plan certificates)
-    (spaced_soup soup plan task.shares (lengths_in (used certificates).x))
-task_read task soup plan certificates mesh len kept head between is = ap soup_in
-    (sym (append_assoc task.head (10 ∷ []) _)) ∙ framed (task.head ++ 10 ∷ []) (task.between plan new ++ certs)
-    (spaced_soup soup plan task.shares new) (writable soup plan task.shares new (laid_of plan mesh) len is)
-    (new_names soup plan task.shares new (laid_of plan mesh) len) head behind
+pub task_read : (task : Task) (soup : FaceSet) (layout : Layout) (certificates : Certificates) → IsSomeLayout layout
+    → AreLengths (gluing_of layout) (lengths_in (used certificates).x)
+    → AreKeptBy (HasLeastLengths task.wish layout task.settings) layout (given_floors task.settings) task.rising
+    certificates → IsAside (task.head ++ 10 ∷ []) → IsAside (task.between layout (lengths_in (used certificates).x))
+    → IsReadAgain (finished_text task soup layout certificates)
+    (spaced_soup soup layout task.shares (lengths_in (used certificates).x))
+task_read task soup layout certificates mesh len kept head between is = ap soup_in
+    (sym (append_assoc task.head (10 ∷ []) _)) ∙ framed (task.head ++ 10 ∷ []) (task.between layout new ++ certs)
+    (spaced_soup soup layout task.shares new) (writable soup layout task.shares new (laid_of layout mesh) len is)
+    (new_names soup layout task.shares new (laid_of layout mesh) len) head behind
   where
     new : Lengths
     new = lengths_in (used certificates).x
@@ -84,26 +85,27 @@ task_read task soup plan certificates mesh len kept head between is = ap soup_in
     certs : Bytes
     certs = text_of (certificate_lines task.rising certificates)
 
-    behind : (k : ℕ) → k < length (lines_of (task.between plan new ++ certs))
-        → IsPassedOver (get_or (lines_of (task.between plan new ++ certs)) k [])
+    behind : (k : ℕ) → k < length (lines_of (task.between layout new ++ certs))
+        → IsPassedOver (get_or (lines_of (task.between layout new ++ certs)) k [])
     behind = subst (λ (ls : Lines). (k : ℕ) → k < length ls → IsPassedOver (get_or ls k []))
-        (sym (lines_append (task.between plan new) certs between.ended))
-        (each_both IsPassedOver (lines_of (task.between plan new)) (lines_of certs) [] between.each
+        (sym (lines_append (task.between layout new) certs between.ended))
+        (each_both IsPassedOver (lines_of (task.between layout new)) (lines_of certs) [] between.each
         (cert_lines_passed task.rising (certificate_lines task.rising certificates)
-        (kept_allowed task.wish plan task.settings task.rising certificates mesh kept)))
+        (kept_allowed task.wish layout task.settings task.rising certificates mesh kept)))
 
 pub read_again_law : ReadAgainLaw
 read_again_law settings auto soup text range solid is few_vertices few_faces = ap soup_in is.written ∙ task_read
-    (remesh_task settings auto soup.faces) soup is.plan is.certificates mesh lengths is.lengths
+    (remesh_task settings auto soup.faces) soup is.layout is.certificates mesh lengths is.lengths
     (head_aside settings auto range)
     none_aside (record {
-      near = (printable soup solid is.plan mesh None (lengths_in (used is.certificates).x) lengths is.coarse).positions;
+      near = (printable soup solid is.layout mesh None (lengths_in (used is.certificates).x) lengths
+          is.coarse).positions;
       few_vertices = few_vertices;
       few_faces = few_faces;
     })
   where
-    mesh : IsSomeLayout is.plan
-    mesh = mesh_layout soup is.plan solid is.cut
+    mesh : IsSomeLayout is.layout
+    mesh = mesh_layout soup is.layout solid is.cut
 
-    lengths : AreLengths (layout_of is.plan) (lengths_in (used is.certificates).x)
-    lengths = used_lengths _ is.plan settings (third_if auto) is.certificates range.floor.low is.lengths
+    lengths : AreLengths (gluing_of is.layout) (lengths_in (used is.certificates).x)
+    lengths = used_lengths _ is.layout settings (third_if auto) is.certificates range.floor.low is.lengths

@@ -7,11 +7,11 @@ use Rattle.def_certtext.specs.{declared.certs.Rise.Rise, declared.certs.Rising.R
 use Rattle.def_certtext.specs.{declared.certs.Rising.TheVariants.Rounds, declared.certs.Round.Round}
 use Rattle.def_flow.specs.{Network.arc_at, Network.Network, declared.limits.TheConstants.MAX_FLOOR}
 use Rattle.def_flow.specs.declared.net.Settings.{Settings}
-use Rattle.def_layout.specs.{Lengths.Lengths, Plans.Plan, Plans.layout_of}
+use Rattle.def_layout.specs.{Lengths.Lengths, Layouts.Layout, Layouts.gluing_of}
 use Rattle.def_layoutnet.specs.Floors.{at_floor, floor_of, HasFloors}
 use Rattle.def_remesh.specs.{Keeping.IsNetWith, NewPoints.lengths_in, Remeshed.AreKeptBy, Remeshed.IsDoublingBy}
 use Rattle.def_remesh.specs.{Rises.rise_at, Rises.risen_floors, Rises.AreNeeded, Tasks.old_lengths, Tasks.Wish}
-use Rattle.plan_laws.proofs.MeshLayouts.{laid_of}
+use Rattle.embedding_laws.proofs.MeshLayouts.{laid_of}
 use Rattle.qm_layoutnet.proofs.Floors.{floor_high, floored, floors_tangle, floors_within}
 use Rattle.qm_layoutnet.proofs.Risen.{risen_low}
 use Rattle.remesh_laws.specs.Keeps.{floors_behind, AreLed}
@@ -19,39 +19,39 @@ use Rattle.remesh_laws.specs.Keeps.{floors_behind, AreLed}
 -- ---- What is known of certificates.
 
 -- What follows for each certificate with its floors follows for all that are kept.
-pub doubling_by : {f g : Lengths → Lists → Type 0} {plan : Plan} (floors : Lengths) (cert : Lists)
-    → (f floors cert → g floors cert) → IsDoublingBy f plan floors cert → IsDoublingBy g plan floors cert
+pub doubling_by : {f g : Lengths → Lists → Type 0} {layout : Layout} (floors : Lengths) (cert : Lists)
+    → (f floors cert → g floors cert) → IsDoublingBy f layout floors cert → IsDoublingBy g layout floors cert
 doubling_by floors cert more is = record { fit = more is.fit; coarse = is.coarse; doubled = is.doubled }
 
-pub kept_by : {f g : Lengths → Lists → Type 0} (plan : Plan) (floors : Lengths) (rising : Rising)
+pub kept_by : {f g : Lengths → Lists → Type 0} (layout : Layout) (floors : Lengths) (rising : Rising)
     (certificates : Certificates) → ((floors : Lengths) (cert : Lists) → f floors cert → g floors cert)
-    → AreKeptBy f plan floors rising certificates → AreKeptBy g plan floors rising certificates
-kept_by plan floors rising (alone cert) more kept = more floors cert kept
-kept_by plan floors rising (raised first cert) more kept =
+    → AreKeptBy f layout floors rising certificates → AreKeptBy g layout floors rising certificates
+kept_by layout floors rising (alone cert) more kept = more floors cert kept
+kept_by layout floors rising (raised first cert) more kept =
     (kept.0, doubling_by floors first (more floors first) kept.1, more (λ arc. MAX_FLOOR) cert kept.2)
-kept_by plan floors rising (risen first rises after) more kept = (
+kept_by layout floors rising (risen first rises after) more kept = (
   kept.0,
   doubling_by floors first (more floors first) kept.1,
   kept.2,
-  kept_by plan (risen_floors rises floors) rising after more kept.3,
+  kept_by layout (risen_floors rises floors) rising after more kept.3,
 )
 
 -- ---- Rounds.
 
-module _ (fits : Lengths → Lists → Type 0) (plan : Plan) where
+module _ (fits : Lengths → Lists → Type 0) (layout : Layout) where
   -- What is kept behind rounds is kept with them.
-  pub led_kept : (rounds : List Round) (floors : Lengths) (after : Certificates) → AreLed fits plan rounds floors
-      → AreKeptBy fits plan (floors_behind rounds floors) Rounds after
-      → AreKeptBy fits plan floors Rounds (risen_by rounds after)
+  pub led_kept : (rounds : List Round) (floors : Lengths) (after : Certificates) → AreLed fits layout rounds floors
+      → AreKeptBy fits layout (floors_behind rounds floors) Rounds after
+      → AreKeptBy fits layout floors Rounds (risen_by rounds after)
   led_kept [] floors after led kept = kept
   led_kept (round ∷ rounds) floors after led kept =
       (refl, led.0, led.1, led_kept rounds (risen_floors round.rises.items floors) after led.2 kept)
 
   -- One round more.
-  pub led_more : (rounds : List Round) (round : Round) (floors : Lengths) → AreLed fits plan rounds floors
-      → IsDoublingBy fits plan (floors_behind rounds floors) (lists_of round.cert)
-      → AreNeeded (layout_of plan) (lengths_in round.cert.x.items) round.rises.items
-      → AreLed fits plan (rounds ++ round ∷ []) floors
+  pub led_more : (rounds : List Round) (round : Round) (floors : Lengths) → AreLed fits layout rounds floors
+      → IsDoublingBy fits layout (floors_behind rounds floors) (lists_of round.cert)
+      → AreNeeded (gluing_of layout) (lengths_in round.cert.x.items) round.rises.items
+      → AreLed fits layout (rounds ++ round ∷ []) floors
   led_more [] round floors led doubling needed = (doubling, needed, tt)
   led_more (first ∷ rounds) round floors led doubling needed = (
     led.0,
@@ -91,36 +91,37 @@ risen_some (rise ∷ rises) floors arc rose some = by_test (arc == rise.arc) (ro
     by_test false first rest = rest
 
 -- So needed ones leave none at 0.
-pub needed_some : (plan : Plan) (xs : List ℕ) (rises : List Rise) (floors : Lengths)
-    → AreNeeded (layout_of plan) (lengths_in xs) rises → ((arc : ℕ) → 1 ≤ floors arc)
+pub needed_some : (layout : Layout) (xs : List ℕ) (rises : List Rise) (floors : Lengths)
+    → AreNeeded (gluing_of layout) (lengths_in xs) rises → ((arc : ℕ) → 1 ≤ floors arc)
     → (arc : ℕ) → 1 ≤ risen_floors rises floors arc
-needed_some plan xs rises floors needed some arc =
+needed_some layout xs rises floors needed some arc =
     risen_some rises floors arc (λ k low. omega (arith, (needed.each k low).short)) (some arc)
 
 -- ---- Networks.
 
 -- The network with other floors.
-pub raised_net : {wish : Wish} {floors : Lengths} (plan : Plan) (settings : Settings) (higher : Lengths)
+pub raised_net : {wish : Wish} {floors : Lengths} (layout : Layout) (settings : Settings) (higher : Lengths)
     (net other : Network) → ((arc : ℕ) → 1 ≤ higher arc)
     → ((arc : ℕ) → arc < length net.arcs → higher arc ≤ MAX_FLOOR)
-    → IsNetWith wish plan settings floors net → HasFloors net higher other
-    → IsNetWith wish plan settings higher other
-raised_net {wish} {floors} plan settings higher net other some high for has = record {
+    → IsNetWith wish layout settings floors net → HasFloors net higher other
+    → IsNetWith wish layout settings higher other
+raised_net {wish} {floors} layout settings higher net other some high for has = record {
   mesh = for.mesh;
   floor = some;
-  is = floored (layout_of plan) (old_lengths plan) (wish plan) settings floors higher net other
-      (laid_of plan for.mesh) for.is has;
+  is = floored (gluing_of layout) (old_lengths layout) (wish layout) settings floors higher net other
+      (laid_of layout for.mesh) for.is has;
   bounds = floors_within net higher other has for.bounds (λ k low. (some k, high k low));
   untangled = omega (arith, for.untangled, floors_tangle net higher other has);
 }
 
 -- The network with floors that rose by need.
-pub net_risen : {wish : Wish} {floors : Lengths} (plan : Plan) (settings : Settings) (xs : List ℕ) (rises : List Rise)
-    (net next : Network) → IsNetWith wish plan settings floors net
-    → AreNeeded (layout_of plan) (lengths_in xs) rises → HasFloors net (risen_floors rises (floor_of net.arcs)) next
-    → IsNetWith wish plan settings (risen_floors rises floors) next
-net_risen {wish} {floors} plan settings xs rises net next for needed has = raised_net plan settings
-    (risen_floors rises floors) net next (needed_some plan xs rises floors needed for.floor) high
+pub net_risen : {wish : Wish} {floors : Lengths} (layout : Layout) (settings : Settings) (xs : List ℕ)
+    (rises : List Rise)
+    (net next : Network) → IsNetWith wish layout settings floors net
+    → AreNeeded (gluing_of layout) (lengths_in xs) rises → HasFloors net (risen_floors rises (floor_of net.arcs)) next
+    → IsNetWith wish layout settings (risen_floors rises floors) next
+net_risen {wish} {floors} layout settings xs rises net next for needed has = raised_net layout settings
+    (risen_floors rises floors) net next (needed_some layout xs rises floors needed for.floor) high
     for (record {
       nodes = has.nodes;
       p = has.p;
@@ -136,5 +137,5 @@ net_risen {wish} {floors} plan settings xs rises net next for needed has = raise
     same k low = risen_same rises (floor_of net.arcs) floors k (floor_is k low)
 
     high : (k : ℕ) → k < length net.arcs → risen_floors rises floors k ≤ MAX_FLOOR
-    high k low = (risen_low (layout_of plan) (lengths_in xs) rises needed floors k
+    high k low = (risen_low (gluing_of layout) (lengths_in xs) rises needed floors k
         (for.floor k, omega (arith, floor_high net for.bounds k low, floor_is k low))).1

@@ -12,12 +12,12 @@ use Rattle.def_certtext.specs.declared.CertLine.TheVariants as lines
 use Rattle.def_flow.specs.{Admissible.entries, Descent.IsSolution, Network.Network, Network.tangle_number}
 use Rattle.def_flow.specs.{Network.IsWithinBounds, declared.limits.TheConstants.MAX_LENGTH}
 use Rattle.def_flow.specs.{declared.limits.TheConstants.MAX_TANGLE, declared.net.Settings.Settings}
-use Rattle.def_layout.specs.{Lengths.Lengths, Plans.Plan, Plans.layout_of}
+use Rattle.def_layout.specs.{Lengths.Lengths, Layouts.Layout, Layouts.gluing_of}
 use Rattle.def_layoutnet.specs.{LayoutNet.IsNetOf, MeshLayouts.IsSomeLayout}
 use Rattle.def_matching.specs.Dual.{is_up, AreSmall}
 use Rattle.def_remesh.specs.{Certified.certificate_of, Certified.IsCertified, Tasks.old_lengths, Tasks.Wish}
 use Rattle.qm_layoutnet.proofs.Balance.{balance_law}
-use Rattle.plan_laws.proofs.MeshLayouts.{laid_of}
+use Rattle.embedding_laws.proofs.MeshLayouts.{laid_of}
 use Rattle.gadget_laws.proofs.Sound.{sound}
 
 -- What passes in a list passes in each front and in each tail of it.
@@ -65,19 +65,19 @@ all_low [] low = refl
 all_low (x ∷ xs) low = and_from _ _ (lt-ltb _ _ (low 0 (omega arith)))
     (all_low xs (λ k l. low (suc k) (omega (arith, l))))
 
-pub certified : (wish : Wish) (plan : Plan) (settings : Settings) (floors : Lengths) (net : Network) (cert : Lists)
-    → IsSomeLayout plan
-    → IsNetOf (layout_of plan) (old_lengths plan) (wish plan) settings floors net → IsWithinBounds net
+pub certified : (wish : Wish) (layout : Layout) (settings : Settings) (floors : Lengths) (net : Network) (cert : Lists)
+    → IsSomeLayout layout
+    → IsNetOf (gluing_of layout) (old_lengths layout) (wish layout) settings floors net → IsWithinBounds net
     → tangle_number net ≤ MAX_TANGLE
-    → IsSolution net (certificate_of cert) → IsCertified wish plan settings floors cert
-certified wish plan settings floors net cert is of_layout bounds untangled solved = record {
+    → IsSolution net (certificate_of cert) → IsCertified wish layout settings floors cert
+certified wish layout settings floors net cert is of_layout bounds untangled solved = record {
   lengths = record {
     net = net;
     of_layout = of_layout;
     untangled = untangled;
     count = solved.accepted.count;
-    opposite = (balance_law (layout_of plan) (old_lengths plan) (wish plan) settings floors net
-        (laid_of plan is) of_layout (entries cert.x)).0 solved.accepted.admissible.balanced;
+    opposite = (balance_law (gluing_of layout) (old_lengths layout) (wish layout) settings floors net
+        (laid_of layout is) of_layout (entries cert.x)).0 solved.accepted.admissible.balanced;
     least = sound net (certificate_of cert) bounds solved.accepted;
     writable = record { ups = ups; allowed = allowed };
   };

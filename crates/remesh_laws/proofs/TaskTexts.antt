@@ -6,7 +6,7 @@ use Rattle.std.specs.List.{list_all}
 use Rattle.def_certtext.specs.{CertLines.text_of, CertLines.used, CertLines.Certificates, Laws.certificate_lines}
 use Rattle.def_certtext.specs.{Laws.IsPrintable, Reading.is_hash_line, Reading.TellCerts, declared.certs.Rising.Rising}
 use Rattle.def_io.specs.{Bytes.Bytes, Bytes.Lines, Lines.lines_of}
-use Rattle.def_layout.specs.Plans.{Plan}
+use Rattle.def_layout.specs.Layouts.{Layout}
 use Rattle.def_layoutnet.specs.MeshLayouts.{IsSomeLayout}
 use Rattle.def_remesh.specs.{NewPoints.lengths_in, NewSoup.spaced_soup, ReadAgain.ends_line, Remeshed.finished_text}
 use Rattle.def_remesh.specs.Remeshed.{text_behind_head, AreCoarse, AreKeptBy}
@@ -60,39 +60,39 @@ tells_same rising behind others certificates marked tells = record {
   are = tells.are;
 }
 
-module _ (task : Task) (soup : FaceSet) (plan : Plan) (certificates : Certificates)
+module _ (task : Task) (soup : FaceSet) (layout : Layout) (certificates : Certificates)
     (some : 1 ≤ task.settings.floor)
-    (solid : IsSolid soup) (mesh : IsSomeLayout plan) (kept : AreKeptBy (HasLeastLengths task.wish plan
-    task.settings) plan (given_floors task.settings) task.rising certificates)
-    (coarse : AreCoarse plan (used certificates).x) (inside : list_all is_inside task.head ≡ true)
-    (silent : IsSilent (task.between plan (lengths_in (used certificates).x))) where
+    (solid : IsSolid soup) (mesh : IsSomeLayout layout) (kept : AreKeptBy (HasLeastLengths task.wish layout
+    task.settings) layout (given_floors task.settings) task.rising certificates)
+    (coarse : AreCoarse layout (used certificates).x) (inside : list_all is_inside task.head ≡ true)
+    (silent : IsSilent (task.between layout (lengths_in (used certificates).x))) where
   -- The new mesh, and its text with that of the certificates.
   abbrev new : FaceSet
-  new = spaced_soup soup plan task.shares (lengths_in (used certificates).x)
+  new = spaced_soup soup layout task.shares (lengths_in (used certificates).x)
 
   abbrev certs : Bytes
   certs = text_of (certificate_lines task.rising certificates)
 
   fine : IsPrintable new
-  fine = printable soup solid plan mesh task.shares (lengths_in (used certificates).x)
-      (used_lengths task.wish plan task.settings task.rising certificates some kept) coarse
+  fine = printable soup solid layout mesh task.shares (lengths_in (used certificates).x)
+      (used_lengths task.wish layout task.settings task.rising certificates some kept) coarse
 
-  marked : filter is_hash_line (drop 1 (lines_of (finished_text task soup plan certificates)))
+  marked : filter is_hash_line (drop 1 (lines_of (finished_text task soup layout certificates)))
       ≡ filter is_hash_line (lines_of (canonical_text new ++ certs))
   marked =
       ap (λ (ls : Lines). filter is_hash_line (drop 1 ls))
-      (first_line task.head (text_behind_head (task.between plan (lengths_in (used certificates).x)) task.rising soup
-      plan task.shares certificates) inside)
-      ∙ marked_around (canonical_text new) (task.between plan (lengths_in (used certificates).x)) certs
+      (first_line task.head (text_behind_head (task.between layout (lengths_in (used certificates).x)) task.rising soup
+      layout task.shares certificates) inside)
+      ∙ marked_around (canonical_text new) (task.between layout (lengths_in (used certificates).x)) certs
       (canonical_ends new) silent
 
   pub task_told : (other : Certificates)
-      → TellCerts task.rising (drop 1 (lines_of (finished_text task soup plan certificates))) other
+      → TellCerts task.rising (drop 1 (lines_of (finished_text task soup layout certificates))) other
       ↔ (other ≡ certificates)
   task_told other =
       (λ tells. told.0 (tells_same _ _ _ other marked tells), λ same. tells_same _ _ _ other (sym marked) (told.1 same))
     where
       told : TellCerts task.rising (lines_of (canonical_text new ++ certs)) other ↔ (other ≡ certificates)
       told = certs_told task.rising new certificates fine
-          (kept_writable task.wish plan task.settings task.rising certificates (given_floors task.settings) mesh kept)
+          (kept_writable task.wish layout task.settings task.rising certificates (given_floors task.settings) mesh kept)
           other

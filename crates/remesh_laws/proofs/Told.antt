@@ -12,13 +12,13 @@ use Rattle.remesh_laws.proofs.Writable.{kept_writable}
 pub told_law : ToldLaw
 told_law settings auto soup text range solid is =
     subst (λ (t : Bytes). TellsOnly t (made_by settings auto is.certificates)) (sym is.written)
-    (written_law settings auto (spaced_soup soup is.plan None (lengths_in (used is.certificates).x)) is.certificates
+    (written_law settings auto (spaced_soup soup is.layout None (lengths_in (used is.certificates).x)) is.certificates
     range fine
-    (kept_writable _ is.plan settings (third_if auto) is.certificates (given_floors settings) mesh is.lengths))
+    (kept_writable _ is.layout settings (third_if auto) is.certificates (given_floors settings) mesh is.lengths))
   where
-    mesh : IsSomeLayout is.plan
-    mesh = mesh_layout soup is.plan solid is.cut
+    mesh : IsSomeLayout is.layout
+    mesh = mesh_layout soup is.layout solid is.cut
 
-    fine : IsPrintable (spaced_soup soup is.plan None (lengths_in (used is.certificates).x))
-    fine = printable soup solid is.plan mesh None (lengths_in (used is.certificates).x)
-        (used_lengths _ is.plan settings (third_if auto) is.certificates range.floor.low is.lengths) is.coarse
+    fine : IsPrintable (spaced_soup soup is.layout None (lengths_in (used is.certificates).x))
+    fine = printable soup solid is.layout mesh None (lengths_in (used is.certificates).x)
+        (used_lengths _ is.layout settings (third_if auto) is.certificates range.floor.low is.lengths) is.coarse

@@ -6,21 +6,21 @@ use Rattle.def_certtext.specs.CertLines.{alone, raised, risen, Certificates}
 use Rattle.def_certtext.specs.{Laws.AreWritable, Reading.may_tell, declared.certs.Rise.Rise}
 use Rattle.def_certtext.specs.{declared.certs.Rising.Rising, declared.certs.Rising.TheVariants.Rounds}
 use Rattle.def_flow.specs.{declared.limits.TheConstants.MAX_FLOOR, declared.net.Settings.Settings}
-use Rattle.def_layout.specs.{Arcs.long_at, Lengths.Lengths, Plans.Plan}
+use Rattle.def_layout.specs.{Arcs.long_at, Lengths.Lengths, Layouts.Layout}
 use Rattle.def_layoutnet.specs.MeshLayouts.{IsSomeLayout}
 use Rattle.def_remesh.specs.{Remeshed.AreKeptBy, Remeshed.HasLeastLengths, Rises.rise_at, Rises.risen_floors}
 use Rattle.def_remesh.specs.Tasks.{Wish}
-use Rattle.plan_laws.proofs.MeshLayouts.{lengths_of}
+use Rattle.embedding_laws.proofs.MeshLayouts.{lengths_of}
 use Rattle.qm_layoutnet.proofs.Whole.{lengths_few}
 use Rattle.sum_laws.proofs.Counts.{count_below_le, count_below_ones}
 
 -- The arcs of a layout are few.
-pub arcs_few : (plan : Plan) → IsSomeLayout plan → length plan.arcs ≤ 2 ^ 23
-arcs_few plan is = omega (
+pub arcs_few : (layout : Layout) → IsSomeLayout layout → length layout.arcs ≤ 2 ^ 23
+arcs_few layout is = omega (
   arith,
-  count_below_ones (length plan.arcs),
-  count_below_le (λ k. 1) (long_at plan.arcs) (length plan.arcs) (λ k low. (lengths_of plan is).some k low),
-  lengths_few plan is,
+  count_below_ones (length layout.arcs),
+  count_below_le (λ k. 1) (long_at layout.arcs) (length layout.arcs) (λ k low. (lengths_of layout is).some k low),
+  lengths_few layout is,
   is.mesh.few,
 )
 
@@ -34,22 +34,23 @@ all_told (rise ∷ rises) each =
     and_from _ _ (and_from _ _ (lt-ltb _ _ first.0) (le-leb _ _ first.1))
     (all_told rises (λ k low. each (suc k) (omega (arith, low))))
 
-pub kept_writable : (wish : Wish) (plan : Plan) (settings : Settings) (rising : Rising) (certificates : Certificates)
-    (floors : Lengths) → IsSomeLayout plan
-    → AreKeptBy (HasLeastLengths wish plan settings) plan floors rising certificates
+pub kept_writable : (wish : Wish) (layout : Layout) (settings : Settings) (rising : Rising)
+    (certificates : Certificates)
+    (floors : Lengths) → IsSomeLayout layout
+    → AreKeptBy (HasLeastLengths wish layout settings) layout floors rising certificates
     → AreWritable rising certificates
-kept_writable wish plan settings rising (alone cert) floors mesh kept = kept.writable
-kept_writable wish plan settings rising (raised first cert) floors mesh kept =
+kept_writable wish layout settings rising (alone cert) floors mesh kept = kept.writable
+kept_writable wish layout settings rising (raised first cert) floors mesh kept =
     (kept.0, kept.1.fit.writable, kept.2.writable)
-kept_writable wish plan settings rising (risen first rises after) floors mesh kept =
+kept_writable wish layout settings rising (risen first rises after) floors mesh kept =
     let there = (kept.2.each 0 kept.2.some).there in (
       kept.0,
       kept.1.fit.writable,
       omega (arith, kept.1.fit.count, kept.1.fit.of_layout.long, there),
       kept.2.some,
       all_told rises (λ k low. (
-        omega (arith, (kept.2.each k low).there, arcs_few plan mesh),
+        omega (arith, (kept.2.each k low).there, arcs_few layout mesh),
         (kept.2.each k low).low,
       )),
-      kept_writable wish plan settings rising after (risen_floors rises floors) mesh kept.3,
+      kept_writable wish layout settings rising after (risen_floors rises floors) mesh kept.3,
     )

@@ -5,7 +5,7 @@ use Rattle.def_certtext.specs.declared.certs.Round.{Round}
 use Rattle.def_io.specs.Bytes.{Bytes}
 use Rattle.def_io.specs.declared.TheConstants.{LINE_FEED}
 use Rattle.def_layout.specs.Lengths.{Lengths}
-use Rattle.def_layout.specs.Plans.{Plan, layout_of}
+use Rattle.def_layout.specs.Layouts.{Layout, gluing_of}
 use Rattle.def_text.specs.FaceSet.{FaceSet}
 use Rattle.def_written.specs.Edges.{IsUndoubled}
 use Rattle.def_remesh.specs.NewPoints.{lengths_in}
@@ -22,11 +22,11 @@ use Rattle.remesh_laws.specs.Asides.{IsAside}
 -- The certificates of rounds, where this is known of each with the floors that rose before it: their lengths double an
 -- edge, and floors rise by need.
 abbrev pub AreLed :
-    (fits : Lengths → Lists → Type 0) (plan : Plan) (rounds : List Round) (floors : Lengths) → Type 0
-AreLed fits plan [] floors = ⊤
-AreLed fits plan (round ∷ rounds) floors = IsDoublingBy fits plan floors (lists_of round.cert)
-    × AreNeeded (layout_of plan) (lengths_in round.cert.x.items) round.rises.items
-    × AreLed fits plan rounds (risen_floors round.rises.items floors)
+    (fits : Lengths → Lists → Type 0) (layout : Layout) (rounds : List Round) (floors : Lengths) → Type 0
+AreLed fits layout [] floors = ⊤
+AreLed fits layout (round ∷ rounds) floors = IsDoublingBy fits layout floors (lists_of round.cert)
+    × AreNeeded (gluing_of layout) (lengths_in round.cert.x.items) round.rises.items
+    × AreLed fits layout rounds (risen_floors round.rises.items floors)
 
 -- The floors behind them.
 abbrev pub floors_behind : (rounds : List Round) (floors : Lengths) → Lengths
@@ -34,11 +34,11 @@ floors_behind [] floors = floors
 floors_behind (round ∷ rounds) floors = floors_behind rounds (risen_floors round.rises.items floors)
 
 -- What a numbering at these lengths shows.
-pub record IsNumbered (plan : Plan) (xs : List ℕ) (tables : Tables) : Type 0 where
-  pub numbering : IsNumbering plan tables
+pub record IsNumbered (layout : Layout) (xs : List ℕ) (tables : Tables) : Type 0 where
+  pub numbering : IsNumbering layout tables
   pub lengths : tables.lengths.items ≡ xs
-  pub undoubled : IsUndoubled (layout_of plan) (lengths_in xs)
-  pub shape : KeepsShapes plan (lengths_in xs)
+  pub undoubled : IsUndoubled (gluing_of layout) (lengths_in xs)
+  pub shape : KeepsShapes layout (lengths_in xs)
 
 -- A text that finishes a task of a soup, as accepted certificates show, and is read again as the new mesh where a
 -- reader passes over the lines around it.

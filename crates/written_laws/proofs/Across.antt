@@ -4,7 +4,7 @@ use Rattle.std.proofs.Common.{inl, inr, arith}
 use Rattle.std.proofs.lemmas.Bool.{cond-false, ne_eqb, false≢true}
 use Rattle.std.specs.Prelude.{◌==◌}
 use Rattle.def_mesh.specs.Darts.{from_of, to_of, twin_of, IsTwin}
-use Rattle.def_layout.specs.Layouts.{Way, south, east, north, west, side_after, Layout, Slot, IsSlot, use_of}
+use Rattle.def_layout.specs.Gluings.{Way, south, east, north, west, side_after, Gluing, Slot, IsSlot, use_of}
 use Rattle.def_layout.specs.Surfaces.{IsSurface, IsOtherSlot}
 use Rattle.def_layout.specs.Lengths.{Lengths, wide, high, AreLengths}
 use Rattle.def_layout.specs.Cells.{CellDart, IsDart, dart, next, slot_dart}
@@ -21,7 +21,7 @@ use Rattle.written_laws.proofs.Courses.{course_from, course_to, inner_no_arc}
 use Rattle.written_laws.proofs.Simple.{IsSimple, reversed}
 use Rattle.written_laws.proofs.Manifold.{edges_once}
 
-module _ {l : Layout} {x : Lengths} (laid : IsSurface l) (len : AreLengths l x) where
+module _ {l : Gluing} {x : Lengths} (laid : IsSurface l) (len : AreLengths l x) where
   -- The dart over an arc that stands twice.
   pub across_border : (w v : Slot) (o : ℕ) → IsSlot l w → IsOtherSlot l w v → o < x (use_of l w).arc
       → IsAcross l x laid len (slot_dart l x w o) (slot_dart l x v (x (use_of l w).arc - 1 - o))

@@ -2,9 +2,9 @@
 use Rattle.std.proofs.Common.{◌≡◌, ◌≢◌, ◌⊎◌, ℕ, zero, suc, ◌+◌, ◌-◌, ◌<◌, ◌≤◌, Bool, true, false, not, cond, refl, sym}
 use Rattle.std.proofs.Common.{◌∙◌, ap, subst, inl, inr, arith}
 use Rattle.std.proofs.lemmas.Bool.{cases_eq}
-use Rattle.def_layout.specs.{declared.tmesh.SideArc.SideArc, Layouts.Way, Layouts.side_before, Layouts.Layout}
-use Rattle.def_layout.specs.Layouts.{Slot, IsSlot, AreReverse, use_of, slot_before}
-use Rattle.def_layout.specs.{Layouts.start_node, Surfaces.HasWholeSides, Surfaces.IsSurface, Surfaces.IsOtherSlot}
+use Rattle.def_layout.specs.{declared.tmesh.SideArc.SideArc, Gluings.Way, Gluings.side_before, Gluings.Gluing}
+use Rattle.def_layout.specs.Gluings.{Slot, IsSlot, AreReverse, use_of, slot_before}
+use Rattle.def_layout.specs.{Gluings.start_node, Surfaces.HasWholeSides, Surfaces.IsSurface, Surfaces.IsOtherSlot}
 use Rattle.def_layout.specs.{Lengths.Lengths, Lengths.reach, Lengths.size, Lengths.AreLengths, Cells.CellDart}
 use Rattle.def_layout.specs.Cells.{IsDart, slot_dart}
 use Rattle.def_written.specs.Points.{node, along, inside, IsPoint, arc_point, use_point, use_over, offset_at}
@@ -15,7 +15,7 @@ use Rattle.written_laws.proofs.Grid.{point_inside}
 use Rattle.written_laws.proofs.Rims.{column_of, row_of, side_column, side_row, border_point, rim_is, rim_from, rim_to}
 use Rattle.written_laws.proofs.Rims.{IsInner, IsBorder, dart_on_rim}
 
-module _ (l : Layout) (x : Lengths) where
+module _ (l : Gluing) (x : Lengths) where
   -- The points of an arc that is used the other way round.
   pub use_back : (u v : SideArc) → AreReverse u v → (k : ℕ) → k ≤ x u.arc
       → use_point l x v k ≡ use_point l x u (x u.arc - k)

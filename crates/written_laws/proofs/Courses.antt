@@ -4,7 +4,7 @@ use Rattle.std.proofs.Common.{inr, arith}
 use Rattle.std.proofs.lemmas.Bool.{cases_eq, cond-true, cond-false, eq-eqb, ne_eqb, false≢true}
 use Rattle.std.specs.Prelude.{◌==◌}
 use Rattle.def_layout.specs.declared.tmesh.SideArc.{SideArc}
-use Rattle.def_layout.specs.Layouts.{Way, south, east, north, west, Layout, Slot, IsSlot, use_of}
+use Rattle.def_layout.specs.Gluings.{Way, south, east, north, west, Gluing, Slot, IsSlot, use_of}
 use Rattle.def_layout.specs.Surfaces.{IsSurface}
 use Rattle.def_layout.specs.Lengths.{Lengths, reach, size, wide, high, AreLengths}
 use Rattle.def_layout.specs.Cells.{CellDart, IsDart, dart, dart_along, slot_dart}
@@ -47,7 +47,7 @@ inner_dart_by (steep p i j) false = dart p i j west
 abbrev pub inner_dart : (c : Course) → CellDart
 inner_dart c = inner_dart_by c.edge c.ahead
 
-module _ (l : Layout) (x : Lengths) where
+module _ (l : Gluing) (x : Lengths) where
   -- Where a course begins and ends.
   abbrev pub start_at : (c : Course) → Point
   start_at c = cond c.ahead (edge_start l x c.edge) (edge_end l x c.edge)

@@ -4,8 +4,8 @@ use Rattle.std.proofs.Common.{refl, sym, ◌∙◌, ap, subst, inl, inr, arith}
 use Rattle.std.proofs.Math.Nat.{mul-le-mul_left}
 use Rattle.std.proofs.lemmas.Bool.{cases_eq, cond-true, cond-false, eq-eqb, ne_eqb}
 use Rattle.std.specs.Prelude.{◌==◌}
-use Rattle.def_layout.specs.{declared.tmesh.SideArc.SideArc, Layouts.Way, Layouts.south, Layouts.east, Layouts.north}
-use Rattle.def_layout.specs.{Layouts.west, Layouts.Layout, Layouts.IsSlot, Surfaces.IsSurface, Lengths.Lengths}
+use Rattle.def_layout.specs.{declared.tmesh.SideArc.SideArc, Gluings.Way, Gluings.south, Gluings.east, Gluings.north}
+use Rattle.def_layout.specs.{Gluings.west, Gluings.Gluing, Gluings.IsSlot, Surfaces.IsSurface, Lengths.Lengths}
 use Rattle.def_layout.specs.Lengths.{reach, size, wide, high, AreLengths}
 use Rattle.def_layout.specs.Cells.{CellDart, IsDart, dart}
 use Rattle.def_written.specs.Points.{Point, node, along, inside, arc_point}
@@ -45,7 +45,7 @@ middle (on_arc a k) = along a (2 * k + 1)
 middle (flat p i j) = node 0
 middle (steep p i j) = node 0
 
-module _ (l : Layout) (y : Lengths) where
+module _ (l : Gluing) (y : Lengths) where
   pub reach_scale : (k p : ℕ) (s : Way) (m : ℕ) → reach l (scale k y) p s m ≡ k * reach l y p s m
   reach_scale k p s m = count_below_times k (λ j. y (l.use_at p s j).arc) m
 
@@ -241,7 +241,7 @@ module _ (l : Layout) (y : Lengths) where
     pub simple_twice : IsSimple l (scale 2 y)
     simple_twice = simple_open laid z_len twice_open
 
-module _ {l : Layout} {x : Lengths} (laid : IsSurface l) (len : AreLengths l x) where
+module _ {l : Gluing} {x : Lengths} (laid : IsSurface l) (len : AreLengths l x) where
   -- Lengths of at least 3 double no edge.
   pub simple_three : ((a : ℕ) → a < l.arcs → 3 ≤ x a) → IsSimple l x
   simple_three three = simple_open laid len (record {
@@ -258,7 +258,7 @@ module _ {l : Layout} {x : Lengths} (laid : IsSurface l) (len : AreLengths l x) 
           omega (arith, le, three (l.use_at p s 0).arc (laid.paved.arc_low (slot p s 0) first))
 
 -- Multiples of lengths that double no edge.
-pub simple_multiple : (l : Layout) (y : Lengths) → IsSurface l → AreLengths l y → IsSimple l y → (k : ℕ) → 0 < k
+pub simple_multiple : (l : Gluing) (y : Lengths) → IsSurface l → AreLengths l y → IsSimple l y → (k : ℕ) → 0 < k
     → IsSimple l (scale k y)
 simple_multiple l y laid len simple zero some = absurd (omega arith)
 simple_multiple l y laid len simple (suc zero) some =

@@ -2,8 +2,8 @@
 use Rattle.std.proofs.Common.{◌≡◌, ◌<◌, Bool, true, false, ◌∙◌, ap, subst, arith}
 use Rattle.std.proofs.lemmas.Bool.{cond-false, ne_eqb}
 use Rattle.std.specs.Prelude.{◌==◌}
-use Rattle.def_layout.specs.{declared.tmesh.SideArc.SideArc, Layouts.south, Layouts.west, Layouts.Layout}
-use Rattle.def_layout.specs.{Layouts.use_of, Surfaces.IsSurface, Lengths.Lengths, Lengths.AreLengths}
+use Rattle.def_layout.specs.{declared.tmesh.SideArc.SideArc, Gluings.south, Gluings.west, Gluings.Gluing}
+use Rattle.def_layout.specs.{Gluings.use_of, Surfaces.IsSurface, Lengths.Lengths, Lengths.AreLengths}
 use Rattle.def_layout.specs.Cells.{CellDart, IsDart, dart, next, slot_dart}
 use Rattle.def_written.specs.Points.{IsPoint}
 use Rattle.def_written.specs.Edges.{Edge, on_arc, flat, steep, IsEdge, edge_start, edge_end}
@@ -11,7 +11,7 @@ use Rattle.written_laws.proofs.{Borders.at_is, Borders.from_is, NewDarts.next_is
 use Rattle.written_laws.proofs.Courses.{start_at, end_at, use_course, course_of}
 use Rattle.written_laws.proofs.Courses.{at_course, course_from, course_to}
 
-module _ (l : Layout) (x : Lengths) (laid : IsSurface l) (len : AreLengths l x) where
+module _ (l : Gluing) (x : Lengths) (laid : IsSurface l) (len : AreLengths l x) where
   pub edge_dart : (e : Edge) → IsEdge l x e → (d : CellDart) × IsDart l x d × ((course_of l x d).edge ≡ e)
   edge_dart (on_arc a k) is =
       let f = laid.forward a is.0 in

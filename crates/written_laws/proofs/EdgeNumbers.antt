@@ -4,7 +4,7 @@ use Rattle.std.proofs.Math.Nat.{mod-lt, div-lt_iff_lt-mul, mul_comm}
 use Rattle.std.proofs.lemmas.Nat.{mul-add-lt, same_from_place, div-add-mod'}
 use Rattle.std.proofs.lemmas.Bool.{cases_lt, cases_eq}
 use Rattle.def_math.specs.{Counts.count_below, Runs.run_at}
-use Rattle.def_layout.specs.{Layouts.Layout, Lengths.Lengths, Lengths.wide, Lengths.high}
+use Rattle.def_layout.specs.{Gluings.Gluing, Lengths.Lengths, Lengths.wide, Lengths.high}
 use Rattle.def_written.specs.Points.{Point, node, along, inside, IsPoint}
 use Rattle.def_written.specs.Numbers.{before_arc, vertex_number, vertices}
 use Rattle.def_written.specs.Edges.{Edge, on_arc, flat, steep, IsEdge}
@@ -19,7 +19,7 @@ in_rows w h t low =
     ] in
     (mod-lt t some, (div-lt_iff_lt-mul {k = w} {x = t} {y = h} some).1 low, div-add-mod' t w)
 
-module _ (l : Layout) (x : Lengths) where
+module _ (l : Gluing) (x : Lengths) where
   abbrev pub flats : (p : ℕ) → ℕ
   flats p = (high l x p - 1) * wide l x p
 

@@ -2,8 +2,8 @@
 use Rattle.std.proofs.Common.{◌≡◌, ◌⊎◌, ℕ, zero, suc, ◌+◌, ◌-◌, ◌<◌, Bool, true, false, not, cond, refl, sym, ◌∙◌}
 use Rattle.std.proofs.Common.{ap, subst, inl, inr, arith}
 use Rattle.std.proofs.lemmas.Bool.{cases_eq}
-use Rattle.def_layout.specs.Layouts.{Way, south, east, north, west, side_before, Layout, Slot, IsSlot, use_of}
-use Rattle.def_layout.specs.Layouts.{use_before, slot_before, start_node}
+use Rattle.def_layout.specs.Gluings.{Way, south, east, north, west, side_before, Gluing, Slot, IsSlot, use_of}
+use Rattle.def_layout.specs.Gluings.{use_before, slot_before, start_node}
 use Rattle.def_layout.specs.Surfaces.{HasWholeSides, IsSurface}
 use Rattle.def_layout.specs.Fans.{IsTurn, SlotTurns, HasFans}
 use Rattle.def_layout.specs.Lengths.{Lengths, reach, size, AreLengths}
@@ -15,7 +15,7 @@ use Rattle.written_laws.proofs.Rims.{column_of, row_of, rim_patch, rim_column, r
 use Rattle.written_laws.proofs.Rims.{darts_related, IsInner}
 use Rattle.written_laws.proofs.Borders.{at_is, IsAt, sort_dart, inner_from, use_not_inside, before_is}
 
-module _ {l : Layout} {x : Lengths} (paved : HasWholeSides l) (len : AreLengths l x) {R : CellDart → CellDart → Type 0}
+module _ {l : Gluing} {x : Lengths} (paved : HasWholeSides l) (len : AreLengths l x) {R : CellDart → CellDart → Type 0}
     (turning : IsTurning l x R) where
   pub next_is : {d : CellDart} → IsDart l x d → IsDart l x (next d)
   next_is is = record { patch_low = is.patch_low; i_low = is.i_low; j_low = is.j_low }
@@ -60,9 +60,9 @@ module _ {l : Layout} {x : Lengths} (paved : HasWholeSides l) (len : AreLengths 
           rim_then w.patch w.side (reach l x w.patch w.side m + (x (l.use_at w.patch w.side m).arc - 1))
           (reach l x w.patch w.side (suc m) + 0) is.patch_low (omega arith) (omega arith)
 
-module _ {l : Layout} {x : Lengths} (laid : IsSurface l) (len : AreLengths l x) {R : CellDart → CellDart → Type 0}
+module _ {l : Gluing} {x : Lengths} (laid : IsSurface l) (len : AreLengths l x) {R : CellDart → CellDart → Type 0}
     (turning : IsTurning l x R) where
-  -- A turn of the layout.
+  -- A turn of the gluing.
   pub turn_related : {v w : Slot} → IsSlot l v → IsTurn l v w → R (slot_dart l x v 0) (slot_dart l x w 0)
   turn_related {v} {w} is turn =
       let b : Slot = slot_before l v.patch v.side v.at in

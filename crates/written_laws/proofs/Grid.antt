@@ -2,20 +2,20 @@
 use Rattle.std.proofs.Common.{◌≡◌, ℕ, ◌-◌, ◌<◌, ◌≤◌, sym, ◌∙◌, ap, inl, inr, arith}
 use Rattle.std.proofs.lemmas.Bool.{cases_eq, cond-true, cond-false, eq-eqb, ne_eqb}
 use Rattle.std.specs.Prelude.{◌==◌}
-use Rattle.def_layout.specs.Layouts.{south, east, north, west, Layout}
+use Rattle.def_layout.specs.Gluings.{south, east, north, west, Gluing}
 use Rattle.def_layout.specs.Surfaces.{HasWholeSides, IsSurface}
 use Rattle.def_layout.specs.Lengths.{Lengths, wide, high, AreLengths}
 use Rattle.def_written.specs.Points.{inside, side_point, point}
 use Rattle.written_laws.proofs.Sides.{size_some, corner_meets}
 
-module _ (l : Layout) (x : Lengths) (paved : HasWholeSides l) (len : AreLengths l x) where
+module _ (l : Gluing) (x : Lengths) (paved : HasWholeSides l) (len : AreLengths l x) where
   pub wide_some : (p : ℕ) → p < l.patches → 0 < wide l x p
   wide_some p low = size_some l x paved len p south low
 
   pub high_some : (p : ℕ) → p < l.patches → 0 < high l x p
   high_some p low = size_some l x paved len p west low
 
-module _ (l : Layout) (x : Lengths) (laid : IsSurface l) (len : AreLengths l x) where
+module _ (l : Gluing) (x : Lengths) (laid : IsSurface l) (len : AreLengths l x) where
   pub point_north : (p i : ℕ) {j : ℕ} → p < l.patches → j ≡ high l x p
       → point l x p i j ≡ side_point l x p north (wide l x p - i)
   point_north p i {j} low e =

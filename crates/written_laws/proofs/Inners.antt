@@ -5,7 +5,7 @@ use Rattle.std.proofs.lemmas.Option.{none-some}
 use Rattle.std.specs.Prelude.{◌==◌}
 use Rattle.def_mesh.specs.{Faces.Faces, Darts.darts, Darts.from_of, Darts.to_of, Darts.twin_of, Vertices.faces_at}
 use Rattle.def_mesh.specs.Kinds.{is_inner}
-use Rattle.def_layout.specs.{Layouts.Layout, Layouts.Slot, Layouts.IsSlot, Layouts.use_of, Surfaces.IsSurface}
+use Rattle.def_layout.specs.{Gluings.Gluing, Gluings.Slot, Gluings.IsSlot, Gluings.use_of, Surfaces.IsSurface}
 use Rattle.def_layout.specs.{Surfaces.IsOtherSlot, Lengths.Lengths, Lengths.AreLengths, Cells.CellDart, Cells.IsDart}
 use Rattle.def_layout.specs.Cells.{next, slot_dart}
 use Rattle.def_written.specs.{Points.Point, Points.use_point, NewFaces.dart_start, NewFaces.dart_end}
@@ -15,11 +15,11 @@ use Rattle.written_laws.proofs.{Across.across_or_alone, Across.IsAlone, Across.a
 use Rattle.face_laws.proofs.Fans.{inner_from, inner_twin}
 
 -- Each arc at the point is used by two slots.
-abbrev pub AreShared : (l : Layout) (x : Lengths) (a : Point) → Type 0
+abbrev pub AreShared : (l : Gluing) (x : Lengths) (a : Point) → Type 0
 AreShared l x a = (w : Slot) (o : ℕ) → IsSlot l w → o < x (use_of l w).arc
     → (use_point l x (use_of l w) o ≡ a) ⊎ (use_point l x (use_of l w) (o + 1) ≡ a) → (v : Slot) × IsOtherSlot l w v
 
-module _ {l : Layout} {x : Lengths} {laid : IsSurface l} {len : AreLengths l x} {F : Faces} {cell : CellDart → ℕ}
+module _ {l : Gluing} {x : Lengths} {laid : IsSurface l} {len : AreLengths l x} {F : Faces} {cell : CellDart → ℕ}
     (model : IsModel F l x laid len cell) where
   -- Vertex v of the model is point a.
   pub record IsVertex (a : Point) (v : ℕ) : Type 0 where

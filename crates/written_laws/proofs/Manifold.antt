@@ -4,9 +4,9 @@ use Rattle.std.proofs.Common.{inr, arith}
 use Rattle.std.proofs.lemmas.Bool.{false≢true}
 use Rattle.def_mesh.specs.{Faces.corner, Darts.from_of, Darts.to_of, Manifold.IsManifold, Manifold.IsRepeatFree}
 use Rattle.def_mesh.specs.Manifold.{HasEdgesOnce}
-use Rattle.def_layout.specs.Layouts.{Way, south, east, north, west, side_after}
-use Rattle.def_layout.specs.Layouts.{side_before, Layout, Slot, use_of}
-use Rattle.def_layout.specs.{Layouts.slot_before, Surfaces.IsSurface, Fans.HasFans, Lengths.Lengths, Lengths.reach}
+use Rattle.def_layout.specs.Gluings.{Way, south, east, north, west, side_after}
+use Rattle.def_layout.specs.Gluings.{side_before, Gluing, Slot, use_of}
+use Rattle.def_layout.specs.{Gluings.slot_before, Surfaces.IsSurface, Fans.HasFans, Lengths.Lengths, Lengths.reach}
 use Rattle.def_layout.specs.{Lengths.size, Lengths.AreLengths, Cells.CellDart, Cells.IsDart, Cells.next}
 use Rattle.def_layout.specs.Cells.{dart_along, slot_dart}
 use Rattle.def_written.specs.{Numbers.vertex_number, NewFaces.dart_start, NewFaces.dart_end, NewFaces.face_count}
@@ -31,7 +31,7 @@ flat_or_steep p i j west e = cc
 pub before_after : (w : Way) → side_before (side_after w) ≡ w
 before_after = elim [ south ↦ refl | east ↦ refl | north ↦ refl | west ↦ refl ]
 
-module _ {l : Layout} {x : Lengths} (laid : IsSurface l) (len : AreLengths l x) where
+module _ {l : Gluing} {x : Lengths} (laid : IsSurface l) (len : AreLengths l x) where
   -- Two border darts in a row lie on the last arc of a side and the first of the next one.
   corner_slots : (d : CellDart) (w v : Slot) (o k : ℕ) → IsOnBorder l x d w o → IsOnBorder l x (next d) v k
       → (v.at ≡ 0) × (slot_before l v.patch v.side v.at ≡ w)

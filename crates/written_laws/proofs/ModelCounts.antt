@@ -7,7 +7,7 @@ use Rattle.def_math.specs.Counts.{count_below}
 use Rattle.def_mesh.specs.{Faces.Faces, Darts.darts, Darts.from_of, Darts.twin_of, Vertices.is_used}
 use Rattle.def_mesh.specs.{Vertices.vertex_count, Components.is_lesser, Components.edge_count, Components.used_count}
 use Rattle.def_mesh.specs.Components.{euler}
-use Rattle.def_layout.specs.{Layouts.Layout, Surfaces.IsSurface, Lengths.Lengths, Lengths.wide}
+use Rattle.def_layout.specs.{Gluings.Gluing, Surfaces.IsSurface, Lengths.Lengths, Lengths.wide}
 use Rattle.def_layout.specs.{Lengths.high, Lengths.AreLengths, Cells.CellDart, Cells.IsDart}
 use Rattle.def_written.specs.{Points.Point, Points.IsPoint, Numbers.vertex_number}
 use Rattle.def_written.specs.{Numbers.vertices, NewFaces.dart_start, NewFaces.face_count}
@@ -31,7 +31,7 @@ count_sums f g h k zero same = refl
 count_sums f g h k (suc n) same =
     omega (arith, count_sums f g h k n (λ p l. same p (omega arith)), same n (omega arith))
 
-module _ (l : Layout) (x : Lengths) (laid : IsSurface l) (len : AreLengths l x) where
+module _ (l : Gluing) (x : Lengths) (laid : IsSurface l) (len : AreLengths l x) where
   -- The dart across is across the other way round.
   across_back : (d e : CellDart) → IsDart l x d → IsAcross l x laid len d e → IsAcross l x laid len e d
   across_back d e is a = record {

@@ -1,4 +1,4 @@
--- Lists of faces whose darts are those of the cells of a layout: the new faces, and the old ones at the old lengths.
+-- Lists of faces whose darts are those of the cells of a gluing: the new faces, and the old ones at the old lengths.
 use Rattle.std.proofs.Common.{◌≡◌, ℕ, ◌+◌, ◌*◌, ◌/◌, ◌%◌, ◌<◌, true, [], length, get_or, Some, None, refl, sym}
 use Rattle.std.proofs.Common.{◌∙◌, ap, inl, inr, arith}
 use Rattle.std.proofs.lemmas.Bool.{eqb-true, eq-eqb}
@@ -8,8 +8,8 @@ use Rattle.std.proofs.lemmas.List.FromFn.{get_or-map-range_with_len}
 use Rattle.std.specs.{Prelude.◌==◌, List.list_any, List.Any}
 use Rattle.def_mesh.specs.{Faces.Face, Faces.Faces, Faces.face_at, Faces.corner, Darts.darts, Darts.next_of}
 use Rattle.def_mesh.specs.{Darts.from_of, Darts.twin_of, Vertices.is_used}
-use Rattle.def_layout.specs.{declared.tmesh.SideArc.SideArc, Layouts.south, Layouts.Layout, Layouts.Slot}
-use Rattle.def_layout.specs.{Layouts.IsSlot, Layouts.use_of, Layouts.start_node, Surfaces.IsSurface, Lengths.Lengths}
+use Rattle.def_layout.specs.{declared.tmesh.SideArc.SideArc, Gluings.south, Gluings.Gluing, Gluings.Slot}
+use Rattle.def_layout.specs.{Gluings.IsSlot, Gluings.use_of, Gluings.start_node, Surfaces.IsSurface, Lengths.Lengths}
 use Rattle.def_layout.specs.{Lengths.AreLengths, Cells.CellDart, Cells.IsDart, Cells.dart, Cells.next, Cells.slot_dart}
 use Rattle.def_written.specs.Points.{Point, node, along, inside, IsPoint, use_point}
 use Rattle.def_written.specs.Numbers.{vertex_number}
@@ -22,7 +22,7 @@ use Rattle.written_laws.proofs.{Simple.IsSimple, Across.across_or_alone, Across.
 
 -- Dart `cell d` is that of d. Darts leave one vertex where those of the cells leave one point, and have as twin that of
 -- the dart across.
-pub record IsModel (F : Faces) (l : Layout) (x : Lengths) (laid : IsSurface l) (len : AreLengths l x) (cell : CellDart
+pub record IsModel (F : Faces) (l : Gluing) (x : Lengths) (laid : IsSurface l) (len : AreLengths l x) (cell : CellDart
     → ℕ) : Type 0 where
   pub quads : (f : ℕ) → f < length F → length (face_at F f) ≡ 4
   pub low : (d : CellDart) → IsDart l x d → cell d < darts F
@@ -65,7 +65,7 @@ dart_used F d quads low =
     (list_any_at (λ u. u == from_of F d) (face_at F (d / 4)) (d % 4) 0 (omega (arith, quads (d / 4) f_low))
     (eq-eqb (from_of F d) (from_of F d) refl))
 
-module _ (l : Layout) (x : Lengths) (laid : IsSurface l) (len : AreLengths l x) where
+module _ (l : Gluing) (x : Lengths) (laid : IsSurface l) (len : AreLengths l x) where
   -- Each point is left by a dart.
   pub point_dart : (a : Point) → IsPoint l x a → (d : CellDart) × IsDart l x d × (dart_start l x d ≡ a)
   point_dart (node n) is =

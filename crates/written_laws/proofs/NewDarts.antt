@@ -8,7 +8,7 @@ use Rattle.std.proofs.lemmas.List.FromFn.{length-map-range_with_len, get_or-map-
 use Rattle.std.specs.Prelude.{slice_index_or}
 use Rattle.def_mesh.specs.Faces.{Face, corner}
 use Rattle.def_mesh.specs.Darts.{darts, next_of, prev_of, from_of, to_of}
-use Rattle.def_layout.specs.Layouts.{Way, south, east, north, west, side_after, side_before, Layout}
+use Rattle.def_layout.specs.Gluings.{Way, south, east, north, west, side_after, side_before, Gluing}
 use Rattle.def_layout.specs.Surfaces.{IsSurface}
 use Rattle.def_layout.specs.Lengths.{Lengths, wide, high, AreLengths}
 use Rattle.def_layout.specs.Cells.{CellDart, IsDart, dart, next, prev}
@@ -54,7 +54,7 @@ prev_at c east = grind (arith, nat_tests)
 prev_at c north = grind (arith, nat_tests)
 prev_at c west = grind (arith, nat_tests)
 
-module _ (l : Layout) (x : Lengths) where
+module _ (l : Gluing) (x : Lengths) where
   -- How many cells a patch has.
   abbrev pub cells : (p : ℕ) → ℕ
   cells p = wide l x p * high l x p

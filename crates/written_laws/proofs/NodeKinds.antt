@@ -5,8 +5,8 @@ use Rattle.std.proofs.lemmas.Bool.{cases_eq, eqb-true, eq-eqb}
 use Rattle.std.specs.Prelude.{◌==◌}
 use Rattle.sum_laws.proofs.Tests.{same_test}
 use Rattle.def_mesh.specs.{Faces.Faces, Darts.darts, Darts.from_of, Vertices.faces_at, Kinds.is_inner}
-use Rattle.def_layout.specs.{declared.tmesh.SideArc.SideArc, Layouts.Layout, Layouts.Slot, Layouts.IsSlot}
-use Rattle.def_layout.specs.{Layouts.use_of, Layouts.start_node, Layouts.end_node, Surfaces.IsSurface}
+use Rattle.def_layout.specs.{declared.tmesh.SideArc.SideArc, Gluings.Gluing, Gluings.Slot, Gluings.IsSlot}
+use Rattle.def_layout.specs.{Gluings.use_of, Gluings.start_node, Gluings.end_node, Surfaces.IsSurface}
 use Rattle.def_layout.specs.{Surfaces.IsOtherSlot, Lengths.Lengths, Lengths.reach, Lengths.AreLengths, Cells.CellDart}
 use Rattle.def_layout.specs.Cells.{IsDart}
 use Rattle.def_written.specs.{Points.node, Points.use_point, NewFaces.dart_start}
@@ -17,7 +17,7 @@ use Rattle.written_laws.proofs.{Borders.inner_from, Spots.place_at, Spots.spot_d
 use Rattle.written_laws.proofs.{Spots.spot_at, Spots.sort_spot, Spots.spot_once, Models.IsModel, Inners.AreShared}
 use Rattle.written_laws.proofs.Inners.{IsVertex, inner_if, inner_only}
 
-module _ {l : Layout} {x : Lengths} (laid : IsSurface l) (len : AreLengths l x) where
+module _ {l : Gluing} {x : Lengths} (laid : IsSurface l) (len : AreLengths l x) where
   -- A point of an arc that is a node is one of its ends.
   node_end : (u : SideArc) (o n : ℕ) → o ≤ x u.arc → 0 < x u.arc → use_point l x u o ≡ node n
       → ((o ≡ 0) × (start_node l u ≡ n)) ⊎ ((o ≡ x u.arc) × (end_node l u ≡ n))
@@ -73,7 +73,7 @@ module _ {l : Layout} {x : Lengths} (laid : IsSurface l) (len : AreLengths l x) 
       let some : 0 < long_at l x w.patch w.side 0 = use_some l x laid.paved len (slot w.patch w.side 0) first in
       omega (arith, le, some)
 
-module _ {l : Layout} (laid : IsSurface l) {x y : Lengths} (len : AreLengths l x) (lon : AreLengths l y) where
+module _ {l : Gluing} (laid : IsSurface l) {x y : Lengths} (len : AreLengths l x) (lon : AreLengths l y) where
   -- Whether arcs at a node are shared has nothing to do with lengths.
   node_shared : (n : ℕ) → AreShared l x (node n) → AreShared l y (node n)
   node_shared n shared w o is less = at
@@ -154,7 +154,7 @@ module _ {l : Layout} (laid : IsSurface l) {x y : Lengths} (len : AreLengths l x
             (spot_dart l y (sorted m less r).0 0 (sorted m less r).1) (image (sorted k low s).2).0
             (image (sorted m less r).2).0 same)) ∙ (f.onto m less).2)
 
-module _ {l : Layout} {laid : IsSurface l} {x y : Lengths} {len : AreLengths l x} {lon : AreLengths l y} {F G : Faces}
+module _ {l : Gluing} {laid : IsSurface l} {x y : Lengths} {len : AreLengths l x} {lon : AreLengths l y} {F G : Faces}
     {cell new : CellDart → ℕ} {f : IsModel F l x laid len cell} {g : IsModel G l y laid lon new} (n : ℕ) {u v : ℕ}
     (is_u : IsVertex f (node n) u) (is_v : IsVertex g (node n) v) where
   pub node_faces : faces_at F u ≡ faces_at G v

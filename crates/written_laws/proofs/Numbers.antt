@@ -1,12 +1,12 @@
 -- The numbers of points: each below the number of vertices, and no two alike.
 use Rattle.std.proofs.Common.{◌≡◌, ℕ, ◌+◌, ◌-◌, ◌*◌, ◌<◌, sym, ◌∙◌, ap, arith}
 use Rattle.std.proofs.lemmas.Nat.{mul-add-lt, same_from_place}
-use Rattle.def_layout.specs.{Layouts.Layout, Lengths.Lengths, Lengths.wide, Lengths.high}
+use Rattle.def_layout.specs.{Gluings.Gluing, Lengths.Lengths, Lengths.wide, Lengths.high}
 use Rattle.def_written.specs.Points.{Point, node, along, inside, IsPoint}
 use Rattle.def_written.specs.Numbers.{before_arc, before_patch, vertex_number, vertices}
 use Rattle.written_laws.proofs.Runs.{place_low, place_same}
 
-module _ (l : Layout) (x : Lengths) where
+module _ (l : Gluing) (x : Lengths) where
   -- How many inner points a patch has.
   abbrev pub inner_points : (p : ℕ) → ℕ
   inner_points p = (wide l x p - 1) * (high l x p - 1)

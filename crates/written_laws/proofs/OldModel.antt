@@ -1,14 +1,14 @@
--- A mesh in which a layout lies is a model of it at the old lengths, and the layout has fans.
+-- A mesh in which a gluing lies is a model of it at the old lengths, and the gluing has fans.
 use Rattle.std.proofs.Common.{◌≡◌, ◌⊎◌, ℕ, zero, suc, ◌+◌, ◌-◌, ◌<◌, ◌≤◌, true, not, length, Some, None}
 use Rattle.std.proofs.Common.{refl, sym, ◌∙◌, ap, subst, inl, inr, arith}
 use Rattle.std.proofs.lemmas.Bool.{cases_Bool, cases_lt}
 use Rattle.std.proofs.lemmas.Option.{none-some, same_Some}
 use Rattle.def_mesh.specs.{Faces.Faces, Faces.face_at, Manifold.IsManifold, HalfEdges.HalfEdges, HalfEdges.AreTurned}
 use Rattle.def_mesh.specs.{HalfEdges.IsQuadManifold, HalfEdges.half_edges, HalfEdges.Turns as MeshTurns}
-use Rattle.def_layout.specs.{declared.tmesh.SideArc.SideArc, Layouts.Way, Layouts.south, Layouts.east, Layouts.north}
-use Rattle.def_layout.specs.Layouts.{west, side_after, side_before, Layout, Slot}
-use Rattle.def_layout.specs.Layouts.{IsSlot, use_of, slot_before}
-use Rattle.def_layout.specs.{Layouts.start_node, Surfaces.HasWholeSides, Surfaces.IsSurface, Surfaces.IsOtherSlot}
+use Rattle.def_layout.specs.{declared.tmesh.SideArc.SideArc, Gluings.Way, Gluings.south, Gluings.east, Gluings.north}
+use Rattle.def_layout.specs.Gluings.{west, side_after, side_before, Gluing, Slot}
+use Rattle.def_layout.specs.Gluings.{IsSlot, use_of, slot_before}
+use Rattle.def_layout.specs.{Gluings.start_node, Surfaces.HasWholeSides, Surfaces.IsSurface, Surfaces.IsOtherSlot}
 use Rattle.def_layout.specs.{Fans.IsTurn, Fans.SlotTurns, Fans.HasFans, Lengths.Lengths, Lengths.reach, Lengths.size}
 use Rattle.def_layout.specs.{Lengths.AreLengths, Cells.CellDart, Cells.IsDart, Cells.dart, Cells.next, Cells.prev}
 use Rattle.def_layout.specs.{Cells.slot_dart, Embeddings.IsEmbedding}
@@ -32,7 +32,7 @@ next_prev d = by_way d.way
     by_way : (w : Way) → dart d.patch d.i d.j (side_after (side_before w)) ≡ dart d.patch d.i d.j w
     by_way = elim [ south ↦ refl | east ↦ refl | north ↦ refl | west ↦ refl ]
 
-module _ {l : Layout} {x : Lengths} (laid : IsSurface l) (len : AreLengths l x) where
+module _ {l : Gluing} {x : Lengths} (laid : IsSurface l) (len : AreLengths l x) where
   -- One dart lies across.
   across_unique : {d : CellDart} (e : CellDart) {c : CellDart} → IsAcross l x laid len d e → IsAcross l x laid len d c
       → e ≡ c
@@ -107,7 +107,7 @@ module _ {l : Layout} {x : Lengths} (laid : IsSurface l) (len : AreLengths l x) 
           ∙ (λ t. slot b.patch (before_after b.side t) (l.many b.patch (before_after b.side t) - 1))
           ∙ (λ t. slot b.patch b.side (sym at_last t))
 
-  -- A turn of the mesh at a node stays at a slot, or is a turn of the layout.
+  -- A turn of the mesh at a node stays at a slot, or is a turn of the gluing.
   slot_turn : {d e : CellDart} {u w : Slot} → IsDart l x d → IsDart l x e → IsAt l x laid len d u 0
       → IsAt l x laid len e w 0 → IsAcross l x laid len (prev d) e → (u ≡ w) ⊎ IsTurn l u w
   slot_turn {d} {e} {u} {w} is_d is_e at_u at_w a = by_sight (sees l x laid len (prev_is l x d is_d))
@@ -139,7 +139,7 @@ module _ {l : Layout} {x : Lengths} (laid : IsSurface l) (len : AreLengths l x) 
           by_other (inr none) = absurd (alone_not_across laid len {d = prev d} e {w = on.0} {o = on.1}
               (record { on_border = on.2; alone = none }) a)
 
-module _ (faces : Faces) (manifold : IsManifold faces) (l : Layout) (x : Lengths) (paved : HasWholeSides l)
+module _ (faces : Faces) (manifold : IsManifold faces) (l : Gluing) (x : Lengths) (paved : HasWholeSides l)
     (len : AreLengths l x) (cell : CellDart → ℕ) (vertex : ℕ → ℕ) (arc_dart : ℕ → ℕ → ℕ)
     (s : IsEmbedding (half_edges faces) l x cell vertex arc_dart) where
   abbrev m : HalfEdges
@@ -255,7 +255,7 @@ module _ (faces : Faces) (manifold : IsManifold faces) (l : Layout) (x : Lengths
     alone = alone;
   }
 
-  -- The turns of the mesh round a node are turns of the layout.
+  -- The turns of the mesh round a node are turns of the gluing.
   layout_turns : {v : Slot} (n : ℕ) → IsSlot l v → {d : CellDart} {u : Slot} → IsDart l x d
       → IsAt l x old_laid len d u 0 → MeshTurns (half_edges faces) (cell (slot_dart l x v 0)) (cell d) n → (k : ℕ)
       × SlotTurns l v u k

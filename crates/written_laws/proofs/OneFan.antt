@@ -1,8 +1,8 @@
 -- Each vertex of the new mesh has one fan.
 use Rattle.std.proofs.Common.{◌≡◌, ◌⊎◌, ℕ, zero, suc, ◌+◌, ◌-◌, ◌<◌, refl, sym, ◌∙◌, ap, subst, inl, inr, arith}
 use Rattle.def_mesh.specs.{Darts.prev_of, Darts.from_of, Manifold.AreNeighbours, Manifold.Chain, Manifold.HasOneFan}
-use Rattle.def_layout.specs.Layouts.{Way, south, east, north, west, side_after}
-use Rattle.def_layout.specs.Layouts.{side_before, Layout, Slot, IsSlot, use_of}
+use Rattle.def_layout.specs.Gluings.{Way, south, east, north, west, side_after}
+use Rattle.def_layout.specs.Gluings.{side_before, Gluing, Slot, IsSlot, use_of}
 use Rattle.def_layout.specs.{Surfaces.IsSurface, Surfaces.IsOtherSlot, Fans.HasFans, Lengths.Lengths}
 use Rattle.def_layout.specs.{Lengths.AreLengths, Cells.CellDart, Cells.IsDart, Cells.dart, Cells.next, Cells.prev}
 use Rattle.def_layout.specs.Cells.{slot_dart}
@@ -15,7 +15,7 @@ use Rattle.written_laws.proofs.{Fans.point_related, NewDarts.dart_number, NewDar
 use Rattle.written_laws.proofs.NewDarts.{number_to, prev_number, prev_is, next_is}
 use Rattle.written_laws.proofs.NewDarts.{at_number}
 
-module _ (l : Layout) (x : Lengths) where
+module _ (l : Gluing) (x : Lengths) where
   -- A chain of new darts leads from d to e.
   abbrev pub AreJoined : (d e : CellDart) → Type 0
   AreJoined d e = (n : ℕ) × Chain (new_faces l x) (dart_number l x d) (dart_number l x e) n

@@ -2,8 +2,8 @@
 use Rattle.std.proofs.Common.{◌≡◌, ◌≢◌, ◌⊎◌, ℕ, ◌+◌, ◌-◌, ◌<◌, ◌≤◌, Bool, true, false, not, cond, refl, sym, ◌∙◌, ap}
 use Rattle.std.proofs.Common.{subst, inl, inr, arith}
 use Rattle.std.proofs.lemmas.Bool.{cases_eq}
-use Rattle.def_layout.specs.Layouts.{Way, south, east, north, west, side_after, Layout, Slot, IsSlot}
-use Rattle.def_layout.specs.Layouts.{use_of}
+use Rattle.def_layout.specs.Gluings.{Way, south, east, north, west, side_after, Gluing, Slot, IsSlot}
+use Rattle.def_layout.specs.Gluings.{use_of}
 use Rattle.def_layout.specs.Surfaces.{IsSurface}
 use Rattle.def_layout.specs.Lengths.{Lengths, reach, size, wide, high, AreLengths}
 use Rattle.def_written.specs.Points.{Point, along, inside, arc_point, side_point, point}
@@ -16,7 +16,7 @@ use Rattle.written_laws.proofs.Spokes.{one_way, tip, Joins, joins_swap, arc_sort
 use Rattle.written_laws.proofs.Spokes.{point_sort, Inner, hub, tip_low, spoke_joins}
 use Rattle.written_laws.proofs.Spokes.{hub_edge, loop_at}
 
-module _ {l : Layout} {x : Lengths} (laid : IsSurface l) (len : AreLengths l x) (open_l : IsOpen l x) where
+module _ {l : Gluing} {x : Lengths} (laid : IsSurface l) (len : AreLengths l x) (open_l : IsOpen l x) where
   side_two : (p : ℕ) (s : Way) → p < l.patches → 2 ≤ size l x p s
   side_two p s p_low =
       let first : IsSlot l (slot p s 0) = first_slot l x laid.paved len p s p_low in

@@ -3,9 +3,9 @@ use Rattle.std.proofs.Common.{◌≡◌, ◌≢◌, ℕ, zero, suc, ◌+◌, ◌
 use Rattle.std.proofs.Common.{◌∙◌, ap, subst, inl, inr, arith}
 use Rattle.std.proofs.lemmas.Bool.{cases_Bool, cases_eq, eq-eqb, false_from_ne_true}
 use Rattle.def_mesh.specs.{Faces.Faces, Vertices.faces_at, Kinds.is_inner, Kinds.is_regular}
-use Rattle.def_layout.specs.{declared.tmesh.SideArc.SideArc, Layouts.Way, Layouts.south, Layouts.east, Layouts.north}
-use Rattle.def_layout.specs.Layouts.{west, Layout, Slot, IsSlot, use_of}
-use Rattle.def_layout.specs.{Layouts.start_node, Layouts.end_node, Surfaces.IsSurface, Surfaces.IsOtherSlot}
+use Rattle.def_layout.specs.{declared.tmesh.SideArc.SideArc, Gluings.Way, Gluings.south, Gluings.east, Gluings.north}
+use Rattle.def_layout.specs.Gluings.{west, Gluing, Slot, IsSlot, use_of}
+use Rattle.def_layout.specs.{Gluings.start_node, Gluings.end_node, Surfaces.IsSurface, Surfaces.IsOtherSlot}
 use Rattle.def_layout.specs.{Lengths.Lengths, Lengths.AreLengths, Cells.CellDart, Cells.IsDart, Cells.dart}
 use Rattle.def_written.specs.Points.{node, along, inside, IsPoint, use_point, point}
 use Rattle.def_written.specs.NewFaces.{column, row, dart_start}
@@ -83,7 +83,7 @@ code_back_first zero low = refl
 code_back_first (suc zero) low = refl
 code_back_first (suc (suc k)) low = absurd (omega arith)
 
-module _ {l : Layout} {x : Lengths} (laid : IsSurface l) (len : AreLengths l x) where
+module _ {l : Gluing} {x : Lengths} (laid : IsSurface l) (len : AreLengths l x) where
   -- No point of an arc lies inside a patch.
   upto_not_inside : (u : SideArc) (o p i j : ℕ) → o ≤ x u.arc → 0 < x u.arc → use_point l x u o ≢ inside p i j
   upto_not_inside u o p i j le some e = elim (cases_eq o (x u.arc)) [

@@ -1,7 +1,7 @@
 -- The border darts of a patch.
 use Rattle.std.proofs.Common.{◌≡◌, ◌⊎◌, ℕ, ◌+◌, ◌-◌, ◌<◌, ◌≤◌, refl, sym, ◌∙◌, ap, inl, inr, arith}
 use Rattle.std.proofs.lemmas.Bool.{cases_eq}
-use Rattle.def_layout.specs.Layouts.{Way, south, east, north, west, side_after, Layout}
+use Rattle.def_layout.specs.Gluings.{Way, south, east, north, west, side_after, Gluing}
 use Rattle.def_layout.specs.Surfaces.{HasWholeSides, IsSurface}
 use Rattle.def_layout.specs.Lengths.{Lengths, size, wide, high, AreLengths}
 use Rattle.def_layout.specs.Cells.{CellDart, IsDart, dart, next, dart_along}
@@ -18,13 +18,13 @@ abbrev pub row_of : (d : CellDart) → ℕ
 row_of d = row d.j d.way
 
 -- Where a place of a side lies in the patch.
-abbrev pub side_column : (l : Layout) (x : Lengths) (p : ℕ) (s : Way) (t : ℕ) → ℕ
+abbrev pub side_column : (l : Gluing) (x : Lengths) (p : ℕ) (s : Way) (t : ℕ) → ℕ
 side_column l x p south t = t
 side_column l x p east t = wide l x p
 side_column l x p north t = wide l x p - t
 side_column l x p west t = 0
 
-abbrev pub side_row : (l : Layout) (x : Lengths) (p : ℕ) (s : Way) (t : ℕ) → ℕ
+abbrev pub side_row : (l : Gluing) (x : Lengths) (p : ℕ) (s : Way) (t : ℕ) → ℕ
 side_row l x p south t = 0
 side_row l x p east t = t
 side_row l x p north t = high l x p
@@ -34,7 +34,7 @@ side_row l x p west t = high l x p - t
 pub dart_is : (p : ℕ) (w : Way) {i j k n : ℕ} → i ≡ k → j ≡ n → dart p i j w ≡ dart p k n w
 dart_is p w a b = λ t. dart p (a t) (b t) w
 
-module _ {l : Layout} {x : Lengths} (paved : HasWholeSides l) (len : AreLengths l x) where
+module _ {l : Gluing} {x : Lengths} (paved : HasWholeSides l) (len : AreLengths l x) where
   pub rim_is : (p : ℕ) (s : Way) (t : ℕ) → p < l.patches → t < size l x p s → IsDart l x (dart_along l x p s t)
   rim_is p south t low less = record { patch_low = low; i_low = less; j_low = high_some l x paved len p low }
   rim_is p east t low less =
@@ -201,7 +201,7 @@ module _ {l : Layout} {x : Lengths} (paved : HasWholeSides l) (len : AreLengths 
         next_is : IsDart l x (dart_along l x p s t) → IsDart l x (next (dart_along l x p s t))
         next_is d = record { patch_low = d.patch_low; i_low = d.i_low; j_low = d.j_low }
 
-module _ (l : Layout) (x : Lengths) (laid : IsSurface l) (len : AreLengths l x) where
+module _ (l : Gluing) (x : Lengths) (laid : IsSurface l) (len : AreLengths l x) where
   pub border_point : (p : ℕ) (s : Way) (t : ℕ) → p < l.patches → t ≤ size l x p s
       → point l x p (side_column l x p s t) (side_row l x p s t) ≡ side_point l x p s t
   border_point p south t low le = refl

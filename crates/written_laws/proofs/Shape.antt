@@ -8,7 +8,7 @@ use Rattle.def_mesh.specs.{Vertices.faces_at, Vertices.vertex_count, Kinds.is_in
 use Rattle.def_mesh.specs.{HalfEdges.half_edges, declared.Kind.Kind}
 use Rattle.def_mesh.specs.declared.Kind.TheVariants.{Regular, Singular}
 use Rattle.def_mesh.specs.declared.Kind.TheVariants.{Corner, Reflex}
-use Rattle.def_layout.specs.Layouts.{Layout, use_of}
+use Rattle.def_layout.specs.Gluings.{Gluing, use_of}
 use Rattle.def_layout.specs.{Surfaces.HasWholeSides, Surfaces.IsSurface, Fans.HasFans, Lengths.Lengths}
 use Rattle.def_layout.specs.{Lengths.AreLengths, Cells.CellDart, Cells.IsDart, Cells.next}
 use Rattle.def_layout.specs.Embeddings.{IsEmbedding}
@@ -30,7 +30,7 @@ use Rattle.written_laws.proofs.{Inners.IsVertex, Inners.vertex_from, Regulars.in
 use Rattle.written_laws.proofs.{NodeKinds.node_faces, NodeKinds.node_inner, Sided.starts, OldModel.old_laid}
 use Rattle.written_laws.proofs.OldModel.{old_model, old_fans, twin_is_across}
 
-module _ {faces : Faces} (man : IsManifold faces) {l : Layout} {x : Lengths} (paved : HasWholeSides l)
+module _ {faces : Faces} (man : IsManifold faces) {l : Gluing} {x : Lengths} (paved : HasWholeSides l)
     (len : AreLengths l x) {cell : CellDart → ℕ} {vertex : ℕ → ℕ} {arc_dart : ℕ → ℕ → ℕ}
     (s : IsEmbedding (half_edges faces) l x cell vertex arc_dart) where
   module _ (model : IsModel faces l x (old_laid faces man l x paved len cell vertex arc_dart s) len cell) where
@@ -129,7 +129,7 @@ kind_is : (F : Faces) (v : ℕ) → kind_of F v ≡ kind_by (is_inner F v) (face
 unfolding kind_by
 kind_is F v = refl
 
-module _ {l : Layout} {x : Lengths} {laid : IsSurface l} {len : AreLengths l x} {F : Faces} {cell : CellDart → ℕ}
+module _ {l : Gluing} {x : Lengths} {laid : IsSurface l} {len : AreLengths l x} {F : Faces} {cell : CellDart → ℕ}
     (model : IsModel F l x laid len cell) where
   -- A vertex of a model that is not regular is that of a node.
   irregular_node : (d : CellDart) → IsDart l x d → is_regular F (from_of F (cell d)) ≡ false
@@ -144,7 +144,7 @@ module _ {l : Layout} {x : Lengths} {laid : IsSurface l} {len : AreLengths l x} 
       by_point (inside p i j) e is_a = absurd (false≢true
           (sym off ∙ inside_regular laid len model p i j is_a (vertex_from model (from_of F (cell d)) is e refl)))
 
-module _ {faces : Faces} {l : Layout} {x : Lengths} {vertex : ℕ → ℕ} (lies : LiesInMesh faces l x vertex) where
+module _ {faces : Faces} {l : Gluing} {x : Lengths} {vertex : ℕ → ℕ} (lies : LiesInMesh faces l x vertex) where
   abbrev the_laid : IsSurface l
   the_laid = old_laid faces lies.manifold l x lies.paved lies.lengths lies.cell vertex lies.arc_dart lies.sided
 

@@ -1,12 +1,12 @@
--- A layout that lies in a mesh is laid.
+-- A gluing that lies in a mesh is laid.
 use Rattle.std.proofs.Common.{◌≡◌, ℕ, zero, suc, ◌+◌, ◌-◌, ◌<◌, Bool, true, false, not, Some, refl, sym, ◌∙◌, ap}
 use Rattle.std.proofs.Common.{arith, inl, inr}
 use Rattle.std.proofs.lemmas.Bool.{cases_Bool}
 use Rattle.std.proofs.lemmas.Option.{same_Some}
 use Rattle.def_mesh.specs.HalfEdges.{HalfEdges, IsQuadManifold}
 use Rattle.def_layout.specs.declared.tmesh.SideArc.{SideArc}
-use Rattle.def_layout.specs.Layouts.{Way, south, east, north, west, side_after, side_before, Layout, Slot, IsSlot}
-use Rattle.def_layout.specs.Layouts.{AreReverse, use_of, use_before, slot_before, start_node, end_node}
+use Rattle.def_layout.specs.Gluings.{Way, south, east, north, west, side_after, side_before, Gluing, Slot, IsSlot}
+use Rattle.def_layout.specs.Gluings.{AreReverse, use_of, use_before, slot_before, start_node, end_node}
 use Rattle.def_layout.specs.Surfaces.{HasWholeSides, IsSurface, IsOtherSlot}
 use Rattle.def_layout.specs.Lengths.{Lengths, reach, size, AreLengths}
 use Rattle.def_layout.specs.Cells.{CellDart, IsDart, dart, next, prev, dart_along, slot_dart}
@@ -16,7 +16,7 @@ use Rattle.written_laws.proofs.{Sides.slot, Sides.use_some, Sides.last_reach, Tu
 use Rattle.written_laws.proofs.Rims.{dart_is, corner_next}
 use Rattle.written_laws.proofs.{Borders.at_is, Borders.before_is, Fans.before_related, Spots.rim_slot}
 
-module _ (m : HalfEdges) (laws : IsQuadManifold m) (l : Layout) (x : Lengths) (paved : HasWholeSides l)
+module _ (m : HalfEdges) (laws : IsQuadManifold m) (l : Gluing) (x : Lengths) (paved : HasWholeSides l)
     (len : AreLengths l x)
     (cell : CellDart → ℕ) (vertex : ℕ → ℕ) (arc_dart : ℕ → ℕ → ℕ) (s : IsEmbedding m l x cell vertex arc_dart) where
   some : {w : Slot} → IsSlot l w → 0 < x (use_of l w).arc

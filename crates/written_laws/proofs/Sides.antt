@@ -3,9 +3,9 @@ use Rattle.std.proofs.Common.{◌≡◌, ℕ, suc, ◌+◌, ◌-◌, ◌<◌, �
 use Rattle.std.proofs.Common.{arith}
 use Rattle.std.proofs.lemmas.Bool.{cases_eq, cases_lt, cond-true, cond-false, eq-eqb, ne_eqb}
 use Rattle.std.specs.Prelude.{◌==◌}
-use Rattle.def_layout.specs.{declared.tmesh.SideArc.SideArc, Layouts.Way, Layouts.south, Layouts.east, Layouts.north}
-use Rattle.def_layout.specs.Layouts.{west, side_after, Layout, Slot, IsSlot}
-use Rattle.def_layout.specs.{Layouts.use_of, Layouts.start_node, Layouts.end_node, Surfaces.HasWholeSides}
+use Rattle.def_layout.specs.{declared.tmesh.SideArc.SideArc, Gluings.Way, Gluings.south, Gluings.east, Gluings.north}
+use Rattle.def_layout.specs.Gluings.{west, side_after, Gluing, Slot, IsSlot}
+use Rattle.def_layout.specs.{Gluings.use_of, Gluings.start_node, Gluings.end_node, Surfaces.HasWholeSides}
 use Rattle.def_layout.specs.{Surfaces.IsSurface, Lengths.Lengths, Lengths.reach, Lengths.size, Lengths.AreLengths}
 use Rattle.def_written.specs.Points.{node, along, arc_point, use_point, use_over, offset_at, side_point}
 use Rattle.written_laws.proofs.Runs.{count_rises, run_here, run_last, run_place}
@@ -14,7 +14,7 @@ use Rattle.written_laws.proofs.Runs.{count_rises, run_here, run_last, run_place}
 abbrev pub slot : (patch : ℕ) (side : Way) (at : ℕ) → Slot
 slot p s m = record { patch = p; side = s; at = m }
 
-module _ (l : Layout) (x : Lengths) where
+module _ (l : Gluing) (x : Lengths) where
   -- The points of an arc.
   pub arc_last : (a k : ℕ) → k ≡ x a → 0 < k → arc_point l x a k ≡ node (l.last a)
   arc_last a k e some =

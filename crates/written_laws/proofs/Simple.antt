@@ -1,18 +1,18 @@
 -- Meshes in which no edge is doubled, and what two points then tell of an edge between them.
 use Rattle.std.proofs.Common.{◌≡◌, ◌≢◌, Bool, true, false, not, refl, sym, ◌∙◌, ap}
-use Rattle.def_layout.specs.{Layouts.Layout, Lengths.Lengths}
+use Rattle.def_layout.specs.{Gluings.Gluing, Lengths.Lengths}
 use Rattle.def_written.specs.Edges.{Edge, IsEdge, edge_start, edge_end}
 use Rattle.written_laws.proofs.Courses.{Course, course, start_at, end_at}
 
 -- No two edges have the same ends, and no edge has equal ends.
-pub record IsSimple (l : Layout) (x : Lengths) : Type 0 where
+pub record IsSimple (l : Gluing) (x : Lengths) : Type 0 where
   pub same : (e f : Edge) → IsEdge l x e → IsEdge l x f → edge_start l x e ≡ edge_start l x f
       → edge_end l x e ≡ edge_end l x f → e ≡ f
   pub crossed : (e f : Edge) → IsEdge l x e → IsEdge l x f → edge_start l x e ≡ edge_end l x f
       → edge_end l x e ≡ edge_start l x f → e ≡ f
   pub no_loop : (e : Edge) → IsEdge l x e → edge_start l x e ≢ edge_end l x e
 
-module _ {l : Layout} {x : Lengths} (simple : IsSimple l x) where
+module _ {l : Gluing} {x : Lengths} (simple : IsSimple l x) where
   -- A course is told by its ends.
   pub one_course : (c k : Course) → IsEdge l x c.edge → IsEdge l x k.edge
       → start_at l x c ≡ start_at l x k → end_at l x c ≡ end_at l x k → c ≡ k

@@ -6,7 +6,7 @@ use Rattle.std.proofs.Math.Nat.{div-lt_iff_lt-mul, le-div_iff_mul-le, mod-lt, mu
 use Rattle.std.proofs.lemmas.Bool.{cases_eq, cond_both, cond-true, cond-false, eq-eqb, eqb-false, eqb-true, ne_eqb}
 use Rattle.std.proofs.lemmas.Nat.{div-mul-add, mul-le}
 use Rattle.def_math.specs.{Counts.count_below, Runs.run_at}
-use Rattle.def_layout.specs.{Layouts.Layout, Lengths.Lengths, Lengths.AreLengths}
+use Rattle.def_layout.specs.{Gluings.Gluing, Lengths.Lengths, Lengths.AreLengths}
 use Rattle.def_written.specs.Laws.{EvenSpacingLaw, SharedLaw}
 use Rattle.def_written.specs.Places.{even, ONE, Step}
 use Rattle.def_written.specs.Spacings.{counted, edge_begin, inner_step, shared, shared_parameter, shared_step}
@@ -22,7 +22,7 @@ times_less : (k n m : ℕ) → k < n → 0 < m → k * m < n * m
 times_less k n m less some =
     let e : (k + 1) * m ≤ n * m = mul-le (k + 1) m n m (omega arith) (omega arith) in omega (arith, e, some)
 
-module _ (l : Layout) (old new : Lengths) (o_len : AreLengths l old) (n_len : AreLengths l new) where
+module _ (l : Gluing) (old new : Lengths) (o_len : AreLengths l old) (n_len : AreLengths l new) where
   even_none : (a : ℕ) → a < l.arcs → ONE * 0 * old a / new a ≡ 0
   even_none a low =
       let less = div_less (ONE * 0 * old a) 1 (new a) (n_len.some a low) (omega (arith, n_len.some a low)) in
@@ -134,7 +134,7 @@ module _ (share : ℕ → ℕ) (m n k : ℕ) (m_some : 0 < m) (all_some : 0 < co
           (let le = mul-le n (share edge) ONE (before - start edge) few (share_le first) in
           omega (arith, le))
 
-module _ (l : Layout) (old new : Lengths) (shares : Shares) (o_len : AreLengths l old) (n_len : AreLengths l new) where
+module _ (l : Gluing) (old new : Lengths) (shares : Shares) (o_len : AreLengths l old) (n_len : AreLengths l new) where
   -- Place k of an arc before its end.
   pub step_is : (a k : ℕ) → a < l.arcs → k < new a → IsInner (old a) (shared_step old new shares a k)
   step_is a k low less = cond_both (k == 0) (edge_begin 0) _ (IsInner (old a))

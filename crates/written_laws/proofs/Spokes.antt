@@ -2,7 +2,7 @@
 use Rattle.std.proofs.Common.{◌≡◌, ◌≢◌, ◌⊎◌, ℕ, ◌+◌, ◌-◌, ◌<◌, ◌≤◌, Bool, true, false, cond, refl, sym, ◌∙◌, ap, subst}
 use Rattle.std.proofs.Common.{inl, inr, arith}
 use Rattle.std.specs.Prelude.{◌==◌}
-use Rattle.def_layout.specs.Layouts.{Way, south, east, north, west, Layout}
+use Rattle.def_layout.specs.Gluings.{Way, south, east, north, west, Gluing}
 use Rattle.def_layout.specs.{Surfaces.IsSurface, Lengths.Lengths, Lengths.wide, Lengths.high, Lengths.AreLengths}
 use Rattle.def_written.specs.Points.{Point, node, along, inside, arc_point, use_over, offset_at, point}
 use Rattle.def_written.specs.Edges.{Edge, on_arc, flat, steep, IsEdge, edge_start, edge_end}
@@ -11,7 +11,7 @@ use Rattle.written_laws.proofs.{Rims.border_point, Rims.on_rim, Borders.use_not_
 
 -- All lengths are at least 2, no arc of length 2 has equal ends, and no two points of a patch that is 2 wide or high
 -- are the same across it.
-pub record IsOpen (l : Layout) (x : Lengths) : Type 0 where
+pub record IsOpen (l : Gluing) (x : Lengths) : Type 0 where
   pub two : (a : ℕ) → a < l.arcs → 2 ≤ x a
   pub arcs_open : (a : ℕ) → a < l.arcs → x a ≡ 2 → l.first a ≢ l.last a
   pub across : (p j : ℕ) → p < l.patches → wide l x p ≡ 2 → 0 < j → j < high l x p → point l x p 0 j ≢ point l x p 2 j
@@ -52,7 +52,7 @@ no_tip_at_hub north i_some j_some c r = omega arith
 no_tip_at_hub west i_some j_some c r = omega arith
 no_tip_at_hub south i_some j_some c r = omega arith
 
-module _ (l : Layout) (x : Lengths) where
+module _ (l : Gluing) (x : Lengths) where
   abbrev pub tip : (p i j : ℕ) (w : Way) → Point
   tip p i j w = point l x p (tip_column i w) (tip_row j w)
 

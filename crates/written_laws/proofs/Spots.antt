@@ -1,7 +1,7 @@
 -- The darts that leave a place of an arc: by slot, and whether they lie on its border or just behind.
 use Rattle.std.proofs.Common.{◌≡◌, ◌≢◌, ◌⊎◌, ℕ, ◌+◌, ◌-◌, ◌<◌, Bool, true, false, refl, sym, ◌∙◌, ap, subst, inl, inr}
 use Rattle.std.proofs.Common.{arith}
-use Rattle.def_layout.specs.Layouts.{Way, south, east, north, west, side_after, Layout, Slot, IsSlot, use_of}
+use Rattle.def_layout.specs.Gluings.{Way, south, east, north, west, side_after, Gluing, Slot, IsSlot, use_of}
 use Rattle.def_layout.specs.Surfaces.{HasWholeSides, IsSurface}
 use Rattle.def_layout.specs.Lengths.{Lengths, reach, size, wide, high, AreLengths}
 use Rattle.def_layout.specs.Cells.{CellDart, IsDart, dart, next, dart_along, slot_dart}
@@ -18,7 +18,7 @@ no_turn east e = cc
 no_turn north e = cc
 no_turn west e = cc
 
-module _ {l : Layout} {x : Lengths} (paved : HasWholeSides l) (len : AreLengths l x) where
+module _ {l : Gluing} {x : Lengths} (paved : HasWholeSides l) (len : AreLengths l x) where
   -- Places of sides that lie at one grid point are one.
   pub place_once : (p : ℕ) (s r : Way) (t u : ℕ) → p < l.patches → t < size l x p s → u < size l x p r
       → side_column l x p s t ≡ side_column l x p r u → side_row l x p s t ≡ side_row l x p r u → (s ≡ r) × (t ≡ u)
@@ -102,15 +102,15 @@ module _ {l : Layout} {x : Lengths} (paved : HasWholeSides l) (len : AreLengths 
   border_dart p south _ i j t t_low is c r = absurd (omega (arith, r))
 
 -- The place on its side that lies o after the beginning of a slot's arc.
-abbrev pub place_at : (l : Layout) (x : Lengths) (w : Slot) (o : ℕ) → ℕ
+abbrev pub place_at : (l : Gluing) (x : Lengths) (w : Slot) (o : ℕ) → ℕ
 place_at l x w o = reach l x w.patch w.side w.at + o
 
 -- The border dart there, or the one next to the border dart before.
-abbrev pub spot_dart : (l : Layout) (x : Lengths) (w : Slot) (o : ℕ) (behind : Bool) → CellDart
+abbrev pub spot_dart : (l : Gluing) (x : Lengths) (w : Slot) (o : ℕ) (behind : Bool) → CellDart
 spot_dart l x w o false = slot_dart l x w o
 spot_dart l x w o true = next (dart_along l x w.patch w.side (place_at l x w o - 1))
 
-module _ {l : Layout} {x : Lengths} (laid : IsSurface l) (len : AreLengths l x) where
+module _ {l : Gluing} {x : Lengths} (laid : IsSurface l) (len : AreLengths l x) where
   -- A dart is at a slot's place where it leaves the grid point.
   pub at_place : (d : CellDart) {w : Slot} (o : ℕ) → IsSlot l w → o < x (use_of l w).arc → d.patch ≡ w.patch
       → column_of d ≡ side_column l x w.patch w.side (place_at l x w o)

@@ -1,13 +1,13 @@
 -- Relations of darts that hold for turns round a point.
 use Rattle.std.proofs.Common.{◌≡◌, ℕ, ◌-◌, ◌<◌, refl, sym, arith}
-use Rattle.def_layout.specs.Layouts.{Way, south, east, north, west, side_after, Layout, Slot, IsSlot, use_of}
+use Rattle.def_layout.specs.Gluings.{Way, south, east, north, west, side_after, Gluing, Slot, IsSlot, use_of}
 use Rattle.def_layout.specs.Surfaces.{IsOtherSlot}
 use Rattle.def_layout.specs.Lengths.{Lengths, wide, high}
 use Rattle.def_layout.specs.Cells.{CellDart, IsDart, dart, next, slot_dart}
 use Rattle.def_written.specs.NewFaces.{column, row}
 
 -- R is an equivalence that holds for darts turned by one cell inside a patch, and over the border of one.
-pub record IsTurning (l : Layout) (x : Lengths) (R : CellDart → CellDart → Type 0) : Type 0 where
+pub record IsTurning (l : Gluing) (x : Lengths) (R : CellDart → CellDart → Type 0) : Type 0 where
   pub self : (d e : CellDart) → d ≡ e → R d e
   pub on : (d c e : CellDart) → R d c → R c e → R d e
   pub back : (d e : CellDart) → IsDart l x d → R d e → R e d
@@ -18,11 +18,11 @@ pub record IsTurning (l : Layout) (x : Lengths) (R : CellDart → CellDart → T
       → R (next (slot_dart l x w o)) (slot_dart l x v (x (use_of l w).arc - 1 - o))
 
 -- A cell holds darts of all four ways.
-pub is_dart : {l : Layout} {x : Lengths} (p i j : ℕ) (w : Way) → p < l.patches → i < wide l x p → j < high l x p
+pub is_dart : {l : Gluing} {x : Lengths} (p i j : ℕ) (w : Way) → p < l.patches → i < wide l x p → j < high l x p
     → IsDart l x (dart p i j w)
 is_dart p i j w low i_low j_low = record { patch_low = low; i_low = i_low; j_low = j_low }
 
-module _ {l : Layout} {x : Lengths} {R : CellDart → CellDart → Type 0} (turning : IsTurning l x R) where
+module _ {l : Gluing} {x : Lengths} {R : CellDart → CellDart → Type 0} (turning : IsTurning l x R) where
   same_cell : (p i j k m : ℕ) (w : Way) → i ≡ k → j ≡ m → R (dart p i j w) (dart p k m w)
   same_cell p i j k m w a b = turning.self (dart p i j w) (dart p k m w) (λ t. dart p (a t) (b t) w)
 

@@ -1,7 +1,7 @@
 -- No edge is doubled exactly where edges are told by their ends.
 use Rattle.std.proofs.Common.{◌≡◌, ◌≢◌, ◌⊎◌, ℕ, refl, sym, ◌∙◌, ap, inl, inr, arith}
 use Rattle.std.proofs.lemmas.Bool.{cases_eq, cases_lt}
-use Rattle.def_layout.specs.{Layouts.Layout, Surfaces.IsSurface, Lengths.Lengths, Lengths.AreLengths}
+use Rattle.def_layout.specs.{Gluings.Gluing, Surfaces.IsSurface, Lengths.Lengths, Lengths.AreLengths}
 use Rattle.def_written.specs.Numbers.{vertex_number}
 use Rattle.def_written.specs.Edges.{Edge, on_arc, flat, steep, IsEdge, edge_start, edge_end, HasEnds}
 use Rattle.def_written.specs.Edges.{IsUndoubled}
@@ -34,7 +34,7 @@ cases_edge (flat p i j) (steep q k m) = inr (λ e. cc)
 cases_edge (steep p i j) (on_arc b m) = inr (λ e. cc)
 cases_edge (steep p i j) (flat q k m) = inr (λ e. cc)
 
-module _ (l : Layout) (x : Lengths) where
+module _ (l : Gluing) (x : Lengths) where
   -- Two edges with these ends double a pair.
   pair_doubles : {e f : Edge} {u v : ℕ} → IsEdge l x e → IsEdge l x f → e ≢ f → HasEnds l x e u v → HasEnds l x f u v
       → ¬ IsUndoubled l x

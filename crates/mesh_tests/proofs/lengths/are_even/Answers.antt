@@ -1,7 +1,7 @@
 use Rattle.std.proofs.Common.{◌≡◌, ℕ, length, ap, subst, inl, inr}
 use Rattle.std.proofs.{Common.arith, lemmas.Bool.cases_lt, lemmas.List.length-map}
 use Rattle.def_cut.specs.Grids.{rectangle}
-use Rattle.def_layout.specs.Plans.{layout_of, Plan}
+use Rattle.def_layout.specs.Layouts.{gluing_of, Layout}
 use Rattle.def_remesh.specs.NewPoints.{lengths_in}
 use Rattle.mesh_tests.specs.Fits.{AreEven}
 use Rattle.mesh_tests.proofs.lengths.are_even.Goals as goal
@@ -13,7 +13,7 @@ is_even-requires-clause-patch c =
       c.loop-patch-test.true,
       c.len-patch-end.ensures,
       c.layout.result.now.patches.ok.0,
-      ap (λ (p : Plan). length p.patches) c.layout.ensures.plan,
+      ap (λ (p : Layout). length p.patches) c.layout.ensures.layout,
       length-map c.layout.result.now.patches.items rectangle,
     )
 
@@ -22,7 +22,7 @@ loop-patch-preserved c patch low = elim (cases_lt patch c.loop-patch.patch) [
   | inl less ↦ c.loop-patch.invariant patch less
   | inr more ↦
       let same : c.loop-patch.patch ≡ patch = omega arith in
-      subst (AreEven (layout_of c.args.cut.now.plan) (lengths_in c.args.lengths.now)) same
+      subst (AreEven (gluing_of c.args.cut.now.layout) (lengths_in c.args.lengths.now)) same
       (c.is_even.ensures c.if-not-is_even.false)
 ]
 
@@ -34,6 +34,6 @@ returns c on patch low = c.loop-patch.invariant patch
       c.loop-patch-test.false,
       c.len-patch-end.ensures,
       c.layout.result.now.patches.ok.0,
-      ap (λ (p : Plan). length p.patches) c.layout.ensures.plan,
+      ap (λ (p : Layout). length p.patches) c.layout.ensures.layout,
       length-map c.layout.result.now.patches.items rectangle,
     ))

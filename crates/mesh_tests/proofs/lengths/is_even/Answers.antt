@@ -1,5 +1,5 @@
 use Rattle.std.proofs.{Common.refl, Common.sym, Common.◌∙◌, lemmas.Bool.eqb-true}
-use Rattle.def_layout.specs.Layouts.{south, east, north, west}
+use Rattle.def_layout.specs.Gluings.{south, east, north, west}
 use Rattle.mesh_tests.proofs.lengths.is_even.Goals as goal
 
 pub returns-then-south-north : goal.returns-then-south-north

@@ -1,12 +1,13 @@
 use Rattle.std.proofs.Common.{refl}
-use Rattle.def_layout.specs.{Layouts.south, Layouts.east, Layouts.north, Layouts.west, Plans.layout_of, Plans.plan}
+use Rattle.def_layout.specs.{Gluings.south, Gluings.east, Gluings.north, Gluings.west, Layouts.gluing_of}
+use Rattle.def_layout.specs.{Layouts.layout_of}
 use Rattle.def_remesh.specs.NewPoints.{lengths_in}
 use Rattle.qm_blocks.proofs.Tables.{block_put, both_put}
 use Rattle.qm_blocks.proofs.spots.put_block.Goals as goal
 
 pub returns : goal.returns
 returns c =
-    let l = layout_of (plan c.args.t.now) in
+    let l = gluing_of (layout_of c.args.t.now) in
     let x = lengths_in c.args.x.now in
     block_put l x c.args.block _ _
     (both_put l x _ _ _ _ _

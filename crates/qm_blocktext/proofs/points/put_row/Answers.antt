@@ -16,7 +16,7 @@ returns-in_err-put_point-clause-part g c =
     let new = c.args.new.now in
     let here : c.place_near.result ≡ place_in new c.args.block c.args.j c.loop-i.i =
     c.place_near.ensures.value
-    ∙ (λ i. spaced_place new.soup.faces new.plan new.soup.pos (c.requires.even i) (lengths_in new.lengths)
+    ∙ (λ i. spaced_place new.soup.faces new.layout new.soup.pos (c.requires.even i) (lengths_in new.lengths)
     (c.point-v.ensures.number i)) in
     of_error c.from_residual.result
     (stops_at_number g.T.Output.takes g.T.Output.stops laws.stops_later laws.stops_before point_line
@@ -32,7 +32,7 @@ loop-i-preserved g c =
     let new = c.args.new.now in
     let here : c.place_near.result ≡ place_in new c.args.block c.args.j c.loop-i.i =
     c.place_near.ensures.value
-    ∙ (λ i. spaced_place new.soup.faces new.plan new.soup.pos (c.requires.even i) (lengths_in new.lengths)
+    ∙ (λ i. spaced_place new.soup.faces new.layout new.soup.pos (c.requires.even i) (lengths_in new.lengths)
     (c.point-v.ensures.number i)) in
     takes_number g.T.Output.takes laws.takes_more point_line (place_in new c.args.block c.args.j) c.loop-i.i _ _ _
     c.loop-i.invariant

@@ -5,7 +5,7 @@ use Rattle.std.proofs.lemmas.Result.{on_err_weaker, on_ok_weaker}
 use Rattle.def_blocks.specs.declared.link.Link.{Link}
 use Rattle.def_cuttext.specs.GridsText.{arcs_around, links_text}
 use Rattle.def_io.specs.Bytes.{Bytes}
-use Rattle.def_layout.specs.{Plans.plan, declared.tmesh.Side.Side, declared.tmesh.TMesh.TMesh}
+use Rattle.def_layout.specs.{Layouts.layout_of, declared.tmesh.Side.Side, declared.tmesh.TMesh.TMesh}
 use Rattle.def_remesh.specs.{CutSoups.CutSoup, Placings.IsMeshLayout}
 use Rattle.qm_output.proofs.Prefixes.{of_error}
 use Rattle.qm_blocktext.specs.Gridded.{arcs_of, links_in, points_in, size_in}
@@ -16,7 +16,7 @@ use Rattle.qm_blocktext.proofs.text.put_block.Goals as goal
 -- The lines of its links, and those of its points before them.
 abbrev link_lines : (blocks : Blocks) (block : ℕ) → Bytes
 link_lines blocks block =
-    links_text blocks.chosen (get_or (links_in blocks) block []) (arcs_around blocks.points.plan block)
+    links_text blocks.chosen (get_or (links_in blocks) block []) (arcs_around blocks.points.layout block)
 
 abbrev rest_of : (blocks : Blocks) (block : ℕ) → Bytes
 rest_of blocks block = points_in blocks.points block ++ link_lines blocks block
@@ -51,20 +51,20 @@ returns-in_err-put_points-clause-part g c =
 -- The arcs around it.
 around : (blocks : Blocks) (block : ℕ) (cut : CutSoup) (t : TMesh) (four : List Side)
     → block < length blocks.links.items
-    → cut ≡ record { soup = blocks.points.soup; plan = blocks.points.plan } → plan t ≡ cut.plan
-    → IsMeshLayout cut.soup.faces cut.plan → four ≡ get_or t.sides.items block four
-    → arcs_of four ≡ arcs_around blocks.points.plan block
-around blocks block cut t four low of same laid read = arcs_round t cut.plan same laid.0 block
-    (omega (arith, low, blocks.linked, ap (λ (k : CutSoup). length k.plan.patches) of)) four read ∙ ap
-    (λ (k : CutSoup). arcs_around k.plan block) of
+    → cut ≡ record { soup = blocks.points.soup; layout = blocks.points.layout } → layout_of t ≡ cut.layout
+    → IsMeshLayout cut.soup.faces cut.layout → four ≡ get_or t.sides.items block four
+    → arcs_of four ≡ arcs_around blocks.points.layout block
+around blocks block cut t four low of same laid read = arcs_round t cut.layout same laid.0 block
+    (omega (arith, low, blocks.linked, ap (λ (k : CutSoup). length k.layout.patches) of)) four read ∙ ap
+    (λ (k : CutSoup). arcs_around k.layout block) of
 
 pub index-requires : goal.index-requires
 index-requires g c =
     let blocks = c.args.blocks.now in
     let t = c.layout-layout.result.now in
     let low : c.args.block < length t.sides.items =
-    sides_low t c.cut.result.now.plan c.layout-layout.ensures.plan c.layout-layout.ensures.laid.0 c.args.block
-    (omega (arith, c.requires, blocks.linked, ap (λ (k : CutSoup). length k.plan.patches) c.cut.ensures)) in
+    sides_low t c.cut.result.now.layout c.layout-layout.ensures.layout c.layout-layout.ensures.laid.0 c.args.block
+    (omega (arith, c.requires, blocks.linked, ap (λ (k : CutSoup). length k.layout.patches) c.cut.ensures)) in
     omega (arith, low, t.sides.ok.0)
 
 pub returns-clause-whole : goal.returns-clause-whole
@@ -74,7 +74,7 @@ returns-clause-whole g c =
     let links = own blocks c.args.block c.as_slice-links.result.now c.index-links-block.result c.requires
     c.as_slice-links.ensures.value c.index-links-block.is in
     let arcs = around blocks c.args.block c.cut.result.now c.layout-layout.result.now c.index.result.now c.requires
-    c.cut.ensures c.layout-layout.ensures.plan c.layout-layout.ensures.laid c.index.ensures in
+    c.cut.ensures c.layout-layout.ensures.layout c.layout-layout.ensures.laid c.index.ensures in
     on_ok_weaker c.put_links.result
     (λ last. laws.takes_more _ _ _ (size_in blocks.points c.args.block) (rest_of blocks c.args.block)
     c.in_ok-put_size.ensures.whole
@@ -90,7 +90,7 @@ returns-clause-part g c =
     let links = own blocks c.args.block c.as_slice-links.result.now c.index-links-block.result c.requires
     c.as_slice-links.ensures.value c.index-links-block.is in
     let arcs = around blocks c.args.block c.cut.result.now c.layout-layout.result.now c.index.result.now c.requires
-    c.cut.ensures c.layout-layout.ensures.plan c.layout-layout.ensures.laid c.index.ensures in
+    c.cut.ensures c.layout-layout.ensures.layout c.layout-layout.ensures.laid c.index.ensures in
     on_err_weaker c.put_links.result
     (λ last. laws.stops_later _ _ _ (size_in blocks.points c.args.block) (rest_of blocks c.args.block)
     c.in_ok-put_size.ensures.whole

@@ -9,11 +9,11 @@ pub returns-in_err-put_block-clause-part : goal.returns-in_err-put_block-clause-
 returns-in_err-put_block-clause-part g c =
     let laws = g.met.T.Output in
     let blocks = c.args.blocks.now in
-    let low : c.loop-block.block < length blocks.points.plan.patches =
+    let low : c.loop-block.block < length blocks.points.layout.patches =
     omega (arith, c.loop-block-test.true, c.len-block-end.ensures, blocks.links.ok.0, blocks.linked) in
     of_error c.from_residual.result
     (stops_at g.T.Output.takes g.T.Output.stops laws.stops_later laws.stops_before (lines_at blocks)
-    (length blocks.points.plan.patches) c.loop-block.block _ _ _ low c.loop-block.invariant
+    (length blocks.points.layout.patches) c.loop-block.block _ _ _ low c.loop-block.invariant
     c.in_err-put_block.ensures.part)
 
 pub loop-block-preserved : goal.loop-block-preserved
@@ -23,7 +23,7 @@ loop-block-preserved g c = takes_one g.T.Output.takes g.met.T.Output.takes_more 
 pub returns-clause-whole : goal.returns-clause-whole
 returns-clause-whole g c =
     let blocks = c.args.blocks.now in
-    let all : c.loop-block.block ≡ length blocks.points.plan.patches =
+    let all : c.loop-block.block ≡ length blocks.points.layout.patches =
     omega (
       arith,
       blocks.linked,

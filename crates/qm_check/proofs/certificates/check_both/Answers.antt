@@ -11,27 +11,28 @@ check_lengths-requires-clause-cert c = c.requires.reach.0
 
 pub returns-in_err-numbering-clause-unused : goal.returns-in_err-numbering-clause-unused
 returns-in_err-numbering-clause-unused c wish for =
-    let plan = c.args.cut.now.plan in
+    let layout = c.args.cut.now.layout in
     let net = network c.args.net in
     let told = raised (lists_of c.args.pair.first) (lists_of c.args.pair.third) in
-    handed (IsUnused wish plan c.args.terms.settings told) c.from_residual.result
+    handed (IsUnused wish layout c.args.terms.settings told) c.from_residual.result
     c.in_err-numbering.field-0.0 c.from_residual.ensures.1
-    (unused_there wish plan c.args.terms.settings net [] net (passed_none wish plan c.args.terms.settings net for) told
+    (unused_there wish layout c.args.terms.settings net [] net (passed_none wish layout c.args.terms.settings net for)
+    told
     told c.args.pair.first c.in_err-numbering.field-0.0 refl refl c.in_err-numbering.ensures.refused)
 
 pub check_third-requires-clause-doubling : goal.check_third-requires-clause-doubling
 check_third-requires-clause-doubling c wish for =
-    doubling_of wish c.args.cut.now.plan (network c.args.net) c.args.terms.settings c.args.pair.first _ _ for
+    doubling_of wish c.args.cut.now.layout (network c.args.net) c.args.terms.settings c.args.pair.first _ _ for
     c.in_ok-numbering.ensures.solved
-    (subst (Gives c.args.cut.now.plan (network c.args.net) c.args.pair.first.x.items) c.in-Doubled.is
+    (subst (Gives c.args.cut.now.layout (network c.args.net) c.args.pair.first.x.items) c.in-Doubled.is
     c.in_ok-numbering.ensures.gives)
 
 pub returns-in-Whole-clause-checked : goal.returns-in-Whole-clause-checked
 returns-in-Whole-clause-checked c wish for =
-    let plan = c.args.cut.now.plan in
+    let layout = c.args.cut.now.layout in
     let net = network c.args.net in
     let told = raised (lists_of c.args.pair.first) (lists_of c.args.pair.third) in
-    checked_there wish plan c.args.terms.settings net [] net (passed_none wish plan c.args.terms.settings net for)
+    checked_there wish layout c.args.terms.settings net [] net (passed_none wish layout c.args.terms.settings net for)
     c.args.terms.rising told told c.args.pair.first (Alone c.args.pair.first) c.in-Whole.numbering
     c.in-Whole.deviation refl refl c.requires.reach refl c.in_ok-numbering.ensures.solved
-    (subst (Gives plan net c.args.pair.first.x.items) c.in-Whole.is c.in_ok-numbering.ensures.gives)
+    (subst (Gives layout net c.args.pair.first.x.items) c.in-Whole.is c.in_ok-numbering.ensures.gives)

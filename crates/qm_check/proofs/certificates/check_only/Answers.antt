@@ -8,28 +8,29 @@ use Rattle.qm_check.proofs.certificates.check_only.Goals as goal
 
 pub returns-in_err-numbering-clause-unused : goal.returns-in_err-numbering-clause-unused
 returns-in_err-numbering-clause-unused c wish for =
-    let plan = c.args.cut.now.plan in
+    let layout = c.args.cut.now.layout in
     let net = network c.args.net.now in
     let told = alone (lists_of c.args.cert) in
-    handed (IsUnused wish plan c.args.terms.settings told) c.from_residual.result
+    handed (IsUnused wish layout c.args.terms.settings told) c.from_residual.result
     c.in_err-numbering.field-0.0 c.from_residual.ensures.1
-    (unused_there wish plan c.args.terms.settings net [] net (passed_none wish plan c.args.terms.settings net for) told
+    (unused_there wish layout c.args.terms.settings net [] net (passed_none wish layout c.args.terms.settings net for)
+    told
     told c.args.cert c.in_err-numbering.field-0.0 refl refl c.in_err-numbering.ensures.refused)
 
 pub returns-in-Whole-clause-checked : goal.returns-in-Whole-clause-checked
 returns-in-Whole-clause-checked c wish for =
-    let plan = c.args.cut.now.plan in
+    let layout = c.args.cut.now.layout in
     let net = network c.args.net.now in
     let told = alone (lists_of c.args.cert) in
-    checked_there wish plan c.args.terms.settings net [] net (passed_none wish plan c.args.terms.settings net for)
+    checked_there wish layout c.args.terms.settings net [] net (passed_none wish layout c.args.terms.settings net for)
     c.args.terms.rising told told c.args.cert (Alone c.args.cert) c.in-Whole.numbering c.in-Whole.deviation refl refl
     c.requires.cert refl c.in_ok-numbering.ensures.solved
-    (subst (Gives plan net c.args.cert.x.items) c.in-Whole.is c.in_ok-numbering.ensures.gives)
+    (subst (Gives layout net c.args.cert.x.items) c.in-Whole.is c.in_ok-numbering.ensures.gives)
 
 pub returns-in-Doubled-clause-unused : goal.returns-in-Doubled-clause-unused
 returns-in-Doubled-clause-unused c wish for =
-    let plan = c.args.cut.now.plan in
+    let layout = c.args.cut.now.layout in
     let net = network c.args.net.now in
-    unused_last wish plan c.args.terms.settings net [] net (passed_none wish plan c.args.terms.settings net for)
+    unused_last wish layout c.args.terms.settings net [] net (passed_none wish layout c.args.terms.settings net for)
     (alone (lists_of c.args.cert)) c.args.cert c.in-Doubled.u c.in-Doubled.v refl c.in_ok-numbering.ensures.solved
-    (subst (Gives plan net c.args.cert.x.items) c.in-Doubled.is c.in_ok-numbering.ensures.gives)
+    (subst (Gives layout net c.args.cert.x.items) c.in-Doubled.is c.in_ok-numbering.ensures.gives)

@@ -13,7 +13,7 @@ check_lengths-requires-clause-net c = (
   c.requires.net.0,
   c.args.terms.settings,
   λ arc. 3,
-  third_net c.args.cut.now.plan c.args.terms.settings (network c.args.net) (network c.with_floor-higher.result)
+  third_net c.args.cut.now.layout c.args.terms.settings (network c.args.net) (network c.with_floor-higher.result)
       c.requires.net.1
       (has_floors (network c.args.net) 3 (network c.with_floor-higher.result) c.with_floor-higher.ensures),
 )
@@ -24,13 +24,13 @@ check_lengths-requires-clause-cert c = c.requires.reach.1
 pub returns-in_err-numbering-clause-unused : goal.returns-in_err-numbering-clause-unused
 returns-in_err-numbering-clause-unused c wish for =
     let higher = network c.with_floor-higher.result in
-    handed (IsUnused wish c.args.cut.now.plan c.args.terms.settings
+    handed (IsUnused wish c.args.cut.now.layout c.args.terms.settings
     (raised (lists_of c.args.pair.first) (lists_of c.args.pair.third))) c.from_residual.result
     c.in_err-numbering.field-0.0 c.from_residual.ensures.1
-    (unused_third wish c.args.cut.now.plan higher c.args.terms.settings c.args.pair.first
+    (unused_third wish c.args.cut.now.layout higher c.args.terms.settings c.args.pair.first
     c.args.pair.third c.in_err-numbering.field-0.0
     (c.requires.doubling wish for)
-    (third_net c.args.cut.now.plan c.args.terms.settings (network c.args.net) higher for
+    (third_net c.args.cut.now.layout c.args.terms.settings (network c.args.net) higher for
     (has_floors (network c.args.net) 3 higher c.with_floor-higher.ensures))
     c.in_err-numbering.ensures.refused)
 
@@ -38,16 +38,16 @@ pub returns-clause-checked : goal.returns-clause-checked
 returns-clause-checked c wish for =
     let higher = network c.with_floor-higher.result in
     let has = has_floors (network c.args.net) 3 higher c.with_floor-higher.ensures in
-    checked_third wish c.args.cut.now.plan (network c.args.net) higher c.args.terms
+    checked_third wish c.args.cut.now.layout (network c.args.net) higher c.args.terms
     c.args.pair.first c.args.pair.third
     c.in-Whole.numbering c.in-Whole.deviation c.requires.reach.2 (c.requires.doubling wish for)
-    (third_net c.args.cut.now.plan c.args.terms.settings (network c.args.net) higher for has) has
+    (third_net c.args.cut.now.layout c.args.terms.settings (network c.args.net) higher for has) has
     c.in_ok-numbering.ensures.solved
-    (subst (Gives c.args.cut.now.plan higher c.args.pair.third.x.items) c.in-Whole.is c.in_ok-numbering.ensures.gives)
+    (subst (Gives c.args.cut.now.layout higher c.args.pair.third.x.items) c.in-Whole.is c.in_ok-numbering.ensures.gives)
 
 pub unreachable-requires : goal.unreachable-requires
 unreachable-requires c =
-    let gives = subst (Gives c.args.cut.now.plan (network c.with_floor-higher.result) c.args.pair.third.x.items)
+    let gives = subst (Gives c.args.cut.now.layout (network c.with_floor-higher.result) c.args.pair.third.x.items)
     c.in-Doubled.is c.in_ok-numbering.ensures.gives in
     let has = has_floors (network c.args.net) 3 (network c.with_floor-higher.result) c.with_floor-higher.ensures in
     gives.2

@@ -59,11 +59,11 @@ compare-requires-clause-kept c = (
 
 -- The lines between are those of the marks of the frame.
 between_is : (c : In_ok-between) → c.in_ok-between.between.items
-    ≡ kept_text (marks_of c.args.ready.frame) c.args.ready.cut.plan
+    ≡ kept_text (marks_of c.args.ready.frame) c.args.ready.cut.layout
     (lengths_in (used (certificates_of c.in_ok-checked.checked.remesh.certs)).x)
 between_is c =
     c.in_ok-between.ensures
-    ∙ ap (λ (kept : Option (List Bool)). kept_text kept c.args.ready.cut.plan
+    ∙ ap (λ (kept : Option (List Bool)). kept_text kept c.args.ready.cut.layout
     (lengths_in (used (certificates_of c.in_ok-checked.checked.remesh.certs)).x))
     c.as_deref.ensures.value
 
@@ -86,7 +86,7 @@ returns-in_err-new-clause-refused c task is =
     (between_is (goal.at.returns-in_err-new-clause-refused c).In_ok-between) refl
     c.in_err-new.field-0.0
     (subst (λ (given : Bytes). IsDifference given
-    (framed_text framed c.args.ready.cut.soup c.args.ready.cut.plan) c.in_err-new.field-0.0)
+    (framed_text framed c.args.ready.cut.soup c.args.ready.cut.layout) c.in_err-new.field-0.0)
     c.written_text.ensures c.in_err-new.ensures.other))
 
 pub returns-clause-finished : goal.returns-clause-finished

@@ -8,17 +8,17 @@ use Rattle.qm_check.proofs.lengths.check_lengths.Goals as goal
 
 pub returns-in_err-deviation-clause-refused : goal.returns-in_err-deviation-clause-refused
 returns-in_err-deviation-clause-refused c =
-    handed (GivesNone c.args.cut.now.plan (network c.args.net.now) c.args.cert.now) c.from_residual.result
+    handed (GivesNone c.args.cut.now.layout (network c.args.net.now) c.args.cert.now) c.from_residual.result
     c.in_err-deviation.field-0.0
-    c.from_residual.ensures.1 (c.in_err-deviation.ensures.refused c.args.cut.now.plan)
+    c.from_residual.ensures.1 (c.in_err-deviation.ensures.refused c.args.cut.now.layout)
 
 pub plan_over-requires-clause-lengths : goal.plan_over-requires-clause-lengths
-plan_over-requires-clause-lengths c = are_lengths c.args.cut.now.plan c.requires.net.1 (network c.args.net.now)
+plan_over-requires-clause-lengths c = are_lengths c.args.cut.now.layout c.requires.net.1 (network c.args.net.now)
     c.args.cert.now _ c.requires.net.3 c.in_ok-deviation.ensures.solved c.deref.ensures.value
 
 pub returns-in-Ok-clause-gives : goal.returns-in-Ok-clause-gives
 returns-in-Ok-clause-gives c = (
-  subst (λ (xs : List ℕ). IsNumbered c.args.cut.now.plan xs c.in-Ok.numbering) c.deref.ensures.value (record {
+  subst (λ (xs : List ℕ). IsNumbered c.args.cut.now.layout xs c.in-Ok.numbering) c.deref.ensures.value (record {
     numbering = c.in-Ok.ensures.numbering;
     lengths = c.in-Ok.ensures.lengths;
     undoubled = c.in-Ok.ensures.undoubled;
@@ -29,14 +29,14 @@ returns-in-Ok-clause-gives c = (
 
 pub returns-in-Err-Doubled-clause-gives : goal.returns-in-Err-Doubled-clause-gives
 returns-in-Err-Doubled-clause-gives c =
-    let plan = c.args.cut.now.plan in
-    let both = doubled_first plan _ c.args.cert.now.x.items c.in-Err-Doubled.field-0 _ _ c.deref.ensures.value
+    let layout = c.args.cut.now.layout in
+    let both = doubled_first layout _ c.args.cert.now.x.items c.in-Err-Doubled.field-0 _ _ c.deref.ensures.value
     c.in-Err-Doubled.field-0-is c.in-Err-Doubled.ensures.refused in (
       both.0,
       both.1,
-      λ highest. none_doubled plan _ c.args.cert.now.x.items c.plan_over.result c.in-Err-Doubled.field-0 _ _
+      λ highest. none_doubled layout _ c.args.cert.now.x.items c.plan_over.result c.in-Err-Doubled.field-0 _ _
           c.deref.ensures.value
-          (long_lengths plan c.requires.net.1 (network c.args.net.now) c.args.cert.now c.requires.net.3
+          (long_lengths layout c.requires.net.1 (network c.args.net.now) c.args.cert.now c.requires.net.3
           c.in_ok-deviation.ensures.solved highest)
           c.plan_over.ensures.safe c.in-Err-Doubled.is c.in-Err-Doubled.field-0-is,
     )

@@ -2,7 +2,7 @@ use Rattle.std.proofs.Common.{List, Bool, ℕ, Option, refl, sym, ◌∙◌, ap,
 use Rattle.error_laws.proofs.Errors.{handed}
 use Rattle.def_fit.specs.{Aims.aimed, Aims.fit_settings, Aims.AreAimedNear, Shares.shares_of}
 use Rattle.def_flow.specs.Network.{network}
-use Rattle.def_layout.specs.Plans.{plan}
+use Rattle.def_layout.specs.Layouts.{layout_of}
 use Rattle.def_mesh.specs.Faces.{Faces}
 use Rattle.def_patches.specs.Chosen.{IsChosenLayout}
 use Rattle.def_remesh.specs.{CutSoups.CutSoup, Keeping.IsNetFor}
@@ -19,7 +19,7 @@ old_is c = subst (λ (cut : CutSoup). IsOld c.args.text.now cut.soup) (sym c.new
 cut_is : (c : After-new-cut)
     → IsCutBy c.args.least.now c.args.text.now c.new-cut.result (asides_of c.in_ok-asides.asides)
 cut_is c =
-    let t = plan c.in_ok-layout.layout in
+    let t = layout_of c.in_ok-layout.layout in
     let patches = c.args.least.now.fit.patches in
     cut_by c.args.least.now c.args.text.now c.args.old t c.new-cut.result
     (asides_of c.in_ok-asides.asides) c.new-cut.ensures
@@ -52,7 +52,7 @@ returns-in_err-net-clause-unmade c command is =
     (net_unmade command c.args.line.now c.args.text.now c.args.least.now
     (point_of command c.args.line.now c.args.least.now is) cut
     (asides_of c.in_ok-asides.asides) (old_is at) (cut_is at) c.in_err-net.field-0.0
-    (subst (λ (ws : List ℕ). HasNoNet fit.aim (aimed fit.aim cut.soup ws) cut.plan
+    (subst (λ (ws : List ℕ). HasNoNet fit.aim (aimed fit.aim cut.soup ws) cut.layout
     (fit_settings fit) c.in_err-net.field-0.0) c.deref.ensures.value
     c.in_err-net.ensures.none))
 
@@ -66,7 +66,7 @@ returns-clause-ready c command is =
     record {
       task = task command c.args.line.now c.args.text.now c.args.least.now point cut asides (old_is at) (cut_is at);
       only = only_for command c.args.line.now c.args.text.now c.args.least.now point cut asides (old_is at) (cut_is at)
-          (subst (λ (ws : List ℕ). AreAimedNear fit.aim (aimed fit.aim cut.soup ws) cut.plan) c.deref.ensures.value
+          (subst (λ (ws : List ℕ). AreAimedNear fit.aim (aimed fit.aim cut.soup ws) cut.layout) c.deref.ensures.value
           c.in_ok-net.ensures.near);
       holds = record {
         laid_out =
@@ -81,7 +81,7 @@ returns-clause-ready c command is =
             (λ marks full laid. c.in_ok-shares.ensures marks full laid
             ∙ ap (λ ws. shares_of fit cut.soup ws marks) c.deref-2.ensures.value);
         net =
-            subst (λ (ws : List ℕ). IsNetFor (aimed fit.aim cut.soup ws) cut.plan (fit_settings fit)
+            subst (λ (ws : List ℕ). IsNetFor (aimed fit.aim cut.soup ws) cut.layout (fit_settings fit)
             (network c.in_ok-net.net)) c.deref.ensures.value
             c.in_ok-net.ensures.net;
       };

@@ -8,7 +8,7 @@ use Rattle.qm_check.proofs.refined.compare_refined.Goals as goal
 
 pub returns-in-Ok-2-clause-other : goal.returns-in-Ok-2-clause-other
 returns-in-Ok-2-clause-other c =
-    let text : Bytes = refined_text c.args.by c.args.new.now.soup c.args.new.now.plan in
+    let text : Bytes = refined_text c.args.by c.args.new.now.soup c.args.new.now.layout in
     subst (IsDifference c.args.given.now text) (sym c.other_from.ensures)
     (subst (λ (n : ℕ). DifferFrom c.args.given.now text (n + 1)) (sym c.at.ensures)
     (longer_differ c.args.given.now text c.new-comparison.result c.put_refined.new.out c.new-comparison.ensures
@@ -17,7 +17,7 @@ returns-in-Ok-2-clause-other c =
 
 pub returns-in-Err-clause-other : goal.returns-in-Err-clause-other
 returns-in-Err-clause-other c =
-    let text : Bytes = refined_text c.args.by c.args.new.now.soup c.args.new.now.plan in
+    let text : Bytes = refined_text c.args.by c.args.new.now.soup c.args.new.now.layout in
     subst (IsDifference c.args.given.now text) (sym c.other_from-in-Err.ensures)
     (subst (λ (n : ℕ). DifferFrom c.args.given.now text (n + 1)) (sym c.at-in-Err.ensures)
     (stopped_differ c.args.given.now text c.new-comparison.result c.put_refined.new.out c.new-comparison.ensures

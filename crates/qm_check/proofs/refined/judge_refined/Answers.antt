@@ -2,7 +2,7 @@ use Rattle.std.proofs.Common.{◌≤◌, length, sym, ap, ◌∙◌, subst}
 use Rattle.error_laws.proofs.Errors.{handed}
 use Rattle.def_cut.specs.Traced.{traced_marks}
 use Rattle.def_io.specs.Bytes.{Bytes}
-use Rattle.def_layout.specs.{Arcs.long_at, FaceLayouts.IsCutLayout, Plans.plan, Plans.Plan}
+use Rattle.def_layout.specs.{Arcs.long_at, FaceLayouts.IsCutLayout, Layouts.layout_of, Layouts.Layout}
 use Rattle.def_mesh.specs.Faces.{Faces}
 use Rattle.def_remesh.specs.{CutSoups.CutSoup, NewPoints.multiple_of, Refined.refined_text}
 use Rattle.def_run.specs.{MapFails.IsMapFail, Remesh.IsTracedLayout, declared.command.Command.TheVariants.Refine}
@@ -17,10 +17,10 @@ given : (c : After-new) → IsGivenTo c.args.bytes.now c.args.mark c.new.result.
 given c = subst (λ (cut : CutSoup). IsGivenTo c.args.bytes.now c.args.mark cut.soup (Refine c.args.by))
     (sym c.new.ensures) c.requires.given
 
-laid : (c : After-new) → IsTracedLayout c.new.result.soup.faces c.new.result.plan
+laid : (c : After-new) → IsTracedLayout c.new.result.soup.faces c.new.result.layout
 laid c =
-    subst (λ (cut : CutSoup). IsTracedLayout cut.soup.faces cut.plan) (sym c.new.ensures)
-    (subst (λ (fs : Faces). IsCutLayout fs (traced_marks fs) (plan c.in_ok-layout.layout)) c.mesh.ensures
+    subst (λ (cut : CutSoup). IsTracedLayout cut.soup.faces cut.layout) (sym c.new.ensures)
+    (subst (λ (fs : Faces). IsCutLayout fs (traced_marks fs) (layout_of c.in_ok-layout.layout)) c.mesh.ensures
     c.in_ok-layout.ensures.traced)
 
 pub new-requires : goal.new-requires
@@ -46,7 +46,7 @@ compare_refined-requires-clause-few c = subst (λ (given : Bytes). length given 
 
 pub compare_refined-requires-clause-lengths : goal.compare_refined-requires-clause-lengths
 compare_refined-requires-clause-lengths c = c.in_ok-new.ensures.refined.lengths ∙ ap
-    (λ (p : Plan). multiple_of c.args.by (long_at p.arcs)) (sym c.in_ok-new.ensures.refined.plan)
+    (λ (p : Layout). multiple_of c.args.by (long_at p.arcs)) (sym c.in_ok-new.ensures.refined.layout)
 
 pub returns-in_err-compare_refined-clause-refused : goal.returns-in_err-compare_refined-clause-refused
 returns-in_err-compare_refined-clause-refused c =
@@ -56,7 +56,7 @@ returns-in_err-compare_refined-clause-refused c =
     (other_refined c.args.bytes.now c.args.mark c.new.result c.args.by (given at) (laid at) c.in_ok-new.new
     c.in_ok-new.ensures.refined
     c.in_err-compare_refined.field-0.0
-    (subst (λ (given : Bytes). IsDifference given (refined_text c.args.by c.in_ok-new.new.soup c.in_ok-new.new.plan)
+    (subst (λ (given : Bytes). IsDifference given (refined_text c.args.by c.in_ok-new.new.soup c.in_ok-new.new.layout)
     c.in_err-compare_refined.field-0.0)
     c.written_text.ensures c.in_err-compare_refined.ensures.other))
 

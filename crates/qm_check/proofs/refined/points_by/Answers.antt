@@ -1,12 +1,12 @@
 use Rattle.std.proofs.Common.{arith, subst}
-use Rattle.def_layout.specs.{Arcs.long_at, Plans.layout_of}
+use Rattle.def_layout.specs.{Arcs.long_at, Layouts.gluing_of}
 use Rattle.def_remesh.specs.{NewPoints.multiple_of, Stitched.IsUnstitched}
 use Rattle.qm_check.proofs.refined.points_by.Goals as goal
 
 pub returns-in-Ok-clause-refined : goal.returns-in-Ok-clause-refined
 returns-in-Ok-clause-refined c = record {
   soup = c.in-Ok.ensures.new.0;
-  plan = c.in-Ok.ensures.new.1;
+  layout = c.in-Ok.ensures.new.1;
   lengths = c.in-Ok.ensures.new.2;
   shares = c.in-Ok.ensures.new.3;
   shape = c.in-Ok.ensures.shape;
@@ -15,7 +15,7 @@ returns-in-Ok-clause-refined c = record {
 
 pub returns-in-Err-TooFine-clause-refused : goal.returns-in-Err-TooFine-clause-refused
 returns-in-Err-TooFine-clause-refused c =
-    let t = c.args.cut.plan in
-    let told = subst (IsUnstitched (layout_of t) (multiple_of c.args.by (long_at t.arcs))) c.in-Err-TooFine.field-0-is
+    let t = c.args.cut.layout in
+    let told = subst (IsUnstitched (gluing_of t) (multiple_of c.args.by (long_at t.arcs))) c.in-Err-TooFine.field-0-is
     c.in-Err-TooFine.ensures.refused in
     (told.0, omega (arith, told.0, told.1))

@@ -5,7 +5,7 @@ use Rattle.def_certtext.specs.CertLines.{alone, lists_of, risen, risen_by}
 use Rattle.def_certtext.specs.{CertLines.Certificates, declared.certs.Certs.TheVariants.Risen, declared.certs.Rise.Rise}
 use Rattle.def_certtext.specs.declared.certs.Round.{Round}
 use Rattle.def_flow.specs.Network.{network}
-use Rattle.def_layout.specs.Plans.{layout_of}
+use Rattle.def_layout.specs.Layouts.{gluing_of}
 use Rattle.def_layoutnet.specs.Floors.{floor_of, HasFloors}
 use Rattle.def_remesh.specs.{Certified.IsDoubling, Keeping.IsNetFor, NewPoints.lengths_in, Rises.risen_floors}
 use Rattle.def_remesh.specs.Tasks.{given_floors, Wish}
@@ -26,9 +26,9 @@ rounds-init c =
       left = ap (λ (xs : List Round). xs ++ into_iter_items c.into_iter-round-iterator.result)
           c.new-passed.ensures.items ∙ gives.0;
       many = omega (arith, gives.1, ap length gives.0, c.args.run.rounds.ok.0);
-      passed = λ wish for. subst (λ (xs : List Round). ArePassed wish c.args.cut.now.plan c.args.terms.settings
+      passed = λ wish for. subst (λ (xs : List Round). ArePassed wish c.args.cut.now.layout c.args.terms.settings
           (network c.args.net) xs (network c.args.net)) (sym c.new-passed.ensures.items)
-          (passed_none wish c.args.cut.now.plan c.args.terms.settings (network c.args.net) for);
+          (passed_none wish c.args.cut.now.layout c.args.terms.settings (network c.args.net) for);
     }
 
 -- ---- In a round.
@@ -68,9 +68,9 @@ pub returns-in_err-numbering-clause-unused : goal.returns-in_err-numbering-claus
 returns-in_err-numbering-clause-unused c wish for =
     let at = (goal.at.returns-in_err-numbering-clause-unused c).In-Some in
     let told = risen_by c.args.run.rounds.items (alone (lists_of c.args.run.cert)) in
-    handed (IsUnused wish c.args.cut.now.plan c.args.terms.settings told) c.from_residual.result
+    handed (IsUnused wish c.args.cut.now.layout c.args.terms.settings told) c.from_residual.result
     c.in_err-numbering.field-0.0 c.from_residual.ensures.1
-    (unused_there wish c.args.cut.now.plan c.args.terms.settings (network c.args.net) c.rounds.passed.items
+    (unused_there wish c.args.cut.now.layout c.args.terms.settings (network c.args.net) c.rounds.passed.items
     (network c.rounds.net) (c.rounds.invariant.passed wish for) (from at) told c.in-Some.round.cert
     c.in_err-numbering.field-0.0 (told_is at) refl c.in_err-numbering.ensures.refused)
 
@@ -78,22 +78,23 @@ pub returns-in-Whole-clause-checked : goal.returns-in-Whole-clause-checked
 returns-in-Whole-clause-checked c wish for =
     let at = (goal.at.returns-in-Whole-clause-checked c).In-Some in
     let told = risen_by c.args.run.rounds.items (alone (lists_of c.args.run.cert)) in
-    subst (IsChecked wish c.args.cut.now.plan (network c.args.net) c.args.terms told) (sym c.checked_by.ensures)
-    (checked_there wish c.args.cut.now.plan c.args.terms.settings (network c.args.net) c.rounds.passed.items
+    subst (IsChecked wish c.args.cut.now.layout (network c.args.net) c.args.terms told) (sym c.checked_by.ensures)
+    (checked_there wish c.args.cut.now.layout c.args.terms.settings (network c.args.net) c.rounds.passed.items
     (network c.rounds.net) (c.rounds.invariant.passed wish for) c.args.terms.rising (from at) told c.in-Some.round.cert
     (Risen c.rounds.passed c.in-Some.round.cert) c.in-Whole.numbering c.in-Whole.deviation (told_is at) refl
     c.requires.reach refl c.in_ok-numbering.ensures.solved
-    (subst (Gives c.args.cut.now.plan (network c.rounds.net) c.in-Some.round.cert.x.items) c.in-Whole.is
+    (subst (Gives c.args.cut.now.layout (network c.rounds.net) c.in-Some.round.cert.x.items) c.in-Whole.is
     c.in_ok-numbering.ensures.gives))
 
 -- Its lengths double an edge.
-doubling : (c : In-Doubled) (wish : Wish) → IsNetFor wish c.args.cut.now.plan c.args.terms.settings (network c.args.net)
-    → IsDoubling wish c.args.cut.now.plan c.args.terms.settings
+doubling : (c : In-Doubled) (wish : Wish)
+    → IsNetFor wish c.args.cut.now.layout c.args.terms.settings (network c.args.net)
+    → IsDoubling wish c.args.cut.now.layout c.args.terms.settings
     (floors_behind c.rounds.passed.items (given_floors c.args.terms.settings)) (lists_of c.in-Some.round.cert)
 doubling c wish for =
-    doubling_of wish c.args.cut.now.plan (network c.rounds.net) c.args.terms.settings c.in-Some.round.cert _ _
+    doubling_of wish c.args.cut.now.layout (network c.rounds.net) c.args.terms.settings c.in-Some.round.cert _ _
     (c.rounds.invariant.passed wish for).risen c.in_ok-numbering.ensures.solved
-    (subst (Gives c.args.cut.now.plan (network c.rounds.net) c.in-Some.round.cert.x.items) c.in-Doubled.is
+    (subst (Gives c.args.cut.now.layout (network c.rounds.net) c.in-Some.round.cert.x.items) c.in-Doubled.is
     c.in_ok-numbering.ensures.gives)
 
 pub check_rises-requires-clause-long : goal.check_rises-requires-clause-long
@@ -103,7 +104,7 @@ check_rises-requires-clause-long c =
 
 pub check_rises-requires-clause-lengths : goal.check_rises-requires-clause-lengths
 check_rises-requires-clause-lengths c =
-    are_lengths c.args.cut.now.plan c.args.terms.settings (network c.rounds.net) c.in-Some.round.cert
+    are_lengths c.args.cut.now.layout c.args.terms.settings (network c.rounds.net) c.in-Some.round.cert
     c.in-Some.round.cert.x.items (c.rounds.invariant.passed c.requires.net.0 c.requires.net.1).risen
     c.in_ok-numbering.ensures.solved refl
 
@@ -111,9 +112,9 @@ pub returns-in_err-check_rises-clause-unused : goal.returns-in_err-check_rises-c
 returns-in_err-check_rises-clause-unused c wish for =
     let at = (goal.at.returns-in_err-check_rises-clause-unused c).In-Some in
     let told = risen_by c.args.run.rounds.items (alone (lists_of c.args.run.cert)) in
-    handed (IsUnused wish c.args.cut.now.plan c.args.terms.settings told) c.from_residual-in_err-check_rises.result
+    handed (IsUnused wish c.args.cut.now.layout c.args.terms.settings told) c.from_residual-in_err-check_rises.result
     c.in_err-check_rises.field-0.0 c.from_residual-in_err-check_rises.ensures.1
-    (unused_rises wish c.args.cut.now.plan c.args.terms.settings (network c.args.net) c.rounds.passed.items
+    (unused_rises wish c.args.cut.now.layout c.args.terms.settings (network c.args.net) c.rounds.passed.items
     (network c.rounds.net) (c.rounds.invariant.passed wish for) c.in-Some.round (after at) told _
     c.in_err-check_rises.field-0.0 (told_is at) (omega (arith, c.len.ensures, c.rounds.passed.ok.0))
     (doubling (goal.at.returns-in_err-check_rises-clause-unused c).In-Doubled wish for)
@@ -122,12 +123,12 @@ returns-in_err-check_rises-clause-unused c wish for =
 pub with_rises-net-requires : goal.with_rises-net-requires
 with_rises-net-requires c k d low =
     let net = (c.rounds.invariant.passed c.requires.net.0 c.requires.net.1).risen in
-    let long : length (network c.rounds.net).arcs ≡ (layout_of c.args.cut.now.plan).arcs = net.is.long in
+    let long : length (network c.rounds.net).arcs ≡ (gluing_of c.args.cut.now.layout).arcs = net.is.long in
     let same = c.deref.ensures.value in
-    let there = needed_there (layout_of c.args.cut.now.plan) (lengths_in c.in-Some.round.cert.x.items)
+    let there = needed_there (gluing_of c.args.cut.now.layout) (lengths_in c.in-Some.round.cert.x.items)
     c.in-Some.round.rises.items c.in_ok-check_rises.ensures.needed k d (omega (arith, low, ap length same)) in
-    let moved : (slice_index_or c.deref.result.now k d).arc < (layout_of c.args.cut.now.plan).arcs =
-    subst (λ (rs : List Rise). (slice_index_or rs k d).arc < (layout_of c.args.cut.now.plan).arcs) (sym same) there in
+    let moved : (slice_index_or c.deref.result.now k d).arc < (gluing_of c.args.cut.now.layout).arcs =
+    subst (λ (rs : List Rise). (slice_index_or rs k d).arc < (gluing_of c.args.cut.now.layout).arcs) (sym same) there in
     omega (arith, moved, long)
 
 pub rounds-preserved : goal.rounds-preserved
@@ -148,9 +149,9 @@ rounds-preserved c =
         c.in-Some.ensures.steps.1,
         ap length c.in-Some.ensures.steps.0,
       );
-      passed = λ wish for. subst (λ (xs : List Round). ArePassed wish c.args.cut.now.plan c.args.terms.settings
+      passed = λ wish for. subst (λ (xs : List Round). ArePassed wish c.args.cut.now.layout c.args.terms.settings
           (network c.args.net) xs next) (sym more)
-          (passed_more wish c.args.cut.now.plan c.args.terms.settings (network c.args.net) c.rounds.passed.items
+          (passed_more wish c.args.cut.now.layout c.args.terms.settings (network c.args.net) c.rounds.passed.items
           (network c.rounds.net) (c.rounds.invariant.passed wish for) c.in-Some.round next
           (doubling (goal.at.rounds-preserved c).In-Doubled wish for) c.in_ok-check_rises.ensures.needed has);
     }
@@ -182,9 +183,9 @@ check_lengths-requires-2-clause-cert c =
 pub returns-in_err-numbering-2-clause-unused : goal.returns-in_err-numbering-2-clause-unused
 returns-in_err-numbering-2-clause-unused c wish for =
     let told = risen_by c.args.run.rounds.items (alone (lists_of c.args.run.cert)) in
-    handed (IsUnused wish c.args.cut.now.plan c.args.terms.settings told) c.from_residual-in_err-numbering-2.result
+    handed (IsUnused wish c.args.cut.now.layout c.args.terms.settings told) c.from_residual-in_err-numbering-2.result
     c.in_err-numbering-2.field-0.0 c.from_residual-in_err-numbering-2.ensures.1
-    (unused_there wish c.args.cut.now.plan c.args.terms.settings (network c.args.net) c.rounds.passed.items
+    (unused_there wish c.args.cut.now.layout c.args.terms.settings (network c.args.net) c.rounds.passed.items
     (network c.rounds.net) (c.rounds.invariant.passed wish for) (alone (lists_of c.args.run.cert)) told c.args.run.cert
     c.in_err-numbering-2.field-0.0 (all_passed (goal.at.returns-in_err-numbering-2-clause-unused c).In-None) refl
     c.in_err-numbering-2.ensures.refused)
@@ -192,21 +193,21 @@ returns-in_err-numbering-2-clause-unused c wish for =
 pub returns-in-Whole-2-clause-checked : goal.returns-in-Whole-2-clause-checked
 returns-in-Whole-2-clause-checked c wish for =
     let told = risen_by c.args.run.rounds.items (alone (lists_of c.args.run.cert)) in
-    subst (IsChecked wish c.args.cut.now.plan (network c.args.net) c.args.terms told)
+    subst (IsChecked wish c.args.cut.now.layout (network c.args.net) c.args.terms told)
     (sym c.checked_by-in-Whole-2.ensures)
-    (checked_there wish c.args.cut.now.plan c.args.terms.settings (network c.args.net) c.rounds.passed.items
+    (checked_there wish c.args.cut.now.layout c.args.terms.settings (network c.args.net) c.rounds.passed.items
     (network c.rounds.net) (c.rounds.invariant.passed wish for) c.args.terms.rising (alone (lists_of c.args.run.cert))
     told c.args.run.cert (Risen c.rounds.passed c.args.run.cert) c.in-Whole-2.numbering c.in-Whole-2.deviation
     (all_passed (goal.at.returns-in-Whole-2-clause-checked c).In-None) refl c.requires.reach refl
     c.in_ok-numbering-2.ensures.solved
-    (subst (Gives c.args.cut.now.plan (network c.rounds.net) c.args.run.cert.x.items) c.in-Whole-2.is
+    (subst (Gives c.args.cut.now.layout (network c.rounds.net) c.args.run.cert.x.items) c.in-Whole-2.is
     c.in_ok-numbering-2.ensures.gives))
 
 pub returns-in-Doubled-2-clause-unused : goal.returns-in-Doubled-2-clause-unused
 returns-in-Doubled-2-clause-unused c wish for =
     let told = risen_by c.args.run.rounds.items (alone (lists_of c.args.run.cert)) in
-    unused_last wish c.args.cut.now.plan c.args.terms.settings (network c.args.net) c.rounds.passed.items
+    unused_last wish c.args.cut.now.layout c.args.terms.settings (network c.args.net) c.rounds.passed.items
     (network c.rounds.net) (c.rounds.invariant.passed wish for) told c.args.run.cert c.in-Doubled-2.u c.in-Doubled-2.v
     (all_passed (goal.at.returns-in-Doubled-2-clause-unused c).In-None) c.in_ok-numbering-2.ensures.solved
-    (subst (Gives c.args.cut.now.plan (network c.rounds.net) c.args.run.cert.x.items) c.in-Doubled-2.is
+    (subst (Gives c.args.cut.now.layout (network c.rounds.net) c.args.run.cert.x.items) c.in-Doubled-2.is
     c.in_ok-numbering-2.ensures.gives)

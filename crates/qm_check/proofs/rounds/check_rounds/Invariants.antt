@@ -9,6 +9,6 @@ abbrev pub invariant-rounds : goal.invariant-rounds
 invariant-rounds l = record {
   left : l.passed.items ++ into_iter_items l.round-iterator ≡ l.fn.run.rounds.items;
   many : into_iter_len l.round-iterator ≡ length (into_iter_items l.round-iterator);
-  passed : (wish : Wish) → IsNetFor wish l.cut.plan l.terms.settings (network l.fn.net)
-      → ArePassed wish l.cut.plan l.terms.settings (network l.fn.net) l.passed.items (network l.net);
+  passed : (wish : Wish) → IsNetFor wish l.cut.layout l.terms.settings (network l.fn.net)
+      → ArePassed wish l.cut.layout l.terms.settings (network l.fn.net) l.passed.items (network l.net);
 }

@@ -1,5 +1,5 @@
 use Rattle.std.proofs.{Common.◌≡◌, Common.refl, Common.subst, lemmas.Result.IfOk-weaker}
-use Rattle.def_layout.specs.{FaceLayouts.IsCutLayout, Plans.plan}
+use Rattle.def_layout.specs.{FaceLayouts.IsCutLayout, Layouts.layout_of}
 use Rattle.def_written.specs.Laws.{AreQuads}
 use Rattle.def_layoutnet.specs.MeshLayouts.{IsSomeLayout}
 use Rattle.qm_cut.proofs.traced.graph_layout.Goals as goal
@@ -8,8 +8,8 @@ pub returns-clause-mesh : goal.returns-clause-mesh
 returns-clause-mesh c =
     let faces = c.args.mesh.now in
     let marks = c.args.graph.now.covered.items in
-    IfOk-weaker c.layout.result (λ t. IsCutLayout faces marks (plan t))
-    (λ t. (is : IsSomeLayout (plan t)) × (is.faces ≡ faces))
+    IfOk-weaker c.layout.result (λ t. IsCutLayout faces marks (layout_of t))
+    (λ t. (is : IsSomeLayout (layout_of t)) × (is.faces ≡ faces))
     (λ t laid. (
       record {
         faces = faces;

@@ -1,8 +1,8 @@
 use Rattle.std.proofs.Common.{◌≡◌, ℕ, ◌+◌, ◌<◌, true, List, map, length, sym, ap, refl, subst, arith}
 use Rattle.std.proofs.lemmas.List.{get_or_default, length-map}
 use Rattle.def_flow.specs.declared.net.Arc.{Arc}
-use Rattle.def_layout.specs.{declared.tmesh.SideArc.SideArc, Arcs.path, Arcs.long_at, Layouts.Slot, Plans.layout_of}
-use Rattle.def_layout.specs.Plans.{plan, side_at}
+use Rattle.def_layout.specs.{declared.tmesh.SideArc.SideArc, Arcs.path, Arcs.long_at, Gluings.Slot, Layouts.gluing_of}
+use Rattle.def_layout.specs.Layouts.{layout_of, side_at}
 use Rattle.def_cut.specs.Grids.{rectangle}
 use Rattle.qm_layoutnet.specs.Ends.{AreEnds, PatchesBelow}
 use Rattle.qm_layoutnet.proofs.EndTables.{patch_more}
@@ -22,7 +22,7 @@ put_four-requires-clause-uses c s k d less =
       length-map t.patches.items rectangle,
     ) in
     let low = c.requires.laid.paved.arc_low slot (record { patch_low = p_low; low = less }) in
-    let same = get_or_default (side_at (plan t) c.loop-p.p s) k d (record { arc = 0; forward = true }) less in
+    let same = get_or_default (side_at (layout_of t) c.loop-p.p s) k d (record { arc = 0; forward = true }) less in
     omega (
       arith,
       low,
@@ -45,12 +45,12 @@ loop-p-preserved c =
       length-map t.patches.items rectangle,
     ) in
     record {
-      done = λ set begin. subst (λ (xs : List Arc). AreEnds (layout_of (plan t)) (long_at (map path t.arcs.items))
+      done = λ set begin. subst (λ (xs : List Arc). AreEnds (gluing_of (layout_of t)) (long_at (map path t.arcs.items))
           set (PatchesBelow (c.loop-p.p + 1)) xs)
           (sym c.put_four.ensures)
-          (patch_more (layout_of (plan t)) (long_at (map path t.arcs.items)) set c.requires.laid c.loop-p.p
-          (side_at (plan t) c.loop-p.p) c.loop-p.arcs p_low
-          (λ s j d h. get_or_default (side_at (plan t) c.loop-p.p s) j d _ h) (λ s. refl)
+          (patch_more (gluing_of (layout_of t)) (long_at (map path t.arcs.items)) set c.requires.laid c.loop-p.p
+          (side_at (layout_of t) c.loop-p.p) c.loop-p.arcs p_low
+          (λ s j d h. get_or_default (side_at (layout_of t) c.loop-p.p s) j d _ h) (λ s. refl)
           (c.loop-p.invariant.done set begin));
       long = omega (arith, c.put_four.auto.arcs, c.loop-p.invariant.long);
     }
@@ -60,5 +60,5 @@ returns c set begin =
     let t = c.args.t.now in
     let all : c.loop-p.p ≡ length t.patches.items =
     omega (arith, c.loop-p-test.false, c.loop-p.auto.p-end, c.len-p-end.ensures, t.sides.ok.0, c.requires.sided) in
-    subst (λ (p : ℕ). AreEnds (layout_of (plan t)) (long_at (map path t.arcs.items)) set (PatchesBelow p)
+    subst (λ (p : ℕ). AreEnds (gluing_of (layout_of t)) (long_at (map path t.arcs.items)) set (PatchesBelow p)
     c.loop-p.arcs) all (c.loop-p.invariant.done set begin)

@@ -1,5 +1,5 @@
 use Rattle.std.proofs.Common.{◌≡◌, ◌<◌, length, arith, ap}
-use Rattle.def_layout.specs.Plans.{Plan}
+use Rattle.def_layout.specs.Layouts.{Layout}
 use Rattle.std.proofs.lemmas.List.{length-map}
 use Rattle.def_cut.specs.Grids.{rectangle}
 use Rattle.def_remesh.specs.{NewPoints.lengths_in, CutSoups.CutSoup}
@@ -15,14 +15,14 @@ put_patch-requires g c = omega (
   c.len-patch-end.ensures,
   c.layout.result.now.patches.ok.0,
   length-map c.layout.result.now.patches.items rectangle,
-  ap (λ (p : Plan). length p.patches) c.layout.ensures.plan,
-  ap (λ (k : CutSoup). length k.plan.patches) c.cut.ensures,
+  ap (λ (p : Layout). length p.patches) c.layout.ensures.layout,
+  ap (λ (k : CutSoup). length k.layout.patches) c.cut.ensures,
 )
 
 pub returns-in_err-put_patch-clause-part : goal.returns-in_err-put_patch-clause-part
 returns-in_err-put_patch-clause-part g c =
     let laws = g.met.T.Output in
-    let t = c.args.new.now.plan in
+    let t = c.args.new.now.layout in
     let shares = c.args.new.now.shares in
     let x = lengths_in c.args.new.now.lengths in
     let low : c.loop-patch.patch < length t.patches = omega (
@@ -31,8 +31,8 @@ returns-in_err-put_patch-clause-part g c =
       c.len-patch-end.ensures,
       c.layout.result.now.patches.ok.0,
       length-map c.layout.result.now.patches.items rectangle,
-      ap (λ (p : Plan). length p.patches) c.layout.ensures.plan,
-      ap (λ (k : CutSoup). length k.plan.patches) c.cut.ensures,
+      ap (λ (p : Layout). length p.patches) c.layout.ensures.layout,
+      ap (λ (k : CutSoup). length k.layout.patches) c.cut.ensures,
     ) in
     of_error c.from_residual.result
     (rw (← all_lines t shares x) (stops_at_number g.T.Output.takes g.T.Output.stops laws.stops_later laws.stops_before
@@ -42,13 +42,13 @@ returns-in_err-put_patch-clause-part g c =
 pub loop-patch-preserved : goal.loop-patch-preserved
 loop-patch-preserved g c =
     let laws = g.met.T.Output in
-    takes_number g.T.Output.takes laws.takes_more (patch_lines c.args.new.now.plan c.args.new.now.shares
+    takes_number g.T.Output.takes laws.takes_more (patch_lines c.args.new.now.layout c.args.new.now.shares
     (lengths_in c.args.new.now.lengths)) (λ p. p)
     c.loop-patch.patch _ _ _ c.loop-patch.invariant c.in_ok-put_patch.ensures.whole
 
 pub returns-clause-whole : goal.returns-clause-whole
 returns-clause-whole g c =
-    let t = c.args.new.now.plan in
+    let t = c.args.new.now.layout in
     let shares = c.args.new.now.shares in
     let x = lengths_in c.args.new.now.lengths in
     let all : c.loop-patch.patch ≡ length t.patches = omega (
@@ -58,7 +58,7 @@ returns-clause-whole g c =
       c.len-patch-end.ensures,
       c.layout.result.now.patches.ok.0,
       length-map c.layout.result.now.patches.items rectangle,
-      ap (λ (p : Plan). length p.patches) c.layout.ensures.plan,
-      ap (λ (k : CutSoup). length k.plan.patches) c.cut.ensures,
+      ap (λ (p : Layout). length p.patches) c.layout.ensures.layout,
+      ap (λ (k : CutSoup). length k.layout.patches) c.cut.ensures,
     ) in
     rw (← all_lines t shares x, ← all) c.loop-patch.invariant

@@ -7,5 +7,5 @@ use Rattle.qm_map.proofs.cells.put_cells.Given as goal
 abbrev pub invariant-loop-patch : goal.invariant-loop-patch
 invariant-loop-patch g l =
     g.T.Output.takes l.initial.out l.out
-    (flat_map (patch_lines l.new.plan l.new.shares (lengths_in l.new.lengths))
+    (flat_map (patch_lines l.new.layout l.new.shares (lengths_in l.new.lengths))
     (map (λ p. p) (range_with_len 0 l.patch)))

@@ -1,6 +1,6 @@
 use Rattle.std.proofs.lemmas.Result.{on_err_weaker, on_ok_weaker}
 use Rattle.def_io.specs.Bytes.{Bytes}
-use Rattle.def_layout.specs.Plans.{layout_of}
+use Rattle.def_layout.specs.Layouts.{gluing_of}
 use Rattle.def_map.specs.MapText.{map_head, vertex_lines}
 use Rattle.def_remesh.specs.{NewPoints.lengths_in, CutSoups.Regrid}
 use Rattle.def_written.specs.{NewFaces.face_count, Numbers.vertices}
@@ -9,11 +9,11 @@ use Rattle.qm_map.proofs.map.put_map.Goals as goal
 
 -- The first two lines, and those of the vertices.
 abbrev head_of : (new : Regrid) → Bytes
-head_of new = map_head (vertices (layout_of new.plan) (lengths_in new.lengths))
-    (face_count (layout_of new.plan) (lengths_in new.lengths))
+head_of new = map_head (vertices (gluing_of new.layout) (lengths_in new.lengths))
+    (face_count (gluing_of new.layout) (lengths_in new.lengths))
 
 abbrev spots_of : (new : Regrid) → Bytes
-spots_of new = vertex_lines new.soup.faces new.soup.names new.plan new.shares (lengths_in new.lengths)
+spots_of new = vertex_lines new.soup.faces new.soup.names new.layout new.shares (lengths_in new.lengths)
 
 pub returns-in_err-put_head-clause-part : goal.returns-in_err-put_head-clause-part
 returns-in_err-put_head-clause-part g c =

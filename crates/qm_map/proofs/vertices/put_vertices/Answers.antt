@@ -1,5 +1,5 @@
 use Rattle.std.proofs.Common.{◌≡◌, subst, arith, sym}
-use Rattle.def_layout.specs.Plans.{layout_of}
+use Rattle.def_layout.specs.Layouts.{gluing_of}
 use Rattle.def_map.specs.{MapText.spot_line, Spots.spot_at, Laws.IsSpot}
 use Rattle.def_remesh.specs.{NewPoints.lengths_in, CutSoups.CutSoup}
 use Rattle.def_written.specs.Numbers.{vertices}
@@ -17,7 +17,7 @@ pub returns-in_err-put_spot-clause-part : goal.returns-in_err-put_spot-clause-pa
 returns-in_err-put_spot-clause-part g c =
     let laws = g.met.T.Output in
     let soup = c.args.new.now.soup in
-    let t = c.args.new.now.plan in
+    let t = c.args.new.now.layout in
     let shares = c.args.new.now.shares in
     let x = lengths_in c.args.new.now.lengths in
     let line : spot_line c.cut.result.now.soup.faces c.cut.result.now.soup.names c.spot_near-spot.result
@@ -26,14 +26,14 @@ returns-in_err-put_spot-clause-part g c =
     of_error c.from_residual.result
     (stops_at_number g.T.Output.takes g.T.Output.stops laws.stops_later laws.stops_before
     (spot_line soup.faces soup.names) (spot_at t shares x)
-    (vertices (layout_of t) x) c.loop-v.v _ _ _ (omega (arith, c.loop-v-test.true, c.vertices-v-end.ensures))
+    (vertices (gluing_of t) x) c.loop-v.v _ _ _ (omega (arith, c.loop-v-test.true, c.vertices-v-end.ensures))
     c.loop-v.invariant (subst (g.T.Output.stops c.loop-v.out c.put_spot.new.out) line c.in_err-put_spot.ensures.part))
 
 pub loop-v-preserved : goal.loop-v-preserved
 loop-v-preserved g c =
     let laws = g.met.T.Output in
     let soup = c.args.new.now.soup in
-    let t = c.args.new.now.plan in
+    let t = c.args.new.now.layout in
     let shares = c.args.new.now.shares in
     let x = lengths_in c.args.new.now.lengths in
     let line : spot_line c.cut.result.now.soup.faces c.cut.result.now.soup.names c.spot_near-spot.result
@@ -45,10 +45,10 @@ loop-v-preserved g c =
 pub returns-clause-whole : goal.returns-clause-whole
 returns-clause-whole g c =
     let soup = c.args.new.now.soup in
-    let t = c.args.new.now.plan in
+    let t = c.args.new.now.layout in
     let shares = c.args.new.now.shares in
     let x = lengths_in c.args.new.now.lengths in
-    let all : c.loop-v.v ≡ vertices (layout_of t) x = omega (
+    let all : c.loop-v.v ≡ vertices (gluing_of t) x = omega (
       arith,
       c.vertices-v-end.ensures,
       c.loop-v-test.false,

@@ -8,5 +8,5 @@ abbrev pub invariant-loop-v : goal.invariant-loop-v
 invariant-loop-v g l =
     g.T.Output.takes l.initial.out l.out
     (flat_map (spot_line l.new.soup.faces l.new.soup.names)
-    (map (spot_at l.new.plan l.new.shares (lengths_in l.new.lengths))
+    (map (spot_at l.new.layout l.new.shares (lengths_in l.new.lengths))
     (range_with_len 0 l.v)))

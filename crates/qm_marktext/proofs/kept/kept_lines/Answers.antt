@@ -2,7 +2,7 @@ use Rattle.std.proofs.Common.{◌≡◌, ◌<◌, ◌^◌, ℕ, List, length, sy
 use Rattle.std.proofs.lemmas.List.{length-map}
 use Rattle.std.specs.Prelude.{IfOk}
 use Rattle.def_certtext.specs.CertLines.{certificates_of, used, Lists}
-use Rattle.def_layout.specs.{Arcs.path, Plans.layout_of, Plans.plan, Plans.Plan}
+use Rattle.def_layout.specs.{Arcs.path, Layouts.gluing_of, Layouts.layout_of, Layouts.Layout}
 use Rattle.def_marks.specs.MarkedText.{marked_text}
 use Rattle.def_remesh.specs.NewPoints.{lengths_in}
 use Rattle.def_written.specs.Numbers.{vertices}
@@ -18,7 +18,7 @@ numbered c = used_are c ∙ sym c.requires.1.lengths
 
 pub marked_lines-requires-clause-long : goal.marked_lines-requires-clause-long
 marked_lines-requires-clause-long c = ap length (numbered c) ∙ c.requires.1.numbering.long ∙ ap
-    (λ (p : Plan). length p.arcs) (sym c.layout.ensures.plan) ∙ length-map c.layout.result.now.arcs.items path
+    (λ (p : Layout). length p.arcs) (sym c.layout.ensures.layout) ∙ length-map c.layout.result.now.arcs.items path
 
 pub marked_lines-requires-clause-some : goal.marked_lines-requires-clause-some
 marked_lines-requires-clause-some c a low = subst (λ (xs : List ℕ). 0 < lengths_in xs a) (sym (numbered c))
@@ -31,15 +31,15 @@ marked_lines-requires-clause-some c a low = subst (λ (xs : List ℕ). 0 < lengt
 
 pub marked_lines-requires-clause-few : goal.marked_lines-requires-clause-few
 marked_lines-requires-clause-few c =
-    subst (λ (n : ℕ). n < 2 ^ 32) (λ i. vertices (layout_of (sym c.layout.ensures.plan i))
+    subst (λ (n : ℕ). n < 2 ^ 32) (λ i. vertices (gluing_of (sym c.layout.ensures.layout i))
     (lengths_in (sym (numbered c) i)))
-    (omega (arith, c.vertices-count.ensures c.args.cut.now.plan c.requires.1.numbering, c.vertices-count.type_inv))
+    (omega (arith, c.vertices-count.ensures c.args.cut.now.layout c.requires.1.numbering, c.vertices-count.type_inv))
 
 pub returns : goal.returns
 returns c =
-    subst (λ (p : Plan). IfOk c.marked_lines.result (λ text. text.items
+    subst (λ (p : Layout). IfOk c.marked_lines.result (λ text. text.items
     ≡ marked_text c.args.marks.now p (lengths_in (used (certificates_of c.args.remesh.now.certs)).x)))
-    c.layout.ensures.plan
+    c.layout.ensures.layout
     (subst (λ (xs : List ℕ). IfOk c.marked_lines.result (λ text. text.items
-    ≡ marked_text c.args.marks.now (plan c.layout.result.now) (lengths_in xs)))
+    ≡ marked_text c.args.marks.now (layout_of c.layout.result.now) (lengths_in xs)))
     (used_are (goal.at.returns c).After-deref) c.marked_lines.ensures)

@@ -1,7 +1,7 @@
 use Rattle.std.proofs.Common.{◌≡◌, ◌<◌, ◌+◌, suc, ◌++◌, length, sym, ap, ◌∙◌, arith}
 use Rattle.std.proofs.lemmas.List.{append-nil, get_or_default, length-map}
 use Rattle.std.specs.List.{flat_map, range_with_len}
-use Rattle.def_layout.specs.{Arcs.path, Plans.layout_of, Plans.plan}
+use Rattle.def_layout.specs.{Arcs.path, Layouts.gluing_of, Layouts.layout_of}
 use Rattle.def_marks.specs.MarkedText.{arc_text, chain_text}
 use Rattle.def_remesh.specs.NewPoints.{lengths_in}
 use Rattle.def_written.specs.Numbers.{before_arc}
@@ -14,7 +14,7 @@ pub push_arc-requires-clause-few : goal.push_arc-requires-clause-few
 push_arc-requires-clause-few c =
     omega (
       arith,
-      arc_few (layout_of (plan c.args.t.now)) (lengths_in c.args.x.now) c.requires.few c.loop-arc.arc
+      arc_few (gluing_of (layout_of c.args.t.now)) (lengths_in c.args.x.now) c.requires.few c.loop-arc.arc
           (omega (arith, c.loop-arc-test.true, length-map c.args.t.now.arcs.items path)),
       c.loop-arc.invariant.before,
       c.requires.some c.loop-arc.arc (omega (arith, c.loop-arc-test.true, c.requires.long)),
@@ -24,7 +24,7 @@ pub overflow_add-before : goal.overflow_add-before
 overflow_add-before c =
     omega (
       arith,
-      arc_few (layout_of (plan c.args.t.now)) (lengths_in c.args.x.now) c.requires.few c.loop-arc.arc
+      arc_few (gluing_of (layout_of c.args.t.now)) (lengths_in c.args.x.now) c.requires.few c.loop-arc.arc
           (omega (arith, c.loop-arc-test.true, length-map c.args.t.now.arcs.items path)),
       c.loop-arc.invariant.before,
     )
@@ -37,7 +37,7 @@ loop-arc-preserved c =
     let a = c.loop-arc.arc in
     let arc = c.index.result.now in
     let low : a < length t.arcs.items = omega (arith, c.loop-arc-test.true) in
-    let before = flat_map (arc_text marks (plan t) (lengths_in x)) (range_with_len 0 a) in
+    let before = flat_map (arc_text marks (layout_of t) (lengths_in x)) (range_with_len 0 a) in
     let next : a + 1 ≡ suc a = omega arith in
     record {
       text = elim c.if-is_marked.branch [
@@ -48,13 +48,13 @@ loop-arc-preserved c =
             ∙ ((λ i. c.loop-arc.invariant.text i
             ++ chain_text (chain_from (same i).first (c.loop-arc.invariant.before i) (lengths_in x a)
             (same i).last))
-            ∙ sym (text_more marks (plan t) (lengths_in x) a
+            ∙ sym (text_more marks (layout_of t) (lengths_in x) a
             ∙ ap (λ xs. before ++ xs) (text_on marks t x a arc low c.index.ensures c.requires.few
             (c.requires.some a (omega (arith, low, c.requires.long))) (sym c.is_marked.ensures
             ∙ w.if-is_marked.true)))))
         | else-is_marked w ↦
             rw w.text-is (c.loop-arc.invariant.text
-            ∙ sym (text_more marks (plan t) (lengths_in x) a
+            ∙ sym (text_more marks (layout_of t) (lengths_in x) a
             ∙ (ap (λ xs. before ++ xs) (text_off marks t x a arc low c.index.ensures (sym c.is_marked.ensures
             ∙ w.if-is_marked.false)) ∙ append-nil before)))
       ];

@@ -1,7 +1,7 @@
 use Rattle.std.proofs.Common.{◌≡◌, ◌<◌, ℕ, List, replicate, sym, ap, ◌∙◌, subst}
 use Rattle.std.proofs.lemmas.List.{with_items_is}
 use Rattle.std.specs.List.{All}
-use Rattle.def_layout.specs.{Arcs.AreArcs, Plans.plan, Plans.Plan, declared.tmesh.TArc.TArc, Nodes.is_node}
+use Rattle.def_layout.specs.{Arcs.AreArcs, Layouts.layout_of, Layouts.Layout, declared.tmesh.TArc.TArc, Nodes.is_node}
 use Rattle.def_cut.specs.FullCut.{is_on}
 use Rattle.def_mesh.specs.{Darts.darts, Faces.Faces, HalfEdges.half_edges, Manifold.IsManifold}
 use Rattle.def_remesh.specs.Placings.{IsMeshLayout}
@@ -15,8 +15,8 @@ inside : (c : After-deref)
     → All (λ (arc : TArc). All (λ (d : ℕ). d < darts c.args.cut.now.soup.faces) arc.darts.items)
     c.layout-layout.result.now.arcs.items
 inside c =
-    let lies : IsMeshLayout c.args.cut.now.soup.faces (plan c.layout-layout.result.now) =
-    subst (IsMeshLayout c.args.cut.now.soup.faces) (sym c.layout-layout.ensures.plan) c.layout-layout.ensures.laid in
+    let lies : IsMeshLayout c.args.cut.now.soup.faces (layout_of c.layout-layout.result.now) =
+    subst (IsMeshLayout c.args.cut.now.soup.faces) (sym c.layout-layout.ensures.layout) c.layout-layout.ensures.laid in
     subst (λ (faces : Faces). All (λ (arc : TArc). All (λ (d : ℕ). d < darts faces) arc.darts.items)
     c.layout-layout.result.now.arcs.items) lies.1 (runs_inside c.layout-layout.result.now lies.0)
 
@@ -44,6 +44,6 @@ returns c marks full laid =
     ∙ put
     ∙ filled_is soup.faces soup.pos (manifold_law soup.faces (subst IsManifold mesh.1 mesh.0.mesh.manifold)) marks full
     (is_node soup.faces marks) arcs
-    (subst (λ (p : Plan). AreArcs (half_edges soup.faces) (is_on marks) (is_node soup.faces marks) p.arcs)
-    (sym c.layout-layout.ensures.plan) laid.arcs)
+    (subst (λ (p : Layout). AreArcs (half_edges soup.faces) (is_on marks) (is_node soup.faces marks) p.arcs)
+    (sym c.layout-layout.ensures.layout) laid.arcs)
     (inside at)

@@ -1,6 +1,6 @@
 use Rattle.std.proofs.Common.{◌∙◌, arith}
 use Rattle.std.proofs.lemmas.List.{length-map}
-use Rattle.def_layout.specs.{Arcs.path, Plans.plan}
+use Rattle.def_layout.specs.{Arcs.path, Layouts.layout_of}
 use Rattle.qm_place.proofs.{ArcPoints.read_short, Rims.old_short}
 use Rattle.qm_place.proofs.arcs.parameter_of.Goals as goal
 
@@ -34,7 +34,7 @@ returns-then-used-clause-low c =
     omega (
       arith,
       c.shared_part.ensures.low,
-      old_short (plan c.args.places.now.t.now) c.requires.are.fine.mesh c.args.used.arc
+      old_short (layout_of c.args.places.now.t.now) c.requires.are.fine.mesh c.args.used.arc
           (omega (arith, c.requires.arc, length-map c.args.places.now.t.now.arcs.items path)),
     )
 

@@ -1,6 +1,6 @@
 use Rattle.std.proofs.Common.{◌≡◌, ◌+◌, ◌-◌, ◌<◌, true, length, ◌∙◌, ap, arith}
 use Rattle.std.proofs.lemmas.List.{length-map}
-use Rattle.def_layout.specs.{Arcs.path, Plans.plan}
+use Rattle.def_layout.specs.{Arcs.path, Layouts.layout_of}
 use Rattle.def_remesh.specs.{NewPoints.lengths_in, Placings.shares_in}
 use Rattle.def_written.specs.Numbers.{before_arc}
 use Rattle.map_laws.proofs.Spaced.{spacing_is}
@@ -10,7 +10,7 @@ use Rattle.qm_place.proofs.arcs.shared_part.Goals.{Else-k-places, After-index-2}
 use Rattle.qm_place.proofs.arcs.shared_part.Goals as goal
 
 -- The arc is one of the layout, and the place is inside.
-low : (c : Else-k-places) → c.args.arc < length (plan c.args.places.now.t.now).arcs
+low : (c : Else-k-places) → c.args.arc < length (layout_of c.args.places.now.t.now).arcs
 low c = omega (arith, c.requires.arc, length-map c.args.places.now.t.now.arcs.items path)
 
 less : (c : Else-k-places) → c.args.k < lengths_in c.args.places.now.lengths.now c.args.arc
@@ -23,7 +23,7 @@ some c = omega (arith, c.if-k-eq0.false)
 index : (c : After-index-2) → c.index-2.result.now + c.args.k - 1
     ≡ before_arc (lengths_in c.args.places.now.lengths.now) c.args.arc + c.args.k - 1
 index c =
-    let low : c.args.arc < length (plan c.args.places.now.t.now).arcs =
+    let low : c.args.arc < length (layout_of c.args.places.now.t.now).arcs =
     omega (arith, c.requires.arc, length-map c.args.places.now.t.now.arcs.items path) in
     let begin : c.index-2.result.now ≡ before_arc (lengths_in c.args.places.now.lengths.now) c.args.arc =
     start_read c.requires.are.along low c.index-2.ensures in
@@ -53,7 +53,8 @@ index-requires-3 c =
     omega (
       arith,
       index (goal.at.index-requires-3 c).After-index-2,
-      inner_low (plan c.args.places.now.t.now) (lengths_in c.args.places.now.lengths.now) c.args.places.now.spaced.now
+      inner_low (layout_of c.args.places.now.t.now) (lengths_in c.args.places.now.lengths.now)
+          c.args.places.now.spaced.now
           c.requires.are.inner c.args.spaced.now c.requires.spaced c.args.arc c.args.k (low at) (some at) (less at),
       c.args.spaced.now.parameters.ok.0,
     )
@@ -61,7 +62,8 @@ index-requires-3 c =
 pub returns-clause-value : goal.returns-clause-value
 returns-clause-value c =
     let at = (goal.at.returns-clause-value c).Else-k-places in
-    read_inner (plan c.args.places.now.t.now) (lengths_in c.args.places.now.lengths.now) c.args.places.now.spaced.now
+    read_inner (layout_of c.args.places.now.t.now) (lengths_in c.args.places.now.lengths.now)
+    c.args.places.now.spaced.now
     c.requires.are.inner c.args.spaced.now c.requires.spaced c.args.arc c.args.k (low at) (some at) (less at)
     (index (goal.at.returns-clause-value c).After-index-2) c.index-3.ensures
 
@@ -69,12 +71,12 @@ pub returns-clause-low : goal.returns-clause-low
 returns-clause-low c =
     let at = (goal.at.returns-clause-low c).Else-k-places in
     let fine = c.requires.are.fine in
-    let value = read_inner (plan c.args.places.now.t.now) (lengths_in c.args.places.now.lengths.now)
+    let value = read_inner (layout_of c.args.places.now.t.now) (lengths_in c.args.places.now.lengths.now)
     c.args.places.now.spaced.now c.requires.are.inner c.args.spaced.now c.requires.spaced c.args.arc c.args.k
     (low at) (some at) (less at) (index (goal.at.returns-clause-low c).After-index-2) c.index-3.ensures in
     omega (
       arith,
       value,
-      (spacing_is (plan c.args.places.now.t.now) fine.mesh (lengths_in c.args.places.now.lengths.now) fine.lengths
+      (spacing_is (layout_of c.args.places.now.t.now) fine.mesh (lengths_in c.args.places.now.lengths.now) fine.lengths
           fine.few (shares_in c.args.places.now.spaced.now)).below c.args.arc true c.args.k (low at) (less at),
     )

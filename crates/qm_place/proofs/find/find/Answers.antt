@@ -1,7 +1,7 @@
 use Rattle.std.proofs.Common.{◌≡◌, ◌-◌, ◌*◌, ◌<◌, ℕ, List, length, ◌∙◌, ap, arith}
 use Rattle.std.proofs.lemmas.List.{get_or_read}
 use Rattle.def_math.specs.Runs.{run_at}
-use Rattle.def_layout.specs.{Lengths.wide, Lengths.high, Plans.layout_of, Plans.plan}
+use Rattle.def_layout.specs.{Lengths.wide, Lengths.high, Layouts.gluing_of, Layouts.layout_of}
 use Rattle.def_written.specs.Numbers.{before_arc, before_patch}
 use Rattle.def_remesh.specs.NewPoints.{lengths_in}
 use Rattle.qm_place.specs.Lengthened.{shares_by}
@@ -22,7 +22,7 @@ pub returns-then-v-nodes : goal.returns-then-v-nodes
 returns-then-v-nodes c =
     let low : c.args.v < length c.args.placed.now.t.now.nodes.items =
     omega (arith, c.if-v-nodes.true, c.len-nodes.ensures, c.args.placed.now.t.now.nodes.ok.0) in
-    found_at (plan c.args.placed.now.t.now) (shares_by c.args.placed.now)
+    found_at (layout_of c.args.placed.now.t.now) (shares_by c.args.placed.now)
     (lengths_in c.args.placed.now.tables.now.lengths.items) low
     (get_or_read c.args.placed.now.t.now.nodes.items c.args.v c.index.result.now low c.index.ensures 0)
 
@@ -30,7 +30,7 @@ pub along_spot-requires : goal.along_spot-requires
 along_spot-requires c =
     let are = c.args.placed.now.placed in
     let x = lengths_in c.args.placed.now.tables.now.lengths.items in
-    let t = plan c.args.placed.now.t.now in
+    let t = layout_of c.args.placed.now.t.now in
     let nodes = c.len-nodes.ensures ∙ c.args.placed.now.t.now.nodes.ok.0 in
     let low : c.args.v - c.len-nodes.result < before_arc x (length t.arcs) =
     omega (arith, nodes, c.if-v-nodes.false, c.if-v-arcs_end.true, c.arcs_end-arcs_end.ensures) in
@@ -44,7 +44,7 @@ pub returns-then-v-arcs_end : goal.returns-then-v-arcs_end
 returns-then-v-arcs_end c =
     let are = c.args.placed.now.placed in
     let x = lengths_in c.args.placed.now.tables.now.lengths.items in
-    let t = plan c.args.placed.now.t.now in
+    let t = layout_of c.args.placed.now.t.now in
     let nodes = c.len-nodes.ensures ∙ c.args.placed.now.t.now.nodes.ok.0 in
     let low : c.args.v - c.len-nodes.result < before_arc x (length t.arcs) =
     omega (arith, nodes, c.if-v-nodes.false, c.if-v-arcs_end.true, c.arcs_end-arcs_end.ensures) in
@@ -57,8 +57,8 @@ pub spot_near-near-requires-2 : goal.spot_near-near-requires-2
 spot_near-near-requires-2 c =
     let are = c.args.placed.now.placed in
     let x = lengths_in c.args.placed.now.tables.now.lengths.items in
-    let t = plan c.args.placed.now.t.now in
-    let l = layout_of t in
+    let t = layout_of c.args.placed.now.t.now in
+    let l = gluing_of t in
     let low : c.args.v - c.arcs_end-arcs_end.result < before_patch l x (length t.patches) =
     omega (arith, c.if-v-arcs_end.false, c.arcs_end-arcs_end.ensures, c.requires.vertex) in
     omega (
@@ -72,8 +72,8 @@ pub inside_spot-requires : goal.inside_spot-requires
 inside_spot-requires c =
     let are = c.args.placed.now.placed in
     let x = lengths_in c.args.placed.now.tables.now.lengths.items in
-    let t = plan c.args.placed.now.t.now in
-    let l = layout_of t in
+    let t = layout_of c.args.placed.now.t.now in
+    let l = gluing_of t in
     let low : c.args.v - c.arcs_end-arcs_end.result < before_patch l x (length t.patches) =
     omega (arith, c.if-v-arcs_end.false, c.arcs_end-arcs_end.ensures, c.requires.vertex) in
     let same : c.spot_near-near-2.result ≡ run_at (before_patch l x) (length t.patches)
@@ -88,8 +88,8 @@ pub returns : goal.returns
 returns c =
     let are = c.args.placed.now.placed in
     let x = lengths_in c.args.placed.now.tables.now.lengths.items in
-    let t = plan c.args.placed.now.t.now in
-    let l = layout_of t in
+    let t = layout_of c.args.placed.now.t.now in
+    let l = gluing_of t in
     let low : c.args.v - c.arcs_end-arcs_end.result < before_patch l x (length t.patches) =
     omega (arith, c.if-v-arcs_end.false, c.arcs_end-arcs_end.ensures, c.requires.vertex) in
     let same : c.spot_near-near-2.result ≡ run_at (before_patch l x) (length t.patches)

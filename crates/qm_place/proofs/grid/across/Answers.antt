@@ -1,29 +1,30 @@
 use Rattle.std.proofs.Common.{◌≡◌, ◌+◌, ◌-◌, ◌*◌, ◌/◌, sym, ◌∙◌, ap, inl, inr, arith}
 use Rattle.std.proofs.lemmas.Bool.{cases_lt}
-use Rattle.def_layout.specs.{Arcs.long_at, Layouts.south, Layouts.north, Lengths.wide, Plans.layout_of}
+use Rattle.def_layout.specs.{Arcs.long_at, Gluings.south, Gluings.north, Lengths.wide, Layouts.gluing_of}
 use Rattle.def_written.specs.Places.{ONE, parameter, parameter_back}
 use Rattle.qm_place.proofs.grid.across.Goals as goal
 
 pub returns : goal.returns
-returns c plan new spacing p low len is ends columns =
-    let near : c.at_place-south.result ≡ parameter (layout_of plan) (long_at plan.arcs) new spacing p south c.args.i =
+returns c layout new spacing p low len is ends columns =
+    let near : c.at_place-south.result
+    ≡ parameter (gluing_of layout) (long_at layout.arcs) new spacing p south c.args.i =
     elim (cases_lt c.args.i c.args.rim.wide) [
       | inl less ↦ c.at_place-south.ensures.before less ∙ (is.sides south).each c.args.i (omega (arith, less, is.wide))
       | inr more ↦
-          let end : c.args.i ≡ wide (layout_of plan) new p = omega (arith, more, c.requires.grid.0, is.wide) in
+          let end : c.args.i ≡ wide (gluing_of layout) new p = omega (arith, more, c.requires.grid.0, is.wide) in
           c.at_place-south.ensures.end more ∙ (λ k. ONE * (c.from.ensures ∙ columns) k) ∙ sym ends.south
-          ∙ ap (parameter (layout_of plan) (long_at plan.arcs) new spacing p south) (sym end)
+          ∙ ap (parameter (gluing_of layout) (long_at layout.arcs) new spacing p south) (sym end)
     ] in
-    let far : c.at_place-north.result ≡ parameter_back (layout_of plan) (long_at plan.arcs) new spacing p north
-    (wide (layout_of plan) new p - c.args.i) =
+    let far : c.at_place-north.result ≡ parameter_back (gluing_of layout) (long_at layout.arcs) new spacing p north
+    (wide (gluing_of layout) new p - c.args.i) =
     elim (cases_lt (c.args.rim.wide - c.args.i) c.args.rim.wide) [
       | inl less ↦ c.at_place-north.ensures.before less
           ∙ (is.sides north).each (c.args.rim.wide - c.args.i) (omega (arith, less, is.wide, len.across p low))
-          ∙ ap (λ w. parameter_back (layout_of plan) (long_at plan.arcs) new spacing p north (w - c.args.i)) is.wide
+          ∙ ap (λ w. parameter_back (gluing_of layout) (long_at layout.arcs) new spacing p north (w - c.args.i)) is.wide
       | inr more ↦
-          let end : wide (layout_of plan) new p ≡ wide (layout_of plan) new p - c.args.i =
+          let end : wide (gluing_of layout) new p ≡ wide (gluing_of layout) new p - c.args.i =
           omega (arith, more, c.requires.grid.2, is.wide) in
           c.at_place-north.ensures.end more ∙ sym ends.north
-          ∙ ap (parameter_back (layout_of plan) (long_at plan.arcs) new spacing p north) end
+          ∙ ap (parameter_back (gluing_of layout) (long_at layout.arcs) new spacing p north) end
     ] in
     c.mean.ensures ∙ (λ k. (near k * (is.high k - c.args.j) + far k * c.args.j) / is.high k)

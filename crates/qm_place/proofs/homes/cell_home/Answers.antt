@@ -1,8 +1,9 @@
 use Rattle.std.proofs.Common.{◌≡◌, ℕ, ◌+◌, ◌/◌, ◌^◌, ◌<◌, ◌≤◌, length, get_or, [], ◌∷◌, ◌∙◌, arith}
 use Rattle.std.proofs.lemmas.List.{length-map}
 use Rattle.def_cut.specs.{Grids.cell_of, Grids.patch_at, Grids.rectangle, declared.patch.Patch.Patch}
-use Rattle.def_layout.specs.Layouts.{south, east, north, west}
-use Rattle.def_layout.specs.{Lengths.wide, Lengths.high, Plans.layout_of, Plans.plan, declared.tmesh.TMesh.TMesh}
+use Rattle.def_layout.specs.Gluings.{south, east, north, west}
+use Rattle.def_layout.specs.{Lengths.wide, Lengths.high, Layouts.gluing_of, Layouts.layout_of}
+use Rattle.def_layout.specs.{declared.tmesh.TMesh.TMesh}
 use Rattle.def_map.specs.Homes.{corner_u, corner_v, home_column, home_row, mean_corner, seen_corner}
 use Rattle.def_remesh.specs.{NewPoints.lengths_in, Placings.rim_at, declared.places.PlaceTables.PlaceTables}
 use Rattle.def_written.specs.Places.{cell_at}
@@ -11,12 +12,12 @@ use Rattle.qm_place.proofs.Entries.{cell_low, cell_read, patch_read}
 use Rattle.qm_place.proofs.homes.cell_home.Goals as goal
 
 -- A corner of the cell is one of the patch's grid points.
-on_grid : (t : TMesh) {tables : PlaceTables} {p : ℕ} {i j a b : ℕ} → ArePlaced (plan t) tables
-    → p < length t.patches.items → i < wide (layout_of (plan t)) (lengths_in tables.lengths.items) p
-    → j < high (layout_of (plan t)) (lengths_in tables.lengths.items) p
+on_grid : (t : TMesh) {tables : PlaceTables} {p : ℕ} {i j a b : ℕ} → ArePlaced (layout_of t) tables
+    → p < length t.patches.items → i < wide (gluing_of (layout_of t)) (lengths_in tables.lengths.items) p
+    → j < high (gluing_of (layout_of t)) (lengths_in tables.lengths.items) p
     → a ≤ i + 1 → b ≤ j + 1 → IsOnGrid (rim_at tables.rims.items p) a b
 on_grid t {p} are low i_low j_low a_le b_le =
-    let p_low : p < length (plan t).patches = omega (arith, low, length-map t.patches.items rectangle) in
+    let p_low : p < length (layout_of t).patches = omega (arith, low, length-map t.patches.items rectangle) in
     let is = are.rims p p_low in (
       omega (arith, is.wide, i_low, a_le),
       omega (arith, is.high, j_low, b_le),
@@ -25,7 +26,7 @@ on_grid t {p} are low i_low j_low a_le b_le =
     )
 
 -- A cell of a patch stands in a low column and row.
-cell_few : (t : TMesh) {tables : PlaceTables} {p : ℕ} {patch : Patch} → ArePlaced (plan t) tables
+cell_few : (t : TMesh) {tables : PlaceTables} {p : ℕ} {patch : Patch} → ArePlaced (layout_of t) tables
     → p < length t.patches.items → patch ≡ get_or t.patches.items p patch → {a b : ℕ} → a < patch.w → b < patch.h
     → (a ≤ 2 ^ 21) × (b ≤ 2 ^ 21)
 cell_few t {tables} {p} {patch} are low read a_low b_low =
@@ -96,7 +97,7 @@ seen_from-requires-4-clause-cell c = cell_few c.args.placed.now.t.now c.args.pla
 pub returns : goal.returns
 returns c =
     let x = lengths_in c.args.placed.now.tables.now.lengths.items in
-    let t = plan c.args.placed.now.t.now in
+    let t = layout_of c.args.placed.now.t.now in
     let shares = shares_by c.args.placed.now in
     let old = patch_read c.args.placed.now.t.now c.args.placed.now.placed c.requires.patch c.index-old.ensures in
     let sw = c.grid_point-south_west.ensures.value in

@@ -1,7 +1,8 @@
 use Rattle.std.proofs.Common.{◌≡◌, ◌≤◌, ℕ, List, length, sym, ◌∙◌, arith}
 use Rattle.std.proofs.lemmas.List.{length-map}
 use Rattle.def_cut.specs.Grids.{rectangle}
-use Rattle.def_layout.specs.{Arcs.path, Lengths.AreLengths, Plans.layout_of, Plans.plan, declared.tmesh.TMesh.TMesh}
+use Rattle.def_layout.specs.{Arcs.path, Lengths.AreLengths, Layouts.gluing_of, Layouts.layout_of}
+use Rattle.def_layout.specs.{declared.tmesh.TMesh.TMesh}
 use Rattle.def_remesh.specs.{NewPoints.lengths_in, declared.limits.TheConstants.MAX_NEW_FACES}
 use Rattle.def_written.specs.NewFaces.{face_count}
 use Rattle.def_layoutnet.specs.MeshLayouts.{IsSomeLayout}
@@ -10,21 +11,22 @@ use Rattle.qm_place.proofs.Built.{inner_short, inner_starts, lengths_short, poin
 use Rattle.qm_place.proofs.places.placer.Goals as goal
 
 -- What is asked of the lengths.
-fine : (t : TMesh) (x : List ℕ) → IsSomeLayout (plan t) → length x ≡ length t.arcs.items
-    → AreLengths (layout_of (plan t)) (lengths_in x) → face_count (layout_of (plan t)) (lengths_in x) ≤ MAX_NEW_FACES
-    → AreFine (plan t) x
+fine : (t : TMesh) (x : List ℕ) → IsSomeLayout (layout_of t) → length x ≡ length t.arcs.items
+    → AreLengths (gluing_of (layout_of t)) (lengths_in x)
+    → face_count (gluing_of (layout_of t)) (lengths_in x) ≤ MAX_NEW_FACES
+    → AreFine (layout_of t) x
 fine t x mesh long lengths few =
     record { mesh = mesh; long = long ∙ sym (length-map t.arcs.items path); lengths = lengths; few = few }
 
 pub short_lengths-requires : goal.short_lengths-requires
 short_lengths-requires c =
     let is = fine c.args.t.now c.args.x.now c.requires.layout.0 c.requires.long c.requires.lengths c.requires.few in
-    lengths_short (plan c.args.t.now) c.args.x.now is
+    lengths_short (layout_of c.args.t.now) c.args.x.now is
 
 pub inner_points-requires-clause-small : goal.inner_points-requires-clause-small
 inner_points-requires-clause-small c =
     let is = fine c.args.t.now c.args.x.now c.requires.layout.0 c.requires.long c.requires.lengths c.requires.few in
-    rw (c.deref.ensures.value, c.in_ok-lengths.ensures) (points_short (plan c.args.t.now) c.args.x.now is)
+    rw (c.deref.ensures.value, c.in_ok-lengths.ensures) (points_short (layout_of c.args.t.now) c.args.x.now is)
 
 pub spaced_by-requires : goal.spaced_by-requires
 spaced_by-requires c =
@@ -34,7 +36,7 @@ spaced_by-requires c =
 pub sides_of-requires : goal.sides_of-requires
 sides_of-requires c =
     let is = fine c.args.t.now c.args.x.now c.requires.layout.0 c.requires.long c.requires.lengths c.requires.few in
-    let here : AreFine (plan c.args.t.now) c.deref-3.result.now =
+    let here : AreFine (layout_of c.args.t.now) c.deref-3.result.now =
     rw (c.deref-3.ensures.value, c.in_ok-lengths.ensures) is in
     record {
       are = record {
@@ -47,39 +49,39 @@ sides_of-requires c =
 pub inner_starts-requires-clause-some : goal.inner_starts-requires-clause-some
 inner_starts-requires-clause-some c =
     let is = fine c.args.t.now c.args.x.now c.requires.layout.0 c.requires.long c.requires.lengths c.requires.few in
-    let here : AreFine (plan c.args.t.now) c.deref-3.result.now =
+    let here : AreFine (layout_of c.args.t.now) c.deref-3.result.now =
     rw (c.deref-3.ensures.value, c.in_ok-lengths.ensures) is in
     let all = sym (length-map c.args.t.now.patches.items rectangle) in
     rw (c.deref-4.ensures.value, c.in_ok-sides.ensures.count)
-    (rims_some (plan c.args.t.now) c.deref-3.result.now here _ c.in_ok-sides.sides.rims.items
+    (rims_some (layout_of c.args.t.now) c.deref-3.result.now here _ c.in_ok-sides.sides.rims.items
     c.in_ok-sides.sides.parameters.items all c.in_ok-sides.ensures.rims)
 
 pub inner_starts-requires-clause-small : goal.inner_starts-requires-clause-small
 inner_starts-requires-clause-small c =
     let is = fine c.args.t.now c.args.x.now c.requires.layout.0 c.requires.long c.requires.lengths c.requires.few in
-    let here : AreFine (plan c.args.t.now) c.deref-3.result.now =
+    let here : AreFine (layout_of c.args.t.now) c.deref-3.result.now =
     rw (c.deref-3.ensures.value, c.in_ok-lengths.ensures) is in
     let all = sym (length-map c.args.t.now.patches.items rectangle) in
     rw (c.deref-4.ensures.value, c.in_ok-sides.ensures.count)
-    (inner_short (plan c.args.t.now) c.deref-3.result.now here _ c.in_ok-sides.sides.rims.items
+    (inner_short (layout_of c.args.t.now) c.deref-3.result.now here _ c.in_ok-sides.sides.rims.items
     c.in_ok-sides.sides.parameters.items all c.in_ok-sides.ensures.rims)
 
 pub returns-clause-places : goal.returns-clause-places
 returns-clause-places c =
     let is = fine c.args.t.now c.args.x.now c.requires.layout.0 c.requires.long c.requires.lengths c.requires.few in
-    let here : AreFine (plan c.args.t.now) c.deref-3.result.now =
+    let here : AreFine (layout_of c.args.t.now) c.deref-3.result.now =
     rw (c.deref-3.ensures.value, c.in_ok-lengths.ensures) is in
     let all = sym (length-map c.args.t.now.patches.items rectangle) in
-    let kept : AreFine (plan c.args.t.now) c.in_ok-lengths.lengths.items = rw c.in_ok-lengths.ensures is in
+    let kept : AreFine (layout_of c.args.t.now) c.in_ok-lengths.lengths.items = rw c.in_ok-lengths.ensures is in
     let inside = rw (c.deref-4.ensures.value, c.in_ok-sides.ensures.count) at c.in_ok-inside.ensures in
     record {
-      layout = c.requires.layout;
+      laid_out = c.requires.layout;
       long = kept.long;
       lengths = kept.lengths;
       few = kept.few;
       along = rw (← kept.long, ← c.deref.ensures.value) c.in_ok-along.ensures;
       inside = rw (← c.deref-3.ensures.value)
-          (inner_starts (plan c.args.t.now) c.deref-3.result.now here _ c.in_ok-sides.sides.rims.items
+          (inner_starts (layout_of c.args.t.now) c.deref-3.result.now here _ c.in_ok-sides.sides.rims.items
           c.in_ok-sides.sides.parameters.items all c.in_ok-sides.ensures.rims c.in_ok-inside.inside.begin.items inside);
       spaced = rw (← c.deref-2.ensures.value) c.in_ok-spaced.ensures.spaced;
       rimmed = c.in_ok-sides.ensures.count ∙ all;

@@ -1,7 +1,7 @@
 use Rattle.std.proofs.Common.{◌-◌, refl, ◌∙◌, ap, arith}
 use Rattle.std.proofs.lemmas.List.{length-map}
 use Rattle.def_cut.specs.Grids.{rectangle}
-use Rattle.def_layout.specs.Layouts.{south, east, north, west}
+use Rattle.def_layout.specs.Gluings.{south, east, north, west}
 use Rattle.qm_place.specs.OnArcs.{spacing_on}
 use Rattle.qm_place.proofs.{Pushes.kept_on, Pushes.pushed_kept, Rims.new_few, Rims.rim_built}
 use Rattle.qm_place.proofs.sides.push_patch.Goals as goal

@@ -1,7 +1,7 @@
 use Rattle.std.proofs.Common.{◌≡◌, ◌+◌, ◌-◌, ◌^◌, ◌≤◌, false, cond, get_or, ◌∙◌, ap, arith}
 use Rattle.std.specs.Prelude.{nat_le}
-use Rattle.def_layout.specs.Plans.{layout_of, way_number, plan}
-use Rattle.def_layout.specs.{Arcs.long_at, declared.tmesh.SideArc.SideArc, Layouts.Way}
+use Rattle.def_layout.specs.Layouts.{gluing_of, way_number, layout_of}
+use Rattle.def_layout.specs.{Arcs.long_at, declared.tmesh.SideArc.SideArc, Gluings.Way}
 use Rattle.qm_offsets.proofs.Whole.{way_for}
 use Rattle.qm_place.specs.OnArcs.{spacing_on}
 use Rattle.qm_place.proofs.Rims.{back_by, old_read, read, side_more, start_few, IsRead}
@@ -69,16 +69,18 @@ loop-used-preserved c = record {
     here s way = read c.args.places.now.t.now c.requires.are.fine c.requires.low c.side_of-used-items.ensures
         c.loop-used-test.true way
 
-    old_is : (s : Way) → way_number s ≡ c.args.side → c.len-old.result ≡ long_at (plan c.args.places.now.t.now).arcs
+    old_is : (s : Way) → way_number s ≡ c.args.side
+        → c.len-old.result ≡ long_at (layout_of c.args.places.now.t.now).arcs
         (get_or c.side_of-used-items.result.now c.loop-used.used-index (record { arc = 0; forward = false })).arc
     old_is s way = c.len-old.ensures ∙ c.index.result.now.darts.ok.0 ∙ old_read c.args.places.now.t.now
         (here s way).arc_low c.index.ensures
 
     start_is : (s : Way) (way : way_number s ≡ c.args.side) → c.start_of-start.result
-        ≡ start_by (layout_of (plan c.args.places.now.t.now)) (long_at (plan c.args.places.now.t.now).arcs) c.args.patch
+        ≡ start_by (gluing_of (layout_of c.args.places.now.t.now)) (long_at (layout_of c.args.places.now.t.now).arcs)
+        c.args.patch
         c.loop-used.used-index s
     start_is s way =
         c.start_of-start.ensures
         ∙ (λ k. cond (back_by s way k) (c.old_size-whole.ensures s way k - c.loop-used.invariant.before s
-        way k - (old_is s way ∙ ap (long_at (plan c.args.places.now.t.now).arcs)
+        way k - (old_is s way ∙ ap (long_at (layout_of c.args.places.now.t.now).arcs)
         (ap (λ (u : SideArc). u.arc) (here s way).same)) k) (c.loop-used.invariant.before s way k))

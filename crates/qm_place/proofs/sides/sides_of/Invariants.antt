@@ -1,5 +1,5 @@
 use Rattle.std.proofs.Common.{◌≡◌, ◌<◌, ℕ, length}
-use Rattle.def_layout.specs.Plans.{plan}
+use Rattle.def_layout.specs.Layouts.{layout_of}
 use Rattle.def_remesh.specs.{NewPoints.lengths_in, Placings.rim_at, Placings.IsRim}
 use Rattle.qm_place.specs.OnArcs.{spacing_on}
 use Rattle.qm_place.proofs.sides.sides_of.Given as goal
@@ -7,6 +7,7 @@ use Rattle.qm_place.proofs.sides.sides_of.Given as goal
 abbrev pub invariant-loop-patch : goal.invariant-loop-patch
 invariant-loop-patch l = record {
   count : length l.rims.items ≡ l.patch;
-  each : (p : ℕ) → p < l.patch → IsRim (plan l.places.t.now) (lengths_in l.places.lengths.now) (spacing_on l.places) p
+  each : (p : ℕ) → p < l.patch
+      → IsRim (layout_of l.places.t.now) (lengths_in l.places.lengths.now) (spacing_on l.places) p
       (rim_at l.rims.items p) l.parameters.items;
 }

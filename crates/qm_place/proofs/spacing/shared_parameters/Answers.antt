@@ -2,10 +2,11 @@ use Rattle.std.proofs.Common.{◌≡◌, ◌+◌, ◌-◌, ◌<◌, ℕ, suc, Li
 use Rattle.std.proofs.lemmas.Bool.{cases_lt}
 use Rattle.std.proofs.lemmas.List.{get_or-map, length-map}
 use Rattle.std.specs.Prelude.{slice_index}
-use Rattle.def_layout.specs.{Arcs.long_at, Arcs.path, Arcs.path_at, Arcs.Path, Plans.plan, declared.tmesh.TArc.TArc}
+use Rattle.def_layout.specs.{Arcs.long_at, Arcs.path, Arcs.path_at, Arcs.Path, Layouts.layout_of}
+use Rattle.def_layout.specs.{declared.tmesh.TArc.TArc}
 use Rattle.def_remesh.specs.{NewPoints.lengths_in, Spaced.shares_along}
 use Rattle.def_written.specs.{Numbers.before_arc, Spacings.shared_step, Spacings.step_parameter}
-use Rattle.plan_laws.proofs.MeshLayouts.{lengths_of}
+use Rattle.embedding_laws.proofs.MeshLayouts.{lengths_of}
 use Rattle.written_laws.proofs.Runs.{place_low}
 use Rattle.qm_place.proofs.{ArcPoints.read_short, Paths.arc_parameter}
 use Rattle.qm_place.proofs.spacing.shared_parameters.Goals.{After-deref}
@@ -15,7 +16,7 @@ use Rattle.qm_place.proofs.spacing.shared_parameters.Goals as goal
 arc_low : (c : After-deref) → c.loop-arc.arc < length c.args.t.now.arcs.items
 arc_low c = omega (arith, c.loop-arc-test.true, c.len-arc-end.ensures, c.args.t.now.arcs.ok.0)
 
-darts : (c : After-deref) → c.deref.result.now ≡ (path_at (plan c.args.t.now).arcs c.loop-arc.arc).darts
+darts : (c : After-deref) → c.deref.result.now ≡ (path_at (layout_of c.args.t.now).arcs c.loop-arc.arc).darts
 darts c =
     c.deref.ensures.value ∙ ap (λ (z : TArc). z.darts.items) c.index.ensures
     ∙ sym (ap (λ (q : Path). q.darts) (get_or-map path c.args.t.now.arcs.items c.loop-arc.arc c.index.result.now
@@ -27,7 +28,7 @@ push_shared-requires-clause-some c =
     omega (
       arith,
       ap (λ (ds : List ℕ). length ds) (darts at),
-      (lengths_of (plan c.args.t.now) c.requires.fine.mesh).some c.loop-arc.arc
+      (lengths_of (layout_of c.args.t.now) c.requires.fine.mesh).some c.loop-arc.arc
           (omega (arith, arc_low at, length-map c.args.t.now.arcs.items path)),
     )
 
@@ -67,8 +68,8 @@ loop-arc-preserved c = record {
     | inr more ↦
         let same : c.loop-arc.arc ≡ arc = omega (arith, low, more) in
         subst (λ a. slice_index c.push_shared.new.parameters.items (before_arc (lengths_in c.args.lengths.now) a
-        + k - 1) ≡ step_parameter (shared_step (long_at (plan c.args.t.now).arcs) (lengths_in c.args.lengths.now)
-        (shares_along (plan c.args.t.now) c.args.shares.now) a k)) same
+        + k - 1) ≡ step_parameter (shared_step (long_at (layout_of c.args.t.now).arcs) (lengths_in c.args.lengths.now)
+        (shares_along (layout_of c.args.t.now) c.args.shares.now) a k)) same
         (here k some (subst (λ a. k < lengths_in c.args.lengths.now a) (sym same) less))
   ];
 }
@@ -76,14 +77,14 @@ loop-arc-preserved c = record {
     here : (k : ℕ) → 0 < k → k < lengths_in c.args.lengths.now c.loop-arc.arc
         → slice_index c.push_shared.new.parameters.items
         (before_arc (lengths_in c.args.lengths.now) c.loop-arc.arc + k - 1)
-        ≡ step_parameter (shared_step (long_at (plan c.args.t.now).arcs) (lengths_in c.args.lengths.now)
-        (shares_along (plan c.args.t.now) c.args.shares.now) c.loop-arc.arc k)
+        ≡ step_parameter (shared_step (long_at (layout_of c.args.t.now).arcs) (lengths_in c.args.lengths.now)
+        (shares_along (layout_of c.args.t.now) c.args.shares.now) c.loop-arc.arc k)
     here k some less =
         let place : before_arc (lengths_in c.args.lengths.now) c.loop-arc.arc + k - 1
         ≡ length c.loop-arc.parameters.items + (k - 1) = omega (arith, c.loop-arc.invariant.long, some) in
         ap (slice_index c.push_shared.new.parameters.items) place
         ∙ c.in_ok-push_shared.ensures.each (k - 1) (omega (arith, some, less))
-        ∙ arc_parameter (plan c.args.t.now) (lengths_in c.args.lengths.now) c.args.shares.now c.loop-arc.arc
+        ∙ arc_parameter (layout_of c.args.t.now) (lengths_in c.args.lengths.now) c.args.shares.now c.loop-arc.arc
         (darts (goal.at.loop-arc-preserved c).After-deref) some less
 
 pub returns : goal.returns
@@ -92,7 +93,7 @@ returns c = record {
   each = λ arc k low some less. c.loop-arc.invariant.each arc k (omega (arith, low, all)) some less;
 }
   where
-    all : c.loop-arc.arc ≡ length (plan c.args.t.now).arcs
+    all : c.loop-arc.arc ≡ length (layout_of c.args.t.now).arcs
     all = omega (
       arith,
       c.loop-arc-test.false,

@@ -1,6 +1,6 @@
 use Rattle.std.proofs.Common.{◌≡◌, ◌+◌, ◌-◌, ◌<◌, ℕ, true, length, Some}
 use Rattle.std.specs.Prelude.{slice_index}
-use Rattle.def_layout.specs.Plans.{plan}
+use Rattle.def_layout.specs.Layouts.{layout_of}
 use Rattle.def_remesh.specs.{NewPoints.lengths_in, Spaced.spacing_by}
 use Rattle.def_written.specs.Numbers.{before_arc}
 use Rattle.qm_place.proofs.spacing.shared_parameters.Given as goal
@@ -10,5 +10,5 @@ invariant-loop-arc l = record {
   long : length l.parameters.items ≡ before_arc (lengths_in l.lengths) l.arc;
   each : (arc k : ℕ) → arc < l.arc → 0 < k → k < lengths_in l.lengths arc
       → slice_index l.parameters.items (before_arc (lengths_in l.lengths) arc + k - 1)
-      ≡ (spacing_by (plan l.t) (Some l.shares) (lengths_in l.lengths)).parameter_of arc true k;
+      ≡ (spacing_by (layout_of l.t) (Some l.shares) (lengths_in l.lengths)).parameter_of arc true k;
 }

@@ -4,7 +4,7 @@ use Rattle.def_layout.specs.Arcs.{dart_at, long_at}
 use Rattle.def_map.specs.Spots.{edge_spot}
 use Rattle.def_written.specs.Numbers.{before_arc}
 use Rattle.def_remesh.specs.{Placings.shares_in, Spaced.spacing_by, declared.places.Spaced.Spaced}
-use Rattle.qm_place.specs.Lengthened.{lengths_by, plan_in, spacing_at}
+use Rattle.qm_place.specs.Lengthened.{lengths_by, layout_in, spacing_at}
 use Rattle.qm_place.proofs.{ArcPoints.inner_low, ArcPoints.read_inner, ArcPoints.spot_told, Entries.start_read}
 use Rattle.qm_place.proofs.spots.along_spot.Goals.{In-Some, After-index, After-index-in-None, After-index-in-None-2}
 use Rattle.qm_place.proofs.spots.along_spot.Goals as goal
@@ -15,7 +15,7 @@ low : (c : In-Some) → before_arc (lengths_by c.args.placed.now) c.args.arc
     < length c.in-Some.spaced.parameters.items
 low c =
     let placed = c.args.placed.now in
-    inner_low (plan_in placed) (lengths_by placed) placed.tables.now.spaced placed.placed.spaced c.in-Some.spaced
+    inner_low (layout_in placed) (lengths_by placed) placed.tables.now.spaced placed.placed.spaced c.in-Some.spaced
     c.in-Some.is c.args.arc (c.args.place - before_arc (lengths_by placed) c.args.arc + 1) c.requires.along.low
     (omega arith) c.requires.along.upto
 
@@ -23,7 +23,7 @@ value : (c : After-index) → c.index.result.now ≡ (spacing_at c.args.placed.n
     (c.args.place - before_arc (lengths_by c.args.placed.now) c.args.arc + 1)
 value c =
     let placed = c.args.placed.now in
-    read_inner (plan_in placed) (lengths_by placed) placed.tables.now.spaced placed.placed.spaced c.in-Some.spaced
+    read_inner (layout_in placed) (lengths_by placed) placed.tables.now.spaced placed.placed.spaced c.in-Some.spaced
     c.in-Some.is c.args.arc (c.args.place - before_arc (lengths_by placed) c.args.arc + 1) c.requires.along.low
     (omega arith) c.requires.along.upto (omega (arith, c.requires.along.from)) c.index.ensures
 
@@ -49,7 +49,7 @@ shared_spot-requires-clause-low c =
 pub returns-in-Some : goal.returns-in-Some
 returns-in-Some c =
     let placed = c.args.placed.now in
-    spot_told (plan_in placed) c.in-Some.spaced c.in-Some.is
+    spot_told (layout_in placed) c.in-Some.spaced c.in-Some.is
     placed.placed.spacing c.requires.along.low c.requires.along.upto
     (value (goal.at.returns-in-Some c).After-index) c.shared_spot.ensures
 
@@ -81,7 +81,7 @@ even_spot-requires-clause-low c =
     let placed = c.args.placed.now in
     let first = begins (goal.at.even_spot-requires-clause-low c).After-index-in-None in
     let many = parts (goal.at.even_spot-requires-clause-low c).After-index-in-None-2 in
-    let old = long_at (plan_in placed).arcs c.args.arc in
+    let old = long_at (layout_in placed).arcs c.args.arc in
     let same : (c.args.place - c.index-in-None.result.now + 1) * old / c.index-in-None-2.result.now
     ≡ (c.args.place - before_arc (lengths_by placed) c.args.arc + 1) * old / lengths_by placed c.args.arc =
     λ i. (c.args.place - first i + 1) * old / many i in
@@ -97,13 +97,13 @@ returns-in-None c =
     let placed = c.args.placed.now in
     let first = begins (goal.at.returns-in-None c).After-index-in-None in
     let many = parts (goal.at.returns-in-None c).After-index-in-None-2 in
-    let old = long_at (plan_in placed).arcs c.args.arc in
+    let old = long_at (layout_in placed).arcs c.args.arc in
     (λ i. record {
       dart = (c.even_spot.ensures.dart
-          ∙ (λ j. dart_at (plan_in placed).arcs c.args.arc ((c.args.place - first j + 1) * old / many j))) i;
+          ∙ (λ j. dart_at (layout_in placed).arcs c.args.arc ((c.args.place - first j + 1) * old / many j))) i;
       some = (c.even_spot.ensures.some ∙ (λ j. (c.args.place - first j + 1) * old % many j)) i;
       parts = (c.even_spot.ensures.parts ∙ many) i;
     })
-    ∙ ap (λ (o : Option Spaced). edge_spot (plan_in placed)
-    (spacing_by (plan_in placed) (shares_in o) (lengths_by placed)) c.args.arc
+    ∙ ap (λ (o : Option Spaced). edge_spot (layout_in placed)
+    (spacing_by (layout_in placed) (shares_in o) (lengths_by placed)) c.args.arc
     (c.args.place - before_arc (lengths_by placed) c.args.arc + 1)) (sym c.in-None.is)

@@ -1,6 +1,6 @@
 use Rattle.std.proofs.Common.{◌≡◌, ◌*◌, ◌/◌, ◌%◌, ◌^◌, ◌<◌, length, ◌∙◌, arith}
 use Rattle.std.proofs.lemmas.Nat.{mul-le}
-use Rattle.def_layout.specs.{Arcs.long_at, Plans.plan}
+use Rattle.def_layout.specs.{Arcs.long_at, Layouts.layout_of}
 use Rattle.qm_place.proofs.Entries.{arc_read, dart_read}
 use Rattle.qm_place.proofs.spots.even_spot.Goals as goal
 
@@ -23,7 +23,7 @@ index-requires-2 c =
     let old = arc_read c.args.placed.now.t.now c.args.placed.now.placed c.requires.arc c.index.ensures in
     let long = c.len.ensures ∙ c.index.result.now.darts.ok.0 ∙ old.long in
     let place : c.from.result * c.len.result / c.from-parts.result ≡ c.args.k * long_at
-    (plan c.args.placed.now.t.now).arcs c.args.arc / c.args.parts =
+    (layout_of c.args.placed.now.t.now).arcs c.args.arc / c.args.parts =
     λ i. c.from.ensures i * long i / c.from-parts.ensures i in
     omega (arith, place, c.requires.low, old.long, c.index.result.now.darts.ok.0)
 
@@ -32,7 +32,7 @@ returns-clause-dart c =
     let old = arc_read c.args.placed.now.t.now c.args.placed.now.placed c.requires.arc c.index.ensures in
     let long = c.len.ensures ∙ c.index.result.now.darts.ok.0 ∙ old.long in
     let place : c.from.result * c.len.result / c.from-parts.result ≡ c.args.k * long_at
-    (plan c.args.placed.now.t.now).arcs c.args.arc / c.args.parts =
+    (layout_of c.args.placed.now.t.now).arcs c.args.arc / c.args.parts =
     λ i. c.from.ensures i * long i / c.from-parts.ensures i in
     let less : c.from.result * c.len.result / c.from-parts.result < length c.index.result.now.darts.items =
     omega (arith, place, c.requires.low, old.long) in

@@ -1,5 +1,5 @@
 use Rattle.std.proofs.Common.{◌≡◌, ap, arith}
-use Rattle.def_layout.specs.{Arcs.long_at, Plans.layout_of, Plans.plan}
+use Rattle.def_layout.specs.{Arcs.long_at, Layouts.gluing_of, Layouts.layout_of}
 use Rattle.def_remesh.specs.{NewPoints.lengths_in, declared.places.Rim.Rim}
 use Rattle.def_written.specs.Places.{parameter_u, parameter_v}
 use Rattle.qm_place.specs.Lengthened.{spacing_at}
@@ -27,24 +27,24 @@ upright-v-requires-clause-grid c =
     rw rim.same c.requires.grid
 
 u_is : (c : goal.After-upright-v) → c.across-u.result
-    ≡ parameter_u (layout_of (plan c.args.placed.now.t.now)) (long_at (plan c.args.placed.now.t.now).arcs)
+    ≡ parameter_u (gluing_of (layout_of c.args.placed.now.t.now)) (long_at (layout_of c.args.placed.now.t.now).arcs)
     (lengths_in c.args.placed.now.tables.now.lengths.items) (spacing_at c.args.placed.now) c.args.patch c.args.i
     c.args.j
 u_is c =
     let rim = rim_here c.args.placed.now.t.now c.args.placed.now.placed c.requires.patch c.index-rim.ensures in
     let old = patch_read c.args.placed.now.t.now c.args.placed.now.placed c.requires.patch c.index-old.ensures in
-    c.across-u.ensures (plan c.args.placed.now.t.now) (lengths_in c.args.placed.now.tables.now.lengths.items)
+    c.across-u.ensures (layout_of c.args.placed.now.t.now) (lengths_in c.args.placed.now.tables.now.lengths.items)
     (spacing_at c.args.placed.now) c.args.patch rim.low c.args.placed.now.placed.lengths
     (rw c.deref.ensures.value rim.is) (c.args.placed.now.placed.ends c.args.patch rim.low) old.wide
 
 v_is : (c : goal.After-upright-v) → c.upright-v.result
-    ≡ parameter_v (layout_of (plan c.args.placed.now.t.now)) (long_at (plan c.args.placed.now.t.now).arcs)
+    ≡ parameter_v (gluing_of (layout_of c.args.placed.now.t.now)) (long_at (layout_of c.args.placed.now.t.now).arcs)
     (lengths_in c.args.placed.now.tables.now.lengths.items) (spacing_at c.args.placed.now) c.args.patch c.args.i
     c.args.j
 v_is c =
     let rim = rim_here c.args.placed.now.t.now c.args.placed.now.placed c.requires.patch c.index-rim.ensures in
     let old = patch_read c.args.placed.now.t.now c.args.placed.now.placed c.requires.patch c.index-old.ensures in
-    c.upright-v.ensures (plan c.args.placed.now.t.now) (lengths_in c.args.placed.now.tables.now.lengths.items)
+    c.upright-v.ensures (layout_of c.args.placed.now.t.now) (lengths_in c.args.placed.now.tables.now.lengths.items)
     (spacing_at c.args.placed.now) c.args.patch rim.low c.args.placed.now.placed.lengths
     (rw c.deref-2.ensures.value rim.is) (c.args.placed.now.placed.ends c.args.patch rim.low) old.high
 

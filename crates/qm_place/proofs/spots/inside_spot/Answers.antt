@@ -1,5 +1,5 @@
 use Rattle.std.proofs.Common.{◌≡◌, ◌+◌, ◌-◌, ◌/◌, ◌%◌, ◌∙◌, arith}
-use Rattle.def_layout.specs.{Lengths.wide, Plans.layout_of, Plans.plan}
+use Rattle.def_layout.specs.{Lengths.wide, Layouts.gluing_of, Layouts.layout_of}
 use Rattle.def_map.specs.Spots.{face_spot}
 use Rattle.def_written.specs.Numbers.{before_patch}
 use Rattle.def_remesh.specs.NewPoints.{lengths_in}
@@ -11,7 +11,7 @@ pub overflow_add-offset-2 : goal.overflow_add-offset-2
 overflow_add-offset-2 c =
     let are = c.args.placed.now.placed in
     let x = lengths_in c.args.placed.now.tables.now.lengths.items in
-    let l = layout_of (plan c.args.placed.now.t.now) in
+    let l = gluing_of (layout_of c.args.placed.now.t.now) in
     let at = offset_read are c.requires.inside.low c.index.ensures c.index-2.ensures in
     let row : (c.args.place - c.index.result.now) / (c.index-2.result.now.wide - 1)
     ≡ (c.args.place - before_patch l x c.args.patch) / (wide l x c.args.patch - 1) =
@@ -22,7 +22,7 @@ pub cell_spot-requires-clause-grid : goal.cell_spot-requires-clause-grid
 cell_spot-requires-clause-grid c =
     let are = c.args.placed.now.placed in
     let x = lengths_in c.args.placed.now.tables.now.lengths.items in
-    let l = layout_of (plan c.args.placed.now.t.now) in
+    let l = gluing_of (layout_of c.args.placed.now.t.now) in
     let at = offset_read are c.requires.inside.low c.index.ensures c.index-2.ensures in
     let column : (c.args.place - c.index.result.now) % (c.index-2.result.now.wide - 1)
     ≡ (c.args.place - before_patch l x c.args.patch) % (wide l x c.args.patch - 1) =
@@ -41,8 +41,9 @@ pub returns : goal.returns
 returns c =
     let are = c.args.placed.now.placed in
     let x = lengths_in c.args.placed.now.tables.now.lengths.items in
-    let l = layout_of (plan c.args.placed.now.t.now) in
+    let l = gluing_of (layout_of c.args.placed.now.t.now) in
     let at = offset_read are c.requires.inside.low c.index.ensures c.index-2.ensures in
-    c.cell_spot.ensures ∙ (λ k. face_spot (plan c.args.placed.now.t.now) x (spacing_at c.args.placed.now) c.args.patch
+    c.cell_spot.ensures ∙ (λ k. face_spot (layout_of c.args.placed.now.t.now) x (spacing_at c.args.placed.now)
+    c.args.patch
     ((c.args.place - at.begin_is k) % (at.columns_are k - 1) + 1)
     ((c.args.place - at.begin_is k) / (at.columns_are k - 1) + 1))

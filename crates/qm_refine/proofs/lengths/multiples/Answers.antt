@@ -2,7 +2,8 @@ use Rattle.std.proofs.Common.{◌≡◌, ◌≤◌, ◌<◌, ◌*◌, ◌^◌, �
 use Rattle.std.proofs.lemmas.List.{take_all}
 use Rattle.std.proofs.lemmas.Nat.{mul-le}
 use Rattle.def_flow.specs.declared.limits.TheConstants.{MAX_LENGTH}
-use Rattle.def_layout.specs.{Arcs.long_at, Lengths.Lengths, Lengths.AreLengths, Plans.layout_of, Plans.plan, Plans.Plan}
+use Rattle.def_layout.specs.{Arcs.long_at, Lengths.Lengths, Lengths.AreLengths, Layouts.gluing_of, Layouts.layout_of}
+use Rattle.def_layout.specs.{Layouts.Layout}
 use Rattle.def_layout.specs.declared.tmesh.TArc.{TArc}
 use Rattle.def_layoutnet.specs.MeshLayouts.{IsSomeLayout}
 use Rattle.def_remesh.specs.NewPoints.{lengths_in, multiple_of}
@@ -16,8 +17,8 @@ overflow_mul-from c =
     let arc = c.arc-item.result in
     let read : arc ≡ get_or t.arcs.items c.loop-arc.arc-index arc =
     c.arc-item.is ∙ ap (λ xs. get_or xs c.loop-arc.arc-index arc) c.deref-arc-items.ensures.value in
-    let is : IsSomeLayout (plan t) =
-    subst IsSomeLayout (sym c.layout-layout.ensures.plan) c.layout-layout.ensures.laid.0 in
+    let is : IsSomeLayout (layout_of t) =
+    subst IsSomeLayout (sym c.layout-layout.ensures.layout) c.layout-layout.ensures.laid.0 in
     let short : length arc.darts.items < 2 ^ 32 =
     subst (λ (run : TArc). length run.darts.items < 2 ^ 32) (sym read)
     (arcs_short t is c.loop-arc.arc-index arc
@@ -29,17 +30,17 @@ overflow_mul-from c =
           (omega (arith, long, short)),
     )
 
-value : (c : goal.After-loop-arc) → c.loop-arc.lengths.items ≡ multiples_of c.args.by c.args.cut.now.plan.arcs
+value : (c : goal.After-loop-arc) → c.loop-arc.lengths.items ≡ multiples_of c.args.by c.args.cut.now.layout.arcs
 value c =
     c.loop-arc.invariant
     ∙ ap (map (λ (arc : TArc). c.args.by * length arc.darts.items))
     (take_all c.loop-arc.arc-index c.deref-arc-items.result.now c.loop-arc-test.false ∙ c.deref-arc-items.ensures.value)
     ∙ multiples_told c.args.by c.layout-layout.result.now.arcs.items
-    ∙ ap (λ (plan : Plan). multiples_of c.args.by plan.arcs) c.layout-layout.ensures.plan
+    ∙ ap (λ (layout : Layout). multiples_of c.args.by layout.arcs) c.layout-layout.ensures.layout
 
 same : (c : goal.After-loop-arc) → lengths_in c.loop-arc.lengths.items
-    ≡ multiple_of c.args.by (long_at c.args.cut.now.plan.arcs)
-same c = multiple_is c.args.by c.args.cut.now.plan.arcs c.loop-arc.lengths.items (value c)
+    ≡ multiple_of c.args.by (long_at c.args.cut.now.layout.arcs)
+same c = multiple_is c.args.by c.args.cut.now.layout.arcs c.loop-arc.lengths.items (value c)
 
 pub returns-clause-value : goal.returns-clause-value
 returns-clause-value c = value c
@@ -48,10 +49,10 @@ pub returns-clause-multiple : goal.returns-clause-multiple
 returns-clause-multiple c = same c
 
 pub returns-clause-lengths : goal.returns-clause-lengths
-returns-clause-lengths c some = subst (AreLengths (layout_of c.args.cut.now.plan)) (sym (same c))
-    (are_multiples c.args.cut.now.plan c.layout-layout.ensures.laid.0 c.args.by some)
+returns-clause-lengths c some = subst (AreLengths (gluing_of c.args.cut.now.layout)) (sym (same c))
+    (are_multiples c.args.cut.now.layout c.layout-layout.ensures.laid.0 c.args.by some)
 
 pub returns-clause-bounded : goal.returns-clause-bounded
 returns-clause-bounded c =
     subst (λ (l : Lengths). (arc : ℕ) → l arc ≤ MAX_LENGTH) (sym (same c))
-    (λ arc. multiple_few c.args.cut.now.plan c.layout-layout.ensures.laid.0 c.args.by arc c.requires.few)
+    (λ arc. multiple_few c.args.cut.now.layout c.layout-layout.ensures.laid.0 c.args.by arc c.requires.few)

@@ -10,10 +10,10 @@ use Rattle.qm_output.proofs.Prefixes.{of_error}
 use Rattle.qm_refine.proofs.text.put_refined.Goals as goal
 
 -- The text of the new mesh is that of the refined one.
-evenly : (new : Regrid) (by : ℕ) → lengths_in new.lengths ≡ multiple_of by (long_at new.plan.arcs) → new.shares ≡ None
-    → canonical_text (spaced_soup new.soup new.plan new.shares (lengths_in new.lengths))
-    ≡ canonical_text (new_soup new.soup new.plan (multiple_of by (long_at new.plan.arcs)))
-evenly new by lengths even i = canonical_text (spaced_soup new.soup new.plan (even i) (lengths i))
+evenly : (new : Regrid) (by : ℕ) → lengths_in new.lengths ≡ multiple_of by (long_at new.layout.arcs) → new.shares ≡ None
+    → canonical_text (spaced_soup new.soup new.layout new.shares (lengths_in new.lengths))
+    ≡ canonical_text (new_soup new.soup new.layout (multiple_of by (long_at new.layout.arcs)))
+evenly new by lengths even i = canonical_text (spaced_soup new.soup new.layout (even i) (lengths i))
 
 pub returns-in_err-put_head-clause-part : goal.returns-in_err-put_head-clause-part
 returns-in_err-put_head-clause-part g c =

@@ -12,7 +12,7 @@ pub returns-in_err-kept-clause-refused : goal.returns-in_err-kept-clause-refused
 returns-in_err-kept-clause-refused c =
     let wish : Wish = aimed c.args.fit.now.aim c.args.cut.now.soup c.args.wishes.now in
     handed _ _ (Layout c.in_err-kept.field-0.0) c.from_residual-in_err-kept.ensures.1
-    (no_mesh c.args.fit.now.aim wish c.args.cut.now.plan (fit_settings c.args.fit.now) (rounds_if c.args.fit.now.auto)
+    (no_mesh c.args.fit.now.aim wish c.args.cut.now.layout (fit_settings c.args.fit.now) (rounds_if c.args.fit.now.auto)
     c.in_err-kept.field-0.0 c.in_ok-net.ensures.near
     (rw c.if-fit.true (c.in_err-kept.ensures.refused wish c.in_ok-net.ensures.net)))
 
@@ -26,14 +26,15 @@ abbrev wished : (c : After-fit_settings) → Wish
 wished c = aimed c.args.fit.now.aim c.args.cut.now.soup c.args.wishes.now
 
 -- The network of the settings that are kept.
-net : (c : After-fit_settings) → IsNetFor (wished c) c.args.cut.now.plan c.fit_settings.result (network c.in_ok-net.net)
+net : (c : After-fit_settings)
+    → IsNetFor (wished c) c.args.cut.now.layout c.fit_settings.result (network c.in_ok-net.net)
 net c = rw c.fit_settings.ensures c.in_ok-net.ensures.net
 
 pub returns-in_err-kept-2-clause-refused : goal.returns-in_err-kept-2-clause-refused
 returns-in_err-kept-2-clause-refused c =
     let at = (goal.at.returns-in_err-kept-2-clause-refused c).After-fit_settings in
     handed _ _ (Layout c.in_err-kept-2.field-0.0) c.from_residual-in_err-kept-2.ensures.1
-    (no_mesh c.args.fit.now.aim (wished at) c.args.cut.now.plan (fit_settings c.args.fit.now)
+    (no_mesh c.args.fit.now.aim (wished at) c.args.cut.now.layout (fit_settings c.args.fit.now)
     (rounds_if c.args.fit.now.auto) c.in_err-kept-2.field-0.0 c.in_ok-net.ensures.near
     (rw (c.if-fit.false, ← c.fit_settings.ensures) (c.in_err-kept-2.ensures.refused (wished at) (net at))))
 

@@ -8,15 +8,15 @@ use Rattle.qm_remesh.proofs.fitted.solve_fit.Goals as goal
 
 pub solve_near-requires : goal.solve_near-requires
 solve_near-requires c =
-    let plan = c.args.cut.now.plan in
+    let layout = c.args.cut.now.layout in
     let has = c.requires.net in
-    let wishes = unscaled has.0 plan c.in_default.not-Scale has.3 in
+    let wishes = unscaled has.0 layout c.in_default.not-Scale has.3 in
     record {
       bounds = has.2.bounds;
       tangle = has.2.untangled;
       start = subst (λ (xs : List ℕ). IsStartOf (network c.args.net.now) xs)
-          (sym (c.in_ok-start-in_default.ensures ∙ ap (times_long c.greatest_floor.result) c.layout.ensures.plan
-          ∙ ap (λ (n : ℕ). times_long n plan) c.greatest_floor.ensures))
+          (sym (c.in_ok-start-in_default.ensures ∙ ap (times_long c.greatest_floor.result) c.layout.ensures.layout
+          ∙ ap (λ (n : ℕ). times_long n layout) c.greatest_floor.ensures))
           (start_at _ _ _ _ _ has.2 (greatest_floor c.args.fit.now) (λ k low.
           (c.requires.floors k low, greatest_high c.requires.fit)) wishes.0 wishes.1 wishes.2);
     }

@@ -29,8 +29,8 @@ pub plan_over-requires-clause-bounded : goal.plan_over-requires-clause-bounded
 plan_over-requires-clause-bounded c = bounded _ c.in_ok-cert.cert _ c.in_ok-cert.ensures c.deref.ensures.value
 
 -- Both certificates are kept.
-kept : (wish : Wish) (c : In_ok-cert) → IsNetFor wish c.args.cut.now.plan c.args.settings (network c.args.net)
-    → AreKept wish c.args.cut.now.plan c.args.settings Third (raised (lists_of c.args.first)
+kept : (wish : Wish) (c : In_ok-cert) → IsNetFor wish c.args.cut.now.layout c.args.settings (network c.args.net)
+    → AreKept wish c.args.cut.now.layout c.args.settings Third (raised (lists_of c.args.first)
     (lists_of c.in_ok-cert.cert))
 kept wish c for = (
   refl,
@@ -65,5 +65,5 @@ unreachable-requires c =
     let has = has_floors _ 3 _ c.with_floor-raised.ensures in
     let long = long_lengths _ _ _ c.in_ok-cert.cert (third_net _ _ _ _ c.requires.net.1 has) c.in_ok-cert.ensures
     (λ k l. omega (arith, floors_at (network c.args.net) (λ a. 3) (network c.with_floor-raised.result) has k l)) in
-    none_doubled c.args.cut.now.plan _ _ c.plan_over.result c.in-Err-Doubled.field-0 _ _ c.deref.ensures.value long
+    none_doubled c.args.cut.now.layout _ _ c.plan_over.result c.in-Err-Doubled.field-0 _ _ c.deref.ensures.value long
     c.plan_over.ensures.safe c.in-Err-Doubled.is c.in-Err-Doubled.field-0-is

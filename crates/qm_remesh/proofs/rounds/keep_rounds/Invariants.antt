@@ -5,7 +5,7 @@ use Rattle.qm_remesh.proofs.rounds.keep_rounds.Given as goal
 
 abbrev pub invariant-rounds : goal.invariant-rounds
 invariant-rounds l =
-    IsLedBy l.cut.plan (fit_settings l.fit) (network l.fn.net) l.led.rounds.items (network l.led.net) l.led.cert
+    IsLedBy l.cut.layout (fit_settings l.fit) (network l.fn.net) l.led.rounds.items (network l.led.net) l.led.cert
 
 abbrev pub decreases-rounds : goal.decreases-rounds
 decreases-rounds l = room_of l.led.net.arcs.items

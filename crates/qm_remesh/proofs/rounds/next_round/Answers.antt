@@ -1,7 +1,7 @@
 use Rattle.std.proofs.Common.{◌≡◌, length, sym, subst, arith}
 use Rattle.def_fit.specs.Aims.{fit_settings}
 use Rattle.def_flow.specs.{Network.network}
-use Rattle.def_layout.specs.Plans.{layout_of}
+use Rattle.def_layout.specs.Layouts.{gluing_of}
 use Rattle.def_layoutnet.specs.Floors.{floor_of, HasFloors}
 use Rattle.def_remesh.specs.{Keeping.IsNetWith, NewPoints.lengths_in, Rises.risen_floors}
 use Rattle.def_remesh.specs.{Rises.AreNeeded, Tasks.given_floors}
@@ -13,7 +13,7 @@ use Rattle.qm_remesh.proofs.rounds.next_round.Goals.{After-deref, After-deref-2,
 use Rattle.qm_remesh.proofs.rounds.next_round.Goals as goal
 
 -- The network with the floors that rose before.
-before : (c : After-deref) → IsNetWith c.requires.led.1.wish c.args.cut.now.plan (fit_settings c.args.fit.now)
+before : (c : After-deref) → IsNetWith c.requires.led.1.wish c.args.cut.now.layout (fit_settings c.args.fit.now)
     (floors_behind c.args.led.rounds.items (given_floors (fit_settings c.args.fit.now))) (network c.args.led.net)
 before c = net_behind c.requires.led.1 c.requires.led.2
 
@@ -30,7 +30,7 @@ rises_over-requires-clause-prices c =
     let many = c.requires.led.2.solved.accepted.count in
     cc (c.deref-3.ensures.value, c.in_ok-prices.ensures.long, many, c.deref-2.ensures.value)
 
-long : (c : After-deref-2) → length c.deref-2.result.now ≡ length c.args.cut.now.plan.arcs
+long : (c : After-deref-2) → length c.deref-2.result.now ≡ length c.args.cut.now.layout.arcs
 long c = led_long c.requires.led.1 c.requires.led.2 c.deref-2.ensures.value
 
 pub rises_over-requires-clause-long : goal.rises_over-requires-clause-long
@@ -42,21 +42,21 @@ rises_over-requires-clause-lengths c = led_lengths c.requires.led.1 c.requires.l
 pub rises_over-requires-clause-few : goal.rises_over-requires-clause-few
 rises_over-requires-clause-few c =
     let at = goal.at.rises_over-requires-clause-few c in
-    omega (arith, long at.After-deref-2, arcs_few c.args.cut.now.plan (before at.After-deref).mesh)
+    omega (arith, long at.After-deref-2, arcs_few c.args.cut.now.layout (before at.After-deref).mesh)
 
 pub rises_over-requires-clause-doubled : goal.rises_over-requires-clause-doubled
 rises_over-requires-clause-doubled c = rw c.deref-2.ensures.value c.requires.doubled
 
 -- The floors rise as the lengths need it.
-needed : (c : In_ok-rises) → AreNeeded (layout_of c.args.cut.now.plan) (lengths_in c.args.led.cert.x.items)
+needed : (c : In_ok-rises) → AreNeeded (gluing_of c.args.cut.now.layout) (lengths_in c.args.led.cert.x.items)
     c.in_ok-rises.rises.items
 needed c = rw (← c.deref-2.ensures.value) c.in_ok-rises.ensures
 
 pub with_rises-higher-requires : goal.with_rises-higher-requires
 with_rises-higher-requires c =
     let at = goal.at.with_rises-higher-requires c in
-    all_there c.args.cut.now.plan c.args.led.cert.x.items (before at.After-deref).is.long
-    (subst (AreNeeded (layout_of c.args.cut.now.plan) (lengths_in c.args.led.cert.x.items))
+    all_there c.args.cut.now.layout c.args.led.cert.x.items (before at.After-deref).is.long
+    (subst (AreNeeded (gluing_of c.args.cut.now.layout) (lengths_in c.args.led.cert.x.items))
     (sym c.deref-4.ensures.value) (needed at.In_ok-rises))
 
 -- So they do in the network.
@@ -66,10 +66,10 @@ has c = rw (← c.deref-4.ensures.value) c.with_rises-higher.ensures
 
 -- It is the network with these floors.
 after : (c : After-with_rises-higher)
-    → IsNetWith c.requires.led.1.wish c.args.cut.now.plan (fit_settings c.args.fit.now)
+    → IsNetWith c.requires.led.1.wish c.args.cut.now.layout (fit_settings c.args.fit.now)
     (floors_behind c.args.led.rounds.items (given_floors (fit_settings c.args.fit.now))) (network c.args.led.net)
-    → AreNeeded (layout_of c.args.cut.now.plan) (lengths_in c.args.led.cert.x.items) c.in_ok-rises.rises.items
-    → IsNetWith c.requires.led.1.wish c.args.cut.now.plan (fit_settings c.args.fit.now)
+    → AreNeeded (gluing_of c.args.cut.now.layout) (lengths_in c.args.led.cert.x.items) c.in_ok-rises.rises.items
+    → IsNetWith c.requires.led.1.wish c.args.cut.now.layout (fit_settings c.args.fit.now)
     (risen_floors c.in_ok-rises.rises.items
     (floors_behind c.args.led.rounds.items (given_floors (fit_settings c.args.fit.now))))
     (network c.with_rises-higher.result)

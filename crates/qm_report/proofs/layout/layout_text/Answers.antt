@@ -8,7 +8,7 @@ use Rattle.qm_report.proofs.layout.layout_text.Goals as goal
 pub returns : goal.returns
 returns c =
     let soup = c.args.cut.now.soup in
-    let here = c.args.cut.now.plan in
+    let here = c.args.cut.now.layout in
     let faces = soup.faces in
     let kept = option_copied c.args.kept in
     let first = c.mesh.ensures in
@@ -25,5 +25,5 @@ returns c =
     let arcs = c.in_ok-push_arcs.ensures
     ∙ ap (λ (t : List ℕ). t ++ flat_map (whole_arc_line soup kept here) (range_with_len 0 (length here.arcs))) broken in
     c.in_ok-push_patches.ensures
-    ∙ (λ i. arcs i ++ flat_map (patch_lines (c.layout.ensures.plan i))
-    (range_with_len 0 (length (c.layout.ensures.plan i).patches)))
+    ∙ (λ i. arcs i ++ flat_map (patch_lines (c.layout.ensures.layout i))
+    (range_with_len 0 (length (c.layout.ensures.layout i).patches)))

@@ -2,21 +2,21 @@ use Rattle.std.proofs.Common.{◌≡◌, length, arith, ap}
 use Rattle.std.proofs.lemmas.List.{length-map}
 use Rattle.std.specs.{Prelude.option_copied}
 use Rattle.def_cuttext.specs.LayoutText.{whole_arc_line}
-use Rattle.def_layout.specs.{Arcs.path, Plans.Plan}
+use Rattle.def_layout.specs.{Arcs.path, Layouts.Layout}
 use Rattle.qm_report.proofs.Texts.{piece_behind}
 use Rattle.qm_report.proofs.layout.push_arcs.Goals as goal
 
 pub loop-a-preserved : goal.loop-a-preserved
 loop-a-preserved c =
     let cut = c.args.cut.now in
-    piece_behind (whole_arc_line cut.soup (option_copied c.args.kept) cut.plan) c.loop-a.a c.args.text.now.items
+    piece_behind (whole_arc_line cut.soup (option_copied c.args.kept) cut.layout) c.loop-a.a c.args.text.now.items
     c.loop-a.invariant c.in_ok-push_arc.ensures
 
 pub returns : goal.returns
 returns c =
     let cut = c.args.cut.now in
     let t = c.layout.result.now in
-    let all : c.loop-a.a ≡ length cut.plan.arcs =
+    let all : c.loop-a.a ≡ length cut.layout.arcs =
     omega (
       arith,
       c.loop-a-test.false,
@@ -24,6 +24,6 @@ returns c =
       c.len-a-end.ensures,
       t.arcs.ok.0,
       length-map t.arcs.items path,
-      ap (λ (p : Plan). length p.arcs) c.layout.ensures.plan,
+      ap (λ (p : Layout). length p.arcs) c.layout.ensures.layout,
     ) in
     rw (← all) c.loop-a.invariant

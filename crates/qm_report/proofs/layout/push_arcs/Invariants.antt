@@ -5,4 +5,4 @@ use Rattle.qm_report.proofs.layout.push_arcs.Given as goal
 
 abbrev pub invariant-loop-a : goal.invariant-loop-a
 invariant-loop-a l = l.text.items
-    ≡ l.fn.text.items ++ flat_map (whole_arc_line l.cut.soup (option_copied l.kept) l.cut.plan) (range_with_len 0 l.a)
+    ≡ l.fn.text.items ++ flat_map (whole_arc_line l.cut.soup (option_copied l.kept) l.cut.layout) (range_with_len 0 l.a)

@@ -1,11 +1,11 @@
-use Rattle.def_layout.specs.Plans.{plan}
+use Rattle.def_layout.specs.Layouts.{layout_of}
 use Rattle.def_report.specs.GraphText.{patch_lines, side_lines, size_line}
 use Rattle.qm_report.proofs.Texts.{behind, piece_behind}
 use Rattle.qm_report.proofs.parts.push_patches.Goals as goal
 
 pub loop-p-preserved : goal.loop-p-preserved
 loop-p-preserved c =
-    let layout = plan c.args.t.now in
+    let layout = layout_of c.args.t.now in
     let t = c.loop-p.text.items in
     let now = c.push_sides.new.text.items in
     let both = behind t (size_line layout c.loop-p.p) (side_lines layout c.loop-p.p)

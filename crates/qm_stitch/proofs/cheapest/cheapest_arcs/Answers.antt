@@ -2,7 +2,7 @@ use Rattle.std.proofs.Common.{◌≡◌, Bool, List, false, length, get_or, repl
 use Rattle.std.proofs.lemmas.List.{get_or-replicate, length-map, length-replicate, with_items_is}
 use Rattle.std.proofs.lemmas.List.Sorted.{All-permutation}
 use Rattle.std.specs.{List.All, List.Sorted.IsPermutation}
-use Rattle.def_layout.specs.{Arcs.path, Plans.plan}
+use Rattle.def_layout.specs.{Arcs.path, Layouts.layout_of}
 use Rattle.qm_stitch.specs.Remedies.{AreInOrder, AreMarksOf, IsRunIn}
 use Rattle.qm_stitch.specs.declared.remedy.Remedy.{Remedy}
 use Rattle.qm_stitch.proofs.Firsts.{marks_of}
@@ -10,18 +10,18 @@ use Rattle.qm_stitch.proofs.cheapest.cheapest_arcs.Goals as goal
 
 pub mark_firsts-requires-clause-runs : goal.mark_firsts-requires-clause-runs
 mark_firsts-requires-clause-runs c =
-    subst (All (λ (r : Remedy). IsRunIn (plan c.args.numbered.now.t.now) r.run)) (sym c.deref.ensures.value)
-    (All-permutation (λ (r : Remedy). IsRunIn (plan c.args.numbered.now.t.now) r.run) c.args.remedies.items
+    subst (All (λ (r : Remedy). IsRunIn (layout_of c.args.numbered.now.t.now) r.run)) (sym c.deref.ensures.value)
+    (All-permutation (λ (r : Remedy). IsRunIn (layout_of c.args.numbered.now.t.now) r.run) c.args.remedies.items
     c.sort.new.remedies.items c.sort.ensures.moved c.requires)
 
 pub returns : goal.returns
 returns c =
     let many = length c.args.numbered.now.t.now.arcs.items in
     let blank : c.deref_mut.result.now ≡ replicate many false = search rules in
-    subst (AreMarksOf (plan c.args.numbered.now.t.now) c.args.remedies.items)
+    subst (AreMarksOf (layout_of c.args.numbered.now.t.now) c.args.remedies.items)
     (sym (with_items_is c.in_ok-chosen.chosen c.mark_firsts.new.chosen
     (c.mark_firsts.auto.chosen ∙ c.deref_mut.ensures.len)))
-    (marks_of (plan c.args.numbered.now.t.now) c.args.remedies.items c.deref.result.now c.deref_mut.result.now
+    (marks_of (layout_of c.args.numbered.now.t.now) c.args.remedies.items c.deref.result.now c.deref_mut.result.now
     c.mark_firsts.new.chosen
     (subst (IsPermutation c.args.remedies.items) (sym c.deref.ensures.value) c.sort.ensures.moved)
     (subst AreInOrder (sym c.deref.ensures.value) c.sort.ensures.ordered)

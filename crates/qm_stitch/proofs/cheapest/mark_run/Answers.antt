@@ -1,7 +1,7 @@
 use Rattle.std.proofs.Common.{ℕ, sym, subst, arith}
 use Rattle.std.proofs.lemmas.List.{length-map}
 use Rattle.def_cut.specs.Grids.{rectangle}
-use Rattle.def_layout.specs.Plans.{plan}
+use Rattle.def_layout.specs.Layouts.{layout_of}
 use Rattle.qm_offsets.proofs.Whole.{way_for}
 use Rattle.qm_stitch.specs.{Remedies.IsArcOf, Remedies.IsRunIn, Tight.AddsMarks}
 use Rattle.qm_stitch.specs.declared.remedy.Run.{Run}
@@ -12,19 +12,19 @@ pub mark_side-requires-clause-patch : goal.mark_side-requires-clause-patch
 mark_side-requires-clause-patch c =
     omega (
       arith,
-      (subst (IsRunIn (plan c.args.numbered.now.t.now)) c.in-Side.is c.requires.run).0,
+      (subst (IsRunIn (layout_of c.args.numbered.now.t.now)) c.in-Side.is c.requires.run).0,
       length-map c.args.numbered.now.t.now.patches.items rectangle,
     )
 
 pub mark_side-requires-clause-side : goal.mark_side-requires-clause-side
-mark_side-requires-clause-side c = (subst (IsRunIn (plan c.args.numbered.now.t.now)) c.in-Side.is c.requires.run).1
+mark_side-requires-clause-side c = (subst (IsRunIn (layout_of c.args.numbered.now.t.now)) c.in-Side.is c.requires.run).1
 
 pub returns-in-Side : goal.returns-in-Side
 returns-in-Side c =
-    let there : IsRunIn (plan c.args.numbered.now.t.now) (Side c.in-Side.patch c.in-Side.side) =
-    subst (IsRunIn (plan c.args.numbered.now.t.now)) c.in-Side.is c.requires.run in
+    let there : IsRunIn (layout_of c.args.numbered.now.t.now) (Side c.in-Side.patch c.in-Side.side) =
+    subst (IsRunIn (layout_of c.args.numbered.now.t.now)) c.in-Side.is c.requires.run in
     let w = way_for c.in-Side.side there.1 in
     subst (λ (run : Run). AddsMarks c.args.chosen.now c.mark_side.new.tight
-    (IsArcOf (plan c.args.numbered.now.t.now) run)) (sym c.in-Side.is)
+    (IsArcOf (layout_of c.args.numbered.now.t.now) run)) (sym c.in-Side.is)
     (subst (λ (s : ℕ). AddsMarks c.args.chosen.now c.mark_side.new.tight
-    (IsArcOf (plan c.args.numbered.now.t.now) (Side c.in-Side.patch s))) w.1 (c.mark_side.ensures w.0 w.1))
+    (IsArcOf (layout_of c.args.numbered.now.t.now) (Side c.in-Side.patch s))) w.1 (c.mark_side.ensures w.0 w.1))

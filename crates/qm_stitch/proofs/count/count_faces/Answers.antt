@@ -1,36 +1,39 @@
 use Rattle.std.proofs.Common.{◌≡◌, ℕ, suc, ◌+◌, ◌*◌, ◌^◌, ◌<◌, ◌≤◌, length, refl, ◌∙◌, arith}
 use Rattle.std.proofs.lemmas.List.{length-map}
 use Rattle.def_cut.specs.Grids.{rectangle}
-use Rattle.def_layout.specs.{Arcs.long_at, Layouts.south, Layouts.west, Lengths.wide, Lengths.high, Plans.layout_of}
-use Rattle.def_layout.specs.{Plans.plan, declared.tmesh.TMesh.TMesh}
+use Rattle.def_layout.specs.{Arcs.long_at, Gluings.south, Gluings.west, Lengths.wide, Lengths.high, Layouts.gluing_of}
+use Rattle.def_layout.specs.{Layouts.layout_of, declared.tmesh.TMesh.TMesh}
 use Rattle.def_layoutnet.specs.MeshLayouts.{IsSomeLayout}
 use Rattle.def_written.specs.NewFaces.{cells_before, face_count}
 use Rattle.def_remesh.specs.NewPoints.{lengths_in}
-use Rattle.plan_laws.proofs.{MeshLayouts.laid_of, MeshLayouts.lengths_of, Bounds.cells_most, Bounds.old_faces}
+use Rattle.embedding_laws.proofs.{MeshLayouts.laid_of, MeshLayouts.lengths_of, Bounds.cells_most, Bounds.old_faces}
 use Rattle.written_laws.proofs.Runs.{count_rises}
 use Rattle.qm_offsets.proofs.Spots.{count_step}
 use Rattle.qm_stitch.proofs.count.count_faces.Goals as goal
 
 -- All faces are few enough for 128 bits.
-few : (t : TMesh) (x : ℕ → ℕ) (is : IsSomeLayout (plan t)) → ((a : ℕ) → x a ≤ 10 ^ 12) → (p : ℕ)
+few : (t : TMesh) (x : ℕ → ℕ) (is : IsSomeLayout (layout_of t)) → ((a : ℕ) → x a ≤ 10 ^ 12) → (p : ℕ)
     → p < length t.patches.items
-    → cells_before (layout_of (plan t)) x p + wide (layout_of (plan t)) x p * high (layout_of (plan t)) x p < 2 ^ 128
+    → cells_before (gluing_of (layout_of t)) x p + wide (gluing_of (layout_of t)) x p * high (gluing_of (layout_of t))
+    x p < 2 ^ 128
 few t x is most p low =
-    let l_low : suc p ≤ length (plan t).patches = omega (arith, low, length-map t.patches.items rectangle) in
-    let all : cells_before (layout_of (plan t)) (long_at (plan t).arcs) (suc p) ≤ face_count (layout_of (plan t))
-    (long_at (plan t).arcs) =
-    count_rises _ (suc p) (length (plan t).patches) l_low in
+    let l_low : suc p ≤ length (layout_of t).patches = omega (arith, low, length-map t.patches.items rectangle) in
+    let all : cells_before (gluing_of (layout_of t)) (long_at (layout_of t).arcs) (suc p) ≤ face_count
+    (gluing_of (layout_of t))
+    (long_at (layout_of t).arcs) =
+    count_rises _ (suc p) (length (layout_of t).patches) l_low in
     omega (
       arith,
-      cells_most (layout_of (plan t)) (long_at (plan t).arcs) x (10 ^ 12) (laid_of (plan t) is) (lengths_of (plan t) is)
+      cells_most (gluing_of (layout_of t)) (long_at (layout_of t).arcs) x (10 ^ 12) (laid_of (layout_of t) is)
+          (lengths_of (layout_of t) is)
           most (suc p) l_low,
       all,
-      old_faces (plan t) is,
+      old_faces (layout_of t) is,
     )
 
 product : (c : goal.After-from-in-loop-patch) → c.from.result * c.from-in-loop-patch.result
-    ≡ wide (layout_of (plan c.args.stretched.now.t.now)) (lengths_in c.args.stretched.now.lengths.now)
-    c.loop-patch.patch * high (layout_of (plan c.args.stretched.now.t.now))
+    ≡ wide (gluing_of (layout_of c.args.stretched.now.t.now)) (lengths_in c.args.stretched.now.lengths.now)
+    c.loop-patch.patch * high (gluing_of (layout_of c.args.stretched.now.t.now))
     (lengths_in c.args.stretched.now.lengths.now) c.loop-patch.patch
 product c =
     λ i. (c.from.ensures ∙ c.size_on-wide.ensures south refl) i * (c.from-in-loop-patch.ensures
@@ -53,7 +56,8 @@ loop-patch-preserved c =
       arith,
       product c,
       c.loop-patch.invariant,
-      count_step (λ q. wide (layout_of (plan c.args.stretched.now.t.now)) (lengths_in c.args.stretched.now.lengths.now)
-          q * high (layout_of (plan c.args.stretched.now.t.now)) (lengths_in c.args.stretched.now.lengths.now) q)
+      count_step (λ q. wide (gluing_of (layout_of c.args.stretched.now.t.now))
+          (lengths_in c.args.stretched.now.lengths.now)
+          q * high (gluing_of (layout_of c.args.stretched.now.t.now)) (lengths_in c.args.stretched.now.lengths.now) q)
           c.loop-patch.patch,
     )

@@ -1,15 +1,16 @@
 use Rattle.std.proofs.{Common.◌≡◌, Common.◌+◌, Common.◌-◌, Common.◌^◌, Common.◌<◌, Common.arith, lemmas.List.length-map}
-use Rattle.def_layout.specs.{Arcs.path, Plans.plan}
+use Rattle.def_layout.specs.{Arcs.path, Layouts.layout_of}
 use Rattle.def_written.specs.{Numbers.vertex_number, Points.arc_point}
 use Rattle.qm_stitch.proofs.Grids.{arc_here}
-use Rattle.qm_stitch.specs.Lengthened.{layout_in, lengths_by}
+use Rattle.qm_stitch.specs.Lengthened.{gluing_in, lengths_by}
 use Rattle.qm_stitch.proofs.point.arc_number.Goals as goal
 
 here : (c : goal.After-row_known-2-1) → (c.args.numbered.now.tables.now.nodes + c.index-3.result.now + (c.args.k - 1)
-    ≡ vertex_number (layout_in c.args.numbered.now) (lengths_by c.args.numbered.now)
-    (arc_point (layout_in c.args.numbered.now) (lengths_by c.args.numbered.now) c.args.arc c.args.k))
+    ≡ vertex_number (gluing_in c.args.numbered.now) (lengths_by c.args.numbered.now)
+    (arc_point (gluing_in c.args.numbered.now) (lengths_by c.args.numbered.now) c.args.arc c.args.k))
     × (c.args.numbered.now.tables.now.nodes + c.index-3.result.now + (c.args.k - 1) < 2 ^ 23)
-here c = arc_here (plan c.args.numbered.now.t.now) c.args.numbered.now.tables.now c.args.numbered.now.numbers c.args.arc
+here c = arc_here (layout_of c.args.numbered.now.t.now) c.args.numbered.now.tables.now c.args.numbered.now.numbers
+    c.args.arc
     c.args.k c.index-2.result.now c.index-3.result.now
     (omega (arith, c.requires.arc, length-map c.args.numbered.now.t.now.arcs.items path)) c.requires.upto
     c.if-k-eq0.false c.if-k-index.false c.index-2.ensures c.index-3.ensures

@@ -6,11 +6,11 @@ use mir.Syntax.{w128}
 use Rattle.std.proofs.lemmas.List.{length-map}
 use Rattle.std.specs.{Prelude.◌==◌, List.All}
 use Rattle.def_cut.specs.Grids.{rectangle}
-use Rattle.def_layout.specs.{Arcs.path, Plans.plan, declared.tmesh.Side.Side, declared.tmesh.SideArc.SideArc}
+use Rattle.def_layout.specs.{Arcs.path, Layouts.layout_of, declared.tmesh.Side.Side, declared.tmesh.SideArc.SideArc}
 use Rattle.def_remesh.specs.Numberings.{tables_of}
 use Rattle.written_laws.proofs.Sides.{size_some}
 use Rattle.qm_offsets.specs.Fours.{arcs_on, uses_in}
-use Rattle.qm_stitch.specs.{Lengthened.layout_in, Lengthened.lengths_by, Remedies.price_along, Remedies.IsAlong}
+use Rattle.qm_stitch.specs.{Lengthened.gluing_in, Lengthened.lengths_by, Remedies.price_along, Remedies.IsAlong}
 use Rattle.qm_stitch.specs.{Remedies.IsByLine, Rims.along_lines, Sizes.table_in}
 use Rattle.qm_stitch.specs.declared.remedy.Run.TheVariants.{Side as side_run}
 use Rattle.qm_stitch.proofs.{Adding.adds_alike, Adding.adds_next, Adding.adds_none, Grids.border}
@@ -20,11 +20,11 @@ use Rattle.qm_stitch.proofs.remedies.push_side.Goals.{After-uses_on-uses}
 use Rattle.qm_stitch.proofs.remedies.push_side.Goals as goal
 
 read : (c : After-uses_on-uses)
-    → c.uses_on-uses.result.now ≡ arcs_on (plan c.args.priced.now.numbered.t.now) c.args.patch c.args.side
+    → c.uses_on-uses.result.now ≡ arcs_on (layout_of c.args.priced.now.numbered.t.now) c.args.patch c.args.side
 read c = c.uses_on-uses.ensures
     ∙ ap (λ (xs : List (List Side)). get_or (get_or (uses_in xs) c.args.patch []) c.args.side []) c.deref.ensures.value
 
-low : (c : After-uses_on-uses) → c.args.patch < length (plan c.args.priced.now.numbered.t.now).patches
+low : (c : After-uses_on-uses) → c.args.patch < length (layout_of c.args.priced.now.numbered.t.now).patches
 low c = omega (arith, c.requires.patch, length-map c.args.priced.now.numbered.t.now.patches.items rectangle)
 
 all_low : (c : After-uses_on-uses)
@@ -33,7 +33,7 @@ all_low : (c : After-uses_on-uses)
 all_low c =
     subst (λ (n : ℕ). All (λ (used : SideArc). used.arc < n) c.uses_on-uses.result.now)
     (length-map c.args.priced.now.numbered.t.now.arcs.items path)
-    (border (plan c.args.priced.now.numbered.t.now) c.args.priced.now.numbered.tables.now
+    (border (layout_of c.args.priced.now.numbered.t.now) c.args.priced.now.numbered.tables.now
     c.args.priced.now.numbered.numbers c.args.patch c.args.side c.uses_on-uses.result.now
     (table_in (tables_of c.args.priced.now.numbered.tables.now.sides.items) c.args.patch c.args.side)
     (low c) c.requires.side (read c) refl).low
@@ -51,7 +51,7 @@ returns-then-not-is_some_short c =
     adds_none c.args.found.now.items (IsAlong c.args.priced.now (side_run c.args.patch c.args.side))
     (none_along c.args.priced.now c.requires.priced (side_run c.args.patch c.args.side)
     (λ short. false≢true (sym c.if-not-is_some_short.true
-    ∙ c.is_some_short.ensures.1 (short_uses (plan c.args.priced.now.numbered.t.now) x c.args.patch c.args.side
+    ∙ c.is_some_short.ensures.1 (short_uses (layout_of c.args.priced.now.numbered.t.now) x c.args.patch c.args.side
     c.uses_on-uses.result.now (read w) short))))
 
 pub loop-number-init : goal.loop-number-init
@@ -59,7 +59,7 @@ loop-number-init c =
     let w = (goal.at.loop-number-init c).After-uses_on-uses in
     record {
       some = omega arith;
-      upto = size_some (layout_in c.args.priced.now.numbered) (lengths_by c.args.priced.now.numbered)
+      upto = size_some (gluing_in c.args.priced.now.numbered) (lengths_by c.args.priced.now.numbered)
           c.args.priced.now.numbered.numbers.paved c.args.priced.now.numbered.numbers.lengths c.args.patch
           (along_lines (not (c.args.side % 2 == 1))) (low w);
       adds = adds_none c.args.found.now.items _ (λ r is. omega (arith, is.1, is.2));
@@ -110,6 +110,7 @@ returns c =
     ))
     (to_z-of_z w128 c.price_along-price.result (search rules) ∙ c.price_along-price.ensures
     ∙ ap (price_along x c.args.priced.now.prices.now) (read w))
-    (uses_short (plan c.args.priced.now.numbered.t.now) x c.args.patch c.args.side c.uses_on-uses.result.now (read w)
+    (uses_short (layout_of c.args.priced.now.numbered.t.now) x c.args.patch c.args.side c.uses_on-uses.result.now
+    (read w)
     (c.is_some_short.ensures.0 c.if-not-is_some_short.false))
     c.loop-number.invariant.adds

@@ -1,7 +1,7 @@
 use Rattle.std.proofs.{Common.inl, Common.inr, Common.arith, lemmas.Bool.cases_eq, lemmas.List.length-map}
 use Rattle.def_layout.specs.Arcs.{path}
 use Rattle.def_written.specs.Points.{along}
-use Rattle.qm_stitch.specs.Lengthened.{layout_in, lengths_by}
+use Rattle.qm_stitch.specs.Lengthened.{gluing_in, lengths_by}
 use Rattle.written_laws.proofs.Numbers.{number_low}
 use Rattle.qm_stitch.proofs.rim.arc_key.Goals as goal
 
@@ -11,7 +11,7 @@ overflow_add-k c = elim (cases_eq c.args.k 0) [
   | inr later ↦ omega (
     arith,
     c.args.numbered.now.numbers.few,
-    number_low (layout_in c.args.numbered.now) (lengths_by c.args.numbered.now) (along c.args.arc c.args.k) (
+    number_low (gluing_in c.args.numbered.now) (lengths_by c.args.numbered.now) (along c.args.arc c.args.k) (
       omega (arith, c.requires.arc, length-map c.args.numbered.now.t.now.arcs.items path),
       omega (arith, later),
       c.requires.low,

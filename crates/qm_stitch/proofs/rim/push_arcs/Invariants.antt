@@ -1,7 +1,7 @@
 use Rattle.std.proofs.Common.{◌≡◌, ◌++◌}
-use Rattle.qm_stitch.specs.{Rims.arcs_upto, Rims.keys_of, Lengthened.layout_in, Lengthened.lengths_by}
+use Rattle.qm_stitch.specs.{Rims.arcs_upto, Rims.keys_of, Lengthened.gluing_in, Lengthened.lengths_by}
 use Rattle.qm_stitch.proofs.rim.push_arcs.Given as goal
 
 abbrev pub invariant-loop-arc : goal.invariant-loop-arc
-invariant-loop-arc l = l.keys.items ≡ l.initial.keys.items ++ keys_of (layout_in l.numbered) (lengths_by l.numbered)
+invariant-loop-arc l = l.keys.items ≡ l.initial.keys.items ++ keys_of (gluing_in l.numbered) (lengths_by l.numbered)
     (arcs_upto (lengths_by l.numbered) l.arc)

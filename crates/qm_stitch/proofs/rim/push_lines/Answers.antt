@@ -1,20 +1,20 @@
 use Rattle.std.proofs.Common.{◌≡◌, ◌<◌, ◌-◌, ◌+◌, ◌++◌, ℕ, not, length, ◌∙◌, ap, subst, sym, arith}
 use Rattle.std.proofs.lemmas.List.{append-nil, length-map}
 use Rattle.def_cut.specs.Grids.{rectangle}
-use Rattle.def_layout.specs.{Lengths.size, Plans.plan, declared.tmesh.TMesh.TMesh}
+use Rattle.def_layout.specs.{Lengths.size, Layouts.layout_of, declared.tmesh.TMesh.TMesh}
 use Rattle.qm_stitch.specs.Rims.{along_lines, key_of, keys_of, line_ends, lines_upto}
-use Rattle.qm_stitch.specs.Lengthened.{layout_in, lengths_by}
+use Rattle.qm_stitch.specs.Lengthened.{gluing_in, lengths_by}
 use Rattle.qm_stitch.proofs.RimLists.{parts_next}
 use Rattle.written_laws.proofs.Sides.{size_some}
 use Rattle.qm_stitch.proofs.rim.push_lines.Goals as goal
 
-low : (t : TMesh) (patch : ℕ) → patch < length t.patches.items → patch < length (plan t).patches
+low : (t : TMesh) (patch : ℕ) → patch < length t.patches.items → patch < length (layout_of t).patches
 low t patch less = omega (arith, less, length-map t.patches.items rectangle)
 
 pub loop-number-init : goal.loop-number-init
 loop-number-init c = record {
   some = omega arith;
-  upto = size_some (layout_in c.args.numbered.now) (lengths_by c.args.numbered.now) c.args.numbered.now.numbers.paved
+  upto = size_some (gluing_in c.args.numbered.now) (lengths_by c.args.numbered.now) c.args.numbered.now.numbers.paved
       c.args.numbered.now.numbers.lengths c.args.patch (along_lines (not c.args.upright))
       (low c.args.numbered.now.t.now c.args.patch c.requires.patch);
   items = sym (append-nil c.args.keys.now.items);
@@ -44,12 +44,12 @@ loop-number-preserved c =
         c.size_at-number-end.ensures (along_lines (not c.args.upright)) c.side_along.ensures.side,
       );
       items = subst (λ (n : ℕ). c.push_line.new.keys.items ≡ c.args.keys.now.items
-          ++ keys_of (layout_in c.args.numbered.now) (lengths_by c.args.numbered.now)
-          (lines_upto (layout_in c.args.numbered.now) (lengths_by c.args.numbered.now) c.args.upright c.args.patch
+          ++ keys_of (gluing_in c.args.numbered.now) (lengths_by c.args.numbered.now)
+          (lines_upto (gluing_in c.args.numbered.now) (lengths_by c.args.numbered.now) c.args.upright c.args.patch
           n)) back
-          (parts_next (key_of (layout_in c.args.numbered.now) (lengths_by c.args.numbered.now))
+          (parts_next (key_of (gluing_in c.args.numbered.now) (lengths_by c.args.numbered.now))
           (line_ends c.args.upright c.args.patch
-          (size (layout_in c.args.numbered.now) (lengths_by c.args.numbered.now) c.args.patch
+          (size (gluing_in c.args.numbered.now) (lengths_by c.args.numbered.now) c.args.patch
           (along_lines c.args.upright)))
           1 (c.loop-number.number - 1) c.loop-number.number c.args.keys.now.items c.loop-number.keys.items
           c.push_line.new.keys.items
@@ -58,7 +58,7 @@ loop-number-preserved c =
 
 pub returns : goal.returns
 returns c =
-    let end : c.loop-number.number ≡ size (layout_in c.args.numbered.now) (lengths_by c.args.numbered.now) c.args.patch
+    let end : c.loop-number.number ≡ size (gluing_in c.args.numbered.now) (lengths_by c.args.numbered.now) c.args.patch
     (along_lines (not c.args.upright)) =
     omega (
       arith,
@@ -67,6 +67,6 @@ returns c =
       c.size_at-number-end.ensures (along_lines (not c.args.upright)) c.side_along.ensures.side,
     ) in
     c.loop-number.invariant.items ∙ ap (λ n. c.args.keys.now.items
-    ++ keys_of (layout_in c.args.numbered.now) (lengths_by c.args.numbered.now)
-    (lines_upto (layout_in c.args.numbered.now) (lengths_by c.args.numbered.now) c.args.upright c.args.patch
+    ++ keys_of (gluing_in c.args.numbered.now) (lengths_by c.args.numbered.now)
+    (lines_upto (gluing_in c.args.numbered.now) (lengths_by c.args.numbered.now) c.args.upright c.args.patch
     (n - 1))) end

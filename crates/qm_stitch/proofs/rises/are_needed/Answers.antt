@@ -1,15 +1,15 @@
 use Rattle.std.proofs.Common.{◌≡◌, ◌↔◌, ◌<◌, ℕ, Bool, List, true, length, sym, ◌∙◌, subst, arith}
 use Rattle.std.proofs.lemmas.List.{length-map}
-use Rattle.def_layout.specs.{Arcs.path, Plans.layout_of, Plans.plan}
+use Rattle.def_layout.specs.{Arcs.path, Layouts.gluing_of, Layouts.layout_of}
 use Rattle.qm_stitch.specs.Raised.{AreFloors, AreOrdered, IsShortTight}
 use Rattle.qm_stitch.proofs.RiseLists.{needed_are}
 use Rattle.qm_stitch.proofs.rises.are_needed.Goals as goal
 
 pub returns : goal.returns
 returns c =
-    let arcs : length (plan c.args.t.now).arcs ≡ length c.args.t.now.arcs.items =
+    let arcs : length (layout_of c.args.t.now).arcs ≡ length c.args.t.now.arcs.items =
     length-map c.args.t.now.arcs.items path in
-    let needed = needed_are (layout_of (plan c.args.t.now)) c.args.lengths.now c.in_ok-tight.tight.items
+    let needed = needed_are (gluing_of (layout_of c.args.t.now)) c.args.lengths.now c.in_ok-tight.tight.items
     (c.requires.long ∙ sym arcs)
     (λ arc low. c.in_ok-tight.ensures.each arc (omega (arith, low, arcs))) c.is_some_short.result
     (subst (λ (tight : List Bool). (c.is_some_short.result ≡ true)

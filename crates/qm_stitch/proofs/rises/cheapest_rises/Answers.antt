@@ -3,7 +3,7 @@ use Rattle.std.proofs.lemmas.Bool.{cases_eq, false≢true}
 use Rattle.std.proofs.lemmas.List.Elements.{Contains-get_or}
 use Rattle.std.proofs.lemmas.Result.{IfOk-weaker}
 use Rattle.std.specs.List.{Contains}
-use Rattle.def_layout.specs.Plans.{plan}
+use Rattle.def_layout.specs.Layouts.{layout_of}
 use Rattle.def_remesh.specs.NewPoints.{lengths_in}
 use Rattle.qm_stitch.specs.Remedies.{AreMarksOf, IsRemedy}
 use Rattle.qm_stitch.specs.declared.remedy.Remedy.{Remedy}
@@ -13,19 +13,21 @@ use Rattle.qm_stitch.proofs.rises.cheapest_rises.Goals as goal
 
 -- The remedies are those at these lengths.
 found : (c : In_ok-remedies) → (r : Remedy) → Contains c.in_ok-remedies.remedies.items r
-    ↔ IsRemedy (plan c.args.priced.now.numbered.t.now) (lengths_in c.args.lengths.now) c.args.priced.now.prices.now r
+    ↔ IsRemedy (layout_of c.args.priced.now.numbered.t.now) (lengths_in c.args.lengths.now)
+    c.args.priced.now.prices.now r
 found c =
     subst (λ (xs : List ℕ). (r : Remedy) → Contains c.in_ok-remedies.remedies.items r
-    ↔ IsRemedy (plan c.args.priced.now.numbered.t.now) (lengths_in xs) c.args.priced.now.prices.now r)
+    ↔ IsRemedy (layout_of c.args.priced.now.numbered.t.now) (lengths_in xs) c.args.priced.now.prices.now r)
     c.requires.same c.in_ok-remedies.ensures
 
 pub cheapest_arcs-requires : goal.cheapest_arcs-requires
 cheapest_arcs-requires c k d low =
     let w = (goal.at.cheapest_arcs-requires c).In_ok-remedies in
-    remedy_in (plan c.args.priced.now.numbered.t.now) (lengths_in c.args.lengths.now) c.args.priced.now.prices.now _
+    remedy_in (layout_of c.args.priced.now.numbered.t.now) (lengths_in c.args.lengths.now) c.args.priced.now.prices.now
+    _
     ((found w _).0 (Contains-get_or c.in_ok-remedies.remedies.items k d low))
 
-long : (c : In_ok-remedies) → length c.args.lengths.now ≡ length (plan c.args.priced.now.numbered.t.now).arcs
+long : (c : In_ok-remedies) → length c.args.lengths.now ≡ length (layout_of c.args.priced.now.numbered.t.now).arcs
 long c = ap length (sym c.requires.same) ∙ c.args.priced.now.numbered.numbers.long
 
 -- Whether there is one.
@@ -43,10 +45,10 @@ pub returns-clause-needed : goal.returns-clause-needed
 returns-clause-needed c =
     let at = goal.at.returns-clause-needed c in
     IfOk-weaker c.rises_by.result _ _
-    (λ rises risen. choice_needed (plan c.args.priced.now.numbered.t.now) c.args.lengths.now
+    (λ rises risen. choice_needed (layout_of c.args.priced.now.numbered.t.now) c.args.lengths.now
     c.args.priced.now.prices.now c.in_ok-remedies.remedies.items c.deref-2.result.now rises.items
     c.args.priced.now.numbered.numbers.paved (long at.In_ok-remedies) (found at.In_ok-remedies)
-    (subst (AreMarksOf (plan c.args.priced.now.numbered.t.now) c.in_ok-remedies.remedies.items)
+    (subst (AreMarksOf (layout_of c.args.priced.now.numbered.t.now) c.in_ok-remedies.remedies.items)
     (sym c.deref-2.ensures.value) c.in_ok-chosen.ensures)
     c.is_any-some.result (any at.After-is_any-some) (none at.After-is_any-some) risen c.requires.short)
     c.rises_by.ensures
@@ -55,10 +57,10 @@ pub returns-clause-cheapest : goal.returns-clause-cheapest
 returns-clause-cheapest c =
     let at = goal.at.returns-clause-cheapest c in
     IfOk-weaker c.rises_by.result _ _
-    (λ rises risen. choice_follows (plan c.args.priced.now.numbered.t.now) c.args.lengths.now
+    (λ rises risen. choice_follows (layout_of c.args.priced.now.numbered.t.now) c.args.lengths.now
     c.args.priced.now.prices.now c.in_ok-remedies.remedies.items c.deref-2.result.now rises.items
     c.args.priced.now.numbered.numbers.paved (long at.In_ok-remedies) (found at.In_ok-remedies)
-    (subst (AreMarksOf (plan c.args.priced.now.numbered.t.now) c.in_ok-remedies.remedies.items)
+    (subst (AreMarksOf (layout_of c.args.priced.now.numbered.t.now) c.in_ok-remedies.remedies.items)
     (sym c.deref-2.ensures.value) c.in_ok-chosen.ensures)
     c.is_any-some.result (any at.After-is_any-some) (none at.After-is_any-some) risen)
     c.rises_by.ensures

@@ -1,23 +1,23 @@
 use Rattle.std.proofs.Common.{◌<◌, ℕ, length, ◌∙◌, ap, sym, arith}
 use Rattle.std.proofs.lemmas.List.{length-map}
 use Rattle.def_cut.specs.Grids.{rectangle}
-use Rattle.def_layout.specs.{Plans.plan, declared.tmesh.TMesh.TMesh}
+use Rattle.def_layout.specs.{Layouts.layout_of, declared.tmesh.TMesh.TMesh}
 use Rattle.def_remesh.specs.Numberings.{tables_of}
 use Rattle.qm_stitch.specs.Sizes.{table_in}
 use Rattle.qm_stitch.proofs.Grids.{size_read, table_full}
 use Rattle.qm_stitch.proofs.size.size_at.Goals as goal
 
-low : (t : TMesh) (patch : ℕ) → patch < length t.patches.items → patch < length (plan t).patches
+low : (t : TMesh) (patch : ℕ) → patch < length t.patches.items → patch < length (layout_of t).patches
 low t patch less = omega (arith, less, length-map t.patches.items rectangle)
 
 pub last_of-requires : goal.last_of-requires
-last_of-requires c = table_full (plan c.args.numbered.now.t.now) c.args.numbered.now.tables.now
+last_of-requires c = table_full (layout_of c.args.numbered.now.t.now) c.args.numbered.now.tables.now
     c.args.numbered.now.numbers c.args.patch c.args.side c.deref.result.now c.starts_on.result.now
     (low c.args.numbered.now.t.now c.args.patch c.requires.patch) c.requires.side c.deref.ensures.value
     c.starts_on.ensures
 
 pub returns : goal.returns
-returns c way same = size_read (plan c.args.numbered.now.t.now) c.args.numbered.now.tables.now
+returns c way same = size_read (layout_of c.args.numbered.now.t.now) c.args.numbered.now.tables.now
     c.args.numbered.now.numbers c.args.patch way c.deref.result.now c.starts_on.result.now c.last_of.result
     (low c.args.numbered.now.t.now c.args.patch c.requires.patch) c.deref.ensures.value
     (c.starts_on.ensures ∙ ap (table_in (tables_of c.deref.result.now) c.args.patch) (sym same)) c.last_of.ensures

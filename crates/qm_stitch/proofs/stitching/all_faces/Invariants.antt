@@ -1,9 +1,9 @@
 use Rattle.std.proofs.Common.{◌≡◌, map}
 use Rattle.std.specs.List.{range_with_len}
 use Rattle.def_written.specs.NewFaces.{new_face}
-use Rattle.qm_stitch.specs.Lengthened.{layout_in, lengths_by}
+use Rattle.qm_stitch.specs.Lengthened.{gluing_in, lengths_by}
 use Rattle.qm_stitch.proofs.stitching.all_faces.Given as goal
 
 abbrev pub invariant-loop-face : goal.invariant-loop-face
-invariant-loop-face l = l.faces.items ≡ map (new_face (layout_in l.numbered) (lengths_by l.numbered))
+invariant-loop-face l = l.faces.items ≡ map (new_face (gluing_in l.numbered) (lengths_by l.numbered))
     (range_with_len 0 l.face)

@@ -1,10 +1,10 @@
 use Rattle.std.proofs.Common.{◌≡◌, ◌↔◌, ◌<◌, ℕ, true, false, length, get_or}
-use Rattle.qm_stitch.specs.{Lengthened.layout_in, Lengthened.lengths_by, Tight.IsDoubledOn}
+use Rattle.qm_stitch.specs.{Lengthened.gluing_in, Lengthened.lengths_by, Tight.IsDoubledOn}
 use Rattle.qm_stitch.proofs.tight.doubled_arcs.Given as goal
 
 abbrev pub invariant-loop-arc : goal.invariant-loop-arc
 invariant-loop-arc l = record {
   long : length l.on.items ≡ l.arc;
   each : (a : ℕ) → a < l.arc
-      → (get_or l.on.items a false ≡ true) ↔ IsDoubledOn (layout_in l.numbered) (lengths_by l.numbered) a;
+      → (get_or l.on.items a false ≡ true) ↔ IsDoubledOn (gluing_in l.numbered) (lengths_by l.numbered) a;
 }

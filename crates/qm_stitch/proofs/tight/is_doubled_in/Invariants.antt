@@ -1,10 +1,10 @@
 use Rattle.std.proofs.Common.{◌<◌, ℕ}
-use Rattle.qm_stitch.specs.{Lengthened.layout_in, Lengthened.lengths_by, Tight.IsLineDoubled}
+use Rattle.qm_stitch.specs.{Lengthened.gluing_in, Lengthened.lengths_by, Tight.IsLineDoubled}
 use Rattle.qm_stitch.proofs.tight.is_doubled_in.Given as goal
 
 abbrev pub invariant-loop-number : goal.invariant-loop-number
 invariant-loop-number l = record {
   some : 0 < l.number;
   none : (n : ℕ) → 0 < n → n < l.number
-      → ¬ IsLineDoubled (layout_in l.numbered) (lengths_by l.numbered) l.upright l.patch n;
+      → ¬ IsLineDoubled (gluing_in l.numbered) (lengths_by l.numbered) l.upright l.patch n;
 }

@@ -3,7 +3,7 @@ use Rattle.std.proofs.lemmas.Bool.{false≢true}
 use Rattle.std.proofs.lemmas.List.{get_or_default, length-map}
 use Rattle.def_layout.specs.Arcs.{path}
 use Rattle.def_written.specs.Edges.{on_arc}
-use Rattle.qm_stitch.specs.{declared.numbered.Numbered.Numbered, Lengthened.layout_in, Lengthened.lengths_by}
+use Rattle.qm_stitch.specs.{declared.numbered.Numbered.Numbered, Lengthened.gluing_in, Lengthened.lengths_by}
 use Rattle.qm_stitch.specs.{Rims.IsRepeat, Tight.IsDoubled}
 use Rattle.qm_stitch.proofs.{TightEdges.key_tells, tight.is_doubled_on.Goals.After-is_repeat}
 use Rattle.qm_stitch.proofs.tight.is_doubled_on.Goals as goal
@@ -15,9 +15,9 @@ end_is numbered arc end low read = read ∙ get_or_default numbered.tables.now.l
     (omega (arith, low, numbered.numbers.long, length-map numbered.t.now.arcs.items path))
 
 told : (c : After-is_repeat) → (c.is_repeat.result ≡ true)
-    ↔ IsDoubled (layout_in c.args.numbered.now) (lengths_by c.args.numbered.now) (on_arc c.args.arc c.loop-k.k)
+    ↔ IsDoubled (gluing_in c.args.numbered.now) (lengths_by c.args.numbered.now) (on_arc c.args.arc c.loop-k.k)
 told c =
-    let tells = key_tells (layout_in c.args.numbered.now) (lengths_by c.args.numbered.now) c.requires.laid
+    let tells = key_tells (gluing_in c.args.numbered.now) (lengths_by c.args.numbered.now) c.requires.laid
     c.args.numbered.now.numbers.lengths c.args.numbered.now.numbers.few c.args.keys.now
     (on_arc c.args.arc c.loop-k.k) c.requires.keys (
       omega (arith, c.requires.arc, length-map c.args.numbered.now.t.now.arcs.items path),
@@ -39,7 +39,7 @@ returns-then-is_repeat c =
 pub loop-k-preserved : goal.loop-k-preserved
 loop-k-preserved c =
     let w = (goal.at.loop-k-preserved c).After-is_repeat in
-    below_more (λ (k : ℕ). ¬ IsDoubled (layout_in c.args.numbered.now) (lengths_by c.args.numbered.now)
+    below_more (λ (k : ℕ). ¬ IsDoubled (gluing_in c.args.numbered.now) (lengths_by c.args.numbered.now)
     (on_arc c.args.arc k)) c.loop-k.k c.loop-k.invariant (λ is. false≢true (sym c.if-is_repeat.false ∙ (told w).1 is))
 
 pub returns : goal.returns

@@ -1,7 +1,7 @@
 use Rattle.std.proofs.Common.{◌<◌, ℕ}
 use Rattle.def_written.specs.Edges.{on_arc}
-use Rattle.qm_stitch.specs.{Lengthened.layout_in, Lengthened.lengths_by, Tight.IsDoubled}
+use Rattle.qm_stitch.specs.{Lengthened.gluing_in, Lengthened.lengths_by, Tight.IsDoubled}
 use Rattle.qm_stitch.proofs.tight.is_doubled_on.Given as goal
 
 abbrev pub invariant-loop-k : goal.invariant-loop-k
-invariant-loop-k l = (k : ℕ) → k < l.k → ¬ IsDoubled (layout_in l.numbered) (lengths_by l.numbered) (on_arc l.arc k)
+invariant-loop-k l = (k : ℕ) → k < l.k → ¬ IsDoubled (gluing_in l.numbered) (lengths_by l.numbered) (on_arc l.arc k)

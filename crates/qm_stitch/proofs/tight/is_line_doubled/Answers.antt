@@ -2,31 +2,31 @@ use Rattle.std.proofs.Common.{◌≡◌, ◌⊎◌, ◌↔◌, ◌-◌, ◌<◌,
 use Rattle.std.proofs.lemmas.Bool.{false≢true}
 use Rattle.def_layout.specs.Lengths.{size}
 use Rattle.written_laws.proofs.Sides.{size_some}
-use Rattle.qm_stitch.specs.{Lengthened.layout_in, Lengthened.lengths_by, Rims.along_lines, Rims.key_of, Rims.line_edge}
+use Rattle.qm_stitch.specs.{Lengthened.gluing_in, Lengthened.lengths_by, Rims.along_lines, Rims.key_of, Rims.line_edge}
 use Rattle.qm_stitch.specs.{Rims.IsRepeat, Tight.IsLineDoubled}
 use Rattle.qm_stitch.proofs.{TightEdges.line_tells, tight.is_line_doubled.Goals.After-size_at-last}
 use Rattle.qm_stitch.proofs.tight.is_line_doubled.Goals as goal
 
 abbrev long : After-size_at-last → ℕ
-long c = size (layout_in c.args.numbered.now) (lengths_by c.args.numbered.now) c.args.line.patch
+long c = size (gluing_in c.args.numbered.now) (lengths_by c.args.numbered.now) c.args.line.patch
     (along_lines c.args.line.upright)
 
 some : (c : After-size_at-last) → 0 < long c
-some c = size_some (layout_in c.args.numbered.now) (lengths_by c.args.numbered.now) c.args.numbered.now.numbers.paved
+some c = size_some (gluing_in c.args.numbered.now) (lengths_by c.args.numbered.now) c.args.numbered.now.numbers.paved
     c.args.numbered.now.numbers.lengths c.args.line.patch (along_lines c.args.line.upright) c.requires.line.patch
 
 long_is : (c : After-size_at-last) → c.size_at-last.result ≡ long c
 long_is c = c.size_at-last.ensures (along_lines c.args.line.upright) c.side_along.ensures.side
 
 abbrev key : (c : After-size_at-last) (k : ℕ) → ℕ
-key c k = key_of (layout_in c.args.numbered.now) (lengths_by c.args.numbered.now)
+key c k = key_of (gluing_in c.args.numbered.now) (lengths_by c.args.numbered.now)
     (line_edge c.args.line.upright c.args.line.patch c.args.line.number k)
 
 told : (c : After-size_at-last)
     → (IsRepeat c.args.keys.now (key c 0) ⊎ IsRepeat c.args.keys.now (key c (long c - 1)))
-    ↔ IsLineDoubled (layout_in c.args.numbered.now) (lengths_by c.args.numbered.now) c.args.line.upright
+    ↔ IsLineDoubled (gluing_in c.args.numbered.now) (lengths_by c.args.numbered.now) c.args.line.upright
     c.args.line.patch c.args.line.number
-told c = line_tells (layout_in c.args.numbered.now) (lengths_by c.args.numbered.now) c.requires.laid
+told c = line_tells (gluing_in c.args.numbered.now) (lengths_by c.args.numbered.now) c.requires.laid
     c.args.numbered.now.numbers.lengths c.args.numbered.now.numbers.few c.args.keys.now c.args.line.upright
     c.args.line.patch c.args.line.number c.requires.keys c.requires.line.patch c.requires.some c.requires.line.inside
     (some c)

@@ -1,6 +1,6 @@
-use Rattle.qm_stitch.specs.{Lengthened.layout_in, Lengthened.lengths_by, Tight.AddsMarks, Tight.IsTightUpto}
+use Rattle.qm_stitch.specs.{Lengthened.gluing_in, Lengthened.lengths_by, Tight.AddsMarks, Tight.IsTightUpto}
 use Rattle.qm_stitch.proofs.tight.mark_patches.Given as goal
 
 abbrev pub invariant-loop-patch : goal.invariant-loop-patch
 invariant-loop-patch l =
-    AddsMarks l.initial.tight l.tight (IsTightUpto (layout_in l.numbered) (lengths_by l.numbered) l.patch)
+    AddsMarks l.initial.tight l.tight (IsTightUpto (gluing_in l.numbered) (lengths_by l.numbered) l.patch)

@@ -2,7 +2,7 @@ use Rattle.std.proofs.Common.{◌≡◌, ◌≤◌, Bool, List, map, length, ap,
 use Rattle.std.proofs.lemmas.List.{length-map}
 use Rattle.def_mesh.specs.{Darts.darts, HalfEdges.half_edges, Vertices.vertex_count}
 use Rattle.def_cut.specs.{FullCut.is_on, Grids.rectangle, Grids.IsPartition, Steps.face_of, declared.patch.Patch.Patch}
-use Rattle.def_layout.specs.{Arcs.path, Nodes.is_node, Plans.IsDartLayout, declared.tmesh.TArc.TArc}
+use Rattle.def_layout.specs.{Arcs.path, Nodes.is_node, Layouts.IsDartLayout, declared.tmesh.TArc.TArc}
 use Rattle.qm_tmesh.specs.{Four.HavePatches, Four.AreAllFour, Four.four_of, Tables.IsMarked, Uses.AreNamed}
 use Rattle.qm_tmesh.proofs.Built.{marked_of, table_of, have_patches, is_layout}
 use Rattle.qm_tmesh.proofs.UseTables.{to_named, arcs_few}

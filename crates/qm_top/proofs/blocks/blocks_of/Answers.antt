@@ -1,13 +1,13 @@
 use Rattle.std.proofs.{Common.map, Common.sym, Common.◌∙◌, Common.refl, Common.subst, lemmas.List.length-map}
 use Rattle.def_blocks.specs.Links.{AreLinks}
-use Rattle.def_layout.specs.{Arcs.long_at, Plans.layout_of}
+use Rattle.def_layout.specs.{Arcs.long_at, Layouts.gluing_of}
 use Rattle.def_remesh.specs.{CutSoups.CutSoup, NewPoints.multiple_of}
 use Rattle.qm_top.proofs.blocks.blocks_of.Goals as goal
 
 pub invariant_of-result : goal.invariant_of-result
 invariant_of-result c =
     let links = subst
-    (λ (k : CutSoup). AreLinks (layout_of k.plan) (multiple_of c.args.by (long_at k.plan.arcs))
+    (λ (k : CutSoup). AreLinks (gluing_of k.layout) (multiple_of c.args.by (long_at k.layout.arcs))
     (map (λ links. links.items) c.in_ok-links.links.items))
     c.cut.ensures c.in_ok-links.ensures in
     record {
@@ -21,7 +21,7 @@ returns c = record {
   parts = refl;
   points = refl;
   links = subst
-      (λ (k : CutSoup). AreLinks (layout_of k.plan) (multiple_of c.args.by (long_at k.plan.arcs))
+      (λ (k : CutSoup). AreLinks (gluing_of k.layout) (multiple_of c.args.by (long_at k.layout.arcs))
       (map (λ links. links.items) c.in_ok-links.links.items))
       c.cut.ensures c.in_ok-links.ensures;
 }

@@ -14,11 +14,11 @@ pub chosen_cut-requires : goal.chosen_cut-requires
 chosen_cut-requires g c = subst (AreMarks c.args.read.faces) (sym c.as_slice.ensures.value) c.requires.marks
 
 pub lines_between-requires : goal.lines_between-requires
-lines_between-requires g c = kept_for old_lengths c.in_ok-cut.cut.plan c.in_ok-remesh.remesh
+lines_between-requires g c = kept_for old_lengths c.in_ok-cut.cut.layout c.in_ok-remesh.remesh
     (record { settings = c.args.settings; rising = Never }) c.in_ok-remesh.ensures.terms c.in_ok-remesh.ensures.kept
 
 pub write_framed-requires : goal.write_framed-requires
-write_framed-requires g c = kept_for old_lengths c.in_ok-cut.cut.plan c.in_ok-remesh.remesh
+write_framed-requires g c = kept_for old_lengths c.in_ok-cut.cut.layout c.in_ok-remesh.remesh
     (record { settings = c.args.settings; rising = Never }) c.in_ok-remesh.ensures.terms c.in_ok-remesh.ensures.kept
 
 pub returns-in_err-remesh-clause-refused : goal.returns-in_err-remesh-clause-refused
@@ -27,7 +27,7 @@ returns-in_err-remesh-clause-refused g c bytes said =
       refl,
       creased_fails c.args.settings bytes c.args.read c.in_ok-cut.cut c.as_slice.result.now c.in_ok-cut.ensures.soup
           (said ∙ ap Ok (sym c.as_slice.ensures.value))
-          (chosen_marked c.in_ok-cut.cut.soup.faces c.as_slice.result.now c.in_ok-cut.cut.plan
+          (chosen_marked c.in_ok-cut.cut.soup.faces c.as_slice.result.now c.in_ok-cut.cut.layout
           c.in_ok-cut.ensures.chosen) _ c.in_err-remesh.ensures.refused,
     )
 
@@ -51,10 +51,10 @@ returns-in_err-write_framed-clause-refused g c bytes said =
     handed _ _ (refusal_of_put failed.field-0.0) c.from_residual-in_err-write_framed.ensures.1
     (put_refused (ShowsAsked (AsksToCrease c.args.settings) bytes c.args.read)
     (IsOfLayout (FailsAsked (AsksToCrease c.args.settings) bytes c.args.read))
-    _ (framed_text framed cut.soup cut.plan) failed.field-0.0
+    _ (framed_text framed cut.soup cut.layout) failed.field-0.0
     (creased_shown c.args.settings bytes c.args.read cut c.as_slice.result.now c.in_ok-cut.ensures.soup
     (said ∙ ap Ok (sym c.as_slice.ensures.value))
-    (chosen_marked c.in_ok-cut.cut.soup.faces c.as_slice.result.now c.in_ok-cut.cut.plan c.in_ok-cut.ensures.chosen)
+    (chosen_marked c.in_ok-cut.cut.soup.faces c.as_slice.result.now c.in_ok-cut.cut.layout c.in_ok-cut.ensures.chosen)
     framed kept.laid kept.terms kept.kept c.in_ok-head.ensures c.in_ok-between.ensures refl)
     tt failed.ensures.prefix failed.ensures.fault failed.ensures.untouched)
 
@@ -69,10 +69,10 @@ returns-clause-done g c bytes said =
     let cut = c.in_ok-cut.cut in
     let kept = c.in_ok-remesh.ensures in
     record {
-      text = framed_text framed cut.soup cut.plan;
+      text = framed_text framed cut.soup cut.layout;
       said = creased_shown c.args.settings bytes c.args.read cut c.as_slice.result.now c.in_ok-cut.ensures.soup
           (said ∙ ap Ok (sym c.as_slice.ensures.value))
-          (chosen_marked c.in_ok-cut.cut.soup.faces c.as_slice.result.now c.in_ok-cut.cut.plan
+          (chosen_marked c.in_ok-cut.cut.soup.faces c.as_slice.result.now c.in_ok-cut.cut.layout
           c.in_ok-cut.ensures.chosen) framed kept.laid kept.terms kept.kept c.in_ok-head.ensures
           c.in_ok-between.ensures refl;
       written = c.in_ok-write_framed.ensures.whole;

@@ -1,6 +1,6 @@
 use Rattle.std.proofs.Common.{ap, sym, subst}
 use Rattle.std.specs.Prelude.{option_copied}
-use Rattle.def_layout.specs.Plans.{plan}
+use Rattle.def_layout.specs.Layouts.{layout_of}
 use Rattle.def_mesh.specs.Faces.{Faces}
 use Rattle.def_patches.specs.Chosen.{AreKeptMarks, IsChosenLayout}
 use Rattle.def_remesh.specs.{CutSoups.CutSoup, Placings.IsMeshLayout}
@@ -12,7 +12,7 @@ chosen_layout-requires c = subst (λ (fs : Faces). AreKeptMarks fs (option_copie
     c.requires
 
 pub new-requires : goal.new-requires
-new-requires c = subst (λ (fs : Faces). IsMeshLayout fs (plan c.in_ok-layout.layout)) c.mesh.ensures
+new-requires c = subst (λ (fs : Faces). IsMeshLayout fs (layout_of c.in_ok-layout.layout)) c.mesh.ensures
     c.in_ok-layout.ensures.mesh
 
 pub returns-clause-soup : goal.returns-clause-soup

@@ -1,5 +1,5 @@
 use Rattle.std.proofs.Common.{ap, subst}
-use Rattle.def_layout.specs.Plans.{plan}
+use Rattle.def_layout.specs.Layouts.{layout_of}
 use Rattle.def_mesh.specs.Faces.{Faces}
 use Rattle.def_remesh.specs.{CutSoups.CutSoup, Placings.IsMeshLayout}
 use Rattle.def_run.specs.Remesh.{IsTracedLayout}
@@ -7,7 +7,7 @@ use Rattle.qm_top.proofs.Writers.{on_cut}
 use Rattle.qm_top.proofs.cuts.traced_cut.Goals as goal
 
 pub new-requires : goal.new-requires
-new-requires c = subst (λ (fs : Faces). IsMeshLayout fs (plan c.in_ok-layout.layout)) c.mesh.ensures
+new-requires c = subst (λ (fs : Faces). IsMeshLayout fs (layout_of c.in_ok-layout.layout)) c.mesh.ensures
     c.in_ok-layout.ensures.mesh
 
 pub returns-clause-soup : goal.returns-clause-soup

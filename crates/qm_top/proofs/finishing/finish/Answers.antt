@@ -8,12 +8,12 @@ use Rattle.qm_top.specs.{Finishing.headed_task, Writing.refusal_of_put, Writing.
 use Rattle.qm_top.proofs.finishing.finish.Goals as goal
 
 pub write_framed-requires : goal.write_framed-requires
-write_framed-requires g c = kept_for old_lengths c.args.cut.plan c.in_ok-remesh.remesh c.args.headed.terms
+write_framed-requires g c = kept_for old_lengths c.args.cut.layout c.in_ok-remesh.remesh c.args.headed.terms
     c.in_ok-remesh.ensures.terms c.in_ok-remesh.ensures.kept
 
 pub returns-in_err-remesh-clause-refused : goal.returns-in_err-remesh-clause-refused
 returns-in_err-remesh-clause-refused g c = λ marks head on is.
-    handed _ _ _ c.from_residual.ensures.1 (refl, (c.args.cut.plan, on, c.in_err-remesh.ensures.refused))
+    handed _ _ _ c.from_residual.ensures.1 (refl, (c.args.cut.layout, on, c.in_err-remesh.ensures.refused))
 
 pub returns-in_err-write_framed-clause-refused : goal.returns-in_err-write_framed-clause-refused
 returns-in_err-write_framed-clause-refused g c = λ marks head on is.
@@ -27,9 +27,9 @@ returns-in_err-write_framed-clause-refused g c = λ marks head on is.
     let failed = c.in_err-write_framed in
     handed _ _ (refusal_of_put failed.field-0.0) c.from_residual-in_err-write_framed.ensures.1
     (put_refused (ShowsTask task c.args.cut.soup) (IsOfLayout (FailsTask task c.args.cut.soup)) _
-    (framed_text framed c.args.cut.soup c.args.cut.plan)
+    (framed_text framed c.args.cut.soup c.args.cut.layout)
     failed.field-0.0
-    (framed_shown task framed c.args.headed.terms c.args.cut.soup c.args.cut.plan c.in_ok-remesh.ensures.laid on
+    (framed_shown task framed c.args.headed.terms c.args.cut.soup c.args.cut.layout c.in_ok-remesh.ensures.laid on
     c.in_ok-remesh.ensures.terms refl refl c.in_ok-remesh.ensures.kept is c.new.ensures.items refl)
     tt failed.ensures.prefix failed.ensures.fault failed.ensures.untouched)
 
@@ -42,9 +42,9 @@ returns-clause-done g c = λ marks head on is.
       shares = None;
     } in
     record {
-      text = framed_text framed c.args.cut.soup c.args.cut.plan;
+      text = framed_text framed c.args.cut.soup c.args.cut.layout;
       said = framed_shown (headed_task c.args.headed.terms marks head) framed c.args.headed.terms c.args.cut.soup
-          c.args.cut.plan c.in_ok-remesh.ensures.laid on
+          c.args.cut.layout c.in_ok-remesh.ensures.laid on
           c.in_ok-remesh.ensures.terms refl refl c.in_ok-remesh.ensures.kept is c.new.ensures.items refl;
       written = c.in_ok-write_framed.ensures.whole;
     }

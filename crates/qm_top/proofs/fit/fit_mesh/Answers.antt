@@ -16,13 +16,13 @@ use Rattle.qm_top.proofs.fit.fit_mesh.Goals as goal
 
 pub lines_between-requires : goal.lines_between-requires
 lines_between-requires g c = kept_for (aimed c.args.fit.now.aim c.in_ok-cut.cut.soup c.deref.result.now)
-    c.in_ok-cut.cut.plan c.in_ok-remesh.remesh
+    c.in_ok-cut.cut.layout c.in_ok-remesh.remesh
     (record { settings = fit_settings c.args.fit.now; rising = rounds_if c.args.fit.now.auto })
     c.in_ok-remesh.ensures.terms c.in_ok-remesh.ensures.kept
 
 pub write_framed-requires : goal.write_framed-requires
 write_framed-requires g c = kept_for (aimed c.args.fit.now.aim c.in_ok-cut.cut.soup c.deref.result.now)
-    c.in_ok-cut.cut.plan c.in_ok-remesh.remesh
+    c.in_ok-cut.cut.layout c.in_ok-remesh.remesh
     (record { settings = fit_settings c.args.fit.now; rising = rounds_if c.args.fit.now.auto })
     c.in_ok-remesh.ensures.terms c.in_ok-remesh.ensures.kept
 
@@ -65,7 +65,7 @@ returns-in_err-write_framed-clause-refused g c bytes said =
     let parts = asides_by_parts (asides_of c.args.asides) asides.kept asides.wishes c.as_deref-kept.ensures.value
     c.deref.ensures.value in
     let shares = λ (marks : List Bool) (full : IsFullCut cut.soup.faces marks)
-    (laid : IsCutLayout cut.soup.faces marks cut.plan). c.in_ok-shares.ensures marks full laid
+    (laid : IsCutLayout cut.soup.faces marks cut.layout). c.in_ok-shares.ensures marks full laid
     ∙ ap (λ ws. shares_of fit cut.soup ws marks) (c.deref-2.ensures.value ∙ sym c.deref.ensures.value) in
     let near = AsksForNearFit fit in
     let failed = c.in_err-write_framed in
@@ -74,7 +74,7 @@ returns-in_err-write_framed-clause-refused g c bytes said =
     (IsOfWishes (FailsNear (AsksToFit fit) near bytes c.args.read)
     (IsFarTask fit.aim (AsksToFit fit) bytes c.args.read))
     _
-    (framed_text framed cut.soup cut.plan) failed.field-0.0
+    (framed_text framed cut.soup cut.layout) failed.field-0.0
     (fit_shown fit bytes c.args.read cut asides made.soup (said ∙ ap Ok parts)
     (subst (AreKeptMarks c.args.read.faces) (sym c.as_deref-kept.ensures.value) c.requires.marks) made.laid made.chosen
     framed kept.near
@@ -97,10 +97,10 @@ returns-clause-done g c bytes said =
     let parts = asides_by_parts (asides_of c.args.asides) asides.kept asides.wishes c.as_deref-kept.ensures.value
     c.deref.ensures.value in
     let shares = λ (marks : List Bool) (full : IsFullCut cut.soup.faces marks)
-    (laid : IsCutLayout cut.soup.faces marks cut.plan). c.in_ok-shares.ensures marks full laid
+    (laid : IsCutLayout cut.soup.faces marks cut.layout). c.in_ok-shares.ensures marks full laid
     ∙ ap (λ ws. shares_of fit cut.soup ws marks) (c.deref-2.ensures.value ∙ sym c.deref.ensures.value) in
     record {
-      text = framed_text framed cut.soup cut.plan;
+      text = framed_text framed cut.soup cut.layout;
       said = fit_shown fit bytes c.args.read cut asides made.soup (said ∙ ap Ok parts)
           (subst (AreKeptMarks c.args.read.faces) (sym c.as_deref-kept.ensures.value) c.requires.marks) made.laid
           made.chosen framed kept.near kept.terms kept.kept c.in_ok-head.ensures c.in_ok-between.ensures shares;

@@ -1,5 +1,5 @@
 use Rattle.std.proofs.{Common.◌≡◌, Common.Bool, Common.List, Common.subst, lemmas.Result.IfOk-weaker}
-use Rattle.def_layout.specs.{FaceLayouts.IsCutLayout, Plans.plan}
+use Rattle.def_layout.specs.{FaceLayouts.IsCutLayout, Layouts.layout_of}
 use Rattle.def_report.specs.GraphText.{graph_text}
 use Rattle.def_run.specs.Graph.{IsGraphText}
 use Rattle.qm_top.proofs.graph.text_of.Goals as goal
@@ -8,7 +8,7 @@ pub returns : goal.returns
 returns c =
     let faces = c.args.mesh.now in
     let graph = c.in_ok-graph.graph in
-    let layout = plan c.in_ok-layout.layout in
+    let layout = layout_of c.in_ok-layout.layout in
     IfOk-weaker c.graph_text.result (λ text. text.items ≡ graph_text faces graph.riders.items layout)
     (λ text. IsGraphText faces text.items)
     (λ text said. record {

@@ -15,7 +15,7 @@ write_refined-requires-clause-even g c = c.in_ok-new.ensures.new.even
 
 pub returns-in_err-write_refined-clause-refused : goal.returns-in_err-write_refined-clause-refused
 returns-in_err-write_refined-clause-refused g c = handed _ _ _ c.from_residual-in_err-write_refined.ensures.1 (record {
-  text = refined_text c.args.by c.in_ok-new.new.soup c.in_ok-new.new.plan;
+  text = refined_text c.args.by c.in_ok-new.new.soup c.in_ok-new.new.layout;
   said = is_refined c.args.by c.args.read c.in_ok-new.new c.requires.some c.requires.few c.in_ok-new.ensures.new;
   prefix = c.in_err-write_refined.ensures.prefix;
   fault = c.in_err-write_refined.ensures.fault;
@@ -23,7 +23,7 @@ returns-in_err-write_refined-clause-refused g c = handed _ _ _ c.from_residual-i
 
 pub returns-clause-done : goal.returns-clause-done
 returns-clause-done g c = record {
-  text = refined_text c.args.by c.in_ok-new.new.soup c.in_ok-new.new.plan;
+  text = refined_text c.args.by c.in_ok-new.new.soup c.in_ok-new.new.layout;
   said = is_refined c.args.by c.args.read c.in_ok-new.new c.requires.some c.requires.few c.in_ok-new.ensures.new;
   written = c.in_ok-write_refined.ensures.whole;
 }

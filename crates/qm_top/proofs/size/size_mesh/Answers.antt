@@ -12,7 +12,7 @@ use Rattle.qm_top.specs.Writing.{refusal_of_put, ShowsAsked}
 use Rattle.qm_top.proofs.size.size_mesh.Goals as goal
 
 pub write_framed-requires : goal.write_framed-requires
-write_framed-requires g c = kept_for (soup_targets c.args.edge c.in_ok-cut.cut.soup) c.in_ok-cut.cut.plan
+write_framed-requires g c = kept_for (soup_targets c.args.edge c.in_ok-cut.cut.soup) c.in_ok-cut.cut.layout
     c.in_ok-remesh.remesh (record { settings = edge_settings c.args.floor; rising = Never })
     c.in_ok-remesh.ensures.terms c.in_ok-remesh.ensures.kept
 
@@ -26,7 +26,7 @@ returns-in_err-remesh-clause-refused g c bytes =
     (size_task c.args.edge c.args.floor cut.soup) refl made.traced
     (size_near c.args.edge c.args.floor bytes cut made.laid made.traced) _ _ refl
     c.in_err-remesh.field-0.0
-    (size_fail_as c.args.edge (soup_targets c.args.edge cut.soup) cut.plan c.args.floor c.in_err-remesh.field-0.0
+    (size_fail_as c.args.edge (soup_targets c.args.edge cut.soup) cut.layout c.args.floor c.in_err-remesh.field-0.0
     c.in_err-remesh.ensures.refused))
 
 pub returns-in_err-head-clause-refused : goal.returns-in_err-head-clause-refused
@@ -49,7 +49,7 @@ returns-in_err-write_framed-clause-refused g c bytes =
     handed _ _ (refusal_of_put failed.field-0.0) c.from_residual-in_err-write_framed.ensures.1
     (put_refused (ShowsAsked near bytes c.args.read)
     (IsOfWishes (FailsNear asks near bytes c.args.read) (IsFarTask (Edge c.args.edge) asks bytes c.args.read)) _
-    (framed_text framed cut.soup cut.plan) failed.field-0.0
+    (framed_text framed cut.soup cut.layout) failed.field-0.0
     (aimed_shown (Edge c.args.edge) asks near bytes c.args.read cut made.soup
     (size_task c.args.edge c.args.floor cut.soup) refl made.traced
     (size_near c.args.edge c.args.floor bytes cut made.laid made.traced) framed made.laid kept.near kept.terms kept.kept
@@ -68,7 +68,7 @@ returns-clause-done g c bytes =
     let made = c.in_ok-cut.ensures in
     let kept = c.in_ok-remesh.ensures in
     record {
-      text = framed_text framed cut.soup cut.plan;
+      text = framed_text framed cut.soup cut.layout;
       said = aimed_shown (Edge c.args.edge) (AsksForSize c.args.edge c.args.floor)
           (AsksForNearSize c.args.edge c.args.floor) bytes c.args.read cut made.soup
           (size_task c.args.edge c.args.floor cut.soup) refl made.traced

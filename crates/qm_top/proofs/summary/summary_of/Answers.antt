@@ -3,7 +3,7 @@ use Rattle.std.proofs.Common.{◌≡◌, ap, arith, length, subst, to_z, of_z}
 use Rattle.std.proofs.{Common.◌∙◌, lemmas.Int.ints, lemmas.List.length-map}
 use Rattle.error_laws.proofs.Errors.{handed}
 use Rattle.def_cut.specs.Grids.{rectangle}
-use Rattle.def_layout.specs.{Arcs.path, Plans.plan, Plans.Plan}
+use Rattle.def_layout.specs.{Arcs.path, Layouts.layout_of, Layouts.Layout}
 use Rattle.def_mesh.specs.Components.{edge_count, is_start, seeds, start_darts}
 use Rattle.def_mesh.specs.{Darts.darts, Faces.Faces, Manifold.IsManifold, Vertices.vertex_count}
 use Rattle.def_remesh.specs.Placings.{IsMeshLayout}
@@ -14,14 +14,15 @@ use Rattle.qm_top.proofs.BenchLines.{same_line, size_fails, traced_in}
 use Rattle.qm_top.proofs.summary.summary_of.Goals as goal
 
 pub new-cut-requires : goal.new-cut-requires
-new-cut-requires c = subst (λ (fs : Faces). IsMeshLayout fs (plan c.in_ok-layout.layout)) c.mesh-mesh.ensures
+new-cut-requires c = subst (λ (fs : Faces). IsMeshLayout fs (layout_of c.in_ok-layout.layout)) c.mesh-mesh.ensures
     c.in_ok-layout.ensures.mesh
 
 pub returns-in_err-deviation-clause-refused : goal.returns-in_err-deviation-clause-refused
 returns-in_err-deviation-clause-refused c =
     handed (IsBenchFail c.args.size) _ _ c.from_residual-in_err-deviation.ensures.1
-    (size_fails c.args.size c.new-cut.result.plan c.in_err-deviation.field-0.0
-    (traced_in c.args.size c.args.meshed c.mesh-mesh.result.now (plan c.in_ok-layout.layout) c.new-cut.result c.requires
+    (size_fails c.args.size c.new-cut.result.layout c.in_err-deviation.field-0.0
+    (traced_in c.args.size c.args.meshed c.mesh-mesh.result.now (layout_of c.in_ok-layout.layout) c.new-cut.result
+    c.requires
     c.mesh-mesh.ensures c.new-cut.ensures
     c.in_ok-layout.ensures.traced)
     c.in_err-deviation.ensures.refused)
@@ -42,7 +43,7 @@ pub returns-clause-text : goal.returns-clause-text
 returns-clause-text c =
     let kept = c.in_ok-deviation.ensures.kept in
     let t = c.layout-t.result.now in
-    let on = c.new-cut.result.plan in
+    let on = c.new-cut.result.layout in
     let same : c.mesh-mesh.result.now ≡ bench_faces c.args.size =
     c.mesh-mesh.ensures ∙ ap (λ (s : FaceSet). s.faces) c.requires in
     let riders : c.len.result ≡ length (start_darts (bench_faces c.args.size)) =
@@ -59,7 +60,7 @@ returns-clause-text c =
       c.len-2.ensures,
       t.patches.ok.0,
       length-map t.patches.items rectangle,
-      ap (λ (p : Plan). length p.patches) c.layout-t.ensures.plan,
+      ap (λ (p : Layout). length p.patches) c.layout-t.ensures.layout,
     ) in
     let arcs : c.len-3.result ≡ length on.arcs =
     omega (
@@ -67,14 +68,15 @@ returns-clause-text c =
       c.len-3.ensures,
       t.arcs.ok.0,
       length-map t.arcs.items path,
-      ap (λ (p : Plan). length p.arcs) c.layout-t.ensures.plan,
+      ap (λ (p : Layout). length p.arcs) c.layout-t.ensures.layout,
     ) in
     let fits : to_z w128 (of_z w128 c.in_ok-deviation.deviation) ≡ c.in_ok-deviation.deviation =
     omega (arith, ints, kept.is, c.in_ok-deviation.ensures.small) in
     record {
       manifold = subst IsManifold same c.faces.ensures.mesh.manifold;
-      plan = on;
-      cut = traced_in c.args.size c.args.meshed c.mesh-mesh.result.now (plan c.in_ok-layout.layout) c.new-cut.result
+      layout = on;
+      cut = traced_in c.args.size c.args.meshed c.mesh-mesh.result.now (layout_of c.in_ok-layout.layout)
+          c.new-cut.result
           c.requires c.mesh-mesh.ensures c.new-cut.ensures c.in_ok-layout.ensures.traced;
       cert = kept.cert;
       certified = kept.certified;

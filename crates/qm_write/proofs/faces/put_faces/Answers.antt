@@ -1,6 +1,6 @@
 use Rattle.std.proofs.Common.{◌≡◌, ℕ, ◌<◌, map, subst, arith}
 use Rattle.std.specs.List.{flat_map, range_with_len}
-use Rattle.def_layout.specs.Plans.{layout_of}
+use Rattle.def_layout.specs.Layouts.{gluing_of}
 use Rattle.def_mesh.specs.Faces.{Face}
 use Rattle.def_remesh.specs.NewPoints.{lengths_in}
 use Rattle.def_text.specs.Canonical.{face_text}
@@ -11,7 +11,7 @@ use Rattle.qm_write.proofs.faces.put_faces.Goals as goal
 pub returns-in_err-put_face-clause-part : goal.returns-in_err-put_face-clause-part
 returns-in_err-put_face-clause-part g c =
     let laws = g.met.T.Output in
-    let l = layout_of c.args.new.now.plan in
+    let l = gluing_of c.args.new.now.layout in
     let lengths = lengths_in c.args.new.now.lengths in
     of_error c.from_residual.result
     (stops_at_number g.T.Output.takes g.T.Output.stops laws.stops_later laws.stops_before face_text (new_face l lengths)
@@ -23,7 +23,7 @@ returns-in_err-put_face-clause-part g c =
 pub loop-f-preserved : goal.loop-f-preserved
 loop-f-preserved g c =
     let laws = g.met.T.Output in
-    let l = layout_of c.args.new.now.plan in
+    let l = gluing_of c.args.new.now.layout in
     let lengths = lengths_in c.args.new.now.lengths in
     takes_number g.T.Output.takes laws.takes_more face_text (new_face l lengths) c.loop-f.f _ _ _ c.loop-f.invariant
     (subst (λ (face : Face). g.T.Output.takes c.loop-f.out c.put_face.new.out (face_text face)) c.face.ensures
@@ -31,7 +31,7 @@ loop-f-preserved g c =
 
 pub returns-clause-whole : goal.returns-clause-whole
 returns-clause-whole g c =
-    let l = layout_of c.args.new.now.plan in
+    let l = gluing_of c.args.new.now.layout in
     let lengths = lengths_in c.args.new.now.lengths in
     let all : c.loop-f.f ≡ face_count l lengths = omega (
       arith,

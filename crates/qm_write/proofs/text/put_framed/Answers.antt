@@ -7,13 +7,13 @@ use Rattle.qm_write.proofs.text.put_framed.Goals as goal
 
 pub certs_text-requires : goal.certs_text-requires
 certs_text-requires g c =
-    let plan = c.args.cut.plan in
+    let layout = c.args.cut.layout in
     let terms = c.args.framed.remesh.terms in
     let floors = given_floors terms.settings in
     let certificates = certificates_of c.args.framed.remesh.certs in
-    kept_writable c.requires.kept.0 plan terms.settings terms.rising certificates floors
+    kept_writable c.requires.kept.0 layout terms.settings terms.rising certificates floors
     c.layout-layout.ensures.laid.0
-    (kept_by plan floors terms.rising certificates (λ floors cert is. is.lengths) c.requires.kept.1.kept)
+    (kept_by layout floors terms.rising certificates (λ floors cert is. is.lengths) c.requires.kept.1.kept)
 
 pub new-requires-clause-lengths : goal.new-requires-clause-lengths
 new-requires-clause-lengths g c =
@@ -41,5 +41,5 @@ pub returns-clause-new : goal.returns-clause-new
 returns-clause-new g c =
     let lengths : c.deref.result.now ≡ (used (certificates_of c.args.framed.remesh.certs)).x = c.deref.ensures.value
     ∙ ap (λ (lists : Lists). lists.x) c.used_cert.ensures in
-    c.in_ok-new.ensures ∙ ap (with_lengths c.args.cut.soup c.args.cut.plan c.args.framed.shares) (lengths
+    c.in_ok-new.ensures ∙ ap (with_lengths c.args.cut.soup c.args.cut.layout c.args.framed.shares) (lengths
     ∙ sym c.requires.kept.1.lengths)

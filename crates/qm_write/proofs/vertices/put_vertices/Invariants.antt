@@ -7,6 +7,6 @@ use Rattle.qm_write.proofs.vertices.put_vertices.Given as goal
 abbrev pub invariant-loop-v : goal.invariant-loop-v
 invariant-loop-v g l =
     g.T.Output.takes l.initial.out l.out
-    (flat_map position_text (map (spaced_place l.new.soup.faces l.new.plan l.new.soup.pos l.new.shares
+    (flat_map position_text (map (spaced_place l.new.soup.faces l.new.layout l.new.soup.pos l.new.shares
     (lengths_in l.new.lengths))
     (range_with_len 0 l.v)))

@@ -2,7 +2,7 @@ use Rattle.std.proofs.Common.{◌≡◌, sym, ◌∙◌, ap, subst}
 use Rattle.def_map.specs.{Laws.IsSpot, SpotPlaces.spot_place}
 use Rattle.def_remesh.specs.{NewSoup.spaced_place, Placings.LiesBetween}
 use Rattle.map_laws.proofs.SpotPlaces.{spot_law}
-use Rattle.qm_place.specs.{Lengthened.lengths_by, Lengthened.plan_in, Lengthened.shares_by, Spots.IsShort}
+use Rattle.qm_place.specs.{Lengthened.lengths_by, Lengthened.layout_in, Lengthened.shares_by, Spots.IsShort}
 use Rattle.qm_place.proofs.{Betweens.lies_between, Found.short_spot}
 use Rattle.qm_place.proofs.placed.Placed.place_near.Goals as goal
 
@@ -10,7 +10,7 @@ pub place_there-requires-clause-spot : goal.place_there-requires-clause-spot
 place_there-requires-clause-spot c =
     let placed = c.args.self.now in
     subst (IsSpot c.args.mesh.now) (sym c.find.ensures)
-    (spot_law c.args.mesh.now (plan_in placed) (shares_by placed) (lengths_by placed) c.requires.layout
+    (spot_law c.args.mesh.now (layout_in placed) (shares_by placed) (lengths_by placed) c.requires.layout
     placed.placed.lengths placed.placed.spacing c.args.v c.requires.vertex).0
 
 pub place_there-requires-clause-short : goal.place_there-requires-clause-short
@@ -20,12 +20,12 @@ place_there-requires-clause-short c =
     c.requires.layout.0 placed.placed.lengths placed.placed.short c.requires.vertex)
 
 value : (c : goal.After-place_there)
-    → c.place_there.result ≡ spaced_place c.args.mesh.now (plan_in c.args.self.now) c.args.pos.now
+    → c.place_there.result ≡ spaced_place c.args.mesh.now (layout_in c.args.self.now) c.args.pos.now
     (shares_by c.args.self.now) (lengths_by c.args.self.now) c.args.v
 value c =
     let placed = c.args.self.now in
     c.place_there.ensures ∙ ap (spot_place c.args.mesh.now c.args.pos.now) c.find.ensures
-    ∙ (spot_law c.args.mesh.now (plan_in placed) (shares_by placed) (lengths_by placed) c.requires.layout
+    ∙ (spot_law c.args.mesh.now (layout_in placed) (shares_by placed) (lengths_by placed) c.requires.layout
     placed.placed.lengths placed.placed.spacing c.args.v c.requires.vertex).1 c.args.pos.now
 
 pub returns-clause-value : goal.returns-clause-value
@@ -35,5 +35,5 @@ pub returns-clause-between : goal.returns-clause-between
 returns-clause-between c =
     let placed = c.args.self.now in
     subst (LiesBetween c.args.pos.now) (sym (value c))
-    (lies_between c.args.mesh.now (plan_in placed) (shares_by placed) (lengths_by placed) c.requires.layout
+    (lies_between c.args.mesh.now (layout_in placed) (shares_by placed) (lengths_by placed) c.requires.layout
     placed.placed.lengths placed.placed.spacing c.args.pos.now c.requires.positions c.requires.vertex)

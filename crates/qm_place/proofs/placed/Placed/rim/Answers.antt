@@ -1,5 +1,5 @@
 use Rattle.std.proofs.Common.{◌≡◌, ◌*◌, length, arith}
-use Rattle.def_layout.specs.{Lengths.wide, Lengths.high, Plans.layout_of, Plans.plan}
+use Rattle.def_layout.specs.{Lengths.wide, Lengths.high, Layouts.gluing_of, Layouts.layout_of}
 use Rattle.def_remesh.specs.NewPoints.{lengths_in}
 use Rattle.qm_offsets.proofs.Spots.{term_room}
 use Rattle.qm_place.proofs.Entries.{rim_here, IsRimRead}
@@ -14,7 +14,7 @@ read c =
 pub returns-clause-few : goal.returns-clause-few
 returns-clause-few c =
     let placed = c.args.self.now in
-    let l = layout_of (plan placed.t.now) in
+    let l = gluing_of (layout_of placed.t.now) in
     let x = lengths_in placed.tables.now.lengths.items in
     let at = read (goal.at.returns-clause-few c).After-index in
     let product : c.index.result.now.wide * c.index.result.now.high ≡ wide l x c.args.patch * high l x c.args.patch =
@@ -22,7 +22,7 @@ returns-clause-few c =
     omega (
       arith,
       product,
-      term_room (λ p. wide l x p * high l x p) (length (plan placed.t.now).patches) c.args.patch at.low,
+      term_room (λ p. wide l x p * high l x p) (length (layout_of placed.t.now).patches) c.args.patch at.low,
       placed.placed.few_faces,
     )
 

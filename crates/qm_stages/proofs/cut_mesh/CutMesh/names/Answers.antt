@@ -1,5 +1,5 @@
 use Rattle.std.proofs.Common.{◌≡◌, length, ◌∙◌, ap, subst}
-use Rattle.def_layout.specs.Plans.{plan}
+use Rattle.def_layout.specs.Layouts.{layout_of}
 use Rattle.def_mesh.specs.Vertices.{vertex_count}
 use Rattle.def_remesh.specs.CutSoups.{CutSoup}
 use Rattle.def_text.specs.FaceSet.{FaceSet, IsSoup}
@@ -11,5 +11,5 @@ returns-clause-each c =
     let same = c.soup.view_is ∙ c.soup-soup.ensures in
     let sound : IsSoup c.self.inside.meshed = subst IsSoup same c.soup.invariant in
     ap length (c.deref.ensures.value ∙ ap (λ (s : FaceSet). s.names) same)
-    ∙ sound.named ∙ all_placed c.self.inside.meshed (plan c.self.inside.layout) c.self.invariant sound
+    ∙ sound.named ∙ all_placed c.self.inside.meshed (layout_of c.self.inside.layout) c.self.invariant sound
     ∙ ap (λ (s : CutSoup). vertex_count s.soup.faces) c.self.view_is

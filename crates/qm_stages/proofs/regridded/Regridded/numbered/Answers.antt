@@ -1,11 +1,11 @@
-use Rattle.def_layout.specs.{Plans.plan}
+use Rattle.def_layout.specs.{Layouts.layout_of}
 use Rattle.qm_stages.proofs.regridded.Regridded.numbered.Goals as goal
 
 pub on-requires : goal.on-requires
-on-requires c = rw c.layout.ensures.plan c.self.invariant.0
+on-requires c = rw c.layout.ensures.layout c.self.invariant.0
 
-pub returns-clause-plan : goal.returns-clause-plan
-returns-clause-plan c = cc (c.on.ensures.layout, c.layout.ensures.plan, c.self.view_is)
+pub returns-clause-layout : goal.returns-clause-layout
+returns-clause-layout c = cc (c.on.ensures.layout, c.layout.ensures.layout, c.self.view_is)
 
 pub returns-clause-lengths : goal.returns-clause-lengths
 returns-clause-lengths c = cc (c.on.ensures.tables, c.self.view_is)

@@ -1,5 +1,5 @@
 use Rattle.std.proofs.Common.{◌<◌, sym, ◌∙◌, subst}
-use Rattle.def_layout.specs.Plans.{layout_of, plan}
+use Rattle.def_layout.specs.Layouts.{gluing_of, layout_of}
 use Rattle.def_written.specs.NewFaces.{face_count, new_face}
 use Rattle.def_remesh.specs.NewPoints.{lengths_in}
 use Rattle.qm_stitch.proofs.numbering.Numbering.face.Goals as goal
@@ -7,11 +7,11 @@ use Rattle.qm_stitch.proofs.numbering.Numbering.face.Goals as goal
 pub face-requires : goal.face-requires
 face-requires c =
     subst (λ n. c.args.f < n)
-    (λ i. face_count (layout_of (plan (sym c.on.ensures.layout i)))
+    (λ i. face_count (gluing_of (layout_of (sym c.on.ensures.layout i)))
     (lengths_in (sym c.on.ensures.tables i).lengths.items)) c.requires.face
 
 pub returns : goal.returns
 returns c =
     c.face.ensures
-    ∙ (λ i. new_face (layout_of (plan (c.on.ensures.layout i))) (lengths_in (c.on.ensures.tables i).lengths.items)
+    ∙ (λ i. new_face (gluing_of (layout_of (c.on.ensures.layout i))) (lengths_in (c.on.ensures.tables i).lengths.items)
     c.args.f)

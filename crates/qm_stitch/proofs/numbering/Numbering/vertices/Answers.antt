@@ -5,26 +5,26 @@ use Rattle.qm_stitch.proofs.numbering.Numbering.vertices.Goals as goal
 
 pub overflow_add-result : goal.overflow_add-result
 overflow_add-result c =
-    let plan = c.self.invariant.plan in
-    let are : AreTables plan c.self.inside.tables = tables_are plan c.self.inside.tables c.self.invariant.numbers in
+    let layout = c.self.invariant.layout in
+    let are : AreTables layout c.self.inside.tables = tables_are layout c.self.inside.tables c.self.invariant.numbers in
     omega (
       arith,
       are.few,
       are.nodes,
-      along_end plan c.self.inside.tables are c.deref.result.now c.last_of.result c.deref.ensures.value
+      along_end layout c.self.inside.tables are c.deref.result.now c.last_of.result c.deref.ensures.value
           c.last_of.ensures,
     )
 
 pub overflow_add-result-2 : goal.overflow_add-result-2
 overflow_add-result-2 c =
-    let plan = c.self.invariant.plan in
-    let are : AreTables plan c.self.inside.tables = tables_are plan c.self.inside.tables c.self.invariant.numbers in
+    let layout = c.self.invariant.layout in
+    let are : AreTables layout c.self.inside.tables = tables_are layout c.self.inside.tables c.self.invariant.numbers in
     omega (
       arith,
       are.few,
       are.nodes,
-      along_end plan c.self.inside.tables are c.deref.result.now c.last_of.result c.deref.ensures.value
+      along_end layout c.self.inside.tables are c.deref.result.now c.last_of.result c.deref.ensures.value
           c.last_of.ensures,
-      inside_end plan c.self.inside.tables are c.deref-2.result.now c.last_of-2.result c.deref-2.ensures.value
+      inside_end layout c.self.inside.tables are c.deref-2.result.now c.last_of-2.result c.deref-2.ensures.value
           c.last_of-2.ensures,
     )

@@ -2,10 +2,10 @@
 use Rattle.std.proofs.Common.{◌≡◌, ℕ, zero, suc, ◌+◌, ◌*◌, ◌^◌, ◌<◌, ◌≤◌, true, refl, sym, ◌∙◌, ap, arith}
 use Rattle.std.proofs.lemmas.Nat.{mul-le}
 use Rattle.def_math.specs.Counts.{count_below}
-use Rattle.def_layout.specs.{Arcs.long_at, Cells.CellDart, Cells.IsDart, Surfaces.IsSurface, Layouts.Way, Layouts.south}
-use Rattle.def_layout.specs.{Layouts.east, Layouts.north, Layouts.west, Layouts.Layout, Lengths.Lengths, Lengths.size}
-use Rattle.def_layout.specs.{Lengths.wide, Lengths.high, Lengths.AreLengths, Plans.Plan, Plans.layout_of}
-use Rattle.def_layout.specs.Plans.{vertex_at}
+use Rattle.def_layout.specs.{Arcs.long_at, Cells.CellDart, Cells.IsDart, Surfaces.IsSurface, Gluings.Way, Gluings.south}
+use Rattle.def_layout.specs.{Gluings.east, Gluings.north, Gluings.west, Gluings.Gluing, Lengths.Lengths, Lengths.size}
+use Rattle.def_layout.specs.{Lengths.wide, Lengths.high, Lengths.AreLengths, Layouts.Layout, Layouts.gluing_of}
+use Rattle.def_layout.specs.Layouts.{vertex_at}
 use Rattle.def_layoutnet.specs.MeshLayouts.{IsSomeLayout}
 use Rattle.def_written.specs.{Points.Point, Points.IsPoint, Numbers.vertex_number, Numbers.vertices}
 use Rattle.def_written.specs.NewFaces.{dart_start, cells_before, face_count}
@@ -14,9 +14,9 @@ use Rattle.written_laws.proofs.{Runs.count_rises, Tallies.passing, Tallies.passi
 use Rattle.written_laws.proofs.{Grid.wide_some, Grid.high_some, EdgeNumbers.point_onto, Models.point_dart}
 use Rattle.written_laws.proofs.{ModelCounts.faces_are, NewDarts.dart_number, NewDarts.dart_low, NewDarts.dart_same}
 use Rattle.written_laws.proofs.{NewDarts.faces_long, OldModel.old_model}
-use Rattle.plan_laws.proofs.MeshLayouts.{lies}
+use Rattle.embedding_laws.proofs.MeshLayouts.{lies}
 
-module _ (l : Layout) (x : Lengths) (laid : IsSurface l) (len : AreLengths l x) where
+module _ (l : Gluing) (x : Lengths) (laid : IsSurface l) (len : AreLengths l x) where
   -- Each point is left by a dart, so that there are no more points than darts.
   pub vertices_few : vertices l x ≤ 4 * face_count l x
   vertices_few =
@@ -70,7 +70,7 @@ module _ (l : Layout) (x : Lengths) (laid : IsSurface l) (len : AreLengths l x) 
   side_few p west low = high_few p low
 
 -- Lengths of at most k make a layout no larger than k times the old lengths do.
-module _ (l : Layout) (old x : Lengths) (k : ℕ) (laid : IsSurface l) (len : AreLengths l old) (most : (a : ℕ)
+module _ (l : Gluing) (old x : Lengths) (k : ℕ) (laid : IsSurface l) (len : AreLengths l old) (most : (a : ℕ)
     → x a ≤ k) where
   pub side_most : (p : ℕ) (s : Way) → p < l.patches → size l x p s ≤ k * size l old p s
   side_most p s low =
@@ -105,13 +105,15 @@ module _ (l : Layout) (old x : Lengths) (k : ℕ) (laid : IsSurface l) (len : Ar
           by_parts w h most_of = grind (arith, most_of)
 
 -- The old lengths make as many cells as the mesh has faces.
-pub old_faces : (plan : Plan) (is : IsSomeLayout plan) → face_count (layout_of plan) (long_at plan.arcs) ≤ 2 ^ 21
-old_faces plan is =
-    let m = lies plan is in
+pub old_faces : (layout : Layout) (is : IsSomeLayout layout)
+    → face_count (gluing_of layout) (long_at layout.arcs) ≤ 2 ^ 21
+old_faces layout is =
+    let m = lies layout is in
     omega (
       arith,
       is.mesh.few,
-      faces_are (layout_of plan) (long_at plan.arcs) _ m.lengths is.faces m.cell
-          (old_model is.faces m.manifold (layout_of plan) (long_at plan.arcs) m.paved m.lengths m.cell (vertex_at plan)
+      faces_are (gluing_of layout) (long_at layout.arcs) _ m.lengths is.faces m.cell
+          (old_model is.faces m.manifold (gluing_of layout) (long_at layout.arcs) m.paved m.lengths m.cell
+          (vertex_at layout)
           m.arc_dart m.sided m.quads),
     )

@@ -2,7 +2,7 @@ pub mod ArcUses
 pub mod NodeEdges
 mod Spins
 pub mod Lies
-pub mod PlanLies
-pub mod OnePlan
+pub mod LayoutLies
+pub mod OneLayout
 pub mod MeshLayouts
 pub mod Bounds

@@ -5,29 +5,29 @@ use Rattle.std.proofs.lemmas.Bool.{cases_eq, cases_lt, cases_order, false≢true
 use Rattle.std.proofs.lemmas.Option.{none-some}
 use Rattle.def_mesh.specs.HalfEdges.{HalfEdges, IsQuadManifold}
 use Rattle.def_cut.specs.{Cuts.Cut, Cuts.IsCut, Grids.cell_of, Grids.patch_at, Grids.IsGrid, Grids.IsSide, Steps.spin}
-use Rattle.def_layout.specs.{declared.tmesh.SideArc.SideArc, Layouts.Way, Layouts.south, Layouts.east, Layouts.north}
-use Rattle.def_layout.specs.Layouts.{west, Layout, Slot, IsSlot, use_of}
-use Rattle.def_layout.specs.{Layouts.start_node, Surfaces.HasWholeSides, Surfaces.IsOtherSlot, Lengths.reach}
+use Rattle.def_layout.specs.{declared.tmesh.SideArc.SideArc, Gluings.Way, Gluings.south, Gluings.east, Gluings.north}
+use Rattle.def_layout.specs.Gluings.{west, Gluing, Slot, IsSlot, use_of}
+use Rattle.def_layout.specs.{Gluings.start_node, Surfaces.HasWholeSides, Surfaces.IsOtherSlot, Lengths.reach}
 use Rattle.def_layout.specs.{Lengths.size, Lengths.wide, Lengths.high, Lengths.AreLengths, Cells.CellDart, Cells.IsDart}
 use Rattle.def_layout.specs.{Cells.dart, Cells.dart_along, Cells.slot_dart, Embeddings.IsEmbedding, Arcs.end_vertex}
 use Rattle.def_layout.specs.{Arcs.IsRun, Arcs.LiesAt, Arcs.path_at, Arcs.dart_at, Arcs.long_at, Borders.side_size}
-use Rattle.def_layout.specs.{Borders.border_dart, Nodes.AreNodes, Plans.Plan, Plans.way_number, Plans.vertex_at}
-use Rattle.def_layout.specs.Plans.{layout_of, IsDartLayout}
+use Rattle.def_layout.specs.{Borders.border_dart, Nodes.AreNodes, Layouts.Layout, Layouts.way_number, Layouts.vertex_at}
+use Rattle.def_layout.specs.Layouts.{gluing_of, IsDartLayout}
 use Rattle.list_laws.proofs.Filters.{IsKept, kept_at, rises}
 use Rattle.layout_laws.proofs.{Runs.run_inner, Borders.IsLine, Borders.line, Borders.on_side, Borders.line_from}
 use Rattle.written_laws.proofs.Sides.{slot, IsOn, place_on}
-use Rattle.plan_laws.proofs.Spins.{spin_low, spin_after, spin_way, spin_once, prev_is}
-use Rattle.plan_laws.proofs.ArcUses.{on_run, dart_low, same_use}
+use Rattle.embedding_laws.proofs.Spins.{spin_low, spin_after, spin_way, spin_once, prev_is}
+use Rattle.embedding_laws.proofs.ArcUses.{on_run, dart_low, same_use}
 
 -- The dart of the mesh for a dart of a cell.
-abbrev pub cell_dart : (m : HalfEdges) (plan : Plan) (d : CellDart) → ℕ
-cell_dart m plan d = spin m (way_number d.way) (cell_of (patch_at plan.patches d.patch) d.i d.j)
+abbrev pub cell_dart : (m : HalfEdges) (layout : Layout) (d : CellDart) → ℕ
+cell_dart m layout d = spin m (way_number d.way) (cell_of (patch_at layout.patches d.patch) d.i d.j)
 
 module _ (m : HalfEdges) (laws : IsQuadManifold m) (cut : Cut) (full : IsCut m cut) (node : ℕ
     → Bool) (nodes : AreNodes m cut node)
-    (face : ℕ → ℕ) (v_count : ℕ) (t : Plan) (lay : IsDartLayout m cut node face v_count t) where
-  abbrev l : Layout
-  l = layout_of t
+    (face : ℕ → ℕ) (v_count : ℕ) (t : Layout) (lay : IsDartLayout m cut node face v_count t) where
+  abbrev l : Gluing
+  l = gluing_of t
 
   abbrev x : ℕ → ℕ
   x = long_at t.arcs

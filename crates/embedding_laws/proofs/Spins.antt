@@ -2,8 +2,8 @@
 use Rattle.std.proofs.Common.{◌≡◌, ◌≢◌, ℕ, zero, suc, ◌<◌, refl, sym, ◌∙◌, ap}
 use Rattle.def_mesh.specs.HalfEdges.{HalfEdges, IsQuadManifold}
 use Rattle.def_cut.specs.Steps.{spin}
-use Rattle.def_layout.specs.Layouts.{Way, south, east, north, west, side_after}
-use Rattle.def_layout.specs.Plans.{way_number}
+use Rattle.def_layout.specs.Gluings.{Way, south, east, north, west, side_after}
+use Rattle.def_layout.specs.Layouts.{way_number}
 
 module _ (m : HalfEdges) (laws : IsQuadManifold m) where
   pub spin_low : (k c : ℕ) → c < m.count → spin m k c < m.count

@@ -10,16 +10,17 @@ use Rattle.def_cut.specs.{Cuts.Cut, Cuts.IsCut, FullCut.is_on, Grids.Rectangle, 
 use Rattle.cut_laws.proofs.OneList.{one_list_law}
 use Rattle.cut_laws.proofs.Increasing.{AreIncreasing, increasing_place, same_many, same_values}
 use Rattle.def_layout.specs.{declared.tmesh.SideArc.SideArc, Arcs.end_vertex, Arcs.LiesAt, Arcs.Path, Arcs.path_at}
-use Rattle.def_layout.specs.{Arcs.dart_at, Arcs.long_at, Arcs.name_at, Arcs.AreArcs, Borders.border_dart, Layouts.Way}
-use Rattle.def_layout.specs.Layouts.{south, east, north, west, Slot, IsSlot}
-use Rattle.def_layout.specs.{Lengths.reach, Nodes.is_node, Nodes.AreNodes, Plans.Plan, Plans.side_at, Plans.vertex_at}
-use Rattle.def_layout.specs.Plans.{layout_of, IsDartLayout}
-use Rattle.def_written.specs.PlanLaws.{OneLayoutLaw}
+use Rattle.def_layout.specs.{Arcs.dart_at, Arcs.long_at, Arcs.name_at, Arcs.AreArcs, Borders.border_dart, Gluings.Way}
+use Rattle.def_layout.specs.Gluings.{south, east, north, west, Slot, IsSlot}
+use Rattle.def_layout.specs.{Lengths.reach, Nodes.is_node, Nodes.AreNodes, Layouts.Layout, Layouts.side_at}
+use Rattle.def_layout.specs.{Layouts.vertex_at}
+use Rattle.def_layout.specs.Layouts.{gluing_of, IsDartLayout}
+use Rattle.def_written.specs.EmbeddingLaws.{OneLayoutLaw}
 use Rattle.face_laws.proofs.FullCuts.{full_cut_law}
 use Rattle.layout_laws.proofs.FaceNodes.{are_nodes}
 use Rattle.mesh_laws.proofs.HalfEdges.{manifold_law}
-use Rattle.plan_laws.proofs.ArcUses.{dart_low, same_arc, one_name_both, clash, same_use, IsSameArc}
-use Rattle.plan_laws.proofs.Lies.{vertex_same}
+use Rattle.embedding_laws.proofs.ArcUses.{dart_low, same_arc, one_name_both, clash, same_use, IsSameArc}
+use Rattle.embedding_laws.proofs.Lies.{vertex_same}
 
 module _ (m : HalfEdges) (laws : IsQuadManifold m) (cut : Cut) (full : IsCut m cut) (node : ℕ
     → Bool) (nodes : AreNodes m cut node) where
@@ -98,7 +99,8 @@ module _ (m : HalfEdges) (laws : IsQuadManifold m) (cut : Cut) (full : IsCut m c
 
   module _ (face : ℕ → ℕ) (v : ℕ) where
     -- The layouts have the same nodes, arcs and patches.
-    same_paths : (t u : Plan) → IsDartLayout m cut node face v t → IsDartLayout m cut node face v u → t.nodes ≡ u.nodes
+    same_paths : (t u : Layout) → IsDartLayout m cut node face v t → IsDartLayout m cut node face v u
+        → t.nodes ≡ u.nodes
         → t.arcs ≡ u.arcs
     same_paths t u lt lu same = ext_get_or (record { first = 0; last = 0; darts = [] }) t.arcs u.arcs s.many path
       where
@@ -137,19 +139,19 @@ module _ (m : HalfEdges) (laws : IsQuadManifold m) (cut : Cut) (full : IsCut m c
                 ∙ kept (path_at u.arcs a).last)))
 
     -- Two layouts that differ in their sides at most.
-    module _ (t : Plan) (sides : List (List (List SideArc))) (lt : IsDartLayout m cut node face v t)
+    module _ (t : Layout) (sides : List (List (List SideArc))) (lt : IsDartLayout m cut node face v t)
         (lu : IsDartLayout m cut node face v (record t { sides = sides })) where
-      abbrev u : Plan
+      abbrev u : Layout
       u = record t { sides = sides }
 
       abbrev x : ℕ → ℕ
       x = long_at t.arcs
 
       abbrev here : (p : ℕ) (s : Way) (k : ℕ) → SideArc
-      here p s k = (layout_of t).use_at p s k
+      here p s k = (gluing_of t).use_at p s k
 
       abbrev there : (p : ℕ) (s : Way) (k : ℕ) → SideArc
-      there p s k = (layout_of u).use_at p s k
+      there p s k = (gluing_of u).use_at p s k
 
       abbrev slot : (p : ℕ) (s : Way) (k : ℕ) → Slot
       slot p s k = record { patch = p; side = s; at = k }
@@ -159,28 +161,28 @@ module _ (m : HalfEdges) (laws : IsQuadManifold m) (cut : Cut) (full : IsCut m c
 
       -- Sides that agree before a place reach equally far.
       same_reach : (p : ℕ) (s : Way) (k : ℕ) → ((i : ℕ) → i < k → here p s i ≡ there p s i)
-          → reach (layout_of t) x p s k ≡ reach (layout_of u) x p s k
+          → reach (gluing_of t) x p s k ≡ reach (gluing_of u) x p s k
       same_reach p s k before = count_below_same (λ i. x (here p s i).arc) (λ i. x (there p s i).arc) k
           (λ i l. ap (λ (w : SideArc). x w.arc) (before i l))
 
       -- So they agree there, too.
-      one_more : (p : ℕ) (s : Way) (k : ℕ) → p < length t.patches → k < (layout_of t).many p s
-          → k < (layout_of u).many p s
+      one_more : (p : ℕ) (s : Way) (k : ℕ) → p < length t.patches → k < (gluing_of t).many p s
+          → k < (gluing_of u).many p s
           → ((i : ℕ) → i < k → here p s i ≡ there p s i) → here p s k ≡ there p s k
       one_more p s k low one other before =
           by_use (same_use m laws cut full node nodes t.arcs lt.arcs (here p s k).arc (there p s k).arc
           (here p s k).forward (there p s k).forward 0 0
-          (border_dart m (patch_at t.patches p) s (reach (layout_of t) x p s k + 0)) a_low b_low
+          (border_dart m (patch_at t.patches p) s (reach (gluing_of t) x p s k + 0)) a_low b_low
           (some (here p s k).arc a_low) (some (there p s k).arc b_low)
           (lt.used (slot p s k) 0 is_one (some (here p s k).arc a_low))
           (subst (λ (r : ℕ). LiesAt m (path_at t.arcs (there p s k).arc).darts (there p s k).forward 0
           (border_dart m (patch_at t.patches p) s (r + 0)))
           (sym (same_reach p s k before)) (lu.used (slot p s k) 0 is_other (some (there p s k).arc b_low))))
         where
-          is_one : IsSlot (layout_of t) (slot p s k)
+          is_one : IsSlot (gluing_of t) (slot p s k)
           is_one = record { patch_low = low; low = one }
 
-          is_other : IsSlot (layout_of u) (slot p s k)
+          is_other : IsSlot (gluing_of u) (slot p s k)
           is_other = record { patch_low = low; low = other }
 
           a_low : (here p s k).arc < length t.arcs
@@ -193,7 +195,7 @@ module _ (m : HalfEdges) (laws : IsQuadManifold m) (cut : Cut) (full : IsCut m c
               × (◌≡◌ {A = ℕ} 0 0) → here p s k ≡ there p s k
           by_use e = λ i. record { arc = e.0 i; forward = e.1 i }
 
-      agree : (p : ℕ) (s : Way) (k : ℕ) → p < length t.patches → k ≤ (layout_of t).many p s → k ≤ (layout_of u).many p s
+      agree : (p : ℕ) (s : Way) (k : ℕ) → p < length t.patches → k ≤ (gluing_of t).many p s → k ≤ (gluing_of u).many p s
           → (i : ℕ) → i < k → here p s i ≡ there p s i
       agree p s zero low one other i l = absurd (omega arith)
       agree p s (suc k) low one other i l = by_last (cases_eq i k) (agree p s k low (omega arith) (omega arith))
@@ -204,36 +206,36 @@ module _ (m : HalfEdges) (laws : IsQuadManifold m) (cut : Cut) (full : IsCut m c
           by_last (inr ne) before = before i (omega arith)
 
       -- They have as many uses, since both are as long as the side of the patch.
-      same_count : (p : ℕ) (s : Way) → p < length t.patches → (layout_of t).many p s ≡ (layout_of u).many p s
-      same_count p s low = elim (cases_order ((layout_of t).many p s) ((layout_of u).many p s)) [
+      same_count : (p : ℕ) (s : Way) → p < length t.patches → (gluing_of t).many p s ≡ (gluing_of u).many p s
+      same_count p s low = elim (cases_order ((gluing_of t).many p s) ((gluing_of u).many p s)) [
         | inl e ↦ e
         | inr o ↦ elim o [ inl l ↦ absurd (fewer l) | inr l ↦ absurd (more l) ]
       ]
         where
-          fewer : (layout_of t).many p s < (layout_of u).many p s → ⊥
+          fewer : (gluing_of t).many p s < (gluing_of u).many p s → ⊥
           fewer l =
-              let reached = same_reach p s ((layout_of t).many p s)
-              (agree p s ((layout_of t).many p s) low (omega arith) (omega arith)) in
-              let far = count_rises (λ i. x (there p s i).arc) (suc ((layout_of t).many p s)) ((layout_of u).many p s)
+              let reached = same_reach p s ((gluing_of t).many p s)
+              (agree p s ((gluing_of t).many p s) low (omega arith) (omega arith)) in
+              let far = count_rises (λ i. x (there p s i).arc) (suc ((gluing_of t).many p s)) ((gluing_of u).many p s)
               (omega arith) in
-              let step = some (there p s ((layout_of t).many p s)).arc
-              (lu.uses (slot p s ((layout_of t).many p s)) (record { patch_low = low; low = l })) in
+              let step = some (there p s ((gluing_of t).many p s)).arc
+              (lu.uses (slot p s ((gluing_of t).many p s)) (record { patch_low = low; low = l })) in
               omega (arith, lt.sizes p s low, lu.sizes p s low, reached, far, step)
 
-          more : (layout_of u).many p s < (layout_of t).many p s → ⊥
+          more : (gluing_of u).many p s < (gluing_of t).many p s → ⊥
           more l =
-              let reached = same_reach p s ((layout_of u).many p s)
-              (agree p s ((layout_of u).many p s) low (omega arith) (omega arith)) in
-              let far = count_rises (λ i. x (here p s i).arc) (suc ((layout_of u).many p s)) ((layout_of t).many p s)
+              let reached = same_reach p s ((gluing_of u).many p s)
+              (agree p s ((gluing_of u).many p s) low (omega arith) (omega arith)) in
+              let far = count_rises (λ i. x (here p s i).arc) (suc ((gluing_of u).many p s)) ((gluing_of t).many p s)
               (omega arith) in
-              let step = some (here p s ((layout_of u).many p s)).arc
-              (lt.uses (slot p s ((layout_of u).many p s)) (record { patch_low = low; low = l })) in
+              let step = some (here p s ((gluing_of u).many p s)).arc
+              (lt.uses (slot p s ((gluing_of u).many p s)) (record { patch_low = low; low = l })) in
               omega (arith, lt.sizes p s low, lu.sizes p s low, reached, far, step)
 
       same_side : (p : ℕ) (s : Way) → p < length t.patches → side_at t p s ≡ side_at u p s
       same_side p s low = ext_get_or (record { arc = 0; forward = true }) (side_at t p s) (side_at u p s)
           (same_count p s low)
-          (λ i l. agree p s ((layout_of t).many p s) low (omega arith) (omega (arith, same_count p s low)) i l)
+          (λ i l. agree p s ((gluing_of t).many p s) low (omega arith) (omega (arith, same_count p s low)) i l)
 
       same_four : (p : ℕ) → p < length t.patches → get_or t.sides p [] ≡ get_or sides p []
       same_four p low = ext_get_or [] (get_or t.sides p []) (get_or sides p []) (lt.four p low ∙ sym (lu.four p low))
@@ -250,8 +252,8 @@ module _ (m : HalfEdges) (laws : IsQuadManifold m) (cut : Cut) (full : IsCut m c
       same_sides = ext_get_or [] t.sides sides (lt.sided ∙ sym lu.sided)
           (λ p l. same_four p (omega (arith, l, lt.sided)))
 
-    one_plan : (t u : Plan) → IsDartLayout m cut node face v t → IsDartLayout m cut node face v u → t ≡ u
-    one_plan t u lt lu = λ i. record {
+    one_layout : (t u : Layout) → IsDartLayout m cut node face v t → IsDartLayout m cut node face v u → t ≡ u
+    one_layout t u lt lu = λ i. record {
       nodes = nodes_same i;
       arcs = arcs_same i;
       patches = patches_same i;
@@ -295,5 +297,5 @@ pub one_layout_law : OneLayoutLaw
 one_layout_law faces marks manifold full one other is also =
     let laws : IsQuadManifold (half_edges faces) = manifold_law faces manifold in
     let cut : IsCut (half_edges faces) (is_on marks) = ((full_cut_law faces marks manifold).0 full).1 in
-    one_plan (half_edges faces) laws (is_on marks) cut (is_node faces marks) (are_nodes faces laws marks cut) face_of
+    one_layout (half_edges faces) laws (is_on marks) cut (is_node faces marks) (are_nodes faces laws marks cut) face_of
     (vertex_count faces) one other is also

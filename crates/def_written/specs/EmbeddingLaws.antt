@@ -6,15 +6,16 @@ use Rattle.def_mesh.specs.Meshes.{IsMesh}
 use Rattle.def_cut.specs.FullCut.{IsFullCut}
 use Rattle.def_layout.specs.Arcs.{long_at}
 use Rattle.def_layout.specs.FaceLayouts.{IsCutLayout}
-use Rattle.def_layout.specs.Plans.{Plan, layout_of, vertex_at}
+use Rattle.def_layout.specs.Layouts.{Layout, gluing_of, vertex_at}
 use Rattle.def_written.specs.Laws.{AreQuads, LiesInMesh}
 
 -- The layout of a full cut lies in the mesh, with the lengths of its arcs there.
-abbrev pub PlanLaw : Type 0
-PlanLaw = (faces : Faces) (marks : List Bool) (plan : Plan) → IsMesh faces → AreQuads faces → IsFullCut faces marks
-    → IsCutLayout faces marks plan → LiesInMesh faces (layout_of plan) (long_at plan.arcs) (vertex_at plan)
+abbrev pub EmbeddingLaw : Type 0
+EmbeddingLaw = (faces : Faces) (marks : List Bool) (layout : Layout) → IsMesh faces → AreQuads faces
+    → IsFullCut faces marks
+    → IsCutLayout faces marks layout → LiesInMesh faces (gluing_of layout) (long_at layout.arcs) (vertex_at layout)
 
 -- A manifold and a full cut of it have at most one layout.
 abbrev pub OneLayoutLaw : Type 0
 OneLayoutLaw = (faces : Faces) (marks : List Bool) → IsManifold faces → IsFullCut faces marks
-    → (one other : Plan) → IsCutLayout faces marks one → IsCutLayout faces marks other → one ≡ other
+    → (one other : Layout) → IsCutLayout faces marks one → IsCutLayout faces marks other → one ≡ other

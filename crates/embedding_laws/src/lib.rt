@@ -1,11 +1,11 @@
 //! The layout of a mesh and a full cut lies in the mesh: its cells are the faces, and its arcs are runs of darts.
 #![tactic(auto)]
 
-ghost use Rattle.def_written.specs.PlanLaws.{OneLayoutLaw, PlanLaw};
+ghost use Rattle.def_written.specs.EmbeddingLaws.{OneLayoutLaw, EmbeddingLaw};
 
 /// What is proved of layouts that lie in a mesh holds for the layout of a mesh and a full cut.
-pub fn plan_law()
-    ensures { PlanLaw }
+pub fn embedding_law()
+    ensures { EmbeddingLaw }
 {}
 
 /// A mesh and a full cut have at most one layout.
