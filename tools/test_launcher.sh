@@ -71,6 +71,7 @@ checkout() {
     echo more >"$1/crates/low/src/more.rt"
     echo main >"$1/crates/qm_prog/src/main.rt"
     printf 'low:\nqm_prog: low\n' >"$1/crates.txt"
+    echo "Handles allowed: none." >"$1/HANDLES"
 }
 
 # The same with a dist/ of these sources, whose program says that it is the one of dist/.
@@ -229,23 +230,23 @@ gate() {
 the_gate() {
     at=$room/gate
     checkout "$at"
-    wants "the gate without dist/ proves all, and fails" "1 11 passed, 1 failed" "$(gate)"
+    wants "the gate without dist/ proves all, and fails" "1 13 passed, 1 failed" "$(gate)"
     holds "it names the command that writes dist/" grep -q 'tools/dist writes it anew' "$room/err1"
     "$at/quadq" >/dev/null 2>&1
     wants "after the gate nothing is built" 1 "$(builds)"
     "$at/tools/dist" >/dev/null
-    wants "with dist/ it passes" "0 19 passed, 0 failed" "$(gate)"
+    wants "with dist/ it passes" "0 21 passed, 0 failed" "$(gate)"
     touch "$room/bad"
-    wants "it fails on an edit that cannot be applied" "1 18 passed, 1 failed" "$(gate)"
+    wants "it fails on an edit that cannot be applied" "1 20 passed, 1 failed" "$(gate)"
     rm "$room/bad"
     touch "$room/broken"
-    wants "it fails where a proof fails" "1 16 passed, 1 failed" "$(gate)"
+    wants "it fails where a proof fails" "1 17 passed, 1 failed" "$(gate)"
     rm "$room/broken"
     echo '# more' >>"$at/build/quadq"
     echo "another kit" >"$room/version"
     "$at/tools/dist" "$at/build/quadq" >/dev/null
     echo "a false kit" >"$room/version"
-    wants "it fails where dist/quadq has another byte" "1 18 passed, 1 failed" "$(gate)"
+    wants "it fails where dist/quadq has another byte" "1 20 passed, 1 failed" "$(gate)"
     wants "and says that the kit is another" 1 "$(tail -n 3 "$room/err1" | grep -c 'kit another kit.* a false kit')"
     cp "$at/crates/qm_prog/out/qm_prog" "$at/build/quadq"
     "$at/tools/dist" >/dev/null
