@@ -1,9 +1,9 @@
 -- Lines and pieces that are taken one by one, and what is then kept.
 use Rattle.std.proofs.Common.{◌≡◌, ℕ, ◌+◌, ◌-◌, ◌<◌, ◌≤◌, true, false, eqb, List, [], ◌∷◌, ◌++◌, length, refl, sym, ◌≢◌}
-use Rattle.std.proofs.Common.{ap, ◌∙◌, arith, Option, Some, None, Result, Err, map}
+use Rattle.std.proofs.Common.{ap, ◌∙◌, arith, Option, Some, None, Result, Ok, Err, map}
 use Rattle.std.proofs.lemmas.{Bool.eqb-true, Bool.false≢true, Bool.lt-ltb, Bool.or_from, List.Folds.list_any-append}
 use Rattle.std.proofs.lemmas.{List.append-nil, List.append_assoc, List.length-append, Result.IfErr-weaker}
-use Rattle.std.specs.{Prelude.is_some, Prelude.IfErr, List.list_any}
+use Rattle.std.specs.{Prelude.is_some, Prelude.IfErr, Prelude.OnErr, Prelude.OnOk, List.list_any}
 use Rattle.def_feed.specs.Feed.{StandsFor, is_line_feed}
 use Rattle.def_feed.specs.Kept.{KeptText, kept_readings, logical_behind, soup_with, soup_with_lines, face_readings}
 use Rattle.def_io.specs.{Bytes.Bytes, Bytes.Lines, Lines.line_of, Lines.lines_of}
@@ -13,11 +13,13 @@ use Rattle.def_text.specs.Logical.{Logical, continues, is_hash, logical_lines, w
 use Rattle.def_text.specs.declared.reading.Reading.TheVariants.{Refused, Position}
 use Rattle.def_text.specs.declared.refusal.{ObjFail.ObjFail, ObjFail.TheVariants.Limit, ObjFail.TheVariants.Memory}
 use Rattle.def_text.specs.declared.refusal.Which.TheVariants.{Line}
-use Rattle.qm_obj.specs.Feeding.{IsSound, RefusesLine, RefusesPiece, TookLine, TookPiece, number_by}
-use Rattle.qm_obj.specs.Lines.{Took, line_as, next_said}
+use Rattle.qm_obj.specs.Feeding.{RefusesLine, RefusesPiece, TookLine, TookPiece, number_by}
+use Rattle.qm_obj.specs.Lines.{Fits, Took, line_as, next_said}
+use Rattle.qm_obj.specs.{Views.kept_at, Views.kept_of, declared.joiner.Joiner.Joiner}
+use Rattle.qm_obj.specs.declared.progress.Progress.{Progress}
 use Rattle.qm_obj.proofs.PrefixLemmas.{BeginsWith, bare_more, begins_behind, behind_held, behind_nothing}
 use Rattle.qm_obj.proofs.JoinLemmas.{length-with_space}
-use Rattle.qm_obj.proofs.KeptLemmas.{Fits, Follows, line_taken, stops_at}
+use Rattle.qm_obj.proofs.KeptLemmas.{Follows, line_taken, stops_at}
 use Rattle.qm_obj.proofs.TailLemmas.{FirstLine, count_append, count_none, first_line, lines_fed, lines_open}
 
 -- Whether bytes are empty, by their number.
@@ -32,40 +34,54 @@ is_something xs is many = grind (arith)
 pub number_some : (joined : Bytes) (next begun : ℕ) → 0 < length joined → begun ≡ number_by joined next begun
 number_some joined next begun some = grind (arith)
 
--- What is kept fits the limits.
-pub fits : {kept : KeptText} → IsSound kept → Fits kept.positions kept.faces kept.lines
-fits sound = record {
-  few_vertices = sound.few_vertices;
-  few_faces = sound.few_faces;
-  sizes = sound.sizes;
-  positive = sound.positive;
+-- What is kept of a text.
+pub record IsSound (kept : KeptText) : Type 0 where
+  pub fits : Fits kept.positions kept.faces kept.lines
+  pub bare : list_any is_hash kept.joined ≡ false
+  pub unended : list_any is_line_feed kept.tail ≡ false
+  pub held : length kept.joined + length kept.tail ≤ 65537
+
+-- A joiner of lines and a reader of pieces keep it so.
+pub sound_of : (joiner : Joiner) → IsSound (kept_of joiner [])
+sound_of joiner = record {
+  fits = joiner.reader.fits;
+  bare = joiner.bare;
+  unended = refl;
+  held = omega (arith, joiner.short);
 }
 
--- What is kept of lines and no bytes behind them.
-pub sound_by : (kept : KeptText) → Fits kept.positions kept.faces kept.lines → list_any is_hash kept.joined ≡ false
-    → length kept.joined ≤ 65537 → kept.tail ≡ [] → IsSound kept
-sound_by kept old bare few none = record {
-  few_vertices = old.few_vertices;
-  few_faces = old.few_faces;
-  sizes = old.sizes;
-  positive = old.positive;
-  bare = bare;
-  unended = rw none refl;
-  held = omega (arith, ap length none);
+pub sound_at : (progress : Progress) → IsSound (kept_at progress)
+sound_at progress = record {
+  fits = progress.joiner.reader.fits;
+  bare = progress.joiner.bare;
+  unended = progress.unended;
+  held = progress.short;
 }
+
+-- What a joiner keeps of a line that goes on, and a reader of pieces of one that has not ended.
+pub joined_more : (old line : Bytes) {joined : Bytes} → continues line ≡ true → joined ≡ old ++ with_space line
+    → list_any is_hash old ≡ false → length old + length line ≤ 65536
+    → (list_any is_hash joined ≡ false) × (length joined ≤ 65536)
+joined_more old line {joined} on are bare short = (
+  rw are (bare_more old line bare on),
+  omega (arith, ap length are, length-append old (with_space line), length-with_space line on),
+)
+
+pub tail_more : {T E : Type 0} (r : Result T E) (old bytes tail : Bytes) → OnOk r (tail ≡ old ++ bytes)
+    → OnErr r (tail ≡ old) → list_any is_line_feed old ≡ false → list_any is_line_feed bytes ≡ false
+    → (list_any is_line_feed tail ≡ false) × (length tail ≤ length old + length bytes)
+tail_more (Ok _) old bytes tail are same none off = (
+  rw are (list_any-append is_line_feed old bytes ∙ or_from _ _ none off),
+  omega (arith, ap length are, length-append old bytes),
+)
+tail_more (Err _) old bytes tail are same none off = (rw same none, omega (arith, ap length same))
 
 module _ {old : KeptText} (sound : IsSound old) where
   -- A line that goes on is kept.
   pub held_line : {line joined : Bytes} {number : ℕ} → continues line ≡ true
       → number ≡ number_by old.joined old.next old.begun → joined ≡ old.joined ++ with_space line
-      → length old.joined + length line ≤ 65536
       → TookLine old (record old { next = old.next + 1; begun = number; joined = joined; tail = [] }) line
-  held_line {line} on is are short = record {
-    same = λ lines. rw (behind_held old line lines on, is, are) refl;
-    sound = sound_by _ (fits sound) (rw are (bare_more old.joined line sound.bare on))
-        (omega (arith, ap length are, length-append old.joined (with_space line), length-with_space line on)) refl;
-    next = refl;
-  }
+  held_line {line} on is are = record { same = λ lines. rw (behind_held old line lines on, is, are) refl; next = refl }
 
   -- A logical line that is too long is refused, whatever comes behind.
   pub long_line : (line : Bytes) {number : ℕ} → number ≡ number_by old.joined old.next old.begun
@@ -79,7 +95,7 @@ module _ {old : KeptText} (sound : IsSound old) where
       by_first : (lines : Lines) → BeginsWith (logical_behind old (line ∷ lines))
           (number_by old.joined old.next old.begun) (length old.joined + length line)
           → soup_with_lines old (line ∷ lines) ≡ Err (Limit Line number)
-      by_first lines first = rw first.are (stops_at _ _ _ first.line first.rest sound.sizes
+      by_first lines first = rw first.are (stops_at _ _ _ first.line first.rest sound.fits.sizes
           (limit first.line (first.number_is ∙ sym is) first.long))
 
   -- A line that ends a logical line is read.
@@ -96,8 +112,7 @@ module _ {old : KeptText} (sound : IsSound old) where
         tail = [];
       }) line
   ended_line {one = one} none are took = record {
-    same = λ lines. rw (are lines, none) (line_taken one (logical_lines (old.next + 1) lines) (fits sound) took).same;
-    sound = sound_by _ (line_taken one [] (fits sound) took).fits (rw none refl) (omega (arith, ap length none)) refl;
+    same = λ lines. rw (are lines, none) (line_taken one (logical_lines (old.next + 1) lines) sound.fits took).same;
     next = refl;
   }
 
@@ -106,7 +121,7 @@ module _ {old : KeptText} (sound : IsSound old) where
       → ((lines : Lines) → logical_behind old (line ∷ lines) ≡ one ∷ logical_lines (old.next + 1) lines)
       → next_said old.positions old.faces one ≡ Refused fail → RefusesLine old line fail
   refused_line line {one} are stops = λ lines.
-      rw (are lines) (stops_at _ _ _ one (logical_lines (old.next + 1) lines) sound.sizes stops)
+      rw (are lines) (stops_at _ _ _ one (logical_lines (old.next + 1) lines) sound.fits.sizes stops)
 
 -- No line comes behind: what is joined is the last one, where there is any.
 pub nothing_joined : (old : KeptText) → old.joined ≡ [] → soup_with_lines old [] ≡ soup_of (kept_readings old)
@@ -125,7 +140,8 @@ module _ {old : KeptText} (sound : IsSound old) (some : 0 < length old.joined) w
 
   pub last_refused : {fail : ObjFail} → next_said old.positions old.faces (last_line old) ≡ Refused fail
       → soup_with_lines old [] ≡ Err fail
-  last_refused stops = rw (behind_nothing old some sound.bare) (stops_at _ _ _ (last_line old) [] sound.sizes stops)
+  last_refused stops =
+      rw (behind_nothing old some sound.bare) (stops_at _ _ _ (last_line old) [] sound.fits.sizes stops)
 
 -- The lines of a text behind what is kept of it, where the line ends in this piece.
 fed_lines : (tail prefix more : Bytes) → list_any is_line_feed tail ≡ false → list_any is_line_feed prefix ≡ false
@@ -140,7 +156,6 @@ module _ {old : KeptText} (sound : IsSound old) where
       → TookLine (record old { tail = [] }) (record new { tail = [] }) line → TookPiece old new (prefix ++ 10 ∷ [])
   fed_piece {new} prefix off is none took = record {
     same = λ more. rw (fed_lines old.tail prefix more sound.unended off, ← is, none) (took.same (lines_of more));
-    sound = sound_by new (fits took.sound) took.sound.bare (omega (arith, took.sound.held)) none;
     counted = omega (arith, took.next, count_append prefix (10 ∷ []), count_none prefix off);
   }
 
@@ -152,18 +167,9 @@ module _ {old : KeptText} (sound : IsSound old) where
 
   -- A piece that ends no physical line.
   pub kept_piece : {bytes tail : Bytes} → list_any is_line_feed bytes ≡ false → tail ≡ old.tail ++ bytes
-      → length bytes ≤ 65537 - (length old.joined + length old.tail) → TookPiece old (record old { tail = tail }) bytes
-  kept_piece {bytes} off are short = record {
+      → TookPiece old (record old { tail = tail }) bytes
+  kept_piece {bytes} off are = record {
     same = λ more. rw (are, append_assoc old.tail bytes more) refl;
-    sound = record {
-      few_vertices = sound.few_vertices;
-      few_faces = sound.few_faces;
-      sizes = sound.sizes;
-      positive = sound.positive;
-      bare = sound.bare;
-      unended = rw are (list_any-append is_line_feed old.tail bytes ∙ or_from _ _ sound.unended off);
-      held = omega (arith, ap length are, length-append old.tail bytes, sound.held);
-    };
     counted = omega (arith, count_none bytes off);
   }
 
@@ -189,7 +195,6 @@ module _ {old : KeptText} (sound : IsSound old) where
 pub both_taken : {a b c : KeptText} {x y : Bytes} → TookPiece a b x → TookPiece b c y → TookPiece a c (x ++ y)
 both_taken {x = x} {y = y} first second = record {
   same = λ more. rw (append_assoc x y more) (first.same (y ++ more) ∙ second.same more);
-  sound = second.sound;
   counted = omega (arith, first.counted, second.counted, count_append x y);
 }
 

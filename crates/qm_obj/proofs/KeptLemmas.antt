@@ -14,7 +14,7 @@ use Rattle.def_text.specs.declared.reading.Reading.{Reading}
 use Rattle.def_text.specs.declared.reading.Reading.TheVariants.{Passed, Position, Face, Refused}
 use Rattle.def_text.specs.declared.refusal.{ObjFail.ObjFail, ObjFail.TheVariants.Memory, ObjFail.TheVariants.Range}
 use Rattle.qm_obj.specs.{Indices.clamped, Indices.with_clamped, Kept.IsLate, Kept.first_late}
-use Rattle.qm_obj.specs.Lines.{Took, line_in, next_said}
+use Rattle.qm_obj.specs.Lines.{Fits, Took, line_in, next_said}
 use Rattle.qm_obj.proofs.{ListLemmas.parts_none, SoupLemmas.few_pos, SoupLemmas.same_faces}
 use Rattle.qm_obj.proofs.ReadLemmas.{any_clamped, face_clamped, late_none, late_some, line_clamped, position_clamped}
 use Rattle.qm_obj.proofs.ReadLemmas.{positive_clamped, refusal_clamped, refused_clamped, unclamped_face}
@@ -161,13 +161,6 @@ more_said {p = p} {c = c} {l = l} (Face n corners) said sizes took few =
     (λ none. omega (arith, few none, ap length took.position, length-append p (positions said))))
 more_said (Refused fail) said sizes took few = absurd (cc took.accepted)
 
--- What is kept stays within the limits, and in step.
-pub record Fits (p : Positions) (c : Faces) (l : List ℕ) : Type 0 where
-  pub few_vertices : length p ≤ 2 ^ 21
-  pub few_faces : length c ≤ 2 ^ 20
-  pub sizes : length l ≡ length c
-  pub positive : list_all (list_all (λ corner. ltb 0 corner)) c ≡ true
-
 line_face : (said : Reading) → length (line_in said) ≡ length (face_in said)
 line_face said = grind (arith)
 
@@ -227,6 +220,32 @@ module _ {p p' : Positions} {c c' : Faces} {l l' : List ℕ} (line : Logical) (r
         (few_behind (length p') (length c') rest grown.fits.few_vertices)
         ∙ sym (kept_soup_is p' c' l' behind grown.fits.sizes);
   }
+
+-- A position that is put behind the others, or a face with its line, or neither.
+pub fits_position : {p p' : Positions} {c : Faces} {l : List ℕ} (line : Logical) {place : List ℤ} (t : Bool)
+    → Fits p c l → next_said p c line ≡ Position place → p' ≡ cond t (p ++ place ∷ []) p → Fits p' c l
+fits_position {p} {p'} {c} {l} line true old is kept =
+    let took : Took p p' c c l l (next_said p c line) = rw is (record {
+      accepted = refl;
+      position = kept;
+      face = sym (append-nil c);
+      line = sym (append-nil l);
+    }) in
+    (line_taken line [] old took).fits
+fits_position line false old is kept = rw kept old
+
+pub fits_face : {p : Positions} {c c' : Faces} {l l' : List ℕ} (line : Logical) {n : ℕ} {corners : List ℕ} (t : Bool)
+    → Fits p c l → next_said p c line ≡ Face n corners → c' ≡ cond t (c ++ corners ∷ []) c
+    → l' ≡ cond t (l ++ n ∷ []) l → Fits p c' l'
+fits_face {p} {c} {c'} {l} {l'} line true old is kept numbered =
+    let took : Took p p c c' l l' (next_said p c line) = rw is (record {
+      accepted = refl;
+      position = sym (append-nil p);
+      face = kept;
+      line = numbered;
+    }) in
+    (line_taken line [] old took).fits
+fits_face line false old is kept numbered = rw (kept, numbered) old
 
 -- A line that is refused is the first one.
 pub stops_at : (p : Positions) (c : Faces) (l : List ℕ) (line : Logical) (rest : List Logical) {fail : ObjFail}

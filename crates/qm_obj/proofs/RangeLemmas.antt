@@ -6,9 +6,9 @@ use Rattle.def_text.specs.{Logical.logical_lines, Text.soup_of, Text.text_soup, 
 use Rattle.def_text.specs.declared.reading.Reading.TheVariants.{Position, Refused}
 use Rattle.def_text.specs.Types.{Positions}
 use Rattle.qm_obj.proofs.Ranges.{next_lines, range_none, span_within}
-use Rattle.qm_obj.proofs.KeptLemmas.{Fits, Follows, line_taken, nothing_kept, stops_at}
+use Rattle.qm_obj.proofs.KeptLemmas.{Follows, line_taken, nothing_kept, stops_at}
 use Rattle.def_feed.specs.Kept.{face_readings, readings_behind}
-use Rattle.qm_obj.specs.{Ahead.span, Lines.Took, Lines.first_logical, Lines.next_said}
+use Rattle.qm_obj.specs.{Ahead.span, Lines.Fits, Lines.Took, Lines.first_logical, Lines.next_said}
 use Rattle.def_mesh.specs.Faces.{Faces}
 use Rattle.def_io.specs.Bytes.{Lines}
 

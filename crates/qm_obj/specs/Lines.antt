@@ -1,5 +1,5 @@
 -- Words one after another, and what a reader keeps of the lines.
-use Rattle.std.specs.Prelude.{◌≡◌, ◌<◌, ◌≤◌, ◌||◌, ℕ, Bool, true, if◌then◌else◌}
+use Rattle.std.specs.Prelude.{◌≡◌, ◌<◌, ◌≤◌, ◌||◌, ℕ, Bool, true, nat_lt, IsTrue, if◌then◌else◌}
 use Rattle.std.specs.Prelude.{List, [], ◌∷◌, ◌++◌, length, take, drop}
 use Rattle.std.specs.Prelude.{slice_index_or}
 use Rattle.std.specs.List.{list_all}
@@ -9,6 +9,7 @@ use Rattle.qm_obj.specs.Ahead.{text_ahead, size_ahead}
 use Rattle.def_text.specs.Reading.{reading}
 use Rattle.def_text.specs.Text.{face_in, position_in, refusal_in}
 use Rattle.def_text.specs.Words.{is_blank}
+use Rattle.def_text.specs.declared.limits.TheConstants.{MAX_F_LINES, MAX_V_LINES}
 use Rattle.def_text.specs.declared.reading.Reading.{Reading}
 use Rattle.def_text.specs.declared.reading.Reading.TheVariants.{Passed, Position, Face, Refused}
 use Rattle.qm_obj.specs.Indices.{with_clamped}
@@ -47,6 +48,13 @@ first_logical number lines = record { number = number; size = size_ahead lines; 
 -- What the next line says, behind as many `v` lines and `f` lines as there are positions and faces.
 abbrev pub next_said : (positions : Positions) (faces : Faces) (line : Logical) → Reading
 next_said positions faces line = with_clamped (reading (length positions) (length faces) line)
+
+-- What a reader keeps stays within the limits and in step, and the corners are numbers from 1.
+pub record Fits (positions : Positions) (faces : Faces) (lines : List ℕ) : Type 0 where
+  pub few_vertices : length positions ≤ MAX_V_LINES
+  pub few_faces : length faces ≤ MAX_F_LINES
+  pub sizes : length lines ≡ length faces
+  pub positive : IsTrue (list_all (list_all (λ corner. nat_lt 0 corner)) faces)
 
 -- What a reader keeps grew by what a line says, which is no refusal.
 pub record Took (positions positions' : Positions) (faces faces' : Faces) (lines lines' : List ℕ)

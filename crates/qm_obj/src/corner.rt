@@ -69,16 +69,16 @@ fn resolve(word: &[u8], before: u32) -> Option<u64>
     ensures { result ≡ (if is_signed word.now then Some (named before word.now) else None) }
 {
     match read_number(unsigned(word)) {
-        Some(k) => Some(count_from(is_negative(word), k, u64::from(before))),
+        Some(k) => Some(count_from(is_negative(word), k, before)),
         None => None,
     }
 }
 
-fn count_from(negative: bool, k: u64, before: u64) -> u64
-    requires { before < 2 ^ 32 }
+fn count_from(negative: bool, k: u64, before: u32) -> u64
     ensures { result
         ≡ (if (k == 0) || (negative && nat_lt before k) then 0 else (if negative then before + 1 - k else k)) }
 {
+    let before = u64::from(before);
     if k == 0 || (negative && k > before) {
         0
     } else if negative {

@@ -1,12 +1,13 @@
 //! Physical lines that are taken one by one, and joined to logical ones.
 
 ghost use Rattle.std.specs.Prelude.{◌≡◌, ◌≢◌, ◌≤◌, ◌<◌, ◌-◌, ◌^◌, [], false, true, length, Ok, Err, IfOk, OnOk, IfErr};
+ghost use Rattle.std.specs.List.{list_any};
 ghost use Rattle.def_feed.specs.Kept.{kept_readings, soup_with_lines};
 ghost use Rattle.def_io.specs.Bytes.{Lines};
-ghost use Rattle.def_text.specs.Logical.{continues};
+ghost use Rattle.def_text.specs.Logical.{continues, is_hash};
 ghost use Rattle.def_text.specs.Text.{soup_of, text_soup};
-ghost use Rattle.qm_obj.specs.Feeding.{IsSound, number_by, RefusesLine, TookLine};
-ghost use Rattle.qm_obj.specs.Views.{kept_of};
+ghost use Rattle.def_text.specs.declared.limits.TheConstants.{MAX_LINE};
+ghost use Rattle.qm_obj.specs.Feeding.{number_by, RefusesLine, TookLine};
 
 use crate::joining::{append, append_spaced, before_comment, goes_on};
 use crate::reader::Reader;
@@ -22,11 +23,14 @@ pub(crate) struct Joiner {
     /// The number of the first physical line that is joined.
     pub(crate) begun: u32,
     pub(crate) joined: Vec<u8>,
+    pub(crate) ghost bare: { list_any is_hash joined.items ≡ false },
+    pub(crate) ghost short: { length joined.items ≤ MAX_LINE },
 }
 
 impl Joiner {
+    ghost use Rattle.qm_obj.specs.Views.{kept_of};
+
     pub(crate) fn new(alloc: Global) -> Joiner
-        ensures sound { IsSound (kept_of result []) }
         ensures same { (lines : Lines) → soup_with_lines (kept_of result []) lines ≡ text_soup 1 lines }
         ensures next { result.next ≡ 1 }
         ensures joined { result.joined.items ≡ [] }
@@ -51,24 +55,20 @@ impl Joiner {
 
     /// Takes the next physical line, or answers the refusal of the logical line to which it belongs.
     pub(crate) fn take(&mut self, line: &[u8]) -> Result<(), ObjFail>
-        requires sound { IsSound (kept_of self.old []) }
         requires room { self.old.next < 2 ^ 32 - 1 }
         ensures took { OnOk result (TookLine (kept_of self.old []) (kept_of self.new []) line.now) }
         ensures refused { IfErr result (λ fail. fail ≢ ObjFail.Memory →
             RefusesLine (kept_of self.old []) line.now fail) }
     {
         if goes_on(line) {
-            return self.hold(line);
+            self.hold(line)
+        } else {
+            self.end(line)
         }
-        if self.joined.is_empty() {
-            return self.read_alone(line);
-        }
-        self.read_joined(line)
     }
 
     /// Keeps a physical line that goes on with the next.
     fn hold(&mut self, line: &[u8]) -> Result<(), ObjFail>
-        requires sound { IsSound (kept_of self.old []) }
         requires room { self.old.next < 2 ^ 32 - 1 }
         requires more { continues line.now ≡ true }
         ensures took { OnOk result (TookLine (kept_of self.old []) (kept_of self.new []) line.now) }
@@ -85,46 +85,33 @@ impl Joiner {
         Ok(())
     }
 
-    /// Reads a physical line that is a logical line.
-    fn read_alone(&mut self, line: &[u8]) -> Result<(), ObjFail>
-        requires sound { IsSound (kept_of self.old []) }
+    /// Reads a physical line with those that are joined before it.
+    fn end(&mut self, line: &[u8]) -> Result<(), ObjFail>
         requires room { self.old.next < 2 ^ 32 - 1 }
         requires ends { continues line.now ≡ false }
-        requires alone { self.old.joined.items ≡ [] }
         ensures took { OnOk result (TookLine (kept_of self.old []) (kept_of self.new []) line.now) }
         ensures refused { IfErr result (λ fail. fail ≢ ObjFail.Memory →
             RefusesLine (kept_of self.old []) line.now fail) }
     {
-        self.reader.take(self.next, line.len(), line)?;
-        self.next += 1;
-        Ok(())
-    }
-
-    /// Reads a physical line behind those that are joined.
-    fn read_joined(&mut self, line: &[u8]) -> Result<(), ObjFail>
-        requires sound { IsSound (kept_of self.old []) }
-        requires room { self.old.next < 2 ^ 32 - 1 }
-        requires ends { continues line.now ≡ false }
-        requires behind { 0 < length self.old.joined.items }
-        ensures took { OnOk result (TookLine (kept_of self.old []) (kept_of self.new []) line.now) }
-        ensures refused { IfErr result (λ fail. fail ≢ ObjFail.Memory →
-            RefusesLine (kept_of self.old []) line.now fail) }
-    {
+        if self.joined.is_empty() {
+            self.reader.take(self.next, line.len(), line)?;
+            self.next += 1;
+            return Ok(());
+        }
         let size = self.joined.len() + line.len();
         if size > MAX_LINE {
             return Err(too_long(self.begun));
         }
         append(&mut self.joined, before_comment(line))?;
-        self.reader.take(self.begun, size, &self.joined)?;
+        let read = self.reader.take(self.begun, size, &self.joined);
         self.joined.clear();
+        read?;
         self.next += 1;
         Ok(())
     }
 
     /// Reads the lines that wait for one that does not come.
     fn read_rest(&mut self) -> Result<(), ObjFail>
-        requires sound { IsSound (kept_of self.old []) }
-        ensures sound { OnOk result (IsSound (kept_of self.new [])) }
         ensures same { OnOk result
             (soup_with_lines (kept_of self.old []) [] ≡ soup_of (kept_readings (kept_of self.new []))) }
         ensures refused { IfErr result (λ fail. fail ≢ ObjFail.Memory →
@@ -141,7 +128,6 @@ impl Joiner {
 
     /// The soup of all lines that were taken, or their first refusal.
     pub(crate) fn finish(self, alloc: Global) -> Result<Soup, ObjFail>
-        requires sound { IsSound (kept_of self []) }
         ensures soup { IfOk result (λ soup. soup_with_lines (kept_of self []) [] ≡ Ok soup) }
         ensures few { IfOk result (λ soup. (length soup.pos ≤ MAX_V_LINES) × (length soup.faces ≤ MAX_F_LINES)) }
         ensures refused { IfErr result (λ fail. fail ≢ ObjFail.Memory →

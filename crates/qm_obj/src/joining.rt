@@ -6,10 +6,12 @@ ghost use Rattle.std.specs.Prelude.{
   ◌<◌,
   ◌+◌,
   ◌++◌,
+  [],
   length,
   slice_range,
   IfOk,
   IfErr,
+  OnErr,
   OnOk,
 };
 ghost use Rattle.std.specs.List.{before_first};
@@ -112,6 +114,7 @@ fn make_room(bytes: &mut Vec<u8>) -> Result<(), ObjFail>
 /// Puts bytes behind others.
 pub(crate) fn append(bytes: &mut Vec<u8>, more: &[u8]) -> Result<(), ObjFail>
     ensures grown { OnOk result (bytes.new.items ≡ bytes.old.items ++ more.now) }
+    ensures still { OnErr result (bytes.new.items ≡ bytes.old.items) }
     ensures memory { IfErr result (λ fail. fail ≡ ObjFail.Memory) }
 {
     make_room(bytes)?;
@@ -119,12 +122,15 @@ pub(crate) fn append(bytes: &mut Vec<u8>, more: &[u8]) -> Result<(), ObjFail>
     Ok(())
 }
 
-/// The same with a line that goes on, and a space for its backslash.
+/// The same with a line that goes on, and a space for its backslash. Where memory is refused, no byte is left.
 pub(crate) fn append_spaced(bytes: &mut Vec<u8>, line: &[u8]) -> Result<(), ObjFail>
     ensures grown { OnOk result (bytes.new.items ≡ bytes.old.items ++ with_space line.now) }
+    ensures dropped { OnErr result (bytes.new.items ≡ []) }
     ensures memory { IfErr result (λ fail. fail ≡ ObjFail.Memory) }
 {
-    make_room(bytes)?;
-    push_spaced(bytes, line)?;
-    Ok(())
+    if make_room(bytes).is_ok() && push_spaced(bytes, line).is_ok() {
+        return Ok(());
+    }
+    bytes.clear();
+    Err(ObjFail::Memory)
 }

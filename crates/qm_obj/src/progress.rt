@@ -7,8 +7,8 @@ ghost use Rattle.def_feed.specs.Feed.{is_line_feed};
 ghost use Rattle.def_feed.specs.Kept.{soup_with, soup_with_lines};
 ghost use Rattle.def_io.specs.Bytes.{Bytes};
 ghost use Rattle.def_text.specs.Text.{soup_in};
-ghost use Rattle.qm_obj.specs.Feeding.{IsSound, RefusesPiece, TookPiece};
-ghost use Rattle.qm_obj.specs.Views.{kept_at, kept_of};
+ghost use Rattle.def_text.specs.declared.limits.TheConstants.{MAX_LINE};
+ghost use Rattle.qm_obj.specs.Feeding.{RefusesPiece, TookPiece};
 
 use crate::joiner::{Joiner, too_long};
 use crate::joining::append;
@@ -22,11 +22,14 @@ use std::alloc::Global;
 pub(crate) struct Progress {
     pub(crate) joiner: Joiner,
     pub(crate) tail: Vec<u8>,
+    pub(crate) ghost unended: { list_any is_line_feed tail.items ≡ false },
+    pub(crate) ghost short: { length joiner.joined.items + length tail.items ≤ MAX_LINE + 1 },
 }
 
 impl Progress {
+    ghost use Rattle.qm_obj.specs.Views.{kept_at, kept_of};
+
     pub(crate) fn new(alloc: Global) -> Progress
-        ensures sound { IsSound (kept_at result) }
         ensures same { (more : Bytes) → soup_with (kept_at result) more ≡ soup_in more }
         ensures next { result.joiner.next ≡ 1 }
     {
@@ -38,7 +41,6 @@ impl Progress {
 
     /// The number of bytes that are kept of the logical line that has not ended.
     pub(crate) fn held(&self) -> usize
-        requires { length self.now.joiner.joined.items + length self.now.tail.items ≤ MAX_LINE + 1 }
         ensures { result ≡ length self.now.joiner.joined.items + length self.now.tail.items }
     {
         self.joiner.joined.len() + self.tail.len()
@@ -46,7 +48,6 @@ impl Progress {
 
     /// Takes the next piece, or answers the first refusal of every text that begins so.
     pub(crate) fn take(&mut self, piece: &[u8]) -> Result<(), ObjFail>
-        requires sound { IsSound (kept_at self.old) }
         requires room { self.old.joiner.next + length piece.now < 2 ^ 32 - 1 }
         ensures took { OnOk result (TookPiece (kept_at self.old) (kept_at self.new) piece.now) }
         ensures refused { IfErr result (λ fail. fail ≢ ObjFail.Memory →
@@ -62,7 +63,6 @@ impl Progress {
 
     /// Takes the prefix of a piece up to a line feed, and the line feed.
     fn end_line(&mut self, prefix: &[u8]) -> Result<(), ObjFail>
-        requires sound { IsSound (kept_at self.old) }
         requires room { self.old.joiner.next < 2 ^ 32 - 1 }
         requires unended { list_any is_line_feed prefix.now ≡ false }
         ensures took { OnOk result
@@ -79,20 +79,18 @@ impl Progress {
 
     /// Takes a line feed.
     fn end_tail(&mut self) -> Result<(), ObjFail>
-        requires sound { IsSound (kept_at self.old) }
         requires room { self.old.joiner.next < 2 ^ 32 - 1 }
         ensures took { OnOk result (TookPiece (kept_at self.old) (kept_at self.new) (LINE_FEED ∷ [])) }
         ensures refused { IfErr result (λ fail. fail ≢ ObjFail.Memory →
             RefusesPiece (kept_at self.old) (LINE_FEED ∷ []) fail) }
     {
-        self.joiner.take(line_of(&self.tail))?;
+        let taken = self.joiner.take(line_of(&self.tail));
         self.tail.clear();
-        Ok(())
+        taken
     }
 
     /// Keeps bytes of a line that does not end in them.
     fn keep(&mut self, bytes: &[u8]) -> Result<(), ObjFail>
-        requires sound { IsSound (kept_at self.old) }
         requires unended { list_any is_line_feed bytes.now ≡ false }
         ensures took { OnOk result (TookPiece (kept_at self.old) (kept_at self.new) bytes.now) }
         ensures still { OnOk result (self.new.joiner ≡ self.old.joiner) }
@@ -110,15 +108,14 @@ impl Progress {
         ensures joined { self.new.joiner.joined.items ≡ [] }
         ensures tail { self.new.tail.items ≡ [] }
     {
-        self.joiner.joined.clear();
+        let joiner = &mut self.joiner;
+        joiner.joined.clear();
         self.tail.clear();
     }
 
     /// Takes the end of the text as that of its last line.
     fn end(&mut self) -> Result<(), ObjFail>
-        requires sound { IsSound (kept_at self.old) }
         requires room { self.old.joiner.next < 2 ^ 32 - 1 }
-        ensures sound { OnOk result (IsSound (kept_of self.new.joiner [])) }
         ensures same { OnOk result
             (soup_with (kept_at self.old) [] ≡ soup_with_lines (kept_of self.new.joiner []) []) }
         ensures refused { IfErr result (λ fail. fail ≢ ObjFail.Memory → soup_with (kept_at self.old) [] ≡ Err fail) }
@@ -126,12 +123,13 @@ impl Progress {
         if self.tail.is_empty() {
             return Ok(());
         }
-        self.joiner.take(line_of(&self.tail))
+        let taken = self.joiner.take(line_of(&self.tail));
+        self.tail.clear();
+        taken
     }
 
     /// The soup of the text, or its first refusal.
     pub(crate) fn finish(self, alloc: Global) -> Result<Soup, ObjFail>
-        requires sound { IsSound (kept_at self) }
         requires room { self.joiner.next < 2 ^ 32 - 1 }
         ensures soup { IfOk result (λ soup. soup_with (kept_at self) [] ≡ Ok soup) }
         ensures few { IfOk result (λ soup. (length soup.pos ≤ MAX_V_LINES) × (length soup.faces ≤ MAX_F_LINES)) }

@@ -42,8 +42,6 @@ fn take_logical(
 ) -> Result<u32, ObjFail>
     requires begins { i < after }
     requires within { after ≤ length (lines_of lines.now) }
-    requires vertices { length reader.old.positions.items ≤ MAX_V_LINES }
-    requires faces { length reader.old.faces.items ≤ MAX_F_LINES }
     ensures next { IfOk result (λ next. next ≡ i + span (slice_range (lines_of lines.now) i after)) }
     ensures kept { OnOk result
         (Took reader.old.positions.items reader.new.positions.items reader.old.faces.items reader.new.faces.items
@@ -71,8 +69,6 @@ fn take_joined(
 ) -> Result<u32, ObjFail>
     requires begins { i < after }
     requires within { after ≤ length (lines_of lines.now) }
-    requires vertices { length reader.old.positions.items ≤ MAX_V_LINES }
-    requires faces { length reader.old.faces.items ≤ MAX_F_LINES }
     ensures next { IfOk result (λ next. next ≡ i + span (slice_range (lines_of lines.now) i after)) }
     ensures kept { OnOk result
         (Took reader.old.positions.items reader.new.positions.items reader.old.faces.items reader.new.faces.items

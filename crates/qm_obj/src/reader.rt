@@ -1,11 +1,10 @@
 //! What is known of a text after some of its lines.
 
-ghost use Rattle.std.specs.Prelude.{◌≡◌, ◌≢◌, ◌≤◌, ◌<◌, ◌++◌, ◌∷◌, [], length, nat_lt, None, IsTrue, IfOk, OnOk};
+ghost use Rattle.std.specs.Prelude.{◌≡◌, ◌≢◌, ◌≤◌, ◌++◌, ◌∷◌, [], if◌then◌else◌, is_ok, length, None, IfOk, OnOk};
 ghost use Rattle.std.specs.Prelude.{IfErr};
-ghost use Rattle.std.specs.List.{list_all};
 ghost use Rattle.def_text.specs.Text.{face_set};
 ghost use Rattle.qm_obj.specs.Kept.{first_late, IsLate};
-ghost use Rattle.qm_obj.specs.Lines.{line_as, next_said, Took};
+ghost use Rattle.qm_obj.specs.Lines.{line_as, next_said, Fits, Took};
 
 use crate::Memory;
 use crate::line::read_line;
@@ -19,6 +18,7 @@ pub(crate) struct Reader {
     pub(crate) positions: Vec<[Micro; 3]>,
     pub(crate) faces: Vec<[u32; 4]>,
     pub(crate) lines: Vec<u32>,
+    pub(crate) ghost fits: { Fits positions.items faces.items lines.items },
 }
 
 impl Reader {
@@ -36,8 +36,6 @@ impl Reader {
 
     /// Takes the next logical line, which has `size` bytes and this text, or answers its refusal.
     pub(crate) fn take(&mut self, line: u32, size: usize, text: &[u8]) -> Result<(), ObjFail>
-        requires vertices { length self.old.positions.items ≤ MAX_V_LINES }
-        requires faces { length self.old.faces.items ≤ MAX_F_LINES }
         requires cut { length text.now ≤ size }
         ensures kept { OnOk result
             (Took self.old.positions.items self.new.positions.items self.old.faces.items self.new.faces.items
@@ -55,38 +53,20 @@ impl Reader {
             text,
         ) {
             Reading::Passed => Ok(()),
-            Reading::Position(position) => self.keep_position(position),
-            Reading::Face { line, corners } => self.keep_face(line, corners),
+            Reading::Position(position) => Ok(push(
+                &mut self.positions,
+                position,
+                MAX_V_LINES as usize,
+            )?),
+            Reading::Face { line, corners } => {
+                Ok(push_face(&mut self.faces, &mut self.lines, corners, line)?)
+            }
             Reading::Refused(fail) => Err(fail),
         }
     }
 
-    fn keep_position(&mut self, position: [Micro; 3]) -> Result<(), ObjFail>
-        ensures positions { OnOk result (self.new.positions.items ≡ self.old.positions.items ++ position ∷ []) }
-        ensures faces { self.new.faces ≡ self.old.faces }
-        ensures lines { self.new.lines ≡ self.old.lines }
-        ensures memory { IfErr result (λ fail. fail ≡ ObjFail.Memory) }
-    {
-        push(&mut self.positions, position, MAX_V_LINES as usize)?;
-        Ok(())
-    }
-
-    fn keep_face(&mut self, line: u32, corners: [u32; 4]) -> Result<(), ObjFail>
-        ensures positions { self.new.positions ≡ self.old.positions }
-        ensures faces { OnOk result (self.new.faces.items ≡ self.old.faces.items ++ corners ∷ []) }
-        ensures lines { OnOk result (self.new.lines.items ≡ self.old.lines.items ++ line ∷ []) }
-        ensures memory { IfErr result (λ fail. fail ≡ ObjFail.Memory) }
-    {
-        push(&mut self.faces, corners, MAX_F_LINES as usize)?;
-        push(&mut self.lines, line, MAX_F_LINES as usize)?;
-        Ok(())
-    }
-
     /// The soup of all lines that were taken, or the refusal of the first face that names no position.
     pub(crate) fn finish(self, alloc: Global) -> Result<Soup, ObjFail>
-        requires few { length self.positions.items ≤ MAX_V_LINES }
-        requires lines { length self.lines.items ≡ length self.faces.items }
-        requires positive { IsTrue (list_all (list_all (λ corner. nat_lt 0 corner)) self.faces.items) }
         ensures soup { IfOk result (λ soup.
             (first_late (length self.positions.items) self.faces.items self.lines.items ≡ None)
             × (soup ≡ face_set self.positions.items self.faces.items)) }
@@ -97,6 +77,7 @@ impl Reader {
             positions,
             faces,
             lines,
+            ..
         } = self;
         if let Some(line) = late_line(positions.len() as u32, &faces, &lines) {
             return Err(ObjFail::Range { line });
@@ -111,7 +92,7 @@ const MANY: usize = 65_536;
 /// Puts an entry at the end of a table. Where one that is no longer small is full, it takes all the room that it may
 /// need. A page of memory counts once it is written, and the entries are copied no more.
 fn push<T: Drop>(table: &mut Vec<T>, entry: T, most: usize) -> Result<(), Memory>
-    ensures { OnOk result (table.new.items ≡ table.old.items ++ entry ∷ []) }
+    ensures { table.new.items ≡ (if is_ok result then table.old.items ++ entry ∷ [] else table.old.items) }
 {
     let len = table.len();
     if len >= MANY && len < most && len == table.capacity() {
@@ -119,4 +100,23 @@ fn push<T: Drop>(table: &mut Vec<T>, entry: T, most: usize) -> Result<(), Memory
     }
     table.push(entry)?;
     Ok(())
+}
+
+/// Puts a face and its line at the ends of their tables, or neither.
+fn push_face(
+    faces: &mut Vec<[u32; 4]>,
+    lines: &mut Vec<u32>,
+    corners: [u32; 4],
+    line: u32,
+) -> Result<(), Memory>
+    ensures faces { faces.new.items ≡ (if is_ok result then faces.old.items ++ corners ∷ [] else faces.old.items) }
+    ensures lines { lines.new.items ≡ (if is_ok result then lines.old.items ++ line ∷ [] else lines.old.items) }
+{
+    let count = lines.len();
+    push(lines, line, MAX_F_LINES as usize)?;
+    let pushed = push(faces, corners, MAX_F_LINES as usize);
+    if pushed.is_err() {
+        lines.truncate(count);
+    }
+    pushed
 }

@@ -44,26 +44,11 @@ pub fn soup_of(
 {
     let mut pos = positions;
     let mut faces = faces;
-    let names = drop_unused(alloc, &mut pos, &mut faces)?;
+    let marks = used_marks(alloc, pos.len(), &faces)?;
+    let kept = keep_marked(alloc, &mut pos, &marks)?;
+    renumber(&mut faces, &kept.vertices);
+    let names = kept.names;
     Ok(Soup { pos, faces, names })
-}
-
-/// Drops the positions that no face names, numbers the corners from 0 among those that are left, and answers the
-/// numbers in the file of these, from 1. Linear.
-fn drop_unused(
-    alloc: Global,
-    positions: &mut Vec<[Micro; 3]>,
-    faces: &mut Vec<[u32; 4]>,
-) -> Result<Vec<u32>, Memory>
-    requires few { length positions.old.items ≤ MAX_V_LINES }
-    requires known { IsTrue (list_all (are_numbers (length positions.old.items)) faces.old.items) }
-    ensures { IfOk result (λ names. record { pos = positions.new.items; faces = faces.new.items; names = names.items }
-        ≡ face_set positions.old.items faces.old.items) }
-{
-    let marks = used_marks(alloc, positions.len(), faces)?;
-    let kept = keep_marked(alloc, positions, &marks)?;
-    renumber(faces, &kept.vertices);
-    Ok(kept.names)
 }
 
 /// The numbers in the file of the positions that are kept, and for each position how many of them stand before it.

@@ -7,8 +7,8 @@ use Rattle.qm_obj.proofs.JoinLemmas.{same_refused, same_took, joined_logical, jo
 use Rattle.qm_obj.proofs.read.take_joined.Goals.{After-deref}
 use Rattle.qm_obj.proofs.read.take_joined.Goals as goal
 
-pub take-requires-clause-cut : goal.take-requires-clause-cut
-take-requires-clause-cut c =
+pub take-requires : goal.take-requires
+take-requires c =
     let joined = c.in_ok-joined.ensures in
     omega (
       arith,

@@ -1,8 +1,8 @@
-use Rattle.std.proofs.Common.{◌∙◌, length, refl, ap, arith, []}
+use Rattle.std.proofs.Common.{◌∙◌, []}
 use Rattle.error_laws.proofs.Errors.{handed}
 use Rattle.qm_obj.specs.Views.{kept_of}
-use Rattle.qm_obj.proofs.FeedLemmas.{fits, is_nothing, is_something, last_line, last_refused, last_same, nothing_joined}
-use Rattle.qm_obj.proofs.{FeedLemmas.sound_by, KeptLemmas.Follows, KeptLemmas.line_taken}
+use Rattle.qm_obj.proofs.FeedLemmas.{is_nothing, is_something, last_line, last_refused, last_same, nothing_joined}
+use Rattle.qm_obj.proofs.{FeedLemmas.sound_of, KeptLemmas.Follows, KeptLemmas.line_taken}
 use Rattle.qm_obj.proofs.joiner.Joiner.read_rest.Goals.{After-clear}
 use Rattle.qm_obj.proofs.joiner.Joiner.read_rest.Goals as goal
 
@@ -14,20 +14,17 @@ pub returns-in_err-take-clause-refused : goal.returns-in_err-take-clause-refused
 returns-in_err-take-clause-refused c =
     let joined = c.args.self.now.joined in
     handed _ _ _ c.from_residual.ensures.1 (λ other.
-    last_refused c.requires.sound (is_something _ c.if-is_empty.ensures joined.ok.0)
+    last_refused (sound_of c.args.self.now) (is_something _ c.if-is_empty.ensures joined.ok.0)
     (rw (c.len.ensures ∙ joined.ok.0, c.deref.ensures.value) at (c.in_err-take.ensures.refused other)))
 
 -- The line that was read, and what is kept behind it.
 read : (c : After-clear) → Follows c.args.self.now.reader.positions.items c.take.new.self.positions.items
     c.args.self.now.reader.faces.items c.take.new.self.faces.items c.args.self.now.reader.lines.items
     c.take.new.self.lines.items (last_line (kept_of c.args.self.now [])) []
-read c = line_taken (last_line (kept_of c.args.self.now [])) [] (fits c.requires.sound)
+read c = line_taken (last_line (kept_of c.args.self.now [])) [] c.args.self.now.reader.fits
     (rw (c.len.ensures ∙ c.args.self.now.joined.ok.0, c.deref.ensures.value) at c.in_ok-take.ensures.kept)
-
-pub returns-clause-sound : goal.returns-clause-sound
-returns-clause-sound c =
-    sound_by _ (read c).fits (rw c.clear.ensures.items refl) (omega (arith, ap length c.clear.ensures.items)) refl
 
 pub returns-clause-same : goal.returns-clause-same
 returns-clause-same c =
-    last_same c.requires.sound (is_something _ c.if-is_empty.ensures c.args.self.now.joined.ok.0) (read c)
+    last_same (sound_of c.args.self.now) (is_something _ c.if-is_empty.ensures c.args.self.now.joined.ok.0)
+    (read (goal.at.returns-clause-same c).After-clear)

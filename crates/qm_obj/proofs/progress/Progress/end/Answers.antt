@@ -1,7 +1,7 @@
 use Rattle.std.proofs.Common.{◌∙◌, refl, ap, [], ◌≢◌}
 use Rattle.std.proofs.lemmas.Result.{IfErr-weaker, on_ok_weaker}
 use Rattle.def_io.specs.Lines.{line_of}
-use Rattle.qm_obj.proofs.FeedLemmas.{ended_tail, is_nothing, is_something}
+use Rattle.qm_obj.proofs.FeedLemmas.{ended_tail, is_nothing, is_something, sound_at}
 use Rattle.def_text.specs.declared.refusal.ObjFail.TheVariants.{Memory}
 use Rattle.qm_obj.specs.{Feeding.RefusesLine, Feeding.TookLine, Views.kept_of}
 use Rattle.qm_obj.proofs.progress.Progress.end.Goals as goal
@@ -10,13 +10,13 @@ pub returns-then-is_empty-clause-same : goal.returns-then-is_empty-clause-same
 returns-then-is_empty-clause-same c = rw (is_nothing c.if-is_empty.ensures c.args.self.now.tail.ok.0) refl
 
 pub returns-clause-same : goal.returns-clause-same
-returns-clause-same c = on_ok_weaker c.take.result
-    (λ (took : TookLine (kept_of c.args.self.now.joiner []) (kept_of c.take.new.self []) c.line_of.result.now).
-    ended_tail c.requires.sound (is_something _ c.if-is_empty.ensures c.args.self.now.tail.ok.0)
-    (c.line_of.ensures ∙ ap line_of c.deref.ensures.value) ∙ took.same []) c.take.ensures.took
+returns-clause-same c = on_ok_weaker c.take-taken.result
+    (λ (took : TookLine (kept_of c.args.self.now.joiner []) (kept_of c.take-taken.new.self []) c.line_of.result.now).
+    ended_tail (sound_at c.args.self.now) (is_something _ c.if-is_empty.ensures c.args.self.now.tail.ok.0)
+    (c.line_of.ensures ∙ ap line_of c.deref.ensures.value) ∙ took.same []) c.take-taken.ensures.took
 
 pub returns-clause-refused : goal.returns-clause-refused
-returns-clause-refused c = IfErr-weaker c.take.result _ _
+returns-clause-refused c = IfErr-weaker c.take-taken.result _ _
     (λ fail (is : fail ≢ Memory → RefusesLine (kept_of c.args.self.now.joiner []) c.line_of.result.now fail) other.
-    ended_tail c.requires.sound (is_something _ c.if-is_empty.ensures c.args.self.now.tail.ok.0)
-    (c.line_of.ensures ∙ ap line_of c.deref.ensures.value) ∙ is other []) c.take.ensures.refused
+    ended_tail (sound_at c.args.self.now) (is_something _ c.if-is_empty.ensures c.args.self.now.tail.ok.0)
+    (c.line_of.ensures ∙ ap line_of c.deref.ensures.value) ∙ is other []) c.take-taken.ensures.refused

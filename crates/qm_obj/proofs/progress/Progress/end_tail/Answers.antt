@@ -1,8 +1,9 @@
-use Rattle.std.proofs.{Common.◌≡◌, Common.◌++◌, Common.refl, Common.[], lemmas.List.append-nil}
-use Rattle.error_laws.proofs.Errors.{handed}
+use Rattle.std.proofs.Common.{◌≡◌, ◌≢◌, ◌++◌, refl, []}
+use Rattle.std.proofs.lemmas.{List.append-nil, Result.IfErr-weaker, Result.on_ok_weaker}
+use Rattle.def_text.specs.declared.refusal.ObjFail.TheVariants.{Memory}
 use Rattle.def_io.specs.Lines.{line_of}
-use Rattle.qm_obj.specs.Views.{kept_of}
-use Rattle.qm_obj.proofs.FeedLemmas.{fed_piece, fed_refused}
+use Rattle.qm_obj.specs.{Feeding.RefusesLine, Views.kept_of}
+use Rattle.qm_obj.proofs.FeedLemmas.{fed_piece, fed_refused, sound_at}
 use Rattle.qm_obj.proofs.progress.Progress.end_tail.Goals.{After-line_of}
 use Rattle.qm_obj.proofs.progress.Progress.end_tail.Goals as goal
 
@@ -10,11 +11,14 @@ use Rattle.qm_obj.proofs.progress.Progress.end_tail.Goals as goal
 line : (c : After-line_of) → c.line_of.result.now ≡ line_of (c.args.self.now.tail.items ++ [])
 line c = rw (append-nil c.args.self.now.tail.items, ← c.deref.ensures.value) c.line_of.ensures
 
-pub returns-in_err-take-clause-refused : goal.returns-in_err-take-clause-refused
-returns-in_err-take-clause-refused c = handed _ _ _ c.from_residual.ensures.1 (λ other.
-    fed_refused c.requires.sound [] c.line_of.result.now _ refl
-    (line (goal.at.returns-in_err-take-clause-refused c).After-line_of) (c.in_err-take.ensures.refused other))
-
 pub returns-clause-took : goal.returns-clause-took
-returns-clause-took c = fed_piece c.requires.sound {new = kept_of c.take.new.self c.clear.new.self.items} [] refl
-    (line (goal.at.returns-clause-took c).After-line_of) c.clear.ensures.items c.in_ok-take.ensures.took
+returns-clause-took c = on_ok_weaker c.take-taken.result
+    (λ took. fed_piece (sound_at c.args.self.now) {new = kept_of c.take-taken.new.self c.clear.new.self.items} [] refl
+    (line (goal.at.returns-clause-took c).After-line_of) c.clear.ensures.items took)
+    c.take-taken.ensures.took
+
+pub returns-clause-refused : goal.returns-clause-refused
+returns-clause-refused c = IfErr-weaker c.take-taken.result _ _
+    (λ fail (is : fail ≢ Memory → RefusesLine (kept_of c.args.self.now.joiner []) c.line_of.result.now fail) other.
+    fed_refused (sound_at c.args.self.now) [] c.line_of.result.now fail refl
+    (line (goal.at.returns-clause-refused c).After-line_of) (is other)) c.take-taken.ensures.refused

@@ -7,6 +7,6 @@ pub soup_of-requires-clause-known : goal.soup_of-requires-clause-known
 soup_of-requires-clause-known c =
     let calm : first_late c.len.result c.args.self.faces.items c.args.self.lines.items ≡ None =
     rw (← c.deref.ensures.value, ← c.deref-2.ensures.value) (sym c.late_line.ensures ∙ c.in_default.is) in
-    none_late _ _ _ c.requires.lines c.requires.positive
+    none_late _ _ _ c.args.self.fits.sizes c.args.self.fits.positive
     (subst (λ (n : ℕ). first_late n c.args.self.faces.items c.args.self.lines.items ≡ None) (c.len.ensures
     ∙ c.args.self.positions.ok.0) calm)
