@@ -26,12 +26,11 @@ FirstBefore faces v fan i (Some p) = IsTwice faces p.earlier p.later × NoneTwic
 -- The first i darts of the fan of v have been taken.
 pub record AreMarkedBefore (faces : Faces) (v : ℕ) (fan : List ℕ) (i : ℕ) (by_end : List ℕ)
     (twice : Option Doubled) : Type 0 where
-  pub darts : AreDarts faces by_end
   pub marks : (t : ℕ) → t < i → IsMark faces v by_end (get_or fan t 0)
   pub first : FirstBefore faces v fan i twice
 
 -- Dart d stands at its end, or a lesser dart that runs as it does: the table where d had none.
-put_darts : (faces : Faces) (old : List ℕ) (at d : ℕ) → AreDarts faces old → d < darts faces
+pub put_darts : (faces : Faces) (old : List ℕ) (at d : ℕ) → AreDarts faces old → d < darts faces
     → AreDarts faces (set old at d)
 put_darts faces old at d all low u p = elim (cases_eq u at) [
   | inl s ↦ elim (cases_lt at (length old)) [
@@ -109,8 +108,7 @@ found_first faces v fan h i m d l e low runs None none = (
   where
     nothing : NoneTwice faces v d
     nothing j k less below start same =
-        let p : (r : ℕ) × (r < i) × (get_or fan r 0 ≡ k) =
-        earlier_place faces v fan h i k l (omega (arith, e)) (sym same.0 ∙ start) in
+        let p = earlier_place faces v fan h i k l (omega (arith, e)) (sym same.0 ∙ start) in
         none j p.0 p.1 (omega (arith, p.2)) start (rw p.2 same)
 
 -- One dart more of the fan.
@@ -120,12 +118,10 @@ pub mark_more : {faces : Faces} {v i : ℕ} {fan old : List ℕ} {twice : Option
     → MarksOne faces v (get_or fan i 0) old new found
     → AreMarkedBefore faces v fan (i + 1) new (option_or twice found)
 mark_more {faces} {v} {i} {fan} {old} {twice} new None h l low b m = rw m.0 (record {
-  darts = put_darts faces old _ _ b.darts (h.dart i l);
   marks = put_marks h old l b.marks m.1 low;
   first = put_first faces v fan i (put_none h old l b.marks m.1) twice b.first;
 })
 mark_more {faces} {v} {i} {fan} {old} {twice} new (Some q) h l low b m = rw m.0 (record {
-  darts = b.darts;
   marks = kept_marks faces v fan old i q.earlier b.marks m.1 m.3 m.4;
   first = found_first faces v fan h i q.earlier q.later l m.2 m.3 m.4 twice b.first;
 })
@@ -175,8 +171,7 @@ pub paired_all : (faces : Faces) (v : ℕ) (fan : List ℕ) → IsFan faces v fa
     → length fan ≤ i → ArePairedBefore faces v fan i old now → (e : ℕ) → e < darts faces → to_of faces e ≡ v
     → IsPartner faces e (get_or now e 0)
 paired_all faces v fan h i old now l b e low ends =
-    let p : (t : ℕ) × (t < length fan) × (get_or fan t 0 ≡ next_of e) =
-    h.place (next_of e) (next_of_low faces e low) ends in
+    let p = h.place (next_of e) (next_of_low faces e low) ends in
     rw (← prev_of-next_of e, ← p.2) (b.each p.0 (omega (arith, p.1)))
 
 -- Fewer darts, fewer that follow another.

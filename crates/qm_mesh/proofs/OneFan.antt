@@ -64,8 +64,7 @@ module _ {faces : Faces} {twins : List ℕ} (p : ArePartners faces twins) where
   turns_chain d e zero l t = (0, t)
   turns_chain d e (suc n) l t =
       let c : (k : ℕ) × Chain faces d t.0 k = turns_chain d t.0 n l t.1 in
-      let s : Step faces t.2.0 t.0 e × (e < darts faces) =
-      beside_found t.2.0 t.0 e (chain_low faces d t.0 c.0 l c.1) t.2.1 in
+      let s = beside_found t.2.0 t.0 e (chain_low faces d t.0 c.0 l c.1) t.2.1 in
       (suc c.0, (t.0, c.1, s.1, step_vertex faces t.2.0 t.0 e s.0, step_neighbour faces t.2.0 t.0 e s.0))
 
 -- The vertices before v have one fan each, and only their corners are marked.
@@ -171,8 +170,7 @@ module _ {faces : Faces} {twins : List ℕ} {v : ℕ} {fan : List ℕ} {old new 
       by_mark d l s (inl o) = omega (arith, c.marks d l o)
       by_mark d l s (inr o) =
           let t : (n : ℕ) × Reaches twins (get_or fan 0 0) d n = w.visit.reached d s o in
-          let k : (n : ℕ) × Chain faces (get_or fan 0 0) d n =
-          turns_chain w.partners (get_or fan 0 0) d t.0 w.first_low t.1 in
+          let k = turns_chain w.partners (get_or fan 0 0) d t.0 w.first_low t.1 in
           omega (arith, chain_vertex faces (get_or fan 0 0) d k.0 k.1, w.first_at)
 
       each : (d : ℕ) → d < darts faces → from_of faces d ≡ v → IsSeen new d

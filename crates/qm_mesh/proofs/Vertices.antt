@@ -44,8 +44,7 @@ corners_from faces four n used v l = by_face (Any-from_list_any (λ face. list_a
         let four_long : length (get_or faces f []) ≡ 4 = four f low in
         let e : from_of faces (4 * f + i) ≡ v = ap (λ g. corner faces g ((4 * f + i) % 4)) (omega arith) ∙ ap
         (corner faces f) (omega arith) ∙ get_or_default (get_or faces f []) i 0 u (omega arith) ∙ is ∙ eqb-true u v t in
-        let p : (t : ℕ) × (t < length (fan_of faces v)) × (get_or (fan_of faces v) t 0 ≡ 4 * f + i) =
-        (is_fan faces v (fan_of faces v) refl).place (4 * f + i) (omega arith) e in
+        let p = (is_fan faces v (fan_of faces v) refl).place (4 * f + i) (omega arith) e in
         omega (arith, p.1)
 
     by_face : Any (λ face. list_any (λ u. eqb u v) face ≡ true) faces → 0 < faces_at faces v

@@ -55,10 +55,8 @@ MarksOne faces v d old new (Some p) = (new ≡ old) × (p.earlier ≡ slice_inde
     × (p.earlier < d) × Runs faces p.earlier v (to_of faces d)
 
 -- The tables when all vertices below v have been taken.
-pub record IsPairing (faces : Faces) (vertices v : ℕ) (by_end twins : List ℕ) (twice : Option Doubled) : Type 0 where
-  pub ends : length by_end ≡ vertices
+pub record IsPairing (faces : Faces) (v : ℕ) (twins : List ℕ) (twice : Option Doubled) : Type 0 where
   pub long : length twins ≡ darts faces
-  pub marks : AreDarts faces by_end
   pub each : (e : ℕ) → e < darts faces → to_of faces e < v → IsPartner faces e (slice_index twins e)
   pub first : IsFirstBelow faces v twice
 

@@ -4,7 +4,7 @@ use Rattle.smallvec.specs.SmallVec.{SmallVec}
 use Rattle.std.specs.List.{range_with_len}
 use Rattle.def_mesh.specs.Faces.{Faces}
 use Rattle.def_mesh.specs.Darts.{darts, from_of}
-use Rattle.def_mesh.specs.Vertices.{fan_of, faces_at, vertex_count}
+use Rattle.def_mesh.specs.Vertices.{fan_of, faces_at, vertex_count, UsesEach}
 use Rattle.def_mesh.specs.Manifold.{IsRepeatFree, HasEdgesOnce}
 use Rattle.def_mesh.specs.declared.TheConstants.{MAX_FACES}
 use Rattle.def_mesh.specs.Meshes.{IsMesh}
@@ -25,6 +25,15 @@ NamesBelow n faces = (d : ℕ) → d < darts faces → from_of faces d < n
 -- Each vertex below n has a corner.
 abbrev pub HasCorners : (n : ℕ) (faces : Faces) → Type 0
 HasCorners n faces = (v : ℕ) → v < n → 0 < faces_at faces v
+
+-- Few faces with four corners each, over the vertices below n, each of which has a corner.
+pub record AreQuads (n : ℕ) (faces : Faces) : Type 0 where
+  pub small : n < 2 ^ 32
+  pub few : length faces ≤ MAX_FACES
+  pub four : (f : ℕ) → f < length faces → length (slice_index_or faces f []) ≡ 4
+  pub within : NamesBelow n faces
+  pub used : UsesEach n faces
+  pub corners : HasCorners n faces
 
 -- The fans of the n vertices hold the first k darts.
 pub record HoldDarts (faces : Faces) (n k : ℕ) (fans : List (SmallVec ℕ)) : Type 0 where

@@ -1,10 +1,10 @@
 //! The darts that leave each vertex, in increasing order.
 
-ghost use Rattle.std.specs.Prelude.{◌≡◌, ◌≤◌, ◌<◌, [], ◌∷◌, ◌++◌, length, OnOk, IfOk, replicate, slice_set};
-ghost use Rattle.qm_mesh.specs.Tables.{fan_lists, fan_at, AreFans, NamesBelow};
+ghost use Rattle.std.specs.Prelude.{◌≡◌, ◌<◌, [], ◌∷◌, ◌++◌, length, OnOk, IfOk, replicate, slice_set};
+ghost use Rattle.qm_mesh.specs.Tables.{fan_lists, fan_at, AreFans};
 
 use crate::darts::from;
-use def_mesh::MAX_FACES;
+use crate::quads::Quads;
 use smallvec::SmallVec;
 use std::alloc::{AllocError, Global};
 
@@ -12,18 +12,12 @@ use std::alloc::{AllocError, Global};
 pub(crate) type Fan = SmallVec<u32, 4>;
 
 /// The fans of all vertices. Linear in darts and vertices.
-pub(crate) fn gather(
-    alloc: Global,
-    vertices: u32,
-    faces: &[[u32; 4]],
-) -> Result<Vec<Fan>, AllocError>
-    requires few { length faces.now ≤ MAX_FACES }
-    requires within { NamesBelow vertices faces.now }
-    ensures { IfOk result (λ fans. AreFans faces.now vertices fans.items) }
+pub(crate) fn gather(alloc: Global, quads: &Quads) -> Result<Vec<Fan>, AllocError>
+    ensures { IfOk result (λ fans. AreFans quads.now.faces.now quads.now.vertices fans.items) }
 {
-    let mut fans = empty(alloc, vertices)?;
-    for d in 0..4 * faces.len() as u32 {
-        add(&mut fans, from(faces, d), d)?;
+    let mut fans = empty(alloc, quads.vertices)?;
+    for d in 0..4 * quads.faces.len() as u32 {
+        add(&mut fans, from(quads.faces, d), d)?;
     }
     Ok(fans)
 }

@@ -8,6 +8,7 @@ mod fans;
 mod manifold;
 mod mesh;
 mod one_fan;
+mod quads;
 mod repeats;
 mod table;
 mod twins;

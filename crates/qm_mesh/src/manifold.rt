@@ -11,6 +11,7 @@ use crate::fail::MeshFail;
 use crate::fans::gather;
 use crate::mesh::Mesh;
 use crate::one_fan::check_fans;
+use crate::quads::Quads;
 use crate::repeats::check_repeats;
 use crate::twins::pair;
 use def_mesh::MAX_FACES;
@@ -26,22 +27,19 @@ pub fn build(alloc: Global, vertices: u32, faces: &[[u32; 4]]) -> Result<Mesh, M
     ensures place { (p : Place) → IsErrOf result (MeshFail.NotManifold p) → IsFirstFault faces.now p }
     ensures no_manifold { IfErr result (λ e. e ≢ MeshFail.Memory → ¬ IsManifold faces.now) }
 {
-    checked_mesh(alloc, vertices, faces)
+    checked_mesh(alloc, &Quads { vertices, faces })
 }
 
 /// The same, with the reason of each refusal.
-fn checked_mesh(alloc: Global, vertices: u32, faces: &[[u32; 4]]) -> Result<Mesh, MeshFail>
-    requires few { length faces.now ≤ MAX_FACES }
-    requires within { IsTrue (names_below vertices faces.now) }
-    requires used { UsesEach vertices faces.now }
-    ensures mesh { IfOk result (λ m. m ≡ faces.now) }
-    ensures manifold { OnOk result (IsManifold faces.now) }
-    ensures refusal { IfErr result (IsRefusal faces.now) }
+fn checked_mesh(alloc: Global, quads: &Quads) -> Result<Mesh, MeshFail>
+    ensures mesh { IfOk result (λ m. m ≡ quads.now.faces.now) }
+    ensures manifold { OnOk result (IsManifold quads.now.faces.now) }
+    ensures refusal { IfErr result (IsRefusal quads.now.faces.now) }
 {
-    check_repeats(faces)?;
-    let fans = gather(alloc, vertices, faces)?;
-    let twins = pair(alloc, vertices, faces, &fans)?;
-    check_fans(alloc, faces, &fans, &twins)?;
-    let mesh = Mesh::from_tables(alloc, faces, twins, fans)?;
+    check_repeats(quads)?;
+    let fans = gather(alloc, quads)?;
+    let twins = pair(alloc, quads, &fans)?;
+    check_fans(alloc, quads.faces, &fans, &twins)?;
+    let mesh = Mesh::from_tables(alloc, quads.faces, twins, fans)?;
     Ok(mesh)
 }

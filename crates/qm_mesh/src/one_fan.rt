@@ -6,7 +6,6 @@ ghost use Rattle.std.specs.Prelude.{
   ℕ,
   length,
   false,
-  replicate,
   OnOk,
   IfErr,
   MatchOption,
@@ -14,9 +13,7 @@ ghost use Rattle.std.specs.Prelude.{
   IfSome,
 };
 ghost use Rattle.std.specs.Prelude.{slice_index, slice_index_or};
-ghost use Rattle.def_mesh.specs.Darts.{darts};
 ghost use Rattle.def_mesh.specs.Manifold.{HasOneFan};
-ghost use Rattle.def_mesh.specs.Faults.{IsFirstFault};
 ghost use Rattle.qm_mesh.specs.Refusals.{IsRefusal};
 ghost use Rattle.qm_mesh.specs.Tables.{HasTables};
 ghost use Rattle.qm_mesh.specs.Turns.{
@@ -48,57 +45,14 @@ pub(crate) fn check_fans(
     ensures ok { OnOk result ((v : ℕ) → HasOneFan faces.now v) }
     ensures err { IfErr result (IsRefusal faces.now) }
 {
-    let mut seen = vec![in alloc; false; 4 * faces.len()]?;
-    check_each(faces, fans, twins, &mut seen)?;
-    Ok(())
-}
-
-/// The same, with no corner marked at first.
-fn check_each(
-    faces: &[[u32; 4]],
-    fans: &[Fan],
-    twins: &[u32],
-    seen: &mut [bool],
-) -> Result<(), Place>
-    requires tables { HasTables faces.now fans.now twins.now }
-    requires unseen { seen.old ≡ replicate (darts faces.now) false }
-    ensures ok { OnOk result ((v : ℕ) → HasOneFan faces.now v) }
-    ensures err { IfErr result (IsFirstFault faces.now) }
-{
+    let seen = vec![in alloc; false; 4 * faces.len()]?;
+    let mut corners = Corners { twins, seen };
     for (v, fan) in fans.iter().enumerate() {
-        if !is_one_fan(twins, fan.as_slice(), seen) {
-            return Err(Place::TwoFans { vertex: v as u32 });
+        if !corners.is_one_fan(fan.as_slice()) {
+            return Err(MeshFail::NotManifold(Place::TwoFans { vertex: v as u32 }));
         }
     }
     Ok(())
-}
-
-/// Marks the corners that turns from the first of the fan reach, and tells whether these are all.
-fn is_one_fan(twins: &[u32], fan: &[u32], seen: &mut [bool]) -> bool
-    requires places { ArePlaces twins.now }
-    requires long { length seen.old ≡ length twins.now }
-    requires used { 0 < length fan.now }
-    requires darts { (t : ℕ) → t < length fan.now → slice_index fan.now t < length twins.now }
-    requires unseen { slice_index_or seen.old (slice_index fan.now 0) false ≡ false }
-    ensures visit { IsVisit twins.now (slice_index fan.now 0) seen.old seen.new }
-    ensures all { MatchBool result (AreSeen seen.new fan.now) (HasUnseen seen.new fan.now) }
-{
-    let first = fan[0];
-    turn_both_ways(twins, first, seen);
-    are_seen(fan, seen)
-}
-
-/// Marks the corners that turns from the first reach, to both sides.
-fn turn_both_ways(twins: &[u32], first: u32, seen: &mut [bool])
-    requires places { ArePlaces twins.now }
-    requires long { length seen.old ≡ length twins.now }
-    requires dart { first < length twins.now }
-    requires unseen { slice_index_or seen.old first false ≡ false }
-    ensures { IsVisit twins.now first seen.old seen.new }
-{
-    seen[first as usize] = true;
-    turn(twins, true, first, seen);
-    turn(twins, false, first, seen);
 }
 
 /// Whether all these corners are marked.
@@ -114,47 +68,81 @@ fn are_seen(fan: &[u32], seen: &[bool]) -> bool
     true
 }
 
-/// Walks from the corner at start, always to one side, until it meets a mark or the boundary.
-fn turn(twins: &[u32], left: bool, start: u32, seen: &mut [bool])
-    requires places { ArePlaces twins.now }
-    requires long { length seen.old ≡ length twins.now }
-    requires dart { start < length twins.now }
-    requires started { IsSeen seen.old start }
-    ensures { IsWalk left twins.now start seen.old seen.new }
-{
-    let mut at = start;
-    while let Some(next) = unseen_beside(twins, left, at, seen) {
-        seen[next as usize] = true;
-        at = next;
-    }
+/// The corners that were met, in turning by the table of partners.
+#[derive(Drop)]
+struct Corners<'a> {
+    twins: &'a [u32],
+    seen: Vec<bool>,
+    ghost places: { ArePlaces twins.now },
+    ghost long: { length seen.items ≡ length twins.now },
 }
 
-/// The corner beside that at `at`, unless it is marked.
-fn unseen_beside(twins: &[u32], left: bool, at: u32, seen: &[bool]) -> Option<u32>
-    requires places { ArePlaces twins.now }
-    requires long { length seen.now ≡ length twins.now }
-    requires dart { at < length twins.now }
-    ensures { MatchOption result (IsClosed left twins.now seen.now at) (IsUnseen left twins.now seen.now at) }
-{
-    let found = beside(twins, left, at)?;
-    if seen[found as usize] {
-        None
-    } else {
-        Some(found)
+impl Corners<'_> {
+    /// Marks the corners that turns from the first of the fan reach, and tells whether these are all.
+    fn is_one_fan(&mut self, fan: &[u32]) -> bool
+        requires used { 0 < length fan.now }
+        requires darts { (t : ℕ) → t < length fan.now → slice_index fan.now t < length self.old.twins.now }
+        requires unseen { slice_index_or self.old.seen.items (slice_index fan.now 0) false ≡ false }
+        ensures same { self.new.twins.now ≡ self.old.twins.now }
+        ensures visit { IsVisit self.old.twins.now (slice_index fan.now 0) self.old.seen.items self.new.seen.items }
+        ensures all { MatchBool result (AreSeen self.new.seen.items fan.now) (HasUnseen self.new.seen.items fan.now) }
+    {
+        let first = fan[0];
+        self.turn_both_ways(first);
+        are_seen(fan, &self.seen)
     }
-}
 
-/// The corner beside that at d round their vertex, to the left or to the right.
-fn beside(twins: &[u32], left: bool, d: u32) -> Option<u32>
-    requires places { ArePlaces twins.now }
-    requires dart { d < length twins.now }
-    ensures value { result ≡ beside_of left twins.now d }
-    ensures low { IfSome result (λ e. e < length twins.now) }
-{
-    let edge = if left { prev(d) } else { d };
-    let twin = twins[edge as usize];
-    if twin == edge {
-        return None;
+    /// Marks the corners that turns from the first reach, to both sides.
+    fn turn_both_ways(&mut self, first: u32)
+        requires dart { first < length self.old.twins.now }
+        requires unseen { slice_index_or self.old.seen.items first false ≡ false }
+        ensures same { self.new.twins.now ≡ self.old.twins.now }
+        ensures visit { IsVisit self.old.twins.now first self.old.seen.items self.new.seen.items }
+    {
+        self.seen[first as usize] = true;
+        self.turn(true, first);
+        self.turn(false, first);
     }
-    Some(if left { twin } else { next(twin) })
+
+    /// Walks from the corner at start, always to one side, until it meets a mark or the boundary.
+    fn turn(&mut self, left: bool, start: u32)
+        requires dart { start < length self.old.twins.now }
+        requires started { IsSeen self.old.seen.items start }
+        ensures same { self.new.twins.now ≡ self.old.twins.now }
+        ensures walk { IsWalk left self.old.twins.now start self.old.seen.items self.new.seen.items }
+    {
+        let mut at = start;
+        while let Some(next) = self.unseen_beside(left, at) {
+            self.seen[next as usize] = true;
+            at = next;
+        }
+    }
+
+    /// The corner beside that at `at`, unless it is marked.
+    fn unseen_beside(&self, left: bool, at: u32) -> Option<u32>
+        requires { at < length self.now.twins.now }
+        ensures { MatchOption result (IsClosed left self.now.twins.now self.now.seen.items at)
+            (IsUnseen left self.now.twins.now self.now.seen.items at) }
+    {
+        let found = self.beside(left, at)?;
+        if self.seen[found as usize] {
+            None
+        } else {
+            Some(found)
+        }
+    }
+
+    /// The corner beside that at d round their vertex, to the left or to the right.
+    fn beside(&self, left: bool, d: u32) -> Option<u32>
+        requires { d < length self.now.twins.now }
+        ensures value { result ≡ beside_of left self.now.twins.now d }
+        ensures low { IfSome result (λ e. e < length self.now.twins.now) }
+    {
+        let edge = if left { prev(d) } else { d };
+        let twin = self.twins[edge as usize];
+        if twin == edge {
+            return None;
+        }
+        Some(if left { twin } else { next(twin) })
+    }
 }

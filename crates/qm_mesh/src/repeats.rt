@@ -1,10 +1,11 @@
 //! The first face that names a vertex twice.
 
-ghost use Rattle.std.specs.Prelude.{◌≡◌, ◌≤◌, length, OnOk, IfErr};
+ghost use Rattle.std.specs.Prelude.{◌≡◌, OnOk, IfErr};
 ghost use Rattle.def_mesh.specs.Manifold.{IsRepeatFree};
 ghost use Rattle.def_mesh.specs.Faults.{repeat_in, IsFirstFault};
 
-use def_mesh::{MAX_FACES, Place};
+use crate::quads::Quads;
+use def_mesh::Place;
 
 /// The vertex of the first corner whose vertex stands at an earlier corner too.
 fn repeated_vertex(face: &[u32; 4]) -> Option<u32>
@@ -23,12 +24,11 @@ fn repeated_vertex(face: &[u32; 4]) -> Option<u32>
 }
 
 /// Refuses the first face that names a vertex twice.
-pub(crate) fn check_repeats(faces: &[[u32; 4]]) -> Result<(), Place>
-    requires few { length faces.now ≤ MAX_FACES }
-    ensures ok { OnOk result (IsRepeatFree faces.now) }
-    ensures err { IfErr result (IsFirstFault faces.now) }
+pub(crate) fn check_repeats(quads: &Quads) -> Result<(), Place>
+    ensures ok { OnOk result (IsRepeatFree quads.now.faces.now) }
+    ensures err { IfErr result (IsFirstFault quads.now.faces.now) }
 {
-    for (f, face) in faces.iter().enumerate() {
+    for (f, face) in quads.faces.iter().enumerate() {
         if let Some(vertex) = repeated_vertex(face) {
             return Err(Place::Repeated {
                 face: f as u32,

@@ -3,4 +3,4 @@ use Rattle.qm_mesh.proofs.fans.gather.Given as goal
 
 -- The fans hold the darts before d.
 abbrev pub invariant-loop-d : goal.invariant-loop-d
-invariant-loop-d l = HoldDarts l.faces l.vertices l.d l.fans.items
+invariant-loop-d l = HoldDarts l.quads.faces.now l.quads.vertices l.d l.fans.items

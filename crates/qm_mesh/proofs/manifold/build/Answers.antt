@@ -1,4 +1,5 @@
-use Rattle.qm_mesh.proofs.Fails.{refused_result, refused_place}
+use Rattle.std.proofs.Common.{arith}
+use Rattle.qm_mesh.proofs.{Fails.refused_result, Fails.refused_place, Vertices.below_from, Vertices.corners_from}
 use Rattle.qm_mesh.proofs.manifold.build.Goals as goal
 
 pub returns-clause-no_manifold : goal.returns-clause-no_manifold
@@ -6,3 +7,15 @@ returns-clause-no_manifold c = refused_result c.args.faces.now c.told-faces _ c.
 
 pub returns-clause-place : goal.returns-clause-place
 returns-clause-place c p e = refused_place c.args.faces.now p _ c.checked_mesh.ensures.refusal e
+
+pub invariant_of-checked_mesh : goal.invariant_of-checked_mesh
+invariant_of-checked_mesh c = record {
+  are = record {
+    small = omega (arith, c.ranges.vertices.fits);
+    few = c.requires.few;
+    four = c.told-faces;
+    within = below_from c.args.faces.now c.told-faces c.args.vertices c.requires.within;
+    used = c.requires.used;
+    corners = corners_from c.args.faces.now c.told-faces c.args.vertices c.requires.used;
+  };
+}

@@ -4,4 +4,4 @@ use Rattle.qm_mesh.proofs.repeats.check_repeats.Given as goal
 
 -- No earlier face names a vertex twice.
 abbrev pub invariant-loop-f : goal.invariant-loop-f
-invariant-loop-f l = (g : ℕ) → g < l.f → repeat_in (get_or l.faces g []) ≡ None
+invariant-loop-f l = (g : ℕ) → g < l.f → repeat_in (get_or l.quads.faces.now g []) ≡ None

@@ -10,17 +10,20 @@ come_back n new old e = rw (← e) (take-append_seam new _)
 
 pub edge_twice-requires-clause-first : goal.edge_twice-requires-clause-first
 edge_twice-requires-clause-first c =
+    let quads = c.args.quads.now in
     let f = rw c.in-Some.is at c.pair_all-twice.ensures.first in
-    first_twice_from c.args.faces.now c.args.vertices _ _ c.requires.within f.0 (λ u l. f.1 u (omega arith))
+    first_twice_from quads.faces.now quads.vertices _ _ quads.are.within f.0 (λ u l. f.1 u (omega arith))
 
 pub returns-clause-ok : goal.returns-clause-ok
 returns-clause-ok c =
+    let quads = c.args.quads.now in
     let a = c.pair_all-twice.ensures in
-    subst (λ twins. ArePartners c.args.faces.now twins)
+    subst (λ twins. ArePartners quads.faces.now twins)
     (sym (come_back _ c.pair_all-twice.new.twins _ (omega (arith, a.long))))
-    (record { long = a.long; each = λ e l. a.each e l (end_low c.args.faces.now _ _ c.requires.within l) })
+    (record { long = a.long; each = λ e l. a.each e l (end_low quads.faces.now _ _ quads.are.within l) })
 
 pub returns-clause-once : goal.returns-clause-once
 returns-clause-once c =
+    let quads = c.args.quads.now in
     let f = rw c.in-None.is at c.pair_all-twice.ensures.first in
-    edges_once_from c.args.faces.now c.args.vertices c.requires.within (λ u l. f u (omega arith))
+    edges_once_from quads.faces.now quads.vertices quads.are.within (λ u l. f u (omega arith))

@@ -3,18 +3,18 @@ use Rattle.def_mesh.specs.Vertices.{fan_of}
 use Rattle.qm_mesh.proofs.FanTables.{fan_found}
 use Rattle.qm_mesh.proofs.OneFan.{IsVisited, visited, not_seen, checked_more, two_fans_first, one_fan_all}
 use Rattle.mesh_laws.proofs.Fans.{IsFan, is_fan}
-use Rattle.qm_mesh.proofs.one_fan.check_each.Goals.{After-as_slice, After-is_one_fan}
-use Rattle.qm_mesh.proofs.one_fan.check_each.Goals as goal
+use Rattle.qm_mesh.proofs.one_fan.check_fans.Goals.{After-as_slice, After-is_one_fan}
+use Rattle.qm_mesh.proofs.one_fan.check_fans.Goals as goal
 
 -- The darts are those of the vertex, and there is one.
 are : (c : After-as_slice) → c.as_slice.result.now ≡ fan_of c.args.faces.now c.loop-v.v
-are c = c.as_slice.ensures ∙ fan_found _ _ _ _ _ c.requires.tables.each_fan c.loop-v-test.true c.index-fans-v.is
+are c = c.as_slice.ensures ∙ fan_found _ _ _ _ _ c.requires.each_fan c.loop-v-test.true c.index-fans-v.is
 
 fan : (c : After-as_slice) → IsFan c.args.faces.now c.loop-v.v c.as_slice.result.now
 fan c = is_fan _ _ _ (are c)
 
 used : (c : After-as_slice) → 0 < length c.as_slice.result.now
-used c = omega (arith, ap length (are c), c.requires.tables.used c.loop-v.v c.loop-v-test.true)
+used c = omega (arith, ap length (are c), c.requires.used c.loop-v.v c.loop-v-test.true)
 
 pub is_one_fan-requires-clause-used : goal.is_one_fan-requires-clause-used
 is_one_fan-requires-clause-used c = used (goal.at.is_one_fan-requires-clause-used c).After-as_slice
@@ -22,38 +22,41 @@ is_one_fan-requires-clause-used c = used (goal.at.is_one_fan-requires-clause-use
 pub is_one_fan-requires-clause-darts : goal.is_one_fan-requires-clause-darts
 is_one_fan-requires-clause-darts c t l =
     let h = fan (goal.at.is_one_fan-requires-clause-darts c).After-as_slice in
-    omega (arith, h.dart t l, c.requires.tables.partners.long)
+    omega (arith, h.dart t l, c.requires.partners.long, ap length c.loop-v.invariant.0)
 
 pub is_one_fan-requires-clause-unseen : goal.is_one_fan-requires-clause-unseen
 is_one_fan-requires-clause-unseen c =
     let at = (goal.at.is_one_fan-requires-clause-unseen c).After-as_slice in
-    not_seen _ _ _ c.loop-v.invariant _ ((fan at).dart 0 (used at)) ((fan at).leaves 0 (used at))
+    not_seen _ _ _ c.loop-v.invariant.1 _ ((fan at).dart 0 (used at)) ((fan at).leaves 0 (used at))
 
 -- What the turn around the vertex saw.
 visit : (c : After-is_one_fan) → IsFan c.args.faces.now c.loop-v.v c.as_slice.result.now
     → 0 < length c.as_slice.result.now → IsVisited c.args.faces.now c.args.twins.now c.loop-v.v
-    (get_or c.as_slice.result.now 0 0) c.loop-v.seen c.is_one_fan.new.seen
+    (get_or c.as_slice.result.now 0 0) c.loop-v.corners.seen.items c.is_one_fan.new.self.seen.items
 visit c h some =
-    let tables = c.requires.tables in
-    visited h some tables.partners tables.repeat_free tables.once
-    c.loop-v.invariant (omega (arith, c.is_one_fan.auto.seen, c.loop-v.invariant.long)) c.is_one_fan.ensures.visit
+    let same = c.is_one_fan.ensures.same ∙ c.loop-v.invariant.0 in
+    visited h some c.requires.partners c.requires.repeat_free c.requires.once c.loop-v.invariant.1
+    (omega (arith, c.is_one_fan.new.self.long, ap length same, c.requires.partners.long))
+    (rw c.loop-v.invariant.0 at c.is_one_fan.ensures.visit)
 
 pub returns-then-not-is_one_fan-clause-err : goal.returns-then-not-is_one_fan-clause-err
 returns-then-not-is_one_fan-clause-err c =
     let at = goal.at.returns-then-not-is_one_fan-clause-err c in
     let h = fan at.After-as_slice in (
-      c.requires.tables.repeat_free,
-      c.requires.tables.once,
-      two_fans_first h (visit at.After-is_one_fan h (used at.After-as_slice)) c.loop-v.invariant
+      c.requires.repeat_free,
+      c.requires.once,
+      two_fans_first h (visit at.After-is_one_fan h (used at.After-as_slice)) c.loop-v.invariant.1
           c.if-not-is_one_fan.ensures.all,
     )
 
 pub loop-v-preserved : goal.loop-v-preserved
 loop-v-preserved c =
     let at = goal.at.loop-v-preserved c in
-    let h = fan at.After-as_slice in
-    checked_more h (visit at.After-is_one_fan h (used at.After-as_slice)) c.loop-v.invariant
-    c.if-not-is_one_fan.ensures.all
+    let h = fan at.After-as_slice in (
+      c.is_one_fan.ensures.same ∙ c.loop-v.invariant.0,
+      checked_more h (visit at.After-is_one_fan h (used at.After-as_slice)) c.loop-v.invariant.1
+          c.if-not-is_one_fan.ensures.all,
+    )
 
 pub returns-clause-ok : goal.returns-clause-ok
-returns-clause-ok c = one_fan_all c.args.faces.now _ _ _ c.requires.tables.within c.loop-v-test.false c.loop-v.invariant
+returns-clause-ok c = one_fan_all c.args.faces.now _ _ _ c.requires.within c.loop-v-test.false c.loop-v.invariant.1

@@ -2,14 +2,14 @@ use Rattle.std.proofs.Common.{◌≡◌, ◌<◌, arith}
 use Rattle.def_mesh.specs.Darts.{darts, to_of}
 use Rattle.mesh_laws.proofs.{Darts.before_ends, Darts.before_low, Fans.is_fan}
 use Rattle.qm_mesh.proofs.Marks.{pair_more, paired_all}
-use Rattle.qm_mesh.proofs.twins.pair_at.Goals.{After-prev-e}
-use Rattle.qm_mesh.proofs.twins.pair_at.Goals as goal
+use Rattle.qm_mesh.proofs.twins.Ends.pair_at.Goals.{After-prev-e}
+use Rattle.qm_mesh.proofs.twins.Ends.pair_at.Goals as goal
 
 -- The dart before the corner is one, and arrives at the vertex.
-low : (c : After-prev-e) → c.prev-e.result < darts c.args.faces.now
+low : (c : After-prev-e) → c.prev-e.result < darts c.args.self.now.quads.faces.now
 low c = before_low _ _ _ c.prev-e.ensures ((is_fan _ _ _ c.requires.fan).dart c.loop-d.d-index c.loop-d-test.true)
 
-ends : (c : After-prev-e) → to_of c.args.faces.now c.prev-e.result ≡ c.args.v
+ends : (c : After-prev-e) → to_of c.args.self.now.quads.faces.now c.prev-e.result ≡ c.args.v
 ends c = before_ends _ _ _ _ c.prev-e.ensures ((is_fan _ _ _ c.requires.fan).leaves c.loop-d.d-index c.loop-d-test.true)
 
 pub partner-requires-clause-dart : goal.partner-requires-clause-dart
@@ -17,9 +17,6 @@ partner-requires-clause-dart c = low (goal.at.partner-requires-clause-dart c).Af
 
 pub partner-requires-clause-arrives : goal.partner-requires-clause-arrives
 partner-requires-clause-arrives c = ends (goal.at.partner-requires-clause-arrives c).After-prev-e
-
-pub partner-requires-clause-within : goal.partner-requires-clause-within
-partner-requires-clause-within c = c.requires.within _ (low (goal.at.partner-requires-clause-within c).After-prev-e)
 
 pub bounds-twins-e : goal.bounds-twins-e
 bounds-twins-e c = omega (arith, low (goal.at.bounds-twins-e c).After-prev-e, c.loop-d.auto.twins, c.requires.long)

@@ -1,6 +1,0 @@
-use Rattle.qm_mesh.proofs.OneFan.{AreChecked}
-use Rattle.qm_mesh.proofs.one_fan.check_each.Given as goal
-
--- The vertices before v have one fan each, and only their corners are marked.
-abbrev pub invariant-loop-v : goal.invariant-loop-v
-invariant-loop-v l = AreChecked l.faces l.v l.seen

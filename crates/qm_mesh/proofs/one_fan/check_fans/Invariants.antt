@@ -1,0 +1,7 @@
+use Rattle.std.proofs.Common.{◌≡◌}
+use Rattle.qm_mesh.proofs.OneFan.{AreChecked}
+use Rattle.qm_mesh.proofs.one_fan.check_fans.Given as goal
+
+-- The vertices before v have one fan each, and only their corners are marked.
+abbrev pub invariant-loop-v : goal.invariant-loop-v
+invariant-loop-v l = (l.corners.twins.now ≡ l.twins) × AreChecked l.faces l.v l.corners.seen.items
