@@ -19,7 +19,7 @@ use Rattle.qm_obj.specs.{Views.kept_at, Views.kept_of, declared.joiner.Joiner.Jo
 use Rattle.qm_obj.specs.declared.progress.Progress.{Progress}
 use Rattle.qm_obj.proofs.PrefixLemmas.{BeginsWith, bare_more, begins_behind, behind_held, behind_nothing}
 use Rattle.qm_obj.proofs.JoinLemmas.{length-with_space}
-use Rattle.qm_obj.proofs.KeptLemmas.{Follows, line_taken, stops_at}
+use Rattle.qm_obj.proofs.KeptLemmas.{line_taken, stops_at}
 use Rattle.qm_obj.proofs.TailLemmas.{FirstLine, count_append, count_none, first_line, lines_fed, lines_open}
 
 -- Whether bytes are empty, by their number.
@@ -43,20 +43,10 @@ pub record IsSound (kept : KeptText) : Type 0 where
 
 -- A joiner of lines and a reader of pieces keep it so.
 pub sound_of : (joiner : Joiner) → IsSound (kept_of joiner [])
-sound_of joiner = record {
-  fits = joiner.reader.fits;
-  bare = joiner.bare;
-  unended = refl;
-  held = omega (arith, joiner.short);
-}
+sound_of j = record { fits = j.reader.fits; bare = j.bare; unended = refl; held = omega (arith, j.short) }
 
 pub sound_at : (progress : Progress) → IsSound (kept_at progress)
-sound_at progress = record {
-  fits = progress.joiner.reader.fits;
-  bare = progress.joiner.bare;
-  unended = progress.unended;
-  held = progress.short;
-}
+sound_at p = record { fits = p.joiner.reader.fits; bare = p.joiner.bare; unended = p.unended; held = p.short }
 
 -- What a joiner keeps of a line that goes on, and a reader of pieces of one that has not ended.
 pub joined_more : (old line : Bytes) {joined : Bytes} → continues line ≡ true → joined ≡ old ++ with_space line
@@ -112,7 +102,7 @@ module _ {old : KeptText} (sound : IsSound old) where
         tail = [];
       }) line
   ended_line {one = one} none are took = record {
-    same = λ lines. rw (are lines, none) (line_taken one (logical_lines (old.next + 1) lines) sound.fits took).same;
+    same = λ lines. rw (are lines, none) (line_taken one sound.fits took (logical_lines (old.next + 1) lines));
     next = refl;
   }
 
@@ -133,10 +123,11 @@ last_line kept = line_as kept.begun (length kept.joined) kept.joined
 
 module _ {old : KeptText} (sound : IsSound old) (some : 0 < length old.joined) where
   pub last_same : {p : Positions} {c : Faces} {l : List ℕ}
-      → Follows old.positions p old.faces c old.lines l (last_line old) []
+      → Took old.positions p old.faces c old.lines l (next_said old.positions old.faces (last_line old))
       → soup_with_lines old [] ≡ soup_of (map (λ position. Position position) p ++ face_readings l c)
-  last_same {p} {c} {l} follows = rw (behind_nothing old some sound.bare)
-      (follows.same ∙ ap soup_of (append-nil (map (λ position. Position position) p ++ face_readings l c)))
+  last_same {p} {c} {l} took = rw (behind_nothing old some sound.bare)
+      (line_taken (last_line old) sound.fits took []
+      ∙ ap soup_of (append-nil (map (λ position. Position position) p ++ face_readings l c)))
 
   pub last_refused : {fail : ObjFail} → next_said old.positions old.faces (last_line old) ≡ Refused fail
       → soup_with_lines old [] ≡ Err fail

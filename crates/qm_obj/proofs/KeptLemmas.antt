@@ -170,16 +170,7 @@ record Grown (p p' : Positions) (c c' : Faces) (l' : List ℕ) (line : Logical) 
   faces_are : length c' ≡ length c + cond (is_face_line line) 1 0
   fits : Fits p' c' l'
 
--- One line more: what is kept with the lines behind it has the same soup.
-pub record Follows (p p' : Positions) (c c' : Faces) (l l' : List ℕ) (line : Logical) (rest : List Logical) : Type
-    0 where
-  pub fits : Fits p' c' l'
-  pub same : soup_of ((map (λ position. Position position) p ++ face_readings l c)
-      ++ readings_behind (length p) (length c) (line ∷ rest))
-      ≡ soup_of ((map (λ position. Position position) p' ++ face_readings l' c') ++ readings_behind (length p')
-      (length c') rest)
-
-module _ {p p' : Positions} {c c' : Faces} {l l' : List ℕ} (line : Logical) (rest : List Logical) (old : Fits p c l)
+module _ {p p' : Positions} {c c' : Faces} {l l' : List ℕ} (line : Logical) (old : Fits p c l)
     (took : Took p p' c c' l l' (next_said p c line)) where
   grown : Grown p p' c c' l' line
   grown =
@@ -207,19 +198,23 @@ module _ {p p' : Positions} {c c' : Faces} {l l' : List ℕ} (line : Logical) (r
         };
       }
 
-  pub line_taken : Follows p p' c c' l l' line rest
-  line_taken = record {
-    fits = grown.fits;
-    same =
-        let behind = readings_behind (length p') (length c') rest in
-        let counts : readings_behind (length p + cond (is_vertex_line line) 1 0)
-        (length c + cond (is_face_line line) 1 0) rest ≡ behind = rw (grown.vertices, grown.faces_are) refl in
-        kept_soup_is p c l (readings_behind (length p) (length c) (line ∷ rest)) old.sizes
-        ∙ ap (λ (said : List Reading). kept_soup p c l (reading (length p) (length c) line ∷ said)) counts
-        ∙ more_said (reading (length p) (length c) line) behind old.sizes took
-        (few_behind (length p') (length c') rest grown.fits.few_vertices)
-        ∙ sym (kept_soup_is p' c' l' behind grown.fits.sizes);
-  }
+  pub fits_more : Fits p' c' l'
+  fits_more = grown.fits
+
+  -- What is kept with the lines behind it has the same soup.
+  pub line_taken : (rest : List Logical) → soup_of ((map (λ position. Position position) p ++ face_readings l c)
+      ++ readings_behind (length p) (length c) (line ∷ rest))
+      ≡ soup_of ((map (λ position. Position position) p' ++ face_readings l' c')
+      ++ readings_behind (length p') (length c') rest)
+  line_taken rest =
+      let behind = readings_behind (length p') (length c') rest in
+      let counts : readings_behind (length p + cond (is_vertex_line line) 1 0)
+      (length c + cond (is_face_line line) 1 0) rest ≡ behind = rw (grown.vertices, grown.faces_are) refl in
+      kept_soup_is p c l (readings_behind (length p) (length c) (line ∷ rest)) old.sizes
+      ∙ ap (λ (said : List Reading). kept_soup p c l (reading (length p) (length c) line ∷ said)) counts
+      ∙ more_said (reading (length p) (length c) line) behind old.sizes took
+      (few_behind (length p') (length c') rest grown.fits.few_vertices)
+      ∙ sym (kept_soup_is p' c' l' behind grown.fits.sizes)
 
 -- A position that is put behind the others, or a face with its line, or neither.
 pub fits_position : {p p' : Positions} {c : Faces} {l : List ℕ} (line : Logical) {place : List ℤ} (t : Bool)
@@ -231,7 +226,7 @@ fits_position {p} {p'} {c} {l} line true old is kept =
       face = sym (append-nil c);
       line = sym (append-nil l);
     }) in
-    (line_taken line [] old took).fits
+    fits_more line old took
 fits_position line false old is kept = rw kept old
 
 pub fits_face : {p : Positions} {c c' : Faces} {l l' : List ℕ} (line : Logical) {n : ℕ} {corners : List ℕ} (t : Bool)
@@ -244,7 +239,7 @@ fits_face {p} {c} {c'} {l} {l'} line true old is kept numbered =
       face = kept;
       line = numbered;
     }) in
-    (line_taken line [] old took).fits
+    fits_more line old took
 fits_face line false old is kept numbered = rw (kept, numbered) old
 
 -- A line that is refused is the first one.

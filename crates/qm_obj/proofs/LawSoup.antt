@@ -1,6 +1,6 @@
 -- What the lines of a canonical text say, and the soup that they have.
 use Rattle.std.proofs.Common.{◌≡◌, ℕ, ℤ, pos, zero, suc, ◌+◌, ◌-◌, ◌^◌, ◌<◌, ◌≤◌, Bool, true, false, cond, not, ◌&&◌}
-use Rattle.std.proofs.Common.{List, [], ◌∷◌, ◌++◌, length, take, map, get_or, refl, sym, ap, ◌∙◌, arith, eqb, ltb}
+use Rattle.std.proofs.Common.{List, [], ◌∷◌, ◌++◌, length, map, get_or, refl, sym, ap, ◌∙◌, arith, eqb, ltb}
 use Rattle.std.proofs.{Common.add-one, Common.Ok, lemmas.Bool.not-true, lemmas.Bool.or_from, lemmas.List.take_all}
 use Rattle.std.proofs.lemmas.Bool.{and_from, and_parts, cond-false, eqb-true, le-ltb, ltb-false, ltb-true, ne_eqb}
 use Rattle.std.proofs.lemmas.List.{append-nil, append_assoc, get_or-map, get_or_default, length-map, same_lists}
@@ -121,8 +121,7 @@ position_said vertices faces n position few is =
     let back : PositionBack position = position_back position parts.1 in
     let right : (is_position_count (length (map micro_text position)) && list_all is_decimal (map micro_text position))
     ≡ true = and_from _ _ (ap is_position_count three) back.right in
-    let all : take 3 (map micro_text position) ≡ map micro_text position =
-    take_all 3 (map micro_text position) (omega arith) in
+    let all = take_all 3 (map micro_text position) (omega arith) in
     said_by_words vertices faces n (position_line_is position is)
     (ap (words_reading n vertices faces) (line_words 118 (map micro_text position) refl (position_words position is))
     ∙ vertex_rest n vertices (map micro_text position) few right ∙ rw (all, back.near, back.same) refl)
@@ -164,8 +163,7 @@ face_back vertices [] few all = record { corners = refl; inside = refl; same = r
 face_back vertices (v ∷ vs) few all =
     let parts : (ltb v vertices ≡ true) × (are_below vertices vs ≡ true) = and_parts _ _ all in
     let low : v < vertices = ltb-true _ _ parts.0 in
-    let first : NamesVertex vertices (vertex_word v) (v + 1) =
-    names_vertex vertices (v + 1) (omega arith) (omega arith) in
+    let first = names_vertex vertices (v + 1) (omega arith) (omega arith) in
     let again : FaceBack vertices vs = face_back vertices vs few parts.1 in
     record {
       corners = and_from _ _ first.form again.corners;
@@ -210,15 +208,13 @@ position_kind : (n : ℕ) (position : List ℤ) → is_position position ≡ tru
     → (is_vertex_line (plain_line n (position_line position)) ≡ true)
     × (is_face_line (plain_line n (position_line position)) ≡ false)
 position_kind n position is =
-    let ws : words (position_line position) ≡ (118 ∷ []) ∷ map micro_text position =
-    line_words 118 (map micro_text position) refl (position_words position is) in
+    let ws = line_words 118 (map micro_text position) refl (position_words position is) in
     (ap (begins_with 118) ws, ap (begins_with 102) ws)
 
 face_kind : (vertices n : ℕ) (face : List ℕ) → vertices ≤ 2 ^ 21 → are_below vertices face ≡ true
     → (is_vertex_line (plain_line n (face_line face)) ≡ false) × (is_face_line (plain_line n (face_line face)) ≡ true)
 face_kind vertices n face few all =
-    let ws : words (face_line face) ≡ (102 ∷ []) ∷ map vertex_word face =
-    line_words 102 (map vertex_word face) refl (face_words vertices face few all) in
+    let ws = line_words 102 (map vertex_word face) refl (face_words vertices face few all) in
     (ap (begins_with 118) ws, ap (begins_with 102) ws)
 
 -- What the lines of all positions say, and how many they are.
@@ -243,8 +239,7 @@ positions_are_said before n (p ∷ ps) all few =
     one_more is_vertex_line before line ∙ rw kind.0 refl in
     let f : count_by is_face_line (before ++ line ∷ []) ≡ count_by is_face_line before =
     one_more is_face_line before line ∙ rw kind.1 (omega arith) in
-    let again : PositionsSaid (before ++ line ∷ []) (n + 1) ps =
-    positions_are_said (before ++ line ∷ []) (n + 1) ps parts.1 (omega arith) in
+    let again = positions_are_said (before ++ line ∷ []) (n + 1) ps parts.1 (omega arith) in
     let same : before ++ line ∷ plain_lines (n + 1) (map position_line ps)
     ≡ (before ++ line ∷ []) ++ plain_lines (n + 1) (map position_line ps) =
     sym (append_assoc before (line ∷ []) (plain_lines (n + 1) (map position_line ps))) in
@@ -341,8 +336,7 @@ all_used_to s soup = record {
 
 positions_back : (ps : Positions) → map (position_of ps) (numbers_to (length ps)) ≡ ps
 positions_back ps =
-    let long : length (map (position_of ps) (numbers_to (length ps))) ≡ length ps =
-    length-map (numbers_to (length ps)) (position_of ps) ∙ length-numbers_to (length ps) in
+    let long = length-map (numbers_to (length ps)) (position_of ps) ∙ length-numbers_to (length ps) in
     same_lists (map (position_of ps) (numbers_to (length ps))) ps long (λ k d l.
     let there : k < length ps = omega arith in
     let e : k + 1 - 1 ≡ k = omega arith in
@@ -384,8 +378,7 @@ text_back s is =
     let fs = map face_line s.faces in
     let n = 1 + length ps in
     let named = map (λ f. map (λ v. v + 1) f) s.faces in
-    let logical : logical_lines 1 lines ≡ plain_lines 1 ps ++ plain_lines n fs =
-    logical_plain 1 lines each ∙ plain_append 1 ps fs in
+    let logical = logical_plain 1 lines each ∙ plain_append 1 ps fs in
     let prefix : PositionsSaid [] 1 s.pos = positions_are_said [] 1 s.pos is.positions (omega arith) in
     let behind : readings (plain_lines 1 ps) (plain_lines n fs) ≡ faces_from n s.faces =
     faces_said (length s.pos) (plain_lines 1 ps) n s.faces is.few_vertices (prefix.vertices ∙ omega arith) is.quads

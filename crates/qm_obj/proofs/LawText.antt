@@ -88,8 +88,7 @@ fraction_plain n small = by_zero (eqb n 0)
     long : length (without_zeros (six_digits n)) ≤ 20
     long =
         let kept = length (six_digits n) - suffix_len (λ digit. eqb digit 48) (six_digits n) in
-        let all : length (decimal (10 ^ 6 + n)) ≤ 20 =
-        length-decimal-le 20 (10 ^ 6 + n) (omega arith) (omega arith) (omega arith) in
+        let all = length-decimal-le 20 (10 ^ 6 + n) (omega arith) (omega arith) (omega arith) in
         omega (arith, length-take kept (six_digits n), length-drop 1 (decimal (10 ^ 6 + n)))
 
     by_zero : (t : Bool) → (list_all is_plain (cond t [] (46 ∷ without_zeros (six_digits n))) ≡ true)
@@ -100,8 +99,7 @@ fraction_plain n small = by_zero (eqb n 0)
 pub micro_word : (z : ℤ) → unsigned_abs z ≤ 999_999_999_999_999 → IsWord (micro_text z)
 micro_word z near =
     let whole : IsWord (decimal (unsigned_abs z / 10 ^ 6)) = decimal_word (unsigned_abs z / 10 ^ 6) (omega arith) in
-    let twenty : length (decimal (unsigned_abs z / 10 ^ 6)) ≤ 20 =
-    length-decimal-le 20 (unsigned_abs z / 10 ^ 6) (omega arith) (omega arith) (omega arith) in
+    let twenty = length-decimal-le 20 (unsigned_abs z / 10 ^ 6) (omega arith) (omega arith) (omega arith) in
     let behind : (list_all is_plain (fraction_text (unsigned_abs z % 10 ^ 6)) ≡ true)
     × (length (fraction_text (unsigned_abs z % 10 ^ 6)) ≤ 21) =
     fraction_plain (unsigned_abs z % 10 ^ 6) (omega arith) in
@@ -219,8 +217,7 @@ bare_line line inside =
     no_return : (line : List ℕ) → list_all is_inside line ≡ true → without_last 13 line ≡ line
     no_return [] inside = refl
     no_return (b ∷ bs) inside =
-        let there : is_inside (get_or (b ∷ bs) (length (b ∷ bs) - 1) 0) ≡ true =
-        passes_at is_inside (b ∷ bs) (length (b ∷ bs) - 1) 0 inside (omega arith) in
+        let there = passes_at is_inside (b ∷ bs) (length (b ∷ bs) - 1) 0 inside (omega arith) in
         let other : eqb (get_or (b ∷ bs) (length (b ∷ bs) - 1) 0) 13 ≡ false =
         not-true _ (and_parts (not (eqb (get_or (b ∷ bs) (length (b ∷ bs) - 1) 0) 10)) _ there).1 in
         rw other refl
@@ -261,8 +258,7 @@ no_comment line tame = take_all _ _ (whole line tame)
 pub no_continuation : (line : List ℕ) → list_all is_tame line ≡ true → continues line ≡ false
 no_continuation [] tame = refl
 no_continuation (b ∷ bs) tame =
-    let there : is_tame (get_or (b ∷ bs) (length (b ∷ bs) - 1) 0) ≡ true =
-    passes_at is_tame (b ∷ bs) (length (b ∷ bs) - 1) 0 tame (omega arith) in
+    let there = passes_at is_tame (b ∷ bs) (length (b ∷ bs) - 1) 0 tame (omega arith) in
     let other : eqb (get_or (b ∷ bs) (length (b ∷ bs) - 1) 0) 92 ≡ false =
     not-true _ (and_parts _ _ (and_parts _ _ there).1).1 in
     rw other refl
@@ -273,6 +269,5 @@ logical_plain number [] each = refl
 logical_plain number (l ∷ ls) each =
     let first : IsLine l = each 0 (omega arith) in
     let stays : continues l ≡ false = no_continuation l first.tame in
-    let again : logical_lines (number + 1) ls ≡ plain_lines (number + 1) ls =
-    logical_plain (number + 1) ls (λ k m. each (suc k) (omega arith)) in
+    let again = logical_plain (number + 1) ls (λ k m. each (suc k) (omega arith)) in
     logical_step number l ls ∙ rw stays (rw (no_comment l first.tame, again) refl)

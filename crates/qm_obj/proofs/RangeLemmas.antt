@@ -6,7 +6,7 @@ use Rattle.def_text.specs.{Logical.logical_lines, Text.soup_of, Text.text_soup, 
 use Rattle.def_text.specs.declared.reading.Reading.TheVariants.{Position, Refused}
 use Rattle.def_text.specs.Types.{Positions}
 use Rattle.qm_obj.proofs.Ranges.{next_lines, range_none, span_within}
-use Rattle.qm_obj.proofs.KeptLemmas.{Follows, line_taken, nothing_kept, stops_at}
+use Rattle.qm_obj.proofs.KeptLemmas.{line_taken, nothing_kept, stops_at}
 use Rattle.def_feed.specs.Kept.{face_readings, readings_behind}
 use Rattle.qm_obj.specs.{Ahead.span, Lines.Fits, Lines.Took, Lines.first_logical, Lines.next_said}
 use Rattle.def_mesh.specs.Faces.{Faces}
@@ -16,7 +16,6 @@ use Rattle.def_io.specs.Bytes.{Lines}
 -- it is that of the text.
 pub record IsAt (all : Lines) (first i after : ℕ) (p : Positions) (c : Faces) (l : List ℕ) : Type 0 where
   pub within : i ≤ after
-  pub fits : Fits p c l
   pub same : text_soup (first + 1) (slice_range all first after)
       ≡ soup_of ((map (λ position. Position position) p ++ face_readings l c)
       ++ readings_behind (length p) (length c) (logical_lines (i + 1) (slice_range all i after)))
@@ -24,38 +23,36 @@ pub record IsAt (all : Lines) (first i after : ℕ) (p : Positions) (c : Faces) 
 pub at_start : (all : Lines) (first after : ℕ) → first ≤ after → IsAt all first first after [] [] []
 at_start all first after order = record {
   within = order;
-  fits = record { few_vertices = omega arith; few_faces = omega arith; sizes = refl; positive = refl };
   same = sym (nothing_kept (logical_lines (first + 1) (slice_range all first after)));
 }
 
 module _ {all : Lines} {first i after : ℕ} {p : Positions} {c : Faces} {l : List ℕ} (at : IsAt all first i after p c l)
   where
     -- One logical line more.
-    pub at_next : {next : ℕ} {p' : Positions} {c' : Faces} {l' : List ℕ} → i < after → after ≤ length all
+    pub at_next : {next : ℕ} {p' : Positions} {c' : Faces} {l' : List ℕ} → Fits p c l → i < after
+        → after ≤ length all
         → next ≡ i + span (slice_range all i after)
         → Took p p' c c' l l' (next_said p c (first_logical (i + 1) (slice_range all i after)))
         → IsAt all first next after p' c' l'
-    at_next {next} {p'} {c'} {l'} lt within is took =
+    at_next {next} fits lt within is took =
         let line = first_logical (i + 1) (slice_range all i after) in
         let rest = logical_lines (next + 1) (slice_range all next after) in
         let lines : logical_lines (i + 1) (slice_range all i after) ≡ line ∷ rest =
         rw is (next_lines all i after lt within) in
-        let follows : Follows p p' c c' l l' line rest = line_taken line rest at.fits took in
         record {
           within = omega (arith, span_within all i after lt within);
-          fits = follows.fits;
-          same = at.same ∙ rw lines follows.same;
+          same = at.same ∙ rw lines (line_taken line fits took rest);
         }
 
     -- A logical line that is refused.
-    pub at_refused : {fail : ObjFail} → i < after → after ≤ length all
+    pub at_refused : {fail : ObjFail} → Fits p c l → i < after → after ≤ length all
         → next_said p c (first_logical (i + 1) (slice_range all i after)) ≡ Refused fail
         → text_soup (first + 1) (slice_range all first after) ≡ Err fail
-    at_refused lt within stops =
+    at_refused fits lt within stops =
         at.same ∙ rw (next_lines all i after lt within)
         (stops_at p c l (first_logical (i + 1) (slice_range all i after))
         (logical_lines (i + span (slice_range all i after) + 1)
-        (slice_range all (i + span (slice_range all i after)) after)) at.fits.sizes stops)
+        (slice_range all (i + span (slice_range all i after)) after)) fits.sizes stops)
 
     -- All lines are read.
     pub at_end : after ≤ i → text_soup (first + 1) (slice_range all first after)

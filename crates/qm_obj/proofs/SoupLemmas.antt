@@ -156,8 +156,7 @@ face_set_is_soup positions faces known = record {
   used = λ v l.
       let lt : v < length (used_to faces (length positions)) =
       rw (length-map (used_to faces (length positions)) (position_of positions)) at l in
-      let is : is_used faces (get_or (used_to faces (length positions)) v 0) ≡ true =
-      filter_passes (is_used faces) (numbers_to (length positions)) v 0 lt in
+      let is = filter_passes (is_used faces) (numbers_to (length positions)) v 0 lt in
       rw (rank_at faces (length positions) v lt) at
       (used_renumbered (line_vertex faces) (get_or (used_to faces (length positions)) v 0) faces is);
   named = sym (length-map (used_to faces (length positions)) (position_of positions));

@@ -36,8 +36,23 @@ pub fn logical(alloc: Global, lines: &Lines, i: u32, after: u32) -> Result<Logic
     ensures next { IfOk result (λ line.
         line.next ≡ i + length (first_group (slice_range (lines_of lines.now) i after))) }
 {
-    let Joined { bytes, next, .. } = join(alloc, lines, i, after)?;
+    let rest = Rest {
+        lines,
+        first: i,
+        after,
+    };
+    let Joined { bytes, next, .. } = join(alloc, &rest)?;
     Ok(Logical { bytes, next })
+}
+
+/// The physical lines from one up to but not including another.
+#[derive(Clone, Copy)]
+pub(crate) struct Rest<'a> {
+    pub(crate) lines: &'a Lines,
+    pub(crate) first: u32,
+    pub(crate) after: u32,
+    pub(crate) ghost some: { first < after },
+    pub(crate) ghost within: { after ≤ length (lines_of lines.now) },
 }
 
 /// A logical line, and the sum of its physical lines' lengths.
@@ -48,17 +63,18 @@ pub(crate) struct Joined {
     pub(crate) size: usize,
 }
 
-pub(crate) fn join(alloc: Global, lines: &Lines, i: u32, after: u32) -> Result<Joined, Memory>
-    requires begins { i < after }
-    requires within { after ≤ length (lines_of lines.now) }
-    ensures bytes { IfOk result (λ line. line.bytes.items ≡ text_ahead (slice_range (lines_of lines.now) i after)) }
-    ensures next { IfOk result (λ line. line.next ≡ i + span (slice_range (lines_of lines.now) i after)) }
-    ensures size { IfOk result (λ line. line.size ≡ size_ahead (slice_range (lines_of lines.now) i after)) }
+pub(crate) fn join(alloc: Global, rest: &Rest) -> Result<Joined, Memory>
+    ensures bytes { let ahead = slice_range (lines_of rest.now.lines.now) rest.now.first rest.now.after in
+        IfOk result (λ line. line.bytes.items ≡ text_ahead ahead) }
+    ensures next { let ahead = slice_range (lines_of rest.now.lines.now) rest.now.first rest.now.after in
+        IfOk result (λ line. line.next ≡ rest.now.first + span ahead) }
+    ensures size { let ahead = slice_range (lines_of rest.now.lines.now) rest.now.first rest.now.after in
+        IfOk result (λ line. line.size ≡ size_ahead ahead) }
 {
     let mut bytes = Vec::new(alloc);
-    let mut next = i;
-    while next < after {
-        let line = lines.line(next);
+    let mut next = rest.first;
+    while next < rest.after {
+        let line = rest.lines.line(next);
         next += 1;
         if !goes_on(line) {
             let size = bytes.len() + line.len();

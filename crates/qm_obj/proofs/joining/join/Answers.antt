@@ -7,10 +7,11 @@ use Rattle.qm_obj.proofs.joining.join.Goals.{After-goes_on}
 use Rattle.qm_obj.proofs.joining.join.Goals as goal
 
 -- The last line is read.
-last : (c : After-goes_on) → c.goes_on.result ≡ false → IsJoined (lines_of c.args.lines.now) c.args.i
-    (c.loop-next.next + 1) c.args.after (c.loop-next.bytes.items ++ before_first is_hash c.line-line.result.now)
+last : (c : After-goes_on) → c.goes_on.result ≡ false → let rest = c.args.rest.now in
+    IsJoined (lines_of rest.lines.now) rest.first (c.loop-next.next + 1) rest.after
+    (c.loop-next.bytes.items ++ before_first is_hash c.line-line.result.now)
     (length c.loop-next.bytes.items + length c.line-line.result.now)
-last c off = joined_last c.loop-next-test.true c.requires.within c.line-line.ensures c.loop-next.invariant
+last c off = joined_last c.loop-next-test.true c.args.rest.now.within c.line-line.ensures c.loop-next.invariant
     (sym c.goes_on.ensures ∙ off)
 
 pub returns-then-not-goes_on-clause-bytes : goal.returns-then-not-goes_on-clause-bytes
@@ -26,5 +27,5 @@ returns-then-not-goes_on-clause-size c = rw (c.len.ensures ∙ c.loop-next.bytes
     (last (goal.at.returns-then-not-goes_on-clause-size c).After-goes_on c.if-not-goes_on.true).bytes_are
 
 pub loop-next-preserved : goal.loop-next-preserved
-loop-next-preserved c = rw c.in_ok-push_spaced.ensures (joining_more c.loop-next-test.true c.requires.within
+loop-next-preserved c = rw c.in_ok-push_spaced.ensures (joining_more c.loop-next-test.true c.args.rest.now.within
     c.line-line.ensures c.loop-next.invariant (sym c.goes_on.ensures ∙ c.if-not-goes_on.false))

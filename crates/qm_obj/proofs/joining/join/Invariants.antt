@@ -4,7 +4,7 @@ use Rattle.qm_obj.proofs.JoinLemmas.{IsJoining}
 use Rattle.qm_obj.proofs.joining.join.Given as goal
 
 abbrev pub invariant-loop-next : goal.invariant-loop-next
-invariant-loop-next l = IsJoining (lines_of l.lines) l.i l.next l.after l.bytes.items
+invariant-loop-next l = IsJoining (lines_of l.rest.lines.now) l.rest.first l.next l.rest.after l.bytes.items
 
 abbrev pub decreases-loop-next : goal.decreases-loop-next
-decreases-loop-next l = l.after - l.next
+decreases-loop-next l = l.rest.after - l.next

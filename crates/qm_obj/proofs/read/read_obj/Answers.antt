@@ -11,19 +11,21 @@ loop-i-init c = rw (c.new-reader.ensures.positions, c.new-reader.ensures.faces, 
 pub returns-clause-soup : goal.returns-clause-soup
 returns-clause-soup c =
     rw (at_end c.loop-i.invariant c.loop-i-test.false)
-    (finished_soup c.loop-i.invariant.fits c.finish.result c.finish.ensures.soup)
+    (finished_soup c.loop-i.reader.fits c.finish.result c.finish.ensures.soup)
 
 pub returns-clause-few : goal.returns-clause-few
-returns-clause-few c = finished_few c.loop-i.invariant.fits c.finish.result c.finish.ensures.soup
+returns-clause-few c = finished_few c.loop-i.reader.fits c.finish.result c.finish.ensures.soup
 
 pub returns-clause-refused : goal.returns-clause-refused
 returns-clause-refused c = rw (at_end c.loop-i.invariant c.loop-i-test.false)
-    (finished_refused c.loop-i.invariant.fits c.finish.result c.finish.ensures.late)
+    (finished_refused c.loop-i.reader.fits c.finish.result c.finish.ensures.late)
 
 pub loop-i-preserved : goal.loop-i-preserved
 loop-i-preserved c =
-    at_next c.loop-i.invariant c.loop-i-test.true c.requires.within c.in_ok-i.ensures.next c.in_ok-i.ensures.kept
+    at_next c.loop-i.invariant c.loop-i.reader.fits c.loop-i-test.true c.requires.within
+    c.in_ok-i.ensures.next c.in_ok-i.ensures.kept
 
 pub returns-in_err-i-clause-refused : goal.returns-in_err-i-clause-refused
 returns-in_err-i-clause-refused c = handed _ _ _ c.from_residual.ensures.1 (λ other.
-    at_refused c.loop-i.invariant c.loop-i-test.true c.requires.within (c.in_err-i.ensures.refused other))
+    at_refused c.loop-i.invariant c.loop-i.reader.fits c.loop-i-test.true c.requires.within
+    (c.in_err-i.ensures.refused other))

@@ -9,19 +9,23 @@ use Rattle.qm_obj.proofs.read.take_joined.Goals as goal
 
 pub take-requires : goal.take-requires
 take-requires c =
+    let rest = c.args.rest.now in
     let joined = c.in_ok-joined.ensures in
     omega (
       arith,
       ap length c.deref.ensures.value,
       ap length joined.bytes,
       joined.size,
-      joined_short (slice_range (lines_of c.args.lines.now) c.args.i c.args.after),
+      joined_short (slice_range (lines_of rest.lines.now) rest.first rest.after),
     )
 
 -- The line that is read is the first logical one.
-same : (c : After-deref) → line_as (c.args.i + 1) c.in_ok-joined.joined.size c.deref.result.now
-    ≡ first_logical (c.args.i + 1) (slice_range (lines_of c.args.lines.now) c.args.i c.args.after)
-same c = joined_logical (slice_range (lines_of c.args.lines.now) c.args.i c.args.after) (c.args.i + 1)
+same : (c : After-deref) → let rest = c.args.rest.now in
+    line_as (rest.first + 1) c.in_ok-joined.joined.size c.deref.result.now
+    ≡ first_logical (rest.first + 1) (slice_range (lines_of rest.lines.now) rest.first rest.after)
+same c =
+    let rest = c.args.rest.now in
+    joined_logical (slice_range (lines_of rest.lines.now) rest.first rest.after) (rest.first + 1)
     c.in_ok-joined.ensures.size (c.deref.ensures.value ∙ c.in_ok-joined.ensures.bytes)
 
 pub returns-clause-kept : goal.returns-clause-kept

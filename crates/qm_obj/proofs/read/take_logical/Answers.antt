@@ -9,16 +9,18 @@ use Rattle.qm_obj.proofs.read.take_logical.Goals as goal
 
 pub returns-clause-next : goal.returns-clause-next
 returns-clause-next c =
-    ap (λ n. c.args.i + n) (single_span (lines_of c.args.lines.now) c.args.i c.args.after c.requires.begins
-    c.requires.within c.line-line.result.now c.line-line.ensures
-    (sym c.goes_on.ensures ∙ c.if-goes_on.false))
+    let rest = c.args.rest.now in
+    ap (λ n. rest.first + n) (single_span (lines_of rest.lines.now) rest.first rest.after rest.some rest.within
+    c.line-line.result.now c.line-line.ensures (sym c.goes_on.ensures ∙ c.if-goes_on.false))
 
 -- The line that is read is the first logical one.
-same : (c : After-goes_on) → c.goes_on.result ≡ false
-    → line_as (c.args.i + 1) (length c.line-line.result.now) c.line-line.result.now
-    ≡ first_logical (c.args.i + 1) (slice_range (lines_of c.args.lines.now) c.args.i c.args.after)
-same c off = single_logical (lines_of c.args.lines.now) c.args.i c.args.after c.requires.begins c.requires.within
-    c.line-line.result.now c.line-line.ensures (sym c.goes_on.ensures ∙ off)
+same : (c : After-goes_on) → c.goes_on.result ≡ false → let rest = c.args.rest.now in
+    line_as (rest.first + 1) (length c.line-line.result.now) c.line-line.result.now
+    ≡ first_logical (rest.first + 1) (slice_range (lines_of rest.lines.now) rest.first rest.after)
+same c off =
+    let rest = c.args.rest.now in
+    single_logical (lines_of rest.lines.now) rest.first rest.after rest.some rest.within c.line-line.result.now
+    c.line-line.ensures (sym c.goes_on.ensures ∙ off)
 
 pub returns-clause-kept : goal.returns-clause-kept
 returns-clause-kept c =
@@ -27,5 +29,4 @@ returns-clause-kept c =
 pub returns-in_err-take-clause-refused : goal.returns-in_err-take-clause-refused
 returns-in_err-take-clause-refused c = handed _ _ _ c.from_residual.ensures.1 (λ other.
     same_refused (same (goal.at.returns-in_err-take-clause-refused c).After-goes_on c.if-goes_on.false)
-    c.args.reader.now.positions.items
-    c.args.reader.now.faces.items (c.in_err-take.ensures.refused other))
+    c.args.reader.now.positions.items c.args.reader.now.faces.items (c.in_err-take.ensures.refused other))

@@ -1,9 +1,7 @@
 use Rattle.std.proofs.Common.{◌∙◌, []}
 use Rattle.error_laws.proofs.Errors.{handed}
 use Rattle.qm_obj.specs.Views.{kept_of}
-use Rattle.qm_obj.proofs.FeedLemmas.{is_nothing, is_something, last_line, last_refused, last_same, nothing_joined}
-use Rattle.qm_obj.proofs.{FeedLemmas.sound_of, KeptLemmas.Follows, KeptLemmas.line_taken}
-use Rattle.qm_obj.proofs.joiner.Joiner.read_rest.Goals.{After-clear}
+use Rattle.qm_obj.proofs.FeedLemmas.{is_nothing, is_something, last_refused, last_same, nothing_joined, sound_of}
 use Rattle.qm_obj.proofs.joiner.Joiner.read_rest.Goals as goal
 
 pub returns-then-is_empty-clause-same : goal.returns-then-is_empty-clause-same
@@ -17,14 +15,8 @@ returns-in_err-take-clause-refused c =
     last_refused (sound_of c.args.self.now) (is_something _ c.if-is_empty.ensures joined.ok.0)
     (rw (c.len.ensures ∙ joined.ok.0, c.deref.ensures.value) at (c.in_err-take.ensures.refused other)))
 
--- The line that was read, and what is kept behind it.
-read : (c : After-clear) → Follows c.args.self.now.reader.positions.items c.take.new.self.positions.items
-    c.args.self.now.reader.faces.items c.take.new.self.faces.items c.args.self.now.reader.lines.items
-    c.take.new.self.lines.items (last_line (kept_of c.args.self.now [])) []
-read c = line_taken (last_line (kept_of c.args.self.now [])) [] c.args.self.now.reader.fits
-    (rw (c.len.ensures ∙ c.args.self.now.joined.ok.0, c.deref.ensures.value) at c.in_ok-take.ensures.kept)
-
 pub returns-clause-same : goal.returns-clause-same
 returns-clause-same c =
-    last_same (sound_of c.args.self.now) (is_something _ c.if-is_empty.ensures c.args.self.now.joined.ok.0)
-    (read (goal.at.returns-clause-same c).After-clear)
+    let joined = c.args.self.now.joined in
+    last_same (sound_of c.args.self.now) (is_something _ c.if-is_empty.ensures joined.ok.0)
+    (rw (c.len.ensures ∙ joined.ok.0, c.deref.ensures.value) at c.in_ok-take.ensures.kept)
