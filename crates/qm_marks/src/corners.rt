@@ -17,10 +17,19 @@ use qm_scan::{behind_first, find_byte, is_number, unsigned};
 use std::alloc::Global;
 
 /// How many `v` lines there are in a text, and before one of its lines.
-#[derive(Clone, Copy, Debug, PartialEq, Eq)]
+#[derive(Clone, Copy)]
 pub(crate) struct Place {
     pub(crate) all: u32,
     pub(crate) before: u32,
+    pub(crate) ghost order: { before ≤ all },
+}
+
+/// The numbers that the vertices have in the file.
+#[derive(Clone, Copy)]
+pub(crate) struct Names<'a> {
+    pub(crate) all: &'a [u32],
+    pub(crate) ghost rising: { IsStrictlyIncreasing all.now },
+    pub(crate) ghost few: { length all.now ≤ 4_294_967_295 },
 }
 
 /// Puts the indices of the corners of a line behind none, or answers that some word is no corner.
@@ -29,8 +38,7 @@ pub(crate) fn read_corners(
     place: Place,
     indices: &mut Vec<Index>,
 ) -> Result<bool, Memory>
-    requires place { place.before ≤ place.all }
-    requires empty { indices.old.items ≡ [] }
+    requires { indices.old.items ≡ [] }
     ensures corners { IfOk result (λ right.
         right ≡ list_all is_line_corner (words (text.now))) }
     ensures indices { result ≡ Ok true → indices.new.items
@@ -53,7 +61,6 @@ pub(crate) fn read_corners(
 
 /// The index that a corner uses.
 fn read_corner(word: &[u8], place: Place) -> Option<Index>
-    requires { place.before ≤ place.all }
     ensures { result
         ≡ (if is_line_corner word.now then Some (corner_index place.all place.before word.now) else None) }
 {
@@ -107,14 +114,12 @@ fn is_none(index: Index) -> bool
 
 /// The vertices that indices name, by the vertices' numbers in the file.
 pub(crate) fn named_vertices(
-    names: &[u32],
+    names: &Names,
     indices: &[Index],
     chain: &mut Vec<u32>,
 ) -> Result<(), Memory>
-    requires names { IsStrictlyIncreasing names.now }
-    requires few { length names.now ≤ 4_294_967_295 }
-    requires empty { chain.old.items ≡ [] }
-    ensures { IfOk result (λ _. chain.new.items ≡ map (vertex_of names.now) indices.now) }
+    requires { chain.old.items ≡ [] }
+    ensures { IfOk result (λ _. chain.new.items ≡ map (vertex_of names.now.all.now) indices.now) }
 {
     for index in indices {
         chain.push(named_vertex(names, *index))?;
@@ -124,30 +129,26 @@ pub(crate) fn named_vertices(
 
 /// The vertex that an index names, or the number of vertices where it names none. Logarithmic, and without a search
 /// where each vertex before it has a `v` line of its own number.
-fn named_vertex(names: &[u32], index: Index) -> u32
-    requires names { IsStrictlyIncreasing names.now }
-    requires few { length names.now ≤ 4_294_967_295 }
-    ensures { result ≡ vertex_of names.now index }
+fn named_vertex(names: &Names, index: Index) -> u32
+    ensures { result ≡ vertex_of names.now.all.now index }
 {
     match index {
         Index::Vertex { k } => vertex_at(names, k),
-        Index::Out => names.len() as u32,
-        Index::Malformed => names.len() as u32,
+        Index::Out => names.all.len() as u32,
+        Index::Malformed => names.all.len() as u32,
     }
 }
 
 /// The place of a number, or how many there are where it has none.
-pub(crate) fn vertex_at(names: &[u32], k: u32) -> u32
-    requires names { IsStrictlyIncreasing names.now }
-    requires few { length names.now ≤ 4_294_967_295 }
-    ensures { result ≡ position_or_len (λ name. name == k) names.now }
+pub(crate) fn vertex_at(names: &Names, k: u32) -> u32
+    ensures { result ≡ position_or_len (λ name. name == k) names.now.all.now }
 {
-    if is_in_place(names, k) {
+    if is_in_place(names.all, k) {
         return k - 1;
     }
-    match names.binary_search(&k) {
+    match names.all.binary_search(&k) {
         Ok(place) => place as u32,
-        Err(_) => names.len() as u32,
+        Err(_) => names.all.len() as u32,
     }
 }
 

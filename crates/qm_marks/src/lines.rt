@@ -15,7 +15,7 @@ ghost use Rattle.qm_obj.specs.Lines.{first_logical};
 
 use crate::Memory;
 use crate::chain::mark_chain;
-use crate::corners::{Place, named_vertices, names_nothing, read_corners};
+use crate::corners::{Names, Place, named_vertices, names_nothing, read_corners};
 use crate::ends::sorted_ends;
 use crate::words::first_word;
 use def_marks::{LINE, MarkFail};
@@ -246,7 +246,8 @@ impl MarkReader {
         if names_nothing(&self.indices) {
             return Err(MarkFail::Range { line: number });
         }
-        named_vertices(&soup.names, &self.indices, &mut self.chain)?;
+        let names = Names { all: &soup.names };
+        named_vertices(&names, &self.indices, &mut self.chain)?;
         if !mark_chain(mesh, &self.keys, &self.chain, &mut self.marks) {
             return Err(MarkFail::NotEdge { line: number });
         }

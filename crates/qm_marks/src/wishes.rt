@@ -12,7 +12,7 @@ ghost use Rattle.def_mesh.specs.Darts.{darts, from_of, to_of};
 ghost use Rattle.qm_marks.specs.Keys.{AreEnds};
 ghost use Rattle.qm_marks.specs.Wishing.{pieces_of, AreKeyed, TakesWish};
 
-use crate::corners::vertex_at;
+use crate::corners::{Names, vertex_at};
 use crate::ends::{FEW, edge_dart, sorted_ends};
 use crate::lines::count_vertex_lines;
 use crate::said::{Said, read_said};
@@ -86,10 +86,10 @@ fn take_wish(places: &Places, number: u32, text: &[u8], wishes: &mut [u32]) -> R
         return Err(MarkFail::Range { line: number });
     }
     let soup = places.soup;
-    let names = &soup.names;
+    let names = Names { all: &soup.names };
     let wish = Wish {
-        u: vertex_at(names, said.u as u32),
-        v: vertex_at(names, said.v as u32),
+        u: vertex_at(&names, said.u as u32),
+        v: vertex_at(&names, said.v as u32),
         wish: said.wish as u32,
     };
     if put_wish(places.mesh, places.keys, wish, wishes) {

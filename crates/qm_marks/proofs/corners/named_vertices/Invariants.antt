@@ -3,4 +3,4 @@ use Rattle.def_marks.specs.Lines.{named_vertex}
 use Rattle.qm_marks.proofs.corners.named_vertices.Given as goal
 
 abbrev pub invariant-loop-index : goal.invariant-loop-index
-invariant-loop-index l = l.chain.items ≡ map (named_vertex l.names) (take l.index-index l.indices)
+invariant-loop-index l = l.chain.items ≡ map (named_vertex l.names.all.now) (take l.index-index l.indices)

@@ -1,4 +1,4 @@
-use Rattle.std.proofs.Common.{◌≡◌, ℕ, List, [], ◌∷◌, sym, ◌∙◌}
+use Rattle.std.proofs.Common.{sym, ◌∙◌}
 use Rattle.qm_marks.proofs.Pieces.{none_of, some_of, three_said, too_many}
 use Rattle.qm_marks.proofs.said.read_said.Goals as goal
 

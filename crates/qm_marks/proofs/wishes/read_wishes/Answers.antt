@@ -1,4 +1,4 @@
-use Rattle.std.proofs.Common.{true, false, length, drop, ◌∙◌, ap, arith, length-take, ◌≡◌}
+use Rattle.std.proofs.Common.{length, drop, ◌∙◌, ap, arith, length-take, ◌≡◌}
 use Rattle.std.proofs.lemmas.List.{take_at}
 use Rattle.def_fit.specs.WishLines.{vertex_line_count}
 use Rattle.def_io.specs.Lines.{lines_of}

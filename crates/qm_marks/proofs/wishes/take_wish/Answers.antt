@@ -10,7 +10,7 @@ u_is : (c : After-put_wish) → c.vertex_at.result ≡ vertex_named c.args.place
 u_is c = rw (← c.soup.view_is, ← c.deref.ensures.value) c.vertex_at.ensures
 
 v_is : (c : After-put_wish) → c.vertex_at-2.result ≡ vertex_named c.args.places.now.soup.now.names c.in-Some.said.v
-v_is c = rw (← c.soup.view_is, ← c.deref-2.ensures.value) c.vertex_at-2.ensures
+v_is c = rw (← c.soup.view_is, ← c.deref.ensures.value) c.vertex_at-2.ensures
 
 -- They have an edge where a wish was put.
 edge_is : (c : After-put_wish) → c.put_wish.result ≡ is_edge c.args.places.now.soup.now.faces
