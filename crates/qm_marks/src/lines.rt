@@ -48,22 +48,29 @@ pub fn read_marks(
         (text_lines (logical_lines (first + 1) (slice_range (lines_of lines.now) first after))) ≡ Err fail) }
 {
     let _known = mesh.faces();
-    let given = Given { lines, soup, mesh };
+    let given = Given {
+        lines,
+        after,
+        soup,
+        mesh,
+    };
     let all = count_vertex_lines(alloc, lines, first, after)?;
     let mut reader = MarkReader::new(alloc, mesh, all)?;
     let mut i = first;
     while i < after {
-        i = take_logical(alloc, &mut reader, &given, i, after)?;
+        i = take_logical(alloc, &mut reader, &given, i)?;
     }
     Ok(reader.marks)
 }
 
-/// A text, with the soup and the mesh that it has.
+/// The lines of a text up to but not including one, with the soup and the mesh that it has.
 #[derive(Clone, Copy)]
 struct Given<'a> {
     lines: &'a Lines,
+    after: u32,
     soup: &'a Soup,
     mesh: &'a Mesh,
+    ghost within: { after ≤ length (lines_of lines.now) },
 }
 
 /// Takes the logical line that begins with physical line `i`, and answers the first that is not joined to it.
@@ -72,21 +79,21 @@ fn take_logical(
     reader: &mut MarkReader,
     given: &Given,
     i: u32,
-    after: u32,
 ) -> Result<u32, MarkFail>
-    requires begins { i < after }
-    requires within { after ≤ length (lines_of given.now.lines.now) }
+    requires begins { i < given.now.after }
     requires reads { IsReading given.now.soup.now given.now.mesh.now reader.old }
     requires room { reader.old.before
-        + vertex_lines_in (first_logical (i + 1) (slice_range (lines_of given.now.lines.now) i after))
+        + vertex_lines_in (first_logical (i + 1) (slice_range (lines_of given.now.lines.now) i given.now.after))
         ≤ reader.old.all }
-    ensures next { IfOk result (λ next. next ≡ i + span (slice_range (lines_of given.now.lines.now) i after)) }
+    ensures next { IfOk result (λ next.
+        next ≡ i + span (slice_range (lines_of given.now.lines.now) i given.now.after)) }
     ensures took { OnOk result (TookLine given.now.soup.now reader.old reader.new
-        (first_logical (i + 1) (slice_range (lines_of given.now.lines.now) i after))) }
+        (first_logical (i + 1) (slice_range (lines_of given.now.lines.now) i given.now.after))) }
     ensures refused { IfErr result (λ fail. fail ≢ MarkFail.Memory → line_fails given.now.soup.now
         (placed_at reader.old.all reader.old.before
-        (first_logical (i + 1) (slice_range (lines_of given.now.lines.now) i after))) ≡ fail ∷ []) }
+        (first_logical (i + 1) (slice_range (lines_of given.now.lines.now) i given.now.after))) ≡ fail ∷ []) }
 {
+    let after = given.after;
     let line = given.lines.line(i);
     if may_go_on(line) {
         let joined = logical(alloc, given.lines, i, after)?;
