@@ -12,3 +12,8 @@ pub record IsCutting (faces : Faces) (cut : List Bool) : Type 0 where
   pub long : length cut ≡ darts faces
   pub laws : IsQuadManifold (half_edges faces)
   pub full : IsCut (half_edges faces) (is_on cut)
+
+-- Faces with a mark for each dart.
+pub record CutFaces : Type 0 where
+  pub faces : Faces
+  pub marks : List Bool

@@ -3,12 +3,14 @@
 #![tactic(auto)]
 
 mod by_face;
+mod cutting;
 mod grid;
 mod heads;
 mod marks;
 mod row;
 
 pub use by_face::patches;
+pub use cutting::Cutting;
 pub use def_cut::{Graph, Patch};
 
 /// Memory was refused.

@@ -9,43 +9,44 @@ use Rattle.qm_grid.proofs.Found.{found_skip, found_more, found_done}
 use Rattle.qm_grid.proofs.by_face.in_order.Goals.{then-not-seen-f+in_ok-patch+in_ok-push, else-not-seen-f}
 use Rattle.qm_grid.proofs.by_face.in_order.Goals as goal
 
-pub grid-requires-clause-corner : goal.grid-requires-clause-corner
-grid-requires-clause-corner c =
-    (c.requires.heads c.loop-f.f (omega (arith, c.loop-f-test.true, c.requires.long))).corner
+pub grid-requires : goal.grid-requires
+grid-requires c = record {
+  corner = (c.requires.heads c.loop-f.f (omega (arith, c.loop-f-test.true, c.requires.long))).corner;
+}
 
 pub mark-requires : goal.mark-requires
 mark-requires c =
-    let head : IsHead c.args.mesh.now c.args.cut.now c.loop-f.f (get_or c.args.heads.now c.loop-f.f 0) =
+    let head : IsHead c.args.cut.now.faces c.args.cut.now.marks c.loop-f.f (get_or c.args.heads.now c.loop-f.f 0) =
     c.requires.heads c.loop-f.f (omega (arith, c.loop-f-test.true, c.requires.long)) in
-    let e : c.deref.result.now ≡ grid_list (half_edges c.args.mesh.now) (get_or c.args.heads.now c.loop-f.f 0)
+    let e : c.deref.result.now ≡ grid_list (half_edges c.args.cut.now.faces) (get_or c.args.heads.now c.loop-f.f 0)
     c.in_ok-patch.patch.w c.in_ok-patch.patch.h = c.deref.ensures.value ∙ c.in_ok-patch.ensures.cells in
-    let low : (k : ℕ) → k < length c.deref.result.now → get_or c.deref.result.now k 0 / 4 < length c.args.mesh.now =
-    subst (λ (xs : List ℕ). (k : ℕ) → k < length xs → get_or xs k 0 / 4 < length c.args.mesh.now) (sym e)
-    (cells_low c.args.mesh.now c.args.cut.now c.requires.cutting (get_or c.args.heads.now c.loop-f.f 0)
-    c.in_ok-patch.patch.w c.in_ok-patch.patch.h head.corner c.in_ok-patch.ensures.grown) in
+    let low : (k : ℕ) → k < length c.deref.result.now
+    → get_or c.deref.result.now k 0 / 4 < length c.args.cut.now.faces =
+    subst (λ (xs : List ℕ). (k : ℕ) → k < length xs → get_or xs k 0 / 4 < length c.args.cut.now.faces) (sym e)
+    (cells_low _ _ c.is_full.ensures _ _ _ head.corner c.in_ok-patch.ensures.grown) in
     λ k l. omega (arith, low k l, c.loop-f.invariant.long)
 
 pub loop-f-preserved : goal.loop-f-preserved
 loop-f-preserved c =
-    let low : c.loop-f.f < length c.args.mesh.now = omega (arith, c.loop-f-test.true, c.requires.long) in
+    let low : c.loop-f.f < length c.args.cut.now.faces = omega (arith, c.loop-f-test.true, c.requires.long) in
     elim c.if-not-seen-f.branch [
       | then-not-seen-f+in_ok-patch+in_ok-push w ↦
           let list : map rectangle w.push.new.self.items ≡ map rectangle c.loop-f.found.items
           ++ rectangle w.in_ok-patch.patch ∷ [] = ap (map rectangle) w.in_ok-push.ensures.items
           ∙ map-append rectangle c.loop-f.found.items (w.in_ok-patch.patch ∷ []) in
-          rw (w.seen-is, w.found-is, list) (found_more c.args.mesh.now c.args.cut.now c.requires.cutting c.loop-f.f
+          rw (w.seen-is, w.found-is, list) (found_more _ _ c.is_full.ensures c.loop-f.f
           (get_or c.args.heads.now c.loop-f.f 0) (rectangle w.in_ok-patch.patch) low
           (c.requires.heads c.loop-f.f low) w.in_ok-patch.ensures.grown w.in_ok-patch.ensures.cells c.loop-f.seen
           w.mark.new.seen (map rectangle c.loop-f.found.items) c.loop-f.invariant w.if-not-seen-f.true
           w.mark.auto.seen
           (λ g l. w.mark.ensures g l ∙ ap (λ (xs : List ℕ). (get_or c.loop-f.seen g false || lies_in xs g))
           w.deref.ensures.value))
-      | else-not-seen-f w ↦ rw (w.seen-is, w.found-is) (found_skip c.args.mesh.now c.args.cut.now c.requires.cutting
+      | else-not-seen-f w ↦ rw (w.seen-is, w.found-is) (found_skip _ _ c.is_full.ensures
           c.loop-f.f c.loop-f.seen (map rectangle c.loop-f.found.items) c.loop-f.invariant w.if-not-seen-f.false)
     ]
 
 pub returns : goal.returns
 returns c = record {
-  patches = found_done c.args.mesh.now c.args.cut.now c.requires.cutting c.loop-f.f c.loop-f.seen
+  patches = found_done c.args.cut.now.faces c.args.cut.now.marks c.is_full.ensures c.loop-f.f c.loop-f.seen
       (map rectangle c.loop-f.found.items) c.loop-f.invariant (omega (arith, c.loop-f-test.false, c.requires.long));
 }

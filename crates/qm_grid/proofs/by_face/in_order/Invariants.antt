@@ -5,4 +5,4 @@ use Rattle.qm_grid.proofs.by_face.in_order.Given as goal
 
 -- the faces before f are seen, and the grids found so far hold the seen ones
 abbrev pub invariant-loop-f : goal.invariant-loop-f
-invariant-loop-f l = AreFoundSoFar l.mesh l.cut l.f l.seen (map rectangle l.found.items)
+invariant-loop-f l = AreFoundSoFar l.cut.faces l.cut.marks l.f l.seen (map rectangle l.found.items)

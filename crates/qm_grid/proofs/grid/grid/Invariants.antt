@@ -8,10 +8,11 @@ use Rattle.qm_grid.proofs.grid.grid.Given as goal
 -- the next row is row h, none before has a cut edge to the north, and all of them are listed, whatever their width
 abbrev pub invariant-loop-h : goal.invariant-loop-h
 invariant-loop-h l = record {
-  at : l.start ≡ norths (half_edges l.mesh) l.corner l.h;
-  low : l.start < darts l.mesh;
-  west : is_on l.cut (prev_of l.start) ≡ true;
-  inside : (k : ℕ) → k < l.h → is_on l.cut (next_of (next_of (norths (half_edges l.mesh) l.corner k))) ≡ false;
-  listed : (w : ℕ) → IsRow (half_edges l.mesh) (is_on l.cut) l.corner w
-      → l.cells.items ≡ grid_list (half_edges l.mesh) l.corner w l.h;
+  at : l.start ≡ norths (half_edges l.cut.faces) l.corner l.h;
+  low : l.start < darts l.cut.faces;
+  west : is_on l.cut.marks (prev_of l.start) ≡ true;
+  inside : (k : ℕ) → k < l.h
+      → is_on l.cut.marks (next_of (next_of (norths (half_edges l.cut.faces) l.corner k))) ≡ false;
+  listed : (w : ℕ) → IsRow (half_edges l.cut.faces) (is_on l.cut.marks) l.corner w
+      → l.cells.items ≡ grid_list (half_edges l.cut.faces) l.corner w l.h;
 }

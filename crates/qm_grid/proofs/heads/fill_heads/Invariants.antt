@@ -3,4 +3,4 @@ use Rattle.qm_grid.proofs.heads.fill_heads.Given as goal
 
 -- the classes with a corner below d have their heads
 abbrev pub invariant-loop-d : goal.invariant-loop-d
-invariant-loop-d l = AreHeadsSoFar l.mesh l.cut l.d l.heads
+invariant-loop-d l = AreHeadsSoFar l.cut.faces l.cut.marks l.d l.heads

@@ -7,8 +7,8 @@ use Rattle.qm_grid.proofs.row.push_row.Given as goal
 -- the walk stands at cell i, has not met a cut edge, and has listed the cells before
 abbrev pub invariant-loop-i : goal.invariant-loop-i
 invariant-loop-i l = record {
-  at : l.d ≡ easts (half_edges l.mesh) l.start l.i;
-  low : l.d < darts l.mesh;
-  inside : (k : ℕ) → k < l.i → is_on l.cut (next_of (easts (half_edges l.mesh) l.start k)) ≡ false;
-  listed : l.cells.items ≡ l.fn.cells.items ++ row_list (half_edges l.mesh) l.start l.i;
+  at : l.d ≡ easts (half_edges l.cut.faces) l.start l.i;
+  low : l.d < darts l.cut.faces;
+  inside : (k : ℕ) → k < l.i → is_on l.cut.marks (next_of (easts (half_edges l.cut.faces) l.start k)) ≡ false;
+  listed : l.cells.items ≡ l.fn.cells.items ++ row_list (half_edges l.cut.faces) l.start l.i;
 }
