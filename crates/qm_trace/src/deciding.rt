@@ -23,110 +23,114 @@ pub fn gives_way(mesh: &Mesh, d1: u32, d2: u32) -> bool
     }
 }
 
-/// The rider after its ride, in which the darts marked in `now` are ridden.
-pub(crate) fn ride(mesh: &Mesh, site: Site, now: &[bool], rider: Moving) -> Moving
-    requires dart { rider.dart < darts mesh.now }
-    requires rides { rider.rides + 1 < 2 ^ 32 }
-    requires now { length now.now ≡ darts mesh.now }
-    ensures { result
-        ≡ after_ride (terrain_of mesh.now) rider.dart rider.rides (stop_here mesh.now site now.now rider.dart) }
-{
-    let rider = Moving {
-        rides: rider.rides + 1,
-        ..rider
-    };
-    tell(mesh, site, now, rider)
+/// A dart of a mesh by which a rider comes, and marks of all darts that are ridden at that instant.
+#[derive(Clone, Copy)]
+pub(crate) struct Arrival<'a> {
+    pub(crate) mesh: &'a Mesh,
+    pub(crate) taken: &'a [bool],
+    pub(crate) dart: u32,
+    pub(crate) ghost marks: { length taken.now ≡ darts mesh.now },
+    pub(crate) ghost low: { dart < darts mesh.now },
 }
 
-/// A rider that has ridden its dart, with its stop or its next dart.
-pub(crate) fn tell(mesh: &Mesh, site: Site, now: &[bool], rider: Moving) -> Moving
-    requires dart { rider.dart < darts mesh.now }
-    requires now { length now.now ≡ darts mesh.now }
-    ensures { result ≡ told (terrain_of mesh.now) rider.dart rider (stop_here mesh.now site now.now rider.dart) }
-{
-    let stop = stop_at(mesh, site, now, rider.dart);
-    let dart = match stop {
-        Some(_) => rider.dart,
-        None => next_dart(mesh, rider.dart),
-    };
-    Moving {
-        dart,
-        rides: rider.rides,
-        stop,
+impl Arrival<'_> {
+    /// The rider after its ride, at a vertex of which this is known, when it has ridden so many darts before.
+    pub(crate) fn ride(&self, site: Site, rides: u32) -> Moving
+        requires { rides + 1 < 2 ^ 32 }
+        ensures { result
+            ≡ after_ride (terrain_of self.now.mesh.now) self.now.dart rides
+            (stop_here self.now.mesh.now site self.now.taken.now self.now.dart) }
+    {
+        let rider = Moving {
+            dart: self.dart,
+            rides: rides + 1,
+            stop: None,
+        };
+        self.tell(site, rider)
     }
-}
 
-/// The dart straight on from d, or d where there is none.
-fn next_dart(mesh: &Mesh, d: u32) -> u32
-    requires { d < darts mesh.now }
-    ensures { result ≡ or_else (straight (terrain_of mesh.now) d) d }
-{
-    match mesh.straight(d) {
-        Some(next) => next,
-        None => d,
-    }
-}
-
-/// Why the rider by d stops, if it does, at a vertex of which this is known.
-fn stop_at(mesh: &Mesh, site: Site, now: &[bool], d: u32) -> Option<Stop>
-    requires dart { d < darts mesh.now }
-    requires now { length now.now ≡ darts mesh.now }
-    ensures { result ≡ stop_here mesh.now site now.now d }
-{
-    let vertex = mesh.to(d);
-    if is_met(mesh, now, d) {
-        Some(Stop::Middle {
-            from: mesh.from(d),
-            to: vertex,
-        })
-    } else if site.boundary {
-        Some(Stop::Boundary { vertex })
-    } else if site.singular {
-        Some(Stop::Singular { vertex })
-    } else if site.stood {
-        Some(Stop::Trail { vertex })
-    } else if is_crowded(mesh, now, d) {
-        Some(Stop::Tie { vertex })
-    } else {
-        None
-    }
-}
-
-/// Whether the twin of d is ridden now.
-fn is_met(mesh: &Mesh, now: &[bool], d: u32) -> bool
-    requires dart { d < darts mesh.now }
-    requires now { length now.now ≡ darts mesh.now }
-    ensures { result ≡ is_met_now (twin_of mesh.now d) now.now }
-{
-    match mesh.twin(d) {
-        None => false,
-        Some(twin) => now[twin as usize],
-    }
-}
-
-/// Whether some rider arrives to whom the rider by d gives way, or from the opposite side.
-fn is_crowded(mesh: &Mesh, now: &[bool], d: u32) -> bool
-    requires dart { d < darts mesh.now }
-    requires now { length now.now ≡ darts mesh.now }
-    ensures { result ≡ crowds mesh.now (twin_of mesh.now d) now.now }
-{
-    match mesh.twin(d) {
-        None => false,
-        Some(twin) => {
-            let left = mesh.prev(twin);
-            now[left as usize] || is_faced(mesh, now, left)
+    /// A rider that has ridden the dart, with its stop or its next dart.
+    pub(crate) fn tell(&self, site: Site, rider: Moving) -> Moving
+        ensures { result
+            ≡ told (terrain_of self.now.mesh.now) self.now.dart rider
+            (stop_here self.now.mesh.now site self.now.taken.now self.now.dart) }
+    {
+        let stop = self.stop(site);
+        let dart = match stop {
+            Some(_) => self.dart,
+            None => self.next_dart(),
+        };
+        Moving {
+            dart,
+            rides: rider.rides,
+            stop,
         }
     }
-}
 
-/// Whether the dart before the twin of d is ridden now.
-fn is_faced(mesh: &Mesh, now: &[bool], d: u32) -> bool
-    requires dart { d < darts mesh.now }
-    requires now { length now.now ≡ darts mesh.now }
-    ensures { result ≡ faces_it (twin_of mesh.now d) now.now }
-{
-    match mesh.twin(d) {
-        None => false,
-        Some(twin) => now[mesh.prev(twin) as usize],
+    /// The dart straight on, or the same one where there is none.
+    fn next_dart(&self) -> u32
+        ensures { result ≡ or_else (straight (terrain_of self.now.mesh.now) self.now.dart) self.now.dart }
+    {
+        match self.mesh.straight(self.dart) {
+            Some(next) => next,
+            None => self.dart,
+        }
+    }
+
+    /// Why the rider stops, if it does, at a vertex of which this is known.
+    fn stop(&self, site: Site) -> Option<Stop>
+        ensures { result ≡ stop_here self.now.mesh.now site self.now.taken.now self.now.dart }
+    {
+        let vertex = self.mesh.to(self.dart);
+        if self.is_met() {
+            Some(Stop::Middle {
+                from: self.mesh.from(self.dart),
+                to: vertex,
+            })
+        } else if site.boundary {
+            Some(Stop::Boundary { vertex })
+        } else if site.singular {
+            Some(Stop::Singular { vertex })
+        } else if site.stood {
+            Some(Stop::Trail { vertex })
+        } else if self.is_crowded() {
+            Some(Stop::Tie { vertex })
+        } else {
+            None
+        }
+    }
+
+    /// Whether the twin of the dart is ridden, too.
+    fn is_met(&self) -> bool
+        ensures { result ≡ is_met_now (twin_of self.now.mesh.now self.now.dart) self.now.taken.now }
+    {
+        match self.mesh.twin(self.dart) {
+            None => false,
+            Some(twin) => self.taken[twin as usize],
+        }
+    }
+
+    /// Whether some rider arrives to whom this one gives way, or from the opposite side.
+    fn is_crowded(&self) -> bool
+        ensures { result ≡ crowds self.now.mesh.now (twin_of self.now.mesh.now self.now.dart) self.now.taken.now }
+    {
+        match self.mesh.twin(self.dart) {
+            None => false,
+            Some(twin) => {
+                let left = self.mesh.prev(twin);
+                self.taken[left as usize] || self.is_faced(left)
+            }
+        }
+    }
+
+    /// Whether the dart before the twin of d is ridden now.
+    fn is_faced(&self, d: u32) -> bool
+        requires { d < darts self.now.mesh.now }
+        ensures { result ≡ faces_it (twin_of self.now.mesh.now d) self.now.taken.now }
+    {
+        match self.mesh.twin(d) {
+            None => false,
+            Some(twin) => self.taken[self.mesh.prev(twin) as usize],
+        }
     }
 }

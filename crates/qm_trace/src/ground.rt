@@ -3,7 +3,6 @@
 ghost use Rattle.std.specs.Prelude.{◌≡◌, ◌<◌, length, IfOk};
 ghost use Rattle.def_mesh.specs.Kinds.{is_singular as is_singular_at};
 ghost use Rattle.def_mesh.specs.Vertices.{vertex_count};
-ghost use Rattle.def_cut.specs.FullCut.{is_on};
 ghost use Rattle.qm_trace.specs.Tables.{IsGround, IsSite};
 
 use crate::Memory;
@@ -23,21 +22,6 @@ pub(crate) struct Site {
     pub(crate) boundary: bool,
     pub(crate) singular: bool,
     pub(crate) stood: bool,
-}
-
-/// What stops a rider at v, looked up.
-pub(crate) fn site_of(mesh: &Mesh, ground: &Ground, stood: &[bool], v: u32) -> Site
-    requires vertex { v < vertex_count mesh.now }
-    requires ground { IsGround mesh.now ground.now.boundary.items ground.now.singular.items }
-    requires stood { length stood.now ≡ vertex_count mesh.now }
-    ensures { IsSite mesh.now (is_on stood.now v) v result }
-{
-    let _known = mesh.faces();
-    Site {
-        boundary: ground.boundary[v as usize],
-        singular: ground.singular[v as usize],
-        stood: stood[v as usize],
-    }
 }
 
 /// What stops a rider at v. Linear in the faces at v.

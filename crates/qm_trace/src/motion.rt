@@ -20,7 +20,7 @@ use crate::Memory;
 use crate::ending::{close, tell_riders};
 use crate::events::{first_open, first_waiting};
 use crate::ground::site_at;
-use crate::marks::{cover_edge, leave};
+use crate::marks::{Trail, cover_edge};
 use crate::notes::{Notes, clear, no_notes, note};
 use crate::queue::first_riders;
 use crate::telling::{Riders, is_end, tell_all};
@@ -89,7 +89,11 @@ impl Motion {
         let many = src.starts.len();
         let list = first_riders(alloc, &src.starts)?;
         let nowhere = vec![in alloc; false; vertices]?;
-        let stood = leave(mesh, &src.starts, nowhere);
+        let trail = Trail {
+            mesh,
+            darts: &src.starts,
+        };
+        let stood = trail.leave(nowhere);
         let covered = vec![in alloc; false; darts]?;
         let settled = vec![in alloc; false; vertices]?;
         let notes = no_notes(alloc, many, darts)?;

@@ -3,8 +3,8 @@
 ghost use Rattle.std.specs.Prelude.{◌≡◌, ◌+◌, ◌^◌, ◌<◌, ℕ, suc, Bool, List, map};
 ghost use Rattle.qm_trace.specs.Tables.{IsGround, IsQueue, IsTableAt, dart_of};
 
-use crate::marks::{cover, set_marks, stand};
-use crate::queue::{Sight, ride_all};
+use crate::marks::Trail;
+use crate::queue::{Seen, Sight};
 use def_cut::Moving;
 use qm_mesh::Mesh;
 
@@ -32,10 +32,18 @@ pub(crate) fn step(mesh: &Mesh, queue: &[u32], ridden: &[u32], mut tables: Table
         result.riders.items result.sight.stood.items result.covered.items result.sight.taken.items }
 {
     let _known = mesh.faces();
-    set_marks(ridden, true, &mut tables.sight.taken);
-    ride_all(mesh, &tables.sight, queue, &mut tables.riders);
-    set_marks(ridden, false, &mut tables.sight.taken);
-    cover(mesh, ridden, &mut tables.covered);
-    stand(mesh, ridden, &mut tables.sight.stood);
+    let trail = Trail {
+        mesh,
+        darts: ridden,
+    };
+    trail.set(true, &mut tables.sight.taken);
+    let seen = Seen {
+        mesh,
+        sight: &tables.sight,
+    };
+    seen.ride_all(queue, &mut tables.riders);
+    trail.set(false, &mut tables.sight.taken);
+    trail.cover(&mut tables.covered);
+    trail.stand(&mut tables.sight.stood);
     tables
 }

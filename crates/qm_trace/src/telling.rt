@@ -10,7 +10,7 @@ ghost use Rattle.def_mesh.specs.Vertices.{fan_of, vertex_count};
 ghost use Rattle.qm_trace.specs.Motions.{AreCounted, AreNotes, CanTell, MayTell, told_by};
 ghost use Rattle.qm_trace.specs.Tables.{stop_here};
 
-use crate::deciding::tell;
+use crate::deciding::Arrival;
 use crate::ground::Site;
 use crate::notes::Notes;
 use def_cut::Moving;
@@ -67,10 +67,16 @@ fn tell_one(mesh: &Mesh, notes: &Notes, site: Site, r: u32, riders: &mut Riders)
         (stop_here mesh.now site notes.now.taken.items (rider_at riders.old.list.items r).dart)) }
     ensures counted { AreCounted riders.new notes.now.noted.items }
 {
-    let rider = tell(mesh, site, &notes.taken, riders.list[r as usize]);
-    if rider.stop.is_some() {
+    let rider = riders.list[r as usize];
+    let arrival = Arrival {
+        mesh,
+        taken: &notes.taken,
+        dart: rider.dart,
+    };
+    let told = arrival.tell(site, rider);
+    if told.stop.is_some() {
         riders.running -= 1;
     }
     riders.untold -= 1;
-    riders.list[r as usize] = rider;
+    riders.list[r as usize] = told;
 }

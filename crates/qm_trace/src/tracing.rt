@@ -10,8 +10,8 @@ ghost use Rattle.qm_trace.specs.Tables.{IsEnd};
 
 use crate::Memory;
 use crate::ending::{close, tell_riders};
-use crate::queue::{darts_of, everyone, still_running};
-use crate::starting::first_tables;
+use crate::queue::{Queued, everyone};
+use crate::starting::{Course, first_tables};
 use crate::stepping::{Tables, step};
 use def_cut::Graph;
 use def_mesh::Starts;
@@ -42,7 +42,12 @@ pub fn graph_from(
     ensures cut { IfOk result (λ graph. IsFullCut mesh.now graph.covered.items) }
 {
     let _known = mesh.faces();
-    let end = last_tables(alloc, mesh, starts, marks)?;
+    let course = Course {
+        mesh,
+        starts,
+        marks,
+    };
+    let end = last_tables(alloc, &course)?;
     let mut riders = Vec::with_capacity(alloc, starts.len())?;
     tell_riders(mesh, starts, &end.riders, &mut riders);
     let covered = close(mesh, end.covered);
@@ -50,21 +55,27 @@ pub fn graph_from(
 }
 
 /// The tables when no rider runs any more. Linear in the darts.
-fn last_tables(alloc: Global, mesh: &Mesh, starts: &[u32], marks: &[bool]) -> Result<Tables, Memory>
-    requires marks { AreMarks mesh.now marks.now }
-    requires starts { starts.now ≡ marked_starts mesh.now marks.now }
-    ensures { IfOk result (λ t. IsEnd mesh.now marks.now t.riders.items t.covered.items) }
+fn last_tables(alloc: Global, course: &Course) -> Result<Tables, Memory>
+    ensures { IfOk result (λ t. IsEnd course.now.mesh.now course.now.marks.now t.riders.items t.covered.items) }
 {
-    let _known = mesh.faces();
-    let mut tables = first_tables(alloc, mesh, starts, marks)?;
-    let mut queue = everyone(alloc, starts.len() as u32)?;
-    'instants: for _ in 0..mesh.vertices() {
+    let _known = course.mesh.faces();
+    let mut tables = first_tables(alloc, course)?;
+    let mut queue = everyone(alloc, course.starts.len() as u32)?;
+    'instants: for _ in 0..course.mesh.vertices() {
         if queue.is_empty() {
             break;
         }
-        let ridden = darts_of(alloc, &tables.riders, &queue)?;
-        tables = step(mesh, &queue, &ridden, tables);
-        queue = still_running(alloc, &tables.riders, &queue)?;
+        let now = Queued {
+            riders: &tables.riders,
+            queue: &queue,
+        };
+        let ridden = now.darts(alloc)?;
+        tables = step(course.mesh, &queue, &ridden, tables);
+        let next = Queued {
+            riders: &tables.riders,
+            queue: &queue,
+        };
+        queue = next.still_running(alloc)?;
     }
     Ok(tables)
 }

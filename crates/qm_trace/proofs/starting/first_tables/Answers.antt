@@ -3,6 +3,7 @@ use Rattle.def_cut.specs.Motion.{is_among}
 use Rattle.qm_trace.proofs.Beginnings.{marked_low}
 use Rattle.qm_trace.proofs.starting.first_tables.Goals as goal
 
-pub leave-left-requires-clause-darts : goal.leave-left-requires-clause-darts
-leave-left-requires-clause-darts c d m =
-    marked_low c.args.mesh.now c.args.marks.now d (sym (ap (is_among d) c.requires.starts) ∙ m)
+pub invariant_of-starts : goal.invariant_of-starts
+invariant_of-starts c = let course = c.args.course.now in record {
+  low = λ d m. marked_low course.mesh.now course.marks.now d (sym (ap (is_among d) course.beside) ∙ m);
+}

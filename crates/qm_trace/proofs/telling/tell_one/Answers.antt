@@ -15,9 +15,9 @@ overflow_sub-riders-2 c =
 
 pub returns-clause-counted : goal.returns-clause-counted
 returns-clause-counted c =
-    let same : c.index.result.now ≡ rider_at c.args.riders.now.list.items c.args.r = c.index.ensures ∙ get_or_default
-    c.args.riders.now.list.items c.args.r c.index.result.now (begun 0) c.requires.may.rider in
-    let is = rw (same, c.deref.ensures.value) at c.tell-rider.ensures in
+    let same : c.index-rider.result.now ≡ rider_at c.args.riders.now.list.items c.args.r = c.index-rider.ensures
+    ∙ get_or_default _ c.args.r c.index-rider.result.now (begun 0) c.requires.may.rider in
+    let is = rw (same, c.deref.ensures.value) at c.tell-told.ensures in
     let list = ap (set c.args.riders.now.list.items c.args.r) is in
     let run = some_run c.requires.counted c.requires.may in
     let untold = some_untold c.requires.counted c.requires.may in

@@ -10,11 +10,11 @@ use Rattle.qm_trace.proofs.Beginnings.{first_queue, marked_few}
 use Rattle.qm_trace.proofs.tracing.last_tables.Goals.{else-instants-test, then-instants-test+then-is_empty}
 use Rattle.qm_trace.proofs.tracing.last_tables.Goals as goal
 
-pub overflow_cast-starts : goal.overflow_cast-starts
-overflow_cast-starts c = omega (
+pub overflow_cast-course : goal.overflow_cast-course
+overflow_cast-course c = omega (
   arith,
-  ap length c.requires.starts,
-  marked_few c.args.mesh.now c.args.marks.now,
+  ap length c.args.course.now.beside,
+  marked_few c.args.course.now.mesh.now c.args.course.now.marks.now,
   c.faces-known.ensures.mesh.few,
 )
 
@@ -23,20 +23,22 @@ instants-init c = record {
   ground = c.in_ok-tables.ensures.ground;
   at = c.in_ok-tables.ensures.at;
   waits = subst (IsQueue c.in_ok-tables.tables.riders.items) (sym c.in_ok-queue.ensures)
-      (rw c.requires.starts (first_queue (marked_starts c.args.mesh.now c.args.marks.now)
+      (rw c.args.course.now.beside (first_queue (marked_starts c.args.course.now.mesh.now c.args.course.now.marks.now)
       c.in_ok-tables.tables.riders.items c.in_ok-tables.ensures.at.riders_are));
-  way = first_on c.args.mesh.now c.args.marks.now;
+  way = first_on c.args.course.now.mesh.now c.args.course.now.marks.now;
 }
 
-pub still_running-requires : goal.still_running-requires
-still_running-requires c r m =
-    let at = c.step-tables.ensures.at c.args.marks.now c.instants.counter c.instants.invariant.at in
-    rw c.deref-in-instants-4.ensures.value (queue_low c.instants.invariant.at at
-    c.instants.invariant.waits r (rw c.deref-in-instants-5.ensures.value at m))
+pub invariant_of-next : goal.invariant_of-next
+invariant_of-next c = record {
+  low = λ r m.
+      let at = c.step-tables.ensures.at c.args.course.now.marks.now c.instants.counter c.instants.invariant.at in
+      rw c.deref-in-instants-4.ensures.value (queue_low c.instants.invariant.at at c.instants.invariant.waits r
+      (rw c.deref-in-instants-5.ensures.value at m));
+}
 
 pub instants-preserved : goal.instants-preserved
 instants-preserved c =
-    let at = c.step-tables.ensures.at c.args.marks.now c.instants.counter c.instants.invariant.at in
+    let at = c.step-tables.ensures.at c.args.course.now.marks.now c.instants.counter c.instants.invariant.at in
     let plus : c.instants.counter + 1 ≡ suc c.instants.counter = omega arith in
     record {
       ground = c.step-tables.ensures.ground;
@@ -53,11 +55,11 @@ instants-preserved c =
 pub returns : goal.returns
 returns c = elim c.instants-test.branch [
   | else-instants-test w ↦
-      let over : c.instants.counter ≡ vertex_count c.args.mesh.now =
+      let over : c.instants.counter ≡ vertex_count c.args.course.now.mesh.now =
       omega (arith, w.instants-test.false, c.instants.auto.counter-end, c.vertices-end.ensures.value) in
       end_at c.instants.invariant.at c.instants.invariant.way (omega (arith, over))
-      (all_over c.faces-known.ensures.mesh.manifold c.requires.marks (c.instants.invariant.at.riders_are
-      ∙ ap (λ k. (state_at c.args.mesh.now c.args.marks.now k).riders) over))
+      (all_over c.faces-known.ensures.mesh.manifold c.args.course.now.lines (c.instants.invariant.at.riders_are
+      ∙ ap (λ k. (state_at c.args.course.now.mesh.now c.args.course.now.marks.now k).riders) over))
   | then-instants-test+then-is_empty w ↦
       let none : length c.instants.queue.items ≡ 0 =
       omega (

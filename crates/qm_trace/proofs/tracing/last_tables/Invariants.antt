@@ -3,9 +3,9 @@ use Rattle.qm_trace.proofs.tracing.last_tables.Given as goal
 
 abbrev pub invariant-instants : goal.invariant-instants
 invariant-instants l = record {
-  ground : IsGround l.mesh l.tables.sight.ground.boundary.items l.tables.sight.ground.singular.items;
-  at : IsTableAt l.mesh l.marks l.counter l.tables.riders.items l.tables.sight.stood.items l.tables.covered.items
-      l.tables.sight.taken.items;
+  ground : IsGround l.course.mesh.now l.tables.sight.ground.boundary.items l.tables.sight.ground.singular.items;
+  at : IsTableAt l.course.mesh.now l.course.marks.now l.counter l.tables.riders.items l.tables.sight.stood.items
+      l.tables.covered.items l.tables.sight.taken.items;
   waits : IsQueue l.tables.riders.items l.queue.items;
-  way : IsOnItsWay l.mesh l.marks l.counter;
+  way : IsOnItsWay l.course.mesh.now l.course.marks.now l.counter;
 }

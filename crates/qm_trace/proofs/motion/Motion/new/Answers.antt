@@ -7,9 +7,11 @@ use Rattle.qm_trace.proofs.Calls.{first_counted, first_stood, first_waits}
 use Rattle.qm_trace.proofs.Beginnings.{starts_few, starts_low}
 use Rattle.qm_trace.proofs.motion.Motion.new.Goals as goal
 
-pub leave-stood-requires-clause-darts : goal.leave-stood-requires-clause-darts
-leave-stood-requires-clause-darts c d n = starts_low c.args.mesh.now c.faces.ensures.mesh.manifold d
-    (sym (ap (is_among d) (c.deref-2.ensures.value ∙ c.requires.starts)) ∙ n)
+pub invariant_of-trail : goal.invariant_of-trail
+invariant_of-trail c = record {
+  low = λ d n. starts_low c.args.mesh.now c.faces.ensures.mesh.manifold d
+      (sym (ap (is_among d) (c.deref-2.ensures.value ∙ c.requires.starts)) ∙ n);
+}
 
 pub overflow_cast-riders : goal.overflow_cast-riders
 overflow_cast-riders c = omega (

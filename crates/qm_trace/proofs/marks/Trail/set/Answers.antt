@@ -1,0 +1,20 @@
+use Rattle.std.proofs.Common.{◌∙◌, arith}
+use Rattle.std.proofs.lemmas.List.{length-set}
+use Rattle.motion_laws.proofs.Marks.{among_at}
+use Rattle.qm_trace.proofs.Marking.{marks_more}
+use Rattle.qm_trace.proofs.marks.Trail.set.Goals as goal
+
+pub index_mut-requires : goal.index_mut-requires
+index_mut-requires c =
+    let low = c.args.self.now.low _ (among_at c.args.self.now.darts.now c.loop-d.d-index c.loop-d-test.true) in
+    omega (arith, low, c.requires, c.loop-d.invariant.long, c.loop-d.marks.ok.0)
+
+pub loop-d-preserved : goal.loop-d-preserved
+loop-d-preserved c =
+    let low = c.args.self.now.low _ (among_at c.args.self.now.darts.now c.loop-d.d-index c.loop-d-test.true) in
+    record {
+      long = length-set c.loop-d.marks.items _ c.args.value ∙ c.loop-d.invariant.long;
+      each = marks_more c.args.self.now.darts.now c.loop-d.d-index c.args.value c.loop-d.marks.items
+          c.args.marks.now.items c.loop-d-test.true (omega (arith, low, c.requires, c.loop-d.invariant.long))
+          c.loop-d.invariant.each;
+    }

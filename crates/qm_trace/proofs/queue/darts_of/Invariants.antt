@@ -1,6 +1,0 @@
-use Rattle.std.proofs.Common.{◌≡◌, map, take}
-use Rattle.qm_trace.specs.Tables.{dart_of}
-use Rattle.qm_trace.proofs.queue.darts_of.Given as goal
-
-abbrev pub invariant-loop-r : goal.invariant-loop-r
-invariant-loop-r l = l.ridden.items ≡ map (dart_of l.riders) (take l.r-index l.queue)
