@@ -1,15 +1,13 @@
 //! The arcs in order of their names, and where each use of an arc begins.
 
-ghost use Rattle.std.specs.Prelude.{◌≡◌, ◌<◌, true, map, IfOk};
-ghost use Rattle.def_mesh.specs.Darts.{darts, from_of};
-ghost use Rattle.def_cut.specs.FullCut.{is_on};
+ghost use Rattle.std.specs.Prelude.{map, IfOk};
+ghost use Rattle.def_mesh.specs.Darts.{darts};
 ghost use Rattle.def_layout.specs.Arcs.{path};
-ghost use Rattle.def_layout.specs.Nodes.{is_node};
 ghost use Rattle.qm_tmesh.specs.Tables.{IsMarked, AreStarts};
 ghost use Rattle.qm_tmesh.specs.Arcs.{IsArcFrom, AreArcsBelow};
 
 use crate::nodes::Nodes;
-use crate::runs::run;
+use crate::runs::{Start, run};
 use def_layout::TArc;
 use qm_mesh::Mesh;
 use std::alloc::{AllocError, Global};
@@ -30,30 +28,27 @@ pub(crate) fn arcs(
     let mut arcs = Vec::new(alloc);
     for start in starts {
         if *start as usize != cut.len() {
-            let arc = arc_from(alloc, mesh, cut, nodes, *start)?;
+            let begin = Start {
+                mesh,
+                cut,
+                dart: *start,
+            };
+            let arc = arc_from(alloc, &begin, nodes)?;
             arcs.push(arc)?;
         }
     }
     Ok(arcs)
 }
 
-/// The arc of the run that begins with `start`.
-fn arc_from(
-    alloc: Global,
-    mesh: &Mesh,
-    cut: &[bool],
-    nodes: &Nodes,
-    start: u32,
-) -> Result<TArc, AllocError>
-    requires marked { IsMarked mesh.now cut.now nodes.now.marks.items }
-    requires dart { start < darts mesh.now }
-    requires on { is_on cut.now start ≡ true }
-    requires begins { is_node mesh.now cut.now (from_of mesh.now start) ≡ true }
-    ensures { IfOk result (λ arc. IsArcFrom mesh.now cut.now nodes.now.listed.list.items start (path arc)) }
+/// The arc of the run that begins there.
+fn arc_from(alloc: Global, start: &Start, nodes: &Nodes) -> Result<TArc, AllocError>
+    requires marked { IsMarked start.now.mesh.now start.now.cut.now nodes.now.marks.items }
+    ensures { IfOk result (λ arc. IsArcFrom start.now.mesh.now start.now.cut.now
+        nodes.now.listed.list.items start.now.dart (path arc)) }
 {
-    let darts = run(alloc, mesh, cut, &nodes.marks, start)?;
+    let darts = run(alloc, start, &nodes.marks)?;
     let end = darts[darts.len() - 1];
-    let first = nodes.listed.places[mesh.from(start) as usize];
-    let last = nodes.listed.places[mesh.to(end) as usize];
+    let first = nodes.listed.places[start.mesh.from(start.dart) as usize];
+    let last = nodes.listed.places[start.mesh.to(end) as usize];
     Ok(TArc { first, last, darts })
 }

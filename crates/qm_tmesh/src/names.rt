@@ -7,7 +7,7 @@ ghost use Rattle.def_cut.specs.Grids.{least_of};
 ghost use Rattle.layout_laws.specs.Named.{run_name};
 ghost use Rattle.qm_tmesh.specs.Tables.{IsMarked, IsNamedRun, AreStarts};
 
-use crate::runs::run;
+use crate::runs::{Start, run};
 use qm_mesh::Mesh;
 use std::alloc::{AllocError, Global};
 
@@ -47,7 +47,8 @@ fn named_run(
     if !cut[s as usize] || !nodes[mesh.from(s) as usize] {
         return Ok(None);
     }
-    let darts = run(alloc, mesh, cut, nodes, s)?;
+    let start = Start { mesh, cut, dart: s };
+    let darts = run(alloc, &start, nodes)?;
     let name = least(&darts);
     if is_least(mesh, &darts, name) {
         Ok(Some(name))

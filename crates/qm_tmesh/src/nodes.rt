@@ -1,9 +1,9 @@
 //! The nodes of a cut: irregular vertices, and those with at least three edges of the cut.
 
-ghost use Rattle.std.specs.Prelude.{◌≡◌, ◌≤◌, ◌<◌, ◌^◌, ℕ, length, map, filter, IfOk, slice_index};
+ghost use Rattle.std.specs.Prelude.{◌≡◌, ◌≤◌, ◌<◌, ◌^◌, length, map, filter, IfOk};
 ghost use Rattle.std.specs.List.{range_with_len};
 ghost use Rattle.def_mesh.specs.Darts.{darts};
-ghost use Rattle.def_mesh.specs.Vertices.{vertex_count};
+ghost use Rattle.def_mesh.specs.Vertices.{fan_of, vertex_count};
 ghost use Rattle.def_mesh.specs.Kinds.{is_regular};
 ghost use Rattle.def_mesh.specs.Meshes.{IsMesh};
 ghost use Rattle.def_cut.specs.FullCut.{is_on};
@@ -69,57 +69,76 @@ fn node_marks(alloc: Global, mesh: &Mesh, cut: &[bool]) -> Result<Vec<bool>, All
 {
     let mut marks = Vec::new(alloc);
     for v in 0..mesh.vertices() {
-        marks.push(is_node(mesh, cut, v))?;
+        let meeting = Meeting {
+            mesh,
+            cut,
+            vertex: v,
+            fan: mesh.fan(v),
+        };
+        marks.push(meeting.is_node())?;
     }
     Ok(marks)
 }
 
-/// Whether v is irregular, or at least three edges of the cut meet there.
-fn is_node(mesh: &Mesh, cut: &[bool], v: u32) -> bool
-    requires cut { length cut.now ≡ darts mesh.now }
-    requires vertex { v < vertex_count mesh.now }
-    ensures { result ≡ is_node mesh.now cut.now v }
-{
-    let fan = mesh.fan(v);
-    !is_regular(mesh, v) || leaving(cut, fan) + arriving(mesh, cut, fan) > 2
+/// A vertex of a mesh where edges of a cut may meet, and the darts that leave it.
+#[derive(Clone, Copy)]
+struct Meeting<'a> {
+    mesh: &'a Mesh,
+    cut: &'a [bool],
+    vertex: u32,
+    fan: &'a [u32],
+    ghost long: { length cut.now ≡ darts mesh.now },
+    ghost low: { vertex < vertex_count mesh.now },
+    ghost all: { fan.now ≡ fan_of mesh.now vertex },
 }
 
-/// Whether v has as many faces as a regular vertex of its place, inside or at the boundary.
-fn is_regular(mesh: &Mesh, v: u32) -> bool
-    requires { v < vertex_count mesh.now }
-    ensures { result ≡ is_regular mesh.now v }
-{
-    mesh.faces_at(v) == if mesh.is_inner(v) { 4 } else { 2 }
-}
-
-/// How many darts of a fan are cut.
-fn leaving(cut: &[bool], fan: &[u32]) -> usize
-    requires { (k : ℕ) → k < length fan.now → slice_index fan.now k < length cut.now }
-    ensures value { result ≡ length (filter (is_on cut.now) fan.now) }
-    ensures bound { result ≤ length fan.now }
-{
-    let mut count = 0usize;
-    for d in fan {
-        if cut[*d as usize] {
-            count += 1;
-        }
+impl Meeting<'_> {
+    /// Whether it is irregular, or at least three edges of the cut meet there.
+    fn is_node(&self) -> bool
+        ensures { result ≡ is_node self.now.mesh.now self.now.cut.now self.now.vertex }
+    {
+        !self.is_regular() || self.leaving() + self.arriving() > 2
     }
-    count
-}
 
-/// How many of the darts before those of a fan are cut and have no twin.
-fn arriving(mesh: &Mesh, cut: &[bool], fan: &[u32]) -> usize
-    requires cut { length cut.now ≡ darts mesh.now }
-    requires darts { (k : ℕ) → k < length fan.now → slice_index fan.now k < darts mesh.now }
-    ensures value { result ≡ length (filter (is_lone_before mesh.now cut.now) fan.now) }
-    ensures bound { result ≤ length fan.now }
-{
-    let mut count = 0usize;
-    for d in fan {
-        let before = mesh.prev(*d);
-        if cut[before as usize] && mesh.twin(before).is_none() {
-            count += 1;
-        }
+    /// Whether it has as many faces as a regular vertex of its place, inside or at the boundary.
+    fn is_regular(&self) -> bool
+        ensures { result ≡ is_regular self.now.mesh.now self.now.vertex }
+    {
+        let faces = self.mesh.faces_at(self.vertex);
+        faces
+            == if self.mesh.is_inner(self.vertex) {
+                4
+            } else {
+                2
+            }
     }
-    count
+
+    /// How many darts that leave it are cut.
+    fn leaving(&self) -> usize
+        ensures value { result ≡ length (filter (is_on self.now.cut.now) self.now.fan.now) }
+        ensures bound { result ≤ length self.now.fan.now }
+    {
+        let mut count = 0usize;
+        for d in self.fan {
+            if self.cut[*d as usize] {
+                count += 1;
+            }
+        }
+        count
+    }
+
+    /// How many of the darts before those are cut and have no twin.
+    fn arriving(&self) -> usize
+        ensures value { result ≡ length (filter (is_lone_before self.now.mesh.now self.now.cut.now) self.now.fan.now) }
+        ensures bound { result ≤ length self.now.fan.now }
+    {
+        let mut count = 0usize;
+        for d in self.fan {
+            let before = self.mesh.prev(*d);
+            if self.cut[before as usize] && self.mesh.twin(before).is_none() {
+                count += 1;
+            }
+        }
+        count
+    }
 }

@@ -12,30 +12,33 @@ ghost use Rattle.qm_tmesh.specs.Tables.{IsMarked};
 use qm_mesh::Mesh;
 use std::alloc::{AllocError, Global};
 
-/// The darts of the run that begins with a cut dart at a node.
-pub(crate) fn run(
-    alloc: Global,
-    mesh: &Mesh,
-    cut: &[bool],
-    nodes: &[bool],
-    start: u32,
-) -> Result<Vec<u32>, AllocError>
-    requires marked { IsMarked mesh.now cut.now nodes.now }
-    requires dart { start < darts mesh.now }
-    requires on { is_on cut.now start ≡ true }
-    requires begins { is_node mesh.now cut.now (from_of mesh.now start) ≡ true }
-    ensures run { IfOk result (λ ds.
-        IsRun (half_edges mesh.now) (is_on cut.now) (is_node mesh.now cut.now) start (length ds.items)) }
-    ensures darts { IfOk result (λ ds. ds.items ≡ run_list (half_edges mesh.now) start (length ds.items)) }
+/// A dart of a cut that begins at a node.
+#[derive(Clone, Copy)]
+pub(crate) struct Start<'a> {
+    pub(crate) mesh: &'a Mesh,
+    pub(crate) cut: &'a [bool],
+    pub(crate) dart: u32,
+    pub(crate) ghost low: { dart < darts mesh.now },
+    pub(crate) ghost on: { is_on cut.now dart ≡ true },
+    pub(crate) ghost begins: { is_node mesh.now cut.now (from_of mesh.now dart) ≡ true },
+}
+
+/// The darts of the run that begins there.
+pub(crate) fn run(alloc: Global, start: &Start, nodes: &[bool]) -> Result<Vec<u32>, AllocError>
+    requires marked { IsMarked start.now.mesh.now start.now.cut.now nodes.now }
+    ensures run { IfOk result (λ ds. IsRun (half_edges start.now.mesh.now) (is_on start.now.cut.now)
+        (is_node start.now.mesh.now start.now.cut.now) start.now.dart (length ds.items)) }
+    ensures darts { IfOk result (λ ds.
+        ds.items ≡ run_list (half_edges start.now.mesh.now) start.now.dart (length ds.items)) }
 {
     let mut darts = Vec::new(alloc);
-    let mut d = start;
-    'steps: for _ in 0..cut.len() {
+    let mut d = start.dart;
+    'steps: for _ in 0..start.cut.len() {
         darts.push(d)?;
-        if nodes[mesh.to(d) as usize] {
+        if nodes[start.mesh.to(d) as usize] {
             return Ok(darts);
         }
-        d = mesh.straight(d).unwrap();
+        d = start.mesh.straight(d).unwrap();
     }
     unreachable!()
 }

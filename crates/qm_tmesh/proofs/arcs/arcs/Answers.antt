@@ -8,21 +8,13 @@ use Rattle.qm_tmesh.proofs.ArcTables.{arcs_skip, arcs_more}
 use Rattle.qm_tmesh.proofs.arcs.arcs.Goals.{then-start-cut+in_ok-arc+in_ok-push, else-start-cut}
 use Rattle.qm_tmesh.proofs.arcs.arcs.Goals as goal
 
-pub arc_from-requires-clause-on : goal.arc_from-requires-clause-on
-arc_from-requires-clause-on c =
+pub invariant_of-begin : goal.invariant_of-begin
+invariant_of-begin c =
     let named : (n : ℕ) × IsNamedRun c.args.mesh.now c.args.cut.now (get_or c.args.starts.now c.loop-start.start-index
     0) n × (run_name (half_edges c.args.mesh.now) (get_or c.args.starts.now c.loop-start.start-index 0) n
     ≡ c.loop-start.start-index) = c.requires.starts.right c.loop-start.start-index c.loop-start-test.true
     c.if-start-cut.true in
-    named.1.run.on 0 named.1.run.some
-
-pub arc_from-requires-clause-begins : goal.arc_from-requires-clause-begins
-arc_from-requires-clause-begins c =
-    let named : (n : ℕ) × IsNamedRun c.args.mesh.now c.args.cut.now (get_or c.args.starts.now c.loop-start.start-index
-    0) n × (run_name (half_edges c.args.mesh.now) (get_or c.args.starts.now c.loop-start.start-index 0) n
-    ≡ c.loop-start.start-index) = c.requires.starts.right c.loop-start.start-index c.loop-start-test.true
-    c.if-start-cut.true in
-    named.1.run.begins
+    record { low = named.1.run.low; on = named.1.run.on 0 named.1.run.some; begins = named.1.run.begins }
 
 pub loop-start-preserved : goal.loop-start-preserved
 loop-start-preserved c = elim c.if-start-cut.branch [

@@ -15,10 +15,13 @@ returns-then-not-cut-s c = λ n named. elim c.then-not-cut-s.branch [
       ∙ named.run.begins)))
 ]
 
-pub run-requires-clause-begins : goal.run-requires-clause-begins
-run-requires-clause-begins c =
-    sym (node_from c.requires.marked c.args.s c.requires.dart)
-    ∙ (ap (is_on c.args.nodes.now) (sym c.from.ensures.value) ∙ c.if-not-nodes-from.false)
+pub invariant_of-start : goal.invariant_of-start
+invariant_of-start c = record {
+  low = c.requires.dart;
+  on = c.if-not-cut-s.false;
+  begins = sym (node_from c.requires.marked c.args.s c.requires.dart)
+      ∙ (ap (is_on c.args.nodes.now) (sym c.from.ensures.value) ∙ c.if-not-nodes-from.false);
+}
 
 pub is_least-requires : goal.is_least-requires
 is_least-requires c = subst (λ (xs : List ℕ). (k : ℕ) → k < length xs → get_or xs k 0 < darts c.args.mesh.now)

@@ -11,60 +11,64 @@ use Rattle.qm_tmesh.proofs.runs.run.Goals as goal
 pub steps-init : goal.steps-init
 steps-init c = record {
   walk = record {
-    low = c.requires.dart;
-    on = c.requires.on;
-    begins = c.requires.begins;
+    low = c.args.start.now.low;
+    on = c.args.start.now.on;
+    begins = c.args.start.now.begins;
     at = refl;
     inner = λ k less. absurd (omega (arith, less));
   };
-  low = c.requires.dart;
+  low = c.args.start.now.low;
   listed = search rules;
 }
 
 pub returns-then-nodes-to-clause-run : goal.returns-then-nodes-to-clause-run
 returns-then-nodes-to-clause-run c =
+    let s = c.args.start.now in
     let i = c.steps.invariant in
     let q = c.requires in
-    let node : is_node c.args.mesh.now c.args.cut.now (end_vertex (half_edges c.args.mesh.now) c.steps.d) ≡ true =
+    let node : is_node s.mesh.now s.cut.now (end_vertex (half_edges s.mesh.now) c.steps.d) ≡ true =
     sym (q.marked.told _ (rw c.to.ensures.value at c.to.ensures.vertex))
     ∙ (ap (is_on c.args.nodes.now) (sym c.to.ensures.value) ∙ c.if-nodes-to.true) in
     let listed = walk_listed q.marked i.walk i.listed c.in_ok-push.ensures.items in
     let long : length c.push.new.self.items ≡ c.steps.counter + 1 =
-    ap length listed ∙ run_long (half_edges c.args.mesh.now) c.args.start (c.steps.counter + 1) in
+    ap length listed ∙ run_long (half_edges s.mesh.now) s.dart (c.steps.counter + 1) in
     rw long (walk_run q.marked i.walk node)
 
 pub returns-then-nodes-to-clause-darts : goal.returns-then-nodes-to-clause-darts
 returns-then-nodes-to-clause-darts c =
+    let s = c.args.start.now in
     let i = c.steps.invariant in
     let q = c.requires in
     let listed = walk_listed q.marked i.walk i.listed c.in_ok-push.ensures.items in
     let long : length c.push.new.self.items ≡ c.steps.counter + 1 =
-    ap length listed ∙ run_long (half_edges c.args.mesh.now) c.args.start (c.steps.counter + 1) in
-    listed ∙ ap (run_list (half_edges c.args.mesh.now) c.args.start) (sym long)
+    ap length listed ∙ run_long (half_edges s.mesh.now) s.dart (c.steps.counter + 1) in
+    listed ∙ ap (run_list (half_edges s.mesh.now) s.dart) (sym long)
 
 pub unwrap-d-requires : goal.unwrap-d-requires
 unwrap-d-requires c =
+    let s = c.args.start.now in
     let i = c.steps.invariant in
     let q = c.requires in
-    let node : is_node c.args.mesh.now c.args.cut.now (end_vertex (half_edges c.args.mesh.now) c.steps.d) ≡ false =
+    let node : is_node s.mesh.now s.cut.now (end_vertex (half_edges s.mesh.now) c.steps.d) ≡ false =
     sym (q.marked.told _ (rw c.to.ensures.value at c.to.ensures.vertex))
     ∙ (ap (is_on c.args.nodes.now) (sym c.to.ensures.value) ∙ c.if-nodes-to.false) in
     ap is_some (c.straight.ensures.value ∙ walk_straight q.marked i.walk node)
 
 pub steps-preserved : goal.steps-preserved
 steps-preserved c =
+    let s = c.args.start.now in
     let i = c.steps.invariant in
     let q = c.requires in
-    let node : is_node c.args.mesh.now c.args.cut.now (end_vertex (half_edges c.args.mesh.now) c.steps.d) ≡ false =
+    let node : is_node s.mesh.now s.cut.now (end_vertex (half_edges s.mesh.now) c.steps.d) ≡ false =
     sym (q.marked.told _ (rw c.to.ensures.value at c.to.ensures.vertex))
     ∙ (ap (is_on c.args.nodes.now) (sym c.to.ensures.value) ∙ c.if-nodes-to.false) in
-    let is = same_Some c.unwrap-d.result (step_east (half_edges c.args.mesh.now) c.steps.d)
+    let is = same_Some c.unwrap-d.result (step_east (half_edges s.mesh.now) c.steps.d)
     (sym c.unwrap-d.ensures ∙ (c.straight.ensures.value ∙ walk_straight q.marked i.walk node)) in
     record {
       walk = record {
-        low = q.dart;
-        on = q.on;
-        begins = q.begins;
+        low = s.low;
+        on = s.on;
+        begins = s.begins;
         at = walk_at q.marked i.walk is;
         inner = walk_inner q.marked i.walk node;
       };
