@@ -11,7 +11,7 @@ ghost use Rattle.qm_sing.specs.Rings.{AreSeedMarks, is_reflex_kind, is_singular_
 use crate::Memory;
 use crate::classes::classify;
 use crate::flooding::components;
-use crate::rings::seed_marks;
+use crate::rings::{Classed, seed_marks};
 use def_mesh::{Kind, Starts};
 use qm_mesh::Mesh;
 use std::alloc::Global;
@@ -22,9 +22,15 @@ pub fn sources(alloc: Global, mesh: &Mesh) -> Result<Starts, Memory>
 {
     let kinds = kinds(alloc, mesh)?;
     let (component, components) = components(alloc, mesh)?;
-    let marks = seed_marks(alloc, mesh, &kinds, &component, components)?;
+    let classed = Classed {
+        mesh,
+        kinds: &kinds,
+        component: &component,
+        components,
+    };
+    let marks = seed_marks(alloc, &classed)?;
     let seeds = seeds(alloc, mesh, &marks)?;
-    let starts = starts(alloc, mesh, &kinds, &marks)?;
+    let starts = starts(alloc, &classed, &marks)?;
     Ok(Starts {
         kinds,
         component,
@@ -61,15 +67,15 @@ fn seeds(alloc: Global, mesh: &Mesh, marks: &[bool]) -> Result<Vec<u32>, Memory>
 }
 
 /// The darts along which riders start.
-fn starts(alloc: Global, mesh: &Mesh, kinds: &[Kind], marks: &[bool]) -> Result<Vec<u32>, Memory>
-    requires kinds { kinds.now ≡ map (kind_of mesh.now) (all_vertices mesh.now) }
-    requires marks { AreSeedMarks mesh.now (vertex_count mesh.now) (darts mesh.now) marks.now }
-    ensures { IfOk result (λ starts. starts.items ≡ start_darts mesh.now) }
+fn starts(alloc: Global, classed: &Classed, marks: &[bool]) -> Result<Vec<u32>, Memory>
+    requires { AreSeedMarks classed.now.mesh.now
+        (vertex_count classed.now.mesh.now) (darts classed.now.mesh.now) marks.now }
+    ensures { IfOk result (λ starts. starts.items ≡ start_darts classed.now.mesh.now) }
 {
     let mut starts = Vec::new(alloc);
-    for d in 0..4 * mesh.faces().len() as u32 {
-        let v = mesh.from(d) as usize;
-        if may_start(kinds[v], mesh.twin(d).is_some(), marks[v]) {
+    for d in 0..4 * classed.mesh.faces().len() as u32 {
+        let v = classed.mesh.from(d) as usize;
+        if may_start(classed.kinds[v], classed.mesh.twin(d).is_some(), marks[v]) {
             starts.push(d)?;
         }
     }

@@ -14,38 +14,40 @@ use def_mesh::Kind;
 use qm_mesh::Mesh;
 use std::alloc::Global;
 
+/// A mesh with the kinds of its vertices and the numbers of its faces' components, of which there are so many.
+#[derive(Clone, Copy)]
+pub(crate) struct Classed<'a> {
+    pub(crate) mesh: &'a Mesh,
+    pub(crate) kinds: &'a [Kind],
+    pub(crate) component: &'a [u32],
+    pub(crate) components: u32,
+    pub(crate) ghost classes: { kinds.now ≡ map (kind_of mesh.now) (all_vertices mesh.now) },
+    pub(crate) ghost numbers: { component.now ≡ component_numbers mesh.now },
+    pub(crate) ghost many: { components ≡ length (least_faces mesh.now) },
+}
+
 /// A mark for each vertex: whether it is the seed of a ring. Linear in the darts.
-pub(crate) fn seed_marks(
-    alloc: Global,
-    mesh: &Mesh,
-    kinds: &[Kind],
-    component: &[u32],
-    components: u32,
-) -> Result<Vec<bool>, Memory>
-    requires kinds { kinds.now ≡ map (kind_of mesh.now) (all_vertices mesh.now) }
-    requires component { component.now ≡ component_numbers mesh.now }
-    requires components { components ≡ length (least_faces mesh.now) }
-    ensures { IfOk result (λ marks. AreSeedMarks mesh.now (vertex_count mesh.now) (darts mesh.now) marks.items) }
+pub(crate) fn seed_marks(alloc: Global, classed: &Classed) -> Result<Vec<bool>, Memory>
+    ensures { IfOk result (λ marks. AreSeedMarks classed.now.mesh.now
+        (vertex_count classed.now.mesh.now) (darts classed.now.mesh.now) marks.items) }
 {
-    let mut regular = vec![in alloc; true; components as usize]?;
-    let mut least = vec![in alloc; NONE; components as usize]?;
-    let mut marks = vec![in alloc; false; mesh.vertices() as usize]?;
-    gather(mesh, kinds, component, &mut regular, &mut least);
-    mark(mesh, component, &regular, &least, &mut marks);
+    let mut regular = vec![in alloc; true; classed.components as usize]?;
+    let mut least = vec![in alloc; NONE; classed.components as usize]?;
+    let mut marks = vec![in alloc; false; classed.mesh.vertices() as usize]?;
+    gather(classed, &mut regular, &mut least);
+    mark(classed, &regular, &least, &mut marks);
     Ok(marks)
 }
 
 /// Fills the tables of the components.
-fn gather(mesh: &Mesh, kinds: &[Kind], component: &[u32], regular: &mut [bool], least: &mut [u32])
-    requires kinds { kinds.now ≡ map (kind_of mesh.now) (all_vertices mesh.now) }
-    requires component { component.now ≡ component_numbers mesh.now }
-    requires none { AreRings mesh.now 0 regular.old least.old }
-    ensures { AreRings mesh.now (darts mesh.now) regular.new least.new }
+fn gather(classed: &Classed, regular: &mut [bool], least: &mut [u32])
+    requires none { AreRings classed.now.mesh.now 0 regular.old least.old }
+    ensures { AreRings classed.now.mesh.now (darts classed.now.mesh.now) regular.new least.new }
 {
-    for d in 0..4 * mesh.faces().len() as u32 {
-        let v = mesh.from(d);
-        let c = component[(d / 4) as usize];
-        take_corner(kinds[v as usize], c, v, regular, least);
+    for d in 0..4 * classed.mesh.faces().len() as u32 {
+        let v = classed.mesh.from(d);
+        let c = classed.component[(d / 4) as usize];
+        take_corner(classed.kinds[v as usize], c, v, regular, least);
     }
 }
 
@@ -77,16 +79,16 @@ fn is_regular(kind: Kind) -> bool
 }
 
 /// Marks the seeds.
-fn mark(mesh: &Mesh, component: &[u32], regular: &[bool], least: &[u32], marks: &mut [bool])
-    requires component { component.now ≡ component_numbers mesh.now }
-    requires rings { AreRings mesh.now (darts mesh.now) regular.now least.now }
-    requires none { AreSeedMarks mesh.now (vertex_count mesh.now) 0 marks.old }
-    ensures { AreSeedMarks mesh.now (vertex_count mesh.now) (darts mesh.now) marks.new }
+fn mark(classed: &Classed, regular: &[bool], least: &[u32], marks: &mut [bool])
+    requires rings { AreRings classed.now.mesh.now (darts classed.now.mesh.now) regular.now least.now }
+    requires none { AreSeedMarks classed.now.mesh.now (vertex_count classed.now.mesh.now) 0 marks.old }
+    ensures { AreSeedMarks classed.now.mesh.now
+        (vertex_count classed.now.mesh.now) (darts classed.now.mesh.now) marks.new }
 {
-    let _vertices = mesh.vertices();
-    for d in 0..4 * mesh.faces().len() as u32 {
-        let v = mesh.from(d);
-        let c = component[(d / 4) as usize];
+    let _vertices = classed.mesh.vertices();
+    for d in 0..4 * classed.mesh.faces().len() as u32 {
+        let v = classed.mesh.from(d);
+        let c = classed.component[(d / 4) as usize];
         if is_least(regular, least, c, v) {
             marks[v as usize] = true;
         }

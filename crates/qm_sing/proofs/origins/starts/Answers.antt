@@ -6,24 +6,25 @@ use Rattle.qm_sing.proofs.Tables.{kinds_long}
 use Rattle.qm_sing.proofs.origins.starts.Goals.{then-may_start+in_ok-push, else-may_start}
 use Rattle.qm_sing.proofs.origins.starts.Goals as goal
 
-pub bounds-kinds-v : goal.bounds-kinds-v
-bounds-kinds-v c = omega (arith, c.from-v.ensures.vertex, kinds_long c.args.mesh.now c.requires.kinds)
+pub bounds-classed-v : goal.bounds-classed-v
+bounds-classed-v c = let s = c.args.classed.now in
+    omega (arith, c.from-v.ensures.vertex, kinds_long s.mesh.now s.classes)
 
 pub loop-d-preserved : goal.loop-d-preserved
-loop-d-preserved c =
-    let ld : c.loop-d.d < darts c.args.mesh.now = omega (arith, c.loop-d-test.true, ap length c.faces.ensures.value) in
-    let t : c.may_start.result ≡ is_start c.args.mesh.now (seeds c.args.mesh.now) c.loop-d.d =
+loop-d-preserved c = let s = c.args.classed.now in
+    let ld : c.loop-d.d < darts s.mesh.now = omega (arith, c.loop-d-test.true, ap length c.faces.ensures.value) in
+    let t : c.may_start.result ≡ is_start s.mesh.now (seeds s.mesh.now) c.loop-d.d =
     start_told _ _ _ _ _ _ _ c.from-v.ensures.value
-    (kind_read _ _ c.from-v.result Regular c.from-v.ensures.vertex c.requires.kinds)
+    (kind_read _ _ c.from-v.result Regular c.from-v.ensures.vertex s.classes)
     (c.is_some.ensures ∙ ap is_some c.twin.ensures.value)
-    (mark_test _ c.faces.ensures.mesh.manifold c.args.marks.now c.from-v.result c.requires.marks)
+    (mark_test _ c.faces.ensures.mesh.manifold c.args.marks.now c.from-v.result c.requires)
     c.from-v.ensures.vertex ld c.may_start.ensures in
     elim c.if-may_start.branch [
       | then-may_start+in_ok-push w ↦ rw (w.starts-is, w.in_ok-push.ensures.items)
           (ap (λ xs. xs ++ c.loop-d.d ∷ []) c.loop-d.invariant
-          ∙ sym (filter_on (is_start c.args.mesh.now (seeds c.args.mesh.now)) c.loop-d.d (sym t
+          ∙ sym (filter_on (is_start s.mesh.now (seeds s.mesh.now)) c.loop-d.d (sym t
           ∙ w.if-may_start.true)))
       | else-may_start w ↦ rw w.starts-is (c.loop-d.invariant
-          ∙ sym (filter_off (is_start c.args.mesh.now (seeds c.args.mesh.now)) c.loop-d.d (sym t
+          ∙ sym (filter_off (is_start s.mesh.now (seeds s.mesh.now)) c.loop-d.d (sym t
           ∙ w.if-may_start.false)))
     ]

@@ -3,4 +3,4 @@ use Rattle.qm_sing.proofs.rings.gather.Given as goal
 
 -- The darts before d have been taken.
 abbrev pub invariant-loop-d : goal.invariant-loop-d
-invariant-loop-d l = AreRings l.mesh l.d l.regular l.least
+invariant-loop-d l = AreRings l.classed.mesh.now l.d l.regular l.least

@@ -4,4 +4,4 @@ use Rattle.qm_sing.proofs.rings.mark.Given as goal
 
 -- The seeds that darts before d leave are marked.
 abbrev pub invariant-loop-d : goal.invariant-loop-d
-invariant-loop-d l = AreSeedMarks l.mesh (vertex_count l.mesh) l.d l.marks
+invariant-loop-d l = AreSeedMarks l.classed.mesh.now (vertex_count l.classed.mesh.now) l.d l.marks
