@@ -21,20 +21,73 @@ pub fn breaks(alloc: Global, mesh: &Mesh, marks: &[bool]) -> Result<Vec<bool>, M
     let rings = ring_vertices(alloc, mesh, marks)?;
     let mut found = Vec::with_capacity(alloc, rings.len())?;
     for v in 0..mesh.vertices() {
-        found.push(is_break(mesh, marks, rings[v as usize], v))?;
+        let crossing = Crossing {
+            mesh,
+            marks,
+            vertex: v,
+        };
+        found.push(crossing.is_break(rings[v as usize]))?;
     }
     Ok(found)
 }
 
-/// Whether marked lines break at v, where it is known whether it is the least vertex of a closed run that is marked.
-fn is_break(mesh: &Mesh, marks: &[bool], in_ring: bool, v: u32) -> bool
-    requires marks { length marks.now ≡ darts mesh.now }
-    requires vertex { v < vertex_count mesh.now }
-    requires ring { in_ring ≡ is_least_in_ring mesh.now marks.now v }
-    ensures { result ≡ is_break_at mesh.now marks.now v }
-{
-    is_passed(mesh, v)
-        && (is_bent(is_touched(mesh, marks, v), is_crossed(mesh, marks, v)) || in_ring)
+/// A vertex of a mesh with marked edges.
+#[derive(Clone, Copy)]
+struct Crossing<'a> {
+    mesh: &'a Mesh,
+    marks: &'a [bool],
+    vertex: u32,
+    ghost long: { length marks.now ≡ darts mesh.now },
+    ghost low: { vertex < vertex_count mesh.now },
+}
+
+impl Crossing<'_> {
+    /// Whether marked lines break there, where it is known whether it is the least vertex of a closed run that is
+    /// marked.
+    fn is_break(&self, in_ring: bool) -> bool
+        requires { in_ring ≡ is_least_in_ring self.now.mesh.now self.now.marks.now self.now.vertex }
+        ensures { result ≡ is_break_at self.now.mesh.now self.now.marks.now self.now.vertex }
+    {
+        is_passed(self.mesh, self.vertex)
+            && (is_bent(self.is_touched(), self.is_crossed()) || in_ring)
+    }
+
+    /// Whether some edge there is marked.
+    fn is_touched(&self) -> bool
+        ensures { result ≡ is_touched_at self.now.mesh.now self.now.marks.now self.now.vertex }
+    {
+        let _known = self.mesh.faces();
+        for d in self.mesh.fan(self.vertex) {
+            if self.marks[*d as usize] {
+                return true;
+            }
+        }
+        false
+    }
+
+    /// Whether two opposite edges there are marked.
+    fn is_crossed(&self) -> bool
+        ensures { result ≡ is_crossed_at self.now.mesh.now self.now.marks.now self.now.vertex }
+    {
+        let _known = self.mesh.faces();
+        for d in self.mesh.fan(self.vertex) {
+            if self.goes_through(self.mesh.twin(*d)) {
+                return true;
+            }
+        }
+        false
+    }
+
+    /// Whether this twin of a dart is marked, and so is the dart straight on from it.
+    fn goes_through(&self, twin: Option<u32>) -> bool
+        requires { IfSome twin (λ t. t < darts self.now.mesh.now) }
+        ensures { result ≡ goes_through_at self.now.mesh.now self.now.marks.now twin }
+    {
+        match twin {
+            None => false,
+            Some(t) => self.marks[t as usize] && is_found_on(self.marks, self.mesh.straight(t)),
+        }
+    }
 }
 
 /// Whether some edge is marked, but no two opposite ones.
@@ -42,48 +95,6 @@ fn is_bent(touched: bool, crossed: bool) -> bool
     ensures { result ≡ (touched && not crossed) }
 {
     touched && !crossed
-}
-
-/// Whether some edge at v is marked.
-fn is_touched(mesh: &Mesh, marks: &[bool], v: u32) -> bool
-    requires marks { length marks.now ≡ darts mesh.now }
-    requires vertex { v < vertex_count mesh.now }
-    ensures { result ≡ is_touched_at mesh.now marks.now v }
-{
-    let _known = mesh.faces();
-    for d in mesh.fan(v) {
-        if marks[*d as usize] {
-            return true;
-        }
-    }
-    false
-}
-
-/// Whether two opposite edges at v are marked.
-fn is_crossed(mesh: &Mesh, marks: &[bool], v: u32) -> bool
-    requires marks { length marks.now ≡ darts mesh.now }
-    requires vertex { v < vertex_count mesh.now }
-    ensures { result ≡ is_crossed_at mesh.now marks.now v }
-{
-    let _known = mesh.faces();
-    for d in mesh.fan(v) {
-        if goes_through(mesh, marks, mesh.twin(*d)) {
-            return true;
-        }
-    }
-    false
-}
-
-/// Whether this twin of a dart is marked, and so is the dart straight on from it.
-fn goes_through(mesh: &Mesh, marks: &[bool], twin: Option<u32>) -> bool
-    requires marks { length marks.now ≡ darts mesh.now }
-    requires dart { IfSome twin (λ t. t < darts mesh.now) }
-    ensures { result ≡ goes_through_at mesh.now marks.now twin }
-{
-    match twin {
-        None => false,
-        Some(t) => marks[t as usize] && is_found_on(marks, mesh.straight(t)),
-    }
 }
 
 /// Whether a dart was found and is marked.

@@ -30,7 +30,13 @@ pub(crate) fn ring_vertices(alloc: Global, mesh: &Mesh, marks: &[bool]) -> Resul
     let mut least = vec![in alloc; NONE; table.closed.len()]?;
     lower(mesh, &table.run, &mut least);
     let mut rings = vec![in alloc; false; mesh.vertices() as usize]?;
-    mark_rings(mesh, &table.run, &whole, &least, &mut rings);
+    let homes = Homes {
+        mesh,
+        run: &table.run,
+        whole: &whole,
+        least: &least,
+    };
+    homes.mark_rings(&mut rings);
     Ok(rings)
 }
 
@@ -76,31 +82,40 @@ fn lower_one(r: u32, v: u32, least: &mut [u32])
     least[r as usize] = least[r as usize].min(v);
 }
 
-/// Marks the least vertices of whole runs.
-fn mark_rings(mesh: &Mesh, run: &[u32], whole: &[bool], least: &[u32], rings: &mut [bool])
-    requires darts { length run.now ≡ darts mesh.now }
-    requires whole { (d : ℕ) → d < length run.now → run_at run.now d < length whole.now }
-    requires least { (d : ℕ) → d < length run.now → run_at run.now d < length least.now }
-    requires rings { length rings.old ≡ vertex_count mesh.now }
-    ensures { (v : ℕ) → is_on rings.new v
-        ≡ (is_on rings.old v || list_any (λ d. (from_of mesh.now d == v)
-        && is_home mesh.now run.now whole.now least.now d) (all_darts mesh.now)) }
-{
-    for d in 0..4 * mesh.faces().len() as u32 {
-        mark_if(mesh, d, is_first(mesh, d, run, whole, least), rings);
-    }
+/// The runs of a mesh, those that are whole, and the least vertex of each.
+#[derive(Clone, Copy)]
+struct Homes<'a> {
+    mesh: &'a Mesh,
+    run: &'a [u32],
+    whole: &'a [bool],
+    least: &'a [u32],
+    ghost long: { length run.now ≡ darts mesh.now },
+    ghost wholes: { (d : ℕ) → d < length run.now → run_at run.now d < length whole.now },
+    ghost leasts: { (d : ℕ) → d < length run.now → run_at run.now d < length least.now },
 }
 
-/// Whether d leaves the least vertex of its run, which is whole.
-fn is_first(mesh: &Mesh, d: u32, run: &[u32], whole: &[bool], least: &[u32]) -> bool
-    requires dart { d < darts mesh.now }
-    requires darts { length run.now ≡ darts mesh.now }
-    requires whole { run_at run.now d < length whole.now }
-    requires least { run_at run.now d < length least.now }
-    ensures { result ≡ is_home mesh.now run.now whole.now least.now d }
-{
-    let r = run[d as usize] as usize;
-    whole[r] && least[r] == mesh.from(d)
+impl Homes<'_> {
+    /// Marks the least vertices of whole runs.
+    fn mark_rings(&self, rings: &mut [bool])
+        requires { length rings.old ≡ vertex_count self.now.mesh.now }
+        ensures { (v : ℕ) → is_on rings.new v
+            ≡ (is_on rings.old v || list_any (λ d. (from_of self.now.mesh.now d == v)
+            && is_home self.now.mesh.now self.now.run.now self.now.whole.now self.now.least.now d)
+            (all_darts self.now.mesh.now)) }
+    {
+        for d in 0..4 * self.mesh.faces().len() as u32 {
+            mark_if(self.mesh, d, self.is_first(d), rings);
+        }
+    }
+
+    /// Whether d leaves the least vertex of its run, which is whole.
+    fn is_first(&self, d: u32) -> bool
+        requires { d < darts self.now.mesh.now }
+        ensures { result ≡ is_home self.now.mesh.now self.now.run.now self.now.whole.now self.now.least.now d }
+    {
+        let r = self.run[d as usize] as usize;
+        self.whole[r] && self.least[r] == self.mesh.from(d)
+    }
 }
 
 /// Marks the vertex that d leaves, where the test holds.

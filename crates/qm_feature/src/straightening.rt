@@ -33,7 +33,8 @@ pub fn conforming(
     let mut sources = Vec::from_slice(alloc, marks)?;
     mark_starts(&starts, &mut sources);
     let led = all_led(alloc, mesh, &sources)?;
-    led_edges(alloc, mesh, &led)
+    let lines = Lines { mesh, led: &led };
+    lines.edges(alloc)
 }
 
 /// The darts to which lines lead from these. Linear in the darts.
@@ -94,27 +95,36 @@ fn unled_after(mesh: &Mesh, led: &[bool], d: u32) -> Option<u32>
     if led[next as usize] { None } else { Some(next) }
 }
 
-/// The edges at the boundary and those that are marked in either direction.
-fn led_edges(alloc: Global, mesh: &Mesh, led: &[bool]) -> Result<Vec<bool>, Memory>
-    requires { length led.now ≡ darts mesh.now }
-    ensures { IfOk result (λ cut.
-        cut.items ≡ map (λ d. is_led_edge led.now d (twin_of mesh.now d)) (all_darts mesh.now)) }
-{
-    let darts = 4 * mesh.faces().len();
-    let mut cut = Vec::with_capacity(alloc, darts)?;
-    for d in 0..darts as u32 {
-        cut.push(is_led(mesh, led, d))?;
-    }
-    Ok(cut)
+/// Lines of a mesh, told by marks of their darts.
+#[derive(Clone, Copy)]
+struct Lines<'a> {
+    mesh: &'a Mesh,
+    led: &'a [bool],
+    ghost long: { length led.now ≡ darts mesh.now },
 }
 
-fn is_led(mesh: &Mesh, led: &[bool], d: u32) -> bool
-    requires long { length led.now ≡ darts mesh.now }
-    requires dart { d < darts mesh.now }
-    ensures { result ≡ is_led_edge led.now d (twin_of mesh.now d) }
-{
-    match mesh.twin(d) {
-        None => true,
-        Some(t) => led[d as usize] || led[t as usize],
+impl Lines<'_> {
+    /// The edges at the boundary and those that are marked in either direction.
+    fn edges(&self, alloc: Global) -> Result<Vec<bool>, Memory>
+        ensures { IfOk result (λ cut. cut.items
+            ≡ map (λ d. is_led_edge self.now.led.now d (twin_of self.now.mesh.now d)) (all_darts self.now.mesh.now)) }
+    {
+        let darts = 4 * self.mesh.faces().len();
+        let mut cut = Vec::with_capacity(alloc, darts)?;
+        for d in 0..darts as u32 {
+            cut.push(self.has_edge(d))?;
+        }
+        Ok(cut)
+    }
+
+    /// Whether the edge of d lies at the boundary or is marked in either direction.
+    fn has_edge(&self, d: u32) -> bool
+        requires { d < darts self.now.mesh.now }
+        ensures { result ≡ is_led_edge self.now.led.now d (twin_of self.now.mesh.now d) }
+    {
+        match self.mesh.twin(d) {
+            None => true,
+            Some(t) => self.led[d as usize] || self.led[t as usize],
+        }
     }
 }

@@ -33,7 +33,7 @@ returns c =
     let led : AreLed c.args.mesh.now c.deref-4.result.now c.deref-5.result.now (darts c.args.mesh.now) =
     subst (λ (xs : List Bool). AreLed c.args.mesh.now c.deref-4.result.now xs (darts c.args.mesh.now))
     (sym c.deref-5.ensures.value) c.in_ok-led.ensures in
-    IfOk-weaker c.led_edges.result _ _
+    IfOk-weaker c.edges.result _ _
     (λ cut is. conforms c.args.mesh.now c.faces-known.ensures.mesh.manifold c.args.marks.now c.deref-3.result.now
     c.deref-4.result.now c.deref-5.result.now cut.items starts told led is)
-    c.led_edges.ensures
+    c.edges.ensures

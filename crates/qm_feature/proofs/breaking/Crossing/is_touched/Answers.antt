@@ -1,0 +1,10 @@
+use Rattle.std.proofs.Common.{arith}
+use Rattle.mesh_laws.proofs.Fans.{is_fan}
+use Rattle.qm_feature.proofs.breaking.Crossing.is_touched.Goals as goal
+
+pub bounds-self-d : goal.bounds-self-d
+bounds-self-d c = let s = c.args.self.now in omega (
+  arith,
+  (is_fan s.mesh.now s.vertex c.fan-d-items.result.now c.fan-d-items.ensures).dart c.loop-d.d-index c.loop-d-test.true,
+  s.long,
+)
