@@ -9,7 +9,7 @@ use Rattle.def_cut.specs.{Cuts.Cut, Cuts.IsCorner, Cuts.IsCut, Steps.easts}
 use Rattle.cut_laws.proofs.Rows.{endless}
 use Rattle.def_merge.specs.Joins.{IsJoinable, IsWholeSide, IsWithout}
 use Rattle.merge_laws.proofs.ArcDarts.{other_without, turned_arc}
-use Rattle.qm_merge.specs.Links.{AreLinks, AreSides, HasRoom, IsJoined, IsRound, at}
+use Rattle.qm_merge.specs.Links.{AreLinks, AreSides, AreStarts, HasRoom, IsJoined, IsRound, at}
 use Rattle.qm_merge.specs.{Walks.IsNextCorner, declared.links.Links.Links, declared.links.Round.Round}
 use Rattle.qm_merge.proofs.Rejoined.{corner_was, fourths_differ, near_closes, near_corner, near_side, side_stays}
 use Rattle.qm_merge.proofs.Rounds.{next_is_corner, one_before}
@@ -17,6 +17,17 @@ use Rattle.qm_merge.proofs.Rounds.{next_is_corner, one_before}
 -- What is read at a place of a table.
 pub read_at : (xs : List ℕ) (d : ℕ) {r : ℕ} → r ≡ get_or xs d r → d < length xs → r ≡ at xs d
 read_at xs d is l = is ∙ get_or_default xs d _ 0 l
+
+-- One start more.
+pub starts_set : (starts : List ℕ) (count name s : ℕ) → AreStarts starts count → name < count → s < count
+    → AreStarts (set starts name s) count
+starts_set starts count name s are named low = (
+  length-set starts name s ∙ are.0,
+  λ d l. elim (cases_eq d name) [
+    | inl e ↦ rw (e, get_or-set_same starts name s 0 (omega (arith, are.0, named))) low
+    | inr ne ↦ rw (get_or-set_other starts name d s 0 ne) (are.1 d l)
+  ],
+)
 
 module _ {mesh : HalfEdges} {cut : Cut} {next long : List ℕ} {c : ℕ} (low : c < mesh.count)
     (sides : AreSides mesh cut next long c) where

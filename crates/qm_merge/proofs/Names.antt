@@ -15,6 +15,11 @@ use Rattle.def_merge.specs.Joins.{IsWholeSide, IsJoinable, IsOnArc, IsNameOf, Le
 use Rattle.qm_merge.specs.{Seams.IsSeam, Links.at, Waiting.AreBelow, Waiting.IsNoted, Waiting.Waits, Waiting.mark_count}
 use Rattle.qm_merge.specs.declared.seams.Seam.{Seam}
 
+-- A set that grew by a number that was new or not.
+pub few_more : (b : Bool) (old new : ℕ) → new ≡ old + cond b 1 0 → new ≤ old + 1
+few_more true old new e = omega (arith, e)
+few_more false old new e = omega (arith, e)
+
 -- Another number is not at a number's place.
 at_bits : (a b : Bool) → b ≡ false → is_eq (cond a Less (cond b Equal Greater)) ≡ false
 at_bits true b e = refl

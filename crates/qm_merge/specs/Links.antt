@@ -27,6 +27,11 @@ AreLinks mesh cut links = AreSides mesh cut links.next.items links.long.items me
 abbrev pub AreStarts : (starts : List ℕ) (count : ℕ) → Type 0
 AreStarts starts count = (length starts ≡ count) × ((d : ℕ) → d < count → at starts d < count)
 
+-- Links of all corners, with a dart for each name.
+pub record AreTied (mesh : HalfEdges) (cut : Cut) (links : Links) : Type 0 where
+  pub linked : AreLinks mesh cut links
+  pub starts : AreStarts links.starts.items mesh.count
+
 -- The corners that follow s round its patch.
 pub record IsRound (mesh : HalfEdges) (cut : Cut) (s : ℕ) (round : Round) : Type 0 where
   pub second : IsNextCorner mesh cut s round.second

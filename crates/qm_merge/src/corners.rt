@@ -1,35 +1,14 @@
-//! The corners of patches, and their sides, found by walks.
+//! The sides of patches, found by walks from their corners.
 
-ghost use Rattle.std.specs.Prelude.{◌≡◌, ◌-◌, ◌<◌, ◌↔◌, IsTrue, IsSome};
-ghost use Rattle.def_mesh.specs.Darts.{darts, next_of, twin_of};
+ghost use Rattle.std.specs.Prelude.{◌≡◌, ◌-◌};
+ghost use Rattle.def_mesh.specs.Darts.{next_of};
 ghost use Rattle.def_mesh.specs.HalfEdges.{half_edges};
 ghost use Rattle.def_cut.specs.Cuts.{IsCorner};
 ghost use Rattle.def_cut.specs.FullCut.{is_on};
-ghost use Rattle.def_cut.specs.Steps.{easts, step_east};
+ghost use Rattle.def_cut.specs.Steps.{easts};
 ghost use Rattle.def_merge.specs.Joins.{IsWholeSide};
-ghost use Rattle.qm_grid.specs.Cutting.{IsCutting};
 
-use qm_mesh::Mesh;
-
-/// The dart straight on from d, over an edge with two darts.
-pub(crate) fn east(mesh: &Mesh, d: u32) -> u32
-    requires dart { d < darts mesh.now }
-    requires paired { IsSome (twin_of mesh.now (next_of d)) }
-    ensures value { result ≡ step_east (half_edges mesh.now) d }
-    ensures dart { result < darts mesh.now }
-{
-    let across = mesh.twin(mesh.next(d)).unwrap();
-    mesh.next(across)
-}
-
-/// Whether a patch has a corner where d begins.
-pub(crate) fn is_corner(mesh: &Mesh, cut: &[bool], d: u32) -> bool
-    requires cutting { IsCutting mesh.now cut.now }
-    requires dart { d < darts mesh.now }
-    ensures { IsTrue result ↔ IsCorner (half_edges mesh.now) (is_on cut.now) d }
-{
-    cut[d as usize] && cut[mesh.prev(d) as usize]
-}
+use qm_grid::Cutting;
 
 /// A side of a patch: the corner where it ends, and how many edges it has.
 #[derive(Clone, Copy, Debug, PartialEq, Eq)]
@@ -39,22 +18,22 @@ pub(crate) struct Side {
 }
 
 /// The side from a corner. Linear in it.
-pub(crate) fn side_from(mesh: &Mesh, cut: &[bool], corner: u32) -> Side
-    requires cutting { IsCutting mesh.now cut.now }
-    requires corner { IsCorner (half_edges mesh.now) (is_on cut.now) corner }
-    ensures whole { IsWholeSide (half_edges mesh.now) (is_on cut.now) corner result.long }
-    ensures next { result.next ≡ next_of (easts (half_edges mesh.now) corner (result.long - 1)) }
+pub(crate) fn side_from(cut: &Cutting, corner: u32) -> Side
+    requires corner { IsCorner (half_edges cut.now.faces) (is_on cut.now.marks) corner }
+    ensures whole { IsWholeSide (half_edges cut.now.faces) (is_on cut.now.marks) corner result.long }
+    ensures next { result.next ≡ next_of (easts (half_edges cut.now.faces) corner (result.long - 1)) }
 {
+    cut.is_full();
     let mut d = corner;
-    for n in 0..cut.len() as u32 + 1 {
-        let after = mesh.next(d);
-        if cut[after as usize] {
+    for n in 0..cut.darts() + 1 {
+        let after = cut.next(d);
+        if cut.is_cut(after) {
             return Side {
                 next: after,
                 long: n + 1,
             };
         }
-        d = east(mesh, d);
+        d = cut.east(d);
     }
     unreachable!()
 }

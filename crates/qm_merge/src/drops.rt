@@ -1,14 +1,14 @@
 //! An arc leaves a cut.
 
 ghost use Rattle.std.specs.Prelude.{◌≡◌, ◌≢◌, ◌<◌, ℕ, false, length, IsSome, Some};
-ghost use Rattle.def_mesh.specs.Darts.{darts, twin_of};
+ghost use Rattle.def_mesh.specs.Darts.{darts, next_of, twin_of};
 ghost use Rattle.def_mesh.specs.HalfEdges.{half_edges};
 ghost use Rattle.def_cut.specs.FullCut.{is_on};
+ghost use Rattle.def_cut.specs.Steps.{step_east};
 ghost use Rattle.def_merge.specs.Joins.{IsWithout};
 ghost use Rattle.qm_grid.specs.Cutting.{IsCutting};
 ghost use Rattle.qm_merge.specs.Seams.{IsSeam};
 
-use crate::corners::east;
 use crate::seams::Seam;
 use qm_mesh::Mesh;
 
@@ -26,6 +26,17 @@ pub(crate) fn drop_seam(mesh: &Mesh, cut: &mut [bool], s: u32, seam: Seam)
         }
         drop_edge(mesh, cut, d);
     }
+}
+
+/// The dart straight on from d, over an edge with two darts.
+fn east(mesh: &Mesh, d: u32) -> u32
+    requires dart { d < darts mesh.now }
+    requires paired { IsSome (twin_of mesh.now (next_of d)) }
+    ensures value { result ≡ step_east (half_edges mesh.now) d }
+    ensures dart { result < darts mesh.now }
+{
+    let across = mesh.twin(mesh.next(d)).unwrap();
+    mesh.next(across)
 }
 
 /// Takes one edge with two darts out of the cut.

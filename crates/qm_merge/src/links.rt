@@ -6,12 +6,11 @@ ghost use Rattle.def_mesh.specs.HalfEdges.{half_edges};
 ghost use Rattle.def_cut.specs.Cuts.{IsCorner};
 ghost use Rattle.def_cut.specs.FullCut.{is_on};
 ghost use Rattle.def_merge.specs.Joins.{AreInOne};
-ghost use Rattle.qm_grid.specs.Cutting.{IsCutting};
-ghost use Rattle.qm_merge.specs.Links.{AreLinks, AreSides, AreStarts, HasRoom, IsJoined, IsRound};
+ghost use Rattle.qm_merge.specs.Links.{AreSides, AreTied, HasRoom, IsJoined, IsRound};
 ghost use Rattle.qm_merge.specs.Walks.{IsNextCorner};
 
-use crate::corners::{is_corner, side_from};
-use qm_mesh::Mesh;
+use crate::corners::side_from;
+use qm_grid::Cutting;
 use std::alloc::{AllocError, Global};
 
 /// For each corner the next one round its patch, and how many edges its side has; and for each name of an arc a corner
@@ -31,77 +30,83 @@ pub(crate) struct Round {
     pub(crate) fourth: u32,
 }
 
+/// A cut with the links of its corners.
+#[derive(Clone, Copy)]
+pub(crate) struct Linked<'a> {
+    pub(crate) cut: &'a Cutting<'a>,
+    pub(crate) links: &'a Links,
+    pub(crate) ghost tied: { AreTied (half_edges cut.now.faces) (is_on cut.now.marks) links.now },
+}
+
 /// The links of all corners. Linear in the darts.
-pub(crate) fn all_links(alloc: Global, mesh: &Mesh, cut: &[bool]) -> Result<Links, AllocError>
-    requires cutting { IsCutting mesh.now cut.now }
-    ensures links { IfOk result (AreLinks (half_edges mesh.now) (is_on cut.now)) }
-    ensures starts { IfOk result (λ links. AreStarts links.starts.items (darts mesh.now)) }
+pub(crate) fn all_links(alloc: Global, cut: &Cutting) -> Result<Links, AllocError>
+    ensures { IfOk result (AreTied (half_edges cut.now.faces) (is_on cut.now.marks)) }
 {
-    let darts = cut.len();
+    cut.is_full();
+    let darts = cut.darts();
     let mut links = Links {
-        next: vec![in alloc; 0; darts]?,
-        long: vec![in alloc; 0; darts]?,
-        starts: vec![in alloc; 0; darts]?,
+        next: vec![in alloc; 0; darts as usize]?,
+        long: vec![in alloc; 0; darts as usize]?,
+        starts: vec![in alloc; 0; darts as usize]?,
     };
-    for c in 0..darts as u32 {
-        link_from(mesh, cut, &mut links, c);
+    for c in 0..darts {
+        link_from(cut, &mut links, c);
     }
     Ok(links)
 }
 
 /// Links c with the next corner, if it is one.
-fn link_from(mesh: &Mesh, cut: &[bool], links: &mut Links, c: u32)
-    requires cutting { IsCutting mesh.now cut.now }
-    requires dart { c < darts mesh.now }
-    requires sides { AreSides (half_edges mesh.now) (is_on cut.now) links.old.next.items links.old.long.items c }
-    ensures sides { AreSides (half_edges mesh.now) (is_on cut.now) links.new.next.items links.new.long.items (c + 1) }
+fn link_from(cut: &Cutting, links: &mut Links, c: u32)
+    requires dart { c < darts cut.now.faces }
+    requires sides { AreSides (half_edges cut.now.faces) (is_on cut.now.marks)
+        links.old.next.items links.old.long.items c }
+    ensures sides { AreSides (half_edges cut.now.faces) (is_on cut.now.marks)
+        links.new.next.items links.new.long.items (c + 1) }
     ensures starts { links.new.starts.items ≡ links.old.starts.items }
 {
-    if is_corner(mesh, cut, c) {
-        let side = side_from(mesh, cut, c);
+    if cut.is_corner(c) {
+        let side = side_from(cut, c);
         links.next[c as usize] = side.next;
         links.long[c as usize] = side.long;
     }
 }
 
-/// The next corner of the patch. Takes constant time.
-fn next_corner(mesh: &Mesh, cut: &[bool], links: &Links, corner: u32) -> u32
-    requires cutting { IsCutting mesh.now cut.now }
-    requires links { AreLinks (half_edges mesh.now) (is_on cut.now) links.now }
-    requires corner { IsCorner (half_edges mesh.now) (is_on cut.now) corner }
-    ensures next { IsNextCorner (half_edges mesh.now) (is_on cut.now) corner result }
-    ensures corner { IsCorner (half_edges mesh.now) (is_on cut.now) result }
-{
-    links.next[corner as usize]
-}
-
-/// The corners that follow s round its patch. Takes constant time.
-pub(crate) fn round_from(mesh: &Mesh, cut: &[bool], links: &Links, s: u32) -> Round
-    requires cutting { IsCutting mesh.now cut.now }
-    requires links { AreLinks (half_edges mesh.now) (is_on cut.now) links.now }
-    requires corner { IsCorner (half_edges mesh.now) (is_on cut.now) s }
-    ensures { IsRound (half_edges mesh.now) (is_on cut.now) s result }
-{
-    let second = next_corner(mesh, cut, links, s);
-    let third = next_corner(mesh, cut, links, second);
-    let fourth = next_corner(mesh, cut, links, third);
-    Round {
-        second,
-        third,
-        fourth,
+impl Linked<'_> {
+    /// The next corner of the patch. Takes constant time.
+    fn next_corner(&self, corner: u32) -> u32
+        requires { IsCorner (half_edges self.now.cut.now.faces) (is_on self.now.cut.now.marks) corner }
+        ensures next { IsNextCorner (half_edges self.now.cut.now.faces) (is_on self.now.cut.now.marks) corner result }
+        ensures corner { IsCorner (half_edges self.now.cut.now.faces) (is_on self.now.cut.now.marks) result }
+    {
+        self.cut.is_full();
+        self.links.next[corner as usize]
     }
-}
 
-/// Whether t is one of the four corners of the patch at corner s. Takes constant time.
-pub(crate) fn is_around(mesh: &Mesh, cut: &[bool], links: &Links, s: u32, t: u32) -> bool
-    requires cutting { IsCutting mesh.now cut.now }
-    requires links { AreLinks (half_edges mesh.now) (is_on cut.now) links.now }
-    requires corner { IsCorner (half_edges mesh.now) (is_on cut.now) s }
-    requires other { IsCorner (half_edges mesh.now) (is_on cut.now) t }
-    ensures { IsTrue result ↔ AreInOne (half_edges mesh.now) (is_on cut.now) s t }
-{
-    let round = round_from(mesh, cut, links, s);
-    [s, round.second, round.third, round.fourth].contains(&t)
+    /// The corners that follow s round its patch. Takes constant time.
+    pub(crate) fn round_from(&self, s: u32) -> Round
+        requires { IsCorner (half_edges self.now.cut.now.faces) (is_on self.now.cut.now.marks) s }
+        ensures { IsRound (half_edges self.now.cut.now.faces) (is_on self.now.cut.now.marks) s result }
+    {
+        let second = self.next_corner(s);
+        let third = self.next_corner(second);
+        let fourth = self.next_corner(third);
+        Round {
+            second,
+            third,
+            fourth,
+        }
+    }
+
+    /// Whether t is one of the four corners of the patch at corner s. Takes constant time.
+    pub(crate) fn is_around(&self, s: u32, t: u32) -> bool
+        requires corner { IsCorner (half_edges self.now.cut.now.faces) (is_on self.now.cut.now.marks) s }
+        requires other { IsCorner (half_edges self.now.cut.now.faces) (is_on self.now.cut.now.marks) t }
+        ensures { IsTrue result ↔ AreInOne (half_edges self.now.cut.now.faces) (is_on self.now.cut.now.marks) s t }
+    {
+        self.cut.is_full();
+        let round = self.round_from(s);
+        [s, round.second, round.third, round.fourth].contains(&t)
+    }
 }
 
 /// Links the corners of two patches anew, as they become one across the sides from the first corners of both.

@@ -12,16 +12,17 @@ ghost use Rattle.def_feature.specs.Beside.{IsCutBeside};
 ghost use Rattle.def_feature.specs.Marks.{AreMarks, is_break};
 ghost use Rattle.qm_merge.specs.Beside.{IsBeside};
 ghost use Rattle.qm_grid.specs.Cutting.{IsCutting};
-ghost use Rattle.qm_merge.specs.Links.{AreLinks, AreStarts, at};
+ghost use Rattle.qm_merge.specs.Links.{AreTied, at};
 ghost use Rattle.qm_merge.specs.Seams.{IsSeam};
 ghost use Rattle.qm_merge.specs.Waiting.{AreBelow, WaitStill, left_over};
 
 use crate::drops::drop_seam;
 use crate::held::may_leave;
-use crate::links::{Links, all_links, join_rounds, round_from};
-use crate::seams::{Place, seam_from};
+use crate::links::{Linked, Links, all_links, join_rounds};
+use crate::seams::Place;
 use crate::waiting::{Names, all_names, note_from};
 use def_cut::Graph;
+use qm_grid::Cutting;
 use qm_mesh::Mesh;
 use std::alloc::{AllocError, Global};
 
@@ -83,11 +84,17 @@ fn merge_all(
     ensures full { OnOk result (IsFullCut mesh.now cut.new) }
     ensures part { OnOk result ((d : ℕ) → is_on cut.new d ≡ true → is_on cut.old d ≡ true) }
 {
-    let mut links = all_links(alloc, mesh, cut)?;
-    let mut names = all_names(alloc, mesh, cut, &mut links)?;
+    let whole = Cutting::new(mesh, cut);
+    let mut links = all_links(alloc, &whole)?;
+    let mut names = all_names(alloc, &whole, &mut links)?;
     while let Some(name) = names.pop_first() {
-        if let Some(place) = place_of(mesh, cut, &links, name) {
-            if may_leave(mesh, marks, breaks, cut, place) {
+        let now = Cutting::new(mesh, cut);
+        let linked = Linked {
+            cut: &now,
+            links: &links,
+        };
+        if let Some(place) = place_of(&linked, name) {
+            if may_leave(&now, marks, breaks, place) {
                 drop_first(mesh, cut, &mut links, &mut names, place)?;
             }
         }
@@ -96,20 +103,20 @@ fn merge_all(
 }
 
 /// The joinable arc from the start of this name, if that is its name. Linear in it.
-fn place_of(mesh: &Mesh, cut: &[bool], links: &Links, name: u32) -> Option<Place>
-    requires cutting { IsCutting mesh.now cut.now }
-    requires links { AreLinks (half_edges mesh.now) (is_on cut.now) links.now }
-    requires starts { AreStarts links.now.starts.items (darts mesh.now) }
-    requires dart { name < darts mesh.now }
-    ensures found { IfSome result (λ place. IsSeam (half_edges mesh.now) (is_on cut.now) place.start place.seam) }
-    ensures start { IfSome result (λ place. place.start ≡ at links.now.starts.items name) }
+fn place_of(linked: &Linked, name: u32) -> Option<Place>
+    requires { name < darts linked.now.cut.now.faces }
+    ensures found { IfSome result (λ place.
+        IsSeam (half_edges linked.now.cut.now.faces) (is_on linked.now.cut.now.marks) place.start place.seam) }
+    ensures start { IfSome result (λ place. place.start ≡ at linked.now.links.now.starts.items name) }
     ensures named { IfSome result (λ place. place.seam.name ≡ name) }
-    ensures none { IfNone result ((t n : ℕ) → IsJoinable (half_edges mesh.now) (is_on cut.now)
-        (at links.now.starts.items name) t n
-        → ¬ IsNameOf (half_edges mesh.now) (at links.now.starts.items name) t n name) }
+    ensures none { IfNone result ((t n : ℕ)
+        → IsJoinable (half_edges linked.now.cut.now.faces) (is_on linked.now.cut.now.marks)
+        (at linked.now.links.now.starts.items name) t n
+        → ¬ IsNameOf (half_edges linked.now.cut.now.faces) (at linked.now.links.now.starts.items name) t n name) }
 {
-    let start = links.starts[name as usize];
-    let Some(seam) = seam_from(mesh, cut, links, start) else {
+    linked.cut.is_full();
+    let start = linked.links.starts[name as usize];
+    let Some(seam) = linked.seam_from(start) else {
         return None;
     };
     if seam.name != name {
@@ -127,13 +134,11 @@ fn drop_first(
     place: Place,
 ) -> Result<(), AllocError>
     requires cutting { IsCutting mesh.now cut.old }
-    requires links { AreLinks (half_edges mesh.now) (is_on cut.old) links.old }
-    requires starts { AreStarts links.old.starts.items (darts mesh.now) }
+    requires tied { AreTied (half_edges mesh.now) (is_on cut.old) links.old }
     requires seam { IsSeam (half_edges mesh.now) (is_on cut.old) place.start place.seam }
     requires below { AreBelow names.old (darts mesh.now) }
     ensures cutting { IsCutting mesh.now cut.new }
-    ensures links { AreLinks (half_edges mesh.now) (is_on cut.new) links.new }
-    ensures starts { AreStarts links.new.starts.items (darts mesh.now) }
+    ensures tied { AreTied (half_edges mesh.now) (is_on cut.new) links.new }
     ensures long { length cut.new ≡ length cut.old }
     ensures without { IsWithout (half_edges mesh.now) (is_on cut.old) (is_on cut.new)
         place.start place.seam.far place.seam.long }
@@ -142,10 +147,16 @@ fn drop_first(
     ensures below { OnOk result (AreBelow names.new (darts mesh.now)) }
     ensures fewer { OnOk result (left_over cut.new names.new ≤ left_over cut.old names.old) }
 {
-    let near = round_from(mesh, cut, links, place.start);
-    let far = round_from(mesh, cut, links, place.seam.far);
+    let before = Cutting::new(mesh, cut);
+    let linked = Linked {
+        cut: &before,
+        links,
+    };
+    let near = linked.round_from(place.start);
+    let far = linked.round_from(place.seam.far);
     join_rounds(links, near, far);
     drop_seam(mesh, cut, place.start, place.seam);
-    note_from(mesh, cut, links, names, near.fourth)?;
-    note_from(mesh, cut, links, names, far.fourth)
+    let after = Cutting::new(mesh, cut);
+    note_from(&after, links, names, near.fourth)?;
+    note_from(&after, links, names, far.fourth)
 }

@@ -6,13 +6,11 @@ ghost use Rattle.def_mesh.specs.Darts.{darts};
 ghost use Rattle.def_mesh.specs.HalfEdges.{half_edges};
 ghost use Rattle.def_cut.specs.FullCut.{is_on};
 ghost use Rattle.def_merge.specs.Joins.{IsJoinable, IsNameOf};
-ghost use Rattle.qm_grid.specs.Cutting.{IsCutting};
-ghost use Rattle.qm_merge.specs.Links.{AreLinks, AreStarts};
+ghost use Rattle.qm_merge.specs.Links.{AreTied};
 ghost use Rattle.qm_merge.specs.Waiting.{AllWait, AreBelow, IsNoted};
 
-use crate::links::Links;
-use crate::seams::seam_from;
-use qm_mesh::Mesh;
+use crate::links::{Linked, Links};
+use qm_grid::Cutting;
 use std::alloc::{AllocError, Global};
 use std::collections::BTreeSet;
 
@@ -22,48 +20,45 @@ pub(crate) type Names = BTreeSet<u32>;
 /// The names of all joinable arcs, each with its start among the links. Linear in the darts, up to logarithms.
 pub(crate) fn all_names(
     alloc: Global,
-    mesh: &Mesh,
-    cut: &[bool],
+    cut: &Cutting,
     links: &mut Links,
 ) -> Result<Names, AllocError>
-    requires cutting { IsCutting mesh.now cut.now }
-    requires links { AreLinks (half_edges mesh.now) (is_on cut.now) links.old }
-    requires starts { AreStarts links.old.starts.items (darts mesh.now) }
-    ensures links { AreLinks (half_edges mesh.now) (is_on cut.now) links.new }
-    ensures starts { AreStarts links.new.starts.items (darts mesh.now) }
-    ensures all { IfOk result (λ names. AllWait (half_edges mesh.now) (is_on cut.now) names links.new.starts.items) }
-    ensures below { IfOk result (λ names. AreBelow names (darts mesh.now)) }
+    requires tied { AreTied (half_edges cut.now.faces) (is_on cut.now.marks) links.old }
+    ensures tied { AreTied (half_edges cut.now.faces) (is_on cut.now.marks) links.new }
+    ensures all { IfOk result (λ names.
+        AllWait (half_edges cut.now.faces) (is_on cut.now.marks) names links.new.starts.items) }
+    ensures below { IfOk result (λ names. AreBelow names (darts cut.now.faces)) }
 {
+    cut.is_full();
     let mut names = BTreeSet::new(alloc);
-    for d in 0..cut.len() as u32 {
-        note_from(mesh, cut, links, &mut names, d)?;
+    for d in 0..cut.darts() {
+        note_from(cut, links, &mut names, d)?;
     }
     Ok(names)
 }
 
 /// Notes the joinable arc of which a side begins at s, if there is one. Linear in it.
 pub(crate) fn note_from(
-    mesh: &Mesh,
-    cut: &[bool],
+    cut: &Cutting,
     links: &mut Links,
     names: &mut Names,
     s: u32,
 ) -> Result<(), AllocError>
-    requires cutting { IsCutting mesh.now cut.now }
-    requires links { AreLinks (half_edges mesh.now) (is_on cut.now) links.old }
-    requires starts { AreStarts links.old.starts.items (darts mesh.now) }
-    requires dart { s < darts mesh.now }
-    ensures links { AreLinks (half_edges mesh.now) (is_on cut.now) links.new }
-    ensures starts { AreStarts links.new.starts.items (darts mesh.now) }
-    ensures noted { OnOk result ((t n name : ℕ) → IsJoinable (half_edges mesh.now) (is_on cut.now) s t n
-        → IsNameOf (half_edges mesh.now) s t n name → IsNoted names.new links.new.starts.items s t name) }
-    ensures kept { OnOk result ((r u m name : ℕ) → IsJoinable (half_edges mesh.now) (is_on cut.now) r u m
-        → IsNameOf (half_edges mesh.now) r u m name → IsNoted names.old links.old.starts.items r u name
+    requires tied { AreTied (half_edges cut.now.faces) (is_on cut.now.marks) links.old }
+    requires dart { s < darts cut.now.faces }
+    ensures tied { AreTied (half_edges cut.now.faces) (is_on cut.now.marks) links.new }
+    ensures noted { OnOk result ((t n name : ℕ) → IsJoinable (half_edges cut.now.faces) (is_on cut.now.marks) s t n
+        → IsNameOf (half_edges cut.now.faces) s t n name → IsNoted names.new links.new.starts.items s t name) }
+    ensures kept { OnOk result ((r u m name : ℕ) → IsJoinable (half_edges cut.now.faces) (is_on cut.now.marks) r u m
+        → IsNameOf (half_edges cut.now.faces) r u m name → IsNoted names.old links.old.starts.items r u name
         → IsNoted names.new links.new.starts.items r u name) }
-    ensures below { OnOk result (AreBelow names.old (darts mesh.now) → AreBelow names.new (darts mesh.now)) }
+    ensures below { OnOk result
+        (AreBelow names.old (darts cut.now.faces) → AreBelow names.new (darts cut.now.faces)) }
     ensures few { OnOk result (btree_set_len names.new ≤ btree_set_len names.old + 1) }
 {
-    if let Some(seam) = seam_from(mesh, cut, links, s) {
+    cut.is_full();
+    let linked = Linked { cut, links };
+    if let Some(seam) = linked.seam_from(s) {
         names.insert(seam.name)?;
         links.starts[seam.name as usize] = s;
     }

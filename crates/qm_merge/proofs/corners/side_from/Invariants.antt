@@ -6,7 +6,7 @@ use Rattle.qm_merge.proofs.corners.side_from.Given as goal
 -- the walk stands at its next dart, and has not met the end
 abbrev pub invariant-loop-n : goal.invariant-loop-n
 invariant-loop-n l = record {
-  at : l.d ≡ easts (half_edges l.mesh) l.corner l.n;
-  low : l.d < darts l.mesh;
-  inside : (k : ℕ) → k < l.n → is_on l.cut (next_of (easts (half_edges l.mesh) l.corner k)) ≡ false;
+  at : l.d ≡ easts (half_edges l.cut.faces) l.corner l.n;
+  low : l.d < darts l.cut.faces;
+  inside : (k : ℕ) → k < l.n → is_on l.cut.marks (next_of (easts (half_edges l.cut.faces) l.corner k)) ≡ false;
 }

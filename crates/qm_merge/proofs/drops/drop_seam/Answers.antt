@@ -7,13 +7,11 @@ use Rattle.qm_merge.proofs.drops.drop_seam.Goals.{then-k-gt0, else-k-gt0}
 use Rattle.qm_merge.proofs.drops.drop_seam.Goals as goal
 
 pub east-d-requires-clause-dart : goal.east-d-requires-clause-dart
-east-d-requires-clause-dart c =
-    let f = c.requires.cutting in
+east-d-requires-clause-dart c = let f = c.requires.cutting in
     edge_there f.laws f.full c.requires.seam.joinable.glued (omega (arith, c.loop-k-test.true)) c.loop-k.invariant.at
 
 pub east-d-requires-clause-paired : goal.east-d-requires-clause-paired
-east-d-requires-clause-paired c =
-    let f = c.requires.cutting in
+east-d-requires-clause-paired c = let f = c.requires.cutting in
     ap is_some (leads_to f.laws f.full c.requires.seam.joinable.glued
     (omega (arith, c.loop-k-test.true, c.if-k-gt0.true)) c.loop-k.invariant.at).1
 

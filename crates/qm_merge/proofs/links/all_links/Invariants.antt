@@ -6,6 +6,6 @@ use Rattle.qm_merge.proofs.links.all_links.Given as goal
 -- the corners below c are linked
 abbrev pub invariant-loop-c : goal.invariant-loop-c
 invariant-loop-c l = record {
-  sides : AreSides (half_edges l.mesh) (is_on l.cut) l.links.next.items l.links.long.items l.c;
-  starts : AreStarts l.links.starts.items (darts l.mesh);
+  sides : AreSides (half_edges l.cut.faces) (is_on l.cut.marks) l.links.next.items l.links.long.items l.c;
+  starts : AreStarts l.links.starts.items (darts l.cut.faces);
 }

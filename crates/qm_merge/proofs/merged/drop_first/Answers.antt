@@ -5,39 +5,55 @@ use Rattle.qm_merge.proofs.Dropped.{both_ok, cutting_after, marks_fewer, wait_st
 use Rattle.qm_merge.proofs.{Linked.has_room, Linked.links_after, Rounds.next_is_corner}
 use Rattle.qm_merge.proofs.merged.drop_first.Goals as goal
 
-pub join_rounds-requires : goal.join_rounds-requires
-join_rounds-requires c =
-    let f = c.requires.cutting in
-    has_room f.laws f.full c.args.links.now c.requires.links
-    c.round_from-near.ensures c.round_from-far.ensures (2 ^ 32) (omega (arith, f.few))
+pub invariant_of-linked : goal.invariant_of-linked
+invariant_of-linked c = record { tied = rw c.new-before.ensures c.requires.tied }
 
-pub note_from-requires-clause-cutting : goal.note_from-requires-clause-cutting
-note_from-requires-clause-cutting c = cutting_after c.drop_seam.new.cut c.requires.cutting c.args.place c.requires.seam
+pub round_from-near-requires : goal.round_from-near-requires
+round_from-near-requires c = rw c.new-before.ensures c.requires.seam.joinable.glued.near.corner
+
+pub round_from-far-requires : goal.round_from-far-requires
+round_from-far-requires c = rw c.new-before.ensures c.requires.seam.joinable.glued.far.corner
+
+pub join_rounds-requires : goal.join_rounds-requires
+join_rounds-requires c = let f = c.requires.cutting in
+    has_room f.laws f.full c.args.links.now c.requires.tied.linked
+    (rw c.new-before.ensures at c.round_from-near.ensures) (rw c.new-before.ensures at c.round_from-far.ensures)
+    (2 ^ 32) (omega (arith, f.few))
+
+pub new-after-requires : goal.new-after-requires
+new-after-requires c = cutting_after c.drop_seam.new.cut c.requires.cutting c.args.place c.requires.seam
     c.drop_seam.ensures.long c.drop_seam.ensures.without
 
-pub note_from-requires-clause-links : goal.note_from-requires-clause-links
-note_from-requires-clause-links c =
-    let f = c.requires.cutting in
-    links_after f.laws f.full c.requires.seam.joinable c.drop_seam.ensures.without c.round_from-near.ensures
-    c.round_from-far.ensures c.requires.links c.join_rounds.ensures
+pub note_from-requires-clause-tied : goal.note_from-requires-clause-tied
+note_from-requires-clause-tied c = let f = c.requires.cutting in
+    rw c.new-after.ensures (record {
+      linked = links_after f.laws f.full c.requires.seam.joinable c.drop_seam.ensures.without
+          (rw c.new-before.ensures at c.round_from-near.ensures) (rw c.new-before.ensures at c.round_from-far.ensures)
+          c.requires.tied.linked c.join_rounds.ensures;
+      starts = rw c.join_rounds.ensures.starts c.requires.tied.starts;
+    })
 
 pub note_from-requires-clause-dart : goal.note_from-requires-clause-dart
 note_from-requires-clause-dart c =
     let f = c.requires.cutting in
-    (next_is_corner f.laws f.full c.round_from-near.ensures.fourth).0
+    let near = rw c.new-before.ensures at c.round_from-near.ensures in
+    rw c.new-after.ensures (next_is_corner f.laws f.full near.fourth).0
 
 pub returns-in_err-note_from-clause-cutting : goal.returns-in_err-note_from-clause-cutting
 returns-in_err-note_from-clause-cutting c = cutting_after c.drop_seam.new.cut c.requires.cutting c.args.place
     c.requires.seam c.drop_seam.ensures.long c.drop_seam.ensures.without
 
-pub note_from-requires-2-clause-cutting : goal.note_from-requires-2-clause-cutting
-note_from-requires-2-clause-cutting c = cutting_after c.drop_seam.new.cut c.requires.cutting c.args.place
-    c.requires.seam c.drop_seam.ensures.long c.drop_seam.ensures.without
+pub returns-in_err-note_from-clause-tied : goal.returns-in_err-note_from-clause-tied
+returns-in_err-note_from-clause-tied c = rw c.new-after.ensures at c.note_from.ensures.tied
+
+pub returns-clause-tied : goal.returns-clause-tied
+returns-clause-tied c = rw c.new-after.ensures at c.note_from-2.ensures.tied
 
 pub note_from-requires-2-clause-dart : goal.note_from-requires-2-clause-dart
 note_from-requires-2-clause-dart c =
     let f = c.requires.cutting in
-    (next_is_corner f.laws f.full c.round_from-far.ensures.fourth).0
+    let far = rw c.new-before.ensures at c.round_from-far.ensures in
+    rw c.new-after.ensures (next_is_corner f.laws f.full far.fourth).0
 
 pub returns-clause-cutting : goal.returns-clause-cutting
 returns-clause-cutting c = cutting_after c.drop_seam.new.cut c.requires.cutting
@@ -45,18 +61,22 @@ returns-clause-cutting c = cutting_after c.drop_seam.new.cut c.requires.cutting
 
 pub returns-clause-waiting : goal.returns-clause-waiting
 returns-clause-waiting c =
-    let one = c.in_ok-note_from.ensures in
+    let one = rw c.new-after.ensures at c.in_ok-note_from.ensures.noted in
+    let still = rw c.new-after.ensures at c.in_ok-note_from.ensures.kept in
     both_ok c.note_from-2.result (λ noted kept.
     wait_still c.drop_seam.new.cut c.requires.cutting c.args.place c.requires.seam
     c.drop_seam.ensures.long c.drop_seam.ensures.without
-    c.round_from-near.ensures c.round_from-far.ensures c.args.names.now c.note_from.new.names
+    (rw c.new-before.ensures at c.round_from-near.ensures) (rw c.new-before.ensures at c.round_from-far.ensures)
+    c.args.names.now c.note_from.new.names
     c.note_from-2.new.names c.args.links.now.starts.items c.note_from.new.links.starts.items
-    c.note_from-2.new.links.starts.items one.noted (λ r u m name arc named old. one.kept r u m name arc named
-    (rw c.join_rounds.ensures.starts old)) noted kept) c.note_from-2.ensures.noted c.note_from-2.ensures.kept
+    c.note_from-2.new.links.starts.items one (λ r u m name arc named old. still r u m name arc named
+    (rw c.join_rounds.ensures.starts old)) noted kept) (rw c.new-after.ensures at c.note_from-2.ensures.noted)
+    (rw c.new-after.ensures at c.note_from-2.ensures.kept)
 
 pub returns-clause-below : goal.returns-clause-below
-returns-clause-below c = on_ok_weaker c.note_from-2.result
-    (λ below. below (c.in_ok-note_from.ensures.below c.requires.below)) c.note_from-2.ensures.below
+returns-clause-below c = let one = rw c.new-after.ensures at c.in_ok-note_from.ensures.below in
+    on_ok_weaker c.note_from-2.result (λ below. below (one c.requires.below))
+    (rw c.new-after.ensures at c.note_from-2.ensures.below)
 
 pub returns-clause-fewer : goal.returns-clause-fewer
 returns-clause-fewer c =

@@ -14,25 +14,34 @@ use Rattle.qm_merge.proofs.Names.{none_named, none_waits, seam_free, taken_below
 use Rattle.qm_merge.proofs.merged.merge_all.Goals as goal
 
 pub loop-name-init : goal.loop-name-init
-loop-name-init c = record {
-  cutting = c.requires.cutting;
-  links = c.in_ok-names.ensures.links;
-  starts = c.in_ok-names.ensures.starts;
-  reached = (0, refl);
-  waiting = λ s t n name arc free named. c.in_ok-names.ensures.all s t n name arc named;
-  below = c.in_ok-names.ensures.below;
-}
+loop-name-init c = let all = rw c.new-whole.ensures at c.in_ok-names.ensures.all in
+    record {
+      cutting = c.requires.cutting;
+      tied = rw c.new-whole.ensures at c.in_ok-names.ensures.tied;
+      reached = (0, refl);
+      waiting = λ s t n name arc free named. all s t n name arc named;
+      below = rw c.new-whole.ensures at c.in_ok-names.ensures.below;
+    }
+
+pub invariant_of-linked : goal.invariant_of-linked
+invariant_of-linked c = record { tied = rw c.new-now.ensures c.loop-name.invariant.tied }
+
+pub place_of-requires : goal.place_of-requires
+place_of-requires c =
+    rw c.new-now.ensures (c.loop-name.invariant.below c.in-Some.name c.in-Some.ensures.member)
 
 pub may_leave-requires-clause-beside : goal.may_leave-requires-clause-beside
-may_leave-requires-clause-beside c =
-    let b = c.requires.beside in
-    record {
+may_leave-requires-clause-beside c = let b = c.requires.beside in
+    rw c.new-now.ensures (record {
       manifold = b.manifold;
       lines = b.lines;
       broken = b.broken;
       keeps = beside_reached c.args.mesh.now c.args.marks.now c.args.cut.now c.loop-name.cut
           c.loop-name.invariant.reached.0 b.manifold b.keeps c.loop-name.invariant.reached.1;
-    }
+    })
+
+pub drop_first-requires-clause-seam : goal.drop_first-requires-clause-seam
+drop_first-requires-clause-seam c = rw c.new-now.ensures at c.in-Some-place_of.ensures.found
 
 pub drop_first-requires-clause-below : goal.drop_first-requires-clause-below
 drop_first-requires-clause-below c = taken_below c.loop-name.names c.pop_first.new.self c.in-Some.name
@@ -41,19 +50,20 @@ drop_first-requires-clause-below c = taken_below c.loop-name.names c.pop_first.n
 pub loop-name-preserved-in-Continue-branch-3 : goal.loop-name-preserved-in-Continue-branch-3
 loop-name-preserved-in-Continue-branch-3 c =
     let e = c.in_ok-drop_first.ensures in
+    let may = rw c.new-now.ensures at c.may_leave.ensures in
     let p = c.in-Some-place_of.ensures in
+    let found = rw c.new-now.ensures at p.found in
     let before = c.loop-name.invariant.reached in
     record {
       cutting = e.cutting;
-      links = e.links;
-      starts = e.starts;
+      tied = e.tied;
       reached = (
         suc before.0,
         (
           c.loop-name.cut,
           before.1,
-          step_taken c.drop_first.new.cut c.loop-name.invariant.cutting c.in-Some-place_of.place p.found e.long
-              e.without (may_beside c.args.mesh.now c.args.marks.now) (c.may_leave.ensures.0 c.if-may_leave.true)
+          step_taken c.drop_first.new.cut c.loop-name.invariant.cutting c.in-Some-place_of.place found e.long
+              e.without (may_beside c.args.mesh.now c.args.marks.now) (may.0 c.if-may_leave.true)
               (λ r u m name arc free named. omega (
                 arith,
                 p.named,
@@ -66,10 +76,10 @@ loop-name-preserved-in-Continue-branch-3 c =
           let w = c.loop-name.invariant.waiting s t n name old
           (held_law c.args.mesh.now c.args.marks.now c.loop-name.cut c.drop_first.new.cut s t n
           (less_on c.drop_first.new.cut c.loop-name.invariant.cutting
-          c.in-Some-place_of.place p.found e.long e.without) free) named in (
+          c.in-Some-place_of.place found e.long e.without) free) named in (
             taken_kept c.loop-name.names c.pop_first.new.self c.in-Some.name c.in-Some.ensures.updates name
                 (λ same. name_gone c.drop_first.new.cut c.loop-name.invariant.cutting
-                c.in-Some-place_of.place p.found e.long e.without arc named (same ∙ sym p.named)) w.0,
+                c.in-Some-place_of.place found e.long e.without arc named (same ∙ sym p.named)) w.0,
             w.1,
           ));
       below = e.below;
@@ -78,11 +88,12 @@ loop-name-preserved-in-Continue-branch-3 c =
 pub loop-name-preserved-else-may_leave : goal.loop-name-preserved-else-may_leave
 loop-name-preserved-else-may_leave c =
     let f = c.loop-name.invariant.cutting in
+    let may = rw c.new-now.ensures at c.may_leave.ensures in
     let p = c.in-Some-place_of.ensures in
+    let found = rw c.new-now.ensures at p.found in
     record {
       cutting = f;
-      links = c.loop-name.invariant.links;
-      starts = c.loop-name.invariant.starts;
+      tied = c.loop-name.invariant.tied;
       reached = c.loop-name.invariant.reached;
       waiting = λ s t n name arc free named.
           let w = c.loop-name.invariant.waiting s t n name arc free named in (
@@ -91,9 +102,9 @@ loop-name-preserved-else-may_leave c =
                 cc (p.start, same) in
                 let side : (c.in-Some-place_of.place.start ≡ s) ⊎ (c.in-Some-place_of.place.start ≡ t) =
                 elim w.1 [ inl q ↦ inl (start ∙ q) | inr q ↦ inr (start ∙ q) ] in
-                false≢true (sym c.if-may_leave.false ∙ c.may_leave.ensures.1 (seam_free f.laws f.full
+                false≢true (sym c.if-may_leave.false ∙ may.1 (seam_free f.laws f.full
                 (may_beside c.args.mesh.now c.args.marks.now c.loop-name.cut)
-                (turned_may c.args.mesh.now c.args.marks.now c.loop-name.cut) p.found arc free side))) w.0,
+                (turned_may c.args.mesh.now c.args.marks.now c.loop-name.cut) found arc free side))) w.0,
             w.1,
           );
       below = taken_below c.loop-name.names c.pop_first.new.self c.in-Some.name c.in-Some.ensures.updates
@@ -101,12 +112,10 @@ loop-name-preserved-else-may_leave c =
     }
 
 pub loop-name-preserved : goal.loop-name-preserved
-loop-name-preserved c =
-    let f = c.loop-name.invariant.cutting in
+loop-name-preserved c = let f = c.loop-name.invariant.cutting in
     record {
       cutting = f;
-      links = c.loop-name.invariant.links;
-      starts = c.loop-name.invariant.starts;
+      tied = c.loop-name.invariant.tied;
       reached = c.loop-name.invariant.reached;
       waiting = λ s t n name arc free named.
           let w = c.loop-name.invariant.waiting s t n name arc free named in (
@@ -117,7 +126,8 @@ loop-name-preserved c =
                 ⊎ (at c.loop-name.links.starts.items c.in-Some.name ≡ t) =
                 elim w.1 [ inl q ↦ inl (start ∙ q) | inr q ↦ inr (start ∙ q) ] in
                 none_named f.laws f.full
-                (at c.loop-name.links.starts.items c.in-Some.name) c.in_default-place_of.ensures.none
+                (at c.loop-name.links.starts.items c.in-Some.name)
+                (rw c.new-now.ensures at c.in_default-place_of.ensures.none)
                 arc (rw (← same) named) side) w.0,
             w.1,
           );
@@ -143,8 +153,7 @@ returns-clause-merged c = record {
         (c.loop-name.invariant.waiting s t n m.0 arc free m.1).0
 
 pub returns-clause-keeps : goal.returns-clause-keeps
-returns-clause-keeps c =
-    let b = c.requires.beside in
+returns-clause-keeps c = let b = c.requires.beside in
     beside_reached c.args.mesh.now c.args.marks.now c.args.cut.now c.loop-name.cut c.loop-name.invariant.reached.0
     b.manifold b.keeps c.loop-name.invariant.reached.1
 
@@ -153,8 +162,7 @@ returns-clause-full c = let f =
     c.loop-name.invariant.cutting in from_cut c.args.mesh.now f.laws c.loop-name.cut f.long f.full
 
 pub returns-clause-part : goal.returns-clause-part
-returns-clause-part c =
-    let f = c.requires.cutting in
+returns-clause-part c = let f = c.requires.cutting in
     λ d on. part_reached c.args.mesh.now (may_beside c.args.mesh.now c.args.marks.now) f.laws c.args.cut.now
     c.loop-name.cut c.loop-name.invariant.reached.0 (record { long = f.long; full = f.full })
     c.loop-name.invariant.reached.1 d

@@ -3,7 +3,7 @@ use Rattle.def_mesh.specs.{Darts.darts, HalfEdges.half_edges}
 use Rattle.def_cut.specs.FullCut.{is_on}
 use Rattle.def_merge.specs.{Merged.Steps, Beside.may_beside}
 use Rattle.qm_grid.specs.Cutting.{IsCutting}
-use Rattle.qm_merge.specs.{Links.AreLinks, Links.AreStarts, Waiting.AreBelow, Waiting.FreeWait, Waiting.left_over}
+use Rattle.qm_merge.specs.{Links.AreTied, Waiting.AreBelow, Waiting.FreeWait, Waiting.left_over}
 use Rattle.qm_merge.proofs.merged.merge_all.Given as goal
 
 abbrev pub decreases-loop-name : goal.decreases-loop-name
@@ -13,8 +13,7 @@ decreases-loop-name l = left_over l.cut l.names
 abbrev pub invariant-loop-name : goal.invariant-loop-name
 invariant-loop-name l = record {
   cutting : IsCutting l.mesh l.cut;
-  links : AreLinks (half_edges l.mesh) (is_on l.cut) l.links;
-  starts : AreStarts l.links.starts.items (darts l.mesh);
+  tied : AreTied (half_edges l.mesh) (is_on l.cut) l.links;
   reached : (k : ℕ) × Steps l.mesh (may_beside l.mesh l.marks) l.fn.cut l.cut k;
   waiting : FreeWait (half_edges l.mesh) (is_on l.cut) (may_beside l.mesh l.marks l.cut) l.names l.links.starts.items;
   below : AreBelow l.names (darts l.mesh);

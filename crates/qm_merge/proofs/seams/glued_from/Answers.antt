@@ -10,65 +10,65 @@ use Rattle.qm_merge.proofs.seams.glued_from.Goals as goal
 pub returns-in_default-clause-none : goal.returns-in_default-clause-none
 returns-in_default-clause-none c =
     let i = c.loop-n.invariant in
-    let f = c.requires.cutting in
+    let f = c.is_full.ensures in
     λ t m g. no_twin f.laws f.full c.requires.corner i.at i.inside g (sym c.twin.ensures.value ∙ c.in_default.is)
 
 pub returns-then-not-leads_on-clause-none : goal.returns-then-not-leads_on-clause-none
 returns-then-not-leads_on-clause-none c =
     let i = c.loop-n.invariant in
-    let f = c.requires.cutting in
-    let tw : twin_of c.args.mesh.now c.loop-n.d ≡ Some c.in-Some.twin = sym c.in-Some.ensures.value in
+    let f = c.is_full.ensures in
+    let tw : twin_of c.args.cut.now.faces c.loop-n.d ≡ Some c.in-Some.twin = sym c.in-Some.ensures.value in
     λ t m g. false≢true (sym c.if-not-leads_on.true
     ∙ c.leads_on.ensures.1 (leads_there f.laws f.full c.requires.corner i.at i.inside g tw i.glued))
 
-pub returns-then-not-cut-prev-clause-none : goal.returns-then-not-cut-prev-clause-none
-returns-then-not-cut-prev-clause-none c =
+pub returns-then-not-is_cut-clause-none : goal.returns-then-not-is_cut-clause-none
+returns-then-not-is_cut-clause-none c =
     let i = c.loop-n.invariant in
-    let f = c.requires.cutting in
-    let tw : twin_of c.args.mesh.now c.loop-n.d ≡ Some c.in-Some.twin = sym c.in-Some.ensures.value in
-    let on : is_on c.args.cut.now (next_of c.loop-n.d) ≡ true = cc (c.next.ensures.value, c.if-cut-next.true) in
+    let f = c.is_full.ensures in
+    let tw : twin_of c.args.cut.now.faces c.loop-n.d ≡ Some c.in-Some.twin = sym c.in-Some.ensures.value in
+    let on : is_on c.args.cut.now.marks (next_of c.loop-n.d) ≡ true =
+    cc (c.next.ensures.value, c.is_cut.ensures, c.if-is_cut.true) in
     λ t m g. true≢false (sym (far_corner f.laws f.full c.requires.corner i.at i.inside g tw on)
-    ∙ (ap (is_on c.args.cut.now) (sym c.prev.ensures.value) ∙ c.if-not-cut-prev.true))
+    ∙ (cc (c.prev.ensures.value, c.is_cut-then-is_cut.ensures, c.if-not-is_cut.true)))
 
-pub returns-then-cut-next-clause-found : goal.returns-then-cut-next-clause-found
-returns-then-cut-next-clause-found c =
+pub returns-then-is_cut-clause-found : goal.returns-then-is_cut-clause-found
+returns-then-is_cut-clause-found c =
     let i = c.loop-n.invariant in
-    let f = c.requires.cutting in
-    let tw : twin_of c.args.mesh.now c.loop-n.d ≡ Some c.in-Some.twin = sym c.in-Some.ensures.value in
-    let on : is_on c.args.cut.now (next_of c.loop-n.d) ≡ true = cc (c.next.ensures.value, c.if-cut-next.true) in
+    let f = c.is_full.ensures in
+    let tw : twin_of c.args.cut.now.faces c.loop-n.d ≡ Some c.in-Some.twin = sym c.in-Some.ensures.value in
+    let on : is_on c.args.cut.now.marks (next_of c.loop-n.d) ≡ true =
+    cc (c.next.ensures.value, c.is_cut.ensures, c.if-is_cut.true) in
     let leads = c.leads_on.ensures.0 c.if-not-leads_on.false in
     let e : c.min-name.result ≡ least_of_three c.loop-n.name c.loop-n.d c.in-Some.twin =
     cc (c.min-name.ensures, c.min.ensures) in
     record {
-      glued = glued_done f.laws f.full c.requires.corner i.at i.inside (glued_more (is_on c.args.cut.now) i.at tw leads
-          i.glued) tw on
-          (cc (c.prev.ensures.value, c.if-not-cut-prev.false));
+      glued = glued_done f.laws f.full c.requires.corner i.at i.inside
+          (glued_more (is_on c.args.cut.now.marks) i.at tw leads i.glued) tw on
+          (cc (c.prev.ensures.value, c.is_cut-then-is_cut.ensures, c.if-not-is_cut.false));
       named = rw e (name_done f.laws f.full c.requires.corner i.at i.inside
-          (name_more (is_on c.args.cut.now) i.at tw leads i.named));
+          (name_more (is_on c.args.cut.now.marks) i.at tw leads i.named));
     }
 
 pub loop-n-preserved : goal.loop-n-preserved
 loop-n-preserved c =
     let i = c.loop-n.invariant in
-    let f = c.requires.cutting in
-    let tw : twin_of c.args.mesh.now c.loop-n.d ≡ Some c.in-Some.twin = sym c.in-Some.ensures.value in
-    let off : is_on c.args.cut.now (next_of c.loop-n.d) ≡ false = cc (c.next.ensures.value, c.if-cut-next.false) in
+    let f = c.is_full.ensures in
+    let tw : twin_of c.args.cut.now.faces c.loop-n.d ≡ Some c.in-Some.twin = sym c.in-Some.ensures.value in
+    let off : is_on c.args.cut.now.marks (next_of c.loop-n.d) ≡ false =
+    cc (c.next.ensures.value, c.is_cut.ensures, c.if-is_cut.false) in
     let leads = c.leads_on.ensures.0 c.if-not-leads_on.false in
     let e : c.min-name.result ≡ least_of_three c.loop-n.name c.loop-n.d c.in-Some.twin =
     cc (c.min-name.ensures, c.min.ensures) in
     record {
-      at = row_at (half_edges c.args.mesh.now) c.args.s c.loop-n.d c.east-d.result c.loop-n.n i.at
+      at = row_at (half_edges c.args.cut.now.faces) c.args.s c.loop-n.d c.east-d.result c.loop-n.n i.at
           c.east-d.ensures.value;
       low = c.east-d.ensures.dart;
-      inside = row_inside (half_edges c.args.mesh.now) f.laws (is_on c.args.cut.now) f.full c.args.s c.loop-n.d
-          c.loop-n.n i.at i.inside off;
-      glued = glued_more (is_on c.args.cut.now) i.at tw leads i.glued;
-      named = rw e (name_more (is_on c.args.cut.now) i.at tw leads i.named);
+      inside = row_inside _ f.laws _ f.full c.args.s c.loop-n.d c.loop-n.n i.at i.inside off;
+      glued = glued_more (is_on c.args.cut.now.marks) i.at tw leads i.glued;
+      named = rw e (name_more (is_on c.args.cut.now.marks) i.at tw leads i.named);
     }
 
 pub unreachable-requires : goal.unreachable-requires
-unreachable-requires c =
-    let i = c.loop-n.invariant in
-    let f = c.requires.cutting in
-    row_never (half_edges c.args.mesh.now) f.laws (is_on c.args.cut.now) f.full c.args.s c.loop-n.n c.requires.corner.0
-    c.requires.corner.2 i.inside (omega (arith, f.long, c.loop-n-test.false))
+unreachable-requires c = let f = c.is_full.ensures in
+    row_never _ f.laws _ f.full c.args.s c.loop-n.n c.requires.corner.0 c.requires.corner.2 c.loop-n.invariant.inside
+    (omega (arith, f.long, c.loop-n-test.false))

@@ -7,9 +7,9 @@ use Rattle.qm_merge.proofs.seams.glued_from.Given as goal
 -- n darts of the near side and their twins have been met, and no end of the side
 abbrev pub invariant-loop-n : goal.invariant-loop-n
 invariant-loop-n l = record {
-  at : l.d ≡ easts (half_edges l.mesh) l.s l.n;
-  low : l.d < darts l.mesh;
-  inside : (k : ℕ) → k < l.n → is_on l.cut (next_of (easts (half_edges l.mesh) l.s k)) ≡ false;
-  glued : AreGluedSoFar (half_edges l.mesh) (is_on l.cut) l.s l.far l.n;
-  named : IsNameSoFar (half_edges l.mesh) l.s l.far l.n l.name;
+  at : l.d ≡ easts (half_edges l.cut.faces) l.s l.n;
+  low : l.d < darts l.cut.faces;
+  inside : (k : ℕ) → k < l.n → is_on l.cut.marks (next_of (easts (half_edges l.cut.faces) l.s k)) ≡ false;
+  glued : AreGluedSoFar (half_edges l.cut.faces) (is_on l.cut.marks) l.s l.far l.n;
+  named : IsNameSoFar (half_edges l.cut.faces) l.s l.far l.n l.name;
 }

@@ -5,15 +5,13 @@ use Rattle.def_merge.specs.Joins.{IsJoinable, IsNameOf}
 use Rattle.qm_merge.proofs.waiting.all_names.Goals as goal
 
 pub loop-d-preserved : goal.loop-d-preserved
-loop-d-preserved c =
-    let e = c.in_ok-note_from.ensures in
+loop-d-preserved c = let e = c.in_ok-note_from.ensures in
     record {
-      links = e.links;
-      starts = e.starts;
+      tied = e.tied;
       all = λ s t n name l arc named. elim (cases_eq s c.loop-d.d) [
-        | inl same ↦ rw same (e.noted t n name (subst (λ (x : ℕ). IsJoinable (half_edges c.args.mesh.now)
-            (is_on c.args.cut.now) x t n) same arc) (subst (λ (x : ℕ). IsNameOf (half_edges c.args.mesh.now) x t n name)
-            same named))
+        | inl same ↦ rw same (e.noted t n name (subst (λ (x : ℕ). IsJoinable (half_edges c.args.cut.now.faces)
+            (is_on c.args.cut.now.marks) x t n) same arc)
+            (subst (λ (x : ℕ). IsNameOf (half_edges c.args.cut.now.faces) x t n name) same named))
         | inr ne ↦ e.kept s t n name arc named (c.loop-d.invariant.all s t n name (omega (arith, l, ne)) arc named)
       ];
       below = e.below c.loop-d.invariant.below;
@@ -21,4 +19,4 @@ loop-d-preserved c =
 
 pub returns-clause-all : goal.returns-clause-all
 returns-clause-all c = λ s t n name arc named. c.loop-d.invariant.all s t n name
-    (omega (arith, arc.glued.near.corner.0, c.requires.cutting.long, c.loop-d-test.false)) arc named
+    (omega (arith, arc.glued.near.corner.0, c.is_full.ensures.long, c.loop-d-test.false)) arc named

@@ -1,10 +1,10 @@
 use Rattle.std.proofs.Common.{sym, ◌∙◌}
 use Rattle.qm_merge.proofs.Rounds.{around, is_one_of, among_four, is_among_four}
-use Rattle.qm_merge.proofs.links.is_around.Goals as goal
+use Rattle.qm_merge.proofs.links.Linked.is_around.Goals as goal
 
 pub returns : goal.returns
 returns c =
-    let f = c.requires.cutting in
+    let f = c.is_full.ensures in
     let r = c.round_from-round.result in
     let is = c.round_from-round.ensures in (
       λ h. around f.laws f.full is.second is.third is.fourth c.args.t

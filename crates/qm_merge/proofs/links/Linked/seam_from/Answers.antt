@@ -1,6 +1,12 @@
 use Rattle.std.proofs.{Common.sym, Common.◌∙◌, lemmas.Bool.false≢true, lemmas.Option.IfSome_then}
 use Rattle.qm_merge.proofs.Across.{none_then}
-use Rattle.qm_merge.proofs.seams.seam_from.Goals as goal
+use Rattle.qm_merge.proofs.links.Linked.seam_from.Goals as goal
+
+pub may_join-requires : goal.may_join-requires
+may_join-requires c = c.is_corner.ensures.0 c.if-not-is_corner.false
+
+pub glued_from-requires : goal.glued_from-requires
+glued_from-requires c = record { corner = c.is_corner.ensures.0 c.if-not-is_corner.false }
 
 pub returns-then-not-may_join-clause-none : goal.returns-then-not-may_join-clause-none
 returns-then-not-may_join-clause-none c =

@@ -1,0 +1,59 @@
+use Rattle.std.proofs.Common.{◌≡◌, Some, sym, ◌∙◌, true, true≢false, arith}
+use Rattle.def_mesh.specs.Darts.{next_of, prev_of, twin_of}
+use Rattle.def_cut.specs.FullCut.{is_on}
+use Rattle.qm_merge.specs.Links.{at}
+use Rattle.qm_merge.proofs.Across.{contrary, far_corner, far_is, has_twin, same_size}
+use Rattle.qm_merge.proofs.{Linked.read_at, Rounds.next_is_corner}
+use Rattle.qm_merge.proofs.links.Linked.may_join.Goals as goal
+
+pub returns-in_default : goal.returns-in_default
+returns-in_default c = let f = c.is_full.ensures in
+    λ t n glued. absurd (has_twin f.laws f.full glued (sym c.twin.ensures.value ∙ c.in_default.is))
+
+pub returns-then-not-is_cut : goal.returns-then-not-is_cut
+returns-then-not-is_cut c =
+    let f = c.is_full.ensures in
+    let tw : twin_of c.args.self.now.cut.now.faces c.args.s ≡ Some c.in-Some.twin = sym c.in-Some.ensures.value in
+    λ t n glued. absurd (true≢false (sym (far_corner f.laws f.full glued tw).1
+    ∙ (cc (c.next-end.ensures.value, c.is_cut.ensures, c.if-not-is_cut.true))))
+
+pub round_from-far-requires : goal.round_from-far-requires
+round_from-far-requires c =
+    let f = c.is_full.ensures in
+    let on = is_on c.args.self.now.cut.now.marks in
+    let t = c.in-Some.twin in
+    let back : prev_of (next_of t) ≡ t = f.laws.prev_next t in
+    let alike : on t ≡ on c.args.s = f.full.alike c.args.s t c.requires.0 (sym c.in-Some.ensures.value) in
+    let last : on (prev_of c.next-end.result) ≡ true = cc (c.next-end.ensures.value, back, alike, c.requires.1) in
+    (c.next-end.ensures.dart, cc (c.is_cut.ensures, c.if-not-is_cut.false), last)
+
+pub index-requires : goal.index-requires
+index-requires c =
+    let f = c.is_full.ensures in
+    let low = next_is_corner f.laws f.full c.round_from-far.ensures.fourth in
+    omega (arith, low.0, c.args.self.now.tied.linked.longs, c.args.self.now.links.now.long.ok.0)
+
+pub returns-then-index : goal.returns-then-index
+returns-then-index c =
+    let f = c.is_full.ensures in
+    let tw : twin_of c.args.self.now.cut.now.faces c.args.s ≡ Some c.in-Some.twin = sym c.in-Some.ensures.value in
+    let round = rw c.next-end.ensures.value at c.round_from-far.ensures in
+    let links = c.args.self.now.links.now in
+    let fourth = next_is_corner f.laws f.full c.round_from-far.ensures.fourth in
+    let far = read_at links.long.items c.round_from-far.result.fourth c.index.ensures
+    (omega (arith, c.args.self.now.tied.linked.longs, fourth.0)) in
+    let near = read_at links.long.items c.args.s c.index-2.ensures
+    (omega (arith, c.args.self.now.tied.linked.longs, c.requires.0)) in
+    λ t n glued. absurd (c.if-index.true
+    (far ∙ (same_size f.laws f.full glued tw round links c.args.self.now.tied.linked ∙ sym near)))
+
+pub is_around-requires-clause-other : goal.is_around-requires-clause-other
+is_around-requires-clause-other c = let f = c.is_full.ensures in
+    next_is_corner f.laws f.full c.round_from-far.ensures.fourth
+
+pub returns : goal.returns
+returns c =
+    let f = c.is_full.ensures in
+    let tw : twin_of c.args.self.now.cut.now.faces c.args.s ≡ Some c.in-Some.twin = sym c.in-Some.ensures.value in
+    let round = rw c.next-end.ensures.value at c.round_from-far.ensures in
+    λ t n glued. contrary c.is_around.result (rw (far_is f.laws f.full glued tw round) at c.is_around.ensures)
