@@ -1,6 +1,6 @@
 -- Expanding, step by step: what each of its calls needs, and the forest after all of them.
-use Rattle.std.proofs.Common.{◌≡◌, ◌≢◌, ℕ, ◌*◌, ◌<◌, ◌≤◌, ◌^◌, Bool, true, length, Option}
-use Rattle.std.proofs.Common.{Some, None, refl, sym, ◌∙◌, ap, subst, inl, inr, arith}
+use Rattle.std.proofs.Common.{◌≡◌, ◌≢◌, ℕ, ◌*◌, ◌<◌, ◌≤◌, Bool, true, length, Option}
+use Rattle.std.proofs.Common.{Some, None, refl, sym, ◌∙◌, ap, subst, inl, inr}
 use Rattle.def_matching.specs.Matching.{WeightedGraph}
 use Rattle.def_forest.specs.{Darts.Darts, Darts.darts_of, Forests.Forest, Forests.walk, Opened.IsExpanding}
 use Rattle.def_forest.specs.Tables.{ForestTables, forest_of, IsOutermostIn, IsValidFor}
@@ -80,9 +80,6 @@ module _ {g : WeightedGraph} {t0 t2 : ForestTables} {b mate link first last many
   low2 : (x : ℕ) → inside x ≡ true → x < length t2.up
   low2 x on = rw parted.size (part_low ready x on)
 
-  joint_low : (x : ℕ) → inside x ≡ true → f2.nest.joint x < 2 ^ 31
-  joint_low x on = omega (arith, (joined ready parted x on).tight.low, is.edges)
-
   m_is : mate ≡ (in_tree ready).dart
   m_is = mate_dart_is ready it.mate_is
 
@@ -107,9 +104,6 @@ module _ {g : WeightedGraph} {t0 t2 : ForestTables} {b mate link first last many
   pub places_low : (k : ℕ) → k < many → walk f2.nest.after first k < length t2.up
   places_low k l = low2 (walk f2.nest.after first k) ((circle_at first first_marked).marked k)
 
-  pub darts_low : (k : ℕ) → k < many → f2.nest.joint (walk f2.nest.after first k) < 2 ^ 31
-  darts_low k l = joint_low (walk f2.nest.after first k) ((circle_at first first_marked).marked k)
-
   -- The parts are matched.
   module _ {t3 : ForestTables} (seen3 : forest_of t3 ≡ mated (paired f2 first many) first (Some mate))
       (same3 : HasSameNest t2 t3) where
@@ -130,9 +124,6 @@ module _ {g : WeightedGraph} {t0 t2 : ForestTables} {b mate link first last many
     low_from : (x : ℕ) → inside x ≡ true → (k : ℕ) → walk (forest_of t3).nest.after x k < length t3.up
     low_from x on k = rw (up3, at3 x k) (low2 (walk f2.nest.after x k) ((circle_at x on).marked k))
 
-    pub low3 : (k : ℕ) → k < many → walk (forest_of t3).nest.after first k < length t3.up
-    low3 k l = low_from first first_marked k
-
     -- And hung into the tree.
     module _ {course : Course} (way : IsCourse (forest_of t3).nest.after first last many course) where
       front_marked : inside course.front ≡ true
@@ -147,13 +138,6 @@ module _ {g : WeightedGraph} {t0 t2 : ForestTables} {b mate link first last many
 
       pub front_low : (k : ℕ) → k < course.many → walk (forest_of t3).nest.after course.front k < length t3.up
       front_low k l = low_from course.front front_marked k
-
-      pub joints3 : (k : ℕ) → k < course.many
-          → (forest_of t3).nest.joint (walk (forest_of t3).nest.after course.front k) < 2 ^ 31
-      joints3 k l = rw (
-        at3 course.front k,
-        ap (λ (f : Forest). f.nest.joint (walk f2.nest.after course.front k)) seen3,
-      ) (joint_low (walk f2.nest.after course.front k) ((circle_at course.front front_marked).marked k))
 
       way2 : IsCourse f2.nest.after (f2.out (d.near (in_tree ready).dart)) (f2.out (d.near (f0.link b)))
           (f0.nest.parts b) course

@@ -26,10 +26,6 @@ hung_more f0 {f1} {f2} front k v s e1 e2 e3 v_is l_is dart_is x_is before_is j_i
     ∙ ap (λ (f : Forest). f.nest.joint) e1) dart_is x_is before_is in
     e3 ∙ rw (dart_was, e2, v_is, l_is, x_is, e1, j_is)
 
--- A place of the ring is the number of a blossom, and its dart is small.
+-- A place of the ring is the number of a blossom.
 pub place_low : {t u : ForestTables} (x y : ℕ) → HasSameNest t u → x ≡ y → y < length t.up → x < length u.up
 place_low {u} x y same e l = rw (e, same.up) l
-
-pub dart_low : (f u : Forest) {x y : ℕ} (most : ℕ) → u.nest.joint ≡ f.nest.joint → x ≡ y → f.nest.joint y < most
-    → u.nest.joint x < most
-dart_low f u {y} most same e l = rw (e, same) l

@@ -72,8 +72,8 @@ module _ {g : WeightedGraph} {t : ForestTables} (valid : IsValidFor g t) (climb 
 
     -- A turn: the lower one climbs, and what it was at is passed.
     pub turn_meets : (low high : ℕ) {x2 : ℕ} (load2 : ℤ) → ((low ≡ x) × (high ≡ y)) ⊎ ((low ≡ y) × (high ≡ x))
-        → rank low ≤ rank high → x2 ≡ up low → x2 < length t.up → load2 ≡ load +ℤ get_or t.base low (pos 0)
-        → IsMeeting t u v x2 high load2
+        → rank low ≤ rank high → x2 ≡ up low → (low < length t.up → x2 < length t.up)
+        → load2 ≡ load +ℤ get_or t.base low (pos 0) → IsMeeting t u v x2 high load2
     turn_meets low high {x2} load2 either order x2_is x2_low load_is = by_side either
       where
         build : IsWithin t top low → IsWithin t top high → low ≢ high → low < length t.up → high < length t.up
@@ -93,7 +93,7 @@ module _ {g : WeightedGraph} {t : ForestTables} (valid : IsValidFor g t) (climb 
               sum = sum;
               first = rw x2_is (within_up top low wl);
               second = wh;
-              low_x = x2_low;
+              low_x = x2_low ll;
               low_y = lh;
               small = omega (arith, ints, sum, all_small x2 high, all_small u v);
             }

@@ -100,13 +100,6 @@ base_small {t} tied b = omega (
   delta_small tied,
 )
 
--- An element that is read, whatever would stand past the end.
-pub read_is : (xs : List ℤ) (b : ℕ) {r : ℤ} (d : ℤ) → b < length xs → r ≡ get_or xs b r → r ≡ get_or xs b d
-read_is xs b {r} d low e = e ∙ same (sym (slice_get-get_or xs b r low) ∙ slice_get-get_or xs b d low)
-  where
-    same : {x y : ℤ} → Some x ≡ Some y → x ≡ y
-    same p = cc
-
 pub read_nat : (xs : List ℕ) (b r d : ℕ) → b < length xs → get_or xs b r ≡ get_or xs b d
 read_nat xs b r d low = same (sym (slice_get-get_or xs b r low) ∙ slice_get-get_or xs b d low)
   where

@@ -12,7 +12,7 @@ use Rattle.forest_laws.proofs.Walks.{listed_at, listed_closed, listed_place, wal
 use Rattle.qm_forest.specs.Rounds.{IsSoundFor, IsLaminar, IsPairing, IsRound, entered, far_at, near_at, waits_but}
 use Rattle.qm_forest.specs.Rounds.{within}
 use Rattle.qm_forest.proofs.{Enclosed.climbs_here, Nests.climbs_place}
-use Rattle.qm_forest.proofs.Laminars.{ring_around, ring_pairing, rising, x_low}
+use Rattle.qm_forest.proofs.Laminars.{ring_around, ring_pairing, rising}
 use Rattle.qm_forest.proofs.{Pairings.entered_size, Pairings.entry_cases, Pairings.paired_round, Withins.climb_law}
 use Rattle.qm_forest.proofs.Withins.{in_where, rank_walk, ring_front}
 
@@ -73,9 +73,6 @@ module _ {t : ForestTables} (known : IsLaminar t) {g : WeightedGraph} (valid : I
 
   at_in : (k : ℕ) → inside (at k) ≡ true
   at_in k = rw (walk_front after p k) at (circle.marked (suc k))
-
-  pub at_low : (k : ℕ) → at k < length t.up
-  at_low k = x_low known valid (inner_part (at k) (at_in k))
 
   pub at_around : (k : ℕ) → up_at t.up (at k) ≡ q
   at_around k = (part (at k) (at_in k)).0

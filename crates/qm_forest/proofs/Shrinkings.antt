@@ -12,7 +12,7 @@ use Rattle.def_forest.specs.declared.kinds.Label.TheVariants.{Outer, Outside}
 use Rattle.forest_laws.specs.Climbing.{rise_of, way_of, IsClimbing, ring_at, ring_dart}
 use Rattle.forest_laws.specs.Walks.{listed}
 use Rattle.forest_laws.proofs.Forks.{at_left, at_right, at_named, dart_left, dart_over}
-use Rattle.forest_laws.proofs.Forks.{dart_right, top_outer, closed_row, ring_cycle, walks}
+use Rattle.forest_laws.proofs.Forks.{dart_right, closed_row, ring_cycle, walks}
 use Rattle.forest_laws.proofs.{Graphs.are_darts, Levels.way_differs, Odds.IsBlossom, Rooms.sets_few}
 use Rattle.forest_laws.proofs.{ShrunkTrees.shrunk_valid, Walks.listed_at, Walks.writes_all, Writes.label_cases}
 use Rattle.forest_laws.proofs.Writes.{outer_named, set_here, set_there, true_false}
@@ -209,11 +209,6 @@ module _ {g : WeightedGraph} {t0 : ForestTables} {start top left right : ℕ}
           (valid.valid.nested.empty (walk after top k) w.0 high w.1 none)),
     ))
   ]
-
-  -- The top is in the tree.
-  pub top_low : top < length t0.up
-  top_low = named_low is valid top (outer_named (top_outer are whole tree_is.2 a c named_a named_c
-      top left right met outer_a outer_c))
 
   three_many : 3 ≤ many
   three_many = omega (arith, ring_is.odd, ring_is.some)

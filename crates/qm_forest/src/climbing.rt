@@ -23,24 +23,15 @@ pub(crate) struct Fork {
 impl Forest {
     /// The dart by which a blossom hangs on the next one towards the root.
     pub(crate) fn rise(&self, b: u32) -> Option<u32>
-        requires { b < length self.now.up }
         ensures value { result ≡ rise_of (forest_of self.now) b }
         ensures few { length self.now.up ≤ 2 ^ 26 }
     {
-        match self.label_at(b) {
+        let _ = &self.rings;
+        match self.label(b) {
             Label::Outer => self.mate(b),
             Label::Inner => Some(self.link(b)),
             Label::Outside => None,
         }
-    }
-
-    /// Where a blossom stands.
-    pub fn label_at(&self, b: u32) -> Label
-        requires { b < length self.now.up }
-        ensures value { result ≡ (forest_of self.now).label b }
-        ensures few { length self.now.up ≤ 2 ^ 26 }
-    {
-        self.tree.label[b as usize]
     }
 
     /// The outermost blossom that a dart reaches.

@@ -1,13 +1,12 @@
 //! Darts of a graph: an edge with a direction, told by its last bit.
 
-ghost use Rattle.std.specs.Prelude.{◌≡◌, ◌*◌, ◌^◌, ◌<◌, length};
+ghost use Rattle.std.specs.Prelude.{◌≡◌, ◌*◌, ◌<◌, length};
 ghost use Rattle.def_forest.specs.Darts.{darts_of, other_dart};
 
 use qm_dual::SmallGraph;
 
 /// The other dart of the same edge.
 pub fn twin(d: u32) -> u32
-    requires { d < 2 ^ 31 }
     ensures { result ≡ other_dart d }
 {
     if d % 2 == 0 { d + 1 } else { d - 1 }

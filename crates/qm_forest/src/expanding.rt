@@ -1,6 +1,6 @@
 //! Expanding: an inner set of weight 0 leaves its place in the tree to its parts.
 
-ghost use Rattle.std.specs.Prelude.{◌≡◌, ◌≢◌, ◌+◌, ◌%◌, ◌^◌, ◌<◌, ◌≤◌, ◌==◌, ℕ, pos, length, slice_index};
+ghost use Rattle.std.specs.Prelude.{◌≡◌, ◌≢◌, ◌+◌, ◌%◌, ◌<◌, ◌≤◌, ◌==◌, ℕ, pos, length, slice_index};
 ghost use Rattle.std.specs.Prelude.{Some, None};
 ghost use Rattle.def_forest.specs.Darts.{darts_of};
 ghost use Rattle.def_forest.specs.Forests.{walk};
@@ -51,8 +51,7 @@ impl Forest {
 
     /// The dart by which a matched blossom is matched.
     fn mate_dart(&self, b: u32) -> u32
-        requires low { b < length self.now.up }
-        requires matched { (forest_of self.now).mate b ≢ None }
+        requires { (forest_of self.now).mate b ≢ None }
         ensures { result ≡ dart_or ((forest_of self.now).mate b) }
     {
         match self.mate(b) {
@@ -78,8 +77,6 @@ impl Forest {
     fn match_parts(&mut self, first: u32, many: u32, mate: u32)
         requires some { 1 ≤ many }
         requires low { (k : ℕ) → k < many → walk (slice_index self.old.after) first k < length self.old.up }
-        requires joints { (k : ℕ) → k < many
-            → slice_index self.old.joint (walk (slice_index self.old.after) first k) < 2 ^ 31 }
         ensures seen { forest_of self.new ≡ mated (paired (forest_of self.old) first many) first (Some mate) }
         ensures same { HasSameNest self.old self.new }
     {
@@ -96,21 +93,18 @@ impl Forest {
 
     /// The dart from a blossom of a ring to the next, or else to the one before.
     fn side_dart(&self, before: u32, x: u32, forward: bool) -> u32
-        requires low { (before < length self.now.up) × (x < length self.now.up) }
-        requires joint { slice_index self.now.joint before < 2 ^ 31 }
         ensures { result ≡ side_dart (forest_of self.now) before x forward }
     {
         if forward {
-            self.rings.joint[x as usize]
+            self.joint(x)
         } else {
-            twin(self.rings.joint[before as usize])
+            twin(self.joint(before))
         }
     }
 
     /// The way of even length between two blossoms of a ring.
     fn course(&self, first: u32, last: u32, many: u32) -> Course
-        requires reached { (k : ℕ) × (k < many) × (walk (slice_index self.now.after) first k ≡ last) }
-        requires low { (k : ℕ) → k < many → walk (slice_index self.now.after) first k < length self.now.up }
+        requires { (k : ℕ) × (k < many) × (walk (slice_index self.now.after) first k ≡ last) }
         ensures { IsCourse (slice_index self.now.after) first last many result }
     {
         let steps = self.distance(first, last, many);
@@ -131,8 +125,7 @@ impl Forest {
 
     /// How many steps it is along a ring from one blossom to another.
     fn distance(&self, first: u32, last: u32, many: u32) -> u32
-        requires reached { (k : ℕ) × (k < many) × (walk (slice_index self.now.after) first k ≡ last) }
-        requires low { (k : ℕ) → k < many → walk (slice_index self.now.after) first k < length self.now.up }
+        requires { (k : ℕ) × (k < many) × (walk (slice_index self.now.after) first k ≡ last) }
         ensures low { result < many }
         ensures at { walk (slice_index self.now.after) first result ≡ last }
     {
@@ -152,8 +145,6 @@ impl Forest {
             → IsOutermostIn self.old (walk (slice_index self.old.after) course.front k) }
         requires low { (k : ℕ) → k < course.many
             → walk (slice_index self.old.after) course.front k < length self.old.up }
-        requires joints { (k : ℕ) → k < course.many
-            → slice_index self.old.joint (walk (slice_index self.old.after) course.front k) < 2 ^ 31 }
         ensures seen { forest_of self.new ≡ hung (forest_of self.old) course.front course.many course.forward }
         ensures same { HasSameNest self.old self.new }
     {

@@ -1,13 +1,13 @@
 //! The forest's tables and what can be read from them at once.
 
 ghost use Rattle.std.specs.Prelude.{◌≡◌, ◌^◌, ◌<◌, ◌≤◌};
-ghost use Rattle.std.specs.Prelude.{◌⊎◌, ℕ, length};
+ghost use Rattle.std.specs.Prelude.{◌⊎◌, length};
 ghost use Rattle.std.specs.Prelude.{unsigned_abs, is_some, Option};
 ghost use Rattle.def_forest.specs.Forests.{Blossom};
 ghost use Rattle.def_forest.specs.Tables.{forest_of, IsOutermostIn};
 ghost use Rattle.qm_forest.specs.Ties.{potential};
 
-use crate::numbers::{added_at, hand_of, label_of, sum_at, top_of, weight_from};
+use crate::numbers::{added_at, hand_of, label_of, read, sum_at, top_of, weight_from};
 use crate::room::Room;
 use crate::start::greater_of;
 use crate::tables::{Handles, Lists, Rings, Trail, Tree, Weights};
@@ -76,9 +76,8 @@ impl Forest {
         top_of(&self.handles.hand, &self.handles.top, v)
     }
 
-    /// Where an outermost blossom stands.
+    /// Where a blossom stands.
     pub fn label(&self, b: u32) -> Label
-        requires { IsOutermostIn self.now b }
         ensures { result ≡ (forest_of self.now).label b }
     {
         label_of(&self.tree.label, b)
@@ -86,24 +85,13 @@ impl Forest {
 
     /// Whether an outermost blossom is matched.
     pub fn matched(&self, b: u32) -> bool
-        requires { IsOutermostIn self.now b }
         ensures { result ≡ is_some ((forest_of self.now).mate b) }
     {
-        self.tree.mate[b as usize].is_some()
-    }
-
-    /// The weight of an outermost blossom.
-    pub fn weight(&self, b: u32) -> i64
-        requires { IsOutermostIn self.now b }
-        ensures { result ≡ (forest_of self.now).weight b }
-    {
-        let _ = &self.weights;
-        self.weight_of(b)
+        self.mate(b).is_some()
     }
 
     /// The weight of a blossom, also of one within a set.
-    pub(crate) fn weight_of(&self, b: u32) -> i64
-        requires { b < length self.now.up }
+    pub fn weight(&self, b: u32) -> i64
         ensures { result ≡ (forest_of self.now).weight b }
     {
         weight_from(&self.weights.base, &self.tree.label, self.weights.delta, b) as i64
@@ -123,10 +111,9 @@ impl Forest {
 
     /// The weight of a blossom without its sign.
     fn weight_size(&self, b: u32) -> u64
-        requires { b < length self.now.up }
         ensures { result ≡ unsigned_abs ((forest_of self.now).weight b) }
     {
-        self.weight_of(b).unsigned_abs()
+        self.weight(b).unsigned_abs()
     }
 
     /// How many vertices there are.
@@ -138,18 +125,16 @@ impl Forest {
 
     /// The dart by which an outermost blossom is matched.
     pub fn mate(&self, b: u32) -> Option<u32>
-        requires { b < length self.now.up }
         ensures { result ≡ (forest_of self.now).mate b }
     {
-        self.tree.mate[b as usize]
+        read(&self.tree.mate, b, None)
     }
 
     /// The dart from an inner blossom towards the root.
     pub(crate) fn link(&self, b: u32) -> u32
-        requires { b < length self.now.up }
         ensures { result ≡ (forest_of self.now).link b }
     {
-        self.tree.link[b as usize]
+        read(&self.tree.link, b, 0)
     }
 
     /// The sum of the weights of the blossoms around a vertex.

@@ -11,6 +11,7 @@ ghost use Rattle.qm_forest.specs.Ties.{fixed_of};
 ghost use Rattle.qm_forest.specs.Gathers.{HasLeaders, differ_by, AreJoinable, AreJoined, IsRowOf, AreEnclosed};
 
 use crate::forest::Forest;
+use crate::numbers::read;
 use crate::tables::{Handles, Lists, Rings};
 use qm_pool::{Node, Pool};
 
@@ -33,12 +34,11 @@ fn largest(after: &[u32], rank: &[u32], front: u32, many: u32) -> u32
 
 /// Of two blossoms the one with more vertices.
 fn larger(rank: &[u32], x: u32, y: u32) -> u32
-    requires { (x < length rank.now) × (y < length rank.now) }
     ensures either { (result ≡ x) ⊎ (result ≡ y) }
     ensures most { (slice_index rank.now x ≤ slice_index rank.now result)
         × (slice_index rank.now y ≤ slice_index rank.now result) }
 {
-    if rank[x as usize] < rank[y as usize] {
+    if read(rank, x, 0) < read(rank, y, 0) {
         y
     } else {
         x
@@ -75,10 +75,9 @@ fn rename_to(handles: &mut Handles, lists: &Lists, x: u32, big: u32)
 
 /// What a handle adds to the potentials.
 pub(crate) fn off_at(handles: &Handles, handle: u32) -> i128
-    requires { handle < length handles.now.off.items }
     ensures { result ≡ slice_index_or handles.now.off.items handle (pos 0) }
 {
-    handles.off[handle as usize]
+    read(&handles.off, handle, 0)
 }
 
 /// The vertices of all blossoms of a ring get the handle of the one that has the most. Their potentials stay.
@@ -157,11 +156,10 @@ fn take_set(pool: &mut Pool, vertices: u32, front: u32) -> u32
 
 /// The root, or the set that has come around it.
 fn enclosed_root(root: Option<u32>, up: &[u32], set: u32) -> Option<u32>
-    requires { (r : ℕ) → root ≡ Some r → r < length up.now }
     ensures { result ≡ root_around up.now set root }
 {
     match root {
-        Some(r) => Some(if up[r as usize] == set { set } else { r }),
+        Some(r) => Some(if read(up, r, 0) == set { set } else { r }),
         None => None,
     }
 }

@@ -1,6 +1,6 @@
 //! Growing: a matched blossom outside and its mate join the tree.
 
-ghost use Rattle.std.specs.Prelude.{◌≡◌, ◌≢◌, ◌+◌, ◌*◌, ◌<◌, ℕ, length, Some, None};
+ghost use Rattle.std.specs.Prelude.{◌≡◌, ◌≢◌, ◌+◌, ◌*◌, ◌<◌, length, Some, None};
 ghost use Rattle.def_forest.specs.Darts.{darts_of, far};
 ghost use Rattle.def_forest.specs.Steps.{IsGrown};
 ghost use Rattle.def_forest.specs.Tables.{forest_of, edge_kind, outer_dart, IsValidFor};

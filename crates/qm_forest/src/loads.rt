@@ -1,12 +1,13 @@
 //! Slacks and kinds of edges: by potentials across blossoms, by climbing within one.
 
-ghost use Rattle.std.specs.Prelude.{◌≡◌, ◌≢◌, ◌^◌, ◌<◌, ◌≤◌, ◌⊎◌, ◌==◌, ℕ, pos, length, slice_index};
+ghost use Rattle.std.specs.Prelude.{◌≡◌, ◌≢◌, ◌^◌, ◌<◌, ◌≤◌, ◌⊎◌, ◌==◌, pos, length, slice_index};
 ghost use Rattle.std.specs.Prelude.{slice_index_or, unsigned_abs};
 ghost use Rattle.def_forest.specs.Forests.{Blossom, weight_between};
 ghost use Rattle.qm_forest.specs.Ties.{IsClimb};
-ghost use Rattle.def_forest.specs.Tables.{up_at, forest_of, slack_of, edge_kind, kind_by, IsValidFor, IsOutermostIn};
+ghost use Rattle.def_forest.specs.Tables.{up_at, forest_of, slack_of, edge_kind, kind_by, IsValidFor};
 
 use crate::forest::Forest;
+use crate::numbers::read;
 use def_forest::{EdgeKind, Label};
 use qm_dual::SmallGraph;
 
@@ -70,32 +71,29 @@ impl Forest {
 
     /// The set around a blossom.
     pub(crate) fn up_at(&self, b: u32) -> u32
-        requires { b < length self.now.up }
         ensures value { result ≡ up_at self.now.up b }
-        ensures low { result < length self.now.up }
+        ensures low { b < length self.now.up → result < length self.now.up }
     {
-        self.rings.up[b as usize]
+        read(&self.rings.up, b, b)
     }
 
     /// The weight that is kept of a blossom. All weights are small.
     fn base_at(&self, b: u32) -> i128
-        requires { b < length self.now.up }
         ensures value { result ≡ slice_index_or self.now.base b (pos 0) }
         ensures bound { unsigned_abs result ≤ 2 ^ 93 }
         ensures few { length self.now.up ≤ 2 ^ 26 }
         ensures climb { IsClimb (length self.now.hand) (up_at self.now.up) (forest_of self.now).out }
         ensures small { (k : Blossom) → unsigned_abs ((forest_of self.now).weight k) ≤ 2 ^ 62 }
     {
-        self.weights.base[b as usize]
+        read(&self.weights.base, b, 0)
     }
 
     /// Two blossoms, that of lower rank first.
     fn by_rank(&self, x: u32, y: u32) -> (u32, u32)
-        requires low { (x < length self.now.up) × (y < length self.now.up) }
         ensures either { ((result.0 ≡ x) × (result.1 ≡ y)) ⊎ ((result.0 ≡ y) × (result.1 ≡ x)) }
         ensures order { slice_index self.now.rank result.0 ≤ slice_index self.now.rank result.1 }
     {
-        if self.lists.rank[x as usize] <= self.lists.rank[y as usize] {
+        if self.size(x) <= self.size(y) {
             (x, y)
         } else {
             (y, x)
@@ -117,8 +115,6 @@ impl Forest {
 
     /// What a tight edge between two outermost blossoms allows.
     fn kind_between(&self, a: u32, b: u32) -> EdgeKind
-        requires first { IsOutermostIn self.now a }
-        requires second { IsOutermostIn self.now b }
         ensures { let f = forest_of self.now in
             result ≡ kind_by (f.label a) (f.label b) (f.mate a) (f.mate b) (a == b) }
     {

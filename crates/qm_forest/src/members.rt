@@ -8,6 +8,7 @@ ghost use Rattle.def_forest.specs.Tables.{forest_of};
 ghost use Rattle.qm_forest.specs.Gathers.{IsListAt};
 
 use crate::forest::Forest;
+use crate::numbers::read;
 use crate::tables::Lists;
 
 /// Lists the vertices of a blossom.
@@ -38,18 +39,16 @@ impl Forest {
 
     /// The part of a set at which its ring begins.
     pub fn head(&self, b: u32) -> u32
-        requires { b < length self.now.up }
         ensures { result ≡ slice_index self.now.head b }
     {
-        self.rings.head[b as usize]
+        read(&self.rings.head, b, 0)
     }
 
     /// How many parts a set has: none where the number is not in use.
     pub fn parts(&self, b: u32) -> u32
-        requires { b < length self.now.up }
         ensures { result ≡ slice_index self.now.parts b }
     {
-        self.rings.parts[b as usize]
+        read(&self.rings.parts, b, 0)
     }
 
     /// Lists the vertices of a blossom, in any order, in place of what was in the list. Linear in them.

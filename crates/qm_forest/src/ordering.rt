@@ -6,6 +6,7 @@ ghost use Rattle.std.specs.Vec.{vec_capacity};
 ghost use Rattle.qm_forest.specs.Rounds.{AreInOrder, HasSets};
 
 use crate::forest::Forest;
+use crate::numbers::read;
 
 impl Forest {
     /// Lists the sets in use, each with how many vertices it has.
@@ -22,7 +23,6 @@ impl Forest {
 
     /// Lists a set, if its number is in use.
     fn list_set(&self, b: u32, sets: &mut Vec<(u32, u32)>)
-        requires low { b < length self.now.up }
         requires high { length self.now.hand ≤ b }
         requires room { length sets.old.items < vec_capacity sets.old }
         ensures has { HasSets self.now b sets.old.items → HasSets self.now (b + 1) sets.new.items }
@@ -35,11 +35,10 @@ impl Forest {
     }
 
     /// How many vertices a blossom has.
-    fn size(&self, b: u32) -> u32
-        requires { b < length self.now.up }
+    pub(crate) fn size(&self, b: u32) -> u32
         ensures { result ≡ slice_index self.now.rank b }
     {
-        self.lists.rank[b as usize]
+        read(&self.lists.rank, b, 0)
     }
 }
 

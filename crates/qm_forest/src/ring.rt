@@ -66,8 +66,7 @@ impl Forest {
 
     /// The dart by which a blossom hangs on the next one, where there is one.
     fn rise_from(&self, b: u32) -> u32
-        requires low { b < length self.now.up }
-        requires some { rise_of (forest_of self.now) b ≢ None }
+        requires { rise_of (forest_of self.now) b ≢ None }
         ensures { result ≡ dart_or (rise_of (forest_of self.now) b) }
     {
         match self.rise(b) {

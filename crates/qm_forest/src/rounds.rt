@@ -12,6 +12,7 @@ ghost use Rattle.qm_forest.specs.Rounds.{near_at, far_at, is_dart, matched_by};
 
 use crate::darts::twin;
 use crate::forest::Forest;
+use crate::numbers::read;
 
 /// The edges that are chosen; and of each set that waits the vertex that is matched elsewhere, or not at all.
 #[derive(Drop)]
@@ -49,25 +50,22 @@ impl Forest {
 
     /// Where a dart begins.
     fn start_of(&self, d: u32) -> u32
-        requires { d < length self.now.near }
         ensures { result ≡ near_at self.now d }
     {
-        self.tree.near[d as usize]
+        read(&self.tree.near, d, 0)
     }
 
     /// The dart from a part to the next on the ring.
-    fn joint(&self, x: u32) -> u32
-        requires { x < length self.now.up }
+    pub(crate) fn joint(&self, x: u32) -> u32
         ensures { result ≡ slice_index self.now.joint x }
     {
-        self.rings.joint[x as usize]
+        read(&self.rings.joint, x, 0)
     }
 
     /// Matches the parts of a set in pairs along the ring, but for one part.
     fn match_ring(&self, p: u32, round: &mut Round)
         requires room { HasRoom self.now round.old }
         requires inner { up_at self.now.up p ≢ p }
-        requires low { p < length self.now.up }
         ensures room { HasRoom self.now round.new }
         ensures done { let after = slice_index self.now.after in
             let many = slice_index self.now.parts (up_at self.now.up p) in
@@ -142,7 +140,6 @@ impl Forest {
 
     /// Whether a blossom is matched by a dart.
     fn is_mate(&self, a: u32, d: u32) -> bool
-        requires { a < length self.now.up }
         ensures { result ≡ is_dart ((forest_of self.now).mate a) d }
     {
         match self.mate(a) {
@@ -192,8 +189,10 @@ impl Forest {
 
 /// The set at a place of a list.
 pub(crate) fn set_at(sets: &[(u32, u32)], k: usize) -> u32
-    requires { k < length sets.now }
     ensures { result ≡ (slice_index_or sets.now k (0, 0)).1 }
 {
-    sets[k].1
+    match sets.get(k) {
+        Some(set) => set.1,
+        None => 0,
+    }
 }

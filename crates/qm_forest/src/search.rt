@@ -1,6 +1,6 @@
 //! Where a search begins, and its shifts.
 
-ghost use Rattle.std.specs.Prelude.{◌≡◌, ◌≤ℤ◌, ◌^◌, ◌<◌, ◌≤◌, ℕ, pos, length, unsigned_abs, Some};
+ghost use Rattle.std.specs.Prelude.{◌≡◌, ◌≤ℤ◌, ◌^◌, ◌<◌, ◌≤◌, pos, length, unsigned_abs, Some};
 ghost use Rattle.std.specs.Prelude.{None};
 ghost use Rattle.def_matching.specs.Matching.{WeightedGraph, IsGraph};
 ghost use Rattle.def_forest.specs.Darts.{darts_of};

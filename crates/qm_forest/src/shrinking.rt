@@ -11,6 +11,7 @@ ghost use Rattle.qm_forest.specs.Ties.{HasSameNest, left_alone};
 
 use crate::darts::near;
 use crate::forest::Forest;
+use crate::numbers::read;
 use def_forest::Label;
 use qm_dual::SmallGraph;
 
@@ -75,9 +76,8 @@ impl Forest {
 
     /// The blossom after another on the ring.
     pub fn next(&self, b: u32) -> u32
-        requires { b < length self.now.up }
         ensures { result ≡ slice_index self.now.after b }
     {
-        self.rings.after[b as usize]
+        read(&self.rings.after, b, 0)
     }
 }

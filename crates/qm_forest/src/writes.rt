@@ -1,13 +1,13 @@
 //! The writes that each keep the tables in order.
 
-ghost use Rattle.std.specs.Prelude.{◌≡◌, ◌≢◌, ◌+ℤ◌, ◌-ℤ◌, ◌^◌, ◌<◌, ◌≤◌, ℕ, pos, length, slice_index_or, unsigned_abs};
+ghost use Rattle.std.specs.Prelude.{◌≡◌, ◌≢◌, ◌+ℤ◌, ◌-ℤ◌, ◌^◌, ◌<◌, ◌≤◌, pos, length, slice_index_or, unsigned_abs};
 ghost use Rattle.std.specs.Prelude.{Option};
 ghost use Rattle.def_forest.specs.Tables.{forest_of};
 ghost use Rattle.def_forest.specs.declared.kinds.Label.TheVariants.{Outside};
 ghost use Rattle.qm_forest.specs.Ties.{HasSameNest, IsOnTrail, labelled, mated, linked};
 
 use crate::forest::Forest;
-use crate::numbers::{hand_of, label_of, shift_at, top_of};
+use crate::numbers::{hand_of, label_of, read, shift_at, top_of};
 use def_forest::Label;
 
 impl Forest {
@@ -76,12 +76,11 @@ impl Forest {
 
 /// A number with one part of it taken for another.
 fn exchange(numbers: &[i128], place: u32, before: i128, after: i128) -> i128
-    requires low { place < length numbers.now }
     requires small_before { unsigned_abs before ≤ 2 ^ 100 }
     requires small_after { unsigned_abs after ≤ 2 ^ 100 }
     requires small { unsigned_abs (slice_index_or numbers.now place (pos 0)) ≤ 2 ^ 101 }
     ensures value { result ≡ (slice_index_or numbers.now place (pos 0) +ℤ before) -ℤ after }
     ensures small { unsigned_abs result ≤ 2 ^ 103 }
 {
-    numbers[place as usize] + before - after
+    read(numbers, place, 0) + before - after
 }

@@ -15,6 +15,7 @@ ghost use Rattle.qm_forest.specs.declared.rounds.Round.{Round};
 
 use crate::forest::Forest;
 use crate::matchings::list_marked;
+use crate::numbers::read;
 use crate::room::Room;
 use crate::rounds::set_at;
 use crate::tables::{Rings, Tree};
@@ -65,25 +66,23 @@ impl Forest {
 
     /// Lists the weights of the vertices.
     fn list_vertex_weights(&self, numbers: &mut Vec<i64>)
-        requires low { length self.now.hand ≤ length self.now.up }
-        requires room { length self.now.hand ≤ vec_capacity numbers.old }
+        requires { length self.now.hand ≤ vec_capacity numbers.old }
         ensures { AreWeights (forest_of self.now).weight (λ v. v) (length self.now.hand) numbers.new.items }
     {
         numbers.clear();
         for v in 0..self.vertices() {
-            numbers.push(self.weight_of(v)).unwrap();
+            numbers.push(self.weight(v)).unwrap();
         }
     }
 
     /// Lists the weights of the sets of an order.
     fn list_set_weights(&self, sets: &[(u32, u32)], numbers: &mut Vec<i64>)
-        requires low { (k : ℕ) → k < length sets.now → set_in sets.now k < length self.now.up }
-        requires room { length sets.now ≤ vec_capacity numbers.old }
+        requires { length sets.now ≤ vec_capacity numbers.old }
         ensures { AreWeights (forest_of self.now).weight (set_in sets.now) (length sets.now) numbers.new.items }
     {
         numbers.clear();
         for k in 0..sets.len() {
-            numbers.push(self.weight_of(set_at(sets, k))).unwrap();
+            numbers.push(self.weight(set_at(sets, k))).unwrap();
         }
     }
 
@@ -143,23 +142,19 @@ fn name_sets(sets: &[(u32, u32)], names: &mut Vec<u32>)
 
 /// The name of the set around a blossom, or 0 where there is none.
 fn entry_of(up: &[u32], names: &[u32], b: u32) -> u32
-    requires low { b < length up.now }
-    requires around { slice_index up.now b < length names.now }
     ensures { result ≡ entry_of (up_at up.now) names.now b }
 {
-    let around = up[b as usize];
+    let around = read(up, b, b);
     if around == b {
         0
     } else {
-        names[around as usize]
+        read(names, around, 0)
     }
 }
 
 /// Adds the entries of the vertices.
 fn add_vertex_entries(up: &[u32], names: &[u32], vertices: u32, entries: &mut Vec<u32>)
     requires empty { length entries.old.items ≡ 0 }
-    requires low { vertices ≤ length up.now }
-    requires around { (b : ℕ) → b < length up.now → slice_index up.now b < length names.now }
     requires room { vertices ≤ vec_capacity entries.old }
     ensures size { length entries.new.items ≡ vertices }
     ensures each { AreEntries (up_at up.now) names.now (λ v. v) 0 vertices entries.new.items }
@@ -172,9 +167,7 @@ fn add_vertex_entries(up: &[u32], names: &[u32], vertices: u32, entries: &mut Ve
 
 /// Adds the entries of the sets of an order.
 fn add_set_entries(up: &[u32], names: &[u32], sets: &[(u32, u32)], entries: &mut Vec<u32>)
-    requires low { (k : ℕ) → k < length sets.now → set_in sets.now k < length up.now }
-    requires around { (b : ℕ) → b < length up.now → slice_index up.now b < length names.now }
-    requires room { length entries.old.items + length sets.now ≤ vec_capacity entries.old }
+    requires { length entries.old.items + length sets.now ≤ vec_capacity entries.old }
     ensures size { length entries.new.items ≡ length entries.old.items + length sets.now }
     ensures kept { (k : ℕ) → k < length entries.old.items
         → slice_index entries.new.items k ≡ slice_index entries.old.items k }

@@ -50,26 +50,12 @@ impl Search {
     }
 
     /// The key of a set.
-    fn set_key(&self, g: &SmallGraph, b: u32) -> u64
-        requires valid { IsValidFor g.now.graph self.now.forest }
+    fn set_key(&self, b: u32) -> u64
         ensures { result ≡ set_key (forest_of self.now.forest) self.now.risen b }
     {
-        match self.label_of(g, b) {
+        match self.forest.label(b) {
             Label::Inner => key_after(u128::from(self.forest.weight(b).unsigned_abs()), self.risen),
             _ => u64::MAX,
-        }
-    }
-
-    /// Where a blossom stands. Numbers past the end are outside.
-    pub(crate) fn label_of(&self, g: &SmallGraph, b: u32) -> Label
-        requires valid { IsValidFor g.now.graph self.now.forest }
-        ensures { result ≡ (forest_of self.now.forest).label b }
-    {
-        let _ = g;
-        if b < self.forest.numbers() {
-            self.forest.label_at(b)
-        } else {
-            Label::Outside
         }
     }
 
@@ -84,7 +70,7 @@ impl Search {
         if leaf < edges {
             self.edge_key(g, leaf as u32)
         } else {
-            self.set_key(g, g.n() + (leaf - edges) as u32)
+            self.set_key(g.n() + (leaf - edges) as u32)
         }
     }
 

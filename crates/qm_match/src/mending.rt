@@ -93,7 +93,7 @@ impl Search {
         ensures refreshed { IsRefreshed g.now.graph self.old self.new }
         ensures here { IsFreshAt g.now.graph self.new b }
     {
-        match self.label_of(g, b) {
+        match self.forest.label(b) {
             Label::Inner => self.refresh_inner(g, b),
             _ => self.refresh_other(g, b),
         }

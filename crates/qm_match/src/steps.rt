@@ -72,7 +72,6 @@ impl Search {
         requires made { IsMade g.now.graph self.old }
         requires valid { IsValidFor g.now.graph self.old.forest }
         requires set { g.now.graph.n ≤ set }
-        requires low { set < length self.old.forest.up }
         requires live { slice_index self.old.forest.parts set ≢ 0 }
         ensures same { self.new ≡ record self.old { tour = self.new.tour; members = self.new.members } }
         ensures room { g.now.graph.n ≤ vec_capacity self.new.members }
@@ -127,7 +126,6 @@ impl Search {
         requires made { IsMade g.now.graph self.old }
         requires valid { IsValidFor g.now.graph self.old.forest }
         requires set { g.now.graph.n ≤ b }
-        requires low { b < length self.old.forest.up }
         requires live { slice_index self.old.forest.parts b ≢ 0 }
         ensures same { self.new ≡ record self.old { parts = self.new.parts } }
         ensures room { g.now.graph.n ≤ vec_capacity self.new.parts }

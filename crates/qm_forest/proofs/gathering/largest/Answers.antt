@@ -1,14 +1,6 @@
-use Rattle.std.proofs.Common.{add-one, ◌<◌, length, sym, subst, arith}
+use Rattle.std.proofs.Common.{add-one, arith}
 use Rattle.qm_forest.proofs.RenamedRows.{row_place, row_larger, row_most}
 use Rattle.qm_forest.proofs.gathering.largest.Goals as goal
-
-pub larger-best-requires : goal.larger-best-requires
-larger-best-requires c = (
-  subst (λ n. c.loop.best < n) (sym c.requires.ranks) (subst (λ x. x < length c.args.after.now) c.loop.invariant.best.2
-      (c.requires.row.low c.loop.invariant.best.0 c.loop.invariant.best.1)),
-  subst (λ n. c.loop.x < n)
-      (sym c.requires.ranks) (row_place c.loop.counter c.requires.row c.loop-test.true c.loop.invariant.here),
-)
 
 pub bounds-after-x : goal.bounds-after-x
 bounds-after-x c = row_place c.loop.counter c.requires.row c.loop-test.true c.loop.invariant.here

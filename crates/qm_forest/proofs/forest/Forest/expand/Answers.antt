@@ -1,7 +1,7 @@
 use Rattle.std.proofs.Common.{length, refl, ◌∙◌, ap}
 use Rattle.def_forest.specs.Tables.{forest_of}
-use Rattle.qm_forest.proofs.Expandings.{Expanding, matched, mate_low, link_low, vertex_low, places_low, darts_low}
-use Rattle.qm_forest.proofs.Expandings.{reached3, low3, tops3, front_low, joints3, expanded, expanded_valid}
+use Rattle.qm_forest.proofs.Expandings.{Expanding, matched, mate_low, link_low, vertex_low, places_low}
+use Rattle.qm_forest.proofs.Expandings.{reached3, tops3, front_low, expanded, expanded_valid}
 use Rattle.qm_forest.proofs.Openings.{CanOpen, partable}
 use Rattle.qm_forest.proofs.forest.Forest.expand.Goals.{After-parts-many, After-outermost-last}
 use Rattle.qm_forest.proofs.forest.Forest.expand.Goals as goal
@@ -33,9 +33,9 @@ opened c = record {
   many_is = c.parts-many.ensures;
 }
 
-pub mate_dart-mate-requires-clause-matched : goal.mate_dart-mate-requires-clause-matched
-mate_dart-mate-requires-clause-matched c =
-    matched (ready (goal.at.mate_dart-mate-requires-clause-matched c).After-parts-many)
+pub mate_dart-mate-requires : goal.mate_dart-mate-requires
+mate_dart-mate-requires c =
+    matched (ready (goal.at.mate_dart-mate-requires c).After-parts-many)
 
 pub open-requires-clause-partable : goal.open-requires-clause-partable
 open-requires-clause-partable c = partable (ready (goal.at.open-requires-clause-partable c).After-parts-many)
@@ -60,17 +60,9 @@ outermost-last-requires c =
 pub match_parts-requires-clause-low : goal.match_parts-requires-clause-low
 match_parts-requires-clause-low c = places_low (opened (goal.at.match_parts-requires-clause-low c).After-outermost-last)
 
-pub match_parts-requires-clause-joints : goal.match_parts-requires-clause-joints
-match_parts-requires-clause-joints c =
-    darts_low (opened (goal.at.match_parts-requires-clause-joints c).After-outermost-last)
-
-pub course-course-requires-clause-reached : goal.course-course-requires-clause-reached
-course-course-requires-clause-reached c =
-    reached3 (opened (goal.at.course-course-requires-clause-reached c).After-outermost-last)
-    c.match_parts.ensures.seen c.match_parts.ensures.same
-
-pub course-course-requires-clause-low : goal.course-course-requires-clause-low
-course-course-requires-clause-low c = low3 (opened (goal.at.course-course-requires-clause-low c).After-outermost-last)
+pub course-course-requires : goal.course-course-requires
+course-course-requires c =
+    reached3 (opened (goal.at.course-course-requires c).After-outermost-last)
     c.match_parts.ensures.seen c.match_parts.ensures.same
 
 pub hang_parts-requires-clause-tops : goal.hang_parts-requires-clause-tops
@@ -79,11 +71,6 @@ hang_parts-requires-clause-tops c = tops3 (opened (goal.at.hang_parts-requires-c
 
 pub hang_parts-requires-clause-low : goal.hang_parts-requires-clause-low
 hang_parts-requires-clause-low c = front_low (opened (goal.at.hang_parts-requires-clause-low c).After-outermost-last)
-    c.match_parts.ensures.seen c.match_parts.ensures.same c.course-course.ensures
-
-pub hang_parts-requires-clause-joints : goal.hang_parts-requires-clause-joints
-hang_parts-requires-clause-joints c =
-    joints3 (opened (goal.at.hang_parts-requires-clause-joints c).After-outermost-last)
     c.match_parts.ensures.seen c.match_parts.ensures.same c.course-course.ensures
 
 pub returns-clause-changed : goal.returns-clause-changed

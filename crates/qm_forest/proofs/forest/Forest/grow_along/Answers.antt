@@ -1,4 +1,4 @@
-use Rattle.std.proofs.Common.{◌∙◌, sym, arith}
+use Rattle.std.proofs.Common.{◌∙◌, sym}
 use Rattle.qm_forest.proofs.OnWays.{mate_low, twin_dart}
 use Rattle.qm_forest.proofs.forest.Forest.grow_along.Goals as goal
 
@@ -6,10 +6,3 @@ pub near-requires : goal.near-requires
 near-requires c = twin_dart c.args.g.now.small c.in-Some.m
     (mate_low c.args.g.now.small c.requires.valid _ c.in-Some.m (sym c.mate.ensures ∙ c.in-Some.is))
     c.twin-in-Some.ensures
-
-pub twin-requires-in-Some : goal.twin-requires-in-Some
-twin-requires-in-Some c = omega (
-  arith,
-  c.args.g.now.small.edges,
-  mate_low c.args.g.now.small c.requires.valid _ c.in-Some.m (sym c.mate.ensures ∙ c.in-Some.is),
-)

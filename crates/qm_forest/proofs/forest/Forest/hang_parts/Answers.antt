@@ -1,27 +1,13 @@
-use Rattle.std.proofs.Common.{◌≡◌, ◌+◌, ◌-◌, ◌^◌, suc, get_or, ◌∙◌, ap, sym, arith}
-use Rattle.def_forest.specs.{Forests.Forest, Forests.walk, Tables.forest_of}
+use Rattle.std.proofs.Common.{◌≡◌, ◌+◌, ◌-◌, suc, get_or, ◌∙◌, ap, sym, arith}
+use Rattle.def_forest.specs.{Forests.walk, Tables.forest_of}
 use Rattle.qm_forest.specs.Parts.{hung}
-use Rattle.qm_forest.proofs.{Hangings.hung_more, Hangings.place_low, Hangings.dart_low, Leavings.outermost_kept}
+use Rattle.qm_forest.proofs.{Hangings.hung_more, Leavings.outermost_kept}
 use Rattle.qm_forest.proofs.OnWays.{same_nest}
 use Rattle.qm_forest.proofs.forest.Forest.hang_parts.Goals as goal
 
 pub leader-v-requires : goal.leader-v-requires
 leader-v-requires c = outermost_kept c.loop-k.invariant.same
     c.loop-k.invariant.here (c.requires.tops c.loop-k.k (omega (arith, c.loop-k-test.true)))
-
-pub side_dart-d-requires-clause-low : goal.side_dart-d-requires-clause-low
-side_dart-d-requires-clause-low c = (
-  place_low c.loop-k.before _ (same_nest c.loop-k.invariant.same c.set_label.ensures.same) c.loop-k.invariant.back
-      (c.requires.low (c.loop-k.k - 1) (omega (arith, c.loop-k-test.true))),
-  place_low c.loop-k.x _ (same_nest c.loop-k.invariant.same c.set_label.ensures.same) c.loop-k.invariant.here
-      (c.requires.low c.loop-k.k (omega (arith, c.loop-k-test.true))),
-)
-
-pub side_dart-d-requires-clause-joint : goal.side_dart-d-requires-clause-joint
-side_dart-d-requires-clause-joint c = dart_low (forest_of c.args.self.now) (forest_of c.set_label.new.self) (2 ^ 31)
-    (ap (λ (f : Forest). f.nest.joint) c.set_label.ensures.seen ∙ ap (λ (f : Forest). f.nest.joint)
-    c.loop-k.invariant.seen) c.loop-k.invariant.back (c.requires.joints (c.loop-k.k - 1)
-    (omega (arith, c.loop-k-test.true)))
 
 pub loop-k-preserved : goal.loop-k-preserved
 loop-k-preserved c =

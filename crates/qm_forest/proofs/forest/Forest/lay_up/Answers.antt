@@ -13,12 +13,8 @@ place c = laid_place c.args.g.now.small c.args.self.now c.args.c c.args.steps c.
 dart_low : (c : After-rise_from-d) → c.rise_from-d.result < 2 * length c.args.g.now.graph.edges
 dart_low c = rw c.rise_from-d.ensures (place c).dart
 
-pub rise_from-d-requires-clause-low : goal.rise_from-d-requires-clause-low
-rise_from-d-requires-clause-low c = (laid_place c.args.g.now.small c.args.self.now c.args.c c.args.steps c.requires.from
-    c.loop.counter (omega (arith, c.loop-test.true)) c.loop.invariant.here c.loop.self c.loop.invariant.same).low
-
-pub rise_from-d-requires-clause-some : goal.rise_from-d-requires-clause-some
-rise_from-d-requires-clause-some c = (laid_place c.args.g.now.small c.args.self.now c.args.c c.args.steps
+pub rise_from-d-requires : goal.rise_from-d-requires
+rise_from-d-requires c = (laid_place c.args.g.now.small c.args.self.now c.args.c c.args.steps
     c.requires.from c.loop.counter (omega (arith, c.loop-test.true)) c.loop.invariant.here c.loop.self
     c.loop.invariant.same).some
 

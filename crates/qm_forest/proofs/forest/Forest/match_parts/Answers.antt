@@ -1,28 +1,11 @@
-use Rattle.std.proofs.Common.{◌≡◌, ◌+◌, ◌-◌, ◌^◌, suc, Some, get_or, refl, ◌∙◌, ap, sym, arith}
+use Rattle.std.proofs.Common.{◌≡◌, ◌+◌, ◌-◌, suc, Some, get_or, refl, ◌∙◌, ap, sym, arith}
 use Rattle.def_forest.specs.{Forests.Forest, Forests.walk, Tables.forest_of}
 use Rattle.qm_forest.specs.{Parts.paired, Ties.mated}
-use Rattle.qm_forest.proofs.{Hangings.paired_more, Hangings.place_low, Hangings.dart_low, OnWays.same_nest}
+use Rattle.qm_forest.proofs.{Hangings.paired_more, Hangings.place_low, OnWays.same_nest}
 use Rattle.qm_forest.proofs.forest.Forest.match_parts.Goals as goal
-
-pub side_dart-d-requires-clause-low : goal.side_dart-d-requires-clause-low
-side_dart-d-requires-clause-low c = (
-  place_low c.loop-k.before _ c.loop-k.invariant.same c.loop-k.invariant.back
-      (c.requires.low (c.loop-k.k - 1) (omega (arith, c.loop-k-test.true))),
-  place_low c.loop-k.x _ c.loop-k.invariant.same c.loop-k.invariant.here
-      (c.requires.low c.loop-k.k (omega (arith, c.loop-k-test.true))),
-)
-
-pub side_dart-d-requires-clause-joint : goal.side_dart-d-requires-clause-joint
-side_dart-d-requires-clause-joint c = dart_low (forest_of c.args.self.now) (forest_of c.loop-k.self)
-    (2 ^ 31) (ap (λ (f : Forest). f.nest.joint) c.loop-k.invariant.seen) c.loop-k.invariant.back
-    (c.requires.joints (c.loop-k.k - 1) (omega (arith, c.loop-k-test.true)))
 
 pub set_mate-requires : goal.set_mate-requires
 set_mate-requires c = place_low c.loop-k.x _ c.loop-k.invariant.same
-    c.loop-k.invariant.here (c.requires.low c.loop-k.k (omega (arith, c.loop-k-test.true)))
-
-pub next-x-requires : goal.next-x-requires
-next-x-requires c = place_low c.loop-k.x _ (same_nest c.loop-k.invariant.same c.set_mate.ensures.same)
     c.loop-k.invariant.here (c.requires.low c.loop-k.k (omega (arith, c.loop-k-test.true)))
 
 pub loop-k-preserved : goal.loop-k-preserved

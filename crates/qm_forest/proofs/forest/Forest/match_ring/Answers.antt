@@ -1,7 +1,7 @@
 use Rattle.std.proofs.Common.{◌≡◌, suc, ◌+◌, ◌*◌, ◌/◌, ◌<◌, ◌⊎◌, get_or, refl, ◌∙◌, ap, inl, inr, arith}
 use Rattle.def_forest.specs.{Forests.walk, Tables.up_at}
 use Rattle.qm_forest.specs.Rounds.{IsPairing}
-use Rattle.qm_forest.proofs.RingRounds.{at_low, ring_begun, ring_ended, ring_turn, turn_entries, turn_pairing}
+use Rattle.qm_forest.proofs.RingRounds.{ring_begun, ring_ended, ring_turn, turn_entries, turn_pairing}
 use Rattle.qm_forest.proofs.forest.Forest.match_ring.Goals.{After-joint-d, After-parts-end}
 use Rattle.qm_forest.proofs.forest.Forest.match_ring.Goals as goal
 
@@ -22,19 +22,8 @@ loop-init c = record {
   entries = λ b v e. inl e;
 }
 
-pub next-y-requires : goal.next-y-requires
-next-y-requires c = rw c.loop.invariant.here
-    (at_low c.requires.room.laminar c.requires.room.sound.1 c.requires.inner (2 * c.loop.counter))
-
-pub joint-d-requires : goal.joint-d-requires
-joint-d-requires c = rw c.loop.invariant.here
-    (at_low c.requires.room.laminar c.requires.room.sound.1 c.requires.inner (2 * c.loop.counter))
-
 pub pair-requires-clause-pairing : goal.pair-requires-clause-pairing
 pair-requires-clause-pairing c = pairing (goal.at.pair-requires-clause-pairing c).After-joint-d
-
-pub next-x-requires-in-loop : goal.next-x-requires-in-loop
-next-x-requires-in-loop c = (pairing (goal.at.next-x-requires-in-loop c).After-joint-d).low_y
 
 pub loop-preserved : goal.loop-preserved
 loop-preserved c =

@@ -40,7 +40,7 @@ loop-p-preserved c =
       above = rw c.up_at-p.ensures.value more;
       held = ap (within c.args.self.now c.args.v) c.up_at-p.ensures.value ∙ held_more known c.args.c lv c.requires.held
           c.loop-p.invariant.above c.loop-p-test.true c.loop-p.invariant.held;
-      low = c.up_at-p.ensures.low;
+      low = c.up_at-p.ensures.low c.loop-p.invariant.low;
       room = c.match_ring.ensures.room;
       done = λ rest due r. rw c.up_at-p.ensures.value (c.match_ring.ensures.done _ due
           (ring_climb known c.requires.room.sound.1

@@ -3,13 +3,9 @@ use Rattle.std.specs.Prelude.{is_some}
 use Rattle.def_forest.specs.{Darts.darts_of, Tables.forest_of}
 use Rattle.forest_laws.specs.Climbing.{level_of}
 use Rattle.forest_laws.proofs.Levels.{level_few}
-use Rattle.qm_forest.proofs.Increases.{named_low, climbed_named, climbed_nearer, climbed_on, none_of, root_on_both}
+use Rattle.qm_forest.proofs.Increases.{climbed_named, climbed_nearer, climbed_on, none_of, root_on_both}
 use Rattle.qm_forest.proofs.Increases.{some_of}
 use Rattle.qm_forest.proofs.forest.Forest.meeting.Goals as goal
-
-pub rise-requires : goal.rise-requires
-rise-requires c = named_low c.args.g.now.small c.requires.valid c.loop-right.at
-    (climbed_named c.args.g.now.small c.requires.valid c.requires.first c.loop-right.invariant.climbed)
 
 pub returns-in-Some-clause-both : goal.returns-in-Some-clause-both
 returns-in-Some-clause-both c =

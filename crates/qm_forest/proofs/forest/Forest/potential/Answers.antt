@@ -40,13 +40,13 @@ added_at-more-requires-clause-small c =
     let at = (goal.at.added_at-more-requires-clause-small c).After-deref-5 in
     omega (arith, ints, more_is at (low at), added_small c.self.invariant c.args.v (low at))
 
-pub sum_at-requires-clause-small : goal.sum_at-requires-clause-small
-sum_at-requires-clause-small c =
-    let at = (goal.at.sum_at-requires-clause-small c).After-deref-5 in
+pub sum_at-requires : goal.sum_at-requires
+sum_at-requires c =
+    let at = (goal.at.sum_at-requires c).After-deref-5 in
     omega (
       arith,
       ints,
-      told (goal.at.sum_at-requires-clause-small c).After-deref-6 (low at) (more_is at (low at)),
+      told (goal.at.sum_at-requires c).After-deref-6 (low at) (more_is at (low at)),
       potential_small c.self.invariant c.args.v,
     )
 

@@ -1,4 +1,4 @@
-use Rattle.std.proofs.Common.{◌≡◌, ◌<◌, ◌*◌, ℕ, length, Some, ◌∙◌, sym, ap, arith}
+use Rattle.std.proofs.Common.{◌≡◌, ◌<◌, ◌*◌, ℕ, length, Some, ◌∙◌, sym, ap}
 use Rattle.def_forest.specs.{Darts.darts_of, Darts.far, Forests.Forest, Forests.set_at, Tables.forest_of}
 use Rattle.qm_forest.specs.Ties.{mated, remated}
 use Rattle.qm_forest.proofs.OnWays.{way_begins, way_goes_on, way_shorter, way_low, way_ends, old_low, up_low}
@@ -44,9 +44,6 @@ at_is : (c : After-link-up) {f : Forest} {at : ℕ} → f ≡ mated (forest_of c
     → at ≡ (forest_of c.args.self.now).out (far (darts_of c.args.g.now.graph) c.link-up.result)
 at_is c seen is = is ∙ out_same (forest_of c.args.self.now) _ _ (changed_twice c seen)
 
-pub mate-requires : goal.mate-requires
-mate-requires c = rw c.loop-old.invariant.same.up (way_low c.loop-old.invariant.way)
-
 pub set_mate-requires-in-Some : goal.set_mate-requires-in-Some
 set_mate-requires-in-Some c = rw c.loop-old.invariant.same.up (way_low c.loop-old.invariant.way)
 
@@ -64,13 +61,6 @@ far_blossom-at-requires-clause-vertices c = ap length (c.set_mate-in-Some-2.ensu
 
 pub far_blossom-at-requires-clause-dart : goal.far_blossom-at-requires-clause-dart
 far_blossom-at-requires-clause-dart c = up_is_low (goal.at.far_blossom-at-requires-clause-dart c).After-link-up
-
-pub twin-next-requires : goal.twin-next-requires
-twin-next-requires c = omega (
-  arith,
-  c.args.g.now.small.edges,
-  up_is_low (goal.at.twin-next-requires c).After-link-up,
-)
 
 pub loop-old-smaller : goal.loop-old-smaller
 loop-old-smaller c =

@@ -1,7 +1,7 @@
 use Rattle.std.proofs.Common.{◌+◌, ◌*◌, ◌≤◌, ◌^◌, ◌∙◌, ap, arith}
 use Rattle.def_forest.specs.{Darts.darts_of, Tables.forest_of}
 use Rattle.forest_laws.proofs.{Levels.level_few, Writes.outer_named}
-use Rattle.qm_forest.proofs.{EdgeKinds.shrinks, Increases.met_at, Shrinkings.Closing, Shrinkings.top_low}
+use Rattle.qm_forest.proofs.{EdgeKinds.shrinks, Increases.met_at, Shrinkings.Closing}
 use Rattle.qm_forest.proofs.Shrinkings.{tops_laid, free_ring, shrinking, shrunk_tables}
 use Rattle.qm_forest.proofs.forest.Forest.shrink.Goals.{After-fork-fork}
 use Rattle.qm_forest.proofs.forest.Forest.shrink.Goals as goal
@@ -30,9 +30,6 @@ short c = omega (
   level_few (darts_of c.args.g.now.graph) (forest_of c.args.self.now),
   c.fork-fork.ensures.few,
 )
-
-pub mate-mate-requires : goal.mate-mate-requires
-mate-mate-requires c = top_low (closing (goal.at.mate-mate-requires c).After-fork-fork)
 
 pub lay_ring-requires-clause-ways : goal.lay_ring-requires-clause-ways
 lay_ring-requires-clause-ways c =

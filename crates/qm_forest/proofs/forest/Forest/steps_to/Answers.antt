@@ -1,10 +1,6 @@
 use Rattle.std.proofs.Common.{◌∙◌, sym, arith}
-use Rattle.qm_forest.proofs.Increases.{named_low, rise_low, far_level, far_way, climbed_named}
+use Rattle.qm_forest.proofs.Increases.{rise_low, far_level, far_way, climbed_named}
 use Rattle.qm_forest.proofs.forest.Forest.steps_to.Goals as goal
-
-pub rise-requires : goal.rise-requires
-rise-requires c = named_low c.args.g.now.small c.requires.valid c.loop-at.at
-    (climbed_named c.args.g.now.small c.requires.valid c.requires.named c.loop-at.invariant)
 
 pub far_blossom-at-requires-clause-dart : goal.far_blossom-at-requires-clause-dart
 far_blossom-at-requires-clause-dart c = rise_low c.args.g.now.small c.requires.valid c.loop-at.at

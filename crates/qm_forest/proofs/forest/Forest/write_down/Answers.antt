@@ -1,5 +1,5 @@
 use Rattle.std.proofs.Common.{subst}
-use Rattle.qm_forest.proofs.{Orders.set_low, Rooms.IsPlaced, Rooms.has_room, Rooms.placed, Rooms.room_begun}
+use Rattle.qm_forest.proofs.{Rooms.IsPlaced, Rooms.has_room, Rooms.placed, Rooms.room_begun}
 use Rattle.qm_forest.proofs.forest.Forest.write_down.Goals as goal
 
 pub choose-requires-clause-room : goal.choose-requires-clause-room
@@ -9,9 +9,6 @@ choose-requires-clause-room c = has_room (subst IsPlaced c.self.view_is (placed 
 pub choose-requires-clause-begun : goal.choose-requires-clause-begun
 choose-requires-clause-begun c = room_begun (subst IsPlaced c.self.view_is (placed c.self.invariant))
     c.requires.valid.1 c.room.invariant c.room.view_is c.requires.valid.2
-
-pub list_set_weights-requires-clause-low : goal.list_set_weights-requires-clause-low
-list_set_weights-requires-clause-low c = rw c.deref.ensures.value (set_low c.choose.ensures.sets)
 
 pub returns-clause-outline : goal.returns-clause-outline
 returns-clause-outline c =

@@ -74,14 +74,6 @@ shift_at-before-requires c = omega (arith, ints, delta_small c.self.invariant)
 pub shift_at-after-requires : goal.shift_at-after-requires
 shift_at-after-requires c = omega (arith, ints, delta_small c.self.invariant)
 
-pub exchange-off-requires-clause-low : goal.exchange-off-requires-clause-low
-exchange-off-requires-clause-low c = omega (
-  arith,
-  h_low c.self.invariant (places (goal.at.exchange-off-requires-clause-low c).After-shift_at-after),
-  ap length c.deref-6.ensures.value,
-  c.self.invariant.sizes.off,
-)
-
 pub exchange-off-requires-clause-small : goal.exchange-off-requires-clause-small
 exchange-off-requires-clause-small c =
     let s = c.self.inside in

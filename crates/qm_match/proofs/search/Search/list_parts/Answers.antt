@@ -1,10 +1,9 @@
-use Rattle.std.proofs.Common.{◌≡◌, suc, ◌+◌, ◌<◌, ◌++◌, ◌∙◌, [], ◌∷◌, length, get_or, sym, subst, ap, arith}
+use Rattle.std.proofs.Common.{◌≡◌, suc, ◌+◌, ◌++◌, ◌∙◌, [], ◌∷◌, length, get_or, ap, arith}
 use Rattle.std.proofs.lemmas.Grind.{common_steps}
 use Rattle.std.proofs.lemmas.List.{length_push}
-use Rattle.def_forest.specs.Tables.{ForestTables}
 use Rattle.qm_forest.proofs.Copied.{copied_more}
 use Rattle.qm_match.specs.declared.search.Search.{Search}
-use Rattle.qm_match.proofs.Taken.{may_part, part_of, parts_few}
+use Rattle.qm_match.proofs.Taken.{part_of, parts_few}
 use Rattle.qm_match.proofs.search.Search.list_parts.Goals as goal
 
 pub unwrap-requires : goal.unwrap-requires
@@ -17,12 +16,6 @@ unwrap-requires c = c.push.ensures.succeeds (omega (
   parts_few c.requires.made.small.lawful c.args.b c.requires.valid c.requires.set c.requires.live,
   c.loop.self.parts.ok.0,
 ))
-
-pub next-part-requires : goal.next-part-requires
-next-part-requires c = subst (λ (t : ForestTables). c.loop.part < length t.up)
-    (sym (ap (λ (s : Search). s.forest) c.loop.invariant.same)) (subst (λ p. p < length c.args.self.now.forest.up)
-    (sym c.loop.invariant.here) ((may_part c.args.b c.loop.counter c.requires.made c.requires.valid c.requires.set
-    c.requires.live).low))
 
 pub loop-preserved : goal.loop-preserved
 loop-preserved c =

@@ -1,8 +1,8 @@
-use Rattle.std.proofs.Common.{◌≡◌, suc, ◌+◌, ◌<◌, ◌∙◌, length, get_or, true, false, inl, inr, sym, subst, ap, arith}
+use Rattle.std.proofs.Common.{◌≡◌, suc, ◌+◌, ◌∙◌, get_or, true, false, inl, inr, subst, ap, arith}
 use Rattle.std.proofs.lemmas.Bool.{cases_lt}
 use Rattle.def_forest.specs.Tables.{forest_of}
 use Rattle.search_laws.specs.Keys.{AreRightAt, IsMended}
-use Rattle.qm_match.specs.{States.IsMade, States.MayRefresh, declared.search.Search.Search}
+use Rattle.qm_match.specs.{States.IsMade, declared.search.Search.Search}
 use Rattle.qm_match.proofs.{Mended.mended_on, Mended.stay_right, Refreshed.made_members, Refreshed.members_twice}
 use Rattle.qm_match.proofs.Taken.{may_part_in, part_of}
 use Rattle.qm_match.proofs.search.Search.mend_parts.Goals as goal
@@ -13,15 +13,6 @@ mend_marked-requires c =
     c.requires.made c.loop.invariant.same c.loop.invariant.mended.size c.loop.invariant.room in
     may_part_in c.args.self.now c.args.set c.loop.counter made c.requires.valid c.requires.set
     c.requires.live (ap (λ (s : Search). s.forest) c.loop.invariant.same) c.loop.invariant.here
-
-pub next-part-requires : goal.next-part-requires
-next-part-requires c =
-    let made : IsMade c.args.g.now.graph c.loop.self = made_members
-    c.requires.made c.loop.invariant.same c.loop.invariant.mended.size c.loop.invariant.room in
-    let may : MayRefresh c.args.g.now.graph c.loop.self c.loop.part = may_part_in c.args.self.now c.args.set
-    c.loop.counter made c.requires.valid c.requires.set c.requires.live
-    (ap (λ (s : Search). s.forest) c.loop.invariant.same) c.loop.invariant.here in
-    subst (λ (s : Search). c.loop.part < length s.forest.up) (sym c.mend_marked.ensures.same) may.low
 
 pub loop-preserved : goal.loop-preserved
 loop-preserved c =

@@ -1,7 +1,7 @@
 use Rattle.std.proofs.{Common.◌≡◌, Common.ap, Common.arith, lemmas.Int.ints}
 use Rattle.def_forest.specs.Tables.{ForestTables, weight_at}
 use Rattle.qm_forest.proofs.Ranges.{delta_small, kept_in_bits, weight_read}
-use Rattle.qm_forest.proofs.forest.Forest.weight_of.Goals as goal
+use Rattle.qm_forest.proofs.forest.Forest.weight.Goals as goal
 
 pub weight_from-requires-clause-delta : goal.weight_from-requires-clause-delta
 weight_from-requires-clause-delta c = omega (arith, ints, delta_small c.self.invariant)
