@@ -136,9 +136,6 @@ module _ {g : WeightedGraph} {t0 t2 : ForestTables} {b mate link first last many
       tops3 k l = outermost_kept same3 (at3 course.front k)
           (part_top (walk f2.nest.after course.front k) ((circle_at course.front front_marked).marked k))
 
-      pub front_low : (k : ℕ) → k < course.many → walk (forest_of t3).nest.after course.front k < length t3.up
-      front_low k l = low_from course.front front_marked k
-
       way2 : IsCourse f2.nest.after (f2.out (d.near (in_tree ready).dart)) (f2.out (d.near (f0.link b)))
           (f0.nest.parts b) course
       way2 = rw (after3, first_is, last_is, many_is) at way

@@ -1,4 +1,5 @@
 pub mod Gathers
+pub mod Needs
 pub mod Parts
 pub mod Rings
 pub mod Rounds

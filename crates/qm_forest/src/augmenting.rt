@@ -2,14 +2,14 @@
 
 ghost use Rattle.std.specs.Prelude.{◌≡◌, ◌<◌, ℕ, length, slice_index, slice_index_or, true, false, Some};
 ghost use Rattle.std.specs.Prelude.{None};
-ghost use Rattle.def_forest.specs.Darts.{darts_of, far};
+ghost use Rattle.def_forest.specs.Darts.{darts_of};
 ghost use Rattle.def_forest.specs.Forests.{Blossom};
 ghost use Rattle.def_forest.specs.Steps.{with_mates, IsAugmented};
-ghost use Rattle.def_forest.specs.Tables.{forest_of, edge_kind, outer_dart, IsValidFor};
+ghost use Rattle.def_forest.specs.Tables.{forest_of, outer_dart, IsValidFor};
 ghost use Rattle.def_forest.specs.Valid.{IsValid};
 ghost use Rattle.def_forest.specs.declared.kinds.EdgeKind.TheVariants.{Augment};
 ghost use Rattle.def_forest.specs.declared.kinds.Label.TheVariants.{Outside};
-ghost use Rattle.def_forest.specs.Ways.{Reaches};
+ghost use Rattle.qm_forest.specs.Needs.{Allows, ReachesFree};
 ghost use Rattle.qm_forest.specs.Ties.{fixed_of, HasSameNest, relabelled, remated};
 
 use crate::darts::{near, twin};
@@ -20,9 +20,7 @@ use qm_dual::SmallGraph;
 impl Forest {
     /// The root and the unmatched blossom that an edge reaches become matched; no tree stands any more.
     pub fn augment(&mut self, g: &SmallGraph, e: u32)
-        requires valid { IsValidFor g.now.graph self.old }
-        requires edge { e < length g.now.graph.edges }
-        requires kind { edge_kind g.now.graph (forest_of self.old) e ≡ Augment }
+        requires { Allows g.now.graph self.old e Augment }
         ensures changed { (r : Blossom) × (self.old.root ≡ Some r)
             × IsAugmented (darts_of g.now.graph) (forest_of self.old) (forest_of self.new) r
             (outer_dart g.now.graph (forest_of self.old) e) }
@@ -36,10 +34,7 @@ impl Forest {
 
     /// Changes the matching along the way from a dart that reaches an unmatched blossom up to the root.
     fn rematch(&mut self, g: &SmallGraph, start: u32)
-        requires valid { IsValidFor g.now.graph self.old }
-        requires reaches { Reaches (darts_of g.now.graph) (forest_of self.old) start }
-        requires free { (forest_of self.old).mate ((forest_of self.old).out (far (darts_of g.now.graph) start))
-            ≡ None }
+        requires { ReachesFree g.now.graph self.old start }
         ensures seen { forest_of self.new ≡ remated (forest_of self.old) (forest_of self.new).mate }
         ensures same { HasSameNest self.old self.new }
         ensures done { let rematched = with_mates (forest_of self.old) (forest_of self.new).mate in

@@ -1,10 +1,10 @@
 //! Climbing the tree one blossom at a time, and where two ways to the root meet.
 
-ghost use Rattle.std.specs.Prelude.{◌≡◌, ◌≢◌, ◌*◌, ◌^◌, ◌<◌, ◌≤◌, ℕ, length, min, Some, None};
+ghost use Rattle.std.specs.Prelude.{◌≡◌, ◌^◌, ◌<◌, ◌≤◌, ℕ, length, min, Some};
 ghost use Rattle.def_forest.specs.Darts.{darts_of, far};
-ghost use Rattle.def_forest.specs.Tables.{forest_of, IsValidFor};
-ghost use Rattle.def_forest.specs.declared.kinds.Label.TheVariants.{Outside};
+ghost use Rattle.def_forest.specs.Tables.{forest_of};
 ghost use Rattle.forest_laws.specs.Climbing.{rise_of, above_of, level_of, way_of, IsClimbing};
+ghost use Rattle.qm_forest.specs.Needs.{AreInTree, Hangs, IsDartOf, IsInTree};
 ghost use Rattle.qm_forest.specs.Rings.{AreOnBoth, HasClimbed};
 
 use crate::darts::{near, twin};
@@ -36,8 +36,7 @@ impl Forest {
 
     /// The outermost blossom that a dart reaches.
     pub fn far_blossom(&self, g: &SmallGraph, d: u32) -> u32
-        requires vertices { length self.now.hand ≡ g.now.graph.n }
-        requires dart { d < 2 * length g.now.graph.edges }
+        requires { IsDartOf g.now.graph self.now d }
         ensures value { result ≡ (forest_of self.now).out (far (darts_of g.now.graph) d) }
         ensures low { result < length self.now.up }
     {
@@ -46,9 +45,7 @@ impl Forest {
 
     /// The next blossom towards the root, seen from a blossom of the tree that is not the root.
     pub(crate) fn above(&self, g: &SmallGraph, b: u32) -> u32
-        requires valid { IsValidFor g.now.graph self.now }
-        requires named { (forest_of self.now).label b ≢ Outside }
-        requires below { rise_of (forest_of self.now) b ≢ None }
+        requires { Hangs g.now.graph self.now b }
         ensures value { result ≡ above_of (darts_of g.now.graph) (forest_of self.now) b }
         ensures low { result < length self.now.up }
     {
@@ -60,8 +57,7 @@ impl Forest {
 
     /// The blossom so many steps towards the root, or the root where the way is shorter; and how many steps it is.
     fn climb(&self, g: &SmallGraph, b: u32, most: u32) -> (u32, u32)
-        requires valid { IsValidFor g.now.graph self.now }
-        requires named { (forest_of self.now).label b ≢ Outside }
+        requires { IsInTree g.now.graph self.now b }
         ensures way { result.0 ≡ way_of (darts_of g.now.graph) (forest_of self.now) b result.1 }
         ensures steps { result.1 ≡ min most (level_of (darts_of g.now.graph) (forest_of self.now) b) }
     {
@@ -79,8 +75,7 @@ impl Forest {
 
     /// How many steps it is from a blossom of the tree to one towards the root, where it is at most so many.
     fn steps_to(&self, g: &SmallGraph, b: u32, goal: u32, most: u32) -> Option<u32>
-        requires valid { IsValidFor g.now.graph self.now }
-        requires named { (forest_of self.now).label b ≢ Outside }
+        requires { IsInTree g.now.graph self.now b }
         ensures { (k : ℕ) → result ≡ Some k
             → HasClimbed (darts_of g.now.graph) (forest_of self.now) b goal k }
     {
@@ -100,9 +95,7 @@ impl Forest {
     /// waits, each time twice as far up, and the other looks for it from below, twice as far. So it takes the time of
     /// the steps to where the ways meet, and not of those to the root.
     fn meeting(&self, g: &SmallGraph, a: u32, c: u32) -> (u32, u32)
-        requires valid { IsValidFor g.now.graph self.now }
-        requires first { (forest_of self.now).label a ≢ Outside }
-        requires second { (forest_of self.now).label c ≢ Outside }
+        requires { AreInTree g.now.graph self.now a c }
         ensures both { AreOnBoth (darts_of g.now.graph) (forest_of self.now) a c result.0 result.1 }
         ensures few { length self.now.up ≤ 2 ^ 26 }
     {
@@ -123,9 +116,7 @@ impl Forest {
 
     /// Where the ways from two blossoms of the tree to the root meet: the higher climber goes on.
     pub(crate) fn fork(&self, g: &SmallGraph, a: u32, c: u32) -> Fork
-        requires valid { IsValidFor g.now.graph self.now }
-        requires first { (forest_of self.now).label a ≢ Outside }
-        requires second { (forest_of self.now).label c ≢ Outside }
+        requires { AreInTree g.now.graph self.now a c }
         ensures meeting { IsClimbing (darts_of g.now.graph) (forest_of self.now) a c result.top result.top
             result.left result.right }
         ensures few { length self.now.up ≤ 2 ^ 26 }

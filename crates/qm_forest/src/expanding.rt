@@ -1,13 +1,14 @@
 //! Expanding: an inner set of weight 0 leaves its place in the tree to its parts.
 
-ghost use Rattle.std.specs.Prelude.{◌≡◌, ◌≢◌, ◌+◌, ◌%◌, ◌<◌, ◌≤◌, ◌==◌, ℕ, pos, length, slice_index};
+ghost use Rattle.std.specs.Prelude.{◌≡◌, ◌≢◌, ◌+◌, ◌%◌, ◌<◌, ◌≤◌, ◌==◌, ℕ, length, slice_index};
 ghost use Rattle.std.specs.Prelude.{Some, None};
 ghost use Rattle.def_forest.specs.Darts.{darts_of};
 ghost use Rattle.def_forest.specs.Forests.{walk};
 ghost use Rattle.def_forest.specs.Opened.{IsExpanding};
 ghost use Rattle.def_forest.specs.Tables.{ForestTables, forest_of, IsOutermostIn, IsValidFor};
 ghost use Rattle.def_forest.specs.Ways.{dart_or};
-ghost use Rattle.def_forest.specs.declared.kinds.Label.TheVariants.{Inner, Outside};
+ghost use Rattle.def_forest.specs.declared.kinds.Label.TheVariants.{Outside};
+ghost use Rattle.qm_forest.specs.Needs.{IsUsedUp};
 ghost use Rattle.qm_forest.specs.Parts.{IsPartable, HasOpened, IsCourse, side_dart, paired, hung, turn_label};
 ghost use Rattle.qm_forest.specs.Ties.{HasSameNest, labelled, mated};
 
@@ -29,10 +30,7 @@ impl Forest {
     /// length from its link to its mate become inner and outer by turns, the others are outside the tree.
     /// Takes the time of the parts, and of the vertices in them that do not keep their handle.
     pub fn expand(&mut self, g: &SmallGraph, b: u32)
-        requires valid { IsValidFor g.now.graph self.old }
-        requires set { g.now.graph.n ≤ b }
-        requires inner { (forest_of self.old).label b ≡ Inner }
-        requires weightless { (forest_of self.old).weight b ≡ pos 0 }
+        requires { IsUsedUp g.now.graph self.old b }
         ensures changed { IsExpanding (darts_of g.now.graph) (forest_of self.old) (forest_of self.new) b }
         ensures root { self.new.root ≡ self.old.root }
         ensures valid { IsValidFor g.now.graph self.new }
@@ -141,10 +139,8 @@ impl Forest {
 
     /// The blossoms of a way along a ring become inner and outer by turns, each with its dart towards the root.
     fn hang_parts(&mut self, course: Course)
-        requires tops { (k : ℕ) → k < course.many
+        requires { (k : ℕ) → k < course.many
             → IsOutermostIn self.old (walk (slice_index self.old.after) course.front k) }
-        requires low { (k : ℕ) → k < course.many
-            → walk (slice_index self.old.after) course.front k < length self.old.up }
         ensures seen { forest_of self.new ≡ hung (forest_of self.old) course.front course.many course.forward }
         ensures same { HasSameNest self.old self.new }
     {

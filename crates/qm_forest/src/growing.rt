@@ -1,11 +1,11 @@
 //! Growing: a matched blossom outside and its mate join the tree.
 
-ghost use Rattle.std.specs.Prelude.{◌≡◌, ◌≢◌, ◌+◌, ◌*◌, ◌<◌, length, Some, None};
-ghost use Rattle.def_forest.specs.Darts.{darts_of, far};
+ghost use Rattle.std.specs.Prelude.{◌≡◌, ◌*◌, ◌<◌, length};
+ghost use Rattle.def_forest.specs.Darts.{darts_of};
 ghost use Rattle.def_forest.specs.Steps.{IsGrown};
-ghost use Rattle.def_forest.specs.Tables.{forest_of, edge_kind, outer_dart, IsValidFor};
+ghost use Rattle.def_forest.specs.Tables.{forest_of, outer_dart, IsValidFor};
 ghost use Rattle.def_forest.specs.declared.kinds.EdgeKind.TheVariants.{Grow};
-ghost use Rattle.def_forest.specs.Ways.{Reaches};
+ghost use Rattle.qm_forest.specs.Needs.{Allows, IsEdgeOf, ReachesMatched};
 ghost use Rattle.qm_forest.specs.Ties.{fixed_of};
 
 use crate::darts::{near, twin};
@@ -16,8 +16,7 @@ use qm_dual::SmallGraph;
 impl Forest {
     /// The dart of an edge that begins in an outer blossom.
     pub fn outer_dart(&self, g: &SmallGraph, e: u32) -> u32
-        requires vertices { length self.now.hand ≡ g.now.graph.n }
-        requires edge { e < length g.now.graph.edges }
+        requires { IsEdgeOf g.now.graph self.now e }
         ensures value { result ≡ outer_dart g.now.graph (forest_of self.now) e }
         ensures low { result < 2 * length g.now.graph.edges }
     {
@@ -29,9 +28,7 @@ impl Forest {
 
     /// The matched blossom outside the tree that an edge reaches becomes inner, and what it is matched to outer.
     pub fn grow(&mut self, g: &SmallGraph, e: u32)
-        requires valid { IsValidFor g.now.graph self.old }
-        requires edge { e < length g.now.graph.edges }
-        requires kind { edge_kind g.now.graph (forest_of self.old) e ≡ Grow }
+        requires { Allows g.now.graph self.old e Grow }
         ensures changed { IsGrown (darts_of g.now.graph) (forest_of self.old) (forest_of self.new)
             (outer_dart g.now.graph (forest_of self.old) e) }
         ensures root { self.new.root ≡ self.old.root }
@@ -43,10 +40,7 @@ impl Forest {
 
     /// A tree grows along a dart.
     fn grow_along(&mut self, g: &SmallGraph, d: u32)
-        requires valid { IsValidFor g.now.graph self.old }
-        requires reaches { Reaches (darts_of g.now.graph) (forest_of self.old) d }
-        requires matched { (forest_of self.old).mate
-            ((forest_of self.old).out (far (darts_of g.now.graph) d)) ≢ None }
+        requires { ReachesMatched g.now.graph self.old d }
         ensures changed { IsGrown (darts_of g.now.graph) (forest_of self.old) (forest_of self.new) d }
         ensures root { self.new.root ≡ self.old.root }
         ensures hand { self.new.hand ≡ self.old.hand }

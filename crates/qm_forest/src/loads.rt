@@ -3,8 +3,9 @@
 ghost use Rattle.std.specs.Prelude.{◌≡◌, ◌≢◌, ◌^◌, ◌<◌, ◌≤◌, ◌⊎◌, ◌==◌, pos, length, slice_index};
 ghost use Rattle.std.specs.Prelude.{slice_index_or, unsigned_abs};
 ghost use Rattle.def_forest.specs.Forests.{Blossom, weight_between};
+ghost use Rattle.qm_forest.specs.Needs.{AreVertices, IsEdgeOf};
 ghost use Rattle.qm_forest.specs.Ties.{IsClimb};
-ghost use Rattle.def_forest.specs.Tables.{up_at, forest_of, slack_of, edge_kind, kind_by, IsValidFor};
+ghost use Rattle.def_forest.specs.Tables.{up_at, forest_of, slack_of, edge_kind, kind_by};
 
 use crate::forest::Forest;
 use crate::numbers::read;
@@ -14,8 +15,7 @@ use qm_dual::SmallGraph;
 impl Forest {
     /// Twice the cost of an edge less its load. Constant between two outermost blossoms; within one it climbs.
     pub fn slack(&self, g: &SmallGraph, e: u32) -> i128
-        requires valid { IsValidFor g.now.graph self.now }
-        requires edge { e < length g.now.graph.edges }
+        requires { IsEdgeOf g.now.graph self.now e }
         ensures { result ≡ slack_of g.now.graph (forest_of self.now) e }
     {
         let edge = g.edge(e);
@@ -24,8 +24,7 @@ impl Forest {
 
     /// The load between two vertices.
     fn load_between(&self, g: &SmallGraph, u: u32, v: u32) -> i128
-        requires valid { IsValidFor g.now.graph self.now }
-        requires vertices { (u < length self.now.hand) × (v < length self.now.hand) }
+        requires { AreVertices g.now.graph self.now u v }
         ensures value { result ≡ weight_between (forest_of self.now) u v }
         ensures small { unsigned_abs result ≤ 2 ^ 92 }
     {
@@ -38,8 +37,7 @@ impl Forest {
 
     /// The load between two vertices of different outermost blossoms.
     fn load_across(&self, g: &SmallGraph, u: u32, v: u32) -> i128
-        requires valid { IsValidFor g.now.graph self.now }
-        requires vertices { (u < length self.now.hand) × (v < length self.now.hand) }
+        requires ends { AreVertices g.now.graph self.now u v }
         requires apart { (forest_of self.now).out u ≢ (forest_of self.now).out v }
         ensures value { result ≡ weight_between (forest_of self.now) u v }
         ensures small { unsigned_abs result ≤ 2 ^ 92 }
@@ -50,8 +48,7 @@ impl Forest {
 
     /// The load between two vertices of one outermost blossom.
     fn load_within(&self, g: &SmallGraph, u: u32, v: u32) -> i128
-        requires valid { IsValidFor g.now.graph self.now }
-        requires vertices { (u < length self.now.hand) × (v < length self.now.hand) }
+        requires ends { AreVertices g.now.graph self.now u v }
         requires same { (forest_of self.now).out u ≡ (forest_of self.now).out v }
         ensures value { result ≡ weight_between (forest_of self.now) u v }
         ensures small { unsigned_abs result ≤ 2 ^ 92 }
@@ -102,8 +99,7 @@ impl Forest {
 
     /// The step that an edge allows.
     pub fn kind(&self, g: &SmallGraph, e: u32) -> EdgeKind
-        requires valid { IsValidFor g.now.graph self.now }
-        requires edge { e < length g.now.graph.edges }
+        requires { IsEdgeOf g.now.graph self.now e }
         ensures { result ≡ edge_kind g.now.graph (forest_of self.now) e }
     {
         if self.slack(g, e) > 0 {

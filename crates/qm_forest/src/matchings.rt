@@ -5,6 +5,7 @@ ghost use Rattle.std.specs.Vec.{vec_capacity};
 ghost use Rattle.def_matching.specs.Matching.{WeightedGraph, IsSmallGraph, Vertex};
 ghost use Rattle.def_forest.specs.Forests.{Blossom};
 ghost use Rattle.def_forest.specs.Tables.{forest_of, IsValidFor, MatchesBut};
+ghost use Rattle.qm_forest.specs.Needs.{IsHeld};
 ghost use Rattle.qm_forest.specs.Rounds.{IsRound, HasRoom, AreInOrder, AreMarked};
 ghost use Rattle.qm_forest.specs.Outlines.{IsChosen};
 
@@ -17,9 +18,7 @@ impl Forest {
     /// The matching edges that match all vertices of a blossom but one, in increasing order.
     pub fn matching_missing(&self, alloc: Global, b: u32, v: u32) -> Result<Vec<u32>, Memory>
         requires valid { (g : WeightedGraph) × IsSmallGraph g × IsValidFor g self.now }
-        requires blossom { b < length self.now.up }
-        requires vertex { v < length self.now.hand }
-        requires held { (forest_of self.now).holds b v ≡ true }
+        requires held { IsHeld self.now b v }
         ensures { IfOk result (λ m. (g : WeightedGraph) → IsSmallGraph g → IsValidFor g self.now
             → MatchesBut g (forest_of self.now) b v m.items) }
     {

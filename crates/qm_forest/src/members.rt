@@ -6,6 +6,7 @@ ghost use Rattle.def_matching.specs.Matching.{Vertex};
 ghost use Rattle.def_forest.specs.Forests.{walk};
 ghost use Rattle.def_forest.specs.Tables.{forest_of};
 ghost use Rattle.qm_forest.specs.Gathers.{IsListAt};
+ghost use Rattle.qm_forest.specs.Needs.{IsUsed};
 
 use crate::forest::Forest;
 use crate::numbers::read;
@@ -53,8 +54,7 @@ impl Forest {
 
     /// Lists the vertices of a blossom, in any order, in place of what was in the list. Linear in them.
     pub fn members(&self, b: u32, list: &mut Vec<u32>)
-        requires low { b < length self.now.up }
-        requires used { (b < length self.now.hand) ⊎ (slice_index self.now.parts b ≢ 0) }
+        requires used { IsUsed self.now b }
         requires room { length self.now.hand ≤ vec_capacity list.old }
         ensures all { (v : Vertex) → v < length self.now.hand → (forest_of self.now).holds b v ≡ true
             → (k : ℕ) × (k < length list.new.items) × (slice_index list.new.items k ≡ v) }

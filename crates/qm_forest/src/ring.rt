@@ -1,12 +1,12 @@
 //! Laying the ring that an edge between two outer blossoms closes in the tree.
 
-ghost use Rattle.std.specs.Prelude.{◌≡◌, ◌≢◌, ◌*◌, ◌<◌, length, None};
-ghost use Rattle.def_forest.specs.Darts.{darts_of, far};
+ghost use Rattle.std.specs.Prelude.{◌≡◌, ◌≢◌, ◌<◌, length, None};
+ghost use Rattle.def_forest.specs.Darts.{darts_of};
 ghost use Rattle.def_forest.specs.Forests.{set_at};
-ghost use Rattle.def_forest.specs.Tables.{forest_of, IsValidFor};
+ghost use Rattle.def_forest.specs.Tables.{forest_of};
 ghost use Rattle.def_forest.specs.Ways.{dart_or};
-ghost use Rattle.def_forest.specs.declared.kinds.Label.TheVariants.{Outside};
-ghost use Rattle.forest_laws.specs.Climbing.{rise_of, IsClimbing};
+ghost use Rattle.forest_laws.specs.Climbing.{rise_of};
+ghost use Rattle.qm_forest.specs.Needs.{WaysMeet};
 ghost use Rattle.qm_forest.specs.Rings.{ringed, IsRingedAlike, MayClimb, laid_down, laid_up, laid_ring};
 
 use crate::climbing::Fork;
@@ -17,12 +17,7 @@ use qm_dual::SmallGraph;
 impl Forest {
     /// Lays the way down from where two ways meet to where the first begins, the edge over, and the second way up.
     pub(crate) fn lay_ring(&mut self, g: &SmallGraph, start: u32, fork: Fork)
-        requires valid { IsValidFor g.now.graph self.old }
-        requires start { start < 2 * length g.now.graph.edges }
-        requires ways { let f = forest_of self.old in let d = darts_of g.now.graph in
-            (f.label (f.out (d.near start)) ≢ Outside) × (f.label (f.out (far d start)) ≢ Outside) }
-        requires fork { let f = forest_of self.old in let d = darts_of g.now.graph in
-            IsClimbing d f (f.out (d.near start)) (f.out (far d start)) fork.top fork.top fork.left fork.right }
+        requires { WaysMeet g.now.graph self.old start fork.top fork.left fork.right }
         ensures seen { forest_of self.new
             ≡ laid_ring (darts_of g.now.graph) (forest_of self.old) start fork.left fork.right }
         ensures same { IsRingedAlike self.old self.new }

@@ -6,6 +6,7 @@ ghost use Rattle.std.specs.Prelude.{slice_set, Some, None};
 ghost use Rattle.def_forest.specs.Forests.{Blossom, bool_number, ring_sum};
 ghost use Rattle.def_matching.specs.Matching.{Vertex};
 ghost use Rattle.def_forest.specs.Tables.{forest_of, up_at};
+ghost use Rattle.qm_forest.specs.Needs.{IsHeld};
 ghost use Rattle.qm_forest.specs.Rounds.{IsRound, HasRoom, IsPairing};
 ghost use Rattle.qm_forest.specs.Rounds.{AreInOrder, within, waits_but, entered};
 ghost use Rattle.qm_forest.specs.Rounds.{near_at, far_at, is_dart, matched_by};
@@ -88,9 +89,7 @@ impl Forest {
     /// Matches all vertices of a blossom but one, going up from that one; parts that are sets wait.
     pub(crate) fn match_up(&self, c: u32, v: u32, round: &mut Round)
         requires room { HasRoom self.now round.old }
-        requires low { c < length self.now.up }
-        requires vertex { v < length self.now.hand }
-        requires held { (forest_of self.now).holds c v ≡ true }
+        requires held { IsHeld self.now c v }
         ensures room { HasRoom self.now round.new }
         ensures done { (rest due : Blossom → ℕ) → IsRound self.now round.old.marks.items round.old.left_out.items
             (λ b. waits_but self.now b c v + rest b) due

@@ -1,13 +1,10 @@
 //! Where a search begins, and its shifts.
 
-ghost use Rattle.std.specs.Prelude.{◌≡◌, ◌≤ℤ◌, ◌^◌, ◌<◌, ◌≤◌, pos, length, unsigned_abs, Some};
-ghost use Rattle.std.specs.Prelude.{None};
+ghost use Rattle.std.specs.Prelude.{◌≡◌, Some};
 ghost use Rattle.def_matching.specs.Matching.{WeightedGraph, IsGraph};
-ghost use Rattle.def_forest.specs.Darts.{darts_of};
-ghost use Rattle.def_forest.specs.Forests.{Blossom};
 ghost use Rattle.def_forest.specs.Steps.{rooted, shifted};
 ghost use Rattle.def_forest.specs.Tables.{forest_of, IsValidFor};
-ghost use Rattle.def_forest.specs.Valid.{IsFeasible};
+ghost use Rattle.qm_forest.specs.Needs.{MayBegin, MayShift};
 ghost use Rattle.qm_forest.specs.Ties.{fixed_of};
 
 use crate::forest::Forest;
@@ -17,9 +14,7 @@ use qm_dual::SmallGraph;
 impl Forest {
     /// Begins a search: the outermost blossom of a vertex, which is not matched, becomes the root and the whole tree.
     pub fn root(&mut self, v: u32)
-        requires vertex { v < length self.old.hand }
-        requires none { self.old.root ≡ None }
-        requires free { (forest_of self.old).mate ((forest_of self.old).out v) ≡ None }
+        requires { MayBegin self.old v }
         ensures changed { forest_of self.new ≡ rooted (forest_of self.old) ((forest_of self.old).out v) }
         ensures root { self.new.root ≡ Some ((forest_of self.old).out v) }
         ensures valid { (g : WeightedGraph) → IsGraph g → IsValidFor g self.old → IsValidFor g self.new }
@@ -41,10 +36,7 @@ impl Forest {
 
     /// Adds `t` at outer blossoms, and takes it away at inner ones.
     pub fn shift(&mut self, g: &SmallGraph, t: i64)
-        requires valid { IsValidFor g.now.graph self.old }
-        requires positive { pos 0 ≤ℤ t }
-        requires feasible { IsFeasible (darts_of g.now.graph) (shifted (forest_of self.old) t) }
-        requires small { (b : Blossom) → unsigned_abs ((shifted (forest_of self.old) t).weight b) ≤ 2 ^ 62 }
+        requires { MayShift g.now.graph self.old t }
         ensures changed { forest_of self.new ≡ shifted (forest_of self.old) t }
         ensures root { self.new.root ≡ self.old.root }
         ensures valid { IsValidFor g.now.graph self.new }

@@ -4,9 +4,10 @@ ghost use Rattle.std.specs.Prelude.{◌≡◌, ◌*◌, ◌<◌, ℕ, length, sl
 ghost use Rattle.def_forest.specs.Darts.{darts_of};
 ghost use Rattle.def_forest.specs.Forests.{walk};
 ghost use Rattle.def_forest.specs.Shrunk.{IsShrinking};
-ghost use Rattle.def_forest.specs.Tables.{ForestTables, forest_of, edge_kind, IsOutermostIn, IsValidFor};
+ghost use Rattle.def_forest.specs.Tables.{ForestTables, forest_of, IsOutermostIn, IsValidFor};
 ghost use Rattle.def_forest.specs.declared.kinds.EdgeKind.TheVariants.{Shrink};
 ghost use Rattle.qm_forest.specs.Gathers.{IsFreeRing, HasClosed};
+ghost use Rattle.qm_forest.specs.Needs.{Allows};
 ghost use Rattle.qm_forest.specs.Ties.{HasSameNest, left_alone};
 
 use crate::darts::near;
@@ -19,9 +20,7 @@ impl Forest {
     /// The outermost blossoms on the cycle that an edge closes in the tree become one outer blossom of weight 0.
     /// Takes the time of the two ways from the edge to where they meet, and of the vertices in the smaller parts.
     pub fn shrink(&mut self, g: &SmallGraph, e: u32)
-        requires valid { IsValidFor g.now.graph self.old }
-        requires edge { e < length g.now.graph.edges }
-        requires kind { edge_kind g.now.graph (forest_of self.old) e ≡ Shrink }
+        requires { Allows g.now.graph self.old e Shrink }
         ensures changed { IsShrinking (darts_of g.now.graph) (forest_of self.old) (forest_of self.new) self.old.root
             self.new.root (2 * e) }
         ensures valid { IsValidFor g.now.graph self.new }

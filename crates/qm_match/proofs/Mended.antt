@@ -100,6 +100,7 @@ pub made_with : {g : WeightedGraph} {s : Search} (keys : List ℕ) → IsMade g 
 made_with keys made size = record {
   small = made.small;
   cheap = made.cheap;
+  perfect = made.perfect;
   fans = made.fans;
   size = made.size;
   first = made.first;

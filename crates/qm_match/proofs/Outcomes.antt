@@ -14,7 +14,8 @@ use Rattle.def_forest.specs.Made.{AreCostsBelow, AreFirst, IsMadeFor, MAX_FIRST}
 use Rattle.qm_dual.proofs.Verdicts.{says_yes}
 use Rattle.qm_initial.specs.declared.initial.TheConstants.{MAX_WISH}
 use Rattle.search_laws.proofs.Risen.{greatest, small_weights, weights_most}
-use Rattle.qm_match.specs.{States.HasPerfect, States.IsIdle, States.IsReady, Weights.HaveRoom, Weights.HasRoom}
+use Rattle.qm_forest.specs.Ties.{AreFeasible}
+use Rattle.qm_match.specs.{States.IsIdle, States.IsReady, Weights.HaveRoom, Weights.HasRoom}
 use Rattle.qm_match.specs.declared.search.Search.{Search}
 
 -- The numbers of an increasing list are below its bound.
@@ -104,13 +105,17 @@ pub room_read : (g : WeightedGraph) (y : List ℤ) (e : ℕ) {edge : WEdge} (a b
 room_read g y e a b is left right le = subst (λ (x : WEdge). (get_or y x.u (pos 0) +ℤ get_or y x.v (pos 0)) ≤ℤ
     (pos 2 *ℤ x.cost)) is (omega (arith, ints, left, right, le))
 
--- First weights are small.
-pub first_small : {g : WeightedGraph} {y : List ℤ} → AreFirst g y → (v : ℕ) → unsigned_abs (get_or y v (pos 0)) ≤ 2 ^ 60
-first_small {g} {y} first v = by_size (cases_lt v g.n)
+-- First weights are feasible, and small.
+pub first_feasible : {g : WeightedGraph} {y : List ℤ} → AreFirst g y → AreFeasible g y
+first_feasible {g} {y} first = record {
+  size = first.long;
+  small = λ v. by_size v (cases_lt v g.n);
+  edges = first.feasible;
+}
   where
-    by_size : (v < g.n) ⊎ (g.n ≤ v) → unsigned_abs (get_or y v (pos 0)) ≤ 2 ^ 60
-    by_size (inl l) = omega (arith, one_of g.n (unsigned_abs (get_or y v (pos 0))) (omega (arith, l)), first.range v)
-    by_size (inr h) = (let z : get_or y v (pos 0) ≡ pos 0 = get_or_past y v (pos 0) (omega (arith, h, first.long)) in
+    by_size : (v : ℕ) → (v < g.n) ⊎ (g.n ≤ v) → unsigned_abs (get_or y v (pos 0)) ≤ 2 ^ 60
+    by_size v (inl l) = omega (arith, one_of g.n (unsigned_abs (get_or y v (pos 0))) (omega (arith, l)), first.range v)
+    by_size v (inr h) = (let z : get_or y v (pos 0) ≡ pos 0 = get_or_past y v (pos 0) (omega (arith, h, first.long)) in
         omega (arith, ints, z))
 
 -- Numbers near wished ones may be the first.
@@ -142,9 +147,9 @@ wished_small g same cheap long near = subst (λ (zs : List ℤ). AreSmall zs) (s
     omega (arith, near w.0 w.1 v, w.2, one_of g.n w.0 (omega (arith, l, long)))))
 
 -- The dual of a forest in range is small.
-pub small_dual : {g : WeightedGraph} {s : Search} {d : DualLists} → IsIdle g s → HasPerfect g
+pub small_dual : {g : WeightedGraph} {s : Search} {d : DualLists} → IsIdle g s
     → IsDualOf (length s.forest.hand) (forest_of s.forest) d → 2 * length d.z ≤ length s.forest.hand → IsSmallDual d
-small_dual {s} {d} idle known is few = record {
+small_dual {s} {d} idle is few = record {
   sets = omega (arith, few, idle.valid.vertices, idle.made.small.vertices);
   small_y = λ k l. (let w : get_or d.y k (pos 0) ≡ (forest_of s.forest).weight k =
       is.y k (omega (arith, l, is.vertices)) in omega (arith, ints, w, weight_low k));
@@ -153,14 +158,14 @@ small_dual {s} {d} idle known is few = record {
 }
   where
     weight_low : (b : ℕ) → unsigned_abs ((forest_of s.forest).weight b) ≤ 6 * MAX_PRODUCT
-    weight_low b = small_weights idle.made.small.lawful idle.made.cheap known.1 idle.made.first
+    weight_low b = small_weights idle.made.small.lawful idle.made.cheap idle.made.perfect.1 idle.made.first
         idle.made.low idle.range idle.valid.valid b
 
 -- And no number is far above the first weights and the costs.
-pub bounded_dual : {g : WeightedGraph} {s : Search} {d : DualLists} → IsIdle g s → HasPerfect g
+pub bounded_dual : {g : WeightedGraph} {s : Search} {d : DualLists} → IsIdle g s
     → IsDualOf (length s.forest.hand) (forest_of s.forest) d → 2 * length d.z ≤ length s.forest.hand
     → (most : ℕ) → AreCostsBelow g most → AreAtMost (2 * (g.n * s.first) + g.n * most) d
-bounded_dual {g} {s} {d} idle known is few most each = record {
+bounded_dual {g} {s} {d} idle is few most each = record {
   vertices = λ k l. (let w : get_or d.y k (pos 0) ≡ (forest_of s.forest).weight k =
       is.y k (omega (arith, l, is.vertices)) in
       omega (arith, ints, w, weight_low k (omega (arith, l, is.vertices, idle.valid.vertices))));
@@ -173,7 +178,7 @@ bounded_dual {g} {s} {d} idle known is few most each = record {
       arith,
       one_of g.n s.first some,
       weights_most idle.made.small.lawful idle.made.cheap
-          known.1 idle.made.first idle.made.low idle.range idle.valid.valid most each b,
+          idle.made.perfect.1 idle.made.first idle.made.low idle.range idle.valid.valid most each b,
     )
 
 -- Greater bounds hold too.

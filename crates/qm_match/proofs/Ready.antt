@@ -14,17 +14,18 @@ use Rattle.def_forest.specs.declared.kinds.Label.TheVariants.{Outside}
 use Rattle.forest_laws.proofs.Writes.{set_here, set_there}
 use Rattle.search_laws.specs.Searches.{IsInRange, first_limit}
 use Rattle.search_laws.proofs.{Risen.range_begun, Stepped.range_same}
-use Rattle.qm_match.specs.{Fans.AreFans, Fans.IsOn, States.IsFreeEdge, States.IsIdle, States.IsReady}
+use Rattle.qm_match.specs.{Fans.AreFans, Fans.IsOn, States.HasPerfect, States.IsFreeEdge, States.IsIdle, States.IsReady}
 use Rattle.qm_match.specs.declared.search.Search.{Search}
 use Rattle.qm_match.proofs.Taken.{made_after}
 
 -- The tables that are ready fit the graph for which the matcher is made.
-pub ready_idle : {g : WeightedGraph} {s : Search} → IsSmallGraph g → IsCheap g → IsReady s → IsMadeFor g s.forest
-    → IsIdle g s
-ready_idle {g} {s} small cheap ready for = record {
+pub ready_idle : {g : WeightedGraph} {s : Search} → IsSmallGraph g → IsCheap g → HasPerfect g → IsReady s
+    → IsMadeFor g s.forest → IsIdle g s
+ready_idle {g} {s} small cheap perfect ready for = record {
   made = record {
     small = small;
     cheap = cheap;
+    perfect = perfect;
     fans = record {
       vertices = ready.vertices ∙ for.valid.vertices;
       darts = ready.darts ∙ for.valid.darts;

@@ -17,6 +17,7 @@ pub made_like : {g : WeightedGraph} {old : Search} (new : Search) → IsMade g o
 made_like {g} new made fans up tour inner members parts = record {
   small = made.small;
   cheap = made.cheap;
+  perfect = made.perfect;
   fans = subst (λ (x : Fans × ℕ). AreFans g x.0.first.items x.0.next.items) (sym fans) made.fans;
   first = subst (λ (x : Fans × ℕ). g.n * x.1 ≤ first_limit) (sym fans) made.first;
   low = subst (λ (x : Fans × ℕ). x.1 ≤ first_limit) (sym fans) made.low;

@@ -283,6 +283,7 @@ pub made_after : {g : WeightedGraph} {s : Search} (t : ForestTables) → IsMade 
 made_after t made size = record {
   small = made.small;
   cheap = made.cheap;
+  perfect = made.perfect;
   fans = made.fans;
   size = size ∙ made.size;
   first = made.first;

@@ -11,25 +11,25 @@ use Rattle.search_laws.specs.Keys.{true_key, IsMended}
 use Rattle.search_laws.specs.Searches.{IsInRange, IsSeeking, risen_limit, turns_left}
 use Rattle.search_laws.proofs.{Counted.fewer_stale, Stepped.IsStep, Keys.keys_same, Keys.lawful, Risen.key_soon}
 use Rattle.search_laws.proofs.Risen.{risen_low, range_shifted}
-use Rattle.qm_match.specs.{States.GoesOn, States.HasPerfect, States.IsUnderWay, declared.search.Search.Search}
+use Rattle.qm_match.specs.{States.GoesOn, States.IsUnderWay, declared.search.Search.Search}
 use Rattle.qm_match.proofs.Mended.{made_with, mended_one}
 
-module _ {g : WeightedGraph} {s : Search} (r : ℕ) (root : s.forest.root ≡ Some r) (way : IsUnderWay g s)
-    (known : HasPerfect g) where
-  valid_at : IsValid (darts_of g) (forest_of s.forest) (Some r)
-  valid_at = subst (λ (o : Option ℕ). IsValid (darts_of g) (forest_of s.forest) o) root way.valid.valid
+module _ {g : WeightedGraph} {s : Search} (way : IsUnderWay g s) where
+  valid_at : IsValid (darts_of g) (forest_of s.forest) (Some way.tree.0)
+  valid_at = subst (λ (o : Option ℕ). IsValid (darts_of g) (forest_of s.forest) o) way.tree.1 way.valid.valid
 
   sets : length g.edges + ((forest_of s.forest).size - g.n) ≤ length s.tour
   sets = omega (arith, way.made.size, way.made.leaves)
 
   pub risen_few : s.risen ≤ risen_limit
-  risen_few = risen_low way.made.small.lawful way.made.cheap known.1 way.made.first way.made.low way.range valid_at
+  risen_few = risen_low way.made.small.lawful way.made.cheap way.made.perfect.1 way.made.first way.made.low way.range
+      valid_at
 
   -- The least key is small.
   pub soon : (key : ℕ) → ((k : ℕ) → k < length s.tour → key ≤ true_key g (forest_of s.forest) s.risen k)
       → key ≤ risen_limit
-  soon key low = key_soon way.made.small.lawful way.made.cheap known.1 way.made.first way.made.low way.range valid_at
-      (length s.tour) sets key low
+  soon key low = key_soon way.made.small.lawful way.made.cheap way.made.perfect.1 way.made.first way.made.low way.range
+      valid_at (length s.tour) sets key low
 
   module _ (x : ℕ) (room : (k : ℕ) → k < length s.tour → s.risen + x ≤ true_key g (forest_of s.forest) s.risen k) where
     pub shift_feasible : IsFeasible (darts_of g) (shifted (forest_of s.forest) (pos x))
@@ -42,7 +42,7 @@ module _ {g : WeightedGraph} {s : Search} (r : ℕ) (root : s.forest.root ≡ So
         way.valid.valid.feasible s.risen x (length s.tour) sets room
 
     pub shift_range : IsInRange g.n s.first (shifted (forest_of s.forest) (pos x)) (s.risen + x)
-    shift_range = range_shifted way.made.small.lawful way.made.cheap known.1 way.made.first
+    shift_range = range_shifted way.made.small.lawful way.made.cheap way.made.perfect.1 way.made.first
         way.made.low way.range valid_at x
 
     pub shift_small : s.risen + x ≤ risen_limit → (b : ℕ)
@@ -57,6 +57,7 @@ module _ {g : WeightedGraph} {s : Search} (r : ℕ) (root : s.forest.root ≡ So
       made = record {
         small = way.made.small;
         cheap = way.made.cheap;
+        perfect = way.made.perfect;
         fans = way.made.fans;
         first = way.made.first;
         low = way.made.low;

@@ -1,3 +1,4 @@
 pub mod Fans
+pub mod Needs
 pub mod States
 pub mod Weights

@@ -12,10 +12,15 @@ use Rattle.search_laws.specs.Searches.{AreMarked, AreMatchedBefore, IsInRange, I
 use Rattle.qm_match.specs.Fans.{AreFans, IsOn}
 use Rattle.qm_match.specs.declared.search.Search.{Search}
 
--- The tables have room for a graph.
+-- A graph has a perfect matching.
+abbrev pub HasPerfect : (g : WeightedGraph) → Type 0
+HasPerfect g = (m : List EdgeNumber) × IsPerfect g m
+
+-- The tables have room for a graph that has a perfect matching, and whose costs are small.
 pub record IsMade (g : WeightedGraph) (s : Search) : Type 0 where
   pub small : IsSmallGraph g
   pub cheap : IsCheap g
+  pub perfect : HasPerfect g
   pub fans : AreFans g s.fans.first.items s.fans.next.items
   pub size : length s.forest.up ≡ g.n + g.n / 2
   pub first : g.n * s.first ≤ first_limit
@@ -49,10 +54,6 @@ GoesOn n old new = (v : Vertex) → IsSeeking n (forest_of old) old.root v → I
 -- The search has ended: the vertex from which it began is matched, and those before it still are.
 abbrev pub HasEnded : (n : ℕ) (old new : ForestTables) → Type 0
 HasEnded n old new = (v : Vertex) → IsSeeking n (forest_of old) old.root v → AreMatchedBefore (forest_of new) (v + 1)
-
--- A graph has a perfect matching.
-abbrev pub HasPerfect : (g : WeightedGraph) → Type 0
-HasPerfect g = (m : List EdgeNumber) × IsPerfect g m
 
 -- Only keys and marks were mended.
 pub record IsRefreshed (g : WeightedGraph) (old new : Search) : Type 0 where

@@ -4,6 +4,8 @@ use Rattle.std.specs.Prelude.{ℤ, pos, ◌+ℤ◌, ◌-ℤ◌, ◌*ℤ◌, ◌�
 use Rattle.def_matching.specs.Matching.{WeightedGraph, Vertex, EdgeNumber, edge_at}
 use Rattle.def_forest.specs.Darts.{Dart, darts_of, far}
 use Rattle.def_forest.specs.Made.{AreCostsBelow}
+use Rattle.qm_match.specs.Fans.{AreFans}
+use Rattle.qm_match.specs.declared.fans.Fans.{Fans}
 
 -- An edge has no more at its ends than twice its cost.
 abbrev pub HasRoom : (g : WeightedGraph) (y : List ℤ) (e : EdgeNumber) → Type 0
@@ -21,6 +23,12 @@ pub record MayRise (g : WeightedGraph) (most : ℕ) (y : List ℤ) : Type 0 wher
   pub few : most ≤ 2 ^ 60
   pub costs : AreCostsBelow g most
   pub room : HaveRoom g most y
+
+-- The number of a vertex may rise.
+pub record MayRiseAt (g : WeightedGraph) (chains : Fans) (most : ℕ) (y : List ℤ) (v : Vertex) : Type 0 where
+  pub fans : AreFans g chains.first.items chains.next.items
+  pub ready : MayRise g most y
+  pub vertex : v < g.n
 
 -- What the number at the far end of a dart leaves to the vertex where it begins.
 abbrev pub left_to : (g : WeightedGraph) (y : List ℤ) (d : Dart) → ℤ

@@ -1,9 +1,10 @@
 //! The keys that the leaves ought to have.
 
 ghost use Rattle.std.specs.Prelude.{◌≡◌, ◌+◌, ◌^◌, ◌<◌, ◌≤◌, length, slice_set, unsigned_abs};
-ghost use Rattle.def_forest.specs.Tables.{forest_of, slack_of, IsValidFor};
+ghost use Rattle.def_forest.specs.Tables.{forest_of, slack_of};
 ghost use Rattle.search_laws.specs.Keys.{key_after, edge_key, set_key, true_key};
-ghost use Rattle.qm_match.specs.States.{IsMade};
+ghost use Rattle.qm_forest.specs.Needs.{IsEdgeOf};
+ghost use Rattle.qm_match.specs.Needs.{IsLeafIn};
 
 use crate::search::Search;
 use def_forest::Label;
@@ -20,8 +21,7 @@ fn key_after(gap: u128, risen: u64) -> u64
 impl Search {
     /// The slack of an edge.
     pub(crate) fn gap(&self, g: &SmallGraph, e: u32) -> u128
-        requires valid { IsValidFor g.now.graph self.now.forest }
-        requires edge { e < length g.now.graph.edges }
+        requires { IsEdgeOf g.now.graph self.now.forest e }
         ensures value { result ≡ unsigned_abs (slack_of g.now.graph (forest_of self.now.forest) e) }
         ensures small { result ≤ 2 ^ 127 }
     {
@@ -30,8 +30,7 @@ impl Search {
 
     /// The key of an edge.
     fn edge_key(&self, g: &SmallGraph, e: u32) -> u64
-        requires valid { IsValidFor g.now.graph self.now.forest }
-        requires edge { e < length g.now.graph.edges }
+        requires { IsEdgeOf g.now.graph self.now.forest e }
         ensures { result ≡ edge_key g.now.graph (forest_of self.now.forest) self.now.risen e }
     {
         let edge = g.edge(e);
@@ -61,9 +60,7 @@ impl Search {
 
     /// The key that a leaf ought to have.
     pub(crate) fn true_key(&self, g: &SmallGraph, leaf: usize) -> u64
-        requires made { IsMade g.now.graph self.now }
-        requires valid { IsValidFor g.now.graph self.now.forest }
-        requires leaf { leaf < length self.now.tour }
+        requires { IsLeafIn g.now.graph self.now leaf }
         ensures { result ≡ true_key g.now.graph (forest_of self.now.forest) self.now.risen leaf }
     {
         let edges = g.edge_count() as usize;
@@ -76,9 +73,7 @@ impl Search {
 
     /// Gives a leaf the key that it ought to have.
     pub(crate) fn mend(&mut self, g: &SmallGraph, leaf: usize)
-        requires made { IsMade g.now.graph self.old }
-        requires valid { IsValidFor g.now.graph self.old.forest }
-        requires leaf { leaf < length self.old.tour }
+        requires { IsLeafIn g.now.graph self.old leaf }
         ensures { self.new ≡ record self.old {
           tour = slice_set self.old.tour leaf
               (true_key g.now.graph (forest_of self.old.forest) self.old.risen leaf);

@@ -5,6 +5,7 @@ ghost use Rattle.std.specs.Vec.{vec_capacity};
 ghost use Rattle.def_forest.specs.Tables.{forest_of, IsValidFor};
 ghost use Rattle.def_forest.specs.declared.kinds.Label.TheVariants.{Inner};
 ghost use Rattle.search_laws.specs.Keys.{AreRightAt, IsMended};
+ghost use Rattle.qm_match.specs.Needs.{AreVerticesIn};
 ghost use Rattle.qm_match.specs.States.{IsMade, IsRefreshed, IsFreshAt, MayRefresh};
 
 use crate::search::Search;
@@ -45,10 +46,7 @@ impl Search {
 
     /// Mends the keys of all edges at the vertices of a list.
     fn mend_members(&mut self, g: &SmallGraph)
-        requires made { IsMade g.now.graph self.old }
-        requires valid { IsValidFor g.now.graph self.old.forest }
-        requires low { (k : ℕ) → k < length self.old.members.items → slice_index self.old.members.items k
-            < g.now.graph.n }
+        requires { AreVerticesIn g.now.graph self.old self.old.members.items }
         ensures same { self.new ≡ record self.old { tour = self.new.tour } }
         ensures mended { IsMended g.now.graph (forest_of self.old.forest) self.old.risen self.old.tour self.new.tour }
         ensures right { (k : ℕ) → k < length self.old.members.items
@@ -63,9 +61,7 @@ impl Search {
 
     /// Makes the key and the mark of an inner blossom right.
     fn refresh_inner(&mut self, g: &SmallGraph, b: u32)
-        requires made { IsMade g.now.graph self.old }
-        requires valid { IsValidFor g.now.graph self.old.forest }
-        requires low { b < length self.old.forest.up }
+        requires may { MayRefresh g.now.graph self.old b }
         requires inner { (forest_of self.old.forest).label b ≡ Inner }
         ensures refreshed { IsRefreshed g.now.graph self.old self.new }
         ensures here { IsFreshAt g.now.graph self.new b }

@@ -3,6 +3,7 @@
 ghost use Rattle.std.specs.Prelude.{◌≡◌, ◌<◌, ◌+◌, ◌/◌, ℕ, length, slice_index, true, IfOk};
 ghost use Rattle.def_forest.specs.Tables.{forest_of, IsValidFor};
 ghost use Rattle.qm_match.specs.Fans.{AreFans};
+ghost use Rattle.qm_match.specs.Needs.{IsIdleAt, MayMatch};
 ghost use Rattle.qm_match.specs.States.{IsFreeEdge, IsIdle, IsReady};
 
 use crate::Memory;
@@ -62,8 +63,7 @@ impl Search {
 
     /// Matches an edge that is tight and has two ends that are not matched.
     fn match_if_tight(&mut self, g: &SmallGraph, e: u32)
-        requires idle { IsIdle g.now.graph self.old }
-        requires edge { e < length g.now.graph.edges }
+        requires { IsIdleAt g.now.graph self.old e }
         ensures idle { IsIdle g.now.graph self.new }
         ensures first { self.new.first ≡ self.old.first }
     {
@@ -74,8 +74,7 @@ impl Search {
 
     /// Whether an edge is tight, and joins two outermost blossoms that are not matched.
     fn may_match(&self, g: &SmallGraph, e: u32) -> bool
-        requires idle { IsIdle g.now.graph self.now }
-        requires edge { e < length g.now.graph.edges }
+        requires { IsIdleAt g.now.graph self.now e }
         ensures { result ≡ true → IsFreeEdge g.now.graph (forest_of self.now.forest) e }
     {
         let edge = g.edge(e);
@@ -86,9 +85,7 @@ impl Search {
 
     /// Matches an edge by a search that ends at once.
     fn match_edge(&mut self, g: &SmallGraph, e: u32)
-        requires idle { IsIdle g.now.graph self.old }
-        requires edge { e < length g.now.graph.edges }
-        requires free { IsFreeEdge g.now.graph (forest_of self.old.forest) e }
+        requires { MayMatch g.now.graph self.old e }
         ensures idle { IsIdle g.now.graph self.new }
         ensures first { self.new.first ≡ self.old.first }
     {

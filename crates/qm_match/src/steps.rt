@@ -1,16 +1,16 @@
 //! The steps of a search, with the keys that they change.
 
-ghost use Rattle.std.specs.Prelude.{◌≡◌, ◌≢◌, ◌<◌, ◌≤◌, ℕ, pos, length, slice_index};
+ghost use Rattle.std.specs.Prelude.{◌≡◌, ◌<◌, ◌≤◌, ℕ, length, slice_index};
 ghost use Rattle.std.specs.Prelude.{slice_index_or, true, false, Some, None};
 ghost use Rattle.std.specs.Vec.{vec_capacity};
 ghost use Rattle.def_forest.specs.Darts.{Dart, darts_of, far};
 ghost use Rattle.def_forest.specs.Forests.{walk};
-ghost use Rattle.def_forest.specs.Tables.{forest_of, edge_kind, IsValidFor};
+ghost use Rattle.def_forest.specs.Tables.{forest_of, IsValidFor};
 ghost use Rattle.def_forest.specs.declared.kinds.EdgeKind.TheVariants.{Augment, Grow, Shrink};
-ghost use Rattle.def_forest.specs.declared.kinds.Label.TheVariants.{Inner};
 ghost use Rattle.search_laws.specs.Keys.{AreRightAt, IsMended};
-ghost use Rattle.search_laws.specs.Searches.{steps_left, AreMatchedBefore, IsSeeking};
-ghost use Rattle.qm_match.specs.States.{GoesOn, HasEnded, IsFreshAt, IsIdle, IsMade, IsRefreshed, IsUnderWay};
+ghost use Rattle.search_laws.specs.Searches.{steps_left, IsSeeking};
+ghost use Rattle.qm_match.specs.Needs.{IsSetIn, MayOpen, MayRefreshAll, MaySearch, MayStep};
+ghost use Rattle.qm_match.specs.States.{GoesOn, HasEnded, IsFreshAt, IsIdle, IsRefreshed, IsUnderWay};
 ghost use Rattle.qm_match.specs.States.{MayRefresh};
 
 use crate::search::Search;
@@ -19,9 +19,7 @@ use qm_dual::SmallGraph;
 impl Search {
     /// The tree grows along an edge.
     pub(crate) fn grow(&mut self, g: &SmallGraph, e: u32)
-        requires way { IsUnderWay g.now.graph self.old }
-        requires edge { e < length g.now.graph.edges }
-        requires kind { edge_kind g.now.graph (forest_of self.old.forest) e ≡ Grow }
+        requires { MayStep g.now.graph self.old e Grow }
         ensures way { IsUnderWay g.now.graph self.new }
         ensures goes_on { GoesOn g.now.graph.n self.old.forest self.new.forest }
         ensures fewer { steps_left g.now.graph.n (forest_of self.new.forest)
@@ -52,9 +50,7 @@ impl Search {
 
     /// The cycle that an edge closes in the tree becomes one blossom.
     pub(crate) fn shrink(&mut self, g: &SmallGraph, e: u32)
-        requires way { IsUnderWay g.now.graph self.old }
-        requires edge { e < length g.now.graph.edges }
-        requires kind { edge_kind g.now.graph (forest_of self.old.forest) e ≡ Shrink }
+        requires { MayStep g.now.graph self.old e Shrink }
         ensures way { IsUnderWay g.now.graph self.new }
         ensures goes_on { GoesOn g.now.graph.n self.old.forest self.new.forest }
         ensures fewer { steps_left g.now.graph.n (forest_of self.new.forest)
@@ -69,10 +65,7 @@ impl Search {
 
     /// Mends the keys at the parts of a set that have marks: they were inner.
     fn mend_parts(&mut self, g: &SmallGraph, set: u32)
-        requires made { IsMade g.now.graph self.old }
-        requires valid { IsValidFor g.now.graph self.old.forest }
-        requires set { g.now.graph.n ≤ set }
-        requires live { slice_index self.old.forest.parts set ≢ 0 }
+        requires { IsSetIn g.now.graph self.old set }
         ensures same { self.new ≡ record self.old { tour = self.new.tour; members = self.new.members } }
         ensures room { g.now.graph.n ≤ vec_capacity self.new.members }
         ensures mended { IsMended g.now.graph (forest_of self.old.forest) self.old.risen self.old.tour self.new.tour }
@@ -106,10 +99,7 @@ impl Search {
 
     /// An inner set of weight 0 is opened.
     pub(crate) fn expand(&mut self, g: &SmallGraph, b: u32)
-        requires way { IsUnderWay g.now.graph self.old }
-        requires set { g.now.graph.n ≤ b }
-        requires inner { (forest_of self.old.forest).label b ≡ Inner }
-        requires weightless { (forest_of self.old.forest).weight b ≡ pos 0 }
+        requires { MayOpen g.now.graph self.old b }
         ensures way { IsUnderWay g.now.graph self.new }
         ensures goes_on { GoesOn g.now.graph.n self.old.forest self.new.forest }
         ensures fewer { steps_left g.now.graph.n (forest_of self.new.forest)
@@ -123,10 +113,7 @@ impl Search {
 
     /// Lists the parts of a set.
     fn list_parts(&mut self, g: &SmallGraph, b: u32)
-        requires made { IsMade g.now.graph self.old }
-        requires valid { IsValidFor g.now.graph self.old.forest }
-        requires set { g.now.graph.n ≤ b }
-        requires live { slice_index self.old.forest.parts b ≢ 0 }
+        requires { IsSetIn g.now.graph self.old b }
         ensures same { self.new ≡ record self.old { parts = self.new.parts } }
         ensures room { g.now.graph.n ≤ vec_capacity self.new.parts }
         ensures count { length self.new.parts.items ≡ slice_index self.old.forest.parts b }
@@ -144,9 +131,7 @@ impl Search {
 
     /// Makes the keys and marks of the listed blossoms right.
     fn refresh_parts(&mut self, g: &SmallGraph)
-        requires made { IsMade g.now.graph self.old }
-        requires may { (k : ℕ) → k < length self.old.parts.items
-            → MayRefresh g.now.graph self.old (slice_index self.old.parts.items k) }
+        requires { MayRefreshAll g.now.graph self.old self.old.parts.items }
         ensures refreshed { IsRefreshed g.now.graph self.old self.new }
         ensures here { (k : ℕ) → k < length self.old.parts.items
             → IsFreshAt g.now.graph self.new (slice_index self.old.parts.items k) }
@@ -159,9 +144,7 @@ impl Search {
 
     /// The matching grows along an edge, and the search ends.
     pub(crate) fn augment(&mut self, g: &SmallGraph, e: u32)
-        requires way { IsUnderWay g.now.graph self.old }
-        requires edge { e < length g.now.graph.edges }
-        requires kind { edge_kind g.now.graph (forest_of self.old.forest) e ≡ Augment }
+        requires { MayStep g.now.graph self.old e Augment }
         ensures idle { IsIdle g.now.graph self.new }
         ensures ended { HasEnded g.now.graph.n self.old.forest self.new.forest }
         ensures first { self.new.first ≡ self.old.first }
@@ -171,10 +154,7 @@ impl Search {
 
     /// A search begins at a vertex that is not matched.
     pub(crate) fn begin(&mut self, g: &SmallGraph, v: u32)
-        requires idle { IsIdle g.now.graph self.old }
-        requires vertex { v < g.now.graph.n }
-        requires free { (forest_of self.old.forest).mate ((forest_of self.old.forest).out v) ≡ None }
-        requires before { AreMatchedBefore (forest_of self.old.forest) v }
+        requires { MaySearch g.now.graph self.old v }
         ensures way { IsUnderWay g.now.graph self.new }
         ensures seeking { IsSeeking g.now.graph.n (forest_of self.new.forest) self.new.forest.root v }
         ensures first { self.new.first ≡ self.old.first }

@@ -1,14 +1,14 @@
 //! Searches: the step with the least key is taken, again and again, until the matching grows.
 
-ghost use Rattle.std.specs.Prelude.{◌≡◌, ◌≢◌, ◌+◌, ◌*◌, ◌*ℤ◌, ◌<◌, ◌≤◌, ℕ, pos, length, true, false};
+ghost use Rattle.std.specs.Prelude.{◌≡◌, ◌+◌, ◌*◌, ◌*ℤ◌, ◌<◌, ℕ, pos, length, true, false};
 ghost use Rattle.def_matching.specs.Matching.{matching_cost, IsPerfect};
 ghost use Rattle.def_matching.specs.Dual.{dual, verdict, IsSmallDual};
-ghost use Rattle.def_forest.specs.Tables.{forest_of, edge_kind};
-ghost use Rattle.def_forest.specs.declared.kinds.EdgeKind.TheVariants.{Idle, Loose};
-ghost use Rattle.search_laws.specs.Keys.{Leaf, no_key, true_key};
+ghost use Rattle.def_forest.specs.Tables.{forest_of};
+ghost use Rattle.search_laws.specs.Keys.{Leaf, true_key};
 ghost use Rattle.search_laws.specs.Searches.{AreMatchedBefore, steps_left, turns_left};
 ghost use Rattle.def_forest.specs.Made.{AreAtMost, AreCostsBelow};
-ghost use Rattle.qm_match.specs.States.{GoesOn, HasEnded, HasPerfect, IsIdle, IsUnderWay};
+ghost use Rattle.qm_match.specs.Needs.{HasCome, IsDone, IsNext, IsReached, MayStepAlong};
+ghost use Rattle.qm_match.specs.States.{GoesOn, HasEnded, IsIdle, IsUnderWay};
 
 use crate::search::Search;
 use def_forest::EdgeKind;
@@ -18,11 +18,7 @@ use qm_dual::SmallGraph;
 impl Search {
     /// Shifts the dual until the sum of the weights has risen to a key that is the least.
     fn rise_to(&mut self, g: &SmallGraph, key: u64)
-        requires way { IsUnderWay g.now.graph self.old }
-        requires known { HasPerfect g.now.graph }
-        requires high { self.old.risen ≤ key }
-        requires least { (k : Leaf) → k < length self.old.tour
-            → key ≤ true_key g.now.graph (forest_of self.old.forest) self.old.risen k }
+        requires { IsNext g.now.graph self.old key }
         ensures way { IsUnderWay g.now.graph self.new }
         ensures goes_on { GoesOn g.now.graph.n self.old.forest self.new.forest }
         ensures steps { steps_left g.now.graph.n (forest_of self.new.forest)
@@ -41,10 +37,7 @@ impl Search {
 
     /// Takes the step that an edge allows whose key has come. Whether it ended the search.
     fn step_along(&mut self, g: &SmallGraph, e: u32) -> bool
-        requires way { IsUnderWay g.now.graph self.old }
-        requires edge { e < length g.now.graph.edges }
-        requires some { edge_kind g.now.graph (forest_of self.old.forest) e ≢ Loose }
-        requires step { edge_kind g.now.graph (forest_of self.old.forest) e ≢ Idle }
+        requires { MayStepAlong g.now.graph self.old e }
         ensures way { result ≡ false → IsUnderWay g.now.graph self.new }
         ensures goes_on { result ≡ false → GoesOn g.now.graph.n self.old.forest self.new.forest }
         ensures fewer { result ≡ false → steps_left g.now.graph.n (forest_of self.new.forest)
@@ -67,10 +60,7 @@ impl Search {
 
     /// Takes the step of a leaf whose key has come. Whether it ended the search.
     fn step(&mut self, g: &SmallGraph, leaf: usize) -> bool
-        requires way { IsUnderWay g.now.graph self.old }
-        requires leaf { leaf < length self.old.tour }
-        requires here { true_key g.now.graph (forest_of self.old.forest) self.old.risen leaf ≡ self.old.risen }
-        requires few { self.old.risen < no_key }
+        requires { HasCome g.now.graph self.old leaf }
         ensures way { result ≡ false → IsUnderWay g.now.graph self.new }
         ensures goes_on { result ≡ false → GoesOn g.now.graph.n self.old.forest self.new.forest }
         ensures fewer { result ≡ false → steps_left g.now.graph.n (forest_of self.new.forest)
@@ -90,7 +80,6 @@ impl Search {
     /// Mends the least key, or takes its step where it is right. Whether that ended the search.
     fn turn(&mut self, g: &SmallGraph) -> bool
         requires way { IsUnderWay g.now.graph self.old }
-        requires known { HasPerfect g.now.graph }
         ensures way { result ≡ false → IsUnderWay g.now.graph self.new }
         ensures goes_on { result ≡ false → GoesOn g.now.graph.n self.old.forest self.new.forest }
         ensures fewer { result ≡ false
@@ -113,7 +102,6 @@ impl Search {
     /// Searches until the matching grows.
     fn search(&mut self, g: &SmallGraph)
         requires way { IsUnderWay g.now.graph self.old }
-        requires known { HasPerfect g.now.graph }
         ensures idle { IsIdle g.now.graph self.new }
         ensures ended { HasEnded g.now.graph.n self.old.forest self.new.forest }
         ensures first { self.new.first ≡ self.old.first }
@@ -126,10 +114,7 @@ impl Search {
 
     /// Searches from a vertex, if it is not matched.
     fn match_vertex(&mut self, g: &SmallGraph, v: u32)
-        requires idle { IsIdle g.now.graph self.old }
-        requires known { HasPerfect g.now.graph }
-        requires vertex { v < g.now.graph.n }
-        requires before { AreMatchedBefore (forest_of self.old.forest) v }
+        requires { IsReached g.now.graph self.old v }
         ensures idle { IsIdle g.now.graph self.new }
         ensures after { AreMatchedBefore (forest_of self.new.forest) (v + 1) }
         ensures first { self.new.first ≡ self.old.first }
@@ -143,7 +128,6 @@ impl Search {
     /// Searches from each vertex in turn, so that all are matched.
     pub(crate) fn match_all(&mut self, g: &SmallGraph)
         requires idle { IsIdle g.now.graph self.old }
-        requires known { HasPerfect g.now.graph }
         ensures idle { IsIdle g.now.graph self.new }
         ensures all { AreMatchedBefore (forest_of self.new.forest) g.now.graph.n }
         ensures first { self.new.first ≡ self.old.first }
@@ -154,9 +138,7 @@ impl Search {
     }
     /// The matching and the dual, where all searches are done.
     pub(crate) fn into_parts(self, g: &SmallGraph) -> (Vec<u32>, Dual)
-        requires idle { IsIdle g.now.graph self }
-        requires known { HasPerfect g.now.graph }
-        requires all { AreMatchedBefore (forest_of self.forest) g.now.graph.n }
+        requires { IsDone g.now.graph self }
         ensures perfect { IsPerfect g.now.graph result.0.items }
         ensures dual { IsSmallDual (dual result.1) }
         ensures bounded { (most : ℕ) → AreCostsBelow g.now.graph most

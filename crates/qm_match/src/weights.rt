@@ -3,7 +3,7 @@
 ghost use Rattle.std.specs.Prelude.{◌≡◌, ◌*◌, ◌^◌, ◌<◌, ◌≤◌, ◌-ℤ◌, ◌*ℤ◌, ℕ, pos, length, unsigned_abs, IfOk};
 ghost use Rattle.def_forest.specs.Made.{AreCostsBelow};
 ghost use Rattle.qm_match.specs.Fans.{AreFans};
-ghost use Rattle.qm_match.specs.Weights.{left_to, IsRoom, HaveRoom, MayRise};
+ghost use Rattle.qm_match.specs.Weights.{left_to, IsRoom, HaveRoom, MayRise, MayRiseAt};
 
 use crate::Memory;
 use crate::fans::Fans;
@@ -37,9 +37,7 @@ fn raise_all(y: &mut [i64], g: &SmallGraph, fans: &Fans, most: u64)
 
 /// Raises the number of a vertex as far as the edges there allow, and at most to a bound.
 fn raise(y: &mut [i64], g: &SmallGraph, fans: &Fans, v: u32, most: u64)
-    requires fans { AreFans g.now.graph fans.now.first.items fans.now.next.items }
-    requires ready { MayRise g.now.graph most y.old }
-    requires vertex { v < g.now.graph.n }
+    requires { MayRiseAt g.now.graph fans.now most y.old v }
     ensures { MayRise g.now.graph most y.new }
 {
     let room = room_at(y, g, fans, v, most);
@@ -50,9 +48,7 @@ fn raise(y: &mut [i64], g: &SmallGraph, fans: &Fans, v: u32, most: u64)
 
 /// How great the number of a vertex may be: what each edge leaves to it, and at most a bound.
 fn room_at(y: &[i64], g: &SmallGraph, fans: &Fans, v: u32, most: u64) -> i64
-    requires fans { AreFans g.now.graph fans.now.first.items fans.now.next.items }
-    requires ready { MayRise g.now.graph most y.now }
-    requires vertex { v < g.now.graph.n }
+    requires { MayRiseAt g.now.graph fans.now most y.now v }
     ensures { IsRoom g.now.graph most y.now v result }
 {
     let mut room = most as i64;

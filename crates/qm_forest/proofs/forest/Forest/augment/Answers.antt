@@ -21,11 +21,10 @@ done c reaches = augmented c.rematch.new.self c.end_search.new.self c.args.g.now
     (c.end_search.ensures.hand ∙ c.rematch.ensures.same.hand) c.end_search.ensures.root
     (c.end_search.ensures.fixed ∙ c.rematch.ensures.same.fixed)
 
-pub rematch-requires-clause-reaches : goal.rematch-requires-clause-reaches
-rematch-requires-clause-reaches c = (leads (goal.at.rematch-requires-clause-reaches c).After-outer_dart-start).0
-
-pub rematch-requires-clause-free : goal.rematch-requires-clause-free
-rematch-requires-clause-free c = none_of _ (leads (goal.at.rematch-requires-clause-free c).After-outer_dart-start).1
+pub rematch-requires : goal.rematch-requires
+rematch-requires c =
+    let it = leads (goal.at.rematch-requires c).After-outer_dart-start in
+    record { valid = c.requires.valid; reaches = it.0; free = none_of _ it.1 }
 
 pub returns-clause-changed : goal.returns-clause-changed
 returns-clause-changed c =

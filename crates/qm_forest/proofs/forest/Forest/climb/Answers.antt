@@ -3,10 +3,13 @@ use Rattle.qm_forest.proofs.Increases.{rise_low, root_level, far_level, far_way,
 use Rattle.qm_forest.proofs.Increases.{climbed_level}
 use Rattle.qm_forest.proofs.forest.Forest.climb.Goals as goal
 
-pub far_blossom-at-requires-clause-dart : goal.far_blossom-at-requires-clause-dart
-far_blossom-at-requires-clause-dart c = rise_low c.args.g.now.small c.requires.valid c.loop-d.at
-    (climbed_named c.args.g.now.small c.requires.valid c.requires.named c.loop-d.invariant.climbed) c.in-Some.d
-    (sym c.rise.ensures.value ∙ c.in-Some.is)
+pub far_blossom-at-requires : goal.far_blossom-at-requires
+far_blossom-at-requires c = record {
+  vertices = c.requires.valid.vertices;
+  dart = rise_low c.args.g.now.small c.requires.valid c.loop-d.at
+      (climbed_named c.args.g.now.small c.requires.valid c.requires.named c.loop-d.invariant.climbed) c.in-Some.d
+      (sym c.rise.ensures.value ∙ c.in-Some.is);
+}
 
 pub loop-d-smaller : goal.loop-d-smaller
 loop-d-smaller c =

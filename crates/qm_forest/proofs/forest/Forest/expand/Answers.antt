@@ -1,7 +1,7 @@
 use Rattle.std.proofs.Common.{length, refl, ◌∙◌, ap}
 use Rattle.def_forest.specs.Tables.{forest_of}
 use Rattle.qm_forest.proofs.Expandings.{Expanding, matched, mate_low, link_low, vertex_low, places_low}
-use Rattle.qm_forest.proofs.Expandings.{reached3, tops3, front_low, expanded, expanded_valid}
+use Rattle.qm_forest.proofs.Expandings.{reached3, tops3, expanded, expanded_valid}
 use Rattle.qm_forest.proofs.Openings.{CanOpen, partable}
 use Rattle.qm_forest.proofs.forest.Forest.expand.Goals.{After-parts-many, After-outermost-last}
 use Rattle.qm_forest.proofs.forest.Forest.expand.Goals as goal
@@ -65,12 +65,8 @@ course-course-requires c =
     reached3 (opened (goal.at.course-course-requires c).After-outermost-last)
     c.match_parts.ensures.seen c.match_parts.ensures.same
 
-pub hang_parts-requires-clause-tops : goal.hang_parts-requires-clause-tops
-hang_parts-requires-clause-tops c = tops3 (opened (goal.at.hang_parts-requires-clause-tops c).After-outermost-last)
-    c.match_parts.ensures.seen c.match_parts.ensures.same c.course-course.ensures
-
-pub hang_parts-requires-clause-low : goal.hang_parts-requires-clause-low
-hang_parts-requires-clause-low c = front_low (opened (goal.at.hang_parts-requires-clause-low c).After-outermost-last)
+pub hang_parts-requires : goal.hang_parts-requires
+hang_parts-requires c = tops3 (opened (goal.at.hang_parts-requires c).After-outermost-last)
     c.match_parts.ensures.seen c.match_parts.ensures.same c.course-course.ensures
 
 pub returns-clause-changed : goal.returns-clause-changed

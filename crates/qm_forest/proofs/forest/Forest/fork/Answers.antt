@@ -12,13 +12,13 @@ gone_on : (c : After-above-x) → IsClimbing (darts_of c.args.g.now.graph) (fore
 gone_on c = both_turn c.args.g.now.small c.requires.valid c.requires.first c.requires.second c.meeting-high.ensures.both
     c.loop-x.invariant c.loop-x-test.true (omega (arith, c.if-high-left.false)) c.above-x.ensures.value
 
-pub above-x-requires-clause-named : goal.above-x-requires-clause-named
-above-x-requires-clause-named c = climb_named c.args.g.now.small c.requires.valid c.args.a c.args.c c.requires.first
-    c.loop-x.invariant
-
-pub above-x-requires-clause-below : goal.above-x-requires-clause-below
-above-x-requires-clause-below c = both_rises c.args.g.now.small c.requires.valid c.requires.first c.requires.second
-    c.meeting-high.ensures.both c.loop-x.invariant c.loop-x-test.true (omega (arith, c.if-high-left.false))
+pub above-x-requires : goal.above-x-requires
+above-x-requires c = record {
+  valid = c.requires.valid;
+  named = climb_named c.args.g.now.small c.requires.valid c.args.a c.args.c c.requires.first c.loop-x.invariant;
+  below = both_rises c.args.g.now.small c.requires.valid c.requires.first c.requires.second
+      c.meeting-high.ensures.both c.loop-x.invariant c.loop-x-test.true (omega (arith, c.if-high-left.false));
+}
 
 pub overflow_add-left : goal.overflow_add-left
 overflow_add-left c = omega (
@@ -38,14 +38,15 @@ loop-x-smaller c = omega (
       (gone_on (goal.at.loop-x-smaller c).After-above-x)).0,
 )
 
-pub above-y-requires-clause-named : goal.above-y-requires-clause-named
-above-y-requires-clause-named c = climb_named c.args.g.now.small c.requires.valid c.args.c c.args.a c.requires.second
-    (swapped c.loop-x.invariant)
-
-pub above-y-requires-clause-below : goal.above-y-requires-clause-below
-above-y-requires-clause-below c = both_rises c.args.g.now.small c.requires.valid c.requires.second c.requires.first
-    (both_swapped c.meeting-high.ensures.both) (swapped c.loop-x.invariant) (λ e. c.loop-x-test.true (sym e))
-    (omega (arith, c.if-high-left.true))
+pub above-y-requires : goal.above-y-requires
+above-y-requires c = record {
+  valid = c.requires.valid;
+  named = climb_named c.args.g.now.small c.requires.valid c.args.c c.args.a c.requires.second
+      (swapped c.loop-x.invariant);
+  below = both_rises c.args.g.now.small c.requires.valid c.requires.second c.requires.first
+      (both_swapped c.meeting-high.ensures.both) (swapped c.loop-x.invariant) (λ e. c.loop-x-test.true (sym e))
+      (omega (arith, c.if-high-left.true));
+}
 
 pub loop-x-preserved-then-high-left : goal.loop-x-preserved-then-high-left
 loop-x-preserved-then-high-left c = swapped (both_turn c.args.g.now.small c.requires.valid c.requires.second

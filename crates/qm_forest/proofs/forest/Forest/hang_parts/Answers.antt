@@ -7,7 +7,7 @@ use Rattle.qm_forest.proofs.forest.Forest.hang_parts.Goals as goal
 
 pub leader-v-requires : goal.leader-v-requires
 leader-v-requires c = outermost_kept c.loop-k.invariant.same
-    c.loop-k.invariant.here (c.requires.tops c.loop-k.k (omega (arith, c.loop-k-test.true)))
+    c.loop-k.invariant.here (c.requires c.loop-k.k (omega (arith, c.loop-k-test.true)))
 
 pub loop-k-preserved : goal.loop-k-preserved
 loop-k-preserved c =

@@ -1,4 +1,4 @@
-use Rattle.std.proofs.Common.{add-one, ◌≡◌, ◌*◌, ◌<◌, length, ◌∙◌, ap, suc, arith}
+use Rattle.std.proofs.Common.{add-one, ◌≡◌, ◌∙◌, ap, suc, arith}
 use Rattle.def_forest.specs.{Darts.darts_of, Darts.far, Tables.forest_of, Ways.dart_or}
 use Rattle.forest_laws.specs.Climbing.{way_of}
 use Rattle.qm_forest.proofs.Layings.{IsLaidPlace, laid_place, laid_more_down, alike_more}
@@ -10,20 +10,15 @@ place : (c : After-rise_from-d) → IsLaidPlace c.args.g.now.graph c.args.self.n
 place c = laid_place c.args.g.now.small c.args.self.now c.args.a c.args.steps c.requires.from c.loop.counter
     (omega (arith, c.loop-test.true)) c.loop.invariant.here c.loop.self c.loop.invariant.same
 
-dart_low : (c : After-rise_from-d) → c.rise_from-d.result < 2 * length c.args.g.now.graph.edges
-dart_low c = rw c.rise_from-d.ensures (place c).dart
-
 pub rise_from-d-requires : goal.rise_from-d-requires
 rise_from-d-requires c = (laid_place c.args.g.now.small c.args.self.now c.args.a c.args.steps
     c.requires.from c.loop.counter (omega (arith, c.loop-test.true)) c.loop.invariant.here c.loop.self
     c.loop.invariant.same).some
 
-pub far_blossom-y-requires-clause-vertices : goal.far_blossom-y-requires-clause-vertices
-far_blossom-y-requires-clause-vertices c =
-    (place (goal.at.far_blossom-y-requires-clause-vertices c).After-rise_from-d).vertices
-
-pub far_blossom-y-requires-clause-dart : goal.far_blossom-y-requires-clause-dart
-far_blossom-y-requires-clause-dart c = dart_low (goal.at.far_blossom-y-requires-clause-dart c).After-rise_from-d
+pub far_blossom-y-requires : goal.far_blossom-y-requires
+far_blossom-y-requires c =
+    let it = place (goal.at.far_blossom-y-requires c).After-rise_from-d in
+    record { vertices = it.vertices; dart = rw c.rise_from-d.ensures it.dart }
 
 pub loop-preserved : goal.loop-preserved
 loop-preserved c =

@@ -10,6 +10,7 @@ returns-clause-value c = omega (
   c.potential.ensures.small,
   c.potential-2.ensures.value,
   c.potential-2.ensures.small,
-  load_across c.requires.valid.valid.outermost c.args.u c.args.v (rw c.requires.valid.vertices at c.requires.vertices.0)
-      (rw c.requires.valid.vertices at c.requires.vertices.1) c.requires.apart,
+  load_across c.requires.ends.valid.valid.outermost c.args.u c.args.v
+      (rw c.requires.ends.valid.vertices at c.requires.ends.vertices.0)
+      (rw c.requires.ends.valid.vertices at c.requires.ends.vertices.1) c.requires.apart,
 )

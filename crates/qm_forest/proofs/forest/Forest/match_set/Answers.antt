@@ -10,9 +10,10 @@ low c = rw c.requires.room.left_out c.requires.low
 here : (c : In-Some) → get_or c.args.round.now.left_out.items c.args.c None ≡ Some c.in-Some.v
 here c = sym (get_or_read c.args.round.now.left_out.items c.args.c _ (low c) c.index.ensures None) ∙ c.in-Some.is
 
-pub match_up-requires-clause-vertex : goal.match_up-requires-clause-vertex
-match_up-requires-clause-vertex c = (c.requires.begun.2.entry c.args.c c.in-Some.v
-    (here (goal.at.match_up-requires-clause-vertex c).In-Some)).low
+pub match_up-requires-clause-held : goal.match_up-requires-clause-held
+match_up-requires-clause-held c =
+    let it = c.requires.begun.2.entry c.args.c c.in-Some.v (here (goal.at.match_up-requires-clause-held c).In-Some) in
+    record { low = c.requires.low; vertex = it.low; held = it.held }
 
 pub returns-in-Some-clause-done : goal.returns-in-Some-clause-done
 returns-in-Some-clause-done c rest due r =

@@ -8,45 +8,46 @@ use Rattle.qm_forest.proofs.forest.Forest.match_up.Goals as goal
 
 pub loop-p-init : goal.loop-p-init
 loop-p-init c = record {
-  above = climbs_place (up_at c.args.self.now.up) (length c.args.self.now.hand) c.args.c c.args.v c.requires.held;
+  above = climbs_place (up_at c.args.self.now.up) (length c.args.self.now.hand) c.args.c c.args.v c.requires.held.held;
   held = climbs_here (up_at c.args.self.now.up) (length c.args.self.now.hand) c.args.v;
-  low = omega (arith, c.requires.vertex, c.requires.room.laminar.vertices);
+  low = omega (arith, c.requires.held.vertex, c.requires.room.laminar.vertices);
   room = c.requires.room;
-  done = λ rest due r. climb_begins c.requires.room.laminar c.args.c c.requires.vertex c.requires.held rest r;
+  done = λ rest due r. climb_begins c.requires.room.laminar c.args.c c.requires.held.vertex c.requires.held.held rest r;
   entries = λ b w e. inl e;
 }
 
 pub match_ring-requires-clause-inner : goal.match_ring-requires-clause-inner
-match_ring-requires-clause-inner c = climbs_on c.requires.room.laminar c.args.c c.requires.vertex c.requires.held
-    c.loop-p.invariant.above c.loop-p-test.true
+match_ring-requires-clause-inner c = climbs_on c.requires.room.laminar c.args.c c.requires.held.vertex
+    c.requires.held.held c.loop-p.invariant.above c.loop-p-test.true
 
 pub loop-p-smaller : goal.loop-p-smaller
 loop-p-smaller c = omega (
   arith,
   ap (λ z. get_or c.args.self.now.rank z 0) c.up_at-p.ensures.value,
-  rises_here c.requires.room.laminar c.args.c c.requires.vertex c.requires.held c.loop-p.invariant.above
+  rises_here c.requires.room.laminar c.args.c c.requires.held.vertex c.requires.held.held c.loop-p.invariant.above
       c.loop-p-test.true,
-  next_rank c.requires.room.laminar c.args.c c.requires.vertex c.requires.held c.loop-p.invariant.above
+  next_rank c.requires.room.laminar c.args.c c.requires.held.vertex c.requires.held.held c.loop-p.invariant.above
       c.loop-p-test.true,
 )
 
 pub loop-p-preserved : goal.loop-p-preserved
 loop-p-preserved c =
     let known = c.requires.room.laminar in
-    let lv = c.requires.vertex in
-    let more = above_more known c.args.c lv c.requires.held c.loop-p.invariant.above c.loop-p-test.true in
-    let next = next_rank known c.args.c lv c.requires.held c.loop-p.invariant.above c.loop-p-test.true in
+    let lv = c.requires.held.vertex in
+    let held = c.requires.held.held in
+    let more = above_more known c.args.c lv held c.loop-p.invariant.above c.loop-p-test.true in
+    let next = next_rank known c.args.c lv held c.loop-p.invariant.above c.loop-p-test.true in
     record {
       above = rw c.up_at-p.ensures.value more;
-      held = ap (within c.args.self.now c.args.v) c.up_at-p.ensures.value ∙ held_more known c.args.c lv c.requires.held
+      held = ap (within c.args.self.now c.args.v) c.up_at-p.ensures.value ∙ held_more known c.args.c lv held
           c.loop-p.invariant.above c.loop-p-test.true c.loop-p.invariant.held;
       low = c.up_at-p.ensures.low c.loop-p.invariant.low;
       room = c.match_ring.ensures.room;
       done = λ rest due r. rw c.up_at-p.ensures.value (c.match_ring.ensures.done _ due
           (ring_climb known c.requires.room.sound.1
-          (climbs_on known c.args.c lv c.requires.held c.loop-p.invariant.above c.loop-p-test.true) rest c.args.v more.0
-          c.loop-p.invariant.held lv more.1 (top_rank known c.args.c lv c.requires.held)
-          (omega (arith, next, top_rank known c.args.c lv c.requires.held)) (c.loop-p.invariant.done rest due r)));
+          (climbs_on known c.args.c lv held c.loop-p.invariant.above c.loop-p-test.true) rest c.args.v more.0
+          c.loop-p.invariant.held lv more.1 (top_rank known c.args.c lv held)
+          (omega (arith, next, top_rank known c.args.c lv held)) (c.loop-p.invariant.done rest due r)));
       entries = λ b w e. elim (c.match_ring.ensures.entries b w e) [
         | inl was ↦ c.loop-p.invariant.entries b w was
         | inr low ↦ inr (omega (arith, low, next))
@@ -54,5 +55,5 @@ loop-p-preserved c =
     }
 
 pub returns-clause-done : goal.returns-clause-done
-returns-clause-done c rest due r = climb_ends c.requires.room.laminar c.args.c c.requires.vertex c.requires.held rest
-    c.loop-p-test.false (c.loop-p.invariant.done rest due r)
+returns-clause-done c rest due r = climb_ends c.requires.room.laminar c.args.c c.requires.held.vertex
+    c.requires.held.held rest c.loop-p-test.false (c.loop-p.invariant.done rest due r)

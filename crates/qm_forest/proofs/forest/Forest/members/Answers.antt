@@ -6,13 +6,13 @@ use Rattle.qm_forest.proofs.forest.Forest.members.Goals as goal
 
 pub list_members-requires-clause-lists : goal.list_members-requires-clause-lists
 list_members-requires-clause-lists c = list_at c.self.inside c.self.invariant c.args.b
-    (subst (λ (t : ForestTables). c.args.b < length t.up) (sym c.self.view_is) c.requires.low)
-    (subst (λ (t : ForestTables). IsInUse (length t.hand) t.parts c.args.b) (sym c.self.view_is) c.requires.used)
+    (subst (λ (t : ForestTables). c.args.b < length t.up) (sym c.self.view_is) c.requires.used.low)
+    (subst (λ (t : ForestTables). IsInUse (length t.hand) t.parts c.args.b) (sym c.self.view_is) c.requires.used.used)
 
 pub returns-clause-all : goal.returns-clause-all
 returns-clause-all c = subst (λ (t : ForestTables). (v : ℕ) → v < length t.hand
     → climbs (up_at t.up) (length t.hand) c.args.b v ≡ true → (x : ℕ) × (x < length c.list_members.new.list.items)
     × (get_or c.list_members.new.list.items x 0 ≡ v)) c.self.view_is
     (copied_all c.self.invariant c.args.b (subst (λ (t : ForestTables). c.args.b < length t.up) (sym c.self.view_is)
-    c.requires.low) (subst (λ (t : ForestTables). IsInUse (length t.hand) t.parts c.args.b) (sym c.self.view_is)
-    c.requires.used) c.list_members.new.list.items c.list_members.ensures.count c.list_members.ensures.each)
+    c.requires.used.low) (subst (λ (t : ForestTables). IsInUse (length t.hand) t.parts c.args.b) (sym c.self.view_is)
+    c.requires.used.used) c.list_members.new.list.items c.list_members.ensures.count c.list_members.ensures.each)

@@ -47,20 +47,19 @@ at_is c seen is = is ∙ out_same (forest_of c.args.self.now) _ _ (changed_twice
 pub set_mate-requires-in-Some : goal.set_mate-requires-in-Some
 set_mate-requires-in-Some c = rw c.loop-old.invariant.same.up (way_low c.loop-old.invariant.way)
 
-pub far_blossom-inner-requires-clause-vertices : goal.far_blossom-inner-requires-clause-vertices
-far_blossom-inner-requires-clause-vertices c = ap length (c.set_mate-in-Some.ensures.same.hand
-    ∙ c.loop-old.invariant.same.hand) ∙ c.requires.valid.vertices
+pub far_blossom-inner-requires : goal.far_blossom-inner-requires
+far_blossom-inner-requires c = record {
+  vertices = ap length (c.set_mate-in-Some.ensures.same.hand ∙ c.loop-old.invariant.same.hand)
+      ∙ c.requires.valid.vertices;
+  dart = old_low c.loop-old.invariant.way c.in-Some.old (sym c.mate.ensures ∙ c.in-Some.is);
+}
 
-pub far_blossom-inner-requires-clause-dart : goal.far_blossom-inner-requires-clause-dart
-far_blossom-inner-requires-clause-dart c =
-    old_low c.loop-old.invariant.way c.in-Some.old (sym c.mate.ensures ∙ c.in-Some.is)
-
-pub far_blossom-at-requires-clause-vertices : goal.far_blossom-at-requires-clause-vertices
-far_blossom-at-requires-clause-vertices c = ap length (c.set_mate-in-Some-2.ensures.same.hand
-    ∙ (c.set_mate-in-Some.ensures.same.hand ∙ c.loop-old.invariant.same.hand)) ∙ c.requires.valid.vertices
-
-pub far_blossom-at-requires-clause-dart : goal.far_blossom-at-requires-clause-dart
-far_blossom-at-requires-clause-dart c = up_is_low (goal.at.far_blossom-at-requires-clause-dart c).After-link-up
+pub far_blossom-at-requires : goal.far_blossom-at-requires
+far_blossom-at-requires c = record {
+  vertices = ap length (c.set_mate-in-Some-2.ensures.same.hand
+      ∙ (c.set_mate-in-Some.ensures.same.hand ∙ c.loop-old.invariant.same.hand)) ∙ c.requires.valid.vertices;
+  dart = up_is_low (goal.at.far_blossom-at-requires c).After-link-up;
+}
 
 pub loop-old-smaller : goal.loop-old-smaller
 loop-old-smaller c =

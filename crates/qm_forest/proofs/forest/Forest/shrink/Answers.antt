@@ -31,10 +31,16 @@ short c = omega (
   c.fork-fork.ensures.few,
 )
 
-pub lay_ring-requires-clause-ways : goal.lay_ring-requires-clause-ways
-lay_ring-requires-clause-ways c =
-    let it = closing (goal.at.lay_ring-requires-clause-ways c).After-fork-fork in
-    (outer_named it.outer_a, outer_named it.outer_c)
+pub lay_ring-requires : goal.lay_ring-requires
+lay_ring-requires c =
+    let it = closing (goal.at.lay_ring-requires c).After-fork-fork in
+    record {
+      valid = c.requires.valid;
+      dart = it.tight.low;
+      first = outer_named it.outer_a;
+      second = outer_named it.outer_c;
+      fork = it.met;
+    }
 
 pub overflow_add-fork : goal.overflow_add-fork
 overflow_add-fork c = omega (arith, short (goal.at.overflow_add-fork c).After-fork-fork)

@@ -2,10 +2,13 @@ use Rattle.std.proofs.Common.{◌∙◌, sym, arith}
 use Rattle.qm_forest.proofs.Increases.{rise_low, far_level, far_way, climbed_named}
 use Rattle.qm_forest.proofs.forest.Forest.steps_to.Goals as goal
 
-pub far_blossom-at-requires-clause-dart : goal.far_blossom-at-requires-clause-dart
-far_blossom-at-requires-clause-dart c = rise_low c.args.g.now.small c.requires.valid c.loop-at.at
-    (climbed_named c.args.g.now.small c.requires.valid c.requires.named c.loop-at.invariant) c.in-Some.d
-    (sym c.rise.ensures.value ∙ c.in-Some.is)
+pub far_blossom-at-requires : goal.far_blossom-at-requires
+far_blossom-at-requires c = record {
+  vertices = c.requires.valid.vertices;
+  dart = rise_low c.args.g.now.small c.requires.valid c.loop-at.at
+      (climbed_named c.args.g.now.small c.requires.valid c.requires.named c.loop-at.invariant) c.in-Some.d
+      (sym c.rise.ensures.value ∙ c.in-Some.is);
+}
 
 pub loop-at-smaller : goal.loop-at-smaller
 loop-at-smaller c =

@@ -3,17 +3,11 @@ use Rattle.qm_match.specs.Weights.{HaveRoom}
 use Rattle.qm_match.proofs.Outcomes.{made_raised}
 use Rattle.qm_match.proofs.matcher.Matcher.new.Goals as goal
 
-pub new_from-requires-clause-numbers : goal.new_from-requires-clause-numbers
-new_from-requires-clause-numbers c = (subst (λ (y : List ℤ). HaveRoom c.args.g.now.graph (2 ^ 60) y)
-    (sym c.deref.ensures.value) (c.in_ok-y.ensures (2 ^ 60) c.requires.costs)).long
-
-pub new_from-requires-clause-small : goal.new_from-requires-clause-small
-new_from-requires-clause-small c = (subst (λ (y : List ℤ). HaveRoom c.args.g.now.graph (2 ^ 60) y)
-    (sym c.deref.ensures.value) (c.in_ok-y.ensures (2 ^ 60) c.requires.costs)).small
-
-pub new_from-requires-clause-feasible : goal.new_from-requires-clause-feasible
-new_from-requires-clause-feasible c = (subst (λ (y : List ℤ). HaveRoom c.args.g.now.graph (2 ^ 60) y)
-    (sym c.deref.ensures.value) (c.in_ok-y.ensures (2 ^ 60) c.requires.costs)).feasible
+pub new_from-requires : goal.new_from-requires
+new_from-requires c =
+    let it = subst (λ (y : List ℤ). HaveRoom c.args.g.now.graph (2 ^ 60) y) (sym c.deref.ensures.value)
+    (c.in_ok-y.ensures (2 ^ 60) c.requires.costs) in
+    record { size = it.long; small = it.small; edges = it.feasible }
 
 pub returns : goal.returns
 returns c =

@@ -1,8 +1,8 @@
-use Rattle.qm_match.proofs.Outcomes.{first_small, made_first}
+use Rattle.qm_match.proofs.Outcomes.{first_feasible, made_first}
 use Rattle.qm_match.proofs.matcher.Matcher.new_from.Goals as goal
 
-pub new_from-requires-clause-small : goal.new_from-requires-clause-small
-new_from-requires-clause-small c = first_small c.requires.first
+pub new_from-requires : goal.new_from-requires
+new_from-requires c = first_feasible c.requires.first
 
 pub returns : goal.returns
 returns c = record {

@@ -5,7 +5,8 @@ use Rattle.qm_match.proofs.{Outcomes.increasing_low, Outcomes.run_bounded, Ready
 use Rattle.qm_match.proofs.matcher.Matcher.run.Goals as goal
 
 pub match_tight-requires-clause-idle : goal.match_tight-requires-clause-idle
-match_tight-requires-clause-idle c = ready_idle c.args.g.now.small c.requires.cheap c.self.invariant
+match_tight-requires-clause-idle c = ready_idle c.args.g.now.small c.requires.cheap
+    (c.args.known.now, c.requires.known) c.self.invariant
     (subst (λ (t : ForestTables). IsMadeFor c.args.g.now.graph t) (sym c.self.view_is) c.requires.made)
 
 pub match_tight-requires-clause-known : goal.match_tight-requires-clause-known

@@ -5,18 +5,18 @@ use Rattle.def_forest.specs.Valid.{IsValid}
 use Rattle.qm_match.proofs.Ready.{free_augments, matched_idle}
 use Rattle.qm_match.proofs.search.Search.match_edge.Goals as goal
 
-pub augment-requires-clause-valid : goal.augment-requires-clause-valid
-augment-requires-clause-valid c = c.root.ensures.valid c.args.g.now.graph c.requires.idle.made.small.lawful
-    c.requires.idle.valid
-
-pub augment-requires-clause-kind : goal.augment-requires-clause-kind
-augment-requires-clause-kind c =
+pub augment-requires : goal.augment-requires
+augment-requires c =
     let valid : IsValid (darts_of c.args.g.now.graph) (forest_of c.args.self.now.forest) None =
     subst (λ (o : Option ℕ). IsValid (darts_of c.args.g.now.graph) (forest_of c.args.self.now.forest) o)
     c.requires.idle.no_tree c.requires.idle.valid.valid in
-    ap (λ (f : Forest). edge_kind c.args.g.now.graph f c.args.e) (c.root.ensures.changed
-    ∙ ap (λ (x : WEdge). rooted (forest_of c.args.self.now.forest) ((forest_of c.args.self.now.forest).out x.u))
-    c.edge.ensures.value) ∙ free_augments valid c.requires.free
+    record {
+      valid = c.root.ensures.valid c.args.g.now.graph c.requires.idle.made.small.lawful c.requires.idle.valid;
+      edge = c.requires.edge;
+      kind = ap (λ (f : Forest). edge_kind c.args.g.now.graph f c.args.e) (c.root.ensures.changed
+          ∙ ap (λ (x : WEdge). rooted (forest_of c.args.self.now.forest) ((forest_of c.args.self.now.forest).out x.u))
+          c.edge.ensures.value) ∙ free_augments valid c.requires.free;
+    }
 
 pub returns : goal.returns
 returns c = record {

@@ -3,70 +3,86 @@ use Rattle.std.proofs.Math.ListN.{set}
 use Rattle.std.proofs.lemmas.List.{get_or_read}
 use Rattle.def_forest.specs.Tables.{forest_of}
 use Rattle.search_laws.specs.Keys.{true_key}
-use Rattle.qm_match.specs.{Fans.IsOn, States.IsMade, declared.search.Search.Search}
+use Rattle.qm_match.specs.{Fans.IsOn, declared.search.Search.Search}
 use Rattle.qm_match.proofs.Mended.{chain_mended, keys_twice, made_with, mended_on, mended_one, vertex_right}
+use Rattle.qm_match.proofs.search.Search.mend_vertex.Goals.{After-index-entry-in-loop-entry, After-mend}
 use Rattle.qm_match.proofs.search.Search.mend_vertex.Goals as goal
 
-pub mend-requires-clause-made : goal.mend-requires-clause-made
-mend-requires-clause-made c = subst (λ (s : Search). IsMade c.args.g.now.graph s) (sym c.loop-entry.invariant.same)
-    (made_with c.loop-entry.self.tour c.requires.made c.loop-entry.invariant.mended.size)
+fans_is : (c : After-mend) → c.mend.new.self.fans.next.items ≡ c.args.self.now.fans.next.items
+fans_is c = ap (λ (s : Search). s.fans.next.items) c.mend.ensures
+    ∙ ap (λ (s : Search). s.fans.next.items) c.loop-entry.invariant.same
+
+leaf : (c : After-mend) → (c.loop-entry.entry - 1) / 2 < length c.loop-entry.self.tour
+leaf c = omega (
+  arith,
+  c.loop-entry.invariant.mended.size,
+  c.requires.made.leaves,
+  c.loop-entry.invariant.low,
+  c.loop-entry-test.true,
+)
+
+-- The entry after one of the chain.
+read : (c : After-index-entry-in-loop-entry)
+    → c.mend.new.self.fans.next.items ≡ c.args.self.now.fans.next.items → c.index-entry-in-loop-entry.result.now
+    ≡ get_or c.args.self.now.fans.next.items (c.loop-entry.entry - 1) 0
+read c fans = get_or_read c.mend.new.self.fans.next.items (c.loop-entry.entry - 1) _
+    (subst (λ (xs : List ℕ). c.loop-entry.entry - 1 < length xs) (sym fans)
+    (omega (arith, c.requires.made.fans.darts, c.loop-entry.invariant.low, c.loop-entry-test.true)))
+    c.index-entry-in-loop-entry.ensures 0 ∙ ap (λ (xs : List ℕ). get_or xs (c.loop-entry.entry - 1) 0) fans
+
+pub mend-requires : goal.mend-requires
+mend-requires c = rw c.loop-entry.invariant.same (record {
+  made = made_with c.loop-entry.self.tour c.requires.made c.loop-entry.invariant.mended.size;
+  valid = c.requires.valid;
+  low = omega (
+    arith,
+    c.loop-entry.invariant.mended.size,
+    c.requires.made.leaves,
+    c.loop-entry.invariant.low,
+    c.loop-entry-test.true,
+  );
+})
 
 pub loop-entry-smaller : goal.loop-entry-smaller
 loop-entry-smaller c =
-    let fans_is : c.mend.new.self.fans.next.items ≡ c.args.self.now.fans.next.items =
-    ap (λ (s : Search). s.fans.next.items) c.mend.ensures ∙ ap (λ (s : Search). s.fans.next.items)
-    c.loop-entry.invariant.same in
-    let low : c.loop-entry.entry - 1 < length c.mend.new.self.fans.next.items =
-    subst (λ (xs : List ℕ). c.loop-entry.entry - 1 < length xs) (sym fans_is)
-    (omega (arith, c.requires.made.fans.darts, c.loop-entry.invariant.low, c.loop-entry-test.true)) in
-    let read : c.index-entry-in-loop-entry.result.now ≡ get_or c.args.self.now.fans.next.items (c.loop-entry.entry - 1)
-    0 = get_or_read c.mend.new.self.fans.next.items (c.loop-entry.entry - 1) _ low
-    c.index-entry-in-loop-entry.ensures 0 ∙ ap (λ (xs : List ℕ). get_or xs (c.loop-entry.entry - 1) 0) fans_is in
-    omega (arith, read, c.requires.made.fans.nexts (c.loop-entry.entry - 1), c.loop-entry-test.true)
+    let at = goal.at.loop-entry-smaller c in
+    omega (
+      arith,
+      read at.After-index-entry-in-loop-entry (fans_is at.After-mend),
+      c.requires.made.fans.nexts (c.loop-entry.entry - 1),
+      c.loop-entry-test.true,
+    )
 
 pub loop-entry-preserved : goal.loop-entry-preserved
 loop-entry-preserved c =
-    let fans_is : c.mend.new.self.fans.next.items ≡ c.args.self.now.fans.next.items =
-    ap (λ (s : Search). s.fans.next.items) c.mend.ensures ∙ ap (λ (s : Search). s.fans.next.items)
-    c.loop-entry.invariant.same in
-    let low : c.loop-entry.entry - 1 < length c.mend.new.self.fans.next.items =
-    subst (λ (xs : List ℕ). c.loop-entry.entry - 1 < length xs) (sym fans_is)
-    (omega (arith, c.requires.made.fans.darts, c.loop-entry.invariant.low, c.loop-entry-test.true)) in
-    let read : c.index-entry-in-loop-entry.result.now ≡ get_or c.args.self.now.fans.next.items (c.loop-entry.entry - 1)
-    0 = get_or_read c.mend.new.self.fans.next.items (c.loop-entry.entry - 1) _ low
-    c.index-entry-in-loop-entry.ensures 0 ∙ ap (λ (xs : List ℕ). get_or xs (c.loop-entry.entry - 1) 0) fans_is in
+    let at = goal.at.loop-entry-preserved c in
+    let next = read at.After-index-entry-in-loop-entry (fans_is at.After-mend) in
+    let low = leaf at.After-mend in
     let tour_is : c.mend.new.self.tour ≡ set c.loop-entry.self.tour ((c.loop-entry.entry - 1) / 2)
     (true_key c.args.g.now.graph (forest_of c.args.self.now.forest) c.args.self.now.risen
     ((c.loop-entry.entry - 1) / 2)) = ap (λ (s : Search). s.tour) c.mend.ensures
     ∙ ap (λ (s : Search). set c.loop-entry.self.tour ((c.loop-entry.entry - 1) / 2)
     (true_key c.args.g.now.graph (forest_of s.forest) s.risen ((c.loop-entry.entry - 1) / 2)))
     c.loop-entry.invariant.same in
-    let leaf : (c.loop-entry.entry - 1) / 2 < length c.loop-entry.self.tour = omega (
-      arith,
-      c.loop-entry.invariant.mended.size,
-      c.requires.made.leaves,
-      c.loop-entry.invariant.low,
-      c.loop-entry-test.true,
-    ) in
     record {
       same = keys_twice c.args.self.now _ c.loop-entry.invariant.same c.mend.ensures;
       low = omega (
         arith,
-        read,
+        next,
         c.requires.made.fans.nexts (c.loop-entry.entry - 1),
         c.loop-entry.invariant.low,
         c.loop-entry-test.true,
       );
       mended = mended_on c.args.g.now.graph (forest_of c.args.self.now.forest) c.args.self.now.risen
           c.loop-entry.invariant.mended (mended_one c.args.g.now.graph (forest_of c.args.self.now.forest)
-          c.args.self.now.risen c.loop-entry.self.tour c.mend.new.self.tour ((c.loop-entry.entry - 1) / 2) leaf
+          c.args.self.now.risen c.loop-entry.self.tour c.mend.new.self.tour ((c.loop-entry.entry - 1) / 2) low
           tour_is);
       done = λ x on. subst (λ y. (get_or c.mend.new.self.tour (x / 2) 0
           ≡ true_key c.args.g.now.graph (forest_of c.args.self.now.forest) c.args.self.now.risen (x / 2))
-          ⊎ IsOn c.args.self.now.fans.next.items y x) (sym read) (chain_mended c.args.g.now.graph
+          ⊎ IsOn c.args.self.now.fans.next.items y x) (sym next) (chain_mended c.args.g.now.graph
           (forest_of c.args.self.now.forest) c.args.self.now.risen c.args.self.now.fans.next.items
           c.loop-entry.self.tour c.loop-entry.entry (c.loop-entry.entry - 1) _
-          (omega (arith, c.loop-entry-test.true)) leaf tour_is c.loop-entry.invariant.done x on);
+          (omega (arith, c.loop-entry-test.true)) low tour_is c.loop-entry.invariant.done x on);
     }
 
 pub returns-clause-right : goal.returns-clause-right

@@ -1,6 +1,8 @@
 use Rattle.std.proofs.Common.{sym, ◌∙◌}
 use Rattle.qm_match.proofs.search.Search.partner.Goals as goal
 
-pub far_blossom-requires-clause-dart : goal.far_blossom-requires-clause-dart
-far_blossom-requires-clause-dart c =
-    (c.requires.valid.valid.matched c.args.b c.in-Some.m (sym c.mate.ensures ∙ c.in-Some.is)).tight.low
+pub far_blossom-requires : goal.far_blossom-requires
+far_blossom-requires c = record {
+  vertices = c.requires.valid.vertices;
+  dart = (c.requires.valid.valid.matched c.args.b c.in-Some.m (sym c.mate.ensures ∙ c.in-Some.is)).tight.low;
+}

@@ -3,33 +3,32 @@ use Rattle.std.proofs.lemmas.Bool.{cases_lt}
 use Rattle.std.proofs.lemmas.List.{get_or_read}
 use Rattle.qm_match.specs.States.{IsFreshAt, MayRefresh}
 use Rattle.qm_match.proofs.Refreshed.{may_later, refreshed_on, stays_fresh}
+use Rattle.qm_match.proofs.search.Search.refresh_parts.Goals.{After-index-p}
 use Rattle.qm_match.proofs.search.Search.refresh_parts.Goals as goal
+
+low : (c : After-index-p) → c.loop-k.k < length c.args.self.now.parts.items
+low c = omega (arith, c.loop-k-test.true, c.loop-k.auto.k-end, c.len-k-end.ensures)
+
+p_is : (c : After-index-p) → c.index-p.result.now ≡ get_or c.args.self.now.parts.items c.loop-k.k 0
+p_is c = get_or_read c.loop-k.self.parts.items c.loop-k.k _ (subst (λ (xs : List ℕ). c.loop-k.k < length xs)
+    (sym c.loop-k.invariant.refreshed.parts) (low c)) c.index-p.ensures 0
+    ∙ ap (λ (xs : List ℕ). get_or xs c.loop-k.k 0) c.loop-k.invariant.refreshed.parts
 
 pub refresh-requires : goal.refresh-requires
 refresh-requires c =
-    let low : c.loop-k.k < length c.args.self.now.parts.items =
-    omega (arith, c.loop-k-test.true, c.loop-k.auto.k-end, c.len-k-end.ensures) in
-    let p_is : c.index-p.result.now ≡ get_or c.args.self.now.parts.items c.loop-k.k 0 =
-    get_or_read c.loop-k.self.parts.items c.loop-k.k _ (subst (λ (xs : List ℕ). c.loop-k.k < length xs)
-    (sym c.loop-k.invariant.refreshed.parts) low) c.index-p.ensures 0
-    ∙ ap (λ (xs : List ℕ). get_or xs c.loop-k.k 0) c.loop-k.invariant.refreshed.parts in
-    subst (λ p. MayRefresh c.args.g.now.graph c.loop-k.self p) (sym p_is)
-    (may_later c.loop-k.invariant.refreshed (c.requires.may c.loop-k.k low))
+    let at = (goal.at.refresh-requires c).After-index-p in
+    subst (λ p. MayRefresh c.args.g.now.graph c.loop-k.self p) (sym (p_is at))
+    (may_later c.loop-k.invariant.refreshed (c.requires.may c.loop-k.k (low at)))
 
 pub loop-k-preserved : goal.loop-k-preserved
 loop-k-preserved c =
-    let low : c.loop-k.k < length c.args.self.now.parts.items =
-    omega (arith, c.loop-k-test.true, c.loop-k.auto.k-end, c.len-k-end.ensures) in
-    let p_is : c.index-p.result.now ≡ get_or c.args.self.now.parts.items c.loop-k.k 0 =
-    get_or_read c.loop-k.self.parts.items c.loop-k.k _ (subst (λ (xs : List ℕ). c.loop-k.k < length xs)
-    (sym c.loop-k.invariant.refreshed.parts) low) c.index-p.ensures 0
-    ∙ ap (λ (xs : List ℕ). get_or xs c.loop-k.k 0) c.loop-k.invariant.refreshed.parts in
+    let is = p_is (goal.at.loop-k-preserved c).After-index-p in
     record {
       refreshed = refreshed_on c.loop-k.invariant.refreshed c.refresh.ensures.refreshed;
       here = λ j l. elim (cases_lt j c.loop-k.k) [
         | inl lt ↦ stays_fresh c.refresh.ensures.refreshed (c.loop-k.invariant.here j lt)
         | inr ge ↦ (let e : c.loop-k.k ≡ j = omega (arith, ge, l) in
-            subst (λ p. IsFreshAt c.args.g.now.graph c.refresh.new.self p) (p_is
+            subst (λ p. IsFreshAt c.args.g.now.graph c.refresh.new.self p) (is
             ∙ ap (λ i. get_or c.args.self.now.parts.items i 0) e) c.refresh.ensures.here)
       ];
     }

@@ -18,22 +18,32 @@ returns-then-key-clause-fewer c = λ e. mended_fewer c.args.g.now.graph c.args.s
       tour = set c.args.self.now.tour c.least_leaf-leaf.result key;
     }) c.true_key-key.ensures c.set_leaf.ensures)
 
-pub rise_to-requires-clause-high : goal.rise_to-requires-clause-high
-rise_to-requires-clause-high c = omega (
-  arith,
-  c.true_key-key.ensures,
-  key_high c.args.g.now.graph (forest_of c.args.self.now.forest) c.args.self.now.risen c.least_leaf-leaf.result
-      (omega (
-        arith,
-        risen_few c.requires.way.tree.0 c.requires.way.tree.1 c.requires.way c.requires.known,
-      )),
-)
+pub rise_to-requires : goal.rise_to-requires
+rise_to-requires c = record {
+  way = c.requires.way;
+  high = omega (
+    arith,
+    c.true_key-key.ensures,
+    key_high c.args.g.now.graph (forest_of c.args.self.now.forest) c.args.self.now.risen c.least_leaf-leaf.result
+        (omega (arith, risen_few c.requires.way)),
+  );
+  least = λ k l. omega (
+    arith,
+    c.least_leaf-leaf.ensures.least k 0 l,
+    c.requires.way.low k l,
+    c.key.ensures,
+    c.if-key.false,
+  );
+}
 
-pub step-requires-clause-few : goal.step-requires-clause-few
-step-requires-clause-few c = omega (
-  arith,
-  risen_few c.rise_to.ensures.way.tree.0 c.rise_to.ensures.way.tree.1 c.rise_to.ensures.way c.requires.known,
-)
+pub step-requires : goal.step-requires
+step-requires c = record {
+  way = c.rise_to.ensures.way;
+  low = rw c.rise_to.ensures.tour c.least_leaf-leaf.ensures.low;
+  here = c.rise_to.ensures.keys c.least_leaf-leaf.result c.least_leaf-leaf.ensures.low
+      ∙ (sym c.true_key-key.ensures ∙ sym c.rise_to.ensures.risen);
+  few = omega (arith, risen_few c.rise_to.ensures.way);
+}
 
 pub returns-clause-goes_on : goal.returns-clause-goes_on
 returns-clause-goes_on c = λ e v seeking. c.step.ensures.goes_on e v (c.rise_to.ensures.goes_on v seeking)
