@@ -1,6 +1,6 @@
 //! The matching edges of a blossom that match all of its vertices but one.
 
-ghost use Rattle.std.specs.Prelude.{◌≡◌, ◌+◌, ◌^◌, ◌<◌, ◌≤◌, ℕ, true, false, length, replicate, IfOk, None};
+ghost use Rattle.std.specs.Prelude.{◌≡◌, ◌+◌, ◌^◌, ◌<◌, ◌≤◌, ℕ, false, length, replicate, IfOk, None};
 ghost use Rattle.std.specs.Vec.{vec_capacity};
 ghost use Rattle.def_matching.specs.Matching.{WeightedGraph, IsSmallGraph, Vertex};
 ghost use Rattle.def_forest.specs.Forests.{Blossom};

@@ -67,7 +67,6 @@ pub(crate) fn are_small(numbers: &[i64], most: u64) -> bool
 
 /// Whether no edge has more at its ends than twice its cost.
 fn have_room(g: &SmallGraph, numbers: &[i64]) -> bool
-    requires long { length numbers.now ≡ g.now.graph.n }
     ensures { result ≡ true → (e : ℕ) → e < length g.now.graph.edges → HasRoom g.now.graph numbers.now e }
 {
     for e in 0..g.edge_count() {
@@ -80,12 +79,21 @@ fn have_room(g: &SmallGraph, numbers: &[i64]) -> bool
 
 /// Whether an edge has no more at its ends than twice its cost.
 fn has_room(g: &SmallGraph, numbers: &[i64], e: u32) -> bool
-    requires long { length numbers.now ≡ g.now.graph.n }
-    requires edge { e < length g.now.graph.edges }
+    requires { e < length g.now.graph.edges }
     ensures { result ≡ true → HasRoom g.now.graph numbers.now e }
 {
     let WEdge { u, v, cost } = g.edge(e);
-    sum_of(numbers[u as usize], numbers[v as usize]) <= twice(cost)
+    sum_of(number_at(numbers, u), number_at(numbers, v)) <= twice(cost)
+}
+
+/// The number of a vertex, or 0 past the end.
+fn number_at(numbers: &[i64], v: u32) -> i64
+    ensures { result ≡ slice_index_or numbers.now v (pos 0) }
+{
+    match numbers.get(v as usize) {
+        Some(number) => *number,
+        None => 0,
+    }
 }
 
 /// Two numbers together.

@@ -5,7 +5,7 @@ use Rattle.def_forest.specs.{Forests.Forest, Steps.shifted, Tables.forest_of}
 use Rattle.search_laws.specs.{Keys.true_key, Searches.risen_limit, Searches.steps_left}
 use Rattle.qm_forest.specs.Needs.{MayShift}
 use Rattle.qm_match.proofs.Turned.{shift_feasible, shift_keys, shift_small, shifted_on, shifted_way, soon}
-use Rattle.qm_match.proofs.search.Search.rise_to.Goals.{After-shift, Start}
+use Rattle.qm_match.proofs.search.Search.rise_to.Goals.{Start}
 use Rattle.qm_match.proofs.search.Search.rise_to.Goals as goal
 
 few : (c : Start) → c.args.key ≤ risen_limit

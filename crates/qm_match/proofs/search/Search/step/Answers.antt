@@ -1,5 +1,5 @@
-use Rattle.std.proofs.Common.{◌≡◌, ◌+◌, ◌-◌, ◌<◌, length, pos, sym, subst, arith}
-use Rattle.def_forest.specs.{Tables.forest_of, declared.kinds.Label.TheVariants.Inner}
+use Rattle.std.proofs.Common.{◌-◌, ◌<◌, length, arith}
+use Rattle.def_forest.specs.Tables.{forest_of}
 use Rattle.search_laws.proofs.Stepped.{edge_step, set_step}
 use Rattle.qm_match.proofs.Turned.{not_idle, not_loose}
 use Rattle.qm_match.proofs.search.Search.step.Goals as goal
