@@ -8,7 +8,7 @@ use crate::samples::{FIVE_SHAPES, QUAD};
 use def_flow::{Cert, CertVerdict, MAX_TANGLE};
 use def_matching::{Dual, Verdict};
 use qm_cert::accepts;
-use qm_net::{is_within_bounds, tangle_of};
+use qm_net::{BoundedNet, is_within_bounds, tangle_of};
 use qm_nettext::read_net;
 use std::alloc::Global;
 use std::process::Abort;
@@ -43,7 +43,7 @@ fn check(rt: &impl Abort, alloc: Global, text: &str, sheet: Sheet) -> Result<Cer
         dual,
     };
     assert!(rt; is_within_bounds(&net));
-    let tangle = tangle_of(alloc, &net)?;
+    let tangle = tangle_of(alloc, &BoundedNet { whole: &net })?;
     assert!(rt; tangle <= u128::from(MAX_TANGLE));
     assert!(rt; are_short(&cert.x) && cert.x.len() < 64);
     assert!(rt; are_small(&cert.dual.y) && are_small(&cert.dual.z) && cert.dual.z.len() < 64);

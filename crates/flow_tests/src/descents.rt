@@ -64,10 +64,13 @@ fn floors_of_single_arcs(rt: HostRuntime) -> Result<(), Fail> {
 /// The deviations of the lists that are found from a start near what is wanted and from a multiple of the old lengths,
 /// if both may be started from.
 fn least_of(alloc: Global, net: &Net) -> Result<Option<(i128, i128)>, Memory> {
-    if !is_within_bounds(net) || tangle_of(alloc, net)? > u128::from(MAX_TANGLE) {
+    if !is_within_bounds(net) {
         return Ok(None);
     }
     let bounded = BoundedNet { whole: net };
+    if tangle_of(alloc, &bounded)? > u128::from(MAX_TANGLE) {
+        return Ok(None);
+    }
     let near = start_of(alloc, &bounded)?.lengths;
     let far = old_multiple(alloc, net)?;
     if !is_start(&bounded, &near) || !is_start(&bounded, &far) {

@@ -39,13 +39,13 @@ pub(crate) fn tell_descent(
     if !is_within_bounds(&net) {
         return Ok(ExitCode::from(3));
     }
-    let tangle = tangle_of(rt.alloc(), &net)?;
+    let bounded = BoundedNet { whole: &net };
+    let tangle = tangle_of(rt.alloc(), &bounded)?;
     if tangle > u128::from(MAX_TANGLE) {
         return Ok(ExitCode::from(4));
     }
     let reading = begun.elapsed(rt)?;
     let begun = Instant::now(rt)?;
-    let bounded = BoundedNet { whole: &net };
     let start = begin(rt.alloc(), &bounded, from)?;
     let starting = begun.elapsed(rt)?;
     if !is_start(&bounded, &start.lengths) {

@@ -67,16 +67,19 @@ pub(crate) fn write_graph(alloc: Global, text: &str) -> Result<Option<String>, A
         Err(NetFail::NoNetwork) => return Ok(None),
         Err(NetFail::Memory(refused)) => return Err(refused),
     };
-    if !is_within_bounds(&net) || tangle_of(alloc, &net)? > u128::from(MAX_TANGLE) {
+    if !is_within_bounds(&net) {
+        return Ok(None);
+    }
+    let bounded = BoundedNet { whole: &net };
+    if tangle_of(alloc, &bounded)? > u128::from(MAX_TANGLE) {
         return Ok(None);
     }
     let x = multiple(alloc, &net)?;
     if !are_lengths(&net, &x) || !admissible(&net, &x) {
         return Ok(None);
     }
-    let net = BoundedNet { whole: &net };
-    let gadget = graph_of(alloc, &net, &x, 1)?;
-    let known = matching_of(alloc, &net, &gadget, &x)?;
+    let gadget = graph_of(alloc, &bounded, &x, 1)?;
+    let known = matching_of(alloc, &bounded, &gadget, &x)?;
     Ok(Some(task_text(alloc, &gadget.graph, &known)?))
 }
 

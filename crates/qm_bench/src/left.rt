@@ -8,16 +8,18 @@ use qm_dual::SmallGraph;
 use qm_fraction::{Fraction, least_fraction};
 use qm_gadget::{graph_of, matching_of};
 use qm_initial::initial_dual;
-use qm_net::deviation;
+use qm_net::{BoundedNet, deviation};
 use qm_solve::{Descent, first_wishes};
 use std::alloc::{AllocError, Global};
 
 /// How many searches the matching of the next round needs, once its first dual is led to that of a least fractional
 /// matching, where it is: each matches two vertices that no tight edge matched.
 pub(crate) fn searches_left(alloc: Global, descent: &Descent) -> Result<u64, AllocError> {
-    let net = &descent.net;
-    let gadget = graph_of(alloc, net, &descent.x, descent.step)?;
-    let known = matching_of(alloc, net, &gadget, &descent.x)?;
+    let net = BoundedNet {
+        whole: descent.net.whole,
+    };
+    let gadget = graph_of(alloc, &net, &descent.x, descent.step)?;
+    let known = matching_of(alloc, &net, &gadget, &descent.x)?;
     let wish = first_wishes(alloc, net.whole, &gadget, &descent.prices)?;
     let graph = SmallGraph {
         whole: &gadget.graph,

@@ -1,16 +1,16 @@
 //! Work on one network: its matching graph, and the verdict on duals over it.
 
-ghost use Rattle.std.specs.Prelude.{◌≤◌};
-ghost use Rattle.def_flow.specs.Network.{network, tangle_number};
-ghost use Rattle.def_flow.specs.Admissible.{entries, IsAdmissible};
-ghost use Rattle.def_flow.specs.Admissible.{AreNetLengths};
+ghost use Rattle.std.specs.Prelude.{IfOk};
+ghost use Rattle.def_flow.specs.Network.{network};
+ghost use Rattle.def_flow.specs.Admissible.{entries, AreNetLengths, IsAdmissible};
+ghost use Rattle.def_matching.specs.Matching.{graph, IsSmallGraph};
 
 use crate::network::{lengths, network as measured};
 use crate::sets::{Shape, dual_of};
-use def_flow::MAX_TANGLE;
+use def_flow::{Gadget, MAX_TANGLE};
 use qm_dual::{SmallGraph, dual_ok};
 use qm_gadget::graph_of;
-use qm_net::{BoundedNet, admissible, are_lengths, is_within_bounds, tangle_of};
+use qm_net::{BoundedNet, LooseNet, admissible, are_lengths, is_within_bounds, tangle_of};
 use std::alloc::{AllocError, Global};
 use std::io;
 use std::process::ExitCode;
@@ -28,11 +28,14 @@ pub(crate) fn tell_work(rt: &HostRuntime, name: &str, times: u32) -> io::Result<
     if !admissible(&net, &x) {
         return Ok(ExitCode::from(4));
     }
-    if tangle_of(rt.alloc(), &net)? > u128::from(MAX_TANGLE) {
+    if tangle_of(rt.alloc(), &BoundedNet { whole: &net })? > u128::from(MAX_TANGLE) {
         return Ok(ExitCode::from(5));
     }
-    let net = BoundedNet { whole: &net };
-    let told = run(rt.alloc(), &net, &x, task_named(name), times)?;
+    let work = Work {
+        net: LooseNet { whole: &net },
+        x: &x,
+    };
+    let told = run(rt.alloc(), &work, task_named(name), times)?;
     println!(rt; "{told}")?;
     Ok(ExitCode::SUCCESS)
 }
@@ -53,22 +56,21 @@ enum Task {
     DualOk(Shape),
 }
 
+/// A network that is not too tangled, and an admissible list of lengths.
+#[derive(Clone, Copy)]
+struct Work<'n, 'x> {
+    net: LooseNet<'n>,
+    x: &'x [u64],
+    ghost lengths: { AreNetLengths net.whole.now.arcs.items x.now },
+    ghost admissible: { IsAdmissible (network net.whole.now) (entries x.now) },
+}
+
 /// Does a task as often as is asked, and tells what came of it.
-fn run(
-    alloc: Global,
-    net: &BoundedNet,
-    x: &[u64],
-    task: Task,
-    times: u32,
-) -> Result<String, AllocError>
-    requires lengths { AreNetLengths net.now.whole.now.arcs.items x.now }
-    requires admissible { IsAdmissible (network net.now.whole.now) (entries x.now) }
-    requires tangle { tangle_number (network net.now.whole.now) ≤ MAX_TANGLE }
-{
+fn run(alloc: Global, work: &Work, task: Task, times: u32) -> Result<String, AllocError> {
     match task {
-        Task::Graph => build(alloc, net, x, times),
+        Task::Graph => build(alloc, work, times),
         Task::DualOk(shape) => {
-            let gadget = graph_of(alloc, net, x, 1)?;
+            let gadget = gadget_of(alloc, work)?;
             check_dual(
                 alloc,
                 &SmallGraph {
@@ -81,16 +83,22 @@ fn run(
     }
 }
 
-/// Builds the matching graph, and tells how many vertices and edges it has.
-fn build(alloc: Global, net: &BoundedNet, x: &[u64], times: u32) -> Result<String, AllocError>
-    requires lengths { AreNetLengths net.now.whole.now.arcs.items x.now }
-    requires admissible { IsAdmissible (network net.now.whole.now) (entries x.now) }
-    requires tangle { tangle_number (network net.now.whole.now) ≤ MAX_TANGLE }
+/// The matching graph, with its lows and numbers of units.
+fn gadget_of(alloc: Global, work: &Work) -> Result<Gadget, AllocError>
+    ensures { IfOk result (λ gadget. IsSmallGraph (graph gadget.graph)) }
 {
+    let net = BoundedNet {
+        whole: work.net.whole,
+    };
+    graph_of(alloc, &net, work.x, 1)
+}
+
+/// Builds the matching graph, and tells how many vertices and edges it has.
+fn build(alloc: Global, work: &Work, times: u32) -> Result<String, AllocError> {
     let mut vertices = 0;
     let mut edges = 0;
     for _ in 0..times {
-        let gadget = graph_of(alloc, net, x, 1)?;
+        let gadget = gadget_of(alloc, work)?;
         vertices = gadget.graph.n;
         edges = gadget.graph.edges.len();
     }

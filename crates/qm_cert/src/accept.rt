@@ -2,20 +2,20 @@
 
 ghost use Rattle.std.specs.Prelude.{◌≡◌, ◌^◌, ◌<◌, ◌≤◌, ◌↔◌, ℕ, ℤ, length, slice_index, IfOk};
 ghost use Rattle.def_flow.specs.Network.{network, IsWithinBounds, tangle_number};
-ghost use Rattle.def_flow.specs.Admissible.{entries, IsAdmissible, IsLeast};
+ghost use Rattle.def_flow.specs.Admissible.{entries, IsLeast};
 ghost use Rattle.def_flow.specs.MatchingGraph.{matching_graph};
 ghost use Rattle.def_matching.specs.Dual.{dual, verdict, IsSmallDual};
 ghost use Rattle.def_flow.specs.Accepted.{certificate, cert_verdict, refuse_dual, sums_verdict, IsAccepted};
-ghost use Rattle.def_flow.specs.Admissible.{AreNetLengths};
 
 use crate::Memory;
 use crate::list::list_fault;
+use crate::listed::Listed;
 use crate::sum::sum_verdict;
 use def_flow::{Cert, CertVerdict, MAX_LENGTH, MAX_TANGLE, Net};
 use def_matching::Verdict;
 use qm_dual::{SmallGraph, dual_ok};
 use qm_gadget::graph_of;
-use qm_net::BoundedNet;
+use qm_net::{BoundedNet, LooseNet};
 use std::alloc::Global;
 
 /// The verdict on a certificate for a network. After `Yes` its list is least among all admissible lists of whole
@@ -36,34 +36,38 @@ pub fn accepts(alloc: Global, net: &Net, cert: &Cert) -> Result<CertVerdict, Mem
     ensures least { IfOk result (λ v.
         (d : ℤ) → v ≡ CertVerdict.Yes d → IsLeast (network net.now) (entries cert.now.x.items)) }
 {
-    let bounded = BoundedNet { whole: net };
-    let fault = list_fault(alloc, &bounded, &cert.x)?;
+    let fault = list_fault(alloc, &BoundedNet { whole: net }, &cert.x)?;
     match fault {
         Some(verdict) => Ok(verdict),
-        None => check_dual(alloc, &bounded, cert),
+        None => {
+            let net = LooseNet { whole: net };
+            let listed = Listed { net, cert };
+            check_dual(alloc, &listed)
+        }
     }
 }
 
 /// The verdict on a certificate whose list has no fault.
-fn check_dual(alloc: Global, net: &BoundedNet, cert: &Cert) -> Result<CertVerdict, Memory>
-    requires lengths { AreNetLengths net.now.whole.now.arcs.items cert.now.x.items }
-    requires admissible { IsAdmissible (network net.now.whole.now) (entries cert.now.x.items) }
-    requires dual { IsSmallDual (dual cert.now.dual) }
-    requires tangle { tangle_number (network net.now.whole.now) ≤ MAX_TANGLE }
+fn check_dual(alloc: Global, listed: &Listed) -> Result<CertVerdict, Memory>
     ensures { IfOk result (λ v.
-        v ≡ refuse_dual (verdict (matching_graph (network net.now.whole.now) 1 cert.now.x.items) (dual cert.now.dual))
-        (sums_verdict (network net.now.whole.now) (certificate cert.now))) }
+        v ≡ refuse_dual
+        (verdict (matching_graph (network listed.now.net.whole.now) 1 listed.now.cert.now.x.items)
+        (dual listed.now.cert.now.dual))
+        (sums_verdict (network listed.now.net.whole.now) (certificate listed.now.cert.now))) }
 {
-    let gadget = graph_of(alloc, net, &cert.x, 1)?;
+    let net = BoundedNet {
+        whole: listed.net.whole,
+    };
+    let gadget = graph_of(alloc, &net, &listed.cert.x, 1)?;
     let verdict = dual_ok(
         alloc,
         &SmallGraph {
             whole: &gadget.graph,
         },
-        &cert.dual,
+        &listed.cert.dual,
     )?;
     match verdict {
-        Verdict::Yes { sum } => Ok(sum_verdict(net, cert, &gadget.low, sum)),
+        Verdict::Yes { sum } => Ok(sum_verdict(listed, &gadget.low, sum)),
         _ => Ok(CertVerdict::Dual { verdict }),
     }
 }

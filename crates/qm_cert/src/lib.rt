@@ -3,6 +3,7 @@
 
 mod accept;
 mod list;
+mod listed;
 mod sides;
 mod sum;
 

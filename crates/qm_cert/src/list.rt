@@ -2,12 +2,11 @@
 
 ghost use Rattle.std.specs.Prelude.{◌≡◌, ℕ, ◌^◌, ◌<◌, ◌≤◌, length, slice_index, IfOk};
 ghost use Rattle.def_flow.specs.Network.{network};
-ghost use Rattle.def_flow.specs.Admissible.{AreNetLengths};
 ghost use Rattle.qm_cert.specs.Faults.{compared_verdict, list_verdict, unequal_verdict};
 
-use crate::sides::{first_below, first_difference, side_sums};
+use crate::sides::{Sides, first_below, first_difference, side_sums};
 use def_flow::{CertVerdict, MAX_LENGTH};
-use qm_net::BoundedNet;
+use qm_net::{BoundedNet, Lengths};
 use std::alloc::{AllocError, Global};
 
 /// The first fault of a list: lengths are missing or too many, an arc is shorter than its floor, or the sides of a
@@ -27,40 +26,38 @@ pub(crate) fn list_fault(
             given: x.len() as u32,
         }));
     }
-    if let Some(k) = first_below(net.whole, x) {
+    let lengths = Lengths { net: *net, x };
+    if let Some(k) = first_below(&lengths) {
         return Ok(Some(CertVerdict::Below {
             arc: k as u32,
             length: x[k],
         }));
     }
-    unequal_sides(alloc, net, x)
+    unequal_sides(alloc, &lengths)
 }
 
 /// The least node whose sides have unequal sums, with these.
-fn unequal_sides(
-    alloc: Global,
-    net: &BoundedNet,
-    x: &[u64],
-) -> Result<Option<CertVerdict>, AllocError>
-    requires { AreNetLengths net.now.whole.now.arcs.items x.now }
-    ensures { IfOk result (λ o. o ≡ unequal_verdict (network net.now.whole.now) x.now) }
+fn unequal_sides(alloc: Global, lengths: &Lengths) -> Result<Option<CertVerdict>, AllocError>
+    ensures { IfOk result (λ o. o ≡ unequal_verdict (network lengths.now.net.whole.now) lengths.now.x.now) }
 {
-    let plus = side_sums(alloc, net, x, true)?;
-    let minus = side_sums(alloc, net, x, false)?;
-    Ok(difference(&plus, &minus))
+    let plus = side_sums(alloc, lengths, true)?;
+    let minus = side_sums(alloc, lengths, false)?;
+    let sides = Sides {
+        plus: &plus,
+        minus: &minus,
+    };
+    Ok(difference(&sides))
 }
 
-/// The least place at which two tables of sums differ, with both sums.
-fn difference(plus: &[u128], minus: &[u128]) -> Option<CertVerdict>
-    requires same { length plus.now ≡ length minus.now }
-    requires few { length plus.now < 2 ^ 32 }
-    ensures { result ≡ compared_verdict plus.now minus.now }
+/// The least node whose sides have unequal sums, with both sums.
+fn difference(sides: &Sides) -> Option<CertVerdict>
+    ensures { result ≡ compared_verdict sides.now.plus.now sides.now.minus.now }
 {
-    match first_difference(plus, minus) {
+    match first_difference(sides) {
         Some(v) => Some(CertVerdict::Unequal {
             node: v as u32,
-            plus: plus[v],
-            minus: minus[v],
+            plus: sides.plus[v],
+            minus: sides.minus[v],
         }),
         None => None,
     }

@@ -6,40 +6,45 @@ ghost use Rattle.def_math.specs.Searches.{least};
 ghost use Rattle.def_math.specs.Tables.{IsRaised};
 ghost use Rattle.def_flow.specs.Network.{network};
 ghost use Rattle.def_flow.specs.Accepted.{below_fault};
-ghost use Rattle.def_flow.specs.Admissible.{AreNetLengths};
 ghost use Rattle.qm_cert.specs.Sides.{arc_put, end_put, AreSides};
 
-use def_flow::{Arc, End, MAX_LENGTH, Net};
-use qm_net::BoundedNet;
+use def_flow::{Arc, End};
+use qm_net::Lengths;
 use std::alloc::{AllocError, Global};
+
+/// For each node the sums of the lengths on both its sides. There are few nodes.
+#[derive(Clone, Copy)]
+pub(crate) struct Sides<'a> {
+    pub plus: &'a [u128],
+    pub minus: &'a [u128],
+    ghost same: { length plus.now ≡ length minus.now },
+    ghost few: { length plus.now < 2 ^ 32 },
+}
 
 /// For each node the sum of the lengths at its ends on one side. Linear.
 pub(crate) fn side_sums(
     alloc: Global,
-    net: &BoundedNet,
-    x: &[u64],
+    lengths: &Lengths,
     plus: bool,
 ) -> Result<Vec<u128>, AllocError>
-    requires { AreNetLengths net.now.whole.now.arcs.items x.now }
     ensures sides { IfOk result (λ sums.
-        AreSides net.now.whole.now.nodes net.now.whole.now.arcs.items x.now plus
-        (length net.now.whole.now.arcs.items) sums.items) }
+        AreSides lengths.now.net.whole.now.nodes lengths.now.net.whole.now.arcs.items lengths.now.x.now plus
+        (length lengths.now.net.whole.now.arcs.items) sums.items) }
     ensures few { IfOk result (λ sums. length sums.items < 2 ^ 32) }
 {
-    let mut sums = vec![in alloc; 0u128; net.whole.nodes as usize]?;
-    add_arcs(net, x, plus, &mut sums);
+    let mut sums = vec![in alloc; 0u128; lengths.net.whole.nodes as usize]?;
+    add_arcs(lengths, plus, &mut sums);
     Ok(sums)
 }
 
 /// Adds the lengths of all arcs at those of their ends that are on a side.
-fn add_arcs(net: &BoundedNet, x: &[u64], plus: bool, sums: &mut [u128])
-    requires lengths { AreNetLengths net.now.whole.now.arcs.items x.now }
-    requires start { sums.old ≡ replicate net.now.whole.now.nodes 0 }
-    ensures { AreSides net.now.whole.now.nodes net.now.whole.now.arcs.items x.now plus
-        (length net.now.whole.now.arcs.items) sums.new }
+fn add_arcs(lengths: &Lengths, plus: bool, sums: &mut [u128])
+    requires { sums.old ≡ replicate lengths.now.net.whole.now.nodes 0 }
+    ensures { AreSides lengths.now.net.whole.now.nodes lengths.now.net.whole.now.arcs.items lengths.now.x.now plus
+        (length lengths.now.net.whole.now.arcs.items) sums.new }
 {
-    for (k, entry) in x.iter().enumerate() {
-        add_arc(sums, net.arc(k), *entry, plus);
+    for (k, entry) in lengths.x.iter().enumerate() {
+        add_arc(sums, lengths.net.arc(k), *entry, plus);
     }
 }
 
@@ -47,7 +52,6 @@ fn add_arcs(net: &BoundedNet, x: &[u64], plus: bool, sums: &mut [u128])
 fn add_arc(sums: &mut [u128], arc: &Arc, amount: u64, plus: bool)
     requires left { arc.now.left.node < length sums.old }
     requires right { IfSome arc.now.right (λ e. e.node < length sums.old) }
-    requires short { amount ≤ MAX_LENGTH }
     requires small { (v : ℕ) → slice_index sums.old v ≤ 2 ^ 100 }
     ensures { IsRaised (arc_put plus arc.now amount) sums.old sums.new }
 {
@@ -60,7 +64,6 @@ fn add_arc(sums: &mut [u128], arc: &Arc, amount: u64, plus: bool)
 /// Adds a length at an end, if this is on the side.
 fn add_end(sums: &mut [u128], end: &End, amount: u64, plus: bool)
     requires at { end.now.node < length sums.old }
-    requires short { amount ≤ MAX_LENGTH }
     requires small { (v : ℕ) → slice_index sums.old v ≤ 2 ^ 101 }
     ensures { IsRaised (end_put plus end.now amount) sums.old sums.new }
 {
@@ -69,14 +72,15 @@ fn add_end(sums: &mut [u128], end: &End, amount: u64, plus: bool)
     }
 }
 
-/// The least place at which two tables differ.
-pub(crate) fn first_difference(plus: &[u128], minus: &[u128]) -> Option<usize>
-    requires { length plus.now ≡ length minus.now }
-    ensures least { result ≡ least (λ v. not (slice_index plus.now v == slice_index minus.now v)) (length plus.now) }
-    ensures low { IfSome result (λ v. v < length plus.now) }
+/// The least node whose sides have unequal sums.
+pub(crate) fn first_difference(sides: &Sides) -> Option<usize>
+    ensures least { result
+        ≡ least (λ v. not (slice_index sides.now.plus.now v == slice_index sides.now.minus.now v))
+        (length sides.now.plus.now) }
+    ensures low { IfSome result (λ v. v < length sides.now.plus.now) }
 {
-    for (v, sum) in plus.iter().enumerate() {
-        if *sum != minus[v] {
+    for (v, sum) in sides.plus.iter().enumerate() {
+        if *sum != sides.minus[v] {
             return Some(v);
         }
     }
@@ -84,13 +88,12 @@ pub(crate) fn first_difference(plus: &[u128], minus: &[u128]) -> Option<usize>
 }
 
 /// The least arc that is shorter than its floor.
-pub(crate) fn first_below(net: &Net, x: &[u64]) -> Option<usize>
-    requires same { length x.now ≡ length net.now.arcs.items }
-    ensures least { result ≡ below_fault (network net.now) x.now }
-    ensures low { IfSome result (λ k. k < length x.now) }
+pub(crate) fn first_below(lengths: &Lengths) -> Option<usize>
+    ensures least { result ≡ below_fault (network lengths.now.net.whole.now) lengths.now.x.now }
+    ensures low { IfSome result (λ k. k < length lengths.now.x.now) }
 {
-    for (k, entry) in x.iter().enumerate() {
-        if *entry < u64::from(net.arcs[k].floor) {
+    for (k, entry) in lengths.x.iter().enumerate() {
+        if *entry < u64::from(lengths.net.whole.arcs[k].floor) {
             return Some(k);
         }
     }

@@ -6,21 +6,21 @@ ghost use Rattle.def_flow.specs.Network.{network};
 ghost use Rattle.def_flow.specs.Gadget.{lows as lows_of_list};
 ghost use Rattle.def_matching.specs.Dual.{dual_sum};
 ghost use Rattle.def_flow.specs.Accepted.{certificate, sums_verdict};
-ghost use Rattle.def_flow.specs.Admissible.{AreNetLengths};
 
-use def_flow::{Cert, CertVerdict};
-use qm_net::{BoundedNet, deviation};
+use crate::listed::Listed;
+use def_flow::CertVerdict;
+use qm_net::deviation;
 
 /// The verdict on a certificate whose list is admissible and whose dual says yes: by the dual's sum and twice the
 /// cost of the units that are on, which is the deviation of the list less that of its lows. Linear.
-pub(crate) fn sum_verdict(net: &BoundedNet, cert: &Cert, lows: &[u64], sum: i128) -> CertVerdict
-    requires lengths { AreNetLengths net.now.whole.now.arcs.items cert.now.x.items }
-    requires lows { lows.now ≡ lows_of_list (network net.now.whole.now) 1 cert.now.x.items }
-    requires sum { sum ≡ dual_sum (certificate cert.now).dual }
-    ensures { result ≡ sums_verdict (network net.now.whole.now) (certificate cert.now) }
+pub(crate) fn sum_verdict(listed: &Listed, lows: &[u64], sum: i128) -> CertVerdict
+    requires lows { lows.now ≡ lows_of_list (network listed.now.net.whole.now) 1 listed.now.cert.now.x.items }
+    requires sum { sum ≡ dual_sum (certificate listed.now.cert.now).dual }
+    ensures { result ≡ sums_verdict (network listed.now.net.whole.now) (certificate listed.now.cert.now) }
 {
-    let far = deviation(net.whole, &cert.x);
-    verdict_by_sum(far, sum, twice_between(deviation(net.whole, lows), far))
+    let net = listed.net.whole;
+    let far = deviation(net, &listed.cert.x);
+    verdict_by_sum(far, sum, twice_between(deviation(net, lows), far))
 }
 
 /// Twice the way from one number to another.

@@ -1,6 +1,6 @@
 //! The lows of arcs, and their numbers of units.
 
-ghost use Rattle.std.specs.Prelude.{◌≡◌, ◌+◌, ◌*◌, ◌≤◌, length, IfOk};
+ghost use Rattle.std.specs.Prelude.{◌≡◌, ◌+◌, ◌*◌, ◌≤◌, IfOk};
 ghost use Rattle.def_flow.specs.Units.{arcwise, down, low, cap};
 ghost use Rattle.def_flow.specs.Network.{network};
 ghost use Rattle.def_flow.specs.declared.limits.TheConstants.{MAX_STEP};
@@ -9,8 +9,8 @@ ghost use Rattle.std.proofs.Props.{props};
 ghost use Rattle.qm_gadget.specs.Layout.{EndsBelow-prop};
 ghost use Rattle.qm_gadget.specs.Ready.{IsReady};
 
-use def_flow::{Arc, Net};
-use qm_net::BoundedNet;
+use def_flow::Arc;
+use qm_net::{BoundedNet, Lengths};
 use std::alloc::{AllocError, Global};
 
 /// The lengths that the units of all arcs can give: the least length of each arc, its number of units, and the step.
@@ -23,6 +23,15 @@ pub(crate) struct Boxes<'a> {
     pub step: u64,
     ghost steps: { (1 ≤ step) × (step ≤ MAX_STEP) },
     ghost ready: { IsReady (network net.whole.now) step lows.now caps.now } by { Prim.hlevel (EndsBelow-prop, props) },
+}
+
+/// Lengths that are at least the floors of their arcs, and how far a step goes.
+#[derive(Clone, Copy)]
+pub(crate) struct Stepped<'n, 'x> {
+    pub lengths: Lengths<'n, 'x>,
+    pub step: u64,
+    ghost high: { AreHigh lengths.net.whole.now.arcs.items lengths.x.now },
+    ghost steps: { (1 ≤ step) × (step ≤ MAX_STEP) },
 }
 
 /// How many steps an arc of this length can give up, at most 2 of them.
@@ -45,39 +54,29 @@ fn low_of(arc: &Arc, step: u64, length: u64) -> u64
 }
 
 /// The least length of each arc that the units can give.
-pub(crate) fn lows_of(
-    alloc: Global,
-    net: &Net,
-    step: u64,
-    x: &[u64],
-) -> Result<Vec<u64>, AllocError>
-    requires step { (1 ≤ step) × (step ≤ MAX_STEP) }
-    requires same { length x.now ≡ length net.now.arcs.items }
-    requires high { AreHigh net.now.arcs.items x.now }
-    ensures { IfOk result (λ lows. lows.items ≡ arcwise (low step) net.now.arcs.items x.now) }
+pub(crate) fn lows_of(alloc: Global, stepped: &Stepped) -> Result<Vec<u64>, AllocError>
+    ensures { IfOk result (λ lows.
+        lows.items
+        ≡ arcwise (low stepped.now.step) stepped.now.lengths.net.whole.now.arcs.items stepped.now.lengths.x.now) }
 {
-    let mut lows = Vec::with_capacity(alloc, x.len())?;
-    for (k, length) in x.iter().enumerate() {
-        lows.push(low_of(&net.arcs[k], step, *length))?;
+    let mut lows = Vec::with_capacity(alloc, stepped.lengths.x.len())?;
+    for (k, length) in stepped.lengths.x.iter().enumerate() {
+        let arc = &stepped.lengths.net.whole.arcs[k];
+        lows.push(low_of(arc, stepped.step, *length))?;
     }
     Ok(lows)
 }
 
 /// The number of units of each arc.
-pub(crate) fn caps_of(
-    alloc: Global,
-    net: &Net,
-    step: u64,
-    x: &[u64],
-) -> Result<Vec<u32>, AllocError>
-    requires step { 1 ≤ step }
-    requires same { length x.now ≡ length net.now.arcs.items }
-    requires high { AreHigh net.now.arcs.items x.now }
-    ensures { IfOk result (λ caps. caps.items ≡ arcwise (cap step) net.now.arcs.items x.now) }
+pub(crate) fn caps_of(alloc: Global, stepped: &Stepped) -> Result<Vec<u32>, AllocError>
+    ensures { IfOk result (λ caps.
+        caps.items
+        ≡ arcwise (cap stepped.now.step) stepped.now.lengths.net.whole.now.arcs.items stepped.now.lengths.x.now) }
 {
-    let mut caps = Vec::with_capacity(alloc, x.len())?;
-    for (k, length) in x.iter().enumerate() {
-        caps.push(steps_down(&net.arcs[k], step, *length) as u32 + 2)?;
+    let mut caps = Vec::with_capacity(alloc, stepped.lengths.x.len())?;
+    for (k, length) in stepped.lengths.x.iter().enumerate() {
+        let arc = &stepped.lengths.net.whole.arcs[k];
+        caps.push(steps_down(arc, stepped.step, *length) as u32 + 2)?;
     }
     Ok(caps)
 }

@@ -11,13 +11,13 @@ ghost use Rattle.def_flow.specs.Admissible.{AreNetLengths};
 ghost use Rattle.qm_gadget.specs.Ready.{graph_by_lows};
 
 use crate::Memory;
-use crate::boxes::{Boxes, caps_of, lows_of};
+use crate::boxes::{Boxes, Stepped, caps_of, lows_of};
 use crate::copies::Copies;
-use crate::layout::lay_out;
+use crate::layout::{Covered, lay_out};
 use crate::plan::plan_of;
 use def_flow::{Gadget, MAX_STEP, MAX_TANGLE};
 use def_matching::WGraph;
-use qm_net::BoundedNet;
+use qm_net::{BoundedNet, Lengths};
 use std::alloc::{AllocError, Global};
 
 /// The matching graph of an admissible list of lengths, for lists that differ from it by steps of this length.
@@ -37,8 +37,10 @@ pub fn graph_of(alloc: Global, net: &BoundedNet, x: &[u64], step: u64) -> Result
     ensures edges { IfOk result (λ g. 8 * length g.graph.edges.items ≤ 9 * tangle_number (network net.now.whole.now)) }
     ensures cheap { IfOk result (λ g. IsCheap (graph g.graph)) }
 {
-    let low = lows_of(alloc, net.whole, step, x)?;
-    let cap = caps_of(alloc, net.whole, step, x)?;
+    let lengths = Lengths { net: *net, x };
+    let stepped = Stepped { lengths, step };
+    let low = lows_of(alloc, &stepped)?;
+    let cap = caps_of(alloc, &stepped)?;
     let boxes = Boxes {
         net: *net,
         lows: &low,
@@ -64,5 +66,9 @@ fn graph_over(alloc: Global, boxes: &Boxes) -> Result<WGraph, AllocError>
 {
     let plan = plan_of(alloc, boxes)?;
     let copies = Copies::new(alloc, plan.counts)?;
-    lay_out(alloc, &copies, plan.lone, &plan.units)
+    let covered = Covered {
+        copies: &copies,
+        units: &plan.units,
+    };
+    lay_out(alloc, &covered, plan.lone)
 }

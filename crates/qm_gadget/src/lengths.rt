@@ -11,12 +11,13 @@ ghost use Rattle.def_flow.specs.Gadget.{IsGadgetOf, IsInBox};
 ghost use Rattle.def_matching.specs.Matching.{graph, matching_cost, IsPerfect};
 ghost use Rattle.gadget_laws.specs.Marks.{trues};
 ghost use Rattle.gadget_laws.specs.Told.{marks_from, states_told};
-ghost use Rattle.qm_gadget.specs.Layout.{copies_in, AreAtNodes};
+ghost use Rattle.std.proofs.Props.{props};
+ghost use Rattle.qm_gadget.specs.Layout.{copies_in, AreAtNodes, EndsBelow-prop};
 ghost use Rattle.qm_gadget.specs.Read.{first_below, skip_below, width_of_unit, lengths_by, lengths_read, widths_over};
 
 use crate::Memory;
 use crate::boxes::Boxes;
-use crate::marks::width_of;
+use crate::marks::{Counted, width_of};
 use crate::plan::plan_of;
 use def_flow::{ArcUnit, Gadget};
 use qm_net::BoundedNet;
@@ -49,6 +50,15 @@ pub fn lengths_of(
     lengths_over(alloc, &boxes, m, g.graph.edges.len() as u32)
 }
 
+/// Units with their ends at nodes, of which each has few copies.
+#[derive(Clone, Copy)]
+struct Spread<'c, 'u> {
+    counts: &'c [u32],
+    units: &'u [ArcUnit],
+    ghost at: { AreAtNodes (length counts.now) units.now } by { Prim.hlevel (EndsBelow-prop, props) },
+    ghost few: { (v : ℕ) → slice_index counts.now v ≤ 2 ^ 27 },
+}
+
 /// The same, by the lows and caps of the gadget and the number of its edges.
 fn lengths_over(alloc: Global, boxes: &Boxes, m: &[u32], edges: u32) -> Result<Vec<u64>, AllocError>
     requires edges { (edges ≤ 2 ^ 26)
@@ -60,30 +70,33 @@ fn lengths_over(alloc: Global, boxes: &Boxes, m: &[u32], edges: u32) -> Result<V
         edges m.now) }
 {
     let plan = plan_of(alloc, boxes)?;
-    let ons = states_in(alloc, &plan.counts, &plan.units, m, edges)?;
+    let spread = Spread {
+        counts: &plan.counts,
+        units: &plan.units,
+    };
+    let ons = states_in(alloc, &spread, m, edges)?;
     raise(alloc, boxes, &ons)
 }
 
 /// The states of the units that a matching among so many edges tells.
-fn states_in(
-    alloc: Global,
-    counts: &[u32],
-    units: &[ArcUnit],
-    m: &[u32],
-    edges: u32,
-) -> Result<Vec<bool>, AllocError>
-    requires at { AreAtNodes (length counts.now) units.now }
-    requires few { (edges ≤ 2 ^ 26) × ((v : ℕ) → slice_index counts.now v ≤ 2 ^ 27) }
+fn states_in(alloc: Global, spread: &Spread, m: &[u32], edges: u32) -> Result<Vec<bool>, AllocError>
+    requires few { edges ≤ 2 ^ 26 }
     requires increasing { IsIncreasing 0 edges m.now }
-    requires wide { count (width_of_unit (copies_in counts.now)) units.now ≤ edges }
-    ensures { IfOk result (λ ons. ons.items ≡ states_told (copies_in counts.now) units.now (marks_from 0 edges m.now)) }
+    requires wide { count (width_of_unit (copies_in spread.now.counts.now)) spread.now.units.now ≤ edges }
+    ensures { IfOk result (λ ons.
+        ons.items
+        ≡ states_told (copies_in spread.now.counts.now) spread.now.units.now (marks_from 0 edges m.now)) }
 {
     let mut ons = Vec::new(alloc);
     let mut k = 0;
     let mut at = 0;
-    for unit in units {
-        push_on(&mut ons, is_on(counts, unit, m, at, k))?;
-        k += width_of(counts, unit);
+    for unit in spread.units {
+        let counted = Counted {
+            counts: spread.counts,
+            unit,
+        };
+        push_on(&mut ons, is_on(&counted, m, at, k))?;
+        k += width_of(&counted);
         at = past_below(m, at, k);
     }
     Ok(ons)
@@ -97,15 +110,16 @@ fn push_on(ons: &mut Vec<bool>, on: bool) -> Result<(), AllocError>
 }
 
 /// Whether a unit is on, whose first edge is `k`, where the matching from place `at` on has no earlier edge.
-fn is_on(counts: &[u32], unit: &ArcUnit, m: &[u32], at: usize, k: u32) -> bool
-    requires at { unit.now.left.node < length counts.now }
-    requires few { (k ≤ 2 ^ 26) × ((v : ℕ) → slice_index counts.now v ≤ 2 ^ 27) }
+fn is_on(counted: &Counted, m: &[u32], at: usize, k: u32) -> bool
+    requires { k ≤ 2 ^ 26 }
     ensures { result
-        ≡ (beq unit.now.left.plus (first_below (drop at m.now) (k + slice_index counts.now unit.now.left.node))) }
+        ≡ (beq counted.now.unit.now.left.plus
+        (first_below (drop at m.now) (k + slice_index counted.now.counts.now counted.now.unit.now.left.node))) }
 {
-    let end = k + counts[unit.left.node as usize];
+    let left = &counted.unit.left;
+    let end = k + counted.counts[left.node as usize];
     let chosen = at < m.len() && m[at] < end;
-    unit.left.plus == chosen
+    left.plus == chosen
 }
 
 /// The first place from `at` on at which an edge is not below `end`.

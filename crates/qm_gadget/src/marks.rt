@@ -16,11 +16,22 @@ use crate::states::{Stated, bump, is_active};
 use def_flow::{ArcUnit, End};
 use std::alloc::{AllocError, Global};
 
-/// How many copies each node has, and how many of them are in use.
+/// How many copies each node has, which are few, and how many of them are in use.
 #[derive(Clone, Copy)]
-struct Copied<'a> {
-    counts: &'a [u32],
-    used: &'a [u32],
+struct Copied<'c, 'u> {
+    counts: &'c [u32],
+    used: &'u [u32],
+    ghost same: { length used.now ≡ length counts.now },
+    ghost few: { (v : ℕ) → slice_index counts.now v ≤ 2 ^ 27 },
+}
+
+/// A unit with its ends at nodes, of which each has few copies.
+#[derive(Clone, Copy)]
+pub(crate) struct Counted<'c, 'u> {
+    pub counts: &'c [u32],
+    pub unit: &'u ArcUnit,
+    ghost at: { IsAtNodes (length counts.now) unit.now } by { Prim.hlevel (EndsBelow-prop, props) },
+    ghost few: { (v : ℕ) → slice_index counts.now v ≤ 2 ^ 27 },
 }
 
 /// A unit in its state.
@@ -60,8 +71,7 @@ fn push_end_marks(
     on: bool,
 ) -> Result<(), AllocError>
     requires at { end.now.node < length copied.now.counts.now }
-    requires same { length copied.now.used.now ≡ length copied.now.counts.now }
-    requires few { (k ≤ 2 ^ 28) × (slice_index copied.now.counts.now end.now.node ≤ 2 ^ 28) }
+    requires few { k ≤ 2 ^ 28 }
     ensures { OnOk result
         (m.new.items ≡ m.old.items ++ places k
         (end_marks (copies_in copied.now.counts.now) (copies_in copied.now.used.now)
@@ -86,8 +96,7 @@ fn push_right_marks(
     right: &End,
 ) -> Result<(), AllocError>
     requires at { right.now.node < length copied.now.counts.now }
-    requires same { length copied.now.used.now ≡ length copied.now.counts.now }
-    requires few { (k ≤ 2 ^ 28) × (slice_index copied.now.counts.now right.now.node ≤ 2 ^ 28) }
+    requires few { k ≤ 2 ^ 28 }
     ensures { OnOk result
         (m.new.items ≡ m.old.items ++ places k
         (right_marks (copies_in copied.now.counts.now) (copies_in copied.now.used.now)
@@ -109,63 +118,65 @@ fn push_right_marks(
 fn push_unit_marks(
     m: &mut Vec<u32>,
     k: u32,
-    counts: &[u32],
+    counted: &Counted,
     used: &mut [u32],
-    switched: &Switched,
+    on: bool,
 ) -> Result<(), AllocError>
-    requires at { IsAtNodes (length counts.now) switched.now.unit.now }
-    requires same { length used.old ≡ length counts.now }
-    requires few { (k ≤ 2 ^ 27) × ((v : ℕ) → slice_index counts.now v ≤ 2 ^ 27) }
+    requires same { length used.old ≡ length counted.now.counts.now }
+    requires few { k ≤ 2 ^ 27 }
     requires small { (v : ℕ) → slice_index used.old v ≤ 2 ^ 30 }
     ensures marks { OnOk result
         (m.new.items ≡ m.old.items ++ places k
-        (marks_by (copies_in counts.now) (copies_in used.old)
-        switched.now.on switched.now.unit.now.left switched.now.unit.now.right)) }
-    ensures used { OnOk result (IsRaised (λ v. active_at v switched.now.unit.now switched.now.on) used.old used.new) }
+        (marks_by (copies_in counted.now.counts.now) (copies_in used.old)
+        on counted.now.unit.now.left counted.now.unit.now.right)) }
+    ensures used { OnOk result (IsRaised (λ v. active_at v counted.now.unit.now on) used.old used.new) }
 {
-    let left = &switched.unit.left;
+    let left = &counted.unit.left;
     push_end_marks(
         m,
         k,
         &Copied {
-            counts,
+            counts: counted.counts,
             used: &*used,
         },
         left,
-        switched.on,
+        on,
     )?;
-    bump(used, left, switched.on);
-    let after = k + counts[left.node as usize];
-    match &switched.unit.right {
-        None => push_mark(m, after, !is_active(left, switched.on)),
+    bump(used, left, on);
+    let after = k + counted.counts[left.node as usize];
+    match &counted.unit.right {
+        None => push_mark(m, after, !is_active(left, on)),
         Some(right) => {
             push_right_marks(
                 m,
                 after,
                 &Copied {
-                    counts,
+                    counts: counted.counts,
                     used: &*used,
                 },
-                switched,
+                &Switched {
+                    unit: counted.unit,
+                    on,
+                },
                 right,
             )?;
-            bump(used, right, switched.on);
+            bump(used, right, on);
             Ok(())
         }
     }
 }
 
 /// How many edges a unit has.
-pub(crate) fn width_of(counts: &[u32], unit: &ArcUnit) -> u32
-    requires at { IsAtNodes (length counts.now) unit.now }
-    requires few { (v : ℕ) → slice_index counts.now v ≤ 2 ^ 27 }
-    ensures { result ≡ width_by (copies_in counts.now) unit.now.left unit.now.right }
+pub(crate) fn width_of(counted: &Counted) -> u32
+    ensures { result
+        ≡ width_by (copies_in counted.now.counts.now) counted.now.unit.now.left counted.now.unit.now.right }
 {
-    let left = counts[unit.left.node as usize];
+    let unit = counted.unit;
+    let left = counted.counts[unit.left.node as usize];
     match &unit.right {
         None => left + 1,
         Some(right) => {
-            let right_count = counts[right.node as usize];
+            let right_count = counted.counts[right.node as usize];
             if have_like_signs(&unit.left, right) {
                 left + (right_count + 1)
             } else {
@@ -216,9 +227,12 @@ fn push_all_marks(m: &mut Vec<u32>, laid: &Laid, used: &mut [u32]) -> Result<u32
 {
     let mut k = 0;
     for (i, unit) in laid.stated.units.iter().enumerate() {
-        let on = laid.stated.ons[i];
-        push_unit_marks(m, k, laid.counts, used, &Switched { unit, on })?;
-        k += width_of(laid.counts, unit);
+        let counted = Counted {
+            counts: laid.counts,
+            unit,
+        };
+        push_unit_marks(m, k, &counted, used, laid.stated.ons[i])?;
+        k += width_of(&counted);
     }
     Ok(k)
 }

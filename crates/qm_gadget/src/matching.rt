@@ -60,6 +60,7 @@ fn matching_by(alloc: Global, boxes: &Boxes, x2: &[u64]) -> Result<Vec<u32>, All
     let raised = ups_of(alloc, boxes, x2)?;
     let ons = states_of(alloc, boxes.caps, &raised)?;
     let stated = Stated {
+        nodes: boxes.net.whole.nodes,
         units: &plan.units,
         ons: &ons,
     };

@@ -28,10 +28,11 @@ pub(crate) fn plan_of(alloc: Global, boxes: &Boxes) -> Result<Plan, AllocError>
     let downs = downs_of(alloc, boxes.caps)?;
     let ons = states_of(alloc, boxes.caps, &downs)?;
     let stated = Stated {
+        nodes: boxes.net.whole.nodes,
         units: &units,
         ons: &ons,
     };
-    let counts = count_active(alloc, boxes.net.whole.nodes, &stated)?;
+    let counts = count_active(alloc, &stated)?;
     let lone = is_rim_odd(&stated);
     Ok(Plan {
         units,

@@ -5,7 +5,8 @@ ghost use Rattle.std.specs.Prelude.{slice_index, map, replicate, OnOk, IfOk};
 ghost use Rattle.def_math.specs.Tables.{IsRaised};
 ghost use Rattle.def_flow.specs.Units.{active_at, run, rim_active, alone_active};
 ghost use Rattle.def_flow.specs.Units.{is_active as is_active_end};
-ghost use Rattle.qm_gadget.specs.Layout.{AreAtNodes, IsAtNodes};
+ghost use Rattle.std.proofs.Props.{props};
+ghost use Rattle.qm_gadget.specs.Layout.{AreAtNodes, EndsBelow-prop, IsAtNodes};
 ghost use Rattle.def_flow.specs.Units.{states_over};
 ghost use Rattle.qm_gadget.specs.Over.{end_active, AreCounts};
 
@@ -61,34 +62,31 @@ pub(crate) fn is_active(end: &End, on: bool) -> bool
     end.plus == on
 }
 
-/// Units, each in a state. There are few.
+/// Units between so many nodes, each in a state. There are few.
 #[derive(Clone, Copy)]
 pub(crate) struct Stated<'a> {
+    pub nodes: u32,
     pub units: &'a [ArcUnit],
     pub ons: &'a [bool],
+    ghost at: { AreAtNodes nodes units.now } by { Prim.hlevel (EndsBelow-prop, props) },
     ghost each: { length units.now ≡ length ons.now },
     ghost few: { length units.now ≤ 2 ^ 25 },
 }
 
 /// How many active unit ends there are at each node.
-pub(crate) fn count_active(
-    alloc: Global,
-    nodes: u32,
-    stated: &Stated,
-) -> Result<Vec<u32>, AllocError>
-    requires { AreAtNodes nodes stated.now.units.now }
-    ensures { IfOk result (λ counts. AreCounts nodes stated.now.units.now stated.now.ons.now counts.items) }
+pub(crate) fn count_active(alloc: Global, stated: &Stated) -> Result<Vec<u32>, AllocError>
+    ensures { IfOk result (λ counts.
+        AreCounts stated.now.nodes stated.now.units.now stated.now.ons.now counts.items) }
 {
-    let mut counts = vec![in alloc; 0u32; nodes as usize]?;
+    let mut counts = vec![in alloc; 0u32; stated.nodes as usize]?;
     bump_all(&mut counts, stated);
     Ok(counts)
 }
 
 /// Adds to the number of each node its active unit ends.
 fn bump_all(counts: &mut [u32], stated: &Stated)
-    requires at { AreAtNodes (length counts.old) stated.now.units.now }
-    requires start { counts.old ≡ replicate (length counts.old) 0 }
-    ensures { AreCounts (length counts.old) stated.now.units.now stated.now.ons.now counts.new }
+    requires { counts.old ≡ replicate stated.now.nodes 0 }
+    ensures { AreCounts stated.now.nodes stated.now.units.now stated.now.ons.now counts.new }
 {
     for (k, unit) in stated.units.iter().enumerate() {
         bump_unit(counts, unit, stated.ons[k]);

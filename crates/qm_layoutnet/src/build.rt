@@ -19,7 +19,7 @@ use crate::ends::put_ends;
 use def_flow::{Arc, End, MAX_TANGLE, Net, Settings};
 use def_layout::TMesh;
 use def_layoutnet::NetFail;
-use qm_net::tangle_of;
+use qm_net::{BoundedNet, tangle_of};
 use std::alloc::{AllocError, Global};
 
 /// The network of the layout of a mesh near its old lengths. Linear in the arcs and in the sides of patches.
@@ -38,7 +38,7 @@ pub fn net_of(alloc: Global, t: &TMesh, set: &Settings) -> Result<Net, NetFail>
         set.now) }
 {
     let net = any_net_of(alloc, t, set)?;
-    let tangle = tangle_of(alloc, &net)?;
+    let tangle = tangle_of(alloc, &BoundedNet { whole: &net })?;
     if tangle > u128::from(MAX_TANGLE) {
         return Err(NetFail::Tangled {
             count: tangle as u64,

@@ -1,5 +1,5 @@
 -- The ends at each node.
-use Rattle.std.specs.Prelude.{ℕ, ◌<◌, ◌==◌, cond, List, length, slice_index_or}
+use Rattle.std.specs.Prelude.{ℕ, ◌==◌, cond}
 use Rattle.def_math.specs.Counts.{count}
 use Rattle.def_flow.specs.Network.{Node, EndsBelow, ends}
 use Rattle.def_flow.specs.declared.net.Arc.{Arc}
@@ -11,7 +11,3 @@ ends_at a v = count (λ e. cond (e.node == v) 1 0) (ends a)
 -- The ends of an arc are below a bound.
 abbrev pub HasEndsBelow : (nodes : ℕ) (a : Arc) → Type 0
 HasEndsBelow nodes a = EndsBelow nodes a.left a.right
-
--- The ends of all arcs are below a bound.
-abbrev pub AreEndsBelow : (nodes : ℕ) (arcs : List Arc) → Type 0
-AreEndsBelow nodes arcs = (k : ℕ) (a : Arc) → k < length arcs → HasEndsBelow nodes (slice_index_or arcs k a)

@@ -1,7 +1,9 @@
-//! Networks that are within bounds, as the calls over them take them.
+//! Networks that are within bounds, and lists of lengths over them, as the calls over them take them.
 
 ghost use Rattle.std.specs.Prelude.{◌≡◌, ◌<◌, ◌≤◌, length, IfSome};
-ghost use Rattle.def_flow.specs.Network.{arc_at, network, IsWithinBounds};
+ghost use Rattle.def_flow.specs.Admissible.{AreNetLengths};
+ghost use Rattle.def_flow.specs.Network.{arc_at, network, tangle_number, IsWithinBounds};
+ghost use Rattle.def_flow.specs.declared.limits.TheConstants.{MAX_TANGLE};
 
 use def_flow::{Arc, MAX_FLOOR, MAX_OLD, MAX_WEIGHT, Net};
 
@@ -25,4 +27,20 @@ impl BoundedNet<'_> {
     {
         &self.whole.arcs[k]
     }
+}
+
+/// A network within bounds whose tangle number is not too great for matching graphs.
+#[derive(Clone, Copy, Debug)]
+pub struct LooseNet<'a> {
+    pub whole: &'a Net,
+    pub ghost bounds: { IsWithinBounds (network whole.now) },
+    pub ghost loose: { tangle_number (network whole.now) ≤ MAX_TANGLE },
+}
+
+/// A list of lengths over a network: one for each arc, none above 10^12.
+#[derive(Clone, Copy, Debug)]
+pub struct Lengths<'n, 'x> {
+    pub net: BoundedNet<'n>,
+    pub x: &'x [u64],
+    pub ghost all: { AreNetLengths net.whole.now.arcs.items x.now },
 }

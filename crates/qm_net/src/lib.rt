@@ -8,7 +8,7 @@ mod tangle;
 mod wanted;
 
 pub use balance::admissible;
-pub use bounded::BoundedNet;
+pub use bounded::{BoundedNet, Lengths, LooseNet};
 pub use bounds::{are_lengths, is_within_bounds};
 pub use def_flow::{Arc, End, Net};
 pub use tangle::tangle_of;

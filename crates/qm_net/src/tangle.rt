@@ -1,44 +1,40 @@
 //! The tangle number.
 
 ghost use Rattle.std.specs.Prelude.{◌≡◌, ◌+◌, ◌*◌, ◌^◌, ◌<◌, ◌≤◌, ℕ, length, slice_index, replicate, IfOk};
-ghost use Rattle.def_math.specs.Counts.{count_below};
 ghost use Rattle.def_math.specs.Tables.{at_place, IsRaised, IsTally};
-ghost use Rattle.def_flow.specs.Network.{network, degree, tangle_number, IsWithinBounds};
-ghost use Rattle.qm_net.specs.Degrees.{ends_at, HasEndsBelow, AreEndsBelow};
+ghost use Rattle.def_flow.specs.Network.{network, degree, tangle_number};
+ghost use Rattle.qm_net.specs.Degrees.{ends_at, HasEndsBelow};
 
 use crate::Memory;
-use def_flow::{Arc, End, Net};
+use crate::bounded::BoundedNet;
+use def_flow::{Arc, End};
 use std::alloc::Global;
 
-/// The tangle number of a network: 16 times the square of the number of ends, over all nodes. Linear.
-pub fn tangle_of(alloc: Global, net: &Net) -> Result<u128, Memory>
-    requires { IsWithinBounds (network net.now) }
-    ensures { IfOk result (λ tangle. tangle ≡ tangle_number (network net.now)) }
-{
-    let mut degrees = vec![in alloc; 0u64; net.nodes as usize]?;
-    Ok(tangle_in(&net.arcs, &mut degrees))
+/// How many ends there are at each node of a network. There are few nodes.
+#[derive(Drop)]
+struct Degrees<'a> {
+    net: BoundedNet<'a>,
+    at: Vec<u64>,
+    ghost tally: { IsTally (degree net.whole.now.arcs.items) net.whole.now.nodes at.items },
+    ghost few: { length at.items < 2 ^ 32 },
 }
 
-/// The same, with room to count the ends at each node.
-fn tangle_in(arcs: &[Arc], degrees: &mut [u64]) -> u128
-    requires few { length arcs.now < 2 ^ 32 }
-    requires nodes { length degrees.old < 2 ^ 32 }
-    requires at { AreEndsBelow (length degrees.old) arcs.now }
-    requires start { degrees.old ≡ replicate (length degrees.old) 0 }
-    ensures { result ≡ count_below (λ v. 16 * (degree arcs.now v * degree arcs.now v)) (length degrees.old) }
+/// The tangle number of a network: 16 times the square of the number of ends, over all nodes. Linear.
+pub fn tangle_of(alloc: Global, net: &BoundedNet) -> Result<u128, Memory>
+    ensures { IfOk result (λ tangle. tangle ≡ tangle_number (network net.now.whole.now)) }
 {
-    count_ends(arcs, degrees);
-    sum_of_squares(degrees)
+    let mut at = vec![in alloc; 0u64; net.whole.nodes as usize]?;
+    count_ends(net, &mut at);
+    let degrees = Degrees { net: *net, at };
+    Ok(sum_of_squares(&degrees))
 }
 
 /// Counts the ends at each node.
-fn count_ends(arcs: &[Arc], degrees: &mut [u64])
-    requires few { length arcs.now < 2 ^ 32 }
-    requires at { AreEndsBelow (length degrees.old) arcs.now }
-    requires start { degrees.old ≡ replicate (length degrees.old) 0 }
-    ensures { IsTally (degree arcs.now) (length degrees.old) degrees.new }
+fn count_ends(net: &BoundedNet, degrees: &mut [u64])
+    requires { degrees.old ≡ replicate net.now.whole.now.nodes 0 }
+    ensures { IsTally (degree net.now.whole.now.arcs.items) net.now.whole.now.nodes degrees.new }
 {
-    for arc in arcs {
+    for arc in &net.whole.arcs {
         count_arc(arc, degrees);
     }
 }
@@ -65,14 +61,11 @@ fn count_end(end: &End, degrees: &mut [u64])
 }
 
 /// 16 times the square of each number, summed.
-fn sum_of_squares(degrees: &[u64]) -> u128
-    requires few { length degrees.now < 2 ^ 32 }
-    requires small { (v : ℕ) → slice_index degrees.now v ≤ 2 ^ 34 }
-    ensures { result
-        ≡ count_below (λ v. 16 * (slice_index degrees.now v * slice_index degrees.now v)) (length degrees.now) }
+fn sum_of_squares(degrees: &Degrees) -> u128
+    ensures { result ≡ tangle_number (network degrees.now.net.whole.now) }
 {
     let mut total = 0u128;
-    for degree in degrees {
+    for degree in &degrees.at {
         total += square_of(*degree);
     }
     total

@@ -4,13 +4,17 @@ use Rattle.qm_cert.proofs.sides.add_arcs.Goals as goal
 
 pub add_arc-requires-clause-small : goal.add_arc-requires-clause-small
 add_arc-requires-clause-small c =
+    let lengths = c.args.lengths.now in
     λ v. omega (
       arith,
-      sides_low c.args.net.now.whole.now.nodes c.args.net.now.whole.now.arcs.items c.args.x.now c.args.plus c.loop-k.k
-          c.loop-k.sums c.requires.lengths (omega (arith, c.requires.lengths.count)) c.loop-k.invariant v,
+      sides_low lengths.net.whole.now.nodes lengths.net.whole.now.arcs.items lengths.x.now c.args.plus c.loop-k.k
+          c.loop-k.sums lengths.all (omega (arith, lengths.all.count)) c.loop-k.invariant v,
+      lengths.net.bounds.few,
+      lengths.all.count,
     )
 
 pub loop-k-preserved : goal.loop-k-preserved
 loop-k-preserved c =
-    sides_more c.args.net.now.whole.now.nodes c.args.net.now.whole.now.arcs.items c.args.x.now c.args.plus c.loop-k.k
+    let lengths = c.args.lengths.now in
+    sides_more lengths.net.whole.now.nodes lengths.net.whole.now.arcs.items lengths.x.now c.args.plus c.loop-k.k
     c.loop-k.sums c.add_arc.new.sums c.loop-k.invariant (rw (← c.arc.ensures.value) c.add_arc.ensures)

@@ -3,4 +3,5 @@ use Rattle.def_flow.specs.Network.{arc_at}
 use Rattle.qm_cert.proofs.sides.first_below.Given as goal
 
 abbrev pub invariant-loop-k : goal.invariant-loop-k
-invariant-loop-k l = (j : ℕ) → j < l.k → nat_lt (slice_index l.x j) (arc_at l.net.arcs.items j).floor ≡ false
+invariant-loop-k l = (j : ℕ) → j < l.k
+    → nat_lt (slice_index l.lengths.x.now j) (arc_at l.lengths.net.whole.now.arcs.items j).floor ≡ false

@@ -2,4 +2,5 @@ use Rattle.std.proofs.Common.{◌≡◌, ℕ, ◌<◌, ◌==◌, not, false, sli
 use Rattle.qm_cert.proofs.sides.first_difference.Given as goal
 
 abbrev pub invariant-loop-v : goal.invariant-loop-v
-invariant-loop-v l = (j : ℕ) → j < l.v → not (slice_index l.plus j == slice_index l.minus j) ≡ false
+invariant-loop-v l = (j : ℕ) → j < l.v
+    → not (slice_index l.sides.plus.now j == slice_index l.sides.minus.now j) ≡ false

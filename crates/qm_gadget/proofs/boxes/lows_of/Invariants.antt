@@ -3,4 +3,6 @@ use Rattle.def_flow.specs.Units.{arcwise, low}
 use Rattle.qm_gadget.proofs.boxes.lows_of.Given as goal
 
 abbrev pub invariant-loop-k : goal.invariant-loop-k
-invariant-loop-k l = l.lows.items ≡ arcwise (low l.step) (take l.k l.net.arcs.items) (take l.k l.x)
+invariant-loop-k l =
+    let arcs = l.stepped.lengths.net.whole.now.arcs.items in
+    l.lows.items ≡ arcwise (low l.stepped.step) (take l.k arcs) (take l.k l.stepped.lengths.x.now)

@@ -6,7 +6,8 @@ use Rattle.qm_gadget.proofs.layout.push_units.Given as goal
 
 abbrev pub invariant-loop-unit : goal.invariant-loop-unit
 invariant-loop-unit l = record {
-  edges : l.edges.items ++ units_links (copies_in l.copies.counts.items) l.b (drop l.unit-index l.units)
-      ≡ l.initial.edges.items ++ units_links (copies_in l.copies.counts.items) l.first l.units;
-  place : l.b + count unit_size (drop l.unit-index l.units) ≡ l.first + count unit_size l.units;
+  edges : l.edges.items
+      ++ units_links (copies_in l.covered.copies.now.counts.items) l.b (drop l.unit-index l.covered.units.now)
+      ≡ l.initial.edges.items ++ units_links (copies_in l.covered.copies.now.counts.items) l.first l.covered.units.now;
+  place : l.b + count unit_size (drop l.unit-index l.covered.units.now) ≡ l.first + count unit_size l.covered.units.now;
 }

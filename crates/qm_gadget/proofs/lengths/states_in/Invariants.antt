@@ -6,10 +6,10 @@ use Rattle.qm_gadget.proofs.lengths.states_in.Given as goal
 
 abbrev pub invariant-loop-unit : goal.invariant-loop-unit
 invariant-loop-unit l = record {
-  states : l.ons.items ++ states_told (copies_in l.counts) (drop l.unit-index l.units)
-      (marks_from l.k (l.edges - l.k) (drop l.at l.m)) ≡ states_told (copies_in l.counts) l.units
+  states : l.ons.items ++ states_told (copies_in l.spread.counts.now) (drop l.unit-index l.spread.units.now)
+      (marks_from l.k (l.edges - l.k) (drop l.at l.m)) ≡ states_told (copies_in l.spread.counts.now) l.spread.units.now
       (marks_from 0 l.edges l.m);
   increasing : IsIncreasing l.k l.edges (drop l.at l.m);
-  place : l.k + count (width_of_unit (copies_in l.counts)) (drop l.unit-index l.units) ≤ l.edges;
+  place : l.k + count (width_of_unit (copies_in l.spread.counts.now)) (drop l.unit-index l.spread.units.now) ≤ l.edges;
   inside : l.at ≤ length l.m;
 }

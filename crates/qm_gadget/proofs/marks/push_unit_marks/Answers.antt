@@ -1,36 +1,34 @@
-use Rattle.std.proofs.Common.{◌≡◌, ◌+◌, ◌++◌, [], ◌∷◌, ◌<◌, not, length, slice_index, ◌∙◌, ap, arith}
+use Rattle.std.proofs.Common.{◌≡◌, ℕ, ◌+◌, ◌++◌, [], ◌∷◌, ◌<◌, not, length, slice_index, ◌∙◌, ap, arith}
 use Rattle.std.proofs.lemmas.Result.{on_ok_weaker}
-use Rattle.def_flow.specs.Units.{is_active}
+use Rattle.def_flow.specs.{Units.is_active, declared.units.ArcUnit.ArcUnit}
 use Rattle.gadget_laws.specs.Marks.{places, take_end}
 use Rattle.qm_gadget.specs.Layout.{copies_in}
 use Rattle.qm_gadget.proofs.{Numbers.unit_lone, Numbers.unit_two, NodeCounts.right_at}
 use Rattle.qm_gadget.proofs.marks.push_unit_marks.Goals as goal
 
 pub returns-in-None-clause-marks : goal.returns-in-None-clause-marks
-returns-in-None-clause-marks c = on_ok_weaker c.push_mark.result
+returns-in-None-clause-marks c =
+    let unit : ArcUnit = c.args.counted.now.unit.now in
+    let copies : ℕ → ℕ = copies_in c.args.counted.now.counts.now in
+    on_ok_weaker c.push_mark.result
     (λ pushed. rw c.in-None.is (unit_lone c.args.m.now.items c.push_end_marks.new.m.items c.push_mark.new.m.items
-    c.args.k (copies_in c.args.counts.now) (copies_in c.args.used.now) c.args.switched.now.on
-    c.args.switched.now.unit.now.left
-    c.in_ok-push_end_marks.ensures
-    (pushed ∙ ap (λ b. c.push_end_marks.new.m.items
-    ++ places (c.args.k + slice_index c.args.counts.now c.args.switched.now.unit.now.left.node) (not b ∷ []))
+    c.args.k copies (copies_in c.args.used.now) c.args.on unit.left c.in_ok-push_end_marks.ensures
+    (pushed ∙ ap (λ b. c.push_end_marks.new.m.items ++ places (c.args.k + copies unit.left.node) (not b ∷ []))
     c.is_active.ensures)))
     c.push_mark.ensures
 
 pub returns-in_ok-push_right_marks-in-Some-clause-marks : goal.returns-in_ok-push_right_marks-in-Some-clause-marks
 returns-in_ok-push_right_marks-in-Some-clause-marks c =
-    let at : c.in-Some.right.node < length c.args.used.now =
-    omega (
+    let unit : ArcUnit = c.args.counted.now.unit.now in
+    let at : c.in-Some.right.node < length c.args.used.now = omega (
       arith,
-      right_at (length c.args.counts.now) c.args.switched.now.unit.now.left c.in-Some.right
-          c.args.switched.now.unit.now.right c.in-Some.is c.requires.at,
+      right_at (length c.args.counted.now.counts.now)
+          unit.left c.in-Some.right unit.right c.in-Some.is c.args.counted.now.at,
       c.requires.same,
     ) in
     let taken : slice_index c.bump.new.counts c.in-Some.right.node
-    ≡ take_end (copies_in c.args.used.now) (is_active c.args.switched.now.on c.args.switched.now.unit.now.left)
-    c.args.switched.now.unit.now.left c.in-Some.right.node =
+    ≡ take_end (copies_in c.args.used.now) (is_active c.args.on unit.left) unit.left c.in-Some.right.node =
     c.bump.ensures.each c.in-Some.right.node at in
     rw c.in-Some.is (unit_two c.args.m.now.items c.push_end_marks.new.m.items c.push_right_marks.new.m.items c.args.k
-    (copies_in c.args.counts.now) (copies_in c.args.used.now) (copies_in c.bump.new.counts) c.args.switched.now.on
-    c.args.switched.now.unit.now.left c.in-Some.right
-    taken c.in_ok-push_end_marks.ensures c.in_ok-push_right_marks-in-Some.ensures)
+    (copies_in c.args.counted.now.counts.now) (copies_in c.args.used.now) (copies_in c.bump.new.counts) c.args.on
+    unit.left c.in-Some.right taken c.in_ok-push_end_marks.ensures c.in_ok-push_right_marks-in-Some.ensures)

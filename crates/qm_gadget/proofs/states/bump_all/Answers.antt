@@ -1,4 +1,4 @@
-use Rattle.std.proofs.Common.{length, false, None, pos, arith}
+use Rattle.std.proofs.Common.{false, None, pos, arith}
 use Rattle.def_flow.specs.declared.units.ArcUnit.{ArcUnit}
 use Rattle.qm_gadget.proofs.NodeCounts.{counts_few, counts_more}
 use Rattle.qm_gadget.proofs.states.bump_all.Goals as goal
@@ -8,13 +8,15 @@ no_unit = record { left = record { node = 0; plus = false }; right = None; cost 
 
 pub bump_unit-requires-clause-small : goal.bump_unit-requires-clause-small
 bump_unit-requires-clause-small c =
+    let stated = c.args.stated.now in
     λ v. omega (
       arith,
-      counts_few c.args.stated.now.units.now c.args.stated.now.ons.now c.loop-k.k (length c.args.counts.now)
-          c.loop-k.counts c.loop-k.invariant v,
+      counts_few stated.units.now stated.ons.now c.loop-k.k stated.nodes c.loop-k.counts
+          c.loop-k.invariant v,
     )
 
 pub loop-k-preserved : goal.loop-k-preserved
-loop-k-preserved c = counts_more c.args.stated.now.units.now c.args.stated.now.ons.now c.loop-k.k
-    (length c.args.counts.now) no_unit false c.loop-k.counts c.bump_unit.new.counts c.loop-k-test.true
-    c.args.stated.now.each c.loop-k.invariant c.bump_unit.ensures
+loop-k-preserved c =
+    let stated = c.args.stated.now in
+    counts_more stated.units.now stated.ons.now c.loop-k.k stated.nodes no_unit false c.loop-k.counts
+    c.bump_unit.new.counts c.loop-k-test.true stated.each c.loop-k.invariant c.bump_unit.ensures

@@ -5,9 +5,9 @@ use Rattle.qm_net.proofs.balance.are_balanced.Given as goal
 abbrev pub invariant-loop-first : goal.invariant-loop-first
 invariant-loop-first l = record {
   far : l.first ≤ l.nodes + 2048;
-  same : l.nodes ≡ l.net.whole.now.nodes;
+  same : l.nodes ≡ l.lengths.net.whole.now.nodes;
   few : l.nodes < 2 ^ 32;
-  balanced : IsBlockBalanced l.net.whole.now.arcs.items l.x 0 l.first;
+  balanced : IsBlockBalanced l.lengths.net.whole.now.arcs.items l.lengths.x.now 0 l.first;
 }
 
 abbrev pub decreases-loop-first : goal.decreases-loop-first

@@ -3,4 +3,5 @@ use Rattle.def_flow.specs.Network.{arc_at}
 use Rattle.qm_net.proofs.balance.are_high.Given as goal
 
 abbrev pub invariant-loop-k : goal.invariant-loop-k
-invariant-loop-k l = (j : ℕ) → j < l.k → (arc_at l.arcs j).floor ≤ slice_index l.x j
+invariant-loop-k l = (j : ℕ) → j < l.k
+    → (arc_at l.lengths.net.whole.now.arcs.items j).floor ≤ slice_index l.lengths.x.now j

@@ -1,11 +1,28 @@
-use Rattle.std.proofs.Common.{sym, ◌∙◌}
-use Rattle.qm_net.proofs.Balances.{balanced_by_zeros, zeros_by_balanced}
+use Rattle.std.proofs.Common.{◌≡◌, ◌≤◌, ◌^◌, length, slice_index, refl, sym, ◌∙◌, arith}
+use Rattle.qm_net.specs.Balance.{AreBalances}
+use Rattle.qm_net.proofs.Balances.{balanced_by_zeros, balances_more, balances_none, zeros_by_balanced}
 use Rattle.qm_net.proofs.balance.is_block_balanced.Goals as goal
 
+pub loop-k-init : goal.loop-k-init
+loop-k-init c =
+    balances_none c.args.lengths.now.net.whole.now.arcs.items c.args.lengths.now.x.now c.args.first _ refl
+
+pub loop-k-preserved : goal.loop-k-preserved
+loop-k-preserved c =
+    let lengths = c.args.lengths.now in
+    let inner : slice_index lengths.x.now c.loop-k.k ≤ 10 ^ 12 =
+    lengths.all.small c.loop-k.k (omega (arith, lengths.all.count)) in
+    rw (c.weigh_arc.ensures, c.arc.ensures.value) (balances_more lengths.net.whole.now.arcs.items lengths.x.now
+    c.args.first c.loop-k.k c.loop-k.balances inner c.loop-k.invariant)
+
 pub returns : goal.returns
-returns c = (
-  λ on. balanced_by_zeros c.args.net.now.whole.now.arcs.items c.args.x.now c.args.first c.weigh_arcs.new.balances
-      c.weigh_arcs.ensures (sym c.are_zero.ensures ∙ on),
-  λ balanced. c.are_zero.ensures ∙ zeros_by_balanced c.args.net.now.whole.now.arcs.items c.args.x.now c.args.first
-      c.weigh_arcs.new.balances c.weigh_arcs.ensures balanced,
-)
+returns c =
+    let lengths = c.args.lengths.now in
+    let end : c.loop-k.k ≡ length lengths.net.whole.now.arcs.items = omega (arith, lengths.all.count) in
+    let are : AreBalances lengths.net.whole.now.arcs.items lengths.x.now c.args.first
+    (length lengths.net.whole.now.arcs.items) c.loop-k.balances = rw (sym end) c.loop-k.invariant in (
+      λ on. balanced_by_zeros lengths.net.whole.now.arcs.items lengths.x.now c.args.first c.loop-k.balances are
+          (sym c.are_zero.ensures ∙ on),
+      λ balanced. c.are_zero.ensures ∙ zeros_by_balanced lengths.net.whole.now.arcs.items lengths.x.now c.args.first
+          c.loop-k.balances are balanced,
+    )

@@ -1,9 +1,12 @@
-use Rattle.std.proofs.Common.{◌≡◌, ◌*◌, ◌^◌, ◌≤◌, slice_index}
+use Rattle.std.proofs.Common.{ℕ, ◌≡◌, ◌*◌, ◌^◌, ◌≤◌, slice_index}
 use Rattle.def_math.specs.Counts.{count_below}
 use Rattle.qm_net.proofs.tangle.sum_of_squares.Given as goal
 
 abbrev pub invariant-loop-degree : goal.invariant-loop-degree
-invariant-loop-degree l = record {
-  value : l.total ≡ count_below (λ v. 16 * (slice_index l.degrees v * slice_index l.degrees v)) l.degree-index;
-  small : l.total ≤ l.degree-index * 2 ^ 72;
-}
+invariant-loop-degree l =
+    let degrees = l.degrees.at.items in
+    record {
+      value : l.total ≡ count_below (λ v. 16 * (slice_index degrees v * slice_index degrees v)) l.degree-index;
+      small : l.total ≤ l.degree-index * 2 ^ 72;
+      each : (v : ℕ) → slice_index degrees v ≤ 2 ^ 34;
+    }
