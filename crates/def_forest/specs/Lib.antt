@@ -9,3 +9,4 @@ pub mod Tables
 pub mod Valid
 pub mod Ways
 pub mod Written
+pub mod Needs

@@ -18,7 +18,8 @@ use Rattle.def_forest.specs.{declared.kinds.Label.Label, declared.kinds.Label.Th
 use Rattle.forest_laws.proofs.{Bounds.eqb_order, Graphs.near_even, Graphs.near_odd, Graphs.twin_even, Graphs.twin_odd}
 use Rattle.forest_laws.proofs.{Loads.load_across, Walks.walk_fixed, Writes.true_false}
 use Rattle.qm_pool.specs.declared.pool.Node.{Node}
-use Rattle.qm_forest.specs.Ties.{AreTied, HasSizes, IsLaidOut, IsListed, HiddenTables, IsCounted, IsFresh, AreFeasible}
+use Rattle.def_forest.specs.Needs.{AreFeasible}
+use Rattle.qm_forest.specs.Ties.{AreTied, HasSizes, IsLaidOut, IsListed, HiddenTables, IsCounted, IsFresh}
 use Rattle.qm_forest.specs.Ties.{AreStarts, potential, added}
 use Rattle.qm_forest.proofs.{Apart.or_twice, Forgets.none_counted, KeptTies.tied_as, Ranges.sum_small}
 use Rattle.qm_forest.proofs.Ranges.{read_nat}

@@ -248,14 +248,6 @@ pub record HasLowCosts (g : WeightedGraph) (most edges : ℕ) (lows : List ℤ) 
   pub first : (e : ℕ) → e < edges → slice_index_or lows (edge_at g e).u (pos 0) ≤ℤ (edge_at g e).cost
   pub second : (e : ℕ) → e < edges → slice_index_or lows (edge_at g e).v (pos 0) ≤ℤ (edge_at g e).cost
 
--- A number for each vertex, none of them large, such that no edge has more at its ends than twice its cost.
-pub record AreFeasible (g : WeightedGraph) (lows : List ℤ) : Type 0 where
-  pub size : length lows ≡ g.n
-  pub small : (v : Vertex) → unsigned_abs (slice_index_or lows v (pos 0)) ≤ 2 ^ 60
-  pub edges : (e : ℕ) → e < length g.edges
-      → (slice_index_or lows (edge_at g e).u (pos 0) +ℤ slice_index_or lows (edge_at g e).v (pos 0))
-      ≤ℤ (pos 2 *ℤ (edge_at g e).cost)
-
 -- No cost of the first edges is above a number, up or down, and it is the least such number.
 pub record IsGreatestTo (g : WeightedGraph) (edges most : ℕ) : Type 0 where
   pub above : (e : ℕ) → e < edges → unsigned_abs (edge_at g e).cost ≤ most

@@ -9,7 +9,8 @@ ghost use Rattle.def_forest.specs.Tables.{forest_of, outer_dart, IsValidFor};
 ghost use Rattle.def_forest.specs.Valid.{IsValid};
 ghost use Rattle.def_forest.specs.declared.kinds.EdgeKind.TheVariants.{Augment};
 ghost use Rattle.def_forest.specs.declared.kinds.Label.TheVariants.{Outside};
-ghost use Rattle.qm_forest.specs.Needs.{Allows, ReachesFree};
+ghost use Rattle.def_forest.specs.Needs.{Allows};
+ghost use Rattle.qm_forest.specs.Needs.{ReachesFree};
 ghost use Rattle.qm_forest.specs.Ties.{fixed_of, HasSameNest, relabelled, remated};
 
 use crate::darts::{near, twin};

@@ -4,7 +4,8 @@ ghost use Rattle.std.specs.Prelude.{◌≡◌, ◌^◌, ◌<◌, ◌≤◌, ℕ,
 ghost use Rattle.def_forest.specs.Darts.{darts_of, far};
 ghost use Rattle.def_forest.specs.Tables.{forest_of};
 ghost use Rattle.forest_laws.specs.Climbing.{rise_of, above_of, level_of, way_of, IsClimbing};
-ghost use Rattle.qm_forest.specs.Needs.{AreInTree, Hangs, IsDartOf, IsInTree};
+ghost use Rattle.def_forest.specs.Needs.{IsDartOf};
+ghost use Rattle.qm_forest.specs.Needs.{AreInTree, Hangs, IsInTree};
 ghost use Rattle.qm_forest.specs.Rings.{AreOnBoth, HasClimbed};
 
 use crate::darts::{near, twin};

@@ -8,7 +8,7 @@ ghost use Rattle.def_forest.specs.Opened.{IsExpanding};
 ghost use Rattle.def_forest.specs.Tables.{ForestTables, forest_of, IsOutermostIn, IsValidFor};
 ghost use Rattle.def_forest.specs.Ways.{dart_or};
 ghost use Rattle.def_forest.specs.declared.kinds.Label.TheVariants.{Outside};
-ghost use Rattle.qm_forest.specs.Needs.{IsUsedUp};
+ghost use Rattle.def_forest.specs.Needs.{IsUsedUp};
 ghost use Rattle.qm_forest.specs.Parts.{IsPartable, HasOpened, IsCourse, side_dart, paired, hung, turn_label};
 ghost use Rattle.qm_forest.specs.Ties.{HasSameNest, labelled, mated};
 

@@ -5,7 +5,8 @@ ghost use Rattle.def_forest.specs.Darts.{darts_of};
 ghost use Rattle.def_forest.specs.Steps.{IsGrown};
 ghost use Rattle.def_forest.specs.Tables.{forest_of, outer_dart, IsValidFor};
 ghost use Rattle.def_forest.specs.declared.kinds.EdgeKind.TheVariants.{Grow};
-ghost use Rattle.qm_forest.specs.Needs.{Allows, IsEdgeOf, ReachesMatched};
+ghost use Rattle.def_forest.specs.Needs.{Allows, IsEdgeOf};
+ghost use Rattle.qm_forest.specs.Needs.{ReachesMatched};
 ghost use Rattle.qm_forest.specs.Ties.{fixed_of};
 
 use crate::darts::{near, twin};

@@ -3,7 +3,8 @@
 ghost use Rattle.std.specs.Prelude.{◌≡◌, ◌≢◌, ◌^◌, ◌<◌, ◌≤◌, ◌⊎◌, ◌==◌, pos, length, slice_index};
 ghost use Rattle.std.specs.Prelude.{slice_index_or, unsigned_abs};
 ghost use Rattle.def_forest.specs.Forests.{Blossom, weight_between};
-ghost use Rattle.qm_forest.specs.Needs.{AreVertices, IsEdgeOf};
+ghost use Rattle.def_forest.specs.Needs.{IsEdgeOf};
+ghost use Rattle.qm_forest.specs.Needs.{AreVertices};
 ghost use Rattle.qm_forest.specs.Ties.{IsClimb};
 ghost use Rattle.def_forest.specs.Tables.{up_at, forest_of, slack_of, edge_kind, kind_by};
 

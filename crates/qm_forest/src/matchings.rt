@@ -5,7 +5,7 @@ ghost use Rattle.std.specs.Vec.{vec_capacity};
 ghost use Rattle.def_matching.specs.Matching.{WeightedGraph, IsSmallGraph, Vertex};
 ghost use Rattle.def_forest.specs.Forests.{Blossom};
 ghost use Rattle.def_forest.specs.Tables.{forest_of, IsValidFor, MatchesBut};
-ghost use Rattle.qm_forest.specs.Needs.{IsHeld};
+ghost use Rattle.def_forest.specs.Needs.{IsHeld};
 ghost use Rattle.qm_forest.specs.Rounds.{IsRound, HasRoom, AreInOrder, AreMarked};
 ghost use Rattle.qm_forest.specs.Outlines.{IsChosen};
 

@@ -6,7 +6,7 @@ ghost use Rattle.def_matching.specs.Matching.{Vertex};
 ghost use Rattle.def_forest.specs.Forests.{walk};
 ghost use Rattle.def_forest.specs.Tables.{forest_of};
 ghost use Rattle.qm_forest.specs.Gathers.{IsListAt};
-ghost use Rattle.qm_forest.specs.Needs.{IsUsed};
+ghost use Rattle.def_forest.specs.Needs.{IsUsed};
 
 use crate::forest::Forest;
 use crate::numbers::read;

@@ -6,7 +6,7 @@ ghost use Rattle.std.specs.Prelude.{slice_set, Some, None};
 ghost use Rattle.def_forest.specs.Forests.{Blossom, bool_number, ring_sum};
 ghost use Rattle.def_matching.specs.Matching.{Vertex};
 ghost use Rattle.def_forest.specs.Tables.{forest_of, up_at};
-ghost use Rattle.qm_forest.specs.Needs.{IsHeld};
+ghost use Rattle.def_forest.specs.Needs.{IsHeld};
 ghost use Rattle.qm_forest.specs.Rounds.{IsRound, HasRoom, IsPairing};
 ghost use Rattle.qm_forest.specs.Rounds.{AreInOrder, within, waits_but, entered};
 ghost use Rattle.qm_forest.specs.Rounds.{near_at, far_at, is_dart, matched_by};

@@ -4,7 +4,7 @@ ghost use Rattle.std.specs.Prelude.{◌≡◌, Some};
 ghost use Rattle.def_matching.specs.Matching.{WeightedGraph, IsGraph};
 ghost use Rattle.def_forest.specs.Steps.{rooted, shifted};
 ghost use Rattle.def_forest.specs.Tables.{forest_of, IsValidFor};
-ghost use Rattle.qm_forest.specs.Needs.{MayBegin, MayShift};
+ghost use Rattle.def_forest.specs.Needs.{MayBegin, MayShift};
 ghost use Rattle.qm_forest.specs.Ties.{fixed_of};
 
 use crate::forest::Forest;

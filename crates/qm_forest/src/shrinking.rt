@@ -7,7 +7,7 @@ ghost use Rattle.def_forest.specs.Shrunk.{IsShrinking};
 ghost use Rattle.def_forest.specs.Tables.{ForestTables, forest_of, IsOutermostIn, IsValidFor};
 ghost use Rattle.def_forest.specs.declared.kinds.EdgeKind.TheVariants.{Shrink};
 ghost use Rattle.qm_forest.specs.Gathers.{IsFreeRing, HasClosed};
-ghost use Rattle.qm_forest.specs.Needs.{Allows};
+ghost use Rattle.def_forest.specs.Needs.{Allows};
 ghost use Rattle.qm_forest.specs.Ties.{HasSameNest, left_alone};
 
 use crate::darts::near;

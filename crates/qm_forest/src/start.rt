@@ -7,7 +7,8 @@ ghost use Rattle.def_matching.specs.Matching.{edge_at, Vertex};
 ghost use Rattle.def_forest.specs.Forests.{Blossom};
 ghost use Rattle.def_forest.specs.Tables.{forest_of, IsValidFor};
 ghost use Rattle.def_forest.specs.declared.kinds.Label.TheVariants.{Outside};
-ghost use Rattle.qm_forest.specs.Ties.{AreFeasible, AreStarts, IsCounted, IsLowered};
+ghost use Rattle.def_forest.specs.Needs.{AreFeasible};
+ghost use Rattle.qm_forest.specs.Ties.{AreStarts, IsCounted, IsLowered};
 
 use crate::darts::near;
 use crate::forest::Forest;

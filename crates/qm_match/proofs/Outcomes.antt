@@ -14,7 +14,7 @@ use Rattle.def_forest.specs.Made.{AreCostsBelow, AreFirst, IsMadeFor, MAX_FIRST}
 use Rattle.qm_dual.proofs.Verdicts.{says_yes}
 use Rattle.qm_initial.specs.declared.initial.TheConstants.{MAX_WISH}
 use Rattle.search_laws.proofs.Risen.{greatest, small_weights, weights_most}
-use Rattle.qm_forest.specs.Ties.{AreFeasible}
+use Rattle.def_forest.specs.Needs.{AreFeasible}
 use Rattle.qm_match.specs.{States.IsIdle, States.IsReady, Weights.HaveRoom, Weights.HasRoom}
 use Rattle.qm_match.specs.declared.search.Search.{Search}
 

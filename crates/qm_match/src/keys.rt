@@ -3,7 +3,7 @@
 ghost use Rattle.std.specs.Prelude.{◌≡◌, ◌+◌, ◌^◌, ◌<◌, ◌≤◌, length, slice_set, unsigned_abs};
 ghost use Rattle.def_forest.specs.Tables.{forest_of, slack_of};
 ghost use Rattle.search_laws.specs.Keys.{key_after, edge_key, set_key, true_key};
-ghost use Rattle.qm_forest.specs.Needs.{IsEdgeOf};
+ghost use Rattle.def_forest.specs.Needs.{IsEdgeOf};
 ghost use Rattle.qm_match.specs.Needs.{IsLeafIn};
 
 use crate::search::Search;
