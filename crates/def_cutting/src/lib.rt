@@ -1,0 +1,2 @@
+//! Meshes with a full cut: each with the facts that make it one.
+#![tactic(auto)]
