@@ -1,4 +1,4 @@
-//! Sums of what is kept with what the shifts of this search changed.
+//! Reads of the tables, and sums of what is kept with what the shifts of this search changed.
 
 ghost use Rattle.std.specs.Prelude.{◌≡◌, ◌+ℤ◌, ◌^◌, ◌<◌, ◌≤◌, pos, slice_index, slice_index_or, unsigned_abs};
 ghost use Rattle.def_forest.specs.Steps.{weight_change};
