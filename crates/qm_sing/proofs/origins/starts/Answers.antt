@@ -1,4 +1,4 @@
-use Rattle.std.proofs.Common.{◌≡◌, ◌<◌, is_some, false, ◌++◌, ◌∷◌, [], length, ap, ◌∙◌, sym, arith}
+use Rattle.std.proofs.Common.{◌≡◌, ◌<◌, is_some, ◌++◌, ◌∷◌, [], length, ap, ◌∙◌, sym, arith}
 use Rattle.def_mesh.specs.{Darts.darts}
 use Rattle.def_mesh.specs.{Components.is_start, Components.seeds, declared.Kind.TheVariants.Regular}
 use Rattle.qm_sing.proofs.{Edges.filter_on, Edges.filter_off, KindReads.kind_read, Seeds.mark_test, Seeds.start_told}
