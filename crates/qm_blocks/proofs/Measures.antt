@@ -1,19 +1,18 @@
 -- What a layout with a length for each arc gives for its sides.
 use Rattle.std.proofs.Common.{◌≡◌, ℕ, zero, suc, ◌*◌, ◌^◌, ◌<◌, ◌≤◌, List, length, arith}
-use Rattle.std.proofs.lemmas.Nat.{mul-le}
-use Rattle.std.specs.List.{All}
+use Rattle.std.proofs.lemmas.{List.length-map, Nat.mul-le}
 use Rattle.def_flow.specs.declared.limits.TheConstants.{MAX_LENGTH}
-use Rattle.def_math.specs.Counts.{count_below}
 use Rattle.def_layout.specs.{Arcs.long_at, Gluings.Way, Lengths.high, Lengths.wide, Lengths.Lengths, Layouts.Layout}
-use Rattle.def_layout.specs.{Layouts.gluing_of, Layouts.side_at, declared.tmesh.SideArc.SideArc}
+use Rattle.def_cut.specs.Grids.{rectangle}
+use Rattle.def_layout.specs.{Layouts.gluing_of, Layouts.layout_of, Layouts.side_at, declared.tmesh.SideArc.SideArc}
 use Rattle.def_layoutnet.specs.MeshLayouts.{IsSomeLayout}
 use Rattle.def_written.specs.NewFaces.{cells_before}
-use Rattle.def_remesh.specs.{NewPoints.lengths_in, Numberings.sizes_on}
+use Rattle.def_remesh.specs.NewPoints.{lengths_in}
 use Rattle.embedding_laws.proofs.Bounds.{old_faces, side_few, side_most}
 use Rattle.embedding_laws.proofs.MeshLayouts.{laid_of, lengths_of}
 use Rattle.written_laws.proofs.Grid.{high_some, wide_some}
-use Rattle.qm_offsets.proofs.Whole.{side_long, uses_low}
-use Rattle.qm_blocks.specs.Spots.{IsMeasured}
+use Rattle.qm_offsets.proofs.Whole.{arcs_low, side_long, sides_of}
+use Rattle.qm_blocks.specs.{Spots.IsMeasured, Spots.IsSummed, declared.measured.Measured.Measured}
 
 -- A layout has no more patches than its mesh may have faces.
 pub patches_few : (layout : Layout) → IsSomeLayout layout → length layout.patches ≤ 2 ^ 21
@@ -33,22 +32,36 @@ patches_few layout is = omega (arith, up (length layout.patches) (omega arith), 
     up zero le = omega arith
     up (suc n) le = omega (arith, up n (omega (arith, le)), one n (omega (arith, le)))
 
-module _ (layout : Layout) (x : List ℕ) (is : IsMeasured layout x) (block : ℕ) (low : block < length layout.patches)
-    (way : Way)
-    (side : List SideArc)
-    (same : side ≡ side_at layout block way) where
-  -- Its arcs have lengths.
-  pub arcs_low : All (λ (used : SideArc). used.arc < length x) side
-  arcs_low = uses_low layout is.laid_out block way (length x) side low is.long same
-
-  -- It is short enough for 64 bits.
-  pub side_small : count_below (sizes_on side (lengths_in x)) (length side) < 2 ^ 64
-  side_small = omega (
+-- Its sides are short enough for 64 bits at these lengths.
+pub measured_of : (layout : Layout) (x : List ℕ) → IsSomeLayout layout → length x ≡ length layout.arcs
+    → ((arc : ℕ) → lengths_in x arc ≤ MAX_LENGTH) → IsMeasured layout x
+measured_of layout x is long bounded = record {
+  whole = sides_of layout is;
+  each = long;
+  few = patches_few layout is;
+  small = λ block way low. omega (
     arith,
-    side_long layout block way (lengths_in x) side same,
-    side_most (gluing_of layout) (long_at layout.arcs) (lengths_in x) MAX_LENGTH (laid_of layout is.laid_out)
-        (lengths_of layout is.laid_out) is.bounded block way low,
-    side_few (gluing_of layout) (long_at layout.arcs) (laid_of layout is.laid_out) (lengths_of layout is.laid_out)
-        block way low,
-    old_faces layout is.laid_out,
-  )
+    side_most (gluing_of layout) (long_at layout.arcs) (lengths_in x) MAX_LENGTH (laid_of layout is)
+        (lengths_of layout is) bounded block way low,
+    side_few (gluing_of layout) (long_at layout.arcs) (laid_of layout is) (lengths_of layout is) block way low,
+    old_faces layout is,
+  );
+}
+
+-- A side of a block adds up.
+pub side_summed : (measured : Measured) (block : ℕ) → block < length measured.t.now.patches.items
+    → (way : Way) {side : List SideArc} → side ≡ side_at (layout_of measured.t.now) block way
+    → IsSummed side measured.x.now
+side_summed measured block low way {side} same =
+    let there : block < length (layout_of measured.t.now).patches =
+    omega (arith, low, length-map measured.t.now.patches.items rectangle) in
+    let is = measured.measured in
+    record {
+      low = arcs_low (layout_of measured.t.now) is.whole.paved block way (length measured.x.now) side there is.each
+          same;
+      small = omega (
+        arith,
+        side_long (layout_of measured.t.now) block way (lengths_in measured.x.now) side same,
+        is.small block way there,
+      );
+    }

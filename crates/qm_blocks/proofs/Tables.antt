@@ -13,7 +13,7 @@ use Rattle.def_layout.specs.{Layouts.side_at, declared.tmesh.SideArc.SideArc}
 use Rattle.def_remesh.specs.Numberings.{used_at}
 use Rattle.def_blocks.specs.{Links.side_name, declared.link.SideName.SideName}
 use Rattle.qm_blocks.specs.Spots.{back_key, key_of, spot_at, spot_of, spot_on, HasSpots, HasUses, HavePut}
-use Rattle.qm_blocks.specs.Spots.{IsOnBlock, IsOnSide, Spot}
+use Rattle.qm_blocks.specs.Spots.{IsBefore, IsOnBlock, IsOnSide, Spot}
 
 -- The next use puts its spot in.
 pub use_more : (side : List SideArc) (lengths : Lengths) (block : ℕ) (name : SideName) (many : ℕ)
@@ -141,6 +141,19 @@ block_put l x block old new are = record {
     by_side w east here e = inl (inl (inr (here, e)))
     by_side w north here e = inl (inr (here, e))
     by_side w west here e = inr (here, e)
+
+-- So has one block more.
+pub spots_more : (l : Gluing) (x : Lengths) (block : ℕ) (old new : List (Option Spot))
+    → HasSpots l x (IsBefore block) old
+    → HavePut l x (IsOnBlock block) old new → HasSpots l x (IsBefore (block + 1)) new
+spots_more l x block old new are more = record {
+  long = more.long ∙ are.long;
+  put = λ w slot before. elim (cases_eq w.patch block) [
+    | inl here ↦ more.put w slot here
+    | inr other ↦ more.kept (key_of (use_of l w)) (are.put w slot (omega (arith, before, other)))
+  ];
+  only = λ key spot e. elim (more.only key spot e) [ inl was ↦ are.only key spot was | inr here ↦ here ];
+}
 
 -- Arcs in use by their places.
 pub key_low : (u : SideArc) (n : ℕ) → u.arc < n → key_of u < 2 * n

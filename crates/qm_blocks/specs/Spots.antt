@@ -1,26 +1,32 @@
 -- Where arcs lie on the sides of blocks, as the loops find it, and the links that follow.
-use Rattle.std.specs.Prelude.{◌≡◌, ◌⊎◌, ℕ, ◌+◌, ◌*◌, ◌<◌, ◌≤◌, true, cond, List, ◌++◌, length, map, slice_index_or}
-use Rattle.std.specs.Prelude.{Option, Some, None}
-use Rattle.std.specs.List.{range_with_len}
+use Rattle.std.specs.Prelude.{◌≡◌, ◌⊎◌, ℕ, ◌+◌, ◌*◌, ◌^◌, ◌<◌, ◌≤◌, true, cond, List, ◌++◌, length, map}
+use Rattle.std.specs.Prelude.{slice_index_or, Option, Some, None}
+use Rattle.std.specs.List.{range_with_len, All}
 use Rattle.std.specs.Option.{is_some}
 use Rattle.def_math.specs.Counts.{count_below}
-use Rattle.def_flow.specs.declared.limits.TheConstants.{MAX_LENGTH}
 use Rattle.def_layout.specs.Gluings.{Way, south, east, north, west, Gluing, Slot, IsSlot, use_of}
-use Rattle.def_layout.specs.Lengths.{Lengths}
-use Rattle.def_layout.specs.Layouts.{Layout, side_at}
+use Rattle.def_layout.specs.Lengths.{Lengths, size}
+use Rattle.def_layout.specs.Layouts.{Layout, gluing_of, side_at}
 use Rattle.def_layout.specs.declared.tmesh.SideArc.{SideArc}
-use Rattle.def_layoutnet.specs.MeshLayouts.{IsSomeLayout}
 use Rattle.def_remesh.specs.NewPoints.{lengths_in}
 use Rattle.def_remesh.specs.Numberings.{sizes_on, used_at}
 use Rattle.def_blocks.specs.Links.{first_point, side_name}
 use Rattle.def_blocks.specs.declared.link.Link.{Link}
 use Rattle.def_blocks.specs.declared.link.SideName.{SideName}
+use Rattle.qm_offsets.specs.Fours.{AreSides}
 
--- The layout of a mesh, and a length for each of its arcs.
+-- A layout whose sides are whole, with a length for each of its arcs: its patches are few, and its sides not too long.
 pub record IsMeasured (layout : Layout) (lengths : List ℕ) : Type 0 where
-  pub laid_out : IsSomeLayout layout
-  pub long : length lengths ≡ length layout.arcs
-  pub bounded : (arc : ℕ) → lengths_in lengths arc ≤ MAX_LENGTH
+  pub whole : AreSides layout
+  pub each : length lengths ≡ length layout.arcs
+  pub few : length layout.patches ≤ 2 ^ 21
+  pub small : (block : ℕ) (side : Way) → block < length layout.patches
+      → size (gluing_of layout) (lengths_in lengths) block side < 2 ^ 64
+
+-- The arcs of a side have lengths, and add up to a number of 64 bits.
+pub record IsSummed (side : List SideArc) (lengths : List ℕ) : Type 0 where
+  pub low : All (λ (used : SideArc). used.arc < length lengths) side
+  pub small : count_below (sizes_on side (lengths_in lengths)) (length side) < 2 ^ 64
 
 -- A block, one of its sides, and a point there.
 abbrev pub Spot : Type 0

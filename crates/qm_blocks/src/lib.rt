@@ -3,6 +3,7 @@
 
 mod law;
 mod linking;
+mod measured;
 mod spots;
 
 pub use law::{linked_points_law, mutual_law, symmetric_law, two_links_law};

@@ -1,18 +1,15 @@
 //! The links of blocks.
 
-ghost use Rattle.std.specs.Prelude.{◌≡◌, ◌≤◌, ◌<◌, ◌*◌, ◌++◌, ◌^◌, ℕ, length, map, IfOk, OnOk};
-ghost use Rattle.std.specs.List.{All};
-ghost use Rattle.def_math.specs.Counts.{count_below};
+ghost use Rattle.std.specs.Prelude.{◌≡◌, ◌≤◌, ◌<◌, ◌++◌, ℕ, length, map, IfOk, OnOk};
 ghost use Rattle.def_flow.specs.declared.limits.TheConstants.{MAX_LENGTH};
 ghost use Rattle.def_layout.specs.Gluings.{Way};
 ghost use Rattle.def_layout.specs.Layouts.{gluing_of, layout_of, way_number};
-ghost use Rattle.def_layout.specs.declared.tmesh.SideArc.{SideArc as Used};
 ghost use Rattle.def_layoutnet.specs.MeshLayouts.{IsSomeLayout};
 ghost use Rattle.def_remesh.specs.NewPoints.{lengths_in};
-ghost use Rattle.def_remesh.specs.Numberings.{sizes_on};
 ghost use Rattle.def_blocks.specs.Links.{AreLinks};
-ghost use Rattle.qm_blocks.specs.Spots.{block_links, link_from, links_on, side_links, IsMeasured};
+ghost use Rattle.qm_blocks.specs.Spots.{block_links, link_from, links_on, side_links, IsSummed};
 
+use crate::measured::{Measured, Spotted};
 use crate::spots::{back_key, name_of, spots_of};
 use def_blocks::{Link, SideName};
 use def_layout::{SideArc, TMesh};
@@ -27,52 +24,49 @@ pub fn links(alloc: Global, t: &TMesh, x: &[u64]) -> Result<Vec<Vec<Link>>, Allo
     ensures { IfOk result (λ links. AreLinks (gluing_of (layout_of t.now)) (lengths_in x.now)
         (map (λ block. block.items) links.items)) }
 {
-    let table = spots_of(alloc, t, x)?;
+    let measured = Measured { t, x };
+    let table = spots_of(alloc, &measured)?;
+    let spotted = Spotted {
+        measured,
+        table: &table,
+    };
     let mut links = Vec::with_capacity(alloc, t.patches.len())?;
     for block in 0..t.patches.len() {
-        let here = block_links(alloc, t, x, &table, block)?;
+        let here = block_links(alloc, &spotted, block)?;
         links.push(here)?;
     }
     Ok(links)
 }
 
 /// The links of a block.
-fn block_links(
-    alloc: Global,
-    t: &TMesh,
-    x: &[u64],
-    table: &[Option<(u32, SideName, u64)>],
-    block: usize,
-) -> Result<Vec<Link>, AllocError>
-    requires measured { IsMeasured (layout_of t.now) x.now }
-    requires block { block < length t.now.patches.items }
-    requires long { length table.now ≡ 2 * length x.now }
-    ensures { IfOk result (λ links. links.items ≡ block_links (layout_of t.now) (lengths_in x.now) table.now block) }
+fn block_links(alloc: Global, spotted: &Spotted, block: usize) -> Result<Vec<Link>, AllocError>
+    requires { block < length spotted.now.measured.t.now.patches.items }
+    ensures { IfOk result (λ links. links.items ≡ block_links (layout_of spotted.now.measured.t.now)
+        (lengths_in spotted.now.measured.x.now) spotted.now.table.now block) }
 {
+    let t = spotted.measured.t;
     let mut links = Vec::new(alloc);
-    push_links(&mut links, x, table, side_of(t, block, 0), name_of(0))?;
-    push_links(&mut links, x, table, side_of(t, block, 1), name_of(1))?;
-    push_links(&mut links, x, table, side_of(t, block, 2), name_of(2))?;
-    push_links(&mut links, x, table, side_of(t, block, 3), name_of(3))?;
+    push_links(&mut links, spotted, side_of(t, block, 0), name_of(0))?;
+    push_links(&mut links, spotted, side_of(t, block, 1), name_of(1))?;
+    push_links(&mut links, spotted, side_of(t, block, 2), name_of(2))?;
+    push_links(&mut links, spotted, side_of(t, block, 3), name_of(3))?;
     Ok(links)
 }
 
 /// Puts the links of a side behind those that stand there.
 fn push_links(
     links: &mut Vec<Link>,
-    x: &[u64],
-    table: &[Option<(u32, SideName, u64)>],
+    spotted: &Spotted,
     side: &[SideArc],
     name: SideName,
 ) -> Result<(), AllocError>
-    requires low { All (λ (used : Used). used.arc < length x.now) side.now }
-    requires small { count_below (sizes_on side.now (lengths_in x.now)) (length side.now) < 2 ^ 64 }
-    requires long { length table.now ≡ 2 * length x.now }
-    ensures { OnOk result (links.new.items ≡ links.old.items ++ links_on table.now (lengths_in x.now) name side.now) }
+    requires { IsSummed side.now spotted.now.measured.x.now }
+    ensures { OnOk result (links.new.items ≡ links.old.items
+        ++ links_on spotted.now.table.now (lengths_in spotted.now.measured.x.now) name side.now) }
 {
     let mut from = 0;
     for used in side {
-        let link = link_at(x, table, *used, name, from);
+        let link = link_at(spotted, *used, name, from);
         links.push(link)?;
         from += link.len;
     }
@@ -80,21 +74,15 @@ fn push_links(
 }
 
 /// The link of an arc in use on a side, from this point on.
-pub(crate) fn link_at(
-    x: &[u64],
-    table: &[Option<(u32, SideName, u64)>],
-    used: SideArc,
-    side: SideName,
-    from: u64,
-) -> Link
-    requires low { used.arc < length x.now }
-    requires long { length table.now ≡ 2 * length x.now }
-    ensures { result ≡ link_from table.now (lengths_in x.now) used side from }
+pub(crate) fn link_at(spotted: &Spotted, used: SideArc, side: SideName, from: u64) -> Link
+    requires { used.arc < length spotted.now.measured.x.now }
+    ensures { result
+        ≡ link_from spotted.now.table.now (lengths_in spotted.now.measured.x.now) used side from }
 {
     Link {
         side,
         from,
-        len: x[used.arc as usize],
-        other: table[back_key(used)],
+        len: spotted.measured.x[used.arc as usize],
+        other: spotted.table[back_key(used)],
     }
 }

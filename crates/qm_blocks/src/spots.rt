@@ -1,18 +1,15 @@
 //! Where arcs lie on the sides of blocks.
 
-ghost use Rattle.std.specs.Prelude.{◌≡◌, ◌<◌, ◌*◌, ◌^◌, ℕ, length, IfOk};
-ghost use Rattle.std.specs.List.{All};
-ghost use Rattle.def_math.specs.Counts.{count_below};
+ghost use Rattle.std.specs.Prelude.{◌≡◌, ◌<◌, ◌*◌, length, IfOk};
 ghost use Rattle.def_layout.specs.Gluings.{Way, IsSlot};
 ghost use Rattle.def_layout.specs.Layouts.{gluing_of, layout_of, way_number};
-ghost use Rattle.def_layout.specs.declared.tmesh.SideArc.{SideArc as Used};
 ghost use Rattle.def_remesh.specs.NewPoints.{lengths_in};
-ghost use Rattle.def_remesh.specs.Numberings.{sizes_on};
 ghost use Rattle.def_blocks.specs.Links.{side_name};
-ghost use Rattle.qm_blocks.specs.Spots.{back_key, key_of, HasSpots, HasUses, HavePut, IsMeasured, IsOnBlock, IsOnSide};
+ghost use Rattle.qm_blocks.specs.Spots.{back_key, key_of, HasSpots, HasUses, HavePut, IsOnBlock, IsOnSide, IsSummed};
 
+use crate::measured::Measured;
 use def_blocks::SideName;
-use def_layout::{SideArc, TMesh};
+use def_layout::SideArc;
 use qm_offsets::side_of;
 use std::alloc::{AllocError, Global};
 
@@ -46,52 +43,50 @@ pub(crate) fn name_of(side: usize) -> SideName
 /// slot that uses the arc so, if there is one. Linear in the arcs.
 pub(crate) fn spots_of(
     alloc: Global,
-    t: &TMesh,
-    x: &[u64],
+    measured: &Measured,
 ) -> Result<Vec<Option<(u32, SideName, u64)>>, AllocError>
-    requires { IsMeasured (layout_of t.now) x.now }
-    ensures { IfOk result (λ table.
-        HasSpots (gluing_of (layout_of t.now)) (lengths_in x.now) (IsSlot (gluing_of (layout_of t.now))) table.items) }
+    ensures { IfOk result (λ table. HasSpots (gluing_of (layout_of measured.now.t.now)) (lengths_in measured.now.x.now)
+        (IsSlot (gluing_of (layout_of measured.now.t.now))) table.items) }
 {
+    let t = measured.t;
     let mut table = vec![in alloc; None; 2 * t.arcs.len()]?;
     for block in 0..t.patches.len() {
-        put_block(&mut table, t, x, block);
+        put_block(&mut table, measured, block);
     }
     Ok(table)
 }
 
 /// Puts in the spots of a block.
-fn put_block(table: &mut [Option<(u32, SideName, u64)>], t: &TMesh, x: &[u64], block: usize)
-    requires measured { IsMeasured (layout_of t.now) x.now }
-    requires block { block < length t.now.patches.items }
-    requires long { length table.old ≡ 2 * length x.now }
-    ensures { HavePut (gluing_of (layout_of t.now)) (lengths_in x.now) (IsOnBlock block) table.old table.new }
+fn put_block(table: &mut [Option<(u32, SideName, u64)>], measured: &Measured, block: usize)
+    requires block { block < length measured.now.t.now.patches.items }
+    requires long { length table.old ≡ 2 * length measured.now.x.now }
+    ensures { HavePut (gluing_of (layout_of measured.now.t.now)) (lengths_in measured.now.x.now) (IsOnBlock block)
+        table.old table.new }
 {
-    put_side(table, t, x, block, 0);
-    put_side(table, t, x, block, 1);
-    put_side(table, t, x, block, 2);
-    put_side(table, t, x, block, 3);
+    put_side(table, measured, block, 0);
+    put_side(table, measured, block, 1);
+    put_side(table, measured, block, 2);
+    put_side(table, measured, block, 3);
 }
 
 /// Puts in the spots of a side of a block.
 fn put_side(
     table: &mut [Option<(u32, SideName, u64)>],
-    t: &TMesh,
-    x: &[u64],
+    measured: &Measured,
     block: usize,
     side: usize,
 )
-    requires measured { IsMeasured (layout_of t.now) x.now }
-    requires block { block < length t.now.patches.items }
+    requires block { block < length measured.now.t.now.patches.items }
     requires side { side < 4 }
-    requires long { length table.old ≡ 2 * length x.now }
+    requires long { length table.old ≡ 2 * length measured.now.x.now }
     ensures { (way : Way) → way_number way ≡ side
-        → HavePut (gluing_of (layout_of t.now)) (lengths_in x.now) (IsOnSide block way) table.old table.new }
+        → HavePut (gluing_of (layout_of measured.now.t.now)) (lengths_in measured.now.x.now) (IsOnSide block way)
+        table.old table.new }
 {
     put_uses(
         table,
-        side_of(t, block, side),
-        x,
+        side_of(measured.t, block, side),
+        measured.x,
         block as u32,
         name_of(side),
     );
@@ -105,8 +100,7 @@ fn put_uses(
     block: u32,
     name: SideName,
 )
-    requires low { All (λ (used : Used). used.arc < length x.now) side.now }
-    requires small { count_below (sizes_on side.now (lengths_in x.now)) (length side.now) < 2 ^ 64 }
+    requires summed { IsSummed side.now x.now }
     requires long { length table.old ≡ 2 * length x.now }
     ensures { HasUses side.now (lengths_in x.now) block name (length side.now) table.old table.new }
 {

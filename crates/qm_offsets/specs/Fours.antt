@@ -3,8 +3,7 @@ use Rattle.std.specs.Prelude.{◌≡◌, ◌<◌, ℕ, List, [], length, map, sl
 use Rattle.def_layout.specs.Surfaces.{HasWholeSides}
 use Rattle.def_layout.specs.Gluings.{Way}
 use Rattle.def_layout.specs.Lengths.{Lengths}
-use Rattle.def_layout.specs.Layouts.{Layout, PatchSides, gluing_of, way_number, side_at}
-use Rattle.def_layout.specs.declared.tmesh.Side.{Side}
+use Rattle.def_layout.specs.Layouts.{Layout, gluing_of, way_number, side_at}
 use Rattle.def_layout.specs.declared.tmesh.SideArc.{SideArc}
 use Rattle.def_remesh.specs.Numberings.{sizes_on, AreRunStarts}
 use Rattle.def_remesh.specs.declared.tables.RunStarts.{RunStarts}
@@ -12,10 +11,6 @@ use Rattle.def_remesh.specs.declared.tables.RunStarts.{RunStarts}
 -- Where the arcs on four sides begin.
 abbrev pub begins_of : (four : List RunStarts) → List (List ℕ)
 begins_of four = map (λ (starts : RunStarts). starts.begin.items) four
-
--- The arcs on each of four sides.
-abbrev pub uses_in : (sides : List (List Side)) → PatchSides
-uses_in sides = map (λ four. map (λ (side : Side). side.arcs.items) four) sides
 
 -- The arcs of a side, by the number of that.
 abbrev pub arcs_on : (layout : Layout) (patch side : ℕ) → List SideArc

@@ -9,7 +9,7 @@ mod starts;
 mod summed;
 
 pub use lengths::{inner_points, short_lengths};
-pub use sides::{side_of, side_tables, starts_on, uses_on};
+pub use sides::{side_of, side_tables, starts_on};
 pub use sizes::size_on;
 pub use spot::{spot_in, spot_near};
 pub use starts::{no_starts, push_start};

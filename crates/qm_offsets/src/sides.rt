@@ -11,7 +11,7 @@ ghost use Rattle.def_layout.specs.declared.tmesh.SideArc.{SideArc as Used};
 ghost use Rattle.def_layoutnet.specs.MeshLayouts.{IsSomeLayout};
 ghost use Rattle.def_remesh.specs.NewPoints.{lengths_in};
 ghost use Rattle.def_remesh.specs.Numberings.{sizes_on, tables_of, AreSideStarts, AreRunStarts};
-ghost use Rattle.qm_offsets.specs.Fours.{begins_of, AreFourStarts, IsTableOf};
+ghost use Rattle.qm_offsets.specs.Fours.{begins_of, AreFourStarts, AreSides, IsTableOf};
 
 use crate::starts::{no_starts, push_start};
 use crate::summed::Summed;
@@ -20,7 +20,17 @@ use def_remesh::RunStarts;
 use std::alloc::{AllocError, Global};
 
 /// The arcs on a side of a patch: 0 is south, 1 east, 2 north and 3 west.
-pub fn uses_on(sides: &[[Side; 4]], patch: usize, side: usize) -> &[SideArc]
+pub fn side_of(t: &TMesh, patch: usize, side: usize) -> &[SideArc]
+    requires sides { AreSides (layout_of t.now) }
+    requires low { patch < length t.now.patches.items }
+    requires side { side < 4 }
+    ensures { result.now ≡ slice_index_or (slice_index_or (layout_of t.now).sides patch []) side [] }
+{
+    uses_on(&t.sides, patch, side)
+}
+
+/// The same, of the sides of all patches.
+fn uses_on(sides: &[[Side; 4]], patch: usize, side: usize) -> &[SideArc]
     requires low { patch < length sides.now }
     requires four { length
         (slice_index_or (map (λ four. map (λ (side : Arcs). side.arcs.items) four) sides.now) patch []) ≡ 4 }
@@ -30,16 +40,6 @@ pub fn uses_on(sides: &[[Side; 4]], patch: usize, side: usize) -> &[SideArc]
 {
     let four = &sides[patch];
     &four[side].arcs
-}
-
-/// The same, of the layout of a mesh.
-pub fn side_of(t: &TMesh, patch: usize, side: usize) -> &[SideArc]
-    requires layout { IsSomeLayout (layout_of t.now) }
-    requires low { patch < length t.now.patches.items }
-    requires side { side < 4 }
-    ensures { result.now ≡ slice_index_or (slice_index_or (layout_of t.now).sides patch []) side [] }
-{
-    uses_on(&t.sides, patch, side)
 }
 
 /// Where the arcs on a side of a patch begin.
@@ -79,7 +79,7 @@ fn starts_of(
     ensures { IfOk result (λ starts.
         IsTableOf (layout_of summed.now.t.now) (lengths_in summed.now.lengths.now) patch side starts.begin.items) }
 {
-    let arcs = uses_on(&summed.t.sides, patch, side);
+    let arcs = side_of(summed.t, patch, side);
     side_starts(alloc, arcs, summed.lengths)
 }
 

@@ -7,26 +7,20 @@ use Rattle.std.proofs.lemmas.List.{get_or_read, length-map}
 use Rattle.def_layout.specs.{Arcs.dart_at, Arcs.long_at, Arcs.path, Layouts.Layout, Layouts.gluing_of}
 use Rattle.def_layout.specs.{Layouts.layout_of}
 use Rattle.def_layout.specs.{Lengths.Lengths, declared.tmesh.TArc.TArc, declared.tmesh.TMesh.TMesh}
-use Rattle.def_layoutnet.specs.MeshLayouts.{IsSomeLayout}
 use Rattle.def_map.specs.{Spots.edge_spot, declared.spot.EdgeSpot.EdgeSpot}
 use Rattle.def_written.specs.Spacings.{edge_begin, shared_step, step_parameter, IsSpacing, Shares}
 use Rattle.def_written.specs.{Numbers.before_arc, Places.ONE, Places.Step}
 use Rattle.def_remesh.specs.{Placings.shares_in, Placings.IsSpaced, Spaced.shares_along, Spaced.spacing_by}
 use Rattle.def_remesh.specs.{declared.places.Spaced.Spaced, NewPoints.lengths_in}
-use Rattle.embedding_laws.proofs.{Bounds.vertices_few, MeshLayouts.laid_of}
 use Rattle.written_laws.proofs.Runs.{place_low}
 use Rattle.qm_place.specs.ArcTables.{AreFine}
-use Rattle.qm_place.proofs.Rims.{old_read, old_short}
+use Rattle.qm_place.proofs.Rims.{old_read}
 
 -- An arc that is read is short.
-pub read_short : (t : TMesh) {a : ℕ} {arc : TArc} → IsSomeLayout (layout_of t) → a < length t.arcs.items
-    → arc ≡ get_or t.arcs.items a arc → length arc.darts.items ≤ 2 ^ 21
-read_short t {a} {arc} is low read =
-    omega (
-      arith,
-      old_read t low read,
-      old_short (layout_of t) is a (omega (arith, low, length-map t.arcs.items path)),
-    )
+pub read_short : (t : TMesh) {list : List ℕ} {a : ℕ} {arc : TArc} → AreFine (layout_of t) list
+    → a < length t.arcs.items → arc ≡ get_or t.arcs.items a arc → length arc.darts.items ≤ 2 ^ 21
+read_short t {a = a} fine low read =
+    omega (arith, old_read t low read, fine.old_short a (omega (arith, low, length-map t.arcs.items path)))
 
 -- Inner points of arcs are few.
 pub points_few : {layout : Layout} {list : List ℕ} → AreFine layout list → {arc place : ℕ} → arc < length layout.arcs
@@ -35,8 +29,7 @@ points_few {layout} {list} fine {arc} {place} low less =
     omega (
       arith,
       place_low (λ b. lengths_in list b - 1) (length layout.arcs) arc place low less,
-      vertices_few (gluing_of layout) (lengths_in list) (laid_of layout fine.mesh) fine.lengths,
-      fine.few,
+      fine.points,
     )
 
 module _ (layout : Layout) (new : Lengths) (o : Option Spaced) (told : IsSpaced layout new o) (spaced : Spaced)

@@ -3,34 +3,26 @@ use Rattle.std.proofs.Common.{◌≡◌, ℕ, ◌-◌, ◌*◌, ◌^◌, ◌<◌
 use Rattle.std.specs.Prelude.{slice_index}
 use Rattle.def_math.specs.Counts.{count_below}
 use Rattle.def_layout.specs.{Lengths.wide, Lengths.high, Layouts.Layout, Layouts.gluing_of}
-use Rattle.def_written.specs.{Numbers.vertices, Places.ArcSpacing}
+use Rattle.def_written.specs.Places.{ArcSpacing}
 use Rattle.def_remesh.specs.Placings.{rim_at, IsRim}
 use Rattle.def_remesh.specs.{NewPoints.lengths_in, Numberings.AreRunStarts, declared.places.Rim.Rim}
 use Rattle.sum_laws.proofs.Counts.{count_below_same}
-use Rattle.embedding_laws.proofs.Bounds.{vertices_few}
-use Rattle.qm_offsets.proofs.{Spots.starts_same, Spots.term_room, Whole.laid_of}
+use Rattle.qm_offsets.proofs.Spots.{starts_same, term_room}
 use Rattle.written_laws.proofs.Grid.{wide_some, high_some}
 use Rattle.qm_place.specs.{ArcTables.AreFine, Spots.inner_of}
 
 module _ (layout : Layout) (list : List ℕ) (fine : AreFine layout list) where
-  few_points : vertices (gluing_of layout) (lengths_in list) ≤ 2 ^ 23
-  few_points = omega (
-    arith,
-    vertices_few (gluing_of layout) (lengths_in list) (laid_of layout fine.mesh) fine.lengths,
-    fine.few,
-  )
-
   -- Each length is short, and so are all arcs together.
   pub lengths_short : (arc : ℕ) → arc < length list → slice_index list arc < 2 ^ 32
   lengths_short arc low =
       omega (
         arith,
-        few_points,
+        fine.points,
         term_room (λ a. lengths_in list a - 1) (length layout.arcs) arc (omega (arith, low, fine.long)),
       )
 
   pub points_short : count_below (λ arc. lengths_in list arc - 1) (length list) < 2 ^ 32
-  points_short = omega (arith, few_points, ap (count_below (λ arc. lengths_in list arc - 1)) fine.long)
+  points_short = omega (arith, fine.points, ap (count_below (λ arc. lengths_in list arc - 1)) fine.long)
 
   -- How many points lie in a patch.
   abbrev inner : ℕ → ℕ
@@ -43,7 +35,7 @@ module _ (layout : Layout) (list : List ℕ) (fine : AreFine layout list) where
     pub rims_some : (p : ℕ) → p < count → (0 < (rim_at rims p).wide) × (0 < (rim_at rims p).high)
     rims_some p low =
         let at : p < length layout.patches = omega (arith, low, all) in
-        let paved = (laid_of layout fine.mesh).paved in (
+        let paved = fine.whole.paved in (
           omega (arith, (are p low).wide, wide_some (gluing_of layout) (lengths_in list) paved fine.lengths p at),
           omega (arith, (are p low).high, high_some (gluing_of layout) (lengths_in list) paved fine.lengths p at),
         )
@@ -53,7 +45,7 @@ module _ (layout : Layout) (list : List ℕ) (fine : AreFine layout list) where
 
     pub inner_short : count_below (inner_of rims) count < 2 ^ 32
     inner_short =
-        omega (arith, few_points, ap (count_below inner) all, count_below_same (inner_of rims) inner count inner_is)
+        omega (arith, fine.points, ap (count_below inner) all, count_below_same (inner_of rims) inner count inner_is)
 
     pub inner_starts : (starts : List ℕ) → AreRunStarts (inner_of rims) count starts
         → AreRunStarts (λ p. (wide (gluing_of layout) (lengths_in list) p - 1) *

@@ -7,13 +7,16 @@ use Rattle.def_cut.specs.Grids.{rectangle}
 use Rattle.def_layout.specs.Gluings.{Way, south, east, north, west, Slot, IsSlot, use_of}
 use Rattle.def_layout.specs.Layouts.{Layout, gluing_of, way_number, layout_of, side_at}
 use Rattle.def_layout.specs.{Arcs.Path, Arcs.long_at, Arcs.path, Lengths.Lengths, Lengths.reach, Lengths.size}
+use Rattle.def_layout.specs.Lengths.{AreLengths}
 use Rattle.def_layout.specs.{declared.tmesh.SideArc.SideArc, declared.tmesh.TArc.TArc, declared.tmesh.TMesh.TMesh}
 use Rattle.def_layoutnet.specs.MeshLayouts.{IsSomeLayout}
-use Rattle.def_written.specs.Places.{ArcSpacing}
+use Rattle.def_written.specs.{NewFaces.face_count, Places.ArcSpacing}
 use Rattle.def_remesh.specs.Placings.{parameters_from, side_parameter, AreParameters, IsRim}
-use Rattle.def_remesh.specs.{NewPoints.lengths_in, declared.places.Rim.Rim}
-use Rattle.embedding_laws.proofs.Bounds.{old_faces, side_few}
-use Rattle.qm_offsets.proofs.{Spots.count_step, Whole.laid_of, Whole.lengths_of}
+use Rattle.def_remesh.specs.{NewPoints.lengths_in, declared.limits.TheConstants.MAX_NEW_FACES}
+use Rattle.def_remesh.specs.declared.places.Rim.{Rim}
+use Rattle.embedding_laws.proofs.Bounds.{old_faces, side_few, vertices_few}
+use Rattle.map_laws.proofs.Spaced.{spacing_is}
+use Rattle.qm_offsets.proofs.{Spots.count_step, Whole.laid_of, Whole.lengths_of, Whole.sides_of}
 use Rattle.written_laws.proofs.Sides.{reach_low, slot}
 use Rattle.qm_place.specs.{Pushed.on_arc, Pushed.ArePushed, Pushed.IsKept, ArcTables.AreFine}
 use Rattle.qm_place.proofs.Pushes.{is_back, kept_on, parameters_in, parameters_kept, pushed_join, pushed_kept}
@@ -27,15 +30,6 @@ old_few {layout} is {p} s low =
       arith,
       side_few (gluing_of layout) (long_at layout.arcs) (laid_of layout is) (lengths_of layout is) p s low,
       old_faces layout is,
-    )
-
-pub new_few : {layout : Layout} {list : List ℕ} → AreFine layout list → {p : ℕ} (s : Way) → p < length layout.patches
-    → size (gluing_of layout) (lengths_in list) p s ≤ 2 ^ 21
-new_few {layout} {list} fine {p} s low =
-    omega (
-      arith,
-      side_few (gluing_of layout) (lengths_in list) (laid_of layout fine.mesh) fine.lengths p s low,
-      fine.few,
     )
 
 -- Arcs are short.
@@ -52,6 +46,28 @@ old_short layout is arc low = by_slot ((laid_of layout is).forward arc low)
           old_few is f.0.side f.1.patch_low,
           ap (λ (u : SideArc). long_at layout.arcs u.arc) f.2,
         )
+
+-- What is known of lengths of a layout of a mesh that give few faces.
+pub fine_of : {layout : Layout} {list : List ℕ} → IsSomeLayout layout → length list ≡ length layout.arcs
+    → AreLengths (gluing_of layout) (lengths_in list)
+    → face_count (gluing_of layout) (lengths_in list) ≤ MAX_NEW_FACES → AreFine layout list
+fine_of {layout} {list} is long lengths few = record {
+  whole = sides_of layout is;
+  old_some = (lengths_of layout is).some;
+  old_short = old_short layout is;
+  old_sizes = is.laid.sizes;
+  old_few = λ p s low. old_few is s low;
+  long = long;
+  lengths = lengths;
+  few = few;
+  points = omega (arith, vertices_few (gluing_of layout) (lengths_in list) (laid_of layout is) lengths, few);
+  new_few = λ p s low. omega (
+    arith,
+    side_few (gluing_of layout) (lengths_in list) (laid_of layout is) lengths p s low,
+    few,
+  );
+  spacing = spacing_is layout is (lengths_in list) lengths few;
+}
 
 -- What is read of an arc.
 pub old_read : (t : TMesh) {a : ℕ} {arc : TArc} → a < length t.arcs.items → arc ≡ get_or t.arcs.items a arc
@@ -89,7 +105,7 @@ read t {list} {p} {i} {side} {s} {us} fine low us_is i_low way = record {
     reach_low (gluing_of (layout_of t)) (long_at (layout_of t).arcs) (slot p s i) is_slot,
     ap (long_at (layout_of t).arcs) arc,
   );
-  old_short = old_few fine.mesh s p_low;
+  old_short = fine.old_few p s p_low;
   old_next = count_step (λ k. long_at (layout_of t).arcs ((gluing_of (layout_of t)).use_at p s k).arc) i
       ∙ ap (λ a. reach (gluing_of (layout_of t)) (long_at (layout_of t).arcs) p s i + long_at (layout_of t).arcs a)
       (sym arc);
@@ -114,7 +130,7 @@ read t {list} {p} {i} {side} {s} {us} fine low us_is i_low way = record {
     arc = ap (λ (u : SideArc). u.arc) used_is
 
     arc_less : ((gluing_of (layout_of t)).use_at p s i).arc < length (layout_of t).arcs
-    arc_less = (laid_of (layout_of t) fine.mesh).paved.arc_low (slot p s i) is_slot
+    arc_less = fine.whole.paved.arc_low (slot p s i) is_slot
 
 -- North and west are the sides numbered from 2 on.
 pub back_by : (s : Way) {side : ℕ} → way_number s ≡ side → nat_le 2 side ≡ is_back s

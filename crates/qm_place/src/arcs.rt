@@ -5,26 +5,16 @@ ghost use Rattle.def_layout.specs.Arcs.{long_at};
 ghost use Rattle.def_layout.specs.Layouts.{layout_of};
 ghost use Rattle.def_written.specs.Places.{ONE};
 ghost use Rattle.def_remesh.specs.NewPoints.{lengths_in};
-ghost use Rattle.qm_place.specs.OnArcs.{spacing_on, AreArcPlaces};
+ghost use Rattle.qm_place.specs.OnArcs.{spacing_on};
 
+use crate::arc_places::ArcPlaces;
 use crate::ways::EDGE;
-use def_layout::{SideArc, TMesh};
+use def_layout::SideArc;
 use def_mesh::MAX_FACES;
-use def_remesh::{RunStarts, Spaced};
-
-/// The arcs of a layout with their new lengths, where their inner points begin, and the spacing of these where it is by
-/// shares.
-#[derive(Clone, Copy)]
-pub(crate) struct ArcPlaces<'a> {
-    pub t: &'a TMesh,
-    pub lengths: &'a [u32],
-    pub along: &'a RunStarts,
-    pub spaced: &'a Option<Spaced>,
-}
+use def_remesh::Spaced;
 
 /// The parameter of place k of an arc, counted from its beginning, forward, or from its end.
 pub(crate) fn parameter_of(places: &ArcPlaces, used: SideArc, k: u32) -> u64
-    requires are { AreArcPlaces places.now }
     requires arc { used.arc < length places.now.t.now.arcs.items }
     requires place { k ≤ lengths_in places.now.lengths.now used.arc }
     ensures value { result ≡ (spacing_on places.now).parameter_of used.arc used.forward k }
@@ -47,7 +37,6 @@ pub(crate) fn parameter_of(places: &ArcPlaces, used: SideArc, k: u32) -> u64
 
 /// The parameter of place k of an arc, from its beginning, by shares.
 fn shared_part(places: &ArcPlaces, spaced: &Spaced, arc: usize, k: u32) -> u64
-    requires are { AreArcPlaces places.now }
     requires spaced { places.now.spaced.now ≡ Some spaced.now }
     requires arc { arc < length places.now.t.now.arcs.items }
     requires place { k ≤ lengths_in places.now.lengths.now arc }

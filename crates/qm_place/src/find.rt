@@ -1,10 +1,12 @@
 //! Which point a number names, and where that lies.
 
 ghost use Rattle.std.specs.Prelude.{◌≡◌, ◌<◌, ◌+◌, length};
-ghost use Rattle.def_layout.specs.Layouts.{gluing_of};
+ghost use Rattle.def_layout.specs.Layouts.{gluing_of, layout_of};
 ghost use Rattle.def_map.specs.Spots.{spot_at};
 ghost use Rattle.def_written.specs.Numbers.{before_arc, vertices};
-ghost use Rattle.qm_place.specs.Lengthened.{lengths_by, layout_in, shares_by};
+ghost use Rattle.def_remesh.specs.NewPoints.{lengths_in};
+ghost use Rattle.def_remesh.specs.Placings.{shares_in};
+ghost use Rattle.qm_place.specs.Lengthened.{lengths_by, layout_in};
 
 use crate::placed::Placed;
 use crate::spots::{along_spot, inside_spot};
@@ -25,22 +27,26 @@ impl Near {
     }
 }
 
-/// Where vertex v lies. In constant time where it is near the last one, else logarithmic.
-pub(crate) fn find(placed: &Placed, v: u32, near: &mut Near) -> Spot
-    requires vertex { v < vertices (gluing_of (layout_in placed.now)) (lengths_by placed.now) }
-    ensures { result ≡ spot_at (layout_in placed.now) (shares_by placed.now) (lengths_by placed.now) v }
-{
-    let nodes = placed.t.nodes.len() as u32;
-    if v < nodes {
-        return Spot::AtVertex(placed.t.nodes[v as usize]);
+impl Placed<'_> {
+    /// Where the new vertex v lies in the old mesh. In constant time where it is near the last one, else logarithmic.
+    pub fn spot_near(&self, v: u32, near: &mut Near) -> Spot
+        requires vertex { v < vertices (gluing_of (layout_of self.now.t.now))
+            (lengths_in self.now.tables.now.lengths.items) }
+        ensures { result ≡ spot_at (layout_of self.now.t.now) (shares_in self.now.tables.now.spaced)
+            (lengths_in self.now.tables.now.lengths.items) v }
+    {
+        let nodes = self.t.nodes.len() as u32;
+        if v < nodes {
+            return Spot::AtVertex(self.t.nodes[v as usize]);
+        }
+        let arcs_end = arcs_end(self);
+        if v < arcs_end {
+            near.arc = spot_near(&self.tables.along.begin, v - nodes, near.arc);
+            return Spot::OnEdge(along_spot(self, near.arc, v - nodes));
+        }
+        near.patch = spot_near(&self.tables.inside.begin, v - arcs_end, near.patch);
+        Spot::InFace(inside_spot(self, near.patch, v - arcs_end))
     }
-    let arcs_end = arcs_end(placed);
-    if v < arcs_end {
-        near.arc = spot_near(&placed.tables.along.begin, v - nodes, near.arc);
-        return Spot::OnEdge(along_spot(placed, near.arc, v - nodes));
-    }
-    near.patch = spot_near(&placed.tables.inside.begin, v - arcs_end, near.patch);
-    Spot::InFace(inside_spot(placed, near.patch, v - arcs_end))
 }
 
 /// How many vertices are nodes or lie on arcs.

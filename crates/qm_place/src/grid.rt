@@ -11,44 +11,49 @@ ghost use Rattle.qm_place.specs.Spots.{HasEnds, HasRoom, IsOnGrid};
 use crate::ways::EDGE;
 use def_remesh::Rim;
 
-/// The parameter of grid point (i, j) from west to east: between those of the south and the north side of a patch that
-/// had so many columns.
-pub(crate) fn across(parameters: &[u64], rim: Rim, columns: u32, i: u32, j: u32) -> u64
-    requires room { HasRoom rim parameters.now }
-    requires grid { IsOnGrid rim i j }
+/// Grid point (i, j) of a patch of this size, whose parameters stand in a list.
+#[derive(Clone, Copy)]
+pub(crate) struct OnRim<'a> {
+    pub parameters: &'a [u64],
+    pub rim: Rim,
+    pub i: u32,
+    pub j: u32,
+    ghost room: { HasRoom rim parameters.now },
+    ghost grid: { IsOnGrid rim i j },
+}
+
+/// The parameter of a grid point from west to east: between those of the south and the north side of a patch that had
+/// so many columns.
+pub(crate) fn across(at: &OnRim, columns: u32) -> u64
     ensures { (layout : Layout) (new : Lengths) (spacing : ArcSpacing) (patch : ℕ) → patch < (gluing_of layout).patches
-        → AreLengths (gluing_of layout) new → IsRim layout new spacing patch rim parameters.now
+        → AreLengths (gluing_of layout) new → IsRim layout new spacing patch at.now.rim at.now.parameters.now
         → HasEnds layout new spacing patch
         → columns ≡ wide (gluing_of layout) (long_at layout.arcs) patch
-        → result ≡ parameter_u (gluing_of layout) (long_at layout.arcs) new spacing patch i j }
+        → result ≡ parameter_u (gluing_of layout) (long_at layout.arcs) new spacing patch at.now.i at.now.j }
 {
-    let south = at_place(
-        parameters,
-        rim.begin,
-        rim.wide,
-        i,
-        EDGE * u64::from(columns),
-    );
+    let rim = at.rim;
+    let end = EDGE * u64::from(columns);
+    let south = at_place(at.parameters, rim.begin, rim.wide, at.i, end);
     let north_begin = rim.begin + rim.wide as usize + rim.high as usize;
-    let north = at_place(parameters, north_begin, rim.wide, rim.wide - i, 0);
-    mean(south, north, j, rim.high)
+    let north = at_place(at.parameters, north_begin, rim.wide, rim.wide - at.i, 0);
+    mean(south, north, at.j, rim.high)
 }
 
 /// Its parameter from south to north: between those of the west and the east side of a patch that had so many rows.
-pub(crate) fn upright(parameters: &[u64], rim: Rim, rows: u32, i: u32, j: u32) -> u64
-    requires room { HasRoom rim parameters.now }
-    requires grid { IsOnGrid rim i j }
+pub(crate) fn upright(at: &OnRim, rows: u32) -> u64
     ensures { (layout : Layout) (new : Lengths) (spacing : ArcSpacing) (patch : ℕ) → patch < (gluing_of layout).patches
-        → AreLengths (gluing_of layout) new → IsRim layout new spacing patch rim parameters.now
+        → AreLengths (gluing_of layout) new → IsRim layout new spacing patch at.now.rim at.now.parameters.now
         → HasEnds layout new spacing patch
         → rows ≡ high (gluing_of layout) (long_at layout.arcs) patch
-        → result ≡ parameter_v (gluing_of layout) (long_at layout.arcs) new spacing patch i j }
+        → result ≡ parameter_v (gluing_of layout) (long_at layout.arcs) new spacing patch at.now.i at.now.j }
 {
+    let rim = at.rim;
+    let end = EDGE * u64::from(rows);
     let east_begin = rim.begin + rim.wide as usize;
-    let east = at_place(parameters, east_begin, rim.high, j, EDGE * u64::from(rows));
+    let east = at_place(at.parameters, east_begin, rim.high, at.j, end);
     let west_begin = east_begin + rim.high as usize + rim.wide as usize;
-    let west = at_place(parameters, west_begin, rim.high, rim.high - j, 0);
-    mean(west, east, i, rim.wide)
+    let west = at_place(at.parameters, west_begin, rim.high, rim.high - at.j, 0);
+    mean(west, east, at.i, rim.wide)
 }
 
 /// The parameter of a place of a side that has so many, whose parameters begin here, or that of the end of the side.

@@ -2,10 +2,11 @@
 
 ghost use Rattle.std.specs.Prelude.{◌≡◌, ◌<◌, ◌≤◌, ◌+◌, ◌*◌, ◌/◌, ◌^◌, length, pos, ◌-ℤ◌};
 ghost use Rattle.def_layout.specs.Lengths.{wide, high};
-ghost use Rattle.def_layout.specs.Layouts.{gluing_of};
+ghost use Rattle.def_layout.specs.Layouts.{gluing_of, layout_of};
 ghost use Rattle.def_map.specs.Homes.{home_of};
 ghost use Rattle.def_written.specs.Places.{ONE};
-ghost use Rattle.qm_place.specs.Lengthened.{lengths_by, layout_in, shares_by};
+ghost use Rattle.def_remesh.specs.NewPoints.{lengths_in};
+ghost use Rattle.def_remesh.specs.Placings.{shares_in};
 ghost use Rattle.qm_place.specs.Spots.{seen_from, IsSmall};
 
 use crate::grid::cell_at;
@@ -14,30 +15,36 @@ use crate::spots::{GridPoint, grid_point};
 use crate::ways::EDGE;
 use def_map::{Home, Seen};
 
-/// Where cell (i, j) of a patch lies.
-pub(crate) fn cell_home(placed: &Placed, patch: usize, i: u32, j: u32) -> Home
-    requires patch { patch < length placed.now.t.now.patches.items }
-    requires column { i < wide (gluing_of (layout_in placed.now)) (lengths_by placed.now) patch }
-    requires row { j < high (gluing_of (layout_in placed.now)) (lengths_by placed.now) patch }
-    ensures { result ≡ home_of (layout_in placed.now) (shares_by placed.now) (lengths_by placed.now) patch i j }
-{
-    let south_west = grid_point(placed, patch, i, j);
-    let south_east = grid_point(placed, patch, i + 1, j);
-    let north_east = grid_point(placed, patch, i + 1, j + 1);
-    let north_west = grid_point(placed, patch, i, j + 1);
-    let u = mean_of(south_west.u, south_east.u, north_east.u, north_west.u);
-    let v = mean_of(south_west.v, south_east.v, north_east.v, north_west.v);
-    let old = &placed.t.patches[patch];
-    let a = cell_at(old.w, u);
-    let b = cell_at(old.h, v);
-    Home {
-        dart: old.cells[b as usize * old.w as usize + a as usize],
-        corners: [
-            seen_from(south_west, a, b),
-            seen_from(south_east, a, b),
-            seen_from(north_east, a, b),
-            seen_from(north_west, a, b),
-        ],
+impl Placed<'_> {
+    /// Where the new face in column i and row j of a patch lies in the old mesh.
+    pub fn home(&self, patch: usize, i: u32, j: u32) -> Home
+        requires patch { patch < length self.now.t.now.patches.items }
+        requires column { i < wide (gluing_of (layout_of self.now.t.now))
+            (lengths_in self.now.tables.now.lengths.items) patch }
+        requires row { j < high (gluing_of (layout_of self.now.t.now))
+            (lengths_in self.now.tables.now.lengths.items) patch }
+        ensures { result
+            ≡ home_of (layout_of self.now.t.now) (shares_in self.now.tables.now.spaced)
+            (lengths_in self.now.tables.now.lengths.items) patch i j }
+    {
+        let south_west = grid_point(self, patch, i, j);
+        let south_east = grid_point(self, patch, i + 1, j);
+        let north_east = grid_point(self, patch, i + 1, j + 1);
+        let north_west = grid_point(self, patch, i, j + 1);
+        let u = mean_of(south_west.u, south_east.u, north_east.u, north_west.u);
+        let v = mean_of(south_west.v, south_east.v, north_east.v, north_west.v);
+        let old = &self.t.patches[patch];
+        let a = cell_at(old.w, u);
+        let b = cell_at(old.h, v);
+        Home {
+            dart: old.cells[b as usize * old.w as usize + a as usize],
+            corners: [
+                seen_from(south_west, a, b),
+                seen_from(south_east, a, b),
+                seen_from(north_east, a, b),
+                seen_from(north_west, a, b),
+            ],
+        }
     }
 }
 

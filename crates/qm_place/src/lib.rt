@@ -1,6 +1,7 @@
 //! The places of the vertices of the new mesh.
 #![tactic(auto)]
 
+mod arc_places;
 mod arcs;
 mod axes;
 mod find;

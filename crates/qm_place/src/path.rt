@@ -4,8 +4,15 @@ ghost use Rattle.std.specs.Prelude.{◌≡◌, ◌<◌, ◌≤◌, ◌==◌, ◌
 ghost use Rattle.def_math.specs.Counts.{count_below};
 ghost use Rattle.qm_place.specs.Paths.{share_by, share_on};
 
-use def_mesh::MAX_FACES;
 use def_remesh::{DartShares, EDGE_SHARE};
+
+/// The darts of an arc: some, and not too many.
+#[derive(Clone, Copy)]
+pub(crate) struct ArcDarts<'a> {
+    pub all: &'a [u32],
+    ghost some: { 0 < length all.now },
+    ghost few: { length all.now ≤ 2 ^ 21 },
+}
 
 /// The darts of an arc with the shares of all darts, or with equal ones, and what those of the arc add up to.
 #[derive(Clone, Copy)]
@@ -21,13 +28,13 @@ pub(crate) struct Path<'a> {
 }
 
 /// The path of these darts. Where they all have the share 0, they have equal ones.
-pub(crate) fn path_of<'a>(darts: &'a [u32], shares: &'a DartShares) -> Path<'a>
-    requires some { 0 < length darts.now }
-    requires few { length darts.now ≤ MAX_FACES }
-    ensures darts { result.darts.now ≡ darts.now }
+pub(crate) fn path_of<'a>(arc: &ArcDarts<'a>, shares: &'a DartShares) -> Path<'a>
+    ensures darts { result.darts.now ≡ arc.now.all.now }
     ensures shares { result.shares.now ≡ shares.now }
-    ensures alike { result.alike ≡ (count_below (share_by darts.now shares.now false) (length darts.now) == 0) }
+    ensures alike { result.alike
+        ≡ (count_below (share_by arc.now.all.now shares.now false) (length arc.now.all.now) == 0) }
 {
+    let darts = arc.all;
     let mut all = 0u128;
     for dart in darts {
         all += u128::from(share_of(shares, *dart));

@@ -6,8 +6,6 @@ ghost use Rattle.def_mesh.specs.Faces.{Faces};
 ghost use Rattle.def_mesh.specs.Vertices.{vertex_count};
 ghost use Rattle.def_layout.specs.Lengths.{wide, high, AreLengths};
 ghost use Rattle.def_layout.specs.Layouts.{gluing_of, layout_of};
-ghost use Rattle.def_map.specs.Homes.{home_of};
-ghost use Rattle.def_map.specs.Spots.{spot_at};
 ghost use Rattle.def_written.specs.NewFaces.{face_count};
 ghost use Rattle.def_written.specs.Numbers.{vertices};
 ghost use Rattle.def_remesh.specs.NewPoints.{lengths_in};
@@ -19,16 +17,14 @@ ghost use Rattle.def_remesh.specs.declared.limits.TheConstants.{MAX_NEW_FACES};
 ghost use Rattle.qm_place.specs.ArcTables.{AreFine};
 ghost use Rattle.qm_place.specs.Spots.{inner_of};
 
-use crate::arcs::ArcPlaces;
+use crate::arc_places::ArcPlaces;
 use crate::axes::place_there;
-use crate::find::{Near, find};
-use crate::homes::cell_home;
+use crate::find::Near;
 use crate::old::OldMesh;
 use crate::placed::Placed;
 use crate::sides::sides_of;
 use crate::spacing::shared_parameters;
 use def_layout::TMesh;
-use def_map::{Home, Spot};
 use def_remesh::{DartShares, PlaceTables, Rim, RunStarts, Spaced};
 use def_text::Micro;
 use qm_mesh::Mesh;
@@ -153,31 +149,7 @@ impl Placed<'_> {
         ensures between { LiesBetween pos.now result }
     {
         let old = OldMesh { mesh, pos };
-        place_there(&old, find(self, v, near))
-    }
-
-    /// Where the new vertex v lies in the old mesh. In constant time where it is near the last one, else logarithmic.
-    pub fn spot_near(&self, v: u32, near: &mut Near) -> Spot
-        requires vertex { v < vertices (gluing_of (layout_of self.now.t.now))
-            (lengths_in self.now.tables.now.lengths.items) }
-        ensures { result ≡ spot_at (layout_of self.now.t.now) (shares_in self.now.tables.now.spaced)
-            (lengths_in self.now.tables.now.lengths.items) v }
-    {
-        find(self, v, near)
-    }
-
-    /// Where the new face in column i and row j of a patch lies in the old mesh.
-    pub fn home(&self, patch: usize, i: u32, j: u32) -> Home
-        requires patch { patch < length self.now.t.now.patches.items }
-        requires column { i < wide (gluing_of (layout_of self.now.t.now))
-            (lengths_in self.now.tables.now.lengths.items) patch }
-        requires row { j < high (gluing_of (layout_of self.now.t.now))
-            (lengths_in self.now.tables.now.lengths.items) patch }
-        ensures { result
-            ≡ home_of (layout_of self.now.t.now) (shares_in self.now.tables.now.spaced)
-            (lengths_in self.now.tables.now.lengths.items) patch i j }
-    {
-        cell_home(self, patch, i, j)
+        place_there(&old, self.spot_near(v, near))
     }
 
     /// The new size of a patch: how wide it is, and how high.

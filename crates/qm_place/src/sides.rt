@@ -5,15 +5,15 @@ ghost use Rattle.def_layout.specs.Arcs.{long_at};
 ghost use Rattle.def_layout.specs.Gluings.{Way};
 ghost use Rattle.def_layout.specs.Lengths.{size};
 ghost use Rattle.def_layout.specs.Layouts.{gluing_of, way_number, layout_of};
-ghost use Rattle.def_layoutnet.specs.MeshLayouts.{IsSomeLayout};
 ghost use Rattle.def_remesh.specs.NewPoints.{lengths_in};
 ghost use Rattle.def_remesh.specs.Placings.{rim_at, side_parameter, IsRim};
-ghost use Rattle.qm_place.specs.OnArcs.{spacing_on, AreArcPlaces};
+ghost use Rattle.qm_place.specs.OnArcs.{spacing_on};
 ghost use Rattle.qm_place.specs.Pushed.{on_arc, ArePushed, IsKept};
 
-use crate::arcs::{ArcPlaces, parameter_of};
+use crate::arc_places::ArcPlaces;
+use crate::arcs::parameter_of;
 use crate::ways::EDGE;
-use def_layout::{SideArc, TMesh};
+use def_layout::SideArc;
 use def_mesh::MAX_FACES;
 use def_remesh::Rim;
 use qm_offsets::side_of;
@@ -28,7 +28,6 @@ pub(crate) struct Sides {
 
 /// The sizes of all patches and the parameters of their sides. Linear in the new vertices on these.
 pub(crate) fn sides_of(alloc: Global, places: &ArcPlaces) -> Result<Sides, AllocError>
-    requires are { AreArcPlaces places.now }
     ensures count { IfOk result (λ sides. length sides.rims.items ≡ length places.now.t.now.patches.items) }
     ensures rims { IfOk result (λ sides. (patch : ℕ) → patch < length places.now.t.now.patches.items
         → IsRim (layout_of places.now.t.now) (lengths_in places.now.lengths.now) (spacing_on places.now) patch
@@ -50,7 +49,6 @@ fn push_patch(
     places: &ArcPlaces,
     patch: usize,
 ) -> Result<Rim, AllocError>
-    requires are { AreArcPlaces places.now }
     requires low { patch < length places.now.t.now.patches.items }
     ensures rim { IfOk result (λ rim. IsRim (layout_of places.now.t.now) (lengths_in places.now.lengths.now)
         (spacing_on places.now) patch rim parameters.new.items) }
@@ -78,7 +76,6 @@ fn push_side(
     patch: usize,
     side: usize,
 ) -> Result<(), AllocError>
-    requires are { AreArcPlaces places.now }
     requires low { patch < length places.now.t.now.patches.items }
     requires side { side < 4 }
     ensures { OnOk result ((way : Way) → way_number way ≡ side → ArePushed parameters.old.items parameters.new.items
@@ -88,7 +85,7 @@ fn push_side(
 {
     let back = side >= 2;
     let t = places.t;
-    let whole = old_size(t, patch, side);
+    let whole = old_size(places, patch, side);
     let mut before = 0;
     for used in side_of(t, patch, side) {
         let old = t.arcs[used.arc as usize].darts.len() as u64;
@@ -108,17 +105,16 @@ fn start_of(whole: u64, before: u64, old: u64, back: bool) -> u64
 }
 
 /// How many old edges a side has.
-fn old_size(t: &TMesh, patch: usize, side: usize) -> u64
-    requires layout { IsSomeLayout (layout_of t.now) }
-    requires low { patch < length t.now.patches.items }
+fn old_size(places: &ArcPlaces, patch: usize, side: usize) -> u64
+    requires low { patch < length places.now.t.now.patches.items }
     requires side { side < 4 }
     ensures { (way : Way) → way_number way ≡ side
-        → result ≡ size (gluing_of (layout_of t.now)) (long_at (layout_of t.now).arcs) patch way }
+        → result ≡ size (gluing_of (layout_of places.now.t.now)) (long_at (layout_of places.now.t.now).arcs) patch way }
 {
     if side % 2 == 0 {
-        u64::from(t.patches[patch].w)
+        u64::from(places.t.patches[patch].w)
     } else {
-        u64::from(t.patches[patch].h)
+        u64::from(places.t.patches[patch].h)
     }
 }
 
@@ -131,7 +127,6 @@ fn push_arc(
     used: SideArc,
     back: bool,
 ) -> Result<(), AllocError>
-    requires are { AreArcPlaces places.now }
     requires arc { used.arc < length places.now.t.now.arcs.items }
     requires few { before ≤ MAX_FACES }
     ensures { OnOk result (ArePushed parameters.old.items parameters.new.items

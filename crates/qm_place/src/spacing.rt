@@ -10,10 +10,9 @@ ghost use Rattle.qm_place.specs.Paths.{share_by};
 ghost use Rattle.qm_place.specs.ArcTables.{AreFine};
 ghost use Rattle.qm_place.specs.Pushed.{ArePushed};
 
-use crate::path::path_of;
+use crate::path::{ArcDarts, path_of};
 use crate::walk::{Reached, parameter_at, reach};
 use def_layout::TMesh;
-use def_mesh::MAX_FACES;
 use def_remesh::DartShares;
 use std::alloc::{AllocError, Global};
 
@@ -31,7 +30,10 @@ pub(crate) fn shared_parameters(
 {
     let mut parameters = Vec::new(alloc);
     for arc in 0..t.arcs.len() {
-        push_shared(&mut parameters, &t.arcs[arc].darts, lengths[arc], shares)?;
+        let darts = ArcDarts {
+            all: &t.arcs[arc].darts,
+        };
+        push_shared(&mut parameters, &darts, lengths[arc], shares)?;
     }
     Ok(parameters)
 }
@@ -39,16 +41,14 @@ pub(crate) fn shared_parameters(
 /// Puts those of the inner points of an arc behind the others.
 fn push_shared(
     parameters: &mut Vec<u64>,
-    darts: &[u32],
+    darts: &ArcDarts,
     new: u32,
     shares: &DartShares,
 ) -> Result<(), AllocError>
-    requires some { 0 < length darts.now }
-    requires few { length darts.now ≤ MAX_FACES }
-    requires new { 0 < new }
+    requires { 0 < new }
     ensures { OnOk result (ArePushed parameters.old.items parameters.new.items (new - 1) (λ i. step_parameter
-        (inner_step (counted (share_by darts.now shares.now false) (length darts.now)) (length darts.now) new
-        (i + 1)))) }
+        (inner_step (counted (share_by darts.now.all.now shares.now false) (length darts.now.all.now))
+        (length darts.now.all.now) new (i + 1)))) }
 {
     let path = path_of(darts, shares);
     let mut at = Reached::new();

@@ -11,7 +11,7 @@ ghost use Rattle.def_remesh.specs.Placings.{rim_at};
 ghost use Rattle.qm_place.specs.Lengthened.{lengths_by, layout_in, spacing_at};
 ghost use Rattle.qm_place.specs.Spots.{grid_point, IsAlong, IsInside, IsOnGrid, IsSmall};
 
-use crate::grid::{across, cell_at, upright};
+use crate::grid::{OnRim, across, cell_at, upright};
 use crate::placed::Placed;
 use crate::ways::EDGE;
 use def_map::{EdgeSpot, FaceSpot};
@@ -117,7 +117,13 @@ pub(crate) fn grid_point(placed: &Placed, patch: usize, i: u32, j: u32) -> GridP
 {
     let rim = placed.tables.rims[patch];
     let old = &placed.t.patches[patch];
-    let u = across(&placed.tables.parameters, rim, old.w, i, j);
-    let v = upright(&placed.tables.parameters, rim, old.h, i, j);
+    let at = OnRim {
+        parameters: &placed.tables.parameters,
+        rim,
+        i,
+        j,
+    };
+    let u = across(&at, old.w);
+    let v = upright(&at, old.h);
     GridPoint { u, v }
 }

@@ -3,8 +3,11 @@ use Rattle.std.proofs.Common.{◌≡◌, ◌≢◌, ◌⊎◌, ℕ, ◌+◌, ◌
 use Rattle.std.proofs.Common.{ap, subst, inl, inr, arith}
 use Rattle.std.proofs.lemmas.Bool.{cases_lt}
 use Rattle.std.proofs.lemmas.List.{get_or-map, get_or_default, length-map}
-use Rattle.std.specs.{Prelude.min, Prelude.max, List.Contains}
-use Rattle.def_layout.specs.{Gluings.Way, Gluings.east, Gluings.north, Gluings.Gluing, Surfaces.IsSurface}
+use Rattle.std.specs.{Prelude.min, Prelude.max, List.Contains, Coded.×_prop, Coded.le_prop}
+use mathlib.Core.HLevel.{⊥_prop}
+use mathlib.Core.Logic.{∥∥₁_elim}
+use Rattle.def_layout.specs.{Gluings.Way, Gluings.east, Gluings.north, Gluings.Gluing, Surfaces.HasWholeSides}
+use Rattle.def_layout.specs.Surfaces.{IsSurface}
 use Rattle.def_layout.specs.Lengths.{Lengths, AreLengths}
 use Rattle.def_written.specs.{Points.inside, Numbers.vertex_number, Numbers.vertices, Edges.Edge, Edges.on_arc}
 use Rattle.def_written.specs.Edges.{flat, steep, IsEdge, edge_start, edge_end, HasEnds}
@@ -140,27 +143,34 @@ module _ (l : Gluing) (x : Lengths) (laid : IsSurface l) (len : AreLengths l x) 
       equal (inl s) = same (s.0 ∙ sym s.1)
       equal (inr s) = same (s.0 ∙ sym s.1)
 
+  -- The numbers of the ends of an edge are small.
+  ends_few : vertices l x ≤ 2 ^ 23 → (e : Edge) → IsEdge l x e → (vertex_number l x (edge_start l x e) < 2 ^ 32)
+      × (vertex_number l x (edge_end l x e) < 2 ^ 32)
+  ends_few few e is = (
+    omega (arith, few, number_low l x (edge_start l x e) (edge_points l x laid len e is).0),
+    omega (arith, few, number_low l x (edge_end l x e) (edge_points l x laid len e is).1),
+  )
+
+module _ (l : Gluing) (x : Lengths) (paved : HasWholeSides l) (laid : ∥ IsSurface l ∥₁) (len : AreLengths l x) where
   -- An edge that is doubled is listed.
   listed : (e f : Edge) (u v : ℕ) → IsEdge l x e → IsEdge l x f → HasEnds l x e u v → HasEnds l x f u v → e ≢ f
       → Contains (rim_edges l x) e
   listed e f u v is_e is_f e_ends f_ends apart = elim (deep_or_listed l x e is_e) [
-    | inl deep ↦ absurd (apart (deep_alone e f u v is_e is_f e_ends f_ends deep))
+    | inl deep ↦ absurd (∥∥₁_elim laid ⊥_prop (λ is. apart (deep_alone l x is len e f u v is_e is_f e_ends f_ends
+        deep)))
     | inr has ↦ has
   ]
 
   loop_listed : (e : Edge) (u : ℕ) → IsEdge l x e → HasEnds l x e u u → Contains (rim_edges l x) e
   loop_listed e u is ends = elim (deep_or_listed l x e is) [
-    | inl deep ↦ absurd (deep_apart e u is ends deep)
+    | inl deep ↦ absurd (∥∥₁_elim laid ⊥_prop (λ whole. deep_apart l x whole len e u is ends deep))
     | inr has ↦ has
   ]
 
   module _ (few : vertices l x ≤ 2 ^ 23) where
     ends_low : (e : Edge) → IsEdge l x e → (vertex_number l x (edge_start l x e) < 2 ^ 32)
         × (vertex_number l x (edge_end l x e) < 2 ^ 32)
-    ends_low e is = (
-      omega (arith, few, number_low l x (edge_start l x e) (edge_points l x laid len e is).0),
-      omega (arith, few, number_low l x (edge_end l x e) (edge_points l x laid len e is).1),
-    )
+    ends_low e is = ∥∥₁_elim laid (×_prop le_prop le_prop) (λ whole. ends_few l x whole len few e is)
 
     pub key_ends : (e : Edge) (key : ℕ) → IsEdge l x e → key ≡ key_of l x e
         → (key / 2 ^ 32 ≤ key % 2 ^ 32) × HasEnds l x e (key / 2 ^ 32) (key % 2 ^ 32)
@@ -185,7 +195,7 @@ module _ (l : Gluing) (x : Lengths) (laid : IsSurface l) (len : AreLengths l x) 
     edge_at k = get_or edges k (on_arc 0 0)
 
     edge_is : (k : ℕ) → k < length keys → IsEdge l x (edge_at k)
-    edge_is k less = all_edges l x laid.paved len k (on_arc 0 0) (omega (arith, less, keys_long))
+    edge_is k less = all_edges l x paved len k (on_arc 0 0) (omega (arith, less, keys_long))
 
     key_at : (k d : ℕ) → k < length keys → get_or keys k d ≡ key_of l x (edge_at k)
     key_at k d less = get_or-map (key_of l x) edges k (on_arc 0 0) d (omega (arith, less, keys_long))

@@ -18,7 +18,7 @@ use Rattle.def_remesh.specs.{declared.tables.RunStarts.RunStarts, declared.table
 use Rattle.written_laws.proofs.{Runs.run_here, Runs.run_low, Runs.IsInRun, EdgeNumbers.in_rows, Numbers.number_low}
 use Rattle.written_laws.proofs.Sides.{arc_inner}
 use Rattle.qm_offsets.proofs.Spots.{last_is, within_run}
-use Rattle.qm_offsets.proofs.Whole.{arcs_low, read_size, read_used, way_for}
+use Rattle.qm_offsets.proofs.Whole.{arcs_low, read_size, read_used, sides_of, way_for}
 use Rattle.embedding_laws.proofs.{MeshLayouts.laid_of, Bounds.side_few, Bounds.vertices_few}
 use Rattle.qm_stitch.specs.{Numbered.AreTables, Sizes.long_by, Sizes.table_in, Sizes.point_on}
 
@@ -45,9 +45,8 @@ module _ (l : Gluing) (x : Lengths) (p i j : ℕ) where
 -- What is read of tables that number the layout of a mesh.
 pub tables_are : (layout : Layout) (t : Tables) → IsNumbering layout t → AreTables layout t
 tables_are layout t is = record {
-  paved = (laid_of layout is.mesh).paved;
-  sided = is.mesh.laid.sided;
-  four = is.mesh.laid.four;
+  whole = sides_of layout is.mesh;
+  laid = ∣ laid_of layout is.mesh ∣₁;
   long = is.long;
   lengths = is.lengths;
   few = omega (
@@ -159,8 +158,8 @@ module _ (layout : Layout) (t : Tables) (is : AreTables layout t) where
           subst (λ (k : ℕ). IsBorder p k (get_or (get_or layout.sides p []) k [])
           (table_in (tables_of t.sides.items) p k)) w.1
           (record {
-            some = is.paved.sides_full p w.0 low;
-            low = arcs_low layout is.paved p w.0 (length layout.arcs) (side_at layout p w.0) low refl refl;
+            some = is.whole.paved.sides_full p w.0 low;
+            low = arcs_low layout is.whole.paved p w.0 (length layout.arcs) (side_at layout p w.0) low refl refl;
             starts_are = is.sides.each p w.0 low;
             long = sym (long_is p w.0 low);
           })

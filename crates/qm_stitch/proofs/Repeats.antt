@@ -6,7 +6,7 @@ use Rattle.std.proofs.lemmas.Bool.{false≢true, lt-ltb, ltb-true, ne_eqb, or_ca
 use Rattle.std.proofs.lemmas.List.{get_or-take, get_or-drop, get_or_default, length-take-le, length-drop}
 use Rattle.std.proofs.lemmas.List.Elements.{Contains-get_or}
 use Rattle.std.proofs.lemmas.List.Sums.{sum_by-cons, sum_by-take-drop, get_or-le-sum_by}
-use Rattle.std.proofs.lemmas.List.Sorted.{sum_by-IsPermutation, Contains-permutation, IsPermutation-sym}
+use Rattle.std.proofs.lemmas.List.Sorted.{sum_by-IsPermutation}
 use Rattle.std.specs.{Prelude.◌==◌, Prelude.◌&&◌, Prelude.nat_lt, List.sum_by, List.Sorted.IsPermutation}
 use Rattle.std.specs.List.Sorted.{IsNonDecreasing}
 use Rattle.qm_stitch.specs.Rims.{is_loop, is_repeat_at, IsLeastRepeat, IsRepeat, StandsTwice}
@@ -58,11 +58,15 @@ two_times key xs (i, j, less, low, at_i, at_j) =
       hit_same key (get_or (drop j xs) 0 0) (get_or-drop j xs 0 0 ∙ ap (λ k. get_or xs k 0) (omega arith) ∙ at_j),
     )
 
--- What repeats in a list repeats in each order of it.
-pub repeat_moved : (xs ys : List ℕ) (key : ℕ) → IsPermutation xs ys → IsRepeat xs key → IsRepeat ys key
-repeat_moved xs ys key moved (inl loop) = inl (loop.0, Contains-permutation xs ys key moved loop.1)
-repeat_moved xs ys key moved (inr two) =
-    inr (two_places key ys (omega (arith, two_times key xs two, sum_by-IsPermutation (hit key) xs ys moved)))
+-- What repeats in a list repeats in each list that has the same sums.
+pub repeat_moved : (xs ys : List ℕ) (key : ℕ) → ((f : ℕ → ℕ) → sum_by f ys ≡ sum_by f xs) → IsRepeat xs key
+    → IsRepeat ys key
+repeat_moved xs ys key same (inl (loop, (k, low, at))) =
+    let here : hit key (get_or xs k 0) ≡ 1 = hit_same key (get_or xs k 0) (get_or_default xs k 0 key low ∙ at) in
+    let r : (i : ℕ) × (i < length ys) × (get_or ys i 0 ≡ key) =
+    some_place key ys (omega (arith, same (hit key), get_or-le-sum_by (hit key) xs k 0 low, here)) in
+    inl (loop, (r.0, r.1, get_or_default ys r.0 key 0 r.1 ∙ r.2))
+repeat_moved xs ys key same (inr two) = inr (two_places key ys (omega (arith, two_times key xs two, same (hit key))))
 
 -- In an increasing list, what stands twice stands at two places in a row.
 pub next_to : (xs : List ℕ) (key : ℕ) → IsNonDecreasing xs → StandsTwice xs key
@@ -196,6 +200,6 @@ repeat_somewhere keys key (inr (i, j, less, low, at_i, at_j)) = (j, low, at_j)
 -- The least repeat does not depend on the order.
 pub least_moved : (xs ys : List ℕ) (key : ℕ) → IsPermutation xs ys → IsLeastRepeat ys key → IsLeastRepeat xs key
 least_moved xs ys key moved is = record {
-  is = repeat_moved ys xs key (IsPermutation-sym xs ys moved) is.is;
-  least = λ other repeats. is.least other (repeat_moved xs ys other moved repeats);
+  is = repeat_moved ys xs key (λ f. sym (sum_by-IsPermutation f xs ys moved)) is.is;
+  least = λ other repeats. is.least other (repeat_moved xs ys other (λ f. sum_by-IsPermutation f xs ys moved) repeats);
 }

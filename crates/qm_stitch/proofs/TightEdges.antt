@@ -2,13 +2,16 @@
 use Rattle.std.proofs.Common.{◌≡◌, ◌⊎◌, ◌↔◌, ℕ, ◌+◌, ◌-◌, ◌/◌, ◌%◌, ◌^◌, ◌<◌, ◌≤◌, Bool, true, false, not, List}
 use Rattle.std.proofs.Common.{length, get_or, refl, sym, ◌∙◌, ap, subst, inl, inr, arith}
 use Rattle.std.proofs.lemmas.Bool.{cases_eq, cases_lt}
-use Rattle.std.proofs.lemmas.List.Sorted.{IsPermutation-sym}
-use Rattle.def_layout.specs.{Gluings.Gluing, Surfaces.IsSurface, Lengths.Lengths, Lengths.size, Lengths.AreLengths}
+use mathlib.Core.HLevel.{⊥_prop}
+use mathlib.Core.Logic.{∥∥₁_elim}
+use Rattle.def_layout.specs.{Gluings.Gluing, Surfaces.IsSurface, Lengths.Lengths, Lengths.size, Layouts.layout_of}
 use Rattle.def_remesh.specs.Rises.{IsTightArc, RunsAlong}
 use Rattle.def_written.specs.Edges.{Edge, on_arc, flat, steep, IsEdge, HasEnds, HasLoop, HasPair}
-use Rattle.def_written.specs.Numbers.{vertices}
-use Rattle.qm_stitch.specs.Rims.{along_lines, key_of, keys_of, line_edge, rim_edges, IsRepeat}
-use Rattle.qm_stitch.specs.Tight.{AddsMarks, AreRimKeys, IsDoubled, IsDoubledOn, IsLineDoubled, IsTightUpto}
+use Rattle.written_laws.proofs.Sides.{size_some}
+use Rattle.qm_stitch.specs.{Lengthened.gluing_in, Lengthened.lengths_by, Numbered.AreTables}
+use Rattle.qm_stitch.specs.Rims.{along_lines, key_of, keys_of, line_edge, rim_edges, IsLine, IsRepeat}
+use Rattle.qm_stitch.specs.Tight.{AddsMarks, IsDoubled, IsDoubledOn, IsLineDoubled, IsTightUpto}
+use Rattle.qm_stitch.specs.{declared.keyed.Keyed.Keyed, declared.rim.Line.Line}
 use Rattle.qm_stitch.proofs.DoubledPairs.{deep_alone, deep_apart, doubled_repeats, ends_key, key_ends, repeat_doubled}
 use Rattle.qm_stitch.proofs.Repeats.{repeat_moved}
 use Rattle.qm_stitch.proofs.RimEdges.{IsDeep}
@@ -78,17 +81,26 @@ tight_told l x n on old new all same long each adds arc low =
     to_more (inl is) = inl (subst (λ (xs : List Bool). get_or xs arc false ≡ true) (sym same) ((each arc low).1 is))
     to_more (inr is) = inr (subst (λ (m : ℕ). IsTightUpto l x m arc) (sym all) is)
 
-module _ (l : Gluing) (x : Lengths) (laid : IsSurface l) (len : AreLengths l x) where
+module _ (keyed : Keyed) where
+  abbrev l : Gluing
+  l = gluing_in keyed.numbered
+
+  abbrev x : Lengths
+  x = lengths_by keyed.numbered
+
+  abbrev are : AreTables (layout_of keyed.numbered.t.now) keyed.numbered.tables.now
+  are = keyed.numbered.numbers
+
   -- An edge between two inner points of a patch is not doubled.
   never_deep : (e : Edge) → IsDoubled l x e → IsDeep l x e → ⊥
-  never_deep e is deep = by_case is.doubled.1
+  never_deep e is deep = ∥∥₁_elim are.laid ⊥_prop (λ laid. by_case laid is.doubled.1)
     where
-      by_case : ((is.u ≡ is.v) × HasLoop l x is.u) ⊎ HasPair l x is.u is.v → ⊥
-      by_case (inl (same, loop)) =
-          deep_apart l x laid len e is.u is.is (subst (λ (w : ℕ). HasEnds l x e is.u w) (sym same) is.ends) deep
-      by_case (inr (f, g, is_f, is_g, apart, f_ends, g_ends)) =
-          apart (sym (deep_alone l x laid len e f is.u is.v is.is is_f is.ends f_ends deep)
-          ∙ deep_alone l x laid len e g is.u is.v is.is is_g is.ends g_ends deep)
+      by_case : IsSurface l → ((is.u ≡ is.v) × HasLoop l x is.u) ⊎ HasPair l x is.u is.v → ⊥
+      by_case laid (inl (same, loop)) = deep_apart l x laid are.lengths e is.u is.is
+          (subst (λ (w : ℕ). HasEnds l x e is.u w) (sym same) is.ends) deep
+      by_case laid (inr (f, g, is_f, is_g, apart, f_ends, g_ends)) =
+          apart (sym (deep_alone l x laid are.lengths e f is.u is.v is.is is_f is.ends f_ends deep)
+          ∙ deep_alone l x laid are.lengths e g is.u is.v is.is is_g is.ends g_ends deep)
 
   -- So in a line it is the first edge or the last one.
   pub line_end : (u : Bool) (p n k : ℕ) → IsDoubled l x (line_edge u p n k)
@@ -101,54 +113,63 @@ module _ (l : Gluing) (x : Lengths) (laid : IsSurface l) (len : AreLengths l x) 
     ]
   ]
 
-  module _ (few : vertices l x ≤ 2 ^ 23) where
-    -- Whether an edge is doubled its key tells.
-    pub key_tells : (keys : List ℕ) (e : Edge) → AreRimKeys l x keys → IsEdge l x e
-        → IsRepeat keys (key_of l x e) ↔ IsDoubled l x e
-    key_tells keys e are is = (there, back)
+  -- Whether an edge is doubled its key tells.
+  pub key_tells : (e : Edge) → IsEdge l x e → IsRepeat keyed.keys.now (key_of l x e) ↔ IsDoubled l x e
+  key_tells e is = (there, back)
+    where
+      rim : List ℕ
+      rim = keys_of l x (rim_edges l x)
+
+      there : IsRepeat keyed.keys.now (key_of l x e) → IsDoubled l x e
+      there repeats = record {
+        is = is;
+        u = key_of l x e / 2 ^ 32;
+        v = key_of l x e % 2 ^ 32;
+        ends = (key_ends l x are.whole.paved are.laid are.lengths are.few e (key_of l x e) is refl).1;
+        doubled = repeat_doubled l x are.whole.paved are.laid are.lengths are.few (key_of l x e)
+            (repeat_moved keyed.keys.now rim (key_of l x e) (λ f. sym (keyed.rim.moved f)) repeats);
+      }
+
+      back : IsDoubled l x e → IsRepeat keyed.keys.now (key_of l x e)
+      back d =
+          repeat_moved rim keyed.keys.now (key_of l x e) keyed.rim.moved
+          (subst (IsRepeat rim)
+          (sym (ends_key l x are.whole.paved are.laid are.lengths are.few e d.u d.v is d.doubled.0 d.ends).0)
+          (doubled_repeats l x are.whole.paved are.laid are.lengths are.few d.u d.v d.doubled).0)
+
+  module _ (line : Line) (inside : IsLine l x line) where
+    abbrev line_long : ℕ
+    line_long = size l x line.patch (along_lines line.upright)
+
+    -- A line has edges.
+    pub line_some : 0 < size l x line.patch (along_lines line.upright)
+    line_some = size_some l x are.whole.paved are.lengths line.patch (along_lines line.upright) inside.patch
+
+    -- A key of it is that of a doubled pair.
+    abbrev IsTold : (k : ℕ) → Type 0
+    IsTold k = IsRepeat keyed.keys.now (key_of l x (line_edge line.upright line.patch line.number k))
+
+    -- It tells by its first and its last edge whether one is doubled.
+    pub line_tells : (IsRepeat keyed.keys.now (key_of l x (line_edge line.upright line.patch line.number 0))
+        ⊎ IsRepeat keyed.keys.now (key_of l x (line_edge line.upright line.patch line.number
+        (size l x line.patch (along_lines line.upright) - 1)))) ↔ IsLineDoubled l x line.upright line.patch line.number
+    line_tells = (there, back)
       where
-        rim : List ℕ
-        rim = keys_of l x (rim_edges l x)
+        told : (k : ℕ) → k < line_long → IsTold k ↔ IsDoubled l x (line_edge line.upright line.patch line.number k)
+        told k less = key_tells (line_edge line.upright line.patch line.number k)
+            (line_is l x line.upright line.patch line.number k inside.patch inside.some inside.inside less)
 
-        there : IsRepeat keys (key_of l x e) → IsDoubled l x e
-        there repeats = record {
-          is = is;
-          u = key_of l x e / 2 ^ 32;
-          v = key_of l x e % 2 ^ 32;
-          ends = (key_ends l x laid len few e (key_of l x e) is refl).1;
-          doubled = repeat_doubled l x laid len few (key_of l x e)
-              (repeat_moved keys rim (key_of l x e) (IsPermutation-sym rim keys are.moved) repeats);
-        }
-
-        back : IsDoubled l x e → IsRepeat keys (key_of l x e)
-        back d =
-            repeat_moved rim keys (key_of l x e) are.moved
-            (subst (IsRepeat rim) (sym (ends_key l x laid len few e d.u d.v is d.doubled.0 d.ends).0)
-            (doubled_repeats l x laid len few d.u d.v d.doubled).0)
-
-    -- A line tells it by its first and its last edge.
-    pub line_tells : (keys : List ℕ) (u : Bool) (p n : ℕ) → AreRimKeys l x keys → p < l.patches → 0 < n
-        → n < size l x p (along_lines (not u)) → 0 < size l x p (along_lines u)
-        → (IsRepeat keys (key_of l x (line_edge u p n 0))
-        ⊎ IsRepeat keys (key_of l x (line_edge u p n (size l x p (along_lines u) - 1)))) ↔ IsLineDoubled l x u p n
-    line_tells keys u p n are low some up long = (there, back)
-      where
         last : ℕ
-        last = size l x p (along_lines u) - 1
+        last = line_long - 1
 
-        told : (k : ℕ) → k < size l x p (along_lines u)
-            → IsRepeat keys (key_of l x (line_edge u p n k)) ↔ IsDoubled l x (line_edge u p n k)
-        told k less = key_tells keys (line_edge u p n k) are (line_is l x u p n k low some up less)
+        there : IsTold 0 ⊎ IsTold last → IsLineDoubled l x line.upright line.patch line.number
+        there (inl first) = (0, (told 0 line_some).0 first)
+        there (inr end) = (last, (told last (omega (arith, line_some))).0 end)
 
-        there : IsRepeat keys (key_of l x (line_edge u p n 0)) ⊎ IsRepeat keys (key_of l x (line_edge u p n last))
-            → IsLineDoubled l x u p n
-        there (inl first) = (0, (told 0 long).0 first)
-        there (inr end) = (last, (told last (omega (arith, long))).0 end)
-
-        back : IsLineDoubled l x u p n
-            → IsRepeat keys (key_of l x (line_edge u p n 0)) ⊎ IsRepeat keys (key_of l x (line_edge u p n last))
-        back (k, is) = elim (line_end u p n k is) [
-          | inl first ↦ inl ((told 0 long).1 (subst (λ (m : ℕ). IsDoubled l x (line_edge u p n m)) first is))
-          | inr end ↦ inr ((told last (omega (arith, long))).1
-              (subst (λ (m : ℕ). IsDoubled l x (line_edge u p n m)) end is))
+        back : IsLineDoubled l x line.upright line.patch line.number → IsTold 0 ⊎ IsTold last
+        back (k, is) = elim (line_end line.upright line.patch line.number k is) [
+          | inl first ↦ inl ((told 0 line_some).1
+              (subst (λ (m : ℕ). IsDoubled l x (line_edge line.upright line.patch line.number m)) first is))
+          | inr end ↦ inr ((told last (omega (arith, line_some))).1
+              (subst (λ (m : ℕ). IsDoubled l x (line_edge line.upright line.patch line.number m)) end is))
         ]

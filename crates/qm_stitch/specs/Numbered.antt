@@ -1,6 +1,6 @@
 -- Tables that number the points and the faces of a layout, as far as they are read.
-use Rattle.std.specs.Prelude.{◌≡◌, ℕ, ◌-◌, ◌*◌, ◌^◌, ◌<◌, ◌≤◌, [], length, slice_index_or}
-use Rattle.def_layout.specs.Surfaces.{HasWholeSides}
+use Rattle.std.specs.Prelude.{◌≡◌, ℕ, ◌-◌, ◌*◌, ◌^◌, ◌<◌, ◌≤◌, length}
+use Rattle.def_layout.specs.Surfaces.{IsSurface}
 use Rattle.def_layout.specs.Gluings.{Way}
 use Rattle.def_layout.specs.Lengths.{size, wide, high, AreLengths}
 use Rattle.def_layout.specs.Layouts.{Layout, gluing_of}
@@ -8,13 +8,13 @@ use Rattle.def_written.specs.Numbers.{vertices}
 use Rattle.def_remesh.specs.NewPoints.{lengths_in}
 use Rattle.def_remesh.specs.Numberings.{tables_of, AreRunStarts, AreSideStarts}
 use Rattle.def_remesh.specs.declared.tables.Tables.{Tables}
+use Rattle.qm_offsets.specs.Fours.{AreSides}
 
--- The tables number the points and the faces of the layout, which is paved, with the lengths that they hold, and all
--- numbers are small.
+-- The tables number the points and the faces of the layout, which is that of a surface, with the lengths that they
+-- hold, and all numbers are small.
 pub record AreTables (layout : Layout) (tables : Tables) : Type 0 where
-  pub paved : HasWholeSides (gluing_of layout)
-  pub sided : length layout.sides ≡ length layout.patches
-  pub four : (patch : ℕ) → patch < length layout.patches → length (slice_index_or layout.sides patch []) ≡ 4
+  pub whole : AreSides layout
+  pub laid : ∥ IsSurface (gluing_of layout) ∥₁
   pub long : length tables.lengths.items ≡ length layout.arcs
   pub lengths : AreLengths (gluing_of layout) (lengths_in tables.lengths.items)
   pub few : vertices (gluing_of layout) (lengths_in tables.lengths.items) ≤ 2 ^ 23

@@ -6,7 +6,6 @@ use Rattle.def_certtext.specs.declared.certs.Rise.{Rise}
 use Rattle.def_flow.specs.declared.limits.TheConstants.{MAX_FLOOR}
 use Rattle.def_layout.specs.Lengths.{Lengths}
 use Rattle.def_layout.specs.Layouts.{gluing_of, layout_of, Layout}
-use Rattle.def_layout.specs.Surfaces.{IsSurface}
 use Rattle.def_layout.specs.declared.tmesh.SideArc.{SideArc}
 use Rattle.def_math.specs.Sums.{total}
 use Rattle.def_remesh.specs.Numberings.{used_at}
@@ -15,8 +14,8 @@ use Rattle.qm_offsets.specs.Fours.{arcs_on}
 use Rattle.qm_stitch.specs.Lengthened.{gluing_in, lengths_by}
 use Rattle.qm_stitch.specs.Raised.{HasRise}
 use Rattle.qm_stitch.specs.Rims.{key_of, line_edge}
-use Rattle.qm_stitch.specs.Tight.{AreRimKeys, IsDoubled}
-use Rattle.qm_stitch.specs.declared.remedies.Priced.{Priced}
+use Rattle.qm_stitch.specs.Tight.{IsDoubled}
+use Rattle.qm_stitch.specs.declared.priced.Priced.{Priced}
 use Rattle.qm_stitch.specs.declared.rim.Line.{Line}
 use Rattle.qm_stitch.specs.declared.remedy.Remedy.{Remedy}
 use Rattle.qm_stitch.specs.declared.remedy.Run.{Run}
@@ -81,16 +80,10 @@ pub record FollowCheapest (layout : Layout) (lengths : Lengths) (prices : List �
 abbrev pub AddsRemedies : (old new : List Remedy) (more : Remedy → Type 0) → Type 0
 AddsRemedies old new more = (remedy : Remedy) → Contains new remedy ↔ (Contains old remedy ⊎ more remedy)
 
--- What is numbered has a price for each arc, and the keys are those of its edges that may be doubled.
-pub record IsPriced (priced : Priced) : Type 0 where
-  pub laid : IsSurface (gluing_in priced.numbered)
-  pub keys : AreRimKeys (gluing_in priced.numbered) (lengths_by priced.numbered) priced.keys.now
-  pub many : length priced.prices.now ≡ length priced.numbered.t.now.arcs.items
-
 -- A remedy over what is priced, and one along these arcs.
 abbrev pub IsPricedRemedy : (priced : Priced) (remedy : Remedy) → Type 0
 IsPricedRemedy priced remedy =
-    IsRemedy (layout_of priced.numbered.t.now) (lengths_by priced.numbered) priced.prices.now remedy
+    IsRemedy (layout_of priced.keyed.numbered.t.now) (lengths_by priced.keyed.numbered) priced.prices.now remedy
 
 abbrev pub IsAlong : (priced : Priced) (run : Run) (remedy : Remedy) → Type 0
 IsAlong priced run remedy = (remedy.run ≡ run) × IsPricedRemedy priced remedy
@@ -113,9 +106,9 @@ IsSomeShort lengths uses =
 -- A remedy by a doubled edge of a line.
 pub record IsByLine (priced : Priced) (line : Line) (cost : ℤ) (along : Run) (remedy : Remedy) : Type 0 where
   pub at : ℕ
-  pub doubled : IsDoubled (gluing_in priced.numbered) (lengths_by priced.numbered)
+  pub doubled : IsDoubled (gluing_in priced.keyed.numbered) (lengths_by priced.keyed.numbered)
       (line_edge line.upright line.patch line.number at)
-  pub key : remedy.key ≡ key_of (gluing_in priced.numbered) (lengths_by priced.numbered)
+  pub key : remedy.key ≡ key_of (gluing_in priced.keyed.numbered) (lengths_by priced.keyed.numbered)
       (line_edge line.upright line.patch line.number at)
   pub price : remedy.price ≡ cost
   pub run : remedy.run ≡ along

@@ -61,6 +61,7 @@ rim_edges gluing lengths = arcs_upto lengths gluing.arcs ++ patches_upto gluing 
 -- A line inside a patch: between its first and its last line.
 pub record IsLine (gluing : Gluing) (lengths : Lengths) (line : Line) : Type 0 where
   pub patch : line.patch < gluing.patches
+  pub some : 0 < line.number
   pub inside : line.number < size gluing lengths line.patch (along_lines (not line.upright))
 
 -- The key of a pair of vertices: the lesser one, then the greater one.

@@ -1,7 +1,7 @@
 -- Edges that are doubled, and marks of the arcs along which they run.
-use Rattle.std.specs.Prelude.{◌⊎◌, ◌↔◌, ℕ, ◌<◌, ◌==◌, Bool, true, false, List, length, slice_index_or, IsTrue}
-use Rattle.std.specs.List.{list_any}
-use Rattle.std.specs.List.Sorted.{IsNonDecreasing, IsPermutation}
+use Rattle.std.specs.Prelude.{◌≡◌, ◌⊎◌, ◌↔◌, ℕ, ◌<◌, ◌==◌, Bool, true, false, List, length, slice_index_or, IsTrue}
+use Rattle.std.specs.List.{list_any, sum_by}
+use Rattle.std.specs.List.Sorted.{IsNonDecreasing}
 use Rattle.def_layout.specs.Gluings.{south, east, north, west, Gluing}
 use Rattle.def_layout.specs.Lengths.{Lengths}
 use Rattle.def_layout.specs.declared.tmesh.SideArc.{SideArc}
@@ -9,10 +9,10 @@ use Rattle.def_remesh.specs.Rises.{IsOnSide}
 use Rattle.def_written.specs.Edges.{Edge, on_arc, IsEdge, HasEnds, IsDoubledAt}
 use Rattle.qm_stitch.specs.Rims.{keys_of, line_edge, rim_edges}
 
--- The keys of the edges that may be doubled, in increasing order.
+-- The keys of the edges that may be doubled, in increasing order: sums over them are those over the edges.
 pub record AreRimKeys (gluing : Gluing) (lengths : Lengths) (keys : List ℕ) : Type 0 where
   pub increasing : IsNonDecreasing keys
-  pub moved : IsPermutation (keys_of gluing lengths (rim_edges gluing lengths)) keys
+  pub moved : (f : ℕ → ℕ) → sum_by f keys ≡ sum_by f (keys_of gluing lengths (rim_edges gluing lengths))
 
 -- An edge that is doubled.
 pub record IsDoubled (gluing : Gluing) (lengths : Lengths) (edge : Edge) : Type 0 where

@@ -1,12 +1,13 @@
 //! The faces of the new mesh, by number.
 
 ghost use Rattle.std.specs.Prelude.{◌≡◌, ◌<◌};
+ghost use Rattle.def_layout.specs.Layouts.{gluing_of, layout_of};
+ghost use Rattle.def_remesh.specs.NewPoints.{lengths_in};
 ghost use Rattle.def_written.specs.NewFaces.{face_count, new_face};
 ghost use Rattle.qm_stitch.specs.Lengthened.{gluing_in, lengths_by};
 ghost use Rattle.qm_stitch.specs.Cells.{IsCellOf};
 
 use crate::numbered::Numbered;
-use crate::point::point_number;
 use crate::size::size_at;
 use qm_offsets::spot_in;
 
@@ -18,19 +19,23 @@ pub struct Cell {
     j: u32,
 }
 
-/// Face f: the numbers of its corners.
-pub(crate) fn face_of(numbered: &Numbered, f: u32) -> [u32; 4]
-    requires face { f < face_count (gluing_in numbered.now) (lengths_by numbered.now) }
-    ensures { result ≡ new_face (gluing_in numbered.now) (lengths_by numbered.now) f }
-{
-    let cell = cell_of(numbered, f);
-    let (patch, i, j) = (cell.patch, cell.i, cell.j);
-    [
-        point_number(numbered, patch, i, j),
-        point_number(numbered, patch, i + 1, j),
-        point_number(numbered, patch, i + 1, j + 1),
-        point_number(numbered, patch, i, j + 1),
-    ]
+impl Numbered<'_> {
+    /// Face f: the numbers of its corners.
+    pub fn face(&self, f: u32) -> [u32; 4]
+        requires { f < face_count (gluing_of (layout_of self.now.t.now))
+            (lengths_in self.now.tables.now.lengths.items) }
+        ensures { result ≡ new_face (gluing_of (layout_of self.now.t.now))
+            (lengths_in self.now.tables.now.lengths.items) f }
+    {
+        let cell = cell_of(self, f);
+        let (patch, i, j) = (cell.patch, cell.i, cell.j);
+        [
+            self.point(patch, i, j),
+            self.point(patch, i + 1, j),
+            self.point(patch, i + 1, j + 1),
+            self.point(patch, i, j + 1),
+        ]
+    }
 }
 
 /// The cell of face f. Logarithmic in the patches.

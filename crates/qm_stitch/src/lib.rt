@@ -2,15 +2,19 @@
 //! is doubled, so that there is none, with the arcs whose floors have to rise then.
 #![tactic(auto)]
 
+mod border;
 mod build;
 mod cheapest;
 mod count;
 mod doubled;
 mod face;
+mod keyed;
+mod marked;
 mod numbered;
 mod numbering;
 mod planning;
 mod point;
+mod priced;
 mod remedies;
 mod remedy;
 mod repeat;
@@ -28,4 +32,3 @@ pub use numbering::Numbering;
 pub use planning::plan;
 pub use rises::{are_needed, needed_rises};
 pub use stitching::stitch;
-pub use tight::tight_arcs;

@@ -1,17 +1,13 @@
 //! A numbering of the points and faces of a layout with lengths.
 
-ghost use Rattle.std.specs.Prelude.{◌≡◌, ◌<◌, ◌≤◌, length};
-ghost use Rattle.def_layout.specs.Lengths.{wide, high};
+ghost use Rattle.std.specs.Prelude.{◌≡◌, ◌<◌};
 ghost use Rattle.def_layout.specs.Layouts.{gluing_of, layout_of, Layout};
 ghost use Rattle.def_written.specs.NewFaces.{face_count, new_face};
-ghost use Rattle.def_written.specs.Numbers.{vertex_number, vertices};
-ghost use Rattle.def_written.specs.Points.{point};
+ghost use Rattle.def_written.specs.Numbers.{vertices};
 ghost use Rattle.def_remesh.specs.NewPoints.{lengths_in};
 ghost use Rattle.def_remesh.specs.Numberings.{IsNumbering};
 
-use crate::face::face_of;
 use crate::numbered::Numbered;
-use crate::point::point_number;
 use crate::size::last_of;
 use def_layout::TMesh;
 use def_remesh::Tables;
@@ -68,32 +64,5 @@ impl Numbering {
     {
         let tables = &self.tables;
         Numbered { t, tables }
-    }
-}
-
-impl Numbered<'_> {
-    /// Face f.
-    pub fn face(&self, f: u32) -> [u32; 4]
-        requires { f < face_count (gluing_of (layout_of self.now.t.now))
-            (lengths_in self.now.tables.now.lengths.items) }
-        ensures { result ≡ new_face (gluing_of (layout_of self.now.t.now))
-            (lengths_in self.now.tables.now.lengths.items) f }
-    {
-        face_of(self, f)
-    }
-
-    /// The number of grid point (i, j) of a patch. In constant time inside the patch, and logarithmic in the arcs of a
-    /// side on that.
-    pub fn point(&self, patch: usize, i: u32, j: u32) -> u32
-        requires patch { patch < length self.now.t.now.patches.items }
-        requires column { i ≤ wide (gluing_of (layout_of self.now.t.now))
-            (lengths_in self.now.tables.now.lengths.items) patch }
-        requires row { j ≤ high (gluing_of (layout_of self.now.t.now))
-            (lengths_in self.now.tables.now.lengths.items) patch }
-        ensures { result ≡ vertex_number (gluing_of (layout_of self.now.t.now))
-            (lengths_in self.now.tables.now.lengths.items)
-            (point (gluing_of (layout_of self.now.t.now)) (lengths_in self.now.tables.now.lengths.items) patch i j) }
-    {
-        point_number(self, patch, i, j)
     }
 }

@@ -7,33 +7,23 @@ ghost use Rattle.def_layout.specs.declared.tmesh.SideArc.{SideArc as Used};
 ghost use Rattle.qm_stitch.specs.Lengthened.{gluing_in, lengths_by};
 ghost use Rattle.qm_stitch.specs.Remedies.{price_along as price_of_uses, short_price as price_if_short};
 ghost use Rattle.qm_stitch.specs.Remedies.{AddsRemedies, IsAlong, IsAlongArcs, IsAlongPatches, IsAlongSides};
-ghost use Rattle.qm_stitch.specs.Remedies.{IsByLine, IsPriced, IsPricedRemedy, IsSomeShort};
+ghost use Rattle.qm_stitch.specs.Remedies.{IsByLine, IsPricedRemedy, IsSomeShort};
 ghost use Rattle.qm_stitch.specs.Rims.{IsLine, IsRepeat};
 ghost use Rattle.qm_stitch.specs.declared.remedy.Remedy.{Remedy as AnyRemedy};
 ghost use Rattle.qm_stitch.specs.declared.remedy.Run.TheVariants.{Arc, Side};
 
-use crate::numbered::Numbered;
+use crate::priced::Priced;
 use crate::remedy::{Remedy, Run};
 use crate::repeat::is_repeat;
 use crate::rim::{Line, arc_key, key_at, side_along};
 use crate::rises::is_short;
 use crate::size::size_at;
 use def_layout::SideArc;
-use qm_offsets::uses_on;
+use qm_offsets::side_of;
 use std::alloc::{AllocError, Global};
-
-/// A layout that is numbered, with what one edge more on each arc costs, and the keys of the edges that may be doubled,
-/// in order.
-#[derive(Clone, Copy)]
-pub struct Priced<'a> {
-    pub(crate) numbered: Numbered<'a>,
-    pub(crate) prices: &'a [i64],
-    pub(crate) keys: &'a [u64],
-}
 
 /// All remedies of doubled pairs. n log n in the edges that have an end on a side of a patch.
 pub(crate) fn remedies(alloc: Global, priced: &Priced) -> Result<Vec<Remedy>, AllocError>
-    requires { IsPriced priced.now }
     ensures { IfOk result (λ found. (remedy : AnyRemedy) → Contains found.items remedy
         ↔ IsPricedRemedy priced.now remedy) }
 {
@@ -45,11 +35,10 @@ pub(crate) fn remedies(alloc: Global, priced: &Priced) -> Result<Vec<Remedy>, Al
 
 /// Puts the remedies along all arcs behind the others.
 fn push_arcs(found: &mut Vec<Remedy>, priced: &Priced) -> Result<(), AllocError>
-    requires { IsPriced priced.now }
     ensures { OnOk result (AddsRemedies found.old.items found.new.items (IsAlongArcs priced.now
-        (length priced.now.numbered.t.now.arcs.items))) }
+        (length priced.now.keyed.numbered.t.now.arcs.items))) }
 {
-    for arc in 0..priced.numbered.t.arcs.len() {
+    for arc in 0..priced.keyed.numbered.t.arcs.len() {
         push_arc(found, priced, arc)?;
     }
     Ok(())
@@ -57,16 +46,15 @@ fn push_arcs(found: &mut Vec<Remedy>, priced: &Priced) -> Result<(), AllocError>
 
 /// Puts the remedies along an arc behind the others.
 fn push_arc(found: &mut Vec<Remedy>, priced: &Priced, arc: usize) -> Result<(), AllocError>
-    requires priced { IsPriced priced.now }
-    requires arc { arc < length priced.now.numbered.t.now.arcs.items }
+    requires arc { arc < length priced.now.keyed.numbered.t.now.arcs.items }
     ensures { OnOk result (AddsRemedies found.old.items found.new.items (IsAlong priced.now (Arc arc))) }
 {
     if !is_short_arc(priced, arc) {
         return Ok(());
     }
-    for k in 0..priced.numbered.tables.lengths[arc] {
+    for k in 0..priced.keyed.numbered.tables.lengths[arc] {
         let remedy = Remedy {
-            key: arc_key(&priced.numbered, arc, k),
+            key: arc_key(&priced.keyed.numbered, arc, k),
             price: i128::from(short_price(priced, arc)),
             run: Run::Arc(arc),
         };
@@ -77,11 +65,10 @@ fn push_arc(found: &mut Vec<Remedy>, priced: &Priced, arc: usize) -> Result<(), 
 
 /// Puts the remedies along the sides of all patches behind the others.
 fn push_patches(found: &mut Vec<Remedy>, priced: &Priced) -> Result<(), AllocError>
-    requires { IsPriced priced.now }
     ensures { OnOk result (AddsRemedies found.old.items found.new.items (IsAlongPatches priced.now
-        (length priced.now.numbered.t.now.patches.items))) }
+        (length priced.now.keyed.numbered.t.now.patches.items))) }
 {
-    for patch in 0..priced.numbered.t.patches.len() {
+    for patch in 0..priced.keyed.numbered.t.patches.len() {
         push_sides(found, priced, patch)?;
     }
     Ok(())
@@ -89,8 +76,7 @@ fn push_patches(found: &mut Vec<Remedy>, priced: &Priced) -> Result<(), AllocErr
 
 /// Puts the remedies along the sides of a patch behind the others.
 fn push_sides(found: &mut Vec<Remedy>, priced: &Priced, patch: usize) -> Result<(), AllocError>
-    requires priced { IsPriced priced.now }
-    requires patch { patch < length priced.now.numbered.t.now.patches.items }
+    requires patch { patch < length priced.now.keyed.numbered.t.now.patches.items }
     ensures { OnOk result (AddsRemedies found.old.items found.new.items (IsAlongSides priced.now patch 4)) }
 {
     for side in 0..4 {
@@ -107,18 +93,17 @@ fn push_side(
     patch: usize,
     side: usize,
 ) -> Result<(), AllocError>
-    requires priced { IsPriced priced.now }
-    requires patch { patch < length priced.now.numbered.t.now.patches.items }
+    requires patch { patch < length priced.now.keyed.numbered.t.now.patches.items }
     requires side { side < 4 }
     ensures { OnOk result (AddsRemedies found.old.items found.new.items (IsAlong priced.now (Side patch side))) }
 {
-    let uses = uses_on(&priced.numbered.t.sides, patch, side);
+    let uses = side_of(priced.keyed.numbered.t, patch, side);
     if !is_some_short(priced, uses) {
         return Ok(());
     }
     let price = price_along(priced, uses);
     let upright = side % 2 == 1;
-    for number in 1..size_at(&priced.numbered, patch, side_along(!upright)) {
+    for number in 1..size_at(&priced.keyed.numbered, patch, side_along(!upright)) {
         let line = Line {
             patch,
             upright,
@@ -137,14 +122,12 @@ fn push_line(
     price: i128,
     run: Run,
 ) -> Result<(), AllocError>
-    requires priced { IsPriced priced.now }
-    requires line { IsLine (gluing_in priced.now.numbered) (lengths_by priced.now.numbered) line }
-    requires some { 0 < line.number }
+    requires line { IsLine (gluing_in priced.now.keyed.numbered) (lengths_by priced.now.keyed.numbered) line }
     ensures { OnOk result (AddsRemedies found.old.items found.new.items (IsByLine priced.now line price run)) }
 {
-    let last = size_at(&priced.numbered, line.patch, side_along(line.upright)) - 1;
-    let first = key_at(&priced.numbered, line, 0);
-    let end = key_at(&priced.numbered, line, last);
+    let last = size_at(&priced.keyed.numbered, line.patch, side_along(line.upright)) - 1;
+    let first = key_at(&priced.keyed.numbered, line, 0);
+    let end = key_at(&priced.keyed.numbered, line, last);
     push_remedy(
         found,
         priced,
@@ -168,11 +151,10 @@ fn push_line(
 
 /// Puts a remedy behind the others where its key is that of a doubled pair.
 fn push_remedy(found: &mut Vec<Remedy>, priced: &Priced, remedy: Remedy) -> Result<(), AllocError>
-    requires { IsPriced priced.now }
     ensures { OnOk result (AddsRemedies found.old.items found.new.items (λ way.
-        (way ≡ remedy) × IsRepeat priced.now.keys.now remedy.key)) }
+        (way ≡ remedy) × IsRepeat priced.now.keyed.keys.now remedy.key)) }
 {
-    if !is_repeat(priced.keys, remedy.key) {
+    if !is_repeat(&priced.keyed, remedy.key) {
         return Ok(());
     }
     found.push(remedy)?;
@@ -181,8 +163,8 @@ fn push_remedy(found: &mut Vec<Remedy>, priced: &Priced, remedy: Remedy) -> Resu
 
 /// Whether some arc in use is short.
 fn is_some_short(priced: &Priced, uses: &[SideArc]) -> bool
-    requires { All (λ (used : Used). used.arc < length priced.now.numbered.t.now.arcs.items) uses.now }
-    ensures { IsTrue result ↔ IsSomeShort (lengths_by priced.now.numbered) uses.now }
+    requires { All (λ (used : Used). used.arc < length priced.now.keyed.numbered.t.now.arcs.items) uses.now }
+    ensures { IsTrue result ↔ IsSomeShort (lengths_by priced.now.keyed.numbered) uses.now }
 {
     for used in uses {
         if is_short_arc(priced, used.arc as usize) {
@@ -194,9 +176,8 @@ fn is_some_short(priced: &Priced, uses: &[SideArc]) -> bool
 
 /// What one edge more on each short arc in use costs.
 fn price_along(priced: &Priced, uses: &[SideArc]) -> i128
-    requires priced { IsPriced priced.now }
-    requires uses { All (λ (used : Used). used.arc < length priced.now.numbered.t.now.arcs.items) uses.now }
-    ensures { result ≡ price_of_uses (lengths_by priced.now.numbered) priced.now.prices.now uses.now }
+    requires uses { All (λ (used : Used). used.arc < length priced.now.keyed.numbered.t.now.arcs.items) uses.now }
+    ensures { result ≡ price_of_uses (lengths_by priced.now.keyed.numbered) priced.now.prices.now uses.now }
 {
     let mut price = 0;
     for used in uses {
@@ -207,9 +188,8 @@ fn price_along(priced: &Priced, uses: &[SideArc]) -> i128
 
 /// What one edge more on an arc costs, where it is short.
 fn short_price(priced: &Priced, arc: usize) -> i64
-    requires priced { IsPriced priced.now }
-    requires arc { arc < length priced.now.numbered.t.now.arcs.items }
-    ensures { result ≡ price_if_short (lengths_by priced.now.numbered) priced.now.prices.now arc }
+    requires arc { arc < length priced.now.keyed.numbered.t.now.arcs.items }
+    ensures { result ≡ price_if_short (lengths_by priced.now.keyed.numbered) priced.now.prices.now arc }
 {
     if is_short_arc(priced, arc) {
         priced.prices[arc]
@@ -220,8 +200,8 @@ fn short_price(priced: &Priced, arc: usize) -> i64
 
 /// Whether an arc is short.
 fn is_short_arc(priced: &Priced, arc: usize) -> bool
-    requires { arc < length priced.now.numbered.t.now.arcs.items }
-    ensures { IsTrue result ↔ (lengths_by priced.now.numbered arc < MAX_FLOOR) }
+    requires { arc < length priced.now.keyed.numbered.t.now.arcs.items }
+    ensures { IsTrue result ↔ (lengths_by priced.now.keyed.numbered arc < MAX_FLOOR) }
 {
-    is_short(u64::from(priced.numbered.tables.lengths[arc]))
+    is_short(u64::from(priced.keyed.numbered.tables.lengths[arc]))
 }

@@ -5,6 +5,8 @@ ghost use Rattle.std.specs.Prelude.{◌↔◌, IsTrue};
 ghost use Rattle.std.specs.List.Sorted.{IsNonDecreasing, IsPermutation};
 ghost use Rattle.qm_stitch.specs.Rims.{is_repeat_at, pair_key, IsLeastRepeat, IsRepeat};
 
+use crate::keyed::Keyed;
+
 /// The number of keys of one first vertex.
 const SPAN: u64 = 4_294_967_296;
 
@@ -61,11 +63,11 @@ fn first_repeat(keys: &[u64]) -> Option<u64>
     None
 }
 
-/// Whether a key with two equal vertices, or of two edges, is among keys that rise. Logarithmic.
-pub(crate) fn is_repeat(keys: &[u64], key: u64) -> bool
-    requires { IsNonDecreasing keys.now }
-    ensures { IsTrue result ↔ IsRepeat keys.now key }
+/// Whether a key with two equal vertices, or of two edges, is among the keys. Logarithmic.
+pub(crate) fn is_repeat(keyed: &Keyed, key: u64) -> bool
+    ensures { IsTrue result ↔ IsRepeat keyed.now.keys.now key }
 {
+    let keys = keyed.keys;
     match keys.binary_search(&key) {
         Ok(place) => is_at(keys, place) || (place > 0 && keys[place - 1] == key),
         Err(_) => false,

@@ -11,7 +11,7 @@ ghost use Rattle.qm_stitch.specs.Rims.{all_lines, along_lines, arcs_upto, key_of
 ghost use Rattle.qm_stitch.specs.Rims.{line_point as spot_on, patches_upto, rim_edges, segments, IsLine};
 
 use crate::numbered::Numbered;
-use crate::point::{arc_number, point_number};
+use crate::point::arc_number;
 use crate::repeat::key_for;
 use crate::size::size_at;
 use std::alloc::{AllocError, Global};
@@ -156,8 +156,8 @@ fn line_point(numbered: &Numbered, line: Line, at: u32) -> u32
         line.upright line.patch line.number at) }
 {
     if line.upright {
-        point_number(numbered, line.patch, line.number, at)
+        numbered.point(line.patch, line.number, at)
     } else {
-        point_number(numbered, line.patch, at, line.number)
+        numbered.point(line.patch, at, line.number)
     }
 }

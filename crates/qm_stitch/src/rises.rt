@@ -11,15 +11,16 @@ ghost use Rattle.def_remesh.specs.Rises.{AreNeeded};
 ghost use Rattle.qm_stitch.specs.Lengthened.{gluing_in};
 ghost use Rattle.qm_stitch.specs.Raised.{AreFloors, AreOrdered, AreRisesUpto, IsFloorFor, IsFloorOf};
 ghost use Rattle.qm_stitch.specs.Raised.{IsShortTight};
-ghost use Rattle.qm_stitch.specs.Remedies.{FollowCheapest, IsPriced};
+ghost use Rattle.qm_stitch.specs.Remedies.{FollowCheapest};
 
 use crate::build::tables;
 use crate::cheapest::cheapest_arcs;
+use crate::keyed::{Keyed, keys_of};
+use crate::marked::Marked;
 use crate::numbered::Numbered;
-use crate::remedies::{Priced, remedies};
+use crate::priced::Priced;
+use crate::remedies::remedies;
 use crate::remedy::Remedy;
-use crate::repeat::sort;
-use crate::rim::rim_keys;
 use crate::tight::tight_arcs;
 use def_certtext::Rise;
 use def_flow::MAX_FLOOR;
@@ -47,32 +48,34 @@ pub fn needed_rises(
 {
     let tables = tables(alloc, t, lengths)?;
     let numbered = Numbered { t, tables: &tables };
-    let mut keys = rim_keys(alloc, &numbered)?;
-    sort(&mut keys);
-    let priced = Priced {
+    let keys = keys_of(alloc, &numbered)?;
+    let keyed = Keyed {
         numbered,
-        prices,
         keys: &keys,
     };
-    cheapest_rises(alloc, &priced, lengths)
+    let priced = Priced {
+        keyed,
+        lengths,
+        prices,
+    };
+    cheapest_rises(alloc, &priced)
 }
 
 /// The rises by the cheapest remedy of each doubled pair.
-fn cheapest_rises(alloc: Global, priced: &Priced, lengths: &[u64]) -> Result<Vec<Rise>, AllocError>
-    requires priced { IsPriced priced.now }
-    requires same { priced.now.numbered.tables.now.lengths.items ≡ lengths.now }
-    requires few { length lengths.now < 2 ^ 32 }
-    requires short { ¬ ((arc : ℕ) → arc < length lengths.now → MAX_FLOOR ≤ lengths_in lengths.now arc) }
+fn cheapest_rises(alloc: Global, priced: &Priced) -> Result<Vec<Rise>, AllocError>
     ensures needed { IfOk result (λ rises.
-        AreNeeded (gluing_in priced.now.numbered) (lengths_in lengths.now) rises.items) }
-    ensures cheapest { IfOk result (λ rises.
-        FollowCheapest (layout_of priced.now.numbered.t.now) (lengths_in lengths.now) priced.now.prices.now
-        rises.items) }
+        AreNeeded (gluing_in priced.now.keyed.numbered) (lengths_in priced.now.lengths.now) rises.items) }
+    ensures cheapest { IfOk result (λ rises. FollowCheapest (layout_of priced.now.keyed.numbered.t.now)
+        (lengths_in priced.now.lengths.now) priced.now.prices.now rises.items) }
 {
     let remedies = remedies(alloc, priced)?;
     let some = is_any(&remedies);
-    let chosen = cheapest_arcs(alloc, &priced.numbered, remedies)?;
-    rises_by(alloc, lengths, &chosen, some)
+    let chosen = cheapest_arcs(alloc, &priced.keyed.numbered, remedies)?;
+    let marked = Marked {
+        lengths: priced.lengths,
+        tight: &chosen,
+    };
+    rises_by(alloc, &marked, some)
 }
 
 /// Whether there is a remedy.
@@ -83,20 +86,14 @@ fn is_any(remedies: &[Remedy]) -> bool
 }
 
 /// The rises of all arcs.
-fn rises_by(
-    alloc: Global,
-    lengths: &[u64],
-    tight: &[bool],
-    some: bool,
-) -> Result<Vec<Rise>, AllocError>
-    requires long { length tight.now ≡ length lengths.now }
-    requires few { length lengths.now < 2 ^ 32 }
-    ensures { IfOk result (λ rises.
-        AreRisesUpto some tight.now lengths.now (length lengths.now) rises.items) }
+fn rises_by(alloc: Global, marked: &Marked, some: bool) -> Result<Vec<Rise>, AllocError>
+    requires { length marked.now.lengths.now < 2 ^ 32 }
+    ensures { IfOk result (λ rises. AreRisesUpto some marked.now.tight.now marked.now.lengths.now
+        (length marked.now.lengths.now) rises.items) }
 {
     let mut rises = Vec::new(alloc);
-    for arc in 0..lengths.len() {
-        if let Some(floor) = floor_of(lengths, tight, some, arc) {
+    for arc in 0..marked.lengths.len() {
+        if let Some(floor) = floor_of(marked, some, arc) {
             rises.push(Rise {
                 arc: arc as u32,
                 floor,
@@ -120,27 +117,36 @@ pub fn are_needed(
     ensures { IfOk result (λ are.
         IsTrue are ↔ AreNeeded (gluing_of (layout_of t.now)) (lengths_in lengths.now) rises.now) }
 {
-    let tight = tight_arcs(alloc, t, lengths)?;
-    Ok(are_rises(lengths, &tight, is_some_short(lengths, &tight), rises))
+    let tables = tables(alloc, t, lengths)?;
+    let numbered = Numbered { t, tables: &tables };
+    let keys = keys_of(alloc, &numbered)?;
+    let keyed = Keyed {
+        numbered,
+        keys: &keys,
+    };
+    let tight = tight_arcs(alloc, &keyed)?;
+    let marked = Marked {
+        lengths,
+        tight: &tight,
+    };
+    Ok(are_rises(&marked, is_some_short(&marked), rises))
 }
 
 /// Whether there are rises, in order, each that of its arc.
-fn are_rises(lengths: &[u64], tight: &[bool], some: bool, rises: &[Rise]) -> bool
-    requires { length tight.now ≡ length lengths.now }
+fn are_rises(marked: &Marked, some: bool, rises: &[Rise]) -> bool
     ensures { IsTrue result ↔ ((0 < length rises.now) × AreOrdered rises.now
-        × AreFloors some tight.now lengths.now rises.now) }
+        × AreFloors some marked.now.tight.now marked.now.lengths.now rises.now) }
 {
-    !rises.is_empty() && are_ordered(rises) && are_floors(lengths, tight, some, rises)
+    !rises.is_empty() && are_ordered(rises) && are_floors(marked, some, rises)
 }
 
 /// Whether a tight arc is shorter than the greatest floor.
-fn is_some_short(lengths: &[u64], tight: &[bool]) -> bool
-    requires { length tight.now ≡ length lengths.now }
-    ensures { IsTrue result
-        ↔ ((arc : ℕ) × (arc < length lengths.now) × IsShortTight tight.now lengths.now arc) }
+fn is_some_short(marked: &Marked) -> bool
+    ensures { IsTrue result ↔ ((arc : ℕ) × (arc < length marked.now.lengths.now)
+        × IsShortTight marked.now.tight.now marked.now.lengths.now arc) }
 {
-    for arc in 0..lengths.len() {
-        if is_short_tight(lengths, tight, arc) {
+    for arc in 0..marked.lengths.len() {
+        if is_short_tight(marked, arc) {
             return true;
         }
     }
@@ -148,12 +154,11 @@ fn is_some_short(lengths: &[u64], tight: &[bool]) -> bool
 }
 
 /// Whether an arc is tight and shorter than the greatest floor.
-fn is_short_tight(lengths: &[u64], tight: &[bool], arc: usize) -> bool
-    requires low { arc < length lengths.now }
-    requires long { length tight.now ≡ length lengths.now }
-    ensures { IsTrue result ↔ IsShortTight tight.now lengths.now arc }
+fn is_short_tight(marked: &Marked, arc: usize) -> bool
+    requires { arc < length marked.now.lengths.now }
+    ensures { IsTrue result ↔ IsShortTight marked.now.tight.now marked.now.lengths.now arc }
 {
-    tight[arc] && is_short(lengths[arc])
+    marked.tight[arc] && is_short(marked.lengths[arc])
 }
 
 /// Whether a length is less than the greatest floor.
@@ -164,12 +169,12 @@ pub(crate) fn is_short(length: u64) -> bool
 }
 
 /// The floor to which that of an arc rises.
-fn floor_of(lengths: &[u64], tight: &[bool], some: bool, arc: usize) -> Option<u32>
-    requires low { arc < length lengths.now }
-    requires long { length tight.now ≡ length lengths.now }
-    ensures { (floor : ℕ) → (result ≡ Some floor) ↔ IsFloorOf some tight.now lengths.now arc floor }
+fn floor_of(marked: &Marked, some: bool, arc: usize) -> Option<u32>
+    requires { arc < length marked.now.lengths.now }
+    ensures { (floor : ℕ) → (result ≡ Some floor)
+        ↔ IsFloorOf some marked.now.tight.now marked.now.lengths.now arc floor }
 {
-    floor_for(lengths[arc], tight[arc], some)
+    floor_for(marked.lengths[arc], marked.tight[arc], some)
 }
 
 /// The floor to which that of an arc rises, where it does: with `some`, a tight arc is short.
@@ -199,13 +204,12 @@ fn are_ordered(rises: &[Rise]) -> bool
 }
 
 /// Whether each rise is that of its arc.
-fn are_floors(lengths: &[u64], tight: &[bool], some: bool, rises: &[Rise]) -> bool
-    requires { length tight.now ≡ length lengths.now }
-    ensures { IsTrue result ↔ AreFloors some tight.now lengths.now rises.now }
+fn are_floors(marked: &Marked, some: bool, rises: &[Rise]) -> bool
+    ensures { IsTrue result ↔ AreFloors some marked.now.tight.now marked.now.lengths.now rises.now }
 {
     for rise in rises {
         let arc = rise.arc as usize;
-        if arc >= lengths.len() || floor_of(lengths, tight, some, arc) != Some(rise.floor) {
+        if arc >= marked.lengths.len() || floor_of(marked, some, arc) != Some(rise.floor) {
             return false;
         }
     }

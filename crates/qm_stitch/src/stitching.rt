@@ -11,7 +11,6 @@ ghost use Rattle.def_remesh.specs.NewPoints.{lengths_in};
 ghost use Rattle.def_remesh.specs.Stitched.{AreSafe, IsNewMesh, IsUnstitched, KeepsShapes};
 ghost use Rattle.qm_stitch.specs.Lengthened.{gluing_in, lengths_by};
 
-use crate::face::face_of;
 use crate::numbered::Numbered;
 use crate::planning::plan;
 use crate::size::last_of;
@@ -47,7 +46,7 @@ fn all_faces(alloc: Global, numbered: &Numbered) -> Result<Vec<[u32; 4]>, AllocE
     let count = last_of(&numbered.tables.cells.begin);
     let mut faces = Vec::with_capacity(alloc, count as usize)?;
     for face in 0..count {
-        faces.push(face_of(numbered, face))?;
+        faces.push(numbered.face(face))?;
     }
     Ok(faces)
 }

@@ -7,5 +7,5 @@ use Rattle.qm_blocks.proofs.linking.links.Given as goal
 
 abbrev pub invariant-loop-block : goal.invariant-loop-block
 invariant-loop-block l =
-    map (λ block. block.items) l.links.items ≡ map (block_links (layout_of l.t) (lengths_in l.x) l.table.items)
+    map (λ block. block.items) l.links.items ≡ map (block_links (layout_of l.t) (lengths_in l.x) l.spotted.1.0.now)
     (range_with_len 0 l.block)

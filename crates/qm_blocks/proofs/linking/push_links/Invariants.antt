@@ -7,7 +7,8 @@ use Rattle.qm_blocks.proofs.linking.push_links.Given as goal
 
 abbrev pub invariant-loop-used : goal.invariant-loop-used
 invariant-loop-used l = record {
-  pushed : l.links.items ≡ l.initial.links.items ++ map (link_on l.table (lengths_in l.x) l.name l.side)
+  pushed : l.links.items ≡ l.initial.links.items
+      ++ map (link_on l.spotted.table.now (lengths_in l.spotted.measured.x.now) l.name l.side)
       (range_with_len 0 l.used-index);
-  from : l.from ≡ count_below (sizes_on l.side (lengths_in l.x)) l.used-index;
+  from : l.from ≡ count_below (sizes_on l.side (lengths_in l.spotted.measured.x.now)) l.used-index;
 }

@@ -7,8 +7,8 @@ use Rattle.qm_blocks.proofs.spots.put_block.Goals as goal
 
 pub returns : goal.returns
 returns c =
-    let l = gluing_of (layout_of c.args.t.now) in
-    let x = lengths_in c.args.x.now in
+    let l = gluing_of (layout_of c.args.measured.now.t.now) in
+    let x = lengths_in c.args.measured.now.x.now in
     block_put l x c.args.block _ _
     (both_put l x _ _ _ _ _
     (both_put l x _ _ _ _ _

@@ -13,7 +13,7 @@ overflow_add-from c = omega (
       c.loop-used-test.true,
   read_size c.args.side.now (lengths_in c.args.x.now) c.loop-used.used-index c.loop-used-test.true,
   c.loop-used.invariant.from,
-  c.requires.small,
+  c.requires.summed.small,
 )
 
 pub loop-used-preserved : goal.loop-used-preserved
@@ -22,7 +22,7 @@ loop-used-preserved c =
     let k = c.loop-used.used-index in
     let key : key_of (used_at side k) ≡ c.key_of.result = ap key_of (read_used side k c.loop-used-test.true)
     ∙ sym c.key_of.ensures in
-    let arc = c.requires.low k (record { arc = 0; forward = true }) c.loop-used-test.true in
+    let arc = c.requires.summed.low k (record { arc = 0; forward = true }) c.loop-used-test.true in
     let low : key_of (used_at side k) < length c.loop-used.table =
     omega (
       arith,

@@ -4,4 +4,5 @@ use Rattle.qm_blocks.specs.Spots.{HasSpots, IsBefore}
 use Rattle.qm_blocks.proofs.spots.spots_of.Given as goal
 
 abbrev pub invariant-loop-block : goal.invariant-loop-block
-invariant-loop-block l = HasSpots (gluing_of (layout_of l.t)) (lengths_in l.x) (IsBefore l.block) l.table.items
+invariant-loop-block l =
+    HasSpots (gluing_of (layout_of l.measured.t.now)) (lengths_in l.measured.x.now) (IsBefore l.block) l.table.items

@@ -1,23 +1,21 @@
-use Rattle.std.proofs.Common.{◌≡◌, List, [], length, get_or, ◌∙◌, ap, sym, arith}
+use Rattle.std.proofs.Common.{◌≡◌, length, ◌∙◌, ap, sym, arith}
 use Rattle.std.proofs.lemmas.List.{length-map}
 use Rattle.def_cut.specs.Grids.{rectangle}
-use Rattle.def_layout.specs.{Arcs.path, Gluings.Way, Layouts.layout_of, Layouts.way_number, declared.tmesh.Side.Side}
+use Rattle.def_layout.specs.{Arcs.path, Gluings.Way, Layouts.layout_of, Layouts.way_number}
 use Rattle.def_remesh.specs.NewPoints.{lengths_in}
-use Rattle.qm_offsets.specs.Fours.{arcs_on, uses_in}
+use Rattle.qm_offsets.specs.Fours.{arcs_on}
 use Rattle.qm_offsets.proofs.Whole.{arcs_low, side_long, way_for}
 use Rattle.qm_offsets.proofs.sides.starts_of.Goals as goal
 
-same : (c : goal.After-side_starts-arg-1) (way : Way) → way_number way ≡ c.args.side → c.uses_on-arcs.result.now
+same : (c : goal.After-side_starts-arg-1) (way : Way) → way_number way ≡ c.args.side → c.side_of-arcs.result.now
     ≡ arcs_on (layout_of c.args.summed.now.t.now) c.args.patch (way_number way)
-same c way is = c.uses_on-arcs.ensures
-    ∙ ap (λ (sides : List (List Side)). get_or (get_or (uses_in sides) c.args.patch []) c.args.side [])
-    c.deref.ensures.value ∙ ap (arcs_on (layout_of c.args.summed.now.t.now) c.args.patch) (sym is)
+same c way is = c.side_of-arcs.ensures ∙ ap (arcs_on (layout_of c.args.summed.now.t.now) c.args.patch) (sym is)
 
 pub side_starts-requires-clause-low : goal.side_starts-requires-clause-low
 side_starts-requires-clause-low c =
     let way : (way : Way) × (way_number way ≡ c.args.side) = way_for c.args.side c.requires.side in
     arcs_low (layout_of c.args.summed.now.t.now) c.args.summed.now.sides.paved c.args.patch way.0
-    (length c.args.summed.now.lengths.now) c.uses_on-arcs.result.now
+    (length c.args.summed.now.lengths.now) c.side_of-arcs.result.now
     (omega (arith, c.requires.low, length-map c.args.summed.now.t.now.patches.items rectangle))
     (omega (arith, c.args.summed.now.long, length-map c.args.summed.now.t.now.arcs.items path)) (same c way.0 way.1)
 
@@ -27,6 +25,6 @@ side_starts-requires-clause-small c =
     omega (
       arith,
       side_long (layout_of c.args.summed.now.t.now) c.args.patch way.0 (lengths_in c.args.summed.now.lengths.now)
-          c.uses_on-arcs.result.now (same c way.0 way.1),
+          c.side_of-arcs.result.now (same c way.0 way.1),
       c.args.summed.now.small c.args.patch way.0 c.requires.low,
     )

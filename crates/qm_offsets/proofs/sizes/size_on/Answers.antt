@@ -8,7 +8,7 @@ use Rattle.def_remesh.specs.NewPoints.{lengths_in}
 use Rattle.embedding_laws.proofs.MeshLayouts.{laid_of, lengths_of}
 use Rattle.embedding_laws.proofs.Bounds.{old_faces, side_few, side_most}
 use Rattle.qm_offsets.specs.Fours.{arcs_on}
-use Rattle.qm_offsets.proofs.Whole.{side_long, uses_low, way_for}
+use Rattle.qm_offsets.proofs.Whole.{side_long, sides_of, uses_low, way_for}
 use Rattle.qm_offsets.proofs.sizes.size_on.Goals as goal
 
 -- Sides are short enough for 64 bits.
@@ -30,6 +30,9 @@ short t x is most p s low =
 read : (c : goal.After-side_of) (way : Way) → way_number way ≡ c.args.side → c.side_of.result.now
     ≡ arcs_on (layout_of c.args.t.now) c.args.patch (way_number way)
 read c way is = c.side_of.ensures ∙ ap (arcs_on (layout_of c.args.t.now) c.args.patch) (sym is)
+
+pub side_of-requires-clause-sides : goal.side_of-requires-clause-sides
+side_of-requires-clause-sides c = sides_of (layout_of c.args.t.now) c.requires.layout
 
 pub size_of-requires-clause-low : goal.size_of-requires-clause-low
 size_of-requires-clause-low c =

@@ -1,7 +1,7 @@
 use Rattle.std.proofs.Common.{◌∙◌, arith}
 use Rattle.std.proofs.lemmas.List.{length-map}
-use Rattle.def_layout.specs.{Arcs.path, Layouts.layout_of}
-use Rattle.qm_place.proofs.{ArcPoints.read_short, Rims.old_short}
+use Rattle.def_layout.specs.Arcs.{path}
+use Rattle.qm_place.proofs.ArcPoints.{read_short}
 use Rattle.qm_place.proofs.arcs.parameter_of.Goals as goal
 
 pub part_of_arc-requires-clause-short : goal.part_of_arc-requires-clause-short
@@ -9,7 +9,7 @@ part_of_arc-requires-clause-short c =
     omega (
       arith,
       c.len-old.ensures ∙ c.index.result.now.darts.ok.0,
-      read_short c.args.places.now.t.now c.requires.are.fine.mesh c.requires.arc c.index.ensures,
+      read_short c.args.places.now.t.now c.args.places.now.fine c.requires.arc c.index.ensures,
     )
 
 pub overflow_mul-result : goal.overflow_mul-result
@@ -17,7 +17,7 @@ overflow_mul-result c =
     omega (
       arith,
       c.len-old.ensures ∙ c.index.result.now.darts.ok.0,
-      read_short c.args.places.now.t.now c.requires.are.fine.mesh c.requires.arc c.index.ensures,
+      read_short c.args.places.now.t.now c.args.places.now.fine c.requires.arc c.index.ensures,
     )
 
 pub returns-in-None-clause-low : goal.returns-in-None-clause-low
@@ -26,7 +26,7 @@ returns-in-None-clause-low c =
       arith,
       c.part_of_arc.ensures.low,
       c.len-old.ensures ∙ c.index.result.now.darts.ok.0,
-      read_short c.args.places.now.t.now c.requires.are.fine.mesh c.requires.arc c.index.ensures,
+      read_short c.args.places.now.t.now c.args.places.now.fine c.requires.arc c.index.ensures,
     )
 
 pub returns-then-used-clause-low : goal.returns-then-used-clause-low
@@ -34,7 +34,7 @@ returns-then-used-clause-low c =
     omega (
       arith,
       c.shared_part.ensures.low,
-      old_short (layout_of c.args.places.now.t.now) c.requires.are.fine.mesh c.args.used.arc
+      c.args.places.now.fine.old_short c.args.used.arc
           (omega (arith, c.requires.arc, length-map c.args.places.now.t.now.arcs.items path)),
     )
 
@@ -43,5 +43,5 @@ returns-else-used-clause-low c =
     omega (
       arith,
       c.len-old.ensures ∙ c.index.result.now.darts.ok.0,
-      read_short c.args.places.now.t.now c.requires.are.fine.mesh c.requires.arc c.index.ensures,
+      read_short c.args.places.now.t.now c.args.places.now.fine c.requires.arc c.index.ensures,
     )

@@ -3,7 +3,6 @@ use Rattle.std.proofs.lemmas.List.{length-map}
 use Rattle.def_layout.specs.{Arcs.path, Layouts.layout_of}
 use Rattle.def_remesh.specs.{NewPoints.lengths_in, Placings.shares_in}
 use Rattle.def_written.specs.Numbers.{before_arc}
-use Rattle.map_laws.proofs.Spaced.{spacing_is}
 use Rattle.qm_place.proofs.ArcPoints.{inner_low, points_few, read_inner, read_short}
 use Rattle.qm_place.proofs.Entries.{start_read}
 use Rattle.qm_place.proofs.arcs.shared_part.Goals.{Else-k-places, After-index-2}
@@ -26,7 +25,7 @@ index c =
     let low : c.args.arc < length (layout_of c.args.places.now.t.now).arcs =
     omega (arith, c.requires.arc, length-map c.args.places.now.t.now.arcs.items path) in
     let begin : c.index-2.result.now ≡ before_arc (lengths_in c.args.places.now.lengths.now) c.args.arc =
-    start_read c.requires.are.along low c.index-2.ensures in
+    start_read c.args.places.now.begun low c.index-2.ensures in
     ap (λ n. n + c.args.k - 1) begin
 
 pub overflow_mul-result : goal.overflow_mul-result
@@ -34,7 +33,7 @@ overflow_mul-result c =
     omega (
       arith,
       c.len.ensures ∙ c.index.result.now.darts.ok.0,
-      read_short c.args.places.now.t.now c.requires.are.fine.mesh c.requires.arc c.index.ensures,
+      read_short c.args.places.now.t.now c.args.places.now.fine c.requires.arc c.index.ensures,
     )
 
 pub overflow_add-index : goal.overflow_add-index
@@ -44,7 +43,7 @@ overflow_add-index c =
       arith,
       index (goal.at.overflow_add-index c).After-index-2,
       some at,
-      points_few c.requires.are.fine {place = c.args.k - 1} (low at) (omega (arith, some at, less at)),
+      points_few c.args.places.now.fine {place = c.args.k - 1} (low at) (omega (arith, some at, less at)),
     )
 
 pub index-requires-3 : goal.index-requires-3
@@ -55,7 +54,7 @@ index-requires-3 c =
       index (goal.at.index-requires-3 c).After-index-2,
       inner_low (layout_of c.args.places.now.t.now) (lengths_in c.args.places.now.lengths.now)
           c.args.places.now.spaced.now
-          c.requires.are.inner c.args.spaced.now c.requires.spaced c.args.arc c.args.k (low at) (some at) (less at),
+          c.args.places.now.inner c.args.spaced.now c.requires.spaced c.args.arc c.args.k (low at) (some at) (less at),
       c.args.spaced.now.parameters.ok.0,
     )
 
@@ -64,19 +63,18 @@ returns-clause-value c =
     let at = (goal.at.returns-clause-value c).Else-k-places in
     read_inner (layout_of c.args.places.now.t.now) (lengths_in c.args.places.now.lengths.now)
     c.args.places.now.spaced.now
-    c.requires.are.inner c.args.spaced.now c.requires.spaced c.args.arc c.args.k (low at) (some at) (less at)
+    c.args.places.now.inner c.args.spaced.now c.requires.spaced c.args.arc c.args.k (low at) (some at) (less at)
     (index (goal.at.returns-clause-value c).After-index-2) c.index-3.ensures
 
 pub returns-clause-low : goal.returns-clause-low
 returns-clause-low c =
     let at = (goal.at.returns-clause-low c).Else-k-places in
-    let fine = c.requires.are.fine in
     let value = read_inner (layout_of c.args.places.now.t.now) (lengths_in c.args.places.now.lengths.now)
-    c.args.places.now.spaced.now c.requires.are.inner c.args.spaced.now c.requires.spaced c.args.arc c.args.k
+    c.args.places.now.spaced.now c.args.places.now.inner c.args.spaced.now c.requires.spaced c.args.arc c.args.k
     (low at) (some at) (less at) (index (goal.at.returns-clause-low c).After-index-2) c.index-3.ensures in
     omega (
       arith,
       value,
-      (spacing_is (layout_of c.args.places.now.t.now) fine.mesh (lengths_in c.args.places.now.lengths.now) fine.lengths
-          fine.few (shares_in c.args.places.now.spaced.now)).below c.args.arc true c.args.k (low at) (less at),
+      (c.args.places.now.fine.spacing (shares_in c.args.places.now.spaced.now)).below c.args.arc true c.args.k (low at)
+          (less at),
     )

@@ -6,25 +6,28 @@ use Rattle.qm_place.proofs.grid.across.Goals as goal
 
 pub returns : goal.returns
 returns c layout new spacing p low len is ends columns =
+    let rim = c.args.at.now.rim in
+    let i = c.args.at.now.i in
+    let j = c.args.at.now.j in
     let near : c.at_place-south.result
-    ≡ parameter (gluing_of layout) (long_at layout.arcs) new spacing p south c.args.i =
-    elim (cases_lt c.args.i c.args.rim.wide) [
-      | inl less ↦ c.at_place-south.ensures.before less ∙ (is.sides south).each c.args.i (omega (arith, less, is.wide))
+    ≡ parameter (gluing_of layout) (long_at layout.arcs) new spacing p south i =
+    elim (cases_lt i rim.wide) [
+      | inl less ↦ c.at_place-south.ensures.before less ∙ (is.sides south).each i (omega (arith, less, is.wide))
       | inr more ↦
-          let end : c.args.i ≡ wide (gluing_of layout) new p = omega (arith, more, c.requires.grid.0, is.wide) in
-          c.at_place-south.ensures.end more ∙ (λ k. ONE * (c.from.ensures ∙ columns) k) ∙ sym ends.south
+          let end : i ≡ wide (gluing_of layout) new p = omega (arith, more, c.args.at.now.grid.0, is.wide) in
+          c.at_place-south.ensures.end more ∙ (λ k. ONE * (c.from-end.ensures ∙ columns) k) ∙ sym ends.south
           ∙ ap (parameter (gluing_of layout) (long_at layout.arcs) new spacing p south) (sym end)
     ] in
     let far : c.at_place-north.result ≡ parameter_back (gluing_of layout) (long_at layout.arcs) new spacing p north
-    (wide (gluing_of layout) new p - c.args.i) =
-    elim (cases_lt (c.args.rim.wide - c.args.i) c.args.rim.wide) [
+    (wide (gluing_of layout) new p - i) =
+    elim (cases_lt (rim.wide - i) rim.wide) [
       | inl less ↦ c.at_place-north.ensures.before less
-          ∙ (is.sides north).each (c.args.rim.wide - c.args.i) (omega (arith, less, is.wide, len.across p low))
-          ∙ ap (λ w. parameter_back (gluing_of layout) (long_at layout.arcs) new spacing p north (w - c.args.i)) is.wide
+          ∙ (is.sides north).each (rim.wide - i) (omega (arith, less, is.wide, len.across p low))
+          ∙ ap (λ w. parameter_back (gluing_of layout) (long_at layout.arcs) new spacing p north (w - i)) is.wide
       | inr more ↦
-          let end : wide (gluing_of layout) new p ≡ wide (gluing_of layout) new p - c.args.i =
-          omega (arith, more, c.requires.grid.2, is.wide) in
+          let end : wide (gluing_of layout) new p ≡ wide (gluing_of layout) new p - i =
+          omega (arith, more, c.args.at.now.grid.2, is.wide) in
           c.at_place-north.ensures.end more ∙ sym ends.north
           ∙ ap (parameter_back (gluing_of layout) (long_at layout.arcs) new spacing p north) end
     ] in
-    c.mean.ensures ∙ (λ k. (near k * (is.high k - c.args.j) + far k * c.args.j) / is.high k)
+    c.mean.ensures ∙ (λ k. (near k * (is.high k - j) + far k * j) / is.high k)

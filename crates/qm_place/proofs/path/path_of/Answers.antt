@@ -4,8 +4,8 @@ use Rattle.qm_place.proofs.path.path_of.Goals as goal
 
 pub invariant_of-result : goal.invariant_of-result
 invariant_of-result c = record {
-  long = omega (arith, c.requires.few);
-  whole = sym (count_ones (length c.args.darts.now));
-  some = c.requires.some;
-  few = omega (arith, c.requires.few);
+  long = omega (arith, c.args.arc.now.few);
+  whole = sym (count_ones (length c.args.arc.now.all.now));
+  some = c.args.arc.now.some;
+  few = omega (arith, c.args.arc.now.few);
 }

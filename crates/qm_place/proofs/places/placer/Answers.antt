@@ -8,6 +8,7 @@ use Rattle.def_written.specs.NewFaces.{face_count}
 use Rattle.def_layoutnet.specs.MeshLayouts.{IsSomeLayout}
 use Rattle.qm_place.specs.ArcTables.{AreFine}
 use Rattle.qm_place.proofs.Built.{inner_short, inner_starts, lengths_short, points_short, rims_some}
+use Rattle.qm_place.proofs.Rims.{fine_of}
 use Rattle.qm_place.proofs.places.placer.Goals as goal
 
 -- What is asked of the lengths.
@@ -15,8 +16,7 @@ fine : (t : TMesh) (x : List ℕ) → IsSomeLayout (layout_of t) → length x �
     → AreLengths (gluing_of (layout_of t)) (lengths_in x)
     → face_count (gluing_of (layout_of t)) (lengths_in x) ≤ MAX_NEW_FACES
     → AreFine (layout_of t) x
-fine t x mesh long lengths few =
-    record { mesh = mesh; long = long ∙ sym (length-map t.arcs.items path); lengths = lengths; few = few }
+fine t x mesh long = fine_of mesh (long ∙ sym (length-map t.arcs.items path))
 
 pub short_lengths-requires : goal.short_lengths-requires
 short_lengths-requires c =
@@ -33,17 +33,15 @@ spaced_by-requires c =
     let is = fine c.args.t.now c.args.x.now c.requires.layout.0 c.requires.long c.requires.lengths c.requires.few in
     record { fine = rw (c.deref-2.ensures.value, c.in_ok-lengths.ensures) is }
 
-pub sides_of-requires : goal.sides_of-requires
-sides_of-requires c =
+pub invariant_of-arcs : goal.invariant_of-arcs
+invariant_of-arcs c =
     let is = fine c.args.t.now c.args.x.now c.requires.layout.0 c.requires.long c.requires.lengths c.requires.few in
     let here : AreFine (layout_of c.args.t.now) c.deref-3.result.now =
     rw (c.deref-3.ensures.value, c.in_ok-lengths.ensures) is in
     record {
-      are = record {
-        fine = here;
-        along = rw (← here.long, c.deref-3.ensures.value, ← c.deref.ensures.value) c.in_ok-along.ensures;
-        inner = rw (c.deref-3.ensures.value, ← c.deref-2.ensures.value) c.in_ok-spaced.ensures.spaced;
-      };
+      fine = here;
+      begun = rw (← here.long, c.deref-3.ensures.value, ← c.deref.ensures.value) c.in_ok-along.ensures;
+      inner = rw (c.deref-3.ensures.value, ← c.deref-2.ensures.value) c.in_ok-spaced.ensures.spaced;
     }
 
 pub inner_starts-requires-clause-some : goal.inner_starts-requires-clause-some

@@ -3,7 +3,7 @@ use Rattle.std.proofs.lemmas.List.{length-map}
 use Rattle.def_cut.specs.Grids.{rectangle}
 use Rattle.def_layout.specs.Gluings.{south, east, north, west}
 use Rattle.qm_place.specs.OnArcs.{spacing_on}
-use Rattle.qm_place.proofs.{Pushes.kept_on, Pushes.pushed_kept, Rims.new_few, Rims.rim_built}
+use Rattle.qm_place.proofs.{Pushes.kept_on, Pushes.pushed_kept, Rims.rim_built}
 use Rattle.qm_place.proofs.sides.push_patch.Goals as goal
 
 pub overflow_sub-wide : goal.overflow_sub-wide
@@ -50,7 +50,7 @@ overflow_cast-result c =
       c.len.ensures,
       c.push_side.new.parameters.ok.0,
       (c.in_ok-push_side.ensures south refl).long,
-      new_few c.requires.are.fine {p = c.args.patch} south
+      c.args.places.now.fine.new_few c.args.patch south
           (omega (arith, c.requires.low, length-map c.args.places.now.t.now.patches.items rectangle)),
     )
 
@@ -66,13 +66,13 @@ overflow_cast-result-2 c =
       c.push_side-2.new.parameters.ok.0,
       (c.in_ok-push_side.ensures south refl).long,
       (c.in_ok-push_side-2.ensures east refl).long,
-      new_few c.requires.are.fine {p = c.args.patch} east
+      c.args.places.now.fine.new_few c.args.patch east
           (omega (arith, c.requires.low, length-map c.args.places.now.t.now.patches.items rectangle)),
     )
 
 pub returns-clause-rim : goal.returns-clause-rim
 returns-clause-rim c =
-    rim_built (spacing_on c.args.places.now) c.requires.are.fine
+    rim_built (spacing_on c.args.places.now) c.args.places.now.fine
     (omega (arith, c.requires.low, length-map c.args.places.now.t.now.patches.items rectangle))
     (c.in_ok-push_side.ensures south refl) (c.in_ok-push_side-2.ensures east refl)
     (c.in_ok-push_side-3.ensures north refl) (c.in_ok-push_side-4.ensures west refl)

@@ -11,14 +11,14 @@ use Rattle.qm_place.proofs.sides.push_side.Goals as goal
 pub index-requires : goal.index-requires
 index-requires c =
     let w = way_for c.args.side c.requires.side in
-    let at = read c.args.places.now.t.now c.requires.are.fine c.requires.low c.side_of-used-items.ensures
+    let at = read c.args.places.now.t.now c.args.places.now.fine c.requires.low c.side_of-used-items.ensures
     c.loop-used-test.true w.1 in
     omega (arith, at.arc_low, c.args.places.now.t.now.arcs.ok.0)
 
 pub start_of-start-requires : goal.start_of-start-requires
 start_of-start-requires c =
     let w = way_for c.args.side c.requires.side in
-    let at = read c.args.places.now.t.now c.requires.are.fine c.requires.low c.side_of-used-items.ensures
+    let at = read c.args.places.now.t.now c.args.places.now.fine c.requires.low c.side_of-used-items.ensures
     c.loop-used-test.true w.1 in
     let old = c.len-old.ensures ∙ c.index.result.now.darts.ok.0
     ∙ old_read c.args.places.now.t.now at.arc_low c.index.ensures in
@@ -27,7 +27,7 @@ start_of-start-requires c =
 pub push_arc-requires-clause-few : goal.push_arc-requires-clause-few
 push_arc-requires-clause-few c =
     let w = way_for c.args.side c.requires.side in
-    let at = read c.args.places.now.t.now c.requires.are.fine c.requires.low c.side_of-used-items.ensures
+    let at = read c.args.places.now.t.now c.args.places.now.fine c.requires.low c.side_of-used-items.ensures
     c.loop-used-test.true w.1 in
     let old = c.len-old.ensures ∙ c.index.result.now.darts.ok.0
     ∙ old_read c.args.places.now.t.now at.arc_low c.index.ensures in
@@ -43,14 +43,14 @@ push_arc-requires-clause-few c =
 pub push_arc-requires-clause-arc : goal.push_arc-requires-clause-arc
 push_arc-requires-clause-arc c =
     let w = way_for c.args.side c.requires.side in
-    let at = read c.args.places.now.t.now c.requires.are.fine c.requires.low c.side_of-used-items.ensures
+    let at = read c.args.places.now.t.now c.args.places.now.fine c.requires.low c.side_of-used-items.ensures
     c.loop-used-test.true w.1 in
     omega (arith, at.arc_low)
 
 pub overflow_add-before : goal.overflow_add-before
 overflow_add-before c =
     let w = way_for c.args.side c.requires.side in
-    let at = read c.args.places.now.t.now c.requires.are.fine c.requires.low c.side_of-used-items.ensures
+    let at = read c.args.places.now.t.now c.args.places.now.fine c.requires.low c.side_of-used-items.ensures
     c.loop-used-test.true w.1 in
     let old = c.len-old.ensures ∙ c.index.result.now.darts.ok.0
     ∙ old_read c.args.places.now.t.now at.arc_low c.index.ensures in
@@ -66,7 +66,7 @@ loop-used-preserved c = record {
     here : (s : Way) → way_number s ≡ c.args.side
         → IsRead c.args.places.now.t.now c.args.places.now.lengths.now c.args.patch c.loop-used.used-index s
         (get_or c.side_of-used-items.result.now c.loop-used.used-index (record { arc = 0; forward = false }))
-    here s way = read c.args.places.now.t.now c.requires.are.fine c.requires.low c.side_of-used-items.ensures
+    here s way = read c.args.places.now.t.now c.args.places.now.fine c.requires.low c.side_of-used-items.ensures
         c.loop-used-test.true way
 
     old_is : (s : Way) → way_number s ≡ c.args.side

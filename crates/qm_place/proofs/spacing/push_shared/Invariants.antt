@@ -6,6 +6,7 @@ use Rattle.qm_place.proofs.spacing.push_shared.Given as goal
 abbrev pub invariant-loop-k : goal.invariant-loop-k
 invariant-loop-k l = record {
   pushed : ArePushed l.fn.parameters.items l.parameters.items (l.k - 1) (λ i. step_parameter (inner_step
-      (counted (share_by l.darts l.shares false) (length l.darts)) (length l.darts) l.new (i + 1)));
+      (counted (share_by l.fn.darts.all.now l.shares false) (length l.fn.darts.all.now)) (length l.fn.darts.all.now)
+      l.new (i + 1)));
   reached : HasReached l.path l.at l.k l.new;
 }

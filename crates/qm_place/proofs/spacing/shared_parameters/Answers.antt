@@ -6,7 +6,6 @@ use Rattle.def_layout.specs.{Arcs.long_at, Arcs.path, Arcs.path_at, Arcs.Path, L
 use Rattle.def_layout.specs.{declared.tmesh.TArc.TArc}
 use Rattle.def_remesh.specs.{NewPoints.lengths_in, Spaced.shares_along}
 use Rattle.def_written.specs.{Numbers.before_arc, Spacings.shared_step, Spacings.step_parameter}
-use Rattle.embedding_laws.proofs.MeshLayouts.{lengths_of}
 use Rattle.written_laws.proofs.Runs.{place_low}
 use Rattle.qm_place.proofs.{ArcPoints.read_short, Paths.arc_parameter}
 use Rattle.qm_place.proofs.spacing.shared_parameters.Goals.{After-deref}
@@ -22,28 +21,25 @@ darts c =
     ∙ sym (ap (λ (q : Path). q.darts) (get_or-map path c.args.t.now.arcs.items c.loop-arc.arc c.index.result.now
     (record { first = 0; last = 0; darts = [] }) (arc_low c)))
 
-pub push_shared-requires-clause-some : goal.push_shared-requires-clause-some
-push_shared-requires-clause-some c =
-    let at = (goal.at.push_shared-requires-clause-some c).After-deref in
-    omega (
-      arith,
-      ap (λ (ds : List ℕ). length ds) (darts at),
-      (lengths_of (layout_of c.args.t.now) c.requires.fine.mesh).some c.loop-arc.arc
-          (omega (arith, arc_low at, length-map c.args.t.now.arcs.items path)),
-    )
+pub invariant_of-darts : goal.invariant_of-darts
+invariant_of-darts c =
+    let at = (goal.at.invariant_of-darts c).After-deref in
+    record {
+      some = omega (
+        arith,
+        ap (λ (ds : List ℕ). length ds) (darts at),
+        c.requires.fine.old_some c.loop-arc.arc (omega (arith, arc_low at, length-map c.args.t.now.arcs.items path)),
+      );
+      few = omega (
+        arith,
+        ap (λ (ds : List ℕ). length ds) c.deref.ensures.value,
+        read_short c.args.t.now c.requires.fine (arc_low at) c.index.ensures,
+      );
+    }
 
-pub push_shared-requires-clause-few : goal.push_shared-requires-clause-few
-push_shared-requires-clause-few c =
-    let at = (goal.at.push_shared-requires-clause-few c).After-deref in
-    omega (
-      arith,
-      ap (λ (ds : List ℕ). length ds) c.deref.ensures.value,
-      read_short c.args.t.now c.requires.fine.mesh (arc_low at) c.index.ensures,
-    )
-
-pub push_shared-requires-clause-new : goal.push_shared-requires-clause-new
-push_shared-requires-clause-new c =
-    let at = (goal.at.push_shared-requires-clause-new c).After-deref in
+pub push_shared-requires : goal.push_shared-requires
+push_shared-requires c =
+    let at = (goal.at.push_shared-requires c).After-deref in
     c.requires.fine.lengths.some c.loop-arc.arc (omega (arith, arc_low at, length-map c.args.t.now.arcs.items path))
 
 pub loop-arc-preserved : goal.loop-arc-preserved

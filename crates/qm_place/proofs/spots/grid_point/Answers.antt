@@ -6,25 +6,13 @@ use Rattle.qm_place.specs.Lengthened.{spacing_at}
 use Rattle.qm_place.proofs.Entries.{patch_read, rim_here, rim_room}
 use Rattle.qm_place.proofs.spots.grid_point.Goals as goal
 
-pub across-u-requires-clause-room : goal.across-u-requires-clause-room
-across-u-requires-clause-room c =
+pub invariant_of-at : goal.invariant_of-at
+invariant_of-at c =
     let rim = rim_here c.args.placed.now.t.now c.args.placed.now.placed c.requires.patch c.index-rim.ensures in
-    rim_room c.args.placed.now.tables.now rim.low rim.is c.deref.ensures.value
-
-pub across-u-requires-clause-grid : goal.across-u-requires-clause-grid
-across-u-requires-clause-grid c =
-    let rim = rim_here c.args.placed.now.t.now c.args.placed.now.placed c.requires.patch c.index-rim.ensures in
-    rw rim.same c.requires.grid
-
-pub upright-v-requires-clause-room : goal.upright-v-requires-clause-room
-upright-v-requires-clause-room c =
-    let rim = rim_here c.args.placed.now.t.now c.args.placed.now.placed c.requires.patch c.index-rim.ensures in
-    rim_room c.args.placed.now.tables.now rim.low rim.is c.deref-2.ensures.value
-
-pub upright-v-requires-clause-grid : goal.upright-v-requires-clause-grid
-upright-v-requires-clause-grid c =
-    let rim = rim_here c.args.placed.now.t.now c.args.placed.now.placed c.requires.patch c.index-rim.ensures in
-    rw rim.same c.requires.grid
+    record {
+      room = rim_room c.args.placed.now.tables.now rim.low rim.is c.deref.ensures.value;
+      grid = rw rim.same c.requires.grid;
+    }
 
 u_is : (c : goal.After-upright-v) → c.across-u.result
     ≡ parameter_u (gluing_of (layout_of c.args.placed.now.t.now)) (long_at (layout_of c.args.placed.now.t.now).arcs)
@@ -46,7 +34,7 @@ v_is c =
     let old = patch_read c.args.placed.now.t.now c.args.placed.now.placed c.requires.patch c.index-old.ensures in
     c.upright-v.ensures (layout_of c.args.placed.now.t.now) (lengths_in c.args.placed.now.tables.now.lengths.items)
     (spacing_at c.args.placed.now) c.args.patch rim.low c.args.placed.now.placed.lengths
-    (rw c.deref-2.ensures.value rim.is) (c.args.placed.now.placed.ends c.args.patch rim.low) old.high
+    (rw c.deref.ensures.value rim.is) (c.args.placed.now.placed.ends c.args.patch rim.low) old.high
 
 pub returns-clause-value : goal.returns-clause-value
 returns-clause-value c = λ k. record { u = u_is c k; v = v_is c k }

@@ -6,4 +6,4 @@ use Rattle.qm_stitch.proofs.remedies.is_some_short.Given as goal
 
 abbrev pub invariant-loop-used : goal.invariant-loop-used
 invariant-loop-used l =
-    (at : ℕ) → at < l.used-index → ¬ (lengths_by l.priced.numbered (used_at l.uses at).arc < MAX_FLOOR)
+    (at : ℕ) → at < l.used-index → ¬ (lengths_by l.priced.keyed.numbered (used_at l.uses at).arc < MAX_FLOOR)

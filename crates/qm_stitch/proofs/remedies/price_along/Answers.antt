@@ -16,7 +16,7 @@ more x prices uses i d low = ap (price_along x prices) (take_more uses i d low) 
 
 pub loop-used-preserved : goal.loop-used-preserved
 loop-used-preserved c =
-    let x = lengths_by c.args.priced.now.numbered in
+    let x = lengths_by c.args.priced.now.keyed.numbered in
     let e = more x c.args.priced.now.prices.now c.args.uses.now c.loop-used.used-index
     (record { arc = 0; forward = false }) c.loop-used-test.true in
     let back : to_z w64 (of_z w64 c.short_price.result) ≡ c.short_price.result =

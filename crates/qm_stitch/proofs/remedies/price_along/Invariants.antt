@@ -4,7 +4,7 @@ use Rattle.qm_stitch.proofs.remedies.price_along.Given as goal
 
 abbrev pub invariant-loop-used : goal.invariant-loop-used
 invariant-loop-used l = record {
-  sum : l.price ≡ price_along (lengths_by l.priced.numbered) l.priced.prices.now (take l.used-index l.uses);
+  sum : l.price ≡ price_along (lengths_by l.priced.keyed.numbered) l.priced.prices.now (take l.used-index l.uses);
   low : neg_ℤ (pos (2 ^ 63 * l.used-index)) ≤ℤ l.price;
   high : l.price ≤ℤ pos (2 ^ 63 * l.used-index);
 }

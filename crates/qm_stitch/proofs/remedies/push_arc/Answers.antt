@@ -23,16 +23,16 @@ end_is numbered arc end low read = read ∙ get_or_default numbered.tables.now.l
 pub returns-then-not-is_short_arc : goal.returns-then-not-is_short_arc
 returns-then-not-is_short_arc c =
     adds_none c.args.found.now.items (IsAlong c.args.priced.now (Arc c.args.arc))
-    (none_along c.args.priced.now c.requires.priced (Arc c.args.arc)
+    (none_along c.args.priced.now (Arc c.args.arc)
     (λ is. false≢true (sym c.if-not-is_short_arc.true ∙ c.is_short_arc.ensures.1
-    (subst (λ (a : ℕ). lengths_by c.args.priced.now.numbered a < MAX_FLOOR) (sym is.1) is.2))))
+    (subst (λ (a : ℕ). lengths_by c.args.priced.now.keyed.numbered a < MAX_FLOOR) (sym is.1) is.2))))
 
 pub loop-k-init : goal.loop-k-init
 loop-k-init c = adds_none c.args.found.now.items _ (λ r is. omega (arith, is.1))
 
 pub loop-k-preserved : goal.loop-k-preserved
 loop-k-preserved c =
-    let price = short_price (lengths_by c.args.priced.now.numbered) c.args.priced.now.prices.now c.args.arc in
+    let price = short_price (lengths_by c.args.priced.now.keyed.numbered) c.args.priced.now.prices.now c.args.arc in
     adds_next c.args.found.now.items c.loop-k.found.items c.push_remedy.new.found.items
     (λ k. IsBy c.args.priced.now (on_arc c.args.arc k) price (Arc c.args.arc)) c.loop-k.k
     c.loop-k.invariant
@@ -43,13 +43,13 @@ loop-k-preserved c =
     c.in_ok-push_remedy.ensures)
 
 pub returns : goal.returns
-returns c = arc_adds c.args.priced.now c.requires.priced c.args.arc c.loop-k.k c.args.found.now.items
-    c.loop-k.found.items (omega (arith, c.requires.arc, length-map c.args.priced.now.numbered.t.now.arcs.items path))
+returns c = arc_adds c.args.priced.now c.args.arc c.loop-k.k c.args.found.now.items c.loop-k.found.items
+    (omega (arith, c.requires.arc, length-map c.args.priced.now.keyed.numbered.t.now.arcs.items path))
     (c.is_short_arc.ensures.0 c.if-not-is_short_arc.false)
     (omega (
       arith,
       c.loop-k-test.false,
       c.loop-k.auto.k-end,
-      end_is c.args.priced.now.numbered c.args.arc c.index-k-end.result.now c.requires.arc c.index-k-end.ensures,
+      end_is c.args.priced.now.keyed.numbered c.args.arc c.index-k-end.result.now c.requires.arc c.index-k-end.ensures,
     ))
     c.loop-k.invariant

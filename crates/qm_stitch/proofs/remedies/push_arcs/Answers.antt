@@ -13,7 +13,7 @@ loop-arc-preserved c = adds_next c.args.found.now.items c.loop-arc.found.items c
 
 pub returns : goal.returns
 returns c =
-    let end : c.loop-arc.arc ≡ length c.args.priced.now.numbered.t.now.arcs.items =
+    let end : c.loop-arc.arc ≡ length c.args.priced.now.keyed.numbered.t.now.arcs.items =
     omega (arith, c.loop-arc-test.false, c.loop-arc.auto.arc-end, c.len-arc-end.ensures) in
     subst (λ (n : ℕ). AddsRemedies c.args.found.now.items c.loop-arc.found.items (IsAlongArcs c.args.priced.now n)) end
     c.loop-arc.invariant

@@ -1,19 +1,16 @@
 use Rattle.std.proofs.Common.{◌≡◌, ◌-◌, ◌<◌, ℕ, ◌∙◌, ap, arith}
 use Rattle.std.proofs.lemmas.Int.{to_z-of_z}
 use Rattle.def_layout.specs.Lengths.{size}
-use Rattle.written_laws.proofs.Sides.{size_some}
 use Rattle.qm_stitch.specs.{Lengthened.gluing_in, Lengthened.lengths_by, Rims.along_lines, Rims.key_of, Rims.line_edge}
-use Rattle.qm_stitch.proofs.{Lines.line_adds, remedies.push_line.Goals.After-size_at-last}
+use Rattle.qm_stitch.proofs.{Lines.line_adds, TightEdges.line_some, remedies.push_line.Goals.After-size_at-last}
 use Rattle.qm_stitch.proofs.remedies.push_line.Goals as goal
 
 abbrev long : After-size_at-last → ℕ
-long c = size (gluing_in c.args.priced.now.numbered) (lengths_by c.args.priced.now.numbered) c.args.line.patch
-    (along_lines c.args.line.upright)
+long c = size (gluing_in c.args.priced.now.keyed.numbered) (lengths_by c.args.priced.now.keyed.numbered)
+    c.args.line.patch (along_lines c.args.line.upright)
 
 some : (c : After-size_at-last) → 0 < long c
-some c = size_some (gluing_in c.args.priced.now.numbered) (lengths_by c.args.priced.now.numbered)
-    c.args.priced.now.numbered.numbers.paved c.args.priced.now.numbered.numbers.lengths c.args.line.patch
-    (along_lines c.args.line.upright) c.requires.line.patch
+some c = line_some c.args.priced.now.keyed c.args.line c.requires.line
 
 long_is : (c : After-size_at-last) → c.size_at-last.result ≡ long c
 long_is c = c.size_at-last.ensures (along_lines c.args.line.upright) c.side_along.ensures.side
@@ -32,11 +29,11 @@ key_at-end-requires-clause-low c =
 pub returns : goal.returns
 returns c =
     let w = (goal.at.returns c).After-size_at-last in
-    line_adds c.args.priced.now c.requires.priced c.args.line c.requires.line c.requires.some c.args.price c.args.run
+    line_adds c.args.priced.now c.args.line c.requires.line c.args.price c.args.run
     c.args.found.now.items c.push_remedy.new.found.items c.push_remedy-2.new.found.items c.key_at-first.result
     c.key_at-end.result _ c.key_at-first.ensures
-    (c.key_at-end.ensures ∙ ap (λ (n : ℕ). key_of (gluing_in c.args.priced.now.numbered)
-    (lengths_by c.args.priced.now.numbered)
+    (c.key_at-end.ensures ∙ ap (λ (n : ℕ). key_of (gluing_in c.args.priced.now.keyed.numbered)
+    (lengths_by c.args.priced.now.keyed.numbered)
     (line_edge c.args.line.upright c.args.line.patch c.args.line.number (n - 1))) (long_is w))
     (to_z-of_z _ c.args.price c.ranges.price)
     c.in_ok-push_remedy.ensures c.in_ok-push_remedy-2.ensures

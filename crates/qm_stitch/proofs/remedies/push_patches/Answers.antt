@@ -12,7 +12,7 @@ loop-patch-preserved c = adds_next c.args.found.now.items c.loop-patch.found.ite
 
 pub returns : goal.returns
 returns c =
-    let end : c.loop-patch.patch ≡ length c.args.priced.now.numbered.t.now.patches.items =
+    let end : c.loop-patch.patch ≡ length c.args.priced.now.keyed.numbered.t.now.patches.items =
     omega (arith, c.loop-patch-test.false, c.loop-patch.auto.patch-end, c.len-patch-end.ensures) in
     subst (λ (n : ℕ). AddsRemedies c.args.found.now.items c.loop-patch.found.items (IsAlongPatches c.args.priced.now n))
     end c.loop-patch.invariant

@@ -7,7 +7,7 @@ use Rattle.qm_stitch.proofs.remedies.push_side.Given as goal
 abbrev pub invariant-loop-number : goal.invariant-loop-number
 invariant-loop-number l = record {
   some : 1 ≤ l.number;
-  upto : l.number ≤ size (gluing_in l.priced.numbered) (lengths_by l.priced.numbered) l.patch
+  upto : l.number ≤ size (gluing_in l.priced.keyed.numbered) (lengths_by l.priced.keyed.numbered) l.patch
       (along_lines (not l.upright));
   adds : AddsRemedies l.initial.found.items l.found.items
       (λ r. (n : ℕ) × (n < l.number) × IsInLine l.priced l.patch l.side l.price n r);

@@ -7,8 +7,8 @@ use Rattle.qm_stitch.proofs.remedies.remedies.Goals as goal
 
 pub returns : goal.returns
 returns c =
-    all_found c.args.priced.now c.requires c.new-found.result.items c.push_arcs.new.found.items
+    all_found c.args.priced.now c.new-found.result.items c.push_arcs.new.found.items
     c.push_patches.new.found.items _ _ (search rules)
-    (sym (length-map c.args.priced.now.numbered.t.now.arcs.items path))
-    (sym (length-map c.args.priced.now.numbered.t.now.patches.items rectangle)) c.in_ok-push_arcs.ensures
+    (sym (length-map c.args.priced.now.keyed.numbered.t.now.arcs.items path))
+    (sym (length-map c.args.priced.now.keyed.numbered.t.now.patches.items rectangle)) c.in_ok-push_arcs.ensures
     c.in_ok-push_patches.ensures

@@ -1,4 +1,5 @@
 use Rattle.std.proofs.{Common.ℕ, Common.List, Common.sym, Common.subst, lemmas.Option.IfSome_then}
+use Rattle.std.proofs.lemmas.List.Sorted.{sum_by-IsPermutation}
 use Rattle.qm_stitch.specs.Rims.{IsLeastRepeat, IsRepeat}
 use Rattle.qm_stitch.proofs.Repeats.{least_moved, repeat_moved}
 use Rattle.qm_stitch.proofs.repeat.least_repeat.Goals as goal
@@ -13,4 +14,5 @@ pub returns-clause-none : goal.returns-clause-none
 returns-clause-none c none key is =
     c.first_repeat.ensures.none none key
     (subst (λ (keys : List ℕ). IsRepeat keys key) (sym c.deref.ensures.value)
-    (repeat_moved c.args.keys.items c.sort.new.keys.items key c.sort.ensures.moved is))
+    (repeat_moved c.args.keys.items c.sort.new.keys.items key
+    (λ f. sum_by-IsPermutation f c.args.keys.items c.sort.new.keys.items c.sort.ensures.moved) is))

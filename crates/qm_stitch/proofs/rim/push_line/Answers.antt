@@ -9,7 +9,7 @@ use Rattle.qm_stitch.proofs.rim.push_line.Goals as goal
 
 pub key_at-requires-clause-low : goal.key_at-requires-clause-low
 key_at-requires-clause-low c = size_some (gluing_in c.args.numbered.now) (lengths_by c.args.numbered.now)
-    c.args.numbered.now.numbers.paved c.args.numbered.now.numbers.lengths c.args.line.patch
+    c.args.numbered.now.numbers.whole.paved c.args.numbered.now.numbers.lengths c.args.line.patch
     (along_lines c.args.line.upright) c.requires.line.patch
 
 pub key_at-requires-then-long-gt1-clause-low : goal.key_at-requires-then-long-gt1-clause-low

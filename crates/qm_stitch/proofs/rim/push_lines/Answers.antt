@@ -14,8 +14,9 @@ low t patch less = omega (arith, less, length-map t.patches.items rectangle)
 pub loop-number-init : goal.loop-number-init
 loop-number-init c = record {
   some = omega arith;
-  upto = size_some (gluing_in c.args.numbered.now) (lengths_by c.args.numbered.now) c.args.numbered.now.numbers.paved
-      c.args.numbered.now.numbers.lengths c.args.patch (along_lines (not c.args.upright))
+  upto = size_some (gluing_in c.args.numbered.now) (lengths_by c.args.numbered.now)
+      c.args.numbered.now.numbers.whole.paved c.args.numbered.now.numbers.lengths c.args.patch
+      (along_lines (not c.args.upright))
       (low c.args.numbered.now.t.now c.args.patch c.requires.patch);
   items = sym (append-nil c.args.keys.now.items);
 }
@@ -24,6 +25,7 @@ pub push_line-requires : goal.push_line-requires
 push_line-requires c = record {
   line = record {
     patch = low c.args.numbered.now.t.now c.args.patch c.requires.patch;
+    some = c.loop-number.invariant.some;
     inside = omega (
       arith,
       c.loop-number-test.true,

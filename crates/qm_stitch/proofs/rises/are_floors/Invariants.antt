@@ -4,5 +4,5 @@ use Rattle.qm_stitch.specs.Raised.{IsFloorOf}
 use Rattle.qm_stitch.proofs.rises.are_floors.Given as goal
 
 abbrev pub invariant-loop-rise : goal.invariant-loop-rise
-invariant-loop-rise l = (k : ℕ) → k < l.rise-index → ((rise_at l.rises k).arc < length l.lengths)
-    × IsFloorOf l.some l.tight l.lengths (rise_at l.rises k).arc (rise_at l.rises k).floor
+invariant-loop-rise l = (k : ℕ) → k < l.rise-index → ((rise_at l.rises k).arc < length l.marked.lengths.now)
+    × IsFloorOf l.some l.marked.tight.now l.marked.lengths.now (rise_at l.rises k).arc (rise_at l.rises k).floor

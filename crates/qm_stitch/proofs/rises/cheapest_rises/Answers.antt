@@ -13,22 +13,29 @@ use Rattle.qm_stitch.proofs.rises.cheapest_rises.Goals as goal
 
 -- The remedies are those at these lengths.
 found : (c : In_ok-remedies) → (r : Remedy) → Contains c.in_ok-remedies.remedies.items r
-    ↔ IsRemedy (layout_of c.args.priced.now.numbered.t.now) (lengths_in c.args.lengths.now)
+    ↔ IsRemedy (layout_of c.args.priced.now.keyed.numbered.t.now) (lengths_in c.args.priced.now.lengths.now)
     c.args.priced.now.prices.now r
 found c =
     subst (λ (xs : List ℕ). (r : Remedy) → Contains c.in_ok-remedies.remedies.items r
-    ↔ IsRemedy (layout_of c.args.priced.now.numbered.t.now) (lengths_in xs) c.args.priced.now.prices.now r)
-    c.requires.same c.in_ok-remedies.ensures
+    ↔ IsRemedy (layout_of c.args.priced.now.keyed.numbered.t.now) (lengths_in xs) c.args.priced.now.prices.now r)
+    c.args.priced.now.same c.in_ok-remedies.ensures
 
 pub cheapest_arcs-requires : goal.cheapest_arcs-requires
 cheapest_arcs-requires c k d low =
     let w = (goal.at.cheapest_arcs-requires c).In_ok-remedies in
-    remedy_in (layout_of c.args.priced.now.numbered.t.now) (lengths_in c.args.lengths.now) c.args.priced.now.prices.now
-    _
+    remedy_in (layout_of c.args.priced.now.keyed.numbered.t.now) (lengths_in c.args.priced.now.lengths.now)
+    c.args.priced.now.prices.now _
     ((found w _).0 (Contains-get_or c.in_ok-remedies.remedies.items k d low))
 
-long : (c : In_ok-remedies) → length c.args.lengths.now ≡ length (layout_of c.args.priced.now.numbered.t.now).arcs
-long c = ap length (sym c.requires.same) ∙ c.args.priced.now.numbered.numbers.long
+long : (c : In_ok-remedies)
+    → length c.args.priced.now.lengths.now ≡ length (layout_of c.args.priced.now.keyed.numbered.t.now).arcs
+long c = ap length (sym c.args.priced.now.same) ∙ c.args.priced.now.keyed.numbered.numbers.long
+
+pub invariant_of-marked : goal.invariant_of-marked
+invariant_of-marked c = record {
+  each = ap length c.deref-2.ensures.value ∙ c.in_ok-chosen.ensures.long
+      ∙ sym (long (goal.at.invariant_of-marked c).In_ok-remedies);
+}
 
 -- Whether there is one.
 any : (c : After-is_any-some) → c.is_any-some.result ≡ true → 0 < length c.in_ok-remedies.remedies.items
@@ -45,22 +52,22 @@ pub returns-clause-needed : goal.returns-clause-needed
 returns-clause-needed c =
     let at = goal.at.returns-clause-needed c in
     IfOk-weaker c.rises_by.result _ _
-    (λ rises risen. choice_needed (layout_of c.args.priced.now.numbered.t.now) c.args.lengths.now
+    (λ rises risen. choice_needed (layout_of c.args.priced.now.keyed.numbered.t.now) c.args.priced.now.lengths.now
     c.args.priced.now.prices.now c.in_ok-remedies.remedies.items c.deref-2.result.now rises.items
-    c.args.priced.now.numbered.numbers.paved (long at.In_ok-remedies) (found at.In_ok-remedies)
-    (subst (AreMarksOf (layout_of c.args.priced.now.numbered.t.now) c.in_ok-remedies.remedies.items)
+    c.args.priced.now.keyed.numbered.numbers.whole.paved (long at.In_ok-remedies) (found at.In_ok-remedies)
+    (subst (AreMarksOf (layout_of c.args.priced.now.keyed.numbered.t.now) c.in_ok-remedies.remedies.items)
     (sym c.deref-2.ensures.value) c.in_ok-chosen.ensures)
-    c.is_any-some.result (any at.After-is_any-some) (none at.After-is_any-some) risen c.requires.short)
+    c.is_any-some.result (any at.After-is_any-some) (none at.After-is_any-some) risen c.args.priced.now.short)
     c.rises_by.ensures
 
 pub returns-clause-cheapest : goal.returns-clause-cheapest
 returns-clause-cheapest c =
     let at = goal.at.returns-clause-cheapest c in
     IfOk-weaker c.rises_by.result _ _
-    (λ rises risen. choice_follows (layout_of c.args.priced.now.numbered.t.now) c.args.lengths.now
+    (λ rises risen. choice_follows (layout_of c.args.priced.now.keyed.numbered.t.now) c.args.priced.now.lengths.now
     c.args.priced.now.prices.now c.in_ok-remedies.remedies.items c.deref-2.result.now rises.items
-    c.args.priced.now.numbered.numbers.paved (long at.In_ok-remedies) (found at.In_ok-remedies)
-    (subst (AreMarksOf (layout_of c.args.priced.now.numbered.t.now) c.in_ok-remedies.remedies.items)
+    c.args.priced.now.keyed.numbered.numbers.whole.paved (long at.In_ok-remedies) (found at.In_ok-remedies)
+    (subst (AreMarksOf (layout_of c.args.priced.now.keyed.numbered.t.now) c.in_ok-remedies.remedies.items)
     (sym c.deref-2.ensures.value) c.in_ok-chosen.ensures)
     c.is_any-some.result (any at.After-is_any-some) (none at.After-is_any-some) risen)
     c.rises_by.ensures

@@ -6,10 +6,10 @@ use Rattle.qm_stitch.proofs.rises.rises_by.Goals as goal
 pub loop-arc-preserved : goal.loop-arc-preserved
 loop-arc-preserved c = elim c.match-floor_of.branch [
   | in-Some+in_ok-push w ↦ rw (w.rises-is, w.in_ok-push.ensures.items)
-      (rises_too c.args.some c.args.tight.now c.args.lengths.now c.loop-arc.arc
+      (rises_too c.args.some c.args.marked.now.tight.now c.args.marked.now.lengths.now c.loop-arc.arc
       (record { arc = c.loop-arc.arc; floor = w.in-Some.floor }) c.loop-arc.rises.items c.loop-arc.invariant refl
       c.loop-arc-test.true ((c.floor_of.ensures w.in-Some.floor).0 w.in-Some.is))
-  | in_default w ↦ rw w.rises-is (stays c.args.some c.args.tight.now c.args.lengths.now c.loop-arc.arc
-      c.loop-arc.rises.items c.loop-arc.invariant
+  | in_default w ↦ rw w.rises-is (stays c.args.some c.args.marked.now.tight.now c.args.marked.now.lengths.now
+      c.loop-arc.arc c.loop-arc.rises.items c.loop-arc.invariant
       (λ floor is. none_some floor (sym w.in_default.is ∙ (c.floor_of.ensures floor).1 is)))
 ]

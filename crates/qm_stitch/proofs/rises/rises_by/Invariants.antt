@@ -2,4 +2,4 @@ use Rattle.qm_stitch.specs.Raised.{AreRisesUpto}
 use Rattle.qm_stitch.proofs.rises.rises_by.Given as goal
 
 abbrev pub invariant-loop-arc : goal.invariant-loop-arc
-invariant-loop-arc l = AreRisesUpto l.some l.tight l.lengths l.arc l.rises.items
+invariant-loop-arc l = AreRisesUpto l.some l.marked.tight.now l.marked.lengths.now l.arc l.rises.items

@@ -12,12 +12,12 @@ all : (c : After-last_of-count) → c.last_of-count.result ≡ face_count (gluin
 all c = cells_end (layout_of c.args.numbered.now.t.now) c.args.numbered.now.tables.now c.args.numbered.now.numbers
     c.deref.result.now c.last_of-count.result c.deref.ensures.value c.last_of-count.ensures
 
-pub face_of-requires : goal.face_of-requires
-face_of-requires c = omega (arith, c.loop-face-test.true, all (goal.at.face_of-requires c).After-last_of-count)
+pub face-requires : goal.face-requires
+face-requires c = omega (arith, c.loop-face-test.true, all (goal.at.face-requires c).After-last_of-count)
 
 pub loop-face-preserved : goal.loop-face-preserved
 loop-face-preserved c =
-    c.in_ok-push.ensures.items ∙ (λ i. c.loop-face.invariant i ++ c.face_of.ensures i ∷ [])
+    c.in_ok-push.ensures.items ∙ (λ i. c.loop-face.invariant i ++ c.face.ensures i ∷ [])
     ∙ sym (map-range_with_len_more (new_face (gluing_in c.args.numbered.now) (lengths_by c.args.numbered.now)) 0
     c.loop-face.face c.loop-face.face (omega arith))
 

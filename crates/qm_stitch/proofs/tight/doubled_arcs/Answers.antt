@@ -9,14 +9,14 @@ loop-arc-preserved c = rw c.in_ok-push.ensures.items (record {
   long = length_push c.loop-arc.on.items c.is_doubled_on.result ∙ ap (λ (n : ℕ). n + 1) c.loop-arc.invariant.long;
   each = below_more
       (λ (a : ℕ). (get_or (c.loop-arc.on.items ++ c.is_doubled_on.result ∷ []) a false ≡ true)
-      ↔ IsDoubledOn (gluing_in c.args.numbered.now) (lengths_by c.args.numbered.now) a) c.loop-arc.arc
+      ↔ IsDoubledOn (gluing_in c.args.keyed.now.numbered) (lengths_by c.args.keyed.now.numbered) a) c.loop-arc.arc
       (λ a low. subst (λ (b : Bool). (b ≡ true)
-      ↔ IsDoubledOn (gluing_in c.args.numbered.now) (lengths_by c.args.numbered.now) a)
+      ↔ IsDoubledOn (gluing_in c.args.keyed.now.numbered) (lengths_by c.args.keyed.now.numbered) a)
       (sym (get_or_append_left c.loop-arc.on.items (c.is_doubled_on.result ∷ []) false a
       (omega (arith, low, c.loop-arc.invariant.long))))
       (c.loop-arc.invariant.each a low))
       (subst (λ (b : Bool). (b ≡ true)
-      ↔ IsDoubledOn (gluing_in c.args.numbered.now) (lengths_by c.args.numbered.now) c.loop-arc.arc)
+      ↔ IsDoubledOn (gluing_in c.args.keyed.now.numbered) (lengths_by c.args.keyed.now.numbered) c.loop-arc.arc)
       (sym (get_or_push c.loop-arc.on.items c.is_doubled_on.result false c.loop-arc.arc c.loop-arc.invariant.long))
       c.is_doubled_on.ensures);
 })

@@ -6,5 +6,5 @@ abbrev pub invariant-loop-arc : goal.invariant-loop-arc
 invariant-loop-arc l = record {
   long : length l.on.items ≡ l.arc;
   each : (a : ℕ) → a < l.arc
-      → (get_or l.on.items a false ≡ true) ↔ IsDoubledOn (gluing_in l.numbered) (lengths_by l.numbered) a;
+      → (get_or l.on.items a false ≡ true) ↔ IsDoubledOn (gluing_in l.keyed.numbered) (lengths_by l.keyed.numbered) a;
 }

@@ -9,8 +9,8 @@ loop-number-preserved c = record {
   some = omega arith;
   none = λ n first low. elim (cases_eq n c.loop-number.number) [
     | inl same ↦ λ is. false≢true (sym c.if-is_line_doubled.false
-        ∙ c.is_line_doubled.ensures.1 (subst (IsLineDoubled (gluing_in c.args.numbered.now)
-        (lengths_by c.args.numbered.now) c.args.upright c.args.patch) same is))
+        ∙ c.is_line_doubled.ensures.1 (subst (IsLineDoubled (gluing_in c.args.keyed.now.numbered)
+        (lengths_by c.args.keyed.now.numbered) c.args.upright c.args.patch) same is))
     | inr other ↦ c.loop-number.invariant.none n first (omega (arith, low, other))
   ];
 }
@@ -19,7 +19,7 @@ pub returns : goal.returns
 returns c = (
   λ on. absurd (false≢true on),
   λ has.
-      let parts = line_parts (gluing_in c.args.numbered.now) (lengths_by c.args.numbered.now) c.args.upright
+      let parts = line_parts (gluing_in c.args.keyed.now.numbered) (lengths_by c.args.keyed.now.numbered) c.args.upright
       c.args.patch has.0 has.1.0 has.1.1.is in
       absurd (c.loop-number.invariant.none has.0 parts.0 (omega (
         arith,

@@ -6,5 +6,5 @@ abbrev pub invariant-loop-number : goal.invariant-loop-number
 invariant-loop-number l = record {
   some : 0 < l.number;
   none : (n : ℕ) → 0 < n → n < l.number
-      → ¬ IsLineDoubled (gluing_in l.numbered) (lengths_by l.numbered) l.upright l.patch n;
+      → ¬ IsLineDoubled (gluing_in l.keyed.numbered) (lengths_by l.keyed.numbered) l.upright l.patch n;
 }

@@ -15,20 +15,19 @@ end_is numbered arc end low read = read ∙ get_or_default numbered.tables.now.l
     (omega (arith, low, numbered.numbers.long, length-map numbered.t.now.arcs.items path))
 
 told : (c : After-is_repeat) → (c.is_repeat.result ≡ true)
-    ↔ IsDoubled (gluing_in c.args.numbered.now) (lengths_by c.args.numbered.now) (on_arc c.args.arc c.loop-k.k)
+    ↔ IsDoubled (gluing_in c.args.keyed.now.numbered) (lengths_by c.args.keyed.now.numbered)
+    (on_arc c.args.arc c.loop-k.k)
 told c =
-    let tells = key_tells (gluing_in c.args.numbered.now) (lengths_by c.args.numbered.now) c.requires.laid
-    c.args.numbered.now.numbers.lengths c.args.numbered.now.numbers.few c.args.keys.now
-    (on_arc c.args.arc c.loop-k.k) c.requires.keys (
-      omega (arith, c.requires.arc, length-map c.args.numbered.now.t.now.arcs.items path),
+    let tells = key_tells c.args.keyed.now (on_arc c.args.arc c.loop-k.k) (
+      omega (arith, c.requires.arc, length-map c.args.keyed.now.numbered.t.now.arcs.items path),
       omega (
         arith,
         c.loop-k-test.true,
-        end_is c.args.numbered.now c.args.arc c.index-k-end.result.now c.requires.arc c.index-k-end.ensures,
+        end_is c.args.keyed.now.numbered c.args.arc c.index-k-end.result.now c.requires.arc c.index-k-end.ensures,
       ),
     ) in (
-      λ on. tells.0 (subst (IsRepeat c.args.keys.now) c.arc_key.ensures (c.is_repeat.ensures.0 on)),
-      λ is. c.is_repeat.ensures.1 (subst (IsRepeat c.args.keys.now) (sym c.arc_key.ensures) (tells.1 is)),
+      λ on. tells.0 (subst (IsRepeat c.args.keyed.now.keys.now) c.arc_key.ensures (c.is_repeat.ensures.0 on)),
+      λ is. c.is_repeat.ensures.1 (subst (IsRepeat c.args.keyed.now.keys.now) (sym c.arc_key.ensures) (tells.1 is)),
     )
 
 pub returns-then-is_repeat : goal.returns-then-is_repeat
@@ -39,7 +38,7 @@ returns-then-is_repeat c =
 pub loop-k-preserved : goal.loop-k-preserved
 loop-k-preserved c =
     let w = (goal.at.loop-k-preserved c).After-is_repeat in
-    below_more (λ (k : ℕ). ¬ IsDoubled (gluing_in c.args.numbered.now) (lengths_by c.args.numbered.now)
+    below_more (λ (k : ℕ). ¬ IsDoubled (gluing_in c.args.keyed.now.numbered) (lengths_by c.args.keyed.now.numbered)
     (on_arc c.args.arc k)) c.loop-k.k c.loop-k.invariant (λ is. false≢true (sym c.if-is_repeat.false ∙ (told w).1 is))
 
 pub returns : goal.returns
@@ -49,6 +48,6 @@ returns c = (
     arith,
     has.1.is.1,
     c.loop-k-test.false,
-    end_is c.args.numbered.now c.args.arc c.index-k-end.result.now c.requires.arc c.index-k-end.ensures,
+    end_is c.args.keyed.now.numbered c.args.arc c.index-k-end.result.now c.requires.arc c.index-k-end.ensures,
   )) has.1),
 )

@@ -4,4 +4,5 @@ use Rattle.qm_stitch.specs.{Lengthened.gluing_in, Lengthened.lengths_by, Tight.I
 use Rattle.qm_stitch.proofs.tight.is_doubled_on.Given as goal
 
 abbrev pub invariant-loop-k : goal.invariant-loop-k
-invariant-loop-k l = (k : ℕ) → k < l.k → ¬ IsDoubled (gluing_in l.numbered) (lengths_by l.numbered) (on_arc l.arc k)
+invariant-loop-k l = (k : ℕ) → k < l.k
+    → ¬ IsDoubled (gluing_in l.keyed.numbered) (lengths_by l.keyed.numbered) (on_arc l.arc k)

@@ -10,7 +10,7 @@ opposite true = refl
 
 pub returns-then-is_doubled_in : goal.returns-then-is_doubled_in
 returns-then-is_doubled_in c =
-    adds_lines (gluing_in c.args.numbered.now) (lengths_by c.args.numbered.now) c.args.upright c.args.patch
+    adds_lines (gluing_in c.args.keyed.now.numbered) (lengths_by c.args.keyed.now.numbered) c.args.upright c.args.patch
     c.args.tight.now c.mark_side.new.tight c.mark_side-then-is_doubled_in.new.tight c.mark_side.auto.tight
     (c.is_doubled_in.ensures.0 c.if-is_doubled_in.true)
     (c.mark_side.ensures (along_lines c.args.upright) c.side_along-side.ensures.side)

@@ -3,4 +3,4 @@ use Rattle.qm_stitch.proofs.tight.mark_patches.Given as goal
 
 abbrev pub invariant-loop-patch : goal.invariant-loop-patch
 invariant-loop-patch l =
-    AddsMarks l.initial.tight l.tight (IsTightUpto (gluing_in l.numbered) (lengths_by l.numbered) l.patch)
+    AddsMarks l.initial.tight l.tight (IsTightUpto (gluing_in l.keyed.numbered) (lengths_by l.keyed.numbered) l.patch)

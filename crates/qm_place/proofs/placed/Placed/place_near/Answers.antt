@@ -9,14 +9,14 @@ use Rattle.qm_place.proofs.placed.Placed.place_near.Goals as goal
 pub place_there-requires-clause-spot : goal.place_there-requires-clause-spot
 place_there-requires-clause-spot c =
     let placed = c.args.self.now in
-    subst (IsSpot c.args.mesh.now) (sym c.find.ensures)
+    subst (IsSpot c.args.mesh.now) (sym c.spot_near.ensures)
     (spot_law c.args.mesh.now (layout_in placed) (shares_by placed) (lengths_by placed) c.requires.layout
     placed.placed.lengths placed.placed.spacing c.args.v c.requires.vertex).0
 
 pub place_there-requires-clause-short : goal.place_there-requires-clause-short
 place_there-requires-clause-short c =
     let placed = c.args.self.now in
-    subst IsShort (sym c.find.ensures) (short_spot (shares_by placed)
+    subst IsShort (sym c.spot_near.ensures) (short_spot (shares_by placed)
     c.requires.layout.0 placed.placed.lengths placed.placed.short c.requires.vertex)
 
 value : (c : goal.After-place_there)
@@ -24,7 +24,7 @@ value : (c : goal.After-place_there)
     (shares_by c.args.self.now) (lengths_by c.args.self.now) c.args.v
 value c =
     let placed = c.args.self.now in
-    c.place_there.ensures ∙ ap (spot_place c.args.mesh.now c.args.pos.now) c.find.ensures
+    c.place_there.ensures ∙ ap (spot_place c.args.mesh.now c.args.pos.now) c.spot_near.ensures
     ∙ (spot_law c.args.mesh.now (layout_in placed) (shares_by placed) (lengths_by placed) c.requires.layout
     placed.placed.lengths placed.placed.spacing c.args.v c.requires.vertex).1 c.args.pos.now
 

@@ -9,7 +9,7 @@ use Rattle.def_remesh.specs.{NewPoints.lengths_in, Placings.rim_at, declared.pla
 use Rattle.def_written.specs.Places.{cell_at}
 use Rattle.qm_place.specs.{Lengthened.shares_by, Placed.ArePlaced, Spots.seen_from, Spots.IsOnGrid}
 use Rattle.qm_place.proofs.Entries.{cell_low, cell_read, patch_read}
-use Rattle.qm_place.proofs.homes.cell_home.Goals as goal
+use Rattle.qm_place.proofs.placed.Placed.home.Goals as goal
 
 -- A corner of the cell is one of the patch's grid points.
 on_grid : (t : TMesh) {tables : PlaceTables} {p : ℕ} {i j a b : ℕ} → ArePlaced (layout_of t) tables
@@ -38,40 +38,40 @@ pub overflow_add-j-2 : goal.overflow_add-j-2
 overflow_add-j-2 c =
     omega (
       arith,
-      c.args.placed.now.placed.low c.args.patch
-          (omega (arith, c.requires.patch, length-map c.args.placed.now.t.now.patches.items rectangle)),
+      c.args.self.now.placed.low c.args.patch
+          (omega (arith, c.requires.patch, length-map c.args.self.now.t.now.patches.items rectangle)),
       c.requires.row,
     )
 
 pub grid_point-south_west-requires-clause-grid : goal.grid_point-south_west-requires-clause-grid
-grid_point-south_west-requires-clause-grid c = on_grid c.args.placed.now.t.now c.args.placed.now.placed c.requires.patch
+grid_point-south_west-requires-clause-grid c = on_grid c.args.self.now.t.now c.args.self.now.placed c.requires.patch
     c.requires.column c.requires.row (omega arith) (omega arith)
 
 pub grid_point-south_east-requires-clause-grid : goal.grid_point-south_east-requires-clause-grid
-grid_point-south_east-requires-clause-grid c = on_grid c.args.placed.now.t.now c.args.placed.now.placed c.requires.patch
+grid_point-south_east-requires-clause-grid c = on_grid c.args.self.now.t.now c.args.self.now.placed c.requires.patch
     c.requires.column c.requires.row (omega arith) (omega arith)
 
 pub grid_point-north_east-requires-clause-grid : goal.grid_point-north_east-requires-clause-grid
-grid_point-north_east-requires-clause-grid c = on_grid c.args.placed.now.t.now c.args.placed.now.placed c.requires.patch
+grid_point-north_east-requires-clause-grid c = on_grid c.args.self.now.t.now c.args.self.now.placed c.requires.patch
     c.requires.column c.requires.row (omega arith) (omega arith)
 
 pub grid_point-north_west-requires-clause-grid : goal.grid_point-north_west-requires-clause-grid
-grid_point-north_west-requires-clause-grid c = on_grid c.args.placed.now.t.now c.args.placed.now.placed c.requires.patch
+grid_point-north_west-requires-clause-grid c = on_grid c.args.self.now.t.now c.args.self.now.placed c.requires.patch
     c.requires.column c.requires.row (omega arith) (omega arith)
 
 pub cell_at-a-requires : goal.cell_at-a-requires
 cell_at-a-requires c =
-    let old = patch_read c.args.placed.now.t.now c.args.placed.now.placed c.requires.patch c.index-old.ensures in
+    let old = patch_read c.args.self.now.t.now c.args.self.now.placed c.requires.patch c.index-old.ensures in
     old.some
 
 pub cell_at-b-requires : goal.cell_at-b-requires
 cell_at-b-requires c =
-    let old = patch_read c.args.placed.now.t.now c.args.placed.now.placed c.requires.patch c.index-old.ensures in
+    let old = patch_read c.args.self.now.t.now c.args.self.now.placed c.requires.patch c.index-old.ensures in
     old.tall
 
 pub index-requires : goal.index-requires
 index-requires c =
-    let old = patch_read c.args.placed.now.t.now c.args.placed.now.placed c.requires.patch c.index-old.ensures in
+    let old = patch_read c.args.self.now.t.now c.args.self.now.placed c.requires.patch c.index-old.ensures in
     omega (
       arith,
       cell_low old c.cell_at-a.ensures.low c.cell_at-b.ensures.low,
@@ -79,27 +79,27 @@ index-requires c =
     )
 
 pub seen_from-requires-clause-cell : goal.seen_from-requires-clause-cell
-seen_from-requires-clause-cell c = cell_few c.args.placed.now.t.now c.args.placed.now.placed c.requires.patch
+seen_from-requires-clause-cell c = cell_few c.args.self.now.t.now c.args.self.now.placed c.requires.patch
     c.index-old.ensures c.cell_at-a.ensures.low c.cell_at-b.ensures.low
 
 pub seen_from-requires-2-clause-cell : goal.seen_from-requires-2-clause-cell
-seen_from-requires-2-clause-cell c = cell_few c.args.placed.now.t.now c.args.placed.now.placed c.requires.patch
+seen_from-requires-2-clause-cell c = cell_few c.args.self.now.t.now c.args.self.now.placed c.requires.patch
     c.index-old.ensures c.cell_at-a.ensures.low c.cell_at-b.ensures.low
 
 pub seen_from-requires-3-clause-cell : goal.seen_from-requires-3-clause-cell
-seen_from-requires-3-clause-cell c = cell_few c.args.placed.now.t.now c.args.placed.now.placed c.requires.patch
+seen_from-requires-3-clause-cell c = cell_few c.args.self.now.t.now c.args.self.now.placed c.requires.patch
     c.index-old.ensures c.cell_at-a.ensures.low c.cell_at-b.ensures.low
 
 pub seen_from-requires-4-clause-cell : goal.seen_from-requires-4-clause-cell
-seen_from-requires-4-clause-cell c = cell_few c.args.placed.now.t.now c.args.placed.now.placed c.requires.patch
+seen_from-requires-4-clause-cell c = cell_few c.args.self.now.t.now c.args.self.now.placed c.requires.patch
     c.index-old.ensures c.cell_at-a.ensures.low c.cell_at-b.ensures.low
 
 pub returns : goal.returns
 returns c =
-    let x = lengths_in c.args.placed.now.tables.now.lengths.items in
-    let t = layout_of c.args.placed.now.t.now in
-    let shares = shares_by c.args.placed.now in
-    let old = patch_read c.args.placed.now.t.now c.args.placed.now.placed c.requires.patch c.index-old.ensures in
+    let x = lengths_in c.args.self.now.tables.now.lengths.items in
+    let t = layout_of c.args.self.now.t.now in
+    let shares = shares_by c.args.self.now in
+    let old = patch_read c.args.self.now.t.now c.args.self.now.placed c.requires.patch c.index-old.ensures in
     let sw = c.grid_point-south_west.ensures.value in
     let se = c.grid_point-south_east.ensures.value in
     let ne = c.grid_point-north_east.ensures.value in

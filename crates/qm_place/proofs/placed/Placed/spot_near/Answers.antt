@@ -7,57 +7,57 @@ use Rattle.def_remesh.specs.NewPoints.{lengths_in}
 use Rattle.qm_place.specs.Lengthened.{shares_by}
 use Rattle.qm_place.proofs.Found.{found_at, found_in, found_on, in_patch, on_arc}
 use Rattle.qm_place.proofs.Entries.{some_runs}
-use Rattle.qm_place.proofs.find.find.Goals as goal
+use Rattle.qm_place.proofs.placed.Placed.spot_near.Goals as goal
 
 pub overflow_cast-nodes : goal.overflow_cast-nodes
 overflow_cast-nodes c =
     omega (
       arith,
-      c.args.placed.now.placed.few,
+      c.args.self.now.placed.few,
       c.len-nodes.ensures,
-      c.args.placed.now.t.now.nodes.ok.0,
+      c.args.self.now.t.now.nodes.ok.0,
     )
 
 pub returns-then-v-nodes : goal.returns-then-v-nodes
 returns-then-v-nodes c =
-    let low : c.args.v < length c.args.placed.now.t.now.nodes.items =
-    omega (arith, c.if-v-nodes.true, c.len-nodes.ensures, c.args.placed.now.t.now.nodes.ok.0) in
-    found_at (layout_of c.args.placed.now.t.now) (shares_by c.args.placed.now)
-    (lengths_in c.args.placed.now.tables.now.lengths.items) low
-    (get_or_read c.args.placed.now.t.now.nodes.items c.args.v c.index.result.now low c.index.ensures 0)
+    let low : c.args.v < length c.args.self.now.t.now.nodes.items =
+    omega (arith, c.if-v-nodes.true, c.len-nodes.ensures, c.args.self.now.t.now.nodes.ok.0) in
+    found_at (layout_of c.args.self.now.t.now) (shares_by c.args.self.now)
+    (lengths_in c.args.self.now.tables.now.lengths.items) low
+    (get_or_read c.args.self.now.t.now.nodes.items c.args.v c.index.result.now low c.index.ensures 0)
 
 pub along_spot-requires : goal.along_spot-requires
 along_spot-requires c =
-    let are = c.args.placed.now.placed in
-    let x = lengths_in c.args.placed.now.tables.now.lengths.items in
-    let t = layout_of c.args.placed.now.t.now in
-    let nodes = c.len-nodes.ensures ∙ c.args.placed.now.t.now.nodes.ok.0 in
+    let are = c.args.self.now.placed in
+    let x = lengths_in c.args.self.now.tables.now.lengths.items in
+    let t = layout_of c.args.self.now.t.now in
+    let nodes = c.len-nodes.ensures ∙ c.args.self.now.t.now.nodes.ok.0 in
     let low : c.args.v - c.len-nodes.result < before_arc x (length t.arcs) =
     omega (arith, nodes, c.if-v-nodes.false, c.if-v-arcs_end.true, c.arcs_end-arcs_end.ensures) in
     let same : c.spot_near-near.result ≡ run_at (before_arc x) (length t.arcs) (c.args.v - c.len-nodes.result) =
     c.spot_near-near.ensures.run (λ b. x b - 1) (length t.arcs) (rw c.deref.ensures.value are.along) in
     record {
-      along = on_arc t (shares_by c.args.placed.now) x low same;
+      along = on_arc t (shares_by c.args.self.now) x low same;
     }
 
 pub returns-then-v-arcs_end : goal.returns-then-v-arcs_end
 returns-then-v-arcs_end c =
-    let are = c.args.placed.now.placed in
-    let x = lengths_in c.args.placed.now.tables.now.lengths.items in
-    let t = layout_of c.args.placed.now.t.now in
-    let nodes = c.len-nodes.ensures ∙ c.args.placed.now.t.now.nodes.ok.0 in
+    let are = c.args.self.now.placed in
+    let x = lengths_in c.args.self.now.tables.now.lengths.items in
+    let t = layout_of c.args.self.now.t.now in
+    let nodes = c.len-nodes.ensures ∙ c.args.self.now.t.now.nodes.ok.0 in
     let low : c.args.v - c.len-nodes.result < before_arc x (length t.arcs) =
     omega (arith, nodes, c.if-v-nodes.false, c.if-v-arcs_end.true, c.arcs_end-arcs_end.ensures) in
     let same : c.spot_near-near.result ≡ run_at (before_arc x) (length t.arcs) (c.args.v - c.len-nodes.result) =
     c.spot_near-near.ensures.run (λ b. x b - 1) (length t.arcs) (rw c.deref.ensures.value are.along) in
-    found_on t (shares_by c.args.placed.now) x
+    found_on t (shares_by c.args.self.now) x
     (omega (arith, nodes, c.if-v-nodes.false)) (ap (λ n. c.args.v - n) nodes) low same c.along_spot.ensures
 
 pub spot_near-near-requires-2 : goal.spot_near-near-requires-2
 spot_near-near-requires-2 c =
-    let are = c.args.placed.now.placed in
-    let x = lengths_in c.args.placed.now.tables.now.lengths.items in
-    let t = layout_of c.args.placed.now.t.now in
+    let are = c.args.self.now.placed in
+    let x = lengths_in c.args.self.now.tables.now.lengths.items in
+    let t = layout_of c.args.self.now.t.now in
     let l = gluing_of t in
     let low : c.args.v - c.arcs_end-arcs_end.result < before_patch l x (length t.patches) =
     omega (arith, c.if-v-arcs_end.false, c.arcs_end-arcs_end.ensures, c.requires.vertex) in
@@ -70,9 +70,9 @@ spot_near-near-requires-2 c =
 
 pub inside_spot-requires : goal.inside_spot-requires
 inside_spot-requires c =
-    let are = c.args.placed.now.placed in
-    let x = lengths_in c.args.placed.now.tables.now.lengths.items in
-    let t = layout_of c.args.placed.now.t.now in
+    let are = c.args.self.now.placed in
+    let x = lengths_in c.args.self.now.tables.now.lengths.items in
+    let t = layout_of c.args.self.now.t.now in
     let l = gluing_of t in
     let low : c.args.v - c.arcs_end-arcs_end.result < before_patch l x (length t.patches) =
     omega (arith, c.if-v-arcs_end.false, c.arcs_end-arcs_end.ensures, c.requires.vertex) in
@@ -81,14 +81,14 @@ inside_spot-requires c =
     c.spot_near-near-2.ensures.run (λ p. (wide l x p - 1) * (high l x p - 1)) (length t.patches)
     (rw c.deref-2.ensures.value are.inside) in
     record {
-      inside = in_patch t (shares_by c.args.placed.now) x low same;
+      inside = in_patch t (shares_by c.args.self.now) x low same;
     }
 
 pub returns : goal.returns
 returns c =
-    let are = c.args.placed.now.placed in
-    let x = lengths_in c.args.placed.now.tables.now.lengths.items in
-    let t = layout_of c.args.placed.now.t.now in
+    let are = c.args.self.now.placed in
+    let x = lengths_in c.args.self.now.tables.now.lengths.items in
+    let t = layout_of c.args.self.now.t.now in
     let l = gluing_of t in
     let low : c.args.v - c.arcs_end-arcs_end.result < before_patch l x (length t.patches) =
     omega (arith, c.if-v-arcs_end.false, c.arcs_end-arcs_end.ensures, c.requires.vertex) in
@@ -96,5 +96,5 @@ returns c =
     (c.args.v - c.arcs_end-arcs_end.result) =
     c.spot_near-near-2.ensures.run (λ p. (wide l x p - 1) * (high l x p - 1)) (length t.patches)
     (rw c.deref-2.ensures.value are.inside) in
-    found_in t (shares_by c.args.placed.now) x (omega (arith, c.arcs_end-arcs_end.ensures, c.if-v-arcs_end.false))
+    found_in t (shares_by c.args.self.now) x (omega (arith, c.arcs_end-arcs_end.ensures, c.if-v-arcs_end.false))
     (ap (λ n. c.args.v - n) c.arcs_end-arcs_end.ensures) same c.inside_spot.ensures
