@@ -143,14 +143,6 @@ module _ (l : Gluing) (x : Lengths) (laid : IsSurface l) (len : AreLengths l x) 
       equal (inl s) = same (s.0 ∙ sym s.1)
       equal (inr s) = same (s.0 ∙ sym s.1)
 
-  -- The numbers of the ends of an edge are small.
-  ends_few : vertices l x ≤ 2 ^ 23 → (e : Edge) → IsEdge l x e → (vertex_number l x (edge_start l x e) < 2 ^ 32)
-      × (vertex_number l x (edge_end l x e) < 2 ^ 32)
-  ends_few few e is = (
-    omega (arith, few, number_low l x (edge_start l x e) (edge_points l x laid len e is).0),
-    omega (arith, few, number_low l x (edge_end l x e) (edge_points l x laid len e is).1),
-  )
-
 module _ (l : Gluing) (x : Lengths) (paved : HasWholeSides l) (laid : ∥ IsSurface l ∥₁) (len : AreLengths l x) where
   -- An edge that is doubled is listed.
   listed : (e f : Edge) (u v : ℕ) → IsEdge l x e → IsEdge l x f → HasEnds l x e u v → HasEnds l x f u v → e ≢ f
@@ -170,7 +162,10 @@ module _ (l : Gluing) (x : Lengths) (paved : HasWholeSides l) (laid : ∥ IsSurf
   module _ (few : vertices l x ≤ 2 ^ 23) where
     ends_low : (e : Edge) → IsEdge l x e → (vertex_number l x (edge_start l x e) < 2 ^ 32)
         × (vertex_number l x (edge_end l x e) < 2 ^ 32)
-    ends_low e is = ∥∥₁_elim laid (×_prop le_prop le_prop) (λ whole. ends_few l x whole len few e is)
+    ends_low e is = ∥∥₁_elim laid (×_prop le_prop le_prop) (λ whole. let ends = edge_points l x whole len e is in (
+      omega (arith, few, number_low l x (edge_start l x e) ends.0),
+      omega (arith, few, number_low l x (edge_end l x e) ends.1),
+    ))
 
     pub key_ends : (e : Edge) (key : ℕ) → IsEdge l x e → key ≡ key_of l x e
         → (key / 2 ^ 32 ≤ key % 2 ^ 32) × HasEnds l x e (key / 2 ^ 32) (key % 2 ^ 32)

@@ -129,9 +129,6 @@ module _ (priced : Priced) where
     abbrev edge : (k : ℕ) → Edge
     edge k = line_edge line.upright line.patch line.number k
 
-    long_some : 0 < long
-    long_some = line_some priced.keyed line inside
-
     edge_is : (k : ℕ) → k < long → IsEdge l x (edge k)
     edge_is k less = line_is l x line.upright line.patch line.number k inside.patch inside.some inside.inside less
 
@@ -166,8 +163,8 @@ module _ (priced : Priced) where
       where
         to : (r : Remedy) → IsBy (edge 0) price run r ⊎ IsBy (edge (long - 1)) price run r
             → IsByLine priced line price run r
-        to r (inl by) = by_end 0 long_some r by
-        to r (inr by) = by_end (long - 1) (omega (arith, long_some)) r by
+        to r (inl by) = by_end 0 (line_some priced.keyed line inside) r by
+        to r (inr by) = by_end (long - 1) (omega (arith, line_some priced.keyed line inside)) r by
 
         of : (r : Remedy) → IsByLine priced line price run r
             → IsBy (edge 0) price run r ⊎ IsBy (edge (long - 1)) price run r

@@ -2,16 +2,18 @@
 use Rattle.std.proofs.Common.{◌≡◌, ◌⊎◌, ◌↔◌, ℕ, ◌+◌, ◌-◌, ◌/◌, ◌%◌, ◌^◌, ◌<◌, ◌≤◌, Bool, true, false, not, List}
 use Rattle.std.proofs.Common.{length, get_or, refl, sym, ◌∙◌, ap, subst, inl, inr, arith}
 use Rattle.std.proofs.lemmas.Bool.{cases_eq, cases_lt}
+use Rattle.std.proofs.lemmas.List.{get_or_default, length-map}
 use mathlib.Core.HLevel.{⊥_prop}
 use mathlib.Core.Logic.{∥∥₁_elim}
-use Rattle.def_layout.specs.{Gluings.Gluing, Surfaces.IsSurface, Lengths.Lengths, Lengths.size, Layouts.layout_of}
+use Rattle.def_layout.specs.{Arcs.path, Gluings.Gluing, Surfaces.IsSurface, Lengths.Lengths, Lengths.size}
+use Rattle.def_layout.specs.Layouts.{layout_of}
 use Rattle.def_remesh.specs.Rises.{IsTightArc, RunsAlong}
 use Rattle.def_written.specs.Edges.{Edge, on_arc, flat, steep, IsEdge, HasEnds, HasLoop, HasPair}
 use Rattle.written_laws.proofs.Sides.{size_some}
 use Rattle.qm_stitch.specs.{Lengthened.gluing_in, Lengthened.lengths_by, Numbered.AreTables}
 use Rattle.qm_stitch.specs.Rims.{along_lines, key_of, keys_of, line_edge, rim_edges, IsLine, IsRepeat}
 use Rattle.qm_stitch.specs.Tight.{AddsMarks, IsDoubled, IsDoubledOn, IsLineDoubled, IsTightUpto}
-use Rattle.qm_stitch.specs.{declared.keyed.Keyed.Keyed, declared.rim.Line.Line}
+use Rattle.qm_stitch.specs.declared.{keyed.Keyed.Keyed, numbered.Numbered.Numbered, rim.Line.Line}
 use Rattle.qm_stitch.proofs.DoubledPairs.{deep_alone, deep_apart, doubled_repeats, ends_key, key_ends, repeat_doubled}
 use Rattle.qm_stitch.proofs.Repeats.{repeat_moved}
 use Rattle.qm_stitch.proofs.RimEdges.{IsDeep}
@@ -80,6 +82,12 @@ tight_told l x n on old new all same long each adds arc low =
         → (get_or old arc false ≡ true) ⊎ IsTightUpto l x n arc
     to_more (inl is) = inl (subst (λ (xs : List Bool). get_or xs arc false ≡ true) (sym same) ((each arc low).1 is))
     to_more (inr is) = inr (subst (λ (m : ℕ). IsTightUpto l x m arc) (sym all) is)
+
+-- The length of an arc, as a loop reads it.
+pub end_is : (numbered : Numbered) (arc end : ℕ) → arc < length numbered.t.now.arcs.items
+    → end ≡ get_or numbered.tables.now.lengths.items arc end → end ≡ lengths_by numbered arc
+end_is numbered arc end low read = read ∙ get_or_default numbered.tables.now.lengths.items arc end 0
+    (omega (arith, low, numbered.numbers.long, length-map numbered.t.now.arcs.items path))
 
 module _ (keyed : Keyed) where
   abbrev l : Gluing

@@ -3,22 +3,16 @@ use Rattle.std.proofs.Common.{rules, w64}
 use Rattle.std.proofs.lemmas.Bool.{false≢true}
 use Rattle.std.proofs.lemmas.Int.{to_z-of_z}
 use mir.Syntax.{w128}
-use Rattle.std.proofs.lemmas.List.{get_or_default, length-map}
+use Rattle.std.proofs.lemmas.List.{length-map}
 use Rattle.def_flow.specs.declared.limits.TheConstants.{MAX_FLOOR}
 use Rattle.def_layout.specs.Arcs.{path}
 use Rattle.def_written.specs.Edges.{on_arc}
 use Rattle.qm_stitch.specs.{Lengthened.lengths_by, Remedies.short_price, Remedies.IsAlong}
-use Rattle.qm_stitch.specs.declared.numbered.Numbered.{Numbered}
 use Rattle.qm_stitch.specs.declared.remedy.Run.TheVariants.{Arc}
 use Rattle.qm_stitch.proofs.{Adding.adds_next, Adding.adds_none}
 use Rattle.qm_stitch.proofs.Lines.{arc_adds, by_key, none_along, IsBy}
+use Rattle.qm_stitch.proofs.TightEdges.{end_is}
 use Rattle.qm_stitch.proofs.remedies.push_arc.Goals as goal
-
--- The length of an arc, as the loop reads it.
-end_is : (numbered : Numbered) (arc end : ℕ) → arc < length numbered.t.now.arcs.items
-    → end ≡ get_or numbered.tables.now.lengths.items arc end → end ≡ lengths_by numbered arc
-end_is numbered arc end low read = read ∙ get_or_default numbered.tables.now.lengths.items arc end 0
-    (omega (arith, low, numbered.numbers.long, length-map numbered.t.now.arcs.items path))
 
 pub returns-then-not-is_short_arc : goal.returns-then-not-is_short_arc
 returns-then-not-is_short_arc c =

@@ -1,18 +1,12 @@
-use Rattle.std.proofs.Common.{◌≡◌, ◌↔◌, ◌<◌, ℕ, length, get_or, refl, sym, subst, below_more, ◌∙◌, true, arith}
+use Rattle.std.proofs.Common.{◌≡◌, ◌↔◌, ◌<◌, ℕ, refl, sym, subst, below_more, ◌∙◌, true, arith}
 use Rattle.std.proofs.lemmas.Bool.{false≢true}
-use Rattle.std.proofs.lemmas.List.{get_or_default, length-map}
+use Rattle.std.proofs.lemmas.List.{length-map}
 use Rattle.def_layout.specs.Arcs.{path}
 use Rattle.def_written.specs.Edges.{on_arc}
-use Rattle.qm_stitch.specs.{declared.numbered.Numbered.Numbered, Lengthened.gluing_in, Lengthened.lengths_by}
+use Rattle.qm_stitch.specs.{Lengthened.gluing_in, Lengthened.lengths_by}
 use Rattle.qm_stitch.specs.{Rims.IsRepeat, Tight.IsDoubled}
-use Rattle.qm_stitch.proofs.{TightEdges.key_tells, tight.is_doubled_on.Goals.After-is_repeat}
+use Rattle.qm_stitch.proofs.{TightEdges.end_is, TightEdges.key_tells, tight.is_doubled_on.Goals.After-is_repeat}
 use Rattle.qm_stitch.proofs.tight.is_doubled_on.Goals as goal
-
--- The length of an arc, as the loop reads it.
-end_is : (numbered : Numbered) (arc end : ℕ) → arc < length numbered.t.now.arcs.items
-    → end ≡ get_or numbered.tables.now.lengths.items arc end → end ≡ lengths_by numbered arc
-end_is numbered arc end low read = read ∙ get_or_default numbered.tables.now.lengths.items arc end 0
-    (omega (arith, low, numbered.numbers.long, length-map numbered.t.now.arcs.items path))
 
 told : (c : After-is_repeat) → (c.is_repeat.result ≡ true)
     ↔ IsDoubled (gluing_in c.args.keyed.now.numbered) (lengths_by c.args.keyed.now.numbered)
