@@ -63,8 +63,7 @@ fn wish_along(cut: &CutMesh, aim: &Aim, wishes: &[u32], path: &[u32]) -> u128
         Aim::Scale { .. } => path.len() as u128,
         Aim::Edge { edge } => {
             let ruler = Ruler {
-                mesh: cut.mesh(),
-                pos: cut.pos(),
+                cut,
                 edge: edge.n.unsigned_abs(),
             };
             target_of(&ruler, path)

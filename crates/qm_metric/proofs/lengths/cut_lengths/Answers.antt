@@ -22,10 +22,7 @@ inside c =
 
 pub put_arcs-requires-clause-inside : goal.put_arcs-requires-clause-inside
 put_arcs-requires-clause-inside c =
-    subst (λ (faces : Faces). All (λ (arc : TArc). All (λ (d : ℕ). d < darts faces) arc.darts.items)
-    c.deref.result.now) (sym c.mesh-mesh.ensures)
-    (subst (λ (arcs : List TArc). All (λ (arc : TArc). All (λ (d : ℕ). d < darts c.args.cut.now.soup.faces)
-    arc.darts.items) arcs) (sym c.deref.ensures.value) (inside c))
+    rw c.deref.ensures.value (inside c)
 
 pub returns : goal.returns
 returns c marks full laid =
@@ -38,7 +35,7 @@ returns c marks full laid =
     ∙ ap (λ (fs : Faces). replicate (darts fs) 0) (c.faces.ensures.value ∙ c.mesh-mesh.ensures)) in
     let put : c.put_arcs.new.lengths ≡ with_arcs soup.faces soup.pos zeros arcs =
     c.put_arcs.ensures.value
-    ∙ (λ i. with_arcs (c.mesh-mesh.ensures i) (c.pos.ensures.value i) (begun i) (c.deref.ensures.value i)) in
+    ∙ (λ i. with_arcs soup.faces soup.pos (begun i) (c.deref.ensures.value i)) in
     let mesh = c.layout-layout.ensures.laid in
     with_items_is c.in_ok-lengths.lengths c.put_arcs.new.lengths (c.put_arcs.auto.lengths ∙ c.deref_mut.ensures.len)
     ∙ put

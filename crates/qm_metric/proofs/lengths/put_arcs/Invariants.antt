@@ -6,7 +6,7 @@ use Rattle.qm_metric.proofs.lengths.put_arcs.Given as goal
 
 abbrev pub invariant-loop-arc : goal.invariant-loop-arc
 invariant-loop-arc l = record {
-  put : l.lengths ≡ with_arcs l.mesh l.pos l.initial.lengths (take l.arc-index l.arcs);
-  table : length l.lengths ≡ darts l.mesh;
+  put : l.lengths ≡ with_arcs l.cut.soup.faces l.cut.soup.pos l.initial.lengths (take l.arc-index l.arcs);
+  table : length l.lengths ≡ darts l.cut.soup.faces;
   small : All (λ share. share < 2 ^ 62) l.lengths;
 }

@@ -6,7 +6,7 @@ use Rattle.qm_metric.proofs.lengths.put_path.Given as goal
 
 abbrev pub invariant-loop-dart : goal.invariant-loop-dart
 invariant-loop-dart l = record {
-  put : l.lengths ≡ with_path l.mesh l.pos l.initial.lengths (take l.dart-index l.path);
-  table : length l.lengths ≡ darts l.mesh;
+  put : l.lengths ≡ with_path l.cut.soup.faces l.cut.soup.pos l.initial.lengths (take l.dart-index l.path);
+  table : length l.lengths ≡ darts l.cut.soup.faces;
   small : All (λ share. share < 2 ^ 62) l.lengths;
 }

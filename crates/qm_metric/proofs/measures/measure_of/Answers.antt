@@ -12,7 +12,7 @@ loop-dart-preserved c =
         c.loop-dart.invariant.sum,
         c.from-sum.ensures,
         one.value,
-        count_take (edge_length c.args.ruler.now.mesh.now c.args.ruler.now.pos.now) 0 c.args.path.now
+        count_take (edge_length c.args.cut.now.soup.faces c.args.cut.now.soup.pos) 0 c.args.path.now
             c.loop-dart.dart-index c.loop-dart-test.true,
       );
       small = omega (arith, c.loop-dart.invariant.small, c.from-sum.ensures, one.small);

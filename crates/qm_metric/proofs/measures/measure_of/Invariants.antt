@@ -5,6 +5,6 @@ use Rattle.qm_metric.proofs.measures.measure_of.Given as goal
 
 abbrev pub invariant-loop-dart : goal.invariant-loop-dart
 invariant-loop-dart l = record {
-  sum : l.sum ≡ count (edge_length l.ruler.mesh.now l.ruler.pos.now) (take l.dart-index l.path);
+  sum : l.sum ≡ count (edge_length l.cut.soup.faces l.cut.soup.pos) (take l.dart-index l.path);
   small : l.sum ≤ l.dart-index * 2 ^ 62;
 }
