@@ -11,7 +11,6 @@ use Rattle.def_run.specs.declared.command.Command.{Command}
 use Rattle.def_run.specs.declared.command.Command.TheVariants.{Refine, Remesh, Crease, Size, Coarse, Fit}
 use Rattle.def_text.specs.FaceSet.{FaceSet}
 use Rattle.def_written.specs.NewFaces.{face_count}
-use Rattle.qm_certtext.specs.declared.last.HeadAt.{HeadAt}
 use Rattle.qm_check.specs.{Making.IsFound, Making.IsGivenTo, declared.judging.Finished.Finished}
 
 -- A line that begins as a head line of `fit` is that of no other command.
@@ -25,8 +24,8 @@ only_fit line (Coarse settings) begins is = absurd (false≢true (sym (ap begins
 only_fit line (Fit fit) begins is = (fit, refl)
 only_fit line _ begins is = absurd is
 
-module _ (bytes : Bytes) (mark : HeadAt) (fit : AnyFit) (finished : Finished)
-    (is : IsFound (Fit fit) (front_of mark.line bytes) (tail_of mark.line bytes) finished) where
+module _ (bytes : Bytes) (line : ℕ) {fit : AnyFit} {finished : Finished}
+    (is : IsFound (Fit fit) (front_of line bytes) (tail_of line bytes) finished) where
   layout_is : finished.new.layout ≡ is.written.shown.finished.layout
   layout_is = ap (λ (new : Regrid). new.layout) is.new
 
@@ -37,14 +36,14 @@ module _ (bytes : Bytes) (mark : HeadAt) (fit : AnyFit) (finished : Finished)
       omega (arith, ap (λ (p : Layout). length p.arcs) layout_is, long, is.of_layout.bounds.few)
 
   -- These numbers are told of it.
-  pub counted_fit : (old : FaceSet) → IsGivenTo bytes mark old (Fit fit) → (arcs faces deviates : ℕ)
+  pub counted_fit : {old : FaceSet} → IsGivenTo bytes line old (Fit fit) → (arcs faces deviates : ℕ)
       → arcs ≡ length finished.new.layout.arcs
       → faces ≡ face_count (gluing_of finished.new.layout) (lengths_in finished.new.lengths)
       → deviates ≡ finished.deviation
       → IsCountedFit bytes arcs faces deviates
-  counted_fit old given arcs faces deviates arcs_told faces_told deviates_told = record {
-    line = mark.line;
-    divided = given.marked.last;
+  counted_fit given arcs faces deviates arcs_told faces_told deviates_told = record {
+    line = line;
+    divided = given.last;
     fit = fit;
     mark = given.is;
     written = is.written;

@@ -5,7 +5,6 @@ use Rattle.std.proofs.{Math.Seq.take-append_seam, lemmas.List.take-append-drop, 
 use Rattle.std.specs.List.{flat_map}
 use Rattle.def_io.specs.{Bytes.Bytes, Lines.pieces, Lines.tail_of}
 use Rattle.def_run.specs.MarkLines.{front_of}
-use Rattle.def_text.specs.declared.limits.TheConstants.{MAX_BYTES}
 use Rattle.remesh_laws.proofs.Tails.{flat-pieces}
 
 module _ (line : ℕ) (bytes : Bytes) where
@@ -29,6 +28,3 @@ module _ (line : ℕ) (bytes : Bytes) where
         ap length parts,
         length-append (front_of line bytes) (tail_of line bytes),
       )
-
-  pub tail_few : length bytes ≤ MAX_BYTES → length (tail_of line bytes) ≤ MAX_BYTES
-  tail_few few = omega (arith, few, ap length parts, length-append (front_of line bytes) (tail_of line bytes))

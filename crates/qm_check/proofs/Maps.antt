@@ -16,7 +16,7 @@ use Rattle.def_run.specs.Judging.{IsReason}
 use Rattle.def_run.specs.Map.{asks_of, HasMap, HasOtherText, IsHeadedBy, IsMapOf, IsNotRefined, IsUnfinished, IsUnlike}
 use Rattle.def_run.specs.Map.{WritesMap, WritesNew}
 use Rattle.def_run.specs.MapFails.{IsMapFail}
-use Rattle.def_run.specs.MarkLines.{begins_mark, front_of, HasNoMark, IsMarkLine}
+use Rattle.def_run.specs.MarkLines.{begins_mark, front_of, HasNoMark, IsLastMark, IsMarkLine}
 use Rattle.def_run.specs.Mesh.{IsMeshText}
 use Rattle.def_run.specs.Refine.{WritesRefined}
 use Rattle.def_run.specs.Remesh.{IsTracedLayout, WritesFinished}
@@ -30,11 +30,10 @@ use Rattle.def_run.specs.declared.answer.Why.TheVariants as why
 use Rattle.def_text.specs.FaceSet.{FaceSet}
 use Rattle.embedding_laws.proofs.OneLayout.{one_layout_law}
 use Rattle.site_laws.proofs.Laws.{graph_law}
-use Rattle.qm_certtext.specs.declared.last.HeadAt.{HeadAt}
 use Rattle.remesh_laws.proofs.LastLines.{one_last}
 use Rattle.qm_check.proofs.{Results.ok_or_err, Results.one_ok, Tasks.shown_by, Verdicts.shape_of, Verdicts.untangled}
 use Rattle.qm_check.specs.{Checked.IsDifference, Judged.judged_by, Judged.Finishes, Judged.IsTextFail, Making.HasMapOf}
-use Rattle.qm_check.specs.Making.{IsFound, IsGivenTo, IsMarkedAt, IsReadyFor, IsUnmade}
+use Rattle.qm_check.specs.Making.{IsFound, IsGivenTo, IsReadyFor, IsUnmade}
 use Rattle.qm_check.specs.{Multiples.HasNoPoints, Multiples.IsRefinedBy, Ready.IsNoOld, Ready.IsOld}
 use Rattle.qm_check.specs.{declared.judging.Finished.Finished, declared.ready.Ready.Ready}
 
@@ -49,24 +48,24 @@ new_mesh : (command : Command) (front text : Bytes) → WritesNew command front 
 new_mesh (Refine by) front text wrote = (wrote.soup, wrote.mesh)
 new_mesh _ front text wrote = (wrote.soup, wrote.mesh)
 
-module _ (bytes : Bytes) (mark : HeadAt) (marked : IsMarkedAt bytes mark) where
-  line_is : (text : Bytes) (wrote : WritesMap bytes text) → wrote.line ≡ mark.line
-  line_is text wrote = one_last begins_mark (lines_of bytes) wrote.line mark.line wrote.divided marked.last
+module _ (bytes : Bytes) (line : ℕ) (last : IsLastMark (lines_of bytes) line) where
+  line_is : (text : Bytes) (wrote : WritesMap bytes text) → wrote.line ≡ line
+  line_is text wrote = one_last begins_mark (lines_of bytes) wrote.line line wrote.divided last
 
   -- The mesh in front of a map.
-  front_mesh : (has : HasMap bytes) → (soup : FaceSet) × IsMeshText (front_of mark.line bytes) soup
+  front_mesh : (has : HasMap bytes) → (soup : FaceSet) × IsMeshText (front_of line bytes) soup
   front_mesh (text, wrote) = subst (λ (n : ℕ). (soup : FaceSet) × IsMeshText (front_of n bytes) soup)
       (line_is text wrote) (new_mesh wrote.command (front_of wrote.line bytes) (tail_of wrote.line bytes) wrote.written)
 
   -- The bytes in front have no mesh.
-  pub no_front : (fail : CheckFail) → IsNoOld (front_of mark.line bytes) fail → IsMapFail bytes fail
+  pub no_front : (fail : CheckFail) → IsNoOld (front_of line bytes) fail → IsMapFail bytes fail
   no_front (Old fail) (other, says) = (
-    record { line = mark.line; divided = marked.last; said = says },
+    record { line = line; divided = last; said = says },
     other,
     λ (has : HasMap bytes). let mesh = front_mesh has in ok_or_err _ mesh.0 fail mesh.1.said says,
   )
   no_front (NotManifold place soup) (says, fault, refuted) = (
-    record { line = mark.line; divided = marked.last; said = says; fault = fault; refuted = refuted },
+    record { line = line; divided = last; said = says; fault = fault; refuted = refuted },
     λ (has : HasMap bytes).
         let mesh = front_mesh has in
         refuted (subst (λ (s : FaceSet). IsManifold s.faces) (one_ok _ mesh.0 soup mesh.1.said says) mesh.1.manifold),
@@ -75,10 +74,10 @@ module _ (bytes : Bytes) (mark : HeadAt) (marked : IsMarkedAt bytes mark) where
   no_front _ none = absurd none
 
   -- The line is that of no command.
-  pub no_command : (old : FaceSet) → IsOld (front_of mark.line bytes) old
-      → ((command : Command) → ¬ IsMarkLine (head_of bytes mark.line) command) → IsMapFail bytes (NotAccepted why.Head)
+  pub no_command : (old : FaceSet) → IsOld (front_of line bytes) old
+      → ((command : Command) → ¬ IsMarkLine (head_of bytes line) command) → IsMapFail bytes (NotAccepted why.Head)
   no_command old is none = (
-    record { line = mark.line; soup = old; front = record { divided = marked.last; mesh = is.mesh }; none = none },
+    record { line = line; soup = old; front = record { divided = last; mesh = is.mesh }; none = none },
     λ (has : HasMap bytes).
         none has.1.command (subst (λ (n : ℕ). IsMarkLine (head_of bytes n) has.1.command) (line_is has.0 has.1)
         has.1.mark),
@@ -107,18 +106,18 @@ map_is (Coarse settings) front text wrote = refl
 map_is (Fit fit) front text wrote = refl
 map_is _ front text wrote = absurd wrote.asked
 
-module _ (bytes : Bytes) (mark : HeadAt) (old : FaceSet) (command : Command)
-    (given : IsGivenTo bytes mark old command) where
+module _ {bytes : Bytes} {line : ℕ} {old : FaceSet} {command : Command}
+    (given : IsGivenTo bytes line old command) where
   abbrev front : Bytes
-  front = front_of mark.line bytes
+  front = front_of line bytes
 
   abbrev text : Bytes
-  text = tail_of mark.line bytes
+  text = tail_of line bytes
 
-  headed : IsHeadedBy bytes mark.line command
+  headed : IsHeadedBy bytes line command
   headed = record {
     soup = old;
-    front = record { divided = given.marked.last; mesh = given.read.mesh };
+    front = record { divided = given.last; mesh = given.read.mesh };
     mark = given.is;
   }
 
@@ -128,41 +127,41 @@ module _ (bytes : Bytes) (mark : HeadAt) (old : FaceSet) (command : Command)
       (given.alone wrote.command (subst (λ (n : ℕ). IsMarkLine (head_of bytes n) wrote.command) same wrote.mark))
       (subst (λ (n : ℕ). WritesNew wrote.command (front_of n bytes) (tail_of n bytes)) same wrote.written)
     where
-      same : wrote.line ≡ mark.line
-      same = line_is bytes mark given.marked map wrote
+      same : wrote.line ≡ line
+      same = line_is bytes line given.last map wrote
 
   -- Nothing is made ready for the command.
   pub unmade_fails : (fail : CheckFail) → IsUnmade command front fail → IsMapFail bytes fail
   unmade_fails (Tangled count) (why, never) = (
-    inr (record { line = mark.line; command = command; headed = headed; said = why }),
+    inr (record { line = line; command = command; headed = headed; said = why }),
     λ (has : HasMap bytes). never text (given_writes has),
   )
   unmade_fails (Far sum) (why, never) = (
-    inr (record { line = mark.line; command = command; headed = headed; said = why }),
+    inr (record { line = line; command = command; headed = headed; said = why }),
     λ (has : HasMap bytes). never text (given_writes has),
   )
   unmade_fails (Marks fail) (said, other, never) = (
-    record { line = mark.line; command = command; headed = headed; said = said },
+    record { line = line; command = command; headed = headed; said = said },
     other,
     λ (has : HasMap bytes). never text (given_writes has),
   )
   unmade_fails Memory none = tt
   unmade_fails _ none = absurd none
 
-  module _ (ready : Ready) (for : IsReadyFor command front ready) (same : ready.cut.soup ≡ old) where
+  module _ {ready : Ready} (for : IsReadyFor command front ready) (same : ready.cut.soup ≡ old) where
     ready_mesh : IsMeshText front ready.cut.soup
     ready_mesh = subst (IsMeshText front) (sym same) given.read.mesh
 
     -- The text is not that of the task.
-    other : (why : Why) → IsReason (judged_by bytes mark.line ready.cut for.task) why
+    other : (why : Why) → IsReason (judged_by bytes line ready.cut for.task) why
         × (¬ IsShown for.task ready.cut.soup text)
         → HasOtherText bytes why × (¬ HasMap bytes)
     other why (reason, none) = (
       record {
-        line = mark.line;
+        line = line;
         command = command;
         headed = headed;
-        unlike = unlike_of command bytes mark.line why (record {
+        unlike = unlike_of command bytes line why (record {
           task = for.task;
           layout = ready.cut.layout;
           mesh = record {
@@ -179,7 +178,7 @@ module _ (bytes : Bytes) (mark : HeadAt) (old : FaceSet) (command : Command)
           (given_writes has)),
     )
 
-    pub text_fails : (fail : CheckFail) → IsTextFail (judged_by bytes mark.line ready.cut for.task) fail
+    pub text_fails : (fail : CheckFail) → IsTextFail (judged_by bytes line ready.cut for.task) fail
         → IsMapFail bytes fail
     text_fails (NotAccepted (why.CertLine bad)) both = other (why.CertLine bad) both
     text_fails (NotAccepted (why.Verdict verdict)) both = other (why.Verdict verdict) both
@@ -191,8 +190,8 @@ module _ (bytes : Bytes) (mark : HeadAt) (old : FaceSet) (command : Command)
     text_fails _ none = absurd none
 
     -- It is.
-    pub found : (finished : Finished) → Finishes for.task ready text finished → IsFound command front text finished
-    found finished by = record {
+    pub found : {finished : Finished} → Finishes for.task ready text finished → IsFound command front text finished
+    found by = record {
       written = record {
         soup = ready.cut.soup;
         mesh = ready_mesh;
@@ -208,10 +207,10 @@ module _ (bytes : Bytes) (mark : HeadAt) (old : FaceSet) (command : Command)
     }
 
   -- A text that the command wrote has its map.
-  pub mapped : (finished : Finished) → IsFound command front text finished → HasMapOf bytes finished.new
-  mapped finished by = subst (HasMapOf bytes) (sym by.new) (record {
-    line = mark.line;
-    divided = given.marked.last;
+  pub mapped : {finished : Finished} → IsFound command front text finished → HasMapOf bytes finished.new
+  mapped by = subst (HasMapOf bytes) (sym by.new) (record {
+    line = line;
+    divided = given.last;
     command = command;
     mark = given.is;
     written = written_by command front text by.written;
@@ -220,14 +219,14 @@ module _ (bytes : Bytes) (mark : HeadAt) (old : FaceSet) (command : Command)
 
 -- ---- A refined mesh.
 
-module _ (bytes : Bytes) (mark : HeadAt) (cut : CutSoup) (by : ℕ) (given : IsGivenTo bytes mark cut.soup (Refine by))
+module _ {bytes : Bytes} {line : ℕ} {by : ℕ} (cut : CutSoup) (given : IsGivenTo bytes line cut.soup (Refine by))
     (laid : IsTracedLayout cut.soup.faces cut.layout) where
-  refined_other : (why : Why) → IsNotRefined by cut.soup cut.layout (tail_of mark.line bytes) why
+  refined_other : (why : Why) → IsNotRefined by cut.soup cut.layout (tail_of line bytes) why
       → HasOtherText bytes why
   refined_other why reason = record {
-    line = mark.line;
+    line = line;
     command = Refine by;
-    headed = headed bytes mark cut.soup (Refine by) given;
+    headed = headed given;
     unlike = record {
       layout = cut.layout;
       mesh = record { soup = cut.soup; mesh = given.read.mesh; cut = laid };
@@ -236,7 +235,7 @@ module _ (bytes : Bytes) (mark : HeadAt) (cut : CutSoup) (by : ℕ) (given : IsG
   }
 
   -- What is written for these bytes is written over this layout.
-  one_layout : (wrote : WritesRefined by (front_of mark.line bytes) (tail_of mark.line bytes)) → (wrote.soup ≡ cut.soup)
+  one_layout : (wrote : WritesRefined by (front_of line bytes) (tail_of line bytes)) → (wrote.soup ≡ cut.soup)
       × (wrote.refined.layout ≡ cut.layout)
   one_layout wrote = (
     same,
@@ -253,7 +252,7 @@ module _ (bytes : Bytes) (mark : HeadAt) (cut : CutSoup) (by : ℕ) (given : IsG
   no_points (NotAccepted (why.TooFine faces)) fine = (
     refined_other (why.TooFine faces) fine,
     λ (has : HasMap bytes).
-        let wrote = given_writes bytes mark cut.soup (Refine by) given has in
+        let wrote = given_writes given has in
         let few : refined_faces by cut.layout ≤ MAX_NEW_FACES =
         subst (λ (p : Layout). refined_faces by p ≤ MAX_NEW_FACES) (one_layout wrote).1 wrote.refined.fits in
         absurd (omega (arith, few, fine.0, fine.1)),
@@ -261,17 +260,17 @@ module _ (bytes : Bytes) (mark : HeadAt) (cut : CutSoup) (by : ℕ) (given : IsG
   no_points Memory none = tt
   no_points _ none = absurd none
 
-  module _ (new : Regrid) (are : IsRefinedBy by cut new) where
+  module _ {new : Regrid} (are : IsRefinedBy by cut new) where
     -- The text is another one.
     pub other_refined : (fail : CheckFail)
-        → IsDifference (tail_of mark.line bytes) (refined_text by new.soup new.layout)
+        → IsDifference (tail_of line bytes) (refined_text by new.soup new.layout)
         fail → IsMapFail bytes fail
     other_refined (NotAccepted (why.Byte at)) differ =
-        let moved = subst (λ (t : Bytes). IsDifference (tail_of mark.line bytes) t (NotAccepted (why.Byte at)))
+        let moved = subst (λ (t : Bytes). IsDifference (tail_of line bytes) t (NotAccepted (why.Byte at)))
         (λ i. refined_text by (are.soup i) (are.layout i)) differ in (
           refined_other (why.Byte at) (are.few, moved),
           λ (has : HasMap bytes).
-              let wrote = given_writes bytes mark cut.soup (Refine by) given has in
+              let wrote = given_writes given has in
               let both = one_layout wrote in
               moved.there (ap (take at) (wrote.refined.written ∙ (λ i. refined_text by (both.0 i) (both.1 i)))),
         )
@@ -279,10 +278,10 @@ module _ (bytes : Bytes) (mark : HeadAt) (cut : CutSoup) (by : ℕ) (given : IsG
     other_refined _ differ = absurd differ
 
     -- It is that of the refined mesh.
-    pub refined_mapped : tail_of mark.line bytes ≡ refined_text by new.soup new.layout → HasMapOf bytes new
+    pub refined_mapped : tail_of line bytes ≡ refined_text by new.soup new.layout → HasMapOf bytes new
     refined_mapped written = record {
-      line = mark.line;
-      divided = given.marked.last;
+      line = line;
+      divided = given.last;
       command = Refine by;
       mark = given.is;
       written = record {

@@ -113,7 +113,7 @@ pub record IsAskedAt (bytes front : Bytes) (line : ℕ) (soup : FaceSet) (settin
   pub read : IsOld front soup
   pub head : IsHead (head_of bytes line) settings auto
 
-module _ (bytes front : Bytes) (line : ℕ) (soup : FaceSet) (settings : Settings) (auto : Bool)
+module _ {bytes front : Bytes} {line : ℕ} {soup : FaceSet} {settings : Settings} {auto : Bool}
     (given : IsAskedAt bytes front line soup settings auto) where
   abbrev text : Bytes
   text = tail_of line bytes
@@ -172,7 +172,7 @@ module _ (bytes front : Bytes) (line : ℕ) (soup : FaceSet) (settings : Setting
   unmade_fails Memory none = tt
   unmade_fails _ none = absurd none
 
-  module _ (ready : Ready) (for : IsReadyFor (Remesh settings auto) front ready) (same : ready.cut.soup ≡ soup) where
+  module _ {ready : Ready} (for : IsReadyFor (Remesh settings auto) front ready) (same : ready.cut.soup ≡ soup) where
     -- The task is that of a remesh.
     abbrev task : Task
     task = remesh_task settings auto ready.cut.soup.faces
@@ -216,7 +216,7 @@ module _ (bytes front : Bytes) (line : ℕ) (soup : FaceSet) (settings : Setting
         remesh_fails fail (subst (λ (t : Task). IsTextFail (judged_by bytes line ready.cut t) fail) for.only.asked
         failed)
 
-    module _ (finished : Finished) (finishes : Finishes for.task ready text finished) where
+    module _ {finished : Finished} (finishes : Finishes for.task ready text finished) where
       by : Finishes task ready text finished
       by = subst (λ (t : Task). Finishes t ready text finished) for.only.asked finishes
 

@@ -90,7 +90,7 @@ module _ (wish : Wish) (layout : Layout) (settings : Settings) where
   wrong_tells floors round (risen first rises after) why (inr (doubling, inr (needed, wrong))) =
       wrong_tells (risen_floors rises floors) (round + 1) after why wrong
 
-module _ (bytes : Bytes) (line : ℕ) (task : Task) (ready : Ready) (is : IsReady task ready) where
+module _ (bytes : Bytes) (line : ℕ) {task : Task} {ready : Ready} (is : IsReady task ready) where
   abbrev judged : Judged
   judged = judged_by bytes line ready.cut task
 

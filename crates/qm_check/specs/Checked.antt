@@ -15,9 +15,10 @@ use Rattle.def_flow.specs.declared.cert.CertVerdict.TheVariants.{Yes}
 use Rattle.def_flow.specs.declared.limits.TheConstants.{MAX_FLOOR, MAX_LENGTH}
 use Rattle.def_flow.specs.declared.net.Settings.{Settings}
 use Rattle.def_io.specs.Bytes.{Bytes}
+use Rattle.def_layout.specs.Lengths.{Lengths as AnyLengths}
 use Rattle.def_layout.specs.Layouts.{Layout, gluing_of}
 use Rattle.def_matching.specs.Dual.{IsSmallDual}
-use Rattle.def_remesh.specs.Keeping.{IsKept, IsNetWith}
+use Rattle.def_remesh.specs.Keeping.{IsKept, IsNetFor, IsNetWith}
 use Rattle.def_remesh.specs.NewPoints.{lengths_in}
 use Rattle.def_remesh.specs.Refusals.{AreTooFine}
 use Rattle.def_remesh.specs.Certified.{certificate_of, IsCertified}
@@ -44,6 +45,20 @@ abbrev pub AreInReach : (rising : Rising) (certificates : Certificates) → Type
 AreInReach rising (alone cert) = IsInReach cert
 AreInReach rising (raised first cert) = IsInReach first × IsInReach cert × (rising ≡ Third)
 AreInReach rising (risen first rises after) = IsInReach first × AreInReach rising after × (rising ≡ Rounds)
+
+-- A certificate that can be checked over a network: that of a layout with some floors.
+pub record IsCheckable (layout : Layout) (net : Network) (cert : Lists) : Type 0 where
+  pub wish : Wish
+  pub settings : Settings
+  pub floors : AnyLengths
+  pub of_layout : IsNetWith wish layout settings floors net
+  pub reach : IsInReach cert
+
+-- Certificates of a text that can be checked: over that with the floors that are given.
+pub record AreCheckable (layout : Layout) (net : Network) (terms : Terms) (told : Certificates) : Type 0 where
+  pub wish : Wish
+  pub of_layout : IsNetFor wish layout terms.settings net
+  pub reach : AreInReach terms.rising told
 
 -- Each arc has the greatest floor.
 abbrev pub AreHighest : (net : Network) → Type 0

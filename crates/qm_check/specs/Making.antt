@@ -1,5 +1,5 @@
 -- What the text of a command is judged by, and why there is nothing to judge it by.
-use Rattle.std.specs.Prelude.{◌≡◌, ◌≢◌, true, ⊤}
+use Rattle.std.specs.Prelude.{◌≡◌, ◌≢◌, ℕ, true, ⊤}
 use Rattle.def_certtext.specs.CertLines.{used}
 use Rattle.def_flow.specs.Admissible.{deviation, entries}
 use Rattle.def_flow.specs.Network.{Network}
@@ -51,17 +51,13 @@ IsUnmade command front (Marks fail) =
 IsUnmade command front Memory = ⊤
 IsUnmade command front _ = ⊥
 
--- The last line that begins as a head line does stands there, and divides the bytes.
-pub record IsMarkedAt (bytes : Bytes) (mark : HeadAt) : Type 0 where
-  pub last : IsLastMark (lines_of bytes) mark.line
-  pub cuts : CutsAt bytes mark
-
--- It is the head line of this command and of no other, and the bytes before it have this mesh.
-pub record IsGivenTo (bytes : Bytes) (mark : HeadAt) (old : FaceSet) (command : Command) : Type 0 where
-  pub marked : IsMarkedAt bytes mark
-  pub read : IsOld (front_of mark.line bytes) old
-  pub is : IsMarkLine (head_of bytes mark.line) command
-  pub alone : (other : Command) → IsMarkLine (head_of bytes mark.line) other → other ≡ command
+-- The last line that begins as a head line does is the head line of this command and of no other, and the bytes before
+-- it have this mesh.
+pub record IsGivenTo (bytes : Bytes) (line : ℕ) (old : FaceSet) (command : Command) : Type 0 where
+  pub last : IsLastMark (lines_of bytes) line
+  pub read : IsOld (front_of line bytes) old
+  pub is : IsMarkLine (head_of bytes line) command
+  pub alone : (other : Command) → IsMarkLine (head_of bytes line) other → other ≡ command
 
 -- A command that finds least lengths wrote this text behind that of a mesh, with this new mesh and this deviation.
 pub record IsFound (command : Command) (front text : Bytes) (finished : Finished) : Type 0 where
@@ -76,10 +72,11 @@ pub record IsFound (command : Command) (front text : Bytes) (finished : Finished
   pub of_layout : IsNetFor written.task.wish written.shown.finished.layout written.task.settings net
   pub deviates : finished.deviation ≡ deviation net (entries (used written.shown.finished.certificates).x)
 
--- The last line that begins as a head line does stands there, and begins as that of `fit`.
-pub record IsFitAt (bytes : Bytes) (mark : HeadAt) : Type 0 where
-  pub marked : IsMarkedAt bytes mark
-  pub begins : begins_fit (head_of bytes mark.line) ≡ true
+-- The last line that begins as a head line does stands there, divides the bytes, and begins as that of `fit`.
+pub record IsFitAt (bytes : Bytes) (head : HeadAt) : Type 0 where
+  pub last : IsLastMark (lines_of bytes) head.line
+  pub cuts : CutsAt bytes head
+  pub begins : begins_fit (head_of bytes head.line) ≡ true
 
 -- The bytes have the map of this new mesh.
 abbrev pub HasMapOf : (bytes : Bytes) (new : Regrid) → Type 0

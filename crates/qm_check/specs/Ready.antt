@@ -3,7 +3,6 @@ use Rattle.std.specs.Prelude.{◌≡◌, ◌≢◌, ◌≤◌, ◌<◌, ◌∷�
 use Rattle.std.specs.Prelude.{drop, length, take, ⊤}
 use Rattle.std.specs.List.{list_all}
 use Rattle.std.specs.Option.{option_map}
-use Rattle.def_certtext.specs.HeadLine.{IsLastHead}
 use Rattle.def_certtext.specs.Reading.{HasBadLine}
 use Rattle.def_certtext.specs.Risings.{may_rise}
 use Rattle.def_certtext.specs.Settings.{AreInRange}
@@ -44,11 +43,6 @@ pub record CutsAt (bytes : Bytes) (head : HeadAt) : Type 0 where
   pub within : head.at ≤ length bytes
   pub old : lines_of (take head.at bytes) ≡ take head.line (lines_of bytes)
   pub written : drop head.at bytes ≡ tail_of head.line bytes
-
--- It is the last head line, and divides them.
-pub record DividesAt (bytes : Bytes) (head : HeadAt) : Type 0 where
-  pub last : IsLastHead (lines_of bytes) head.line
-  pub cuts : CutsAt bytes head
 
 -- The text has this soup, whose faces are a manifold, and which can be written.
 pub record IsOld (text : Bytes) (soup : FaceSet) : Type 0 where

@@ -10,6 +10,7 @@ ghost use Rattle.qm_asides.specs.Beside.{asides_of};
 ghost use Rattle.qm_check.specs.Ready.{IsAsideFail};
 ghost use Rattle.qm_check.specs.Refused.{of_marks};
 
+use crate::parts::SmallText;
 use def_fit::{Aim, Fit};
 use def_marks::MarkFail;
 use def_patches::Keep;
@@ -24,17 +25,16 @@ use std::alloc::Global;
 /// are divided only where one is asked for.
 pub(crate) fn old_asides(
     alloc: Global,
-    text: &[u8],
+    text: &SmallText,
     old: &Meshed,
     fit: &Fit,
 ) -> Result<Asides, CheckFail>
-    requires few { length text.now ≤ MAX_BYTES }
     requires places { length old.now.pos ≤ MAX_V_LINES }
-    ensures said { IfOk result (λ asides. asides_in fit.now text.now old.now ≡ Ok (asides_of asides)) }
+    ensures said { IfOk result (λ asides. asides_in fit.now text.now.bytes.now old.now ≡ Ok (asides_of asides)) }
     ensures inner { IfOk result (λ asides. AreKeptMarks old.now.faces (asides_of asides).kept) }
     ensures each { IfOk result (λ asides. fit.now.aim ≡ Aim.Wishes
         → length asides.wishes.items ≡ darts old.now.faces) }
-    ensures refused { IfErr result (IsAsideFail fit.now text.now old.now) }
+    ensures refused { IfErr result (IsAsideFail fit.now text.now.bytes.now old.now) }
 {
     if asks_for_none(fit) {
         return Ok(Asides {
@@ -63,13 +63,12 @@ fn asks_for_none(fit: &Fit) -> bool
 }
 
 /// The lines of a text in memory. A source in memory does not fail.
-fn lines_in(alloc: Global, text: &[u8]) -> Result<Lines, CheckFail>
-    requires { length text.now ≤ MAX_BYTES }
-    ensures lines { IfOk result (λ lines. lines ≡ text.now) }
+fn lines_in(alloc: Global, text: &SmallText) -> Result<Lines, CheckFail>
+    ensures lines { IfOk result (λ lines. lines ≡ text.now.bytes.now) }
     ensures refused { IfErr result (λ fail. fail ≡ CheckFail.Memory) }
 {
     let mut bytes = Vec::new(alloc);
-    bytes.extend_from_slice(text)?;
+    bytes.extend_from_slice(text.bytes)?;
     let mut source = MemSource::new(bytes, MAX_BYTES as usize, Vec::new(alloc));
     match read_lines(alloc, &mut source, MAX_BYTES) {
         Ok(lines) => Ok(lines),

@@ -6,7 +6,7 @@ ghost use Rattle.def_flow.specs.Network.{network};
 ghost use Rattle.def_remesh.specs.Certified.{IsDoubling};
 ghost use Rattle.def_remesh.specs.Keeping.{IsNetFor};
 ghost use Rattle.def_remesh.specs.Tasks.{given_floors, Wish};
-ghost use Rattle.qm_check.specs.Checked.{AreInReach, IsChecked, IsInReach, IsUnused};
+ghost use Rattle.qm_check.specs.Checked.{AreCheckable, IsChecked, IsUnused};
 
 use crate::lengths::{Lengths, check_lengths};
 use crate::rounds::{Run, check_rounds};
@@ -33,8 +33,7 @@ pub(crate) fn check_certs(
     terms: Terms,
     certs: Certs,
 ) -> Result<Checked, CheckFail>
-    requires net { (wish : Wish) × IsNetFor wish cut.now.layout terms.settings (network net) }
-    requires reach { AreInReach terms.rising (certificates_of certs) }
+    requires certs { AreCheckable cut.now.layout (network net) terms (certificates_of certs) }
     ensures checked { (wish : Wish) → IsNetFor wish cut.now.layout terms.settings (network net)
         → IfOk result (IsChecked wish cut.now.layout (network net) terms (certificates_of certs)) }
     ensures unused { (wish : Wish) → IsNetFor wish cut.now.layout terms.settings (network net)
@@ -68,8 +67,7 @@ fn check_only(
     terms: Terms,
     cert: Cert,
 ) -> Result<Checked, CheckFail>
-    requires net { (wish : Wish) × IsNetFor wish cut.now.layout terms.settings (network net.now) }
-    requires cert { IsInReach (lists_of cert) }
+    requires cert { AreCheckable cut.now.layout (network net.now) terms (alone (lists_of cert)) }
     ensures checked { (wish : Wish) → IsNetFor wish cut.now.layout terms.settings (network net.now)
         → IfOk result (IsChecked wish cut.now.layout (network net.now) terms (alone (lists_of cert))) }
     ensures unused { (wish : Wish) → IsNetFor wish cut.now.layout terms.settings (network net.now)
@@ -101,8 +99,8 @@ fn check_both(
     terms: Terms,
     pair: Pair,
 ) -> Result<Checked, CheckFail>
-    requires net { (wish : Wish) × IsNetFor wish cut.now.layout terms.settings (network net) }
-    requires reach { AreInReach terms.rising (raised (lists_of pair.first) (lists_of pair.third)) }
+    requires pair { AreCheckable cut.now.layout (network net) terms
+        (raised (lists_of pair.first) (lists_of pair.third)) }
     ensures checked { (wish : Wish) → IsNetFor wish cut.now.layout terms.settings (network net)
         → IfOk result (IsChecked wish cut.now.layout (network net) terms
         (raised (lists_of pair.first) (lists_of pair.third))) }
@@ -134,8 +132,8 @@ fn check_third(
     terms: Terms,
     pair: Pair,
 ) -> Result<Checked, CheckFail>
-    requires net { (wish : Wish) × IsNetFor wish cut.now.layout terms.settings (network net) }
-    requires reach { AreInReach terms.rising (raised (lists_of pair.first) (lists_of pair.third)) }
+    requires pair { AreCheckable cut.now.layout (network net) terms
+        (raised (lists_of pair.first) (lists_of pair.third)) }
     requires doubling { (wish : Wish) → IsNetFor wish cut.now.layout terms.settings (network net)
         → IsDoubling wish cut.now.layout terms.settings (given_floors terms.settings) (lists_of pair.first) }
     ensures checked { (wish : Wish) → IsNetFor wish cut.now.layout terms.settings (network net)

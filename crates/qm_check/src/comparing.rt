@@ -1,6 +1,6 @@
 //! A text against the one that is made anew.
 
-ghost use Rattle.std.specs.Prelude.{◌≡◌, ◌≤◌, ◌+◌, length, IfErr, IfOk, OnOk};
+ghost use Rattle.std.specs.Prelude.{◌≡◌, ◌≤◌, ◌+◌, IfErr, IfOk, OnOk};
 ghost use Rattle.def_certtext.specs.CertLines.{certificates_of};
 ghost use Rattle.def_remesh.specs.Keeping.{IsKept};
 ghost use Rattle.def_remesh.specs.Tasks.{Wish};
@@ -8,6 +8,7 @@ ghost use Rattle.def_text.specs.declared.limits.TheConstants.{MAX_BYTES};
 ghost use Rattle.qm_check.specs.Checked.{IsDifference};
 ghost use Rattle.qm_write.specs.Framing.{framed_text};
 
+use crate::parts::SmallText;
 use def_run::{CheckFail, Why};
 use qm_output::Comparison;
 use qm_stages::{CutMesh, Regridded};
@@ -18,23 +19,22 @@ use std::alloc::Global;
 /// the new mesh.
 pub(crate) fn compare(
     alloc: Global,
-    given: &[u8],
+    given: &SmallText,
     cut: CutMesh,
     framed: Framed,
 ) -> Result<Regridded, CheckFail>
-    requires few { length given.now ≤ MAX_BYTES }
     requires kept { (wish : Wish) × IsKept wish cut.layout framed.remesh.terms.settings framed.remesh.terms.rising
         (certificates_of framed.remesh.certs) framed.remesh.numbering }
-    ensures same { OnOk result (given.now ≡ framed_text framed cut.soup cut.layout) }
+    ensures same { OnOk result (given.now.bytes.now ≡ framed_text framed cut.soup cut.layout) }
     ensures new { IfOk result (λ new. new ≡ record {
       soup = cut.soup;
       layout = cut.layout;
       lengths = framed.remesh.numbering.lengths.items;
       shares = framed.shares;
     }) }
-    ensures other { IfErr result (IsDifference given.now (framed_text framed cut.soup cut.layout)) }
+    ensures other { IfErr result (IsDifference given.now.bytes.now (framed_text framed cut.soup cut.layout)) }
 {
-    let mut comparison = Comparison::new(given);
+    let mut comparison = Comparison::new(given.bytes);
     match put_framed(alloc, &mut comparison, cut, framed) {
         Ok(new) if comparison.is_over() => Ok(new),
         Ok(_) => Err(other_from(comparison.at())),

@@ -6,12 +6,8 @@ ghost use Rattle.def_flow.specs.Accepted.{certificate};
 ghost use Rattle.def_flow.specs.Admissible.{deviation as deviation_of, entries};
 ghost use Rattle.def_flow.specs.Descent.{IsSolution};
 ghost use Rattle.def_flow.specs.Network.{network};
-ghost use Rattle.def_flow.specs.declared.net.Settings.{Settings as AnySettings};
-ghost use Rattle.def_layout.specs.Lengths.{Lengths as AnyLengths};
 ghost use Rattle.def_layout.specs.Layouts.{Layout};
-ghost use Rattle.qm_check.specs.Checked.{Gives, GivesNone, IsInReach};
-ghost use Rattle.def_remesh.specs.Keeping.{IsNetWith};
-ghost use Rattle.def_remesh.specs.Tasks.{Wish};
+ghost use Rattle.qm_check.specs.Checked.{Gives, GivesNone, IsCheckable};
 
 use def_flow::{Cert, CertVerdict, Net};
 use def_remesh::StitchFail;
@@ -43,9 +39,7 @@ pub(crate) fn check_lengths(
     net: &Net,
     cert: &Cert,
 ) -> Result<Lengths, CheckFail>
-    requires net { (wish : Wish) × (settings : AnySettings) × (floors : AnyLengths)
-        × IsNetWith wish cut.now.layout settings floors (network net.now) }
-    requires cert { IsInReach (lists_of cert.now) }
+    requires cert { IsCheckable cut.now.layout (network net.now) (lists_of cert.now) }
     ensures solved { OnOk result (IsSolution (network net.now) (certificate cert.now)) }
     ensures gives { IfOk result (Gives cut.now.layout (network net.now) cert.now.x.items) }
     ensures refused { IfErr result (GivesNone cut.now.layout (network net.now) cert.now) }
@@ -66,9 +60,7 @@ pub(crate) fn check_lengths(
 
 /// How far the lengths of an accepted certificate are from what is wanted.
 fn accepted_deviation(alloc: Global, net: &Net, cert: &Cert) -> Result<u128, CheckFail>
-    requires net { (wish : Wish) × (settings : AnySettings) × (floors : AnyLengths) × (layout : Layout)
-        × IsNetWith wish layout settings floors (network net.now) }
-    requires cert { IsInReach (lists_of cert.now) }
+    requires cert { (layout : Layout) × IsCheckable layout (network net.now) (lists_of cert.now) }
     ensures solved { OnOk result (IsSolution (network net.now) (certificate cert.now)) }
     ensures told { IfOk result (λ d. d ≡ deviation_of (network net.now) (entries cert.now.x.items)) }
     ensures refused { (layout : Layout) → IfErr result (GivesNone layout (network net.now) cert.now) }

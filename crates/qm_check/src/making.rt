@@ -1,18 +1,18 @@
 //! What the text of each command is judged by.
 
-ghost use Rattle.std.specs.Prelude.{◌≡◌, ◌≤◌, length, IfErr, IfOk, OnOk};
+ghost use Rattle.std.specs.Prelude.{◌≡◌, length, IfErr, IfOk, OnOk};
 ghost use Rattle.def_fit.specs.Aims.{aimed, fit_settings, AreAimedNear, IsFit};
 ghost use Rattle.def_flow.specs.Network.{network};
 ghost use Rattle.def_mesh.specs.Darts.{darts};
 ghost use Rattle.def_remesh.specs.Keeping.{IsNetFor};
 ghost use Rattle.def_run.specs.declared.command.Command.{Command as AnyCommand};
-ghost use Rattle.def_text.specs.declared.limits.TheConstants.{MAX_BYTES};
 ghost use Rattle.qm_check.specs.Least.{HasNoNet, IsLeastLine};
 ghost use Rattle.qm_check.specs.Making.{IsReadyFor, IsUnmade};
 ghost use Rattle.qm_check.specs.Ready.{IsOld};
 
 use crate::asides::old_asides;
 use crate::least::{Least, terms_of};
+use crate::parts::SmallText;
 use crate::ready::{Frame, Ready, ended};
 use def_fit::{Aim, Fit};
 use def_flow::Net;
@@ -27,19 +27,18 @@ use std::alloc::Global;
 /// the network of its task.
 pub(crate) fn ready_for(
     alloc: Global,
-    text: &[u8],
+    text: &SmallText,
     line: &[u8],
     old: Meshed,
     least: &Least,
 ) -> Result<Ready, CheckFail>
-    requires few { length text.now ≤ MAX_BYTES }
-    requires old { IsOld text.now old }
+    requires old { IsOld text.now.bytes.now old }
     requires line { (command : AnyCommand) × IsLeastLine command line.now least.now }
     ensures ready { (command : AnyCommand) → IsLeastLine command line.now least.now
-        → IfOk result (IsReadyFor command text.now) }
+        → IfOk result (IsReadyFor command text.now.bytes.now) }
     ensures soup { IfOk result (λ ready. ready.cut.soup ≡ old) }
     ensures unmade { (command : AnyCommand) → IsLeastLine command line.now least.now
-        → IfErr result (IsUnmade command text.now) }
+        → IfErr result (IsUnmade command text.now.bytes.now) }
 {
     let asides = old_asides(alloc, text, &old, &least.fit)?;
     let kept = asides.kept.as_deref();

@@ -6,17 +6,17 @@ ghost use Rattle.def_text.specs.Text.{soup_in};
 ghost use Rattle.qm_check.specs.Ready.{IsNoOld, IsOld};
 ghost use Rattle.qm_check.specs.Refused.{of_obj};
 
+use crate::parts::SmallText;
 use def_run::CheckFail;
-use def_text::{MAX_BYTES, MAX_F_LINES, MAX_V_LINES, ObjFail, Soup};
+use def_text::{MAX_F_LINES, MAX_V_LINES, ObjFail, Soup};
 use qm_obj::ObjFeed;
 use qm_stages::{Meshed, NoMesh};
 use std::alloc::Global;
 
 /// The mesh of the old text.
-pub(crate) fn read_old(alloc: Global, text: &[u8]) -> Result<Meshed, CheckFail>
-    requires { length text.now ≤ MAX_BYTES }
-    ensures old { IfOk result (IsOld text.now) }
-    ensures refused { IfErr result (IsNoOld text.now) }
+pub(crate) fn read_old(alloc: Global, text: &SmallText) -> Result<Meshed, CheckFail>
+    ensures old { IfOk result (IsOld text.now.bytes.now) }
+    ensures refused { IfErr result (IsNoOld text.now.bytes.now) }
 {
     match read_text(alloc, text) {
         Ok(soup) => mesh_of(alloc, soup),
@@ -25,14 +25,13 @@ pub(crate) fn read_old(alloc: Global, text: &[u8]) -> Result<Meshed, CheckFail>
 }
 
 /// The soup of a text.
-fn read_text(alloc: Global, text: &[u8]) -> Result<Soup, ObjFail>
-    requires { length text.now ≤ MAX_BYTES }
-    ensures soup { IfOk result (λ soup. soup_in text.now ≡ Ok soup) }
+fn read_text(alloc: Global, text: &SmallText) -> Result<Soup, ObjFail>
+    ensures soup { IfOk result (λ soup. soup_in text.now.bytes.now ≡ Ok soup) }
     ensures few { IfOk result (λ soup. (length soup.pos ≤ MAX_V_LINES) × (length soup.faces ≤ MAX_F_LINES)) }
-    ensures refused { IfErr result (λ fail. fail ≢ ObjFail.Memory → soup_in text.now ≡ Err fail) }
+    ensures refused { IfErr result (λ fail. fail ≢ ObjFail.Memory → soup_in text.now.bytes.now ≡ Err fail) }
 {
     let mut feed = ObjFeed::new(alloc);
-    feed.feed(text)?;
+    feed.feed(text.bytes)?;
     feed.finish()
 }
 

@@ -1,22 +1,19 @@
 //! A text of a refined mesh.
 
-ghost use Rattle.std.specs.Prelude.{◌≡◌, ◌≤◌, length, None, IfErr, IfOk, OnOk};
-ghost use Rattle.def_layout.specs.Arcs.{long_at};
-ghost use Rattle.def_remesh.specs.NewPoints.{lengths_in, multiple_of};
+ghost use Rattle.std.specs.Prelude.{◌≡◌, ◌≤◌, IfErr, IfOk, OnOk};
+ghost use Rattle.def_remesh.specs.CutSoups.{CutSoup};
 ghost use Rattle.def_remesh.specs.Refined.{refined_text};
 ghost use Rattle.def_run.specs.MapFails.{IsMapFail};
 ghost use Rattle.def_run.specs.declared.command.Command.TheVariants.{Refine};
 ghost use Rattle.def_run.specs.declared.command.TheConstants.{MAX_MULTIPLE};
-ghost use Rattle.def_text.specs.declared.limits.TheConstants.{MAX_BYTES};
 ghost use Rattle.qm_check.specs.Checked.{IsDifference};
 ghost use Rattle.qm_check.specs.Making.{HasMapOf, IsGivenTo};
 ghost use Rattle.qm_check.specs.Multiples.{HasNoPoints, IsRefinedBy};
 
 use crate::comparing::other_from;
-use crate::parts::written_text;
+use crate::parts::{Divided, SmallText};
 use def_remesh::StitchFail;
 use def_run::{CheckFail, Why};
-use qm_certtext::HeadAt;
 use qm_cut::traced_layout;
 use qm_output::Comparison;
 use qm_refine::{put_refined, refined_points};
@@ -26,19 +23,17 @@ use std::alloc::Global;
 /// Judges what `refine` is to have written.
 pub(crate) fn judge_refined(
     alloc: Global,
-    bytes: &[u8],
-    mark: HeadAt,
+    text: &Divided,
     old: Meshed,
     by: u32,
 ) -> Result<Regridded, CheckFail>
-    requires few { length bytes.now ≤ MAX_BYTES }
-    requires given { IsGivenTo bytes.now mark old (Refine by) }
-    ensures mapped { IfOk result (HasMapOf bytes.now) }
-    ensures refused { IfErr result (IsMapFail bytes.now) }
+    requires given { IsGivenTo text.now.bytes.now text.now.head.line old (Refine by) }
+    ensures mapped { IfOk result (HasMapOf text.now.bytes.now) }
+    ensures refused { IfErr result (IsMapFail text.now.bytes.now) }
 {
     let layout = traced_layout(alloc, old.mesh())?;
     let new = points_by(alloc, by, CutMesh::new(old, layout))?;
-    compare_refined(written_text(bytes, mark), by, &new)?;
+    compare_refined(&text.written_text(), by, &new)?;
     Ok(new)
 }
 
@@ -60,14 +55,12 @@ fn points_by(alloc: Global, by: u32, cut: CutMesh) -> Result<Regridded, CheckFai
 }
 
 /// Compares the bytes with the text of the refined mesh, which is made piece by piece and not kept.
-fn compare_refined(given: &[u8], by: u32, new: &Regridded) -> Result<(), CheckFail>
-    requires few { length given.now ≤ MAX_BYTES }
-    requires lengths { lengths_in new.now.lengths ≡ multiple_of by (long_at new.now.layout.arcs) }
-    requires even { new.now.shares ≡ None }
-    ensures same { OnOk result (given.now ≡ refined_text by new.now.soup new.now.layout) }
-    ensures other { IfErr result (IsDifference given.now (refined_text by new.now.soup new.now.layout)) }
+fn compare_refined(given: &SmallText, by: u32, new: &Regridded) -> Result<(), CheckFail>
+    requires refined { (cut : CutSoup) × IsRefinedBy by cut new.now }
+    ensures same { OnOk result (given.now.bytes.now ≡ refined_text by new.now.soup new.now.layout) }
+    ensures other { IfErr result (IsDifference given.now.bytes.now (refined_text by new.now.soup new.now.layout)) }
 {
-    let mut comparison = Comparison::new(given);
+    let mut comparison = Comparison::new(given.bytes);
     match put_refined(&mut comparison, by, new) {
         Ok(()) if comparison.is_over() => Ok(()),
         Ok(()) => Err(other_from(comparison.at())),

@@ -10,7 +10,7 @@ ghost use Rattle.def_remesh.specs.NewPoints.{lengths_in};
 ghost use Rattle.def_remesh.specs.Remeshed.{AreCoarse};
 ghost use Rattle.def_remesh.specs.Rises.{AreNeeded};
 ghost use Rattle.def_remesh.specs.Tasks.{Wish};
-ghost use Rattle.qm_check.specs.Checked.{AreInReach, IsChecked, IsNoRise, IsUnused};
+ghost use Rattle.qm_check.specs.Checked.{AreCheckable, IsChecked, IsNoRise, IsUnused};
 
 use crate::certificates::Checked;
 use crate::lengths::{Lengths, check_lengths};
@@ -39,8 +39,8 @@ pub(crate) fn check_rounds(
     terms: Terms,
     run: Run,
 ) -> Result<Checked, CheckFail>
-    requires net { (wish : Wish) × IsNetFor wish cut.now.layout terms.settings (network net) }
-    requires reach { AreInReach terms.rising (risen_by run.rounds.items (alone (lists_of run.cert))) }
+    requires run { AreCheckable cut.now.layout (network net) terms
+        (risen_by run.rounds.items (alone (lists_of run.cert))) }
     ensures checked { (wish : Wish) → IsNetFor wish cut.now.layout terms.settings (network net)
         → IfOk result (IsChecked wish cut.now.layout (network net) terms
         (risen_by run.rounds.items (alone (lists_of run.cert)))) }

@@ -1,13 +1,22 @@
 use Rattle.std.proofs.Common.{[], refl, subst}
 use Rattle.def_certtext.specs.{CertLines.lists_of, CertLines.raised, declared.certs.Certs.TheVariants.Alone}
 use Rattle.def_flow.specs.Network.{network}
+use Rattle.def_remesh.specs.Tasks.{given_floors}
 use Rattle.error_laws.proofs.Errors.{handed}
 use Rattle.qm_check.proofs.Kept.{checked_there, doubling_of, passed_none, unused_there}
 use Rattle.qm_check.specs.Checked.{Gives, IsUnused}
 use Rattle.qm_check.proofs.certificates.check_both.Goals as goal
 
-pub check_lengths-requires-clause-cert : goal.check_lengths-requires-clause-cert
-check_lengths-requires-clause-cert c = c.requires.reach.0
+pub check_lengths-requires : goal.check_lengths-requires
+check_lengths-requires c = record {
+  cert = record {
+    wish = c.requires.pair.wish;
+    settings = c.args.terms.settings;
+    floors = given_floors c.args.terms.settings;
+    of_layout = c.requires.pair.of_layout;
+    reach = c.requires.pair.reach.0;
+  };
+}
 
 pub returns-in_err-numbering-clause-unused : goal.returns-in_err-numbering-clause-unused
 returns-in_err-numbering-clause-unused c wish for =
@@ -34,5 +43,5 @@ returns-in-Whole-clause-checked c wish for =
     let told = raised (lists_of c.args.pair.first) (lists_of c.args.pair.third) in
     checked_there wish layout c.args.terms.settings net [] net (passed_none wish layout c.args.terms.settings net for)
     c.args.terms.rising told told c.args.pair.first (Alone c.args.pair.first) c.in-Whole.numbering
-    c.in-Whole.deviation refl refl c.requires.reach refl c.in_ok-numbering.ensures.solved
+    c.in-Whole.deviation refl refl c.requires.pair.reach refl c.in_ok-numbering.ensures.solved
     (subst (Gives layout net c.args.pair.first.x.items) c.in-Whole.is c.in_ok-numbering.ensures.gives)

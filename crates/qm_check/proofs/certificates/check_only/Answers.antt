@@ -1,10 +1,22 @@
 use Rattle.std.proofs.Common.{[], refl, subst}
 use Rattle.def_certtext.specs.{CertLines.alone, CertLines.lists_of, declared.certs.Certs.TheVariants.Alone}
 use Rattle.def_flow.specs.Network.{network}
+use Rattle.def_remesh.specs.Tasks.{given_floors}
 use Rattle.error_laws.proofs.Errors.{handed}
 use Rattle.qm_check.proofs.Kept.{checked_there, passed_none, unused_last, unused_there}
 use Rattle.qm_check.specs.Checked.{Gives, IsUnused}
 use Rattle.qm_check.proofs.certificates.check_only.Goals as goal
+
+pub check_lengths-requires : goal.check_lengths-requires
+check_lengths-requires c = record {
+  cert = record {
+    wish = c.requires.cert.wish;
+    settings = c.args.terms.settings;
+    floors = given_floors c.args.terms.settings;
+    of_layout = c.requires.cert.of_layout;
+    reach = c.requires.cert.reach;
+  };
+}
 
 pub returns-in_err-numbering-clause-unused : goal.returns-in_err-numbering-clause-unused
 returns-in_err-numbering-clause-unused c wish for =
@@ -24,7 +36,7 @@ returns-in-Whole-clause-checked c wish for =
     let told = alone (lists_of c.args.cert) in
     checked_there wish layout c.args.terms.settings net [] net (passed_none wish layout c.args.terms.settings net for)
     c.args.terms.rising told told c.args.cert (Alone c.args.cert) c.in-Whole.numbering c.in-Whole.deviation refl refl
-    c.requires.cert refl c.in_ok-numbering.ensures.solved
+    c.requires.cert.reach refl c.in_ok-numbering.ensures.solved
     (subst (Gives layout net c.args.cert.x.items) c.in-Whole.is c.in_ok-numbering.ensures.gives)
 
 pub returns-in-Doubled-clause-unused : goal.returns-in-Doubled-clause-unused

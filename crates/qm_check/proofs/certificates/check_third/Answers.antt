@@ -8,18 +8,18 @@ use Rattle.qm_layoutnet.proofs.Floors.{floors_at, has_floors}
 use Rattle.remesh_laws.proofs.Keeps.{third_net}
 use Rattle.qm_check.proofs.certificates.check_third.Goals as goal
 
-pub check_lengths-requires-clause-net : goal.check_lengths-requires-clause-net
-check_lengths-requires-clause-net c = (
-  c.requires.net.0,
-  c.args.terms.settings,
-  λ arc. 3,
-  third_net c.args.cut.now.layout c.args.terms.settings (network c.args.net) (network c.with_floor-higher.result)
-      c.requires.net.1
-      (has_floors (network c.args.net) 3 (network c.with_floor-higher.result) c.with_floor-higher.ensures),
-)
-
-pub check_lengths-requires-clause-cert : goal.check_lengths-requires-clause-cert
-check_lengths-requires-clause-cert c = c.requires.reach.1
+pub check_lengths-requires : goal.check_lengths-requires
+check_lengths-requires c = record {
+  cert = record {
+    wish = c.requires.pair.wish;
+    settings = c.args.terms.settings;
+    floors = λ arc. 3;
+    of_layout = third_net c.args.cut.now.layout c.args.terms.settings (network c.args.net)
+        (network c.with_floor-higher.result) c.requires.pair.of_layout
+        (has_floors (network c.args.net) 3 (network c.with_floor-higher.result) c.with_floor-higher.ensures);
+    reach = c.requires.pair.reach.1;
+  };
+}
 
 pub returns-in_err-numbering-clause-unused : goal.returns-in_err-numbering-clause-unused
 returns-in_err-numbering-clause-unused c wish for =
@@ -40,7 +40,7 @@ returns-clause-checked c wish for =
     let has = has_floors (network c.args.net) 3 higher c.with_floor-higher.ensures in
     checked_third wish c.args.cut.now.layout (network c.args.net) higher c.args.terms
     c.args.pair.first c.args.pair.third
-    c.in-Whole.numbering c.in-Whole.deviation c.requires.reach.2 (c.requires.doubling wish for)
+    c.in-Whole.numbering c.in-Whole.deviation c.requires.pair.reach.2 (c.requires.doubling wish for)
     (third_net c.args.cut.now.layout c.args.terms.settings (network c.args.net) higher for has) has
     c.in_ok-numbering.ensures.solved
     (subst (Gives c.args.cut.now.layout higher c.args.pair.third.x.items) c.in-Whole.is c.in_ok-numbering.ensures.gives)

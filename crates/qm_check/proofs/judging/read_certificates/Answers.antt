@@ -8,13 +8,14 @@ use Rattle.qm_check.proofs.judging.read_certificates.Goals as goal
 
 pub read_certs-requires : goal.read_certs-requires
 read_certs-requires c =
+    let text = c.args.text.now in
     omega (
       arith,
-      c.requires.head.there,
-      lines_few c.args.bytes.now,
-      c.requires.few,
+      text.cuts.there,
+      lines_few text.bytes.now,
+      text.few,
       ap length c.text_behind.ensures,
-      length-drop (c.args.head.line + 1) (lines_of c.args.bytes.now),
+      length-drop (text.head.line + 1) (lines_of text.bytes.now),
     )
 
 pub returns-in-Ok-clause-told : goal.returns-in-Ok-clause-told
@@ -23,18 +24,20 @@ returns-in-Ok-clause-told c = subst (λ (behind : Lines). TellCerts c.args.risin
 
 pub returns-in-Err-Line-clause-refused : goal.returns-in-Err-Line-clause-refused
 returns-in-Err-Line-clause-refused c =
-    let number : c.args.head.line + 1 + 1 ≡ c.args.head.line + 2 = omega arith in
-    subst (λ (n : ℕ). IsBehindFail c.args.rising n (drop (c.args.head.line + 1) (lines_of c.args.bytes.now))
+    let line = c.args.text.now.head.line in
+    let number : line + 1 + 1 ≡ line + 2 = omega arith in
+    subst (λ (n : ℕ). IsBehindFail c.args.rising n (drop (line + 1) (lines_of c.args.text.now.bytes.now))
     (fails.Line c.in-Err-Line.line)) number
-    (subst (λ (behind : Lines). IsBehindFail c.args.rising (c.args.head.line + 1 + 1) behind
+    (subst (λ (behind : Lines). IsBehindFail c.args.rising (line + 1 + 1) behind
     (fails.Line c.in-Err-Line.line)) c.text_behind.ensures
-    (subst (IsBehindFail c.args.rising (c.args.head.line + 1 + 1) (lines_of c.text_behind.result.now))
+    (subst (IsBehindFail c.args.rising (line + 1 + 1) (lines_of c.text_behind.result.now))
     c.in-Err-Line.field-0-is c.in-Err-Line.ensures.fails))
 
-pub overflow_add-head : goal.overflow_add-head
-overflow_add-head c = omega (arith, c.requires.head.there, lines_few c.args.bytes.now, c.requires.few)
+pub overflow_add-text : goal.overflow_add-text
+overflow_add-text c =
+    omega (arith, c.args.text.now.cuts.there, lines_few c.args.text.now.bytes.now, c.args.text.now.few)
 
 pub unreachable-requires : goal.unreachable-requires
 unreachable-requires c =
-    subst (IsBehindFail c.args.rising (c.args.head.line + 1 + 1) (lines_of c.text_behind.result.now))
+    subst (IsBehindFail c.args.rising (c.args.text.now.head.line + 1 + 1) (lines_of c.text_behind.result.now))
     c.in-Err-Head.field-0-is c.in-Err-Head.ensures.fails

@@ -7,6 +7,6 @@ returns-in-Yes-clause-solved c =
     = c.in_ok-verdict.ensures.accepted.0 (c.in-Yes.deviation, c.in-Yes.is) in
     record {
       accepted = accepted;
-      lengths = record { count = accepted.count; small = c.requires.cert.short };
-      small = c.requires.cert.small;
+      lengths = record { count = accepted.count; small = c.requires.cert.1.reach.short };
+      small = c.requires.cert.1.reach.small;
     }

@@ -13,8 +13,9 @@ returns-in_err-deviation-clause-refused c =
     c.from_residual.ensures.1 (c.in_err-deviation.ensures.refused c.args.cut.now.layout)
 
 pub plan_over-requires-clause-lengths : goal.plan_over-requires-clause-lengths
-plan_over-requires-clause-lengths c = are_lengths c.args.cut.now.layout c.requires.net.1 (network c.args.net.now)
-    c.args.cert.now _ c.requires.net.3 c.in_ok-deviation.ensures.solved c.deref.ensures.value
+plan_over-requires-clause-lengths c =
+    are_lengths c.args.cut.now.layout c.requires.cert.settings (network c.args.net.now) c.args.cert.now _
+    c.requires.cert.of_layout c.in_ok-deviation.ensures.solved c.deref.ensures.value
 
 pub returns-in-Ok-clause-gives : goal.returns-in-Ok-clause-gives
 returns-in-Ok-clause-gives c = (
@@ -36,7 +37,7 @@ returns-in-Err-Doubled-clause-gives c =
       both.1,
       λ highest. none_doubled layout _ c.args.cert.now.x.items c.plan_over.result c.in-Err-Doubled.field-0 _ _
           c.deref.ensures.value
-          (long_lengths layout c.requires.net.1 (network c.args.net.now) c.args.cert.now c.requires.net.3
-          c.in_ok-deviation.ensures.solved highest)
+          (long_lengths layout c.requires.cert.settings (network c.args.net.now) c.args.cert.now
+          c.requires.cert.of_layout c.in_ok-deviation.ensures.solved highest)
           c.plan_over.ensures.safe c.in-Err-Doubled.is c.in-Err-Doubled.field-0-is,
     )

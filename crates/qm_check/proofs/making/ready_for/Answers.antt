@@ -13,15 +13,15 @@ use Rattle.qm_check.specs.{Least.HasNoNet, Making.IsUnmade, Ready.IsOld}
 use Rattle.qm_check.proofs.making.ready_for.Goals as goal
 
 -- The mesh is cut as the command asks.
-old_is : (c : After-new-cut) → IsOld c.args.text.now c.new-cut.result.soup
-old_is c = subst (λ (cut : CutSoup). IsOld c.args.text.now cut.soup) (sym c.new-cut.ensures) c.requires.old
+old_is : (c : After-new-cut) → IsOld c.args.text.now.bytes.now c.new-cut.result.soup
+old_is c = subst (λ (cut : CutSoup). IsOld c.args.text.now.bytes.now cut.soup) (sym c.new-cut.ensures) c.requires.old
 
 cut_is : (c : After-new-cut)
-    → IsCutBy c.args.least.now c.args.text.now c.new-cut.result (asides_of c.in_ok-asides.asides)
+    → IsCutBy c.args.least.now c.args.text.now.bytes.now c.new-cut.result (asides_of c.in_ok-asides.asides)
 cut_is c =
     let t = layout_of c.in_ok-layout.layout in
     let patches = c.args.least.now.fit.patches in
-    cut_by c.args.least.now c.args.text.now c.args.old t c.new-cut.result
+    cut_by c.args.least.now c.args.text.now.bytes.now c.args.old t c.new-cut.result
     (asides_of c.in_ok-asides.asides) c.new-cut.ensures
     c.in_ok-asides.ensures.said c.in_ok-asides.ensures.inner
     (subst (λ (fs : Faces). IsChosenLayout fs (asides_of c.in_ok-asides.asides).kept patches t) c.mesh.ensures
@@ -30,8 +30,9 @@ cut_is c =
 
 pub returns-in_err-asides-clause-unmade : goal.returns-in_err-asides-clause-unmade
 returns-in_err-asides-clause-unmade c command is =
-    handed (IsUnmade command c.args.text.now) c.from_residual.result c.in_err-asides.field-0.0 c.from_residual.ensures.1
-    (aside_unmade command c.args.line.now c.args.text.now c.args.least.now
+    handed (IsUnmade command c.args.text.now.bytes.now) c.from_residual.result c.in_err-asides.field-0.0
+    c.from_residual.ensures.1
+    (aside_unmade command c.args.line.now c.args.text.now.bytes.now c.args.least.now
     (point_of command c.args.line.now c.args.least.now is) c.args.old c.requires.old.mesh c.in_err-asides.field-0.0
     c.in_err-asides.ensures.refused)
 
@@ -47,9 +48,9 @@ returns-in_err-net-clause-unmade c command is =
     let at = (goal.at.returns-in_err-net-clause-unmade c).After-new-cut in
     let fit = c.args.least.now.fit in
     let cut = c.new-cut.result in
-    handed (IsUnmade command c.args.text.now) c.from_residual-in_err-net.result c.in_err-net.field-0.0
+    handed (IsUnmade command c.args.text.now.bytes.now) c.from_residual-in_err-net.result c.in_err-net.field-0.0
     c.from_residual-in_err-net.ensures.1
-    (net_unmade command c.args.line.now c.args.text.now c.args.least.now
+    (net_unmade command c.args.line.now c.args.text.now.bytes.now c.args.least.now
     (point_of command c.args.line.now c.args.least.now is) cut
     (asides_of c.in_ok-asides.asides) (old_is at) (cut_is at) c.in_err-net.field-0.0
     (subst (λ (ws : List ℕ). HasNoNet fit.aim (aimed fit.aim cut.soup ws) cut.layout
@@ -60,17 +61,18 @@ pub returns-clause-ready : goal.returns-clause-ready
 returns-clause-ready c command is =
     let at = (goal.at.returns-clause-ready c).After-new-cut in
     let fit = c.args.least.now.fit in
+    let text = c.args.text.now.bytes.now in
     let cut = c.new-cut.result in
     let point = point_of command c.args.line.now c.args.least.now is in
     let asides = asides_of c.in_ok-asides.asides in
     record {
-      task = task command c.args.line.now c.args.text.now c.args.least.now point cut asides (old_is at) (cut_is at);
-      only = only_for command c.args.line.now c.args.text.now c.args.least.now point cut asides (old_is at) (cut_is at)
+      task = task command c.args.line.now text c.args.least.now point cut asides (old_is at) (cut_is at);
+      only = only_for command c.args.line.now text c.args.least.now point cut asides (old_is at) (cut_is at)
           (subst (λ (ws : List ℕ). AreAimedNear fit.aim (aimed fit.aim cut.soup ws) cut.layout) c.deref.ensures.value
           c.in_ok-net.ensures.near);
       holds = record {
         laid_out =
-            laid_for command c.args.line.now c.args.text.now c.args.least.now point cut asides (old_is at) (cut_is at)
+            laid_for command c.args.line.now text c.args.least.now point cut asides (old_is at) (cut_is at)
             (record {
               terms = c.terms_of.result;
               head = c.in_ok-head.head;

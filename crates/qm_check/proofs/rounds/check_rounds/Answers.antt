@@ -50,19 +50,19 @@ told_is : (c : In-Some) → risen_by c.args.run.rounds.items (alone (lists_of c.
 told_is c = ap (λ (xs : List Round). risen_by xs (alone (lists_of c.args.run.cert))) (sym (left_is c)) ∙ risen_append
     c.rounds.passed.items (c.in-Some.round ∷ into_iter_items c.next.new.self) (alone (lists_of c.args.run.cert))
 
-pub check_lengths-requires-clause-net : goal.check_lengths-requires-clause-net
-check_lengths-requires-clause-net c = (
-  c.requires.net.0,
-  c.args.terms.settings,
-  floors_behind c.rounds.passed.items (given_floors c.args.terms.settings),
-  (c.rounds.invariant.passed c.requires.net.0 c.requires.net.1).risen,
-)
-
-pub check_lengths-requires-clause-cert : goal.check_lengths-requires-clause-cert
-check_lengths-requires-clause-cert c =
-    let at = (goal.at.check_lengths-requires-clause-cert c).In-Some in
-    (reach_behind c.args.terms.rising c.rounds.passed.items (from at)
-    (subst (AreInReach c.args.terms.rising) (told_is at) c.requires.reach)).0
+pub check_lengths-requires : goal.check_lengths-requires
+check_lengths-requires c =
+    let at = (goal.at.check_lengths-requires c).In-Some in
+    record {
+      cert = record {
+        wish = c.requires.run.wish;
+        settings = c.args.terms.settings;
+        floors = floors_behind c.rounds.passed.items (given_floors c.args.terms.settings);
+        of_layout = (c.rounds.invariant.passed c.requires.run.wish c.requires.run.of_layout).risen;
+        reach = (reach_behind c.args.terms.rising c.rounds.passed.items (from at)
+            (subst (AreInReach c.args.terms.rising) (told_is at) c.requires.run.reach)).0;
+      };
+    }
 
 pub returns-in_err-numbering-clause-unused : goal.returns-in_err-numbering-clause-unused
 returns-in_err-numbering-clause-unused c wish for =
@@ -82,7 +82,7 @@ returns-in-Whole-clause-checked c wish for =
     (checked_there wish c.args.cut.now.layout c.args.terms.settings (network c.args.net) c.rounds.passed.items
     (network c.rounds.net) (c.rounds.invariant.passed wish for) c.args.terms.rising (from at) told c.in-Some.round.cert
     (Risen c.rounds.passed c.in-Some.round.cert) c.in-Whole.numbering c.in-Whole.deviation (told_is at) refl
-    c.requires.reach refl c.in_ok-numbering.ensures.solved
+    c.requires.run.reach refl c.in_ok-numbering.ensures.solved
     (subst (Gives c.args.cut.now.layout (network c.rounds.net) c.in-Some.round.cert.x.items) c.in-Whole.is
     c.in_ok-numbering.ensures.gives))
 
@@ -100,12 +100,12 @@ doubling c wish for =
 pub check_rises-requires-clause-long : goal.check_rises-requires-clause-long
 check_rises-requires-clause-long c =
     c.in_ok-numbering.ensures.solved.accepted.count
-    ∙ (c.rounds.invariant.passed c.requires.net.0 c.requires.net.1).risen.is.long
+    ∙ (c.rounds.invariant.passed c.requires.run.wish c.requires.run.of_layout).risen.is.long
 
 pub check_rises-requires-clause-lengths : goal.check_rises-requires-clause-lengths
 check_rises-requires-clause-lengths c =
     are_lengths c.args.cut.now.layout c.args.terms.settings (network c.rounds.net) c.in-Some.round.cert
-    c.in-Some.round.cert.x.items (c.rounds.invariant.passed c.requires.net.0 c.requires.net.1).risen
+    c.in-Some.round.cert.x.items (c.rounds.invariant.passed c.requires.run.wish c.requires.run.of_layout).risen
     c.in_ok-numbering.ensures.solved refl
 
 pub returns-in_err-check_rises-clause-unused : goal.returns-in_err-check_rises-clause-unused
@@ -122,7 +122,7 @@ returns-in_err-check_rises-clause-unused c wish for =
 
 pub with_rises-net-requires : goal.with_rises-net-requires
 with_rises-net-requires c k d low =
-    let net = (c.rounds.invariant.passed c.requires.net.0 c.requires.net.1).risen in
+    let net = (c.rounds.invariant.passed c.requires.run.wish c.requires.run.of_layout).risen in
     let long : length (network c.rounds.net).arcs ≡ (gluing_of c.args.cut.now.layout).arcs = net.is.long in
     let same = c.deref.ensures.value in
     let there = needed_there (gluing_of c.args.cut.now.layout) (lengths_in c.in-Some.round.cert.x.items)
@@ -168,17 +168,17 @@ all_passed c =
     (sym c.rounds.invariant.left ∙ (ap (λ (xs : List Round). c.rounds.passed.items ++ xs) none
     ∙ append-nil c.rounds.passed.items))
 
-pub check_lengths-requires-2-clause-net : goal.check_lengths-requires-2-clause-net
-check_lengths-requires-2-clause-net c = (
-  c.requires.net.0,
-  c.args.terms.settings,
-  floors_behind c.rounds.passed.items (given_floors c.args.terms.settings),
-  (c.rounds.invariant.passed c.requires.net.0 c.requires.net.1).risen,
-)
-
-pub check_lengths-requires-2-clause-cert : goal.check_lengths-requires-2-clause-cert
-check_lengths-requires-2-clause-cert c =
-    reach_behind c.args.terms.rising c.args.run.rounds.items (alone (lists_of c.args.run.cert)) c.requires.reach
+pub check_lengths-requires-2 : goal.check_lengths-requires-2
+check_lengths-requires-2 c = record {
+  cert = record {
+    wish = c.requires.run.wish;
+    settings = c.args.terms.settings;
+    floors = floors_behind c.rounds.passed.items (given_floors c.args.terms.settings);
+    of_layout = (c.rounds.invariant.passed c.requires.run.wish c.requires.run.of_layout).risen;
+    reach = reach_behind c.args.terms.rising c.args.run.rounds.items (alone (lists_of c.args.run.cert))
+        c.requires.run.reach;
+  };
+}
 
 pub returns-in_err-numbering-2-clause-unused : goal.returns-in_err-numbering-2-clause-unused
 returns-in_err-numbering-2-clause-unused c wish for =
@@ -198,7 +198,7 @@ returns-in-Whole-2-clause-checked c wish for =
     (checked_there wish c.args.cut.now.layout c.args.terms.settings (network c.args.net) c.rounds.passed.items
     (network c.rounds.net) (c.rounds.invariant.passed wish for) c.args.terms.rising (alone (lists_of c.args.run.cert))
     told c.args.run.cert (Risen c.rounds.passed c.args.run.cert) c.in-Whole-2.numbering c.in-Whole-2.deviation
-    (all_passed (goal.at.returns-in-Whole-2-clause-checked c).In-None) refl c.requires.reach refl
+    (all_passed (goal.at.returns-in-Whole-2-clause-checked c).In-None) refl c.requires.run.reach refl
     c.in_ok-numbering-2.ensures.solved
     (subst (Gives c.args.cut.now.layout (network c.rounds.net) c.args.run.cert.x.items) c.in-Whole-2.is
     c.in_ok-numbering-2.ensures.gives))
