@@ -57,10 +57,14 @@ pub(crate) fn tell_certificate(rt: &HostRuntime, writes: bool, times: u32) -> io
     let Some(first) = last_head(&lines) else {
         return Ok(ExitCode::from(2));
     };
+    let text = HeadedText {
+        lines: &lines,
+        first,
+    };
     let told = if writes {
-        write_often(rt.alloc(), &lines, first, times)
+        write_often(rt.alloc(), &text, times)
     } else {
-        read_often(rt.alloc(), &lines, first, times)
+        read_often(rt.alloc(), &text, times)
     };
     match told {
         Ok(
@@ -78,22 +82,26 @@ pub(crate) fn tell_certificate(rt: &HostRuntime, writes: bool, times: u32) -> io
     }
 }
 
+/// The lines of a text, and which of them is the head line.
+#[derive(Clone, Copy)]
+struct HeadedText<'a> {
+    lines: &'a Lines,
+    first: u32,
+    ghost there: { first < length (lines_of lines.now) },
+}
+
 /// Reads the certificate so often, and writes it once.
-fn read_often(alloc: Global, lines: &Lines, first: u32, times: u32) -> Result<Counts, Fail>
-    requires { first < length (lines_of lines.now) }
-{
-    let mut written = read_written(alloc, lines, first)?;
+fn read_often(alloc: Global, text: &HeadedText, times: u32) -> Result<Counts, Fail> {
+    let mut written = read_written(alloc, text.lines, text.first)?;
     for _ in 1..times {
-        written = read_written(alloc, lines, first)?;
+        written = read_written(alloc, text.lines, text.first)?;
     }
     counts_of(alloc, &written, 1)
 }
 
 /// Reads the certificate once, and writes it so often.
-fn write_often(alloc: Global, lines: &Lines, first: u32, times: u32) -> Result<Counts, Fail>
-    requires { first < length (lines_of lines.now) }
-{
-    let written = read_written(alloc, lines, first)?;
+fn write_often(alloc: Global, text: &HeadedText, times: u32) -> Result<Counts, Fail> {
+    let written = read_written(alloc, text.lines, text.first)?;
     counts_of(alloc, &written, times)
 }
 

@@ -4,7 +4,7 @@ use crate::graphs::multiple;
 use crate::left::deviation_of;
 use crate::rounds::descend;
 use def_flow::MAX_TANGLE;
-use qm_net::{BoundedNet, is_within_bounds, tangle_of};
+use qm_net::{BoundedNet, LooseNet, is_within_bounds, tangle_of};
 use qm_nettext::{NetFail, read_net};
 use qm_solve::{first_descent, is_start, start_of};
 use qm_warmstart::Start;
@@ -51,7 +51,7 @@ pub(crate) fn tell_descent(
     if !is_start(&bounded, &start.lengths) {
         return Ok(ExitCode::from(5));
     }
-    let mut descent = first_descent(&bounded, start);
+    let mut descent = first_descent(&LooseNet { whole: &net }, start);
     println!(rt; "tangle: {tangle}\nstart: {}", deviation_of(&descent))?;
     let rounds = descend(rt, &mut descent)?;
     let least = deviation_of(&descent);

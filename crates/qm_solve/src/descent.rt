@@ -12,7 +12,7 @@ use crate::Memory;
 use crate::round::{Round, improve};
 use def_flow::{Arc, Cert, MAX_OLD, MAX_SCALE, MAX_STEP, Net};
 use def_matching::Dual;
-use qm_net::BoundedNet;
+use qm_net::{BoundedNet, LooseNet};
 use qm_warmstart::Start;
 use std::alloc::Global;
 
@@ -20,11 +20,10 @@ use std::alloc::Global;
 /// rounds of step 1, where any are known.
 #[derive(Debug, Drop)]
 pub struct Descent<'a> {
-    pub net: BoundedNet<'a>,
+    pub net: LooseNet<'a>,
     pub x: Vec<u64>,
     pub step: u64,
     pub prices: Vec<i64>,
-    pub ghost tangle: { tangle_number (network net.whole.now) ≤ MAX_TANGLE },
     pub ghost start: { IsStartOf (network net.whole.now) x.items },
     pub ghost steps: { (1 ≤ step) × (step ≤ MAX_STEP) },
 }
@@ -43,13 +42,12 @@ pub fn solve_from(alloc: Global, net: &Net, start: &[u64]) -> Result<Cert, Memor
         lengths: Vec::from_slice(alloc, start)?,
         prices: Vec::new(alloc),
     };
-    descend(alloc, &BoundedNet { whole: net }, start)
+    descend(alloc, &LooseNet { whole: net }, start)
 }
 
 /// The descent from an admissible list.
-pub(crate) fn descend(alloc: Global, net: &BoundedNet, start: Start) -> Result<Cert, Memory>
-    requires tangle { tangle_number (network net.now.whole.now) ≤ MAX_TANGLE }
-    requires start { IsStartOf (network net.now.whole.now) start.lengths.items }
+pub(crate) fn descend(alloc: Global, net: &LooseNet, start: Start) -> Result<Cert, Memory>
+    requires { IsStartOf (network net.now.whole.now) start.lengths.items }
     ensures { IfOk result (λ cert. IsSolution (network net.now.whole.now) (certificate cert)) }
 {
     let mut descent = first_descent(net, start);
@@ -63,22 +61,20 @@ pub(crate) fn descend(alloc: Global, net: &BoundedNet, start: Start) -> Result<C
 
 /// A descent that has not begun. A list with prices is near a least one, and its prices are those of steps of 1, so
 /// they are taken at once. Linear.
-pub fn first_descent<'a>(net: &BoundedNet<'a>, start: Start) -> Descent<'a>
-    requires tangle { tangle_number (network net.now.whole.now) ≤ MAX_TANGLE }
-    requires start { IsStartOf (network net.now.whole.now) start.lengths.items }
+pub fn first_descent<'a>(net: &LooseNet<'a>, start: Start) -> Descent<'a>
+    requires { IsStartOf (network net.now.whole.now) start.lengths.items }
     ensures { result.net.whole.now ≡ net.now.whole.now }
 {
-    let step = if start.prices.is_empty() {
-        first_step(net, &start.lengths)
-    } else {
-        1
-    };
-    Descent {
+    let mut descent = Descent {
         net: *net,
         x: start.lengths,
-        step,
+        step: 1,
         prices: start.prices,
+    };
+    if descent.prices.is_empty() {
+        descent.step = first_step(&descent);
     }
+    descent
 }
 
 /// One round: where it finds no better list with step 1, the dual of its matching makes the list's certificate. Else
@@ -104,13 +100,15 @@ pub fn turn(alloc: Global, descent: &mut Descent) -> Result<Option<Dual>, Memory
 }
 
 /// The first step: the greatest power of two that some arc is twice as far from what is wanted. Linear.
-fn first_step(net: &BoundedNet, start: &[u64]) -> u64
-    requires { IsStartOf (network net.now.whole.now) start.now }
+fn first_step(descent: &Descent) -> u64
     ensures { (1 ≤ result) × (result ≤ MAX_STEP) }
 {
+    let net = BoundedNet {
+        whole: descent.net.whole,
+    };
     let mut step = 1;
     for (k, arc) in net.whole.arcs.iter().enumerate() {
-        step = longer_step(step, distance(net, arc, start[k]));
+        step = longer_step(step, distance(&net, arc, descent.x[k]));
     }
     step
 }

@@ -7,11 +7,13 @@ use def_flow::{Arc, End, Gadget, Net};
 use qm_initial::MAX_WISH;
 use std::alloc::{AllocError, Global};
 
-/// Numbers for the vertices of a matching graph, in order. Those so far have their wishes, and the others 0.
+/// Numbers for the vertices of a matching graph, in order, none too far from 0. Those so far have their wishes, and the
+/// others 0.
 #[derive(Drop)]
 struct Wishes {
     numbers: Vec<i64>,
     next: usize,
+    ghost near: { AreNear numbers.items },
 }
 
 /// The wishes for the matching graph of a list. Its vertices are the copies of the nodes, then those of the units of
@@ -66,9 +68,7 @@ fn count_active(copies: &mut [u32], end: &End, on: u32, off: u32) {
 
 /// The prices of the nodes, at their copies.
 fn put_copies(wishes: &mut Wishes, copies: &[u32], prices: &[i64])
-    requires { AreNear wishes.old.numbers.items }
-    ensures long { length wishes.new.numbers.items ≡ length wishes.old.numbers.items }
-    ensures wishes { AreNear wishes.new.numbers.items }
+    ensures { length wishes.new.numbers.items ≡ length wishes.old.numbers.items }
 {
     for (node, many) in copies.iter().enumerate() {
         let price = prices.get(node).copied().unwrap_or(0);
@@ -80,9 +80,7 @@ fn put_copies(wishes: &mut Wishes, copies: &[u32], prices: &[i64])
 
 /// The wishes for the units of an arc.
 fn put_units(wishes: &mut Wishes, net: &Net, gadget: &Gadget, k: usize, arc: &Arc)
-    requires { AreNear wishes.old.numbers.items }
-    ensures long { length wishes.new.numbers.items ≡ length wishes.old.numbers.items }
-    ensures wishes { AreNear wishes.new.numbers.items }
+    ensures { length wishes.new.numbers.items ≡ length wishes.old.numbers.items }
 {
     let most = MAX_WISH as i64;
     let mut lower = gadget.low.get(k).copied().unwrap_or(0);
@@ -126,9 +124,7 @@ fn deviation_at(net: &Net, arc: &Arc, length: u64) -> u64 {
 
 /// The wish of the next vertex, or the nearest that may be wished.
 fn put(wishes: &mut Wishes, wish: i64)
-    requires { AreNear wishes.old.numbers.items }
-    ensures long { length wishes.new.numbers.items ≡ length wishes.old.numbers.items }
-    ensures wishes { AreNear wishes.new.numbers.items }
+    ensures { length wishes.new.numbers.items ≡ length wishes.old.numbers.items }
 {
     let most = MAX_WISH as i64;
     if wishes.next < wishes.numbers.len() {

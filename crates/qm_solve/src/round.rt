@@ -16,6 +16,7 @@ use qm_dual::SmallGraph;
 use qm_gadget::{graph_of, lengths_of, matching_of};
 use qm_initial::{MAX_WISH, least_costs};
 use qm_match::{best_near, cost_of};
+use qm_net::BoundedNet;
 use std::alloc::Global;
 
 /// What a round finds: a list of less deviation, or a dual by which no list a few steps away has less.
@@ -30,16 +31,18 @@ pub(crate) fn improve(alloc: Global, descent: &Descent) -> Result<Round, Memory>
     ensures { IfOk result (λ round.
         IsRound (network descent.now.net.whole.now) descent.now.step descent.now.x.items round) }
 {
-    let net = &descent.net;
-    let gadget = graph_of(alloc, net, &descent.x, descent.step)?;
+    let net = BoundedNet {
+        whole: descent.net.whole,
+    };
+    let gadget = graph_of(alloc, &net, &descent.x, descent.step)?;
     let graph = SmallGraph {
         whole: &gadget.graph,
     };
-    let known = matching_of(alloc, net, &gadget, &descent.x)?;
+    let known = matching_of(alloc, &net, &gadget, &descent.x)?;
     let wish = first_wishes(alloc, net.whole, &gadget, &descent.prices)?;
     let (edges, dual) = best_near(alloc, &graph, &known, &wish)?;
     if cost_of(&graph, &edges) < cost_of(&graph, &known) {
-        let x = lengths_of(alloc, net, &gadget, &edges)?;
+        let x = lengths_of(alloc, &net, &gadget, &edges)?;
         Ok(Round::Better { x })
     } else {
         let dual = without_idle_sets(alloc, &graph, dual)?;

@@ -12,7 +12,7 @@ ghost use Rattle.qm_solve.specs.Rounds.{is_near_arc};
 use crate::Memory;
 use crate::descent::descend;
 use def_flow::{Arc, Cert, MAX_LENGTH, MAX_TANGLE, Net};
-use qm_net::{BoundedNet, admissible, are_lengths, deviation};
+use qm_net::{BoundedNet, LooseNet, admissible, are_lengths, deviation};
 use qm_warmstart::{Start, near_start};
 use std::alloc::Global;
 
@@ -24,9 +24,8 @@ pub fn solve(alloc: Global, net: &Net) -> Result<Cert, Memory>
     requires tangle { tangle_number (network net.now) ≤ MAX_TANGLE }
     ensures { IfOk result (λ cert. IsSolution (network net.now) (certificate cert)) }
 {
-    let net = BoundedNet { whole: net };
-    let start = start_of(alloc, &net)?;
-    descend(alloc, &net, start)
+    let start = start_of(alloc, &BoundedNet { whole: net })?;
+    descend(alloc, &LooseNet { whole: net }, start)
 }
 
 /// The same for any network: where no list near what is wanted is found, the descent begins at `start`.
@@ -36,9 +35,8 @@ pub fn solve_near(alloc: Global, net: &Net, start: Vec<u64>) -> Result<Cert, Mem
     requires start { IsStartOf (network net.now) start.items }
     ensures { IfOk result (λ cert. IsSolution (network net.now) (certificate cert)) }
 {
-    let net = BoundedNet { whole: net };
-    let start = near_or(alloc, &net, start)?;
-    descend(alloc, &net, start)
+    let start = near_or(alloc, &BoundedNet { whole: net }, start)?;
+    descend(alloc, &LooseNet { whole: net }, start)
 }
 
 /// The list that `solve` starts from: one near what is wanted where that serves, and else a multiple of the old

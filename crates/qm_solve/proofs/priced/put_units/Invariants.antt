@@ -1,8 +1,6 @@
 use Rattle.std.proofs.Common.{◌≡◌, length}
-use Rattle.qm_initial.specs.Lowered.{AreNear}
 use Rattle.qm_solve.proofs.priced.put_units.Given as goal
 
--- As many numbers as before, none too far from 0.
+-- As many numbers as before.
 abbrev pub invariant-loop : goal.invariant-loop
-invariant-loop l = (length l.wishes.numbers.items ≡ length l.initial.wishes.numbers.items)
-    × AreNear l.wishes.numbers.items
+invariant-loop l = length l.wishes.numbers.items ≡ length l.initial.wishes.numbers.items
