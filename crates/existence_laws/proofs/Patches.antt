@@ -8,7 +8,7 @@ use Rattle.def_cut.specs.{Cuts.IsCorner, Cuts.Links, FullCut.is_on, Grids.IsPart
 use Rattle.def_mesh.specs.{Darts.darts, Darts.prev_of, Faces.Faces, HalfEdges.half_edges}
 use Rattle.cut_laws.specs.Grown.{IsGrown}
 use Rattle.cut_laws.proofs.{Classes.linked_back, Classes.links_join, Grown.grow}
-use Rattle.def_cutting.specs.Cutting.{IsCutting}
+use Rattle.def_known.specs.Cutting.{IsCutting}
 use Rattle.qm_grid.specs.{Cells.grid_list, Heads.lies_in, Heads.AreOfOne, Heads.IsHead}
 use Rattle.qm_grid.proofs.Found.{found_done, found_more, found_none, found_skip, AreFoundSoFar}
 use Rattle.qm_grid.proofs.{HeadTables.to_first, Laid.lies_linked, Laid.linked_lies}

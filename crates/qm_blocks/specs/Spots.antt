@@ -13,7 +13,7 @@ use Rattle.def_remesh.specs.Numberings.{sizes_on, used_at}
 use Rattle.def_blocks.specs.Links.{first_point, side_name}
 use Rattle.def_blocks.specs.declared.link.Link.{Link}
 use Rattle.def_blocks.specs.declared.link.SideName.{SideName}
-use Rattle.qm_offsets.specs.Fours.{AreSides}
+use Rattle.def_known.specs.Sides.{AreSides}
 
 -- A layout whose sides are whole, with a length for each of its arcs: its patches are few, and its sides not too long.
 pub record IsMeasured (layout : Layout) (lengths : List ℕ) : Type 0 where

@@ -13,7 +13,7 @@ use Rattle.cut_laws.proofs.Classes.{linked_back}
 use Rattle.cut_laws.proofs.Leasts.{least_high, least_low}
 use Rattle.cut_laws.proofs.OneList.{AreTiles, LiesInPatch, least_at, place_row, place_is, shared, once}
 use Rattle.face_laws.proofs.Fans.{same_face}
-use Rattle.def_cutting.specs.Cutting.{IsCutting}
+use Rattle.def_known.specs.Cutting.{IsCutting}
 use Rattle.qm_grid.specs.{Cells.grid_list, Heads.lies_in, Heads.AreOfOne, Heads.IsHead}
 use Rattle.qm_grid.proofs.Laid.{grid_long, cells_low, lies_at, at_lies, linked_lies, laid_patch}
 

@@ -7,7 +7,7 @@ use Rattle.def_cut.specs.{Cuts.Links, Cuts.IsCorner, FullCut.is_on, Steps.spin}
 use Rattle.cut_laws.specs.Grown.{IsGrown}
 use Rattle.cut_laws.proofs.Classes.{links_join, linked_back, step_spin}
 use Rattle.face_laws.proofs.Fans.{same_face}
-use Rattle.def_cutting.specs.Cutting.{IsCutting}
+use Rattle.def_known.specs.Cutting.{IsCutting}
 use Rattle.qm_grid.specs.{Cells.grid_list, Heads.lies_in, Heads.AreOfOne, Heads.IsHead}
 use Rattle.qm_grid.specs.Heads.{AreHeadsSoFar}
 use Rattle.qm_grid.proofs.Laid.{lies_linked, linked_lies}

@@ -15,7 +15,7 @@ use Rattle.cut_laws.proofs.{Classes.links_join, Classes.step_spin, Classes.at_mo
 use Rattle.cut_laws.proofs.OneList.{place_is}
 use Rattle.face_laws.proofs.Fans.{same_face}
 use Rattle.mesh_laws.proofs.Darts.{next_face}
-use Rattle.def_cutting.specs.Cutting.{IsCutting}
+use Rattle.def_known.specs.Cutting.{IsCutting}
 use Rattle.qm_grid.specs.{Cells.row_list, Cells.grid_list, Heads.lies_in, Heads.AreOfOne}
 use Rattle.qm_grid.specs.Heads.{IsHead}
 

@@ -7,7 +7,7 @@ ghost use Rattle.def_mesh.specs.Vertices.{vertex_count};
 ghost use Rattle.def_cut.specs.Cuts.{IsCorner};
 ghost use Rattle.def_cut.specs.FullCut.{is_on};
 ghost use Rattle.def_cut.specs.Steps.{step_east, step_north};
-ghost use Rattle.def_cutting.specs.Cutting.{IsCutting};
+ghost use Rattle.def_known.specs.Cutting.{IsCutting};
 
 use qm_mesh::Mesh;
 use std::marker::Model;
@@ -20,7 +20,7 @@ pub struct Cutting<'a> {
 }
 
 impl<'a> Model for Cutting<'a> {
-    ghost use Rattle.def_cutting.specs.Cutting.{CutFaces, IsCutting};
+    ghost use Rattle.def_known.specs.Cutting.{CutFaces, IsCutting};
 
     ghost Value = { CutFaces };
 

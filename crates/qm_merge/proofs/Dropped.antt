@@ -9,7 +9,7 @@ use Rattle.merge_laws.proofs.{Sides.StandsOn, ArcDarts.on_cut, ArcDarts.less, Ar
 use Rattle.merge_laws.proofs.{ArcDarts.turned_arc, Joins.join_law, Arcs.name_there, Arcs.grown_law}
 use Rattle.def_merge.specs.Joins.{IsJoinable, IsOnArc, IsNameOf, IsWithout}
 use Rattle.def_merge.specs.Merged.{IsStep, MayLeave}
-use Rattle.def_cutting.specs.Cutting.{IsCutting}
+use Rattle.def_known.specs.Cutting.{IsCutting}
 use Rattle.qm_merge.specs.{Links.IsRound, Seams.IsSeam, Waiting.IsNoted, Waiting.WaitStill, Waiting.mark_count}
 use Rattle.qm_merge.specs.{declared.links.Round.Round, declared.seams.Place.Place}
 use Rattle.feature_laws.proofs.Conforming.{mark_low}

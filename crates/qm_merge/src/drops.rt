@@ -6,7 +6,7 @@ ghost use Rattle.def_mesh.specs.HalfEdges.{half_edges};
 ghost use Rattle.def_cut.specs.FullCut.{is_on};
 ghost use Rattle.def_cut.specs.Steps.{step_east};
 ghost use Rattle.def_merge.specs.Joins.{IsWithout};
-ghost use Rattle.def_cutting.specs.Cutting.{IsCutting};
+ghost use Rattle.def_known.specs.Cutting.{IsCutting};
 ghost use Rattle.qm_merge.specs.Seams.{IsSeam};
 
 use crate::seams::Seam;

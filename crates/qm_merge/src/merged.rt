@@ -11,7 +11,7 @@ ghost use Rattle.def_merge.specs.Beside.{may_beside};
 ghost use Rattle.def_feature.specs.Beside.{IsCutBeside};
 ghost use Rattle.def_feature.specs.Marks.{AreMarks, is_break};
 ghost use Rattle.qm_merge.specs.Beside.{IsBeside};
-ghost use Rattle.def_cutting.specs.Cutting.{IsCutting};
+ghost use Rattle.def_known.specs.Cutting.{IsCutting};
 ghost use Rattle.qm_merge.specs.Links.{AreTied, at};
 ghost use Rattle.qm_merge.specs.Seams.{IsSeam};
 ghost use Rattle.qm_merge.specs.Waiting.{AreBelow, WaitStill, left_over};

@@ -9,7 +9,7 @@ use Rattle.def_layout.specs.{Layouts.way_number}
 use Rattle.def_layout.specs.{Layouts.side_at, declared.tmesh.SideArc.SideArc}
 use Rattle.def_remesh.specs.Numberings.{sizes_on, used_at}
 use Rattle.def_layoutnet.specs.MeshLayouts.{IsSomeLayout}
-use Rattle.qm_offsets.specs.Fours.{AreSides}
+use Rattle.def_known.specs.Sides.{AreSides}
 pub use Rattle.embedding_laws.proofs.MeshLayouts.{laid_of, lengths_of, lies}
 
 -- The arcs that sides use.

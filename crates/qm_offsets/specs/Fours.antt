@@ -1,9 +1,8 @@
 -- The tables of the four sides of a patch.
-use Rattle.std.specs.Prelude.{◌≡◌, ◌<◌, ℕ, List, [], length, map, slice_index_or}
-use Rattle.def_layout.specs.Surfaces.{HasWholeSides}
+use Rattle.std.specs.Prelude.{◌≡◌, ℕ, List, [], length, map, slice_index_or}
 use Rattle.def_layout.specs.Gluings.{Way}
 use Rattle.def_layout.specs.Lengths.{Lengths}
-use Rattle.def_layout.specs.Layouts.{Layout, gluing_of, way_number, side_at}
+use Rattle.def_layout.specs.Layouts.{Layout, way_number, side_at}
 use Rattle.def_layout.specs.declared.tmesh.SideArc.{SideArc}
 use Rattle.def_remesh.specs.Numberings.{sizes_on, AreRunStarts}
 use Rattle.def_remesh.specs.declared.tables.RunStarts.{RunStarts}
@@ -27,9 +26,3 @@ pub record AreFourStarts (layout : Layout) (lengths : Lengths) (patch : ℕ) (fo
   pub each : (side : Way)
       → AreRunStarts (sizes_on (side_at layout patch side) lengths) (length (side_at layout patch side))
       (slice_index_or four (way_number side) [])
-
--- Each patch has four sides, which are not empty and name arcs that exist.
-pub record AreSides (layout : Layout) : Type 0 where
-  pub sided : length layout.sides ≡ length layout.patches
-  pub four : (patch : ℕ) → patch < length layout.patches → length (slice_index_or layout.sides patch []) ≡ 4
-  pub paved : HasWholeSides (gluing_of layout)

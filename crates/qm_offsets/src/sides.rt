@@ -11,7 +11,8 @@ ghost use Rattle.def_layout.specs.declared.tmesh.SideArc.{SideArc as Used};
 ghost use Rattle.def_layoutnet.specs.MeshLayouts.{IsSomeLayout};
 ghost use Rattle.def_remesh.specs.NewPoints.{lengths_in};
 ghost use Rattle.def_remesh.specs.Numberings.{sizes_on, tables_of, AreSideStarts, AreRunStarts};
-ghost use Rattle.qm_offsets.specs.Fours.{begins_of, AreFourStarts, AreSides, IsTableOf};
+ghost use Rattle.def_known.specs.Sides.{AreSides};
+ghost use Rattle.qm_offsets.specs.Fours.{begins_of, AreFourStarts, IsTableOf};
 
 use crate::starts::{no_starts, push_start};
 use crate::summed::Summed;

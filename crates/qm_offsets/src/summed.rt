@@ -5,7 +5,7 @@ ghost use Rattle.def_layout.specs.Gluings.{Way};
 ghost use Rattle.def_layout.specs.Lengths.{size};
 ghost use Rattle.def_layout.specs.Layouts.{gluing_of, layout_of};
 ghost use Rattle.def_remesh.specs.NewPoints.{lengths_in};
-ghost use Rattle.qm_offsets.specs.Fours.{AreSides};
+ghost use Rattle.def_known.specs.Sides.{AreSides};
 
 use def_layout::TMesh;
 

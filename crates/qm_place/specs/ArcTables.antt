@@ -12,7 +12,7 @@ use Rattle.def_remesh.specs.declared.limits.TheConstants.{MAX_NEW_FACES}
 use Rattle.def_written.specs.NewFaces.{face_count}
 use Rattle.def_written.specs.Numbers.{vertices}
 use Rattle.def_written.specs.Spacings.{IsSpacing}
-use Rattle.qm_offsets.specs.Fours.{AreSides}
+use Rattle.def_known.specs.Sides.{AreSides}
 
 -- Lengths for a layout that give no more faces than a new mesh may have. As that is the layout of a mesh, its arcs and
 -- sides are short, the new points are few, and they can be spaced by all shares.

@@ -8,7 +8,7 @@ use Rattle.def_written.specs.Numbers.{vertices}
 use Rattle.def_remesh.specs.NewPoints.{lengths_in}
 use Rattle.def_remesh.specs.Numberings.{tables_of, AreRunStarts, AreSideStarts}
 use Rattle.def_remesh.specs.declared.tables.Tables.{Tables}
-use Rattle.qm_offsets.specs.Fours.{AreSides}
+use Rattle.def_known.specs.Sides.{AreSides}
 
 -- The tables number the points and the faces of the layout, which is that of a surface, with the lengths that they
 -- hold, and all numbers are small.

@@ -1,5 +1,5 @@
 use Rattle.std.proofs.Common.{Bool, List, sym, subst}
-use Rattle.def_cutting.specs.Cutting.{IsCutting}
+use Rattle.def_known.specs.Cutting.{IsCutting}
 use Rattle.qm_grid.proofs.Cuttings.{to_cutting}
 use Rattle.qm_grid.proofs.by_face.patches.Goals as goal
 

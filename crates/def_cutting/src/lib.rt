@@ -1,2 +1,0 @@
-//! Meshes with a full cut: each with the facts that make it one.
-#![tactic(auto)]
