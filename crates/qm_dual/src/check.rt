@@ -5,10 +5,11 @@ ghost use Rattle.std.specs.Prelude.{slice_index_or, int_lt, IfOk, IfNone, IfSome
 ghost use Rattle.def_math.specs.Searches.{least};
 ghost use Rattle.def_matching.specs.Dual.{dual, verdict, shape_fault, is_odd_size, is_up, IsSmallDual};
 ghost use Rattle.def_matching.specs.Matching.{matching_cost, IsPerfect};
+ghost use Rattle.def_matching.specs.declared.limits.TheConstants.{MAX_SETS, MAX_VERTICES};
 ghost use Rattle.qm_dual.specs.Nest.{IsNest};
 
-use crate::loads::{Tables, check_loads};
-use crate::nest::Nested;
+use crate::loads::{Judged, Tables, check_loads};
+use crate::nest::{Nested, Numbered};
 use crate::paths::path_heads;
 use crate::sizes::set_sizes;
 use crate::small::SmallGraph;
@@ -33,15 +34,16 @@ pub fn dual_ok(alloc: Global, g: &SmallGraph, d: &Dual) -> Result<Verdict, Memor
     if let Some(index) = shape_fault_of(g.n(), d) {
         return Ok(Verdict::Shape { index });
     }
-    check_sets(alloc, g, &Nested { n: g.n(), whole: d })
+    let d = Nested { n: g.n(), whole: d };
+    check_sets(alloc, &Judged { g, d })
 }
 
 /// The verdict on a dual of the right shape.
-fn check_sets(alloc: Global, g: &SmallGraph, d: &Nested) -> Result<Verdict, Memory>
-    requires { d.now.n ≡ g.now.graph.n }
-    ensures { IfOk result (λ v. v ≡ verdict g.now.graph (dual d.now.whole.now)) }
+fn check_sets(alloc: Global, judged: &Judged) -> Result<Verdict, Memory>
+    ensures { IfOk result (λ v. v ≡ verdict judged.now.g.now.graph (dual judged.now.d.whole.now)) }
 {
-    let sizes = set_sizes(alloc, d)?;
+    let d = judged.d;
+    let sizes = set_sizes(alloc, &d)?;
     if let Some(set) = even_set(&sizes) {
         let size = sizes[set as usize];
         return Ok(Verdict::Even { set, size });
@@ -49,9 +51,10 @@ fn check_sets(alloc: Global, g: &SmallGraph, d: &Nested) -> Result<Verdict, Memo
     if let Some(set) = negative_set(&d.whole.z) {
         return Ok(Verdict::Negative { set });
     }
-    let sums = nested_sums(alloc, d)?;
-    let heads = path_heads(alloc, d, &sizes)?;
-    Ok(check_loads(g, d, &Tables { sums, heads }))
+    let sums = nested_sums(alloc, &d)?;
+    let sized = Numbered { d, numbers: &sizes };
+    let heads = path_heads(alloc, &sized)?;
+    Ok(check_loads(judged, &Tables { sums, heads }))
 }
 
 /// Where the lists of a dual have the wrong lengths, or else the least place at which `up` is out of range.
@@ -68,18 +71,32 @@ fn shape_fault_of(n: u32, d: &Dual) -> Option<u32>
     if d.up.len() != n as usize + d.z.len() {
         return Some(n + 1);
     }
-    place_fault_of(n, d.z.len() as u32, &d.up)
+    place_fault_of(&Places {
+        n,
+        sets: d.z.len() as u32,
+        up: &d.up,
+    })
+}
+
+/// An entry for each of so many vertices and of so many sets.
+#[derive(Clone, Copy)]
+struct Places<'a> {
+    n: u32,
+    sets: u32,
+    up: &'a [u32],
+    ghost few: { n ≤ MAX_VERTICES },
+    ghost some: { sets ≤ MAX_SETS },
+    ghost whole: { length up.now ≡ n + sets },
 }
 
 /// The least place whose entry names no set, or one that comes no later.
-fn place_fault_of(n: u32, sets: u32, up: &[u32]) -> Option<u32>
-    requires few { n ≤ MAX_VERTICES }
-    requires some { sets ≤ MAX_SETS }
-    requires whole { length up.now ≡ n + sets }
-    ensures { result ≡ least (λ i. not (is_up n sets i (slice_index up.now i))) (n + sets) }
+fn place_fault_of(places: &Places) -> Option<u32>
+    ensures { result
+        ≡ least (λ i. not (is_up places.now.n places.now.sets i (slice_index places.now.up.now i)))
+        (places.now.n + places.now.sets) }
 {
-    for (i, entry) in up.iter().enumerate() {
-        if !may_stand(n, sets, i as u32, *entry) {
+    for (i, entry) in places.up.iter().enumerate() {
+        if !may_stand(places.n, places.sets, i as u32, *entry) {
             return Some(i as u32);
         }
     }

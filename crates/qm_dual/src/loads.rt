@@ -18,18 +18,26 @@ pub(crate) struct Tables {
     pub heads: Vec<u32>,
 }
 
+/// A dual over the vertices of a graph.
+#[derive(Clone, Copy)]
+pub(crate) struct Judged<'g, 'w, 'd> {
+    pub g: &'g SmallGraph<'w>,
+    pub d: Nested<'d>,
+    ghost over: { d.n ≡ g.now.graph.n },
+}
+
 /// The verdict on a dual whose sets are in order: the least edge whose load is above twice its cost, or the sum.
-pub(crate) fn check_loads(g: &SmallGraph, d: &Nested, tables: &Tables) -> Verdict
-    requires over { d.now.n ≡ g.now.graph.n }
-    requires tables { AreTables d.now.n (dual d.now.whole.now) tables.now.sums.items tables.now.heads.items }
-    ensures { result ≡ refuse (short_fault g.now.graph (dual d.now.whole.now))
-        (λ k. Verdict.Short k (load g.now.graph.n (dual d.now.whole.now) (edge_at g.now.graph k))
-        (pos 2 *ℤ (edge_at g.now.graph k).cost))
-        (Verdict.Yes (dual_sum (dual d.now.whole.now))) }
+pub(crate) fn check_loads(judged: &Judged, tables: &Tables) -> Verdict
+    requires { AreTables judged.now.d.n (dual judged.now.d.whole.now) tables.now.sums.items tables.now.heads.items }
+    ensures { result ≡ refuse (short_fault judged.now.g.now.graph (dual judged.now.d.whole.now))
+        (λ k. Verdict.Short k
+        (load judged.now.g.now.graph.n (dual judged.now.d.whole.now) (edge_at judged.now.g.now.graph k))
+        (pos 2 *ℤ (edge_at judged.now.g.now.graph k).cost))
+        (Verdict.Yes (dual_sum (dual judged.now.d.whole.now))) }
 {
-    for k in 0..g.edge_count() {
-        let edge = g.edge(k);
-        let load = load_of(d, tables, &edge);
+    for k in 0..judged.g.edge_count() {
+        let edge = judged.g.edge(k);
+        let load = load_of(&judged.d, tables, &edge);
         let cost = 2 * i128::from(edge.cost);
         if load > cost {
             return Verdict::Short {
@@ -40,7 +48,7 @@ pub(crate) fn check_loads(g: &SmallGraph, d: &Nested, tables: &Tables) -> Verdic
         }
     }
     Verdict::Yes {
-        sum: sum_of_dual(d),
+        sum: sum_of_dual(&judged.d),
     }
 }
 

@@ -16,6 +16,14 @@ pub(crate) struct Nested<'a> {
     ghost small: { IsSmallDual (dual whole.now) },
 }
 
+/// For each set of a dual a number.
+#[derive(Clone, Copy)]
+pub(crate) struct Numbered<'d, 'n> {
+    pub d: Nested<'d>,
+    pub numbers: &'n [u32],
+    ghost same: { length numbers.now ≡ length d.whole.now.z.items },
+}
+
 /// The smallest set around a vertex, from 1, or 0 if there is none.
 pub(crate) fn set_around_vertex(d: &Nested, v: u32) -> u32
     requires { v < d.now.n }

@@ -5,32 +5,36 @@ ghost use Rattle.std.specs.Prelude.{slice_index, IfOk};
 ghost use Rattle.qm_dual.specs.Nest.{AreHeads, ArePicks, IsMeeting, HaveSameSets, left, pick_with};
 
 use crate::check::Memory;
-use crate::nest::{Nested, set_around_set};
+use crate::nest::{Nested, Numbered, set_around_set};
 use std::alloc::Global;
 
 /// The paths into which the sets fall: each set's entry names the head of its path, from 1. A path goes from a set to
 /// the set around it as long as that holds no greater set, so climbing leaves one path for another at most as often as
 /// the size of a set doubles. Linear in the sets.
-pub(crate) fn path_heads(alloc: Global, d: &Nested, sizes: &[u32]) -> Result<Vec<u32>, Memory>
-    requires { length sizes.now ≡ length d.now.whole.now.z.items }
+pub(crate) fn path_heads(alloc: Global, sized: &Numbered) -> Result<Vec<u32>, Memory>
     ensures { IfOk result (λ heads.
-        AreHeads d.now.n (length d.now.whole.now.z.items) d.now.whole.now.up.items heads.items) }
+        AreHeads sized.now.d.n (length sized.now.d.whole.now.z.items) sized.now.d.whole.now.up.items heads.items) }
 {
-    let picks = greatest_inside(alloc, d, sizes)?;
-    heads_by(alloc, d, &picks)
+    let picks = greatest_inside(alloc, sized)?;
+    let picking = Numbered {
+        d: sized.d,
+        numbers: &picks,
+    };
+    heads_by(alloc, &picking)
 }
 
 /// The heads, where each set picks one inside it.
-fn heads_by(alloc: Global, d: &Nested, picks: &[u32]) -> Result<Vec<u32>, Memory>
-    requires { length picks.now ≡ length d.now.whole.now.z.items }
+fn heads_by(alloc: Global, picking: &Numbered) -> Result<Vec<u32>, Memory>
     ensures { IfOk result (λ heads.
-        AreHeads d.now.n (length d.now.whole.now.z.items) d.now.whole.now.up.items heads.items) }
+        AreHeads picking.now.d.n (length picking.now.d.whole.now.z.items) picking.now.d.whole.now.up.items
+        heads.items) }
 {
-    let mut heads = vec![in alloc; 0u32; d.whole.z.len()]?;
-    let mut k = d.whole.z.len();
+    let mut heads = vec![in alloc; 0u32; picking.d.whole.z.len()]?;
+    let mut k = picking.d.whole.z.len();
     while k > 0 {
         k -= 1;
-        heads[k] = head_of(picks, &heads, set_around_set(d, k), k as u32);
+        let around = set_around_set(&picking.d, k);
+        heads[k] = head_of(picking.numbers, &heads, around, k as u32);
     }
     Ok(heads)
 }
@@ -52,30 +56,29 @@ fn head_of(picks: &[u32], heads: &[u32], entry: u32, set: u32) -> u32
 }
 
 /// For each set the greatest of the sets directly inside it, from 1, or 0 if there is none.
-fn greatest_inside(alloc: Global, d: &Nested, sizes: &[u32]) -> Result<Vec<u32>, Memory>
-    requires { length sizes.now ≡ length d.now.whole.now.z.items }
+fn greatest_inside(alloc: Global, sized: &Numbered) -> Result<Vec<u32>, Memory>
     ensures { IfOk result (λ picks.
-        ArePicks d.now.n (length d.now.whole.now.z.items) (length d.now.whole.now.z.items) d.now.whole.now.up.items
-        sizes.now picks.items) }
+        ArePicks sized.now.d.n (length sized.now.d.whole.now.z.items) (length sized.now.d.whole.now.z.items)
+        sized.now.d.whole.now.up.items sized.now.numbers.now picks.items) }
 {
-    let mut picks = vec![in alloc; 0u32; d.whole.z.len()]?;
-    for k in 0..d.whole.z.len() {
-        let entry = set_around_set(d, k);
+    let mut picks = vec![in alloc; 0u32; sized.d.whole.z.len()]?;
+    for k in 0..sized.d.whole.z.len() {
+        let entry = set_around_set(&sized.d, k);
         if entry != 0 {
             let place = entry as usize - 1;
-            picks[place] = greater(sizes, picks[place], k as u32);
+            picks[place] = greater(sized, picks[place], k as u32);
         }
     }
     Ok(picks)
 }
 
 /// The set `k` where it is greater than its rival, or the rival, both from 1. No rival is 0.
-fn greater(sizes: &[u32], rival: u32, k: u32) -> u32
-    requires few { k < 2 ^ 30 }
-    requires inner { k < length sizes.now }
-    requires named { rival ≤ length sizes.now }
-    ensures { result ≡ pick_with sizes.now rival k }
+fn greater(sized: &Numbered, rival: u32, k: u32) -> u32
+    requires inner { k < length sized.now.numbers.now }
+    requires named { rival ≤ length sized.now.numbers.now }
+    ensures { result ≡ pick_with sized.now.numbers.now rival k }
 {
+    let sizes = sized.numbers;
     if rival == 0 || sizes[rival as usize - 1] < sizes[k as usize] {
         k + 1
     } else {

@@ -47,18 +47,26 @@ pub(crate) fn sum_of(sums: &[i128], entry: u32) -> i128
 pub(crate) fn sum_of_dual(d: &Nested) -> i128
     ensures { result ≡ dual_sum (dual d.now.whole.now) }
 {
-    sum(&d.whole.y) + sum(&d.whole.z)
+    let y = SmallNumbers { all: &d.whole.y };
+    let z = SmallNumbers { all: &d.whole.z };
+    sum(&y) + sum(&z)
 }
 
-fn sum(numbers: &[i64]) -> i128
-    requires few { length numbers.now ≤ 2 ^ 30 }
-    requires small { AreSmall numbers.now }
-    ensures value { result ≡ total (λ x. x) numbers.now }
+/// Numbers of a dual: few, and small.
+#[derive(Clone, Copy)]
+struct SmallNumbers<'a> {
+    all: &'a [i64],
+    ghost few: { length all.now ≤ 2 ^ 30 },
+    ghost small: { AreSmall all.now },
+}
+
+fn sum(numbers: &SmallNumbers) -> i128
+    ensures value { result ≡ total (λ x. x) numbers.now.all.now }
     ensures small { unsigned_abs result ≤ 2 ^ 90 }
 {
-    let mut all = 0i128;
-    for number in numbers {
-        all += i128::from(*number);
+    let mut sum = 0i128;
+    for number in numbers.all {
+        sum += i128::from(*number);
     }
-    all
+    sum
 }

@@ -5,11 +5,14 @@ use Rattle.qm_dual.proofs.check.place_fault_of.Goals as goal
 
 pub returns-then-not-may_stand : goal.returns-then-not-may_stand
 returns-then-not-may_stand c =
-    let off : not (is_up c.args.n c.args.sets c.loop-i.i (slice_index c.args.up.now c.loop-i.i)) ≡ true =
+    let it = c.args.places.now in
+    let off : not (is_up it.n it.sets c.loop-i.i (slice_index it.up.now c.loop-i.i)) ≡ true =
     ap not (sym c.may_stand.ensures ∙ c.if-not-may_stand.true) in
-    sym (least_some (λ i. not (is_up c.args.n c.args.sets i (slice_index c.args.up.now i))) (c.args.n + c.args.sets)
-    c.loop-i.i (omega arith) c.loop-i.invariant off)
+    sym (least_some (λ i. not (is_up it.n it.sets i (slice_index it.up.now i))) (it.n + it.sets) c.loop-i.i
+    (omega arith) c.loop-i.invariant off)
 
 pub returns : goal.returns
-returns c = sym (least_none (λ i. not (is_up c.args.n c.args.sets i (slice_index c.args.up.now i)))
-    (c.args.n + c.args.sets) (λ k l. c.loop-i.invariant k (omega arith)))
+returns c =
+    let it = c.args.places.now in
+    sym (least_none (λ i. not (is_up it.n it.sets i (slice_index it.up.now i))) (it.n + it.sets)
+    (λ k l. c.loop-i.invariant k (omega arith)))

@@ -1,4 +1,4 @@
-use Rattle.std.proofs.Common.{◌≡◌, ◌+◌, ◌^◌, ◌<◌, ℤ, pos, ◌+ℤ◌, unsigned_abs, take, get_or, arith}
+use Rattle.std.proofs.Common.{◌≡◌, ℕ, ◌+◌, ◌^◌, ◌<◌, List, ℤ, pos, ◌+ℤ◌, unsigned_abs, take, get_or, arith}
 use Rattle.std.proofs.lemmas.Int.{ints}
 use Rattle.def_math.specs.Sums.{total}
 use Rattle.qm_dual.proofs.Entries.{total_take}
@@ -6,10 +6,9 @@ use Rattle.qm_dual.proofs.sums.sum.Goals as goal
 
 pub loop-number-preserved : goal.loop-number-preserved
 loop-number-preserved c =
-    let small : unsigned_abs (get_or c.args.numbers.now c.loop-number.number-index (pos 0)) < 10 ^ 18 =
-    c.requires.small c.loop-number.number-index c.loop-number-test.true in
-    let more : total (λ (x : ℤ). x) (take (c.loop-number.number-index + 1) c.args.numbers.now)
-    ≡ total (λ (x : ℤ). x) (take c.loop-number.number-index c.args.numbers.now) +ℤ get_or c.args.numbers.now
-    c.loop-number.number-index (pos 0) =
-    total_take (λ (x : ℤ). x) (pos 0) c.args.numbers.now c.loop-number.number-index c.loop-number-test.true in
+    let all : List ℤ = c.args.numbers.now.all.now in
+    let k : ℕ = c.loop-number.number-index in
+    let small : unsigned_abs (get_or all k (pos 0)) < 10 ^ 18 = c.args.numbers.now.small k c.loop-number-test.true in
+    let more : total (λ (x : ℤ). x) (take (k + 1) all) ≡ total (λ (x : ℤ). x) (take k all) +ℤ get_or all k (pos 0) =
+    total_take (λ (x : ℤ). x) (pos 0) all k c.loop-number-test.true in
     record { value = omega (arith, ints); small = omega (arith, ints) }

@@ -4,6 +4,6 @@ use Rattle.qm_dual.proofs.sums.sum.Given as goal
 
 abbrev pub invariant-loop-number : goal.invariant-loop-number
 invariant-loop-number l = record {
-  value : l.all ≡ total (λ x. x) (take l.number-index l.numbers);
-  small : unsigned_abs l.all ≤ l.number-index * 10 ^ 18;
+  value : l.sum ≡ total (λ x. x) (take l.number-index l.numbers.all.now);
+  small : unsigned_abs l.sum ≤ l.number-index * 10 ^ 18;
 }
