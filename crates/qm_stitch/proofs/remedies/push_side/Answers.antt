@@ -1,4 +1,4 @@
-use Rattle.std.proofs.Common.{◌≡◌, ◌<◌, ◌%◌, ℕ, not, length, refl, sym, ◌∙◌, ap, subst, arith}
+use Rattle.std.proofs.Common.{◌≡◌, ◌<◌, ◌%◌, ℕ, not, length, sym, ◌∙◌, ap, subst, arith}
 use Rattle.std.proofs.Common.{rules, of_z, to_z}
 use Rattle.std.proofs.lemmas.Bool.{false≢true}
 use Rattle.std.proofs.lemmas.Int.{to_z-of_z}
@@ -7,13 +7,13 @@ use Rattle.std.proofs.lemmas.List.{length-map}
 use Rattle.std.specs.{Prelude.◌==◌, List.All}
 use Rattle.def_cut.specs.Grids.{rectangle}
 use Rattle.def_layout.specs.{Arcs.path, Layouts.layout_of, declared.tmesh.SideArc.SideArc}
-use Rattle.def_remesh.specs.Numberings.{tables_of}
 use Rattle.written_laws.proofs.Sides.{size_some}
 use Rattle.qm_offsets.specs.Fours.{arcs_on}
+use Rattle.qm_offsets.proofs.Whole.{arcs_low, way_for}
 use Rattle.qm_stitch.specs.{Lengthened.gluing_in, Lengthened.lengths_by, Remedies.price_along, Remedies.IsAlong}
-use Rattle.qm_stitch.specs.{Remedies.IsByLine, Rims.along_lines, Sizes.table_in}
+use Rattle.qm_stitch.specs.{Remedies.IsByLine, Rims.along_lines}
 use Rattle.qm_stitch.specs.declared.remedy.Run.TheVariants.{Side as side_run}
-use Rattle.qm_stitch.proofs.{Adding.adds_alike, Adding.adds_next, Adding.adds_none, Grids.border}
+use Rattle.qm_stitch.proofs.{Adding.adds_alike, Adding.adds_next, Adding.adds_none}
 use Rattle.qm_stitch.proofs.Lines.{line_along, none_along, side_adds, IsInLine}
 use Rattle.qm_stitch.proofs.Runs.{short_uses, uses_short}
 use Rattle.qm_stitch.proofs.remedies.push_side.Goals.{After-side_of-uses}
@@ -30,12 +30,12 @@ all_low : (c : After-side_of-uses)
     → All (λ (used : SideArc). used.arc < length c.args.priced.now.keyed.numbered.t.now.arcs.items)
     c.side_of-uses.result.now
 all_low c =
-    subst (λ (n : ℕ). All (λ (used : SideArc). used.arc < n) c.side_of-uses.result.now)
-    (length-map c.args.priced.now.keyed.numbered.t.now.arcs.items path)
-    (border (layout_of c.args.priced.now.keyed.numbered.t.now) c.args.priced.now.keyed.numbered.tables.now
-    c.args.priced.now.keyed.numbered.numbers c.args.patch c.args.side c.side_of-uses.result.now
-    (table_in (tables_of c.args.priced.now.keyed.numbered.tables.now.sides.items) c.args.patch c.args.side)
-    (low c) c.requires.side (read c) refl).low
+    let numbered = c.args.priced.now.keyed.numbered in
+    let way = way_for c.args.side c.requires.side in
+    arcs_low (layout_of numbered.t.now) numbered.numbers.whole.paved c.args.patch way.0
+    (length numbered.t.now.arcs.items) c.side_of-uses.result.now (low c)
+    (sym (length-map numbered.t.now.arcs.items path))
+    (read c ∙ ap (arcs_on (layout_of numbered.t.now) c.args.patch) (sym way.1))
 
 pub is_some_short-requires : goal.is_some_short-requires
 is_some_short-requires c = all_low (goal.at.is_some_short-requires c).After-side_of-uses

@@ -1,12 +1,10 @@
-use Rattle.std.proofs.Common.{◌≡◌, ◌<◌, ℕ, ◌∙◌, sym, subst, refl, arith}
+use Rattle.std.proofs.Common.{◌≡◌, length, ◌∙◌, ap, sym, arith}
 use Rattle.std.proofs.lemmas.List.{length-map}
-use Rattle.std.specs.List.{All}
 use Rattle.def_cut.specs.Grids.{rectangle}
-use Rattle.def_layout.specs.{Arcs.path, Layouts.layout_of, declared.tmesh.SideArc.SideArc}
-use Rattle.def_remesh.specs.Numberings.{tables_of}
+use Rattle.def_layout.specs.{Arcs.path, Layouts.layout_of}
 use Rattle.qm_offsets.specs.Fours.{arcs_on}
-use Rattle.qm_stitch.specs.Sizes.{table_in}
-use Rattle.qm_stitch.proofs.{Grids.border, Marks.adds_side, tight.mark_side.Goals.After-side_of}
+use Rattle.qm_offsets.proofs.Whole.{arcs_low, way_for}
+use Rattle.qm_stitch.proofs.{Marks.adds_side, tight.mark_side.Goals.After-side_of}
 use Rattle.qm_stitch.proofs.tight.mark_side.Goals as goal
 
 read : (c : After-side_of)
@@ -16,14 +14,12 @@ read c = c.side_of.ensures
 pub mark_uses-requires : goal.mark_uses-requires
 mark_uses-requires c =
     let w = (goal.at.mark_uses-requires c).After-side_of in
-    let tables = tables_of c.args.numbered.now.tables.now.sides.items in
-    subst (λ (n : ℕ). All (λ (used : SideArc). used.arc < n) c.side_of.result.now)
-    (length-map c.args.numbered.now.t.now.arcs.items path ∙ sym c.requires.long)
-    (border (layout_of c.args.numbered.now.t.now) c.args.numbered.now.tables.now c.args.numbered.now.numbers
-    c.args.patch
-    c.args.side c.side_of.result.now (table_in tables c.args.patch c.args.side)
-    (omega (arith, c.requires.patch, length-map c.args.numbered.now.t.now.patches.items rectangle)) c.requires.side
-    (read w) refl).low
+    let numbered = c.args.numbered.now in
+    let way = way_for c.args.side c.requires.side in
+    arcs_low (layout_of numbered.t.now) numbered.numbers.whole.paved c.args.patch way.0 (length c.args.tight.now)
+    c.side_of.result.now (omega (arith, c.requires.patch, length-map numbered.t.now.patches.items rectangle))
+    (omega (arith, c.requires.long, length-map numbered.t.now.arcs.items path))
+    (read w ∙ ap (arcs_on (layout_of numbered.t.now) c.args.patch) (sym way.1))
 
 pub returns : goal.returns
 returns c =
