@@ -22,6 +22,7 @@ use def_fit::{Aim, Fit};
 use def_flow::{Cert, MAX_FLOOR, Net};
 use def_metric::SizeFail;
 use qm_metric::{fit_settings, net_for, old_start};
+use qm_net::LooseNet;
 use qm_solve::{solve, solve_near};
 use qm_stages::CutMesh;
 use qm_write::Remesh;
@@ -81,7 +82,8 @@ pub(crate) fn solve_fit(
         Aim::Scale { .. } => solve(alloc, net),
         _ => {
             let start = old_start(alloc, cut.layout(), greatest_floor(fit))?;
-            solve_near(alloc, net, start)
+            let loose = LooseNet { whole: net };
+            solve_near(alloc, &loose, start)
         }
     }
 }

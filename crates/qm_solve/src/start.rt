@@ -29,14 +29,12 @@ pub fn solve(alloc: Global, net: &Net) -> Result<Cert, Memory>
 }
 
 /// The same for any network: where no list near what is wanted is found, the descent begins at `start`.
-pub fn solve_near(alloc: Global, net: &Net, start: Vec<u64>) -> Result<Cert, Memory>
-    requires bounds { IsWithinBounds (network net.now) }
-    requires tangle { tangle_number (network net.now) ≤ MAX_TANGLE }
-    requires start { IsStartOf (network net.now) start.items }
-    ensures { IfOk result (λ cert. IsSolution (network net.now) (certificate cert)) }
+pub fn solve_near(alloc: Global, net: &LooseNet, start: Vec<u64>) -> Result<Cert, Memory>
+    requires { IsStartOf (network net.now.whole.now) start.items }
+    ensures { IfOk result (λ cert. IsSolution (network net.now.whole.now) (certificate cert)) }
 {
-    let start = near_or(alloc, &BoundedNet { whole: net }, start)?;
-    descend(alloc, &LooseNet { whole: net }, start)
+    let start = near_or(alloc, &BoundedNet { whole: net.whole }, start)?;
+    descend(alloc, net, start)
 }
 
 /// The list that `solve` starts from: one near what is wanted where that serves, and else a multiple of the old
