@@ -14,33 +14,43 @@ pub fn least_costs(alloc: Global, g: &SmallGraph) -> Result<Vec<i64>, Memory>
     ensures long { IfOk result (λ costs. length costs.items ≡ g.now.graph.n) }
     ensures near { IfOk result (λ costs. (v : ℕ) → unsigned_abs (slice_index_or costs.items v (pos 0)) ≤ MAX_WISH) }
 {
-    let mut costs = vec![in alloc; MAX_WISH as i64; g.n() as usize]?;
+    let mut costs = Costs {
+        at: vec![in alloc; MAX_WISH as i64; g.n() as usize]?,
+    };
     for e in 0..g.edge_count() {
         let edge = g.edge(e);
-        take_cost(&mut costs, &edge);
+        costs.take(&edge);
     }
-    Ok(costs)
+    Ok(costs.at)
 }
 
-/// Takes the cost of an edge at both ends.
-fn take_cost(costs: &mut [i64], edge: &WEdge)
-    requires ends { (edge.now.u < length costs.old) × (edge.now.v < length costs.old) }
-    requires near { AreNear costs.old }
-    ensures near { AreNear costs.new }
-{
-    let most = MAX_WISH as i64;
-    let cost = edge.cost.max(-most).min(most);
-    lower_to(costs, edge.u, cost);
-    lower_to(costs, edge.v, cost);
+/// A number for each vertex, none farther from 0 than a wish.
+#[derive(Drop)]
+struct Costs {
+    at: Vec<i64>,
+    ghost near: { AreNear at.items },
 }
 
-/// Lowers the number of a vertex to this one, where it is greater.
-fn lower_to(costs: &mut [i64], v: u32, cost: i64)
-    requires vertex { v < length costs.old }
-    requires near { (unsigned_abs cost ≤ MAX_WISH) × AreNear costs.old }
-    ensures near { AreNear costs.new }
-{
-    if cost < costs[v as usize] {
-        costs[v as usize] = cost;
+impl Costs {
+    /// Takes the cost of an edge at both ends.
+    fn take(&mut self, edge: &WEdge)
+        requires { (edge.now.u < length self.old.at.items) × (edge.now.v < length self.old.at.items) }
+        ensures { length self.new.at.items ≡ length self.old.at.items }
+    {
+        let most = MAX_WISH as i64;
+        let cost = edge.cost.max(-most).min(most);
+        self.lower(edge.u, cost);
+        self.lower(edge.v, cost);
+    }
+
+    /// Lowers the number of a vertex to this one, where it is greater.
+    fn lower(&mut self, v: u32, cost: i64)
+        requires vertex { v < length self.old.at.items }
+        requires near { unsigned_abs cost ≤ MAX_WISH }
+        ensures { length self.new.at.items ≡ length self.old.at.items }
+    {
+        if cost < self.at[v as usize] {
+            self.at[v as usize] = cost;
+        }
     }
 }
