@@ -1,8 +1,6 @@
-use Rattle.std.proofs.Common.{◌≡◌, ◌↔◌, ◌<◌, ℕ, Bool, List, true, false, get_or, length, sym, ◌∙◌, ap, subst, arith}
+use Rattle.std.proofs.Common.{◌≡◌, length, sym, ◌∙◌, ap, arith}
 use Rattle.std.proofs.lemmas.List.{length-map}
 use Rattle.def_layout.specs.{Arcs.path, Layouts.gluing_of, Layouts.layout_of}
-use Rattle.def_remesh.specs.{NewPoints.lengths_in, Rises.IsTightArc}
-use Rattle.qm_stitch.specs.Tight.{AreRimKeys}
 use Rattle.qm_stitch.proofs.{Grids.tables_are, RiseLists.needed_are}
 use Rattle.qm_stitch.proofs.rises.are_needed.Goals as goal
 
@@ -11,10 +9,7 @@ invariant_of-numbered c =
     record { numbers = tables_are (layout_of c.args.t.now) c.in_ok-tables.tables c.in_ok-tables.ensures.numbering }
 
 pub invariant_of-keyed : goal.invariant_of-keyed
-invariant_of-keyed c = record {
-  rim = subst (AreRimKeys (gluing_of (layout_of c.args.t.now)) (lengths_in c.in_ok-tables.tables.lengths.items))
-      (sym c.deref.ensures.value) c.in_ok-keys.ensures;
-}
+invariant_of-keyed c = record { rim = rw c.deref.ensures.value c.in_ok-keys.ensures }
 
 pub invariant_of-marked : goal.invariant_of-marked
 invariant_of-marked c =
@@ -26,10 +21,7 @@ returns c =
     length-map c.args.t.now.arcs.items path in
     let needed = needed_are (gluing_of (layout_of c.args.t.now)) c.args.lengths.now c.deref-2.result.now
     (c.requires.long ∙ sym arcs)
-    (λ arc low. subst (λ (xs : List ℕ). (get_or c.deref-2.result.now arc false ≡ true)
-    ↔ IsTightArc (gluing_of (layout_of c.args.t.now)) (lengths_in xs) arc) c.in_ok-tables.ensures.lengths
-    (subst (λ (tight : List Bool). (get_or tight arc false ≡ true)
-    ↔ IsTightArc (gluing_of (layout_of c.args.t.now)) (lengths_in c.in_ok-tables.tables.lengths.items) arc)
-    (sym c.deref-2.ensures.value) (c.in_ok-tight.ensures.each arc (omega (arith, low, arcs)))))
+    (λ arc low. rw (c.deref-2.ensures.value, ← c.in_ok-tables.ensures.lengths)
+    (c.in_ok-tight.ensures.each arc (omega (arith, low, arcs))))
     c.is_some_short.result c.is_some_short.ensures c.args.rises.now in
     (λ on. needed.0 (c.are_rises.ensures.0 on), λ is. c.are_rises.ensures.1 (needed.1 is))

@@ -1,8 +1,6 @@
-use Rattle.std.proofs.Common.{sym, ◌∙◌, subst, inl, arith}
+use Rattle.std.proofs.Common.{sym, ◌∙◌, inl, arith}
 use Rattle.std.proofs.lemmas.List.{length-map}
-use Rattle.def_layout.specs.{Arcs.path, Layouts.gluing_of, Layouts.layout_of}
-use Rattle.def_remesh.specs.NewPoints.{lengths_in}
-use Rattle.qm_stitch.specs.Tight.{AreRimKeys}
+use Rattle.def_layout.specs.{Arcs.path, Layouts.layout_of}
 use Rattle.qm_stitch.proofs.{Grids.tables_are, SafeLengths.safe_undoubled}
 use Rattle.qm_stitch.proofs.rises.needed_rises.Goals as goal
 
@@ -11,10 +9,7 @@ invariant_of-numbered c =
     record { numbers = tables_are (layout_of c.args.t.now) c.in_ok-tables.tables c.in_ok-tables.ensures.numbering }
 
 pub invariant_of-keyed : goal.invariant_of-keyed
-invariant_of-keyed c = record {
-  rim = subst (AreRimKeys (gluing_of (layout_of c.args.t.now)) (lengths_in c.in_ok-tables.tables.lengths.items))
-      (sym c.deref.ensures.value) c.in_ok-keys.ensures;
-}
+invariant_of-keyed c = record { rim = rw c.deref.ensures.value c.in_ok-keys.ensures }
 
 pub invariant_of-priced : goal.invariant_of-priced
 invariant_of-priced c = record {
