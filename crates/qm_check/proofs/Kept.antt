@@ -28,49 +28,51 @@ use Rattle.remesh_laws.specs.Keeps.{floors_behind}
 use Rattle.remesh_laws.proofs.Keeps.{doubled_some, keeps, solved}
 use Rattle.remesh_laws.proofs.Rounds.{behind_more, led_more, net_risen, used_behind}
 
-module _ (wish : Wish) (layout : Layout) (net : Network) where
+-- Certificates one of which gives no lengths are not used.
+unused_by : (wish : Wish) (layout : Layout) (net : Network) (settings : Settings) (told : Certificates) (cert : Cert)
+    (fail : CheckFail)
+    → ((why : Why) → GivesNone layout net cert (NotAccepted why)
+    → AreWrong wish layout settings (given_floors settings) 1 told why)
+    → GivesNone layout net cert fail → IsUnused wish layout settings told fail
+unused_by wish layout net settings told cert (NotAccepted why) wrong none = wrong why none
+unused_by wish layout net settings told cert Memory wrong none = tt
+unused_by wish layout net settings told cert _ wrong none = absurd none
+
+module _ {wish : Wish} {layout : Layout} {net : Network} where
   -- A certificate that gives no lengths is wrong.
-  wrong_of : {floors : Lengths} (settings : Settings) (cert : Cert) (why : Why)
+  wrong_of : {floors : Lengths} {settings : Settings} (cert : Cert) (why : Why)
       → IsNetWith wish layout settings floors net → GivesNone layout net cert (NotAccepted why)
       → IsWrong wish layout settings floors (lists_of cert) why
-  wrong_of settings cert (why.Verdict verdict) for (told, refuted) = record {
+  wrong_of cert (why.Verdict verdict) for (told, refuted) = record {
     net = net;
     of_layout = for.is;
     told = told;
     refuted = refuted;
   }
-  wrong_of settings cert (why.TooFine faces) for (is, fine) = (solved layout settings net cert for is, fine)
-  wrong_of settings cert _ for none = absurd none
-
-  -- So the certificates of a text have a wrong one.
-  unused_by : (settings : Settings) (told : Certificates) (cert : Cert) (fail : CheckFail)
-      → ((why : Why) → GivesNone layout net cert (NotAccepted why)
-      → AreWrong wish layout settings (given_floors settings) 1 told why)
-      → GivesNone layout net cert fail → IsUnused wish layout settings told fail
-  unused_by settings told cert (NotAccepted why) wrong none = wrong why none
-  unused_by settings told cert Memory wrong none = tt
-  unused_by settings told cert _ wrong none = absurd none
+  wrong_of cert (why.TooFine faces) for (is, fine) = (solved layout _ net cert for is, fine)
+  wrong_of cert _ for none = absurd none
 
   -- Lengths that double an edge are doubling.
-  pub doubling_of : {floors : Lengths} (settings : Settings) (cert : Cert) (u v : ℕ)
+  pub doubling_of : {floors : Lengths} {settings : Settings} (cert : Cert) {u v : ℕ}
       → IsNetWith wish layout settings floors net → IsSolution net (certificate cert)
       → Gives layout net cert.x.items (Doubled u v) → IsDoubling wish layout settings floors (lists_of cert)
-  doubling_of settings cert u v for is gives = record {
-    fit = solved layout settings net cert for is;
+  doubling_of cert for is gives = record {
+    fit = solved layout _ net cert for is;
     coarse = gives.0;
-    doubled = doubled_some layout cert.x.items u v gives.1;
+    doubled = doubled_some layout cert.x.items _ _ gives.1;
   }
 
   -- The one for floor 3 is wrong.
-  pub unused_third : (settings : Settings) (first third : Cert) (fail : CheckFail)
+  pub unused_third : {settings : Settings} (first third : Cert) (fail : CheckFail)
       → IsDoubling wish layout settings (given_floors settings) (lists_of first)
       → IsNetWith wish layout settings (λ arc. 3) net → GivesNone layout net third fail
       → IsUnused wish layout settings (raised (lists_of first) (lists_of third)) fail
-  unused_third settings first third fail doubling for = unused_by settings (raised (lists_of first) (lists_of third))
-      third fail (λ why none. inr (doubling, wrong_of settings third why for none))
+  unused_third first third fail doubling for =
+      unused_by wish layout net _ (raised (lists_of first) (lists_of third)) third fail
+      (λ why none. inr (doubling, wrong_of third why for none))
 
   -- It is used.
-  pub checked_third : (higher : Network) (terms : Terms) (first third : Cert) (tables : Tables) (deviates : ℕ)
+  pub checked_third : {higher : Network} {terms : Terms} (first third : Cert) {tables : Tables} {deviates : ℕ}
       → terms.rising ≡ Third
       → IsDoubling wish layout terms.settings (given_floors terms.settings) (lists_of first)
       → IsNetWith wish layout terms.settings (λ arc. 3) higher
@@ -81,7 +83,7 @@ module _ (wish : Wish) (layout : Layout) (net : Network) where
         remesh = record { terms = terms; certs = Raised first third; numbering = tables };
         deviation = deviates;
       })
-  checked_third higher terms first third tables deviates rising doubling for has is gives = record {
+  checked_third {higher} {terms} first third {tables} rising doubling for has is gives = record {
     kept = keeps layout terms.settings terms.rising (raised (lists_of first) (lists_of third)) third.x.items tables refl
         (rising, doubling, solved layout terms.settings higher third for is) gives.0;
     found = refl;
@@ -98,10 +100,9 @@ needed_there gluing lengths rises needed k d low =
     subst (λ (r : Rise). r.arc < gluing.arcs) (get_or_default rises k _ d low) (needed.each k low).there
 
 -- No round is passed at the beginning.
-pub passed_none : (wish : Wish) (layout : Layout) (settings : Settings) (net : Network)
-    → IsNetFor wish layout settings net
-    → ArePassed wish layout settings net [] net
-passed_none wish layout settings net for = record { led = tt; risen = for; even = λ x. refl }
+pub passed_none : {wish : Wish} {layout : Layout} {settings : Settings} {net : Network}
+    → IsNetFor wish layout settings net → ArePassed wish layout settings net [] net
+passed_none for = record { led = tt; risen = for; even = λ x. refl }
 
 -- The first of certificates is wrong.
 first_wrong : (wish : Wish) (layout : Layout) (settings : Settings) (floors : Lengths) (round : ℕ) (cert : Lists)
@@ -114,7 +115,7 @@ first_wrong wish layout settings floors round cert (raised first other) why same
 first_wrong wish layout settings floors round cert (risen first rises after) why same wrong =
     inl (subst (λ (c : Lists). IsWrong wish layout settings floors c why) (sym same) wrong)
 
-module _ (wish : Wish) (layout : Layout) (settings : Settings) (start : Network) (rounds : List Round) (net : Network)
+module _ {wish : Wish} {layout : Layout} {settings : Settings} {start : Network} {rounds : List Round} {net : Network}
     (passed : ArePassed wish layout settings start rounds net) where
   -- The rounds in front are numbered from 1.
   wrong_there : (after : Certificates) (why : Why)
@@ -130,7 +131,7 @@ module _ (wish : Wish) (layout : Layout) (settings : Settings) (start : Network)
       (λ why none. subst (λ (c : Certificates). AreWrong wish layout settings (given_floors settings) 1 c why) (sym is)
       (wrong_there after why
       (first_wrong wish layout settings (floors_behind rounds (given_floors settings)) (1 + length rounds)
-      (lists_of cert) after why first (wrong_of wish layout net settings cert why passed.risen none))))
+      (lists_of cert) after why first (wrong_of cert why passed.risen none))))
 
   -- It is the last, and its lengths double an edge.
   pub unused_last : (told : Certificates) (cert : Cert) (u v : ℕ) → told ≡ risen_by rounds (alone (lists_of cert))

@@ -333,9 +333,9 @@ point_by (Fit fit) line is =
     subst (λ (l : Bytes). IsPoint (Fit fit) l (chosen fit)) (sym is.written) (fit_point fit is.in_range)
 point_by _ line is = tt
 
-pub point_of : (command : Command) (line : Bytes) (least : Least) → IsLeastLine command line least
+pub point_of : {command : Command} {line : Bytes} {least : Least} → IsLeastLine command line least
     → IsPoint command line least
-point_of command line least is =
+point_of {command} {line} is =
     subst (λ (o : Option Least). IfSome o (IsPoint command line)) is.finds (point_by command line is.mark)
 
 pub remesh_line : (line : Bytes) (asked : Asked) (least : Least) → IsHead line asked.settings asked.auto

@@ -59,11 +59,11 @@ cut_by least text old layout cut asides is said inner (edges, chosen, laid) =
     subst (λ (c : CutSoup). IsCutBy least text c asides) (sym is)
     (record { said = said; inner = inner; edges = edges; chosen = chosen; laid = laid })
 
-module _ (command : Command) (line text : Bytes) (least : Least) (point : IsPoint command line least) where
+module _ {command : Command} {line text : Bytes} {least : Least} (point : IsPoint command line least) where
   -- A line beside the mesh is refused.
-  pub aside_unmade : (soup : FaceSet) → IsMeshText text soup → (fail : CheckFail) → IsAsideFail least.fit text soup fail
+  pub aside_unmade : {soup : FaceSet} → IsMeshText text soup → (fail : CheckFail) → IsAsideFail least.fit text soup fail
       → IsUnmade command text fail
-  aside_unmade soup mesh (Marks fail) (other, refused) = (
+  aside_unmade {soup} mesh (Marks fail) (other, refused) = (
     point.lines text fail (record { soup = soup; mesh = mesh; said = refused }),
     other,
     λ written wrote.
@@ -73,10 +73,10 @@ module _ (command : Command) (line text : Bytes) (least : Least) (point : IsPoin
         ok_or_err (asides_in least.fit text made.soup) found.0 fail found.2
         (ap (asides_in least.fit text) (one_ok _ made.soup soup made.mesh.said mesh.said) ∙ refused),
   )
-  aside_unmade soup mesh Memory refused = tt
-  aside_unmade soup mesh _ refused = absurd refused
+  aside_unmade mesh Memory refused = tt
+  aside_unmade mesh _ refused = absurd refused
 
-  module _ (cut : CutSoup) (asides : Asides) (old : IsOld text cut.soup) (by : IsCutBy least text cut asides) where
+  module _ {cut : CutSoup} {asides : Asides} (old : IsOld text cut.soup) (by : IsCutBy least text cut asides) where
     abbrev pub task : Task
     task = least_task least line cut.soup asides by.edges
 

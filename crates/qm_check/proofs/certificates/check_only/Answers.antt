@@ -1,4 +1,4 @@
-use Rattle.std.proofs.Common.{[], refl, subst}
+use Rattle.std.proofs.Common.{refl, subst}
 use Rattle.def_certtext.specs.{CertLines.alone, CertLines.lists_of, declared.certs.Certs.TheVariants.Alone}
 use Rattle.def_flow.specs.Network.{network}
 use Rattle.def_remesh.specs.Tasks.{given_floors}
@@ -20,29 +20,23 @@ check_lengths-requires c = record {
 
 pub returns-in_err-numbering-clause-unused : goal.returns-in_err-numbering-clause-unused
 returns-in_err-numbering-clause-unused c wish for =
-    let layout = c.args.cut.now.layout in
-    let net = network c.args.net.now in
     let told = alone (lists_of c.args.cert) in
-    handed (IsUnused wish layout c.args.terms.settings told) c.from_residual.result
+    handed (IsUnused wish c.args.cut.now.layout c.args.terms.settings told) c.from_residual.result
     c.in_err-numbering.field-0.0 c.from_residual.ensures.1
-    (unused_there wish layout c.args.terms.settings net [] net (passed_none wish layout c.args.terms.settings net for)
-    told
-    told c.args.cert c.in_err-numbering.field-0.0 refl refl c.in_err-numbering.ensures.refused)
+    (unused_there (passed_none for) told told c.args.cert c.in_err-numbering.field-0.0 refl refl
+    c.in_err-numbering.ensures.refused)
 
 pub returns-in-Whole-clause-checked : goal.returns-in-Whole-clause-checked
 returns-in-Whole-clause-checked c wish for =
-    let layout = c.args.cut.now.layout in
-    let net = network c.args.net.now in
     let told = alone (lists_of c.args.cert) in
-    checked_there wish layout c.args.terms.settings net [] net (passed_none wish layout c.args.terms.settings net for)
-    c.args.terms.rising told told c.args.cert (Alone c.args.cert) c.in-Whole.numbering c.in-Whole.deviation refl refl
-    c.requires.cert.reach refl c.in_ok-numbering.ensures.solved
-    (subst (Gives layout net c.args.cert.x.items) c.in-Whole.is c.in_ok-numbering.ensures.gives)
+    checked_there (passed_none for) c.args.terms.rising told told c.args.cert (Alone c.args.cert) c.in-Whole.numbering
+    c.in-Whole.deviation refl refl c.requires.cert.reach refl c.in_ok-numbering.ensures.solved
+    (subst (Gives c.args.cut.now.layout (network c.args.net.now) c.args.cert.x.items) c.in-Whole.is
+    c.in_ok-numbering.ensures.gives)
 
 pub returns-in-Doubled-clause-unused : goal.returns-in-Doubled-clause-unused
 returns-in-Doubled-clause-unused c wish for =
-    let layout = c.args.cut.now.layout in
-    let net = network c.args.net.now in
-    unused_last wish layout c.args.terms.settings net [] net (passed_none wish layout c.args.terms.settings net for)
-    (alone (lists_of c.args.cert)) c.args.cert c.in-Doubled.u c.in-Doubled.v refl c.in_ok-numbering.ensures.solved
-    (subst (Gives layout net c.args.cert.x.items) c.in-Doubled.is c.in_ok-numbering.ensures.gives)
+    unused_last (passed_none for) (alone (lists_of c.args.cert)) c.args.cert c.in-Doubled.u c.in-Doubled.v refl
+    c.in_ok-numbering.ensures.solved
+    (subst (Gives c.args.cut.now.layout (network c.args.net.now) c.args.cert.x.items) c.in-Doubled.is
+    c.in_ok-numbering.ensures.gives)

@@ -27,9 +27,7 @@ returns-in_err-numbering-clause-unused c wish for =
     handed (IsUnused wish c.args.cut.now.layout c.args.terms.settings
     (raised (lists_of c.args.pair.first) (lists_of c.args.pair.third))) c.from_residual.result
     c.in_err-numbering.field-0.0 c.from_residual.ensures.1
-    (unused_third wish c.args.cut.now.layout higher c.args.terms.settings c.args.pair.first
-    c.args.pair.third c.in_err-numbering.field-0.0
-    (c.requires.doubling wish for)
+    (unused_third c.args.pair.first c.args.pair.third c.in_err-numbering.field-0.0 (c.requires.doubling wish for)
     (third_net c.args.cut.now.layout c.args.terms.settings (network c.args.net) higher for
     (has_floors (network c.args.net) 3 higher c.with_floor-higher.ensures))
     c.in_err-numbering.ensures.refused)
@@ -38,9 +36,7 @@ pub returns-clause-checked : goal.returns-clause-checked
 returns-clause-checked c wish for =
     let higher = network c.with_floor-higher.result in
     let has = has_floors (network c.args.net) 3 higher c.with_floor-higher.ensures in
-    checked_third wish c.args.cut.now.layout (network c.args.net) higher c.args.terms
-    c.args.pair.first c.args.pair.third
-    c.in-Whole.numbering c.in-Whole.deviation c.requires.pair.reach.2 (c.requires.doubling wish for)
+    checked_third c.args.pair.first c.args.pair.third c.requires.pair.reach.2 (c.requires.doubling wish for)
     (third_net c.args.cut.now.layout c.args.terms.settings (network c.args.net) higher for has) has
     c.in_ok-numbering.ensures.solved
     (subst (Gives c.args.cut.now.layout higher c.args.pair.third.x.items) c.in-Whole.is c.in_ok-numbering.ensures.gives)

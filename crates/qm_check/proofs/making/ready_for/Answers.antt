@@ -32,13 +32,11 @@ pub returns-in_err-asides-clause-unmade : goal.returns-in_err-asides-clause-unma
 returns-in_err-asides-clause-unmade c command is =
     handed (IsUnmade command c.args.text.now.bytes.now) c.from_residual.result c.in_err-asides.field-0.0
     c.from_residual.ensures.1
-    (aside_unmade command c.args.line.now c.args.text.now.bytes.now c.args.least.now
-    (point_of command c.args.line.now c.args.least.now is) c.args.old c.requires.old.mesh c.in_err-asides.field-0.0
-    c.in_err-asides.ensures.refused)
+    (aside_unmade (point_of is) c.requires.old.mesh c.in_err-asides.field-0.0 c.in_err-asides.ensures.refused)
 
 pub net_near-requires-clause-fit : goal.net_near-requires-clause-fit
 net_near-requires-clause-fit c =
-    (point_of c.requires.line.0 c.args.line.now c.args.least.now c.requires.line.1).head.fit
+    (point_of c.requires.line.1).head.fit
 
 pub new-cut-requires : goal.new-cut-requires
 new-cut-requires c = (c.in_ok-layout.ensures.mesh.0, c.in_ok-layout.ensures.mesh.1 ∙ c.mesh.ensures)
@@ -50,9 +48,7 @@ returns-in_err-net-clause-unmade c command is =
     let cut = c.new-cut.result in
     handed (IsUnmade command c.args.text.now.bytes.now) c.from_residual-in_err-net.result c.in_err-net.field-0.0
     c.from_residual-in_err-net.ensures.1
-    (net_unmade command c.args.line.now c.args.text.now.bytes.now c.args.least.now
-    (point_of command c.args.line.now c.args.least.now is) cut
-    (asides_of c.in_ok-asides.asides) (old_is at) (cut_is at) c.in_err-net.field-0.0
+    (net_unmade (point_of is) (old_is at) (cut_is at) c.in_err-net.field-0.0
     (subst (λ (ws : List ℕ). HasNoNet fit.aim (aimed fit.aim cut.soup ws) cut.layout
     (fit_settings fit) c.in_err-net.field-0.0) c.deref.ensures.value
     c.in_err-net.ensures.none))
@@ -61,18 +57,16 @@ pub returns-clause-ready : goal.returns-clause-ready
 returns-clause-ready c command is =
     let at = (goal.at.returns-clause-ready c).After-new-cut in
     let fit = c.args.least.now.fit in
-    let text = c.args.text.now.bytes.now in
     let cut = c.new-cut.result in
-    let point = point_of command c.args.line.now c.args.least.now is in
-    let asides = asides_of c.in_ok-asides.asides in
+    let point = point_of is in
     record {
-      task = task command c.args.line.now text c.args.least.now point cut asides (old_is at) (cut_is at);
-      only = only_for command c.args.line.now text c.args.least.now point cut asides (old_is at) (cut_is at)
+      task = task point (old_is at) (cut_is at);
+      only = only_for point (old_is at) (cut_is at)
           (subst (λ (ws : List ℕ). AreAimedNear fit.aim (aimed fit.aim cut.soup ws) cut.layout) c.deref.ensures.value
           c.in_ok-net.ensures.near);
       holds = record {
         laid_out =
-            laid_for command c.args.line.now text c.args.least.now point cut asides (old_is at) (cut_is at)
+            laid_for point (old_is at) (cut_is at)
             (record {
               terms = c.terms_of.result;
               head = c.in_ok-head.head;

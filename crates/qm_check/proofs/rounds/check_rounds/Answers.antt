@@ -28,7 +28,7 @@ rounds-init c =
       many = omega (arith, gives.1, ap length gives.0, c.args.run.rounds.ok.0);
       passed = λ wish for. subst (λ (xs : List Round). ArePassed wish c.args.cut.now.layout c.args.terms.settings
           (network c.args.net) xs (network c.args.net)) (sym c.new-passed.ensures.items)
-          (passed_none wish c.args.cut.now.layout c.args.terms.settings (network c.args.net) for);
+          (passed_none for);
     }
 
 -- ---- In a round.
@@ -70,8 +70,7 @@ returns-in_err-numbering-clause-unused c wish for =
     let told = risen_by c.args.run.rounds.items (alone (lists_of c.args.run.cert)) in
     handed (IsUnused wish c.args.cut.now.layout c.args.terms.settings told) c.from_residual.result
     c.in_err-numbering.field-0.0 c.from_residual.ensures.1
-    (unused_there wish c.args.cut.now.layout c.args.terms.settings (network c.args.net) c.rounds.passed.items
-    (network c.rounds.net) (c.rounds.invariant.passed wish for) (from at) told c.in-Some.round.cert
+    (unused_there (c.rounds.invariant.passed wish for) (from at) told c.in-Some.round.cert
     c.in_err-numbering.field-0.0 (told_is at) refl c.in_err-numbering.ensures.refused)
 
 pub returns-in-Whole-clause-checked : goal.returns-in-Whole-clause-checked
@@ -79,8 +78,7 @@ returns-in-Whole-clause-checked c wish for =
     let at = (goal.at.returns-in-Whole-clause-checked c).In-Some in
     let told = risen_by c.args.run.rounds.items (alone (lists_of c.args.run.cert)) in
     subst (IsChecked wish c.args.cut.now.layout (network c.args.net) c.args.terms told) (sym c.checked_by.ensures)
-    (checked_there wish c.args.cut.now.layout c.args.terms.settings (network c.args.net) c.rounds.passed.items
-    (network c.rounds.net) (c.rounds.invariant.passed wish for) c.args.terms.rising (from at) told c.in-Some.round.cert
+    (checked_there (c.rounds.invariant.passed wish for) c.args.terms.rising (from at) told c.in-Some.round.cert
     (Risen c.rounds.passed c.in-Some.round.cert) c.in-Whole.numbering c.in-Whole.deviation (told_is at) refl
     c.requires.run.reach refl c.in_ok-numbering.ensures.solved
     (subst (Gives c.args.cut.now.layout (network c.rounds.net) c.in-Some.round.cert.x.items) c.in-Whole.is
@@ -92,8 +90,7 @@ doubling : (c : In-Doubled) (wish : Wish)
     → IsDoubling wish c.args.cut.now.layout c.args.terms.settings
     (floors_behind c.rounds.passed.items (given_floors c.args.terms.settings)) (lists_of c.in-Some.round.cert)
 doubling c wish for =
-    doubling_of wish c.args.cut.now.layout (network c.rounds.net) c.args.terms.settings c.in-Some.round.cert _ _
-    (c.rounds.invariant.passed wish for).risen c.in_ok-numbering.ensures.solved
+    doubling_of c.in-Some.round.cert (c.rounds.invariant.passed wish for).risen c.in_ok-numbering.ensures.solved
     (subst (Gives c.args.cut.now.layout (network c.rounds.net) c.in-Some.round.cert.x.items) c.in-Doubled.is
     c.in_ok-numbering.ensures.gives)
 
@@ -114,8 +111,7 @@ returns-in_err-check_rises-clause-unused c wish for =
     let told = risen_by c.args.run.rounds.items (alone (lists_of c.args.run.cert)) in
     handed (IsUnused wish c.args.cut.now.layout c.args.terms.settings told) c.from_residual-in_err-check_rises.result
     c.in_err-check_rises.field-0.0 c.from_residual-in_err-check_rises.ensures.1
-    (unused_rises wish c.args.cut.now.layout c.args.terms.settings (network c.args.net) c.rounds.passed.items
-    (network c.rounds.net) (c.rounds.invariant.passed wish for) c.in-Some.round (after at) told _
+    (unused_rises (c.rounds.invariant.passed wish for) c.in-Some.round (after at) told _
     c.in_err-check_rises.field-0.0 (told_is at) (omega (arith, c.len.ensures, c.rounds.passed.ok.0))
     (doubling (goal.at.returns-in_err-check_rises-clause-unused c).In-Doubled wish for)
     c.in_err-check_rises.ensures.refused)
@@ -151,8 +147,7 @@ rounds-preserved c =
       );
       passed = λ wish for. subst (λ (xs : List Round). ArePassed wish c.args.cut.now.layout c.args.terms.settings
           (network c.args.net) xs next) (sym more)
-          (passed_more wish c.args.cut.now.layout c.args.terms.settings (network c.args.net) c.rounds.passed.items
-          (network c.rounds.net) (c.rounds.invariant.passed wish for) c.in-Some.round next
+          (passed_more (c.rounds.invariant.passed wish for) c.in-Some.round next
           (doubling (goal.at.rounds-preserved c).In-Doubled wish for) c.in_ok-check_rises.ensures.needed has);
     }
 
@@ -185,8 +180,7 @@ returns-in_err-numbering-2-clause-unused c wish for =
     let told = risen_by c.args.run.rounds.items (alone (lists_of c.args.run.cert)) in
     handed (IsUnused wish c.args.cut.now.layout c.args.terms.settings told) c.from_residual-in_err-numbering-2.result
     c.in_err-numbering-2.field-0.0 c.from_residual-in_err-numbering-2.ensures.1
-    (unused_there wish c.args.cut.now.layout c.args.terms.settings (network c.args.net) c.rounds.passed.items
-    (network c.rounds.net) (c.rounds.invariant.passed wish for) (alone (lists_of c.args.run.cert)) told c.args.run.cert
+    (unused_there (c.rounds.invariant.passed wish for) (alone (lists_of c.args.run.cert)) told c.args.run.cert
     c.in_err-numbering-2.field-0.0 (all_passed (goal.at.returns-in_err-numbering-2-clause-unused c).In-None) refl
     c.in_err-numbering-2.ensures.refused)
 
@@ -195,8 +189,7 @@ returns-in-Whole-2-clause-checked c wish for =
     let told = risen_by c.args.run.rounds.items (alone (lists_of c.args.run.cert)) in
     subst (IsChecked wish c.args.cut.now.layout (network c.args.net) c.args.terms told)
     (sym c.checked_by-in-Whole-2.ensures)
-    (checked_there wish c.args.cut.now.layout c.args.terms.settings (network c.args.net) c.rounds.passed.items
-    (network c.rounds.net) (c.rounds.invariant.passed wish for) c.args.terms.rising (alone (lists_of c.args.run.cert))
+    (checked_there (c.rounds.invariant.passed wish for) c.args.terms.rising (alone (lists_of c.args.run.cert))
     told c.args.run.cert (Risen c.rounds.passed c.args.run.cert) c.in-Whole-2.numbering c.in-Whole-2.deviation
     (all_passed (goal.at.returns-in-Whole-2-clause-checked c).In-None) refl c.requires.run.reach refl
     c.in_ok-numbering-2.ensures.solved
@@ -206,8 +199,7 @@ returns-in-Whole-2-clause-checked c wish for =
 pub returns-in-Doubled-2-clause-unused : goal.returns-in-Doubled-2-clause-unused
 returns-in-Doubled-2-clause-unused c wish for =
     let told = risen_by c.args.run.rounds.items (alone (lists_of c.args.run.cert)) in
-    unused_last wish c.args.cut.now.layout c.args.terms.settings (network c.args.net) c.rounds.passed.items
-    (network c.rounds.net) (c.rounds.invariant.passed wish for) told c.args.run.cert c.in-Doubled-2.u c.in-Doubled-2.v
+    unused_last (c.rounds.invariant.passed wish for) told c.args.run.cert c.in-Doubled-2.u c.in-Doubled-2.v
     (all_passed (goal.at.returns-in-Doubled-2-clause-unused c).In-None) c.in_ok-numbering-2.ensures.solved
     (subst (Gives c.args.cut.now.layout (network c.rounds.net) c.args.run.cert.x.items) c.in-Doubled-2.is
     c.in_ok-numbering-2.ensures.gives)
