@@ -1,7 +1,7 @@
 //! Starts of small networks: each list fits, and how far it is from what is wanted.
 
 use crate::samples::{FIVE_SHAPES, FLAPS, TREBLED};
-use qm_net::{admissible, are_lengths, deviation, is_within_bounds};
+use qm_net::{BoundedNet, admissible, are_lengths, deviation, is_within_bounds};
 use qm_nettext::read_net;
 use qm_warmstart::near_start;
 use std::test::Fail;
@@ -12,7 +12,7 @@ fn starts_that_fit(rt: HostRuntime) -> Result<(), Fail> {
     for (text, far) in [(TREBLED, 0), (FIVE_SHAPES, 20), (FLAPS, 11)] {
         let net = read_net(rt.alloc(), text)?;
         assert!(rt; is_within_bounds(&net));
-        let found = near_start(rt.alloc(), &net)?;
+        let found = near_start(rt.alloc(), &BoundedNet { whole: &net })?;
         let Some(start) = found else {
             panic!(rt; "no start");
         };
@@ -42,7 +42,7 @@ fn chains_have_one_length(rt: HostRuntime) -> Result<(), Fail> {
     for (text, prices) in [(CHAIN, [2, 2].as_slice()), (RING, [0, -2, -2].as_slice())] {
         let net = read_net(rt.alloc(), text)?;
         assert!(rt; is_within_bounds(&net));
-        let Some(start) = near_start(rt.alloc(), &net)? else {
+        let Some(start) = near_start(rt.alloc(), &BoundedNet { whole: &net })? else {
             panic!(rt; "no start");
         };
         assert!(rt; start.lengths.as_slice() == [5, 5, 5].as_slice());

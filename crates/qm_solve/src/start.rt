@@ -53,7 +53,7 @@ fn near_or(alloc: Global, net: &BoundedNet, start: Vec<u64>) -> Result<Start, Me
     ensures { IsStartOf (network net.now.whole.now) start.items
         → IfOk result (λ near. IsStartOf (network net.now.whole.now) near.lengths.items) }
 {
-    if let Some(near) = near_start(alloc, net.whole)? {
+    if let Some(near) = near_start(alloc, net)? {
         if is_start(net, &near.lengths) {
             return Ok(near);
         }

@@ -1,7 +1,6 @@
 //! The start: lengths and prices.
 
 ghost use Rattle.std.specs.Prelude.{◌≡◌, ◌*◌, length, IfOk, IfSome};
-ghost use Rattle.def_flow.specs.Network.{network, IsWithinBounds};
 ghost use Rattle.qm_warmstart.specs.Tables.{AreBelow};
 
 use crate::Memory;
@@ -13,7 +12,7 @@ use crate::search::no_search;
 use crate::small_net::SmallNet;
 use crate::trails::round;
 use crate::worth::prices_of;
-use def_flow::Net;
+use qm_net::BoundedNet;
 use std::alloc::Global;
 
 /// How many exits the relaxation may look at for each arc, and how many the repair: work for about as long as the
@@ -36,12 +35,13 @@ pub struct Start {
 /// Lengths near what is wanted, mostly admissible and nearly least, with the prices of the nodes in the relaxation; or
 /// nothing, where there are no arcs or they can't be balanced with the fuel that there is. Where it ends in the
 /// relaxation, what there is then is rounded. Who starts from the list has to test it.
-pub fn near_start(alloc: Global, net: &Net) -> Result<Option<Start>, Memory>
-    requires { IsWithinBounds (network net.now) }
+pub fn near_start(alloc: Global, net: &BoundedNet) -> Result<Option<Start>, Memory>
     ensures lengths { IfOk result (λ found. IfSome found
-        (λ start. length start.lengths.items ≡ length net.now.arcs.items)) }
-    ensures prices { IfOk result (λ found. IfSome found (λ start. length start.prices.items ≡ net.now.nodes)) }
+        (λ start. length start.lengths.items ≡ length net.now.whole.now.arcs.items)) }
+    ensures prices { IfOk result (λ found. IfSome found
+        (λ start. length start.prices.items ≡ net.now.whole.now.nodes)) }
 {
+    let net = net.whole;
     if net.arcs.is_empty() || net.nodes > MOST || net.arcs.len() > MOST as usize {
         return Ok(None);
     }
