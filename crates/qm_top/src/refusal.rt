@@ -3,7 +3,7 @@
 ghost use Rattle.std.specs.Prelude.{◌≡◌, ◌≢◌, []};
 ghost use Rattle.def_io.specs.declared.fails.WriteFail.TheVariants as fails;
 ghost use Rattle.def_text.specs.Fails.{of_obj, of_read};
-ghost use Rattle.qm_top.specs.Named.{HasNames};
+ghost use Rattle.qm_top.specs.Named.{HasNames, IsUnnamed};
 ghost use Rattle.qm_top.specs.Refusals.{answer_of, answer_of_layout, answer_of_marks, answer_of_obj};
 ghost use Rattle.qm_top.specs.Refusals.{answer_of_soup, answer_of_words, names_of, refusal_of_size};
 ghost use Rattle.qm_top.specs.Writing.{refusal_of_put};
@@ -175,9 +175,7 @@ pub(crate) fn words_answer(fail: WordsFail) -> Answer
 
 fn soup_answer(fail: SoupFail) -> Answer
     ensures answer { result ≡ answer_of_soup fail }
-    ensures unnamed { HasNames [] result }
-    ensures refusal { result ≢ Answer.Done }
-    ensures accepted { result ≢ Answer.Usage }
+    ensures unnamed { IsUnnamed result }
 {
     match fail {
         SoupFail::Fault => Answer::ReadFault,
@@ -192,9 +190,7 @@ fn soup_answer(fail: SoupFail) -> Answer
 
 fn obj_answer(fail: ObjFail) -> Answer
     ensures answer { result ≡ answer_of_obj fail }
-    ensures unnamed { HasNames [] result }
-    ensures refusal { result ≢ Answer.Done }
-    ensures accepted { result ≢ Answer.Usage }
+    ensures unnamed { IsUnnamed result }
 {
     match fail {
         ObjFail::Syntax { line } => Answer::Syntax { line },
@@ -207,9 +203,7 @@ fn obj_answer(fail: ObjFail) -> Answer
 
 fn marks_answer(fail: MarkFail) -> Answer
     ensures answer { result ≡ answer_of_marks fail }
-    ensures unnamed { HasNames [] result }
-    ensures refusal { result ≢ Answer.Done }
-    ensures accepted { result ≢ Answer.Usage }
+    ensures unnamed { IsUnnamed result }
 {
     match fail {
         MarkFail::Syntax { line } => Answer::Syntax { line },
@@ -221,9 +215,7 @@ fn marks_answer(fail: MarkFail) -> Answer
 
 fn layout_answer(fail: LayoutFail) -> Answer
     ensures answer { result ≡ answer_of_layout fail }
-    ensures unnamed { HasNames [] result }
-    ensures refusal { result ≢ Answer.Done }
-    ensures accepted { result ≢ Answer.Usage }
+    ensures unnamed { IsUnnamed result }
 {
     match fail {
         LayoutFail::Tangled { count } => Answer::Tangled { count },
