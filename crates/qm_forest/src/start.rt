@@ -23,6 +23,24 @@ use std::alloc::{AllocError, Global};
 pub type Memory = AllocError;
 
 impl Forest {
+    /// A forest without matching, sets and tree. The weight of a vertex is the least cost at it, or where it has no
+    /// edge, the greatest cost: no weight is above all costs, up or down.
+    pub fn new(alloc: Global, g: &SmallGraph) -> Result<Forest, Memory>
+        requires costs { (e : ℕ) → e < length g.now.graph.edges → unsigned_abs (edge_at g.now.graph e).cost ≤ 2 ^ 60 }
+        ensures valid { IfOk result (λ f. IsValidFor g.now.graph f) }
+        ensures empty { IfOk result (λ f. (b : Blossom) → (forest_of f).mate b ≡ None) }
+        ensures no_tree { IfOk result (λ f. f.root ≡ None) }
+        ensures size { IfOk result (λ f. length f.up ≡ g.now.graph.n + g.now.graph.n / 2) }
+        ensures sets { IfOk result (λ f. (b : Blossom) → g.now.graph.n ≤ b → (forest_of f).weight b ≡ pos 0) }
+        ensures small { IfOk result (λ f. (c : ℕ)
+            → ((e : ℕ) → e < length g.now.graph.edges → unsigned_abs (edge_at g.now.graph e).cost ≤ c)
+            → (b : Blossom) → unsigned_abs ((forest_of f).weight b) ≤ c) }
+    {
+        let most = greatest_cost(g);
+        let lows = least_costs(alloc, g, most)?;
+        Forest::new_from(alloc, g, &lows)
+    }
+
     /// A forest without matching, sets and tree. The weights of the vertices are given: a feasible dual.
     pub fn new_from(alloc: Global, g: &SmallGraph, y: &[i64]) -> Result<Forest, Memory>
         requires { AreFeasible g.now.graph y.now }
