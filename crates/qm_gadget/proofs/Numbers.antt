@@ -1,8 +1,8 @@
 -- Numbers of marks, one part of the marks after the other.
 use Rattle.std.proofs.Common.{◌≡◌, ℕ, zero, suc, ◌+◌, ◌<◌, ◌≤◌, ◌==◌, Bool, true, false, not, ◌&&◌, cond, List, [], ◌∷◌}
-use Rattle.std.proofs.Common.{◌++◌, length, drop, Option, Some, None, refl, sym, ◌∙◌, ap, add-zero, append_assoc}
-use Rattle.std.proofs.Common.{length-append, inl, inr, ◌⊎◌, arith}
-use Rattle.std.proofs.lemmas.Bool.{cond-true, cases_eq, eq-eqb, ne_eqb}
+use Rattle.std.proofs.Common.{◌++◌, length, drop, Option, Some, None, refl, sym, ◌∙◌, ap, add-zero}
+use Rattle.std.proofs.Common.{length-append, inl, inr, arith}
+use Rattle.std.proofs.lemmas.Bool.{cases_eq, eq-eqb, ne_eqb}
 use Rattle.std.proofs.lemmas.Bool.Decides.{nat_tests}
 use Rattle.std.proofs.lemmas.List.{drop_more, drop_all, append-nil}
 use Rattle.std.specs.Prelude.{nat_lt, slice_index_or}
@@ -44,24 +44,22 @@ choice_places k true (suc i) (suc n) =
     choice_places (k + 1) true i n ∙ (ap (λ b. cond b ((k + 1 + i) ∷ []) []) same
     ∙ ap (λ j. cond (nat_lt (suc i) (suc n)) (j ∷ []) []) there)
 
+-- The numbers of one part of the marks after what was there, and those of a second part.
+places_two : {mid now : List ℕ} {n : ℕ} (old : List ℕ) (k : ℕ) (ms ns : List Bool) → length ms ≡ n
+    → mid ≡ old ++ places k ms → now ≡ mid ++ places (k + n) ns → now ≡ old ++ places k (ms ++ ns)
+places_two {mid} {now} old k ms ns width first second =
+    rw (places_append k ms ns, width) (two_parts old mid now _ _ first second)
+
+cond_append : (b : Bool) (xs ys zs : List Bool) → cond b (xs ++ ys) (xs ++ zs) ≡ xs ++ cond b ys zs
+cond_append true xs ys zs = refl
+cond_append false xs ys zs = refl
+
 -- The marks of a unit with two ends: those of the first end, and the others.
 pub marks_two : (copies_at used : ℕ → ℕ) (on : Bool) (left right : End) → marks_by copies_at used on left (Some right)
     ≡ end_marks copies_at used (is_active on left) left
     ++ right_marks copies_at (take_end used (is_active on left) left) on left right
-marks_two copies_at used on left right = by_signs (are_alike left right)
-  where
-    by_signs : (b : Bool) → cond b
-        (end_marks copies_at used (is_active on left) left
-        ++ (end_marks copies_at (take_end used (is_active on left) left) (is_active on right) right
-        ++ not (is_active on left) ∷ []))
-        (end_marks copies_at used (is_active on left) left
-        ++ end_marks copies_at (take_end used (is_active on left) left) (is_active on right) right)
-        ≡ end_marks copies_at used (is_active on left) left
-        ++ cond b (end_marks copies_at (take_end used (is_active on left) left) (is_active on right) right
-        ++ not (is_active on left) ∷ []) (end_marks copies_at (take_end used (is_active on left) left)
-        (is_active on right) right)
-    by_signs true = refl
-    by_signs false = refl
+marks_two copies_at used on left right =
+    cond_append (are_alike left right) (end_marks copies_at used (is_active on left) left) _ _
 
 -- A unit has as many marks as edges.
 pub marks_width : (copies_at used : ℕ → ℕ) (on : Bool) (left : End) (right : Option End)
@@ -70,27 +68,16 @@ marks_width copies_at used on left None = length-append (end_marks copies_at use
     (not (is_active on left) ∷ [])
     ∙ ap (λ n. n + 1) (choice_length (is_active on left) (used left.node) (copies_at left.node))
 marks_width copies_at used on left (Some right) =
+    let firsts = end_marks copies_at used (is_active on left) left in
+    let seconds = end_marks copies_at (take_end used (is_active on left) left) (is_active on right) right in
     grind (
       arith,
       length-append firsts (seconds ++ not (is_active on left) ∷ []),
       length-append seconds (not (is_active on left) ∷ []),
-      first,
-      second,
+      choice_length (is_active on left) (used left.node) (copies_at left.node),
+      choice_length (is_active on right) (take_end used (is_active on left) left right.node) (copies_at right.node),
       length-append firsts seconds,
     )
-  where
-    firsts : List Bool
-    firsts = end_marks copies_at used (is_active on left) left
-
-    seconds : List Bool
-    seconds = end_marks copies_at (take_end used (is_active on left) left) (is_active on right) right
-
-    first : length firsts ≡ copies_at left.node
-    first = choice_length (is_active on left) (used left.node) (copies_at left.node)
-
-    second : length seconds ≡ copies_at right.node
-    second = choice_length (is_active on right) (take_end used (is_active on left) left right.node)
-        (copies_at right.node)
 
 -- The marks at the rim, by whether there is a vertex before.
 abbrev pub is_there : Option ℕ → Bool
@@ -127,15 +114,8 @@ pub right_alike : (old mid now : List ℕ) (k : ℕ) (copies_at used : ℕ → �
     → mid ≡ old ++ places k (end_marks copies_at used (is_active on right) right)
     → now ≡ mid ++ places (k + copies_at right.node) (not (is_active on left) ∷ [])
     → now ≡ old ++ places k (right_marks copies_at used on left right)
-right_alike old mid now k copies_at used on left right alike first second =
-    let width : length (end_marks copies_at used (is_active on right) right) ≡ copies_at right.node =
-    choice_length (is_active on right) (used right.node) (copies_at right.node) in
-    two_parts old mid now _ _ first second
-    ∙ ap (λ l. old ++ l) (ap (λ w. places k (end_marks copies_at used (is_active on right) right)
-    ++ places (k + w) (not (is_active on left) ∷ [])) (sym width)
-    ∙ (sym (places_append k (end_marks copies_at used (is_active on right) right) (not (is_active on left) ∷ []))
-    ∙ ap (places k) (sym (cond-true (are_alike left right) (end_marks copies_at used (is_active on right) right
-    ++ not (is_active on left) ∷ []) (end_marks copies_at used (is_active on right) right) alike))))
+right_alike old mid now k copies_at used on left right alike first second = rw alike
+    (places_two old k _ _ (choice_length (is_active on right) (used right.node) (copies_at right.node)) first second)
 
 -- The marks of a unit with one end.
 pub unit_lone : (old mid now : List ℕ) (k : ℕ) (copies_at used : ℕ → ℕ) (on : Bool) (left : End)
@@ -143,12 +123,7 @@ pub unit_lone : (old mid now : List ℕ) (k : ℕ) (copies_at used : ℕ → ℕ
     → now ≡ mid ++ places (k + copies_at left.node) (not (is_active on left) ∷ [])
     → now ≡ old ++ places k (marks_by copies_at used on left None)
 unit_lone old mid now k copies_at used on left first second =
-    let width : length (end_marks copies_at used (is_active on left) left) ≡ copies_at left.node =
-    choice_length (is_active on left) (used left.node) (copies_at left.node) in
-    two_parts old mid now _ _ first second
-    ∙ ap (λ l. old ++ l) (ap (λ w. places k (end_marks copies_at used (is_active on left) left)
-    ++ places (k + w) (not (is_active on left) ∷ [])) (sym width)
-    ∙ sym (places_append k (end_marks copies_at used (is_active on left) left) (not (is_active on left) ∷ [])))
+    places_two old k _ _ (choice_length (is_active on left) (used left.node) (copies_at left.node)) first second
 
 -- The marks of a unit with two ends, where the copies in use are counted in between.
 pub unit_two : (old mid now : List ℕ) (k : ℕ) (copies_at used next : ℕ → ℕ) (on : Bool) (left right : End)
@@ -157,30 +132,13 @@ pub unit_two : (old mid now : List ℕ) (k : ℕ) (copies_at used next : ℕ →
     → now ≡ mid ++ places (k + copies_at left.node) (right_marks copies_at next on left right)
     → now ≡ old ++ places k (marks_by copies_at used on left (Some right))
 unit_two old mid now k copies_at used next on left right taken first second =
-    let width : length (end_marks copies_at used (is_active on left) left) ≡ copies_at left.node =
-    choice_length (is_active on left) (used left.node) (copies_at left.node) in
-    let same : right_marks copies_at next on left right ≡ right_marks copies_at (take_end used (is_active on left) left)
-    on left right =
-    ap (λ i. cond (are_alike left right) (choice (is_active on right) i (copies_at right.node)
-    ++ not (is_active on left) ∷ []) (choice (is_active on right) i (copies_at right.node))) taken in
-    two_parts old mid now _ _ first second
-    ∙ ap (λ l. old ++ l) (ap (λ ms. places k (end_marks copies_at used (is_active on left) left)
-    ++ places (k + copies_at left.node) ms) same
-    ∙ (ap (λ w. places k (end_marks copies_at used (is_active on left) left)
-    ++ places (k + w) (right_marks copies_at (take_end used (is_active on left) left) on left right))
-    (sym width)
-    ∙ (sym (places_append k (end_marks copies_at used (is_active on left) left)
-    (right_marks copies_at (take_end used (is_active on left) left) on left right))
-    ∙ ap (places k) (sym (marks_two copies_at used on left right)))))
+    rw (marks_two copies_at used on left right, ← taken)
+    (places_two old k _ _ (choice_length (is_active on left) (used left.node) (copies_at left.node)) first second)
 
 -- The numbers of the first part of the marks, and those of what is left.
 pub marks_step : (m now : List ℕ) (k w : ℕ) (part rest whole : List Bool) → whole ≡ part ++ rest → length part ≡ w
     → now ≡ m ++ places k part → now ++ places (k + w) rest ≡ m ++ places k whole
-marks_step m now k w part rest whole split width pushed =
-    ap (λ l. l ++ places (k + w) rest) pushed
-    ∙ (append_assoc m (places k part) (places (k + w) rest)
-    ∙ ap (λ l. m ++ l) (ap (λ i. places k part ++ places (k + i) rest) (sym width)
-    ∙ (sym (places_append k part rest) ∙ ap (places k) (sym split))))
+marks_step m now k w part rest whole split width pushed = rw split (places_two m k part rest width pushed refl)
 
 -- The marks of one vertex at the rim, and of those after it.
 rim_first : (there waits o p : Bool) (os : List Bool) → rim_by there waits (o ∷ p ∷ os) ≡ turn_marks there waits o false
@@ -190,22 +148,16 @@ rim_first there waits o p os = grind (arith)
 pub rim_step : (there waits : Bool) (os : List Bool) (i : ℕ) → i < length os → rim_by there waits (drop i os)
     ≡ turn_marks there waits (slice_index_or os i false) (i + 1 == length os)
     ++ rim_by true (differ waits (slice_index_or os i false)) (drop (i + 1) os)
-rim_step there waits os i l = ap (rim_by there waits) (drop_more os i false l) ∙ by_order (cases_eq (i + 1) (length os))
-  where
-    o : Bool
-    o = slice_index_or os i false
-
-    by_order : (i + 1 ≡ length os) ⊎ (i + 1 ≡ length os → ⊥) → rim_by there waits (o ∷ drop (i + 1) os)
-        ≡ turn_marks there waits o (i + 1 == length os) ++ rim_by true (differ waits o) (drop (i + 1) os)
-    by_order (inl e) =
-        let none : drop (i + 1) os ≡ [] = drop_all (i + 1) os (omega arith) in
-        let test : (i + 1 == length os) ≡ true = eq-eqb (i + 1) (length os) e in
-        rw (none, test) (sym (append-nil (mark_if there (waits && o))))
-    by_order (inr ne) =
-        let next : drop (i + 1) os ≡ slice_index_or os (i + 1) false ∷ drop (i + 1 + 1) os =
-        drop_more os (i + 1) false (omega arith) in
-        let test : (i + 1 == length os) ≡ false = ne_eqb (i + 1) (length os) ne in
-        rw (next, test) (rim_first there waits o (slice_index_or os (i + 1) false) (drop (i + 1 + 1) os))
+rim_step there waits os i l =
+    let o = slice_index_or os i false in
+    ap (rim_by there waits) (drop_more os i false l) ∙ elim (cases_eq (i + 1) (length os))
+    as (λ k. rim_by there waits (o ∷ drop (i + 1) os)
+    ≡ turn_marks there waits o (i + 1 == length os) ++ rim_by true (differ waits o) (drop (i + 1) os)) [
+      | inl e ↦ rw (drop_all (i + 1) os (omega arith), eq-eqb (i + 1) (length os) e)
+          (sym (append-nil (mark_if there (waits && o))))
+      | inr ne ↦ rw (drop_more os (i + 1) false (omega arith), ne_eqb (i + 1) (length os) ne)
+          (rim_first there waits o (slice_index_or os (i + 1) false) (drop (i + 1 + 1) os))
+    ]
 
 -- One vertex at the rim has at most 4 edges here.
 pub turn_low : (there waits o last : Bool) → length (turn_marks there waits o last) ≤ 4

@@ -1,9 +1,8 @@
 -- Reading an increasing list of edges unit by unit.
-use Rattle.std.proofs.Common.{◌≡◌, ℕ, zero, suc, ◌+◌, ◌*◌, ◌<◌, ◌≤◌, ◌==◌, Bool, true, false, not, cond, List, [], ◌∷◌}
-use Rattle.std.proofs.Common.{length, take, drop, Option, refl, sym, ◌∙◌, ap, subst, inl, inr, ◌⊎◌, add-zero}
+use Rattle.std.proofs.Common.{◌≡◌, ℕ, zero, suc, ◌+◌, ◌*◌, ◌<◌, ◌≤◌, Bool, false, not, cond, List, [], ◌∷◌}
+use Rattle.std.proofs.Common.{length, take, drop, Option, refl, sym, ◌∙◌, ap, inl, inr, add-zero, zero-add}
 use Rattle.std.proofs.Common.{length-append, arith}
-use Rattle.std.proofs.lemmas.Bool.{cases_eq, cases_lt, eq-eqb, ne_eqb, lt-ltb}
-use Rattle.std.proofs.lemmas.Bool.Decides.{nat_tests}
+use Rattle.std.proofs.lemmas.Bool.{cases_eq, cases_lt, eq-eqb, ne_eqb, lt-ltb, le-ltb}
 use Rattle.std.proofs.lemmas.List.{drop_more}
 use Rattle.std.specs.{Prelude.nat_lt, Prelude.slice_index_or, Bool.beq}
 use Rattle.def_math.specs.{Counts.count, Increasing.IsIncreasing, Counts.count_below}
@@ -12,7 +11,7 @@ use Rattle.def_flow.specs.MatchingGraph.{units_links, rim_links, lone_vertex}
 use Rattle.def_flow.specs.{MatchingGraph.first_fresh, MatchingGraph.rim, declared.net.Arc.Arc, declared.net.End.End}
 use Rattle.def_flow.specs.declared.units.ArcUnit.{ArcUnit}
 use Rattle.gadget_laws.specs.Marks.{trues, units_marks, marks_by}
-use Rattle.gadget_laws.specs.Told.{past, marks_from, width_by, state_told, states_told, steps_told, lengths_on}
+use Rattle.gadget_laws.specs.Told.{marks_from, width_by, state_told, states_told, steps_told, lengths_on}
 use Rattle.gadget_laws.proofs.Units.{units_length}
 use Rattle.qm_gadget.specs.Read.{width_of_unit, first_below, skip_below, lengths_by}
 use Rattle.qm_gadget.proofs.Numbers.{marks_width}
@@ -20,24 +19,19 @@ use Rattle.qm_gadget.proofs.Numbers.{marks_width}
 -- In a list that rises from a bound on, nothing is below the bound.
 none_below_first : (k high : ℕ) (m : List ℕ) → IsIncreasing k high m → first_below m k ≡ false
 none_below_first k high [] increasing = refl
-none_below_first k high (e ∷ m) increasing = let le : k ≤ e = increasing.0 in grind (arith, nat_tests)
+none_below_first k high (e ∷ m) increasing = le-ltb e k increasing.0
 
 skip_none : (k high : ℕ) (m : List ℕ) → IsIncreasing k high m → skip_below k m ≡ m
 skip_none k high [] increasing = refl
-skip_none k high (e ∷ m) increasing = let le : k ≤ e = increasing.0 in let off : nat_lt e k ≡ false =
-    grind (arith, nat_tests) in rw off refl
+skip_none k high (e ∷ m) increasing = rw (le-ltb e k increasing.0) refl
 
 -- Without the numbers below a bound it rises from the bound on.
 pub increasing_skip : (k end high : ℕ) (m : List ℕ) → IsIncreasing k high m → IsIncreasing end high (skip_below end m)
 increasing_skip k end high [] increasing = tt
-increasing_skip k end high (e ∷ m) increasing =
-    by_test (cases_lt e end) (increasing_skip (e + 1) end high m increasing.2)
-  where
-    by_test : (e < end) ⊎ (end ≤ e) → IsIncreasing end high (skip_below end m)
-        → IsIncreasing end high (cond (nat_lt e end) (skip_below end m) (e ∷ m))
-    by_test (inl l) rest = let on : nat_lt e end ≡ true = grind (arith, nat_tests) in rw on rest
-    by_test (inr h) rest = let off : nat_lt e end ≡ false = grind (arith, nat_tests) in
-        rw off (h, increasing.1, increasing.2)
+increasing_skip k end high (e ∷ m) increasing = elim (cases_lt e end) [
+  | inl l ↦ rw (lt-ltb e end l) (increasing_skip (e + 1) end high m increasing.2)
+  | inr h ↦ rw (le-ltb e end h) (h, increasing.1, increasing.2)
+]
 
 -- What is left of the marks past a number of edges.
 pub drop_marks : (w n t k high : ℕ) (m : List ℕ) → t ≡ w + n → IsIncreasing k high m → drop w (marks_from k t m)
@@ -51,30 +45,15 @@ drop_marks (suc w) n (suc t) k high [] e increasing =
     let there : k + 1 + w ≡ k + suc w = omega arith in
     drop_marks w n t (k + 1) high [] (omega arith) tt ∙ ap (λ i. marks_from i n []) there
 drop_marks (suc w) n (suc t) k high (x ∷ m) e increasing =
+    let there : k + 1 + w ≡ k + suc w = omega arith in
     elim (cases_eq x k) [
-      | inl is ↦ here is (drop_marks w n t (k + 1) high m (omega arith))
-      | inr ne ↦ after ne (drop_marks w n t (k + 1) high (x ∷ m) (omega arith))
+      | inl is ↦ rw (eq-eqb x k is, lt-ltb x (k + suc w) (omega arith))
+          (drop_marks w n t (k + 1) high m (omega arith) (rw is at increasing.2)
+          ∙ ap (λ i. marks_from i n (skip_below i m)) there)
+      | inr ne ↦ rw (ne_eqb x k ne) (drop_marks w n t (k + 1) high (x ∷ m) (omega arith)
+          (omega (arith, increasing.0), increasing.1, increasing.2)
+          ∙ ap (λ i. marks_from i n (skip_below i (x ∷ m))) there)
     ]
-  where
-    there : k + 1 + w ≡ k + suc w
-    there = omega arith
-
-    here : x ≡ k → (IsIncreasing (k + 1) high m → drop w (marks_from (k + 1) t m)
-        ≡ marks_from (k + 1 + w) n (skip_below (k + 1 + w) m)) → drop w (marks_from (k + 1) t (past (x == k) x m))
-        ≡ marks_from (k + suc w) n (skip_below (k + suc w) (x ∷ m))
-    here is rest =
-        let on : (x == k) ≡ true = eq-eqb x k is in
-        let low : nat_lt x (k + suc w) ≡ true = lt-ltb x (k + suc w) (omega arith) in
-        let next : IsIncreasing (k + 1) high m = subst (λ (i : ℕ). IsIncreasing (i + 1) high m) is increasing.2 in
-        rw (on, low) (rest next ∙ ap (λ i. marks_from i n (skip_below i m)) there)
-
-    after : (x ≡ k → ⊥) → (IsIncreasing (k + 1) high (x ∷ m) → drop w (marks_from (k + 1) t (x ∷ m))
-        ≡ marks_from (k + 1 + w) n (skip_below (k + 1 + w) (x ∷ m)))
-        → drop w (marks_from (k + 1) t (past (x == k) x m)) ≡ marks_from (k + suc w) n (skip_below (k + suc w) (x ∷ m))
-    after ne rest =
-        let off : (x == k) ≡ false = ne_eqb x k ne in
-        let next : IsIncreasing (k + 1) high (x ∷ m) = (omega (arith, increasing.0), increasing.1, increasing.2) in
-        rw off (rest next ∙ ap (λ i. marks_from i n (skip_below i (x ∷ m))) there)
 
 -- Some of the first edges is marked exactly if the first number is among them.
 pub some_marked : (copies_at t k high : ℕ) (m : List ℕ) → copies_at ≤ t → IsIncreasing k high m
@@ -83,37 +62,15 @@ some_marked zero t k high m le increasing = let here : k + 0 ≡ k = add-zero k 
     sym (ap (first_below m) here ∙ none_below_first k high m increasing)
 some_marked (suc copies_at) zero k high m le increasing = absurd (omega arith)
 some_marked (suc copies_at) (suc t) k high [] le increasing =
-    let rest : nat_lt 0 (trues (take copies_at (marks_from (k + 1) t []))) ≡ false =
-    some_marked copies_at t (k + 1) high [] (omega arith) tt in
-    let none : 0 + trues (take copies_at (marks_from (k + 1) t [])) ≡ trues (take copies_at (marks_from (k + 1) t [])) =
-    omega arith in
-    ap (nat_lt 0) none ∙ rest
+    rw zero-add (some_marked copies_at t (k + 1) high [] (omega arith) tt)
 some_marked (suc copies_at) (suc t) k high (x ∷ m) le increasing =
+    let there : k + 1 + copies_at ≡ k + suc copies_at = omega arith in
     elim (cases_eq x k) [
-      | inl is ↦ here is
-      | inr ne ↦ after ne (some_marked copies_at t (k + 1) high (x ∷ m) (omega arith))
+      | inl is ↦ rw (eq-eqb x k is, lt-ltb x (k + suc copies_at) (omega arith))
+          (lt-ltb 0 (1 + trues (take copies_at (marks_from (k + 1) t m))) (omega arith))
+      | inr ne ↦ rw (ne_eqb x k ne, zero-add) (some_marked copies_at t (k + 1) high (x ∷ m) (omega arith)
+          (omega (arith, increasing.0), increasing.1, increasing.2) ∙ ap (nat_lt x) there)
     ]
-  where
-    here : x ≡ k → nat_lt 0 (cond (x == k) 1 0 + trues (take copies_at (marks_from (k + 1) t (past (x == k) x m))))
-        ≡ nat_lt x (k + suc copies_at)
-    here is =
-        let on : (x == k) ≡ true = eq-eqb x k is in
-        let low : nat_lt x (k + suc copies_at) ≡ true = lt-ltb x (k + suc copies_at) (omega arith) in
-        let some : nat_lt 0 (1 + trues (take copies_at (marks_from (k + 1) t m))) ≡ true =
-        lt-ltb 0 (1 + trues (take copies_at (marks_from (k + 1) t m))) (omega arith) in
-        rw (on, low) some
-
-    after : (x ≡ k → ⊥) → (IsIncreasing (k + 1) high (x ∷ m)
-        → nat_lt 0 (trues (take copies_at (marks_from (k + 1) t (x ∷ m)))) ≡ nat_lt x (k + 1 + copies_at))
-        → nat_lt 0 (cond (x == k) 1 0 + trues (take copies_at (marks_from (k + 1) t (past (x == k) x m))))
-        ≡ nat_lt x (k + suc copies_at)
-    after ne rest =
-        let off : (x == k) ≡ false = ne_eqb x k ne in
-        let next : IsIncreasing (k + 1) high (x ∷ m) = (omega (arith, increasing.0), increasing.1, increasing.2) in
-        let there : k + 1 + copies_at ≡ k + suc copies_at = omega arith in
-        let none : 0 + trues (take copies_at (marks_from (k + 1) t (x ∷ m)))
-        ≡ trues (take copies_at (marks_from (k + 1) t (x ∷ m))) = omega arith in
-        rw off (ap (nat_lt 0) none ∙ (rest next ∙ ap (nat_lt x) there))
 
 -- The state of a unit, by the first number.
 pub state_read : (copies_at : ℕ → ℕ) (left : End) (t k high : ℕ) (m : List ℕ) → copies_at left.node ≤ t

@@ -1,6 +1,6 @@
 -- Lists in the box, by the steps that their entries are above the lows.
 use Rattle.std.proofs.Common.{◌≡◌, ℕ, suc, ◌%◌, ◌^◌, ◌≤◌, ◌==◌, Bool, true, false, List, [], ◌∷◌}
-use Rattle.std.proofs.Common.{length, refl, ◌∙◌, ap, inl, inr, length-append, arith}
+use Rattle.std.proofs.Common.{length, refl, ap, inl, inr, length-append, arith}
 use Rattle.std.proofs.lemmas.Bool.{cases_lt}
 use Rattle.std.proofs.lemmas.List.{get_or_past}
 use Rattle.std.specs.Prelude.{slice_index}
@@ -27,14 +27,9 @@ ups_length step (l ∷ ls) (y ∷ ys) same = ap suc (ups_length step ls ys (omeg
 pub marks_over_is : (net : Network) (step : ℕ) (xs js : List ℕ)
     → places 0 (marks_over net step (lows net step xs) (caps net step xs) js) ≡ matching_told net step xs js
 marks_over_is net step xs js =
+    let us = units net step net.arcs xs in
     ap (λ os. places 0 (states_marks net.nodes (λ v. active v us os) (rim_active us os % 2 == 1) us
     (states step net.arcs xs js))) (own_states net step xs)
-  where
-    us : List ArcUnit
-    us = units net step net.arcs xs
-
-    ons : List Bool
-    ons = states_of_caps (caps net step xs)
 
 -- There are as many marks as edges.
 pub marks_long : (nodes : ℕ) (copies_at : ℕ → ℕ) (lone : Bool) (us : List ArcUnit) (ons : List Bool)
@@ -65,32 +60,19 @@ pub rim_from_lone : (nodes : ℕ) (copies_at : ℕ → ℕ) (lone : Bool) (us : 
 rim_from_lone nodes copies_at true us fresh os = rim_is (lone_vertex nodes copies_at true us) true fresh os
 rim_from_lone nodes copies_at false us fresh os = rim_is (lone_vertex nodes copies_at false us) false fresh os
 
--- The marks of a plan.
-pub plan_marks : (net : Network) (step : ℕ) (ls cs js : List ℕ) (p : Plan) → IsReady net step ls cs
-    → IsPlan net step ls cs p
-    → states_marks (length p.counts.items) (copies_in p.counts.items) p.lone p.units.items (states_over cs js)
-    ≡ marks_over net step ls cs js
-plan_marks net step ls cs js p ready plan =
-    ap (λ n. states_marks n (copies_in p.counts.items) p.lone p.units.items (states_over cs js)) plan.counts.count
-    ∙ (ap (λ f. states_marks net.nodes f p.lone p.units.items (states_over cs js))
-    (plan_counts net step ls cs p ready plan)
-    ∙ (ap (λ b. states_marks net.nodes (λ v. active v over ons) b p.units.items (states_over cs js)) plan.lone
-    ∙ ap (λ us. states_marks net.nodes (λ v. active v over ons) (rim_active over ons % 2 == 1) us (states_over cs js))
-    plan.units))
-  where
-    over : List ArcUnit
-    over = units_over net step net.arcs ls cs
+module _ {net : Network} {step : ℕ} {ls cs : List ℕ} {p : Plan} (ready : IsReady net step ls cs)
+    (plan : IsPlan net step ls cs p) where
+  -- The marks of a plan.
+  pub plan_marks : (js : List ℕ)
+      → states_marks (length p.counts.items) (copies_in p.counts.items) p.lone p.units.items (states_over cs js)
+      ≡ marks_over net step ls cs js
+  plan_marks js = rw (plan_counts ready plan, plan.counts.count, plan.lone, plan.units) refl
 
-    ons : List Bool
-    ons = states_of_caps cs
-
--- A plan has few units, and few copies of each node.
-pub plan_few : (net : Network) (step : ℕ) (ls cs : List ℕ) (p : Plan) → IsReady net step ls cs → IsPlan net step ls cs p
-    → (length p.units.items ≤ 2 ^ 25) × ((v : ℕ) → slice_index p.counts.items v ≤ 2 ^ 27)
-plan_few net step ls cs p ready plan = (omega (arith, ap length plan.units, ready.few), counts)
-  where
-    counts : (v : ℕ) → slice_index p.counts.items v ≤ 2 ^ 27
-    counts v = elim (cases_lt v net.nodes) [
+  -- A plan has few units, and few copies of each node.
+  pub plan_few : (length p.units.items ≤ 2 ^ 25) × ((v : ℕ) → slice_index p.counts.items v ≤ 2 ^ 27)
+  plan_few = (
+    omega (arith, ap length plan.units, ready.few),
+    λ v. elim (cases_lt v net.nodes) [
       | inl l ↦ omega (
         arith,
         plan.counts.each v l,
@@ -98,4 +80,5 @@ plan_few net step ls cs p ready plan = (omega (arith, ap length plan.units, read
         ready.few,
       )
       | inr h ↦ omega (arith, get_or_past p.counts.items v 0 (omega (arith, plan.counts.count)))
-    ]
+    ],
+  )

@@ -7,27 +7,27 @@ use Rattle.qm_gadget.proofs.lengths.lengths_of.Goals as goal
 pub overflow_cast-len : goal.overflow_cast-len
 overflow_cast-len c = omega (
   arith,
-  gadget_edges (network c.args.net.now.whole.now) c.args.g.now c.args.net.now.bounds c.requires.gadget,
+  gadget_edges c.args.net.now.bounds c.requires.gadget,
   c.len.ensures,
   c.args.g.now.graph.edges.ok.0,
 )
 
 pub invariant_of-boxes-clause-ready : goal.invariant_of-boxes-clause-ready
 invariant_of-boxes-clause-ready c = rw (c.deref.ensures.value, c.deref-2.ensures.value)
-    (gadget_ready (network c.args.net.now.whole.now) c.args.g.now c.args.net.now.bounds c.requires.gadget)
+    (gadget_ready c.args.net.now.bounds c.requires.gadget)
 
 pub lengths_over-requires-clause-edges : goal.lengths_over-requires-clause-edges
 lengths_over-requires-clause-edges c = (
   omega (
     arith,
-    gadget_edges (network c.args.net.now.whole.now) c.args.g.now c.args.net.now.bounds c.requires.gadget,
+    gadget_edges c.args.net.now.bounds c.requires.gadget,
     c.len.ensures,
     c.args.g.now.graph.edges.ok.0,
   ),
   rw (c.deref.ensures.value, c.deref-2.ensures.value)
       (omega (
         arith,
-        gadget_wide (network c.args.net.now.whole.now) c.args.g.now c.args.net.now.bounds c.requires.gadget,
+        gadget_wide c.args.net.now.bounds c.requires.gadget,
         c.len.ensures,
         c.args.g.now.graph.edges.ok.0,
       )),
@@ -38,9 +38,8 @@ told : (c : goal.After-lengths_over)
     → IfOk c.lengths_over.result (λ (ys : Vec ℕ Global). AreTold (network c.args.net.now.whole.now) c.args.g.now
     c.args.m.now ys.items)
 told c = IfOk-weaker c.lengths_over.result _ _
-    (λ (ys : Vec ℕ Global) is. gadget_lengths (network c.args.net.now.whole.now) c.args.g.now c.args.m.now
-    c.args.net.now.bounds c.requires.gadget c.requires.perfect c.len.result
-    (omega (arith, c.len.ensures, c.args.g.now.graph.edges.ok.0)) ys.items is)
+    (λ (ys : Vec ℕ Global) is. gadget_lengths c.args.net.now.bounds c.requires.gadget c.args.m.now c.requires.perfect
+    c.len.result (omega (arith, c.len.ensures, c.args.g.now.graph.edges.ok.0)) ys.items is)
     (rw (← c.deref.ensures.value, ← c.deref-2.ensures.value) c.lengths_over.ensures)
 
 pub returns-clause-count : goal.returns-clause-count

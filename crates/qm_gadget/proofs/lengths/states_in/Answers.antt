@@ -1,4 +1,4 @@
-use Rattle.std.proofs.Common.{◌≡◌, ℕ, ◌+◌, ◌-◌, ◌≤◌, ◌++◌, Bool, List, [], ◌∷◌, false, None, pos, drop, slice_index}
+use Rattle.std.proofs.Common.{◌≡◌, ℕ, ◌+◌, ◌-◌, ◌≤◌, ◌++◌, Bool, List, [], ◌∷◌, false, None, pos, drop}
 use Rattle.std.proofs.Common.{slice_index_or, sym, ◌∙◌, ap, append_assoc, arith}
 use Rattle.std.specs.Bool.{beq}
 use Rattle.def_math.specs.Counts.{count}

@@ -1,6 +1,5 @@
 use Rattle.std.proofs.Common.{◌≡◌, ℕ, ◌+◌, ◌++◌, Bool, List, length, drop, slice_index, slice_index_or, false, None}
 use Rattle.std.proofs.Common.{pos, sym, ◌∙◌, ap, length-append, arith}
-use Rattle.def_math.specs.Tables.{IsRaised}
 use Rattle.def_flow.specs.{declared.units.ArcUnit.ArcUnit, Units.active_at}
 use Rattle.gadget_laws.specs.Marks.{marks_by, units_marks}
 use Rattle.qm_gadget.specs.Layout.{copies_in}
@@ -13,29 +12,23 @@ no_unit = record { left = record { node = 0; plus = false }; right = None; cost 
 
 pub loop-i-preserved : goal.loop-i-preserved
 loop-i-preserved c =
-    let u : ArcUnit = slice_index_or c.args.laid.now.stated.units.now c.loop-i.i no_unit in
-    let on : Bool = slice_index_or c.args.laid.now.stated.ons.now c.loop-i.i false in
-    let raised : IsRaised (λ v. active_at v u on) c.loop-i.used c.push_unit_marks.new.used =
-    c.in_ok-push_unit_marks.ensures.used in
+    let us = c.args.laid.now.stated.units.now in
+    let ons = c.args.laid.now.stated.ons.now in
+    let copies = copies_in c.args.laid.now.counts.now in
+    let u = slice_index_or us c.loop-i.i no_unit in
+    let on = slice_index_or ons c.loop-i.i false in
+    let raised = c.in_ok-push_unit_marks.ensures.used in
     let read : (v : ℕ) → slice_index c.push_unit_marks.new.used v ≡ slice_index c.loop-i.used v + active_at v u on =
-    λ v. raised_read u on (length c.args.laid.now.counts.now) c.loop-i.used c.push_unit_marks.new.used
-    c.loop-i.invariant.long (c.args.laid.now.at c.loop-i.i no_unit c.loop-i-test.true) raised v in
-    let next : copies_in c.push_unit_marks.new.used ≡ (λ v. slice_index c.loop-i.used v + active_at v u on) =
-    same_everywhere (copies_in c.push_unit_marks.new.used) (λ v. slice_index c.loop-i.used v + active_at v u on)
-    read in
-    let part : List Bool = marks_by (copies_in c.args.laid.now.counts.now) (copies_in c.loop-i.used) on u.left u.right
-    in
-    let rest : List Bool = units_marks (copies_in c.args.laid.now.counts.now) (copies_in c.push_unit_marks.new.used)
-    (drop (c.loop-i.i + 1) c.args.laid.now.stated.units.now) (drop (c.loop-i.i + 1) c.args.laid.now.stated.ons.now) in
-    let split : units_marks (copies_in c.args.laid.now.counts.now) (copies_in c.loop-i.used)
-    (drop c.loop-i.i c.args.laid.now.stated.units.now) (drop c.loop-i.i c.args.laid.now.stated.ons.now) ≡ part ++ rest =
-    units_marks_step (copies_in c.args.laid.now.counts.now) (copies_in c.loop-i.used) c.args.laid.now.stated.units.now
-    c.args.laid.now.stated.ons.now c.loop-i.i no_unit false c.loop-i-test.true c.args.laid.now.stated.each
-    ∙ ap (λ f. part ++ units_marks (copies_in c.args.laid.now.counts.now) f
-    (drop (c.loop-i.i + 1) c.args.laid.now.stated.units.now)
-    (drop (c.loop-i.i + 1) c.args.laid.now.stated.ons.now)) (sym next) in
-    let width : length part ≡ c.width_of-k.result = marks_width (copies_in c.args.laid.now.counts.now)
-    (copies_in c.loop-i.used) on u.left u.right ∙ sym c.width_of-k.ensures in
+    raised_read u on (length c.args.laid.now.counts.now) c.loop-i.used c.push_unit_marks.new.used
+    c.loop-i.invariant.long (c.args.laid.now.at c.loop-i.i no_unit c.loop-i-test.true) raised in
+    let part = marks_by copies (copies_in c.loop-i.used) on u.left u.right in
+    let rest : List Bool = units_marks copies (copies_in c.push_unit_marks.new.used) (drop (c.loop-i.i + 1) us)
+    (drop (c.loop-i.i + 1) ons) in
+    let split : units_marks copies (copies_in c.loop-i.used) (drop c.loop-i.i us) (drop c.loop-i.i ons)
+    ≡ part ++ rest = rw (same_everywhere (copies_in c.push_unit_marks.new.used) _ read)
+    (units_marks_step copies (copies_in c.loop-i.used) us ons c.loop-i.i no_unit false c.loop-i-test.true
+    c.args.laid.now.stated.each) in
+    let width = marks_width copies (copies_in c.loop-i.used) on u.left u.right ∙ sym c.width_of-k.ensures in
     record {
       marks = marks_step c.loop-i.m.items c.push_unit_marks.new.m.items c.loop-i.k c.width_of-k.result part rest _ split
           width c.in_ok-push_unit_marks.ensures.marks ∙ c.loop-i.invariant.marks;

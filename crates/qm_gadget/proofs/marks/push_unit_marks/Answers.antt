@@ -1,7 +1,7 @@
-use Rattle.std.proofs.Common.{◌≡◌, ℕ, ◌+◌, ◌++◌, [], ◌∷◌, ◌<◌, not, length, slice_index, ◌∙◌, ap, arith}
+use Rattle.std.proofs.Common.{ℕ, ◌+◌, ◌++◌, [], ◌∷◌, ◌<◌, not, length, ◌∙◌, ap, arith}
 use Rattle.std.proofs.lemmas.Result.{on_ok_weaker}
-use Rattle.def_flow.specs.{Units.is_active, declared.units.ArcUnit.ArcUnit}
-use Rattle.gadget_laws.specs.Marks.{places, take_end}
+use Rattle.def_flow.specs.{declared.units.ArcUnit.ArcUnit}
+use Rattle.gadget_laws.specs.Marks.{places}
 use Rattle.qm_gadget.specs.Layout.{copies_in}
 use Rattle.qm_gadget.proofs.{Numbers.unit_lone, Numbers.unit_two, NodeCounts.right_at}
 use Rattle.qm_gadget.proofs.marks.push_unit_marks.Goals as goal
@@ -19,16 +19,14 @@ returns-in-None-clause-marks c =
 
 pub returns-in_ok-push_right_marks-in-Some-clause-marks : goal.returns-in_ok-push_right_marks-in-Some-clause-marks
 returns-in_ok-push_right_marks-in-Some-clause-marks c =
-    let unit : ArcUnit = c.args.counted.now.unit.now in
-    let at : c.in-Some.right.node < length c.args.used.now = omega (
+    let unit = c.args.counted.now.unit.now in
+    let right = c.in-Some.right in
+    let at : right.node < length c.args.used.now = omega (
       arith,
-      right_at (length c.args.counted.now.counts.now)
-          unit.left c.in-Some.right unit.right c.in-Some.is c.args.counted.now.at,
+      right_at (length c.args.counted.now.counts.now) unit.left right unit.right c.in-Some.is c.args.counted.now.at,
       c.requires.same,
     ) in
-    let taken : slice_index c.bump.new.counts c.in-Some.right.node
-    ≡ take_end (copies_in c.args.used.now) (is_active c.args.on unit.left) unit.left c.in-Some.right.node =
-    c.bump.ensures.each c.in-Some.right.node at in
     rw c.in-Some.is (unit_two c.args.m.now.items c.push_end_marks.new.m.items c.push_right_marks.new.m.items c.args.k
     (copies_in c.args.counted.now.counts.now) (copies_in c.args.used.now) (copies_in c.bump.new.counts) c.args.on
-    unit.left c.in-Some.right taken c.in_ok-push_end_marks.ensures c.in_ok-push_right_marks-in-Some.ensures)
+    unit.left right (c.bump.ensures.each right.node at) c.in_ok-push_end_marks.ensures
+    c.in_ok-push_right_marks-in-Some.ensures)

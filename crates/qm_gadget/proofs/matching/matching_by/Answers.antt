@@ -1,7 +1,8 @@
-use Rattle.std.proofs.Common.{◌≡◌, ℕ, List, length, sym, ◌∙◌, ap, arith}
+use Rattle.std.proofs.Common.{◌≡◌, length, sym, ◌∙◌, ap, arith}
 use Rattle.def_flow.specs.{Network.Network, Network.network, Units.states_over}
 use Rattle.gadget_laws.specs.Box.{ups}
 use Rattle.qm_gadget.proofs.{ByLows.states_long, OfList.plan_at, Steps.ups_length, Steps.plan_marks, Steps.plan_few}
+use Rattle.qm_gadget.proofs.matching.matching_by.Goals.{After-deref-4}
 use Rattle.qm_gadget.proofs.matching.matching_by.Goals as goal
 
 pub states_of-requires : goal.states_of-requires
@@ -31,32 +32,31 @@ invariant_of-stated-clause-at c = rw (c.deref-2.ensures.value, c.in_ok-plan.ensu
 
 pub invariant_of-laid-clause-few : goal.invariant_of-laid-clause-few
 invariant_of-laid-clause-few c =
-    let boxes = c.args.boxes.now in
-    rw c.deref-4.ensures.value (plan_few (network boxes.net.whole.now) boxes.step boxes.lows.now boxes.caps.now
-    c.in_ok-plan.plan boxes.ready c.in_ok-plan.ensures).1
+    rw c.deref-4.ensures.value (plan_few c.args.boxes.now.ready c.in_ok-plan.ensures).1
 
 pub invariant_of-laid-clause-at : goal.invariant_of-laid-clause-at
-invariant_of-laid-clause-at c =
-    let boxes = c.args.boxes.now in
-    rw (c.deref-4.ensures.value, c.deref-2.ensures.value) (plan_at (network boxes.net.whole.now) boxes.step
-    boxes.lows.now boxes.caps.now c.in_ok-plan.plan boxes.ready c.in_ok-plan.ensures)
+invariant_of-laid-clause-at c = rw (c.deref-4.ensures.value, c.deref-2.ensures.value)
+    (plan_at c.args.boxes.now.ready c.in_ok-plan.ensures)
+
+-- The states that are read are those of the list.
+ons : (c : After-deref-4) → c.deref-3.result.now
+    ≡ states_over c.args.boxes.now.caps.now (ups c.args.boxes.now.step c.args.boxes.now.lows.now c.args.x2.now)
+ons c = c.deref-3.ensures.value ∙ (c.in_ok-ons.ensures
+    ∙ ap (states_over c.args.boxes.now.caps.now) (c.deref.ensures.value ∙ c.in_ok-raised.ensures))
 
 pub marks_told-requires : goal.marks_told-requires
 marks_told-requires c =
     let boxes = c.args.boxes.now in
-    let raised : List ℕ = ups boxes.step boxes.lows.now c.args.x2.now in
-    let ons : c.deref-3.result.now ≡ states_over boxes.caps.now raised = c.deref-3.ensures.value
-    ∙ (c.in_ok-ons.ensures ∙ ap (states_over boxes.caps.now) (c.deref.ensures.value ∙ c.in_ok-raised.ensures)) in
-    rw (ons, c.deref-4.ensures.value, c.deref-2.ensures.value)
-    (rw (plan_marks (network boxes.net.whole.now) boxes.step boxes.lows.now boxes.caps.now raised c.in_ok-plan.plan
-    boxes.ready c.in_ok-plan.ensures) c.requires.short)
+    rw (
+      ons (goal.at.marks_told-requires c).After-deref-4,
+      c.deref-4.ensures.value,
+      c.deref-2.ensures.value,
+      plan_marks boxes.ready c.in_ok-plan.ensures (ups boxes.step boxes.lows.now c.args.x2.now),
+    ) c.requires.short
 
 pub returns : goal.returns
 returns c =
     let boxes = c.args.boxes.now in
-    let raised : List ℕ = ups boxes.step boxes.lows.now c.args.x2.now in
-    let ons : c.deref-3.result.now ≡ states_over boxes.caps.now raised = c.deref-3.ensures.value
-    ∙ (c.in_ok-ons.ensures ∙ ap (states_over boxes.caps.now) (c.deref.ensures.value ∙ c.in_ok-raised.ensures)) in
-    rw (← plan_marks (network boxes.net.whole.now) boxes.step boxes.lows.now boxes.caps.now raised c.in_ok-plan.plan
-    boxes.ready c.in_ok-plan.ensures)
-    (rw (← ons, ← c.deref-4.ensures.value, ← c.deref-2.ensures.value) c.marks_told.ensures)
+    rw (← plan_marks boxes.ready c.in_ok-plan.ensures (ups boxes.step boxes.lows.now c.args.x2.now))
+    (rw (← ons (goal.at.returns c).After-deref-4, ← c.deref-4.ensures.value, ← c.deref-2.ensures.value)
+    c.marks_told.ensures)
