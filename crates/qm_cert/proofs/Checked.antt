@@ -1,10 +1,10 @@
 -- The verdict yes is that the certificate is accepted.
-use Rattle.std.proofs.Common.{◌≡◌, ◌≢◌, ℕ, ℤ, ◌<◌, ◌≤◌, ◌==◌, nat_lt, not, length, List, Option, Some, None}
-use Rattle.std.proofs.Common.{Err, IfOk, refl, sym, ◌∙◌, ap, inl, inr, ◌⊎◌, ltb-false, le-ltb, eq-eqb, eqb-true, arith}
+use Rattle.std.proofs.Common.{◌≡◌, ◌≢◌, ℕ, ℤ, ◌==◌, nat_lt, not, length, List, Option, Some, None}
+use Rattle.std.proofs.Common.{Err, IfOk, refl, sym, ◌∙◌, ap, inl, inr, ltb-false, le-ltb, eq-eqb, eqb-true, arith}
 use Rattle.std.proofs.lemmas.Int.{ints}
 use Rattle.std.proofs.lemmas.Bool.{cases_lt, not-false}
 use Rattle.std.proofs.lemmas.Bool.Decides.{Decides-int_eq}
-use Rattle.std.proofs.Common.{option_map, pos, unsigned_abs, ◌-ℤ◌, ◌*ℤ◌, ◌≤ℤ◌, true, false, cond, Bool, ◌↔◌, Result, Ok}
+use Rattle.std.proofs.Common.{option_map, pos, ◌-ℤ◌, ◌*ℤ◌, true, false, cond, Bool, ◌↔◌, Result, Ok}
 use Rattle.std.specs.{Prelude.slice_index, Prelude.if◌then◌else◌, Ordering.int_eq}
 use Rattle.qm_dual.proofs.{Searches.least_none, Searches.none_below, Verdicts.yes_says, Verdicts.says_yes}
 use Rattle.def_flow.specs.{Gadget.lows, Network.Network, Network.IsWithinBounds, Network.arc_at}
@@ -13,10 +13,9 @@ use Rattle.def_flow.specs.{Admissible.side_sum, Units.arcwise, Units.down, Units
 use Rattle.def_flow.specs.Accepted.{Certificate, IsAccepted, below_fault, unequal_fault}
 use Rattle.def_flow.specs.Accepted.{refuse_dual, sums_verdict, cert_verdict}
 use Rattle.def_flow.specs.{declared.cert.CertVerdict.CertVerdict, declared.cert.CertVerdict.TheVariants.Count}
-use Rattle.def_flow.specs.declared.cert.CertVerdict.TheVariants.{Below, Unequal}
 use Rattle.def_flow.specs.declared.cert.CertVerdict.TheVariants.{Sums}
 use Rattle.def_flow.specs.{declared.cert.CertVerdict.TheVariants.Yes as Accepted}
-use Rattle.def_matching.specs.{Dual.dual_sum, Dual.refuse, Dual.verdict, declared.weighted.Verdict.Verdict}
+use Rattle.def_matching.specs.{Dual.dual_sum, Dual.verdict, declared.weighted.Verdict.Verdict}
 use Rattle.def_matching.specs.declared.weighted.Verdict.TheVariants.{Yes}
 use Rattle.qm_net.proofs.Balances.{no_side_past}
 use Rattle.gadget_laws.proofs.{Box.own_box, Law.box_deviation, Sound.sound}
@@ -36,36 +35,10 @@ pub cost_is : (net : Network) (xs : List ℕ) → length xs ≡ length net.arcs
     → on_cost net 1 xs ≡ pos (deviation net (entries xs)) -ℤ pos (deviation net (entries (lows net 1 xs)))
 cost_is net xs l = box_deviation net 1 xs (arcwise (down 1) net.arcs xs) xs l (own_box 1 net.arcs xs l)
 
--- A refusal, as a verdict that may be missing.
-refuse_is : (o : Option ℕ) (at : ℕ → CertVerdict) (after : CertVerdict)
-    → refuse o at after ≡ or_else (option_map at o) after
-refuse_is o at after = grind (arith)
-
-or_else_two : (a b : Option CertVerdict) (after : CertVerdict) → or_else (first_of_two a b) after
-    ≡ or_else a (or_else b after)
-or_else_two a b after = grind (arith)
-
 -- The verdict is the fault of the list, or what comes after.
 pub by_list : (net : Network) (c : Certificate) → cert_verdict net c
     ≡ or_else (list_verdict net c.x) (refuse_dual (verdict (matching_graph net 1 c.x) c.dual) (sums_verdict net c))
-by_list net c = grind (arith)
-  where
-    below : ℕ → CertVerdict
-    below k = Below k (slice_index c.x k)
-
-    unequal : ℕ → CertVerdict
-    unequal v = Unequal v (unsigned_abs (side_sum net.arcs (entries c.x) true v))
-        (unsigned_abs (side_sum net.arcs (entries c.x) false v))
-
-    after : CertVerdict
-    after = refuse_dual (verdict (matching_graph net 1 c.x) c.dual) (sums_verdict net c)
-
-    faults : refuse (below_fault net c.x) below (refuse (unequal_fault net c.x) unequal after)
-        ≡ or_else (first_of_two (below_verdict net c.x) (unequal_verdict net c.x)) after
-    faults =
-        refuse_is (below_fault net c.x) below (refuse (unequal_fault net c.x) unequal after)
-        ∙ (ap (or_else (below_verdict net c.x)) (refuse_is (unequal_fault net c.x) unequal after)
-        ∙ sym (or_else_two (below_verdict net c.x) (unequal_verdict net c.x) after))
+by_list net c = grind arith
 
 -- No fault of the list: it has one length for each arc, and is admissible.
 none_of : (f : ℕ → CertVerdict) (o : Option ℕ) → option_map f o ≡ None → o ≡ None
@@ -79,52 +52,37 @@ pub no_fault : (net : Network) (xs : List ℕ) → IsWithinBounds net → list_v
     → (length xs ≡ length net.arcs) × IsAdmissible net (entries xs)
 no_fault net xs bounds none = by_count (length xs == length net.arcs) refl none
   where
-    admissible : length xs ≡ length net.arcs → (below_verdict net xs ≡ None) × (unequal_verdict net xs ≡ None)
-        → IsAdmissible net (entries xs)
-    admissible count parts = record { high = high; balanced = λ v. balanced v (cases_lt v net.nodes) }
-      where
-        below : below_fault net xs ≡ None
-        below = none_of _ (below_fault net xs) parts.0
-
-        unequal : unequal_fault net xs ≡ None
-        unequal = none_of _ (unequal_fault net xs) parts.1
-
-        high : (k : ℕ) → k < length net.arcs → pos (arc_at net.arcs k).floor ≤ℤ entries xs k
-        high k l = (let h : (arc_at net.arcs k).floor ≤ slice_index xs k =
-            ltb-false (slice_index xs k) (arc_at net.arcs k).floor
-            (none_below (λ j. nat_lt (slice_index xs j) (arc_at net.arcs j).floor)
-            (length net.arcs) below k l) in omega (arith, ints, h))
-
-        balanced : (v : ℕ) → (v < net.nodes) ⊎ (net.nodes ≤ v) → side_sum net.arcs (entries xs) true v
-            ≡ side_sum net.arcs (entries xs) false v
-        balanced v (inl l) = (Decides-int_eq (side_sum net.arcs (entries xs) true v)
-            (side_sum net.arcs (entries xs) false v)).0
-            (not-false _ (none_below
-            (λ u. not (int_eq (side_sum net.arcs (entries xs) true u) (side_sum net.arcs (entries xs) false u)))
-            net.nodes unequal v l))
-        balanced v (inr h) = no_side_past net bounds xs true v h ∙ sym (no_side_past net bounds xs false v h)
+    admissible : (below_verdict net xs ≡ None) × (unequal_verdict net xs ≡ None) → IsAdmissible net (entries xs)
+    admissible parts = record {
+      high = λ k l.
+          let h = ltb-false (slice_index xs k) (arc_at net.arcs k).floor
+          (none_below _ (length net.arcs) (none_of _ (below_fault net xs) parts.0) k l) in
+          omega (arith, ints, h);
+      balanced = λ v. elim (cases_lt v net.nodes) [
+        | inl l ↦ (Decides-int_eq (side_sum net.arcs (entries xs) true v) (side_sum net.arcs (entries xs) false v)).0
+            (not-false _ (none_below _ net.nodes (none_of _ (unequal_fault net xs) parts.1) v l))
+        | inr h ↦ no_side_past net bounds xs true v h ∙ sym (no_side_past net bounds xs false v h)
+      ];
+    }
 
     by_count : (b : Bool) → (length xs == length net.arcs) ≡ b
         → cond (not b) (Some (Count (length net.arcs) (length xs)))
         (first_of_two (below_verdict net xs) (unequal_verdict net xs)) ≡ None → (length xs ≡ length net.arcs)
         × IsAdmissible net (entries xs)
     by_count false e f = absurd cc
-    by_count true e f = (let count : length xs ≡ length net.arcs = eqb-true (length xs) (length net.arcs) e in
-        (count, admissible count (none_of_two (below_verdict net xs) (unequal_verdict net xs) f)))
+    by_count true e f = (eqb-true (length xs) (length net.arcs) e, admissible (none_of_two _ _ f))
 
 -- An admissible list has no fault.
 admissible_none : (net : Network) (xs : List ℕ) → length xs ≡ length net.arcs → IsAdmissible net (entries xs)
     → list_verdict net xs ≡ None
 admissible_none net xs count a =
-    let same : (length xs == length net.arcs) ≡ true = eq-eqb (length xs) (length net.arcs) count in
-    let below : below_fault net xs ≡ None = least_none (λ j. nat_lt (slice_index xs j) (arc_at net.arcs j).floor)
-    (length net.arcs) (λ k l. le-ltb (slice_index xs k) (arc_at net.arcs k).floor (omega (arith, ints, a.high k l))) in
-    let unequal : unequal_fault net xs ≡ None =
-    least_none (λ u. not (int_eq (side_sum net.arcs (entries xs) true u) (side_sum net.arcs (entries xs) false u)))
-    net.nodes (λ v l. ap not
-    ((Decides-int_eq (side_sum net.arcs (entries xs) true v) (side_sum net.arcs (entries xs) false v)).1
-    (a.balanced v))) in
-    rw (same, below, unequal) refl
+    let below = least_none (λ j. nat_lt (slice_index xs j) (arc_at net.arcs j).floor) (length net.arcs)
+    (λ k l. le-ltb (slice_index xs k) (arc_at net.arcs k).floor (omega (arith, ints, a.high k l))) in
+    let unequal = least_none
+    (λ u. not (int_eq (side_sum net.arcs (entries xs) true u) (side_sum net.arcs (entries xs) false u))) net.nodes
+    (λ v l. ap not ((Decides-int_eq (side_sum net.arcs (entries xs) true v)
+    (side_sum net.arcs (entries xs) false v)).1 (a.balanced v))) in
+    rw (eq-eqb (length xs) (length net.arcs) count, below, unequal) refl
 
 -- After a yes the dual has no fault and the sums are equal.
 list_yes : (o : Option CertVerdict) (after : CertVerdict) (d : ℤ) → ((v : CertVerdict) → o ≡ Some v → v ≢ Accepted d)
@@ -171,31 +129,24 @@ list_other net xs d v e = by_count (length xs == length net.arcs) e
 -- The verdict yes comes exactly where the certificate is accepted.
 pub yes_accepted : (net : Network) (c : Certificate) (d : ℤ) → IsWithinBounds net → cert_verdict net c ≡ Accepted d
     → IsAccepted net c
-yes_accepted net c d bounds says = record {
-  count = (no_fault net c.x bounds list.0).0;
-  admissible = (no_fault net c.x bounds list.0).1;
-  yes = (yes_says (matching_graph net 1 c.x) c.dual dual.0 dual.1).0;
-  sums = sums_yes (pos (deviation net (entries c.x))) (dual_sum c.dual) (pos 2 *ℤ on_cost net 1 c.x) d dual.2;
-}
-  where
-    after : CertVerdict
-    after = refuse_dual (verdict (matching_graph net 1 c.x) c.dual) (sums_verdict net c)
-
-    list : (list_verdict net c.x ≡ None) × (after ≡ Accepted d)
-    list = list_yes (list_verdict net c.x) after d (list_other net c.x d) (sym (by_list net c) ∙ says)
-
-    dual : (s : ℤ) × (verdict (matching_graph net 1 c.x) c.dual ≡ Yes s) × (sums_verdict net c ≡ Accepted d)
-    dual = dual_yes (verdict (matching_graph net 1 c.x) c.dual) (sums_verdict net c) d list.1
+yes_accepted net c d bounds says =
+    let list = list_yes (list_verdict net c.x) _ d (list_other net c.x d) (sym (by_list net c) ∙ says) in
+    let dual = dual_yes (verdict (matching_graph net 1 c.x) c.dual) (sums_verdict net c) d list.1 in
+    let fine = no_fault net c.x bounds list.0 in
+    record {
+      count = fine.0;
+      admissible = fine.1;
+      yes = (yes_says (matching_graph net 1 c.x) c.dual dual.0 dual.1).0;
+      sums = sums_yes (pos (deviation net (entries c.x))) (dual_sum c.dual) (pos 2 *ℤ on_cost net 1 c.x) d dual.2;
+    }
 
 pub accepted_yes : (net : Network) (c : Certificate) → IsAccepted net c → cert_verdict net c
     ≡ Accepted (pos (deviation net (entries c.x)))
-accepted_yes net c a =
-    let list : list_verdict net c.x ≡ None = admissible_none net c.x a.count a.admissible in
-    let dual : verdict (matching_graph net 1 c.x) c.dual ≡ Yes (dual_sum c.dual) =
-    says_yes (matching_graph net 1 c.x) c.dual a.yes in
-    let sums : int_eq (dual_sum c.dual) (pos 2 *ℤ on_cost net 1 c.x) ≡ true =
-    (Decides-int_eq (dual_sum c.dual) (pos 2 *ℤ on_cost net 1 c.x)).1 a.sums in
-    by_list net c ∙ rw (list, dual, sums) refl
+accepted_yes net c a = by_list net c ∙ rw (
+  admissible_none net c.x a.count a.admissible,
+  says_yes (matching_graph net 1 c.x) c.dual a.yes,
+  (Decides-int_eq (dual_sum c.dual) (pos 2 *ℤ on_cost net 1 c.x)).1 a.sums,
+) refl
 
 -- After a yes the list is least.
 pub yes_least : (net : Network) (c : Certificate) (d : ℤ) → IsWithinBounds net → cert_verdict net c ≡ Accepted d
@@ -224,14 +175,11 @@ least_where_exact net c (Err e) bounds exact = tt
 -- The verdict where the list has a fault.
 pub faulty : (net : Network) (c : Certificate) (v : CertVerdict) → list_verdict net c.x ≡ Some v
     → v ≡ cert_verdict net c
-faulty net c v e = sym (by_list net c
-    ∙ ap (λ o. or_else o (refuse_dual (verdict (matching_graph net 1 c.x) c.dual) (sums_verdict net c))) e)
+faulty net c v e = rw (by_list net c, e) refl
 
 -- The verdict where the list has none.
 pub faultless : {E : Type 0} (net : Network) (c : Certificate) (r : Result CertVerdict E) → list_verdict net c.x ≡ None
     → IfOk r (λ v. v ≡ refuse_dual (verdict (matching_graph net 1 c.x) c.dual) (sums_verdict net c))
     → IfOk r (λ v. v ≡ cert_verdict net c)
-faultless net c (Ok v) none exact =
-    exact ∙ sym (by_list net c
-    ∙ ap (λ o. or_else o (refuse_dual (verdict (matching_graph net 1 c.x) c.dual) (sums_verdict net c))) none)
+faultless net c (Ok v) none exact = exact ∙ rw (by_list net c, none) refl
 faultless net c (Err e) none exact = tt

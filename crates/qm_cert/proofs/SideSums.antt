@@ -2,7 +2,7 @@
 use Rattle.std.proofs.Common.{◌≡◌, ℕ, zero, suc, ◌+◌, ◌*◌, ◌^◌, ◌<◌, ◌≤◌, Bool, true, false, not, cond, List, length}
 use Rattle.std.proofs.Common.{pos, refl, ◌∙◌, add-one, arith}
 use Rattle.std.specs.Prelude.{slice_index}
-use Rattle.def_math.specs.{Sums.total, Tables.at_place, Tables.IsRaised}
+use Rattle.def_math.specs.{Tables.at_place, Tables.IsRaised}
 use Rattle.sum_laws.proofs.{Counts.count_total, Counts.count_below_total, Sums.total_same, Sums.total_below_same}
 use Rattle.table_laws.proofs.Tallies.{raised_as, raised_none, tally_low, tally_more}
 use Rattle.def_flow.specs.{Network.arc_at, Network.ends, Admissible.AreNetLengths, Admissible.entries}
@@ -56,17 +56,10 @@ sides_more nodes arcs xs plus k old new are raised =
 pub side_is : (arcs : List Arc) (xs : List ℕ) (plus : Bool) (v : ℕ) → pos (side_count arcs xs plus (length arcs) v)
     ≡ side_sum arcs (entries xs) plus v
 side_is arcs xs plus v = count_below_total (λ i. arc_put plus (arc_at arcs i) (slice_index xs i) v) (length arcs)
-    ∙ total_below_same _ _ (length arcs) (λ i l. by_arc i)
+    ∙ total_below_same _ _ (length arcs) (λ i l.
+    count_total (λ (e : End). end_put plus e (slice_index xs i) v) (ends (arc_at arcs i))
+    ∙ total_same _ _ (ends (arc_at arcs i)) (λ e. by_test (slice_index xs i) (is_on_side v plus e)))
   where
-    one : (i : ℕ) (e : End) → pos (end_put plus e (slice_index xs i) v) ≡ cond (is_on_side v plus e) (entries xs i)
-        (pos 0)
-    one i e = by_test (is_on_side v plus e)
-      where
-        by_test : (b : Bool) → pos (cond b (slice_index xs i) 0) ≡ cond b (pos (slice_index xs i)) (pos 0)
-        by_test true = refl
-        by_test false = refl
-
-    by_arc : (i : ℕ) → pos (arc_put plus (arc_at arcs i) (slice_index xs i) v)
-        ≡ total (λ e. cond (is_on_side v plus e) (entries xs i) (pos 0)) (ends (arc_at arcs i))
-    by_arc i = count_total (λ (e : End). end_put plus e (slice_index xs i) v) (ends (arc_at arcs i))
-        ∙ total_same _ _ (ends (arc_at arcs i)) (one i)
+    by_test : (x : ℕ) (b : Bool) → pos (cond b x 0) ≡ cond b (pos x) (pos 0)
+    by_test x true = refl
+    by_test x false = refl

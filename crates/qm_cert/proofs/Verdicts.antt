@@ -1,6 +1,6 @@
 -- The verdict on a list by tables of sums.
-use Rattle.std.proofs.Common.{◌≡◌, ◌≢◌, ℕ, ℤ, ◌<◌, ◌==◌, not, length, List, Option, Some, None, option_map, pos}
-use Rattle.std.proofs.Common.{unsigned_abs, true, false, Bool, refl, sym, ◌∙◌, ap, inl, inr, ◌⊎◌, eq-eqb, ne_eqb, arith}
+use Rattle.std.proofs.Common.{◌≡◌, ℕ, ℤ, ◌<◌, ◌==◌, not, length, List, Option, Some, None, option_map, pos}
+use Rattle.std.proofs.Common.{unsigned_abs, true, false, Bool, refl, sym, ◌∙◌, ap, inl, inr, eq-eqb, ne_eqb, arith}
 use Rattle.std.proofs.lemmas.Int.{ints}
 use Rattle.std.proofs.lemmas.Bool.{cases_eq}
 use Rattle.std.proofs.lemmas.Bool.Decides.{Decides-int_eq}
@@ -19,15 +19,14 @@ map_same f g (Some k) same = ap Some (same k refl)
 
 -- Equal numbers, and equal whole numbers.
 same_test : (m n : ℕ) → (m == n) ≡ int_eq (pos m) (pos n)
-same_test m n = by_order (cases_eq m n)
+same_test m n = elim (cases_eq m n) [
+  | inl e ↦ eq-eqb m n e ∙ sym ((Decides-int_eq (pos m) (pos n)).1 (ap pos e))
+  | inr ne ↦ ne_eqb m n ne
+      ∙ sym (off (int_eq (pos m) (pos n)) (λ on. ne (omega (arith, ints, (Decides-int_eq (pos m) (pos n)).0 on))))
+]
   where
-    by_order : (m ≡ n) ⊎ (m ≢ n) → (m == n) ≡ int_eq (pos m) (pos n)
-    by_order (inl e) = eq-eqb m n e ∙ sym ((Decides-int_eq (pos m) (pos n)).1 (ap pos e))
-    by_order (inr ne) = ne_eqb m n ne
-        ∙ sym (off (int_eq (pos m) (pos n)) (λ on. ne (omega (arith, ints, (Decides-int_eq (pos m) (pos n)).0 on))))
-      where
-        off : (b : Bool) → (b ≡ true → ⊥) → b ≡ false
-        off b no_way = grind (arith)
+    off : (b : Bool) → (b ≡ true → ⊥) → b ≡ false
+    off b no_way = grind (arith)
 
 -- The tables tell the least node with unequal sums, and these.
 pub compared_is : (net : Network) (xs : List ℕ) (plus minus : List ℕ)
