@@ -34,12 +34,11 @@ module _ {g : Darts} (are : AreDarts g) {f new : Forest} {b : ℕ} (changed : Ch
   open changed use {size, weight, holds, sets}
 
   pub same_load : (u v : ℕ) → u < g.n → v < g.n → weight_between new u v ≡ weight_between f u v
-  same_load u v lu lv = ap sum size ∙ total_below_same (λ x. cond (splits (new.holds x) u v) (new.weight x) (pos 0))
+  same_load u v lu lv =
+      let sum : ℕ → ℤ = λ s. weight_between (record new { size = s }) u v in
+      ap sum size ∙ total_below_same (λ x. cond (splits (new.holds x) u v) (new.weight x) (pos 0))
       (λ x. cond (splits (f.holds x) u v) (f.weight x) (pos 0)) f.size (λ x l. each x (cases_eq x b))
     where
-      sum : ℕ → ℤ
-      sum s = weight_between (record new { size = s }) u v
-
       each : (x : ℕ) → (x ≡ b) ⊎ (x ≢ b) → cond (splits (new.holds x) u v) (new.weight x) (pos 0)
           ≡ cond (splits (f.holds x) u v) (f.weight x) (pos 0)
       each x (inl e) = rw (weight x, e, changed.weightless)
@@ -118,22 +117,19 @@ module _ {g : Darts} (are : AreDarts g) {f new : Forest} {b : ℕ} (changed : Ch
       → ((p : ℕ) → new.nest.up p ≢ p → (g.n ≤ new.nest.up p) × (new.nest.parts (new.nest.up p) ≢ 0))
       → ((p : ℕ) → new.nest.up p ≢ p → IsJoint g new p) → IsNested g new
   same_nested nested ring_b empty_b ring_old live joints = record {
-    alone = λ v w lv lw. holds v w (λ e. absurd (omega (arith, e, lv, changed.high))) lw ∙ nested.alone v w lv lw;
-    rings = λ c high live. rings c high live (cases_eq c b);
-    empty = λ c v high low none. empty c v high low none (cases_eq c b);
-    weightless = λ c high none. weightless c high none (cases_eq c b);
+    alone = λ v w lv lw. holds v w (λ e. absurd (omega arith)) lw ∙ nested.alone v w lv lw;
+    rings = λ c high live. elim (cases_eq c b) [
+      | inl e ↦ rw e (ring_b (rw e at live))
+      | inr ne ↦ ring_old c ne (nested.rings c high (λ none. live ((sets c ne).many ∙ none)))
+    ];
+    empty = λ c v high low none. elim (cases_eq c b) [
+      | inl e ↦ rw e (empty_b v low (ap new.nest.parts (sym e) ∙ none))
+      | inr ne ↦ holds c v ne low ∙ nested.empty c v high low (sym (sets c ne).many ∙ none)
+    ];
+    weightless = λ c high none. elim (cases_eq c b) [
+      | inl e ↦ weight c ∙ ap f.weight e ∙ changed.weightless
+      | inr ne ↦ weight c ∙ nested.weightless c high (sym (sets c ne).many ∙ none)
+    ];
     live = live;
     joints = joints;
   }
-    where
-      rings : (c : ℕ) → g.n ≤ c → new.nest.parts c ≢ 0 → (c ≡ b) ⊎ (c ≢ b) → IsRing g new c
-      rings c high live (inl e) = rw e (ring_b (subst (λ x. new.nest.parts x ≢ 0) e live))
-      rings c high live (inr ne) = ring_old c ne (nested.rings c high (λ none. live ((sets c ne).many ∙ none)))
-
-      empty : (c v : ℕ) → g.n ≤ c → v < g.n → new.nest.parts c ≡ 0 → (c ≡ b) ⊎ (c ≢ b) → new.holds c v ≡ false
-      empty c v high low none (inl e) = rw e (empty_b v low (ap new.nest.parts (sym e) ∙ none))
-      empty c v high low none (inr ne) = holds c v ne low ∙ nested.empty c v high low (sym (sets c ne).many ∙ none)
-
-      weightless : (c : ℕ) → g.n ≤ c → new.nest.parts c ≡ 0 → (c ≡ b) ⊎ (c ≢ b) → new.weight c ≡ pos 0
-      weightless c high none (inl e) = weight c ∙ ap f.weight e ∙ changed.weightless
-      weightless c high none (inr ne) = weight c ∙ nested.weightless c high (sym (sets c ne).many ∙ none)

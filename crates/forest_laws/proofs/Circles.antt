@@ -22,19 +22,17 @@ module _ (next : ℕ → ℕ) (front many : ℕ) (inside : ℕ → Bool) (circle
   shifted s k = sym (walk_sum next front s k)
 
   back : (s k : ℕ) → many ≤ s + k → walk next front (s + k) ≡ walk next front (s + k - many)
-  back s k le = (let e : s + k ≡ many + (s + k - many) = omega (arith, le) in ap (walk next front) e
-      ∙ round (s + k - many))
+  back s k le = (let e : s + k ≡ many + (s + k - many) = omega arith in ap (walk next front) e ∙ round (s + k - many))
 
   differ : (s i j : ℕ) → s < many → i < j → j < many → walk next front (s + i) ≢ walk next front (s + j)
   differ s i j ls lij lj = by_ends (cases_lt (s + i) many) (cases_lt (s + j) many)
     where
       by_ends : (s + i < many) ⊎ (many ≤ s + i) → (s + j < many) ⊎ (many ≤ s + j)
           → walk next front (s + i) ≢ walk next front (s + j)
-      by_ends x (inl lsj) e = circle.distinct (s + i) (s + j) (omega (arith, lij)) lsj e
-      by_ends (inl lsi) (inr h) e = circle.distinct (s + j - many) (s + i) (omega (arith, lj, h, ls)) lsi
-          (sym (back s j h) ∙ sym e)
-      by_ends (inr hi) (inr hj) e = circle.distinct (s + i - many) (s + j - many) (omega (arith, hi, hj, lij))
-          (omega (arith, hj, ls, lj)) (sym (back s i hi) ∙ (e ∙ back s j hj))
+      by_ends x (inl lsj) e = circle.distinct (s + i) (s + j) (omega arith) lsj e
+      by_ends (inl lsi) (inr h) e = circle.distinct (s + j - many) (s + i) (omega arith) lsi (sym (back s j h) ∙ sym e)
+      by_ends (inr hi) (inr hj) e = circle.distinct (s + i - many) (s + j - many) (omega arith)
+          (omega arith) (sym (back s i hi) ∙ (e ∙ back s j hj))
 
   pub circle_from : (x : ℕ) → inside x ≡ true → IsCircle next x many inside
   circle_from x on = by_place (circle.all x on)
@@ -50,22 +48,22 @@ module _ (next : ℕ → ℕ) (front many : ℕ) (inside : ℕ → Bool) (circle
         where
           found : (y : ℕ) → (k : ℕ) × (k < many) × (walk next front k ≡ y) → (k : ℕ) × (k < many)
               × (walk next (walk next front s) k ≡ y)
-          found y w = by_order (cases_lt w.0 s)
-            where
-              by_order : (w.0 < s) ⊎ (s ≤ w.0) → (k : ℕ) × (k < many) × (walk next (walk next front s) k ≡ y)
-              by_order (inl l) = (
-                w.0 + many - s,
-                omega (arith, l, ls, w.1),
-                shifted s (w.0 + many - s)
-                    ∙ ((let e : s + (w.0 + many - s) ≡ many + w.0 = omega (arith, ls) in ap (walk next front) e)
-                    ∙ (round w.0 ∙ w.2)),
-              )
-              by_order (inr h) = (
-                w.0 - s,
-                omega (arith, w.1),
-                shifted s (w.0 - s)
-                    ∙ ((let e : s + (w.0 - s) ≡ w.0 = omega (arith, h) in ap (walk next front) e) ∙ w.2),
-              )
+          found y w =
+              elim (cases_lt w.0 s) [
+                | inl l ↦ (
+                  w.0 + many - s,
+                  omega arith,
+                  shifted s (w.0 + many - s)
+                      ∙ ((let e : s + (w.0 + many - s) ≡ many + w.0 = omega arith in ap (walk next front) e)
+                      ∙ (round w.0 ∙ w.2)),
+                )
+                | inr h ↦ (
+                  w.0 - s,
+                  omega arith,
+                  shifted s (w.0 - s)
+                      ∙ ((let e : s + (w.0 - s) ≡ w.0 = omega arith in ap (walk next front) e) ∙ w.2),
+                )
+              ]
 
       by_place : (k : ℕ) × (k < many) × (walk next front k ≡ x) → IsCircle next x many inside
       by_place w = subst (λ y. IsCircle next y many inside) w.2 (at_place w.0 w.1)

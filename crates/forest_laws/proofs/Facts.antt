@@ -1,10 +1,10 @@
 -- What follows at once from a forest's validity.
-use Rattle.std.proofs.Common.{◌≡◌, ◌≢◌, ℕ, ◌<◌, Option, Some, None, ◌+ℤ◌, refl, sym, ◌∙◌, ap, inl, inr}
+use Rattle.std.proofs.Common.{◌≡◌, ◌≢◌, ℕ, ◌<◌, Option, Some, ◌+ℤ◌, sym, ◌∙◌, ap, inl, inr}
 use Rattle.def_forest.specs.Darts.{Darts, AreDarts, far}
 use Rattle.def_forest.specs.Forests.{Forest, weight_between, IsTight}
-use Rattle.def_forest.specs.Valid.{IsValid, IsTree, IsInner, IsOuter}
+use Rattle.def_forest.specs.Valid.{IsValid, IsTree}
 use Rattle.def_forest.specs.declared.kinds.Label.TheVariants.{Outer, Inner, Outside}
-use Rattle.forest_laws.proofs.{Writes.some_is, Loads.load_order}
+use Rattle.forest_laws.proofs.{Writes.some_is, Writes.option_cases, Loads.load_order}
 
 -- Where a dart ends there is a vertex.
 pub far_low : (g : Darts) → AreDarts g → (d : ℕ) → d < g.count → far g d < g.n
@@ -25,26 +25,25 @@ tight_twin {g} are {f} {d} tight = record {
 module _ {g : Darts} (are : AreDarts g) {f : Forest} {root : Option ℕ} (valid : IsValid g f root) where
   -- Where a blossom has a place in the tree there is one.
   pub tree_of : (b : ℕ) → f.label b ≢ Outside → (r : ℕ) × (root ≡ Some r) × IsTree g f r
-  tree_of b named = by_root root refl
-    where
-      by_root : (o : Option ℕ) → root ≡ o → (r : ℕ) × (root ≡ Some r) × IsTree g f r
-      by_root None e = absurd (named (valid.no_tree e b))
-      by_root (Some r) e = (r, e, valid.tree r e)
+  tree_of b named = elim (option_cases root) [
+    | inl e ↦ absurd (named (valid.no_tree e b))
+    | inr w ↦ (w.0, w.1, valid.tree w.0 w.1)
+  ]
+
+  pub named_low : {b : ℕ} → f.label b ≢ Outside → b < f.size
+  named_low {b} named = let w = valid.outermost.named b named in rw w.2 at (valid.outermost.out_low w.0 w.1)
 
   -- The mate of an inner blossom is outer.
   pub inner_mate : (b d : ℕ) → f.label b ≡ Inner → f.mate b ≡ Some d → f.label (f.out (far g d)) ≡ Outer
-  inner_mate b d label mate = let w : (r : ℕ) × (root ≡ Some r) × IsTree g f r = tree_of b (λ off. cc) in
-      by_tree w.2.depth (w.2.inner b label)
-    where
-      by_tree : (depth : ℕ → ℕ) → IsInner g f depth b → f.label (f.out (far g d)) ≡ Outer
-      by_tree depth is = ap (λ x. f.label (f.out (far g x))) (some_is d is.dart (sym mate ∙ is.mate)) ∙ is.child
+  inner_mate b d label mate =
+      let w = tree_of b (λ off. cc) in
+      let is = w.2.inner b label in
+      rw (some_is d is.dart (sym mate ∙ is.mate)) is.child
 
   -- The mate of an outer blossom is inner.
   pub outer_mate : (b d : ℕ) → f.label b ≡ Outer → f.mate b ≡ Some d → f.label (f.out (far g d)) ≡ Inner
-  outer_mate b d label mate = let w : (r : ℕ) × (root ≡ Some r) × IsTree g f r = tree_of b (λ off. cc) in
-      by_tree w.0 w.2 (w.2.outer b label)
-    where
-      by_tree : (r : ℕ) → IsTree g f r → IsOuter g f r b → f.label (f.out (far g d)) ≡ Inner
-      by_tree r tree (inl e) = let clash : ◌≡◌ {A = Option ℕ} (Some d) None =
-          sym mate ∙ (ap f.mate e ∙ tree.root_free) in absurd (cc clash)
-      by_tree r tree (inr is) = ap (λ x. f.label (f.out (far g x))) (some_is d is.0 (sym mate ∙ is.1)) ∙ is.2
+  outer_mate b d label mate = let w = tree_of b (λ off. cc) in
+      elim (w.2.outer b label) [
+        | inl e ↦ absurd (cc w.2.root_free)
+        | inr is ↦ rw (some_is d is.0 (sym mate ∙ is.1)) is.2
+      ]

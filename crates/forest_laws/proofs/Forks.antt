@@ -51,17 +51,15 @@ module _ {g : Darts} (are : AreDarts g) {f : Forest} {r : ℕ} (valid : IsValid 
     y_is = is.y_is;
     x_low = can_climb is ne high;
     y_low = is.y_low;
-    left = λ k m lk lm e. passed k m lk lm e (cases_eq k i);
+    left = λ k m lk lm e. elim (cases_eq k i) [
+      | inl at ↦ (let wx = on_way are valid tree a k named_a lk in
+          let wy = on_way are valid tree c m named_c lm in
+          let same : m ≡ j = omega (arith, ap level e, is.right k m lk lm e) in
+          absurd (ne cc))
+      | inr nk ↦ omega (arith, is.left k m lk lm e)
+    ];
     right = is.right;
   }
-    where
-      passed : (k m : ℕ) → k ≤ level a → m ≤ level c → way a k ≡ way c m → (k ≡ i) ⊎ (k ≢ i) → suc i ≤ k
-      passed k m lk lm e (inr nk) = omega (arith, is.left k m lk lm e, nk)
-      passed k m lk lm e (inl at) =
-          let wx = on_way are valid tree a k named_a lk in
-          let wy = on_way are valid tree c m named_c lm in
-          let same : m ≡ j = omega (arith, wx.1, wy.1, ap level e, is.right k m lk lm e, high, at, is.y_low) in
-          absurd (ne (is.x_is ∙ ap (way a) (sym at) ∙ e ∙ ap (way c) same ∙ sym is.y_is))
 
   module _ (top left right : ℕ) (met : IsClimbing g f a c top top left right) (outer_a : f.label a ≡ Outer)
       (outer_c : f.label c ≡ Outer) where
@@ -76,21 +74,15 @@ module _ {g : Darts} (are : AreDarts g) {f : Forest} {r : ℕ} (valid : IsValid 
       pub depth : tree.depth top ≤ tree.depth x
 
     below : (b i n : ℕ) → f.label b ≢ Outside → i ≤ n → n ≤ level b → way b n ≡ top → IsBelow (way b i)
-    below b i n named li ln e = record {
-      named = on.0;
-      level = omega (arith, on.1, (on_way are valid tree b n named ln).1, ap level e);
-      depth = subst (λ x. tree.depth x ≤ tree.depth (way b i)) last (way_depth are valid tree (way b i) (n - i) on.0
-          (omega (arith, on.1, ln)));
-    }
-      where
-        on : (f.label (way b i) ≢ Outside) × (level (way b i) + i ≡ level b)
-        on = on_way are valid tree b i named (omega (arith, li, ln))
-
-        more : i + (n - i) ≡ n
-        more = omega (arith, li)
-
-        last : way (way b i) (n - i) ≡ top
-        last = sym (walk_sum (above_of g f) b i (n - i)) ∙ ap (way b) more ∙ e
+    below b i n named li ln e =
+        let on = on_way are valid tree b i named (omega arith) in
+        let more : i + (n - i) ≡ n = omega arith in
+        let last = sym (walk_sum (above_of g f) b i (n - i)) ∙ ap (way b) more ∙ e in
+        record {
+          named = on.0;
+          level = omega (arith, on.1, (on_way are valid tree b n named ln).1, ap level e);
+          depth = rw last at (way_depth are valid tree (way b i) (n - i) on.0 (omega (arith, on.1)));
+        }
 
     on_left : (i : ℕ) → i ≤ left → IsBelow (way a i)
     on_left i l = below a i left named_a l met.x_low (sym met.x_is)
@@ -99,54 +91,42 @@ module _ {g : Darts} (are : AreDarts g) {f : Forest} {r : ℕ} (valid : IsValid 
     on_right i l = below c i right named_c l met.y_low (sym met.y_is)
 
     top_named : f.label top ≢ Outside
-    top_named = subst (λ x. f.label x ≢ Outside) (sym met.x_is) (on_left left (omega arith)).named
+    top_named = rw met.x_is (on_left left (omega arith)).named
 
     -- They meet in an outer blossom: on an inner one both would have come from the blossom to which it is matched.
     pub top_outer : f.label top ≡ Outer
     top_outer = elim (tree_cases (f.label top) top_named) [
       | inl outer ↦ outer
-      | inr inner ↦ absurd (by_before inner (before outer_a met.x_is inner) (before outer_c met.y_is inner))
+      | inr inner ↦ (let i = from a left outer_a met.x_low met.x_is inner in
+          let j = from c right outer_c met.y_low met.y_is inner in
+          absurd (omega (arith, i.1, met.left i.0 j.0 (omega (arith, i.1)) (omega (arith, j.1)) (sym i.2 ∙ j.2))))
     ]
       where
-        before : {b n : ℕ} → f.label b ≡ Outer → top ≡ way b n → f.label top ≡ Inner → (k : ℕ) × (n ≡ suc k)
-        before {n = zero} outer e inner =
-            let h : ◌≡◌ {A = Label} Outer Inner = sym outer ∙ ap f.label (sym e) ∙ inner in absurd (cc h)
-        before {n = suc k} outer e inner = (k, refl)
-
-        from_child : (b k e : ℕ) → f.label (way b k) ≢ Outside → 1 ≤ level (way b k) → top ≡ way b (suc k)
-            → f.label top ≡ Inner → f.mate top ≡ Some e → f.out (far g e) ≡ way b k
-        from_child b k e named some at inner mate = come_from are valid tree (way b k) e named some
-            (ap f.label (sym at) ∙ inner) (ap f.mate (sym at) ∙ mate)
-
-        by_before : f.label top ≡ Inner → (i : ℕ) × (left ≡ suc i) → (j : ℕ) × (right ≡ suc j) → ⊥
-        by_before inner (i, li) (j, rj) =
-            let is = tree.inner top inner in
-            let wi = on_way are valid tree a i named_a (omega (arith, met.x_low, li)) in
-            let wj = on_way are valid tree c j named_c (omega (arith, met.y_low, rj)) in
-            let ui = from_child a i is.dart wi.0 (omega (arith, wi.1, met.x_low, li)) (met.x_is ∙ ap (way a) li) inner
-            is.mate in
-            let uj = from_child c j is.dart wj.0 (omega (arith, wj.1, met.y_low, rj)) (met.y_is ∙ ap (way c) rj) inner
-            is.mate in
-            omega (arith, li, met.left i j (omega (arith, met.x_low, li)) (omega (arith, met.y_low, rj)) (sym ui ∙ uj))
+        from : (b n : ℕ) → f.label b ≡ Outer → n ≤ level b → top ≡ way b n → (inner : f.label top ≡ Inner)
+            → (k : ℕ) × (n ≡ suc k) × (f.out (far g (tree.inner top inner).dart) ≡ way b k)
+        from b zero outer l e inner = absurd cc
+        from b (suc k) outer l e inner =
+            let w = on_way are valid tree b k (outer_named outer) (omega arith) in (
+              k,
+              refl,
+              come_from are valid tree (way b k) (tree.inner top inner).dart w.0 (omega (arith, w.1))
+                  (ap f.label (sym e) ∙ inner) (ap f.mate (sym e) ∙ (tree.inner top inner).mate),
+            )
 
     -- The ring has an odd number of places.
     pub ring_half : a ≢ c → (h : ℕ) × (1 ≤ h) × (left + right + 1 ≡ 2 * h + 1)
-    ring_half ne = ((left + right) / 2, omega (arith, even, some), omega (arith, even))
-      where
-        even : 2 * ((left + right) / 2) ≡ left + right
-        even =
-            let ea = outer_even are valid tree a outer_a in
-            let ec = outer_even are valid tree c outer_c in
-            let et = outer_even are valid tree top top_outer in
-            let wa = on_way are valid tree a left named_a met.x_low in
-            let wc = on_way are valid tree c right named_c met.y_low in
-            omega (arith, ea.1, ec.1, et.1, wa.1, wc.1, ap level met.x_is, ap level met.y_is)
-
-        some : left + right ≢ 0
-        some none =
-            let l0 : left ≡ 0 = omega (arith, none) in
-            let r0 : right ≡ 0 = omega (arith, none) in
-            ne (ap (way a) (sym l0) ∙ sym met.x_is ∙ met.y_is ∙ ap (way c) r0)
+    ring_half ne =
+        let ea = outer_even are valid tree a outer_a in
+        let ec = outer_even are valid tree c outer_c in
+        let et = outer_even are valid tree top top_outer in
+        let wa = on_way are valid tree a left named_a met.x_low in
+        let wc = on_way are valid tree c right named_c met.y_low in
+        let xa = ap level met.x_is in
+        let yc = ap level met.y_is in
+        let even : 2 * ((left + right) / 2) ≡ left + right = omega (arith, ea.1, ec.1, et.1, wa.1, wc.1) in
+        let some : left + right ≢ 0 = λ none. (let l0 : left ≡ 0 = omega arith in let r0 : right ≡ 0 = omega arith in
+        ne (ap (way a) (sym l0) ∙ sym met.x_is ∙ met.y_is ∙ ap (way c) r0)) in
+        ((left + right) / 2, omega arith, omega arith)
 
     abbrev at : ℕ → ℕ
     at = ring_at g f a c left
@@ -179,11 +159,10 @@ module _ {g : Darts} (are : AreDarts g) {f : Forest} {r : ℕ} (valid : IsValid 
     at_last = at_right many right (omega arith) ∙ sym met.y_is
 
     at_below : (k : ℕ) → k < many → IsBelow (at k)
-    at_below k l = by_side (side k)
-      where
-        by_side : Side k → IsBelow (at k)
-        by_side (down i e) = subst IsBelow (sym (at_down k i e)) (on_left i (omega (arith, e)))
-        by_side (up m e) = subst IsBelow (sym (at_right k m e)) (on_right m (omega (arith, e, l)))
+    at_below k l = elim (side k) [
+      | down i e ↦ rw (at_down k i e) (on_left i (omega arith))
+      | up m e ↦ rw (at_right k m e) (on_right m (omega arith))
+    ]
 
     pub at_named : (k : ℕ) → k < left + right + 1 → f.label (at k) ≢ Outside
     at_named k l = (at_below k l).named
@@ -193,30 +172,18 @@ module _ {g : Darts} (are : AreDarts g) {f : Forest} {r : ℕ} (valid : IsValid 
     at_distinct i j lij lj e = by_sides (side i) (side j)
       where
         by_sides : Side i → Side j → ⊥
-        by_sides (down m em) (down n en) = omega (
-          arith,
-          em,
-          en,
-          lij,
-          way_differs are valid tree a m n named_a
-              (omega (arith, met.x_low, em)) (omega (arith, met.x_low, en)) (sym (at_down i m em) ∙ e ∙ at_down j n en),
-        )
-        by_sides (down m em) (up n en) = omega (
-          arith,
-          en,
-          lj,
-          met.right m n (omega (arith, met.x_low, em))
-              (omega (arith, met.y_low, en, lj)) (sym (at_down i m em) ∙ e ∙ at_right j n en),
-        )
-        by_sides (up m em) (down n en) = omega (arith, em, en, lij)
-        by_sides (up m em) (up n en) = omega (
-          arith,
-          em,
-          en,
-          lij,
-          way_differs are valid tree c m n named_c (omega (arith, met.y_low, em, lij, lj))
-              (omega (arith, met.y_low, en, lj)) (sym (at_right i m em) ∙ e ∙ at_right j n en),
-        )
+        by_sides (down m em) (down n en) =
+            let same = way_differs are valid tree a m n named_a (omega arith) (omega arith)
+            (sym (at_down i m em) ∙ e ∙ at_down j n en) in
+            omega arith
+        by_sides (down m em) (up n en) =
+            let high = met.right m n (omega arith) (omega arith) (sym (at_down i m em) ∙ e ∙ at_right j n en) in
+            omega arith
+        by_sides (up m em) (down n en) = omega arith
+        by_sides (up m em) (up n en) =
+            let same = way_differs are valid tree c m n named_c (omega arith) (omega arith)
+            (sym (at_right i m em) ∙ e ∙ at_right j n en) in
+            omega arith
 
     -- The darts between them.
     module _ {start : ℕ} (tight : IsTight g f start) (begins : f.out (g.near start) ≡ a) (ends : f.out (far g start)
@@ -243,32 +210,26 @@ module _ {g : Darts} (are : AreDarts g) {f : Forest} {r : ℕ} (valid : IsValid 
       Joins d x y = IsTight g f d × (f.out (g.near d) ≡ x) × (f.out (far g d) ≡ y)
 
       pub ring_joins : (k : ℕ) → k < left + right + 1 → Joins (dart k) (at k) (at (suc k))
-      ring_joins k l = by_side (side k)
-        where
-          over : k ≡ left → Joins (dart k) (at k) (at (suc k))
-          over e = subst (λ x. Joins x (at k) (at (suc k))) (sym (dart_over e)) (
-            tight,
-            begins ∙ sym (at_down k 0 (omega arith)),
-            ends ∙ sym (at_right (suc k) 0 (omega arith)),
-          )
-
-          by_side : Side k → Joins (dart k) (at k) (at (suc k))
-          by_side (down zero e) = over (omega (arith, e))
-          by_side (down (suc m) e) =
-              let step = way_step are valid tree a m named_a (omega (arith, met.x_low, e)) in
-              subst (λ x. Joins x (at k) (at (suc k))) (sym (dart_down k m e)) (
-                tight_twin are step.tight,
-                step.there ∙ sym (at_down k (suc m) e),
-                ap f.out (far_twin are (dart_or (rise_of f (way a m)))) ∙ step.here
-                    ∙ sym (at_down (suc k) m (omega (arith, e))),
-              )
-          by_side (up m e) =
-              let step = way_step are valid tree c m named_c (omega (arith, met.y_low, e, l)) in
-              subst (λ x. Joins x (at k) (at (suc k))) (sym (dart_right m e)) (
-                step.tight,
-                step.here ∙ sym (at_right k m e),
-                step.there ∙ sym (at_right (suc k) (suc m) (omega (arith, e))),
-              )
+      ring_joins k l = elim (side k) [
+        | down zero e ↦ rw (dart_over {k = k} (omega arith)) (
+          tight,
+          begins ∙ sym (at_down k 0 (omega arith)),
+          ends ∙ sym (at_right (suc k) 0 (omega arith)),
+        )
+        | down (suc m) e ↦ (let step = way_step are valid tree a m named_a (omega arith) in
+            let back = ap f.out (far_twin are (dart_or (rise_of f (way a m)))) in
+            rw (dart_down k m e) (
+              tight_twin are step.tight,
+              step.there ∙ sym (at_down k (suc m) e),
+              back ∙ step.here ∙ sym (at_down (suc k) m (omega arith)),
+            ))
+        | up m e ↦ (let step = way_step are valid tree c m named_c (omega arith) in
+            rw (dart_right m e) (
+              step.tight,
+              step.here ∙ sym (at_right k m e),
+              step.there ∙ sym (at_right (suc k) (suc m) (omega arith)),
+            ))
+      ]
 
       -- Tables that have the ring.
       module _ (after joint : ℕ → ℕ) (afters : (k : ℕ) → k < left + right + 1 → after (at k) ≡ at (suc k))
@@ -292,9 +253,8 @@ module _ {g : Darts} (are : AreDarts g) {f : Forest} {r : ℕ} (valid : IsValid 
         at_marked k l = subst (λ x. inside x ≡ true) (walks k l) (listed_closed after many (omega arith) closed k)
 
         joins : (x : ℕ) → inside x ≡ true → Joins (joint x) x (after x)
-        joins x on = let w = marked_at x on in subst (λ y. Joins (joint y) y (after y)) w.2
-            (subst (λ d. Joins d (at w.0) (after (at w.0))) (sym (joints w.0 w.1))
-            (subst (λ y. Joins (dart w.0) (at w.0) y) (sym (afters w.0 w.1)) (ring_joins w.0 w.1)))
+        joins x on = let w = marked_at x on in
+            rw (← w.2, joints w.0 w.1, afters w.0 w.1) (ring_joins w.0 w.1)
 
         walk_distinct : (i j : ℕ) → i < j → j < many → walk after top i ≢ walk after top j
         walk_distinct i j lij lj e =
@@ -346,22 +306,16 @@ module _ {g : Darts} (are : AreDarts g) {f : Forest} {r : ℕ} (valid : IsValid 
                   (ap f.mate e ∙ mate)) ∙ marked j (omega (arith, l))
 
           mate_inside : x ≢ top → (k : ℕ) × (k < many) × (at k ≡ x) → inside (f.out (far g d)) ≡ true
-          mate_inside not_top (k, l, e) = by_side (side k)
-            where
-              by_side : Side k → inside (f.out (far g d)) ≡ true
-              by_side (down i s) =
-                  mate_on_way a left i outer_a met.x_low left_marked below_top (sym (at_down k i s) ∙ e)
-                where
-                  below_top : i < left
-                  below_top = elim (cases_eq k 0) [
-                    | inl z ↦ absurd (not_top (sym e ∙ ap at z ∙ at_first))
-                    | inr nz ↦ omega (arith, nz, s)
-                  ]
-              by_side (up m s) = mate_on_way c right m outer_c met.y_low right_marked (omega (arith, s, l))
-                  (sym (at_right k m s) ∙ e)
+          mate_inside not_top (k, l, e) = elim (side k) [
+            | down i s ↦ mate_on_way a left i outer_a met.x_low left_marked (elim (cases_eq k 0) [
+              | inl z ↦ absurd (not_top (sym e ∙ ap at z ∙ at_first))
+              | inr nz ↦ omega arith
+            ]) (sym (at_down k i s) ∙ e)
+            | up m s ↦ mate_on_way c right m outer_c met.y_low right_marked (omega arith) (sym (at_right k m s) ∙ e)
+          ]
 
         marked_below : (x : ℕ) → inside x ≡ true → IsBelow x
-        marked_below x on = let w = marked_at x on in subst IsBelow w.2 (at_below w.0 w.1)
+        marked_below x on = let w = marked_at x on in rw w.2 at (at_below w.0 w.1)
 
         -- The marked blossoms are a cycle of the tree.
         pub ring_cycle : IsCycle g f r tree.depth inside top
@@ -372,11 +326,9 @@ module _ {g : Darts} (are : AreDarts g) {f : Forest} {r : ℕ} (valid : IsValid 
           above = λ x on. (marked_below x on).depth;
           mates = λ x d on not_top mate. mate_inside mate not_top (marked_at x on);
           top_mate = λ d mate. listed_off after top many (f.out (far g d))
-              (λ k l e. above_off d mate k l (sym (walks k (omega (arith, l))) ∙ e));
+              (λ k l e. (let up = outer_above are valid tree top d top_outer mate in
+              let same = ap level (sym (walks k (omega arith)) ∙ e ∙ up.0) in
+              omega (arith, up.1, (at_below k l).level)));
           root_top = λ on. sym (level_zero are valid tree top top_named
               (omega (arith, root_level are valid tree, (marked_below r on).level)));
         }
-          where
-            above_off : (d : ℕ) → f.mate top ≡ Some d → (k : ℕ) → k < many → at k ≡ f.out (far g d) → ⊥
-            above_off d mate k l e = let up = outer_above are valid tree top d top_outer mate in
-                omega (arith, ap level (e ∙ up.0), up.1, (at_below k l).level)

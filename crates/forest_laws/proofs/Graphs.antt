@@ -1,5 +1,5 @@
 -- The darts of a graph are darts: they come in pairs and begin at vertices.
-use Rattle.std.proofs.Common.{◌≡◌, ◌≢◌, ℕ, ◌+◌, ◌-◌, ◌*◌, ◌/◌, ◌%◌, ◌<◌, eqb, length, ◌⊎◌, refl, sym, ◌∙◌, ap, subst}
+use Rattle.std.proofs.Common.{◌≡◌, ◌≢◌, ℕ, ◌+◌, ◌-◌, ◌*◌, ◌/◌, ◌%◌, eqb, refl, ◌∙◌, ap}
 use Rattle.std.proofs.Common.{inl, inr, arith}
 use Rattle.std.proofs.lemmas.Bool.{cases_eq, cond-true, cond-false, eq-eqb, ne_eqb}
 use Rattle.def_matching.specs.Matching.{WeightedGraph, IsGraph, edge_at}
@@ -36,30 +36,20 @@ dart_cost g k = let half : (2 * k) / 2 ≡ k = omega arith in ap (λ j. (edge_at
 
 pub are_darts : {g : WeightedGraph} → IsGraph g → AreDarts (darts_of g)
 are_darts {g} is = record {
-  near_low = λ d l. near_low d l (cases_eq (d % 2) 0);
-  twin_low = λ d l. twin_low d l (cases_eq (d % 2) 0);
-  twin_twin = λ d. twin_twin d (cases_eq (d % 2) 0);
-  cost_twin = λ d. cost_twin d (cases_eq (d % 2) 0);
+  near_low = λ d l. elim (cases_eq (d % 2) 0) [
+    | inl e ↦ rw (near_even g d (d / 2) (omega arith)) (is.left (d / 2) (omega arith))
+    | inr ne ↦ rw (near_odd g d (d / 2) (omega arith)) (is.right (d / 2) (omega arith))
+  ];
+  twin_low = λ d l. elim (cases_eq (d % 2) 0) [
+    | inl e ↦ rw (twin_even d e) (omega arith)
+    | inr ne ↦ rw (twin_odd d ne) (omega arith)
+  ];
+  twin_twin = λ d. elim (cases_eq (d % 2) 0) [
+    | inl e ↦ ap other_dart (twin_even d e) ∙ twin_odd (d + 1) (λ x. absurd (omega arith)) ∙ omega arith
+    | inr ne ↦ ap other_dart (twin_odd d ne) ∙ twin_even (d - 1) (omega arith) ∙ omega arith
+  ];
+  cost_twin = λ d. elim (cases_eq (d % 2) 0) [
+    | inl e ↦ (let half : (d + 1) / 2 ≡ d / 2 = omega arith in rw (twin_even d e, half))
+    | inr ne ↦ (let half : (d - 1) / 2 ≡ d / 2 = omega arith in rw (twin_odd d ne, half))
+  ];
 }
-  where
-    near_low : (d : ℕ) → d < 2 * length g.edges → (d % 2 ≡ 0) ⊎ (d % 2 ≢ 0) → (darts_of g).near d < g.n
-    near_low d l (inl e) = subst (λ v. v < g.n) (sym (near_even g d (d / 2) (omega arith)))
-        (is.left (d / 2) (omega arith))
-    near_low d l (inr ne) = subst (λ v. v < g.n) (sym (near_odd g d (d / 2) (omega arith)))
-        (is.right (d / 2) (omega arith))
-
-    twin_low : (d : ℕ) → d < 2 * length g.edges → (d % 2 ≡ 0) ⊎ (d % 2 ≢ 0) → other_dart d < 2 * length g.edges
-    twin_low d l (inl e) = subst (λ x. x < 2 * length g.edges) (sym (twin_even d e)) (omega arith)
-    twin_low d l (inr ne) = subst (λ x. x < 2 * length g.edges) (sym (twin_odd d ne)) (omega arith)
-
-    twin_twin : (d : ℕ) → (d % 2 ≡ 0) ⊎ (d % 2 ≢ 0) → other_dart (other_dart d) ≡ d
-    twin_twin d (inl e) = ap other_dart (twin_even d e) ∙ (twin_odd (d + 1) (λ x. absurd (omega arith))
-        ∙ (let h : d + 1 - 1 ≡ d = omega arith in h))
-    twin_twin d (inr ne) = ap other_dart (twin_odd d ne)
-        ∙ (twin_even (d - 1) (omega arith) ∙ (let h : d - 1 + 1 ≡ d = omega arith in h))
-
-    cost_twin : (d : ℕ) → (d % 2 ≡ 0) ⊎ (d % 2 ≢ 0) → (darts_of g).cost (other_dart d) ≡ (darts_of g).cost d
-    cost_twin d (inl e) = ap (darts_of g).cost (twin_even d e) ∙ (let h : (d + 1) / 2 ≡ d / 2 = omega arith in
-        ap (λ j. (edge_at g j).cost) h)
-    cost_twin d (inr ne) = ap (darts_of g).cost (twin_odd d ne) ∙ (let h : (d - 1) / 2 ≡ d / 2 = omega arith in
-        ap (λ j. (edge_at g j).cost) h)

@@ -1,14 +1,15 @@
 -- Climbing the tree one blossom at a time: each step brings one a level nearer to the root.
-use Rattle.std.proofs.Common.{◌≡◌, ◌≢◌, ℕ, zero, suc, ◌+◌, ◌-◌, ◌*◌, ◌<◌, ◌≤◌, Option, Some, None, ◌⊎◌, refl, sym, ◌∙◌}
+use Rattle.std.proofs.Common.{◌≡◌, ◌≢◌, ℕ, zero, suc, ◌+◌, ◌-◌, ◌*◌, ◌<◌, ◌≤◌, Some, None, ◌⊎◌, refl, sym, ◌∙◌}
 use Rattle.std.proofs.Common.{ap, subst, inl, inr, arith}
 use Rattle.def_forest.specs.{Darts.Darts, Darts.AreDarts, Darts.far, Forests.Forest, Forests.IsTight, Valid.IsValid}
-use Rattle.def_forest.specs.{Valid.IsTree, Valid.IsOuter, Ways.dart_or, Ways.inner_of}
+use Rattle.def_forest.specs.{Valid.IsTree, Ways.dart_or, Ways.inner_of}
 use Rattle.def_forest.specs.{Ways.parent_of, Ways.steps_by, Ways.steps, declared.kinds.Label.Label}
 use Rattle.def_forest.specs.declared.kinds.Label.TheVariants.{Outer, Inner}
 use Rattle.def_forest.specs.declared.kinds.Label.TheVariants.{Outside}
-use Rattle.forest_laws.specs.Climbing.{rise_by, rise_of, above_of, level_by, level_of, way_of}
-use Rattle.forest_laws.proofs.{Writes.some_is, Writes.inner_named, Writes.outer_named, Facts.far_twin}
-use Rattle.forest_laws.proofs.{WayLaws.some_none, Climbs.fewer_steps, Climbs.inner_is, Climbs.inner_label}
+use Rattle.forest_laws.specs.Climbing.{rise_of, above_of, level_of, way_of}
+use Rattle.forest_laws.proofs.{Writes.some_is, Writes.option_cases, Writes.label_is, Writes.inner_named}
+use Rattle.forest_laws.proofs.{Writes.outer_named, Facts.far_twin, Climbs.fewer_steps, Climbs.inner_is}
+use Rattle.forest_laws.proofs.{Climbs.inner_label}
 use Rattle.forest_laws.proofs.Climbs.{inner_back, inner_depth, steps_low}
 
 -- A blossom of the tree is outer or inner.
@@ -16,10 +17,6 @@ pub tree_cases : (l : Label) → l ≢ Outside → (l ≡ Outer) ⊎ (l ≡ Inne
 tree_cases Outer named = inl refl
 tree_cases Inner named = inr refl
 tree_cases Outside named = absurd (named refl)
-
-option_cases : (o : Option ℕ) → (o ≡ None) ⊎ ((d : ℕ) × (o ≡ Some d))
-option_cases None = inl refl
-option_cases (Some d) = inr (d, refl)
 
 module _ {g : Darts} (are : AreDarts g) {f : Forest} {r : ℕ} (valid : IsValid g f (Some r)) (tree : IsTree g f r) where
   abbrev level : ℕ → ℕ
@@ -32,18 +29,16 @@ module _ {g : Darts} (are : AreDarts g) {f : Forest} {r : ℕ} (valid : IsValid 
   way = way_of g f
 
   outer_rise : (b : ℕ) → f.label b ≡ Outer → rise_of f b ≡ f.mate b
-  outer_rise b e = ap (λ (l : Label). rise_by l (f.mate b) (f.link b)) e
+  outer_rise b e = rw e
 
   inner_rise : (b : ℕ) → f.label b ≡ Inner → rise_of f b ≡ Some (f.link b)
-  inner_rise b e = ap (λ (l : Label). rise_by l (f.mate b) (f.link b)) e
+  inner_rise b e = rw e
 
   outer_level : (b : ℕ) → f.label b ≡ Outer → level b ≡ 2 * steps g f (f.size + 1) b
-  outer_level b e = ap (λ (l : Label). level_by l (steps g f (f.size + 1) b) (steps g f (f.size + 1) (inner_of g f b)))
-      e
+  outer_level b e = rw e
 
   inner_level : (b : ℕ) → f.label b ≡ Inner → level b ≡ 2 * steps g f (f.size + 1) (inner_of g f b) - 1
-  inner_level b e = ap (λ (l : Label). level_by l (steps g f (f.size + 1) b) (steps g f (f.size + 1) (inner_of g f b)))
-      e
+  inner_level b e = rw e
 
   above_is : (b d : ℕ) → rise_of f b ≡ Some d → above b ≡ f.out (far g d)
   above_is b d e = ap (λ o. f.out (far g (dart_or o))) e
@@ -98,23 +93,18 @@ module _ {g : Darts} (are : AreDarts g) {f : Forest} {r : ℕ} (valid : IsValid 
   step_inner b label =
       let is = tree.inner b label in
       let c = child_of b label in
-      let up : above b ≡ f.out (far g (f.link b)) = above_is b (f.link b) (inner_rise b label) in
+      let up = above_is b (f.link b) (inner_rise b label) in
       let back : inner_of g f (inner_of g f b) ≡ b = ap (λ o. f.out (far g (dart_or o))) c.2 ∙ c.3 in
       let parent : parent_of g f (inner_of g f b) ≡ above b = ap (λ x. f.out (far g (f.link x))) back ∙ sym up in
       let outer : f.label (above b) ≡ Outer = ap f.label up ∙ is.above in
+      let fewer = fewer_steps are valid tree (inner_of g f b) c.0 c.1 c.2 in
       record {
         tight = is.tight;
         here = is.here;
         there = sym up;
         named = outer_named outer;
-        lower = omega (
-          arith,
-          inner_level b label,
-          fewer_steps are valid tree (inner_of g f b) c.0 c.1 c.2,
-          ap (steps g f (f.size + 1)) parent,
-          outer_level (above b) outer,
-        );
-        depth = omega (arith, ap tree.depth up, is.nearer);
+        lower = omega (arith, inner_level b label, ap (steps g f (f.size + 1)) parent, outer_level (above b) outer);
+        depth = omega (arith, ap tree.depth up);
       }
 
   -- A step up from a blossom of the tree.
@@ -126,20 +116,15 @@ module _ {g : Darts} (are : AreDarts g) {f : Forest} {r : ℕ} (valid : IsValid 
 
   -- Where there is none one is at the root.
   pub at_root : (b : ℕ) → f.label b ≢ Outside → rise_of f b ≡ None → (b ≡ r) × (level b ≡ 0)
-  at_root b named rise = by_label (tree_cases (f.label b) named)
-    where
-      by_outer : f.label b ≡ Outer → f.mate b ≡ None → IsOuter g f r b → (b ≡ r) × (level b ≡ 0)
-      by_outer outer free (inl e) = (
-        e,
-        outer_level b outer ∙ (let one : f.size + 1 ≡ suc f.size = omega arith in let s : steps g f (f.size + 1) b
-            ≡ 0 = ap (λ k. steps g f k b) one ∙ ap (λ o. steps_by o (steps g f f.size (parent_of g f b))) free in
-            omega (arith, s)),
-      )
-      by_outer outer free (inr w) = absurd (some_none (f.mate b) w.0 w.1 free)
-
-      by_label : (f.label b ≡ Outer) ⊎ (f.label b ≡ Inner) → (b ≡ r) × (level b ≡ 0)
-      by_label (inl outer) = by_outer outer (sym (outer_rise b outer) ∙ rise) (tree.outer b outer)
-      by_label (inr inner) = absurd (some_none (rise_of f b) (f.link b) (inner_rise b inner) rise)
+  at_root b named rise = elim (tree_cases (f.label b) named) [
+    | inl outer ↦ elim (tree.outer b outer) [
+      | inl e ↦ (let one : f.size + 1 ≡ suc f.size = omega arith in
+          let free = ap (λ o. steps_by o (steps g f f.size (parent_of g f b))) (sym (outer_rise b outer) ∙ rise) in
+          (e, omega (arith, outer_level b outer, ap (λ k. steps g f k b) one)))
+      | inr w ↦ absurd (cc (w.1, outer_rise b outer))
+    ]
+    | inr inner ↦ absurd (cc (inner_rise b inner))
+  ]
 
   pub level_zero : (b : ℕ) → f.label b ≢ Outside → level b ≡ 0 → b ≡ r
   level_zero b named e = elim (option_cases (rise_of f b)) [
@@ -162,15 +147,15 @@ module _ {g : Darts} (are : AreDarts g) {f : Forest} {r : ℕ} (valid : IsValid 
   on_way a zero named l = (named, omega arith)
   on_way a (suc m) named l =
       let was = on_way a m named (omega (arith, l)) in
-      let d = level_some (way a m) was.0 (omega (arith, was.1, l)) in
+      let d = level_some (way a m) was.0 (omega (arith, was.1)) in
       let step = step_up (way a m) d.0 was.0 d.1 in
       (step.named, omega (arith, was.1, step.lower))
 
   -- The step up from a place on a way.
   pub way_step : (a m : ℕ) → f.label a ≢ Outside → m < level a → IsStep (way a m) (dart_or (rise_of f (way a m)))
   way_step a m named l =
-      let was = on_way a m named (omega (arith, l)) in
-      let d = level_some (way a m) was.0 (omega (arith, was.1, l)) in
+      let was = on_way a m named (omega arith) in
+      let d = level_some (way a m) was.0 (omega arith) in
       subst (λ x. IsStep (way a m) x) (sym (ap dart_or d.1)) (step_up (way a m) d.0 was.0 d.1)
 
   -- A way leads to no deeper blossoms.
@@ -203,14 +188,12 @@ module _ {g : Darts} (are : AreDarts g) {f : Forest} {r : ℕ} (valid : IsValid 
   -- The mate of an outer blossom is where one comes to.
   pub outer_above : (b d : ℕ) → f.label b ≡ Outer → f.mate b ≡ Some d → (f.out (far g d) ≡ above b)
       × (level b ≡ suc (level (above b)))
-  outer_above b d outer mate = let s : IsStep b d = step_outer b d outer mate in (s.there, s.lower)
+  outer_above b d outer mate = let s = step_outer b d outer mate in (s.there, s.lower)
 
 -- There are no more levels than twice the numbers of blossoms and two.
 pub level_few : (g : Darts) (f : Forest) (b : ℕ) → level_of g f b ≤ 2 * f.size + 2
-level_few g f b = by_label (f.label b)
-  where
-    by_label : (l : Label) → level_by l (steps g f (f.size + 1) b) (steps g f (f.size + 1) (inner_of g f b))
-        ≤ 2 * f.size + 2
-    by_label Outer = omega (arith, steps_low g f (f.size + 1) b)
-    by_label Inner = omega (arith, steps_low g f (f.size + 1) (inner_of g f b))
-    by_label Outside = omega arith
+level_few g f b = elim (label_is (f.label b)) [
+  | inl e ↦ rw e (omega (arith, steps_low g f (f.size + 1) b))
+  | inr (inl e) ↦ rw e (omega (arith, steps_low g f (f.size + 1) (inner_of g f b)))
+  | inr (inr e) ↦ rw e (omega arith)
+]

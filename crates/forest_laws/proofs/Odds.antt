@@ -12,11 +12,8 @@ pub counts_exchanged : (next : ℕ → ℕ) (f : ℕ → ℕ → ℕ) (front n k
     → count_below (λ w. ring_sum next (λ p. f p w) front k) n ≡ ring_sum next (λ p. count_below (f p) n) front k
 counts_exchanged next f front n zero = count_below_none (λ w. 0) n (λ j l. refl)
 counts_exchanged next f front n (suc k) =
-    omega (
-      arith,
-      counts_exchanged next f front n k,
-      count_below_sum (λ w. ring_sum next (λ p. f p w) front k) (f (walk next front k)) n,
-    )
+    let sum = count_below_sum (λ w. ring_sum next (λ p. f p w) front k) (f (walk next front k)) n in
+    omega (arith, counts_exchanged next f front n k)
 
 -- A sum of odd numbers is odd where there is an odd number of them.
 pub odd_sum : (next f : ℕ → ℕ) (front k : ℕ) → ((j : ℕ) → f (walk next front j) % 2 ≡ 1) → ring_sum next f front k % 2
@@ -30,9 +27,8 @@ IsBlossom g f b = (b < g.n) ⊎ ((g.n ≤ b) × (f.nest.parts b ≢ 0))
 
 module _ {g : Darts} (are : AreDarts g) {f : Forest} (nested : IsNested g f) where
   vertex_odd : (b : ℕ) → b < g.n → blossom_size g.n f b ≡ 1
-  vertex_odd b l = count_below_one (λ v. bool_number (f.holds b v)) g.n b l
-      (λ k lk ne. ap bool_number (nested.alone b k l lk ∙ ne_eqb b k (λ e. ne (sym e))))
-      ∙ ap bool_number (nested.alone b b l l ∙ eq-eqb b b refl)
+  vertex_odd b l = count_below_one (λ v. bool_number (f.holds b v)) g.n b l (λ k lk ne. ap bool_number
+      (nested.alone b k l lk ∙ ne_eqb b k (λ e. ne (sym e)))) ∙ ap bool_number (nested.alone b b l l ∙ eq-eqb b b refl)
 
   -- A part is in use.
   pub part_used : {b : ℕ} → IsRing g f b → (k : ℕ) → IsBlossom g f (walk f.nest.after (f.nest.head b) k)
@@ -60,23 +56,18 @@ module _ {g : Darts} (are : AreDarts g) {f : Forest} (nested : IsNested g f) whe
 
   set_odd : {b : ℕ} → IsRing g f b → ((k : ℕ) → blossom_size g.n f (walk f.nest.after (f.nest.head b) k) % 2 ≡ 1)
       → blossom_size g.n f b % 2 ≡ 1
-  set_odd {b} ring odd = omega (
-    arith,
-    set_sum ring,
-    odd_sum f.nest.after (blossom_size g.n f) (f.nest.head b) (f.nest.parts b) odd,
-    ring.odd,
-  )
+  set_odd {b} ring odd =
+      let sum = odd_sum f.nest.after (blossom_size g.n f) (f.nest.head b) (f.nest.parts b) odd in
+      omega (arith, set_sum ring)
 
   odd_below : (fuel b : ℕ) → f.nest.rank b < fuel → IsBlossom g f b → blossom_size g.n f b % 2 ≡ 1
   odd_below zero b l used = absurd (omega arith)
   odd_below (suc fuel) b l (inl low) = ap (λ x. x % 2) (vertex_odd b low)
   odd_below (suc fuel) b l (inr (high, live)) =
+      let by_ring : IsRing g f b → ((p : ℕ) → f.nest.rank p < fuel → IsBlossom g f p → blossom_size g.n f p % 2 ≡ 1)
+      → blossom_size g.n f b % 2 ≡ 1 = λ ring more. set_odd ring
+      (λ k. more (walk f.nest.after (f.nest.head b) k) (omega (arith, ring.lower k)) (part_used ring k)) in
       by_ring (nested.rings b high live) (λ p lp used. odd_below fuel p lp used)
-    where
-      by_ring : IsRing g f b → ((p : ℕ) → f.nest.rank p < fuel → IsBlossom g f p → blossom_size g.n f p % 2 ≡ 1)
-          → blossom_size g.n f b % 2 ≡ 1
-      by_ring ring more = set_odd ring (λ k. more (walk f.nest.after (f.nest.head b) k)
-          (omega (arith, ring.lower k, l)) (part_used ring k))
 
   -- A blossom holds an odd number of vertices.
   pub odd_blossom : (b : ℕ) → IsBlossom g f b → blossom_size g.n f b % 2 ≡ 1

@@ -1,17 +1,17 @@
 -- The potentials of the vertices of one blossom have one parity, and so have those of all vertices in the tree.
-use Rattle.std.proofs.Common.{◌≡◌, ◌≢◌, ℕ, zero, suc, ◌<◌, ◌≤◌, Bool, true, false, not, cond, length, Option}
-use Rattle.std.proofs.Common.{Some, ℤ, pos, ◌+ℤ◌, ◌-ℤ◌, ◌⊎◌, refl, sym, ◌∙◌, ap, subst, inl, inr, arith}
+use Rattle.std.proofs.Common.{◌≡◌, ℕ, zero, suc, ◌<◌, ◌≤◌, Bool, true, false, not, cond, length, Option}
+use Rattle.std.proofs.Common.{ℤ, pos, ◌+ℤ◌, ◌-ℤ◌, refl, sym, ◌∙◌, ap, inl, inr, arith}
 use Rattle.std.proofs.lemmas.Int.{ints}
 use Rattle.std.proofs.lemmas.Bool.{cases_lt, eq-eqb, eqb-true}
 use Rattle.def_math.specs.Sums.{total_below}
 use Rattle.def_matching.specs.Matching.{WeightedGraph, IsGraph, edge_at}
 use Rattle.def_forest.specs.Darts.{Darts, AreDarts, darts_of, far}
-use Rattle.def_forest.specs.Forests.{Forest, weight_between, splits, IsTight, IsOutermost, bool_number, walk, ring_sum}
+use Rattle.def_forest.specs.Forests.{Forest, weight_between, splits, IsTight, bool_number, walk, ring_sum}
 use Rattle.def_forest.specs.Tables.{slack_of}
-use Rattle.def_forest.specs.Valid.{IsNested, IsRing, IsJoint, IsMate, IsInner, IsOuter, IsTree, IsValid}
+use Rattle.def_forest.specs.Valid.{IsNested, IsRing, IsJoint, IsTree, IsValid}
 use Rattle.def_forest.specs.declared.kinds.Label.TheVariants.{Outer}
-use Rattle.forest_laws.proofs.{Expands.number_true, Facts.far_low, Facts.far_twin, Facts.tree_of, Graphs.are_darts}
-use Rattle.forest_laws.proofs.{Loads.potential, Writes.outer_named, Writes.some_is, Writes.true_false}
+use Rattle.forest_laws.proofs.{Expands.number_true, Facts.far_low, Facts.tree_of, Graphs.are_darts}
+use Rattle.forest_laws.proofs.{Loads.potential, Writes.outer_named, Writes.true_false}
 
 -- Two numbers have one parity.
 pub record AreAlike (a b : ℤ) : Type 0 where
@@ -53,22 +53,17 @@ potentials_both f u v = sums_both f u v f.size
 ring_found : (next f : ℕ → ℕ) (front n : ℕ) → 1 ≤ ring_sum next f front n → (k : ℕ) × (k < n)
     × (1 ≤ f (walk next front k))
 ring_found next f front zero l = absurd (omega arith)
-ring_found next f front (suc n) l = by_last (cases_lt 0 (f (walk next front n))) (ring_found next f front n)
-  where
-    by_last : (0 < f (walk next front n)) ⊎ (f (walk next front n) ≤ 0)
-        → (1 ≤ ring_sum next f front n → (k : ℕ) × (k < n) × (1 ≤ f (walk next front k))) → (k : ℕ) × (k < suc n)
-        × (1 ≤ f (walk next front k))
-    by_last (inl h) more = (n, omega arith, omega (arith, h))
-    by_last (inr h) more = let w : (k : ℕ) × (k < n) × (1 ≤ f (walk next front k)) = more (omega (arith, l, h)) in
-        (w.0, omega (arith, w.1), w.2)
+ring_found next f front (suc n) l = elim (cases_lt 0 (f (walk next front n))) [
+  | inl h ↦ (n, omega arith, omega arith)
+  | inr h ↦ (let w = ring_found next f front n (omega arith) in (w.0, omega (arith, w.1), w.2))
+]
 
 module _ {g : Darts} (are : AreDarts g) (f : Forest) where
   -- The ends of a tight dart.
   pub tight_alike : {d : ℕ} → IsTight g f d → AreAlike (potential f (g.near d)) (potential f (far g d))
   tight_alike {d} tight =
-      let both : ℤ = total_below (around_both f (g.near d) (far g d)) f.size in
-      let sum : potential f (g.near d) +ℤ potential f (far g d) ≡ weight_between f (g.near d) (far g d) +ℤ
-      (both +ℤ both) = potentials_both f (g.near d) (far g d) in
+      let both = total_below (around_both f (g.near d) (far g d)) f.size in
+      let sum = potentials_both f (g.near d) (far g d) in
       record { half = (g.cost d +ℤ both) -ℤ potential f (far g d); is = omega (arith, ints, sum, tight.exact) }
 
   module _ (nested : IsNested g f) where
@@ -84,12 +79,9 @@ module _ {g : Darts} (are : AreDarts g) (f : Forest) where
         → AreAlike (potential f u) (potential f v)
 
     module _ {b : ℕ} (ring : IsRing g f b) (more : (k : ℕ) → Within (part b k)) where
-      not_top : (k : ℕ) → f.nest.up (part b k) ≢ part b k
-      not_top k e = let h : f.nest.rank (part b k) < f.nest.rank b = ring.lower k in let same : f.nest.rank b
-          ≡ f.nest.rank (part b k) = ap f.nest.rank (sym (ring.inside k) ∙ e) in omega (arith, h, same)
-
       joint : (k : ℕ) → IsJoint g f (part b k)
-      joint k = nested.joints (part b k) (not_top k)
+      joint k = nested.joints (part b k)
+          (λ e. omega (arith, ring.lower k, ap f.nest.rank (sym (ring.inside k) ∙ e)))
 
       start_low : (k : ℕ) → start b k < g.n
       start_low k = are.near_low (f.nest.joint (part b k)) (joint k).tight.low
@@ -102,36 +94,24 @@ module _ {g : Darts} (are : AreDarts g) (f : Forest) where
           (joint (suc k)).begins))
 
       to_start : (u : ℕ) → u < g.n → f.holds b u ≡ true → AreAlike (potential f u) (potential f (start b 0))
-      to_start u lu hu = by_part (ring_found f.nest.after (λ p. bool_number (f.holds p u)) (f.nest.head b)
-          (f.nest.parts b) (subst (λ x. 1 ≤ x) (ring.shared u lu) (some (f.holds b u) hu)))
-        where
-          some : (c : Bool) → c ≡ true → 1 ≤ bool_number c
-          some true e = omega arith
-          some false e = absurd (cc e)
-
-          by_part : (k : ℕ) × (k < f.nest.parts b) × (1 ≤ bool_number (f.holds (part b k) u))
-              → AreAlike (potential f u) (potential f (start b 0))
-          by_part w = alike_on (more w.0 u (start b w.0) lu (start_low w.0) (number_true (f.holds (part b w.0) u) w.2)
-              (joint w.0).begins) (alike_back (starts_alike w.0))
+      to_start u lu hu =
+          let w = ring_found f.nest.after (λ p. bool_number (f.holds p u)) (f.nest.head b) (f.nest.parts b)
+          (rw (← ring.shared u lu, hu) (omega arith)) in
+          alike_on (more w.0 u (start b w.0) lu (start_low w.0) (number_true (f.holds (part b w.0) u) w.2)
+          (joint w.0).begins) (alike_back (starts_alike w.0))
 
       ring_alike : Within b
       ring_alike u v lu lv hu hv = alike_on (to_start u lu hu) (alike_back (to_start v lv hv))
 
     within : (fuel b : ℕ) → f.nest.rank b < fuel → Within b
-    within zero b l = absurd (omega arith)
-    within (suc fuel) b l = by_size (cases_lt b g.n) (λ p lp. within fuel p lp)
-      where
-        by_size : (b < g.n) ⊎ (g.n ≤ b) → ((p : ℕ) → f.nest.rank p < fuel → Within p) → Within b
-        by_size (inl low) more u v lu lv hu hv =
-            let bu : b ≡ u = eqb-true b u (sym (nested.alone b u low lu) ∙ hu) in
-            let bv : b ≡ v = eqb-true b v (sym (nested.alone b v low lv) ∙ hv) in
-            subst (λ x. AreAlike (potential f u) (potential f x)) (sym bu ∙ bv) (alike_self (potential f u))
-        by_size (inr high) more u v lu lv hu hv =
-            by_ring (nested.rings b high (λ none. true_false hu (nested.empty b u high lu none)))
-          where
-            by_ring : IsRing g f b → AreAlike (potential f u) (potential f v)
-            by_ring ring = ring_alike ring (λ k. more (part b k) (let h : f.nest.rank (part b k) < f.nest.rank b =
-                ring.lower k in omega (arith, h, l))) u v lu lv hu hv
+    within zero b l u v lu lv hu hv = absurd (omega arith)
+    within (suc fuel) b l u v lu lv hu hv = elim (cases_lt b g.n) [
+      | inl low ↦ (let bu = eqb-true b u (sym (nested.alone b u low lu) ∙ hu) in
+          let bv = eqb-true b v (sym (nested.alone b v low lv) ∙ hv) in
+          rw (← bu, ← bv) (alike_self (potential f b)))
+      | inr high ↦ (let ring = nested.rings b high (λ none. true_false hu (nested.empty b u high lu none)) in
+          ring_alike ring (λ k. within fuel (part b k) (omega (arith, ring.lower k))) u v lu lv hu hv)
+    ]
 
   module _ {root : Option ℕ} (valid : IsValid g f root) where
     -- Two vertices with one outermost blossom.
@@ -150,29 +130,17 @@ module _ {g : Darts} (are : AreDarts g) (f : Forest) where
       outer_alike : (fuel u : ℕ) → u < g.n → f.label (f.out u) ≡ Outer → tree.depth (f.out u) < fuel
           → AreAlike (potential f u) (potential f w)
       outer_alike zero u lu label l = absurd (omega arith)
-      outer_alike (suc fuel) u lu label l = by_place (tree.outer (f.out u) label) (outer_alike fuel)
-        where
-          by_place : IsOuter g f r (f.out u) → ((x : ℕ) → x < g.n → f.label (f.out x) ≡ Outer
-              → tree.depth (f.out x) < fuel → AreAlike (potential f x) (potential f w))
-              → AreAlike (potential f u) (potential f w)
-          by_place (inl e) more = together_alike u w lu lw (e ∙ sym at_root)
-          by_place (inr m) more = by_inner m.0 (valid.matched (f.out u) m.0 m.1) (tree.inner (f.out (far g m.0)) m.2)
-            where
-              by_inner : (d : ℕ) → IsMate g f (f.out u) d → IsInner g f tree.depth (f.out (far g d))
-                  → AreAlike (potential f u) (potential f w)
-              by_inner d pair is =
-                  let up : ℕ = far g (f.link (f.out (far g d))) in
-                  let lup : up < g.n = far_low g are (f.link (f.out (far g d))) is.tight.low in
-                  let twin_is : is.dart ≡ g.twin d = some_is is.dart (g.twin d) (sym is.mate ∙ pair.back) in
-                  let here : f.out (far g is.dart) ≡ f.out u = ap (λ x. f.out (far g x)) twin_is
-                  ∙ (ap f.out (far_twin are d) ∙ pair.here) in
-                  let level : tree.depth (f.out u) ≡ tree.depth (f.out (far g d)) = ap tree.depth (sym here)
-                  ∙ is.same in
-                  let nearer : tree.depth (f.out up) < tree.depth (f.out (far g d)) = is.nearer in
-                  let near_link : ℕ = g.near (f.link (f.out (far g d))) in
-                  let lnear : near_link < g.n = are.near_low (f.link (f.out (far g d))) is.tight.low in
-                  alike_on (over u near_link pair.tight lu lnear (sym pair.here) (sym is.here))
-                  (alike_on (tight_alike is.tight) (more up lup is.above (omega (arith, l, level, nearer))))
+      outer_alike (suc fuel) u lu label l = elim (tree.outer (f.out u) label) [
+        | inl e ↦ together_alike u w lu lw (e ∙ sym at_root)
+        | inr m ↦ (let pair = valid.matched (f.out u) m.0 m.1 in
+            let is = tree.inner (f.out (far g m.0)) m.2 in
+            let link = f.link (f.out (far g m.0)) in
+            let near = are.near_low link is.tight.low in
+            let level : tree.depth (f.out u) ≡ tree.depth (f.out (far g m.0)) = cc (are.twin_twin m.0) in
+            let more = outer_alike fuel (far g link) (far_low g are link is.tight.low) is.above (omega arith) in
+            alike_on (over u (g.near link) pair.tight lu near (sym pair.here) (sym is.here))
+            (alike_on (tight_alike is.tight) more))
+      ]
 
       pub to_root : (u : ℕ) → u < g.n → f.label (f.out u) ≡ Outer → AreAlike (potential f u) (potential f w)
       to_root u lu label = outer_alike (suc (tree.depth (f.out u))) u lu label (omega arith)
@@ -180,28 +148,18 @@ module _ {g : Darts} (are : AreDarts g) (f : Forest) where
     -- Two vertices in outer blossoms.
     pub outers_alike : (u v : ℕ) → u < g.n → v < g.n → f.label (f.out u) ≡ Outer → f.label (f.out v) ≡ Outer
         → AreAlike (potential f u) (potential f v)
-    outers_alike u v lu lv on_u on_v = by_tree (tree_of are valid (f.out u) (outer_named on_u))
-      where
-        by_root : (r : ℕ) → IsTree g f r → IsOutermost g.n f r → AreAlike (potential f u) (potential f v)
-        by_root r tree x = alike_on (to_root tree x.0 x.1 x.2 u lu on_u)
-            (alike_back (to_root tree x.0 x.1 x.2 v lv on_v))
-
-        by_tree : (r : ℕ) × (root ≡ Some r) × IsTree g f r → AreAlike (potential f u) (potential f v)
-        by_tree t = by_root t.0 t.2 (valid.outermost.named t.0 (outer_named t.2.root_outer))
+    outers_alike u v lu lv on_u on_v =
+        let t = tree_of are valid (f.out u) (outer_named on_u) in
+        let x = valid.outermost.named t.0 (outer_named t.2.root_outer) in
+        alike_on (to_root t.2 x.0 x.1 x.2 u lu on_u) (alike_back (to_root t.2 x.0 x.1 x.2 v lv on_v))
 
 -- The slack between two outer blossoms is even.
 pub slack_even : (g : WeightedGraph) (f : Forest) (root : Option ℕ) (e : ℕ) → IsGraph g → IsValid (darts_of g) f root
     → e < length g.edges → f.label (f.out (edge_at g e).u) ≡ Outer → f.label (f.out (edge_at g e).v) ≡ Outer
     → (half : ℤ) × (slack_of g f e ≡ half +ℤ half)
-slack_even g f root e is valid low on_u on_v = by_alike (outers_alike (are_darts is) f valid (edge_at g e).u
-    (edge_at g e).v (is.left e low) (is.right e low) on_u on_v)
-  where
-    both : ℤ
-    both = total_below (around_both f (edge_at g e).u (edge_at g e).v) f.size
-
-    by_alike : AreAlike (potential f (edge_at g e).u) (potential f (edge_at g e).v) → (half : ℤ)
-        × (slack_of g f e ≡ half +ℤ half)
-    by_alike p = (
-      ((edge_at g e).cost +ℤ both) -ℤ (p.half +ℤ potential f (edge_at g e).v),
-      omega (arith, ints, p.is, potentials_both f (edge_at g e).u (edge_at g e).v),
-    )
+slack_even g f root e is valid low on_u on_v =
+    let u = (edge_at g e).u in
+    let v = (edge_at g e).v in
+    let p = outers_alike (are_darts is) f valid u v (is.left e low) (is.right e low) on_u on_v in
+    let both = total_below (around_both f u v) f.size in
+    (((edge_at g e).cost +ℤ both) -ℤ (p.half +ℤ potential f v), omega (arith, ints, p.is, potentials_both f u v))

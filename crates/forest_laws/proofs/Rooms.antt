@@ -1,5 +1,5 @@
 -- There are fewer than half as many sets as vertices: each set has three parts at least.
-use Rattle.std.proofs.Common.{◌≡◌, ◌≢◌, ℕ, zero, suc, ◌+◌, ◌*◌, ◌<◌, ◌≤◌, true, cond, eqb, ◌⊎◌, refl, sym}
+use Rattle.std.proofs.Common.{◌≡◌, ◌≢◌, ℕ, zero, suc, ◌+◌, ◌*◌, ◌<◌, ◌≤◌, true, cond, eqb, refl, sym}
 use Rattle.std.proofs.Common.{◌∙◌, ap, inl, inr, arith}
 use Rattle.std.proofs.lemmas.Bool.{cases_eq, cases_lt, eq-eqb, ne_eqb, lt-ltb, le-ltb}
 use Rattle.std.specs.Prelude.{nat_lt}
@@ -16,9 +16,8 @@ counts_swapped : (f : ℕ → ℕ → ℕ) (m n : ℕ) → count_below (λ i. co
     ≡ count_below (λ j. count_below (λ i. f i j) n) m
 counts_swapped f m zero = sym (count_below_none (λ j. 0) m (λ k l. refl))
 counts_swapped f m (suc n) =
-    let h : count_below (λ i. count_below (f i) m) n ≡ count_below (λ j. count_below (λ i. f i j) n) m =
-    counts_swapped f m n in
-    omega (arith, h, count_below_sum (λ j. count_below (λ i. f i j) n) (f n) m)
+    let h = counts_swapped f m n in
+    omega (arith, count_below_sum (λ j. count_below (λ i. f i j) n) (f n) m)
 
 one_at : (a m : ℕ) → a < m → count_below (λ k. bool_number (eqb k a)) m ≡ 1
 one_at a m l = count_below_one (λ k. bool_number (eqb k a)) m a l (λ k lk ne. ap bool_number (ne_eqb k a ne))
@@ -29,14 +28,10 @@ abbrev three : (a b c : ℕ) → ℕ → ℕ
 three a b c k = bool_number (eqb k a) + (bool_number (eqb k b) + bool_number (eqb k c))
 
 three_count : (a b c m : ℕ) → a < m → b < m → c < m → count_below (three a b c) m ≡ 3
-three_count a b c m la lb lc = omega (
-  arith,
-  count_below_sum (λ k. bool_number (eqb k a)) (λ k. bool_number (eqb k b) + bool_number (eqb k c)) m,
-  count_below_sum (λ k. bool_number (eqb k b)) (λ k. bool_number (eqb k c)) m,
-  one_at a m la,
-  one_at b m lb,
-  one_at c m lc,
-)
+three_count a b c m la lb lc =
+    let one = count_below_sum (λ k. bool_number (eqb k a)) (λ k. bool_number (eqb k b) + bool_number (eqb k c)) m in
+    let two = count_below_sum (λ k. bool_number (eqb k b)) (λ k. bool_number (eqb k c)) m in
+    omega (arith, one_at a m la, one_at b m lb, one_at c m lc)
 
 -- What holds with 1 at each of the three, and with 0 anywhere, holds with how many of them a place is.
 three_cases : (P : ℕ → ℕ → Type 0) {a b c : ℕ} → a ≢ b → a ≢ c → b ≢ c → P a 1 → P b 1 → P c 1
@@ -54,24 +49,20 @@ three_cases P {a} {b} {c} ab ac bc pa pb pc other k = elim (cases_eq k a) [
 
 three_below : (f : ℕ → ℕ) {a b c m : ℕ} → a < m → b < m → c < m → a ≢ b → a ≢ c → b ≢ c → 1 ≤ f a → 1 ≤ f b → 1 ≤ f c
     → 3 ≤ count_below f m
-three_below f {a} {b} {c} {m} la lb lc ab ac bc fa fb fc = omega (
-  arith,
-  three_count a b c m la lb lc,
-  count_below_le (three a b c) f m (λ k lk. three_cases (λ x n. n ≤ f x) ab ac bc fa fb fc (λ x. omega arith) k),
-)
+three_below f {a} {b} {c} {m} la lb lc ab ac bc fa fb fc =
+    let below = count_below_le (three a b c) f m
+    (λ k lk. three_cases (λ x n. n ≤ f x) ab ac bc fa fb fc (λ x. omega arith) k) in
+    omega (arith, three_count a b c m la lb lc)
 
 -- So many numbers are below another.
 count_low : (n m : ℕ) → n ≤ m → count_below (λ p. bool_number (nat_lt p n)) m ≡ n
-count_low n zero l = omega (arith, l)
-count_low n (suc m) l = by_size (cases_lt m n) (λ h. count_low n m h)
-  where
-    by_size : (m < n) ⊎ (n ≤ m) → (n ≤ m → count_below (λ p. bool_number (nat_lt p n)) m ≡ n)
-        → count_below (λ p. bool_number (nat_lt p n)) m + bool_number (nat_lt m n) ≡ n
-    by_size (inl h) more =
-        let all = count_below_same (λ p. bool_number (nat_lt p n)) (λ p. 1) m
-        (λ k lk. ap bool_number (lt-ltb k n (omega (arith, lk, h)))) in
-        rw (lt-ltb m n h) (omega (arith, all, count_below_ones m, l, h))
-    by_size (inr h) more = rw (le-ltb m n h) (omega (arith, more h))
+count_low n zero l = omega arith
+count_low n (suc m) l = elim (cases_lt m n) [
+  | inl h ↦ (let all = count_below_same (λ p. bool_number (nat_lt p n)) (λ p. 1) m
+      (λ k lk. ap bool_number (lt-ltb k n (omega arith))) in
+      rw (lt-ltb m n h) (omega (arith, count_below_ones m)))
+  | inr h ↦ rw (le-ltb m n h) (omega (arith, count_low n m h))
+]
 
 -- A number is that of a set in use where it is that of a set, and has parts.
 pub live_low : {n : ℕ} (parts : ℕ → ℕ) {b : ℕ} → b < n → live_at n parts b ≡ 0
@@ -104,13 +95,12 @@ module _ (g : Darts) (are : AreDarts g) (f : Forest) (nested : IsNested g f) (ve
   is_inner {p} ne = rw (ne_eqb (f.nest.up p) p ne)
 
   three_parts : (b : ℕ) → IsRing g f b → 3 ≤ count_below (λ p. part p b) f.size
-  three_parts b ring = three_below (λ p. part p b) (ring.below 0) (ring.below 1) (ring.below 2)
-      (ring.distinct 0 1 (omega arith) (omega (arith, ring.odd, ring.some)))
-      (ring.distinct 0 2 (omega arith) (omega (arith, ring.odd, ring.some)))
-      (ring.distinct 1 2 (omega arith) (omega (arith, ring.odd, ring.some))) (one 0) (one 1) (one 2)
-    where
-      one : (k : ℕ) → 1 ≤ part (walk f.nest.after (f.nest.head b) k) b
-      one k = omega (arith, is_part (ring.inside k) (λ e. absurd (omega (arith, ap f.nest.rank e, ring.lower k))))
+  three_parts b ring =
+      let one : (k : ℕ) → 1 ≤ part (walk f.nest.after (f.nest.head b) k) b = λ k. omega
+      (arith, is_part (ring.inside k) (λ e. absurd (omega (arith, ap f.nest.rank e, ring.lower k)))) in
+      three_below (λ p. part p b) (ring.below 0) (ring.below 1) (ring.below 2) (ring.distinct 0 1 (omega arith)
+      (omega arith)) (ring.distinct 0 2 (omega arith) (omega arith))
+      (ring.distinct 1 2 (omega arith) (omega arith)) (one 0) (one 1) (one 2)
 
   live_parts : (b : ℕ) → 3 * live_at g.n f.nest.parts b ≤ count_below (λ p. part p b) f.size
   live_parts b = elim (cases_lt b g.n) [
@@ -125,12 +115,9 @@ module _ (g : Darts) (are : AreDarts g) (f : Forest) (nested : IsNested g f) (ve
   one_set p = elim (cases_eq (f.nest.up p) p) [
     | inl top ↦ omega (arith, count_below_none (part p) f.size (λ b l. off b (λ up self. self (sym top ∙ up))))
     | inr ne ↦ elim (cases_lt (f.nest.up p) f.size) [
-      | inl l ↦ omega (
-        arith,
-        is_inner ne,
-        count_below_one (part p) f.size (f.nest.up p) l (λ b lb nb. off b (λ up self. nb (sym up))),
-        is_part refl (λ e. ne (sym e)),
-      )
+      | inl l ↦ (let one = count_below_one (part p) f.size (f.nest.up p) l
+              (λ b lb nb. off b (λ up self. nb (sym up))) in
+          omega (arith, is_inner ne, is_part refl (λ e. ne (sym e))))
       | inr h ↦ omega (arith, count_below_none (part p) f.size (λ b l. off b (λ up self. absurd (omega (arith, up)))))
     ]
   ]
@@ -163,20 +150,16 @@ module _ (g : Darts) (are : AreDarts g) (f : Forest) (nested : IsNested g f) (ve
   sets_beside : (tops : ℕ → ℕ) → ((p : ℕ) → p < f.size → inner p + tops p ≤ used p)
       → 2 * sets_of g.n f + count_below tops f.size ≤ g.n
   sets_beside tops each =
-      let uses : count_below used f.size ≡ count_below (λ p. bool_number (nat_lt p g.n)) f.size + sets_of g.n f =
-      count_below_sum (λ p. bool_number (nat_lt p g.n)) (live_at g.n f.nest.parts) f.size in
-      omega (
-        arith,
-        count_below_times 3 (live_at g.n f.nest.parts) f.size,
-        count_below_le (λ x. 3 * live_at g.n f.nest.parts x) (λ x. count_below (λ p. part p x) f.size) f.size
-            (λ x l. live_parts x),
-        counts_swapped (λ x p. part p x) f.size f.size,
-        count_below_le (λ p. count_below (part p) f.size) inner f.size (λ p l. one_set p),
-        count_below_le (λ p. inner p + tops p) used f.size each,
-        count_below_sum inner tops f.size,
-        uses,
-        count_low g.n f.size vertices,
-      )
+      let live = live_at g.n f.nest.parts in
+      let uses = count_below_sum (λ p. bool_number (nat_lt p g.n)) live f.size in
+      let times = count_below_times 3 live f.size in
+      let parts = count_below_le (λ x. 3 * live x) (λ x. count_below (λ p. part p x) f.size) f.size
+      (λ x l. live_parts x) in
+      let swapped = counts_swapped (λ x p. part p x) f.size f.size in
+      let sets = count_below_le (λ p. count_below (part p) f.size) inner f.size (λ p l. one_set p) in
+      let more = count_below_le (λ p. inner p + tops p) used f.size each in
+      let sum = count_below_sum inner tops f.size in
+      omega (arith, count_low g.n f.size vertices)
 
   inner_low : (p : ℕ) → inner p ≤ used p
   inner_low p = elim (cases_eq (f.nest.up p) p) [
@@ -186,27 +169,18 @@ module _ (g : Darts) (are : AreDarts g) (f : Forest) (nested : IsNested g f) (ve
 
   -- Where there is no vertex there is no set.
   pub no_sets : g.n ≡ 0 → sets_of g.n f ≡ 0
-  no_sets none = omega (arith, sets_beside (λ p. 0) (λ p l. omega (arith, inner_low p)), none)
+  no_sets none = omega (arith, sets_beside (λ p. 0) (λ p l. omega (arith, inner_low p)))
 
   -- The outermost blossom of a vertex is in use, and no part.
   pub few_sets : AreOutermost g.n f → 0 < g.n → 2 * sets_of g.n f < g.n
-  few_sets outermost some = omega (
-    arith,
-    sets_beside (λ p. bool_number (eqb p top)) each,
-    one_at top f.size (outermost.out_low 0 some),
-  )
-    where
-      top : ℕ
-      top = f.out 0
-
-      top_used : IsBlossom g f (f.out 0)
-      top_used = holder_used some (outermost.held 0 0 some some ∙ eq-eqb (f.out 0) (f.out 0) refl)
-
-      each : (p : ℕ) → p < f.size → inner p + bool_number (eqb p top) ≤ used p
-      each p l = elim (cases_eq p top) [
+  few_sets outermost some =
+      let top = f.out 0 in
+      let top_used = holder_used some (outermost.held 0 0 some some ∙ eq-eqb top top refl) in
+      let few = sets_beside (λ p. bool_number (eqb p top)) (λ p l. elim (cases_eq p top) [
         | inr ne ↦ rw (ne_eqb p top ne) (omega (arith, inner_low p))
         | inl e ↦ rw (e, eq-eqb top top refl) (omega (arith, is_top (outermost.tops 0 some), is_used top top_used))
-      ]
+      ]) in
+      omega (arith, one_at top f.size (outermost.out_low 0 some))
 
   -- Three outermost blossoms that are in use.
   module _ (a b c : ℕ) (la : a < f.size) (lb : b < f.size) (lc : c < f.size) (ab : a ≢ b) (ac : a ≢ c) (bc : b ≢ c)
@@ -214,12 +188,10 @@ module _ (g : Darts) (are : AreDarts g) (f : Forest) (nested : IsNested g f) (ve
       (uc : IsBlossom g f c) where
     -- Then there is room for a set more.
     pub sets_few : 2 * count_below (live_at g.n f.nest.parts) f.size + 3 ≤ g.n
-    sets_few = omega (
-      arith,
-      sets_beside (three a b c) (λ p l. three_cases (λ x n. inner x + n ≤ used x) ab ac bc (top_used ta ua)
-          (top_used tb ub) (top_used tc uc) (λ x. omega (arith, inner_low x)) p),
-      three_count a b c f.size la lb lc,
-    )
+    sets_few =
+        let few = sets_beside (three a b c) (λ p l. three_cases (λ x n. inner x + n ≤ used x) ab ac bc (top_used ta ua)
+        (top_used tb ub) (top_used tc uc) (λ x. omega (arith, inner_low x)) p) in
+        omega (arith, three_count a b c f.size la lb lc)
       where
         top_used : {p : ℕ} → f.nest.up p ≡ p → IsBlossom g f p → inner p + 1 ≤ used p
         top_used {p} top in_use = omega (arith, is_top top, is_used p in_use)

@@ -1,15 +1,15 @@
 -- A shrink keeps a forest valid.
-use Rattle.std.proofs.Common.{◌≡◌, ◌≢◌, ℕ, suc, ◌<◌, ◌≤◌, Bool, true, false, eqb, Some, None, ◌⊎◌, refl, sym, ◌∙◌}
-use Rattle.std.proofs.Common.{ap, subst, inl, inr, arith}
-use Rattle.std.proofs.lemmas.Bool.{cases_eq, cases_Bool, cond-true, cond-false, eq-eqb, ne_eqb}
+use Rattle.std.proofs.Common.{◌≡◌, ◌≢◌, ℕ, suc, ◌<◌, Bool, true, false, eqb, Some, None, refl, sym, ◌∙◌}
+use Rattle.std.proofs.Common.{ap, inl, inr, arith}
+use Rattle.std.proofs.lemmas.Bool.{cases_eq, cases_Bool, cond_both, false_from_ne_true, eq-eqb, ne_eqb}
 use Rattle.def_forest.specs.Darts.{Darts, AreDarts, far}
 use Rattle.def_forest.specs.Forests.{Forest, IsTight, IsOutermost, bool_number, walk}
 use Rattle.def_forest.specs.Shrunk.{IsUnused, IsCycle, IsClosedRow, IsShrunk}
-use Rattle.def_forest.specs.Valid.{AreOutermost, IsNested, IsRing, IsJoint, IsMate, IsMatched, IsTree, IsValid}
+use Rattle.def_forest.specs.Valid.{AreOutermost, IsNested, IsRing, IsJoint, IsMatched, IsTree, IsValid}
 use Rattle.def_forest.specs.declared.kinds.Label.TheVariants.{Outer, Outside}
 use Rattle.forest_laws.proofs.{Writes.set_here, Writes.set_there, Writes.true_false, Facts.far_low, Facts.far_twin}
 use Rattle.forest_laws.proofs.WayLaws.{some_none}
-use Rattle.forest_laws.proofs.Beside.{ChangesOnly, StaysOn, same_joint, same_nested, same_ring, ring_sum_same}
+use Rattle.forest_laws.proofs.Beside.{ChangesOnly, same_joint, same_nested, same_ring, ring_sum_same}
 use Rattle.forest_laws.proofs.Beside.{same_tight as tight_stays}
 
 -- A cycle of a valid forest's tree that becomes one blossom.
@@ -30,24 +30,28 @@ module _ {g : Darts} {f : Forest} {r : ℕ} {new : Forest} {inside : ℕ → Boo
   -- Each blossom is the new one, on the cycle, or neither.
   pub data Place (x : ℕ) : Type 0 where
     is_new : x ≡ b → Place x
-    on_cycle : x ≢ b → inside x ≡ true → Place x
+    on_cycle : inside x ≡ true → Place x
     beside : x ≢ b → inside x ≡ false → Place x
 
   pub place : (x : ℕ) → Place x
   place x = elim (cases_eq x b) [
     | inl e ↦ is_new e
-    | inr ne ↦ elim (cases_Bool (inside x)) [ inl on ↦ on_cycle ne on | inr off ↦ beside ne off ]
+    | inr ne ↦ elim (cases_Bool (inside x)) [ inl on ↦ on_cycle on | inr off ↦ beside ne off ]
   ]
 
   marked_old : (x : ℕ) → inside x ≡ true → x ≢ b
   marked_old x on e = cycle.in_tree x on (ap f.label e ∙ unused.outside)
 
   -- The outermost blossoms of vertices.
+  out_cases : (P : ℕ → Type 0) (v : ℕ) → v < g.n → (inside (f.out v) ≡ true → P b)
+      → (inside (f.out v) ≡ false → P (f.out v)) → P (new.out v)
+  out_cases P v low on off = rw (is.out v low) (cond_both _ _ _ P on off)
+
   pub out_on : (v : ℕ) → v < g.n → inside (f.out v) ≡ true → new.out v ≡ b
-  out_on v low on = is.out v low ∙ cond-true _ _ _ on
+  out_on v low on = rw on at (is.out v low)
 
   pub out_off : (v : ℕ) → v < g.n → inside (f.out v) ≡ false → new.out v ≡ f.out v
-  out_off v low off = is.out v low ∙ cond-false _ _ _ off
+  out_off v low off = rw off at (is.out v low)
 
   pub label_b : new.label b ≡ Outer
   label_b = is.label b ∙ rw (eq-eqb b b refl)
@@ -76,25 +80,16 @@ module _ {g : Darts} {f : Forest} {r : ℕ} {new : Forest} {inside : ℕ → Boo
   up_off : (x : ℕ) → x ≢ b → inside x ≡ false → new.nest.up x ≡ f.nest.up x
   up_off x ne off = is.up x ∙ rw (ne_eqb x b ne, off)
 
-  head_b : new.nest.head b ≡ front
-  head_b = is.head b ∙ set_here f.nest.head b front
-
   parts_b : new.nest.parts b ≡ many
   parts_b = is.parts b ∙ set_here f.nest.parts b many
-
-  some_parts : new.nest.parts b ≢ 0
-  some_parts none = absurd (omega (arith, sym parts_b ∙ none, row.odd))
 
   -- What is marked is the outermost blossom of a vertex.
   marked_out : (x : ℕ) → inside x ≡ true → IsOutermost g.n f x
   marked_out x on = valid.outermost.named x (cycle.in_tree x on)
 
-  marked_top : (x : ℕ) → inside x ≡ true → f.nest.up x ≡ x
-  marked_top x on = let w = marked_out x on in subst (λ y. f.nest.up y ≡ y) w.2 (valid.outermost.tops w.0 w.1)
-
   marked_holds : (x v : ℕ) → v < g.n → inside x ≡ true → new.holds x v ≡ eqb (f.out v) x
-  marked_holds x v l on = is.holds_old x v (marked_old x on) l ∙ (let w = marked_out x on in
-      subst (λ y. f.holds y v ≡ eqb (f.out v) y) w.2 (valid.outermost.held w.0 v w.1 l))
+  marked_holds x v l on = let w = marked_out x on in
+      is.holds_old x v (marked_old x on) l ∙ rw w.2 at (valid.outermost.held w.0 v w.1 l)
 
   pub changes : ChangesOnly g.n f new b
   changes = record {
@@ -116,82 +111,60 @@ module _ {g : Darts} {f : Forest} {r : ℕ} {new : Forest} {inside : ℕ → Boo
   pub new_outermost : AreOutermost g.n new
   new_outermost = record {
     vertices = rw is.size valid.outermost.vertices;
-    out_low = λ v l. rw is.size (low v l (cases_Bool (inside (f.out v))));
-    held = λ u v lu lv. held u v lu lv (cases_Bool (inside (f.out u))) (cases_Bool (inside (f.out v)));
-    tops = λ v l. tops v l (cases_Bool (inside (f.out v)));
-    together = λ x u v lu lv hu hv. together x u v lu lv hu hv (cases_eq x b);
-    named = λ x n. named x n (place x);
+    out_low = λ v l. rw is.size (out_cases (λ x. x < f.size) v l (λ on. unused.low)
+        (λ off. valid.outermost.out_low v l));
+    held = λ u v lu lv. out_cases (λ x. new.holds x v ≡ eqb (new.out v) x) u lu
+        (λ on. is.holds_new v lv ∙ out_cases (λ y. inside (f.out v) ≡ eqb y b) v lv
+        (λ too. too ∙ sym (eq-eqb b b refl)) (λ off. off ∙ sym (ne_eqb (f.out v) b (unused.no_out v lv))))
+        (λ off. is.holds_old (f.out u) v (unused.no_out u lu) lv ∙ valid.outermost.held u v lu lv
+        ∙ out_cases (λ y. eqb (f.out v) (f.out u) ≡ eqb y (f.out u)) v lv
+        (λ on. ne_eqb (f.out v) (f.out u) (λ e. true_false (ap inside (sym e) ∙ on) off)
+        ∙ sym (ne_eqb b (f.out u) (λ e. unused.no_out u lu (sym e)))) (λ too. refl));
+    tops = λ v l. out_cases (λ x. new.nest.up x ≡ x) v l (λ on. up_b)
+        (λ off. up_off (f.out v) (unused.no_out v l) off ∙ valid.outermost.tops v l);
+    together = λ x u v lu lv hu hv. elim (cases_eq x b) [
+      | inl e ↦ out_on u lu (cc (is.holds_new u lu)) ∙ sym (out_on v lv (cc (is.holds_new v lv)))
+      | inr ne ↦ (let same = valid.outermost.together x u v lu lv (cc (is.holds_old x u ne lu))
+          (cc (is.holds_old x v ne lv)) in rw (is.out u lu, is.out v lv, same) refl)
+    ];
+    named = λ x n. elim (place x) [
+      | is_new e ↦ (let w = marked_out top cycle.top_in in
+          (w.0, w.1, out_on w.0 w.1 (ap inside w.2 ∙ cycle.top_in) ∙ sym e))
+      | on_cycle on ↦ absurd (n (label_on x on))
+      | beside ne off ↦ (let w = valid.outermost.named x (λ o. n (label_off x ne off ∙ o)) in
+          (w.0, w.1, out_off w.0 w.1 (ap inside w.2 ∙ off) ∙ w.2))
+    ];
   }
-    where
-      low : (v : ℕ) → v < g.n → (inside (f.out v) ≡ true) ⊎ (inside (f.out v) ≡ false) → new.out v < f.size
-      low v l (inl on) = rw (out_on v l on) unused.low
-      low v l (inr off) = rw (out_off v l off) (valid.outermost.out_low v l)
-
-      held : (u v : ℕ) → u < g.n → v < g.n → (inside (f.out u) ≡ true) ⊎ (inside (f.out u) ≡ false)
-          → (inside (f.out v) ≡ true) ⊎ (inside (f.out v) ≡ false) → new.holds (new.out u) v
-          ≡ eqb (new.out v) (new.out u)
-      held u v lu lv (inl on) (inl too) =
-          rw (out_on u lu on, out_on v lv too) (is.holds_new v lv ∙ too ∙ sym (eq-eqb b b refl))
-      held u v lu lv (inl on) (inr off) = rw (out_on u lu on, out_off v lv off)
-          (is.holds_new v lv ∙ off ∙ sym (ne_eqb (f.out v) b (unused.no_out v lv)))
-      held u v lu lv (inr off) (inl on) = rw (out_off u lu off, out_on v lv on) (is.holds_old (f.out u) v
-          (unused.no_out u lu) lv ∙ valid.outermost.held u v lu lv
-          ∙ ne_eqb (f.out v) (f.out u) (λ e. true_false (ap inside (sym e) ∙ on) off)
-          ∙ sym (ne_eqb b (f.out u) (λ e. unused.no_out u lu (sym e))))
-      held u v lu lv (inr off) (inr too) = rw (out_off u lu off, out_off v lv too)
-          (is.holds_old (f.out u) v (unused.no_out u lu) lv ∙ valid.outermost.held u v lu lv)
-
-      tops : (v : ℕ) → v < g.n → (inside (f.out v) ≡ true) ⊎ (inside (f.out v) ≡ false)
-          → new.nest.up (new.out v) ≡ new.out v
-      tops v l (inl on) = rw (out_on v l on) up_b
-      tops v l (inr off) = rw (out_off v l off) (up_off (f.out v) (unused.no_out v l) off ∙ valid.outermost.tops v l)
-
-      together : (x u v : ℕ) → u < g.n → v < g.n → new.holds x u ≡ true → new.holds x v ≡ true → (x ≡ b) ⊎ (x ≢ b)
-          → new.out u ≡ new.out v
-      together x u v lu lv hu hv (inl e) = out_on u lu (sym (is.holds_new u lu) ∙ ap (λ y. new.holds y u) (sym e) ∙ hu)
-          ∙ sym (out_on v lv (sym (is.holds_new v lv) ∙ ap (λ y. new.holds y v) (sym e) ∙ hv))
-      together x u v lu lv hu hv (inr ne) = rw (
-        is.out u lu,
-        is.out v lv,
-        valid.outermost.together x u v lu lv (sym (is.holds_old x u ne lu) ∙ hu) (sym (is.holds_old x v ne lv) ∙ hv),
-      ) refl
-
-      named : (x : ℕ) → new.label x ≢ Outside → Place x → IsOutermost g.n new x
-      named x n (is_new e) = let w = marked_out top cycle.top_in in
-          (w.0, w.1, out_on w.0 w.1 (ap inside w.2 ∙ cycle.top_in) ∙ sym e)
-      named x n (on_cycle ne on) = absurd (n (label_on x on))
-      named x n (beside ne off) = let w = valid.outermost.named x (λ o. n (label_off x ne off ∙ o)) in
-          (w.0, w.1, out_off w.0 w.1 (ap inside w.2 ∙ off) ∙ w.2)
 
   -- The ring of another set, and the new ring.
   ring_old : {c : ℕ} → c ≢ b → IsRing g f c → IsRing g new c
-  ring_old {c} ne ring = same_ring are changes ne ring stays (λ p up inner. back p up inner (place p))
-    where
-      stays : (p : ℕ) → f.nest.up p ≡ c → p ≢ c → StaysOn are changes p
-      stays p up inner = record { other = other; up = up_off p other off; after = is.after p off }
-        where
-          other : p ≢ b
-          other e = ne (sym up ∙ ap f.nest.up e ∙ unused.alone)
-
-          off : inside p ≡ false
-          off = elim (cases_Bool (inside p)) [ inl on ↦ absurd (inner (sym (marked_top p on) ∙ up)) | inr free ↦ free ]
-
-      back : (p : ℕ) → new.nest.up p ≡ c → p ≢ c → Place p → f.nest.up p ≡ c
-      back p up inner (is_new e) = absurd (ne (sym up ∙ ap new.nest.up e ∙ up_b))
-      back p up inner (on_cycle _ on) = absurd (ne (sym up ∙ up_on p on))
-      back p up inner (beside other off) = sym (up_off p other off) ∙ up
+  ring_old {c} ne ring = same_ring are changes ne ring
+      (λ p up inner. (let other : p ≢ b = λ e. ne (sym up ∙ ap f.nest.up e ∙ unused.alone) in
+      let off = false_from_ne_true (inside p) (λ on. (let w = marked_out p on in
+      inner (sym (rw w.2 at (valid.outermost.tops w.0 w.1)) ∙ up))) in
+      record { other = other; up = up_off p other off; after = is.after p off }))
+      (λ p up inner. elim (place p) [
+        | is_new e ↦ absurd (ne (sym up ∙ ap new.nest.up e ∙ up_b))
+        | on_cycle on ↦ absurd (ne (sym up ∙ up_on p on))
+        | beside other off ↦ sym (up_off p other off) ∙ up
+      ])
 
   ring_new : IsRing g new b
-  ring_new = record {
+  ring_new = let head_b = is.head b ∙ set_here f.nest.head b front in record {
     half = row.half;
     some = row.some;
     odd = parts_b ∙ row.odd;
     closed = rw (parts_b, head_b) row.closed;
     inside = λ k. rw head_b (up_on (at k) (row.marked k));
     lower = λ k. rw (head_b, is.rank (at k) (marked_old (at k) (row.marked k))) (is.ranked (at k) (row.marked k));
-    below = λ k. rw (head_b, is.size) (low (at k) (row.marked k));
-    distinct = λ i j l h. rw head_b (row.distinct i j l (subst (λ n. j < n) parts_b h));
-    all = λ p up inner. all p up inner (place p);
+    below = λ k. (let w = marked_out (at k) (row.marked k) in
+        rw (head_b, is.size, ← w.2) (valid.outermost.out_low w.0 w.1));
+    distinct = λ i j l h. rw head_b (row.distinct i j l (rw parts_b at h));
+    all = λ p up inner. elim (place p) [
+      | is_new e ↦ absurd (inner e)
+      | on_cycle on ↦ rw (parts_b, head_b) (row.all p on)
+      | beside ne off ↦ absurd (unused.around_none p ne (sym (up_off p ne off) ∙ up))
+    ];
     shared = λ v l. rw (is.holds_new v l, parts_b, head_b) (row.shared v l ∙ ring_sum_same new.nest.after
         new.nest.after (λ p. bool_number (eqb (f.out v) p)) (λ p. bool_number (new.holds p v)) front front many
         (λ k. refl) (λ k. ap bool_number (sym (marked_holds (at k) v l (row.marked k)))));
@@ -200,73 +173,47 @@ module _ {g : Darts} {f : Forest} {r : ℕ} {new : Forest} {inside : ℕ → Boo
       at : ℕ → ℕ
       at k = walk new.nest.after front k
 
-      low : (x : ℕ) → inside x ≡ true → x < f.size
-      low x on = let w = marked_out x on in subst (λ y. y < f.size) w.2 (valid.outermost.out_low w.0 w.1)
-
-      all : (p : ℕ) → new.nest.up p ≡ b → p ≢ b → Place p → (k : ℕ) × (k < new.nest.parts b)
-          × (walk new.nest.after (new.nest.head b) k ≡ p)
-      all p up inner (is_new e) = absurd (inner e)
-      all p up inner (on_cycle ne on) = rw (parts_b, head_b) (row.all p on)
-      all p up inner (beside ne off) = absurd (unused.around_none p ne (sym (up_off p ne off) ∙ up))
-
   joint_new : (p : ℕ) → inside p ≡ true → IsJoint g new p
-  joint_new p on = record {
-    tight = same_tight tight;
-    begins = marked_holds p (g.near joint) near_low on ∙ eq-eqb _ _ (row.begins p on);
-    ends = marked_holds (new.nest.after p) (far g joint) far_is_low next ∙ eq-eqb _ _ (row.ends p on);
-    same = out_on (g.near joint) near_low (ap inside (row.begins p on) ∙ on)
-        ∙ sym (out_on (far g joint) far_is_low (ap inside (row.ends p on) ∙ next));
-  }
-    where
-      joint : ℕ
-      joint = new.nest.joint p
-
-      tight : IsTight g f (new.nest.joint p)
-      tight = row.tight p on
-
-      near_low : g.near (new.nest.joint p) < g.n
-      near_low = are.near_low (new.nest.joint p) tight.low
-
-      far_is_low : far g (new.nest.joint p) < g.n
-      far_is_low = far_low g are (new.nest.joint p) tight.low
-
-      next : inside (new.nest.after p) ≡ true
-      next = let w = row.all p on in ap (λ x. inside (new.nest.after x)) (sym w.2) ∙ row.marked (suc w.0)
+  joint_new p on =
+      let joint = new.nest.joint p in
+      let tight = row.tight p on in
+      let near_low = are.near_low joint tight.low in
+      let far_is_low = far_low g are joint tight.low in
+      let w = row.all p on in
+      let next : inside (new.nest.after p) ≡ true = rw (← w.2) (row.marked (suc w.0)) in
+      record {
+        tight = same_tight tight;
+        begins = marked_holds p (g.near joint) near_low on ∙ eq-eqb _ _ (row.begins p on);
+        ends = marked_holds (new.nest.after p) (far g joint) far_is_low next ∙ eq-eqb _ _ (row.ends p on);
+        same = out_on (g.near joint) near_low (ap inside (row.begins p on) ∙ on)
+            ∙ sym (out_on (far g joint) far_is_low (ap inside (row.ends p on) ∙ next));
+      }
 
   joint_old : (p : ℕ) → p ≢ b → inside p ≡ false → f.nest.up p ≢ p → IsJoint g new p
-  joint_old p ne off inner = same_joint are changes ne next (is.after p off) (is.joint p off) outs old
-    where
-      old : IsJoint g f p
-      old = valid.nested.joints p inner
-
-      far_is_low : far g (f.nest.joint p) < g.n
-      far_is_low = far_low g are (f.nest.joint p) old.tight.low
-
-      next : f.nest.after p ≢ b
-      next e = true_false (ap (λ x. f.holds x (far g (f.nest.joint p))) (sym e) ∙ old.ends)
-          (valid.nested.empty b (far g (f.nest.joint p)) unused.high far_is_low unused.no_parts)
-
-      outs : new.out (g.near (f.nest.joint p)) ≡ new.out (far g (f.nest.joint p))
-      outs = rw (
-        is.out (g.near (f.nest.joint p)) (are.near_low (f.nest.joint p) old.tight.low),
-        is.out (far g (f.nest.joint p)) far_is_low,
-        old.same,
-      ) refl
+  joint_old p ne off inner =
+      let old = valid.nested.joints p inner in
+      let joint = f.nest.joint p in
+      let far_is_low = far_low g are joint old.tight.low in
+      same_joint are changes ne (λ e. true_false (ap (λ x. f.holds x (far g joint)) (sym e) ∙ old.ends)
+      (valid.nested.empty b (far g joint) unused.high far_is_low unused.no_parts)) (is.after p off) (is.joint p off)
+      (rw (is.out (g.near joint) (are.near_low joint old.tight.low), is.out (far g joint) far_is_low, old.same) refl)
+      old
 
   pub new_nested : IsNested g new
   new_nested = same_nested are changes valid.nested (λ some. ring_new) (λ v l none. absurd (some_parts none))
-      (λ c ne. ring_old ne) (λ p inner. live p inner (place p)) (λ p inner. joints p inner (place p))
+      (λ c ne. ring_old ne) (λ p inner. elim (place p) [
+        | is_new e ↦ absurd (inner (ap new.nest.up e ∙ up_b ∙ sym e))
+        | on_cycle on ↦ rw (up_on p on) (unused.high, some_parts)
+        | beside ne off ↦ rw (up_off p ne off, (changes.sets (f.nest.up p) (unused.around_none p ne)).many)
+            (valid.nested.live p (λ e. inner (up_off p ne off ∙ e)))
+      ]) (λ p inner. elim (place p) [
+        | is_new e ↦ absurd (inner (ap new.nest.up e ∙ up_b ∙ sym e))
+        | on_cycle on ↦ joint_new p on
+        | beside ne off ↦ joint_old p ne off (λ e. inner (up_off p ne off ∙ e))
+      ])
     where
-      live : (p : ℕ) → new.nest.up p ≢ p → Place p → (g.n ≤ new.nest.up p) × (new.nest.parts (new.nest.up p) ≢ 0)
-      live p inner (is_new e) = absurd (inner (ap new.nest.up e ∙ up_b ∙ sym e))
-      live p inner (on_cycle ne on) = rw (up_on p on) (unused.high, some_parts)
-      live p inner (beside ne off) = let was = valid.nested.live p (λ e. inner (up_off p ne off ∙ e)) in
-          rw (up_off p ne off, (changes.sets (f.nest.up p) (unused.around_none p ne)).many) was
-
-      joints : (p : ℕ) → new.nest.up p ≢ p → Place p → IsJoint g new p
-      joints p inner (is_new e) = absurd (inner (ap new.nest.up e ∙ up_b ∙ sym e))
-      joints p inner (on_cycle ne on) = joint_new p on
-      joints p inner (beside ne off) = joint_old p ne off (λ e. inner (up_off p ne off ∙ e))
+      some_parts : new.nest.parts b ≢ 0
+      some_parts none = absurd (omega (arith, sym parts_b ∙ none, row.odd))
 
   -- Who is matched to a blossom of the cycle from outside it is matched to the top.
   pub only_top : (c d : ℕ) → inside c ≡ false → f.mate c ≡ Some d → inside (f.out (far g d)) ≡ true
@@ -283,17 +230,14 @@ module _ {g : Darts} {f : Forest} {r : ℕ} {new : Forest} {inside : ℕ → Boo
   near_off {c} {d} tight here off = out_off (g.near d) (are.near_low d tight.low) (ap inside here ∙ off) ∙ here
 
   module _ {d : ℕ} (tight : IsTight g f d) where
-    far_is_low : far g d < g.n
-    far_is_low = far_low g are d tight.low
-
     pub beyond_on : inside (f.out (far g d)) ≡ true → new.out (far g d) ≡ b
-    beyond_on = out_on (far g d) far_is_low
+    beyond_on = out_on (far g d) (far_low g are d tight.low)
 
     pub beyond_off : inside (f.out (far g d)) ≡ false → new.out (far g d) ≡ f.out (far g d)
-    beyond_off = out_off (far g d) far_is_low
+    beyond_off = out_off (far g d) (far_low g are d tight.low)
 
     pub beyond_other : f.out (far g d) ≢ b
-    beyond_other = unused.no_out (far g d) far_is_low
+    beyond_other = unused.no_out (far g d) (far_low g are d tight.low)
 
     pub beyond_label : inside (f.out (far g d)) ≡ false → new.label (new.out (far g d)) ≡ f.label (f.out (far g d))
     beyond_label off = ap new.label (beyond_off off) ∙ label_off (f.out (far g d)) beyond_other off
@@ -302,34 +246,30 @@ module _ {g : Darts} {f : Forest} {r : ℕ} {new : Forest} {inside : ℕ → Boo
     beyond_mate off = ap new.mate (beyond_off off) ∙ mate_off (f.out (far g d)) beyond_other off
 
   pub new_matched : IsMatched g new
-  new_matched c d mate = by_place (place c)
-    where
-      from_top : c ≡ b → IsMate g f top d → inside (f.out (far g d)) ≡ false → IsMate g new c d
-      from_top e pair off = record {
-        tight = same_tight pair.tight;
-        here = out_on (g.near d) (are.near_low d pair.tight.low) (ap inside pair.here ∙ cycle.top_in) ∙ sym e;
-        other = λ x. beyond_other pair.tight (sym (beyond_off pair.tight off) ∙ x ∙ e);
-        back = beyond_mate pair.tight off ∙ pair.back;
-      }
-
-      from_old : c ≢ b → inside c ≡ false → f.mate c ≡ Some d → IsMate g f c d
-          → (inside (f.out (far g d)) ≡ true) ⊎ (inside (f.out (far g d)) ≡ false) → IsMate g new c d
-      from_old ne off was pair (inl on) = record {
-        tight = same_tight pair.tight;
-        here = near_off pair.tight pair.here off;
-        other = λ x. ne (sym x ∙ beyond_on pair.tight on);
-        back = ap new.mate (beyond_on pair.tight on) ∙ mate_b ∙ ap f.mate (sym (only_top c d off was on)) ∙ pair.back;
-      }
-      from_old ne off was pair (inr too) = record {
-        tight = same_tight pair.tight;
-        here = near_off pair.tight pair.here off;
-        other = λ x. pair.other (sym (beyond_off pair.tight too) ∙ x);
-        back = beyond_mate pair.tight too ∙ pair.back;
-      }
-
-      by_place : Place c → IsMate g new c d
-      by_place (is_new e) = let was = sym mate_b ∙ ap new.mate (sym e) ∙ mate in
-          from_top e (valid.matched top d was) (cycle.top_mate d was)
-      by_place (on_cycle ne on) = absurd (some_none (new.mate c) d mate (mate_on c on))
-      by_place (beside ne off) = let was = sym (mate_off c ne off) ∙ mate in
-          from_old ne off was (valid.matched c d was) (cases_Bool (inside (f.out (far g d))))
+  new_matched c d mate = elim (place c) [
+    | is_new e ↦ (let was = sym mate_b ∙ ap new.mate (sym e) ∙ mate in
+        let pair = valid.matched top d was in
+        let off = cycle.top_mate d was in
+        record {
+          tight = same_tight pair.tight;
+          here = out_on (g.near d) (are.near_low d pair.tight.low) (ap inside pair.here ∙ cycle.top_in) ∙ sym e;
+          other = λ x. beyond_other pair.tight (sym (beyond_off pair.tight off) ∙ x ∙ e);
+          back = beyond_mate pair.tight off ∙ pair.back;
+        })
+    | on_cycle on ↦ absurd (some_none (new.mate c) d mate (mate_on c on))
+    | beside ne off ↦ (let was = sym (mate_off c ne off) ∙ mate in
+        let pair = valid.matched c d was in
+        let both : (new.out (far g d) ≢ c) × (new.mate (new.out (far g d)) ≡ Some (g.twin d)) =
+        elim (cases_Bool (inside (f.out (far g d)))) [
+          | inl on ↦ (
+            (λ x. ne (sym x ∙ beyond_on pair.tight on)),
+            ap new.mate (beyond_on pair.tight on) ∙ mate_b ∙ ap f.mate (sym (only_top c d off was on)) ∙ pair.back,
+          )
+          | inr too ↦ (
+            (λ x. pair.other (sym (beyond_off pair.tight too) ∙ x)),
+            beyond_mate pair.tight too ∙ pair.back,
+          )
+        ] in
+        let here = near_off pair.tight pair.here off in
+        record { tight = same_tight pair.tight; here = here; other = both.0; back = both.1 })
+  ]

@@ -1,5 +1,5 @@
 -- What a walk comes past, and a function that is written at the places of a walk.
-use Rattle.std.proofs.Common.{◌≡◌, ◌≢◌, ℕ, zero, suc, ◌+◌, ◌<◌, ◌≤◌, Bool, true, false, cond, ◌||◌, eqb, ◌⊎◌, refl, sym}
+use Rattle.std.proofs.Common.{◌≡◌, ◌≢◌, ℕ, zero, suc, ◌+◌, ◌<◌, ◌≤◌, Bool, true, false, cond, ◌||◌, eqb, refl, sym}
 use Rattle.std.proofs.Common.{◌∙◌, ap, subst, inl, inr, arith}
 use Rattle.std.proofs.lemmas.Bool.{cases_eq, cases_lt, cond-true, eq-eqb, ne_eqb, eqb-true, or_right, or_left, or_cases}
 use Rattle.std.proofs.lemmas.Bool.{or_from}
@@ -32,7 +32,7 @@ pub listed_place : (next : ℕ → ℕ) (from many x : ℕ) → listed next from
     × (walk next from k ≡ x)
 listed_place next from zero x on = absurd (cc on)
 listed_place next from (suc many) x on = elim (or_cases (listed next from many x) (eqb (walk next from many) x) on) [
-  | inl e ↦ (let w = listed_place next from many x e in (w.0, omega (arith, w.1), w.2))
+  | inl e ↦ (let w = listed_place next from many x e in (w.0, omega arith, w.2))
   | inr e ↦ (many, omega arith, eqb-true (walk next from many) x e)
 ]
 
@@ -45,21 +45,20 @@ listed_off next from (suc many) x off = or_from (listed next from many x) (eqb (
 -- A walk that is closed stays among its places.
 pub listed_closed : (next : ℕ → ℕ) {from : ℕ} (many : ℕ) → 1 ≤ many → walk next from many ≡ from → (k : ℕ)
     → listed next from many (walk next from k) ≡ true
-listed_closed next {from} many some closed k = let w : (j : ℕ) × (j < many) × (walk next from j ≡ walk next from k) =
-    at k in subst (λ x. listed next from many x ≡ true) w.2 (listed_at next from many w.0 w.1)
+listed_closed next {from} many some closed k = let w = at k in
+    rw w.2 at (listed_at next from many w.0 w.1)
   where
     one_more : (k : ℕ) → (j : ℕ) × (j < many) × (walk next from j ≡ walk next from k) → (j : ℕ) × (j < many)
         × (walk next from j ≡ walk next from (suc k))
-    one_more k w = by_place (cases_lt (suc w.0) many)
-      where
-        by_place : (suc w.0 < many) ⊎ (many ≤ suc w.0) → (j : ℕ) × (j < many)
-            × (walk next from j ≡ walk next from (suc k))
-        by_place (inl l) = (suc w.0, l, ap next w.2)
-        by_place (inr h) = let e : many ≡ suc w.0 = omega (arith, h, w.1) in
-            (0, omega (arith, some), sym closed ∙ (ap (walk next from) e ∙ ap next w.2))
+    one_more k w =
+        elim (cases_lt (suc w.0) many) [
+          | inl l ↦ (suc w.0, l, ap next w.2)
+          | inr h ↦ let e : many ≡ suc w.0 = omega arith in
+              (0, omega arith, sym closed ∙ (ap (walk next from) e ∙ ap next w.2))
+        ]
 
     at : (k : ℕ) → (j : ℕ) × (j < many) × (walk next from j ≡ walk next from k)
-    at zero = (0, omega (arith, some), refl)
+    at zero = (0, omega arith, refl)
     at (suc k) = one_more k (at k)
 
 -- A walk past different places counts each once.
@@ -82,9 +81,8 @@ pub writes_at : {X : Type 0} (f : ℕ → X) (place : ℕ → ℕ) (value : ℕ 
 writes_at f place value zero k l distinct = absurd (omega arith)
 writes_at f place value (suc many) k l distinct = elim (cases_eq k many) [
   | inl e ↦ rw e (set_here (writes f place value many) (place many) (value many))
-  | inr ne ↦ set_there (writes f place value many) (place many) (place k) (value many)
-      (distinct k many (omega arith) (omega arith))
-      ∙ writes_at f place value many k (omega arith) (λ i j lij lj. distinct i j lij (omega arith))
+  | inr ne ↦ set_there (writes f place value many) (place many) (place k) (value many) (distinct k many (omega arith)
+      (omega arith)) ∙ writes_at f place value many k (omega arith) (λ i j lij lj. distinct i j lij (omega arith))
 ]
 
 pub writes_off : {X : Type 0} (f : ℕ → X) (place : ℕ → ℕ) (value : ℕ → X) (many x : ℕ)

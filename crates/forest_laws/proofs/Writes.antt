@@ -1,6 +1,7 @@
 -- A function with another value at one place; cases on labels; tests as terms of sums.
-use Rattle.std.proofs.Common.{◌∙◌, sym, ◌≡◌, ◌≢◌, ℕ, Bool, true, false, not, cond, eqb, Some, ℤ, pos, ◌+ℤ◌, ◌⊎◌, refl}
-use Rattle.std.proofs.Common.{inl, inr, arith}
+use Rattle.std.proofs.Common.{◌∙◌, sym, ◌≡◌, ◌≢◌, ℕ, Bool, true, false, not, cond, eqb, Option, Some, None, ℤ, pos}
+use Rattle.std.proofs.Common.{◌+ℤ◌}
+use Rattle.std.proofs.Common.{◌⊎◌, refl, inl, inr, arith}
 use Rattle.std.proofs.lemmas.Int.{ints}
 use Rattle.std.proofs.lemmas.Bool.{cond-true, cond-false, eq-eqb, ne_eqb}
 use Rattle.def_forest.specs.{Forests.set_at, declared.kinds.Label.Label, declared.kinds.Label.TheVariants.Outer}
@@ -18,11 +19,20 @@ set_there f k j x ne = cond-false (eqb j k) x (f j) (ne_eqb j k ne)
 pub some_is : (a b : ℕ) → Some a ≡ Some b → a ≡ b
 some_is a b e = cc
 
+pub option_cases : (o : Option ℕ) → (o ≡ None) ⊎ ((d : ℕ) × (o ≡ Some d))
+option_cases None = inl refl
+option_cases (Some d) = inr (d, refl)
+
 -- A blossom is outside the tree or not.
 pub label_cases : (l : Label) → (l ≡ Outside) ⊎ (l ≢ Outside)
 label_cases Outside = inl refl
 label_cases Outer = inr (λ e. cc e)
 label_cases Inner = inr (λ e. cc e)
+
+pub label_is : (l : Label) → (l ≡ Outer) ⊎ ((l ≡ Inner) ⊎ (l ≡ Outside))
+label_is Outer = inl refl
+label_is Inner = inr (inl refl)
+label_is Outside = inr (inr refl)
 
 -- The labels differ.
 pub outer_named : {l : Label} → l ≡ Outer → l ≢ Outside
