@@ -1,7 +1,7 @@
 -- Keys stay low through each step, where the edges at new outer blossoms and the new inner sets get theirs anew.
 use Rattle.std.proofs.Common.{◌≡◌, ◌≢◌, ℕ, ◌*◌, ◌<◌, ◌≤◌, Bool, true, false, cond, eqb, List, length, get_or, Option}
-use Rattle.std.proofs.lemmas.Bool.{cases_eq, cases_lt, cases_Bool, eq-eqb, eqb-true}
-use Rattle.std.proofs.Common.{Some, None, ℤ, pos, ◌-ℤ◌, ◌*ℤ◌, ◌⊎◌, refl, sym, ◌∙◌, ap, subst, inl, inr, arith}
+use Rattle.std.proofs.lemmas.Bool.{cases_eq, cases_lt, cases_Bool, eq-eqb, ne_eqb, eqb-true}
+use Rattle.std.proofs.Common.{Some, None, ℤ, pos, ◌-ℤ◌, ◌*ℤ◌, ◌⊎◌, refl, sym, ◌∙◌, ap, inl, inr, arith}
 use Rattle.std.specs.Int.RustNames.{unsigned_abs}
 use Rattle.def_matching.specs.Matching.{WeightedGraph, IsGraph, edge_at}
 use Rattle.def_forest.specs.{Darts.darts_of, Darts.far, Forests.Forest, Forests.set_at}
@@ -23,21 +23,14 @@ IsQuiet f new w = (new.label (new.out w) ≡ f.label (f.out w)) ⊎ (new.label (
 
 inner_right : (a : Label) (same : Bool) (slack risen : ℕ) → edge_key_by a Inner same slack risen ≡ no_key
 inner_right Outer same slack risen = refl
-inner_right Inner same slack risen = refl
-inner_right Outside same slack risen = refl
+inner_right _ same slack risen = refl
 
 same_labels : (a b : Label) (s t : Bool) (slack risen : ℕ) → (a ≡ Outer → s ≡ true → t ≡ true)
     → edge_key_by a b s slack risen ≤ edge_key_by a b t slack risen
-same_labels Outer Outer true true slack risen on = omega arith
 same_labels Outer Outer true false slack risen on = absurd (let h : false ≡ true = on refl refl in cc)
 same_labels Outer Outer false true slack risen on = omega arith
-same_labels Outer Outer false false slack risen on = omega arith
-same_labels Outer Outside s t slack risen on = omega arith
 same_labels Outside Outer s t slack risen on = omega arith
-same_labels Outer Inner s t slack risen on = omega arith
-same_labels Inner b s t slack risen on = omega arith
-same_labels Outside Inner s t slack risen on = omega arith
-same_labels Outside Outside s t slack risen on = omega arith
+same_labels _ _ _ _ slack risen on = omega arith
 
 quiet_key : {a b c d : Label} (s t : Bool) (slack risen : ℕ) → (c ≡ a) ⊎ (c ≡ Inner) → (d ≡ b) ⊎ (d ≡ Inner)
     → (a ≡ Outer → s ≡ true → t ≡ true) → edge_key_by a b s slack risen ≤ edge_key_by c d t slack risen
@@ -47,19 +40,16 @@ quiet_key {a} {b} {c} s t slack risen (inl e) (inr e') on =
 quiet_key {a} {b} s t slack risen (inl e) (inl e') on = rw (e, e') (same_labels a b s t slack risen on)
 
 set_key_none : (l : Label) (w : ℤ) (risen : ℕ) → l ≢ Inner → set_key_by l w risen ≡ no_key
-set_key_none Outer w risen ne = refl
-set_key_none Outside w risen ne = refl
 set_key_none Inner w risen ne = absurd (ne refl)
+set_key_none _ w risen ne = refl
 
 set_key_low : (l : Label) (w : ℤ) (risen : ℕ) → set_key_by l w risen ≤ no_key
-set_key_low Outer w risen = omega arith
-set_key_low Outside w risen = omega arith
 set_key_low Inner w risen = omega arith
+set_key_low _ w risen = omega arith
 
 inner_cases : (l : Label) → (l ≡ Inner) ⊎ (l ≢ Inner)
 inner_cases Inner = inl refl
-inner_cases Outer = inr (λ e. cc e)
-inner_cases Outside = inr (λ e. cc e)
+inner_cases _ = inr (λ e. cc e)
 
 -- The edges at vertex w have the keys that they ought to have.
 abbrev pub AreRight : (g : WeightedGraph) (f : Forest) (risen : ℕ) (keys : List ℕ) (w : ℕ) → Type 0
@@ -81,71 +71,57 @@ pub record IsTurned (g : WeightedGraph) (f new : Forest) (risen : ℕ) (keys : L
 -- Keys stay low.
 pub stay_low : {g : WeightedGraph} → IsGraph g → {f new : Forest} {risen : ℕ} {old keys : List ℕ} → AreLow g f risen old
     → IsMended g new risen old keys → IsTurned g f new risen keys → AreLow g new risen keys
-stay_low {g} is {f} {new} {risen} {old} {keys} low mended turned k l = by_mended (mended.each k)
+stay_low {g} is {f} {new} {risen} {old} {keys} low mended turned k l = elim (mended.each k) [
+  | inl e ↦ omega arith
+  | inr same ↦ elim (cases_lt k (length g.edges)) [
+    | inl le ↦ elim (turned.ends (edge_at g k).u (is.left k le)) [
+      | inr right ↦ omega (arith, right k le (inl refl))
+      | inl qu ↦ elim (turned.ends (edge_at g k).v (is.right k le)) [
+        | inr right ↦ omega (arith, right k le (inr refl))
+        | inl qv ↦ kept same (at_ends le qu qv)
+      ]
+    ]
+    | inr he ↦ (let b = set_of g k in
+        elim (inner_cases (new.label b)) [
+          | inr ne ↦ kept same (rw (
+            at_set g new risen k he,
+            set_key_none (new.label b) (new.weight b) risen ne,
+            at_set g f risen k he,
+          ) (set_key_low (f.label b) (f.weight b) risen))
+          | inl inner ↦ (let leaf : leaf_of g b ≡ k = omega arith in
+              elim (turned.sets b (omega arith) inner) [
+                | inr right ↦ (let at = sym (ap (λ x. get_or keys x 0) leaf) ∙ right ∙ ap (true_key g new risen) leaf in
+                    omega arith)
+                | inl w ↦ (let keys_are : true_key g f risen k ≡ true_key g new risen k =
+                    rw (at_set g f risen k he, at_set g new risen k he, w.0, inner, w.1) in
+                    kept same (omega arith))
+              ])
+        ])
+  ]
+]
   where
-    exact : get_or keys k 0 ≡ true_key g new risen k → get_or keys k 0 ≤ true_key g new risen k
-    exact e = omega (arith, e)
-
     kept : get_or keys k 0 ≡ get_or old k 0 → true_key g f risen k ≤ true_key g new risen k
         → get_or keys k 0 ≤ true_key g new risen k
-    kept e h = omega (arith, e, h, low k (omega (arith, l, mended.size)))
+    kept e h = omega (arith, low k (omega (arith, mended.size)))
 
     at_ends : k < length g.edges → IsQuiet f new (edge_at g k).u → IsQuiet f new (edge_at g k).v
         → true_key g f risen k ≤ true_key g new risen k
     at_ends le qu qv =
-        rw (at_edge g f risen k le, at_edge g new risen k le, turned.slacks k le) (quiet_key
-        (eqb (f.out (edge_at g k).u) (f.out (edge_at g k).v)) (eqb (new.out (edge_at g k).u) (new.out (edge_at g k).v))
-        (unsigned_abs (slack_of g f k)) risen qu qv (λ outer on. eq-eqb (new.out (edge_at g k).u)
-        (new.out (edge_at g k).v) (turned.same (edge_at g k).u (edge_at g k).v (is.left k le) (is.right k le) outer
-        (eqb-true (f.out (edge_at g k).u) (f.out (edge_at g k).v) on))))
-
-    by_ends : get_or keys k 0 ≡ get_or old k 0 → k < length g.edges → IsQuiet f new (edge_at g k).u
-        ⊎ AreRight g new risen keys (edge_at g k).u → IsQuiet f new (edge_at g k).v
-        ⊎ AreRight g new risen keys (edge_at g k).v → get_or keys k 0 ≤ true_key g new risen k
-    by_ends same le (inr right) y = exact (right k le (inl refl))
-    by_ends same le (inl qu) (inr right) = exact (right k le (inr refl))
-    by_ends same le (inl qu) (inl qv) = kept same (at_ends le qu qv)
-
-    by_set : get_or keys k 0 ≡ get_or old k 0 → length g.edges ≤ k → (new.label (set_of g k) ≡ Inner)
-        ⊎ (new.label (set_of g k) ≢ Inner) → get_or keys k 0 ≤ true_key g new risen k
-    by_set same he (inr ne) = kept same (rw (
-      at_set g new risen k he,
-      set_key_none (new.label (set_of g k)) (new.weight (set_of g k)) risen ne,
-      at_set g f risen k he,
-    ) (set_key_low (f.label (set_of g k)) (f.weight (set_of g k)) risen))
-    by_set same he (inl inner) = by_sets (turned.sets (set_of g k) (omega arith) inner)
-      where
-        leaf_is : leaf_of g (set_of g k) ≡ k
-        leaf_is = omega (arith, he)
-
-        by_sets : IsSetRight g f new risen keys (set_of g k) → get_or keys k 0 ≤ true_key g new risen k
-        by_sets (inr right) = exact (ap (λ x. get_or keys x 0) (sym leaf_is)
-            ∙ (right ∙ ap (true_key g new risen) leaf_is))
-        by_sets (inl w) =
-            let keys_are : true_key g f risen k ≡ true_key g new risen k =
-            rw (at_set g f risen k he, at_set g new risen k he, w.0, inner, w.1) refl in
-            kept same (omega (arith, keys_are))
-
-    by_leaf : get_or keys k 0 ≡ get_or old k 0 → (k < length g.edges) ⊎ (length g.edges ≤ k)
-        → get_or keys k 0 ≤ true_key g new risen k
-    by_leaf same (inl le) = by_ends same le (turned.ends (edge_at g k).u (is.left k le))
-        (turned.ends (edge_at g k).v (is.right k le))
-    by_leaf same (inr he) = by_set same he (inner_cases (new.label (set_of g k)))
-
-    by_mended : (get_or keys k 0 ≡ true_key g new risen k) ⊎ (get_or keys k 0 ≡ get_or old k 0)
-        → get_or keys k 0 ≤ true_key g new risen k
-    by_mended (inl e) = exact e
-    by_mended (inr same) = by_leaf same (cases_lt k (length g.edges))
+        let u = (edge_at g k).u in
+        let v = (edge_at g k).v in
+        rw (at_edge g f risen k le, at_edge g new risen k le, turned.slacks k le) (quiet_key (eqb (f.out u) (f.out v))
+        (eqb (new.out u) (new.out v)) (unsigned_abs (slack_of g f k)) risen qu qv
+        (λ outer on. eq-eqb (new.out u) (new.out v) (turned.same u v (is.left k le) (is.right k le) outer
+        (eqb-true (f.out u) (f.out v) on))))
 
 -- No key is above the one where nothing happens.
 pub true_key_low : (g : WeightedGraph) (f : Forest) (risen k : ℕ) → true_key g f risen k ≤ no_key
-true_key_low g f risen k = by_leaf (cases_lt k (length g.edges))
-  where
-    by_leaf : (k < length g.edges) ⊎ (length g.edges ≤ k) → true_key g f risen k ≤ no_key
-    by_leaf (inl le) = rw (at_edge g f risen k le) (edge_key_low (f.label (f.out (edge_at g k).u))
-        (f.label (f.out (edge_at g k).v)) (eqb (f.out (edge_at g k).u) (f.out (edge_at g k).v))
-        (unsigned_abs (slack_of g f k)) risen)
-    by_leaf (inr he) = rw (at_set g f risen k he) (set_key_low (f.label (set_of g k)) (f.weight (set_of g k)) risen)
+true_key_low g f risen k = elim (cases_lt k (length g.edges)) [
+  | inl le ↦ rw (at_edge g f risen k le) (edge_key_low (f.label (f.out (edge_at g k).u))
+      (f.label (f.out (edge_at g k).v)) (eqb (f.out (edge_at g k).u) (f.out (edge_at g k).v))
+      (unsigned_abs (slack_of g f k)) risen)
+  | inr he ↦ rw (at_set g f risen k he) (set_key_low (f.label (set_of g k)) (f.weight (set_of g k)) risen)
+]
 
 -- The edges at a vertex of a set of vertices.
 right_at : (g : WeightedGraph) (f : Forest) (risen : ℕ) (keys : List ℕ) (set : ℕ → Bool) {w : ℕ}
@@ -161,34 +137,26 @@ held_out g {f} valid w l = valid.outermost.held w w l l ∙ eq-eqb (f.out w) (f.
 -- Where no tree stands nothing happens.
 pub idle_low : (g : WeightedGraph) (f : Forest) (risen : ℕ) (keys : List ℕ) → ((b : ℕ) → f.label b ≡ Outside)
     → ((k : ℕ) → k < length keys → get_or keys k 0 ≤ no_key) → AreLow g f risen keys
-idle_low g f risen keys outside few k l = by_leaf (cases_lt k (length g.edges))
-  where
-    by_leaf : (k < length g.edges) ⊎ (length g.edges ≤ k) → get_or keys k 0 ≤ true_key g f risen k
-    by_leaf (inl le) =
-        rw (at_edge g f risen k le, outside (f.out (edge_at g k).u), outside (f.out (edge_at g k).v)) (few k l)
-    by_leaf (inr he) = rw (at_set g f risen k he, outside (set_of g k)) (few k l)
+idle_low g f risen keys outside few k l = elim (cases_lt k (length g.edges)) [
+  | inl le ↦ rw (at_edge g f risen k le, outside (f.out (edge_at g k).u), outside (f.out (edge_at g k).v)) (few k l)
+  | inr he ↦ rw (at_set g f risen k he, outside (set_of g k)) (few k l)
+]
 
 -- A tree begins.
 pub rooted_turned : (g : WeightedGraph) {f : Forest} (b risen : ℕ) (keys : List ℕ) → IsValid (darts_of g) f None
     → AreRightAt g (rooted f b) risen keys (f.holds b) → IsTurned g f (rooted f b) risen keys
 rooted_turned g {f} b risen keys valid right = record {
   slacks = λ e l. refl;
-  ends = λ w l. ends w l (cases_eq (f.out w) b);
+  ends = λ w l. elim (cases_eq (f.out w) b) [
+    | inl e ↦ inr (right_at g (rooted f b) risen keys (f.holds b) right (rw e at (held_out g valid w l)))
+    | inr ne ↦ inl (inl (set_there f.label b (f.out w) Outer ne))
+  ];
   same = λ u v lu lv outer e. e;
-  sets = λ x h inner. absurd (none x inner (cases_eq x b));
+  sets = λ x h inner. elim (cases_eq x b) [
+    | inl e ↦ absurd (cc (set_here f.label b Outer))
+    | inr ne ↦ absurd (cc (set_there f.label b x Outer ne, valid.no_tree refl x))
+  ];
 }
-  where
-    ends : (w : ℕ) → w < g.n → (f.out w ≡ b) ⊎ (f.out w ≢ b) → IsQuiet f (rooted f b) w
-        ⊎ AreRight g (rooted f b) risen keys w
-    ends w l (inl at) = inr (right_at g (rooted f b) risen keys (f.holds b) right (ap (λ x. f.holds x w) (sym at)
-        ∙ held_out g valid w l))
-    ends w l (inr ne) = inl (inl (set_there f.label b (f.out w) Outer ne))
-
-    none : (x : ℕ) → set_at f.label b Outer x ≡ Inner → (x ≡ b) ⊎ (x ≢ b) → ⊥
-    none x inner (inl e) = let h : Outer ≡ Inner = sym (set_here f.label b Outer)
-        ∙ (ap (set_at f.label b Outer) (sym e) ∙ inner) in cc
-    none x inner (inr ne) = let h : Outside ≡ Inner = sym (set_there f.label b x Outer ne ∙ valid.no_tree refl x)
-        ∙ inner in cc
 
 -- A tree grows.
 module _ (g : WeightedGraph) (f : Forest) (root : Option ℕ) (valid : IsValid (darts_of g) f root) (d m risen : ℕ)
@@ -202,35 +170,28 @@ module _ (g : WeightedGraph) (f : Forest) (root : Option ℕ) (valid : IsValid (
   pub grown_turned : AreRightAt g (grown (darts_of g) f d m) risen keys (f.holds outer)
       → (g.n ≤ inn → get_or keys (leaf_of g inn) 0 ≡ true_key g (grown (darts_of g) f d m) risen (leaf_of g inn))
       → IsTurned g f (grown (darts_of g) f d m) risen keys
-  grown_turned right leaf = record {
-    slacks = λ e l. refl;
-    ends = λ w l. ends w l (cases_eq (f.out w) outer) (cases_eq (f.out w) inn);
-    same = λ u v lu lv on e. e;
-    sets = λ x h inner. sets x h inner (cases_eq x outer) (cases_eq x inn);
-  }
-    where
-      other : (x : ℕ) → x ≢ outer → x ≢ inn → (grown (darts_of g) f d m).label x ≡ f.label x
-      other x nu ni = set_there (set_at f.label inn Inner) outer x Outer nu ∙ set_there f.label inn x Inner ni
-
-      inner_now : (x : ℕ) → x ≢ outer → x ≡ inn → (grown (darts_of g) f d m).label x ≡ Inner
-      inner_now x nu e = set_there (set_at f.label inn Inner) outer x Outer nu
-          ∙ (ap (set_at f.label inn Inner) e ∙ set_here f.label inn Inner)
-
-      ends : (w : ℕ) → w < g.n → (f.out w ≡ outer) ⊎ (f.out w ≢ outer) → (f.out w ≡ inn) ⊎ (f.out w ≢ inn)
-          → IsQuiet f (grown (darts_of g) f d m) w ⊎ AreRight g (grown (darts_of g) f d m) risen keys w
-      ends w l (inl at) y = inr (right_at g (grown (darts_of g) f d m) risen keys (f.holds outer) right
-          (ap (λ x. f.holds x w) (sym at) ∙ held_out g valid w l))
-      ends w l (inr nu) (inl at) = inl (inr (inner_now (f.out w) nu at))
-      ends w l (inr nu) (inr ni) = inl (inl (other (f.out w) nu ni))
-
-      sets : (x : ℕ) → g.n ≤ x → (grown (darts_of g) f d m).label x ≡ Inner → (x ≡ outer) ⊎ (x ≢ outer) → (x ≡ inn)
-          ⊎ (x ≢ inn) → IsSetRight g f (grown (darts_of g) f d m) risen keys x
-      sets x h inner (inl e) y = absurd (let c : Outer ≡ Inner = sym (set_here (set_at f.label inn Inner) outer Outer)
-          ∙ (ap (grown (darts_of g) f d m).label (sym e) ∙ inner) in cc)
-      sets x h inner (inr nu) (inl e) =
-          inr (subst (λ y. get_or keys (leaf_of g y) 0 ≡ true_key g (grown (darts_of g) f d m) risen (leaf_of g y))
-          (sym e) (leaf (subst (λ y. g.n ≤ y) e h)))
-      sets x h inner (inr nu) (inr ni) = inl (sym (other x nu ni) ∙ inner, refl)
+  grown_turned right leaf =
+      let other = λ (x : ℕ) (nu : x ≢ outer) (ni : x ≢ inn). set_there (set_at f.label inn Inner) outer x Outer nu
+      ∙ set_there f.label inn x Inner ni in
+      record {
+        slacks = λ e l. refl;
+        ends = λ w l. elim (cases_eq (f.out w) outer) [
+          | inl e ↦ inr (right_at g (grown (darts_of g) f d m) risen keys (f.holds outer) right
+              (rw e at (held_out g valid w l)))
+          | inr nu ↦ elim (cases_eq (f.out w) inn) [
+            | inl e ↦ inl (inr (rw (ne_eqb (f.out w) outer nu, eq-eqb (f.out w) inn e)))
+            | inr ni ↦ inl (inl (other (f.out w) nu ni))
+          ]
+        ];
+        same = λ u v lu lv on e. e;
+        sets = λ x h inner. elim (cases_eq x outer) [
+          | inl e ↦ absurd (cc (set_here (set_at f.label inn Inner) outer Outer))
+          | inr nu ↦ elim (cases_eq x inn) [
+            | inl e ↦ inr (rw e (leaf (rw e at h)))
+            | inr ni ↦ inl (sym (other x nu ni) ∙ inner, refl)
+          ]
+        ];
+      }
 
 -- A cycle becomes one blossom.
 module _ {g : WeightedGraph} (is : IsGraph g) {f new : Forest} {root after : Option ℕ} {d : ℕ}
@@ -238,7 +199,7 @@ module _ {g : WeightedGraph} (is : IsGraph g) {f new : Forest} {root after : Opt
   pub shrink : Shrink (darts_of g) f s.r new s.inside s.top s.set s.top s.many
   shrink = record {
     are = are_darts is;
-    valid = subst (λ (x : Option ℕ). IsValid (darts_of g) f x) s.old_root valid;
+    valid = rw s.old_root at valid;
     tree = s.tree;
     cycle = s.cycle;
     unused = s.unused;
@@ -262,18 +223,15 @@ module _ {g : WeightedGraph} (is : IsGraph g) {f new : Forest} {root after : Opt
   pub on_cycle : (x : ℕ) → s.inside x ≡ true → (f.label x ≡ Outer) ⊎ (f.label x ≡ Inner)
   on_cycle x on = tree_cases (f.label x) (s.cycle.in_tree x on)
 
-  -- A part holds the vertices that it held.
-  part_holds : (w : ℕ) → w < g.n → new.holds (f.out w) w ≡ true
-  part_holds w l = s.shrunk.holds_old (f.out w) w (s.unused.no_out w l) l ∙ held_out g valid w l
-
   -- No blossom becomes inner.
   pub shrunk_inner : (x : ℕ) → new.label x ≡ Inner → f.label x ≡ Inner
-  shrunk_inner x inner = by_place (cases_eq x s.set) (cases_Bool (s.inside x))
-    where
-      by_place : (x ≡ s.set) ⊎ (x ≢ s.set) → (s.inside x ≡ true) ⊎ (s.inside x ≡ false) → f.label x ≡ Inner
-      by_place (inl e) y = absurd (let c : Outer ≡ Inner = sym shrunk_set ∙ (ap new.label (sym e) ∙ inner) in cc c)
-      by_place (inr ne) (inl on) = absurd (let c : Outside ≡ Inner = sym (shrinks.label_on shrink x on) ∙ inner in cc c)
-      by_place (inr ne) (inr off) = sym (shrunk_label x ne off) ∙ inner
+  shrunk_inner x inner = elim (cases_eq x s.set) [
+    | inl e ↦ absurd (cc shrunk_set)
+    | inr ne ↦ elim (cases_Bool (s.inside x)) [
+      | inl on ↦ absurd (cc (shrinks.label_on shrink x on))
+      | inr off ↦ sym (shrunk_label x ne off) ∙ inner
+    ]
+  ]
 
   pub shrunk_turned : (risen : ℕ) (keys : List ℕ) → ((p : ℕ) → s.inside p ≡ true → f.label p ≡ Inner
       → AreRightAt g new risen keys (new.holds p)) → IsTurned g f new risen keys
@@ -281,22 +239,17 @@ module _ {g : WeightedGraph} (is : IsGraph g) {f new : Forest} {root after : Opt
     slacks = λ e l. ap (λ x. (pos 2 *ℤ (edge_at g e).cost) -ℤ x)
         (same_load (are_darts is) (shrinks.changes shrink) (edge_at g e).u (edge_at g e).v (is.left e l)
         (is.right e l));
-    ends = λ w l. ends w l (cases_Bool (s.inside (f.out w)));
+    ends = λ w l. elim (cases_Bool (s.inside (f.out w))) [
+      | inl on ↦ elim (on_cycle (f.out w) on) [
+        | inl outer ↦ inl (inl (ap new.label (shrunk_on w l on) ∙ shrunk_set ∙ sym outer))
+        | inr inner ↦ (let held = s.shrunk.holds_old (f.out w) w (s.unused.no_out w l) l ∙ held_out g valid w l in
+            inr (right_at g new risen keys (new.holds (f.out w)) (right (f.out w) on inner) held))
+      ]
+      | inr off ↦ inl (inl (ap new.label (shrunk_off w l off) ∙ shrunk_label (f.out w) (s.unused.no_out w l) off))
+    ];
     same = λ u v lu lv on e. s.shrunk.out u lu ∙ (ap (λ x. cond (s.inside x) s.set x) e ∙ sym (s.shrunk.out v lv));
     sets = λ x h inner. inl (shrunk_inner x inner, s.shrunk.weight x);
   }
-    where
-      by_label : (w : ℕ) → w < g.n → s.inside (f.out w) ≡ true → (f.label (f.out w) ≡ Outer)
-          ⊎ (f.label (f.out w) ≡ Inner) → IsQuiet f new w ⊎ AreRight g new risen keys w
-      by_label w l on (inl outer) = inl (inl (ap new.label (shrunk_on w l on) ∙ (shrunk_set ∙ sym outer)))
-      by_label w l on (inr inner) =
-          inr (right_at g new risen keys (new.holds (f.out w)) (right (f.out w) on inner) (part_holds w l))
-
-      ends : (w : ℕ) → w < g.n → (s.inside (f.out w) ≡ true) ⊎ (s.inside (f.out w) ≡ false) → IsQuiet f new w
-          ⊎ AreRight g new risen keys w
-      ends w l (inl on) = by_label w l on (on_cycle (f.out w) on)
-      ends w l (inr off) = inl
-          (inl (ap new.label (shrunk_off w l off) ∙ shrunk_label (f.out w) (s.unused.no_out w l) off))
 
 -- An inner set is opened.
 module _ {g : WeightedGraph} (is : IsGraph g) {f new : Forest} {r : ℕ} {o : Opening}
@@ -317,17 +270,11 @@ module _ {g : WeightedGraph} (is : IsGraph g) {f new : Forest} {r : ℕ} {o : Op
 
   -- An inner blossom is a part of the opened one, or was inner.
   pub opened_inner : (x : ℕ) → new.label x ≡ Inner → ((j : ℕ) × (j ≤ 2 * o.half) × (o.q j ≡ x)) ⊎ (f.label x ≡ Inner)
-  opened_inner x inner = by_place (expands.place expansion x)
-    where
-      by_place : (x ≡ o.b) ⊎ (((j : ℕ) × (j ≤ 2 * o.half) × (o.q j ≡ x)) ⊎ (f.nest.up x ≢ o.b))
-          → ((j : ℕ) × (j ≤ 2 * o.half) × (o.q j ≡ x)) ⊎ (f.label x ≡ Inner)
-      by_place (inl e) = absurd (let c : Outside ≡ Inner = sym opened.gone.0 ∙ (ap new.label (sym e) ∙ inner) in cc c)
-      by_place (inr (inl p)) = inl p
-      by_place (inr (inr ne)) = inr (sym (opened.others x ne).label ∙ inner)
-
-  part_held : (w j : ℕ) → w < g.n → f.out w ≡ o.b → j ≤ 2 * o.half → o.q j ≡ o.part w → new.holds (o.q j) w ≡ true
-  part_held w j l at lj e = opened.holds (o.q j) w (opening.parts j lj).1 l
-      ∙ (opening.held w j l at lj ∙ eq-eqb (o.part w) (o.q j) (sym e))
+  opened_inner x inner = elim (expands.place expansion x) [
+    | inl e ↦ absurd (cc opened.gone.0)
+    | inr (inl p) ↦ inl p
+    | inr (inr ne) ↦ inr (sym (opened.others x ne).label ∙ inner)
+  ]
 
   pub opened_turned : (risen : ℕ) (keys : List ℕ) → ((j : ℕ) → j ≤ 2 * o.half → new.label (o.q j) ≢ Inner
       → AreRightAt g new risen keys (new.holds (o.q j)))
@@ -337,31 +284,20 @@ module _ {g : WeightedGraph} (is : IsGraph g) {f new : Forest} {r : ℕ} {o : Op
     slacks = λ e l. ap (λ x. (pos 2 *ℤ (edge_at g e).cost) -ℤ x)
         (same_load (are_darts is) (expands.changes expansion) (edge_at g e).u (edge_at g e).v (is.left e l)
         (is.right e l));
-    ends = λ w l. ends w l (cases_eq (f.out w) o.b);
-    same = λ u v lu lv outer e. same u v lu lv outer e;
-    sets = λ x h inner. sets x h inner (opened_inner x inner);
+    ends = λ w l. elim (cases_eq (f.out w) o.b) [
+      | inl e ↦ (let p = opening.part_of w l e in
+          elim (inner_cases (new.label (o.q p.0))) [
+            | inl inner ↦ inl (inr (ap new.label (opened_in w l e ∙ sym p.2) ∙ inner))
+            | inr ne ↦ (let held = opened.holds (o.q p.0) w (opening.parts p.0 p.1).1 l ∙ opening.held w p.0 l e p.1
+                ∙ eq-eqb (o.part w) (o.q p.0) (sym p.2) in
+                inr (right_at g new risen keys (new.holds (o.q p.0)) (right p.0 p.1 ne) held))
+          ])
+      | inr ne ↦ inl (inl (ap new.label (opened_old w l ne) ∙ opened_label w l ne))
+    ];
+    same = λ u v lu lv outer e. (let not_b : f.out u ≢ o.b = λ x. cc opening.label in
+        opened_old u lu not_b ∙ e ∙ sym (opened_old v lv (λ x. not_b (e ∙ x))));
+    sets = λ x h inner. elim (opened_inner x inner) [
+      | inl p ↦ inr (rw (← p.2) (leaves p.0 p.1 (ap new.label p.2 ∙ inner) (rw p.2 h)))
+      | inr was ↦ inl (was, opened.weight x)
+    ];
   }
-    where
-      by_label : (w j : ℕ) → w < g.n → f.out w ≡ o.b → j ≤ 2 * o.half → o.q j ≡ o.part w → (new.label (o.q j) ≡ Inner)
-          ⊎ (new.label (o.q j) ≢ Inner) → IsQuiet f new w ⊎ AreRight g new risen keys w
-      by_label w j l at lj e (inl inner) = inl (inr (ap new.label (opened_in w l at ∙ sym e) ∙ inner))
-      by_label w j l at lj e (inr ne) =
-          inr (right_at g new risen keys (new.holds (o.q j)) (right j lj ne) (part_held w j l at lj e))
-
-      ends : (w : ℕ) → w < g.n → (f.out w ≡ o.b) ⊎ (f.out w ≢ o.b) → IsQuiet f new w ⊎ AreRight g new risen keys w
-      ends w l (inl at) = let p : (j : ℕ) × (j ≤ 2 * o.half) × (o.q j ≡ o.part w) = opening.part_of w l at in
-          by_label w p.0 l at p.1 p.2 (inner_cases (new.label (o.q p.0)))
-      ends w l (inr ne) = inl (inl (ap new.label (opened_old w l ne) ∙ opened_label w l ne))
-
-      not_b : (u : ℕ) → f.label (f.out u) ≡ Outer → f.out u ≢ o.b
-      not_b u outer e = let c : Outer ≡ Inner = sym outer ∙ (ap f.label e ∙ opening.label) in cc
-
-      same : (u v : ℕ) → u < g.n → v < g.n → f.label (f.out u) ≡ Outer → f.out u ≡ f.out v → new.out u ≡ new.out v
-      same u v lu lv outer e = opened_old u lu (not_b u outer)
-          ∙ (e ∙ sym (opened_old v lv (λ x. not_b u outer (e ∙ x))))
-
-      sets : (x : ℕ) → g.n ≤ x → new.label x ≡ Inner → ((j : ℕ) × (j ≤ 2 * o.half) × (o.q j ≡ x)) ⊎ (f.label x ≡ Inner)
-          → IsSetRight g f new risen keys x
-      sets x h inner (inl p) = inr (subst (λ y. get_or keys (leaf_of g y) 0 ≡ true_key g new risen (leaf_of g y)) p.2
-          (leaves p.0 p.1 (ap new.label p.2 ∙ inner) (subst (λ y. g.n ≤ y) (sym p.2) h)))
-      sets x h inner (inr was) = inl (was, opened.weight x)

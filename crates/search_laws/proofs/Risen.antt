@@ -2,7 +2,7 @@
 use Rattle.std.proofs.Common.{◌≡◌, ℕ, zero, suc, ◌+◌, ◌-◌, ◌*◌, ◌/◌}
 use Rattle.std.proofs.Common.{ap, ◌∙◌, ◌<◌, ◌≤◌, Bool, false, eqb}
 use Rattle.std.proofs.{Common.List, Common.[], Common.◌∷◌, Common.arith, lemmas.Int.ints, lemmas.Bool.cases_lt}
-use Rattle.std.proofs.Common.{length, map, Option, Some, ℤ, pos, ◌+ℤ◌, ◌*ℤ◌, ◌≤ℤ◌, ◌⊎◌, refl, sym, subst, inl, inr}
+use Rattle.std.proofs.Common.{length, map, Option, Some, ℤ, pos, ◌+ℤ◌, ◌*ℤ◌, ◌≤ℤ◌, refl, inl, inr}
 use Rattle.std.specs.Int.RustNames.{unsigned_abs}
 use Rattle.def_math.specs.{Increasing.IsIncreasing, Sums.total, Sums.total_below}
 use Rattle.qm_dual.proofs.{Ends.ends_once, Gathered.total_below_small, Weak.chosen_below}
@@ -22,26 +22,25 @@ use Rattle.search_laws.proofs.Keys.{at_edge, at_set, lawful}
 pub greatest_of : (f : ℕ → ℕ) (n limit k : ℕ) → ((i : ℕ) → i < k → n * f i ≤ limit) → (most : ℕ)
     × ((i : ℕ) → i < k → f i ≤ most) × (n * most ≤ limit)
 greatest_of f n limit zero few = (0, (λ i l. absurd (omega (arith, l))), omega arith)
-greatest_of f n limit (suc k) few = by_rest (greatest_of f n limit k (λ i l. few i (omega (arith, l))))
-  where
-    by_order : (most : ℕ) → ((i : ℕ) → i < k → f i ≤ most) → n * most ≤ limit → (f k < most) ⊎ (most ≤ f k) → (more : ℕ)
-        × ((i : ℕ) → i < suc k → f i ≤ more) × (n * more ≤ limit)
-    by_order most each small (inl h) = (most, (λ i l. by_place i (cases_lt i k) l), small)
-      where
-        by_place : (i : ℕ) → (i < k) ⊎ (k ≤ i) → i < suc k → f i ≤ most
-        by_place i (inl lt) l = each i lt
-        by_place i (inr ge) l = let same : i ≡ k = omega (arith, ge, l) in
-            subst (λ x. f x ≤ most) (sym same) (omega (arith, h))
-    by_order most each small (inr h) = (f k, (λ i l. by_place i (cases_lt i k) l), few k (omega arith))
-      where
-        by_place : (i : ℕ) → (i < k) ⊎ (k ≤ i) → i < suc k → f i ≤ f k
-        by_place i (inl lt) l = omega (arith, each i lt, h)
-        by_place i (inr ge) l = let same : i ≡ k = omega (arith, ge, l) in
-            subst (λ x. f x ≤ f k) (sym same) (omega arith)
-
-    by_rest : (most : ℕ) × ((i : ℕ) → i < k → f i ≤ most) × (n * most ≤ limit) → (more : ℕ)
-        × ((i : ℕ) → i < suc k → f i ≤ more) × (n * more ≤ limit)
-    by_rest w = by_order w.0 w.1 w.2 (cases_lt (f k) w.0)
+greatest_of f n limit (suc k) few = let w = greatest_of f n limit k (λ i l. few i (omega arith)) in
+    elim (cases_lt (f k) w.0) [
+      | inl h ↦ (
+        w.0,
+        (λ i l. elim (cases_lt i k) [
+          | inl lt ↦ w.1 i lt
+          | inr ge ↦ (let same : i ≡ k = omega arith in rw same (omega arith))
+        ]),
+        w.2,
+      )
+      | inr h ↦ (
+        f k,
+        (λ i l. elim (cases_lt i k) [
+          | inl lt ↦ omega (arith, w.1 i lt)
+          | inr ge ↦ (let same : i ≡ k = omega arith in rw same (omega arith))
+        ]),
+        few k (omega arith),
+      )
+    ]
 
 -- A number that bounds all costs.
 pub greatest : (g : WeightedGraph) → IsCheap g → (most : ℕ)
@@ -53,8 +52,7 @@ first_terms : (f : ℕ → ℤ) (n k : ℕ) → ((b : ℕ) → n ≤ b → f b �
 first_terms f n zero none = let e : n + 0 ≡ n = omega arith in ap (total_below f) e
 first_terms f n (suc k) none =
     let e : n + suc k ≡ suc (n + k) = omega arith in
-    ap (total_below f) e ∙ (let h : total_below f (n + k) ≡ total_below f n = first_terms f n k none in
-    omega (arith, ints, h, none (n + k) (omega arith)))
+    ap (total_below f) e ∙ omega (arith, ints, first_terms f n k none, none (n + k) (omega arith))
 
 -- The first weights are in range.
 pub range_begun : (n first : ℕ) (f : Forest) → f.size ≡ n + n / 2 → ((b : ℕ) → n ≤ b → f.weight b ≡ pos 0)
@@ -81,24 +79,19 @@ pub known_most : {g : WeightedGraph} → IsGraph g → (most : ℕ)
     → ((e : ℕ) → e < length g.edges → unsigned_abs (edge_at g e).cost ≤ most) → {m : List ℕ} → IsPerfect g m
     → (pos 2 *ℤ matching_cost g m) ≤ℤ pos (g.n * most)
 known_most {g} is most each {m} perfect =
-    let ends : total (λ (e : WEdge). pos most +ℤ pos most) (map (edge_at g) m) ≡ total_below (λ v. pos most) g.n =
-    ends_once (λ (e : WEdge). e.u) (λ (e : WEdge). e.v) (λ v. pos most) g.n (map (edge_at g) m)
+    let ends = ends_once (λ (e : WEdge). e.u) (λ (e : WEdge). e.v) (λ v. pos most) g.n (map (edge_at g) m)
     (chosen_below g is 0 m perfect.increasing) perfect.once in
-    let small : unsigned_abs (total_below (λ v. pos most) g.n) ≤ g.n * most =
-    total_below_small (λ v. pos most) most g.n (λ v l. omega (arith, ints)) in
-    omega (arith, ints, ends, small, costs_low g most 0 m each perfect.increasing)
+    let small = total_below_small (λ v. pos most) most g.n (λ v l. omega (arith, ints)) in
+    omega (arith, ints, costs_low g most 0 m each perfect.increasing)
 
 pub known_low : {g : WeightedGraph} → IsGraph g → IsCheap g → {m : List ℕ} → IsPerfect g m
     → (pos 2 *ℤ matching_cost g m) ≤ℤ pos MAX_PRODUCT
 known_low {g} is cheap perfect =
-    let w : (most : ℕ) × ((e : ℕ) → e < length g.edges → unsigned_abs (edge_at g e).cost ≤ most)
-    × (g.n * most ≤ MAX_PRODUCT) = greatest g cheap in
-    omega (arith, ints, known_most is w.0 w.1 perfect, w.2)
+    let w = greatest g cheap in omega (arith, ints, known_most is w.0 w.1 perfect, w.2)
 
 change_low : (l : Label) (w : ℤ) (x : ℕ) → unsigned_abs (w +ℤ weight_change l (pos x)) ≤ unsigned_abs w + x
 change_low Outer w x = omega (arith, ints)
-change_low Inner w x = omega (arith, ints)
-change_low Outside w x = omega (arith, ints)
+change_low _ w x = omega (arith, ints)
 
 edge_key_high : (a b : Label) (s : Bool) (slack risen : ℕ) → risen ≤ no_key → risen ≤ edge_key_by a b s slack risen
 edge_key_high Outer Outer false slack risen l = omega (arith, l)
@@ -107,20 +100,17 @@ edge_key_high Outside Outer s slack risen l = omega (arith, l)
 edge_key_high _ _ _ slack risen l = l
 
 set_key_high : (l : Label) (w : ℤ) (risen : ℕ) → risen ≤ no_key → risen ≤ set_key_by l w risen
-set_key_high Outer w risen h = h
-set_key_high Outside w risen h = h
-set_key_high Inner w risen h = omega (arith, h)
+set_key_high Inner w risen h = omega arith
+set_key_high _ w risen h = h
 
 -- Nothing happens before what has happened.
 pub key_high : (g : WeightedGraph) (f : Forest) (risen k : ℕ) → risen ≤ no_key → risen ≤ true_key g f risen k
-key_high g f risen k few = by_leaf (cases_lt k (length g.edges))
-  where
-    by_leaf : (k < length g.edges) ⊎ (length g.edges ≤ k) → risen ≤ true_key g f risen k
-    by_leaf (inl le) = subst (λ x. risen ≤ x) (sym (at_edge g f risen k le))
-        (edge_key_high (f.label (f.out (edge_at g k).u)) (f.label (f.out (edge_at g k).v))
-        (eqb (f.out (edge_at g k).u) (f.out (edge_at g k).v)) (unsigned_abs (slack_of g f k)) risen few)
-    by_leaf (inr he) = subst (λ x. risen ≤ x) (sym (at_set g f risen k he))
-        (set_key_high (f.label (set_of g k)) (f.weight (set_of g k)) risen few)
+key_high g f risen k few = elim (cases_lt k (length g.edges)) [
+  | inl le ↦ rw (at_edge g f risen k le) (edge_key_high (f.label (f.out (edge_at g k).u))
+      (f.label (f.out (edge_at g k).v)) (eqb (f.out (edge_at g k).u) (f.out (edge_at g k).v))
+      (unsigned_abs (slack_of g f k)) risen few)
+  | inr he ↦ rw (at_set g f risen k he) (set_key_high (f.label (set_of g k)) (f.weight (set_of g k)) risen few)
+]
 
 module _ {g : WeightedGraph} (is : IsGraph g) (cheap : IsCheap g) {m : List ℕ} (perfect : IsPerfect g m) {n first : ℕ}
     (limit : n * first ≤ first_limit) (low : first ≤ first_limit) {f : Forest} {risen : ℕ}
@@ -128,8 +118,7 @@ module _ {g : WeightedGraph} (is : IsGraph g) (cheap : IsCheap g) {m : List ℕ}
   -- How far the sum has risen.
   pub risen_low : {root : Option ℕ} → IsValid (darts_of g) f root → risen ≤ risen_limit
   risen_low valid =
-      let bound : dual_sum_of f ≤ℤ (pos 2 *ℤ matching_cost g m) =
-      sum_bounds is valid.outermost.vertices valid.nested valid.feasible perfect in
+      let bound = sum_bounds is valid.outermost.vertices valid.nested valid.feasible perfect in
       omega (arith, ints, bound, range.sum, range.start_high, limit, known_low is cheap perfect)
 
   -- What the shifts leave in range.
@@ -141,54 +130,39 @@ module _ {g : WeightedGraph} (is : IsGraph g) (cheap : IsCheap g) {m : List ℕ}
       → ((e : ℕ) → e < length g.edges → unsigned_abs (edge_at g e).cost ≤ most) → (b : ℕ)
       → unsigned_abs (f.weight b) ≤ first + (n * first + g.n * most)
   weights_most valid most each b =
-      let bound : dual_sum_of f ≤ℤ (pos 2 *ℤ matching_cost g m) =
-      sum_bounds is valid.outermost.vertices valid.nested valid.feasible perfect in
+      let bound = sum_bounds is valid.outermost.vertices valid.nested valid.feasible perfect in
       omega (arith, ints, bound, range.sum, range.start_high, known_most is most each perfect, range.weights b)
 
   module _ {r : ℕ} (valid : IsValid (darts_of g) f (Some r)) where
     -- A shift.
     pub range_shifted : (x : ℕ) → IsInRange n first (shifted f (pos x)) (risen + x)
-    range_shifted x = record {
-      start = range.start;
-      start_high = range.start_high;
-      sum = omega (
-        arith,
-        ints,
-        sum_rises (are_darts is) valid (valid.tree r refl) (pos x),
-        range.sum,
-      );
-      weights = λ b. omega (arith, change_low (f.label b) (f.weight b) x, range.weights b);
-    }
+    range_shifted x =
+        let rises = sum_rises (are_darts is) valid (valid.tree r refl) (pos x) in
+        record {
+          start = range.start;
+          start_high = range.start_high;
+          sum = omega (arith, ints, range.sum);
+          weights = λ b. omega (arith, change_low (f.label b) (f.weight b) x, range.weights b);
+        }
 
     module _ (most : ℕ) (sets : length g.edges + (f.size - g.n) ≤ most) where
       -- How far a lawful shift goes.
       pub reach_low : (x : ℕ) → IsFeasible (darts_of g) (shifted f (pos x)) → risen + x ≤ risen_limit
       reach_low x feasible =
-          let then : IsValid (darts_of g) (shifted f (pos x)) (Some r) =
-          shift_valid (are_darts is) valid (pos x) feasible in
-          let bound : dual_sum_of (shifted f (pos x)) ≤ℤ (pos 2 *ℤ matching_cost g m) =
-          sum_bounds is then.outermost.vertices then.nested then.feasible perfect in
-          omega (
-            arith,
-            ints,
-            bound,
-            sum_rises (are_darts is) valid (valid.tree r refl) (pos x),
-            range.sum,
-            range.start_high,
-            limit,
-            known_low is cheap perfect,
-          )
+          let then = shift_valid (are_darts is) valid (pos x) feasible in
+          let bound = sum_bounds is then.outermost.vertices then.nested then.feasible perfect in
+          let rises = sum_rises (are_darts is) valid (valid.tree r refl) (pos x) in
+          omega (arith, ints, range.sum, range.start_high, limit, known_low is cheap perfect)
 
       -- Something happens soon: the least key is small.
       pub key_soon : (key : ℕ) → ((k : ℕ) → k < most → key ≤ true_key g f risen k) → key ≤ risen_limit
-      key_soon key low = by_order (cases_lt (risen_limit) key)
-        where
-          clash : (x : ℕ) → risen + x ≡ risen_limit + 1 → risen_limit < key → ⊥
-          clash x e h =
-              let far : risen + x ≤ risen_limit = reach_low x (lawful g is f valid.outermost valid.feasible risen x most
-              sets (λ k l. omega (arith, e, h, low k l))) in
-              omega (arith, e, far)
-
-          by_order : (risen_limit < key) ⊎ (key ≤ risen_limit) → key ≤ risen_limit
-          by_order (inr l) = l
-          by_order (inl h) = absurd (clash (risen_limit + 1 - risen) (omega (arith, risen_low valid)) h)
+      key_soon key low = elim (cases_lt risen_limit key) [
+        | inr l ↦ l
+        | inl h ↦ (let x = risen_limit + 1 - risen in
+            let e : risen + x ≡ risen_limit + 1 = omega (arith, risen_low valid) in
+            absurd (omega (
+              arith,
+              reach_low x (lawful g is f valid.outermost valid.feasible risen x most sets
+                  (λ k l. omega (arith, low k l))),
+            )))
+      ]
