@@ -53,10 +53,9 @@ passes_same old new bound same falls (suc k) (suc here) d l =
     )) in
     ap (λ (q : Bool). eqb here d || q) (rest ∙ ap (λ x. passes old k x d) (same here (omega (arith, l))))
 
-module _ {g : WeightedGraph} {bound : ℕ} {first next : List ℕ} {first2 next2 : List ℕ}
-    (fans : AreFansOf g bound first next) {v : ℕ} (lv : v < g.n) (low : bound < 2 * length g.edges)
-    (near : (darts_of g).near bound ≡ v) (is_next : next2 ≡ set next bound (get_or first v 0))
-    (is_first : first2 ≡ set first v (bound + 1)) where
+module _ {g : WeightedGraph} {bound : ℕ} {first next : List ℕ} {first2 next2 : List ℕ} (fans : AreFansOf g bound first
+    next) {v : ℕ} (lv : v < g.n) (low : bound < 2 * length g.edges) (near : (darts_of g).near bound ≡ v)
+    (is_next : next2 ≡ set next bound (get_or first v 0)) (is_first : first2 ≡ set first v (bound + 1)) where
   next_here : get_or next2 bound 0 ≡ get_or first v 0
   next_here = ap (λ xs. get_or xs bound 0) is_next ∙ get_or-set_same next bound (get_or first v 0) 0
       (omega (arith, low, fans.darts))
@@ -64,9 +63,9 @@ module _ {g : WeightedGraph} {bound : ℕ} {first next : List ℕ} {first2 next2
   next_other : (i : ℕ) → i ≢ bound → get_or next2 i 0 ≡ get_or next i 0
   next_other i ne = ap (λ xs. get_or xs i 0) is_next ∙ get_or-set_other next bound i (get_or first v 0) 0 ne
 
-  first_here : get_or first2 v 0 ≡ bound + 1
-  first_here = ap (λ xs. get_or xs v 0) is_first
-      ∙ get_or-set_same first v (bound + 1) 0 (omega (arith, lv, fans.vertices))
+  first_here : get_or first2 v 0 ≡ suc bound
+  first_here = let e : bound + 1 ≡ suc bound = omega arith in
+      ap (λ xs. get_or xs v 0) is_first ∙ get_or-set_same first v (bound + 1) 0 (omega (arith, fans.vertices)) ∙ e
 
   first_other : (w : ℕ) → w ≢ v → get_or first2 w 0 ≡ get_or first w 0
   first_other w ne = ap (λ xs. get_or xs w 0) is_first ∙ get_or-set_other first v w (bound + 1) 0 ne
@@ -79,49 +78,32 @@ module _ {g : WeightedGraph} {bound : ℕ} {first next : List ℕ} {first2 next2
   )
 
   on_front : (d : ℕ) → IsOn next2 (get_or first v 0) d → IsOn next2 (get_or first2 v 0) d
-  on_front d w = subst (λ x. IsOn next2 x d) (sym entry_is) (
-    suc w.0,
-    or_right (eqb bound d) (ap (λ x. passes next2 w.0 x d) next_here ∙ w.1),
-  )
-    where
-      entry_is : get_or first2 v 0 ≡ suc bound
-      entry_is = first_here ∙ (let e : bound + 1 ≡ suc bound = omega arith in e)
+  on_front d w = rw first_here (suc w.0, or_right (eqb bound d) (ap (λ x. passes next2 w.0 x d) next_here ∙ w.1))
 
   on_new : IsOn next2 (get_or first2 v 0) bound
-  on_new = subst (λ x. IsOn next2 x bound) (sym entry_is) (1, or_left (eqb bound bound) false (eq-eqb bound bound refl))
-    where
-      entry_is : get_or first2 v 0 ≡ suc bound
-      entry_is = first_here ∙ (let e : bound + 1 ≡ suc bound = omega arith in e)
+  on_new = rw first_here (1, or_left (eqb bound bound) false (eq-eqb bound bound refl))
 
   -- One dart more.
   pub put_more : AreFansOf g (bound + 1) first2 next2
   put_more = record {
     vertices = ap length is_first ∙ (length-set first v (bound + 1) ∙ fans.vertices);
     darts = ap length is_next ∙ (length-set next bound (get_or first v 0) ∙ fans.darts);
-    firsts = λ w. first_low w (cases_eq w v);
-    nexts = λ d. next_low d (cases_eq d bound);
-    all = λ d l. all d l (cases_eq d bound);
+    firsts = λ w. elim (cases_eq w v) [
+      | inl e ↦ omega (arith, ap (λ x. get_or first2 x 0) e, first_here)
+      | inr ne ↦ omega (arith, first_other w ne, fans.firsts w)
+    ];
+    nexts = λ d. elim (cases_eq d bound) [
+      | inl e ↦ omega (arith, ap (λ x. get_or next2 x 0) e, next_here, fans.firsts v)
+      | inr ne ↦ omega (arith, next_other d ne, fans.nexts d)
+    ];
+    all = λ d l. elim (cases_eq d bound) [
+      | inl e ↦ rw e (subst (λ x. IsOn next2 (get_or first2 x 0) bound) (sym near) on_new)
+      | inr ne ↦ (let low = fans.all d (omega arith) in
+          elim (cases_eq ((darts_of g).near d) v) [
+            | inl e ↦ subst (λ x. IsOn next2 (get_or first2 x 0) d) (sym e) (on_front d
+                (on_still (get_or first v 0) d (fans.firsts v) (subst (λ x. IsOn next (get_or first x 0) d) e low)))
+            | inr other ↦ subst (λ x. IsOn next2 x d) (sym (first_other ((darts_of g).near d) other))
+                (on_still (get_or first ((darts_of g).near d) 0) d (fans.firsts ((darts_of g).near d)) low)
+          ])
+    ];
   }
-    where
-      first_low : (w : ℕ) → (w ≡ v) ⊎ (w ≢ v) → get_or first2 w 0 ≤ bound + 1
-      first_low w (inl e) = let h : get_or first2 w 0 ≡ bound + 1 = ap (λ x. get_or first2 x 0) e ∙ first_here in
-          omega (arith, h)
-      first_low w (inr ne) = omega (arith, first_other w ne, fans.firsts w)
-
-      next_low : (d : ℕ) → (d ≡ bound) ⊎ (d ≢ bound) → get_or next2 d 0 ≤ d
-      next_low d (inl e) = let h : get_or next2 d 0 ≡ get_or first v 0 = ap (λ x. get_or next2 x 0) e ∙ next_here in
-          omega (arith, h, fans.firsts v, e)
-      next_low d (inr ne) = omega (arith, next_other d ne, fans.nexts d)
-
-      by_near : (d : ℕ) → d < bound → ((darts_of g).near d ≡ v) ⊎ ((darts_of g).near d ≢ v)
-          → IsOn next2 (get_or first2 ((darts_of g).near d) 0) d
-      by_near d l (inl e) = subst (λ x. IsOn next2 (get_or first2 x 0) d) (sym e)
-          (on_front d (on_still (get_or first v 0) d (fans.firsts v) (subst (λ x. IsOn next (get_or first x 0) d) e
-          (fans.all d l))))
-      by_near d l (inr ne) = subst (λ x. IsOn next2 x d) (sym (first_other ((darts_of g).near d) ne))
-          (on_still (get_or first ((darts_of g).near d) 0) d (fans.firsts ((darts_of g).near d)) (fans.all d l))
-
-      all : (d : ℕ) → d < bound + 1 → (d ≡ bound) ⊎ (d ≢ bound) → IsOn next2 (get_or first2 ((darts_of g).near d) 0) d
-      all d l (inl e) = subst (λ x. IsOn next2 (get_or first2 ((darts_of g).near x) 0) x) (sym e)
-          (subst (λ x. IsOn next2 (get_or first2 x 0) bound) (sym near) on_new)
-      all d l (inr ne) = by_near d (omega (arith, l, ne)) (cases_eq ((darts_of g).near d) v)

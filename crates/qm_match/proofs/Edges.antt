@@ -26,7 +26,5 @@ module _ (g : WeightedGraph) (xs : List ℕ) (k : ℕ) (low : k < length xs) whe
   counts_on v =
       let more : map (edge_at g) (take (k + 1) xs) ≡ map (edge_at g) (take k xs) ++ edge_at g (get_or xs k 0) ∷ [] =
       ap (map (edge_at g)) (take_more xs k 0 low) ∙ map-append (edge_at g) (take k xs) (get_or xs k 0 ∷ []) in
-      let sum : count (ends_at v) (map (edge_at g) (take k xs) ++ edge_at g (get_or xs k 0) ∷ [])
-      ≡ count (ends_at v) (map (edge_at g) (take k xs)) + (ends_at v (edge_at g (get_or xs k 0)) + 0) =
-      count_append (ends_at v) (map (edge_at g) (take k xs)) (edge_at g (get_or xs k 0) ∷ []) in
+      let sum = count_append (ends_at v) (map (edge_at g) (take k xs)) (edge_at g (get_or xs k 0) ∷ []) in
       ap (count (ends_at v)) more ∙ omega (arith, sum)

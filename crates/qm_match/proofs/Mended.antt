@@ -1,5 +1,5 @@
 -- What mending leaves.
-use Rattle.std.proofs.Common.{◌≡◌, ◌≢◌, ℕ, suc, ◌+◌, ◌*◌, ◌/◌, ◌<◌, Bool, true, eqb, List, length, get_or, ◌⊎◌, refl}
+use Rattle.std.proofs.Common.{rules, ◌≡◌, ℕ, suc, ◌+◌, ◌*◌, ◌/◌, ◌<◌, Bool, eqb, List, length, get_or, ◌⊎◌, refl}
 use Rattle.std.proofs.Common.{sym, ◌∙◌, ap, subst, inl, inr, arith}
 use Rattle.std.proofs.Math.ListN.{set}
 use Rattle.std.proofs.lemmas.Bool.{cases_eq, eqb-true}
@@ -18,28 +18,22 @@ module _ (g : WeightedGraph) (f : Forest) (risen : ℕ) where
   pub mended_one : (keys new : List ℕ) (leaf : ℕ) → leaf < length keys → new ≡ set keys leaf (true_key g f risen leaf)
       → IsMended g f risen keys new
   mended_one keys new leaf l is = record {
-    size = ap length is ∙ length-set keys leaf (true_key g f risen leaf);
-    each = λ k. by_place k (cases_eq k leaf);
+    size = rw is (length-set keys leaf (true_key g f risen leaf));
+    each = λ k. elim (cases_eq k leaf) [
+      | inl e ↦ inl (rw (e, is) (get_or-set_same keys leaf (true_key g f risen leaf) 0 l))
+      | inr ne ↦ inr (rw is (get_or-set_other keys leaf k (true_key g f risen leaf) 0 ne))
+    ];
   }
-    where
-      by_place : (k : ℕ) → (k ≡ leaf) ⊎ (k ≢ leaf) → (get_or new k 0 ≡ true_key g f risen k)
-          ⊎ (get_or new k 0 ≡ get_or keys k 0)
-      by_place k (inl e) = inl (ap (λ xs. get_or xs k 0) is
-          ∙ (ap (λ j. get_or (set keys leaf (true_key g f risen leaf)) j 0) e
-          ∙ (get_or-set_same keys leaf (true_key g f risen leaf) 0 l ∙ sym (ap (true_key g f risen) e))))
-      by_place k (inr ne) = inr (ap (λ xs. get_or xs k 0) is ∙ get_or-set_other keys leaf k (true_key g f risen leaf) 0
-          ne)
 
   -- More and more are.
   pub mended_on : {a b c : List ℕ} → IsMended g f risen a b → IsMended g f risen b c → IsMended g f risen a c
-  mended_on {a} {b} {c} p q = record { size = q.size ∙ p.size; each = λ k. by_last k (q.each k) (p.each k) }
-    where
-      by_last : (k : ℕ) → (get_or c k 0 ≡ true_key g f risen k) ⊎ (get_or c k 0 ≡ get_or b k 0)
-          → (get_or b k 0 ≡ true_key g f risen k) ⊎ (get_or b k 0 ≡ get_or a k 0)
-          → (get_or c k 0 ≡ true_key g f risen k) ⊎ (get_or c k 0 ≡ get_or a k 0)
-      by_last k (inl e) y = inl e
-      by_last k (inr e) (inl e') = inl (e ∙ e')
-      by_last k (inr e) (inr e') = inr (e ∙ e')
+  mended_on p q = record {
+    size = q.size ∙ p.size;
+    each = λ k. elim (q.each k) [
+      | inl e ↦ inl e
+      | inr e ↦ elim (p.each k) [ inl right ↦ inl (e ∙ right) | inr same ↦ inr (e ∙ same) ]
+    ];
+  }
 
   -- What is right stays right.
   pub stays_right : {a b : List ℕ} (k : ℕ) → IsMended g f risen a b → get_or a k 0 ≡ true_key g f risen k
@@ -55,61 +49,35 @@ module _ (g : WeightedGraph) (f : Forest) (risen : ℕ) where
       → new ≡ set keys (d / 2) (true_key g f risen (d / 2))
       → ((x : ℕ) → IsOn next from x → (get_or keys (x / 2) 0 ≡ true_key g f risen (x / 2)) ⊎ IsOn next entry x)
       → (x : ℕ) → IsOn next from x → (get_or new (x / 2) 0 ≡ true_key g f risen (x / 2)) ⊎ IsOn next (get_or next d 0) x
-  chain_mended next keys {new} entry d from is l new_is done x on = by_done (done x on)
-    where
-      mended : IsMended g f risen keys new
-      mended = mended_one keys new (d / 2) l new_is
-
-      here : get_or new (d / 2) 0 ≡ true_key g f risen (d / 2)
-      here = ap (λ xs. get_or xs (d / 2) 0) new_is ∙ get_or-set_same keys (d / 2) (true_key g f risen (d / 2)) 0 l
-
-      by_rest : (d ≡ x) ⊎ IsOn next (get_or next d 0) x → (get_or new (x / 2) 0 ≡ true_key g f risen (x / 2))
-          ⊎ IsOn next (get_or next d 0) x
-      by_rest (inl e) = inl (subst (λ y. get_or new (y / 2) 0 ≡ true_key g f risen (y / 2)) e here)
-      by_rest (inr rest) = inr rest
-
-      by_done : (get_or keys (x / 2) 0 ≡ true_key g f risen (x / 2)) ⊎ IsOn next entry x
-          → (get_or new (x / 2) 0 ≡ true_key g f risen (x / 2)) ⊎ IsOn next (get_or next d 0) x
-      by_done (inl right) = inl (stays_right (x / 2) mended right)
-      by_done (inr rest) = by_rest (on_rest next d x (subst (λ y. IsOn next y x) is rest))
+  chain_mended next keys {new} entry d from is l new_is done x on = elim (done x on) [
+    | inl right ↦ inl (stays_right (x / 2) (mended_one keys new (d / 2) l new_is) right)
+    | inr rest ↦ elim (on_rest next d x (subst (λ y. IsOn next y x) is rest)) [
+      | inl e ↦ inl (rw (← e, new_is) (get_or-set_same keys (d / 2) (true_key g f risen (d / 2)) 0 l))
+      | inr more ↦ inr more
+    ]
+  ]
 
   -- The whole chain of a vertex is.
   pub vertex_right : (first next keys : List ℕ) (v : ℕ) → AreFans g first next
       → ((x : ℕ) → IsOn next (get_or first v 0) x → (get_or keys (x / 2) 0 ≡ true_key g f risen (x / 2))
       ⊎ IsOn next 0 x) → AreRightAt g f risen keys (λ w. eqb w v)
-  vertex_right first next keys v fans done e l at = by_end at
+  vertex_right first next keys v fans done e l at = elim at [
+    | inl on ↦ by_dart (2 * e) (omega arith) (omega arith) (dart_near g e ∙ eqb-true (edge_at g e).u v on)
+    | inr on ↦ by_dart (2 * e + 1) (omega arith) (omega arith)
+        (near_odd g (2 * e + 1) e refl ∙ eqb-true (edge_at g e).v v on)
+  ]
     where
-      by_done : (x : ℕ) → x / 2 ≡ e → (get_or keys (x / 2) 0 ≡ true_key g f risen (x / 2)) ⊎ IsOn next 0 x
-          → get_or keys e 0 ≡ true_key g f risen e
-      by_done x half (inl right) = subst (λ y. get_or keys y 0 ≡ true_key g f risen y) half right
-      by_done x half (inr rest) = absurd (on_none next x rest)
-
       by_dart : (x : ℕ) → x < 2 * length g.edges → x / 2 ≡ e → (darts_of g).near x ≡ v
           → get_or keys e 0 ≡ true_key g f risen e
-      by_dart x lx half near =
-          by_done x half (done x (subst (λ w. IsOn next (get_or first w 0) x) near (fans.all x lx)))
-
-      by_end : (eqb (edge_at g e).u v ≡ true) ⊎ (eqb (edge_at g e).v v ≡ true) → get_or keys e 0 ≡ true_key g f risen e
-      by_end (inl on) = by_dart (2 * e) (omega (arith, l)) (omega arith) (dart_near g e ∙ eqb-true (edge_at g e).u v on)
-      by_end (inr on) = by_dart (2 * e + 1) (omega (arith, l)) (omega arith) (near_odd g (2 * e + 1) e refl
-          ∙ eqb-true (edge_at g e).v v on)
+      by_dart x lx half near = elim (done x (subst (λ w. IsOn next (get_or first w 0) x) near (fans.all x lx))) [
+        | inl right ↦ subst (λ y. get_or keys y 0 ≡ true_key g f risen y) half right
+        | inr rest ↦ absurd (on_none next x rest)
+      ]
 
 -- Other keys are as many.
 pub made_with : {g : WeightedGraph} {s : Search} (keys : List ℕ) → IsMade g s → length keys ≡ length s.tour
     → IsMade g (record s { tour = keys })
-made_with keys made size = record {
-  small = made.small;
-  cheap = made.cheap;
-  perfect = made.perfect;
-  fans = made.fans;
-  size = made.size;
-  first = made.first;
-  low = made.low;
-  leaves = size ∙ made.leaves;
-  marks = made.marks;
-  members = made.members;
-  parts = made.parts;
-}
+made_with keys made size = let leaves = size ∙ made.leaves in search rules
 
 -- Only keys differ, twice.
 pub keys_twice : (a : Search) {b d : Search} (keys : List ℕ) → b ≡ record a { tour = b.tour } → d

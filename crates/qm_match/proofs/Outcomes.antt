@@ -2,7 +2,7 @@
 use Rattle.std.proofs.Common.{◌≡◌, ℕ, zero, suc, ◌+◌, ◌*◌, ◌/◌, ◌<◌}
 use Rattle.std.proofs.Common.{◌≤◌, ◌^◌, List, [], ◌∷◌, length, get_or}
 use Rattle.std.proofs.{Common.None, Common.ℤ, lemmas.Int.ints, lemmas.Bool.cases_lt, lemmas.List.get_or_past}
-use Rattle.std.proofs.Common.{pos, ◌+ℤ◌, ◌*ℤ◌, ◌≤ℤ◌, ◌⊎◌, sym, ◌∙◌, ap, subst, inl, inr, arith}
+use Rattle.std.proofs.Common.{pos, ◌+ℤ◌, ◌*ℤ◌, ◌≤ℤ◌, sym, ◌∙◌, ap, subst, inl, inr, arith}
 use Rattle.std.specs.Int.RustNames.{unsigned_abs}
 use Rattle.def_math.specs.Increasing.{IsIncreasing}
 use Rattle.def_matching.specs.Matching.{WeightedGraph, IsCheap, IsGraph, IsSmallGraph}
@@ -34,7 +34,7 @@ times_sum : (n x : ℕ) → n * (2 * x + MAX_WISH) ≡ 2 * (n * x) + n * MAX_WIS
 times_sum zero x = omega arith
 times_sum (suc n) x = omega (arith, times_sum n x)
 
-one_of : (n x : ℕ) → 1 ≤ n → x ≤ n * x
+pub one_of : (n x : ℕ) → 1 ≤ n → x ≤ n * x
 one_of zero x l = absurd (omega (arith, l))
 one_of (suc n) x l = omega arith
 
@@ -48,13 +48,12 @@ pub made_least : {g : WeightedGraph} {t : ForestTables} {u : ForestTables} → u
     → length t.up ≡ g.n + g.n / 2 → ((b : ℕ) → g.n ≤ b → (forest_of t).weight b ≡ pos 0)
     → ((c : ℕ) → ((e : ℕ) → e < length g.edges → unsigned_abs (edge_at g e).cost ≤ c) → (b : ℕ)
     → unsigned_abs ((forest_of t).weight b) ≤ c) → IsMadeFor g u
-made_least {g} {t} same valid none size sets small = subst (λ (s : ForestTables). IsMadeFor g s) (sym same) (record {
+made_least {g} {t} same valid none size sets small = rw same (record {
   valid = valid;
   no_tree = none;
   size = size;
   sets = sets;
-  small = λ cheap b. (let w : (most : ℕ) × ((e : ℕ) → e < length g.edges → unsigned_abs (edge_at g e).cost ≤ most)
-      × (g.n * most ≤ MAX_PRODUCT) = greatest g cheap in
+  small = λ cheap b. (let w = greatest g cheap in
       omega (arith, times_low g.n (unsigned_abs ((forest_of t).weight b)) w.0 (small w.0 w.1 b), w.2));
 })
 
@@ -63,15 +62,11 @@ pub made_raised : {g : WeightedGraph} (y : List ℤ) {t : ForestTables} {u : For
     → ((most : ℕ) → AreCostsBelow g most → HaveRoom g most y) → u ≡ t → IsValidFor g t → t.root ≡ None
     → length t.up ≡ g.n + g.n / 2 → ((b : ℕ) → (forest_of t).weight b ≡ get_or y b (pos 0))
     → IsMadeFor g u × ((most : ℕ) → AreCostsBelow g most → (b : ℕ) → unsigned_abs ((forest_of u).weight b) ≤ most)
-made_raised {g} y {t} costs have same valid none size weights = (
-  made_least same valid none size sets small,
-  subst (λ (s : ForestTables). (most : ℕ) → AreCostsBelow g most
-      → (b : ℕ) → unsigned_abs ((forest_of s).weight b) ≤ most) (sym same) small,
-)
+made_raised {g} y {t} costs have same valid none size weights =
+    let sets = λ (b : ℕ) (high : g.n ≤ b). weights b
+    ∙ get_or_past y b (pos 0) (omega (arith, (have (2 ^ 60) costs).long)) in
+    (made_least same valid none size sets small, rw same small)
   where
-    sets : (b : ℕ) → g.n ≤ b → (forest_of t).weight b ≡ pos 0
-    sets b high = weights b ∙ get_or_past y b (pos 0) (omega (arith, high, (have (2 ^ 60) costs).long))
-
     small : (most : ℕ) → AreCostsBelow g most → (b : ℕ) → unsigned_abs ((forest_of t).weight b) ≤ most
     small most below b = subst (λ (w : ℤ). unsigned_abs w ≤ most) (sym (weights b)) ((have most below).small b)
 
@@ -90,13 +85,13 @@ made_first {g} {y} first same valid none size weights = subst (λ (s : ForestTab
 -- The usual first weights may be the first.
 pub raised_first : (g : WeightedGraph) (y : List ℤ) → IsCheap g
     → ((most : ℕ) → AreCostsBelow g most → HaveRoom g most y) → AreFirst g y
-raised_first g y cheap have = by_most (greatest g cheap)
-  where
-    by_most : (w : (most : ℕ) × AreCostsBelow g most × (g.n * most ≤ MAX_PRODUCT)) → AreFirst g y
-    by_most w = record {
-      long = (have w.0 w.1).long;
-      range = λ v. omega (arith, times_low g.n (unsigned_abs (get_or y v (pos 0))) w.0 ((have w.0 w.1).small v), w.2);
-      feasible = (have w.0 w.1).feasible;
+raised_first g y cheap have =
+    let w = greatest g cheap in
+    let room = have w.0 w.1 in
+    record {
+      long = room.long;
+      range = λ v. omega (arith, times_low g.n (unsigned_abs (get_or y v (pos 0))) w.0 (room.small v), w.2);
+      feasible = room.feasible;
     }
 
 -- An edge was read, and the numbers at its ends.
@@ -109,14 +104,12 @@ room_read g y e a b is left right le = subst (λ (x : WEdge). (get_or y x.u (pos
 pub first_feasible : {g : WeightedGraph} {y : List ℤ} → AreFirst g y → AreFeasible g y
 first_feasible {g} {y} first = record {
   size = first.long;
-  small = λ v. by_size v (cases_lt v g.n);
+  small = λ v. elim (cases_lt v g.n) [
+    | inl l ↦ omega (arith, one_of g.n (unsigned_abs (get_or y v (pos 0))) (omega arith), first.range v)
+    | inr h ↦ omega (arith, ints, get_or_past y v (pos 0) (omega (arith, first.long)))
+  ];
   edges = first.feasible;
 }
-  where
-    by_size : (v : ℕ) → (v < g.n) ⊎ (g.n ≤ v) → unsigned_abs (get_or y v (pos 0)) ≤ 2 ^ 60
-    by_size v (inl l) = omega (arith, one_of g.n (unsigned_abs (get_or y v (pos 0))) (omega (arith, l)), first.range v)
-    by_size v (inr h) = (let z : get_or y v (pos 0) ≡ pos 0 = get_or_past y v (pos 0) (omega (arith, h, first.long)) in
-        omega (arith, ints, z))
 
 -- Numbers near wished ones may be the first.
 pub wished_first : {g : WeightedGraph} (ys y : List ℤ) → y ≡ ys → IsSmallGraph g → IsCheap g → length ys ≡ g.n
@@ -124,17 +117,11 @@ pub wished_first : {g : WeightedGraph} (ys y : List ℤ) → y ≡ ys → IsSmal
     → unsigned_abs (get_or ys v (pos 0)) ≤ 2 * most + MAX_WISH)
     → ((e : ℕ) → e < length g.edges → (get_or ys (edge_at g e).u (pos 0) +ℤ get_or ys (edge_at g e).v (pos 0)) ≤ℤ
     (pos 2 *ℤ (edge_at g e).cost)) → AreFirst g y
-wished_first {g} ys y same small cheap long near feasible = subst (λ (zs : List ℤ). AreFirst g zs) (sym same) (record {
+wished_first {g} ys y same small cheap long near feasible = rw same (record {
   long = long;
-  range = λ v. (let w : (most : ℕ) × ((e : ℕ) → e < length g.edges → unsigned_abs (edge_at g e).cost ≤ most)
-      × (g.n * most ≤ MAX_PRODUCT) = greatest g cheap in
-      omega (
-        arith,
-        times_low g.n (unsigned_abs (get_or ys v (pos 0))) (2 * w.0 + MAX_WISH) (near w.0 w.1 v),
-        times_sum g.n w.0,
-        w.2,
-        small.vertices,
-      ));
+  range = λ v. (let w = greatest g cheap in
+      let times = times_low g.n (unsigned_abs (get_or ys v (pos 0))) (2 * w.0 + MAX_WISH) (near w.0 w.1 v) in
+      omega (arith, times_sum g.n w.0, w.2, small.vertices));
   feasible = feasible;
 })
 
@@ -142,9 +129,8 @@ wished_first {g} ys y same small cheap long near feasible = subst (λ (zs : List
 pub wished_small : (g : WeightedGraph) {ys y : List ℤ} → y ≡ ys → IsCheap g → length ys ≡ g.n
     → ((most : ℕ) → AreCostsBelow g most → (v : ℕ) → unsigned_abs (get_or ys v (pos 0)) ≤ 2 * most + MAX_WISH)
     → AreSmall y
-wished_small g same cheap long near = subst (λ (zs : List ℤ). AreSmall zs) (sym same) (λ v l. (
-    let w : (most : ℕ) × AreCostsBelow g most × (g.n * most ≤ MAX_PRODUCT) = greatest g cheap in
-    omega (arith, near w.0 w.1 v, w.2, one_of g.n w.0 (omega (arith, l, long)))))
+wished_small g same cheap long near = rw same (λ v l. (let w = greatest g cheap in
+    omega (arith, near w.0 w.1 v, w.2, one_of g.n w.0 (omega (arith, long)))))
 
 -- The dual of a forest in range is small.
 pub small_dual : {g : WeightedGraph} {s : Search} {d : DualLists} → IsIdle g s
@@ -192,15 +178,10 @@ at_most_more y le are = record {
 pub run_bounded : (g : WeightedGraph) {s : Search} (end : Search) {d : DualLists} → IsReady s → end.first ≡ s.first
     → (first most : ℕ) → ((b : ℕ) → unsigned_abs ((forest_of s.forest).weight b) ≤ first)
     → AreAtMost (2 * (g.n * end.first) + g.n * most) d → AreAtMost (2 * (g.n * first) + g.n * most) d
-run_bounded g {s} end ready same first most each are = at_most_more (2 * (g.n * first) + g.n * most)
-    (omega (arith, times_low g.n end.first first low)) are
-  where
-    by_weight : (s.first ≡ 0) ⊎ ((b : ℕ) × (unsigned_abs ((forest_of s.forest).weight b) ≡ s.first)) → end.first ≤ first
-    by_weight (inl none) = omega (arith, none, same)
-    by_weight (inr w) = omega (arith, same, w.1, each w.0)
-
-    low : end.first ≤ first
-    low = by_weight ready.attained
+run_bounded g {s} end ready same first most each are =
+    let low : end.first ≤ first = elim ready.attained [ inl none ↦ omega arith | inr w ↦ omega (arith, w.1, each w.0) ]
+    in
+    at_most_more (2 * (g.n * first) + g.n * most) (omega (arith, times_low g.n end.first first low)) are
 
 -- The bound for the usual first weights.
 pub best_bounded : (n most : ℕ) {d : DualLists} → AreAtMost (2 * (n * most) + n * most) d → AreAtMost (4 * n * most) d
@@ -209,7 +190,7 @@ best_bounded n most are = at_most_more (4 * n * most) (omega (arith, four n most
     four : (k x : ℕ) → 4 * k * x ≡ 4 * (k * x)
     four zero x = omega arith
     four (suc k) x = (let e : 4 * suc k * x ≡ (4 * k + 4) * x = (let f : 4 * suc k ≡ 4 * k + 4 = omega arith in
-        ap (λ m. m * x) f) in let h : (4 * k + 4) * x ≡ 4 * k * x + 4 * x = sum (4 * k) 4 x in
+        ap (λ m. m * x) f) in let h = sum (4 * k) 4 x in
         omega (arith, e, h, four k x))
       where
         sum : (a c y : ℕ) → (a + c) * y ≡ a * y + c * y

@@ -16,29 +16,25 @@ use Rattle.qm_match.proofs.Chains.{on_none, on_rest}
 pub chain_room : (next : List ℕ) (left : ℕ → ℤ) (old new : ℤ) (entry d from : ℕ) {rest : ℕ} → entry ≡ suc d → rest
     ≡ get_or next d 0 → new ≤ℤ old → new ≤ℤ left d → ((x : ℕ) → IsOn next from x → (old ≤ℤ left x) ⊎ IsOn next entry x)
     → (x : ℕ) → IsOn next from x → (new ≤ℤ left x) ⊎ IsOn next rest x
-chain_room next left old new entry d from {rest} is rest_is less here done x on = by_done (done x on)
-  where
-    by_rest : (d ≡ x) ⊎ IsOn next (get_or next d 0) x → (new ≤ℤ left x) ⊎ IsOn next rest x
-    by_rest (inl e) = inl (subst (λ y. new ≤ℤ left y) e here)
-    by_rest (inr more) = inr (subst (λ y. IsOn next y x) (sym rest_is) more)
-
-    by_done : (old ≤ℤ left x) ⊎ IsOn next entry x → (new ≤ℤ left x) ⊎ IsOn next rest x
-    by_done (inl low) = inl (omega (arith, ints, less, low))
-    by_done (inr more) = by_rest (on_rest next d x (subst (λ y. IsOn next y x) is more))
+chain_room next left old new entry d from is rest_is less here done x on = elim (done x on) [
+  | inl low ↦ inl (omega (arith, ints))
+  | inr more ↦ elim (on_rest next d x (subst (λ y. IsOn next y x) is more)) [
+    | inl e ↦ inl (rw (← e) here)
+    | inr rest ↦ inr (subst (λ y. IsOn next y x) (sym rest_is) rest)
+  ]
+]
 
 -- Where the chain ends, all edges at its vertex leave so much.
 pub chain_end : (g : WeightedGraph) (most : ℕ) (y : List ℤ) (v : ℕ) (room : ℤ) (first next : List ℕ) (entry : ℕ)
     → AreFans g first next → entry ≡ 0 → room ≤ℤ pos most
     → ((x : ℕ) → IsOn next (get_or first v 0) x → (room ≤ℤ left_to g y x) ⊎ IsOn next entry x) → IsRoom g most y v room
-chain_end g most y v room first next entry fans zero few done =
-    record {
-      few = few;
-      each = λ d l at. by_done d (done d (subst (λ w. IsOn next (get_or first w 0) d) at (fans.all d l)));
-    }
-  where
-    by_done : (d : ℕ) → (room ≤ℤ left_to g y d) ⊎ IsOn next entry d → room ≤ℤ left_to g y d
-    by_done d (inl low) = low
-    by_done d (inr rest) = absurd (on_none next d (subst (λ x. IsOn next x d) zero rest))
+chain_end g most y v room first next entry fans zero few done = record {
+  few = few;
+  each = λ d l at. elim (done d (subst (λ w. IsOn next (get_or first w 0) d) at (fans.all d l))) [
+    | inl low ↦ low
+    | inr rest ↦ absurd (on_none next d (subst (λ x. IsOn next x d) zero rest))
+  ];
+}
 
 -- A cost that is read is small, and so is a number.
 pub cost_small : (g : WeightedGraph) (most k : ℕ) → AreCostsBelow g most → most ≤ 2 ^ 60 → k < length g.edges
@@ -61,12 +57,6 @@ module _ {g : WeightedGraph} (lawful : IsGraph g) {most : ℕ} {y : List ℤ} (h
 
   raised_other : (w : ℕ) → w ≢ v → get_or raised w (pos 0) ≡ get_or y w (pos 0)
   raised_other w ne = get_or-set_other y v w room (pos 0) ne
-
-  small : (w : ℕ) → (w ≡ v) ⊎ (w ≢ v) → unsigned_abs (get_or raised w (pos 0)) ≤ most
-  small w (inl e) = let h : get_or raised w (pos 0) ≡ room = ap (λ x. get_or raised x (pos 0)) e ∙ raised_here in
-      omega (arith, ints, h, is.few, above, have.small v)
-  small w (inr ne) = let h : get_or raised w (pos 0) ≡ get_or y w (pos 0) = raised_other w ne in
-      omega (arith, ints, h, have.small w)
 
   -- The edge of a dart from the vertex.
   from_here : {a : ℕ} (b e : ℕ) (cost : ℤ) → a ≡ v → b ≢ a → room ≤ℤ (cost -ℤ get_or y b (pos 0))
@@ -99,15 +89,17 @@ module _ {g : WeightedGraph} (lawful : IsGraph g) {most : ℕ} {y : List ℤ} (h
       (lawful.apart e l) (omega (arith, ints, leaves, there, cost)) in
       omega (arith, ints, turned)
   by_ends e l (inr off) (inr away) =
-      let here : get_or raised (edge_at g e).u (pos 0) ≡ get_or y (edge_at g e).u (pos 0) =
-      raised_other (edge_at g e).u off in
-      let there : get_or raised (edge_at g e).v (pos 0) ≡ get_or y (edge_at g e).v (pos 0) =
-      raised_other (edge_at g e).v away in
+      let here = raised_other (edge_at g e).u off in
+      let there = raised_other (edge_at g e).v away in
       omega (arith, ints, here, there, have.feasible e l)
 
   pub raised_room : (new : List ℤ) → new ≡ raised → HaveRoom g most new
   raised_room new new_is = subst (λ (xs : List ℤ). HaveRoom g most xs) (sym new_is) (record {
     long = length-set y v room ∙ have.long;
-    small = λ w. small w (cases_eq w v);
+    small = λ w. elim (cases_eq w v) [
+      | inl e ↦ (let here = ap (λ x. get_or raised x (pos 0)) e ∙ raised_here in
+          omega (arith, ints, is.few, above, have.small v))
+      | inr ne ↦ omega (arith, ints, raised_other w ne, have.small w)
+    ];
     feasible = λ e l. by_ends e l (cases_eq (edge_at g e).u v) (cases_eq (edge_at g e).v v);
   })

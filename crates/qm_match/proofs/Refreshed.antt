@@ -1,10 +1,9 @@
 -- Marks and keys that are made right.
-use Rattle.std.proofs.Common.{◌≡◌, ◌≢◌, ℕ, ◌*◌, ◌<◌, ◌≤◌, length, get_or, ◌⊎◌, sym, ◌∙◌, ap, subst}
+use Rattle.std.proofs.Common.{◌≡◌, ℕ, ◌*◌, ◌≤◌, length, sym, ◌∙◌, ap, subst}
 use Rattle.std.specs.Vec.{vec_capacity}
 use Rattle.def_matching.specs.Matching.{WeightedGraph}
-use Rattle.def_forest.specs.Tables.{ForestTables, forest_of, IsValidFor}
-use Rattle.def_forest.specs.declared.kinds.Label.TheVariants.{Inner}
-use Rattle.search_laws.specs.{Keys.leaf_of, Keys.true_key, Keys.AreRightAt, Keys.IsMended, Searches.first_limit}
+use Rattle.def_forest.specs.Tables.{forest_of}
+use Rattle.search_laws.specs.{Keys.leaf_of, Searches.first_limit}
 use Rattle.qm_match.specs.{Fans.AreFans, States.IsMade, States.IsRefreshed, States.IsFreshAt, States.MayRefresh}
 use Rattle.qm_match.specs.{declared.fans.Fans.Fans, declared.search.Search.Search}
 use Rattle.qm_match.proofs.Mended.{mended_on, stay_right, stays_right}
@@ -32,19 +31,12 @@ made_like {g} new made fans up tour inner members parts = record {
 pub stays_fresh : {g : WeightedGraph} {old new : Search} {b : ℕ} → IsRefreshed g old new → IsFreshAt g old b
     → IsFreshAt g new b
 stays_fresh {g} {old} {new} {b} is fresh = record {
-  mark = λ inner. is.marked b (label inner) (fresh.mark (label inner));
-  leaf = λ inner h. subst (λ (t : ForestTables). get_or new.tour (leaf_of g b) 0
-      ≡ true_key g (forest_of t) new.risen (leaf_of g b)) (sym is.forest)
-      (subst (λ r. get_or new.tour (leaf_of g b) 0 ≡ true_key g (forest_of old.forest) r (leaf_of g b)) (sym is.risen)
-      (stays_right g (forest_of old.forest) old.risen (leaf_of g b) is.mended (fresh.leaf (label inner) h)));
-  edges = λ other. subst (λ (t : ForestTables). AreRightAt g (forest_of t) new.risen new.tour ((forest_of t).holds b))
-      (sym is.forest) (subst (λ r. AreRightAt g (forest_of old.forest) r new.tour ((forest_of old.forest).holds b))
-      (sym is.risen) (stay_right g (forest_of old.forest) old.risen ((forest_of old.forest).holds b) is.mended
-      (fresh.edges (λ inner. other (ap (λ (t : ForestTables). (forest_of t).label b) is.forest ∙ inner)))));
+  mark = rw is.forest (λ inner. is.marked b inner (fresh.mark inner));
+  leaf = rw (is.forest, is.risen)
+      (λ inner h. stays_right g (forest_of old.forest) old.risen (leaf_of g b) is.mended (fresh.leaf inner h));
+  edges = rw (is.forest, is.risen) (λ other. stay_right g (forest_of old.forest) old.risen
+      ((forest_of old.forest).holds b) is.mended (fresh.edges other));
 }
-  where
-    label : (forest_of new.forest).label b ≡ Inner → (forest_of old.forest).label b ≡ Inner
-    label inner = ap (λ (t : ForestTables). (forest_of t).label b) (sym is.forest) ∙ inner
 
 -- More and more is made right.
 pub refreshed_on : {g : WeightedGraph} {a b d : Search} → IsRefreshed g a b → IsRefreshed g b d → IsRefreshed g a d
@@ -54,11 +46,8 @@ refreshed_on {g} {a} {b} {d} p q = record {
   first = q.first ∙ p.first;
   parts = q.parts ∙ p.parts;
   made = q.made;
-  mended = mended_on g (forest_of a.forest) a.risen p.mended
-      (subst (λ (t : ForestTables). IsMended g (forest_of t) a.risen b.tour d.tour) p.forest
-      (subst (λ r. IsMended g (forest_of b.forest) r b.tour d.tour) p.risen q.mended));
-  marked = λ x inner on. q.marked x (ap (λ (t : ForestTables). (forest_of t).label x) p.forest ∙ inner)
-      (p.marked x inner on);
+  mended = mended_on g (forest_of a.forest) a.risen p.mended (rw (p.forest, p.risen) at q.mended);
+  marked = λ x inner on. q.marked x (rw p.forest inner) (p.marked x inner on);
 }
 
 -- What may be made right may still be.
@@ -66,9 +55,9 @@ pub may_later : {g : WeightedGraph} {old new : Search} {b : ℕ} → IsRefreshed
     → MayRefresh g new b
 may_later {g} {b} is may = record {
   made = is.made;
-  valid = subst (λ (t : ForestTables). IsValidFor g t) (sym is.forest) may.valid;
-  low = subst (λ (t : ForestTables). b < length t.up) (sym is.forest) may.low;
-  used = subst (λ (t : ForestTables). (b < g.n) ⊎ (get_or t.parts b 0 ≢ 0)) (sym is.forest) may.used;
+  valid = rw is.forest may.valid;
+  low = rw is.forest may.low;
+  used = rw is.forest may.used;
 }
 
 -- Only keys and the room for vertices differ, twice.
@@ -79,6 +68,4 @@ members_twice a {d} e1 e2 = e2 ∙ ap (λ (s : Search). record s { tour = d.tour
 pub made_members : {g : WeightedGraph} {a : Search} {b : Search} → IsMade g a → b
     ≡ record a { tour = b.tour; members = b.members } → length b.tour ≡ length a.tour → g.n ≤ vec_capacity b.members
     → IsMade g b
-made_members {g} {b} made same size room = made_like b made (ap (λ (s : Search). (s.fans, s.first)) same)
-    (ap (λ (s : Search). length s.forest.up) same) size (ap (λ (s : Search). length s.inner.items) same) room
-    (subst (λ (s : Search). g.n ≤ vec_capacity s.parts) (sym same) made.parts)
+made_members {g} {b} made same size room = made_like b made (rw same) (rw same) size (rw same) room (rw same made.parts)

@@ -1,25 +1,24 @@
 -- A step that is taken, and the keys that are mended after it.
-use Rattle.std.proofs.Common.{◌≡◌, ◌≢◌, ℕ, zero, suc, ◌*◌, ◌%◌, ◌<◌, ◌≤◌, Bool, true, false, cond, List, length, get_or}
+use Rattle.std.proofs.Common.{rules, ◌≡◌, ◌≢◌, ℕ, zero, suc, ◌*◌, ◌<◌, ◌≤◌, true, false, cond, List, length, get_or}
 use Rattle.std.proofs.Common.{Option, Some, None, ◌⊎◌, refl, sym, ◌∙◌, ap, subst, inl, inr, arith}
 use Rattle.std.proofs.Math.ListN.{set}
-use Rattle.std.proofs.lemmas.Bool.{cases_eq, cases_lt}
+use Rattle.std.proofs.lemmas.Bool.{cond_both, cases_eq, cases_lt}
 use Rattle.std.proofs.lemmas.List.{length-set, get_or-set_other}
 use Rattle.std.specs.Vec.{vec_capacity}
 use Rattle.def_matching.specs.Matching.{WeightedGraph, IsGraph, IsSmallGraph, edge_at}
-use Rattle.def_forest.specs.{Darts.darts_of, Darts.far, Forests.Forest, Forests.IsOutermost, Forests.set_at}
+use Rattle.def_forest.specs.{Darts.darts_of, Darts.far, Forests.Forest, Forests.set_at}
 use Rattle.def_forest.specs.Forests.{walk, bool_number, ring_sum, blossom_size}
 use Rattle.def_forest.specs.{Opened.IsExpanding, Shrunk.IsShrinking, Steps.grown, Steps.rooted, Steps.IsAugmented}
 use Rattle.def_forest.specs.Tables.{ForestTables, forest_of, edge_kind, outer_dart}
-use Rattle.def_forest.specs.{Tables.IsValidFor, Ways.Reaches, declared.kinds.EdgeKind.TheVariants.Grow, Valid.IsMate}
+use Rattle.def_forest.specs.{Tables.IsValidFor, Ways.Reaches, declared.kinds.EdgeKind.TheVariants.Grow}
 use Rattle.def_forest.specs.{Valid.IsRing, Valid.IsTree, Valid.IsValid, declared.kinds.Label.TheVariants.Outer}
 use Rattle.def_forest.specs.declared.kinds.Label.TheVariants.{Inner, Outside}
-use Rattle.def_math.specs.Counts.{count_below}
 use Rattle.sum_laws.proofs.Counts.{count_below_le, count_below_ones, count_below_same}
 use Rattle.forest_laws.proofs.{Graphs.are_darts, Graphs.dart_near, Odds.IsBlossom, Odds.counts_exchanged}
 use Rattle.forest_laws.proofs.{Odds.odd_blossom, Odds.part_used, Facts.far_low, Facts.tree_of, Writes.set_here}
 use Rattle.forest_laws.proofs.Writes.{set_there, inner_named, true_false}
 use Rattle.search_laws.specs.Keys.{leaf_of, true_key, AreLow, AreRightAt, IsMended}
-use Rattle.search_laws.specs.Searches.{AreMarked, AreMatchedBefore, IsInRange, IsSeeking, steps_left}
+use Rattle.search_laws.specs.Searches.{AreMatchedBefore, IsInRange, IsSeeking, steps_left}
 use Rattle.search_laws.proofs.Counted.{grown_fewer, shrunk_fewer, opened_fewer}
 use Rattle.search_laws.proofs.Kept.{IsTurned, stay_low, idle_low, true_key_low, held_out, rooted_turned, grown_turned}
 use Rattle.search_laws.proofs.Kept.{shrunk_turned, opened_turned, shrunk_on, shrunk_set, shrunk_inner, opened_inner}
@@ -38,17 +37,12 @@ pub step_taken : {g : WeightedGraph} {old : Search} {t : ForestTables} {new : Se
     → ((b : ℕ) → (forest_of t).label b ≡ Inner → get_or new.inner.items b false ≡ true) → (r : ℕ) × (t.root ≡ Some r)
     → IsUnderWay g new
 step_taken {g} {old} {t} {new} made low range valid is turned size weights marked tree = record {
-  tree = subst (λ (x : ForestTables). (r : ℕ) × (x.root ≡ Some r)) (sym is.forest) tree;
+  tree = rw is.forest tree;
   made = is.made;
-  valid = subst (λ (x : ForestTables). IsValidFor g x) (sym is.forest) valid;
-  low = subst (λ (x : ForestTables). AreLow g (forest_of x) new.risen new.tour) (sym is.forest)
-      (subst (λ r. AreLow g (forest_of t) r new.tour) (sym is.risen) (stay_low is.made.small.lawful low is.mended
-      turned));
-  marked = λ b inner. marked b (ap (λ (x : ForestTables). (forest_of x).label b) (sym is.forest) ∙ inner);
-  range = subst (λ n. IsInRange g.n n (forest_of new.forest) new.risen) (sym is.first)
-      (subst (λ (x : ForestTables). IsInRange g.n old.first (forest_of x) new.risen) (sym is.forest)
-      (subst (λ r. IsInRange g.n old.first (forest_of t) r) (sym is.risen)
-      (range_same (forest_of t) size weights range)));
+  valid = rw is.forest valid;
+  low = rw (is.forest, is.risen) (stay_low is.made.small.lawful low is.mended turned);
+  marked = λ b inner. marked b (rw is.forest at inner);
+  range = rw (is.first, is.forest, is.risen) (range_same (forest_of t) size weights range);
 }
 
 -- What is right at a blossom, said of the forest's tables after the step.
@@ -61,18 +55,10 @@ pub record IsRightIn (g : WeightedGraph) (t : ForestTables) (risen : ℕ) (new :
 pub right_in : {g : WeightedGraph} (old : Search) (t : ForestTables) {new : Search} {b : ℕ}
     → IsRefreshed g (record old { forest = t }) new → IsFreshAt g new b → IsRightIn g t old.risen new b
 right_in {g} old t {new} {b} is fresh = record {
-  mark = λ inner. fresh.mark (back inner);
-  leaf = λ inner h. subst (λ (x : ForestTables). get_or new.tour (leaf_of g b) 0
-      ≡ true_key g (forest_of x) old.risen (leaf_of g b)) is.forest
-      (subst (λ r. get_or new.tour (leaf_of g b) 0 ≡ true_key g (forest_of new.forest) r (leaf_of g b)) is.risen
-      (fresh.leaf (back inner) h));
-  edges = λ other. subst (λ (x : ForestTables). AreRightAt g (forest_of x) old.risen new.tour ((forest_of x).holds b))
-      is.forest (subst (λ r. AreRightAt g (forest_of new.forest) r new.tour ((forest_of new.forest).holds b)) is.risen
-      (fresh.edges (λ inner. other (ap (λ (x : ForestTables). (forest_of x).label b) (sym is.forest) ∙ inner))));
+  mark = rw is.forest at fresh.mark;
+  leaf = rw (is.forest, is.risen) at fresh.leaf;
+  edges = rw (is.forest, is.risen) at fresh.edges;
 }
-  where
-    back : (forest_of t).label b ≡ Inner → (forest_of new.forest).label b ≡ Inner
-    back inner = ap (λ (x : ForestTables). (forest_of x).label b) is.forest ∙ inner
 
 -- The tree has grown.
 module _ {g : WeightedGraph} {old : Search} {t : ForestTables} {new : Search} (d m : ℕ) (way : IsUnderWay g old)
@@ -101,33 +87,29 @@ module _ {g : WeightedGraph} {old : Search} {t : ForestTables} {new : Search} (d
       (λ h. subst (λ (f : Forest). get_or new.tour (leaf_of g inn) 0 ≡ true_key g f old.risen (leaf_of g inn)) grown_is
       (at_inner.leaf inner_label h))))
       (ap (λ (f : Forest). f.size) grown_is) (λ b. ap (λ (f : Forest). f.weight b) grown_is)
-      (λ b inner. marks b inner (cases_eq b outer) (cases_eq b inn)) (way.tree.0, root ∙ way.tree.1)
+      (λ b inner. elim (cases_eq b outer) [
+        | inl e ↦ absurd (cc outer_label)
+        | inr nu ↦ elim (cases_eq b inn) [
+          | inl e ↦ rw e (at_inner.mark inner_label)
+          | inr ni ↦ is.marked b inner (way.marked b
+              (sym (labels b ∙ set_there (set_at (forest_of old.forest).label inn Inner) outer b Outer nu
+              ∙ set_there (forest_of old.forest).label inn b Inner ni) ∙ inner))
+        ]
+      ]) (way.tree.0, root ∙ way.tree.1)
     where
       inner_label : (forest_of t).label inn ≡ Inner
-      inner_label = labels inn ∙ (set_there (set_at (forest_of old.forest).label inn Inner) outer inn Outer apart
-          ∙ set_here (forest_of old.forest).label inn Inner)
-
-      marks : (b : ℕ) → (forest_of t).label b ≡ Inner → (b ≡ outer) ⊎ (b ≢ outer) → (b ≡ inn) ⊎ (b ≢ inn)
-          → get_or new.inner.items b false ≡ true
-      marks b inner (inl e) y =
-          absurd (let c : Outer ≡ Inner = sym outer_label ∙ (ap (forest_of t).label (sym e) ∙ inner) in cc c)
-      marks b inner (inr nu) (inl e) =
-          subst (λ x. get_or new.inner.items x false ≡ true) (sym e) (at_inner.mark inner_label)
-      marks b inner (inr nu) (inr ni) = is.marked b inner (way.marked b
-          (sym (labels b ∙ (set_there (set_at (forest_of old.forest).label inn Inner) outer b Outer nu
-          ∙ set_there (forest_of old.forest).label inn b Inner ni)) ∙ inner))
+      inner_label = labels inn ∙ set_there (set_at (forest_of old.forest).label inn Inner) outer inn Outer apart
+          ∙ set_here (forest_of old.forest).label inn Inner
 
   pub grown_less : (forest_of old.forest).label inn ≡ Outside → steps_left g.n (forest_of new.forest)
       < steps_left g.n (forest_of old.forest)
-  grown_less off = subst (λ (x : ForestTables). steps_left g.n (forest_of x) < steps_left g.n (forest_of old.forest))
-      (sym is.forest) (subst (λ (f : Forest). steps_left g.n f < steps_left g.n (forest_of old.forest)) (sym grown_is)
+  grown_less off = rw is.forest (subst (λ (f : Forest). steps_left g.n f
+      < steps_left g.n (forest_of old.forest)) (sym grown_is)
       (grown_fewer g way.made.small.lawful (forest_of old.forest) old.forest.root way.valid.valid d m off mate))
 
   pub grown_on : t.root ≡ old.forest.root → GoesOn g.n old.forest new.forest
-  grown_on root v seeking = subst (λ (x : ForestTables). IsSeeking g.n (forest_of x) x.root v) (sym is.forest)
-      (subst (λ (o : Option ℕ). IsSeeking g.n (forest_of t) o v) (sym root)
-      (subst (λ (f : Forest). IsSeeking g.n f old.forest.root v) (sym grown_is)
-      (record { vertex = seeking.vertex; root_is = seeking.root_is; before = seeking.before })))
+  grown_on root v seeking = rw is.forest (rw root (subst (λ (f : Forest). IsSeeking g.n f old.forest.root v)
+      (sym grown_is) (record { vertex = seeking.vertex; root_is = seeking.root_is; before = seeking.before })))
 
 -- A cycle has become one blossom.
 module _ {g : WeightedGraph} {old : Search} {t : ForestTables} {new : Search} {d : ℕ} (way : IsUnderWay g old)
@@ -135,24 +117,18 @@ module _ {g : WeightedGraph} {old : Search} {t : ForestTables} {new : Search} {d
     (s : IsShrinking (darts_of g) (forest_of old.forest) (forest_of t) old.forest.root t.root d) where
   pub shrunk_way : ((p : ℕ) → s.inside p ≡ true → get_or old.inner.items p false ≡ true
       → AreRightAt g (forest_of t) old.risen new.tour ((forest_of t).holds p)) → IsUnderWay g new
-  shrunk_way right = step_taken way.made way.low way.range valid is turned s.shrunk.size s.shrunk.weight
-      (λ b inner. is.marked b inner (way.marked b (was b inner))) (cond (s.inside s.r) s.set s.r, s.root_is)
-    where
-      turned : IsTurned g (forest_of old.forest) (forest_of t) old.risen new.tour
-      turned = shrunk_turned way.made.small.lawful
-          way.valid.valid s old.risen new.tour (λ p on inner. right p on (way.marked p inner))
-
-      was : (b : ℕ) → (forest_of t).label b ≡ Inner → (forest_of old.forest).label b ≡ Inner
-      was = shrunk_inner way.made.small.lawful way.valid.valid s
+  shrunk_way right = step_taken way.made way.low way.range valid is (shrunk_turned way.made.small.lawful way.valid.valid
+      s old.risen new.tour (λ p on inner. right p on (way.marked p inner))) s.shrunk.size s.shrunk.weight
+      (λ b inner. is.marked b inner (way.marked b (shrunk_inner way.made.small.lawful way.valid.valid s b inner)))
+      (cond (s.inside s.r) s.set s.r, s.root_is)
 
   pub shrunk_less : steps_left g.n (forest_of new.forest) < steps_left g.n (forest_of old.forest)
-  shrunk_less = subst (λ (x : ForestTables). steps_left g.n (forest_of x) < steps_left g.n (forest_of old.forest))
-      (sym is.forest) (shrunk_fewer g way.made.small.lawful (forest_of old.forest) (forest_of t) old.forest.root t.root
+  shrunk_less = rw is.forest (shrunk_fewer g way.made.small.lawful
+      (forest_of old.forest) (forest_of t) old.forest.root t.root
       d way.valid.valid s)
 
   pub shrunk_goes_on : GoesOn g.n old.forest new.forest
-  shrunk_goes_on v seeking = subst (λ (x : ForestTables). IsSeeking g.n (forest_of x) x.root v) (sym is.forest)
-      (seeking_shrunk way.made.small.lawful way.valid.valid s seeking)
+  shrunk_goes_on v seeking = rw is.forest (seeking_shrunk way.made.small.lawful way.valid.valid s seeking)
 
 -- An inner set has been opened.
 module _ {g : WeightedGraph} {old : Search} {t : ForestTables} {new : Search} {b : ℕ} (way : IsUnderWay g old)
@@ -167,18 +143,13 @@ module _ {g : WeightedGraph} {old : Search} {t : ForestTables} {new : Search} {b
     opened_way root_is right = step_taken way.made way.low way.range valid is
         (opened_turned way.made.small.lawful rooted_valid x.opening x.opened old.risen new.tour
         (λ j l other. (right j l).edges other) (λ j l inner h. (right j l).leaf inner h)) x.opened.size x.opened.weight
-        (λ c inner. marks c inner (opened_inner way.made.small.lawful rooted_valid x.opening x.opened c inner))
-        (way.tree.0, root_is ∙ way.tree.1)
-      where
-        marks : (c : ℕ) → (forest_of t).label c ≡ Inner → ((j : ℕ) × (j ≤ 2 * x.o.half) × (x.o.q j ≡ c))
-            ⊎ ((forest_of old.forest).label c ≡ Inner) → get_or new.inner.items c false ≡ true
-        marks c inner (inl p) = subst (λ y. get_or new.inner.items y false ≡ true) p.2
-            ((right p.0 p.1).mark (ap (forest_of t).label p.2 ∙ inner))
-        marks c inner (inr was) = is.marked c inner (way.marked c was)
+        (λ c inner. elim (opened_inner way.made.small.lawful rooted_valid x.opening x.opened c inner) [
+          | inl p ↦ rw p.2 at ((right p.0 p.1).mark (ap (forest_of t).label p.2 ∙ inner))
+          | inr was ↦ is.marked c inner (way.marked c was)
+        ]) (way.tree.0, root_is ∙ way.tree.1)
 
     opened_less : steps_left g.n (forest_of new.forest) < steps_left g.n (forest_of old.forest)
-    opened_less = subst (λ (y : ForestTables). steps_left g.n (forest_of y) < steps_left g.n (forest_of old.forest))
-        (sym is.forest) (opened_fewer way.made.small.lawful rooted_valid x.opening x.opened)
+    opened_less = rw is.forest (opened_fewer way.made.small.lawful rooted_valid x.opening x.opened)
 
   by_root : (r : ℕ) × (old.forest.root ≡ Some r) × IsTree (darts_of g) (forest_of old.forest) r
   by_root = tree_of (are_darts way.made.small.lawful) way.valid.valid x.o.b (inner_named x.opening.label)
@@ -191,7 +162,7 @@ module _ {g : WeightedGraph} {old : Search} {t : ForestTables} {new : Search} {b
   expanded_less = opened_less by_root.0 by_root.1
 
   pub expanded_on : t.root ≡ old.forest.root → GoesOn g.n old.forest new.forest
-  expanded_on root v seeking = subst (λ (y : ForestTables). IsSeeking g.n (forest_of y) y.root v) (sym is.forest)
+  expanded_on root v seeking = rw is.forest
       (subst (λ (o : Option ℕ). IsSeeking g.n (forest_of t) o v) (sym (root ∙ seeking.root_is))
       (seeking_opened way.made.small.lawful (rooted_valid ((forest_of old.forest).out v) seeking.root_is) x.opening
       x.opened (subst (λ (o : Option ℕ). IsSeeking g.n (forest_of old.forest) o v) seeking.root_is seeking)))
@@ -234,65 +205,39 @@ ring_sum_high next f front (suc n) each = omega (arith, ring_sum_high next f fro
 pub parts_few : {g : WeightedGraph} → IsGraph g → {t : ForestTables} (b : ℕ) → IsValidFor g t → g.n ≤ b
     → get_or t.parts b 0 ≢ 0 → get_or t.parts b 0 ≤ g.n
 parts_few {g} is {t} b valid h live =
-    let ring : IsRing (darts_of g) (forest_of t) b = ring_of b valid h live in
-    let shared : blossom_size g.n (forest_of t) b ≡ count_below (λ v. ring_sum (forest_of t).nest.after
-    (λ p. bool_number ((forest_of t).holds p v)) ((forest_of t).nest.head b) ((forest_of t).nest.parts b)) g.n =
-    count_below_same (λ v. bool_number ((forest_of t).holds b v)) (λ v. ring_sum (forest_of t).nest.after
-    (λ p. bool_number ((forest_of t).holds p v)) ((forest_of t).nest.head b) ((forest_of t).nest.parts b)) g.n
-    ring.shared in
-    let sums : count_below (λ v. ring_sum (forest_of t).nest.after (λ p. bool_number ((forest_of t).holds p v))
-    ((forest_of t).nest.head b) ((forest_of t).nest.parts b)) g.n ≡ ring_sum (forest_of t).nest.after
-    (blossom_size g.n (forest_of t)) ((forest_of t).nest.head b) ((forest_of t).nest.parts b) = counts_exchanged
-    (forest_of t).nest.after (λ p v. bool_number ((forest_of t).holds p v)) ((forest_of t).nest.head b) g.n
-    ((forest_of t).nest.parts b) in
-    let many : get_or t.parts b 0 ≤ ring_sum (forest_of t).nest.after (blossom_size g.n (forest_of t))
-    ((forest_of t).nest.head b) ((forest_of t).nest.parts b) = ring_sum_high (forest_of t).nest.after
-    (blossom_size g.n (forest_of t)) ((forest_of t).nest.head b) (get_or t.parts b 0)
-    (λ k. some (odd_blossom (are_darts is) valid.valid.nested (part_of t b k)
-    (part_used (are_darts is) valid.valid.nested ring k))) in
-    let all : blossom_size g.n (forest_of t) b ≤ count_below (λ v. 1) g.n = count_below_le
-    (λ v. bool_number ((forest_of t).holds b v)) (λ v. 1) g.n (λ v l. one ((forest_of t).holds b v)) in
-    omega (arith, shared, sums, many, all, count_below_ones g.n)
-  where
-    some : {x : ℕ} → x % 2 ≡ 1 → 1 ≤ x
-    some e = omega (arith, e)
-
-    one : (s : Bool) → bool_number s ≤ 1
-    one true = omega arith
-    one false = omega arith
+    let f = forest_of t in
+    let ring = ring_of b valid h live in
+    let shared = count_below_same (λ v. bool_number (f.holds b v)) (λ v. ring_sum f.nest.after
+    (λ p. bool_number (f.holds p v)) (f.nest.head b) (f.nest.parts b)) g.n ring.shared in
+    let sums = counts_exchanged f.nest.after (λ p v. bool_number (f.holds p v)) (f.nest.head b) g.n (f.nest.parts b) in
+    let many = ring_sum_high f.nest.after (blossom_size g.n f) (f.nest.head b) (get_or t.parts b 0)
+    (λ k. omega (
+      arith,
+      odd_blossom (are_darts is) valid.valid.nested (part_of t b k)
+          (part_used (are_darts is) valid.valid.nested ring k),
+    )) in
+    let all = count_below_le (λ v. bool_number (f.holds b v)) (λ v. 1) g.n
+    (λ v l. cond_both (f.holds b v) 1 0 (λ x. x ≤ 1) (λ _. omega arith) (λ _. omega arith)) in
+    omega (arith, count_below_ones g.n)
 
 -- Keys may be mended at the blossom of a vertex.
 pub may_vertex : {g : WeightedGraph} {s : Search} (v : ℕ) {b : ℕ} → IsMade g s → IsValidFor g s.forest → v < g.n
     → (forest_of s.forest).out v ≡ b → MayRefresh g s b
-may_vertex {g} {s} v made valid l e = subst (λ x. MayRefresh g s x) e (record {
+may_vertex {g} {s} v made valid l e = rw (← e) (record {
   made = made;
   valid = valid;
   low = valid.valid.outermost.out_low v l;
-  used = by_size (cases_lt ((forest_of s.forest).out v) g.n);
+  used = elim (cases_lt ((forest_of s.forest).out v) g.n) [
+    | inl low ↦ inl low
+    | inr high ↦ inr (λ none. true_false (held_out g valid.valid v l)
+        (valid.valid.nested.empty ((forest_of s.forest).out v) v high l none))
+  ];
 })
-  where
-    by_size : ((forest_of s.forest).out v < g.n) ⊎ (g.n ≤ (forest_of s.forest).out v)
-        → ((forest_of s.forest).out v < g.n) ⊎ (get_or s.forest.parts ((forest_of s.forest).out v) 0 ≢ 0)
-    by_size (inl low) = inl low
-    by_size (inr high) = inr (λ none. true_false
-        (held_out g valid.valid v l) (valid.valid.nested.empty ((forest_of s.forest).out v) v high l none))
 
 -- Room stays through a step of the forest.
 pub made_after : {g : WeightedGraph} {s : Search} (t : ForestTables) → IsMade g s → (forest_of t).size
     ≡ (forest_of s.forest).size → IsMade g (record s { forest = t })
-made_after t made size = record {
-  small = made.small;
-  cheap = made.cheap;
-  perfect = made.perfect;
-  fans = made.fans;
-  size = size ∙ made.size;
-  first = made.first;
-  low = made.low;
-  leaves = made.leaves;
-  marks = made.marks;
-  members = made.members;
-  parts = made.parts;
-}
+made_after t made size = let same = size ∙ made.size in search rules
 
 -- The matching has grown.
 pub augmented_idle : {g : WeightedGraph} {old : Search} {t : ForestTables} (d : ℕ) → IsUnderWay g old → IsValidFor g t
@@ -325,61 +270,47 @@ module _ (g : WeightedGraph) (old : Search) (t : ForestTables) (new : Search) (v
   labels_rooted x = ap (λ (f : Forest). f.label x) rooted_is
 
   not_inner : (x : ℕ) → (forest_of t).label x ≢ Inner
-  not_inner x inner = by_place (cases_eq x b)
-    where
-      by_place : (x ≡ b) ⊎ (x ≢ b) → ⊥
-      by_place (inl e) = let c : Outer ≡ Inner = sym (set_here (forest_of old.forest).label b Outer)
-          ∙ (ap (set_at (forest_of old.forest).label b Outer) (sym e) ∙ (sym (labels_rooted x) ∙ inner)) in cc c
-      by_place (inr ne) = let c : Outside ≡ Inner = sym (set_there (forest_of old.forest).label b x Outer ne
-          ∙ idle_valid.no_tree refl x) ∙ (sym (labels_rooted x) ∙ inner) in cc c
+  not_inner x inner = elim (cases_eq x b) [
+    | inl e ↦ cc (set_here (forest_of old.forest).label b Outer, labels_rooted x)
+    | inr ne ↦ cc (set_there (forest_of old.forest).label b x Outer ne, idle_valid.no_tree refl x, labels_rooted x)
+  ]
 
   idle_keys : AreLow g (forest_of old.forest) old.risen old.tour
   idle_keys = idle_low g (forest_of old.forest) old.risen old.tour (idle_valid.no_tree refl) idle.few
 
   pub begun_way : t.root ≡ Some b → IsRightIn g t old.risen new b → IsUnderWay g new
-  begun_way root at = step_taken idle.made idle_keys idle.range valid is
-      (subst (λ (f : Forest). IsTurned g (forest_of old.forest) f old.risen new.tour) (sym rooted_is)
-      (rooted_turned g b old.risen new.tour idle_valid
+  begun_way root at = step_taken idle.made idle_keys idle.range valid is (subst (λ (f : Forest). IsTurned g
+      (forest_of old.forest) f old.risen new.tour) (sym rooted_is) (rooted_turned g b old.risen new.tour idle_valid
       (subst (λ (f : Forest). AreRightAt g f old.risen new.tour (f.holds b)) rooted_is (at.edges (not_inner b)))))
       (ap (λ (f : Forest). f.size) rooted_is) (λ x. ap (λ (f : Forest). f.weight x) rooted_is)
       (λ x inner. absurd (not_inner x inner)) (b, root)
 
   pub begun_seeking : v < g.n → AreMatchedBefore (forest_of old.forest) v → t.root ≡ Some b
       → IsSeeking g.n (forest_of new.forest) new.forest.root v
-  begun_seeking l before root = subst (λ (y : ForestTables). IsSeeking g.n (forest_of y) y.root v) (sym is.forest)
-      (subst (λ (o : Option ℕ). IsSeeking g.n (forest_of t) o v) (sym root)
-      (subst (λ (f : Forest). IsSeeking g.n f (Some b) v) (sym rooted_is) (seeking_begun g.n (forest_of old.forest) v l
-      before)))
+  begun_seeking l before root = rw is.forest (rw root (subst (λ (f : Forest). IsSeeking g.n f (Some b) v)
+      (sym rooted_is) (seeking_begun g.n (forest_of old.forest) v l before)))
 
 -- The parts of the opened set, after that.
 module _ {g : WeightedGraph} {old : Search} {t : ForestTables} {b : ℕ} (way : IsUnderWay g old) (valid : IsValidFor g t)
     (x : IsExpanding (darts_of g) (forest_of old.forest) (forest_of t) b) where
   opened_live : get_or old.forest.parts b 0 ≢ 0
-  opened_live =
-      let p : ((forest_of old.forest).nest.up (x.o.q 0) ≡ x.o.b) × (x.o.q 0 ≢ x.o.b)
-      × (x.o.q 0 < (forest_of old.forest).size) = x.opening.parts 0 (omega arith) in
+  opened_live = let p = x.opening.parts 0 (omega arith) in
       λ none. (way.valid.valid.nested.live (x.o.q 0) (λ e. p.1 (sym e ∙ p.0))).1
       (ap (forest_of old.forest).nest.parts (p.0 ∙ x.is) ∙ none)
 
   b_high : g.n ≤ b
-  b_high = subst (λ y. g.n ≤ y) x.is x.opening.high
+  b_high = rw x.is at x.opening.high
 
   part_not_b : (k : ℕ) → part_of old.forest b k ≢ x.o.b
   part_not_b k e =
-      let ring : IsRing (darts_of g) (forest_of old.forest) b = ring_of b way.valid b_high opened_live in
-      let lower : (forest_of old.forest).nest.rank (part_of old.forest b k) < (forest_of old.forest).nest.rank b =
-      ring.lower k in
-      let same : (forest_of old.forest).nest.rank (part_of old.forest b k) ≡ (forest_of old.forest).nest.rank b =
-      ap (forest_of old.forest).nest.rank (e ∙ x.is) in
-      omega (arith, lower, same)
+      let ring = ring_of b way.valid b_high opened_live in
+      omega (arith, ring.lower k, ap (forest_of old.forest).nest.rank (e ∙ x.is))
 
   pub opened_may : (k : ℕ) → {s : Search} → s.forest ≡ t → IsMade g s → MayRefresh g s (part_of old.forest b k)
   opened_may k e made = record {
     made = made;
-    valid = subst (λ (y : ForestTables). IsValidFor g y) (sym e) valid;
-    low = subst (λ (y : ForestTables). part_of old.forest b k < length y.up) (sym e)
-        (subst (λ n. part_of old.forest b k < n) (sym x.opened.size)
-        ((ring_of b way.valid b_high opened_live).below k));
+    valid = rw e valid;
+    low = rw (e, x.opened.size) ((ring_of b way.valid b_high opened_live).below k);
     used = subst (λ (y : ForestTables). (part_of old.forest b k < g.n)
         ⊎ (get_or y.parts (part_of old.forest b k) 0 ≢ 0)) (sym e)
         (elim (part_in_use way.made.small.lawful b k way.valid b_high opened_live) [
@@ -392,17 +323,15 @@ module _ {g : WeightedGraph} {old : Search} {t : ForestTables} {b : ℕ} (way : 
   pub opened_place : (j : ℕ) → j ≤ 2 * x.o.half → (k : ℕ) × (k < get_or old.forest.parts b 0)
       × (part_of old.forest b k ≡ x.o.q j)
   opened_place j l =
-      let p : ((forest_of old.forest).nest.up (x.o.q j) ≡ x.o.b) × (x.o.q j ≢ x.o.b)
-      × (x.o.q j < (forest_of old.forest).size) = x.opening.parts j l in
+      let p = x.opening.parts j l in
       (ring_of b way.valid b_high opened_live).all (x.o.q j) (p.0 ∙ x.is) (λ e. p.1 (e ∙ sym x.is))
 
 -- Keys may be mended at a part while only other tables changed.
 pub may_part_in : {g : WeightedGraph} (old : Search) {s : Search} (b k : ℕ) {p : ℕ} → IsMade g s
     → IsValidFor g old.forest → g.n ≤ b → get_or old.forest.parts b 0 ≢ 0 → s.forest ≡ old.forest → p
     ≡ part_of old.forest b k → MayRefresh g s p
-may_part_in {g} old {s} b k made valid h live same is =
-    subst (λ x. MayRefresh g s x) (ap (λ (y : ForestTables). part_of y b k) same ∙ sym is)
-    (may_part b k made (subst (λ (y : ForestTables). IsValidFor g y) (sym same) valid) h
+may_part_in {g} old {s} b k made valid h live same is = subst (λ x. MayRefresh g s x) (ap (λ (y : ForestTables). part_of
+    y b k) same ∙ sym is) (may_part b k made (subst (λ (y : ForestTables). IsValidFor g y) (sym same) valid) h
     (subst (λ (y : ForestTables). get_or y.parts b 0 ≢ 0) (sym same) live))
 
 -- How a tree grows: along a dart, to a matched blossom and its mate.
@@ -418,10 +347,8 @@ pub growth_of : {g : WeightedGraph} {t : ForestTables} (e m : ℕ) → IsSmallGr
     → (forest_of t).mate ((forest_of t).out (far (darts_of g) (outer_dart g (forest_of t) e))) ≡ Some m
     → Growth g (forest_of t) (outer_dart g (forest_of t) e) m
 growth_of {g} {t} e m small valid low kind mate =
-    let reach : Reaches (darts_of g) (forest_of t) (outer_dart g (forest_of t) e) =
-    (grows small valid.valid.feasible e low kind).0 in
-    let pair : IsMate (darts_of g) (forest_of t) ((forest_of t).out (far (darts_of g) (outer_dart g (forest_of t) e)))
-    m = valid.valid.matched _ m mate in
+    let reach = (grows small valid.valid.feasible e low kind).0 in
+    let pair = valid.valid.matched _ m mate in
     record {
       reach = reach;
       mate = mate;
@@ -431,11 +358,10 @@ growth_of {g} {t} e m small valid low kind mate =
     }
 
 -- The keys at the marked parts of the new set are right, and its mark is taken away.
-module _ {g : WeightedGraph} {old : Search} (t : ForestTables) {d : ℕ} (way : IsUnderWay g old)
-    (s : IsShrinking (darts_of g) (forest_of old.forest) (forest_of t) old.forest.root t.root d) {b : ℕ} (b_is : b
-    ≡ s.set) where
+module _ {g : WeightedGraph} {old : Search} (t : ForestTables) {d : ℕ} (way : IsUnderWay g old) (s : IsShrinking
+    (darts_of g) (forest_of old.forest) (forest_of t) old.forest.root t.root d) {b : ℕ} (b_is : b ≡ s.set) where
   pub closed_high : g.n ≤ b
-  closed_high = subst (λ x. g.n ≤ x) (sym b_is) s.unused.high
+  closed_high = rw b_is s.unused.high
 
   many_is : get_or t.parts b 0 ≡ s.many
   many_is = ap (λ x. get_or t.parts x 0) b_is
@@ -446,69 +372,54 @@ module _ {g : WeightedGraph} {old : Search} (t : ForestTables) {d : ℕ} (way : 
       ∙ (s.shrunk.head s.set ∙ set_here (forest_of old.forest).nest.head s.set s.top)
 
   pub closed_live : get_or t.parts b 0 ≢ 0
-  closed_live none = let h : s.many ≡ 0 = sym many_is ∙ none in omega (arith, h, s.row.odd)
+  closed_live none = omega (arith, sym many_is ∙ none, s.row.odd)
 
   pub closed_right : (risen : ℕ) (tour : List ℕ) → ((k : ℕ) → k < get_or t.parts b 0
       → get_or old.inner.items (part_of t b k) false ≡ true → AreRightAt g (forest_of t) risen tour
       ((forest_of t).holds (part_of t b k))) → (p : ℕ) → s.inside p ≡ true → get_or old.inner.items p false ≡ true
       → AreRightAt g (forest_of t) risen tour ((forest_of t).holds p)
-  closed_right risen tour each p on mark = by_place (s.row.all p on)
-    where
-      by_place : (k : ℕ) × (k < s.many) × (walk (forest_of t).nest.after s.top k ≡ p)
-          → AreRightAt g (forest_of t) risen tour ((forest_of t).holds p)
-      by_place w =
-          let at : part_of t b w.0 ≡ p = ap (λ x. walk (forest_of t).nest.after x w.0) head_is ∙ w.2 in
-          subst (λ x. AreRightAt g (forest_of t) risen tour ((forest_of t).holds x)) at
-          (each w.0 (subst (λ n. w.0 < n) (sym many_is) w.1) (ap (λ x. get_or old.inner.items x false) at ∙ mark))
+  closed_right risen tour each p on mark =
+      let w = s.row.all p on in
+      let here : part_of t b w.0 ≡ p = ap (λ x. walk (forest_of t).nest.after x w.0) head_is ∙ w.2 in
+      subst (λ x. AreRightAt g (forest_of t) risen tour ((forest_of t).holds x)) here
+      (each w.0 (rw many_is w.1) (ap (λ x. get_or old.inner.items x false) here ∙ mark))
 
   pub unmarked : {mid : Search} (new : Search) → IsMade g (record old { forest = t }) → mid
       ≡ record old { forest = t; tour = mid.tour; members = mid.members } → g.n ≤ vec_capacity mid.members
       → IsMended g (forest_of t) old.risen old.tour mid.tour → new ≡ record mid { inner = new.inner } → new.inner.items
       ≡ set mid.inner.items b false → IsRefreshed g (record old { forest = t }) new
   unmarked {mid} new made same room mended e marks = record {
-    forest = ap (λ (x : Search). x.forest) e ∙ ap (λ (x : Search). x.forest) same;
-    risen = ap (λ (x : Search). x.risen) e ∙ ap (λ (x : Search). x.risen) same;
-    first = ap (λ (x : Search). x.first) e ∙ ap (λ (x : Search). x.first) same;
-    parts = ap (λ (x : Search). x.parts.items) e ∙ ap (λ (x : Search). x.parts.items) same;
-    made = made_like new made (ap (λ (x : Search). (x.fans, x.first)) e
-        ∙ ap (λ (x : Search). (x.fans, x.first)) same) (ap (λ (x : Search). length x.forest.up) e
-        ∙ ap (λ (x : Search). length x.forest.up) same)
-        (ap (λ (x : Search). length x.tour) e ∙ mended.size) (ap length marks
-        ∙ (length-set mid.inner.items b false ∙ ap (λ (x : Search). length x.inner.items) same))
-        (subst (λ (x : Search). g.n ≤ vec_capacity x.members) (sym e) room)
-        (subst (λ (x : Search). g.n ≤ vec_capacity x.parts) (sym e)
-        (subst (λ (x : Search). g.n ≤ vec_capacity x.parts) (sym same) made.parts));
-    mended = subst (λ (x : Search). IsMended g (forest_of t) old.risen old.tour x.tour) (sym e) mended;
-    marked = λ x inner on. ap (λ ms. get_or ms x false) marks ∙ (get_or-set_other mid.inner.items b x false false
-        (λ at. not_set x inner (at ∙ b_is)) ∙ (ap (λ (y : Search). get_or y.inner.items x false) same ∙ on));
+    forest = rw (e, same);
+    risen = rw (e, same);
+    first = rw (e, same);
+    parts = rw (e, same);
+    made = made_like new made (rw (e, same)) (rw (e, same)) (ap (λ (x : Search). length x.tour) e ∙ mended.size)
+        (ap length marks ∙ length-set mid.inner.items b false ∙ ap (λ (x : Search). length x.inner.items) same)
+        (rw e room) (rw (e, same) made.parts);
+    mended = rw e mended;
+    marked = λ x inner on. ap (λ ms. get_or ms x false) marks ∙ get_or-set_other mid.inner.items b x false false
+        (λ at. cc (shrunk_set way.made.small.lawful way.valid.valid s, b_is))
+        ∙ ap (λ (y : Search). get_or y.inner.items x false) same ∙ on;
   }
-    where
-      not_set : (x : ℕ) → (forest_of t).label x ≡ Inner → x ≡ s.set → ⊥
-      not_set x inner at = let c : Outer ≡ Inner = sym (shrunk_set way.made.small.lawful way.valid.valid s)
-          ∙ (ap (forest_of t).label (sym at) ∙ inner) in cc c
 
 -- An inner set is in use.
 pub inner_live : {g : WeightedGraph} {t : ForestTables} (b : ℕ) → IsValidFor g t → g.n ≤ b → (forest_of t).label b
     ≡ Inner → get_or t.parts b 0 ≢ 0
-inner_live {g} {t} b valid h inner none = by_vertex (valid.valid.outermost.named b (inner_named inner))
-  where
-    by_vertex : IsOutermost g.n (forest_of t) b → ⊥
-    by_vertex w = true_false (ap (λ x. (forest_of t).holds x w.0) (sym w.2)
-        ∙ held_out g valid.valid w.0 w.1) (valid.valid.nested.empty b w.0 h w.1 none)
+inner_live {g} {t} b valid h inner none =
+    let w = valid.valid.outermost.named b (inner_named inner) in
+    true_false (ap (λ x. (forest_of t).holds x w.0) (sym w.2) ∙ held_out g valid.valid w.0 w.1)
+    (valid.valid.nested.empty b w.0 h w.1 none)
 
 -- A search goes on with another list of parts.
 pub way_with_parts : {g : WeightedGraph} {old : Search} {new : Search} → IsUnderWay g old → new
     ≡ record old { parts = new.parts } → g.n ≤ vec_capacity new.parts → IsUnderWay g new
 way_with_parts {g} {new} way same room = record {
-  made = made_like new way.made (ap (λ (s : Search). (s.fans, s.first)) same)
-      (ap (λ (s : Search). length s.forest.up) same) (ap (λ (s : Search). length s.tour) same)
-      (ap (λ (s : Search). length s.inner.items) same) (subst (λ (s : Search). g.n ≤ vec_capacity s.members) (sym same)
-      way.made.members) room;
-  valid = subst (λ (s : Search). IsValidFor g s.forest) (sym same) way.valid;
-  low = subst (λ (s : Search). AreLow g (forest_of s.forest) s.risen s.tour) (sym same) way.low;
-  marked = subst (λ (s : Search). AreMarked (forest_of s.forest) s.inner.items) (sym same) way.marked;
-  range = subst (λ (s : Search). IsInRange g.n s.first (forest_of s.forest) s.risen) (sym same) way.range;
-  tree = subst (λ (s : Search). (r : ℕ) × (s.forest.root ≡ Some r)) (sym same) way.tree;
+  made = made_like new way.made (rw same) (rw same) (rw same) (rw same) (rw same way.made.members) room;
+  valid = rw same way.valid;
+  low = rw same way.low;
+  marked = rw same way.marked;
+  range = rw same way.range;
+  tree = rw same way.tree;
 }
 
 -- The new set is the outermost blossom of the edge's first end.

@@ -1,5 +1,5 @@
 -- A shift by the least key, and a turn of a search.
-use Rattle.std.proofs.Common.{◌≡◌, ◌≢◌, ℕ, ◌+◌, ◌-◌, ◌^◌, ◌<◌, ◌≤◌, List, length, get_or, Option, Some, pos, refl, sym}
+use Rattle.std.proofs.Common.{rules, ◌≡◌, ◌≢◌, ℕ, ◌+◌, ◌-◌, ◌^◌, ◌<◌, ◌≤◌, length, get_or, Option, Some, pos, refl, sym}
 use Rattle.std.proofs.Common.{◌∙◌, ap, subst, inl, inr, arith}
 use Rattle.std.proofs.Math.ListN.{set}
 use Rattle.std.specs.Int.RustNames.{unsigned_abs}
@@ -7,7 +7,7 @@ use Rattle.def_matching.specs.Matching.{WeightedGraph}
 use Rattle.def_forest.specs.{Darts.darts_of, Forests.Forest, Steps.shifted, Tables.ForestTables, Tables.forest_of}
 use Rattle.def_forest.specs.{Tables.IsValidFor, Valid.IsFeasible, Valid.IsValid, declared.kinds.EdgeKind.EdgeKind}
 use Rattle.def_forest.specs.declared.kinds.EdgeKind.TheVariants.{Loose, Idle}
-use Rattle.search_laws.specs.Keys.{true_key, IsMended}
+use Rattle.search_laws.specs.Keys.{true_key}
 use Rattle.search_laws.specs.Searches.{IsInRange, IsSeeking, risen_limit, turns_left}
 use Rattle.search_laws.proofs.{Counted.fewer_stale, Stepped.IsStep, Keys.keys_same, Keys.lawful, Risen.key_soon}
 use Rattle.search_laws.proofs.Risen.{risen_low, range_shifted}
@@ -16,7 +16,7 @@ use Rattle.qm_match.proofs.Mended.{made_with, mended_one}
 
 module _ {g : WeightedGraph} {s : Search} (way : IsUnderWay g s) where
   valid_at : IsValid (darts_of g) (forest_of s.forest) (Some way.tree.0)
-  valid_at = subst (λ (o : Option ℕ). IsValid (darts_of g) (forest_of s.forest) o) way.tree.1 way.valid.valid
+  valid_at = rw way.tree.1 at way.valid.valid
 
   sets : length g.edges + ((forest_of s.forest).size - g.n) ≤ length s.tour
   sets = omega (arith, way.made.size, way.made.leaves)
@@ -53,20 +53,10 @@ module _ {g : WeightedGraph} {s : Search} (way : IsUnderWay g s) where
     pub shifted_way : {t : ForestTables} (new : Search) (key : ℕ) → new ≡ record s { forest = t; risen = key }
         → key ≡ s.risen + x → IsValidFor g t → forest_of t ≡ shifted (forest_of s.forest) (pos x)
         → t.root ≡ s.forest.root → IsUnderWay g new
-    shifted_way new key e key_is valid shift_is root_is = subst (λ (y : Search). IsUnderWay g y) (sym e) (record {
-      made = record {
-        small = way.made.small;
-        cheap = way.made.cheap;
-        perfect = way.made.perfect;
-        fans = way.made.fans;
-        first = way.made.first;
-        low = way.made.low;
-        size = ap (λ (f : Forest). f.size) shift_is ∙ way.made.size;
-        leaves = way.made.leaves;
-        marks = way.made.marks;
-        members = way.made.members;
-        parts = way.made.parts;
-      };
+    shifted_way new key e key_is valid shift_is root_is = rw e (record {
+      made = (let made = way.made in
+          let size = ap (λ (f : Forest). f.size) shift_is ∙ made.size in
+          search rules);
       valid = valid;
       tree = (way.tree.0, root_is ∙ way.tree.1);
       low = λ k l. subst (λ (f : Forest). get_or s.tour k 0 ≤ true_key g f key k) (sym shift_is)
@@ -90,41 +80,31 @@ shifted_on g t u x e root v seeking = subst (λ (o : Option ℕ). IsSeeking g.n 
 -- A key was mended.
 pub mended_way : {g : WeightedGraph} {s : Search} {new : Search} (leaf : ℕ) → IsUnderWay g s → leaf < length s.tour
     → new ≡ record s { tour = set s.tour leaf (true_key g (forest_of s.forest) s.risen leaf) } → IsUnderWay g new
-mended_way {g} {s} leaf way l e = subst (λ (y : Search). IsUnderWay g y) (sym e) (record {
-  made = made_with keys way.made mended.size;
-  valid = way.valid;
-  tree = way.tree;
-  low = λ k lk. elim (mended.each k) [
-    | inl right ↦ omega (arith, right)
-    | inr same ↦ omega (arith, same, way.low k (omega (arith, lk, mended.size)))
-  ];
-  marked = way.marked;
-  range = way.range;
-})
-  where
-    keys : List ℕ
-    keys = set s.tour leaf (true_key g (forest_of s.forest) s.risen leaf)
-
-    mended : IsMended g (forest_of s.forest) s.risen s.tour
-        (set s.tour leaf (true_key g (forest_of s.forest) s.risen leaf))
-    mended = mended_one g (forest_of s.forest) s.risen s.tour
-        (set s.tour leaf (true_key g (forest_of s.forest) s.risen leaf)) leaf l refl
+mended_way {g} {s} leaf way l e =
+    let mended = mended_one g (forest_of s.forest) s.risen s.tour
+    (set s.tour leaf (true_key g (forest_of s.forest) s.risen leaf)) leaf l refl in
+    rw e (record {
+      made = made_with _ way.made mended.size;
+      valid = way.valid;
+      tree = way.tree;
+      low = λ k lk. elim (mended.each k) [
+        | inl right ↦ omega arith
+        | inr same ↦ omega (arith, way.low k (omega (arith, mended.size)))
+      ];
+      marked = way.marked;
+      range = way.range;
+    })
 
 pub mended_fewer : (g : WeightedGraph) (s : Search) {new : Search} (leaf : ℕ) → leaf < length s.tour
     → get_or s.tour leaf 0 ≢ true_key g (forest_of s.forest) s.risen leaf
     → new ≡ record s { tour = set s.tour leaf (true_key g (forest_of s.forest) s.risen leaf) }
     → turns_left g (forest_of new.forest) new.risen new.tour < turns_left g (forest_of s.forest) s.risen s.tour
-mended_fewer g s leaf l ne e = subst (λ (y : Search). turns_left g (forest_of y.forest) y.risen y.tour < turns_left
-    g (forest_of s.forest) s.risen s.tour) (sym e) (fewer_stale g (forest_of s.forest) s.risen leaf s.tour
+mended_fewer g s leaf l ne e = rw e (fewer_stale g (forest_of s.forest) s.risen leaf s.tour
     (set s.tour leaf (true_key g (forest_of s.forest) s.risen leaf)) l ne refl)
 
 -- A step is neither loose nor idle.
 pub not_loose : (k : EdgeKind) → IsStep k → k ≢ Loose
-not_loose k (inl e) f = cc
-not_loose k (inr (inl e)) f = cc
-not_loose k (inr (inr e)) f = cc
+not_loose k is f = elim is [ inl e ↦ cc | inr (inl e) ↦ cc | inr (inr e) ↦ cc ]
 
 pub not_idle : (k : EdgeKind) → IsStep k → k ≢ Idle
-not_idle k (inl e) f = cc
-not_idle k (inr (inl e)) f = cc
-not_idle k (inr (inr e)) f = cc
+not_idle k is f = elim is [ inl e ↦ cc | inr (inl e) ↦ cc | inr (inr e) ↦ cc ]

@@ -1,4 +1,4 @@
-use Rattle.std.proofs.Common.{◌≡◌, ◌+◌, ◌*◌, ◌<◌, ◌∙◌, length, pos, refl, sym, ap, subst, arith}
+use Rattle.std.proofs.Common.{◌≡◌, ◌+◌, ◌*◌, ◌<◌, ◌∙◌, length, refl, sym, ap, subst, arith}
 use Rattle.def_matching.specs.{declared.weighted.WEdge.WEdge}
 use Rattle.forest_laws.proofs.Graphs.{dart_near, near_odd}
 use Rattle.qm_match.specs.Fans.{AreFansOf}
@@ -9,10 +9,9 @@ pub loop-e-preserved : goal.loop-e-preserved
 loop-e-preserved c =
     let low : c.loop-e.e < length c.args.g.now.graph.edges =
     omega (arith, c.loop-e-test.true, c.loop-e.auto.e-end, c.edge_count-e-end.ensures.value) in
-    let first : AreFansOf c.args.g.now.graph (2 * c.loop-e.e + 1) c.put.new.fans.first.items c.put.new.fans.next.items
-    = put_more c.loop-e.invariant c.edge-edge.ensures.ends.0 (omega (arith, low))
-    (dart_near c.args.g.now.graph c.loop-e.e ∙ sym (ap (λ (x : WEdge). x.u) c.edge-edge.ensures.value))
-    c.put.ensures.next c.put.ensures.first in
+    let first : AreFansOf c.args.g.now.graph (2 * c.loop-e.e + 1) c.put.new.fans.first.items c.put.new.fans.next.items =
+    put_more c.loop-e.invariant c.edge-edge.ensures.ends.0 (omega (arith, low)) (dart_near c.args.g.now.graph c.loop-e.e
+    ∙ sym (ap (λ (x : WEdge). x.u) c.edge-edge.ensures.value)) c.put.ensures.next c.put.ensures.first in
     let second : AreFansOf c.args.g.now.graph (2 * c.loop-e.e + 1 + 1) c.put-in-loop-e.new.fans.first.items
     c.put-in-loop-e.new.fans.next.items = put_more first c.edge-edge.ensures.ends.1 (omega (arith, low))
     (near_odd c.args.g.now.graph (2 * c.loop-e.e + 1) c.loop-e.e refl ∙ sym

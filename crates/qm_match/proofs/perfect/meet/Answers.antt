@@ -14,7 +14,6 @@ loop-e-preserved c = record {
 }
 
 pub returns-clause-increasing : goal.returns-clause-increasing
-returns-clause-increasing c = λ yes. subst (IsIncreasing 0 (length c.args.g.now.graph.edges))
-    (take_all c.loop-e.e-index c.args.edges.now c.loop-e-test.false)
-    (increasing_to 0 c.loop-e.next (length c.args.g.now.graph.edges) (take c.loop-e.e-index c.args.edges.now)
-    c.loop-e.invariant.low c.loop-e.invariant.increasing)
+returns-clause-increasing c = λ yes. subst (IsIncreasing 0 (length c.args.g.now.graph.edges)) (take_all c.loop-e.e-index
+    c.args.edges.now c.loop-e-test.false) (increasing_to 0 c.loop-e.next (length c.args.g.now.graph.edges)
+    (take c.loop-e.e-index c.args.edges.now) c.loop-e.invariant.low c.loop-e.invariant.increasing)

@@ -1,8 +1,8 @@
-use Rattle.std.proofs.Common.{◌≡◌, ◌+◌, ◌<◌, ◌≤◌, length, slice_index, take}
-use Rattle.std.proofs.{Common.ℕ, Common.pos, Common.◌+ℤ◌, Common.ap, Common.rules, Common.arith, lemmas.Int.ints}
+use Rattle.std.proofs.Common.{◌≤◌, length, slice_index}
+use Rattle.std.proofs.{Common.ap, Common.rules, Common.arith, lemmas.Int.ints}
 use Rattle.std.proofs.{Common.FitsSigned}
 use mir.Syntax.{w64}
-use Rattle.def_matching.specs.{Matching.edge_at, Matching.matching_cost, declared.weighted.WEdge.WEdge}
+use Rattle.def_matching.specs.{declared.weighted.WEdge.WEdge}
 use Rattle.qm_match.proofs.{Costs.increasing_few, Costs.cost_take, Outcomes.increasing_low}
 use Rattle.qm_match.proofs.shown.cost_of.Goals as goal
 
@@ -12,15 +12,13 @@ edge-requires c = increasing_low 0 (length c.args.g.now.graph.edges) c.args.matc
 
 pub loop-edge-preserved : goal.loop-edge-preserved
 loop-edge-preserved c =
-    let k : ℕ = slice_index c.args.matching.now c.loop-edge.edge-index in
-    let low : k < length c.args.g.now.graph.edges = increasing_low 0 (length c.args.g.now.graph.edges)
-    c.args.matching.now c.requires.increasing c.loop-edge.edge-index c.loop-edge-test.true in
+    let k = slice_index c.args.matching.now c.loop-edge.edge-index in
+    let low = increasing_low 0 (length c.args.g.now.graph.edges) c.args.matching.now
+    c.requires.increasing c.loop-edge.edge-index c.loop-edge-test.true in
     let fits : FitsSigned w64 c.edge.result.cost = search rules in
     let few : length c.args.matching.now ≤ length c.args.g.now.graph.edges =
     omega (arith, increasing_few 0 (length c.args.g.now.graph.edges) c.args.matching.now c.requires.increasing) in
-    let more : matching_cost c.args.g.now.graph (take (c.loop-edge.edge-index + 1) c.args.matching.now) ≡ matching_cost
-    c.args.g.now.graph (take c.loop-edge.edge-index c.args.matching.now) +ℤ (edge_at c.args.g.now.graph k).cost =
-    cost_take c.args.g.now.graph c.args.matching.now c.loop-edge.edge-index c.loop-edge-test.true in
+    let more = cost_take c.args.g.now.graph c.args.matching.now c.loop-edge.edge-index c.loop-edge-test.true in
     record {
       value = omega (
         arith,

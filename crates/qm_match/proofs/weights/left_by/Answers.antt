@@ -1,4 +1,4 @@
-use Rattle.std.proofs.Common.{◌≡◌, ◌/◌, ◌<◌, ◌≤◌, ◌^◌, length, get_or}
+use Rattle.std.proofs.Common.{◌/◌, ◌<◌, ◌≤◌, ◌^◌, length, get_or}
 use Rattle.std.proofs.{Common.pos, Common.arith, lemmas.Int.ints}
 use Rattle.std.specs.Prelude.{unsigned_abs}
 use Rattle.qm_match.proofs.Raised.{cost_small}

@@ -17,28 +17,16 @@ loop-entry-smaller c =
 
 pub loop-entry-preserved : goal.loop-entry-preserved
 loop-entry-preserved c =
-    let low : c.loop-entry.entry - 1 < length c.args.fans.now.next.items =
-    omega (arith, c.requires.fans.darts, c.loop-entry.invariant.low, c.loop-entry-test.true) in
+    let low : c.loop-entry.entry - 1 < length c.args.fans.now.next.items = omega (arith, c.requires.fans.darts) in
     let read : c.index-entry-in-loop-entry.result.now ≡ get_or c.args.fans.now.next.items (c.loop-entry.entry - 1) 0 =
     get_or_read c.args.fans.now.next.items (c.loop-entry.entry - 1) _ low c.index-entry-in-loop-entry.ensures 0 in
+    let left = c.left_by-left.ensures in
     record {
       few = omega (arith, ints, c.min-room.ensures.self_bound, c.loop-entry.invariant.few);
-      low = omega (
-        arith,
-        read,
-        c.requires.fans.nexts (c.loop-entry.entry - 1),
-        c.loop-entry.invariant.low,
-        c.loop-entry-test.true,
-      );
+      low = omega (arith, c.requires.fans.nexts (c.loop-entry.entry - 1));
       done = chain_room c.args.fans.now.next.items (left_to c.args.g.now.graph c.args.y.now) _ _ c.loop-entry.entry
-          (c.loop-entry.entry - 1) _ (omega (arith, c.loop-entry-test.true)) read
-          (omega (arith, ints, c.min-room.ensures.self_bound)) (omega (
-            arith,
-            ints,
-            c.min-room.ensures.other_bound,
-            c.left_by-left.ensures.value,
-            c.left_by-left.ensures.small,
-          )) c.loop-entry.invariant.done;
+          (c.loop-entry.entry - 1) _ (omega arith) read (omega (arith, ints, c.min-room.ensures.self_bound))
+          (omega (arith, ints, c.min-room.ensures.other_bound, left.value, left.small)) c.loop-entry.invariant.done;
     }
 
 pub returns : goal.returns

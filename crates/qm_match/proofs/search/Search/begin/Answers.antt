@@ -17,8 +17,7 @@ pub returns-clause-way : goal.returns-clause-way
 returns-clause-way c = begun_way c.args.g.now.graph c.args.self.now c.root.new.self c.refresh.new.self c.args.v
     c.requires.idle (valid (goal.at.returns-clause-way c).After-root) c.refresh.ensures.refreshed c.root.ensures.changed
     c.root.ensures.root (right_in c.args.self.now c.root.new.self c.refresh.ensures.refreshed
-    (subst (λ x. IsFreshAt c.args.g.now.graph c.refresh.new.self x) c.outermost-b.ensures.value
-    c.refresh.ensures.here))
+    (subst (λ x. IsFreshAt c.args.g.now.graph c.refresh.new.self x) c.outermost-b.ensures.value c.refresh.ensures.here))
 
 pub returns-clause-seeking : goal.returns-clause-seeking
 returns-clause-seeking c = begun_seeking c.args.g.now.graph c.args.self.now c.root.new.self c.refresh.new.self c.args.v

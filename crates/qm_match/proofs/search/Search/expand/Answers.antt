@@ -1,7 +1,7 @@
-use Rattle.std.proofs.Common.{◌≡◌, ◌<◌, ◌∙◌, ℕ, get_or, refl, sym, subst, ap}
+use Rattle.std.proofs.Common.{◌≡◌, ◌<◌, ◌∙◌, get_or, refl, sym, subst, ap}
 use Rattle.def_forest.specs.Tables.{ForestTables, forest_of}
 use Rattle.search_laws.specs.Searches.{steps_left}
-use Rattle.qm_match.specs.States.{IsFreshAt, IsUnderWay, GoesOn, MayRefresh}
+use Rattle.qm_match.specs.States.{IsUnderWay, GoesOn, MayRefresh}
 use Rattle.qm_match.specs.declared.search.Search.{Search}
 use Rattle.qm_match.proofs.Taken.{expanded_less, expanded_on, expanded_way, inner_live, made_after, opened_may}
 use Rattle.qm_match.proofs.Taken.{opened_place, part_of, right_in, way_with_parts}
@@ -36,10 +36,9 @@ refresh_parts-requires c =
     let made = made_after c.expand.new.self (way at).made c.expand.ensures.changed.opened.size in
     record {
       made = made;
-      may = λ k l. subst (λ p. MayRefresh c.args.g.now.graph
-          (record c.list_parts.new.self { forest = c.expand.new.self }) p)
-          (ap (λ (t : ForestTables). part_of t c.args.b k) (forest_is at) ∙ sym
-          (c.list_parts.ensures.each k (subst (λ n. k < n) c.list_parts.ensures.count l)))
+      may = λ k l. subst (λ p. MayRefresh c.args.g.now.graph (record c.list_parts.new.self
+          { forest = c.expand.new.self }) p) (ap (λ (t : ForestTables). part_of t c.args.b k) (forest_is at)
+          ∙ sym (c.list_parts.ensures.each k (subst (λ n. k < n) c.list_parts.ensures.count l)))
           (opened_may (way at) c.expand.ensures.valid c.expand.ensures.changed k refl made);
     }
 
@@ -48,16 +47,13 @@ returns-clause-way c =
     let steps = (goal.at.returns-clause-way c).After-list_parts in
     let x = c.expand.ensures.changed in
     expanded_way (way steps) c.expand.ensures.valid c.refresh_parts.ensures.refreshed x c.expand.ensures.root
-    (λ j l. (let w : (k : ℕ) × (k < get_or c.list_parts.new.self.forest.parts c.args.b 0)
-    × (part_of c.list_parts.new.self.forest c.args.b k ≡ x.o.q j) = opened_place (way steps) c.expand.ensures.valid x j
-    l in
+    (λ j l. (let w = opened_place (way steps) c.expand.ensures.valid x j l in
     let few : w.0 < get_or c.args.self.now.forest.parts c.args.b 0 =
     subst (λ (t : ForestTables). w.0 < get_or t.parts c.args.b 0) (forest_is steps) w.1 in
-    let at : get_or c.list_parts.new.self.parts.items w.0 0 ≡ x.o.q j = c.list_parts.ensures.each w.0 few
-    ∙ (ap (λ (t : ForestTables). part_of t c.args.b w.0) (sym (forest_is steps)) ∙ w.2) in
+    let here : get_or c.list_parts.new.self.parts.items w.0 0 ≡ x.o.q j = c.list_parts.ensures.each w.0 few
+    ∙ ap (λ (t : ForestTables). part_of t c.args.b w.0) (sym (forest_is steps)) ∙ w.2 in
     right_in c.list_parts.new.self c.expand.new.self c.refresh_parts.ensures.refreshed
-    (subst (λ p. IsFreshAt c.args.g.now.graph c.refresh_parts.new.self p) at
-    (c.refresh_parts.ensures.here w.0 (subst (λ n. w.0 < n) (sym c.list_parts.ensures.count) few)))))
+    (rw here at (c.refresh_parts.ensures.here w.0 (rw c.list_parts.ensures.count few)))))
 
 pub returns-clause-goes_on : goal.returns-clause-goes_on
 returns-clause-goes_on c =

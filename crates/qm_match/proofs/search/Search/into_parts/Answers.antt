@@ -1,4 +1,3 @@
-use Rattle.def_matching.specs.{Dual.dual}
 use Rattle.qm_match.proofs.Outcomes.{bounded_dual, met_verdict, small_dual}
 use Rattle.qm_match.proofs.search.Search.into_parts.Goals as goal
 

@@ -27,9 +27,8 @@ loop-preserved c =
       here = c.next-part.ensures ∙ (ap (λ (s : Search). get_or s.forest.after c.loop.part 0) c.loop.invariant.same
           ∙ (ap (λ p. get_or c.args.self.now.forest.after p 0) c.loop.invariant.here
           ∙ ap (part_of c.args.self.now.forest c.args.b) one));
-      count = ap length pushed ∙ (length_push c.loop.self.parts.items c.loop.part
-          ∙ (let e : length c.loop.self.parts.items + 1 ≡ c.loop.counter + 1 =
-          omega (arith, c.loop.invariant.count) in e));
+      count = ap length pushed ∙ (length_push c.loop.self.parts.items c.loop.part ∙ (let e : length
+          c.loop.self.parts.items + 1 ≡ c.loop.counter + 1 = omega (arith, c.loop.invariant.count) in e));
       each = copied_more c.loop.self.parts.items (λ i. get_or c.args.self.now.forest.after i 0)
           (get_or c.args.self.now.forest.head c.args.b 0) pushed c.loop.invariant.count
           c.loop.invariant.here c.loop.invariant.each;

@@ -1,5 +1,5 @@
-use Rattle.std.proofs.Common.{refl, ◌≡◌, ◌∙◌, pos, None, Option, ℕ, subst, ap}
-use Rattle.def_matching.specs.{Matching.graph, declared.weighted.WEdge.WEdge}
+use Rattle.std.proofs.Common.{refl, ◌∙◌, None, Option, ℕ, subst, ap}
+use Rattle.def_matching.specs.{declared.weighted.WEdge.WEdge}
 use Rattle.def_forest.specs.{Darts.darts_of, Forests.Forest, Steps.rooted, Tables.forest_of, Tables.edge_kind}
 use Rattle.def_forest.specs.Valid.{IsValid}
 use Rattle.qm_match.proofs.Ready.{free_augments, matched_idle}

@@ -1,49 +1,40 @@
 use Rattle.std.proofs.Common.{◌≡◌, suc, ◌+◌, ◌∙◌, get_or, true, false, inl, inr, subst, ap, arith}
 use Rattle.std.proofs.lemmas.Bool.{cases_lt}
 use Rattle.def_forest.specs.Tables.{forest_of}
-use Rattle.search_laws.specs.Keys.{AreRightAt, IsMended}
-use Rattle.qm_match.specs.{States.IsMade, declared.search.Search.Search}
+use Rattle.search_laws.specs.Keys.{AreRightAt}
+use Rattle.qm_match.specs.{declared.search.Search.Search}
 use Rattle.qm_match.proofs.{Mended.mended_on, Mended.stay_right, Refreshed.made_members, Refreshed.members_twice}
 use Rattle.qm_match.proofs.Taken.{may_part_in, part_of}
 use Rattle.qm_match.proofs.search.Search.mend_parts.Goals as goal
 
 pub mend_marked-requires : goal.mend_marked-requires
 mend_marked-requires c =
-    let made : IsMade c.args.g.now.graph c.loop.self = made_members
-    c.requires.made c.loop.invariant.same c.loop.invariant.mended.size c.loop.invariant.room in
+    let made = made_members c.requires.made c.loop.invariant.same c.loop.invariant.mended.size c.loop.invariant.room in
     may_part_in c.args.self.now c.args.set c.loop.counter made c.requires.valid c.requires.set
     c.requires.live (ap (λ (s : Search). s.forest) c.loop.invariant.same) c.loop.invariant.here
 
 pub loop-preserved : goal.loop-preserved
 loop-preserved c =
     let one : suc c.loop.counter ≡ c.loop.counter + 1 = omega arith in
-    let mended : IsMended c.args.g.now.graph (forest_of c.args.self.now.forest) c.args.self.now.risen c.loop.self.tour
-    c.mend_marked.new.self.tour = subst (λ (s : Search). IsMended c.args.g.now.graph (forest_of s.forest) s.risen
-    c.loop.self.tour c.mend_marked.new.self.tour) c.loop.invariant.same c.mend_marked.ensures.mended in
-    let right : get_or c.args.self.now.inner.items c.loop.part false ≡ true
-    → AreRightAt c.args.g.now.graph (forest_of c.args.self.now.forest) c.args.self.now.risen
-    c.mend_marked.new.self.tour ((forest_of c.args.self.now.forest).holds c.loop.part) =
-    subst (λ (s : Search). get_or s.inner.items c.loop.part false ≡ true
-    → AreRightAt c.args.g.now.graph (forest_of s.forest) s.risen c.mend_marked.new.self.tour
-    ((forest_of s.forest).holds c.loop.part)) c.loop.invariant.same c.mend_marked.ensures.right in
+    let g = c.args.g.now.graph in
+    let s = c.args.self.now in
+    let f = forest_of s.forest in
+    let mended = rw c.loop.invariant.same at c.mend_marked.ensures.mended in
+    let right = rw c.loop.invariant.same at c.mend_marked.ensures.right in
     record {
-      same = members_twice c.args.self.now c.loop.invariant.same c.mend_marked.ensures.same;
+      same = members_twice s c.loop.invariant.same c.mend_marked.ensures.same;
       room = c.mend_marked.ensures.room;
-      here = c.next-part.ensures ∙ (ap (λ (s : Search). get_or s.forest.after c.loop.part 0) c.mend_marked.ensures.same
-          ∙ (ap (λ (s : Search). get_or s.forest.after c.loop.part 0) c.loop.invariant.same
-          ∙ (ap (λ p. get_or c.args.self.now.forest.after p 0) c.loop.invariant.here
-          ∙ ap (part_of c.args.self.now.forest c.args.set) one)));
-      mended = mended_on c.args.g.now.graph (forest_of c.args.self.now.forest) c.args.self.now.risen
-          c.loop.invariant.mended mended;
+      here = c.next-part.ensures ∙ ap (λ (s : Search). get_or s.forest.after c.loop.part 0) c.mend_marked.ensures.same
+          ∙ ap (λ (s : Search). get_or s.forest.after c.loop.part 0) c.loop.invariant.same ∙ ap (λ p. get_or
+          c.args.self.now.forest.after p 0) c.loop.invariant.here ∙ ap (part_of c.args.self.now.forest c.args.set) one;
+      mended = mended_on g f s.risen c.loop.invariant.mended mended;
       right = λ k l. elim (cases_lt k c.loop.counter) [
-        | inl lt ↦ (λ mark. stay_right c.args.g.now.graph (forest_of c.args.self.now.forest) c.args.self.now.risen
-            ((forest_of c.args.self.now.forest).holds (part_of c.args.self.now.forest c.args.set k)) mended
+        | inl lt ↦ (λ mark. stay_right g f s.risen (f.holds (part_of s.forest c.args.set k)) mended
             (c.loop.invariant.right k lt mark))
-        | inr ge ↦ (let e : c.loop.counter ≡ k = omega (arith, ge, l) in
-            subst (λ p. get_or c.args.self.now.inner.items p false ≡ true
-            → AreRightAt c.args.g.now.graph (forest_of c.args.self.now.forest) c.args.self.now.risen
-            c.mend_marked.new.self.tour ((forest_of c.args.self.now.forest).holds p)) (c.loop.invariant.here
-            ∙ ap (part_of c.args.self.now.forest c.args.set) e) right)
+        | inr ge ↦ (let e : c.loop.counter ≡ k = omega arith in
+            subst (λ p. get_or s.inner.items p false ≡ true
+            → AreRightAt g f s.risen c.mend_marked.new.self.tour (f.holds p)) (c.loop.invariant.here
+            ∙ ap (part_of s.forest c.args.set) e) right)
       ];
     }
 

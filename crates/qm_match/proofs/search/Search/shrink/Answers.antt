@@ -1,7 +1,7 @@
-use Rattle.std.proofs.Common.{◌≡◌, ◌<◌, pos, refl, sym, subst, ap}
+use Rattle.std.proofs.Common.{◌≡◌, ◌<◌, refl, sym, subst, ap}
 use Rattle.std.proofs.{Common.false}
 use Rattle.std.specs.Vec.{with_item}
-use Rattle.def_matching.specs.{Matching.graph, declared.weighted.WEdge.WEdge}
+use Rattle.def_matching.specs.{declared.weighted.WEdge.WEdge}
 use Rattle.qm_match.specs.States.{IsMade, IsRefreshed}
 use Rattle.qm_match.proofs.Taken.{closed_high, closed_live, closed_right, closed_set, made_after, shrunk_goes_on}
 use Rattle.qm_match.proofs.Taken.{shrunk_less, shrunk_way, unmarked}

@@ -1,4 +1,4 @@
-use Rattle.std.proofs.Common.{◌-◌, ◌<◌, length, arith}
+use Rattle.std.proofs.Common.{◌<◌, length, arith}
 use Rattle.def_forest.specs.Tables.{forest_of}
 use Rattle.search_laws.proofs.Stepped.{edge_step, set_step}
 use Rattle.qm_match.proofs.Turned.{not_idle, not_loose}

@@ -27,13 +27,7 @@ rise_to-requires c = record {
     key_high c.args.g.now.graph (forest_of c.args.self.now.forest) c.args.self.now.risen c.least_leaf-leaf.result
         (omega (arith, risen_few c.requires.way)),
   );
-  least = λ k l. omega (
-    arith,
-    c.least_leaf-leaf.ensures.least k 0 l,
-    c.requires.way.low k l,
-    c.key.ensures,
-    c.if-key.false,
-  );
+  least = λ k l. omega (arith, c.least_leaf-leaf.ensures.least k 0 l, c.requires.way.low k l, c.key.ensures);
 }
 
 pub step-requires : goal.step-requires
@@ -51,6 +45,5 @@ returns-clause-goes_on c = λ e v seeking. c.step.ensures.goes_on e v (c.rise_to
 pub returns-clause-fewer : goal.returns-clause-fewer
 returns-clause-fewer c = λ e. fewer_turns c.args.g.now.graph (forest_of c.args.self.now.forest)
     (forest_of c.step.new.self.forest) c.args.self.now.risen c.step.new.self.risen c.args.self.now.tour
-    c.step.new.self.tour ((c.step.ensures.way e).made.leaves ∙ sym c.requires.way.made.leaves)
-    (subst (λ n. steps_left c.args.g.now.graph.n (forest_of c.step.new.self.forest) < n) c.rise_to.ensures.steps
-    (c.step.ensures.fewer e))
+    c.step.new.self.tour ((c.step.ensures.way e).made.leaves ∙ sym c.requires.way.made.leaves) (subst (λ n. steps_left
+    c.args.g.now.graph.n (forest_of c.step.new.self.forest) < n) c.rise_to.ensures.steps (c.step.ensures.fewer e))
