@@ -1,7 +1,7 @@
 -- Climbing through nested sets, one set at a time.
 use Rattle.std.proofs.Common.{◌≡◌, ℕ, zero, suc, ◌+◌, ◌<◌, ◌≤◌, ◌≢◌, ◌==◌, ◌||◌, Bool, true, false, List, refl, sym}
 use Rattle.std.proofs.Common.{◌∙◌, ap, inl, inr, ◌⊎◌, arith}
-use Rattle.std.proofs.lemmas.Bool.{cases_eq, cases_lt, ne_eqb}
+use Rattle.std.proofs.lemmas.Bool.{or_right, cases_eq, cases_lt, ne_eqb}
 use Rattle.std.proofs.lemmas.Bool.Decides.{nat_tests}
 use Rattle.std.proofs.lemmas.List.{get_or_past}
 use Rattle.std.specs.Prelude.{slice_index}
@@ -20,12 +20,11 @@ entry_low n m up nested v l = elim (entry_later n m v (slice_index up v) (nested
 -- The set around a set is none, or a later one.
 pub set_later : (n m : ℕ) (up : List ℕ) → AreNestedSets n m up → (j : ℕ) → (slice_index up (n + j) ≡ 0)
     ⊎ ((j + 1 < slice_index up (n + j)) × (slice_index up (n + j) ≤ m))
-set_later n m up nested j =
-    elim (cases_lt j m) [ inl l ↦ inner l | inr h ↦ inl (get_or_past up (n + j) 0 (omega (arith, nested.entries))) ]
-  where
-    inner : j < m → (slice_index up (n + j) ≡ 0) ⊎ ((j + 1 < slice_index up (n + j)) × (slice_index up (n + j) ≤ m))
-    inner l = elim (entry_later n m (n + j) (slice_index up (n + j)) (nested.later (n + j) (omega arith)))
-        [ inl e ↦ inl e | inr h ↦ inr (omega arith, h.1) ]
+set_later n m up nested j = elim (cases_lt j m) [
+  | inl l ↦ elim (entry_later n m (n + j) (slice_index up (n + j)) (nested.later (n + j) (omega arith)))
+      [ inl e ↦ inl e | inr h ↦ inr (omega arith, h.1) ]
+  | inr h ↦ inl (get_or_past up (n + j) 0 (omega (arith, nested.entries)))
+]
 
 -- The same, where there is a set around it.
 pub around_later : (n m : ℕ) (up : List ℕ) → AreNestedSets n m up → (j q : ℕ) → slice_index up (n + j) ≡ suc q
@@ -42,20 +41,17 @@ more_steps n m up nested zero k zero low enough = refl
 more_steps n m up nested (suc steps) k zero low enough = refl
 more_steps n m up nested zero k (suc j) low enough = absurd (omega (arith, enough (λ e. omega arith)))
 more_steps n m up nested (suc steps) k (suc j) low enough =
-    let room : m < suc steps + suc j = enough (λ e. omega arith) in
-    let p : (slice_index up (n + j) ≡ 0) ⊎ ((j + 1 < slice_index up (n + j)) × (slice_index up (n + j) ≤ m)) =
-    set_later n m up nested j in
-    let rest : climbs n up (suc steps) k (slice_index up (n + j)) ≡ climbs n up steps k (slice_index up (n + j)) =
-    more_steps n m up nested steps k (slice_index up (n + j)) (omega arith) (λ ne. omega arith) in
-    ap (λ b. (j == k) || b) rest
+    let room = enough (λ e. omega arith) in
+    let p = set_later n m up nested j in
+    ap (λ b. (j == k) || b) (more_steps n m up nested steps k (slice_index up (n + j))
+    (omega arith) (λ ne. omega arith))
 
 -- One set up.
 pub climb_on : (n m : ℕ) (up : List ℕ) → AreNestedSets n m up → (k j : ℕ) → j < m → climbs n up m k (suc j)
     ≡ ((j == k) || climbs n up m k (slice_index up (n + j)))
 climb_on n zero up nested k j l = absurd (omega arith)
 climb_on n (suc steps) up nested k j l =
-    let p : (slice_index up (n + j) ≡ 0) ⊎ ((j + 1 < slice_index up (n + j)) × (slice_index up (n + j) ≤ suc steps)) =
-    set_later n (suc steps) up nested j in
+    let p = set_later n (suc steps) up nested j in
     ap (λ b. (j == k) || b) (sym (more_steps n (suc steps) up nested steps k (slice_index up (n + j)) (omega arith)
     (λ ne. omega arith)))
 
@@ -65,10 +61,7 @@ climb_none n up steps k = grind (arith)
 
 -- A set that is passed: it is the first, or passed from the set around that.
 pub passed_on : (j k : ℕ) (rest : Bool) → ((j == k) || rest) ≡ true → (j ≡ k) ⊎ (rest ≡ true)
-passed_on j k rest on = elim (cases_eq j k) [ inl e ↦ inl e | inr ne ↦ inr (later ne) ]
-  where
-    later : (j ≡ k → ⊥) → rest ≡ true
-    later ne = let off : (j == k) ≡ false = ne_eqb j k ne in sym (ap (λ b. b || rest) off) ∙ on
+passed_on j k rest on = elim (cases_eq j k) [ inl e ↦ inl e | inr ne ↦ inr (rw (ne_eqb j k ne) at on) ]
 
 -- Only later sets are passed.
 pub passed_later : (n m : ℕ) (up : List ℕ) → AreNestedSets n m up → (steps k entry : ℕ) → climbs n up steps k entry
@@ -76,17 +69,14 @@ pub passed_later : (n m : ℕ) (up : List ℕ) → AreNestedSets n m up → (ste
 passed_later n m up nested zero k entry on = absurd cc
 passed_later n m up nested (suc steps) k zero on = omega arith
 passed_later n m up nested (suc steps) k (suc j) on =
-    by_step (passed_on j k (climbs n up steps k (slice_index up (n + j))) on)
-    (passed_later n m up nested steps k (slice_index up (n + j)))
-  where
-    by_step : (j ≡ k) ⊎ (climbs n up steps k (slice_index up (n + j)) ≡ true)
-        → (climbs n up steps k (slice_index up (n + j)) ≡ true → slice_index up (n + j) ≤ suc k) → suc j ≤ suc k
-    by_step (inl e) rest = omega arith
-    by_step (inr there) rest = by_around (set_later n m up nested j) (rest there)
-      where
-        by_around : (slice_index up (n + j) ≡ 0) ⊎ ((j + 1 < slice_index up (n + j)) × (slice_index up (n + j) ≤ m))
-            → slice_index up (n + j) ≤ suc k → suc j ≤ suc k
-        by_around on le = grind (arith)
+    elim (passed_on j k (climbs n up steps k (slice_index up (n + j))) on) [
+      | inl e ↦ omega arith
+      | inr there ↦ (let le = passed_later n m up nested steps k (slice_index up (n + j)) there in
+          elim (set_later n m up nested j) [
+            | inl none ↦ absurd (cc (climb_none n up steps k))
+            | inr later ↦ omega arith
+          ])
+    ]
 
 -- Where climbing from a set passes another, what the other passes is passed.
 pub passed_further : (n m : ℕ) (up : List ℕ) → AreNestedSets n m up → (steps b k entry : ℕ) → entry ≤ m
@@ -94,22 +84,12 @@ pub passed_further : (n m : ℕ) (up : List ℕ) → AreNestedSets n m up → (s
 passed_further n m up nested zero b k entry low on further = absurd cc
 passed_further n m up nested (suc steps) b k zero low on further = absurd cc
 passed_further n m up nested (suc steps) b k (suc j) low on further =
-    by_step (passed_on j b (climbs n up steps b (slice_index up (n + j))) on)
-    (λ there. passed_further n m up nested steps b k (slice_index up (n + j)) (bound (set_later n m up nested j)) there
-    further)
-  where
-    bound : (slice_index up (n + j) ≡ 0) ⊎ ((j + 1 < slice_index up (n + j)) × (slice_index up (n + j) ≤ m))
-        → slice_index up (n + j) ≤ m
-    bound p = omega arith
-
-    or_true : (b c : Bool) → c ≡ true → (b || c) ≡ true
-    or_true b c on = grind (arith)
-
-    by_step : (j ≡ b) ⊎ (climbs n up steps b (slice_index up (n + j)) ≡ true)
-        → (climbs n up steps b (slice_index up (n + j)) ≡ true → climbs n up m k (slice_index up (n + j)) ≡ true)
-        → climbs n up m k (suc j) ≡ true
-    by_step (inl e) rest = ap (λ i. climbs n up m k (suc i)) e ∙ further
-    by_step (inr there) rest = climb_on n m up nested k j (omega arith) ∙ or_true (j == k) _ (rest there)
+    elim (passed_on j b (climbs n up steps b (slice_index up (n + j))) on) [
+      | inl e ↦ ap (λ i. climbs n up m k (suc i)) e ∙ further
+      | inr there ↦ (let p = set_later n m up nested j in
+          let rest = passed_further n m up nested steps b k (slice_index up (n + j)) (omega arith) there further in
+          climb_on n m up nested k j (omega arith) ∙ or_right (j == k) _ rest)
+    ]
 
 -- What is passed is one of the sets.
 pub passed_inner : (n m : ℕ) (up : List ℕ) → AreNestedSets n m up → (steps k entry : ℕ) → entry ≤ m
@@ -117,14 +97,8 @@ pub passed_inner : (n m : ℕ) (up : List ℕ) → AreNestedSets n m up → (ste
 passed_inner n m up nested zero k entry low on = absurd cc
 passed_inner n m up nested (suc steps) k zero low on = absurd cc
 passed_inner n m up nested (suc steps) k (suc j) low on =
-    by_step (passed_on j k (climbs n up steps k (slice_index up (n + j))) on)
-    (λ there. passed_inner n m up nested steps k (slice_index up (n + j)) (bound (set_later n m up nested j)) there)
-  where
-    bound : (slice_index up (n + j) ≡ 0) ⊎ ((j + 1 < slice_index up (n + j)) × (slice_index up (n + j) ≤ m))
-        → slice_index up (n + j) ≤ m
-    bound p = omega arith
-
-    by_step : (j ≡ k) ⊎ (climbs n up steps k (slice_index up (n + j)) ≡ true)
-        → (climbs n up steps k (slice_index up (n + j)) ≡ true → k < m) → k < m
-    by_step (inl e) rest = omega arith
-    by_step (inr there) rest = rest there
+    elim (passed_on j k (climbs n up steps k (slice_index up (n + j))) on) [
+      | inl e ↦ omega arith
+      | inr there ↦ (let p = set_later n m up nested j in
+          passed_inner n m up nested steps k (slice_index up (n + j)) (omega arith) there)
+    ]

@@ -40,28 +40,20 @@ around_step n d nested j l =
     (λ k lk. ap (λ b. cond b (z_at d k) (pos 0)) (climb_on n (length d.z) d.up nested k j l)
     ∙ by_tests k (cases_eq j k)) in
     let here : own j ≡ z_at d j = ap (λ b. cond b (z_at d j) (pos 0)) (eq-eqb j j refl) in
-    omega (
-      arith,
-      ints,
-      parts,
-      total_below_sum own rest (length d.z),
-      total_below_one own (length d.z) j l (λ k lk ne. ap (λ b. cond b (z_at d k) (pos 0))
-          (ne_eqb j k (λ e. ne (sym e)))),
-      here,
-    )
+    let sum = total_below_sum own rest (length d.z) in
+    let one = total_below_one own (length d.z) j l (λ k lk ne. ap (λ b. cond b (z_at d k) (pos 0))
+    (ne_eqb j k (λ e. ne (sym e)))) in
+    omega (arith, ints)
   where
     m : ℕ
     m = length d.z
 
     not_around_itself : climbs n d.up m j (slice_index d.up (n + j)) ≡ false
-    not_around_itself = by_around (set_later n m d.up nested j)
-      where
-        by_around : (slice_index d.up (n + j) ≡ 0)
-            ⊎ ((j + 1 < slice_index d.up (n + j)) × (slice_index d.up (n + j) ≤ m))
-            → climbs n d.up m j (slice_index d.up (n + j)) ≡ false
-        by_around (inl e) = ap (climbs n d.up m j) e ∙ climb_none n d.up m j
-        by_around (inr h) = false_from_ne_true _
-            (λ on. omega (arith, passed_later n m d.up nested m j (slice_index d.up (n + j)) on))
+    not_around_itself = elim (set_later n m d.up nested j) [
+      | inl e ↦ ap (climbs n d.up m j) e ∙ climb_none n d.up m j
+      | inr h ↦ false_from_ne_true _
+          (λ on. omega (arith, passed_later n m d.up nested m j (slice_index d.up (n + j)) on))
+    ]
 
     by_tests : (k : ℕ) → (j ≡ k) ⊎ (j ≡ k → ⊥) → cond ((j == k) || climbs n d.up m k (slice_index d.up (n + j)))
         (z_at d k) (pos 0) ≡ cond (j == k) (z_at d k) (pos 0) +ℤ cond (climbs n d.up m k (slice_index d.up (n + j)))
@@ -102,14 +94,9 @@ apart_is n d a b entry meets =
     total_below_same _ _ (length d.z)
     (λ k l. ap (λ x. crossing k +ℤ (cond x (z_at d k) (pos 0) +ℤ cond x (z_at d k) (pos 0))) (meets k)
     ∙ grind (arith, ints)) in
-    omega (
-      arith,
-      ints,
-      parts,
-      total_below_sum crossing (λ k. both k +ℤ both k) (length d.z),
-      total_below_sum both both (length d.z),
-      total_below_sum left right (length d.z),
-    )
+    let one = total_below_sum crossing (λ k. both k +ℤ both k) (length d.z) in
+    let two = total_below_sum both both (length d.z) in
+    omega (arith, ints, total_below_sum left right (length d.z))
 
 -- The sum of a named set is small.
 pub named_small : (n : ℕ) (d : DualLists) (sums : List ℤ) → AreSums n d 0 sums → AreSmall d.z → (entry : ℕ)
@@ -122,14 +109,9 @@ pub apart_sums : (n : ℕ) (d : DualLists) (sums : List ℤ) → AreSums n d 0 s
     → b ≤ length d.z → entry ≤ length d.z → IsMeeting n (length d.z) d.up a b entry
     → apart n d a b ≡ (named_sum sums a +ℤ named_sum sums b) -ℤ (named_sum sums entry +ℤ named_sum sums entry)
 apart_sums n d sums are a b entry la lb le meets =
-    omega (
-      arith,
-      ints,
-      apart_is n d a b entry meets,
-      named_around n d sums are a la,
-      named_around n d sums are b lb,
-      named_around n d sums are entry le,
-    )
+    let at_a = named_around n d sums are a la in
+    let at_b = named_around n d sums are b lb in
+    omega (arith, ints, apart_is n d a b entry meets, named_around n d sums are entry le)
 
 -- The sum that the code makes of three small numbers wraps nowhere.
 pub plain_difference : (x y z : ℤ) → unsigned_abs x ≤ 2 ^ 30 * 10 ^ 18 → unsigned_abs y ≤ 2 ^ 30 * 10 ^ 18

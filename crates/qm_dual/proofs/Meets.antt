@@ -24,44 +24,21 @@ leave_path n m up heads nested are a b t la lb top lower k =
   where
     there : (climbs n up m k (suc a) && climbs n up m k (suc b)) ≡ true
         → (climbs n up m k (slice_index up (n + t)) && climbs n up m k (suc b)) ≡ true
-    there on = by_both (and_parts (climbs n up m k (suc a)) (climbs n up m k (suc b)) on)
-      where
-        by_both : (climbs n up m k (suc a) ≡ true) × (climbs n up m k (suc b) ≡ true)
-            → (climbs n up m k (slice_index up (n + t)) && climbs n up m k (suc b)) ≡ true
-        by_both both = by_past (past_head n m up heads nested are m k a t la top both.0)
-            (head_of_passed n m up heads nested are m k b lb both.1)
-          where
-            past : (further : ℕ) × (climbs n up further k (slice_index up (n + t)) ≡ true)
-                → (climbs n up m k (slice_index up (n + t)) && climbs n up m k (suc b)) ≡ true
-            past p = and_from _ _ (passed_further n m up nested p.0 k k (slice_index up (n + t)) low p.1
-                (passes_itself n m up nested k inner)) both.1
-              where
-                low : slice_index up (n + t) ≤ m
-                low = let p : (slice_index up (n + t) ≡ 0)
-                    ⊎ ((t + 1 < slice_index up (n + t)) × (slice_index up (n + t) ≤ m)) = set_later n m up nested t in
-                    omega arith
-
-                inner : k < m
-                inner = passed_inner n m up nested m k (suc a) (omega arith) both.0
-
-            by_past : (slice_index heads k ≡ suc t)
-                ⊎ ((further : ℕ) × (climbs n up further k (slice_index up (n + t)) ≡ true))
-                → (slice_index heads b ≡ slice_index heads k) ⊎ (slice_index heads b ≤ k)
-                → (climbs n up m k (slice_index up (n + t)) && climbs n up m k (suc b)) ≡ true
-            by_past (inr p) other = past p
-            by_past (inl e) (inl f) = absurd (omega arith)
-            by_past (inl e) (inr f) =
-                absurd (omega (
-                  arith,
-                  head_later n m up heads nested are m k (omega arith)
-                      (passed_inner n m up nested m k (suc a) (omega arith) both.0),
-                ))
+    there on = let both = and_parts (climbs n up m k (suc a)) (climbs n up m k (suc b)) on in
+        let inner = passed_inner n m up nested m k (suc a) (omega arith) both.0 in
+        elim (past_head n m up heads nested are m k a t la top both.0) [
+          | inr p ↦ (let around = set_later n m up nested t in
+              and_from _ _ (passed_further n m up nested p.0 k k (slice_index up (n + t)) (omega arith) p.1
+              (passes_itself n m up nested k inner)) both.1)
+          | inl e ↦ (let high = head_later n m up heads nested are m k (omega arith) inner in
+              elim (head_of_passed n m up heads nested are m k b lb both.1)
+              [ inl f ↦ absurd (omega arith) | inr f ↦ absurd (omega arith) ])
+        ]
 
     back : (climbs n up m k (slice_index up (n + t)) && climbs n up m k (suc b)) ≡ true
         → (climbs n up m k (suc a) && climbs n up m k (suc b)) ≡ true
     back on =
-        let both : (climbs n up m k (slice_index up (n + t)) ≡ true) × (climbs n up m k (suc b) ≡ true) =
-        and_parts (climbs n up m k (slice_index up (n + t))) (climbs n up m k (suc b)) on in
+        let both = and_parts (climbs n up m k (slice_index up (n + t))) (climbs n up m k (suc b)) on in
         and_from _ _ (from_head n m up heads nested are m k a t (omega arith) la top both.0) both.1
 
 -- On one path the later set is the least around both.

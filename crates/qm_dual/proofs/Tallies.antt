@@ -1,7 +1,8 @@
 -- The sizes of nested sets, as the sets pass on what they hold in their order.
 use Rattle.std.proofs.Common.{◌≡◌, ℕ, zero, suc, ◌+◌, ◌<◌, ◌≤◌, ◌≢◌, ◌==◌, ◌||◌, Bool, true, false, cond, min, List}
 use Rattle.std.proofs.Common.{length, refl, sym, ◌∙◌, ap, subst, inl, inr, ◌⊎◌, arith}
-use Rattle.std.proofs.lemmas.Bool.{cases_eq, cases_lt, eq-eqb, ne_eqb, false_from_ne_true, cond-true, cond-false}
+use Rattle.std.proofs.lemmas.Bool.{or_left, cases_eq, cases_lt, eq-eqb, ne_eqb, false_from_ne_true, cond-true}
+use Rattle.std.proofs.lemmas.Bool.{cond-false}
 use Rattle.std.proofs.lemmas.List.{get_or_past, length-set, get_or-set_same, get_or-set_other}
 use Rattle.std.specs.Prelude.{slice_index}
 use Rattle.def_math.specs.Counts.{count_below}
@@ -20,58 +21,47 @@ pub stands_later : (n m : ℕ) (up : List ℕ) → AreNestedSets n m up → (t e
     → ((stand_of n up t entry ≡ 0) ⊎ (t < stand_of n up t entry)) × (stand_of n up t entry ≤ m)
 stands_later n m up nested zero entry low = (grind arith, low)
 stands_later n m up nested (suc t) entry low =
-    by_test (cases_eq (stand_of n up t entry) (suc t)) (stands_later n m up nested t entry low)
-  where
-    by_test : (stand_of n up t entry ≡ suc t) ⊎ (stand_of n up t entry ≡ suc t → ⊥)
-        → ((stand_of n up t entry ≡ 0) ⊎ (t < stand_of n up t entry)) × (stand_of n up t entry ≤ m)
-        → ((stand_of n up (suc t) entry ≡ 0) ⊎ (suc t < stand_of n up (suc t) entry))
-        × (stand_of n up (suc t) entry ≤ m)
-    by_test (inl e) before =
-        let is : stand_of n up (suc t) entry ≡ slice_index up (n + t) =
-        cond-true _ _ _ (eq-eqb (stand_of n up t entry) (suc t) e) in
-        let p : (slice_index up (n + t) ≡ 0) ⊎ ((t + 1 < slice_index up (n + t)) × (slice_index up (n + t) ≤ m)) =
-        set_later n m up nested t in
-        elim p [ inl z ↦ (inl (is ∙ z), omega arith) | inr h ↦ (inr (omega arith), omega arith) ]
-    by_test (inr ne) before =
-        let is : stand_of n up (suc t) entry ≡ stand_of n up t entry =
-        cond-false _ _ _ (ne_eqb (stand_of n up t entry) (suc t) ne) in
-        elim before.0 [ inl z ↦ (inl (is ∙ z), omega arith) | inr h ↦ (inr (omega arith), omega arith) ]
+    let before = stands_later n m up nested t entry low in
+    elim (cases_eq (stand_of n up t entry) (suc t)) [
+      | inl e ↦ (let is : stand_of n up (suc t) entry ≡ slice_index up (n + t) =
+          cond-true _ _ _ (eq-eqb (stand_of n up t entry) (suc t) e) in
+          elim (set_later n m up nested t)
+          [ inl z ↦ (inl (is ∙ z), omega arith) | inr h ↦ (inr (omega arith), omega arith) ])
+      | inr ne ↦ (let is : stand_of n up (suc t) entry ≡ stand_of n up t entry =
+          cond-false _ _ _ (ne_eqb (stand_of n up t entry) (suc t) ne) in
+          elim before.0 [ inl z ↦ (inl (is ∙ z), omega arith) | inr h ↦ (inr (omega arith), omega arith) ])
+    ]
 
 -- Passing on changes nothing for the later sets.
 pub climb_from_stand : (n m : ℕ) (up : List ℕ) → AreNestedSets n m up → (t k entry : ℕ) → t ≤ k → k < m
     → climbs n up m k (stand_of n up t entry) ≡ climbs n up m k entry
 climb_from_stand n m up nested zero k entry le l = refl
-climb_from_stand n m up nested (suc t) k entry le l = by_test (cases_eq (stand_of n up t entry) (suc t))
-    ∙ climb_from_stand n m up nested t k entry (omega arith) l
-  where
-    by_test : (stand_of n up t entry ≡ suc t) ⊎ (stand_of n up t entry ≡ suc t → ⊥)
-        → climbs n up m k (stand_of n up (suc t) entry) ≡ climbs n up m k (stand_of n up t entry)
-    by_test (inl e) =
-        let is : stand_of n up (suc t) entry ≡ slice_index up (n + t) =
-        cond-true _ _ _ (eq-eqb (stand_of n up t entry) (suc t) e) in
-        let off : (t == k) ≡ false = ne_eqb t k (λ same. omega arith) in
-        let on : climbs n up m k (suc t) ≡ climbs n up m k (slice_index up (n + t)) =
-        climb_on n m up nested k t (omega arith) ∙ ap (λ x. x || climbs n up m k (slice_index up (n + t))) off in
-        ap (climbs n up m k) is ∙ (sym on ∙ ap (climbs n up m k) (sym e))
-    by_test (inr ne) = ap (climbs n up m k) (cond-false _ _ _ (ne_eqb (stand_of n up t entry) (suc t) ne))
+climb_from_stand n m up nested (suc t) k entry le l =
+    let rest = climb_from_stand n m up nested t k entry (omega arith) l in
+    elim (cases_eq (stand_of n up t entry) (suc t)) [
+      | inl e ↦ (let is : stand_of n up (suc t) entry ≡ slice_index up (n + t) =
+          cond-true _ _ _ (eq-eqb (stand_of n up t entry) (suc t) e) in
+          let on = climb_on n m up nested k t (omega arith)
+          ∙ ap (λ x. x || climbs n up m k (slice_index up (n + t))) (ne_eqb t k (λ same. omega arith)) in
+          ap (climbs n up m k) is ∙ sym on ∙ ap (climbs n up m k) (sym e) ∙ rest)
+      | inr ne ↦ ap (climbs n up m k) (cond-false _ _ _ (ne_eqb (stand_of n up t entry) (suc t) ne)) ∙ rest
+    ]
 
 -- A climb passes a set exactly if it stands there when the sets below it have passed on.
 pub climb_stands : (n m : ℕ) (up : List ℕ) → AreNestedSets n m up → (k entry : ℕ) → entry ≤ m → k < m
     → (stand_of n up k entry == suc k) ≡ climbs n up m k entry
-climb_stands n m up nested k entry low l = by_stand (stands_later n m up nested k entry low)
-    ∙ climb_from_stand n m up nested k k entry (omega arith) l
-  where
-    by_stand : ((stand_of n up k entry ≡ 0) ⊎ (k < stand_of n up k entry)) × (stand_of n up k entry ≤ m)
-        → (stand_of n up k entry == suc k) ≡ climbs n up m k (stand_of n up k entry)
-    by_stand (inl z, high) = ne_eqb (stand_of n up k entry) (suc k) (λ e. omega arith)
-        ∙ sym (ap (climbs n up m k) z ∙ climb_none n up m k)
-    by_stand (inr later, high) = elim (cases_eq (stand_of n up k entry) (suc k)) [
-      | inl e ↦ eq-eqb (stand_of n up k entry) (suc k) e
-          ∙ sym (ap (climbs n up m k) e
-          ∙ (climb_on n m up nested k k l ∙ ap (λ x. x || climbs n up m k (slice_index up (n + k)))
-          (eq-eqb k k refl)))
-      | inr ne ↦ ne_eqb (stand_of n up k entry) (suc k) ne
-          ∙ sym (false_from_ne_true _ (λ on. omega (arith, passed_later n m up nested m k (stand_of n up k entry) on)))
+climb_stands n m up nested k entry low l =
+    let stand = stand_of n up k entry in
+    let rest = climb_from_stand n m up nested k k entry (omega arith) l in
+    let later = stands_later n m up nested k entry low in
+    elim later.0 [
+      | inl z ↦ ne_eqb stand (suc k) (λ e. omega arith) ∙ sym (ap (climbs n up m k) z ∙ climb_none n up m k) ∙ rest
+      | inr past ↦ elim (cases_eq stand (suc k)) [
+        | inl e ↦ eq-eqb stand (suc k) e ∙ sym (ap (climbs n up m k) e ∙ climb_on n m up nested k k l
+            ∙ or_left (k == k) _ (eq-eqb k k refl)) ∙ rest
+        | inr ne ↦ ne_eqb stand (suc k) ne
+            ∙ sym (false_from_ne_true _ (λ on. omega (arith, passed_later n m up nested m k stand on))) ∙ rest
+      ]
     ]
 
 -- What a set passes on comes to the set around it, and to no other.
@@ -141,7 +131,25 @@ pub tallies_pass : (n m : ℕ) (up : List ℕ) → AreNestedSets n m up → (k :
 tallies_pass n m up nested k sizes lk are =
     record {
       count = length_with sizes (slice_index up (n + k)) (slice_index sizes k) ∙ are.count;
-      each = λ j l. by_order j l (cases_lt k j);
+      each = λ j l. elim (cases_lt k j) [
+        | inl after ↦ (let low : min j k ≡ k = omega arith in
+            let old = are.each j l ∙ ap (λ i. tally n up n i j) low in
+            let self : min k k ≡ k = omega arith in
+            let own = are.each k lk ∙ ap (λ i. tally n up n i k) self in
+            let next : min j (k + 1) ≡ suc k = omega arith in
+            let step = ap (λ i. tally n up n i j) next ∙ tally_step n up n k j (λ e. omega arith) in
+            elim (cases_eq (slice_index up (n + k)) (suc j)) [
+              | inl e ↦ (let on = cond-true (slice_index up (n + k) == suc j) (tally n up n k k) 0
+                  (eq-eqb (slice_index up (n + k)) (suc j) e) in
+                  omega (arith, moved j l (slice_index up (n + k)) e))
+              | inr ne ↦ (let off = cond-false (slice_index up (n + k) == suc j) (tally n up n k k) 0
+                  (ne_eqb (slice_index up (n + k)) (suc j) ne) in
+                  omega (arith, unmoved j ne (slice_index up (n + k)) refl))
+            ])
+        | inr before ↦ (let p = set_later n m up nested k in
+            let is : min j k ≡ min j (k + 1) = omega arith in
+            unmoved j (λ e. omega arith) (slice_index up (n + k)) refl ∙ are.each j l ∙ ap (λ i. tally n up n i j) is)
+      ];
     }
   where
     unmoved : (j : ℕ) → (slice_index up (n + k) ≡ suc j → ⊥) → (entry : ℕ) → slice_index up (n + k) ≡ entry
@@ -158,44 +166,6 @@ tallies_pass n m up nested k sizes lk are =
         subst (λ (i : ℕ). slice_index (tally_with sizes (suc i) (slice_index sizes k)) j
         ≡ slice_index sizes j + slice_index sizes k) (sym e)
         (get_or-set_same sizes j (slice_index sizes j + slice_index sizes k) 0 (omega (arith, are.count)))
-
-    by_order : (j : ℕ) → j < m → (k < j) ⊎ (j ≤ k)
-        → slice_index (tally_with sizes (slice_index up (n + k)) (slice_index sizes k)) j
-        ≡ tally n up n (min j (k + 1)) j
-    by_order j l (inl after) = elim (cases_eq (slice_index up (n + k)) (suc j)) [ inl e ↦ here e | inr ne ↦ there ne ]
-      where
-        old : slice_index sizes j ≡ tally n up n k j
-        old = let is : min j k ≡ k = omega arith in are.each j l ∙ ap (λ i. tally n up n i j) is
-
-        own : slice_index sizes k ≡ tally n up n k k
-        own = let is : min k k ≡ k = omega arith in are.each k lk ∙ ap (λ i. tally n up n i k) is
-
-        step : tally n up n (min j (k + 1)) j ≡ tally n up n k j + cond (slice_index up (n + k) == suc j)
-            (tally n up n k k) 0
-        step = let is : min j (k + 1) ≡ suc k = omega arith in ap (λ i. tally n up n i j) is
-            ∙ tally_step n up n k j (λ e. omega arith)
-
-        here : slice_index up (n + k) ≡ suc j
-            → slice_index (tally_with sizes (slice_index up (n + k)) (slice_index sizes k)) j
-            ≡ tally n up n (min j (k + 1)) j
-        here e =
-            let on : cond (slice_index up (n + k) == suc j) (tally n up n k k) 0 ≡ tally n up n k k =
-            cond-true _ _ _ (eq-eqb (slice_index up (n + k)) (suc j) e) in
-            omega (arith, moved j l (slice_index up (n + k)) e, old, own, step, on)
-
-        there : (slice_index up (n + k) ≡ suc j → ⊥)
-            → slice_index (tally_with sizes (slice_index up (n + k)) (slice_index sizes k)) j
-            ≡ tally n up n (min j (k + 1)) j
-        there ne =
-            let off : cond (slice_index up (n + k) == suc j) (tally n up n k k) 0 ≡ 0 =
-            cond-false _ _ _ (ne_eqb (slice_index up (n + k)) (suc j) ne) in
-            omega (arith, unmoved j ne (slice_index up (n + k)) refl, old, step, off)
-    by_order j l (inr before) =
-        let p : (slice_index up (n + k) ≡ 0) ⊎ ((k + 1 < slice_index up (n + k)) × (slice_index up (n + k) ≤ m)) =
-        set_later n m up nested k in
-        let is : min j k ≡ min j (k + 1) = omega arith in
-        let same : tally n up n (min j k) j ≡ tally n up n (min j (k + 1)) j = ap (λ i. tally n up n i j) is in
-        unmoved j (λ e. omega arith) (slice_index up (n + k)) refl ∙ (are.each j l ∙ same)
 
 -- When all sets have passed on, the tallies are the sizes.
 pub tallies_end : (n : ℕ) (d : DualLists) → AreNestedSets n (length d.z) d.up → (t : ℕ) (sizes : List ℕ)

@@ -50,64 +50,45 @@ no_shape_fault n d ny nested =
     rw (first, second) rest
 
 pub yes_says : (g : WeightedGraph) (d : DualLists) (s : ℤ) → verdict g d ≡ Yes s → SaysYes g d × (s ≡ dual_sum d)
-yes_says g d s is = (
-  record {
-    numbers = shape.0;
-    nested = shape.1;
-    odd = λ k l. not-false _ (none_below (λ j. not (is_odd_size (set_size g.n d j))) (length d.z) b.0 k l);
-    positive = λ k l. high (z_at d k) (none_below (λ j. int_lt (z_at d j) (pos 0)) (length d.z) c.0 k l);
-    loaded = λ k l. not_above (load g.n d (edge_at g k)) (pos 2 *ℤ (edge_at g k).cost)
-        (none_below (λ j. int_lt (pos 2 *ℤ (edge_at g j).cost) (load g.n d (edge_at g j))) (length g.edges) e.0 k l);
-  },
-  same e.1,
-)
+yes_says g d s is =
+    let last = Yes (dual_sum d) in
+    let fourth = refuse (short_fault g d)
+    (λ k. Short k (load g.n d (edge_at g k)) (pos 2 *ℤ (edge_at g k).cost)) last in
+    let third = refuse (negative_fault d) (λ k. Negative k) fourth in
+    let second = refuse (even_fault g.n d) (λ k. Even k (set_size g.n d k)) third in
+    let a = not_refused (shape_fault g.n d) (λ i. Shape i) second s (λ k e. absurd cc) is in
+    let b = not_refused (even_fault g.n d) (λ k. Even k (set_size g.n d k)) third s (λ k e. absurd cc) a.1 in
+    let c = not_refused (negative_fault d) (λ k. Negative k) fourth s (λ k e. absurd cc) b.1 in
+    let e = not_refused (short_fault g d) (λ k. Short k (load g.n d (edge_at g k)) (pos 2 *ℤ (edge_at g k).cost))
+    last s (λ k e. absurd cc) c.1 in
+    let shape = shaped g.n d a.0 in
+    let same = e.1 in (
+      record {
+        numbers = shape.0;
+        nested = shape.1;
+        odd = λ k l. not-false _ (none_below (λ j. not (is_odd_size (set_size g.n d j))) (length d.z) b.0 k l);
+        positive = λ k l. high (z_at d k) (none_below (λ j. int_lt (z_at d j) (pos 0)) (length d.z) c.0 k l);
+        loaded = λ k l. not_above (load g.n d (edge_at g k)) (pos 2 *ℤ (edge_at g k).cost)
+            (none_below (λ j. int_lt (pos 2 *ℤ (edge_at g j).cost) (load g.n d (edge_at g j)))
+            (length g.edges) e.0 k l);
+      },
+      cc,
+    )
   where
-    last : Verdict
-    last = Yes (dual_sum d)
-
-    fourth : Verdict
-    fourth = refuse (short_fault g d) (λ k. Short k (load g.n d (edge_at g k)) (pos 2 *ℤ (edge_at g k).cost)) last
-
-    third : Verdict
-    third = refuse (negative_fault d) (λ k. Negative k) fourth
-
-    second : Verdict
-    second = refuse (even_fault g.n d) (λ k. Even k (set_size g.n d k)) third
-
-    a : (shape_fault g.n d ≡ None) × (second ≡ Yes s)
-    a = not_refused (shape_fault g.n d) (λ i. Shape i) second s (λ k e. absurd cc) is
-
-    b : (even_fault g.n d ≡ None) × (third ≡ Yes s)
-    b = not_refused (even_fault g.n d) (λ k. Even k (set_size g.n d k)) third s (λ k e. absurd cc) a.1
-
-    c : (negative_fault d ≡ None) × (fourth ≡ Yes s)
-    c = not_refused (negative_fault d) (λ k. Negative k) fourth s (λ k e. absurd cc) b.1
-
-    e : (short_fault g d ≡ None) × (last ≡ Yes s)
-    e = not_refused (short_fault g d) (λ k. Short k (load g.n d (edge_at g k)) (pos 2 *ℤ (edge_at g k).cost)) last s
-        (λ k e. absurd cc) c.1
-
-    shape : (length d.y ≡ g.n) × AreNestedSets g.n (length d.z) d.up
-    shape = shaped g.n d a.0
-
     high : (z : ℤ) → int_lt z (pos 0) ≡ false → pos 0 ≤ℤ z
     high z off = grind (arith, ints)
 
     not_above : (x y : ℤ) → int_lt y x ≡ false → x ≤ℤ y
     not_above x y off = grind (arith, ints)
 
-    same : Yes (dual_sum d) ≡ Yes s → s ≡ dual_sum d
-    same is = cc
-
 pub says_yes : (g : WeightedGraph) (d : DualLists) → SaysYes g d → verdict g d ≡ Yes (dual_sum d)
 says_yes g d says =
-    let shape : shape_fault g.n d ≡ None = no_shape_fault g.n d says.numbers says.nested in
-    let even : even_fault g.n d ≡ None = least_none (λ k. not (is_odd_size (set_size g.n d k))) (length d.z)
+    let shape = no_shape_fault g.n d says.numbers says.nested in
+    let even = least_none (λ k. not (is_odd_size (set_size g.n d k))) (length d.z)
     (λ k l. ap not (says.odd k l)) in
-    let negative : negative_fault d ≡ None =
-    least_none (λ k. int_lt (z_at d k) (pos 0)) (length d.z) (λ k l. grind (arith, ints, says.positive k l)) in
-    let short : short_fault g d ≡ None =
-    least_none (λ k. int_lt (pos 2 *ℤ (edge_at g k).cost) (load g.n d (edge_at g k))) (length g.edges)
+    let negative = least_none (λ k. int_lt (z_at d k) (pos 0)) (length d.z)
+    (λ k l. grind (arith, ints, says.positive k l)) in
+    let short = least_none (λ k. int_lt (pos 2 *ℤ (edge_at g k).cost) (load g.n d (edge_at g k))) (length g.edges)
     (λ k l. grind (arith, ints, says.loaded k l)) in
     rw (shape, even, negative, short) refl
 
@@ -115,7 +96,7 @@ says_yes g d says =
 pub yes_bounds : (g : WeightedGraph) (d : DualLists) (v : Verdict) → IsGraph g → v ≡ verdict g d → (s : ℤ) → v ≡ Yes s
     → (m : List ℕ) → IsPerfect g m → s ≤ℤ (pos 2 *ℤ matching_cost g m)
 yes_bounds g d v is value s here m perfect =
-    let says : SaysYes g d × (s ≡ dual_sum d) = yes_says g d s (sym value ∙ here) in
+    let says = yes_says g d s (sym value ∙ here) in
     rw says.1 (weak_duality g d is says.0 m perfect)
 
 -- A dual of the right lengths, with no entry out of range.

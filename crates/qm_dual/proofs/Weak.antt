@@ -1,5 +1,7 @@
 -- Weak duality: where a dual says yes, each perfect matching has twice its cost at least the dual's sum.
-use Rattle.std.proofs.Common.{◌≡◌, ℕ, ◌+◌, ◌*◌, ◌%◌, ◌<◌, ◌≤◌, Bool, true, false, cond, List, [], ◌∷◌, map, length, ℤ}
+use Rattle.std.proofs.Common.{inl, inr, ◌≡◌, ℕ, ◌+◌, ◌*◌, ◌%◌, ◌<◌, ◌≤◌, Bool, true, cond, List, [], ◌∷◌, map}
+use Rattle.std.proofs.Common.{length, ℤ}
+use Rattle.std.proofs.lemmas.Bool.{cases_Bool}
 use Rattle.std.proofs.lemmas.Int.{ints}
 use Rattle.std.proofs.lemmas.Bool.Decides.{nat_tests}
 use Rattle.std.proofs.Common.{pos, ◌+ℤ◌, ◌*ℤ◌, ◌≤ℤ◌, refl, arith}
@@ -47,29 +49,20 @@ leaving_high s z (e ∷ es) high = grind (arith, ints, leaving_high s z es high)
 pub at_least_once : (s : ℕ → Bool) (z : ℤ) (es : List WEdge) → pos 0 ≤ℤ z → 1 ≤ count (leaving s) es
     → z ≤ℤ total (λ e. cond (crosses s e) z (pos 0)) es
 at_least_once s z [] high some = absurd (omega arith)
-at_least_once s z (e ∷ es) high some = by_test (crosses s e) some (at_least_once s z es high) (leaving_high s z es high)
-  where
-    by_test : (b : Bool) → 1 ≤ cond b 1 0 + count (leaving s) es
-        → (1 ≤ count (leaving s) es → z ≤ℤ total (λ x. cond (crosses s x) z (pos 0)) es)
-        → pos 0 ≤ℤ total (λ x. cond (crosses s x) z (pos 0)) es
-        → z ≤ℤ (cond b z (pos 0) +ℤ total (λ x. cond (crosses s x) z (pos 0)) es)
-    by_test true one rest zero_low = omega (arith, ints)
-    by_test false one rest zero_low = let r : z ≤ℤ total (λ x. cond (crosses s x) z (pos 0)) es = rest (omega arith) in
-        omega (arith, ints)
+at_least_once s z (e ∷ es) high some = elim (cases_Bool (crosses s e)) [
+  | inl on ↦ rw on (omega (arith, ints, leaving_high s z es high))
+  | inr off ↦ (let rest = rw off at some in rw off (omega (arith, ints, at_least_once s z es high (omega arith))))
+]
 
 -- An odd set has a leaving edge in each perfect matching.
 pub odd_leaves : (s : ℕ → Bool) (n : ℕ) (es : List WEdge) → EndsBelow (λ (e : WEdge). e.u) (λ (e : WEdge). e.v) n es
     → ((v : ℕ) → v < n → count (ends_at v) es ≡ 1)
     → count_below (λ v. cond (s v) 1 0) n % 2 ≡ 1 → 1 ≤ count (leaving s) es
 odd_leaves s n es below once odd =
+    let ends = ends_once (λ (e : WEdge). e.u) (λ (e : WEdge). e.v) (λ v. pos (cond (s v) 1 0)) n es below once in
+    let sum = count_below_total (λ v. cond (s v) 1 0) n in
     let is : count_below (λ v. cond (s v) 1 0) n ≡ 2 * count (inside s) es + count (leaving s) es =
-    omega (
-      arith,
-      ints,
-      ends_once (λ (e : WEdge). e.u) (λ (e : WEdge). e.v) (λ v. pos (cond (s v) 1 0)) n es below once,
-      count_below_total (λ v. cond (s v) 1 0) n,
-      ends_held s es,
-    ) in
+    omega (arith, ints, ends_held s es) in
     omega arith
 
 -- A lawful size is odd.
@@ -79,23 +72,16 @@ odd_size size on = grind (arith, nat_tests)
 pub weak_duality : (g : WeightedGraph) (d : DualLists) → IsGraph g → SaysYes g d → (m : List ℕ) → IsPerfect g m
     → dual_sum d ≤ℤ (pos 2 *ℤ matching_cost g m)
 weak_duality g d is says m perfect =
-    let es : List WEdge = map (edge_at g) m in
-    let below : EndsBelow (λ (e : WEdge). e.u) (λ (e : WEdge). e.v) g.n es = chosen_below g is 0 m perfect.increasing in
-    let sets : ℕ → WEdge → ℤ = λ (k : ℕ) (e : WEdge). cond (crosses (holds g.n d k) e) (z_at d k) (pos 0) in
-    let zs : total_below (z_at d) (length d.z) ≤ℤ total_below (λ k. total (sets k) es) (length d.z) =
-    total_below_le (z_at d) (λ k. total (sets k) es) (length d.z) (λ k l. at_least_once (holds g.n d k) (z_at d k) es
-    (says.positive k l) (odd_leaves (holds g.n d k) g.n es below perfect.once
+    let es = map (edge_at g) m in
+    let below = chosen_below g is 0 m perfect.increasing in
+    let sets = λ (k : ℕ) (e : WEdge). cond (crosses (holds g.n d k) e) (z_at d k) (pos 0) in
+    let zs = total_below_le (z_at d) (λ k. total (sets k) es) (length d.z) (λ k l. at_least_once (holds g.n d k)
+    (z_at d k) es (says.positive k l) (odd_leaves (holds g.n d k) g.n es below perfect.once
     (odd_size (set_size g.n d k) (says.odd k l)))) in
     let all_n : total_below (y_at d) (length d.y) ≡ total_below (y_at d) g.n = rw says.numbers refl in
-    omega (
-      arith,
-      ints,
-      loads_low g d says 0 m perfect.increasing,
-      total_sum (λ (e : WEdge). y_at d e.u +ℤ y_at d e.v) (λ (e : WEdge). total_below (λ k. sets k e) (length d.z)) es,
-      ends_once (λ (e : WEdge). e.u) (λ (e : WEdge). e.v) (y_at d) g.n es below perfect.once,
-      two_orders sets (length d.z) es,
-      zs,
-      total_entries (λ y. y) (pos 0) d.y,
-      total_entries (λ z. z) (pos 0) d.z,
-      all_n,
-    )
+    let loads = loads_low g d says 0 m perfect.increasing in
+    let sum = total_sum (λ (e : WEdge). y_at d e.u +ℤ y_at d e.v)
+    (λ (e : WEdge). total_below (λ k. sets k e) (length d.z)) es in
+    let ends = ends_once (λ (e : WEdge). e.u) (λ (e : WEdge). e.v) (y_at d) g.n es below perfect.once in
+    let orders = two_orders sets (length d.z) es in
+    omega (arith, ints, total_entries (λ y. y) (pos 0) d.y, total_entries (λ z. z) (pos 0) d.z)
