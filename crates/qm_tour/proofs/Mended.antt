@@ -19,71 +19,61 @@ low_more keys {from} {k} {least} {new} low is j high less = by_last (cases_lt j 
 -- It is one of them.
 pub one_more : (keys : List ℕ) {from k least new : ℕ} → ((j : ℕ) × (from ≤ j) × (j < k) × (get_or keys j 0 ≡ least))
     → from ≤ k → new ≡ min least (get_or keys k 0) → (j : ℕ) × (from ≤ j) × (j < k + 1) × (get_or keys j 0 ≡ new)
-one_more keys {from} {k} {least} {new} one high is = by_key (cases_lt (get_or keys k 0) least)
-  where
-    by_key : (get_or keys k 0 < least) ⊎ (least ≤ get_or keys k 0)
-        → (j : ℕ) × (from ≤ j) × (j < k + 1) × (get_or keys j 0 ≡ new)
-    by_key (inl lt) = (k, high, omega arith, omega (arith, is))
-    by_key (inr ge) = (one.0, one.1, omega (arith, one.2), one.3 ∙ omega (arith, is))
+one_more keys {from} {k} {least} {new} one high is = elim (cases_lt (get_or keys k 0) least) [
+  | inl lt ↦ (k, high, omega arith, omega arith)
+  | inr ge ↦ (one.0, one.1, omega (arith, one.2), one.3 ∙ omega arith)
+]
 
 -- Of a node that is not above the place of the new key, the key is the least as before.
 pub still_least : {keys : List ℕ} (at value : ℕ) {k key : ℕ} → IsLeastBelow keys k key → parent at ≢ k
     → IsLeastBelow (set keys at value) k key
-still_least {keys} at value {k} {key} least other = record {
-  low = λ child low is. subst (λ x. key ≤ x) (sym (same child is))
-      (least.low child (subst (λ n. child < n) (length-set keys at value) low) is);
-  from = (
-    least.from.0,
-    subst (λ n. least.from.0 < n) (sym (length-set keys at value)) least.from.1,
-    least.from.2,
-    same least.from.0 least.from.2 ∙ least.from.3,
-  );
-}
-  where
-    same : (child : ℕ) → parent child ≡ k → get_or (set keys at value) child 0 ≡ get_or keys child 0
-    same child is = get_or-set_other keys at child value 0 (λ e. other (ap parent (sym e) ∙ is))
+still_least {keys} at value {k} {key} least other =
+    let size = length-set keys at value in
+    let same = λ (child : ℕ) (is : parent child ≡ k). get_or-set_other keys at child value 0
+    (λ e. other (ap parent (sym e) ∙ is)) in
+    record {
+      low = λ child low is. omega (arith, same child is, least.low child (omega arith) is);
+      from = (
+        least.from.0,
+        omega (arith, least.from.1),
+        least.from.2,
+        same least.from.0 least.from.2 ∙ least.from.3,
+      );
+    }
 
 -- A new leaf leaves all nodes but that above it in order.
 pub leaf_changed : {first : ℕ} {keys : List ℕ} → IsTree first keys → (at value : ℕ) → first ≤ at
     → IsTreeBut first (parent at) (set keys at value)
-leaf_changed {first} {keys} tree at value high = record {
-  root = tree.root;
-  few = subst (λ n. n ≤ 2 ^ 33) (sym size) tree.few;
-  some = subst (λ n. first < n) (sym size) tree.some;
-  wide = subst (λ n. n + 33 < 8 * first) (sym size) tree.wide;
-  narrow = subst (λ n. 8 * first < n + 42) (sym size) tree.narrow;
-  nodes = λ k root low other. subst (IsLeastBelow (set keys at value) k)
-      (sym (get_or-set_other keys at k value 0 (omega arith)))
-      (still_least at value (tree.nodes k root low) (λ e. other (sym e)));
-}
-  where
-    size : length (set keys at value) ≡ length keys
-    size = length-set keys at value
+leaf_changed {first} {keys} tree at value high =
+    let size = length-set keys at value in
+    record {
+      root = tree.root;
+      few = omega (arith, tree.few);
+      some = omega (arith, tree.some);
+      wide = omega (arith, tree.wide);
+      narrow = omega (arith, tree.narrow);
+      nodes = λ k root low other. rw (get_or-set_other keys at k value 0 (omega arith))
+          (still_least at value (tree.nodes k root low) (λ e. other (sym e)));
+    }
 
 -- So does a node that is mended.
 pub node_mended : {first node least : ℕ} {keys : List ℕ} → IsTreeBut first node keys → IsLeastBelow keys node least
     → 5 ≤ node → node < first → IsTreeBut first (parent node) (set keys node least)
-node_mended {first} {node} {least} {keys} tree is root low = record {
-  root = tree.root;
-  few = subst (λ n. n ≤ 2 ^ 33) (sym size) tree.few;
-  some = subst (λ n. first < n) (sym size) tree.some;
-  wide = subst (λ n. n + 33 < 8 * first) (sym size) tree.wide;
-  narrow = subst (λ n. 8 * first < n + 42) (sym size) tree.narrow;
-  nodes = λ k high less other. by_node k high less other (cases_eq k node);
-}
-  where
-    size : length (set keys node least) ≡ length keys
-    size = length-set keys node least
-
-    by_node : (k : ℕ) → 5 ≤ k → k < first → k ≢ parent node → (k ≡ node) ⊎ (k ≢ node)
-        → IsLeastBelow (set keys node least) k (get_or (set keys node least) k 0)
-    by_node k high less other (inl e) = subst (λ j. IsLeastBelow (set keys node least) j
-        (get_or (set keys node least) j 0)) (sym e) (subst (IsLeastBelow (set keys node least) node)
-        (sym (get_or-set_same keys node least 0 (omega (arith, tree.some))))
-        (still_least node least is (omega arith)))
-    by_node k high less other (inr ne) = subst (IsLeastBelow (set keys node least) k)
-        (sym (get_or-set_other keys node k least 0 ne))
-        (still_least node least (tree.nodes k high less ne) (λ e. other (sym e)))
+node_mended {first} {node} {least} {keys} tree is root low =
+    let size = length-set keys node least in
+    record {
+      root = tree.root;
+      few = omega (arith, tree.few);
+      some = omega (arith, tree.some);
+      wide = omega (arith, tree.wide);
+      narrow = omega (arith, tree.narrow);
+      nodes = λ k high less other. elim (cases_eq k node) [
+        | inl e ↦ rw (e, get_or-set_same keys node least 0 (omega (arith, tree.some)))
+            (still_least node least is (omega arith))
+        | inr ne ↦ rw (get_or-set_other keys node k least 0 ne)
+            (still_least node least (tree.nodes k high less ne) (λ e. other (sym e)))
+      ];
+    }
 
 -- It changes no leaf.
 pub leaves_kept : {first node : ℕ} (value : ℕ) {old keys : List ℕ} → HasSameLeaves first old keys → node < first
@@ -113,13 +103,11 @@ whole {first} {but} {keys} tree at_but = record {
   some = tree.some;
   wide = tree.wide;
   narrow = tree.narrow;
-  nodes = λ k high low. by_but k high low (cases_eq k but);
+  nodes = λ k high low. elim (cases_eq k but) [
+    | inl e ↦ rw e (at_but (omega arith) (omega arith))
+    | inr ne ↦ tree.nodes k high low ne
+  ];
 }
-  where
-    by_but : (k : ℕ) → 5 ≤ k → k < first → (k ≡ but) ⊎ (k ≢ but) → IsLeastBelow keys k (get_or keys k 0)
-    by_but k high low (inl e) = subst (λ j. IsLeastBelow keys j (get_or keys j 0)) (sym e)
-        (at_but (subst (λ j. 5 ≤ j) e high) (subst (λ j. j < first) e low))
-    by_but k high low (inr ne) = tree.nodes k high low ne
 
 -- A tree without keys is in order.
 pub blank : (room none : ℕ) → 1 ≤ room → room ≤ 2 ^ 32

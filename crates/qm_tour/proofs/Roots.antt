@@ -1,5 +1,5 @@
 -- The root's key is at most each leaf's.
-use Rattle.std.proofs.Common.{◌≡◌, ◌≢◌, ℕ, zero, suc, ◌+◌, ◌-◌, ◌<◌, ◌≤◌, ◌⊎◌, List, length, get_or, refl}
+use Rattle.std.proofs.Common.{◌≡◌, ℕ, zero, suc, ◌+◌, ◌-◌, ◌<◌, ◌≤◌, List, length, get_or, refl}
 use Rattle.std.proofs.Common.{drop, ◌∙◌, ap, inl, inr, arith}
 use Rattle.std.proofs.lemmas.Bool.{cases_eq}
 use Rattle.std.proofs.lemmas.Grind.{get_or_default_zero}
@@ -9,16 +9,11 @@ use Rattle.qm_tour.specs.Trees.{IsTree, parent}
 root_low : (fuel first : ℕ) (keys : List ℕ) → IsTree first keys → (k : ℕ) → k ≤ fuel → 5 ≤ k → k < length keys
     → get_or keys 5 0 ≤ get_or keys k 0
 root_low zero first keys tree k l some low = absurd (omega arith)
-root_low (suc fuel) first keys tree k l some low = by_root (cases_eq k 5) (root_low fuel first keys tree (parent k))
-  where
-    by_root : (k ≡ 5) ⊎ (k ≢ 5) → (parent k ≤ fuel → 5 ≤ parent k → parent k < length keys
-        → get_or keys 5 0 ≤ get_or keys (parent k) 0) → get_or keys 5 0 ≤ get_or keys k 0
-    by_root (inl e) more = let h : get_or keys k 0 ≡ get_or keys 5 0 = ap (λ j. get_or keys j 0) e in omega arith
-    by_root (inr ne) more =
-        let node : get_or keys (parent k) 0 ≤ get_or keys k 0 =
-        (tree.nodes (parent k) (omega arith) (omega (arith, tree.wide))).low k low refl in
-        let h : get_or keys 5 0 ≤ get_or keys (parent k) 0 = more (omega arith) (omega arith) (omega arith) in
-        omega arith
+root_low (suc fuel) first keys tree k l some low = elim (cases_eq k 5) [
+  | inl e ↦ omega (arith, ap (λ j. get_or keys j 0) e)
+  | inr ne ↦ (let node = (tree.nodes (parent k) (omega arith) (omega (arith, tree.wide))).low k low refl in
+      omega (arith, root_low fuel first keys tree (parent k) (omega arith) (omega arith) (omega arith)))
+]
 
 -- The leaf that the root's key came from has the least key.
 pub leaf_least : (first : ℕ) (keys leaves : List ℕ) → IsTree first keys → leaves ≡ drop first keys → (p : ℕ)
