@@ -27,9 +27,8 @@ module _ {l : Gluing} {x : Lengths} (laid : IsSurface l) (len : AreLengths l x) 
       → IsAcross l x laid len (slot_dart l x w o) (slot_dart l x v (x (use_of l w).arc - 1 - o))
   across_border w v o is other less = record {
     is_dart = at_is l x laid.paved len v k other.0 low;
-    edge = ap (λ (c : Course). c.edge) there ∙ edges (use_of l w).forward other.1.turned
-        ∙ sym (ap (λ (c : Course). c.edge) here);
-    turned = ap (λ (c : Course). c.ahead) there ∙ other.1.turned ∙ sym (ap (λ (c : Course). not c.ahead) here);
+    edge = cc (there, edges (use_of l w).forward other.1.turned, here);
+    turned = cc (there, other.1.turned, here);
   }
     where
       k : ℕ
@@ -40,7 +39,7 @@ module _ {l : Gluing} {x : Lengths} (laid : IsSurface l) (len : AreLengths l x) 
 
       there : course_of l x (slot_dart l x v (x (use_of l w).arc - 1 - o))
           ≡ use_course l x (use_of l v) (x (use_of l w).arc - 1 - o)
-      there = at_course l x laid len v (x (use_of l w).arc - 1 - o) other.0 low
+      there = at_course l x laid len v _ other.0 low
 
       here : course_of l x (slot_dart l x w o) ≡ use_course l x (use_of l w) o
       here = at_course l x laid len w o is less
@@ -77,9 +76,8 @@ module _ {l : Gluing} {x : Lengths} (laid : IsSurface l) (len : AreLengths l x) 
           let same : j - 1 + 1 ≡ j = omega (arith, h.is_edge.2) in
           let at : IsDart l x (dart p i (j - 1) north) =
           record { patch_low = h.is_edge.0; i_low = h.is_edge.1; j_low = omega (arith, h.is_edge.3) } in
-          let c : course_of l x (dart p i (j - 1) north) ≡ inner_course p i (j - 1) north =
-          cond-false (j - 1 + 1 == high l x p) _ _
-          (ne_eqb (j - 1 + 1) (high l x p) (λ e. omega (arith, h.is_edge.2, h.is_edge.3))) in
+          let c : course_of l x (dart p i (j - 1) north) ≡ inner_course p i (j - 1) north = cond-false (j - 1 + 1 ==
+          high l x p) _ _ (ne_eqb (j - 1 + 1) (high l x p) (λ e. omega (arith, h.is_edge.2, h.is_edge.3))) in
           (dart p i (j - 1) north, beside at h.course (c ∙ ap (λ n. course (flat p i n) false) same), refl, refl, same)
       by_way p i j east h =
           let at : IsDart l x (dart p (i + 1) j west) =
@@ -97,9 +95,8 @@ module _ {l : Gluing} {x : Lengths} (laid : IsSurface l) (len : AreLengths l x) 
           let same : i - 1 + 1 ≡ i = omega (arith, h.is_edge.1) in
           let at : IsDart l x (dart p (i - 1) j east) =
           record { patch_low = h.is_edge.0; i_low = omega (arith, h.is_edge.2); j_low = h.is_edge.3 } in
-          let c : course_of l x (dart p (i - 1) j east) ≡ inner_course p (i - 1) j east =
-          cond-false (i - 1 + 1 == wide l x p) _ _
-          (ne_eqb (i - 1 + 1) (wide l x p) (λ e. omega (arith, h.is_edge.1, h.is_edge.2))) in
+          let c : course_of l x (dart p (i - 1) j east) ≡ inner_course p (i - 1) j east = cond-false (i - 1 + 1 == wide
+          l x p) _ _ (ne_eqb (i - 1 + 1) (wide l x p) (λ e. omega (arith, h.is_edge.1, h.is_edge.2))) in
           (dart p (i - 1) j east, beside at h.course (c ∙ ap (λ n. course (steep p n j) true) same), refl, same, refl)
 
   -- A dart on an arc that no slot uses the other way round.
@@ -123,9 +120,7 @@ module _ {l : Gluing} {x : Lengths} (laid : IsSurface l) (len : AreLengths l x) 
   -- No dart runs the other way along such an arc.
   pub alone_not_across : {d : CellDart} (e : CellDart) {w : Slot} {o : ℕ} → IsAlone d w o → ¬ IsAcross l x laid len d e
   alone_not_across {d} e {w} {o} alone across = elim (sees l x laid len across.is_dart) [
-    | inl i ↦ false≢true (sym (inner_no_arc l x laid len e.patch e.i e.j e.way)
-        ∙ ap (λ (c : Course). is_arc c.edge) (sym i.course) ∙ ap is_arc across.edge
-        ∙ ap (λ (c : Course). is_arc c.edge) here)
+    | inl i ↦ cc (inner_no_arc l x laid len e.patch e.i e.j e.way, i.course, across.edge, here)
     | inr b ↦ by_slot b.0 b.1 b.2
   ]
     where
@@ -168,38 +163,34 @@ module _ {l : Gluing} {x : Lengths} (laid : IsSurface l) (len : AreLengths l x) 
       → IsTwin (new_faces l x) (dart_number l x d) (dart_number l x e)
   across_is_twin d e is a = (
     dart_low l x e a.is_dart,
-    number_from l x e a.is_dart ∙ ap (vertex_number l x) (across_ends is a).0 ∙ sym (number_to l x d is),
-    number_to l x e a.is_dart ∙ ap (vertex_number l x) (across_ends is a).1 ∙ sym (number_from l x d is),
+    cc (number_from l x e a.is_dart, (across_ends is a).0, number_to l x d is),
+    cc (number_to l x e a.is_dart, (across_ends is a).1, number_from l x d is),
   )
 
   module _ (simple : IsSimple l x) where
     pub across_twin : (d e : CellDart) → IsDart l x d → IsAcross l x laid len d e
         → twin_of (new_faces l x) (dart_number l x d) ≡ Some (dart_number l x e)
-    across_twin d e is a = twin_found (new_faces l x) (edges_once laid len simple) (dart_number l x d)
-        (dart_number l x e) (across_is_twin d e is a)
+    across_twin d e is a = twin_found _ (edges_once laid len simple) _ _ (across_is_twin d e is a)
 
     pub twin_across : (d : CellDart) (n : ℕ) → IsDart l x d → twin_of (new_faces l x) (dart_number l x d) ≡ Some n
         → (e : CellDart) × IsAcross l x laid len d e × (dart_number l x e ≡ n)
     twin_across d n is found =
-        let t = twin_is (new_faces l x) (dart_number l x d) n found in
-        let a : (e : CellDart) × IsDart l x e × (dart_number l x e ≡ n) = at_number l x laid len n t.0 in
-        let starts = number_same l x (dart_start l x a.0) (dart_end l x d) (from_is l x laid len a.0 a.1)
-        (from_is l x laid len (next d) (next_is l x d is))
-        (sym (number_from l x a.0 a.1) ∙ ap (from_of (new_faces l x)) a.2 ∙ t.1 ∙ number_to l x d is) in
-        let ends = number_same l x (dart_end l x a.0) (dart_start l x d)
-        (from_is l x laid len (next a.0) (next_is l x a.0 a.1)) (from_is l x laid len d is)
-        (sym (number_to l x a.0 a.1) ∙ ap (to_of (new_faces l x)) a.2 ∙ t.2 ∙ number_from l x d is) in
-        let r = reversed simple (course_of l x d) (course_of l x a.0) (course_is l x laid len is)
-        (course_is l x laid len a.1) (sym (course_from l x laid len a.0 a.1) ∙ starts ∙ course_to l x laid len d is)
-        (sym (course_to l x laid len a.0 a.1) ∙ ends ∙ course_from l x laid len d is) in
+        let t = twin_is _ _ n found in
+        let a = at_number l x laid len n t.0 in
+        let starts = number_same l x _ _ (from_is l x laid len a.0 a.1)
+        (from_is l x laid len (next d) (next_is l x d is)) (cc (number_from l x a.0 a.1, number_to l x d is)) in
+        let ends = number_same l x _ _ (from_is l x laid len (next a.0) (next_is l x a.0 a.1))
+        (from_is l x laid len d is) (cc (number_to l x a.0 a.1, number_from l x d is)) in
+        let r = reversed simple _ _ (course_is l x laid len is)
+        (course_is l x laid len a.1) (cc (course_from l x laid len a.0 a.1, course_to l x laid len d is))
+        (cc (course_to l x laid len a.0 a.1, course_from l x laid len d is)) in
         (a.0, record { is_dart = a.1; edge = r.0; turned = r.1 }, a.2)
 
     pub alone_no_twin : (d : CellDart) (w : Slot) (o : ℕ) → IsDart l x d → IsAlone d w o
         → twin_of (new_faces l x) (dart_number l x d) ≡ None
-    alone_no_twin d w o is alone = twin_none (new_faces l x) (dart_number l x d) (λ n t. by_twin n t)
+    alone_no_twin d w o is alone = twin_none _ _ (λ n t. by_twin n t)
       where
         by_twin : (n : ℕ) → ¬ IsTwin (new_faces l x) (dart_number l x d) n
         by_twin n t =
-            let a =
-            twin_across d n is (twin_found (new_faces l x) (edges_once laid len simple) (dart_number l x d) n t) in
+            let a = twin_across d n is (twin_found _ (edges_once laid len simple) _ n t) in
             alone_not_across a.0 alone a.1

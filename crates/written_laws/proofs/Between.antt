@@ -9,7 +9,7 @@ use Rattle.def_layout.specs.{declared.tmesh.SideArc.SideArc, Gluings.Way, Gluing
 use Rattle.def_layout.specs.{Gluings.west, Gluings.Gluing, Surfaces.IsSurface, Lengths.Lengths, Lengths.reach}
 use Rattle.def_layout.specs.{Lengths.size, Lengths.wide, Lengths.high, Lengths.AreLengths, Cells.IsDart, Cells.dart}
 use Rattle.def_written.specs.Points.{Point, node, along, inside, IsPoint, arc_point, use_over, offset_at, point}
-use Rattle.def_written.specs.Edges.{on_arc}
+use Rattle.def_written.specs.{Edges.on_arc, NewFaces.dart_start}
 use Rattle.def_written.specs.Places.{Coordinate, on_the_way, arc_place, ONE, parameter, parameter_back, parameter_u}
 use Rattle.def_written.specs.Places.{parameter_v, cell_at, rest_at, blend, inside_place, place_of, ArcSpacing, Step}
 use Rattle.def_written.specs.Places.{parameter_u, parameter_v, cell_at, rest_at, blend}
@@ -58,31 +58,23 @@ quotient_within a lo hi b some above below = by_rest (int_div_euclid a (pos b)) 
 pub way_within : (p q least greatest : ℤ) (r x : ℕ) → r ≤ x → 0 < x → least ≤ℤ p → p ≤ℤ greatest → least ≤ℤ q
     → q ≤ℤ greatest → (least ≤ℤ on_the_way p q r x) × (on_the_way p q r x ≤ℤ greatest)
 way_within p q least greatest r x le some p_low p_high q_low q_high =
+    let split : 2 * x ≡ 2 * r + 2 * (x - r) = omega arith in
+    let least_split = ap (λ n. pos n *ℤ (least -ℤ p)) split ∙ sum_times (2 * r) (2 * (x - r)) (least -ℤ p) in
+    let greatest_split = ap (λ n. pos n *ℤ (greatest -ℤ p)) split ∙ sum_times (2 * r) (2 * (x - r)) (greatest -ℤ p) in
+    let z : (2 * (x - r)) * 0 ≡ 0 = omega arith in
+    let bounds = quotient_within ((pos (2 * r) *ℤ (q -ℤ p)) +ℤ pos x) (least -ℤ p) (greatest -ℤ p) (2 * x)
+    (omega arith) (omega (
+      arith,
+      ints,
+      times_le (2 * r) (least -ℤ p) (q -ℤ p) (omega (arith, ints)),
+      times_le (2 * (x - r)) (least -ℤ p) (pos 0) (omega (arith, ints)),
+    )) (omega (
+      arith,
+      ints,
+      times_le (2 * r) (q -ℤ p) (greatest -ℤ p) (omega (arith, ints)),
+      times_le (2 * (x - r)) (pos 0) (greatest -ℤ p) (omega (arith, ints)),
+    )) in
     (omega (arith, ints, bounds.0), omega (arith, ints, bounds.1))
-  where
-    split : 2 * x ≡ 2 * r + 2 * (x - r)
-    split = omega arith
-
-    lows : (pos (2 * x) *ℤ (least -ℤ p)) ≤ℤ (pos (2 * r) *ℤ (q -ℤ p))
-    lows =
-        let a = times_le (2 * r) (least -ℤ p) (q -ℤ p) (omega (arith, ints)) in
-        let b = times_le (2 * (x - r)) (least -ℤ p) (pos 0) (omega (arith, ints)) in
-        let z : (2 * (x - r)) * 0 ≡ 0 = omega arith in
-        let c = ap (λ n. pos n *ℤ (least -ℤ p)) split ∙ sum_times (2 * r) (2 * (x - r)) (least -ℤ p) in
-        omega (arith, ints, a, b, c, z)
-
-    highs : (pos (2 * r) *ℤ (q -ℤ p)) ≤ℤ (pos (2 * x) *ℤ (greatest -ℤ p))
-    highs =
-        let a = times_le (2 * r) (q -ℤ p) (greatest -ℤ p) (omega (arith, ints)) in
-        let b = times_le (2 * (x - r)) (pos 0) (greatest -ℤ p) (omega (arith, ints)) in
-        let z : (2 * (x - r)) * 0 ≡ 0 = omega arith in
-        let c = ap (λ n. pos n *ℤ (greatest -ℤ p)) split ∙ sum_times (2 * r) (2 * (x - r)) (greatest -ℤ p) in
-        omega (arith, ints, a, b, c, z)
-
-    bounds : ((least -ℤ p) ≤ℤ int_div_euclid ((pos (2 * r) *ℤ (q -ℤ p)) +ℤ pos x) (pos (2 * x)))
-        × (int_div_euclid ((pos (2 * r) *ℤ (q -ℤ p)) +ℤ pos x) (pos (2 * x)) ≤ℤ (greatest -ℤ p))
-    bounds = quotient_within ((pos (2 * r) *ℤ (q -ℤ p)) +ℤ pos x) (least -ℤ p) (greatest -ℤ p) (2 * x) (omega arith)
-        (omega (arith, ints, lows)) (omega (arith, ints, highs))
 
 -- A mean lies between the corners.
 pub blend_within : (s t : ℕ) (a b c d least greatest : ℤ) → s ≤ ONE → t ≤ ONE
@@ -169,14 +161,13 @@ module _ {l : Gluing} {old new : Lengths} {spacing : ArcSpacing} (laid : IsSurfa
   -- A mean of parameters is no greater.
   mean_most : (a b m h j : ℕ) → 0 < h → j ≤ h → a ≤ m → b ≤ m → (a * (h - j) + b * j) / h ≤ m
   mean_most a b m h j some le a_le b_le =
+      let by_parts : (c d k : ℕ) → c ≤ m * k → d ≤ m * j → m * (k + j) ≡ m * h → c + d ≤ m * h =
+      λ c d k c_le d_le same. omega arith in
       let e : a * (h - j) ≤ m * (h - j) = mul-le a (h - j) m (h - j) a_le (omega arith) in
       let f : b * j ≤ m * j = mul-le b j m j b_le (omega arith) in
       let s : h - j + j ≡ h = omega arith in
       let g : m * (h - j + j) ≡ m * h = ap (λ n. m * n) s in
       div_most (a * (h - j) + b * j) m h some (by_parts (a * (h - j)) (b * j) (h - j) e f g)
-    where
-      by_parts : (c d k : ℕ) → c ≤ m * k → d ≤ m * j → m * (k + j) ≡ m * h → c + d ≤ m * h
-      by_parts c d k c_le d_le same = omega (arith, c_le, d_le, same)
 
   -- The parameters of grid points inside a patch are at most the old sizes.
   pub u_most : (p i j : ℕ) → IsPoint l new (inside p i j) → parameter_u l old new spacing p i j ≤ ONE * wide l old p
@@ -211,24 +202,14 @@ module _ {l : Gluing} {old new : Lengths} {spacing : ArcSpacing} (laid : IsSurfa
         → (least ≤ℤ blend s t (at (point l old p a b)) (at (point l old p (a + 1) b)) (at (point l old p a (b + 1)))
         (at (point l old p (a + 1) (b + 1)))) × (blend s t (at (point l old p a b)) (at (point l old p (a + 1) b))
         (at (point l old p a (b + 1))) (at (point l old p (a + 1) (b + 1))) ≤ℤ greatest)
-    grid_within p a b s t p_low a_low b_low s_le t_le = blend_within s t (at (point l old p a b))
-        (at (point l old p (a + 1) b)) (at (point l old p a (b + 1))) (at (point l old p (a + 1) (b + 1))) least
-        greatest s_le t_le (sw.0) (se.0) (nw.0) (ne.0) (sw.1) (se.1) (nw.1) (ne.1)
-      where
-        is : (w : Way) → IsDart l old (dart p a b w)
-        is w = record { patch_low = p_low; i_low = a_low; j_low = b_low }
-
-        sw : (least ≤ℤ at (point l old p a b)) × (at (point l old p a b) ≤ℤ greatest)
-        sw = bound (point l old p a b) (from_is l old laid o_len (dart p a b south) (is south))
-
-        se : (least ≤ℤ at (point l old p (a + 1) b)) × (at (point l old p (a + 1) b) ≤ℤ greatest)
-        se = bound (point l old p (a + 1) b) (from_is l old laid o_len (dart p a b east) (is east))
-
-        nw : (least ≤ℤ at (point l old p a (b + 1))) × (at (point l old p a (b + 1)) ≤ℤ greatest)
-        nw = bound (point l old p a (b + 1)) (from_is l old laid o_len (dart p a b west) (is west))
-
-        ne : (least ≤ℤ at (point l old p (a + 1) (b + 1))) × (at (point l old p (a + 1) (b + 1)) ≤ℤ greatest)
-        ne = bound (point l old p (a + 1) (b + 1)) (from_is l old laid o_len (dart p a b north) (is north))
+    grid_within p a b s t p_low a_low b_low s_le t_le =
+        let corner : (w : Way) → (least ≤ℤ at (dart_start l old (dart p a b w)))
+        × (at (dart_start l old (dart p a b w)) ≤ℤ greatest) =
+        λ w. bound (dart_start l old (dart p a b w)) (from_is l old laid o_len (dart p a b w)
+        (record { patch_low = p_low; i_low = a_low; j_low = b_low })) in
+        blend_within s t (at (point l old p a b)) (at (point l old p (a + 1) b)) (at (point l old p a (b + 1)))
+        (at (point l old p (a + 1) (b + 1))) least greatest s_le t_le (corner south).0 (corner east).0 (corner west).0
+        (corner north).0 (corner south).1 (corner east).1 (corner west).1 (corner north).1
 
     inside_within : (p i j : ℕ) → IsPoint l new (inside p i j) → (least ≤ℤ inside_place l old new spacing at p i j)
         × (inside_place l old new spacing at p i j ≤ℤ greatest)

@@ -19,7 +19,7 @@ module _ (l : Gluing) (x : Lengths) where
   -- The points of an arc that is used the other way round.
   pub use_back : (u v : SideArc) → AreReverse u v → (k : ℕ) → k ≤ x u.arc
       → use_point l x v k ≡ use_point l x u (x u.arc - k)
-  use_back u v rev k le = ap (λ (w : SideArc). use_point l x w k) same ∙ by_way u.arc u.forward le
+  use_back u v rev k le = cc (by_way u.arc u.forward le)
     where
       same : v ≡ record { arc = u.arc; forward = not u.forward }
       same = λ t. record { arc = rev.arc t; forward = rev.turned t }
@@ -33,7 +33,7 @@ module _ (l : Gluing) (x : Lengths) where
   pub use_not_inside : (u : SideArc) (o p i j : ℕ) → o < x u.arc → use_point l x u o ≢ inside p i j
   use_not_inside u o p i j less e = elim (cases_eq o 0) [
     | inl z ↦
-        let b : use_point l x u o ≡ node (start_node l u) = ap (use_point l x u) z ∙ use_begins l x u (omega arith) in
+        let b : use_point l x u o ≡ node (start_node l u) = cc (use_begins l x u (omega arith)) in
         absurd cc
     | inr some ↦
         let b = use_inner l x u o (omega arith) less in

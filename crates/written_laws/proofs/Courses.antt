@@ -1,5 +1,5 @@
 -- Each dart of a new cell runs along one edge, in its direction or against it, and no other dart does.
-use Rattle.std.proofs.Common.{◌≡◌, ◌⊎◌, ℕ, ◌+◌, ◌-◌, ◌<◌, Bool, true, false, not, cond, refl, sym, ◌∙◌, ap, inl}
+use Rattle.std.proofs.Common.{◌≡◌, ◌≢◌, ◌⊎◌, ℕ, ◌+◌, ◌-◌, ◌<◌, Bool, true, false, not, cond, refl, sym, ◌∙◌, ap, inl}
 use Rattle.std.proofs.Common.{inr, arith}
 use Rattle.std.proofs.lemmas.Bool.{cases_eq, cond-true, cond-false, eq-eqb, ne_eqb, false≢true}
 use Rattle.std.specs.Prelude.{◌==◌}
@@ -22,6 +22,14 @@ pub record Course : Type 0 where
 
 abbrev pub course : (edge : Edge) (ahead : Bool) → Course
 course e b = record { edge = e; ahead = b }
+
+-- Two ways are the same or opposite, and no way is its opposite.
+pub alike_or_turned : (a b : Bool) → (a ≡ b) ⊎ (b ≡ not a)
+alike_or_turned true = elim [ true ↦ inl refl | false ↦ inr refl ]
+alike_or_turned false = elim [ true ↦ inr refl | false ↦ inl refl ]
+
+pub not_self : (b : Bool) → b ≢ not b
+not_self = elim [ true ↦ λ e. cc | false ↦ λ e. cc ]
 
 -- Whether an edge lies on an arc.
 abbrev pub is_arc : (edge : Edge) → Bool
@@ -89,10 +97,10 @@ module _ (l : Gluing) (x : Lengths) where
     on_border : (d : CellDart) (p : ℕ) (s : Way) (t : ℕ) → p < l.patches → t < size l x p s → d ≡ dart_along l x p s t
         → (w : Slot) × (o : ℕ) × IsOnBorder d w o
     on_border d p s t p_low less is =
-        let on : IsOn l x p s t (use_over l x p s t) (offset_at l x p s t) = place_on l x p s t p_low less in (
+        let on = place_on l x p s t p_low less in (
           slot p s (use_over l x p s t),
           offset_at l x p s t,
-          record { is_slot = on.is_slot; low = on.inside; dart = is ∙ ap (dart_along l x p s) on.place },
+          record { is_slot = on.is_slot; low = on.inside; dart = cc },
         )
 
     pub sees : {d : CellDart} → IsDart l x d → IsWithin d ⊎ ((w : Slot) × (o : ℕ) × IsOnBorder d w o)
@@ -105,25 +113,24 @@ module _ (l : Gluing) (x : Lengths) where
         by_way : (p i j : ℕ) (w : Way) → IsDart l x (dart p i j w) → IsWithin (dart p i j w)
             ⊎ ((v : Slot) × (o : ℕ) × IsOnBorder (dart p i j w) v o)
         by_way p i j south d = elim (cases_eq j 0) [
-          | inl z ↦ inr (on_border (dart p i j south) p south i d.patch_low d.i_low (dart_is p south refl z))
+          | inl z ↦ inr (on_border _ p south i d.patch_low d.i_low (dart_is p south refl z))
           | inr some ↦ within (cond-false (j == 0) _ _ (ne_eqb j 0 some)) (d.patch_low, d.i_low, omega arith, d.j_low)
         ]
         by_way p i j east d = elim (cases_eq (i + 1) (wide l x p)) [
           | inl z ↦ inr (on_border (dart p i j east) p east j d.patch_low
-              (omega (arith, len.upright p d.patch_low, d.j_low)) (dart_is p east (omega arith) refl))
+              (omega (arith, len.upright p d.patch_low)) (dart_is p east (omega arith) refl))
           | inr some ↦ within (cond-false (i + 1 == wide l x p) _ _ (ne_eqb (i + 1) (wide l x p) some))
-              (d.patch_low, omega arith, omega (arith, d.i_low), d.j_low)
+              (d.patch_low, omega arith, omega arith, d.j_low)
         ]
         by_way p i j north d = elim (cases_eq (j + 1) (high l x p)) [
           | inl z ↦ inr (on_border (dart p i j north) p north (wide l x p - 1 - i) d.patch_low
-              (omega (arith, len.across p d.patch_low, d.i_low))
-              (dart_is p north (omega (arith, d.i_low)) (omega arith)))
+              (omega (arith, len.across p d.patch_low)) (dart_is p north (omega arith) (omega arith)))
           | inr some ↦ within (cond-false (j + 1 == high l x p) _ _ (ne_eqb (j + 1) (high l x p) some))
-              (d.patch_low, d.i_low, omega arith, omega (arith, d.j_low))
+              (d.patch_low, d.i_low, omega arith, omega arith)
         ]
         by_way p i j west d = elim (cases_eq i 0) [
-          | inl z ↦ inr (on_border (dart p i j west) p west (high l x p - 1 - j) d.patch_low (omega (arith, d.j_low))
-              (dart_is p west z (omega (arith, d.j_low))))
+          | inl z ↦ inr (on_border (dart p i j west) p west (high l x p - 1 - j) d.patch_low (omega arith)
+              (dart_is p west z (omega arith)))
           | inr some ↦ within (cond-false (i == 0) _ _ (ne_eqb i 0 some)) (d.patch_low, omega arith, d.i_low, d.j_low)
         ]
 
@@ -133,25 +140,24 @@ module _ (l : Gluing) (x : Lengths) where
     rim_course p east t p_low less = cond-true (wide l x p - 1 + 1 == wide l x p) _ _
         (eq-eqb (wide l x p - 1 + 1) (wide l x p) (omega (arith, size_some l x laid.paved len p south p_low)))
     rim_course p north t p_low less =
-        let e : wide l x p - 1 - (wide l x p - 1 - t) ≡ t = omega (arith, len.across p p_low, less) in
-        cond-true (high l x p - 1 + 1 == high l x p) _ _
-        (eq-eqb (high l x p - 1 + 1) (high l x p) (omega (arith, size_some l x laid.paved len p west p_low)))
-        ∙ ap (border_course p north) e
+        let e : wide l x p - 1 - (wide l x p - 1 - t) ≡ t = omega (arith, len.across p p_low) in
+        cc (cond-true (high l x p - 1 + 1 == high l x p) _ _
+        (eq-eqb (high l x p - 1 + 1) (high l x p) (omega (arith, size_some l x laid.paved len p west p_low))))
     rim_course p west t p_low less =
-        let e : high l x p - 1 - (high l x p - 1 - t) ≡ t = omega (arith, less) in ap (border_course p west) e
+        let e : high l x p - 1 - (high l x p - 1 - t) ≡ t = omega arith in ap (border_course p west) e
 
     pub at_course : (w : Slot) (o : ℕ) → IsSlot l w → o < x (use_of l w).arc → course_of (slot_dart l x w o)
         ≡ use_course (use_of l w) o
     at_course w o is less =
         let e : reach l x w.patch w.side w.at + o - reach l x w.patch w.side w.at ≡ o = omega arith in
-        rim_course w.patch w.side (reach l x w.patch w.side w.at + o) is.patch_low
-        (at_low l x laid.paved len o is less)
-        ∙ ap (λ m. use_course (l.use_at w.patch w.side m) (reach l x w.patch w.side w.at + o - reach l x w.patch w.side
-        m)) (over_is l x w o is less)
-        ∙ ap (use_course (use_of l w)) e
+        cc (
+          rim_course w.patch w.side (reach l x w.patch w.side w.at + o) is.patch_low
+              (at_low l x laid.paved len o is less),
+          over_is l x w o is less,
+        )
 
     pub border_is : {d : CellDart} {w : Slot} {o : ℕ} → IsOnBorder d w o → course_of d ≡ use_course (use_of l w) o
-    border_is {w} {o} b = ap course_of b.dart ∙ at_course w o b.is_slot b.low
+    border_is {w} {o} b = cc (at_course w o b.is_slot b.low)
 
     -- The courses of darts are those of edges.
     use_edge : (w : Slot) (o : ℕ) → IsSlot l w → o < x (use_of l w).arc → IsEdge l x (use_course (use_of l w) o).edge
@@ -191,16 +197,15 @@ module _ (l : Gluing) (x : Lengths) where
 
     pub course_from : (d : CellDart) → IsDart l x d → dart_start l x d ≡ start_at (course_of d)
     course_from d is = elim (sees is) [
-      | inl i ↦ inner_from d.patch d.i d.j d.way ∙ ap start_at (sym i.course)
-      | inr b ↦ ap (dart_start l x) b.2.dart ∙ at_from l x laid len b.0 b.1 b.2.is_slot b.2.low
-          ∙ use_from (use_of l b.0) b.1 b.2.low ∙ ap start_at (sym (border_is b.2))
+      | inl i ↦ cc (inner_from d.patch d.i d.j d.way)
+      | inr b ↦ cc
+          (at_from l x laid len b.0 b.1 b.2.is_slot b.2.low, use_from (use_of l b.0) b.1 b.2.low, border_is b.2)
     ]
 
     pub course_to : (d : CellDart) → IsDart l x d → dart_end l x d ≡ end_at (course_of d)
     course_to d is = elim (sees is) [
-      | inl i ↦ inner_to d.patch d.i d.j d.way ∙ ap end_at (sym i.course)
-      | inr b ↦ ap (dart_end l x) b.2.dart ∙ at_to l x laid len b.0 b.1 b.2.is_slot b.2.low
-          ∙ use_to (use_of l b.0) b.1 b.2.low ∙ ap end_at (sym (border_is b.2))
+      | inl i ↦ cc (inner_to d.patch d.i d.j d.way)
+      | inr b ↦ cc (at_to l x laid len b.0 b.1 b.2.is_slot b.2.low, use_to (use_of l b.0) b.1 b.2.low, border_is b.2)
     ]
 
     -- Darts with one course are one.
@@ -217,45 +222,29 @@ module _ (l : Gluing) (x : Lengths) where
     pub use_once : (v w : Slot) (o k : ℕ) → IsSlot l v → IsSlot l w → o < x (use_of l v).arc → k < x (use_of l w).arc
         → use_course (use_of l v) o ≡ use_course (use_of l w) k → slot_dart l x v o ≡ slot_dart l x w k
     use_once v w o k is_v is_w o_low k_low same =
+        let edges : on_arc (use_of l v).arc (cond (use_of l v).forward o (x (use_of l v).arc - 1 - o)) ≡ on_arc (use_of
+        l w).arc (cond (use_of l w).forward k (x (use_of l w).arc - 1 - k)) = ap (λ (c : Course). c.edge) same in
+        let ways : (use_of l v).forward ≡ (use_of l w).forward = ap (λ (c : Course). c.ahead) same in
+        let arcs : (use_of l v).arc ≡ (use_of l w).arc = let e = edges in cc in
+        let place : cond (use_of l v).forward o (x (use_of l v).arc - 1 - o) ≡ cond (use_of l v).forward k
+        (x (use_of l w).arc - 1 - k) = let e = edges in let f : cond (use_of l v).forward o (x (use_of l v).arc - 1 - o)
+        ≡ cond (use_of l w).forward k (x (use_of l w).arc - 1 - k) = cc in f
+        ∙ ap (λ (b : Bool). cond b k (x (use_of l w).arc - 1 - k)) (sym ways) in
+        let slots : v ≡ w = laid.once v w is_v is_w (λ t. record { arc = arcs t; forward = ways t }) in
+        let places : (b : Bool) → b ≡ (use_of l w).forward → cond b o (x (use_of l v).arc - 1 - o) ≡ cond b k (x
+        (use_of l w).arc - 1 - k) → o ≡ k = elim [ true ↦ λ e at. at | false ↦ λ e at. omega (arith, at, ap x arcs) ] in
         λ t. slot_dart l x (slots t) (places (use_of l v).forward ways place t)
-      where
-        edges : on_arc (use_of l v).arc (cond (use_of l v).forward o (x (use_of l v).arc - 1 - o))
-            ≡ on_arc (use_of l w).arc (cond (use_of l w).forward k (x (use_of l w).arc - 1 - k))
-        edges = ap (λ (c : Course). c.edge) same
-
-        ways : (use_of l v).forward ≡ (use_of l w).forward
-        ways = ap (λ (c : Course). c.ahead) same
-
-        arcs : (use_of l v).arc ≡ (use_of l w).arc
-        arcs = let e = edges in cc
-
-        place : cond (use_of l v).forward o (x (use_of l v).arc - 1 - o)
-            ≡ cond (use_of l v).forward k (x (use_of l w).arc - 1 - k)
-        place = let e = edges in
-            let f : cond (use_of l v).forward o (x (use_of l v).arc - 1 - o)
-            ≡ cond (use_of l w).forward k (x (use_of l w).arc - 1 - k) = cc in
-            f ∙ ap (λ (b : Bool). cond b k (x (use_of l w).arc - 1 - k)) (sym ways)
-
-        slots : v ≡ w
-        slots = laid.once v w is_v is_w (λ t. record { arc = arcs t; forward = ways t })
-
-        places : (b : Bool) → b ≡ (use_of l w).forward → cond b o (x (use_of l v).arc - 1 - o)
-            ≡ cond b k (x (use_of l w).arc - 1 - k) → o ≡ k
-        places = elim [ true ↦ λ e at. at | false ↦ λ e at. omega (arith, at, ap x arcs) ]
 
     pub course_once : {d e : CellDart} → IsDart l x d → IsDart l x e → course_of d ≡ course_of e → d ≡ e
     course_once {d} {e} is_d is_e same = elim (sees is_d) [
       | inl i ↦ elim (sees is_e) [
-        | inl j ↦ sym (inner_back d.patch d.i d.j d.way) ∙ ap inner_dart (sym i.course ∙ same ∙ j.course)
-            ∙ inner_back e.patch e.i e.j e.way
-        | inr b ↦ absurd (false≢true (sym (inner_no_arc d.patch d.i d.j d.way)
-            ∙ ap (λ (c : Course). is_arc c.edge) (sym i.course ∙ same ∙ border_is b.2)))
+        | inl j ↦ cc (inner_back d.patch d.i d.j d.way, inner_back e.patch e.i e.j e.way)
+        | inr b ↦ absurd (cc (inner_no_arc d.patch d.i d.j d.way, border_is b.2))
       ]
       | inr a ↦ elim (sees is_e) [
-        | inl j ↦ absurd (false≢true (sym (inner_no_arc e.patch e.i e.j e.way)
-            ∙ ap (λ (c : Course). is_arc c.edge) (sym j.course ∙ sym same ∙ border_is a.2)))
-        | inr b ↦ a.2.dart ∙ use_once a.0 b.0 a.1 b.1 a.2.is_slot b.2.is_slot a.2.low b.2.low
-            (sym (border_is a.2) ∙ same ∙ border_is b.2) ∙ sym b.2.dart
+        | inl j ↦ absurd (cc (inner_no_arc e.patch e.i e.j e.way, border_is a.2))
+        | inr b ↦ cc (use_once a.0 b.0 a.1 b.1 a.2.is_slot b.2.is_slot a.2.low b.2.low
+            (sym (border_is a.2) ∙ same ∙ border_is b.2))
       ]
     ]
 

@@ -1,5 +1,6 @@
 -- Multiples of lengths that double no edge double none, and no lengths of at least 3 do.
-use Rattle.std.proofs.Common.{◌≡◌, ◌≢◌, ℕ, zero, suc, ◌+◌, ◌-◌, ◌*◌, ◌/◌, ◌%◌, ◌<◌, ◌≤◌, Bool, true, false, not, cond}
+use Rattle.std.proofs.Common.{◌⊎◌, ◌≡◌, ◌≢◌, ℕ, zero, suc, ◌+◌, ◌-◌, ◌*◌, ◌/◌, ◌%◌, ◌<◌, ◌≤◌, Bool, true, false, not}
+use Rattle.std.proofs.Common.{cond}
 use Rattle.std.proofs.Common.{refl, sym, ◌∙◌, ap, subst, inl, inr, arith}
 use Rattle.std.proofs.Math.Nat.{mul-le-mul_left}
 use Rattle.std.proofs.lemmas.Bool.{cases_eq, cond-true, cond-false, eq-eqb, ne_eqb}
@@ -14,7 +15,7 @@ use Rattle.def_written.specs.{NewFaces.dart_start, NewFaces.dart_end, Edges.Edge
 use Rattle.sum_laws.proofs.Counts.{count_below_times}
 use Rattle.written_laws.proofs.Sides.{slot, IsOn, arc_last, use_inner, side_in, place_on}
 use Rattle.written_laws.proofs.{Sides.first_slot, Sides.reach_low, Grid.point_north, Grid.point_west, Grid.point_east}
-use Rattle.written_laws.proofs.Courses.{Course, course_of, border_course, course_once}
+use Rattle.written_laws.proofs.Courses.{Course, course_of, border_course, course_once, alike_or_turned}
 use Rattle.written_laws.proofs.{Simple.IsSimple, Manifold.ends_differ, Across.across_ends, Spokes.IsOpen}
 use Rattle.written_laws.proofs.Opens.{simple_open}
 
@@ -131,103 +132,81 @@ module _ (l : Gluing) (y : Lengths) where
     no_shared_edge : {d e : CellDart} → IsDart l y d → IsDart l y e → d ≢ e → dart_start l y e ≢ dart_end l y d
         → (course_of l y e).edge ≢ (course_of l y d).edge
     no_shared_edge {d} {e} is_d is_e apart ends edges =
-        by_ways (course_of l y d).ahead (course_of l y e).ahead refl refl
-      where
-        alike : (course_of l y e).ahead ≡ (course_of l y d).ahead → ⊥
-        alike ways = apart (course_once l y laid len is_d is_e (λ t. record { edge = sym edges t; ahead = sym ways t }))
+        elim (alike_or_turned (course_of l y d).ahead (course_of l y e).ahead) [
+          | inl ways ↦ apart
+              (course_once l y laid len is_d is_e (λ t. record { edge = sym edges t; ahead = ways t }))
+          | inr ways ↦ ends
+              (across_ends laid len {e = e} is_d (record { is_dart = is_e; edge = edges; turned = ways })).0
+        ]
 
-        turned : (course_of l y e).ahead ≡ not (course_of l y d).ahead → ⊥
-        turned ways =
-            ends (across_ends laid len {e = e} is_d (record { is_dart = is_e; edge = edges; turned = ways })).0
-
-        by_ways : (a b : Bool) → (course_of l y d).ahead ≡ a → (course_of l y e).ahead ≡ b → ⊥
-        by_ways true true a b = alike (b ∙ sym a)
-        by_ways false false a b = alike (b ∙ sym a)
-        by_ways true false a b = turned (b ∙ ap not (sym a))
-        by_ways false true a b = turned (b ∙ ap not (sym a))
+    -- Where opposite sides meet at a point, they meet at a point or run along one edge at half of the lengths.
+    opposite : (p : ℕ) (s r : Way) (t n m : ℕ) → p < l.patches → size l y p s ≡ n → size l y p r ≡ n → m ≡ 2 * n
+        → 0 < t → t < m → side_point l (scale 2 y) p s t ≡ side_point l (scale 2 y) p r (m - t)
+        → (t % 2 ≡ 0) × (side_point l y p s (t / 2) ≡ side_point l y p r (n - t / 2))
+        ⊎ (t % 2 ≡ 1) × ((border_course l y p s (t / 2)).edge ≡ (border_course l y p r (n - 1 - t / 2)).edge)
+    opposite p s r t n m low one other twice some less same = elim (cases_eq (t % 2) 0) [
+      | inl e ↦
+          let half : 2 * (t / 2) ≡ t = omega arith in
+          let rest : m - t ≡ 2 * (n - t / 2) = omega arith in
+          inl (
+            e,
+            double_same (side_point l y p s (t / 2)) (side_point l y p r (n - t / 2))
+                (sym (side_double p s (t / 2) low (omega arith)) ∙ ap (side_point l (scale 2 y) p s) half ∙ same
+                ∙ ap (side_point l (scale 2 y) p r) rest ∙ side_double p r (n - t / 2) low (omega arith)),
+          )
+      | inr o ↦
+          let half : 2 * (t / 2) + 1 ≡ t = omega arith in
+          let rest : m - t ≡ 2 * (n - 1 - t / 2) + 1 = omega arith in
+          inr (
+            omega arith,
+            middle_same p p s r (t / 2) (n - 1 - t / 2)
+                (sym (side_odd p s (t / 2) low (omega arith)) ∙ ap (side_point l (scale 2 y) p s) half ∙ same
+                ∙ ap (side_point l (scale 2 y) p r) rest ∙ side_odd p r (n - 1 - t / 2) low (omega arith)),
+          )
+    ]
 
     across_open : (p j : ℕ) → p < l.patches → wide l (scale 2 y) p ≡ 2 → 0 < j → j < high l (scale 2 y) p
         → point l (scale 2 y) p 0 j ≢ point l (scale 2 y) p 2 j
-    across_open p j low two some less same = elim (cases_eq (j % 2) 0) [ inl e ↦ even e | inr o ↦ odd (omega arith) ]
-      where
-        one : wide l y p ≡ 1
-        one = omega (arith, two, size_scale 2 p south)
-
-        rows : high l (scale 2 y) p ≡ 2 * high l y p
-        rows = size_scale 2 p west
-
-        sides : side_point l (scale 2 y) p west (high l (scale 2 y) p - j) ≡ side_point l (scale 2 y) p east j
-        sides = sym (point_west l (scale 2 y) laid z_len p j low (omega arith)) ∙ same
-            ∙ point_east l (scale 2 y) laid z_len p j low (sym two) (omega arith)
-
-        even : j % 2 ≡ 0 → ⊥
-        even e =
-            let half : j ≡ 2 * (j / 2) = omega arith in
-            let rest : high l (scale 2 y) p - j ≡ 2 * (high l y p - j / 2) = omega (arith, rows) in
-            let points = sym (side_double p west (high l y p - j / 2) low (omega (arith, rows)))
-            ∙ ap (side_point l (scale 2 y) p west) (sym rest) ∙ sides ∙ ap (side_point l (scale 2 y) p east) half
-            ∙ side_double p east (j / 2) low (omega (arith, rows, len.upright p low)) in
-            simple.no_loop (flat p 0 (j / 2)) (low, omega (arith, one), omega (arith, rows), omega (arith, rows))
-            (point_west l y laid len p (j / 2) low (omega (arith, rows))
-            ∙ double_same (side_point l y p west (high l y p - j / 2)) (side_point l y p east (j / 2)) points
-            ∙ sym (point_east l y laid len p (j / 2) low (sym one) (omega (arith, rows))))
-
-        odd : j % 2 ≡ 1 → ⊥
-        odd e =
-            let half : j ≡ 2 * (j / 2) + 1 = omega arith in
-            let rest : high l (scale 2 y) p - j ≡ 2 * (high l y p - 1 - j / 2) + 1 = omega (arith, rows) in
-            let edges = middle_same p p east west (j / 2) (high l y p - 1 - j / 2)
-            (sym (side_odd p east (j / 2) low (omega (arith, rows, len.upright p low)))
-            ∙ ap (side_point l (scale 2 y) p east) (sym half) ∙ sym sides ∙ ap (side_point l (scale 2 y) p west) rest
-            ∙ side_odd p west (high l y p - 1 - j / 2) low (omega (arith, rows))) in
-            let is : (w : Way) → IsDart l y (dart p 0 (j / 2) w) =
-            λ w. record { patch_low = low; i_low = omega (arith, one); j_low = omega (arith, rows) } in
-            no_shared_edge (is west) (is east)
-            (λ s. let w : west ≡ east = ap (λ (d : CellDart). d.way) s in cc)
-            (λ s. ends_differ laid len simple (is south) (sym s))
-            (ap (λ (c : Course). c.edge) (cond-true (1 == wide l y p) (border_course l y p east (j / 2)) _
-            (eq-eqb 1 (wide l y p) (sym one))) ∙ edges)
+    across_open p j low two some less same =
+        let one : wide l y p ≡ 1 = omega (arith, two, size_scale 2 p south) in
+        let rows = size_scale 2 p west in
+        let is : j / 2 < high l y p → (w : Way) → IsDart l y (dart p 0 (j / 2) w) =
+        λ j_low w. record { patch_low = low; i_low = omega (arith, one); j_low = j_low } in
+        let sides = sym (point_east l (scale 2 y) laid z_len p j low (sym two) (omega arith)) ∙ sym same
+        ∙ point_west l (scale 2 y) laid z_len p j low (omega arith) in
+        elim (opposite p east west j (high l y p) (high l (scale 2 y) p) low (len.upright p low) refl rows some less
+        sides) [
+          | inl (e, points) ↦
+              simple.no_loop (flat p 0 (j / 2)) (low, omega (arith, one), omega arith, omega (arith, rows))
+              (point_west l y laid len p (j / 2) low (omega (arith, rows)) ∙ sym points
+              ∙ sym (point_east l y laid len p (j / 2) low (sym one) (omega (arith, rows))))
+          | inr (o, edges) ↦
+              let at = is (omega (arith, rows)) in
+              no_shared_edge (at west) (at east) (λ s. let w : west ≡ east = ap (λ (d : CellDart). d.way) s in cc)
+              (λ s. ends_differ laid len simple (at south) (sym s))
+              (ap (λ (c : Course). c.edge) (cond-true (1 == wide l y p) (border_course l y p east (j / 2)) _
+              (eq-eqb 1 (wide l y p) (sym one))) ∙ edges)
+        ]
 
     upright_open : (p i : ℕ) → p < l.patches → high l (scale 2 y) p ≡ 2 → 0 < i → i < wide l (scale 2 y) p
         → point l (scale 2 y) p i 0 ≢ point l (scale 2 y) p i 2
-    upright_open p i low two some less same = elim (cases_eq (i % 2) 0) [ inl e ↦ even e | inr o ↦ odd (omega arith) ]
-      where
-        one : high l y p ≡ 1
-        one = omega (arith, two, size_scale 2 p west)
-
-        columns : wide l (scale 2 y) p ≡ 2 * wide l y p
-        columns = size_scale 2 p south
-
-        sides : side_point l (scale 2 y) p south i ≡ side_point l (scale 2 y) p north (wide l (scale 2 y) p - i)
-        sides = same ∙ point_north l (scale 2 y) laid z_len p i low (sym two)
-
-        even : i % 2 ≡ 0 → ⊥
-        even e =
-            let half : i ≡ 2 * (i / 2) = omega arith in
-            let rest : wide l (scale 2 y) p - i ≡ 2 * (wide l y p - i / 2) = omega (arith, columns) in
-            let points = sym (side_double p south (i / 2) low (omega (arith, columns)))
-            ∙ ap (side_point l (scale 2 y) p south) (sym half) ∙ sides ∙ ap (side_point l (scale 2 y) p north) rest
-            ∙ side_double p north (wide l y p - i / 2) low (omega (arith, columns, len.across p low)) in
-            simple.no_loop (steep p (i / 2) 0) (low, omega (arith, columns), omega (arith, columns), omega (arith, one))
-            (double_same (side_point l y p south (i / 2)) (side_point l y p north (wide l y p - i / 2)) points
-            ∙ sym (point_north l y laid len p (i / 2) low (sym one)))
-
-        odd : i % 2 ≡ 1 → ⊥
-        odd e =
-            let half : i ≡ 2 * (i / 2) + 1 = omega arith in
-            let rest : wide l (scale 2 y) p - i ≡ 2 * (wide l y p - 1 - i / 2) + 1 = omega (arith, columns) in
-            let edges = middle_same p p north south (wide l y p - 1 - i / 2) (i / 2)
-            (sym (side_odd p north (wide l y p - 1 - i / 2) low (omega (arith, columns, len.across p low)))
-            ∙ ap (side_point l (scale 2 y) p north) (sym rest) ∙ sym sides ∙ ap (side_point l (scale 2 y) p south) half
-            ∙ side_odd p south (i / 2) low (omega (arith, columns))) in
-            let is : (w : Way) → IsDart l y (dart p (i / 2) 0 w) =
-            λ w. record { patch_low = low; i_low = omega (arith, columns); j_low = omega (arith, one) } in
-            no_shared_edge (is south) (is north)
-            (λ s. let w : south ≡ north = ap (λ (d : CellDart). d.way) s in cc)
-            (λ s. ends_differ laid len simple (is east) (sym s))
-            (ap (λ (c : Course). c.edge)
-            (cond-true (1 == high l y p) (border_course l y p north (wide l y p - 1 - i / 2)) _
-            (eq-eqb 1 (high l y p) (sym one))) ∙ edges)
+    upright_open p i low two some less same =
+        let one : high l y p ≡ 1 = omega (arith, two, size_scale 2 p west) in
+        let columns = size_scale 2 p south in
+        let is : i / 2 < wide l y p → (w : Way) → IsDart l y (dart p (i / 2) 0 w) =
+        λ i_low w. record { patch_low = low; i_low = i_low; j_low = omega (arith, one) } in
+        elim (opposite p south north i (wide l y p) (wide l (scale 2 y) p) low refl (len.across p low) columns some less
+        (same ∙ point_north l (scale 2 y) laid z_len p i low (sym two))) [
+          | inl (e, points) ↦ simple.no_loop (steep p (i / 2) 0)
+              (low, omega arith, omega (arith, columns), omega (arith, one))
+              (points ∙ sym (point_north l y laid len p (i / 2) low (sym one)))
+          | inr (o, edges) ↦
+              let at = is (omega (arith, columns)) in
+              no_shared_edge (at south) (at north) (λ s. let w : south ≡ north = ap (λ (d : CellDart). d.way) s in cc)
+              (λ s. ends_differ laid len simple (at east) (sym s))
+              (ap (λ (c : Course). c.edge) (cond-true (1 == high l y p)
+              (border_course l y p north (wide l y p - 1 - i / 2)) _ (eq-eqb 1 (high l y p) (sym one))) ∙ sym edges)
+        ]
 
     twice_open : IsOpen l (scale 2 y)
     twice_open = record {

@@ -16,21 +16,20 @@ module _ (l : Gluing) (x : Lengths) (laid : IsSurface l) (len : AreLengths l x) 
   edge_dart (on_arc a k) is =
       let f = laid.forward a is.0 in
       let long : x (use_of l f.0).arc ≡ x a = ap (λ (u : SideArc). x u.arc) f.2 in
-      let less : k < x (use_of l f.0).arc = omega (arith, is.1) in (
+      let less : k < x (use_of l f.0).arc = omega arith in (
         slot_dart l x f.0 k,
         at_is l x laid.paved len f.0 k f.1 less,
-        ap (λ (c : Course). c.edge) (at_course l x laid len f.0 k f.1 less)
-            ∙ ap (λ (u : SideArc). (use_course l x u k).edge) f.2,
+        cc (at_course l x laid len f.0 k f.1 less),
       )
   edge_dart (flat p i j) is = (
     dart p i j south,
     record { patch_low = is.0; i_low = is.1; j_low = is.3 },
-    ap (λ (c : Course). c.edge) (cond-false (j == 0) _ _ (ne_eqb j 0 (λ e. omega (arith, is.2)))),
+    ap (λ (c : Course). c.edge) (cond-false (j == 0) _ _ (ne_eqb j 0 (λ e. omega arith))),
   )
   edge_dart (steep p i j) is = (
     dart p i j west,
     record { patch_low = is.0; i_low = is.2; j_low = is.3 },
-    ap (λ (c : Course). c.edge) (cond-false (i == 0) _ _ (ne_eqb i 0 (λ e. omega (arith, is.1)))),
+    ap (λ (c : Course). c.edge) (cond-false (i == 0) _ _ (ne_eqb i 0 (λ e. omega arith))),
   )
 
   -- The ends of an edge are points.
@@ -39,11 +38,10 @@ module _ (l : Gluing) (x : Lengths) (laid : IsSurface l) (len : AreLengths l x) 
     where
       by_dart : (d : CellDart) × IsDart l x d × ((course_of l x d).edge ≡ e) → IsPoint l x (edge_start l x e)
           × IsPoint l x (edge_end l x e)
-      by_dart f = by_way (course_of l x f.0).ahead
-          (subst (IsPoint l x) (course_from l x laid len f.0 f.1
+      by_dart f = by_way (course_of l x f.0).ahead (subst (IsPoint l x) (course_from l x laid len f.0 f.1
           ∙ ap (λ (g : Edge). start_at l x (course g (course_of l x f.0).ahead)) f.2) (from_is l x laid len f.0 f.1))
-          (subst (IsPoint l x) (course_to l x laid len f.0 f.1
-          ∙ ap (λ (g : Edge). end_at l x (course g (course_of l x f.0).ahead)) f.2)
+          (subst (IsPoint l x)
+          (course_to l x laid len f.0 f.1 ∙ ap (λ (g : Edge). end_at l x (course g (course_of l x f.0).ahead)) f.2)
           (from_is l x laid len (next f.0) (next_is l x f.0 f.1)))
         where
           by_way : (b : Bool) → IsPoint l x (start_at l x (course e b)) → IsPoint l x (end_at l x (course e b))

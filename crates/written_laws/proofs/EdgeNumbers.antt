@@ -14,7 +14,7 @@ use Rattle.written_laws.proofs.{Runs.run_here, Runs.place_low, Runs.place_same, 
 pub in_rows : (w h t : ℕ) → t < h * w → (t % w < w) × (t / w < h) × (t / w * w + t % w ≡ t)
 in_rows w h t low =
     let some : 0 < w = elim (cases_eq w 0) [
-      | inl z ↦ let none : h * w ≡ 0 = ap (λ n. h * n) z ∙ omega arith in absurd (omega (arith, none))
+      | inl z ↦ let none : h * w ≡ 0 = ap (λ n. h * n) z ∙ omega arith in absurd (omega arith)
       | inr n ↦ omega arith
     ] in
     (mod-lt t some, (div-lt_iff_lt-mul {k = w} {x = t} {y = h} some).1 low, div-add-mod' t w)
@@ -39,11 +39,11 @@ module _ (l : Gluing) (x : Lengths) where
 
   flat_place : (p i j : ℕ) → IsEdge l x (flat p i j) → (j - 1) * wide l x p + i < flats p
   flat_place p i j is = subst (λ n. (j - 1) * wide l x p + i < n) (mul_comm (wide l x p) (high l x p - 1))
-      (mul-add-lt (j - 1) (wide l x p) i (high l x p - 1) (omega (arith, is.2, is.3)) is.1)
+      (mul-add-lt (j - 1) (wide l x p) i (high l x p - 1) (omega arith) is.1)
 
   steep_place : (p i j : ℕ) → IsEdge l x (steep p i j) → j * (wide l x p - 1) + (i - 1) < steeps p
   steep_place p i j is = subst (λ n. j * (wide l x p - 1) + (i - 1) < n) (mul_comm (wide l x p - 1) (high l x p))
-      (mul-add-lt j (wide l x p - 1) (i - 1) (high l x p) is.3 (omega (arith, is.1, is.2)))
+      (mul-add-lt j (wide l x p - 1) (i - 1) (high l x p) is.3 (omega arith))
 
   arc_place : (a k : ℕ) → IsEdge l x (on_arc a k) → count_below x a + k < count_below x l.arcs
   arc_place a k is = place_low x l.arcs a k is.0 is.1
@@ -63,36 +63,35 @@ module _ (l : Gluing) (x : Lengths) where
 
   pub edge_same : (e f : Edge) → IsEdge l x e → IsEdge l x f → edge_number e ≡ edge_number f → e ≡ f
   edge_same (on_arc a k) (on_arc b m) is_e is_f same =
-      let s : (a ≡ b) × (k ≡ m) = place_same x l.arcs a k b m is_e.0 is_f.0 is_e.1 is_f.1 same in
+      let s = place_same x l.arcs a k b m is_e.0 is_f.0 is_e.1 is_f.1 same in
       λ t. on_arc (s.0 t) (s.1 t)
-  edge_same (flat p i j) (on_arc b m) is_e is_f same = absurd (omega (arith, arc_place b m is_f, same))
+  edge_same (flat p i j) (on_arc b m) is_e is_f same = absurd (omega (arith, arc_place b m is_f))
   edge_same (flat p i j) (flat q c d) is_e is_f same =
       let s = place_same flats l.patches p ((j - 1) * wide l x p + i) q ((d - 1) * wide l x q + c) is_e.0 is_f.0
-      (flat_place p i j is_e) (flat_place q c d is_f) (omega (arith, same)) in
-      by_place s.0 (s.1 ∙ ap (λ r. (d - 1) * wide l x r + c) (sym s.0))
+      (flat_place p i j is_e) (flat_place q c d is_f) (omega arith) in
+      by_place s.0 (cc)
     where
       by_place : p ≡ q → (j - 1) * wide l x p + i ≡ (d - 1) * wide l x p + c → flat p i j ≡ flat q c d
       by_place patch place =
           let w : wide l x q ≡ wide l x p = ap (wide l x) (sym patch) in
-          let s = same_from_place (j - 1) i (d - 1) c (wide l x p) is_e.1 (omega (arith, is_f.1, w)) place in
-          let rows : j ≡ d = omega (arith, s.0, is_e.2, is_f.2) in
+          let s = same_from_place (j - 1) i (d - 1) c (wide l x p) is_e.1 (omega arith) place in
+          let rows : j ≡ d = omega arith in
           λ t. flat (patch t) (s.1 t) (rows t)
-  edge_same (flat p i j) (steep q c d) is_e is_f same = absurd (omega (arith, flat_low p i j is_e, same))
-  edge_same (steep p i j) (on_arc b m) is_e is_f same = absurd (omega (arith, arc_place b m is_f, same))
-  edge_same (steep p i j) (flat q c d) is_e is_f same = absurd (omega (arith, flat_low q c d is_f, same))
+  edge_same (flat p i j) (steep q c d) is_e is_f same = absurd (omega (arith, flat_low p i j is_e))
+  edge_same (steep p i j) (on_arc b m) is_e is_f same = absurd (omega (arith, arc_place b m is_f))
+  edge_same (steep p i j) (flat q c d) is_e is_f same = absurd (omega (arith, flat_low q c d is_f))
   edge_same (steep p i j) (steep q c d) is_e is_f same =
       let s = place_same steeps l.patches p (j * (wide l x p - 1) + (i - 1)) q (d * (wide l x q - 1) + (c - 1)) is_e.0
-      is_f.0 (steep_place p i j is_e) (steep_place q c d is_f) (omega (arith, same)) in
-      by_place s.0 (s.1 ∙ ap (λ r. d * (wide l x r - 1) + (c - 1)) (sym s.0))
+      is_f.0 (steep_place p i j is_e) (steep_place q c d is_f) (omega arith) in
+      by_place s.0 (cc)
     where
       by_place : p ≡ q → j * (wide l x p - 1) + (i - 1) ≡ d * (wide l x p - 1) + (c - 1) → steep p i j ≡ steep q c d
       by_place patch place =
           let w : wide l x q ≡ wide l x p = ap (wide l x) (sym patch) in
-          let s = same_from_place j (i - 1) d (c - 1) (wide l x p - 1) (omega (arith, is_e.1, is_e.2))
-          (omega (arith, is_f.1, is_f.2, w)) place in
-          let columns : i ≡ c = omega (arith, s.1, is_e.1, is_f.1) in
+          let s = same_from_place j (i - 1) d (c - 1) (wide l x p - 1) (omega arith) (omega arith) place in
+          let columns : i ≡ c = omega arith in
           λ t. steep (patch t) (columns t) (s.0 t)
-  edge_same (on_arc a k) _ is_e is_f same = absurd (omega (arith, arc_place a k is_e, same))
+  edge_same (on_arc a k) _ is_e is_f same = absurd (omega (arith, arc_place a k is_e))
 
   -- Each number below the total is that of an edge.
   pub edge_onto : (n : ℕ) → n < edge_total → (e : Edge) × IsEdge l x e × (edge_number e ≡ n)
@@ -142,9 +141,8 @@ module _ (l : Gluing) (x : Lengths) where
 
       on_steeps : count_below x l.arcs + count_below flats l.patches ≤ n → (e : Edge) × IsEdge l x e
           × (edge_number e ≡ n)
-      on_steeps most = by_steep
-          (omega (arith, most)) (run_here steeps l.patches (n - (count_below x l.arcs + count_below flats l.patches))
-          (omega (arith, most, low)))
+      on_steeps most = by_steep (omega (arith, most)) (run_here steeps l.patches
+          (n - (count_below x l.arcs + count_below flats l.patches)) (omega (arith, most, low)))
 
   -- Each number below that of the vertices is that of a point.
   pub point_onto : (n : ℕ) → n < vertices l x → (a : Point) × IsPoint l x a × (vertex_number l x a ≡ n)

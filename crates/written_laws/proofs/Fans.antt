@@ -65,14 +65,14 @@ module _ {l : Gluing} {x : Lengths} (laid : IsSurface l) (len : AreLengths l x) 
   -- A turn of the gluing.
   pub turn_related : {v w : Slot} → IsSlot l v → IsTurn l v w → R (slot_dart l x v 0) (slot_dart l x w 0)
   turn_related {v} {w} is turn =
-      let b : Slot = slot_before l v.patch v.side v.at in
-      let is_b : IsSlot l b = before_is l x laid.paved len v is in
-      let k : ℕ = x (use_of l b).arc - 1 in
-      let some : 0 < x (use_of l b).arc = use_some l x laid.paved len b is_b in
+      let b = slot_before l v.patch v.side v.at in
+      let is_b = before_is l x laid.paved len v is in
+      let k = x (use_of l b).arc - 1 in
+      let some = use_some l x laid.paved len b is_b in
       let zero_is : x (use_of l b).arc - 1 - k ≡ 0 = omega arith in
       let over = turning.over b w k is_b (turn.is_slot, turn.reverse) (omega arith) in
-      turning.on (slot_dart l x v 0) (next (slot_dart l x b k)) (slot_dart l x w 0)
-      (turning.back (next (slot_dart l x b k)) (slot_dart l x v 0)
+      turning.on _ _ _
+      (turning.back _ _
       (next_is laid.paved len turning (at_is l x laid.paved len b k is_b (omega arith)))
       (before_related laid.paved len turning v is))
       (rw zero_is at over)
@@ -81,12 +81,12 @@ module _ {l : Gluing} {x : Lengths} (laid : IsSurface l) (len : AreLengths l x) 
       → R (slot_dart l x v 0) (slot_dart l x w 0)
   turns_related v w zero is_v is_w same =
       turning.self (slot_dart l x v 0) (slot_dart l x w 0) (ap (λ (u : Slot). slot_dart l x u 0) same)
-  turns_related v w (suc n) is_v is_w turns = turning.on (slot_dart l x v 0) (slot_dart l x turns.0 0)
+  turns_related v w (suc n) is_v is_w turns = turning.on _ _
       (slot_dart l x w 0) (turns_related v turns.0 n is_v turns.1 turns.2) (by_turn turns.3)
     where
       by_turn : IsTurn l turns.0 w ⊎ IsTurn l w turns.0 → R (slot_dart l x turns.0 0) (slot_dart l x w 0)
       by_turn (inl t) = turn_related turns.1 t
-      by_turn (inr t) = turning.back (slot_dart l x w 0) (slot_dart l x turns.0 0)
+      by_turn (inr t) = turning.back _ _
           (at_is l x laid.paved len w 0 is_w (use_some l x laid.paved len w is_w)) (turn_related is_w t)
 
   -- It holds for the first darts of arcs that begin at one node.
@@ -96,13 +96,15 @@ module _ {l : Gluing} {x : Lengths} (laid : IsSurface l) (len : AreLengths l x) 
 
   pub at_nodes : HasFans l → AtNodes
   at_nodes fans v w is_v is_w same =
-      let t : (n : ℕ) × SlotTurns l v w n = fans v w is_v is_w same in turns_related v w t.0 is_v is_w t.1
+      let t = fans v w is_v is_w same in turns_related v w t.0 is_v is_w t.1
 
   -- It holds for two border darts that leave one inner point of an arc.
   along_related : (w v : Slot) (o k : ℕ) → IsSlot l w → IsSlot l v → 0 < o → o < x (use_of l w).arc → 0 < k
       → k < x (use_of l v).arc
       → use_point l x (use_of l w) o ≡ use_point l x (use_of l v) k → R (slot_dart l x w o) (slot_dart l x v k)
   along_related w v o k is_w is_v o_some o_low k_some k_low same =
+      let place : cond (use_of l w).forward o (x (use_of l w).arc - o)
+      ≡ cond (use_of l v).forward k (x (use_of l v).arc - k) = let e = points in cc in
       by_ways (use_of l w).forward (use_of l v).forward refl refl place
     where
       points : along (use_of l w).arc (cond (use_of l w).forward o (x (use_of l w).arc - o))
@@ -111,10 +113,6 @@ module _ {l : Gluing} {x : Lengths} (laid : IsSurface l) (len : AreLengths l x) 
 
       arcs : (use_of l w).arc ≡ (use_of l v).arc
       arcs = let e = points in cc
-
-      place : cond (use_of l w).forward o (x (use_of l w).arc - o)
-          ≡ cond (use_of l v).forward k (x (use_of l v).arc - k)
-      place = let e = points in cc
 
       alike : (use_of l w).forward ≡ (use_of l v).forward → o ≡ k → R (slot_dart l x w o) (slot_dart l x v k)
       alike ways e =
@@ -137,8 +135,7 @@ module _ {l : Gluing} {x : Lengths} (laid : IsSurface l) (len : AreLengths l x) 
       by_ways : (f g : Bool) → (use_of l w).forward ≡ f → (use_of l v).forward ≡ g
           → cond (use_of l w).forward o (x (use_of l w).arc - o) ≡ cond (use_of l v).forward k (x (use_of l v).arc - k)
           → R (slot_dart l x w o) (slot_dart l x v k)
-      by_ways true true f g e =
-          alike (f ∙ sym g) (ap (λ (h : Bool). cond h o (x (use_of l w).arc - o)) (sym f) ∙ e
+      by_ways true true f g e = alike (f ∙ sym g) (ap (λ (h : Bool). cond h o (x (use_of l w).arc - o)) (sym f) ∙ e
           ∙ ap (λ (h : Bool). cond h k (x (use_of l v).arc - k)) g)
       by_ways false false f g e =
           let q = ap (λ (h : Bool). cond h o (x (use_of l w).arc - o)) (sym f) ∙ e
@@ -187,11 +184,13 @@ module _ {l : Gluing} {x : Lengths} (laid : IsSurface l) (len : AreLengths l x) 
         omega (arith, reach_low l x w a.is_slot, a.low) in
         darts_related laid.paved len turning is
         (at_is l x laid.paved len w o a.is_slot a.low)
-        (a.patch ∙ sym (rim_patch laid.paved len w.patch w.side (reach l x w.patch w.side w.at + o)))
-        (a.column ∙ sym (rim_column laid.paved len w.patch w.side (reach l x w.patch w.side w.at + o)
-        a.is_slot.patch_low low))
-        (a.row ∙ sym (rim_row laid.paved len w.patch w.side (reach l x w.patch w.side w.at + o) a.is_slot.patch_low
-        low))
+        (cc (a.patch, rim_patch laid.paved len w.patch w.side (reach l x w.patch w.side w.at + o)))
+        (cc (
+          a.column,
+          rim_column laid.paved len w.patch w.side (reach l x w.patch w.side w.at + o) a.is_slot.patch_low
+              low,
+        ))
+        (cc (a.row, rim_row laid.paved len w.patch w.side (reach l x w.patch w.side w.at + o) a.is_slot.patch_low low))
 
     -- It holds for all darts that leave one point.
     pub point_related : (d e : CellDart) → IsDart l x d → IsDart l x e → dart_start l x d ≡ dart_start l x e → R d e
@@ -199,11 +198,11 @@ module _ {l : Gluing} {x : Lengths} (laid : IsSurface l) (len : AreLengths l x) 
       | inl i ↦ elim (sort_dart l x laid len e is_e) [
         | inl j ↦ both_inner i j
         | inr b ↦ absurd (use_not_inside l x (use_of l b.0) b.1 d.patch (column_of d) (row_of d) b.2.low
-            (sym b.2.leaves ∙ sym same ∙ inner_from l x laid len d i))
+            (cc (b.2.leaves, same, inner_from l x laid len d i)))
       ]
       | inr a ↦ elim (sort_dart l x laid len e is_e) [
         | inl j ↦ absurd (use_not_inside l x (use_of l a.0) a.1 e.patch (column_of e) (row_of e) a.2.low
-            (sym a.2.leaves ∙ same ∙ inner_from l x laid len e j))
+            (cc (a.2.leaves, same, inner_from l x laid len e j)))
         | inr b ↦ both_border a.0 a.1 a.2 b.0 b.1 b.2
       ]
     ]
@@ -220,6 +219,5 @@ module _ {l : Gluing} {x : Lengths} (laid : IsSurface l) (len : AreLengths l x) 
         both_border : (w : Slot) (o : ℕ) → IsAt l x laid len d w o → (v : Slot) (k : ℕ) → IsAt l x laid len e v k
             → R d e
         both_border w o a v k b = turning.on d (slot_dart l x w o) e (at_related d w o is_d a)
-            (turning.on (slot_dart l x w o) (slot_dart l x v k) e
-            (use_related w v o k a.is_slot b.is_slot a.low b.low (sym a.leaves ∙ same ∙ b.leaves))
-            (turning.back e (slot_dart l x v k) is_e (at_related e v k is_e b)))
+            (turning.on (slot_dart l x w o) (slot_dart l x v k) e (use_related w v o k a.is_slot b.is_slot a.low b.low
+            (cc (a.leaves, same, b.leaves))) (turning.back e (slot_dart l x v k) is_e (at_related e v k is_e b)))

@@ -18,13 +18,12 @@ module _ (l : Gluing) (x : Lengths) (paved : HasWholeSides l) (len : AreLengths 
 module _ (l : Gluing) (x : Lengths) (laid : IsSurface l) (len : AreLengths l x) where
   pub point_north : (p i : ℕ) {j : ℕ} → p < l.patches → j ≡ high l x p
       → point l x p i j ≡ side_point l x p north (wide l x p - i)
-  point_north p i {j} low e =
-      cond-false (j == 0) _ _ (ne_eqb j 0 (λ z. omega (arith, high_some l x laid.paved len p low)))
-      ∙ cond-true (j == high l x p) _ _ (eq-eqb j (high l x p) e)
+  point_north p i {j} low e = cond-false (j == 0) _ _ (ne_eqb j 0 (λ z. omega
+      (arith, high_some l x laid.paved len p low))) ∙ cond-true (j == high l x p) _ _ (eq-eqb j (high l x p) e)
 
   pub point_west : (p j : ℕ) → p < l.patches → j ≤ high l x p → point l x p 0 j ≡ side_point l x p west (high l x p - j)
   point_west p j low le = elim (cases_eq j 0) [
-    | inl e ↦ ap (point l x p 0) e ∙ sym (corner_meets l x laid len p west (high l x p - j) low (omega arith))
+    | inl e ↦ cc (corner_meets l x laid len p west (high l x p - j) low (omega arith))
     | inr some ↦ elim (cases_eq j (high l x p)) [
       | inl e ↦ point_north p 0 low e ∙ corner_meets l x laid len p north (wide l x p - 0) low
           (omega (arith, len.across p low)) ∙ ap (side_point l x p west) (omega arith)
@@ -36,13 +35,12 @@ module _ (l : Gluing) (x : Lengths) (laid : IsSurface l) (len : AreLengths l x) 
   pub point_east : (p : ℕ) {i : ℕ} (j : ℕ) → p < l.patches → i ≡ wide l x p → j ≤ high l x p
       → point l x p i j ≡ side_point l x p east j
   point_east p {i} j low wide_i le = elim (cases_eq j 0) [
-    | inl e ↦ ap (point l x p i) e ∙ corner_meets l x laid len p south i low wide_i ∙ ap (side_point l x p east) (sym e)
+    | inl e ↦ cc (corner_meets l x laid len p south i low wide_i)
     | inr some ↦ elim (cases_eq j (high l x p)) [
       | inl e ↦ point_north p i low e ∙ ap (side_point l x p north) (omega arith)
           ∙ sym (corner_meets l x laid len p east j low (omega (arith, len.upright p low)))
-      | inr less ↦
-          cond-false (j == 0) _ _ (ne_eqb j 0 some) ∙ cond-false (j == high l x p) _ _ (ne_eqb j (high l x p) less)
-          ∙ cond-false (i == 0) _ _ (ne_eqb i 0 (λ z. omega (arith, wide_some l x laid.paved len p low)))
+      | inr less ↦ cond-false (j == 0) _ _ (ne_eqb j 0 some) ∙ cond-false (j == high l x p) _ _ (ne_eqb j (high l x p)
+          less) ∙ cond-false (i == 0) _ _ (ne_eqb i 0 (λ z. omega (arith, wide_some l x laid.paved len p low)))
           ∙ cond-true (i == wide l x p) _ _ (eq-eqb i (wide l x p) wide_i)
     ]
   ]

@@ -9,7 +9,7 @@ use Rattle.def_layout.specs.{Gluings.Gluing, Gluings.Slot, Gluings.IsSlot, Gluin
 use Rattle.def_layout.specs.{Surfaces.IsOtherSlot, Lengths.Lengths, Lengths.AreLengths, Cells.CellDart, Cells.IsDart}
 use Rattle.def_layout.specs.Cells.{next, slot_dart}
 use Rattle.def_written.specs.{Points.Point, Points.use_point, NewFaces.dart_start, NewFaces.dart_end}
-use Rattle.written_laws.proofs.Tallies.{passing, passing_le, passing_all, filter_long}
+use Rattle.written_laws.proofs.Tallies.{AreNumbers, numbers_le, passing_all, filter_long}
 use Rattle.written_laws.proofs.{Borders.at_is, Borders.at_from, Borders.at_to, NewDarts.next_is}
 use Rattle.written_laws.proofs.{Across.across_or_alone, Across.IsAlone, Across.alone_not_across, Models.IsModel}
 use Rattle.face_laws.proofs.Fans.{inner_from, inner_twin}
@@ -29,16 +29,16 @@ module _ {l : Gluing} {x : Lengths} {laid : IsSurface l} {len : AreLengths l x} 
   pub vertex_from : {d : CellDart} {a : Point} (v : ℕ) → IsDart l x d → dart_start l x d ≡ a → from_of F (cell d) ≡ v
       → IsVertex a v
   vertex_from {d} v is leaves vertex = record {
-    there = λ e is_e s. model.alike e d is_e is (s ∙ sym leaves) ∙ vertex;
-    back = λ e is_e s. model.apart e d is_e is (s ∙ sym vertex) ∙ leaves;
+    there = λ e is_e s. model.alike e d is_e is (cc) ∙ vertex;
+    back = λ e is_e s. model.apart e d is_e is (cc) ∙ leaves;
   }
 
   module _ {a : Point} {v : ℕ} (is_v : IsVertex a v) where
     ends_there : (d : CellDart) → IsDart l x d → to_of F (cell d) ≡ v → dart_end l x d ≡ a
-    ends_there d is e = is_v.back (next d) (next_is l x d is) (ap (from_of F) (model.turned d is) ∙ e)
+    ends_there d is e = is_v.back (next d) (next_is l x d is) (cc (model.turned d is))
 
     ends_back : {d : CellDart} → IsDart l x d → dart_end l x d ≡ a → to_of F (cell d) ≡ v
-    ends_back {d} is e = ap (from_of F) (sym (model.turned d is)) ∙ is_v.there (next d) (next_is l x d is) e
+    ends_back {d} is e = cc (model.turned d is, is_v.there (next d) (next_is l x d is) e)
 
     pub inner_if : AreShared l x a → is_inner F v ≡ true
     inner_if shared = inner_from F v at
@@ -52,37 +52,33 @@ module _ {l : Gluing} {x : Lengths} {laid : IsSurface l} {len : AreLengths l x} 
           where
             alone : (w : Slot) (o : ℕ) → IsAlone laid len d w o → ⊥
             alone w o s =
-                let other : (u : Slot) × IsOtherSlot l w u = shared w o s.on_border.is_slot s.on_border.low (at ends) in
+                let other = shared w o s.on_border.is_slot s.on_border.low (at ends) in
                 s.alone other.0 other.1
               where
                 at : (dart_start l x d ≡ a) ⊎ (dart_end l x d ≡ a) → (use_point l x (use_of l w) o ≡ a)
                     ⊎ (use_point l x (use_of l w) (o + 1) ≡ a)
-                at (inl e) = inl (sym (at_from l x laid len w o s.on_border.is_slot s.on_border.low)
-                    ∙ ap (dart_start l x) (sym s.on_border.dart) ∙ e)
-                at (inr e) = inr (sym (at_to l x laid len w o s.on_border.is_slot s.on_border.low)
-                    ∙ ap (dart_end l x) (sym s.on_border.dart) ∙ e)
+                at (inl e) = inl (cc (at_from l x laid len w o s.on_border.is_slot s.on_border.low))
+                at (inr e) = inr (cc (at_to l x laid len w o s.on_border.is_slot s.on_border.low))
 
         at : (k : ℕ) → k < darts F → (from_of F k ≡ v) ⊎ (to_of F k ≡ v) → (t : ℕ) × (twin_of F k ≡ Some t)
         at k low ends =
-            let d : (d : CellDart) × IsDart l x d × (cell d ≡ k) = model.onto k low in
-            let t : (t : ℕ) × (twin_of F (cell d.0) ≡ Some t) = by_dart d.0 d.1 (sort d.0 d.1 d.2 ends) in
-            (t.0, ap (twin_of F) (sym d.2) ∙ t.1)
+            let d = model.onto k low in
+            let t = by_dart d.0 d.1 (sort d.0 d.1 d.2 ends) in
+            (t.0, cc)
           where
             sort : (d : CellDart) → IsDart l x d → cell d ≡ k → (from_of F k ≡ v) ⊎ (to_of F k ≡ v)
                 → (dart_start l x d ≡ a) ⊎ (dart_end l x d ≡ a)
-            sort d is s (inl e) = inl (is_v.back d is (ap (from_of F) s ∙ e))
-            sort d is s (inr e) = inr (ends_there d is (ap (to_of F) s ∙ e))
+            sort d is s (inl e) = inl (is_v.back d is (cc))
+            sort d is s (inr e) = inr (ends_there d is (cc))
 
     pub inner_only : is_inner F v ≡ true → AreShared l x a
     inner_only inner w o is less ends = elim (laid.other w is) [
       | inl u ↦ u
       | inr none ↦
-          let t = inner_twin F v inner (cell (slot_dart l x w o)) (model.low (slot_dart l x w o) is_d) (at ends) in
+          let t = inner_twin F v inner _ (model.low _ is_d) (at ends) in
           let s : IsAlone laid len (slot_dart l x w o) w o =
           record { on_border = record { is_slot = is; low = less; dart = refl }; alone = none } in
-          absurd (none-some t.0 (sym
-          (model.alone (slot_dart l x w o) is_d (λ e. alone_not_across laid len e
-          s)) ∙ t.1))
+          absurd (none-some t.0 (cc (model.alone (slot_dart l x w o) is_d (λ e. alone_not_across laid len e s))))
     ]
       where
         is_d : IsDart l x (slot_dart l x w o)
@@ -90,34 +86,33 @@ module _ {l : Gluing} {x : Lengths} {laid : IsSurface l} {len : AreLengths l x} 
 
         at : (use_point l x (use_of l w) o ≡ a) ⊎ (use_point l x (use_of l w) (o + 1) ≡ a)
             → (from_of F (cell (slot_dart l x w o)) ≡ v) ⊎ (to_of F (cell (slot_dart l x w o)) ≡ v)
-        at (inl e) = inl (is_v.there (slot_dart l x w o) is_d (at_from l x laid len w o is less ∙ e))
+        at (inl e) = inl (is_v.there _ is_d (at_from l x laid len w o is less ∙ e))
         at (inr e) = inr (ends_back is_d (at_to l x laid len w o is less ∙ e))
 
-    -- So many darts leave the vertex, where numbers tell them apart and each number is that of one.
-    pub fan_is : (n : ℕ) (code : (d : CellDart) → IsDart l x d → dart_start l x d ≡ a → (k : ℕ) × (k < n))
-        → ((d e : CellDart) (b : IsDart l x d) (c : IsDart l x e) (f : dart_start l x d ≡ a) (g : dart_start l x e ≡ a)
-        → (code d b f).0 ≡ (code e c g).0 → d ≡ e)
-        → (at : (k : ℕ) → k < n → (d : CellDart) × IsDart l x d × (dart_start l x d ≡ a))
-        → ((k m : ℕ) (b : k < n) (c : m < n) → (at k b).0 ≡ (at m c).0 → k ≡ m) → faces_at F v ≡ n
-    fan_is n code once at apart =
-        omega (arith, filter_long (λ d. from_of F d == v) (darts F), passing_all n, most, least)
+    -- So many darts leave the vertex, where each is one of a list of that length that differ.
+    pub fan_is : (n : ℕ) (at : ℕ → CellDart)
+        → ((k : ℕ) → k < n → IsDart l x (at k) × (dart_start l x (at k) ≡ a))
+        → ((d : CellDart) → IsDart l x d → dart_start l x d ≡ a → (k : ℕ) × (k < n) × (at k ≡ d))
+        → ((k m : ℕ) → k < n → m < n → at k ≡ at m → k ≡ m) → faces_at F v ≡ n
+    fan_is n at is all apart = omega (
+      arith,
+      filter_long (λ d. from_of F d == v) (darts F),
+      passing_all n,
+      numbers_le leaving below (λ k m low less same. ap (λ i. cell (at i)) same),
+      numbers_le below leaving (λ k m low less same.
+          apart k m low less (model.same (at k) (at m) (is k low).0 (is m less).0 same)),
+    )
       where
-        leaves : (k : ℕ) (low : k < darts F) → (from_of F k == v) ≡ true → dart_start l x (model.onto k low).0 ≡ a
-        leaves k low s = is_v.back (model.onto k low).0 (model.onto k low).1
-            (ap (from_of F) (model.onto k low).2 ∙ eqb-true (from_of F k) v s)
+        leaving : AreNumbers (λ k. k < n) (λ k. cell (at k)) (λ d. from_of F d == v) (darts F)
+        leaving = record {
+          each = λ k low. let d = is k low in
+              (model.low (at k) d.0, eq-eqb (from_of F (cell (at k))) v (is_v.there (at k) d.0 d.1));
+          onto = λ k low on.
+              let (d, is_d, same) = model.onto k low in
+              let at_a = is_v.back d is_d (ap (from_of F) same ∙ eqb-true (from_of F k) v on) in
+              let (j, less, one) = all d is_d at_a in
+              (j, less, ap cell one ∙ same);
+        }
 
-        most : passing (λ d. from_of F d == v) (darts F) ≤ passing (λ k. true) n
-        most = passing_le (λ d. from_of F d == v) (λ k. true) (darts F) n
-            (λ k low s. let c = code (model.onto k low).0 (model.onto k low).1 (leaves k low s) in (c.0, c.1, refl))
-            (λ k m low s less r same. sym (model.onto k low).2
-            ∙ ap cell (once (model.onto k low).0 (model.onto m less).0 (model.onto k low).1 (model.onto m less).1
-            (leaves k low s) (leaves m less r) same) ∙ (model.onto m less).2)
-
-        there : (k : ℕ) (low : k < n) → (from_of F (cell (at k low).0) == v) ≡ true
-        there k low = eq-eqb _ v (is_v.there (at k low).0 (at k low).1 (at k low).2)
-
-        least : passing (λ k. true) n ≤ passing (λ d. from_of F d == v) (darts F)
-        least = passing_le (λ k. true) (λ d. from_of F d == v) n (darts F)
-            (λ k low on. (cell (at k low).0, model.low (at k low).0 (at k low).1, there k low))
-            (λ k m low on less off same. apart k m low less
-            (model.same (at k low).0 (at m less).0 (at k low).1 (at m less).1 same))
+        below : AreNumbers (λ k. k < n) (λ k. k) (λ k. true) n
+        below = record { each = λ k low. (low, refl); onto = λ k low on. (k, low, refl) }

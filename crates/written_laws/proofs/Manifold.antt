@@ -35,49 +35,33 @@ module _ {l : Gluing} {x : Lengths} (laid : IsSurface l) (len : AreLengths l x) 
   -- Two border darts in a row lie on the last arc of a side and the first of the next one.
   corner_slots : (d : CellDart) (w v : Slot) (o k : ℕ) → IsOnBorder l x d w o → IsOnBorder l x (next d) v k
       → (v.at ≡ 0) × (slot_before l v.patch v.side v.at ≡ w)
-  corner_slots d w v o k at_w at_v = (v_first, by_paths)
-    where
-      patches : v.patch ≡ w.patch
-      patches = sym (rim_patch laid.paved len v.patch v.side (reach l x v.patch v.side v.at + k))
-          ∙ ap (λ (e : CellDart). e.patch) (sym at_v.dart) ∙ ap (λ (e : CellDart). e.patch) at_w.dart
-          ∙ rim_patch laid.paved len w.patch w.side (reach l x w.patch w.side w.at + o)
-
-      sides : v.side ≡ side_after w.side
-      sides = sym (rim_way laid.paved len v.patch v.side (reach l x v.patch v.side v.at + k))
-          ∙ ap (λ (e : CellDart). e.way) (sym at_v.dart) ∙ ap (λ (e : CellDart). side_after e.way) at_w.dart
-          ∙ ap side_after (rim_way laid.paved len w.patch w.side (reach l x w.patch w.side w.at + o))
-
-      same_rim : slot_dart l x v k ≡ dart_along l x w.patch (side_after w.side) (reach l x v.patch v.side v.at + k)
-      same_rim = λ r. dart_along l x (patches r) (sides r) (reach l x v.patch v.side v.at + k)
-
-      columns : (slot_dart l x w o).i
-          ≡ (dart_along l x w.patch (side_after w.side) (reach l x v.patch v.side v.at + k)).i
-      columns = ap (λ (e : CellDart). e.i) (sym at_w.dart) ∙ ap (λ (e : CellDart). e.i) at_v.dart
-          ∙ ap (λ (e : CellDart). e.i) same_rim
-
-      rows : (slot_dart l x w o).j ≡ (dart_along l x w.patch (side_after w.side) (reach l x v.patch v.side v.at + k)).j
-      rows = ap (λ (e : CellDart). e.j) (sym at_w.dart) ∙ ap (λ (e : CellDart). e.j) at_v.dart
-          ∙ ap (λ (e : CellDart). e.j) same_rim
-
-      v_less : reach l x v.patch v.side v.at + k < size l x w.patch (side_after w.side)
-      v_less = subst (λ (n : ℕ). reach l x v.patch v.side v.at + k < n) (λ r. size l x (patches r) (sides r))
-          (at_low l x laid.paved len k at_v.is_slot at_v.low)
-
-      both : (reach l x w.patch w.side w.at + o + 1 ≡ size l x w.patch w.side) × (reach l x v.patch v.side v.at + k ≡ 0)
-      both = corner_cell laid.paved len w.patch w.side (reach l x w.patch w.side w.at + o)
-          (reach l x v.patch v.side v.at + k) at_w.is_slot.patch_low
-          (at_low l x laid.paved len o at_w.is_slot at_w.low) v_less columns rows
-
-      v_first : v.at ≡ 0
-      v_first = first_is l x laid.paved len v at_v.is_slot (omega (arith, both.1))
-
-      w_last : w.at ≡ l.many w.patch w.side - 1
-      w_last = last_is l x laid.paved len w at_w.is_slot (omega (arith, both.0, at_w.low))
-
-      by_paths : slot_before l v.patch v.side v.at ≡ w
-      by_paths = (λ r. slot_before l (patches r) (sides r) (v_first r))
-          ∙ (λ r. slot w.patch (before_after w.side r) (l.many w.patch (before_after w.side r) - 1))
-          ∙ (λ r. slot w.patch w.side (sym w_last r))
+  corner_slots d w v o k at_w at_v =
+      let patches : v.patch ≡ w.patch = sym (rim_patch laid.paved len v.patch v.side (reach l x v.patch v.side v.at
+      + k)) ∙ ap (λ (e : CellDart). e.patch) (sym at_v.dart) ∙ ap (λ (e : CellDart). e.patch) at_w.dart
+      ∙ rim_patch laid.paved len w.patch w.side (reach l x w.patch w.side w.at + o) in
+      let sides : v.side ≡ side_after w.side = sym (rim_way laid.paved len v.patch v.side (reach l x v.patch v.side v.at
+      + k)) ∙ ap (λ (e : CellDart). e.way) (sym at_v.dart) ∙ ap (λ (e : CellDart). side_after e.way) at_w.dart
+      ∙ ap side_after (rim_way laid.paved len w.patch w.side (reach l x w.patch w.side w.at + o)) in
+      let same_rim : slot_dart l x v k ≡ dart_along l x w.patch (side_after w.side) (reach l x v.patch v.side v.at + k)
+      = λ r. dart_along l x (patches r) (sides r) (reach l x v.patch v.side v.at + k) in
+      let columns : (slot_dart l x w o).i
+      ≡ (dart_along l x w.patch (side_after w.side) (reach l x v.patch v.side v.at + k)).i = ap (λ (e : CellDart). e.i)
+      (sym at_w.dart) ∙ ap (λ (e : CellDart). e.i) at_v.dart ∙ ap (λ (e : CellDart). e.i) same_rim in
+      let rows : (slot_dart l x w o).j
+      ≡ (dart_along l x w.patch (side_after w.side) (reach l x v.patch v.side v.at + k)).j = ap (λ (e : CellDart). e.j)
+      (sym at_w.dart) ∙ ap (λ (e : CellDart). e.j) at_v.dart ∙ ap (λ (e : CellDart). e.j) same_rim in
+      let v_less : reach l x v.patch v.side v.at + k
+      < size l x w.patch (side_after w.side) = subst (λ (n : ℕ). reach l x v.patch v.side v.at + k < n)
+      (λ r. size l x (patches r) (sides r)) (at_low l x laid.paved len k at_v.is_slot at_v.low) in
+      let both = corner_cell laid.paved len w.patch w.side (reach l x w.patch w.side w.at + o) (reach l x v.patch v.side
+      v.at + k) at_w.is_slot.patch_low (at_low l x laid.paved len o at_w.is_slot at_w.low) v_less columns rows in
+      let v_first : v.at ≡ 0 = first_is l x laid.paved len v at_v.is_slot (omega (arith, both.1)) in
+      let w_last : w.at
+      ≡ l.many w.patch w.side - 1 = last_is l x laid.paved len w at_w.is_slot (omega (arith, both.0, at_w.low)) in
+      let by_paths : slot_before l v.patch v.side v.at ≡ w = (λ r. slot_before l (patches r) (sides r) (v_first r))
+      ∙ (λ r. slot w.patch (before_after w.side r) (l.many w.patch (before_after w.side r) - 1))
+      ∙ (λ r. slot w.patch w.side (sym w_last r)) in
+      (v_first, by_paths)
 
   module _ (simple : IsSimple l x) where
     pub ends_differ : {d : CellDart} → IsDart l x d → dart_start l x d ≢ dart_end l x d
@@ -92,9 +76,8 @@ module _ {l : Gluing} {x : Lengths} (laid : IsSurface l) (len : AreLengths l x) 
 
         turned : ((course_of l x (next d)).edge ≡ (course_of l x d).edge)
             × ((course_of l x (next d)).ahead ≡ not (course_of l x d).ahead)
-        turned = reversed simple (course_of l x d) (course_of l x (next d)) (course_is l x laid len is)
-            (course_is l x laid len is_next)
-            (sym (course_from l x laid len (next d) is_next) ∙ course_to l x laid len d is)
+        turned = reversed simple (course_of l x d) (course_of l x (next d)) (course_is l x laid len is) (course_is l x
+            laid len is_next) (sym (course_from l x laid len (next d) is_next) ∙ course_to l x laid len d is)
             (sym (course_to l x laid len (next d) is_next) ∙ sym same ∙ course_from l x laid len d is)
 
         by_corner : (w v : Slot) (o k : ℕ) → IsOnBorder l x d w o → IsOnBorder l x (next d) v k → ⊥
@@ -123,9 +106,8 @@ module _ {l : Gluing} {x : Lengths} (laid : IsSurface l) (len : AreLengths l x) 
     -- Points apart have numbers apart.
     numbers_differ : {d e : CellDart} → IsDart l x d → IsDart l x e → dart_start l x d ≢ dart_start l x e
         → vertex_number l x (dart_start l x d) ≢ vertex_number l x (dart_start l x e)
-    numbers_differ {d} {e} is_d is_e apart same =
-        apart (number_same l x (dart_start l x d) (dart_start l x e) (from_is l x laid len d is_d)
-        (from_is l x laid len e is_e) same)
+    numbers_differ {d} {e} is_d is_e apart same = apart (number_same l x (dart_start l x d) (dart_start l x e)
+        (from_is l x laid len d is_d) (from_is l x laid len e is_e) same)
 
     corners_differ : (f : ℕ) → f < face_count l x → (i j : ℕ) → i < j → j < 4
         → cell_vertex l x f (way_of i) ≢ cell_vertex l x f (way_of j)
@@ -163,14 +145,12 @@ module _ {l : Gluing} {x : Lengths} (laid : IsSurface l) (len : AreLengths l x) 
         let starts = number_same l x (dart_start l x a.0) (dart_start l x b.0) (from_is l x laid len a.0 a.1)
         (from_is l x laid len b.0 b.1) (sym (number_from l x a.0 a.1) ∙ ap (from_of (new_faces l x)) a.2 ∙ same.0
         ∙ ap (from_of (new_faces l x)) (sym b.2) ∙ number_from l x b.0 b.1) in
-        let ends = number_same l x (dart_end l x a.0) (dart_end l x b.0)
-        (from_is l x laid len (next a.0) (next_is l x a.0 a.1)) (from_is l x laid len (next b.0) (next_is l x b.0 b.1))
-        (sym (number_to l x a.0 a.1) ∙ ap (to_of (new_faces l x)) a.2 ∙ same.1 ∙ ap (to_of (new_faces l x)) (sym b.2)
-        ∙ number_to l x b.0 b.1) in
-        let one = one_course simple (course_of l x a.0) (course_of l x b.0) (course_is l x laid len a.1)
-        (course_is l x laid len b.1) (sym (course_from l x laid len a.0 a.1) ∙ starts
-        ∙ course_from l x laid len b.0 b.1) (sym (course_to l x laid len a.0 a.1) ∙ ends
-        ∙ course_to l x laid len b.0 b.1) in
+        let ends = number_same l x (dart_end l x a.0) (dart_end l x b.0) (from_is l x laid len (next a.0)
+        (next_is l x a.0 a.1)) (from_is l x laid len (next b.0) (next_is l x b.0 b.1)) (sym (number_to l x a.0 a.1)
+        ∙ ap (to_of (new_faces l x)) a.2 ∙ same.1 ∙ ap (to_of (new_faces l x)) (sym b.2) ∙ number_to l x b.0 b.1) in
+        let one = one_course simple (course_of l x a.0) (course_of l x b.0) (course_is l x laid len a.1) (course_is l x
+        laid len b.1) (sym (course_from l x laid len a.0 a.1) ∙ starts ∙ course_from l x laid len b.0 b.1)
+        (sym (course_to l x laid len a.0 a.1) ∙ ends ∙ course_to l x laid len b.0 b.1) in
         sym a.2 ∙ ap (dart_number l x) (course_once l x laid len a.1 b.1 one) ∙ b.2
 
     pub manifold : HasFans l → IsManifold (new_faces l x)

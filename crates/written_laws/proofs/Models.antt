@@ -44,7 +44,7 @@ used_dart F v quads used = by_face (Any-from_list_any (λ face. list_any (λ u. 
     by_corner : (f : ℕ) → f < length F → Any (λ u. (u == v) ≡ true) (get_or F f []) → (d : ℕ) × (d < darts F)
         × (from_of F d ≡ v)
     by_corner f low (i, u, m, is, t) =
-        let four : length (get_or F f []) ≡ 4 = quads f low in
+        let four = quads f low in
         let face : (4 * f + i) / 4 ≡ f = omega arith in
         let place : (4 * f + i) % 4 ≡ i = omega arith in (
           4 * f + i,
@@ -69,19 +69,19 @@ module _ (l : Gluing) (x : Lengths) (laid : IsSurface l) (len : AreLengths l x) 
   -- Each point is left by a dart.
   pub point_dart : (a : Point) → IsPoint l x a → (d : CellDart) × IsDart l x d × (dart_start l x d ≡ a)
   point_dart (node n) is =
-      let r : (w : Slot) × IsSlot l w × (start_node l (use_of l w) ≡ n) = laid.reached n is in
-      let some : 0 < x (use_of l r.0).arc = use_some l x laid.paved len r.0 r.1 in (
+      let r = laid.reached n is in
+      let some = use_some l x laid.paved len r.0 r.1 in (
         slot_dart l x r.0 0,
         at_is l x laid.paved len r.0 0 r.1 some,
-        at_from l x laid len r.0 0 r.1 some ∙ use_begins l x (use_of l r.0) some ∙ ap node r.2,
+        cc (at_from l x laid len r.0 0 r.1 some, use_begins l x (use_of l r.0) some),
       )
   point_dart (along a k) is =
-      let f : (w : Slot) × IsSlot l w × (use_of l w ≡ record { arc = a; forward = true }) = laid.forward a is.0 in
+      let f = laid.forward a is.0 in
       let long : x (use_of l f.0).arc ≡ x a = ap (λ (u : SideArc). x u.arc) f.2 in
-      let less : k < x (use_of l f.0).arc = omega (arith, is.2) in (
+      let less : k < x (use_of l f.0).arc = omega arith in (
         slot_dart l x f.0 k,
         at_is l x laid.paved len f.0 k f.1 less,
-        at_from l x laid len f.0 k f.1 less ∙ ap (λ (u : SideArc). use_point l x u k) f.2 ∙ arc_inner l x a k is.1 is.2,
+        cc (at_from l x laid len f.0 k f.1 less, arc_inner l x a k is.1 is.2),
       )
   point_dart (inside p i j) is = (
     dart p i j south,

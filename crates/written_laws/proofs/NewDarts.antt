@@ -68,10 +68,10 @@ module _ (l : Gluing) (x : Lengths) where
   dart_number d = 4 * cell_number d + turn d.way
 
   pub next_number : (d : CellDart) → next_of (dart_number d) ≡ dart_number (next d)
-  next_number d = next_at (cell_number d) d.way
+  next_number d = next_at _ d.way
 
   pub prev_number : (d : CellDart) → prev_of (dart_number d) ≡ dart_number (prev d)
-  prev_number d = prev_at (cell_number d) d.way
+  prev_number d = prev_at _ d.way
 
   cell_in_patch : (d : CellDart) → IsDart l x d → d.j * wide l x d.patch + d.i < cells d.patch
   cell_in_patch d is = mul-add-lt d.j (wide l x d.patch) d.i (high l x d.patch) is.j_low is.i_low
@@ -87,41 +87,34 @@ module _ (l : Gluing) (x : Lengths) where
 
   -- A dart is found by its cell.
   pub dart_at : (d : CellDart) (w : Way) → IsDart l x d → dart_of l x (cell_number d) w ≡ dart d.patch d.i d.j w
-  dart_at d w is = ap by_patch patch_is ∙ by_cell
-    where
-      by_patch : (p : ℕ) → CellDart
-      by_patch p = dart p ((cell_number d - cells_before l x p) % wide l x p)
-          ((cell_number d - cells_before l x p) / wide l x p) w
-
-      patch_is : patch_of l x (cell_number d) ≡ d.patch
-      patch_is = run_place cells l.patches d.patch (d.j * wide l x d.patch + d.i) is.patch_low (cell_in_patch d is)
-
-      o_is : cell_number d - cells_before l x d.patch ≡ d.j * wide l x d.patch + d.i
-      o_is = omega arith
-
-      parts : ((cell_number d - cells_before l x d.patch) / wide l x d.patch ≡ d.j)
-          × ((cell_number d - cells_before l x d.patch) % wide l x d.patch ≡ d.i)
-      parts = same_from_place ((cell_number d - cells_before l x d.patch) / wide l x d.patch)
-          ((cell_number d - cells_before l x d.patch) % wide l x d.patch) d.j d.i (wide l x d.patch)
-          (mod-lt (cell_number d - cells_before l x d.patch) (omega (arith, is.i_low))) is.i_low
-          (div-add-mod' (cell_number d - cells_before l x d.patch) (wide l x d.patch) ∙ o_is)
-
-      by_cell : dart d.patch ((cell_number d - cells_before l x d.patch) % wide l x d.patch)
-          ((cell_number d - cells_before l x d.patch) / wide l x d.patch) w ≡ dart d.patch d.i d.j w
-      by_cell = λ t. dart d.patch (parts.1 t) (parts.0 t) w
+  dart_at d w is =
+      let by_patch : (p : ℕ) → CellDart = λ p. dart p ((cell_number d - cells_before l x p) % wide l x p)
+      ((cell_number d - cells_before l x p) / wide l x p) w in
+      let patch_is = run_place cells l.patches d.patch (d.j * wide l x d.patch + d.i) is.patch_low (cell_in_patch d is)
+      in
+      let o_is : cell_number d - cells_before l x d.patch ≡ d.j * wide l x d.patch + d.i = omega arith in
+      let parts : ((cell_number d - cells_before l x d.patch) / wide l x d.patch ≡ d.j)
+      × ((cell_number d - cells_before l x d.patch) % wide l x d.patch ≡ d.i) = same_from_place ((cell_number d
+      - cells_before l x d.patch) / wide l x d.patch) ((cell_number d - cells_before l x d.patch) % wide l x d.patch)
+      d.j d.i (wide l x d.patch) (mod-lt (cell_number d - cells_before l x d.patch) (omega (arith, is.i_low))) is.i_low
+      (div-add-mod' (cell_number d - cells_before l x d.patch) (wide l x d.patch) ∙ o_is) in
+      let by_cell : dart d.patch ((cell_number d - cells_before l x d.patch) % wide l x d.patch)
+      ((cell_number d - cells_before l x d.patch) / wide l x d.patch) w
+      ≡ dart d.patch d.i d.j w = λ t. dart d.patch (parts.1 t) (parts.0 t) w in
+      ap by_patch patch_is ∙ by_cell
 
   -- Darts with one number are one.
   pub dart_same : (d e : CellDart) → IsDart l x d → IsDart l x e → dart_number d ≡ dart_number e → d ≡ e
   dart_same d e is_d is_e same =
       let cell_same : cell_number d ≡ cell_number e = omega (arith, turn_low d.way, turn_low e.way) in
       let turn_same : turn d.way ≡ turn e.way = omega (arith, turn_low d.way, turn_low e.way) in
-      let way_same : d.way ≡ e.way = sym (way_turn d.way) ∙ ap way_of turn_same ∙ way_turn e.way in
+      let way_same : d.way ≡ e.way = cc (way_turn d.way, way_turn e.way) in
       sym (dart_at d d.way is_d) ∙ (λ t. dart_of l x (cell_same t) (way_same t)) ∙ dart_at e e.way is_e
 
   -- The corners of the new faces.
   pub corner_is : (f : ℕ) (w : Way) → f < face_count l x → corner (new_faces l x) f (turn w) ≡ cell_vertex l x f w
-  corner_is f w low = ap (λ (face : Face). slice_index_or face (turn w) 0)
-      (get_or-map-range_with_len (new_face l x) 0 (face_count l x) f f [] low (omega arith)) ∙ by_way w
+  corner_is f w low = cc
+      (get_or-map-range_with_len (new_face l x) 0 (face_count l x) f f [] low (omega arith), by_way w)
     where
       by_way : (w : Way) → slice_index_or (new_face l x f) (turn w) 0 ≡ cell_vertex l x f w
       by_way = elim [ south ↦ refl | east ↦ refl | north ↦ refl | west ↦ refl ]
@@ -132,7 +125,7 @@ module _ (l : Gluing) (x : Lengths) where
   number_from d is =
       let f : dart_number d / 4 ≡ cell_number d = omega (arith, turn_low d.way) in
       let k : dart_number d % 4 ≡ turn d.way = omega (arith, turn_low d.way) in
-      (λ t. corner (new_faces l x) (f t) (k t)) ∙ corner_is (cell_number d) d.way (cell_low d is)
+      (λ t. corner (new_faces l x) (f t) (k t)) ∙ corner_is _ d.way (cell_low d is)
       ∙ ap (λ (e : CellDart). vertex_number l x (dart_start l x e)) (dart_at d d.way is)
 
   pub next_is : (d : CellDart) → IsDart l x d → IsDart l x (next d)
@@ -143,14 +136,14 @@ module _ (l : Gluing) (x : Lengths) where
 
   pub number_to : (d : CellDart) → IsDart l x d → to_of (new_faces l x) (dart_number d)
       ≡ vertex_number l x (dart_end l x d)
-  number_to d is = ap (from_of (new_faces l x)) (next_number d) ∙ number_from (next d) (next_is d is)
+  number_to d is = cc (next_number d, number_from (next d) (next_is d is))
 
   module _ (laid : IsSurface l) (len : AreLengths l x) where
     -- The darts of a new face lie in a patch.
     pub cell_is : (f : ℕ) (w : Way) → f < face_count l x → IsDart l x (dart_of l x f w)
     cell_is f w low =
-        let h : IsInRun cells l.patches f (patch_of l x f) (cell_in l x f) = run_here cells l.patches f low in
-        let some : 0 < wide l x (patch_of l x f) = wide_some l x laid.paved len (patch_of l x f) h.low in
+        let h = run_here cells _ f low in
+        let some = wide_some l x laid.paved len _ h.low in
         let less = rw (mul_comm (wide l x (patch_of l x f)) (high l x (patch_of l x f))) at h.inside in
         record {
           patch_low = h.low;
@@ -161,8 +154,8 @@ module _ (l : Gluing) (x : Lengths) where
 
     pub cell_number_is : (f : ℕ) (w : Way) → f < face_count l x → cell_number (dart_of l x f w) ≡ f
     cell_number_is f w low =
-        let h : IsInRun cells l.patches f (patch_of l x f) (cell_in l x f) = run_here cells l.patches f low in
-        omega (arith, h.place, div-add-mod' (cell_in l x f) (wide l x (patch_of l x f)))
+        let h = run_here cells l.patches f low in
+        omega (arith, div-add-mod' (cell_in l x f) (wide l x (patch_of l x f)))
 
     -- Each dart of the new faces is that of a cell.
     pub at_number : (n : ℕ) → n < darts (new_faces l x) → (d : CellDart) × IsDart l x d × (dart_number d ≡ n)

@@ -23,7 +23,7 @@ module _ {l : Gluing} {x : Lengths} (laid : IsSurface l) (len : AreLengths l x) 
       → ((o ≡ 0) × (start_node l u ≡ n)) ⊎ ((o ≡ x u.arc) × (end_node l u ≡ n))
   node_end u o n le some e = elim (cases_eq o 0) [
     | inl z ↦
-        let b : use_point l x u o ≡ node (start_node l u) = ap (use_point l x u) z ∙ use_begins l x u some in
+        let b : use_point l x u o ≡ node (start_node l u) = cc (use_begins l x u some) in
         let s : start_node l u ≡ n = cc in inl (z, s)
     | inr more ↦ elim (cases_eq o (x u.arc)) [
       | inl last ↦
@@ -47,7 +47,7 @@ module _ {l : Gluing} {x : Lengths} (laid : IsSurface l) (len : AreLengths l x) 
   node_sort n {d} is leaves = elim (sort_dart l x laid len d is) [
     | inl i ↦ let b = inner_from l x laid len d i in absurd cc
     | inr s ↦ elim (node_end (use_of l s.0) s.1 n (omega (arith, s.2.low))
-        (omega (arith, s.2.low)) (sym s.2.leaves ∙ leaves)) [
+        (omega (arith, s.2.low)) (cc (s.2.leaves, leaves))) [
           | inl e ↦ at_slot s.0 s.1 s.2 e.0 e.1
           | inr e ↦ absurd (omega (arith, s.2.low, e.0))
         ]
@@ -82,11 +82,11 @@ module _ {l : Gluing} (laid : IsSurface l) {x y : Lengths} (len : AreLengths l x
       some = use_some l x laid.paved len w is
 
       starts : start_node l (use_of l w) ≡ n → (v : Slot) × IsOtherSlot l w v
-      starts e = shared w 0 is some (inl (use_begins l x (use_of l w) some ∙ ap node e))
+      starts e = shared w 0 is some (inl (cc (use_begins l x (use_of l w) some)))
 
       ends : end_node l (use_of l w) ≡ n → (v : Slot) × IsOtherSlot l w v
-      ends e = shared w (x (use_of l w).arc - 1) is (omega (arith, some))
-          (inr (use_ends l x (use_of l w) (x (use_of l w).arc - 1 + 1) (omega (arith, some)) (omega arith) ∙ ap node e))
+      ends e = shared w (x (use_of l w).arc - 1) is (omega arith)
+          (inr (cc (use_ends l x (use_of l w) (x (use_of l w).arc - 1 + 1) (omega (arith, some)) (omega arith))))
 
       by_end : (m : ℕ) → ((m ≡ 0) × (start_node l (use_of l w) ≡ n))
           ⊎ ((m ≡ y (use_of l w).arc) × (end_node l (use_of l w) ≡ n)) → (v : Slot) × IsOtherSlot l w v
@@ -95,8 +95,8 @@ module _ {l : Gluing} (laid : IsSurface l) {x y : Lengths} (len : AreLengths l x
 
       at : (use_point l y (use_of l w) o ≡ node n) ⊎ (use_point l y (use_of l w) (o + 1) ≡ node n) → (v : Slot)
           × IsOtherSlot l w v
-      at (inl e) = by_end o (node_end laid lon (use_of l w) o n (omega arith) (omega arith) e)
-      at (inr e) = by_end (o + 1) (node_end laid lon (use_of l w) (o + 1) n (omega arith) (omega arith) e)
+      at (inl e) = by_end o (node_end laid lon _ o n (omega arith) (omega arith) e)
+      at (inr e) = by_end _ (node_end laid lon _ _ n (omega arith) (omega arith) e)
 
   module _ {F G : Faces} {cell new : CellDart → ℕ} {f : IsModel F l x laid len cell} {g : IsModel G l y laid lon new}
       (n : ℕ) {u v : ℕ} (is_u : IsVertex f (node n) u) (is_v : IsVertex g (node n) v) where
@@ -124,7 +124,7 @@ module _ {l : Gluing} (laid : IsSurface l) {x y : Lengths} (len : AreLengths l x
             let at : IsAt l y laid lon (spot_dart l y w 0 b) w 0 = spot_at laid lon 0 b s.at.is_slot some later in (
               spot_is laid lon w 0 b s.at.is_slot some later,
               at,
-              at.leaves ∙ use_begins l y (use_of l w) some ∙ ap node s.start,
+              cc (at.leaves, use_begins l y (use_of l w) some, s.start),
             )
 
         once : {d e : CellDart} (s : (w : Slot) × (b : Bool) × IsAtNode laid len n d w b)
@@ -161,5 +161,4 @@ module _ {l : Gluing} {laid : IsSurface l} {x y : Lengths} {len : AreLengths l x
   node_faces = omega (arith, faces_le laid len lon n is_u is_v, faces_le laid lon len n is_v is_u)
 
   pub node_inner : is_inner F u ≡ is_inner G v
-  node_inner = same_test (is_inner F u) (is_inner G v) (inner_to laid len lon n is_u is_v)
-      (inner_to laid lon len n is_v is_u)
+  node_inner = same_test _ _ (inner_to laid len lon n is_u is_v) (inner_to laid lon len n is_v is_u)

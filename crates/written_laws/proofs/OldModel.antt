@@ -18,7 +18,7 @@ use Rattle.written_laws.proofs.{Sides.slot, Sides.use_some, Sides.use_begins, Ri
 use Rattle.written_laws.proofs.Rims.{side_column, side_row, rim_patch, rim_next_column}
 use Rattle.written_laws.proofs.{Rims.rim_next_row, Rims.corner_column, Rims.corner_row, Borders.at_low, Borders.at_is}
 use Rattle.written_laws.proofs.{Borders.IsAt, Fans.point_related, NewDarts.next_is, NewDarts.prev_is, Courses.course}
-use Rattle.written_laws.proofs.Courses.{course_once, IsAcross, IsWithin, IsOnBorder}
+use Rattle.written_laws.proofs.Courses.{alike_or_turned, course_once, IsAcross, IsWithin, IsOnBorder}
 use Rattle.written_laws.proofs.{Courses.sees, Manifold.before_after, Across.across_border, Across.across_within}
 use Rattle.written_laws.proofs.Across.{across_or_alone, across_ends, alone_not_across, IsAlone}
 use Rattle.written_laws.proofs.{Spots.place_at, Spots.at_place, Spots.at_once, Spots.rim_is_at}
@@ -51,61 +51,51 @@ module _ {l : Gluing} {x : Lengths} (laid : IsSurface l) (len : AreLengths l x) 
   after_border : (b u : Slot) (o : ℕ) → IsSlot l b → o < x (use_of l b).arc
       → IsAt l x laid len (next (slot_dart l x b o)) u 0
       → (slot_before l u.patch u.side u.at ≡ b) × (o + 1 ≡ x (use_of l b).arc)
-  after_border b u o is_b less at = elim (cases_lt (o + 1) (x (use_of l b).arc)) [
-    | inl more ↦
-        let here = at_place laid len (next (slot_dart l x b o)) (o + 1) is_b more
-        (rim_patch laid.paved len b.patch b.side (place_at l x b o))
-        (columns ∙ ap (side_column l x b.patch b.side) one) (rows ∙ ap (side_row l x b.patch b.side) one) in
-        absurd (omega (arith, (at_once laid len at here).1))
-    | inr none ↦ elim (cases_lt (suc b.at) (l.many b.patch b.side)) [
-      | inl another ↦ (by_next another none, omega (arith, less, none))
-      | inr last ↦ (by_corner last none, omega (arith, less, none))
-    ]
-  ]
-    where
-      t_low : place_at l x b o < size l x b.patch b.side
-      t_low = at_low l x laid.paved len o is_b less
-
-      one : place_at l x b o + 1 ≡ place_at l x b (o + 1)
-      one = omega arith
-
-      columns : column_of (next (slot_dart l x b o)) ≡ side_column l x b.patch b.side (place_at l x b o + 1)
-      columns = rim_next_column laid.paved len b.patch b.side (place_at l x b o) is_b.patch_low t_low
-
-      rows : row_of (next (slot_dart l x b o)) ≡ side_row l x b.patch b.side (place_at l x b o + 1)
-      rows = rim_next_row laid.paved len b.patch b.side (place_at l x b o) is_b.patch_low t_low
-
-      by_next : suc b.at < l.many b.patch b.side → x (use_of l b).arc ≤ o + 1 → slot_before l u.patch u.side u.at ≡ b
-      by_next another none =
-          let is_v : IsSlot l (slot b.patch b.side (suc b.at)) = record { patch_low = is_b.patch_low; low = another } in
-          let place : place_at l x b o + 1 ≡ place_at l x (slot b.patch b.side (suc b.at)) 0 =
-          omega (arith, less, none) in
-          let there = at_place laid len (next (slot_dart l x b o)) 0 is_v
-          (use_some l x laid.paved len (slot b.patch b.side (suc b.at)) is_v)
-          (rim_patch laid.paved len b.patch b.side (place_at l x b o))
-          (columns ∙ ap (side_column l x b.patch b.side) place) (rows ∙ ap (side_row l x b.patch b.side) place) in
-          ap (λ (w : Slot). slot_before l w.patch w.side w.at)
-          (at_once laid len at there).0
-
-      by_corner : l.many b.patch b.side ≤ suc b.at → x (use_of l b).arc ≤ o + 1 → slot_before l u.patch u.side u.at ≡ b
-      by_corner last none =
-          let is_v : IsSlot l (slot b.patch (side_after b.side) 0) = record {
-            patch_low = is_b.patch_low;
-            low = laid.paved.sides_full b.patch (side_after b.side) is_b.patch_low;
-          } in
-          let at_last : b.at ≡ l.many b.patch b.side - 1 = omega (arith, last, is_b.low) in
-          let many : suc b.at ≡ l.many b.patch b.side = omega (arith, last, is_b.low) in
-          let end : place_at l x b o + 1 ≡ size l x b.patch b.side =
-          omega (arith, less, none, ap (reach l x b.patch b.side) many) in
-          let there = at_place laid len (next (slot_dart l x b o)) 0 is_v
-          (use_some l x laid.paved len (slot b.patch (side_after b.side) 0) is_v)
-          (rim_patch laid.paved len b.patch b.side (place_at l x b o))
-          (columns ∙ corner_column laid.paved len b.patch b.side is_b.patch_low end)
-          (rows ∙ corner_row laid.paved len b.patch b.side is_b.patch_low end) in
-          ap (λ (w : Slot). slot_before l w.patch w.side w.at)
-          (at_once laid len at there).0
-          ∙ (λ t. slot b.patch (before_after b.side t) (l.many b.patch (before_after b.side t) - 1))
-          ∙ (λ t. slot b.patch b.side (sym at_last t))
+  after_border b u o is_b less at =
+      let d = next (slot_dart l x b o) in
+      let t = place_at l x b o in
+      let t_low = at_low l x laid.paved len o is_b less in
+      let columns = rim_next_column laid.paved len b.patch b.side t is_b.patch_low t_low in
+      let rows = rim_next_row laid.paved len b.patch b.side t is_b.patch_low t_low in
+      let patch = rim_patch laid.paved len b.patch b.side t in
+      elim (cases_lt (o + 1) (x (use_of l b).arc)) [
+        | inl more ↦
+            let one : place_at l x b o + 1 ≡ place_at l x b (o + 1) = omega arith in
+            let here = at_place laid len d (o + 1) is_b more patch
+            (columns ∙ ap (side_column l x b.patch b.side) one) (rows ∙ ap (side_row l x b.patch b.side) one) in
+            absurd (omega (arith, (at_once laid len at here).1))
+        | inr none ↦ elim (cases_lt (suc b.at) (l.many b.patch b.side)) [
+          | inl another ↦
+              let v = slot b.patch b.side (suc b.at) in
+              let is_v : IsSlot l (slot b.patch b.side (suc b.at)) =
+              record { patch_low = is_b.patch_low; low = another } in
+              let place : place_at l x b o + 1 ≡ place_at l x (slot b.patch b.side (suc b.at)) 0 =
+              omega (arith, less, none) in
+              let there = at_place laid len d 0 is_v (use_some l x laid.paved len v is_v) patch
+              (columns ∙ ap (side_column l x b.patch b.side) place) (rows ∙ ap (side_row l x b.patch b.side) place) in (
+                ap (λ (w : Slot). slot_before l w.patch w.side w.at) (at_once laid len at there).0,
+                omega (arith, less, none),
+              )
+          | inr last ↦
+              let v = slot b.patch (side_after b.side) 0 in
+              let is_v : IsSlot l (slot b.patch (side_after b.side) 0) = record {
+                patch_low = is_b.patch_low;
+                low = laid.paved.sides_full b.patch (side_after b.side) is_b.patch_low;
+              } in
+              let at_last : b.at ≡ l.many b.patch b.side - 1 = omega (arith, last, is_b.low) in
+              let many : suc b.at ≡ l.many b.patch b.side = omega (arith, last, is_b.low) in
+              let end : place_at l x b o + 1 ≡ size l x b.patch b.side =
+              omega (arith, less, none, ap (reach l x b.patch b.side) many) in
+              let there = at_place laid len d 0 is_v (use_some l x laid.paved len v is_v) patch
+              (columns ∙ corner_column laid.paved len b.patch b.side is_b.patch_low end)
+              (rows ∙ corner_row laid.paved len b.patch b.side is_b.patch_low end) in (
+                ap (λ (w : Slot). slot_before l w.patch w.side w.at) (at_once laid len at there).0
+                    ∙ (λ t. slot b.patch (before_after b.side t) (l.many b.patch (before_after b.side t) - 1))
+                    ∙ (λ t. slot b.patch b.side (sym at_last t)),
+                omega (arith, less, none),
+              )
+        ]
+      ]
 
   -- A turn of the mesh at a node stays at a slot, or is a turn of the gluing.
   slot_turn : {d e : CellDart} {u w : Slot} → IsDart l x d → IsDart l x e → IsAt l x laid len d u 0
@@ -164,30 +154,20 @@ module _ (faces : Faces) (manifold : IsManifold faces) (l : Gluing) (x : Lengths
 
   -- Where no slot uses an arc the other way round, its darts have no twin.
   alone_twin : {d : CellDart} {w : Slot} {o : ℕ} → IsAlone old_laid len d w o → m.twin (cell d) ≡ None
-  alone_twin {w} {o} a = ap (λ (c : CellDart). m.twin (cell c)) a.on_border.dart
-      ∙ ap m.twin (s.ahead w o a.on_border.is_slot a.on_border.low w_forward)
-      ∙ s.alone (use_of l w).arc o (paved.arc_low w a.on_border.is_slot) a.on_border.low all_forward
+  alone_twin {w} {o} a =
+      let first = s.forward (use_of l w).arc (paved.arc_low w a.on_border.is_slot) in
+      let ahead = sym (alike first.0 first.1 (ap (λ (u : SideArc). u.arc) first.2))
+      ∙ ap (λ (u : SideArc). u.forward) first.2 in
+      ap (λ (c : CellDart). m.twin (cell c)) a.on_border.dart
+      ∙ ap m.twin (s.ahead w o a.on_border.is_slot a.on_border.low ahead)
+      ∙ s.alone (use_of l w).arc o (paved.arc_low w a.on_border.is_slot) a.on_border.low
+      (λ v is_v arc. alike v is_v arc ∙ ahead)
     where
-      by_first : (v : Slot) × IsSlot l v × (use_of l v ≡ record { arc = (use_of l w).arc; forward = true })
-          → (use_of l w).forward ≡ true
-      by_first v = elim (cases_Bool (use_of l w).forward) [
-        | inl e ↦ e
-        | inr e ↦ absurd (a.alone v.0 (
-          v.1,
-          record {
-            arc = ap (λ (u : SideArc). u.arc) v.2;
-            turned = ap (λ (u : SideArc). u.forward) v.2 ∙ ap not (sym e);
-          },
-        ))
-      ]
-
-      w_forward : (use_of l w).forward ≡ true
-      w_forward = by_first (s.forward (use_of l w).arc (paved.arc_low w a.on_border.is_slot))
-
-      all_forward : (v : Slot) → IsSlot l v → (use_of l v).arc ≡ (use_of l w).arc → (use_of l v).forward ≡ true
-      all_forward v is_v arc = elim (cases_Bool (use_of l v).forward) [
-        | inl e ↦ e
-        | inr e ↦ absurd (a.alone v (is_v, record { arc = arc; turned = e ∙ ap not (sym w_forward) }))
+      alike : (v : Slot) → IsSlot l v → (use_of l v).arc ≡ (use_of l w).arc
+          → (use_of l v).forward ≡ (use_of l w).forward
+      alike v is_v arc = elim (alike_or_turned (use_of l w).forward (use_of l v).forward) [
+        | inl same ↦ sym same
+        | inr turned ↦ absurd (a.alone v (is_v, record { arc = arc; turned = turned }))
       ]
 
   alone : (d : CellDart) → IsDart l x d → ((e : CellDart) → ¬ IsAcross l x old_laid len d e) → m.twin (cell d) ≡ None

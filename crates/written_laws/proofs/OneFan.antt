@@ -67,9 +67,8 @@ module _ (l : Gluing) (x : Lengths) where
     pub joins : IsTurning l x AreJoined
     joins = record {
       self = λ d e same. (zero, ap (dart_number l x) same);
-      on = λ d c e a b. chain_join (new_faces l x) (dart_number l x d) (dart_number l x c) (dart_number l x e) a.0 b.0
-          a.1 b.1;
-      back = λ d e is a. chain_back (new_faces l x) (dart_number l x d) (dart_number l x e) a.0 (dart_low l x d is) a.1;
+      on = λ d c e a b. chain_join _ _ _ _ a.0 b.0 a.1 b.1;
+      back = λ d e is a. chain_back _ _ _ a.0 (dart_low l x d is) a.1;
       left = λ p i j k m w is_d is_e c r. join is_d is_e
           (λ t. point l x p (c t) (r t)) (inr (left_shared p i j k m w c r));
       over = over;
@@ -78,10 +77,9 @@ module _ (l : Gluing) (x : Lengths) where
         over : (w v : Slot) (o : ℕ) → IsSlot l w → IsOtherSlot l w v → o < x (use_of l w).arc
             → AreJoined (next (slot_dart l x w o)) (slot_dart l x v (x (use_of l w).arc - 1 - o))
         over w v o is other less = join (next_is l x (slot_dart l x w o) (at_is l x laid.paved len w o is less))
-            (at_is l x laid.paved len v (x (use_of l w).arc - 1 - o) other.0
+            (at_is l x laid.paved len v _ other.0
             (omega (arith, other_long l x laid len w v other))) (sym (across_from l x laid len w v o is other less))
-            (inr (across_to l x laid len w v o is other less
-            ∙ ap (dart_start l x) (sym (prev_next (slot_dart l x w o)))))
+            (inr (cc (across_to l x laid len w v o is other less, prev_next (slot_dart l x w o))))
 
     pub one_fan : HasFans l → (v : ℕ) → HasOneFan (new_faces l x) v
     one_fan fans v d e d_low e_low d_from e_from =
@@ -89,8 +87,8 @@ module _ (l : Gluing) (x : Lengths) where
         let b = at_number l x laid len e e_low in
         let same = sym (number_from l x a.0 a.1) ∙ ap (from_of (new_faces l x)) a.2 ∙ d_from ∙ sym e_from
         ∙ ap (from_of (new_faces l x)) (sym b.2) ∙ number_from l x b.0 b.1 in
-        let joined : AreJoined a.0 b.0 = point_related laid len joins (at_nodes laid len joins fans) a.0 b.0 a.1 b.1
-        (number_same l x (dart_start l x a.0) (dart_start l x b.0) (from_is l x laid len a.0 a.1)
+        let joined = point_related laid len joins (at_nodes laid len joins fans) a.0 b.0 a.1 b.1
+        (number_same l x _ _ (from_is l x laid len a.0 a.1)
         (from_is l x laid len b.0 b.1) same) in (
           joined.0,
           subst (λ (k : ℕ). Chain (new_faces l x) k e joined.0) a.2

@@ -10,7 +10,8 @@ use Rattle.def_written.specs.Points.{Point, along, inside, arc_point, side_point
 use Rattle.def_written.specs.Edges.{Edge, on_arc, flat, steep, IsEdge, edge_start, edge_end}
 use Rattle.written_laws.proofs.Sides.{slot, arc_last, arc_inner, use_inner, side_in}
 use Rattle.written_laws.proofs.{Sides.reach_low, Sides.first_slot, Sides.last_slot, Sides.last_reach, Grid.point_north}
-use Rattle.written_laws.proofs.{Grid.point_west, Grid.point_east, Courses.is_arc, Simple.IsSimple}
+use Rattle.written_laws.proofs.{Grid.point_west, Grid.point_east, Courses.is_arc, Courses.alike_or_turned}
+use Rattle.written_laws.proofs.Simple.{IsSimple}
 use Rattle.written_laws.proofs.{Manifold.before_after, Spokes.IsOpen, Spokes.spoke, Spokes.tip_column, Spokes.tip_row}
 use Rattle.written_laws.proofs.Spokes.{one_way, tip, Joins, joins_swap, arc_sort}
 use Rattle.written_laws.proofs.Spokes.{point_sort, Inner, hub, tip_low, spoke_joins}
@@ -26,60 +27,29 @@ module _ {l : Gluing} {x : Lengths} (laid : IsSurface l) (len : AreLengths l x) 
   -- The points beside a corner of a patch differ.
   beside_corner : (p : ℕ) (s : Way) (t : ℕ) → p < l.patches → t + 1 ≡ size l x p s
       → side_point l x p s t ≢ side_point l x p (side_after s) 1
-  beside_corner p s t p_low e same = by_ways (use_of l w).forward (use_of l v).forward refl refl
+  beside_corner p s t p_low e same =
+      let w = slot p s (l.many p s - 1) in
+      let v = slot p (side_after s) 0 in
+      let is_w = last_slot l x laid.paved len p s p_low in
+      let is_v = first_slot l x laid.paved len p (side_after s) p_low in
+      let w_two = open_l.two (use_of l w).arc (laid.paved.arc_low w is_w) in
+      let v_two = open_l.two (use_of l v).arc (laid.paved.arc_low v is_v) in
+      let place : t ≡ reach l x p s (l.many p s - 1) + (x (use_of l w).arc - 1) =
+      omega (arith, last_reach l x laid.paved len p s p_low, w_two) in
+      let w_point = side_in l x (x (use_of l w).arc - 1) is_w (omega (arith, w_two))
+      ∙ use_inner l x (use_of l w) (x (use_of l w).arc - 1) (omega (arith, w_two)) (omega (arith, w_two)) in
+      let v_point = side_in l x 1 is_v (omega (arith, v_two))
+      ∙ use_inner l x (use_of l v) 1 (omega arith) (omega (arith, v_two)) in
+      let arcs : (use_of l w).arc ≡ (use_of l v).arc =
+      let f = sym w_point ∙ ap (side_point l x p s) (sym place) ∙ same ∙ v_point in cc in
+      elim (alike_or_turned (use_of l w).forward (use_of l v).forward) [
+        | inl ways ↦ no_turn s (ap (λ (u : Slot). u.side)
+            (laid.once w v is_w is_v (λ r. record { arc = arcs r; forward = ways r })))
+        | inr ways ↦ laid.no_fold v is_v refl (rw (before_after s) (record { arc = sym arcs; turned = ways }))
+      ]
     where
-      w : Slot
-      w = slot p s (l.many p s - 1)
-
-      v : Slot
-      v = slot p (side_after s) 0
-
-      is_w : IsSlot l w
-      is_w = last_slot l x laid.paved len p s p_low
-
-      is_v : IsSlot l v
-      is_v = first_slot l x laid.paved len p (side_after s) p_low
-
-      w_two : 2 ≤ x (use_of l w).arc
-      w_two = open_l.two (use_of l w).arc (laid.paved.arc_low w is_w)
-
-      v_two : 2 ≤ x (use_of l v).arc
-      v_two = open_l.two (use_of l v).arc (laid.paved.arc_low v is_v)
-
-      place : t ≡ reach l x p s (l.many p s - 1) + (x (use_of l w).arc - 1)
-      place = omega (arith, last_reach l x laid.paved len p s p_low, w_two)
-
-      w_point : side_point l x p s t ≡ along (use_of l w).arc
-          (cond (use_of l w).forward (x (use_of l w).arc - 1) (x (use_of l w).arc - (x (use_of l w).arc - 1)))
-      w_point = ap (side_point l x p s) place ∙ side_in l x (x (use_of l w).arc - 1) is_w (omega (arith, w_two))
-          ∙ use_inner l x (use_of l w) (x (use_of l w).arc - 1) (omega (arith, w_two)) (omega (arith, w_two))
-
-      v_point : side_point l x p (side_after s) 1 ≡ along (use_of l v).arc
-          (cond (use_of l v).forward 1 (x (use_of l v).arc - 1))
-      v_point = side_in l x 1 is_v (omega (arith, v_two))
-          ∙ use_inner l x (use_of l v) 1 (omega arith) (omega (arith, v_two))
-
-      arcs : (use_of l w).arc ≡ (use_of l v).arc
-      arcs = let f = sym w_point ∙ same ∙ v_point in cc
-
       no_turn : (s : Way) → s ≢ side_after s
-      no_turn south f = cc
-      no_turn east f = cc
-      no_turn north f = cc
-      no_turn west f = cc
-
-      alike : (use_of l w).forward ≡ (use_of l v).forward → ⊥
-      alike ways = no_turn s (ap (λ (u : Slot). u.side)
-          (laid.once w v is_w is_v (λ r. record { arc = arcs r; forward = ways r })))
-
-      turned : (use_of l v).forward ≡ not (use_of l w).forward → ⊥
-      turned ways = laid.no_fold v is_v refl (rw (before_after s) (record { arc = sym arcs; turned = ways }))
-
-      by_ways : (f g : Bool) → (use_of l w).forward ≡ f → (use_of l v).forward ≡ g → ⊥
-      by_ways true true f g = alike (f ∙ sym g)
-      by_ways false false f g = alike (f ∙ sym g)
-      by_ways true false f g = turned (g ∙ ap not (sym f))
-      by_ways false true f g = turned (g ∙ ap not (sym f))
+      no_turn = elim [ south ↦ λ f. cc | east ↦ λ f. cc | north ↦ λ f. cc | west ↦ λ f. cc ]
 
   -- The tip l x of a spoke lies on this side of its patch.
   abbrev Far : (p i j : ℕ) (w : Way) → Type 0
@@ -88,29 +58,27 @@ module _ {l : Gluing} {x : Lengths} (laid : IsSurface l) (len : AreLengths l x) 
   Far p i j west = i ≡ 1
   Far p i j south = j ≡ 1
 
+  inner : {p i j : ℕ} → p < l.patches → 0 < i → i < wide l x p → 0 < j → j < high l x p → Inner l x laid len p i j
+  inner low a_some a_low b_some b_low =
+      (low, record { a_some = a_some; a_low = a_low; b_some = b_some; b_low = b_low })
+
   tip_case : (p i j : ℕ) (w : Way) → Inner l x laid len p i j → Inner l x laid len p (tip_column i w) (tip_row j w)
       ⊎ Far p i j w
-  tip_case p i j east n = elim (cases_eq (i + 1) (wide l x p)) [
+  tip_case p i j east (low, n) = elim (cases_eq (i + 1) (wide l x p)) [
     | inl e ↦ inr e
-    | inr less ↦ inl
-        (n.0, record { a_some = omega arith; a_low = omega (arith, n.1.a_low); b_some = n.1.b_some; b_low = n.1.b_low })
+    | inr less ↦ inl (inner low (omega arith) (omega (arith, n.a_low)) n.b_some n.b_low)
   ]
-  tip_case p i j north n = elim (cases_eq (j + 1) (high l x p)) [
+  tip_case p i j north (low, n) = elim (cases_eq (j + 1) (high l x p)) [
     | inl e ↦ inr e
-    | inr less ↦ inl
-        (n.0, record { a_some = n.1.a_some; a_low = n.1.a_low; b_some = omega arith; b_low = omega (arith, n.1.b_low) })
+    | inr less ↦ inl (inner low n.a_some n.a_low (omega arith) (omega (arith, n.b_low)))
   ]
-  tip_case p i j west n = elim (cases_eq i 1) [
+  tip_case p i j west (low, n) = elim (cases_eq i 1) [
     | inl e ↦ inr e
-    | inr more ↦
-        let a : (0 < i - 1) × (i - 1 < wide l x p) = (omega (arith, n.1.a_some), omega (arith, n.1.a_low)) in
-        inl (n.0, record { a_some = a.0; a_low = a.1; b_some = n.1.b_some; b_low = n.1.b_low })
+    | inr more ↦ inl (inner low (omega (arith, n.a_some)) (omega (arith, n.a_low)) n.b_some n.b_low)
   ]
-  tip_case p i j south n = elim (cases_eq j 1) [
+  tip_case p i j south (low, n) = elim (cases_eq j 1) [
     | inl e ↦ inr e
-    | inr more ↦
-        let b : (0 < j - 1) × (j - 1 < high l x p) = (omega (arith, n.1.b_some), omega (arith, n.1.b_low)) in
-        inl (n.0, record { a_some = n.1.a_some; a_low = n.1.a_low; b_some = b.0; b_low = b.1 })
+    | inr more ↦ inl (inner low n.a_some n.a_low (omega (arith, n.b_some)) (omega (arith, n.b_low)))
   ]
 
   near_tips : (p i j : ℕ) (w v : Way) → Inner l x laid len p i j → Inner l x laid len p (tip_column i w) (tip_row j w)
@@ -121,74 +89,64 @@ module _ {l : Gluing} {x : Lengths} (laid : IsSurface l) (len : AreLengths l x) 
       (sym same ∙ hub l x laid len p (tip_column i w) (tip_row j w) near) in
       one_way i j w v n.1.a_some n.1.b_some (sym e.1) (sym e.2)
 
-  east_north : (p i j : ℕ) → Inner l x laid len p i j → Far p i j east → Far p i j north
-      → tip l x p i j east ≢ tip l x p i j north
-  east_north p i j n e f same =
+  far_after : (p i j : ℕ) (w : Way) → Inner l x laid len p i j → Far p i j w → Far p i j (side_after w)
+      → tip l x p i j w ≢ tip l x p i j (side_after w)
+  far_after p i j east (low, n) e f same =
       let one : wide l x p - i ≡ 1 = omega arith in
-      beside_corner p east j n.0 (omega (arith, len.upright p n.0))
-      (sym (point_east l x laid len p j n.0 e (omega arith)) ∙ same
-      ∙ point_north l x laid len p i n.0 f ∙ ap (side_point l x p north) one)
-
-  north_west : (p i j : ℕ) → Inner l x laid len p i j → Far p i j north → Far p i j west
-      → tip l x p i j north ≢ tip l x p i j west
-  north_west p i j n e f same =
+      beside_corner p east j low (omega (arith, len.upright p low))
+      (sym (point_east l x laid len p j low e (omega arith)) ∙ same ∙ point_north l x laid len p i low f
+      ∙ ap (side_point l x p north) one)
+  far_after p i j north (low, n) e f same =
       let first : i - 1 ≡ 0 = omega arith in
       let one : high l x p - j ≡ 1 = omega arith in
-      beside_corner p north (wide l x p - i) n.0 (omega (arith, n.1.a_low, len.across p n.0))
-      (sym (point_north l x laid len p i n.0 e) ∙ same
-      ∙ ap (λ k. point l x p k j) first ∙ point_west l x laid len p j n.0 (omega arith)
-      ∙ ap (side_point l x p west) one)
-
-  west_south : (p i j : ℕ) → Inner l x laid len p i j → Far p i j west → Far p i j south
-      → tip l x p i j west ≢ tip l x p i j south
-  west_south p i j n e f same =
+      beside_corner p north (wide l x p - i) low (omega (arith, n.a_low, len.across p low))
+      (sym (point_north l x laid len p i low e) ∙ same ∙ ap (λ k. point l x p k j) first
+      ∙ point_west l x laid len p j low (omega arith) ∙ ap (side_point l x p west) one)
+  far_after p i j west (low, n) e f same =
       let first : i - 1 ≡ 0 = omega arith in
       let bottom : j - 1 ≡ 0 = omega arith in
-      beside_corner p west (high l x p - j) n.0 (omega (arith, n.1.b_low))
-      (sym (point_west l x laid len p j n.0 (omega (arith, n.1.b_low))) ∙ ap (λ k. point l x p k j) (sym first) ∙ same
+      beside_corner p west (high l x p - j) low (omega (arith, n.b_low))
+      (sym (point_west l x laid len p j low (omega (arith, n.b_low))) ∙ ap (λ k. point l x p k j) (sym first) ∙ same
       ∙ ap (point l x p i) bottom ∙ ap (side_point l x p south) e)
-
-  south_east : (p i j : ℕ) → Inner l x laid len p i j → Far p i j south → Far p i j east
-      → tip l x p i j south ≢ tip l x p i j east
-  south_east p i j n e f same =
+  far_after p i j south (low, n) e f same =
       let bottom : j - 1 ≡ 0 = omega arith in
-      beside_corner p south i n.0 f
-      (ap (point l x p i) (sym bottom) ∙ same
-      ∙ point_east l x laid len p j n.0 f (omega (arith, n.1.b_low)) ∙ ap (side_point l x p east) e)
+      beside_corner p south i low f
+      (ap (point l x p i) (sym bottom) ∙ same ∙ point_east l x laid len p j low f (omega (arith, n.b_low))
+      ∙ ap (side_point l x p east) e)
 
   east_west : (p i j : ℕ) → Inner l x laid len p i j → Far p i j east → Far p i j west
       → tip l x p i j east ≢ tip l x p i j west
-  east_west p i j n e f same =
+  east_west p i j (low, n) e f same =
       let first : i - 1 ≡ 0 = omega arith in
       let two : i + 1 ≡ 2 = omega arith in
-      open_l.across p j n.0 (omega arith) n.1.b_some n.1.b_low
+      open_l.across p j low (omega arith) n.b_some n.b_low
       (ap (λ k. point l x p k j) (sym first) ∙ sym same ∙ ap (λ k. point l x p k j) two)
 
   north_south : (p i j : ℕ) → Inner l x laid len p i j → Far p i j north → Far p i j south
       → tip l x p i j north ≢ tip l x p i j south
-  north_south p i j n e f same =
+  north_south p i j (low, n) e f same =
       let first : j - 1 ≡ 0 = omega arith in
       let two : j + 1 ≡ 2 = omega arith in
-      open_l.upright p i n.0 (omega arith) n.1.a_some n.1.a_low
+      open_l.upright p i low (omega arith) n.a_some n.a_low
       (ap (point l x p i) (sym first) ∙ sym same ∙ ap (point l x p i) two)
 
   far_tips : (p i j : ℕ) (w v : Way) → Inner l x laid len p i j → Far p i j w → Far p i j v
       → tip l x p i j w ≡ tip l x p i j v → w ≡ v
   far_tips p i j east east n e f same = refl
-  far_tips p i j east north n e f same = absurd (east_north p i j n e f same)
+  far_tips p i j east north n e f same = absurd (far_after p i j east n e f same)
   far_tips p i j east west n e f same = absurd (east_west p i j n e f same)
-  far_tips p i j east south n e f same = absurd (south_east p i j n f e (sym same))
-  far_tips p i j north east n e f same = absurd (east_north p i j n f e (sym same))
+  far_tips p i j east south n e f same = absurd (far_after p i j south n f e (sym same))
+  far_tips p i j north east n e f same = absurd (far_after p i j east n f e (sym same))
   far_tips p i j north north n e f same = refl
-  far_tips p i j north west n e f same = absurd (north_west p i j n e f same)
+  far_tips p i j north west n e f same = absurd (far_after p i j north n e f same)
   far_tips p i j north south n e f same = absurd (north_south p i j n e f same)
   far_tips p i j west east n e f same = absurd (east_west p i j n f e (sym same))
-  far_tips p i j west north n e f same = absurd (north_west p i j n f e (sym same))
+  far_tips p i j west north n e f same = absurd (far_after p i j north n f e (sym same))
   far_tips p i j west west n e f same = refl
-  far_tips p i j west south n e f same = absurd (west_south p i j n e f same)
-  far_tips p i j south east n e f same = absurd (south_east p i j n e f same)
+  far_tips p i j west south n e f same = absurd (far_after p i j west n e f same)
+  far_tips p i j south east n e f same = absurd (far_after p i j south n e f same)
   far_tips p i j south north n e f same = absurd (north_south p i j n f e (sym same))
-  far_tips p i j south west n e f same = absurd (west_south p i j n f e (sym same))
+  far_tips p i j south west n e f same = absurd (far_after p i j west n f e (sym same))
   far_tips p i j south south n e f same = refl
 
   tips_differ : (p i j : ℕ) (w v : Way) → Inner l x laid len p i j → tip l x p i j w ≡ tip l x p i j v → w ≡ v
@@ -204,23 +162,17 @@ module _ {l : Gluing} {x : Lengths} (laid : IsSurface l) (len : AreLengths l x) 
   edge_spoke : (e : Edge) → IsEdge l x e → is_arc e ≡ false
       → (p : ℕ) × (i : ℕ) × (j : ℕ) × (w : Way) × Inner l x laid len p i j × (e ≡ spoke p i j w)
   edge_spoke (on_arc a k) is off = absurd cc
-  edge_spoke (flat p i j) is off = elim (cases_eq i 0) [
+  edge_spoke (flat p i j) (low, i_low, j_some, j_low) off = elim (cases_eq i 0) [
     | inl z ↦
-        let a_low : 1 < wide l x p = omega (arith, side_two p south is.0) in
-        let n : Inner l x laid len p 1 j =
-        (is.0, record { a_some = omega arith; a_low = a_low; b_some = is.2; b_low = is.3 }) in
+        let n = inner low (omega arith) (omega (arith, side_two p south low)) j_some j_low in
         (p, 1, j, west, n, ap (λ k. flat p k j) z)
-    | inr some ↦
-        (p, i, j, east, (is.0, record { a_some = omega arith; a_low = is.1; b_some = is.2; b_low = is.3 }), refl)
+    | inr some ↦ (p, i, j, east, inner low (omega arith) i_low j_some j_low, refl)
   ]
-  edge_spoke (steep p i j) is off = elim (cases_eq j 0) [
+  edge_spoke (steep p i j) (low, i_some, i_low, j_low) off = elim (cases_eq j 0) [
     | inl z ↦
-        let b_low : 1 < high l x p = omega (arith, side_two p west is.0) in
-        let n : Inner l x laid len p i 1 =
-        (is.0, record { a_some = is.1; a_low = is.2; b_some = omega arith; b_low = b_low }) in
+        let n = inner low i_some i_low (omega arith) (omega (arith, side_two p west low)) in
         (p, i, 1, south, n, ap (steep p i) z)
-    | inr some ↦
-        (p, i, j, north, (is.0, record { a_some = is.1; a_low = is.2; b_some = omega arith; b_low = is.3 }), refl)
+    | inr some ↦ (p, i, j, north, inner low i_some i_low (omega arith) j_low, refl)
   ]
 
   -- An edge with the ends of a spoke is that spoke.
@@ -283,22 +235,14 @@ module _ {l : Gluing} {x : Lengths} (laid : IsSurface l) (len : AreLengths l x) 
   joins_once : (e f : Edge) → IsEdge l x e → IsEdge l x f → Joins l x e (edge_start l x f) (edge_end l x f) → e ≡ f
   joins_once e f is_e is_f joins = by_kinds (is_arc e) (is_arc f) refl refl
     where
-      Sorted : Edge → Type 0
-      Sorted g = (p : ℕ) × (i : ℕ) × (j : ℕ) × (w : Way) × Inner l x laid len p i j × (g ≡ spoke p i j w)
-
       along_spoke : (g h : Edge) → IsEdge l x g → Joins l x g (edge_start l x h) (edge_end l x h)
           → (p i j : ℕ) (w : Way) → Inner l x laid len p i j → h ≡ spoke p i j w → g ≡ h
       along_spoke g h is_g both p i j w n is =
-          spoke_once g p i j w is_g n (by_order (spoke_joins l x laid len p i j w n)) ∙ sym is
-        where
-          on_spoke : Joins l x g (edge_start l x (spoke p i j w)) (edge_end l x (spoke p i j w))
-          on_spoke = subst (λ (k : Edge). Joins l x g (edge_start l x k) (edge_end l x k)) is both
-
-          by_order : Joins l x (spoke p i j w) (inside p i j) (tip l x p i j w)
-              → Joins l x g (inside p i j) (tip l x p i j w)
-          by_order (inl s) = subst (λ (q : Point). Joins l x g q (tip l x p i j w)) s.0 (rw s.1 at on_spoke)
-          by_order (inr s) = joins_swap l x g (tip l x p i j w) (inside p i j)
-              (subst (λ (q : Point). Joins l x g q (inside p i j)) s.0 (rw s.1 at on_spoke))
+          let on = rw is at both in
+          spoke_once g p i j w is_g n (elim (spoke_joins l x laid len p i j w n) [
+            | inl s ↦ rw (s.0, s.1) at on
+            | inr s ↦ joins_swap l x g (tip l x p i j w) (inside p i j) (rw (s.0, s.1) at on)
+          ]) ∙ sym is
 
       flip : Joins l x e (edge_start l x f) (edge_end l x f) → Joins l x f (edge_start l x e) (edge_end l x e)
       flip (inl s) = inl (sym s.0, sym s.1)
@@ -318,6 +262,11 @@ module _ {l : Gluing} {x : Lengths} (laid : IsSurface l) (len : AreLengths l x) 
           sym (along_spoke f e is_f (flip joins) s.0 s.1 s.2 s.3 s.4 s.5)
       by_kinds true true e_kind f_kind = both_arcs e f is_e is_f e_kind f_kind joins
 
+  no_inner_loop : (e : Edge) → IsEdge l x e → is_arc e ≡ false → edge_start l x e ≢ edge_end l x e
+  no_inner_loop e is off same =
+      let s = edge_spoke e is off in
+      loop_at l x laid len e s.0 s.1 s.2 s.3 s.4 s.5 same
+
   no_loop : (e : Edge) → IsEdge l x e → edge_start l x e ≢ edge_end l x e
   no_loop (on_arc a k) is same = elim (cases_eq k 0) [
     | inl z ↦
@@ -328,12 +277,8 @@ module _ {l : Gluing} {x : Lengths} (laid : IsSurface l) (len : AreLengths l x) 
         let s : (a ≡ a) × (k + 1 ≡ k) = arc_sort l x a (k + 1) a k (sym same ∙ arc_inner l x a k (omega arith) is.1) in
         omega (arith, s.1)
   ]
-  no_loop (flat p i j) is same =
-      let s = edge_spoke (flat p i j) is refl in
-      loop_at l x laid len (flat p i j) s.0 s.1 s.2 s.3 s.4 s.5 same
-  no_loop (steep p i j) is same =
-      let s = edge_spoke (steep p i j) is refl in
-      loop_at l x laid len (steep p i j) s.0 s.1 s.2 s.3 s.4 s.5 same
+  no_loop (flat p i j) is same = no_inner_loop (flat p i j) is refl same
+  no_loop (steep p i j) is same = no_inner_loop (steep p i j) is refl same
 
   pub simple_open : IsSimple l x
   simple_open = record {

@@ -13,15 +13,10 @@ use Rattle.written_laws.proofs.{Sides.use_begins, Sides.use_ends, Sides.use_inne
 use Rattle.written_laws.proofs.{Rims.column_of, Rims.row_of, Rims.corner_low, Borders.IsAt}
 use Rattle.written_laws.proofs.Borders.{sort_dart, inner_from, use_back, use_not_inside}
 use Rattle.written_laws.proofs.NewDarts.{turn, way_of, way_turn, turn_way, turn_low}
-use Rattle.written_laws.proofs.{Spokes.point_sort, Spots.spot_dart, Spots.at_once, Spots.spot_is}
+use Rattle.written_laws.proofs.{Courses.alike_or_turned, Courses.not_self, Spokes.point_sort, Spots.spot_dart}
+use Rattle.written_laws.proofs.{Spots.at_once, Spots.spot_is}
 use Rattle.written_laws.proofs.{Spots.spot_at, Spots.sort_spot, Spots.spot_once, Models.IsModel, Inners.AreShared}
 use Rattle.written_laws.proofs.Inners.{IsVertex, inner_if, inner_only, fan_is}
-
-column_once : (i k : ℕ) (w : Way) → column i w ≡ column k w → i ≡ k
-column_once i k = elim [ south ↦ λ e. e | east ↦ λ e. omega arith | north ↦ λ e. omega arith | west ↦ λ e. e ]
-
-row_once : (j m : ℕ) (w : Way) → row j w ≡ row m w → j ≡ m
-row_once j m = elim [ south ↦ λ e. e | east ↦ λ e. e | north ↦ λ e. omega arith | west ↦ λ e. omega arith ]
 
 -- The four darts at an inner grid point.
 abbrev hub_dart : (p i j : ℕ) (w : Way) → CellDart
@@ -32,6 +27,13 @@ hub_dart p i j west = dart p i (j - 1) west
 
 hub_way : (p i j : ℕ) (w : Way) → (hub_dart p i j w).way ≡ w
 hub_way p i j = elim [ south ↦ refl | east ↦ refl | north ↦ refl | west ↦ refl ]
+
+hub_is : (p i j q c r : ℕ) (w : Way) → q ≡ p → column c w ≡ i → row r w ≡ j → hub_dart p i j w ≡ dart q c r w
+hub_is p i j q c r south patch columns rows = cc
+hub_is p i j q c r east patch columns rows = let left : i - 1 ≡ c = omega arith in cc
+hub_is p i j q c r north patch columns rows =
+    let left : i - 1 ≡ c = omega arith in let low : j - 1 ≡ r = omega arith in cc
+hub_is p i j q c r west patch columns rows = let low : j - 1 ≡ r = omega arith in cc
 
 -- The darts at a place of an arc by number: two beside the arc as it runs, two on its other side.
 abbrev code : (forward behind : Bool) → ℕ
@@ -51,23 +53,12 @@ behind_of (suc zero) = true
 behind_of (suc (suc zero)) = false
 behind_of (suc (suc (suc k))) = true
 
-code_forward : (f b : Bool) → forward_of (code f b) ≡ f
-code_forward true false = refl
-code_forward true true = refl
-code_forward false false = refl
-code_forward false true = refl
-
-code_behind : (f b : Bool) → behind_of (code f b) ≡ b
-code_behind true false = refl
-code_behind true true = refl
-code_behind false false = refl
-code_behind false true = refl
-
-code_low : (f b : Bool) → code f b < 4
-code_low true false = omega arith
-code_low true true = omega arith
-code_low false false = omega arith
-code_low false true = omega arith
+-- A number below 4 for each, and each for its number.
+code_parts : (f b : Bool) → (code f b < 4) × (forward_of (code f b) ≡ f) × (behind_of (code f b) ≡ b)
+code_parts true false = (omega arith, refl, refl)
+code_parts true true = (omega arith, refl, refl)
+code_parts false false = (omega arith, refl, refl)
+code_parts false true = (omega arith, refl, refl)
 
 code_first : (b : Bool) → code true b < 2
 code_first = elim [ true ↦ omega arith | false ↦ omega arith ]
@@ -123,22 +114,6 @@ module _ {l : Gluing} {x : Lengths} (laid : IsSurface l) (len : AreLengths l x) 
         shared w o is_w less (inl e) = absurd (upto_not_inside (use_of l w) o p i j (omega arith) (omega arith) e)
         shared w o is_w less (inr e) = absurd (upto_not_inside (use_of l w) (o + 1) p i j (omega arith) (omega arith) e)
 
-        place : (d : CellDart) → IsDart l x d → dart_start l x d ≡ inside p i j → (d.patch ≡ p) × (column_of d ≡ i)
-            × (row_of d ≡ j)
-        place d is_d leaves = point_sort l x laid len d.patch (column_of d) (row_of d) p i j is_d.patch_low
-            (corner_low laid.paved len d is_d).0 (corner_low laid.paved len d is_d).1 leaves
-
-        once : (d e : CellDart) (b : IsDart l x d) (c : IsDart l x e) (f : dart_start l x d ≡ inside p i j)
-            (g : dart_start l x e ≡ inside p i j) → turn d.way ≡ turn e.way → d ≡ e
-        once d e is_d is_e f g turns =
-            let a : (d.patch ≡ p) × (column_of d ≡ i) × (row_of d ≡ j) = place d is_d f in
-            let b : (e.patch ≡ p) × (column_of e ≡ i) × (row_of e ≡ j) = place e is_e g in
-            let ways : d.way ≡ e.way = sym (way_turn d.way) ∙ ap way_of turns ∙ way_turn e.way in
-            let patches : d.patch ≡ e.patch = a.0 ∙ sym b.0 in
-            let columns : d.i ≡ e.i = column_once d.i e.i e.way (ap (column d.i) (sym ways) ∙ a.1 ∙ sym b.1) in
-            let rows : d.j ≡ e.j = row_once d.j e.j e.way (ap (row d.j) (sym ways) ∙ a.2 ∙ sym b.2) in
-            λ t. dart (patches t) (columns t) (rows t) (ways t)
-
         hub : point l x p i j ≡ inside p i j
         hub = point_inside l x laid len p i j is.1 is.2 is.3 is.4
 
@@ -158,194 +133,175 @@ module _ {l : Gluing} {x : Lengths} (laid : IsSurface l) (len : AreLengths l x) 
             (record { patch_low = is.0; i_low = is.2; j_low = omega (arith, is.4) }, ap (point l x p i) r ∙ hub)
 
         four : faces_at F v ≡ 4
-        four = fan_is model is_v 4 (λ d is_d f. (turn d.way, turn_low d.way)) once
-            (λ k low. let h = at_hub (way_of k) in (hub_dart p i j (way_of k), h.0, h.1))
-            (λ k m low less same. sym (turn_way k low)
-            ∙ ap turn (sym (hub_way p i j (way_of k)) ∙ ap (λ (d : CellDart). d.way) same ∙ hub_way p i j (way_of m))
-            ∙ turn_way m less)
+        four = fan_is model is_v 4 (λ k. hub_dart p i j (way_of k)) (λ k low. at_hub (way_of k))
+            (λ d is_d leaves.
+            let (patch, columns, rows) = point_sort l x laid len d.patch (column_of d) (row_of d) p i j is_d.patch_low
+            (corner_low laid.paved len d is_d).0 (corner_low laid.paved len d is_d).1 leaves in (
+              turn d.way,
+              turn_low d.way,
+              ap (hub_dart p i j) (way_turn d.way) ∙ hub_is p i j d.patch d.i d.j d.way patch columns rows,
+            ))
+            (λ k m low less same. sym (turn_way k low) ∙ ap turn (sym (hub_way p i j (way_of k))
+            ∙ ap (λ (d : CellDart). d.way) same ∙ hub_way p i j (way_of m)) ∙ turn_way m less)
 
-    module _ (a k : ℕ) {v : ℕ} (is : IsPoint l x (along a k)) (is_v : IsVertex model (along a k) v)
-      where
-        -- A dart at the point, by slot.
-        record IsAlong (d : CellDart) (w : Slot) (o : ℕ) (b : Bool) : Type 0 where
-          pub at : IsAt l x laid len d w o
-          pub arc : (use_of l w).arc ≡ a
-          pub place : cond (use_of l w).forward o (x (use_of l w).arc - o) ≡ k
-          pub dart : d ≡ spot_dart l x w o b
+    module _ (a k : ℕ) {v : ℕ} (is : IsPoint l x (along a k)) (is_v : IsVertex model (along a k) v) where
+      -- A dart at the point, by slot.
+      record IsAlong (d : CellDart) (w : Slot) (o : ℕ) (b : Bool) : Type 0 where
+        pub at : IsAt l x laid len d w o
+        pub arc : (use_of l w).arc ≡ a
+        pub place : cond (use_of l w).forward o (x (use_of l w).arc - o) ≡ k
+        pub dart : d ≡ spot_dart l x w o b
 
-        along_sort : {d : CellDart} → IsDart l x d → dart_start l x d ≡ along a k → (w : Slot) × (o : ℕ) × (b : Bool)
-            × IsAlong d w o b
-        along_sort {d} is_d leaves = elim (sort_dart l x laid len d is_d) [
-          | inl i ↦ let b = inner_from l x laid len d i in absurd cc
-          | inr s ↦ at_slot s.0 s.1 s.2
-        ]
-          where
-            at_slot : (w : Slot) (o : ℕ) → IsAt l x laid len d w o → (w : Slot) × (o : ℕ) × (b : Bool) × IsAlong d w o b
-            at_slot w o at =
-                let s =
-                arc_of (use_of l w) o a k (omega (arith, at.low)) (omega (arith, at.low)) (sym at.leaves ∙ leaves) in
-                let b = sort_spot laid len d w o is_d at in
-                (w, o, b.0, record { at = at; arc = s.0; place = s.3; dart = b.1 })
+      along_sort : {d : CellDart} → IsDart l x d → dart_start l x d ≡ along a k → (w : Slot) × (o : ℕ) × (b : Bool)
+          × IsAlong d w o b
+      along_sort {d} is_d leaves = elim (sort_dart l x laid len d is_d) [
+        | inl i ↦ let b = inner_from l x laid len d i in absurd cc
+        | inr (w, o, at) ↦
+            let s = arc_of (use_of l w) o a k (omega (arith, at.low)) (omega (arith, at.low))
+            (sym at.leaves ∙ leaves) in
+            let b = sort_spot laid len d w o is_d at in
+            (w, o, b.0, record { at = at; arc = s.0; place = s.3; dart = b.1 })
+      ]
 
-        along_once : {d e : CellDart} {w u : Slot} {o m : ℕ} {b c : Bool} → IsAlong d w o b → IsAlong e u m c
-            → (use_of l w).forward ≡ (use_of l u).forward → b ≡ c → d ≡ e
-        along_once {e} {w} {u} {o} {m} s r ways same =
-            let slots =
-            laid.once w u s.at.is_slot r.at.is_slot (λ t. record { arc = (s.arc ∙ sym r.arc) t; forward = ways t }) in
-            let long : x (use_of l u).arc ≡ x (use_of l w).arc = ap x (r.arc ∙ sym s.arc) in
-            let places = s.place ∙ sym r.place ∙ (λ t. cond (sym ways t) m (long t - m)) in
-            let offsets =
-            by_way (use_of l w).forward (x (use_of l w).arc) s.at.low (omega (arith, long, r.at.low)) places in
-            s.dart ∙ (λ t. spot_dart l x (slots t) (offsets t) (same t)) ∙ sym r.dart
-          where
-            by_way : (f : Bool) (n : ℕ) → o < n → m < n → cond f o (n - o) ≡ cond f m (n - m) → o ≡ m
-            by_way = elim [ true ↦ λ n o_low m_low e. e | false ↦ λ n o_low m_low e. omega arith ]
+      -- It is that of the slot that uses the arc the same way round.
+      along_is : {z : Slot} (f : Bool) {n : ℕ} → IsSlot l z → use_of l z ≡ record { arc = a; forward = f }
+          → n ≡ cond f k (x a - k) → {d : CellDart} {w : Slot} {o : ℕ} {b : Bool} → IsAlong d w o b
+          → (use_of l w).forward ≡ f → spot_dart l x z n b ≡ d
+      along_is {z} f {n} is_z used n_is {d} {w} {o} {b} s way =
+          let by_way : (f : Bool) → cond f o (x a - o) ≡ k → n ≡ cond f k (x a - k) → o < x a → n ≡ o =
+          elim [ true ↦ λ e g low. cc | false ↦ λ e g low. omega arith ] in
+          let slots = laid.once w z s.at.is_slot is_z ((λ t. record { arc = s.arc t; forward = way t }) ∙ sym used) in
+          let long = ap x s.arc in
+          let place = (λ t. cond (sym way t) o (sym long t - o)) ∙ s.place in
+          let offset = by_way f place n_is (omega (arith, s.at.low, long)) in
+          (λ t. spot_dart l x (sym slots t) (offset t) b) ∙ sym s.dart
 
-        -- The slot of the arc as it runs.
-        first : (w : Slot) × IsSlot l w × (use_of l w ≡ record { arc = a; forward = true })
-        first = laid.forward a is.0
+      -- The slot of the arc as it runs.
+      first : (w : Slot) × IsSlot l w × (use_of l w ≡ record { arc = a; forward = true })
+      first = laid.forward a is.0
 
-        first_long : x (use_of l first.0).arc ≡ x a
-        first_long = ap (λ (u : SideArc). x u.arc) first.2
+      first_long : x (use_of l first.0).arc ≡ x a
+      first_long = ap (λ (u : SideArc). x u.arc) first.2
 
-        first_leaves : use_point l x (use_of l first.0) k ≡ along a k
-        first_leaves = ap (λ (u : SideArc). use_point l x u k) first.2 ∙ arc_inner l x a k is.1 is.2
+      first_leaves : use_point l x (use_of l first.0) k ≡ along a k
+      first_leaves = ap (λ (u : SideArc). use_point l x u k) first.2 ∙ arc_inner l x a k is.1 is.2
 
-        first_dart : (b : Bool) → IsDart l x (spot_dart l x first.0 k b)
-            × (dart_start l x (spot_dart l x first.0 k b) ≡ along a k)
-        first_dart b = (
-          spot_is laid len first.0 k b first.1 (omega (arith, first_long, is.2)) (λ e. omega (arith, is.1)),
-          (spot_at laid len k b first.1 (omega (arith, first_long, is.2)) (λ e. omega (arith, is.1))).leaves
-              ∙ first_leaves,
-        )
+      first_at : (b : Bool) → IsAt l x laid len (spot_dart l x first.0 k b) first.0 k
+      first_at b = spot_at laid len k b first.1 (omega (arith, first_long, is.2)) (λ e. omega (arith, is.1))
 
-        along_alone : ((u : Slot) → ¬ IsOtherSlot l first.0 u) → is_regular F v ≡ true
-        along_alone none = regular_by v two boundary refl
-          where
-            boundary : is_inner F v ≡ false
-            boundary = false_from_ne_true (is_inner F v) (λ inner.
-                let u = inner_only model is_v inner first.0 k first.1
-                (omega (arith, first_long, is.2)) (inl first_leaves) in
-                none u.0 u.1)
+      first_dart : (b : Bool) → IsDart l x (spot_dart l x first.0 k b)
+          × (dart_start l x (spot_dart l x first.0 k b) ≡ along a k)
+      first_dart b = (
+        spot_is laid len first.0 k b first.1 (omega (arith, first_long, is.2)) (λ e. omega (arith, is.1)),
+        (first_at b).leaves ∙ first_leaves,
+      )
 
-            forward : (w : Slot) → IsSlot l w → (use_of l w).arc ≡ a → (use_of l w).forward ≡ true
-            forward w is_w arc = elim (cases_Bool (use_of l w).forward) [
-              | inl e ↦ e
-              | inr e ↦ absurd (none w (
-                is_w,
-                record {
-                  arc = arc ∙ sym (ap (λ (u : SideArc). u.arc) first.2);
-                  turned = e ∙ ap (λ (u : SideArc). not u.forward) (sym first.2);
-                },
+      along_alone : ((u : Slot) → ¬ IsOtherSlot l first.0 u) → is_regular F v ≡ true
+      along_alone none =
+          let boundary = false_from_ne_true (is_inner F v) (λ inner. let u = inner_only model
+          is_v inner first.0 k first.1 (omega (arith, first_long, is.2)) (inl first_leaves) in none u.0 u.1) in
+          regular_by v two boundary refl
+        where
+          forward : (w : Slot) → IsSlot l w → (use_of l w).arc ≡ a → (use_of l w).forward ≡ true
+          forward w is_w arc = elim (alike_or_turned (use_of l first.0).forward (use_of l w).forward) [
+            | inl same ↦ sym same ∙ ap (λ (u : SideArc). u.forward) first.2
+            | inr turned ↦ absurd
+                (none w (is_w, record { arc = arc ∙ sym (ap (λ (u : SideArc). u.arc) first.2); turned = turned }))
+          ]
+
+          two : faces_at F v ≡ 2
+          two = fan_is model is_v 2 (λ c. spot_dart l x first.0 k (behind_of c)) (λ c low. first_dart (behind_of c))
+              (λ d is_d leaves. let (w, o, b, s) = along_sort is_d leaves in (
+                code true b,
+                code_first b,
+                ap (spot_dart l x first.0 k) (code_parts true b).2
+                    ∙ along_is true first.1 first.2 refl s (forward w s.at.is_slot s.arc),
               ))
-            ]
+              (λ c m low less same. sym (code_back_first c low)
+              ∙ ap (code true) (spot_once laid len first.0 k (behind_of c) (behind_of m) same)
+              ∙ code_back_first m less)
 
-            two : faces_at F v ≡ 2
-            two = fan_is model is_v 2 coded once
-                (λ c low. let d = first_dart (behind_of c) in (spot_dart l x first.0 k (behind_of c), d.0, d.1))
-                (λ c m low less same. sym (code_back_first c low)
-                ∙ ap (code true) (spot_once laid len first.0 k (behind_of c) (behind_of m) same)
-                ∙ code_back_first m less)
-              where
-                coded : (d : CellDart) → IsDart l x d → dart_start l x d ≡ along a k → (c : ℕ) × (c < 2)
-                coded d is_d leaves = (code true (along_sort is_d leaves).2, code_first (along_sort is_d leaves).2)
+      along_shared : (u : Slot) → IsOtherSlot l first.0 u → is_regular F v ≡ true
+      along_shared u other = regular_by v four (inner_if model is_v shared) refl
+        where
+          use_u : use_of l u ≡ record { arc = a; forward = false }
+          use_u = λ t. record {
+            arc = (other.1.arc ∙ ap (λ (z : SideArc). z.arc) first.2) t;
+            forward = (other.1.turned ∙ ap (λ (z : SideArc). not z.forward) first.2) t;
+          }
 
-                once : (d e : CellDart) (b : IsDart l x d) (c : IsDart l x e) (f : dart_start l x d ≡ along a k)
-                    (g : dart_start l x e ≡ along a k) → (coded d b f).0 ≡ (coded e c g).0 → d ≡ e
-                once d e b c f g same =
-                    let s = along_sort b f in
-                    let r = along_sort c g in
-                    along_once s.3 r.3
-                    (forward s.0 s.3.at.is_slot s.3.arc ∙ sym (forward r.0 r.3.at.is_slot r.3.arc))
-                    (sym (code_behind true s.2) ∙ ap behind_of same ∙ code_behind true r.2)
+          long : x (use_of l u).arc ≡ x a
+          long = ap (λ (z : SideArc). x z.arc) use_u
 
-        along_shared : (u : Slot) → IsOtherSlot l first.0 u → is_regular F v ≡ true
-        along_shared u other = regular_by v four (inner_if model is_v shared) refl
-          where
-            long : x (use_of l u).arc ≡ x a
-            long = ap x other.1.arc ∙ first_long
-
-            by_arc : (w : Slot) → IsSlot l w → (use_of l w).arc ≡ a → (z : Slot) × IsOtherSlot l w z
-            by_arc w is_w arc = elim (cases_Bool (use_of l w).forward) [
-              | inl e ↦
-                  let one = laid.once first.0 w first.1 is_w
-                  (λ t. record { arc = (same_arc ∙ sym arc) t; forward = (same_way ∙ sym e) t }) in
-                  (u, rw one at other)
-              | inr e ↦ (first.0, (first.1, record { arc = same_arc ∙ sym arc; turned = same_way ∙ ap not (sym e) }))
-            ]
-              where
-                same_arc : (use_of l first.0).arc ≡ a
-                same_arc = ap (λ (z : SideArc). z.arc) first.2
-
-                same_way : (use_of l first.0).forward ≡ true
-                same_way = ap (λ (z : SideArc). z.forward) first.2
-
-            shared : AreShared l x (along a k)
-            shared w o is_w less (inl e) = by_arc w is_w (arc_of (use_of l w) o a k (omega arith) (omega arith) e).0
-            shared w o is_w less (inr e) =
-                by_arc w is_w (arc_of (use_of l w) (o + 1) a k (omega arith) (omega arith) e).0
-
-            other_leaves : use_point l x (use_of l u) (x a - k) ≡ along a k
-            other_leaves =
-                let le : x a - k ≤ x (use_of l first.0).arc = omega (arith, first_long) in
-                let e : x (use_of l first.0).arc - (x a - k) ≡ k = omega (arith, first_long, is.2) in
-                use_back l x (use_of l first.0) (use_of l u) other.1 (x a - k) le
-                ∙ ap (use_point l x (use_of l first.0)) e ∙ first_leaves
-
-            both : (f b : Bool) → CellDart
-            both true b = spot_dart l x first.0 k b
-            both false b = spot_dart l x u (x a - k) b
-
-            both_is : (f b : Bool) → IsDart l x (both f b) × (dart_start l x (both f b) ≡ along a k)
-            both_is true b = first_dart b
-            both_is false b = (
-              spot_is laid len u (x a - k) b other.0 (omega (arith, long, is.1, is.2)) (λ e. omega (arith, is.2)),
-              (spot_at laid len (x a - k) b other.0 (omega (arith, long, is.1, is.2))
-                  (λ e. omega (arith, is.2))).leaves ∙ other_leaves,
+          by_arc : (w : Slot) → IsSlot l w → (use_of l w).arc ≡ a → (z : Slot) × IsOtherSlot l w z
+          by_arc w is_w arc = elim (cases_Bool (use_of l w).forward) [
+            | inl e ↦
+                let one = laid.once first.0 w first.1 is_w
+                (first.2 ∙ (λ t. record { arc = sym arc t; forward = sym e t })) in
+                (u, rw one at other)
+            | inr e ↦ (
+              first.0,
+              (
+                first.1,
+                record {
+                  arc = ap (λ (z : SideArc). z.arc) first.2 ∙ sym arc;
+                  turned = ap (λ (z : SideArc). z.forward) first.2 ∙ ap not (sym e);
+                },
+              ),
             )
+          ]
 
-            apart : first.0 ≢ u
-            apart e = by_way (use_of l first.0).forward (use_of l u).forward other.1.turned
-                (ap (λ (z : Slot). (use_of l z).forward) e)
-              where
-                by_way : (f g : Bool) → g ≡ not f → f ≡ g → ⊥
-                by_way = elim [ true ↦ λ g s r. absurd cc | false ↦ λ g s r. absurd cc ]
+          shared : AreShared l x (along a k)
+          shared w o is_w less (inl e) = by_arc w is_w (arc_of (use_of l w) o a k (omega arith) (omega arith) e).0
+          shared w o is_w less (inr e) =
+              by_arc w is_w (arc_of (use_of l w) (o + 1) a k (omega arith) (omega arith) e).0
 
-            both_once : (f g b c : Bool) → both f b ≡ both g c → code f b ≡ code g c
-            both_once true true b c e = ap (code true) (spot_once laid len first.0 k b c e)
-            both_once false false b c e = ap (code false) (spot_once laid len u (x a - k) b c e)
-            both_once true false b c e =
-                absurd (apart (at_once laid len {v = u} {k = x a - k}
-                (spot_at laid len k b first.1 (omega (arith, first_long, is.2)) (λ s. omega (arith, is.1)))
-                (rw e (spot_at laid len (x a - k) c other.0 (omega (arith, long, is.1, is.2))
-                (λ s. omega (arith, is.2))))).0)
-            both_once false true b c e = absurd (apart
-                (at_once laid len (spot_at laid len k c first.1 (omega (arith, first_long, is.2))
-                (λ s. omega (arith, is.1))) (subst (λ (d : CellDart). IsAt l x laid len d u (x a - k)) e
-                (spot_at laid len (x a - k) b other.0 (omega (arith, long, is.1, is.2)) (λ s. omega (arith, is.2))))).0)
+          other_leaves : use_point l x (use_of l u) (x a - k) ≡ along a k
+          other_leaves =
+              let le : x a - k ≤ x (use_of l first.0).arc = omega (arith, first_long) in
+              let e : x (use_of l first.0).arc - (x a - k) ≡ k = omega (arith, first_long, is.2) in
+              use_back l x (use_of l first.0) (use_of l u) other.1 (x a - k) le
+              ∙ ap (use_point l x (use_of l first.0)) e ∙ first_leaves
 
-            four : faces_at F v ≡ 4
-            four = fan_is model is_v 4 coded once (λ c low. let b = both_is (forward_of c) (behind_of c) in
-                (both (forward_of c) (behind_of c), b.0, b.1))
-                (λ c m low less same. sym (code_back c low)
-                ∙ both_once (forward_of c) (forward_of m) (behind_of c) (behind_of m) same ∙ code_back m less)
-              where
-                coded : (d : CellDart) → IsDart l x d → dart_start l x d ≡ along a k → (c : ℕ) × (c < 4)
-                coded d is_d leaves = (
-                  code (use_of l (along_sort is_d leaves).0).forward (along_sort is_d leaves).2,
-                  code_low (use_of l (along_sort is_d leaves).0).forward (along_sort is_d leaves).2,
-                )
+          other_at : (b : Bool) → IsAt l x laid len (spot_dart l x u (x a - k) b) u (x a - k)
+          other_at b = spot_at laid len (x a - k) b other.0 (omega (arith, long, is.1, is.2))
+              (λ e. omega (arith, is.2))
 
-                once : (d e : CellDart) (b : IsDart l x d) (c : IsDart l x e) (f : dart_start l x d ≡ along a k)
-                    (g : dart_start l x e ≡ along a k) → (coded d b f).0 ≡ (coded e c g).0 → d ≡ e
-                once d e b c f g same =
-                    let s = along_sort b f in
-                    let r = along_sort c g in
-                    along_once s.3 r.3
-                    (sym (code_forward (use_of l s.0).forward s.2) ∙ ap forward_of same
-                    ∙ code_forward (use_of l r.0).forward r.2)
-                    (sym (code_behind (use_of l s.0).forward s.2) ∙ ap behind_of same
-                    ∙ code_behind (use_of l r.0).forward r.2)
+          both : (f b : Bool) → CellDart
+          both true b = spot_dart l x first.0 k b
+          both false b = spot_dart l x u (x a - k) b
 
-        pub along_regular : is_regular F v ≡ true
-        along_regular = elim (laid.other first.0 first.1) [ inl u ↦ along_shared u.0 u.1 | inr none ↦ along_alone none ]
+          both_is : (f b : Bool) → IsDart l x (both f b) × (dart_start l x (both f b) ≡ along a k)
+          both_is true b = first_dart b
+          both_is false b = (
+            spot_is laid len u (x a - k) b other.0 (omega (arith, long, is.1, is.2)) (λ e. omega (arith, is.2)),
+            (other_at b).leaves ∙ other_leaves,
+          )
+
+          both_all : {d : CellDart} {w : Slot} {o : ℕ} {b : Bool} → IsAlong d w o b → (f : Bool)
+              → (use_of l w).forward ≡ f → both f b ≡ d
+          both_all s true way = along_is true first.1 first.2 refl s way
+          both_all s false way = along_is false other.0 use_u refl s way
+
+          apart : first.0 ≢ u
+          apart e = not_self _ (rw e at other.1.turned)
+
+          both_once : (f g b c : Bool) → both f b ≡ both g c → code f b ≡ code g c
+          both_once true true b c e = ap (code true) (spot_once laid len first.0 k b c e)
+          both_once false false b c e = ap (code false) (spot_once laid len u (x a - k) b c e)
+          both_once true false b c e = absurd (apart (at_once laid len (rw e at (first_at b)) (other_at c)).0)
+          both_once false true b c e = absurd (apart (at_once laid len (first_at c) (rw e at (other_at b))).0)
+
+          four : faces_at F v ≡ 4
+          four = fan_is model is_v 4 (λ c. both (forward_of c) (behind_of c))
+              (λ c low. both_is (forward_of c) (behind_of c))
+              (λ d is_d leaves.
+              let (w, o, b, s) = along_sort is_d leaves in
+              let f = (use_of l w).forward in
+              let parts = code_parts f b in
+              (code f b, parts.0, (λ t. both (parts.1 t) (parts.2 t)) ∙ both_all s f refl))
+              (λ c m low less same. sym (code_back c low)
+              ∙ both_once (forward_of c) (forward_of m) (behind_of c) (behind_of m) same ∙ code_back m less)
+
+      pub along_regular : is_regular F v ≡ true
+      along_regular = elim (laid.other first.0 first.1) [ inl u ↦ along_shared u.0 u.1 | inr none ↦ along_alone none ]

@@ -103,10 +103,10 @@ module _ {l : Gluing} {x : Lengths} (paved : HasWholeSides l) (len : AreLengths 
   pub corner_cell : (p : ℕ) (s : Way) (t u : ℕ) → p < l.patches → t < size l x p s → u < size l x p (side_after s)
       → (dart_along l x p s t).i ≡ (dart_along l x p (side_after s) u).i
       → (dart_along l x p s t).j ≡ (dart_along l x p (side_after s) u).j → (t + 1 ≡ size l x p s) × (u ≡ 0)
-  corner_cell p south t u low t_low u_low i j = (omega (arith, i), sym j)
-  corner_cell p east t u low t_low u_low i j = (omega (arith, j, len.upright p low), omega (arith, i, len.across p low))
-  corner_cell p north t u low t_low u_low i j = (omega (arith, i, len.across p low), omega (arith, j))
-  corner_cell p west t u low t_low u_low i j = (omega (arith, j), sym i)
+  corner_cell p south t u low t_low u_low i j = (omega arith, sym j)
+  corner_cell p east t u low t_low u_low i j = (omega (arith, len.upright p low), omega (arith, len.across p low))
+  corner_cell p north t u low t_low u_low i j = (omega (arith, len.across p low), omega arith)
+  corner_cell p west t u low t_low u_low i j = (omega arith, sym i)
 
   pub rim_way : (p : ℕ) (s : Way) (t : ℕ) → (dart_along l x p s t).way ≡ s
   rim_way p = elim [ south ↦ λ t. refl | east ↦ λ t. refl | north ↦ λ t. refl | west ↦ λ t. refl ]
@@ -156,50 +156,48 @@ module _ {l : Gluing} {x : Lengths} (paved : HasWholeSides l) (len : AreLengths 
   corner_low d is = by_way d.way
     where
       by_way : (w : Way) → (column d.i w ≤ wide l x d.patch) × (row d.j w ≤ high l x d.patch)
-      by_way south = (omega (arith, is.i_low), omega (arith, is.j_low))
-      by_way east = (omega (arith, is.i_low), omega (arith, is.j_low))
-      by_way north = (omega (arith, is.i_low), omega (arith, is.j_low))
-      by_way west = (omega (arith, is.i_low), omega (arith, is.j_low))
+      by_way south = (omega arith, omega arith)
+      by_way east = (omega arith, omega arith)
+      by_way north = (omega arith, omega arith)
+      by_way west = (omega arith, omega arith)
 
   pub dart_on_rim : (d : CellDart) → IsDart l x d
       → IsInner d.patch (column_of d) (row_of d) ⊎ ((s : Way) × (t : ℕ) × IsBorder d.patch (column_of d) (row_of d) s t)
-  dart_on_rim d is = on_rim d.patch (column_of d) (row_of d) is.patch_low (corner_low d is).0 (corner_low d is).1
+  dart_on_rim d is = on_rim _ _ _ is.patch_low (corner_low d is).0 (corner_low d is).1
 
   module _ {R : CellDart → CellDart → Type 0} (turning : IsTurning l x R) where
     -- Darts of a patch that leave one grid point are related.
     pub darts_related : {d e : CellDart} → IsDart l x d → IsDart l x e → d.patch ≡ e.patch → column_of d ≡ column_of e
         → row_of d ≡ row_of e → R d e
-    darts_related {d} {e} is_d is_e same c r = turning.on d (dart e.patch d.i d.j d.way) e
-        (turning.self d (dart e.patch d.i d.j d.way) (λ t. dart (same t) d.i d.j d.way))
-        (grid_related turning e.patch d.i d.j e.i e.j d.way e.way (record {
+    darts_related {d} {e} is_d is_e same c r = turning.on d _ e
+        (turning.self d _ (λ t. dart (same t) d.i d.j d.way))
+        (grid_related turning _ d.i d.j e.i e.j d.way e.way (record {
           patch_low = is_e.patch_low;
-          i_low = omega (arith, is_d.i_low, ap (wide l x) same);
-          j_low = omega (arith, is_d.j_low, ap (high l x) same);
+          i_low = omega (arith, ap (wide l x) same);
+          j_low = omega (arith, ap (high l x) same);
         })
         is_e c r)
 
     -- The dart after a border dart, and the next border dart.
     pub rim_on : (p : ℕ) (s : Way) (t : ℕ) → p < l.patches → t + 1 < size l x p s
         → R (next (dart_along l x p s t)) (dart_along l x p s (t + 1))
-    rim_on p s t low less = darts_related (next_is (rim_is p s t low (omega arith))) (rim_is p s (t + 1) low less)
-        (rim_patch p s t ∙ sym (rim_patch p s (t + 1)))
-        (rim_next_column p s t low (omega arith) ∙ sym (rim_column p s (t + 1) low less))
+    rim_on p s t low less =
+        let next_is : IsDart l x (dart_along l x p s t) → IsDart l x (next (dart_along l x p s t)) = λ d. record
+        { patch_low = d.patch_low; i_low = d.i_low; j_low = d.j_low } in
+        darts_related (next_is (rim_is p s t low (omega arith))) (rim_is p s (t + 1) low less) (rim_patch p s t
+        ∙ sym (rim_patch p s (t + 1))) (rim_next_column p s t low (omega arith) ∙ sym (rim_column p s (t + 1) low less))
         (rim_next_row p s t low (omega arith) ∙ sym (rim_row p s (t + 1) low less))
-      where
-        next_is : IsDart l x (dart_along l x p s t) → IsDart l x (next (dart_along l x p s t))
-        next_is d = record { patch_low = d.patch_low; i_low = d.i_low; j_low = d.j_low }
 
     -- The same at the end of a side.
     pub rim_round : (p : ℕ) (s : Way) (t : ℕ) → p < l.patches → t + 1 ≡ size l x p s → 0 < size l x p (side_after s)
         → R (next (dart_along l x p s t)) (dart_along l x p (side_after s) 0)
-    rim_round p s t low e some = darts_related (next_is (rim_is p s t low (omega arith)))
-        (rim_is p (side_after s) 0 low some) (rim_patch p s t ∙ sym (rim_patch p (side_after s) 0))
-        (rim_next_column p s t low (omega arith) ∙ corner_column p s low e
-        ∙ sym (rim_column p (side_after s) 0 low some))
+    rim_round p s t low e some =
+        let next_is : IsDart l x (dart_along l x p s t) → IsDart l x (next (dart_along l x p s t)) = λ d. record
+        { patch_low = d.patch_low; i_low = d.i_low; j_low = d.j_low } in
+        darts_related (next_is (rim_is p s t low (omega arith))) (rim_is p (side_after s) 0 low some)
+        (rim_patch p s t ∙ sym (rim_patch p (side_after s) 0)) (rim_next_column p s t low (omega arith)
+        ∙ corner_column p s low e ∙ sym (rim_column p (side_after s) 0 low some))
         (rim_next_row p s t low (omega arith) ∙ corner_row p s low e ∙ sym (rim_row p (side_after s) 0 low some))
-      where
-        next_is : IsDart l x (dart_along l x p s t) → IsDart l x (next (dart_along l x p s t))
-        next_is d = record { patch_low = d.patch_low; i_low = d.i_low; j_low = d.j_low }
 
 module _ (l : Gluing) (x : Lengths) (laid : IsSurface l) (len : AreLengths l x) where
   pub border_point : (p : ℕ) (s : Way) (t : ℕ) → p < l.patches → t ≤ size l x p s
@@ -207,19 +205,17 @@ module _ (l : Gluing) (x : Lengths) (laid : IsSurface l) (len : AreLengths l x) 
   border_point p south t low le = refl
   border_point p east t low le =
       point_east l x laid len p {i = wide l x p} t low refl (omega (arith, len.upright p low))
-  border_point p north t low le = point_north l x laid len p (wide l x p - t) {j = high l x p} low refl
+  border_point p north t low le = point_north l x laid len p _ {j = high l x p} low refl
       ∙ ap (side_point l x p north) (omega (arith, len.across p low))
   border_point p west t low le =
       point_west l x laid len p (high l x p - t) low (omega arith) ∙ ap (side_point l x p west) (omega arith)
 
   pub rim_from : (p : ℕ) (s : Way) (t : ℕ) → p < l.patches → t < size l x p s
       → dart_start l x (dart_along l x p s t) ≡ side_point l x p s t
-  rim_from p s t low less = (λ k. point l x (rim_patch laid.paved len p s t k)
-      (rim_column laid.paved len p s t low less k) (rim_row laid.paved len p s t low less k))
-      ∙ border_point p s t low (omega arith)
+  rim_from p s t low less = (λ k. point l x (rim_patch laid.paved len p s t k) (rim_column laid.paved len p s t low less
+      k) (rim_row laid.paved len p s t low less k)) ∙ border_point p s t low (omega arith)
 
   pub rim_to : (p : ℕ) (s : Way) (t : ℕ) → p < l.patches → t < size l x p s
       → dart_end l x (dart_along l x p s t) ≡ side_point l x p s (t + 1)
-  rim_to p s t low less = (λ k. point l x (rim_patch laid.paved len p s t k)
-      (rim_next_column laid.paved len p s t low less k) (rim_next_row laid.paved len p s t low less k))
-      ∙ border_point p s (t + 1) low (omega arith)
+  rim_to p s t low less = (λ k. point l x (rim_patch laid.paved len p s t k) (rim_next_column laid.paved len p s t low
+      less k) (rim_next_row laid.paved len p s t low less k)) ∙ border_point p s _ low (omega arith)

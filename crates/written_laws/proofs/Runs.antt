@@ -32,7 +32,7 @@ run_to start zero t some l = absurd (omega arith)
 run_to start (suc zero) t some l =
     cond_both (nat_lt t (start zero)) (run_at start zero t) zero (λ k. t < start (suc k)) (λ e. l) (λ e. l)
 run_to start (suc (suc n)) t some l = cond_both (nat_lt t (start (suc n))) (run_at start (suc n) t) (suc n)
-    (λ k. t < start (suc k)) (λ e. run_to start (suc n) t (omega arith) (ltb-true t (start (suc n)) e)) (λ e. l)
+    (λ k. t < start (suc k)) (λ e. run_to start _ t (omega arith) (ltb-true t (start (suc n)) e)) (λ e. l)
 
 -- From the beginning of the last one on it is found.
 pub run_last : (start : ℕ → ℕ) (n t : ℕ) → 0 < n → start (n - 1) ≤ t → run_at start n t ≡ n - 1
@@ -40,7 +40,7 @@ run_last start zero t some l = absurd (omega arith)
 run_last start (suc n) t some l =
     let same : suc n - 1 ≡ n = omega arith in
     let le : start n ≤ t = rw same at l in
-    cond-false (nat_lt t (start n)) (run_at start n t) n (le-ltb t (start n) le) ∙ sym same
+    cc (cond-false (nat_lt t (start n)) (run_at start n t) n (le-ltb t (start n) le))
 
 -- Place o of run k lies in run k.
 pub run_place : (f : ℕ → ℕ) (n k o : ℕ) → k < n → o < f k → run_at (count_below f) n (count_below f k + o) ≡ k
@@ -73,7 +73,7 @@ run_here f (suc n) t l =
 -- Places of runs are below the end.
 pub place_low : (f : ℕ → ℕ) (n k o : ℕ) → k < n → o < f k → count_below f k + o < count_below f n
 place_low f n k o l in_run =
-    let le : count_below f (suc k) ≤ count_below f n = count_rises f (suc k) n (omega arith) in omega (arith, le)
+    let le : count_below f (suc k) ≤ count_below f n = count_rises f (suc k) n (omega arith) in omega arith
 
 -- A place lies in one run, and there at one place.
 pub place_same : (f : ℕ → ℕ) (n a k b o : ℕ) → a < n → b < n → k < f a → o < f b

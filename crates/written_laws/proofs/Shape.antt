@@ -33,7 +33,10 @@ use Rattle.written_laws.proofs.OldModel.{old_model, old_fans, twin_is_across}
 module _ {faces : Faces} (man : IsManifold faces) {l : Gluing} {x : Lengths} (paved : HasWholeSides l)
     (len : AreLengths l x) {cell : CellDart → ℕ} {vertex : ℕ → ℕ} {arc_dart : ℕ → ℕ → ℕ}
     (s : IsEmbedding (half_edges faces) l x cell vertex arc_dart) where
-  module _ (model : IsModel faces l x (old_laid faces man l x paved len cell vertex arc_dart s) len cell) where
+  abbrev here : IsSurface l
+  here = old_laid faces man l x paved len cell vertex arc_dart s
+
+  module _ (model : IsModel faces l x here len cell) where
     -- A dart that runs along an edge.
     record IsRunner (e : Edge) (d : CellDart) (a : Bool) : Type 0 where
       pub is_dart : IsDart l x d
@@ -43,23 +46,18 @@ module _ {faces : Faces} (man : IsManifold faces) {l : Gluing} {x : Lengths} (pa
 
     runner : (e : Edge) → IsEdge l x e → (d : CellDart) × (a : Bool) × IsRunner e d a
     runner e is =
-        let d = edge_dart l x (old_laid faces man l x paved len cell vertex arc_dart s) len e is in (
-          d.0,
-          (course_of l x d.0).ahead,
+        let (d, is_d, edge) = edge_dart l x here len e is in (
+          d,
+          (course_of l x d).ahead,
           record {
-            is_dart = d.1;
-            edge = d.2;
-            start = course_from l x (old_laid faces man l x paved len cell vertex arc_dart s) len d.0 d.1
-                ∙ ap (λ (g : Edge). start_at l x (course g (course_of l x d.0).ahead)) d.2;
-            end = course_to l x (old_laid faces man l x paved len cell vertex arc_dart s) len d.0 d.1
-                ∙ ap (λ (g : Edge). end_at l x (course g (course_of l x d.0).ahead)) d.2;
+            is_dart = is_d;
+            edge = edge;
+            start = course_from l x here len d is_d
+                ∙ ap (λ (g : Edge). start_at l x (course g (course_of l x d).ahead)) edge;
+            end = course_to l x here len d is_d
+                ∙ ap (λ (g : Edge). end_at l x (course g (course_of l x d).ahead)) edge;
           },
         )
-
-    to_is : (d e : CellDart) → IsDart l x d → IsDart l x e → dart_end l x d ≡ dart_end l x e → to_of faces (cell d)
-        ≡ to_of faces (cell e)
-    to_is d e is_d is_e same = ap (from_of faces) (sym (model.turned d is_d)) ∙ model.alike (next d) (next e)
-        (next_is l x d is_d) (next_is l x e is_e) same ∙ ap (from_of faces) (model.turned e is_e)
 
     -- Runners with the same ends, or with exchanged ones, run along one edge.
     same_way : {e f : Edge} {d c : CellDart} {a b : Bool} → IsRunner e d a → IsRunner f c b
@@ -67,7 +65,9 @@ module _ {faces : Faces} (man : IsManifold faces) {l : Gluing} {x : Lengths} (pa
         → e ≡ f
     same_way {d} {c} r q starts_same ends_same =
         let starts = model.alike d c r.is_dart q.is_dart (r.start ∙ starts_same ∙ sym q.start) in
-        let ends = to_is d c r.is_dart q.is_dart (r.end ∙ ends_same ∙ sym q.end) in
+        let ends = ap (from_of faces) (sym (model.turned d r.is_dart))
+        ∙ model.alike (next d) (next c) (next_is l x d r.is_dart) (next_is l x c q.is_dart)
+        (r.end ∙ ends_same ∙ sym q.end) ∙ ap (from_of faces) (model.turned c q.is_dart) in
         let one = model.same d c r.is_dart q.is_dart
         (man.edges_once (cell d) (cell c) (model.low d r.is_dart) (model.low c q.is_dart) (starts, ends)) in
         sym r.edge ∙ ap (λ (k : CellDart). (course_of l x k).edge) one ∙ q.edge
@@ -84,41 +84,35 @@ module _ {faces : Faces} (man : IsManifold faces) {l : Gluing} {x : Lengths} (pa
         let a = twin_is_across faces man l x paved len cell vertex arc_dart s d c r.is_dart q.is_dart twin in
         sym r.edge ∙ sym a.edge ∙ q.edge
 
-    pub old_simple : IsSimple l x
-    old_simple = record { same = same; crossed = crossed; no_loop = no_loop }
+    -- An edge with the ends of another, which may run backwards, is that edge.
+    ends_once : (g : Bool) {e f : Edge} → IsEdge l x e → IsEdge l x f → edge_start l x e ≡ start_at l x (course f g)
+        → edge_end l x e ≡ end_at l x (course f g) → e ≡ f
+    ends_once g {e} {f} is_e is_f lows tops =
+        by_ways (runner e is_e).1 (runner f is_f).1 g (runner e is_e).2 (runner f is_f).2 lows tops
       where
-        same : (e f : Edge) → IsEdge l x e → IsEdge l x f → edge_start l x e ≡ edge_start l x f
-            → edge_end l x e ≡ edge_end l x f → e ≡ f
-        same e f is_e is_f lows tops =
-            by_runners (runner e is_e).1 (runner f is_f).1 (runner e is_e).2 (runner f is_f).2
-          where
-            by_runners : {d c : CellDart} (a b : Bool) → IsRunner e d a → IsRunner f c b → e ≡ f
-            by_runners true true r q = same_way r q lows tops
-            by_runners false false r q = same_way r q tops lows
-            by_runners true false r q = other_way r q (sym tops) (sym lows)
-            by_runners false true r q = other_way r q (sym lows) (sym tops)
+        by_ways : {d c : CellDart} (a b g : Bool) → IsRunner e d a → IsRunner f c b
+            → edge_start l x e ≡ start_at l x (course f g) → edge_end l x e ≡ end_at l x (course f g) → e ≡ f
+        by_ways true true true r q lows tops = same_way r q lows tops
+        by_ways true false false r q lows tops = same_way r q lows tops
+        by_ways true _ _ r q lows tops = other_way r q (sym tops) (sym lows)
+        by_ways false true false r q lows tops = same_way r q tops lows
+        by_ways false false true r q lows tops = same_way r q tops lows
+        by_ways false _ _ r q lows tops = other_way r q (sym lows) (sym tops)
 
-        crossed : (e f : Edge) → IsEdge l x e → IsEdge l x f → edge_start l x e ≡ edge_end l x f
-            → edge_end l x e ≡ edge_start l x f → e ≡ f
-        crossed e f is_e is_f lows tops =
-            by_runners (runner e is_e).1 (runner f is_f).1 (runner e is_e).2 (runner f is_f).2
-          where
-            by_runners : {d c : CellDart} (a b : Bool) → IsRunner e d a → IsRunner f c b → e ≡ f
-            by_runners true false r q = same_way r q lows tops
-            by_runners false true r q = same_way r q tops lows
-            by_runners true true r q = other_way r q (sym tops) (sym lows)
-            by_runners false false r q = other_way r q (sym lows) (sym tops)
-
-        no_loop : (e : Edge) → IsEdge l x e → edge_start l x e ≢ edge_end l x e
-        no_loop e is loop = by_runner (runner e is).1 (runner e is).2
-          where
-            apart : (d : CellDart) → IsDart l x d → dart_start l x d ≢ dart_end l x d
-            apart d is_d same = ((manifold_law faces man).corners_differ (cell d) (model.low d is_d)).0
-                (model.alike d (next d) is_d (next_is l x d is_d) same ∙ ap (from_of faces) (model.turned d is_d))
-
-            by_runner : {d : CellDart} (a : Bool) → IsRunner e d a → ⊥
-            by_runner {d} true r = apart d r.is_dart (r.start ∙ loop ∙ sym r.end)
-            by_runner {d} false r = apart d r.is_dart (r.start ∙ sym loop ∙ sym r.end)
+    pub old_simple : IsSimple l x
+    old_simple = record {
+      same = λ e f is_e is_f lows tops. ends_once true is_e is_f lows tops;
+      crossed = λ e f is_e is_f lows tops. ends_once false is_e is_f lows tops;
+      no_loop = λ e is loop. let (d, a, r) = runner e is in
+          ((manifold_law faces man).corners_differ (cell d) (model.low d r.is_dart)).0
+          (model.alike d (next d) r.is_dart (next_is l x d r.is_dart) (by_runner loop a r)
+          ∙ ap (from_of faces) (model.turned d r.is_dart));
+    }
+      where
+        by_runner : {e : Edge} {d : CellDart} → edge_start l x e ≡ edge_end l x e → (a : Bool) → IsRunner e d a
+            → dart_start l x d ≡ dart_end l x d
+        by_runner loop true r = r.start ∙ loop ∙ sym r.end
+        by_runner loop false r = r.start ∙ sym loop ∙ sym r.end
 
 -- The kind of a vertex by what is counted there.
 kind_by : (inner : Bool) (many : ℕ) → Kind
@@ -171,15 +165,10 @@ module _ {faces : Faces} {l : Gluing} {x : Lengths} {vertex : ℕ → ℕ} (lies
     new_is : IsModel (new_faces l y) l y the_laid lon (dart_number l y)
     new_is = new_model l y the_laid lon (simple_from l y undoubled)
 
-    new_vertex : (d : CellDart) (a : Point) (v : ℕ) → IsDart l y d → dart_start l y d ≡ a → vertex_number l y a ≡ v
-        → IsVertex new_is a v
-    new_vertex d a v is leaves same = vertex_from new_is v is
-        leaves (number_from l y d is ∙ ap (vertex_number l y) leaves ∙ same)
-
     new_node : (n : ℕ) → n < l.nodes → IsVertex new_is (node n) n
     new_node n low =
         let d = point_dart l y the_laid lon (node n) low in
-        new_vertex d.0 (node n) n d.1 d.2 refl
+        vertex_from new_is n d.1 d.2 (number_from l y d.0 d.1 ∙ ap (vertex_number l y) d.2)
 
     same_faces : (n : ℕ) → n < l.nodes → faces_at (new_faces l y) n ≡ faces_at faces (vertex n)
     same_faces n low = sym (node_faces n (node_vertex n low) (new_node n low))
@@ -204,13 +193,10 @@ module _ {faces : Faces} {l : Gluing} {x : Lengths} {vertex : ℕ → ℕ} (lies
         (n.0, n.1, sym ((node_vertex n.0 n.1).there d.0 d.1 n.2) ∙ leaves, kept n.0 n.1)
 
     below : vertex_count (new_faces l y) ≤ vertices l y
-    below = count_least (new_faces l y) (vertices l y) (λ k low. by_dart k (at_number l y the_laid lon k low))
-      where
-        by_dart : (k : ℕ) → (d : CellDart) × IsDart l y d × (dart_number l y d ≡ k)
-            → from_of (new_faces l y) k < vertices l y
-        by_dart k d =
-            subst (λ (v : ℕ). v < vertices l y) (sym (number_from l y d.0 d.1) ∙ ap (from_of (new_faces l y)) d.2)
-            (number_low l y (dart_start l y d.0) (from_is l y the_laid lon d.0 d.1))
+    below = count_least (new_faces l y) (vertices l y) (λ k low.
+        let d = at_number l y the_laid lon k low in
+        let at = sym (number_from l y d.0 d.1) ∙ ap (from_of (new_faces l y)) d.2 in
+        omega (arith, at, number_low l y (dart_start l y d.0) (from_is l y the_laid lon d.0 d.1)))
 
     regular : (v : ℕ) → v < vertex_count (new_faces l y) → is_regular (new_faces l y) v ≡ false
         → (v < l.nodes) × (is_regular faces (vertex v) ≡ false)

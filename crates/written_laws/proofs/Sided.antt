@@ -164,63 +164,37 @@ module _ (m : HalfEdges) (laws : IsQuadManifold m) (l : Gluing) (x : Lengths) (p
       ∙ before_related paved len from_turning w is ∙ starts w is)
 
   no_fold : (w : Slot) → IsSlot l w → w.at ≡ 0 → ¬ AreReverse (use_before l w) (use_of l w)
-  no_fold w is first rev = (laws.corners_differ (cell c) c_low).1 (sym back)
+  no_fold w is first rev =
+      let b = slot_before l w.patch w.side w.at in
+      let is_b = before_is l x paved len w is in
+      let o = x (use_of l (slot_before l w.patch w.side w.at)).arc - 1 in
+      let o_low : x (use_of l (slot_before l w.patch w.side w.at)).arc - 1
+      < x (use_of l (slot_before l w.patch w.side w.at)).arc = omega (arith, some is_b) in
+      let c = slot_dart l x b o in
+      let zero_is : o - o ≡ 0 = omega arith in
+      let twin = over_twin b w o is_b (is, rev) o_low ∙ ap (λ k. Some (cell (slot_dart l x w k))) zero_is
+      ∙ ap (λ (d : CellDart). Some (cell d)) (sym (before_first w.at first)) ∙ ap Some (s.turned c) in
+      (laws.corners_differ (cell c) (low_at b o is_b o_low)).1
+      (sym (laws.twin_ends (cell c) (m.next (cell c)) (low_at b o is_b o_low) twin).1)
     where
-      b : Slot
-      b = slot_before l w.patch w.side w.at
-
-      is_b : IsSlot l b
-      is_b = before_is l x paved len w is
-
-      o : ℕ
-      o = x (use_of l b).arc - 1
-
-      o_low : o < x (use_of l b).arc
-      o_low = omega (arith, some is_b)
-
-      c : CellDart
-      c = slot_dart l x b o
-
-      c_low : cell c < m.count
-      c_low = low_at b o is_b o_low
+      after_before : (q : Way) → side_after (side_before q) ≡ q
+      after_before = elim [ south ↦ refl | east ↦ refl | north ↦ refl | west ↦ refl ]
 
       -- The slot before the first one of a side is the last one of the side before.
       before_first : (k : ℕ) → k ≡ 0 → next (slot_dart l x (slot_before l w.patch w.side k)
           (x (use_of l (slot_before l w.patch w.side k)).arc - 1)) ≡ dart_along l x w.patch w.side
           (reach l x w.patch w.side k + 0)
-      before_first zero e = by_side w.side
-        where
-          by_side : (q : Way) → next (slot_dart l x (slot w.patch (side_before q) (l.many w.patch (side_before q) - 1))
-              (x (l.use_at w.patch (side_before q) (l.many w.patch (side_before q) - 1)).arc - 1))
-              ≡ dart_along l x w.patch q 0
-          by_side q = corner q (reach l x w.patch (side_before q) (l.many w.patch (side_before q) - 1)
-              + (x (l.use_at w.patch (side_before q) (l.many w.patch (side_before q) - 1)).arc - 1))
-              (omega (
-                arith,
-                last_reach l x paved len w.patch (side_before q) is.patch_low,
-                some {w = slot w.patch (side_before q) (l.many w.patch (side_before q) - 1)} (record {
-                  patch_low = is.patch_low;
-                  low = omega (arith, paved.sides_full w.patch (side_before q) is.patch_low);
-                }),
-              ))
-            where
-              corner : (q : Way) (t : ℕ) → t + 1 ≡ size l x w.patch (side_before q)
-                  → next (dart_along l x w.patch (side_before q) t) ≡ dart_along l x w.patch q 0
-              corner south t f = corner_next paved len w.patch west t is.patch_low f
-              corner east t f = corner_next paved len w.patch south t is.patch_low f
-              corner north t f = corner_next paved len w.patch east t is.patch_low f
-              corner west t f = corner_next paved len w.patch north t is.patch_low f
+      before_first zero e =
+          let q = side_before w.side in
+          let last : IsSlot l (slot w.patch (side_before w.side) (l.many w.patch (side_before w.side) - 1)) = record {
+            patch_low = is.patch_low;
+            low = omega (arith, paved.sides_full w.patch (side_before w.side) is.patch_low);
+          } in
+          corner_next paved len w.patch q
+          (reach l x w.patch q (l.many w.patch q - 1) + (x (l.use_at w.patch q (l.many w.patch q - 1)).arc - 1))
+          is.patch_low (omega (arith, last_reach l x paved len w.patch (side_before w.side) is.patch_low, some last))
+          ∙ ap (λ r. dart_along l x w.patch r 0) (after_before w.side)
       before_first (suc k) e = absurd (omega arith)
-
-      zero_is : x (use_of l b).arc - 1 - o ≡ 0
-      zero_is = omega arith
-
-      twin : m.twin (cell c) ≡ Some (m.next (cell c))
-      twin = over_twin b w o is_b (is, rev) o_low ∙ ap (λ k. Some (cell (slot_dart l x w k))) zero_is
-          ∙ ap (λ (d : CellDart). Some (cell d)) (sym (before_first w.at first)) ∙ ap Some (s.turned c)
-
-      back : m.from (m.next (m.next (cell c))) ≡ m.from (cell c)
-      back = (laws.twin_ends (cell c) (m.next (cell c)) c_low twin).1
 
   pub laid_in : IsSurface l
   laid_in = record {

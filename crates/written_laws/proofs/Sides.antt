@@ -26,14 +26,14 @@ module _ (l : Gluing) (x : Lengths) where
 
   -- An arc in use begins and ends at nodes.
   pub use_begins : (u : SideArc) → 0 < x u.arc → use_point l x u 0 ≡ node (start_node l u)
-  use_begins u some = by_way u.arc u.forward some
+  use_begins u some = by_way u.arc _ some
     where
       by_way : (a : ℕ) (b : Bool) → 0 < x a
           → use_point l x (record { arc = a; forward = b }) 0 ≡ node (start_node l (record { arc = a; forward = b }))
       by_way a = elim [ true ↦ λ pos_a. refl | false ↦ λ pos_a. arc_last a (x a - 0) (omega arith) (omega arith) ]
 
   pub use_ends : (u : SideArc) (o : ℕ) → o ≡ x u.arc → 0 < o → use_point l x u o ≡ node (end_node l u)
-  use_ends u o e some = by_way u.arc u.forward e
+  use_ends u o e some = by_way u.arc _ e
     where
       by_way : (a : ℕ) (b : Bool) → o ≡ x a
           → use_point l x (record { arc = a; forward = b }) o ≡ node (end_node l (record { arc = a; forward = b }))
@@ -42,12 +42,12 @@ module _ (l : Gluing) (x : Lengths) where
 
   pub use_inner : (u : SideArc) (o : ℕ) → 0 < o → o < x u.arc
       → use_point l x u o ≡ along u.arc (cond u.forward o (x u.arc - o))
-  use_inner u o some less = by_way u.arc u.forward less
+  use_inner u o some less = by_way u.arc _ less
     where
       by_way : (a : ℕ) (b : Bool) → o < x a
           → use_point l x (record { arc = a; forward = b }) o ≡ along a (cond b o (x a - o))
       by_way a true low = arc_inner a o some low
-      by_way a false low = arc_inner a (x a - o) (omega arith) (omega arith)
+      by_way a false low = arc_inner a _ (omega arith) (omega arith)
 
   -- How long the arc at a place of a side is.
   abbrev pub long_at : (patch : ℕ) (side : Way) (at : ℕ) → ℕ
@@ -56,12 +56,12 @@ module _ (l : Gluing) (x : Lengths) where
   -- The arc over a place within an arc.
   pub over_is : (w : Slot) (o : ℕ) → IsSlot l w → o < x (use_of l w).arc
       → use_over l x w.patch w.side (reach l x w.patch w.side w.at + o) ≡ w.at
-  over_is w o is less = run_place (long_at w.patch w.side) (l.many w.patch w.side) w.at o is.low less
+  over_is w o is less = run_place _ _ w.at o is.low less
 
   pub side_in : {w : Slot} (o : ℕ) → IsSlot l w → o < x (use_of l w).arc
       → side_point l x w.patch w.side (reach l x w.patch w.side w.at + o) ≡ use_point l x (use_of l w) o
   side_in {w} o is less =
-      let t : ℕ = reach l x w.patch w.side w.at + o in
+      let t = reach l x w.patch w.side w.at + o in
       ap (λ m. use_point l x (l.use_at w.patch w.side m) (t - reach l x w.patch w.side m)) (over_is w o is less)
       ∙ ap (use_point l x (use_of l w)) (omega arith)
 
@@ -74,12 +74,12 @@ module _ (l : Gluing) (x : Lengths) where
   pub place_on : (p : ℕ) (s : Way) (t : ℕ) → p < l.patches → t < size l x p s
       → IsOn p s t (use_over l x p s t) (offset_at l x p s t)
   place_on p s t low less =
-      let h = run_here (long_at p s) (l.many p s) t less in
+      let h = run_here _ _ t less in
       record { is_slot = record { patch_low = low; low = h.low }; inside = h.inside; place = h.place }
 
   -- An arc of a side ends on it.
   pub reach_low : (w : Slot) → IsSlot l w → reach l x w.patch w.side w.at + x (use_of l w).arc ≤ size l x w.patch w.side
-  reach_low w is = count_rises (long_at w.patch w.side) (suc w.at) (l.many w.patch w.side) (omega (arith, is.low))
+  reach_low w is = count_rises (long_at w.patch w.side) (suc w.at) (l.many w.patch w.side) (omega arith)
 
   module _ (paved : HasWholeSides l) (len : AreLengths l x) where
     pub use_some : (w : Slot) → IsSlot l w → 0 < x (use_of l w).arc
@@ -145,20 +145,20 @@ module _ (l : Gluing) (x : Lengths) where
     -- A side ends where the next one begins.
     pub corner_meets : (p : ℕ) (s : Way) (t : ℕ) → p < l.patches → t ≡ size l x p s
         → side_point l x p s t ≡ side_point l x p (side_after s) 0
-    corner_meets p s t low e = side_end laid.paved len p s t low e ∙ ap node (at s)
-        ∙ sym (side_begin laid.paved len p (side_after s) low)
+    corner_meets p s t low e = cc
+        (side_end laid.paved len p s t low e, at s, side_begin laid.paved len p (side_after s) low)
       where
         at : (s : Way) → end_node l (l.use_at p s (l.many p s - 1)) ≡ start_node l (l.use_at p (side_after s) 0)
-        at south = laid.meet (slot p east 0) (first_slot laid.paved len p east low)
-        at east = laid.meet (slot p north 0) (first_slot laid.paved len p north low)
-        at north = laid.meet (slot p west 0) (first_slot laid.paved len p west low)
-        at west = laid.meet (slot p south 0) (first_slot laid.paved len p south low)
+        at south = laid.meet _ (first_slot laid.paved len p east low)
+        at east = laid.meet _ (first_slot laid.paved len p north low)
+        at north = laid.meet _ (first_slot laid.paved len p west low)
+        at west = laid.meet _ (first_slot laid.paved len p south low)
 
     -- The points of an arc on a side, its end included.
     pub side_upto : (w : Slot) (o t : ℕ) → IsSlot l w → o ≤ x (use_of l w).arc → t ≡ reach l x w.patch w.side w.at + o
         → side_point l x w.patch w.side t ≡ use_point l x (use_of l w) o
     side_upto w o t is le e = elim (cases_lt o (x (use_of l w).arc)) [
-      | inl less ↦ ap (side_point l x w.patch w.side) e ∙ side_in o is less
+      | inl less ↦ cc (side_in o is less)
       | inr more ↦ elim (cases_lt (suc w.at) (l.many w.patch w.side)) [
         | inl another ↦ at_next more (record { patch_low = is.patch_low; low = another })
         | inr last ↦ at_end more last
@@ -170,18 +170,24 @@ module _ (l : Gluing) (x : Lengths) where
         at_next more next =
             let same : t ≡ reach l x w.patch w.side (suc w.at) + 0 = omega arith in
             let some = use_some laid.paved len (slot w.patch w.side (suc w.at)) next in
-            ap (side_point l x w.patch w.side) same ∙ side_in 0 next some
-            ∙ use_begins (l.use_at w.patch w.side (suc w.at)) some
-            ∙ ap node (sym (laid.meet (slot w.patch w.side (suc w.at)) next))
-            ∙ sym (use_ends (use_of l w) o (omega arith) (omega (arith, use_some laid.paved len w is)))
+            cc (
+              side_in 0 next some,
+              use_begins (l.use_at w.patch w.side (suc w.at)) some,
+              laid.meet
+                  (slot w.patch w.side (suc w.at)) next,
+              use_ends (use_of l w) o (omega arith)
+                  (omega (arith, use_some laid.paved len w is)),
+            )
 
         at_end : x (use_of l w).arc ≤ o → l.many w.patch w.side ≤ suc w.at
             → side_point l x w.patch w.side t ≡ use_point l x (use_of l w) o
         at_end more last =
-            let m : w.at ≡ l.many w.patch w.side - 1 = omega (arith, is.low) in
+            let m : w.at ≡ l.many w.patch w.side - 1 = omega arith in
             let long = last_reach laid.paved len w.patch w.side is.patch_low in
             let r = ap (reach l x w.patch w.side) m in
             let u = ap (long_at w.patch w.side) m in
-            side_end laid.paved len w.patch w.side t is.patch_low (omega (arith, long, r, u))
-            ∙ ap (λ k. node (end_node l (l.use_at w.patch w.side k))) (sym m)
-            ∙ sym (use_ends (use_of l w) o (omega arith) (omega (arith, use_some laid.paved len w is)))
+            cc (
+              side_end laid.paved len w.patch w.side t is.patch_low (omega (arith, long, r, u)),
+              use_ends
+                  (use_of l w) o (omega arith) (omega (arith, use_some laid.paved len w is)),
+            )

@@ -16,30 +16,26 @@ module _ {l : Gluing} {x : Lengths} (simple : IsSimple l x) where
   -- A course is told by its ends.
   pub one_course : (c k : Course) → IsEdge l x c.edge → IsEdge l x k.edge
       → start_at l x c ≡ start_at l x k → end_at l x c ≡ end_at l x k → c ≡ k
-  one_course c k is_c is_k starts ends = by_ways c.ahead k.ahead starts ends
+  one_course c k is_c is_k starts ends = by_ways _ _ starts ends
     where
       by_ways : (a b : Bool) → start_at l x (course c.edge a) ≡ start_at l x (course k.edge b)
           → end_at l x (course c.edge a) ≡ end_at l x (course k.edge b) → course c.edge a ≡ course k.edge b
-      by_ways true true s t = ap (λ (f : Edge). course f true) (simple.same c.edge k.edge is_c is_k s t)
-      by_ways false false s t = ap (λ (f : Edge). course f false) (simple.same c.edge k.edge is_c is_k t s)
-      by_ways true false s t =
-          absurd (simple.no_loop c.edge is_c (s ∙ ap (edge_end l x) (sym (simple.crossed c.edge k.edge is_c is_k s t))))
-      by_ways false true s t =
-          absurd (simple.no_loop c.edge is_c (t ∙ ap (edge_end l x) (sym (simple.crossed c.edge k.edge is_c is_k t s))))
+      by_ways true true s t = ap (λ (f : Edge). course f true) (simple.same _ _ is_c is_k s t)
+      by_ways false false s t = ap (λ (f : Edge). course f false) (simple.same _ _ is_c is_k t s)
+      by_ways true false s t = absurd (simple.no_loop c.edge is_c (cc (simple.crossed c.edge k.edge is_c is_k s t)))
+      by_ways false true s t = absurd (simple.no_loop c.edge is_c (cc (simple.crossed c.edge k.edge is_c is_k t s)))
 
   -- A course from the end to the start of another runs the other way along its edge.
   pub reversed : (c k : Course) → IsEdge l x c.edge → IsEdge l x k.edge
       → start_at l x k ≡ end_at l x c → end_at l x k ≡ start_at l x c → (k.edge ≡ c.edge) × (k.ahead ≡ not c.ahead)
   reversed c k is_c is_k starts ends =
-      let s =
-      one_course k (course c.edge (not c.ahead)) is_k is_c (starts ∙ turn_start c.ahead) (ends ∙ turn_end c.ahead) in
+      let turn_start : (a : Bool) → end_at l x (course c.edge a)
+      ≡ start_at l x (course c.edge (not a)) = elim [ true ↦ refl | false ↦ refl ] in
+      let turn_end : (a : Bool) → start_at l x (course c.edge a)
+      ≡ end_at l x (course c.edge (not a)) = elim [ true ↦ refl | false ↦ refl ] in
+      let s = one_course k (course c.edge (not c.ahead)) is_k is_c (starts ∙ turn_start c.ahead)
+      (ends ∙ turn_end c.ahead) in
       (ap (λ (g : Course). g.edge) s, ap (λ (g : Course). g.ahead) s)
-    where
-      turn_start : (a : Bool) → end_at l x (course c.edge a) ≡ start_at l x (course c.edge (not a))
-      turn_start = elim [ true ↦ refl | false ↦ refl ]
-
-      turn_end : (a : Bool) → start_at l x (course c.edge a) ≡ end_at l x (course c.edge (not a))
-      turn_end = elim [ true ↦ refl | false ↦ refl ]
 
   pub ends_apart : (c : Course) → IsEdge l x c.edge → start_at l x c ≢ end_at l x c
   ends_apart c is same = by_way c.ahead same

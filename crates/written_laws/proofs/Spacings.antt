@@ -20,31 +20,28 @@ div_less n k d some less = (div-lt_iff_lt-mul {k = d} {x = n} {y = k} some).1 le
 -- A smaller part of the whole is less.
 times_less : (k n m : ℕ) → k < n → 0 < m → k * m < n * m
 times_less k n m less some =
-    let e : (k + 1) * m ≤ n * m = mul-le (k + 1) m n m (omega arith) (omega arith) in omega (arith, e, some)
+    let e : (k + 1) * m ≤ n * m = mul-le (k + 1) m n m (omega arith) (omega arith) in omega arith
 
 module _ (l : Gluing) (old new : Lengths) (o_len : AreLengths l old) (n_len : AreLengths l new) where
   even_none : (a : ℕ) → a < l.arcs → ONE * 0 * old a / new a ≡ 0
   even_none a low =
       let less = div_less (ONE * 0 * old a) 1 (new a) (n_len.some a low) (omega (arith, n_len.some a low)) in
-      omega (arith, less)
+      omega arith
 
   even_whole : (a : ℕ) → a < l.arcs → ONE * new a * old a / new a ≡ ONE * old a
   even_whole a low =
+      let by_parts : (n m : ℕ) → ONE * n * m ≡ ONE * m * n + 0 = λ n m. omega (arith, mul_comm n m) in
       ap (λ n. n / new a) (by_parts (new a) (old a)) ∙ div-mul-add (ONE * old a) (new a) 0 (n_len.some a low)
-    where
-      by_parts : (n m : ℕ) → ONE * n * m ≡ ONE * m * n + 0
-      by_parts n m = omega (arith, mul_comm n m)
 
   even_less : (a k : ℕ) → a < l.arcs → k < new a → ONE * k * old a / new a < ONE * old a
-  even_less a k low less = div_less (ONE * k * old a) (ONE * old a) (new a) (n_len.some a low)
+  even_less a k low less =
+      let by_parts : (n m : ℕ) → k * m < n * m → ONE * k * m < ONE * m * n = λ n m e. omega (arith, e, mul_comm n m) in
+      div_less (ONE * k * old a) (ONE * old a) (new a) (n_len.some a low)
       (by_parts (new a) (old a) (times_less k (new a) (old a) less (o_len.some a low)))
-    where
-      by_parts : (n m : ℕ) → k * m < n * m → ONE * k * m < ONE * m * n
-      by_parts n m e = omega (arith, e, mul_comm n m)
 
   pub even_edge : (a k : ℕ) → a < l.arcs → k < new a → k * old a / new a < old a
-  even_edge a k low less = div_less (k * old a) (old a) (new a) (n_len.some a low)
-      (rw (mul_comm (new a) (old a)) at (times_less k (new a) (old a) less (o_len.some a low)))
+  even_edge a k low less = div_less _ _ _ (n_len.some a low)
+      (rw (mul_comm (new a) (old a)) at (times_less k _ _ less (o_len.some a low)))
 
   pub even_is : IsSpacing l old new (even old new)
   even_is = record {
@@ -73,12 +70,12 @@ positive (suc n) ne = omega arith
 
 -- A parameter is not 0 where one of its parts is not.
 sum_some : (edge part : ℕ) → (0 < edge) ⊎ (0 < part) → 0 < ONE * edge + part
-sum_some edge part some = omega (arith, some)
+sum_some edge part some = omega arith
 
 -- The shares that count are some.
 pub counted_some : (share : ℕ → ℕ) (m : ℕ) → 0 < m → 0 < count_below (counted share m) m
 counted_some share m some = cond_both (count_below share m == 0) (λ edge. 1) share (λ f. 0 < count_below f m)
-    (λ e. omega (arith, count_ones m, some)) (λ e. positive (count_below share m) (eqb-false (count_below share m) 0 e))
+    (λ e. omega (arith, count_ones m)) (λ e. positive _ (eqb-false (count_below share m) 0 e))
 
 -- Where place k of n lies between the ends of an arc of m old edges.
 module _ (share : ℕ → ℕ) (m n k : ℕ) (m_some : 0 < m) (all_some : 0 < count_below share m) (less : k < n) where
@@ -92,16 +89,16 @@ module _ (share : ℕ → ℕ) (m n k : ℕ) (m_some : 0 < m) (all_some : 0 < co
   edge = run_at start m before
 
   edge_low : edge < m
-  edge_low = run_low start m before m_some
+  edge_low = run_low start m _ m_some
 
   edge_from : start edge ≤ before
-  edge_from = run_from start m before (omega arith)
+  edge_from = run_from start m _ (omega arith)
 
   -- The rest is a part of the share of the edge.
   rest_less : before - start edge < n * share edge
   rest_less =
-      let to = run_to start m before m_some (times_less k n (count_below share m) less all_some) in
-      let sum : start (suc edge) ≡ start edge + n * share edge = mul-add n (count_below share edge) (share edge) in
+      let to = run_to start m _ m_some (times_less k n _ less all_some) in
+      let sum = mul-add n (count_below share edge) (share edge) in
       omega (arith, to, sum, edge_from)
 
   share_some : 0 < n * share edge
@@ -110,7 +107,7 @@ module _ (share : ℕ → ℕ) (m n k : ℕ) (m_some : 0 < m) (all_some : 0 < co
   pub inner_is : IsInner m (inner_step share m n k)
   inner_is = record {
     edge = edge_low;
-    part = div_less (ONE * (before - start edge)) ONE (n * share edge) share_some (omega (arith, rest_less));
+    part = div_less _ ONE _ share_some (omega (arith, rest_less));
     parts = refl;
   }
 
@@ -123,30 +120,28 @@ module _ (share : ℕ → ℕ) (m n k : ℕ) (m_some : 0 < m) (all_some : 0 < co
     where
       share_le : edge ≡ 0 → share edge ≤ before - start edge
       share_le first =
-          let one : count_below share 1 ≤ count_below share m = count_rises share 1 m (omega (arith, m_some)) in
+          let one : count_below share 1 ≤ count_below share m = count_rises share 1 m (omega arith) in
           let same : share edge ≡ share 0 = ap share first in
           let none : start edge ≡ n * 0 = ap start first in
           let le = mul-le 1 (count_below share m) k (count_below share m) some (omega arith) in
-          omega (arith, one, same, none, le)
+          omega arith
 
       rest_some : edge ≡ 0 → 0 < ONE * (before - start edge) / (n * share edge)
       rest_some first = (le-div_iff_mul-le {k = n * share edge} {x = 1} {y = ONE * (before - start edge)} share_some).1
           (let le = mul-le n (share edge) ONE (before - start edge) few (share_le first) in
-          omega (arith, le))
+          omega arith)
 
 module _ (l : Gluing) (old new : Lengths) (shares : Shares) (o_len : AreLengths l old) (n_len : AreLengths l new) where
   -- Place k of an arc before its end.
   pub step_is : (a k : ℕ) → a < l.arcs → k < new a → IsInner (old a) (shared_step old new shares a k)
   step_is a k low less = cond_both (k == 0) (edge_begin 0) _ (IsInner (old a))
-      (λ e. record { edge = o_len.some a low; part = omega arith; parts = refl })
-      (λ e. cond_both (k == new a) (edge_begin (old a)) _ (IsInner (old a))
-      (λ same. absurd (omega (arith, eqb-true k (new a) same, less)))
-      (λ ne. inner_is (counted (shares a) (old a)) (old a) (new a) k (o_len.some a low)
-      (counted_some (shares a) (old a) (o_len.some a low)) less))
+      (λ e. record { edge = o_len.some a low; part = omega arith; parts = refl }) (λ e. cond_both (k == new a)
+      (edge_begin (old a)) _ (IsInner (old a)) (λ same. absurd (omega (arith, eqb-true k (new a) same)))
+      (λ ne. inner_is _ _ _ k (o_len.some a low) (counted_some _ _ (o_len.some a low)) less))
 
   -- Its end.
   pub step_end : (a : ℕ) → a < l.arcs → shared_step old new shares a (new a) ≡ edge_begin (old a)
-  step_end a low = cond-false (new a == 0) (edge_begin 0) _ (ne_eqb (new a) 0 (λ e. omega (arith, e, n_len.some a low)))
+  step_end a low = cond-false (new a == 0) (edge_begin 0) _ (ne_eqb (new a) 0 (λ e. omega (arith, n_len.some a low)))
       ∙ cond-true (new a == new a) (edge_begin (old a)) _ (eq-eqb (new a) (new a) refl)
 
   parameter_end : (a : ℕ) → a < l.arcs → step_parameter (shared_step old new shares a (new a)) ≡ ONE * old a
@@ -158,12 +153,9 @@ module _ (l : Gluing) (old new : Lengths) (shares : Shares) (o_len : AreLengths 
   module _ (few : (a : ℕ) → a < l.arcs → new a ≤ ONE) where
     parameter_some : (a k : ℕ) → a < l.arcs → 0 < k → k ≤ new a → 0 < step_parameter (shared_step old new shares a k)
     parameter_some a k low some le = cond_both (k == 0) (edge_begin 0) _ (λ s. 0 < step_parameter s)
-        (λ e. absurd (omega (arith, eqb-true k 0 e, some)))
-        (λ e. cond_both (k == new a) (edge_begin (old a)) _ (λ s. 0 < step_parameter s)
-        (λ same. omega (arith, o_len.some a low))
-        (λ ne. inner_some (counted (shares a) (old a)) (old a) (new a) k (o_len.some a low)
-        (counted_some (shares a) (old a) (o_len.some a low)) (by_order k (new a) le (eqb-false k (new a) ne)) some
-        (few a low)))
+        (λ e. absurd (omega (arith, eqb-true k 0 e))) (λ e. cond_both (k == new a) (edge_begin (old a)) _ (λ s. 0
+        < step_parameter s) (λ same. omega (arith, o_len.some a low)) (λ ne. inner_some _ _ _ k (o_len.some a low)
+        (counted_some _ _ (o_len.some a low)) (by_order k _ le (eqb-false k (new a) ne)) some (few a low)))
       where
         by_order : (i n : ℕ) → i ≤ n → (i ≡ n → ⊥) → i < n
         by_order i n i_le ne = elim (cases_eq i n) [ inl e ↦ absurd (ne e) | inr other ↦ omega arith ]
@@ -200,4 +192,4 @@ pub even_law : EvenSpacingLaw
 even_law l old new o_len n_len = even_is l old new o_len n_len
 
 pub shared_law : SharedLaw
-shared_law l old new shares o_len n_len few = shared_is l old new shares o_len n_len few
+shared_law l old new shares o_len n_len few = shared_is l old new _ o_len n_len few

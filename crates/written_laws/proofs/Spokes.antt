@@ -65,7 +65,7 @@ module _ (l : Gluing) (x : Lengths) where
   joins_swap e a b (inr s) = inl s
 
   pub arc_not_inside : (a k p i j : ℕ) → arc_point l x a k ≢ inside p i j
-  arc_not_inside a k p i j e = by_tests (k == 0) (k == x a) e
+  arc_not_inside a k p i j e = by_tests _ _ e
     where
       by_tests : (b c : Bool) → cond b (node (l.first a)) (cond c (node (l.last a)) (along a k)) ≢ inside p i j
       by_tests true c s = cc
@@ -74,7 +74,7 @@ module _ (l : Gluing) (x : Lengths) where
 
   -- The point of an arc that lies along it.
   pub arc_sort : (a k b m : ℕ) → arc_point l x a k ≡ along b m → (a ≡ b) × (k ≡ m)
-  arc_sort a k b m e = by_tests (k == 0) (k == x a) e
+  arc_sort a k b m e = by_tests _ _ e
     where
       by_tests : (c d : Bool) → cond c (node (l.first a)) (cond d (node (l.last a)) (along a k)) ≡ along b m
           → (a ≡ b) × (k ≡ m)
@@ -115,9 +115,9 @@ module _ (l : Gluing) (x : Lengths) where
     spoke_joins p i j east n = inl (hub p i j n, refl)
     spoke_joins p i j north n = inl (hub p i j n, refl)
     spoke_joins p i j west n =
-        let e : i - 1 + 1 ≡ i = omega (arith, n.1.a_some) in inr (refl, ap (λ k. point l x p k j) e ∙ hub p i j n)
+        let e : i - 1 + 1 ≡ i = omega (arith, n.1.a_some) in inr (refl, cc (e, hub p i j n))
     spoke_joins p i j south n =
-        let e : j - 1 + 1 ≡ j = omega (arith, n.1.b_some) in inr (refl, ap (point l x p i) e ∙ hub p i j n)
+        let e : j - 1 + 1 ≡ j = omega (arith, n.1.b_some) in inr (refl, cc (e, hub p i j n))
 
     -- An edge with an end inside a patch is a spoke from there.
     pub hub_edge : (f : Edge) (p i j : ℕ) (t : Point) → IsEdge l x f → Joins f (inside p i j) t
@@ -142,8 +142,8 @@ module _ (l : Gluing) (x : Lengths) where
     -- A spoke has no equal ends.
     pub loop_at : (e : Edge) (p i j : ℕ) (w : Way) → Inner p i j → e ≡ spoke p i j w → edge_start l x e ≢ edge_end l x e
     loop_at e p i j w n is same = elim (spoke_joins p i j w n) [
-      | inl s ↦ at_tip (sym s.1 ∙ sym equal ∙ s.0)
-      | inr s ↦ at_tip (sym s.0 ∙ equal ∙ s.1)
+      | inl s ↦ at_tip (cc (s.1, equal, s.0))
+      | inr s ↦ at_tip (cc (s.0, equal, s.1))
     ]
       where
         equal : edge_start l x (spoke p i j w) ≡ edge_end l x (spoke p i j w)

@@ -23,83 +23,68 @@ module _ {l : Gluing} {x : Lengths} (paved : HasWholeSides l) (len : AreLengths 
   pub place_once : (p : ℕ) (s r : Way) (t u : ℕ) → p < l.patches → t < size l x p s → u < size l x p r
       → side_column l x p s t ≡ side_column l x p r u → side_row l x p s t ≡ side_row l x p r u → (s ≡ r) × (t ≡ u)
   place_once p south south t u low t_low u_low c r = (refl, c)
-  place_once p south east t u low t_low u_low c r = absurd (omega (arith, c, t_low))
-  place_once p south west t u low t_low u_low c r = absurd (omega (arith, r, u_low))
-  place_once p east south t u low t_low u_low c r = absurd (omega (arith, c, u_low))
+  place_once p south east t u low t_low u_low c r = absurd (omega arith)
+  place_once p south west t u low t_low u_low c r = absurd (omega arith)
+  place_once p east south t u low t_low u_low c r = absurd (omega arith)
   place_once p east east t u low t_low u_low c r = (refl, r)
-  place_once p east north t u low t_low u_low c r = absurd (omega (arith, r, t_low, len.upright p low))
-  place_once p east west t u low t_low u_low c r = absurd (omega (arith, c, wide_some l x paved len p low))
-  place_once p north east t u low t_low u_low c r = absurd (omega (arith, r, u_low, len.upright p low))
-  place_once p north north t u low t_low u_low c r = (refl, omega (arith, c, t_low, u_low, len.across p low))
-  place_once p north west t u low t_low u_low c r = absurd (omega (arith, c, t_low, len.across p low))
-  place_once p west south t u low t_low u_low c r = absurd (omega (arith, r, t_low))
-  place_once p west east t u low t_low u_low c r = absurd (omega (arith, c, wide_some l x paved len p low))
-  place_once p west north t u low t_low u_low c r = absurd (omega (arith, c, u_low, len.across p low))
-  place_once p west west t u low t_low u_low c r = (refl, omega (arith, r, t_low, u_low))
-  place_once p _ _ t u low t_low u_low c r = absurd (omega (arith, r, high_some l x paved len p low))
+  place_once p east north t u low t_low u_low c r = absurd (omega (arith, len.upright p low))
+  place_once p east west t u low t_low u_low c r = absurd (omega (arith, wide_some l x paved len p low))
+  place_once p north east t u low t_low u_low c r = absurd (omega (arith, len.upright p low))
+  place_once p north north t u low t_low u_low c r = (refl, omega (arith, len.across p low))
+  place_once p north west t u low t_low u_low c r = absurd (omega (arith, len.across p low))
+  place_once p west south t u low t_low u_low c r = absurd (omega arith)
+  place_once p west east t u low t_low u_low c r = absurd (omega (arith, wide_some l x paved len p low))
+  place_once p west north t u low t_low u_low c r = absurd (omega (arith, len.across p low))
+  place_once p west west t u low t_low u_low c r = (refl, omega arith)
+  place_once p _ _ t u low t_low u_low c r = absurd (omega (arith, high_some l x paved len p low))
 
   -- A border dart tells its slot.
   pub rim_slot : (w v : Slot) (o k : ℕ) → IsSlot l w → IsSlot l v → o < x (use_of l w).arc → k < x (use_of l v).arc
       → slot_dart l x w o ≡ slot_dart l x v k → w ≡ v
   rim_slot w v o k is_w is_v o_low k_low same =
-      let e = (place_once w.patch w.side w.side t u is_w.patch_low (at_low l x paved len o is_w o_low) u_low columns
-      rows).1 in
+      let t = reach l x w.patch w.side w.at + o in
+      let u = reach l x v.patch v.side v.at + k in
+      let patches : v.patch ≡ w.patch = sym (rim_patch paved len v.patch v.side u)
+      ∙ ap (λ (d : CellDart). d.patch) (sym same) ∙ rim_patch paved len w.patch w.side t in
+      let sides : v.side ≡ w.side = sym (rim_way paved len v.patch v.side u) ∙ ap (λ (d : CellDart). d.way) (sym same)
+      ∙ rim_way paved len w.patch w.side t in
+      let u_low : u < size l x w.patch w.side = subst (λ (n : ℕ). u < n) (λ r. size l x (patches r) (sides r))
+      (at_low l x paved len k is_v k_low) in
+      let there : dart_along l x v.patch v.side u
+      ≡ dart_along l x w.patch w.side u = λ r. dart_along l x (patches r) (sides r) u in
+      let columns : side_column l x w.patch w.side t ≡ side_column l x w.patch w.side u = sym
+      (rim_column paved len w.patch w.side t is_w.patch_low (at_low l x paved len o is_w o_low))
+      ∙ ap column_of (same ∙ there) ∙ rim_column paved len w.patch w.side u is_w.patch_low u_low in
+      let rows : side_row l x w.patch w.side t ≡ side_row l x w.patch w.side u = sym
+      (rim_row paved len w.patch w.side t is_w.patch_low (at_low l x paved len o is_w o_low)) ∙ ap row_of (same ∙ there)
+      ∙ rim_row paved len w.patch w.side u is_w.patch_low u_low in
+      let e =
+      (place_once w.patch w.side w.side t u is_w.patch_low (at_low l x paved len o is_w o_low) u_low columns rows).1 in
       let k_inside = subst (λ (n : ℕ). k < n) (λ r. long_at l x (patches r) (sides r) v.at) k_low in
       let v_many = subst (λ (n : ℕ). v.at < n) (λ r. l.many (patches r) (sides r)) is_v.low in
       let r = place_same (long_at l x w.patch w.side) (l.many w.patch w.side) w.at o v.at k is_w.low v_many o_low
       k_inside (e ∙ (λ r. reach l x (patches r) (sides r) v.at + k)) in
       λ q. slot (sym patches q) (sym sides q) (r.0 q)
-    where
-      t : ℕ
-      t = reach l x w.patch w.side w.at + o
-
-      u : ℕ
-      u = reach l x v.patch v.side v.at + k
-
-      patches : v.patch ≡ w.patch
-      patches = sym (rim_patch paved len v.patch v.side u) ∙ ap (λ (d : CellDart). d.patch) (sym same)
-          ∙ rim_patch paved len w.patch w.side t
-
-      sides : v.side ≡ w.side
-      sides = sym (rim_way paved len v.patch v.side u) ∙ ap (λ (d : CellDart). d.way) (sym same)
-          ∙ rim_way paved len w.patch w.side t
-
-      u_low : u < size l x w.patch w.side
-      u_low = subst (λ (n : ℕ). u < n) (λ r. size l x (patches r) (sides r)) (at_low l x paved len k is_v k_low)
-
-      there : dart_along l x v.patch v.side u ≡ dart_along l x w.patch w.side u
-      there = λ r. dart_along l x (patches r) (sides r) u
-
-      columns : side_column l x w.patch w.side t ≡ side_column l x w.patch w.side u
-      columns = sym (rim_column paved len w.patch w.side t is_w.patch_low (at_low l x paved len o is_w o_low))
-          ∙ ap column_of (same ∙ there) ∙ rim_column paved len w.patch w.side u is_w.patch_low u_low
-
-      rows : side_row l x w.patch w.side t ≡ side_row l x w.patch w.side u
-      rows = sym (rim_row paved len w.patch w.side t is_w.patch_low (at_low l x paved len o is_w o_low))
-          ∙ ap row_of (same ∙ there) ∙ rim_row paved len w.patch w.side u is_w.patch_low u_low
 
   -- A dart that leaves a place of a side lies on the border, or is next to the border dart before.
   border_dart : (p : ℕ) (s w : Way) (i j t : ℕ) → t < size l x p s → IsDart l x (dart p i j w)
       → column i w ≡ side_column l x p s t → row j w ≡ side_row l x p s t
       → (dart p i j w ≡ dart_along l x p s t) ⊎ ((0 < t) × (dart p i j w ≡ next (dart_along l x p s (t - 1))))
   border_dart p south south i j t t_low is c r = inl (dart_is p south c r)
-  border_dart p south east i j t t_low is c r = inr (omega (arith, c), dart_is p east (omega (arith, c)) r)
-  border_dart p east south i j t t_low is c r = absurd (omega (arith, c, is.i_low))
-  border_dart p east east i j t t_low is c r = inl (dart_is p east (omega (arith, c)) r)
-  border_dart p east north i j t t_low is c r =
-      inr (omega (arith, r), dart_is p north (omega (arith, c)) (omega (arith, r)))
-  border_dart p east west i j t t_low is c r = absurd (omega (arith, c, is.i_low))
-  border_dart p north south i j t t_low is c r = absurd (omega (arith, r, is.j_low))
-  border_dart p north east i j t t_low is c r = absurd (omega (arith, r, is.j_low))
-  border_dart p north north i j t t_low is c r = inl (dart_is p north (omega (arith, c)) (omega (arith, r)))
-  border_dart p north west i j t t_low is c r =
-      inr (omega (arith, c, is.i_low), dart_is p west (omega (arith, c, is.i_low)) (omega (arith, r)))
-  border_dart p west south i j t t_low is c r =
-      inr (omega (arith, r, is.j_low), dart_is p south c (omega (arith, r, is.j_low)))
-  border_dart p west east i j t t_low is c r = absurd (omega (arith, c))
-  border_dart p west north i j t t_low is c r = absurd (omega (arith, c))
-  border_dart p west west i j t t_low is c r = inl (dart_is p west c (omega (arith, r)))
-  border_dart p south _ i j t t_low is c r = absurd (omega (arith, r))
+  border_dart p south east i j t t_low is c r = inr (omega arith, dart_is p east (omega arith) r)
+  border_dart p east south i j t t_low is c r = absurd (omega arith)
+  border_dart p east east i j t t_low is c r = inl (dart_is p east (omega arith) r)
+  border_dart p east north i j t t_low is c r = inr (omega arith, dart_is p north (omega arith) (omega arith))
+  border_dart p east west i j t t_low is c r = absurd (omega arith)
+  border_dart p north south i j t t_low is c r = absurd (omega arith)
+  border_dart p north east i j t t_low is c r = absurd (omega arith)
+  border_dart p north north i j t t_low is c r = inl (dart_is p north (omega arith) (omega arith))
+  border_dart p north west i j t t_low is c r = inr (omega arith, dart_is p west (omega arith) (omega arith))
+  border_dart p west south i j t t_low is c r = inr (omega arith, dart_is p south c (omega arith))
+  border_dart p west east i j t t_low is c r = absurd (omega arith)
+  border_dart p west north i j t t_low is c r = absurd (omega arith)
+  border_dart p west west i j t t_low is c r = inl (dart_is p west c (omega arith))
+  border_dart p south _ i j t t_low is c r = absurd (omega arith)
 
 -- The place on its side that lies o after the beginning of a slot's arc.
 abbrev pub place_at : (l : Gluing) (x : Lengths) (w : Slot) (o : ℕ) → ℕ
@@ -121,7 +106,7 @@ module _ {l : Gluing} {x : Lengths} (laid : IsSurface l) (len : AreLengths l x) 
     patch = patch;
     column = c;
     row = r;
-    leaves = (λ k. point l x (patch k) (c k) (r k)) ∙ border_point l x laid len w.patch w.side (place_at l x w o)
+    leaves = (λ k. point l x (patch k) (c k) (r k)) ∙ border_point l x laid len _ _ _
         is.patch_low (omega (arith, at_low l x laid.paved len o is less)) ∙ side_in l x o is less;
   }
 
@@ -129,41 +114,33 @@ module _ {l : Gluing} {x : Lengths} (laid : IsSurface l) (len : AreLengths l x) 
   pub at_once : {d : CellDart} {w v : Slot} {o k : ℕ} → IsAt l x laid len d w o → IsAt l x laid len d v k → (w ≡ v)
       × (o ≡ k)
   at_once {w} {v} {o} {k} a b =
-      let s = place_once laid.paved len w.patch w.side v.side (place_at l x w o)
-      (place_at l x v k) a.is_slot.patch_low (at_low l x laid.paved len o a.is_slot a.low) v_low columns rows in
+      let patches : v.patch ≡ w.patch = sym b.patch ∙ a.patch in
+      let v_low : place_at l x v k < size l x w.patch v.side = subst (λ (n : ℕ). place_at l x v k < n)
+      (λ t. size l x (patches t) v.side) (at_low l x laid.paved len k b.is_slot b.low) in
+      let columns : side_column l x w.patch w.side (place_at l x w o) ≡ side_column l x w.patch v.side
+      (place_at l x v k) = sym a.column ∙ b.column ∙ (λ t. side_column l x (patches t) v.side (place_at l x v k)) in
+      let rows : side_row l x w.patch w.side (place_at l x w o) ≡ side_row l x w.patch v.side (place_at l x v k) = sym
+      a.row ∙ b.row ∙ (λ t. side_row l x (patches t) v.side (place_at l x v k)) in
+      let s = place_once laid.paved len w.patch w.side v.side (place_at l x w o) (place_at l x v k) a.is_slot.patch_low
+      (at_low l x laid.paved len o a.is_slot a.low) v_low columns rows in
       let v_inside = subst (λ (n : ℕ). k < n) (λ t. long_at l x (patches t) (sym s.0 t) v.at) b.low in
       let v_many = subst (λ (n : ℕ). v.at < n) (λ t. l.many (patches t) (sym s.0 t)) b.is_slot.low in
       let place = s.1 ∙ (λ t. reach l x (patches t) (sym s.0 t) v.at + k) in
-      let r = place_same (long_at l x w.patch w.side) (l.many w.patch w.side) w.at o v.at k a.is_slot.low v_many
-      a.low v_inside place in
+      let r = place_same (long_at l x w.patch w.side) (l.many w.patch w.side) w.at o v.at k a.is_slot.low v_many a.low
+      v_inside place in
       ((λ t. slot (sym patches t) (s.0 t) (r.0 t)), r.1)
-    where
-      patches : v.patch ≡ w.patch
-      patches = sym b.patch ∙ a.patch
-
-      v_low : place_at l x v k < size l x w.patch v.side
-      v_low = subst (λ (n : ℕ). place_at l x v k < n) (λ t. size l x (patches t) v.side)
-          (at_low l x laid.paved len k b.is_slot b.low)
-
-      columns : side_column l x w.patch w.side (place_at l x w o) ≡ side_column l x w.patch v.side (place_at l x v k)
-      columns = sym a.column ∙ b.column ∙ (λ t. side_column l x (patches t) v.side (place_at l x v k))
-
-      rows : side_row l x w.patch w.side (place_at l x w o) ≡ side_row l x w.patch v.side (place_at l x v k)
-      rows = sym a.row ∙ b.row ∙ (λ t. side_row l x (patches t) v.side (place_at l x v k))
 
   -- The darts at a place.
   pub spot_is : (w : Slot) (o : ℕ) (b : Bool) → IsSlot l w → o < x (use_of l w).arc → (b ≡ true → 0 < place_at l x w o)
       → IsDart l x (spot_dart l x w o b)
   spot_is w o false is less some = at_is l x laid.paved len w o is less
   spot_is w o true is less some = next_is l x (dart_along l x w.patch w.side (place_at l x w o - 1))
-      (rim_is laid.paved len w.patch w.side (place_at l x w o - 1) is.patch_low
-      (omega (arith, at_low l x laid.paved len o is less)))
+      (rim_is laid.paved len _ _ _ is.patch_low (omega (arith, at_low l x laid.paved len o is less)))
 
   pub rim_is_at : (w : Slot) (o : ℕ) → IsSlot l w → o < x (use_of l w).arc → IsAt l x laid len (slot_dart l x w o) w o
-  rim_is_at w o is less = at_place (slot_dart l x w o) o is less
-      (rim_patch laid.paved len w.patch w.side (place_at l x w o))
-      (rim_column laid.paved len w.patch w.side (place_at l x w o) is.patch_low (at_low l x laid.paved len o is less))
-      (rim_row laid.paved len w.patch w.side (place_at l x w o) is.patch_low (at_low l x laid.paved len o is less))
+  rim_is_at w o is less = at_place _ o is less (rim_patch laid.paved len _ _ _)
+      (rim_column laid.paved len _ _ _ is.patch_low (at_low l x laid.paved len o is less))
+      (rim_row laid.paved len _ _ _ is.patch_low (at_low l x laid.paved len o is less))
 
   pub spot_at : {w : Slot} (o : ℕ) (b : Bool) → IsSlot l w → o < x (use_of l w).arc → (b ≡ true → 0 < place_at l x w o)
       → IsAt l x laid len (spot_dart l x w o b) w o
@@ -171,34 +148,35 @@ module _ {l : Gluing} {x : Lengths} (laid : IsSurface l) (len : AreLengths l x) 
   spot_at {w} o true is less some =
       let t_low : place_at l x w o - 1 < size l x w.patch w.side = omega (arith, at_low l x laid.paved len o is less) in
       let one : place_at l x w o - 1 + 1 ≡ place_at l x w o = omega (arith, some refl) in
-      at_place (next (dart_along l x w.patch w.side (place_at l x w o - 1))) o is less
-      (rim_patch laid.paved len w.patch w.side (place_at l x w o - 1))
-      (rim_next_column laid.paved len w.patch w.side (place_at l x w o - 1) is.patch_low t_low
-      ∙ ap (side_column l x w.patch w.side) one)
-      (rim_next_row laid.paved len w.patch w.side (place_at l x w o - 1) is.patch_low t_low
-      ∙ ap (side_row l x w.patch w.side) one)
+      at_place _ o is less
+      (rim_patch laid.paved len _ _ _)
+      (cc (rim_next_column laid.paved len w.patch w.side (place_at l x w o - 1) is.patch_low t_low))
+      (cc (rim_next_row laid.paved len w.patch w.side (place_at l x w o - 1) is.patch_low t_low))
 
   -- A dart at a place is one of the two.
   pub sort_spot : (d : CellDart) (w : Slot) (o : ℕ) → IsDart l x d → IsAt l x laid len d w o
       → (b : Bool) × (d ≡ spot_dart l x w o b) × ((b ≡ true) → 0 < place_at l x w o)
-  sort_spot d w o is a = elim (border_dart laid.paved len w.patch w.side d.way d.i d.j (place_at l x w o)
+  sort_spot d w o is a =
+      let here : d ≡ dart w.patch d.i d.j d.way = λ t. dart (a.patch t) d.i d.j d.way in
+      elim (border_dart laid.paved len w.patch w.side d.way d.i d.j (place_at l x w o)
       (at_low l x laid.paved len o a.is_slot a.low) (record {
         patch_low = a.is_slot.patch_low;
-        i_low = rw (ap (wide l x) a.patch) at is.i_low;
+        i_low = rw
+            (ap (wide l x) a.patch) at is.i_low;
         j_low = rw (ap (high l x) a.patch) at is.j_low;
-      })
-      a.column a.row) [ inl e ↦ (false, here ∙ e, λ s. absurd cc) | inr e ↦ (true, here ∙ e.1, λ s. e.0) ]
-    where
-      here : d ≡ dart w.patch d.i d.j d.way
-      here = λ t. dart (a.patch t) d.i d.j d.way
+      }) a.column a.row)
+      [ inl e ↦ (false, here ∙ e, λ s. absurd cc) | inr e ↦ (true, here ∙ e.1, λ s. e.0) ]
 
   -- The two differ.
   pub spot_once : (w : Slot) (o : ℕ) (b c : Bool) → spot_dart l x w o b ≡ spot_dart l x w o c → b ≡ c
   spot_once w o true true e = refl
   spot_once w o false false e = refl
   spot_once w o true false e = absurd (no_turn w.side
-      (sym (ap (λ (d : CellDart). d.way) e ∙ rim_way laid.paved len w.patch w.side (place_at l x w o))
-      ∙ ap side_after (rim_way laid.paved len w.patch w.side (place_at l x w o - 1))))
-  spot_once w o false true e = absurd (no_turn w.side
-      (sym (rim_way laid.paved len w.patch w.side (place_at l x w o)) ∙ ap (λ (d : CellDart). d.way) e
-      ∙ ap side_after (rim_way laid.paved len w.patch w.side (place_at l x w o - 1))))
+      (cc (
+        e,
+        rim_way laid.paved len w.patch w.side (place_at l x w o),
+        rim_way laid.paved len w.patch w.side
+            (place_at l x w o - 1),
+      )))
+  spot_once w o false true e = absurd (no_turn w.side (sym (rim_way laid.paved len w.patch w.side (place_at l x w o))
+      ∙ ap (λ (d : CellDart). d.way) e ∙ ap side_after (rim_way laid.paved len w.patch w.side (place_at l x w o - 1))))

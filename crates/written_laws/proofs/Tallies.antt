@@ -32,13 +32,13 @@ passing_but p zero u low on = absurd (omega arith)
 passing_but p (suc n) u low on = elim (cases_eq n u) [
   | inl e ↦
       let rest = count_below_same (λ k. one_if (p k)) (λ k. one_if (but p u k)) n
-      (λ k l. ap one_if (sym (but_same p {u = u} {k = k} (λ s. omega (arith, s, e))))) in
+      (λ k l. ap one_if (sym (but_same p {u = u} {k = k} (λ s. omega arith)))) in
       let last : one_if (p n) ≡ 1 = ap one_if (ap p e ∙ on) in
       let none : one_if (but p u n) ≡ 0 = ap one_if (but_none p u n e) in
-      omega (arith, rest, last, none)
+      omega arith
   | inr apart ↦
       let last : one_if (p n) ≡ one_if (but p u n) = ap one_if (sym (but_same p apart)) in
-      omega (arith, passing_but p n u (omega arith) on, last)
+      omega (arith, passing_but p n u (omega arith) on)
 ]
 
 -- Where what passes p below m is mapped one to one to what passes q below n, there is no more of it.
@@ -51,7 +51,7 @@ passing_le p q (suc m) n to once = elim (cases_Bool (p m)) [
   | inr off ↦
       let none : one_if (p m) ≡ 0 = ap one_if off in
       let rest = passing_le p q m n (λ i l s. to i (up i l) s) (λ i j a b c d e. once i j (up i a) b (up j c) d e) in
-      omega (arith, none, rest)
+      omega arith
 ]
   where
     up : (i : ℕ) → i < m → i < suc m
@@ -60,12 +60,11 @@ passing_le p q (suc m) n to once = elim (cases_Bool (p m)) [
     at_pass : p m ≡ true → ((r : ℕ → Bool) (go : (i : ℕ) → i < m → p i ≡ true → (k : ℕ) × (k < n) × (r k ≡ true))
         → ((i j : ℕ) (a : i < m) (b : p i ≡ true) (c : j < m) (d : p j ≡ true) → (go i a b).0 ≡ (go j c d).0 → i ≡ j)
         → passing p m ≤ passing r n) → passing p (suc m) ≤ passing q n
-    at_pass on rest = by_image (to m (up_last m) on).0 (to m (up_last m) on).1 (to m (up_last m) on).2
+    at_pass on rest =
+        let up_last : (m : ℕ) → m < suc m = λ m. omega arith in
+        by_image (to m (up_last m) on).0 (to m (up_last m) on).1 (to m (up_last m) on).2
         (λ i l s e. let same : i ≡ m = once i m (up i l) s (up_last m) on e in omega (arith, same))
       where
-        up_last : (m : ℕ) → m < suc m
-        up_last m = omega arith
-
         by_image : (u : ℕ) → u < n → q u ≡ true → ((i : ℕ) (l : i < m) (s : p i ≡ true) → (to i (up i l) s).0 ≢ u)
             → passing p (suc m) ≤ passing q n
         by_image u u_low u_on apart =
@@ -81,15 +80,24 @@ passing_le p q (suc m) n to once = elim (cases_Bool (p m)) [
 pub passing_all : (n : ℕ) → passing (λ k. true) n ≡ n
 passing_all n = count_below_ones n
 
+-- What passes p below m are the numbers a of the things P.
+pub record AreNumbers {X : Type 0} (P : X → Type 0) (a : X → ℕ) (p : ℕ → Bool) (m : ℕ) : Type 0 where
+  pub each : (d : X) → P d → (a d < m) × (p (a d) ≡ true)
+  pub onto : (k : ℕ) → k < m → p k ≡ true → (d : X) × P d × (a d ≡ k)
+
+-- Things with two numbers, of which one tells the other, have no more of the former.
+pub numbers_le : {X : Type 0} {P : X → Type 0} {a b : X → ℕ} {p q : ℕ → Bool} {m n : ℕ} → AreNumbers P a p m
+    → AreNumbers P b q n → ((d e : X) → P d → P e → b d ≡ b e → a d ≡ a e) → passing p m ≤ passing q n
+numbers_le {b} {p} {q} {m} {n} r s tells = passing_le p q m n
+    (λ k low on. let d = r.onto k low on in let e = s.each d.0 d.1 in (b d.0, e.0, e.1))
+    (λ k j low on less too same. let d = r.onto k low on in let e = r.onto j less too in
+    sym d.2 ∙ tells d.0 e.0 d.1 e.1 same ∙ e.2)
+
 -- A filter keeps what passes.
 pub filter_long : (p : ℕ → Bool) (n : ℕ) → length (filter p (range_with_len 0 n)) ≡ passing p n
 filter_long p zero = refl
 filter_long p (suc n) =
+    let last : (b : Bool) → length (cond b (n ∷ []) []) ≡ one_if b = λ b. grind (arith) in
     let one_more : suc n ≡ n + 1 = omega arith in
-    ap (λ m. length (filter p (range_with_len 0 m))) one_more
-    ∙ ap length (filter_range_more p n)
-    ∙ length-append (filter p (range_with_len 0 n)) (cond (p n) (n ∷ []) [])
-    ∙ (λ t. filter_long p n t + last (p n) t)
-  where
-    last : (b : Bool) → length (cond b (n ∷ []) []) ≡ one_if b
-    last b = grind (arith)
+    ap (λ m. length (filter p (range_with_len 0 m))) one_more ∙ ap length (filter_range_more p n)
+    ∙ length-append (filter p (range_with_len 0 n)) (cond (p n) (n ∷ []) []) ∙ (λ t. filter_long p n t + last (p n) t)

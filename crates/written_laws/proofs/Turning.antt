@@ -11,9 +11,8 @@ pub record IsTurning (l : Gluing) (x : Lengths) (R : CellDart → CellDart → T
   pub self : (d e : CellDart) → d ≡ e → R d e
   pub on : (d c e : CellDart) → R d c → R c e → R d e
   pub back : (d e : CellDart) → IsDart l x d → R d e → R e d
-  pub left : (p i j k m : ℕ) (w : Way) → IsDart l x (dart p i j w) → IsDart l x (dart p k m (side_after w))
-      → column i w ≡ column k (side_after w) → row j w ≡ row m (side_after w)
-      → R (dart p i j w) (dart p k m (side_after w))
+  pub left : (p i j k m : ℕ) (w : Way) → IsDart l x (dart p i j w) → IsDart l x (dart p k m (side_after w)) → column i w
+      ≡ column k (side_after w) → row j w ≡ row m (side_after w) → R (dart p i j w) (dart p k m (side_after w))
   pub over : (w v : Slot) (o : ℕ) → IsSlot l w → IsOtherSlot l w v → o < x (use_of l w).arc
       → R (next (slot_dart l x w o)) (slot_dart l x v (x (use_of l w).arc - 1 - o))
 
@@ -24,16 +23,14 @@ is_dart p i j w low i_low j_low = record { patch_low = low; i_low = i_low; j_low
 
 module _ {l : Gluing} {x : Lengths} {R : CellDart → CellDart → Type 0} (turning : IsTurning l x R) where
   same_cell : (p i j k m : ℕ) (w : Way) → i ≡ k → j ≡ m → R (dart p i j w) (dart p k m w)
-  same_cell p i j k m w a b = turning.self (dart p i j w) (dart p k m w) (λ t. dart p (a t) (b t) w)
+  same_cell p i j k m w a b = turning.self _ _ (λ t. dart p (a t) (b t) w)
 
   twice : (p i j a b k m : ℕ) (w : Way) → IsDart l x (dart p i j w) → IsDart l x (dart p a b (side_after w))
-      → IsDart l x (dart p k m (side_after (side_after w))) → column i w ≡ column a (side_after w)
-      → row j w ≡ row b (side_after w) → column a (side_after w) ≡ column k (side_after (side_after w))
-      → row b (side_after w) ≡ row m (side_after (side_after w))
-      → R (dart p i j w) (dart p k m (side_after (side_after w)))
-  twice p i j a b k m w d c e i_a j_b a_k b_m =
-      turning.on (dart p i j w) (dart p a b (side_after w)) (dart p k m (side_after (side_after w)))
-      (turning.left p i j a b w d c i_a j_b) (turning.left p a b k m (side_after w) c e a_k b_m)
+      → IsDart l x (dart p k m (side_after (side_after w))) → column i w ≡ column a (side_after w) → row j w
+      ≡ row b (side_after w) → column a (side_after w) ≡ column k (side_after (side_after w)) → row b (side_after w)
+      ≡ row m (side_after (side_after w)) → R (dart p i j w) (dart p k m (side_after (side_after w)))
+  twice p i j a b k m w d c e i_a j_b a_k b_m = turning.on _ _ _ (turning.left p i j a b w d c i_a j_b)
+      (turning.left p a b k m _ c e a_k b_m)
 
   -- Darts of a patch that leave one grid point are related.
   pub grid_related : (p i j k m : ℕ) (w v : Way) → IsDart l x (dart p i j w) → IsDart l x (dart p k m v)
@@ -60,5 +57,4 @@ module _ {l : Gluing} {x : Lengths} {R : CellDart → CellDart → Type 0} (turn
   grid_related p i j k m west south d e c r = turning.left p i j k m west d e c r
   grid_related p i j k m west east d e c r =
       twice p i j i m k m west d (is_dart p i m south d.patch_low d.i_low e.j_low) e refl r c refl
-  grid_related p i j k m west north d e c r =
-      turning.back (dart p k m north) (dart p i j west) e (turning.left p k m i j north e d (sym c) (sym r))
+  grid_related p i j k m west north d e c r = turning.back _ _ e (turning.left p k m i j north e d (sym c) (sym r))

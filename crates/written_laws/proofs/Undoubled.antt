@@ -73,14 +73,11 @@ module _ (l : Gluing) (x : Lengths) where
         → edge_end l x a ≡ edge_start l x b) × (vertex_number l x (edge_end l x a) ≡ vertex_number l x (edge_end l x b)
         → edge_end l x a ≡ edge_end l x b)
     point_is a b is_a is_b = (
-      number_same l x (edge_start l x a) (edge_start l x b) (edge_points l x laid len a is_a).0
+      number_same l x _ _ (edge_points l x laid len a is_a).0
           (edge_points l x laid len b is_b).0,
-      number_same l x (edge_start l x a) (edge_end l x b) (edge_points l x laid len a is_a).0
-          (edge_points l x laid len b is_b).1,
-      number_same l x (edge_end l x a) (edge_start l x b) (edge_points l x laid len a is_a).1
-          (edge_points l x laid len b is_b).0,
-      number_same l x (edge_end l x a) (edge_end l x b) (edge_points l x laid len a is_a).1
-          (edge_points l x laid len b is_b).1,
+      number_same l x _ _ (edge_points l x laid len a is_a).0 (edge_points l x laid len b is_b).1,
+      number_same l x _ _ (edge_points l x laid len a is_a).1 (edge_points l x laid len b is_b).0,
+      number_same l x _ _ (edge_points l x laid len a is_a).1 (edge_points l x laid len b is_b).1,
     )
 
     pub undoubled_from : IsSimple l x → IsUndoubled l x
@@ -90,15 +87,15 @@ module _ (l : Gluing) (x : Lengths) where
     ]
       where
         looped : (e : Edge) → IsEdge l x e → HasEnds l x e u u → ⊥
-        looped e is (inl s) = simple.no_loop e is ((point_is e e is is).1 (s.0 ∙ sym s.1))
-        looped e is (inr s) = simple.no_loop e is ((point_is e e is is).1 (s.0 ∙ sym s.1))
+        looped e is (inl s) = simple.no_loop e is ((point_is e e is is).1 (cc))
+        looped e is (inr s) = simple.no_loop e is ((point_is e e is is).1 (cc))
 
         paired : (e f : Edge) → IsEdge l x e → IsEdge l x f → HasEnds l x e u v → HasEnds l x f u v → e ≡ f
-        paired e f is_e is_f (inl s) (inl t) = simple.same e f is_e is_f ((point_is e f is_e is_f).0 (s.0 ∙ sym t.0))
-            ((point_is e f is_e is_f).3 (s.1 ∙ sym t.1))
-        paired e f is_e is_f (inl s) (inr t) = simple.crossed e f is_e is_f ((point_is e f is_e is_f).1 (s.0 ∙ sym t.1))
-            ((point_is e f is_e is_f).2 (s.1 ∙ sym t.0))
-        paired e f is_e is_f (inr s) (inl t) = simple.crossed e f is_e is_f ((point_is e f is_e is_f).1 (s.0 ∙ sym t.1))
-            ((point_is e f is_e is_f).2 (s.1 ∙ sym t.0))
-        paired e f is_e is_f (inr s) (inr t) = simple.same e f is_e is_f ((point_is e f is_e is_f).0 (s.0 ∙ sym t.0))
-            ((point_is e f is_e is_f).3 (s.1 ∙ sym t.1))
+        paired e f is_e is_f (inl s) (inl t) = simple.same e f is_e is_f ((point_is e f is_e is_f).0 (cc))
+            ((point_is e f is_e is_f).3 (cc))
+        paired e f is_e is_f (inl s) (inr t) = simple.crossed e f is_e is_f ((point_is e f is_e is_f).1 (cc))
+            ((point_is e f is_e is_f).2 (cc))
+        paired e f is_e is_f (inr s) (inl t) = simple.crossed e f is_e is_f ((point_is e f is_e is_f).1 (cc))
+            ((point_is e f is_e is_f).2 (cc))
+        paired e f is_e is_f (inr s) (inr t) = simple.same e f is_e is_f ((point_is e f is_e is_f).0 (cc))
+            ((point_is e f is_e is_f).3 (cc))
