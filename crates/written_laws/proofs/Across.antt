@@ -27,7 +27,7 @@ module _ {l : Gluing} {x : Lengths} (laid : IsSurface l) (len : AreLengths l x) 
       → IsAcross l x laid len (slot_dart l x w o) (slot_dart l x v (x (use_of l w).arc - 1 - o))
   across_border w v o is other less = record {
     is_dart = at_is l x laid.paved len v k other.0 low;
-    edge = cc (there, edges (use_of l w).forward other.1.turned, here);
+    edge = cc (there, edges _ other.1.turned, here);
     turned = cc (there, other.1.turned, here);
   }
     where

@@ -39,20 +39,18 @@ quotient_rest (negsuc a) b some = (b - 1 - a % b, omega arith, omega (arith, int
 -- A quotient between two whole numbers.
 quotient_within : (a lo hi : ℤ) (b : ℕ) → 0 < b → (pos b *ℤ lo) ≤ℤ a → a <ℤ ((pos b *ℤ hi) +ℤ pos b)
     → (lo ≤ℤ int_div_euclid a (pos b)) × (int_div_euclid a (pos b) ≤ℤ hi)
-quotient_within a lo hi b some above below = by_rest (int_div_euclid a (pos b)) (quotient_rest a b some)
+quotient_within a lo hi b some above below =
+    let q = int_div_euclid a (pos b) in
+    let r = quotient_rest a b some in (
+      by_lt_z q lo (λ less. let le : (q +ℤ pos 1) ≤ℤ lo = omega (arith, ints) in absurd
+          (omega (arith, ints, times_le b (q +ℤ pos 1) lo le, one q, r.1, r.2, above))) (λ le. le),
+      by_lt_z hi q
+          (λ less. let le : (hi +ℤ pos 1) ≤ℤ q = omega (arith, ints) in absurd
+          (omega (arith, ints, times_le b (hi +ℤ pos 1) q le, one hi, r.2, below))) (λ le. le),
+    )
   where
     one : (c : ℤ) → pos b *ℤ (c +ℤ pos 1) ≡ (pos b *ℤ c) +ℤ pos b
     one c = let e : b * 1 ≡ b = omega arith in times_sum b c (pos 1) ∙ ap (λ n. (pos b *ℤ c) +ℤ pos n) e
-
-    by_rest : (q : ℤ) → (r : ℕ) × (r < b) × (a ≡ (pos b *ℤ q) +ℤ pos r) → (lo ≤ℤ q) × (q ≤ℤ hi)
-    by_rest q r = (
-      by_lt_z q lo (λ less. let le : (q +ℤ pos 1) ≤ℤ lo = omega (arith, ints) in
-          absurd (omega (arith, ints, times_le b (q +ℤ pos 1) lo le, one q, r.1, r.2, above)))
-          (λ le. le),
-      by_lt_z hi q (λ less. let le : (hi +ℤ pos 1) ≤ℤ q = omega (arith, ints) in
-          absurd (omega (arith, ints, times_le b (hi +ℤ pos 1) q le, one hi, r.2, below)))
-          (λ le. le),
-    )
 
 -- A part of the way lies between its ends.
 pub way_within : (p q least greatest : ℤ) (r x : ℕ) → r ≤ x → 0 < x → least ≤ℤ p → p ≤ℤ greatest → least ≤ℤ q
@@ -117,12 +115,12 @@ blend_within s t a b c d least greatest s_le t_le a_low b_low c_low d_low a_high
 -- A quotient of naturals is at most a number whose product is not less.
 pub div_most : (n k d : ℕ) → 0 < d → n ≤ k * d → n / d ≤ k
 div_most n k d some le =
-    let less : n < (k + 1) * d = omega (arith, le) in
-    let below : n / d < k + 1 = (div-lt_iff_lt-mul {k = d} {x = n} {y = k + 1} some).1 less in omega (arith, below)
+    let less : n < (k + 1) * d = omega arith in
+    let below : n / d < k + 1 = (div-lt_iff_lt-mul {k = d} {x = n} {y = k + 1} some).1 less in omega arith
 
 -- An old column or row, and what is left of a parameter in it.
 pub rest_most : (n u : ℕ) → 0 < n → u ≤ ONE * n → rest_at n u ≤ ONE
-rest_most n u some le = omega (arith, le)
+rest_most n u some le = omega arith
 
 module _ {l : Gluing} {old new : Lengths} {spacing : ArcSpacing} (laid : IsSurface l) (o_len : AreLengths l old)
     (n_len : AreLengths l new) (spaced : IsSpacing l old new spacing) where
@@ -167,23 +165,23 @@ module _ {l : Gluing} {old new : Lengths} {spacing : ArcSpacing} (laid : IsSurfa
       let f : b * j ≤ m * j = mul-le b j m j b_le (omega arith) in
       let s : h - j + j ≡ h = omega arith in
       let g : m * (h - j + j) ≡ m * h = ap (λ n. m * n) s in
-      div_most (a * (h - j) + b * j) m h some (by_parts (a * (h - j)) (b * j) (h - j) e f g)
+      div_most _ m h some (by_parts (a * (h - j)) (b * j) (h - j) e f g)
 
   -- The parameters of grid points inside a patch are at most the old sizes.
   pub u_most : (p i j : ℕ) → IsPoint l new (inside p i j) → parameter_u l old new spacing p i j ≤ ONE * wide l old p
-  u_most p i j is = mean_most (parameter l old new spacing p south i)
-      (parameter_back l old new spacing p north (wide l new p - i)) (ONE * wide l old p) (high l new p) j
-      (omega (arith, is.3, is.4)) (omega (arith, is.4)) (ahead_most p south i is.0 is.2) (omega (
+  u_most p i j is = mean_most _
+      _ _ _ j
+      (omega arith) (omega arith) (ahead_most p south i is.0 is.2) (omega (
         arith,
         o_len.across p is.0,
         back_most p north (wide l new p - i) is.0 (omega (arith, is.1, is.2, n_len.across p is.0)),
       ))
 
   pub v_most : (p i j : ℕ) → IsPoint l new (inside p i j) → parameter_v l old new spacing p i j ≤ ONE * high l old p
-  v_most p i j is = mean_most (parameter_back l old new spacing p west (high l new p - j))
-      (parameter l old new spacing p east j) (ONE * high l old p) (wide l new p) i (omega (arith, is.1, is.2))
-      (omega (arith, is.2)) (back_most p west (high l new p - j) is.0 (omega (arith, is.3, is.4)))
-      (omega (arith, o_len.upright p is.0, ahead_most p east j is.0 (omega (arith, is.4, n_len.upright p is.0))))
+  v_most p i j is = mean_most _
+      _ _ _ i (omega arith)
+      (omega arith) (back_most p west _ is.0 (omega arith))
+      (omega (arith, o_len.upright p is.0, ahead_most p east j is.0 (omega (arith, n_len.upright p is.0))))
 
   module _ (at : Coordinate) (least greatest : ℤ) (bound : (a : Point) → IsPoint l old a → (least ≤ℤ at a)
       × (at a ≤ℤ greatest)) where

@@ -228,8 +228,7 @@ module _ (l : Gluing) (x : Lengths) where
         let arcs : (use_of l v).arc ≡ (use_of l w).arc = let e = edges in cc in
         let place : cond (use_of l v).forward o (x (use_of l v).arc - 1 - o) ≡ cond (use_of l v).forward k
         (x (use_of l w).arc - 1 - k) = let e = edges in let f : cond (use_of l v).forward o (x (use_of l v).arc - 1 - o)
-        ≡ cond (use_of l w).forward k (x (use_of l w).arc - 1 - k) = cc in f
-        ∙ ap (λ (b : Bool). cond b k (x (use_of l w).arc - 1 - k)) (sym ways) in
+        ≡ cond (use_of l w).forward k (x (use_of l w).arc - 1 - k) = cc in cc (f, ways) in
         let slots : v ≡ w = laid.once v w is_v is_w (λ t. record { arc = arcs t; forward = ways t }) in
         let places : (b : Bool) → b ≡ (use_of l w).forward → cond b o (x (use_of l v).arc - 1 - o) ≡ cond b k (x
         (use_of l w).arc - 1 - k) → o ≡ k = elim [ true ↦ λ e at. at | false ↦ λ e at. omega (arith, at, ap x arcs) ] in
@@ -244,7 +243,7 @@ module _ (l : Gluing) (x : Lengths) where
       | inr a ↦ elim (sees is_e) [
         | inl j ↦ absurd (cc (inner_no_arc e.patch e.i e.j e.way, border_is a.2))
         | inr b ↦ cc (use_once a.0 b.0 a.1 b.1 a.2.is_slot b.2.is_slot a.2.low b.2.low
-            (sym (border_is a.2) ∙ same ∙ border_is b.2))
+            (cc (border_is a.2, same, border_is b.2)))
       ]
     ]
 

@@ -11,9 +11,9 @@ use Rattle.def_layout.specs.Cells.{CellDart, IsDart, next, dart_along, slot_dart
 use Rattle.def_written.specs.{Points.along, Points.use_point, NewFaces.dart_start}
 use Rattle.written_laws.proofs.Sides.{slot, use_begins, use_inner, reach_low, use_some, last_reach, size_some}
 use Rattle.written_laws.proofs.Turning.{IsTurning}
-use Rattle.written_laws.proofs.Rims.{column_of, row_of, rim_patch, rim_column, rim_row, rim_on, rim_round}
+use Rattle.written_laws.proofs.Rims.{column_of, row_of, rim_patch, rim_starts, rim_on, rim_round}
 use Rattle.written_laws.proofs.Rims.{darts_related, IsInner}
-use Rattle.written_laws.proofs.Borders.{at_is, IsAt, sort_dart, inner_from, use_not_inside, before_is}
+use Rattle.written_laws.proofs.Borders.{at_low, at_is, IsAt, sort_dart, inner_from, use_not_inside, before_is}
 
 module _ {l : Gluing} {x : Lengths} (paved : HasWholeSides l) (len : AreLengths l x) {R : CellDart → CellDart → Type 0}
     (turning : IsTurning l x R) where
@@ -105,11 +105,11 @@ module _ {l : Gluing} {x : Lengths} (laid : IsSurface l) (len : AreLengths l x) 
   along_related w v o k is_w is_v o_some o_low k_some k_low same =
       let place : cond (use_of l w).forward o (x (use_of l w).arc - o)
       ≡ cond (use_of l v).forward k (x (use_of l v).arc - k) = let e = points in cc in
-      by_ways (use_of l w).forward (use_of l v).forward refl refl place
+      by_ways _ _ refl refl place
     where
       points : along (use_of l w).arc (cond (use_of l w).forward o (x (use_of l w).arc - o))
           ≡ along (use_of l v).arc (cond (use_of l v).forward k (x (use_of l v).arc - k))
-      points = sym (use_inner l x (use_of l w) o o_some o_low) ∙ same ∙ use_inner l x (use_of l v) k k_some k_low
+      points = cc (use_inner l x (use_of l w) o o_some o_low, use_inner l x (use_of l v) k k_some k_low)
 
       arcs : (use_of l w).arc ≡ (use_of l v).arc
       arcs = let e = points in cc
@@ -124,31 +124,30 @@ module _ {l : Gluing} {x : Lengths} (laid : IsSurface l) (len : AreLengths l x) 
       turned ways e =
           let place_is : x (use_of l w).arc - 1 - (o - 1) ≡ k = omega arith in
           let over = turning.over w v (o - 1) is_w (is_v, record { arc = sym arcs; turned = ways }) (omega arith) in
-          let on = rim_then laid.paved len turning w.patch w.side (reach l x w.patch w.side w.at + (o - 1))
-          (reach l x w.patch w.side w.at + o) is_w.patch_low (omega arith) (omega (arith, reach_low l x w is_w)) in
+          let on = rim_then laid.paved len turning _ _ _
+          _ is_w.patch_low (omega arith) (omega (arith, reach_low l x w is_w)) in
           turning.on (slot_dart l x w o) (next (slot_dart l x w (o - 1))) (slot_dart l x v k)
-          (turning.back (next (slot_dart l x w (o - 1))) (slot_dart l x w o)
+          (turning.back _ _
           (next_is laid.paved len turning
-          (at_is l x laid.paved len w (o - 1) is_w (omega arith))) on)
+          (at_is l x laid.paved len w _ is_w (omega arith))) on)
           (rw place_is at over)
 
       by_ways : (f g : Bool) → (use_of l w).forward ≡ f → (use_of l v).forward ≡ g
           → cond (use_of l w).forward o (x (use_of l w).arc - o) ≡ cond (use_of l v).forward k (x (use_of l v).arc - k)
           → R (slot_dart l x w o) (slot_dart l x v k)
-      by_ways true true f g e = alike (f ∙ sym g) (ap (λ (h : Bool). cond h o (x (use_of l w).arc - o)) (sym f) ∙ e
-          ∙ ap (λ (h : Bool). cond h k (x (use_of l v).arc - k)) g)
+      by_ways true true f g e = alike (cc) (cc)
       by_ways false false f g e =
           let q = ap (λ (h : Bool). cond h o (x (use_of l w).arc - o)) (sym f) ∙ e
           ∙ ap (λ (h : Bool). cond h k (x (use_of l v).arc - k)) g in
-          alike (f ∙ sym g) (omega (arith, q, ap x arcs))
+          alike (cc) (omega (arith, ap x arcs))
       by_ways true false f g e =
           let q = ap (λ (h : Bool). cond h o (x (use_of l w).arc - o)) (sym f) ∙ e
           ∙ ap (λ (h : Bool). cond h k (x (use_of l v).arc - k)) g in
-          turned (g ∙ ap not (sym f)) (omega (arith, q, ap x arcs))
+          turned (cc) (omega (arith, ap x arcs))
       by_ways false true f g e =
           let q = ap (λ (h : Bool). cond h o (x (use_of l w).arc - o)) (sym f) ∙ e
           ∙ ap (λ (h : Bool). cond h k (x (use_of l v).arc - k)) g in
-          turned (g ∙ ap not (sym f)) (sym q)
+          turned (cc) (sym q)
 
   module _ (nodes : AtNodes) where
     use_related : (w v : Slot) (o k : ℕ) → IsSlot l w → IsSlot l v → o < x (use_of l w).arc → k < x (use_of l v).arc
@@ -180,17 +179,10 @@ module _ {l : Gluing} {x : Lengths} (laid : IsSurface l) (len : AreLengths l x) 
 
     at_related : (d : CellDart) (w : Slot) (o : ℕ) → IsDart l x d → IsAt l x laid len d w o → R d (slot_dart l x w o)
     at_related d w o is a =
-        let low : reach l x w.patch w.side w.at + o < size l x w.patch w.side =
-        omega (arith, reach_low l x w a.is_slot, a.low) in
-        darts_related laid.paved len turning is
-        (at_is l x laid.paved len w o a.is_slot a.low)
-        (cc (a.patch, rim_patch laid.paved len w.patch w.side (reach l x w.patch w.side w.at + o)))
-        (cc (
-          a.column,
-          rim_column laid.paved len w.patch w.side (reach l x w.patch w.side w.at + o) a.is_slot.patch_low
-              low,
-        ))
-        (cc (a.row, rim_row laid.paved len w.patch w.side (reach l x w.patch w.side w.at + o) a.is_slot.patch_low low))
+        let low = at_low l x laid.paved len o a.is_slot a.low in
+        let r = rim_starts laid.paved len w.patch w.side (reach l x w.patch w.side w.at + o) a.is_slot.patch_low low in
+        darts_related laid.paved len turning is (at_is l x laid.paved len w o a.is_slot a.low) (a.patch ∙ sym r.0)
+        (a.column ∙ sym r.1) (a.row ∙ sym r.2)
 
     -- It holds for all darts that leave one point.
     pub point_related : (d e : CellDart) → IsDart l x d → IsDart l x e → dart_start l x d ≡ dart_start l x e → R d e

@@ -38,7 +38,7 @@ module _ {l : Gluing} {x : Lengths} {laid : IsSurface l} {len : AreLengths l x} 
     ends_there d is e = is_v.back (next d) (next_is l x d is) (cc (model.turned d is))
 
     ends_back : {d : CellDart} → IsDart l x d → dart_end l x d ≡ a → to_of F (cell d) ≡ v
-    ends_back {d} is e = cc (model.turned d is, is_v.there (next d) (next_is l x d is) e)
+    ends_back {d} is e = cc (model.turned d is, is_v.there _ (next_is l x d is) e)
 
     pub inner_if : AreShared l x a → is_inner F v ≡ true
     inner_if shared = inner_from F v at
@@ -100,18 +100,18 @@ module _ {l : Gluing} {x : Lengths} {laid : IsSurface l} {len : AreLengths l x} 
       passing_all n,
       numbers_le leaving below (λ k m low less same. ap (λ i. cell (at i)) same),
       numbers_le below leaving (λ k m low less same.
-          apart k m low less (model.same (at k) (at m) (is k low).0 (is m less).0 same)),
+          apart k m low less (model.same _ _ (is k low).0 (is m less).0 same)),
     )
       where
         leaving : AreNumbers (λ k. k < n) (λ k. cell (at k)) (λ d. from_of F d == v) (darts F)
         leaving = record {
           each = λ k low. let d = is k low in
-              (model.low (at k) d.0, eq-eqb (from_of F (cell (at k))) v (is_v.there (at k) d.0 d.1));
+              (model.low _ d.0, eq-eqb (from_of F (cell (at k))) v (is_v.there _ d.0 d.1));
           onto = λ k low on.
               let (d, is_d, same) = model.onto k low in
-              let at_a = is_v.back d is_d (ap (from_of F) same ∙ eqb-true (from_of F k) v on) in
+              let at_a = is_v.back d is_d (cc (eqb-true (from_of F k) v on)) in
               let (j, less, one) = all d is_d at_a in
-              (j, less, ap cell one ∙ same);
+              (j, less, cc);
         }
 
         below : AreNumbers (λ k. k < n) (λ k. k) (λ k. true) n

@@ -36,28 +36,29 @@ module _ {l : Gluing} {x : Lengths} (laid : IsSurface l) (len : AreLengths l x) 
   corner_slots : (d : CellDart) (w v : Slot) (o k : ℕ) → IsOnBorder l x d w o → IsOnBorder l x (next d) v k
       → (v.at ≡ 0) × (slot_before l v.patch v.side v.at ≡ w)
   corner_slots d w v o k at_w at_v =
-      let patches : v.patch ≡ w.patch = sym (rim_patch laid.paved len v.patch v.side (reach l x v.patch v.side v.at
-      + k)) ∙ ap (λ (e : CellDart). e.patch) (sym at_v.dart) ∙ ap (λ (e : CellDart). e.patch) at_w.dart
-      ∙ rim_patch laid.paved len w.patch w.side (reach l x w.patch w.side w.at + o) in
-      let sides : v.side ≡ side_after w.side = sym (rim_way laid.paved len v.patch v.side (reach l x v.patch v.side v.at
-      + k)) ∙ ap (λ (e : CellDart). e.way) (sym at_v.dart) ∙ ap (λ (e : CellDart). side_after e.way) at_w.dart
-      ∙ ap side_after (rim_way laid.paved len w.patch w.side (reach l x w.patch w.side w.at + o)) in
+      let patches : v.patch ≡ w.patch = cc (
+        rim_patch laid.paved len v.patch v.side (reach l x v.patch v.side v.at + k),
+        rim_patch laid.paved len w.patch w.side (reach l x w.patch w.side w.at + o),
+      ) in
+      let sides : v.side ≡ side_after w.side = cc (
+        rim_way laid.paved len v.patch v.side
+            (reach l x v.patch v.side v.at + k),
+        rim_way laid.paved len w.patch w.side (reach l x w.patch w.side w.at + o),
+      ) in
       let same_rim : slot_dart l x v k ≡ dart_along l x w.patch (side_after w.side) (reach l x v.patch v.side v.at + k)
       = λ r. dart_along l x (patches r) (sides r) (reach l x v.patch v.side v.at + k) in
       let columns : (slot_dart l x w o).i
-      ≡ (dart_along l x w.patch (side_after w.side) (reach l x v.patch v.side v.at + k)).i = ap (λ (e : CellDart). e.i)
-      (sym at_w.dart) ∙ ap (λ (e : CellDart). e.i) at_v.dart ∙ ap (λ (e : CellDart). e.i) same_rim in
+      ≡ (dart_along l x w.patch (side_after w.side) (reach l x v.patch v.side v.at + k)).i = cc in
       let rows : (slot_dart l x w o).j
-      ≡ (dart_along l x w.patch (side_after w.side) (reach l x v.patch v.side v.at + k)).j = ap (λ (e : CellDart). e.j)
-      (sym at_w.dart) ∙ ap (λ (e : CellDart). e.j) at_v.dart ∙ ap (λ (e : CellDart). e.j) same_rim in
+      ≡ (dart_along l x w.patch (side_after w.side) (reach l x v.patch v.side v.at + k)).j = cc in
       let v_less : reach l x v.patch v.side v.at + k
       < size l x w.patch (side_after w.side) = subst (λ (n : ℕ). reach l x v.patch v.side v.at + k < n)
       (λ r. size l x (patches r) (sides r)) (at_low l x laid.paved len k at_v.is_slot at_v.low) in
-      let both = corner_cell laid.paved len w.patch w.side (reach l x w.patch w.side w.at + o) (reach l x v.patch v.side
-      v.at + k) at_w.is_slot.patch_low (at_low l x laid.paved len o at_w.is_slot at_w.low) v_less columns rows in
-      let v_first : v.at ≡ 0 = first_is l x laid.paved len v at_v.is_slot (omega (arith, both.1)) in
+      let both = corner_cell laid.paved len _ _ _ _ at_w.is_slot.patch_low
+      (at_low l x laid.paved len o at_w.is_slot at_w.low) v_less columns rows in
+      let v_first : v.at ≡ 0 = first_is l x laid.paved len v at_v.is_slot (omega arith) in
       let w_last : w.at
-      ≡ l.many w.patch w.side - 1 = last_is l x laid.paved len w at_w.is_slot (omega (arith, both.0, at_w.low)) in
+      ≡ l.many w.patch w.side - 1 = last_is l x laid.paved len w at_w.is_slot (omega arith) in
       let by_paths : slot_before l v.patch v.side v.at ≡ w = (λ r. slot_before l (patches r) (sides r) (v_first r))
       ∙ (λ r. slot w.patch (before_after w.side r) (l.many w.patch (before_after w.side r) - 1))
       ∙ (λ r. slot w.patch w.side (sym w_last r)) in

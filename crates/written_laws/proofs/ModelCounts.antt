@@ -69,16 +69,16 @@ module _ (l : Gluing) (x : Lengths) (laid : IsSurface l) (len : AreLengths l x) 
     -- Vertices in use and points, by the darts that leave them.
     by_vertex : AreNumbers (IsDart l x) (λ d. from_of F (cell d)) (is_used F) (vertex_count F)
     by_vertex = record {
-      each = λ d is. (all_below F (cell d) (model.low d is), dart_used F (cell d) model.quads (model.low d is));
+      each = λ d is. (all_below F _ (model.low d is), dart_used F _ model.quads (model.low d is));
       onto = λ v low used. let k = used_dart F v model.quads used in let d = model.onto k.0 k.1 in
-          (d.0, d.1, ap (from_of F) d.2 ∙ k.2);
+          (d.0, d.1, cc);
     }
 
     by_point : AreNumbers (IsDart l x) (λ d. vertex_number l x (dart_start l x d)) (λ k. true) (vertices l x)
     by_point = record {
-      each = λ d is. (number_low l x (dart_start l x d) (from_is l x laid len d is), refl);
+      each = λ d is. (number_low l x _ (from_is l x laid len d is), refl);
       onto = λ n low on. let a = point_onto l x n low in let d = point_dart l x laid len a.0 a.1 in
-          (d.0, d.1, ap (vertex_number l x) d.2 ∙ a.2);
+          (d.0, d.1, cc);
     }
 
     pub used_is : used_count F ≡ vertices l x
@@ -86,8 +86,8 @@ module _ (l : Gluing) (x : Lengths) (laid : IsSurface l) (len : AreLengths l x) 
       arith,
       filter_long (is_used F) (vertex_count F),
       passing_all (vertices l x),
-      numbers_le by_vertex by_point (λ d e is_d is_e same. model.alike d e is_d is_e (number_same l x (dart_start l x d)
-          (dart_start l x e) (from_is l x laid len d is_d) (from_is l x laid len e is_e) same)),
+      numbers_le by_vertex by_point (λ d e is_d is_e same. model.alike d e is_d is_e (number_same l x _
+          _ (from_is l x laid len d is_d) (from_is l x laid len e is_e) same)),
       numbers_le by_point by_vertex (λ d e is_d is_e same. ap (vertex_number l x) (model.apart d e is_d is_e same)),
     )
 
@@ -96,7 +96,7 @@ module _ (l : Gluing) (x : Lengths) (laid : IsSurface l) (len : AreLengths l x) 
     IsLesser d = IsDart l x d × (is_lesser (cell d) (twin_of F (cell d)) ≡ true)
 
     lesser_less : (k : ℕ) {t : Option ℕ} {n : ℕ} → t ≡ Some n → is_lesser k t ≡ true → k < n
-    lesser_less k {n} is on = ltb-true k n (ap (is_lesser k) (sym is) ∙ on)
+    lesser_less k {n} is on = ltb-true k n (cc)
 
     lesser_dart : (e : Edge) → IsEdge l x e → (d : CellDart) × IsLesser d × ((course_of l x d).edge ≡ e)
     lesser_dart e is =
@@ -104,11 +104,11 @@ module _ (l : Gluing) (x : Lengths) (laid : IsSurface l) (len : AreLengths l x) 
         elim (across_or_alone laid len d is_d) [
           | inl (c, a) ↦ elim (cases_order (cell d) (cell c)) [
             | inl s ↦ absurd (no_self d (rw (← model.same d c is_d a.is_dart s) at a))
-            | inr (inl less) ↦ (d, (is_d, lesser_by (cell d) (model.across d c is_d a) less), edge)
+            | inr (inl less) ↦ (d, (is_d, lesser_by _ (model.across d c is_d a) less), edge)
             | inr (inr more) ↦ (
               c,
-              (a.is_dart, lesser_by (cell c) (model.across c d a.is_dart (across_back d c is_d a)) more),
-              a.edge ∙ edge,
+              (a.is_dart, lesser_by _ (model.across c d a.is_dart (across_back d c is_d a)) more),
+              cc,
             )
           ]
           | inr a ↦ (
@@ -119,17 +119,17 @@ module _ (l : Gluing) (x : Lengths) (laid : IsSurface l) (len : AreLengths l x) 
         ]
       where
         lesser_by : (k : ℕ) {t : Option ℕ} {n : ℕ} → t ≡ Some n → k < n → is_lesser k t ≡ true
-        lesser_by k {n} is less = ap (is_lesser k) is ∙ lt-ltb k n less
+        lesser_by k {n} is less = cc (lt-ltb k n less)
 
     -- Lesser darts of one edge are one.
     lesser_once : (d e : CellDart) → IsLesser d → IsLesser e → (course_of l x d).edge ≡ (course_of l x e).edge → d ≡ e
     lesser_once d e (is_d, d_less) (is_e, e_less) edges =
-        elim (alike_or_turned (course_of l x d).ahead (course_of l x e).ahead) [
+        elim (alike_or_turned _ _) [
           | inl ways ↦ course_once l x laid len is_d is_e (λ t. course (edges t) (ways t))
           | inr ways ↦
               let a : IsAcross l x laid len d e = record { is_dart = is_e; edge = sym edges; turned = ways } in
-              let one = lesser_less (cell d) (model.across d e is_d a) d_less in
-              let other = lesser_less (cell e) (model.across e d is_e (across_back d e is_d a)) e_less in
+              let one = lesser_less _ (model.across d e is_d a) d_less in
+              let other = lesser_less _ (model.across e d is_e (across_back d e is_d a)) e_less in
               absurd (omega arith)
         ]
 
@@ -142,9 +142,9 @@ module _ (l : Gluing) (x : Lengths) (laid : IsSurface l) (len : AreLengths l x) 
 
     by_edge : AreNumbers IsLesser (λ d. edge_number l x (course_of l x d).edge) (λ k. true) (edge_total l x)
     by_edge = record {
-      each = λ d is. (edge_low l x (course_of l x d).edge (course_is l x laid len is.0), refl);
+      each = λ d is. (edge_low l x _ (course_is l x laid len is.0), refl);
       onto = λ n low on. let e = edge_onto l x n low in let d = lesser_dart e.0 e.1 in
-          (d.0, d.1, ap (edge_number l x) d.2 ∙ e.2);
+          (d.0, d.1, cc);
     }
 
     pub edges_are : edge_count F ≡ edge_total l x
@@ -153,7 +153,7 @@ module _ (l : Gluing) (x : Lengths) (laid : IsSurface l) (len : AreLengths l x) 
       filter_long (λ d. is_lesser d (twin_of F d)) (darts F),
       passing_all (edge_total l x),
       numbers_le by_lesser by_edge (λ d e is_d is_e same. ap cell (lesser_once d e is_d is_e (edge_same l x
-          (course_of l x d).edge (course_of l x e).edge (course_is l x laid len is_d.0) (course_is l x laid len is_e.0)
+          _ _ (course_is l x laid len is_d.0) (course_is l x laid len is_e.0)
           same))),
       numbers_le by_edge by_lesser (λ d e is_d is_e same.
           ap (λ (c : CellDart). edge_number l x (course_of l x c).edge) (model.same d e is_d.0 is_e.0 same)),

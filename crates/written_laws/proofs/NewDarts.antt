@@ -90,18 +90,18 @@ module _ (l : Gluing) (x : Lengths) where
   dart_at d w is =
       let by_patch : (p : ℕ) → CellDart = λ p. dart p ((cell_number d - cells_before l x p) % wide l x p)
       ((cell_number d - cells_before l x p) / wide l x p) w in
-      let patch_is = run_place cells l.patches d.patch (d.j * wide l x d.patch + d.i) is.patch_low (cell_in_patch d is)
+      let patch_is = run_place cells _ _ _ is.patch_low (cell_in_patch d is)
       in
       let o_is : cell_number d - cells_before l x d.patch ≡ d.j * wide l x d.patch + d.i = omega arith in
       let parts : ((cell_number d - cells_before l x d.patch) / wide l x d.patch ≡ d.j)
       × ((cell_number d - cells_before l x d.patch) % wide l x d.patch ≡ d.i) = same_from_place ((cell_number d
       - cells_before l x d.patch) / wide l x d.patch) ((cell_number d - cells_before l x d.patch) % wide l x d.patch)
-      d.j d.i (wide l x d.patch) (mod-lt (cell_number d - cells_before l x d.patch) (omega (arith, is.i_low))) is.i_low
+      d.j d.i (wide l x d.patch) (mod-lt (cell_number d - cells_before l x d.patch) (omega arith)) is.i_low
       (div-add-mod' (cell_number d - cells_before l x d.patch) (wide l x d.patch) ∙ o_is) in
       let by_cell : dart d.patch ((cell_number d - cells_before l x d.patch) % wide l x d.patch)
       ((cell_number d - cells_before l x d.patch) / wide l x d.patch) w
       ≡ dart d.patch d.i d.j w = λ t. dart d.patch (parts.1 t) (parts.0 t) w in
-      ap by_patch patch_is ∙ by_cell
+      cc
 
   -- Darts with one number are one.
   pub dart_same : (d e : CellDart) → IsDart l x d → IsDart l x e → dart_number d ≡ dart_number e → d ≡ e
@@ -136,7 +136,7 @@ module _ (l : Gluing) (x : Lengths) where
 
   pub number_to : (d : CellDart) → IsDart l x d → to_of (new_faces l x) (dart_number d)
       ≡ vertex_number l x (dart_end l x d)
-  number_to d is = cc (next_number d, number_from (next d) (next_is d is))
+  number_to d is = cc (next_number d, number_from _ (next_is d is))
 
   module _ (laid : IsSurface l) (len : AreLengths l x) where
     -- The darts of a new face lie in a patch.

@@ -15,8 +15,8 @@ use Rattle.def_layout.specs.{Cells.slot_dart, Embeddings.IsEmbedding}
 use Rattle.def_written.specs.{NewFaces.dart_start}
 use Rattle.mesh_laws.proofs.HalfEdges.{manifold_law}
 use Rattle.written_laws.proofs.{Sides.slot, Sides.use_some, Sides.use_begins, Rims.column_of, Rims.row_of}
-use Rattle.written_laws.proofs.Rims.{side_column, side_row, rim_patch, rim_next_column}
-use Rattle.written_laws.proofs.{Rims.rim_next_row, Rims.corner_column, Rims.corner_row, Borders.at_low, Borders.at_is}
+use Rattle.written_laws.proofs.Rims.{side_column, side_row, rim_patch, rim_ends}
+use Rattle.written_laws.proofs.{Rims.corner_is, Borders.at_low, Borders.at_is}
 use Rattle.written_laws.proofs.{Borders.IsAt, Fans.point_related, NewDarts.next_is, NewDarts.prev_is, Courses.course}
 use Rattle.written_laws.proofs.Courses.{alike_or_turned, course_once, IsAcross, IsWithin, IsOnBorder}
 use Rattle.written_laws.proofs.{Courses.sees, Manifold.before_after, Across.across_border, Across.across_within}
@@ -44,8 +44,7 @@ module _ {l : Gluing} {x : Lengths} (laid : IsSurface l) (len : AreLengths l x) 
       → (e.patch ≡ d.patch) × (column_of e ≡ column_of (next d)) × (row_of e ≡ row_of (next d))
   across_grid d e i a =
       let c = across_within laid len d i in
-      subst (λ (b : CellDart). (b.patch ≡ d.patch) × (column_of b ≡ column_of (next d))
-      × (row_of b ≡ row_of (next d))) (across_unique c.0 c.1 a) (c.2, c.3, c.4)
+      rw (← across_unique c.0 c.1 a) (c.2, c.3, c.4)
 
   -- The dart after a border dart that ends at a node leaves that node: its slot is the next one.
   after_border : (b u : Slot) (o : ℕ) → IsSlot l b → o < x (use_of l b).arc
@@ -55,14 +54,12 @@ module _ {l : Gluing} {x : Lengths} (laid : IsSurface l) (len : AreLengths l x) 
       let d = next (slot_dart l x b o) in
       let t = place_at l x b o in
       let t_low = at_low l x laid.paved len o is_b less in
-      let columns = rim_next_column laid.paved len b.patch b.side t is_b.patch_low t_low in
-      let rows = rim_next_row laid.paved len b.patch b.side t is_b.patch_low t_low in
-      let patch = rim_patch laid.paved len b.patch b.side t in
+      let (patch, columns, rows) = rim_ends laid.paved len b.patch b.side t is_b.patch_low t_low in
       elim (cases_lt (o + 1) (x (use_of l b).arc)) [
         | inl more ↦
             let one : place_at l x b o + 1 ≡ place_at l x b (o + 1) = omega arith in
-            let here = at_place laid len d (o + 1) is_b more patch
-            (columns ∙ ap (side_column l x b.patch b.side) one) (rows ∙ ap (side_row l x b.patch b.side) one) in
+            let here = at_place laid len d _ is_b more patch
+            (cc) (cc) in
             absurd (omega (arith, (at_once laid len at here).1))
         | inr none ↦ elim (cases_lt (suc b.at) (l.many b.patch b.side)) [
           | inl another ↦
@@ -70,29 +67,29 @@ module _ {l : Gluing} {x : Lengths} (laid : IsSurface l) (len : AreLengths l x) 
               let is_v : IsSlot l (slot b.patch b.side (suc b.at)) =
               record { patch_low = is_b.patch_low; low = another } in
               let place : place_at l x b o + 1 ≡ place_at l x (slot b.patch b.side (suc b.at)) 0 =
-              omega (arith, less, none) in
+              omega arith in
               let there = at_place laid len d 0 is_v (use_some l x laid.paved len v is_v) patch
-              (columns ∙ ap (side_column l x b.patch b.side) place) (rows ∙ ap (side_row l x b.patch b.side) place) in (
+              (cc) (cc) in (
                 ap (λ (w : Slot). slot_before l w.patch w.side w.at) (at_once laid len at there).0,
-                omega (arith, less, none),
+                omega arith,
               )
           | inr last ↦
               let v = slot b.patch (side_after b.side) 0 in
               let is_v : IsSlot l (slot b.patch (side_after b.side) 0) = record {
                 patch_low = is_b.patch_low;
-                low = laid.paved.sides_full b.patch (side_after b.side) is_b.patch_low;
+                low = laid.paved.sides_full _ _ is_b.patch_low;
               } in
-              let at_last : b.at ≡ l.many b.patch b.side - 1 = omega (arith, last, is_b.low) in
-              let many : suc b.at ≡ l.many b.patch b.side = omega (arith, last, is_b.low) in
+              let at_last : b.at ≡ l.many b.patch b.side - 1 = omega arith in
+              let many : suc b.at ≡ l.many b.patch b.side = omega arith in
               let end : place_at l x b o + 1 ≡ size l x b.patch b.side =
-              omega (arith, less, none, ap (reach l x b.patch b.side) many) in
+              omega (arith, ap (reach l x b.patch b.side) many) in
               let there = at_place laid len d 0 is_v (use_some l x laid.paved len v is_v) patch
-              (columns ∙ corner_column laid.paved len b.patch b.side is_b.patch_low end)
-              (rows ∙ corner_row laid.paved len b.patch b.side is_b.patch_low end) in (
+              (columns ∙ (corner_is laid.paved len b.patch b.side is_b.patch_low end).0)
+              (rows ∙ (corner_is laid.paved len b.patch b.side is_b.patch_low end).1) in (
                 ap (λ (w : Slot). slot_before l w.patch w.side w.at) (at_once laid len at there).0
                     ∙ (λ t. slot b.patch (before_after b.side t) (l.many b.patch (before_after b.side t) - 1))
                     ∙ (λ t. slot b.patch b.side (sym at_last t)),
-                omega (arith, less, none),
+                omega arith,
               )
         ]
       ]
@@ -104,16 +101,16 @@ module _ {l : Gluing} {x : Lengths} (laid : IsSurface l) (len : AreLengths l x) 
     where
       within : IsWithin l x (prev d) → u ≡ w
       within i =
-          let g = across_grid (prev d) e i a in
-          let here = at_place laid len e 0 at_u.is_slot at_u.low (g.0 ∙ at_u.patch)
-          (g.1 ∙ ap column_of (next_prev d) ∙ at_u.column) (g.2 ∙ ap row_of (next_prev d) ∙ at_u.row) in
+          let g = across_grid _ e i a in
+          let here = at_place laid len e 0 at_u.is_slot at_u.low (cc)
+          (cc (next_prev d)) (cc (next_prev d)) in
           (at_once laid len here at_w).0
 
       over : (b v : Slot) (o : ℕ) → IsOnBorder l x (prev d) b o → IsOtherSlot l b v → IsTurn l u w
       over b v o on other =
-          let follows : d ≡ next (slot_dart l x b o) = sym (next_prev d) ∙ ap next on.dart in
+          let follows : d ≡ next (slot_dart l x b o) = cc (next_prev d) in
           let s = after_border b u o on.is_slot on.low (rw follows at at_u) in
-          let z : x (use_of l b).arc - 1 - o ≡ 0 = omega (arith, s.1) in
+          let z : x (use_of l b).arc - 1 - o ≡ 0 = omega arith in
           let there = across_unique e (rw on.dart at a) (across_border laid len b v o on.is_slot other on.low) in
           let at_v : IsAt l x laid len e v 0 = rw (there ∙ ap (slot_dart l x v) z)
           (rim_is_at laid len v 0 other.0 (use_some l x laid.paved len v other.0)) in
@@ -139,33 +136,34 @@ module _ (faces : Faces) (manifold : IsManifold faces) (l : Gluing) (x : Lengths
   laws = manifold_law faces manifold
 
   abbrev pub old_laid : IsSurface l
-  old_laid = laid_in (half_edges faces) (manifold_law faces manifold) l x paved len cell vertex arc_dart s
+  old_laid = laid_in _ (manifold_law faces manifold) l x paved len cell _ _ s
 
   alike : (d e : CellDart) → IsDart l x d → IsDart l x e → dart_start l x d ≡ dart_start l x e
       → m.from (cell d) ≡ m.from (cell e)
-  alike = point_related old_laid len (from_turning m laws l x paved len cell vertex arc_dart s)
-      (λ v w is_v is_w same. starts m laws l x paved len cell vertex arc_dart s v is_v ∙ ap vertex same
-      ∙ sym (starts m laws l x paved len cell vertex arc_dart s w is_w))
+  alike = point_related old_laid len (from_turning m laws l x paved len cell _ _ s)
+      (λ v w is_v is_w same. starts m laws l x paved len cell _ _ s v is_v ∙ ap vertex same
+      ∙ sym (starts m laws l x paved len cell _ _ s w is_w))
 
   across_twin : (d e : CellDart) → IsDart l x d → IsAcross l x old_laid len d e → m.twin (cell d) ≡ Some (cell e)
-  across_twin d e is a = laws.twin_found (cell d) (cell e) (s.low d is) (s.low e a.is_dart)
-      (alike e (next d) a.is_dart (next_is l x d is) (across_ends old_laid len is a).0 ∙ ap m.from (s.turned d))
-      (ap m.from (sym (s.turned e)) ∙ alike (next e) d (next_is l x e a.is_dart) is (across_ends old_laid len is a).1)
+  across_twin d e is a = laws.twin_found _ _ (s.low d is) (s.low e a.is_dart)
+      (cc (alike e (next d) a.is_dart (next_is l x d is) (across_ends old_laid len is a).0, s.turned d))
+      (cc (s.turned e, alike (next e) d (next_is l x e a.is_dart) is (across_ends old_laid len is a).1))
 
   -- Where no slot uses an arc the other way round, its darts have no twin.
   alone_twin : {d : CellDart} {w : Slot} {o : ℕ} → IsAlone old_laid len d w o → m.twin (cell d) ≡ None
   alone_twin {w} {o} a =
-      let first = s.forward (use_of l w).arc (paved.arc_low w a.on_border.is_slot) in
+      let first = s.forward _ (paved.arc_low w a.on_border.is_slot) in
       let ahead = sym (alike first.0 first.1 (ap (λ (u : SideArc). u.arc) first.2))
       ∙ ap (λ (u : SideArc). u.forward) first.2 in
-      ap (λ (c : CellDart). m.twin (cell c)) a.on_border.dart
-      ∙ ap m.twin (s.ahead w o a.on_border.is_slot a.on_border.low ahead)
-      ∙ s.alone (use_of l w).arc o (paved.arc_low w a.on_border.is_slot) a.on_border.low
-      (λ v is_v arc. alike v is_v arc ∙ ahead)
+      cc (
+        s.ahead w o a.on_border.is_slot a.on_border.low ahead,
+        s.alone (use_of l w).arc o
+            (paved.arc_low w a.on_border.is_slot) a.on_border.low (λ v is_v arc. alike v is_v arc ∙ ahead),
+      )
     where
       alike : (v : Slot) → IsSlot l v → (use_of l v).arc ≡ (use_of l w).arc
           → (use_of l v).forward ≡ (use_of l w).forward
-      alike v is_v arc = elim (alike_or_turned (use_of l w).forward (use_of l v).forward) [
+      alike v is_v arc = elim (alike_or_turned _ _) [
         | inl same ↦ sym same
         | inr turned ↦ absurd (a.alone v (is_v, record { arc = arc; turned = turned }))
       ]
@@ -181,23 +179,22 @@ module _ (faces : Faces) (manifold : IsManifold faces) (l : Gluing) (x : Lengths
       → IsAcross l x old_laid len d e
   twin_is_across d e is_d is_e twin = elim (across_or_alone old_laid len d is_d) [
     | inl a ↦ subst (IsAcross l x old_laid len d)
-        (s.same a.0 e a.1.is_dart is_e (same_Some (cell a.0) (cell e) (sym (across_twin d a.0 is_d a.1) ∙ twin))) a.1
-    | inr a ↦ absurd (none-some (cell e) (sym (alone_twin a.2) ∙ twin))
+        (s.same a.0 e a.1.is_dart is_e (cc (across_twin d a.0 is_d a.1, twin))) a.1
+    | inr a ↦ absurd (none-some (cell e) (cc (alone_twin a.2, twin)))
   ]
 
   prev_cell : (d : CellDart) → m.prev (cell d) ≡ cell (prev d)
-  prev_cell d = ap (λ (c : CellDart). m.prev (cell c)) (sym (next_prev d)) ∙ ap m.prev (s.turned (prev d))
-      ∙ laws.prev_next (cell (prev d))
+  prev_cell d = cc (next_prev d, s.turned (prev d), laws.prev_next (cell (prev d)))
 
   turn_across : {d e : CellDart} → IsDart l x d → IsDart l x e → m.twin (m.prev (cell d)) ≡ Some (cell e)
       → IsAcross l x old_laid len (prev d) e
   turn_across {d} {e} is_d is_e twin =
-      twin_is_across (prev d) e (prev_is l x d is_d) is_e (ap m.twin (sym (prev_cell d)) ∙ twin)
+      twin_is_across _ e (prev_is l x d is_d) is_e (cc (prev_cell d))
 
   turn_point : (d e : CellDart) → IsDart l x d → IsDart l x e → m.twin (m.prev (cell d)) ≡ Some (cell e)
       → dart_start l x e ≡ dart_start l x d
-  turn_point d e is_d is_e twin = (across_ends old_laid len (prev_is l x d is_d)
-      (turn_across is_d is_e twin)).0 ∙ ap (dart_start l x) (next_prev d)
+  turn_point d e is_d is_e twin = cc
+      ((across_ends old_laid len (prev_is l x d is_d) (turn_across is_d is_e twin)).0, next_prev d)
 
   turned_point : (d e : CellDart) → IsDart l x d → IsDart l x e → AreTurned (half_edges faces) (cell d) (cell e)
       → dart_start l x d ≡ dart_start l x e
@@ -205,21 +202,21 @@ module _ (faces : Faces) (manifold : IsManifold faces) (l : Gluing) (x : Lengths
   turned_point d e is_d is_e (inr t) = turn_point e d is_e is_d t
 
   turns_low : (d e n : ℕ) → d < m.count → MeshTurns (half_edges faces) d e n → e < m.count
-  turns_low d e zero low t = subst (λ (k : ℕ). k < m.count) t low
+  turns_low d e zero low t = rw (← t) low
   turns_low d e (suc n) low t = t.2
 
   turns_point : (d : CellDart) (n : ℕ) → IsDart l x d → (e : CellDart) → IsDart l x e
       → MeshTurns (half_edges faces) (cell d) (cell e) n → dart_start l x d ≡ dart_start l x e
   turns_point d zero is_d e is_e t = ap (dart_start l x) (s.same d e is_d is_e t)
   turns_point d (suc n) is_d e is_e t =
-      let c = s.onto t.0 (turns_low (cell d) t.0 n (s.low d is_d) t.1) in
+      let c = s.onto t.0 (turns_low _ t.0 n (s.low d is_d) t.1) in
       turns_point d n is_d c.0 c.1 (rw c.2 t.1)
       ∙ turned_point c.0 e c.1 is_e (rw c.2 t.3)
 
   apart : (d e : CellDart) → IsDart l x d → IsDart l x e → m.from (cell d) ≡ m.from (cell e)
       → dart_start l x d ≡ dart_start l x e
   apart d e is_d is_e same =
-      let t = laws.one_fan (cell d) (cell e) (s.low d is_d) (s.low e is_e) same in
+      let t = laws.one_fan _ _ (s.low d is_d) (s.low e is_e) same in
       turns_point d t.0 is_d e is_e t.1
 
   pub old_model : ((f : ℕ) → f < length faces → length (face_at faces f) ≡ 4) → IsModel faces l x old_laid len cell
@@ -240,13 +237,13 @@ module _ (faces : Faces) (manifold : IsManifold faces) (l : Gluing) (x : Lengths
       → IsAt l x old_laid len d u 0 → MeshTurns (half_edges faces) (cell (slot_dart l x v 0)) (cell d) n → (k : ℕ)
       × SlotTurns l v u k
   layout_turns {v} zero is_v {d} {u} is_d at_u t =
-      let some : 0 < x (use_of l v).arc = use_some l x paved len v is_v in
-      let same = s.same (slot_dart l x v 0) d (at_is l x paved len v 0 is_v some) is_d t in (
+      let some = use_some l x paved len v is_v in
+      let same = s.same _ d (at_is l x paved len v 0 is_v some) is_d t in (
         zero,
         (at_once old_laid len {w = v} {o = 0} (rw same at (rim_is_at old_laid len v 0 is_v some)) at_u).0,
       )
   layout_turns {v} (suc n) is_v {d} {u} is_d at_u t =
-      let some : 0 < x (use_of l v).arc = use_some l x paved len v is_v in
+      let some = use_some l x paved len v is_v in
       let c = s.onto t.0 (turns_low (cell (slot_dart l x v 0)) t.0 n
       (s.low (slot_dart l x v 0) (at_is l x paved len v 0 is_v some)) t.1) in
       let turned : AreTurned (half_edges faces) (cell c.0) (cell d) = rw c.2 t.3 in
@@ -273,12 +270,15 @@ module _ (faces : Faces) (manifold : IsManifold faces) (l : Gluing) (x : Lengths
 
   pub old_fans : HasFans l
   old_fans v w is_v is_w same =
-      let v_some : 0 < x (use_of l v).arc = use_some l x paved len v is_v in
-      let w_some : 0 < x (use_of l w).arc = use_some l x paved len w is_w in
-      let t = laws.one_fan (cell (slot_dart l x v 0)) (cell (slot_dart l x w 0))
-      (s.low (slot_dart l x v 0) (at_is l x paved len v 0 is_v v_some))
-      (s.low (slot_dart l x w 0) (at_is l x paved len w 0 is_w w_some))
-      (starts m laws l x paved len cell vertex arc_dart s v is_v ∙ ap vertex same
-      ∙ sym (starts m laws l x paved len cell vertex arc_dart s w is_w)) in
+      let v_some = use_some l x paved len v is_v in
+      let w_some = use_some l x paved len w is_w in
+      let t = laws.one_fan _ _
+      (s.low _ (at_is l x paved len v 0 is_v v_some))
+      (s.low _ (at_is l x paved len w 0 is_w w_some))
+      (cc (
+        starts m laws l x paved len cell vertex arc_dart s v is_v,
+        starts m laws l x paved len cell vertex arc_dart s
+            w is_w,
+      )) in
       layout_turns t.0 is_v (at_is l x paved len w 0 is_w w_some)
-      (rim_is_at old_laid len w 0 is_w w_some) t.1
+      (rim_is_at _ len w 0 is_w w_some) t.1

@@ -79,7 +79,7 @@ module _ (l : Gluing) (x : Lengths) where
         over w v o is other less = join (next_is l x (slot_dart l x w o) (at_is l x laid.paved len w o is less))
             (at_is l x laid.paved len v _ other.0
             (omega (arith, other_long l x laid len w v other))) (sym (across_from l x laid len w v o is other less))
-            (inr (cc (across_to l x laid len w v o is other less, prev_next (slot_dart l x w o))))
+            (inr (cc (across_to l x laid len w v o is other less, prev_next _)))
 
     pub one_fan : HasFans l → (v : ℕ) → HasOneFan (new_faces l x) v
     one_fan fans v d e d_low e_low d_from e_from =

@@ -20,9 +20,9 @@ use Rattle.written_laws.proofs.Spokes.{hub_edge, loop_at}
 module _ {l : Gluing} {x : Lengths} (laid : IsSurface l) (len : AreLengths l x) (open_l : IsOpen l x) where
   side_two : (p : ℕ) (s : Way) → p < l.patches → 2 ≤ size l x p s
   side_two p s p_low =
-      let first : IsSlot l (slot p s 0) = first_slot l x laid.paved len p s p_low in
-      let le : reach l x p s 0 + x (l.use_at p s 0).arc ≤ size l x p s = reach_low l x (slot p s 0) first in
-      omega (arith, le, open_l.two (l.use_at p s 0).arc (laid.paved.arc_low (slot p s 0) first))
+      let first = first_slot l x laid.paved len p s p_low in
+      let le = reach_low l x (slot p s 0) first in
+      omega (arith, open_l.two (l.use_at p s 0).arc (laid.paved.arc_low (slot p s 0) first))
 
   -- The points beside a corner of a patch differ.
   beside_corner : (p : ℕ) (s : Way) (t : ℕ) → p < l.patches → t + 1 ≡ size l x p s
@@ -66,27 +66,27 @@ module _ {l : Gluing} {x : Lengths} (laid : IsSurface l) (len : AreLengths l x) 
       ⊎ Far p i j w
   tip_case p i j east (low, n) = elim (cases_eq (i + 1) (wide l x p)) [
     | inl e ↦ inr e
-    | inr less ↦ inl (inner low (omega arith) (omega (arith, n.a_low)) n.b_some n.b_low)
+    | inr less ↦ inl (inner low (omega arith) (omega arith) n.b_some n.b_low)
   ]
   tip_case p i j north (low, n) = elim (cases_eq (j + 1) (high l x p)) [
     | inl e ↦ inr e
-    | inr less ↦ inl (inner low n.a_some n.a_low (omega arith) (omega (arith, n.b_low)))
+    | inr less ↦ inl (inner low n.a_some n.a_low (omega arith) (omega arith))
   ]
   tip_case p i j west (low, n) = elim (cases_eq i 1) [
     | inl e ↦ inr e
-    | inr more ↦ inl (inner low (omega (arith, n.a_some)) (omega (arith, n.a_low)) n.b_some n.b_low)
+    | inr more ↦ inl (inner low (omega arith) (omega arith) n.b_some n.b_low)
   ]
   tip_case p i j south (low, n) = elim (cases_eq j 1) [
     | inl e ↦ inr e
-    | inr more ↦ inl (inner low n.a_some n.a_low (omega (arith, n.b_some)) (omega (arith, n.b_low)))
+    | inr more ↦ inl (inner low n.a_some n.a_low (omega arith) (omega arith))
   ]
 
   near_tips : (p i j : ℕ) (w v : Way) → Inner l x laid len p i j → Inner l x laid len p (tip_column i w) (tip_row j w)
       → tip l x p i j w ≡ tip l x p i j v → w ≡ v
   near_tips p i j w v n near same =
-      let e = point_sort l x laid len p (tip_column i v) (tip_row j v) p (tip_column i w) (tip_row j w) n.0
+      let e = point_sort l x laid len p _ _ p _ _ n.0
       (tip_low l x laid len p i j v n).0 (tip_low l x laid len p i j v n).1
-      (sym same ∙ hub l x laid len p (tip_column i w) (tip_row j w) near) in
+      (cc (hub l x laid len p (tip_column i w) (tip_row j w) near)) in
       one_way i j w v n.1.a_some n.1.b_some (sym e.1) (sym e.2)
 
   far_after : (p i j : ℕ) (w : Way) → Inner l x laid len p i j → Far p i j w → Far p i j (side_after w)
@@ -120,7 +120,7 @@ module _ {l : Gluing} {x : Lengths} (laid : IsSurface l) (len : AreLengths l x) 
       let first : i - 1 ≡ 0 = omega arith in
       let two : i + 1 ≡ 2 = omega arith in
       open_l.across p j low (omega arith) n.b_some n.b_low
-      (ap (λ k. point l x p k j) (sym first) ∙ sym same ∙ ap (λ k. point l x p k j) two)
+      (cc)
 
   north_south : (p i j : ℕ) → Inner l x laid len p i j → Far p i j north → Far p i j south
       → tip l x p i j north ≢ tip l x p i j south
@@ -128,7 +128,7 @@ module _ {l : Gluing} {x : Lengths} (laid : IsSurface l) (len : AreLengths l x) 
       let first : j - 1 ≡ 0 = omega arith in
       let two : j + 1 ≡ 2 = omega arith in
       open_l.upright p i low (omega arith) n.a_some n.a_low
-      (ap (point l x p i) (sym first) ∙ sym same ∙ ap (point l x p i) two)
+      (cc)
 
   far_tips : (p i j : ℕ) (w v : Way) → Inner l x laid len p i j → Far p i j w → Far p i j v
       → tip l x p i j w ≡ tip l x p i j v → w ≡ v
@@ -179,8 +179,8 @@ module _ {l : Gluing} {x : Lengths} (laid : IsSurface l) (len : AreLengths l x) 
   spoke_once : (e : Edge) (p i j : ℕ) (w : Way) → IsEdge l x e → Inner l x laid len p i j
       → Joins l x e (inside p i j) (tip l x p i j w) → e ≡ spoke p i j w
   spoke_once e p i j w is n joins =
-      let h = hub_edge l x laid len e p i j (tip l x p i j w) is joins in
-      h.1 ∙ ap (spoke p i j) (sym (tips_differ p i j w h.0 n h.2))
+      let h = hub_edge l x laid len e p i j _ is joins in
+      cc (tips_differ p i j w h.0 n h.2)
 
   -- The points on both sides of an inner point of an arc differ.
   arc_tips : (a k : ℕ) → a < l.arcs → 0 < k → k < x a → arc_point l x a (k + 1) ≢ arc_point l x a (k - 1)
@@ -196,7 +196,7 @@ module _ {l : Gluing} {x : Lengths} (laid : IsSurface l) (len : AreLengths l x) 
           omega (arith, s.1)
     ]
     | inr inner ↦
-        let s = arc_sort l x a (k - 1) a (k + 1) (sym same ∙ arc_inner l x a (k + 1) (omega arith) (omega arith)) in
+        let s = arc_sort l x a (k - 1) a (k + 1) (cc (same, arc_inner l x a (k + 1) (omega arith) (omega arith))) in
         omega (arith, s.1)
   ]
 
@@ -233,7 +233,7 @@ module _ {l : Gluing} {x : Lengths} (laid : IsSurface l) (len : AreLengths l x) 
 
   -- Edges with the same ends are one.
   joins_once : (e f : Edge) → IsEdge l x e → IsEdge l x f → Joins l x e (edge_start l x f) (edge_end l x f) → e ≡ f
-  joins_once e f is_e is_f joins = by_kinds (is_arc e) (is_arc f) refl refl
+  joins_once e f is_e is_f joins = by_kinds _ _ refl refl
     where
       along_spoke : (g h : Edge) → IsEdge l x g → Joins l x g (edge_start l x h) (edge_end l x h)
           → (p i j : ℕ) (w : Way) → Inner l x laid len p i j → h ≡ spoke p i j w → g ≡ h
@@ -241,7 +241,7 @@ module _ {l : Gluing} {x : Lengths} (laid : IsSurface l) (len : AreLengths l x) 
           let on = rw is at both in
           spoke_once g p i j w is_g n (elim (spoke_joins l x laid len p i j w n) [
             | inl s ↦ rw (s.0, s.1) at on
-            | inr s ↦ joins_swap l x g (tip l x p i j w) (inside p i j) (rw (s.0, s.1) at on)
+            | inr s ↦ joins_swap l x g _ _ (rw (s.0, s.1) at on)
           ]) ∙ sym is
 
       flip : Joins l x e (edge_start l x f) (edge_end l x f) → Joins l x f (edge_start l x e) (edge_end l x e)
@@ -274,8 +274,8 @@ module _ {l : Gluing} {x : Lengths} (laid : IsSurface l) (len : AreLengths l x) 
         arc_sort l x a k a (k + 1) (same ∙ arc_inner l x a (k + 1) (omega arith) (omega (arith, open_l.two a is.0))) in
         omega (arith, s.1)
     | inr some ↦
-        let s : (a ≡ a) × (k + 1 ≡ k) = arc_sort l x a (k + 1) a k (sym same ∙ arc_inner l x a k (omega arith) is.1) in
-        omega (arith, s.1)
+        let s : (a ≡ a) × (k + 1 ≡ k) = arc_sort l x a _ a k (cc (arc_inner l x a k (omega arith) is.1)) in
+        omega arith
   ]
   no_loop (flat p i j) is same = no_inner_loop (flat p i j) is refl same
   no_loop (steep p i j) is same = no_inner_loop (steep p i j) is refl same

@@ -87,7 +87,7 @@ module _ {l : Gluing} {x : Lengths} (laid : IsSurface l) (len : AreLengths l x) 
   arc_of : (u : SideArc) (o a k : ℕ) → o ≤ x u.arc → 0 < x u.arc → use_point l x u o ≡ along a k
       → (u.arc ≡ a) × (0 < o) × (o < x u.arc) × (cond u.forward o (x u.arc - o) ≡ k)
   arc_of u o a k le some e = elim (cases_eq o 0) [
-    | inl z ↦ let b : use_point l x u o ≡ node (start_node l u) = ap (use_point l x u) z ∙ use_begins l x u some in
+    | inl z ↦ let b : use_point l x u o ≡ node (start_node l u) = cc (use_begins l x u some) in
         absurd cc
     | inr more ↦ elim (cases_eq o (x u.arc)) [
       | inl last ↦ let b : use_point l x u o ≡ node (end_node l u) = use_ends l x u o last (omega arith) in absurd cc

@@ -44,52 +44,37 @@ module _ {l : Gluing} {x : Lengths} (paved : HasWholeSides l) (len : AreLengths 
   rim_is p west t low less =
       is_dart p 0 _ west low (wide_some l x paved len p low) (omega (arith, high_some l x paved len p low))
 
-  -- A border dart begins at its place of the side, and ends at the next one.
-  pub rim_column : (p : ℕ) (s : Way) (t : ℕ) → p < l.patches → t < size l x p s
-      → column_of (dart_along l x p s t) ≡ side_column l x p s t
-  rim_column p south t low less = refl
-  rim_column p east t low less = omega (arith, wide_some l x paved len p low)
-  rim_column p north t low less = omega (arith, len.across p low)
-  rim_column p west t low less = refl
-
-  pub rim_row : (p : ℕ) (s : Way) (t : ℕ) → p < l.patches → t < size l x p s
-      → row_of (dart_along l x p s t) ≡ side_row l x p s t
-  rim_row p south t low less = refl
-  rim_row p east t low less = refl
-  rim_row p north t low less = omega (arith, high_some l x paved len p low)
-  rim_row p west t low less = omega arith
-
-  pub rim_next_column : (p : ℕ) (s : Way) (t : ℕ) → p < l.patches → t < size l x p s
-      → column_of (next (dart_along l x p s t)) ≡ side_column l x p s (t + 1)
-  rim_next_column p south t low less = refl
-  rim_next_column p east t low less = omega (arith, wide_some l x paved len p low)
-  rim_next_column p north t low less = omega (arith, len.across p low)
-  rim_next_column p west t low less = refl
-
-  pub rim_next_row : (p : ℕ) (s : Way) (t : ℕ) → p < l.patches → t < size l x p s
-      → row_of (next (dart_along l x p s t)) ≡ side_row l x p s (t + 1)
-  rim_next_row p south t low less = refl
-  rim_next_row p east t low less = refl
-  rim_next_row p north t low less = omega (arith, high_some l x paved len p low)
-  rim_next_row p west t low less = omega arith
-
   pub rim_patch : (p : ℕ) (s : Way) (t : ℕ) → (dart_along l x p s t).patch ≡ p
   rim_patch p = elim [ south ↦ λ t. refl | east ↦ λ t. refl | north ↦ λ t. refl | west ↦ λ t. refl ]
 
-  -- A side ends where the next one begins.
-  pub corner_column : (p : ℕ) (s : Way) {t : ℕ} → p < l.patches → t ≡ size l x p s
-      → side_column l x p s t ≡ side_column l x p (side_after s) 0
-  corner_column p south low e = e
-  corner_column p east low e = omega arith
-  corner_column p north low e = omega (arith, len.across p low)
-  corner_column p west low e = refl
+  -- A border dart begins at its place of the side, and ends at the next one.
+  pub rim_starts : (p : ℕ) (s : Way) (t : ℕ) → p < l.patches → t < size l x p s
+      → ((dart_along l x p s t).patch ≡ p) × (column_of (dart_along l x p s t) ≡ side_column l x p s t)
+      × (row_of (dart_along l x p s t) ≡ side_row l x p s t)
+  rim_starts p south t low less = (refl, refl, refl)
+  rim_starts p east t low less = (refl, omega (arith, wide_some l x paved len p low), refl)
+  rim_starts p north t low less =
+      (refl, omega (arith, len.across p low), omega (arith, high_some l x paved len p low))
+  rim_starts p west t low less = (refl, refl, omega arith)
 
-  pub corner_row : (p : ℕ) (s : Way) {t : ℕ} → p < l.patches → t ≡ size l x p s
-      → side_row l x p s t ≡ side_row l x p (side_after s) 0
-  corner_row p south low e = refl
-  corner_row p east low e = omega (arith, len.upright p low)
-  corner_row p north low e = omega arith
-  corner_row p west low e = omega arith
+  pub rim_ends : (p : ℕ) (s : Way) (t : ℕ) → p < l.patches → t < size l x p s
+      → ((next (dart_along l x p s t)).patch ≡ p)
+      × (column_of (next (dart_along l x p s t)) ≡ side_column l x p s (t + 1))
+      × (row_of (next (dart_along l x p s t)) ≡ side_row l x p s (t + 1))
+  rim_ends p south t low less = (refl, refl, refl)
+  rim_ends p east t low less = (refl, omega (arith, wide_some l x paved len p low), refl)
+  rim_ends p north t low less =
+      (refl, omega (arith, len.across p low), omega (arith, high_some l x paved len p low))
+  rim_ends p west t low less = (refl, refl, omega arith)
+
+  -- A side ends where the next one begins.
+  pub corner_is : (p : ℕ) (s : Way) {t : ℕ} → p < l.patches → t ≡ size l x p s
+      → (side_column l x p s t ≡ side_column l x p (side_after s) 0)
+      × (side_row l x p s t ≡ side_row l x p (side_after s) 0)
+  corner_is p south low e = (e, refl)
+  corner_is p east low e = (omega arith, omega (arith, len.upright p low))
+  corner_is p north low e = (omega (arith, len.across p low), omega arith)
+  corner_is p west low e = (refl, omega arith)
 
   -- The border dart next to the last one of a side is the first one of the next side.
   pub corner_next : (p : ℕ) (s : Way) (t : ℕ) → p < l.patches → t + 1 ≡ size l x p s → next (dart_along l x p s t)
@@ -179,25 +164,27 @@ module _ {l : Gluing} {x : Lengths} (paved : HasWholeSides l) (len : AreLengths 
         is_e c r)
 
     -- The dart after a border dart, and the next border dart.
+    rim_next : (p : ℕ) (s : Way) (t : ℕ) → p < l.patches → t < size l x p s → IsDart l x (next (dart_along l x p s t))
+    rim_next p s t low less =
+        let d = rim_is p s t low less in record { patch_low = d.patch_low; i_low = d.i_low; j_low = d.j_low }
+
     pub rim_on : (p : ℕ) (s : Way) (t : ℕ) → p < l.patches → t + 1 < size l x p s
         → R (next (dart_along l x p s t)) (dart_along l x p s (t + 1))
     rim_on p s t low less =
-        let next_is : IsDart l x (dart_along l x p s t) → IsDart l x (next (dart_along l x p s t)) = λ d. record
-        { patch_low = d.patch_low; i_low = d.i_low; j_low = d.j_low } in
-        darts_related (next_is (rim_is p s t low (omega arith))) (rim_is p s (t + 1) low less) (rim_patch p s t
-        ∙ sym (rim_patch p s (t + 1))) (rim_next_column p s t low (omega arith) ∙ sym (rim_column p s (t + 1) low less))
-        (rim_next_row p s t low (omega arith) ∙ sym (rim_row p s (t + 1) low less))
+        let a = rim_ends p s t low (omega arith) in
+        let b = rim_starts p s (t + 1) low less in
+        darts_related (rim_next p s t low (omega arith)) (rim_is p s (t + 1) low less) (a.0 ∙ sym b.0) (a.1 ∙ sym b.1)
+        (a.2 ∙ sym b.2)
 
     -- The same at the end of a side.
     pub rim_round : (p : ℕ) (s : Way) (t : ℕ) → p < l.patches → t + 1 ≡ size l x p s → 0 < size l x p (side_after s)
         → R (next (dart_along l x p s t)) (dart_along l x p (side_after s) 0)
     rim_round p s t low e some =
-        let next_is : IsDart l x (dart_along l x p s t) → IsDart l x (next (dart_along l x p s t)) = λ d. record
-        { patch_low = d.patch_low; i_low = d.i_low; j_low = d.j_low } in
-        darts_related (next_is (rim_is p s t low (omega arith))) (rim_is p (side_after s) 0 low some)
-        (rim_patch p s t ∙ sym (rim_patch p (side_after s) 0)) (rim_next_column p s t low (omega arith)
-        ∙ corner_column p s low e ∙ sym (rim_column p (side_after s) 0 low some))
-        (rim_next_row p s t low (omega arith) ∙ corner_row p s low e ∙ sym (rim_row p (side_after s) 0 low some))
+        let a = rim_ends p s t low (omega arith) in
+        let b = rim_starts p (side_after s) 0 low some in
+        let c = corner_is p s low e in
+        darts_related (rim_next p s t low (omega arith)) (rim_is p (side_after s) 0 low some) (a.0 ∙ sym b.0)
+        (a.1 ∙ c.0 ∙ sym b.1) (a.2 ∙ c.1 ∙ sym b.2)
 
 module _ (l : Gluing) (x : Lengths) (laid : IsSurface l) (len : AreLengths l x) where
   pub border_point : (p : ℕ) (s : Way) (t : ℕ) → p < l.patches → t ≤ size l x p s
@@ -212,10 +199,12 @@ module _ (l : Gluing) (x : Lengths) (laid : IsSurface l) (len : AreLengths l x) 
 
   pub rim_from : (p : ℕ) (s : Way) (t : ℕ) → p < l.patches → t < size l x p s
       → dart_start l x (dart_along l x p s t) ≡ side_point l x p s t
-  rim_from p s t low less = (λ k. point l x (rim_patch laid.paved len p s t k) (rim_column laid.paved len p s t low less
-      k) (rim_row laid.paved len p s t low less k)) ∙ border_point p s t low (omega arith)
+  rim_from p s t low less =
+      let r = rim_starts laid.paved len p s t low less in
+      (λ k. point l x (r.0 k) (r.1 k) (r.2 k)) ∙ border_point p s t low (omega arith)
 
   pub rim_to : (p : ℕ) (s : Way) (t : ℕ) → p < l.patches → t < size l x p s
       → dart_end l x (dart_along l x p s t) ≡ side_point l x p s (t + 1)
-  rim_to p s t low less = (λ k. point l x (rim_patch laid.paved len p s t k) (rim_next_column laid.paved len p s t low
-      less k) (rim_next_row laid.paved len p s t low less k)) ∙ border_point p s _ low (omega arith)
+  rim_to p s t low less =
+      let r = rim_ends laid.paved len p s t low less in
+      (λ k. point l x (r.0 k) (r.1 k) (r.2 k)) ∙ border_point p s (t + 1) low (omega arith)

@@ -34,7 +34,7 @@ module _ {faces : Faces} (man : IsManifold faces) {l : Gluing} {x : Lengths} (pa
     (len : AreLengths l x) {cell : CellDart → ℕ} {vertex : ℕ → ℕ} {arc_dart : ℕ → ℕ → ℕ}
     (s : IsEmbedding (half_edges faces) l x cell vertex arc_dart) where
   abbrev here : IsSurface l
-  here = old_laid faces man l x paved len cell vertex arc_dart s
+  here = old_laid faces man l x paved len cell _ _ s
 
   module _ (model : IsModel faces l x here len cell) where
     -- A dart that runs along an edge.
@@ -52,10 +52,8 @@ module _ {faces : Faces} (man : IsManifold faces) {l : Gluing} {x : Lengths} (pa
           record {
             is_dart = is_d;
             edge = edge;
-            start = course_from l x here len d is_d
-                ∙ ap (λ (g : Edge). start_at l x (course g (course_of l x d).ahead)) edge;
-            end = course_to l x here len d is_d
-                ∙ ap (λ (g : Edge). end_at l x (course g (course_of l x d).ahead)) edge;
+            start = cc (course_from l x here len d is_d);
+            end = cc (course_to l x here len d is_d);
           },
         )
 
@@ -105,14 +103,17 @@ module _ {faces : Faces} (man : IsManifold faces) {l : Gluing} {x : Lengths} (pa
       crossed = λ e f is_e is_f lows tops. ends_once false is_e is_f lows tops;
       no_loop = λ e is loop. let (d, a, r) = runner e is in
           ((manifold_law faces man).corners_differ (cell d) (model.low d r.is_dart)).0
-          (model.alike d (next d) r.is_dart (next_is l x d r.is_dart) (by_runner loop a r)
-          ∙ ap (from_of faces) (model.turned d r.is_dart));
+          (cc (
+            model.alike d (next d) r.is_dart (next_is l x d r.is_dart) (by_runner loop a r),
+            model.turned d
+                r.is_dart,
+          ));
     }
       where
         by_runner : {e : Edge} {d : CellDart} → edge_start l x e ≡ edge_end l x e → (a : Bool) → IsRunner e d a
             → dart_start l x d ≡ dart_end l x d
-        by_runner loop true r = r.start ∙ loop ∙ sym r.end
-        by_runner loop false r = r.start ∙ sym loop ∙ sym r.end
+        by_runner loop true r = cc
+        by_runner loop false r = cc
 
 -- The kind of a vertex by what is counted there.
 kind_by : (inner : Bool) (many : ℕ) → Kind
@@ -128,38 +129,37 @@ module _ {l : Gluing} {x : Lengths} {laid : IsSurface l} {len : AreLengths l x} 
   -- A vertex of a model that is not regular is that of a node.
   irregular_node : (d : CellDart) → IsDart l x d → is_regular F (from_of F (cell d)) ≡ false
       → (n : ℕ) × (n < l.nodes) × (dart_start l x d ≡ node n)
-  irregular_node d is off = by_point (dart_start l x d) refl (from_is l x laid len d is)
+  irregular_node d is off = by_point _ refl (from_is l x laid len d is)
     where
       by_point : (a : Point) → dart_start l x d ≡ a → IsPoint l x a → (n : ℕ) × (n < l.nodes)
           × (dart_start l x d ≡ node n)
       by_point (node n) e is_a = (n, is_a, e)
-      by_point (along a k) e is_a = absurd (false≢true
-          (sym off ∙ along_regular laid len model a k is_a (vertex_from model (from_of F (cell d)) is e refl)))
-      by_point (inside p i j) e is_a = absurd (false≢true
-          (sym off ∙ inside_regular laid len model p i j is_a (vertex_from model (from_of F (cell d)) is e refl)))
+      by_point (along a k) e is_a = absurd
+          (cc (along_regular laid len model a k is_a (vertex_from model (from_of F (cell d)) is e refl)))
+      by_point (inside p i j) e is_a = absurd
+          (cc (inside_regular laid len model p i j is_a (vertex_from model (from_of F (cell d)) is e refl)))
 
 module _ {faces : Faces} {l : Gluing} {x : Lengths} {vertex : ℕ → ℕ} (lies : LiesInMesh faces l x vertex) where
   abbrev the_laid : IsSurface l
-  the_laid = old_laid faces lies.manifold l x lies.paved lies.lengths lies.cell vertex lies.arc_dart lies.sided
+  the_laid = old_laid faces lies.manifold l x lies.paved lies.lengths _ _ _ lies.sided
 
   the_model : IsModel faces l x the_laid lies.lengths lies.cell
-  the_model = old_model faces lies.manifold l x lies.paved lies.lengths lies.cell vertex lies.arc_dart lies.sided
+  the_model = old_model faces lies.manifold l x lies.paved _ _ _ _ lies.sided
       lies.quads
 
   the_fans : HasFans l
-  the_fans = old_fans faces lies.manifold l x lies.paved lies.lengths lies.cell vertex lies.arc_dart lies.sided
+  the_fans = old_fans faces lies.manifold l x lies.paved lies.lengths _ _ _ lies.sided
 
   -- The vertex of a node.
   node_vertex : (n : ℕ) → n < l.nodes → IsVertex the_model (node n) (vertex n)
   node_vertex n low =
       let w = the_laid.reached n low in
-      let some : 0 < x (use_of l w.0).arc = use_some l x lies.paved lies.lengths w.0 w.1 in
-      vertex_from the_model (vertex n)
+      let some = use_some l x lies.paved lies.lengths w.0 w.1 in
+      vertex_from the_model _
       (at_is l x lies.paved lies.lengths w.0 0 w.1 some)
-      (at_from l x the_laid lies.lengths w.0 0 w.1 some ∙ use_begins l x (use_of l w.0) some ∙ ap node w.2)
-      (starts (half_edges faces) (manifold_law faces lies.manifold) l x lies.paved lies.lengths lies.cell vertex
-      lies.arc_dart lies.sided w.0 w.1
-      ∙ ap vertex w.2)
+      (cc (at_from l x the_laid lies.lengths w.0 0 w.1 some, use_begins l x (use_of l w.0) some))
+      (cc (starts (half_edges faces) (manifold_law faces lies.manifold) l x lies.paved lies.lengths lies.cell vertex
+      lies.arc_dart lies.sided w.0 w.1))
 
   module _ {y : Lengths} (lon : AreLengths l y) (undoubled : IsUndoubled l y) where
     new_is : IsModel (new_faces l y) l y the_laid lon (dart_number l y)
@@ -167,8 +167,8 @@ module _ {faces : Faces} {l : Gluing} {x : Lengths} {vertex : ℕ → ℕ} (lies
 
     new_node : (n : ℕ) → n < l.nodes → IsVertex new_is (node n) n
     new_node n low =
-        let d = point_dart l y the_laid lon (node n) low in
-        vertex_from new_is n d.1 d.2 (number_from l y d.0 d.1 ∙ ap (vertex_number l y) d.2)
+        let d = point_dart l y the_laid lon _ low in
+        vertex_from new_is n d.1 d.2 (cc (number_from l y d.0 d.1))
 
     same_faces : (n : ℕ) → n < l.nodes → faces_at (new_faces l y) n ≡ faces_at faces (vertex n)
     same_faces n low = sym (node_faces n (node_vertex n low) (new_node n low))
@@ -178,8 +178,8 @@ module _ {faces : Faces} {l : Gluing} {x : Lengths} {vertex : ℕ → ℕ} (lies
 
     kept : (n : ℕ) → n < l.nodes → IsKeptNode faces (new_faces l y) vertex n
     kept n low = record {
-      kind = kind_is (new_faces l y) n ∙ (λ t. kind_by (same_inner n low t) (same_faces n low t))
-          ∙ sym (kind_is faces (vertex n));
+      kind = kind_is _ n ∙ (λ t. kind_by (same_inner n low t) (same_faces n low t))
+          ∙ sym (kind_is faces _);
       faces = same_faces n low;
     }
 
@@ -187,34 +187,34 @@ module _ {faces : Faces} {l : Gluing} {x : Lengths} {vertex : ℕ → ℕ} (lies
         → (n : ℕ) × (n < l.nodes) × (vertex n ≡ v) × IsKeptNode faces (new_faces l y) vertex n
     irregular v low off =
         let k = used_dart faces v lies.quads (lies.used v low) in
-        let d : (d : CellDart) × IsDart l x d × (lies.cell d ≡ k.0) = the_model.onto k.0 k.1 in
+        let d = the_model.onto k.0 k.1 in
         let leaves = ap (from_of faces) d.2 ∙ k.2 in
-        let n = irregular_node the_model d.0 d.1 (ap (is_regular faces) leaves ∙ off) in
-        (n.0, n.1, sym ((node_vertex n.0 n.1).there d.0 d.1 n.2) ∙ leaves, kept n.0 n.1)
+        let n = irregular_node the_model d.0 d.1 (cc) in
+        (n.0, n.1, cc ((node_vertex n.0 n.1).there d.0 d.1 n.2), kept n.0 n.1)
 
     below : vertex_count (new_faces l y) ≤ vertices l y
-    below = count_least (new_faces l y) (vertices l y) (λ k low.
+    below = count_least _ _ (λ k low.
         let d = at_number l y the_laid lon k low in
         let at = sym (number_from l y d.0 d.1) ∙ ap (from_of (new_faces l y)) d.2 in
-        omega (arith, at, number_low l y (dart_start l y d.0) (from_is l y the_laid lon d.0 d.1)))
+        omega (arith, number_low l y (dart_start l y d.0) (from_is l y the_laid lon d.0 d.1)))
 
     regular : (v : ℕ) → v < vertex_count (new_faces l y) → is_regular (new_faces l y) v ≡ false
         → (v < l.nodes) × (is_regular faces (vertex v) ≡ false)
     regular v low off =
         let a = point_onto l y v (omega (arith, low, below)) in
-        let d : (d : CellDart) × IsDart l y d × (dart_start l y d ≡ a.0) = point_dart l y the_laid lon a.0 a.1 in
+        let d = point_dart l y the_laid lon a.0 a.1 in
         let vertex_is = number_from l y d.0 d.1 ∙ ap (vertex_number l y) d.2 ∙ a.2 in
-        let n = irregular_node new_is d.0 d.1 (ap (is_regular (new_faces l y)) vertex_is ∙ off) in
+        let n = irregular_node new_is d.0 d.1 (cc) in
         let e = sym (ap (vertex_number l y) n.2) ∙ ap (vertex_number l y) d.2 ∙ a.2 in
-        let v_low : v < l.nodes = omega (arith, n.1, e) in
+        let v_low : v < l.nodes = omega arith in
         (v_low, (λ t. (sym (same_faces v v_low) t) == cond (sym (same_inner v v_low) t) 4 2) ∙ off)
 
     keeps : KeepsShape faces (new_faces l y) l.nodes vertex
     keeps = record {
       old_manifold = lies.manifold;
       new_manifold = manifold the_laid lon (simple_from l y undoubled) the_fans;
-      euler = euler_is l y the_laid lon (new_faces l y) (dart_number l y) new_is
-          ∙ sym (euler_is l x the_laid lies.lengths faces lies.cell the_model);
+      euler = euler_is l y _ lon _ _ new_is
+          ∙ sym (euler_is l x _ _ faces _ the_model);
       irregular = irregular;
       regular = regular;
     }
@@ -236,9 +236,9 @@ three_law l x laid len three = undoubled_from l x laid len (simple_three laid le
 
 pub multiple_law : MultipleLaw
 multiple_law faces l x vertex lies k some =
-    let lon : AreLengths l (scale k x) = lengths_scale l x k some lies.lengths in (
+    let lon = lengths_scale l x k some lies.lengths in (
       lon,
-      undoubled_from l (scale k x) (the_laid lies) lon
+      undoubled_from l _ (the_laid lies) lon
           (simple_multiple l x (the_laid lies) lies.lengths
-          (old_simple lies.manifold lies.paved lies.lengths lies.sided (the_model lies)) k some),
+          (old_simple lies.manifold lies.paved _ lies.sided (the_model lies)) k some),
     )

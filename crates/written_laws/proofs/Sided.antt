@@ -23,25 +23,24 @@ module _ (m : HalfEdges) (laws : IsQuadManifold m) (l : Gluing) (x : Lengths) (p
   some {w} is = use_some l x paved len w is
 
   low_at : (w : Slot) (o : ℕ) → IsSlot l w → o < x (use_of l w).arc → cell (slot_dart l x w o) < m.count
-  low_at w o is less = s.low (slot_dart l x w o) (at_is l x paved len w o is less)
+  low_at w o is less = s.low _ (at_is l x paved len w o is less)
 
   -- The dart over an arc that stands twice is the twin.
   pub over_twin : (w v : Slot) (o : ℕ) → IsSlot l w → IsOtherSlot l w v → o < x (use_of l w).arc
       → m.twin (cell (slot_dart l x w o)) ≡ Some (cell (slot_dart l x v (x (use_of l w).arc - 1 - o)))
   over_twin w v o is other less = elim (cases_Bool (use_of l w).forward) [
     | inl e ↦
-        let back : (use_of l v).forward ≡ false = other.1.turned ∙ ap not e in
+        let back : (use_of l v).forward ≡ false = cc in
         let place : o ≡ x (use_of l v).arc - 1 - (x (use_of l w).arc - 1 - o) = omega (arith, ap x other.1.arc) in
         ap m.twin (s.ahead w o is less e ∙ (λ t. arc_dart (sym other.1.arc t) (place t)))
-        ∙ s.behind v (x (use_of l w).arc - 1 - o) other.0 k_low back
+        ∙ s.behind v _ other.0 k_low back
     | inr e ↦
-        let on : (use_of l v).forward ≡ true = other.1.turned ∙ ap not e in
-        let there = s.ahead v (x (use_of l w).arc - 1 - o) other.0 k_low on
+        let on : (use_of l v).forward ≡ true = cc in
+        let there = s.ahead v _ other.0 k_low on
         ∙ ap (λ a. arc_dart a (x (use_of l w).arc - 1 - o)) other.1.arc in
-        laws.twin_twin (arc_dart (use_of l w).arc (x (use_of l w).arc - 1 - o)) (cell (slot_dart l x w o))
+        cc (laws.twin_twin (arc_dart (use_of l w).arc (x (use_of l w).arc - 1 - o)) (cell (slot_dart l x w o))
         (s.arc_low (use_of l w).arc (x (use_of l w).arc - 1 - o) (paved.arc_low w is) (omega arith))
-        (s.behind w o is less e)
-        ∙ ap Some (sym there)
+        (s.behind w o is less e))
   ]
     where
       k_low : x (use_of l w).arc - 1 - o < x (use_of l v).arc
@@ -54,20 +53,18 @@ module _ (m : HalfEdges) (laws : IsQuadManifold m) (l : Gluing) (x : Lengths) (p
   -- Where one dart is the twin of the one before another, both leave one vertex.
   twin_before : (d e : CellDart) → IsDart l x (prev d) → next (prev d) ≡ d → m.twin (cell (prev d)) ≡ Some (cell e)
       → AreFromOne d e
-  twin_before d e is back twin = ap (λ (c : CellDart). m.from (cell c)) (sym back) ∙ ap m.from (s.turned (prev d))
-      ∙ sym (laws.twin_ends (cell (prev d)) (cell e) (s.low (prev d) is) twin).0
+  twin_before d e is back twin = cc
+      (s.turned (prev d), (laws.twin_ends (cell (prev d)) (cell e) (s.low (prev d) is) twin).0)
 
   before_twin : (d : CellDart) {e : CellDart} → IsDart l x e → next (prev d) ≡ d
       → m.twin (cell e) ≡ Some (cell (prev d)) → AreFromOne d e
-  before_twin d {e} is back twin = ap (λ (c : CellDart). m.from (cell c)) (sym back) ∙ ap m.from (s.turned (prev d))
-      ∙ (laws.twin_ends (cell e) (cell (prev d)) (s.low e is) twin).1
+  before_twin d {e} is back twin = cc (s.turned (prev d), (laws.twin_ends (cell e) (cell (prev d)) (s.low e is) twin).1)
 
   left_from : (p i j k n : ℕ) (w : Way) → IsDart l x (dart p i j w) → IsDart l x (dart p k n (side_after w))
       → column i w ≡ column k (side_after w) → row j w ≡ row n (side_after w)
       → AreFromOne (dart p i j w) (dart p k n (side_after w))
   left_from p i j k n south d e c r = before_twin (dart p i j south) e refl
-      (s.east_of p k n d.patch_low (omega (arith, c, d.i_low)) e.j_low
-      ∙ ap (λ (q : CellDart). Some (cell q)) (dart_is p west (sym c) (sym r)))
+      (cc (s.east_of p k n d.patch_low (omega (arith, c, d.i_low)) e.j_low, dart_is p west (sym c) (sym r)))
   left_from p i j k n east d e c r = before_twin (dart p i j east) e refl
       (s.north_of p k n d.patch_low e.i_low (omega (arith, r, d.j_low))
       ∙ ap (λ (q : CellDart). Some (cell q)) (dart_is p south (omega (arith, c)) (sym r)))
@@ -75,10 +72,9 @@ module _ (m : HalfEdges) (laws : IsQuadManifold m) (l : Gluing) (x : Lengths) (p
       (is_dart p i j east d.patch_low d.i_low d.j_low) refl
       (s.east_of p i j d.patch_low (omega (arith, c, e.i_low)) d.j_low
       ∙ ap (λ (q : CellDart). Some (cell q)) (dart_is p west c (omega (arith, r))))
-  left_from p i j k n west d e c r = twin_before (dart p i j west) (dart p k n south)
+  left_from p i j k n west d e c r = twin_before _ _
       (is_dart p i j north d.patch_low d.i_low d.j_low) refl
-      (s.north_of p i j d.patch_low d.i_low (omega (arith, r, e.j_low))
-      ∙ ap (λ (q : CellDart). Some (cell q)) (dart_is p south c r))
+      (cc (s.north_of p i j d.patch_low d.i_low (omega (arith, r, e.j_low)), dart_is p south c r))
 
   pub from_turning : IsTurning l x AreFromOne
   from_turning = record {
@@ -86,22 +82,26 @@ module _ (m : HalfEdges) (laws : IsQuadManifold m) (l : Gluing) (x : Lengths) (p
     on = λ d c e a b. a ∙ b;
     back = λ d e is a. sym a;
     left = left_from;
-    over = λ w v o is other less. ap m.from (s.turned (slot_dart l x w o))
-        ∙ sym (laws.twin_ends (cell (slot_dart l x w o)) (cell (slot_dart l x v (x (use_of l w).arc - 1 - o)))
+    over = λ w v o is other less. ap m.from (s.turned _)
+        ∙ sym (laws.twin_ends _ _
         (low_at w o is less) (over_twin w v o is other less)).0;
   }
 
   -- Arcs in use begin and end at the vertices of their nodes.
   pub starts : (w : Slot) → IsSlot l w → m.from (cell (slot_dart l x w 0)) ≡ vertex (start_node l (use_of l w))
   starts w is = elim (cases_Bool (use_of l w).forward) [
-    | inl e ↦ ap m.from (s.ahead w 0 is (some is) e) ∙ s.first_at (use_of l w).arc (paved.arc_low w is)
-        ∙ ap vertex (node (use_of l w) true e)
+    | inl e ↦ cc
+        (s.ahead w 0 is (some is) e, s.first_at (use_of l w).arc (paved.arc_low w is), node (use_of l w) true e)
     | inr e ↦
         let z : x (use_of l w).arc - 1 - 0 ≡ x (use_of l w).arc - 1 = omega arith in
-        let low = s.arc_low (use_of l w).arc (x (use_of l w).arc - 1) (paved.arc_low w is) (omega (arith, some is)) in
-        (laws.twin_ends (arc_dart (use_of l w).arc (x (use_of l w).arc - 1)) (cell (slot_dart l x w 0)) low
-        (ap (λ k. m.twin (arc_dart (use_of l w).arc k)) (sym z) ∙ s.behind w 0 is (some is) e)).0
-        ∙ s.last_at (use_of l w).arc (paved.arc_low w is) ∙ ap vertex (node (use_of l w) false e)
+        let low = s.arc_low _ _ (paved.arc_low w is) (omega (arith, some is)) in
+        cc (
+          (laws.twin_ends (arc_dart (use_of l w).arc (x (use_of l w).arc - 1)) (cell (slot_dart l x w 0)) low
+              (ap (λ k. m.twin (arc_dart (use_of l w).arc k)) (sym z) ∙ s.behind w 0 is (some is) e)).0,
+          s.last_at
+              (use_of l w).arc (paved.arc_low w is),
+          node (use_of l w) false e,
+        )
   ]
     where
       node : (u : SideArc) (f : Bool) → u.forward ≡ f → start_node l (record { arc = u.arc; forward = f })
@@ -111,14 +111,21 @@ module _ (m : HalfEdges) (laws : IsQuadManifold m) (l : Gluing) (x : Lengths) (p
   ends : {w : Slot} → IsSlot l w → m.from (m.next (cell (slot_dart l x w (x (use_of l w).arc - 1)))) ≡ vertex
       (end_node l (use_of l w))
   ends {w} is = elim (cases_Bool (use_of l w).forward) [
-    | inl e ↦ ap (λ c. m.from (m.next c)) (s.ahead w (x (use_of l w).arc - 1) is less e)
-        ∙ s.last_at (use_of l w).arc (paved.arc_low w is) ∙ ap vertex (node (use_of l w) true e)
+    | inl e ↦ cc (
+      s.ahead w (x (use_of l w).arc - 1) is less e,
+      s.last_at (use_of l w).arc (paved.arc_low w is),
+      node
+          (use_of l w) true e,
+    )
     | inr e ↦
         let z : x (use_of l w).arc - 1 - (x (use_of l w).arc - 1) ≡ 0 = omega arith in
-        let low = s.arc_low (use_of l w).arc 0 (paved.arc_low w is) (some is) in
-        (laws.twin_ends (arc_dart (use_of l w).arc 0) (cell (slot_dart l x w (x (use_of l w).arc - 1))) low
-        (ap (λ k. m.twin (arc_dart (use_of l w).arc k)) (sym z) ∙ s.behind w (x (use_of l w).arc - 1) is less e)).1
-        ∙ s.first_at (use_of l w).arc (paved.arc_low w is) ∙ ap vertex (node (use_of l w) false e)
+        let low = s.arc_low _ 0 (paved.arc_low w is) (some is) in
+        cc (
+          (laws.twin_ends (arc_dart (use_of l w).arc 0) (cell (slot_dart l x w (x (use_of l w).arc - 1))) low
+              (ap (λ k. m.twin (arc_dart (use_of l w).arc k)) (sym z) ∙ s.behind w (x (use_of l w).arc - 1) is less e)).1,
+          s.first_at (use_of l w).arc (paved.arc_low w is),
+          node (use_of l w) false e,
+        )
   ]
     where
       less : x (use_of l w).arc - 1 < x (use_of l w).arc
@@ -128,7 +135,7 @@ module _ (m : HalfEdges) (laws : IsQuadManifold m) (l : Gluing) (x : Lengths) (p
       node u f e = λ t. end_node l (record { arc = u.arc; forward = sym e t })
 
   start_low : (u : SideArc) → u.arc < l.arcs → (start_node l u < l.nodes) × (end_node l u < l.nodes)
-  start_low u low = by_way u.arc u.forward low
+  start_low u low = by_way u.arc _ low
     where
       by_way : (a : ℕ) (f : Bool) → a < l.arcs → (start_node l (record { arc = a; forward = f }) < l.nodes)
           × (end_node l (record { arc = a; forward = f }) < l.nodes)
@@ -137,7 +144,7 @@ module _ (m : HalfEdges) (laws : IsQuadManifold m) (l : Gluing) (x : Lengths) (p
 
   once : (v w : Slot) → IsSlot l v → IsSlot l w → use_of l v ≡ use_of l w → v ≡ w
   once v w is_v is_w same = rim_slot paved len v w 0 0 is_v is_w (some is_v) (some is_w)
-      (s.same (slot_dart l x v 0) (slot_dart l x w 0) (at_is l x paved len v 0 is_v (some is_v))
+      (s.same _ _ (at_is l x paved len v 0 is_v (some is_v))
       (at_is l x paved len w 0 is_w (some is_w)) (by_way (use_of l v).forward refl))
     where
       arcs : (use_of l v).arc ≡ (use_of l w).arc
@@ -147,21 +154,21 @@ module _ (m : HalfEdges) (laws : IsQuadManifold m) (l : Gluing) (x : Lengths) (p
       ways = ap (λ (u : SideArc). u.forward) same
 
       by_way : (f : Bool) → (use_of l v).forward ≡ f → cell (slot_dart l x v 0) ≡ cell (slot_dart l x w 0)
-      by_way true e = s.ahead v 0 is_v (some is_v) e ∙ ap (λ a. arc_dart a 0) arcs
-          ∙ sym (s.ahead w 0 is_w (some is_w) (sym ways ∙ e))
-      by_way false e = same_Some (cell (slot_dart l x v 0)) (cell (slot_dart l x w 0))
-          (sym (s.behind v 0 is_v (some is_v) e) ∙ ap (λ a. m.twin (arc_dart a (x a - 1 - 0))) arcs
-          ∙ s.behind w 0 is_w (some is_w) (sym ways ∙ e))
+      by_way true e = cc (s.ahead v 0 is_v (some is_v) e, s.ahead w 0 is_w (some is_w) (sym ways ∙ e))
+      by_way false e = cc (s.behind v 0 is_v (some is_v) e, s.behind w 0 is_w (some is_w) (sym ways ∙ e))
 
   meet : (w : Slot) → IsSlot l w → end_node l (use_before l w) ≡ start_node l (use_of l w)
   meet w is =
-      let is_b : IsSlot l (slot_before l w.patch w.side w.at) = before_is l x paved len w is in
-      s.vertex_same (end_node l (use_before l w)) (start_node l (use_of l w))
+      let is_b = before_is l x paved len w is in
+      s.vertex_same _ _
       (start_low (use_before l w) (paved.arc_low (slot_before l w.patch w.side w.at) is_b)).1
       (start_low (use_of l w) (paved.arc_low w is)).0
-      (sym (ends is_b)
-      ∙ ap m.from (sym (s.turned (slot_dart l x (slot_before l w.patch w.side w.at) (x (use_before l w).arc - 1))))
-      ∙ before_related paved len from_turning w is ∙ starts w is)
+      (cc (
+        ends is_b,
+        s.turned (slot_dart l x (slot_before l w.patch w.side w.at) (x (use_before l w).arc - 1)),
+        before_related paved len from_turning w is,
+        starts w is,
+      ))
 
   no_fold : (w : Slot) → IsSlot l w → w.at ≡ 0 → ¬ AreReverse (use_before l w) (use_of l w)
   no_fold w is first rev =
@@ -174,8 +181,8 @@ module _ (m : HalfEdges) (laws : IsQuadManifold m) (l : Gluing) (x : Lengths) (p
       let zero_is : o - o ≡ 0 = omega arith in
       let twin = over_twin b w o is_b (is, rev) o_low ∙ ap (λ k. Some (cell (slot_dart l x w k))) zero_is
       ∙ ap (λ (d : CellDart). Some (cell d)) (sym (before_first w.at first)) ∙ ap Some (s.turned c) in
-      (laws.corners_differ (cell c) (low_at b o is_b o_low)).1
-      (sym (laws.twin_ends (cell c) (m.next (cell c)) (low_at b o is_b o_low) twin).1)
+      (laws.corners_differ _ (low_at b o is_b o_low)).1
+      (sym (laws.twin_ends _ _ (low_at b o is_b o_low) twin).1)
     where
       after_before : (q : Way) → side_after (side_before q) ≡ q
       after_before = elim [ south ↦ refl | east ↦ refl | north ↦ refl | west ↦ refl ]
@@ -190,10 +197,12 @@ module _ (m : HalfEdges) (laws : IsQuadManifold m) (l : Gluing) (x : Lengths) (p
             patch_low = is.patch_low;
             low = omega (arith, paved.sides_full w.patch (side_before w.side) is.patch_low);
           } in
-          corner_next paved len w.patch q
-          (reach l x w.patch q (l.many w.patch q - 1) + (x (l.use_at w.patch q (l.many w.patch q - 1)).arc - 1))
-          is.patch_low (omega (arith, last_reach l x paved len w.patch (side_before w.side) is.patch_low, some last))
-          ∙ ap (λ r. dart_along l x w.patch r 0) (after_before w.side)
+          cc (
+            corner_next paved len w.patch q (reach l x w.patch q (l.many w.patch q - 1)
+                + (x (l.use_at w.patch q (l.many w.patch q - 1)).arc - 1)) is.patch_low
+                (omega (arith, last_reach l x paved len w.patch (side_before w.side) is.patch_low, some last)),
+            after_before w.side,
+          )
       before_first (suc k) e = absurd (omega arith)
 
   pub laid_in : IsSurface l

@@ -22,8 +22,8 @@ module _ {l : Gluing} {x : Lengths} (simple : IsSimple l x) where
           → end_at l x (course c.edge a) ≡ end_at l x (course k.edge b) → course c.edge a ≡ course k.edge b
       by_ways true true s t = ap (λ (f : Edge). course f true) (simple.same _ _ is_c is_k s t)
       by_ways false false s t = ap (λ (f : Edge). course f false) (simple.same _ _ is_c is_k t s)
-      by_ways true false s t = absurd (simple.no_loop c.edge is_c (cc (simple.crossed c.edge k.edge is_c is_k s t)))
-      by_ways false true s t = absurd (simple.no_loop c.edge is_c (cc (simple.crossed c.edge k.edge is_c is_k t s)))
+      by_ways true false s t = absurd (simple.no_loop c.edge is_c (cc (simple.crossed _ _ is_c is_k s t)))
+      by_ways false true s t = absurd (simple.no_loop c.edge is_c (cc (simple.crossed _ _ is_c is_k t s)))
 
   -- A course from the end to the start of another runs the other way along its edge.
   pub reversed : (c k : Course) → IsEdge l x c.edge → IsEdge l x k.edge
@@ -33,7 +33,7 @@ module _ {l : Gluing} {x : Lengths} (simple : IsSimple l x) where
       ≡ start_at l x (course c.edge (not a)) = elim [ true ↦ refl | false ↦ refl ] in
       let turn_end : (a : Bool) → start_at l x (course c.edge a)
       ≡ end_at l x (course c.edge (not a)) = elim [ true ↦ refl | false ↦ refl ] in
-      let s = one_course k (course c.edge (not c.ahead)) is_k is_c (starts ∙ turn_start c.ahead)
+      let s = one_course k _ is_k is_c (starts ∙ turn_start c.ahead)
       (ends ∙ turn_end c.ahead) in
       (ap (λ (g : Course). g.edge) s, ap (λ (g : Course). g.ahead) s)
 

@@ -31,13 +31,13 @@ module _ (l : Gluing) (old new : Lengths) (o_len : AreLengths l old) (n_len : Ar
   even_whole : (a : ℕ) → a < l.arcs → ONE * new a * old a / new a ≡ ONE * old a
   even_whole a low =
       let by_parts : (n m : ℕ) → ONE * n * m ≡ ONE * m * n + 0 = λ n m. omega (arith, mul_comm n m) in
-      ap (λ n. n / new a) (by_parts (new a) (old a)) ∙ div-mul-add (ONE * old a) (new a) 0 (n_len.some a low)
+      cc (by_parts (new a) (old a), div-mul-add (ONE * old a) (new a) 0 (n_len.some a low))
 
   even_less : (a k : ℕ) → a < l.arcs → k < new a → ONE * k * old a / new a < ONE * old a
   even_less a k low less =
-      let by_parts : (n m : ℕ) → k * m < n * m → ONE * k * m < ONE * m * n = λ n m e. omega (arith, e, mul_comm n m) in
-      div_less (ONE * k * old a) (ONE * old a) (new a) (n_len.some a low)
-      (by_parts (new a) (old a) (times_less k (new a) (old a) less (o_len.some a low)))
+      let by_parts : (n m : ℕ) → k * m < n * m → ONE * k * m < ONE * m * n = λ n m e. omega (arith, mul_comm n m) in
+      div_less _ _ _ (n_len.some a low)
+      (by_parts (new a) (old a) (times_less k _ _ less (o_len.some a low)))
 
   pub even_edge : (a k : ℕ) → a < l.arcs → k < new a → k * old a / new a < old a
   even_edge a k low less = div_less _ _ _ (n_len.some a low)

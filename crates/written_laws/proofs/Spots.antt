@@ -8,8 +8,8 @@ use Rattle.def_layout.specs.Cells.{CellDart, IsDart, dart, next, dart_along, slo
 use Rattle.def_written.specs.{Points.point, NewFaces.column, NewFaces.row}
 use Rattle.written_laws.proofs.{Runs.place_same, Sides.slot, Sides.long_at, Sides.side_in, Grid.wide_some}
 use Rattle.written_laws.proofs.{Grid.high_some, Rims.column_of, Rims.row_of, Rims.side_column, Rims.side_row}
-use Rattle.written_laws.proofs.Rims.{dart_is, border_point, rim_is, rim_column, rim_row, rim_next_column}
-use Rattle.written_laws.proofs.{Rims.rim_next_row, Rims.rim_patch, Rims.rim_way, Borders.at_low, Borders.at_is}
+use Rattle.written_laws.proofs.Rims.{dart_is, border_point, rim_is, rim_starts, rim_ends}
+use Rattle.written_laws.proofs.{Rims.rim_patch, Rims.rim_way, Borders.at_low, Borders.at_is}
 use Rattle.written_laws.proofs.{Borders.IsAt, NewDarts.next_is}
 
 no_turn : (s : Way) → s ≢ side_after s
@@ -38,33 +38,35 @@ module _ {l : Gluing} {x : Lengths} (paved : HasWholeSides l) (len : AreLengths 
   place_once p west west t u low t_low u_low c r = (refl, omega arith)
   place_once p _ _ t u low t_low u_low c r = absurd (omega (arith, high_some l x paved len p low))
 
+  -- So do slots, each with a place along its arc.
+  pub slot_once : {w v : Slot} {o k : ℕ} → IsSlot l w → IsSlot l v → o < x (use_of l w).arc → k < x (use_of l v).arc
+      → v.patch ≡ w.patch
+      → side_column l x w.patch w.side (reach l x w.patch w.side w.at + o)
+      ≡ side_column l x v.patch v.side (reach l x v.patch v.side v.at + k)
+      → side_row l x w.patch w.side (reach l x w.patch w.side w.at + o)
+      ≡ side_row l x v.patch v.side (reach l x v.patch v.side v.at + k) → (w ≡ v) × (o ≡ k)
+  slot_once {w} {v} {o} {k} is_w is_v o_low k_low patches columns rows =
+      let t = reach l x w.patch w.side w.at + o in
+      let u = reach l x v.patch v.side v.at + k in
+      let u_low = subst (λ (n : ℕ). u < n) (λ q. size l x (patches q) v.side) (at_low l x paved len k is_v k_low) in
+      let s = place_once w.patch w.side v.side t u is_w.patch_low (at_low l x paved len o is_w o_low) u_low
+      (columns ∙ (λ q. side_column l x (patches q) v.side u)) (rows ∙ (λ q. side_row l x (patches q) v.side u)) in
+      let k_inside = subst (λ (n : ℕ). k < n) (λ q. long_at l x (patches q) (sym s.0 q) v.at) k_low in
+      let v_many = subst (λ (n : ℕ). v.at < n) (λ q. l.many (patches q) (sym s.0 q)) is_v.low in
+      let r = place_same (long_at l x w.patch w.side) (l.many w.patch w.side) w.at o v.at k is_w.low v_many o_low
+      k_inside (s.1 ∙ (λ q. reach l x (patches q) (sym s.0 q) v.at + k)) in
+      ((λ q. slot (sym patches q) (s.0 q) (r.0 q)), r.1)
+
   -- A border dart tells its slot.
   pub rim_slot : (w v : Slot) (o k : ℕ) → IsSlot l w → IsSlot l v → o < x (use_of l w).arc → k < x (use_of l v).arc
       → slot_dart l x w o ≡ slot_dart l x v k → w ≡ v
   rim_slot w v o k is_w is_v o_low k_low same =
-      let t = reach l x w.patch w.side w.at + o in
-      let u = reach l x v.patch v.side v.at + k in
-      let patches : v.patch ≡ w.patch = sym (rim_patch paved len v.patch v.side u)
-      ∙ ap (λ (d : CellDart). d.patch) (sym same) ∙ rim_patch paved len w.patch w.side t in
-      let sides : v.side ≡ w.side = sym (rim_way paved len v.patch v.side u) ∙ ap (λ (d : CellDart). d.way) (sym same)
-      ∙ rim_way paved len w.patch w.side t in
-      let u_low : u < size l x w.patch w.side = subst (λ (n : ℕ). u < n) (λ r. size l x (patches r) (sides r))
+      let a = rim_starts paved len w.patch w.side (reach l x w.patch w.side w.at + o) is_w.patch_low
+      (at_low l x paved len o is_w o_low) in
+      let b = rim_starts paved len v.patch v.side (reach l x v.patch v.side v.at + k) is_v.patch_low
       (at_low l x paved len k is_v k_low) in
-      let there : dart_along l x v.patch v.side u
-      ≡ dart_along l x w.patch w.side u = λ r. dart_along l x (patches r) (sides r) u in
-      let columns : side_column l x w.patch w.side t ≡ side_column l x w.patch w.side u = sym
-      (rim_column paved len w.patch w.side t is_w.patch_low (at_low l x paved len o is_w o_low))
-      ∙ ap column_of (same ∙ there) ∙ rim_column paved len w.patch w.side u is_w.patch_low u_low in
-      let rows : side_row l x w.patch w.side t ≡ side_row l x w.patch w.side u = sym
-      (rim_row paved len w.patch w.side t is_w.patch_low (at_low l x paved len o is_w o_low)) ∙ ap row_of (same ∙ there)
-      ∙ rim_row paved len w.patch w.side u is_w.patch_low u_low in
-      let e =
-      (place_once w.patch w.side w.side t u is_w.patch_low (at_low l x paved len o is_w o_low) u_low columns rows).1 in
-      let k_inside = subst (λ (n : ℕ). k < n) (λ r. long_at l x (patches r) (sides r) v.at) k_low in
-      let v_many = subst (λ (n : ℕ). v.at < n) (λ r. l.many (patches r) (sides r)) is_v.low in
-      let r = place_same (long_at l x w.patch w.side) (l.many w.patch w.side) w.at o v.at k is_w.low v_many o_low
-      k_inside (e ∙ (λ r. reach l x (patches r) (sides r) v.at + k)) in
-      λ q. slot (sym patches q) (sym sides q) (r.0 q)
+      (slot_once is_w is_v o_low k_low (sym b.0 ∙ ap (λ (d : CellDart). d.patch) (sym same) ∙ a.0)
+      (sym a.1 ∙ ap column_of same ∙ b.1) (sym a.2 ∙ ap row_of same ∙ b.2)).0
 
   -- A dart that leaves a place of a side lies on the border, or is next to the border dart before.
   border_dart : (p : ℕ) (s w : Way) (i j t : ℕ) → t < size l x p s → IsDart l x (dart p i j w)
@@ -113,22 +115,8 @@ module _ {l : Gluing} {x : Lengths} (laid : IsSurface l) (len : AreLengths l x) 
   -- It is at one place of one slot.
   pub at_once : {d : CellDart} {w v : Slot} {o k : ℕ} → IsAt l x laid len d w o → IsAt l x laid len d v k → (w ≡ v)
       × (o ≡ k)
-  at_once {w} {v} {o} {k} a b =
-      let patches : v.patch ≡ w.patch = sym b.patch ∙ a.patch in
-      let v_low : place_at l x v k < size l x w.patch v.side = subst (λ (n : ℕ). place_at l x v k < n)
-      (λ t. size l x (patches t) v.side) (at_low l x laid.paved len k b.is_slot b.low) in
-      let columns : side_column l x w.patch w.side (place_at l x w o) ≡ side_column l x w.patch v.side
-      (place_at l x v k) = sym a.column ∙ b.column ∙ (λ t. side_column l x (patches t) v.side (place_at l x v k)) in
-      let rows : side_row l x w.patch w.side (place_at l x w o) ≡ side_row l x w.patch v.side (place_at l x v k) = sym
-      a.row ∙ b.row ∙ (λ t. side_row l x (patches t) v.side (place_at l x v k)) in
-      let s = place_once laid.paved len w.patch w.side v.side (place_at l x w o) (place_at l x v k) a.is_slot.patch_low
-      (at_low l x laid.paved len o a.is_slot a.low) v_low columns rows in
-      let v_inside = subst (λ (n : ℕ). k < n) (λ t. long_at l x (patches t) (sym s.0 t) v.at) b.low in
-      let v_many = subst (λ (n : ℕ). v.at < n) (λ t. l.many (patches t) (sym s.0 t)) b.is_slot.low in
-      let place = s.1 ∙ (λ t. reach l x (patches t) (sym s.0 t) v.at + k) in
-      let r = place_same (long_at l x w.patch w.side) (l.many w.patch w.side) w.at o v.at k a.is_slot.low v_many a.low
-      v_inside place in
-      ((λ t. slot (sym patches t) (s.0 t) (r.0 t)), r.1)
+  at_once a b = slot_once laid.paved len a.is_slot b.is_slot a.low b.low (sym b.patch ∙ a.patch)
+      (sym a.column ∙ b.column) (sym a.row ∙ b.row)
 
   -- The darts at a place.
   pub spot_is : (w : Slot) (o : ℕ) (b : Bool) → IsSlot l w → o < x (use_of l w).arc → (b ≡ true → 0 < place_at l x w o)
@@ -138,9 +126,10 @@ module _ {l : Gluing} {x : Lengths} (laid : IsSurface l) (len : AreLengths l x) 
       (rim_is laid.paved len _ _ _ is.patch_low (omega (arith, at_low l x laid.paved len o is less)))
 
   pub rim_is_at : (w : Slot) (o : ℕ) → IsSlot l w → o < x (use_of l w).arc → IsAt l x laid len (slot_dart l x w o) w o
-  rim_is_at w o is less = at_place _ o is less (rim_patch laid.paved len _ _ _)
-      (rim_column laid.paved len _ _ _ is.patch_low (at_low l x laid.paved len o is less))
-      (rim_row laid.paved len _ _ _ is.patch_low (at_low l x laid.paved len o is less))
+  rim_is_at w o is less =
+      let r = rim_starts laid.paved len w.patch w.side (place_at l x w o) is.patch_low
+      (at_low l x laid.paved len o is less) in
+      at_place (slot_dart l x w o) o is less r.0 r.1 r.2
 
   pub spot_at : {w : Slot} (o : ℕ) (b : Bool) → IsSlot l w → o < x (use_of l w).arc → (b ≡ true → 0 < place_at l x w o)
       → IsAt l x laid len (spot_dart l x w o b) w o
@@ -148,24 +137,23 @@ module _ {l : Gluing} {x : Lengths} (laid : IsSurface l) (len : AreLengths l x) 
   spot_at {w} o true is less some =
       let t_low : place_at l x w o - 1 < size l x w.patch w.side = omega (arith, at_low l x laid.paved len o is less) in
       let one : place_at l x w o - 1 + 1 ≡ place_at l x w o = omega (arith, some refl) in
-      at_place _ o is less
-      (rim_patch laid.paved len _ _ _)
-      (cc (rim_next_column laid.paved len w.patch w.side (place_at l x w o - 1) is.patch_low t_low))
-      (cc (rim_next_row laid.paved len w.patch w.side (place_at l x w o - 1) is.patch_low t_low))
+      let r = rim_ends laid.paved len w.patch w.side (place_at l x w o - 1) is.patch_low t_low in
+      at_place (spot_dart l x w o true) o is less r.0 (r.1 ∙ ap (side_column l x w.patch w.side) one)
+      (r.2 ∙ ap (side_row l x w.patch w.side) one)
 
   -- A dart at a place is one of the two.
   pub sort_spot : (d : CellDart) (w : Slot) (o : ℕ) → IsDart l x d → IsAt l x laid len d w o
       → (b : Bool) × (d ≡ spot_dart l x w o b) × ((b ≡ true) → 0 < place_at l x w o)
   sort_spot d w o is a =
       let here : d ≡ dart w.patch d.i d.j d.way = λ t. dart (a.patch t) d.i d.j d.way in
-      elim (border_dart laid.paved len w.patch w.side d.way d.i d.j (place_at l x w o)
+      elim (border_dart laid.paved len _ _ d.way d.i d.j _
       (at_low l x laid.paved len o a.is_slot a.low) (record {
         patch_low = a.is_slot.patch_low;
         i_low = rw
             (ap (wide l x) a.patch) at is.i_low;
         j_low = rw (ap (high l x) a.patch) at is.j_low;
       }) a.column a.row)
-      [ inl e ↦ (false, here ∙ e, λ s. absurd cc) | inr e ↦ (true, here ∙ e.1, λ s. e.0) ]
+      [ inl e ↦ (false, cc, λ s. absurd cc) | inr e ↦ (true, cc, λ s. e.0) ]
 
   -- The two differ.
   pub spot_once : (w : Slot) (o : ℕ) (b c : Bool) → spot_dart l x w o b ≡ spot_dart l x w o c → b ≡ c

@@ -62,8 +62,8 @@ passing_le p q (suc m) n to once = elim (cases_Bool (p m)) [
         → passing p m ≤ passing r n) → passing p (suc m) ≤ passing q n
     at_pass on rest =
         let up_last : (m : ℕ) → m < suc m = λ m. omega arith in
-        by_image (to m (up_last m) on).0 (to m (up_last m) on).1 (to m (up_last m) on).2
-        (λ i l s e. let same : i ≡ m = once i m (up i l) s (up_last m) on e in omega (arith, same))
+        by_image _ (to m (up_last m) on).1 (to m (up_last m) on).2
+        (λ i l s e. let same = once i m (up i l) s (up_last m) on e in omega arith)
       where
         by_image : (u : ℕ) → u < n → q u ≡ true → ((i : ℕ) (l : i < m) (s : p i ≡ true) → (to i (up i l) s).0 ≢ u)
             → passing p (suc m) ≤ passing q n
@@ -74,7 +74,7 @@ passing_le p q (suc m) n to once = elim (cases_Bool (p m)) [
               but_same q (apart i l s) ∙ (to i (up i l) s).2,
             )) (λ i j a b c d e. once i j (up i a) b (up j c) d e) in
             let one : one_if (p m) ≡ 1 = ap one_if on in
-            omega (arith, less, one, passing_but q n u u_low u_on)
+            omega (arith, passing_but q n u u_low u_on)
 
 -- All numbers below n.
 pub passing_all : (n : ℕ) → passing (λ k. true) n ≡ n
@@ -91,7 +91,7 @@ pub numbers_le : {X : Type 0} {P : X → Type 0} {a b : X → ℕ} {p q : ℕ �
 numbers_le {b} {p} {q} {m} {n} r s tells = passing_le p q m n
     (λ k low on. let d = r.onto k low on in let e = s.each d.0 d.1 in (b d.0, e.0, e.1))
     (λ k j low on less too same. let d = r.onto k low on in let e = r.onto j less too in
-    sym d.2 ∙ tells d.0 e.0 d.1 e.1 same ∙ e.2)
+    cc (tells d.0 e.0 d.1 e.1 same))
 
 -- A filter keeps what passes.
 pub filter_long : (p : ℕ → Bool) (n : ℕ) → length (filter p (range_with_len 0 n)) ≡ passing p n
