@@ -31,7 +31,7 @@ pub record RunsOn (mesh : HalfEdges) (cut : Cut) (node : ℕ → Bool) (b : ℕ 
 module _ (mesh : HalfEdges) (laws : IsQuadManifold mesh) (cut : Cut) (full : IsCut mesh cut) where
   -- The next dart of a line.
   from_over : (d e : ℕ) → mesh.twin (mesh.next d) ≡ Some (mesh.prev e) → e ≡ go mesh d
-  from_over d e is = sym (laws.next_prev e) ∙ ap (λ o. mesh.next (or_zero o)) (sym is)
+  from_over d e is = cc (laws.next_prev e)
 
   module _ (p : Rectangle) (grid : IsGrid mesh cut p.w p.h (cell_of p)) where
     cell : Cells
@@ -43,8 +43,8 @@ module _ (mesh : HalfEdges) (laws : IsQuadManifold mesh) (cut : Cut) (full : IsC
 
     over_east : (t : ℕ) → suc t < p.h → mesh.twin (mesh.next (border_dart mesh p east t))
         ≡ Some (mesh.prev (border_dart mesh p east (suc t)))
-    over_east t l = grid.north (p.w - 1) t (omega (arith, grid.wide)) l
-        ∙ ap Some (sym (laws.prev_next (cell_of p (p.w - 1) (suc t))))
+    over_east t l = cc
+        (grid.north (p.w - 1) t (omega (arith, grid.wide)) l, laws.prev_next (cell_of p (p.w - 1) (suc t)))
 
     over_north : (t : ℕ) → suc t < p.w → mesh.twin (mesh.next (border_dart mesh p north t))
         ≡ Some (mesh.prev (border_dart mesh p north (suc t)))
@@ -55,12 +55,8 @@ module _ (mesh : HalfEdges) (laws : IsQuadManifold mesh) (cut : Cut) (full : IsC
             ≡ Some (mesh.prev (mesh.next (mesh.next (cell_of p (p.w - 1 - suc t) (p.h - 1)))))
         at i k e f lk =
             let link : mesh.twin (mesh.prev (cell_of p (suc i) (p.h - 1))) ≡ Some (mesh.next (cell_of p i (p.h - 1))) =
-            west_link mesh laws cut full p.w p.h (cell_of p) grid i (p.h - 1) (omega arith)
-            (omega (arith, grid.tall)) in
-            ap (λ x. mesh.twin (mesh.next (mesh.next (mesh.next (cell_of p x (p.h - 1)))))) e
-            ∙ (ap mesh.twin (sym (prev_three mesh laws (cell_of p (suc i) (p.h - 1))))
-            ∙ (link ∙ ap Some (sym (laws.prev_next (mesh.next (cell_of p i (p.h - 1))))
-            ∙ ap (λ x. mesh.prev (mesh.next (mesh.next (cell_of p x (p.h - 1))))) f)))
+            west_link mesh laws cut full p.w p.h (cell_of p) grid i (p.h - 1) (omega arith) (omega arith) in
+            cc (prev_three mesh laws (cell_of p (suc i) (p.h - 1)), laws.prev_next (mesh.next (cell_of p i (p.h - 1))))
 
     over_west : (t : ℕ) → suc t < p.h → mesh.twin (mesh.next (border_dart mesh p west t))
         ≡ Some (mesh.prev (border_dart mesh p west (suc t)))
@@ -71,10 +67,7 @@ module _ (mesh : HalfEdges) (laws : IsQuadManifold mesh) (cut : Cut) (full : IsC
         at j k e f lk =
             let link : mesh.twin (cell_of p 0 (suc j)) ≡ Some (mesh.next (mesh.next (cell_of p 0 j))) =
             south_link mesh laws cut full p.w p.h (cell_of p) grid 0 j grid.wide (omega arith) in
-            ap mesh.twin (laws.next_prev (cell_of p 0 k))
-            ∙ (ap (λ x. mesh.twin (cell_of p 0 x)) e
-            ∙ (link ∙ ap Some (sym (prev_twice mesh laws (cell_of p 0 j))
-            ∙ ap (λ x. mesh.prev (mesh.prev (cell_of p 0 x))) f)))
+            cc (laws.next_prev (cell_of p 0 k), prev_twice mesh laws (cell_of p 0 j))
 
     -- Each side is a line.
     pub line : (side : Way) → IsLine mesh cut (border_dart mesh p side) (side_size p side)
@@ -82,34 +75,33 @@ module _ (mesh : HalfEdges) (laws : IsQuadManifold mesh) (cut : Cut) (full : IsC
       some = grid.wide;
       low = λ t l. grid.low t 0 l grid.tall;
       on = λ t l. grid.south_shut t l;
-      next = λ t l. from_over (border_dart mesh p south t) (border_dart mesh p south (suc t)) (over_south t l);
+      next = λ t l. from_over _ _ (over_south t l);
       over = over_south;
       first = grid.west_shut 0 grid.tall;
       last = λ t e. grid.east_shut t 0 e grid.tall;
     }
     line east = record {
       some = grid.tall;
-      low = λ t l. laws.next_low (cell_of p (p.w - 1) t) (grid.low (p.w - 1) t (omega (arith, grid.wide)) l);
-      on = λ t l. grid.east_shut (p.w - 1) t (omega (arith, grid.wide)) l;
+      low = λ t l. laws.next_low (cell_of p (p.w - 1) t) (grid.low (p.w - 1) t (omega arith) l);
+      on = λ t l. grid.east_shut (p.w - 1) t (omega arith) l;
       next = λ t l. from_over (border_dart mesh p east t) (border_dart mesh p east (suc t)) (over_east t l);
       over = over_east;
-      first = ap cut (laws.prev_next (cell_of p (p.w - 1) 0)) ∙ grid.south_shut (p.w - 1) (omega (arith, grid.wide));
-      last = λ t e. grid.north_shut (p.w - 1) t (omega (arith, grid.wide)) e;
+      first = ap cut (laws.prev_next (cell_of p (p.w - 1) 0)) ∙ grid.south_shut (p.w - 1) (omega arith);
+      last = λ t e. grid.north_shut (p.w - 1) t (omega arith) e;
     }
     line north = record {
       some = grid.wide;
-      low = λ t l. laws.next_low (mesh.next (cell_of p (p.w - 1 - t) (p.h - 1)))
-          (laws.next_low (cell_of p (p.w - 1 - t) (p.h - 1)) (grid.low (p.w - 1 - t) (p.h - 1) (omega arith)
-          (omega (arith, grid.tall))));
-      on = λ t l. grid.north_shut (p.w - 1 - t) (p.h - 1) (omega arith) (omega (arith, grid.tall));
+      low = λ t l. laws.next_low (mesh.next (cell_of p (p.w - 1 - t) (p.h - 1))) (laws.next_low
+          (cell_of p (p.w - 1 - t) (p.h - 1)) (grid.low (p.w - 1 - t) (p.h - 1) (omega arith) (omega arith)));
+      on = λ t l. grid.north_shut (p.w - 1 - t) (p.h - 1) (omega arith) (omega arith);
       next = λ t l. from_over (border_dart mesh p north t) (border_dart mesh p north (suc t)) (over_north t l);
       over = over_north;
       first = ap cut (laws.prev_next (mesh.next (cell_of p (p.w - 1 - 0) (p.h - 1))))
-          ∙ grid.east_shut (p.w - 1 - 0) (p.h - 1) (omega (arith, grid.wide)) (omega (arith, grid.tall));
+          ∙ grid.east_shut (p.w - 1 - 0) (p.h - 1) (omega arith) (omega arith);
       last = λ t e. let zero_is : p.w - 1 - t ≡ 0 = omega arith in
           ap (λ x. cut (mesh.next (mesh.next (mesh.next (cell_of p x (p.h - 1)))))) zero_is
           ∙ (ap cut (sym (prev_three mesh laws (cell_of p 0 (p.h - 1))))
-          ∙ grid.west_shut (p.h - 1) (omega (arith, grid.tall)));
+          ∙ grid.west_shut (p.h - 1) (omega arith));
     }
     line west = record {
       some = grid.tall;
@@ -118,7 +110,7 @@ module _ (mesh : HalfEdges) (laws : IsQuadManifold mesh) (cut : Cut) (full : IsC
       next = λ t l. from_over (border_dart mesh p west t) (border_dart mesh p west (suc t)) (over_west t l);
       over = over_west;
       first = ap cut (prev_twice mesh laws (cell_of p 0 (p.h - 1 - 0))) ∙ grid.north_shut 0 (p.h - 1 - 0) grid.wide
-          (omega (arith, grid.tall));
+          (omega arith);
       last = λ t e. let zero_is : p.h - 1 - t ≡ 0 = omega arith in ap cut (laws.next_prev (cell_of p 0 (p.h - 1 - t)))
           ∙ (ap (λ x. cut (cell_of p 0 x)) zero_is ∙ grid.south_shut 0 grid.wide);
     }
@@ -127,11 +119,10 @@ module _ (mesh : HalfEdges) (laws : IsQuadManifold mesh) (cut : Cut) (full : IsC
     pub on_side : (k i j d : ℕ) → i < p.w → j < p.h → d ≡ spin mesh k (cell_of p i j) → cut d ≡ true → (side : Way)
         × (t : ℕ) × (t < side_size p side) × (border_dart mesh p side t ≡ d)
     on_side zero i zero d li lj e on = (south, i, li, sym e)
-    on_side zero i (suc j) d li lj e on =
-        absurd (true≢false (sym on ∙ (ap cut e ∙ south_open mesh laws cut full p.w p.h (cell_of p) grid i j li lj)))
+    on_side zero i (suc j) d li lj e on = absurd (cc (south_open mesh laws cut full p.w p.h (cell_of p) grid i j li lj))
     on_side (suc zero) i j d li lj e on = elim (cases_eq (suc i) p.w) [
-      | inl z ↦ let same : p.w - 1 ≡ i = omega arith in (east, j, lj, ap (λ x. mesh.next (cell_of p x j)) same ∙ sym e)
-      | inr ne ↦ absurd (true≢false (sym on ∙ (ap cut e ∙ grid.east_open i j (omega arith) lj)))
+      | inl z ↦ let same : p.w - 1 ≡ i = omega arith in (east, j, lj, cc)
+      | inr ne ↦ absurd (cc (grid.east_open i j (omega arith) lj))
     ]
     on_side (suc (suc zero)) i j d li lj e on = elim (cases_eq (suc j) p.h) [
       | inl z ↦ let row : p.h - 1 ≡ j = omega arith in let column : p.w - 1 - (p.w - 1 - i) ≡ i = omega arith in (
@@ -160,18 +151,17 @@ module _ (mesh : HalfEdges) (laws : IsQuadManifold mesh) (cut : Cut) (full : IsC
     pub line_easts : (u k : ℕ) → u + k < size → easts mesh (b u) k ≡ b (u + k)
     line_easts u zero l = ap b (omega arith)
     line_easts u (suc k) l = let n : suc (u + k) ≡ u + suc k = omega arith in
-        ap (go mesh) (line_easts u k (omega arith)) ∙ (sym (line.next (u + k) (omega arith)) ∙ ap b n)
+        cc (line_easts u k (omega arith), line.next (u + k) (omega arith))
 
     pub line_from : (t : ℕ) → suc t < size → mesh.from (b (suc t)) ≡ end_vertex mesh (b t)
-    line_from t l = ap mesh.from (sym (laws.next_prev (b (suc t))))
-        ∙ (laws.twin_ends (mesh.next (b t)) (mesh.prev (b (suc t))) (laws.next_low (b t) (line.low t (omega arith)))
-        (line.over t l)).1
+    line_from t l = cc (laws.next_prev (b (suc t)), (laws.twin_ends (mesh.next (b t)) (mesh.prev (b (suc t)))
+        (laws.next_low (b t) (line.low t (omega arith))) (line.over t l)).1)
 
     pub line_begins : node (mesh.from (b 0)) ≡ true
     line_begins = nodes.corner (b 0) (line.low 0 line.some) (line.on 0 line.some) line.first
 
     pub line_ends : (t : ℕ) → suc t ≡ size → node (end_vertex mesh (b t)) ≡ true
-    line_ends t e = nodes.corner (mesh.next (b t)) (laws.next_low (b t) (line.low t (omega arith))) (line.last t e)
+    line_ends t e = nodes.corner _ (laws.next_low (b t) (line.low t (omega arith))) (line.last t e)
         (ap cut (laws.prev_next (b t)) ∙ line.on t (omega arith))
 
     -- From each node on the line runs a run, which stays on it.
@@ -192,41 +182,30 @@ module _ (mesh : HalfEdges) (laws : IsQuadManifold mesh) (cut : Cut) (full : IsC
             → ((i : ℕ) → i < k → node (end_vertex mesh (easts mesh (b u) i)) ≡ false)
             → (n : ℕ) × RunsOn mesh cut node b size u n
         search zero k sum before =
-            done k (omega arith) before (ap (λ x. node (end_vertex mesh x)) (line_easts u k (omega arith))
-            ∙ line_ends (u + k) (omega arith))
-        search (suc left) k sum before = by_node (cases_Bool (node (end_vertex mesh (easts mesh (b u) k))))
-            (λ f. search left (suc k) (omega arith) f)
-          where
-            by_node : (node (end_vertex mesh (easts mesh (b u) k)) ≡ true)
-                ⊎ (node (end_vertex mesh (easts mesh (b u) k)) ≡ false)
-                → (((i : ℕ) → i < suc k → node (end_vertex mesh (easts mesh (b u) i)) ≡ false)
-                → (n : ℕ) × RunsOn mesh cut node b size u n) → (n : ℕ) × RunsOn mesh cut node b size u n
-            by_node (inl on) rest = done k (omega arith) before on
-            by_node (inr off) rest =
-                rest (λ i h. elim (cases_eq i k) [
-                  | inl e ↦ ap (λ x. node (end_vertex mesh (easts mesh (b u) x))) e ∙ off
-                  | inr ne ↦ before i (omega arith)
-                ])
+            done k (omega arith) before (cc (line_easts u k (omega arith), line_ends (u + k) (omega arith)))
+        search (suc left) k sum before = elim (cases_Bool (node (end_vertex mesh (easts mesh (b u) k)))) [
+          | inl on ↦ done k (omega arith) before on
+          | inr off ↦ search left (suc k) (omega arith) (λ i h. elim (cases_eq i k) [
+            | inl e ↦ cc
+            | inr ne ↦ before i (omega arith)
+          ])
+        ]
 
     -- Each dart of the line lies on such a run.
     pub runs_over : (t : ℕ) → t < size → (u : ℕ) × (n : ℕ) × RunsOn mesh cut node b size u n × (u ≤ t) × (t < u + n)
-    runs_over zero l = let r : (n : ℕ) × RunsOn mesh cut node b size 0 n = runs_from 0 l line_begins in
-        (0, r.0, r.1, omega arith, omega (arith, r.1.run.some))
-    runs_over (suc t) l = by_last (runs_over t (omega arith))
-      where
-        by_last : (u : ℕ) × (n : ℕ) × RunsOn mesh cut node b size u n × (u ≤ t) × (t < u + n) → (u : ℕ) × (n : ℕ)
-            × RunsOn mesh cut node b size u n × (u ≤ suc t) × (suc t < u + n)
-        by_last r = at r.0 r.1 r.2 r.3 r.4 (cases_eq (suc t) (r.0 + r.1))
-          where
-            at : (u n : ℕ) → RunsOn mesh cut node b size u n → u ≤ t → t < u + n → (suc t ≡ u + n) ⊎ (suc t ≡ u + n → ⊥)
-                → (u : ℕ) × (n : ℕ) × RunsOn mesh cut node b size u n × (u ≤ suc t) × (suc t < u + n)
-            at u n on low high (inr ne) = (u, n, on, omega arith, omega arith)
-            at u n on low high (inl e) =
-                let here : easts mesh (b u) (t - u) ≡ b t = line_easts u (t - u) (omega arith) ∙ ap b (omega arith) in
-                let begins : node (mesh.from (b (suc t))) ≡ true = ap node (line_from t l)
-                ∙ (ap (λ x. node (end_vertex mesh x)) (sym here) ∙ on.run.ends (t - u) (omega arith)) in
-                let r : (m : ℕ) × RunsOn mesh cut node b size (suc t) m = runs_from (suc t) l begins in
-                (suc t, r.0, r.1, omega arith, omega (arith, r.1.run.some))
+    runs_over zero l = let r = runs_from 0 l line_begins in
+        (0, r.0, r.1, omega arith, omega arith)
+    runs_over (suc t) l =
+        let (u, n, on, low, high) = runs_over t (omega arith) in
+        elim (cases_eq (suc t) (u + n)) [
+          | inr ne ↦ (u, n, on, omega arith, omega arith)
+          | inl e ↦
+              let here : easts mesh (b u) (t - u) ≡ b t = line_easts u (t - u) (omega arith) ∙ ap b (omega arith) in
+              let begins = ap node (line_from t l) ∙ (ap (λ x. node (end_vertex mesh x)) (sym here)
+              ∙ on.run.ends (t - u) (omega arith)) in
+              let r = runs_from (suc t) l begins in
+              (suc t, r.0, r.1, omega arith, omega arith)
+        ]
 
     -- A run that begins on the line ends on it.
     pub run_fits : (t n : ℕ) → t < size → IsRun mesh cut node (b t) n → t + n ≤ size
@@ -240,39 +219,27 @@ module _ (mesh : HalfEdges) (laws : IsQuadManifold mesh) (cut : Cut) (full : IsC
     -- Where it ends another begins, or the line ends.
     pub next_begins : (t n : ℕ) → t < size → IsRun mesh cut node (b t) n → t + n < size → node (mesh.from (b (t + n)))
         ≡ true
-    next_begins t n l run far = at (n - 1) (omega (arith, run.some))
+    next_begins t n l run far = at (n - 1) (omega arith)
       where
         at : (k : ℕ) → suc k ≡ n → node (mesh.from (b (t + n))) ≡ true
-        at k e = let place : t + n ≡ suc (t + k) = omega arith in ap (λ x. node (mesh.from (b x))) place
-            ∙ (ap node (line_from (t + k) (omega arith))
-            ∙ (ap (λ x. node (end_vertex mesh x)) (sym (line_easts t k (omega arith))) ∙ run.ends k e))
+        at k e =
+            let place : t + n ≡ suc (t + k) = omega arith in
+            cc (line_from (t + k) (omega arith), line_easts t k (omega arith), run.ends k e)
 
   -- Each cut dart lies on a run.
   pub each_in_run : (node : ℕ → Bool) → AreNodes mesh cut node → (face : ℕ → ℕ) (ps : List Rectangle)
       → IsPartition mesh cut face ps → (d : ℕ) → d < mesh.count → cut d ≡ true → (s : ℕ) × (n : ℕ) × (k : ℕ)
       × IsRun mesh cut node s n × (k < n) × (easts mesh s k ≡ d)
-  each_in_run node nodes face ps parts d l on = by_cover (parts.covers d l)
-    where
-      by_side : (q : Rectangle) → IsGrid mesh cut q.w q.h (cell_of q) → (side : Way) × (t : ℕ) × (t < side_size q side)
-          × (border_dart mesh q side t ≡ d) → (s : ℕ) × (n : ℕ) × (k : ℕ) × IsRun mesh cut node s n × (k < n)
-          × (easts mesh s k ≡ d)
-      by_side q grid w = at w.0 w.1 w.2 w.3 (runs_over node nodes (border_dart mesh q w.0) (side_size q w.0)
-          (line q grid w.0) w.1 w.2)
-        where
-          at : (side : Way) (t : ℕ) → t < side_size q side → border_dart mesh q side t ≡ d → (u : ℕ) × (n : ℕ)
-              × RunsOn mesh cut node (border_dart mesh q side) (side_size q side) u n × (u ≤ t) × (t < u + n)
-              → (s : ℕ) × (n : ℕ) × (k : ℕ) × IsRun mesh cut node s n × (k < n) × (easts mesh s k ≡ d)
-          at side t lt e r = (
-            border_dart mesh q side r.0,
-            r.1,
-            t - r.0,
-            r.2.run,
-            omega (arith, r.3, r.4),
-            line_easts node nodes (border_dart mesh q side) (side_size q side) (line q grid side) r.0 (t - r.0)
-                (omega (arith, r.3)) ∙ (ap (border_dart mesh q side) (omega (arith, r.3)) ∙ e),
-          )
-
-      by_cover : (p : ℕ) × (i : ℕ) × (j : ℕ) × (k : ℕ) × (p < length ps) × IsSide mesh (patch_at ps p) i j k d
-          → (s : ℕ) × (n : ℕ) × (k : ℕ) × IsRun mesh cut node s n × (k < n) × (easts mesh s k ≡ d)
-      by_cover c = by_side (patch_at ps c.0) (parts.patch c.0 c.4).grid
-          (on_side (patch_at ps c.0) (parts.patch c.0 c.4).grid c.3 c.1 c.2 d c.5.i_low c.5.j_low c.5.is on)
+  each_in_run node nodes face ps parts d l on =
+      let (p, i, j, k, p_low, side) = parts.covers d l in
+      let q = patch_at ps p in
+      let grid = (parts.patch p p_low).grid in
+      let (s, t, lt, e) = on_side q grid k i j d side.i_low side.j_low side.is on in
+      let (u, n, r, low, high) = runs_over node nodes (border_dart mesh q s) (side_size q s) (line q grid s) t lt in (
+        border_dart mesh q s u,
+        n,
+        t - u,
+        r.run,
+        omega arith,
+        line_easts node nodes _ _ (line q grid s) u _ (omega arith) ∙ (ap (border_dart mesh q s) (omega arith) ∙ e),
+      )

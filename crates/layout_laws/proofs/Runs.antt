@@ -27,12 +27,10 @@ module _ (mesh : HalfEdges) (laws : IsQuadManifold mesh) (cut : Cut) (full : IsC
   straight : (d t : ℕ) → d < mesh.count → mesh.twin (mesh.next d) ≡ Some t → cut (mesh.next t) ≡ true
       → GoesStraight mesh cut d
   straight d t l is on = record {
-    over = is ∙ ap Some (sym (laws.prev_next t) ∙ ap mesh.prev (sym e));
-    low =
-        subst (λ (x : ℕ). x < mesh.count) (sym e)
-        (laws.next_low t (laws.twin_low (mesh.next d) t (laws.next_low d l) is));
-    from = ap mesh.from e ∙ (laws.twin_ends (mesh.next d) t (laws.next_low d l) is).1;
-    on = ap cut e ∙ on;
+    over = cc (laws.prev_next t);
+    low = rw e (laws.next_low t (laws.twin_low _ t (laws.next_low d l) is));
+    from = cc ((laws.twin_ends (mesh.next d) t (laws.next_low d l) is).1);
+    on = cc;
   }
     where
       e : step_east mesh d ≡ mesh.next t
@@ -40,42 +38,37 @@ module _ (mesh : HalfEdges) (laws : IsQuadManifold mesh) (cut : Cut) (full : IsC
 
   -- At a vertex that is no node a cut edge goes straight on.
   pub on_from : (d : ℕ) → d < mesh.count → cut d ≡ true → node (end_vertex mesh d) ≡ false → GoesStraight mesh cut d
-  on_from d l on inner = by_twin (mesh.twin d) refl
+  on_from d l on inner = by_twin _ refl
     where
       no_corner : cut (mesh.next d) ≡ true → ⊥
-      no_corner c = false≢true (sym inner ∙ nodes.corner (mesh.next d) (laws.next_low d l) c (ap cut (laws.prev_next d)
-          ∙ on))
+      no_corner c = cc (nodes.corner (mesh.next d) (laws.next_low d l) c (ap cut (laws.prev_next d) ∙ on))
 
       by_gap : GoesOn mesh cut d → GoesStraight mesh cut d
       by_gap (inl c) = absurd (no_corner c)
       by_gap (inr g) = straight d g.0 l g.1 g.2
 
       by_twin : (o : Option ℕ) → mesh.twin d ≡ o → GoesStraight mesh cut d
-      by_twin None is = let a : (t : ℕ) × (mesh.twin (mesh.next d) ≡ Some t) × (mesh.twin (mesh.next t) ≡ None) =
-          nodes.along d l is inner in
-          straight d a.0 l a.1 (full.boundary (mesh.next a.0)
-          (laws.next_low a.0 (laws.twin_low (mesh.next d) a.0 (laws.next_low d l) a.1)) a.2)
+      by_twin None is = let a = nodes.along d l is inner in
+          straight d a.0 l a.1 (full.boundary _
+          (laws.next_low a.0 (laws.twin_low _ a.0 (laws.next_low d l) a.1)) a.2)
       by_twin (Some t) is = by_gap (full.gaps d l on)
 
   -- Straight on is injective.
   pub east_same : (d e : ℕ) → d < mesh.count → e < mesh.count → mesh.twin (mesh.next d)
       ≡ Some (mesh.prev (step_east mesh d)) → mesh.twin (mesh.next e) ≡ Some (mesh.prev (step_east mesh e))
       → step_east mesh d ≡ step_east mesh e → d ≡ e
-  east_same d e ld le a b s =
-      next_same mesh laws d e (twin_same mesh laws (mesh.next d) (mesh.next e) (mesh.prev (step_east mesh d))
-      (laws.next_low d ld) (laws.next_low e le) a (b ∙ ap (λ x. Some (mesh.prev x)) (sym s)))
+  east_same d e ld le a b s = next_same mesh laws d e
+      (twin_same mesh laws _ _ _ (laws.next_low d ld) (laws.next_low e le) a (cc))
 
   -- A walk over inner vertices.
   pub walked : (s i : ℕ) → s < mesh.count → cut s ≡ true
       → ((k : ℕ) → k < i → node (end_vertex mesh (easts mesh s k)) ≡ false) → (k : ℕ) → k ≤ i
       → (easts mesh s k < mesh.count) × (cut (easts mesh s k) ≡ true)
   walked s i l on inner zero h = (l, on)
-  walked s i l on inner (suc k) h = step (walked s i l on inner k (omega arith))
-    where
-      step : (easts mesh s k < mesh.count) × (cut (easts mesh s k) ≡ true) → (easts mesh s (suc k) < mesh.count)
-          × (cut (easts mesh s (suc k)) ≡ true)
-      step w = let g : GoesStraight mesh cut (easts mesh s k) =
-          on_from (easts mesh s k) w.0 w.1 (inner k (omega arith)) in (g.low, g.on)
+  walked s i l on inner (suc k) h =
+      let w = walked s i l on inner k (omega arith) in
+      let g = on_from _ w.0 w.1 (inner k (omega arith)) in
+      (g.low, g.on)
 
   pub walk_done : (s i : ℕ) → s < mesh.count → cut s ≡ true → node (mesh.from s) ≡ true
       → ((k : ℕ) → k < i → node (end_vertex mesh (easts mesh s k)) ≡ false) → node (end_vertex mesh (easts mesh s i))
@@ -86,36 +79,29 @@ module _ (mesh : HalfEdges) (laws : IsQuadManifold mesh) (cut : Cut) (full : IsC
     begins = begins;
     on = λ k h. (walked s i l on inner k (omega arith)).1;
     inside = λ k h. inner k (omega arith);
-    ends = λ k e. let same : k ≡ i = omega arith in ap (λ x. node (end_vertex mesh (easts mesh s x))) same ∙ ends;
+    ends = λ k e. let same : k ≡ i = omega arith in cc;
   }
 
   pub walk_never : (s i : ℕ) → s < mesh.count → cut s ≡ true → node (mesh.from s) ≡ true
       → ((k : ℕ) → k < i → node (end_vertex mesh (easts mesh s k)) ≡ false) → mesh.count ≤ i → ⊥
   walk_never s i l on begins inner far =
-      by_round (comes_back mesh.count (easts mesh s) (λ k h. (walked s i l on inner k (omega arith)).0)
+      let low : (k : ℕ) → k ≤ i → easts mesh s k < mesh.count = λ k h. (walked s i l on inner k h).0 in
+      let goes : (k : ℕ) → k < i → GoesStraight mesh cut (easts mesh s k) = λ k h. on_from (easts mesh s k)
+      (low k (omega arith)) (walked s i l on inner k (omega arith)).1 (inner k h) in
+      let r = comes_back mesh.count (easts mesh s) (λ k h. (walked s i l on inner k (omega arith)).0)
       (λ a b la lb e. east_same (easts mesh s a) (easts mesh s b) (low a (omega arith)) (low b (omega arith))
-      (goes a (omega arith)).over (goes b (omega arith)).over e))
-    where
-      low : (k : ℕ) → k ≤ i → easts mesh s k < mesh.count
-      low k h = (walked s i l on inner k h).0
-
-      goes : (k : ℕ) → k < i → GoesStraight mesh cut (easts mesh s k)
-      goes k h = on_from (easts mesh s k) (low k (omega arith)) (walked s i l on inner k (omega arith)).1 (inner k h)
-
-      by_round : (k : ℕ) × (k < mesh.count) × (easts mesh s (suc k) ≡ s) → ⊥
-      by_round r = let h : r.0 < i = omega (arith, r.1) in
-          false≢true (sym (inner r.0 h)
-          ∙ (ap node (sym (goes r.0 h).from) ∙ (ap (λ x. node (mesh.from x)) r.2 ∙ begins)))
+      (goes a (omega arith)).over (goes b (omega arith)).over e) in
+      let h : r.0 < i = omega (arith, r.1) in
+      false≢true (sym (inner r.0 h) ∙ (ap node (sym (goes r.0 h).from) ∙ (ap (λ x. node (mesh.from x)) r.2 ∙ begins)))
 
   -- A run.
   pub run_low : (s n : ℕ) → IsRun mesh cut node s n → (k : ℕ) → k < n → easts mesh s k < mesh.count
   run_low s n run zero l = run.low
   run_low s n run (suc k) l =
-      (on_from (easts mesh s k) (run_low s n run k (omega arith)) (run.on k (omega arith)) (run.inside k l)).low
+      (on_from _ (run_low s n run k (omega arith)) (run.on k (omega arith)) (run.inside k l)).low
 
   pub run_goes : (s n : ℕ) → IsRun mesh cut node s n → (k : ℕ) → suc k < n → GoesStraight mesh cut (easts mesh s k)
-  run_goes s n run k l = on_from (easts mesh s k) (run_low s n run k (omega arith)) (run.on k (omega arith))
-      (run.inside k l)
+  run_goes s n run k l = on_from _ (run_low s n run k (omega arith)) (run.on k (omega arith)) (run.inside k l)
 
   pub run_inner : (s n : ℕ) → IsRun mesh cut node s n → (k : ℕ) → suc k < n → node (mesh.from (easts mesh s (suc k)))
       ≡ false
@@ -125,13 +111,10 @@ module _ (mesh : HalfEdges) (laws : IsQuadManifold mesh) (cut : Cut) (full : IsC
   pub same_place : (s n r m : ℕ) → IsRun mesh cut node s n → IsRun mesh cut node r m → (k j : ℕ) → k < n → j < m
       → easts mesh s k ≡ easts mesh r j → (s ≡ r) × (k ≡ j)
   same_place s n r m one two zero zero lk lj e = (e, refl)
-  same_place s n r m one two zero (suc j) lk lj e =
-      absurd (false≢true (sym (run_inner r m two j lj) ∙ (ap (λ x. node (mesh.from x)) (sym e) ∙ one.begins)))
-  same_place s n r m one two (suc k) zero lk lj e =
-      absurd (false≢true (sym (run_inner s n one k lk) ∙ (ap (λ x. node (mesh.from x)) e ∙ two.begins)))
+  same_place s n r m one two zero (suc j) lk lj e = absurd (cc (run_inner r m two j lj))
+  same_place s n r m one two (suc k) zero lk lj e = absurd (cc (run_inner s n one k lk))
   same_place s n r m one two (suc k) (suc j) lk lj e =
-      let before : easts mesh s k ≡ easts mesh r j =
-      east_same (easts mesh s k) (easts mesh r j) (run_low s n one k (omega arith))
+      let before : easts mesh s k ≡ easts mesh r j = east_same _ _ (run_low s n one k (omega arith))
       (run_low r m two j (omega arith)) (run_goes s n one k lk).over (run_goes r m two j lj).over e in
       let p : (s ≡ r) × (k ≡ j) = same_place s n r m one two k j (omega arith) (omega arith) before in
       (p.0, ap suc p.1)
@@ -143,8 +126,8 @@ module _ (mesh : HalfEdges) (laws : IsQuadManifold mesh) (cut : Cut) (full : IsC
   ]
     where
       shorter : (n m : ℕ) → IsRun mesh cut node s n → IsRun mesh cut node s m → n < m → ⊥
-      shorter zero m one two l = absurd (let some : 0 < 0 = one.some in omega arith)
-      shorter (suc k) m one two l = false≢true (sym (two.inside k (omega arith)) ∙ one.ends k refl)
+      shorter zero m one two l = absurd (let some = one.some in omega arith)
+      shorter (suc k) m one two l = cc (two.inside k (omega arith), one.ends k refl)
 
   -- Where the cut goes straight on over a vertex that is no node, both darts have twins or none has, and the twins go
   -- straight back.
@@ -159,77 +142,56 @@ module _ (mesh : HalfEdges) (laws : IsQuadManifold mesh) (cut : Cut) (full : IsC
   pub doubled : (d u : ℕ) → d < mesh.count → cut d ≡ true → node (end_vertex mesh d) ≡ false → mesh.twin d ≡ Some u
       → IsDouble d u
   doubled d u l on inner tw =
-      by_cross (nodes.through u d lu (full.alike d u l tw ∙ on) (laws.twin_twin d u l tw)
-      (ap node (laws.twin_ends d u l tw).0 ∙ inner))
-    where
-      lu : u < mesh.count
-      lu = laws.twin_low d u l tw
-
-      at : (a b c : ℕ) → IsCross mesh u a b c → IsDouble d u
-      at a b c is =
-          let la : a < mesh.count = turn_low mesh laws u a lu is.first in
-          let lb : b < mesh.count = turn_low mesh laws a b la is.second in
-          let lc : c < mesh.count = turn_low mesh laws b c lb is.third in
-          let last : mesh.prev c ≡ d =
-          same_Some (mesh.prev c) d (sym (laws.twin_twin (mesh.prev c) u (laws.prev_low c lc) is.last)
-          ∙ laws.twin_twin d u l tw) in
-          let right : c ≡ mesh.next d = sym (laws.next_prev c) ∙ ap mesh.next last in
-          let over : mesh.twin (mesh.next d) ≡ Some (mesh.prev b) = ap mesh.twin (sym right)
-          ∙ laws.twin_twin (mesh.prev b) c (laws.prev_low b lb) is.third in
-          let ahead : step_east mesh d ≡ b = ap (λ o. mesh.next (or_zero o)) over ∙ laws.next_prev b in
-          let tb : mesh.twin b ≡ Some (mesh.prev a) = laws.twin_twin (mesh.prev a) b (laws.prev_low a la) is.second in
-          let ta : mesh.twin a ≡ Some (mesh.prev u) = laws.twin_twin (mesh.prev u) a (laws.prev_low u lu) is.first in
-          let home : step_east mesh (mesh.prev a) ≡ u = ap (λ x. mesh.next (or_zero (mesh.twin x))) (laws.next_prev a)
-          ∙ (ap (λ o. mesh.next (or_zero o)) ta ∙ laws.next_prev u) in
-          record {
-            after = mesh.prev a;
-            is = ap mesh.twin ahead ∙ tb;
-            low = laws.prev_low a la;
-            back = home;
-            over = ap mesh.twin (laws.next_prev a) ∙ (ta ∙ ap (λ x. Some (mesh.prev x)) (sym home));
-            apart = λ e. is.apart (e ∙ ahead);
-          }
-
-      by_cross : HasCross mesh u → IsDouble d u
-      by_cross c = at c.0 c.1 c.2 c.3
+      let lu = laws.twin_low d u l tw in
+      let back = laws.twin_twin d u l tw in
+      let (a, b, c, is) =
+      nodes.through u d lu (full.alike d u l tw ∙ on) back (cc ((laws.twin_ends d u l tw).0, inner)) in
+      let la = turn_low mesh laws u a lu is.first in
+      let lb = turn_low mesh laws a b la is.second in
+      let lc = turn_low mesh laws b c lb is.third in
+      let last : mesh.prev c ≡ d = cc (laws.twin_twin (mesh.prev c) u (laws.prev_low c lc) is.last, back) in
+      let right : c ≡ mesh.next d = cc (laws.next_prev c, last) in
+      let over = ap mesh.twin (sym right) ∙ laws.twin_twin (mesh.prev b) c (laws.prev_low b lb) is.third in
+      let ahead : step_east mesh d ≡ b = ap (λ o. mesh.next (or_zero o)) over ∙ laws.next_prev b in
+      let tb = laws.twin_twin (mesh.prev a) b (laws.prev_low a la) is.second in
+      let ta = laws.twin_twin (mesh.prev u) a (laws.prev_low u lu) is.first in
+      let home : step_east mesh (mesh.prev a) ≡ u = cc (laws.next_prev a, ta, laws.next_prev u) in
+      record {
+        after = mesh.prev a;
+        is = cc (ahead, tb);
+        low = laws.prev_low a la;
+        back = home;
+        over = cc (laws.next_prev a, ta, home);
+        apart = λ e. is.apart (cc (e, ahead));
+      }
 
   twin_before : (d e : ℕ) → d < mesh.count → GoesStraight mesh cut d → node (end_vertex mesh d) ≡ false
       → mesh.twin (step_east mesh d) ≡ Some e → (u : ℕ) × (mesh.twin d ≡ Some u)
   twin_before d e l goes inner tw =
-      by_cross (nodes.through (step_east mesh d) e goes.low goes.on tw (ap node goes.from ∙ inner))
-    where
-      at : (a b c : ℕ) → IsCross mesh (step_east mesh d) a b c → (u : ℕ) × (mesh.twin d ≡ Some u)
-      at a b c is =
-          let first : a ≡ mesh.next d =
-          same_Some a (mesh.next d) (sym is.first ∙ laws.twin_twin (mesh.next d) (mesh.prev (step_east mesh d))
-          (laws.next_low d l) goes.over) in
-          (b, ap mesh.twin (sym (laws.prev_next d) ∙ ap mesh.prev (sym first)) ∙ is.second)
-
-      by_cross : HasCross mesh (step_east mesh d) → (u : ℕ) × (mesh.twin d ≡ Some u)
-      by_cross c = at c.0 c.1 c.2 c.3
+      let (a, b, c, is) = nodes.through (step_east mesh d) e goes.low goes.on tw (ap node goes.from ∙ inner) in
+      let first : a ≡ mesh.next d =
+      cc (is.first, laws.twin_twin (mesh.next d) (mesh.prev (step_east mesh d)) (laws.next_low d l) goes.over) in
+      (b, cc (laws.prev_next d, first, is.second))
 
   -- Where one dart of a run has a twin, each has.
   twins_after : (s n : ℕ) → IsRun mesh cut node s n → (k : ℕ) → (u : ℕ) × (mesh.twin (easts mesh s k) ≡ Some u)
       → (j : ℕ) → k ≤ j → j < n → (u : ℕ) × (mesh.twin (easts mesh s j) ≡ Some u)
   twins_after s n run k u zero h l = let e : k ≡ 0 = omega arith in
       (u.0, ap (λ x. mesh.twin (easts mesh s x)) (sym e) ∙ u.1)
-  twins_after s n run k u (suc j) h l = by_place (cases_eq k (suc j)) (twins_after s n run k u j)
-    where
-      by_place : (k ≡ suc j) ⊎ (k ≡ suc j → ⊥) → (k ≤ j → j < n → (u : ℕ) × (mesh.twin (easts mesh s j) ≡ Some u))
-          → (u : ℕ) × (mesh.twin (easts mesh s (suc j)) ≡ Some u)
-      by_place (inl e) rest = (u.0, ap (λ x. mesh.twin (easts mesh s x)) (sym e) ∙ u.1)
-      by_place (inr ne) rest =
-          let b : (u : ℕ) × (mesh.twin (easts mesh s j) ≡ Some u) = rest (omega arith) (omega arith) in
-          let d : IsDouble (easts mesh s j) b.0 = doubled (easts mesh s j) b.0 (run_low s n run j (omega arith))
-          (run.on j (omega arith)) (run.inside j l) b.1 in
-          (d.after, d.is)
+  twins_after s n run k u (suc j) h l = elim (cases_eq k (suc j)) [
+    | inl e ↦ (u.0, ap (λ x. mesh.twin (easts mesh s x)) (sym e) ∙ u.1)
+    | inr ne ↦
+        let b = twins_after s n run k u j (omega arith) (omega arith) in
+        let d = doubled (easts mesh s j) b.0 (run_low s n run j (omega arith)) (run.on j (omega arith))
+        (run.inside j l) b.1 in
+        (d.after, d.is)
+  ]
 
   twins_before : (s n : ℕ) → IsRun mesh cut node s n → (k : ℕ) → k < n → (u : ℕ) × (mesh.twin (easts mesh s k) ≡ Some u)
       → (u : ℕ) × (mesh.twin s ≡ Some u)
   twins_before s n run zero l u = u
-  twins_before s n run (suc k) l u =
-      twins_before s n run k (omega arith) (twin_before (easts mesh s k) u.0 (run_low s n run k (omega arith))
-      (run_goes s n run k l) (run.inside k l) u.1)
+  twins_before s n run (suc k) l u = twins_before s n run k (omega arith)
+      (twin_before (easts mesh s k) u.0 (run_low s n run k (omega arith)) (run_goes s n run k l) (run.inside k l) u.1)
 
   pub twins_all : (s n : ℕ) → IsRun mesh cut node s n → (k u : ℕ) → k < n → mesh.twin (easts mesh s k) ≡ Some u
       → (j : ℕ) → j < n → (v : ℕ) × (mesh.twin (easts mesh s j) ≡ Some v)
@@ -246,21 +208,16 @@ module _ (mesh : HalfEdges) (laws : IsQuadManifold mesh) (cut : Cut) (full : IsC
       by_last e far last = (last.0, record { run = is_run; twin = twins })
         where
           twins : (k j : ℕ) → k + suc j ≡ n → mesh.twin (easts mesh s k) ≡ Some (easts mesh last.0 j)
-          twins k zero sum = let same : k ≡ e = omega arith in ap (λ x. mesh.twin (easts mesh s x)) same ∙ last.1
-          twins k (suc j) sum = step (twins (suc k) j (omega arith))
-            where
-              step : mesh.twin (easts mesh s (suc k)) ≡ Some (easts mesh last.0 j) → mesh.twin (easts mesh s k)
-                  ≡ Some (easts mesh last.0 (suc j))
-              step next =
-                  let lk : suc k < n = omega arith in
-                  let b : (u : ℕ) × (mesh.twin (easts mesh s k) ≡ Some u) =
-                  twin_before (easts mesh s k) (easts mesh last.0 j) (run_low s n run k (omega arith))
-                  (run_goes s n run k lk) (run.inside k lk) next in
-                  let d : IsDouble (easts mesh s k) b.0 = doubled (easts mesh s k) b.0 (run_low s n run k (omega arith))
-                  (run.on k (omega arith)) (run.inside k lk) b.1 in
-                  let same : d.after ≡ easts mesh last.0 j =
-                  same_Some d.after (easts mesh last.0 j) (sym d.is ∙ next) in
-                  b.1 ∙ ap Some (sym d.back ∙ ap (step_east mesh) same)
+          twins k zero sum = let same : k ≡ e = omega arith in cc (same, last.1)
+          twins k (suc j) sum =
+              let next = twins (suc k) j (omega arith) in
+              let lk : suc k < n = omega arith in
+              let b = twin_before (easts mesh s k) (easts mesh last.0 j) (run_low s n run k (omega arith))
+              (run_goes s n run k lk) (run.inside k lk) next in
+              let d = doubled (easts mesh s k) b.0 (run_low s n run k (omega arith)) (run.on k (omega arith))
+              (run.inside k lk) b.1 in
+              let same : d.after ≡ easts mesh last.0 j = cc (d.is, next) in
+              b.1 ∙ ap Some (sym d.back ∙ ap (step_east mesh) same)
 
           other : (j : ℕ) → j < n → (k : ℕ) × (k + suc j ≡ n)
           other j lj = (n - suc j, omega arith)
@@ -290,21 +247,15 @@ module _ (mesh : HalfEdges) (laws : IsQuadManifold mesh) (cut : Cut) (full : IsC
   mirror : (g s n i j : ℕ) → IsRun mesh cut node s n → j ≡ i + g → j < n → mesh.twin (easts mesh s i)
       ≡ Some (easts mesh s j) → ⊥
   mirror zero s n i j run e l tw = let same : j ≡ i = omega arith in
-      no_self mesh laws (easts mesh s i) (run_low s n run i (omega arith)) (tw ∙ ap (λ x. Some (easts mesh s x)) same)
+      no_self mesh laws (easts mesh s i) (run_low s n run i (omega arith)) (cc)
   mirror (suc zero) s n i j run e l tw = let same : j ≡ suc i = omega arith in
-      (doubled (easts mesh s i) (easts mesh s j) (run_low s n run i (omega arith)) (run.on i (omega arith))
+      (doubled _ _ (run_low s n run i (omega arith)) (run.on i (omega arith))
       (run.inside i (omega arith)) tw).apart (ap (easts mesh s) same)
   mirror (suc (suc g)) s n i zero run e l tw = absurd (omega arith)
   mirror (suc (suc g)) s n i (suc j) run e l tw =
-      inner (doubled (easts mesh s i) (easts mesh s (suc j)) (run_low s n run i (omega arith)) (run.on i (omega arith))
-      (run.inside i (omega arith)) tw) (mirror g s n (suc i) j run (omega arith) (omega arith))
-    where
-      inner : IsDouble (easts mesh s i) (easts mesh s (suc j))
-          → (mesh.twin (easts mesh s (suc i)) ≡ Some (easts mesh s j) → ⊥) → ⊥
-      inner d rest =
-          let same : d.after ≡ easts mesh s j = east_same d.after (easts mesh s j) d.low
-          (run_low s n run j (omega arith)) d.over (run_goes s n run j l).over d.back in
-          rest (d.is ∙ ap Some same)
+      let d = doubled _ _ (run_low s n run i (omega arith)) (run.on i (omega arith)) (run.inside i (omega arith)) tw in
+      let same = east_same _ _ d.low (run_low s n run j (omega arith)) d.over (run_goes s n run j l).over d.back in
+      mirror g s n (suc i) j run (omega arith) (omega arith) (cc (d.is, same))
 
   pub no_mirror : (s n i j : ℕ) → IsRun mesh cut node s n → i < n → j < n → mesh.twin (easts mesh s i)
       ≡ Some (easts mesh s j) → ⊥

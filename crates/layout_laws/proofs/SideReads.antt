@@ -13,6 +13,5 @@ pub read_side : (sides : List (List Side)) (p k : ℕ) (four : List Side) (side 
     → get_or (get_or (map (map arcs_of) sides) p []) k [] ≡ (get_or four k side).arcs.items
 read_side sides p k four side l is many lk =
     let found : get_or (map (map arcs_of) sides) p [] ≡ map arcs_of four =
-    get_or-map (map arcs_of) sides p four [] l ∙ ap (map arcs_of) (sym is) in
-    ap (λ (xs : List (List SideArc)). get_or xs k []) found
-    ∙ get_or-map arcs_of four k side [] (omega (arith, many, lk, ap length found, length-map four arcs_of))
+    cc (get_or-map (map arcs_of) sides p four [] l) in
+    cc (get_or-map arcs_of four k side [] (omega (arith, many, lk, ap length found, length-map four arcs_of)))

@@ -27,44 +27,34 @@ module _ (mesh : HalfEdges) (laws : IsQuadManifold mesh) (cut : Cut) (full : IsC
     → Bool) (nodes : AreNodes mesh cut node) where
   -- A named run is an arc.
   pub named_arc : (s n : ℕ) → IsNamed mesh cut node s n → IsArc mesh cut node (run_list mesh s n)
-  named_arc s n named = record {
-    run = subst (λ (x : ℕ). IsRun mesh cut node x (length (run_list mesh s n))) (sym first)
-        (subst (λ (m : ℕ). IsRun mesh cut node s m) (sym (run_long mesh s n)) named.run);
-    each = λ k l. let lk : k < n = omega (arith, run_long mesh s n) in run_entry mesh s n k lk
-        ∙ ap (λ x. easts mesh x k) (sym first);
-    named = λ k t l tw. let lk : k < n = omega (arith, run_long mesh s n) in
-        named.named k t lk (ap mesh.twin (sym (run_entry mesh s n k lk)) ∙ tw);
-  }
-    where
-      first : get_or (run_list mesh s n) 0 0 ≡ s
-      first = run_entry mesh s n 0 named.run.some
+  named_arc s n named =
+      let first = run_entry mesh s n 0 named.run.some in
+      record {
+        run = rw (first, run_long mesh s n) named.run;
+        each = λ k l. let lk : k < n = omega (arith, run_long mesh s n) in
+            cc (run_entry mesh s n k lk);
+        named = λ k t l tw. let lk : k < n = omega (arith, run_long mesh s n) in
+            named.named k t lk (cc (run_entry mesh s n k lk));
+      }
 
   -- A use is a run, along the arc or along its twins.
   pub use_run : (darts : List ℕ) (forward : Bool) (d : ℕ) → IsArc mesh cut node darts → LiesAt mesh darts forward 0 d
       → IsUse mesh cut node darts forward d
   use_run darts true d arc at = record {
-    run = subst (λ (x : ℕ). IsRun mesh cut node x (length darts)) (sym at) arc.run;
+    run = rw at arc.run;
     lies = λ o l. ap (λ x. easts mesh x o) at ∙ sym (arc.each o l);
   }
   use_run darts false d arc at =
-      by_back (back_run mesh laws cut full node nodes (get_or darts 0 0) (length darts) arc.run (length darts - 1) d
-      (omega (arith, arc.run.some)) last)
-    where
-      last : mesh.twin (easts mesh (get_or darts 0 0) (length darts - 1)) ≡ Some d
-      last = ap mesh.twin (sym (arc.each (length darts - 1) (omega (arith, arc.run.some))))
-          ∙ (ap (λ x. mesh.twin (get_or darts x 0)) (omega arith) ∙ at)
-
-      by_back : (r : ℕ) × IsBack mesh cut node (get_or darts 0 0) (length darts) r → IsUse mesh cut node darts false d
-      by_back b = here b.0 b.1 (same_Some b.0 d (sym (b.1.twin (length darts - 1) 0 (omega (arith, arc.run.some)))
-          ∙ last))
-        where
-          here : (r : ℕ) → IsBack mesh cut node (get_or darts 0 0) (length darts) r → r ≡ d
-              → IsUse mesh cut node darts false d
-          here r back e = record {
-            run = subst (λ (x : ℕ). IsRun mesh cut node x (length darts)) e back.run;
-            lies = λ o l. ap mesh.twin (arc.each (length darts - 1 - o) (omega arith))
-                ∙ (back.twin (length darts - 1 - o) o (omega arith) ∙ ap (λ x. Some (easts mesh x o)) e);
-          }
+      let last = ap mesh.twin (sym (arc.each (length darts - 1) (omega arith)))
+      ∙ (ap (λ x. mesh.twin (get_or darts x 0)) (omega arith) ∙ at) in
+      let (r, back) = back_run mesh laws cut full node nodes (get_or darts 0 0) (length darts) arc.run
+      (length darts - 1) d (omega arith) last in
+      let e : r ≡ d = cc (back.twin (length darts - 1) 0 (omega arith), last) in
+      record {
+        run = rw e at back.run;
+        lies = λ o l. ap mesh.twin (arc.each (length darts - 1 - o) (omega arith))
+            ∙ (back.twin (length darts - 1 - o) o (omega arith) ∙ ap (λ x. Some (easts mesh x o)) e);
+      }
 
   -- A run is named, or its reverse is.
   search : (s n m : ℕ) → m ≤ n → ((k : ℕ) × (t : ℕ) × (k < n) × (mesh.twin (easts mesh s k) ≡ Some t)
@@ -81,24 +71,15 @@ module _ (mesh : HalfEdges) (laws : IsQuadManifold mesh) (cut : Cut) (full : IsC
       by_last (inr none) None is =
           inr (λ k t l tw. elim (cases_lt k m) [
             | inl b ↦ none k t b tw
-            | inr g ↦ absurd (no_twin k t (omega arith) tw)
+            | inr g ↦ let e : k ≡ m = omega arith in absurd (cc (e, is, tw))
           ])
-        where
-          no_twin : (k t : ℕ) → k ≡ m → mesh.twin (easts mesh s k) ≡ Some t → ⊥
-          no_twin k t e tw = let clash : None ≡ Some t = sym is ∙ (ap (λ x. mesh.twin (easts mesh s x)) (sym e) ∙ tw) in
-              absurd cc
       by_last (inr none) (Some u) is = elim (cases_lt (run_name mesh s n) u) [
         | inl less ↦ inr (λ k t l tw. elim (cases_lt k m) [
           | inl b ↦ none k t b tw
-          | inr g ↦ later k t (omega arith) tw less
+          | inr g ↦ let e : k ≡ m = omega arith in let same : u ≡ t = cc (e, is, tw) in omega arith
         ])
         | inr more ↦ inl (m, u, omega arith, is, more)
       ]
-        where
-          later : (k t : ℕ) → k ≡ m → mesh.twin (easts mesh s k) ≡ Some t → run_name mesh s n < u
-              → run_name mesh s n < t
-          later k t e tw less = let same : u ≡ t =
-              same_Some u t (sym is ∙ (ap (λ x. mesh.twin (easts mesh s x)) (sym e) ∙ tw)) in omega arith
 
   pub named_or_back : (s n : ℕ) → IsRun mesh cut node s n → IsNamed mesh cut node s n
       ⊎ ((r : ℕ) × IsBack mesh cut node s n r × IsNamed mesh cut node r n)
@@ -116,8 +97,7 @@ module _ (mesh : HalfEdges) (laws : IsQuadManifold mesh) (cut : Cut) (full : IsC
           least : run_name mesh b.0 n ≤ t
           least =
               let place : k + suc (n - suc k) ≡ n = omega arith in
-              let same : t ≡ easts mesh b.0 (n - suc k) =
-              same_Some t (easts mesh b.0 (n - suc k)) (sym tw ∙ b.1.twin k (n - suc k) place) in
+              let same : t ≡ easts mesh b.0 (n - suc k) = cc (tw, b.1.twin k (n - suc k) place) in
               omega (
                 arith,
                 least_high (run_list mesh b.0 n) (n - suc k) (omega (arith, run_long mesh b.0 n)),
@@ -132,9 +112,8 @@ module _ (mesh : HalfEdges) (laws : IsQuadManifold mesh) (cut : Cut) (full : IsC
           ]
             where
               back : u ≡ easts mesh s (n - suc j)
-              back = same_Some u (easts mesh s (n - suc j)) (sym twu ∙ laws.twin_twin (easts mesh s (n - suc j))
-                  (easts mesh b.0 j) (run_low mesh laws cut full node nodes s n run (n - suc j) (omega arith))
-                  (b.1.twin (n - suc j) j (omega arith)))
+              back = cc (twu, laws.twin_twin (easts mesh s (n - suc j)) (easts mesh b.0 j) (run_low mesh laws cut full
+                  node nodes s n run (n - suc j) (omega arith)) (b.1.twin (n - suc j) j (omega arith)))
 
               above : run_name mesh s n ≤ u
               above = omega (
@@ -147,25 +126,16 @@ module _ (mesh : HalfEdges) (laws : IsQuadManifold mesh) (cut : Cut) (full : IsC
               clash : u ≤ run_name mesh b.0 n → ⊥
               clash more =
                   let e : t ≡ easts mesh s (n - suc j) = omega (arith, above, least, low, back) in
-                  no_mirror mesh laws cut full node nodes s n k (n - suc j) run l (omega arith) (tw ∙ ap Some e)
+                  no_mirror mesh laws cut full node nodes s n k (n - suc j) run l (omega arith) (cc (tw, e))
 
   -- Named runs with one name are one.
   pub same_named : (s n r m : ℕ) → IsNamed mesh cut node s n → IsNamed mesh cut node r m
       → run_name mesh s n ≡ run_name mesh r m → (s ≡ r) × (n ≡ m)
   same_named s n r m one two e =
-      let a : (k : ℕ) × (k < length (run_list mesh s n)) × (get_or (run_list mesh s n) k 0 ≡ run_name mesh s n) =
-      least_there (run_list mesh s n) (omega (arith, run_long mesh s n, one.run.some)) in
-      let b : (k : ℕ) × (k < length (run_list mesh r m)) × (get_or (run_list mesh r m) k 0 ≡ run_name mesh r m) =
-      least_there (run_list mesh r m) (omega (arith, run_long mesh r m, two.run.some)) in
-      by_places a.0 b.0 (omega (arith, a.1, run_long mesh s n)) (omega (arith, b.1, run_long mesh r m)) a.2 b.2
-    where
-      by_places : (k j : ℕ) → k < n → j < m → get_or (run_list mesh s n) k 0 ≡ run_name mesh s n
-          → get_or (run_list mesh r m) j 0 ≡ run_name mesh r m → (s ≡ r) × (n ≡ m)
-      by_places k j lk lj ek ej =
-          let same : easts mesh s k ≡ easts mesh r j = sym (run_entry mesh s n k lk)
-          ∙ (ek ∙ (e ∙ (sym ej ∙ run_entry mesh r m j lj))) in
-          let start : s ≡ r = (same_place mesh laws cut full node nodes s n r m one.run two.run k j lk lj same).0 in (
-            start,
-            same_length mesh laws cut full node nodes s n m one.run
-                (subst (λ (x : ℕ). IsRun mesh cut node x m) (sym start) two.run),
-          )
+      let (k, k_low, ek) = least_there (run_list mesh s n) (omega (arith, run_long mesh s n, one.run.some)) in
+      let (j, j_low, ej) = least_there (run_list mesh r m) (omega (arith, run_long mesh r m, two.run.some)) in
+      let lk : k < n = omega (arith, run_long mesh s n) in
+      let lj : j < m = omega (arith, run_long mesh r m) in
+      let same = sym (run_entry mesh s n k lk) ∙ (cc (ek, e, ej, run_entry mesh r m j lj)) in
+      let start = (same_place mesh laws cut full node nodes s n r m one.run two.run k j lk lj same).0 in
+      (start, same_length mesh laws cut full node nodes s n m one.run (rw start two.run))
