@@ -210,10 +210,9 @@ module _ (l : Gluing) (x : Lengths) where
 
     -- Darts with one course are one.
     inner_back : (p i j : ℕ) (w : Way) → inner_dart (inner_course p i j w) ≡ dart p i j w
-    inner_back p i j south = refl
     inner_back p i j east = dart_is p east (omega arith) refl
     inner_back p i j north = dart_is p north refl (omega arith)
-    inner_back p i j west = refl
+    inner_back p i j _ = refl
 
     pub inner_no_arc : (p i j : ℕ) (w : Way) → is_arc (inner_course p i j w).edge ≡ false
     inner_no_arc p i j = elim [ south ↦ refl | east ↦ refl | north ↦ refl | west ↦ refl ]

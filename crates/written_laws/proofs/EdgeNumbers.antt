@@ -96,21 +96,17 @@ module _ (l : Gluing) (x : Lengths) where
   -- Each number below the total is that of an edge.
   pub edge_onto : (n : ℕ) → n < edge_total → (e : Edge) × IsEdge l x e × (edge_number e ≡ n)
   edge_onto n low = elim (cases_lt n (count_below x l.arcs)) [
-    | inl less ↦ on_arcs less
+    | inl less ↦ by_arc (run_here x l.arcs n less)
     | inr more ↦ elim (cases_lt n (count_below x l.arcs + count_below flats l.patches)) [
-      | inl less ↦ on_flats more less
-      | inr most ↦ on_steeps most
+      | inl less ↦ by_flat (omega (arith, more))
+          (run_here flats l.patches (n - count_below x l.arcs) (omega (arith, more, less)))
+      | inr most ↦ by_steep (omega (arith, most)) (run_here steeps l.patches
+          (n - (count_below x l.arcs + count_below flats l.patches)) (omega (arith, most, low)))
     ]
   ]
     where
-      on_arcs : n < count_below x l.arcs → (e : Edge) × IsEdge l x e × (edge_number e ≡ n)
-      on_arcs less =
-          let h : IsInRun x l.arcs n (run_at (count_below x) l.arcs n)
-          (n - count_below x (run_at (count_below x) l.arcs n)) = run_here x l.arcs n less in (
-            on_arc (run_at (count_below x) l.arcs n) (n - count_below x (run_at (count_below x) l.arcs n)),
-            (h.low, h.inside),
-            sym h.place,
-          )
+      by_arc : {a o : ℕ} → IsInRun x l.arcs n a o → (e : Edge) × IsEdge l x e × (edge_number e ≡ n)
+      by_arc {a} {o} h = (on_arc a o, (h.low, h.inside), sym h.place)
 
       by_flat : {m p o : ℕ} → n ≡ count_below x l.arcs + m → IsInRun flats l.patches m p o → (e : Edge) × IsEdge l x e
           × (edge_number e ≡ n)
@@ -124,11 +120,6 @@ module _ (l : Gluing) (x : Lengths) where
             omega (arith, is, h.place, r.2, place),
           )
 
-      on_flats : count_below x l.arcs ≤ n → n < count_below x l.arcs + count_below flats l.patches → (e : Edge)
-          × IsEdge l x e × (edge_number e ≡ n)
-      on_flats more less = by_flat
-          (omega (arith, more)) (run_here flats l.patches (n - count_below x l.arcs) (omega (arith, more, less)))
-
       by_steep : {m p o : ℕ} → n ≡ count_below x l.arcs + count_below flats l.patches + m
           → IsInRun steeps l.patches m p o → (e : Edge) × IsEdge l x e × (edge_number e ≡ n)
       by_steep {p} {o} is h =
@@ -139,29 +130,21 @@ module _ (l : Gluing) (x : Lengths) where
             omega (arith, is, h.place, r.2, column),
           )
 
-      on_steeps : count_below x l.arcs + count_below flats l.patches ≤ n → (e : Edge) × IsEdge l x e
-          × (edge_number e ≡ n)
-      on_steeps most = by_steep (omega (arith, most)) (run_here steeps l.patches
-          (n - (count_below x l.arcs + count_below flats l.patches)) (omega (arith, most, low)))
-
   -- Each number below that of the vertices is that of a point.
   pub point_onto : (n : ℕ) → n < vertices l x → (a : Point) × IsPoint l x a × (vertex_number l x a ≡ n)
   point_onto n low = elim (cases_lt n l.nodes) [
     | inl less ↦ (node n, less, refl)
     | inr more ↦ elim (cases_lt n (l.nodes + before_arc x l.arcs)) [
-      | inl less ↦ on_arcs more less
-      | inr most ↦ on_patches most
+      | inl less ↦ by_arc (omega (arith, more))
+          (run_here (λ b. x b - 1) l.arcs (n - l.nodes) (omega (arith, more, less)))
+      | inr most ↦ by_patch (omega (arith, most))
+          (run_here (inner_points l x) l.patches (n - (l.nodes + before_arc x l.arcs)) (omega (arith, most, low)))
     ]
   ]
     where
       by_arc : {m a o : ℕ} → n ≡ l.nodes + m → IsInRun (λ b. x b - 1) l.arcs m a o → (a : Point) × IsPoint l x a
           × (vertex_number l x a ≡ n)
       by_arc {a} {o} is h = (along a (o + 1), (h.low, omega arith, omega (arith, h.inside)), omega (arith, is, h.place))
-
-      on_arcs : l.nodes ≤ n → n < l.nodes + before_arc x l.arcs → (a : Point) × IsPoint l x a
-          × (vertex_number l x a ≡ n)
-      on_arcs more less = by_arc
-          (omega (arith, more)) (run_here (λ b. x b - 1) l.arcs (n - l.nodes) (omega (arith, more, less)))
 
       by_patch : {m p o : ℕ} → n ≡ l.nodes + before_arc x l.arcs + m → IsInRun (inner_points l x) l.patches m p o
           → (a : Point) × IsPoint l x a × (vertex_number l x a ≡ n)
@@ -175,7 +158,3 @@ module _ (l : Gluing) (x : Lengths) where
             (h.low, omega arith, omega (arith, r.0), omega arith, omega (arith, r.1)),
             omega (arith, is, h.place, r.2, place),
           )
-
-      on_patches : l.nodes + before_arc x l.arcs ≤ n → (a : Point) × IsPoint l x a × (vertex_number l x a ≡ n)
-      on_patches most = by_patch (omega (arith, most))
-          (run_here (inner_points l x) l.patches (n - (l.nodes + before_arc x l.arcs)) (omega (arith, most, low)))

@@ -2,7 +2,7 @@
 use Rattle.std.proofs.Common.{◌≡◌, ◌⊎◌, ℕ, zero, suc, ◌+◌, ◌-◌, ◌<◌, Bool, true, false, not, cond, refl, sym, ◌∙◌}
 use Rattle.std.proofs.Common.{ap, subst, inl, inr, arith}
 use Rattle.std.proofs.lemmas.Bool.{cases_eq}
-use Rattle.def_layout.specs.Gluings.{Way, south, east, north, west, side_before, Gluing, Slot, IsSlot, use_of}
+use Rattle.def_layout.specs.Gluings.{Way, side_after, side_before, Gluing, Slot, IsSlot, use_of}
 use Rattle.def_layout.specs.Gluings.{use_before, slot_before, start_node}
 use Rattle.def_layout.specs.Surfaces.{HasWholeSides, IsSurface}
 use Rattle.def_layout.specs.Fans.{IsTurn, SlotTurns, HasFans}
@@ -13,7 +13,21 @@ use Rattle.written_laws.proofs.Sides.{slot, use_begins, use_inner, reach_low, us
 use Rattle.written_laws.proofs.Turning.{IsTurning}
 use Rattle.written_laws.proofs.Rims.{column_of, row_of, rim_patch, rim_starts, rim_on, rim_round}
 use Rattle.written_laws.proofs.Rims.{darts_related, IsInner}
+use Rattle.written_laws.proofs.{Courses.alike_or_turned, Rims.after_before}
 use Rattle.written_laws.proofs.Borders.{at_low, at_is, IsAt, sort_dart, inner_from, use_not_inside, before_is}
+
+-- Places along an arc that is used the same way round, and the other way round.
+alike_place : (f : Bool) {g : Bool} {n m o k : ℕ} → f ≡ g → n ≡ m → o < n → k < m
+    → cond f o (n - o) ≡ cond g k (m - k) → o ≡ k
+alike_place true {g} {n} {m} {o} {k} ways long o_low k_low e = e ∙ ap (λ h. cond h k (m - k)) (sym ways)
+alike_place false {g} {n} {m} {o} {k} ways long o_low k_low e =
+    let at = e ∙ ap (λ h. cond h k (m - k)) (sym ways) in omega arith
+
+turned_place : (f : Bool) {g : Bool} {n m o k : ℕ} → g ≡ not f → n ≡ m → o < n → k < m
+    → cond f o (n - o) ≡ cond g k (m - k) → k ≡ n - o
+turned_place true {g} {n} {m} {o} {k} ways long o_low k_low e =
+    let at = e ∙ ap (λ h. cond h k (m - k)) ways in omega arith
+turned_place false {g} {n} {m} {o} {k} ways long o_low k_low e = sym (e ∙ ap (λ h. cond h k (m - k)) ways)
 
 module _ {l : Gluing} {x : Lengths} (paved : HasWholeSides l) (len : AreLengths l x) {R : CellDart → CellDart → Type 0}
     (turning : IsTurning l x R) where
@@ -31,14 +45,8 @@ module _ {l : Gluing} {x : Lengths} (paved : HasWholeSides l) (len : AreLengths 
     where
       round : (s : Way) (t : ℕ) → t + 1 ≡ size l x w.patch (side_before s)
           → R (next (dart_along l x w.patch (side_before s) t)) (dart_along l x w.patch s (0 + 0))
-      round south t e = rim_round paved len turning w.patch west t is.patch_low e
-          (size_some l x paved len w.patch south is.patch_low)
-      round east t e = rim_round paved len turning w.patch south t is.patch_low e
-          (size_some l x paved len w.patch east is.patch_low)
-      round north t e = rim_round paved len turning w.patch east t is.patch_low e
-          (size_some l x paved len w.patch north is.patch_low)
-      round west t e = rim_round paved len turning w.patch north t is.patch_low e
-          (size_some l x paved len w.patch west is.patch_low)
+      round s t e = rw (after_before s) at (rim_round paved len turning w.patch (side_before s) t is.patch_low e
+          (size_some l x paved len w.patch (side_after (side_before s)) is.patch_low))
 
       by_place : (m : ℕ) → m < l.many w.patch w.side
           → R (next (slot_dart l x (slot_before l w.patch w.side m)
@@ -103,51 +111,27 @@ module _ {l : Gluing} {x : Lengths} (laid : IsSurface l) (len : AreLengths l x) 
       → k < x (use_of l v).arc
       → use_point l x (use_of l w) o ≡ use_point l x (use_of l v) k → R (slot_dart l x w o) (slot_dart l x v k)
   along_related w v o k is_w is_v o_some o_low k_some k_low same =
+      let points : along (use_of l w).arc (cond (use_of l w).forward o (x (use_of l w).arc - o))
+      ≡ along (use_of l v).arc (cond (use_of l v).forward k (x (use_of l v).arc - k)) =
+      cc (use_inner l x (use_of l w) o o_some o_low, use_inner l x (use_of l v) k k_some k_low) in
+      let arcs : (use_of l w).arc ≡ (use_of l v).arc = let e = points in cc in
       let place : cond (use_of l w).forward o (x (use_of l w).arc - o)
       ≡ cond (use_of l v).forward k (x (use_of l v).arc - k) = let e = points in cc in
-      by_ways _ _ refl refl place
-    where
-      points : along (use_of l w).arc (cond (use_of l w).forward o (x (use_of l w).arc - o))
-          ≡ along (use_of l v).arc (cond (use_of l v).forward k (x (use_of l v).arc - k))
-      points = cc (use_inner l x (use_of l w) o o_some o_low, use_inner l x (use_of l v) k k_some k_low)
-
-      arcs : (use_of l w).arc ≡ (use_of l v).arc
-      arcs = let e = points in cc
-
-      alike : (use_of l w).forward ≡ (use_of l v).forward → o ≡ k → R (slot_dart l x w o) (slot_dart l x v k)
-      alike ways e =
-          let one : w ≡ v = laid.once w v is_w is_v (λ t. record { arc = arcs t; forward = ways t }) in
-          turning.self (slot_dart l x w o) (slot_dart l x v k) (λ t. slot_dart l x (one t) (e t))
-
-      turned : (use_of l v).forward ≡ not (use_of l w).forward → k ≡ x (use_of l w).arc - o
-          → R (slot_dart l x w o) (slot_dart l x v k)
-      turned ways e =
-          let place_is : x (use_of l w).arc - 1 - (o - 1) ≡ k = omega arith in
-          let over = turning.over w v (o - 1) is_w (is_v, record { arc = sym arcs; turned = ways }) (omega arith) in
-          let on = rim_then laid.paved len turning _ _ _
-          _ is_w.patch_low (omega arith) (omega (arith, reach_low l x w is_w)) in
-          turning.on (slot_dart l x w o) (next (slot_dart l x w (o - 1))) (slot_dart l x v k)
-          (turning.back _ _
-          (next_is laid.paved len turning
-          (at_is l x laid.paved len w _ is_w (omega arith))) on)
-          (rw place_is at over)
-
-      by_ways : (f g : Bool) → (use_of l w).forward ≡ f → (use_of l v).forward ≡ g
-          → cond (use_of l w).forward o (x (use_of l w).arc - o) ≡ cond (use_of l v).forward k (x (use_of l v).arc - k)
-          → R (slot_dart l x w o) (slot_dart l x v k)
-      by_ways true true f g e = alike (cc) (cc)
-      by_ways false false f g e =
-          let q = ap (λ (h : Bool). cond h o (x (use_of l w).arc - o)) (sym f) ∙ e
-          ∙ ap (λ (h : Bool). cond h k (x (use_of l v).arc - k)) g in
-          alike (cc) (omega (arith, ap x arcs))
-      by_ways true false f g e =
-          let q = ap (λ (h : Bool). cond h o (x (use_of l w).arc - o)) (sym f) ∙ e
-          ∙ ap (λ (h : Bool). cond h k (x (use_of l v).arc - k)) g in
-          turned (cc) (omega (arith, ap x arcs))
-      by_ways false true f g e =
-          let q = ap (λ (h : Bool). cond h o (x (use_of l w).arc - o)) (sym f) ∙ e
-          ∙ ap (λ (h : Bool). cond h k (x (use_of l v).arc - k)) g in
-          turned (cc) (sym q)
+      elim (alike_or_turned (use_of l w).forward (use_of l v).forward) [
+        | inl ways ↦
+            let one : w ≡ v = laid.once w v is_w is_v (λ t. record { arc = arcs t; forward = ways t }) in
+            let at = alike_place (use_of l w).forward ways (ap x arcs) o_low k_low place in
+            turning.self (slot_dart l x w o) (slot_dart l x v k) (λ t. slot_dart l x (one t) (at t))
+        | inr ways ↦
+            let at = turned_place (use_of l w).forward ways (ap x arcs) o_low k_low place in
+            let place_is : x (use_of l w).arc - 1 - (o - 1) ≡ k = omega arith in
+            let over = turning.over w v (o - 1) is_w (is_v, record { arc = sym arcs; turned = ways }) (omega arith) in
+            let on = rim_then laid.paved len turning w.patch w.side (reach l x w.patch w.side w.at + (o - 1))
+            (reach l x w.patch w.side w.at + o) is_w.patch_low (omega arith) (omega (arith, reach_low l x w is_w)) in
+            turning.on (slot_dart l x w o) (next (slot_dart l x w (o - 1))) (slot_dart l x v k)
+            (turning.back _ _ (next_is laid.paved len turning (at_is l x laid.paved len w (o - 1) is_w (omega arith)))
+            on) (rw place_is at over)
+      ]
 
   module _ (nodes : AtNodes) where
     use_related : (w v : Slot) (o k : ℕ) → IsSlot l w → IsSlot l v → o < x (use_of l w).arc → k < x (use_of l v).arc

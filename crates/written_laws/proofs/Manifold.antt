@@ -24,9 +24,7 @@ use Rattle.written_laws.proofs.Simple.{one_course, reversed, ends_apart}
 -- Darts that follow each other round a cell inside a patch run along different edges.
 flat_or_steep : (p i j : ℕ) (w : Way) → (inner_course p i j (side_after w)).edge ≢ (inner_course p i j w).edge
 flat_or_steep p i j south e = cc
-flat_or_steep p i j east e = cc
-flat_or_steep p i j north e = cc
-flat_or_steep p i j west e = cc
+flat_or_steep p i j _ e = cc
 
 pub before_after : (w : Way) → side_before (side_after w) ≡ w
 before_after = elim [ south ↦ refl | east ↦ refl | north ↦ refl | west ↦ refl ]

@@ -34,25 +34,19 @@ pub way_turn : (w : Way) → way_of (turn w) ≡ w
 way_turn = elim [ south ↦ refl | east ↦ refl | north ↦ refl | west ↦ refl ]
 
 pub turn_way : (k : ℕ) → k < 4 → turn (way_of k) ≡ k
-turn_way zero low = refl
-turn_way (suc zero) low = refl
-turn_way (suc (suc zero)) low = refl
 turn_way (suc (suc (suc k))) low = omega arith
+turn_way _ low = refl
 
 pub turn_low : (w : Way) → turn w < 4
 turn_low = elim [ south ↦ omega arith | east ↦ omega arith | north ↦ omega arith | west ↦ omega arith ]
 
 pub next_at : (c : ℕ) (w : Way) → next_of (4 * c + turn w) ≡ 4 * c + turn (side_after w)
 next_at c south = grind (arith, nat_tests)
-next_at c east = grind (arith, nat_tests)
-next_at c north = grind (arith, nat_tests)
-next_at c west = grind (arith, nat_tests)
+next_at c _ = grind (arith, nat_tests)
 
 pub prev_at : (c : ℕ) (w : Way) → prev_of (4 * c + turn w) ≡ 4 * c + turn (side_before w)
 prev_at c south = grind (arith, nat_tests)
-prev_at c east = grind (arith, nat_tests)
-prev_at c north = grind (arith, nat_tests)
-prev_at c west = grind (arith, nat_tests)
+prev_at c _ = grind (arith, nat_tests)
 
 module _ (l : Gluing) (x : Lengths) where
   -- How many cells a patch has.

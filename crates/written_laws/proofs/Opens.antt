@@ -132,22 +132,19 @@ module _ {l : Gluing} {x : Lengths} (laid : IsSurface l) (len : AreLengths l x) 
 
   far_tips : (p i j : ℕ) (w v : Way) → Inner l x laid len p i j → Far p i j w → Far p i j v
       → tip l x p i j w ≡ tip l x p i j v → w ≡ v
-  far_tips p i j east east n e f same = refl
   far_tips p i j east north n e f same = absurd (far_after p i j east n e f same)
   far_tips p i j east west n e f same = absurd (east_west p i j n e f same)
   far_tips p i j east south n e f same = absurd (far_after p i j south n f e (sym same))
   far_tips p i j north east n e f same = absurd (far_after p i j east n f e (sym same))
-  far_tips p i j north north n e f same = refl
   far_tips p i j north west n e f same = absurd (far_after p i j north n e f same)
   far_tips p i j north south n e f same = absurd (north_south p i j n e f same)
   far_tips p i j west east n e f same = absurd (east_west p i j n f e (sym same))
   far_tips p i j west north n e f same = absurd (far_after p i j north n f e (sym same))
-  far_tips p i j west west n e f same = refl
   far_tips p i j west south n e f same = absurd (far_after p i j west n e f same)
   far_tips p i j south east n e f same = absurd (far_after p i j south n e f same)
   far_tips p i j south north n e f same = absurd (north_south p i j n f e (sym same))
   far_tips p i j south west n e f same = absurd (far_after p i j west n f e (sym same))
-  far_tips p i j south south n e f same = refl
+  far_tips p i j _ _ n e f same = refl
 
   tips_differ : (p i j : ℕ) (w v : Way) → Inner l x laid len p i j → tip l x p i j w ≡ tip l x p i j v → w ≡ v
   tips_differ p i j w v n same = elim (tip_case p i j w n) [

@@ -64,15 +64,12 @@ code_first : (b : Bool) → code true b < 2
 code_first = elim [ true ↦ omega arith | false ↦ omega arith ]
 
 code_back : (k : ℕ) → k < 4 → code (forward_of k) (behind_of k) ≡ k
-code_back zero low = refl
-code_back (suc zero) low = refl
-code_back (suc (suc zero)) low = refl
 code_back (suc (suc (suc k))) low = omega arith
+code_back _ low = refl
 
 code_back_first : (k : ℕ) → k < 2 → code true (behind_of k) ≡ k
-code_back_first zero low = refl
-code_back_first (suc zero) low = refl
 code_back_first (suc (suc k)) low = absurd (omega arith)
+code_back_first _ low = refl
 
 module _ {l : Gluing} {x : Lengths} (laid : IsSurface l) (len : AreLengths l x) where
   -- No point of an arc lies inside a patch.

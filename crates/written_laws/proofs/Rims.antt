@@ -1,7 +1,7 @@
 -- The border darts of a patch.
 use Rattle.std.proofs.Common.{◌≡◌, ◌⊎◌, ℕ, ◌+◌, ◌-◌, ◌<◌, ◌≤◌, refl, sym, ◌∙◌, ap, inl, inr, arith}
 use Rattle.std.proofs.lemmas.Bool.{cases_eq}
-use Rattle.def_layout.specs.Gluings.{Way, south, east, north, west, side_after, Gluing}
+use Rattle.def_layout.specs.Gluings.{Way, south, east, north, west, side_after, side_before, Gluing}
 use Rattle.def_layout.specs.Surfaces.{HasWholeSides, IsSurface}
 use Rattle.def_layout.specs.Lengths.{Lengths, size, wide, high, AreLengths}
 use Rattle.def_layout.specs.Cells.{CellDart, IsDart, dart, next, dart_along}
@@ -29,6 +29,9 @@ side_row l x p south t = 0
 side_row l x p east t = t
 side_row l x p north t = high l x p
 side_row l x p west t = high l x p - t
+
+pub after_before : (s : Way) → side_after (side_before s) ≡ s
+after_before = elim [ south ↦ refl | east ↦ refl | north ↦ refl | west ↦ refl ]
 
 -- Darts at one place of a patch are one.
 pub dart_is : (p : ℕ) (w : Way) {i j k n : ℕ} → i ≡ k → j ≡ n → dart p i j w ≡ dart p k n w
@@ -142,9 +145,7 @@ module _ {l : Gluing} {x : Lengths} (paved : HasWholeSides l) (len : AreLengths 
     where
       by_way : (w : Way) → (column d.i w ≤ wide l x d.patch) × (row d.j w ≤ high l x d.patch)
       by_way south = (omega arith, omega arith)
-      by_way east = (omega arith, omega arith)
-      by_way north = (omega arith, omega arith)
-      by_way west = (omega arith, omega arith)
+      by_way _ = (omega arith, omega arith)
 
   pub dart_on_rim : (d : CellDart) → IsDart l x d
       → IsInner d.patch (column_of d) (row_of d) ⊎ ((s : Way) × (t : ℕ) × IsBorder d.patch (column_of d) (row_of d) s t)

@@ -13,7 +13,7 @@ use Rattle.def_layout.specs.Cells.{CellDart, IsDart, dart, next, prev, dart_alon
 use Rattle.def_layout.specs.Embeddings.{IsEmbedding}
 use Rattle.def_written.specs.NewFaces.{column, row}
 use Rattle.written_laws.proofs.{Sides.slot, Sides.use_some, Sides.last_reach, Turning.IsTurning, Turning.is_dart}
-use Rattle.written_laws.proofs.Rims.{dart_is, corner_next}
+use Rattle.written_laws.proofs.Rims.{after_before, dart_is, corner_next}
 use Rattle.written_laws.proofs.{Borders.at_is, Borders.before_is, Fans.before_related, Spots.rim_slot}
 
 module _ (m : HalfEdges) (laws : IsQuadManifold m) (l : Gluing) (x : Lengths) (paved : HasWholeSides l)
@@ -122,7 +122,8 @@ module _ (m : HalfEdges) (laws : IsQuadManifold m) (l : Gluing) (x : Lengths) (p
         let low = s.arc_low _ 0 (paved.arc_low w is) (some is) in
         cc (
           (laws.twin_ends (arc_dart (use_of l w).arc 0) (cell (slot_dart l x w (x (use_of l w).arc - 1))) low
-              (ap (λ k. m.twin (arc_dart (use_of l w).arc k)) (sym z) ∙ s.behind w (x (use_of l w).arc - 1) is less e)).1,
+              (ap (λ k. m.twin (arc_dart (use_of l w).arc k)) (sym z)
+              ∙ s.behind w (x (use_of l w).arc - 1) is less e)).1,
           s.first_at (use_of l w).arc (paved.arc_low w is),
           node (use_of l w) false e,
         )
@@ -184,9 +185,6 @@ module _ (m : HalfEdges) (laws : IsQuadManifold m) (l : Gluing) (x : Lengths) (p
       (laws.corners_differ _ (low_at b o is_b o_low)).1
       (sym (laws.twin_ends _ _ (low_at b o is_b o_low) twin).1)
     where
-      after_before : (q : Way) → side_after (side_before q) ≡ q
-      after_before = elim [ south ↦ refl | east ↦ refl | north ↦ refl | west ↦ refl ]
-
       -- The slot before the first one of a side is the last one of the side before.
       before_first : (k : ℕ) → k ≡ 0 → next (slot_dart l x (slot_before l w.patch w.side k)
           (x (use_of l (slot_before l w.patch w.side k)).arc - 1)) ≡ dart_along l x w.patch w.side

@@ -48,9 +48,7 @@ one_way i j _ _ i_some j_some c r = absurd (omega arith)
 
 pub no_tip_at_hub : {i j : ℕ} (w : Way) → 0 < i → 0 < j → tip_column i w ≡ i → tip_row j w ≡ j → ⊥
 no_tip_at_hub east i_some j_some c r = omega arith
-no_tip_at_hub north i_some j_some c r = omega arith
-no_tip_at_hub west i_some j_some c r = omega arith
-no_tip_at_hub south i_some j_some c r = omega arith
+no_tip_at_hub _ i_some j_some c r = omega arith
 
 module _ (l : Gluing) (x : Lengths) where
   abbrev pub tip : (p i j : ℕ) (w : Way) → Point
@@ -107,17 +105,14 @@ module _ (l : Gluing) (x : Lengths) where
 
     pub tip_low : (p i j : ℕ) (w : Way) → Inner p i j → (tip_column i w ≤ wide l x p) × (tip_row j w ≤ high l x p)
     tip_low p i j east n = (omega (arith, n.1.a_low), omega (arith, n.1.b_low))
-    tip_low p i j north n = (omega (arith, n.1.a_low), omega (arith, n.1.b_low))
-    tip_low p i j west n = (omega (arith, n.1.a_low), omega (arith, n.1.b_low))
-    tip_low p i j south n = (omega (arith, n.1.a_low), omega (arith, n.1.b_low))
+    tip_low p i j _ n = (omega (arith, n.1.a_low), omega (arith, n.1.b_low))
 
     pub spoke_joins : (p i j : ℕ) (w : Way) → Inner p i j → Joins (spoke p i j w) (inside p i j) (tip p i j w)
-    spoke_joins p i j east n = inl (hub p i j n, refl)
-    spoke_joins p i j north n = inl (hub p i j n, refl)
     spoke_joins p i j west n =
         let e : i - 1 + 1 ≡ i = omega (arith, n.1.a_some) in inr (refl, cc (e, hub p i j n))
     spoke_joins p i j south n =
         let e : j - 1 + 1 ≡ j = omega (arith, n.1.b_some) in inr (refl, cc (e, hub p i j n))
+    spoke_joins p i j _ n = inl (hub p i j n, refl)
 
     -- An edge with an end inside a patch is a spoke from there.
     pub hub_edge : (f : Edge) (p i j : ℕ) (t : Point) → IsEdge l x f → Joins f (inside p i j) t

@@ -14,29 +14,23 @@ use Rattle.written_laws.proofs.{Borders.IsAt, NewDarts.next_is}
 
 no_turn : (s : Way) → s ≢ side_after s
 no_turn south e = cc
-no_turn east e = cc
-no_turn north e = cc
-no_turn west e = cc
+no_turn _ e = cc
 
 module _ {l : Gluing} {x : Lengths} (paved : HasWholeSides l) (len : AreLengths l x) where
   -- Places of sides that lie at one grid point are one.
   pub place_once : (p : ℕ) (s r : Way) (t u : ℕ) → p < l.patches → t < size l x p s → u < size l x p r
       → side_column l x p s t ≡ side_column l x p r u → side_row l x p s t ≡ side_row l x p r u → (s ≡ r) × (t ≡ u)
   place_once p south south t u low t_low u_low c r = (refl, c)
-  place_once p south east t u low t_low u_low c r = absurd (omega arith)
-  place_once p south west t u low t_low u_low c r = absurd (omega arith)
-  place_once p east south t u low t_low u_low c r = absurd (omega arith)
   place_once p east east t u low t_low u_low c r = (refl, r)
-  place_once p east north t u low t_low u_low c r = absurd (omega (arith, len.upright p low))
-  place_once p east west t u low t_low u_low c r = absurd (omega (arith, wide_some l x paved len p low))
-  place_once p north east t u low t_low u_low c r = absurd (omega (arith, len.upright p low))
   place_once p north north t u low t_low u_low c r = (refl, omega (arith, len.across p low))
-  place_once p north west t u low t_low u_low c r = absurd (omega (arith, len.across p low))
-  place_once p west south t u low t_low u_low c r = absurd (omega arith)
-  place_once p west east t u low t_low u_low c r = absurd (omega (arith, wide_some l x paved len p low))
-  place_once p west north t u low t_low u_low c r = absurd (omega (arith, len.across p low))
   place_once p west west t u low t_low u_low c r = (refl, omega arith)
-  place_once p _ _ t u low t_low u_low c r = absurd (omega (arith, high_some l x paved len p low))
+  place_once p _ _ t u low t_low u_low c r = absurd (omega (
+    arith,
+    len.across p low,
+    len.upright p low,
+    wide_some l x paved len p low,
+    high_some l x paved len p low,
+  ))
 
   -- So do slots, each with a place along its arc.
   pub slot_once : {w v : Slot} {o k : ℕ} → IsSlot l w → IsSlot l v → o < x (use_of l w).arc → k < x (use_of l v).arc
@@ -74,19 +68,13 @@ module _ {l : Gluing} {x : Lengths} (paved : HasWholeSides l) (len : AreLengths 
       → (dart p i j w ≡ dart_along l x p s t) ⊎ ((0 < t) × (dart p i j w ≡ next (dart_along l x p s (t - 1))))
   border_dart p south south i j t t_low is c r = inl (dart_is p south c r)
   border_dart p south east i j t t_low is c r = inr (omega arith, dart_is p east (omega arith) r)
-  border_dart p east south i j t t_low is c r = absurd (omega arith)
   border_dart p east east i j t t_low is c r = inl (dart_is p east (omega arith) r)
   border_dart p east north i j t t_low is c r = inr (omega arith, dart_is p north (omega arith) (omega arith))
-  border_dart p east west i j t t_low is c r = absurd (omega arith)
-  border_dart p north south i j t t_low is c r = absurd (omega arith)
-  border_dart p north east i j t t_low is c r = absurd (omega arith)
   border_dart p north north i j t t_low is c r = inl (dart_is p north (omega arith) (omega arith))
   border_dart p north west i j t t_low is c r = inr (omega arith, dart_is p west (omega arith) (omega arith))
   border_dart p west south i j t t_low is c r = inr (omega arith, dart_is p south c (omega arith))
-  border_dart p west east i j t t_low is c r = absurd (omega arith)
-  border_dart p west north i j t t_low is c r = absurd (omega arith)
   border_dart p west west i j t t_low is c r = inl (dart_is p west c (omega arith))
-  border_dart p south _ i j t t_low is c r = absurd (omega arith)
+  border_dart p _ _ i j t t_low is c r = absurd (omega arith)
 
 -- The place on its side that lies o after the beginning of a slot's arc.
 abbrev pub place_at : (l : Gluing) (x : Lengths) (w : Slot) (o : ℕ) → ℕ
@@ -157,8 +145,6 @@ module _ {l : Gluing} {x : Lengths} (laid : IsSurface l) (len : AreLengths l x) 
 
   -- The two differ.
   pub spot_once : (w : Slot) (o : ℕ) (b c : Bool) → spot_dart l x w o b ≡ spot_dart l x w o c → b ≡ c
-  spot_once w o true true e = refl
-  spot_once w o false false e = refl
   spot_once w o true false e = absurd (no_turn w.side
       (cc (
         e,
@@ -168,3 +154,4 @@ module _ {l : Gluing} {x : Lengths} (laid : IsSurface l) (len : AreLengths l x) 
       )))
   spot_once w o false true e = absurd (no_turn w.side (sym (rim_way laid.paved len w.patch w.side (place_at l x w o))
       ∙ ap (λ (d : CellDart). d.way) e ∙ ap side_after (rim_way laid.paved len w.patch w.side (place_at l x w o - 1))))
+  spot_once w o _ _ e = refl
