@@ -1,33 +1,25 @@
 -- A dart of the cut lies on one arc, at one place of it, in one direction.
 use Rattle.std.proofs.Common.{◌≡◌, ℕ, zero, suc, ◌+◌, ◌-◌, ◌<◌, Bool, true, false, List, length, Some, refl, sym, ◌∙◌}
-use Rattle.std.proofs.Common.{ap, subst, inl, inr, arith}
-use Rattle.std.proofs.lemmas.Bool.{cases_eq, cases_order}
-use Rattle.std.proofs.lemmas.Option.{same_Some}
+use Rattle.std.proofs.{Common.ap, Common.inl, Common.inr, Common.arith, lemmas.Bool.cases_eq, lemmas.Bool.cases_order}
 use Rattle.def_mesh.specs.HalfEdges.{HalfEdges, IsQuadManifold}
 use Rattle.def_cut.specs.{Cuts.Cut, Cuts.IsCut, Steps.easts}
-use Rattle.def_layout.specs.Arcs.{IsRun, LiesAt, Path, path_at, dart_at, long_at, name_at, AreArcs}
+use Rattle.def_layout.specs.Arcs.{LiesAt, Path, path_at, dart_at, long_at, name_at, AreArcs}
 use Rattle.def_layout.specs.Nodes.{AreNodes}
 use Rattle.cut_laws.proofs.Leasts.{least_high, least_there}
 use Rattle.layout_laws.proofs.Runs.{IsBack, run_low, same_place, same_length, back_run}
 
-module _ (m : HalfEdges) (laws : IsQuadManifold m) (cut : Cut) (full : IsCut m cut) (node : ℕ
-    → Bool) (nodes : AreNodes m cut node)
-    (arcs : List Path) (are : AreArcs m cut node arcs) where
-  pub run : (a : ℕ) → a < length arcs → IsRun m cut node (dart_at arcs a 0) (long_at arcs a)
-  run a low = (are.each a low).run
-
-  pub on_run : (a k : ℕ) → a < length arcs → k < long_at arcs a → dart_at arcs a k ≡ easts m (dart_at arcs a 0) k
-  on_run a k low less = (are.each a low).each k less
-
+module _ (m : HalfEdges) (laws : IsQuadManifold m) (cut : Cut) (full : IsCut m cut) (node : ℕ → Bool)
+    (nodes : AreNodes m cut node) (arcs : List Path) (are : AreArcs m cut node arcs) where
   pub dart_low : (a k : ℕ) → a < length arcs → k < long_at arcs a → dart_at arcs a k < m.count
-  dart_low a k low less = subst (λ (d : ℕ). d < m.count) (sym (on_run a k low less))
-      (run_low m laws cut full node nodes (dart_at arcs a 0) (long_at arcs a) (run a low) k less)
+  dart_low a k low less = rw ((are.each a low).each k less)
+      (run_low m laws cut full node nodes _ _ (are.each a low).run k less)
 
+module _ {m : HalfEdges} {cut : Cut} {node : ℕ → Bool} {arcs : List Path} (are : AreArcs m cut node arcs) where
   -- Arcs are told by their names.
   pub names_rise : (a b : ℕ) → a < b → b < length arcs → name_at arcs a < name_at arcs b
   names_rise a zero less low = absurd (omega arith)
   names_rise a (suc b) less low = elim (cases_eq a b) [
-    | inl e ↦ let s : name_at arcs a ≡ name_at arcs b = ap (name_at arcs) e in omega (arith, s, are.ordered b low)
+    | inl e ↦ let s : name_at arcs a ≡ name_at arcs b = ap (name_at arcs) e in omega (arith, are.ordered b low)
     | inr ne ↦ omega (arith, names_rise a b (omega arith) (omega arith), are.ordered b low)
   ]
 
@@ -35,21 +27,15 @@ module _ (m : HalfEdges) (laws : IsQuadManifold m) (cut : Cut) (full : IsCut m c
   one_name a b a_low b_low same = elim (cases_order a b) [
     | inl e ↦ e
     | inr o ↦ elim o [
-      | inl less ↦ absurd (omega (arith, same, names_rise a b less b_low))
-      | inr more ↦ absurd (omega (arith, same, names_rise b a more a_low))
+      | inl less ↦ absurd (omega (arith, names_rise a b less b_low))
+      | inr more ↦ absurd (omega (arith, names_rise b a more a_low))
     ]
   ]
 
 -- The same of two lists of arcs.
-module _ (m : HalfEdges) (laws : IsQuadManifold m) (cut : Cut) (full : IsCut m cut) (node : ℕ
-    → Bool) (nodes : AreNodes m cut node)
-    (arcs : List Path) (are : AreArcs m cut node arcs) (others : List Path) (them : AreArcs m cut node others) where
-  one_run : (a : ℕ) → a < length arcs → IsRun m cut node (dart_at arcs a 0) (long_at arcs a)
-  one_run a low = (are.each a low).run
-
-  other_run : (b : ℕ) → b < length others → IsRun m cut node (dart_at others b 0) (long_at others b)
-  other_run b low = (them.each b low).run
-
+module _ {m : HalfEdges} (laws : IsQuadManifold m) {cut : Cut} (full : IsCut m cut) {node : ℕ → Bool}
+    (nodes : AreNodes m cut node) {arcs : List Path} (are : AreArcs m cut node arcs) {others : List Path}
+    (them : AreArcs m cut node others) where
   -- One arc of each, with the same darts.
   pub record IsSameArc (a b k j : ℕ) : Type 0 where
     pub place : k ≡ j
@@ -63,29 +49,24 @@ module _ (m : HalfEdges) (laws : IsQuadManifold m) (cut : Cut) (full : IsCut m c
     where
       place : (dart_at arcs a 0 ≡ dart_at others b 0) × (k ≡ j)
       place = same_place m laws cut full node nodes (dart_at arcs a 0) (long_at arcs a) (dart_at others b 0)
-          (long_at others b) (one_run a a_low) (other_run b b_low)
-          k j k_low j_low (sym ((are.each a a_low).each k k_low) ∙ same ∙ (them.each b b_low).each j j_low)
+          (long_at others b) (are.each a a_low).run (them.each b b_low).run
+          k j k_low j_low (cc ((are.each a a_low).each k k_low, (them.each b b_low).each j j_low))
 
       long : long_at arcs a ≡ long_at others b
       long = same_length m laws cut full node nodes (dart_at others b 0) (long_at arcs a) (long_at others b)
-          (subst (λ (s : ℕ). IsRun m cut node s (long_at arcs a)) place.0 (one_run a a_low)) (other_run b b_low)
+          (rw place.0 at (are.each a a_low).run) (them.each b b_low).run
 
       each : (i : ℕ) → i < long_at arcs a → dart_at arcs a i ≡ dart_at others b i
-      each i less = (are.each a a_low).each i less ∙ ap (λ s. easts m s i) place.0
-          ∙ sym ((them.each b b_low).each i (omega (arith, long)))
+      each i less = cc ((are.each a a_low).each i less, place.0, (them.each b b_low).each i (omega (arith, long)))
 
   -- Then they have one name.
   pub one_name_both : (a b k j : ℕ) → a < length arcs → b < length others → IsSameArc a b k j
       → name_at arcs a ≡ name_at others b
   one_name_both a b k j a_low b_low s =
-      let n : (i : ℕ) × (i < long_at arcs a) × (dart_at arcs a i ≡ name_at arcs a) =
-      least_there (path_at arcs a).darts (one_run a a_low).some in
-      let p : (i : ℕ) × (i < long_at others b) × (dart_at others b i ≡ name_at others b) =
-      least_there (path_at others b).darts (other_run b b_low).some in
+      let n = least_there _ (are.each a a_low).run.some in
+      let p = least_there _ (them.each b b_low).run.some in
       omega (
         arith,
-        n.2,
-        p.2,
         s.each n.0 n.1,
         s.each p.0 (omega (arith, s.long, p.1)),
         least_high (path_at others b).darts n.0 (omega (arith, s.long, n.1)),
@@ -95,83 +76,69 @@ module _ (m : HalfEdges) (laws : IsQuadManifold m) (cut : Cut) (full : IsCut m c
   -- A dart of one is no twin of a dart of the other.
   pub clash : (a b k j : ℕ) → a < length arcs → b < length others → k < long_at arcs a → j < long_at others b
       → m.twin (dart_at others b j) ≡ Some (dart_at arcs a k) → ⊥
-  clash a b k j a_low b_low k_low j_low twin =
-      by_back (back_run m laws cut full node nodes (dart_at others b 0) (long_at others b) (other_run b b_low) j
-      (dart_at arcs a k) j_low
-      (ap m.twin (sym ((them.each b b_low).each j j_low)) ∙ twin))
+  clash a b k j a_low b_low k_low j_low twin = omega (arith, a_less, b_less)
     where
-      by_back : (r : ℕ) × IsBack m cut node (dart_at others b 0) (long_at others b) r → ⊥
-      by_back b_back = omega (arith, a_less, b_less)
-        where
-          back : IsBack m cut node (dart_at others b 0) (long_at others b) b_back.0
-          back = b_back.1
+      met : (r : ℕ) × IsBack m cut node (dart_at others b 0) (long_at others b) r
+      met = back_run m laws cut full node nodes (dart_at others b 0) (long_at others b) (them.each b b_low).run j
+          (dart_at arcs a k) j_low (ap m.twin (sym ((them.each b b_low).each j j_low)) ∙ twin)
 
-          there : dart_at arcs a k ≡ easts m b_back.0 (long_at others b - 1 - j)
-          there = same_Some (dart_at arcs a k) (easts m b_back.0 (long_at others b - 1 - j))
-              (sym twin ∙ ap m.twin ((them.each b b_low).each j j_low) ∙ back.twin j (long_at others b - 1 - j)
-              (omega arith))
+      back : IsBack m cut node (dart_at others b 0) (long_at others b) met.0
+      back = met.1
 
-          place : (dart_at arcs a 0 ≡ b_back.0) × (k ≡ long_at others b - 1 - j)
-          place = same_place m laws cut full node nodes (dart_at arcs a 0) (long_at arcs a) b_back.0 (long_at others b)
-              (one_run a a_low) back.run
-              k (long_at others b - 1 - j) k_low (omega arith) (sym ((are.each a a_low).each k k_low) ∙ there)
+      there : dart_at arcs a k ≡ easts m met.0 (long_at others b - 1 - j)
+      there = cc (twin, (them.each b b_low).each j j_low, back.twin j (long_at others b - 1 - j) (omega arith))
 
-          long : long_at arcs a ≡ long_at others b
-          long = same_length m laws cut full node nodes b_back.0 (long_at arcs a) (long_at others b)
-              (subst (λ (s : ℕ). IsRun m cut node s (long_at arcs a)) place.0 (one_run a a_low)) back.run
+      place : (dart_at arcs a 0 ≡ met.0) × (k ≡ long_at others b - 1 - j)
+      place = same_place m laws cut full node nodes (dart_at arcs a 0) (long_at arcs a) met.0 (long_at others b)
+          (are.each a a_low).run back.run k (long_at others b - 1 - j) k_low (omega arith)
+          (cc ((are.each a a_low).each k k_low, there))
 
-          across : (i n : ℕ) → i + suc n ≡ long_at others b → m.twin (dart_at others b i) ≡ Some (dart_at arcs a n)
-          across i n sum = ap m.twin ((them.each b b_low).each i (omega arith)) ∙ back.twin i n sum ∙ ap Some
-              (ap (λ s. easts m s n) (sym place.0) ∙ sym ((are.each a a_low).each n (omega (arith, long))))
+      long : long_at arcs a ≡ long_at others b
+      long = same_length m laws cut full node nodes met.0 (long_at arcs a) (long_at others b)
+          (rw place.0 at (are.each a a_low).run) back.run
 
-          b_less : name_at others b < name_at arcs a
-          b_less =
-              let n : (i : ℕ) × (i < long_at arcs a) × (dart_at arcs a i ≡ name_at arcs a) =
-              least_there (path_at arcs a).darts (one_run a a_low).some in
-              let l : name_at others b < dart_at arcs a n.0 =
-              (them.each b b_low).named (long_at others b - 1 - n.0) (dart_at arcs a n.0) (omega (arith, long, n.1))
-              (across (long_at others b - 1 - n.0) n.0 (omega (arith, long, n.1))) in
-              omega (arith, l, n.2)
+      across : (i n : ℕ) → i + suc n ≡ long_at others b → m.twin (dart_at others b i) ≡ Some (dart_at arcs a n)
+      across i n sum = cc (
+        (them.each b b_low).each i (omega arith),
+        back.twin i n sum,
+        place.0,
+        (are.each a a_low).each n (omega (arith, long)),
+      )
 
-          a_less : name_at arcs a < name_at others b
-          a_less =
-              let p : (i : ℕ) × (i < long_at others b) × (dart_at others b i ≡ name_at others b) =
-              least_there (path_at others b).darts (other_run b b_low).some in
-              let i_low : long_at others b - 1 - p.0 < long_at arcs a = omega (arith, long, p.1) in
-              let l : name_at arcs a < dart_at others b p.0 =
-              (are.each a a_low).named (long_at others b - 1 - p.0) (dart_at others b p.0) i_low
-              (laws.twin_twin (dart_at others b p.0) (dart_at arcs a (long_at others b - 1 - p.0))
-              (dart_low m laws cut full node nodes others them b p.0 b_low p.1)
-              (across p.0 (long_at others b - 1 - p.0) (omega (arith, p.1)))) in
-              omega (arith, l, p.2)
+      b_less : name_at others b < name_at arcs a
+      b_less =
+          let n = least_there (path_at arcs a).darts (are.each a a_low).run.some in
+          let l = (them.each b b_low).named (long_at others b - 1 - n.0) (dart_at arcs a n.0)
+          (omega (arith, long, n.1)) (across (long_at others b - 1 - n.0) n.0 (omega (arith, long, n.1))) in
+          omega (arith, l, n.2)
 
-module _ (m : HalfEdges) (laws : IsQuadManifold m) (cut : Cut) (full : IsCut m cut) (node : ℕ
-    → Bool) (nodes : AreNodes m cut node)
-    (arcs : List Path) (are : AreArcs m cut node arcs) where
+      a_less : name_at arcs a < name_at others b
+      a_less =
+          let p = least_there (path_at others b).darts (them.each b b_low).run.some in
+          let l = (are.each a a_low).named (long_at others b - 1 - p.0) (dart_at others b p.0) (omega
+          (arith, long, p.1)) (laws.twin_twin (dart_at others b p.0) (dart_at arcs a (long_at others b - 1 - p.0))
+          (dart_low m laws cut full node nodes others them b p.0 b_low p.1)
+          (across p.0 (long_at others b - 1 - p.0) (omega (arith, p.1)))) in
+          omega (arith, l, p.2)
+
+module _ (m : HalfEdges) (laws : IsQuadManifold m) (cut : Cut) (full : IsCut m cut) (node : ℕ → Bool)
+    (nodes : AreNodes m cut node) (arcs : List Path) (are : AreArcs m cut node arcs) where
   -- Arcs with a dart in common are one.
   pub same_dart : (a b k j : ℕ) → a < length arcs → b < length arcs → k < long_at arcs a → j < long_at arcs b
       → dart_at arcs a k ≡ dart_at arcs b j → (a ≡ b) × (k ≡ j)
   same_dart a b k j a_low b_low k_low j_low same =
-      by_arc (same_arc m laws cut full node nodes arcs are arcs are a b k j a_low b_low k_low j_low same)
-    where
-      by_arc : IsSameArc m laws cut full node nodes arcs are arcs are a b k j → (a ≡ b) × (k ≡ j)
-      by_arc s = (
-        one_name m laws cut full node nodes arcs are a b a_low b_low
-            (one_name_both m laws cut full node nodes arcs are arcs are a b k j a_low b_low s),
-        s.place,
-      )
+      let s = same_arc laws full nodes are are a b k j a_low b_low k_low j_low same in
+      (one_name are a b a_low b_low (one_name_both laws full nodes are are a b k j a_low b_low s), s.place)
 
   pub same_use : (a b : ℕ) (f g : Bool) (o k d : ℕ) → a < length arcs → b < length arcs → o < long_at arcs a
       → k < long_at arcs b
       → LiesAt m (path_at arcs a).darts f o d → LiesAt m (path_at arcs b).darts g k d → (a ≡ b) × (f ≡ g) × (o ≡ k)
   same_use a b true true o k d a_low b_low o_low k_low at also =
-      let s : (a ≡ b) × (o ≡ k) = same_dart a b o k a_low b_low o_low k_low (sym at ∙ also) in (s.0, refl, s.1)
-  same_use a b true false o k d a_low b_low o_low k_low at also =
-      absurd (clash m laws cut full node nodes arcs are arcs are a b o (long_at arcs b - 1 - k) a_low b_low o_low
-      (omega arith) (also ∙ ap Some at))
-  same_use a b false true o k d a_low b_low o_low k_low at also =
-      absurd (clash m laws cut full node nodes arcs are arcs are b a k (long_at arcs a - 1 - o) b_low a_low k_low
-      (omega arith) (at ∙ ap Some also))
+      let s : (a ≡ b) × (o ≡ k) = same_dart a b o k a_low b_low o_low k_low (cc (at, also)) in (s.0, refl, s.1)
+  same_use a b true false o k d a_low b_low o_low k_low at also = absurd
+      (clash laws full nodes are are a b o (long_at arcs b - 1 - k) a_low b_low o_low (omega arith) (cc (also, at)))
+  same_use a b false true o k d a_low b_low o_low k_low at also = absurd
+      (clash laws full nodes are are b a k (long_at arcs a - 1 - o) b_low a_low k_low (omega arith) (at ∙ ap Some also))
   same_use a b false false o k d a_low b_low o_low k_low at also =
       let one : m.twin d ≡ Some (dart_at arcs a (long_at arcs a - 1 - o)) =
       laws.twin_twin (dart_at arcs a (long_at arcs a - 1 - o)) d (dart_low m laws cut full node nodes arcs are a
@@ -179,9 +146,7 @@ module _ (m : HalfEdges) (laws : IsQuadManifold m) (cut : Cut) (full : IsCut m c
       let other : m.twin d ≡ Some (dart_at arcs b (long_at arcs b - 1 - k)) =
       laws.twin_twin (dart_at arcs b (long_at arcs b - 1 - k)) d (dart_low m laws cut full node nodes arcs are b
       (long_at arcs b - 1 - k) b_low (omega arith)) also in
-      let s : (a ≡ b) × (long_at arcs a - 1 - o ≡ long_at arcs b - 1 - k) =
-      same_dart a b (long_at arcs a - 1 - o) (long_at arcs b - 1 - k) a_low b_low (omega arith) (omega arith)
-      (same_Some (dart_at arcs a (long_at arcs a - 1 - o)) (dart_at arcs b (long_at arcs b - 1 - k)) (sym one
-      ∙ other)) in
+      let s : (a ≡ b) × (long_at arcs a - 1 - o ≡ long_at arcs b - 1 - k) = same_dart a b (long_at arcs a - 1 - o)
+      (long_at arcs b - 1 - k) a_low b_low (omega arith) (omega arith) (cc (one, other)) in
       let long : long_at arcs a ≡ long_at arcs b = ap (long_at arcs) s.0 in
       (s.0, refl, omega (arith, s.1, long))

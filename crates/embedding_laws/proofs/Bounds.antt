@@ -1,5 +1,5 @@
 -- How large the numbers of a new mesh are.
-use Rattle.std.proofs.Common.{◌≡◌, ℕ, zero, suc, ◌+◌, ◌*◌, ◌^◌, ◌<◌, ◌≤◌, true, refl, sym, ◌∙◌, ap, arith}
+use Rattle.std.proofs.Common.{◌≡◌, ℕ, suc, ◌*◌, ◌^◌, ◌<◌, ◌≤◌, true, refl, sym, ◌∙◌, ap, arith}
 use Rattle.std.proofs.lemmas.Nat.{mul-le}
 use Rattle.def_math.specs.Counts.{count_below}
 use Rattle.def_layout.specs.{Arcs.long_at, Cells.CellDart, Cells.IsDart, Surfaces.IsSurface, Gluings.Way, Gluings.south}
@@ -20,6 +20,8 @@ module _ (l : Gluing) (x : Lengths) (laid : IsSurface l) (len : AreLengths l x) 
   -- Each point is left by a dart, so that there are no more points than darts.
   pub vertices_few : vertices l x ≤ 4 * face_count l x
   vertices_few =
+      let below : (v : ℕ) (low : v < vertices l x) → dart_number l x (dart v low).0
+      < 4 * face_count l x = λ v low. omega (arith, dart_low l x (dart v low).0 (dart v low).1, faces_long l x) in
       let all : passing (λ k. true) (vertices l x) ≡ vertices l x = passing_all (vertices l x) in
       let darts : passing (λ k. true) (4 * face_count l x) ≡ 4 * face_count l x = passing_all (4 * face_count l x) in
       omega (
@@ -28,8 +30,7 @@ module _ (l : Gluing) (x : Lengths) (laid : IsSurface l) (len : AreLengths l x) 
         darts,
         passing_le (λ k. true) (λ k. true) (vertices l x) (4 * face_count l x)
             (λ v low on. (dart_number l x (dart v low).0, below v low, refl))
-            (λ v w a on b too same. sym (dart v a).2
-            ∙ ap (λ (d : CellDart). vertex_number l x (dart_start l x d))
+            (λ v w a on b too same. sym (dart v a).2 ∙ ap (λ (d : CellDart). vertex_number l x (dart_start l x d))
             (dart_same l x (dart v a).0 (dart w b).0 (dart v a).1 (dart w b).1 same) ∙ (dart w b).2),
       )
     where
@@ -39,9 +40,6 @@ module _ (l : Gluing) (x : Lengths) (laid : IsSurface l) (len : AreLengths l x) 
           let d : (d : CellDart) × IsDart l x d × (dart_start l x d ≡ a.0) = point_dart l x laid len a.0 a.1 in
           (d.0, d.1, ap (vertex_number l x) d.2 ∙ a.2)
 
-      below : (v : ℕ) (low : v < vertices l x) → dart_number l x (dart v low).0 < 4 * face_count l x
-      below v low = omega (arith, dart_low l x (dart v low).0 (dart v low).1, faces_long l x)
-
   -- A patch has no more cells than there are.
   patch_few : (p : ℕ) → p < l.patches → wide l x p * high l x p ≤ face_count l x
   patch_few p low =
@@ -50,18 +48,18 @@ module _ (l : Gluing) (x : Lengths) (laid : IsSurface l) (len : AreLengths l x) 
       omega (arith, le)
 
   wide_few : (p : ℕ) → p < l.patches → wide l x p ≤ face_count l x
-  wide_few p low = by_parts (wide l x p) (high l x p) (high_some l x laid.paved len p low) (patch_few p low)
-    where
-      by_parts : (w h : ℕ) → 0 < h → w * h ≤ face_count l x → w ≤ face_count l x
-      by_parts w zero some le = absurd (omega arith)
-      by_parts w (suc h) some le = let e : w * suc h ≡ w + w * h = omega arith in omega (arith, e, le)
+  wide_few p low = omega (
+    arith,
+    patch_few p low,
+    mul-le (wide l x p) 1 (wide l x p) (high l x p) (omega arith) (high_some l x laid.paved len p low),
+  )
 
   high_few : (p : ℕ) → p < l.patches → high l x p ≤ face_count l x
-  high_few p low = by_parts (wide l x p) (high l x p) (wide_some l x laid.paved len p low) (patch_few p low)
-    where
-      by_parts : (w h : ℕ) → 0 < w → w * h ≤ face_count l x → h ≤ face_count l x
-      by_parts zero h some le = absurd (omega arith)
-      by_parts (suc w) h some le = let e : suc w * h ≡ h + w * h = omega arith in omega (arith, e, le)
+  high_few p low = omega (
+    arith,
+    patch_few p low,
+    mul-le 1 (high l x p) (wide l x p) (high l x p) (wide_some l x laid.paved len p low) (omega arith),
+  )
 
   pub side_few : (p : ℕ) (s : Way) → p < l.patches → size l x p s ≤ face_count l x
   side_few p south low = wide_few p low
@@ -76,33 +74,26 @@ module _ (l : Gluing) (old x : Lengths) (k : ℕ) (laid : IsSurface l) (len : Ar
   side_most p s low =
       let each : count_below (λ m. x (l.use_at p s m).arc) (l.many p s)
       ≤ count_below (λ m. k * old (l.use_at p s m).arc) (l.many p s) =
-      count_below_le (λ m. x (l.use_at p s m).arc) (λ m. k * old (l.use_at p s m).arc) (l.many p s) term in
-      omega (arith, each, count_below_times k (λ m. old (l.use_at p s m).arc) (l.many p s))
+      count_below_le (λ m. x (l.use_at p s m).arc) (λ m. k * old (l.use_at p s m).arc) _ term in
+      omega (arith, count_below_times k (λ m. old (l.use_at p s m).arc) (l.many p s))
     where
       term : (m : ℕ) → m < l.many p s → x (l.use_at p s m).arc ≤ k * old (l.use_at p s m).arc
       term m less =
-          let some : 0 < old (l.use_at p s m).arc = len.some (l.use_at p s m).arc
+          let some : 0 < old (l.use_at p s m).arc = len.some _
           (laid.paved.arc_low (record { patch = p; side = s; at = m }) (record { patch_low = low; low = less })) in
-          by_parts (x (l.use_at p s m).arc) (old (l.use_at p s m).arc) (most (l.use_at p s m).arc) some
-        where
-          by_parts : (a b : ℕ) → a ≤ k → 0 < b → a ≤ k * b
-          by_parts a zero le some = absurd (omega arith)
-          by_parts a (suc b) le some = let e : k * suc b ≡ k + k * b = omega arith in omega (arith, e, le)
+          omega (arith, mul-le k 1 k (old (l.use_at p s m).arc) (omega arith) some, most (l.use_at p s m).arc)
 
   pub cells_most : (n : ℕ) → n ≤ l.patches → cells_before l x n ≤ k * k * cells_before l old n
   cells_most n le =
-      let each : cells_before l x n ≤ count_below (λ p. k * k * (wide l old p * high l old p)) n =
-      count_below_le (λ p. wide l x p * high l x p) (λ p. k * k * (wide l old p * high l old p)) n
-      (λ p low. term p (omega (arith, low, le))) in
-      omega (arith, each, count_below_times (k * k) (λ p. wide l old p * high l old p) n)
+      let each : cells_before l x n ≤ count_below (λ p. k * k * (wide l old p * high l old p)) n = count_below_le
+      (λ p. wide l x p * high l x p) (λ p. k * k * (wide l old p * high l old p)) n (λ p low. term p (omega arith)) in
+      omega (arith, count_below_times (k * k) (λ p. wide l old p * high l old p) n)
     where
       term : (p : ℕ) → p < l.patches → wide l x p * high l x p ≤ k * k * (wide l old p * high l old p)
-      term p low = by_parts (wide l old p) (high l old p)
-          (mul-le (wide l x p) (high l x p) (k * wide l old p) (k * high l old p) (side_most p south low)
-          (side_most p west low))
-        where
-          by_parts : (w h : ℕ) → wide l x p * high l x p ≤ (k * w) * (k * h) → wide l x p * high l x p ≤ k * k * (w * h)
-          by_parts w h most_of = grind (arith, most_of)
+      term p low =
+          let most_of = mul-le (wide l x p) (high l x p) (k * wide l old p) (k * high l old p) (side_most p south low)
+          (side_most p west low) in
+          grind (arith, most_of)
 
 -- The old lengths make as many cells as the mesh has faces.
 pub old_faces : (layout : Layout) (is : IsSomeLayout layout)
@@ -111,9 +102,7 @@ old_faces layout is =
     let m = lies layout is in
     omega (
       arith,
-      is.mesh.few,
       faces_are (gluing_of layout) (long_at layout.arcs) _ m.lengths is.faces m.cell
           (old_model is.faces m.manifold (gluing_of layout) (long_at layout.arcs) m.paved m.lengths m.cell
-          (vertex_at layout)
-          m.arc_dart m.sided m.quads),
+          (vertex_at layout) m.arc_dart m.sided m.quads),
     )

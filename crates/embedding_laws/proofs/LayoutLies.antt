@@ -1,12 +1,11 @@
 -- The layout of a mesh and a full cut lies in the mesh.
-use Rattle.std.proofs.Common.{◌≡◌, ℕ, ◌<◌, Bool, true, List, length, arith}
-use Rattle.def_mesh.specs.{Faces.Faces, Darts.darts, Darts.from_of, Vertices.vertex_count, Meshes.IsMesh}
+use Rattle.std.proofs.Common.{ℕ, ◌<◌, Bool, List, length, arith}
+use Rattle.def_mesh.specs.{Faces.Faces, Vertices.vertex_count, Meshes.IsMesh}
 use Rattle.def_mesh.specs.HalfEdges.{IsQuadManifold, half_edges}
 use Rattle.def_cut.specs.{Cuts.IsCut, FullCut.IsFullCut, FullCut.is_on, Steps.face_of}
 use Rattle.def_layout.specs.{Arcs.dart_at, Arcs.long_at, Embeddings.IsEmbedding, Nodes.is_node, Nodes.AreNodes}
 use Rattle.def_layout.specs.Layouts.{Layout, IsDartLayout, gluing_of, vertex_at}
 use Rattle.def_written.specs.{Laws.AreQuads, Laws.LiesInMesh, EmbeddingLaws.EmbeddingLaw}
-use Rattle.list_laws.proofs.Filters.{IsKept}
 use Rattle.mesh_laws.proofs.HalfEdges.{manifold_law}
 use Rattle.face_laws.proofs.FullCuts.{full_cut_law}
 use Rattle.layout_laws.proofs.FaceNodes.{are_nodes}
@@ -28,37 +27,24 @@ module _ (faces : Faces) (marks : List Bool) (layout : Layout) (mesh : IsMesh fa
     nodes = are_nodes faces laws marks cut
 
     met : (n : ℕ) → n < length layout.nodes → IsMet faces marks full (vertex_at layout n)
-    met n low = by_kept (node_kept (half_edges faces) laws (is_on marks) cut (is_node faces marks) nodes face_of
-        (vertex_count faces) layout lay n low)
-      where
-        by_dart : is_node faces marks (vertex_at layout n) ≡ true
-            → (d : ℕ) × (d < darts faces) × (from_of faces d ≡ vertex_at layout n)
-            → IsMet faces marks full (vertex_at layout n)
-        by_dart is d = node_met faces marks full (vertex_at layout n) d.0 d.1 d.2 is
-
-        by_kept : IsKept (is_node faces marks) 0 (vertex_count faces) (vertex_at layout n)
-            → IsMet faces marks full (vertex_at layout n)
-        by_kept kept =
-            let below : vertex_at layout n < vertex_count faces = omega (arith, kept.high) in
-            by_dart kept.passes (used_dart faces (vertex_at layout n) quads (mesh.used (vertex_at layout n) below))
+    met n low =
+        let kept = node_kept laws cut nodes lay n low in
+        let d = used_dart faces _ quads (mesh.used _ (omega arith)) in
+        node_met faces marks full _ d.0 d.1 d.2 kept.passes
 
     -- Cells are the darts of the patches' lists, and the darts of arcs are those of their lists.
     pub in_mesh : IsEmbedding (half_edges faces) (gluing_of layout) (long_at layout.arcs)
         (cell_dart (half_edges faces) layout)
         (vertex_at layout) (dart_at layout.arcs)
-    in_mesh = sided (half_edges faces) laws (is_on marks) cut (is_node faces marks) nodes face_of (vertex_count faces)
-        layout lay met
+    in_mesh = sided laws cut nodes lay met
 
     lies : LiesInMesh faces (gluing_of layout) (long_at layout.arcs) (vertex_at layout)
     lies = record {
       manifold = mesh.manifold;
       quads = quads;
       used = mesh.used;
-      paved = paved (half_edges faces) laws (is_on marks) cut (is_node faces marks) nodes face_of (vertex_count faces)
-          layout lay;
-      lengths = lengths (half_edges faces) laws (is_on marks) cut (is_node faces marks) nodes face_of
-          (vertex_count faces)
-          layout lay;
+      paved = paved laws cut nodes lay;
+      lengths = lengths laws cut nodes lay;
       cell = cell_dart (half_edges faces) layout;
       arc_dart = dart_at layout.arcs;
       sided = in_mesh;

@@ -1,31 +1,29 @@
 -- The layout of a full cut lies in the mesh.
-use Rattle.std.proofs.Common.{◌≡◌, ◌≢◌, ◌⊎◌, ℕ, zero, suc, ◌+◌, ◌-◌, ◌<◌, Bool, true, false, not, List, length, get_or}
-use Rattle.std.proofs.Common.{Option, Some, None, refl, sym, ◌∙◌, ap, subst, inl, inr, arith}
+use Rattle.std.proofs.Common.{◌≡◌, ◌⊎◌, ℕ, zero, suc, ◌+◌, ◌-◌, ◌<◌, Bool, true, false, length, Option, Some, None}
+use Rattle.std.proofs.Common.{refl, sym, ◌∙◌, ap, subst, inl, inr, arith}
 use Rattle.std.proofs.lemmas.Bool.{cases_eq, cases_lt, cases_order, false≢true}
 use Rattle.std.proofs.lemmas.Option.{none-some}
 use Rattle.def_mesh.specs.HalfEdges.{HalfEdges, IsQuadManifold}
 use Rattle.def_cut.specs.{Cuts.Cut, Cuts.IsCut, Grids.cell_of, Grids.patch_at, Grids.IsGrid, Grids.IsSide, Steps.spin}
-use Rattle.def_layout.specs.{declared.tmesh.SideArc.SideArc, Gluings.Way, Gluings.south, Gluings.east, Gluings.north}
-use Rattle.def_layout.specs.Gluings.{west, Gluing, Slot, IsSlot, use_of}
-use Rattle.def_layout.specs.{Gluings.start_node, Surfaces.HasWholeSides, Surfaces.IsOtherSlot, Lengths.reach}
-use Rattle.def_layout.specs.{Lengths.size, Lengths.wide, Lengths.high, Lengths.AreLengths, Cells.CellDart, Cells.IsDart}
-use Rattle.def_layout.specs.{Cells.dart, Cells.dart_along, Cells.slot_dart, Embeddings.IsEmbedding, Arcs.end_vertex}
-use Rattle.def_layout.specs.{Arcs.IsRun, Arcs.LiesAt, Arcs.path_at, Arcs.dart_at, Arcs.long_at, Borders.side_size}
-use Rattle.def_layout.specs.{Borders.border_dart, Nodes.AreNodes, Layouts.Layout, Layouts.way_number, Layouts.vertex_at}
-use Rattle.def_layout.specs.Layouts.{gluing_of, IsDartLayout}
+use Rattle.def_layout.specs.Gluings.{Way, south, east, north, west, Gluing, Slot, IsSlot, use_of, start_node}
+use Rattle.def_layout.specs.Lengths.{reach, size, wide, high, AreLengths}
+use Rattle.def_layout.specs.Cells.{CellDart, IsDart, dart, dart_along, slot_dart}
+use Rattle.def_layout.specs.Arcs.{end_vertex, IsRun, LiesAt, path_at, dart_at, long_at}
+use Rattle.def_layout.specs.Layouts.{Layout, way_number, vertex_at, gluing_of, IsDartLayout}
+use Rattle.def_layout.specs.{declared.tmesh.SideArc.SideArc, Surfaces.HasWholeSides, Surfaces.IsOtherSlot}
+use Rattle.def_layout.specs.{Embeddings.IsEmbedding, Borders.side_size, Borders.border_dart, Nodes.AreNodes}
 use Rattle.list_laws.proofs.Filters.{IsKept, kept_at, rises}
-use Rattle.layout_laws.proofs.{Runs.run_inner, Borders.IsLine, Borders.line, Borders.on_side, Borders.line_from}
+use Rattle.layout_laws.proofs.{Runs.run_inner, Borders.line, Borders.on_side, Borders.line_from}
 use Rattle.written_laws.proofs.Sides.{slot, IsOn, place_on}
 use Rattle.embedding_laws.proofs.Spins.{spin_low, spin_after, spin_way, spin_once, prev_is}
-use Rattle.embedding_laws.proofs.ArcUses.{on_run, dart_low, same_use}
+use Rattle.embedding_laws.proofs.ArcUses.{dart_low, same_use}
 
 -- The dart of the mesh for a dart of a cell.
 abbrev pub cell_dart : (m : HalfEdges) (layout : Layout) (d : CellDart) → ℕ
 cell_dart m layout d = spin m (way_number d.way) (cell_of (patch_at layout.patches d.patch) d.i d.j)
 
-module _ (m : HalfEdges) (laws : IsQuadManifold m) (cut : Cut) (full : IsCut m cut) (node : ℕ
-    → Bool) (nodes : AreNodes m cut node)
-    (face : ℕ → ℕ) (v_count : ℕ) (t : Layout) (lay : IsDartLayout m cut node face v_count t) where
+module _ {m : HalfEdges} (laws : IsQuadManifold m) {cut : Cut} (full : IsCut m cut) {node : ℕ → Bool} (nodes : AreNodes
+    m cut node) {face : ℕ → ℕ} {v_count : ℕ} {t : Layout} (lay : IsDartLayout m cut node face v_count t) where
   abbrev l : Gluing
   l = gluing_of t
 
@@ -39,15 +37,14 @@ module _ (m : HalfEdges) (laws : IsQuadManifold m) (cut : Cut) (full : IsCut m c
   paved = record { sides_full = full_sides; arc_low = lay.uses; first_low = lay.first_low; last_low = lay.last_low }
     where
       some : (p : ℕ) (s : Way) → p < length t.patches → 0 < side_size (patch_at t.patches p) s
-      some p south low = (lay.patches.patch p low).grid.wide
       some p east low = (lay.patches.patch p low).grid.tall
-      some p north low = (lay.patches.patch p low).grid.wide
       some p west low = (lay.patches.patch p low).grid.tall
+      some p _ low = (lay.patches.patch p low).grid.wide
 
       full_sides : (p : ℕ) (s : Way) → p < length t.patches → 0 < l.many p s
       full_sides p s low = elim (cases_eq (l.many p s) 0) [
         | inl e ↦ let none : size l x p s ≡ 0 = ap (reach l x p s) e in
-            absurd (omega (arith, none, lay.sizes p s low, some p s low))
+            absurd (omega (arith, lay.sizes p s low, some p s low))
         | inr ne ↦ omega arith
       ]
 
@@ -65,59 +62,49 @@ module _ (m : HalfEdges) (laws : IsQuadManifold m) (cut : Cut) (full : IsCut m c
   cell_side : (d : CellDart) → IsDart l x d → IsSide m (patch_at t.patches d.patch) d.i d.j (way_number d.way)
       (cell_dart m t d)
   cell_side d is = record {
-    i_low = omega (arith, is.i_low, lay.sizes d.patch south is.patch_low);
-    j_low = omega (arith, is.j_low, lay.sizes d.patch west is.patch_low);
+    i_low = omega (arith, lay.sizes d.patch south is.patch_low);
+    j_low = omega (arith, lay.sizes d.patch west is.patch_low);
     is = refl;
   }
 
   corner_low : (d : CellDart) → IsDart l x d → cell_of (patch_at t.patches d.patch) d.i d.j < m.count
-  corner_low d is = (grid d.patch is.patch_low).low d.i d.j (cell_side d is).i_low (cell_side d is).j_low
+  corner_low d is = (grid _ is.patch_low).low d.i d.j (cell_side d is).i_low (cell_side d is).j_low
 
   same : (d e : CellDart) → IsDart l x d → IsDart l x e → cell_dart m t d ≡ cell_dart m t e → d ≡ e
   same d e is_d is_e equal =
-      let s : (d.patch ≡ e.patch) × (d.i ≡ e.i) × (d.j ≡ e.j) =
-      lay.patches.once (cell_dart m t d) d.patch d.i d.j (way_number d.way) e.patch e.i e.j (way_number e.way)
-      is_d.patch_low is_e.patch_low
-      (cell_side d is_d) (subst (λ (k : ℕ). IsSide m (patch_at t.patches e.patch) e.i e.j (way_number e.way) k)
-      (sym equal) (cell_side e is_e)) in
-      let ways : d.way ≡ e.way =
-      spin_once m laws (cell_of (patch_at t.patches e.patch) e.i e.j) d.way e.way (corner_low e is_e)
+      let s : (d.patch ≡ e.patch) × (d.i ≡ e.i)
+      × (d.j ≡ e.j) = lay.patches.once _ _ d.i d.j _ _ e.i e.j _ is_d.patch_low is_e.patch_low (cell_side d is_d) (subst
+      (λ (k : ℕ). IsSide m (patch_at t.patches e.patch) e.i e.j (way_number e.way) k) (sym equal) (cell_side e is_e)) in
+      let ways : d.way ≡ e.way = spin_once m laws _ d.way e.way (corner_low e is_e)
       ((λ r. spin m (way_number d.way) (cell_of (patch_at t.patches (sym s.0 r)) (sym s.1 r) (sym s.2 r))) ∙ equal) in
       λ r. dart (s.0 r) (s.1 r) (s.2 r) (ways r)
 
   onto : (k : ℕ) → k < m.count → (d : CellDart) × IsDart l x d × (cell_dart m t d ≡ k)
-  onto k low = by_cover (lay.patches.covers k low)
-    where
-      by_cover : (p : ℕ) × (i : ℕ) × (j : ℕ) × (q : ℕ) × (p < length t.patches)
-          × IsSide m (patch_at t.patches p) i j q k → (d : CellDart) × IsDart l x d × (cell_dart m t d ≡ k)
-      by_cover c =
-          let w : (w : Way) × (spin m c.3 (cell_of (patch_at t.patches c.0) c.1 c.2)
-          ≡ spin m (way_number w) (cell_of (patch_at t.patches c.0) c.1 c.2)) =
-          spin_way m laws c.3 (cell_of (patch_at t.patches c.0) c.1 c.2) in (
-            dart c.0 c.1 c.2 w.0,
-            record {
-              patch_low = c.4;
-              i_low = omega (arith, c.5.i_low, lay.sizes c.0 south c.4);
-              j_low = omega (arith, c.5.j_low, lay.sizes c.0 west c.4);
-            },
-            sym w.1 ∙ sym c.5.is,
-          )
+  onto k low =
+      let (p, i, j, q, p_low, side) = lay.patches.covers k low in
+      let w = spin_way m laws q (cell_of (patch_at t.patches p) i j) in (
+        dart p i j w.0,
+        record {
+          patch_low = p_low;
+          i_low = omega (arith, side.i_low, lay.sizes p south p_low);
+          j_low = omega (arith, side.j_low, lay.sizes p west p_low);
+        },
+        cc (w.1, side.is),
+      )
 
   -- Nodes have vertices of their own.
   pub node_kept : (n : ℕ) → n < length t.nodes → IsKept node 0 v_count (vertex_at t n)
-  node_kept n low = subst (λ (xs : List ℕ). IsKept node 0 v_count (get_or xs n 0)) (sym lay.nodes)
-      (kept_at node 0 v_count n (subst (λ (xs : List ℕ). n < length xs) lay.nodes low))
+  node_kept n low = rw lay.nodes (kept_at node 0 v_count n (rw (← lay.nodes) low))
 
   vertices_rise : (i j : ℕ) → i < j → j < length t.nodes → vertex_at t i < vertex_at t j
-  vertices_rise i j less low = subst (λ (xs : List ℕ). get_or xs i 0 < get_or xs j 0) (sym lay.nodes)
-      (rises node 0 v_count i j less (subst (λ (xs : List ℕ). j < length xs) lay.nodes low))
+  vertices_rise i j less low = rw lay.nodes (rises node 0 v_count i j less (rw (← lay.nodes) low))
 
   pub vertex_same : (i j : ℕ) → i < length t.nodes → j < length t.nodes → vertex_at t i ≡ vertex_at t j → i ≡ j
   vertex_same i j i_low j_low e = elim (cases_order i j) [
     | inl s ↦ s
     | inr o ↦ elim o [
-      | inl less ↦ absurd (omega (arith, e, vertices_rise i j less j_low))
-      | inr more ↦ absurd (omega (arith, e, vertices_rise j i more i_low))
+      | inl less ↦ absurd (omega (arith, vertices_rise i j less j_low))
+      | inr more ↦ absurd (omega (arith, vertices_rise j i more i_low))
     ]
   ]
 
@@ -126,9 +113,8 @@ module _ (m : HalfEdges) (laws : IsQuadManifold m) (cut : Cut) (full : IsCut m c
       ≡ border_dart m (patch_at t.patches p) s k
   rim_dart p south k low = refl
   rim_dart p east k low = ap (λ w. m.next (cell_of (patch_at t.patches p) (w - 1) k)) (lay.sizes p south low)
-  rim_dart p north k low =
-      λ r. m.next (m.next (cell_of (patch_at t.patches p) (lay.sizes p south low r - 1 - k)
-      (lay.sizes p west low r - 1)))
+  rim_dart p north k low = λ r. m.next
+      (m.next (cell_of (patch_at t.patches p) (lay.sizes p south low r - 1 - k) (lay.sizes p west low r - 1)))
   rim_dart p west k low = ap (λ h. m.next (m.next (m.next (cell_of (patch_at t.patches p) 0 (h - 1 - k)))))
       (lay.sizes p west low) ∙ prev_is m laws (cell_of (patch_at t.patches p) 0 ((patch_at t.patches p).h - 1 - k))
 
@@ -147,22 +133,16 @@ module _ (m : HalfEdges) (laws : IsQuadManifold m) (cut : Cut) (full : IsCut m c
         record {
           is_slot = on.is_slot;
           low = on.inside;
-          lies = subst (LiesAt m _ _ _) (ap (border_dart m (patch_at t.patches p) s) (sym on.place) ∙ is)
-              (lay.used (slot p s _) _ on.is_slot on.inside);
+          lies = subst (LiesAt m _ _ _) (cc) (lay.used _ _ on.is_slot on.inside);
         },
       )
 
   pub stands : (d : ℕ) → d < m.count → cut d ≡ true → (w : Slot) × (o : ℕ) × StandsAt d w o
-  stands d low on = by_cover (lay.patches.covers d low)
-    where
-      by_cover : (p : ℕ) × (i : ℕ) × (j : ℕ) × (q : ℕ) × (p < length t.patches)
-          × IsSide m (patch_at t.patches p) i j q d → (w : Slot) × (o : ℕ) × StandsAt d w o
-      by_cover c = by_side (on_side m laws cut full (patch_at t.patches c.0) (grid c.0 c.4) c.3 c.1 c.2 d c.5.i_low
-          c.5.j_low c.5.is on)
-        where
-          by_side : (s : Way) × (k : ℕ) × (k < side_size (patch_at t.patches c.0) s)
-              × (border_dart m (patch_at t.patches c.0) s k ≡ d) → (w : Slot) × (o : ℕ) × StandsAt d w o
-          by_side s = border_stands c.0 s.0 s.1 d c.4 s.2 s.3
+  stands d low on =
+      let (p, i, j, q, p_low, side) = lay.patches.covers d low in
+      let (s, k, less, is) =
+      on_side m laws cut full (patch_at t.patches p) (grid p p_low) q i j d side.i_low side.j_low side.is on in
+      border_stands p s k d p_low less is
 
   -- What lies on an arc has one slot's use.
   one_use : (a : ℕ) (f : Bool) (k d : ℕ) (w : Slot) (o : ℕ) → a < length t.arcs → k < long_at t.arcs a
@@ -175,19 +155,14 @@ module _ (m : HalfEdges) (laws : IsQuadManifold m) (cut : Cut) (full : IsCut m c
   arc_dart_low a k low less = dart_low m laws cut full node nodes t.arcs lay.arcs a k low less
 
   arc_on : (a k : ℕ) → a < length t.arcs → k < long_at t.arcs a → cut (dart_at t.arcs a k) ≡ true
-  arc_on a k low less = ap cut (on_run m laws cut full node nodes t.arcs lay.arcs a k low less)
-      ∙ (arc_run a low).on k less
+  arc_on a k low less = ap cut ((lay.arcs.each a low).each k less) ∙ (arc_run a low).on k less
 
   forward : (a : ℕ) → a < l.arcs → (w : Slot) × IsSlot l w × (use_of l w ≡ record { arc = a; forward = true })
-  forward a low = by_stand (stands (dart_at t.arcs a 0) (arc_dart_low a 0 low (arc_run a low).some)
-      (arc_on a 0 low (arc_run a low).some))
-    where
-      by_stand : (w : Slot) × (o : ℕ) × StandsAt (dart_at t.arcs a 0) w o → (w : Slot) × IsSlot l w
-          × (use_of l w ≡ record { arc = a; forward = true })
-      by_stand s =
-          let u : ((use_of l s.0).arc ≡ a) × ((use_of l s.0).forward ≡ true) × (s.1 ≡ 0) =
-          one_use a true 0 (dart_at t.arcs a 0) s.0 s.1 low (arc_run a low).some refl s.2 in
-          (s.0, s.2.is_slot, λ r. record { arc = u.0 r; forward = u.1 r })
+  forward a low =
+      let (w, o, s) = stands (dart_at t.arcs a 0) (arc_dart_low a 0 low (arc_run a low).some)
+      (arc_on a 0 low (arc_run a low).some) in
+      let u = one_use a true 0 (dart_at t.arcs a 0) w o low (arc_run a low).some refl s in
+      (w, s.is_slot, λ r. record { arc = u.0 r; forward = u.1 r })
 
   -- The twin of a dart of an arc lies on the arc the other way round.
   twin_lies : (a k u : ℕ) → k < long_at t.arcs a → m.twin (dart_at t.arcs a k) ≡ Some u
@@ -209,30 +184,18 @@ module _ (m : HalfEdges) (laws : IsQuadManifold m) (cut : Cut) (full : IsCut m c
       some : 0 < long_at t.arcs (use_of l w).arc
       some = (arc_run (use_of l w).arc a_low).some
 
-      ahead : (v : Slot) × IsSlot l v × (use_of l v ≡ record { arc = (use_of l w).arc; forward = true })
-      ahead = forward (use_of l w).arc a_low
-
       by_way : (f : Bool) → (use_of l w).forward ≡ f → (u : ℕ) → m.twin (dart_at t.arcs (use_of l w).arc 0) ≡ Some u
           → (v : Slot) × IsOtherSlot l w v
-      by_way false e u twin = (
-        ahead.0,
-        (
-          ahead.1,
-          record {
-            arc = ap (λ (z : SideArc). z.arc) ahead.2;
-            turned = ap (λ (z : SideArc). z.forward) ahead.2 ∙ ap not (sym e);
-          },
-        ),
-      )
+      by_way false e u twin =
+          let (v, is_v, used) = forward (use_of l w).arc a_low in
+          (v, (is_v, record { arc = ap (λ (z : SideArc). z.arc) used; turned = cc (used, e) }))
       by_way true e u twin =
-          let on : (u < m.count) × (cut u ≡ true) = twin_on (dart_at t.arcs (use_of l w).arc 0) u
-          (arc_dart_low (use_of l w).arc 0 a_low some) twin (arc_on (use_of l w).arc 0 a_low some) in
-          let s : (v : Slot) × (o : ℕ) × StandsAt u v o = stands u on.0 on.1 in
-          let one : ((use_of l s.0).arc ≡ (use_of l w).arc) × ((use_of l s.0).forward ≡ false)
-          × (s.1 ≡ long_at t.arcs (use_of l w).arc - 1 - 0) =
-          one_use (use_of l w).arc false (long_at t.arcs (use_of l w).arc - 1 - 0) u s.0 s.1 a_low (omega (arith, some))
-          (twin_lies (use_of l w).arc 0 u some twin) s.2 in
-          (s.0, (s.2.is_slot, record { arc = one.0; turned = one.1 ∙ ap not (sym e) }))
+          let on = twin_on (dart_at t.arcs (use_of l w).arc 0) u (arc_dart_low (use_of l w).arc 0 a_low some) twin
+          (arc_on (use_of l w).arc 0 a_low some) in
+          let (v, o, s) = stands u on.0 on.1 in
+          let one = one_use (use_of l w).arc false (long_at t.arcs (use_of l w).arc - 1 - 0) u v o a_low
+          (omega (arith, some)) (twin_lies (use_of l w).arc 0 u some twin) s in
+          (v, (s.is_slot, record { arc = one.0; turned = cc (one.1, e) }))
 
       -- The last border dart of a slot's arc.
       last_dart : (v : Slot) → ℕ
@@ -245,16 +208,13 @@ module _ (m : HalfEdges) (laws : IsQuadManifold m) (cut : Cut) (full : IsCut m c
       backward v is_v arc way none =
           let low : long_at t.arcs (use_of l v).arc - 1 < long_at t.arcs (use_of l v).arc =
           omega (arith, (arc_run (use_of l v).arc (lay.uses v is_v)).some) in
-          let at : LiesAt m (path_at t.arcs (use_of l v).arc).darts (use_of l v).forward
-          (long_at t.arcs (use_of l v).arc - 1) (last_dart v) =
-          lay.used v (long_at t.arcs (use_of l v).arc - 1) is_v low in
+          let at : LiesAt m (path_at t.arcs (use_of l v).arc).darts (use_of l v).forward (long_at t.arcs
+          (use_of l v).arc - 1) (last_dart v) = lay.used v (long_at t.arcs (use_of l v).arc - 1) is_v low in
           let back : LiesAt m (path_at t.arcs (use_of l w).arc).darts false (long_at t.arcs (use_of l w).arc - 1)
-          (last_dart v) =
-          subst (λ (z : SideArc). LiesAt m (path_at t.arcs z.arc).darts z.forward (long_at t.arcs z.arc - 1)
-          (last_dart v))
-          (λ r. record { arc = arc r; forward = way r }) at in
+          (last_dart v) = subst (λ (z : SideArc). LiesAt m (path_at t.arcs z.arc).darts z.forward
+          (long_at t.arcs z.arc - 1) (last_dart v)) (λ r. record { arc = arc r; forward = way r }) at in
           let zero_is : long_at t.arcs (use_of l w).arc - 1 - (long_at t.arcs (use_of l w).arc - 1) ≡ 0 = omega arith in
-          none-some (last_dart v) (sym none ∙ ap (λ i. m.twin (dart_at t.arcs (use_of l w).arc i)) (sym zero_is) ∙ back)
+          none-some (last_dart v) (cc (none, zero_is, back))
 
       by_twin : (o : Option ℕ) → m.twin (dart_at t.arcs (use_of l w).arc 0) ≡ o → ((v : Slot) × IsOtherSlot l w v)
           ⊎ ((v : Slot) → ¬ IsOtherSlot l w v)
@@ -263,49 +223,43 @@ module _ (m : HalfEdges) (laws : IsQuadManifold m) (cut : Cut) (full : IsCut m c
         where
           by_ways : (f : Bool) → (use_of l w).forward ≡ f → (v : Slot) → IsOtherSlot l w v → ⊥
           by_ways false e v o = backward w is refl e none
-          by_ways true e v o = backward v o.0 o.1.arc (o.1.turned ∙ ap not e) none
+          by_ways true e v o = backward v o.0 o.1.arc (cc (o.1.turned, e)) none
 
   alone : (a k : ℕ) → a < l.arcs → k < x a → ((w : Slot) → IsSlot l w → (use_of l w).arc ≡ a → (use_of l w).forward
       ≡ true)
       → m.twin (dart_at t.arcs a k) ≡ None
-  alone a k low less all = by_twin (m.twin (dart_at t.arcs a k)) refl
+  alone a k low less all = by_twin _ refl
     where
       by_twin : (o : Option ℕ) → m.twin (dart_at t.arcs a k) ≡ o → m.twin (dart_at t.arcs a k) ≡ None
       by_twin None e = e
       by_twin (Some u) e =
-          let on : (u < m.count) × (cut u ≡ true) = twin_on (dart_at t.arcs a k) u (arc_dart_low a k low less) e
-          (arc_on a k low less) in
-          let s : (v : Slot) × (o : ℕ) × StandsAt u v o = stands u on.0 on.1 in
-          let one : ((use_of l s.0).arc ≡ a) × ((use_of l s.0).forward ≡ false) × (s.1 ≡ long_at t.arcs a - 1 - k) =
-          one_use a false (long_at t.arcs a - 1 - k) u s.0 s.1 low (omega arith) (twin_lies a k u less e) s.2 in
-          absurd (false≢true (sym one.1 ∙ all s.0 s.2.is_slot one.0))
+          let on = twin_on (dart_at t.arcs a k) u (arc_dart_low a k low less) e (arc_on a k low less) in
+          let (v, o, s) = stands u on.0 on.1 in
+          let one = one_use a false (long_at t.arcs a - 1 - k) u v o low (omega arith) (twin_lies a k u less e) s in
+          absurd (cc (all v s.is_slot one.0))
 
   ahead_is : (w : Slot) (k : ℕ) → IsSlot l w → k < x (use_of l w).arc → (use_of l w).forward ≡ true
       → cell_dart m t (slot_dart l x w k) ≡ dart_at t.arcs (use_of l w).arc k
-  ahead_is w k is less e =
-      rim_dart w.patch w.side (reach l x w.patch w.side w.at + k) is.patch_low
+  ahead_is w k is less e = rim_dart w.patch w.side (reach l x w.patch w.side w.at + k) is.patch_low
       ∙ subst (λ (f : Bool). LiesAt m (path_at t.arcs (use_of l w).arc).darts f k
-      (border_dart m (patch_at t.patches w.patch) w.side (reach l x w.patch w.side w.at + k))) e
-      (lay.used w k is less)
+      (border_dart m (patch_at t.patches w.patch) w.side (reach l x w.patch w.side w.at + k))) e (lay.used w k is less)
 
   behind_is : (w : Slot) (k : ℕ) → IsSlot l w → k < x (use_of l w).arc → (use_of l w).forward ≡ false
       → m.twin (dart_at t.arcs (use_of l w).arc (x (use_of l w).arc - 1 - k)) ≡ Some (cell_dart m t (slot_dart l x w k))
-  behind_is w k is less e =
-      subst (λ (f : Bool). LiesAt m (path_at t.arcs (use_of l w).arc).darts f k
-      (border_dart m (patch_at t.patches w.patch) w.side (reach l x w.patch w.side w.at + k))) e
-      (lay.used w k is less)
+  behind_is w k is less e = subst (λ (f : Bool). LiesAt m (path_at t.arcs (use_of l w).arc).darts f k
+      (border_dart m (patch_at t.patches w.patch) w.side (reach l x w.patch w.side w.at + k))) e (lay.used w k is less)
       ∙ ap Some (sym (rim_dart w.patch w.side (reach l x w.patch w.side w.at + k) is.patch_low))
 
-  first_vertex : (a : ℕ) → a < l.arcs → m.from (dart_at t.arcs a 0) ≡ vertex_at t (l.first a)
-  first_vertex a low = sym (lay.first_at a low)
-
   last_vertex : (a : ℕ) → a < l.arcs → m.from (m.next (dart_at t.arcs a (x a - 1))) ≡ vertex_at t (l.last a)
-  last_vertex a low = sym (lay.last_at a (x a - 1) low (omega (arith, (arc_run a low).some)))
+  last_vertex a low = sym (lay.last_at a _ low (omega (arith, (arc_run a low).some)))
 
   -- A dart of the cut that leaves a node begins a slot's arc there.
   node_starts : (n d : ℕ) → n < l.nodes → d < m.count → cut d ≡ true → m.from d ≡ vertex_at t n → (w : Slot)
       × IsSlot l w × (start_node l (use_of l w) ≡ n)
-  node_starts n d n_low d_low on leaves = by_stand (stands d d_low on)
+  node_starts n d n_low d_low on leaves =
+      let (w, o, s) = stands d d_low on in
+      let z = place (use_of l w).arc (use_of l w).forward o (lay.uses w s.is_slot) s.low s.lies in
+      (w, s.is_slot, starts (use_of l w).arc (use_of l w).forward (lay.uses w s.is_slot) (rw z at s.lies))
     where
       is_node_here : node (m.from d) ≡ true
       is_node_here = ap node leaves ∙ (node_kept n n_low).passes
@@ -318,7 +272,7 @@ module _ (m : HalfEdges) (laws : IsQuadManifold m) (cut : Cut) (full : IsCut m c
           absurd (false≢true (sym (run_inner m laws cut full node nodes (dart_at t.arcs a 0) (long_at t.arcs a)
           (arc_run a a_low) o o_low)
           ∙ ap (λ k. node (m.from k))
-          (sym (at ∙ on_run m laws cut full node nodes t.arcs lay.arcs a (suc o) a_low o_low)) ∙ is_node_here))
+          (sym (at ∙ (lay.arcs.each a a_low).each (suc o) o_low)) ∙ is_node_here))
       place a false (suc o) a_low o_low at =
           let k_low : long_at t.arcs a - 1 - suc o < long_at t.arcs a = omega arith in
           let ends : m.from d ≡ m.from (m.next (dart_at t.arcs a (long_at t.arcs a - 1 - suc o))) =
@@ -326,7 +280,7 @@ module _ (m : HalfEdges) (laws : IsQuadManifold m) (cut : Cut) (full : IsCut m c
           (arc_dart_low a (long_at t.arcs a - 1 - suc o) a_low k_low) at).0 in
           absurd (false≢true (sym ((arc_run a a_low).inside (long_at t.arcs a - 1 - suc o) (omega arith))
           ∙ ap (λ k. node (m.from (m.next k)))
-          (sym (on_run m laws cut full node nodes t.arcs lay.arcs a (long_at t.arcs a - 1 - suc o) a_low k_low))
+          (sym ((lay.arcs.each a a_low).each (long_at t.arcs a - 1 - suc o) k_low))
           ∙ ap node (sym ends) ∙ is_node_here))
 
       starts : (a : ℕ) (f : Bool) → a < length t.arcs → LiesAt m (path_at t.arcs a).darts f 0 d
@@ -342,63 +296,34 @@ module _ (m : HalfEdges) (laws : IsQuadManifold m) (cut : Cut) (full : IsCut m c
           (ap (λ i. m.twin (dart_at t.arcs a i)) (sym z) ∙ at)).0 in
           vertex_same (l.last a) n (lay.last_low a a_low) n_low (sym (last_vertex a a_low) ∙ sym ends ∙ leaves)
 
-      by_stand : (w : Slot) × (o : ℕ) × StandsAt d w o → (w : Slot) × IsSlot l w × (start_node l (use_of l w) ≡ n)
-      by_stand s =
-          let z : s.1 ≡ 0 = place (use_of l s.0).arc (use_of l s.0).forward s.1 (lay.uses s.0 s.2.is_slot) s.2.low
-          s.2.lies in (
-            s.0,
-            s.2.is_slot,
-            starts (use_of l s.0).arc (use_of l s.0).forward (lay.uses s.0 s.2.is_slot)
-                (subst (λ (o : ℕ). LiesAt m (path_at t.arcs (use_of l s.0).arc).darts (use_of l s.0).forward o d) z
-                s.2.lies),
-          )
-
   -- After a dart of the cut comes one that leaves its end.
   pub goes_on : (d : ℕ) → d < m.count → cut d ≡ true → (e : ℕ) × (e < m.count) × (cut e ≡ true)
       × (m.from e ≡ end_vertex m d)
-  goes_on d low on = by_cover (lay.patches.covers d low)
-    where
-      by_cover : (p : ℕ) × (i : ℕ) × (j : ℕ) × (q : ℕ) × (p < length t.patches)
-          × IsSide m (patch_at t.patches p) i j q d → (e : ℕ) × (e < m.count) × (cut e ≡ true)
-          × (m.from e ≡ end_vertex m d)
-      by_cover c = by_side (on_side m laws cut full (patch_at t.patches c.0) (grid c.0 c.4) c.3 c.1 c.2 d c.5.i_low
-          c.5.j_low c.5.is on)
-        where
-          by_line : (s : Way) (k : ℕ) → k < side_size (patch_at t.patches c.0) s
-              → border_dart m (patch_at t.patches c.0) s k ≡ d
-              → IsLine m cut (border_dart m (patch_at t.patches c.0) s) (side_size (patch_at t.patches c.0) s)
-              → (e : ℕ) × (e < m.count) × (cut e ≡ true) × (m.from e ≡ end_vertex m d)
-          by_line s k less is b = elim (cases_lt (suc k) (side_size (patch_at t.patches c.0) s)) [
-            | inl more ↦ (
-              border_dart m (patch_at t.patches c.0) s (suc k),
-              b.low (suc k) more,
-              b.on (suc k) more,
-              line_from m laws cut full node nodes (border_dart m (patch_at t.patches c.0) s)
-                  (side_size (patch_at t.patches c.0) s) b k more ∙ ap (end_vertex m) is,
-            )
-            | inr last ↦ (
-              m.next d,
-              laws.next_low d low,
-              ap (λ z. cut (m.next z)) (sym is) ∙ b.last k (omega arith),
-              refl,
-            )
-          ]
-
-          by_side : (s : Way) × (k : ℕ) × (k < side_size (patch_at t.patches c.0) s)
-              × (border_dart m (patch_at t.patches c.0) s k ≡ d) → (e : ℕ) × (e < m.count) × (cut e ≡ true)
-              × (m.from e ≡ end_vertex m d)
-          by_side s = by_line s.0 s.1 s.2 s.3 (line m laws cut full (patch_at t.patches c.0) (grid c.0 c.4) s.0)
+  goes_on d low on =
+      let (p, i, j, q, p_low, side) = lay.patches.covers d low in
+      let patch = patch_at t.patches p in
+      let (s, k, less, is) = on_side m laws cut full patch (grid p p_low) q i j d side.i_low side.j_low side.is on in
+      let b = line m laws cut full patch (grid p p_low) s in
+      elim (cases_lt (suc k) (side_size (patch_at t.patches p) s)) [
+        | inl more ↦ (
+          border_dart m patch s (suc k),
+          b.low (suc k) more,
+          b.on (suc k) more,
+          cc (line_from m laws cut full node nodes (border_dart m patch s) (side_size patch s) b k more),
+        )
+        | inr last ↦ (m.next d, laws.next_low d low, cc (b.last k (omega arith)), refl)
+      ]
 
   -- All that a layout needs of its mesh, where an edge of the cut ends at each node.
   pub sided : ((n : ℕ) → n < l.nodes → (e : ℕ) × (e < m.count) × (cut e ≡ true)
       × ((m.from e ≡ vertex_at t n) ⊎ (end_vertex m e ≡ vertex_at t n)))
       → IsEmbedding m l x (cell_dart m t) (vertex_at t) (dart_at t.arcs)
   sided met = record {
-    low = λ d is. spin_low m laws (way_number d.way) (cell_of (patch_at t.patches d.patch) d.i d.j) (corner_low d is);
+    low = λ d is. spin_low m laws _ _ (corner_low d is);
     same = same;
     onto = onto;
     vertex_same = vertex_same;
-    turned = λ d. spin_after m laws d.way (cell_of (patch_at t.patches d.patch) d.i d.j);
+    turned = λ d. spin_after m laws d.way _;
     east_of = east_of;
     north_of = north_of;
     forward = forward;
@@ -408,7 +333,7 @@ module _ (m : HalfEdges) (laws : IsQuadManifold m) (cut : Cut) (full : IsCut m c
     ahead = ahead_is;
     behind = behind_is;
     alone = alone;
-    first_at = first_vertex;
+    first_at = λ a low. sym (lay.first_at a low);
     last_at = last_vertex;
   }
     where
@@ -416,23 +341,23 @@ module _ (m : HalfEdges) (laws : IsQuadManifold m) (cut : Cut) (full : IsCut m c
           → m.twin (cell_dart m t (dart p i j east)) ≡ Some (cell_dart m t (dart p (i + 1) j west))
       east_of p i j low i_low j_low =
           let one : suc i ≡ i + 1 = omega arith in
-          (grid p low).east i j (omega (arith, lay.sizes p south low)) (omega (arith, lay.sizes p west low))
-          ∙ ap Some (ap (λ k. m.prev (cell_of (patch_at t.patches p) k j)) one
-          ∙ sym (prev_is m laws (cell_of (patch_at t.patches p) (i + 1) j)))
+          cc (
+            (grid p low).east i j (omega (arith, lay.sizes p south low)) (omega (arith, lay.sizes p west low)),
+            prev_is m laws (cell_of (patch_at t.patches p) (i + 1) j),
+          )
 
       north_of : (p i j : ℕ) → p < l.patches → i < wide l x p → j + 1 < high l x p
           → m.twin (cell_dart m t (dart p i j north)) ≡ Some (cell_dart m t (dart p i (j + 1) south))
       north_of p i j low i_low j_low =
           let one : suc j ≡ j + 1 = omega arith in
-          (grid p low).north i j (omega (arith, lay.sizes p south low)) (omega (arith, lay.sizes p west low))
-          ∙ ap (λ k. Some (cell_of (patch_at t.patches p) i k)) one
+          cc ((grid p low).north i j (omega (arith, lay.sizes p south low)) (omega (arith, lay.sizes p west low)))
 
       reached : (n : ℕ) → n < l.nodes → (w : Slot) × IsSlot l w × (start_node l (use_of l w) ≡ n)
-      reached n low = by_end (met n low).0 (met n low).1 (met n low).2 (met n low).3
-        where
-          by_end : (e : ℕ) → e < m.count → cut e ≡ true → (m.from e ≡ vertex_at t n) ⊎ (end_vertex m e ≡ vertex_at t n)
-              → (w : Slot) × IsSlot l w × (start_node l (use_of l w) ≡ n)
-          by_end e e_low on (inl leaves) = node_starts n e low e_low on leaves
-          by_end e e_low on (inr arrives) =
-              let f : (f : ℕ) × (f < m.count) × (cut f ≡ true) × (m.from f ≡ end_vertex m e) = goes_on e e_low on in
-              node_starts n f.0 low f.1 f.2 (f.3 ∙ arrives)
+      reached n low =
+          let (e, e_low, on, ends) = met n low in
+          elim ends [
+            | inl leaves ↦ node_starts n e low e_low on leaves
+            | inr arrives ↦
+                let f = goes_on e e_low on in
+                node_starts n f.0 low f.1 f.2 (cc)
+          ]

@@ -1,6 +1,6 @@
 -- At each node an edge of the cut ends.
 use Rattle.std.proofs.Common.{◌≡◌, ◌⊎◌, ℕ, zero, suc, ◌<◌, Bool, true, false, not, cond, List, [], ◌∷◌, length, get_or}
-use Rattle.std.proofs.Common.{refl, ◌∙◌, ap, inl, inr, arith}
+use Rattle.std.proofs.Common.{refl, ◌∙◌, inl, inr, arith}
 use Rattle.std.proofs.lemmas.Bool.{cases_lt, or_cases, and_parts, not-true, ltb-true}
 use Rattle.std.specs.{Prelude.nat_lt, Prelude.is_some, List.filter}
 use Rattle.def_mesh.specs.{Faces.Faces, Darts.darts, Darts.prev_of, Darts.from_of, Darts.to_of, Darts.twin_of}
@@ -20,7 +20,7 @@ filter_some p (x ∷ xs) some = by_test (p x) refl some (filter_some p xs)
         → (k : ℕ) × (k < suc (length xs)) × (p (get_or (x ∷ xs) k 0) ≡ true)
     by_test true is more rest = (zero, omega arith, is)
     by_test false is more rest =
-        let r : (k : ℕ) × (k < length xs) × (p (get_or xs k 0) ≡ true) = rest more in (suc r.0, omega (arith, r.1), r.2)
+        let r = rest more in (suc r.0, omega arith, r.2)
 
 module _ (faces : Faces) (marks : List Bool) (full : IsFullCut faces marks) where
   -- An edge of the cut that ends at v.
@@ -29,8 +29,7 @@ module _ (faces : Faces) (marks : List Bool) (full : IsFullCut faces marks) wher
 
   pub node_met : (v d : ℕ) → d < darts faces → from_of faces d ≡ v → is_node faces marks v ≡ true → IsMet v
   node_met v d d_low leaves is = elim (or_cases (not (is_regular faces v)) (nat_lt 2 (cut_degree faces marks v)) is) [
-    | inl irregular ↦ by_mark (full.irregular d d_low (ap (is_regular faces) leaves
-        ∙ not-true (is_regular faces v) irregular))
+    | inl irregular ↦ by_mark (full.irregular d d_low (cc (leaves, not-true (is_regular faces v) irregular)))
     | inr many ↦ by_degree (ltb-true 2 (cut_degree faces marks v) many)
   ]
     where
@@ -39,7 +38,7 @@ module _ (faces : Faces) (marks : List Bool) (full : IsFullCut faces marks) wher
 
       by_mark : (e : ℕ) × (e < darts faces) × (is_on marks e ≡ true)
           × ((from_of faces e ≡ from_of faces d) ⊎ (to_of faces e ≡ from_of faces d)) → IsMet v
-      by_mark e = (e.0, e.1, e.2, elim e.3 [ inl s ↦ inl (s ∙ leaves) | inr s ↦ inr (s ∙ leaves) ])
+      by_mark e = (e.0, e.1, e.2, elim e.3 [ inl s ↦ inl (cc (s, leaves)) | inr s ↦ inr (cc (s, leaves)) ])
 
       by_leaving : (k : ℕ) × (k < length (fan_of faces v)) × (is_on marks (get_or (fan_of faces v) k 0) ≡ true)
           → IsMet v

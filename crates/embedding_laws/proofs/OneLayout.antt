@@ -1,25 +1,22 @@
 -- A mesh and a full cut have at most one layout.
-use Rattle.std.proofs.Common.{◌≡◌, ◌⊎◌, ℕ, zero, suc, ◌+◌, ◌-◌, ◌<◌, ◌≤◌, Bool, true, false, List, [], length, get_or}
-use Rattle.std.proofs.Common.{sym, ◌∙◌, ap, subst, inl, inr, arith}
-use Rattle.std.proofs.lemmas.Bool.{cases_eq, cases_order}
-use Rattle.std.proofs.lemmas.List.{ext_get_or}
+use Rattle.std.proofs.Common.{◌≡◌, ℕ, zero, suc, ◌+◌, ◌-◌, ◌<◌, ◌≤◌, Bool, true, false, List, [], length, get_or, sym}
+use Rattle.std.proofs.Common.{◌∙◌, ap, subst, inl, inr, arith}
+use Rattle.std.proofs.{lemmas.Bool.cases_eq, lemmas.Bool.cases_order, lemmas.List.ext_get_or}
 use Rattle.sum_laws.proofs.Counts.{count_below_same}
 use Rattle.written_laws.proofs.Runs.{count_rises}
-use Rattle.def_mesh.specs.{HalfEdges.HalfEdges, HalfEdges.IsQuadManifold, HalfEdges.half_edges, Vertices.vertex_count}
-use Rattle.def_cut.specs.{Cuts.Cut, Cuts.IsCut, FullCut.is_on, Grids.Rectangle, Grids.patch_at, Steps.face_of}
+use Rattle.def_mesh.specs.HalfEdges.{HalfEdges, IsQuadManifold, half_edges}
+use Rattle.def_cut.specs.{Cuts.Cut, Cuts.IsCut, FullCut.is_on, Grids.patch_at, Steps.face_of}
 use Rattle.cut_laws.proofs.OneList.{one_list_law}
 use Rattle.cut_laws.proofs.Increasing.{AreIncreasing, increasing_place, same_many, same_values}
-use Rattle.def_layout.specs.{declared.tmesh.SideArc.SideArc, Arcs.end_vertex, Arcs.LiesAt, Arcs.Path, Arcs.path_at}
-use Rattle.def_layout.specs.{Arcs.dart_at, Arcs.long_at, Arcs.name_at, Arcs.AreArcs, Borders.border_dart, Gluings.Way}
-use Rattle.def_layout.specs.Gluings.{south, east, north, west, Slot, IsSlot}
-use Rattle.def_layout.specs.{Lengths.reach, Nodes.is_node, Nodes.AreNodes, Layouts.Layout, Layouts.side_at}
-use Rattle.def_layout.specs.{Layouts.vertex_at}
-use Rattle.def_layout.specs.Layouts.{gluing_of, IsDartLayout}
+use Rattle.def_layout.specs.Arcs.{LiesAt, Path, path_at, dart_at, long_at, name_at, AreArcs}
+use Rattle.def_layout.specs.Gluings.{Way, south, east, north, west, Slot, IsSlot}
+use Rattle.def_layout.specs.Layouts.{Layout, side_at, gluing_of, IsDartLayout}
+use Rattle.def_layout.specs.{declared.tmesh.SideArc.SideArc, Borders.border_dart, Lengths.reach, Nodes.AreNodes}
 use Rattle.def_written.specs.EmbeddingLaws.{OneLayoutLaw}
 use Rattle.face_laws.proofs.FullCuts.{full_cut_law}
 use Rattle.layout_laws.proofs.FaceNodes.{are_nodes}
 use Rattle.mesh_laws.proofs.HalfEdges.{manifold_law}
-use Rattle.embedding_laws.proofs.ArcUses.{dart_low, same_arc, one_name_both, clash, same_use, IsSameArc}
+use Rattle.embedding_laws.proofs.ArcUses.{dart_low, same_arc, one_name_both, clash, same_use}
 use Rattle.embedding_laws.proofs.Lies.{vertex_same}
 
 module _ (m : HalfEdges) (laws : IsQuadManifold m) (cut : Cut) (full : IsCut m cut) (node : ℕ
@@ -35,33 +32,23 @@ module _ (m : HalfEdges) (laws : IsQuadManifold m) (cut : Cut) (full : IsCut m c
   found : (arcs others : List Path) (are : AreArcs m cut node arcs) (them : AreArcs m cut node others) (a : ℕ)
       → a < length arcs → IsFound arcs others a
   found arcs others are them a low =
-      by_cover (them.covers (dart_at arcs a 0) (dart_low m laws cut full node nodes arcs are a 0 low some) (run_on))
+      let (b, o, f, b_low, o_low, lies) = them.covers (dart_at arcs a 0) (dart_low m laws cut full node nodes arcs are a
+      0 low (are.each a low).run.some) ((are.each a low).run.on 0 (are.each a low).run.some) in
+      by_way b o f b_low o_low lies
     where
-      some : 0 < long_at arcs a
-      some = (are.each a low).run.some
-
-      run_on : cut (dart_at arcs a 0) ≡ true
-      run_on = (are.each a low).run.on 0 some
-
-      by_cover : (b : ℕ) × (o : ℕ) × (f : Bool) × (b < length others) × (o < long_at others b)
-          × LiesAt m (path_at others b).darts f o (dart_at arcs a 0) → IsFound arcs others a
-      by_cover c = by_way c.0 c.1 c.2 c.3 c.4 c.5
-        where
-          by_way : (b o : ℕ) (f : Bool) → b < length others → o < long_at others b
-              → LiesAt m (path_at others b).darts f o (dart_at arcs a 0) → IsFound arcs others a
-          by_way b o true b_low o_low lies =
-              let s : IsSameArc m laws cut full node nodes arcs are others them a b 0 o =
-              same_arc m laws cut full node nodes arcs are others them a b 0 o low b_low some o_low lies in
-              record {
-                at = b;
-                low = b_low;
-                name = one_name_both m laws cut full node nodes arcs are others them a b 0 o low b_low s;
-                long = s.long;
-                each = s.each;
-              }
-          by_way b o false b_low o_low lies =
-              absurd (clash m laws cut full node nodes arcs are others them a b 0 (long_at others b - 1 - o) low b_low
-              some (omega arith) lies)
+      by_way : (b o : ℕ) (f : Bool) → b < length others → o < long_at others b
+          → LiesAt m (path_at others b).darts f o (dart_at arcs a 0) → IsFound arcs others a
+      by_way b o true b_low o_low lies =
+          let s = same_arc laws full nodes are them a b 0 o low b_low (are.each a low).run.some o_low lies in
+          record {
+            at = b;
+            low = b_low;
+            name = one_name_both laws full nodes are them a b 0 o low b_low s;
+            long = s.long;
+            each = s.each;
+          }
+      by_way b o false b_low o_low lies = absurd (clash laws full nodes are them a b 0 (long_at others b - 1 - o) low
+          b_low (are.each a low).run.some (omega arith) lies)
 
   increasing : (arcs : List Path) → AreArcs m cut node arcs → AreIncreasing (name_at arcs) (length arcs)
   increasing arcs are = record { step = are.ordered }
@@ -85,58 +72,36 @@ module _ (m : HalfEdges) (laws : IsQuadManifold m) (cut : Cut) (full : IsCut m c
           (increasing others them) there back
 
       each : (a : ℕ) → a < length arcs → (path_at arcs a).darts ≡ (path_at others a).darts
-      each a low = by_found (found arcs others are them a low)
-        where
-          by_found : IsFound arcs others a → (path_at arcs a).darts ≡ (path_at others a).darts
-          by_found f =
-              let same : f.at ≡ a =
-              increasing_place (name_at others) (length others) (increasing others them) f.at a f.low
-              (omega (arith, low, many))
-              (sym f.name ∙ same_values (name_at arcs) (name_at others) (length arcs) (length others)
-              (increasing arcs are) (increasing others them) there back a low) in
-              ext_get_or 0 (path_at arcs a).darts (path_at others f.at).darts f.long f.each
-              ∙ ap (λ (b : ℕ). (path_at others b).darts) same
+      each a low =
+          let f = found arcs others are them a low in
+          let same = increasing_place _ _ (increasing others them) f.at a f.low (omega (arith, low, many))
+          (cc (same_values (name_at arcs) (name_at others) (length arcs) (length others) (increasing arcs are)
+          (increasing others them) there back a low)) in
+          cc (ext_get_or 0 (path_at arcs a).darts (path_at others f.at).darts f.long f.each)
 
   module _ (face : ℕ → ℕ) (v : ℕ) where
     -- The layouts have the same nodes, arcs and patches.
-    same_paths : (t u : Layout) → IsDartLayout m cut node face v t → IsDartLayout m cut node face v u
-        → t.nodes ≡ u.nodes
-        → t.arcs ≡ u.arcs
-    same_paths t u lt lu same = ext_get_or (record { first = 0; last = 0; darts = [] }) t.arcs u.arcs s.many path
-      where
-        s : AreSame t.arcs u.arcs
-        s = same_arcs t.arcs u.arcs lt.arcs lu.arcs
-
-        path : (a : ℕ) → a < length t.arcs → path_at t.arcs a ≡ path_at u.arcs a
-        path a low = λ i. record { first = first i; last = last i; darts = s.each a low i }
-          where
-            u_low : a < length u.arcs
-            u_low = omega (arith, low, s.many)
-
-            long : long_at t.arcs a ≡ long_at u.arcs a
-            long = ap (λ (ds : List ℕ). length ds) (s.each a low)
-
-            some : 0 < long_at t.arcs a
-            some = (lt.arcs.each a low).run.some
-
-            kept : (n : ℕ) → vertex_at u n ≡ vertex_at t n
-            kept n = ap (λ (xs : List ℕ). get_or xs n 0) (sym same)
-
-            first : (path_at t.arcs a).first ≡ (path_at u.arcs a).first
-            first = vertex_same m laws cut full node nodes face v t lt (path_at t.arcs a).first (path_at u.arcs a).first
-                (lt.first_low a low)
-                (omega (arith, lu.first_low a u_low, ap (λ (xs : List ℕ). length xs) same))
-                (lt.first_at a low ∙ (ap (λ (ds : List ℕ). m.from (get_or ds 0 0)) (s.each a low)
-                ∙ (sym (lu.first_at a u_low) ∙ kept (path_at u.arcs a).first)))
-
-            last : (path_at t.arcs a).last ≡ (path_at u.arcs a).last
-            last = vertex_same m laws cut full node nodes face v t lt (path_at t.arcs a).last (path_at u.arcs a).last
-                (lt.last_low a low)
-                (omega (arith, lu.last_low a u_low, ap (λ (xs : List ℕ). length xs) same))
-                (lt.last_at a (long_at t.arcs a - 1) low (omega (arith, some))
-                ∙ (ap (λ (ds : List ℕ). end_vertex m (get_or ds (long_at t.arcs a - 1) 0)) (s.each a low)
-                ∙ (sym (lu.last_at a (long_at t.arcs a - 1) u_low (omega (arith, long, some)))
-                ∙ kept (path_at u.arcs a).last)))
+    same_paths : (t u : Layout) → IsDartLayout m cut node face v t → IsDartLayout m cut node face v u → t.nodes
+        ≡ u.nodes → t.arcs ≡ u.arcs
+    same_paths t u lt lu same =
+        let s = same_arcs t.arcs u.arcs lt.arcs lu.arcs in
+        ext_get_or (record { first = 0; last = 0; darts = [] }) t.arcs u.arcs s.many (λ a low.
+        let u_low : a < length u.arcs = omega (arith, low, s.many) in
+        let long = ap (λ (ds : List ℕ). length ds) (s.each a low) in
+        let nodes_long = ap (λ (xs : List ℕ). length xs) same in
+        let some = (lt.arcs.each a low).run.some in
+        let first = vertex_same laws full nodes lt (path_at t.arcs a).first
+        (path_at u.arcs a).first (lt.first_low a low) (omega (arith, lu.first_low a u_low, nodes_long))
+        (cc (lt.first_at a low, s.each a low, lu.first_at a u_low, same)) in
+        let last = vertex_same laws full nodes lt (path_at t.arcs a).last
+        (path_at u.arcs a).last (lt.last_low a low) (omega (arith, lu.last_low a u_low, nodes_long))
+        (cc (
+          lt.last_at a (long_at t.arcs a - 1) low (omega (arith, some)),
+          s.each a low,
+          lu.last_at a (long_at t.arcs a - 1) u_low (omega (arith, long, some)),
+          same,
+        )) in
+        λ i. record { first = first i; last = last i; darts = s.each a low i })
 
     -- Two layouts that differ in their sides at most.
     module _ (t : Layout) (sides : List (List (List SideArc))) (lt : IsDartLayout m cut node face v t)
@@ -166,44 +131,30 @@ module _ (m : HalfEdges) (laws : IsQuadManifold m) (cut : Cut) (full : IsCut m c
           (λ i l. ap (λ (w : SideArc). x w.arc) (before i l))
 
       -- So they agree there, too.
-      one_more : (p : ℕ) (s : Way) (k : ℕ) → p < length t.patches → k < (gluing_of t).many p s
-          → k < (gluing_of u).many p s
-          → ((i : ℕ) → i < k → here p s i ≡ there p s i) → here p s k ≡ there p s k
+      one_more : (p : ℕ) (s : Way) (k : ℕ) → p < length t.patches → k < (gluing_of t).many p s → k
+          < (gluing_of u).many p s → ((i : ℕ) → i < k → here p s i ≡ there p s i) → here p s k ≡ there p s k
       one_more p s k low one other before =
-          by_use (same_use m laws cut full node nodes t.arcs lt.arcs (here p s k).arc (there p s k).arc
-          (here p s k).forward (there p s k).forward 0 0
-          (border_dart m (patch_at t.patches p) s (reach (gluing_of t) x p s k + 0)) a_low b_low
-          (some (here p s k).arc a_low) (some (there p s k).arc b_low)
-          (lt.used (slot p s k) 0 is_one (some (here p s k).arc a_low))
-          (subst (λ (r : ℕ). LiesAt m (path_at t.arcs (there p s k).arc).darts (there p s k).forward 0
-          (border_dart m (patch_at t.patches p) s (r + 0)))
-          (sym (same_reach p s k before)) (lu.used (slot p s k) 0 is_other (some (there p s k).arc b_low))))
-        where
-          is_one : IsSlot (gluing_of t) (slot p s k)
-          is_one = record { patch_low = low; low = one }
-
-          is_other : IsSlot (gluing_of u) (slot p s k)
-          is_other = record { patch_low = low; low = other }
-
-          a_low : (here p s k).arc < length t.arcs
-          a_low = lt.uses (slot p s k) is_one
-
-          b_low : (there p s k).arc < length t.arcs
-          b_low = lu.uses (slot p s k) is_other
-
-          by_use : ((here p s k).arc ≡ (there p s k).arc) × ((here p s k).forward ≡ (there p s k).forward)
-              × (◌≡◌ {A = ℕ} 0 0) → here p s k ≡ there p s k
-          by_use e = λ i. record { arc = e.0 i; forward = e.1 i }
+          let is_one : IsSlot (gluing_of t) (slot p s k) = record { patch_low = low; low = one } in
+          let is_other : IsSlot (gluing_of u) (slot p s k) = record { patch_low = low; low = other } in
+          let a_low : (here p s k).arc < length t.arcs = lt.uses (slot p s k) is_one in
+          let b_low : (there p s k).arc < length t.arcs = lu.uses (slot p s k) is_other in
+          let e = same_use m laws cut full node nodes t.arcs lt.arcs (here p s k).arc (there p s k).arc
+          (here p s k).forward (there p s k).forward 0 0 (border_dart m (patch_at t.patches p) s (reach (gluing_of t) x
+          p s k + 0)) a_low b_low (some (here p s k).arc a_low) (some (there p s k).arc b_low) (lt.used (slot p s k) 0
+          is_one (some (here p s k).arc a_low)) (subst (λ (r : ℕ). LiesAt m (path_at t.arcs (there p s k).arc).darts
+          (there p s k).forward 0 (border_dart m (patch_at t.patches p) s (r + 0))) (sym (same_reach p s k before))
+          (lu.used (slot p s k) 0 is_other (some (there p s k).arc b_low))) in
+          λ i. record { arc = e.0 i; forward = e.1 i }
 
       agree : (p : ℕ) (s : Way) (k : ℕ) → p < length t.patches → k ≤ (gluing_of t).many p s → k ≤ (gluing_of u).many p s
           → (i : ℕ) → i < k → here p s i ≡ there p s i
       agree p s zero low one other i l = absurd (omega arith)
-      agree p s (suc k) low one other i l = by_last (cases_eq i k) (agree p s k low (omega arith) (omega arith))
-        where
-          by_last : (i ≡ k) ⊎ (i ≡ k → ⊥) → ((j : ℕ) → j < k → here p s j ≡ there p s j) → here p s i ≡ there p s i
-          by_last (inl e) before = subst (λ (j : ℕ). here p s j ≡ there p s j) (sym e)
-              (one_more p s k low (omega arith) (omega arith) before)
-          by_last (inr ne) before = before i (omega arith)
+      agree p s (suc k) low one other i l =
+          let before = agree p s k low (omega arith) (omega arith) in
+          elim (cases_eq i k) [
+            | inl e ↦ rw e (one_more p s k low (omega arith) (omega arith) before)
+            | inr ne ↦ before i (omega arith)
+          ]
 
       -- They have as many uses, since both are as long as the side of the patch.
       same_count : (p : ℕ) (s : Way) → p < length t.patches → (gluing_of t).many p s ≡ (gluing_of u).many p s
@@ -233,9 +184,8 @@ module _ (m : HalfEdges) (laws : IsQuadManifold m) (cut : Cut) (full : IsCut m c
               omega (arith, lt.sizes p s low, lu.sizes p s low, reached, far, step)
 
       same_side : (p : ℕ) (s : Way) → p < length t.patches → side_at t p s ≡ side_at u p s
-      same_side p s low = ext_get_or (record { arc = 0; forward = true }) (side_at t p s) (side_at u p s)
-          (same_count p s low)
-          (λ i l. agree p s ((gluing_of t).many p s) low (omega arith) (omega (arith, same_count p s low)) i l)
+      same_side p s low = ext_get_or (record { arc = 0; forward = true }) (side_at t p s) (side_at u p s) (same_count p
+          s low) (λ i l. agree p s ((gluing_of t).many p s) low (omega arith) (omega (arith, same_count p s low)) i l)
 
       same_four : (p : ℕ) → p < length t.patches → get_or t.sides p [] ≡ get_or sides p []
       same_four p low = ext_get_or [] (get_or t.sides p []) (get_or sides p []) (lt.four p low ∙ sym (lu.four p low))
@@ -249,7 +199,7 @@ module _ (m : HalfEdges) (laws : IsQuadManifold m) (cut : Cut) (full : IsCut m c
           by_number (suc (suc (suc (suc i)))) l = absurd (omega arith)
 
       same_sides : t.sides ≡ sides
-      same_sides = ext_get_or [] t.sides sides (lt.sided ∙ sym lu.sided)
+      same_sides = ext_get_or [] t.sides sides (cc (lt.sided, lu.sided))
           (λ p l. same_four p (omega (arith, l, lt.sided)))
 
     one_layout : (t u : Layout) → IsDartLayout m cut node face v t → IsDartLayout m cut node face v u → t ≡ u
@@ -261,7 +211,7 @@ module _ (m : HalfEdges) (laws : IsQuadManifold m) (cut : Cut) (full : IsCut m c
     }
       where
         nodes_same : t.nodes ≡ u.nodes
-        nodes_same = lt.nodes ∙ sym lu.nodes
+        nodes_same = cc (lt.nodes, lu.nodes)
 
         arcs_same : t.arcs ≡ u.arcs
         arcs_same = same_paths t u lt lu nodes_same
@@ -270,32 +220,14 @@ module _ (m : HalfEdges) (laws : IsQuadManifold m) (cut : Cut) (full : IsCut m c
         patches_same = one_list_law m cut face laws full t.patches u.patches lt.patches lu.patches
 
         moved : IsDartLayout m cut node face v (record t { sides = u.sides })
-        moved =
-            subst (λ (xs : List Rectangle). IsDartLayout m cut node face v (record {
-              nodes = t.nodes;
-              arcs = t.arcs;
-              patches = xs;
-              sides = u.sides;
-            })) (sym patches_same)
-            (subst (λ (xs : List Path). IsDartLayout m cut node face v (record {
-              nodes = t.nodes;
-              arcs = xs;
-              patches = u.patches;
-              sides = u.sides;
-            })) (sym arcs_same)
-            (subst (λ (xs : List ℕ). IsDartLayout m cut node face v (record {
-              nodes = xs;
-              arcs = u.arcs;
-              patches = u.patches;
-              sides = u.sides;
-            })) (sym nodes_same) lu))
+        moved = rw (nodes_same, arcs_same, patches_same) lu
 
         sides_same : t.sides ≡ u.sides
         sides_same = same_sides t u.sides lt moved
 
 pub one_layout_law : OneLayoutLaw
 one_layout_law faces marks manifold full one other is also =
-    let laws : IsQuadManifold (half_edges faces) = manifold_law faces manifold in
+    let laws = manifold_law faces manifold in
     let cut : IsCut (half_edges faces) (is_on marks) = ((full_cut_law faces marks manifold).0 full).1 in
-    one_layout (half_edges faces) laws (is_on marks) cut (is_node faces marks) (are_nodes faces laws marks cut) face_of
-    (vertex_count faces) one other is also
+    one_layout _ laws _ cut _ (are_nodes faces laws marks cut) face_of
+    _ one other is also
