@@ -1,17 +1,16 @@
 -- The cut that is chosen: there is one, it is full, and it keeps lines.
-use Rattle.std.proofs.Common.{◌≡◌, Bool, false, List, replicate, Some, None, refl, sym, ◌∙◌, subst}
+use Rattle.std.proofs.Common.{◌≡◌, Bool, false, List, replicate, Some, None, refl, sym, ◌∙◌}
 use Rattle.std.proofs.lemmas.List.{ext_get_or, length-replicate}
 use Rattle.def_mesh.specs.{Darts.darts, Faces.Faces, Manifold.IsManifold}
 use Rattle.def_feature.specs.{Beside.IsCutBeside, Marked.marked_cut, Marks.AreMarks}
-use Rattle.def_merge.specs.{Beside.may_beside, Merged.IsMergedCut}
-use Rattle.def_patches.specs.Chosen.{IsKeepingCut, IsPlainCut}
+use Rattle.def_merge.specs.Beside.{may_beside}
 use Rattle.def_patches.specs.Laws.{ChosenCutLaw, LineArcLaw, LinesLaw, NoMarksLaw, OneArcLaw, OneCutLaw}
-use Rattle.def_patches.specs.declared.Patches.{Patches}
 use Rattle.def_patches.specs.declared.Patches.TheVariants.{Traced, Merged, Conforming}
+use Rattle.def_patches.specs.{Chosen.IsKeepingCut, Chosen.IsPlainCut, declared.Patches.Patches}
 use Rattle.feature_laws.proofs.{Arcs.beside_arc_law, Arcs.traced_beside, Conforming.conforming_law, Exists.a_conforming}
 use Rattle.feature_laws.proofs.{Exists.one_conforming, NoMarks.are_none, NoMarks.off, NoMarks.same_cut}
-use Rattle.merge_laws.proofs.{Beside.merged_beside_law, Exists.merged_law, NoLines.merged_none, NoLines.none_merged}
-use Rattle.merge_laws.proofs.OneMerged.{one_merged_law}
+use Rattle.merge_laws.proofs.NoLines.{merged_none, none_merged}
+use Rattle.merge_laws.proofs.{Beside.merged_beside_law, Exists.merged_law, OneMerged.one_merged_law}
 use Rattle.patch_laws.proofs.OneArc.{one_arc}
 
 -- Without marks the cut is the one that keeps no marked edge.
@@ -22,16 +21,13 @@ module _ (faces : Faces) where
   pub to_plain : (patches : Patches) (cut : List Bool) → IsKeepingCut faces (replicate (darts faces) false) patches cut
       → IsPlainCut faces patches cut
   to_plain Traced cut is = is ∙ same_cut faces
-  to_plain Merged cut is = subst (λ (whole : List Bool). IsMergedCut faces whole cut) (same_cut faces)
-      (none_merged faces (marked_cut faces none) cut is)
+  to_plain Merged cut is = rw (← same_cut faces) (none_merged faces _ cut is)
   to_plain Conforming cut is = is
 
   pub from_plain : (patches : Patches) (cut : List Bool) → IsPlainCut faces patches cut
       → IsKeepingCut faces (replicate (darts faces) false) patches cut
-  from_plain Traced cut is = is ∙ sym (same_cut faces)
-  from_plain Merged cut is =
-      merged_none faces (marked_cut faces none) cut
-      (subst (λ (whole : List Bool). IsMergedCut faces whole cut) (sym (same_cut faces)) is)
+  from_plain Traced cut is = cc (same_cut faces)
+  from_plain Merged cut is = merged_none faces (marked_cut faces none) cut (rw (same_cut faces) is)
   from_plain Conforming cut is = is
 
 module _ (faces : Faces) (m : IsManifold faces) (marks : List Bool) (marked : AreMarks faces marks) where
@@ -39,7 +35,7 @@ module _ (faces : Faces) (m : IsManifold faces) (marks : List Bool) (marked : Ar
   traced = traced_beside faces m marks marked
 
   pub keeps : (patches : Patches) (cut : List Bool) → IsKeepingCut faces marks patches cut → IsCutBeside faces marks cut
-  keeps Traced cut is = subst (λ (c : List Bool). IsCutBeside faces marks c) (sym is) traced
+  keeps Traced cut is = rw is traced
   keeps Merged cut is = merged_beside_law faces marks (marked_cut faces marks) cut m traced is
   keeps Conforming cut is = conforming_law faces marks cut m marked is
 
@@ -50,20 +46,19 @@ module _ (faces : Faces) (m : IsManifold faces) (marks : List Bool) (marked : Ar
       let some = merged_law faces (may_beside faces marks) (marked_cut faces marks) m traced.full in (
         some.0,
         some.1,
-        λ other is.
-            (one_merged_law faces (may_beside faces marks) (marked_cut faces marks) other some.0 m traced.full is
-            some.1).0,
+        λ other is. (one_merged_law faces (may_beside faces marks) (marked_cut faces marks) other some.0 m traced.full
+            is some.1).0,
       )
   one_keeping Conforming =
       let some = a_conforming faces marks m marked in
-      (some.0, some.1, λ other is. one_conforming faces marks other some.0 is some.1)
+      (some.0, some.1, λ other is. one_conforming faces marks other _ is some.1)
 
 pub one_cut_law : OneCutLaw
 one_cut_law faces (Some marks) patches m marked =
     let one = one_keeping faces m marks marked patches in
     record { cut = one.0; chosen = one.1; only = one.2 }
 one_cut_law faces None patches m kept =
-    let one = one_keeping faces m (replicate (darts faces) false) (are_none faces) patches in
+    let one = one_keeping faces m _ (are_none faces) patches in
     record {
       cut = one.0;
       chosen = to_plain faces patches one.0 one.1;
@@ -84,13 +79,13 @@ line_arc_law faces marks patches cut m marked is s n run k l =
 
 pub no_marks_law : NoMarksLaw
 no_marks_law faces marks patches cut m marked unmarked = (
-  λ is. to_plain faces patches cut (subst (λ (ms : List Bool). IsKeepingCut faces ms patches cut) same is),
-  λ is. subst (λ (ms : List Bool). IsKeepingCut faces ms patches cut) (sym same) (from_plain faces patches cut is),
+  λ is. to_plain faces patches cut (rw (← same) is),
+  λ is. rw same (from_plain faces patches cut is),
 )
   where
     same : marks ≡ replicate (darts faces) false
     same = ext_get_or false marks (replicate (darts faces) false)
-        (marked.long ∙ sym (length-replicate (darts faces) false)) (λ d l. unmarked d ∙ sym (off faces d))
+        (cc (length-replicate (darts faces) false)) (λ d l. unmarked d ∙ sym (off faces d))
 
 pub one_arc_law : OneArcLaw
 one_arc_law faces (Some marks) layout m marked (cut, is, laid) patch side low =

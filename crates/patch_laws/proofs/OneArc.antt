@@ -1,16 +1,14 @@
 -- Each side of each patch of the conforming cut is one arc: inside it lies no node.
-use Rattle.std.proofs.Common.{◌≡◌, ◌⊎◌, ℕ, zero, suc, ◌+◌, ◌-◌, ◌<◌, ◌≤◌, Bool, true, false, not, cond, eqb, ltb}
-use Rattle.std.proofs.Common.{List, [], ◌∷◌, length, Some, is_some, sym, ◌∙◌, ap, subst, refl, inl}
-use Rattle.std.proofs.Common.{inr, arith}
+use Rattle.std.proofs.Common.{◌≡◌, ◌⊎◌, ℕ, zero, suc, ◌+◌, ◌-◌, ◌<◌, ◌≤◌, Bool, true, false, not, cond, eqb, ltb, List}
+use Rattle.std.proofs.Common.{[], ◌∷◌, length, Some, is_some, sym, ◌∙◌, ap, subst, refl, inl, inr, arith}
 use Rattle.std.proofs.lemmas.Bool.{cases_Bool, cases_eq, cases_lt, or_left, or_right, or_cases, and_from, and_parts}
-use Rattle.std.proofs.lemmas.Bool.{eq-eqb, not-true, not_from_false, lt-ltb, ltb-true, false≢true}
-use Rattle.std.proofs.lemmas.Bool.{false_from_ne_true}
+use Rattle.std.proofs.lemmas.Bool.{eq-eqb, not-true, not_from_false, lt-ltb, ltb-true, false≢true, false_from_ne_true}
 use Rattle.std.specs.List.{filter}
 use Rattle.def_math.specs.Counts.{count_below}
-use Rattle.def_mesh.specs.{Faces.Faces, Darts.darts, Darts.all_darts, Darts.from_of, Darts.next_of, Darts.prev_of}
-use Rattle.def_mesh.specs.{Darts.twin_of, HalfEdges.HalfEdges, HalfEdges.IsQuadManifold, HalfEdges.half_edges}
-use Rattle.def_mesh.specs.{Kinds.is_inner, Kinds.is_regular, Components.seeds, Components.is_start, Manifold.IsManifold}
-use Rattle.def_mesh.specs.Vertices.{fan_of, faces_at}
+use Rattle.def_mesh.specs.Darts.{darts, from_of, next_of, prev_of, twin_of}
+use Rattle.def_mesh.specs.HalfEdges.{HalfEdges, IsQuadManifold, half_edges}
+use Rattle.def_mesh.specs.{Faces.Faces, Kinds.is_inner, Kinds.is_regular, Components.seeds, Components.is_start}
+use Rattle.def_mesh.specs.{Manifold.IsManifold, Vertices.fan_of, Vertices.faces_at}
 use Rattle.def_cut.specs.{Cuts.HasCross, Cuts.IsCut, FullCut.is_on, Grids.patch_at, Motion.is_among, Steps.easts}
 use Rattle.def_feature.specs.{Conforming.IsConforming, Marks.AreMarks}
 use Rattle.def_layout.specs.{Arcs.IsArc, Arcs.path_at, Arcs.long_at, Borders.side_size, Borders.border_dart}
@@ -30,31 +28,23 @@ use Rattle.merge_laws.proofs.{Layouts.IsBorder, Layouts.border, Sides.side_low, 
 at_most_one : (y : ℕ) (xs : List ℕ) → AreApart xs → ((d : ℕ) → is_among d xs ≡ true → d ≡ y) → length xs ≤ 1
 at_most_one y [] a each = omega arith
 at_most_one y (d ∷ []) a each = omega arith
-at_most_one y (d ∷ e ∷ xs) a each =
-    absurd (false≢true (sym a.0 ∙ among_here d e xs
+at_most_one y (d ∷ e ∷ xs) a each = absurd (cc (among_here d e xs
     (each d (among_here d d (e ∷ xs) refl) ∙ sym (each e (among_later e d (e ∷ xs) (among_here e e xs refl))))))
 
 -- and those of which each is one of two are at most two.
 at_most_two : (y z : ℕ) (xs : List ℕ) → AreApart xs → ((d : ℕ) → is_among d xs ≡ true → (d ≡ y) ⊎ (d ≡ z))
     → length xs ≤ 2
 at_most_two y z [] a each = omega arith
-at_most_two y z (d ∷ xs) a each = by_first (each d (among_here d d xs refl))
-  where
-    not_first : (e : ℕ) → is_among e xs ≡ true → e ≡ d → ⊥
-    not_first e n s = false≢true (sym a.0 ∙ subst (λ (x : ℕ). is_among x xs ≡ true) s n)
-
-    one : (w : ℕ) → length xs ≤ 1 → length (d ∷ xs) ≤ 2
-    one w l = omega arith
-
-    by_first : (d ≡ y) ⊎ (d ≡ z) → length (d ∷ xs) ≤ 2
-    by_first (inl s) =
-        one z
-        (at_most_one z xs a.1 (λ e n. elim (each e (among_later e d xs n))
-        [ inl k ↦ absurd (not_first e n (k ∙ sym s)) | inr k ↦ k ]))
-    by_first (inr s) =
-        one y
-        (at_most_one y xs a.1 (λ e n. elim (each e (among_later e d xs n))
-        [ inl k ↦ k | inr k ↦ absurd (not_first e n (k ∙ sym s)) ]))
+at_most_two y z (d ∷ xs) a each =
+    let not_first : (e : ℕ) → is_among e xs ≡ true → e ≡ d
+    → ⊥ = λ e n s. false≢true (sym a.0 ∙ subst (λ (x : ℕ). is_among x xs ≡ true) s n) in
+    let one : (w : ℕ) → length xs ≤ 1 → length (d ∷ xs) ≤ 2 = λ w l. omega arith in
+    elim (each d (among_here d d xs refl)) [
+      | inl s ↦ one z (at_most_one z xs a.1
+          (λ e n. elim (each e (among_later e d xs n)) [ inl k ↦ absurd (not_first e n (k ∙ sym s)) | inr k ↦ k ]))
+      | inr s ↦ one y (at_most_one y xs a.1
+          (λ e n. elim (each e (among_later e d xs n)) [ inl k ↦ k | inr k ↦ absurd (not_first e n (k ∙ sym s)) ]))
+    ]
 
 none_there : (xs : List ℕ) → ((d : ℕ) → is_among d xs ≡ true → ⊥) → length xs ≡ 0
 none_there [] each = refl
@@ -78,32 +68,34 @@ module _ (faces : Faces) (m : IsManifold faces) (marks : List Bool) (marked : Ar
   full = ((full_cut_law faces cut m).0 (conforming_law faces marks cut m marked conform).full).1
 
   fan_apart : (p : ℕ → Bool) (v : ℕ) → AreApart (filter p (fan_of faces v))
-  fan_apart p v = apart_filter p (fan_of faces v)
-      (apart_filter (λ d. eqb (from_of faces d) v) (all_darts faces) (range_apart 0 (darts faces)))
+  fan_apart p v = apart_filter p _ (apart_filter (λ d. eqb (from_of faces d) v) _ (range_apart 0 _))
 
   fan_there : (p : ℕ → Bool) (v d : ℕ) → is_among d (filter p (fan_of faces v)) ≡ true → (d < darts faces)
       × (from_of faces d ≡ v) × (p d ≡ true)
   fan_there p v d n =
-      let f : (is_among d (fan_of faces v) ≡ true) × (p d ≡ true) = from_filter p d (fan_of faces v) n in
-      let g : (d < darts faces) × (from_of faces d ≡ v) = from_fan faces v d f.0 in
+      let f = from_filter p d _ n in
+      let g = from_fan faces v d f.0 in
       (g.0, g.1, f.1)
 
   -- An edge that is not cut, with both neighbours at a vertex: no node.
   module _ (p x : ℕ) (lp : p < darts faces) (lx : x < darts faces) (over : twin_of faces p ≡ Some (prev_of x))
       (off : is_on cut p ≡ false) where
-    at : from_of faces x ≡ from_of faces p
+    abbrev v : ℕ
+    v = from_of faces p
+
+    at : from_of faces x ≡ v
     at = ap (from_of faces) (sym (laws.next_prev x)) ∙ (laws.twin_ends p (prev_of x) lp over).1
 
     starts : is_start faces (seeds faces) p ≡ true → ⊥
-    starts y = false≢true (sym off ∙ (conform.lined p lp).1 (inr (inl (0, or_left _ _ (or_left _ _ y)))))
+    starts y = cc (off, (conform.lined p lp).1 (inr (inl (0, or_left _ _ (or_left _ _ y)))))
 
     two : (p ≡ x → ⊥)
-    two e = no_fix mesh laws p lp (laws.twin_twin p (prev_of p) lp (over ∙ ap (λ z. Some (prev_of z)) (sym e)))
+    two e = no_fix mesh laws p lp (laws.twin_twin p (prev_of p) lp (cc (over, e)))
 
-    many : 2 ≤ faces_at faces (from_of faces p)
-    many = (has_fan faces (from_of faces p)).least 2 (of_four p x x x) (record { each = each; apart = apart })
+    many : 2 ≤ faces_at faces v
+    many = (has_fan faces v).least 2 (of_four p x x x) (record { each = each; apart = apart })
       where
-        each : (j : ℕ) → j < 2 → Leaves (half_edges faces) (from_of faces p) (of_four p x x x j)
+        each : (j : ℕ) → j < 2 → Leaves (half_edges faces) v (of_four p x x x j)
         each zero l = record { low = lp; at = refl }
         each (suc zero) l = record { low = lx; at = at }
         each (suc (suc j)) l = absurd (omega arith)
@@ -115,30 +107,29 @@ module _ (faces : Faces) (m : IsManifold faces) (marks : List Bool) (marked : Ar
         apart (suc zero) (suc zero) li lj e = refl
         apart _ _ li lj e = absurd (omega arith)
 
-    inner_regular : is_inner faces (from_of faces p) ≡ true → is_regular faces (from_of faces p) ≡ true
-    inner_regular inner = elim (cases_Bool (is_regular faces (from_of faces p)))
+    inner_regular : is_inner faces v ≡ true → is_regular faces v ≡ true
+    inner_regular inner = elim (cases_Bool (is_regular faces v))
         [ inl y ↦ y | inr n ↦ absurd (starts (or_left _ _ (and_from _ _ inner (not_from_false _ n)))) ]
 
-    outer_two : is_inner faces (from_of faces p) ≡ false → faces_at faces (from_of faces p) ≡ 2
-    outer_two out = elim (cases_lt 2 (faces_at faces (from_of faces p))) [
+    outer_two : is_inner faces v ≡ false → faces_at faces v ≡ 2
+    outer_two out = elim (cases_lt 2 (faces_at faces v)) [
       | inl more
           ↦ absurd (starts (or_right _ _
           (and_from _ _ (ap is_some over)
-          (or_left _ _ (and_from _ _ (not_from_false _ out) (lt-ltb 2 (faces_at faces (from_of faces p)) more))))))
+          (or_left _ _ (and_from _ _ (not_from_false _ out) (lt-ltb 2 (faces_at faces v) more))))))
       | inr few ↦ omega (arith, few, many)
     ]
 
-    few_inner : is_inner faces (from_of faces p) ≡ true → cut_degree faces cut (from_of faces p) ≤ 2
+    few_inner : is_inner faces v ≡ true → cut_degree faces cut v ≤ 2
     few_inner inner = by_cross (regular_cross faces laws p lp inner (inner_regular inner))
       where
-        by_cross : HasCross (half_edges faces) p → cut_degree faces cut (from_of faces p) ≤ 2
+        by_cross : HasCross (half_edges faces) p → cut_degree faces cut v ≤ 2
         by_cross (a, b, c, k) =
-            let some : length (filter (is_on cut) (fan_of faces (from_of faces p))) ≤ 2 = at_most_two a c
-            (filter (is_on cut) (fan_of faces (from_of faces p))) (fan_apart (is_on cut) (from_of faces p))
-            (λ d n. each d (fan_there (is_on cut) (from_of faces p) d n)) in
-            let lone : length (filter (is_lone_before faces cut) (fan_of faces (from_of faces p))) ≡ 0 =
-            none_there (filter (is_lone_before faces cut) (fan_of faces (from_of faces p)))
-            (λ d n. alone d (fan_there (is_lone_before faces cut) (from_of faces p) d n)) in
+            let some : length (filter (is_on cut) (fan_of faces v)) ≤ 2 = at_most_two a c (filter (is_on cut)
+            (fan_of faces v)) (fan_apart (is_on cut) v) (λ d n. each d (fan_there (is_on cut) v d n)) in
+            let lone : length (filter (is_lone_before faces cut) (fan_of faces v)) ≡ 0 =
+            none_there (filter (is_lone_before faces cut) (fan_of faces v))
+            (λ d n. alone d (fan_there (is_lone_before faces cut) v d n)) in
             omega (arith, some, lone)
           where
             la : a < darts faces
@@ -153,49 +144,44 @@ module _ (faces : Faces) (m : IsManifold faces) (marks : List Bool) (marked : Ar
                 (sym off ∙ straight_law faces marks cut m marked conform b c p a lb
                 (rotated mesh laws a b c p la (rotated mesh laws p a b c lp k)) y))
 
-            each : (d : ℕ) → (d < darts faces) × (from_of faces d ≡ from_of faces p) × (is_on cut d ≡ true) → (d ≡ a)
-                ⊎ (d ≡ c)
-            each d (ld, e, on) = by_place (one_of_four mesh laws p a b c lp k d (record { low = ld; at = e }))
-              where
-                by_place : (d ≡ p) ⊎ ((d ≡ a) ⊎ ((d ≡ b) ⊎ (d ≡ c))) → (d ≡ a) ⊎ (d ≡ c)
-                by_place (inl s) = absurd (false≢true (sym off ∙ (ap (is_on cut) (sym s) ∙ on)))
-                by_place (inr (inl s)) = inl s
-                by_place (inr (inr (inl s))) = absurd (false≢true (sym off_b ∙ (ap (is_on cut) (sym s) ∙ on)))
-                by_place (inr (inr (inr s))) = inr s
+            each : (d : ℕ) → (d < darts faces) × (from_of faces d ≡ v) × (is_on cut d ≡ true) → (d ≡ a) ⊎ (d ≡ c)
+            each d (ld, e, on) = elim (one_of_four mesh laws p a b c lp k d (record { low = ld; at = e })) [
+              | inl s ↦ absurd (cc (off, s, on))
+              | inr (inl s) ↦ inl s
+              | inr (inr (inl s)) ↦ absurd (false≢true (sym off_b ∙ (ap (is_on cut) (sym s) ∙ on)))
+              | inr (inr (inr s)) ↦ inr s
+            ]
 
-            alone : (d : ℕ) → (d < darts faces) × (from_of faces d ≡ from_of faces p)
-                × (is_lone_before faces cut d ≡ true) → ⊥
+            alone : (d : ℕ) → (d < darts faces) × (from_of faces d ≡ v) × (is_lone_before faces cut d ≡ true) → ⊥
             alone d (ld, e, on) =
                 let t : (t : ℕ) × (twin_of faces (prev_of d) ≡ Some t) =
                 (both_twins mesh laws p a b c lp k d (record { low = ld; at = e })).0 in
                 let none : not (is_some (twin_of faces (prev_of d))) ≡ true =
                 (and_parts (is_on cut (prev_of d)) _ on).1 in
-                false≢true (sym (ap (λ o. not (is_some o)) t.1) ∙ none)
+                cc (t.1, none)
 
-    few_outer : is_inner faces (from_of faces p) ≡ false → cut_degree faces cut (from_of faces p) ≤ 2
+    few_outer : is_inner faces v ≡ false → cut_degree faces cut v ≤ 2
     few_outer out =
-        let some : length (filter (is_on cut) (fan_of faces (from_of faces p))) ≤ 1 =
-        at_most_one x (filter (is_on cut) (fan_of faces (from_of faces p)))
-        (fan_apart (is_on cut) (from_of faces p)) (λ d n. each d (fan_there (is_on cut) (from_of faces p) d n)) in
-        let lone : length (filter (is_lone_before faces cut) (fan_of faces (from_of faces p))) ≤ 1 =
-        at_most_one p (filter (is_lone_before faces cut) (fan_of faces (from_of faces p)))
-        (fan_apart (is_lone_before faces cut) (from_of faces p))
-        (λ d n. alone d (fan_there (is_lone_before faces cut) (from_of faces p) d n)) in
+        let some : length (filter (is_on cut) (fan_of faces v)) ≤ 1 = at_most_one x
+        (filter (is_on cut) (fan_of faces v)) (fan_apart (is_on cut) v) (λ d n. each d (fan_there (is_on cut) v d n)) in
+        let lone : length (filter (is_lone_before faces cut) (fan_of faces v))
+        ≤ 1 = at_most_one p (filter (is_lone_before faces cut) (fan_of faces v))
+        (fan_apart (is_lone_before faces cut) v) (λ d n. alone d (fan_there (is_lone_before faces cut) v d n)) in
         omega (arith, some, lone)
       where
         -- A third dart would be one too many.
-        one_of_two : (d : ℕ) → d < darts faces → from_of faces d ≡ from_of faces p → (d ≡ p) ⊎ (d ≡ x)
+        one_of_two : (d : ℕ) → d < darts faces → from_of faces d ≡ v → (d ≡ p) ⊎ (d ≡ x)
         one_of_two d ld e = elim (cases_eq d p)
             [ inl s ↦ inl s | inr ne ↦ elim (cases_eq d x) [ inl s ↦ inr s | inr nx ↦ absurd (third ne nx) ] ]
           where
             third : (d ≡ p → ⊥) → (d ≡ x → ⊥) → ⊥
             third ne nx =
-                let three : 3 ≤ faces_at faces (from_of faces p) = (has_fan faces (from_of faces p)).least 3
+                let three : 3 ≤ faces_at faces v = (has_fan faces v).least 3
                 (of_four p x d d) (record { each = each; apart = apart }) in
-                let both : faces_at faces (from_of faces p) ≡ 2 = outer_two out in
+                let both : faces_at faces v ≡ 2 = outer_two out in
                 omega arith
               where
-                each : (j : ℕ) → j < 3 → Leaves (half_edges faces) (from_of faces p) (of_four p x d d j)
+                each : (j : ℕ) → j < 3 → Leaves (half_edges faces) v (of_four p x d d j)
                 each zero l = record { low = lp; at = refl }
                 each (suc zero) l = record { low = lx; at = at }
                 each (suc (suc zero)) l = record { low = ld; at = e }
@@ -213,50 +199,46 @@ module _ (faces : Faces) (m : IsManifold faces) (marks : List Bool) (marked : Ar
                 apart (suc (suc zero)) (suc (suc zero)) li lj s = refl
                 apart _ _ li lj s = absurd (omega arith)
 
-        each : (d : ℕ) → (d < darts faces) × (from_of faces d ≡ from_of faces p) × (is_on cut d ≡ true) → d ≡ x
-        each d (ld, e, on) = elim (one_of_two d ld e)
-            [ inl s ↦ absurd (false≢true (sym off ∙ (ap (is_on cut) (sym s) ∙ on))) | inr s ↦ s ]
+        each : (d : ℕ) → (d < darts faces) × (from_of faces d ≡ v) × (is_on cut d ≡ true) → d ≡ x
+        each d (ld, e, on) = elim (one_of_two d ld e) [ inl s ↦ absurd (cc (off, s, on)) | inr s ↦ s ]
 
-        alone : (d : ℕ) → (d < darts faces) × (from_of faces d ≡ from_of faces p) × (is_lone_before faces cut d ≡ true)
-            → d ≡ p
+        alone : (d : ℕ) → (d < darts faces) × (from_of faces d ≡ v) × (is_lone_before faces cut d ≡ true) → d ≡ p
         alone d (ld, e, on) = elim (one_of_two d ld e) [
           | inl s ↦ s
           | inr s ↦
-              let back : twin_of faces (prev_of d) ≡ Some p = ap (λ z. twin_of faces (prev_of z)) s
-              ∙ laws.twin_twin p (prev_of x) lp over in
+              let back : twin_of faces (prev_of d) ≡ Some p = cc (s, laws.twin_twin p (prev_of x) lp over) in
               let none : not (is_some (twin_of faces (prev_of d))) ≡ true =
               (and_parts (is_on cut (prev_of d)) _ on).1 in
-              absurd (false≢true (sym (ap (λ o. not (is_some o)) back) ∙ none))
+              absurd (cc (back, none))
         ]
 
-    no_node : is_node faces cut (from_of faces p) ≡ false
+    no_node : is_node faces cut v ≡ false
     no_node = false_from_ne_true _ (λ y. by_why (or_cases _ _ y))
       where
-        few : cut_degree faces cut (from_of faces p) ≤ 2
-        few = elim (cases_Bool (is_inner faces (from_of faces p)))
-            [ inl inner ↦ few_inner inner | inr out ↦ few_outer out ]
+        few : cut_degree faces cut v ≤ 2
+        few = elim (cases_Bool (is_inner faces v)) [ inl inner ↦ few_inner inner | inr out ↦ few_outer out ]
 
-        regular : is_regular faces (from_of faces p) ≡ true
-        regular = elim (cases_Bool (is_inner faces (from_of faces p))) [
+        regular : is_regular faces v ≡ true
+        regular = elim (cases_Bool (is_inner faces v)) [
           | inl inner ↦ inner_regular inner
-          | inr out ↦ eq-eqb (faces_at faces (from_of faces p)) (cond (is_inner faces (from_of faces p)) 4 2)
-              (outer_two out ∙ sym (ap (λ b. cond {A = ℕ} b 4 2) out))
+          | inr out ↦ eq-eqb (faces_at faces v) (cond (is_inner faces v) 4 2) (cc (outer_two out, out))
         ]
 
-        by_why : (not (is_regular faces (from_of faces p)) ≡ true)
-            ⊎ (ltb 2 (cut_degree faces cut (from_of faces p)) ≡ true) → ⊥
+        by_why : (not (is_regular faces v) ≡ true) ⊎ (ltb 2 (cut_degree faces cut v) ≡ true) → ⊥
         by_why (inl n) = false≢true (sym (not-true _ n) ∙ regular)
-        by_why (inr more) = let l : 2 < cut_degree faces cut (from_of faces p) =
-            ltb-true 2 (cut_degree faces cut (from_of faces p)) more in omega (arith, few, l)
+        by_why (inr more) = let l : 2 < cut_degree faces cut v =
+            ltb-true 2 (cut_degree faces cut v) more in omega (arith, few, l)
 
   -- Inside a side lies no node.
   no_node_inside : (s n : ℕ) → IsWholeSide (half_edges faces) (is_on cut) s n → (k : ℕ) → suc k < n
       → is_node faces cut (from_of faces (easts (half_edges faces) s (suc k))) ≡ false
-  no_node_inside s n side k l = ap (is_node faces cut) (side_from mesh laws (is_on cut) full s n side k l)
-      ∙ no_node (next_of (easts (half_edges faces) s k)) (easts (half_edges faces) s (suc k))
-      (laws.next_low (easts (half_edges faces) s k) (side_low mesh laws (is_on cut) full s n side k (omega arith)))
-      (side_low mesh laws (is_on cut) full s n side (suc k) l)
-      (side_link mesh laws (is_on cut) full s n side k l) (side.inside k l)
+  no_node_inside s n side k l = cc (
+    side_from mesh laws (is_on cut) full s n side k l,
+    no_node (next_of (easts (half_edges faces) s k)) (easts (half_edges faces) s (suc k))
+        (laws.next_low (easts (half_edges faces) s k) (side_low mesh laws (is_on cut) full s n side k (omega arith)))
+        (side_low mesh laws
+        (is_on cut) full s n side (suc k) l) (side_link mesh laws (is_on cut) full s n side k l) (side.inside k l),
+  )
 
   module _ (layout : Layout) (lay : IsCutLayout faces cut layout) (patch : ℕ) (side : Way)
       (low : patch < length layout.patches)
@@ -289,48 +271,37 @@ module _ (faces : Faces) (m : IsManifold faces) (marks : List Bool) (marked : Ar
       node_at k l place =
           let none : reach (gluing_of layout) (long_at layout.arcs) patch side k + 0 ≡ reach (gluing_of layout)
           (long_at layout.arcs) patch side k = omega arith in
-          ap
-          (λ z. is_node faces cut (from_of faces
-          (border_dart (half_edges faces) (patch_at layout.patches patch) side z))) (sym none)
-          ∙ (use_run mesh laws (is_on cut) full (is_node faces cut) (are_nodes faces laws cut full)
-          (path_at layout.arcs ((gluing_of layout).use_at patch side k).arc).darts
-          ((gluing_of layout).use_at patch side k).forward
-          (border_dart (half_edges faces) (patch_at layout.patches patch) side
-          (reach (gluing_of layout) (long_at layout.arcs) patch side k + 0)) (arc_there k l)
-          (lay.used (record { patch = patch; side = side; at = k }) 0 (record { patch_low = low; low = l })
-          (arc_there k l).run.some)).run.begins
+          cc (
+            none,
+            (use_run mesh laws (is_on cut) full (is_node faces cut) (are_nodes faces laws cut full) (path_at
+                layout.arcs ((gluing_of layout).use_at patch side k).arc).darts ((gluing_of layout).use_at patch side
+                k).forward
+                (border_dart (half_edges faces) (patch_at layout.patches patch) side (reach (gluing_of layout)
+                (long_at layout.arcs) patch side k + 0)) (arc_there k l) (lay.used (record {
+                  patch = patch;
+                  side = side;
+                  at = k;
+                }) 0 (record { patch_low = low; low = l }) (arc_there k l).run.some)).run.begins,
+          )
 
       pub one_arc : sides ≡ 1
       one_arc = by_size (cases_lt 1 sides) (cases_eq sides 0)
         where
           two_arcs : 1 < sides → ⊥
-          two_arcs l = false≢true (sym off ∙ node_at 1 l place)
-            where
-              first : 0 < lengths 0
-              first = (arc_there 0 (omega (arith, l))).run.some
-
-              second : 0 < lengths 1
-              second = (arc_there 1 l).run.some
-
-              place : count_below lengths 1 < side_size (patch_at layout.patches patch) side
-              place =
-                  let grown : count_below lengths 2 ≤ count_below lengths (sides - 2 + 2) =
-                  count_on lengths 2 (sides - 2) in
-                  let whole : sides - 2 + 2 ≡ sides = omega (arith, l) in
-                  omega (arith, grown, ap (count_below lengths) whole, sized, second)
-
-              before : suc (lengths 0 - 1) ≡ count_below lengths 1
-              before = omega (arith, first)
-
-              off : is_node faces cut (from_of faces
-                  (border_dart (half_edges faces) (patch_at layout.patches patch) side (count_below lengths 1))) ≡ false
-              off = ap (λ z. is_node faces cut (from_of faces z)) (sym (lined_up.along (count_below lengths 1) place)
-                  ∙ ap (easts (half_edges faces)
-                  (border_dart (half_edges faces) (patch_at layout.patches patch) side 0))
-                  (sym before))
-                  ∙ no_node_inside (border_dart (half_edges faces) (patch_at layout.patches patch) side 0)
-                  (side_size (patch_at layout.patches patch) side) lined_up.whole (lengths 0 - 1)
-                  (omega (arith, before, place))
+          two_arcs l =
+              let first = (arc_there 0 (omega (arith, l))).run.some in
+              let second = (arc_there 1 l).run.some in
+              let grown = count_on lengths 2 (sides - 2) in
+              let whole : sides - 2 + 2 ≡ sides = omega (arith, l) in
+              let place : count_below lengths 1 < side_size (patch_at layout.patches patch) side =
+              omega (arith, grown, ap (count_below lengths) whole, sized, second) in
+              let before : suc (lengths 0 - 1) ≡ count_below lengths 1 = omega (arith, first) in
+              let off = ap (λ z. is_node faces cut (from_of faces z))
+              (sym (lined_up.along (count_below lengths 1) place) ∙ ap (easts (half_edges faces)
+              (border_dart (half_edges faces) (patch_at layout.patches patch) side 0)) (sym before))
+              ∙ no_node_inside (border_dart (half_edges faces) (patch_at layout.patches patch) side 0) (side_size
+              (patch_at layout.patches patch) side) lined_up.whole (lengths 0 - 1) (omega (arith, before, place)) in
+              cc (off, node_at 1 l place)
 
           by_size : (1 < sides) ⊎ (sides ≤ 1) → (sides ≡ 0) ⊎ (sides ≡ 0 → ⊥) → sides ≡ 1
           by_size (inl l) e = absurd (two_arcs l)
