@@ -1,16 +1,15 @@
 -- The borders of patches: each side is a straight line of cut darts from node to node, and each cut dart lies on a
 -- side.
-use Rattle.std.proofs.Common.{◌≡◌, ◌⊎◌, ℕ, zero, suc, ◌+◌, ◌-◌, ◌<◌, ◌≤◌, Bool, true, false, List, length, Some, sym}
-use Rattle.std.proofs.Common.{◌∙◌, ap, refl, inl, inr, true≢false, arith}
+use Rattle.std.proofs.Common.{◌≡◌, ℕ, zero, suc, ◌+◌, ◌-◌, ◌<◌, ◌≤◌, Bool, true, false, List, Some, sym, ◌∙◌, ap, refl}
+use Rattle.std.proofs.Common.{inl, inr, true≢false, arith}
 use Rattle.std.proofs.lemmas.Bool.{cases_Bool, cases_eq, cases_lt, false≢true}
 use Rattle.def_mesh.specs.HalfEdges.{HalfEdges, IsQuadManifold}
-use Rattle.def_cut.specs.{Cuts.Cut, Cuts.IsCut, Grids.Cells, Grids.IsGrid, Grids.Rectangle, Grids.cell_of}
-use Rattle.def_cut.specs.{Grids.patch_at, Grids.IsSide, Grids.IsPartition, Steps.spin, Steps.or_zero, Steps.easts}
-use Rattle.def_cut.specs.{Steps.step_east as go}
-use Rattle.def_layout.specs.{Arcs.end_vertex, Arcs.IsRun, Borders.side_size, Borders.border_dart, Gluings.Way}
-use Rattle.def_layout.specs.{Gluings.south, Gluings.east, Gluings.north, Gluings.west, Nodes.AreNodes}
-use Rattle.cut_laws.proofs.{Darts.prev_three, Darts.prev_twice, Folds.west_open, Folds.south_open}
-use Rattle.cut_laws.proofs.{Folds.west as west_link, Folds.south as south_link}
+use Rattle.def_cut.specs.Grids.{Cells, IsGrid, Rectangle, cell_of, patch_at, IsPartition}
+use Rattle.def_cut.specs.{Cuts.Cut, Cuts.IsCut, Steps.spin, Steps.easts, Steps.step_east as go}
+use Rattle.def_layout.specs.Gluings.{Way, south, east, north, west}
+use Rattle.def_layout.specs.{Arcs.end_vertex, Arcs.IsRun, Borders.side_size, Borders.border_dart, Nodes.AreNodes}
+use Rattle.cut_laws.proofs.Darts.{prev_three, prev_twice}
+use Rattle.cut_laws.proofs.Folds.{west_open, south_open, west as west_link, south as south_link}
 use Rattle.layout_laws.proofs.Runs.{walk_done}
 
 -- A line of L cut darts, each straight on from the one before, from a corner to a corner.
@@ -154,8 +153,11 @@ module _ (mesh : HalfEdges) (laws : IsQuadManifold mesh) (cut : Cut) (full : IsC
         cc (line_easts u k (omega arith), line.next (u + k) (omega arith))
 
     pub line_from : (t : ℕ) → suc t < size → mesh.from (b (suc t)) ≡ end_vertex mesh (b t)
-    line_from t l = cc (laws.next_prev (b (suc t)), (laws.twin_ends (mesh.next (b t)) (mesh.prev (b (suc t)))
-        (laws.next_low (b t) (line.low t (omega arith))) (line.over t l)).1)
+    line_from t l = cc (
+      laws.next_prev (b (suc t)),
+      (laws.twin_ends (mesh.next (b t)) (mesh.prev (b (suc t)))
+          (laws.next_low (b t) (line.low t (omega arith))) (line.over t l)).1,
+    )
 
     pub line_begins : node (mesh.from (b 0)) ≡ true
     line_begins = nodes.corner (b 0) (line.low 0 line.some) (line.on 0 line.some) line.first

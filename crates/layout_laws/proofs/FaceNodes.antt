@@ -1,19 +1,17 @@
 -- The nodes of a cut of faces are what the laws of layouts need of nodes.
 use Rattle.std.proofs.Common.{◌≡◌, ◌⊎◌, ℕ, zero, suc, ◌<◌, ◌≤◌, Bool, true, false, not, cond, List, [], ◌∷◌, length}
-use Rattle.std.proofs.Common.{get_or, Option, Some, None, is_some, sym, ◌∙◌, ap, subst, refl, inl, inr, arith}
+use Rattle.std.proofs.Common.{get_or, Option, Some, None, is_some, sym, ◌∙◌, ap, refl, inl, inr, arith}
 use Rattle.std.proofs.lemmas.Bool.{cases_Bool, cases_eq, eqb-true, cond-false, or_parts, not-false, ltb-false, and_from}
-use Rattle.std.proofs.lemmas.Bool.{false≢true, true_from_ne_false}
-use Rattle.std.proofs.lemmas.Option.{same_Some}
+use Rattle.std.proofs.lemmas.Bool.{true_from_ne_false}
 use Rattle.std.specs.List.{filter}
-use Rattle.def_mesh.specs.{Faces.Faces, Darts.darts, Darts.from_of, Darts.to_of, Darts.next_of, Darts.prev_of}
-use Rattle.def_mesh.specs.{Darts.twin_of, Vertices.fan_of, Kinds.is_inner, Kinds.is_regular, HalfEdges.half_edges}
-use Rattle.def_mesh.specs.HalfEdges.{AreTurned, Turns, IsQuadManifold}
-use Rattle.def_cut.specs.{Cuts.IsCross, Cuts.HasCross, Cuts.GoesOn, Cuts.IsCut, FullCut.is_on}
+use Rattle.def_mesh.specs.Darts.{darts, from_of, to_of, next_of, prev_of, twin_of}
+use Rattle.def_mesh.specs.HalfEdges.{half_edges, Turns, IsQuadManifold}
+use Rattle.def_mesh.specs.{Faces.Faces, Vertices.fan_of, Kinds.is_inner, Kinds.is_regular}
+use Rattle.def_cut.specs.{Cuts.IsCross, Cuts.HasCross, Cuts.IsCut, FullCut.is_on}
 use Rattle.def_layout.specs.Nodes.{is_lone_before, cut_degree, is_node, AreNodes}
-use Rattle.mesh_laws.proofs.Fans.{IsFan, is_fan}
-use Rattle.cut_laws.proofs.Pigeon.{no_more}
-use Rattle.cut_laws.proofs.Darts.{turn_from, turn_low, two_darts, next_same, twin_same}
+use Rattle.mesh_laws.proofs.Fans.{is_fan}
 use Rattle.cut_laws.proofs.Crosses.{Leaves, HasFan, of_four, no_fix, low_a, low_b, low_c, at_a, at_b, at_c, four_apart}
+use Rattle.cut_laws.proofs.{Pigeon.no_more, Darts.turn_from, Darts.turn_low, Darts.two_darts, Darts.next_same}
 use Rattle.face_laws.proofs.Fans.{has_fan, inner_from, inner_twin, regular_cross}
 
 -- What passes a test keeps its place in the filtered list.
@@ -219,10 +217,7 @@ module _ (faces : Faces) (laws : IsQuadManifold (half_edges faces)) (marks : Lis
                         | inl s ↦
                             let over = laws.twin_twin _ d (laws.prev_low a la) home in
                             ((prev_of a, cc), (a, cc))
-                        | inr s ↦ (
-                          (prev_of d, cc (s, back)),
-                          (d, cc),
-                        )
+                        | inr s ↦ ((prev_of d, cc (s, back)), (d, cc))
                       ]
 
                   each : (x : ℕ) → x < darts faces → (from_of faces x ≡ from_of faces d)
@@ -290,9 +285,8 @@ module _ (faces : Faces) (laws : IsQuadManifold (half_edges faces)) (marks : Lis
       by_cross off a b c is = elim (full.gaps _ (laws.prev_low c lc)
           (cc (full.alike (prev_of c) d (laws.prev_low c lc) is.last))) [
             | inl c_on ↦ third c (lc, at_c (half_edges faces) laws d a b c ld is, cc (laws.next_prev c, c_on))
-                (differ 0 3
-                (omega arith) (omega arith) (λ e. omega arith))
-                    (differ 1 3 (omega arith) (omega arith) (λ e. omega arith))
+                (differ 0 3 (omega arith) (omega arith) (λ e. omega arith))
+                (differ 1 3 (omega arith) (omega arith) (λ e. omega arith))
             | inr g ↦
                 let same : g.0
                 ≡ prev_of b = cc (g.1, laws.next_prev c, laws.twin_twin _ c (laws.prev_low b lb) is.third) in

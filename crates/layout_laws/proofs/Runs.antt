@@ -1,11 +1,9 @@
 -- Straight runs of a cut from node to node.
-use Rattle.std.proofs.Common.{◌≡◌, ◌⊎◌, ℕ, zero, suc, ◌+◌, ◌-◌, ◌<◌, ◌≤◌, Bool, true, false, Option, Some, None, sym}
-use Rattle.std.proofs.Common.{◌∙◌, ap, subst, refl, inl, inr, arith}
+use Rattle.std.proofs.Common.{◌≡◌, ℕ, zero, suc, ◌+◌, ◌-◌, ◌<◌, ◌≤◌, Bool, true, false, Option, Some, None, sym, ◌∙◌}
+use Rattle.std.proofs.Common.{ap, refl, inl, inr, arith}
 use Rattle.std.proofs.lemmas.Bool.{cases_eq, cases_lt, cases_order, false≢true}
-use Rattle.std.proofs.lemmas.Option.{same_Some}
 use Rattle.def_mesh.specs.HalfEdges.{HalfEdges, IsQuadManifold}
-use Rattle.def_cut.specs.Cuts.{Cut, IsCross, HasCross, GoesOn, IsCut}
-use Rattle.def_cut.specs.Steps.{or_zero, step_east, easts}
+use Rattle.def_cut.specs.{Cuts.Cut, Cuts.GoesOn, Cuts.IsCut, Steps.or_zero, Steps.step_east, Steps.easts}
 use Rattle.def_layout.specs.{Arcs.end_vertex, Arcs.IsRun, Nodes.AreNodes}
 use Rattle.cut_laws.proofs.{Darts.next_same, Darts.twin_same, Darts.turn_low, Darts.no_self, Pigeon.comes_back}
 

@@ -1,5 +1,5 @@
 -- What is read of the sides of a layout.
-use Rattle.std.proofs.Common.{◌≡◌, ℕ, ◌<◌, List, [], map, length, get_or, ap, sym, ◌∙◌, arith}
+use Rattle.std.proofs.Common.{◌≡◌, ℕ, ◌<◌, List, [], map, length, get_or, ap, arith}
 use Rattle.std.proofs.lemmas.List.{get_or-map, length-map}
 use Rattle.def_layout.specs.{declared.tmesh.Side.Side, declared.tmesh.SideArc.SideArc}
 

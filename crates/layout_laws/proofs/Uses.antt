@@ -1,8 +1,7 @@
 -- The arcs of a cut and their uses.
 use Rattle.std.proofs.Common.{◌≡◌, ◌⊎◌, ℕ, zero, suc, ◌+◌, ◌-◌, ◌<◌, ◌≤◌, Bool, true, false, List, length, get_or}
-use Rattle.std.proofs.Common.{Option, Some, None, sym, ◌∙◌, ap, subst, refl, inl, inr, arith}
+use Rattle.std.proofs.Common.{Option, Some, None, sym, ◌∙◌, ap, refl, inl, inr, arith}
 use Rattle.std.proofs.lemmas.Bool.{cases_lt}
-use Rattle.std.proofs.lemmas.Option.{same_Some}
 use Rattle.std.proofs.lemmas.List.FromFn.{get_or-map-range_with_len, length-map-range_with_len}
 use Rattle.def_mesh.specs.HalfEdges.{HalfEdges, IsQuadManifold}
 use Rattle.def_cut.specs.{Cuts.Cut, Cuts.IsCut, Steps.easts}
@@ -112,8 +111,11 @@ module _ (mesh : HalfEdges) (laws : IsQuadManifold mesh) (cut : Cut) (full : IsC
           ]
             where
               back : u ≡ easts mesh s (n - suc j)
-              back = cc (twu, laws.twin_twin (easts mesh s (n - suc j)) (easts mesh b.0 j) (run_low mesh laws cut full
-                  node nodes s n run (n - suc j) (omega arith)) (b.1.twin (n - suc j) j (omega arith)))
+              back = cc (
+                twu,
+                laws.twin_twin (easts mesh s (n - suc j)) (easts mesh b.0 j) (run_low mesh laws cut full
+                    node nodes s n run (n - suc j) (omega arith)) (b.1.twin (n - suc j) j (omega arith)),
+              )
 
               above : run_name mesh s n ≤ u
               above = omega (

@@ -1,25 +1,20 @@
 -- The twin of a new dart is the dart that runs the other way along its edge. There is none where the arc stands once.
 use Rattle.std.proofs.Common.{◌≡◌, ◌⊎◌, ℕ, ◌+◌, ◌-◌, ◌<◌, Bool, true, false, not, cond, Some, None, refl, sym, ◌∙◌, ap}
-use Rattle.std.proofs.Common.{inl, inr, arith}
-use Rattle.std.proofs.lemmas.Bool.{cond-false, ne_eqb, false≢true}
+use Rattle.std.proofs.{Common.inl, Common.inr, Common.arith, lemmas.Bool.cond-false, lemmas.Bool.ne_eqb}
 use Rattle.std.specs.Prelude.{◌==◌}
-use Rattle.def_mesh.specs.Darts.{from_of, to_of, twin_of, IsTwin}
+use Rattle.def_mesh.specs.Darts.{twin_of, IsTwin}
 use Rattle.def_layout.specs.Gluings.{Way, south, east, north, west, side_after, Gluing, Slot, IsSlot, use_of}
-use Rattle.def_layout.specs.Surfaces.{IsSurface, IsOtherSlot}
-use Rattle.def_layout.specs.Lengths.{Lengths, wide, high, AreLengths}
-use Rattle.def_layout.specs.Cells.{CellDart, IsDart, dart, next, slot_dart}
-use Rattle.def_written.specs.{Numbers.vertex_number, NewFaces.column, NewFaces.row, NewFaces.dart_start}
-use Rattle.def_written.specs.{NewFaces.dart_end, NewFaces.new_faces, Edges.Edge, Edges.on_arc, Edges.flat}
-use Rattle.def_written.specs.Edges.{steep}
+use Rattle.def_layout.specs.{Surfaces.IsSurface, Surfaces.IsOtherSlot, Lengths.Lengths, Lengths.wide, Lengths.high}
+use Rattle.def_layout.specs.{Lengths.AreLengths, Cells.CellDart, Cells.IsDart, Cells.dart, Cells.next, Cells.slot_dart}
+use Rattle.def_written.specs.NewFaces.{column, row, dart_start, dart_end, new_faces}
+use Rattle.def_written.specs.Edges.{Edge, on_arc, flat, steep}
 use Rattle.mesh_laws.proofs.Twins.{twin_found, twin_is, twin_none}
-use Rattle.written_laws.proofs.Numbers.{number_same}
-use Rattle.written_laws.proofs.Borders.{from_is, at_is, other_long}
+use Rattle.written_laws.proofs.Borders.{from_is, at_is}
 use Rattle.written_laws.proofs.NewDarts.{dart_number, dart_low, number_from, number_to, next_is, at_number}
-use Rattle.written_laws.proofs.Courses.{Course, course, is_arc, inner_course, start_at, end_at, use_course, course_of}
-use Rattle.written_laws.proofs.Courses.{IsWithin, IsOnBorder, IsAcross, sees, at_course, border_is, course_is}
-use Rattle.written_laws.proofs.Courses.{course_from, course_to, inner_no_arc}
-use Rattle.written_laws.proofs.Simple.{IsSimple, reversed}
-use Rattle.written_laws.proofs.Manifold.{edges_once}
+use Rattle.written_laws.proofs.Courses.{Course, course, inner_course, start_at, end_at, use_course, course_of, IsWithin}
+use Rattle.written_laws.proofs.Courses.{IsOnBorder, IsAcross, sees, at_course, border_is, course_is, course_from}
+use Rattle.written_laws.proofs.Courses.{course_to, inner_no_arc}
+use Rattle.written_laws.proofs.{Numbers.number_same, Simple.IsSimple, Simple.reversed, Manifold.edges_once}
 
 module _ {l : Gluing} {x : Lengths} (laid : IsSurface l) (len : AreLengths l x) where
   -- The dart over an arc that stands twice.
@@ -35,7 +30,7 @@ module _ {l : Gluing} {x : Lengths} (laid : IsSurface l) (len : AreLengths l x) 
       k = x (use_of l w).arc - 1 - o
 
       low : x (use_of l w).arc - 1 - o < x (use_of l v).arc
-      low = omega (arith, other_long l x laid len w v other)
+      low = omega (arith, ap x other.1.arc)
 
       there : course_of l x (slot_dart l x v (x (use_of l w).arc - 1 - o))
           ≡ use_course l x (use_of l v) (x (use_of l w).arc - 1 - o)
@@ -49,8 +44,7 @@ module _ {l : Gluing} {x : Lengths} (laid : IsSurface l) (len : AreLengths l x) 
           (x (use_of l v).arc - 1 - (x (use_of l w).arc - 1 - o))) ≡ on_arc (use_of l w).arc
           (cond f o (x (use_of l w).arc - 1 - o))
       edges true e =
-          let p : x (use_of l v).arc - 1 - (x (use_of l w).arc - 1 - o) ≡ o =
-          omega (arith, other_long l x laid len w v other) in
+          let p : x (use_of l v).arc - 1 - (x (use_of l w).arc - 1 - o) ≡ o = omega (arith, ap x other.1.arc) in
           (λ t. on_arc (other.1.arc t) (cond (e t) (x (use_of l w).arc - 1 - o) (p t)))
       edges false e = λ t. on_arc (other.1.arc t)
           (cond (e t) (x (use_of l w).arc - 1 - o) (x (other.1.arc t) - 1 - (x (use_of l w).arc - 1 - o)))

@@ -1,19 +1,16 @@
 -- New points lie between the least and the greatest of the old coordinates.
-use Rattle.std.proofs.Common.{◌≡◌, ℕ, zero, suc, ◌+◌, ◌-◌, ◌*◌, ◌/◌}
-use Rattle.std.proofs.Common.{◌%◌, ◌^◌, ◌<◌, ◌≤◌, ℤ, pos, negsuc, ◌+ℤ◌}
-use Rattle.std.proofs.{Common.◌-ℤ◌, Math.Nat.mod-lt, Math.Nat.div-add-mod, Math.Nat.div-lt_iff_lt-mul}
-use Rattle.std.proofs.{lemmas.Bool.cases_eq, lemmas.Int.ints, lemmas.Int.by_lt_z, lemmas.Nat.mul-le}
+use Rattle.std.proofs.Common.{◌≡◌, ℕ, zero, suc, ◌+◌, ◌-◌, ◌*◌, ◌/◌, ◌%◌, ◌^◌, ◌<◌, ◌≤◌, ℤ, pos, negsuc, ◌+ℤ◌, ◌-ℤ◌}
 use Rattle.std.proofs.Common.{◌*ℤ◌, Bool, not, sym, ◌∙◌, ap, inl, inr, arith}
+use Rattle.std.proofs.Math.Nat.{mod-lt, div-add-mod, div-lt_iff_lt-mul}
+use Rattle.std.proofs.{lemmas.Bool.cases_eq, lemmas.Int.ints, lemmas.Int.by_lt_z, lemmas.Nat.mul-le}
 use Rattle.std.specs.{Prelude.◌≤ℤ◌, Prelude.◌<ℤ◌, Int.int_div_euclid}
-use Rattle.def_layout.specs.{declared.tmesh.SideArc.SideArc, Gluings.Way, Gluings.south, Gluings.east, Gluings.north}
-use Rattle.def_layout.specs.{Gluings.west, Gluings.Gluing, Surfaces.IsSurface, Lengths.Lengths, Lengths.reach}
-use Rattle.def_layout.specs.{Lengths.size, Lengths.wide, Lengths.high, Lengths.AreLengths, Cells.IsDart, Cells.dart}
+use Rattle.def_layout.specs.Gluings.{Way, south, east, north, west, Gluing}
+use Rattle.def_layout.specs.Lengths.{Lengths, reach, size, wide, high, AreLengths}
+use Rattle.def_layout.specs.{declared.tmesh.SideArc.SideArc, Surfaces.IsSurface, Cells.dart}
 use Rattle.def_written.specs.Points.{Point, node, along, inside, IsPoint, arc_point, use_over, offset_at, point}
-use Rattle.def_written.specs.{Edges.on_arc, NewFaces.dart_start}
 use Rattle.def_written.specs.Places.{Coordinate, on_the_way, arc_place, ONE, parameter, parameter_back, parameter_u}
 use Rattle.def_written.specs.Places.{parameter_v, cell_at, rest_at, blend, inside_place, place_of, ArcSpacing, Step}
-use Rattle.def_written.specs.Places.{parameter_u, parameter_v, cell_at, rest_at, blend}
-use Rattle.def_written.specs.{Places.inside_place, Places.place_of, Spacings.IsSpacing, Laws.BetweenLaw}
+use Rattle.def_written.specs.{Edges.on_arc, NewFaces.dart_start, Spacings.IsSpacing, Laws.BetweenLaw}
 use Rattle.written_laws.proofs.{Runs.count_rises, Sides.IsOn, Sides.place_on, Sides.long_at, Grid.wide_some}
 use Rattle.written_laws.proofs.{Grid.high_some, Borders.from_is, EdgeDarts.edge_points}
 
@@ -44,8 +41,7 @@ quotient_within a lo hi b some above below =
     let r = quotient_rest a b some in (
       by_lt_z q lo (λ less. let le : (q +ℤ pos 1) ≤ℤ lo = omega (arith, ints) in absurd
           (omega (arith, ints, times_le b (q +ℤ pos 1) lo le, one q, r.1, r.2, above))) (λ le. le),
-      by_lt_z hi q
-          (λ less. let le : (hi +ℤ pos 1) ≤ℤ q = omega (arith, ints) in absurd
+      by_lt_z hi q (λ less. let le : (hi +ℤ pos 1) ≤ℤ q = omega (arith, ints) in absurd
           (omega (arith, ints, times_le b (hi +ℤ pos 1) q le, one hi, r.2, below))) (λ le. le),
     )
   where
@@ -107,10 +103,9 @@ blend_within s t a b c d least greatest s_le t_le a_low b_low c_low d_low a_high
 
     total : (z : ℤ) → ((pos ((ONE - s) * (ONE - t)) *ℤ z) +ℤ (pos (s * (ONE - t)) *ℤ z)) +ℤ
         ((pos ((ONE - s) * t) *ℤ z) +ℤ (pos (s * t) *ℤ z)) ≡ pos (2 ^ 64) *ℤ z
-    total z = (λ k. sym (sum_times ((ONE - s) * (ONE - t)) (s * (ONE - t)) z) k +ℤ
-        sym (sum_times ((ONE - s) * t) (s * t) z) k)
-        ∙ sym (sum_times ((ONE - s) * (ONE - t) + s * (ONE - t)) ((ONE - s) * t + s * t) z)
-        ∙ ap (λ n. pos n *ℤ z) weights
+    total z = (λ k. sym (sum_times ((ONE - s) * (ONE - t)) (s * (ONE - t)) z) k +ℤ sym
+        (sum_times ((ONE - s) * t) (s * t) z) k) ∙ sym
+        (sum_times ((ONE - s) * (ONE - t) + s * (ONE - t)) ((ONE - s) * t + s * t) z) ∙ ap (λ n. pos n *ℤ z) weights
 
 -- A quotient of naturals is at most a number whose product is not less.
 pub div_most : (n k d : ℕ) → 0 < d → n ≤ k * d → n / d ≤ k
@@ -138,9 +133,8 @@ module _ {l : Gluing} {old new : Lengths} {spacing : ArcSpacing} (laid : IsSurfa
       let upto =
       count_rises (long_at l old p s) (suc (use_over l new p s t)) (l.many p s) (omega (arith, on.is_slot.low)) in
       let used : SideArc = l.use_at p s (use_over l new p s t) in
-      let part = arc_most used.arc used.forward (offset_at l new p s t)
-      (laid.paved.arc_low (record { patch = p; side = s; at = use_over l new p s t }) on.is_slot)
-      (omega (arith, on.inside)) in
+      let part = arc_most used.arc used.forward (offset_at l new p s t) (laid.paved.arc_low
+      (record { patch = p; side = s; at = use_over l new p s t }) on.is_slot) (omega (arith, on.inside)) in
       omega (arith, upto, part)
 
   back_most : (p : ℕ) (s : Way) (t : ℕ) → p < l.patches → t < size l new p s
@@ -178,9 +172,7 @@ module _ {l : Gluing} {old new : Lengths} {spacing : ArcSpacing} (laid : IsSurfa
       ))
 
   pub v_most : (p i j : ℕ) → IsPoint l new (inside p i j) → parameter_v l old new spacing p i j ≤ ONE * high l old p
-  v_most p i j is = mean_most _
-      _ _ _ i (omega arith)
-      (omega arith) (back_most p west _ is.0 (omega arith))
+  v_most p i j is = mean_most _ _ _ _ i (omega arith) (omega arith) (back_most p west _ is.0 (omega arith))
       (omega (arith, o_len.upright p is.0, ahead_most p east j is.0 (omega (arith, n_len.upright p is.0))))
 
   module _ (at : Coordinate) (least greatest : ℤ) (bound : (a : Point) → IsPoint l old a → (least ≤ℤ at a)
@@ -202,9 +194,8 @@ module _ {l : Gluing} {old new : Lengths} {spacing : ArcSpacing} (laid : IsSurfa
         (at (point l old p a (b + 1))) (at (point l old p (a + 1) (b + 1))) ≤ℤ greatest)
     grid_within p a b s t p_low a_low b_low s_le t_le =
         let corner : (w : Way) → (least ≤ℤ at (dart_start l old (dart p a b w)))
-        × (at (dart_start l old (dart p a b w)) ≤ℤ greatest) =
-        λ w. bound (dart_start l old (dart p a b w)) (from_is l old laid o_len (dart p a b w)
-        (record { patch_low = p_low; i_low = a_low; j_low = b_low })) in
+        × (at (dart_start l old (dart p a b w)) ≤ℤ greatest) = λ w. bound (dart_start l old (dart p a b w))
+        (from_is l old laid o_len (dart p a b w) (record { patch_low = p_low; i_low = a_low; j_low = b_low })) in
         blend_within s t (at (point l old p a b)) (at (point l old p (a + 1) b)) (at (point l old p a (b + 1)))
         (at (point l old p (a + 1) (b + 1))) least greatest s_le t_le (corner south).0 (corner east).0 (corner west).0
         (corner north).0 (corner south).1 (corner east).1 (corner west).1 (corner north).1
@@ -212,14 +203,13 @@ module _ {l : Gluing} {old new : Lengths} {spacing : ArcSpacing} (laid : IsSurfa
     inside_within : (p i j : ℕ) → IsPoint l new (inside p i j) → (least ≤ℤ inside_place l old new spacing at p i j)
         × (inside_place l old new spacing at p i j ≤ℤ greatest)
     inside_within p i j is = grid_within p (cell_at (wide l old p) (parameter_u l old new spacing p i j))
-        (cell_at (high l old p) (parameter_v l old new spacing p i j))
-        (rest_at (wide l old p) (parameter_u l old new spacing p i j))
-        (rest_at (high l old p) (parameter_v l old new spacing p i j)) is.0
+        (cell_at (high l old p) (parameter_v l old new spacing p i j)) (rest_at (wide l old p)
+        (parameter_u l old new spacing p i j)) (rest_at (high l old p) (parameter_v l old new spacing p i j)) is.0
         (omega (arith, wide_some l old laid.paved o_len p is.0))
-        (omega (arith, high_some l old laid.paved o_len p is.0))
-        (rest_most (wide l old p) (parameter_u l old new spacing p i j) (wide_some l old laid.paved o_len p is.0)
-        (u_most p i j is)) (rest_most (high l old p) (parameter_v l old new spacing p i j)
-        (high_some l old laid.paved o_len p is.0) (v_most p i j is))
+        (omega (arith, high_some l old laid.paved o_len p is.0)) (rest_most (wide l old p)
+        (parameter_u l old new spacing p i j) (wide_some l old laid.paved o_len p is.0) (u_most p i j is))
+        (rest_most (high l old p) (parameter_v l old new spacing p i j) (high_some l old laid.paved o_len p is.0)
+        (v_most p i j is))
 
     place_within : (a : Point) → IsPoint l new a → (least ≤ℤ place_of l old new spacing at a)
         × (place_of l old new spacing at a ≤ℤ greatest)

@@ -1,15 +1,12 @@
 -- Border darts by the slots whose arcs they lie on.
 use Rattle.std.proofs.Common.{◌≡◌, ◌≢◌, ◌⊎◌, ℕ, zero, suc, ◌+◌, ◌-◌, ◌<◌, ◌≤◌, Bool, true, false, not, cond, refl, sym}
-use Rattle.std.proofs.Common.{◌∙◌, ap, subst, inl, inr, arith}
-use Rattle.std.proofs.lemmas.Bool.{cases_eq}
-use Rattle.def_layout.specs.{declared.tmesh.SideArc.SideArc, Gluings.Way, Gluings.side_before, Gluings.Gluing}
-use Rattle.def_layout.specs.Gluings.{Slot, IsSlot, AreReverse, use_of, slot_before}
-use Rattle.def_layout.specs.{Gluings.start_node, Surfaces.HasWholeSides, Surfaces.IsSurface, Surfaces.IsOtherSlot}
-use Rattle.def_layout.specs.{Lengths.Lengths, Lengths.reach, Lengths.size, Lengths.AreLengths, Cells.CellDart}
-use Rattle.def_layout.specs.Cells.{IsDart, slot_dart}
+use Rattle.std.proofs.{Common.◌∙◌, Common.ap, Common.subst, Common.inl, Common.inr, Common.arith, lemmas.Bool.cases_eq}
+use Rattle.def_layout.specs.Gluings.{Way, side_before, Gluing, Slot, IsSlot, AreReverse, use_of, slot_before}
+use Rattle.def_layout.specs.{declared.tmesh.SideArc.SideArc, Gluings.start_node, Surfaces.HasWholeSides}
+use Rattle.def_layout.specs.{Surfaces.IsSurface, Surfaces.IsOtherSlot, Lengths.Lengths, Lengths.reach, Lengths.size}
+use Rattle.def_layout.specs.{Lengths.AreLengths, Cells.CellDart, Cells.IsDart, Cells.slot_dart}
 use Rattle.def_written.specs.Points.{node, along, inside, IsPoint, arc_point, use_point, use_over, offset_at}
-use Rattle.def_written.specs.Points.{side_point, point}
-use Rattle.def_written.specs.NewFaces.{dart_start, dart_end}
+use Rattle.def_written.specs.{Points.side_point, Points.point, NewFaces.dart_start, NewFaces.dart_end}
 use Rattle.written_laws.proofs.Sides.{slot, use_begins, use_inner, place_on, side_in, side_upto, reach_low}
 use Rattle.written_laws.proofs.Grid.{point_inside}
 use Rattle.written_laws.proofs.Rims.{column_of, row_of, side_column, side_row, border_point, rim_is, rim_from, rim_to}
@@ -93,14 +90,11 @@ module _ (l : Gluing) (x : Lengths) where
         is (omega arith) (omega arith)
 
     -- Over the border the dart runs the other way round.
-    pub other_long : (w v : Slot) → IsOtherSlot l w v → x (use_of l v).arc ≡ x (use_of l w).arc
-    other_long w v other = ap x other.1.arc
-
     pub across_from : (w v : Slot) (o : ℕ) → IsSlot l w → IsOtherSlot l w v → o < x (use_of l w).arc
         → dart_start l x (slot_dart l x v (x (use_of l w).arc - 1 - o)) ≡ dart_end l x (slot_dart l x w o)
     across_from w v o is other less =
         let e : x (use_of l w).arc - (x (use_of l w).arc - 1 - o) ≡ o + 1 = omega arith in
-        at_from v (x (use_of l w).arc - 1 - o) other.0 (omega (arith, other_long w v other))
+        at_from v (x (use_of l w).arc - 1 - o) other.0 (omega (arith, ap x other.1.arc))
         ∙ use_back (use_of l w) (use_of l v) other.1 (x (use_of l w).arc - 1 - o) (omega arith)
         ∙ ap (use_point l x (use_of l w)) e ∙ sym (at_to w o is less)
 
@@ -108,7 +102,7 @@ module _ (l : Gluing) (x : Lengths) where
         → dart_end l x (slot_dart l x v (x (use_of l w).arc - 1 - o)) ≡ dart_start l x (slot_dart l x w o)
     across_to w v o is other less =
         let e : x (use_of l w).arc - (x (use_of l w).arc - 1 - o + 1) ≡ o = omega arith in
-        at_to v (x (use_of l w).arc - 1 - o) other.0 (omega (arith, other_long w v other))
+        at_to v (x (use_of l w).arc - 1 - o) other.0 (omega (arith, ap x other.1.arc))
         ∙ use_back (use_of l w) (use_of l v) other.1 (x (use_of l w).arc - 1 - o + 1) (omega arith)
         ∙ ap (use_point l x (use_of l w)) e ∙ sym (at_from w o is less)
 

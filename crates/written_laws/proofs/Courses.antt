@@ -1,19 +1,16 @@
 -- Each dart of a new cell runs along one edge, in its direction or against it, and no other dart does.
-use Rattle.std.proofs.Common.{◌≡◌, ◌≢◌, ◌⊎◌, ℕ, ◌+◌, ◌-◌, ◌<◌, Bool, true, false, not, cond, refl, sym, ◌∙◌, ap, inl}
-use Rattle.std.proofs.Common.{inr, arith}
-use Rattle.std.proofs.lemmas.Bool.{cases_eq, cond-true, cond-false, eq-eqb, ne_eqb, false≢true}
+use Rattle.std.proofs.Common.{◌≡◌, ◌≢◌, ◌⊎◌, ℕ, ◌+◌, ◌-◌, ◌<◌, Bool, true, false, not, cond, refl, ap, inl, inr, arith}
+use Rattle.std.proofs.lemmas.Bool.{cases_eq, cond-true, cond-false, eq-eqb, ne_eqb}
 use Rattle.std.specs.Prelude.{◌==◌}
-use Rattle.def_layout.specs.declared.tmesh.SideArc.{SideArc}
 use Rattle.def_layout.specs.Gluings.{Way, south, east, north, west, Gluing, Slot, IsSlot, use_of}
-use Rattle.def_layout.specs.Surfaces.{IsSurface}
 use Rattle.def_layout.specs.Lengths.{Lengths, reach, size, wide, high, AreLengths}
 use Rattle.def_layout.specs.Cells.{CellDart, IsDart, dart, dart_along, slot_dart}
+use Rattle.def_layout.specs.{declared.tmesh.SideArc.SideArc, Surfaces.IsSurface}
 use Rattle.def_written.specs.Points.{Point, arc_point, use_point, use_over, offset_at}
 use Rattle.def_written.specs.NewFaces.{dart_start, dart_end}
 use Rattle.def_written.specs.Edges.{Edge, on_arc, flat, steep, IsEdge, edge_start, edge_end}
-use Rattle.written_laws.proofs.Sides.{slot, IsOn, place_on, over_is, size_some}
-use Rattle.written_laws.proofs.Rims.{dart_is}
-use Rattle.written_laws.proofs.Borders.{at_low, at_from, at_to}
+use Rattle.written_laws.proofs.Sides.{slot, place_on, over_is, size_some}
+use Rattle.written_laws.proofs.{Rims.dart_is, Borders.at_low, Borders.at_from, Borders.at_to}
 
 -- An edge, run along in its direction or against it.
 pub record Course : Type 0 where

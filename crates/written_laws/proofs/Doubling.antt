@@ -1,23 +1,21 @@
 -- Multiples of lengths that double no edge double none, and no lengths of at least 3 do.
-use Rattle.std.proofs.Common.{◌⊎◌, ◌≡◌, ◌≢◌, ℕ, zero, suc, ◌+◌, ◌-◌, ◌*◌, ◌/◌, ◌%◌, ◌<◌, ◌≤◌, Bool, true, false, not}
-use Rattle.std.proofs.Common.{cond}
+use Rattle.std.proofs.Common.{◌⊎◌, ◌≡◌, ◌≢◌, ℕ, zero, suc, ◌+◌, ◌-◌, ◌*◌, ◌/◌, ◌%◌, ◌<◌, ◌≤◌, Bool, true, false, cond}
 use Rattle.std.proofs.Common.{refl, sym, ◌∙◌, ap, subst, inl, inr, arith}
 use Rattle.std.proofs.Math.Nat.{mul-le-mul_left}
 use Rattle.std.proofs.lemmas.Bool.{cases_eq, cond-true, cond-false, eq-eqb, ne_eqb}
 use Rattle.std.specs.Prelude.{◌==◌}
-use Rattle.def_layout.specs.{declared.tmesh.SideArc.SideArc, Gluings.Way, Gluings.south, Gluings.east, Gluings.north}
-use Rattle.def_layout.specs.{Gluings.west, Gluings.Gluing, Gluings.IsSlot, Surfaces.IsSurface, Lengths.Lengths}
-use Rattle.def_layout.specs.Lengths.{reach, size, wide, high, AreLengths}
+use Rattle.def_layout.specs.Gluings.{Way, south, east, north, west, Gluing}
+use Rattle.def_layout.specs.Lengths.{Lengths, reach, size, wide, high, AreLengths}
 use Rattle.def_layout.specs.Cells.{CellDart, IsDart, dart}
-use Rattle.def_written.specs.Points.{Point, node, along, inside, arc_point}
-use Rattle.def_written.specs.Points.{use_point, use_over, offset_at, side_point, point}
+use Rattle.def_layout.specs.{declared.tmesh.SideArc.SideArc, Surfaces.IsSurface}
+use Rattle.def_written.specs.Points.{Point, node, along, inside, arc_point, use_point, use_over, offset_at, side_point}
+use Rattle.def_written.specs.Points.{point}
 use Rattle.def_written.specs.{NewFaces.dart_start, NewFaces.dart_end, Edges.Edge, Edges.on_arc, Edges.flat, Edges.steep}
 use Rattle.sum_laws.proofs.Counts.{count_below_times}
-use Rattle.written_laws.proofs.Sides.{slot, IsOn, arc_last, use_inner, side_in, place_on}
-use Rattle.written_laws.proofs.{Sides.first_slot, Sides.reach_low, Grid.point_north, Grid.point_west, Grid.point_east}
-use Rattle.written_laws.proofs.Courses.{Course, course_of, border_course, course_once, alike_or_turned}
-use Rattle.written_laws.proofs.{Simple.IsSimple, Manifold.ends_differ, Across.across_ends, Spokes.IsOpen}
-use Rattle.written_laws.proofs.Opens.{simple_open}
+use Rattle.written_laws.proofs.Sides.{slot, arc_last, use_inner, side_in, place_on, first_slot, reach_low}
+use Rattle.written_laws.proofs.Courses.{course_of, border_course, course_once, alike_or_turned}
+use Rattle.written_laws.proofs.{Grid.point_north, Grid.point_west, Grid.point_east, Simple.IsSimple}
+use Rattle.written_laws.proofs.{Manifold.ends_differ, Across.across_ends, Spokes.IsOpen, Opens.simple_open}
 
 -- The k-fold lengths.
 abbrev pub scale : (k : ℕ) (y : Lengths) → Lengths
@@ -64,14 +62,12 @@ module _ (l : Gluing) (y : Lengths) where
   arc_double a k = elim (cases_eq k 0) [
     | inl e ↦ cc (
       cond-true (2 * k == 0) _ _ (eq-eqb (2 * k) 0 (omega arith)),
-      cond-true (k == 0) (node (l.first a))
-          (cond (k == y a) (node (l.last a)) (along a k)) (eq-eqb k 0 e),
+      cond-true (k == 0) (node (l.first a)) (cond (k == y a) (node (l.last a)) (along a k)) (eq-eqb k 0 e),
     )
     | inr some ↦ cond-false (2 * k == 0) _ _ (ne_eqb (2 * k) 0 (λ z. some (omega arith))) ∙ elim (cases_eq k (y a)) [
       | inl e ↦ cc (
         cond-true (2 * k == 2 * y a) _ _ (eq-eqb (2 * k) (2 * y a) (ap (λ n. 2 * n) e)),
-        cond-true
-            (k == y a) (node (l.last a)) (along a k) (eq-eqb k (y a) e),
+        cond-true (k == y a) (node (l.last a)) (along a k) (eq-eqb k (y a) e),
       )
       | inr less ↦ cc (
         cond-false (2 * k == 2 * y a) _ _ (ne_eqb (2 * k) (2 * y a) (λ z. less (omega (arith, z)))),
@@ -99,8 +95,7 @@ module _ (l : Gluing) (y : Lengths) where
       omega (arith, reach_scale 2 p s (use_over l y p s t)) in
       cc (
         side_in l (scale 2 y) (2 * offset_at l y p s t) on.is_slot (omega (arith, on.inside)),
-        use_double
-            (l.use_at p s (use_over l y p s t)) (offset_at l y p s t) (omega (arith, on.inside)),
+        use_double (l.use_at p s (use_over l y p s t)) (offset_at l y p s t) (omega (arith, on.inside)),
       )
 
   side_odd : (p : ℕ) (s : Way) (t : ℕ) → p < l.patches → t < size l y p s
@@ -111,8 +106,7 @@ module _ (l : Gluing) (y : Lengths) where
       omega (arith, reach_scale 2 p s (use_over l y p s t)) in
       cc (
         side_in l (scale 2 y) (2 * offset_at l y p s t + 1) on.is_slot (omega (arith, on.inside)),
-        use_inner l
-            (scale 2 y) (l.use_at p s (use_over l y p s t)) (2 * offset_at l y p s t + 1) (omega arith)
+        use_inner l (scale 2 y) (l.use_at p s (use_over l y p s t)) (2 * offset_at l y p s t + 1) (omega arith)
             (omega (arith, on.inside)),
         by_way (l.use_at p s (use_over l y p s t)).arc
             (l.use_at p s (use_over l y p s t)).forward (offset_at l y p s t) on.inside,
@@ -124,11 +118,9 @@ module _ (l : Gluing) (y : Lengths) where
       by_way a false o inner = let e : 2 * y a - (2 * o + 1) ≡ 2 * (y a - 1 - o) + 1 = omega arith in
           ap (along a) e
 
-  middle_same : (p q : ℕ) (s r : Way) (t u : ℕ)
-      → middle (border_course l y p s t).edge ≡ middle (border_course l y q r u).edge → (border_course l y p s t).edge
-      ≡ (border_course l y q r u).edge
-  middle_same p q s r t u e =
-      by_arcs _ _ _ _ e
+  middle_same : (p q : ℕ) (s r : Way) (t u : ℕ) → middle (border_course l y p s t).edge
+      ≡ middle (border_course l y q r u).edge → (border_course l y p s t).edge ≡ (border_course l y q r u).edge
+  middle_same p q s r t u e = by_arcs _ _ _ _ e
     where
       by_arcs : (a k b m : ℕ) → along a (2 * k + 1) ≡ along b (2 * m + 1) → on_arc a k ≡ on_arc b m
       by_arcs a k b m s = let arc : a ≡ b = cc in let place : 2 * k + 1 ≡ 2 * m + 1 = cc in let same : k ≡ m =
@@ -143,8 +135,7 @@ module _ (l : Gluing) (y : Lengths) where
         → (course_of l y e).edge ≢ (course_of l y d).edge
     no_shared_edge {d} {e} is_d is_e apart ends edges =
         elim (alike_or_turned _ _) [
-          | inl ways ↦ apart
-              (course_once l y laid len is_d is_e (λ t. record { edge = sym edges t; ahead = ways t }))
+          | inl ways ↦ apart (course_once l y laid len is_d is_e (λ t. record { edge = sym edges t; ahead = ways t }))
           | inr ways ↦ ends
               (across_ends laid len {e = e} is_d (record { is_dart = is_e; edge = edges; turned = ways })).0
         ]
@@ -188,8 +179,7 @@ module _ (l : Gluing) (y : Lengths) where
               simple.no_loop (flat p 0 (j / 2)) (low, omega arith, omega arith, omega arith)
               (cc (
                 point_west l y laid len p (j / 2) low (omega (arith, rows)),
-                point_east l y laid len p (j / 2) low
-                    (sym one) (omega (arith, rows)),
+                point_east l y laid len p (j / 2) low (sym one) (omega (arith, rows)),
               ))
           | inr (o, edges) ↦
               let at = is (omega arith) in
@@ -207,8 +197,7 @@ module _ (l : Gluing) (y : Lengths) where
         λ i_low w. record { patch_low = low; i_low = i_low; j_low = omega arith } in
         elim (opposite p south north i _ _ low refl (len.across p low) columns some less
         (same ∙ point_north l _ laid z_len p i low (sym two))) [
-          | inl (e, points) ↦ simple.no_loop (steep p (i / 2) 0)
-              (low, omega arith, omega arith, omega arith)
+          | inl (e, points) ↦ simple.no_loop (steep p (i / 2) 0) (low, omega arith, omega arith, omega arith)
               (cc (point_north l y laid len p (i / 2) low (sym one)))
           | inr (o, edges) ↦
               let at = is (omega arith) in
@@ -253,6 +242,5 @@ simple_multiple l y laid len simple zero some = absurd (omega arith)
 simple_multiple l y laid len simple (suc zero) some =
     let one : (a : ℕ) → y a ≡ 1 * y a = λ a. omega arith in subst (IsSimple l) (λ t a. one a t) simple
 simple_multiple l y laid len simple (suc (suc zero)) some = simple_twice l y laid len simple
-simple_multiple l y laid len simple (suc (suc (suc k))) some =
-    simple_three laid (lengths_scale l y _ some len)
+simple_multiple l y laid len simple (suc (suc (suc k))) some = simple_three laid (lengths_scale l y _ some len)
     (λ a low. let one = len.some a low in omega (arith, mul-le-mul_left (suc (suc (suc k))) one))

@@ -2,14 +2,13 @@
 use Rattle.std.proofs.Common.{◌≡◌, ◌<◌, Bool, true, false, ◌∙◌, ap, subst, arith}
 use Rattle.std.proofs.lemmas.Bool.{cond-false, ne_eqb}
 use Rattle.std.specs.Prelude.{◌==◌}
-use Rattle.def_layout.specs.{declared.tmesh.SideArc.SideArc, Gluings.south, Gluings.west, Gluings.Gluing}
-use Rattle.def_layout.specs.{Gluings.use_of, Surfaces.IsSurface, Lengths.Lengths, Lengths.AreLengths}
+use Rattle.def_layout.specs.Gluings.{south, west, Gluing, use_of}
 use Rattle.def_layout.specs.Cells.{CellDart, IsDart, dart, next, slot_dart}
+use Rattle.def_layout.specs.{declared.tmesh.SideArc.SideArc, Surfaces.IsSurface, Lengths.Lengths, Lengths.AreLengths}
 use Rattle.def_written.specs.Points.{IsPoint}
 use Rattle.def_written.specs.Edges.{Edge, on_arc, flat, steep, IsEdge, edge_start, edge_end}
-use Rattle.written_laws.proofs.{Borders.at_is, Borders.from_is, NewDarts.next_is, Courses.Course, Courses.course}
-use Rattle.written_laws.proofs.Courses.{start_at, end_at, use_course, course_of}
-use Rattle.written_laws.proofs.Courses.{at_course, course_from, course_to}
+use Rattle.written_laws.proofs.Courses.{Course, course, start_at, end_at, course_of, at_course, course_from, course_to}
+use Rattle.written_laws.proofs.{Borders.at_is, Borders.from_is, NewDarts.next_is}
 
 module _ (l : Gluing) (x : Lengths) (laid : IsSurface l) (len : AreLengths l x) where
   pub edge_dart : (e : Edge) → IsEdge l x e → (d : CellDart) × IsDart l x d × ((course_of l x d).edge ≡ e)

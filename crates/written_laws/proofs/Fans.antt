@@ -1,20 +1,17 @@
 -- Points are the classes of corners under turns: what holds for turns holds for all darts that leave one point.
-use Rattle.std.proofs.Common.{◌≡◌, ◌⊎◌, ℕ, zero, suc, ◌+◌, ◌-◌, ◌<◌, Bool, true, false, not, cond, refl, sym, ◌∙◌}
-use Rattle.std.proofs.Common.{ap, subst, inl, inr, arith}
-use Rattle.std.proofs.lemmas.Bool.{cases_eq}
-use Rattle.def_layout.specs.Gluings.{Way, side_after, side_before, Gluing, Slot, IsSlot, use_of}
-use Rattle.def_layout.specs.Gluings.{use_before, slot_before, start_node}
-use Rattle.def_layout.specs.Surfaces.{HasWholeSides, IsSurface}
-use Rattle.def_layout.specs.Fans.{IsTurn, SlotTurns, HasFans}
+use Rattle.std.proofs.Common.{◌≡◌, ◌⊎◌, ℕ, zero, suc, ◌+◌, ◌-◌, ◌<◌, Bool, true, false, not, cond, sym, ◌∙◌, ap, subst}
+use Rattle.std.proofs.{Common.inl, Common.inr, Common.arith, lemmas.Bool.cases_eq}
+use Rattle.def_layout.specs.Gluings.{Way, side_after, side_before, Gluing, Slot, IsSlot, use_of, use_before}
+use Rattle.def_layout.specs.Gluings.{slot_before, start_node}
 use Rattle.def_layout.specs.Lengths.{Lengths, reach, size, AreLengths}
 use Rattle.def_layout.specs.Cells.{CellDart, IsDart, next, dart_along, slot_dart}
+use Rattle.def_layout.specs.{Surfaces.HasWholeSides, Surfaces.IsSurface, Fans.IsTurn, Fans.SlotTurns, Fans.HasFans}
 use Rattle.def_written.specs.{Points.along, Points.use_point, NewFaces.dart_start}
 use Rattle.written_laws.proofs.Sides.{slot, use_begins, use_inner, reach_low, use_some, last_reach, size_some}
-use Rattle.written_laws.proofs.Turning.{IsTurning}
-use Rattle.written_laws.proofs.Rims.{column_of, row_of, rim_patch, rim_starts, rim_on, rim_round}
-use Rattle.written_laws.proofs.Rims.{darts_related, IsInner}
-use Rattle.written_laws.proofs.{Courses.alike_or_turned, Rims.after_before}
+use Rattle.written_laws.proofs.Rims.{column_of, row_of, rim_starts, rim_on, rim_round, darts_related, IsInner}
+use Rattle.written_laws.proofs.Rims.{after_before}
 use Rattle.written_laws.proofs.Borders.{at_low, at_is, IsAt, sort_dart, inner_from, use_not_inside, before_is}
+use Rattle.written_laws.proofs.{Turning.IsTurning, Courses.alike_or_turned}
 
 -- Places along an arc that is used the same way round, and the other way round.
 alike_place : (f : Bool) {g : Bool} {n m o k : ℕ} → f ≡ g → n ≡ m → o < n → k < m

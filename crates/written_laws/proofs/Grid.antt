@@ -2,9 +2,8 @@
 use Rattle.std.proofs.Common.{◌≡◌, ℕ, ◌-◌, ◌<◌, ◌≤◌, sym, ◌∙◌, ap, inl, inr, arith}
 use Rattle.std.proofs.lemmas.Bool.{cases_eq, cond-true, cond-false, eq-eqb, ne_eqb}
 use Rattle.std.specs.Prelude.{◌==◌}
-use Rattle.def_layout.specs.Gluings.{south, east, north, west, Gluing}
-use Rattle.def_layout.specs.Surfaces.{HasWholeSides, IsSurface}
-use Rattle.def_layout.specs.Lengths.{Lengths, wide, high, AreLengths}
+use Rattle.def_layout.specs.{Gluings.south, Gluings.east, Gluings.north, Gluings.west, Gluings.Gluing, Lengths.Lengths}
+use Rattle.def_layout.specs.{Lengths.wide, Lengths.high, Lengths.AreLengths, Surfaces.HasWholeSides, Surfaces.IsSurface}
 use Rattle.def_written.specs.Points.{inside, side_point, point}
 use Rattle.written_laws.proofs.Sides.{size_some, corner_meets}
 

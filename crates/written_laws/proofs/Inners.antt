@@ -1,17 +1,16 @@
 -- A vertex of a model is inner where each arc at its point has two sides.
-use Rattle.std.proofs.Common.{◌≡◌, ◌⊎◌, ℕ, ◌+◌, ◌<◌, ◌≤◌, true, Some, refl, sym, ◌∙◌, ap, inl, inr, arith}
-use Rattle.std.proofs.lemmas.Bool.{eqb-true, eq-eqb}
-use Rattle.std.proofs.lemmas.Option.{none-some}
+use Rattle.std.proofs.Common.{◌≡◌, ◌⊎◌, ℕ, ◌+◌, ◌<◌, true, Some, refl, ◌∙◌, ap, inl, inr, arith}
+use Rattle.std.proofs.{lemmas.Bool.eqb-true, lemmas.Bool.eq-eqb, lemmas.Option.none-some}
 use Rattle.std.specs.Prelude.{◌==◌}
-use Rattle.def_mesh.specs.{Faces.Faces, Darts.darts, Darts.from_of, Darts.to_of, Darts.twin_of, Vertices.faces_at}
-use Rattle.def_mesh.specs.Kinds.{is_inner}
-use Rattle.def_layout.specs.{Gluings.Gluing, Gluings.Slot, Gluings.IsSlot, Gluings.use_of, Surfaces.IsSurface}
-use Rattle.def_layout.specs.{Surfaces.IsOtherSlot, Lengths.Lengths, Lengths.AreLengths, Cells.CellDart, Cells.IsDart}
-use Rattle.def_layout.specs.Cells.{next, slot_dart}
+use Rattle.def_mesh.specs.Darts.{darts, from_of, to_of, twin_of}
+use Rattle.def_mesh.specs.{Faces.Faces, Vertices.faces_at, Kinds.is_inner}
+use Rattle.def_layout.specs.Gluings.{Gluing, Slot, IsSlot, use_of}
+use Rattle.def_layout.specs.Cells.{CellDart, IsDart, next, slot_dart}
+use Rattle.def_layout.specs.{Surfaces.IsSurface, Surfaces.IsOtherSlot, Lengths.Lengths, Lengths.AreLengths}
 use Rattle.def_written.specs.{Points.Point, Points.use_point, NewFaces.dart_start, NewFaces.dart_end}
 use Rattle.written_laws.proofs.Tallies.{AreNumbers, numbers_le, passing_all, filter_long}
-use Rattle.written_laws.proofs.{Borders.at_is, Borders.at_from, Borders.at_to, NewDarts.next_is}
-use Rattle.written_laws.proofs.{Across.across_or_alone, Across.IsAlone, Across.alone_not_across, Models.IsModel}
+use Rattle.written_laws.proofs.{Borders.at_is, Borders.at_from, Borders.at_to, NewDarts.next_is, Across.across_or_alone}
+use Rattle.written_laws.proofs.{Across.IsAlone, Across.alone_not_across, Models.IsModel}
 use Rattle.face_laws.proofs.Fans.{inner_from, inner_twin}
 
 -- Each arc at the point is used by two slots.
@@ -90,8 +89,7 @@ module _ {l : Gluing} {x : Lengths} {laid : IsSurface l} {len : AreLengths l x} 
         at (inr e) = inr (ends_back is_d (at_to l x laid len w o is less ∙ e))
 
     -- So many darts leave the vertex, where each is one of a list of that length that differ.
-    pub fan_is : (n : ℕ) (at : ℕ → CellDart)
-        → ((k : ℕ) → k < n → IsDart l x (at k) × (dart_start l x (at k) ≡ a))
+    pub fan_is : (n : ℕ) (at : ℕ → CellDart) → ((k : ℕ) → k < n → IsDart l x (at k) × (dart_start l x (at k) ≡ a))
         → ((d : CellDart) → IsDart l x d → dart_start l x d ≡ a → (k : ℕ) × (k < n) × (at k ≡ d))
         → ((k m : ℕ) → k < n → m < n → at k ≡ at m → k ≡ m) → faces_at F v ≡ n
     fan_is n at is all apart = omega (

@@ -1,25 +1,21 @@
 -- Where no edge is doubled, the new faces are a manifold.
-use Rattle.std.proofs.Common.{◌≡◌, ◌≢◌, ◌⊎◌, ℕ, zero, suc, ◌+◌, ◌-◌, ◌<◌, not, refl, sym, ◌∙◌, ap, subst, inl}
-use Rattle.std.proofs.Common.{inr, arith}
-use Rattle.std.proofs.lemmas.Bool.{false≢true}
-use Rattle.def_mesh.specs.{Faces.corner, Darts.from_of, Darts.to_of, Manifold.IsManifold, Manifold.IsRepeatFree}
-use Rattle.def_mesh.specs.Manifold.{HasEdgesOnce}
-use Rattle.def_layout.specs.Gluings.{Way, south, east, north, west, side_after}
-use Rattle.def_layout.specs.Gluings.{side_before, Gluing, Slot, use_of}
+use Rattle.std.proofs.Common.{◌≡◌, ◌≢◌, ◌⊎◌, ℕ, zero, suc, ◌+◌, ◌-◌, ◌<◌, not, refl, sym, ◌∙◌, ap, subst, inl, inr}
+use Rattle.std.proofs.{Common.arith, lemmas.Bool.false≢true}
+use Rattle.def_mesh.specs.Manifold.{IsManifold, IsRepeatFree, HasEdgesOnce}
+use Rattle.def_mesh.specs.{Faces.corner, Darts.from_of, Darts.to_of}
+use Rattle.def_layout.specs.Gluings.{Way, south, east, north, west, side_after, side_before, Gluing, Slot, use_of}
 use Rattle.def_layout.specs.{Gluings.slot_before, Surfaces.IsSurface, Fans.HasFans, Lengths.Lengths, Lengths.reach}
 use Rattle.def_layout.specs.{Lengths.size, Lengths.AreLengths, Cells.CellDart, Cells.IsDart, Cells.next}
 use Rattle.def_layout.specs.Cells.{dart_along, slot_dart}
-use Rattle.def_written.specs.{Numbers.vertex_number, NewFaces.dart_start, NewFaces.dart_end, NewFaces.face_count}
-use Rattle.def_written.specs.{NewFaces.dart_of, NewFaces.cell_vertex, NewFaces.new_faces}
+use Rattle.def_written.specs.Numbers.{vertex_number}
+use Rattle.def_written.specs.NewFaces.{dart_start, dart_end, face_count, dart_of, cell_vertex, new_faces}
+use Rattle.written_laws.proofs.NewDarts.{turn, way_of, turn_way, dart_number, corner_is, cell_is, number_from}
+use Rattle.written_laws.proofs.NewDarts.{number_to, next_is, at_number, faces_long}
+use Rattle.written_laws.proofs.Courses.{Course, is_arc, inner_course, course_of, IsWithin, IsOnBorder, sees, border_is}
+use Rattle.written_laws.proofs.Courses.{course_is, course_from, course_to, inner_no_arc, course_once}
+use Rattle.written_laws.proofs.Simple.{IsSimple, one_course, reversed, ends_apart}
 use Rattle.written_laws.proofs.{Sides.slot, Sides.first_is, Sides.last_is, Rims.corner_cell, Rims.rim_way}
-use Rattle.written_laws.proofs.{Rims.rim_patch, Numbers.number_same, Borders.from_is, Borders.at_low, NewDarts.turn}
-use Rattle.written_laws.proofs.NewDarts.{way_of, turn_way, dart_number, corner_is}
-use Rattle.written_laws.proofs.NewDarts.{cell_is, number_from, number_to, next_is}
-use Rattle.written_laws.proofs.{NewDarts.at_number, NewDarts.faces_long, OneFan.one_fan, Courses.Course, Courses.is_arc}
-use Rattle.written_laws.proofs.Courses.{inner_course, course_of, IsWithin, IsOnBorder}
-use Rattle.written_laws.proofs.Courses.{sees, border_is, course_is, course_from}
-use Rattle.written_laws.proofs.{Courses.course_to, Courses.inner_no_arc, Courses.course_once, Simple.IsSimple}
-use Rattle.written_laws.proofs.Simple.{one_course, reversed, ends_apart}
+use Rattle.written_laws.proofs.{Rims.rim_patch, Numbers.number_same, Borders.from_is, Borders.at_low, OneFan.one_fan}
 
 -- Darts that follow each other round a cell inside a patch run along different edges.
 flat_or_steep : (p i j : ℕ) (w : Way) → (inner_course p i j (side_after w)).edge ≢ (inner_course p i j w).edge
@@ -39,8 +35,7 @@ module _ {l : Gluing} {x : Lengths} (laid : IsSurface l) (len : AreLengths l x) 
         rim_patch laid.paved len w.patch w.side (reach l x w.patch w.side w.at + o),
       ) in
       let sides : v.side ≡ side_after w.side = cc (
-        rim_way laid.paved len v.patch v.side
-            (reach l x v.patch v.side v.at + k),
+        rim_way laid.paved len v.patch v.side (reach l x v.patch v.side v.at + k),
         rim_way laid.paved len w.patch w.side (reach l x w.patch w.side w.at + o),
       ) in
       let same_rim : slot_dart l x v k ≡ dart_along l x w.patch (side_after w.side) (reach l x v.patch v.side v.at + k)
@@ -55,8 +50,7 @@ module _ {l : Gluing} {x : Lengths} (laid : IsSurface l) (len : AreLengths l x) 
       let both = corner_cell laid.paved len _ _ _ _ at_w.is_slot.patch_low
       (at_low l x laid.paved len o at_w.is_slot at_w.low) v_less columns rows in
       let v_first : v.at ≡ 0 = first_is l x laid.paved len v at_v.is_slot (omega arith) in
-      let w_last : w.at
-      ≡ l.many w.patch w.side - 1 = last_is l x laid.paved len w at_w.is_slot (omega arith) in
+      let w_last : w.at ≡ l.many w.patch w.side - 1 = last_is l x laid.paved len w at_w.is_slot (omega arith) in
       let by_paths : slot_before l v.patch v.side v.at ≡ w = (λ r. slot_before l (patches r) (sides r) (v_first r))
       ∙ (λ r. slot w.patch (before_after w.side r) (l.many w.patch (before_after w.side r) - 1))
       ∙ (λ r. slot w.patch w.side (sym w_last r)) in

@@ -1,28 +1,23 @@
 -- How many vertices, edges and faces a model has, and Euler's number.
-use Rattle.std.proofs.Common.{◌≡◌, ◌≢◌, ℕ, zero, suc, ◌+◌, ◌-◌, ◌*◌, ◌<◌, ◌≤◌, Bool, true, false, not, length}
-use Rattle.std.proofs.Common.{Option, Some, pos, ◌+ℤ◌, ◌-ℤ◌, refl, sym, ◌∙◌, ap, subst, inl, inr, arith}
-use Rattle.std.proofs.lemmas.Int.{ints}
-use Rattle.std.proofs.lemmas.Bool.{cases_order, ltb-true, lt-ltb}
+use Rattle.std.proofs.Common.{◌≡◌, ◌≢◌, ℕ, zero, suc, ◌+◌, ◌-◌, ◌*◌, ◌<◌, Bool, true, false, not, length, Option, Some}
+use Rattle.std.proofs.Common.{pos, ◌+ℤ◌, ◌-ℤ◌, refl, sym, ap, inl, inr, arith}
+use Rattle.std.proofs.{lemmas.Int.ints, lemmas.Bool.cases_order, lemmas.Bool.ltb-true, lemmas.Bool.lt-ltb}
 use Rattle.def_math.specs.Counts.{count_below}
-use Rattle.def_mesh.specs.{Faces.Faces, Darts.darts, Darts.from_of, Darts.twin_of, Vertices.is_used}
-use Rattle.def_mesh.specs.{Vertices.vertex_count, Components.is_lesser, Components.edge_count, Components.used_count}
-use Rattle.def_mesh.specs.Components.{euler}
-use Rattle.def_layout.specs.{Gluings.Gluing, Surfaces.IsSurface, Lengths.Lengths, Lengths.wide}
-use Rattle.def_layout.specs.{Lengths.high, Lengths.AreLengths, Cells.CellDart, Cells.IsDart}
-use Rattle.def_written.specs.{Points.Point, Points.IsPoint, Numbers.vertex_number}
-use Rattle.def_written.specs.{Numbers.vertices, NewFaces.dart_start, NewFaces.face_count}
+use Rattle.def_mesh.specs.Darts.{darts, from_of, twin_of}
+use Rattle.def_mesh.specs.Components.{is_lesser, edge_count, used_count, euler}
+use Rattle.def_mesh.specs.{Faces.Faces, Vertices.is_used, Vertices.vertex_count}
+use Rattle.def_layout.specs.Lengths.{Lengths, wide, high, AreLengths}
+use Rattle.def_layout.specs.{Gluings.Gluing, Surfaces.IsSurface, Cells.CellDart, Cells.IsDart}
+use Rattle.def_written.specs.{Numbers.vertex_number, Numbers.vertices, NewFaces.dart_start, NewFaces.face_count}
 use Rattle.def_written.specs.Edges.{Edge, IsEdge}
 use Rattle.written_laws.proofs.Tallies.{AreNumbers, numbers_le, passing_all, filter_long}
+use Rattle.written_laws.proofs.NewDarts.{dart_number, dart_low, dart_same, at_number, faces_long}
+use Rattle.written_laws.proofs.Courses.{course, course_of, alike_or_turned, course_is, course_once, IsAcross}
+use Rattle.written_laws.proofs.EdgeNumbers.{flats, steeps, edge_number, edge_total, edge_low, edge_same, edge_onto}
+use Rattle.written_laws.proofs.EdgeNumbers.{point_onto}
+use Rattle.written_laws.proofs.Models.{IsModel, used_dart, dart_used, point_dart}
 use Rattle.written_laws.proofs.{Numbers.number_low, Numbers.number_same, Grid.wide_some, Grid.high_some}
-use Rattle.written_laws.proofs.{Borders.from_is, NewDarts.dart_number, NewDarts.dart_low, NewDarts.dart_same}
-use Rattle.written_laws.proofs.{NewDarts.at_number, NewDarts.faces_long, Courses.course, Courses.course_of}
-use Rattle.written_laws.proofs.{Courses.alike_or_turned, Courses.course_is, Courses.course_once, Courses.IsAcross}
-use Rattle.written_laws.proofs.{Across.across_or_alone}
-use Rattle.written_laws.proofs.{Across.alone_not_across, EdgeDarts.edge_dart, EdgeNumbers.flats}
-use Rattle.written_laws.proofs.EdgeNumbers.{steeps, edge_number, edge_total}
-use Rattle.written_laws.proofs.EdgeNumbers.{edge_low, edge_same, edge_onto}
-use Rattle.written_laws.proofs.{EdgeNumbers.point_onto, Models.IsModel, Models.used_dart, Models.dart_used}
-use Rattle.written_laws.proofs.Models.{point_dart}
+use Rattle.written_laws.proofs.{Borders.from_is, Across.across_or_alone, Across.alone_not_across, EdgeDarts.edge_dart}
 use Rattle.mesh_laws.proofs.Vertices.{all_below}
 
 -- Counts whose terms have equal sums, but for one.

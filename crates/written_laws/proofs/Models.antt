@@ -1,23 +1,21 @@
 -- Lists of faces whose darts are those of the cells of a gluing: the new faces, and the old ones at the old lengths.
-use Rattle.std.proofs.Common.{◌≡◌, ℕ, ◌+◌, ◌*◌, ◌/◌, ◌%◌, ◌<◌, true, [], length, get_or, Some, None, refl, sym}
-use Rattle.std.proofs.Common.{◌∙◌, ap, inl, inr, arith}
-use Rattle.std.proofs.lemmas.Bool.{eqb-true, eq-eqb}
-use Rattle.std.proofs.lemmas.List.{get_or_default}
-use Rattle.std.proofs.lemmas.List.Folds.{list_any_at, Any-from_list_any}
+use Rattle.std.proofs.Common.{◌≡◌, ℕ, ◌+◌, ◌*◌, ◌/◌, ◌%◌, ◌<◌, true, [], length, get_or, Some, None, refl, sym, ◌∙◌, ap}
+use Rattle.std.proofs.{Common.inl, Common.inr, Common.arith, lemmas.Bool.eqb-true, lemmas.Bool.eq-eqb}
+use Rattle.std.proofs.{lemmas.List.get_or_default, lemmas.List.Folds.list_any_at, lemmas.List.Folds.Any-from_list_any}
 use Rattle.std.proofs.lemmas.List.FromFn.{get_or-map-range_with_len}
 use Rattle.std.specs.{Prelude.◌==◌, List.list_any, List.Any}
 use Rattle.def_mesh.specs.{Faces.Face, Faces.Faces, Faces.face_at, Faces.corner, Darts.darts, Darts.next_of}
 use Rattle.def_mesh.specs.{Darts.from_of, Darts.twin_of, Vertices.is_used}
-use Rattle.def_layout.specs.{declared.tmesh.SideArc.SideArc, Gluings.south, Gluings.Gluing, Gluings.Slot}
-use Rattle.def_layout.specs.{Gluings.IsSlot, Gluings.use_of, Gluings.start_node, Surfaces.IsSurface, Lengths.Lengths}
-use Rattle.def_layout.specs.{Lengths.AreLengths, Cells.CellDart, Cells.IsDart, Cells.dart, Cells.next, Cells.slot_dart}
-use Rattle.def_written.specs.Points.{Point, node, along, inside, IsPoint, use_point}
+use Rattle.def_layout.specs.Gluings.{south, Gluing, use_of}
+use Rattle.def_layout.specs.Cells.{CellDart, IsDart, dart, next, slot_dart}
+use Rattle.def_layout.specs.{declared.tmesh.SideArc.SideArc, Surfaces.IsSurface, Lengths.Lengths, Lengths.AreLengths}
+use Rattle.def_written.specs.Points.{Point, node, along, inside, IsPoint}
 use Rattle.def_written.specs.Numbers.{vertex_number}
 use Rattle.def_written.specs.NewFaces.{dart_start, new_face, face_count, new_faces}
+use Rattle.written_laws.proofs.NewDarts.{dart_number, dart_low, dart_same, at_number, next_number, number_from}
+use Rattle.written_laws.proofs.NewDarts.{faces_long}
 use Rattle.written_laws.proofs.{Sides.use_begins, Sides.arc_inner, Sides.use_some, Grid.point_inside}
-use Rattle.written_laws.proofs.{Numbers.number_same, Borders.at_is, Borders.at_from, Borders.from_is}
-use Rattle.written_laws.proofs.NewDarts.{dart_number, dart_low, dart_same, at_number}
-use Rattle.written_laws.proofs.{NewDarts.next_number, NewDarts.number_from, NewDarts.faces_long, Courses.IsAcross}
+use Rattle.written_laws.proofs.{Numbers.number_same, Borders.at_is, Borders.at_from, Borders.from_is, Courses.IsAcross}
 use Rattle.written_laws.proofs.{Simple.IsSimple, Across.across_or_alone, Across.across_twin, Across.alone_no_twin}
 
 -- Dart `cell d` is that of d. Darts leave one vertex where those of the cells leave one point, and have as twin that of

@@ -1,21 +1,16 @@
 -- The darts of the new faces, by number and by cell.
-use Rattle.std.proofs.Common.{◌≡◌, ℕ, zero, suc, ◌+◌, ◌-◌, ◌*◌, ◌/◌, ◌%◌, ◌<◌, [], length, refl, sym, ◌∙◌, ap}
-use Rattle.std.proofs.Common.{arith}
-use Rattle.std.proofs.Math.Nat.{mod-lt, div-lt_iff_lt-mul, mul_comm}
-use Rattle.std.proofs.lemmas.Nat.{mul-add-lt, same_from_place, div-add-mod'}
-use Rattle.std.proofs.lemmas.Bool.Decides.{nat_tests}
+use Rattle.std.proofs.Common.{◌≡◌, ℕ, zero, suc, ◌+◌, ◌-◌, ◌*◌, ◌/◌, ◌%◌, ◌<◌, [], length, refl, sym, ◌∙◌, ap, arith}
+use Rattle.std.proofs.{Math.Nat.mod-lt, Math.Nat.div-lt_iff_lt-mul, Math.Nat.mul_comm, lemmas.Nat.mul-add-lt}
+use Rattle.std.proofs.{lemmas.Nat.same_from_place, lemmas.Nat.div-add-mod', lemmas.Bool.Decides.nat_tests}
 use Rattle.std.proofs.lemmas.List.FromFn.{length-map-range_with_len, get_or-map-range_with_len}
 use Rattle.std.specs.Prelude.{slice_index_or}
-use Rattle.def_mesh.specs.Faces.{Face, corner}
-use Rattle.def_mesh.specs.Darts.{darts, next_of, prev_of, from_of, to_of}
+use Rattle.def_mesh.specs.{Faces.corner, Darts.darts, Darts.next_of, Darts.prev_of, Darts.from_of, Darts.to_of}
 use Rattle.def_layout.specs.Gluings.{Way, south, east, north, west, side_after, side_before, Gluing}
-use Rattle.def_layout.specs.Surfaces.{IsSurface}
-use Rattle.def_layout.specs.Lengths.{Lengths, wide, high, AreLengths}
 use Rattle.def_layout.specs.Cells.{CellDart, IsDart, dart, next, prev}
-use Rattle.def_written.specs.Numbers.{vertex_number}
+use Rattle.def_layout.specs.{Surfaces.IsSurface, Lengths.Lengths, Lengths.wide, Lengths.high, Lengths.AreLengths}
 use Rattle.def_written.specs.NewFaces.{dart_start, dart_end, cells_before, face_count, patch_of, cell_in, dart_of}
-use Rattle.def_written.specs.NewFaces.{cell_vertex, new_face, new_faces}
-use Rattle.written_laws.proofs.{Runs.run_place, Runs.run_here, Runs.place_low, Runs.IsInRun, Grid.wide_some}
+use Rattle.def_written.specs.{Numbers.vertex_number, NewFaces.cell_vertex, NewFaces.new_face, NewFaces.new_faces}
+use Rattle.written_laws.proofs.{Runs.run_place, Runs.run_here, Runs.place_low, Grid.wide_some}
 
 -- The sides of a face by number.
 abbrev pub turn : (side : Way) → ℕ

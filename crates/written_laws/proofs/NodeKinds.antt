@@ -1,21 +1,18 @@
 -- The vertex of a node has the same kind and as many faces in each model, whatever the lengths.
-use Rattle.std.proofs.Common.{◌≡◌, ◌⊎◌, ℕ, zero, suc, ◌+◌, ◌-◌, ◌<◌, ◌≤◌, Bool, true, refl, sym, ◌∙◌, ap}
-use Rattle.std.proofs.Common.{inl, inr, arith}
-use Rattle.std.proofs.lemmas.Bool.{cases_eq, eqb-true, eq-eqb}
+use Rattle.std.proofs.Common.{◌≡◌, ◌⊎◌, ℕ, zero, suc, ◌+◌, ◌-◌, ◌<◌, ◌≤◌, Bool, true, refl, sym, ◌∙◌, ap, inl, inr}
+use Rattle.std.proofs.{Common.arith, lemmas.Bool.cases_eq, lemmas.Bool.eqb-true, lemmas.Bool.eq-eqb}
 use Rattle.std.specs.Prelude.{◌==◌}
 use Rattle.sum_laws.proofs.Tests.{same_test}
 use Rattle.def_mesh.specs.{Faces.Faces, Darts.darts, Darts.from_of, Vertices.faces_at, Kinds.is_inner}
-use Rattle.def_layout.specs.{declared.tmesh.SideArc.SideArc, Gluings.Gluing, Gluings.Slot, Gluings.IsSlot}
-use Rattle.def_layout.specs.{Gluings.use_of, Gluings.start_node, Gluings.end_node, Surfaces.IsSurface}
-use Rattle.def_layout.specs.{Surfaces.IsOtherSlot, Lengths.Lengths, Lengths.reach, Lengths.AreLengths, Cells.CellDart}
-use Rattle.def_layout.specs.Cells.{IsDart}
+use Rattle.def_layout.specs.Gluings.{Gluing, Slot, IsSlot, use_of, start_node, end_node}
+use Rattle.def_layout.specs.{declared.tmesh.SideArc.SideArc, Surfaces.IsSurface, Surfaces.IsOtherSlot, Lengths.Lengths}
+use Rattle.def_layout.specs.{Lengths.reach, Lengths.AreLengths, Cells.CellDart, Cells.IsDart}
 use Rattle.def_written.specs.{Points.node, Points.use_point, NewFaces.dart_start}
-use Rattle.written_laws.proofs.{Runs.count_rises, Tallies.passing, Tallies.passing_le, Tallies.filter_long, Sides.slot}
-use Rattle.written_laws.proofs.Sides.{long_at, use_begins, use_ends, use_inner, use_some}
-use Rattle.written_laws.proofs.{Borders.IsAt, Borders.sort_dart}
-use Rattle.written_laws.proofs.{Borders.inner_from, Spots.place_at, Spots.spot_dart, Spots.at_once, Spots.spot_is}
-use Rattle.written_laws.proofs.{Spots.spot_at, Spots.sort_spot, Spots.spot_once, Models.IsModel, Inners.AreShared}
-use Rattle.written_laws.proofs.Inners.{IsVertex, inner_if, inner_only}
+use Rattle.written_laws.proofs.Sides.{slot, long_at, use_begins, use_ends, use_inner, use_some}
+use Rattle.written_laws.proofs.Spots.{place_at, spot_dart, at_once, spot_is, spot_at, sort_spot, spot_once}
+use Rattle.written_laws.proofs.Inners.{AreShared, IsVertex, inner_if, inner_only}
+use Rattle.written_laws.proofs.{Runs.count_rises, Tallies.passing, Tallies.passing_le, Tallies.filter_long}
+use Rattle.written_laws.proofs.{Borders.IsAt, Borders.sort_dart, Borders.inner_from, Models.IsModel}
 
 module _ {l : Gluing} {x : Lengths} (laid : IsSurface l) (len : AreLengths l x) where
   -- A point of an arc that is a node is one of its ends.

@@ -1,5 +1,5 @@
 -- The numbers of points: each below the number of vertices, and no two alike.
-use Rattle.std.proofs.Common.{◌≡◌, ℕ, ◌+◌, ◌-◌, ◌*◌, ◌<◌, sym, ◌∙◌, ap, arith}
+use Rattle.std.proofs.Common.{◌≡◌, ℕ, ◌+◌, ◌-◌, ◌*◌, ◌<◌, sym, ap, arith}
 use Rattle.std.proofs.lemmas.Nat.{mul-add-lt, same_from_place}
 use Rattle.def_layout.specs.{Gluings.Gluing, Lengths.Lengths, Lengths.wide, Lengths.high}
 use Rattle.def_written.specs.Points.{Point, node, along, inside, IsPoint}

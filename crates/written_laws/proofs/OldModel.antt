@@ -1,29 +1,23 @@
 -- A mesh in which a gluing lies is a model of it at the old lengths, and the gluing has fans.
-use Rattle.std.proofs.Common.{◌≡◌, ◌⊎◌, ℕ, zero, suc, ◌+◌, ◌-◌, ◌<◌, ◌≤◌, true, not, length, Some, None}
-use Rattle.std.proofs.Common.{refl, sym, ◌∙◌, ap, subst, inl, inr, arith}
-use Rattle.std.proofs.lemmas.Bool.{cases_Bool, cases_lt}
-use Rattle.std.proofs.lemmas.Option.{none-some, same_Some}
-use Rattle.def_mesh.specs.{Faces.Faces, Faces.face_at, Manifold.IsManifold, HalfEdges.HalfEdges, HalfEdges.AreTurned}
-use Rattle.def_mesh.specs.{HalfEdges.IsQuadManifold, HalfEdges.half_edges, HalfEdges.Turns as MeshTurns}
-use Rattle.def_layout.specs.{declared.tmesh.SideArc.SideArc, Gluings.Way, Gluings.south, Gluings.east, Gluings.north}
-use Rattle.def_layout.specs.Gluings.{west, side_after, side_before, Gluing, Slot}
-use Rattle.def_layout.specs.Gluings.{IsSlot, use_of, slot_before}
-use Rattle.def_layout.specs.{Gluings.start_node, Surfaces.HasWholeSides, Surfaces.IsSurface, Surfaces.IsOtherSlot}
-use Rattle.def_layout.specs.{Fans.IsTurn, Fans.SlotTurns, Fans.HasFans, Lengths.Lengths, Lengths.reach, Lengths.size}
-use Rattle.def_layout.specs.{Lengths.AreLengths, Cells.CellDart, Cells.IsDart, Cells.dart, Cells.next, Cells.prev}
-use Rattle.def_layout.specs.{Cells.slot_dart, Embeddings.IsEmbedding}
-use Rattle.def_written.specs.{NewFaces.dart_start}
+use Rattle.std.proofs.Common.{◌≡◌, ◌⊎◌, ℕ, zero, suc, ◌+◌, ◌-◌, ◌<◌, length, Some, None, refl, sym, ◌∙◌, ap, subst, inl}
+use Rattle.std.proofs.{Common.inr, Common.arith, lemmas.Bool.cases_lt, lemmas.Option.none-some}
+use Rattle.def_mesh.specs.HalfEdges.{HalfEdges, AreTurned, IsQuadManifold, half_edges, Turns as MeshTurns}
+use Rattle.def_mesh.specs.{Faces.Faces, Faces.face_at, Manifold.IsManifold}
+use Rattle.def_layout.specs.Gluings.{Way, south, east, north, west, side_after, side_before, Gluing, Slot, IsSlot}
+use Rattle.def_layout.specs.Gluings.{use_of, slot_before, start_node}
+use Rattle.def_layout.specs.Lengths.{Lengths, reach, size, AreLengths}
+use Rattle.def_layout.specs.Cells.{CellDart, IsDart, dart, next, prev, slot_dart}
+use Rattle.def_layout.specs.{declared.tmesh.SideArc.SideArc, Surfaces.HasWholeSides, Surfaces.IsSurface}
+use Rattle.def_layout.specs.{Surfaces.IsOtherSlot, Fans.IsTurn, Fans.SlotTurns, Fans.HasFans, Embeddings.IsEmbedding}
+use Rattle.def_written.specs.NewFaces.{dart_start}
 use Rattle.mesh_laws.proofs.HalfEdges.{manifold_law}
-use Rattle.written_laws.proofs.{Sides.slot, Sides.use_some, Sides.use_begins, Rims.column_of, Rims.row_of}
-use Rattle.written_laws.proofs.Rims.{side_column, side_row, rim_patch, rim_ends}
-use Rattle.written_laws.proofs.{Rims.corner_is, Borders.at_low, Borders.at_is}
-use Rattle.written_laws.proofs.{Borders.IsAt, Fans.point_related, NewDarts.next_is, NewDarts.prev_is, Courses.course}
-use Rattle.written_laws.proofs.Courses.{alike_or_turned, course_once, IsAcross, IsWithin, IsOnBorder}
-use Rattle.written_laws.proofs.{Courses.sees, Manifold.before_after, Across.across_border, Across.across_within}
-use Rattle.written_laws.proofs.Across.{across_or_alone, across_ends, alone_not_across, IsAlone}
-use Rattle.written_laws.proofs.{Spots.place_at, Spots.at_place, Spots.at_once, Spots.rim_is_at}
-use Rattle.written_laws.proofs.{NodeKinds.node_sort, Models.IsModel, Sided.from_turning, Sided.starts}
-use Rattle.written_laws.proofs.Sided.{laid_in}
+use Rattle.written_laws.proofs.Courses.{course, alike_or_turned, course_once, IsAcross, IsWithin, IsOnBorder, sees}
+use Rattle.written_laws.proofs.Across.{across_border, across_within, across_or_alone, across_ends}
+use Rattle.written_laws.proofs.{Across.alone_not_across, Across.IsAlone, Sides.slot, Sides.use_some, Sides.use_begins}
+use Rattle.written_laws.proofs.{Rims.column_of, Rims.row_of, Rims.rim_ends, Rims.corner_is, Borders.at_low}
+use Rattle.written_laws.proofs.{Borders.at_is, Borders.IsAt, Fans.point_related, NewDarts.next_is, NewDarts.prev_is}
+use Rattle.written_laws.proofs.{Manifold.before_after, Spots.place_at, Spots.at_place, Spots.at_once, Spots.rim_is_at}
+use Rattle.written_laws.proofs.{NodeKinds.node_sort, Models.IsModel, Sided.from_turning, Sided.starts, Sided.laid_in}
 
 -- Going back and on leads to the same dart.
 next_prev : (d : CellDart) → next (prev d) ≡ d
@@ -58,16 +52,14 @@ module _ {l : Gluing} {x : Lengths} (laid : IsSurface l) (len : AreLengths l x) 
       elim (cases_lt (o + 1) (x (use_of l b).arc)) [
         | inl more ↦
             let one : place_at l x b o + 1 ≡ place_at l x b (o + 1) = omega arith in
-            let here = at_place laid len d _ is_b more patch
-            (cc) (cc) in
+            let here = at_place laid len d _ is_b more patch (cc) (cc) in
             absurd (omega (arith, (at_once laid len at here).1))
         | inr none ↦ elim (cases_lt (suc b.at) (l.many b.patch b.side)) [
           | inl another ↦
               let v = slot b.patch b.side (suc b.at) in
               let is_v : IsSlot l (slot b.patch b.side (suc b.at)) =
               record { patch_low = is_b.patch_low; low = another } in
-              let place : place_at l x b o + 1 ≡ place_at l x (slot b.patch b.side (suc b.at)) 0 =
-              omega arith in
+              let place : place_at l x b o + 1 ≡ place_at l x (slot b.patch b.side (suc b.at)) 0 = omega arith in
               let there = at_place laid len d 0 is_v (use_some l x laid.paved len v is_v) patch
               (cc) (cc) in (
                 ap (λ (w : Slot). slot_before l w.patch w.side w.at) (at_once laid len at there).0,
@@ -102,8 +94,7 @@ module _ {l : Gluing} {x : Lengths} (laid : IsSurface l) (len : AreLengths l x) 
       within : IsWithin l x (prev d) → u ≡ w
       within i =
           let g = across_grid _ e i a in
-          let here = at_place laid len e 0 at_u.is_slot at_u.low (cc)
-          (cc (next_prev d)) (cc (next_prev d)) in
+          let here = at_place laid len e 0 at_u.is_slot at_u.low (cc) (cc (next_prev d)) (cc (next_prev d)) in
           (at_once laid len here at_w).0
 
       over : (b v : Slot) (o : ℕ) → IsOnBorder l x (prev d) b o → IsOtherSlot l b v → IsTurn l u w
@@ -140,9 +131,8 @@ module _ (faces : Faces) (manifold : IsManifold faces) (l : Gluing) (x : Lengths
 
   alike : (d e : CellDart) → IsDart l x d → IsDart l x e → dart_start l x d ≡ dart_start l x e
       → m.from (cell d) ≡ m.from (cell e)
-  alike = point_related old_laid len (from_turning m laws l x paved len cell _ _ s)
-      (λ v w is_v is_w same. starts m laws l x paved len cell _ _ s v is_v ∙ ap vertex same
-      ∙ sym (starts m laws l x paved len cell _ _ s w is_w))
+  alike = point_related old_laid len (from_turning m laws l x paved len cell _ _ s) (λ v w is_v is_w same. starts m laws
+      l x paved len cell _ _ s v is_v ∙ ap vertex same ∙ sym (starts m laws l x paved len cell _ _ s w is_w))
 
   across_twin : (d e : CellDart) → IsDart l x d → IsAcross l x old_laid len d e → m.twin (cell d) ≡ Some (cell e)
   across_twin d e is a = laws.twin_found _ _ (s.low d is) (s.low e a.is_dart)
@@ -188,8 +178,7 @@ module _ (faces : Faces) (manifold : IsManifold faces) (l : Gluing) (x : Lengths
 
   turn_across : {d e : CellDart} → IsDart l x d → IsDart l x e → m.twin (m.prev (cell d)) ≡ Some (cell e)
       → IsAcross l x old_laid len (prev d) e
-  turn_across {d} {e} is_d is_e twin =
-      twin_is_across _ e (prev_is l x d is_d) is_e (cc (prev_cell d))
+  turn_across {d} {e} is_d is_e twin = twin_is_across _ e (prev_is l x d is_d) is_e (cc (prev_cell d))
 
   turn_point : (d e : CellDart) → IsDart l x d → IsDart l x e → m.twin (m.prev (cell d)) ≡ Some (cell e)
       → dart_start l x e ≡ dart_start l x d
@@ -277,8 +266,7 @@ module _ (faces : Faces) (manifold : IsManifold faces) (l : Gluing) (x : Lengths
       (s.low _ (at_is l x paved len w 0 is_w w_some))
       (cc (
         starts m laws l x paved len cell vertex arc_dart s v is_v,
-        starts m laws l x paved len cell vertex arc_dart s
-            w is_w,
+        starts m laws l x paved len cell vertex arc_dart s w is_w,
       )) in
       layout_turns t.0 is_v (at_is l x paved len w 0 is_w w_some)
       (rim_is_at _ len w 0 is_w w_some) t.1

@@ -1,19 +1,17 @@
 -- Each vertex of the new mesh has one fan.
 use Rattle.std.proofs.Common.{◌≡◌, ◌⊎◌, ℕ, zero, suc, ◌+◌, ◌-◌, ◌<◌, refl, sym, ◌∙◌, ap, subst, inl, inr, arith}
 use Rattle.def_mesh.specs.{Darts.prev_of, Darts.from_of, Manifold.AreNeighbours, Manifold.Chain, Manifold.HasOneFan}
-use Rattle.def_layout.specs.Gluings.{Way, south, east, north, west, side_after}
-use Rattle.def_layout.specs.Gluings.{side_before, Gluing, Slot, IsSlot, use_of}
-use Rattle.def_layout.specs.{Surfaces.IsSurface, Surfaces.IsOtherSlot, Fans.HasFans, Lengths.Lengths}
+use Rattle.def_layout.specs.Gluings.{Way, south, east, north, west, side_after, side_before, Gluing, Slot, IsSlot}
+use Rattle.def_layout.specs.{Gluings.use_of, Surfaces.IsSurface, Surfaces.IsOtherSlot, Fans.HasFans, Lengths.Lengths}
 use Rattle.def_layout.specs.{Lengths.AreLengths, Cells.CellDart, Cells.IsDart, Cells.dart, Cells.next, Cells.prev}
 use Rattle.def_layout.specs.Cells.{slot_dart}
-use Rattle.def_written.specs.{Points.point, Numbers.vertex_number, NewFaces.column, NewFaces.row, NewFaces.dart_start}
-use Rattle.def_written.specs.NewFaces.{dart_end, new_faces}
+use Rattle.def_written.specs.NewFaces.{column, row, dart_start, dart_end, new_faces}
+use Rattle.def_written.specs.{Points.point, Numbers.vertex_number}
 use Rattle.mesh_laws.proofs.Chains.{meet_from, chain_join, chain_back}
-use Rattle.written_laws.proofs.{Numbers.number_same, Turning.IsTurning, Borders.at_is, Borders.from_is}
-use Rattle.written_laws.proofs.{Borders.across_from, Borders.across_to, Borders.other_long, Fans.at_nodes}
-use Rattle.written_laws.proofs.{Fans.point_related, NewDarts.dart_number, NewDarts.dart_low, NewDarts.number_from}
-use Rattle.written_laws.proofs.NewDarts.{number_to, prev_number, prev_is, next_is}
+use Rattle.written_laws.proofs.Borders.{at_is, from_is, across_from, across_to}
+use Rattle.written_laws.proofs.NewDarts.{dart_number, dart_low, number_from, number_to, prev_number, prev_is, next_is}
 use Rattle.written_laws.proofs.NewDarts.{at_number}
+use Rattle.written_laws.proofs.{Numbers.number_same, Turning.IsTurning, Fans.at_nodes, Fans.point_related}
 
 module _ (l : Gluing) (x : Lengths) where
   -- A chain of new darts leads from d to e.
@@ -78,7 +76,7 @@ module _ (l : Gluing) (x : Lengths) where
             → AreJoined (next (slot_dart l x w o)) (slot_dart l x v (x (use_of l w).arc - 1 - o))
         over w v o is other less = join (next_is l x (slot_dart l x w o) (at_is l x laid.paved len w o is less))
             (at_is l x laid.paved len v _ other.0
-            (omega (arith, other_long l x laid len w v other))) (sym (across_from l x laid len w v o is other less))
+            (omega (arith, ap x other.1.arc))) (sym (across_from l x laid len w v o is other less))
             (inr (cc (across_to l x laid len w v o is other less, prev_next _)))
 
     pub one_fan : HasFans l → (v : ℕ) → HasOneFan (new_faces l x) v
@@ -88,8 +86,7 @@ module _ (l : Gluing) (x : Lengths) where
         let same = sym (number_from l x a.0 a.1) ∙ ap (from_of (new_faces l x)) a.2 ∙ d_from ∙ sym e_from
         ∙ ap (from_of (new_faces l x)) (sym b.2) ∙ number_from l x b.0 b.1 in
         let joined = point_related laid len joins (at_nodes laid len joins fans) a.0 b.0 a.1 b.1
-        (number_same l x _ _ (from_is l x laid len a.0 a.1)
-        (from_is l x laid len b.0 b.1) same) in (
+        (number_same l x _ _ (from_is l x laid len a.0 a.1) (from_is l x laid len b.0 b.1) same) in (
           joined.0,
           subst (λ (k : ℕ). Chain (new_faces l x) k e joined.0) a.2
               (subst (λ (k : ℕ). Chain (new_faces l x) (dart_number l x a.0) k joined.0) b.2 joined.1),

@@ -1,21 +1,17 @@
 -- Lengths that are open double no edge.
-use Rattle.std.proofs.Common.{◌≡◌, ◌≢◌, ◌⊎◌, ℕ, ◌+◌, ◌-◌, ◌<◌, ◌≤◌, Bool, true, false, not, cond, refl, sym, ◌∙◌, ap}
-use Rattle.std.proofs.Common.{subst, inl, inr, arith}
-use Rattle.std.proofs.lemmas.Bool.{cases_eq}
-use Rattle.def_layout.specs.Gluings.{Way, south, east, north, west, side_after, Gluing, Slot, IsSlot}
-use Rattle.def_layout.specs.Gluings.{use_of}
+use Rattle.std.proofs.Common.{◌≡◌, ◌≢◌, ◌⊎◌, ℕ, ◌+◌, ◌-◌, ◌<◌, ◌≤◌, Bool, true, false, refl, sym, ◌∙◌, ap, inl, inr}
+use Rattle.std.proofs.{Common.arith, lemmas.Bool.cases_eq}
+use Rattle.def_layout.specs.Gluings.{Way, south, east, north, west, side_after, Gluing, Slot, use_of}
 use Rattle.def_layout.specs.Surfaces.{IsSurface}
 use Rattle.def_layout.specs.Lengths.{Lengths, reach, size, wide, high, AreLengths}
-use Rattle.def_written.specs.Points.{Point, along, inside, arc_point, side_point, point}
+use Rattle.def_written.specs.Points.{inside, arc_point, side_point, point}
 use Rattle.def_written.specs.Edges.{Edge, on_arc, flat, steep, IsEdge, edge_start, edge_end}
-use Rattle.written_laws.proofs.Sides.{slot, arc_last, arc_inner, use_inner, side_in}
-use Rattle.written_laws.proofs.{Sides.reach_low, Sides.first_slot, Sides.last_slot, Sides.last_reach, Grid.point_north}
-use Rattle.written_laws.proofs.{Grid.point_west, Grid.point_east, Courses.is_arc, Courses.alike_or_turned}
-use Rattle.written_laws.proofs.Simple.{IsSimple}
-use Rattle.written_laws.proofs.{Manifold.before_after, Spokes.IsOpen, Spokes.spoke, Spokes.tip_column, Spokes.tip_row}
-use Rattle.written_laws.proofs.Spokes.{one_way, tip, Joins, joins_swap, arc_sort}
-use Rattle.written_laws.proofs.Spokes.{point_sort, Inner, hub, tip_low, spoke_joins}
-use Rattle.written_laws.proofs.Spokes.{hub_edge, loop_at}
+use Rattle.written_laws.proofs.Sides.{slot, arc_last, arc_inner, use_inner, side_in, reach_low, first_slot, last_slot}
+use Rattle.written_laws.proofs.Sides.{last_reach}
+use Rattle.written_laws.proofs.Grid.{point_north, point_west, point_east}
+use Rattle.written_laws.proofs.Spokes.{IsOpen, spoke, tip_column, tip_row, one_way, tip, Joins, joins_swap, arc_sort}
+use Rattle.written_laws.proofs.Spokes.{point_sort, Inner, hub, tip_low, spoke_joins, hub_edge, loop_at}
+use Rattle.written_laws.proofs.{Courses.is_arc, Courses.alike_or_turned, Simple.IsSimple, Manifold.before_after}
 
 module _ {l : Gluing} {x : Lengths} (laid : IsSurface l) (len : AreLengths l x) (open_l : IsOpen l x) where
   side_two : (p : ℕ) (s : Way) → p < l.patches → 2 ≤ size l x p s
@@ -59,8 +55,7 @@ module _ {l : Gluing} {x : Lengths} (laid : IsSurface l) (len : AreLengths l x) 
   Far p i j south = j ≡ 1
 
   inner : {p i j : ℕ} → p < l.patches → 0 < i → i < wide l x p → 0 < j → j < high l x p → Inner l x laid len p i j
-  inner low a_some a_low b_some b_low =
-      (low, record { a_some = a_some; a_low = a_low; b_some = b_some; b_low = b_low })
+  inner low a_some a_low b_some b_low = (low, record { a_some = a_some; a_low = a_low; b_some = b_some; b_low = b_low })
 
   tip_case : (p i j : ℕ) (w : Way) → Inner l x laid len p i j → Inner l x laid len p (tip_column i w) (tip_row j w)
       ⊎ Far p i j w
@@ -84,9 +79,8 @@ module _ {l : Gluing} {x : Lengths} (laid : IsSurface l) (len : AreLengths l x) 
   near_tips : (p i j : ℕ) (w v : Way) → Inner l x laid len p i j → Inner l x laid len p (tip_column i w) (tip_row j w)
       → tip l x p i j w ≡ tip l x p i j v → w ≡ v
   near_tips p i j w v n near same =
-      let e = point_sort l x laid len p _ _ p _ _ n.0
-      (tip_low l x laid len p i j v n).0 (tip_low l x laid len p i j v n).1
-      (cc (hub l x laid len p (tip_column i w) (tip_row j w) near)) in
+      let e = point_sort l x laid len p _ _ p _ _ n.0 (tip_low l x laid len p i j v n).0
+      (tip_low l x laid len p i j v n).1 (cc (hub l x laid len p (tip_column i w) (tip_row j w) near)) in
       one_way i j w v n.1.a_some n.1.b_some (sym e.1) (sym e.2)
 
   far_after : (p i j : ℕ) (w : Way) → Inner l x laid len p i j → Far p i j w → Far p i j (side_after w)

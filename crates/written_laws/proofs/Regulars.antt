@@ -1,22 +1,20 @@
 -- The points inside patches and along arcs are regular.
-use Rattle.std.proofs.Common.{◌≡◌, ◌≢◌, ℕ, zero, suc, ◌+◌, ◌-◌, ◌<◌, ◌≤◌, Bool, true, false, not, cond, refl, sym}
-use Rattle.std.proofs.Common.{◌∙◌, ap, subst, inl, inr, arith}
+use Rattle.std.proofs.Common.{◌≡◌, ◌≢◌, ℕ, zero, suc, ◌+◌, ◌-◌, ◌<◌, ◌≤◌, Bool, true, false, not, cond, refl, sym, ◌∙◌}
+use Rattle.std.proofs.Common.{ap, inl, inr, arith}
 use Rattle.std.proofs.lemmas.Bool.{cases_Bool, cases_eq, eq-eqb, false_from_ne_true}
 use Rattle.def_mesh.specs.{Faces.Faces, Vertices.faces_at, Kinds.is_inner, Kinds.is_regular}
-use Rattle.def_layout.specs.{declared.tmesh.SideArc.SideArc, Gluings.Way, Gluings.south, Gluings.east, Gluings.north}
-use Rattle.def_layout.specs.Gluings.{west, Gluing, Slot, IsSlot, use_of}
-use Rattle.def_layout.specs.{Gluings.start_node, Gluings.end_node, Surfaces.IsSurface, Surfaces.IsOtherSlot}
-use Rattle.def_layout.specs.{Lengths.Lengths, Lengths.AreLengths, Cells.CellDart, Cells.IsDart, Cells.dart}
+use Rattle.def_layout.specs.Gluings.{Way, south, east, north, west, Gluing, Slot, IsSlot, use_of, start_node, end_node}
+use Rattle.def_layout.specs.{declared.tmesh.SideArc.SideArc, Surfaces.IsSurface, Surfaces.IsOtherSlot, Lengths.Lengths}
+use Rattle.def_layout.specs.{Lengths.AreLengths, Cells.CellDart, Cells.IsDart, Cells.dart}
 use Rattle.def_written.specs.Points.{node, along, inside, IsPoint, use_point, point}
 use Rattle.def_written.specs.NewFaces.{column, row, dart_start}
-use Rattle.written_laws.proofs.{Sides.use_begins, Sides.use_ends, Sides.use_inner, Sides.arc_inner, Grid.point_inside}
-use Rattle.written_laws.proofs.{Rims.column_of, Rims.row_of, Rims.corner_low, Borders.IsAt}
-use Rattle.written_laws.proofs.Borders.{sort_dart, inner_from, use_back, use_not_inside}
+use Rattle.written_laws.proofs.Sides.{use_begins, use_ends, use_inner, arc_inner}
+use Rattle.written_laws.proofs.Borders.{IsAt, sort_dart, inner_from, use_back, use_not_inside}
 use Rattle.written_laws.proofs.NewDarts.{turn, way_of, way_turn, turn_way, turn_low}
-use Rattle.written_laws.proofs.{Courses.alike_or_turned, Courses.not_self, Spokes.point_sort, Spots.spot_dart}
-use Rattle.written_laws.proofs.{Spots.at_once, Spots.spot_is}
-use Rattle.written_laws.proofs.{Spots.spot_at, Spots.sort_spot, Spots.spot_once, Models.IsModel, Inners.AreShared}
-use Rattle.written_laws.proofs.Inners.{IsVertex, inner_if, inner_only, fan_is}
+use Rattle.written_laws.proofs.Spots.{spot_dart, at_once, spot_is, spot_at, sort_spot, spot_once}
+use Rattle.written_laws.proofs.Inners.{AreShared, IsVertex, inner_if, inner_only, fan_is}
+use Rattle.written_laws.proofs.{Grid.point_inside, Rims.column_of, Rims.row_of, Rims.corner_low}
+use Rattle.written_laws.proofs.{Courses.alike_or_turned, Courses.not_self, Spokes.point_sort, Models.IsModel}
 
 -- The four darts at an inner grid point.
 abbrev hub_dart : (p i j : ℕ) (w : Way) → CellDart
@@ -130,8 +128,7 @@ module _ {l : Gluing} {x : Lengths} (laid : IsSurface l) (len : AreLengths l x) 
             (record { patch_low = is.0; i_low = is.2; j_low = omega (arith, is.4) }, ap (point l x p i) r ∙ hub)
 
         four : faces_at F v ≡ 4
-        four = fan_is model is_v 4 (λ k. hub_dart p i j (way_of k)) (λ k low. at_hub (way_of k))
-            (λ d is_d leaves.
+        four = fan_is model is_v 4 (λ k. hub_dart p i j (way_of k)) (λ k low. at_hub (way_of k)) (λ d is_d leaves.
             let (patch, columns, rows) = point_sort l x laid len d.patch (column_of d) (row_of d) p i j is_d.patch_low
             (corner_low laid.paved len d is_d).0 (corner_low laid.paved len d is_d).1 leaves in (
               turn d.way,
@@ -250,8 +247,7 @@ module _ {l : Gluing} {x : Lengths} (laid : IsSurface l) (len : AreLengths l x) 
 
           shared : AreShared l x (along a k)
           shared w o is_w less (inl e) = by_arc w is_w (arc_of (use_of l w) o a k (omega arith) (omega arith) e).0
-          shared w o is_w less (inr e) =
-              by_arc w is_w (arc_of (use_of l w) (o + 1) a k (omega arith) (omega arith) e).0
+          shared w o is_w less (inr e) = by_arc w is_w (arc_of (use_of l w) (o + 1) a k (omega arith) (omega arith) e).0
 
           other_leaves : use_point l x (use_of l u) (x a - k) ≡ along a k
           other_leaves =
@@ -261,8 +257,7 @@ module _ {l : Gluing} {x : Lengths} (laid : IsSurface l) (len : AreLengths l x) 
               ∙ ap (use_point l x (use_of l first.0)) e ∙ first_leaves
 
           other_at : (b : Bool) → IsAt l x laid len (spot_dart l x u (x a - k) b) u (x a - k)
-          other_at b = spot_at laid len (x a - k) b other.0 (omega (arith, long, is.1, is.2))
-              (λ e. omega (arith, is.2))
+          other_at b = spot_at laid len (x a - k) b other.0 (omega (arith, long, is.1, is.2)) (λ e. omega (arith, is.2))
 
           both : (f b : Bool) → CellDart
           both true b = spot_dart l x first.0 k b
@@ -291,8 +286,7 @@ module _ {l : Gluing} {x : Lengths} (laid : IsSurface l) (len : AreLengths l x) 
 
           four : faces_at F v ≡ 4
           four = fan_is model is_v 4 (λ c. both (forward_of c) (behind_of c))
-              (λ c low. both_is (forward_of c) (behind_of c))
-              (λ d is_d leaves.
+              (λ c low. both_is (forward_of c) (behind_of c)) (λ d is_d leaves.
               let (w, o, b, s) = along_sort is_d leaves in
               let f = (use_of l w).forward in
               let parts = code_parts f b in

@@ -56,8 +56,7 @@ module _ {l : Gluing} {x : Lengths} (paved : HasWholeSides l) (len : AreLengths 
       × (row_of (dart_along l x p s t) ≡ side_row l x p s t)
   rim_starts p south t low less = (refl, refl, refl)
   rim_starts p east t low less = (refl, omega (arith, wide_some l x paved len p low), refl)
-  rim_starts p north t low less =
-      (refl, omega (arith, len.across p low), omega (arith, high_some l x paved len p low))
+  rim_starts p north t low less = (refl, omega (arith, len.across p low), omega (arith, high_some l x paved len p low))
   rim_starts p west t low less = (refl, refl, omega arith)
 
   pub rim_ends : (p : ℕ) (s : Way) (t : ℕ) → p < l.patches → t < size l x p s
@@ -66,8 +65,7 @@ module _ {l : Gluing} {x : Lengths} (paved : HasWholeSides l) (len : AreLengths 
       × (row_of (next (dart_along l x p s t)) ≡ side_row l x p s (t + 1))
   rim_ends p south t low less = (refl, refl, refl)
   rim_ends p east t low less = (refl, omega (arith, wide_some l x paved len p low), refl)
-  rim_ends p north t low less =
-      (refl, omega (arith, len.across p low), omega (arith, high_some l x paved len p low))
+  rim_ends p north t low less = (refl, omega (arith, len.across p low), omega (arith, high_some l x paved len p low))
   rim_ends p west t low less = (refl, refl, omega arith)
 
   -- A side ends where the next one begins.

@@ -1,34 +1,28 @@
 -- The new mesh has the shape of the old one, and the old one doubles no edge.
-use Rattle.std.proofs.Common.{◌≡◌, ◌≢◌, ℕ, ◌<◌, ◌≤◌, Bool, true, false, cond, not, ◌&&◌, refl, sym, ◌∙◌, ap}
-use Rattle.std.proofs.Common.{subst, arith}
-use Rattle.std.proofs.lemmas.Bool.{false≢true}
+use Rattle.std.proofs.Common.{◌≡◌, ℕ, ◌<◌, ◌≤◌, Bool, true, false, cond, not, ◌&&◌, refl, sym, ◌∙◌, ap, arith}
 use Rattle.std.specs.Prelude.{◌==◌}
-use Rattle.def_mesh.specs.{Faces.Faces, Darts.from_of, Darts.to_of, Manifold.IsManifold}
-use Rattle.def_mesh.specs.{Vertices.faces_at, Vertices.vertex_count, Kinds.is_inner, Kinds.is_regular, Kinds.kind_of}
-use Rattle.def_mesh.specs.{HalfEdges.half_edges, declared.Kind.Kind}
-use Rattle.def_mesh.specs.declared.Kind.TheVariants.{Regular, Singular}
-use Rattle.def_mesh.specs.declared.Kind.TheVariants.{Corner, Reflex}
-use Rattle.def_layout.specs.Gluings.{Gluing, use_of}
-use Rattle.def_layout.specs.{Surfaces.HasWholeSides, Surfaces.IsSurface, Fans.HasFans, Lengths.Lengths}
-use Rattle.def_layout.specs.{Lengths.AreLengths, Cells.CellDart, Cells.IsDart, Cells.next}
-use Rattle.def_layout.specs.Embeddings.{IsEmbedding}
+use Rattle.def_mesh.specs.declared.Kind.TheVariants.{Regular, Singular, Corner, Reflex}
+use Rattle.def_mesh.specs.{Faces.Faces, Darts.from_of, Manifold.IsManifold, Vertices.faces_at, Vertices.vertex_count}
+use Rattle.def_mesh.specs.{Kinds.is_inner, Kinds.is_regular, Kinds.kind_of, HalfEdges.half_edges, declared.Kind.Kind}
+use Rattle.def_layout.specs.Cells.{CellDart, IsDart, next}
+use Rattle.def_layout.specs.{Gluings.Gluing, Gluings.use_of, Surfaces.HasWholeSides, Surfaces.IsSurface, Fans.HasFans}
+use Rattle.def_layout.specs.{Lengths.Lengths, Lengths.AreLengths, Embeddings.IsEmbedding}
 use Rattle.def_written.specs.Points.{Point, node, along, inside, IsPoint}
 use Rattle.def_written.specs.{Numbers.vertex_number, Numbers.vertices, NewFaces.dart_start, NewFaces.dart_end}
 use Rattle.def_written.specs.{NewFaces.new_faces, Edges.Edge, Edges.IsEdge, Edges.edge_start, Edges.edge_end}
 use Rattle.def_written.specs.{Edges.IsUndoubled, Shape.IsKeptNode, Shape.KeepsShape, Laws.LiesInMesh, Laws.LaidLaw}
 use Rattle.def_written.specs.Laws.{NumbersLaw, NewManifoldLaw, KeepsShapeLaw, ThreeLaw, MultipleLaw}
 use Rattle.mesh_laws.proofs.{HalfEdges.manifold_law, Vertices.count_least}
-use Rattle.written_laws.proofs.{Sides.use_some, Sides.use_begins, Numbers.number_low, Numbers.number_same}
+use Rattle.written_laws.proofs.Courses.{course, start_at, end_at, course_of, course_from, course_to}
 use Rattle.written_laws.proofs.{Borders.at_is, Borders.at_from, Borders.from_is, NewDarts.dart_number, NewDarts.next_is}
-use Rattle.written_laws.proofs.{NewDarts.at_number, NewDarts.number_from, Courses.course, Courses.start_at}
-use Rattle.written_laws.proofs.Courses.{end_at, course_of, course_from, course_to}
-use Rattle.written_laws.proofs.{Simple.IsSimple, Manifold.manifold, EdgeDarts.edge_dart}
-use Rattle.written_laws.proofs.{EdgeNumbers.point_onto, Undoubled.simple_from, Undoubled.undoubled_from, Doubling.scale}
-use Rattle.written_laws.proofs.{Doubling.lengths_scale, Doubling.simple_three, Doubling.simple_multiple, Models.IsModel}
-use Rattle.written_laws.proofs.{Models.used_dart, Models.point_dart, Models.new_model, ModelCounts.euler_is}
-use Rattle.written_laws.proofs.{Inners.IsVertex, Inners.vertex_from, Regulars.inside_regular, Regulars.along_regular}
-use Rattle.written_laws.proofs.{NodeKinds.node_faces, NodeKinds.node_inner, Sided.starts, OldModel.old_laid}
-use Rattle.written_laws.proofs.OldModel.{old_model, old_fans, twin_is_across}
+use Rattle.written_laws.proofs.{NewDarts.at_number, NewDarts.number_from, Doubling.lengths_scale, Doubling.simple_three}
+use Rattle.written_laws.proofs.{Doubling.simple_multiple, Models.IsModel, Models.used_dart, Models.point_dart}
+use Rattle.written_laws.proofs.{Models.new_model, OldModel.old_laid, OldModel.old_model, OldModel.old_fans}
+use Rattle.written_laws.proofs.{OldModel.twin_is_across, Sides.use_some, Sides.use_begins, Numbers.number_low}
+use Rattle.written_laws.proofs.{Numbers.number_same, Simple.IsSimple, Manifold.manifold, EdgeDarts.edge_dart}
+use Rattle.written_laws.proofs.{EdgeNumbers.point_onto, Undoubled.simple_from, Undoubled.undoubled_from}
+use Rattle.written_laws.proofs.{ModelCounts.euler_is, Inners.IsVertex, Inners.vertex_from, Regulars.inside_regular}
+use Rattle.written_laws.proofs.{Regulars.along_regular, NodeKinds.node_faces, NodeKinds.node_inner, Sided.starts}
 
 module _ {faces : Faces} (man : IsManifold faces) {l : Gluing} {x : Lengths} (paved : HasWholeSides l)
     (len : AreLengths l x) {cell : CellDart → ℕ} {vertex : ℕ → ℕ} {arc_dart : ℕ → ℕ → ℕ}
@@ -58,9 +52,8 @@ module _ {faces : Faces} (man : IsManifold faces) {l : Gluing} {x : Lengths} (pa
         )
 
     -- Runners with the same ends, or with exchanged ones, run along one edge.
-    same_way : {e f : Edge} {d c : CellDart} {a b : Bool} → IsRunner e d a → IsRunner f c b
-        → start_at l x (course e a) ≡ start_at l x (course f b) → end_at l x (course e a) ≡ end_at l x (course f b)
-        → e ≡ f
+    same_way : {e f : Edge} {d c : CellDart} {a b : Bool} → IsRunner e d a → IsRunner f c b → start_at l x (course e a)
+        ≡ start_at l x (course f b) → end_at l x (course e a) ≡ end_at l x (course f b) → e ≡ f
     same_way {d} {c} r q starts_same ends_same =
         let starts = model.alike d c r.is_dart q.is_dart (r.start ∙ starts_same ∙ sym q.start) in
         let ends = ap (from_of faces) (sym (model.turned d r.is_dart))
@@ -70,9 +63,8 @@ module _ {faces : Faces} (man : IsManifold faces) {l : Gluing} {x : Lengths} (pa
         (man.edges_once (cell d) (cell c) (model.low d r.is_dart) (model.low c q.is_dart) (starts, ends)) in
         sym r.edge ∙ ap (λ (k : CellDart). (course_of l x k).edge) one ∙ q.edge
 
-    other_way : {e f : Edge} {d c : CellDart} {a b : Bool} → IsRunner e d a → IsRunner f c b
-        → start_at l x (course f b) ≡ end_at l x (course e a) → end_at l x (course f b) ≡ start_at l x (course e a)
-        → e ≡ f
+    other_way : {e f : Edge} {d c : CellDart} {a b : Bool} → IsRunner e d a → IsRunner f c b → start_at l x (course f b)
+        ≡ end_at l x (course e a) → end_at l x (course f b) ≡ start_at l x (course e a) → e ≡ f
     other_way {d} {c} r q there back =
         let to = model.alike c (next d) q.is_dart (next_is l x d r.is_dart) (q.start ∙ there ∙ sym r.end) in
         let from = model.alike (next c) d (next_is l x c q.is_dart) r.is_dart (q.end ∙ back ∙ sym r.start) in
@@ -105,8 +97,7 @@ module _ {faces : Faces} (man : IsManifold faces) {l : Gluing} {x : Lengths} (pa
           ((manifold_law faces man).corners_differ (cell d) (model.low d r.is_dart)).0
           (cc (
             model.alike d (next d) r.is_dart (next_is l x d r.is_dart) (by_runner loop a r),
-            model.turned d
-                r.is_dart,
+            model.turned d r.is_dart,
           ));
     }
       where
@@ -144,8 +135,7 @@ module _ {faces : Faces} {l : Gluing} {x : Lengths} {vertex : ℕ → ℕ} (lies
   the_laid = old_laid faces lies.manifold l x lies.paved lies.lengths _ _ _ lies.sided
 
   the_model : IsModel faces l x the_laid lies.lengths lies.cell
-  the_model = old_model faces lies.manifold l x lies.paved _ _ _ _ lies.sided
-      lies.quads
+  the_model = old_model faces lies.manifold l x lies.paved _ _ _ _ lies.sided lies.quads
 
   the_fans : HasFans l
   the_fans = old_fans faces lies.manifold l x lies.paved lies.lengths _ _ _ lies.sided
@@ -178,8 +168,7 @@ module _ {faces : Faces} {l : Gluing} {x : Lengths} {vertex : ℕ → ℕ} (lies
 
     kept : (n : ℕ) → n < l.nodes → IsKeptNode faces (new_faces l y) vertex n
     kept n low = record {
-      kind = kind_is _ n ∙ (λ t. kind_by (same_inner n low t) (same_faces n low t))
-          ∙ sym (kind_is faces _);
+      kind = kind_is _ n ∙ (λ t. kind_by (same_inner n low t) (same_faces n low t)) ∙ sym (kind_is faces _);
       faces = same_faces n low;
     }
 
@@ -213,8 +202,7 @@ module _ {faces : Faces} {l : Gluing} {x : Lengths} {vertex : ℕ → ℕ} (lies
     keeps = record {
       old_manifold = lies.manifold;
       new_manifold = manifold the_laid lon (simple_from l y undoubled) the_fans;
-      euler = euler_is l y _ lon _ _ new_is
-          ∙ sym (euler_is l x _ _ faces _ the_model);
+      euler = euler_is l y _ lon _ _ new_is ∙ sym (euler_is l x _ _ faces _ the_model);
       irregular = irregular;
       regular = regular;
     }
@@ -238,7 +226,6 @@ pub multiple_law : MultipleLaw
 multiple_law faces l x vertex lies k some =
     let lon = lengths_scale l x k some lies.lengths in (
       lon,
-      undoubled_from l _ (the_laid lies) lon
-          (simple_multiple l x (the_laid lies) lies.lengths
+      undoubled_from l _ (the_laid lies) lon (simple_multiple l x (the_laid lies) lies.lengths
           (old_simple lies.manifold lies.paved _ lies.sided (the_model lies)) k some),
     )

@@ -1,20 +1,16 @@
 -- A gluing that lies in a mesh is laid.
-use Rattle.std.proofs.Common.{◌≡◌, ℕ, zero, suc, ◌+◌, ◌-◌, ◌<◌, Bool, true, false, not, Some, refl, sym, ◌∙◌, ap}
-use Rattle.std.proofs.Common.{arith, inl, inr}
-use Rattle.std.proofs.lemmas.Bool.{cases_Bool}
-use Rattle.std.proofs.lemmas.Option.{same_Some}
+use Rattle.std.proofs.Common.{◌≡◌, ℕ, zero, suc, ◌+◌, ◌-◌, ◌<◌, Bool, true, false, Some, refl, sym, ◌∙◌, ap, arith, inl}
+use Rattle.std.proofs.{Common.inr, lemmas.Bool.cases_Bool}
 use Rattle.def_mesh.specs.HalfEdges.{HalfEdges, IsQuadManifold}
-use Rattle.def_layout.specs.declared.tmesh.SideArc.{SideArc}
 use Rattle.def_layout.specs.Gluings.{Way, south, east, north, west, side_after, side_before, Gluing, Slot, IsSlot}
 use Rattle.def_layout.specs.Gluings.{AreReverse, use_of, use_before, slot_before, start_node, end_node}
-use Rattle.def_layout.specs.Surfaces.{HasWholeSides, IsSurface, IsOtherSlot}
-use Rattle.def_layout.specs.Lengths.{Lengths, reach, size, AreLengths}
 use Rattle.def_layout.specs.Cells.{CellDart, IsDart, dart, next, prev, dart_along, slot_dart}
-use Rattle.def_layout.specs.Embeddings.{IsEmbedding}
+use Rattle.def_layout.specs.{Surfaces.HasWholeSides, Surfaces.IsSurface, Surfaces.IsOtherSlot, Lengths.Lengths}
+use Rattle.def_layout.specs.{Lengths.reach, Lengths.AreLengths, declared.tmesh.SideArc.SideArc, Embeddings.IsEmbedding}
 use Rattle.def_written.specs.NewFaces.{column, row}
 use Rattle.written_laws.proofs.{Sides.slot, Sides.use_some, Sides.last_reach, Turning.IsTurning, Turning.is_dart}
-use Rattle.written_laws.proofs.Rims.{after_before, dart_is, corner_next}
-use Rattle.written_laws.proofs.{Borders.at_is, Borders.before_is, Fans.before_related, Spots.rim_slot}
+use Rattle.written_laws.proofs.{Rims.after_before, Rims.dart_is, Rims.corner_next, Borders.at_is, Borders.before_is}
+use Rattle.written_laws.proofs.{Fans.before_related, Spots.rim_slot}
 
 module _ (m : HalfEdges) (laws : IsQuadManifold m) (l : Gluing) (x : Lengths) (paved : HasWholeSides l)
     (len : AreLengths l x)
@@ -36,8 +32,7 @@ module _ (m : HalfEdges) (laws : IsQuadManifold m) (l : Gluing) (x : Lengths) (p
         ∙ s.behind v _ other.0 k_low back
     | inr e ↦
         let on : (use_of l v).forward ≡ true = cc in
-        let there = s.ahead v _ other.0 k_low on
-        ∙ ap (λ a. arc_dart a (x (use_of l w).arc - 1 - o)) other.1.arc in
+        let there = s.ahead v _ other.0 k_low on ∙ ap (λ a. arc_dart a (x (use_of l w).arc - 1 - o)) other.1.arc in
         cc (laws.twin_twin (arc_dart (use_of l w).arc (x (use_of l w).arc - 1 - o)) (cell (slot_dart l x w o))
         (s.arc_low (use_of l w).arc (x (use_of l w).arc - 1 - o) (paved.arc_low w is) (omega arith))
         (s.behind w o is less e))
@@ -65,15 +60,12 @@ module _ (m : HalfEdges) (laws : IsQuadManifold m) (l : Gluing) (x : Lengths) (p
       → AreFromOne (dart p i j w) (dart p k n (side_after w))
   left_from p i j k n south d e c r = before_twin (dart p i j south) e refl
       (cc (s.east_of p k n d.patch_low (omega (arith, c, d.i_low)) e.j_low, dart_is p west (sym c) (sym r)))
-  left_from p i j k n east d e c r = before_twin (dart p i j east) e refl
-      (s.north_of p k n d.patch_low e.i_low (omega (arith, r, d.j_low))
-      ∙ ap (λ (q : CellDart). Some (cell q)) (dart_is p south (omega (arith, c)) (sym r)))
+  left_from p i j k n east d e c r = before_twin (dart p i j east) e refl (s.north_of p k n d.patch_low e.i_low
+      (omega (arith, r, d.j_low)) ∙ ap (λ (q : CellDart). Some (cell q)) (dart_is p south (omega (arith, c)) (sym r)))
   left_from p i j k n north d e c r = twin_before (dart p i j north) (dart p k n west)
-      (is_dart p i j east d.patch_low d.i_low d.j_low) refl
-      (s.east_of p i j d.patch_low (omega (arith, c, e.i_low)) d.j_low
-      ∙ ap (λ (q : CellDart). Some (cell q)) (dart_is p west c (omega (arith, r))))
-  left_from p i j k n west d e c r = twin_before _ _
-      (is_dart p i j north d.patch_low d.i_low d.j_low) refl
+      (is_dart p i j east d.patch_low d.i_low d.j_low) refl (s.east_of p i j d.patch_low (omega (arith, c, e.i_low))
+      d.j_low ∙ ap (λ (q : CellDart). Some (cell q)) (dart_is p west c (omega (arith, r))))
+  left_from p i j k n west d e c r = twin_before _ _ (is_dart p i j north d.patch_low d.i_low d.j_low) refl
       (cc (s.north_of p i j d.patch_low d.i_low (omega (arith, r, e.j_low)), dart_is p south c r))
 
   pub from_turning : IsTurning l x AreFromOne
@@ -83,8 +75,7 @@ module _ (m : HalfEdges) (laws : IsQuadManifold m) (l : Gluing) (x : Lengths) (p
     back = λ d e is a. sym a;
     left = left_from;
     over = λ w v o is other less. ap m.from (s.turned _)
-        ∙ sym (laws.twin_ends _ _
-        (low_at w o is less) (over_twin w v o is other less)).0;
+        ∙ sym (laws.twin_ends _ _ (low_at w o is less) (over_twin w v o is other less)).0;
   }
 
   -- Arcs in use begin and end at the vertices of their nodes.
@@ -98,8 +89,7 @@ module _ (m : HalfEdges) (laws : IsQuadManifold m) (l : Gluing) (x : Lengths) (p
         cc (
           (laws.twin_ends (arc_dart (use_of l w).arc (x (use_of l w).arc - 1)) (cell (slot_dart l x w 0)) low
               (ap (λ k. m.twin (arc_dart (use_of l w).arc k)) (sym z) ∙ s.behind w 0 is (some is) e)).0,
-          s.last_at
-              (use_of l w).arc (paved.arc_low w is),
+          s.last_at (use_of l w).arc (paved.arc_low w is),
           node (use_of l w) false e,
         )
   ]
@@ -114,8 +104,7 @@ module _ (m : HalfEdges) (laws : IsQuadManifold m) (l : Gluing) (x : Lengths) (p
     | inl e ↦ cc (
       s.ahead w (x (use_of l w).arc - 1) is less e,
       s.last_at (use_of l w).arc (paved.arc_low w is),
-      node
-          (use_of l w) true e,
+      node (use_of l w) true e,
     )
     | inr e ↦
         let z : x (use_of l w).arc - 1 - (x (use_of l w).arc - 1) ≡ 0 = omega arith in

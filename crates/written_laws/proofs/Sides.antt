@@ -1,12 +1,11 @@
 -- The points on a side of a patch.
-use Rattle.std.proofs.Common.{◌≡◌, ℕ, suc, ◌+◌, ◌-◌, ◌<◌, ◌≤◌, Bool, true, false, cond, refl, sym, ◌∙◌, ap, inl, inr}
-use Rattle.std.proofs.Common.{arith}
+use Rattle.std.proofs.Common.{◌≡◌, ℕ, suc, ◌+◌, ◌-◌, ◌<◌, ◌≤◌, Bool, true, false, cond, refl, ◌∙◌, ap, inl, inr, arith}
 use Rattle.std.proofs.lemmas.Bool.{cases_eq, cases_lt, cond-true, cond-false, eq-eqb, ne_eqb}
 use Rattle.std.specs.Prelude.{◌==◌}
-use Rattle.def_layout.specs.{declared.tmesh.SideArc.SideArc, Gluings.Way, Gluings.south, Gluings.east, Gluings.north}
-use Rattle.def_layout.specs.Gluings.{west, side_after, Gluing, Slot, IsSlot}
-use Rattle.def_layout.specs.{Gluings.use_of, Gluings.start_node, Gluings.end_node, Surfaces.HasWholeSides}
-use Rattle.def_layout.specs.{Surfaces.IsSurface, Lengths.Lengths, Lengths.reach, Lengths.size, Lengths.AreLengths}
+use Rattle.def_layout.specs.Gluings.{Way, south, east, north, west, side_after, Gluing, Slot, IsSlot, use_of}
+use Rattle.def_layout.specs.Gluings.{start_node, end_node}
+use Rattle.def_layout.specs.Lengths.{Lengths, reach, size, AreLengths}
+use Rattle.def_layout.specs.{declared.tmesh.SideArc.SideArc, Surfaces.HasWholeSides, Surfaces.IsSurface}
 use Rattle.def_written.specs.Points.{node, along, arc_point, use_point, use_over, offset_at, side_point}
 use Rattle.written_laws.proofs.Runs.{count_rises, run_here, run_last, run_place}
 
@@ -173,10 +172,8 @@ module _ (l : Gluing) (x : Lengths) where
             cc (
               side_in 0 next some,
               use_begins (l.use_at w.patch w.side (suc w.at)) some,
-              laid.meet
-                  (slot w.patch w.side (suc w.at)) next,
-              use_ends (use_of l w) o (omega arith)
-                  (omega (arith, use_some laid.paved len w is)),
+              laid.meet (slot w.patch w.side (suc w.at)) next,
+              use_ends (use_of l w) o (omega arith) (omega (arith, use_some laid.paved len w is)),
             )
 
         at_end : x (use_of l w).arc ≤ o → l.many w.patch w.side ≤ suc w.at
@@ -188,6 +185,5 @@ module _ (l : Gluing) (x : Lengths) where
             let u = ap (long_at w.patch w.side) m in
             cc (
               side_end laid.paved len w.patch w.side t is.patch_low (omega (arith, long, r, u)),
-              use_ends
-                  (use_of l w) o (omega arith) (omega (arith, use_some laid.paved len w is)),
+              use_ends (use_of l w) o (omega arith) (omega (arith, use_some laid.paved len w is)),
             )

@@ -33,8 +33,7 @@ module _ {l : Gluing} {x : Lengths} (simple : IsSimple l x) where
       ≡ start_at l x (course c.edge (not a)) = elim [ true ↦ refl | false ↦ refl ] in
       let turn_end : (a : Bool) → start_at l x (course c.edge a)
       ≡ end_at l x (course c.edge (not a)) = elim [ true ↦ refl | false ↦ refl ] in
-      let s = one_course k _ is_k is_c (starts ∙ turn_start c.ahead)
-      (ends ∙ turn_end c.ahead) in
+      let s = one_course k _ is_k is_c (starts ∙ turn_start c.ahead) (ends ∙ turn_end c.ahead) in
       (ap (λ (g : Course). g.edge) s, ap (λ (g : Course). g.ahead) s)
 
   pub ends_apart : (c : Course) → IsEdge l x c.edge → start_at l x c ≢ end_at l x c

@@ -1,16 +1,15 @@
 -- Equal parts of the old lengths are a spacing, and equal parts of shares of the old edges.
 use Rattle.std.proofs.Common.{◌≡◌, ℕ, zero, suc, ◌+◌, ◌-◌, ◌*◌, ◌/◌, ◌<◌, ◌≤◌, Bool, true, false, refl, ◌⊎◌, ◌∙◌, ap}
 use Rattle.std.proofs.Common.{inl, inr, mul-add, arith}
-use Rattle.std.specs.Prelude.{◌==◌}
 use Rattle.std.proofs.Math.Nat.{div-lt_iff_lt-mul, le-div_iff_mul-le, mod-lt, mul_comm}
 use Rattle.std.proofs.lemmas.Bool.{cases_eq, cond_both, cond-true, cond-false, eq-eqb, eqb-false, eqb-true, ne_eqb}
 use Rattle.std.proofs.lemmas.Nat.{div-mul-add, mul-le}
+use Rattle.std.specs.Prelude.{◌==◌}
 use Rattle.def_math.specs.{Counts.count_below, Runs.run_at}
 use Rattle.def_layout.specs.{Gluings.Gluing, Lengths.Lengths, Lengths.AreLengths}
-use Rattle.def_written.specs.Laws.{EvenSpacingLaw, SharedLaw}
-use Rattle.def_written.specs.Places.{even, ONE, Step}
 use Rattle.def_written.specs.Spacings.{counted, edge_begin, inner_step, shared, shared_parameter, shared_step}
 use Rattle.def_written.specs.Spacings.{step_parameter, IsSpacing, Shares}
+use Rattle.def_written.specs.{Laws.EvenSpacingLaw, Laws.SharedLaw, Places.even, Places.ONE, Places.Step}
 use Rattle.written_laws.proofs.Runs.{count_rises, run_from, run_low, run_to}
 
 -- A quotient is below a number whose product is greater.
@@ -105,11 +104,7 @@ module _ (share : ℕ → ℕ) (m n k : ℕ) (m_some : 0 < m) (all_some : 0 < co
   share_some = omega (arith, rest_less)
 
   pub inner_is : IsInner m (inner_step share m n k)
-  inner_is = record {
-    edge = edge_low;
-    part = div_less _ ONE _ share_some (omega (arith, rest_less));
-    parts = refl;
-  }
+  inner_is = record { edge = edge_low; part = div_less _ ONE _ share_some (omega (arith, rest_less)); parts = refl }
 
   -- It does not lie at the beginning of the arc, where no new edge is shorter than the unit of parameters.
   inner_some : 0 < k → n ≤ ONE → 0 < step_parameter (inner_step share m n k)

@@ -1,7 +1,6 @@
 -- The edges at an inner point of a patch, by the directions in which they leave it.
-use Rattle.std.proofs.Common.{◌≡◌, ◌≢◌, ◌⊎◌, ℕ, ◌+◌, ◌-◌, ◌<◌, ◌≤◌, Bool, true, false, cond, refl, sym, ◌∙◌, ap, subst}
+use Rattle.std.proofs.Common.{◌≡◌, ◌≢◌, ◌⊎◌, ℕ, ◌+◌, ◌-◌, ◌<◌, ◌≤◌, Bool, true, false, cond, refl, sym, ◌∙◌, subst}
 use Rattle.std.proofs.Common.{inl, inr, arith}
-use Rattle.std.specs.Prelude.{◌==◌}
 use Rattle.def_layout.specs.Gluings.{Way, south, east, north, west, Gluing}
 use Rattle.def_layout.specs.{Surfaces.IsSurface, Lengths.Lengths, Lengths.wide, Lengths.high, Lengths.AreLengths}
 use Rattle.def_written.specs.Points.{Point, node, along, inside, arc_point, use_over, offset_at, point}

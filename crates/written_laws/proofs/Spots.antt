@@ -6,11 +6,10 @@ use Rattle.def_layout.specs.Surfaces.{HasWholeSides, IsSurface}
 use Rattle.def_layout.specs.Lengths.{Lengths, reach, size, wide, high, AreLengths}
 use Rattle.def_layout.specs.Cells.{CellDart, IsDart, dart, next, dart_along, slot_dart}
 use Rattle.def_written.specs.{Points.point, NewFaces.column, NewFaces.row}
+use Rattle.written_laws.proofs.Rims.{column_of, row_of, side_column, side_row, dart_is, border_point, rim_is}
+use Rattle.written_laws.proofs.Rims.{rim_starts, rim_ends, rim_way}
 use Rattle.written_laws.proofs.{Runs.place_same, Sides.slot, Sides.long_at, Sides.side_in, Grid.wide_some}
-use Rattle.written_laws.proofs.{Grid.high_some, Rims.column_of, Rims.row_of, Rims.side_column, Rims.side_row}
-use Rattle.written_laws.proofs.Rims.{dart_is, border_point, rim_is, rim_starts, rim_ends}
-use Rattle.written_laws.proofs.{Rims.rim_patch, Rims.rim_way, Borders.at_low, Borders.at_is}
-use Rattle.written_laws.proofs.{Borders.IsAt, NewDarts.next_is}
+use Rattle.written_laws.proofs.{Grid.high_some, Borders.at_low, Borders.at_is, Borders.IsAt, NewDarts.next_is}
 
 no_turn : (s : Way) → s ≢ side_after s
 no_turn south e = cc
@@ -34,8 +33,7 @@ module _ {l : Gluing} {x : Lengths} (paved : HasWholeSides l) (len : AreLengths 
 
   -- So do slots, each with a place along its arc.
   pub slot_once : {w v : Slot} {o k : ℕ} → IsSlot l w → IsSlot l v → o < x (use_of l w).arc → k < x (use_of l v).arc
-      → v.patch ≡ w.patch
-      → side_column l x w.patch w.side (reach l x w.patch w.side w.at + o)
+      → v.patch ≡ w.patch → side_column l x w.patch w.side (reach l x w.patch w.side w.at + o)
       ≡ side_column l x v.patch v.side (reach l x v.patch v.side v.at + k)
       → side_row l x w.patch w.side (reach l x w.patch w.side w.at + o)
       ≡ side_row l x v.patch v.side (reach l x v.patch v.side v.at + k) → (w ≡ v) × (o ≡ k)
@@ -137,8 +135,7 @@ module _ {l : Gluing} {x : Lengths} (laid : IsSurface l) (len : AreLengths l x) 
       elim (border_dart laid.paved len _ _ d.way d.i d.j _
       (at_low l x laid.paved len o a.is_slot a.low) (record {
         patch_low = a.is_slot.patch_low;
-        i_low = rw
-            (ap (wide l x) a.patch) at is.i_low;
+        i_low = rw (ap (wide l x) a.patch) at is.i_low;
         j_low = rw (ap (high l x) a.patch) at is.j_low;
       }) a.column a.row)
       [ inl e ↦ (false, cc, λ s. absurd cc) | inr e ↦ (true, cc, λ s. e.0) ]
@@ -149,8 +146,7 @@ module _ {l : Gluing} {x : Lengths} (laid : IsSurface l) (len : AreLengths l x) 
       (cc (
         e,
         rim_way laid.paved len w.patch w.side (place_at l x w o),
-        rim_way laid.paved len w.patch w.side
-            (place_at l x w o - 1),
+        rim_way laid.paved len w.patch w.side (place_at l x w o - 1),
       )))
   spot_once w o false true e = absurd (no_turn w.side (sym (rim_way laid.paved len w.patch w.side (place_at l x w o))
       ∙ ap (λ (d : CellDart). d.way) e ∙ ap side_after (rim_way laid.paved len w.patch w.side (place_at l x w o - 1))))

@@ -47,34 +47,25 @@ pub passing_le : (p q : ℕ → Bool) (m n : ℕ) → (to : (i : ℕ) → i < m 
     → passing p m ≤ passing q n
 passing_le p q zero n to once = omega arith
 passing_le p q (suc m) n to once = elim (cases_Bool (p m)) [
-  | inl on ↦ at_pass on (λ r go one. passing_le p r m n go one)
+  | inl on ↦
+      let (u, u_low, u_on) = to m last on in
+      let apart : (i : ℕ) (l : i < m) (s : p i ≡ true) → (to i (up i l) s).0 ≢ (to m last on).0 =
+      λ i l s e. let same = once i m (up i l) s last on e in omega arith in
+      let less = passing_le p (but q (to m last on).0) m n (λ i l s. let k = to i (up i l) s in
+      (k.0, k.1, but_same q (apart i l s) ∙ k.2)) (λ i j a b c d e. once i j (up i a) b (up j c) d e) in
+      let one : one_if (p m) ≡ 1 = ap one_if on in
+      omega (arith, less, one, passing_but q n (to m last on).0 u_low u_on)
   | inr off ↦
       let none : one_if (p m) ≡ 0 = ap one_if off in
       let rest = passing_le p q m n (λ i l s. to i (up i l) s) (λ i j a b c d e. once i j (up i a) b (up j c) d e) in
-      omega arith
+      omega (arith, none, rest)
 ]
   where
+    last : m < suc m
+    last = omega arith
+
     up : (i : ℕ) → i < m → i < suc m
     up i l = omega arith
-
-    at_pass : p m ≡ true → ((r : ℕ → Bool) (go : (i : ℕ) → i < m → p i ≡ true → (k : ℕ) × (k < n) × (r k ≡ true))
-        → ((i j : ℕ) (a : i < m) (b : p i ≡ true) (c : j < m) (d : p j ≡ true) → (go i a b).0 ≡ (go j c d).0 → i ≡ j)
-        → passing p m ≤ passing r n) → passing p (suc m) ≤ passing q n
-    at_pass on rest =
-        let up_last : (m : ℕ) → m < suc m = λ m. omega arith in
-        by_image _ (to m (up_last m) on).1 (to m (up_last m) on).2
-        (λ i l s e. let same = once i m (up i l) s (up_last m) on e in omega arith)
-      where
-        by_image : (u : ℕ) → u < n → q u ≡ true → ((i : ℕ) (l : i < m) (s : p i ≡ true) → (to i (up i l) s).0 ≢ u)
-            → passing p (suc m) ≤ passing q n
-        by_image u u_low u_on apart =
-            let less = rest (but q u) (λ i l s. (
-              (to i (up i l) s).0,
-              (to i (up i l) s).1,
-              but_same q (apart i l s) ∙ (to i (up i l) s).2,
-            )) (λ i j a b c d e. once i j (up i a) b (up j c) d e) in
-            let one : one_if (p m) ≡ 1 = ap one_if on in
-            omega (arith, passing_but q n u u_low u_on)
 
 -- All numbers below n.
 pub passing_all : (n : ℕ) → passing (λ k. true) n ≡ n
@@ -88,9 +79,8 @@ pub record AreNumbers {X : Type 0} (P : X → Type 0) (a : X → ℕ) (p : ℕ �
 -- Things with two numbers, of which one tells the other, have no more of the former.
 pub numbers_le : {X : Type 0} {P : X → Type 0} {a b : X → ℕ} {p q : ℕ → Bool} {m n : ℕ} → AreNumbers P a p m
     → AreNumbers P b q n → ((d e : X) → P d → P e → b d ≡ b e → a d ≡ a e) → passing p m ≤ passing q n
-numbers_le {b} {p} {q} {m} {n} r s tells = passing_le p q m n
-    (λ k low on. let d = r.onto k low on in let e = s.each d.0 d.1 in (b d.0, e.0, e.1))
-    (λ k j low on less too same. let d = r.onto k low on in let e = r.onto j less too in
+numbers_le {b} {p} {q} {m} {n} r s tells = passing_le p q m n (λ k low on. let d = r.onto k low on in let e = s.each d.0
+    d.1 in (b d.0, e.0, e.1)) (λ k j low on less too same. let d = r.onto k low on in let e = r.onto j less too in
     cc (tells d.0 e.0 d.1 e.1 same))
 
 -- A filter keeps what passes.

@@ -1,9 +1,8 @@
 -- Relations of darts that hold for turns round a point.
 use Rattle.std.proofs.Common.{◌≡◌, ℕ, ◌-◌, ◌<◌, refl, sym, arith}
 use Rattle.def_layout.specs.Gluings.{Way, south, east, north, west, side_after, Gluing, Slot, IsSlot, use_of}
-use Rattle.def_layout.specs.Surfaces.{IsOtherSlot}
-use Rattle.def_layout.specs.Lengths.{Lengths, wide, high}
 use Rattle.def_layout.specs.Cells.{CellDart, IsDart, dart, next, slot_dart}
+use Rattle.def_layout.specs.{Surfaces.IsOtherSlot, Lengths.Lengths, Lengths.wide, Lengths.high}
 use Rattle.def_written.specs.NewFaces.{column, row}
 
 -- R is an equivalence that holds for darts turned by one cell inside a patch, and over the border of one.

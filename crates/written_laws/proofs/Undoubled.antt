@@ -1,10 +1,9 @@
 -- No edge is doubled exactly where edges are told by their ends.
-use Rattle.std.proofs.Common.{◌≡◌, ◌≢◌, ◌⊎◌, ℕ, refl, sym, ◌∙◌, ap, inl, inr, arith}
+use Rattle.std.proofs.Common.{◌≡◌, ◌≢◌, ◌⊎◌, ℕ, refl, sym, ap, inl, inr, arith}
 use Rattle.std.proofs.lemmas.Bool.{cases_eq, cases_lt}
 use Rattle.def_layout.specs.{Gluings.Gluing, Surfaces.IsSurface, Lengths.Lengths, Lengths.AreLengths}
 use Rattle.def_written.specs.Numbers.{vertex_number}
-use Rattle.def_written.specs.Edges.{Edge, on_arc, flat, steep, IsEdge, edge_start, edge_end, HasEnds}
-use Rattle.def_written.specs.Edges.{IsUndoubled}
+use Rattle.def_written.specs.Edges.{Edge, on_arc, flat, steep, IsEdge, edge_start, edge_end, HasEnds, IsUndoubled}
 use Rattle.written_laws.proofs.{Numbers.number_same, Simple.IsSimple, EdgeDarts.edge_points}
 
 -- Two edges are one or two.
@@ -27,12 +26,7 @@ cases_edge (steep p i j) (steep q k m) = elim (cases_eq p q) [
   ]
   | inr a ↦ inr (λ e. a cc)
 ]
-cases_edge (on_arc a k) (flat q i j) = inr (λ e. cc)
-cases_edge (on_arc a k) (steep q i j) = inr (λ e. cc)
-cases_edge (flat p i j) (on_arc b m) = inr (λ e. cc)
-cases_edge (flat p i j) (steep q k m) = inr (λ e. cc)
-cases_edge (steep p i j) (on_arc b m) = inr (λ e. cc)
-cases_edge (steep p i j) (flat q k m) = inr (λ e. cc)
+cases_edge _ _ = inr (λ e. cc)
 
 module _ (l : Gluing) (x : Lengths) where
   -- Two edges with these ends double a pair.
@@ -73,8 +67,7 @@ module _ (l : Gluing) (x : Lengths) where
         → edge_end l x a ≡ edge_start l x b) × (vertex_number l x (edge_end l x a) ≡ vertex_number l x (edge_end l x b)
         → edge_end l x a ≡ edge_end l x b)
     point_is a b is_a is_b = (
-      number_same l x _ _ (edge_points l x laid len a is_a).0
-          (edge_points l x laid len b is_b).0,
+      number_same l x _ _ (edge_points l x laid len a is_a).0 (edge_points l x laid len b is_b).0,
       number_same l x _ _ (edge_points l x laid len a is_a).0 (edge_points l x laid len b is_b).1,
       number_same l x _ _ (edge_points l x laid len a is_a).1 (edge_points l x laid len b is_b).0,
       number_same l x _ _ (edge_points l x laid len a is_a).1 (edge_points l x laid len b is_b).1,
