@@ -1,11 +1,10 @@
 -- Classes of faces that are joined over edges that are not cut: each is one grid, and has one patch.
-use Rattle.std.proofs.Common.{◌≡◌, ◌⊎◌, ℕ, zero, suc, ◌<◌, ◌≤◌, true, false, Some, sym, ◌∙◌, ap, subst, refl, inl, inr}
+use Rattle.std.proofs.Common.{◌≡◌, ℕ, zero, suc, ◌-◌, ◌<◌, ◌≤◌, true, false, Some, sym, ◌∙◌, ap, subst, refl, inl, inr}
 use Rattle.std.proofs.Common.{true≢false, arith}
-use Rattle.std.proofs.lemmas.Bool.{cases_eq, cases_order}
-use Rattle.std.proofs.lemmas.Option.{same_Some}
+use Rattle.std.proofs.{lemmas.Bool.cases_eq, lemmas.Bool.cases_order, lemmas.Option.same_Some}
 use Rattle.def_mesh.specs.HalfEdges.{HalfEdges, IsQuadManifold}
-use Rattle.def_cut.specs.{Cuts.Cut, Cuts.Links, Cuts.IsCorner, Cuts.IsCut, Grids.Cells, Grids.IsGrid, Grids.IsPatch}
-use Rattle.def_cut.specs.Steps.{spin}
+use Rattle.def_cut.specs.Cuts.{Cut, Links, IsCorner, IsCut}
+use Rattle.def_cut.specs.{Grids.Cells, Grids.IsGrid, Grids.IsPatch, Steps.spin}
 use Rattle.cut_laws.proofs.Darts.{prev_three, prev_twice, prev_same}
 use Rattle.cut_laws.proofs.Folds.{At, one_more, cross_to, west_open, south_open}
 
@@ -54,25 +53,21 @@ module _ (mesh : HalfEdges) (laws : IsQuadManifold mesh) (cut : Cut) where
 
   pub links_low : (d e n : ℕ) → d < mesh.count → Links mesh cut d e n → e < mesh.count
   links_low d e zero l a = subst (λ (x : ℕ). x < mesh.count) a l
-  links_low d e (suc n) l a = by_step a.0 (links_low d a.0 n l a.1) a.2
-    where
-      by_step : (c : ℕ) → c < mesh.count → (e ≡ mesh.next c) ⊎ ((cut c ≡ false) × (mesh.twin c ≡ Some e))
-          → e < mesh.count
-      by_step c lc (inl s) = subst (λ (x : ℕ). x < mesh.count) (sym s) (laws.next_low c lc)
-      by_step c lc (inr o) = laws.twin_low c e lc o.1
+  links_low d e (suc n) l a =
+      let low = links_low d a.0 n l a.1 in
+      elim a.2 [ inl s ↦ rw s (laws.next_low a.0 low) | inr o ↦ laws.twin_low a.0 e low o.1 ]
 
 module _ (mesh : HalfEdges) (laws : IsQuadManifold mesh) (cut : Cut) (full : IsCut mesh cut) where
   pub links_back : (d e n : ℕ) → d < mesh.count → Links mesh cut d e n → AreLinked mesh cut e d
   links_back d e zero l a = (0, sym a)
-  links_back d e (suc n) l a = by_step a.0 (links_low mesh laws cut d a.0 n l a.1) (links_back d a.0 n l a.1) a.2
-    where
-      by_step : (c : ℕ) → c < mesh.count → AreLinked mesh cut c d → (e ≡ mesh.next c)
-          ⊎ ((cut c ≡ false) × (mesh.twin c ≡ Some e)) → AreLinked mesh cut e d
-      by_step c lc back (inl s) =
-          links_join mesh laws cut e c d (subst (λ (x : ℕ). AreLinked mesh cut e x) (ap mesh.prev s ∙ laws.prev_next c)
-          (step_prev mesh laws cut e e (0, refl))) back
-      by_step c lc back (inr o) = links_join mesh laws cut e c d
-          (step_over mesh laws cut e e c (0, refl) (full.alike c e lc o.1 ∙ o.0) (laws.twin_twin c e lc o.1)) back
+  links_back d e (suc n) l a =
+      let c = a.0 in
+      let lc = links_low mesh laws cut d c n l a.1 in
+      let back = links_back d c n l a.1 in
+      links_join mesh laws cut e c d (elim a.2 [
+        | inl s ↦ rw (ap mesh.prev s ∙ laws.prev_next a.0) at (step_prev mesh laws cut e e (0, refl))
+        | inr o ↦ step_over mesh laws cut e e a.0 (0, refl) (full.alike a.0 e lc o.1 ∙ o.0) (laws.twin_twin a.0 e lc o.1)
+      ]) back
 
   pub linked_back : (d e : ℕ) → d < mesh.count → AreLinked mesh cut d e → AreLinked mesh cut e d
   linked_back d e l a = links_back d e a.0 l a.1
@@ -95,7 +90,7 @@ module _ (mesh : HalfEdges) (laws : IsQuadManifold mesh) (cut : Cut) (full : IsC
     closed d e (suc n) l i =
         let at = closed d l.0 n l.1 i in
         elim l.2 [
-          | inl s ↦ rw s (suc at.0, one_more laws w h cell at.1)
+          | inl s ↦ rw s (suc at.0, one_more at.1)
           | inr o ↦ (suc (suc at.0), cross_to mesh laws cut full w h cell grid at.1 o.0 o.1)
         ]
 
@@ -125,9 +120,8 @@ module _ (mesh : HalfEdges) (laws : IsQuadManifold mesh) (cut : Cut) (full : IsC
     pub least_corner : {m : ℕ} → AtMost mesh w h cell m → (k a b : ℕ) {x : ℕ} → a < w → b < h
         → x ≡ spin mesh k (cell a b) → cut x ≡ true → cut (mesh.prev x) ≡ true → m ≤ x
     least_corner {m} least zero zero zero la lb e on before = subst (λ (y : ℕ). m ≤ y) (sym e) least.first
-    least_corner least zero (suc a) b la lb e on before =
-        absurd (true≢false (sym before
-        ∙ (ap (λ y. cut (mesh.prev y)) e ∙ west_open mesh laws cut full w h cell grid a b la lb)))
+    least_corner least zero (suc a) b la lb e on before = absurd (true≢false
+        (sym before ∙ (ap (λ y. cut (mesh.prev y)) e ∙ west_open mesh laws cut full w h cell grid a b la lb)))
     least_corner least zero zero (suc b) la lb e on before =
         absurd (true≢false (sym on ∙ (ap cut e ∙ south_open mesh laws cut full w h cell grid 0 b la lb)))
     least_corner least (suc zero) a zero la lb e on before = elim (cases_eq (suc a) w) [
@@ -224,51 +218,32 @@ module _ (mesh : HalfEdges) (laws : IsQuadManifold mesh) (cut : Cut) (full : IsC
         (omega (arith, same_tall));
   }
     where
-      width : (n m : ℕ) → suc n ≡ w → suc m ≡ v → w ≡ v
-      width n m zn zm = elim (cases_order w v) [
-        | inl s ↦ s
-        | inr o ↦ elim o [
-          | inl l ↦ absurd (not_wider one two e n zn (omega arith))
-          | inr l ↦ absurd (not_wider two one (sym e) m zm (omega arith))
-        ]
-      ]
-
-      height : (n m : ℕ) → suc n ≡ h → suc m ≡ g → h ≡ g
-      height n m zn zm = elim (cases_order h g) [
-        | inl s ↦ s
-        | inr o ↦ elim o [
-          | inl l ↦ absurd (not_taller one two e n zn (omega arith))
-          | inr l ↦ absurd (not_taller two one (sym e) m zm (omega arith))
-        ]
-      ]
-
-      before : (n : ℕ) → 0 < n → (k : ℕ) × (suc k ≡ n)
-      before zero l = absurd (omega arith)
-      before (suc k) l = (k, refl)
-
       same_wide : w ≡ v
-      same_wide = let a : (k : ℕ) × (suc k ≡ w) = before w one.wide in let b : (k : ℕ) × (suc k ≡ v) =
-          before v two.wide in width a.0 b.0 a.1 b.1
+      same_wide = elim (cases_order w v) [
+        | inl s ↦ s
+        | inr (inl l) ↦ absurd (not_wider one two e (w - 1) (omega (arith, one.wide)) (omega (arith, one.wide)))
+        | inr (inr l) ↦ absurd (not_wider two one (sym e) (v - 1) (omega (arith, two.wide)) (omega (arith, two.wide)))
+      ]
 
       same_tall : h ≡ g
-      same_tall = let a : (k : ℕ) × (suc k ≡ h) = before h one.tall in let b : (k : ℕ) × (suc k ≡ g) =
-          before g two.tall in height a.0 b.0 a.1 b.1
+      same_tall = elim (cases_order h g) [
+        | inl s ↦ s
+        | inr (inl l) ↦ absurd (not_taller one two e (h - 1) (omega (arith, one.tall)) (omega (arith, one.tall)))
+        | inr (inr l) ↦ absurd (not_taller two one (sym e) (g - 1) (omega (arith, two.tall)) (omega (arith, two.tall)))
+      ]
 
   -- Patches with a dart in common are one.
   pub one_patch : {w h v g : ℕ} {cell tile : Cells} → IsPatch mesh cut w h cell → IsPatch mesh cut v g tile → (x : ℕ)
       → In mesh w h cell x → In mesh v g tile x → AreOne w h v g cell tile
-  one_patch {w} {h} {v} {g} {cell} {tile} one two x ix iy = one_grid one.grid two.grid (omega (arith, below, above))
+  one_patch {w} {h} {v} {g} {cell} {tile} one two x ix iy =
+      let below = least_in v g tile two.grid (cell 0 0) (least_first two) (there one.grid two.grid ix iy)
+      (first_corner one.grid) in
+      let above = least_in w h cell one.grid (tile 0 0) (least_first one) (there two.grid one.grid iy ix)
+      (first_corner two.grid) in
+      one_grid one.grid two.grid (omega (arith, below, above))
     where
       there : {w h v g : ℕ} {cell tile : Cells} → IsGrid mesh cut w h cell → IsGrid mesh cut v g tile
           → In mesh w h cell x → In mesh v g tile x → In mesh v g tile (cell 0 0)
       there {w} {h} {v} {g} {cell} {tile} a b i j =
           let back = linked_back (cell 0 0) x (a.low 0 0 a.wide a.tall) (linked_in w h cell a x i) in
           closed v g tile b x (cell 0 0) back.0 back.1 j
-
-      below : tile 0 0 ≤ cell 0 0
-      below = least_in v g tile two.grid (cell 0 0) (least_first two)
-          (there one.grid two.grid ix iy) (first_corner one.grid)
-
-      above : cell 0 0 ≤ tile 0 0
-      above = least_in w h cell one.grid (tile 0 0) (least_first one)
-          (there two.grid one.grid iy ix) (first_corner two.grid)

@@ -1,12 +1,9 @@
 -- Each class of faces of a traced cut has a corner: it lies at the start of a trail, or where another trail ends on it.
-use Rattle.std.proofs.Common.{◌≡◌, ◌⊎◌, ℕ, zero, suc, ◌<◌, Bool, true, false, Some, sym, ◌∙◌, ap}
-use Rattle.std.proofs.Common.{refl, inl, inr}
-use Rattle.std.proofs.lemmas.Bool.{cases_Bool}
-use Rattle.std.proofs.lemmas.Option.{same_Some}
+use Rattle.std.proofs.Common.{◌≡◌, ◌⊎◌, ℕ, zero, suc, ◌<◌, Bool, true, false, Some, sym, ◌∙◌, ap, refl, inl, inr}
+use Rattle.std.proofs.{lemmas.Bool.cases_Bool, lemmas.Option.same_Some}
 use Rattle.def_mesh.specs.HalfEdges.{HalfEdges, IsQuadManifold}
-use Rattle.def_cut.specs.Cuts.{Cut, IsCross, Links, IsCorner}
-use Rattle.def_cut.specs.Trails.{IsStraight, Trail, Joins, IsSource, HasSources, IsTraced}
-use Rattle.def_cut.specs.Laws.{CornerLaw}
+use Rattle.def_cut.specs.Trails.{IsStraight, Trail, Joins, HasSources, IsTraced}
+use Rattle.def_cut.specs.{Cuts.Cut, Cuts.IsCross, Cuts.Links, Cuts.IsCorner, Laws.CornerLaw}
 use Rattle.cut_laws.proofs.Darts.{turn_low}
 use Rattle.cut_laws.proofs.Classes.{AreLinked, links_join, step_next, step_over, step_prev, links_low}
 
@@ -80,34 +77,38 @@ module _ {mesh : HalfEdges} (laws : IsQuadManifold mesh) {start cut : ℕ → Bo
   -- A walk through the component stays in the class, or meets a cut edge with two darts.
   along : (d n e : ℕ) → d < mesh.count → Joins mesh d e n → (AreLinked mesh cut d e) ⊎ CornerOf mesh cut d
   along d zero e ld j = inl (0, j)
-  along d (suc n) e ld j = by_step j.0 (along d n j.0 ld j.1) j.2
+  along d (suc n) e ld j = elim (along d n j.0 ld j.1) [
+    | inr found ↦ inr found
+    | inl l ↦ elim j.2 [
+      | inl s ↦ inl (rw s (step_next mesh laws cut d j.0 l))
+      | inr tw ↦ elim (cases_Bool (cut j.0)) [
+        | inl on ↦ inr (from_class d j.0 l (tracked j.0 (links_low mesh laws cut d j.0 l.0 ld l.1) tw on))
+        | inr off ↦ inl (step_over mesh laws cut d j.0 e l off tw)
+      ]
+    ]
+  ]
     where
       tracked : (c : ℕ) → c < mesh.count → mesh.twin c ≡ Some e → cut c ≡ true → CornerOf mesh cut c
       tracked c lc tw on =
           let t = traced.tracked c e lc tw on in
           elim t.1 [ inl trail ↦ beside t.0 c lc on trail | inr o ↦ across t.0 c o.0 lc on o.1 o.2 ]
 
-      by_step : (c : ℕ) → (AreLinked mesh cut d c) ⊎ CornerOf mesh cut d → (e ≡ mesh.next c) ⊎ (mesh.twin c ≡ Some e)
-          → (AreLinked mesh cut d e) ⊎ CornerOf mesh cut d
-      by_step c (inr found) s = inr found
-      by_step c (inl l) (inl s) = inl (rw s (step_next mesh laws cut d c l))
-      by_step c (inl l) (inr tw) = elim (cases_Bool (cut c)) [
-        | inl on ↦ inr (from_class d c l (tracked c (links_low mesh laws cut d c l.0 ld l.1) tw on))
-        | inr off ↦ inl (step_over mesh laws cut d c e l off tw)
-      ]
-
   pub corner_of : (d : ℕ) → d < mesh.count → CornerOf mesh cut d
   corner_of d ld =
       let s = sources d ld in
       elim (along d s.1 s.0 ld s.2) [
         | inr found ↦ found
-        | inl l ↦ corner_at d s.0 l (at_source s.0 (links_low mesh laws cut d s.0 l.0 ld l.1) s.3)
+        | inl l ↦
+            let le = links_low mesh laws cut d s.0 l.0 ld l.1 in
+            corner_at d s.0 l (elim s.3 [
+              | inl on ↦ start_corner s.0 le on
+              | inr alone ↦ (
+                le,
+                traced.boundary s.0 le alone.0,
+                traced.boundary (mesh.prev s.0) (laws.prev_low s.0 le) alone.1,
+              )
+            ])
       ]
-    where
-      at_source : (e : ℕ) → e < mesh.count → IsSource mesh start e → IsCorner mesh cut e
-      at_source e le (inl on) = start_corner e le on
-      at_source e le (inr alone) =
-          (le, traced.boundary e le alone.0, traced.boundary (mesh.prev e) (laws.prev_low e le) alone.1)
 
 pub corner_law : CornerLaw
 corner_law mesh start cut laws sources traced d ld = corner_of laws sources traced d ld

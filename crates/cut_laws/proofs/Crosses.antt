@@ -1,7 +1,6 @@
 -- Four faces round a vertex, told by turns and by counting the darts that leave it.
 use Rattle.std.proofs.Common.{◌≡◌, ◌⊎◌, ℕ, zero, suc, ◌<◌, ◌≤◌, Some, sym, ◌∙◌, ap, subst, refl, inl, inr, arith}
-use Rattle.std.proofs.lemmas.Bool.{cases_eq, cases_order}
-use Rattle.std.proofs.lemmas.Option.{same_Some}
+use Rattle.std.proofs.{lemmas.Bool.cases_eq, lemmas.Bool.cases_order, lemmas.Option.same_Some}
 use Rattle.def_mesh.specs.HalfEdges.{HalfEdges, AreTurned, Turns, IsQuadManifold}
 use Rattle.def_cut.specs.{Cuts.IsCross, Cuts.HasCross, Steps.or_zero}
 use Rattle.cut_laws.proofs.Darts.{prev_three, turn_from, turn_low, turn_same}
@@ -71,20 +70,19 @@ module _ (mesh : HalfEdges) (laws : IsQuadManifold mesh) where
     among : (p : ℕ) → turned mesh d (suc p) ≡ d → (n x : ℕ) → Turns mesh d x n → (i : ℕ) × (i < suc p)
         × (turned mesh d i ≡ x)
     among p back zero x t = (0, omega arith, t)
-    among p back (suc n) x t = by_step t.0 t.2 (among p back n t.0 t.1) t.3
-      where
-        forth : (i : ℕ) → i < suc p → mesh.twin (mesh.prev (turned mesh d i)) ≡ Some x → (i : ℕ) × (i < suc p)
-            × (turned mesh d i ≡ x)
-        forth i l r = elim (cases_eq i p) [
-          | inl s ↦ (
-            0,
-            omega arith,
-            sym back ∙ (ap (λ k. turned mesh d (suc k)) (sym s)
-                ∙ same_Some (turned mesh d (suc i)) x (sym (turned_is i) ∙ r)),
-          )
-          | inr ne ↦ (suc i, omega arith, same_Some (turned mesh d (suc i)) x (sym (turned_is i) ∙ r))
+    among p back (suc n) x t =
+        let (i, l, e) = among p back n t.0 t.1 in
+        elim t.3 [
+          | inl r ↦
+              let is : turned mesh d (suc i) ≡ x =
+              same_Some (turned mesh d (suc i)) x (sym (turned_is i) ∙ (ap (λ z. mesh.twin (mesh.prev z)) e ∙ r)) in
+              elim (cases_eq i p) [
+                | inl s ↦ (0, omega arith, sym back ∙ (ap (λ k. turned mesh d (suc k)) (sym s) ∙ is))
+                | inr ne ↦ (suc i, omega arith, is)
+              ]
+          | inr r ↦ back_to i l t.2 (r ∙ ap Some (sym e))
         ]
-
+      where
         to_it : (i : ℕ) → x < mesh.count → mesh.twin (mesh.prev x) ≡ Some (turned mesh d (suc i)) → turned mesh d i ≡ x
         to_it i lx r = turn_same mesh laws (turned mesh d i) x (turned_leaves i).low lx (turned_is i) r
 
@@ -93,19 +91,34 @@ module _ (mesh : HalfEdges) (laws : IsQuadManifold mesh) where
         back_to zero l lx r = (p, omega arith, to_it p lx (r ∙ ap Some (sym back)))
         back_to (suc i) l lx r = (i, omega arith, to_it i lx r)
 
-        by_step : (y : ℕ) → x < mesh.count → (i : ℕ) × (i < suc p) × (turned mesh d i ≡ y) → AreTurned mesh y x
-            → (i : ℕ) × (i < suc p) × (turned mesh d i ≡ x)
-        by_step y lx a (inl r) = forth a.0 a.1 (ap (λ z. mesh.twin (mesh.prev z)) a.2 ∙ r)
-        by_step y lx a (inr r) = back_to a.0 a.1 lx (r ∙ ap Some (sym a.2))
-
     all_turned : (p : ℕ) → turned mesh d (suc p) ≡ d → AreAll mesh v (suc p) (turned mesh d)
     all_turned p back x l = let t : (n : ℕ) × Turns mesh d x n =
         laws.one_fan d x leaves.low l.low (leaves.at ∙ sym l.at) in among p back t.0 x t.1
 
     -- With four faces all round, the fourth turn is the first that leads back.
     pub four_cross : HasFan mesh v 4 → HasCross mesh d
-    four_cross fan = by_turns (cases_eq (turned mesh d 2) d) (cases_eq (turned mesh d 3) d)
-        (cases_eq (turned mesh d 4) d)
+    four_cross fan = elim (cases_eq (turned mesh d 2) d) [
+      | inl two ↦ absurd (let h = fan.most 2 (turned mesh d) (all_turned 1 two) in omega arith)
+      | inr two ↦ elim (cases_eq (turned mesh d 3) d) [
+        | inl three ↦ absurd (let h = fan.most 3 (turned mesh d) (all_turned 2 three) in omega arith)
+        | inr three ↦ elim (cases_eq (turned mesh d 4) d) [
+          | inl four ↦ (
+            turned mesh d 1,
+            turned mesh d 2,
+            turned mesh d 3,
+            record {
+              first = turned_is 0;
+              second = turned_is 1;
+              third = turned_is 2;
+              last = turned_is 3 ∙ ap Some four;
+              apart = λ e. two (sym e);
+            },
+          )
+          | inr four ↦ absurd (let h = fan.least 5 (turned mesh d)
+              (record { each = λ j l. turned_leaves j; apart = apart two three four }) in omega arith)
+        ]
+      ]
+    ]
       where
         down : (i j : ℕ) → i < j → turned mesh d i ≡ turned mesh d j → (k : ℕ) × (turned mesh d (suc k) ≡ d)
             × (suc k ≤ j)
@@ -126,34 +139,9 @@ module _ (mesh : HalfEdges) (laws : IsQuadManifold mesh) where
             → j < 5 → turned mesh d i ≡ turned mesh d j → i ≡ j
         apart two three four i j li lj e = elim (cases_order i j) [
           | inl s ↦ s
-          | inr o ↦ elim o [
-            | inl l ↦ absurd (let r : (k : ℕ) × (turned mesh d (suc k) ≡ d) × (suc k ≤ j) = down i j l e in
-                early two three four r.0 r.1 (omega (arith, r.2)))
-            | inr l ↦ absurd (let r : (k : ℕ) × (turned mesh d (suc k) ≡ d) × (suc k ≤ i) = down j i l (sym e) in
-                early two three four r.0 r.1 (omega (arith, r.2)))
-          ]
+          | inr (inl l) ↦ absurd (let r = down i j l e in early two three four r.0 r.1 (omega (arith, r.2)))
+          | inr (inr l) ↦ absurd (let r = down j i l (sym e) in early two three four r.0 r.1 (omega (arith, r.2)))
         ]
-
-        by_turns : (turned mesh d 2 ≡ d) ⊎ (turned mesh d 2 ≡ d → ⊥) → (turned mesh d 3 ≡ d) ⊎ (turned mesh d 3 ≡ d → ⊥)
-            → (turned mesh d 4 ≡ d) ⊎ (turned mesh d 4 ≡ d → ⊥) → HasCross mesh d
-        by_turns (inl two) three four = absurd (let h : 4 ≤ 2 = fan.most 2 (turned mesh d) (all_turned 1 two) in
-            omega arith)
-        by_turns (inr two) (inl three) four = absurd (let h : 4 ≤ 3 = fan.most 3 (turned mesh d) (all_turned 2 three) in
-            omega arith)
-        by_turns (inr two) (inr three) (inl four) = (
-          turned mesh d 1,
-          turned mesh d 2,
-          turned mesh d 3,
-          record {
-            first = turned_is 0;
-            second = turned_is 1;
-            third = turned_is 2;
-            last = turned_is 3 ∙ ap Some four;
-            apart = λ e. two (sym e);
-          },
-        )
-        by_turns (inr two) (inr three) (inr four) = absurd (let h : 5 ≤ 4 = fan.least 5 (turned mesh d)
-            (record { each = λ j l. turned_leaves j; apart = apart two three four }) in omega arith)
 
   -- And the other way round: a cross has four darts, all with twins on both sides.
   module _ (d a b c : ℕ) (low : d < mesh.count) (cross : IsCross mesh d a b c) where
@@ -203,13 +191,12 @@ module _ (mesh : HalfEdges) (laws : IsQuadManifold mesh) where
             by_step y lx (inr (inr (inr e))) (inr r) = inr (inr (inl (of b c low_b lx cross.third y e r)))
 
     pub four_all : AreAll mesh (mesh.from d) 4 (of_four d a b c)
-    four_all x l = by_one (one_of_four x l)
-      where
-        by_one : (x ≡ d) ⊎ ((x ≡ a) ⊎ ((x ≡ b) ⊎ (x ≡ c))) → (j : ℕ) × (j < 4) × (of_four d a b c j ≡ x)
-        by_one (inl e) = (0, omega arith, sym e)
-        by_one (inr (inl e)) = (1, omega arith, sym e)
-        by_one (inr (inr (inl e))) = (2, omega arith, sym e)
-        by_one (inr (inr (inr e))) = (3, omega arith, sym e)
+    four_all x l = elim (one_of_four x l) [
+      | inl e ↦ (0, omega arith, sym e)
+      | inr (inl e) ↦ (1, omega arith, sym e)
+      | inr (inr (inl e)) ↦ (2, omega arith, sym e)
+      | inr (inr (inr e)) ↦ (3, omega arith, sym e)
+    ]
 
     -- They differ.
     step_apart : {x y : ℕ} → x < mesh.count → mesh.twin (mesh.prev x) ≡ Some y → x ≡ y → ⊥

@@ -1,12 +1,10 @@
 -- No grid of a full cut is folded onto itself: such a fold has a centre, which would be a face, an edge or a vertex
 -- at which no four faces meet.
-use Rattle.std.proofs.Common.{◌≡◌, ◌⊎◌, ℕ, zero, suc, ◌+◌, ◌*◌, ◌-◌, ◌/◌, ◌<◌, ◌≤◌, true, false, Some, sym, ◌∙◌, ap}
-use Rattle.std.proofs.Common.{refl, inl, inr, true≢false, arith}
-use Rattle.std.proofs.lemmas.Bool.{cases_eq, cases_order}
-use Rattle.std.proofs.lemmas.Option.{same_Some}
+use Rattle.std.proofs.Common.{◌≡◌, ◌⊎◌, ℕ, zero, suc, ◌+◌, ◌*◌, ◌-◌, ◌/◌, ◌<◌, ◌≤◌, false, Some, sym, ◌∙◌, ap, refl}
+use Rattle.std.proofs.Common.{inl, inr, true≢false, arith}
+use Rattle.std.proofs.{lemmas.Bool.cases_eq, lemmas.Bool.cases_order, lemmas.Option.same_Some}
 use Rattle.def_mesh.specs.HalfEdges.{HalfEdges, Turns, IsQuadManifold}
-use Rattle.def_cut.specs.{Cuts.Cut, Cuts.IsUncut, Cuts.IsCut, Grids.Cells, Grids.IsGrid}
-use Rattle.def_cut.specs.{Steps.spin, Laws.NoFoldLaw}
+use Rattle.def_cut.specs.{Cuts.Cut, Cuts.IsUncut, Cuts.IsCut, Grids.Cells, Grids.IsGrid, Steps.spin, Laws.NoFoldLaw}
 use Rattle.cut_laws.proofs.Darts.{prev_three, prev_same, no_self, turn_low, two_darts}
 
 -- x is the k-th side of a cell of a grid, where k may be any number.
@@ -21,29 +19,21 @@ pub record At (mesh : HalfEdges) (w h : ℕ) (cell : Cells) (k x : ℕ) : Type 0
 abbrev pub HasOther : (mesh : HalfEdges) (w h : ℕ) (cell : Cells) (k x : ℕ) → Type 0
 HasOther mesh w h cell k x = (t : ℕ) × (mesh.twin x ≡ Some t) × At mesh w h cell (suc (suc k)) t
 
-module _ {mesh : HalfEdges} (laws : IsQuadManifold mesh) (w h : ℕ) (cell : Cells) where
+module _ {mesh : HalfEdges} {w h : ℕ} {cell : Cells} where
+  -- A side of a cell is that of another number too, where both lead to one dart.
+  as_side : {k m x y : ℕ} (at : At mesh w h cell k x) → y ≡ spin mesh m (cell at.a at.b) → At mesh w h cell m y
+  as_side at is = record { a = at.a; b = at.b; a_low = at.a_low; b_low = at.b_low; is = is }
+
   pub one_more : {k x : ℕ} → At mesh w h cell k x → At mesh w h cell (suc k) (mesh.next x)
-  one_more at = record { a = at.a; b = at.b; a_low = at.a_low; b_low = at.b_low; is = ap mesh.next at.is }
+  one_more at = as_side at (ap mesh.next at.is)
 
-  pub four_less : (k : ℕ) {x : ℕ} → At mesh w h cell (suc (suc (suc (suc k)))) x → At mesh w h cell k x
-  four_less k at = record {
-    a = at.a;
-    b = at.b;
-    a_low = at.a_low;
-    b_low = at.b_low;
-    is = at.is ∙ laws.four_sides (spin mesh k (cell at.a at.b));
-  }
+  pub four_less : IsQuadManifold mesh → {k x : ℕ} → At mesh w h cell (suc (suc (suc (suc k)))) x → At mesh w h cell k x
+  four_less laws {k} at = as_side at (at.is ∙ laws.four_sides (spin mesh k (cell at.a at.b)))
 
-  pub four_more : {k x : ℕ} → At mesh w h cell k x → At mesh w h cell (suc (suc (suc (suc k)))) x
-  four_more {k} at = record {
-    a = at.a;
-    b = at.b;
-    a_low = at.a_low;
-    b_low = at.b_low;
-    is = at.is ∙ sym (laws.four_sides (spin mesh k (cell at.a at.b)));
-  }
+  four_more : IsQuadManifold mesh → {k x : ℕ} → At mesh w h cell k x → At mesh w h cell (suc (suc (suc (suc k)))) x
+  four_more laws {k} at = as_side at (at.is ∙ sym (laws.four_sides (spin mesh k (cell at.a at.b))))
 
-  pub moved : {k x y : ℕ} → x ≡ y → At mesh w h cell k x → At mesh w h cell k y
+  moved : {k x y : ℕ} → x ≡ y → At mesh w h cell k x → At mesh w h cell k y
   moved e at = rw e at at
 
 module _ (mesh : HalfEdges) (laws : IsQuadManifold mesh) (cut : Cut) (full : IsCut mesh cut) (w h : ℕ) (cell : Cells)
@@ -69,18 +59,15 @@ module _ (mesh : HalfEdges) (laws : IsQuadManifold mesh) (cut : Cut) (full : IsC
       (grid.north i j li lj) ∙ grid.north_open i j li lj
 
   -- Over an edge of a cell that is not cut lies another cell.
-  clash : {x y : ℕ} → x ≡ y → cut y ≡ true → cut x ≡ false → ⊥
-  clash e on off = true≢false (sym on ∙ (ap cut (sym e) ∙ off))
-
   over : (k a b x : ℕ) → a < w → b < h → x ≡ spin mesh k (cell a b) → cut x ≡ false → HasOther mesh w h cell k x
-  over zero a zero x la lb e off = absurd (clash e (grid.south_shut a la) off)
+  over zero a zero x la lb e off = absurd (cc (grid.south_shut a la))
   over zero a (suc b) x la lb e off = (
     mesh.next (mesh.next (cell a b)),
     ap mesh.twin e ∙ south a b la lb,
     record { a = a; b = b; a_low = la; b_low = omega arith; is = refl },
   )
   over (suc zero) a b x la lb e off = elim (cases_eq (suc a) w) [
-    | inl z ↦ absurd (clash e (grid.east_shut a b z lb) off)
+    | inl z ↦ absurd (cc (grid.east_shut a b z lb))
     | inr ne ↦ let l : suc a < w = omega arith in (
       mesh.prev (cell (suc a) b),
       ap mesh.twin e ∙ grid.east a b l lb,
@@ -88,69 +75,50 @@ module _ (mesh : HalfEdges) (laws : IsQuadManifold mesh) (cut : Cut) (full : IsC
     )
   ]
   over (suc (suc zero)) a b x la lb e off = elim (cases_eq (suc b) h) [
-    | inl z ↦ absurd (clash e (grid.north_shut a b la z) off)
+    | inl z ↦ absurd (cc (grid.north_shut a b la z))
     | inr ne ↦ let l : suc b < h = omega arith in (
       cell a (suc b),
       ap mesh.twin e ∙ grid.north a b la l,
       record { a = a; b = suc b; a_low = la; b_low = l; is = sym (laws.four_sides (cell a (suc b))) },
     )
   ]
-  over (suc (suc (suc zero))) zero b x la lb e off =
-      absurd (clash (e ∙ sym (prev_three mesh laws (cell 0 b))) (grid.west_shut b lb) off)
+  over (suc (suc (suc zero))) zero b x la lb e off = absurd (cc (prev_three mesh laws (cell 0 b), grid.west_shut b lb))
   over (suc (suc (suc zero))) (suc a) b x la lb e off = (
     mesh.next (cell a b),
     ap mesh.twin (e ∙ sym (prev_three mesh laws (cell (suc a) b))) ∙ west a b la lb,
     record { a = a; b = b; a_low = omega arith; b_low = lb; is = sym (laws.four_sides (mesh.next (cell a b))) },
   )
   over (suc (suc (suc (suc k)))) a b x la lb e off =
-      let o : HasOther mesh w h cell k x = over k a b x la lb (e ∙ laws.four_sides (spin mesh k (cell a b))) off in
-      (o.0, o.1, four_more laws w h cell o.2)
-
-  pub cross : (k x : ℕ) → At mesh w h cell k x → cut x ≡ false → HasOther mesh w h cell k x
-  cross k x at off = over k at.a at.b x at.a_low at.b_low at.is off
+      let o = over k a b x la lb (e ∙ laws.four_sides (spin mesh k (cell a b))) off in
+      (o.0, o.1, four_more laws o.2)
 
   -- The twin that is known is the one that was found.
   pub cross_to : {k x t : ℕ} → At mesh w h cell k x → cut x ≡ false → mesh.twin x ≡ Some t
       → At mesh w h cell (suc (suc k)) t
-  cross_to {k} {x} {t} at off is = let o : HasOther mesh w h cell k x = cross k x at off in
-      moved laws w h cell (same_Some o.0 t (sym o.1 ∙ is)) o.2
+  cross_to {k} {x} {t} at off is =
+      let o = over k at.a at.b x at.a_low at.b_low at.is off in
+      moved (same_Some o.0 t (sym o.1 ∙ is)) o.2
 
   -- What stands over one cell stands over its neighbours.
   at_east : (k i j : ℕ) → suc i < w → j < h → At mesh w h cell k (cell i j) → At mesh w h cell k (cell (suc i) j)
   at_east k i j li lj at =
-      let here : At mesh w h cell (suc k) (mesh.next (cell i j)) = one_more laws w h cell at in
-      let there = cross_to here (grid.east_open i j li lj) (grid.east i j li lj) in
-      let on = one_more laws w h cell there in
-      four_less laws w h cell k (moved laws w h cell
-      (laws.next_prev (cell (suc i) j)) on)
+      let there = cross_to (one_more at) (grid.east_open i j li lj) (grid.east i j li lj) in
+      four_less laws (moved (laws.next_prev (cell (suc i) j)) (one_more there))
 
   at_north : (k i j : ℕ) → i < w → suc j < h → At mesh w h cell k (cell i j) → At mesh w h cell k (cell i (suc j))
   at_north k i j li lj at =
-      let here = one_more laws w h cell (one_more laws w h cell at) in
-      four_less laws w h cell k (cross_to
-      here (grid.north_open i j li lj) (grid.north i j li lj))
+      four_less laws (cross_to (one_more (one_more at)) (grid.north_open i j li lj) (grid.north i j li lj))
 
   at_west : (k i j : ℕ) → suc i < w → j < h → At mesh w h cell k (cell (suc i) j) → At mesh w h cell k (cell i j)
   at_west k i j li lj at =
-      let c : ℕ = cell (suc i) j in
-      let three = one_more laws w h cell (one_more laws w h cell (one_more laws w h cell at)) in
-      let here = moved laws w h cell (sym (prev_three mesh laws c)) three in
-      let there = four_less laws w h cell (suc k) (cross_to here (west_open i j li lj) (west i j li lj)) in
-      let x = cell i j in
-      four_less laws w h cell k (moved laws w h cell
-      (laws.four_sides x)
-      (one_more laws w h cell
-      (one_more laws w h cell
-      (one_more laws w h cell there))))
+      let here = moved (sym (prev_three mesh laws (cell (suc i) j))) (one_more (one_more (one_more at))) in
+      let there = four_less laws {k = suc k} (cross_to here (west_open i j li lj) (west i j li lj)) in
+      four_less laws (moved (laws.four_sides (cell i j)) (one_more (one_more (one_more there))))
 
   at_south : (k i j : ℕ) → i < w → suc j < h → At mesh w h cell k (cell i (suc j)) → At mesh w h cell k (cell i j)
   at_south k i j li lj at =
-      let x : ℕ = cell i j in
       let there = cross_to at (south_open i j li lj) (south i j li lj) in
-      four_less laws w h cell k (moved laws w h cell
-      (laws.four_sides x)
-      (one_more laws w h cell
-      (one_more laws w h cell there)))
+      four_less laws (moved (laws.four_sides (cell i j)) (one_more (one_more there)))
 
   -- So it stands over each cell.
   to_west : (k i j : ℕ) → i < w → j < h → At mesh w h cell k (cell i j) → At mesh w h cell k (cell 0 j)
@@ -175,8 +143,7 @@ module _ (mesh : HalfEdges) (laws : IsQuadManifold mesh) (cut : Cut) (full : IsC
 
   -- Equal cells stand in one column and in one row.
   column_less : (n i j a b : ℕ) → a + suc n ≡ w → i < a → j < h → b < h → cell i j ≡ cell a b → ⊥
-  column_less zero i j a b far l lj lb e =
-      true≢false (sym (grid.east_shut a b (omega arith) lb)
+  column_less zero i j a b far l lj lb e = true≢false (sym (grid.east_shut a b (omega arith) lb)
       ∙ (ap (λ x. cut (mesh.next x)) (sym e) ∙ grid.east_open i j (omega arith) lj))
   column_less (suc n) i j a b far l lj lb e =
       let la : suc a < w = omega arith in
@@ -189,16 +156,13 @@ module _ (mesh : HalfEdges) (laws : IsQuadManifold mesh) (cut : Cut) (full : IsC
   pub same_column : (i j a b : ℕ) → i < w → j < h → a < w → b < h → cell i j ≡ cell a b → i ≡ a
   same_column i j a b li lj la lb e = elim (cases_order i a) [
     | inl s ↦ s
-    | inr o ↦ elim o [
-      | inl l ↦ absurd (column_less (w - suc a) i j a b (omega arith) l lj lb e)
-      | inr l ↦ absurd (column_less (w - suc i) a b i j (omega arith) l lb lj (sym e))
-    ]
+    | inr (inl l) ↦ absurd (column_less (w - suc a) i j a b (omega arith) l lj lb e)
+    | inr (inr l) ↦ absurd (column_less (w - suc i) a b i j (omega arith) l lb lj (sym e))
   ]
 
   row_less : (n i j a b : ℕ) → b + suc n ≡ h → j < b → i < w → a < w → cell i j ≡ cell a b → ⊥
-  row_less zero i j a b far l li la e =
-      true≢false (sym (grid.north_shut a b la (omega arith)) ∙ (ap (λ x. cut (mesh.next (mesh.next x))) (sym e)
-      ∙ grid.north_open i j li (omega arith)))
+  row_less zero i j a b far l li la e = true≢false (sym (grid.north_shut a b la (omega arith))
+      ∙ (ap (λ x. cut (mesh.next (mesh.next x))) (sym e) ∙ grid.north_open i j li (omega arith)))
   row_less (suc n) i j a b far l li la e =
       let lb : suc b < h = omega arith in
       let lj : suc j < h = omega arith in
@@ -209,10 +173,8 @@ module _ (mesh : HalfEdges) (laws : IsQuadManifold mesh) (cut : Cut) (full : IsC
   pub same_row : (i j a b : ℕ) → i < w → j < h → a < w → b < h → cell i j ≡ cell a b → j ≡ b
   same_row i j a b li lj la lb e = elim (cases_order j b) [
     | inl s ↦ s
-    | inr o ↦ elim o [
-      | inl l ↦ absurd (row_less (h - suc b) i j a b (omega arith) l li la e)
-      | inr l ↦ absurd (row_less (h - suc j) a b i j (omega arith) l la li (sym e))
-    ]
+    | inr (inl l) ↦ absurd (row_less (h - suc b) i j a b (omega arith) l li la e)
+    | inr (inr l) ↦ absurd (row_less (h - suc j) a b i j (omega arith) l la li (sym e))
   ]
 
   -- A half turn exchanges east and west, and north and south.
@@ -325,24 +287,13 @@ module _ (mesh : HalfEdges) (laws : IsQuadManifold mesh) (cut : Cut) (full : IsC
   no_quarter : (i j : ℕ) → i < w → j < h → At mesh w h cell 1 (cell i j) → ⊥
   no_quarter i j li lj at =
       let two = carry 1 i j at.a at.b li lj at.a_low at.b_low at in
-      no_half_turn i j li lj (record {
-        a = two.a;
-        b = two.b;
-        a_low = two.a_low;
-        b_low = two.b_low;
-        is = at.is ∙ ap mesh.next two.is;
-      })
+      no_half_turn i j li lj (as_side two (at.is ∙ ap mesh.next two.is))
 
   no_three : (i j : ℕ) → i < w → j < h → At mesh w h cell 3 (cell i j) → ⊥
   no_three i j li lj at =
       let two = carry 3 i j at.a at.b li lj at.a_low at.b_low at in
-      no_half_turn i j li lj (four_less laws w h cell 2 {x = cell i j} (record {
-        a = two.a;
-        b = two.b;
-        a_low = two.a_low;
-        b_low = two.b_low;
-        is = at.is ∙ ap (λ x. mesh.next (mesh.next (mesh.next x))) two.is;
-      }))
+      no_half_turn i j li lj
+      (four_less laws {k = 2} (as_side two (at.is ∙ ap (λ x. mesh.next (mesh.next (mesh.next x))) two.is)))
 
   -- A cell with a side in common with another is that cell.
   pub no_fold : (k i j a b : ℕ) → i < w → j < h → a < w → b < h → cell i j ≡ spin mesh k (cell a b) → (i ≡ a) × (j ≡ b)

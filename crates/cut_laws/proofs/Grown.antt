@@ -1,10 +1,9 @@
 -- From each corner grows a grid: rows of one width stand over each other until a cut edge lies to the north.
 use Rattle.std.proofs.Common.{◌≡◌, ◌⊎◌, ℕ, zero, suc, ◌<◌, ◌≤◌, Bool, true, false, Some, sym, ◌∙◌, ap, refl, inl, inr}
-use Rattle.std.proofs.Common.{arith}
-use Rattle.std.proofs.lemmas.Bool.{cases_eq, cases_Bool}
+use Rattle.std.proofs.{Common.arith, lemmas.Bool.cases_eq, lemmas.Bool.cases_Bool}
 use Rattle.def_mesh.specs.HalfEdges.{HalfEdges, IsQuadManifold}
-use Rattle.def_cut.specs.{Cuts.Cut, Cuts.IsCorner, Cuts.IsCut, Grids.IsGrid, Laws.GridLaw, Steps.step_east}
-use Rattle.def_cut.specs.Steps.{easts, norths}
+use Rattle.def_cut.specs.{Cuts.Cut, Cuts.IsCorner, Cuts.IsCut, Grids.IsGrid, Laws.GridLaw, Steps.step_east, Steps.easts}
+use Rattle.def_cut.specs.Steps.{norths}
 use Rattle.cut_laws.specs.Grown.{grown, IsRow, IsGrown}
 use Rattle.cut_laws.proofs.Rows.{east_twin, north_twin, row_low, row_south, row_north_on, row_north_off, row_above}
 use Rattle.cut_laws.proofs.Rows.{next_row, west_on, endless}
@@ -16,14 +15,13 @@ pub record IsFirst (p : ℕ → Bool) (k : ℕ) : Type 0 where
 
 first_or_none : (p : ℕ → Bool) (n : ℕ) → ((k : ℕ) × IsFirst p k) ⊎ ((i : ℕ) → i < n → p i ≡ false)
 first_or_none p zero = inr (λ i l. absurd (omega arith))
-first_or_none p (suc n) = by_before (first_or_none p n) (cases_Bool (p n))
-  where
-    by_before : ((k : ℕ) × IsFirst p k) ⊎ ((i : ℕ) → i < n → p i ≡ false) → (p n ≡ true) ⊎ (p n ≡ false)
-        → ((k : ℕ) × IsFirst p k) ⊎ ((i : ℕ) → i < suc n → p i ≡ false)
-    by_before (inl found) b = inl found
-    by_before (inr none) (inl on) = inl (n, record { on = on; before = none })
-    by_before (inr none) (inr off) =
-        inr (λ i l. elim (cases_eq i n) [ inl e ↦ ap p e ∙ off | inr ne ↦ none i (omega arith) ])
+first_or_none p (suc n) = elim (first_or_none p n) [
+  | inl found ↦ inl found
+  | inr none ↦ elim (cases_Bool (p n)) [
+    | inl on ↦ inl (n, record { on = on; before = none })
+    | inr off ↦ inr (λ i l. elim (cases_eq i n) [ inl e ↦ ap p e ∙ off | inr ne ↦ none i (omega arith) ])
+  ]
+]
 
 -- A column is a row of the mesh turned by a quarter.
 pub norths_turned : (mesh : HalfEdges) (d j : ℕ) → mesh.next (norths mesh d j) ≡ easts mesh (mesh.next d) j
@@ -32,26 +30,19 @@ norths_turned mesh d (suc j) = ap (step_east mesh) (norths_turned mesh d j)
 
 module _ (mesh : HalfEdges) (laws : IsQuadManifold mesh) (cut : Cut) (full : IsCut mesh cut) where
   row_there : (d : ℕ) → IsCorner mesh cut d → (w : ℕ) × IsRow mesh cut d w
-  row_there d corner = by_first (first_or_none (λ i. cut (mesh.next (easts mesh d i))) (suc mesh.count))
-    where
-      by_first : ((k : ℕ) × IsFirst (λ i. cut (mesh.next (easts mesh d i))) k)
-          ⊎ ((i : ℕ) → i < suc mesh.count → cut (mesh.next (easts mesh d i)) ≡ false) → (w : ℕ) × IsRow mesh cut d w
-      by_first (inl f) = at f.0 f.1
-        where
-          at : (k : ℕ) → IsFirst (λ i. cut (mesh.next (easts mesh d i))) k → (w : ℕ) × IsRow mesh cut d w
-          at k first = (
-            suc k,
-            record {
-              wide = omega arith;
-              low = corner.0;
-              inside = λ i l. first.before i (omega arith);
-              ends = λ i e. ap (λ x. cut (mesh.next (easts mesh d x))) (is i e) ∙ first.on;
-            },
-          )
-            where
-              is : (i : ℕ) → suc i ≡ suc k → i ≡ k
-              is i e = omega arith
-      by_first (inr none) = absurd (endless mesh laws cut full d corner.0 corner.2 (λ i l. none i (omega arith)))
+  row_there d corner = elim (first_or_none (λ i. cut (mesh.next (easts mesh d i))) (suc mesh.count)) [
+    | inl (k, first) ↦ (
+      suc k,
+      record {
+        wide = omega arith;
+        low = corner.0;
+        inside = λ i l. first.before i (omega arith);
+        ends = λ i e. let same : i ≡ k = omega arith in
+            ap (λ x. cut (mesh.next (easts mesh d x))) same ∙ first.on;
+      },
+    )
+    | inr none ↦ absurd (endless mesh laws cut full d corner.0 corner.2 (λ i l. none i (omega arith)))
+  ]
 
   -- A column whose south edge is cut ends.
   pub endless_north : (d : ℕ) → d < mesh.count → cut d ≡ true
@@ -60,31 +51,23 @@ module _ (mesh : HalfEdges) (laws : IsQuadManifold mesh) (cut : Cut) (full : IsC
       ∙ on) (λ j h. ap (λ x. cut (mesh.next x)) (sym (norths_turned mesh d j)) ∙ off j h)
 
   grown_there : (d : ℕ) → IsCorner mesh cut d → (w : ℕ) × (h : ℕ) × IsGrown mesh cut d w h
-  grown_there d corner = by_row (row_there d corner) (first_or_none (λ j. cut (mesh.next (mesh.next (norths mesh d j))))
-      (suc mesh.count))
-    where
-      by_row : (w : ℕ) × IsRow mesh cut d w → ((k : ℕ) × IsFirst (λ j. cut (mesh.next (mesh.next (norths mesh d j)))) k)
-          ⊎ ((j : ℕ) → j < suc mesh.count → cut (mesh.next (mesh.next (norths mesh d j))) ≡ false) → (w : ℕ) × (h : ℕ)
-          × IsGrown mesh cut d w h
-      by_row r (inl f) = at r.0 r.1 f.0 f.1
-        where
-          at : (w : ℕ) → IsRow mesh cut d w → (k : ℕ) → IsFirst (λ j. cut (mesh.next (mesh.next (norths mesh d j)))) k
-              → (w : ℕ) × (h : ℕ) × IsGrown mesh cut d w h
-          at w row k first = (
-            w,
-            suc k,
-            record {
-              wide = row.wide;
-              tall = omega arith;
-              row = row;
-              inside = λ j l. first.before j (omega arith);
-              ends = λ j e. ap (λ x. cut (mesh.next (mesh.next (norths mesh d x)))) (is j e) ∙ first.on;
-            },
-          )
-            where
-              is : (j : ℕ) → suc j ≡ suc k → j ≡ k
-              is j e = omega arith
-      by_row r (inr none) = absurd (endless_north d corner.0 corner.1 (λ j l. none j (omega arith)))
+  grown_there d corner =
+      let (w, row) = row_there d corner in
+      elim (first_or_none (λ j. cut (mesh.next (mesh.next (norths mesh d j)))) (suc mesh.count)) [
+        | inl (k, first) ↦ (
+          w,
+          suc k,
+          record {
+            wide = row.wide;
+            tall = omega arith;
+            row = row;
+            inside = λ j l. first.before j (omega arith);
+            ends = λ j e. let same : j ≡ k = omega arith in
+                ap (λ x. cut (mesh.next (mesh.next (norths mesh d x)))) same ∙ first.on;
+          },
+        )
+        | inr none ↦ absurd (endless_north d corner.0 corner.1 (λ j l. none j (omega arith)))
+      ]
 
   -- The rows of what has grown.
   pub row_at : {d w h : ℕ} → IsGrown mesh cut d w h → (j : ℕ) → j < h → IsRow mesh cut (norths mesh d j) w
@@ -107,9 +90,8 @@ module _ (mesh : HalfEdges) (laws : IsQuadManifold mesh) (cut : Cut) (full : IsC
     east = λ i j li lj. east_twin mesh laws cut full (grown mesh d i j) (row_low mesh laws cut full (norths mesh d j) w
         (row j lj) i (omega arith)) ((row j lj).inside i li);
     north = λ i j li lj. north_twin mesh laws cut full (grown mesh d i j) (row_low mesh laws cut full (norths mesh d j)
-        w (row j (omega arith)) i li) (row_north_off mesh laws cut full (row j (omega arith))
-        (g.inside j lj) i li) ∙ ap Some
-        (sym (row_above mesh laws cut full (row j (omega arith)) (g.inside j lj) i li));
+        w (row j (omega arith)) i li) (row_north_off mesh laws cut full (row j (omega arith)) (g.inside j lj) i li)
+        ∙ ap Some (sym (row_above mesh laws cut full (row j (omega arith)) (g.inside j lj) i li));
     east_open = λ i j li lj. (row j lj).inside i li;
     north_open = λ i j li lj. row_north_off mesh laws cut full (row j (omega arith)) (g.inside j lj) i li;
     south_shut = λ i li. row_south mesh laws cut full d w g.row corner.1 i li;

@@ -1,5 +1,5 @@
 -- Strictly increasing numbers: each stands at one place, and two such with the same values are one.
-use Rattle.std.proofs.Common.{◌≡◌, ◌⊎◌, ℕ, zero, suc, ◌<◌, ◌≤◌, sym, ◌∙◌, ap, inl, inr, arith}
+use Rattle.std.proofs.Common.{◌≡◌, ℕ, zero, suc, ◌<◌, ◌≤◌, sym, ◌∙◌, ap, inl, inr, arith}
 use Rattle.std.proofs.lemmas.Bool.{cases_eq, cases_order}
 
 -- The first n values rise.
@@ -8,75 +8,59 @@ pub record AreIncreasing (a : ℕ → ℕ) (n : ℕ) : Type 0 where
 
 pub increasing_less : {a : ℕ → ℕ} {n : ℕ} → AreIncreasing a n → (j k : ℕ) → j < k → k < n → a j < a k
 increasing_less r j zero l h = absurd (omega arith)
-increasing_less {a} {n} r j (suc k) l h = by_last (cases_eq j k) (increasing_less r j k)
-  where
-    by_last : (j ≡ k) ⊎ (j ≡ k → ⊥) → (j < k → k < n → a j < a k) → a j < a (suc k)
-    by_last (inl e) rest = let here : a j ≡ a k = ap a e in let next : a k < a (suc k) = r.step k h in omega arith
-    by_last (inr ne) rest = let there : a j < a k = rest (omega arith) (omega arith) in let next : a k < a (suc k) =
-        r.step k h in omega arith
+increasing_less {a} r j (suc k) l h =
+    let next = r.step k h in
+    elim (cases_eq j k) [
+      | inl e ↦ let here : a j ≡ a k = ap a e in omega arith
+      | inr ne ↦ let there = increasing_less r j k (omega arith) (omega arith) in omega arith
+    ]
 
 pub increasing_place : (a : ℕ → ℕ) (n : ℕ) → AreIncreasing a n → (j k : ℕ) → j < n → k < n → a j ≡ a k → j ≡ k
-increasing_place a n r j k lj lk e = by_order (cases_order j k)
-  where
-    by_order : (j ≡ k) ⊎ ((j < k) ⊎ (k < j)) → j ≡ k
-    by_order (inl s) = s
-    by_order (inr (inl l)) = absurd (let less : a j < a k = increasing_less r j k l lk in omega arith)
-    by_order (inr (inr l)) = absurd (let less : a k < a j = increasing_less r k j l lj in omega arith)
+increasing_place a n r j k lj lk e = elim (cases_order j k) [
+  | inl s ↦ s
+  | inr (inl l) ↦ absurd (let less = increasing_less r j k l lk in omega arith)
+  | inr (inr l) ↦ absurd (let less = increasing_less r k j l lj in omega arith)
+]
+
+-- No value of one at place k is below that of the other, which has it too, if they agree before.
+not_below : {a b : ℕ → ℕ} {n m : ℕ} → AreIncreasing a n → AreIncreasing b m → (k : ℕ) → k < n
+    → ((i : ℕ) → i < k → a i ≡ b i) → (j : ℕ) → j < m → a k ≡ b j → b k ≤ a k
+not_below {a} {b} {n} ra rb k ln same j lj e = elim (cases_order j k) [
+  | inl s ↦ let here : b j ≡ b k = ap b s in omega arith
+  | inr (inl l) ↦ absurd (let place = increasing_place a n ra j k (omega arith) ln (same j l ∙ sym e) in omega arith)
+  | inr (inr l) ↦ let less = increasing_less rb k j l lj in omega arith
+]
 
 module _ (a b : ℕ → ℕ) (n m : ℕ) (ra : AreIncreasing a n) (rb : AreIncreasing b m) (there : (k : ℕ) → k < n
     → (j : ℕ) × (j < m) × (a k ≡ b j)) (back : (k : ℕ) → k < m → (j : ℕ) × (j < n) × (b k ≡ a j)) where
-  -- No value of one at place k is below that of the other, if they agree before.
-  not_below : (k : ℕ) → k < n → k < m → ((i : ℕ) → i < k → a i ≡ b i) → (j : ℕ) → j < m → a k ≡ b j → b k ≤ a k
-  not_below k ln lm same j lj e = by_order (cases_order j k)
-    where
-      by_order : (j ≡ k) ⊎ ((j < k) ⊎ (k < j)) → b k ≤ a k
-      by_order (inl s) = let here : b j ≡ b k = ap b s in omega arith
-      by_order (inr (inl l)) =
-          absurd (let place : j ≡ k = increasing_place a n ra j k (omega arith) ln (same j l ∙ sym e) in omega arith)
-      by_order (inr (inr l)) = let less : b k < b j = increasing_less rb k j l lj in omega arith
-
-  not_above : (k : ℕ) → k < n → k < m → ((i : ℕ) → i < k → a i ≡ b i) → (j : ℕ) → j < n → b k ≡ a j → a k ≤ b k
-  not_above k ln lm same j lj e = by_order (cases_order j k)
-    where
-      by_order : (j ≡ k) ⊎ ((j < k) ⊎ (k < j)) → a k ≤ b k
-      by_order (inl s) = let here : a j ≡ a k = ap a s in omega arith
-      by_order (inr (inl l)) =
-          absurd (let place : j ≡ k = increasing_place b m rb j k (omega arith) lm (sym (same j l) ∙ sym e) in
-          omega arith)
-      by_order (inr (inr l)) = let less : a k < a j = increasing_less ra k j l lj in omega arith
-
   same_below : (k : ℕ) → k ≤ n → k ≤ m → (i : ℕ) → i < k → a i ≡ b i
   same_below zero ln lm i l = absurd (omega arith)
-  same_below (suc k) ln lm i l = by_last (cases_eq i k) (same_below k (omega arith) (omega arith))
-    where
-      at_last : ((i : ℕ) → i < k → a i ≡ b i) → (j : ℕ) × (j < m) × (a k ≡ b j) → (j : ℕ) × (j < n) × (b k ≡ a j)
-          → a k ≡ b k
-      at_last same t u =
-          let low : b k ≤ a k = not_below k ln lm same t.0 t.1 t.2 in
-          let high : a k ≤ b k = not_above k ln lm same u.0 u.1 u.2 in
-          omega arith
-
-      by_last : (i ≡ k) ⊎ (i ≡ k → ⊥) → ((i : ℕ) → i < k → a i ≡ b i) → a i ≡ b i
-      by_last (inl e) same = ap a e ∙ (at_last same (there k ln) (back k lm) ∙ ap b (sym e))
-      by_last (inr ne) same = same i (omega arith)
+  same_below (suc k) ln lm i l =
+      let same = same_below k (omega arith) (omega arith) in
+      elim (cases_eq i k) [
+        | inl e ↦
+            let t = there k ln in
+            let u = back k lm in
+            let low = not_below ra rb k ln same t.0 t.1 t.2 in
+            let high = not_below rb ra k lm (λ i l. sym (same i l)) u.0 u.1 u.2 in
+            let here : a k ≡ b k = omega arith in
+            ap a e ∙ (here ∙ ap b (sym e))
+        | inr ne ↦ same i (omega arith)
+      ]
 
   pub same_many : n ≡ m
-  same_many = by_order (cases_order n m)
-    where
-      short : n < m → (j : ℕ) × (j < n) × (b n ≡ a j) → ⊥
-      short l t = let place : n ≡ t.0 = increasing_place b m rb n t.0 l (let low : t.0 < n = t.1 in
-          omega arith) (t.2 ∙ same_below n (omega arith) (omega arith) t.0 t.1) in let low : t.0 < n = t.1 in
-          omega arith
-
-      long : m < n → (j : ℕ) × (j < m) × (a m ≡ b j) → ⊥
-      long l t = let place : m ≡ t.0 = increasing_place a n ra m t.0 l (let low : t.0 < m = t.1 in
-          omega arith) (t.2 ∙ sym (same_below m (omega arith) (omega arith) t.0 t.1)) in let low : t.0 < m = t.1 in
-          omega arith
-
-      by_order : (n ≡ m) ⊎ ((n < m) ⊎ (m < n)) → n ≡ m
-      by_order (inl s) = s
-      by_order (inr (inl l)) = absurd (short l (back n l))
-      by_order (inr (inr l)) = absurd (long l (there m l))
+  same_many = elim (cases_order n m) [
+    | inl s ↦ s
+    | inr (inl l) ↦
+        let (j, low, e) = back n l in
+        let place = increasing_place b m rb n j l (omega arith) (e ∙ same_below n (omega arith) (omega arith) j low) in
+        absurd (omega arith)
+    | inr (inr l) ↦
+        let (j, low, e) = there m l in
+        let place = increasing_place a n ra m j l (omega arith)
+        (e ∙ sym (same_below m (omega arith) (omega arith) j low)) in
+        absurd (omega arith)
+  ]
 
   pub same_values : (k : ℕ) → k < n → a k ≡ b k
-  same_values k l = same_below n (omega arith) (let e : n ≡ m = same_many in omega arith) k l
+  same_values k l = same_below n (omega arith) (let e = same_many in omega arith) k l

@@ -1,11 +1,9 @@
 -- At most one list of patches holds each face once.
-use Rattle.std.proofs.Common.{◌≡◌, ℕ, suc, ◌+◌, ◌*◌, ◌/◌, ◌%◌, ◌<◌, List, [], map, length, get_or, sym, ◌∙◌, ap}
-use Rattle.std.proofs.Common.{refl, arith}
-use Rattle.std.proofs.Math.Nat.{div-lt_iff_lt-mul}
-use Rattle.std.proofs.lemmas.List.{ext_get_or}
+use Rattle.std.proofs.Common.{◌≡◌, ℕ, suc, ◌+◌, ◌*◌, ◌/◌, ◌%◌, ◌<◌, List, [], map, length, get_or, sym, ◌∙◌, ap, refl}
+use Rattle.std.proofs.{Common.arith, Math.Nat.div-lt_iff_lt-mul, lemmas.List.ext_get_or}
 use Rattle.def_mesh.specs.HalfEdges.{HalfEdges, IsQuadManifold}
-use Rattle.def_cut.specs.{Cuts.Cut, Cuts.IsCut, Grids.IsGrid, Grids.IsPatch, Grids.Rectangle, Grids.cell_of}
-use Rattle.def_cut.specs.{Grids.patch_at, Grids.least_of, Grids.IsSide, Grids.IsPartition, Steps.spin, Laws.OneListLaw}
+use Rattle.def_cut.specs.Grids.{IsPatch, Rectangle, cell_of, patch_at, least_of, IsSide, IsPartition}
+use Rattle.def_cut.specs.{Cuts.Cut, Cuts.IsCut, Laws.OneListLaw}
 use Rattle.cut_laws.proofs.{Spins.spun, Folds.no_fold, Classes.In, Classes.AreOne, Classes.one_patch}
 use Rattle.cut_laws.proofs.Increasing.{increasing_place, same_many, same_values}
 
@@ -67,19 +65,15 @@ module _ (mesh : HalfEdges) (laws : IsQuadManifold mesh) (cut : Cut) (full : IsC
   pub once : (ps : List Rectangle) → AreTiles mesh cut face ps → (d p i j k q a b l : ℕ) → p < length ps → q < length ps
       → IsSide mesh (patch_at ps p) i j k d → IsSide mesh (patch_at ps q) a b l d → (p ≡ q) × (i ≡ a) × (j ≡ b)
   once ps t d p i j k q a b l lp lq one two =
-      by_place (same_place ps t p q d lp lq (inside p i j k one) (inside q a b l two))
-    where
-      inside : (p i j k : ℕ) → IsSide mesh (patch_at ps p) i j k d → LiesInPatch mesh (patch_at ps p) d
-      inside p i j k s = (k, record { a = i; b = j; a_low = s.i_low; b_low = s.j_low; is = s.is })
-
-      by_place : p ≡ q → (p ≡ q) × (i ≡ a) × (j ≡ b)
-      by_place same = let f : (i ≡ a) × (j ≡ b) = at (rw same two) in (same, f.0, f.1)
-        where
-          at : IsSide mesh (patch_at ps p) a b l d → (i ≡ a) × (j ≡ b)
-          at s = let r : (n : ℕ) × (cell_of (patch_at ps p) i j ≡ spin mesh n (cell_of (patch_at ps p) a b)) =
-              spun mesh laws k l (cell_of (patch_at ps p) i j) (cell_of (patch_at ps p) a b) (sym one.is ∙ s.is) in
-              no_fold mesh laws cut full (patch_at ps p).w (patch_at ps p).h (cell_of (patch_at ps p))
-              (t.patch p lp).grid r.0 i j a b one.i_low one.j_low s.i_low s.j_low r.1
+      let inside : (p i j k : ℕ) → IsSide mesh (patch_at ps p) i j k d → LiesInPatch mesh (patch_at ps p) d =
+      λ p i j k s. (k, record { a = i; b = j; a_low = s.i_low; b_low = s.j_low; is = s.is }) in
+      let same = same_place ps t p q d lp lq (inside p i j k one) (inside q a b l two) in
+      let s : IsSide mesh (patch_at ps p) a b l d = rw same two in
+      let cell = cell_of (patch_at ps p) in
+      let r = spun mesh laws k l (cell_of (patch_at ps p) i j) (cell_of (patch_at ps p) a b) (sym one.is ∙ s.is) in
+      let f = no_fold mesh laws cut full (patch_at ps p).w (patch_at ps p).h cell (t.patch p lp).grid r.0 i j a b
+      one.i_low one.j_low s.i_low s.j_low r.1 in
+      (same, f.0, f.1)
 
   tiles : (ps : List Rectangle) → IsPartition mesh cut face ps → AreTiles mesh cut face ps
   tiles ps a = record { patch = a.patch; sized = a.sized; ordered = a.ordered }
@@ -88,17 +82,15 @@ module _ (mesh : HalfEdges) (laws : IsQuadManifold mesh) (cut : Cut) (full : IsC
   found : (ps qs : List Rectangle) → IsPartition mesh cut face ps → IsPartition mesh cut face qs → (p : ℕ)
       → p < length ps → (q : ℕ) × (q < length qs) × (patch_at ps p ≡ patch_at qs q)
   found ps qs a b p lp =
-      let c = b.covers (cell_of (patch_at ps p) 0 0) (grid.low 0 0 grid.wide grid.tall) in (
-        c.0,
-        c.4,
-        shared ps qs (tiles ps a) (tiles qs b) p c.0 (cell_of (patch_at ps p) 0 0) lp c.4 (
+      let grid = (a.patch p lp).grid in
+      let (q, i, j, k, lq, s) = b.covers (cell_of (patch_at ps p) 0 0) (grid.low 0 0 grid.wide grid.tall) in (
+        q,
+        lq,
+        shared ps qs (tiles ps a) (tiles qs b) p q (cell_of (patch_at ps p) 0 0) lp lq (
           0,
           record { a = 0; b = 0; a_low = grid.wide; b_low = grid.tall; is = refl },
-        ) (c.3, record { a = c.1; b = c.2; a_low = c.5.i_low; b_low = c.5.j_low; is = c.5.is }),
+        ) (k, record { a = i; b = j; a_low = s.i_low; b_low = s.j_low; is = s.is }),
       )
-    where
-      grid : IsGrid mesh cut (patch_at ps p).w (patch_at ps p).h (cell_of (patch_at ps p))
-      grid = (a.patch p lp).grid
 
   pub one_list : (ps qs : List Rectangle) → IsPartition mesh cut face ps → IsPartition mesh cut face qs → ps ≡ qs
   one_list ps qs a b = ext_get_or (record { w = 0; h = 0; cells = [] }) ps qs many each

@@ -1,8 +1,7 @@
 -- Rows of cells in a full cut: they stay straight, stand one over the other with one width, and end.
 use Rattle.std.proofs.Common.{◌≡◌, ℕ, zero, suc, ◌<◌, ◌≤◌, true, false, Option, Some, None, sym, ◌∙◌, ap, subst, refl}
-use Rattle.std.proofs.Common.{inl, inr, true≢false, arith}
-use Rattle.std.proofs.lemmas.Bool.{false≢true, true_from_ne_false, false_from_ne_true}
-use Rattle.std.proofs.lemmas.Option.{same_Some}
+use Rattle.std.proofs.{Common.inl, Common.inr, Common.true≢false, Common.arith, lemmas.Bool.false≢true}
+use Rattle.std.proofs.{lemmas.Bool.true_from_ne_false, lemmas.Bool.false_from_ne_true, lemmas.Option.same_Some}
 use Rattle.def_mesh.specs.HalfEdges.{HalfEdges, Turns, IsQuadManifold}
 use Rattle.def_cut.specs.Cuts.{Cut, HasCross, GoesOn, IsCut}
 use Rattle.def_cut.specs.Steps.{or_zero, step_east, step_north, easts}
@@ -150,8 +149,7 @@ module _ (mesh : HalfEdges) (laws : IsQuadManifold mesh) (cut : Cut) (full : IsC
       (laws.prev_low d l) meets).0 ∙ on))
     where
       meets : mesh.from (mesh.prev d) ≡ mesh.from (step_north mesh d)
-      meets = ap mesh.from (prev_three mesh laws d)
-          ∙ sym (laws.twin_ends (mesh.next (mesh.next d)) (step_north mesh d)
+      meets = ap mesh.from (prev_three mesh laws d) ∙ sym (laws.twin_ends (mesh.next (mesh.next d)) (step_north mesh d)
           (laws.next_low (mesh.next d) (laws.next_low d l)) (north_twin d l off)).0
 
   -- The north edges on both sides of an east edge that is not cut are cut or not together.
@@ -234,18 +232,16 @@ module _ (mesh : HalfEdges) (laws : IsQuadManifold mesh) (cut : Cut) (full : IsC
   pub row_above : {s w : ℕ} → IsRow mesh cut s w → cut (mesh.next (mesh.next s)) ≡ false → (i : ℕ) → i < w
       → easts mesh (step_north mesh s) i ≡ step_north mesh (easts mesh s i)
   row_above row off zero l = refl
-  row_above {s} {w} row off (suc i) l = ap (step_east mesh) (row_above row off i (omega arith))
-      ∙ (square (easts mesh s i) (row_low s w row i (omega arith)) (row.inside i l)
-      (row_north_off row off i (omega arith))).1
+  row_above {s} {w} row off (suc i) l = ap (step_east mesh) (row_above row off i (omega arith)) ∙ (square
+      (easts mesh s i) (row_low s w row i (omega arith)) (row.inside i l) (row_north_off row off i (omega arith))).1
 
   pub next_row : (s w : ℕ) → IsRow mesh cut s w → cut (mesh.next (mesh.next s)) ≡ false
       → IsRow mesh cut (step_north mesh s) w
   next_row s w row off = record {
     wide = row.wide;
     low = north_low s row.low off;
-    inside = λ i l. ap (λ x. cut (mesh.next x)) (row_above row off i (omega arith))
-        ∙ (square (easts mesh s i) (row_low s w row i (omega arith)) (row.inside i l)
-        (row_north_off row off i (omega arith))).0;
+    inside = λ i l. ap (λ x. cut (mesh.next x)) (row_above row off i (omega arith)) ∙ (square (easts mesh s i)
+        (row_low s w row i (omega arith)) (row.inside i l) (row_north_off row off i (omega arith))).0;
     ends = λ i e. ap (λ x. cut (mesh.next x)) (row_above row off i (omega arith)) ∙ east_on (easts mesh s i)
         (row_low s w row i (omega arith)) (row.ends i e) (row_north_off row off i (omega arith));
   }
