@@ -1,32 +1,29 @@
 -- The new faces patch by patch: those of a patch stand one after the other, row by row.
 use Rattle.std.proofs.Common.{◌≡◌, ℕ, zero, suc, ◌+◌, ◌*◌, ◌/◌, ◌%◌, ◌<◌, List, [], ◌∷◌, ◌++◌, map, refl, sym, ◌∙◌, ap}
 use Rattle.std.proofs.Common.{ap₂, append_assoc, append-nil, arith}
-use Rattle.std.proofs.lemmas.Grind.{flat_map-append}
-use Rattle.std.proofs.lemmas.List.FromFn.{map-range_with_len_more}
+use Rattle.std.proofs.{lemmas.Grind.flat_map-append, lemmas.List.FromFn.map-range_with_len_more}
 use Rattle.std.specs.List.{flat_map, range_with_len}
-use Rattle.def_layout.specs.{Cells.CellDart, Cells.dart, Gluings.south, Gluings.Gluing, Lengths.Lengths, Lengths.wide}
-use Rattle.def_layout.specs.Lengths.{high}
+use Rattle.def_layout.specs.Lengths.{Lengths, wide, high}
+use Rattle.def_layout.specs.{Cells.CellDart, Cells.dart, Gluings.south, Gluings.Gluing}
 use Rattle.def_written.specs.NewFaces.{cell_in, cells_before, dart_of, patch_of}
 use Rattle.list_laws.proofs.Filters.{map_range_same}
 use Rattle.written_laws.proofs.Runs.{run_place}
 
 -- Numbers up to a sum are those up to its first term, and as many behind them as the other.
-range_join : {X : Type 0} (item : ℕ → X) (a n : ℕ)
-    → map item (range_with_len 0 (a + n)) ≡ map item (range_with_len 0 a)
-    ++ map (λ k. item (a + k)) (range_with_len 0 n)
+range_join : {X : Type 0} (item : ℕ → X) (a n : ℕ) → map item (range_with_len 0 (a + n))
+    ≡ map item (range_with_len 0 a) ++ map (λ k. item (a + k)) (range_with_len 0 n)
 range_join item a zero =
-    let e : a + zero ≡ a = omega arith in ap (λ k. map item (range_with_len 0 k)) e
-    ∙ sym (append-nil (map item (range_with_len 0 a)))
+    let e : a + zero ≡ a = omega arith in cc (append-nil (map item (range_with_len 0 a)))
 range_join item a (suc n) =
     let e : a + suc n ≡ a + n + 1 = omega arith in
     let one : n + 1 ≡ suc n = omega arith in
-    ap (λ k. map item (range_with_len 0 k)) e
-    ∙ map-range_with_len_more item 0 (a + n) (a + n) (omega arith)
-    ∙ ap (λ xs. xs ++ item (a + n) ∷ []) (range_join item a n)
-    ∙ append_assoc (map item (range_with_len 0 a)) (map (λ k. item (a + k)) (range_with_len 0 n)) (item (a + n) ∷ [])
-    ∙ ap (λ xs. map item (range_with_len 0 a) ++ xs)
-    (sym (map-range_with_len_more (λ k. item (a + k)) 0 n n (omega arith)))
-    ∙ ap (λ m. map item (range_with_len 0 a) ++ map (λ k. item (a + k)) (range_with_len 0 m)) one
+    cc (
+      map-range_with_len_more item 0 (a + n) (a + n) (omega arith),
+      range_join item a n,
+      append_assoc
+          (map item (range_with_len 0 a)) (map (λ k. item (a + k)) (range_with_len 0 n)) (item (a + n) ∷ []),
+      map-range_with_len_more (λ k. item (a + k)) 0 n n (omega arith),
+    )
 
 module _ (l : Gluing) (x : Lengths) where
   -- Cell k of a patch, counted row by row, by its south side.
@@ -44,7 +41,7 @@ module _ (l : Gluing) (x : Lengths) where
   }
     where
       patch : patch_of l x (cells_before l x p + k) ≡ p
-      patch = run_place (λ q. wide l x q * high l x q) l.patches p k low less
+      patch = run_place (λ q. wide l x q * high l x q) _ p k low less
 
       place : cell_in l x (cells_before l x p + k) ≡ k
       place = omega (arith, ap (cells_before l x) patch)
@@ -56,22 +53,19 @@ module _ (l : Gluing) (x : Lengths) where
       ≡ flat_map text (map (λ f. item (dart_of l x f south)) (range_with_len 0 (cells_before l x n)))
   by_patches item text zero low = refl
   by_patches item text (suc n) low =
+      let whole : ℕ
+      → List ℕ = λ p. flat_map text (map (λ k. item (cell_dart p k)) (range_with_len 0 (wide l x p * high l x p))) in
       let one : n + 1 ≡ suc n = omega arith in
       let w : ℕ = wide l x n * high l x n in
       ap (λ m. flat_map whole (map (λ p. p) (range_with_len 0 m))) (sym one)
       ∙ ap (flat_map whole) (map-range_with_len_more (λ p. p) 0 n n (omega arith))
-      ∙ flat_map-append whole (map (λ p. p) (range_with_len 0 n)) (n ∷ [])
-      ∙ ap₂ (λ (xs ys : List ℕ). xs ++ ys) (by_patches item text n (omega arith)) (append-nil (whole n)
-      ∙ ap (flat_map text) (here (omega arith)))
+      ∙ flat_map-append whole (map (λ p. p) (range_with_len 0 n)) (n ∷ []) ∙ ap₂ (λ (xs ys : List ℕ). xs ++ ys)
+      (by_patches item text n (omega arith)) (append-nil (whole n) ∙ ap (flat_map text) (here (omega arith)))
       ∙ sym (flat_map-append text (map (λ f. item (dart_of l x f south)) (range_with_len 0 (cells_before l x n)))
       (map (λ k. item (dart_of l x (cells_before l x n + k) south)) (range_with_len 0 w)))
       ∙ ap (flat_map text) (sym (range_join (λ f. item (dart_of l x f south)) (cells_before l x n) w))
     where
-      whole : ℕ → List ℕ
-      whole p = flat_map text (map (λ k. item (cell_dart p k)) (range_with_len 0 (wide l x p * high l x p)))
-
-      here : n < l.patches
-          → map (λ k. item (cell_dart n k)) (range_with_len 0 (wide l x n * high l x n))
+      here : n < l.patches → map (λ k. item (cell_dart n k)) (range_with_len 0 (wide l x n * high l x n))
           ≡ map (λ k. item (dart_of l x (cells_before l x n + k) south)) (range_with_len 0 (wide l x n * high l x n))
       here n_low = map_range_same (λ k. item (cell_dart n k)) (λ k. item (dart_of l x (cells_before l x n + k) south)) 0
           (wide l x n * high l x n) (λ k from less. ap item (sym (cell_is n k n_low (omega (arith, less)))))

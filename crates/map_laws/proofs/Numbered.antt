@@ -21,31 +21,29 @@ module _ (l : Gluing) (new : Lengths) where
 
   pub at_patch : (v : ℕ) → l.nodes + before_arc new l.arcs ≤ v
       → point_at l new v ≡ inside_patches l new (v - (l.nodes + before_arc new l.arcs))
-  at_patch v from = cond-false (nat_lt v l.nodes) _ _ (le-ltb _ _ (omega (arith, from))) ∙ cond-false
+  at_patch v from = cond-false (nat_lt v l.nodes) _ _ (le-ltb _ _ (omega arith)) ∙ cond-false
       (nat_lt v (l.nodes + before_arc new l.arcs)) _ _ (le-ltb _ _ from)
 
   along_is : (t : ℕ) → t < before_arc new l.arcs → IsPoint l new (along_arcs l new t)
   along_is t low =
-      let here = run_here (λ b. new b - 1) l.arcs t low in (here.low, omega arith, omega (arith, here.inside))
+      let here = run_here (λ b. new b - 1) _ t low in (here.low, omega arith, omega arith)
 
   inside_is : (t : ℕ) → t < before_patch l new l.patches → IsPoint l new (inside_patches l new t)
   inside_is t low =
-      let p : ℕ = run_at (before_patch l new) l.patches t in
+      let p = run_at (before_patch l new) l.patches t in
       let here : IsInRun (λ q. (wide l new q - 1) * (high l new q - 1)) l.patches t p (t - before_patch l new p) =
-      run_here (λ q. (wide l new q - 1) * (high l new q - 1)) l.patches t low in
+      run_here (λ q. (wide l new q - 1) * (high l new q - 1)) _ t low in
       let less : t - before_patch l new p < (high l new p - 1) * (wide l new p - 1) =
       subst (λ n. t - before_patch l new p < n) (mul_comm (wide l new p - 1) (high l new p - 1)) here.inside in
-      let at = in_rows (wide l new p - 1) (high l new p - 1) (t - before_patch l new p) less in
-      (here.low, omega arith, omega (arith, at.0), omega arith, omega (arith, at.1))
+      let at = in_rows _ _ _ less in
+      (here.low, omega arith, omega arith, omega arith, omega arith)
 
   -- Each number below that of the vertices is that of a point.
   pub is_point : (v : ℕ) → v < vertices l new → IsPoint l new (point_at l new v)
   is_point v low = elim (cases_lt v l.nodes) [
     | inl less ↦ subst (IsPoint l new) (sym (at_node v less)) less
     | inr le ↦ elim (cases_lt v (l.nodes + before_arc new l.arcs)) [
-      | inl less ↦ subst (IsPoint l new) (sym (at_arc v le less)) (along_is (v - l.nodes) (omega (arith, le, less)))
-      | inr past ↦
-          subst (IsPoint l new) (sym (at_patch v past)) (inside_is (v - (l.nodes + before_arc new l.arcs))
-          (omega (arith, past, low)))
+      | inl less ↦ subst (IsPoint l new) (sym (at_arc v le less)) (along_is _ (omega arith))
+      | inr past ↦ subst (IsPoint l new) (sym (at_patch v past)) (inside_is _ (omega arith))
     ]
   ]

@@ -1,25 +1,23 @@
 -- The old vertices at the points of a layout are those that the darts of the mesh leave there.
 use Rattle.std.proofs.Common.{◌≡◌, ℕ, ◌+◌, ◌<◌, true, length, refl, sym, ◌∙◌, ap, subst, arith}
-use Rattle.def_mesh.specs.{Darts.darts, Darts.next_of, Darts.from_of, Darts.to_of, HalfEdges.half_edges}
-use Rattle.def_mesh.specs.Vertices.{vertex_count}
+use Rattle.def_mesh.specs.Darts.{darts, next_of, from_of, to_of}
+use Rattle.def_mesh.specs.{HalfEdges.half_edges, Vertices.vertex_count}
 use Rattle.def_cut.specs.Grids.{cell_of, patch_at}
-use Rattle.def_layout.specs.{Arcs.dart_at, Arcs.long_at, Cells.CellDart, Cells.IsDart, Cells.dart, Cells.next}
-use Rattle.def_layout.specs.{Cells.slot_dart, Surfaces.IsSurface, Gluings.Way, Gluings.south, Gluings.east}
-use Rattle.def_layout.specs.Gluings.{north, west, Gluing, Slot, IsSlot, use_of}
-use Rattle.def_layout.specs.{Gluings.start_node, Lengths.Lengths, Lengths.wide, Lengths.high, Lengths.AreLengths}
-use Rattle.def_layout.specs.{Layouts.Layout, Layouts.gluing_of, Layouts.vertex_at, Embeddings.IsEmbedding}
-use Rattle.def_layout.specs.declared.tmesh.SideArc.{SideArc}
+use Rattle.def_layout.specs.Cells.{CellDart, IsDart, dart, next, slot_dart}
+use Rattle.def_layout.specs.Gluings.{Way, south, east, north, west, Gluing, Slot, IsSlot, use_of}
+use Rattle.def_layout.specs.Lengths.{Lengths, wide, high, AreLengths}
+use Rattle.def_layout.specs.{Arcs.dart_at, Arcs.long_at, Surfaces.IsSurface, Layouts.Layout, Layouts.gluing_of}
+use Rattle.def_layout.specs.{Layouts.vertex_at, Embeddings.IsEmbedding, declared.tmesh.SideArc.SideArc}
 use Rattle.def_layoutnet.specs.MeshLayouts.{IsSomeLayout}
-use Rattle.def_written.specs.{Laws.LiesInMesh, NewFaces.dart_start, Points.Point, Points.node, Points.along}
-use Rattle.def_written.specs.Points.{inside, IsPoint, arc_point, use_point, point}
+use Rattle.def_written.specs.Points.{Point, node, along, inside, IsPoint, arc_point, use_point, point}
+use Rattle.def_written.specs.{Laws.LiesInMesh, NewFaces.dart_start}
 use Rattle.def_remesh.specs.NewPoints.{old_vertex}
 use Rattle.mesh_laws.proofs.{HalfEdges.manifold_law, Vertices.all_below}
-use Rattle.embedding_laws.proofs.{Lies.cell_dart, LayoutLies.in_mesh as sides_in_mesh, MeshLayouts.lies}
-use Rattle.embedding_laws.proofs.{MeshLayouts.laid_of}
-use Rattle.embedding_laws.proofs.MeshLayouts.{lengths_of}
-use Rattle.written_laws.proofs.{Borders.at_is, Borders.at_from, Borders.at_to, Borders.from_is, Grid.point_inside}
-use Rattle.written_laws.proofs.{NewDarts.next_is, OldModel.old_model, Sided.starts, Sides.use_begins, Sides.use_some}
-use Rattle.written_laws.proofs.Sides.{arc_inner}
+use Rattle.embedding_laws.proofs.MeshLayouts.{lies, laid_of, lengths_of}
+use Rattle.embedding_laws.proofs.{Lies.cell_dart, LayoutLies.in_mesh as sides_in_mesh}
+use Rattle.written_laws.proofs.Borders.{at_is, at_from, at_to, from_is}
+use Rattle.written_laws.proofs.Sides.{use_begins, use_some, arc_inner}
+use Rattle.written_laws.proofs.{Grid.point_inside, NewDarts.next_is, OldModel.old_model, Sided.starts}
 
 module _ (layout : Layout) (is : IsSomeLayout layout) where
   abbrev l : Gluing
@@ -51,34 +49,28 @@ module _ (layout : Layout) (is : IsSomeLayout layout) where
 
   alike : (d e : CellDart) → IsDart l x d → IsDart l x e → dart_start l x d ≡ dart_start l x e
       → from_of is.faces (cell d) ≡ from_of is.faces (cell e)
-  alike d e is_d is_e same =
-      (old_model is.faces in_mesh.manifold l x in_mesh.paved in_mesh.lengths cell (vertex_at layout)
-      (dart_at layout.arcs)
-      sided in_mesh.quads).alike
-      d e is_d is_e same
+  alike d e is_d is_e same = (old_model is.faces in_mesh.manifold l x in_mesh.paved in_mesh.lengths cell
+      (vertex_at layout) (dart_at layout.arcs) sided in_mesh.quads).alike d e is_d is_e same
 
   -- At each point a dart leaves the old vertex.
-  point_vertex : (a : Point) → IsPoint l x a
-      → (d : CellDart) × IsDart l x d × (dart_start l x d ≡ a)
+  point_vertex : (a : Point) → IsPoint l x a → (d : CellDart) × IsDart l x d × (dart_start l x d ≡ a)
       × (from_of is.faces (cell d) ≡ old_vertex is.faces layout a)
   point_vertex (node n) low =
-      let r : (w : Slot) × IsSlot l w × (start_node l (use_of l w) ≡ n) = laid.reached n low in
-      let some : 0 < x (use_of l r.0).arc = use_some l x laid.paved len r.0 r.1 in (
+      let r = laid.reached n low in
+      let some = use_some l x laid.paved len r.0 r.1 in (
         slot_dart l x r.0 0,
         at_is l x laid.paved len r.0 0 r.1 some,
-        at_from l x laid len r.0 0 r.1 some ∙ use_begins l x (use_of l r.0) some ∙ ap node r.2,
-        starts (half_edges is.faces) (manifold_law is.faces in_mesh.manifold) l x in_mesh.paved in_mesh.lengths cell
-            (vertex_at layout) (dart_at layout.arcs) sided r.0 r.1 ∙ ap (vertex_at layout) r.2,
+        cc (at_from l x laid len r.0 0 r.1 some, use_begins l x (use_of l r.0) some),
+        cc (starts (half_edges is.faces) (manifold_law is.faces in_mesh.manifold) l x in_mesh.paved in_mesh.lengths
+            cell (vertex_at layout) (dart_at layout.arcs) sided r.0 r.1),
       )
   point_vertex (along a k) low =
-      let f : (w : Slot) × IsSlot l w × (use_of l w ≡ record { arc = a; forward = true }) = laid.forward a low.0 in
-      let less : k < x (use_of l f.0).arc = omega (arith, low.2, ap (λ (u : SideArc). x u.arc) f.2) in (
+      let f = laid.forward a low.0 in
+      let less : k < x (use_of l f.0).arc = omega (arith, ap (λ (u : SideArc). x u.arc) f.2) in (
         slot_dart l x f.0 k,
         at_is l x laid.paved len f.0 k f.1 less,
-        at_from l x laid len f.0 k f.1 less ∙ ap (λ (u : SideArc). use_point l x u k) f.2
-            ∙ arc_inner l x a k low.1 low.2,
-        ap (from_of is.faces) (sided.ahead f.0 k f.1 less (ap (λ (u : SideArc). u.forward) f.2)
-            ∙ ap (λ (u : SideArc). dart_at layout.arcs u.arc k) f.2),
+        cc (at_from l x laid len f.0 k f.1 less, arc_inner l x a k low.1 low.2),
+        ap (from_of is.faces) (cc (sided.ahead f.0 k f.1 less (ap (λ (u : SideArc). u.forward) f.2))),
       )
   point_vertex (inside p i j) low = (
     dart p i j south,
@@ -114,18 +106,19 @@ module _ (layout : Layout) (is : IsSomeLayout layout) where
     pub north_west : old_vertex is.faces layout (point (gluing_of layout) (long_at layout.arcs) p a (b + 1))
         ≡ from_of is.faces (next_of (next_of (next_of d)))
 
-  pub corners : (p a b : ℕ) → p < length layout.patches → a < wide (gluing_of layout) (long_at layout.arcs) p
-      → b < high (gluing_of layout) (long_at layout.arcs) p
-      → AreCorners p a b (cell_of (patch_at layout.patches p) a b)
+  pub corners : (p a b : ℕ) → p < length layout.patches → a < wide (gluing_of layout) (long_at layout.arcs) p → b
+      < high (gluing_of layout) (long_at layout.arcs) p → AreCorners p a b (cell_of (patch_at layout.patches p) a b)
   corners p a b p_low a_low b_low = record {
     low = sided.low (dart p a b south) (at south);
     south_west = old_from (dart p a b south) (at south);
-    south_east = old_from (dart p a b east) (at east) ∙ ap (from_of is.faces) (next_cell (dart p a b south));
-    north_east = old_from (dart p a b north) (at north)
-        ∙ ap (from_of is.faces) (next_cell (dart p a b east) ∙ ap next_of (next_cell (dart p a b south)));
-    north_west = old_from (dart p a b west) (at west)
-        ∙ ap (from_of is.faces) (next_cell (dart p a b north)
-        ∙ ap next_of (next_cell (dart p a b east) ∙ ap next_of (next_cell (dart p a b south))));
+    south_east = cc (old_from (dart p a b east) (at east), next_cell (dart p a b south));
+    north_east = cc (old_from (dart p a b north) (at north), next_cell (dart p a b east), next_cell (dart p a b south));
+    north_west = cc (
+      old_from (dart p a b west) (at west),
+      next_cell (dart p a b north),
+      next_cell (dart p a b east),
+      next_cell (dart p a b south),
+    );
   }
     where
       at : (w : Way) → IsDart l x (dart p a b w)

@@ -1,39 +1,35 @@
 -- The parameters of the places of sides and of grid points: at the ends of sides, and how large they are.
-use Rattle.std.proofs.Common.{◌≡◌, ℕ, zero, suc, ◌+◌, ◌-◌, ◌*◌, ◌/◌, ◌<◌, ◌≤◌, Bool, not, ◌∙◌, ap, inl, inr, arith}
-use Rattle.std.proofs.lemmas.Bool.{cases_eq, cases_lt}
-use Rattle.std.proofs.lemmas.Nat.{mul-le}
-use Rattle.def_layout.specs.{Surfaces.IsSurface, declared.tmesh.SideArc.SideArc, Gluings.Way, Gluings.south}
-use Rattle.def_layout.specs.{Gluings.east, Gluings.north, Gluings.west, Gluings.Gluing, Lengths.Lengths, Lengths.reach}
-use Rattle.def_layout.specs.Lengths.{size, wide, high, AreLengths}
+use Rattle.std.proofs.Common.{◌≡◌, ℕ, zero, suc, ◌+◌, ◌-◌, ◌*◌, ◌/◌, ◌<◌, ◌≤◌, not, ◌∙◌, ap, inl, inr, arith}
+use Rattle.std.proofs.{lemmas.Bool.cases_eq, lemmas.Bool.cases_lt, lemmas.Nat.mul-le}
+use Rattle.def_layout.specs.Gluings.{Way, south, east, north, west, Gluing}
+use Rattle.def_layout.specs.Lengths.{Lengths, reach, size, wide, high, AreLengths}
+use Rattle.def_layout.specs.{Surfaces.IsSurface, declared.tmesh.SideArc.SideArc}
 use Rattle.def_written.specs.Places.{ONE, parameter, parameter_back, parameter_u, parameter_v, rest_at, ArcSpacing}
-use Rattle.def_written.specs.Spacings.{IsSpacing}
-use Rattle.def_written.specs.Points.{inside, offset_at, use_over, IsPoint}
-use Rattle.written_laws.proofs.{Grid.high_some, Grid.wide_some, Runs.count_rises, Runs.run_last, Runs.run_place}
-use Rattle.written_laws.proofs.{Spacings.div_less, Sides.first_slot, Sides.last_reach, Sides.long_at, Sides.place_on}
-use Rattle.written_laws.proofs.Sides.{slot, use_some, IsOn}
+use Rattle.def_written.specs.{Spacings.IsSpacing, Points.inside, Points.offset_at, Points.use_over, Points.IsPoint}
+use Rattle.written_laws.proofs.Runs.{count_rises, run_last, run_place}
+use Rattle.written_laws.proofs.Sides.{first_slot, last_reach, long_at, place_on, slot, use_some, IsOn}
+use Rattle.written_laws.proofs.{Grid.high_some, Grid.wide_some, Spacings.div_less}
 
 -- What is left of a parameter in an old column or row.
 pub rest_less : (n u : ℕ) → 0 < n → u < ONE * n → rest_at n u < ONE
-rest_less n u some less = omega (arith, less)
+rest_less n u some less = omega arith
 
 -- A mean of two numbers below a bound lies below it.
 mean_less : (a b m h j : ℕ) → 0 < h → j ≤ h → a < m → b < m → (a * (h - j) + b * j) / h < m
 mean_less a b m h j some le a_low b_low =
+    let by_parts : (k : ℕ) → (a + 1) * k ≤ m * k → (b + 1) * j ≤ m * j → m * (k + j) ≡ m * h → k + j ≡ h → a * k + b * j
+    < m * h = λ k a_le b_le same whole. omega (arith, a_le, b_le, same, whole, some) in
     let e : (a + 1) * (h - j) ≤ m * (h - j) = mul-le (a + 1) (h - j) m (h - j) (omega arith) (omega arith) in
     let f : (b + 1) * j ≤ m * j = mul-le (b + 1) j m j (omega arith) (omega arith) in
     let s : h - j + j ≡ h = omega arith in
     let g : m * (h - j + j) ≡ m * h = ap (λ n. m * n) s in
     div_less (a * (h - j) + b * j) m h some (by_parts (h - j) e f g s)
-  where
-    by_parts : (k : ℕ) → (a + 1) * k ≤ m * k → (b + 1) * j ≤ m * j → m * (k + j) ≡ m * h → k + j ≡ h
-        → a * k + b * j < m * h
-    by_parts k a_le b_le same whole = omega (arith, a_le, b_le, same, whole, some)
 
 module _ (l : Gluing) (old new : Lengths) (spacing : ArcSpacing) (laid : IsSurface l) (o_len : AreLengths l old)
     (n_len : AreLengths l new) (spaced : IsSpacing l old new spacing) where
   -- The last arc of a side lies at its end.
   over_end : (p : ℕ) (s : Way) → p < l.patches → use_over l new p s (size l new p s) ≡ l.many p s - 1
-  over_end p s low = run_last (reach l new p s) (l.many p s) (size l new p s) (laid.paved.sides_full p s low)
+  over_end p s low = run_last _ _ _ (laid.paved.sides_full p s low)
       (omega (arith, last_reach l new laid.paved n_len p s low))
 
   last_low : (p : ℕ) (s : Way) → p < l.patches → (l.use_at p s (l.many p s - 1)).arc < l.arcs
@@ -44,7 +40,7 @@ module _ (l : Gluing) (old new : Lengths) (spacing : ArcSpacing) (laid : IsSurfa
   pub ahead_end : (p : ℕ) (s : Way) → p < l.patches → parameter l old new spacing p s (size l new p s)
       ≡ ONE * size l old p s
   ahead_end p s low =
-      let used : SideArc = l.use_at p s (l.many p s - 1) in
+      let used = l.use_at p s (l.many p s - 1) in
       let rest : size l new p s - reach l new p s (l.many p s - 1) ≡ new used.arc =
       omega (arith, last_reach l new laid.paved n_len p s low) in
       ap (λ m. ONE * reach l old p s m + spacing.parameter_of (l.use_at p s m).arc (l.use_at p s m).forward
@@ -55,7 +51,7 @@ module _ (l : Gluing) (old new : Lengths) (spacing : ArcSpacing) (laid : IsSurfa
   -- Counted from the end of the side it is 0 there,
   pub back_end : (p : ℕ) (s : Way) → p < l.patches → parameter_back l old new spacing p s (size l new p s) ≡ 0
   back_end p s low =
-      let used : SideArc = l.use_at p s (l.many p s - 1) in
+      let used = l.use_at p s (l.many p s - 1) in
       let none : new used.arc - (size l new p s - reach l new p s (l.many p s - 1)) ≡ 0 =
       omega (arith, last_reach l new laid.paved n_len p s low) in
       let e : l.many p s - 1 + 1 ≡ l.many p s = omega (arith, laid.paved.sides_full p s low) in
@@ -65,23 +61,21 @@ module _ (l : Gluing) (old new : Lengths) (spacing : ArcSpacing) (laid : IsSurfa
       (new (l.use_at p s m).arc - (size l new p s - reach l new p s m))) (over_end p s low)
       ∙ ap (λ o. ONE * (size l old p s - reach l old p s (l.many p s - 1 + 1))
       + spacing.parameter_of used.arc (not used.forward) o) none
-      ∙ omega (arith, spaced.begins used.arc (not used.forward) (last_low p s low), whole)
+      ∙ omega (arith, spaced.begins used.arc (not used.forward) (last_low p s low))
 
   -- and the old length at its beginning.
   pub back_begin : (p : ℕ) (s : Way) → p < l.patches → parameter_back l old new spacing p s 0 ≡ ONE * size l old p s
   back_begin p s low =
       let first = first_slot l new laid.paved n_len p s low in
-      let used : SideArc = l.use_at p s 0 in
-      let over : use_over l new p s 0 ≡ 0 = run_place (long_at l new p s) (l.many p s) 0 0 first.low
-      (use_some l new laid.paved n_len (slot p s 0) first) in
-      let upto : reach l old p s 1 ≤ size l old p s =
-      count_rises (long_at l old p s) 1 (l.many p s) (omega (arith, first.low)) in
+      let used = l.use_at p s 0 in
+      let over = run_place _ _ 0 0 first.low (use_some l new laid.paved n_len (slot p s 0) first) in
+      let upto : reach l old p s 1 ≤ size l old p s = count_rises _ 1 _ (omega arith) in
       let same : new used.arc - (0 - reach l new p s 0) ≡ new used.arc = omega arith in
       ap (λ m. ONE * (size l old p s - reach l old p s (m + 1))
       + spacing.parameter_of (l.use_at p s m).arc (not (l.use_at p s m).forward)
       (new (l.use_at p s m).arc - (0 - reach l new p s m))) over
       ∙ ap (λ k. ONE * (size l old p s - reach l old p s 1) + spacing.parameter_of used.arc (not used.forward) k) same
-      ∙ omega (arith, spaced.ends used.arc (not used.forward) (laid.paved.arc_low (slot p s 0) first), upto)
+      ∙ omega (arith, spaced.ends used.arc (not used.forward) (laid.paved.arc_low (slot p s 0) first))
 
   -- Before the end of a side the parameter is below its old length.
   ahead_less : (p : ℕ) (s : Way) (t : ℕ) → p < l.patches → t < size l new p s
@@ -98,10 +92,8 @@ module _ (l : Gluing) (old new : Lengths) (spacing : ArcSpacing) (laid : IsSurfa
 
   -- So it is behind its beginning, where it is counted from the end.
   back_less : (p : ℕ) (s : Way) (t : ℕ) → p < l.patches → 0 < t → t < size l new p s
-      → parameter_back l old new spacing p s t
-      < ONE * size l old p s
-  back_less p s t low some less =
-      by_offset (use_over l new p s t) (offset_at l new p s t) (place_on l new p s t low less)
+      → parameter_back l old new spacing p s t < ONE * size l old p s
+  back_less p s t low some less = by_offset _ _ (place_on l new p s t low less)
     where
       first : 0 < reach l old p s 1
       first = omega (arith, use_some l old laid.paved o_len (slot p s 0) (first_slot l old laid.paved o_len p s low))
@@ -112,29 +104,27 @@ module _ (l : Gluing) (old new : Lengths) (spacing : ArcSpacing) (laid : IsSurfa
           < ONE * size l old p s
       by_offset m o on =
           let a : ℕ = (l.use_at p s m).arc in
-          let turned : Bool = not (l.use_at p s m).forward in
-          let a_low : a < l.arcs = laid.paved.arc_low (slot p s m) on.is_slot in
+          let turned = not (l.use_at p s m).forward in
+          let a_low = laid.paved.arc_low (slot p s m) on.is_slot in
           let next : reach l old p s (m + 1) ≡ reach l old p s m + old a =
           (let e : m + 1 ≡ suc m = omega arith in ap (reach l old p s) e) in
-          let upto : reach l old p s (m + 1) ≤ size l old p s =
-          count_rises (long_at l old p s) (m + 1) (l.many p s) (omega (arith, on.is_slot.low)) in
+          let upto : reach l old p s (m + 1) ≤ size l old p s = count_rises _ _ _ (omega arith) in
           elim (cases_eq o 0) [
             | inl e ↦
                 let whole : spacing.parameter_of a turned (new a - o) ≡ ONE * old a =
                 (let same : new a - o ≡ new a = omega arith in
-                ap (spacing.parameter_of a turned) same ∙ spaced.ends a turned a_low) in
-                let later : 0 < m = later_arc m o e on in
-                let before : reach l old p s 1 ≤ reach l old p s m =
-                count_rises (long_at l old p s) 1 m (omega arith) in
+                cc (spaced.ends a turned a_low)) in
+                let later = later_arc m o e on in
+                let before : reach l old p s 1 ≤ reach l old p s m = count_rises _ 1 m (omega arith) in
                 omega (arith, next, upto, whole, before, first)
             | inr ne ↦
                 let part : spacing.parameter_of a turned (new a - o) < ONE * old a =
-                spaced.below a turned (new a - o) a_low (omega (arith, on.inside)) in
-                omega (arith, next, upto, part)
+                spaced.below a turned _ a_low (omega arith) in
+                omega arith
           ]
         where
           later_arc : (k q : ℕ) → q ≡ 0 → IsOn l new p s t k q → 0 < k
-          later_arc zero q none here = absurd (omega (arith, here.place, none, some))
+          later_arc zero q none here = absurd (omega arith)
           later_arc (suc k) q none here = omega arith
 
   -- Parameters are at most the old length.
@@ -161,8 +151,8 @@ module _ (l : Gluing) (old new : Lengths) (spacing : ArcSpacing) (laid : IsSurfa
   pub u_less : (p i j : ℕ) → IsPoint l new (inside p i j) → parameter_u l old new spacing p i j < ONE * wide l old p
   u_less p i j is =
       mean_less (parameter l old new spacing p south i) (parameter_back l old new spacing p north (wide l new p - i))
-      (ONE * wide l old p) (high l new p) j
-      (omega (arith, is.3, is.4)) (omega (arith, is.4)) (ahead_less p south i is.0 is.2)
+      (ONE * wide l old p) (high l new p) j (omega (arith, is.3, is.4)) (omega (arith, is.4))
+      (ahead_less p south i is.0 is.2)
       (omega (
         arith,
         o_len.across p is.0,
@@ -171,32 +161,29 @@ module _ (l : Gluing) (old new : Lengths) (spacing : ArcSpacing) (laid : IsSurfa
       ))
 
   pub v_less : (p i j : ℕ) → IsPoint l new (inside p i j) → parameter_v l old new spacing p i j < ONE * high l old p
-  v_less p i j is = mean_less (parameter_back l old new spacing p west (high l new p - j))
-      (parameter l old new spacing p east j) (ONE * high l old p) (wide l new p) i (omega (arith, is.1, is.2))
-      (omega (arith, is.2)) (back_less p west (high l new p - j) is.0 (omega (arith, is.4)) (omega (arith, is.3, is.4)))
-      (omega (arith, o_len.upright p is.0, ahead_less p east j is.0 (omega (arith, is.4, n_len.upright p is.0))))
+  v_less p i j is = mean_less _ _ _ _ i (omega arith) (omega arith)
+      (back_less p west _ is.0 (omega arith) (omega arith))
+      (omega (arith, o_len.upright p is.0, ahead_less p east j is.0 (omega (arith, n_len.upright p is.0))))
 
   -- Those of any grid point are at most that.
   pub u_upto : (p i j : ℕ) → p < l.patches → i ≤ wide l new p → j ≤ high l new p
       → parameter_u l old new spacing p i j ≤ ONE * wide l old p
   u_upto p i j low i_le j_le =
       let less : parameter_u l old new spacing p i j < ONE * wide l old p + 1 =
-      mean_less (parameter l old new spacing p south i) (parameter_back l old new spacing p north (wide l new p - i))
-      (ONE * wide l old p + 1) (high l new p) j
+      mean_less _ _
+      _ _ j
       (high_some l new laid.paved n_len p low) j_le (omega (arith, ahead_most p south i low i_le))
       (omega (
         arith,
         o_len.across p low,
         back_most p north (wide l new p - i) low (omega (arith, n_len.across p low)),
       )) in
-      omega (arith, less)
+      omega arith
 
   pub v_upto : (p i j : ℕ) → p < l.patches → i ≤ wide l new p → j ≤ high l new p
       → parameter_v l old new spacing p i j ≤ ONE * high l old p
   v_upto p i j low i_le j_le =
-      let less : parameter_v l old new spacing p i j < ONE * high l old p + 1 = mean_less
-      (parameter_back l old new spacing p west (high l new p - j)) (parameter l old new spacing p east j)
-      (ONE * high l old p + 1) (wide l new p) i (wide_some l new laid.paved n_len p low) i_le
-      (omega (arith, back_most p west (high l new p - j) low (omega arith)))
-      (omega (arith, o_len.upright p low, ahead_most p east j low (omega (arith, n_len.upright p low, j_le)))) in
-      omega (arith, less)
+      let less : parameter_v l old new spacing p i j < ONE * high l old p + 1 = mean_less _ _ _ _ i (wide_some l new
+      laid.paved n_len p low) i_le (omega (arith, back_most p west (high l new p - j) low (omega arith)))
+      (omega (arith, o_len.upright p low, ahead_most p east j low (omega (arith, n_len.upright p low)))) in
+      omega arith

@@ -13,14 +13,13 @@ module _ (layout : Layout) (is : IsSomeLayout layout) (new : Lengths) (len : Are
   short : (arc : ℕ) → arc < length layout.arcs → new arc ≤ ONE
   short arc low = omega (
     arith,
-    few,
     vertices_few (gluing_of layout) new (laid_of layout is) len,
-    count_rises (λ a. new a - 1) (suc arc) (length layout.arcs) (omega (arith, low)),
+    count_rises
+        (λ a. new a - 1) (suc arc) (length layout.arcs) (omega (arith, low)),
   )
 
   pub spacing_is : (shares : Option (List ℕ))
       → IsSpacing (gluing_of layout) (long_at layout.arcs) new (spacing_by layout shares new)
   spacing_is None = even_law (gluing_of layout) (long_at layout.arcs) new (lengths_of layout is) len
-  spacing_is (Some shares) =
-      shared_law (gluing_of layout) (long_at layout.arcs) new (shares_along layout shares) (lengths_of layout is) len
-      short
+  spacing_is (Some shares) = shared_law (gluing_of layout) (long_at layout.arcs) new (shares_along layout shares)
+      (lengths_of layout is) len short

@@ -1,8 +1,8 @@
 -- New vertices lie in the old mesh, and have the places that are computed from there.
-use Rattle.std.proofs.Common.{◌≡◌, ℕ, ◌<◌, List, length, Option, refl, sym, subst, arith}
+use Rattle.std.proofs.Common.{subst, ◌≡◌, ℕ, ◌<◌, List, length, Option, refl, sym, arith}
 use Rattle.def_cut.specs.Grids.{cell_of, patch_at}
-use Rattle.def_layout.specs.{Arcs.dart_at, Arcs.long_at, Gluings.Gluing, Lengths.Lengths, Lengths.wide, Lengths.high}
-use Rattle.def_layout.specs.{Lengths.AreLengths, Layouts.Layout, Layouts.gluing_of}
+use Rattle.def_layout.specs.Lengths.{Lengths, wide, high, AreLengths}
+use Rattle.def_layout.specs.{Arcs.dart_at, Arcs.long_at, Gluings.Gluing, Layouts.Layout, Layouts.gluing_of}
 use Rattle.def_layoutnet.specs.MeshLayouts.{IsSomeLayout}
 use Rattle.def_mesh.specs.Faces.{Faces}
 use Rattle.def_text.specs.Types.{Positions}
@@ -10,11 +10,10 @@ use Rattle.def_written.specs.Places.{blend, cell_at, on_the_way, parameter_u, pa
 use Rattle.def_written.specs.Spacings.{IsSpacing}
 use Rattle.def_written.specs.Points.{Point, node, along, inside, IsPoint}
 use Rattle.def_remesh.specs.{NewPoints.point_at, NewSoup.new_coordinate, NewSoup.spaced_place, Spaced.spacing_by}
-use Rattle.def_map.specs.{Laws.IsSpot, Laws.SpotLaw, SpotPlaces.coordinate_at, SpotPlaces.on_axes}
-use Rattle.def_map.specs.{SpotPlaces.spot_place, Spots.spot_at, Spots.spot_of}
-use Rattle.map_laws.proofs.Numbered.{is_point}
+use Rattle.def_map.specs.SpotPlaces.{coordinate_at, on_axes, spot_place}
+use Rattle.def_map.specs.{Laws.IsSpot, Laws.SpotLaw, Spots.spot_at, Spots.spot_of}
 use Rattle.map_laws.proofs.OldPoints.{corners, ends, old_low, AreCorners, AreEnds}
-use Rattle.map_laws.proofs.Parameters.{rest_less, u_less, v_less}
+use Rattle.map_laws.proofs.{Numbered.is_point, Parameters.rest_less, Parameters.u_less, Parameters.v_less}
 use Rattle.embedding_laws.proofs.MeshLayouts.{laid_of, lengths_of}
 use Rattle.written_laws.proofs.Grid.{wide_some, high_some}
 
@@ -47,7 +46,7 @@ module _ (layout : Layout) (is : IsSomeLayout layout) (shares : Option (List ℕ
   }
     where
       e : AreEnds layout is arc (spacing.step arc k).edge (dart_at layout.arcs arc (spacing.step arc k).edge)
-      e = ends layout is arc (spacing.step arc k).edge low (spaced.edges arc k low less)
+      e = ends layout is arc _ low (spaced.edges arc k low less)
 
   -- A point of a patch.
   in_cell : (patch i j : ℕ) → IsPoint l new (inside patch i j) → IsSpotOf is.faces layout shares new (inside patch i j)
@@ -88,12 +87,7 @@ module _ (layout : Layout) (is : IsSomeLayout layout) (shares : Option (List ℕ
 
 pub spot_law : SpotLaw
 spot_law faces layout shares new (is, same) len spaced v low =
-    by_point (subst (λ (F : Faces). IsSpotOf F layout shares new (point_at (gluing_of layout) new v)) same
-    (spot_is layout is shares new len spaced (point_at (gluing_of layout) new v)
-    (is_point (gluing_of layout) new v low)))
-  where
-    by_point : IsSpotOf faces layout shares new (point_at (gluing_of layout) new v)
-        → IsSpot faces (spot_at layout shares new v)
-        × ((places : Positions) → spot_place faces places (spot_at layout shares new v)
-        ≡ spaced_place faces layout places shares new v)
-    by_point at = (at.within, at.place)
+    let point = point_at (gluing_of layout) new v in
+    let at = subst (λ (F : Faces). IsSpotOf F layout shares new (point_at (gluing_of layout) new v)) same
+    (spot_is layout is shares new len spaced point (is_point (gluing_of layout) new v low)) in
+    (at.within, at.place)
