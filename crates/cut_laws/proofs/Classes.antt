@@ -1,7 +1,6 @@
 -- Classes of faces that are joined over edges that are not cut: each is one grid, and has one patch.
-use Rattle.std.proofs.Common.{◌≡◌, ℕ, zero, suc, ◌-◌, ◌<◌, ◌≤◌, true, false, Some, sym, ◌∙◌, ap, subst, refl, inl, inr}
-use Rattle.std.proofs.Common.{true≢false, arith}
-use Rattle.std.proofs.{lemmas.Bool.cases_eq, lemmas.Bool.cases_order, lemmas.Option.same_Some}
+use Rattle.std.proofs.Common.{◌≡◌, ℕ, zero, suc, ◌-◌, ◌<◌, ◌≤◌, true, false, Some, sym, ◌∙◌, ap, refl, inl, inr}
+use Rattle.std.proofs.{Common.true≢false, Common.arith, lemmas.Bool.cases_eq, lemmas.Bool.cases_order}
 use Rattle.def_mesh.specs.HalfEdges.{HalfEdges, IsQuadManifold}
 use Rattle.def_cut.specs.Cuts.{Cut, Links, IsCorner, IsCut}
 use Rattle.def_cut.specs.{Grids.Cells, Grids.IsGrid, Grids.IsPatch, Steps.spin}
@@ -34,8 +33,8 @@ module _ (mesh : HalfEdges) (laws : IsQuadManifold mesh) (cut : Cut) where
   links_join d e f a b = along b.0 f b.1
     where
       along : (n x : ℕ) → Links mesh cut e x n → AreLinked mesh cut d x
-      along zero x l = subst (λ (y : ℕ). AreLinked mesh cut d y) l a
-      along (suc n) x l = let r : AreLinked mesh cut d l.0 = along n l.0 l.1 in (suc r.0, (l.0, r.1, l.2))
+      along zero x l = rw (← l) a
+      along (suc n) x l = let r = along n l.0 l.1 in (suc r.0, (l.0, r.1, l.2))
 
   pub step_next : (d e : ℕ) → AreLinked mesh cut d e → AreLinked mesh cut d (mesh.next e)
   step_next d e a = (suc a.0, (e, a.1, inl refl))
@@ -44,15 +43,14 @@ module _ (mesh : HalfEdges) (laws : IsQuadManifold mesh) (cut : Cut) where
   step_over d e t a off is = (suc a.0, (e, a.1, inr (off, is)))
 
   pub step_prev : (d e : ℕ) → AreLinked mesh cut d e → AreLinked mesh cut d (mesh.prev e)
-  step_prev d e a =
-      rw (prev_three mesh laws e) (step_next d (mesh.next (mesh.next e)) (step_next d (mesh.next e) (step_next d e a)))
+  step_prev d e a = rw (prev_three mesh laws e) (step_next d _ (step_next d _ (step_next d e a)))
 
   pub step_spin : (d e k : ℕ) → AreLinked mesh cut d e → AreLinked mesh cut d (spin mesh k e)
   step_spin d e zero a = a
-  step_spin d e (suc k) a = step_next d (spin mesh k e) (step_spin d e k a)
+  step_spin d e (suc k) a = step_next d _ (step_spin d e k a)
 
   pub links_low : (d e n : ℕ) → d < mesh.count → Links mesh cut d e n → e < mesh.count
-  links_low d e zero l a = subst (λ (x : ℕ). x < mesh.count) a l
+  links_low d e zero l a = rw (← a) l
   links_low d e (suc n) l a =
       let low = links_low d a.0 n l a.1 in
       elim a.2 [ inl s ↦ rw s (laws.next_low a.0 low) | inr o ↦ laws.twin_low a.0 e low o.1 ]
@@ -66,7 +64,8 @@ module _ (mesh : HalfEdges) (laws : IsQuadManifold mesh) (cut : Cut) (full : IsC
       let back = links_back d c n l a.1 in
       links_join mesh laws cut e c d (elim a.2 [
         | inl s ↦ rw (ap mesh.prev s ∙ laws.prev_next a.0) at (step_prev mesh laws cut e e (0, refl))
-        | inr o ↦ step_over mesh laws cut e e a.0 (0, refl) (full.alike a.0 e lc o.1 ∙ o.0) (laws.twin_twin a.0 e lc o.1)
+        | inr o ↦ step_over mesh laws cut e e a.0 (0, refl) (full.alike a.0 e lc o.1 ∙ o.0)
+            (laws.twin_twin a.0 e lc o.1)
       ]) back
 
   pub linked_back : (d e : ℕ) → d < mesh.count → AreLinked mesh cut d e → AreLinked mesh cut e d
@@ -82,11 +81,11 @@ module _ (mesh : HalfEdges) (laws : IsQuadManifold mesh) (cut : Cut) (full : IsC
       where
         spun : (k : ℕ) → spin mesh k (cell i.1.a i.1.b) < mesh.count
         spun zero = grid.low i.1.a i.1.b i.1.a_low i.1.b_low
-        spun (suc k) = laws.next_low (spin mesh k (cell i.1.a i.1.b)) (spun k)
+        spun (suc k) = laws.next_low _ (spun k)
 
     -- A class that meets the grid stays in it.
     pub closed : (d e n : ℕ) → Links mesh cut d e n → In mesh w h cell d → In mesh w h cell e
-    closed d e zero l i = subst (λ (x : ℕ). In mesh w h cell x) l i
+    closed d e zero l i = rw (← l) i
     closed d e (suc n) l i =
         let at = closed d l.0 n l.1 i in
         elim l.2 [
@@ -98,20 +97,17 @@ module _ (mesh : HalfEdges) (laws : IsQuadManifold mesh) (cut : Cut) (full : IsC
     linked_east : (i : ℕ) → i < w → AreLinked mesh cut (cell 0 0) (cell i 0)
     linked_east zero l = (0, refl)
     linked_east (suc i) l =
-        let over = step_over mesh laws cut (cell 0 0) (mesh.next (cell i 0)) (mesh.prev (cell (suc i) 0))
-        (step_next mesh laws cut (cell 0 0) (cell i 0) (linked_east i (omega arith))) (grid.east_open i 0 l grid.tall)
-        (grid.east i 0 l grid.tall) in
-        rw (laws.next_prev (cell (suc i) 0)) at (step_next mesh laws cut (cell 0 0) (mesh.prev (cell (suc i) 0)) over)
+        let over = step_over mesh laws cut _ _ _ (step_next mesh laws cut _ _ (linked_east i (omega arith)))
+        (grid.east_open i 0 l grid.tall) (grid.east i 0 l grid.tall) in
+        rw (laws.next_prev _) at (step_next mesh laws cut _ _ over)
 
     pub linked_cell : (i j : ℕ) → i < w → j < h → AreLinked mesh cut (cell 0 0) (cell i j)
     linked_cell i zero li lj = linked_east i li
-    linked_cell i (suc j) li lj = step_over mesh laws cut (cell 0 0) (mesh.next (mesh.next (cell i j))) (cell i (suc j))
-        (step_next mesh laws cut (cell 0 0) (mesh.next (cell i j)) (step_next mesh laws cut (cell 0 0) (cell i j)
-        (linked_cell i j li (omega arith)))) (grid.north_open i j li lj) (grid.north i j li lj)
+    linked_cell i (suc j) li lj = step_over mesh laws cut _ _ _ (step_next mesh laws cut _ _ (step_next mesh laws cut _
+        _ (linked_cell i j li (omega arith)))) (grid.north_open i j li lj) (grid.north i j li lj)
 
     pub linked_in : (x : ℕ) → In mesh w h cell x → AreLinked mesh cut (cell 0 0) x
-    linked_in x i = rw i.1.is (step_spin mesh laws cut (cell 0 0) (cell i.1.a i.1.b) i.0
-        (linked_cell i.1.a i.1.b i.1.a_low i.1.b_low))
+    linked_in x i = rw i.1.is (step_spin mesh laws cut _ _ i.0 (linked_cell i.1.a i.1.b i.1.a_low i.1.b_low))
 
     pub first_in : In mesh w h cell (cell 0 0)
     first_in = (0, record { a = 0; b = 0; a_low = grid.wide; b_low = grid.tall; is = refl })
@@ -119,14 +115,14 @@ module _ (mesh : HalfEdges) (laws : IsQuadManifold mesh) (cut : Cut) (full : IsC
     -- Each corner of the class is one of the four of the grid.
     pub least_corner : {m : ℕ} → AtMost mesh w h cell m → (k a b : ℕ) {x : ℕ} → a < w → b < h
         → x ≡ spin mesh k (cell a b) → cut x ≡ true → cut (mesh.prev x) ≡ true → m ≤ x
-    least_corner {m} least zero zero zero la lb e on before = subst (λ (y : ℕ). m ≤ y) (sym e) least.first
-    least_corner least zero (suc a) b la lb e on before = absurd (true≢false
-        (sym before ∙ (ap (λ y. cut (mesh.prev y)) e ∙ west_open mesh laws cut full w h cell grid a b la lb)))
+    least_corner {m} least zero zero zero la lb e on before = rw e least.first
+    least_corner least zero (suc a) b la lb e on before = absurd
+        (cc (west_open mesh laws cut full w h cell grid a b la lb))
     least_corner least zero zero (suc b) la lb e on before =
-        absurd (true≢false (sym on ∙ (ap cut e ∙ south_open mesh laws cut full w h cell grid 0 b la lb)))
+        absurd (cc (south_open mesh laws cut full w h cell grid 0 b la lb))
     least_corner least (suc zero) a zero la lb e on before = elim (cases_eq (suc a) w) [
       | inl z ↦ rw e (least.east a z)
-      | inr ne ↦ absurd (true≢false (sym on ∙ (ap cut e ∙ grid.east_open a 0 (omega arith) lb)))
+      | inr ne ↦ absurd (cc (grid.east_open a 0 (omega arith) lb))
     ]
     least_corner least (suc zero) a (suc b) la lb e on before =
         absurd (true≢false (sym before ∙ (ap (λ y. cut (mesh.prev y)) e
@@ -160,24 +156,24 @@ module _ (mesh : HalfEdges) (laws : IsQuadManifold mesh) (cut : Cut) (full : IsC
         → AtMost mesh w h cell m
     at_most m least = record {
       first = least (cell 0 0) (0, refl) (first_corner grid);
-      east = λ i e. least (mesh.next (cell i 0)) (step_next mesh laws cut (cell 0 0) (cell i 0)
+      east = λ i e. least (mesh.next (cell i 0)) (step_next mesh laws cut _ _
           (linked_cell i 0 (omega arith) grid.tall)) (
-            laws.next_low (cell i 0) (grid.low i 0 (omega arith) grid.tall),
+            laws.next_low _ (grid.low i 0 (omega arith) grid.tall),
             grid.east_shut i 0 e grid.tall,
-            ap cut (laws.prev_next (cell i 0)) ∙ grid.south_shut i (omega arith),
+            ap cut (laws.prev_next _) ∙ grid.south_shut i (omega arith),
           );
       far = λ i j e z. let l : cell i j < mesh.count = grid.low i j (omega arith) (omega arith) in
-          least (mesh.next (mesh.next (cell i j))) (step_next mesh laws cut (cell 0 0) (mesh.next (cell i j))
-          (step_next mesh laws cut (cell 0 0) (cell i j) (linked_cell i j (omega arith) (omega arith)))) (
-            laws.next_low (mesh.next (cell i j)) (laws.next_low (cell i j) l),
+          least (mesh.next (mesh.next (cell i j))) (step_next mesh laws cut _ _
+          (step_next mesh laws cut _ _ (linked_cell i j (omega arith) (omega arith)))) (
+            laws.next_low _ (laws.next_low _ l),
             grid.north_shut i j (omega arith) z,
-            ap cut (laws.prev_next (mesh.next (cell i j))) ∙ grid.east_shut i j e (omega arith),
+            ap cut (laws.prev_next _) ∙ grid.east_shut i j e (omega arith),
           );
-      north = λ j z. least (mesh.prev (cell 0 j)) (step_prev mesh laws cut (cell 0 0) (cell 0 j)
+      north = λ j z. least (mesh.prev (cell 0 j)) (step_prev mesh laws cut _ _
           (linked_cell 0 j grid.wide (omega arith))) (
-            laws.prev_low (cell 0 j) (grid.low 0 j grid.wide (omega arith)),
+            laws.prev_low _ (grid.low 0 j grid.wide (omega arith)),
             grid.west_shut j (omega arith),
-            ap cut (prev_twice mesh laws (cell 0 j)) ∙ grid.north_shut 0 j grid.wide z,
+            ap cut (prev_twice mesh laws _) ∙ grid.north_shut 0 j grid.wide z,
           );
     }
 
@@ -189,24 +185,25 @@ module _ (mesh : HalfEdges) (laws : IsQuadManifold mesh) (cut : Cut) (full : IsC
     -- Grids with one first cell have the same cells.
     cells_east : (cell 0 0 ≡ tile 0 0) → (i : ℕ) → i < w → i < v → cell i 0 ≡ tile i 0
     cells_east e zero lw lv = e
-    cells_east e (suc i) lw lv = prev_same mesh laws (cell (suc i) 0) (tile (suc i) 0)
-        (same_Some _ _ (sym (one.east i 0 lw one.tall)
-        ∙ (ap (λ x. mesh.twin (mesh.next x)) (cells_east e i (omega arith) (omega arith)) ∙ two.east i 0 lv two.tall)))
+    cells_east e (suc i) lw lv = prev_same mesh laws _ _
+        (cc (one.east i 0 lw one.tall, cells_east e i (omega arith) (omega arith), two.east i 0 lv two.tall))
 
     cells_north : (i j : ℕ) → i < w → i < v → cell i 0 ≡ tile i 0 → j < h → j < g → cell i j ≡ tile i j
     cells_north i zero lw lv e lh lg = e
-    cells_north i (suc j) lw lv e lh lg = same_Some _ _
-        (sym (one.north i j lw lh) ∙ (ap (λ x. mesh.twin (mesh.next (mesh.next x)))
-        (cells_north i j lw lv e (omega arith) (omega arith)) ∙ two.north i j lv lg))
+    cells_north i (suc j) lw lv e lh lg = cc
+        (one.north i j lw lh, cells_north i j lw lv e (omega arith) (omega arith), two.north i j lv lg)
 
     not_wider : cell 0 0 ≡ tile 0 0 → (i : ℕ) → suc i ≡ w → suc i < v → ⊥
-    not_wider e i z l = true≢false (sym (one.east_shut i 0 z one.tall)
-        ∙ (ap (λ x. cut (mesh.next x)) (cells_east e i (omega arith) (omega arith)) ∙ two.east_open i 0 l two.tall))
+    not_wider e i z l = cc
+        (one.east_shut i 0 z one.tall, cells_east e i (omega arith) (omega arith), two.east_open i 0 l two.tall)
 
     not_taller : cell 0 0 ≡ tile 0 0 → (j : ℕ) → suc j ≡ h → suc j < g → ⊥
-    not_taller e j z l = true≢false (sym (one.north_shut 0 j one.wide z)
-        ∙ (ap (λ x. cut (mesh.next (mesh.next x))) (cells_north 0 j one.wide two.wide e (omega arith) (omega arith))
-        ∙ two.north_open 0 j two.wide l))
+    not_taller e j z l = cc (
+      one.north_shut 0 j one.wide z,
+      cells_north 0 j one.wide two.wide e (omega arith)
+          (omega arith),
+      two.north_open 0 j two.wide l,
+    )
 
   pub one_grid : {w h v g : ℕ} {cell tile : Cells} → IsGrid mesh cut w h cell → IsGrid mesh cut v g tile
       → cell 0 0 ≡ tile 0 0 → AreOne w h v g cell tile
@@ -236,14 +233,14 @@ module _ (mesh : HalfEdges) (laws : IsQuadManifold mesh) (cut : Cut) (full : IsC
   pub one_patch : {w h v g : ℕ} {cell tile : Cells} → IsPatch mesh cut w h cell → IsPatch mesh cut v g tile → (x : ℕ)
       → In mesh w h cell x → In mesh v g tile x → AreOne w h v g cell tile
   one_patch {w} {h} {v} {g} {cell} {tile} one two x ix iy =
-      let below = least_in v g tile two.grid (cell 0 0) (least_first two) (there one.grid two.grid ix iy)
+      let below = least_in v g tile two.grid _ (least_first two) (there one.grid two.grid ix iy)
       (first_corner one.grid) in
-      let above = least_in w h cell one.grid (tile 0 0) (least_first one) (there two.grid one.grid iy ix)
+      let above = least_in w h cell one.grid _ (least_first one) (there two.grid one.grid iy ix)
       (first_corner two.grid) in
-      one_grid one.grid two.grid (omega (arith, below, above))
+      one_grid one.grid two.grid (omega arith)
     where
       there : {w h v g : ℕ} {cell tile : Cells} → IsGrid mesh cut w h cell → IsGrid mesh cut v g tile
           → In mesh w h cell x → In mesh v g tile x → In mesh v g tile (cell 0 0)
       there {w} {h} {v} {g} {cell} {tile} a b i j =
-          let back = linked_back (cell 0 0) x (a.low 0 0 a.wide a.tall) (linked_in w h cell a x i) in
-          closed v g tile b x (cell 0 0) back.0 back.1 j
+          let back = linked_back _ x (a.low 0 0 a.wide a.tall) (linked_in w h cell a x i) in
+          closed v g tile b x _ _ back.1 j

@@ -17,7 +17,7 @@ module _ {mesh : HalfEdges} (laws : IsQuadManifold mesh) {start cut : ℕ → Bo
   corner_at d e l corner = (e, l.0, l.1, corner)
 
   from_class : (d e : ℕ) → AreLinked mesh cut d e → CornerOf mesh cut e → CornerOf mesh cut d
-  from_class d e l c = let j : AreLinked mesh cut d c.0 = links_join mesh laws cut d e c.0 l (c.1, c.2) in
+  from_class d e l c = let j = links_join mesh laws cut d e c.0 l (c.1, c.2) in
       corner_at d c.0 j c.3
 
   start_corner : (d : ℕ) → d < mesh.count → start d ≡ true → IsCorner mesh cut d
@@ -27,40 +27,37 @@ module _ {mesh : HalfEdges} (laws : IsQuadManifold mesh) {start cut : ℕ → Bo
   beside : (k d : ℕ) → d < mesh.count → cut d ≡ true → Trail mesh start cut d k → CornerOf mesh cut d
   beside zero d ld on trail = corner_at d d (0, refl) (start_corner d ld trail)
   beside (suc k) d ld on trail =
-      let rest = beside k trail.0 trail.2 trail.3 trail.1 in
+      let rest = beside k _ trail.2 trail.3 trail.1 in
       elim (cases_Bool (cut (mesh.prev d))) [
         | inl before ↦ corner_at d d (0, refl) (ld, on, before)
         | inr off ↦
-            let back = ap mesh.twin (ap mesh.prev trail.4.2 ∙ laws.prev_next trail.4.0)
-            ∙ laws.twin_twin (mesh.next trail.0) trail.4.0 (laws.next_low trail.0 trail.2) trail.4.1 in
-            let over = step_over mesh laws cut d (mesh.prev d) (mesh.next trail.0)
-            (step_prev mesh laws cut d d (0, refl)) off back in
-            from_class d trail.0 (rw (laws.prev_next trail.0) at (step_prev mesh laws cut d (mesh.next trail.0) over))
+            let back = ap mesh.twin (cc (laws.prev_next trail.4.0))
+            ∙ laws.twin_twin _ _ (laws.next_low _ trail.2) trail.4.1 in
+            let over = step_over mesh laws cut d _ _ (step_prev mesh laws cut d d (0, refl)) off back in
+            from_class d _ (rw (laws.prev_next _) at (step_prev mesh laws cut d _ over))
             rest
       ]
 
   -- and back along it on the other side.
   next_corner : (d : ℕ) → d < mesh.count → cut d ≡ true → cut (mesh.next d) ≡ true → CornerOf mesh cut d
-  next_corner d ld on next = corner_at d (mesh.next d) (step_next mesh laws cut d d (0, refl))
-      (laws.next_low d ld, next, ap cut (laws.prev_next d) ∙ on)
+  next_corner d ld on next = corner_at d _ (step_next mesh laws cut d d (0, refl))
+      (laws.next_low d ld, next, cc (laws.prev_next d))
 
   across : (k d t : ℕ) → d < mesh.count → cut d ≡ true → mesh.twin d ≡ Some t → Trail mesh start cut t k
       → CornerOf mesh cut d
   across zero d t ld on tw trail =
       next_corner d ld on (traced.beside t d (laws.twin_low d t ld tw) trail (laws.twin_twin d t ld tw))
-  across (suc k) d t ld on tw trail = by_next (cases_Bool (cut (mesh.next d))) trail.0 trail.2 trail.3 trail.4
-      trail.5.3 (λ b lb onb tb. across k b trail.0 lb onb tb trail.1)
+  across (suc k) d t ld on tw trail =
+      let lt = laws.twin_low d t ld tw in
+      by_next (cases_Bool (cut (mesh.next d))) trail.0 trail.2 trail.3 trail.4 trail.5.3
+      (λ b lb onb tb. across k b trail.0 lb onb tb trail.1)
     where
-      lt : t < mesh.count
-      lt = laws.twin_low d t ld tw
-
       by_next : (cut (mesh.next d) ≡ true) ⊎ (cut (mesh.next d) ≡ false) → (c : ℕ) → c < mesh.count → cut c ≡ true
           → IsStraight mesh c t → {a b e : ℕ} → IsCross mesh t a b e
           → ((b : ℕ) → b < mesh.count → cut b ≡ true → mesh.twin b ≡ Some c → CornerOf mesh cut b) → CornerOf mesh cut d
       by_next (inl next) c lc onc s is rest = next_corner d ld on next
       by_next (inr off) c lc onc s {a} {b} {e} is rest =
-          let first = same_Some a (mesh.next c) (sym is.first
-          ∙ (ap mesh.twin (ap mesh.prev s.2 ∙ laws.prev_next s.0)
+          let first = same_Some a (mesh.next c) (sym is.first ∙ (ap mesh.twin (ap mesh.prev s.2 ∙ laws.prev_next s.0)
           ∙ laws.twin_twin (mesh.next c) s.0 (laws.next_low c lc) s.1)) in
           let second : mesh.twin c ≡ Some b = ap mesh.twin (sym (ap mesh.prev first ∙ laws.prev_next c)) ∙ is.second in
           let lb : b < mesh.count = laws.twin_low c b lc second in
@@ -102,11 +99,7 @@ module _ {mesh : HalfEdges} (laws : IsQuadManifold mesh) {start cut : ℕ → Bo
             let le = links_low mesh laws cut d s.0 l.0 ld l.1 in
             corner_at d s.0 l (elim s.3 [
               | inl on ↦ start_corner s.0 le on
-              | inr alone ↦ (
-                le,
-                traced.boundary s.0 le alone.0,
-                traced.boundary (mesh.prev s.0) (laws.prev_low s.0 le) alone.1,
-              )
+              | inr alone ↦ (le, traced.boundary s.0 le alone.0, traced.boundary _ (laws.prev_low s.0 le) alone.1)
             ])
       ]
 

@@ -1,5 +1,5 @@
 -- Four faces round a vertex, told by turns and by counting the darts that leave it.
-use Rattle.std.proofs.Common.{◌≡◌, ◌⊎◌, ℕ, zero, suc, ◌<◌, ◌≤◌, Some, sym, ◌∙◌, ap, subst, refl, inl, inr, arith}
+use Rattle.std.proofs.Common.{◌≡◌, ◌⊎◌, ℕ, zero, suc, ◌<◌, ◌≤◌, Some, sym, ◌∙◌, ap, refl, inl, inr, arith}
 use Rattle.std.proofs.{lemmas.Bool.cases_eq, lemmas.Bool.cases_order, lemmas.Option.same_Some}
 use Rattle.def_mesh.specs.HalfEdges.{HalfEdges, AreTurned, Turns, IsQuadManifold}
 use Rattle.def_cut.specs.{Cuts.IsCross, Cuts.HasCross, Steps.or_zero}
@@ -43,8 +43,8 @@ module _ (mesh : HalfEdges) (laws : IsQuadManifold mesh) where
   -- A turn leads to another dart.
   pub no_fix : (d : ℕ) → d < mesh.count → mesh.twin (mesh.prev d) ≡ Some d → ⊥
   no_fix d l t =
-      let ends = laws.twin_ends (mesh.prev d) d (laws.prev_low d l) t in
-      (laws.corners_differ (mesh.next d) (laws.next_low d l)).1 (ends.1 ∙ ap mesh.from (prev_three mesh laws d))
+      let ends = laws.twin_ends _ d (laws.prev_low d l) t in
+      (laws.corners_differ _ (laws.next_low d l)).1 (cc (prev_three mesh laws d))
 
   module _ (v : ℕ) (round : IsRound mesh v) (d : ℕ) (leaves : Leaves mesh v d) where
     turned_leaves : (n : ℕ) → Leaves mesh v (turned mesh d n)
@@ -52,14 +52,13 @@ module _ (mesh : HalfEdges) (laws : IsQuadManifold mesh) where
     turned_leaves (suc n) =
         let x = turned mesh d n in
         let l = turned_leaves n in
-        let t : (t : ℕ) × (mesh.twin (mesh.prev x) ≡ Some t) = round x l.low l.at in
+        let t = round x l.low l.at in
         let is : Leaves mesh v t.0 =
         record { low = turn_low mesh laws x t.0 l.low t.1; at = turn_from mesh laws x t.0 l.low t.1 ∙ l.at } in
-        subst (λ (y : ℕ). Leaves mesh v y) (ap or_zero (sym t.1)) is
+        rw (← ap or_zero (sym t.1)) is
 
     turned_is : (n : ℕ) → mesh.twin (mesh.prev (turned mesh d n)) ≡ Some (turned mesh d (suc n))
-    turned_is n = let l : Leaves mesh v (turned mesh d n) = turned_leaves n in let t : (t : ℕ)
-        × (mesh.twin (mesh.prev (turned mesh d n)) ≡ Some t) = round (turned mesh d n) l.low l.at in
+    turned_is n = let l = turned_leaves n in let t = round (turned mesh d n) l.low l.at in
         t.1 ∙ ap Some (ap or_zero (sym t.1))
 
     turned_same : (i j : ℕ) → turned mesh d (suc i) ≡ turned mesh d (suc j) → turned mesh d i ≡ turned mesh d j
@@ -84,23 +83,23 @@ module _ (mesh : HalfEdges) (laws : IsQuadManifold mesh) where
         ]
       where
         to_it : (i : ℕ) → x < mesh.count → mesh.twin (mesh.prev x) ≡ Some (turned mesh d (suc i)) → turned mesh d i ≡ x
-        to_it i lx r = turn_same mesh laws (turned mesh d i) x (turned_leaves i).low lx (turned_is i) r
+        to_it i lx r = turn_same mesh laws _ x (turned_leaves i).low lx (turned_is i) r
 
         back_to : (i : ℕ) → i < suc p → x < mesh.count → mesh.twin (mesh.prev x) ≡ Some (turned mesh d i)
             → (i : ℕ) × (i < suc p) × (turned mesh d i ≡ x)
-        back_to zero l lx r = (p, omega arith, to_it p lx (r ∙ ap Some (sym back)))
+        back_to zero l lx r = (p, omega arith, to_it p lx (cc))
         back_to (suc i) l lx r = (i, omega arith, to_it i lx r)
 
     all_turned : (p : ℕ) → turned mesh d (suc p) ≡ d → AreAll mesh v (suc p) (turned mesh d)
     all_turned p back x l = let t : (n : ℕ) × Turns mesh d x n =
-        laws.one_fan d x leaves.low l.low (leaves.at ∙ sym l.at) in among p back t.0 x t.1
+        laws.one_fan d x leaves.low l.low (cc) in among p back t.0 x t.1
 
     -- With four faces all round, the fourth turn is the first that leads back.
     pub four_cross : HasFan mesh v 4 → HasCross mesh d
     four_cross fan = elim (cases_eq (turned mesh d 2) d) [
-      | inl two ↦ absurd (let h = fan.most 2 (turned mesh d) (all_turned 1 two) in omega arith)
+      | inl two ↦ absurd (let h = fan.most 2 _ (all_turned 1 two) in omega arith)
       | inr two ↦ elim (cases_eq (turned mesh d 3) d) [
-        | inl three ↦ absurd (let h = fan.most 3 (turned mesh d) (all_turned 2 three) in omega arith)
+        | inl three ↦ absurd (let h = fan.most 3 _ (all_turned 2 three) in omega arith)
         | inr three ↦ elim (cases_eq (turned mesh d 4) d) [
           | inl four ↦ (
             turned mesh d 1,
@@ -110,11 +109,11 @@ module _ (mesh : HalfEdges) (laws : IsQuadManifold mesh) where
               first = turned_is 0;
               second = turned_is 1;
               third = turned_is 2;
-              last = turned_is 3 ∙ ap Some four;
+              last = cc (turned_is 3);
               apart = λ e. two (sym e);
             },
           )
-          | inr four ↦ absurd (let h = fan.least 5 (turned mesh d)
+          | inr four ↦ absurd (let h = fan.least 5 _
               (record { each = λ j l. turned_leaves j; apart = apart two three four }) in omega arith)
         ]
       ]
@@ -124,12 +123,12 @@ module _ (mesh : HalfEdges) (laws : IsQuadManifold mesh) where
             × (suc k ≤ j)
         down zero (suc j) l e = (j, sym e, omega arith)
         down (suc i) (suc j) l e = let r : (k : ℕ) × (turned mesh d (suc k) ≡ d) × (suc k ≤ j) =
-            down i j (omega arith) (turned_same i j e) in (r.0, r.1, omega (arith, r.2))
+            down i j (omega arith) (turned_same i j e) in (r.0, r.1, omega arith)
         down _ zero l e = absurd (omega arith)
 
         early : (turned mesh d 2 ≡ d → ⊥) → (turned mesh d 3 ≡ d → ⊥) → (turned mesh d 4 ≡ d → ⊥) → (k : ℕ)
             → turned mesh d (suc k) ≡ d → suc k ≤ 4 → ⊥
-        early two three four zero e l = no_fix d leaves.low (turned_is 0 ∙ ap Some e)
+        early two three four zero e l = no_fix d leaves.low (cc (turned_is 0))
         early two three four (suc zero) e l = two e
         early two three four (suc (suc zero)) e l = three e
         early two three four (suc (suc (suc zero))) e l = four e
@@ -139,8 +138,8 @@ module _ (mesh : HalfEdges) (laws : IsQuadManifold mesh) where
             → j < 5 → turned mesh d i ≡ turned mesh d j → i ≡ j
         apart two three four i j li lj e = elim (cases_order i j) [
           | inl s ↦ s
-          | inr (inl l) ↦ absurd (let r = down i j l e in early two three four r.0 r.1 (omega (arith, r.2)))
-          | inr (inr l) ↦ absurd (let r = down j i l (sym e) in early two three four r.0 r.1 (omega (arith, r.2)))
+          | inr (inl l) ↦ absurd (let r = down i j l e in early two three four r.0 r.1 (omega arith))
+          | inr (inr l) ↦ absurd (let r = down j i l (sym e) in early two three four r.0 r.1 (omega arith))
         ]
 
   -- And the other way round: a cross has four darts, all with twins on both sides.
@@ -165,7 +164,7 @@ module _ (mesh : HalfEdges) (laws : IsQuadManifold mesh) where
 
     -- Each dart of the vertex is one of the four.
     pub one_of_four : (x : ℕ) → Leaves mesh (mesh.from d) x → (x ≡ d) ⊎ ((x ≡ a) ⊎ ((x ≡ b) ⊎ (x ≡ c)))
-    one_of_four x l = let t : (n : ℕ) × Turns mesh d x n = laws.one_fan d x low l.low (sym l.at) in along t.0 x t.1
+    one_of_four x l = let t = laws.one_fan d x low l.low (sym l.at) in along t.0 x t.1
       where
         along : (n x : ℕ) → Turns mesh d x n → (x ≡ d) ⊎ ((x ≡ a) ⊎ ((x ≡ b) ⊎ (x ≡ c)))
         along zero x t = inl (sym t)
@@ -173,11 +172,11 @@ module _ (mesh : HalfEdges) (laws : IsQuadManifold mesh) where
           where
             to : {y z : ℕ} → mesh.twin (mesh.prev y) ≡ Some z → {s : ℕ} → s ≡ y → mesh.twin (mesh.prev s) ≡ Some x
                 → x ≡ z
-            to {z} is e r = same_Some x z (sym r ∙ (ap (λ k. mesh.twin (mesh.prev k)) e ∙ is))
+            to {z} is e r = cc
 
             of : (y z : ℕ) → y < mesh.count → x < mesh.count → mesh.twin (mesh.prev y) ≡ Some z → (s : ℕ) → s ≡ z
                 → mesh.twin (mesh.prev x) ≡ Some s → x ≡ y
-            of y z ly lx is s e r = turn_same mesh laws x y lx ly (r ∙ ap Some e) is
+            of y z ly lx is s e r = turn_same mesh laws x y lx ly (cc) is
 
             by_step : (y : ℕ) → x < mesh.count → (y ≡ d) ⊎ ((y ≡ a) ⊎ ((y ≡ b) ⊎ (y ≡ c))) → AreTurned mesh y x
                 → (x ≡ d) ⊎ ((x ≡ a) ⊎ ((x ≡ b) ⊎ (x ≡ c)))
@@ -200,10 +199,10 @@ module _ (mesh : HalfEdges) (laws : IsQuadManifold mesh) where
 
     -- They differ.
     step_apart : {x y : ℕ} → x < mesh.count → mesh.twin (mesh.prev x) ≡ Some y → x ≡ y → ⊥
-    step_apart {x} l is e = no_fix x l (is ∙ ap Some (sym e))
+    step_apart {x} l is e = no_fix x l (cc)
 
     pub a_c : a ≡ c → ⊥
-    a_c e = cross.apart (turn_same mesh laws d b low low_b cross.first (cross.third ∙ ap Some (sym e)))
+    a_c e = cross.apart (turn_same mesh laws d b low low_b cross.first (cc))
 
     pub four_apart : (i j : ℕ) → i < 4 → j < 4 → of_four d a b c i ≡ of_four d a b c j → i ≡ j
     four_apart zero zero li lj e = refl
@@ -236,7 +235,13 @@ module _ (mesh : HalfEdges) (laws : IsQuadManifold mesh) where
     -- So each edge at the vertex has two darts.
     pub both_twins : (x : ℕ) → Leaves mesh (mesh.from d) x → ((t : ℕ) × (mesh.twin (mesh.prev x) ≡ Some t))
         × ((t : ℕ) × (mesh.twin x ≡ Some t))
-    both_twins x l = by_one (one_of_four x l)
+    both_twins x l =
+        elim (one_of_four x l) [
+          | inl e ↦ of d a c low_c cross.last cross.first e
+          | inr (inl e) ↦ of a b d low cross.first cross.second e
+          | inr (inr (inl e)) ↦ of b c a low_a cross.second cross.third e
+          | inr (inr (inr e)) ↦ of c d b low_b cross.third cross.last e
+        ]
       where
         of : (y z w : ℕ) → w < mesh.count → mesh.twin (mesh.prev w) ≡ Some y → mesh.twin (mesh.prev y) ≡ Some z → x ≡ y
             → ((t : ℕ) × (mesh.twin (mesh.prev x) ≡ Some t)) × ((t : ℕ) × (mesh.twin x ≡ Some t))
@@ -244,10 +249,3 @@ module _ (mesh : HalfEdges) (laws : IsQuadManifold mesh) where
           (z, ap (λ k. mesh.twin (mesh.prev k)) e ∙ is),
           (mesh.prev w, ap mesh.twin e ∙ laws.twin_twin (mesh.prev w) y (laws.prev_low w lw) came),
         )
-
-        by_one : (x ≡ d) ⊎ ((x ≡ a) ⊎ ((x ≡ b) ⊎ (x ≡ c))) → ((t : ℕ) × (mesh.twin (mesh.prev x) ≡ Some t))
-            × ((t : ℕ) × (mesh.twin x ≡ Some t))
-        by_one (inl e) = of d a c low_c cross.last cross.first e
-        by_one (inr (inl e)) = of a b d low cross.first cross.second e
-        by_one (inr (inr (inl e))) = of b c a low_a cross.second cross.third e
-        by_one (inr (inr (inr e))) = of c d b low_b cross.third cross.last e

@@ -3,7 +3,7 @@
 use Rattle.std.proofs.Common.{◌≡◌, ◌⊎◌, ℕ, zero, suc, ◌+◌, ◌*◌, ◌-◌, ◌/◌, ◌<◌, ◌≤◌, false, Some, sym, ◌∙◌, ap, refl}
 use Rattle.std.proofs.Common.{inl, inr, true≢false, arith}
 use Rattle.std.proofs.{lemmas.Bool.cases_eq, lemmas.Bool.cases_order, lemmas.Option.same_Some}
-use Rattle.def_mesh.specs.HalfEdges.{HalfEdges, Turns, IsQuadManifold}
+use Rattle.def_mesh.specs.HalfEdges.{HalfEdges, IsQuadManifold}
 use Rattle.def_cut.specs.{Cuts.Cut, Cuts.IsUncut, Cuts.IsCut, Grids.Cells, Grids.IsGrid, Steps.spin, Laws.NoFoldLaw}
 use Rattle.cut_laws.proofs.Darts.{prev_three, prev_same, no_self, turn_low, two_darts}
 
@@ -28,10 +28,10 @@ module _ {mesh : HalfEdges} {w h : ℕ} {cell : Cells} where
   one_more at = as_side at (ap mesh.next at.is)
 
   pub four_less : IsQuadManifold mesh → {k x : ℕ} → At mesh w h cell (suc (suc (suc (suc k)))) x → At mesh w h cell k x
-  four_less laws {k} at = as_side at (at.is ∙ laws.four_sides (spin mesh k (cell at.a at.b)))
+  four_less laws {k} at = as_side at (at.is ∙ laws.four_sides _)
 
   four_more : IsQuadManifold mesh → {k x : ℕ} → At mesh w h cell k x → At mesh w h cell (suc (suc (suc (suc k)))) x
-  four_more laws {k} at = as_side at (at.is ∙ sym (laws.four_sides (spin mesh k (cell at.a at.b))))
+  four_more laws {k} at = as_side at (cc (laws.four_sides (spin mesh k (cell at.a at.b))))
 
   moved : {k x y : ℕ} → x ≡ y → At mesh w h cell k x → At mesh w h cell k y
   moved e at = rw e at at
@@ -40,22 +40,20 @@ module _ (mesh : HalfEdges) (laws : IsQuadManifold mesh) (cut : Cut) (full : IsC
     (grid : IsGrid mesh cut w h cell) where
   -- The links from the other side.
   pub west : (i j : ℕ) → suc i < w → j < h → mesh.twin (mesh.prev (cell (suc i) j)) ≡ Some (mesh.next (cell i j))
-  west i j li lj = laws.twin_twin (mesh.next (cell i j)) (mesh.prev (cell (suc i) j))
-      (laws.next_low (cell i j) (grid.low i j (omega arith) lj)) (grid.east i j li lj)
+  west i j li lj = laws.twin_twin _ _ (laws.next_low _ (grid.low i j (omega arith) lj)) (grid.east i j li lj)
 
   pub north_low : (i j : ℕ) → i < w → j < h → mesh.next (mesh.next (cell i j)) < mesh.count
-  north_low i j li lj = laws.next_low (mesh.next (cell i j)) (laws.next_low (cell i j) (grid.low i j li lj))
+  north_low i j li lj = laws.next_low _ (laws.next_low _ (grid.low i j li lj))
 
   pub south : (i j : ℕ) → i < w → suc j < h → mesh.twin (cell i (suc j)) ≡ Some (mesh.next (mesh.next (cell i j)))
-  south i j li lj = laws.twin_twin (mesh.next (mesh.next (cell i j))) (cell i (suc j)) (north_low i j li (omega arith))
-      (grid.north i j li lj)
+  south i j li lj = laws.twin_twin _ _ (north_low i j li (omega arith)) (grid.north i j li lj)
 
   pub west_open : (i j : ℕ) → suc i < w → j < h → cut (mesh.prev (cell (suc i) j)) ≡ false
-  west_open i j li lj = full.alike (mesh.next (cell i j)) (mesh.prev (cell (suc i) j))
-      (laws.next_low (cell i j) (grid.low i j (omega arith) lj)) (grid.east i j li lj) ∙ grid.east_open i j li lj
+  west_open i j li lj = full.alike _ _
+      (laws.next_low _ (grid.low i j (omega arith) lj)) (grid.east i j li lj) ∙ grid.east_open i j li lj
 
   pub south_open : (i j : ℕ) → i < w → suc j < h → cut (cell i (suc j)) ≡ false
-  south_open i j li lj = full.alike (mesh.next (mesh.next (cell i j))) (cell i (suc j)) (north_low i j li (omega arith))
+  south_open i j li lj = full.alike _ _ (north_low i j li (omega arith))
       (grid.north i j li lj) ∙ grid.north_open i j li lj
 
   -- Over an edge of a cell that is not cut lies another cell.
@@ -63,7 +61,7 @@ module _ (mesh : HalfEdges) (laws : IsQuadManifold mesh) (cut : Cut) (full : IsC
   over zero a zero x la lb e off = absurd (cc (grid.south_shut a la))
   over zero a (suc b) x la lb e off = (
     mesh.next (mesh.next (cell a b)),
-    ap mesh.twin e ∙ south a b la lb,
+    cc (south a b la lb),
     record { a = a; b = b; a_low = la; b_low = omega arith; is = refl },
   )
   over (suc zero) a b x la lb e off = elim (cases_eq (suc a) w) [
@@ -181,8 +179,7 @@ module _ (mesh : HalfEdges) (laws : IsQuadManifold mesh) (cut : Cut) (full : IsC
   turned_column : (n i j a b : ℕ) → i + suc n ≡ w → j < h → a < w → b < h → cell i j ≡ mesh.next (mesh.next (cell a b))
       → a ≡ n
   turned_column zero i j zero b far lj la lb e = refl
-  turned_column zero i j (suc a) b far lj la lb e =
-      absurd (true≢false (sym (grid.east_shut i j (omega arith) lj)
+  turned_column zero i j (suc a) b far lj la lb e = absurd (true≢false (sym (grid.east_shut i j (omega arith) lj)
       ∙ (ap (λ x. cut (mesh.next x)) e ∙ (ap cut (sym (prev_three mesh laws (cell (suc a) b))) ∙ west_open a b la lb))))
   turned_column (suc n) i j zero b far lj la lb e =
       absurd (true≢false (sym (grid.west_shut b lb)
@@ -198,10 +195,8 @@ module _ (mesh : HalfEdges) (laws : IsQuadManifold mesh) (cut : Cut) (full : IsC
   turned_row : (n i j a b : ℕ) → j + suc n ≡ h → i < w → a < w → b < h → cell i j ≡ mesh.next (mesh.next (cell a b))
       → b ≡ n
   turned_row zero i j a zero far li la lb e = refl
-  turned_row zero i j a (suc b) far li la lb e =
-      absurd (true≢false (sym (grid.north_shut i j li (omega arith))
-      ∙ (ap (λ x. cut (mesh.next (mesh.next x))) e
-      ∙ (ap cut (laws.four_sides (cell a (suc b))) ∙ south_open a b la lb))))
+  turned_row zero i j a (suc b) far li la lb e = absurd (true≢false (sym (grid.north_shut i j li (omega arith)) ∙
+      (ap (λ x. cut (mesh.next (mesh.next x))) e ∙ (ap cut (laws.four_sides (cell a (suc b))) ∙ south_open a b la lb))))
   turned_row (suc n) i j a zero far li la lb e =
       absurd (true≢false (sym (grid.south_shut a la) ∙ (ap cut (sym (laws.four_sides (cell a 0)))
       ∙ (ap (λ x. cut (mesh.next (mesh.next x))) (sym e) ∙ grid.north_open i j li (omega arith)))))
@@ -239,19 +234,19 @@ module _ (mesh : HalfEdges) (laws : IsQuadManifold mesh) (cut : Cut) (full : IsC
       off x (inr s) = (ap cut s ∙ off_e, ap (λ z. cut (mesh.prev z)) s ∙ off_pe)
 
       uncut : IsUncut mesh cut (mesh.from d)
-      uncut x lx s = let t : (n : ℕ) × Turns mesh d x n = laws.one_fan d x ld lx (sym s) in
+      uncut x lx s = let t = laws.one_fan d x ld lx (sym s) in
           off x (two_darts mesh laws d e ld (turn_low mesh laws d e ld one) one two t.0 x t.1)
 
   at_vertex : (i j : ℕ) → suc i < w → suc j < h → cell i j ≡ mesh.next (mesh.next (cell (suc i) (suc j))) → ⊥
   at_vertex i j li lj e =
-      let d : ℕ = cell (suc i) (suc j) in
-      let f : ℕ = mesh.prev (cell (suc i) j) in
-      let before : mesh.prev d ≡ mesh.next (cell i j) = prev_three mesh laws d ∙ ap mesh.next (sym e) in
-      let above = prev_three mesh laws f ∙ ap (λ x. mesh.next (mesh.next x)) (laws.next_prev (cell (suc i) j)) in
-      two_turns d f (grid.low (suc i) (suc j) li lj) (ap mesh.twin before ∙ grid.east i j li (omega arith))
-      (ap mesh.twin above ∙ grid.north (suc i) j li lj)
-      (south_open (suc i) j li lj) (ap cut before ∙ grid.east_open i j li (omega arith))
-      (west_open i j li (omega arith)) (ap cut above ∙ grid.north_open (suc i) j li lj)
+      let d = cell (suc i) (suc j) in
+      let f = mesh.prev (cell (suc i) j) in
+      let before : mesh.prev d ≡ mesh.next (cell i j) = cc (prev_three mesh laws d) in
+      let above = prev_three mesh laws f ∙ ap (λ x. mesh.next (mesh.next x)) (laws.next_prev _) in
+      two_turns d f (grid.low _ _ li lj) (cc (grid.east i j li (omega arith)))
+      (cc (grid.north (suc i) j li lj))
+      (south_open _ j li lj) (cc (grid.east_open i j li (omega arith)))
+      (west_open i j li (omega arith)) (cc (grid.north_open (suc i) j li lj))
 
   -- No half turn: at a cell in the middle it leads to the cell itself, or to one beside it.
   pub no_half_turn : (i j : ℕ) → i < w → j < h → At mesh w h cell 2 (cell i j) → ⊥
@@ -269,31 +264,30 @@ module _ (mesh : HalfEdges) (laws : IsQuadManifold mesh) (cut : Cut) (full : IsC
             where
               by_place : (a b : ℕ) → a ≡ w - suc x → b ≡ h - suc y → cell x y ≡ mesh.next (mesh.next (cell a b))
                   → (a ≡ x) ⊎ (a ≡ x → ⊥) → (b ≡ y) ⊎ (b ≡ y → ⊥) → ⊥
-              by_place a b column row is (inl p) (inl q) = at_face x y (omega arith) (omega arith)
-                  (is ∙ ap (λ z. mesh.next (mesh.next z)) (ap (λ z. cell z b) p ∙ ap (cell x) q))
+              by_place a b column row is (inl p) (inl q) = at_face x y (omega arith) (omega arith) (cc (is, p, q))
               by_place a b column row is (inr p) (inl q) = let on : a ≡ suc x = omega arith in
                   at_east_edge x y (omega arith) (omega arith)
-                  (is ∙ ap (λ z. mesh.next (mesh.next z)) (ap (λ z. cell z b) on ∙ ap (cell (suc x)) q))
+                  (cc (is, on, q))
               by_place a b column row is (inl p) (inr q) = let up : b ≡ suc y = omega arith in
                   at_north_edge x y (omega arith) (omega arith)
-                  (is ∙ ap (λ z. mesh.next (mesh.next z)) (ap (λ z. cell z b) p ∙ ap (cell x) up))
+                  (cc (is, p, up))
               by_place a b column row is (inr p) (inr q) =
                   let on : a ≡ suc x = omega arith in
                   let up : b ≡ suc y = omega arith in
                   at_vertex x y (omega arith) (omega arith)
-                  (is ∙ ap (λ z. mesh.next (mesh.next z)) (ap (λ z. cell z b) on ∙ ap (cell (suc x)) up))
+                  (cc (is, on, up))
 
   -- No quarter turn either: done twice it is a half turn.
   no_quarter : (i j : ℕ) → i < w → j < h → At mesh w h cell 1 (cell i j) → ⊥
   no_quarter i j li lj at =
       let two = carry 1 i j at.a at.b li lj at.a_low at.b_low at in
-      no_half_turn i j li lj (as_side two (at.is ∙ ap mesh.next two.is))
+      no_half_turn i j li lj (as_side two (cc))
 
   no_three : (i j : ℕ) → i < w → j < h → At mesh w h cell 3 (cell i j) → ⊥
   no_three i j li lj at =
       let two = carry 3 i j at.a at.b li lj at.a_low at.b_low at in
       no_half_turn i j li lj
-      (four_less laws {k = 2} (as_side two (at.is ∙ ap (λ x. mesh.next (mesh.next (mesh.next x))) two.is)))
+      (four_less laws {k = 2} (as_side two (cc)))
 
   -- A cell with a side in common with another is that cell.
   pub no_fold : (k i j a b : ℕ) → i < w → j < h → a < w → b < h → cell i j ≡ spin mesh k (cell a b) → (i ≡ a) × (j ≡ b)
@@ -304,8 +298,7 @@ module _ (mesh : HalfEdges) (laws : IsQuadManifold mesh) (cut : Cut) (full : IsC
       absurd (no_half_turn i j li lj (record { a = a; b = b; a_low = la; b_low = lb; is = e }))
   no_fold (suc (suc (suc zero))) i j a b li lj la lb e =
       absurd (no_three i j li lj (record { a = a; b = b; a_low = la; b_low = lb; is = e }))
-  no_fold (suc (suc (suc (suc k)))) i j a b li lj la lb e =
-      no_fold k i j a b li lj la lb (e ∙ laws.four_sides (spin mesh k (cell a b)))
+  no_fold (suc (suc (suc (suc k)))) i j a b li lj la lb e = no_fold k i j a b li lj la lb (e ∙ laws.four_sides _)
 
 pub no_fold_law : NoFoldLaw
 no_fold_law mesh cut w h cell laws full grid i j a b k li lj la lb e =

@@ -19,7 +19,7 @@ first_or_none p (suc n) = elim (first_or_none p n) [
   | inl found ↦ inl found
   | inr none ↦ elim (cases_Bool (p n)) [
     | inl on ↦ inl (n, record { on = on; before = none })
-    | inr off ↦ inr (λ i l. elim (cases_eq i n) [ inl e ↦ ap p e ∙ off | inr ne ↦ none i (omega arith) ])
+    | inr off ↦ inr (λ i l. elim (cases_eq i n) [ inl e ↦ cc | inr ne ↦ none i (omega arith) ])
   ]
 ]
 
@@ -38,7 +38,7 @@ module _ (mesh : HalfEdges) (laws : IsQuadManifold mesh) (cut : Cut) (full : IsC
         low = corner.0;
         inside = λ i l. first.before i (omega arith);
         ends = λ i e. let same : i ≡ k = omega arith in
-            ap (λ x. cut (mesh.next (easts mesh d x))) same ∙ first.on;
+            cc (same, first.on);
       },
     )
     | inr none ↦ absurd (endless mesh laws cut full d corner.0 corner.2 (λ i l. none i (omega arith)))

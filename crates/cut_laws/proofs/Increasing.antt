@@ -44,7 +44,7 @@ module _ (a b : ℕ → ℕ) (n m : ℕ) (ra : AreIncreasing a n) (rb : AreIncre
             let low = not_below ra rb k ln same t.0 t.1 t.2 in
             let high = not_below rb ra k lm (λ i l. sym (same i l)) u.0 u.1 u.2 in
             let here : a k ≡ b k = omega arith in
-            ap a e ∙ (here ∙ ap b (sym e))
+            cc
         | inr ne ↦ same i (omega arith)
       ]
 

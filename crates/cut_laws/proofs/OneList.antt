@@ -1,5 +1,5 @@
 -- At most one list of patches holds each face once.
-use Rattle.std.proofs.Common.{◌≡◌, ℕ, suc, ◌+◌, ◌*◌, ◌/◌, ◌%◌, ◌<◌, List, [], map, length, get_or, sym, ◌∙◌, ap, refl}
+use Rattle.std.proofs.Common.{◌≡◌, ℕ, suc, ◌+◌, ◌*◌, ◌/◌, ◌%◌, ◌<◌, List, [], map, length, get_or, ap, refl}
 use Rattle.std.proofs.{Common.arith, Math.Nat.div-lt_iff_lt-mul, lemmas.List.ext_get_or}
 use Rattle.def_mesh.specs.HalfEdges.{HalfEdges, IsQuadManifold}
 use Rattle.def_cut.specs.Grids.{IsPatch, Rectangle, cell_of, patch_at, least_of, IsSide, IsPartition}
@@ -20,15 +20,13 @@ pub same_rectangle : (p q : Rectangle) → 0 < p.w → length p.cells ≡ p.h * 
 same_rectangle p q wide lp lq one = λ i. record { w = one.wide i; h = one.tall i; cells = cells i }
   where
     long : length p.cells ≡ length q.cells
-    long = lp ∙ (ap (λ x. x * p.w) one.tall ∙ (ap (λ x. q.h * x) one.wide ∙ sym lq))
+    long = cc (lp, one.tall, one.wide, lq)
 
     each : (k : ℕ) → k < length p.cells → get_or p.cells k 0 ≡ get_or q.cells k 0
     each k l =
         let low : k < p.h * p.w = omega (arith, lp) in
         let here = one.cells (k % p.w) (k / p.w) (omega arith) (place_row k p.w p.h wide low) in
-        ap (λ x. get_or p.cells x 0) (place_is k p.w wide)
-        ∙ (here ∙ (ap (λ x. get_or q.cells (k / p.w * x + k % p.w) 0) (sym one.wide)
-        ∙ ap (λ x. get_or q.cells x 0) (sym (place_is k p.w wide))))
+        cc (place_is k p.w wide, here, one.wide)
 
     cells : p.cells ≡ q.cells
     cells = ext_get_or 0 p.cells q.cells long each
@@ -52,13 +50,13 @@ module _ (mesh : HalfEdges) (laws : IsQuadManifold mesh) (cut : Cut) (full : IsC
   pub shared : (ps qs : List Rectangle) → AreTiles mesh cut face ps → AreTiles mesh cut face qs → (p q x : ℕ)
       → p < length ps → q < length qs → LiesInPatch mesh (patch_at ps p) x → LiesInPatch mesh (patch_at qs q) x
       → patch_at ps p ≡ patch_at qs q
-  shared ps qs a b p q x lp lq ip iq = same_rectangle (patch_at ps p) (patch_at qs q) (a.patch p lp).grid.wide
+  shared ps qs a b p q x lp lq ip iq = same_rectangle _ _ (a.patch p lp).grid.wide
       (a.sized p lp) (b.sized q lq) (one_patch mesh laws cut full (a.patch p lp) (b.patch q lq) x ip iq)
 
   -- So in one list they stand at one place,
   pub same_place : (ps : List Rectangle) → AreTiles mesh cut face ps → (p q x : ℕ) → p < length ps → q < length ps
       → LiesInPatch mesh (patch_at ps p) x → LiesInPatch mesh (patch_at ps q) x → p ≡ q
-  same_place ps a p q x lp lq ip iq = increasing_place (least_at face ps) (length ps) (record { step = a.ordered }) p q
+  same_place ps a p q x lp lq ip iq = increasing_place _ _ (record { step = a.ordered }) p q
       lp lq (ap (λ (r : Rectangle). least_of (map face r.cells)) (shared ps ps a a p q x lp lq ip iq))
 
   -- and each cell at one place there.
@@ -70,8 +68,8 @@ module _ (mesh : HalfEdges) (laws : IsQuadManifold mesh) (cut : Cut) (full : IsC
       let same = same_place ps t p q d lp lq (inside p i j k one) (inside q a b l two) in
       let s : IsSide mesh (patch_at ps p) a b l d = rw same two in
       let cell = cell_of (patch_at ps p) in
-      let r = spun mesh laws k l (cell_of (patch_at ps p) i j) (cell_of (patch_at ps p) a b) (sym one.is ∙ s.is) in
-      let f = no_fold mesh laws cut full (patch_at ps p).w (patch_at ps p).h cell (t.patch p lp).grid r.0 i j a b
+      let r = spun mesh laws k l _ _ (cc) in
+      let f = no_fold mesh laws cut full _ _ cell (t.patch p lp).grid r.0 i j a b
       one.i_low one.j_low s.i_low s.j_low r.1 in
       (same, f.0, f.1)
 
@@ -83,10 +81,10 @@ module _ (mesh : HalfEdges) (laws : IsQuadManifold mesh) (cut : Cut) (full : IsC
       → p < length ps → (q : ℕ) × (q < length qs) × (patch_at ps p ≡ patch_at qs q)
   found ps qs a b p lp =
       let grid = (a.patch p lp).grid in
-      let (q, i, j, k, lq, s) = b.covers (cell_of (patch_at ps p) 0 0) (grid.low 0 0 grid.wide grid.tall) in (
+      let (q, i, j, k, lq, s) = b.covers _ (grid.low 0 0 grid.wide grid.tall) in (
         q,
         lq,
-        shared ps qs (tiles ps a) (tiles qs b) p q (cell_of (patch_at ps p) 0 0) lp lq (
+        shared ps qs (tiles ps a) (tiles qs b) p q _ lp lq (
           0,
           record { a = 0; b = 0; a_low = grid.wide; b_low = grid.tall; is = refl },
         ) (k, record { a = i; b = j; a_low = s.i_low; b_low = s.j_low; is = s.is }),
@@ -110,8 +108,8 @@ module _ (mesh : HalfEdges) (laws : IsQuadManifold mesh) (cut : Cut) (full : IsC
           let values = same_values (least_at face ps) (least_at face qs) (length ps) (length qs)
           (record { step = a.ordered }) (record { step = b.ordered }) (least_there a b) (least_there b a) p l in
           let place = increasing_place (least_at face qs) (length qs) (record { step = b.ordered }) f.0 p f.1
-          (omega (arith, many)) (sym (ap (λ (r : Rectangle). least_of (map face r.cells)) f.2) ∙ values) in
-          f.2 ∙ ap (patch_at qs) place
+          (omega (arith, many)) (cc (f.2, values)) in
+          cc (f.2, place)
 
 pub one_list_law : OneListLaw
 one_list_law mesh cut face laws full ps qs a b = one_list mesh laws cut full face ps qs a b

@@ -1,5 +1,5 @@
 -- More places than numbers: some number comes twice, and a walk that never merges comes back to where it began.
-use Rattle.std.proofs.Common.{◌≡◌, ◌⊎◌, ℕ, zero, suc, ◌<◌, ◌≤◌, cond, ◌==◌, eqb, sym, ◌∙◌, ap, inl, inr, arith}
+use Rattle.std.proofs.Common.{◌≡◌, ◌⊎◌, ℕ, zero, suc, ◌<◌, ◌≤◌, cond, ◌==◌, eqb, sym, inl, inr, arith}
 use Rattle.std.proofs.lemmas.Bool.{cases_eq, cases_lt, cond-true, cond-false, eq-eqb, ne_eqb}
 
 -- Whether some number below n is sent to a value.
@@ -9,8 +9,7 @@ sent_or_not f v (suc n) = elim (cases_eq (f n) v) [
   | inl e ↦ inl (n, omega arith, e)
   | inr ne ↦ elim (sent_or_not f v n) [
     | inl (k, low, e) ↦ inl (k, omega arith, e)
-    | inr none ↦
-        inr (λ k l e. elim (cases_eq k n) [ inl q ↦ ne (ap f (sym q) ∙ e) | inr other ↦ none k (omega arith) e ])
+    | inr none ↦ inr (λ k l e. elim (cases_eq k n) [ inl q ↦ ne (cc) | inr other ↦ none k (omega arith) e ])
   ]
 ]
 
@@ -37,7 +36,7 @@ pigeon (suc n) f low = elim (sent_or_not f (f (suc n)) (suc n)) [
         | inl e ↦
             let high = low (suc n) (omega arith) in
             let is = at_top f n k e in
-            let ne : f (suc n) ≡ n → ⊥ = λ q. none k (omega arith) (e ∙ sym q) in
+            let ne : f (suc n) ≡ n → ⊥ = λ q. none k (omega arith) (cc (e, q)) in
             omega arith
         | inr ne ↦
             let high = low k (omega arith) in
@@ -47,12 +46,12 @@ pigeon (suc n) f low = elim (sent_or_not f (f (suc n)) (suc n)) [
       let (i, j, l, h, e) = pigeon n (filled f n) low_too in
       elim (cases_eq (f i) n) [
         | inl a ↦ elim (cases_eq (f j) n) [
-          | inl b ↦ (i, j, l, omega arith, a ∙ sym b)
-          | inr b ↦ absurd (none j (omega arith) (sym (below f n j b) ∙ (sym e ∙ at_top f n i a)))
+          | inl b ↦ (i, j, l, omega arith, cc (a, b))
+          | inr b ↦ absurd (none j (omega arith) (cc (below f n j b, e, at_top f n i a)))
         ]
         | inr a ↦ elim (cases_eq (f j) n) [
-          | inl b ↦ absurd (none i (omega arith) (sym (below f n i a) ∙ (e ∙ at_top f n j b)))
-          | inr b ↦ (i, j, l, omega arith, sym (below f n i a) ∙ (e ∙ below f n j b))
+          | inl b ↦ absurd (none i (omega arith) (cc (below f n i a, e, at_top f n j b)))
+          | inr b ↦ (i, j, l, omega arith, cc (below f n i a, e, below f n j b))
         ]
       ]
 ]
@@ -60,7 +59,7 @@ pigeon (suc n) f low = elim (sent_or_not f (f (suc n)) (suc n)) [
 -- A walk through numbers below n, of which no two steps lead to one place, comes back to its start.
 pub comes_back : (n : ℕ) (f : ℕ → ℕ) → ((k : ℕ) → k ≤ n → f k < n) → ((i j : ℕ) → i < n → j < n → f (suc i) ≡ f (suc j)
     → f i ≡ f j) → (k : ℕ) × (k < n) × (f (suc k) ≡ f 0)
-comes_back n f low apart = let m : Meets f n = pigeon n f low in down m.0 m.1 m.2 m.3 m.4
+comes_back n f low apart = let m = pigeon n f low in down m.0 m.1 m.2 m.3 m.4
   where
     down : (i j : ℕ) → i < j → j ≤ n → f i ≡ f j → (k : ℕ) × (k < n) × (f (suc k) ≡ f 0)
     down zero (suc j) l h e = (j, omega arith, sym e)
@@ -76,12 +75,12 @@ place_there : (g : ℕ → ℕ) (m x j : ℕ) → j < m → g j ≡ x → (place
 place_there g zero x j l e = absurd (omega arith)
 place_there g (suc m) x j l e = elim (cases_eq (g m) x) [
   | inl s ↦ let here = cond-true (eqb (g m) x) m (place_in g m x) (eq-eqb (g m) x s) in
-      (omega arith, ap g here ∙ s)
+      (omega arith, cc)
   | inr ne ↦
-      let later : j ≡ m → ⊥ = λ s. ne (ap g (sym s) ∙ e) in
+      let later : j ≡ m → ⊥ = λ s. ne (cc) in
       let r = place_there g m x j (omega arith) e in
       let here = cond-false (eqb (g m) x) m (place_in g m x) (ne_eqb (g m) x ne) in
-      (omega (arith, r.0), ap g here ∙ r.1)
+      (omega arith, cc)
 ]
 
 -- Values of which no two are equal, and which all stand among m others, are at most m.
@@ -90,8 +89,7 @@ pub no_more : (n m : ℕ) (f g : ℕ → ℕ) → ((i j : ℕ) → i < n → j <
 no_more n m f g apart there = elim (cases_lt m n) [
   | inl l ↦
       let (i, j, less, le, e) = pigeon m (λ i. place_in g m (f i)) (λ i h. (at i (omega arith)).0) in
-      let same = apart i j (omega arith) (omega arith)
-      (sym (at i (omega arith)).1 ∙ (ap g e ∙ (at j (omega arith)).1)) in
+      let same = apart i j (omega arith) (omega arith) (cc ((at i (omega arith)).1, (at j (omega arith)).1)) in
       absurd (omega arith)
   | inr h ↦ h
 ]

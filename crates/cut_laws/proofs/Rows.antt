@@ -1,6 +1,6 @@
 -- Rows of cells in a full cut: they stay straight, stand one over the other with one width, and end.
-use Rattle.std.proofs.Common.{◌≡◌, ℕ, zero, suc, ◌<◌, ◌≤◌, true, false, Option, Some, None, sym, ◌∙◌, ap, subst, refl}
-use Rattle.std.proofs.{Common.inl, Common.inr, Common.true≢false, Common.arith, lemmas.Bool.false≢true}
+use Rattle.std.proofs.Common.{◌≡◌, ℕ, zero, suc, ◌<◌, ◌≤◌, true, false, Option, Some, None, sym, ◌∙◌, ap, refl}
+use Rattle.std.proofs.{Common.inl, Common.inr, Common.arith, lemmas.Bool.false≢true}
 use Rattle.std.proofs.{lemmas.Bool.true_from_ne_false, lemmas.Bool.false_from_ne_true, lemmas.Option.same_Some}
 use Rattle.def_mesh.specs.HalfEdges.{HalfEdges, Turns, IsQuadManifold}
 use Rattle.def_cut.specs.Cuts.{Cut, HasCross, GoesOn, IsCut}
@@ -16,40 +16,35 @@ IsOpen mesh cut d = (cut d ≡ false) × (cut (mesh.prev d) ≡ false)
 module _ (mesh : HalfEdges) (laws : IsQuadManifold mesh) (cut : Cut) (full : IsCut mesh cut) where
   -- Where the edge is not cut it has two darts.
   pub twin_there : (d : ℕ) → d < mesh.count → cut d ≡ false → (t : ℕ) × (mesh.twin d ≡ Some t)
-  twin_there d l off = by_twin (mesh.twin d) refl
+  twin_there d l off = by_twin _ refl
     where
       by_twin : (o : Option ℕ) → mesh.twin d ≡ o → (t : ℕ) × (mesh.twin d ≡ Some t)
-      by_twin None is = absurd (true≢false (sym (full.boundary d l is) ∙ off))
+      by_twin None is = absurd (cc (full.boundary d l is))
       by_twin (Some t) is = (t, is)
 
   pub east_twin : (d : ℕ) → d < mesh.count → cut (mesh.next d) ≡ false → mesh.twin (mesh.next d)
       ≡ Some (mesh.prev (step_east mesh d))
-  east_twin d l off = let t : (t : ℕ) × (mesh.twin (mesh.next d) ≡ Some t) =
-      twin_there (mesh.next d) (laws.next_low d l) off in
-      t.1 ∙ ap Some (sym (laws.prev_next t.0) ∙ ap (λ o. mesh.prev (mesh.next (or_zero o))) (sym t.1))
+  east_twin d l off = let t = twin_there _ (laws.next_low d l) off in
+      cc (laws.prev_next t.0)
 
   pub north_twin : (d : ℕ) → d < mesh.count → cut (mesh.next (mesh.next d)) ≡ false
       → mesh.twin (mesh.next (mesh.next d)) ≡ Some (step_north mesh d)
-  north_twin d l off = let t : (t : ℕ) × (mesh.twin (mesh.next (mesh.next d)) ≡ Some t) =
-      twin_there (mesh.next (mesh.next d)) (laws.next_low (mesh.next d) (laws.next_low d l)) off in
-      t.1 ∙ ap Some (ap or_zero (sym t.1))
+  north_twin d l off = let t = twin_there _ (laws.next_low _ (laws.next_low d l)) off in
+      cc
 
   pub east_low : (d : ℕ) → d < mesh.count → cut (mesh.next d) ≡ false → step_east mesh d < mesh.count
-  east_low d l off = rw (laws.next_prev (step_east mesh d)) at (laws.next_low (mesh.prev (step_east mesh d))
-      (laws.twin_low (mesh.next d) (mesh.prev (step_east mesh d)) (laws.next_low d l) (east_twin d l off)))
+  east_low d l off = rw (laws.next_prev _) at (laws.next_low _
+      (laws.twin_low _ _ (laws.next_low d l) (east_twin d l off)))
 
   pub north_low : (d : ℕ) → d < mesh.count → cut (mesh.next (mesh.next d)) ≡ false → step_north mesh d < mesh.count
-  north_low d l off = laws.twin_low (mesh.next (mesh.next d)) (step_north mesh d)
-      (laws.next_low (mesh.next d) (laws.next_low d l)) (north_twin d l off)
+  north_low d l off = laws.twin_low _ _ (laws.next_low _ (laws.next_low d l)) (north_twin d l off)
 
   -- The edge west of the cell that lies east, and the edge south of the one that lies north, is not cut.
   pub west_off : (d : ℕ) → d < mesh.count → cut (mesh.next d) ≡ false → cut (mesh.prev (step_east mesh d)) ≡ false
-  west_off d l off = full.alike (mesh.next d) (mesh.prev (step_east mesh d)) (laws.next_low d l) (east_twin d l off)
-      ∙ off
+  west_off d l off = full.alike _ _ (laws.next_low d l) (east_twin d l off) ∙ off
 
   pub south_off : (d : ℕ) → d < mesh.count → cut (mesh.next (mesh.next d)) ≡ false → cut (step_north mesh d) ≡ false
-  south_off d l off = full.alike (mesh.next (mesh.next d)) (step_north mesh d)
-      (laws.next_low (mesh.next d) (laws.next_low d l)) (north_twin d l off) ∙ off
+  south_off d l off = full.alike _ _ (laws.next_low _ (laws.next_low d l)) (north_twin d l off) ∙ off
 
   -- Two neighbouring edges at a vertex that are not cut: then the next one is not cut either, one way round ..
   open_turn : {d e : ℕ} → d < mesh.count → IsOpen mesh cut d → mesh.twin (mesh.prev d) ≡ Some e → IsOpen mesh cut e
@@ -66,10 +61,10 @@ module _ (mesh : HalfEdges) (laws : IsQuadManifold mesh) (cut : Cut) (full : IsC
       back = laws.twin_twin (mesh.prev d) e (laws.prev_low d l) t
 
       by_gap : GoesOn mesh cut (mesh.prev e) → ⊥
-      by_gap (inl on) = true≢false (sym on ∙ (ap cut (laws.next_prev e) ∙ here))
+      by_gap (inl on) = cc (on, laws.next_prev e, here)
       by_gap (inr g) =
-          let same = same_Some g.0 (mesh.prev d) (sym g.1 ∙ (ap mesh.twin (laws.next_prev e) ∙ back)) in
-          true≢false (sym g.2 ∙ (ap (λ x. cut (mesh.next x)) same ∙ (ap cut (laws.next_prev d) ∙ free.0)))
+          let same : g.0 ≡ mesh.prev d = cc (g.1, laws.next_prev e, back) in
+          cc (g.2, same, laws.next_prev d, free.0)
 
   -- .. and so all the way round, back to the first.
   turn : ℕ → ℕ
@@ -81,8 +76,7 @@ module _ (mesh : HalfEdges) (laws : IsQuadManifold mesh) (cut : Cut) (full : IsC
 
   turn_is : {d : ℕ} → d < mesh.count → IsOpen mesh cut d → mesh.twin (mesh.prev d) ≡ Some (turn d)
   unfolding turn
-  turn_is {d} l free = let t : (t : ℕ) × (mesh.twin (mesh.prev d) ≡ Some t) =
-      twin_there (mesh.prev d) (laws.prev_low d l) free.1 in t.1 ∙ ap Some (ap or_zero (sym t.1))
+  turn_is {d} l free = let t = twin_there _ (laws.prev_low d l) free.1 in cc
 
   turns_open : {d : ℕ} → d < mesh.count → IsOpen mesh cut d → (n : ℕ) → (turns d n < mesh.count)
       × IsOpen mesh cut (turns d n)
@@ -91,88 +85,87 @@ module _ (mesh : HalfEdges) (laws : IsQuadManifold mesh) (cut : Cut) (full : IsC
   turns_open {d} l free (suc n) =
       let x = turns d n in
       let o = turns_open l free n in
-      let is : mesh.twin (mesh.prev x) ≡ Some (turn x) = turn_is o.0 o.1 in
-      let free : IsOpen mesh cut (turn x) = open_turn o.0 o.1 is in
-      (turn_low mesh laws x (turn x) o.0 is, free)
+      let is = turn_is o.0 o.1 in
+      let free = open_turn o.0 o.1 is in
+      (turn_low mesh laws x _ o.0 is, free)
 
   open_back : (d e : ℕ) → d < mesh.count → e < mesh.count → IsOpen mesh cut d → mesh.twin (mesh.prev e) ≡ Some d
       → IsOpen mesh cut e
   unfolding turns
   open_back d e ld le free t =
-      let r = comes_back mesh.count (turns d) (λ k l. (turns_open ld free k).0) (λ i j li lj. apart i j) in
-      let o : (turns d r.0 < mesh.count) × IsOpen mesh cut (turns d r.0) = turns_open ld free r.0 in
-      let same : turns d r.0 ≡ e = turn_same mesh laws (turns d r.0) e o.0 le (is r.0 ∙ ap Some r.2) t in
+      let r = comes_back _ _ (λ k l. (turns_open ld free k).0) (λ i j li lj. apart i j) in
+      let o = turns_open ld free r.0 in
+      let same : turns d r.0 ≡ e = turn_same mesh laws _ e o.0 le (cc (is r.0)) t in
       rw same at o.1
     where
       is : (k : ℕ) → mesh.twin (mesh.prev (turns d k)) ≡ Some (turns d (suc k))
-      is k = let o : (turns d k < mesh.count) × IsOpen mesh cut (turns d k) = turns_open ld free k in
+      is k = let o = turns_open ld free k in
           turn_is o.0 o.1
 
       apart : (i j : ℕ) → turns d (suc i) ≡ turns d (suc j) → turns d i ≡ turns d j
-      apart i j s = turn_same mesh laws (turns d i) (turns d j) (turns_open ld free i).0
-          (turns_open ld free j).0 (is i) (is j ∙ ap Some (sym s))
+      apart i j s = turn_same mesh laws _ _ (turns_open ld free i).0 (turns_open ld free j).0 (is i) (cc (is j))
 
   -- Two neighbouring edges that are not cut: no edge at the vertex is cut.
   pub no_cut : (d : ℕ) → d < mesh.count → IsOpen mesh cut d → (e : ℕ) → e < mesh.count → mesh.from e ≡ mesh.from d
       → IsOpen mesh cut e
-  no_cut d l free e le s = let t : (n : ℕ) × Turns mesh d e n = laws.one_fan d e l le (sym s) in (along t.0 e t.1).1
+  no_cut d l free e le s = let t = laws.one_fan d e l le (sym s) in (along t.0 e t.1).1
     where
       along : (n x : ℕ) → Turns mesh d x n → (x < mesh.count) × (IsOpen mesh cut x)
-      along zero x t = subst (λ (y : ℕ). (y < mesh.count) × (IsOpen mesh cut y)) t (l, free)
+      along zero x t = rw (← t) (l, free)
       along (suc n) x t =
           let o = along n t.0 t.1 in
           elim t.3 [ inl r ↦ (t.2, open_turn o.0 o.1 r) | inr r ↦ (t.2, open_back t.0 x o.0 t.2 o.1 r) ]
 
   pub cross_at : (d : ℕ) → d < mesh.count → IsOpen mesh cut d → HasCross mesh d
-  cross_at d l free = full.crossed d l (λ e le s. let o : IsOpen mesh cut e = no_cut d l free e le s in (o.0, o.1))
+  cross_at d l free = full.crossed d l (λ e le s. let o = no_cut d l free e le s in (o.0, o.1))
 
   -- The south edge goes on to the east.
   pub south_on : (d : ℕ) → d < mesh.count → cut d ≡ true → cut (mesh.next d) ≡ false → cut (step_east mesh d) ≡ true
   south_on d l on off = elim (full.gaps d l on) [
-    | inl c ↦ absurd (true≢false (sym c ∙ off))
-    | inr g ↦ ap (λ o. cut (mesh.next (or_zero o))) g.1 ∙ g.2
+    | inl c ↦ absurd (cc)
+    | inr g ↦ cc
   ]
 
   -- The east edge goes on to the north.
   pub east_on : (d : ℕ) → d < mesh.count → cut (mesh.next d) ≡ true → cut (mesh.next (mesh.next d)) ≡ false
       → cut (mesh.next (step_north mesh d)) ≡ true
-  east_on d l on off = elim (full.gaps (mesh.next d) (laws.next_low d l) on) [
-    | inl c ↦ absurd (true≢false (sym c ∙ off))
-    | inr g ↦ ap (λ o. cut (mesh.next (or_zero o))) g.1 ∙ g.2
+  east_on d l on off = elim (full.gaps _ (laws.next_low d l) on) [
+    | inl c ↦ absurd (cc)
+    | inr g ↦ cc
   ]
 
   -- The west edge goes on to the north.
   pub west_on : (d : ℕ) → d < mesh.count → cut (mesh.prev d) ≡ true → cut (mesh.next (mesh.next d)) ≡ false
       → cut (mesh.prev (step_north mesh d)) ≡ true
   west_on d l on off = true_from_ne_false (cut (mesh.prev (step_north mesh d)))
-      (λ c. false≢true (sym (no_cut (step_north mesh d) (north_low d l off) (south_off d l off, c) (mesh.prev d)
-      (laws.prev_low d l) meets).0 ∙ on))
+      (λ c. false≢true (sym (no_cut _ (north_low d l off) (south_off d l off, c) _ (laws.prev_low d l) meets).0 ∙ on))
     where
       meets : mesh.from (mesh.prev d) ≡ mesh.from (step_north mesh d)
-      meets = ap mesh.from (prev_three mesh laws d) ∙ sym (laws.twin_ends (mesh.next (mesh.next d)) (step_north mesh d)
-          (laws.next_low (mesh.next d) (laws.next_low d l)) (north_twin d l off)).0
+      meets = cc (
+        prev_three mesh laws d,
+        (laws.twin_ends (mesh.next (mesh.next d)) (step_north mesh d)
+            (laws.next_low (mesh.next d) (laws.next_low d l)) (north_twin d l off)).0,
+      )
 
   -- The north edges on both sides of an east edge that is not cut are cut or not together.
   corner_east : (d : ℕ) → d < mesh.count → cut (mesh.next d) ≡ false → mesh.from (mesh.prev (step_east mesh d))
       ≡ mesh.from (mesh.next (mesh.next d))
-  corner_east d l off = (laws.twin_ends (mesh.next d) (mesh.prev (step_east mesh d)) (laws.next_low d l)
-      (east_twin d l off)).0
+  corner_east d l off = (laws.twin_ends _ _ (laws.next_low d l) (east_twin d l off)).0
 
   pub north_off : (d : ℕ) → d < mesh.count → cut (mesh.next d) ≡ false → cut (mesh.next (mesh.next d)) ≡ false
       → cut (mesh.next (mesh.next (step_east mesh d))) ≡ false
   north_off d l off up =
-      let lx : mesh.next (mesh.next d) < mesh.count = laws.next_low (mesh.next d) (laws.next_low d l) in
-      let free : IsOpen mesh cut (mesh.next (mesh.next d)) = (up, ap cut (laws.prev_next (mesh.next d)) ∙ off) in
-      let o = no_cut (mesh.next (mesh.next d)) lx free (mesh.prev (step_east mesh d))
-      (laws.prev_low (step_east mesh d) (east_low d l off)) (corner_east d l off) in
-      ap cut (sym (prev_twice mesh laws (step_east mesh d))) ∙ o.1
+      let lx = laws.next_low _ (laws.next_low d l) in
+      let free : IsOpen mesh cut (mesh.next (mesh.next d)) = (up, cc (laws.prev_next (mesh.next d))) in
+      let o = no_cut _ lx free _ (laws.prev_low _ (east_low d l off)) (corner_east d l off) in
+      cc (prev_twice mesh laws (step_east mesh d))
 
   pub north_on : (d : ℕ) → d < mesh.count → cut (mesh.next d) ≡ false → cut (mesh.next (mesh.next d)) ≡ true
       → cut (mesh.next (mesh.next (step_east mesh d))) ≡ true
   north_on d l off up = true_from_ne_false (cut (mesh.next (mesh.next (step_east mesh d))))
-      (λ c. false≢true (sym (no_cut (mesh.prev (step_east mesh d)) (laws.prev_low (step_east mesh d) (east_low d l off))
-      (west_off d l off, ap cut (prev_twice mesh laws (step_east mesh d)) ∙ c) (mesh.next (mesh.next d))
-      (laws.next_low (mesh.next d) (laws.next_low d l)) (sym (corner_east d l off))).0 ∙ up))
+      (λ c. false≢true (sym (no_cut _ (laws.prev_low _ (east_low d l off))
+      (west_off d l off, cc (prev_twice mesh laws (step_east mesh d))) _
+      (laws.next_low _ (laws.next_low d l)) (sym (corner_east d l off))).0 ∙ up))
 
   -- East and north of a cell without a cut edge there: the edge between the two cells above is not cut, and both ways
   -- lead to one cell.
@@ -180,6 +173,8 @@ module _ (mesh : HalfEdges) (laws : IsQuadManifold mesh) (cut : Cut) (full : IsC
       → (cut (mesh.next (step_north mesh d)) ≡ false)
       × (step_east mesh (step_north mesh d) ≡ step_north mesh (step_east mesh d))
   square d l off up =
+      let lx = laws.next_low (mesh.next d) (laws.next_low d l) in
+      let free : IsOpen mesh cut (mesh.next (mesh.next d)) = (up, ap cut (laws.prev_next (mesh.next d)) ∙ off) in
       let (a, b, c, is) = cross_at (mesh.next (mesh.next d)) lx free in
       let x : ℕ = mesh.next (mesh.next d) in
       let first = same_Some a (mesh.prev (step_east mesh d))
@@ -187,8 +182,8 @@ module _ (mesh : HalfEdges) (laws : IsQuadManifold mesh) (cut : Cut) (full : IsC
       let la : a < mesh.count = turn_low mesh laws x a lx is.first in
       let lb : b < mesh.count = turn_low mesh laws a b la is.second in
       let lc : c < mesh.count = turn_low mesh laws b c lb is.third in
-      let above = ap (λ y. or_zero (mesh.twin y))
-      (sym (ap mesh.prev first ∙ prev_twice mesh laws (step_east mesh d))) ∙ ap or_zero is.second in
+      let above = ap (λ y. or_zero (mesh.twin y)) (sym (ap mesh.prev first ∙ prev_twice mesh laws (step_east mesh d)))
+      ∙ ap or_zero is.second in
       let last = same_Some (mesh.prev c) (step_north mesh d)
       (sym (laws.twin_twin (mesh.prev c) x (laws.prev_low c lc) is.last) ∙ north_twin d l up) in
       let right : c ≡ mesh.next (step_north mesh d) = sym (laws.next_prev c) ∙ ap mesh.next last in
@@ -197,70 +192,65 @@ module _ (mesh : HalfEdges) (laws : IsQuadManifold mesh) (cut : Cut) (full : IsC
       ∙ (turn_from mesh laws a b la is.second ∙ turn_from mesh laws x a lx is.first) in
       let o : IsOpen mesh cut c = no_cut x lx free c lc at in
       (ap cut (sym right) ∙ o.0, ap (λ y. mesh.next (or_zero y)) back ∙ (laws.next_prev b ∙ sym above))
-    where
-      lx : mesh.next (mesh.next d) < mesh.count
-      lx = laws.next_low (mesh.next d) (laws.next_low d l)
-
-      free : IsOpen mesh cut (mesh.next (mesh.next d))
-      free = (up, ap cut (laws.prev_next (mesh.next d)) ∙ off)
 
   -- A row.
   pub row_low : (s w : ℕ) → IsRow mesh cut s w → (i : ℕ) → i < w → easts mesh s i < mesh.count
   row_low s w row zero l = row.low
-  row_low s w row (suc i) l = east_low (easts mesh s i) (row_low s w row i (omega arith)) (row.inside i l)
+  row_low s w row (suc i) l = east_low _ (row_low s w row i (omega arith)) (row.inside i l)
 
   -- Its south edges are cut if the first one is.
   pub row_south : (s w : ℕ) → IsRow mesh cut s w → cut s ≡ true → (i : ℕ) → i < w → cut (easts mesh s i) ≡ true
   row_south s w row on zero l = on
-  row_south s w row on (suc i) l = south_on (easts mesh s i) (row_low s w row i (omega arith))
+  row_south s w row on (suc i) l = south_on _ (row_low s w row i (omega arith))
       (row_south s w row on i (omega arith)) (row.inside i l)
 
   -- Its north edges are cut or not together.
   pub row_north_on : {s w : ℕ} → IsRow mesh cut s w → cut (mesh.next (mesh.next s)) ≡ true → (i : ℕ) → i < w
       → cut (mesh.next (mesh.next (easts mesh s i))) ≡ true
   row_north_on row on zero l = on
-  row_north_on {s} {w} row on (suc i) l = north_on (easts mesh s i) (row_low s w row i (omega arith)) (row.inside i l)
+  row_north_on {s} {w} row on (suc i) l = north_on _ (row_low s w row i (omega arith)) (row.inside i l)
       (row_north_on row on i (omega arith))
 
   pub row_north_off : {s w : ℕ} → IsRow mesh cut s w → cut (mesh.next (mesh.next s)) ≡ false → (i : ℕ) → i < w
       → cut (mesh.next (mesh.next (easts mesh s i))) ≡ false
   row_north_off row off zero l = off
-  row_north_off {s} {w} row off (suc i) l = north_off (easts mesh s i) (row_low s w row i (omega arith))
+  row_north_off {s} {w} row off (suc i) l = north_off _ (row_low s w row i (omega arith))
       (row.inside i l) (row_north_off row off i (omega arith))
 
   -- The cells over a row are a row of the same width.
   pub row_above : {s w : ℕ} → IsRow mesh cut s w → cut (mesh.next (mesh.next s)) ≡ false → (i : ℕ) → i < w
       → easts mesh (step_north mesh s) i ≡ step_north mesh (easts mesh s i)
   row_above row off zero l = refl
-  row_above {s} {w} row off (suc i) l = ap (step_east mesh) (row_above row off i (omega arith)) ∙ (square
-      (easts mesh s i) (row_low s w row i (omega arith)) (row.inside i l) (row_north_off row off i (omega arith))).1
+  row_above {s} {w} row off (suc i) l = cc (
+    row_above row off i (omega arith),
+    (square (easts mesh s i)
+        (row_low s w row i (omega arith)) (row.inside i l) (row_north_off row off i (omega arith))).1,
+  )
 
   pub next_row : (s w : ℕ) → IsRow mesh cut s w → cut (mesh.next (mesh.next s)) ≡ false
       → IsRow mesh cut (step_north mesh s) w
   next_row s w row off = record {
     wide = row.wide;
     low = north_low s row.low off;
-    inside = λ i l. ap (λ x. cut (mesh.next x)) (row_above row off i (omega arith)) ∙ (square (easts mesh s i)
+    inside = λ i l. ap (λ x. cut (mesh.next x)) (row_above row off i (omega arith)) ∙ (square _
         (row_low s w row i (omega arith)) (row.inside i l) (row_north_off row off i (omega arith))).0;
-    ends = λ i e. ap (λ x. cut (mesh.next x)) (row_above row off i (omega arith)) ∙ east_on (easts mesh s i)
+    ends = λ i e. ap (λ x. cut (mesh.next x)) (row_above row off i (omega arith)) ∙ east_on _
         (row_low s w row i (omega arith)) (row.ends i e) (row_north_off row off i (omega arith));
   }
 
   -- A row whose west edge is cut ends.
   east_same : (d e : ℕ) → d < mesh.count → e < mesh.count → cut (mesh.next d) ≡ false → cut (mesh.next e) ≡ false
       → step_east mesh d ≡ step_east mesh e → d ≡ e
-  east_same d e ld le offd offe s = next_same mesh laws d e
-      (twin_same mesh laws (mesh.next d) (mesh.next e) (mesh.prev (step_east mesh d)) (laws.next_low d ld)
-      (laws.next_low e le) (east_twin d ld offd) (east_twin e le offe ∙ ap (λ x. Some (mesh.prev x)) (sym s)))
+  east_same d e ld le offd offe s = next_same mesh laws d e (twin_same mesh laws _ _ _ (laws.next_low d ld)
+      (laws.next_low e le) (east_twin d ld offd) (cc (east_twin e le offe)))
 
   pub endless : (d : ℕ) → d < mesh.count → cut (mesh.prev d) ≡ true
       → ((i : ℕ) → i ≤ mesh.count → cut (mesh.next (easts mesh d i)) ≡ false) → ⊥
   endless d l on off =
-      let r = comes_back mesh.count (easts mesh d) low (λ i j li lj s. east_same (easts mesh d i) (easts mesh d j)
+      let r = comes_back _ _ low (λ i j li lj s. east_same _ _
       (low i (omega arith)) (low j (omega arith)) (off i (omega arith)) (off j (omega arith)) s) in
-      true≢false (sym on ∙ (ap (λ x. cut (mesh.prev x)) (sym r.2)
-      ∙ west_off (easts mesh d r.0) (low r.0 (omega (arith, r.1))) (off r.0 (omega (arith, r.1)))))
+      cc (west_off (easts mesh d r.0) (low r.0 (omega (arith, r.1))) (off r.0 (omega (arith, r.1))))
     where
       low : (i : ℕ) → i ≤ mesh.count → easts mesh d i < mesh.count
       low zero h = l
-      low (suc i) h = east_low (easts mesh d i) (low i (omega arith)) (off i (omega arith))
+      low (suc i) h = east_low _ (low i (omega arith)) (off i (omega arith))
