@@ -200,8 +200,7 @@ module _ (mesh : HalfEdges) (laws : IsQuadManifold mesh) (cut : Cut) (full : IsC
     not_taller : cell 0 0 ≡ tile 0 0 → (j : ℕ) → suc j ≡ h → suc j < g → ⊥
     not_taller e j z l = cc (
       one.north_shut 0 j one.wide z,
-      cells_north 0 j one.wide two.wide e (omega arith)
-          (omega arith),
+      cells_north 0 j one.wide two.wide e (omega arith) (omega arith),
       two.north_open 0 j two.wide l,
     )
 

@@ -1,6 +1,6 @@
 -- Each class of faces of a traced cut has a corner: it lies at the start of a trail, or where another trail ends on it.
 use Rattle.std.proofs.Common.{◌≡◌, ◌⊎◌, ℕ, zero, suc, ◌<◌, Bool, true, false, Some, sym, ◌∙◌, ap, refl, inl, inr}
-use Rattle.std.proofs.{lemmas.Bool.cases_Bool, lemmas.Option.same_Some}
+use Rattle.std.proofs.{lemmas.Bool.cases_Bool}
 use Rattle.def_mesh.specs.HalfEdges.{HalfEdges, IsQuadManifold}
 use Rattle.def_cut.specs.Trails.{IsStraight, Trail, Joins, HasSources, IsTraced}
 use Rattle.def_cut.specs.{Cuts.Cut, Cuts.IsCross, Cuts.Links, Cuts.IsCorner, Laws.CornerLaw}
@@ -49,26 +49,25 @@ module _ {mesh : HalfEdges} (laws : IsQuadManifold mesh) {start cut : ℕ → Bo
       next_corner d ld on (traced.beside t d (laws.twin_low d t ld tw) trail (laws.twin_twin d t ld tw))
   across (suc k) d t ld on tw trail =
       let lt = laws.twin_low d t ld tw in
-      by_next (cases_Bool (cut (mesh.next d))) trail.0 trail.2 trail.3 trail.4 trail.5.3
-      (λ b lb onb tb. across k b trail.0 lb onb tb trail.1)
+      by_next (cases_Bool (cut (mesh.next d))) _ trail.2 trail.3 trail.4 trail.5.3
+      (λ b lb onb tb. across k b _ lb onb tb trail.1)
     where
       by_next : (cut (mesh.next d) ≡ true) ⊎ (cut (mesh.next d) ≡ false) → (c : ℕ) → c < mesh.count → cut c ≡ true
           → IsStraight mesh c t → {a b e : ℕ} → IsCross mesh t a b e
           → ((b : ℕ) → b < mesh.count → cut b ≡ true → mesh.twin b ≡ Some c → CornerOf mesh cut b) → CornerOf mesh cut d
       by_next (inl next) c lc onc s is rest = next_corner d ld on next
       by_next (inr off) c lc onc s {a} {b} {e} is rest =
-          let first = same_Some a (mesh.next c) (sym is.first ∙ (ap mesh.twin (ap mesh.prev s.2 ∙ laws.prev_next s.0)
-          ∙ laws.twin_twin (mesh.next c) s.0 (laws.next_low c lc) s.1)) in
-          let second : mesh.twin c ≡ Some b = ap mesh.twin (sym (ap mesh.prev first ∙ laws.prev_next c)) ∙ is.second in
-          let lb : b < mesh.count = laws.twin_low c b lc second in
-          let le : e < mesh.count = turn_low mesh laws b e lb is.third in
-          let last = same_Some (mesh.prev e) d (sym (laws.twin_twin (mesh.prev e) t (laws.prev_low e le) is.last)
-          ∙ laws.twin_twin d t ld tw) in
-          let right : e ≡ mesh.next d = sym (laws.next_prev e) ∙ ap mesh.next last in
-          let over = ap mesh.twin (sym right) ∙ laws.twin_twin (mesh.prev b) e (laws.prev_low b lb) is.third in
-          let linked =
-          step_over mesh laws cut d (mesh.next d) (mesh.prev b) (step_next mesh laws cut d d (0, refl)) off over in
-          let there = rw (laws.next_prev b) at (step_next mesh laws cut d (mesh.prev b) linked) in
+          let first : a
+          ≡ mesh.next c = cc (laws.prev_next s.0, laws.twin_twin (mesh.next c) s.0 (laws.next_low c lc) s.1) in
+          let second : mesh.twin c ≡ Some b = cc (laws.prev_next c) in
+          let lb = laws.twin_low c b lc second in
+          let le = turn_low mesh laws b e lb is.third in
+          let last : mesh.prev e
+          ≡ d = cc (laws.twin_twin (mesh.prev e) t (laws.prev_low e le) is.last, laws.twin_twin d t ld tw) in
+          let right : e ≡ mesh.next d = cc (laws.next_prev e) in
+          let over = ap mesh.twin (sym right) ∙ laws.twin_twin _ e (laws.prev_low b lb) is.third in
+          let linked = step_over mesh laws cut d _ _ (step_next mesh laws cut d d (0, refl)) off over in
+          let there = rw (laws.next_prev b) at (step_next mesh laws cut d _ linked) in
           from_class d b there (rest b lb (traced.alike c b lc second ∙ onc) (laws.twin_twin c b lc second))
 
   -- A walk through the component stays in the class, or meets a cut edge with two darts.

@@ -9,7 +9,7 @@ module _ (mesh : HalfEdges) (laws : IsQuadManifold mesh) where
 
   -- Two steps back are two steps on.
   pub prev_twice : (d : ℕ) → mesh.prev (mesh.prev d) ≡ mesh.next (mesh.next d)
-  prev_twice d = cc (prev_three (mesh.prev d), laws.next_prev d)
+  prev_twice d = cc (prev_three _, laws.next_prev d)
 
   -- Next is injective, and so is prev.
   pub next_same : (d e : ℕ) → mesh.next d ≡ mesh.next e → d ≡ e
@@ -28,7 +28,7 @@ module _ (mesh : HalfEdges) (laws : IsQuadManifold mesh) where
 
   -- A turn past one face stays at the vertex.
   pub turn_from : (d e : ℕ) → d < mesh.count → mesh.twin (mesh.prev d) ≡ Some e → mesh.from e ≡ mesh.from d
-  turn_from d e l t = cc ((laws.twin_ends (mesh.prev d) e (laws.prev_low d l) t).0, laws.next_prev d)
+  turn_from d e l t = cc ((laws.twin_ends _ e (laws.prev_low d l) t).0, laws.next_prev d)
 
   pub turn_low : (d e : ℕ) → d < mesh.count → mesh.twin (mesh.prev d) ≡ Some e → e < mesh.count
   turn_low d e l t = laws.twin_low _ e (laws.prev_low d l) t

@@ -31,7 +31,7 @@ module _ {mesh : HalfEdges} {w h : ℕ} {cell : Cells} where
   four_less laws {k} at = as_side at (at.is ∙ laws.four_sides _)
 
   four_more : IsQuadManifold mesh → {k x : ℕ} → At mesh w h cell k x → At mesh w h cell (suc (suc (suc (suc k)))) x
-  four_more laws {k} at = as_side at (cc (laws.four_sides (spin mesh k (cell at.a at.b))))
+  four_more laws {k} at = as_side at (cc (laws.four_sides _))
 
   moved : {k x y : ℕ} → x ≡ y → At mesh w h cell k x → At mesh w h cell k y
   moved e at = rw e at at
@@ -244,9 +244,9 @@ module _ (mesh : HalfEdges) (laws : IsQuadManifold mesh) (cut : Cut) (full : IsC
       let before : mesh.prev d ≡ mesh.next (cell i j) = cc (prev_three mesh laws d) in
       let above = prev_three mesh laws f ∙ ap (λ x. mesh.next (mesh.next x)) (laws.next_prev _) in
       two_turns d f (grid.low _ _ li lj) (cc (grid.east i j li (omega arith)))
-      (cc (grid.north (suc i) j li lj))
+      (cc (grid.north _ j li lj))
       (south_open _ j li lj) (cc (grid.east_open i j li (omega arith)))
-      (west_open i j li (omega arith)) (cc (grid.north_open (suc i) j li lj))
+      (west_open i j li (omega arith)) (cc (grid.north_open _ j li lj))
 
   -- No half turn: at a cell in the middle it leads to the cell itself, or to one beside it.
   pub no_half_turn : (i j : ℕ) → i < w → j < h → At mesh w h cell 2 (cell i j) → ⊥

@@ -51,14 +51,14 @@ module _ (mesh : HalfEdges) (laws : IsQuadManifold mesh) (cut : Cut) (full : IsC
   open_turn {d} {e} l free t = (
     here,
     false_from_ne_true (cut (mesh.prev e))
-        (λ on. by_gap (full.gaps (mesh.prev e) (laws.prev_low e (turn_low mesh laws d e l t)) on)),
+        (λ on. by_gap (full.gaps _ (laws.prev_low e (turn_low mesh laws d e l t)) on)),
   )
     where
       here : cut e ≡ false
-      here = full.alike (mesh.prev d) e (laws.prev_low d l) t ∙ free.1
+      here = full.alike _ e (laws.prev_low d l) t ∙ free.1
 
       back : mesh.twin e ≡ Some (mesh.prev d)
-      back = laws.twin_twin (mesh.prev d) e (laws.prev_low d l) t
+      back = laws.twin_twin _ e (laws.prev_low d l) t
 
       by_gap : GoesOn mesh cut (mesh.prev e) → ⊥
       by_gap (inl on) = cc (on, laws.next_prev e, here)
@@ -93,6 +93,8 @@ module _ (mesh : HalfEdges) (laws : IsQuadManifold mesh) (cut : Cut) (full : IsC
       → IsOpen mesh cut e
   unfolding turns
   open_back d e ld le free t =
+      let apart : (i j : ℕ) → turns d (suc i) ≡ turns d (suc j) → turns d i ≡ turns d j = λ i j s. turn_same mesh laws _
+      _ (turns_open ld free i).0 (turns_open ld free j).0 (is i) (cc (is j)) in
       let r = comes_back _ _ (λ k l. (turns_open ld free k).0) (λ i j li lj. apart i j) in
       let o = turns_open ld free r.0 in
       let same : turns d r.0 ≡ e = turn_same mesh laws _ e o.0 le (cc (is r.0)) t in
@@ -101,9 +103,6 @@ module _ (mesh : HalfEdges) (laws : IsQuadManifold mesh) (cut : Cut) (full : IsC
       is : (k : ℕ) → mesh.twin (mesh.prev (turns d k)) ≡ Some (turns d (suc k))
       is k = let o = turns_open ld free k in
           turn_is o.0 o.1
-
-      apart : (i j : ℕ) → turns d (suc i) ≡ turns d (suc j) → turns d i ≡ turns d j
-      apart i j s = turn_same mesh laws _ _ (turns_open ld free i).0 (turns_open ld free j).0 (is i) (cc (is j))
 
   -- Two neighbouring edges that are not cut: no edge at the vertex is cut.
   pub no_cut : (d : ℕ) → d < mesh.count → IsOpen mesh cut d → (e : ℕ) → e < mesh.count → mesh.from e ≡ mesh.from d
@@ -137,15 +136,15 @@ module _ (mesh : HalfEdges) (laws : IsQuadManifold mesh) (cut : Cut) (full : IsC
   -- The west edge goes on to the north.
   pub west_on : (d : ℕ) → d < mesh.count → cut (mesh.prev d) ≡ true → cut (mesh.next (mesh.next d)) ≡ false
       → cut (mesh.prev (step_north mesh d)) ≡ true
-  west_on d l on off = true_from_ne_false (cut (mesh.prev (step_north mesh d)))
-      (λ c. false≢true (sym (no_cut _ (north_low d l off) (south_off d l off, c) _ (laws.prev_low d l) meets).0 ∙ on))
-    where
-      meets : mesh.from (mesh.prev d) ≡ mesh.from (step_north mesh d)
-      meets = cc (
+  west_on d l on off =
+      let meets : mesh.from (mesh.prev d)
+      ≡ mesh.from (step_north mesh d) = cc (
         prev_three mesh laws d,
-        (laws.twin_ends (mesh.next (mesh.next d)) (step_north mesh d)
-            (laws.next_low (mesh.next d) (laws.next_low d l)) (north_twin d l off)).0,
-      )
+        (laws.twin_ends (mesh.next (mesh.next d))
+            (step_north mesh d) (laws.next_low (mesh.next d) (laws.next_low d l)) (north_twin d l off)).0,
+      ) in
+      true_from_ne_false (cut (mesh.prev (step_north mesh d)))
+      (λ c. false≢true (sym (no_cut _ (north_low d l off) (south_off d l off, c) _ (laws.prev_low d l) meets).0 ∙ on))
 
   -- The north edges on both sides of an east edge that is not cut are cut or not together.
   corner_east : (d : ℕ) → d < mesh.count → cut (mesh.next d) ≡ false → mesh.from (mesh.prev (step_east mesh d))
@@ -156,15 +155,15 @@ module _ (mesh : HalfEdges) (laws : IsQuadManifold mesh) (cut : Cut) (full : IsC
       → cut (mesh.next (mesh.next (step_east mesh d))) ≡ false
   north_off d l off up =
       let lx = laws.next_low _ (laws.next_low d l) in
-      let free : IsOpen mesh cut (mesh.next (mesh.next d)) = (up, cc (laws.prev_next (mesh.next d))) in
+      let free : IsOpen mesh cut (mesh.next (mesh.next d)) = (up, cc (laws.prev_next _)) in
       let o = no_cut _ lx free _ (laws.prev_low _ (east_low d l off)) (corner_east d l off) in
-      cc (prev_twice mesh laws (step_east mesh d))
+      cc (prev_twice mesh laws _)
 
   pub north_on : (d : ℕ) → d < mesh.count → cut (mesh.next d) ≡ false → cut (mesh.next (mesh.next d)) ≡ true
       → cut (mesh.next (mesh.next (step_east mesh d))) ≡ true
   north_on d l off up = true_from_ne_false (cut (mesh.next (mesh.next (step_east mesh d))))
       (λ c. false≢true (sym (no_cut _ (laws.prev_low _ (east_low d l off))
-      (west_off d l off, cc (prev_twice mesh laws (step_east mesh d))) _
+      (west_off d l off, cc (prev_twice mesh laws _)) _
       (laws.next_low _ (laws.next_low d l)) (sym (corner_east d l off))).0 ∙ up))
 
   -- East and north of a cell without a cut edge there: the edge between the two cells above is not cut, and both ways
@@ -223,8 +222,7 @@ module _ (mesh : HalfEdges) (laws : IsQuadManifold mesh) (cut : Cut) (full : IsC
   row_above row off zero l = refl
   row_above {s} {w} row off (suc i) l = cc (
     row_above row off i (omega arith),
-    (square (easts mesh s i)
-        (row_low s w row i (omega arith)) (row.inside i l) (row_north_off row off i (omega arith))).1,
+    (square _ (row_low s w row i (omega arith)) (row.inside i l) (row_north_off row off i (omega arith))).1,
   )
 
   pub next_row : (s w : ℕ) → IsRow mesh cut s w → cut (mesh.next (mesh.next s)) ≡ false
@@ -249,7 +247,7 @@ module _ (mesh : HalfEdges) (laws : IsQuadManifold mesh) (cut : Cut) (full : IsC
   endless d l on off =
       let r = comes_back _ _ low (λ i j li lj s. east_same _ _
       (low i (omega arith)) (low j (omega arith)) (off i (omega arith)) (off j (omega arith)) s) in
-      cc (west_off (easts mesh d r.0) (low r.0 (omega (arith, r.1))) (off r.0 (omega (arith, r.1))))
+      cc (west_off _ (low r.0 (omega arith)) (off r.0 (omega arith)))
     where
       low : (i : ℕ) → i ≤ mesh.count → easts mesh d i < mesh.count
       low zero h = l

@@ -18,8 +18,7 @@ module _ (mesh : HalfEdges) (laws : IsQuadManifold mesh) where
       home m y = cc (
         laws.four_sides y,
         spin_next m (mesh.next (mesh.next (mesh.next y))),
-        spin_next m
-            (mesh.next (mesh.next y)),
+        spin_next m (mesh.next (mesh.next y)),
         spin_next m (mesh.next y),
       )
 
