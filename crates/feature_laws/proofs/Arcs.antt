@@ -5,7 +5,8 @@ use Rattle.std.proofs.lemmas.Bool.{or_right, and_from, and_parts, or_left, false
 use Rattle.std.proofs.lemmas.Option.{same_Some}
 use Rattle.sum_laws.proofs.Tests.{same_test}
 use Rattle.def_mesh.specs.{Faces.Faces, Darts.darts, Darts.from_of, Darts.to_of, Darts.next_of, Darts.prev_of}
-use Rattle.def_mesh.specs.{Darts.twin_of, Manifold.IsManifold, HalfEdges.IsQuadManifold, HalfEdges.half_edges}
+use Rattle.def_mesh.specs.{Darts.twin_of, Manifold.IsManifold}
+use Rattle.def_mesh.specs.HalfEdges.{HalfEdges, IsQuadManifold, half_edges}
 use Rattle.def_mesh.specs.Vertices.{fan_of}
 use Rattle.def_cut.specs.{Cuts.IsCross, Cuts.HasCross, Cuts.IsCut, FullCut.is_on, Steps.step_east, Steps.easts}
 use Rattle.def_cut.specs.Motion.{is_among}
@@ -23,8 +24,14 @@ use Rattle.std.specs.List.{list_any}
 
 module _ (faces : Faces) (m : IsManifold faces) (marks : List Bool) (marked : AreMarks faces marks)
     (cut_marks : List Bool) (kept : IsCutBeside faces marks cut_marks) where
+  abbrev mesh : HalfEdges
+  mesh = half_edges faces
+
   abbrev laws : IsQuadManifold (half_edges faces)
   laws = manifold_law faces m
+
+  abbrev east : ℕ → ℕ
+  east e = step_east (half_edges faces) e
 
   abbrev cut : IsCut (half_edges faces) (is_on cut_marks)
   cut = ((full_cut_law faces cut_marks m).0 kept.full).1
@@ -33,122 +40,70 @@ module _ (faces : Faces) (m : IsManifold faces) (marks : List Bool) (marked : Ar
   nodes = are_nodes faces laws cut_marks cut
 
   -- At a vertex that is no node a marked line goes straight on.
-  opposite : (x a b c : ℕ) → x < darts faces → IsCross (half_edges faces) x a b c
-      → is_node faces cut_marks (from_of faces x) ≡ false → is_on marks x ≡ true → is_on marks b ≡ true
-  opposite x a b c l k inner on = by_way (two_ways faces m marks marked x a b c l on k)
-    where
-      lc : c < darts faces
-      lc = low_c (half_edges faces) laws x a b c l k
-
-      -- The cut would turn from x to the edge on its left.
-      turns : is_on cut_marks c ≡ true → ⊥
-      turns y =
-          false≢true (sym inner ∙ (ap (is_node faces cut_marks) (sym (at_c (half_edges faces) laws x a b c l k))
-          ∙ nodes.corner c lc y (cut.alike x (prev_of c) l (laws.twin_twin (prev_of c) x (laws.prev_low c lc) k.last)
-          ∙ kept.kept x l on)))
-
-      by_way : (is_on marks b ≡ true)
-          ⊎ (((is_on marks a ≡ true) × (is_on marks c ≡ true)) ⊎ (is_break faces marks (from_of faces x) ≡ true))
-          → is_on marks b ≡ true
-      by_way (inl yb) = yb
-      by_way (inr (inl sides)) = absurd (turns (kept.kept c lc sides.1))
-      by_way (inr (inr y)) = by_dart
-          (any_where (λ e. is_on cut_marks e && is_on cut_marks (prev_of e)) (fan_of faces (from_of faces x))
-          (kept.turned x l y))
-        where
-          by_dart : (e : ℕ) × (is_among e (fan_of faces (from_of faces x)) ≡ true)
-              × ((is_on cut_marks e && is_on cut_marks (prev_of e)) ≡ true) → is_on marks b ≡ true
-          by_dart (e, n, on_both) =
-              let f : (e < darts faces) × (from_of faces e ≡ from_of faces x) = from_fan faces (from_of faces x) e n in
-              let p : (is_on cut_marks e ≡ true) × (is_on cut_marks (prev_of e) ≡ true) = and_parts _ _ on_both in
-              absurd (false≢true (sym inner ∙ (ap (is_node faces cut_marks) (sym f.1) ∙ nodes.corner e f.0 p.0 p.1)))
+  opposite : (x a b c : ℕ) → x < darts faces → IsCross mesh x a b c → is_node faces cut_marks (from_of faces x) ≡ false
+      → is_on marks x ≡ true → is_on marks b ≡ true
+  opposite x a b c l k inner on =
+      let lc = low_c mesh laws x a b c l k in
+      elim (two_ways faces m marks marked x a b c l on k) [
+        | inl yb ↦ yb
+        -- The cut would turn from x to the edge on its left.
+        | inr (inl sides) ↦ absurd (false≢true (sym inner
+            ∙ (ap (is_node faces cut_marks) (sym (at_c mesh laws x a b c l k))
+            ∙ nodes.corner c lc (kept.kept c lc sides.1) (cut.alike x (prev_of c) l
+            (laws.twin_twin (prev_of c) x (laws.prev_low c lc) k.last) ∙ kept.kept x l on))))
+        | inr (inr y) ↦
+            let found = any_where (λ e. is_on cut_marks e && is_on cut_marks (prev_of e)) (fan_of faces (from_of faces x))
+            (kept.turned x l y) in
+            let f = from_fan faces (from_of faces x) found.0 found.1 in
+            let p = and_parts (is_on cut_marks found.0) (is_on cut_marks (prev_of found.0)) found.2 in
+            absurd (false≢true (sym inner ∙ (ap (is_node faces cut_marks) (sym f.1) ∙ nodes.corner found.0 f.0 p.0 p.1)))
+      ]
 
   -- So it does along an arc,
-  onward : (e : ℕ) → e < darts faces → GoesStraight (half_edges faces) (is_on cut_marks) e
-      → is_node faces cut_marks (to_of faces e) ≡ false → is_on marks e ≡ true
-      → is_on marks (step_east (half_edges faces) e) ≡ true
-  onward e l g inner on = by_twin (twin_on faces m marks marked e l on)
-    where
-      by_twin : (t : ℕ) × (twin_of faces e ≡ Some t) → is_on marks (step_east (half_edges faces) e) ≡ true
-      by_twin (t, w) =
-          by_cross (nodes.through t e lt (kept.kept t lt t_on) t_twin (ap (is_node faces cut_marks) at ∙ inner))
-        where
-          lt : t < darts faces
-          lt = laws.twin_low e t l w
-
-          t_on : is_on marks t ≡ true
-          t_on = marked.alike e t l w ∙ on
-
-          t_twin : twin_of faces t ≡ Some e
-          t_twin = laws.twin_twin e t l w
-
-          at : from_of faces t ≡ to_of faces e
-          at = (laws.twin_ends e t l w).0
-
-          by_cross : HasCross (half_edges faces) t → is_on marks (step_east (half_edges faces) e) ≡ true
-          by_cross (a, b, c, k) = ap (is_on marks) (sym is)
-              ∙ opposite t a b c lt k (ap (is_node faces cut_marks) at ∙ inner) t_on
-            where
-              lb : b < darts faces
-              lb = low_b (half_edges faces) laws t a b c lt k
-
-              lc : c < darts faces
-              lc = low_c (half_edges faces) laws t a b c lt k
-
-              left : next_of e ≡ c
-              left =
-                  ap next_of (same_Some e (prev_of c)
-                  (sym t_twin ∙ laws.twin_twin (prev_of c) t (laws.prev_low c lc) k.last)) ∙ laws.next_prev c
-
-              is : b ≡ step_east (half_edges faces) e
-              is =
-                  sym (laws.next_prev b)
-                  ∙ (ap next_of (same_Some (prev_of b) (prev_of (step_east (half_edges faces) e))
-                  (sym (laws.twin_twin (prev_of b) c (laws.prev_low b lb) k.third)
-                  ∙ (ap (twin_of faces) (sym left) ∙ g.over))) ∙ laws.next_prev (step_east (half_edges faces) e))
+  onward : (e : ℕ) → e < darts faces → GoesStraight mesh (is_on cut_marks) e
+      → is_node faces cut_marks (to_of faces e) ≡ false → is_on marks e ≡ true → is_on marks (east e) ≡ true
+  onward e l g inner on =
+      let twin = twin_on faces m marks marked e l on in
+      let t = twin.0 in
+      let lt = laws.twin_low e t l twin.1 in
+      let t_on : is_on marks t ≡ true = marked.alike e t l twin.1 ∙ on in
+      let t_twin = laws.twin_twin e t l twin.1 in
+      let there : is_node faces cut_marks (from_of faces t) ≡ false =
+      ap (is_node faces cut_marks) (laws.twin_ends e t l twin.1).0 ∙ inner in
+      let k = nodes.through t e lt (kept.kept t lt t_on) t_twin there in
+      let b = k.1 in
+      let c = k.2 in
+      let left : next_of e ≡ c = ap next_of (same_Some e (prev_of c) (sym t_twin ∙ laws.twin_twin (prev_of c) t
+      (laws.prev_low c (low_c mesh laws t k.0 b c lt k.3)) k.3.last)) ∙ laws.next_prev c in
+      let is : b ≡ step_east (half_edges faces) e = sym (laws.next_prev b)
+      ∙ (ap next_of (same_Some (prev_of b) (prev_of (east e))
+      (sym (laws.twin_twin (prev_of b) c (laws.prev_low b (low_b mesh laws t k.0 b c lt k.3)) k.3.third)
+      ∙ (ap (twin_of faces) (sym left) ∙ g.over))) ∙ laws.next_prev (east e)) in
+      ap (is_on marks) (sym is) ∙ opposite t k.0 b c lt k.3 there t_on
 
   -- and back.
-  backward : (e : ℕ) → e < darts faces → GoesStraight (half_edges faces) (is_on cut_marks) e
-      → is_node faces cut_marks (to_of faces e) ≡ false → is_on marks (step_east (half_edges faces) e) ≡ true
-      → is_on marks e ≡ true
-  backward e l g inner on = by_twin (twin_on faces m marks marked (step_east (half_edges faces) e) g.low on)
-    where
-      by_twin : (t : ℕ) × (twin_of faces (step_east (half_edges faces) e) ≡ Some t) → is_on marks e ≡ true
-      by_twin (t, w) =
-          by_cross (nodes.through (step_east (half_edges faces) e) t g.low
-          (kept.kept (step_east (half_edges faces) e) g.low on) w there)
-        where
-          there : is_node faces cut_marks (from_of faces (step_east (half_edges faces) e)) ≡ false
-          there = ap (is_node faces cut_marks) g.from ∙ inner
+  backward : (e : ℕ) → e < darts faces → GoesStraight mesh (is_on cut_marks) e
+      → is_node faces cut_marks (to_of faces e) ≡ false → is_on marks (east e) ≡ true → is_on marks e ≡ true
+  backward e l g inner on =
+      let twin = twin_on faces m marks marked (east e) g.low on in
+      let there : is_node faces cut_marks (from_of faces (step_east (half_edges faces) e)) ≡ false =
+      ap (is_node faces cut_marks) g.from ∙ inner in
+      let k = nodes.through (east e) twin.0 g.low (kept.kept (east e) g.low on) twin.1 there in
+      let right : k.0 ≡ next_of e = same_Some k.0 (next_of e)
+      (sym k.3.first ∙ laws.twin_twin (next_of e) (prev_of (east e)) (laws.next_low e l) g.over) in
+      let is : twin_of faces e ≡ Some k.1 =
+      ap (twin_of faces) (sym (ap prev_of right ∙ laws.prev_next e)) ∙ k.3.second in
+      sym (marked.alike e k.1 l is) ∙ opposite (east e) k.0 k.1 k.2 g.low k.3 there on
 
-          by_cross : HasCross (half_edges faces) (step_east (half_edges faces) e) → is_on marks e ≡ true
-          by_cross (a, b, c, k) = sym (marked.alike e b l is)
-              ∙ opposite (step_east (half_edges faces) e) a b c g.low k there on
-            where
-              right : a ≡ next_of e
-              right = same_Some a (next_of e)
-                  (sym k.first ∙ laws.twin_twin (next_of e) (prev_of (step_east (half_edges faces) e))
-                  (laws.next_low e l) g.over)
-
-              is : twin_of faces e ≡ Some b
-              is = ap (twin_of faces) (sym (ap prev_of right ∙ laws.prev_next e)) ∙ k.second
-
-  along : (s n : ℕ) → IsRun (half_edges faces) (is_on cut_marks) (is_node faces cut_marks) s n → (k : ℕ) → k < n
-      → is_on marks (easts (half_edges faces) s k) ≡ is_on marks s
+  along : (s n : ℕ) → IsRun mesh (is_on cut_marks) (is_node faces cut_marks) s n → (k : ℕ) → k < n
+      → is_on marks (easts mesh s k) ≡ is_on marks s
   along s n run zero l = refl
-  along s n run (suc k) l = step (along s n run k (omega arith))
-    where
-      low : easts (half_edges faces) s k < darts faces
-      low = run_low (half_edges faces) laws (is_on cut_marks) cut (is_node faces cut_marks) nodes s n run k
-          (omega arith)
-
-      goes : GoesStraight (half_edges faces) (is_on cut_marks) (easts (half_edges faces) s k)
-      goes = run_goes (half_edges faces) laws (is_on cut_marks) cut (is_node faces cut_marks) nodes s n run k l
-
-      step : is_on marks (easts (half_edges faces) s k) ≡ is_on marks s
-          → is_on marks (easts (half_edges faces) s (suc k)) ≡ is_on marks s
-      step rest = same_test _ _ (backward (easts (half_edges faces) s k) low goes (run.inside k l))
-          (onward (easts (half_edges faces) s k) low goes (run.inside k l)) ∙ rest
+  along s n run (suc k) l =
+      let e = easts mesh s k in
+      let low = run_low mesh laws (is_on cut_marks) cut (is_node faces cut_marks) nodes s n run k (omega arith) in
+      let goes = run_goes mesh laws (is_on cut_marks) cut (is_node faces cut_marks) nodes s n run k l in
+      same_test _ _ (backward e low goes (run.inside k l)) (onward e low goes (run.inside k l))
+      ∙ along s n run k (omega arith)
 
 pub beside_arc_law : BesideArcLaw
 beside_arc_law faces marks cut_marks m marked kept s n run k l = along faces m marks marked cut_marks kept s n run k l
@@ -156,44 +111,29 @@ beside_arc_law faces marks cut_marks m marked kept s n run k l = along faces m m
 -- The cut that is traced beside marks is such a cut.
 pub traced_beside : (faces : Faces) (m : IsManifold faces) (marks : List Bool) (marked : AreMarks faces marks)
     → IsCutBeside faces marks (marked_cut faces marks)
-traced_beside faces m marks marked = record { full = kept.full; kept = kept.kept; turned = turned }
-  where
-    kept : KeepsMarks faces marks
-    kept = marked_law faces marks m marked
-
-    laws : IsQuadManifold (half_edges faces)
-    laws = manifold_law faces m
-
-    cut : IsCut (half_edges faces) (is_on (marked_cut faces marks))
-    cut = ((full_cut_law faces (marked_cut faces marks) m).0 kept.full).1
-
+traced_beside faces m marks marked =
+    let mesh = half_edges faces in
+    let cut_marks = marked_cut faces marks in
+    let kept = marked_law faces marks m marked in
+    let laws = manifold_law faces m in
+    let cut = ((full_cut_law faces cut_marks m).0 kept.full).1 in
     -- All edges at a break are in the cut.
-    at_break : (e t : ℕ) → e < darts faces → twin_of faces e ≡ Some t → is_break faces marks (from_of faces e) ≡ true
-        → is_on (marked_cut faces marks) e ≡ true
-    at_break e t l w y = origin_cut faces m marks marked e l (break_origin faces m marks marked e t w y)
-
-    turned : (d : ℕ) → d < darts faces → is_break faces marks (from_of faces d) ≡ true
-        → is_turn faces (marked_cut faces marks) (from_of faces d) ≡ true
-    turned d l y = by_cross (break_cross faces m marks marked d l y)
-      where
-        by_cross : HasCross (half_edges faces) d → is_turn faces (marked_cut faces marks) (from_of faces d) ≡ true
-        by_cross (a, b, c, k) = any_at
-            (λ e. is_on (marked_cut faces marks) e && is_on (marked_cut faces marks) (prev_of e)) d
-            (fan_of faces (from_of faces d)) (in_fan faces (from_of faces d) d l refl) (and_from _ _ here before)
-          where
-            la : a < darts faces
-            la = low_a (half_edges faces) laws d a b c l k
-
-            twin : (t : ℕ) × (twin_of faces d ≡ Some t)
-            twin = (both_twins (half_edges faces) laws d a b c l k d (record { low = l; at = refl })).1
-
-            here : is_on (marked_cut faces marks) d ≡ true
-            here = at_break d twin.0 l twin.1 y
-
-            before : is_on (marked_cut faces marks) (prev_of d) ≡ true
-            before = sym (cut.alike (prev_of d) a (laws.prev_low d l) k.first)
-                ∙ at_break a (prev_of d) la (laws.twin_twin (prev_of d) a (laws.prev_low d l) k.first)
-                (ap (is_break faces marks) (at_a (half_edges faces) laws d a b c l k) ∙ y)
+    let at_break : (e t : ℕ) → e < darts faces → twin_of faces e ≡ Some t → is_break faces marks (from_of faces e) ≡ true
+    → is_on (marked_cut faces marks) e ≡ true =
+    λ e t l w y. origin_cut faces m marks marked e l (break_origin faces m marks marked e t w y) in
+    record {
+      full = kept.full;
+      kept = kept.kept;
+      turned = λ d l y.
+          let k = break_cross faces m marks marked d l y in
+          let twin = (both_twins mesh laws d k.0 k.1 k.2 l k.3 d (record { low = l; at = refl })).1 in
+          let back = laws.prev_low d l in
+          any_at (λ e. is_on cut_marks e && is_on cut_marks (prev_of e)) d (fan_of faces (from_of faces d))
+          (in_fan faces (from_of faces d) d l refl) (and_from _ _ (at_break d twin.0 l twin.1 y)
+          (sym (cut.alike (prev_of d) k.0 back k.3.first) ∙ at_break k.0 (prev_of d)
+          (low_a mesh laws d k.0 k.1 k.2 l k.3) (laws.twin_twin (prev_of d) k.0 back k.3.first)
+          (ap (is_break faces marks) (at_a mesh laws d k.0 k.1 k.2 l k.3) ∙ y)));
+    }
 
 pub marked_arc_law : MarkedArcLaw
 marked_arc_law faces marks m marked s n run k l =

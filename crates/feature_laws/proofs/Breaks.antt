@@ -8,7 +8,8 @@ use Rattle.std.specs.{Prelude.option_map, List.list_any}
 use Rattle.def_mesh.specs.{Faces.Faces, Darts.darts, Darts.all_darts, Darts.from_of, Darts.to_of, Darts.next_of}
 use Rattle.def_mesh.specs.{Darts.prev_of, Darts.twin_of, Darts.straight_of, Manifold.IsManifold, Vertices.faces_at}
 use Rattle.def_mesh.specs.{Vertices.fan_of, Kinds.is_inner, Kinds.is_regular, Kinds.is_reflex, Components.seeds}
-use Rattle.def_mesh.specs.{Components.is_start, HalfEdges.IsQuadManifold, HalfEdges.half_edges}
+use Rattle.def_mesh.specs.{Components.is_start, HalfEdges.HalfEdges, HalfEdges.IsQuadManifold}
+use Rattle.def_mesh.specs.HalfEdges.{half_edges}
 use Rattle.def_runs.specs.Runs.{is_passed, follower}
 use Rattle.def_cut.specs.{Cuts.IsCross, Cuts.HasCross, FullCut.is_on, Motion.is_among, Steps.or_zero, Trails.IsStraight}
 use Rattle.def_feature.specs.Marks.{AreMarks, is_touched, is_found_on, goes_through, is_crossed}
@@ -31,8 +32,8 @@ pub from_fan : (faces : Faces) (v d : ℕ) → is_among d (fan_of faces v) ≡ t
 from_fan faces v d m =
     let f : (is_among d (all_darts faces) ≡ true) × (eqb (from_of faces d) v ≡ true) =
     from_filter (λ e. eqb (from_of faces e) v) d (all_darts faces) m in
-    let r : (0 ≤ d) × (d < 0 + darts faces) = range_among 0 (darts faces) d f.0 in
-    (omega (arith, r.1), eqb-true _ _ f.1)
+    let r = range_among 0 (darts faces) d f.0 in
+    (omega arith, eqb-true _ _ f.1)
 
 -- The edge of a dart is marked or has one dart: a line that comes there begins or ends.
 abbrev pub is_held : (faces : Faces) (marks : List Bool) (d : ℕ) → Bool
@@ -61,6 +62,9 @@ pub record GoesBack (faces : Faces) (marks : List Bool) (d : ℕ) : Type 0 where
   pub passed : is_passed faces (from_of faces d) ≡ true
 
 module _ (faces : Faces) (m : IsManifold faces) (marks : List Bool) (marked : AreMarks faces marks) where
+  abbrev mesh : HalfEdges
+  mesh = half_edges faces
+
   abbrev laws : IsQuadManifold (half_edges faces)
   laws = manifold_law faces m
 
@@ -81,99 +85,62 @@ module _ (faces : Faces) (m : IsManifold faces) (marks : List Bool) (marked : Ar
   pub break_cross : (d : ℕ) → d < darts faces → is_break faces marks (from_of faces d) ≡ true
       → HasCross (half_edges faces) d
   break_cross d l y =
-      let passed : (is_inner faces (from_of faces d) ≡ true) × (is_regular faces (from_of faces d) ≡ true) =
-      and_parts _ _ (and_parts (is_passed faces (from_of faces d)) _ y).0 in
+      let passed = and_parts (is_inner faces (from_of faces d)) (is_regular faces (from_of faces d))
+      (and_parts (is_passed faces (from_of faces d)) _ y).0 in
       regular_cross faces laws d l passed.0 passed.1
 
   -- The line over a dart of a cross goes through where the opposite one is marked too.
-  through_is : (x a b c : ℕ) → x < darts faces → IsCross (half_edges faces) x a b c
+  through_is : (x a b c : ℕ) → x < darts faces → IsCross mesh x a b c
       → goes_through faces marks (twin_of faces x) ≡ (is_on marks x && is_on marks b)
-  through_is x a b c l k = ap (goes_through faces marks) over
-      ∙ (ap (λ o. is_on marks (prev_of c) && is_found_on o marks) ahead ∙ ap (λ q. q && is_on marks b) same)
-    where
-      c_low : c < darts faces
-      c_low = low_c (half_edges faces) laws x a b c l k
-
-      over : twin_of faces x ≡ Some (prev_of c)
-      over = laws.twin_twin (prev_of c) x (laws.prev_low c c_low) k.last
-
-      ahead : straight_of faces (prev_of c) ≡ Some b
-      ahead = ap (λ y. option_map next_of (twin_of faces y)) (laws.next_prev c)
-          ∙ (ap (option_map next_of) (laws.twin_twin (prev_of b) c
-          (laws.prev_low b (low_b (half_edges faces) laws x a b c l k)) k.third) ∙ ap Some (laws.next_prev b))
-
-      same : is_on marks (prev_of c) ≡ is_on marks x
-      same = marked.alike x (prev_of c) l over
+  through_is x a b c l k =
+      let over = laws.twin_twin (prev_of c) x (laws.prev_low c (low_c mesh laws x a b c l k)) k.last in
+      let ahead : straight_of faces (prev_of c) ≡ Some b = ap (λ y. option_map next_of (twin_of faces y))
+      (laws.next_prev c) ∙ (ap (option_map next_of) (laws.twin_twin (prev_of b) c
+      (laws.prev_low b (low_b mesh laws x a b c l k)) k.third) ∙ ap Some (laws.next_prev b)) in
+      ap (goes_through faces marks) over ∙ (ap (λ o. is_on marks (prev_of c) && is_found_on o marks) ahead
+      ∙ ap (λ q. q && is_on marks b) (marked.alike x (prev_of c) l over))
 
   -- At a cross where d is marked, the opposite edge is marked, or both beside it are, or lines break there.
   pub two_ways : (d a b c : ℕ) → d < darts faces → is_on marks d ≡ true → IsCross (half_edges faces) d a b c
       → (is_on marks b ≡ true) ⊎ (((is_on marks a ≡ true) × (is_on marks c ≡ true))
       ⊎ (is_break faces marks (from_of faces d) ≡ true))
-  two_ways d a b c l on k = by_tests (cases_Bool (is_on marks b)) (cases_Bool (is_on marks a && is_on marks c))
-    where
-      la : a < darts faces
-      la = low_a (half_edges faces) laws d a b c l k
-
-      lb : b < darts faces
-      lb = low_b (half_edges faces) laws d a b c l k
-
-      lc : c < darts faces
-      lc = low_c (half_edges faces) laws d a b c l k
-
-      k1 : IsCross (half_edges faces) a b c d
-      k1 = rotated (half_edges faces) laws d a b c l k
-
-      k2 : IsCross (half_edges faces) b c d a
-      k2 = rotated (half_edges faces) laws a b c d la k1
-
-      k3 : IsCross (half_edges faces) c d a b
-      k3 = rotated (half_edges faces) laws b c d a lb k2
-
-      both : (p q : Bool) → (p && q) ≡ true → (q && p) ≡ true
-      both true true e = refl
-      both true false e = absurd (false≢true e)
-      both false q e = absurd (false≢true e)
-
-      not_through : is_on marks b ≡ false → (is_on marks a && is_on marks c) ≡ false → (e : ℕ) → (e ≡ d)
-          ⊎ ((e ≡ a) ⊎ ((e ≡ b) ⊎ (e ≡ c))) → goes_through faces marks (twin_of faces e) ≡ true → ⊥
-      not_through off side e (inl s) y = let p : (is_on marks d ≡ true) × (is_on marks b ≡ true) =
-          and_parts _ _ (sym (ap (λ x. goes_through faces marks (twin_of faces x)) s ∙ through_is d a b c l k) ∙ y) in
-          false≢true (sym off ∙ p.1)
-      not_through off side e (inr (inl s)) y =
-          false≢true
-          (sym side ∙ (sym (ap (λ x. goes_through faces marks (twin_of faces x)) s ∙ through_is a b c d la k1) ∙ y))
-      not_through off side e (inr (inr (inl s))) y = let p : (is_on marks b ≡ true) × (is_on marks d ≡ true) =
-          and_parts _ _ (sym (ap (λ x. goes_through faces marks (twin_of faces x)) s ∙ through_is b c d a lb k2) ∙ y) in
-          false≢true (sym off ∙ p.0)
-      not_through off side e (inr (inr (inr s))) y =
-          false≢true (sym side ∙ both (is_on marks c) (is_on marks a)
-          (sym (ap (λ x. goes_through faces marks (twin_of faces x)) s ∙ through_is c d a b lc k3) ∙ y))
-
-      none_through : is_on marks b ≡ false → (is_on marks a && is_on marks c) ≡ false
-          → is_crossed faces marks (from_of faces d) ≡ false
-      none_through off side = false_from_ne_true _
-          (λ y. by_dart (any_where (λ e. goes_through faces marks (twin_of faces e)) (fan_of faces (from_of faces d))
-          y))
-        where
-          by_dart : (e : ℕ) × (is_among e (fan_of faces (from_of faces d)) ≡ true)
-              × (goes_through faces marks (twin_of faces e) ≡ true) → ⊥
-          by_dart (e, n, y) =
-              let f : (e < darts faces) × (from_of faces e ≡ from_of faces d) = from_fan faces (from_of faces d) e n in
-              not_through off side e (one_of_four (half_edges faces) laws d a b c l k e
-              (record { low = f.0; at = f.1 })) y
-
-      touched : is_touched faces marks (from_of faces d) ≡ true
-      touched = any_at (is_on marks) d (fan_of faces (from_of faces d)) (in_fan faces (from_of faces d) d l refl) on
-
-      by_tests : (is_on marks b ≡ true) ⊎ (is_on marks b ≡ false) → ((is_on marks a && is_on marks c) ≡ true)
-          ⊎ ((is_on marks a && is_on marks c) ≡ false) → (is_on marks b ≡ true)
-          ⊎ (((is_on marks a ≡ true) × (is_on marks c ≡ true)) ⊎ (is_break faces marks (from_of faces d) ≡ true))
-      by_tests (inl y) s = inl y
-      by_tests (inr n) (inl y) = inr (inl (and_parts _ _ y))
-      by_tests (inr off) (inr side) =
-          inr
-          (inr (and_from _ _ (cross_passed d l (a, b, c, k))
-          (or_left _ _ (and_from _ _ touched (not_from_false _ (none_through off side))))))
+  two_ways d a b c l on k =
+      let v = from_of faces d in
+      let la = low_a mesh laws d a b c l k in
+      let lb = low_b mesh laws d a b c l k in
+      let k1 = rotated mesh laws d a b c l k in
+      let k2 = rotated mesh laws a b c d la k1 in
+      let k3 = rotated mesh laws b c d a lb k2 in
+      let through : (x e f : ℕ) → x ≡ e → goes_through faces marks (twin_of faces e) ≡ (is_on marks e && is_on marks f)
+      → goes_through faces marks (twin_of faces x) ≡ true → (is_on marks e ≡ true) × (is_on marks f ≡ true) =
+      λ x e f s is y. and_parts _ _ (sym (ap (λ x. goes_through faces marks (twin_of faces x)) s ∙ is) ∙ y) in
+      let not_through : is_on marks b ≡ false → (is_on marks a && is_on marks c) ≡ false → (e : ℕ)
+      → (e ≡ d) ⊎ ((e ≡ a) ⊎ ((e ≡ b) ⊎ (e ≡ c))) → goes_through faces marks (twin_of faces e) ≡ true → ⊥ =
+      λ off side e s y. elim s [
+        | inl s ↦ false≢true (sym off ∙ (through e d b s (through_is d a b c l k) y).1)
+        | inr (inl s) ↦
+            let p = through e a c s (through_is a b c d la k1) y in
+            false≢true (sym side ∙ and_from _ _ p.0 p.1)
+        | inr (inr (inl s)) ↦ false≢true (sym off ∙ (through e b d s (through_is b c d a lb k2) y).0)
+        | inr (inr (inr s)) ↦
+            let p = through e c a s (through_is c d a b (low_c mesh laws d a b c l k) k3) y in
+            false≢true (sym side ∙ and_from _ _ p.1 p.0)
+      ] in
+      let touched = any_at (is_on marks) d (fan_of faces v) (in_fan faces v d l refl) on in
+      elim (cases_Bool (is_on marks b)) [
+        | inl y ↦ inl y
+        | inr off ↦ elim (cases_Bool (is_on marks a && is_on marks c)) [
+          | inl y ↦ inr (inl (and_parts _ _ y))
+          | inr side ↦
+              let none : is_crossed faces marks (from_of faces d) ≡ false = false_from_ne_true _ (λ y.
+              let found = any_where (λ e. goes_through faces marks (twin_of faces e)) (fan_of faces v) y in
+              let f = from_fan faces v found.0 found.1 in
+              not_through off side found.0 (one_of_four mesh laws d a b c l k found.0
+              (record { low = f.0; at = f.1 })) found.2) in
+              inr (inr (and_from _ _ (cross_passed d l (a, b, c, k))
+              (or_left _ _ (and_from _ _ touched (not_from_false _ none)))))
+        ]
+      ]
 
   -- At a break each dart with a twin is an origin.
   pub break_origin : (d t : ℕ) → twin_of faces d ≡ Some t → is_break faces marks (from_of faces d) ≡ true
@@ -183,9 +150,7 @@ module _ (faces : Faces) (m : IsManifold faces) (marks : List Bool) (marked : Ar
   -- At a boundary vertex with more than two faces so is each dart with a twin, and at a singular one.
   reflex_origin : (d t : ℕ) → twin_of faces d ≡ Some t → is_inner faces (from_of faces d) ≡ false
       → 3 ≤ faces_at faces (from_of faces d) → is_origin faces marks d ≡ true
-  reflex_origin d t w out three =
-      or_left _ _
-      (or_right _ _ (and_from _ _ (ap is_some w)
+  reflex_origin d t w out three = or_left _ _ (or_right _ _ (and_from _ _ (ap is_some w)
       (or_left _ _ (and_from _ _ (not_from_false _ out) (lt-ltb 2 (faces_at faces (from_of faces d)) (omega arith))))))
 
   pub held_alone : (d : ℕ) → twin_of faces d ≡ None → is_held faces marks d ≡ true
@@ -194,97 +159,72 @@ module _ (faces : Faces) (m : IsManifold faces) (marks : List Bool) (marked : Ar
   -- A line begins with a marked dart, or a marked dart leads straight to it.
   pub one_back : (d : ℕ) → d < darts faces → is_on marks d ≡ true → (begins faces marks d ≡ true)
       ⊎ GoesBack faces marks d
-  one_back d l on = by_twin (twin_on d l on)
+  one_back d l on = by_kind (twin_on d l on).0 (twin_on d l on).1
     where
       beside : (t : ℕ) → twin_of faces d ≡ Some t → is_held faces marks (prev_of d) ≡ true
           → is_held faces marks (next_of t) ≡ true → begins faces marks d ≡ true
       beside t w before after = or_right _ _
           (and_from _ _ on (and_from _ _ before (ap (is_held_after faces marks) w ∙ after)))
 
-      by_cross : (t : ℕ) → twin_of faces d ≡ Some t → (a b c : ℕ) → IsCross (half_edges faces) d a b c
-          → (is_on marks b ≡ true) ⊎ (((is_on marks a ≡ true) × (is_on marks c ≡ true))
-          ⊎ (is_break faces marks (from_of faces d) ≡ true)) → (begins faces marks d ≡ true) ⊎ GoesBack faces marks d
-      by_cross t w a b c k (inr (inr y)) = inl (or_left _ _ (break_origin d t w y))
-      by_cross t w a b c k (inr (inl (ya, yc))) =
-          inl (beside t w (or_left _ _ (sym (marked.alike (prev_of d) a (laws.prev_low d l) k.first) ∙ ya))
-          (or_left _ _ (ap (is_on marks) after ∙ yc)))
-        where
-          over : twin_of faces d ≡ Some (prev_of c)
-          over = laws.twin_twin (prev_of c) d (laws.prev_low c (low_c (half_edges faces) laws d a b c l k)) k.last
+      goes_back : (a b c : ℕ) → IsCross mesh d a b c → is_on marks b ≡ true → GoesBack faces marks d
+      goes_back a b c k yb =
+          let a_low = low_a mesh laws d a b c l k in
+          let is : back faces d ≡ prev_of a = ap (λ o. prev_of (or_zero o)) k.first in
+          let a_twin = laws.twin_twin (prev_of d) a (laws.prev_low d l) k.first in
+          let ahead : straight_of faces (prev_of a) ≡ Some d = ap (λ x. option_map next_of (twin_of faces x))
+          (laws.next_prev a) ∙ (ap (option_map next_of) a_twin ∙ ap Some (laws.next_prev d)) in
+          let passed = cross_passed d l (a, b, c, k) in
+          let passed_there : is_passed faces (to_of faces (prev_of a)) ≡ true = ap (λ x. is_passed faces
+          (from_of faces x)) (laws.next_prev a) ∙ (ap (is_passed faces) (at_a mesh laws d a b c l k) ∙ passed) in
+          record {
+            low = rw is (laws.prev_low a a_low);
+            on = ap (is_on marks) is ∙ (sym (marked.alike (prev_of a) b (laws.prev_low a a_low) k.second) ∙ yb);
+            follows = ap (follower faces) is ∙ (cond-true (is_passed faces (to_of faces (prev_of a)))
+                (straight_of faces (prev_of a)) None passed_there ∙ ahead);
+            straight = (
+              prev_of d,
+              ap (λ x. twin_of faces (next_of x)) is ∙ (ap (twin_of faces) (laws.next_prev a) ∙ a_twin),
+              sym (laws.next_prev d),
+            );
+            cross = (a, b, c, k);
+            passed = passed;
+          }
 
-          after : next_of t ≡ c
-          after = ap next_of (same_Some t (prev_of c) (sym w ∙ over)) ∙ laws.next_prev c
-      by_cross t w a b c k (inl yb) = inr (record {
-        low = subst (λ (x : ℕ). x < darts faces) (sym is) pa_low;
-        on = ap (is_on marks) is ∙ (sym (marked.alike (prev_of a) b pa_low k.second) ∙ yb);
-        follows = ap (follower faces) is
-            ∙ (cond-true (is_passed faces (to_of faces (prev_of a))) (straight_of faces (prev_of a)) None passed_there
-            ∙ ahead);
-        straight = (
-          prev_of d,
-          ap (λ x. twin_of faces (next_of x)) is ∙ (ap (twin_of faces) (laws.next_prev a) ∙ a_twin),
-          sym (laws.next_prev d),
-        );
-        cross = (a, b, c, k);
-        passed = cross_passed d l (a, b, c, k);
-      })
-        where
-          a_low : a < darts faces
-          a_low = low_a (half_edges faces) laws d a b c l k
-
-          pa_low : prev_of a < darts faces
-          pa_low = laws.prev_low a a_low
-
-          is : back faces d ≡ prev_of a
-          is = ap (λ o. prev_of (or_zero o)) k.first
-
-          a_twin : twin_of faces a ≡ Some (prev_of d)
-          a_twin = laws.twin_twin (prev_of d) a (laws.prev_low d l) k.first
-
-          ahead : straight_of faces (prev_of a) ≡ Some d
-          ahead = ap (λ x. option_map next_of (twin_of faces x)) (laws.next_prev a)
-              ∙ (ap (option_map next_of) a_twin ∙ ap Some (laws.next_prev d))
-
-          passed_there : is_passed faces (to_of faces (prev_of a)) ≡ true
-          passed_there = ap (λ x. is_passed faces (from_of faces x)) (laws.next_prev a)
-              ∙ (ap (is_passed faces) (at_a (half_edges faces) laws d a b c l k) ∙ cross_passed d l (a, b, c, k))
+      by_cross : (t : ℕ) → twin_of faces d ≡ Some t → (a b c : ℕ) → IsCross mesh d a b c
+          → (begins faces marks d ≡ true) ⊎ GoesBack faces marks d
+      by_cross t w a b c k = elim (two_ways d a b c l on k) [
+        | inl yb ↦ inr (goes_back a b c k yb)
+        | inr (inl both) ↦
+            let over = laws.twin_twin (prev_of c) d (laws.prev_low c (low_c mesh laws d a b c l k)) k.last in
+            let after : next_of t ≡ c = ap next_of (same_Some t (prev_of c) (sym w ∙ over)) ∙ laws.next_prev c in
+            inl (beside t w (or_left _ _ (sym (marked.alike (prev_of d) a (laws.prev_low d l) k.first) ∙ both.0))
+            (or_left _ _ (ap (is_on marks) after ∙ both.1)))
+        | inr (inr y) ↦ inl (or_left _ _ (break_origin d t w y))
+      ]
 
       -- Where the boundary has two faces, both edges beside d have one dart.
       on_rim : (t : ℕ) → twin_of faces d ≡ Some t → is_inner faces (from_of faces d) ≡ false → (o p : Option ℕ)
           → twin_of faces (prev_of d) ≡ o → twin_of faces (next_of t) ≡ p → begins faces marks d ≡ true
       on_rim t w out None None before after = beside t w (held_alone (prev_of d) before) (held_alone (next_of t) after)
       on_rim t w out (Some a) p before after =
-          or_left _ _ (reflex_origin d t w out
-          (subst (λ (v : ℕ). 3 ≤ faces_at faces v) at
+          let a_low = turn_low mesh laws d a l before in
+          let at : from_of faces (next_of (prev_of a)) ≡ from_of faces d =
+          ap (from_of faces) (laws.next_prev a) ∙ turn_from mesh laws d a l before in
+          or_left _ _ (reflex_origin d t w out (rw (← at)
           (three_faces faces laws (prev_of a) (prev_of d) t (laws.prev_low a a_low)
           (ap (twin_of faces) (laws.next_prev a) ∙ laws.twin_twin (prev_of d) a (laws.prev_low d l) before)
           (ap (twin_of faces) (laws.next_prev d) ∙ w) (ap (is_inner faces) at ∙ out))))
-        where
-          a_low : a < darts faces
-          a_low = turn_low (half_edges faces) laws d a l before
-
-          at : from_of faces (next_of (prev_of a)) ≡ from_of faces d
-          at = ap (from_of faces) (laws.next_prev a) ∙ turn_from (half_edges faces) laws d a l before
       on_rim t w out None (Some u) before after =
-          or_left _ _ (reflex_origin d t w out
-          (subst (λ (v : ℕ). 3 ≤ faces_at faces v) at
-          (three_faces faces laws (prev_of d) t u (laws.prev_low d l) (ap (twin_of faces) (laws.next_prev d) ∙ w) after
-          (ap (is_inner faces) at ∙ out))))
-        where
-          at : from_of faces (next_of (prev_of d)) ≡ from_of faces d
-          at = ap (from_of faces) (laws.next_prev d)
+          let at : from_of faces (next_of (prev_of d)) ≡ from_of faces d = ap (from_of faces) (laws.next_prev d) in
+          or_left _ _ (reflex_origin d t w out (rw (← at)
+          (three_faces faces laws (prev_of d) t u (laws.prev_low d l)
+          (ap (twin_of faces) (laws.next_prev d) ∙ w) after (ap (is_inner faces) at ∙ out))))
 
-      by_kind : (t : ℕ) → twin_of faces d ≡ Some t → (is_inner faces (from_of faces d) ≡ true)
-          ⊎ (is_inner faces (from_of faces d) ≡ false) → (is_regular faces (from_of faces d) ≡ true)
-          ⊎ (is_regular faces (from_of faces d) ≡ false) → (begins faces marks d ≡ true) ⊎ GoesBack faces marks d
-      by_kind t w (inr out) r = inl (on_rim t w out (twin_of faces (prev_of d)) (twin_of faces (next_of t)) refl refl)
-      by_kind t w (inl inner) (inr off) =
-          inl (or_left _ _ (or_left _ _ (or_left _ _ (and_from _ _ inner (not_from_false _ off)))))
-      by_kind t w (inl inner) (inl regular) = at (regular_cross faces laws d l inner regular)
-        where
-          at : HasCross (half_edges faces) d → (begins faces marks d ≡ true) ⊎ GoesBack faces marks d
-          at (a, b, c, k) = by_cross t w a b c k (two_ways d a b c l on k)
-
-      by_twin : (t : ℕ) × (twin_of faces d ≡ Some t) → (begins faces marks d ≡ true) ⊎ GoesBack faces marks d
-      by_twin (t, w) = by_kind t w (cases_Bool (is_inner faces (from_of faces d)))
-          (cases_Bool (is_regular faces (from_of faces d)))
+      by_kind : (t : ℕ) → twin_of faces d ≡ Some t → (begins faces marks d ≡ true) ⊎ GoesBack faces marks d
+      by_kind t w = elim (cases_Bool (is_inner faces (from_of faces d))) [
+        | inr out ↦ inl (on_rim t w out (twin_of faces (prev_of d)) (twin_of faces (next_of t)) refl refl)
+        | inl inner ↦ elim (cases_Bool (is_regular faces (from_of faces d))) [
+          | inr off ↦ inl (or_left _ _ (or_left _ _ (or_left _ _ (and_from _ _ inner (not_from_false _ off)))))
+          | inl regular ↦ let k = regular_cross faces laws d l inner regular in by_cross t w k.0 k.1 k.2 k.3
+        ]
+      ]

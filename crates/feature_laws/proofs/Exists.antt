@@ -21,10 +21,9 @@ use Rattle.feature_laws.specs.Leads.{IsClosed, IsLedFrom, IsLeading, IsNext, Are
 pub one_conforming : (faces : Faces) (marks one other : List Bool) → IsConforming faces marks one
     → IsConforming faces marks other → one ≡ other
 one_conforming faces marks one other a b =
+    let same : (d : ℕ) → d < darts faces → is_on one d ≡ is_on other d = λ d l. same_test _ _
+    (λ y. (b.lined d l).1 ((a.lined d l).0 y)) (λ y. (a.lined d l).1 ((b.lined d l).0 y)) in
     ext_get_or false one other (a.long ∙ sym b.long) (λ d l. same d (omega (arith, l, a.long)))
-  where
-    same : (d : ℕ) → d < darts faces → is_on one d ≡ is_on other d
-    same d l = same_test _ _ (λ y. (b.lined d l).1 ((a.lined d l).0 y)) (λ y. (a.lined d l).1 ((b.lined d l).0 y))
 
 module _ (faces : Faces) (m : IsManifold faces) where
   abbrev unled : (led : List Bool) → ℕ
@@ -32,36 +31,24 @@ module _ (faces : Faces) (m : IsManifold faces) where
 
   fewer : (led : List Bool) (k : ℕ) → length led ≡ darts faces → k < darts faces → is_on led k ≡ false
       → unled (set led k true) < unled led
-  fewer led k long l off = count_below_lt (λ d. cond (is_on (set led k true) d) 0 1) (λ d. cond (is_on led d) 0 1)
-      (darts faces) k l (λ d h. le d (cases_eq d k)) less
-    where
-      here : is_on (set led k true) k ≡ true
-      here = get_or-set_same led k true false (omega (arith, long, l))
-
-      one : ◌≡◌ {A = ℕ} (cond (is_on led k) 0 1) 1
-      one = ap (λ b. cond {A = ℕ} b 0 1) off
-
-      none : ◌≡◌ {A = ℕ} (cond (is_on (set led k true) k) 0 1) 0
-      none = ap (λ b. cond {A = ℕ} b 0 1) here
-
-      less : cond (is_on (set led k true) k) 0 1 < cond (is_on led k) 0 1
-      less = omega (arith, one, none)
-
-      le : (d : ℕ) → (d ≡ k) ⊎ (d ≡ k → ⊥) → cond (is_on (set led k true) d) 0 1 ≤ cond (is_on led d) 0 1
-      le d (inl e) = subst (λ (x : ℕ). cond (is_on (set led k true) x) 0 1 ≤ cond (is_on led x) 0 1) (sym e)
-          (omega (arith, less))
-      le d (inr ne) = let same : ◌≡◌ {A = ℕ} (cond (is_on (set led k true) d) 0 1) (cond (is_on led d) 0 1) =
-          ap (λ b. cond {A = ℕ} b 0 1) (get_or-set_other led k d true false ne) in omega (arith, same)
+  fewer led k long l off =
+      let one : ◌≡◌ {A = ℕ} (cond (is_on led k) 0 1) 1 = ap (λ b. cond {A = ℕ} b 0 1) off in
+      let none : ◌≡◌ {A = ℕ} (cond (is_on (set led k true) k) 0 1) 0 =
+      ap (λ b. cond {A = ℕ} b 0 1) (get_or-set_same led k true false (omega arith)) in
+      count_below_lt (λ d. cond (is_on (set led k true) d) 0 1) (λ d. cond (is_on led d) 0 1) (darts faces) k l
+      (λ d h. elim (cases_eq d k) [
+        | inl e ↦ rw e (omega arith)
+        | inr ne ↦
+            let same : ◌≡◌ {A = ℕ} (cond (is_on (set led k true) d) 0 1) (cond (is_on led d) 0 1) =
+            ap (λ b. cond {A = ℕ} b 0 1) (get_or-set_other led k d true false ne) in
+            omega arith
+      ]) (omega arith)
 
   next_low : (d e : ℕ) → d < darts faces → follower faces d ≡ Some e → e < darts faces
-  next_low d e l f = at (follows faces d e f).1
-    where
-      laws : IsQuadManifold (half_edges faces)
-      laws = manifold_law faces m
-
-      at : IsStraight (half_edges faces) d e → e < darts faces
-      at (t, w, is) = subst (λ (x : ℕ). x < darts faces) (sym is)
-          (laws.next_low t (laws.twin_low _ t (laws.next_low d l) w))
+  next_low d e l f =
+      let laws = manifold_law faces m in
+      let on = (follows faces d e f).1 in
+      rw on.2 (laws.next_low on.0 (laws.twin_low _ on.0 (laws.next_low d l) on.1))
 
   lead_on : (s : ℕ) (old : List Bool) → length old ≡ darts faces → (fuel : ℕ) (now : List Bool) (at : ℕ)
       → IsLeading faces s old now at → unled now < fuel → (new : List Bool) × IsLedFrom faces s old new
@@ -76,14 +63,13 @@ module _ (faces : Faces) (m : IsManifold faces) where
           → ((next : (List Bool) × ℕ) → IsLeading faces s old next.0 next.1 → unled next.0 < fuel → (new : List Bool)
           × IsLedFrom faces s old new) → (new : List Bool) × IsLedFrom faces s old new
       by_next None f go = done (λ e g. let clash : None ≡ Some e = sym f ∙ g in absurd cc)
-      by_next (Some e) f go = by_mark (cases_Bool (is_on now e))
-        where
-          by_mark : (is_on now e ≡ true) ⊎ (is_on now e ≡ false) → (new : List Bool) × IsLedFrom faces s old new
-          by_mark (inl on) = done (λ x g. ap (is_on now) (same_Some x e (sym g ∙ f)) ∙ on)
-          by_mark (inr off) =
-              let low : e < darts faces = next_low at e is.low f in
-              go (set now e true, e) (lead_more faces s old now at e long is (f, low, off))
-              (omega (arith, l, fewer now e (is.long ∙ long) low off))
+      by_next (Some e) f go = elim (cases_Bool (is_on now e)) [
+        | inl on ↦ done (λ x g. ap (is_on now) (same_Some x e (sym g ∙ f)) ∙ on)
+        | inr off ↦
+            let low = next_low at e is.low f in
+            go (set now e true, e) (lead_more faces s old now at e long is (f, low, off))
+            (omega (arith, fewer now e (is.long ∙ long) low off))
+      ]
 
   led_below : (sources : List Bool) (n : ℕ) → n ≤ darts faces → (led : List Bool) × AreLed faces sources led n
   led_below sources zero le = (
@@ -95,62 +81,47 @@ module _ (faces : Faces) (m : IsManifold faces) where
       sound = λ d on. absurd (false≢true (sym (none_on (darts faces) d) ∙ on));
     },
   )
-  led_below sources (suc n) le = by_rest (led_below sources n (omega (arith, le)))
+  led_below sources (suc n) le =
+      let before = led_below sources n (omega (arith, le)) in
+      by_test before.0 before.1 (is_on sources n) refl
     where
-      by_rest : (led : List Bool) × AreLed faces sources led n → (led : List Bool) × AreLed faces sources led (suc n)
-      by_rest (led, is) = by_test (is_on sources n) refl
-        where
-          step : suc n ≡ n + 1
-          step = omega arith
+      up : (new : List Bool) → AreLed faces sources new (n + 1) → (led : List Bool) × AreLed faces sources led (suc n)
+      up new r =
+          let step : n + 1 ≡ suc n = omega arith in
+          (new, subst (λ (k : ℕ). AreLed faces sources new k) step r)
 
-          up : (new : List Bool) → AreLed faces sources new (n + 1) → (led : List Bool)
-              × AreLed faces sources led (suc n)
-          up new r = (new, subst (λ (k : ℕ). AreLed faces sources new k) (sym step) r)
+      by_test : (led : List Bool) → AreLed faces sources led n → (b : Bool) → is_on sources n ≡ b → (new : List Bool)
+          × AreLed faces sources new (suc n)
+      by_test led is false y =
+          up led (led_more faces sources led led n false le (sym y) is (λ t. absurd (false≢true t)) (λ t. refl))
+      by_test led is true y =
+          let line = lead_on n led is.long (suc (unled (set led n true))) (set led n true) n
+          (lead_begins faces n led is.long le is.closed) (omega arith) in
+          up line.0 (led_more faces sources led line.0 n true le (sym y) is (λ t. line.1)
+          (λ t. absurd (false≢true (sym t))))
 
-          by_line : is_on sources n ≡ true → (new : List Bool) × IsLedFrom faces n led new → (led : List Bool)
-              × AreLed faces sources led (suc n)
-          by_line y (new, line) = up new
-              (led_more faces sources led new n true le (sym y) is (λ t. line) (λ t. absurd (false≢true (sym t))))
-
-          by_test : (b : Bool) → is_on sources n ≡ b → (led : List Bool) × AreLed faces sources led (suc n)
-          by_test false y = up led (led_more faces sources led led n false le (sym y) is (λ t. absurd (false≢true t))
-              (λ t. refl))
-          by_test true y =
-              by_line y (lead_on n led is.long (suc (unled (set led n true))) (set led n true) n
-              (lead_begins faces n led is.long le is.closed) (omega arith))
+abbrev is_source_at : (faces : Faces) (marks : List Bool) → ℕ → Bool
+is_source_at faces marks d = cond (is_among d (marked_starts faces marks)) true (is_on marks d)
 
 pub a_conforming : (faces : Faces) (marks : List Bool) → IsManifold faces → AreMarks faces marks → (cut : List Bool)
     × IsConforming faces marks cut
-a_conforming faces marks m marked = by_led (led_below faces m sources (darts faces) (omega arith))
+a_conforming faces marks m marked =
+    let led = led_below faces m sources (darts faces) (omega arith) in
+    let cut = map (λ d. is_led_edge led.0 d (twin_of faces d)) (all_darts faces) in
+    (cut, conforms faces m marks (marked_starts faces marks) sources led.0 cut refl told led.1 refl)
   where
     sources : List Bool
-    sources = map (λ d. cond (is_among d (marked_starts faces marks)) true (is_on marks d)) (all_darts faces)
+    sources = map (is_source_at faces marks) (all_darts faces)
 
-    long : length sources ≡ darts faces
-    long = length-map (all_darts faces) (λ d. cond (is_among d (marked_starts faces marks)) true (is_on marks d))
-        ∙ length-range_with_len 0 (darts faces)
-
-    told : (d : ℕ) → is_on sources d ≡ cond (is_among d (marked_starts faces marks)) true (is_on marks d)
-    told d = by_place (cases_lt d (darts faces))
+    told : (d : ℕ) → is_on sources d ≡ is_source_at faces marks d
+    told d = elim (cases_lt d (darts faces)) [
+      | inl l ↦ get_or-map-range_with_len (is_source_at faces marks) 0 (darts faces) d d false l (omega arith)
+      | inr le ↦ false_from_ne_true _ (λ y. omega (arith, mark_low sources d y, length-map (all_darts faces) (is_source_at faces marks), length-range_with_len 0 (darts faces)))
+          ∙ none le (is_among d (marked_starts faces marks)) (is_on marks d) refl refl
+    ]
       where
         none : (darts faces ≤ d) → (b c : Bool) → is_among d (marked_starts faces marks) ≡ b → is_on marks d ≡ c
             → false ≡ cond b true c
         none le true c n k = absurd (omega (arith, le, (origin_of faces marks d n).0))
-        none le false true n k = absurd (omega (arith, le, mark_low marks d k, marked.long))
+        none le false true n k = absurd (omega (arith, mark_low marks d k, marked.long))
         none le false false n k = refl
-
-        by_place : (d < darts faces) ⊎ (darts faces ≤ d)
-            → is_on sources d ≡ cond (is_among d (marked_starts faces marks)) true (is_on marks d)
-        by_place (inl l) = get_or-map-range_with_len
-            (λ x. cond (is_among x (marked_starts faces marks)) true (is_on marks x)) 0 (darts faces) d d false l
-            (omega arith)
-        by_place (inr le) = false_from_ne_true _ (λ y. omega (arith, le, mark_low sources d y, long))
-            ∙ none le (is_among d (marked_starts faces marks)) (is_on marks d) refl refl
-
-    by_led : (led : List Bool) × AreLed faces sources led (darts faces) → (cut : List Bool)
-        × IsConforming faces marks cut
-    by_led (led, is) = (
-      map (λ d. is_led_edge led d (twin_of faces d)) (all_darts faces),
-      conforms faces m marks (marked_starts faces marks) sources led
-          (map (λ d. is_led_edge led d (twin_of faces d)) (all_darts faces)) refl told is refl,
-    )

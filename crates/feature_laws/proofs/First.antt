@@ -7,10 +7,11 @@ use Rattle.std.specs.List.{list_any}
 use Rattle.def_mesh.specs.{Faces.Faces, Darts.darts, Darts.all_darts, Darts.from_of, Darts.to_of, Darts.next_of}
 use Rattle.def_mesh.specs.{Darts.prev_of, Darts.twin_of, Manifold.IsManifold, Kinds.is_end, Kinds.is_inner}
 use Rattle.def_mesh.specs.{Kinds.is_singular, Components.seeds, Components.is_start, Components.start_darts}
-use Rattle.def_mesh.specs.HalfEdges.{IsQuadManifold, half_edges}
+use Rattle.def_mesh.specs.HalfEdges.{HalfEdges, IsQuadManifold, half_edges}
 use Rattle.def_cut.specs.{Cuts.IsCross, Cuts.HasCross, FullCut.is_on, Motion.ridden, Motion.is_among, Motion.begun}
 use Rattle.def_cut.specs.{Trails.Joins, Trails.IsSource, Trails.HasSources, Traced.terrain_of}
 use Rattle.def_feature.specs.Marks.{AreMarks, is_break}
+use Rattle.def_cut.specs.Motion.{State}
 use Rattle.def_feature.specs.Marked.{is_origin, marked_starts, marked_first}
 use Rattle.cut_laws.proofs.Crosses.{low_a, low_b, at_a, at_b, both_twins}
 use Rattle.cut_laws.proofs.Darts.{turn_from, turn_low}
@@ -35,195 +36,170 @@ pub origin_of : (faces : Faces) (marks : List Bool) (d : ℕ) → is_among d (ma
 origin_of faces marks d n =
     let f : (is_among d (all_darts faces) ≡ true) × ((is_origin faces marks d && not (is_on marks d)) ≡ true) =
     from_filter (λ e. is_origin faces marks e && not (is_on marks e)) d (all_darts faces) n in
-    let r : (0 ≤ d) × (d < 0 + darts faces) = range_among 0 (darts faces) d f.0 in
-    (omega (arith, r.1), (and_parts _ _ f.1).0)
+    let r = range_among 0 (darts faces) d f.0 in
+    (omega arith, (and_parts _ _ f.1).0)
 
 module _ (faces : Faces) (m : IsManifold faces) (marks : List Bool) (marked : AreMarks faces marks) where
+  abbrev mesh : HalfEdges
+  mesh = half_edges faces
+
   abbrev laws : IsQuadManifold (half_edges faces)
   laws = manifold_law faces m
 
-  rides_first : (d : ℕ) → is_among d (marked_starts faces marks) ≡ true
-      → is_among d (ridden (map begun (marked_starts faces marks))) ≡ true
-  rides_first d n = ap (is_among d) (ridden_begun (marked_starts faces marks)) ∙ n
+  abbrev starts : List ℕ
+  starts = marked_starts faces marks
+
+  abbrev first : State
+  first = marked_first faces marks
+
+  abbrev IsShutFirst : ℕ → Type 0
+  IsShutFirst d = IsShut (terrain_of faces) (marked_first faces marks) d
+
+  abbrev IsCrossedFirst : ℕ → Type 0
+  IsCrossedFirst v = IsCrossedAt (terrain_of faces) (marked_first faces marks) v
 
   pub is_first : (d : ℕ) → is_among d (ridden (map begun (marked_starts faces marks))) ≡ true
       → is_among d (marked_starts faces marks) ≡ true
-  is_first d n = sym (ap (is_among d) (ridden_begun (marked_starts faces marks))) ∙ n
+  is_first d n = sym (ap (is_among d) (ridden_begun starts)) ∙ n
 
   -- An origin is marked, or a rider starts there.
   pub origin_soon : (d : ℕ) → d < darts faces → is_origin faces marks d ≡ true → IsSoon (marked_first faces marks) d
-  origin_soon d l y = elim (cases_Bool (is_on marks d))
-      [ inl on ↦ inl on | inr off ↦ inr (rides_first d (origin_in faces marks d l y off)) ]
+  origin_soon d l y = elim (cases_Bool (is_on marks d)) [
+    | inl on ↦ inl on
+    | inr off ↦ inr (ap (is_among d) (ridden_begun starts) ∙ origin_in faces marks d l y off)
+  ]
 
   -- Of the darts with a twin that leave one vertex all are origins or none.
   pub all_origins : (d e t : ℕ) → d < darts faces → e < darts faces → is_origin faces marks d ≡ true
       → from_of faces e ≡ from_of faces d → twin_of faces e ≡ Some t → is_origin faces marks e ≡ true
-  all_origins d e t ld le y at w = by_why (or_cases _ _ y)
-    where
-      by_why : (is_start faces (seeds faces) d ≡ true)
-          ⊎ ((is_some (twin_of faces d) && is_break faces marks (from_of faces d)) ≡ true)
-          → is_origin faces marks e ≡ true
-      by_why (inl s) = or_left _ _ (start_of faces e (all_start faces m d e t le (start_in faces d ld s) at w)).1
-      by_why (inr b) = or_right (is_start faces (seeds faces) e) _
-          (and_from _ _ (ap is_some w) (ap (is_break faces marks) at ∙ (and_parts _ _ b).1))
+  all_origins d e t ld le y at w = elim (or_cases (is_start faces (seeds faces) d) _ y) [
+    | inl s ↦ or_left _ _ (start_of faces e (all_start faces m d e t le (start_in faces d ld s) at w)).1
+    | inr b ↦ or_right (is_start faces (seeds faces) e) _
+        (and_from _ _ (ap is_some w) (ap (is_break faces marks) at ∙ (and_parts _ _ b).1))
+  ]
 
   -- So all edges at an origin are shut.
   at_origin : (d e : ℕ) → d < darts faces → is_origin faces marks d ≡ true → e < darts faces
-      → from_of faces e ≡ from_of faces d → IsShut (terrain_of faces) (marked_first faces marks) e
+      → from_of faces e ≡ from_of faces d → IsShutFirst e
   at_origin d e ld y le at = by_twin (twin_of faces e) refl
     where
-      by_twin : (o : Option ℕ) → twin_of faces e ≡ o → IsShut (terrain_of faces) (marked_first faces marks) e
+      by_twin : (o : Option ℕ) → twin_of faces e ≡ o → IsShutFirst e
       by_twin None w = inr (inl w)
       by_twin (Some x) w = inl (origin_soon e le (all_origins d e x ld le y at w))
 
-  before_origin : (d : ℕ) → d < darts faces → is_origin faces marks d ≡ true
-      → IsShut (terrain_of faces) (marked_first faces marks) (prev_of d)
+  before_origin : (d : ℕ) → d < darts faces → is_origin faces marks d ≡ true → IsShutFirst (prev_of d)
   before_origin d ld y = by_twin (twin_of faces (prev_of d)) refl
     where
-      by_twin : (o : Option ℕ) → twin_of faces (prev_of d) ≡ o
-          → IsShut (terrain_of faces) (marked_first faces marks) (prev_of d)
+      by_twin : (o : Option ℕ) → twin_of faces (prev_of d) ≡ o → IsShutFirst (prev_of d)
       by_twin None w = inr (inl w)
       by_twin (Some a) w =
-          let la : a < darts faces = turn_low (half_edges faces) laws d a ld w in
-          inr
-          (inr (
+          let la = turn_low mesh laws d a ld w in
+          inr (inr (
             a,
             w,
-            origin_soon a la (all_origins d a (prev_of d) ld la y (turn_from (half_edges faces) laws d a ld w)
+            origin_soon a la (all_origins d a (prev_of d) ld la y (turn_from mesh laws d a ld w)
                 (laws.twin_twin (prev_of d) a (laws.prev_low d ld) w)),
           ))
 
   -- What is held is shut.
-  held_shut : (d : ℕ) → is_held faces marks d ≡ true → IsShut (terrain_of faces) (marked_first faces marks) d
-  held_shut d h = elim (or_cases _ _ h)
-      [ inl on ↦ inl (inl on) | inr n ↦ inr (inl (none_of (twin_of faces d) (not-true (is_some (twin_of faces d)) n))) ]
-    where
-      none_of : (o : Option ℕ) → is_some o ≡ false → o ≡ None
-      none_of None e = refl
-      none_of (Some t) e = absurd (false≢true (sym e))
+  held_shut : (d : ℕ) → is_held faces marks d ≡ true → IsShutFirst d
+  held_shut d h =
+      let none_of : (o : Option ℕ) → is_some o ≡ false → o ≡ None =
+      elim [ None ↦ λ e. refl | Some t ↦ λ e. absurd (false≢true (sym e)) ] in
+      elim (or_cases (is_on marks d) _ h) [
+        | inl on ↦ inl (inl on)
+        | inr n ↦ inr (inl (none_of (twin_of faces d) (not-true (is_some (twin_of faces d)) n)))
+      ]
 
-  begins_soon : (d : ℕ) → d < darts faces → begins faces marks d ≡ true → IsSoon (marked_first faces marks) d
+  begins_soon : (d : ℕ) → d < darts faces → begins faces marks d ≡ true → IsSoon first d
   begins_soon d l y = elim (or_cases _ _ y) [ inl o ↦ origin_soon d l o | inr h ↦ inl (and_parts _ _ h).0 ]
 
-  begins_before : (d : ℕ) → d < darts faces → begins faces marks d ≡ true
-      → IsShut (terrain_of faces) (marked_first faces marks) (prev_of d)
+  begins_before : (d : ℕ) → d < darts faces → begins faces marks d ≡ true → IsShutFirst (prev_of d)
   begins_before d l y = elim (or_cases _ _ y)
       [ inl o ↦ before_origin d l o | inr h ↦ held_shut (prev_of d) (and_parts _ _ (and_parts _ _ h).1).0 ]
 
   begins_beside : (d t : ℕ) → d < darts faces → begins faces marks d ≡ true → twin_of faces d ≡ Some t
-      → IsShut (terrain_of faces) (marked_first faces marks) (next_of t)
+      → IsShutFirst (next_of t)
   begins_beside d t l y w = elim (or_cases _ _ y) [
     | inl o ↦ at_origin d (next_of t) l o (laws.next_low t (laws.twin_low d t l w)) (laws.twin_ends d t l w).1
     | inr h ↦ held_shut (next_of t) (sym (ap (is_held_after faces marks) w) ∙ (and_parts _ _ (and_parts _ _ h).1).1)
   ]
 
   -- Two opposite edges at a cross that are soon.
-  crossed : (v x a b c : ℕ) → x < darts faces → from_of faces x ≡ v → IsCross (half_edges faces) x a b c
-      → IsSoon (marked_first faces marks) x → IsSoon (marked_first faces marks) b
-      → IsCrossedAt (terrain_of faces) (marked_first faces marks) v
-  crossed v x a b c l at k sx sb =
+  crossed : {v x a b c : ℕ} → x < darts faces → from_of faces x ≡ v → IsCross mesh x a b c → IsSoon first x
+      → IsSoon first b → IsCrossedFirst v
+  crossed {x} {a} {b} {c} l at k sx sb =
       record { x = x; a = a; b = b; c = c; low = l; at = at; cross = k; soon = sx; facing = sb }
 
   -- At a cross where some dart is an origin, all are soon.
-  by_origin : (v x : ℕ) → x < darts faces → from_of faces x ≡ v → HasCross (half_edges faces) x
-      → is_origin faces marks x ≡ true → IsCrossedAt (terrain_of faces) (marked_first faces marks) v
+  by_origin : (v x : ℕ) → x < darts faces → from_of faces x ≡ v → HasCross mesh x → is_origin faces marks x ≡ true
+      → IsCrossedFirst v
   by_origin v x l at (a, b, c, k) y =
-      let lb : b < darts faces = low_b (half_edges faces) laws x a b c l k in
-      let b_at : from_of faces b ≡ from_of faces x = at_b (half_edges faces) laws x a b c l k in
-      let t : (t : ℕ) × (twin_of faces b ≡ Some t) =
-      (both_twins (half_edges faces) laws x a b c l k b (record { low = lb; at = b_at })).1 in
-      crossed v x a b c l at k (origin_soon x l y) (origin_soon b lb (all_origins x b t.0 l lb y b_at t.1))
+      let lb = low_b mesh laws x a b c l k in
+      let b_at = at_b mesh laws x a b c l k in
+      let t = (both_twins mesh laws x a b c l k b (record { low = lb; at = b_at })).1 in
+      crossed l at k (origin_soon x l y) (origin_soon b lb (all_origins x b t.0 l lb y b_at t.1))
 
   -- At a cross where some dart is marked, two opposite edges are soon.
-  by_mark : (v x : ℕ) → x < darts faces → from_of faces x ≡ v → HasCross (half_edges faces) x → is_on marks x ≡ true
-      → IsCrossedAt (terrain_of faces) (marked_first faces marks) v
-  by_mark v x l at (a, b, c, k) on = by_way (two_ways faces m marks marked x a b c l on k)
-    where
-      by_way : (is_on marks b ≡ true)
-          ⊎ (((is_on marks a ≡ true) × (is_on marks c ≡ true)) ⊎ (is_break faces marks (from_of faces x) ≡ true))
-          → IsCrossedAt (terrain_of faces) (marked_first faces marks) v
-      by_way (inl yb) = crossed v x a b c l at k (inl on) (inl yb)
-      by_way (inr (inl (ya, yc))) = crossed v a b c x (low_a (half_edges faces) laws x a b c l k)
-          (at_a (half_edges faces) laws x a b c l k ∙ at) (rotated (half_edges faces) laws x a b c l k) (inl ya)
-          (inl yc)
-      by_way (inr (inr y)) =
-          let t : (t : ℕ) × (twin_of faces x ≡ Some t) = twin_on faces m marks marked x l on in
-          by_origin v x l at (a, b, c, k)
-          (or_right (is_start faces (seeds faces) x) _ (and_from _ _ (ap is_some t.1) y))
+  by_mark : (v x : ℕ) → x < darts faces → from_of faces x ≡ v → HasCross mesh x → is_on marks x ≡ true
+      → IsCrossedFirst v
+  by_mark v x l at (a, b, c, k) on = elim (two_ways faces m marks marked x a b c l on k) [
+    | inl yb ↦ crossed l at k (inl on) (inl yb)
+    | inr (inl both) ↦ crossed (low_a mesh laws x a b c l k) (at_a mesh laws x a b c l k ∙ at)
+        (rotated mesh laws x a b c l k) (inl both.0) (inl both.1)
+    | inr (inr y) ↦ by_origin v x l at (a, b, c, k) (or_right (is_start faces (seeds faces) x) _
+        (and_from _ _ (ap is_some (twin_on faces m marks marked x l on).1) y))
+  ]
 
   first_through : (d : ℕ) → d < darts faces → (marked_first faces marks).stood (from_of faces d) ≡ true
       → not (is_inner faces (from_of faces d)) ≡ false → is_singular faces (from_of faces d) ≡ false
-      → IsCrossedAt (terrain_of faces) (marked_first faces marks) (from_of faces d)
-  first_through d low k inner regular = by_stood (or_cases _ _ k)
-    where
-      cross_at : (x : ℕ) → x < darts faces → from_of faces x ≡ from_of faces d → HasCross (half_edges faces) x
-      cross_at x l at = (terrain faces m).crossed x l (ap (λ v. not (is_inner faces v)) at ∙ inner)
-          (ap (is_singular faces) at ∙ regular)
-
-      by_start : (x : ℕ) × (is_among x (marked_starts faces marks) ≡ true)
-          × (eqb (from_of faces x) (from_of faces d) ≡ true) → IsCrossedAt (terrain_of faces) (marked_first faces marks)
-          (from_of faces d)
-      by_start (x, n, e) =
-          let o : (x < darts faces) × (is_origin faces marks x ≡ true) = origin_of faces marks x n in
-          let at : from_of faces x ≡ from_of faces d = eqb-true _ _ e in
-          by_origin (from_of faces d) x o.0 at (cross_at x o.0 at) o.1
-
-      by_end : (x : ℕ) → x < darts faces → is_on marks x ≡ true → (eqb (from_of faces x) (from_of faces d) ≡ true)
-          ⊎ (eqb (to_of faces x) (from_of faces d) ≡ true) → IsCrossedAt (terrain_of faces) (marked_first faces marks)
-          (from_of faces d)
-      by_end x l on (inl e) = let at : from_of faces x ≡ from_of faces d =
-          eqb-true _ _ e in by_mark (from_of faces d) x l at (cross_at x l at) on
-      by_end x l on (inr e) =
-          let t : (t : ℕ) × (twin_of faces x ≡ Some t) = twin_on faces m marks marked x l on in
-          let lt : t.0 < darts faces = laws.twin_low x t.0 l t.1 in
-          let at : from_of faces t.0 ≡ from_of faces d = (laws.twin_ends x t.0 l t.1).0 ∙ eqb-true _ _ e in
-          by_mark (from_of faces d) t.0 lt at (cross_at t.0 lt at) (marked.alike x t.0 l t.1 ∙ on)
-
-      by_line : (x : ℕ) × (is_among x (all_darts faces) ≡ true)
-          × ((is_on marks x && is_end faces (from_of faces d) x) ≡ true)
-          → IsCrossedAt (terrain_of faces) (marked_first faces marks) (from_of faces d)
-      by_line (x, n, e) =
-          let r : (0 ≤ x) × (x < 0 + darts faces) = range_among 0 (darts faces) x n in
-          let p : (is_on marks x ≡ true) × (is_end faces (from_of faces d) x ≡ true) = and_parts _ _ e in
-          by_end x (omega (arith, r.1)) p.0 (or_cases _ _ p.1)
-
-      by_stood : (list_any (λ x. eqb (from_of faces x) (from_of faces d)) (marked_starts faces marks) ≡ true)
-          ⊎ (list_any (λ x. is_on marks x && is_end faces (from_of faces d) x) (all_darts faces) ≡ true)
-          → IsCrossedAt (terrain_of faces) (marked_first faces marks) (from_of faces d)
-      by_stood (inl a) = by_start (any_where (λ x. eqb (from_of faces x) (from_of faces d)) (marked_starts faces marks)
-          a)
-      by_stood (inr b) = by_line (any_where (λ x. is_on marks x && is_end faces (from_of faces d) x) (all_darts faces)
-          b)
+      → IsCrossedFirst (from_of faces d)
+  first_through d low k inner regular =
+      let v = from_of faces d in
+      let cross_at : (x : ℕ) → x < darts faces → from_of faces x ≡ from_of faces d → HasCross mesh x =
+      λ x l at. (terrain faces m).crossed x l (ap (λ v. not (is_inner faces v)) at ∙ inner)
+      (ap (is_singular faces) at ∙ regular) in
+      elim (or_cases (list_any (λ x. eqb (from_of faces x) v) starts) _ k) [
+        | inl a ↦
+            let found = any_where (λ x. eqb (from_of faces x) v) starts a in
+            let o = origin_of faces marks found.0 found.1 in
+            let at : from_of faces found.0 ≡ from_of faces d = eqb-true _ _ found.2 in
+            by_origin v found.0 o.0 at (cross_at found.0 o.0 at) o.1
+        | inr b ↦
+            let found = any_where (λ x. is_on marks x && is_end faces v x) (all_darts faces) b in
+            let x = found.0 in
+            let l : x < darts faces = omega (arith, (range_among 0 (darts faces) x found.1).1) in
+            let p = and_parts (is_on marks x) (is_end faces v x) found.2 in
+            elim (or_cases (eqb (from_of faces x) v) _ p.1) [
+              | inl e ↦
+                  let at : from_of faces x ≡ from_of faces d = eqb-true _ _ e in
+                  by_mark v x l at (cross_at x l at) p.0
+              | inr e ↦
+                  let t = twin_on faces m marks marked x l p.0 in
+                  let lt = laws.twin_low x t.0 l t.1 in
+                  let at : from_of faces t.0 ≡ from_of faces d = (laws.twin_ends x t.0 l t.1).0 ∙ eqb-true _ _ e in
+                  by_mark v t.0 lt at (cross_at t.0 lt at) (marked.alike x t.0 l t.1 ∙ p.0)
+            ]
+      ]
 
   -- Both ends of a marked edge are known.
-  stood_end : (v d : ℕ) → d < darts faces → is_on marks d ≡ true → is_end faces v d ≡ true
-      → (marked_first faces marks).stood v ≡ true
-  stood_end v d l on e = or_right (list_any (λ x. eqb (from_of faces x) v) (marked_starts faces marks))
-      (list_any (λ x. is_on marks x && is_end faces v x) (all_darts faces))
+  stood_end : (v d : ℕ) → d < darts faces → is_on marks d ≡ true → is_end faces v d ≡ true → first.stood v ≡ true
+  stood_end v d l on e = or_right (list_any (λ x. eqb (from_of faces x) v) starts) _
       (any_at (λ x. is_on marks x && is_end faces v x) d (all_darts faces)
       (among_range 0 (darts faces) d (omega arith) (omega arith)) (and_from _ _ on e))
 
-  first_reached : IsReachedFrom (terrain_of faces) (begins faces marks) (marked_first faces marks)
-      (marked_first faces marks)
+  first_reached : IsReachedFrom (terrain_of faces) (begins faces marks) first first
   first_reached = record {
-    apart = subst AreApart (sym (ridden_begun (marked_starts faces marks)))
-        (apart_filter (λ e. is_origin faces marks e && not (is_on marks e)) (all_darts faces)
-        (range_apart 0 (darts faces)));
+    apart = subst AreApart (sym (ridden_begun starts)) (apart_filter
+        (λ e. is_origin faces marks e && not (is_on marks e)) (all_darts faces) (range_apart 0 (darts faces)));
     low = λ d n. (origin_of faces marks d (is_first d n)).0;
-    left = λ d n. or_left (list_any (λ x. eqb (from_of faces x) (from_of faces d)) (marked_starts faces marks))
-        (list_any (λ x. is_on marks x && is_end faces (from_of faces d) x) (all_darts faces))
-        (any_at (λ x. eqb (from_of faces x) (from_of faces d)) d (marked_starts faces marks) (is_first d n)
-        (eq-eqb _ _ refl));
-    alike = λ d e low w. marked.alike d e low w;
-    ends =
-        λ d low on. (
-          inl (stood_end (from_of faces d) d low on
-              (or_left (eqb (from_of faces d) (from_of faces d)) (eqb (to_of faces d) (from_of faces d))
-              (eq-eqb (from_of faces d) (from_of faces d) refl))),
-          inl (stood_end (to_of faces d) d low on
-              (or_right (eqb (from_of faces d) (to_of faces d)) (eqb (to_of faces d) (to_of faces d))
-              (eq-eqb (to_of faces d) (to_of faces d) refl))),
-        );
+    left = λ d n. or_left _ (list_any (λ x. is_on marks x && is_end faces (from_of faces d) x) (all_darts faces))
+        (any_at (λ x. eqb (from_of faces x) (from_of faces d)) d starts (is_first d n) (eq-eqb _ _ refl));
+    alike = marked.alike;
+    ends = λ d low on. (
+      inl (stood_end (from_of faces d) d low on (or_left (eqb (from_of faces d) (from_of faces d)) _ (eq-eqb _ _ refl))),
+      inl (stood_end (to_of faces d) d low on (or_right (eqb (from_of faces d) (to_of faces d)) _ (eq-eqb _ _ refl))),
+    );
     kept = λ d k. k;
     trails = λ d n. (0, or_left _ _ (origin_of faces marks d (is_first d n)).1);
     tracked = λ d low on. let t = marked_trail faces m marks marked d low on in (t.0, inl t.1);
@@ -231,33 +207,18 @@ module _ (faces : Faces) (m : IsManifold faces) (marks : List Bool) (marked : Ar
   }
 
   -- Each component has a source.
-  first_found : HasSources (half_edges faces) (begins faces marks)
-  first_found d l = by_source (found faces m d l)
-    where
-      by_start : (e : ℕ) → IsSource (half_edges faces) (λ x. is_among x (start_darts faces)) e
-          → IsSource (half_edges faces) (begins faces marks) e
-      by_start e (inl s) = inl (or_left _ _ (or_left _ _ (start_of faces e s).1))
-      by_start e (inr alone) = inr alone
+  first_found : HasSources mesh (begins faces marks)
+  first_found d l =
+      let by = found faces m d l in
+      (by.0, by.1, by.2, elim by.3 [ inl s ↦ inl (or_left _ _ (or_left _ _ (start_of faces by.0 s).1)) | inr a ↦ inr a ])
 
-      by_source : (e : ℕ) × (n : ℕ) × Joins (half_edges faces) d e n
-          × IsSource (half_edges faces) (λ x. is_among x (start_darts faces)) e → (e : ℕ) × (n : ℕ)
-          × Joins (half_edges faces) d e n × IsSource (half_edges faces) (begins faces marks) e
-      by_source (e, n, j, s) = (e, n, j, by_start e s)
-
-  first_sided : (d : ℕ) → d < darts faces → not (is_inner faces (to_of faces d)) ≡ true
-      → IsShut (terrain_of faces) (marked_first faces marks) (next_of d)
+  first_sided : (d : ℕ) → d < darts faces → not (is_inner faces (to_of faces d)) ≡ true → IsShutFirst (next_of d)
       ⊎ ((t : ℕ) × (twin_of faces (next_of d) ≡ Some t) × (twin_of faces (next_of t) ≡ None))
-  first_sided d low out = by_side ((started faces m).sided d low out)
-    where
-      by_side : (is_among (next_of d) (start_darts faces) ≡ true)
-          ⊎ ((twin_of faces (next_of d) ≡ None)
-          ⊎ ((t : ℕ) × (twin_of faces (next_of d) ≡ Some t) × (twin_of faces (next_of t) ≡ None)))
-          → IsShut (terrain_of faces) (marked_first faces marks) (next_of d)
-          ⊎ ((t : ℕ) × (twin_of faces (next_of d) ≡ Some t) × (twin_of faces (next_of t) ≡ None))
-      by_side (inl s) =
-          inl (inl (origin_soon (next_of d) (laws.next_low d low) (or_left _ _ (start_of faces (next_of d) s).1)))
-      by_side (inr (inl w)) = inl (inr (inl w))
-      by_side (inr (inr k)) = inr k
+  first_sided d low out = elim ((started faces m).sided d low out) [
+    | inl s ↦ inl (inl (origin_soon (next_of d) (laws.next_low d low) (or_left _ _ (start_of faces (next_of d) s).1)))
+    | inr (inl w) ↦ inl (inr (inl w))
+    | inr (inr k) ↦ inr k
+  ]
 
   pub marked_begin : IsFirst (terrain_of faces) (begins faces marks) (marked_first faces marks)
   marked_begin = record {

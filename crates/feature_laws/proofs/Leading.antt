@@ -40,7 +40,7 @@ module _ (faces : Faces) (s : ℕ) (old : List Bool) where
   }
     where
       l : s < length old
-      l = omega (arith, long, low)
+      l = omega arith
 
   pub lead_more : (now : List Bool) (at next : ℕ) → length old ≡ darts faces → IsLeading faces s old now at
       → IsNext faces now at (Some next) → IsLeading faces s old (set now next true) next
@@ -50,13 +50,12 @@ module _ (faces : Faces) (s : ℕ) (old : List Bool) where
     closed = λ x e on g. by_mark x e g (set_from now next x on);
     kept = λ d on. set_kept now next d l (is.kept d on);
     there = set_kept now next s l is.there;
-    sound = λ d on. elim (set_from now next d on)
-        [ inl e ↦ inr (subst (λ (x : ℕ). (n : ℕ) × From faces s x n) (sym e) step) | inr was ↦ is.sound d was ];
+    sound = λ d on. elim (set_from now next d on) [ inl e ↦ inr (rw e step) | inr was ↦ is.sound d was ];
     from = step;
   }
     where
       l : next < length now
-      l = omega (arith, is.long, long, low)
+      l = omega arith
 
       step : (n : ℕ) × From faces s next n
       step = (suc is.from.0, (at, is.from.1, is.low, f))
@@ -86,7 +85,7 @@ pub led_more : (faces : Faces) (sources old new : List Bool) (d : ℕ) (test : B
     → test ≡ is_on sources d → AreLed faces sources old d → (test ≡ true → IsLedFrom faces d old new)
     → (test ≡ false → new ≡ old) → AreLed faces sources new (d + 1)
 led_more faces sources old new d false low is led on off =
-    subst (λ (xs : List Bool). AreLed faces sources xs (d + 1)) (sym (off refl)) (record {
+    rw (off refl) (record {
       long = led.long;
       closed = led.closed;
       there = λ x l y. elim (cases_eq x d) [
@@ -95,10 +94,9 @@ led_more faces sources old new d false low is led on off =
       ];
       sound = led.sound;
     })
-led_more faces sources old new d true low is led on off = by_line (on refl)
-  where
-    by_line : IsLedFrom faces d old new → AreLed faces sources new (d + 1)
-    by_line line = record {
+led_more faces sources old new d true low is led on off =
+    let line = on refl in
+    record {
       long = line.long ∙ led.long;
       closed = line.closed;
       there = λ x l y. elim (cases_eq x d)

@@ -15,17 +15,15 @@ use Rattle.mesh_laws.proofs.HalfEdges.{manifold_law}
 use Rattle.feature_laws.specs.Leads.{From, AreLed, is_led_edge}
 
 module _ (faces : Faces) (m : IsManifold faces) (marks : List Bool) (starts : List ℕ) (sources led cut : List Bool)
-    (started : starts ≡ marked_starts faces marks)
-    (told : (d : ℕ) → is_on sources d ≡ cond (is_among d starts) true (is_on marks d))
-    (are : AreLed faces sources led (darts faces))
+    (started : starts ≡ marked_starts faces marks) (told : (d : ℕ) → is_on sources d
+    ≡ cond (is_among d starts) true (is_on marks d)) (are : AreLed faces sources led (darts faces))
     (is : cut ≡ map (λ d. is_led_edge led d (twin_of faces d)) (all_darts faces)) where
   source_from : (d : ℕ) → is_on sources d ≡ true → is_source faces marks d ≡ true
-  source_from d y = by_test (cases_Bool (is_among d starts))
-    where
-      by_test : (is_among d starts ≡ true) ⊎ (is_among d starts ≡ false) → is_source faces marks d ≡ true
-      by_test (inl n) = or_left _ _ (origin_of faces marks d (sym (ap (is_among d) started) ∙ n)).1
-      by_test (inr off) = or_right (is_origin faces marks d) _ (sym (ap (λ b. cond b true (is_on marks d)) off)
-          ∙ (sym (told d) ∙ y))
+  source_from d y = elim (cases_Bool (is_among d starts)) [
+    | inl n ↦ or_left _ _ (origin_of faces marks d (sym (ap (is_among d) started) ∙ n)).1
+    | inr off ↦ or_right (is_origin faces marks d) _ (sym (ap (λ b. cond b true (is_on marks d)) off)
+        ∙ (sym (told d) ∙ y))
+  ]
 
   source_to : (d : ℕ) → d < darts faces → is_source faces marks d ≡ true → is_on sources d ≡ true
   source_to d l y = told d ∙ by_tests (is_among d starts) refl (cases_Bool (is_on marks d))
@@ -40,7 +38,7 @@ module _ (faces : Faces) (m : IsManifold faces) (marks : List Bool) (starts : Li
       ]
 
   line_from : (s d n : ℕ) → is_source faces marks s ≡ true → From faces s d n → Line faces marks d n
-  line_from s d zero y path = subst (λ (x : ℕ). is_source faces marks x ≡ true) path y
+  line_from s d zero y path = rw (← path) y
   line_from s d (suc n) y (c, path, l, f) = (c, line_from s c n y path, l, f)
 
   line_led : (d n : ℕ) → d < darts faces → Line faces marks d n → is_on led d ≡ true

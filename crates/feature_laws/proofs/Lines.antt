@@ -21,21 +21,20 @@ backs faces d (suc n) = back faces (backs faces d n)
 -- Of the first n + 1 values of f one is least.
 least_below : (f : ℕ → ℕ) (n : ℕ) → (i : ℕ) × (i ≤ n) × ((j : ℕ) → j ≤ n → f i ≤ f j)
 least_below f zero = (0, omega arith, λ j l. let e : j ≡ 0 = omega arith in omega (arith, ap f e))
-least_below f (suc n) = by_last (least_below f n)
-  where
-    by_last : (i : ℕ) × (i ≤ n) × ((j : ℕ) → j ≤ n → f i ≤ f j) → (i : ℕ) × (i ≤ suc n)
-        × ((j : ℕ) → j ≤ suc n → f i ≤ f j)
-    by_last (i, l, least) = elim (cases_lt (f (suc n)) (f i)) [
+least_below f (suc n) =
+    let before = least_below f n in
+    elim (cases_lt (f (suc n)) (f before.0)) [
       | inl less ↦ (
         suc n,
         omega arith,
         λ j h. elim (cases_eq j (suc n))
-            [ inl e ↦ omega (arith, ap f e) | inr ne ↦ omega (arith, less, least j (omega arith)) ],
+            [ inl e ↦ omega (arith, ap f e) | inr ne ↦ omega (arith, before.2 j (omega arith)) ],
       )
       | inr more ↦ (
-        i,
-        omega (arith, l),
-        λ j h. elim (cases_eq j (suc n)) [ inl e ↦ omega (arith, more, ap f e) | inr ne ↦ least j (omega arith) ],
+        before.0,
+        omega (arith, before.1),
+        λ j h. elim (cases_eq j (suc n))
+            [ inl e ↦ omega (arith, ap f e) | inr ne ↦ before.2 j (omega arith) ],
       )
     ]
 
@@ -45,41 +44,36 @@ module _ (faces : Faces) (m : IsManifold faces) (marks : List Bool) (marked : Ar
   Led d = (k : ℕ) × Trail (half_edges faces) (begins faces marks) (is_on marks) d k
 
   module _ (d : ℕ) (low : d < darts faces) (on : is_on marks d ≡ true) where
-    -- One goes back n times.
+    -- The dart k steps back, and whether one goes back n times.
+    abbrev at : ℕ → ℕ
+    at k = backs faces d k
+
     abbrev Far : (n : ℕ) → Type 0
     Far n = (k : ℕ) → k < n → GoesBack faces marks (backs faces d k)
 
     -- After so many steps back one is at a marked dart.
-    back_low : (n k : ℕ) → Far n → k ≤ n → (backs faces d k < darts faces) × (is_on marks (backs faces d k) ≡ true)
+    back_low : (n k : ℕ) → Far n → k ≤ n → (at k < darts faces) × (is_on marks (at k) ≡ true)
     back_low n zero f l = (low, on)
-    back_low n (suc k) f l = let b : GoesBack faces marks (backs faces d k) = f k (omega arith) in (b.low, b.on)
+    back_low n (suc k) f l = let b = f k (omega arith) in (b.low, b.on)
 
     -- A trail to the dart n steps back leads on to d.
-    led_on : (n : ℕ) → Far n → Led (backs faces d n) → Led d
+    led_on : (n : ℕ) → Far n → Led (at n) → Led d
     led_on zero f t = t
     led_on (suc n) f t =
-        let b : GoesBack faces marks (backs faces d n) = f n (omega arith) in
-        let one : Led (backs faces d n) =
-        (suc t.0, (back faces (backs faces d n), t.1, b.low, b.on, b.straight, b.cross)) in
-        led_on n (λ k l. f k (omega arith)) one
+        let b = f n (omega arith) in
+        led_on n (λ k l. f k (omega arith)) (suc t.0, (back faces (at n), t.1, b.low, b.on, b.straight, b.cross))
 
     far : (n : ℕ) → Led d ⊎ Far n
     far zero = inr (λ k l. absurd (omega arith))
-    far (suc n) = by_rest (far n)
-      where
-        by_last : Far n → (begins faces marks (backs faces d n) ≡ true) ⊎ GoesBack faces marks (backs faces d n) → Led d
-            ⊎ Far (suc n)
-        by_last f (inl b) = inl (led_on n f (0, b))
-        by_last f (inr b) =
-            inr (λ k l. elim (cases_eq k n) [
-              | inl e ↦ subst (λ (x : ℕ). GoesBack faces marks (backs faces d x)) (sym e) b
-              | inr ne ↦ f k (omega arith)
-            ])
-
-        by_rest : Led d ⊎ Far n → Led d ⊎ Far (suc n)
-        by_rest (inl t) = inl t
-        by_rest (inr f) = let a : (backs faces d n < darts faces) × (is_on marks (backs faces d n) ≡ true) =
-            back_low n n f (omega arith) in by_last f (one_back faces m marks marked (backs faces d n) a.0 a.1)
+    far (suc n) = elim (far n) [
+      | inl t ↦ inl t
+      | inr f ↦
+          let a = back_low n n f (omega arith) in
+          elim (one_back faces m marks marked (at n) a.0 a.1) [
+            | inl b ↦ inl (led_on n f (0, b))
+            | inr b ↦ inr (λ k l. elim (cases_eq k n) [ inl e ↦ rw e b | inr ne ↦ f k (omega arith) ])
+          ]
+    ]
 
     -- A line that goes back without end comes round.
     module _ (f : Far (darts faces)) where
@@ -87,33 +81,29 @@ module _ (faces : Faces) (m : IsManifold faces) (marks : List Bool) (marked : Ar
       come = comes_back (darts faces) (backs faces d) (λ k l. (back_low (darts faces) k f l).0)
           (λ i j li lj e. same_Some _ _ (sym (f i li).follows ∙ (ap (follower faces) e ∙ (f j lj).follows)))
 
-      period : ℕ
-      period = come.0
-
       -- The least vertex of the round.
-      least : (i : ℕ) × (i ≤ come.0)
-          × ((j : ℕ) → j ≤ come.0 → from_of faces (backs faces d i) ≤ from_of faces (backs faces d j))
-      least = least_below (λ k. from_of faces (backs faces d k)) come.0
+      least : (i : ℕ) × (i ≤ come.0) × ((j : ℕ) → j ≤ come.0 → from_of faces (at i) ≤ from_of faces (at j))
+      least = least_below (λ k. from_of faces (at k)) come.0
 
-      goes : (i : ℕ) → i ≤ come.0 → GoesBack faces marks (backs faces d i)
+      abbrev first : ℕ
+      first = backs faces d least.0
+
+      goes : (i : ℕ) → i ≤ come.0 → GoesBack faces marks (at i)
       goes i l = f i (omega (arith, l, come.1))
 
       -- Straight on from each dart of the round is one of it.
-      onward : (i : ℕ) → i ≤ come.0 → (j : ℕ) × (j ≤ come.0)
-          × (follower faces (backs faces d i) ≡ Some (backs faces d j))
+      onward : (i : ℕ) → i ≤ come.0 → (j : ℕ) × (j ≤ come.0) × (follower faces (at i) ≡ Some (at j))
       onward zero l = (come.0, omega arith, ap (follower faces) (sym come.2) ∙ (goes come.0 (omega arith)).follows)
       onward (suc i) l = (i, omega (arith, l), (goes i (omega (arith, l))).follows)
 
-      round : (n i : ℕ) → i ≤ come.0 → goes_round faces marks (from_of faces (backs faces d least.0)) n
-          (backs faces d i) ≡ true
+      round : (n i : ℕ) → i ≤ come.0 → goes_round faces marks (from_of faces first) n (at i) ≡ true
       round zero i l = refl
-      round (suc n) i l = by_next (onward i l) (round n)
+      round (suc n) i l =
+          let here = and_from (is_on marks (at i)) (not (ltb (from_of faces (at i)) (from_of faces first)))
+          (back_low (darts faces) i f (omega (arith, l, come.1))).1 (not_from_false _ (le-ltb _ _ (least.2 i l))) in
+          let next = onward i l in
+          and_from _ _ here (on_from (follower faces (at i)) next.0 next.2 (round n next.0 next.1))
         where
-          here : (is_on marks (backs faces d i) && not
-              (ltb (from_of faces (backs faces d i)) (from_of faces (backs faces d least.0)))) ≡ true
-          here = and_from _ _ (back_low (darts faces) i f (omega (arith, l, come.1))).1
-              (not_from_false _ (le-ltb _ _ (least.2 i l)))
-
           on_from : (o : Option ℕ) → (j : ℕ) → o ≡ Some (backs faces d j)
               → goes_round faces marks (from_of faces (backs faces d least.0)) n (backs faces d j) ≡ true
               → elim o as (λ o. Bool) [
@@ -122,36 +112,18 @@ module _ (faces : Faces) (m : IsManifold faces) (marks : List Bool) (marked : Ar
               ] ≡ true
           on_from o j is y = rw is y
 
-          by_next : (j : ℕ) × (j ≤ come.0) × (follower faces (backs faces d i) ≡ Some (backs faces d j))
-              → ((k : ℕ) → k ≤ come.0 → goes_round faces marks (from_of faces (backs faces d least.0)) n
-              (backs faces d k) ≡ true) → goes_round faces marks (from_of faces (backs faces d least.0)) (suc n)
-              (backs faces d i) ≡ true
-          by_next (j, h, is) rest = and_from _ _ here (on_from (follower faces (backs faces d i)) j is (rest j h))
-
       -- So the line breaks there.
-      ring_break : is_break faces marks (from_of faces (backs faces d least.0)) ≡ true
-      ring_break = and_from _ _ (goes least.0 least.1).passed
-          (or_right (is_touched faces marks (from_of faces (backs faces d least.0)) && not
-          (is_crossed faces marks (from_of faces (backs faces d least.0))))
-          (is_least_in_ring faces marks (from_of faces (backs faces d least.0))) least_ring)
-        where
-          at : (backs faces d least.0 < darts faces) × (is_on marks (backs faces d least.0) ≡ true)
-          at = back_low (darts faces) least.0 f (omega (arith, least.1, come.1))
-
-          least_ring : is_least_in_ring faces marks (from_of faces (backs faces d least.0)) ≡ true
-          least_ring = any_at (goes_round faces marks (from_of faces (backs faces d least.0)) (darts faces))
-              (backs faces d least.0) (fan_of faces (from_of faces (backs faces d least.0)))
-              (in_fan faces (from_of faces (backs faces d least.0)) (backs faces d least.0) at.0 refl)
-              (round (darts faces) least.0 least.1)
-
       led_round : Led d
       led_round =
-          let at : (backs faces d least.0 < darts faces) × (is_on marks (backs faces d least.0) ≡ true) =
-          back_low (darts faces) least.0 f (omega (arith, least.1, come.1)) in
-          let t : (t : ℕ) × (twin_of faces (backs faces d least.0) ≡ Some t) =
-          twin_on faces m marks marked (backs faces d least.0) at.0 at.1 in
+          let v = from_of faces first in
+          let there = back_low (darts faces) least.0 f (omega (arith, least.1, come.1)) in
+          let ring = any_at (goes_round faces marks v (darts faces)) first (fan_of faces v)
+          (in_fan faces v first there.0 refl) (round (darts faces) least.0 least.1) in
+          let breaks : is_break faces marks (from_of faces (backs faces d least.0)) ≡ true = and_from _ _ (goes least.0
+          least.1).passed (or_right (is_touched faces marks v && not (is_crossed faces marks v)) _ ring) in
+          let t = twin_on faces m marks marked first there.0 there.1 in
           led_on least.0 (λ k l. goes k (omega (arith, l, least.1)))
-          (0, or_left _ _ (break_origin faces m marks marked (backs faces d least.0) t.0 t.1 ring_break))
+          (0, or_left _ _ (break_origin faces m marks marked first t.0 t.1 breaks))
 
     pub marked_trail : Led d
     marked_trail = elim (far (darts faces)) [ inl t ↦ t | inr f ↦ led_round f ]
