@@ -19,10 +19,9 @@ on_or_not mesh s t n d = by_sides (sent_or_not (easts mesh s) d n) (sent_or_not 
         ⊎ (IsOnArc mesh s t n d → ⊥)
     by_sides (inl a) b = inl (a.0, a.1, inl (sym a.2))
     by_sides (inr a) (inl b) = inl (b.0, b.1, inr (sym b.2))
-    by_sides (inr a) (inr b) = inr none
-      where
-        none : IsOnArc mesh s t n d → ⊥
-        none o = elim o.2 [ inl e ↦ a o.0 o.1 (sym e) | inr e ↦ b o.0 o.1 (sym e) ]
+    by_sides (inr a) (inr b) =
+        let none : IsOnArc mesh s t n d → ⊥ = λ o. elim o.2 [ inl e ↦ a o.0 o.1 (sym e) | inr e ↦ b o.0 o.1 (sym e) ] in
+        inr none
 
 pub other_way : (mesh : HalfEdges) (s t n d : ℕ) → IsOnArc mesh s t n d → IsOnArc mesh t s n d
 other_way mesh s t n d o = (o.0, o.1, elim o.2 [ inl e ↦ inr e | inr e ↦ inl e ])
@@ -40,22 +39,16 @@ pub cross_from : (mesh : HalfEdges) → IsQuadManifold mesh → (x d : ℕ) → 
 cross_from mesh laws x d lx ld at cross = by_cross cross.3
   where
     by_cross : {a b c : ℕ} → IsCross mesh x a b c → HasCross mesh d
-    by_cross {a} {b} {c} is = by_one (one_of_four mesh laws x a b c lx is d (record { low = ld; at = at }))
-      where
-        second : IsCross mesh a b c x
-        second = rotated mesh laws x a b c lx is
-
-        third : IsCross mesh b c x a
-        third = rotated mesh laws a b c x (low_a mesh laws x a b c lx is) second
-
-        fourth : IsCross mesh c x a b
-        fourth = rotated mesh laws b c x a (low_b mesh laws x a b c lx is) third
-
-        by_one : (d ≡ x) ⊎ ((d ≡ a) ⊎ ((d ≡ b) ⊎ (d ≡ c))) → HasCross mesh d
-        by_one (inl e) = subst (λ (y : ℕ). HasCross mesh y) (sym e) (a, b, c, is)
-        by_one (inr (inl e)) = subst (λ (y : ℕ). HasCross mesh y) (sym e) (b, c, x, second)
-        by_one (inr (inr (inl e))) = subst (λ (y : ℕ). HasCross mesh y) (sym e) (c, x, a, third)
-        by_one (inr (inr (inr e))) = rw e (x, a, b, fourth)
+    by_cross {a} {b} {c} is =
+        let second = rotated mesh laws x a b c lx is in
+        let third = rotated mesh laws a b c x (low_a mesh laws x a b c lx is) second in
+        let fourth = rotated mesh laws b c x a (low_b mesh laws x a b c lx is) third in
+        elim (one_of_four mesh laws x a b c lx is d (record { low = ld; at = at })) [
+          | inl e ↦ rw e (a, b, c, is)
+          | inr (inl e) ↦ rw e (b, c, x, second)
+          | inr (inr (inl e)) ↦ rw e (c, x, a, third)
+          | inr (inr (inr e)) ↦ rw e (x, a, b, fourth)
+        ]
 
 module _ (mesh : HalfEdges) (laws : IsQuadManifold mesh) (cut : Cut) (full : IsCut mesh cut) where
   -- A joinable arc seen from its other side.

@@ -104,14 +104,11 @@ name_other mesh s t n a is =
 module _ (mesh : HalfEdges) (laws : IsQuadManifold mesh) (cut : Cut) (full : IsCut mesh cut) where
   -- The other side is told by the first.
   pub one_far : (s t u n m : ℕ) → AreGlued mesh cut s t n → AreGlued mesh cut s u m → (t ≡ u) × (n ≡ m)
-  one_far s t u n m one two = (far, same)
-    where
-      same : n ≡ m
-      same = one_size mesh laws cut full s n m one.near two.near
-
-      far : t ≡ u
-      far = same_Some t u (sym (one.across (n - 1) 0 (omega (arith, one.near.some)))
-          ∙ (ap (λ x. mesh.twin (easts mesh s (x - 1))) same ∙ two.across (m - 1) 0 (omega (arith, two.near.some))))
+  one_far s t u n m one two =
+      let same = one_size mesh laws cut full s n m one.near two.near in
+      let far : t ≡ u = same_Some t u (sym (one.across (n - 1) 0 (omega (arith, one.near.some)))
+      ∙ (ap (λ x. mesh.twin (easts mesh s (x - 1))) same ∙ two.across (m - 1) 0 (omega (arith, two.near.some)))) in
+      (far, same)
 
   one_near : {s t n r u m : ℕ} (k j : ℕ) → AreGlued mesh cut s t n → AreGlued mesh cut r u m → k < n → j < m
       → easts mesh s k ≡ easts mesh r j → (s ≡ r) × (t ≡ u) × (n ≡ m)

@@ -33,7 +33,7 @@ of_arc mesh s t n d y = by_place
     by_place : (k : ℕ) × (is_among k (range_with_len 0 n) ≡ true)
         × ((eqb d (easts mesh s k) || eqb d (easts mesh t k)) ≡ true) → IsOnArc mesh s t n d
     by_place (k, m, is) =
-        let r : (0 ≤ k) × (k < 0 + n) = range_among 0 n k m in
+        let r = range_among 0 n k m in
         (k, omega (arith, r.1), elim (or_cases _ _ is) [ inl e ↦ inl (eqb-true _ _ e) | inr e ↦ inr (eqb-true _ _ e) ])
 
 implied : (a b : Bool) → (a ≡ true → b ≡ true) → (not a || b) ≡ true
@@ -54,12 +54,10 @@ pub keeps_from : (faces : Faces) (marks cut : List Bool)
     → ((d : ℕ) → d < darts faces → is_break faces marks (from_of faces d) ≡ true
     → is_turn faces cut (from_of faces d) ≡ true) → keeps_lines faces marks cut ≡ true
 keeps_from faces marks cut kept turned =
+    let each : (d : ℕ) → (0 ≤ d) × (d < 0 + darts faces) → is_kept faces marks cut d
+    ≡ true = λ d r. and_from _ _ (implied (is_on marks d) (is_on cut d) (kept d (omega (arith, r.1)))) (implied
+    (is_break faces marks (from_of faces d)) (is_turn faces cut (from_of faces d)) (turned d (omega (arith, r.1)))) in
     all_from (is_kept faces marks cut) (all_darts faces) (λ d m. each d (range_among 0 (darts faces) d m))
-  where
-    each : (d : ℕ) → (0 ≤ d) × (d < 0 + darts faces) → is_kept faces marks cut d ≡ true
-    each d r = and_from _ _ (implied (is_on marks d) (is_on cut d) (kept d (omega (arith, r.1))))
-        (implied (is_break faces marks (from_of faces d)) (is_turn faces cut (from_of faces d))
-        (turned d (omega (arith, r.1))))
 
 module _ (faces : Faces) (marks cut : List Bool) (keeps : keeps_lines faces marks cut ≡ true) where
   at_dart : (d : ℕ) → d < darts faces → is_kept faces marks cut d ≡ true
@@ -112,7 +110,7 @@ module _ (faces : Faces) (laws : IsQuadManifold (half_edges faces)) (marks : Lis
       → Steps faces (may_beside faces marks) cut rest i → keeps_lines faces marks rest ≡ true
   keeps_reached cut rest zero is keeps steps = ap (keeps_lines faces marks) (sym steps) ∙ keeps
   keeps_reached cut rest (suc i) is keeps steps =
-      let before : IsCutOf faces steps.0 = cut_reached faces (may_beside faces marks) laws steps.0 i is steps.1 in
+      let before = cut_reached faces (may_beside faces marks) laws steps.0 i is steps.1 in
       ap (keeps_lines faces marks) (step_is marks before.long steps.2) ∙ steps.2.first.free
 
 -- So many steps keep marked lines.

@@ -48,7 +48,11 @@ module _ (faces : Faces) (may : MayLeave) (laws : IsQuadManifold (half_edges fac
   step_or_end : (marks : List Bool) → IsCutOf faces marks
       → ((rest : List Bool) × IsStep faces may marks rest × (marked rest < marked marks))
       ⊎ ((s t n : ℕ) → IsJoinable mesh (is_on marks) s t n → may marks s t n ≡ true → ⊥)
-  step_or_end marks cut = by_least (least_or_none laws cut.full (may marks) (darts faces) (omega arith))
+  step_or_end marks cut = elim (least_or_none laws cut.full (may marks) (darts faces) (omega arith)) [
+    | inl f ↦ inl (after f.0 f.1 f.2.0 f.2.1 f.2.2 f.2.3 f.2.4 f.2.5 f.3)
+    | inr none ↦ inr (λ s t n arc free. none s arc.glued.near.corner.0
+        (s, t, n, arc, free, (0, arc.glued.near.some, inl refl)))
+  ]
     where
       after : (d : ℕ) → d < darts faces → (s t n : ℕ) → IsJoinable mesh (is_on marks) s t n → may marks s t n ≡ true
           → IsOnArc mesh s t n d → ((x : ℕ) → x < d → Over laws cut.full (may marks) x → ⊥)
@@ -62,10 +66,8 @@ module _ (faces : Faces) (may : MayLeave) (laws : IsQuadManifold (half_edges fac
 
           least : (r u m x : ℕ) → IsJoinable mesh (is_on marks) r u m → may marks r u m ≡ true → IsOnArc mesh r u m x
               → d ≤ x
-          least r u m x other may_too o = elim (cases_lt x d) [
-            | inl l ↦ absurd (before x l (r, u, m, other, may_too, o))
-            | inr le ↦ omega (arith, le)
-          ]
+          least r u m x other may_too o = elim (cases_lt x d)
+              [ inl l ↦ absurd (before x l (r, u, m, other, may_too, o)) | inr le ↦ omega arith ]
 
           step : IsStep faces may marks (without marks s t n)
           step = record {
@@ -77,7 +79,7 @@ module _ (faces : Faces) (may : MayLeave) (laws : IsQuadManifold (half_edges fac
               free = free;
               name = d;
               named = record { on = on; least = λ x o. least s t n x arc free o };
-              first = λ r u m x other may_too o. least r u m x other may_too o;
+              first = least;
             };
             long = length-map-range_with_len (λ y. left (is_on marks y) (on_or_not mesh s t n y)) 0 (darts faces)
                 ∙ sym cut.long;
@@ -89,22 +91,14 @@ module _ (faces : Faces) (may : MayLeave) (laws : IsQuadManifold (half_edges fac
           }
 
           fewer : marked (without marks s t n) < marked marks
-          fewer = count_below_lt (λ x. cond (is_on (without marks s t n) x) 1 0) (λ x. cond (is_on marks x) 1 0)
-              (darts faces) d low (λ x l. rw (value x l) (left_le (is_on marks x) (on_or_not mesh s t n x)))
-              (let off = value d low ∙ left_on (is_on marks d) (on_or_not mesh s t n d) on in
-              let was : is_on marks d ≡ true = on_cut mesh laws (is_on marks) cut.full s t n arc.glued d on in
+          fewer =
+              let off = value d low ∙ left_on (is_on marks d) (on_or_not mesh s t n d) on in
+              let was = on_cut mesh laws (is_on marks) cut.full s t n arc.glued d on in
               let zero_now = ap (λ (b : Bool). cond {A = ℕ} b 1 0) off in
-              let one_before : ◌≡◌ {A = ℕ} (cond (is_on marks d) 1 0) 1 = ap (λ (b : Bool). cond {A = ℕ} b 1 0) was in
-              omega (arith, zero_now, one_before))
-
-      by_least : ((d : ℕ) × (d < darts faces) × Over laws cut.full (may marks) d
-          × ((x : ℕ) → x < d → Over laws cut.full (may marks) x → ⊥))
-          ⊎ ((x : ℕ) → x < darts faces → Over laws cut.full (may marks) x → ⊥)
-          → ((rest : List Bool) × IsStep faces may marks rest × (marked rest < marked marks))
-          ⊎ ((s t n : ℕ) → IsJoinable mesh (is_on marks) s t n → may marks s t n ≡ true → ⊥)
-      by_least (inl (d, low, (s, t, n, arc, free, on), before)) = inl (after d low s t n arc free on before)
-      by_least (inr none) = inr (λ s t n arc free. none s arc.glued.near.corner.0
-          (s, t, n, arc, free, (0, arc.glued.near.some, inl refl)))
+              let one_before = ap (λ (b : Bool). cond {A = ℕ} b 1 0) was in
+              count_below_lt (λ x. cond (is_on (without marks s t n) x) 1 0) (λ x. cond (is_on marks x) 1 0)
+                  (darts faces) d low (λ x l. rw (value x l) (left_le (is_on marks x) (on_or_not mesh s t n x)))
+                  (omega arith)
 
   -- A step in front of others.
   in_front : {marks between : List Bool} (rest : List Bool) (n : ℕ) → IsStep faces may marks between
@@ -123,21 +117,12 @@ module _ (faces : Faces) (may : MayLeave) (laws : IsQuadManifold (half_edges fac
           × IsMergedBy faces may rest last) → (rest : List Bool) × IsMergedBy faces may marks rest
       by_step (inr none) go = (marks, record { steps = 0; reached = refl; merged = none })
       by_step (inl (between, step, fewer)) go =
-          after (go between (cut_after faces may laws cut step) (omega (arith, fewer, le)))
-        where
-          after : (last : List Bool) × IsMergedBy faces may between last → (rest : List Bool)
-              × IsMergedBy faces may marks rest
-          after (last, is) = (
-            last,
-            record { steps = suc is.steps; reached = in_front last is.steps step is.reached; merged = is.merged },
-          )
+          let f = go between (cut_after faces may laws cut step) (omega arith) in
+          let is = f.1 in
+          (f.0, record { steps = suc is.steps; reached = in_front f.0 is.steps step is.reached; merged = is.merged })
 
 pub merged_law : MergedLaw
 merged_law faces may marks manifold full =
-    merged_from faces may laws (suc (marked faces may laws marks)) cut (omega arith)
-  where
-    laws : IsQuadManifold (half_edges faces)
-    laws = manifold_law faces manifold
-
-    cut : IsCutOf faces marks
-    cut = record { long = full.long; full = ((full_cut_law faces marks manifold).0 full).1 }
+    let laws = manifold_law faces manifold in
+    merged_from faces may laws (suc (marked faces may laws marks))
+        (record { long = full.long; full = ((full_cut_law faces marks manifold).0 full).1 }) (omega arith)

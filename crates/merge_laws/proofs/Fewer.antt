@@ -17,21 +17,15 @@ use Rattle.merge_laws.proofs.{ArcDarts.on_or_not, ArcDarts.on_twin, Joins.join_l
 
 -- All numbers below a bound but one.
 one_less : (u m : ℕ) → u < m → suc (passing (λ k. not (k == u)) m) ≡ m
-one_less u m low = omega (arith, parts, all, count_below_ones m, one)
-  where
-    by_test : (b : Bool) → one_if (not b) + one_if b ≡ 1
-    by_test = elim [ true ↦ refl | false ↦ refl ]
-
-    parts : count_below (λ k. one_if (not (k == u)) + one_if (k == u)) m
-        ≡ count_below (λ k. one_if (not (k == u))) m + count_below (λ k. one_if (k == u)) m
-    parts = count_below_sum (λ k. one_if (not (k == u))) (λ k. one_if (k == u)) m
-
-    all : count_below (λ k. one_if (not (k == u)) + one_if (k == u)) m ≡ count_below (λ k. 1) m
-    all = count_below_same (λ k. one_if (not (k == u)) + one_if (k == u)) (λ k. 1) m (λ k l. by_test (k == u))
-
-    one : count_below (λ k. one_if (k == u)) m ≡ 1
-    one = count_below_one (λ k. one_if (k == u)) m u low (λ k l apart. ap one_if (ne_eqb k u apart))
-        ∙ ap one_if (eq-eqb u u refl)
+one_less u m low =
+    let by_test : (b : Bool) → one_if (not b) + one_if b ≡ 1 = elim [ true ↦ refl | false ↦ refl ] in
+    let parts : count_below (λ k. one_if (not (k == u)) + one_if (k == u)) m ≡ count_below (λ k. one_if (not (k == u)))
+    m + count_below (λ k. one_if (k == u)) m = count_below_sum (λ k. one_if (not (k == u))) (λ k. one_if (k == u)) m in
+    let all : count_below (λ k. one_if (not (k == u)) + one_if (k == u)) m ≡ count_below (λ k. 1) m = count_below_same
+    (λ k. one_if (not (k == u)) + one_if (k == u)) (λ k. 1) m (λ k l. by_test (k == u)) in
+    let one : count_below (λ k. one_if (k == u)) m ≡ 1 = count_below_one (λ k. one_if (k == u)) m u low
+    (λ k l apart. ap one_if (ne_eqb k u apart)) ∙ ap one_if (eq-eqb u u refl) in
+    omega (arith, count_below_ones m)
 
 -- The darts beside the arc, and what is linked without it.
 module _ {mesh : HalfEdges} (laws : IsQuadManifold mesh) {cut rest : Cut} (full : IsCut mesh cut) {s t n : ℕ}
@@ -70,7 +64,7 @@ module _ {mesh : HalfEdges} (laws : IsQuadManifold mesh) {cut rest : Cut} (full 
   both =
       let last : n - 1 < n = omega (arith, arc.glued.near.some) in
       let across = arc.glued.across 0 (n - 1) (omega (arith, arc.glued.near.some)) in
-      let gone : rest s ≡ false = without.gone s (0, arc.glued.near.some, inl refl) in
+      let gone = without.gone s (0, arc.glued.near.some, inl refl) in
       let back =
       linked_back mesh laws cut full t (easts mesh t (n - 1)) arc.glued.far.corner.0 (along_far (n - 1) last) in
       links_join mesh laws rest s (easts mesh t (n - 1)) t
@@ -81,7 +75,15 @@ module _ {mesh : HalfEdges} (laws : IsQuadManifold mesh) {cut rest : Cut} (full 
   -- What is linked then was linked, or lies beside the arc.
   linked_or : (x y m : ℕ) → x < mesh.count → Links mesh rest x y m → AreInOne mesh cut x y ⊎ (Beside x × Beside y)
   linked_or x y zero l a = inl (0, a)
-  linked_or x y (suc m) l a = by_step a.0 (links_low mesh laws rest x a.0 m l a.1) (linked_or x a.0 m l a.1) a.2
+  linked_or x y (suc m) l a =
+      let c = a.0 in
+      let lc = (links_low mesh laws rest x a.0 m l a.1) in
+      let was = (linked_or x a.0 m l a.1) in
+      elim a.2 [
+        | inl e ↦ more c (rw e (step_next mesh laws cut c c (0, refl))) was
+        | inr p ↦ elim (on_or_not mesh s t n c) [ | inl o ↦ inr (over c lc p.1 o was) | inr none ↦ more c
+            (step_over mesh laws cut c c y (0, refl) (sym (without.kept c lc none) ∙ p.0) p.1) was ]
+      ]
     where
       more : (c : ℕ) → AreInOne mesh cut c y → AreInOne mesh cut x c ⊎ (Beside x × Beside c) → AreInOne mesh cut x y
           ⊎ (Beside x × Beside y)
@@ -90,25 +92,14 @@ module _ {mesh : HalfEdges} (laws : IsQuadManifold mesh) {cut rest : Cut} (full 
 
       over : (c : ℕ) → c < mesh.count → mesh.twin c ≡ Some y → IsOnArc mesh s t n c → AreInOne mesh cut x c
           ⊎ (Beside x × Beside c) → Beside x × Beside y
-      over c lc is o was = (beside_x was, beside_y)
+      over c lc is o was =
+          let beside_y : Beside y = let p = on_twin mesh laws cut full arc.glued c o in beside_on y
+          (rw (same_Some p.0 y (sym p.1 ∙ is)) at p.2) in
+          (beside_x was, beside_y)
         where
           beside_x : AreInOne mesh cut x c ⊎ (Beside x × Beside c) → Beside x
           beside_x (inl z) = beside_more c x (beside_on c o) (linked_back mesh laws cut full x c l z)
           beside_x (inr p) = p.0
-
-          beside_y : Beside y
-          beside_y =
-              let p = on_twin mesh laws cut full arc.glued c o in
-              beside_on y (rw (same_Some p.0 y (sym p.1 ∙ is)) at p.2)
-
-      by_step : (c : ℕ) → c < mesh.count → AreInOne mesh cut x c ⊎ (Beside x × Beside c)
-          → ((y ≡ mesh.next c) ⊎ ((rest c ≡ false) × (mesh.twin c ≡ Some y)))
-          → AreInOne mesh cut x y ⊎ (Beside x × Beside y)
-      by_step c lc was (inl e) = more c (rw e (step_next mesh laws cut c c (0, refl))) was
-      by_step c lc was (inr p) = elim (on_or_not mesh s t n c) [
-        | inl o ↦ inr (over c lc p.1 o was)
-        | inr none ↦ more c (step_over mesh laws cut c c y (0, refl) (sym (without.kept c lc none) ∙ p.0) p.1) was
-      ]
 
 -- Patches of a cut.
 module _ {mesh : HalfEdges} (laws : IsQuadManifold mesh) {cut : Cut} (full : IsCut mesh cut) {face : ℕ → ℕ}
@@ -177,27 +168,17 @@ module _ (mesh : HalfEdges) (laws : IsQuadManifold mesh) (cut rest : Cut) (full 
 
   new_once : (p r : ℕ) (lp : p < length ps) (lr : r < length ps) → p ≢ far.0 → r ≢ far.0
       → (new_of p lp).0 ≡ (new_of r lr).0 → p ≡ r
-  new_once p r lp lr np nr same = elim (linked_or laws full arc without (old p) (old r) link.0
-      (first_low laws full parts p lp) link.1) [
-        | inl a ↦ one_of laws full parts p r (old p) (old r) lp lr
-            (first_in laws full parts p lp) (first_in laws full parts r lr) a
-        | inr b ↦ is_near p lp np b.0 ∙ sym (is_near r lr nr b.1)
-      ]
-    where
-      to_p : AreInOne mesh rest (new (new_of p lp).0) (old p)
-      to_p = first_linked laws after whole (new_of p lp).0 (old p) (new_of p lp).1 (new_of p lp).2
-
-      to_r : AreInOne mesh rest (new (new_of r lr).0) (old r)
-      to_r = first_linked laws after whole (new_of r lr).0 (old r) (new_of r lr).1 (new_of r lr).2
-
-      link : AreInOne mesh rest (old p) (old r)
-      link = links_join mesh laws rest (old p) (new (new_of p lp).0) (old r)
-          (linked_back mesh laws rest after (new (new_of p lp).0) (old p)
-          (first_low laws after whole (new_of p lp).0 (new_of p lp).1) to_p) (rw same to_r)
-
-      is_near : (u : ℕ) (l : u < length ps) → u ≢ far.0 → Beside laws full arc without (old u) → u ≡ near.0
-      is_near u l nu b = elim (beside_is u (old u) l (first_in laws full parts u l) b)
-          [ inl e ↦ e | inr e ↦ absurd (nu e) ]
+  new_once p r lp lr np nr same =
+      let to_p = first_linked laws after whole (new_of p lp).0 (old p) (new_of p lp).1 (new_of p lp).2 in
+      let to_r = first_linked laws after whole (new_of r lr).0 (old r) (new_of r lr).1 (new_of r lr).2 in
+      let link : AreInOne mesh rest (old p) (old r) = links_join mesh laws rest (old p) (new (new_of p lp).0) (old r)
+      (linked_back mesh laws rest after (new (new_of p lp).0) (old p)
+      (first_low laws after whole (new_of p lp).0 (new_of p lp).1) to_p) (rw same to_r) in
+      let is_near : (u : ℕ) (l : u < length ps) → u ≢ far.0 → Beside laws full arc without (old u) → u ≡ near.0 = λ u l
+      nu b. elim (beside_is u (old u) l (first_in laws full parts u l) b) [ inl e ↦ e | inr e ↦ absurd (nu e) ] in
+      elim (linked_or laws full arc without (old p) (old r) link.0 (first_low laws full parts p lp) link.1)
+      [ | inl a ↦ one_of laws full parts p r (old p) (old r) lp lr (first_in laws full parts p lp)
+      (first_in laws full parts r lr) a | inr b ↦ is_near p lp np b.0 ∙ sym (is_near r lr nr b.1) ]
 
   -- New patches come from different old ones, where the far one is taken for the near one.
   merged : (p : ℕ) → ℕ
@@ -222,7 +203,7 @@ module _ (mesh : HalfEdges) (laws : IsQuadManifold mesh) (cut rest : Cut) (full 
         let from_t = links_join mesh laws cut t (old far.0) x
         (linked_back mesh laws cut full (old far.0) t (first_low laws full parts far.0 far.1)
         (first_linked laws full parts far.0 t far.1 far.2)) (rw e.0 at (first_linked laws full parts p x l i)) in
-        let to_s : AreInOne mesh rest (old near.0) s = linked near.0 s near.1 near.2 in
+        let to_s = linked near.0 s near.1 near.2 in
         let to_x = links_join mesh laws rest s t x (both laws full arc without)
         (joined_less laws full arc without t x arc.glued.far.corner.0 from_t) in
         rw e.1 (links_join mesh laws rest (old near.0) s x to_s to_x)
@@ -238,38 +219,28 @@ module _ (mesh : HalfEdges) (laws : IsQuadManifold mesh) (cut rest : Cut) (full 
 
   old_once : (q r : ℕ) (lq : q < length qs) (lr : r < length qs) → merged (old_of q lq).0 ≡ merged (old_of r lr).0
       → q ≡ r
-  old_once q r lq lr same = one_of laws after whole q r (new q) (new r) lq lr
-      (first_in laws after whole q lq) (first_in laws after whole r lr) link
-    where
-      to_q : AreInOne mesh rest (old (merged (old_of q lq).0)) (new q)
-      to_q = stands_for (old_of q lq).0 (new q) (old_of q lq).1 (old_of q lq).2
-
-      to_r : AreInOne mesh rest (old (merged (old_of r lr).0)) (new r)
-      to_r = stands_for (old_of r lr).0 (new r) (old_of r lr).1 (old_of r lr).2
-
-      link : AreInOne mesh rest (new q) (new r)
-      link = links_join mesh laws rest (new q) (old (merged (old_of q lq).0)) (new r)
-          (linked_back mesh laws rest after (old (merged (old_of q lq).0)) (new q)
-          (first_low laws full parts (merged (old_of q lq).0)
-          (merged_low (old_of q lq).0 (old_of q lq).1).0) to_q) (rw same to_r)
+  old_once q r lq lr same =
+      let to_q = stands_for (old_of q lq).0 (new q) (old_of q lq).1 (old_of q lq).2 in
+      let to_r = stands_for (old_of r lr).0 (new r) (old_of r lr).1 (old_of r lr).2 in
+      let link : AreInOne mesh rest (new q) (new r) = links_join mesh laws rest (new q) (old (merged (old_of q lq).0))
+      (new r) (linked_back mesh laws rest after (old (merged (old_of q lq).0)) (new q) (first_low laws full parts
+      (merged (old_of q lq).0) (merged_low (old_of q lq).0 (old_of q lq).1).0) to_q) (rw same to_r) in
+      one_of laws after whole q r (new q) (new r) lq lr (first_in laws after whole q lq)
+      (first_in laws after whole r lr) link
 
   -- So there is one less.
   pub fewer : length ps ≡ suc (length qs)
-  fewer = omega (arith, down, up, one_less far.0 (length ps) far.1, passing_all (length qs))
-    where
-      is_other : (p : ℕ) → not (p == far.0) ≡ true → p ≢ far.0
-      is_other p on same = true≢false (sym on ∙ ap not (eq-eqb p far.0 same))
-
-      down : passing (λ p. not (p == far.0)) (length ps) ≤ passing (λ q. true) (length qs)
-      down = passing_le (λ p. not (p == far.0)) (λ q. true) (length ps) (length qs)
-          (λ p l on. ((new_of p l).0, (new_of p l).1, refl))
-          (λ p r lp on lr also same. new_once p r lp lr (is_other p on) (is_other r also) same)
-
-      up : passing (λ q. true) (length qs) ≤ passing (λ p. not (p == far.0)) (length ps)
-      up = passing_le (λ q. true) (λ p. not (p == far.0)) (length qs) (length ps) (λ q l on.
-          let low = merged_low (old_of q l).0 (old_of q l).1 in
-          (merged (old_of q l).0, low.0, ap not (ne_eqb (merged (old_of q l).0) far.0 low.1)))
-          (λ q r lq on lr also same. old_once q r lq lr same)
+  fewer =
+      let is_other : (p : ℕ) → not (p == far.0) ≡ true → p
+      ≢ far.0 = λ p on same. true≢false (sym on ∙ ap not (eq-eqb p far.0 same)) in
+      let down : passing (λ p. not (p == far.0)) (length ps) ≤ passing (λ q. true) (length qs) = passing_le
+      (λ p. not (p == far.0)) (λ q. true) (length ps) (length qs) (λ p l on. ((new_of p l).0, (new_of p l).1, refl))
+      (λ p r lp on lr also same. new_once p r lp lr (is_other p on) (is_other r also) same) in
+      let up : passing (λ q. true) (length qs) ≤ passing (λ p. not (p == far.0)) (length ps) = passing_le (λ q. true)
+      (λ p. not (p == far.0)) (length qs) (length ps) (λ q l on. let low = merged_low (old_of q l).0 (old_of q l).1 in
+      (merged (old_of q l).0, low.0, ap not (ne_eqb (merged (old_of q l).0) far.0 low.1)))
+      (λ q r lq on lr also same. old_once q r lq lr same) in
+      omega (arith, one_less far.0 (length ps) far.1, passing_all (length qs))
 
 pub fewer_law : FewerLaw
 fewer_law mesh cut rest face s t n ps qs laws full arc without parts whole = fewer mesh laws cut rest full

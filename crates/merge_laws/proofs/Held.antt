@@ -25,7 +25,7 @@ turn_there faces cut v y = by_dart (any_where (λ d. is_on cut d && is_on cut (p
     by_dart : (d : ℕ) × (is_among d (fan_of faces v) ≡ true) × ((is_on cut d && is_on cut (prev_of d)) ≡ true)
         → Turn faces cut v
     by_dart (d, m, is) =
-        let f : (d < darts faces) × (from_of faces d ≡ v) = from_fan faces v d m in
+        let f = from_fan faces v d m in
         let p : (is_on cut d ≡ true) × (is_on cut (prev_of d) ≡ true) = and_parts _ _ is in
         (d, f.0, f.1, p.0, p.1)
 
@@ -53,19 +53,13 @@ held_law faces marks cut rest s t n more free = keeps_from faces marks (without 
 -- From its other side an arc may leave as well.
 pub turned_may : (faces : Faces) (marks cut : List Bool) (s t n : ℕ) → may_beside faces marks cut s t n ≡ true
     → may_beside faces marks cut t s n ≡ true
-turned_may faces marks cut s t n y = ap (keeps_lines faces marks) (sym same) ∙ y
-  where
-    same : without faces cut s t n ≡ without faces cut t s n
-    same = ext_get_or false (without faces cut s t n) (without faces cut t s n)
-        (without_long faces cut s t n ∙ sym (without_long faces cut t s n))
-        (λ d l. each d (omega (arith, l, without_long faces cut s t n)))
-      where
-        other : (d : ℕ) → is_on_arc (half_edges faces) s t n d ≡ is_on_arc (half_edges faces) t s n d
-        other d = same_test _ _ (λ o. on_arc (half_edges faces) t s n d
-            (other_way (half_edges faces) s t n d (of_arc (half_edges faces) s t n d o)))
-            (λ o. on_arc (half_edges faces) s t n d
-            (other_way (half_edges faces) t s n d (of_arc (half_edges faces) t s n d o)))
-
-        each : (d : ℕ) → d < darts faces → is_on (without faces cut s t n) d ≡ is_on (without faces cut t s n) d
-        each d l = without_is faces cut s t n d l
-            ∙ (ap (λ b. is_on cut d && not b) (other d) ∙ sym (without_is faces cut t s n d l))
+turned_may faces marks cut s t n y =
+    let same : without faces cut s t n ≡ without faces cut t s n = let other : (d : ℕ) → is_on_arc (half_edges faces) s
+    t n d ≡ is_on_arc (half_edges faces) t s n d = λ d. same_test _ _ (λ o. on_arc (half_edges faces) t s n d
+    (other_way (half_edges faces) s t n d (of_arc (half_edges faces) s t n d o))) (λ o. on_arc (half_edges faces) s t n
+    d (other_way (half_edges faces) t s n d (of_arc (half_edges faces) t s n d o))) in let each : (d : ℕ) → d
+    < darts faces → is_on (without faces cut s t n) d ≡ is_on (without faces cut t s n) d = λ d l. without_is faces cut
+    s t n d l ∙ (ap (λ b. is_on cut d && not b) (other d) ∙ sym (without_is faces cut t s n d l)) in ext_get_or false
+    (without faces cut s t n) (without faces cut t s n) (without_long faces cut s t n
+    ∙ sym (without_long faces cut t s n)) (λ d l. each d (omega (arith, l, without_long faces cut s t n))) in
+    ap (keeps_lines faces marks) (sym same) ∙ y

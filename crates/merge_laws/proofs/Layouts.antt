@@ -129,10 +129,8 @@ module _ {mesh : HalfEdges} (laws : IsQuadManifold mesh) {cut : Cut} (full : IsC
     far_lies : (o : ℕ) → o < long_at layout.arcs (arc_of one)
         → LiesAt mesh (path_at layout.arcs (arc_of one)).darts (not (use_of (gluing_of layout) one).forward) o
         (border_dart mesh (patch_at layout.patches other.patch) other.side o)
-    far_lies o l = subst (λ (b : Bool). LiesAt mesh (path_at layout.arcs (arc_of one)).darts b o
-        (border_dart mesh (patch_at layout.patches other.patch) other.side o)) are.across.1.turned
-        (subst (λ (a : ℕ). LiesAt mesh (path_at layout.arcs a).darts (use_of (gluing_of layout) other).forward o
-        (border_dart mesh (patch_at layout.patches other.patch) other.side o)) are.across.1.arc
+    far_lies o l = rw (← are.across.1.turned)
+        (rw (← are.across.1.arc)
         (lies other are.across.0 are.alone_across o (omega (arith, l, ap (long_at layout.arcs) are.across.1.arc))))
 
     paired : (b : Bool) (k j x y : ℕ) → y < mesh.count → k + suc j ≡ long_at layout.arcs (arc_of one)

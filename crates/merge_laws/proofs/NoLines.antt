@@ -58,20 +58,17 @@ module _ (faces : Faces) where
 
   pub none_broken : replicate (vertex_count faces) false
       ≡ map (is_break faces (replicate (darts faces) false)) (all_vertices faces)
-  none_broken = ext_get_or false (replicate (vertex_count faces) false)
-      (map (is_break faces (replicate (darts faces) false)) (all_vertices faces)) long
-      (λ v l. none_on (vertex_count faces) v ∙ sym (at v l))
-    where
-      long : length (replicate (vertex_count faces) false)
-          ≡ length (map (is_break faces (replicate (darts faces) false)) (all_vertices faces))
-      long = length-replicate (vertex_count faces) false
-          ∙ sym (length-map (all_vertices faces) (is_break faces (replicate (darts faces) false))
-          ∙ length-range_with_len 0 (vertex_count faces))
-
-      at : (v : ℕ) → v < length (replicate (vertex_count faces) false)
-          → is_on (map (is_break faces (replicate (darts faces) false)) (all_vertices faces)) v ≡ false
-      at v l = get_or-map-range_with_len (is_break faces (replicate (darts faces) false)) 0 (vertex_count faces) v v
-          false (omega (arith, l, length-replicate (vertex_count faces) false)) (omega arith) ∙ no_break faces v
+  none_broken =
+      let long : length (replicate (vertex_count faces) false)
+      ≡ length (map (is_break faces (replicate (darts faces) false)) (all_vertices faces)) = length-replicate
+      (vertex_count faces) false ∙ sym (length-map (all_vertices faces) (is_break faces (replicate (darts faces) false))
+      ∙ length-range_with_len 0 (vertex_count faces)) in
+      let at : (v : ℕ) → v < length (replicate (vertex_count faces) false)
+      → is_on (map (is_break faces (replicate (darts faces) false)) (all_vertices faces)) v
+      ≡ false = λ v l. get_or-map-range_with_len (is_break faces (replicate (darts faces) false)) 0 (vertex_count faces)
+      v v false (omega (arith, l, length-replicate (vertex_count faces) false)) (omega arith) ∙ no_break faces v in
+      ext_get_or false (replicate (vertex_count faces) false) (map (is_break faces (replicate (darts faces) false))
+      (all_vertices faces)) long (λ v l. none_on (vertex_count faces) v ∙ sym (at v l))
 
   -- What is merged beside no marks is merged, and the other way round.
   pub none_merged : (cut rest : List Bool)

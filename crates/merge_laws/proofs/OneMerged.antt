@@ -16,8 +16,8 @@ use Rattle.def_merge.specs.{Merged.MayLeave, Laws.OneMergedLaw}
 -- An arc has the same darts from both sides.
 pub same_darts : (mesh : HalfEdges) (s t : ℕ) {n : ℕ} (r u : ℕ) {m : ℕ} (d : ℕ) → AreOneArc s t r u → n ≡ m
     → IsOnArc mesh s t n d → IsOnArc mesh r u m d
-same_darts mesh s t r u {m} d (inl p) e o = subst (λ (x : ℕ). IsOnArc mesh x u m d) p.0
-    (subst (λ (x : ℕ). IsOnArc mesh s x m d) p.1 (rw e at o))
+same_darts mesh s t r u {m} d (inl p) e o = rw (← p.0)
+    (rw (← p.1) (rw e at o))
 same_darts mesh s t r u {m} d (inr p) e o =
     other_way mesh u r m d (rw p.0 at (subst (λ (x : ℕ). IsOnArc mesh s x m d) p.1 (rw e at o)))
 
@@ -42,11 +42,7 @@ module _ (faces : Faces) (may : MayLeave) (laws : IsQuadManifold (half_edges fac
       (λ d l. each d (omega (arith, l, one.long, cut.long)) (on_or_not mesh one.near one.far one.size d))
     where
       names : one.first.name ≡ two.first.name
-      names = omega (
-        arith,
-        one.first.first two.near two.far two.size two.first.name two.first.joinable two.first.free two.first.named.on,
-        two.first.first one.near one.far one.size one.first.name one.first.joinable one.first.free one.first.named.on,
-      )
+      names = omega (arith, one.first.first two.near two.far two.size two.first.name two.first.joinable two.first.free two.first.named.on, two.first.first one.near one.far one.size one.first.name one.first.joinable one.first.free one.first.named.on)
 
       arcs : AreOneArc one.near one.far two.near two.far × (one.size ≡ two.size)
       arcs = one_arc mesh laws (is_on marks) cut.full one.near one.far one.size two.near two.far two.size one.first.name
@@ -66,7 +62,7 @@ module _ (faces : Faces) (may : MayLeave) (laws : IsQuadManifold (half_edges fac
 
   pub cut_reached : {marks : List Bool} (a : List Bool) (i : ℕ) → IsCutOf faces marks → Steps faces may marks a i
       → IsCutOf faces a
-  cut_reached a zero cut steps = subst (λ (x : List Bool). IsCutOf faces x) steps cut
+  cut_reached a zero cut steps = rw (← steps) cut
   cut_reached {marks} a (suc i) cut steps = cut_after (cut_reached steps.0 i cut steps.1) steps.2
 
   -- What is left is a part of the cut.
@@ -81,7 +77,7 @@ module _ (faces : Faces) (may : MayLeave) (laws : IsQuadManifold (half_edges fac
       → Steps faces may marks b i → a ≡ b
   same_reached a b zero cut one two = sym one ∙ two
   same_reached {marks} a b (suc i) cut one two =
-      let same : two.0 ≡ one.0 = same_reached two.0 one.0 i cut two.1 one.1 in
+      let same = same_reached two.0 one.0 i cut two.1 one.1 in
       one_step one.0 a b (cut_reached one.0 i cut one.1) one.2
       (rw same at two.2)
 

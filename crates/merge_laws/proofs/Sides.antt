@@ -89,7 +89,7 @@ module _ (mesh : HalfEdges) (laws : IsQuadManifold mesh) (cut : Cut) (full : IsC
       (p.0, ap suc p.1)
 
   shorter : {s : ℕ} (n : ℕ) {m : ℕ} → IsWholeSide mesh cut s n → IsWholeSide mesh cut s m → n < m → ⊥
-  shorter zero one two l = absurd (let some : 0 < 0 = one.some in omega arith)
+  shorter zero one two l = absurd (let some = one.some in omega arith)
   shorter (suc k) one two l = true≢false (sym (one.ends k refl) ∙ two.inside k (omega arith))
 
   pub one_size : (s n m : ℕ) → IsWholeSide mesh cut s n → IsWholeSide mesh cut s m → n ≡ m
@@ -104,7 +104,7 @@ module _ (mesh : HalfEdges) (laws : IsQuadManifold mesh) (cut : Cut) (full : IsC
       let g = grow mesh laws cut full s side.corner in
       let other : IsWholeSide mesh cut s g.0 =
       record { some = g.2.wide; corner = side.corner; inside = g.2.row.inside; ends = g.2.row.ends } in
-      let same : g.0 ≡ n = one_size s g.0 n other side in (
+      let same = one_size s g.0 n other side in (
         g.1,
         rw same at (grown_grid mesh laws cut full s g.0 g.1 side.corner g.2),
       )
@@ -279,7 +279,7 @@ module _ (mesh : HalfEdges) (laws : IsQuadManifold mesh) (cut : Cut) (full : IsC
       let f = full.corner x l in
       let back = linked_back mesh laws cut full x f.0 l (f.1, f.2) in
       let g = grow mesh laws cut full f.0 f.3 in
-      let grid : IsGrid mesh cut g.0 g.1 (grown mesh f.0) = grown_grid mesh laws cut full f.0 g.0 g.1 f.3 g.2 in
+      let grid = grown_grid mesh laws cut full f.0 g.0 g.1 f.3 g.2 in
       let o = stands_in g.0 g.1 (grown mesh f.0) grid x
       (closed mesh laws cut full g.0 g.1 (grown mesh f.0) grid f.0 x back.0 back.1
       (first_in mesh laws cut full g.0 g.1 (grown mesh f.0) grid)) on in

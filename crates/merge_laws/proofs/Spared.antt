@@ -28,76 +28,72 @@ module _ (faces : Faces) (m : IsManifold faces) (marks : List Bool) (marked : Ar
   abbrev laws : IsQuadManifold (half_edges faces)
   laws = manifold_law faces m
 
-  full : IsCut (half_edges faces) (is_on cut)
+  full : IsCut mesh (is_on cut)
   full = ((full_cut_law faces cut m).0 beside.full).1
 
-  module _ (s t n : ℕ) (arc : IsJoinable (half_edges faces) (is_on cut) s t n) where
+  abbrev IsBreak : ℕ → Type 0
+  IsBreak d = is_break faces marks (from_of faces d) ≡ true
+
+  abbrev TurnsAt : List Bool → ℕ → Type 0
+  TurnsAt cut d = Turn faces cut (from_of faces d)
+
+  module _ (s t n : ℕ) (arc : IsJoinable mesh (is_on cut) s t n) where
     abbrev rest : List Bool
     rest = without faces cut s t n
 
-    left : IsWithout (half_edges faces) (is_on cut) (is_on rest) s t n
-    left = record {
-      gone = λ d o. without_is faces cut s t n d (on_low mesh laws (is_on cut) full s t n arc.glued d o)
-          ∙ off_test (is_on cut d) _ (on_arc mesh s t n d o);
-      kept = λ d l none. without_is faces cut s t n d l
-          ∙ on_test (is_on cut d) _ (false_from_ne_true _ (λ y. none (of_arc mesh s t n d y)));
-    }
-      where
-        off_test : (a b : Bool) → b ≡ true → (a && not b) ≡ false
-        off_test = elim [ true ↦ λ b y. ap not y | false ↦ λ b y. refl ]
+    abbrev OnArc : ℕ → Type 0
+    OnArc d = IsOnArc (half_edges faces) s t n d
 
-        on_test : (a b : Bool) → b ≡ false → (a && not b) ≡ a
-        on_test = elim [ true ↦ λ b y. ap not y | false ↦ λ b y. refl ]
+    left : IsWithout mesh (is_on cut) (is_on rest) s t n
+    left =
+        let off_test : (a b : Bool) → b ≡ true → (a && not b) ≡ false =
+            elim [ true ↦ λ b y. ap not y | false ↦ λ b y. refl ] in
+        let on_test : (a b : Bool) → b ≡ false → (a && not b) ≡ a =
+            elim [ true ↦ λ b y. ap not y | false ↦ λ b y. refl ] in
+        record {
+          gone = λ d o. without_is faces cut s t n d (on_low mesh laws (is_on cut) full s t n arc.glued d o)
+              ∙ off_test (is_on cut d) _ (on_arc mesh s t n d o);
+          kept = λ d l none. without_is faces cut s t n d l
+              ∙ on_test (is_on cut d) _ (false_from_ne_true _ (λ y. none (of_arc mesh s t n d y)));
+        }
 
-    full_left : IsCut (half_edges faces) (is_on rest)
+    full_left : IsCut mesh (is_on rest)
     full_left = join_law mesh (is_on cut) (is_on rest) s t n laws full arc left
 
+    near_low : (k : ℕ) → k < n → easts mesh s k < darts faces
+    near_low k l = side_low mesh laws (is_on cut) full s n arc.glued.near k l
+
     -- Inside a side no patch has a corner.
-    no_turn : (r u : ℕ) → AreGlued (half_edges faces) (is_on cut) r u n → (k e : ℕ) → suc k < n
-        → is_break faces marks (from_of faces (easts (half_edges faces) r (suc k))) ≡ true
-        → e < darts faces → from_of faces e ≡ from_of faces (easts (half_edges faces) r (suc k)) → is_on cut e ≡ true
+    no_turn : (r u : ℕ) → AreGlued mesh (is_on cut) r u n → (k e : ℕ) → suc k < n → IsBreak (easts mesh r (suc k))
+        → e < darts faces → from_of faces e ≡ from_of faces (easts mesh r (suc k)) → is_on cut e ≡ true
         → is_on cut (prev_of e) ≡ true → ⊥
-    no_turn r u glued k e l y le at on before = by_cross (break_cross faces m marks marked x lx y)
-      where
-        x : ℕ
-        x = easts (half_edges faces) r (suc k)
-
-        lx : x < darts faces
-        lx = side_low mesh laws (is_on cut) full r n glued.near (suc k) l
-
-        west : is_on cut (prev_of x) ≡ false
-        west = side_before mesh laws (is_on cut) full glued.near k l
-
-        far : (j : ℕ) → suc k + suc j ≡ n → (twin_of faces x ≡ Some (easts (half_edges faces) u j))
-            × (is_on cut (next_of (easts (half_edges faces) u j)) ≡ false)
-        far j sum = (glued.across (suc k) j sum, glued.far.inside j (omega arith))
-
-        by_cross : HasCross (half_edges faces) x → ⊥
-        by_cross (a, b, c, is) = by_place (one_of_four mesh laws x a b c lx is e (record { low = le; at = at }))
-          where
-            lc : c < darts faces
-            lc = low_c mesh laws x a b c lx is
-
-            off_a : is_on cut a ≡ false
-            off_a = full.alike (prev_of x) a (laws.prev_low x lx) is.first ∙ west
-
-            off_c : is_on cut c ≡ false
-            off_c =
-                let f = far (n - suc (suc k)) (omega (arith, l)) in
-                let same = same_Some _ _ (sym f.0 ∙ laws.twin_twin (prev_of c) x (laws.prev_low c lc) is.last) in
-                sym (ap (is_on cut) (ap next_of same ∙ laws.next_prev c)) ∙ f.1
-
-            by_place : (e ≡ x) ⊎ ((e ≡ a) ⊎ ((e ≡ b) ⊎ (e ≡ c))) → ⊥
-            by_place (inl same) = false≢true (sym west ∙ (ap (λ z. is_on cut (prev_of z)) (sym same) ∙ before))
-            by_place (inr (inl same)) = false≢true (sym off_a ∙ (ap (is_on cut) (sym same) ∙ on))
-            by_place (inr (inr (inl same))) = false≢true
-                (sym off_c ∙ (full.alike (prev_of b) c (laws.prev_low b (low_b mesh laws x a b c lx is)) is.third
-                ∙ (ap (λ z. is_on cut (prev_of z)) (sym same) ∙ before)))
-            by_place (inr (inr (inr same))) = false≢true (sym off_c ∙ (ap (is_on cut) (sym same) ∙ on))
+    no_turn r u glued k e l y le at on before =
+        let x = easts mesh r (suc k) in
+        let lx = side_low mesh laws (is_on cut) full r n glued.near (suc k) l in
+        let west = side_before mesh laws (is_on cut) full glued.near k l in
+        let cross = break_cross faces m marks marked x lx y in
+        let a = cross.0 in
+        let b = cross.1 in
+        let c = cross.2 in
+        let is = cross.3 in
+        let lc = low_c mesh laws x a b c lx is in
+        let off_a : is_on cut a ≡ false = full.alike (prev_of x) a (laws.prev_low x lx) is.first ∙ west in
+        let far : (j : ℕ) → suc k + suc j ≡ n → is_on cut c ≡ false = λ j sum.
+            let same = same_Some _ _ (sym (glued.across (suc k) j sum)
+                ∙ laws.twin_twin (prev_of c) x (laws.prev_low c lc) is.last) in
+            sym (ap (is_on cut) (ap next_of same ∙ laws.next_prev c)) ∙ glued.far.inside j (omega arith) in
+        let off_c = far (n - suc (suc k)) (omega arith) in
+        elim (one_of_four mesh laws x a b c lx is e (record { low = le; at = at })) [
+          | inl same ↦ false≢true (sym west ∙ (ap (λ z. is_on cut (prev_of z)) (sym same) ∙ before))
+          | inr (inl same) ↦ false≢true (sym off_a ∙ (ap (is_on cut) (sym same) ∙ on))
+          | inr (inr (inl same)) ↦ false≢true
+              (sym off_c ∙ (full.alike (prev_of b) c (laws.prev_low b (low_b mesh laws x a b c lx is)) is.third
+              ∙ (ap (λ z. is_on cut (prev_of z)) (sym same) ∙ before)))
+          | inr (inr (inr same)) ↦ false≢true (sym off_c ∙ (ap (is_on cut) (sym same) ∙ on))
+        ]
 
     -- So of the darts that leave a corner of a patch where lines break only the first ones lie on the arc.
-    first_at : (d : ℕ) → IsOnArc (half_edges faces) s t n d → is_break faces marks (from_of faces d) ≡ true
-        → Turn faces cut (from_of faces d) → (d ≡ s) ⊎ (d ≡ t)
+    first_at : (d : ℕ) → OnArc d → IsBreak d → TurnsAt cut d → (d ≡ s) ⊎ (d ≡ t)
     first_at d (zero, l, inl e) y turn = inl e
     first_at d (zero, l, inr e) y turn = inr e
     first_at d (suc k, l, inl e) y turn =
@@ -109,148 +105,97 @@ module _ (faces : Faces) (m : IsManifold faces) (marks : List Bool) (marked : Ar
 
     -- Where the edge opposite to an end stays, a corner stays.
     module _ (r u : ℕ) (lr : r < darts faces) (corner : (is_on cut r ≡ true) × (is_on cut (prev_of r) ≡ true))
-        (on : IsOnArc (half_edges faces) s t n r) (other : (d : ℕ) → (d ≡ s) ⊎ (d ≡ t) → (d ≡ r) ⊎ (d ≡ u)) where
-      gone_r : is_on rest r ≡ false
-      gone_r = left.gone r on
-
-      stays : is_break faces marks (from_of faces r) ≡ true → IsEndFree faces marks cut r u
-          → Turn faces rest (from_of faces r)
-      stays y free = by_cross (break_cross faces m marks marked r lr y)
-        where
-          by_cross : HasCross (half_edges faces) r → Turn faces rest (from_of faces r)
-          by_cross (a, b, c, is) = (a, la, at_a mesh laws r a b c lr is, on_a, before)
-            where
-              la : a < darts faces
-              la = low_a mesh laws r a b c lr is
-
-              lb : b < darts faces
-              lb = low_b mesh laws r a b c lr is
-
-              opposite : (is_on cut b ≡ true) × (b ≢ u)
-              opposite = free y a b is.first is.second
-
-              at : from_of faces b ≡ from_of faces r
-              at = at_b mesh laws r a b c lr is
-
-              clear : IsOnArc (half_edges faces) s t n b → ⊥
-              clear o =
-                  elim (other b (first_at b o (ap (is_break faces marks) at ∙ y) (r, lr, sym at, corner.0, corner.1))) [
-                    | inl e ↦ is.apart (sym e)
-                    | inr e ↦ opposite.1 e
-                  ]
-
-              on_b : is_on rest b ≡ true
-              on_b = still mesh laws (is_on cut) (is_on rest) s t n left b lb clear opposite.0
-
-              before : is_on rest (prev_of a) ≡ true
-              before = sym (full_left.alike (prev_of a) b (laws.prev_low a la) is.second) ∙ on_b
-
-              on_a : is_on rest a ≡ true
-              on_a = by_gap (full_left.gaps (prev_of a) (laws.prev_low a la) before)
-                where
-                  by_gap : GoesOn (half_edges faces) (is_on rest) (prev_of a) → is_on rest a ≡ true
-                  by_gap (inl y) = ap (is_on rest) (sym (laws.next_prev a)) ∙ y
-                  by_gap (inr (e, w, y)) =
-                      let same =
-                      same_Some e (prev_of r) (sym w ∙ (ap (twin_of faces) (laws.next_prev a)
-                      ∙ laws.twin_twin (prev_of r) a (laws.prev_low r lr) is.first)) in
-                      absurd (false≢true (sym gone_r
-                      ∙ (ap (is_on rest) (sym (ap next_of same ∙ laws.next_prev r)) ∙ y)))
+        (on : OnArc r) (other : (d : ℕ) → (d ≡ s) ⊎ (d ≡ t) → (d ≡ r) ⊎ (d ≡ u)) where
+      stays : IsBreak r → IsEndFree faces marks cut r u → TurnsAt rest r
+      stays y free =
+          let cross = break_cross faces m marks marked r lr y in
+          let a = cross.0 in
+          let b = cross.1 in
+          let is = cross.3 in
+          let la = low_a mesh laws r a b cross.2 lr is in
+          let lb = low_b mesh laws r a b cross.2 lr is in
+          let opposite = free y a b is.first is.second in
+          let at = at_b mesh laws r a b cross.2 lr is in
+          let clear : IsOnArc (half_edges faces) s t n b → ⊥ = λ o.
+              elim (other b (first_at b o (ap (is_break faces marks) at ∙ y) (r, lr, sym at, corner.0, corner.1))) [
+                | inl e ↦ is.apart (sym e)
+                | inr e ↦ opposite.1 e
+              ] in
+          let on_b = still mesh laws (is_on cut) (is_on rest) s t n left b lb clear opposite.0 in
+          let before : is_on rest (prev_of a) ≡ true =
+              sym (full_left.alike (prev_of a) b (laws.prev_low a la) is.second) ∙ on_b in
+          let on_a : is_on rest a ≡ true = elim (full_left.gaps (prev_of a) (laws.prev_low a la) before) [
+            | inl y ↦ ap (is_on rest) (sym (laws.next_prev a)) ∙ y
+            | inr w ↦
+              let same = same_Some w.0 (prev_of r) (sym w.1 ∙ (ap (twin_of faces) (laws.next_prev a)
+                  ∙ laws.twin_twin (prev_of r) a (laws.prev_low r lr) is.first)) in
+              absurd (false≢true (sym (left.gone r on)
+                  ∙ (ap (is_on rest) (sym (ap next_of same ∙ laws.next_prev r)) ∙ w.2)))
+          ] in
+          (a, la, at_a mesh laws r a b cross.2 lr is, on_a, before)
 
       -- And where a corner stays, the opposite edge does.
-      free : IsOnArc (half_edges faces) s t n u
-          → (is_break faces marks (from_of faces r) ≡ true → Turn faces rest (from_of faces r))
-          → IsEndFree faces marks cut r u
-      free on_u turn y a b first second = by_cross (break_cross faces m marks marked r lr y)
-        where
-          by_cross : HasCross (half_edges faces) r → (is_on cut b ≡ true) × (b ≢ u)
-          by_cross (a', b', c', is) = done (turn y)
-            where
-              same_a : a' ≡ a
-              same_a = same_Some a' a (sym is.first ∙ first)
-
-              same_b : b' ≡ b
-              same_b = same_Some b' b (sym is.second ∙ (ap (λ x. twin_of faces (prev_of x)) same_a ∙ second))
-
-              la : a' < darts faces
-              la = low_a mesh laws r a' b' c' lr is
-
-              lb : b' < darts faces
-              lb = low_b mesh laws r a' b' c' lr is
-
-              lc : c' < darts faces
-              lc = low_c mesh laws r a' b' c' lr is
-
-              by_place : (e : ℕ) → is_on rest e ≡ true → is_on rest (prev_of e) ≡ true → (e ≡ r)
-                  ⊎ ((e ≡ a') ⊎ ((e ≡ b') ⊎ (e ≡ c'))) → is_on rest b' ≡ true
-              by_place e on before (inl same) = absurd (false≢true (sym gone_r ∙ (ap (is_on rest) (sym same) ∙ on)))
-              by_place e on before (inr (inl same)) = full_left.alike (prev_of a') b' (laws.prev_low a' la) is.second
-                  ∙ (ap (λ z. is_on rest (prev_of z)) (sym same) ∙ before)
-              by_place e on before (inr (inr (inl same))) = ap (is_on rest) (sym same) ∙ on
-              by_place e on before (inr (inr (inr same))) =
-                  absurd (false≢true (sym gone_r ∙ (full_left.alike (prev_of c') r (laws.prev_low c' lc) is.last
-                  ∙ (ap (λ z. is_on rest (prev_of z)) (sym same) ∙ before))))
-
-              done : Turn faces rest (from_of faces r) → (is_on cut b ≡ true) × (b ≢ u)
-              done (e, le, at, on, before) =
-                  let on_b : is_on rest b' ≡ true =
-                  by_place e on before (one_of_four mesh laws r a' b' c' lr is e (record { low = le; at = at })) in (
-                    ap (is_on cut) (sym same_b) ∙ less mesh laws (is_on cut) (is_on rest) s t n left b' lb on_b,
-                    λ e. false≢true (sym (left.gone u on_u) ∙ (ap (is_on rest) (sym (same_b ∙ e)) ∙ on_b)),
-                  )
+      free : OnArc u → (IsBreak r → TurnsAt rest r) → IsEndFree faces marks cut r u
+      free on_u turn y a b first second =
+          let cross = break_cross faces m marks marked r lr y in
+          let x = cross.0 in
+          let z = cross.1 in
+          let w = cross.2 in
+          let is = cross.3 in
+          let same_a = same_Some x a (sym is.first ∙ first) in
+          let same_b = same_Some z b (sym is.second ∙ (ap (λ x. twin_of faces (prev_of x)) same_a ∙ second)) in
+          let there = turn y in
+          let e = there.0 in
+          let on_e = there.3 in
+          let on_b : is_on rest z ≡ true =
+              elim (one_of_four mesh laws r x z w lr is e (record { low = there.1; at = there.2 })) [
+                | inl same ↦ absurd (false≢true (sym (left.gone r on) ∙ (ap (is_on rest) (sym same) ∙ on_e)))
+                | inr (inl same) ↦ full_left.alike (prev_of x) z (laws.prev_low x (low_a mesh laws r x z w lr is)) is.second
+                    ∙ (ap (λ z. is_on rest (prev_of z)) (sym same) ∙ there.4)
+                | inr (inr (inl same)) ↦ ap (is_on rest) (sym same) ∙ on_e
+                | inr (inr (inr same)) ↦ absurd (false≢true (sym (left.gone r on)
+                    ∙ (full_left.alike (prev_of w) r (laws.prev_low w (low_c mesh laws r x z w lr is)) is.last
+                    ∙ (ap (λ z. is_on rest (prev_of z)) (sym same) ∙ there.4))))
+              ] in (
+            ap (is_on cut) (sym same_b) ∙ less mesh laws (is_on cut) (is_on rest) s t n left z
+                (low_b mesh laws r x z w lr is) on_b,
+            λ e. false≢true (sym (left.gone u on_u) ∙ (ap (is_on rest) (sym (same_b ∙ e)) ∙ on_b)),
+          )
 
     -- An arc that begins unmarked is not marked.
     pub unmarked_from : is_on marks s ≡ false → (k : ℕ) → k < n → is_on marks (easts (half_edges faces) s k) ≡ false
     unmarked_from off zero l = off
-    unmarked_from off (suc k) l = false_from_ne_true _
-        (λ y. by_grids (grid_on mesh laws (is_on cut) full s n arc.glued.near)
-        (grid_on mesh laws (is_on cut) full t n arc.glued.far) y (unmarked_from off k (omega arith)))
-      where
-        by_grids : (h : ℕ) × IsGrid (half_edges faces) (is_on cut) n h (grown (half_edges faces) s) → (g : ℕ)
-            × IsGrid (half_edges faces) (is_on cut) n g (grown (half_edges faces) t)
-            → is_on marks (easts (half_edges faces) s (suc k)) ≡ true
-            → is_on marks (easts (half_edges faces) s k) ≡ false → ⊥
-        by_grids (h, grid) (g, other) y before =
-            by_cross (crossed_at mesh laws (is_on cut) full s t n arc h g grid other k l)
-          where
-            lx : easts (half_edges faces) s (suc k) < darts faces
-            lx = side_low mesh laws (is_on cut) full s n arc.glued.near (suc k) l
+    unmarked_from off (suc k) l =
+        let before = unmarked_from off k (omega arith) in
+        let x = easts mesh s (suc k) in
+        let y = easts mesh s k in
+        let lx = near_low (suc k) l in
+        let ly = near_low k (omega arith) in
+        false_from_ne_true _ (λ on.
+          let near = grid_on mesh laws (is_on cut) full s n arc.glued.near in
+          let far = grid_on mesh laws (is_on cut) full t n arc.glued.far in
+          let cross = crossed_at laws full arc near.1 far.1 k l in
+          let a = cross.0 in
+          let b = cross.1 in
+          let c = cross.2 in
+          let is = cross.3 in
+          let right = same_Some a (next_of y) (sym is.first ∙ laws.twin_twin (next_of y) (prev_of x) (laws.next_low y ly)
+              (side_link mesh laws (is_on cut) full s n arc.glued.near k l)) in
+          let across : twin_of faces (easts mesh s k) ≡ Some b =
+              ap (twin_of faces) (sym (ap prev_of right ∙ laws.prev_next y)) ∙ is.second in
+          elim (two_ways faces m marks marked x a b c lx on is) [
+            | inl on ↦ false≢true (sym before ∙ (sym (marked.alike y b ly across) ∙ on))
+            | inr (inl both) ↦ false≢true (sym (arc.glued.near.inside k l) ∙ (ap (is_on cut) (sym right)
+                ∙ beside.kept a (low_a mesh laws x a b c lx is) both.0))
+            | inr (inr broken) ↦
+              let turn = turn_there faces cut (from_of faces x) (beside.turned x lx broken) in
+              no_turn s t arc.glued k turn.0 l broken turn.1 turn.2 turn.3 turn.4
+          ])
 
-            ly : easts (half_edges faces) s k < darts faces
-            ly = side_low mesh laws (is_on cut) full s n arc.glued.near k (omega (arith, l))
-
-            by_cross : HasCross (half_edges faces) (easts (half_edges faces) s (suc k)) → ⊥
-            by_cross (a, b, c, is) = by_way
-                (two_ways faces m marks marked (easts (half_edges faces) s (suc k)) a b c lx y is)
-              where
-                right : a ≡ next_of (easts (half_edges faces) s k)
-                right = same_Some a (next_of (easts (half_edges faces) s k))
-                    (sym is.first ∙ laws.twin_twin (next_of (easts (half_edges faces) s k))
-                    (prev_of (easts (half_edges faces) s (suc k))) (laws.next_low (easts (half_edges faces) s k) ly)
-                    (side_link mesh laws (is_on cut) full s n arc.glued.near k l))
-
-                across : twin_of faces (easts (half_edges faces) s k) ≡ Some b
-                across = ap (twin_of faces) (sym (ap prev_of right ∙ laws.prev_next (easts (half_edges faces) s k)))
-                    ∙ is.second
-
-                by_way : (is_on marks b ≡ true) ⊎ (((is_on marks a ≡ true) × (is_on marks c ≡ true))
-                    ⊎ (is_break faces marks (from_of faces (easts (half_edges faces) s (suc k))) ≡ true)) → ⊥
-                by_way (inl on) =
-                    false≢true (sym before ∙ (sym (marked.alike (easts (half_edges faces) s k) b ly across) ∙ on))
-                by_way (inr (inl both)) = false≢true (sym (arc.glued.near.inside k l)
-                    ∙ (ap (is_on cut) (sym right) ∙ beside.kept a
-                    (low_a mesh laws (easts (half_edges faces) s (suc k)) a b c lx is) both.0))
-                by_way (inr (inr broken)) = by_turn
-                    (turn_there faces cut (from_of faces (easts (half_edges faces) s (suc k)))
-                    (beside.turned (easts (half_edges faces) s (suc k)) lx broken))
-                  where
-                    by_turn : Turn faces cut (from_of faces (easts (half_edges faces) s (suc k))) → ⊥
-                    by_turn (e, le, at, on, west) = no_turn s t arc.glued k e l broken le at on west
-
-    on_s : IsOnArc (half_edges faces) s t n s
+    on_s : OnArc s
     on_s = (0, arc.glued.near.some, inl refl)
 
-    on_t : IsOnArc (half_edges faces) s t n t
+    on_t : OnArc t
     on_t = (0, arc.glued.near.some, inr refl)
 
     swap : (d : ℕ) → (d ≡ s) ⊎ (d ≡ t) → (d ≡ t) ⊎ (d ≡ s)
@@ -258,82 +203,65 @@ module _ (faces : Faces) (m : IsManifold faces) (marks : List Bool) (marked : Ar
     swap d (inr e) = inl e
 
     to_spared : keeps_lines faces marks rest ≡ true → IsSpared faces marks cut s t n
-    to_spared keeps = record {
-      unmarked = λ k l. false_from_ne_true _
-          (λ y. false≢true (sym (left.gone (easts (half_edges faces) s k) (k, l, inl refl))
-          ∙ kept_from faces marks rest keeps (easts (half_edges faces) s k)
-          (side_low mesh laws (is_on cut) full s n arc.glued.near k l) y));
-      near = free s t arc.glued.near.corner.0 (arc.glued.near.corner.1, arc.glued.near.corner.2) on_s (λ d o. o) on_t
-          (λ y. turn_there faces rest (from_of faces s)
-          (turned_from faces marks rest keeps s arc.glued.near.corner.0 y));
-      far = free t s arc.glued.far.corner.0 (arc.glued.far.corner.1, arc.glued.far.corner.2) on_t swap on_s
-          (λ y. turn_there faces rest (from_of faces t)
-          (turned_from faces marks rest keeps t arc.glued.far.corner.0 y));
-    }
+    to_spared keeps =
+        let near = arc.glued.near.corner in
+        let far = arc.glued.far.corner in
+        record {
+          unmarked = λ k l. false_from_ne_true _ (λ y. false≢true (sym (left.gone (easts mesh s k) (k, l, inl refl))
+              ∙ kept_from faces marks rest keeps (easts mesh s k) (near_low k l) y));
+          near = free s t near.0 (near.1, near.2) on_s (λ d o. o) on_t
+              (λ y. turn_there faces rest (from_of faces s) (turned_from faces marks rest keeps s near.0 y));
+          far = free t s far.0 (far.1, far.2) on_t swap on_s
+              (λ y. turn_there faces rest (from_of faces t) (turned_from faces marks rest keeps t far.0 y));
+        }
 
     from_spared : IsSpared faces marks cut s t n → keeps_lines faces marks rest ≡ true
-    from_spared spared = keeps_from faces marks rest kept turned
+    from_spared spared = keeps_from faces marks rest
+        (λ d l y. still mesh laws (is_on cut) (is_on rest) s t n left d l (λ o. unmarked d o y) (beside.kept d l y))
+        (λ d l y. turn_from faces rest (from_of faces d)
+        (turned d y (turn_there faces cut (from_of faces d) (beside.turned d l y))))
       where
         -- No dart of the arc is marked.
-        unmarked : (d : ℕ) → IsOnArc (half_edges faces) s t n d → is_on marks d ≡ true → ⊥
+        unmarked : (d : ℕ) → OnArc d → is_on marks d ≡ true → ⊥
         unmarked d (k, l, inl e) y = false≢true (sym (spared.unmarked k l) ∙ (ap (is_on marks) (sym e) ∙ y))
         unmarked d (k, l, inr e) y = false≢true
-            (sym (marked.alike (easts (half_edges faces) s (n - suc k)) d
-            (side_low mesh laws (is_on cut) full s n arc.glued.near (n - suc k) (omega (arith, l)))
-            (arc.glued.across (n - suc k) k (omega (arith, l)) ∙ ap Some (sym e))
-            ∙ spared.unmarked (n - suc k) (omega (arith, l))) ∙ y)
+            (sym (marked.alike (easts mesh s (n - suc k)) d (near_low (n - suc k) (omega arith))
+            (arc.glued.across (n - suc k) k (omega arith) ∙ ap Some (sym e))
+            ∙ spared.unmarked (n - suc k) (omega arith)) ∙ y)
 
-        kept : (d : ℕ) → d < darts faces → is_on marks d ≡ true → is_on rest d ≡ true
-        kept d l y = still mesh laws (is_on cut) (is_on rest) s t n left d l (λ o. unmarked d o y) (beside.kept d l y)
-
-        turned : (d : ℕ) → d < darts faces → is_break faces marks (from_of faces d) ≡ true
-            → is_turn faces rest (from_of faces d) ≡ true
-        turned d l y = turn_from faces rest (from_of faces d)
-            (by_turn (turn_there faces cut (from_of faces d) (beside.turned d l y)))
-          where
-            by_turn : Turn faces cut (from_of faces d) → Turn faces rest (from_of faces d)
-            by_turn (e, le, at, on, before) = by_on (on_or_not mesh s t n e) (on_or_not mesh s t n (prev_of e))
-              where
-                broken : is_break faces marks (from_of faces e) ≡ true
-                broken = ap (is_break faces marks) at ∙ y
-
-                -- At an end of the arc,
-                at_s : from_of faces s ≡ from_of faces d → Turn faces rest (from_of faces d)
-                at_s v = subst (Turn faces rest) v
-                    (stays s t arc.glued.near.corner.0 (arc.glued.near.corner.1, arc.glued.near.corner.2) on_s
-                    (λ z o. o) (ap (is_break faces marks) v ∙ y) spared.near)
-
-                at_t : from_of faces t ≡ from_of faces d → Turn faces rest (from_of faces d)
-                at_t v = subst (Turn faces rest) v
-                    (stays t s arc.glued.far.corner.0 (arc.glued.far.corner.1, arc.glued.far.corner.2) on_t swap
-                    (ap (is_break faces marks) v ∙ y) spared.far)
-
-                -- whose dart leaves it or arrives there,
-                leaves : (z : ℕ) → IsOnArc (half_edges faces) s t n z → from_of faces z ≡ from_of faces d
-                    → Turn faces rest (from_of faces d)
-                leaves z o v = elim (first_at z o (ap (is_break faces marks) v ∙ y) (e, le, at ∙ sym v, on, before)) [
-                  | inl same ↦ at_s (ap (from_of faces) (sym same) ∙ v)
-                  | inr same ↦ at_t (ap (from_of faces) (sym same) ∙ v)
-                ]
-
-                -- or elsewhere.
-                by_on : IsOnArc (half_edges faces) s t n e ⊎ (IsOnArc (half_edges faces) s t n e → ⊥)
-                    → IsOnArc (half_edges faces) s t n (prev_of e) ⊎ (IsOnArc (half_edges faces) s t n (prev_of e) → ⊥)
-                    → Turn faces rest (from_of faces d)
-                by_on (inl o) p = leaves e o at
-                by_on (inr none) (inl o) = by_twin (on_twin mesh laws (is_on cut) full arc.glued (prev_of e) o)
-                  where
-                    by_twin : (z : ℕ) × (twin_of faces (prev_of e) ≡ Some z) × IsOnArc (half_edges faces) s t n z
-                        → Turn faces rest (from_of faces d)
-                    by_twin (z, w, p) = leaves z p ((laws.twin_ends (prev_of e) z (laws.prev_low e le) w).0
-                        ∙ (ap (from_of faces) (laws.next_prev e) ∙ at))
-                by_on (inr none) (inr clear) = (
+        turned : (d : ℕ) → IsBreak d → TurnsAt cut d → TurnsAt rest d
+        turned d y (e, le, at, on, before) =
+            let near = arc.glued.near.corner in
+            let far = arc.glued.far.corner in
+            -- At an end of the arc, whose dart leaves it or arrives there,
+            let leaves : (z : ℕ) → OnArc z → from_of faces z ≡ from_of faces d → TurnsAt rest d = λ z o v.
+                elim (first_at z o (ap (is_break faces marks) v ∙ y) (e, le, at ∙ sym v, on, before)) [
+                  | inl same ↦
+                    let v : from_of faces s ≡ from_of faces d = ap (from_of faces) (sym same) ∙ v in
+                    subst (Turn faces rest) v (stays s t near.0 (near.1, near.2) on_s (λ z o. o)
+                        (ap (is_break faces marks) v ∙ y) spared.near)
+                  | inr same ↦
+                    let v : from_of faces t ≡ from_of faces d = ap (from_of faces) (sym same) ∙ v in
+                    subst (Turn faces rest) v (stays t s far.0 (far.1, far.2) on_t swap
+                        (ap (is_break faces marks) v ∙ y) spared.far)
+                ] in
+            -- or elsewhere.
+            elim (on_or_not mesh s t n e) [
+              | inl o ↦ leaves e o at
+              | inr none ↦ elim (on_or_not mesh s t n (prev_of e)) [
+                | inl o ↦
+                  let z = on_twin mesh laws (is_on cut) full arc.glued (prev_of e) o in
+                  leaves z.0 z.2 ((laws.twin_ends (prev_of e) z.0 (laws.prev_low e le) z.1).0
+                      ∙ (ap (from_of faces) (laws.next_prev e) ∙ at))
+                | inr clear ↦ (
                   e,
                   le,
                   at,
                   still mesh laws (is_on cut) (is_on rest) s t n left e le none on,
                   still mesh laws (is_on cut) (is_on rest) s t n left (prev_of e) (laws.prev_low e le) clear before,
                 )
+              ]
+            ]
 
 pub spared_law : SparedLaw
 spared_law faces marks cut s t n m marked beside arc =
