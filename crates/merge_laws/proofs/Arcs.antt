@@ -19,14 +19,13 @@ AreOneArc s t r u = ((s ≡ r) × (t ≡ u)) ⊎ ((s ≡ u) × (t ≡ r))
 -- A test passes at some number below a bound, or at none.
 some_or_none : (p : ℕ → Bool) (n : ℕ) → ((k : ℕ) × (k < n) × (p k ≡ true)) ⊎ ((k : ℕ) → k < n → p k ≡ false)
 some_or_none p zero = inr (λ k l. absurd (omega arith))
-some_or_none p (suc n) = by_before (some_or_none p n) (cases_Bool (p n))
-  where
-    by_before : ((k : ℕ) × (k < n) × (p k ≡ true)) ⊎ ((k : ℕ) → k < n → p k ≡ false) → (p n ≡ true) ⊎ (p n ≡ false)
-        → ((k : ℕ) × (k < suc n) × (p k ≡ true)) ⊎ ((k : ℕ) → k < suc n → p k ≡ false)
-    by_before (inl f) b = inl (f.0, omega (arith, f.1), f.2)
-    by_before (inr none) (inl on) = inl (n, omega arith, on)
-    by_before (inr none) (inr off) =
-        inr (λ k l. elim (cases_eq k n) [ inl e ↦ ap p e ∙ off | inr ne ↦ none k (omega arith) ])
+some_or_none p (suc n) = elim (some_or_none p n) [
+  | inl f ↦ inl (f.0, omega (arith, f.1), f.2)
+  | inr none ↦ elim (cases_Bool (p n)) [
+    | inl on ↦ inl (n, omega arith, on)
+    | inr off ↦ inr (λ k l. elim (cases_eq k n) [ inl e ↦ ap p e ∙ off | inr ne ↦ none k (omega arith) ])
+  ]
+]
 
 -- Two darts for each of n places: the least of them.
 least_below : (f g : ℕ → ℕ) (n : ℕ) → 0 < n → (m : ℕ) × ((k : ℕ) × (k < n) × ((m ≡ f k) ⊎ (m ≡ g k)))
@@ -57,7 +56,7 @@ least_below f g (suc (suc n)) l = by_rest (least_below f g (suc n) (omega arith)
 
     lower : (m m' : ℕ) → m' ≤ m → ((k : ℕ) → k < suc n → (m ≤ f k) × (m ≤ g k)) → (k : ℕ) → k < suc n → (m' ≤ f k)
         × (m' ≤ g k)
-    lower m m' h all k l = (omega (arith, (all k l).0), omega (arith, (all k l).1))
+    lower m m' h all k l = (omega arith, omega arith)
 
     by_rest : (m : ℕ) × ((k : ℕ) × (k < suc n) × ((m ≡ f k) ⊎ (m ≡ g k)))
         × ((k : ℕ) → k < suc n → (m ≤ f k) × (m ≤ g k)) → (m : ℕ)
@@ -68,7 +67,7 @@ least_below f g (suc (suc n)) l = by_rest (least_below f g (suc n) (omega arith)
             → (f (suc n) < m) ⊎ (m ≤ f (suc n)) → (g (suc n) < m) ⊎ (m ≤ g (suc n)) → (g (suc n) < f (suc n))
             ⊎ (f (suc n) ≤ g (suc n)) → (m : ℕ) × ((k : ℕ) × (k < suc (suc n)) × ((m ≡ f k) ⊎ (m ≡ g k)))
             × ((k : ℕ) → k < suc (suc n) → (m ≤ f k) × (m ≤ g k))
-        at m is all (inr a) (inr b) c = (m, (is.0, omega (arith, is.1), is.2), with_last m a b all)
+        at m is all (inr a) (inr b) c = (m, (is.0, omega arith, is.2), with_last m a b all)
         at m is all (inl a) b (inr c) = (
           f (suc n),
           (suc n, omega arith, inl refl),
@@ -91,8 +90,8 @@ name_there mesh s t n some = by_least (least_below (easts mesh s) (easts mesh t)
     by_least r = (r.0, record { on = r.1; least = λ d o. at d o.0 o.1 o.2 })
       where
         at : (d k : ℕ) → k < n → (d ≡ easts mesh s k) ⊎ (d ≡ easts mesh t k) → r.0 ≤ d
-        at d k l (inl e) = omega (arith, e, (r.2 k l).0)
-        at d k l (inr e) = omega (arith, e, (r.2 k l).1)
+        at d k l (inl e) = omega arith
+        at d k l (inr e) = omega arith
 
 pub one_name : (mesh : HalfEdges) (s t n a b : ℕ) → IsNameOf mesh s t n a → IsNameOf mesh s t n b → a ≡ b
 one_name mesh s t n a b one two = omega (arith, one.least b two.on, two.least a one.on)
@@ -106,8 +105,8 @@ module _ (mesh : HalfEdges) (laws : IsQuadManifold mesh) (cut : Cut) (full : IsC
   pub one_far : (s t u n m : ℕ) → AreGlued mesh cut s t n → AreGlued mesh cut s u m → (t ≡ u) × (n ≡ m)
   one_far s t u n m one two =
       let same = one_size mesh laws cut full s n m one.near two.near in
-      let far : t ≡ u = same_Some t u (sym (one.across (n - 1) 0 (omega (arith, one.near.some)))
-      ∙ (ap (λ x. mesh.twin (easts mesh s (x - 1))) same ∙ two.across (m - 1) 0 (omega (arith, two.near.some)))) in
+      let far : t ≡ u = same_Some t u (sym (one.across (n - 1) 0 (omega arith))
+      ∙ (ap (λ x. mesh.twin (easts mesh s (x - 1))) same ∙ two.across (m - 1) 0 (omega arith))) in
       (far, same)
 
   one_near : {s t n r u m : ℕ} (k j : ℕ) → AreGlued mesh cut s t n → AreGlued mesh cut r u m → k < n → j < m
@@ -163,9 +162,8 @@ module _ (mesh : HalfEdges) (laws : IsQuadManifold mesh) (cut : Cut) (full : IsC
         | inl o ↦ inr (
           f.0,
           omega arith,
-          elim (over_end (easts mesh r f.0) (low f.0 (omega arith))
-              (side_on mesh laws rest full_rest r m side f.0 (omega arith)) o)
-              [ inl e ↦ inl (sym e) | inr e ↦ inr (sym e) ],
+          elim (over_end (easts mesh r f.0) (low f.0 (omega arith)) (side_on mesh laws rest full_rest r m side f.0
+              (omega arith)) o) [ inl e ↦ inl (sym e) | inr e ↦ inr (sym e) ],
         )
         | inr none ↦ absurd (true≢false (sym f.2
             ∙ (sym (without.kept (mesh.next (easts mesh r f.0))

@@ -20,7 +20,7 @@ use Rattle.merge_laws.proofs.OneMerged.{IsCutOf, cut_reached}
 -- The test of an arc's darts is what it says.
 pub on_arc : (mesh : HalfEdges) (s t n d : ℕ) → IsOnArc mesh s t n d → is_on_arc mesh s t n d ≡ true
 on_arc mesh s t n d (k, l, is) = any_at (λ j. eqb d (easts mesh s j) || eqb d (easts mesh t j)) k (range_with_len 0 n)
-    (among_range 0 n k (omega arith) (omega (arith, l))) (by_side is)
+    (among_range 0 n k (omega arith) (omega arith)) (by_side is)
   where
     by_side : (d ≡ easts mesh s k) ⊎ (d ≡ easts mesh t k) → (eqb d (easts mesh s k) || eqb d (easts mesh t k)) ≡ true
     by_side (inl e) = or_left _ _ (eq-eqb _ _ e)
@@ -34,7 +34,7 @@ of_arc mesh s t n d y = by_place
         × ((eqb d (easts mesh s k) || eqb d (easts mesh t k)) ≡ true) → IsOnArc mesh s t n d
     by_place (k, m, is) =
         let r = range_among 0 n k m in
-        (k, omega (arith, r.1), elim (or_cases _ _ is) [ inl e ↦ inl (eqb-true _ _ e) | inr e ↦ inr (eqb-true _ _ e) ])
+        (k, omega arith, elim (or_cases _ _ is) [ inl e ↦ inl (eqb-true _ _ e) | inr e ↦ inr (eqb-true _ _ e) ])
 
 implied : (a b : Bool) → (a ≡ true → b ≡ true) → (not a || b) ≡ true
 implied = elim [ true ↦ λ b f. f refl | false ↦ λ b f. refl ]
@@ -55,14 +55,14 @@ pub keeps_from : (faces : Faces) (marks cut : List Bool)
     → is_turn faces cut (from_of faces d) ≡ true) → keeps_lines faces marks cut ≡ true
 keeps_from faces marks cut kept turned =
     let each : (d : ℕ) → (0 ≤ d) × (d < 0 + darts faces) → is_kept faces marks cut d
-    ≡ true = λ d r. and_from _ _ (implied (is_on marks d) (is_on cut d) (kept d (omega (arith, r.1)))) (implied
-    (is_break faces marks (from_of faces d)) (is_turn faces cut (from_of faces d)) (turned d (omega (arith, r.1)))) in
+    ≡ true = λ d r. and_from _ _ (implied (is_on marks d) (is_on cut d) (kept d (omega arith))) (implied
+    (is_break faces marks (from_of faces d)) (is_turn faces cut (from_of faces d)) (turned d (omega arith))) in
     all_from (is_kept faces marks cut) (all_darts faces) (λ d m. each d (range_among 0 (darts faces) d m))
 
 module _ (faces : Faces) (marks cut : List Bool) (keeps : keeps_lines faces marks cut ≡ true) where
   at_dart : (d : ℕ) → d < darts faces → is_kept faces marks cut d ≡ true
   at_dart d l = all_at (is_kept faces marks cut) d (all_darts faces) keeps
-      (among_range 0 (darts faces) d (omega arith) (omega (arith, l)))
+      (among_range 0 (darts faces) d (omega arith) (omega arith))
 
   pub kept_from : (d : ℕ) → d < darts faces → is_on marks d ≡ true → is_on cut d ≡ true
   kept_from d l on = implies (is_on marks d) (is_on cut d)
@@ -87,8 +87,7 @@ pub step_is : {faces : Faces} (marks : List Bool) {cut rest : List Bool} → len
     → (step : IsStep faces (may_beside faces marks) cut rest) → rest ≡ without faces cut step.near step.far step.size
 step_is {faces} marks {cut} {rest} long step = ext_get_or false rest (without faces cut step.near step.far step.size)
     (step.long ∙ (long ∙ sym (without_long faces cut step.near step.far step.size)))
-    (λ d l. each d (omega (arith, l, step.long, long))
-    (cases_Bool (is_on_arc (half_edges faces) step.near step.far step.size d)))
+    (λ d l. each d (omega arith) (cases_Bool (is_on_arc (half_edges faces) step.near step.far step.size d)))
   where
     off_test : (a b : Bool) → b ≡ true → (a && not b) ≡ false
     off_test = elim [ true ↦ λ b y. ap not y | false ↦ λ b y. refl ]
@@ -101,9 +100,8 @@ step_is {faces} marks {cut} {rest} long step = ext_get_or false rest (without fa
         → is_on rest d ≡ is_on (without faces cut step.near step.far step.size) d
     each d l (inl y) = step.without.gone d (of_arc (half_edges faces) step.near step.far step.size d y)
         ∙ sym (without_is faces cut step.near step.far step.size d l ∙ off_test (is_on cut d) _ y)
-    each d l (inr n) = step.without.kept d l
-        (λ o. false≢true (sym n ∙ on_arc (half_edges faces) step.near step.far step.size d o))
-        ∙ sym (without_is faces cut step.near step.far step.size d l ∙ on_test (is_on cut d) _ n)
+    each d l (inr n) = step.without.kept d l (λ o. false≢true (sym n ∙ on_arc (half_edges faces) step.near step.far
+        step.size d o)) ∙ sym (without_is faces cut step.near step.far step.size d l ∙ on_test (is_on cut d) _ n)
 
 module _ (faces : Faces) (laws : IsQuadManifold (half_edges faces)) (marks : List Bool) where
   keeps_reached : (cut rest : List Bool) (i : ℕ) → IsCutOf faces cut → keeps_lines faces marks cut ≡ true

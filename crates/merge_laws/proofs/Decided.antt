@@ -37,11 +37,11 @@ module _ {mesh : HalfEdges} (laws : IsQuadManifold mesh) {cut : Cut} (full : IsC
       let grid = g.1 in
       let cell = grown mesh s in
       let linked : (k a b : ℕ) → a < n → b < h → t ≡ spin mesh k (grown mesh s a b) → AreInOne mesh cut s t =
-          λ k a b la lb is. linked_in mesh laws cut full n h cell grid t
-          (k, record { a = a; b = b; a_low = la; b_low = lb; is = is }) in
+      λ k a b la lb is. linked_in mesh laws cut full n h cell grid t
+      (k, record { a = a; b = b; a_low = la; b_low = lb; is = is }) in
       let none : (IsFirstDart mesh n h (grown mesh s) t → ⊥) → AreInOne mesh cut s t → ⊥ = λ not_first a.
-          not_first (corner_in mesh laws cut full n h cell grid t (closed mesh laws cut full n h cell grid s t a.0 a.1
-          (first_in mesh laws cut full n h cell grid)) corner) in
+      not_first (corner_in mesh laws cut full n h cell grid t (closed mesh laws cut full n h cell grid s t a.0 a.1
+      (first_in mesh laws cut full n h cell grid)) corner) in
       elim (cases_eq t (cell 0 0)) [
         | inl e ↦ inl (linked 0 0 0 grid.wide grid.tall e)
         | inr a ↦ elim (cases_eq t (mesh.next (cell (n - 1) 0))) [
@@ -68,8 +68,7 @@ module _ {mesh : HalfEdges} (laws : IsQuadManifold mesh) {cut : Cut} (full : IsC
   Across s t n = (k j : ℕ) → k + suc j ≡ n → mesh.twin (easts mesh s k) ≡ Some (easts mesh t j)
 
   across_or_not : (s t n m : ℕ) → m ≤ n
-      → ((k j : ℕ) → k < m → k + suc j ≡ n → mesh.twin (easts mesh s k) ≡ Some (easts mesh t j))
-      ⊎ (Across s t n → ⊥)
+      → ((k j : ℕ) → k < m → k + suc j ≡ n → mesh.twin (easts mesh s k) ≡ Some (easts mesh t j)) ⊎ (Across s t n → ⊥)
   across_or_not s t n zero le = inl (λ k j l e. absurd (omega arith))
   across_or_not s t n (suc m) le =
       let rest = across_or_not s t n m (omega arith) in
@@ -79,8 +78,8 @@ module _ {mesh : HalfEdges} (laws : IsQuadManifold mesh) {cut : Cut} (full : IsC
           | inr never ↦ inr never
           | inl before ↦ inl (λ k j l e. elim (cases_eq k m) [
             | inl same ↦
-              let other : n - suc m ≡ j = omega arith in
-              ap (λ x. mesh.twin (easts mesh s x)) same ∙ (on ∙ ap (λ x. Some (easts mesh t x)) other)
+                let other : n - suc m ≡ j = omega arith in
+                ap (λ x. mesh.twin (easts mesh s x)) same ∙ (on ∙ ap (λ x. Some (easts mesh t x)) other)
             | inr apart ↦ before k j (omega arith) e
           ])
         ]
@@ -94,25 +93,28 @@ module _ {mesh : HalfEdges} (laws : IsQuadManifold mesh) {cut : Cut} (full : IsC
       far_is : (f : From s) → mesh.twin (easts mesh s (n - 1)) ≡ Some f.0
       far_is (t, m, arc) =
           let same = one_size mesh laws cut full s m n arc.glued.near side in
-          arc.glued.across (n - 1) 0 (omega (arith, side.some))
+          arc.glued.across (n - 1) 0 (omega arith)
 
       by_far : (t : ℕ) → mesh.twin (easts mesh s (n - 1)) ≡ Some t → IsCorner mesh cut t → OrNot (From s)
       by_far t is there =
           let m = (side_there t there).0 in
           let far = (side_there t there).1 in
-          let at_t : From s → IsJoinable mesh cut s t n = λ f.
-              rw (← same_Some f.0 t (sym (far_is f) ∙ is))
-              (rw (one_size mesh laws cut full s f.1 n f.2.glued.near side) at f.2) in
+          let at_t : From s → IsJoinable mesh cut s t n = λ f. rw (← same_Some f.0 t (sym (far_is f) ∙ is))
+          (rw (one_size mesh laws cut full s f.1 n f.2.glued.near side) at f.2) in
           elim (cases_eq m n) [
             | inr never ↦ inr (λ f. never (one_size mesh laws cut full t m n far (at_t f).glued.far))
             | inl e ↦ elim (across_or_not s t n n (omega arith)) [
               | inr never ↦ inr (λ f. never (at_t f).glued.across)
               | inl across ↦ elim (in_one_or_not s n t side there) [
                 | inl one ↦ inr (λ f. (at_t f).apart one)
-                | inr apart ↦ inl (t, n, record {
-                  glued = record { near = side; far = rw e at far; across = λ k j sum. across k j (omega arith) sum };
-                  apart = apart;
-                })
+                | inr apart ↦ inl (
+                  t,
+                  n,
+                  record {
+                    glued = record { near = side; far = rw e at far; across = λ k j sum. across k j (omega arith) sum };
+                    apart = apart;
+                  },
+                )
               ]
             ]
           ]
@@ -121,16 +123,16 @@ module _ {mesh : HalfEdges} (laws : IsQuadManifold mesh) {cut : Cut} (full : IsC
       by_twin None is = inr (λ f. let both : None ≡ Some f.0 = sym is ∙ far_is f in cc)
       by_twin (Some t) is =
           let x = easts mesh s (n - 1) in
-          let low = side_low mesh laws cut full s n side (n - 1) (omega (arith, side.some)) in
+          let low = side_low mesh laws cut full s n side (n - 1) (omega arith) in
           elim (cases_Bool (cut (mesh.prev t))) [
             | inl on ↦ by_far t is (
               laws.twin_low x t low is,
-              full.alike x t low is ∙ side_on mesh laws cut full s n side (n - 1) (omega (arith, side.some)),
+              full.alike x t low is ∙ side_on mesh laws cut full s n side (n - 1) (omega arith),
               on,
             )
             | inr off ↦ inr (λ f.
-              let same = same_Some f.0 t (sym (far_is f) ∙ is) in
-              true≢false (sym (rw same at f.2.glued.far.corner).2 ∙ off))
+                let same = same_Some f.0 t (sym (far_is f) ∙ is) in
+                true≢false (sym (rw same at f.2.glued.far.corner).2 ∙ off))
           ]
 
   from_or_not : (s : ℕ) → IsCorner mesh cut s → OrNot (From s)
@@ -152,13 +154,13 @@ module _ {mesh : HalfEdges} (laws : IsQuadManifold mesh) {cut : Cut} (full : IsC
           begins : {r u m : ℕ} → IsJoinable mesh cut r u m → (j : ℕ) → j < m → d ≡ easts mesh r j → (r ≡ c) × (m ≡ n)
           begins {r} {m} arc j l e =
               let same = one_place mesh laws cut full r m c n j k arc.glued.near stand.side l stand.low
-                  (sym e ∙ sym stand.at) in
+              (sym e ∙ sym stand.at) in
               (same.0, one_size mesh laws cut full c m n (rw same.0 at arc.glued.near) stand.side)
 
           by_from : OrNot (From c) → OrNot (Over d)
           by_from (inr never) =
               let at : (r u m : ℕ) → IsJoinable mesh cut r u m → (j : ℕ) → j < m → d ≡ easts mesh r j → ⊥ =
-                  λ r u m arc j l e. never (u, m, rw (begins arc j l e).0 at arc) in
+              λ r u m arc j l e. never (u, m, rw (begins arc j l e).0 at arc) in
               inr (λ o. elim o.5.2 [ inl e ↦ at _ _ _ o.3 o.5.0 o.5.1 e | inr e ↦ at _ _ _ (turned o.3) o.5.0 o.5.1 e ])
           by_from (inl f) = elim (cases_Bool (may c f.0 n)) [
             | inl free ↦ inl (c, f.0, n, here, free, (k, stand.low, inl (sym stand.at)))
@@ -166,15 +168,15 @@ module _ {mesh : HalfEdges} (laws : IsQuadManifold mesh) {cut : Cut} (full : IsC
               | inl free ↦ inl (f.0, c, n, turned here, free, (k, stand.low, inr (sym stand.at)))
               | inr back ↦ inr (λ o. elim o.5.2 [
                 | inl e ↦
-                  let same = begins o.3 o.5.0 o.5.1 e in
-                  let far = far_is o.3 same in
-                  let free : may c f.0 n ≡ true = rw same.1 at (rw far at (rw same.0 at o.4)) in
-                  true≢false (sym free ∙ held)
+                    let same = begins o.3 o.5.0 o.5.1 e in
+                    let far = far_is o.3 same in
+                    let free : may c f.0 n ≡ true = rw same.1 at (rw far at (rw same.0 at o.4)) in
+                    true≢false (sym free ∙ held)
                 | inr e ↦
-                  let same = begins (turned o.3) o.5.0 o.5.1 e in
-                  let far = far_is (turned o.3) same in
-                  let free : may f.0 c n ≡ true = rw same.1 at (rw far at (rw same.0 at o.4)) in
-                  true≢false (sym free ∙ back)
+                    let same = begins (turned o.3) o.5.0 o.5.1 e in
+                    let far = far_is (turned o.3) same in
+                    let free : may f.0 c n ≡ true = rw same.1 at (rw far at (rw same.0 at o.4)) in
+                    true≢false (sym free ∙ back)
               ])
             ]
           ]
@@ -187,7 +189,7 @@ module _ {mesh : HalfEdges} (laws : IsQuadManifold mesh) {cut : Cut} (full : IsC
               far_is {r} {u} {m} arc same =
                   let there : IsJoinable mesh cut c u n = rw (← same.1) (rw same.0 at arc) in
                   same_Some u f.0 (sym (there.glued.across (n - 1) 0 (omega arith))
-                      ∙ here.glued.across (n - 1) 0 (omega arith))
+                  ∙ here.glued.across (n - 1) 0 (omega arith))
 
   -- The first one.
   abbrev Least : ℕ → Type 0
@@ -198,7 +200,7 @@ module _ {mesh : HalfEdges} (laws : IsQuadManifold mesh) {cut : Cut} (full : IsC
   least_or_none (suc b) le =
       let rest = least_or_none b (omega arith) in
       elim rest [
-        | inl f ↦ inl (f.0, omega (arith, f.1), f.2, f.3)
+        | inl f ↦ inl (f.0, omega arith, f.2, f.3)
         | inr none ↦ elim (over_or_not b (omega arith)) [
           | inl over ↦ inl (b, omega arith, over, none)
           | inr never ↦ inr (λ x l o. elim (cases_eq x b)

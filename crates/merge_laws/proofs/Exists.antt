@@ -96,9 +96,8 @@ module _ (faces : Faces) (may : MayLeave) (laws : IsQuadManifold (half_edges fac
               let was = on_cut mesh laws (is_on marks) cut.full s t n arc.glued d on in
               let zero_now = ap (λ (b : Bool). cond {A = ℕ} b 1 0) off in
               let one_before = ap (λ (b : Bool). cond {A = ℕ} b 1 0) was in
-              count_below_lt (λ x. cond (is_on (without marks s t n) x) 1 0) (λ x. cond (is_on marks x) 1 0)
-                  (darts faces) d low (λ x l. rw (value x l) (left_le (is_on marks x) (on_or_not mesh s t n x)))
-                  (omega arith)
+              count_below_lt (λ x. cond (is_on (without marks s t n) x) 1 0) (λ x. cond (is_on marks x) 1 0) (darts
+              faces) d low (λ x l. rw (value x l) (left_le (is_on marks x) (on_or_not mesh s t n x))) (omega arith)
 
   -- A step in front of others.
   in_front : {marks between : List Bool} (rest : List Bool) (n : ℕ) → IsStep faces may marks between
@@ -125,4 +124,4 @@ pub merged_law : MergedLaw
 merged_law faces may marks manifold full =
     let laws = manifold_law faces manifold in
     merged_from faces may laws (suc (marked faces may laws marks))
-        (record { long = full.long; full = ((full_cut_law faces marks manifold).0 full).1 }) (omega arith)
+    (record { long = full.long; full = ((full_cut_law faces marks manifold).0 full).1 }) (omega arith)

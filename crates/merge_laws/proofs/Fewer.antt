@@ -62,8 +62,8 @@ module _ {mesh : HalfEdges} (laws : IsQuadManifold mesh) {cut rest : Cut} (full 
   -- Its two patches are linked then.
   both : AreInOne mesh rest s t
   both =
-      let last : n - 1 < n = omega (arith, arc.glued.near.some) in
-      let across = arc.glued.across 0 (n - 1) (omega (arith, arc.glued.near.some)) in
+      let last : n - 1 < n = omega arith in
+      let across = arc.glued.across 0 (n - 1) (omega arith) in
       let gone = without.gone s (0, arc.glued.near.some, inl refl) in
       let back =
       linked_back mesh laws cut full t (easts mesh t (n - 1)) arc.glued.far.corner.0 (along_far (n - 1) last) in
@@ -81,8 +81,11 @@ module _ {mesh : HalfEdges} (laws : IsQuadManifold mesh) {cut rest : Cut} (full 
       let was = (linked_or x a.0 m l a.1) in
       elim a.2 [
         | inl e ↦ more c (rw e (step_next mesh laws cut c c (0, refl))) was
-        | inr p ↦ elim (on_or_not mesh s t n c) [ | inl o ↦ inr (over c lc p.1 o was) | inr none ↦ more c
-            (step_over mesh laws cut c c y (0, refl) (sym (without.kept c lc none) ∙ p.0) p.1) was ]
+        | inr p ↦ elim (on_or_not mesh s t n c) [
+          | inl o ↦ inr (over c lc p.1 o was)
+          | inr none ↦ more c
+              (step_over mesh laws cut c c y (0, refl) (sym (without.kept c lc none) ∙ p.0) p.1) was
+        ]
       ]
     where
       more : (c : ℕ) → AreInOne mesh cut c y → AreInOne mesh cut x c ⊎ (Beside x × Beside c) → AreInOne mesh cut x y
@@ -134,10 +137,9 @@ module _ {mesh : HalfEdges} (laws : IsQuadManifold mesh) {cut : Cut} (full : IsC
       → AreInOne mesh cut x y → p ≡ q
   one_of p q x y lp lq i j a = one_place_of laws full parts p q x y lp lq i j a
 
-module _ (mesh : HalfEdges) (laws : IsQuadManifold mesh) (cut rest : Cut) (full : IsCut mesh cut)
-    (after : IsCut mesh rest) (face : ℕ → ℕ) (s t n : ℕ) (arc : IsJoinable mesh cut s t n)
-    (without : IsWithout mesh cut rest s t n) (ps qs : List Rectangle) (parts : IsPartition mesh cut face ps)
-    (whole : IsPartition mesh rest face qs) where
+module _ (mesh : HalfEdges) (laws : IsQuadManifold mesh) (cut rest : Cut) (full : IsCut mesh cut) (after : IsCut mesh
+    rest) (face : ℕ → ℕ) (s t n : ℕ) (arc : IsJoinable mesh cut s t n) (without : IsWithout mesh cut rest s t n)
+    (ps qs : List Rectangle) (parts : IsPartition mesh cut face ps) (whole : IsPartition mesh rest face qs) where
   -- The patches on both sides of the arc.
   near : (p : ℕ) × (p < length ps) × IsIn mesh ps p s
   near = in_patch laws full parts s arc.glued.near.corner.0
@@ -152,9 +154,8 @@ module _ (mesh : HalfEdges) (laws : IsQuadManifold mesh) (cut rest : Cut) (full 
   new q = first_dart laws after whole q
 
   apart : far.0 ≢ near.0
-  apart same = arc.apart (links_join mesh laws cut s (old near.0) t
-      (linked_back mesh laws cut full (old near.0) s (first_low laws full parts near.0 near.1)
-      (first_linked laws full parts near.0 s near.1 near.2))
+  apart same = arc.apart (links_join mesh laws cut s (old near.0) t (linked_back mesh laws cut full (old near.0) s
+      (first_low laws full parts near.0 near.1) (first_linked laws full parts near.0 s near.1 near.2))
       (rw same at (first_linked laws full parts far.0 t far.1 far.2)))
 
   -- A patch beside the arc is one of the two.
@@ -176,9 +177,11 @@ module _ (mesh : HalfEdges) (laws : IsQuadManifold mesh) (cut rest : Cut) (full 
       (first_low laws after whole (new_of p lp).0 (new_of p lp).1) to_p) (rw same to_r) in
       let is_near : (u : ℕ) (l : u < length ps) → u ≢ far.0 → Beside laws full arc without (old u) → u ≡ near.0 = λ u l
       nu b. elim (beside_is u (old u) l (first_in laws full parts u l) b) [ inl e ↦ e | inr e ↦ absurd (nu e) ] in
-      elim (linked_or laws full arc without (old p) (old r) link.0 (first_low laws full parts p lp) link.1)
-      [ | inl a ↦ one_of laws full parts p r (old p) (old r) lp lr (first_in laws full parts p lp)
-      (first_in laws full parts r lr) a | inr b ↦ is_near p lp np b.0 ∙ sym (is_near r lr nr b.1) ]
+      elim (linked_or laws full arc without (old p) (old r) link.0 (first_low laws full parts p lp) link.1) [
+        | inl a ↦ one_of laws full parts p r (old p) (old r) lp lr (first_in laws full parts p lp)
+            (first_in laws full parts r lr) a
+        | inr b ↦ is_near p lp np b.0 ∙ sym (is_near r lr nr b.1)
+      ]
 
   -- New patches come from different old ones, where the far one is taken for the near one.
   merged : (p : ℕ) → ℕ
@@ -194,7 +197,7 @@ module _ (mesh : HalfEdges) (laws : IsQuadManifold mesh) (cut rest : Cut) (full 
   merged_low : (p : ℕ) → p < length ps → (merged p < length ps) × (merged p ≢ far.0)
   merged_low p l = elim (merged_is p) [
     | inl e ↦ (omega (arith, e.1, near.1), λ same. apart (sym same ∙ e.1))
-    | inr e ↦ (omega (arith, e.1, l), λ same. e.0 (sym e.1 ∙ same))
+    | inr e ↦ (omega (arith, e.1), λ same. e.0 (sym e.1 ∙ same))
   ]
 
   stands_for : (p x : ℕ) → p < length ps → IsIn mesh ps p x → AreInOne mesh rest (old (merged p)) x

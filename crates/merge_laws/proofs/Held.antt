@@ -20,14 +20,11 @@ Turn faces cut v = (e : ℕ) × (e < darts faces) × (from_of faces e ≡ v) × 
     × (is_on cut (prev_of e) ≡ true)
 
 pub turn_there : (faces : Faces) (cut : List Bool) (v : ℕ) → is_turn faces cut v ≡ true → Turn faces cut v
-turn_there faces cut v y = by_dart (any_where (λ d. is_on cut d && is_on cut (prev_of d)) (fan_of faces v) y)
-  where
-    by_dart : (d : ℕ) × (is_among d (fan_of faces v) ≡ true) × ((is_on cut d && is_on cut (prev_of d)) ≡ true)
-        → Turn faces cut v
-    by_dart (d, m, is) =
-        let f = from_fan faces v d m in
-        let p : (is_on cut d ≡ true) × (is_on cut (prev_of d) ≡ true) = and_parts _ _ is in
-        (d, f.0, f.1, p.0, p.1)
+turn_there faces cut v y =
+    let found = (any_where (λ d. is_on cut d && is_on cut (prev_of d)) (fan_of faces v) y) in
+    let f = from_fan faces v found.0 found.1 in
+    let p : (is_on cut found.0 ≡ true) × (is_on cut (prev_of found.0) ≡ true) = and_parts _ _ found.2 in
+    (found.0, f.0, f.1, p.0, p.1)
 
 pub turn_from : (faces : Faces) (cut : List Bool) (v : ℕ) → Turn faces cut v → is_turn faces cut v ≡ true
 turn_from faces cut v (d, l, at, on, before) = any_at (λ x. is_on cut x && is_on cut (prev_of x)) d (fan_of faces v)
@@ -61,5 +58,5 @@ turned_may faces marks cut s t n y =
     < darts faces → is_on (without faces cut s t n) d ≡ is_on (without faces cut t s n) d = λ d l. without_is faces cut
     s t n d l ∙ (ap (λ b. is_on cut d && not b) (other d) ∙ sym (without_is faces cut t s n d l)) in ext_get_or false
     (without faces cut s t n) (without faces cut t s n) (without_long faces cut s t n
-    ∙ sym (without_long faces cut t s n)) (λ d l. each d (omega (arith, l, without_long faces cut s t n))) in
+    ∙ sym (without_long faces cut t s n)) (λ d l. each d (omega (arith, without_long faces cut s t n))) in
     ap (keeps_lines faces marks) (sym same) ∙ y

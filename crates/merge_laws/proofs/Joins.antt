@@ -68,7 +68,7 @@ module _ {mesh : HalfEdges} (laws : IsQuadManifold mesh) {cut : Cut} (full : IsC
         → (rest_end : rest (mesh.next (easts mesh t (n - 1))) ≡ true) → GoesOn mesh rest d
     gap_over d ld on k l e rest_end =
         let start = first_place mesh laws cut full s n arc.glued.near k l
-            (ap (λ x. cut (mesh.prev x)) (sym e) ∙ (ap cut (laws.prev_next d) ∙ on)) in
+        (ap (λ x. cut (mesh.prev x)) (sym e) ∙ (ap cut (laws.prev_next d) ∙ on)) in
         let is : mesh.next d ≡ s = e ∙ ap (easts mesh s) start in
         inr (easts mesh t (n - 1), ap mesh.twin is ∙ arc.glued.across 0 (n - 1) (omega arith), rest_end)
 
@@ -81,9 +81,8 @@ module _ {mesh : HalfEdges} (laws : IsQuadManifold mesh) {cut : Cut} (full : IsC
     gap_on d e ld off tw (suc k) l is =
         let x = easts mesh s k in
         let before : e ≡ mesh.prev (easts mesh s (suc k)) = sym (laws.prev_next e) ∙ ap mesh.prev is in
-        let same = twin_same mesh laws (mesh.next d) (mesh.next x) e (laws.next_low d ld)
-            (laws.next_low x (near_low k (omega arith))) tw
-            (side_link mesh laws cut full s n arc.glued.near k l ∙ ap Some (sym before)) in
+        let same = twin_same mesh laws (mesh.next d) (mesh.next x) e (laws.next_low d ld) (laws.next_low x (near_low k
+        (omega arith))) tw (side_link mesh laws cut full s n arc.glued.near k l ∙ ap Some (sym before)) in
         (k, omega arith, next_same mesh laws d x same)
 
     stays : (d : ℕ) → d < mesh.count → (IsOnArc mesh s t n d → ⊥) → cut d ≡ true → rest d ≡ true
@@ -94,17 +93,16 @@ module _ {mesh : HalfEdges} (laws : IsQuadManifold mesh) {cut : Cut} (full : IsC
     end_stays =
         let last : n - 1 < n = omega arith in
         stays (mesh.next (easts mesh s (n - 1))) (laws.next_low (easts mesh s (n - 1)) (near_low (n - 1) last))
-            (clear 1 (n - 1) 0 (omega arith) (omega arith) last grid.tall) (arc.glued.near.ends (n - 1) (omega arith))
+        (clear 1 (n - 1) 0 (omega arith) (omega arith) last grid.tall) (arc.glued.near.ends (n - 1) (omega arith))
 
     -- An open vertex with a dart on the near side: the edge before the start of the arc stays.
     cross_on : (d : ℕ) → d < mesh.count → rest (mesh.prev d) ≡ false → (k : ℕ) → k < n → d ≡ easts mesh s k
         → HasCross mesh d
     cross_on d ld off zero l e =
         let three = prev_three mesh laws s in
-        let start : rest (mesh.prev s) ≡ true = ap rest three ∙ stays (spin mesh 3 s)
-            (rw three at (laws.prev_low s arc.glued.near.corner.0))
-            (clear 3 0 0 (omega arith) (omega arith) arc.glued.near.some grid.tall)
-            (ap cut (sym three) ∙ arc.glued.near.corner.2) in
+        let start : rest (mesh.prev s) ≡ true = ap rest three
+        ∙ stays (spin mesh 3 s) (rw three at (laws.prev_low s arc.glued.near.corner.0)) (clear 3 0 0 (omega arith)
+        (omega arith) arc.glued.near.some grid.tall) (ap cut (sym three) ∙ arc.glued.near.corner.2) in
         absurd (false≢true (sym off ∙ (ap (λ x. rest (mesh.prev x)) e ∙ start)))
     cross_on d ld off (suc k) l e = rw e (crossed_at k l)
 
@@ -115,9 +113,9 @@ module _ {mesh : HalfEdges} (laws : IsQuadManifold mesh) {cut : Cut} (full : IsC
         elim (cases_eq (suc k) n) [
           | inl z ↦ absurd (true≢false (sym (arc.glued.near.ends k z) ∙ (ap cut (sym is) ∙ off)))
           | inr ne ↦
-            let lk : suc k < n = omega arith in
-            cross_from mesh laws (easts mesh s (suc k)) d (near_low (suc k) lk) ld
-                (ap mesh.from is ∙ sym (side_from mesh laws cut full s n arc.glued.near k lk)) (crossed_at k lk)
+              let lk : suc k < n = omega arith in
+              cross_from mesh laws (easts mesh s (suc k)) d (near_low (suc k) lk) ld
+              (ap mesh.from is ∙ sym (side_from mesh laws cut full s n arc.glued.near k lk)) (crossed_at k lk)
         ]
 
     -- The near grid keeps its far corner.
@@ -132,14 +130,13 @@ module _ {mesh : HalfEdges} (laws : IsQuadManifold mesh) {cut : Cut} (full : IsC
           laws.next_low (mesh.next cell) low,
           stays far (laws.next_low (mesh.next cell) low) (clear 2 (n - 1) (h - 1) (omega arith) (omega arith) last top)
               (grid.north_shut (n - 1) (h - 1) last (omega arith)),
-          ap rest (laws.prev_next (mesh.next cell)) ∙ stays (mesh.next cell) low
-              (clear 1 (n - 1) (h - 1) (omega arith) (omega arith) last top)
-              (grid.east_shut (n - 1) (h - 1) (omega arith) top),
+          ap rest (laws.prev_next (mesh.next cell)) ∙ stays (mesh.next cell) low (clear 1 (n - 1) (h - 1) (omega arith)
+              (omega arith) last top) (grid.east_shut (n - 1) (h - 1) (omega arith) top),
         ) in
         let l = links_join mesh laws cut d e far a
-            (links_join mesh laws cut e s far (linked_back mesh laws cut full s e arc.glued.near.corner.0
-            (linked_in mesh laws cut full n h (grown mesh s) grid e i)) (linked_in mesh laws cut full n h (grown mesh s)
-            grid far (2, record { a = n - 1; b = h - 1; a_low = last; b_low = top; is = refl }))) in
+        (links_join mesh laws cut e s far (linked_back mesh laws cut full s e arc.glued.near.corner.0
+        (linked_in mesh laws cut full n h (grown mesh s) grid e i)) (linked_in mesh laws cut full n h (grown mesh s)
+        grid far (2, record { a = n - 1; b = h - 1; a_low = last; b_low = top; is = refl }))) in
         (far, l.0, links_less mesh laws cut rest s t n without d far l.0 ld l.1, corner)
 
 module _ {mesh : HalfEdges} (laws : IsQuadManifold mesh) {cut : Cut} (full : IsCut mesh cut) {s t n : ℕ}
@@ -174,8 +171,8 @@ module _ {mesh : HalfEdges} (laws : IsQuadManifold mesh) {cut : Cut} (full : IsC
           | inr f ↦ elim (on_or_not mesh s t n (mesh.next f.0)) [
             | inl o ↦ absurd (true≢false (sym on ∙ without.gone d (along f.0 off f.1 o)))
             | inr none ↦
-              let low = laws.next_low f.0 (laws.twin_low next f.0 (laws.next_low d l) f.1) in
-              inr (f.0, f.1, keeps (mesh.next f.0) low none f.2)
+                let low = laws.next_low f.0 (laws.twin_low next f.0 (laws.next_low d l) f.1) in
+                inr (f.0, f.1, keeps (mesh.next f.0) low none f.2)
           ]
         ]
       ]
@@ -184,33 +181,33 @@ module _ {mesh : HalfEdges} (laws : IsQuadManifold mesh) {cut : Cut} (full : IsC
           → IsOnArc mesh s t n d
       along e off tw o = elim o.2 [
         | inl is ↦
-          let p = gap_on laws full arc grid other without d e l off tw o.0 o.1 is in
-          (p.0, p.1, inl p.2)
+            let p = gap_on laws full arc grid other without d e l off tw o.0 o.1 is in
+            (p.0, p.1, inl p.2)
         | inr is ↦
-          let p = gap_on laws full back other grid without_back d e l off tw o.0 o.1 is in
-          (p.0, p.1, inr p.2)
+            let p = gap_on laws full back other grid without_back d e l off tw o.0 o.1 is in
+            (p.0, p.1, inr p.2)
       ]
 
   crossed : (d : ℕ) → d < mesh.count → IsUncut mesh rest (mesh.from d) → HasCross mesh d
   crossed d l uncut =
       let off = uncut d l refl in
       let on_arc : (x : ℕ) → x < mesh.count → cut x ≡ true → rest x ≡ false → IsOnArc mesh s t n x = λ x lx c r.
-          elim (on_or_not mesh s t n x)
-            [ inl o ↦ o | inr none ↦ absurd (true≢false (sym (keeps x lx none c) ∙ r)) ] in
+      elim (on_or_not mesh s t n x)
+      [ inl o ↦ o | inr none ↦ absurd (true≢false (sym (keeps x lx none c) ∙ r)) ] in
       elim (cases_Bool (cut d)) [
         | inl c ↦
-          let o = on_arc d l c off.0 in
-          elim o.2 [
-            | inl e ↦ cross_on laws full arc grid other without d l off.1 o.0 o.1 e
-            | inr e ↦ cross_on laws full back other grid without_back d l off.1 o.0 o.1 e
-          ]
+            let o = on_arc d l c off.0 in
+            elim o.2 [
+              | inl e ↦ cross_on laws full arc grid other without d l off.1 o.0 o.1 e
+              | inr e ↦ cross_on laws full back other grid without_back d l off.1 o.0 o.1 e
+            ]
         | inr c ↦ elim (cases_Bool (cut (mesh.prev d))) [
           | inl b ↦
-            let o = on_arc (mesh.prev d) (laws.prev_low d l) b off.1 in
-            elim o.2 [
-              | inl e ↦ cross_before laws full arc grid other without d l c o.0 o.1 e
-              | inr e ↦ cross_before laws full back other grid without_back d l c o.0 o.1 e
-            ]
+              let o = on_arc (mesh.prev d) (laws.prev_low d l) b off.1 in
+              elim o.2 [
+                | inl e ↦ cross_before laws full arc grid other without d l c o.0 o.1 e
+                | inr e ↦ cross_before laws full back other grid without_back d l c o.0 o.1 e
+              ]
           | inr b ↦ cross_at mesh laws cut full d l (c, b)
         ]
       ]
@@ -230,13 +227,13 @@ module _ {mesh : HalfEdges} (laws : IsQuadManifold mesh) {cut : Cut} (full : IsC
         ]
         | inr none ↦ elim (on_or_not mesh s t n (mesh.prev e)) [
           | inl o ↦
-            let next : (x : ℕ) → mesh.prev e ≡ x → e ≡ mesh.next x = λ x at. sym (laws.next_prev e) ∙ ap mesh.next at in
-            elim o.2 [
-              | inl at ↦ lost laws full arc grid other without d e l (m, c.2)
-                  (1, record { a = o.0; b = 0; a_low = o.1; b_low = grid.tall; is = next _ at })
-              | inr at ↦ lost laws full back other grid without_back d e l (m, c.2)
-                  (1, record { a = o.0; b = 0; a_low = o.1; b_low = other.tall; is = next _ at })
-            ]
+              let next : (x : ℕ) → mesh.prev e ≡ x → e ≡ mesh.next x = λ x at. sym (laws.next_prev e) ∙ ap mesh.next at in
+              elim o.2 [
+                | inl at ↦ lost laws full arc grid other without d e l (m, c.2)
+                    (1, record { a = o.0; b = 0; a_low = o.1; b_low = grid.tall; is = next _ at })
+                | inr at ↦ lost laws full back other grid without_back d e l (m, c.2)
+                    (1, record { a = o.0; b = 0; a_low = o.1; b_low = other.tall; is = next _ at })
+              ]
           | inr clear ↦ (
             e,
             m,
@@ -249,8 +246,8 @@ module _ {mesh : HalfEdges} (laws : IsQuadManifold mesh) {cut : Cut} (full : IsC
   full_rest : IsCut mesh rest
   full_rest =
       let paired : (x y : ℕ) → mesh.twin x ≡ Some y → IsOnArc mesh s t n x → IsOnArc mesh s t n y = λ x y is o.
-          let p = on_twin mesh laws cut full arc.glued x o in
-          rw (← same_Some p.0 y (sym p.1 ∙ is)) p.2 in
+      let p = on_twin mesh laws cut full arc.glued x o in
+      rw (← same_Some p.0 y (sym p.1 ∙ is)) p.2 in
       record {
         alike = λ d e l tw. elim (on_or_not mesh s t n d) [
           | inl o ↦ without.gone e (paired d e tw o) ∙ sym (without.gone d o)
@@ -258,9 +255,9 @@ module _ {mesh : HalfEdges} (laws : IsQuadManifold mesh) {cut : Cut} (full : IsC
               ∙ (full.alike d e l tw ∙ sym (without.kept d l none))
         ];
         boundary = λ d l is. keeps d l (λ o.
-          let p = on_twin mesh laws cut full arc.glued d o in
-          let clash : None ≡ Some p.0 = sym is ∙ p.1 in
-          absurd cc) (full.boundary d l is);
+            let p = on_twin mesh laws cut full arc.glued d o in
+            let clash : None ≡ Some p.0 = sym is ∙ p.1 in
+            absurd cc) (full.boundary d l is);
         gaps = gaps;
         crossed = crossed;
         corner = corner;
@@ -269,4 +266,4 @@ module _ {mesh : HalfEdges} (laws : IsQuadManifold mesh) {cut : Cut} (full : IsC
 pub join_law : JoinLaw
 join_law mesh cut rest s t n laws full arc without =
     full_rest laws full arc (grid_on mesh laws cut full s n arc.glued.near).1
-        (grid_on mesh laws cut full t n arc.glued.far).1 without
+    (grid_on mesh laws cut full t n arc.glued.far).1 without

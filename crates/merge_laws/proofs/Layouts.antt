@@ -36,10 +36,10 @@ module _ (mesh : HalfEdges) (laws : IsQuadManifold mesh) (cut : Cut) (full : IsC
   west_start = sym (prev_three mesh laws (cell_of p 0 (p.h - 1))) ∙ ap (λ x. mesh.prev (cell_of p 0 x)) (sym top)
 
   last_column : p.w - 1 < p.w
-  last_column = omega (arith, grid.wide)
+  last_column = omega arith
 
   last_row : p.h - 1 < p.h
-  last_row = omega (arith, grid.tall)
+  last_row = omega arith
 
   pub border : (side : Way) → IsBorder mesh cut p side
   border south = record {
@@ -60,9 +60,8 @@ module _ (mesh : HalfEdges) (laws : IsQuadManifold mesh) (cut : Cut) (full : IsC
   }
   border west = record {
     whole = rw west_start at (west_side mesh laws cut full p.w p.h (cell_of p) grid);
-    along = λ k l. ap (λ x. easts mesh x k) (sym west_start)
-        ∙ (along_west mesh laws cut full p.w p.h (cell_of p) grid k (p.h - 1 - k) (omega arith)
-        ∙ sym (prev_three mesh laws (cell_of p 0 (p.h - 1 - k))));
+    along = λ k l. ap (λ x. easts mesh x k) (sym west_start) ∙ (along_west mesh laws cut full p.w p.h (cell_of p) grid k
+        (p.h - 1 - k) (omega arith) ∙ sym (prev_three mesh laws (cell_of p 0 (p.h - 1 - k))));
     inside = λ k l. (
       3,
       record {
@@ -90,7 +89,7 @@ module _ {mesh : HalfEdges} (laws : IsQuadManifold mesh) {cut : Cut} (full : IsC
       (alone : (gluing_of layout).many slot.patch slot.side ≡ 1)
     where
       at_first : slot.at ≡ 0
-      at_first = omega (arith, is.low, alone)
+      at_first = omega arith
 
       use_here : (gluing_of layout).use_at slot.patch slot.side 0 ≡ use_of (gluing_of layout) slot
       use_here = ap (λ k. (gluing_of layout).use_at slot.patch slot.side k) (sym at_first)
@@ -129,9 +128,8 @@ module _ {mesh : HalfEdges} (laws : IsQuadManifold mesh) {cut : Cut} (full : IsC
     far_lies : (o : ℕ) → o < long_at layout.arcs (arc_of one)
         → LiesAt mesh (path_at layout.arcs (arc_of one)).darts (not (use_of (gluing_of layout) one).forward) o
         (border_dart mesh (patch_at layout.patches other.patch) other.side o)
-    far_lies o l = rw (← are.across.1.turned)
-        (rw (← are.across.1.arc)
-        (lies other are.across.0 are.alone_across o (omega (arith, l, ap (long_at layout.arcs) are.across.1.arc))))
+    far_lies o l = rw (← are.across.1.turned) (rw (← are.across.1.arc)
+        (lies other are.across.0 are.alone_across o (omega (arith, ap (long_at layout.arcs) are.across.1.arc))))
 
     paired : (b : Bool) (k j x y : ℕ) → y < mesh.count → k + suc j ≡ long_at layout.arcs (arc_of one)
         → LiesAt mesh (path_at layout.arcs (arc_of one)).darts b k x
@@ -153,9 +151,8 @@ module _ {mesh : HalfEdges} (laws : IsQuadManifold mesh) {cut : Cut} (full : IsC
             (easts mesh (border_dart mesh (patch_at layout.patches other.patch) other.side 0) j)
         across k j sum =
             let lj : j < side_size (patch_at layout.patches other.patch) other.side = omega (arith, far_long) in
-            let low = in_low mesh laws cut full (patch_at layout.patches other.patch).w
-            (patch_at layout.patches other.patch).h (cell_of (patch_at layout.patches other.patch))
-            (grid_of are.across.0)
+            let low = in_low mesh laws cut full (patch_at layout.patches other.patch).w (patch_at layout.patches
+            other.patch).h (cell_of (patch_at layout.patches other.patch)) (grid_of are.across.0)
             (border_dart mesh (patch_at layout.patches other.patch) other.side j) (far.inside j lj) in
             ap mesh.twin (near.along k (omega (arith, near_long)))
             ∙ (paired (use_of (gluing_of layout) one).forward k j

@@ -44,9 +44,8 @@ module _ (faces : Faces) (may other : MayLeave)
 
 module _ (faces : Faces) where
   pub none_held : (cut : List Bool) (s t n : ℕ) → may_beside faces (replicate (darts faces) false) cut s t n ≡ true
-  none_held cut s t n = keeps_from faces (replicate (darts faces) false) (without faces cut s t n)
-      (λ d l on. absurd (false≢true (sym (off faces d) ∙ on)))
-      (λ d l y. absurd (false≢true (sym (no_break faces (from_of faces d)) ∙ y)))
+  none_held cut s t n = keeps_from faces (replicate (darts faces) false) (without faces cut s t n) (λ d l on. absurd
+      (false≢true (sym (off faces d) ∙ on))) (λ d l y. absurd (false≢true (sym (no_break faces (from_of faces d)) ∙ y)))
 
   -- A full cut keeps no marks.
   pub none_beside : (cut : List Bool) → IsFullCut faces cut → IsCutBeside faces (replicate (darts faces) false) cut
@@ -66,7 +65,7 @@ module _ (faces : Faces) where
       let at : (v : ℕ) → v < length (replicate (vertex_count faces) false)
       → is_on (map (is_break faces (replicate (darts faces) false)) (all_vertices faces)) v
       ≡ false = λ v l. get_or-map-range_with_len (is_break faces (replicate (darts faces) false)) 0 (vertex_count faces)
-      v v false (omega (arith, l, length-replicate (vertex_count faces) false)) (omega arith) ∙ no_break faces v in
+      v v false (omega (arith, length-replicate (vertex_count faces) false)) (omega arith) ∙ no_break faces v in
       ext_get_or false (replicate (vertex_count faces) false) (map (is_break faces (replicate (darts faces) false))
       (all_vertices faces)) long (λ v l. none_on (vertex_count faces) v ∙ sym (at v l))
 

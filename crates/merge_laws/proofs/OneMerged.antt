@@ -16,8 +16,7 @@ use Rattle.def_merge.specs.{Merged.MayLeave, Laws.OneMergedLaw}
 -- An arc has the same darts from both sides.
 pub same_darts : (mesh : HalfEdges) (s t : ℕ) {n : ℕ} (r u : ℕ) {m : ℕ} (d : ℕ) → AreOneArc s t r u → n ≡ m
     → IsOnArc mesh s t n d → IsOnArc mesh r u m d
-same_darts mesh s t r u {m} d (inl p) e o = rw (← p.0)
-    (rw (← p.1) (rw e at o))
+same_darts mesh s t r u {m} d (inl p) e o = rw (← p.0) (rw (← p.1) (rw e at o))
 same_darts mesh s t r u {m} d (inr p) e o =
     other_way mesh u r m d (rw p.0 at (subst (λ (x : ℕ). IsOnArc mesh s x m d) p.1 (rw e at o)))
 
@@ -39,7 +38,7 @@ module _ (faces : Faces) (may : MayLeave) (laws : IsQuadManifold (half_edges fac
 
   one_step : (marks a b : List Bool) → IsCutOf faces marks → IsStep faces may marks a → IsStep faces may marks b → a ≡ b
   one_step marks a b cut one two = ext_get_or false a b (one.long ∙ sym two.long)
-      (λ d l. each d (omega (arith, l, one.long, cut.long)) (on_or_not mesh one.near one.far one.size d))
+      (λ d l. each d (omega arith) (on_or_not mesh one.near one.far one.size d))
     where
       names : one.first.name ≡ two.first.name
       names = omega (arith, one.first.first two.near two.far two.size two.first.name two.first.joinable two.first.free two.first.named.on, two.first.first one.near one.far one.size one.first.name one.first.joinable one.first.free one.first.named.on)
@@ -56,9 +55,8 @@ module _ (faces : Faces) (may : MayLeave) (laws : IsQuadManifold (half_edges fac
           ⊎ (IsOnArc mesh one.near one.far one.size d → ⊥) → is_on a d ≡ is_on b d
       each d l (inl o) = one.without.gone d o ∙ sym (two.without.gone d
           (same_darts mesh one.near one.far two.near two.far d arcs.0 arcs.1 o))
-      each d l (inr none) = one.without.kept d l none
-          ∙ sym (two.without.kept d l (λ o. none (same_darts mesh two.near two.far one.near one.far d
-          (back arcs.0) (sym arcs.1) o)))
+      each d l (inr none) = one.without.kept d l none ∙ sym (two.without.kept d l
+          (λ o. none (same_darts mesh two.near two.far one.near one.far d (back arcs.0) (sym arcs.1) o)))
 
   pub cut_reached : {marks : List Bool} (a : List Bool) (i : ℕ) → IsCutOf faces marks → Steps faces may marks a i
       → IsCutOf faces a

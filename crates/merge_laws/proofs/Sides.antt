@@ -30,9 +30,8 @@ pub record StandsOn (mesh : HalfEdges) (cut : Cut) (c n k x : ℕ) : Type 0 wher
 
 -- The first darts of the four sides of a grid.
 abbrev pub IsFirstDart : (mesh : HalfEdges) (w h : ℕ) (cell : Cells) (c : ℕ) → Type 0
-IsFirstDart mesh w h cell c = (c ≡ cell 0 0)
-    ⊎ ((c ≡ mesh.next (cell (w - 1) 0)) ⊎ ((c ≡ mesh.next (mesh.next (cell (w - 1) (h - 1))))
-    ⊎ (c ≡ mesh.next (mesh.next (mesh.next (cell 0 (h - 1)))))))
+IsFirstDart mesh w h cell c = (c ≡ cell 0 0) ⊎ ((c ≡ mesh.next (cell (w - 1) 0))
+    ⊎ ((c ≡ mesh.next (mesh.next (cell (w - 1) (h - 1)))) ⊎ (c ≡ mesh.next (mesh.next (mesh.next (cell 0 (h - 1)))))))
 
 -- A side of a grid on which x stands.
 abbrev pub SideOver : (mesh : HalfEdges) (cut : Cut) (w h : ℕ) (cell : Cells) (x : ℕ) → Type 0
@@ -112,10 +111,10 @@ module _ (mesh : HalfEdges) (laws : IsQuadManifold mesh) (cut : Cut) (full : IsC
   -- The four sides of a grid.
   module _ (w h : ℕ) (cell : Cells) (grid : IsGrid mesh cut w h cell) where
     last_column : w - 1 < w
-    last_column = omega (arith, grid.wide)
+    last_column = omega arith
 
     last_row : h - 1 < h
-    last_row = omega (arith, grid.tall)
+    last_row = omega arith
 
     pub along_south : (i : ℕ) → i < w → easts mesh (cell 0 0) i ≡ cell i 0
     along_south zero l = refl
@@ -141,7 +140,7 @@ module _ (mesh : HalfEdges) (laws : IsQuadManifold mesh) (cut : Cut) (full : IsC
       some = grid.tall;
       corner = (
         laws.next_low (cell (w - 1) 0) (grid.low (w - 1) 0 last_column grid.tall),
-        grid.east_shut (w - 1) 0 (omega (arith, grid.wide)) grid.tall,
+        grid.east_shut (w - 1) 0 (omega arith) grid.tall,
         ap cut (laws.prev_next (cell (w - 1) 0)) ∙ grid.south_shut (w - 1) last_column,
       );
       inside = λ k l. ap (λ x. cut (mesh.next x)) (along_east k (omega arith))
@@ -167,9 +166,9 @@ module _ (mesh : HalfEdges) (laws : IsQuadManifold mesh) (cut : Cut) (full : IsC
       corner = (
         laws.next_low (mesh.next (cell (w - 1) (h - 1)))
             (laws.next_low (cell (w - 1) (h - 1)) (grid.low (w - 1) (h - 1) last_column last_row)),
-        grid.north_shut (w - 1) (h - 1) last_column (omega (arith, grid.tall)),
+        grid.north_shut (w - 1) (h - 1) last_column (omega arith),
         ap cut (laws.prev_next (mesh.next (cell (w - 1) (h - 1))))
-            ∙ grid.east_shut (w - 1) (h - 1) (omega (arith, grid.wide)) last_row,
+            ∙ grid.east_shut (w - 1) (h - 1) (omega arith) last_row,
       );
       inside = λ k l. inner k (w - suc (suc k)) (omega arith);
       ends = λ k e. ap (λ x. cut (mesh.next x)) (along_north k 0 (omega arith))
@@ -184,9 +183,8 @@ module _ (mesh : HalfEdges) (laws : IsQuadManifold mesh) (cut : Cut) (full : IsC
 
     south_link : (j : ℕ) → suc j < h → mesh.twin (mesh.next (mesh.next (mesh.next (mesh.next (cell 0 (suc j)))))) ≡ Some
         (mesh.prev (mesh.next (mesh.next (mesh.next (cell 0 j)))))
-    south_link j l = ap mesh.twin (laws.four_sides (cell 0 (suc j)))
-        ∙ (south mesh laws cut full w h cell grid 0 j grid.wide l
-        ∙ ap Some (sym (laws.prev_next (mesh.next (mesh.next (cell 0 j))))))
+    south_link j l = ap mesh.twin (laws.four_sides (cell 0 (suc j))) ∙ (south mesh laws cut full w h cell grid 0 j
+        grid.wide l ∙ ap Some (sym (laws.prev_next (mesh.next (mesh.next (cell 0 j))))))
 
     pub along_west : (k j : ℕ) → k + suc j ≡ h → easts mesh (mesh.next (mesh.next (mesh.next (cell 0 (h - 1))))) k
         ≡ mesh.next (mesh.next (mesh.next (cell 0 j)))
@@ -204,7 +202,7 @@ module _ (mesh : HalfEdges) (laws : IsQuadManifold mesh) (cut : Cut) (full : IsC
             (grid.low 0 (h - 1) grid.wide last_row)),
         ap cut (sym (prev_three mesh laws (cell 0 (h - 1)))) ∙ grid.west_shut (h - 1) last_row,
         ap cut (laws.prev_next (mesh.next (mesh.next (cell 0 (h - 1)))))
-            ∙ grid.north_shut 0 (h - 1) grid.wide (omega (arith, grid.tall)),
+            ∙ grid.north_shut 0 (h - 1) grid.wide (omega arith),
       );
       inside = λ k l. inner k (h - suc (suc k)) (omega arith);
       ends = λ k e. ap (λ x. cut (mesh.next x)) (along_west k 0 (omega arith))
@@ -213,9 +211,8 @@ module _ (mesh : HalfEdges) (laws : IsQuadManifold mesh) (cut : Cut) (full : IsC
       where
         inner : (k j : ℕ) → k + suc (suc j) ≡ h
             → cut (mesh.next (easts mesh (mesh.next (mesh.next (mesh.next (cell 0 (h - 1))))) k)) ≡ false
-        inner k j e = ap (λ x. cut (mesh.next x)) (along_west k (suc j) e)
-            ∙ (ap cut (laws.four_sides (cell 0 (suc j))) ∙ south_open mesh laws cut full w h cell grid 0 j grid.wide
-            (omega arith))
+        inner k j e = ap (λ x. cut (mesh.next x)) (along_west k (suc j) e) ∙ (ap cut (laws.four_sides (cell 0 (suc j)))
+            ∙ south_open mesh laws cut full w h cell grid 0 j grid.wide (omega arith))
 
     -- A cut dart of the grid stands on one of them.
     pub stands_at : (q i j : ℕ) {x : ℕ} → i < w → j < h → x ≡ spin mesh q (cell i j) → cut x ≡ true
@@ -280,7 +277,6 @@ module _ (mesh : HalfEdges) (laws : IsQuadManifold mesh) (cut : Cut) (full : IsC
       let back = linked_back mesh laws cut full x f.0 l (f.1, f.2) in
       let g = grow mesh laws cut full f.0 f.3 in
       let grid = grown_grid mesh laws cut full f.0 g.0 g.1 f.3 g.2 in
-      let o = stands_in g.0 g.1 (grown mesh f.0) grid x
-      (closed mesh laws cut full g.0 g.1 (grown mesh f.0) grid f.0 x back.0 back.1
-      (first_in mesh laws cut full g.0 g.1 (grown mesh f.0) grid)) on in
+      let o = stands_in g.0 g.1 (grown mesh f.0) grid x (closed mesh laws cut full g.0 g.1 (grown mesh f.0) grid f.0 x
+      back.0 back.1 (first_in mesh laws cut full g.0 g.1 (grown mesh f.0) grid)) on in
       (o.0, o.1, o.2, o.3)

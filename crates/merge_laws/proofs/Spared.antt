@@ -47,9 +47,9 @@ module _ (faces : Faces) (m : IsManifold faces) (marks : List Bool) (marked : Ar
     left : IsWithout mesh (is_on cut) (is_on rest) s t n
     left =
         let off_test : (a b : Bool) → b ≡ true → (a && not b) ≡ false =
-            elim [ true ↦ λ b y. ap not y | false ↦ λ b y. refl ] in
+        elim [ true ↦ λ b y. ap not y | false ↦ λ b y. refl ] in
         let on_test : (a b : Bool) → b ≡ false → (a && not b) ≡ a =
-            elim [ true ↦ λ b y. ap not y | false ↦ λ b y. refl ] in
+        elim [ true ↦ λ b y. ap not y | false ↦ λ b y. refl ] in
         record {
           gone = λ d o. without_is faces cut s t n d (on_low mesh laws (is_on cut) full s t n arc.glued d o)
               ∙ off_test (is_on cut d) _ (on_arc mesh s t n d o);
@@ -79,9 +79,9 @@ module _ (faces : Faces) (m : IsManifold faces) (marks : List Bool) (marked : Ar
         let lc = low_c mesh laws x a b c lx is in
         let off_a : is_on cut a ≡ false = full.alike (prev_of x) a (laws.prev_low x lx) is.first ∙ west in
         let far : (j : ℕ) → suc k + suc j ≡ n → is_on cut c ≡ false = λ j sum.
-            let same = same_Some _ _ (sym (glued.across (suc k) j sum)
-                ∙ laws.twin_twin (prev_of c) x (laws.prev_low c lc) is.last) in
-            sym (ap (is_on cut) (ap next_of same ∙ laws.next_prev c)) ∙ glued.far.inside j (omega arith) in
+        let same = same_Some _ _ (sym (glued.across (suc k) j sum)
+        ∙ laws.twin_twin (prev_of c) x (laws.prev_low c lc) is.last) in
+        sym (ap (is_on cut) (ap next_of same ∙ laws.next_prev c)) ∙ glued.far.inside j (omega arith) in
         let off_c = far (n - suc (suc k)) (omega arith) in
         elim (one_of_four mesh laws x a b c lx is e (record { low = le; at = at })) [
           | inl same ↦ false≢true (sym west ∙ (ap (λ z. is_on cut (prev_of z)) (sym same) ∙ before))
@@ -96,9 +96,8 @@ module _ (faces : Faces) (m : IsManifold faces) (marks : List Bool) (marked : Ar
     first_at : (d : ℕ) → OnArc d → IsBreak d → TurnsAt cut d → (d ≡ s) ⊎ (d ≡ t)
     first_at d (zero, l, inl e) y turn = inl e
     first_at d (zero, l, inr e) y turn = inr e
-    first_at d (suc k, l, inl e) y turn =
-        absurd (no_turn s t arc.glued k turn.0 l (ap (λ z. is_break faces marks (from_of faces z)) (sym e) ∙ y) turn.1
-        (turn.2 ∙ ap (from_of faces) e) turn.3 turn.4)
+    first_at d (suc k, l, inl e) y turn = absurd (no_turn s t arc.glued k turn.0 l (ap
+        (λ z. is_break faces marks (from_of faces z)) (sym e) ∙ y) turn.1 (turn.2 ∙ ap (from_of faces) e) turn.3 turn.4)
     first_at d (suc k, l, inr e) y turn = absurd (no_turn t s (turned_glued mesh laws (is_on cut) full arc.glued)
         k turn.0 l (ap (λ z. is_break faces marks (from_of faces z)) (sym e) ∙ y) turn.1 (turn.2 ∙ ap (from_of faces) e)
         turn.3 turn.4)
@@ -117,20 +116,20 @@ module _ (faces : Faces) (m : IsManifold faces) (marks : List Bool) (marked : Ar
           let opposite = free y a b is.first is.second in
           let at = at_b mesh laws r a b cross.2 lr is in
           let clear : IsOnArc (half_edges faces) s t n b → ⊥ = λ o.
-              elim (other b (first_at b o (ap (is_break faces marks) at ∙ y) (r, lr, sym at, corner.0, corner.1))) [
-                | inl e ↦ is.apart (sym e)
-                | inr e ↦ opposite.1 e
-              ] in
+          elim (other b (first_at b o (ap (is_break faces marks) at ∙ y) (r, lr, sym at, corner.0, corner.1))) [
+            | inl e ↦ is.apart (sym e)
+            | inr e ↦ opposite.1 e
+          ] in
           let on_b = still mesh laws (is_on cut) (is_on rest) s t n left b lb clear opposite.0 in
           let before : is_on rest (prev_of a) ≡ true =
-              sym (full_left.alike (prev_of a) b (laws.prev_low a la) is.second) ∙ on_b in
+          sym (full_left.alike (prev_of a) b (laws.prev_low a la) is.second) ∙ on_b in
           let on_a : is_on rest a ≡ true = elim (full_left.gaps (prev_of a) (laws.prev_low a la) before) [
             | inl y ↦ ap (is_on rest) (sym (laws.next_prev a)) ∙ y
             | inr w ↦
-              let same = same_Some w.0 (prev_of r) (sym w.1 ∙ (ap (twin_of faces) (laws.next_prev a)
-                  ∙ laws.twin_twin (prev_of r) a (laws.prev_low r lr) is.first)) in
-              absurd (false≢true (sym (left.gone r on)
-                  ∙ (ap (is_on rest) (sym (ap next_of same ∙ laws.next_prev r)) ∙ w.2)))
+                let same = same_Some w.0 (prev_of r) (sym w.1 ∙ (ap (twin_of faces) (laws.next_prev a)
+                ∙ laws.twin_twin (prev_of r) a (laws.prev_low r lr) is.first)) in
+                absurd (false≢true (sym (left.gone r on)
+                ∙ (ap (is_on rest) (sym (ap next_of same ∙ laws.next_prev r)) ∙ w.2)))
           ] in
           (a, la, at_a mesh laws r a b cross.2 lr is, on_a, before)
 
@@ -148,15 +147,15 @@ module _ (faces : Faces) (m : IsManifold faces) (marks : List Bool) (marked : Ar
           let e = there.0 in
           let on_e = there.3 in
           let on_b : is_on rest z ≡ true =
-              elim (one_of_four mesh laws r x z w lr is e (record { low = there.1; at = there.2 })) [
-                | inl same ↦ absurd (false≢true (sym (left.gone r on) ∙ (ap (is_on rest) (sym same) ∙ on_e)))
-                | inr (inl same) ↦ full_left.alike (prev_of x) z (laws.prev_low x (low_a mesh laws r x z w lr is)) is.second
-                    ∙ (ap (λ z. is_on rest (prev_of z)) (sym same) ∙ there.4)
-                | inr (inr (inl same)) ↦ ap (is_on rest) (sym same) ∙ on_e
-                | inr (inr (inr same)) ↦ absurd (false≢true (sym (left.gone r on)
-                    ∙ (full_left.alike (prev_of w) r (laws.prev_low w (low_c mesh laws r x z w lr is)) is.last
-                    ∙ (ap (λ z. is_on rest (prev_of z)) (sym same) ∙ there.4))))
-              ] in (
+          elim (one_of_four mesh laws r x z w lr is e (record { low = there.1; at = there.2 })) [
+            | inl same ↦ absurd (false≢true (sym (left.gone r on) ∙ (ap (is_on rest) (sym same) ∙ on_e)))
+            | inr (inl same) ↦ full_left.alike (prev_of x) z (laws.prev_low x (low_a mesh laws r x z w lr is)) is.second
+                ∙ (ap (λ z. is_on rest (prev_of z)) (sym same) ∙ there.4)
+            | inr (inr (inl same)) ↦ ap (is_on rest) (sym same) ∙ on_e
+            | inr (inr (inr same)) ↦ absurd (false≢true (sym (left.gone r on)
+                ∙ (full_left.alike (prev_of w) r (laws.prev_low w (low_c mesh laws r x z w lr is)) is.last
+                ∙ (ap (λ z. is_on rest (prev_of z)) (sym same) ∙ there.4))))
+          ] in (
             ap (is_on cut) (sym same_b) ∙ less mesh laws (is_on cut) (is_on rest) s t n left z
                 (low_b mesh laws r x z w lr is) on_b,
             λ e. false≢true (sym (left.gone u on_u) ∙ (ap (is_on rest) (sym (same_b ∙ e)) ∙ on_b)),
@@ -172,25 +171,25 @@ module _ (faces : Faces) (m : IsManifold faces) (marks : List Bool) (marked : Ar
         let lx = near_low (suc k) l in
         let ly = near_low k (omega arith) in
         false_from_ne_true _ (λ on.
-          let near = grid_on mesh laws (is_on cut) full s n arc.glued.near in
-          let far = grid_on mesh laws (is_on cut) full t n arc.glued.far in
-          let cross = crossed_at laws full arc near.1 far.1 k l in
-          let a = cross.0 in
-          let b = cross.1 in
-          let c = cross.2 in
-          let is = cross.3 in
-          let right = same_Some a (next_of y) (sym is.first ∙ laws.twin_twin (next_of y) (prev_of x) (laws.next_low y ly)
-              (side_link mesh laws (is_on cut) full s n arc.glued.near k l)) in
-          let across : twin_of faces (easts mesh s k) ≡ Some b =
-              ap (twin_of faces) (sym (ap prev_of right ∙ laws.prev_next y)) ∙ is.second in
-          elim (two_ways faces m marks marked x a b c lx on is) [
-            | inl on ↦ false≢true (sym before ∙ (sym (marked.alike y b ly across) ∙ on))
-            | inr (inl both) ↦ false≢true (sym (arc.glued.near.inside k l) ∙ (ap (is_on cut) (sym right)
-                ∙ beside.kept a (low_a mesh laws x a b c lx is) both.0))
-            | inr (inr broken) ↦
+        let near = grid_on mesh laws (is_on cut) full s n arc.glued.near in
+        let far = grid_on mesh laws (is_on cut) full t n arc.glued.far in
+        let cross = crossed_at laws full arc near.1 far.1 k l in
+        let a = cross.0 in
+        let b = cross.1 in
+        let c = cross.2 in
+        let is = cross.3 in
+        let right = same_Some a (next_of y) (sym is.first ∙ laws.twin_twin (next_of y) (prev_of x) (laws.next_low y ly)
+        (side_link mesh laws (is_on cut) full s n arc.glued.near k l)) in
+        let across : twin_of faces (easts mesh s k) ≡ Some b =
+        ap (twin_of faces) (sym (ap prev_of right ∙ laws.prev_next y)) ∙ is.second in
+        elim (two_ways faces m marks marked x a b c lx on is) [
+          | inl on ↦ false≢true (sym before ∙ (sym (marked.alike y b ly across) ∙ on))
+          | inr (inl both) ↦ false≢true (sym (arc.glued.near.inside k l) ∙ (ap (is_on cut) (sym right)
+              ∙ beside.kept a (low_a mesh laws x a b c lx is) both.0))
+          | inr (inr broken) ↦
               let turn = turn_there faces cut (from_of faces x) (beside.turned x lx broken) in
               no_turn s t arc.glued k turn.0 l broken turn.1 turn.2 turn.3 turn.4
-          ])
+        ])
 
     on_s : OnArc s
     on_s = (0, arc.glued.near.some, inl refl)
@@ -216,17 +215,15 @@ module _ (faces : Faces) (m : IsManifold faces) (marks : List Bool) (marked : Ar
         }
 
     from_spared : IsSpared faces marks cut s t n → keeps_lines faces marks rest ≡ true
-    from_spared spared = keeps_from faces marks rest
-        (λ d l y. still mesh laws (is_on cut) (is_on rest) s t n left d l (λ o. unmarked d o y) (beside.kept d l y))
-        (λ d l y. turn_from faces rest (from_of faces d)
+    from_spared spared = keeps_from faces marks rest (λ d l y. still mesh laws (is_on cut) (is_on rest) s t n left d l
+        (λ o. unmarked d o y) (beside.kept d l y)) (λ d l y. turn_from faces rest (from_of faces d)
         (turned d y (turn_there faces cut (from_of faces d) (beside.turned d l y))))
       where
         -- No dart of the arc is marked.
         unmarked : (d : ℕ) → OnArc d → is_on marks d ≡ true → ⊥
         unmarked d (k, l, inl e) y = false≢true (sym (spared.unmarked k l) ∙ (ap (is_on marks) (sym e) ∙ y))
-        unmarked d (k, l, inr e) y = false≢true
-            (sym (marked.alike (easts mesh s (n - suc k)) d (near_low (n - suc k) (omega arith))
-            (arc.glued.across (n - suc k) k (omega arith) ∙ ap Some (sym e))
+        unmarked d (k, l, inr e) y = false≢true (sym (marked.alike (easts mesh s (n - suc k)) d
+            (near_low (n - suc k) (omega arith)) (arc.glued.across (n - suc k) k (omega arith) ∙ ap Some (sym e))
             ∙ spared.unmarked (n - suc k) (omega arith)) ∙ y)
 
         turned : (d : ℕ) → IsBreak d → TurnsAt cut d → TurnsAt rest d
@@ -235,24 +232,24 @@ module _ (faces : Faces) (m : IsManifold faces) (marks : List Bool) (marked : Ar
             let far = arc.glued.far.corner in
             -- At an end of the arc, whose dart leaves it or arrives there,
             let leaves : (z : ℕ) → OnArc z → from_of faces z ≡ from_of faces d → TurnsAt rest d = λ z o v.
-                elim (first_at z o (ap (is_break faces marks) v ∙ y) (e, le, at ∙ sym v, on, before)) [
-                  | inl same ↦
-                    let v : from_of faces s ≡ from_of faces d = ap (from_of faces) (sym same) ∙ v in
-                    subst (Turn faces rest) v (stays s t near.0 (near.1, near.2) on_s (λ z o. o)
-                        (ap (is_break faces marks) v ∙ y) spared.near)
-                  | inr same ↦
-                    let v : from_of faces t ≡ from_of faces d = ap (from_of faces) (sym same) ∙ v in
-                    subst (Turn faces rest) v (stays t s far.0 (far.1, far.2) on_t swap
-                        (ap (is_break faces marks) v ∙ y) spared.far)
-                ] in
+            elim (first_at z o (ap (is_break faces marks) v ∙ y) (e, le, at ∙ sym v, on, before)) [
+              | inl same ↦
+                  let v : from_of faces s ≡ from_of faces d = ap (from_of faces) (sym same) ∙ v in
+                  subst (Turn faces rest) v (stays s t near.0 (near.1, near.2) on_s (λ z o. o)
+                  (ap (is_break faces marks) v ∙ y) spared.near)
+              | inr same ↦
+                  let v : from_of faces t ≡ from_of faces d = ap (from_of faces) (sym same) ∙ v in
+                  subst (Turn faces rest) v (stays t s far.0 (far.1, far.2) on_t swap
+                  (ap (is_break faces marks) v ∙ y) spared.far)
+            ] in
             -- or elsewhere.
             elim (on_or_not mesh s t n e) [
               | inl o ↦ leaves e o at
               | inr none ↦ elim (on_or_not mesh s t n (prev_of e)) [
                 | inl o ↦
-                  let z = on_twin mesh laws (is_on cut) full arc.glued (prev_of e) o in
-                  leaves z.0 z.2 ((laws.twin_ends (prev_of e) z.0 (laws.prev_low e le) z.1).0
-                      ∙ (ap (from_of faces) (laws.next_prev e) ∙ at))
+                    let z = on_twin mesh laws (is_on cut) full arc.glued (prev_of e) o in
+                    leaves z.0 z.2 ((laws.twin_ends (prev_of e) z.0 (laws.prev_low e le) z.1).0
+                    ∙ (ap (from_of faces) (laws.next_prev e) ∙ at))
                 | inr clear ↦ (
                   e,
                   le,
