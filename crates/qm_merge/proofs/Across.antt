@@ -48,9 +48,8 @@ module _ {mesh : HalfEdges} (laws : IsQuadManifold mesh) {cut : Cut} (full : IsC
       pub same_size : (links : Links) → AreLinks mesh cut links
           → at links.long.items round.fourth ≡ at links.long.items s
       same_size links are = ap (at links.long.items) far_is ∙ (one_size mesh laws cut full t (at links.long.items t) n
-          (are.side t glued.far.corner.0 glued.far.corner) glued.far
-          ∙ one_size mesh laws cut full s n (at links.long.items s) glued.near
-          (are.side s glued.near.corner.0 glued.near.corner))
+          (are.side t glued.far.corner.0 glued.far.corner) glued.far ∙ one_size mesh laws cut full s n
+          (at links.long.items s) glued.near (are.side s glued.near.corner.0 glued.near.corner))
 
 -- A fact for want of a value.
 pub none_then : {X P Q : Type 0} (r : Option X) → IfNone r P → (P → Q) → IfNone r Q

@@ -3,6 +3,7 @@ use Rattle.std.proofs.Common.{◌≡◌, ◌≢◌, ◌⊎◌, ℕ, ◌+◌, ◌
 use Rattle.std.proofs.Common.{inl, inr, true≢false, arith}
 use Rattle.std.specs.{BTreeSet.BTreeSet, Prelude.OnOk, declared.result.Result.Result}
 use Rattle.std.specs.declared.result.Result.TheVariants.{Ok, Err}
+use Rattle.def_mesh.specs.HalfEdges.{HalfEdges}
 use Rattle.def_mesh.specs.{Faces.Faces, HalfEdges.half_edges}
 use Rattle.def_cut.specs.FullCut.{is_on}
 use Rattle.merge_laws.proofs.{Sides.StandsOn, ArcDarts.on_cut, ArcDarts.less, ArcDarts.other_without}
@@ -23,24 +24,27 @@ both_ok (Err e) f p q = p
 module _ {faces : Faces} {marks : List Bool} (rest : List Bool) (cutting : IsCutting faces marks) (place : Place)
     (is : IsSeam (half_edges faces) (is_on marks) place.start place.seam) (long : length rest ≡ length marks)
     (without : IsWithout (half_edges faces) (is_on marks) (is_on rest) place.start place.seam.far place.seam.long) where
+  abbrev mesh : HalfEdges
+  mesh = half_edges faces
+
   pub cutting_after : IsCutting faces rest
   cutting_after = record {
     few = cutting.few;
     long = long ∙ cutting.long;
     laws = cutting.laws;
-    full = join_law (half_edges faces) (is_on marks) (is_on rest) place.start place.seam.far place.seam.long
+    full = join_law mesh (is_on marks) (is_on rest) place.start place.seam.far place.seam.long
         cutting.laws cutting.full is.joinable without;
   }
 
   -- What is left was there.
   pub less_on : (d : ℕ) → is_on rest d ≡ true → is_on marks d ≡ true
-  less_on d on = less (half_edges faces) cutting.laws (is_on marks) (is_on rest) place.start place.seam.far
+  less_on d on = less mesh cutting.laws (is_on marks) (is_on rest) place.start place.seam.far
       place.seam.long without d (omega (arith, mark_low rest d on, long, cutting.long)) on
 
   -- The step that the first of the arcs makes that may leave.
   pub step_taken : (may : MayLeave) → may marks place.start place.seam.far place.seam.long ≡ true
-      → ((r u m name : ℕ) → IsJoinable (half_edges faces) (is_on marks) r u m → may marks r u m ≡ true
-      → IsNameOf (half_edges faces) r u m name → place.seam.name ≤ name) → IsStep faces may marks rest
+      → ((r u m name : ℕ) → IsJoinable mesh (is_on marks) r u m → may marks r u m ≡ true
+      → IsNameOf mesh r u m name → place.seam.name ≤ name) → IsStep faces may marks rest
   step_taken may free least = record {
     near = place.start;
     far = place.seam.far;
@@ -50,67 +54,53 @@ module _ {faces : Faces} {marks : List Bool} (rest : List Bool) (cutting : IsCut
       free = free;
       name = place.seam.name;
       named = is.named;
-      first = λ r u m d arc y on. use_name r u m arc y (name_there (half_edges faces) r u m arc.glued.near.some) d on;
+      first = λ r u m d arc y on.
+        let n = name_there mesh r u m arc.glued.near.some in
+        omega (arith, least r u m n.0 arc y n.1, n.1.least d on);
     };
     long = long;
     without = without;
   }
-    where
-      use_name : (r u m : ℕ) → IsJoinable (half_edges faces) (is_on marks) r u m → may marks r u m ≡ true
-          → (name : ℕ) × IsNameOf (half_edges faces) r u m name → (d : ℕ) → IsOnArc (half_edges faces) r u m d
-          → place.seam.name ≤ d
-      use_name r u m arc y n d on = omega (arith, least r u m n.0 arc y n.1, n.1.least d on)
 
   -- No arc has its name any more.
-  pub name_gone : {s t n name : ℕ} → IsJoinable (half_edges faces) (is_on rest) s t n
-      → IsNameOf (half_edges faces) s t n name → name ≢ place.seam.name
-  name_gone {s} {t} {n} {name} arc named e =
-      true≢false
-      (sym (on_cut (half_edges faces) cutting.laws (is_on rest) cutting_after.full s t n arc.glued name named.on)
-      ∙ (ap (is_on rest) e ∙ without.gone place.seam.name is.named.on))
+  pub name_gone : {s t n name : ℕ} → IsJoinable mesh (is_on rest) s t n
+      → IsNameOf mesh s t n name → name ≢ place.seam.name
+  name_gone {s} {t} {n} {name} arc named e = true≢false (sym (on_cut mesh cutting.laws (is_on rest) cutting_after.full s
+      t n arc.glued name named.on) ∙ (ap (is_on rest) e ∙ without.gone place.seam.name is.named.on))
 
   pub marks_fewer : mark_count rest + 1 ≤ mark_count marks
   marks_fewer = fewer_marks marks rest long less_on place.seam.name
-      (on_cut (half_edges faces) cutting.laws (is_on marks) cutting.full place.start place.seam.far place.seam.long
+      (on_cut mesh cutting.laws (is_on marks) cutting.full place.start place.seam.far place.seam.long
       is.joinable.glued place.seam.name is.named.on) (without.gone place.seam.name is.named.on)
 
   -- What is joinable then was joinable before, or is noted anew.
-  module _ {near far : Round} (ones : IsRound (half_edges faces) (is_on marks) place.start near)
-      (others : IsRound (half_edges faces) (is_on marks) place.seam.far far) where
-    near_end : (m : ℕ) × (k : ℕ)
-        × StandsOn (half_edges faces) (is_on rest) near.fourth m k ((half_edges faces).prev place.start)
+  module _ {near far : Round} (ones : IsRound mesh (is_on marks) place.start near)
+      (others : IsRound mesh (is_on marks) place.seam.far far) where
+    near_end : (m : ℕ) × (k : ℕ) × StandsOn mesh (is_on rest) near.fourth m k (mesh.prev place.start)
     near_end = near_over cutting.laws cutting.full is.joinable without ones others
 
-    far_end : (m : ℕ) × (k : ℕ)
-        × StandsOn (half_edges faces) (is_on rest) far.fourth m k ((half_edges faces).prev place.seam.far)
+    far_end : (m : ℕ) × (k : ℕ) × StandsOn mesh (is_on rest) far.fourth m k (mesh.prev place.seam.far)
     far_end = near_over cutting.laws cutting.full
-        (turned_arc (half_edges faces) cutting.laws (is_on marks) cutting.full place.start place.seam.far
-        place.seam.long is.joinable)
-        (other_without (half_edges faces) (is_on marks) (is_on rest) place.start place.seam.far place.seam.long without)
-        others ones
+        (turned_arc mesh cutting.laws (is_on marks) cutting.full place.start place.seam.far place.seam.long is.joinable)
+        (other_without mesh (is_on marks) (is_on rest) place.start place.seam.far place.seam.long without) others ones
 
     module _ (old between new : BTreeSet ℕ) (starts one_starts new_starts : List ℕ) where
       abbrev IsNotedFrom : (c : ℕ) (names : BTreeSet ℕ) (table : List ℕ) → Type 0
-      IsNotedFrom c names table = (t n name : ℕ) → IsJoinable (half_edges faces) (is_on rest) c t n
-          → IsNameOf (half_edges faces) c t n name → IsNoted names table c t name
+      IsNotedFrom c names table = (t n name : ℕ) → IsJoinable mesh (is_on rest) c t n
+          → IsNameOf mesh c t n name → IsNoted names table c t name
 
       abbrev AreKeptNotes : (names more : BTreeSet ℕ) (table next : List ℕ) → Type 0
-      AreKeptNotes names more table next = (r u m name : ℕ) → IsJoinable (half_edges faces) (is_on rest) r u m
-          → IsNameOf (half_edges faces) r u m name → IsNoted names table r u name → IsNoted more next r u name
+      AreKeptNotes names more table next = (r u m name : ℕ) → IsJoinable mesh (is_on rest) r u m
+          → IsNameOf mesh r u m name → IsNoted names table r u name → IsNoted more next r u name
 
       pub wait_still : IsNotedFrom near.fourth between one_starts → AreKeptNotes old between starts one_starts
           → IsNotedFrom far.fourth new new_starts → AreKeptNotes between new one_starts new_starts
-          → WaitStill (half_edges faces) (is_on marks) (is_on rest) old new starts new_starts
+          → WaitStill mesh (is_on marks) (is_on rest) old new starts new_starts
       wait_still near_noted kept far_noted still s t n name arc named was =
-          by_arc (grown_law (half_edges faces) (is_on marks) (is_on rest) place.start place.seam.far place.seam.long
-          s t n cutting.laws cutting.full is.joinable without arc)
-        where
-          by_arc : IsJoinable (half_edges faces) (is_on marks) s t n
-              ⊎ (IsOnArc (half_edges faces) s t n ((half_edges faces).prev place.start)
-              ⊎ IsOnArc (half_edges faces) s t n ((half_edges faces).prev place.seam.far))
-              → IsNoted new new_starts s t name
-          by_arc (inl before) = still s t n name arc named (kept s t n name arc named (was before))
-          by_arc (inr (inl o)) = still s t n name arc named
-              (noted_over cutting.laws cutting_after.full near_end.2 between one_starts near_noted arc o named)
-          by_arc (inr (inr o)) = noted_over cutting.laws cutting_after.full far_end.2 new new_starts far_noted arc o
-              named
+          elim (grown_law mesh (is_on marks) (is_on rest) place.start place.seam.far place.seam.long s t n cutting.laws
+              cutting.full is.joinable without arc) [
+            | inl before ↦ still s t n name arc named (kept s t n name arc named (was before))
+            | inr (inl o) ↦ still s t n name arc named
+                (noted_over cutting.laws cutting_after.full near_end.2 between one_starts near_noted arc o named)
+            | inr (inr o) ↦ noted_over cutting.laws cutting_after.full far_end.2 new new_starts far_noted arc o named
+          ]

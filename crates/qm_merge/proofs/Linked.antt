@@ -34,27 +34,21 @@ module _ {mesh : HalfEdges} {cut : Cut} {next long : List ℕ} {c : ℕ} (low : 
   -- One corner more, or a dart that is none.
   pub sides_more : {x m : ℕ} → IsWholeSide mesh cut c m → x ≡ mesh.next (easts mesh c (m - 1))
       → AreSides mesh cut (set next c x) (set long c m) (c + 1)
-  sides_more {x} {m} side end = record {
-    nexts = length-set next c x ∙ sides.nexts;
-    longs = length-set long c m ∙ sides.longs;
-    side = λ d l corner. by_side d l corner (cases_eq d c);
-    after = λ d l corner. by_after d l corner (cases_eq d c);
-  }
-    where
-      long_here : at (set long c m) c ≡ m
-      long_here = get_or-set_same long c m 0 (omega (arith, sides.longs, low))
-
-      by_side : (d : ℕ) → d < c + 1 → IsCorner mesh cut d → (d ≡ c) ⊎ (d ≡ c → ⊥)
-          → IsWholeSide mesh cut d (at (set long c m) d)
-      by_side d l corner (inl e) = rw (e, long_here) side
-      by_side d l corner (inr ne) = rw (get_or-set_other long c d m 0 ne) (sides.side d (omega (arith, l, ne)) corner)
-
-      by_after : (d : ℕ) → d < c + 1 → IsCorner mesh cut d → (d ≡ c) ⊎ (d ≡ c → ⊥)
-          → at (set next c x) d ≡ mesh.next (easts mesh d (at (set long c m) d - 1))
-      by_after d l corner (inl e) =
-          rw e (cc (get_or-set_same next c x 0 (omega (arith, sides.nexts, low)), end, long_here))
-      by_after d l corner (inr ne) = get_or-set_other next c d x 0 ne ∙ (sides.after d (omega (arith, l, ne)) corner
-          ∙ ap (λ z. mesh.next (easts mesh d (z - 1))) (sym (get_or-set_other long c d m 0 ne)))
+  sides_more {x} {m} side end =
+      let long_here = get_or-set_same long c m 0 (omega (arith, sides.longs, low)) in
+      record {
+        nexts = length-set next c x ∙ sides.nexts;
+        longs = length-set long c m ∙ sides.longs;
+        side = λ d l corner. elim (cases_eq d c) [
+          | inl e ↦ rw (e, long_here) side
+          | inr ne ↦ rw (get_or-set_other long c d m 0 ne) (sides.side d (omega (arith, l, ne)) corner)
+        ];
+        after = λ d l corner. elim (cases_eq d c) [
+          | inl e ↦ rw e (cc (get_or-set_same next c x 0 (omega (arith, sides.nexts, low)), end, long_here))
+          | inr ne ↦ get_or-set_other next c d x 0 ne ∙ (sides.after d (omega (arith, l, ne)) corner
+              ∙ ap (λ z. mesh.next (easts mesh d (z - 1))) (sym (get_or-set_other long c d m 0 ne)))
+        ];
+      }
 
   pub sides_same : (IsCorner mesh cut c → ⊥) → AreSides mesh cut next long (c + 1)
   sides_same none = record {
@@ -91,31 +85,23 @@ module _ {mesh : HalfEdges} (laws : IsQuadManifold mesh) {cut : Cut} (full : IsC
     -- The tables have room for the corners of two patches that become one.
     pub has_room : {s t : ℕ} {near far : Round} → IsRound mesh cut s near → IsRound mesh cut t far → (limit : ℕ)
         → 2 * mesh.count + 2 < limit → HasRoom links near far limit
-    has_room {near} {far} ones others limit few = record {
-      near_next = omega (arith, are.nexts, near_fourth.0);
-      far_next = omega (arith, are.nexts, far_fourth.0);
-      near_long = omega (arith, are.longs, near_fourth.0);
-      far_long = omega (arith, are.longs, far_fourth.0);
-      near_second = omega (arith, are.longs, near_second.0);
-      far_second = omega (arith, are.longs, far_second.0);
-      near_sum = omega (arith, few, few_at near.fourth near_fourth, few_at far.second far_second);
-      far_sum = omega (arith, few, few_at far.fourth far_fourth, few_at near.second near_second);
-    }
-      where
-        near_second : IsCorner mesh cut near.second
-        near_second = next_is_corner laws full ones.second
-
-        far_second : IsCorner mesh cut far.second
-        far_second = next_is_corner laws full others.second
-
-        near_fourth : IsCorner mesh cut near.fourth
-        near_fourth = next_is_corner laws full ones.fourth
-
-        far_fourth : IsCorner mesh cut far.fourth
-        far_fourth = next_is_corner laws full others.fourth
-
-        few_at : (c : ℕ) → IsCorner mesh cut c → at links.long.items c ≤ mesh.count + 1
-        few_at c corner = side_few (are.side c corner.0 corner)
+    has_room {near} {far} ones others limit few =
+        let near_second = next_is_corner laws full ones.second in
+        let far_second = next_is_corner laws full others.second in
+        let near_fourth = next_is_corner laws full ones.fourth in
+        let far_fourth = next_is_corner laws full others.fourth in
+        let few_at : (c : ℕ) → IsCorner mesh cut c → at links.long.items c ≤ mesh.count + 1 =
+            λ c corner. side_few (are.side c corner.0 corner) in
+        record {
+          near_next = omega (arith, are.nexts, near_fourth.0);
+          far_next = omega (arith, are.nexts, far_fourth.0);
+          near_long = omega (arith, are.longs, near_fourth.0);
+          far_long = omega (arith, are.longs, far_fourth.0);
+          near_second = omega (arith, are.longs, near_second.0);
+          far_second = omega (arith, are.longs, far_second.0);
+          near_sum = omega (arith, few, few_at near.fourth near_fourth, few_at far.second far_second);
+          far_sum = omega (arith, few, few_at far.fourth far_fourth, few_at near.second near_second);
+        }
 
 -- When an arc leaves, its patches become one.
 module _ {mesh : HalfEdges} (laws : IsQuadManifold mesh) {cut rest : Cut} (full : IsCut mesh cut) {s t n : ℕ}
@@ -128,6 +114,19 @@ module _ {mesh : HalfEdges} (laws : IsQuadManifold mesh) {cut rest : Cut} (full 
   abbrev back_without : IsWithout mesh cut rest t s n
   back_without = other_without mesh cut rest s t n without
 
+  abbrev nexts : List ℕ
+  nexts = old.next.items
+
+  abbrev longs : List ℕ
+  longs = old.long.items
+
+  -- The sides that go on over the ends of the arc are so long.
+  abbrev near_sum : ℕ
+  near_sum = at old.long.items near.fourth + at old.long.items far.second
+
+  abbrev far_sum : ℕ
+  far_sum = at old.long.items far.fourth + at old.long.items near.second
+
   differ : near.fourth ≡ far.fourth → ⊥
   differ = fourths_differ laws full arc without ones others
 
@@ -137,60 +136,34 @@ module _ {mesh : HalfEdges} (laws : IsQuadManifold mesh) {cut rest : Cut} (full 
   corner_far : IsCorner mesh cut far.fourth
   corner_far = near_corner laws full back back_without others ones
 
-  second_near : IsCorner mesh cut near.second
-  second_near = next_is_corner laws full ones.second
+  grown_near : IsWholeSide mesh rest near.fourth near_sum
+      × (far.third ≡ mesh.next (easts mesh near.fourth (near_sum - 1)))
+  grown_near =
+      let second = next_is_corner laws full others.second in
+      near_side laws full arc without ones others (at longs near.fourth) (at longs far.second)
+          (are.side near.fourth corner_near.0 corner_near) (are.side far.second second.0 second)
 
-  second_far : IsCorner mesh cut far.second
-  second_far = next_is_corner laws full others.second
+  grown_far : IsWholeSide mesh rest far.fourth far_sum × (near.third ≡ mesh.next (easts mesh far.fourth (far_sum - 1)))
+  grown_far =
+      let second = next_is_corner laws full ones.second in
+      near_side laws full back back_without others ones (at longs far.fourth) (at longs near.second)
+          (are.side far.fourth corner_far.0 corner_far) (are.side near.second second.0 second)
 
-  grown_near : IsWholeSide mesh rest near.fourth (at old.long.items near.fourth + at old.long.items far.second)
-      × (far.third ≡ mesh.next (easts mesh near.fourth
-      (at old.long.items near.fourth + at old.long.items far.second - 1)))
-  grown_near = near_side laws full arc without ones others
-      (at old.long.items near.fourth) (at old.long.items far.second)
-      (are.side near.fourth corner_near.0 corner_near) (are.side far.second second_far.0 second_far)
+  -- What stands in a table in which two places were set.
+  at_near : (xs ys : List ℕ) (x y : ℕ) → ys ≡ set (set xs near.fourth x) far.fourth y → length xs ≡ mesh.count
+      → at ys near.fourth ≡ x
+  at_near xs ys x y is long = ap (λ zs. at zs near.fourth) is ∙ (get_or-set_other (set xs near.fourth x) far.fourth
+      near.fourth y 0 differ ∙ get_or-set_same xs near.fourth x 0 (omega (arith, long, corner_near.0)))
 
-  grown_far : IsWholeSide mesh rest far.fourth (at old.long.items far.fourth + at old.long.items near.second)
-      × (near.third ≡ mesh.next (easts mesh far.fourth
-      (at old.long.items far.fourth + at old.long.items near.second - 1)))
-  grown_far = near_side laws full back back_without others ones
-      (at old.long.items far.fourth) (at old.long.items near.second)
-      (are.side far.fourth corner_far.0 corner_far) (are.side near.second second_near.0 second_near)
+  at_far : (xs ys : List ℕ) (x y : ℕ) → ys ≡ set (set xs near.fourth x) far.fourth y → length xs ≡ mesh.count
+      → at ys far.fourth ≡ y
+  at_far xs ys x y is long = ap (λ zs. at zs far.fourth) is ∙ get_or-set_same (set xs near.fourth x) far.fourth y 0
+      (omega (arith, length-set xs near.fourth x, long, corner_far.0))
 
-  -- What stands in the new tables.
-  next_near : at new.next.items near.fourth ≡ far.third
-  next_near = ap (λ xs. at xs near.fourth) joined.next
-      ∙ (get_or-set_other (set old.next.items near.fourth far.third) far.fourth near.fourth near.third 0 differ
-      ∙ get_or-set_same old.next.items near.fourth far.third 0 (omega (arith, are.nexts, corner_near.0)))
-
-  next_far : at new.next.items far.fourth ≡ near.third
-  next_far = ap (λ xs. at xs far.fourth) joined.next ∙ get_or-set_same (set old.next.items near.fourth far.third)
-      far.fourth near.third 0 (omega (arith, length-set old.next.items near.fourth far.third, are.nexts, corner_far.0))
-
-  next_other : (c : ℕ) → (c ≡ near.fourth → ⊥) → (c ≡ far.fourth → ⊥) → at new.next.items c ≡ at old.next.items c
-  next_other c a b = ap (λ xs. at xs c) joined.next
-      ∙ (get_or-set_other (set old.next.items near.fourth far.third) far.fourth c near.third 0 b
-      ∙ get_or-set_other old.next.items near.fourth c far.third 0 a)
-
-  abbrev near_sum : ℕ
-  near_sum = at old.long.items near.fourth + at old.long.items far.second
-
-  abbrev far_sum : ℕ
-  far_sum = at old.long.items far.fourth + at old.long.items near.second
-
-  long_near : at new.long.items near.fourth ≡ near_sum
-  long_near = ap (λ xs. at xs near.fourth) joined.long
-      ∙ (get_or-set_other (set old.long.items near.fourth near_sum) far.fourth near.fourth far_sum 0 differ
-      ∙ get_or-set_same old.long.items near.fourth near_sum 0 (omega (arith, are.longs, corner_near.0)))
-
-  long_far : at new.long.items far.fourth ≡ far_sum
-  long_far = ap (λ xs. at xs far.fourth) joined.long ∙ get_or-set_same (set old.long.items near.fourth near_sum)
-      far.fourth far_sum 0 (omega (arith, length-set old.long.items near.fourth near_sum, are.longs, corner_far.0))
-
-  long_other : (c : ℕ) → (c ≡ near.fourth → ⊥) → (c ≡ far.fourth → ⊥) → at new.long.items c ≡ at old.long.items c
-  long_other c a b = ap (λ xs. at xs c) joined.long
-      ∙ (get_or-set_other (set old.long.items near.fourth near_sum) far.fourth c far_sum 0 b
-      ∙ get_or-set_other old.long.items near.fourth c near_sum 0 a)
+  at_other : (xs ys : List ℕ) (x y c : ℕ) → ys ≡ set (set xs near.fourth x) far.fourth y → (c ≡ near.fourth → ⊥)
+      → (c ≡ far.fourth → ⊥) → at ys c ≡ at xs c
+  at_other xs ys x y c is a b = ap (λ zs. at zs c) is ∙ (get_or-set_other (set xs near.fourth x) far.fourth c y 0 b
+      ∙ get_or-set_other xs near.fourth c x 0 a)
 
   -- The side from c as the new tables have it.
   IsThere : (c : ℕ) → Type 0
@@ -207,32 +180,29 @@ module _ {mesh : HalfEdges} (laws : IsQuadManifold mesh) {cut rest : Cut} (full 
 
   there : (c : ℕ) → IsCorner mesh rest c → IsThere c
   unfolding IsThere
-  there c corner = by_place (cases_eq c near.fourth) (cases_eq c far.fourth)
-    where
-      was : IsCorner mesh cut c
-      was = corner_was laws full arc without c corner
-
-      by_place : (c ≡ near.fourth) ⊎ (c ≡ near.fourth → ⊥) → (c ≡ far.fourth) ⊎ (c ≡ far.fourth → ⊥) → IsThere c
-      by_place (inl e) b = rw e (told near.fourth near_sum far.third long_near next_near grown_near.0 grown_near.1)
-      by_place (inr a) (inl e) = rw e (told far.fourth far_sum near.third long_far next_far grown_far.0 grown_far.1)
-      by_place (inr a) (inr b) = told c (at old.long.items c) (at old.next.items c) (long_other c a b)
-          (next_other c a b) (side_stays laws full arc without c (at old.long.items c) corner (are.side c was.0 was)
-          (λ next. a (one_before laws full next near_ends))
-          (λ next. b (one_before laws full next far_ends))) (are.after c was.0 was)
-        where
-          near_ends : IsNextCorner mesh cut near.fourth s
-          near_ends = near_closes laws full arc without ones others
-
-          far_ends : IsNextCorner mesh cut far.fourth t
-          far_ends = near_closes laws full back back_without others ones
+  there c corner = elim (cases_eq c near.fourth) [
+    | inl e ↦ rw e (told near.fourth near_sum far.third (at_near longs new.long.items near_sum far_sum joined.long
+        are.longs) (at_near nexts new.next.items far.third near.third joined.next are.nexts) grown_near.0 grown_near.1)
+    | inr a ↦ elim (cases_eq c far.fourth) [
+      | inl e ↦ rw e (told far.fourth far_sum near.third (at_far longs new.long.items near_sum far_sum joined.long
+          are.longs) (at_far nexts new.next.items far.third near.third joined.next are.nexts) grown_far.0 grown_far.1)
+      | inr b ↦
+        let was = corner_was laws full arc without c corner in
+        told c (at longs c) (at nexts c) (at_other longs new.long.items near_sum far_sum c joined.long a b)
+            (at_other nexts new.next.items far.third near.third c joined.next a b)
+            (side_stays laws full arc without c (at longs c) corner (are.side c was.0 was)
+            (λ next. a (one_before laws full next (near_closes laws full arc without ones others))) (λ next. b
+            (one_before laws full next (near_closes laws full back back_without others ones)))) (are.after c was.0 was)
+    ]
+  ]
 
   pub links_after : AreLinks mesh rest new
   unfolding IsThere
   links_after = record {
-    nexts = ap length joined.next ∙ (length-set (set old.next.items near.fourth far.third) far.fourth near.third
-        ∙ (length-set old.next.items near.fourth far.third ∙ are.nexts));
-    longs = ap length joined.long ∙ (length-set (set old.long.items near.fourth near_sum) far.fourth far_sum
-        ∙ (length-set old.long.items near.fourth near_sum ∙ are.longs));
+    nexts = ap length joined.next ∙ (length-set (set nexts near.fourth far.third) far.fourth near.third
+        ∙ (length-set nexts near.fourth far.third ∙ are.nexts));
+    longs = ap length joined.long ∙ (length-set (set longs near.fourth near_sum) far.fourth far_sum
+        ∙ (length-set longs near.fourth near_sum ∙ are.longs));
     side = λ c l corner. (there c corner).0;
     after = λ c l corner. (there c corner).1;
   }

@@ -52,9 +52,8 @@ module _ (old new : BTreeSet ℕ) (k : ℕ) where
   ]
 
 pub none_waits : (names : BTreeSet ℕ) (name : ℕ) → length names.keys ≡ 0 → Waits names name → ⊥
-none_waits names name none w =
-    false≢true (sym (ap (λ (xs : List ℕ). sorted.contains nat_cmp (record { keys = xs }) name) (empty names.keys none))
-    ∙ w)
+none_waits names name none w = false≢true
+    (sym (ap (λ (xs : List ℕ). sorted.contains nat_cmp (record { keys = xs }) name) (empty names.keys none)) ∙ w)
   where
     empty : (xs : List ℕ) → length xs ≡ 0 → xs ≡ []
     empty [] e = refl
@@ -70,25 +69,23 @@ module _ {mesh : HalfEdges} (laws : IsQuadManifold mesh) {cut : Cut} (full : IsC
   pub seam_name : {s : ℕ} {seam : Seam} → IsSeam mesh cut s seam → {t n name : ℕ} → IsJoinable mesh cut s t n
       → IsNameOf mesh s t n name → seam.name ≡ name
   seam_name {s} {seam} is {t} {n} {name} arc named =
-      let far : (seam.far ≡ t) × (seam.long ≡ n) =
-      one_far mesh laws cut full s seam.far t seam.long n is.joinable.glued arc.glued in
+      let far = one_far mesh laws cut full s seam.far t seam.long n is.joinable.glued arc.glued in
       one_name mesh s t n seam.name name (rw (← far.1, ← far.0) is.named) named
 
   -- A seam may leave where each joinable arc may that begins there on one side.
   pub seam_free : (may : Leave) → ((a b c : ℕ) → may a b c ≡ true → may b a c ≡ true) → {start : ℕ} {seam : Seam}
       → IsSeam mesh cut start seam → {s t n : ℕ} → IsJoinable mesh cut s t n → may s t n ≡ true
       → (start ≡ s) ⊎ (start ≡ t) → may start seam.far seam.long ≡ true
-  seam_free may turn {start} {seam} is {s} {t} {n} arc free side = by_side side
-    where
-      from : (c b : ℕ) → start ≡ c → IsJoinable mesh cut c b n → may c b n ≡ true → may start seam.far seam.long ≡ true
-      from c b e joined y = let here : IsJoinable mesh cut start b n = rw e joined in
-          let far : (seam.far ≡ b) × (seam.long ≡ n) =
-          one_far mesh laws cut full start seam.far b seam.long n is.joinable.glued here.glued in
-          rw (far.1, far.0, e) y
-
-      by_side : (start ≡ s) ⊎ (start ≡ t) → may start seam.far seam.long ≡ true
-      by_side (inl e) = from s t e arc free
-      by_side (inr e) = from t s e (turned_arc mesh laws cut full s t n arc) (turn s t n free)
+  seam_free may turn {start} {seam} is {s} {t} {n} arc free side =
+      let from : (c b : ℕ) → start ≡ c → IsJoinable mesh cut c b n → may c b n ≡ true
+          → may start seam.far seam.long ≡ true = λ c b e joined y.
+            let here : IsJoinable mesh cut start b n = rw e joined in
+            let far = one_far mesh laws cut full start seam.far b seam.long n is.joinable.glued here.glued in
+            rw (far.1, far.0, e) y in
+      elim side [
+        | inl e ↦ from s t e arc free
+        | inr e ↦ from t s e (turned_arc mesh laws cut full s t n arc) (turn s t n free)
+      ]
 
   -- No joinable arc has a name that none has which begins at its start.
   pub none_named : (start : ℕ) {name : ℕ} → ((t n : ℕ) → IsJoinable mesh cut start t n → IsNameOf mesh start t n name
@@ -102,21 +99,18 @@ module _ {mesh : HalfEdges} (laws : IsQuadManifold mesh) {cut : Cut} (full : IsC
       → ((t n name : ℕ) → IsJoinable mesh cut start t n → IsNameOf mesh start t n name
       → IsNoted names starts start t name) → {s t n name : ℕ} → IsJoinable mesh cut s t n → IsOnArc mesh s t n d
       → IsNameOf mesh s t n name → IsNoted names starts s t name
-  noted_over {start} {m} {k} {d} on names starts noted {s} {t} {n} {name} arc o named = by_side o.0 o.1 o.2
-    where
-      is : (c j : ℕ) → IsWholeSide mesh cut c n → j < n → d ≡ easts mesh c j → start ≡ c
-      is c j side l e = (one_place mesh laws cut full start m c n k j on.side side on.low l (on.at ∙ e)).0
-
-      by_side : (j : ℕ) → j < n → (d ≡ easts mesh s j) ⊎ (d ≡ easts mesh t j) → IsNoted names starts s t name
-      by_side j l (inl e) =
-          let same : start ≡ s = is s j arc.glued.near l e in
-          rw (← same) (noted t n name (subst (λ (x : ℕ). IsJoinable mesh cut x t n) (sym same) arc)
-          (subst (λ (x : ℕ). IsNameOf mesh x t n name) (sym same) named))
-      by_side j l (inr e) =
-          let same : start ≡ t = is t j arc.glued.far l e in
-          other_noted names starts t s name (rw (← same) (noted s n name (subst (λ (x : ℕ). IsJoinable mesh cut x s n)
-          (sym same) (turned_arc mesh laws cut full s t n arc)) (subst (λ (x : ℕ). IsNameOf mesh x s n name)
-          (sym same) (name_other mesh s t n name named))))
+  noted_over {start} {m} {k} {d} on names starts noted {s} {t} {n} {name} arc o named =
+      let is : (c j : ℕ) → IsWholeSide mesh cut c n → j < n → d ≡ easts mesh c j → c ≡ start = λ c j side l e.
+          sym (one_place mesh laws cut full start m c n k j on.side side on.low l (on.at ∙ e)).0 in
+      elim o.2 [
+        | inl e ↦
+          let same = is s o.0 arc.glued.near o.1 e in
+          rw same (noted t n name (rw same at arc) (rw same at named))
+        | inr e ↦
+          let same = is t o.0 arc.glued.far o.1 e in
+          other_noted names starts t s name (rw same (noted s n name
+              (rw same at (turned_arc mesh laws cut full s t n arc)) (rw same at (name_other mesh s t n name named))))
+      ]
 
   -- One arc more is noted.
   module _ {s : ℕ} {seam : Seam} (is : IsSeam mesh cut s seam) (old new : BTreeSet ℕ) (starts : List ℕ)
@@ -124,45 +118,36 @@ module _ {mesh : HalfEdges} (laws : IsQuadManifold mesh) {cut : Cut} (full : IsC
     pub noted_new : (t n name : ℕ) → IsJoinable mesh cut s t n → IsNameOf mesh s t n name
         → IsNoted new (set starts seam.name s) s t name
     noted_new t n name arc named =
-        let same : seam.name ≡ name = seam_name is arc named in (
-          rw (← same) updates.1,
-          inl (rw (← same) (get_or-set_same starts seam.name s 0 low)),
-        )
+        let same = seam_name is arc named in
+        (rw (← same) updates.1, inl (rw (← same) (get_or-set_same starts seam.name s 0 low)))
 
     pub noted_still : (r u m name : ℕ) → IsJoinable mesh cut r u m → IsNameOf mesh r u m name
         → IsNoted old starts r u name → IsNoted new (set starts seam.name s) r u name
-    noted_still r u m name arc named noted =
-        (put_kept old new seam.name updates name noted.0, by_name (cases_eq name seam.name))
-      where
-        by_arc : name ≡ seam.name → AreOneArc s seam.far r u
-            → (at (set starts seam.name s) name ≡ r) ⊎ (at (set starts seam.name s) name ≡ u)
-        by_arc e one =
-            let here : at (set starts seam.name s) name ≡ s = rw e (get_or-set_same starts seam.name s 0 low) in
-            elim one [ inl p ↦ inl (here ∙ p.0) | inr p ↦ inr (here ∙ p.0) ]
-
-        by_name : (name ≡ seam.name) ⊎ (name ≡ seam.name → ⊥)
-            → (at (set starts seam.name s) name ≡ r) ⊎ (at (set starts seam.name s) name ≡ u)
-        by_name (inl e) = by_arc e
-            (one_arc mesh laws cut full s seam.far seam.long r u m name is.joinable.glued arc.glued
-            (rw e is.named.on) named.on).0
-        by_name (inr ne) =
-            let kept : at (set starts seam.name s) name ≡ at starts name =
-            get_or-set_other starts seam.name name s 0 ne in
-            elim noted.1 [ inl q ↦ inl (kept ∙ q) | inr q ↦ inr (kept ∙ q) ]
+    noted_still r u m name arc named noted = (
+      put_kept old new seam.name updates name noted.0,
+      elim (cases_eq name seam.name) [
+        | inl e ↦
+          let here : at (set starts seam.name s) name ≡ s = rw e (get_or-set_same starts seam.name s 0 low) in
+          elim (one_arc mesh laws cut full s seam.far seam.long r u m name is.joinable.glued arc.glued
+              (rw e is.named.on) named.on).0 [ inl p ↦ inl (here ∙ p.0) | inr p ↦ inr (here ∙ p.0) ]
+        | inr ne ↦
+          let kept = get_or-set_other starts seam.name name s 0 ne in
+          elim noted.1 [ inl q ↦ inl (kept ∙ q) | inr q ↦ inr (kept ∙ q) ]
+      ],
+    )
 
 -- Marks that go leave fewer.
+one_less : (a b : Bool) → (b ≡ true → a ≡ true) → cond b 1 0 ≤ cond a 1 0
+one_less true true l = omega arith
+one_less true false l = omega arith
+one_less false true l = absurd (false≢true (l refl))
+one_less false false l = omega arith
+
 fewer_or_same : (old new : List Bool) → length new ≡ length old → ((d : ℕ) → is_on new d ≡ true → is_on old d ≡ true)
     → mark_count new ≤ mark_count old
 fewer_or_same [] [] e less = omega arith
 fewer_or_same (a ∷ old) (b ∷ new) e less =
-    by_first a b (less 0) (fewer_or_same old new (omega arith) (λ d on. less (suc d) on))
-  where
-    by_first : (a b : Bool) → (b ≡ true → a ≡ true) → mark_count new ≤ mark_count old
-        → cond b 1 0 + mark_count new ≤ cond a 1 0 + mark_count old
-    by_first true true l rest = omega arith
-    by_first true false l rest = omega arith
-    by_first false true l rest = absurd (false≢true (l refl))
-    by_first false false l rest = omega arith
+    omega (arith, one_less a b (less 0), fewer_or_same old new (omega arith) (λ d on. less (suc d) on))
 fewer_or_same [] (b ∷ new) e less = absurd (omega arith)
 fewer_or_same (a ∷ old) [] e less = absurd (omega arith)
 
@@ -171,19 +156,7 @@ pub fewer_marks : (old new : List Bool) → length new ≡ length old → ((d : 
 fewer_marks [] new e less d on off = absurd (false≢true on)
 fewer_marks (a ∷ old) [] e less d on off = absurd (omega arith)
 fewer_marks (a ∷ old) (b ∷ new) e less zero on off =
-    by_first a b on off (fewer_or_same old new (omega arith) (λ d on. less (suc d) on))
-  where
-    by_first : (a b : Bool) → a ≡ true → b ≡ false → mark_count new ≤ mark_count old
-        → (cond b 1 0 + mark_count new) + 1 ≤ cond a 1 0 + mark_count old
-    by_first true false on off rest = omega arith
-    by_first true true on off rest = absurd (true≢false off)
-    by_first false b on off rest = absurd (false≢true on)
+    let rest = fewer_or_same old new (omega arith) (λ d on. less (suc d) on) in
+    rw (on, off) (omega (arith, rest))
 fewer_marks (a ∷ old) (b ∷ new) e less (suc d) on off =
-    by_first a b (less 0) (fewer_marks old new (omega arith) (λ d on. less (suc d) on) d on off)
-  where
-    by_first : (a b : Bool) → (b ≡ true → a ≡ true) → mark_count new + 1 ≤ mark_count old
-        → (cond b 1 0 + mark_count new) + 1 ≤ cond a 1 0 + mark_count old
-    by_first true true l rest = omega arith
-    by_first true false l rest = omega arith
-    by_first false true l rest = absurd (false≢true (l refl))
-    by_first false false l rest = omega arith
+    omega (arith, one_less a b (less 0), fewer_marks old new (omega arith) (λ d on. less (suc d) on) d on off)

@@ -15,36 +15,30 @@ module _ {mesh : HalfEdges} (laws : IsQuadManifold mesh) {cut rest : Cut} (full 
     (arc : IsJoinable mesh cut s t n) (without : IsWithout mesh cut rest s t n) where
   -- A corner on the arc is where one of its sides begins.
   on_start : (c : ℕ) → IsCorner mesh cut c → IsOnArc mesh s t n c → (c ≡ s) ⊎ (c ≡ t)
-  on_start c corner o = by_side o.0 o.1 o.2
-    where
-      start : (b k : ℕ) → IsWholeSide mesh cut b n → k < n → c ≡ easts mesh b k → c ≡ b
-      start b k side l e =
-          let first : k ≡ 0 = first_place mesh laws cut full b n side k l (cc (e, corner.2)) in
-          cc (e, first)
-
-      by_side : (k : ℕ) → k < n → (c ≡ easts mesh s k) ⊎ (c ≡ easts mesh t k) → (c ≡ s) ⊎ (c ≡ t)
-      by_side k l (inl e) = inl (start s k arc.glued.near l e)
-      by_side k l (inr e) = inr (start t k arc.glued.far l e)
+  on_start c corner o =
+      let start : (b k : ℕ) → IsWholeSide mesh cut b n → k < n → c ≡ easts mesh b k → c ≡ b = λ b k side l e.
+          let first = first_place mesh laws cut full b n side k l (cc (e, corner.2)) in
+          cc (e, first) in
+      elim o.2 [
+        | inl e ↦ inl (start s o.0 arc.glued.near o.1 e)
+        | inr e ↦ inr (start t o.0 arc.glued.far o.1 e)
+      ]
 
   -- A corner behind a dart of the arc is where one of its sides ends.
   on_end : (c : ℕ) → IsCorner mesh cut c → IsOnArc mesh s t n (mesh.prev c)
       → IsNextCorner mesh cut s c ⊎ IsNextCorner mesh cut t c
-  on_end c corner o = by_side o.0 o.1 o.2
-    where
-      end : (b k : ℕ) → IsWholeSide mesh cut b n → k < n → mesh.prev c ≡ easts mesh b k → IsNextCorner mesh cut b c
-      end b k side l e = by_place (cases_eq (suc k) n)
-        where
-          here : c ≡ mesh.next (easts mesh b k)
-          here = cc (laws.next_prev c, e)
-
-          by_place : (suc k ≡ n) ⊎ (suc k ≡ n → ⊥) → IsNextCorner mesh cut b c
-          by_place (inl q) = (k, rw q side, here)
-          by_place (inr ne) = absurd (true≢false (cc (corner.1, here, side.inside k (omega (arith, l, ne)))))
-
-      by_side : (k : ℕ) → k < n → (mesh.prev c ≡ easts mesh s k) ⊎ (mesh.prev c ≡ easts mesh t k)
-          → IsNextCorner mesh cut s c ⊎ IsNextCorner mesh cut t c
-      by_side k l (inl e) = inl (end s k arc.glued.near l e)
-      by_side k l (inr e) = inr (end t k arc.glued.far l e)
+  on_end c corner o =
+      let end : (b k : ℕ) → IsWholeSide mesh cut b n → k < n → mesh.prev c ≡ easts mesh b k
+          → IsNextCorner mesh cut b c = λ b k side l e.
+            let here : c ≡ mesh.next (easts mesh b k) = cc (laws.next_prev c, e) in
+            elim (cases_eq (suc k) n) [
+              | inl q ↦ (k, rw q side, here)
+              | inr ne ↦ absurd (true≢false (cc (corner.1, here, side.inside k (omega (arith, l, ne)))))
+            ] in
+      elim o.2 [
+        | inl e ↦ inl (end s o.0 arc.glued.near o.1 e)
+        | inr e ↦ inr (end t o.0 arc.glued.far o.1 e)
+      ]
 
   -- The corners that stay are the others.
   pub corner_stays : (c : ℕ) → IsCorner mesh cut c → (c ≡ s → ⊥) → (c ≡ t → ⊥) → (IsNextCorner mesh cut s c → ⊥)
@@ -92,15 +86,11 @@ module _ {mesh : HalfEdges} (laws : IsQuadManifold mesh) {cut rest : Cut} (full 
   -- The side from p that ends at s goes on along the one from q, which begins where the other side of the arc ends.
   module _ {p q x a b : ℕ} (before : IsWholeSide mesh cut p (suc a)) (meets : s ≡ mesh.next (easts mesh p a))
       (behind : IsWholeSide mesh cut q (suc b)) (ends : x ≡ mesh.next (easts mesh q b))
-      (turn : IsNextCorner mesh cut t q)
-      (corner : IsCorner mesh rest p) (other : IsOnArc mesh s t n x → ⊥) where
+      (turn : IsNextCorner mesh cut t q) (corner : IsCorner mesh rest p) (other : IsOnArc mesh s t n x → ⊥) where
     over : easts mesh p (suc a) ≡ q
-    over = at turn.0 turn.1 turn.2
-      where
-        at : (k : ℕ) → IsWholeSide mesh cut t (suc k) → q ≡ mesh.next (easts mesh t k) → easts mesh p (suc a) ≡ q
-        at k side is =
-            let size : suc k ≡ n = one_size mesh laws cut full t (suc k) n side arc.glued.far in
-            cc (meets, arc.glued.across 0 k (omega (arith, size)), is)
+    over =
+        let size = one_size mesh laws cut full t (suc turn.0) n turn.1 arc.glued.far in
+        cc (meets, arc.glued.across 0 turn.0 (omega (arith, size)), turn.2)
 
     along : (i j : ℕ) → i ≡ suc a + j → easts mesh p i ≡ easts mesh q j
     along i zero e = let here : i ≡ suc a = omega (arith, e) in cc (here, over)
@@ -108,28 +98,23 @@ module _ {mesh : HalfEdges} (laws : IsQuadManifold mesh) {cut rest : Cut} (full 
     along (suc i) (suc j) e = cc (along i j (omega (arith, e)))
 
     inside : (k : ℕ) → suc k < suc a + suc b → rest (mesh.next (easts mesh p k)) ≡ false
-    inside k l = by_order (cases_order k a)
-      where
-        by_order : (k ≡ a) ⊎ ((k < a) ⊎ (a < k)) → rest (mesh.next (easts mesh p k)) ≡ false
-        by_order (inl e) = cc (e, meets, without.gone s (0, arc.glued.near.some, inl refl))
-        by_order (inr (inl less)) = opened mesh laws cut rest s t n without (mesh.next (easts mesh p k))
-            (laws.next_low (easts mesh p k) (side_low mesh laws cut full p (suc a) before k (omega (arith, less))))
-            (before.inside k (omega (arith, less)))
-        by_order (inr (inr more)) = later (k - suc a) (omega (arith, more)) (omega (arith, more, l))
-          where
-            later : (j : ℕ) → k ≡ suc a + j → suc j < suc b → rest (mesh.next (easts mesh p k)) ≡ false
-            later j e h = ap (λ z. rest (mesh.next z)) (along k j e)
-                ∙ opened mesh laws cut rest s t n without (mesh.next (easts mesh q j))
-                (laws.next_low (easts mesh q j) (side_low mesh laws cut full q (suc b) behind j (omega (arith, h))))
-                (behind.inside j h)
+    inside k l =
+        let open_at : (c m i : ℕ) → IsWholeSide mesh cut c m → suc i < m → rest (mesh.next (easts mesh c i)) ≡ false =
+            λ c m i side h. opened mesh laws cut rest s t n without (mesh.next (easts mesh c i)) (laws.next_low
+            (easts mesh c i) (side_low mesh laws cut full c m side i (omega (arith, h)))) (side.inside i h) in
+        elim (cases_order k a) [
+          | inl e ↦ cc (e, meets, without.gone s (0, arc.glued.near.some, inl refl))
+          | inr (inl less) ↦ open_at p (suc a) k before (omega (arith, less))
+          | inr (inr more) ↦ ap (λ z. rest (mesh.next z)) (along k (k - suc a) (omega (arith, more)))
+              ∙ open_at q (suc b) (k - suc a) behind (omega (arith, more, l))
+        ]
 
     last : (k : ℕ) → suc k ≡ suc a + suc b → mesh.next (easts mesh p k) ≡ x
     last k e = cc (along k b (omega (arith, e)), ends)
 
     shut : rest x ≡ true
-    shut = still mesh laws cut rest s t n without x
-        (rw ends (laws.next_low (easts mesh q b) (side_low mesh laws cut full q (suc b) behind b (omega arith)))) other
-        (ap cut ends ∙ behind.ends b refl)
+    shut = still mesh laws cut rest s t n without x (rw ends (laws.next_low (easts mesh q b)
+        (side_low mesh laws cut full q (suc b) behind b (omega arith)))) other (ap cut ends ∙ behind.ends b refl)
 
     pub grown_side : IsWholeSide mesh rest p (suc a + suc b)
     grown_side = record {
@@ -164,18 +149,18 @@ module _ {mesh : HalfEdges} (laws : IsQuadManifold mesh) {cut rest : Cut} (full 
     near_opposite : near.third ≡ s → ⊥
     near_opposite e = opposite laws full ones.second ones.third ones.fourth e
 
+    fourth_in : AreInOne mesh cut s near.fourth
+    fourth_in = near_in near.fourth (inr (inr (inr refl)))
+
     pub fourths_differ : near.fourth ≡ far.fourth → ⊥
-    fourths_differ e =
-        foreign near.fourth (near_in near.fourth (inr (inr (inr refl)))) (far_in near.fourth (inr (inr (inr e))))
+    fourths_differ e = foreign near.fourth fourth_in (far_in near.fourth (inr (inr (inr e))))
 
     -- The corner before the arc stays, and so does the one behind it.
     pub near_stays : IsCorner mesh rest near.fourth
     near_stays = corner_stays near.fourth near_corner (λ e. near_opposite (one_next laws full ones.third
-        (rw (← e ∙ sym (second_is e)) near_closes)))
-        (λ e. foreign near.fourth (near_in near.fourth (inr (inr (inr refl)))) (far_in near.fourth (inl e)))
+        (rw (← e ∙ sym (second_is e)) near_closes))) (λ e. foreign near.fourth fourth_in (far_in near.fourth (inl e)))
         (λ next. near_opposite (one_next laws full ones.third (rw (← one_next laws full next ones.second) near_closes)))
-        (λ next. foreign near.fourth (near_in near.fourth (inr (inr (inr refl)))) (far_in near.fourth
-        (inr (inl (one_next laws full next others.second)))))
+        (λ next. foreign near.fourth fourth_in (far_in near.fourth (inr (inl (one_next laws full next others.second)))))
       where
         -- A corner that is the next of itself would be all four.
         second_is : near.fourth ≡ s → near.second ≡ s
@@ -191,33 +176,24 @@ module _ {mesh : HalfEdges} (laws : IsQuadManifold mesh) {cut rest : Cut} (full 
     -- The side before s, as it goes on.
     pub near_side : (a b : ℕ) → IsWholeSide mesh cut near.fourth a → IsWholeSide mesh cut far.second b
         → IsWholeSide mesh rest near.fourth (a + b) × (far.third ≡ mesh.next (easts mesh near.fourth (a + b - 1)))
-    near_side a b one two = at near_closes.0 others.third.0 near_closes.1 others.third.1 near_closes.2 others.third.2
-      where
-        at : (i j : ℕ) → IsWholeSide mesh cut near.fourth (suc i) → IsWholeSide mesh cut far.second (suc j)
-            → s ≡ mesh.next (easts mesh near.fourth i) → far.third ≡ mesh.next (easts mesh far.second j)
-            → IsWholeSide mesh rest near.fourth (a + b)
-            × (far.third ≡ mesh.next (easts mesh near.fourth (a + b - 1)))
-        at i j before behind meets ends =
-            let left : suc i ≡ a = one_size mesh laws cut full near.fourth (suc i) a before one in
-            let right : suc j ≡ b = one_size mesh laws cut full far.second (suc j) b behind two in
-            let sum : suc i + suc j ≡ a + b = omega (arith, left, right) in (
-              rw (← sum) (grown_side before meets behind ends others.second near_stays far_third_off),
-              rw (← sum) (grown_end before meets behind ends others.second near_stays far_third_off),
-            )
+    near_side a b one two =
+        let i = near_closes.0 in
+        let j = others.third.0 in
+        let left = one_size mesh laws cut full near.fourth (suc i) a near_closes.1 one in
+        let right = one_size mesh laws cut full far.second (suc j) b others.third.1 two in
+        let sum : suc i + suc j ≡ a + b = omega (arith, left, right) in
+        rw (← sum) (grown_side near_closes.1 near_closes.2 others.third.1 others.third.2 others.second near_stays
+            far_third_off, grown_end near_closes.1 near_closes.2 others.third.1 others.third.2 others.second near_stays
+            far_third_off)
 
     -- The dart before the arc stands on it.
     pub near_over : (m : ℕ) × (k : ℕ) × StandsOn mesh rest near.fourth m k (mesh.prev s)
-    near_over = at near_closes.0 others.third.0 near_closes.1 others.third.1 near_closes.2 others.third.2
-      where
-        at : (i j : ℕ) → IsWholeSide mesh cut near.fourth (suc i) → IsWholeSide mesh cut far.second (suc j)
-            → s ≡ mesh.next (easts mesh near.fourth i) → far.third ≡ mesh.next (easts mesh far.second j)
-            → (m : ℕ) × (k : ℕ) × StandsOn mesh rest near.fourth m k (mesh.prev s)
-        at i j before behind meets ends = (
-          suc i + suc j,
-          i,
-          record {
-            side = grown_side before meets behind ends others.second near_stays far_third_off;
-            low = omega arith;
-            at = cc (laws.prev_next (easts mesh near.fourth i), meets);
-          },
-        )
+    near_over = (
+      suc near_closes.0 + suc others.third.0,
+      near_closes.0,
+      record {
+        side = grown_side near_closes.1 near_closes.2 others.third.1 others.third.2 others.second near_stays far_third_off;
+        low = omega arith;
+        at = cc (laws.prev_next (easts mesh near.fourth near_closes.0), near_closes.2);
+      },
+    )

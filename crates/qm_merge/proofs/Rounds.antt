@@ -34,47 +34,35 @@ among_four s e f g t on = elim (or_cases (eqb s t) (eqb e t || (eqb f t || (eqb 
 ]
 
 pub is_among_four : (s e f g t : ℕ) → IsOneOf s e f g t → has_four s e f g t ≡ true
-is_among_four s e f g t (inl is) = or_left (eqb s t) (eqb e t || (eqb f t || (eqb g t || false))) (eq-eqb s t (sym is))
-is_among_four s e f g t (inr (inl is)) = or_right (eqb s t) (eqb e t || (eqb f t || (eqb g t || false)))
-    (or_left (eqb e t) (eqb f t || (eqb g t || false)) (eq-eqb e t (sym is)))
-is_among_four s e f g t (inr (inr (inl is))) = or_right (eqb s t) (eqb e t || (eqb f t || (eqb g t || false)))
-    (or_right (eqb e t) (eqb f t || (eqb g t || false)) (or_left (eqb f t) (eqb g t || false) (eq-eqb f t (sym is))))
+is_among_four s e f g t (inl is) = or_left (eqb s t) _ (eq-eqb s t (sym is))
+is_among_four s e f g t (inr (inl is)) = or_right (eqb s t) _ (or_left (eqb e t) _ (eq-eqb e t (sym is)))
+is_among_four s e f g t (inr (inr (inl is))) =
+    or_right (eqb s t) _ (or_right (eqb e t) _ (or_left (eqb f t) _ (eq-eqb f t (sym is))))
 is_among_four s e f g t (inr (inr (inr is))) =
-    or_right (eqb s t) (eqb e t || (eqb f t || (eqb g t || false))) (or_right (eqb e t) (eqb f t || (eqb g t || false))
-    (or_right (eqb f t) (eqb g t || false) (or_left (eqb g t) false (eq-eqb g t (sym is)))))
+    or_right (eqb s t) _ (or_right (eqb e t) _ (or_right (eqb f t) _ (or_left (eqb g t) false (eq-eqb g t (sym is)))))
 
 module _ {mesh : HalfEdges} (laws : IsQuadManifold mesh) {cut : Cut} (full : IsCut mesh cut) where
   pub next_is_corner : {c d : ℕ} → IsNextCorner mesh cut c d → IsCorner mesh cut d
-  next_is_corner {c} {d} n = at n.0 n.1 n.2
-    where
-      at : (k : ℕ) → IsWholeSide mesh cut c (suc k) → d ≡ mesh.next (easts mesh c k) → IsCorner mesh cut d
-      at k side is =
-          let low : easts mesh c k < mesh.count = side_low mesh laws cut full c (suc k) side k (omega arith) in (
-            rw is (laws.next_low (easts mesh c k) low),
-            ap cut is ∙ side.ends k refl,
-            cc (is, laws.prev_next (easts mesh c k), side_on mesh laws cut full c (suc k) side k (omega arith)),
-          )
+  next_is_corner {c} {d} n =
+      let x = easts mesh c n.0 in
+      let low = side_low mesh laws cut full c (suc n.0) n.1 n.0 (omega arith) in (
+        rw n.2 (laws.next_low x low),
+        ap cut n.2 ∙ n.1.ends n.0 refl,
+        cc (n.2, laws.prev_next x, side_on mesh laws cut full c (suc n.0) n.1 n.0 (omega arith)),
+      )
 
   -- A corner has one next corner, and is the next of one.
   pub one_next : {c d e : ℕ} → IsNextCorner mesh cut c d → IsNextCorner mesh cut c e → d ≡ e
-  one_next {c} {d} {e} a b = at a.0 b.0 a.1 b.1 a.2 b.2
-    where
-      at : (k j : ℕ) → IsWholeSide mesh cut c (suc k) → IsWholeSide mesh cut c (suc j) → d ≡ mesh.next (easts mesh c k)
-          → e ≡ mesh.next (easts mesh c j) → d ≡ e
-      at k j one two p q =
-          let sizes : suc k ≡ suc j = one_size mesh laws cut full c (suc k) (suc j) one two in
-          let same : k ≡ j = omega (arith, sizes) in
-          cc (p, same, q)
+  one_next {c} {d} {e} a b =
+      let sizes = one_size mesh laws cut full c (suc a.0) (suc b.0) a.1 b.1 in
+      let same : a.0 ≡ b.0 = omega (arith, sizes) in
+      cc (a.2, same, b.2)
 
   pub one_before : {c d e : ℕ} → IsNextCorner mesh cut c e → IsNextCorner mesh cut d e → c ≡ d
-  one_before {c} {d} {e} a b = at a.0 b.0 a.1 b.1 a.2 b.2
-    where
-      at : (k j : ℕ) → IsWholeSide mesh cut c (suc k) → IsWholeSide mesh cut d (suc j) → e ≡ mesh.next (easts mesh c k)
-          → e ≡ mesh.next (easts mesh d j) → c ≡ d
-      at k j one two p q =
-          let same : easts mesh c k ≡ easts mesh d j =
-          cc (laws.prev_next (easts mesh c k), p, q, laws.prev_next (easts mesh d j)) in
-          (one_place mesh laws cut full c (suc k) d (suc j) k j one two (omega arith) (omega arith) same).0
+  one_before {c} {d} {e} a b =
+      let same : easts mesh c a.0 ≡ easts mesh d b.0 =
+          cc (laws.prev_next (easts mesh c a.0), a.2, b.2, laws.prev_next (easts mesh d b.0)) in
+      (one_place mesh laws cut full c (suc a.0) d (suc b.0) a.0 b.0 a.1 b.1 (omega arith) (omega arith) same).0
 
   -- Round a patch.
   module _ {s e f g : ℕ} (one : IsNextCorner mesh cut s e) (two : IsNextCorner mesh cut e f)
@@ -127,42 +115,36 @@ module _ {mesh : HalfEdges} (laws : IsQuadManifold mesh) {cut : Cut} (full : IsC
       found x (inr (inr (inl is))) = inr (inr (inl (is ∙ sym third)))
       found x (inr (inr (inr is))) = inr (inr (inr (is ∙ sym fourth)))
 
+    -- The grid that stands on the first side.
+    on_first : (h : ℕ) × IsGrid mesh cut w h (grown mesh s)
+    on_first = grid_on mesh laws cut full s w one.1
+
     pub around : (t : ℕ) → IsOneOf s e f g t → AreInOne mesh cut s t
-    around t is = by_grid (grid_on mesh laws cut full s w one.1)
-      where
-        by_grid : (h : ℕ) × IsGrid mesh cut w h (grown mesh s) → AreInOne mesh cut s t
-        by_grid p = linked_in mesh laws cut full w p.0 (grown mesh s) p.1 t (inside p.1 t is)
+    around t is =
+        let p = on_first in
+        linked_in mesh laws cut full w p.0 (grown mesh s) p.1 t (inside p.1 t is)
 
     pub is_one_of : (t : ℕ) → IsCorner mesh cut t → AreInOne mesh cut s t → IsOneOf s e f g t
-    is_one_of t corner a = by_grid (grid_on mesh laws cut full s w one.1)
-      where
-        by_grid : (h : ℕ) × IsGrid mesh cut w h (grown mesh s) → IsOneOf s e f g t
-        by_grid p =
-            found p.1 t (corner_in mesh laws cut full w p.0 (grown mesh s) p.1 t
-            (closed mesh laws cut full w p.0 (grown mesh s) p.1 s t a.0 a.1
-            (first_in mesh laws cut full w p.0 (grown mesh s) p.1)) corner)
+    is_one_of t corner a =
+        let p = on_first in
+        found p.1 t (corner_in mesh laws cut full w p.0 (grown mesh s) p.1 t (closed mesh laws cut full w p.0
+            (grown mesh s) p.1 s t a.0 a.1 (first_in mesh laws cut full w p.0 (grown mesh s) p.1)) corner)
 
     -- They follow each other round: after the fourth comes the first again, and the third is another one.
     pub closes : IsNextCorner mesh cut g s
-    closes = by_grid (grid_on mesh laws cut full s w one.1)
+    closes = by_grid on_first
       where
         by_grid : (h : ℕ) × IsGrid mesh cut w h (grown mesh s) → IsNextCorner mesh cut g s
-        by_grid p = (two.0, side, back)
-          where
-            west : IsWholeSide mesh cut g p.0
-            west = rw (fourth p.1) (west_side mesh laws cut full w p.0 (grown mesh s) p.1)
-
-            side : IsWholeSide mesh cut g (suc two.0)
-            side = rw (tall p.1) west
-
-            back : s ≡ mesh.next (easts mesh g two.0)
-            back = sym (laws.four_sides s) ∙ sym (ap (λ x. mesh.next (easts mesh x two.0)) (fourth p.1)
+        by_grid p =
+            let west : IsWholeSide mesh cut g p.0 =
+                rw (fourth p.1) (west_side mesh laws cut full w p.0 (grown mesh s) p.1) in
+            let side : IsWholeSide mesh cut g (suc two.0) = rw (tall p.1) west in
+            (two.0, side, sym (laws.four_sides s) ∙ sym (ap (λ x. mesh.next (easts mesh x two.0)) (fourth p.1)
                 ∙ ap mesh.next (along_west mesh laws cut full w p.0 (grown mesh s) p.1 two.0 0
-                (omega (arith, tall p.1))))
+                (omega (arith, tall p.1)))))
 
     pub opposite : f ≡ s → ⊥
-    opposite same = by_grid (grid_on mesh laws cut full s w one.1)
-      where
-        by_grid : (h : ℕ) × IsGrid mesh cut w h (grown mesh s) → ⊥
-        by_grid p = never_south mesh laws cut full w p.0 (grown mesh s) p.1 2 0 (w - 1) (p.0 - 1) (omega arith)
-            (omega arith) (omega arith) (last_column p.1) (last_row p.1) (sym same ∙ third p.1)
+    opposite same =
+        let p = on_first in
+        never_south mesh laws cut full w p.0 (grown mesh s) p.1 2 0 (w - 1) (p.0 - 1) (omega arith) (omega arith)
+            (omega arith) (last_column p.1) (last_row p.1) (sym same ∙ third p.1)

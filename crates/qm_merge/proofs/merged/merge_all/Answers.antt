@@ -27,8 +27,7 @@ pub invariant_of-linked : goal.invariant_of-linked
 invariant_of-linked c = record { tied = rw c.new-now.ensures c.loop-name.invariant.tied }
 
 pub place_of-requires : goal.place_of-requires
-place_of-requires c =
-    rw c.new-now.ensures (c.loop-name.invariant.below c.in-Some.name c.in-Some.ensures.member)
+place_of-requires c = rw c.new-now.ensures (c.loop-name.invariant.below c.in-Some.name c.in-Some.ensures.member)
 
 pub may_leave-requires-clause-beside : goal.may_leave-requires-clause-beside
 may_leave-requires-clause-beside c = let b = c.requires.beside in
@@ -53,33 +52,28 @@ loop-name-preserved-in-Continue-branch-3 c =
     let may = rw c.new-now.ensures at c.may_leave.ensures in
     let p = c.in-Some-place_of.ensures in
     let found = rw c.new-now.ensures at p.found in
-    let before = c.loop-name.invariant.reached in
+    let was = c.loop-name.invariant in
+    let rest = c.drop_first.new.cut in
+    let place = c.in-Some-place_of.place in
     record {
       cutting = e.cutting;
       tied = e.tied;
-      reached = (
-        suc before.0,
-        (
-          c.loop-name.cut,
-          before.1,
-          step_taken c.drop_first.new.cut c.loop-name.invariant.cutting c.in-Some-place_of.place found e.long
-              e.without (may_beside c.args.mesh.now c.args.marks.now) (may.0 c.if-may_leave.true)
-              (λ r u m name arc free named. omega (
-                arith,
-                p.named,
-                le_from_not_gt c.in-Some.name name
-                    (c.in-Some.ensures.least name (c.loop-name.invariant.waiting r u m name arc free named).0),
-              )),
-        ),
-      );
+      reached = (suc was.reached.0, (
+        c.loop-name.cut,
+        was.reached.1,
+        step_taken rest was.cutting place found e.long e.without (may_beside c.args.mesh.now c.args.marks.now)
+            (may.0 c.if-may_leave.true) (λ r u m name arc free named. omega (
+              arith,
+              p.named,
+              le_from_not_gt c.in-Some.name name
+                  (c.in-Some.ensures.least name (was.waiting r u m name arc free named).0),
+            )),
+      ));
       waiting = λ s t n name arc free named. e.waiting s t n name arc named (λ old.
-          let w = c.loop-name.invariant.waiting s t n name old
-          (held_law c.args.mesh.now c.args.marks.now c.loop-name.cut c.drop_first.new.cut s t n
-          (less_on c.drop_first.new.cut c.loop-name.invariant.cutting
-          c.in-Some-place_of.place found e.long e.without) free) named in (
+          let w = was.waiting s t n name old (held_law c.args.mesh.now c.args.marks.now c.loop-name.cut rest s t n
+              (less_on rest was.cutting place found e.long e.without) free) named in (
             taken_kept c.loop-name.names c.pop_first.new.self c.in-Some.name c.in-Some.ensures.updates name
-                (λ same. name_gone c.drop_first.new.cut c.loop-name.invariant.cutting
-                c.in-Some-place_of.place found e.long e.without arc named (same ∙ sym p.named)) w.0,
+                (λ same. name_gone rest was.cutting place found e.long e.without arc named (same ∙ sym p.named)) w.0,
             w.1,
           ));
       below = e.below;
@@ -87,70 +81,63 @@ loop-name-preserved-in-Continue-branch-3 c =
 
 pub loop-name-preserved-else-may_leave : goal.loop-name-preserved-else-may_leave
 loop-name-preserved-else-may_leave c =
-    let f = c.loop-name.invariant.cutting in
+    let was = c.loop-name.invariant in
     let may = rw c.new-now.ensures at c.may_leave.ensures in
     let p = c.in-Some-place_of.ensures in
     let found = rw c.new-now.ensures at p.found in
+    let taken = c.in-Some.ensures.updates in
     record {
-      cutting = f;
-      tied = c.loop-name.invariant.tied;
-      reached = c.loop-name.invariant.reached;
+      cutting = was.cutting;
+      tied = was.tied;
+      reached = was.reached;
       waiting = λ s t n name arc free named.
-          let w = c.loop-name.invariant.waiting s t n name arc free named in (
-            taken_kept c.loop-name.names c.pop_first.new.self c.in-Some.name c.in-Some.ensures.updates name (λ same.
+          let w = was.waiting s t n name arc free named in (
+            taken_kept c.loop-name.names c.pop_first.new.self c.in-Some.name taken name (λ same.
                 let start : c.in-Some-place_of.place.start ≡ at c.loop-name.links.starts.items name =
-                cc (p.start, same) in
+                    cc (p.start, same) in
                 let side : (c.in-Some-place_of.place.start ≡ s) ⊎ (c.in-Some-place_of.place.start ≡ t) =
-                elim w.1 [ inl q ↦ inl (start ∙ q) | inr q ↦ inr (start ∙ q) ] in
-                false≢true (sym c.if-may_leave.false ∙ may.1 (seam_free f.laws f.full
+                    elim w.1 [ inl q ↦ inl (start ∙ q) | inr q ↦ inr (start ∙ q) ] in
+                false≢true (sym c.if-may_leave.false ∙ may.1 (seam_free was.cutting.laws was.cutting.full
                 (may_beside c.args.mesh.now c.args.marks.now c.loop-name.cut)
                 (turned_may c.args.mesh.now c.args.marks.now c.loop-name.cut) found arc free side))) w.0,
             w.1,
           );
-      below = taken_below c.loop-name.names c.pop_first.new.self c.in-Some.name c.in-Some.ensures.updates
-          (darts c.args.mesh.now) c.loop-name.invariant.below;
+      below = taken_below c.loop-name.names c.pop_first.new.self c.in-Some.name taken (darts c.args.mesh.now) was.below;
     }
 
 pub loop-name-preserved : goal.loop-name-preserved
-loop-name-preserved c = let f = c.loop-name.invariant.cutting in
+loop-name-preserved c =
+    let was = c.loop-name.invariant in
+    let starts = c.loop-name.links.starts.items in
+    let taken = c.in-Some.ensures.updates in
     record {
-      cutting = f;
-      tied = c.loop-name.invariant.tied;
-      reached = c.loop-name.invariant.reached;
+      cutting = was.cutting;
+      tied = was.tied;
+      reached = was.reached;
       waiting = λ s t n name arc free named.
-          let w = c.loop-name.invariant.waiting s t n name arc free named in (
-            taken_kept c.loop-name.names c.pop_first.new.self c.in-Some.name c.in-Some.ensures.updates name (λ same.
+          let w = was.waiting s t n name arc free named in (
+            taken_kept c.loop-name.names c.pop_first.new.self c.in-Some.name taken name (λ same.
                 let start : at c.loop-name.links.starts.items c.in-Some.name ≡ at c.loop-name.links.starts.items name =
-                cc same in
-                let side : (at c.loop-name.links.starts.items c.in-Some.name ≡ s)
-                ⊎ (at c.loop-name.links.starts.items c.in-Some.name ≡ t) =
-                elim w.1 [ inl q ↦ inl (start ∙ q) | inr q ↦ inr (start ∙ q) ] in
-                none_named f.laws f.full
-                (at c.loop-name.links.starts.items c.in-Some.name)
-                (rw c.new-now.ensures at c.in_default-place_of.ensures.none)
-                arc (rw (← same) named) side) w.0,
+                    cc same in
+                none_named was.cutting.laws was.cutting.full (at starts c.in-Some.name)
+                    (rw c.new-now.ensures at c.in_default-place_of.ensures.none) arc (rw (← same) named)
+                    (elim w.1 [ inl q ↦ inl (start ∙ q) | inr q ↦ inr (start ∙ q) ])) w.0,
             w.1,
           );
-      below = taken_below c.loop-name.names c.pop_first.new.self c.in-Some.name c.in-Some.ensures.updates
-          (darts c.args.mesh.now) c.loop-name.invariant.below;
+      below = taken_below c.loop-name.names c.pop_first.new.self c.in-Some.name taken (darts c.args.mesh.now) was.below;
     }
 
 pub returns-clause-merged : goal.returns-clause-merged
-returns-clause-merged c = record {
-  steps = c.loop-name.invariant.reached.0;
-  reached = c.loop-name.invariant.reached.1;
-  merged = λ s t n arc free. named s t n arc free (name_there (half_edges c.args.mesh.now) s t n arc.glued.near.some);
-}
-  where
-    none : length c.loop-name.names.keys ≡ 0
-    none = elim (cases_lt 0 (length c.loop-name.names.keys))
-        [ inl some ↦ absurd (false≢true (c.in_default.ensures.variant.1 some)) | inr few ↦ omega (arith, few) ]
-
-    named : (s t n : ℕ) → IsJoinable (half_edges c.args.mesh.now) (is_on c.loop-name.cut) s t n
-        → may_beside c.args.mesh.now c.args.marks.now c.loop-name.cut s t n ≡ true → (name : ℕ)
-        × IsNameOf (half_edges c.args.mesh.now) s t n name → ⊥
-    named s t n arc free m = none_waits c.loop-name.names m.0 none
-        (c.loop-name.invariant.waiting s t n m.0 arc free m.1).0
+returns-clause-merged c =
+    let none : length c.loop-name.names.keys ≡ 0 = elim (cases_lt 0 (length c.loop-name.names.keys))
+        [ inl some ↦ absurd (false≢true (c.in_default.ensures.variant.1 some)) | inr few ↦ omega (arith, few) ] in
+    record {
+      steps = c.loop-name.invariant.reached.0;
+      reached = c.loop-name.invariant.reached.1;
+      merged = λ s t n arc free.
+          let m = name_there (half_edges c.args.mesh.now) s t n arc.glued.near.some in
+          none_waits c.loop-name.names m.0 none (c.loop-name.invariant.waiting s t n m.0 arc free m.1).0;
+    }
 
 pub returns-clause-keeps : goal.returns-clause-keeps
 returns-clause-keeps c = let b = c.requires.beside in

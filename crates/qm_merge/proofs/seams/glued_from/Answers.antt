@@ -42,9 +42,8 @@ returns-then-is_cut-clause-found c =
     let e : c.min-name.result ≡ least_of_three c.loop-n.name c.loop-n.d c.in-Some.twin =
     cc (c.min-name.ensures, c.min.ensures) in
     record {
-      glued = glued_done f.laws f.full c.requires.corner i.at i.inside
-          (glued_more (is_on c.args.cut.now.marks) i.at tw leads i.glued) tw on
-          (cc (c.prev.ensures.value, c.is_cut-then-is_cut.ensures, c.if-not-is_cut.false));
+      glued = glued_done f.laws f.full c.requires.corner i.at i.inside (glued_more (is_on c.args.cut.now.marks) i.at tw
+          leads i.glued) tw on (cc (c.prev.ensures.value, c.is_cut-then-is_cut.ensures, c.if-not-is_cut.false));
       named = rw e (name_done f.laws f.full c.requires.corner i.at i.inside
           (name_more (is_on c.args.cut.now.marks) i.at tw leads i.named));
     }
