@@ -104,6 +104,5 @@ twin_differs faces free d e l is same = ends_differ faces free d l (sym (ap (fro
 pub step_once : (faces : Faces) → HasEdgesOnce faces → (left : Bool) (d e k : ℕ) → d < darts faces → e < darts faces
     → k < darts faces → Step faces left d e → Step faces left d k → e ≡ k
 step_once faces once true d e k l m h s t = once e k m h (s.1 ∙ sym t.1, s.2 ∙ sym t.2)
-step_once faces once false d e k l m h s t =
-    sym (next_of-prev_of e) ∙ ap next_of (once (prev_of e) (prev_of k) (prev_of_low faces e m) (prev_of_low faces k h)
-    (sym s.2 ∙ t.2, sym s.1 ∙ t.1)) ∙ next_of-prev_of k
+step_once faces once false d e k l m h s t = sym (next_of-prev_of e) ∙ ap next_of (once (prev_of e) (prev_of k)
+    (prev_of_low faces e m) (prev_of_low faces k h) (sym s.2 ∙ t.2, sym s.1 ∙ t.1)) ∙ next_of-prev_of k

@@ -1,7 +1,7 @@
 -- The flood of a component is exact: it marks just the faces to which chains of shared edges lead.
 use Rattle.std.proofs.Common.{◌≡◌, ◌⊎◌, ℕ, zero, suc, ◌+◌, ◌*◌, ◌<◌, ◌≤◌, Bool, true, false, not, cond, eqb, ◌&&◌, ◌||◌}
 use Rattle.std.proofs.Common.{map, length, sym, subst, ap, ◌∙◌, refl, inl, inr, arith}
-use Rattle.std.proofs.lemmas.Bool.{eq-eqb, eqb-true, cases_Bool, cases_lt, or_left, or_right, or_cases, and_parts}
+use Rattle.std.proofs.lemmas.Bool.{not-true, eq-eqb, eqb-true, cases_Bool, cases_lt, or_left, or_right, or_cases, and_parts}
 use Rattle.std.proofs.lemmas.Bool.{and_from, false≢true, not_from_false}
 use Rattle.std.proofs.lemmas.List.{length-map}
 use Rattle.std.proofs.lemmas.List.FromFn.{length-range_with_len, get_or-map-range_with_len}
@@ -24,29 +24,26 @@ Shares faces f g (suc n) = (h : ℕ) × Shares faces f h n × (h < length faces)
 -- Faces share an edge both ways.
 pub share_back : (faces : Faces) (f g : ℕ) → share_edge faces f g ≡ true → share_edge faces g f ≡ true
 share_back faces f g s =
-    let d : (d : ℕ) × (4 * f ≤ d) × (d < 4 * f + 4) × (list_any (is_reverse faces d) (range_with_len (4 * g) 4)
-    ≡ true) = range_any (λ d. list_any (is_reverse faces d) (range_with_len (4 * g) 4)) (4 * f) 4 s in
-    by_dart d.0 d.1 d.2 (range_any (is_reverse faces d.0) (4 * g) 4 d.3)
-  where
-    by_dart : (d : ℕ) → 4 * f ≤ d → d < 4 * f + 4 → (e : ℕ) × (4 * g ≤ e) × (e < 4 * g + 4)
-        × (is_reverse faces d e ≡ true) → share_edge faces g f ≡ true
-    by_dart d l h (e, m, k, r) =
-        let p : (eqb (from_of faces e) (to_of faces d) ≡ true) × (eqb (to_of faces e) (from_of faces d) ≡ true) =
-        and_parts _ _ r in
-        any_in_range (λ x. list_any (is_reverse faces x) (range_with_len (4 * f) 4)) (4 * g) 4 e m k
-        (any_in_range (is_reverse faces e) (4 * f) 4 d l h (and_from _ _ (eq-eqb _ _ (sym (eqb-true _ _ p.1)))
-        (eq-eqb _ _ (sym (eqb-true _ _ p.0)))))
+    let p = range_any (λ d. list_any (is_reverse faces d) (range_with_len (4 * g) 4)) (4 * f) 4 s in
+    let d = p.0 in
+    let q = range_any (is_reverse faces d) (4 * g) 4 p.3 in
+    let e = q.0 in
+    let r = and_parts (eqb (from_of faces e) (to_of faces d)) (eqb (to_of faces e) (from_of faces d)) q.3 in
+    any_in_range (λ x. list_any (is_reverse faces x) (range_with_len (4 * f) 4)) (4 * g) 4 e q.1 q.2
+        (any_in_range (is_reverse faces e) (4 * f) 4 d p.1 p.2 (and_from _ _ (eq-eqb _ _ (sym (eqb-true _ _ r.1)))
+        (eq-eqb _ _ (sym (eqb-true _ _ r.0)))))
 
 module _ (faces : Faces) where
   pub shares_join : (f g h n m : ℕ) → Shares faces f g n → Shares faces g h m → (k : ℕ) × Shares faces f h k
   shares_join f g h n zero a b = (n, subst (λ (x : ℕ). Shares faces f x n) b a)
-  shares_join f g h n (suc m) a b = let j : (k : ℕ) × Shares faces f b.0 k = shares_join f g b.0 n m a b.1 in
+  shares_join f g h n (suc m) a b =
+      let j = shares_join f g b.0 n m a b.1 in
       (suc j.0, (b.0, j.1, b.2, b.3, b.4))
 
   pub shares_back : (f g n : ℕ) → f < length faces → Shares faces f g n → (k : ℕ) × Shares faces g f k
   shares_back f g zero l s = (0, sym s)
   shares_back f g (suc n) l s =
-      let b : (k : ℕ) × Shares faces s.0 f k = shares_back f s.0 n l s.1 in
+      let b = shares_back f s.0 n l s.1 in
       shares_join g s.0 f 1 b.0 (g, refl, s.3, s.2, share_back faces s.0 g s.4) b.1
 
   -- What the marks of a round are, by those of the round before.
@@ -68,29 +65,29 @@ module _ (faces : Faces) where
 
   reaches : (f k h g : ℕ) → h < length faces → g < length faces → mark f k h ≡ true → share_edge faces h g ≡ true
       → mark f (suc k) g ≡ true
-  reaches f k h g lh lg m s =
-      next_mark f k g lg ∙ or_right _ _ (any_in_range (λ x. mark f k x && share_edge faces x g) 0 (length faces) h
-      (omega arith) (omega arith) (and_from _ _ m s))
+  reaches f k h g lh lg m s = next_mark f k g lg ∙ or_right _ _ (any_in_range (λ x. mark f k x && share_edge faces x g)
+      0 (length faces) h (omega arith) (omega arith) (and_from _ _ m s))
+
+  next_from : (f k g : ℕ) → g < length faces → mark f (suc k) g ≡ true → (mark f k g ≡ true)
+      ⊎ ((h : ℕ) × (h < length faces) × (mark f k h ≡ true) × (share_edge faces h g ≡ true))
+  next_from f k g l m = elim (or_cases _ _ (sym (next_mark f k g l) ∙ m)) [
+    | inl old ↦ inl old
+    | inr new ↦
+      let h = range_any (λ h. mark f k h && share_edge faces h g) 0 (length faces) new in
+      let p = and_parts (mark f k h.0) (share_edge faces h.0 g) h.3 in
+      inr (h.0, omega (arith, h.2), p.0, p.1)
+  ]
 
   -- Each mark has a chain.
   pub sound : (f k g : ℕ) → f < length faces → g < length faces → is_marked (within faces f k) g ≡ true
       → (n : ℕ) × Shares faces f g n
   sound f zero g lf lg m = (0, sym (eqb-true g f (sym (first_mark f g lg) ∙ m)))
-  sound f (suc k) g lf lg m = by_last (or_cases _ _ (sym (next_mark f k g lg) ∙ m)) (sound f k)
-    where
-      by_last : (mark f k g ≡ true) ⊎ (list_any (λ h. mark f k h && share_edge faces h g) (all_faces faces) ≡ true)
-          → ((h : ℕ) → f < length faces → h < length faces → mark f k h ≡ true → (n : ℕ) × Shares faces f h n)
-          → (n : ℕ) × Shares faces f g n
-      by_last (inl old) rest = rest g lf lg old
-      by_last (inr new) rest = at (range_any (λ h. mark f k h && share_edge faces h g) 0 (length faces) new)
-        where
-          at : (h : ℕ) × (0 ≤ h) × (h < 0 + length faces) × ((mark f k h && share_edge faces h g) ≡ true)
-              → (n : ℕ) × Shares faces f g n
-          at (h, l, u, t) =
-              let p : (mark f k h ≡ true) × (share_edge faces h g ≡ true) = and_parts _ _ t in
-              let low : h < length faces = omega arith in
-              let c : (n : ℕ) × Shares faces f h n = rest h lf low p.0 in
-              (suc c.0, (h, c.1, low, lg, p.1))
+  sound f (suc k) g lf lg m =
+      let rest = sound f k in
+      elim (next_from f k g lg m) [
+        | inl old ↦ rest g lf lg old
+        | inr h ↦ let c = rest h.0 lf h.1 h.2 in (suc c.0, (h.0, c.1, h.1, lg, h.3))
+      ]
 
   -- A round that marks nothing new is the last, and each round before it marks a face more.
   abbrev size : (f k : ℕ) → ℕ
@@ -100,19 +97,8 @@ module _ (faces : Faces) where
   IsStable f k = (g : ℕ) → g < length faces → mark f (suc k) g ≡ true → mark f k g ≡ true
 
   stays_stable : (f k : ℕ) → IsStable f k → IsStable f (suc k)
-  stays_stable f k stable g l m = by_last (or_cases _ _ (sym (next_mark f (suc k) g l) ∙ m))
-    where
-      by_last : (mark f (suc k) g ≡ true) ⊎ (list_any (λ h. mark f (suc k) h && share_edge faces h g) (all_faces faces)
-          ≡ true) → mark f (suc k) g ≡ true
-      by_last (inl old) = old
-      by_last (inr new) = at (range_any (λ h. mark f (suc k) h && share_edge faces h g) 0 (length faces) new)
-        where
-          at : (h : ℕ) × (0 ≤ h) × (h < 0 + length faces) × ((mark f (suc k) h && share_edge faces h g) ≡ true)
-              → mark f (suc k) g ≡ true
-          at (h, low, u, t) =
-              let p : (mark f (suc k) h ≡ true) × (share_edge faces h g ≡ true) = and_parts _ _ t in
-              let lh : h < length faces = omega arith in
-              reaches f k h g lh l (stable h lh p.0) p.1
+  stays_stable f k stable g l m = elim (next_from f (suc k) g l m)
+      [ inl old ↦ old | inr h ↦ reaches f k h.0 g h.1 l (stable h.0 h.1 h.2) h.3 ]
 
   more_at : (b c : Bool) → (b ≡ true → c ≡ true) → cond b 1 0 ≤ cond c 1 0
   more_at b c f = grind (arith)
@@ -128,55 +114,40 @@ module _ (faces : Faces) where
         count_below_lt (λ g. 0) (λ g. cond (mark f 0 g) 1 0) (length faces) f lf (λ k l. omega arith)
             (one_more false (mark f 0 f) refl (first_mark f f lf ∙ eq-eqb f f refl)),
       ))
-  stable_or_more f (suc k) lf = by_before (stable_or_more f k lf)
-    where
-      by_search : suc k ≤ size f k → (list_any (λ g. mark f (suc k) g && not (mark f k g)) (all_faces faces) ≡ true)
-          ⊎ (list_any (λ g. mark f (suc k) g && not (mark f k g)) (all_faces faces) ≡ false) → IsStable f (suc k)
-          ⊎ (suc (suc k) ≤ size f (suc k))
-      by_search big (inl new) = at (range_any (λ g. mark f (suc k) g && not (mark f k g)) 0 (length faces) new)
-        where
-          unmarked : (b : Bool) → not b ≡ true → b ≡ false
-          unmarked b e = grind (arith)
-
-          at : (g : ℕ) × (0 ≤ g) × (g < 0 + length faces) × ((mark f (suc k) g && not (mark f k g)) ≡ true)
-              → IsStable f (suc k) ⊎ (suc (suc k) ≤ size f (suc k))
-          at (g, l, u, t) =
-              let p : (mark f (suc k) g ≡ true) × (not (mark f k g) ≡ true) = and_parts _ _ t in
-              let less : size f k < size f (suc k) =
-              count_below_lt (λ h. cond (mark f k h) 1 0) (λ h. cond (mark f (suc k) h) 1 0) (length faces) g
-              (omega arith) (λ h lh. more_at (mark f k h) (mark f (suc k) h) (grows f k h lh))
-              (one_more (mark f k g) (mark f (suc k) g) (unmarked (mark f k g) p.1) p.0) in
-              inr (omega arith)
-      by_search big (inr none) = inl (stays_stable f k (λ g l m. at g l m (cases_Bool (mark f k g))))
-        where
-          at : (g : ℕ) → g < length faces → mark f (suc k) g ≡ true → (mark f k g ≡ true) ⊎ (mark f k g ≡ false)
-              → mark f k g ≡ true
-          at g l m (inl y) = y
-          at g l m (inr off) = absurd
-              (false≢true (sym none ∙ any_in_range (λ h. mark f (suc k) h && not (mark f k h)) 0 (length faces) g
-              (omega arith) (omega arith) (and_from _ _ m (not_from_false _ off))))
-
-      by_before : IsStable f k ⊎ (suc k ≤ size f k) → IsStable f (suc k) ⊎ (suc (suc k) ≤ size f (suc k))
-      by_before (inl stable) = inl (stays_stable f k stable)
-      by_before (inr big) = by_search big
-          (cases_Bool (list_any (λ g. mark f (suc k) g && not (mark f k g)) (all_faces faces)))
+  stable_or_more f (suc k) lf =
+      let before = stable_or_more f k lf in
+      let is_new = λ (g : ℕ). mark f (suc k) g && not (mark f k g) in
+      elim before [
+        | inl stable ↦ inl (stays_stable f k stable)
+        | inr big ↦ elim (cases_Bool (list_any is_new (all_faces faces))) [
+          | inl new ↦
+            let g = range_any is_new 0 (length faces) new in
+            let p = and_parts (mark f (suc k) g.0) (not (mark f k g.0)) g.3 in
+            let less : size f k < size f (suc k) = count_below_lt (λ h. cond (mark f k h) 1 0) (λ h. cond (mark f
+                (suc k) h) 1 0) (length faces) g.0 (omega (arith, g.2)) (λ h lh. more_at (mark f k h) (mark f (suc k) h)
+                (grows f k h lh)) (one_more (mark f k g.0) (mark f (suc k) g.0) (not-true (mark f k g.0) p.1) p.0) in
+            inr (omega arith)
+          | inr none ↦ inl (stays_stable f k (λ g l m. elim (cases_Bool (mark f k g)) [
+            | inl y ↦ y
+            | inr off ↦ absurd (false≢true (sym none ∙ any_in_range is_new 0 (length faces) g (omega arith) (omega arith)
+                (and_from _ _ m (not_from_false _ off))))
+          ]))
+        ]
+      ]
 
   -- The component is closed.
   pub closed : (f h g : ℕ) → f < length faces → h < length faces → g < length faces → is_marked (component_of faces f) h
       ≡ true → share_edge faces h g ≡ true → is_marked (component_of faces f) g ≡ true
-  closed f h g lf lh lg m s = by_round (stable_or_more f (length faces) lf)
-    where
-      by_round : IsStable f (length faces) ⊎ (suc (length faces) ≤ size f (length faces)) → mark f (length faces) g
-          ≡ true
-      by_round (inl stable) = stable g lg (reaches f (length faces) h g lh lg m s)
-      by_round (inr big) = absurd
-          (omega (
-            arith,
-            big,
-            count_below_le (λ x. cond (mark f (length faces) x) 1 0) (λ x. 1) (length faces)
-                (λ x l. once_at_most (mark f (length faces) x)),
-            count_below_ones (length faces),
-          ))
+  closed f h g lf lh lg m s = elim (stable_or_more f (length faces) lf) [
+    | inl stable ↦ stable g lg (reaches f (length faces) h g lh lg m s)
+    | inr big ↦ absurd (omega (
+      arith,
+      big,
+      count_below_le (λ x. cond (mark f (length faces) x) 1 0) (λ x. 1) (length faces)
+          (λ x l. once_at_most (mark f (length faces) x)),
+      count_below_ones (length faces),
+    ))
+  ]
 
   -- It has its own face, and each to which a chain leads.
   own : (f k : ℕ) → f < length faces → mark f k f ≡ true
@@ -200,19 +171,17 @@ module _ (faces : Faces) where
   pub same_component : (f g : ℕ) → f < length faces → g < length faces → is_marked (component_of faces f) g ≡ true
       → component_of faces g ≡ component_of faces f
   same_component f g lf lg m =
-      let there : (n : ℕ) × Shares faces f g n = sound f (length faces) g lf lg m in
-      let back : (n : ℕ) × Shares faces g f n = shares_back f g there.0 lf there.1 in
-      marks_are g (length faces)
-      ∙ (map_range_same (mark g (length faces)) (mark f (length faces)) 0 (length faces)
-      (λ x l h. same_test _ _ (one_way f g there.0 lf lg there.1 x (omega arith))
-      (one_way g f back.0 lg lf back.1 x (omega arith))) ∙ sym (marks_are f (length faces)))
-    where
-      one_way : (f g n : ℕ) → f < length faces → g < length faces → Shares faces f g n → (x : ℕ) → x < length faces
-          → mark g (length faces) x ≡ true → mark f (length faces) x ≡ true
-      one_way f g n lf lg s x lx m =
-          let c : (k : ℕ) × Shares faces g x k = sound g (length faces) x lg lx m in
-          let j : (k : ℕ) × Shares faces f x k = shares_join f g x n c.0 s c.1 in
-          complete f x j.0 lf j.1
+      let last = length faces in
+      let there = sound f last g lf lg m in
+      let back = shares_back f g there.0 lf there.1 in
+      let one_way : (f g n : ℕ) → f < length faces → g < length faces → Shares faces f g n → (x : ℕ) → x < length faces
+          → mark g (length faces) x ≡ true → mark f (length faces) x ≡ true = λ f g n lf lg s x lx m.
+            let c = sound g last x lg lx m in
+            let j = shares_join f g x n c.0 s c.1 in
+            complete f x j.0 lf j.1 in
+      marks_are g last ∙ (map_range_same (mark g last) (mark f last) 0 last (λ x l h. same_test _ _
+          (one_way f g there.0 lf lg there.1 x (omega arith)) (one_way g f back.0 lg lf back.1 x (omega arith)))
+          ∙ sym (marks_are f last))
 
   -- The least face of a component.
   marks_long : (f : ℕ) → length (component_of faces f) ≡ length faces

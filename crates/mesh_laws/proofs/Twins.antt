@@ -19,9 +19,8 @@ twin_found faces once d e is = find_one (is_reverse faces d) 0 (darts faces) e (
     once y e t.0 is.0 (t.1 ∙ sym is.1, t.2 ∙ sym is.2))
 
 pub twin_none : (faces : Faces) (d : ℕ) → ((e : ℕ) → ¬ IsTwin faces d e) → twin_of faces d ≡ None
-twin_none faces d none =
-    find_none (is_reverse faces d) 0 (darts faces) (λ x l h. false_from_ne_true (is_reverse faces d x)
-    (λ r. none x (reverse_twin faces d x (omega arith) r)))
+twin_none faces d none = find_none (is_reverse faces d) 0 (darts faces)
+    (λ x l h. false_from_ne_true (is_reverse faces d x) (λ r. none x (reverse_twin faces d x (omega arith) r)))
 
 -- What is told to be the twin has the ends exchanged.
 pub twin_is : (faces : Faces) (d e : ℕ) → twin_of faces d ≡ Some e → IsTwin faces d e
