@@ -29,15 +29,14 @@ pub any_where : (p : ℕ → Bool) (ds : List ℕ) → list_any p ds ≡ true �
 any_where p [] t = absurd (false≢true t)
 any_where p (e ∷ ds) t = elim (or_cases _ _ t) [
   | inl a ↦ (e, among_here e e ds refl, a)
-  | inr b ↦ let r : (d : ℕ) × (is_among d ds ≡ true) × (p d ≡ true) = any_where p ds b in
-      (r.0, among_later r.0 e ds r.1, r.2)
+  | inr b ↦ let r = any_where p ds b in (r.0, among_later r.0 e ds r.1, r.2)
 ]
 
 -- A test that all of a list pass, or that one does not.
 pub all_at : (p : ℕ → Bool) (d : ℕ) (ds : List ℕ) → list_all p ds ≡ true → is_among d ds ≡ true → p d ≡ true
 all_at p d [] all m = absurd (false≢true m)
 all_at p d (e ∷ ds) all m =
-    let b : (p e ≡ true) × (list_all p ds ≡ true) = and_parts _ _ all in
+    let b = and_parts (p e) (list_all p ds) all in
     elim (or_cases _ _ m) [ inl s ↦ ap p (eqb-true d e s) ∙ b.0 | inr k ↦ all_at p d ds b.1 k ]
 
 pub not_all : (p : ℕ → Bool) (ds : List ℕ) → list_all p ds ≡ false → (d : ℕ) × (is_among d ds ≡ true) × (p d ≡ false)
@@ -47,8 +46,7 @@ not_all p (e ∷ ds) off = at (p e) refl off (not_all p ds)
     at : (b : Bool) → p e ≡ b → (b && list_all p ds) ≡ false → (list_all p ds ≡ false → (d : ℕ) × (is_among d ds ≡ true)
         × (p d ≡ false)) → (d : ℕ) × (is_among d (e ∷ ds) ≡ true) × (p d ≡ false)
     at false is off rest = (e, among_here e e ds refl, is)
-    at true is off rest = let r : (d : ℕ) × (is_among d ds ≡ true) × (p d ≡ false) = rest off in
-        (r.0, among_later r.0 e ds r.1, r.2)
+    at true is off rest = let r = rest off in (r.0, among_later r.0 e ds r.1, r.2)
 
 -- What stands among a filter.
 pub in_filter : (p : ℕ → Bool) (d : ℕ) (ds : List ℕ) → is_among d ds ≡ true → p d ≡ true → is_among d (filter p ds)
@@ -74,9 +72,9 @@ from_filter p d (e ∷ ds) m = at (p e) refl m (from_filter p d ds)
         × (p d ≡ true)
     at true k m rest = elim (among_cases d e (filter p ds) m) [
       | inl s ↦ (among_here d e ds s, ap p s ∙ k)
-      | inr r ↦ let q : (is_among d ds ≡ true) × (p d ≡ true) = rest r in (among_later d e ds q.0, q.1)
+      | inr r ↦ (among_later d e ds (rest r).0, (rest r).1)
     ]
-    at false k m rest = let q : (is_among d ds ≡ true) × (p d ≡ true) = rest m in (among_later d e ds q.0, q.1)
+    at false k m rest = (among_later d e ds (rest m).0, (rest m).1)
 
 -- No dart stands there twice.
 abbrev pub AreApart : (darts : List ℕ) → Type 0
@@ -88,11 +86,7 @@ apart_filter p [] a = tt
 apart_filter p (e ∷ ds) a = at (p e) (apart_filter p ds a.1)
   where
     at : (b : Bool) → AreApart (filter p ds) → AreApart (cond b (e ∷ filter p ds) (filter p ds))
-    at true rest = (
-      false_from_ne_true _ (λ m. let q : (is_among e ds ≡ true) × (p e ≡ true) = from_filter p e ds m in
-          false≢true (sym a.0 ∙ q.0)),
-      rest,
-    )
+    at true rest = (false_from_ne_true _ (λ m. false≢true (sym a.0 ∙ (from_filter p e ds m).0)), rest)
     at false rest = rest
 
 -- What stands among a range.
@@ -100,13 +94,11 @@ pub among_range : (a n d : ℕ) → a ≤ d → d < a + n → is_among d (range_
 among_range a n d l h = any_in_range (λ e. eqb d e) a n d l h (eq-eqb d d refl)
 
 pub range_among : (a n d : ℕ) → is_among d (range_with_len a n) ≡ true → (a ≤ d) × (d < a + n)
-range_among a n d m = let r : (x : ℕ) × (a ≤ x) × (x < a + n) × (eqb d x ≡ true) = range_any (λ e. eqb d e) a n m in
+range_among a n d m =
+    let r = range_any (λ e. eqb d e) a n m in
     (omega (arith, eqb-true d r.0 r.3, r.1), omega (arith, eqb-true d r.0 r.3, r.2))
 
 pub range_apart : (a : ℕ) (n : ℕ) → AreApart (range_with_len a n)
 range_apart a zero = tt
-range_apart a (suc n) = (
-  false_from_ne_true _ (λ m. let r : (a + 1 ≤ a) × (a < a + 1 + n) = range_among (a + 1) n a m in
-      absurd (omega (arith, r.0))),
-  range_apart (a + 1) n,
-)
+range_apart a (suc n) =
+    (false_from_ne_true _ (λ m. absurd (omega (arith, (range_among (a + 1) n a m).0))), range_apart (a + 1) n)

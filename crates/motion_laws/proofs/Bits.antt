@@ -1,6 +1,6 @@
 -- Who goes on at a vertex with four faces, told by two bits: the rider by d, where neither the rider to whom it gives
 -- way arrives nor the one from the opposite side.
-use Rattle.std.proofs.Common.{◌≡◌, ◌≢◌, ◌⊎◌, ℕ, ◌<◌, Bool, true, false, not, eqb, ◌&&◌, ◌||◌, List, [], ◌∷◌, sym, ap}
+use Rattle.std.proofs.Common.{◌≡◌, ◌≢◌, ◌⊎◌, ℕ, suc, ◌+◌, ◌<◌, Bool, true, false, not, eqb, ◌&&◌, ◌||◌, List, [], ◌∷◌, sym, ap}
 use Rattle.std.proofs.Common.{◌∙◌, refl, inl, inr, arith}
 use Rattle.std.proofs.Math.Bool.{or-false}
 use Rattle.std.proofs.lemmas.Bool.{eq-eqb, ne_eqb, false≢true}
@@ -81,10 +81,9 @@ module _ (g : Terrain) (d p q r : ℕ) (round : AreRound g d p q r) where
   off_by : (ds : List ℕ) (x : ℕ) → is_among x ds ≡ true → (x ≡ p) ⊎ (x ≡ q)
       → false ≡ (not (is_among p ds) && not (is_among q ds))
   off_by ds x m (inl e) = rw (ap (λ k. is_among k ds) (sym e) ∙ m) refl
-  off_by ds x m (inr e) = rw (ap (λ k. is_among k ds) (sym e) ∙ m) (by_test (is_among p ds))
-    where
-      by_test : (b : Bool) → false ≡ (not b && false)
-      by_test = elim [ true ↦ refl | false ↦ refl ]
+  off_by ds x m (inr e) =
+      let by_test : (b : Bool) → false ≡ (not b && false) = elim [ true ↦ refl | false ↦ refl ] in
+      rw (ap (λ k. is_among k ds) (sym e) ∙ m) (by_test (is_among p ds))
 
   differ : (x y : ℕ) (ds : List ℕ) → is_among x ds ≡ false → is_among y ds ≡ true → x ≢ y
   differ x y ds off on e = false≢true (sym off ∙ (ap (λ k. is_among k ds) e ∙ on))
@@ -127,10 +126,8 @@ module _ (g : Terrain) (d p q r : ℕ) (round : AreRound g d p q r) where
       by_sides (inr a) (inr b) (inl c) = off_by (x ∷ y ∷ z ∷ more) z in_z c
       by_sides (inr a) (inr b) (inr c) = absurd (elim (two_same x y z a b c) [
         | inl e ↦ differ x y (y ∷ z ∷ more) apart.0 (among_here y y (z ∷ more) refl) e
-        | inr o ↦ elim o [
-          | inl e ↦ differ x z (y ∷ z ∷ more) apart.0 (among_later z y (z ∷ more) (among_here z z more refl)) e
-          | inr e ↦ differ y z (z ∷ more) apart.1.0 (among_here z z more refl) e
-        ]
+        | inr (inl e) ↦ differ x z (y ∷ z ∷ more) apart.0 (among_later z y (z ∷ more) (among_here z z more refl)) e
+        | inr (inr e) ↦ differ y z (z ∷ more) apart.1.0 (among_here z z more refl) e
       ])
 
 module _ (g : Terrain) (laws : IsQuadManifold g.half) where
@@ -138,22 +135,21 @@ module _ (g : Terrain) (laws : IsQuadManifold g.half) where
   pub round_of : (d a b c : ℕ) → d < g.half.count → IsCross g.half (g.half.next d) a b c
       → AreRound g d (g.half.prev a) (g.half.prev b) (g.half.prev c)
   round_of d a b c low x = record {
-    d_p = λ e. ne 0 1 (omega arith) (omega arith) (omega arith) (ap g.half.next e ∙ laws.next_prev a);
-    d_q = λ e. ne 0 2 (omega arith) (omega arith) (omega arith) (ap g.half.next e ∙ laws.next_prev b);
-    d_r = λ e. ne 0 3 (omega arith) (omega arith) (omega arith) (ap g.half.next e ∙ laws.next_prev c);
-    p_q = λ e. ne 1 2 (omega arith) (omega arith) (omega arith) (over a b e);
-    p_r = λ e. ne 1 3 (omega arith) (omega arith) (omega arith) (over a c e);
-    q_r = λ e. ne 2 3 (omega arith) (omega arith) (omega arith) (over b c e);
-    p_d = ap (λ t. is_twin t (g.half.next d)) x.second
-        ∙ ne_eqb b (g.half.next d) (λ e. ne 0 2 (omega arith) (omega arith) (omega arith) (sym e));
-    q_d = ap (λ t. is_twin t (g.half.next d)) x.third
-        ∙ ne_eqb c (g.half.next d) (λ e. ne 0 3 (omega arith) (omega arith) (omega arith) (sym e));
+    d_p = λ e. ne 0 0 (omega arith) (ap g.half.next e ∙ laws.next_prev a);
+    d_q = λ e. ne 0 1 (omega arith) (ap g.half.next e ∙ laws.next_prev b);
+    d_r = λ e. ne 0 2 (omega arith) (ap g.half.next e ∙ laws.next_prev c);
+    p_q = λ e. ne 1 0 (omega arith) (over a b e);
+    p_r = λ e. ne 1 1 (omega arith) (over a c e);
+    q_r = λ e. ne 2 0 (omega arith) (over b c e);
+    p_d = ap (λ t. is_twin t (g.half.next d)) x.second ∙ ne_eqb b (g.half.next d) (λ e. ne 0 1 (omega arith) (sym e));
+    q_d = ap (λ t. is_twin t (g.half.next d)) x.third ∙ ne_eqb c (g.half.next d) (λ e. ne 0 2 (omega arith) (sym e));
     r_d = ap (λ t. is_twin t (g.half.next d)) x.last ∙ eq-eqb (g.half.next d) (g.half.next d) refl;
   }
     where
-      ne : (i j : ℕ) → i < 4 → j < 4 → i < j → of_four (g.half.next d) a b c i ≡ of_four (g.half.next d) a b c j → ⊥
-      ne i j li lj less e = let s : i ≡ j = four_apart g.half laws (g.half.next d) a b c (laws.next_low d low) x i j li
-          lj e in absurd (omega arith)
+      ne : (i k : ℕ) → suc (i + k) < 4 → of_four (g.half.next d) a b c i ≡ of_four (g.half.next d) a b c (suc (i + k)) → ⊥
+      ne i k l e =
+          let s = four_apart g.half laws (g.half.next d) a b c (laws.next_low d low) x i (suc (i + k)) (omega arith) l e in
+          omega (arith, s)
 
       over : (x y : ℕ) → g.half.prev x ≡ g.half.prev y → x ≡ y
       over x y e = sym (laws.next_prev x) ∙ (ap g.half.next e ∙ laws.next_prev y)
@@ -161,15 +157,12 @@ module _ (g : Terrain) (laws : IsQuadManifold g.half) where
   -- Each dart that arrives there is one of the four.
   pub of_round : (d a b c : ℕ) → d < g.half.count → IsCross g.half (g.half.next d) a b c → (e : ℕ) → e < g.half.count
       → end_of g e ≡ end_of g d → IsOfFour d (g.half.prev a) (g.half.prev b) (g.half.prev c) e
-  of_round d a b c low x e l s = by_one (one_of_four g.half laws (g.half.next d) a b c (laws.next_low d low) x
-      (g.half.next e) (record { low = laws.next_low e l; at = s }))
-    where
-      back : (y : ℕ) → g.half.next e ≡ y → e ≡ g.half.prev y
-      back y k = sym (laws.prev_next e) ∙ ap g.half.prev k
-
-      by_one : (g.half.next e ≡ g.half.next d) ⊎ ((g.half.next e ≡ a) ⊎ ((g.half.next e ≡ b) ⊎ (g.half.next e ≡ c)))
-          → IsOfFour d (g.half.prev a) (g.half.prev b) (g.half.prev c) e
-      by_one (inl k) = inl (back (g.half.next d) k ∙ laws.prev_next d)
-      by_one (inr (inl k)) = inr (inl (back a k))
-      by_one (inr (inr (inl k))) = inr (inr (inl (back b k)))
-      by_one (inr (inr (inr k))) = inr (inr (inr (back c k)))
+  of_round d a b c low x e l s =
+      let back : (y : ℕ) → g.half.next e ≡ y → e ≡ g.half.prev y = λ y k. sym (laws.prev_next e) ∙ ap g.half.prev k in
+      elim (one_of_four g.half laws (g.half.next d) a b c (laws.next_low d low) x (g.half.next e)
+          (record { low = laws.next_low e l; at = s })) [
+        | inl k ↦ inl (back (g.half.next d) k ∙ laws.prev_next d)
+        | inr (inl k) ↦ inr (inl (back a k))
+        | inr (inr (inl k)) ↦ inr (inr (inl (back b k)))
+        | inr (inr (inr k)) ↦ inr (inr (inr (back c k)))
+      ]

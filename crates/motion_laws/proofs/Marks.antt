@@ -3,7 +3,7 @@ use Rattle.std.proofs.Common.{◌≡◌, ◌⊎◌, ℕ, zero, suc, ◌<◌, ◌
 use Rattle.std.proofs.Common.{◌++◌, length, get_or, set, replicate, Option, Some, None, sym, ap, ◌∙◌, refl, inl, inr}
 use Rattle.std.proofs.Common.{arith}
 use Rattle.std.proofs.Math.Bool.{or-false}
-use Rattle.std.proofs.lemmas.Bool.{eq-eqb, ne_eqb, cases_eq, false≢true, false_from_ne_true}
+use Rattle.std.proofs.lemmas.Bool.{or_right, eq-eqb, ne_eqb, cases_eq, false≢true, false_from_ne_true}
 use Rattle.std.proofs.lemmas.List.{get_or-set_same, get_or-set_other, length-set}
 use Rattle.std.specs.List.{list_any}
 use Rattle.def_cut.specs.{FullCut.is_on, Motion.Terrain, Motion.is_among, Motion.is_found, Events.mark_twin}
@@ -14,12 +14,15 @@ use Rattle.motion_laws.proofs.Among.{among_here, among_later, among_cases, AreAp
 -- A mark more.
 pub mark_is : (marks : List Bool) (k d : ℕ) → k < length marks → is_on (set marks k true) d ≡ (is_on marks d || eqb d k)
 mark_is marks k d l = elim (cases_eq d k) [
-  | inl e ↦ rw (eq-eqb d k e, e) (get_or-set_same marks k true false l ∙ sym (at (is_on marks k)))
+  | inl e ↦ rw (eq-eqb d k e, e) (get_or-set_same marks k true false l ∙ sym (or_right (is_on marks k) true refl))
   | inr ne ↦ rw (ne_eqb d k ne) (get_or-set_other marks k d true false ne ∙ sym (or-false (is_on marks d)))
 ]
-  where
-    at : (b : Bool) → (b || true) ≡ true
-    at = elim [ true ↦ refl | false ↦ refl ]
+
+eqb_swap : (a b : ℕ) → eqb a b ≡ eqb b a
+eqb_swap a b = elim (cases_eq a b) [
+  | inl s ↦ eq-eqb a b s ∙ sym (eq-eqb b a (sym s))
+  | inr ne ↦ ne_eqb a b ne ∙ sym (ne_eqb b a (λ s. ne (sym s)))
+]
 
 -- In no darts none is found.
 pub none_found : (o : Option ℕ) → is_found o [] ≡ false
@@ -40,22 +43,11 @@ no_darts (suc n) = no_darts n
 pub twin_marks : (o : Option ℕ) (marks : List Bool) (d e : ℕ) → d < length marks
     → ((t : ℕ) → o ≡ Some t → t < length marks) → is_on (mark_twin o (set marks d true)) e
     ≡ (is_on marks e || (eqb e d || is_found o (e ∷ [])))
-twin_marks None marks d e l low = mark_is marks d e l ∙ at (is_on marks e) (eqb e d)
-  where
-    at : (a b : Bool) → (a || b) ≡ (a || (b || false))
-    at true b = refl
-    at false true = refl
-    at false false = refl
+twin_marks None marks d e l low = mark_is marks d e l ∙ ap (λ b. is_on marks e || b) (sym (or-false (eqb e d)))
 twin_marks (Some t) marks d e l low =
-    mark_is (set marks d true) t e (omega (arith, low t refl, length-set marks d true))
-    ∙ (ap (λ b. b || eqb e t) (mark_is marks d e l) ∙ at (is_on marks e) (eqb e d) (eqb e t) (eqb t e) (same t e))
+    mark_is (set marks d true) t e (omega (arith, low t refl, length-set marks d true)) ∙ (ap (λ b. b || eqb e t)
+    (mark_is marks d e l) ∙ at (is_on marks e) (eqb e d) (eqb e t) (eqb t e) (eqb_swap e t))
   where
-    same : (a b : ℕ) → eqb b a ≡ eqb a b
-    same a b = elim (cases_eq b a) [
-      | inl s ↦ eq-eqb b a s ∙ sym (eq-eqb a b (sym s))
-      | inr ne ↦ ne_eqb b a ne ∙ sym (ne_eqb a b (λ s. ne (sym s)))
-    ]
-
     at : (a b c f : Bool) → c ≡ f → ((a || b) || c) ≡ (a || (b || (f || false)))
     at true b c f s = refl
     at false true c f s = refl
@@ -63,37 +55,22 @@ twin_marks (Some t) marks d e l low =
     at false false c false s = s
 
 -- The vertices that darts leave are marked.
+pub marked_long : (g : Terrain) (ds : List ℕ) (marks : List Bool) → length (marked_from g ds marks) ≡ length marks
+marked_long g [] marks = refl
+marked_long g (d ∷ ds) marks = length-set (marked_from g ds marks) (g.half.from d) true ∙ marked_long g ds marks
+
 pub from_marks : (g : Terrain) (ds : List ℕ) (marks : List Bool) (v : ℕ)
     → ((d : ℕ) → is_among d ds ≡ true → g.half.from d < length marks) → is_on (marked_from g ds marks) v
     ≡ (list_any (λ d. eqb (g.half.from d) v) ds || is_on marks v)
 from_marks g [] marks v low = refl
-from_marks g (d ∷ ds) marks v low =
-    mark_is (marked_from g ds marks) (g.half.from d) v (omega (arith, low d (among_here d d ds refl), long ds))
-    ∙ (ap (λ b. b || eqb v (g.half.from d)) (from_marks g ds marks v (λ e m. low e (among_later e d ds m)))
-    ∙ at (list_any (λ e. eqb (g.half.from e) v) ds) (is_on marks v) (eqb v (g.half.from d)) (eqb (g.half.from d) v)
-    (same v (g.half.from d)))
+from_marks g (d ∷ ds) marks v low = mark_is (marked_from g ds marks) (g.half.from d) v
+    (omega (arith, low d (among_here d d ds refl), marked_long g ds marks)) ∙ (ap (λ b. b || eqb v (g.half.from d))
+    (from_marks g ds marks v (λ e m. low e (among_later e d ds m))) ∙ at (list_any (λ e. eqb (g.half.from e) v) ds)
+    (is_on marks v) (eqb v (g.half.from d)) (eqb (g.half.from d) v) (eqb_swap v (g.half.from d)))
   where
-    long : (es : List ℕ) → length (marked_from g es marks) ≡ length marks
-    long [] = refl
-    long (e ∷ es) = length-set (marked_from g es marks) (g.half.from e) true ∙ long es
-
-    same : (a b : ℕ) → eqb a b ≡ eqb b a
-    same a b = elim (cases_eq a b) [
-      | inl s ↦ eq-eqb a b s ∙ sym (eq-eqb b a (sym s))
-      | inr ne ↦ ne_eqb a b ne ∙ sym (ne_eqb b a (λ s. ne (sym s)))
-    ]
-
     at : (a b c f : Bool) → c ≡ f → ((a || b) || c) ≡ ((f || a) || b)
-    at true b c true s = refl
-    at true b c false s = refl
-    at false true c true s = refl
-    at false true c false s = refl
-    at false false c true s = s
-    at false false c false s = s
-
-pub marked_long : (g : Terrain) (ds : List ℕ) (marks : List Bool) → length (marked_from g ds marks) ≡ length marks
-marked_long g [] marks = refl
-marked_long g (d ∷ ds) marks = length-set (marked_from g ds marks) (g.half.from d) true ∙ marked_long g ds marks
+    at a b c true s = rw s (or_right (a || b) true refl)
+    at a b c false s = rw s (or-false (a || b))
 
 -- The darts of some riders with one note more.
 pub noted_more : (ns : List (Option ℕ)) (r d e : ℕ) → r < length ns → note_at ns r ≡ None
@@ -102,10 +79,8 @@ noted_more [] r d e l none = absurd (omega arith)
 noted_more (n ∷ ns) zero d e l none = rw none (swap (eqb e d) (is_among e (darts_in ns)))
   where
     swap : (a b : Bool) → (a || b) ≡ (b || a)
-    swap true true = refl
-    swap true false = refl
-    swap false true = refl
-    swap false false = refl
+    swap true b = sym (or_right b true refl)
+    swap false b = sym (or-false b)
 noted_more (None ∷ ns) (suc r) d e l none = noted_more ns r d e (omega arith) none
 noted_more (Some x ∷ ns) (suc r) d e l none = ap (λ b. eqb e x || b) (noted_more ns r d e (omega arith) none)
     ∙ at (eqb e x) (is_among e (darts_in ns)) (eqb e d)
@@ -124,10 +99,7 @@ noted_longer (Some x ∷ ns) (suc r) d l none = ap suc (noted_longer ns r d (ome
 pub found_more : (o : Option ℕ) (ds es : List ℕ) (d : ℕ) → ((e : ℕ) → is_among e es ≡ (is_among e ds || eqb e d))
     → is_found o es ≡ (is_found o ds || is_found o (d ∷ []))
 found_more None ds es d more = refl
-found_more (Some t) ds es d more = more t ∙ ap (λ b. is_among t ds || b) (at (eqb t d))
-  where
-    at : (b : Bool) → b ≡ (b || false)
-    at = elim [ true ↦ refl | false ↦ refl ]
+found_more (Some t) ds es d more = more t ∙ ap (λ b. is_among t ds || b) (sym (or-false (eqb t d)))
 
 -- Numbers that differ and are below n are at most n.
 pub among_at : (xs : List ℕ) (i : ℕ) → i < length xs → is_among (get_or xs i 0) xs ≡ true
@@ -162,10 +134,7 @@ pub apart_append : (xs ys : List ℕ) → AreApart xs → AreApart ys → ((d : 
     → ⊥) → AreApart (xs ++ ys)
 apart_append [] ys a b disjoint = b
 apart_append (x ∷ xs) ys a b disjoint = (
-  false_from_ne_true _ (λ m. at (among_append x xs ys m)),
+  false_from_ne_true _ (λ m. elim (among_append x xs ys m)
+      [ inl m ↦ false≢true (sym a.0 ∙ m) | inr m ↦ disjoint x (among_here x x xs refl) m ]),
   apart_append xs ys a.1 b (λ d m k. disjoint d (among_later d x xs m) k),
 )
-  where
-    at : (is_among x xs ≡ true) ⊎ (is_among x ys ≡ true) → ⊥
-    at (inl m) = false≢true (sym a.0 ∙ m)
-    at (inr m) = disjoint x (among_here x x xs refl) m

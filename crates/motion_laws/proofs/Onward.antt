@@ -1,7 +1,7 @@
 -- The states that the motion reaches from a first state, its end, and that what it traces is a full cut.
 use Rattle.std.proofs.Common.{◌≡◌, ◌⊎◌, ℕ, zero, suc, ◌+◌, ◌<◌, ◌≤◌, Bool, true, false, not, cond, ◌||◌, List, []}
 use Rattle.std.proofs.Common.{◌∷◌, map, length, Option, Some, None, is_some, sym, subst, ap, ◌∙◌, refl, inl, inr, arith}
-use Rattle.std.proofs.lemmas.Bool.{eq-eqb, false≢true, cases_Bool, cases_eq, or_left, or_right, or_cases}
+use Rattle.std.proofs.lemmas.Bool.{false_from_ne_true, eq-eqb, false≢true, cases_Bool, cases_eq, or_left, or_right, or_cases}
 use Rattle.def_math.specs.Counts.{count_below}
 use Rattle.sum_laws.proofs.Counts.{count_below_lt, count_below_ones}
 use Rattle.def_cut.specs.{Cuts.IsCross, Cuts.HasCross, Cuts.GoesOn as CutGoesOn, Cuts.IsUncut, Cuts.IsCut, Trails.Trail}
@@ -44,13 +44,13 @@ module _ (g : Terrain) (t : IsTerrain g) (begins : ℕ → Bool) (first : State)
 
   -- Who has stood at a vertex stays so.
   pub stood_later : (i j v : ℕ) → i ≤ j → (later g first i).stood v ≡ true → (later g first j).stood v ≡ true
-  stood_later i zero v le k = let s : i ≡ 0 = omega arith in subst (λ (n : ℕ). (later g first n).stood v ≡ true) s k
-  stood_later i (suc j) v le k = by_last (cases_eq i (suc j)) (stood_later i j v)
-    where
-      by_last : (i ≡ suc j) ⊎ (i ≡ suc j → ⊥) → (i ≤ j → (later g first i).stood v ≡ true → (later g first j).stood v
-          ≡ true) → (later g first (suc j)).stood v ≡ true
-      by_last (inl s) rest = subst (λ (n : ℕ). (later g first n).stood v ≡ true) s k
-      by_last (inr ne) rest = or_left _ _ (rest (omega arith) k)
+  stood_later i zero v le k = let s : i ≡ 0 = omega arith in rw (← s) k
+  stood_later i (suc j) v le k =
+      let rest = stood_later i j v in
+      elim (cases_eq i (suc j)) [
+        | inl s ↦ subst (λ (n : ℕ). (later g first n).stood v ≡ true) s k
+        | inr ne ↦ or_left _ _ (rest (omega arith) k)
+      ]
 
   -- No dart is ridden at two instants.
   pub rides_once : (e i j : ℕ) → i < j → is_among e (ridden (later g first i).riders) ≡ true
@@ -69,26 +69,19 @@ module _ (g : Terrain) (t : IsTerrain g) (begins : ℕ → Bool) (first : State)
 
     falls_at : (s : State) → IsReachedFrom g begins first s → (e : ℕ) → is_among e (ridden (step g s).riders) ≡ true
         → fresh (step g s) < fresh s
-    falls_at s r e m = by_next (next_is g t begins first s r e m)
-      where
-        no_more_at : (b c : Bool) → (b ≡ true → c ≡ true) → cond c 0 1 ≤ cond b 0 1
-        no_more_at true true f = omega arith
-        no_more_at true false f = absurd (false≢true (f refl))
-        no_more_at false true f = omega arith
-        no_more_at false false f = omega arith
-
-        less_at : (b c : Bool) → b ≡ false → c ≡ true → cond c 0 1 < cond b 0 1
-        less_at true c off on = absurd (false≢true (sym off))
-        less_at false true off on = omega arith
-        less_at false false off on = absurd (false≢true on)
-
-        by_next : (d : ℕ) × (is_among d (ridden s.riders) ≡ true) × IsNext g t s.stood (ridden s.riders) d e
-            → fresh (step g s) < fresh s
-        by_next (d, k, x) = count_below_lt (λ v. cond ((step g s).stood v) 0 1) (λ v. cond (s.stood v) 0 1) n
-            (end_of g d) (few (g.half.next d) (t.half.next_low d (r.low d k)))
-            (λ v l. no_more_at (s.stood v) ((step g s).stood v) (λ y. or_left _ _ y))
-            (less_at (s.stood (end_of g d)) ((step g s).stood (end_of g d)) x.going.fresh
-            (stands g t begins first s r d k))
+    falls_at s r e m =
+        let no_more_at : (b c : Bool) → (b ≡ true → c ≡ true) → cond c 0 1 ≤ cond b 0 1 = elim [
+          | true ↦ elim [ true ↦ λ f. omega arith | false ↦ λ f. absurd (false≢true (f refl)) ]
+          | false ↦ elim [ true ↦ λ f. omega arith | false ↦ λ f. omega arith ]
+        ] in
+        let less_at : (b c : Bool) → b ≡ false → c ≡ true → cond c 0 1 < cond b 0 1 =
+            λ b c off on. rw (off, on) (omega arith) in
+        let f = next_is g t begins first s r e m in
+        let d = f.0 in
+        count_below_lt (λ v. cond ((step g s).stood v) 0 1) (λ v. cond (s.stood v) 0 1) n (end_of g d)
+            (few (g.half.next d) (t.half.next_low d (r.low d f.1)))
+            (λ v l. no_more_at (s.stood v) ((step g s).stood v) (λ y. or_left _ _ y)) (less_at (s.stood (end_of g d))
+            ((step g s).stood (end_of g d)) f.2.going.fresh (stands g t begins first s r d f.1))
 
     pub rests_or_falls : (s : State) → IsReachedFrom g begins first s → (ridden (step g s).riders ≡ [])
         ⊎ (fresh (step g s) < fresh s)
@@ -122,10 +115,9 @@ module _ (g : Terrain) (t : IsTerrain g) (begins : ℕ → Bool) (first : State)
 
     fresh_low : (s : State) (m : ℕ) → count_below (λ v. cond (s.stood v) 0 1) m ≤ m
     fresh_low s zero = omega arith
-    fresh_low s (suc m) = omega (arith, fresh_low s m, at (s.stood m))
-      where
-        at : (b : Bool) → cond b 0 1 ≤ 1
-        at = elim [ true ↦ omega arith | false ↦ omega arith ]
+    fresh_low s (suc m) =
+        let at : (b : Bool) → cond b 0 1 ≤ 1 = elim [ true ↦ omega arith | false ↦ omega arith ] in
+        omega (arith, fresh_low s m, at (s.stood m))
 
     finish_reached : (k : ℕ) (s : State) → IsReachedFrom g begins first s → IsReachedFrom g begins first (finish g k s)
     finish_reached zero s r = r
@@ -144,16 +136,12 @@ module _ (g : Terrain) (t : IsTerrain g) (begins : ℕ → Bool) (first : State)
         runs_out : (k : ℕ) → (ridden (later g first k).riders ≡ []) ⊎ (fresh (later g first k) + k < n)
         runs_out zero = at (ridden first.riders) refl
           where
-            no_more_at : (b : Bool) → cond b 0 1 ≤ 1
-            no_more_at = elim [ true ↦ omega arith | false ↦ omega arith ]
-
-            less_at : (b : Bool) → b ≡ true → cond b 0 1 < 1
-            less_at b on = rw on (omega arith)
-
             at : (ds : List ℕ) → ridden first.riders ≡ ds → (ridden first.riders ≡ []) ⊎ (fresh first + 0 < n)
             at [] is = inl is
             at (d ∷ ds) is =
                 let m : is_among d (ridden first.riders) ≡ true = ap (is_among d) is ∙ among_here d d ds refl in
+                let no_more_at : (b : Bool) → cond b 0 1 ≤ 1 = elim [ true ↦ omega arith | false ↦ omega arith ] in
+                let less_at : (b : Bool) → b ≡ true → cond b 0 1 < 1 = λ b on. rw on (omega arith) in
                 inr (omega (
                   arith,
                   count_below_ones n,
@@ -199,9 +187,8 @@ module _ (g : Terrain) (t : IsTerrain g) (begins : ℕ → Bool) (first : State)
     ]
 
     cut_alike : (d e : ℕ) → d < g.half.count → g.half.twin d ≡ Some e → cut e ≡ cut d
-    cut_alike d e low w = ap (λ b. b || not (is_some (g.half.twin e))) (r.alike d e low w)
-        ∙ (ap (λ o. s.covered d || not (is_some o)) (back g t d e low w)
-        ∙ sym (ap (λ o. s.covered d || not (is_some o)) w))
+    cut_alike d e low w = ap (λ b. b || not (is_some (g.half.twin e))) (r.alike d e low w) ∙ (ap
+        (λ o. s.covered d || not (is_some o)) (back g t d e low w) ∙ sym (ap (λ o. s.covered d || not (is_some o)) w))
 
     -- What was shut first is cut.
     shut_cut : (d : ℕ) → d < g.half.count → IsShut g first d → cut d ≡ true
@@ -211,76 +198,61 @@ module _ (g : Terrain) (t : IsTerrain g) (begins : ℕ → Bool) (first : State)
 
     -- The cut goes on after each of its darts.
     goes : (d : ℕ) → d < g.half.count → cut d ≡ true → CutGoesOn g.half cut d
-    goes d low c = by_kind (cases_Bool (g.boundary (end_of g d))) (cases_Bool (g.singular (end_of g d)))
+    goes d low c =
+        let next = g.half.next d in
+        let next_low = t.half.next_low d low in
+        elim (cases_Bool (g.boundary (end_of g d))) [
+          | inl y ↦ elim (begin.sided d low y) [
+            | inl k ↦ inl (shut_cut next next_low k)
+            | inr e ↦ inr (e.0, e.1, alone_cut (g.half.next e.0) e.2)
+          ]
+          | inr inner ↦ elim (cases_Bool (g.singular (end_of g d))) [
+            | inl y ↦ inl (shut_cut next next_low (begin.singular next next_low y))
+            | inr regular ↦ by_cross (r.through next next_low (stood_there inner) inner regular)
+          ]
+        ]
       where
-        next_low : g.half.next d < g.half.count
-        next_low = t.half.next_low d low
-
-        by_side : IsShut g first (g.half.next d) ⊎ ((e : ℕ) × (g.half.twin (g.half.next d) ≡ Some e)
-            × (g.half.twin (g.half.next e) ≡ None)) → CutGoesOn g.half cut d
-        by_side (inl k) = inl (shut_cut (g.half.next d) next_low k)
-        by_side (inr (e, w, v)) = inr (e, w, alone_cut (g.half.next e) v)
-
         stood_there : g.boundary (end_of g d) ≡ false → s.stood (end_of g d) ≡ true
         stood_there inner = at (g.half.twin d) refl
           where
-            by_known : IsKnown g s (end_of g d) → s.stood (end_of g d) ≡ true
-            by_known (inl y) = y
-            by_known (inr b) = absurd (false≢true (sym inner ∙ b))
-
             at : (o : Option ℕ) → g.half.twin d ≡ o → s.stood (end_of g d) ≡ true
             at None w = absurd (false≢true (sym inner ∙ (t.edged d low w).1))
-            at (Some e) w = by_known (r.ends d low (covered_there d e w c)).1
-
-        by_place : (x a b f : ℕ) → x < g.half.count → g.half.from x ≡ end_of g d → IsCross g.half x a b f → cut x ≡ true
-            → cut b ≡ true → (g.half.next d ≡ x) ⊎ ((g.half.next d ≡ a) ⊎ ((g.half.next d ≡ b) ⊎ (g.half.next d ≡ f)))
-            → CutGoesOn g.half cut d
-        by_place x a b f x_low at k on_x on_b (inl e) = inl (ap cut e ∙ on_x)
-        by_place x a b f x_low at k on_x on_b (inr (inl e)) = inr (
-          g.half.prev x,
-          ap g.half.twin e ∙ back g t (g.half.prev x) a (t.half.prev_low x x_low) k.first,
-          ap cut (t.half.next_prev x) ∙ on_x,
-        )
-        by_place x a b f x_low at k on_x on_b (inr (inr (inl e))) = inl (ap cut e ∙ on_b)
-        by_place x a b f x_low at k on_x on_b (inr (inr (inr e))) = inr (
-          g.half.prev b,
-          ap g.half.twin e
-              ∙ back g t (g.half.prev b) f (t.half.prev_low b (low_b g.half t.half x a b f x_low k)) k.third,
-          ap cut (t.half.next_prev b) ∙ on_b,
-        )
+            at (Some e) w = elim (r.ends d low (covered_there d e w c)).1
+                [ inl y ↦ y | inr b ↦ absurd (false≢true (sym inner ∙ b)) ]
 
         by_cross : IsCrossedAt g s (end_of g d) → CutGoesOn g.half cut d
-        by_cross x = by_place x.x x.a x.b x.c x.low x.at x.cross (soon_cut x.x x.soon) (soon_cut x.b x.facing)
-            (one_of_four g.half t.half x.x x.a x.b x.c x.low x.cross (g.half.next d)
-            (record { low = next_low; at = sym x.at }))
-
-        by_kind : (g.boundary (end_of g d) ≡ true) ⊎ (g.boundary (end_of g d) ≡ false)
-            → (g.singular (end_of g d) ≡ true) ⊎ (g.singular (end_of g d) ≡ false) → CutGoesOn g.half cut d
-        by_kind (inl y) k = by_side (begin.sided d low y)
-        by_kind (inr inner) (inl y) =
-            inl (shut_cut (g.half.next d) next_low (begin.singular (g.half.next d) next_low y))
-        by_kind (inr inner) (inr regular) =
-            by_cross (r.through (g.half.next d) next_low (stood_there inner) inner regular)
+        by_cross c =
+            let x = c.x in
+            let b = c.b in
+            let on_x = soon_cut x c.soon in
+            let on_b = soon_cut b c.facing in
+            elim (one_of_four g.half t.half x c.a b c.c c.low c.cross (g.half.next d)
+                (record { low = t.half.next_low d low; at = sym c.at })) [
+              | inl e ↦ inl (ap cut e ∙ on_x)
+              | inr (inl e) ↦ inr (
+                g.half.prev x,
+                ap g.half.twin e ∙ back g t (g.half.prev x) c.a (t.half.prev_low x c.low) c.cross.first,
+                ap cut (t.half.next_prev x) ∙ on_x,
+              )
+              | inr (inr (inl e)) ↦ inl (ap cut e ∙ on_b)
+              | inr (inr (inr e)) ↦ inr (
+                g.half.prev b,
+                ap g.half.twin e ∙ back g t (g.half.prev b) c.c
+                    (t.half.prev_low b (low_b g.half t.half x c.a b c.c c.low c.cross)) c.cross.third,
+                ap cut (t.half.next_prev b) ∙ on_b,
+              )
+            ]
 
     -- A vertex without cut edges has four faces.
     uncut_crossed : (d : ℕ) → d < g.half.count → IsUncut g.half cut (g.half.from d) → HasCross g.half d
-    uncut_crossed d low u = t.crossed d low (by_boundary (cases_Bool (g.boundary (g.half.from d))))
-        (by_singular (cases_Bool (g.singular (g.half.from d))))
-      where
-        by_rim : (e : ℕ) × (e < g.half.count) × (g.half.from e ≡ g.half.from d)
-            × ((g.half.twin e ≡ None) ⊎ (g.half.twin (g.half.prev e) ≡ None)) → ⊥
-        by_rim (e, l, at, inl w) = false≢true (sym (u e l at).0 ∙ alone_cut e w)
-        by_rim (e, l, at, inr w) = false≢true (sym (u e l at).1 ∙ alone_cut (g.half.prev e) w)
-
-        by_boundary : (g.boundary (g.half.from d) ≡ true) ⊎ (g.boundary (g.half.from d) ≡ false)
-            → g.boundary (g.half.from d) ≡ false
-        by_boundary (inl y) = absurd (by_rim (t.rimmed d low y))
-        by_boundary (inr n) = n
-
-        by_singular : (g.singular (g.half.from d) ≡ true) ⊎ (g.singular (g.half.from d) ≡ false)
-            → g.singular (g.half.from d) ≡ false
-        by_singular (inl y) = absurd (false≢true (sym (u d low refl).0 ∙ shut_cut d low (begin.singular d low y)))
-        by_singular (inr n) = n
+    uncut_crossed d low u = t.crossed d low (false_from_ne_true _ (λ y.
+          let e = t.rimmed d low y in
+          let off = u e.0 e.1 e.2 in
+          elim e.3 [
+            | inl w ↦ false≢true (sym off.0 ∙ alone_cut e.0 w)
+            | inr w ↦ false≢true (sym off.1 ∙ alone_cut (g.half.prev e.0) w)
+          ]))
+        (false_from_ne_true _ (λ y. false≢true (sym (u d low refl).0 ∙ shut_cut d low (begin.singular d low y))))
 
     traced : IsTraced g.half begins cut
     traced = record {
@@ -290,18 +262,12 @@ module _ (g : Terrain) (t : IsTerrain g) (begins : ℕ → Bool) (first : State)
       before = λ d low b. shut_cut (g.half.prev d) (t.half.prev_low d low) (begin.before d low b);
       beside = λ d e low b w. shut_cut (g.half.next e) (t.half.next_low e (t.half.twin_low d e low w))
           (begin.beside d e low b w);
-      tracked = tracked;
+      tracked = λ d e low w c.
+        let more = λ (x k : ℕ) (p : Trail g.half begins s.covered x k).
+            trail_more g.half begins s.covered cut (λ e c. or_left _ _ c) x k p in
+        let k = r.tracked d low (covered_there d e w c) in
+        (k.0, elim k.1 [ inl p ↦ inl (more d k.0 p) | inr f ↦ inr (f.0, f.1, more f.0 k.0 f.2) ]);
     }
-      where
-        more : (x k : ℕ) → Trail g.half begins s.covered x k → Trail g.half begins cut x k
-        more x k p = trail_more g.half begins s.covered cut (λ e c. or_left _ _ c) x k p
-
-        by_track : (d : ℕ) → IsTracked g.half begins s.covered d → IsTracked g.half begins cut d
-        by_track d (k, inl p) = (k, inl (more d k p))
-        by_track d (k, inr (e, w, p)) = (k, inr (e, w, more e k p))
-
-        tracked : (d e : ℕ) → d < g.half.count → g.half.twin d ≡ Some e → cut d ≡ true → IsTracked g.half begins cut d
-        tracked d e low w c = by_track d (r.tracked d low (covered_there d e w c))
 
     -- What is traced is a full cut.
     pub full_cut : IsCut g.half cut

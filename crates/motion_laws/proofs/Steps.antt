@@ -79,9 +79,8 @@ module _ (g : Terrain) (t : IsTerrain g) where
     pub two_bits : (d a b c : ℕ) → is_among d ds ≡ true → stood (end_of g d) ≡ false
         → IsCross g.half (g.half.next d) a b c → goes_on g (arrivals g ds (end_of g d)) d
         ≡ (not (is_among (g.half.prev a) ds) && not (is_among (g.half.prev b) ds))
-    two_bits d a b c m off x =
-        two_bits_of g d (g.half.prev a) (g.half.prev b) (g.half.prev c) (round_of g t.half d a b c (low d m) x)
-        (arrivals g ds (end_of g d)) (apart_filter (arrives_at g ds (end_of g d)) ds apart)
+    two_bits d a b c m off x = two_bits_of g d (g.half.prev a) (g.half.prev b) (g.half.prev c) (round_of g t.half d a b
+        c (low d m) x) (arrivals g ds (end_of g d)) (apart_filter (arrives_at g ds (end_of g d)) ds apart)
         (in_filter (arrives_at g ds (end_of g d)) d ds m (arrives d (end_of g d) m refl off))
         (λ y n. let f = from_filter (arrives_at g ds (end_of g d)) y ds n in
         let p = and_parts _ _ f.1 in
@@ -125,44 +124,49 @@ module _ (g : Terrain) (t : IsTerrain g) where
 
   pub is_next : (stood : ℕ → Bool) (ds : List ℕ) (d e : ℕ) → d < g.half.count → stop_of g stood ds d ≡ None
       → e ≡ or_else (straight g d) d → IsNext stood ds d e
-  is_next stood ds d e low on is = by_cross (cross_ahead stood ds d low o)
-    where
-      o : GoesOn g stood ds d
-      o = goes_from g stood ds d on
-
-      by_cross : HasCross g.half (g.half.next d) → IsNext stood ds d e
-      by_cross (a, b, c, x) =
-          let next_low : g.half.next d < g.half.count = t.half.next_low d low in
-          let s : IsStraight g.half d c × (straight g d ≡ Some c) = goes_straight d a b c low x in
-          let same : e ≡ c = is ∙ ap (λ k. or_else k d) s.1 in
-          let c_low : c < g.half.count = low_c g.half t.half (g.half.next d) a b c next_low x in
-          let c_at : g.half.from c ≡ end_of g d = at_c g.half t.half (g.half.next d) a b c next_low x in
-          rw same (record {
-            low = c_low;
-            straight = s.0;
-            at = c_at;
-            cross = t.crossed c c_low (ap g.boundary c_at ∙ o.inner) (ap g.singular c_at ∙ o.regular);
-            going = o;
-          })
+  is_next stood ds d e low on is =
+      let o = goes_from g stood ds d on in
+      let x = cross_ahead stood ds d low o in
+      let next_low = t.half.next_low d low in
+      let c = x.2 in
+      let c_low = low_c g.half t.half (g.half.next d) x.0 x.1 c next_low x.3 in
+      let c_at = at_c g.half t.half (g.half.next d) x.0 x.1 c next_low x.3 in
+      let s = goes_straight d x.0 x.1 c low x.3 in
+      let same : e ≡ c = is ∙ ap (λ k. or_else k d) s.1 in
+      rw same (record {
+        low = c_low;
+        straight = s.0;
+        at = c_at;
+        cross = t.crossed c c_low (ap g.boundary c_at ∙ o.inner) (ap g.singular c_at ∙ o.regular);
+        going = o;
+      })
 
   -- Straight on from different darts lead different darts.
   pub straight_same : (d e x : ℕ) → d < g.half.count → e < g.half.count → IsStraight g.half d x → IsStraight g.half e x
       → d ≡ e
   straight_same d e x ld le (a, ta, ia) (b, tb, ib) =
-      let s : a ≡ b = next_same g.half t.half a b (sym ia ∙ ib) in
+      let s = next_same g.half t.half a b (sym ia ∙ ib) in
       next_same g.half t.half d e (twin_same g.half t.half (g.half.next d) (g.half.next e) a (t.half.next_low d ld)
-      (t.half.next_low e le) ta (tb ∙ ap Some (sym s)))
+          (t.half.next_low e le) ta (tb ∙ ap Some (sym s)))
 
   module _ (begins : ℕ → Bool) (first s : State) (r : IsReachedFrom g begins first s) where
-    covered_old : (d : ℕ) → s.covered d ≡ true → (step g s).covered d ≡ true
+    abbrev now : List ℕ
+    now = ridden s.riders
+
+    abbrev Rides : ℕ → Type 0
+    Rides d = is_among d (ridden s.riders) ≡ true
+
+    abbrev next : State
+    next = step g s
+
+    covered_old : (d : ℕ) → s.covered d ≡ true → next.covered d ≡ true
     covered_old d c = or_left _ _ c
 
-    covered_rode : (d : ℕ) → is_among d (ridden s.riders) ≡ true → (step g s).covered d ≡ true
+    covered_rode : (d : ℕ) → Rides d → next.covered d ≡ true
     covered_rode d m = or_right _ _ (or_left _ _ m)
 
-    covered_twin : (d e : ℕ) → g.half.twin d ≡ Some e → is_among e (ridden s.riders) ≡ true → (step g s).covered d
-        ≡ true
-    covered_twin d e w m = or_right _ _ (or_right _ _ (ap (λ o. is_found o (ridden s.riders)) w ∙ m))
+    covered_twin : (d e : ℕ) → g.half.twin d ≡ Some e → Rides e → next.covered d ≡ true
+    covered_twin d e w m = or_right _ _ (or_right _ _ (ap (λ o. is_found o now) w ∙ m))
 
     pub stood_old : (v : ℕ) → s.stood v ≡ true → (step g s).stood v ≡ true
     stood_old v c = or_left _ _ c
@@ -176,229 +180,170 @@ module _ (g : Terrain) (t : IsTerrain g) where
       | inr b ↦ elim (or_cases _ _ b) [ inl m ↦ inr (inl m) | inr n ↦ inr (inr (at (g.half.twin d) refl n)) ]
     ]
       where
-        at : (o : Option ℕ) → g.half.twin d ≡ o → is_found o (ridden s.riders) ≡ true
-            → (e : ℕ) × (g.half.twin d ≡ Some e) × (is_among e (ridden s.riders) ≡ true)
+        at : (o : Option ℕ) → g.half.twin d ≡ o → is_found o now ≡ true → (e : ℕ) × (g.half.twin d ≡ Some e) × Rides e
         at None is f = absurd (false≢true f)
         at (Some e) is f = (e, is, f)
 
     pub soon_then : (d : ℕ) → IsSoon s d → (step g s).covered d ≡ true
-    soon_then d (inl c) = covered_old d c
-    soon_then d (inr m) = covered_rode d m
+    soon_then d k = elim k [ inl c ↦ covered_old d c | inr m ↦ covered_rode d m ]
 
-    known_then : (v : ℕ) → IsKnown g s v → IsKnown g (step g s) v
-    known_then v (inl k) = inl (stood_old v k)
-    known_then v (inr b) = inr b
+    known_then : (v : ℕ) → IsKnown g s v → IsKnown g next v
+    known_then v k = elim k [ inl k ↦ inl (stood_old v k) | inr b ↦ inr b ]
 
     -- Where a ridden dart ends somebody has stood afterwards: whoever is met was there before.
     pub stands : (d : ℕ) → is_among d (ridden s.riders) ≡ true → (step g s).stood (end_of g d) ≡ true
-    stands d m = elim (cases_Bool (is_met g (ridden s.riders) d)) [
+    stands d m = elim (cases_Bool (is_met g now d)) [
       | inl y ↦ stood_old (end_of g d) (met_at (g.half.twin d) refl y)
-      | inr n ↦ or_right _ _ (any_at (arrives_at g (ridden s.riders) (end_of g d)) d (ridden s.riders) m
+      | inr n ↦ or_right _ _ (any_at (arrives_at g now (end_of g d)) d now m
           (and_from _ _ (eq-eqb _ _ refl) (not_from_false _ n)))
     ]
       where
-        met_at : (o : Option ℕ) → g.half.twin d ≡ o → is_found o (ridden s.riders) ≡ true → s.stood (end_of g d) ≡ true
+        met_at : (o : Option ℕ) → g.half.twin d ≡ o → is_found o now ≡ true → s.stood (end_of g d) ≡ true
         met_at None is f = absurd (false≢true f)
         met_at (Some e) is f = ap s.stood (sym (t.half.twin_ends d e (r.low d m) is).0) ∙ r.left e f
 
     pub next_is : (e : ℕ) → is_among e (ridden (step g s).riders) ≡ true → (d : ℕ)
         × (is_among d (ridden s.riders) ≡ true) × IsNext s.stood (ridden s.riders) d e
     next_is e m =
-        let n = next_from g s.stood (ridden s.riders) s.riders e m in
-        (n.0, n.1, is_next s.stood (ridden s.riders) n.0 e (r.low n.0 n.1) n.2 n.3)
+        let n = next_from g s.stood now s.riders e m in
+        (n.0, n.1, is_next s.stood now n.0 e (r.low n.0 n.1) n.2 n.3)
 
     -- At a vertex where riders arrive first, two opposite edges are covered or ridden next.
-    opposite : (f a b c : ℕ) → is_among f (ridden s.riders) ≡ true → IsCross g.half (g.half.next f) a b c
-        → IsSoon (step g s) c → IsCrossedAt g (step g s) (end_of g f)
-    opposite f a b c m x soon = record {
-      x = a;
-      a = b;
-      b = c;
-      c = g.half.next f;
-      low = low_a g.half t.half (g.half.next f) a b c next_low x;
-      at = at_a g.half t.half (g.half.next f) a b c next_low x;
-      cross = rotated g.half t.half (g.half.next f) a b c next_low x;
-      soon = inl (covered_twin a f (back f a (r.low f m) (sym (ap g.half.twin (t.half.prev_next f)) ∙ x.first)) m);
-      facing = soon;
-    }
-      where
-        next_low : g.half.next f < g.half.count
-        next_low = t.half.next_low f (r.low f m)
+    opposite : (f a b c : ℕ) → Rides f → IsCross g.half (g.half.next f) a b c → IsSoon next c
+        → IsCrossedAt g next (end_of g f)
+    opposite f a b c m x soon =
+        let next_low = t.half.next_low f (r.low f m) in
+        record {
+          x = a;
+          a = b;
+          b = c;
+          c = g.half.next f;
+          low = low_a g.half t.half (g.half.next f) a b c next_low x;
+          at = at_a g.half t.half (g.half.next f) a b c next_low x;
+          cross = rotated g.half t.half (g.half.next f) a b c next_low x;
+          soon = inl (covered_twin a f (back f a (r.low f m) (sym (ap g.half.twin (t.half.prev_next f)) ∙ x.first)) m);
+          facing = soon;
+        }
 
-    facing_too : (f a b c : ℕ) → is_among f (ridden s.riders) ≡ true → IsCross g.half (g.half.next f) a b c
-        → is_among (g.half.prev b) (ridden s.riders) ≡ true → IsCrossedAt g (step g s) (end_of g f)
+    facing_too : (f a b c : ℕ) → Rides f → IsCross g.half (g.half.next f) a b c → Rides (g.half.prev b)
+        → IsCrossedAt g next (end_of g f)
     facing_too f a b c m x n = opposite f a b c m x
         (inl (covered_twin c (g.half.prev b) (back (g.half.prev b) c (r.low (g.half.prev b) n) x.third) n))
 
-    goes_through : (f a b c : ℕ) → is_among f (ridden s.riders) ≡ true → s.stood (end_of g f) ≡ false
-        → g.boundary (end_of g f) ≡ false → g.singular (end_of g f) ≡ false → IsCross g.half (g.half.next f) a b c
-        → is_among (g.half.prev a) (ridden s.riders) ≡ false → is_among (g.half.prev b) (ridden s.riders) ≡ false
-        → IsCrossedAt g (step g s) (end_of g f)
+    goes_through : (f a b c : ℕ) → Rides f → s.stood (end_of g f) ≡ false → g.boundary (end_of g f) ≡ false
+        → g.singular (end_of g f) ≡ false → IsCross g.half (g.half.next f) a b c → is_among (g.half.prev a) now ≡ false
+        → is_among (g.half.prev b) now ≡ false → IsCrossedAt g next (end_of g f)
     goes_through f a b c m off inner regular x no_a no_b =
-        opposite f a b c m x (inr (rw is at (next_to g s.stood (ridden s.riders) s.riders f m on)))
-      where
-        is : or_else (straight g f) f ≡ c
-        is = ap (λ k. or_else k f) (goes_straight f a b c (r.low f m) x).1
-
-        on : stop_of g s.stood (ridden s.riders) f ≡ None
-        on = goes_to g s.stood (ridden s.riders) f (record {
-          unmet = unmet s.stood (ridden s.riders) r.apart r.low r.left f m off;
+        let is : or_else (straight g f) f ≡ c = ap (λ k. or_else k f) (goes_straight f a b c (r.low f m) x).1 in
+        let on = goes_to g s.stood now f (record {
+          unmet = unmet s.stood now r.apart r.low r.left f m off;
           inner = inner;
           regular = regular;
           fresh = off;
-          on = two_bits s.stood (ridden s.riders) r.apart r.low r.left f a b c m off x
-              ∙ (ap (λ k. not k && not (is_among (g.half.prev b) (ridden s.riders))) no_a
-              ∙ ap (λ k. not false && not k) no_b);
-        })
+          on = two_bits s.stood now r.apart r.low r.left f a b c m off x
+              ∙ (ap (λ k. not k && not (is_among (g.half.prev b) now)) no_a ∙ ap (λ k. not false && not k) no_b);
+        }) in
+        opposite f a b c m x (inr (rw is at (next_to g s.stood now s.riders f m on)))
 
-    decided : (f a b c : ℕ) → is_among f (ridden s.riders) ≡ true → s.stood (end_of g f) ≡ false
-        → g.boundary (end_of g f) ≡ false → g.singular (end_of g f) ≡ false → IsCross g.half (g.half.next f) a b c
-        → IsCrossedAt g (step g s) (end_of g f)
-    decided f a b c m off inner regular x = by_bits (cases_Bool (is_among (g.half.prev b) (ridden s.riders)))
-        (cases_Bool (is_among (g.half.prev a) (ridden s.riders)))
-      where
-        next_low : g.half.next f < g.half.count
-        next_low = t.half.next_low f (r.low f m)
+    decided : (f a b c : ℕ) → Rides f → s.stood (end_of g f) ≡ false → g.boundary (end_of g f) ≡ false
+        → g.singular (end_of g f) ≡ false → IsCross g.half (g.half.next f) a b c → IsCrossedAt g next (end_of g f)
+    decided f a b c m off inner regular x =
+        let next_low = t.half.next_low f (r.low f m) in
+        let pa = g.half.prev a in
+        let end_a : end_of g (g.half.prev a) ≡ end_of g f =
+            ap g.half.from (t.half.next_prev a) ∙ at_a g.half t.half (g.half.next f) a b c next_low x in
+        let turned : IsCross g.half (g.half.next (g.half.prev a)) b c (g.half.next f) =
+            rw (t.half.next_prev a) (rotated g.half t.half (g.half.next f) a b c next_low x) in
+        elim (cases_Bool (is_among (g.half.prev b) now)) [
+          | inl y ↦ facing_too f a b c m x y
+          | inr no_b ↦ elim (cases_Bool (is_among (g.half.prev a) now)) [
+            | inr no_a ↦ goes_through f a b c m off inner regular x no_a no_b
+            | inl n ↦ rw (← end_a) (elim (cases_Bool (is_among (g.half.prev c) now)) [
+              | inl y ↦ facing_too pa b c (g.half.next f) n turned y
+              | inr no_c ↦ goes_through pa b c (g.half.next f) n (ap s.stood end_a ∙ off) (ap g.boundary end_a ∙ inner)
+                  (ap g.singular end_a ∙ regular) turned no_b no_c
+            ])
+          ]
+        ]
 
-        end_a : end_of g (g.half.prev a) ≡ end_of g f
-        end_a = ap g.half.from (t.half.next_prev a) ∙ at_a g.half t.half (g.half.next f) a b c next_low x
+    step_through : (d : ℕ) → d < g.half.count → next.stood (g.half.from d) ≡ true → g.boundary (g.half.from d) ≡ false
+        → g.singular (g.half.from d) ≡ false → IsCrossedAt g next (g.half.from d)
+    step_through d low k inner regular = elim (cases_Bool (s.stood (g.half.from d))) [
+      | inl y ↦
+        let x = r.through d low y inner regular in
+        record {
+          x = x.x;
+          a = x.a;
+          b = x.b;
+          c = x.c;
+          low = x.low;
+          at = x.at;
+          cross = x.cross;
+          soon = inl (soon_then x.x x.soon);
+          facing = inl (soon_then x.b x.facing);
+        }
+      | inr off ↦ elim (or_cases (s.stood (g.half.from d)) _ k) [
+        | inl y ↦ absurd (false≢true (sym off ∙ y))
+        | inr n ↦
+          let found = any_where (arrives_at g now (g.half.from d)) now n in
+          let f = found.0 in
+          let m = found.1 in
+          let e : end_of g f ≡ g.half.from d = eqb-true _ _ (and_parts _ _ found.2).0 in
+          let x = t.crossed (g.half.next f) (t.half.next_low f (r.low f m)) (ap g.boundary e ∙ inner)
+              (ap g.singular e ∙ regular) in
+          rw (← e) (decided f x.0 x.1 x.2 m (ap s.stood e ∙ off) (ap g.boundary e ∙ inner) (ap g.singular e ∙ regular)
+              x.3)
+      ]
+    ]
 
-        turned : IsCross g.half (g.half.next (g.half.prev a)) b c (g.half.next f)
-        turned = subst (λ (y : ℕ). IsCross g.half y b c (g.half.next f)) (sym (t.half.next_prev a))
-            (rotated g.half t.half (g.half.next f) a b c next_low x)
+    step_ends : (d : ℕ) → d < g.half.count → next.covered d ≡ true → IsKnown g next (g.half.from d)
+        × IsKnown g next (end_of g d)
+    step_ends d low c = elim (why d c) [
+      | inl o ↦ let e = r.ends d low o in (known_then _ e.0, known_then _ e.1)
+      | inr (inl m) ↦ (inl (stood_old _ (r.left d m)), inl (stands d m))
+      | inr (inr w) ↦
+        let ends = t.half.twin_ends d w.0 low w.1 in
+        (inl (ap next.stood (sym ends.1) ∙ stands w.0 w.2), inl (ap next.stood (sym ends.0) ∙ stood_old _ (r.left w.0 w.2)))
+    ]
 
-        by_next : is_among (g.half.prev a) (ridden s.riders) ≡ true → is_among (g.half.prev b) (ridden s.riders) ≡ false
-            → (is_among (g.half.prev c) (ridden s.riders) ≡ true) ⊎ (is_among (g.half.prev c) (ridden s.riders) ≡ false)
-            → IsCrossedAt g (step g s) (end_of g (g.half.prev a))
-        by_next n no_b (inl y) = facing_too (g.half.prev a) b c (g.half.next f) n turned y
-        by_next n no_b (inr no_c) = goes_through (g.half.prev a) b c (g.half.next f) n (ap s.stood end_a ∙ off)
-            (ap g.boundary end_a ∙ inner) (ap g.singular end_a ∙ regular) turned no_b no_c
+    step_alike : (d e : ℕ) → d < g.half.count → g.half.twin d ≡ Some e → next.covered e ≡ next.covered d
+    step_alike d e low w =
+        let one_way : (d e : ℕ) → d < g.half.count → g.half.twin d ≡ Some e → (step g s).covered e ≡ true
+            → (step g s).covered d ≡ true = λ d e low w c. elim (why e c) [
+              | inl o ↦ covered_old d (sym (r.alike d e low w) ∙ o)
+              | inr (inl m) ↦ covered_twin d e w m
+              | inr (inr x) ↦ covered_rode d
+                  (ap (λ k. is_among k now) (same_Some d x.0 (sym (back d e low w) ∙ x.1)) ∙ x.2)
+            ] in
+        same_test _ _ (one_way d e low w) (one_way e d (t.half.twin_low d e low w) (back d e low w))
 
-        by_bits : (is_among (g.half.prev b) (ridden s.riders) ≡ true)
-            ⊎ (is_among (g.half.prev b) (ridden s.riders) ≡ false) → (is_among (g.half.prev a) (ridden s.riders) ≡ true)
-            ⊎ (is_among (g.half.prev a) (ridden s.riders) ≡ false) → IsCrossedAt g (step g s) (end_of g f)
-        by_bits (inl y) n = facing_too f a b c m x y
-        by_bits (inr no_b) (inr no_a) = goes_through f a b c m off inner regular x no_a no_b
-        by_bits (inr no_b) (inl n) = subst (λ (v : ℕ). IsCrossedAt g (step g s) v) end_a
-            (by_next n no_b (cases_Bool (is_among (g.half.prev c) (ridden s.riders))))
+    more : (x k : ℕ) → Trail g.half begins s.covered x k → Trail g.half begins next.covered x k
+    more x k p = trail_more g.half begins s.covered next.covered covered_old x k p
 
-    step_through : (d : ℕ) → d < g.half.count → (step g s).stood (g.half.from d) ≡ true → g.boundary (g.half.from d)
-        ≡ false → g.singular (g.half.from d) ≡ false → IsCrossedAt g (step g s) (g.half.from d)
-    step_through d low k inner regular = by_old (cases_Bool (s.stood (g.half.from d))) (or_cases _ _ k)
-      where
-        by_rider : s.stood (g.half.from d) ≡ false → (f : ℕ) × (is_among f (ridden s.riders) ≡ true)
-            × (arrives_at g (ridden s.riders) (g.half.from d) f ≡ true) → IsCrossedAt g (step g s) (g.half.from d)
-        by_rider off (f, m, a) =
-            let p = and_parts _ _ a in
-            let e : end_of g f ≡ g.half.from d = eqb-true _ _ p.0 in
-            let x = t.crossed (g.half.next f) (t.half.next_low f (r.low f m)) (ap g.boundary e ∙ inner)
-            (ap g.singular e ∙ regular) in
-            subst (λ (v : ℕ). IsCrossedAt g (step g s) v) e (decided f x.0 x.1 x.2 m (ap s.stood e ∙ off)
-            (ap g.boundary e ∙ inner) (ap g.singular e ∙ regular) x.3)
+    step_trails : (e : ℕ) → is_among e (ridden next.riders) ≡ true → (k : ℕ) × Trail g.half begins next.covered e k
+    step_trails e m =
+        let n = next_is e m in
+        let d = n.0 in
+        let p = r.trails d n.1 in
+        (suc p.0, (d, more d p.0 p.1, r.low d n.1, covered_rode d n.1, n.2.straight, n.2.cross))
 
-        by_old : (s.stood (g.half.from d) ≡ true) ⊎ (s.stood (g.half.from d) ≡ false) → (s.stood (g.half.from d) ≡ true)
-            ⊎ (list_any (arrives_at g (ridden s.riders) (g.half.from d)) (ridden s.riders) ≡ true)
-            → IsCrossedAt g (step g s) (g.half.from d)
-        by_old (inl y) n =
-            let x : IsCrossedAt g s (g.half.from d) = r.through d low y inner regular in
-            record {
-              x = x.x;
-              a = x.a;
-              b = x.b;
-              c = x.c;
-              low = x.low;
-              at = x.at;
-              cross = x.cross;
-              soon = inl (soon_then x.x x.soon);
-              facing = inl (soon_then x.b x.facing);
-            }
-        by_old (inr off) (inl y) = absurd (false≢true (sym off ∙ y))
-        by_old (inr off) (inr n) =
-            by_rider off (any_where (arrives_at g (ridden s.riders) (g.half.from d)) (ridden s.riders) n)
-
-    step_ends : (d : ℕ) → d < g.half.count → (step g s).covered d ≡ true → IsKnown g (step g s) (g.half.from d)
-        × IsKnown g (step g s) (end_of g d)
-    step_ends d low c = by_why (why d c)
-      where
-        by_why : (s.covered d ≡ true) ⊎ ((is_among d (ridden s.riders) ≡ true)
-            ⊎ ((e : ℕ) × (g.half.twin d ≡ Some e) × (is_among e (ridden s.riders) ≡ true)))
-            → IsKnown g (step g s) (g.half.from d) × IsKnown g (step g s) (end_of g d)
-        by_why (inl o) = let e : IsKnown g s (g.half.from d) × IsKnown g s (end_of g d) = r.ends d low o in
-            (known_then _ e.0, known_then _ e.1)
-        by_why (inr (inl m)) = (inl (stood_old _ (r.left d m)), inl (stands d m))
-        by_why (inr (inr (e, w, m))) =
-            let ends : (g.half.from e ≡ g.half.from (g.half.next d)) × (g.half.from (g.half.next e) ≡ g.half.from d) =
-            t.half.twin_ends d e low w in (
-              inl (ap (step g s).stood (sym ends.1) ∙ stands e m),
-              inl (ap (step g s).stood (sym ends.0) ∙ stood_old _ (r.left e m)),
-            )
-
-    step_alike : (d e : ℕ) → d < g.half.count → g.half.twin d ≡ Some e → (step g s).covered e ≡ (step g s).covered d
-    step_alike d e low w = same_test _ _ (one_way d e low w) (λ c. one_way e d (t.half.twin_low d e low w)
-        (back d e low w) c)
-      where
-        one_way : (d e : ℕ) → d < g.half.count → g.half.twin d ≡ Some e → (step g s).covered e ≡ true
-            → (step g s).covered d ≡ true
-        one_way d e low w c = by_why (why e c)
-          where
-            by_why : (s.covered e ≡ true) ⊎ ((is_among e (ridden s.riders) ≡ true)
-                ⊎ ((f : ℕ) × (g.half.twin e ≡ Some f) × (is_among f (ridden s.riders) ≡ true)))
-                → (step g s).covered d ≡ true
-            by_why (inl o) = covered_old d (sym (r.alike d e low w) ∙ o)
-            by_why (inr (inl m)) = covered_twin d e w m
-            by_why (inr (inr (f, x, m))) =
-                covered_rode d (ap (λ k. is_among k (ridden s.riders)) (same_Some d f (sym (back d e low w) ∙ x)) ∙ m)
-
-    step_apart : AreApart (ridden (step g s).riders)
-    step_apart = next_apart g s.stood (ridden s.riders) s.riders r.apart (λ d e m n on_d on_e same.
-        let a = is_next s.stood (ridden s.riders) d _ (r.low d m) on_d refl in
-        let b = is_next s.stood (ridden s.riders) e _ (r.low e n) on_e same in
-        straight_same d e _ (r.low d m) (r.low e n) a.straight b.straight)
-
-    step_trails : (e : ℕ) → is_among e (ridden (step g s).riders) ≡ true → (k : ℕ)
-        × Trail g.half begins (step g s).covered e k
-    step_trails e m = by_next (next_is e m)
-      where
-        by_next : (d : ℕ) × (is_among d (ridden s.riders) ≡ true) × IsNext s.stood (ridden s.riders) d e
-            → (k : ℕ) × Trail g.half begins (step g s).covered e k
-        by_next (d, n, x) =
-            let p : (k : ℕ) × Trail g.half begins s.covered d k = r.trails d n in (
-              suc p.0,
-              (
-                d,
-                trail_more g.half begins s.covered (step g s).covered covered_old d p.0 p.1,
-                r.low d n,
-                covered_rode d n,
-                x.straight,
-                x.cross,
-              ),
-            )
-
-    step_tracked : (d : ℕ) → d < g.half.count → (step g s).covered d ≡ true
-        → IsTracked g.half begins (step g s).covered d
-    step_tracked d low c = by_why (why d c)
-      where
-        more : (x k : ℕ) → Trail g.half begins s.covered x k → Trail g.half begins (step g s).covered x k
-        more x k p = trail_more g.half begins s.covered (step g s).covered covered_old x k p
-
-        by_old : IsTracked g.half begins s.covered d → IsTracked g.half begins (step g s).covered d
-        by_old (k, inl p) = (k, inl (more d k p))
-        by_old (k, inr (e, w, p)) = (k, inr (e, w, more e k p))
-
-        by_why : (s.covered d ≡ true) ⊎ ((is_among d (ridden s.riders) ≡ true)
-            ⊎ ((e : ℕ) × (g.half.twin d ≡ Some e) × (is_among e (ridden s.riders) ≡ true)))
-            → IsTracked g.half begins (step g s).covered d
-        by_why (inl o) = by_old (r.tracked d low o)
-        by_why (inr (inl m)) = let p : (k : ℕ) × Trail g.half begins s.covered d k = r.trails d m in
-            (p.0, inl (more d p.0 p.1))
-        by_why (inr (inr (e, w, m))) = let p : (k : ℕ) × Trail g.half begins s.covered e k = r.trails e m in
-            (p.0, inr (e, w, more e p.0 p.1))
+    step_tracked : (d : ℕ) → d < g.half.count → next.covered d ≡ true → IsTracked g.half begins next.covered d
+    step_tracked d low c = elim (why d c) [
+      | inl o ↦
+        let k = r.tracked d low o in
+        (k.0, elim k.1 [ inl p ↦ inl (more d k.0 p) | inr w ↦ inr (w.0, w.1, more w.0 k.0 w.2) ])
+      | inr (inl m) ↦ let p = r.trails d m in (p.0, inl (more d p.0 p.1))
+      | inr (inr w) ↦ let p = r.trails w.0 w.2 in (p.0, inr (w.0, w.1, more w.0 p.0 p.1))
+    ]
 
     pub step_keeps : IsReachedFrom g begins first (step g s)
     step_keeps = record {
-      apart = step_apart;
+      apart = next_apart g s.stood now s.riders r.apart (λ d e m n on_d on_e same.
+        let a = is_next s.stood now d _ (r.low d m) on_d refl in
+        let b = is_next s.stood now e _ (r.low e n) on_e same in
+        straight_same d e _ (r.low d m) (r.low e n) a.straight b.straight);
       low = λ e m. (next_is e m).2.low;
-      left = λ e m. let n = next_is e m in ap (step g s).stood n.2.at ∙ stands n.0 n.1;
+      left = λ e m. let n = next_is e m in ap next.stood n.2.at ∙ stands n.0 n.1;
       alike = step_alike;
       ends = step_ends;
       kept = λ d k. inl (soon_then d (r.kept d k));

@@ -1,5 +1,5 @@
 -- The motion that starts with riders at given darts: its states, and its end.
-use Rattle.std.proofs.Common.{◌≡◌, ◌⊎◌, ℕ, ◌<◌, Bool, true, false, List, [], ◌∷◌, map, Option, Some, None, sym, subst}
+use Rattle.std.proofs.Common.{eqb, ◌≡◌, ◌⊎◌, ℕ, ◌<◌, Bool, true, false, List, [], ◌∷◌, map, Option, Some, None, sym, subst}
 use Rattle.std.proofs.Common.{ap, ◌∙◌, refl, inl, inr}
 use Rattle.std.proofs.lemmas.Bool.{eq-eqb, eqb-true, false≢true}
 use Rattle.def_cut.specs.Cuts.{HasCross}
@@ -26,41 +26,36 @@ module _ (g : Terrain) (t : IsTerrain g) (starts : List ℕ) (begin : IsStarted 
       → g.boundary (g.half.from d) ≡ false → g.singular (g.half.from d) ≡ false
       → IsCrossedAt g (start g starts) (g.half.from d)
   start_through d low k inner regular =
-      by_start (any_where (λ e. Rattle.std.proofs.Common.eqb (g.half.from e) (g.half.from d)) starts k)
-    where
-      by_cross : (x : ℕ) → is_among x starts ≡ true → g.half.from x ≡ g.half.from d → HasCross g.half x
-          → IsCrossedAt g (start g starts) (g.half.from d)
-      by_cross x m at (a, b, c, f) =
-          let x_low : x < g.half.count = begin.low x m in
-          let a_low : a < g.half.count = low_a g.half t.half x a b c x_low f in
-          let b_low : b < g.half.count = low_b g.half t.half x a b c x_low f in
-          let b_twin = t.half.twin_twin (g.half.prev a) b (t.half.prev_low a a_low) f.second in
-          record {
-            x = x;
-            a = a;
-            b = b;
-            c = c;
-            low = x_low;
-            at = at;
-            cross = f;
-            soon = inr (rides_next x m);
-            facing = inr (rides_next b (begin.all x b (g.half.prev a) x_low b_low m (at_b g.half t.half x a b c x_low f)
-                b_twin));
-          }
-
-      by_start : (x : ℕ) × (is_among x starts ≡ true) × (Rattle.std.proofs.Common.eqb (g.half.from x) (g.half.from d)
-          ≡ true) → IsCrossedAt g (start g starts) (g.half.from d)
-      by_start (x, m, e) =
-          let at : g.half.from x ≡ g.half.from d = eqb-true _ _ e in
-          by_cross x m at (t.crossed x (begin.low x m) (ap g.boundary at ∙ inner) (ap g.singular at ∙ regular))
+      let found = any_where (λ e. eqb (g.half.from e) (g.half.from d)) starts k in
+      let x = found.0 in
+      let m = found.1 in
+      let at : g.half.from x ≡ g.half.from d = eqb-true _ _ found.2 in
+      let x_low = begin.low x m in
+      let f = t.crossed x x_low (ap g.boundary at ∙ inner) (ap g.singular at ∙ regular) in
+      let a = f.0 in
+      let b = f.1 in
+      let a_low = low_a g.half t.half x a b f.2 x_low f.3 in
+      let b_low = low_b g.half t.half x a b f.2 x_low f.3 in
+      let b_twin = t.half.twin_twin (g.half.prev a) b (t.half.prev_low a a_low) f.3.second in
+      record {
+        x = x;
+        a = a;
+        b = b;
+        c = f.2;
+        low = x_low;
+        at = at;
+        cross = f.3;
+        soon = inr (rides_next x m);
+        facing = inr (rides_next b (begin.all x b (g.half.prev a) x_low b_low m
+            (at_b g.half t.half x a b f.2 x_low f.3) b_twin));
+      }
 
   -- The first state.
   pub start_reached : IsReached g starts (start g starts)
   start_reached = record {
     apart = subst AreApart (sym (ridden_begun starts)) begin.apart;
     low = λ d m. begin.low d (is_start d m);
-    left = λ d m. any_at (λ e. Rattle.std.proofs.Common.eqb (g.half.from e) (g.half.from d)) d starts (is_start d m)
-        (eq-eqb _ _ refl);
+    left = λ d m. any_at (λ e. eqb (g.half.from e) (g.half.from d)) d starts (is_start d m) (eq-eqb _ _ refl);
     alike = λ d e low w. refl;
     ends = λ d low c. absurd (false≢true c);
     kept = λ d k. k;
