@@ -62,8 +62,7 @@ inner_from faces v each = list_all-from_AllPass (λ d. not (is_end faces v d) ||
 
 pub inner_twin : (faces : Faces) (v : ℕ) → is_inner faces v ≡ true → (d : ℕ) → d < darts faces → (from_of faces d ≡ v)
     ⊎ (to_of faces d ≡ v) → (t : ℕ) × (twin_of faces d ≡ Some t)
-inner_twin faces v inner d l ends =
-    some_there (twin_of faces d)
+inner_twin faces v inner d l ends = some_there (twin_of faces d)
     (elim (or_cases _ _ passes) [ inl off ↦ absurd (false≢true (sym (not_from_true _ is) ∙ off)) | inr on ↦ on ])
   where
     is : is_end faces v d ≡ true
@@ -79,9 +78,8 @@ module _ (faces : Faces) (laws : IsQuadManifold (half_edges faces)) where
   -- A regular inner vertex has a cross at each dart,
   pub regular_cross : (d : ℕ) → d < darts faces → is_inner faces (from_of faces d) ≡ true
       → is_regular faces (from_of faces d) ≡ true → HasCross (half_edges faces) d
-  regular_cross d l inner regular = four_cross (half_edges faces) laws (from_of faces d) round d
-      (record { low = l; at = refl }) (subst (λ (n : ℕ). HasFan (half_edges faces) (from_of faces d) n) many
-      (has_fan faces (from_of faces d)))
+  regular_cross d l inner regular = four_cross (half_edges faces) laws (from_of faces d) round d (record { low = l; at =
+      refl }) (subst (λ (n : ℕ). HasFan (half_edges faces) (from_of faces d) n) many (has_fan faces (from_of faces d)))
     where
       many : faces_at faces (from_of faces d) ≡ 4
       many = eqb-true _ _ regular ∙ cond-true (is_inner faces (from_of faces d)) 4 2 inner
@@ -92,25 +90,19 @@ module _ (faces : Faces) (laws : IsQuadManifold (half_edges faces)) where
 
   -- and a vertex with a cross is inner and regular.
   pub cross_inner : (d : ℕ) → d < darts faces → HasCross (half_edges faces) d → is_inner faces (from_of faces d) ≡ true
-  cross_inner d l c = inner_from faces (from_of faces d) each
-    where
-      each : (x : ℕ) → x < darts faces → (from_of faces x ≡ from_of faces d) ⊎ (to_of faces x ≡ from_of faces d)
-          → (t : ℕ) × (twin_of faces x ≡ Some t)
-      each x lx (inl at) = (both_twins (half_edges faces) laws d c.0 c.1 c.2 l c.3 x (record { low = lx; at = at })).1
-      each x lx (inr at) = let t : (t : ℕ) × (twin_of faces (prev_of (next_of x)) ≡ Some t) =
-          (both_twins (half_edges faces) laws d c.0 c.1 c.2 l c.3 (next_of x) (record {
-            low = laws.next_low x lx;
-            at = at;
-          })).0 in (t.0, ap (twin_of faces) (sym (laws.prev_next x)) ∙ t.1)
+  cross_inner d l c = inner_from faces (from_of faces d) (λ x lx at. elim at [
+    | inl at ↦ (both_twins (half_edges faces) laws d c.0 c.1 c.2 l c.3 x (record { low = lx; at = at })).1
+    | inr at ↦
+      let t = (both_twins (half_edges faces) laws d c.0 c.1 c.2 l c.3 (next_of x)
+          (record { low = laws.next_low x lx; at = at })).0 in
+      (t.0, ap (twin_of faces) (sym (laws.prev_next x)) ∙ t.1)
+  ])
 
   pub cross_faces : (d : ℕ) → d < darts faces → HasCross (half_edges faces) d → faces_at faces (from_of faces d) ≡ 4
   cross_faces d l c =
-      let fan : HasFan (half_edges faces) (from_of faces d) (faces_at faces (from_of faces d)) =
-      has_fan faces (from_of faces d) in
-      let most : faces_at faces (from_of faces d) ≤ 4 =
-      fan.most 4 (of_four d c.0 c.1 c.2) (four_all (half_edges faces) laws d c.0 c.1 c.2 l c.3) in
-      let least : 4 ≤ faces_at faces (from_of faces d) =
-      fan.least 4 (of_four d c.0 c.1 c.2) (four_some (half_edges faces) laws d c.0 c.1 c.2 l c.3) in
+      let fan = has_fan faces (from_of faces d) in
+      let most = fan.most 4 (of_four d c.0 c.1 c.2) (four_all (half_edges faces) laws d c.0 c.1 c.2 l c.3) in
+      let least = fan.least 4 (of_four d c.0 c.1 c.2) (four_some (half_edges faces) laws d c.0 c.1 c.2 l c.3) in
       omega arith
 
   pub cross_regular : (d : ℕ) → d < darts faces → HasCross (half_edges faces) d → is_regular faces (from_of faces d)
@@ -134,13 +126,11 @@ module _ (faces : Faces) (laws : IsQuadManifold (half_edges faces)) where
   pub same_face : (x y : ℕ) → x / 4 ≡ y / 4 → (k : ℕ) × (y ≡ spin (half_edges faces) k x)
   same_face x y e =
       let first : x ≡ spin (half_edges faces) (x % 4) (4 * (x / 4)) =
-      omega arith ∙ from_first (x / 4) (x % 4) (omega arith) in
+          omega arith ∙ from_first (x / 4) (x % 4) (omega arith) in
       let last : y ≡ spin (half_edges faces) (y % 4) (4 * (x / 4)) =
-      omega arith ∙ from_first (x / 4) (y % 4) (omega arith) in
-      let back : (m : ℕ) × (4 * (x / 4) ≡ spin (half_edges faces) m (spin (half_edges faces) (x % 4) (4 * (x / 4)))) =
-      spin_back (half_edges faces) laws (x % 4) (4 * (x / 4)) in
+          omega arith ∙ from_first (x / 4) (y % 4) (omega arith) in
+      let back = spin_back (half_edges faces) laws (x % 4) (4 * (x / 4)) in
       let home : 4 * (x / 4) ≡ spin (half_edges faces) back.0 x =
-      back.1 ∙ ap (spin (half_edges faces) back.0) (sym first) in
-      let join : (n : ℕ) × (spin (half_edges faces) (y % 4) (spin (half_edges faces) back.0 x)
-      ≡ spin (half_edges faces) n x) = spin_join (half_edges faces) laws (y % 4) back.0 x in
+          back.1 ∙ ap (spin (half_edges faces) back.0) (sym first) in
+      let join = spin_join (half_edges faces) laws (y % 4) back.0 x in
       (join.0, last ∙ (ap (spin (half_edges faces) (y % 4)) home ∙ join.1))
