@@ -4,18 +4,18 @@ use Rattle.std.proofs.Common.{sym, subst, ap, ◌∙◌, refl, inl, inr, arith}
 use Rattle.std.proofs.lemmas.Option.{same_Some}
 use Rattle.std.proofs.lemmas.Bool.{cases_eq, false≢true}
 use Rattle.def_mesh.specs.{Faces.Faces, Darts.darts, Darts.from_of, Darts.next_of, Darts.prev_of, Darts.twin_of}
-use Rattle.def_mesh.specs.{Vertices.faces_at, Vertices.fan_of, Kinds.is_inner, HalfEdges.HalfEdges, HalfEdges.AreTurned}
+use Rattle.def_mesh.specs.{Vertices.faces_at, Vertices.fan_of, Kinds.is_inner, HalfEdges.HalfEdges}
 use Rattle.def_mesh.specs.HalfEdges.{Turns, IsQuadManifold, half_edges}
 use Rattle.def_cut.specs.Trails.{Joins}
+use Rattle.cut_laws.proofs.Darts.{prev_three}
 use Rattle.cut_laws.proofs.{Crosses.Leaves, Crosses.no_fix, Darts.turn_from, Darts.turn_low}
-use Rattle.mesh_laws.proofs.Fans.{IsFan, is_fan}
+use Rattle.mesh_laws.proofs.Fans.{is_fan}
 use Rattle.face_laws.proofs.Fans.{has_fan, inner_from}
 
 -- Chains of joined darts, one after another, and back.
 pub joins_join : (m : HalfEdges) (d e f i j : ℕ) → Joins m d e i → Joins m e f j → (k : ℕ) × Joins m d f k
 joins_join m d e f i zero a b = (i, subst (λ (x : ℕ). Joins m d x i) b a)
-joins_join m d e f i (suc j) a b = let r : (k : ℕ) × Joins m d b.0 k = joins_join m d e b.0 i j a b.1 in
-    (suc r.0, (b.0, r.1, b.2))
+joins_join m d e f i (suc j) a b = let r = joins_join m d e b.0 i j a b.1 in (suc r.0, (b.0, r.1, b.2))
 
 -- Two darts, or three.
 abbrev pair : (x y k : ℕ) → ℕ
@@ -27,52 +27,46 @@ triple x y z zero = x
 triple x y z (suc k) = pair y z k
 
 module _ (mesh : HalfEdges) (laws : IsQuadManifold mesh) where
-  joins_prev : (d : ℕ) → (k : ℕ) × Joins mesh d (mesh.prev d) k
-  joins_prev d = (
-    3,
-    subst (λ (x : ℕ). Joins mesh d x 3) (sym (Rattle.cut_laws.proofs.Darts.prev_three mesh laws d))
-        (mesh.next (mesh.next d), (mesh.next d, (d, refl, inl refl), inl refl), inl refl),
-  )
-
   -- Turns join.
   pub joins_turns : (d e n : ℕ) → d < mesh.count → Turns mesh d e n → (k : ℕ) × Joins mesh d e k
   joins_turns d e zero l t = (0, t)
-  joins_turns d e (suc n) l t = by_turn t.3 (joins_turns d t.0 n l t.1)
-    where
-      by_turn : AreTurned mesh t.0 e → (k : ℕ) × Joins mesh d t.0 k → (k : ℕ) × Joins mesh d e k
-      by_turn (inl w) j =
-          let p : (k : ℕ) × Joins mesh t.0 (mesh.prev t.0) k = joins_prev t.0 in
-          let a : (k : ℕ) × Joins mesh d (mesh.prev t.0) k = joins_join mesh d t.0 (mesh.prev t.0) j.0 p.0 j.1 p.1 in
-          (suc a.0, (mesh.prev t.0, a.1, inr w))
-      by_turn (inr w) j =
-          let back : mesh.twin t.0 ≡ Some (mesh.prev e) = laws.twin_twin (mesh.prev e) t.0 (laws.prev_low e t.2) w in
-          (suc (suc j.0), (mesh.prev e, (t.0, j.1, inr back), inl (sym (laws.next_prev e))))
+  joins_turns d e (suc n) l t =
+      let c = t.0 in
+      let j = joins_turns d c n l t.1 in
+      let last : Joins mesh c (mesh.prev c) 3 = rw (prev_three mesh laws c)
+      (mesh.next (mesh.next c), (mesh.next c, (c, refl, inl refl), inl refl), inl refl) in
+      elim t.3 [
+        | inl w ↦
+            let a = joins_join mesh d c (mesh.prev c) j.0 3 j.1 last in
+            (suc a.0, (mesh.prev c, a.1, inr w))
+        | inr w ↦
+            let back = laws.twin_twin (mesh.prev e) c (laws.prev_low e t.2) w in
+            (suc (suc j.0), (mesh.prev e, (c, j.1, inr back), inl (sym (laws.next_prev e))))
+      ]
 
   -- Of two darts that leave a vertex some has a twin, and so does some dart there.
   pub twin_there : (d e n : ℕ) → d < mesh.count → d ≢ e → Turns mesh d e n → (x : ℕ) × (t : ℕ) × (x < mesh.count)
       × (mesh.from x ≡ mesh.from d) × (mesh.twin x ≡ Some t)
   twin_there d e zero l ne t = absurd (ne t)
-  twin_there d e (suc n) l ne t = by_turn t.3 (cases_eq d t.0) (λ other. twin_there d t.0 n l other t.1)
-    where
-      by_turn : AreTurned mesh t.0 e → (d ≡ t.0) ⊎ (d ≡ t.0 → ⊥)
-          → (d ≢ t.0 → (x : ℕ) × (s : ℕ) × (x < mesh.count) × (mesh.from x ≡ mesh.from d) × (mesh.twin x ≡ Some s))
-          → (x : ℕ) × (s : ℕ) × (x < mesh.count) × (mesh.from x ≡ mesh.from d) × (mesh.twin x ≡ Some s)
-      by_turn w (inr ne) rest = rest ne
-      by_turn (inl w) (inl same) rest =
-          let low : t.0 < mesh.count = subst (λ (x : ℕ). x < mesh.count) same l in (
-            e,
-            mesh.prev t.0,
-            t.2,
-            turn_from mesh laws t.0 e low w ∙ ap mesh.from (sym same),
-            laws.twin_twin (mesh.prev t.0) e (laws.prev_low t.0 low) w,
-          )
-      by_turn (inr w) (inl same) rest = (
-        t.0,
-        mesh.prev e,
-        subst (λ (x : ℕ). x < mesh.count) same l,
-        ap mesh.from (sym same),
-        laws.twin_twin (mesh.prev e) t.0 (laws.prev_low e t.2) w,
-      )
+  twin_there d e (suc n) l ne t =
+      let c = t.0 in
+      let rest = λ (other : d ≢ t.0). twin_there d c n l other t.1 in
+      elim (cases_eq d c) [
+        | inr ne ↦ rest ne
+        | inl same ↦
+            let low : c < mesh.count = rw (← same) l in
+            elim t.3 [
+              | inl w ↦ (
+                e,
+                mesh.prev c,
+                t.2,
+                turn_from mesh laws c e low w ∙ ap mesh.from (sym same),
+                laws.twin_twin (mesh.prev c) e (laws.prev_low c low) w,
+              )
+              | inr w ↦
+                  (c, mesh.prev e, low, ap mesh.from (sym same), laws.twin_twin (mesh.prev e) c (laws.prev_low e t.2) w)
+            ]
+      ]
 
 module _ (faces : Faces) (laws : IsQuadManifold (half_edges faces)) where
   -- A dart over the twin of d at the vertex that d leaves.
@@ -92,9 +86,8 @@ module _ (faces : Faces) (laws : IsQuadManifold (half_edges faces)) where
     where
       two : (x : ℕ) → x < darts faces → from_of faces x ≡ from_of faces d → x ≢ d → ⊥
       two x lx at ne =
-          let many : 2 ≤ faces_at faces (from_of faces d) =
-          (has_fan faces (from_of faces d)).least 2 (pair d x) (record { each = each; apart = apart }) in
-          omega arith
+          let many = (has_fan faces (from_of faces d)).least 2 (pair d x) (record { each = each; apart = apart }) in
+          omega (arith, many, few)
         where
           each : (j : ℕ) → j < 2 → Leaves (half_edges faces) (from_of faces d) (pair d x j)
           each zero h = record { low = l; at = refl }
@@ -108,8 +101,7 @@ module _ (faces : Faces) (laws : IsQuadManifold (half_edges faces)) where
 
       by_twin : (o : Option ℕ) → twin_of faces d ≡ o → o ≡ None
       by_twin None w = refl
-      by_twin (Some t) w = let o : (next_of t < darts faces) × (from_of faces (next_of t) ≡ from_of faces d)
-          × (next_of t ≢ d) = over d t l w in absurd (two (next_of t) o.0 o.1 o.2)
+      by_twin (Some t) w = let o = over d t l w in absurd (two (next_of t) o.0 o.1 o.2)
 
       by_before : (o : Option ℕ) → twin_of faces (prev_of d) ≡ o → o ≡ None
       by_before None w = refl
@@ -119,23 +111,19 @@ module _ (faces : Faces) (laws : IsQuadManifold (half_edges faces)) where
   -- With two faces or more, some dart there has a twin.
   pub some_twin : (d : ℕ) → d < darts faces → 2 ≤ faces_at faces (from_of faces d) → (x : ℕ) × (t : ℕ)
       × (x < darts faces) × (from_of faces x ≡ from_of faces d) × (twin_of faces x ≡ Some t)
-  some_twin d l many = by_other (cases_eq d (get_or (fan_of faces (from_of faces d)) 0 0))
-    where
-      fan : IsFan faces (from_of faces d) (fan_of faces (from_of faces d))
-      fan = is_fan faces (from_of faces d) (fan_of faces (from_of faces d)) refl
-
-      to : (k : ℕ) → k < length (fan_of faces (from_of faces d)) → d ≢ get_or (fan_of faces (from_of faces d)) k 0
-          → (x : ℕ) × (t : ℕ) × (x < darts faces) × (from_of faces x ≡ from_of faces d) × (twin_of faces x ≡ Some t)
-      to k h ne = let t : (n : ℕ) × Turns (half_edges faces) d (get_or (fan_of faces (from_of faces d)) k 0) n =
-          laws.one_fan d (get_or (fan_of faces (from_of faces d)) k 0) l (fan.dart k h) (sym (fan.leaves k h)) in
-          twin_there (half_edges faces) laws d (get_or (fan_of faces (from_of faces d)) k 0) t.0 l ne t.1
-
-      by_other : (d ≡ get_or (fan_of faces (from_of faces d)) 0 0) ⊎ (d ≡ get_or (fan_of faces (from_of faces d)) 0 0
-          → ⊥) → (x : ℕ) × (t : ℕ) × (x < darts faces) × (from_of faces x ≡ from_of faces d)
-          × (twin_of faces x ≡ Some t)
-      by_other (inr ne) = to 0 (omega arith) ne
-      by_other (inl e) = to 1 (omega arith)
-          (λ s. absurd (omega (arith, e, s, fan.increasing 0 1 (omega arith) (omega arith))))
+  some_twin d l many =
+      let at = get_or (fan_of faces (from_of faces d)) in
+      let fan = is_fan faces (from_of faces d) (fan_of faces (from_of faces d)) refl in
+      let to : (k : ℕ) → k < length (fan_of faces (from_of faces d)) → d ≢ get_or (fan_of faces (from_of faces d)) k 0
+      → (x : ℕ) × (t : ℕ) × (x < darts faces) × (from_of faces x ≡ from_of faces d) × (twin_of faces x ≡ Some t) =
+      λ k h ne.
+      let t = laws.one_fan d (at k 0) l (fan.dart k h) (sym (fan.leaves k h)) in
+      twin_there (half_edges faces) laws d (at k 0) t.0 l ne t.1 in
+      elim (cases_eq d (at 0 0)) [
+        | inr ne ↦ to 0 (omega arith) ne
+        | inl e ↦ to 1 (omega arith)
+            (λ s. absurd (omega (arith, e, s, fan.increasing 0 1 (omega arith) (omega arith))))
+      ]
 
   -- At a boundary vertex with at most two faces, the boundary goes on straight after d or beside it.
   module _ (d t u : ℕ) (low : d < darts faces) (first : twin_of faces (next_of d) ≡ Some t)
@@ -167,29 +155,30 @@ module _ (faces : Faces) (laws : IsQuadManifold (half_edges faces)) where
 
         all : (x n : ℕ) → Turns (half_edges faces) (next_of d) x n → (x ≡ next_of d) ⊎ (x ≡ next_of t)
         all x zero s = inl (sym s)
-        all x (suc n) s = by_turn s.3 (all s.0 n s.1)
-          where
-            by_turn : AreTurned (half_edges faces) s.0 x → (s.0 ≡ next_of d) ⊎ (s.0 ≡ next_of t) → (x ≡ next_of d)
-                ⊎ (x ≡ next_of t)
-            by_turn (inl w) (inl e) =
-                inr (same_Some x (next_of t) (sym w
-                ∙ (ap (λ k. twin_of faces (prev_of k)) e ∙ (ap (twin_of faces) (laws.prev_next d) ∙ d_twin))))
-            by_turn (inl w) (inr e) =
-                inl (same_Some x (next_of d) (sym w
-                ∙ (ap (λ k. twin_of faces (prev_of k)) e ∙ (ap (twin_of faces) (laws.prev_next t) ∙ t_twin))))
-            by_turn (inr w) (inl e) =
-                let back : twin_of faces (next_of d) ≡ Some (prev_of x) = ap (twin_of faces) (sym e)
-                ∙ laws.twin_twin (prev_of x) s.0 (laws.prev_low x s.2) w in
-                inr (sym (laws.next_prev x) ∙ ap next_of (same_Some (prev_of x) t (sym back ∙ first)))
-            by_turn (inr w) (inr e) =
-                let back : twin_of faces (next_of t) ≡ Some (prev_of x) = ap (twin_of faces) (sym e)
-                ∙ laws.twin_twin (prev_of x) s.0 (laws.prev_low x s.2) w in
-                inl (sym (laws.next_prev x) ∙ (ap next_of (same_Some (prev_of x) u (sym back ∙ second)) ∙ same))
+        all x (suc n) s =
+            let c = s.0 in
+            elim (all c n s.1) [
+              | inl e ↦ elim s.3 [
+                | inl w ↦ inr (same_Some x (next_of t) (sym w
+                    ∙ (ap (λ k. twin_of faces (prev_of k)) e ∙ (ap (twin_of faces) (laws.prev_next d) ∙ d_twin))))
+                | inr w ↦
+                    let back : twin_of faces (next_of d) ≡ Some (prev_of x) =
+                    ap (twin_of faces) (sym e) ∙ laws.twin_twin (prev_of x) c (laws.prev_low x s.2) w in
+                    inr (sym (laws.next_prev x) ∙ ap next_of (same_Some (prev_of x) t (sym back ∙ first)))
+              ]
+              | inr e ↦ elim s.3 [
+                | inl w ↦ inl (same_Some x (next_of d) (sym w
+                    ∙ (ap (λ k. twin_of faces (prev_of k)) e ∙ (ap (twin_of faces) (laws.prev_next t) ∙ t_twin))))
+                | inr w ↦
+                    let back : twin_of faces (next_of t) ≡ Some (prev_of x) =
+                    ap (twin_of faces) (sym e) ∙ laws.twin_twin (prev_of x) c (laws.prev_low x s.2) w in
+                    inl (sym (laws.next_prev x) ∙ (ap next_of (same_Some (prev_of x) u (sym back ∙ second)) ∙ same))
+              ]
+            ]
 
         leaves : (x : ℕ) → x < darts faces → from_of faces x ≡ from_of faces (next_of d) → (x ≡ next_of d)
             ⊎ (x ≡ next_of t)
-        leaves x lx at = let s : (n : ℕ) × Turns (half_edges faces) (next_of d) x n =
-            laws.one_fan (next_of d) x nd_low lx (sym at) in all x s.0 s.1
+        leaves x lx at = let s = laws.one_fan (next_of d) x nd_low lx (sym at) in all x s.0 s.1
 
         each : (x : ℕ) → x < darts faces → (from_of faces x ≡ from_of faces (next_of d))
             ⊎ (from_of faces (next_of x) ≡ from_of faces (next_of d)) → (y : ℕ) × (twin_of faces x ≡ Some y)

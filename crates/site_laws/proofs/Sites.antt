@@ -1,5 +1,5 @@
 -- A manifold list of faces is a terrain, and its start darts are starts.
-use Rattle.std.proofs.Common.{◌≡◌, ◌≢◌, ◌⊎◌, ℕ, ◌+◌, ◌<◌, ◌≤◌, true, false, not, eqb, ltb, ◌&&◌, ◌||◌, Option, Some}
+use Rattle.std.proofs.Common.{◌≡◌, ◌⊎◌, ℕ, ◌<◌, true, false, not, eqb, ◌&&◌, ◌||◌, Option, Some}
 use Rattle.std.proofs.Common.{None, is_some, sym, ap, ◌∙◌, refl, inl, inr, arith}
 use Rattle.std.proofs.lemmas.Option.{none-some}
 use Rattle.std.proofs.lemmas.Bool.{eqb-true, lt-ltb, or_left, or_right, or_cases, or_parts, and_from, and_parts}
@@ -23,42 +23,25 @@ module _ (faces : Faces) (m : IsManifold faces) where
   -- An edge with one dart lies at the boundary.
   at_boundary : (d v : ℕ) → d < darts faces → twin_of faces d ≡ None → (from_of faces d ≡ v) ⊎ (to_of faces d ≡ v)
       → not (is_inner faces v) ≡ true
-  at_boundary d v l w ends =
-      not_from_false _ (false_from_ne_true _ (λ inner. let t : (t : ℕ) × (twin_of faces d ≡ Some t) =
-      inner_twin faces v inner d l ends in none-some t.0 (sym w ∙ t.1)))
+  at_boundary d v l w ends = not_from_false _ (false_from_ne_true _ (λ inner.
+      let t = inner_twin faces v inner d l ends in
+      none-some t.0 (sym w ∙ t.1)))
 
   -- And a boundary vertex has one.
   rim : (v : ℕ) → is_inner faces v ≡ false → (e : ℕ) × (e < darts faces) × (from_of faces e ≡ v)
       × ((twin_of faces e ≡ None) ⊎ (twin_of faces (prev_of e) ≡ None))
-  rim v off = by_dart (not_all (λ d. not (is_end faces v d) || is_some (twin_of faces d)) (all_darts faces) off)
-    where
-      none_of : (o : Option ℕ) → is_some o ≡ false → o ≡ None
-      none_of None e = refl
-      none_of (Some t) e = absurd (false≢true (sym e))
-
-      by_dart : (d : ℕ) × (is_among d (all_darts faces) ≡ true) × ((not (is_end faces v d) || is_some (twin_of faces d))
-          ≡ false) → (e : ℕ) × (e < darts faces) × (from_of faces e ≡ v)
-          × ((twin_of faces e ≡ None) ⊎ (twin_of faces (prev_of e) ≡ None))
-      by_dart (d, k, t) = by_end (or_cases _ _ (not-false (is_end faces v d) p.0))
-        where
-          p : (not (is_end faces v d) ≡ false) × (is_some (twin_of faces d) ≡ false)
-          p = or_parts _ _ t
-
-          low : d < darts faces
-          low = let r : (0 ≤ d) × (d < 0 + darts faces) = range_among 0 (darts faces) d k in omega (arith, r.1)
-
-          alone : twin_of faces d ≡ None
-          alone = none_of (twin_of faces d) p.1
-
-          by_end : (eqb (from_of faces d) v ≡ true) ⊎ (eqb (to_of faces d) v ≡ true) → (e : ℕ) × (e < darts faces)
-              × (from_of faces e ≡ v) × ((twin_of faces e ≡ None) ⊎ (twin_of faces (prev_of e) ≡ None))
-          by_end (inl e) = (d, low, eqb-true _ _ e, inl alone)
-          by_end (inr e) = (
-            next_of d,
-            laws.next_low d low,
-            eqb-true _ _ e,
-            inr (ap (twin_of faces) (laws.prev_next d) ∙ alone),
-          )
+  rim v off =
+      let none_of : (o : Option ℕ) → is_some o ≡ false → o ≡ None =
+      elim [ None ↦ λ e. refl | Some t ↦ λ e. absurd (false≢true (sym e)) ] in
+      let found = not_all (λ d. not (is_end faces v d) || is_some (twin_of faces d)) (all_darts faces) off in
+      let d = found.0 in
+      let p = or_parts (not (is_end faces v d)) (is_some (twin_of faces d)) found.2 in
+      let low : d < darts faces = omega (arith, (range_among 0 (darts faces) d found.1).1) in
+      let alone = none_of (twin_of faces d) p.1 in
+      elim (or_cases (eqb (from_of faces d) v) _ (not-false (is_end faces v d) p.0)) [
+        | inl e ↦ (d, low, eqb-true _ _ e, inl alone)
+        | inr e ↦ (next_of d, laws.next_low d low, eqb-true _ _ e, inr (ap (twin_of faces) (laws.prev_next d) ∙ alone))
+      ]
 
   pub terrain : IsTerrain (terrain_of faces)
   terrain = record {
@@ -76,20 +59,13 @@ module _ (faces : Faces) (m : IsManifold faces) where
   -- All darts with a twin that leave a vertex start, or none.
   pub all_start : (d e t : ℕ) → e < darts faces → is_among d (start_darts faces) ≡ true
       → from_of faces e ≡ from_of faces d → twin_of faces e ≡ Some t → is_among e (start_darts faces) ≡ true
-  all_start d e t le k at w = start_in faces e le (by_why (or_cases _ _ (start_of faces d k).1))
-    where
-      by_why : (is_singular faces (from_of faces d) ≡ true)
-          ⊎ ((is_some (twin_of faces d)
-          && (is_reflex faces (from_of faces d) || list_any (λ v. eqb v (from_of faces d)) (seeds faces))) ≡ true)
-          → is_start faces (seeds faces) e ≡ true
-      by_why (inl s) = or_left _ _ (ap (is_singular faces) at ∙ s)
-      by_why (inr r) =
-          let p : (is_some (twin_of faces d) ≡ true)
-          × ((is_reflex faces (from_of faces d) || list_any (λ v. eqb v (from_of faces d)) (seeds faces)) ≡ true) =
-          and_parts _ _ r in
-          or_right (is_singular faces (from_of faces e)) _
-          (and_from _ _ (ap is_some w) (ap (λ u. is_reflex faces u || list_any (λ v. eqb v u) (seeds faces)) at
-          ∙ p.1))
+  all_start d e t le k at w = start_in faces e le (elim (or_cases (is_singular faces (from_of faces d)) _
+      (start_of faces d k).1) [
+        | inl s ↦ or_left _ _ (ap (is_singular faces) at ∙ s)
+        | inr r ↦ or_right (is_singular faces (from_of faces e)) _ (and_from _ _ (ap is_some w)
+            (ap (λ u. is_reflex faces u || list_any (λ v. eqb v u) (seeds faces)) at
+            ∙ (and_parts (is_some (twin_of faces d)) _ r).1))
+      ])
 
   -- Where a dart ends at the boundary, the next one starts or the boundary goes on.
   sides : (d : ℕ) → d < darts faces → is_inner faces (to_of faces d) ≡ false
@@ -98,30 +74,31 @@ module _ (faces : Faces) (m : IsManifold faces) where
       × (twin_of faces (next_of t) ≡ None)))
   sides d low out = by_first (twin_of faces (next_of d)) refl
     where
+      three : (t u : ℕ) → twin_of faces (next_of d) ≡ Some t → twin_of faces (next_of t) ≡ Some u
+          → is_among (next_of d) (start_darts faces) ≡ true
+      three t u first w =
+          let many = three_faces faces laws d t u low first w out in
+          start_in faces (next_of d) (laws.next_low d low) (or_right (is_singular faces (from_of faces (next_of d))) _
+          (and_from _ _ (ap is_some first) (or_left _ _ (and_from _ _ (not_from_false _ out)
+          (lt-ltb 2 (faces_at faces (from_of faces (next_of d))) (omega arith))))))
+
       by_second : (t : ℕ) → twin_of faces (next_of d) ≡ Some t → (o : Option ℕ) → twin_of faces (next_of t) ≡ o
-          → (is_among (next_of d) (start_darts faces) ≡ true)
-          ⊎ ((twin_of faces (next_of d) ≡ None) ⊎ ((s : ℕ) × (twin_of faces (next_of d) ≡ Some s)
-          × (twin_of faces (next_of s) ≡ None)))
-      by_second t first None w = inr (inr (t, first, w))
-      by_second t first (Some u) w =
-          let three : 3 ≤ faces_at faces (from_of faces (next_of d)) = three_faces faces laws d t u low first w out in
-          inl (start_in faces (next_of d) (laws.next_low d low)
-          (or_right (is_singular faces (from_of faces (next_of d))) _
-          (and_from _ _ (ap is_some first)
-          (or_left _ _ (and_from _ _ (not_from_false _ out)
-          (lt-ltb 2 (faces_at faces (from_of faces (next_of d))) (omega arith)))))))
+          → (is_among (next_of d) (start_darts faces) ≡ true) ⊎ (twin_of faces (next_of t) ≡ None)
+      by_second t first None w = inr w
+      by_second t first (Some u) w = inl (three t u first w)
 
       by_first : (o : Option ℕ) → twin_of faces (next_of d) ≡ o → (is_among (next_of d) (start_darts faces) ≡ true)
           ⊎ ((twin_of faces (next_of d) ≡ None) ⊎ ((t : ℕ) × (twin_of faces (next_of d) ≡ Some t)
           × (twin_of faces (next_of t) ≡ None)))
       by_first None w = inr (inl w)
-      by_first (Some t) w = by_second t w (twin_of faces (next_of t)) refl
+      by_first (Some t) w = elim (by_second t w (twin_of faces (next_of t)) refl)
+          [ inl s ↦ inl s | inr k ↦ inr (inr (t, w, k)) ]
 
   pub started : IsStarted (terrain_of faces) (start_darts faces)
   started = record {
     apart = apart_filter (is_start faces (seeds faces)) (all_darts faces) (range_apart 0 (darts faces));
     low = λ d k. (start_of faces d k).0;
-    all = λ d e t ld le k at w. all_start d e t le k at w;
+    all = λ d e t ld le. all_start d e t le;
     found = found faces m;
     singular = λ d l s. start_in faces d l (or_left _ _ s);
     sided = λ d l out. sides d l (not-true _ out);
