@@ -31,67 +31,42 @@ some_or_none p (suc n) = elim (some_or_none p n) [
 least_below : (f g : ℕ → ℕ) (n : ℕ) → 0 < n → (m : ℕ) × ((k : ℕ) × (k < n) × ((m ≡ f k) ⊎ (m ≡ g k)))
     × ((k : ℕ) → k < n → (m ≤ f k) × (m ≤ g k))
 least_below f g zero l = absurd (omega arith)
-least_below f g (suc zero) l = elim (cases_lt (g 0) (f 0)) [
-  | inl less ↦ (
-    g 0,
-    (0, omega arith, inr refl),
-    λ k h. let e : k ≡ 0 = omega arith in let a : f k ≡ f 0 =
-        ap f e in let b : g k ≡ g 0 = ap g e in (omega arith, omega arith),
-  )
-  | inr more ↦ (
-    f 0,
-    (0, omega arith, inl refl),
-    λ k h. let e : k ≡ 0 = omega arith in let a : f k ≡ f 0 =
-        ap f e in let b : g k ≡ g 0 = ap g e in (omega arith, omega arith),
-  )
-]
-least_below f g (suc (suc n)) l = by_rest (least_below f g (suc n) (omega arith))
-  where
-    with_last : (m : ℕ) → (m ≤ f (suc n)) → (m ≤ g (suc n)) → ((k : ℕ) → k < suc n → (m ≤ f k) × (m ≤ g k)) → (k : ℕ)
-        → k < suc (suc n) → (m ≤ f k) × (m ≤ g k)
-    with_last m a b before k h = elim (cases_eq k (suc n)) [
-      | inl e ↦ let x : f k ≡ f (suc n) = ap f e in let y : g k ≡ g (suc n) = ap g e in (omega arith, omega arith)
-      | inr ne ↦ before k (omega arith)
+least_below f g (suc zero) l =
+    let all : (m : ℕ) → m ≤ f 0 → m ≤ g 0 → (k : ℕ) → k < 1 → (m ≤ f k) × (m ≤ g k) = λ m a b k h.
+        let e : k ≡ 0 = omega arith in
+        rw e (a, b) in
+    elim (cases_lt (g 0) (f 0)) [
+      | inl less ↦ (g 0, (0, omega arith, inr refl), all (g 0) (omega arith) (omega arith))
+      | inr more ↦ (f 0, (0, omega arith, inl refl), all (f 0) (omega arith) (omega arith))
     ]
-
-    lower : (m m' : ℕ) → m' ≤ m → ((k : ℕ) → k < suc n → (m ≤ f k) × (m ≤ g k)) → (k : ℕ) → k < suc n → (m' ≤ f k)
-        × (m' ≤ g k)
-    lower m m' h all k l = (omega arith, omega arith)
-
-    by_rest : (m : ℕ) × ((k : ℕ) × (k < suc n) × ((m ≡ f k) ⊎ (m ≡ g k)))
-        × ((k : ℕ) → k < suc n → (m ≤ f k) × (m ≤ g k)) → (m : ℕ)
-        × ((k : ℕ) × (k < suc (suc n)) × ((m ≡ f k) ⊎ (m ≡ g k))) × ((k : ℕ) → k < suc (suc n) → (m ≤ f k) × (m ≤ g k))
-    by_rest r = at r.0 r.1 r.2 (cases_lt (f (suc n)) r.0) (cases_lt (g (suc n)) r.0) (cases_lt (g (suc n)) (f (suc n)))
-      where
-        at : (m : ℕ) → ((k : ℕ) × (k < suc n) × ((m ≡ f k) ⊎ (m ≡ g k))) → ((k : ℕ) → k < suc n → (m ≤ f k) × (m ≤ g k))
-            → (f (suc n) < m) ⊎ (m ≤ f (suc n)) → (g (suc n) < m) ⊎ (m ≤ g (suc n)) → (g (suc n) < f (suc n))
-            ⊎ (f (suc n) ≤ g (suc n)) → (m : ℕ) × ((k : ℕ) × (k < suc (suc n)) × ((m ≡ f k) ⊎ (m ≡ g k)))
-            × ((k : ℕ) → k < suc (suc n) → (m ≤ f k) × (m ≤ g k))
-        at m is all (inr a) (inr b) c = (m, (is.0, omega arith, is.2), with_last m a b all)
-        at m is all (inl a) b (inr c) = (
-          f (suc n),
-          (suc n, omega arith, inl refl),
-          with_last (f (suc n)) (omega arith) c (lower m (f (suc n)) (omega arith) all),
-        )
-        at m is all a (inl b) (inl c) = (
-          g (suc n),
-          (suc n, omega arith, inr refl),
-          with_last (g (suc n)) (omega arith) (omega arith) (lower m (g (suc n)) (omega arith) all),
-        )
-        at m is all (inl a) (inr b) (inl c) = absurd (omega arith)
-        at m is all (inr a) (inl b) (inr c) = absurd (omega arith)
+least_below f g (suc (suc n)) l =
+    let r = least_below f g (suc n) (omega arith) in
+    let with_last : (m : ℕ) → m ≤ r.0 → m ≤ f (suc n) → m ≤ g (suc n) → (k : ℕ) → k < suc (suc n)
+        → (m ≤ f k) × (m ≤ g k) = λ m below a b k h. elim (cases_eq k (suc n)) [
+          | inl e ↦ rw e (a, b)
+          | inr ne ↦ let q = r.2 k (omega arith) in (omega (arith, q.0, below), omega (arith, q.1, below))
+        ] in
+    elim (cases_lt (f (suc n)) r.0) [
+      | inr a ↦ elim (cases_lt (g (suc n)) r.0) [
+        | inr b ↦ (r.0, (r.1.0, omega (arith, r.1.1), r.1.2), with_last r.0 (omega arith) a b)
+        | inl b ↦ (g (suc n), (suc n, omega arith, inr refl),
+            with_last (g (suc n)) (omega arith) (omega arith) (omega arith))
+      ]
+      | inl a ↦ elim (cases_lt (g (suc n)) (f (suc n))) [
+        | inl c ↦ (g (suc n), (suc n, omega arith, inr refl),
+            with_last (g (suc n)) (omega arith) (omega arith) (omega arith))
+        | inr c ↦ (f (suc n), (suc n, omega arith, inl refl), with_last (f (suc n)) (omega arith) (omega arith) c)
+      ]
+    ]
 
 -- Each arc has a name.
 pub name_there : (mesh : HalfEdges) (s t n : ℕ) → 0 < n → (name : ℕ) × IsNameOf mesh s t n name
-name_there mesh s t n some = by_least (least_below (easts mesh s) (easts mesh t) n some)
-  where
-    by_least : (m : ℕ) × ((k : ℕ) × (k < n) × ((m ≡ easts mesh s k) ⊎ (m ≡ easts mesh t k)))
-        × ((k : ℕ) → k < n → (m ≤ easts mesh s k) × (m ≤ easts mesh t k)) → (name : ℕ) × IsNameOf mesh s t n name
-    by_least r = (r.0, record { on = r.1; least = λ d o. at d o.0 o.1 o.2 })
-      where
-        at : (d k : ℕ) → k < n → (d ≡ easts mesh s k) ⊎ (d ≡ easts mesh t k) → r.0 ≤ d
-        at d k l (inl e) = omega arith
-        at d k l (inr e) = omega arith
+name_there mesh s t n some =
+    let r = least_below (easts mesh s) (easts mesh t) n some in
+    (r.0, record {
+      on = r.1;
+      least = λ d o. let q = r.2 o.0 o.1 in elim o.2 [ inl e ↦ omega (arith, e, q.0) | inr e ↦ omega (arith, e, q.1) ];
+    })
 
 pub one_name : (mesh : HalfEdges) (s t n a b : ℕ) → IsNameOf mesh s t n a → IsNameOf mesh s t n b → a ≡ b
 one_name mesh s t n a b one two = omega (arith, one.least b two.on, two.least a one.on)
@@ -119,19 +94,19 @@ module _ (mesh : HalfEdges) (laws : IsQuadManifold mesh) (cut : Cut) (full : IsC
   -- Arcs with a dart in common are one.
   pub one_arc : (s t n r u m d : ℕ) → AreGlued mesh cut s t n → AreGlued mesh cut r u m → IsOnArc mesh s t n d
       → IsOnArc mesh r u m d → AreOneArc s t r u × (n ≡ m)
-  one_arc s t n r u m d one two a b = by_sides a.0 b.0 a.1 b.1 a.2 b.2
-    where
-      by_sides : (k j : ℕ) → k < n → j < m → (d ≡ easts mesh s k) ⊎ (d ≡ easts mesh t k) → (d ≡ easts mesh r j)
-          ⊎ (d ≡ easts mesh u j) → AreOneArc s t r u × (n ≡ m)
-      by_sides k j lk lj (inl e) (inl f) = let p = one_near k j one two lk lj (sym e ∙ f) in (inl (p.0, p.1), p.2)
-      by_sides k j lk lj (inl e) (inr f) =
-          let p = one_near k j one (turned_glued mesh laws cut full two) lk lj (sym e ∙ f) in
-          (inr (p.0, p.1), p.2)
-      by_sides k j lk lj (inr e) (inl f) =
-          let p = one_near k j (turned_glued mesh laws cut full one) two lk lj (sym e ∙ f) in
-          (inr (p.1, p.0), p.2)
-      by_sides k j lk lj (inr e) (inr f) = let p = one_near k j (turned_glued mesh laws cut full one)
-          (turned_glued mesh laws cut full two) lk lj (sym e ∙ f) in (inl (p.1, p.0), p.2)
+  one_arc s t n r u m d one two a b =
+      let turned_one = turned_glued mesh laws cut full one in
+      let turned_two = turned_glued mesh laws cut full two in
+      elim a.2 [
+        | inl e ↦ elim b.2 [
+          | inl f ↦ let p = one_near a.0 b.0 one two a.1 b.1 (sym e ∙ f) in (inl (p.0, p.1), p.2)
+          | inr f ↦ let p = one_near a.0 b.0 one turned_two a.1 b.1 (sym e ∙ f) in (inr (p.0, p.1), p.2)
+        ]
+        | inr e ↦ elim b.2 [
+          | inl f ↦ let p = one_near a.0 b.0 turned_one two a.1 b.1 (sym e ∙ f) in (inr (p.1, p.0), p.2)
+          | inr f ↦ let p = one_near a.0 b.0 turned_one turned_two a.1 b.1 (sym e ∙ f) in (inl (p.1, p.0), p.2)
+        ]
+      ]
 
   module _ {rest : Cut} {s t n : ℕ} (arc : IsJoinable mesh cut s t n) (without : IsWithout mesh cut rest s t n) where
     full_rest : IsCut mesh rest
@@ -140,18 +115,17 @@ module _ (mesh : HalfEdges) (laws : IsQuadManifold mesh) (cut : Cut) (full : IsC
     -- A cut dart that led into the arc arrived at one of its ends.
     over_end : (d : ℕ) → d < mesh.count → rest d ≡ true → IsOnArc mesh s t n (mesh.next d) → (d ≡ mesh.prev s)
         ⊎ (d ≡ mesh.prev t)
-    over_end d l on o = elim o.2 [
-      | inl e ↦ inl (start s o.0 arc.glued.near o.1 e)
-      | inr e ↦ inr (start t o.0 arc.glued.far o.1 e)
-    ]
-      where
-        was : cut (mesh.prev (mesh.next d)) ≡ true
-        was = ap cut (laws.prev_next d) ∙ less mesh laws cut rest s t n without d l on
-
-        start : (c k : ℕ) → IsWholeSide mesh cut c n → k < n → mesh.next d ≡ easts mesh c k → d ≡ mesh.prev c
-        start c k side lk e =
-            let zero_is = first_place mesh laws cut full c n side k lk (ap (λ x. cut (mesh.prev x)) (sym e) ∙ was) in
-            sym (laws.prev_next d) ∙ ap mesh.prev (e ∙ ap (easts mesh c) zero_is)
+    over_end d l on o =
+        let was : cut (mesh.prev (mesh.next d)) ≡ true =
+            ap cut (laws.prev_next d) ∙ less mesh laws cut rest s t n without d l on in
+        let start : (c k : ℕ) → IsWholeSide mesh cut c n → k < n → mesh.next d ≡ easts mesh c k → d ≡ mesh.prev c =
+            λ c k side lk e.
+              let first = first_place mesh laws cut full c n side k lk (ap (λ x. cut (mesh.prev x)) (sym e) ∙ was) in
+              sym (laws.prev_next d) ∙ ap mesh.prev (e ∙ ap (easts mesh c) first) in
+        elim o.2 [
+          | inl e ↦ inl (start s o.0 arc.glued.near o.1 e)
+          | inr e ↦ inr (start t o.0 arc.glued.far o.1 e)
+        ]
 
     -- A whole side was one before, or it goes on over an end of the arc.
     side_before_or_over : (r m : ℕ) → IsWholeSide mesh rest r m → IsWholeSide mesh cut r m
@@ -187,19 +161,16 @@ module _ (mesh : HalfEdges) (laws : IsQuadManifold mesh) (cut : Cut) (full : IsC
 
     grown_arc : (r u m : ℕ) → IsJoinable mesh rest r u m → IsJoinable mesh cut r u m
         ⊎ (IsOnArc mesh r u m (mesh.prev s) ⊎ IsOnArc mesh r u m (mesh.prev t))
-    grown_arc r u m new = by_sides (side_before_or_over r m new.glued.near) (side_before_or_over u m new.glued.far)
-      where
-        apart : AreInOne mesh cut r u → ⊥
-        apart a = new.apart (a.0, links_less mesh laws cut rest s t n without r u a.0 new.glued.near.corner.0 a.1)
-
-        by_sides : IsWholeSide mesh cut r m ⊎ ((k : ℕ) × (k < m)
-            × ((mesh.prev s ≡ easts mesh r k) ⊎ (mesh.prev t ≡ easts mesh r k))) → IsWholeSide mesh cut u m
-            ⊎ ((k : ℕ) × (k < m) × ((mesh.prev s ≡ easts mesh u k) ⊎ (mesh.prev t ≡ easts mesh u k)))
-            → IsJoinable mesh cut r u m ⊎ (IsOnArc mesh r u m (mesh.prev s) ⊎ IsOnArc mesh r u m (mesh.prev t))
-        by_sides (inl a) (inl b) = inl
-            (record { glued = record { near = a; far = b; across = new.glued.across }; apart = apart })
-        by_sides (inl a) (inr o) = inr (elim o.2 [ inl e ↦ inl (o.0, o.1, inr e) | inr e ↦ inr (o.0, o.1, inr e) ])
-        by_sides (inr o) b = inr (elim o.2 [ inl e ↦ inl (o.0, o.1, inl e) | inr e ↦ inr (o.0, o.1, inl e) ])
+    grown_arc r u m new = elim (side_before_or_over r m new.glued.near) [
+      | inl a ↦ elim (side_before_or_over u m new.glued.far) [
+        | inl b ↦ inl (record {
+          glued = record { near = a; far = b; across = new.glued.across };
+          apart = λ k. new.apart (k.0, links_less mesh laws cut rest s t n without r u k.0 new.glued.near.corner.0 k.1);
+        })
+        | inr o ↦ inr (elim o.2 [ inl e ↦ inl (o.0, o.1, inr e) | inr e ↦ inr (o.0, o.1, inr e) ])
+      ]
+      | inr o ↦ inr (elim o.2 [ inl e ↦ inl (o.0, o.1, inl e) | inr e ↦ inr (o.0, o.1, inl e) ])
+    ]
 
 pub grown_law : GrownLaw
 grown_law mesh cut rest s t n r u m laws full arc without new = grown_arc mesh laws cut full arc without r u m new

@@ -20,21 +20,14 @@ use Rattle.merge_laws.proofs.OneMerged.{IsCutOf, cut_reached}
 -- The test of an arc's darts is what it says.
 pub on_arc : (mesh : HalfEdges) (s t n d : ℕ) → IsOnArc mesh s t n d → is_on_arc mesh s t n d ≡ true
 on_arc mesh s t n d (k, l, is) = any_at (λ j. eqb d (easts mesh s j) || eqb d (easts mesh t j)) k (range_with_len 0 n)
-    (among_range 0 n k (omega arith) (omega arith)) (by_side is)
-  where
-    by_side : (d ≡ easts mesh s k) ⊎ (d ≡ easts mesh t k) → (eqb d (easts mesh s k) || eqb d (easts mesh t k)) ≡ true
-    by_side (inl e) = or_left _ _ (eq-eqb _ _ e)
-    by_side (inr e) = or_right (eqb d (easts mesh s k)) _ (eq-eqb _ _ e)
+    (among_range 0 n k (omega arith) (omega arith))
+    (elim is [ inl e ↦ or_left _ _ (eq-eqb _ _ e) | inr e ↦ or_right (eqb d (easts mesh s k)) _ (eq-eqb _ _ e) ])
 
 pub of_arc : (mesh : HalfEdges) (s t n d : ℕ) → is_on_arc mesh s t n d ≡ true → IsOnArc mesh s t n d
-of_arc mesh s t n d y = by_place
-    (any_where (λ j. eqb d (easts mesh s j) || eqb d (easts mesh t j)) (range_with_len 0 n) y)
-  where
-    by_place : (k : ℕ) × (is_among k (range_with_len 0 n) ≡ true)
-        × ((eqb d (easts mesh s k) || eqb d (easts mesh t k)) ≡ true) → IsOnArc mesh s t n d
-    by_place (k, m, is) =
-        let r = range_among 0 n k m in
-        (k, omega arith, elim (or_cases _ _ is) [ inl e ↦ inl (eqb-true _ _ e) | inr e ↦ inr (eqb-true _ _ e) ])
+of_arc mesh s t n d y =
+    let f = any_where (λ j. eqb d (easts mesh s j) || eqb d (easts mesh t j)) (range_with_len 0 n) y in
+    (f.0, omega (arith, (range_among 0 n f.0 f.1).1), elim (or_cases (eqb d (easts mesh s f.0)) _ f.2)
+        [ inl e ↦ inl (eqb-true _ _ e) | inr e ↦ inr (eqb-true _ _ e) ])
 
 implied : (a b : Bool) → (a ≡ true → b ≡ true) → (not a || b) ≡ true
 implied = elim [ true ↦ λ b f. f refl | false ↦ λ b f. refl ]
@@ -53,11 +46,10 @@ pub keeps_from : (faces : Faces) (marks cut : List Bool)
     → ((d : ℕ) → d < darts faces → is_on marks d ≡ true → is_on cut d ≡ true)
     → ((d : ℕ) → d < darts faces → is_break faces marks (from_of faces d) ≡ true
     → is_turn faces cut (from_of faces d) ≡ true) → keeps_lines faces marks cut ≡ true
-keeps_from faces marks cut kept turned =
-    let each : (d : ℕ) → (0 ≤ d) × (d < 0 + darts faces) → is_kept faces marks cut d
-    ≡ true = λ d r. and_from _ _ (implied (is_on marks d) (is_on cut d) (kept d (omega arith))) (implied
-    (is_break faces marks (from_of faces d)) (is_turn faces cut (from_of faces d)) (turned d (omega arith))) in
-    all_from (is_kept faces marks cut) (all_darts faces) (λ d m. each d (range_among 0 (darts faces) d m))
+keeps_from faces marks cut kept turned = all_from (is_kept faces marks cut) (all_darts faces) (λ d m.
+    let l : d < darts faces = omega (arith, (range_among 0 (darts faces) d m).1) in
+    and_from _ _ (implied (is_on marks d) (is_on cut d) (kept d l))
+        (implied (is_break faces marks (from_of faces d)) (is_turn faces cut (from_of faces d)) (turned d l)))
 
 module _ (faces : Faces) (marks cut : List Bool) (keeps : keeps_lines faces marks cut ≡ true) where
   at_dart : (d : ℕ) → d < darts faces → is_kept faces marks cut d ≡ true
@@ -85,23 +77,22 @@ without_long faces cut s t n = length-map (all_darts faces)
 -- The cut of a step is the one that is left.
 pub step_is : {faces : Faces} (marks : List Bool) {cut rest : List Bool} → length cut ≡ darts faces
     → (step : IsStep faces (may_beside faces marks) cut rest) → rest ≡ without faces cut step.near step.far step.size
-step_is {faces} marks {cut} {rest} long step = ext_get_or false rest (without faces cut step.near step.far step.size)
-    (step.long ∙ (long ∙ sym (without_long faces cut step.near step.far step.size)))
-    (λ d l. each d (omega arith) (cases_Bool (is_on_arc (half_edges faces) step.near step.far step.size d)))
-  where
-    off_test : (a b : Bool) → b ≡ true → (a && not b) ≡ false
-    off_test = elim [ true ↦ λ b y. ap not y | false ↦ λ b y. refl ]
-
-    on_test : (a b : Bool) → b ≡ false → (a && not b) ≡ a
-    on_test = elim [ true ↦ λ b y. ap not y | false ↦ λ b y. refl ]
-
-    each : (d : ℕ) → d < darts faces → (is_on_arc (half_edges faces) step.near step.far step.size d ≡ true)
-        ⊎ (is_on_arc (half_edges faces) step.near step.far step.size d ≡ false)
-        → is_on rest d ≡ is_on (without faces cut step.near step.far step.size) d
-    each d l (inl y) = step.without.gone d (of_arc (half_edges faces) step.near step.far step.size d y)
-        ∙ sym (without_is faces cut step.near step.far step.size d l ∙ off_test (is_on cut d) _ y)
-    each d l (inr n) = step.without.kept d l (λ o. false≢true (sym n ∙ on_arc (half_edges faces) step.near step.far
-        step.size d o)) ∙ sym (without_is faces cut step.near step.far step.size d l ∙ on_test (is_on cut d) _ n)
+step_is {faces} marks {cut} {rest} long step =
+    let mesh = half_edges faces in
+    let s = step.near in
+    let t = step.far in
+    let n = step.size in
+    let off_test : (a b : Bool) → b ≡ true → (a && not b) ≡ false =
+        elim [ true ↦ λ b y. ap not y | false ↦ λ b y. refl ] in
+    let on_test : (a b : Bool) → b ≡ false → (a && not b) ≡ a = elim [ true ↦ λ b y. ap not y | false ↦ λ b y. refl ] in
+    ext_get_or false rest (without faces cut s t n) (step.long ∙ (long ∙ sym (without_long faces cut s t n))) (λ d h.
+          let l : d < darts faces = omega (arith, h, step.long, long) in
+          elim (cases_Bool (is_on_arc mesh s t n d)) [
+            | inl y ↦ step.without.gone d (of_arc mesh s t n d y)
+                ∙ sym (without_is faces cut s t n d l ∙ off_test (is_on cut d) _ y)
+            | inr clear ↦ step.without.kept d l (λ o. false≢true (sym clear ∙ on_arc mesh s t n d o))
+                ∙ sym (without_is faces cut s t n d l ∙ on_test (is_on cut d) _ clear)
+          ])
 
 module _ (faces : Faces) (laws : IsQuadManifold (half_edges faces)) (marks : List Bool) where
   keeps_reached : (cut rest : List Bool) (i : ℕ) → IsCutOf faces cut → keeps_lines faces marks cut ≡ true
@@ -114,24 +105,18 @@ module _ (faces : Faces) (laws : IsQuadManifold (half_edges faces)) (marks : Lis
 -- So many steps keep marked lines.
 pub beside_reached : (faces : Faces) (marks cut rest : List Bool) (steps : ℕ) → IsManifold faces
     → IsCutBeside faces marks cut → Steps faces (may_beside faces marks) cut rest steps → IsCutBeside faces marks rest
-beside_reached faces marks cut rest steps manifold beside reached = record {
-  full = (full_cut_law faces rest manifold).1 (after.long, after.full);
-  kept = kept_from faces marks rest keeps;
-  turned = turned_from faces marks rest keeps;
-}
-  where
-    laws : IsQuadManifold (half_edges faces)
-    laws = manifold_law faces manifold
-
-    is : IsCutOf faces cut
-    is = record { long = beside.full.long; full = ((full_cut_law faces cut manifold).0 beside.full).1 }
-
-    after : IsCutOf faces rest
-    after = cut_reached faces (may_beside faces marks) laws rest steps is reached
-
-    keeps : keeps_lines faces marks rest ≡ true
-    keeps = keeps_reached faces laws marks cut rest steps is (keeps_from faces marks cut beside.kept beside.turned)
-        reached
+beside_reached faces marks cut rest steps manifold beside reached =
+    let laws = manifold_law faces manifold in
+    let is : IsCutOf faces cut =
+        record { long = beside.full.long; full = ((full_cut_law faces cut manifold).0 beside.full).1 } in
+    let after = cut_reached faces (may_beside faces marks) laws rest steps is reached in
+    let keeps = keeps_reached faces laws marks cut rest steps is (keeps_from faces marks cut beside.kept beside.turned)
+        reached in
+    record {
+      full = (full_cut_law faces rest manifold).1 (after.long, after.full);
+      kept = kept_from faces marks rest keeps;
+      turned = turned_from faces marks rest keeps;
+    }
 
 pub merged_beside_law : MergedBesideLaw
 merged_beside_law faces marks cut rest manifold beside merged =

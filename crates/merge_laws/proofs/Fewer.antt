@@ -83,8 +83,7 @@ module _ {mesh : HalfEdges} (laws : IsQuadManifold mesh) {cut rest : Cut} (full 
         | inl e ↦ more c (rw e (step_next mesh laws cut c c (0, refl))) was
         | inr p ↦ elim (on_or_not mesh s t n c) [
           | inl o ↦ inr (over c lc p.1 o was)
-          | inr none ↦ more c
-              (step_over mesh laws cut c c y (0, refl) (sym (without.kept c lc none) ∙ p.0) p.1) was
+          | inr none ↦ more c (step_over mesh laws cut c c y (0, refl) (sym (without.kept c lc none) ∙ p.0) p.1) was
         ]
       ]
     where

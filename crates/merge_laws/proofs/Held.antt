@@ -21,9 +21,9 @@ Turn faces cut v = (e : ℕ) × (e < darts faces) × (from_of faces e ≡ v) × 
 
 pub turn_there : (faces : Faces) (cut : List Bool) (v : ℕ) → is_turn faces cut v ≡ true → Turn faces cut v
 turn_there faces cut v y =
-    let found = (any_where (λ d. is_on cut d && is_on cut (prev_of d)) (fan_of faces v) y) in
+    let found = any_where (λ d. is_on cut d && is_on cut (prev_of d)) (fan_of faces v) y in
     let f = from_fan faces v found.0 found.1 in
-    let p : (is_on cut found.0 ≡ true) × (is_on cut (prev_of found.0) ≡ true) = and_parts _ _ found.2 in
+    let p = and_parts (is_on cut found.0) (is_on cut (prev_of found.0)) found.2 in
     (found.0, f.0, f.1, p.0, p.1)
 
 pub turn_from : (faces : Faces) (cut : List Bool) (v : ℕ) → Turn faces cut v → is_turn faces cut v ≡ true
@@ -51,12 +51,12 @@ held_law faces marks cut rest s t n more free = keeps_from faces marks (without 
 pub turned_may : (faces : Faces) (marks cut : List Bool) (s t n : ℕ) → may_beside faces marks cut s t n ≡ true
     → may_beside faces marks cut t s n ≡ true
 turned_may faces marks cut s t n y =
-    let same : without faces cut s t n ≡ without faces cut t s n = let other : (d : ℕ) → is_on_arc (half_edges faces) s
-    t n d ≡ is_on_arc (half_edges faces) t s n d = λ d. same_test _ _ (λ o. on_arc (half_edges faces) t s n d
-    (other_way (half_edges faces) s t n d (of_arc (half_edges faces) s t n d o))) (λ o. on_arc (half_edges faces) s t n
-    d (other_way (half_edges faces) t s n d (of_arc (half_edges faces) t s n d o))) in let each : (d : ℕ) → d
-    < darts faces → is_on (without faces cut s t n) d ≡ is_on (without faces cut t s n) d = λ d l. without_is faces cut
-    s t n d l ∙ (ap (λ b. is_on cut d && not b) (other d) ∙ sym (without_is faces cut t s n d l)) in ext_get_or false
-    (without faces cut s t n) (without faces cut t s n) (without_long faces cut s t n
-    ∙ sym (without_long faces cut t s n)) (λ d l. each d (omega (arith, without_long faces cut s t n))) in
+    let mesh = half_edges faces in
+    let over : (s t d : ℕ) → is_on_arc (half_edges faces) s t n d ≡ true → is_on_arc (half_edges faces) t s n d ≡ true =
+        λ s t d o. on_arc mesh t s n d (other_way mesh s t n d (of_arc mesh s t n d o)) in
+    let same = ext_get_or false (without faces cut s t n) (without faces cut t s n)
+        (without_long faces cut s t n ∙ sym (without_long faces cut t s n)) (λ d h.
+          let l : d < darts faces = omega (arith, h, without_long faces cut s t n) in
+          without_is faces cut s t n d l ∙ (ap (λ b. is_on cut d && not b) (same_test _ _ (over s t d) (over t s d))
+              ∙ sym (without_is faces cut t s n d l))) in
     ap (keeps_lines faces marks) (sym same) ∙ y

@@ -133,10 +133,9 @@ module _ {mesh : HalfEdges} (laws : IsQuadManifold mesh) {cut : Cut} (full : IsC
           ap rest (laws.prev_next (mesh.next cell)) ∙ stays (mesh.next cell) low (clear 1 (n - 1) (h - 1) (omega arith)
               (omega arith) last top) (grid.east_shut (n - 1) (h - 1) (omega arith) top),
         ) in
-        let l = links_join mesh laws cut d e far a
-        (links_join mesh laws cut e s far (linked_back mesh laws cut full s e arc.glued.near.corner.0
-        (linked_in mesh laws cut full n h (grown mesh s) grid e i)) (linked_in mesh laws cut full n h (grown mesh s)
-        grid far (2, record { a = n - 1; b = h - 1; a_low = last; b_low = top; is = refl }))) in
+        let l = links_join mesh laws cut d e far a (links_join mesh laws cut e s far (linked_back mesh laws cut full s e
+        arc.glued.near.corner.0 (linked_in mesh laws cut full n h (grown mesh s) grid e i)) (linked_in mesh laws cut
+        full n h (grown mesh s) grid far (2, record { a = n - 1; b = h - 1; a_low = last; b_low = top; is = refl }))) in
         (far, l.0, links_less mesh laws cut rest s t n without d far l.0 ld l.1, corner)
 
 module _ {mesh : HalfEdges} (laws : IsQuadManifold mesh) {cut : Cut} (full : IsCut mesh cut) {s t n : ℕ}
@@ -191,9 +190,8 @@ module _ {mesh : HalfEdges} (laws : IsQuadManifold mesh) {cut : Cut} (full : IsC
   crossed : (d : ℕ) → d < mesh.count → IsUncut mesh rest (mesh.from d) → HasCross mesh d
   crossed d l uncut =
       let off = uncut d l refl in
-      let on_arc : (x : ℕ) → x < mesh.count → cut x ≡ true → rest x ≡ false → IsOnArc mesh s t n x = λ x lx c r.
-      elim (on_or_not mesh s t n x)
-      [ inl o ↦ o | inr none ↦ absurd (true≢false (sym (keeps x lx none c) ∙ r)) ] in
+      let on_arc : (x : ℕ) → x < mesh.count → cut x ≡ true → rest x ≡ false → IsOnArc mesh s t n x = λ x lx c r. elim
+      (on_or_not mesh s t n x) [ inl o ↦ o | inr none ↦ absurd (true≢false (sym (keeps x lx none c) ∙ r)) ] in
       elim (cases_Bool (cut d)) [
         | inl c ↦
             let o = on_arc d l c off.0 in
@@ -264,6 +262,5 @@ module _ {mesh : HalfEdges} (laws : IsQuadManifold mesh) {cut : Cut} (full : IsC
       }
 
 pub join_law : JoinLaw
-join_law mesh cut rest s t n laws full arc without =
-    full_rest laws full arc (grid_on mesh laws cut full s n arc.glued.near).1
-    (grid_on mesh laws cut full t n arc.glued.far).1 without
+join_law mesh cut rest s t n laws full arc without = full_rest laws full arc
+    (grid_on mesh laws cut full s n arc.glued.near).1 (grid_on mesh laws cut full t n arc.glued.far).1 without

@@ -7,6 +7,7 @@ use Rattle.def_cut.specs.{Grids.patch_at, Steps.easts}
 use Rattle.cut_laws.proofs.{Darts.prev_three, Classes.In, Classes.in_low}
 use Rattle.def_layout.specs.{Arcs.path_at, Arcs.long_at, Arcs.dart_at, Arcs.LiesAt, Borders.side_size}
 use Rattle.def_layout.specs.{Borders.border_dart, Gluings.Way, Gluings.south, Gluings.east, Gluings.north, Gluings.west}
+use Rattle.def_layout.specs.Gluings.{Gluing}
 use Rattle.def_layout.specs.{Gluings.Slot, Gluings.IsSlot, Gluings.use_of, Lengths.reach, Layouts.Layout}
 use Rattle.def_layout.specs.Layouts.{gluing_of, IsDartLayout}
 use Rattle.mesh_laws.proofs.HalfEdges.{manifold_law}
@@ -76,97 +77,98 @@ module _ (mesh : HalfEdges) (laws : IsQuadManifold mesh) (cut : Cut) (full : IsC
 
 module _ {mesh : HalfEdges} (laws : IsQuadManifold mesh) {cut : Cut} (full : IsCut mesh cut) {node : ℕ → Bool}
     {face : ℕ → ℕ} {vertices : ℕ} {layout : Layout} (lay : IsDartLayout mesh cut node face vertices layout) where
+  abbrev gluing : Gluing
+  gluing = gluing_of layout
+
   abbrev arc_of : (slot : Slot) → ℕ
   arc_of slot = (use_of (gluing_of layout) slot).arc
 
-  grid_of : {slot : Slot} → IsSlot (gluing_of layout) slot
-      → IsGrid mesh cut (patch_at layout.patches slot.patch).w (patch_at layout.patches slot.patch).h
-      (cell_of (patch_at layout.patches slot.patch))
+  -- The patch of a slot, the darts of its side, and how long its arc is.
+  abbrev patch : (slot : Slot) → Rectangle
+  patch slot = patch_at layout.patches slot.patch
+
+  abbrev dart : (slot : Slot) (k : ℕ) → ℕ
+  dart slot k = border_dart mesh (patch_at layout.patches slot.patch) slot.side k
+
+  abbrev length_of : (slot : Slot) → ℕ
+  length_of slot = long_at layout.arcs (use_of (gluing_of layout) slot).arc
+
+  grid_of : {slot : Slot} → IsSlot gluing slot → IsGrid mesh cut (patch slot).w (patch slot).h (cell_of (patch slot))
   grid_of {slot} is = (lay.patches.patch slot.patch is.patch_low).grid
 
   -- A slot that is alone on its side: its arc is as long as the side, and begins with it.
-  module _ (slot : Slot) (is : IsSlot (gluing_of layout) slot)
-      (alone : (gluing_of layout).many slot.patch slot.side ≡ 1)
+  module _ (slot : Slot) (is : IsSlot gluing slot) (alone : gluing.many slot.patch slot.side ≡ 1)
     where
       at_first : slot.at ≡ 0
       at_first = omega arith
 
-      use_here : (gluing_of layout).use_at slot.patch slot.side 0 ≡ use_of (gluing_of layout) slot
-      use_here = ap (λ k. (gluing_of layout).use_at slot.patch slot.side k) (sym at_first)
+      use_here : gluing.use_at slot.patch slot.side 0 ≡ use_of gluing slot
+      use_here = ap (λ k. gluing.use_at slot.patch slot.side k) (sym at_first)
 
-      one_long : reach (gluing_of layout) (long_at layout.arcs) slot.patch slot.side 1
-          ≡ long_at layout.arcs (arc_of slot)
-      one_long = let none : 0 + long_at layout.arcs (arc_of slot) ≡ long_at layout.arcs (arc_of slot) =
+      one_long : reach gluing (long_at layout.arcs) slot.patch slot.side 1 ≡ length_of slot
+      one_long = let none : 0 + length_of slot ≡ length_of slot =
           omega arith in ap (λ u. 0 + long_at layout.arcs u.arc) use_here ∙ none
 
-      long : long_at layout.arcs (arc_of slot) ≡ side_size (patch_at layout.patches slot.patch) slot.side
-      long = sym one_long ∙ (ap (reach (gluing_of layout) (long_at layout.arcs) slot.patch slot.side) (sym alone)
+      long : length_of slot ≡ side_size (patch slot) slot.side
+      long = sym one_long ∙ (ap (reach gluing (long_at layout.arcs) slot.patch slot.side) (sym alone)
           ∙ lay.sizes slot.patch slot.side is.patch_low)
 
-      lies : (o : ℕ) → o < long_at layout.arcs (arc_of slot)
-          → LiesAt mesh (path_at layout.arcs (arc_of slot)).darts (use_of (gluing_of layout) slot).forward o
-          (border_dart mesh (patch_at layout.patches slot.patch) slot.side o)
+      lies : (o : ℕ) → o < length_of slot
+          → LiesAt mesh (path_at layout.arcs (arc_of slot)).darts (use_of gluing slot).forward o (dart slot o)
       lies o l = rw none at (lay.used slot o is l)
         where
-          none : reach (gluing_of layout) (long_at layout.arcs) slot.patch slot.side slot.at + o ≡ o
+          none : reach gluing (long_at layout.arcs) slot.patch slot.side slot.at + o ≡ o
           none = let same : 0 + o ≡ o = omega arith in ap
-              (λ k. reach (gluing_of layout) (long_at layout.arcs) slot.patch slot.side k + o) at_first ∙ same
+              (λ k. reach gluing (long_at layout.arcs) slot.patch slot.side k + o) at_first ∙ same
 
-  module _ {one other : Slot} (are : IsJoinableAt (gluing_of layout) one other) where
-    near : IsBorder mesh cut (patch_at layout.patches one.patch) one.side
-    near = border mesh laws cut full (patch_at layout.patches one.patch) (grid_of are.slot) one.side
+  module _ {one other : Slot} (are : IsJoinableAt gluing one other) where
+    near : IsBorder mesh cut (patch one) one.side
+    near = border mesh laws cut full (patch one) (grid_of are.slot) one.side
 
-    far : IsBorder mesh cut (patch_at layout.patches other.patch) other.side
-    far = border mesh laws cut full (patch_at layout.patches other.patch) (grid_of are.across.0) other.side
+    far : IsBorder mesh cut (patch other) other.side
+    far = border mesh laws cut full (patch other) (grid_of are.across.0) other.side
 
-    near_long : side_size (patch_at layout.patches one.patch) one.side ≡ long_at layout.arcs (arc_of one)
+    near_long : side_size (patch one) one.side ≡ length_of one
     near_long = sym (long one are.slot are.alone)
 
-    far_long : side_size (patch_at layout.patches other.patch) other.side ≡ long_at layout.arcs (arc_of one)
+    far_long : side_size (patch other) other.side ≡ length_of one
     far_long = sym (long other are.across.0 are.alone_across) ∙ ap (long_at layout.arcs) are.across.1.arc
 
-    far_lies : (o : ℕ) → o < long_at layout.arcs (arc_of one)
-        → LiesAt mesh (path_at layout.arcs (arc_of one)).darts (not (use_of (gluing_of layout) one).forward) o
-        (border_dart mesh (patch_at layout.patches other.patch) other.side o)
+    far_lies : (o : ℕ) → o < length_of one
+        → LiesAt mesh (path_at layout.arcs (arc_of one)).darts (not (use_of gluing one).forward) o (dart other o)
     far_lies o l = rw (← are.across.1.turned) (rw (← are.across.1.arc)
         (lies other are.across.0 are.alone_across o (omega (arith, ap (long_at layout.arcs) are.across.1.arc))))
 
-    paired : (b : Bool) (k j x y : ℕ) → y < mesh.count → k + suc j ≡ long_at layout.arcs (arc_of one)
+    paired : (b : Bool) (k j x y : ℕ) → y < mesh.count → k + suc j ≡ length_of one
         → LiesAt mesh (path_at layout.arcs (arc_of one)).darts b k x
         → LiesAt mesh (path_at layout.arcs (arc_of one)).darts (not b) j y → mesh.twin x ≡ Some y
-    paired true k j x y ly sum a b = let same : long_at layout.arcs (arc_of one) - 1 - j ≡ k =
+    paired true k j x y ly sum a b = let same : length_of one - 1 - j ≡ k =
         omega arith in ap mesh.twin (a ∙ ap (dart_at layout.arcs (arc_of one)) (sym same)) ∙ b
-    paired false k j x y ly sum a b = let same : long_at layout.arcs (arc_of one) - 1 - k ≡ j = omega arith in
+    paired false k j x y ly sum a b = let same : length_of one - 1 - k ≡ j = omega arith in
         laws.twin_twin y x ly (ap mesh.twin (b ∙ ap (dart_at layout.arcs (arc_of one)) (sym same)) ∙ a)
 
-    joined : IsJoinable mesh cut (border_dart mesh (patch_at layout.patches one.patch) one.side 0)
-        (border_dart mesh (patch_at layout.patches other.patch) other.side 0) (long_at layout.arcs (arc_of one))
+    joined : IsJoinable mesh cut (dart one 0) (dart other 0) (length_of one)
     joined = record {
       glued = record { near = rw near_long at near.whole; far = rw far_long at far.whole; across = across };
       apart = apart;
     }
       where
-        across : (k j : ℕ) → k + suc j ≡ long_at layout.arcs (arc_of one)
-            → mesh.twin (easts mesh (border_dart mesh (patch_at layout.patches one.patch) one.side 0) k) ≡ Some
-            (easts mesh (border_dart mesh (patch_at layout.patches other.patch) other.side 0) j)
+        across : (k j : ℕ) → k + suc j ≡ length_of one → mesh.twin (easts mesh (dart one 0) k)
+            ≡ Some (easts mesh (dart other 0) j)
         across k j sum =
-            let lj : j < side_size (patch_at layout.patches other.patch) other.side = omega (arith, far_long) in
-            let low = in_low mesh laws cut full (patch_at layout.patches other.patch).w (patch_at layout.patches
-            other.patch).h (cell_of (patch_at layout.patches other.patch)) (grid_of are.across.0)
-            (border_dart mesh (patch_at layout.patches other.patch) other.side j) (far.inside j lj) in
+            let lj : j < side_size (patch other) other.side = omega (arith, far_long) in
+            let low = in_low mesh laws cut full (patch other).w (patch_at layout.patches other.patch).h
+            (cell_of (patch other)) (grid_of are.across.0) (dart other j) (far.inside j lj) in
             ap mesh.twin (near.along k (omega (arith, near_long)))
-            ∙ (paired (use_of (gluing_of layout) one).forward k j
-            (border_dart mesh (patch_at layout.patches one.patch) one.side k)
-            (border_dart mesh (patch_at layout.patches other.patch) other.side j) low sum
+            ∙ (paired (use_of gluing one).forward k j
+            (dart one k)
+            (dart other j) low sum
             (lies one are.slot are.alone k (omega arith)) (far_lies j (omega arith))
             ∙ ap Some (sym (far.along j lj)))
 
-        apart : AreInOne mesh cut (border_dart mesh (patch_at layout.patches one.patch) one.side 0)
-            (border_dart mesh (patch_at layout.patches other.patch) other.side 0) → ⊥
-        apart a = are.apart (one_place_of laws full lay.patches one.patch other.patch
-            (border_dart mesh (patch_at layout.patches one.patch) one.side 0)
-            (border_dart mesh (patch_at layout.patches other.patch) other.side 0) are.slot.patch_low
-            are.across.0.patch_low (near.inside 0 near.whole.some) (far.inside 0 far.whole.some) a)
+        apart : AreInOne mesh cut (dart one 0) (dart other 0) → ⊥
+        apart a = are.apart (one_place_of laws full lay.patches one.patch other.patch (dart one 0) (dart other 0)
+            are.slot.patch_low are.across.0.patch_low (near.inside 0 near.whole.some) (far.inside 0 far.whole.some) a)
 
 pub joinable_law : JoinableLaw
 joinable_law faces marks layout manifold full lay one other are =

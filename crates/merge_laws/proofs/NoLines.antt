@@ -43,8 +43,11 @@ module _ (faces : Faces) (may other : MayLeave)
   }
 
 module _ (faces : Faces) where
+  abbrev no_marks : List Bool
+  no_marks = replicate (darts faces) false
+
   pub none_held : (cut : List Bool) (s t n : ℕ) → may_beside faces (replicate (darts faces) false) cut s t n ≡ true
-  none_held cut s t n = keeps_from faces (replicate (darts faces) false) (without faces cut s t n) (λ d l on. absurd
+  none_held cut s t n = keeps_from faces no_marks (without faces cut s t n) (λ d l on. absurd
       (false≢true (sym (off faces d) ∙ on))) (λ d l y. absurd (false≢true (sym (no_break faces (from_of faces d)) ∙ y)))
 
   -- A full cut keeps no marks.
@@ -58,23 +61,17 @@ module _ (faces : Faces) where
   pub none_broken : replicate (vertex_count faces) false
       ≡ map (is_break faces (replicate (darts faces) false)) (all_vertices faces)
   none_broken =
-      let long : length (replicate (vertex_count faces) false)
-      ≡ length (map (is_break faces (replicate (darts faces) false)) (all_vertices faces)) = length-replicate
-      (vertex_count faces) false ∙ sym (length-map (all_vertices faces) (is_break faces (replicate (darts faces) false))
-      ∙ length-range_with_len 0 (vertex_count faces)) in
-      let at : (v : ℕ) → v < length (replicate (vertex_count faces) false)
-      → is_on (map (is_break faces (replicate (darts faces) false)) (all_vertices faces)) v
-      ≡ false = λ v l. get_or-map-range_with_len (is_break faces (replicate (darts faces) false)) 0 (vertex_count faces)
-      v v false (omega (arith, length-replicate (vertex_count faces) false)) (omega arith) ∙ no_break faces v in
-      ext_get_or false (replicate (vertex_count faces) false) (map (is_break faces (replicate (darts faces) false))
-      (all_vertices faces)) long (λ v l. none_on (vertex_count faces) v ∙ sym (at v l))
+      let n = vertex_count faces in
+      ext_get_or false (replicate n false) (map (is_break faces no_marks) (all_vertices faces))
+          (length-replicate n false ∙ sym (length-map (all_vertices faces) (is_break faces no_marks)
+          ∙ length-range_with_len 0 n)) (λ v l. none_on n v ∙ sym (get_or-map-range_with_len (is_break faces no_marks) 0
+          n v v false (omega (arith, l, length-replicate n false)) (omega arith) ∙ no_break faces v))
 
   -- What is merged beside no marks is merged, and the other way round.
   pub none_merged : (cut rest : List Bool)
       → IsMergedBy faces (may_beside faces (replicate (darts faces) false)) cut rest → IsMergedCut faces cut rest
-  none_merged = merged_alike faces (may_beside faces (replicate (darts faces) false)) all_may none_held
+  none_merged = merged_alike faces (may_beside faces no_marks) all_may none_held
 
   pub merged_none : (cut rest : List Bool) → IsMergedCut faces cut rest
       → IsMergedBy faces (may_beside faces (replicate (darts faces) false)) cut rest
-  merged_none = merged_alike faces all_may (may_beside faces (replicate (darts faces) false))
-      (λ cut s t n. sym (none_held cut s t n))
+  merged_none = merged_alike faces all_may (may_beside faces no_marks) (λ cut s t n. sym (none_held cut s t n))
