@@ -1,5 +1,5 @@
 -- Fans and kinds of the vertices of a list of faces, told by turns of its half edges.
-use Rattle.std.proofs.Common.{◌≡◌, ◌⊎◌, ℕ, zero, suc, ◌+◌, ◌-◌, ◌*◌, ◌/◌, ◌%◌, ◌<◌, ◌≤◌, true, not, ◌||◌, eqb, length}
+use Rattle.std.proofs.Common.{◌≡◌, ◌⊎◌, ℕ, zero, suc, ◌+◌, ◌-◌, ◌*◌, ◌/◌, ◌%◌, ◌<◌, true, not, ◌||◌, eqb, length}
 use Rattle.std.proofs.Common.{get_or, Option, Some, None, is_some, sym, ◌∙◌, ap, subst, refl, inl, inr, arith}
 use Rattle.std.proofs.lemmas.Bool.{cases_Bool, cases_order, eqb-true, eq-eqb, ne_eqb, cond-true, cond-false, or_left}
 use Rattle.std.proofs.lemmas.Bool.{or_right, or_cases, not_from_true, not_from_false, false≢true}
@@ -78,8 +78,11 @@ module _ (faces : Faces) (laws : IsQuadManifold (half_edges faces)) where
   -- A regular inner vertex has a cross at each dart,
   pub regular_cross : (d : ℕ) → d < darts faces → is_inner faces (from_of faces d) ≡ true
       → is_regular faces (from_of faces d) ≡ true → HasCross (half_edges faces) d
-  regular_cross d l inner regular = four_cross (half_edges faces) laws (from_of faces d) round d (record { low = l; at =
-      refl }) (subst (λ (n : ℕ). HasFan (half_edges faces) (from_of faces d) n) many (has_fan faces (from_of faces d)))
+  regular_cross d l inner regular = four_cross (half_edges faces) laws (from_of faces d) round d (record {
+    low = l;
+    at =
+        refl;
+  }) (subst (λ (n : ℕ). HasFan (half_edges faces) (from_of faces d) n) many (has_fan faces (from_of faces d)))
     where
       many : faces_at faces (from_of faces d) ≡ 4
       many = eqb-true _ _ regular ∙ cond-true (is_inner faces (from_of faces d)) 4 2 inner
@@ -93,9 +96,9 @@ module _ (faces : Faces) (laws : IsQuadManifold (half_edges faces)) where
   cross_inner d l c = inner_from faces (from_of faces d) (λ x lx at. elim at [
     | inl at ↦ (both_twins (half_edges faces) laws d c.0 c.1 c.2 l c.3 x (record { low = lx; at = at })).1
     | inr at ↦
-      let t = (both_twins (half_edges faces) laws d c.0 c.1 c.2 l c.3 (next_of x)
-          (record { low = laws.next_low x lx; at = at })).0 in
-      (t.0, ap (twin_of faces) (sym (laws.prev_next x)) ∙ t.1)
+        let t = (both_twins (half_edges faces) laws d c.0 c.1 c.2 l c.3 (next_of x)
+        (record { low = laws.next_low x lx; at = at })).0 in
+        (t.0, ap (twin_of faces) (sym (laws.prev_next x)) ∙ t.1)
   ])
 
   pub cross_faces : (d : ℕ) → d < darts faces → HasCross (half_edges faces) d → faces_at faces (from_of faces d) ≡ 4
@@ -126,11 +129,11 @@ module _ (faces : Faces) (laws : IsQuadManifold (half_edges faces)) where
   pub same_face : (x y : ℕ) → x / 4 ≡ y / 4 → (k : ℕ) × (y ≡ spin (half_edges faces) k x)
   same_face x y e =
       let first : x ≡ spin (half_edges faces) (x % 4) (4 * (x / 4)) =
-          omega arith ∙ from_first (x / 4) (x % 4) (omega arith) in
+      omega arith ∙ from_first (x / 4) (x % 4) (omega arith) in
       let last : y ≡ spin (half_edges faces) (y % 4) (4 * (x / 4)) =
-          omega arith ∙ from_first (x / 4) (y % 4) (omega arith) in
+      omega arith ∙ from_first (x / 4) (y % 4) (omega arith) in
       let back = spin_back (half_edges faces) laws (x % 4) (4 * (x / 4)) in
       let home : 4 * (x / 4) ≡ spin (half_edges faces) back.0 x =
-          back.1 ∙ ap (spin (half_edges faces) back.0) (sym first) in
+      back.1 ∙ ap (spin (half_edges faces) back.0) (sym first) in
       let join = spin_join (half_edges faces) laws (y % 4) back.0 x in
       (join.0, last ∙ (ap (spin (half_edges faces) (y % 4)) home ∙ join.1))

@@ -1,13 +1,13 @@
 -- A full cut of a list of faces and a full cut of its half edges are one.
 use Rattle.std.proofs.Common.{◌≡◌, ◌⊎◌, ℕ, zero, suc, ◌*◌, ◌/◌, ◌<◌, ◌≤◌, Bool, true, false, List, length, Option, Some}
-use Rattle.std.proofs.Common.{None, option_map, sym, ◌∙◌, ap, subst, refl, inl, inr, true≢false, arith}
+use Rattle.std.proofs.Common.{None, option_map, sym, ◌∙◌, ap, refl, inl, inr, true≢false, arith}
 use Rattle.std.proofs.lemmas.Bool.{cases_Bool, cases_eq, false≢true}
 use Rattle.def_mesh.specs.HalfEdges.{HalfEdges}
 use Rattle.def_mesh.specs.{Faces.Faces, Darts.darts, Darts.from_of, Darts.to_of, Darts.next_of, Darts.prev_of}
-use Rattle.def_mesh.specs.{Darts.twin_of, Darts.straight_of, Kinds.is_inner, Kinds.is_regular, HalfEdges.half_edges}
+use Rattle.def_mesh.specs.{Darts.twin_of, Kinds.is_regular, HalfEdges.half_edges}
 use Rattle.def_mesh.specs.HalfEdges.{IsQuadManifold}
 use Rattle.def_cut.specs.Cuts.{HasCross, IsUncut, Links, IsCorner, GoesOn, IsCut}
-use Rattle.def_cut.specs.{FullCut.is_on, FullCut.IsChain, FullCut.IsFullCut, Steps.spin, Laws.FullCutLaw}
+use Rattle.def_cut.specs.{FullCut.is_on, FullCut.IsChain, FullCut.IsFullCut, Laws.FullCutLaw}
 use Rattle.mesh_laws.proofs.{HalfEdges.manifold_law, Darts.next_face}
 use Rattle.cut_laws.proofs.Classes.{AreLinked, step_over, step_spin, links_low}
 use Rattle.face_laws.proofs.Fans.{inner_from, regular_cross, cross_regular, same_face}
@@ -31,16 +31,16 @@ module _ (faces : Faces) (laws : IsQuadManifold (half_edges faces)) (marks : Lis
     crossed : (d : ℕ) → d < darts faces → IsUncut mesh cut (from_of faces d) → HasCross mesh d
     crossed d l uncut =
         let off : (x : ℕ) → x < darts faces → (from_of faces x ≡ from_of faces d) ⊎ (to_of faces x ≡ from_of faces d)
-            → cut x ≡ false = λ x lx at. elim at [
-              | inl at ↦ (uncut x lx at).0
-              | inr at ↦ ap cut (sym (laws.prev_next x)) ∙ (uncut (next_of x) (laws.next_low x lx) at).1
-            ] in
+        → cut x ≡ false = λ x lx at. elim at [
+          | inl at ↦ (uncut x lx at).0
+          | inr at ↦ ap cut (sym (laws.prev_next x)) ∙ (uncut (next_of x) (laws.next_low x lx) at).1
+        ] in
         let inner = inner_from faces (from_of faces d) (λ x lx at. twin_there x lx (off x lx at)) in
         regular_cross faces laws d l inner (elim (cases_Bool (is_regular faces (from_of faces d))) [
           | inl on ↦ on
           | inr other ↦
-            let e = full.irregular d l other in
-            absurd (true≢false (sym e.2 ∙ off e.0 e.1 e.3))
+              let e = full.irregular d l other in
+              absurd (true≢false (sym e.2 ∙ off e.0 e.1 e.3))
         ])
 
     -- Faces that are joined by a chain have their darts in one class.
@@ -91,7 +91,7 @@ module _ (faces : Faces) (laws : IsQuadManifold (half_edges faces)) (marks : Lis
               | inl on ↦ inl (n, omega arith, on, inl at)
               | inr off ↦ elim (cases_Bool (cut (prev_of n))) [
                 | inl on ↦
-                  inl (prev_of n, laws.prev_low n (omega arith), on, inr (ap (from_of faces) (laws.next_prev n) ∙ at))
+                    inl (prev_of n, laws.prev_low n (omega arith), on, inr (ap (from_of faces) (laws.next_prev n) ∙ at))
                 | inr clear ↦ inr (λ x l s. elim (cases_eq x n) [
                   | inl e ↦ (ap cut e ∙ off, ap (λ y. cut (prev_of y)) e ∙ clear)
                   | inr ne ↦ none x (omega arith) s

@@ -1,26 +1,24 @@
 -- Each arc of the cut is marked in all its edges or in none.
-use Rattle.std.proofs.Common.{◌≡◌, ◌⊎◌, ℕ, zero, suc, ◌<◌, Bool, true, false, ◌&&◌, List, Option, Some, None, is_some}
-use Rattle.std.proofs.Common.{sym, subst, ap, ◌∙◌, refl, inl, inr, arith}
-use Rattle.std.proofs.lemmas.Bool.{or_right, and_from, and_parts, or_left, false≢true}
+use Rattle.std.proofs.Common.{◌≡◌, ℕ, zero, suc, ◌<◌, Bool, true, false, ◌&&◌, List, Some}
+use Rattle.std.proofs.Common.{sym, ap, ◌∙◌, refl, inl, inr, arith}
+use Rattle.std.proofs.lemmas.Bool.{and_from, and_parts, false≢true}
 use Rattle.std.proofs.lemmas.Option.{same_Some}
 use Rattle.sum_laws.proofs.Tests.{same_test}
 use Rattle.def_mesh.specs.{Faces.Faces, Darts.darts, Darts.from_of, Darts.to_of, Darts.next_of, Darts.prev_of}
 use Rattle.def_mesh.specs.{Darts.twin_of, Manifold.IsManifold}
 use Rattle.def_mesh.specs.HalfEdges.{HalfEdges, IsQuadManifold, half_edges}
 use Rattle.def_mesh.specs.Vertices.{fan_of}
-use Rattle.def_cut.specs.{Cuts.IsCross, Cuts.HasCross, Cuts.IsCut, FullCut.is_on, Steps.step_east, Steps.easts}
-use Rattle.def_cut.specs.Motion.{is_among}
+use Rattle.def_cut.specs.{Cuts.IsCross, Cuts.IsCut, FullCut.is_on, Steps.step_east, Steps.easts}
 use Rattle.def_layout.specs.{Arcs.IsRun, Nodes.is_node, Nodes.AreNodes}
-use Rattle.def_feature.specs.{Laws.KeepsMarks, Laws.MarkedArcLaw, Beside.is_turn, Beside.IsCutBeside}
+use Rattle.def_feature.specs.{Laws.MarkedArcLaw, Beside.IsCutBeside}
 use Rattle.def_feature.specs.{Beside.BesideArcLaw, Marks.AreMarks, Marks.is_break, Marked.marked_cut}
 use Rattle.cut_laws.proofs.Crosses.{low_a, low_b, low_c, at_a, at_c, both_twins}
 use Rattle.face_laws.proofs.FullCuts.{full_cut_law}
-use Rattle.layout_laws.proofs.{FaceNodes.are_nodes, Runs.GoesStraight, Runs.run_low, Runs.run_goes, Runs.run_inner}
+use Rattle.layout_laws.proofs.{FaceNodes.are_nodes, Runs.GoesStraight, Runs.run_low, Runs.run_goes}
 use Rattle.mesh_laws.proofs.HalfEdges.{manifold_law}
 use Rattle.feature_laws.proofs.Breaks.{in_fan, from_fan, twin_on, two_ways, break_origin, break_cross}
 use Rattle.feature_laws.proofs.Laws.{marked_law, origin_cut}
 use Rattle.motion_laws.proofs.Among.{any_at, any_where}
-use Rattle.std.specs.List.{list_any}
 
 module _ (faces : Faces) (m : IsManifold faces) (marks : List Bool) (marked : AreMarks faces marks)
     (cut_marks : List Bool) (kept : IsCutBeside faces marks cut_marks) where
@@ -52,11 +50,13 @@ module _ (faces : Faces) (m : IsManifold faces) (marks : List Bool) (marked : Ar
             ∙ nodes.corner c lc (kept.kept c lc sides.1) (cut.alike x (prev_of c) l
             (laws.twin_twin (prev_of c) x (laws.prev_low c lc) k.last) ∙ kept.kept x l on))))
         | inr (inr y) ↦
-            let found = any_where (λ e. is_on cut_marks e && is_on cut_marks (prev_of e)) (fan_of faces (from_of faces x))
+            let found = any_where (λ e. is_on cut_marks e && is_on cut_marks (prev_of e))
+                (fan_of faces (from_of faces x))
             (kept.turned x l y) in
             let f = from_fan faces (from_of faces x) found.0 found.1 in
             let p = and_parts (is_on cut_marks found.0) (is_on cut_marks (prev_of found.0)) found.2 in
-            absurd (false≢true (sym inner ∙ (ap (is_node faces cut_marks) (sym f.1) ∙ nodes.corner found.0 f.0 p.0 p.1)))
+            absurd (false≢true
+                (sym inner ∙ (ap (is_node faces cut_marks) (sym f.1) ∙ nodes.corner found.0 f.0 p.0 p.1)))
       ]
 
   -- So it does along an arc,
@@ -118,7 +118,8 @@ traced_beside faces m marks marked =
     let laws = manifold_law faces m in
     let cut = ((full_cut_law faces cut_marks m).0 kept.full).1 in
     -- All edges at a break are in the cut.
-    let at_break : (e t : ℕ) → e < darts faces → twin_of faces e ≡ Some t → is_break faces marks (from_of faces e) ≡ true
+    let at_break : (e t : ℕ) → e < darts faces → twin_of faces e ≡ Some t → is_break faces marks (from_of faces e)
+        ≡ true
     → is_on (marked_cut faces marks) e ≡ true =
     λ e t l w y. origin_cut faces m marks marked e l (break_origin faces m marks marked e t w y) in
     record {

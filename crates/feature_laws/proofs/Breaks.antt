@@ -1,20 +1,20 @@
 -- Marked edges at a vertex: a line goes straight on there, or it begins.
-use Rattle.std.proofs.Common.{◌≡◌, ◌⊎◌, ℕ, suc, ◌+◌, ◌<◌, ◌≤◌, Bool, true, false, not, eqb, ltb, ◌&&◌, ◌||◌, List}
-use Rattle.std.proofs.Common.{Option, Some, None, is_some, sym, subst, ap, ◌∙◌, refl, inl, inr, arith}
+use Rattle.std.proofs.Common.{◌≡◌, ◌⊎◌, ℕ, ◌<◌, ◌≤◌, Bool, true, false, not, eqb, ◌&&◌, ◌||◌, List}
+use Rattle.std.proofs.Common.{Option, Some, None, is_some, sym, ap, ◌∙◌, refl, inl, inr, arith}
 use Rattle.std.proofs.lemmas.Bool.{cases_Bool, cond-true, eq-eqb, eqb-true, lt-ltb, or_left, or_right, and_from}
 use Rattle.std.proofs.lemmas.Bool.{and_parts, not_from_false, false≢true, false_from_ne_true}
 use Rattle.std.proofs.lemmas.Option.{same_Some}
-use Rattle.std.specs.{Prelude.option_map, List.list_any}
+use Rattle.std.specs.{Prelude.option_map}
 use Rattle.def_mesh.specs.{Faces.Faces, Darts.darts, Darts.all_darts, Darts.from_of, Darts.to_of, Darts.next_of}
 use Rattle.def_mesh.specs.{Darts.prev_of, Darts.twin_of, Darts.straight_of, Manifold.IsManifold, Vertices.faces_at}
-use Rattle.def_mesh.specs.{Vertices.fan_of, Kinds.is_inner, Kinds.is_regular, Kinds.is_reflex, Components.seeds}
+use Rattle.def_mesh.specs.{Vertices.fan_of, Kinds.is_inner, Kinds.is_regular, Components.seeds}
 use Rattle.def_mesh.specs.{Components.is_start, HalfEdges.HalfEdges, HalfEdges.IsQuadManifold}
 use Rattle.def_mesh.specs.HalfEdges.{half_edges}
 use Rattle.def_runs.specs.Runs.{is_passed, follower}
 use Rattle.def_cut.specs.{Cuts.IsCross, Cuts.HasCross, FullCut.is_on, Motion.is_among, Steps.or_zero, Trails.IsStraight}
-use Rattle.def_feature.specs.Marks.{AreMarks, is_touched, is_found_on, goes_through, is_crossed}
-use Rattle.def_feature.specs.{Marks.is_least_in_ring, Marks.is_break, Marked.is_origin}
-use Rattle.cut_laws.proofs.Crosses.{one_of_four, low_a, low_b, low_c, at_a, at_b, at_c}
+use Rattle.def_feature.specs.Marks.{AreMarks, is_found_on, goes_through, is_crossed}
+use Rattle.def_feature.specs.{Marks.is_break, Marked.is_origin}
+use Rattle.cut_laws.proofs.Crosses.{one_of_four, low_a, low_b, low_c, at_a}
 use Rattle.cut_laws.proofs.Darts.{turn_from, turn_low}
 use Rattle.face_laws.proofs.Fans.{regular_cross, cross_inner, cross_regular}
 use Rattle.mesh_laws.proofs.HalfEdges.{manifold_law}

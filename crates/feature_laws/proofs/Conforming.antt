@@ -1,32 +1,31 @@
 -- The conforming cut is a full cut that keeps marked lines: it is what a motion leaves in which nobody rides any more.
-use Rattle.std.proofs.Common.{◌≡◌, ◌⊎◌, ℕ, zero, suc, ◌+◌, ◌<◌, ◌≤◌, Bool, true, false, not, eqb, cond, ◌&&◌, ◌||◌}
-use Rattle.std.proofs.Common.{List, [], ◌∷◌, length, map, Option, Some, None, is_some, sym, subst, ap, ◌∙◌, refl, inl}
+use Rattle.std.proofs.Common.{◌≡◌, ℕ, zero, suc, ◌<◌, Bool, true, false, not, eqb, cond, ◌&&◌, ◌||◌}
+use Rattle.std.proofs.Common.{List, [], ◌∷◌, length, Option, Some, None, is_some, sym, ap, ◌∙◌, refl, inl}
 use Rattle.std.proofs.Common.{inr, arith}
-use Rattle.std.proofs.lemmas.Bool.{cases_Bool, cond-true, eq-eqb, eqb-true, or_left, or_right, or_cases, and_from}
+use Rattle.std.proofs.lemmas.Bool.{cond-true, eq-eqb, eqb-true, or_left, or_right, or_cases, and_from}
 use Rattle.std.proofs.lemmas.Bool.{and_parts, false≢true}
 use Rattle.std.proofs.lemmas.Option.{same_Some}
 use Rattle.std.specs.{Prelude.option_map, List.list_any}
 use Rattle.sum_laws.proofs.Tests.{same_test}
 use Rattle.def_mesh.specs.{Faces.Faces, Darts.darts, Darts.all_darts, Darts.from_of, Darts.to_of, Darts.next_of}
 use Rattle.def_mesh.specs.{Darts.prev_of, Darts.twin_of, Darts.straight_of, Manifold.IsManifold, Kinds.is_end}
-use Rattle.def_mesh.specs.{Kinds.is_inner, Kinds.is_regular, Kinds.is_singular, Kinds.is_reflex, Components.seeds}
+use Rattle.def_mesh.specs.{Kinds.is_inner, Kinds.is_regular, Kinds.is_singular, Components.seeds}
 use Rattle.def_mesh.specs.{Components.is_start, Vertices.fan_of, HalfEdges.HalfEdges, HalfEdges.IsQuadManifold}
 use Rattle.def_mesh.specs.HalfEdges.{half_edges}
 use Rattle.def_runs.specs.Runs.{is_passed, follower}
-use Rattle.def_cut.specs.{Cuts.IsCross, Cuts.HasCross, Cuts.IsCut, FullCut.is_on, Motion.State, Motion.is_among}
-use Rattle.def_cut.specs.{Motion.ridden, Motion.begun, Trails.IsStraight, Trails.Trail, Trails.IsTracked}
+use Rattle.def_cut.specs.{Cuts.IsCross, Cuts.IsCut, FullCut.is_on, Motion.State}
+use Rattle.def_cut.specs.{Trails.IsStraight, Trails.Trail, Trails.IsTracked}
 use Rattle.def_cut.specs.Traced.{terrain_of, is_cut}
 use Rattle.def_feature.specs.Beside.{is_turn, IsCutBeside}
 use Rattle.def_feature.specs.Conforming.{is_source, Line, IsLed, IsLined, IsConforming, ConformingLaw, StraightLaw}
 use Rattle.def_feature.specs.Marks.{AreMarks, is_break}
-use Rattle.def_feature.specs.Marked.{is_origin, marked_starts, marked_first}
-use Rattle.cut_laws.proofs.Crosses.{low_a, low_b, low_c, at_a, at_b, at_c, both_twins, one_of_four}
-use Rattle.face_laws.proofs.Fans.{inner_twin, regular_cross, cross_inner, cross_regular}
+use Rattle.def_feature.specs.Marked.{is_origin, marked_first}
+use Rattle.cut_laws.proofs.Crosses.{low_a, low_b, low_c, at_a, at_b, at_c, both_twins}
+use Rattle.face_laws.proofs.Fans.{inner_twin, regular_cross}
 use Rattle.face_laws.proofs.FullCuts.{full_cut_law}
 use Rattle.mesh_laws.proofs.HalfEdges.{manifold_law}
 use Rattle.motion_laws.proofs.{Among.any_at, Among.any_where, Among.among_range, Among.range_among, Onward.full_cut}
 use Rattle.motion_laws.proofs.{Steps.trail_more, Terrains.IsReachedFrom, Terrains.IsSoon, Terrains.IsCrossedAt}
-use Rattle.motion_laws.proofs.Terrains.{IsKnown}
 use Rattle.site_laws.proofs.{Laws.same_cut, Sites.terrain}
 use Rattle.feature_laws.proofs.Breaks.{begins, in_fan, twin_on, cross_passed, break_cross, break_origin}
 use Rattle.feature_laws.proofs.First.{all_origins, is_first, origin_of, marked_begin}

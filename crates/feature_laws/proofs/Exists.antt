@@ -1,5 +1,5 @@
 -- There is one conforming cut.
-use Rattle.std.proofs.Common.{◌≡◌, ◌⊎◌, ℕ, zero, suc, ◌+◌, ◌<◌, ◌≤◌, Bool, true, false, cond, List, length, get_or, set}
+use Rattle.std.proofs.Common.{◌≡◌, ℕ, zero, suc, ◌+◌, ◌<◌, ◌≤◌, Bool, true, false, cond, List, length, set}
 use Rattle.std.proofs.Common.{map, replicate, Option, Some, None, sym, ◌∙◌, ap, subst, refl, inl, inr, arith}
 use Rattle.std.proofs.lemmas.Bool.{cases_Bool, cases_eq, cases_lt, false≢true, false_from_ne_true}
 use Rattle.std.proofs.lemmas.List.{ext_get_or, length-map, length-replicate, get_or-set_same, get_or-set_other}
@@ -8,15 +8,14 @@ use Rattle.std.proofs.lemmas.Option.{same_Some}
 use Rattle.def_math.specs.Counts.{count_below}
 use Rattle.sum_laws.proofs.{Counts.count_below_lt, Tests.same_test}
 use Rattle.def_mesh.specs.{Faces.Faces, Darts.all_darts, Darts.darts, Darts.twin_of, Manifold.IsManifold}
-use Rattle.def_mesh.specs.HalfEdges.{half_edges, IsQuadManifold}
-use Rattle.def_cut.specs.{FullCut.is_on, Trails.IsStraight, Motion.is_among}
+use Rattle.def_cut.specs.{FullCut.is_on, Motion.is_among}
 use Rattle.def_runs.specs.Runs.{follower}
 use Rattle.def_feature.specs.{Conforming.IsConforming, Marked.marked_starts, Marks.AreMarks}
 use Rattle.mesh_laws.proofs.HalfEdges.{manifold_law}
 use Rattle.motion_laws.proofs.Marks.{none_on}
 use Rattle.feature_laws.proofs.{First.origin_of, Conforming.follows, Conforming.mark_low, Led.conforms}
 use Rattle.feature_laws.proofs.Leading.{lead_begins, lead_more, lead_ends, led_more}
-use Rattle.feature_laws.specs.Leads.{IsClosed, IsLedFrom, IsLeading, IsNext, AreLed, is_led_edge}
+use Rattle.feature_laws.specs.Leads.{IsLedFrom, IsLeading, IsNext, AreLed, is_led_edge}
 
 pub one_conforming : (faces : Faces) (marks one other : List Bool) → IsConforming faces marks one
     → IsConforming faces marks other → one ≡ other
@@ -116,7 +115,9 @@ a_conforming faces marks m marked =
     told : (d : ℕ) → is_on sources d ≡ is_source_at faces marks d
     told d = elim (cases_lt d (darts faces)) [
       | inl l ↦ get_or-map-range_with_len (is_source_at faces marks) 0 (darts faces) d d false l (omega arith)
-      | inr le ↦ false_from_ne_true _ (λ y. omega (arith, mark_low sources d y, length-map (all_darts faces) (is_source_at faces marks), length-range_with_len 0 (darts faces)))
+      | inr le ↦ false_from_ne_true _
+          (λ y. omega (arith, mark_low sources d y, length-map (all_darts faces) (is_source_at faces marks),
+              length-range_with_len 0 (darts faces)))
           ∙ none le (is_among d (marked_starts faces marks)) (is_on marks d) refl refl
     ]
       where

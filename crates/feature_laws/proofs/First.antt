@@ -1,15 +1,15 @@
 -- The first state of the motion beside marks is one from which it comes to a full cut.
-use Rattle.std.proofs.Common.{◌≡◌, ◌⊎◌, ℕ, ◌+◌, ◌<◌, ◌≤◌, Bool, true, false, not, eqb, ◌&&◌, List, map}
+use Rattle.std.proofs.Common.{◌≡◌, ◌⊎◌, ℕ, ◌<◌, Bool, true, false, not, eqb, ◌&&◌, List, map}
 use Rattle.std.proofs.Common.{Option, Some, None, is_some, sym, subst, ap, ◌∙◌, refl, inl, inr, arith}
 use Rattle.std.proofs.lemmas.Bool.{cases_Bool, eq-eqb, eqb-true, or_left, or_right, or_cases, and_from, and_parts}
 use Rattle.std.proofs.lemmas.Bool.{not_from_false, false≢true, not-true}
 use Rattle.std.specs.List.{list_any}
 use Rattle.def_mesh.specs.{Faces.Faces, Darts.darts, Darts.all_darts, Darts.from_of, Darts.to_of, Darts.next_of}
 use Rattle.def_mesh.specs.{Darts.prev_of, Darts.twin_of, Manifold.IsManifold, Kinds.is_end, Kinds.is_inner}
-use Rattle.def_mesh.specs.{Kinds.is_singular, Components.seeds, Components.is_start, Components.start_darts}
+use Rattle.def_mesh.specs.{Kinds.is_singular, Components.seeds, Components.is_start}
 use Rattle.def_mesh.specs.HalfEdges.{HalfEdges, IsQuadManifold, half_edges}
 use Rattle.def_cut.specs.{Cuts.IsCross, Cuts.HasCross, FullCut.is_on, Motion.ridden, Motion.is_among, Motion.begun}
-use Rattle.def_cut.specs.{Trails.Joins, Trails.IsSource, Trails.HasSources, Traced.terrain_of}
+use Rattle.def_cut.specs.{Trails.HasSources, Traced.terrain_of}
 use Rattle.def_feature.specs.Marks.{AreMarks, is_break}
 use Rattle.def_cut.specs.Motion.{State}
 use Rattle.def_feature.specs.Marked.{is_origin, marked_starts, marked_first}
@@ -197,7 +197,8 @@ module _ (faces : Faces) (m : IsManifold faces) (marks : List Bool) (marked : Ar
         (any_at (λ x. eqb (from_of faces x) (from_of faces d)) d starts (is_first d n) (eq-eqb _ _ refl));
     alike = marked.alike;
     ends = λ d low on. (
-      inl (stood_end (from_of faces d) d low on (or_left (eqb (from_of faces d) (from_of faces d)) _ (eq-eqb _ _ refl))),
+      inl (stood_end (from_of faces d) d low on
+          (or_left (eqb (from_of faces d) (from_of faces d)) _ (eq-eqb _ _ refl))),
       inl (stood_end (to_of faces d) d low on (or_right (eqb (from_of faces d) (to_of faces d)) _ (eq-eqb _ _ refl))),
     );
     kept = λ d k. k;
@@ -210,7 +211,8 @@ module _ (faces : Faces) (m : IsManifold faces) (marks : List Bool) (marked : Ar
   first_found : HasSources mesh (begins faces marks)
   first_found d l =
       let by = found faces m d l in
-      (by.0, by.1, by.2, elim by.3 [ inl s ↦ inl (or_left _ _ (or_left _ _ (start_of faces by.0 s).1)) | inr a ↦ inr a ])
+      (by.0, by.1, by.2, elim by.3
+          [ inl s ↦ inl (or_left _ _ (or_left _ _ (start_of faces by.0 s).1)) | inr a ↦ inr a ])
 
   first_sided : (d : ℕ) → d < darts faces → not (is_inner faces (to_of faces d)) ≡ true → IsShutFirst (next_of d)
       ⊎ ((t : ℕ) × (twin_of faces (next_of d) ≡ Some t) × (twin_of faces (next_of t) ≡ None))

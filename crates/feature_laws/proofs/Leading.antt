@@ -1,13 +1,13 @@
 -- A line is led dart by dart.
-use Rattle.std.proofs.Common.{◌≡◌, ◌⊎◌, ℕ, zero, suc, ◌+◌, ◌<◌, ◌≤◌, Bool, true, false, List, length, get_or, set}
-use Rattle.std.proofs.Common.{Option, Some, None, sym, ◌∙◌, ap, subst, refl, inl, inr, arith}
+use Rattle.std.proofs.Common.{◌≡◌, ◌⊎◌, ℕ, suc, ◌+◌, ◌<◌, Bool, true, false, List, length, set}
+use Rattle.std.proofs.Common.{Some, None, sym, ◌∙◌, ap, refl, inl, inr, arith}
 use Rattle.std.proofs.lemmas.Bool.{cases_eq, false≢true}
 use Rattle.std.proofs.lemmas.List.{get_or-set_same, get_or-set_other, length-set}
 use Rattle.std.proofs.lemmas.Option.{same_Some}
 use Rattle.def_mesh.specs.{Faces.Faces, Darts.darts}
 use Rattle.def_cut.specs.FullCut.{is_on}
 use Rattle.def_runs.specs.Runs.{follower}
-use Rattle.feature_laws.specs.Leads.{From, IsClosed, IsClosedBut, IsLedFrom, IsLeading, IsNext, AreLed}
+use Rattle.feature_laws.specs.Leads.{From, IsClosed, IsLedFrom, IsLeading, IsNext, AreLed}
 
 -- One mark more.
 set_there : (xs : List Bool) (k : ℕ) → k < length xs → is_on (set xs k true) k ≡ true

@@ -1,15 +1,15 @@
 -- What is led from the sources is the conforming cut.
-use Rattle.std.proofs.Common.{◌≡◌, ◌⊎◌, ◌↔◌, ℕ, zero, suc, ◌+◌, ◌<◌, ◌≤◌, Bool, true, false, cond, not, ◌&&◌, ◌||◌}
-use Rattle.std.proofs.Common.{List, length, map, Option, Some, None, sym, ◌∙◌, ap, subst, refl, inl, inr, arith}
+use Rattle.std.proofs.Common.{◌≡◌, ◌⊎◌, ℕ, zero, suc, ◌<◌, Bool, true, false, cond}
+use Rattle.std.proofs.Common.{List, length, map, Option, Some, None, sym, ◌∙◌, ap, refl, inl, inr, arith}
 use Rattle.std.proofs.lemmas.Bool.{cases_Bool, or_left, or_right, or_cases, false≢true}
 use Rattle.std.proofs.lemmas.List.{length-map}
 use Rattle.std.proofs.lemmas.List.FromFn.{length-range_with_len, get_or-map-range_with_len}
 use Rattle.std.proofs.lemmas.Option.{same_Some}
-use Rattle.def_mesh.specs.{Faces.Faces, Darts.all_darts, Darts.darts, Darts.twin_of, HalfEdges.half_edges}
+use Rattle.def_mesh.specs.{Faces.Faces, Darts.all_darts, Darts.darts, Darts.twin_of}
 use Rattle.def_mesh.specs.Manifold.{IsManifold}
 use Rattle.def_cut.specs.{FullCut.is_on, Motion.is_among}
 use Rattle.def_feature.specs.Conforming.{is_source, Line, IsLined, IsConforming}
-use Rattle.def_feature.specs.{Marked.is_origin, Marked.marked_starts, Marks.AreMarks}
+use Rattle.def_feature.specs.{Marked.is_origin, Marked.marked_starts}
 use Rattle.feature_laws.proofs.First.{origin_in, origin_of}
 use Rattle.mesh_laws.proofs.HalfEdges.{manifold_law}
 use Rattle.feature_laws.specs.Leads.{From, AreLed, is_led_edge}

@@ -1,14 +1,14 @@
 -- A trail leads to each marked dart: one goes back along its line to where it begins, and a line without end breaks at
 -- its least vertex.
-use Rattle.std.proofs.Common.{◌≡◌, ◌⊎◌, ℕ, zero, suc, ◌+◌, ◌<◌, ◌≤◌, Bool, true, false, not, ltb, ◌&&◌, ◌||◌, List}
-use Rattle.std.proofs.Common.{Option, Some, None, is_some, sym, subst, ap, ◌∙◌, refl, inl, inr, arith}
+use Rattle.std.proofs.Common.{◌≡◌, ◌⊎◌, ℕ, zero, suc, ◌<◌, ◌≤◌, Bool, true, false, not, ltb, ◌&&◌, List}
+use Rattle.std.proofs.Common.{Option, Some, None, sym, ap, ◌∙◌, refl, inl, inr, arith}
 use Rattle.std.proofs.lemmas.Bool.{cases_lt, cases_eq, le-ltb, or_left, or_right, and_from, not_from_false}
 use Rattle.std.proofs.lemmas.Option.{same_Some}
-use Rattle.def_mesh.specs.{Faces.Faces, Darts.darts, Darts.from_of, Darts.twin_of, Manifold.IsManifold, Vertices.fan_of}
+use Rattle.def_mesh.specs.{Faces.Faces, Darts.darts, Darts.from_of, Manifold.IsManifold, Vertices.fan_of}
 use Rattle.def_mesh.specs.HalfEdges.{half_edges}
-use Rattle.def_runs.specs.Runs.{is_passed, follower}
+use Rattle.def_runs.specs.Runs.{follower}
 use Rattle.def_cut.specs.{FullCut.is_on, Trails.Trail}
-use Rattle.def_feature.specs.Marks.{AreMarks, goes_round, is_touched, is_crossed, is_least_in_ring, is_break}
+use Rattle.def_feature.specs.Marks.{AreMarks, goes_round, is_touched, is_crossed, is_break}
 use Rattle.cut_laws.proofs.Pigeon.{comes_back}
 use Rattle.motion_laws.proofs.Among.{any_at}
 use Rattle.feature_laws.proofs.Breaks.{in_fan, begins, back, GoesBack, twin_on, break_origin, one_back}

@@ -1,14 +1,14 @@
 -- Without marks the motion is that of the traced graph.
 use Rattle.std.proofs.Common.{◌≡◌, ℕ, zero, suc, ◌<◌, Bool, true, false, not, eqb, ◌&&◌, ◌||◌, List, map, replicate}
-use Rattle.std.proofs.Common.{Some, is_some, sym, subst, ap, ◌∙◌, refl, arith}
-use Rattle.std.proofs.lemmas.Bool.{false≢true, false_from_ne_true, and_parts}
+use Rattle.std.proofs.Common.{is_some, sym, subst, ap, ◌∙◌, refl, arith}
+use Rattle.std.proofs.lemmas.Bool.{false≢true, false_from_ne_true}
 use Rattle.std.proofs.Math.Bool.{or-false}
 use Rattle.std.proofs.lemmas.List.{length-replicate}
 use Rattle.std.specs.List.{filter, list_any}
 use Rattle.def_mesh.specs.{Faces.Faces, Darts.darts, Darts.all_darts, Darts.from_of, Darts.twin_of}
 use Rattle.def_mesh.specs.{Vertices.vertex_count, Vertices.fan_of, Kinds.is_end, Components.seeds, Components.is_start}
 use Rattle.def_mesh.specs.Components.{start_darts}
-use Rattle.def_runs.specs.Runs.{is_passed, follower}
+use Rattle.def_runs.specs.Runs.{is_passed}
 use Rattle.def_cut.specs.{FullCut.is_on, Motion.State, Motion.is_among, Motion.begun, Motion.start, Traced.AreRiders}
 use Rattle.def_cut.specs.Traced.{IsGraphOf, finish, is_cut, last_state, terrain_of}
 use Rattle.def_cut.specs.{Traced.traced_marks, declared.graph.Graph.Graph, declared.moving.Moving.Moving}

@@ -1,5 +1,5 @@
 -- The darts of arcs, and what is left of a cut without one.
-use Rattle.std.proofs.Common.{◌≡◌, ◌⊎◌, ℕ, zero, suc, ◌-◌, ◌<◌, true, false, Some, sym, ◌∙◌, ap, subst, refl}
+use Rattle.std.proofs.Common.{◌≡◌, ◌⊎◌, ℕ, zero, suc, ◌-◌, ◌<◌, true, false, Some, sym, ◌∙◌, ap, refl}
 use Rattle.std.proofs.Common.{inl, inr, true≢false, arith}
 use Rattle.def_mesh.specs.HalfEdges.{HalfEdges, IsQuadManifold}
 use Rattle.def_cut.specs.{Cuts.Cut, Cuts.IsCross, Cuts.HasCross, Cuts.Links, Cuts.IsCut, Grids.Cells, Grids.IsGrid}

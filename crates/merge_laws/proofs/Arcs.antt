@@ -9,7 +9,7 @@ use Rattle.def_cut.specs.{Cuts.Cut, Cuts.IsCut, Steps.easts}
 use Rattle.merge_laws.proofs.Sides.{side_low, side_on, first_place, one_place, one_size}
 use Rattle.merge_laws.proofs.ArcDarts.{on_or_not, other_way, turned_glued, less, links_less}
 use Rattle.merge_laws.proofs.Joins.{join_law}
-use Rattle.def_merge.specs.Joins.{IsWholeSide, AreInOne, AreGlued, IsJoinable, IsOnArc, IsNameOf, IsWithout}
+use Rattle.def_merge.specs.Joins.{IsWholeSide, AreGlued, IsJoinable, IsOnArc, IsNameOf, IsWithout}
 use Rattle.def_merge.specs.Laws.{GrownLaw}
 
 -- Two arcs are one, seen from one side or from both.
@@ -33,8 +33,8 @@ least_below : (f g : ℕ → ℕ) (n : ℕ) → 0 < n → (m : ℕ) × ((k : ℕ
 least_below f g zero l = absurd (omega arith)
 least_below f g (suc zero) l =
     let all : (m : ℕ) → m ≤ f 0 → m ≤ g 0 → (k : ℕ) → k < 1 → (m ≤ f k) × (m ≤ g k) = λ m a b k h.
-        let e : k ≡ 0 = omega arith in
-        rw e (a, b) in
+    let e : k ≡ 0 = omega arith in
+    rw e (a, b) in
     elim (cases_lt (g 0) (f 0)) [
       | inl less ↦ (g 0, (0, omega arith, inr refl), all (g 0) (omega arith) (omega arith))
       | inr more ↦ (f 0, (0, omega arith, inl refl), all (f 0) (omega arith) (omega arith))
@@ -42,19 +42,25 @@ least_below f g (suc zero) l =
 least_below f g (suc (suc n)) l =
     let r = least_below f g (suc n) (omega arith) in
     let with_last : (m : ℕ) → m ≤ r.0 → m ≤ f (suc n) → m ≤ g (suc n) → (k : ℕ) → k < suc (suc n)
-        → (m ≤ f k) × (m ≤ g k) = λ m below a b k h. elim (cases_eq k (suc n)) [
-          | inl e ↦ rw e (a, b)
-          | inr ne ↦ let q = r.2 k (omega arith) in (omega (arith, q.0, below), omega (arith, q.1, below))
-        ] in
+    → (m ≤ f k) × (m ≤ g k) = λ m below a b k h. elim (cases_eq k (suc n)) [
+      | inl e ↦ rw e (a, b)
+      | inr ne ↦ let q = r.2 k (omega arith) in (omega (arith, q.0, below), omega (arith, q.1, below))
+    ] in
     elim (cases_lt (f (suc n)) r.0) [
       | inr a ↦ elim (cases_lt (g (suc n)) r.0) [
         | inr b ↦ (r.0, (r.1.0, omega (arith, r.1.1), r.1.2), with_last r.0 (omega arith) a b)
-        | inl b ↦ (g (suc n), (suc n, omega arith, inr refl),
-            with_last (g (suc n)) (omega arith) (omega arith) (omega arith))
+        | inl b ↦ (
+          g (suc n),
+          (suc n, omega arith, inr refl),
+          with_last (g (suc n)) (omega arith) (omega arith) (omega arith),
+        )
       ]
       | inl a ↦ elim (cases_lt (g (suc n)) (f (suc n))) [
-        | inl c ↦ (g (suc n), (suc n, omega arith, inr refl),
-            with_last (g (suc n)) (omega arith) (omega arith) (omega arith))
+        | inl c ↦ (
+          g (suc n),
+          (suc n, omega arith, inr refl),
+          with_last (g (suc n)) (omega arith) (omega arith) (omega arith),
+        )
         | inr c ↦ (f (suc n), (suc n, omega arith, inl refl), with_last (f (suc n)) (omega arith) (omega arith) c)
       ]
     ]
@@ -62,11 +68,14 @@ least_below f g (suc (suc n)) l =
 -- Each arc has a name.
 pub name_there : (mesh : HalfEdges) (s t n : ℕ) → 0 < n → (name : ℕ) × IsNameOf mesh s t n name
 name_there mesh s t n some =
-    let r = least_below (easts mesh s) (easts mesh t) n some in
-    (r.0, record {
-      on = r.1;
-      least = λ d o. let q = r.2 o.0 o.1 in elim o.2 [ inl e ↦ omega (arith, e, q.0) | inr e ↦ omega (arith, e, q.1) ];
-    })
+    let r = least_below (easts mesh s) (easts mesh t) n some in (
+      r.0,
+      record {
+        on = r.1;
+        least = λ d o. let q = r.2 o.0 o.1 in elim o.2
+            [ inl e ↦ omega (arith, e, q.0) | inr e ↦ omega (arith, e, q.1) ];
+      },
+    )
 
 pub one_name : (mesh : HalfEdges) (s t n a b : ℕ) → IsNameOf mesh s t n a → IsNameOf mesh s t n b → a ≡ b
 one_name mesh s t n a b one two = omega (arith, one.least b two.on, two.least a one.on)
@@ -117,11 +126,11 @@ module _ (mesh : HalfEdges) (laws : IsQuadManifold mesh) (cut : Cut) (full : IsC
         ⊎ (d ≡ mesh.prev t)
     over_end d l on o =
         let was : cut (mesh.prev (mesh.next d)) ≡ true =
-            ap cut (laws.prev_next d) ∙ less mesh laws cut rest s t n without d l on in
+        ap cut (laws.prev_next d) ∙ less mesh laws cut rest s t n without d l on in
         let start : (c k : ℕ) → IsWholeSide mesh cut c n → k < n → mesh.next d ≡ easts mesh c k → d ≡ mesh.prev c =
-            λ c k side lk e.
-              let first = first_place mesh laws cut full c n side k lk (ap (λ x. cut (mesh.prev x)) (sym e) ∙ was) in
-              sym (laws.prev_next d) ∙ ap mesh.prev (e ∙ ap (easts mesh c) first) in
+        λ c k side lk e.
+        let first = first_place mesh laws cut full c n side k lk (ap (λ x. cut (mesh.prev x)) (sym e) ∙ was) in
+        sym (laws.prev_next d) ∙ ap mesh.prev (e ∙ ap (easts mesh c) first) in
         elim o.2 [
           | inl e ↦ inl (start s o.0 arc.glued.near o.1 e)
           | inr e ↦ inr (start t o.0 arc.glued.far o.1 e)

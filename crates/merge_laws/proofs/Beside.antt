@@ -1,5 +1,5 @@
 -- What is merged beside marked lines keeps them.
-use Rattle.std.proofs.Common.{◌≡◌, ◌⊎◌, ℕ, zero, suc, ◌+◌, ◌<◌, ◌≤◌, Bool, true, false, not, eqb, ◌&&◌, ◌||◌, List}
+use Rattle.std.proofs.Common.{◌≡◌, ℕ, zero, suc, ◌<◌, Bool, true, false, not, eqb, ◌&&◌, ◌||◌, List}
 use Rattle.std.proofs.Common.{length, sym, ◌∙◌, ap, refl, inl, inr, arith}
 use Rattle.std.proofs.lemmas.Bool.{cases_Bool, or_left, or_right, or_cases, and_from, and_parts, eq-eqb, eqb-true}
 use Rattle.std.proofs.lemmas.Bool.{false≢true}
@@ -25,9 +25,12 @@ on_arc mesh s t n d (k, l, is) = any_at (λ j. eqb d (easts mesh s j) || eqb d (
 
 pub of_arc : (mesh : HalfEdges) (s t n d : ℕ) → is_on_arc mesh s t n d ≡ true → IsOnArc mesh s t n d
 of_arc mesh s t n d y =
-    let f = any_where (λ j. eqb d (easts mesh s j) || eqb d (easts mesh t j)) (range_with_len 0 n) y in
-    (f.0, omega (arith, (range_among 0 n f.0 f.1).1), elim (or_cases (eqb d (easts mesh s f.0)) _ f.2)
-        [ inl e ↦ inl (eqb-true _ _ e) | inr e ↦ inr (eqb-true _ _ e) ])
+    let f = any_where (λ j. eqb d (easts mesh s j) || eqb d (easts mesh t j)) (range_with_len 0 n) y in (
+      f.0,
+      omega (arith, (range_among 0 n f.0 f.1).1),
+      elim (or_cases (eqb d (easts mesh s f.0)) _ f.2)
+          [ inl e ↦ inl (eqb-true _ _ e) | inr e ↦ inr (eqb-true _ _ e) ],
+    )
 
 implied : (a b : Bool) → (a ≡ true → b ≡ true) → (not a || b) ≡ true
 implied = elim [ true ↦ λ b f. f refl | false ↦ λ b f. refl ]
@@ -49,7 +52,7 @@ pub keeps_from : (faces : Faces) (marks cut : List Bool)
 keeps_from faces marks cut kept turned = all_from (is_kept faces marks cut) (all_darts faces) (λ d m.
     let l : d < darts faces = omega (arith, (range_among 0 (darts faces) d m).1) in
     and_from _ _ (implied (is_on marks d) (is_on cut d) (kept d l))
-        (implied (is_break faces marks (from_of faces d)) (is_turn faces cut (from_of faces d)) (turned d l)))
+    (implied (is_break faces marks (from_of faces d)) (is_turn faces cut (from_of faces d)) (turned d l)))
 
 module _ (faces : Faces) (marks cut : List Bool) (keeps : keeps_lines faces marks cut ≡ true) where
   at_dart : (d : ℕ) → d < darts faces → is_kept faces marks cut d ≡ true
@@ -83,16 +86,16 @@ step_is {faces} marks {cut} {rest} long step =
     let t = step.far in
     let n = step.size in
     let off_test : (a b : Bool) → b ≡ true → (a && not b) ≡ false =
-        elim [ true ↦ λ b y. ap not y | false ↦ λ b y. refl ] in
+    elim [ true ↦ λ b y. ap not y | false ↦ λ b y. refl ] in
     let on_test : (a b : Bool) → b ≡ false → (a && not b) ≡ a = elim [ true ↦ λ b y. ap not y | false ↦ λ b y. refl ] in
     ext_get_or false rest (without faces cut s t n) (step.long ∙ (long ∙ sym (without_long faces cut s t n))) (λ d h.
-          let l : d < darts faces = omega (arith, h, step.long, long) in
-          elim (cases_Bool (is_on_arc mesh s t n d)) [
-            | inl y ↦ step.without.gone d (of_arc mesh s t n d y)
-                ∙ sym (without_is faces cut s t n d l ∙ off_test (is_on cut d) _ y)
-            | inr clear ↦ step.without.kept d l (λ o. false≢true (sym clear ∙ on_arc mesh s t n d o))
-                ∙ sym (without_is faces cut s t n d l ∙ on_test (is_on cut d) _ clear)
-          ])
+    let l : d < darts faces = omega (arith, h, step.long, long) in
+    elim (cases_Bool (is_on_arc mesh s t n d)) [
+      | inl y ↦ step.without.gone d (of_arc mesh s t n d y)
+          ∙ sym (without_is faces cut s t n d l ∙ off_test (is_on cut d) _ y)
+      | inr clear ↦ step.without.kept d l (λ o. false≢true (sym clear ∙ on_arc mesh s t n d o))
+          ∙ sym (without_is faces cut s t n d l ∙ on_test (is_on cut d) _ clear)
+    ])
 
 module _ (faces : Faces) (laws : IsQuadManifold (half_edges faces)) (marks : List Bool) where
   keeps_reached : (cut rest : List Bool) (i : ℕ) → IsCutOf faces cut → keeps_lines faces marks cut ≡ true
@@ -108,10 +111,10 @@ pub beside_reached : (faces : Faces) (marks cut rest : List Bool) (steps : ℕ) 
 beside_reached faces marks cut rest steps manifold beside reached =
     let laws = manifold_law faces manifold in
     let is : IsCutOf faces cut =
-        record { long = beside.full.long; full = ((full_cut_law faces cut manifold).0 beside.full).1 } in
+    record { long = beside.full.long; full = ((full_cut_law faces cut manifold).0 beside.full).1 } in
     let after = cut_reached faces (may_beside faces marks) laws rest steps is reached in
     let keeps = keeps_reached faces laws marks cut rest steps is (keeps_from faces marks cut beside.kept beside.turned)
-        reached in
+    reached in
     record {
       full = (full_cut_law faces rest manifold).1 (after.long, after.full);
       kept = kept_from faces marks rest keeps;

@@ -1,11 +1,11 @@
 -- Whether an arc is joinable is decided.
-use Rattle.std.proofs.Common.{◌≡◌, ◌⊎◌, ℕ, zero, suc, ◌+◌, ◌-◌, ◌<◌, ◌≤◌, true, false, Option, Some, None}
-use Rattle.std.proofs.Common.{sym, ◌∙◌, ap, subst, refl, inl, inr, true≢false, arith}
+use Rattle.std.proofs.Common.{◌≡◌, ◌⊎◌, ℕ, zero, suc, ◌+◌, ◌-◌, ◌<◌, ◌≤◌, true, Option, Some, None}
+use Rattle.std.proofs.Common.{sym, ◌∙◌, ap, refl, inl, inr, true≢false, arith}
 use Rattle.std.proofs.lemmas.Bool.{cases_Bool, cases_eq}
 use Rattle.std.proofs.lemmas.Option.{same_Some}
 use Rattle.def_mesh.specs.HalfEdges.{HalfEdges, IsQuadManifold}
-use Rattle.def_cut.specs.{Cuts.Cut, Cuts.IsCorner, Cuts.IsCut, Grids.IsGrid, Steps.easts, Steps.spin}
-use Rattle.cut_laws.specs.Grown.{grown, IsGrown}
+use Rattle.def_cut.specs.{Cuts.Cut, Cuts.IsCorner, Cuts.IsCut, Steps.easts, Steps.spin}
+use Rattle.cut_laws.specs.Grown.{grown}
 use Rattle.cut_laws.proofs.{Classes.closed, Classes.first_in, Classes.linked_in, Grown.grow}
 use Rattle.def_merge.specs.Joins.{AreInOne, IsJoinable, IsOnArc, IsWholeSide, Leave}
 use Rattle.merge_laws.proofs.ArcDarts.{on_cut, turned_arc}

@@ -5,7 +5,7 @@ use Rattle.std.proofs.{lemmas.Bool.and_parts, lemmas.List.ext_get_or}
 use Rattle.sum_laws.proofs.Tests.{same_test}
 use Rattle.def_mesh.specs.{Faces.Faces, Darts.darts, Darts.from_of, Darts.prev_of, HalfEdges.half_edges}
 use Rattle.def_mesh.specs.Vertices.{fan_of}
-use Rattle.def_cut.specs.{FullCut.is_on, Motion.is_among}
+use Rattle.def_cut.specs.{FullCut.is_on}
 use Rattle.def_feature.specs.Beside.{is_turn, keeps_lines}
 use Rattle.def_merge.specs.Beside.{is_on_arc, without, may_beside, HeldLaw}
 use Rattle.mesh_laws.proofs.Darts.{prev_of_low}
@@ -53,10 +53,10 @@ pub turned_may : (faces : Faces) (marks cut : List Bool) (s t n : ℕ) → may_b
 turned_may faces marks cut s t n y =
     let mesh = half_edges faces in
     let over : (s t d : ℕ) → is_on_arc (half_edges faces) s t n d ≡ true → is_on_arc (half_edges faces) t s n d ≡ true =
-        λ s t d o. on_arc mesh t s n d (other_way mesh s t n d (of_arc mesh s t n d o)) in
+    λ s t d o. on_arc mesh t s n d (other_way mesh s t n d (of_arc mesh s t n d o)) in
     let same = ext_get_or false (without faces cut s t n) (without faces cut t s n)
-        (without_long faces cut s t n ∙ sym (without_long faces cut t s n)) (λ d h.
-          let l : d < darts faces = omega (arith, h, without_long faces cut s t n) in
-          without_is faces cut s t n d l ∙ (ap (λ b. is_on cut d && not b) (same_test _ _ (over s t d) (over t s d))
-              ∙ sym (without_is faces cut t s n d l))) in
+    (without_long faces cut s t n ∙ sym (without_long faces cut t s n)) (λ d h.
+    let l : d < darts faces = omega (arith, h, without_long faces cut s t n) in
+    without_is faces cut s t n d l ∙ (ap (λ b. is_on cut d && not b) (same_test _ _ (over s t d) (over t s d))
+    ∙ sym (without_is faces cut t s n d l))) in
     ap (keeps_lines faces marks) (sym same) ∙ y

@@ -1,10 +1,10 @@
 -- Without a joinable arc a full cut is a full cut.
-use Rattle.std.proofs.Common.{◌≡◌, ◌⊎◌, ℕ, zero, suc, ◌+◌, ◌-◌, ◌<◌, true, false, Some, None, sym, ◌∙◌, ap, subst, refl}
+use Rattle.std.proofs.Common.{◌≡◌, ℕ, zero, suc, ◌+◌, ◌-◌, ◌<◌, true, false, Some, None, sym, ◌∙◌, ap, refl}
 use Rattle.std.proofs.Common.{inl, inr, true≢false, arith}
 use Rattle.std.proofs.lemmas.Bool.{cases_Bool, cases_eq, false≢true}
 use Rattle.std.proofs.lemmas.Option.{same_Some}
 use Rattle.def_mesh.specs.HalfEdges.{HalfEdges, IsQuadManifold}
-use Rattle.def_cut.specs.Cuts.{Cut, HasCross, IsUncut, Links, IsCorner, GoesOn, IsCut}
+use Rattle.def_cut.specs.Cuts.{Cut, HasCross, IsUncut, IsCorner, GoesOn, IsCut}
 use Rattle.def_cut.specs.{Grids.IsGrid, Steps.spin, Steps.easts}
 use Rattle.cut_laws.specs.Grown.{grown}
 use Rattle.cut_laws.proofs.{Darts.prev_three, Darts.next_same, Darts.twin_same, Rows.cross_at, Classes.In}
@@ -225,7 +225,8 @@ module _ {mesh : HalfEdges} (laws : IsQuadManifold mesh) {cut : Cut} (full : IsC
         ]
         | inr none ↦ elim (on_or_not mesh s t n (mesh.prev e)) [
           | inl o ↦
-              let next : (x : ℕ) → mesh.prev e ≡ x → e ≡ mesh.next x = λ x at. sym (laws.next_prev e) ∙ ap mesh.next at in
+              let next : (x : ℕ) → mesh.prev e ≡ x → e ≡ mesh.next x = λ x at. sym (laws.next_prev e)
+                  ∙ ap mesh.next at in
               elim o.2 [
                 | inl at ↦ lost laws full arc grid other without d e l (m, c.2)
                     (1, record { a = o.0; b = 0; a_low = o.1; b_low = grid.tall; is = next _ at })

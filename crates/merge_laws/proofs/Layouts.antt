@@ -1,5 +1,5 @@
 -- What is joinable in a layout is joinable in its cut.
-use Rattle.std.proofs.Common.{◌≡◌, ℕ, suc, ◌+◌, ◌-◌, ◌<◌, Bool, true, false, not, Some, sym, ◌∙◌, ap, subst, refl}
+use Rattle.std.proofs.Common.{◌≡◌, ℕ, suc, ◌+◌, ◌-◌, ◌<◌, Bool, true, false, not, Some, sym, ◌∙◌, ap, refl}
 use Rattle.std.proofs.Common.{arith}
 use Rattle.def_mesh.specs.{HalfEdges.HalfEdges, HalfEdges.IsQuadManifold}
 use Rattle.def_cut.specs.{Cuts.Cut, Cuts.IsCut, Grids.IsGrid, Grids.Rectangle, Grids.cell_of}

@@ -1,10 +1,10 @@
 -- Beside no marked edge all joinable arcs may leave.
-use Rattle.std.proofs.Common.{◌≡◌, ℕ, zero, suc, ◌<◌, Bool, true, false, List, length, map, replicate, sym, ◌∙◌, arith}
+use Rattle.std.proofs.Common.{◌≡◌, ℕ, zero, suc, Bool, true, false, List, map, replicate, sym, ◌∙◌, arith}
 use Rattle.std.proofs.lemmas.Bool.{false≢true}
 use Rattle.std.proofs.lemmas.List.{ext_get_or, length-map, length-replicate}
 use Rattle.std.proofs.lemmas.List.FromFn.{length-range_with_len, get_or-map-range_with_len}
 use Rattle.def_mesh.specs.{Faces.Faces, Darts.darts, Darts.from_of, Vertices.all_vertices, Vertices.vertex_count}
-use Rattle.def_cut.specs.FullCut.{is_on, IsFullCut}
+use Rattle.def_cut.specs.FullCut.{IsFullCut}
 use Rattle.def_feature.specs.{Beside.IsCutBeside, Marks.is_break}
 use Rattle.def_merge.specs.Beside.{may_beside, without}
 use Rattle.def_merge.specs.Merged.{all_may, IsMergedBy, IsMergedCut, IsStep, MayLeave, Steps}
@@ -63,9 +63,9 @@ module _ (faces : Faces) where
   none_broken =
       let n = vertex_count faces in
       ext_get_or false (replicate n false) (map (is_break faces no_marks) (all_vertices faces))
-          (length-replicate n false ∙ sym (length-map (all_vertices faces) (is_break faces no_marks)
-          ∙ length-range_with_len 0 n)) (λ v l. none_on n v ∙ sym (get_or-map-range_with_len (is_break faces no_marks) 0
-          n v v false (omega (arith, l, length-replicate n false)) (omega arith) ∙ no_break faces v))
+      (length-replicate n false ∙ sym (length-map (all_vertices faces) (is_break faces no_marks)
+      ∙ length-range_with_len 0 n)) (λ v l. none_on n v ∙ sym (get_or-map-range_with_len (is_break faces no_marks) 0
+      n v v false (omega (arith, l, length-replicate n false)) (omega arith) ∙ no_break faces v))
 
   -- What is merged beside no marks is merged, and the other way round.
   pub none_merged : (cut rest : List Bool)

@@ -1,5 +1,5 @@
 -- A full cut has at most one merged cut: each step is told by the cut before it.
-use Rattle.std.proofs.Common.{◌≡◌, ◌⊎◌, ℕ, zero, suc, ◌<◌, Bool, true, false, List, length, sym, ◌∙◌, ap, subst, inl}
+use Rattle.std.proofs.Common.{◌≡◌, ℕ, zero, suc, ◌<◌, Bool, true, false, List, length, sym, ◌∙◌, ap, subst, inl}
 use Rattle.std.proofs.Common.{inr, arith}
 use Rattle.std.proofs.lemmas.Bool.{cases_eq, cases_order}
 use Rattle.std.proofs.lemmas.List.{ext_get_or}
@@ -39,23 +39,23 @@ module _ (faces : Faces) (may : MayLeave) (laws : IsQuadManifold (half_edges fac
   one_step : (marks a b : List Bool) → IsCutOf faces marks → IsStep faces may marks a → IsStep faces may marks b → a ≡ b
   one_step marks a b cut one two =
       let one_least = one.first.first two.near two.far two.size two.first.name two.first.joinable two.first.free
-          two.first.named.on in
+      two.first.named.on in
       let two_least = two.first.first one.near one.far one.size one.first.name one.first.joinable one.first.free
-          one.first.named.on in
+      one.first.named.on in
       let names : one.first.name ≡ two.first.name = omega (arith, one_least, two_least) in
       let arcs = one_arc mesh laws (is_on marks) cut.full one.near one.far one.size two.near two.far two.size
-          one.first.name one.first.joinable.glued two.first.joinable.glued one.first.named.on
-          (rw names two.first.named.on) in
+      one.first.name one.first.joinable.glued two.first.joinable.glued one.first.named.on
+      (rw names two.first.named.on) in
       let back : AreOneArc two.near two.far one.near one.far =
-          elim arcs.0 [ inl p ↦ inl (sym p.0, sym p.1) | inr p ↦ inr (sym p.1, sym p.0) ] in
+      elim arcs.0 [ inl p ↦ inl (sym p.0, sym p.1) | inr p ↦ inr (sym p.1, sym p.0) ] in
       ext_get_or false a b (one.long ∙ sym two.long) (λ d h.
-        let l : d < darts faces = omega (arith, h, one.long, cut.long) in
-        elim (on_or_not mesh one.near one.far one.size d) [
-          | inl o ↦ one.without.gone d o ∙ sym (two.without.gone d
-              (same_darts mesh one.near one.far two.near two.far d arcs.0 arcs.1 o))
-          | inr none ↦ one.without.kept d l none ∙ sym (two.without.kept d l
-              (λ o. none (same_darts mesh two.near two.far one.near one.far d back (sym arcs.1) o)))
-        ])
+      let l : d < darts faces = omega (arith, h, one.long, cut.long) in
+      elim (on_or_not mesh one.near one.far one.size d) [
+        | inl o ↦ one.without.gone d o ∙ sym (two.without.gone d
+            (same_darts mesh one.near one.far two.near two.far d arcs.0 arcs.1 o))
+        | inr none ↦ one.without.kept d l none ∙ sym (two.without.kept d l
+            (λ o. none (same_darts mesh two.near two.far one.near one.far d back (sym arcs.1) o)))
+      ])
 
   pub cut_reached : {marks : List Bool} (a : List Bool) (i : ℕ) → IsCutOf faces marks → Steps faces may marks a i
       → IsCutOf faces a
@@ -111,7 +111,8 @@ pub one_merged_law : OneMergedLaw
 one_merged_law faces may marks rest other manifold full one two =
     let laws = manifold_law faces manifold in
     let cut : IsCutOf faces marks =
-        record { long = full.long; full = ((full_cut_law faces marks manifold).0 full).1 } in
-    let after = cut_reached faces may laws rest one.steps cut one.reached in
-    (one_merged faces may laws marks rest other cut one two,
-        (full_cut_law faces rest manifold).1 (after.long, after.full))
+    record { long = full.long; full = ((full_cut_law faces marks manifold).0 full).1 } in
+    let after = cut_reached faces may laws rest one.steps cut one.reached in (
+      one_merged faces may laws marks rest other cut one two,
+      (full_cut_law faces rest manifold).1 (after.long, after.full),
+    )

@@ -1,13 +1,12 @@
 -- Whether an arc may leave beside marked lines is told at its darts and its two ends.
-use Rattle.std.proofs.Common.{◌≡◌, ◌≢◌, ◌⊎◌, ℕ, zero, suc, ◌+◌, ◌-◌, ◌<◌, Bool, true, false, not, ◌&&◌, List}
+use Rattle.std.proofs.Common.{◌≡◌, ◌⊎◌, ℕ, zero, suc, ◌+◌, ◌-◌, ◌<◌, Bool, true, false, not, ◌&&◌, List}
 use Rattle.std.proofs.Common.{Some, sym, ◌∙◌, ap, subst, refl, inl, inr, arith}
 use Rattle.std.proofs.lemmas.Bool.{false≢true, false_from_ne_true}
 use Rattle.std.proofs.lemmas.Option.{same_Some}
 use Rattle.def_mesh.specs.{Faces.Faces, Darts.darts, Darts.from_of, Darts.next_of, Darts.prev_of, Darts.twin_of}
 use Rattle.def_mesh.specs.{HalfEdges.HalfEdges, HalfEdges.IsQuadManifold, HalfEdges.half_edges, Manifold.IsManifold}
-use Rattle.def_cut.specs.{Cuts.HasCross, Cuts.IsCut, Cuts.GoesOn, FullCut.is_on, Grids.IsGrid, Steps.easts}
-use Rattle.cut_laws.specs.Grown.{grown}
-use Rattle.def_feature.specs.{Beside.is_turn, Beside.IsCutBeside, Beside.keeps_lines, Marks.AreMarks, Marks.is_break}
+use Rattle.def_cut.specs.{Cuts.IsCut, FullCut.is_on, Steps.easts}
+use Rattle.def_feature.specs.{Beside.IsCutBeside, Beside.keeps_lines, Marks.AreMarks, Marks.is_break}
 use Rattle.def_merge.specs.Beside.{without, IsEndFree, IsSpared, SparedLaw}
 use Rattle.def_merge.specs.Joins.{AreGlued, IsJoinable, IsOnArc, IsWithout}
 use Rattle.cut_laws.proofs.Crosses.{one_of_four, low_a, low_b, low_c, at_a, at_b}

@@ -1,7 +1,8 @@
 -- The flood of a component is exact: it marks just the faces to which chains of shared edges lead.
-use Rattle.std.proofs.Common.{◌≡◌, ◌⊎◌, ℕ, zero, suc, ◌+◌, ◌*◌, ◌<◌, ◌≤◌, Bool, true, false, not, cond, eqb, ◌&&◌, ◌||◌}
+use Rattle.std.proofs.Common.{◌≡◌, ◌⊎◌, ℕ, zero, suc, ◌*◌, ◌<◌, ◌≤◌, Bool, true, false, not, cond, eqb, ◌&&◌, ◌||◌}
 use Rattle.std.proofs.Common.{map, length, sym, subst, ap, ◌∙◌, refl, inl, inr, arith}
-use Rattle.std.proofs.lemmas.Bool.{not-true, eq-eqb, eqb-true, cases_Bool, cases_lt, or_left, or_right, or_cases, and_parts}
+use Rattle.std.proofs.lemmas.Bool.{not-true, eq-eqb, eqb-true, cases_Bool, cases_lt, or_left, or_right, or_cases}
+use Rattle.std.proofs.lemmas.Bool.{and_parts}
 use Rattle.std.proofs.lemmas.Bool.{and_from, false≢true, not_from_false}
 use Rattle.std.proofs.lemmas.List.{length-map}
 use Rattle.std.proofs.lemmas.List.FromFn.{length-range_with_len, get_or-map-range_with_len}
@@ -30,8 +31,8 @@ share_back faces f g s =
     let e = q.0 in
     let r = and_parts (eqb (from_of faces e) (to_of faces d)) (eqb (to_of faces e) (from_of faces d)) q.3 in
     any_in_range (λ x. list_any (is_reverse faces x) (range_with_len (4 * f) 4)) (4 * g) 4 e q.1 q.2
-        (any_in_range (is_reverse faces e) (4 * f) 4 d p.1 p.2 (and_from _ _ (eq-eqb _ _ (sym (eqb-true _ _ r.1)))
-        (eq-eqb _ _ (sym (eqb-true _ _ r.0)))))
+    (any_in_range (is_reverse faces e) (4 * f) 4 d p.1 p.2 (and_from _ _ (eq-eqb _ _ (sym (eqb-true _ _ r.1)))
+    (eq-eqb _ _ (sym (eqb-true _ _ r.0)))))
 
 module _ (faces : Faces) where
   pub shares_join : (f g h n m : ℕ) → Shares faces f g n → Shares faces g h m → (k : ℕ) × Shares faces f h k
@@ -73,9 +74,9 @@ module _ (faces : Faces) where
   next_from f k g l m = elim (or_cases _ _ (sym (next_mark f k g l) ∙ m)) [
     | inl old ↦ inl old
     | inr new ↦
-      let h = range_any (λ h. mark f k h && share_edge faces h g) 0 (length faces) new in
-      let p = and_parts (mark f k h.0) (share_edge faces h.0 g) h.3 in
-      inr (h.0, omega (arith, h.2), p.0, p.1)
+        let h = range_any (λ h. mark f k h && share_edge faces h g) 0 (length faces) new in
+        let p = and_parts (mark f k h.0) (share_edge faces h.0 g) h.3 in
+        inr (h.0, omega (arith, h.2), p.0, p.1)
   ]
 
   -- Each mark has a chain.
@@ -121,15 +122,16 @@ module _ (faces : Faces) where
         | inl stable ↦ inl (stays_stable f k stable)
         | inr big ↦ elim (cases_Bool (list_any is_new (all_faces faces))) [
           | inl new ↦
-            let g = range_any is_new 0 (length faces) new in
-            let p = and_parts (mark f (suc k) g.0) (not (mark f k g.0)) g.3 in
-            let less : size f k < size f (suc k) = count_below_lt (λ h. cond (mark f k h) 1 0) (λ h. cond (mark f
-                (suc k) h) 1 0) (length faces) g.0 (omega (arith, g.2)) (λ h lh. more_at (mark f k h) (mark f (suc k) h)
-                (grows f k h lh)) (one_more (mark f k g.0) (mark f (suc k) g.0) (not-true (mark f k g.0) p.1) p.0) in
-            inr (omega arith)
+              let g = range_any is_new 0 (length faces) new in
+              let p = and_parts (mark f (suc k) g.0) (not (mark f k g.0)) g.3 in
+              let less : size f k < size f (suc k) = count_below_lt (λ h. cond (mark f k h) 1 0) (λ h. cond (mark f
+              (suc k) h) 1 0) (length faces) g.0 (omega (arith, g.2)) (λ h lh. more_at (mark f k h) (mark f (suc k) h)
+              (grows f k h lh)) (one_more (mark f k g.0) (mark f (suc k) g.0) (not-true (mark f k g.0) p.1) p.0) in
+              inr (omega arith)
           | inr none ↦ inl (stays_stable f k (λ g l m. elim (cases_Bool (mark f k g)) [
             | inl y ↦ y
-            | inr off ↦ absurd (false≢true (sym none ∙ any_in_range is_new 0 (length faces) g (omega arith) (omega arith)
+            | inr off ↦ absurd
+                (false≢true (sym none ∙ any_in_range is_new 0 (length faces) g (omega arith) (omega arith)
                 (and_from _ _ m (not_from_false _ off))))
           ]))
         ]
@@ -175,13 +177,13 @@ module _ (faces : Faces) where
       let there = sound f last g lf lg m in
       let back = shares_back f g there.0 lf there.1 in
       let one_way : (f g n : ℕ) → f < length faces → g < length faces → Shares faces f g n → (x : ℕ) → x < length faces
-          → mark g (length faces) x ≡ true → mark f (length faces) x ≡ true = λ f g n lf lg s x lx m.
-            let c = sound g last x lg lx m in
-            let j = shares_join f g x n c.0 s c.1 in
-            complete f x j.0 lf j.1 in
+      → mark g (length faces) x ≡ true → mark f (length faces) x ≡ true = λ f g n lf lg s x lx m.
+      let c = sound g last x lg lx m in
+      let j = shares_join f g x n c.0 s c.1 in
+      complete f x j.0 lf j.1 in
       marks_are g last ∙ (map_range_same (mark g last) (mark f last) 0 last (λ x l h. same_test _ _
-          (one_way f g there.0 lf lg there.1 x (omega arith)) (one_way g f back.0 lg lf back.1 x (omega arith)))
-          ∙ sym (marks_are f last))
+      (one_way f g there.0 lf lg there.1 x (omega arith)) (one_way g f back.0 lg lf back.1 x (omega arith)))
+      ∙ sym (marks_are f last))
 
   -- The least face of a component.
   marks_long : (f : ℕ) → length (component_of faces f) ≡ length faces

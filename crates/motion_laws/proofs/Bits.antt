@@ -1,6 +1,7 @@
 -- Who goes on at a vertex with four faces, told by two bits: the rider by d, where neither the rider to whom it gives
 -- way arrives nor the one from the opposite side.
-use Rattle.std.proofs.Common.{◌≡◌, ◌≢◌, ◌⊎◌, ℕ, suc, ◌+◌, ◌<◌, Bool, true, false, not, eqb, ◌&&◌, ◌||◌, List, [], ◌∷◌, sym, ap}
+use Rattle.std.proofs.Common.{◌≡◌, ◌≢◌, ◌⊎◌, ℕ, suc, ◌+◌, ◌<◌, Bool, true, false, not, eqb, ◌&&◌, ◌||◌, List, [], ◌∷◌}
+use Rattle.std.proofs.Common.{sym, ap}
 use Rattle.std.proofs.Common.{◌∙◌, refl, inl, inr, arith}
 use Rattle.std.proofs.Math.Bool.{or-false}
 use Rattle.std.proofs.lemmas.Bool.{eq-eqb, ne_eqb, false≢true}
@@ -146,9 +147,11 @@ module _ (g : Terrain) (laws : IsQuadManifold g.half) where
     r_d = ap (λ t. is_twin t (g.half.next d)) x.last ∙ eq-eqb (g.half.next d) (g.half.next d) refl;
   }
     where
-      ne : (i k : ℕ) → suc (i + k) < 4 → of_four (g.half.next d) a b c i ≡ of_four (g.half.next d) a b c (suc (i + k)) → ⊥
+      ne : (i k : ℕ) → suc (i + k) < 4 → of_four (g.half.next d) a b c i ≡ of_four (g.half.next d) a b c (suc (i + k))
+          → ⊥
       ne i k l e =
-          let s = four_apart g.half laws (g.half.next d) a b c (laws.next_low d low) x i (suc (i + k)) (omega arith) l e in
+          let s = four_apart g.half laws (g.half.next d) a b c (laws.next_low d low) x i (suc (i + k)) (omega arith) l
+              e in
           omega (arith, s)
 
       over : (x y : ℕ) → g.half.prev x ≡ g.half.prev y → x ≡ y
@@ -160,7 +163,7 @@ module _ (g : Terrain) (laws : IsQuadManifold g.half) where
   of_round d a b c low x e l s =
       let back : (y : ℕ) → g.half.next e ≡ y → e ≡ g.half.prev y = λ y k. sym (laws.prev_next e) ∙ ap g.half.prev k in
       elim (one_of_four g.half laws (g.half.next d) a b c (laws.next_low d low) x (g.half.next e)
-          (record { low = laws.next_low e l; at = s })) [
+      (record { low = laws.next_low e l; at = s })) [
         | inl k ↦ inl (back (g.half.next d) k ∙ laws.prev_next d)
         | inr (inl k) ↦ inr (inl (back a k))
         | inr (inr (inl k)) ↦ inr (inr (inl (back b k)))

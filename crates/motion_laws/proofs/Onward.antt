@@ -1,17 +1,18 @@
 -- The states that the motion reaches from a first state, its end, and that what it traces is a full cut.
 use Rattle.std.proofs.Common.{◌≡◌, ◌⊎◌, ℕ, zero, suc, ◌+◌, ◌<◌, ◌≤◌, Bool, true, false, not, cond, ◌||◌, List, []}
 use Rattle.std.proofs.Common.{◌∷◌, map, length, Option, Some, None, is_some, sym, subst, ap, ◌∙◌, refl, inl, inr, arith}
-use Rattle.std.proofs.lemmas.Bool.{false_from_ne_true, eq-eqb, false≢true, cases_Bool, cases_eq, or_left, or_right, or_cases}
+use Rattle.std.proofs.lemmas.Bool.{false_from_ne_true, eq-eqb, false≢true, cases_Bool, cases_eq, or_left, or_right}
+use Rattle.std.proofs.lemmas.Bool.{or_cases}
 use Rattle.def_math.specs.Counts.{count_below}
 use Rattle.sum_laws.proofs.Counts.{count_below_lt, count_below_ones}
-use Rattle.def_cut.specs.{Cuts.IsCross, Cuts.HasCross, Cuts.GoesOn as CutGoesOn, Cuts.IsUncut, Cuts.IsCut, Trails.Trail}
-use Rattle.def_cut.specs.{Trails.IsTracked, Trails.IsTraced, declared.graph.Stop.Stop, declared.moving.Moving.Moving}
+use Rattle.def_cut.specs.{Cuts.HasCross, Cuts.GoesOn as CutGoesOn, Cuts.IsUncut, Cuts.IsCut, Trails.Trail}
+use Rattle.def_cut.specs.{Trails.IsTraced, declared.graph.Stop.Stop, declared.moving.Moving.Moving}
 use Rattle.def_cut.specs.Motion.{Terrain, State, end_of, with_next, ridden, is_among}
 use Rattle.def_cut.specs.{Motion.ride, Motion.ride_on, Motion.step, Motion.later, Traced.finish, Traced.is_cut}
 use Rattle.cut_laws.proofs.{Corners.corner_law, Crosses.one_of_four, Crosses.low_b}
 use Rattle.motion_laws.proofs.Among.{among_here}
-use Rattle.motion_laws.proofs.Terrains.{IsTerrain, IsReachedFrom, IsFirst, IsKnown, IsSoon, IsShut, IsCrossedAt}
-use Rattle.motion_laws.proofs.Steps.{trail_more, IsNext, next_is, step_keeps, back, stands}
+use Rattle.motion_laws.proofs.Terrains.{IsTerrain, IsReachedFrom, IsFirst, IsSoon, IsShut, IsCrossedAt}
+use Rattle.motion_laws.proofs.Steps.{trail_more, next_is, step_keeps, back, stands}
 
 -- Where nobody rides, a step changes no rider.
 pub still_riders : (g : Terrain) (stood : ℕ → Bool) (ds : List ℕ) (rs : List Moving) → ridden rs ≡ []
@@ -75,13 +76,13 @@ module _ (g : Terrain) (t : IsTerrain g) (begins : ℕ → Bool) (first : State)
           | false ↦ elim [ true ↦ λ f. omega arith | false ↦ λ f. omega arith ]
         ] in
         let less_at : (b c : Bool) → b ≡ false → c ≡ true → cond c 0 1 < cond b 0 1 =
-            λ b c off on. rw (off, on) (omega arith) in
+        λ b c off on. rw (off, on) (omega arith) in
         let f = next_is g t begins first s r e m in
         let d = f.0 in
         count_below_lt (λ v. cond ((step g s).stood v) 0 1) (λ v. cond (s.stood v) 0 1) n (end_of g d)
-            (few (g.half.next d) (t.half.next_low d (r.low d f.1)))
-            (λ v l. no_more_at (s.stood v) ((step g s).stood v) (λ y. or_left _ _ y)) (less_at (s.stood (end_of g d))
-            ((step g s).stood (end_of g d)) f.2.going.fresh (stands g t begins first s r d f.1))
+        (few (g.half.next d) (t.half.next_low d (r.low d f.1)))
+        (λ v l. no_more_at (s.stood v) ((step g s).stood v) (λ y. or_left _ _ y)) (less_at (s.stood (end_of g d))
+        ((step g s).stood (end_of g d)) f.2.going.fresh (stands g t begins first s r d f.1))
 
     pub rests_or_falls : (s : State) → IsReachedFrom g begins first s → (ridden (step g s).riders ≡ [])
         ⊎ (fresh (step g s) < fresh s)
@@ -227,7 +228,7 @@ module _ (g : Terrain) (t : IsTerrain g) (begins : ℕ → Bool) (first : State)
             let on_x = soon_cut x c.soon in
             let on_b = soon_cut b c.facing in
             elim (one_of_four g.half t.half x c.a b c.c c.low c.cross (g.half.next d)
-                (record { low = t.half.next_low d low; at = sym c.at })) [
+            (record { low = t.half.next_low d low; at = sym c.at })) [
               | inl e ↦ inl (ap cut e ∙ on_x)
               | inr (inl e) ↦ inr (
                 g.half.prev x,
@@ -246,12 +247,12 @@ module _ (g : Terrain) (t : IsTerrain g) (begins : ℕ → Bool) (first : State)
     -- A vertex without cut edges has four faces.
     uncut_crossed : (d : ℕ) → d < g.half.count → IsUncut g.half cut (g.half.from d) → HasCross g.half d
     uncut_crossed d low u = t.crossed d low (false_from_ne_true _ (λ y.
-          let e = t.rimmed d low y in
-          let off = u e.0 e.1 e.2 in
-          elim e.3 [
-            | inl w ↦ false≢true (sym off.0 ∙ alone_cut e.0 w)
-            | inr w ↦ false≢true (sym off.1 ∙ alone_cut (g.half.prev e.0) w)
-          ]))
+        let e = t.rimmed d low y in
+        let off = u e.0 e.1 e.2 in
+        elim e.3 [
+          | inl w ↦ false≢true (sym off.0 ∙ alone_cut e.0 w)
+          | inr w ↦ false≢true (sym off.1 ∙ alone_cut (g.half.prev e.0) w)
+        ]))
         (false_from_ne_true _ (λ y. false≢true (sym (u d low refl).0 ∙ shut_cut d low (begin.singular d low y))))
 
     traced : IsTraced g.half begins cut
@@ -263,10 +264,10 @@ module _ (g : Terrain) (t : IsTerrain g) (begins : ℕ → Bool) (first : State)
       beside = λ d e low b w. shut_cut (g.half.next e) (t.half.next_low e (t.half.twin_low d e low w))
           (begin.beside d e low b w);
       tracked = λ d e low w c.
-        let more = λ (x k : ℕ) (p : Trail g.half begins s.covered x k).
-            trail_more g.half begins s.covered cut (λ e c. or_left _ _ c) x k p in
-        let k = r.tracked d low (covered_there d e w c) in
-        (k.0, elim k.1 [ inl p ↦ inl (more d k.0 p) | inr f ↦ inr (f.0, f.1, more f.0 k.0 f.2) ]);
+          let more = λ (x k : ℕ) (p : Trail g.half begins s.covered x k).
+          trail_more g.half begins s.covered cut (λ e c. or_left _ _ c) x k p in
+          let k = r.tracked d low (covered_there d e w c) in
+          (k.0, elim k.1 [ inl p ↦ inl (more d k.0 p) | inr f ↦ inr (f.0, f.1, more f.0 k.0 f.2) ]);
     }
 
     -- What is traced is a full cut.

@@ -1,5 +1,5 @@
 -- Events keep what event states show, so every order of events has one end.
-use Rattle.std.proofs.Common.{◌≡◌, ◌≢◌, ◌⊎◌, ℕ, zero, suc, ◌+◌, ◌-◌, ◌<◌, ◌≤◌, Bool, true, false, not, cond, eqb, ◌&&◌}
+use Rattle.std.proofs.Common.{◌≡◌, ◌≢◌, ◌⊎◌, ℕ, zero, suc, ◌+◌, ◌-◌, ◌<◌, ◌≤◌, Bool, true, false, cond, eqb, ◌&&◌}
 use Rattle.std.proofs.Common.{◌||◌, List, [], ◌∷◌, ◌++◌, map, length, set, replicate, Option, Some, None, sym}
 use Rattle.std.proofs.Common.{subst, ap, ◌∙◌, refl, inl, inr, arith}
 use Rattle.std.proofs.Math.Bool.{or-false}
@@ -264,13 +264,14 @@ module _ (g : Terrain) (t : IsTerrain g) (starts : List ℕ) (begin : IsStarted 
           settled_in u (inl y) = ap (λ b. s.stood u || (b && list_any (arrives_at g now u) now)) y
           settled_in u (inr off) =
               let nobody : list_any (arrives_at g (ridden s.riders) u) (ridden s.riders) ≡ false =
-                  false_from_ne_true _ (λ a.
-                    let f = any_where (arrives_at g now u) now a in
-                    let e = and_parts _ _ f.2 in
-                    let there = all_at (λ f. is_settled (end_of g f)) f.0 (darts_in x.noted) on
-                        (ap (is_among f.0) (all_ridden parts.0) ∙ f.1) in
-                    false≢true (sym off ∙ (ap is_settled (sym (eqb-true _ _ e.0)) ∙ there))) in
-              ap (λ b. s.stood u || (b && list_any (arrives_at g now u) now)) off ∙ ap (λ b. s.stood u || b) (sym nobody)
+              false_from_ne_true _ (λ a.
+              let f = any_where (arrives_at g now u) now a in
+              let e = and_parts _ _ f.2 in
+              let there = all_at (λ f. is_settled (end_of g f)) f.0 (darts_in x.noted) on
+              (ap (is_among f.0) (all_ridden parts.0) ∙ f.1) in
+              false≢true (sym off ∙ (ap is_settled (sym (eqb-true _ _ e.0)) ∙ there))) in
+              ap (λ b. s.stood u || (b && list_any (arrives_at g now u) now)) off
+                  ∙ ap (λ b. s.stood u || b) (sym nobody)
 
   -- The state at an instant, which the motion reaches.
   abbrev after : ℕ → State
@@ -369,13 +370,13 @@ module _ (g : Terrain) (t : IsTerrain g) (starts : List ℕ) (begin : IsStarted 
       let now = ridden s.riders in
       let settled = is_on x.settled in
       let rides = λ (d : ℕ) (m : is_among d (darts_in x.noted) ≡ true).
-          noted_rides g s.stood now settled s.riders x.riders x.noted d w.shown.riders m in
+      noted_rides g s.stood now settled s.riders x.riders x.noted d w.shown.riders m in
       let apart = apart_append (darts_in x.noted) (history w.instant)
-          (notes_apart g s.stood now settled s.riders x.riders x.noted w.shown.riders (reached w.instant).apart)
-          (history_apart w.instant) (λ d m b. not_before w.instant d (rides d m) b) in
+      (notes_apart g s.stood now settled s.riders x.riders x.noted w.shown.riders (reached w.instant).apart)
+      (history_apart w.instant) (λ d m b. not_before w.instant d (rides d m) b) in
       let low : (d : ℕ) → is_among d (darts_in x.noted ++ history w.instant) ≡ true → d < g.half.count =
-          λ d m. elim (among_append d (darts_in x.noted) (history w.instant) m)
-          [ inl a ↦ (reached w.instant).low d (rides d a) | inr b ↦ history_low w.instant d b ] in
+      λ d m. elim (among_append d (darts_in x.noted) (history w.instant) m)
+      [ inl a ↦ (reached w.instant).low d (rides d a) | inr b ↦ history_low w.instant d b ] in
       omega (
         arith,
         w.counted,
@@ -394,10 +395,11 @@ module _ (g : Terrain) (t : IsTerrain g) (starts : List ℕ) (begin : IsStarted 
         | inr q ↦ (Ride q.0, (q.1, q.2))
         | inl done ↦ elim w.shown.rest [
           | inl none ↦
-            let same = as_was g s.stood now settled s.riders x.riders x.noted w.shown.riders none.0 in
-            let all = all_ridden s (reached w.instant) x w.shown done in
-            let m = runs_ridden x.riders r low runs in
-            absurd (false≢true (sym (ap (is_among (rider_at x.riders r).dart) (ap ridden same ∙ (sym all ∙ none.0))) ∙ m))
+              let same = as_was g s.stood now settled s.riders x.riders x.noted w.shown.riders none.0 in
+              let all = all_ridden s (reached w.instant) x w.shown done in
+              let m = runs_ridden x.riders r low runs in
+              absurd (false≢true
+                  (sym (ap (is_among (rider_at x.riders r).dart) (ap ridden same ∙ (sym all ∙ none.0))) ∙ m))
           | inr f ↦ (
             Settle (end_of g f.0),
             and_from _ _ (eq-eqb _ _ done) (and_from _ _ (any_at (leads_to g (end_of g f.0)) f.0 (darts_in x.noted) f.1
@@ -415,11 +417,11 @@ module _ (g : Terrain) (t : IsTerrain g) (starts : List ℕ) (begin : IsStarted 
       let settled = is_on x.settled in
       elim w.shown.rest [
         | inl e ↦
-          let same = as_was g s.stood now settled s.riders x.riders x.noted w.shown.riders e.0 in
-          (same, sym (ap ridden same) ∙ nobody_rides x.riders none, e.0)
+            let same = as_was g s.stood now settled s.riders x.riders x.noted w.shown.riders e.0 in
+            (same, sym (ap ridden same) ∙ nobody_rides x.riders none, e.0)
         | inr f ↦
-          let q = still_runs g s.stood now settled s.riders x.riders x.noted f.0 w.shown.riders f.1 f.2 in
-          absurd (none q.0 q.1 q.2)
+            let q = still_runs g s.stood now settled s.riders x.riders x.noted f.0 w.shown.riders f.1 f.2 in
+            absurd (none q.0 q.1 q.2)
       ]
 
   -- All states of the motion where nobody runs are alike.
@@ -451,12 +453,12 @@ module _ (g : Terrain) (t : IsTerrain g) (starts : List ℕ) (begin : IsStarted 
   alike : (i j : ℕ) → ridden (after i).riders ≡ [] → ridden (after j).riders ≡ [] → Alike (after i) (after j)
   alike i j a b = elim (cases_lt i j) [
     | inl l ↦
-      let e : (j - i) + i ≡ j = omega arith in
-      let r : Alike (after j) (after i) = rw e at (rest_more i (j - i) a) in
-      (sym r.0, λ d. sym (r.1 d))
+        let e : (j - i) + i ≡ j = omega arith in
+        let r : Alike (after j) (after i) = rw e at (rest_more i (j - i) a) in
+        (sym r.0, λ d. sym (r.1 d))
     | inr l ↦
-      let e : (i - j) + j ≡ i = omega arith in
-      rw e at (rest_more j (i - j) b)
+        let e : (i - j) + j ≡ i = omega arith in
+        rw e at (rest_more j (i - j) b)
   ]
 
   -- After as many steps as there are vertices nobody runs, and the state is the last.
@@ -468,7 +470,7 @@ module _ (g : Terrain) (t : IsTerrain g) (starts : List ℕ) (begin : IsStarted 
   like_last i none =
       let f = finish_is (suc n) 0 in
       let r = alike i f.0 none (sym (ap (λ (s : State). ridden s.riders) f.1)
-          ∙ nobody_runs g t (λ e. is_among e starts) (start g starts) (first g t starts begin) n few) in
+      ∙ nobody_runs g t (λ e. is_among e starts) (start g starts) (first g t starts begin) n few) in
       (r.0 ∙ sym (ap (λ (s : State). s.riders) f.1), λ d. r.1 d ∙ sym (ap (λ (s : State). s.covered d) f.1))
 
   pub last_is : ((after_steps g starts n).riders ≡ (end_state g n starts).riders)

@@ -1,6 +1,6 @@
 -- Each step keeps what reached states know.
 use Rattle.std.proofs.Common.{◌≡◌, ◌⊎◌, ℕ, zero, suc, ◌<◌, Bool, true, false, not, cond, ◌&&◌, List, Option}
-use Rattle.std.proofs.Common.{Some, None, sym, subst, ap, ◌∙◌, refl, inl, inr}
+use Rattle.std.proofs.Common.{Some, None, sym, ap, ◌∙◌, refl, inl, inr}
 use Rattle.std.proofs.lemmas.Option.{none-some, same_Some}
 use Rattle.std.proofs.lemmas.Bool.{eq-eqb, eqb-true, false≢true, false_from_ne_true, cases_Bool, or_left, or_right}
 use Rattle.std.proofs.lemmas.Bool.{or_cases, and_from, and_parts, not_from_false}
@@ -147,7 +147,7 @@ module _ (g : Terrain) (t : IsTerrain g) where
   straight_same d e x ld le (a, ta, ia) (b, tb, ib) =
       let s = next_same g.half t.half a b (sym ia ∙ ib) in
       next_same g.half t.half d e (twin_same g.half t.half (g.half.next d) (g.half.next e) a (t.half.next_low d ld)
-          (t.half.next_low e le) ta (tb ∙ ap Some (sym s)))
+      (t.half.next_low e le) ta (tb ∙ ap Some (sym s)))
 
   module _ (begins : ℕ → Bool) (first s : State) (r : IsReachedFrom g begins first s) where
     abbrev now : List ℕ
@@ -251,9 +251,9 @@ module _ (g : Terrain) (t : IsTerrain g) where
         let next_low = t.half.next_low f (r.low f m) in
         let pa = g.half.prev a in
         let end_a : end_of g (g.half.prev a) ≡ end_of g f =
-            ap g.half.from (t.half.next_prev a) ∙ at_a g.half t.half (g.half.next f) a b c next_low x in
+        ap g.half.from (t.half.next_prev a) ∙ at_a g.half t.half (g.half.next f) a b c next_low x in
         let turned : IsCross g.half (g.half.next (g.half.prev a)) b c (g.half.next f) =
-            rw (t.half.next_prev a) (rotated g.half t.half (g.half.next f) a b c next_low x) in
+        rw (t.half.next_prev a) (rotated g.half t.half (g.half.next f) a b c next_low x) in
         elim (cases_Bool (is_among (g.half.prev b) now)) [
           | inl y ↦ facing_too f a b c m x y
           | inr no_b ↦ elim (cases_Bool (is_among (g.half.prev a) now)) [
@@ -270,29 +270,29 @@ module _ (g : Terrain) (t : IsTerrain g) where
         → g.singular (g.half.from d) ≡ false → IsCrossedAt g next (g.half.from d)
     step_through d low k inner regular = elim (cases_Bool (s.stood (g.half.from d))) [
       | inl y ↦
-        let x = r.through d low y inner regular in
-        record {
-          x = x.x;
-          a = x.a;
-          b = x.b;
-          c = x.c;
-          low = x.low;
-          at = x.at;
-          cross = x.cross;
-          soon = inl (soon_then x.x x.soon);
-          facing = inl (soon_then x.b x.facing);
-        }
+          let x = r.through d low y inner regular in
+          record {
+            x = x.x;
+            a = x.a;
+            b = x.b;
+            c = x.c;
+            low = x.low;
+            at = x.at;
+            cross = x.cross;
+            soon = inl (soon_then x.x x.soon);
+            facing = inl (soon_then x.b x.facing);
+          }
       | inr off ↦ elim (or_cases (s.stood (g.half.from d)) _ k) [
         | inl y ↦ absurd (false≢true (sym off ∙ y))
         | inr n ↦
-          let found = any_where (arrives_at g now (g.half.from d)) now n in
-          let f = found.0 in
-          let m = found.1 in
-          let e : end_of g f ≡ g.half.from d = eqb-true _ _ (and_parts _ _ found.2).0 in
-          let x = t.crossed (g.half.next f) (t.half.next_low f (r.low f m)) (ap g.boundary e ∙ inner)
-              (ap g.singular e ∙ regular) in
-          rw (← e) (decided f x.0 x.1 x.2 m (ap s.stood e ∙ off) (ap g.boundary e ∙ inner) (ap g.singular e ∙ regular)
-              x.3)
+            let found = any_where (arrives_at g now (g.half.from d)) now n in
+            let f = found.0 in
+            let m = found.1 in
+            let e : end_of g f ≡ g.half.from d = eqb-true _ _ (and_parts _ _ found.2).0 in
+            let x = t.crossed (g.half.next f) (t.half.next_low f (r.low f m)) (ap g.boundary e ∙ inner)
+            (ap g.singular e ∙ regular) in
+            rw (← e) (decided f x.0 x.1 x.2 m (ap s.stood e ∙ off) (ap g.boundary e ∙ inner) (ap g.singular e ∙ regular)
+            x.3)
       ]
     ]
 
@@ -302,19 +302,20 @@ module _ (g : Terrain) (t : IsTerrain g) where
       | inl o ↦ let e = r.ends d low o in (known_then _ e.0, known_then _ e.1)
       | inr (inl m) ↦ (inl (stood_old _ (r.left d m)), inl (stands d m))
       | inr (inr w) ↦
-        let ends = t.half.twin_ends d w.0 low w.1 in
-        (inl (ap next.stood (sym ends.1) ∙ stands w.0 w.2), inl (ap next.stood (sym ends.0) ∙ stood_old _ (r.left w.0 w.2)))
+          let ends = t.half.twin_ends d w.0 low w.1 in
+          (inl (ap next.stood (sym ends.1) ∙ stands w.0 w.2), inl
+              (ap next.stood (sym ends.0) ∙ stood_old _ (r.left w.0 w.2)))
     ]
 
     step_alike : (d e : ℕ) → d < g.half.count → g.half.twin d ≡ Some e → next.covered e ≡ next.covered d
     step_alike d e low w =
         let one_way : (d e : ℕ) → d < g.half.count → g.half.twin d ≡ Some e → (step g s).covered e ≡ true
-            → (step g s).covered d ≡ true = λ d e low w c. elim (why e c) [
-              | inl o ↦ covered_old d (sym (r.alike d e low w) ∙ o)
-              | inr (inl m) ↦ covered_twin d e w m
-              | inr (inr x) ↦ covered_rode d
-                  (ap (λ k. is_among k now) (same_Some d x.0 (sym (back d e low w) ∙ x.1)) ∙ x.2)
-            ] in
+        → (step g s).covered d ≡ true = λ d e low w c. elim (why e c) [
+          | inl o ↦ covered_old d (sym (r.alike d e low w) ∙ o)
+          | inr (inl m) ↦ covered_twin d e w m
+          | inr (inr x) ↦ covered_rode d
+              (ap (λ k. is_among k now) (same_Some d x.0 (sym (back d e low w) ∙ x.1)) ∙ x.2)
+        ] in
         same_test _ _ (one_way d e low w) (one_way e d (t.half.twin_low d e low w) (back d e low w))
 
     more : (x k : ℕ) → Trail g.half begins s.covered x k → Trail g.half begins next.covered x k
@@ -330,8 +331,8 @@ module _ (g : Terrain) (t : IsTerrain g) where
     step_tracked : (d : ℕ) → d < g.half.count → next.covered d ≡ true → IsTracked g.half begins next.covered d
     step_tracked d low c = elim (why d c) [
       | inl o ↦
-        let k = r.tracked d low o in
-        (k.0, elim k.1 [ inl p ↦ inl (more d k.0 p) | inr w ↦ inr (w.0, w.1, more w.0 k.0 w.2) ])
+          let k = r.tracked d low o in
+          (k.0, elim k.1 [ inl p ↦ inl (more d k.0 p) | inr w ↦ inr (w.0, w.1, more w.0 k.0 w.2) ])
       | inr (inl m) ↦ let p = r.trails d m in (p.0, inl (more d p.0 p.1))
       | inr (inr w) ↦ let p = r.trails w.0 w.2 in (p.0, inr (w.0, w.1, more w.0 p.0 p.1))
     ]
@@ -339,9 +340,9 @@ module _ (g : Terrain) (t : IsTerrain g) where
     pub step_keeps : IsReachedFrom g begins first (step g s)
     step_keeps = record {
       apart = next_apart g s.stood now s.riders r.apart (λ d e m n on_d on_e same.
-        let a = is_next s.stood now d _ (r.low d m) on_d refl in
-        let b = is_next s.stood now e _ (r.low e n) on_e same in
-        straight_same d e _ (r.low d m) (r.low e n) a.straight b.straight);
+          let a = is_next s.stood now d _ (r.low d m) on_d refl in
+          let b = is_next s.stood now e _ (r.low e n) on_e same in
+          straight_same d e _ (r.low d m) (r.low e n) a.straight b.straight);
       low = λ e m. (next_is e m).2.low;
       left = λ e m. let n = next_is e m in ap next.stood n.2.at ∙ stands n.0 n.1;
       alike = step_alike;

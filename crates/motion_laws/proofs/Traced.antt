@@ -1,8 +1,7 @@
 -- The motion that starts with riders at given darts: its states, and its end.
-use Rattle.std.proofs.Common.{eqb, ◌≡◌, ◌⊎◌, ℕ, ◌<◌, Bool, true, false, List, [], ◌∷◌, map, Option, Some, None, sym, subst}
+use Rattle.std.proofs.Common.{eqb, ◌≡◌, ◌⊎◌, ℕ, ◌<◌, true, false, List, [], ◌∷◌, map, Option, Some, None, sym, subst}
 use Rattle.std.proofs.Common.{ap, ◌∙◌, refl, inl, inr}
 use Rattle.std.proofs.lemmas.Bool.{eq-eqb, eqb-true, false≢true}
-use Rattle.def_cut.specs.Cuts.{HasCross}
 use Rattle.def_cut.specs.Motion.{Terrain, end_of, ridden, is_among, begun, start, after_steps}
 use Rattle.cut_laws.proofs.{Crosses.low_a, Crosses.low_b, Crosses.at_b, Darts.turn_from, Darts.turn_low}
 use Rattle.motion_laws.proofs.{Among.any_at, Among.any_where, Among.AreApart, Onward.later_reached, Onward.rides_once}

@@ -192,7 +192,8 @@ module _ {mesh : HalfEdges} (laws : IsQuadManifold mesh) {cut rest : Cut} (full 
       suc near_closes.0 + suc others.third.0,
       near_closes.0,
       record {
-        side = grown_side near_closes.1 near_closes.2 others.third.1 others.third.2 others.second near_stays far_third_off;
+        side = grown_side near_closes.1 near_closes.2 others.third.1 others.third.2 others.second near_stays
+            far_third_off;
         low = omega arith;
         at = cc (laws.prev_next (easts mesh near.fourth near_closes.0), near_closes.2);
       },

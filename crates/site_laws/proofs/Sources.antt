@@ -18,7 +18,8 @@ use Rattle.mesh_laws.proofs.{HalfEdges.manifold_law, Flood.Shares, Flood.sound, 
 use Rattle.mesh_laws.proofs.{Flood.least_low, Flood.least_marked, Flood.least_again, Twins.reverse_twin}
 use Rattle.mesh_laws.proofs.{Twins.twin_found, Vertices.all_below}
 use Rattle.face_laws.proofs.Fans.{same_face}
-use Rattle.motion_laws.proofs.Among.{any_at, all_at, not_all, in_filter, from_filter, among_here, among_range, range_among}
+use Rattle.motion_laws.proofs.Among.{any_at, all_at, not_all, in_filter, from_filter, among_here, among_range}
+use Rattle.motion_laws.proofs.Among.{range_among}
 use Rattle.site_laws.proofs.Fans.{joins_join, joins_turns, lone_face, some_twin}
 
 -- Going round a face joins.
