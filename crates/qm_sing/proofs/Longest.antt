@@ -1,453 +1,302 @@
 -- A walk onward from the end of a walk back is a longest run, and with it the runs of one dart more are found.
-use Rattle.std.proofs.Common.{◌≡◌, ◌≢◌, ◌⊎◌, ℕ, zero, suc, ◌+◌, ◌-◌, ◌<◌, ◌≤◌, Bool, true, false, Option, Some, None}
-use Rattle.std.proofs.Common.{List, [], ◌∷◌, ◌++◌, map, length, replicate, get_or, sym, subst, ap, ◌∙◌, refl, inl, inr}
+use Rattle.std.proofs.Common.{◌≡◌, ◌≢◌, ℕ, zero, suc, ◌+◌, ◌-◌, ◌<◌, ◌≤◌, Bool, true, false, Some}
+use Rattle.std.proofs.Common.{List, [], ◌∷◌, ◌++◌, length, replicate, get_or, sym, ap, ◌∙◌, refl, inl, inr}
 use Rattle.std.proofs.Common.{arith}
 use Rattle.std.proofs.lemmas.Option.{none-some, same_Some}
 use Rattle.std.proofs.lemmas.Bool.{cases_Bool, cases_eq, cases_lt, eq-eqb}
 use Rattle.std.proofs.lemmas.List.{length-append, length-replicate, map-append, get_or_append_left, get_or-append-add}
+use Rattle.std.proofs.lemmas.List.{get_or-replicate}
 use Rattle.def_mesh.specs.{Faces.Faces, Darts.darts, Manifold.IsManifold}
-use Rattle.def_runs.specs.Runs.{HasDart, IsBefore, IsLongestRun, first_dart, follower, is_closed, is_dart, last_dart}
+use Rattle.def_runs.specs.Runs.{HasDart, IsBefore, IsLongestRun, first_dart, follower, is_closed, last_dart}
 use Rattle.def_runs.specs.Runs.{nth_run}
 use Rattle.cut_laws.proofs.Pigeon.{sent_or_not}
 use Rattle.qm_sing.specs.{declared.flooding.TheConstants.NONE, declared.lines.Line.Line, Walks.AreRunsBelow}
 use Rattle.qm_sing.specs.Walks.{AreRunsSoFar, IsBack, IsLine, leader, walked}
-use Rattle.qm_sing.proofs.Walking.{back_of, follower_low, leader_low, on_from, one_follower, one_leader, places_differ}
-use Rattle.qm_sing.proofs.Walking.{walk_low, walk_list, walk_long, walk_at, holds_at}
+use Rattle.qm_sing.proofs.Walking.{back_of, follows, leads, on_from, places_differ, walk_low, walk_list, walk_long}
+use Rattle.qm_sing.proofs.Walking.{walk_at, holds_at}
 
-module _ (faces : Faces) (m : IsManifold faces) (d first r : ℕ) (line : Line) (run_old run at_old at : List ℕ)
+-- A walk onward from the end of a walk back is a longest run.
+module _ {faces : Faces} (m : IsManifold faces) {d first r : ℕ} {line : Line} {run_old run at_old at : List ℕ}
     (low : d < darts faces) (back : IsBack faces d first) (on : IsLine faces first r line run_old run at_old at) where
   abbrev ahead : (k : ℕ) → ℕ
-  ahead k = walked (follower faces) first k
+  ahead = walked (follower faces) first
 
   abbrev behind : (k : ℕ) → ℕ
-  behind k = walked (leader faces) d k
+  behind = walked (leader faces) d
 
-  behind_low : (k : ℕ) → k ≤ back.steps → walked (leader faces) d k < darts faces
-  behind_low k l = walk_low (leader faces) (darts faces) (λ x z. leader_low faces m x z)
-      (λ x y z. one_leader faces m x y z) d low back.steps back.goes k l
+  abbrev trail : List ℕ
+  trail = walk_list ahead on.last
 
-  ahead_low : (k : ℕ) → k ≤ on.last → walked (follower faces) first k < darts faces
-  ahead_low k l = walk_low (follower faces) (darts faces) (λ x z. follower_low faces m x z)
-      (λ x y z. one_follower faces m x y z) first back.first_low on.last on.goes k l
+  behind_low : (k : ℕ) → k ≤ back.steps → behind k < darts faces
+  behind_low = walk_low (leads m) d low back.steps back.goes
 
-  undone : (k : ℕ) → k < back.steps → follower faces (walked (leader faces) d (suc k))
-      ≡ Some (walked (leader faces) d k)
-  undone k l = on_from faces m (walked (leader faces) d k) (walked (leader faces) d (suc k))
-      (behind_low k (omega arith)) (back.goes k l)
+  ahead_low : (k : ℕ) → k ≤ on.last → ahead k < darts faces
+  ahead_low = walk_low (follows m) first back.first_low on.last on.goes
 
-  last_at : last_dart (walk_list (walked (follower faces) first) on.last) ≡ walked (follower faces) first on.last
-  last_at = let e : length (walk_list (walked (follower faces) first) on.last) - 1 ≡ on.last =
-      omega (arith, walk_long (walked (follower faces) first) on.last) in
-      ap (λ k. get_or (walk_list (walked (follower faces) first) on.last) k 0) e
-      ∙ walk_at (walked (follower faces) first) on.last on.last (omega arith)
+  undone : (k : ℕ) → k < back.steps → follower faces (behind (suc k)) ≡ Some (behind k)
+  undone k l = on_from m (behind k) (behind (suc k)) (behind_low k (omega arith)) (back.goes k l)
 
-  first_at : first_dart (walk_list (walked (follower faces) first) on.last) ≡ first
-  first_at = walk_at (walked (follower faces) first) on.last 0 (omega arith)
+  last_at : last_dart trail ≡ ahead on.last
+  last_at = let e : length trail - 1 ≡ on.last = omega (arith, walk_long ahead on.last) in
+      ap (λ k. get_or trail k 0) e ∙ walk_at ahead on.last on.last (omega arith)
+
+  first_at : first_dart trail ≡ first
+  first_at = walk_at ahead on.last 0 (omega arith)
 
   -- Where the walk back comes to d again, the walk onward does not end.
-  module _ (round : leader faces (walked (leader faces) d back.steps) ≡ Some d) (same : first ≡ d) where
-    turned : follower faces d ≡ Some (walked (leader faces) d back.steps)
-    turned = on_from faces m (walked (leader faces) d back.steps) d (behind_low back.steps (omega arith)) round
+  module _ (round : leader faces (behind back.steps) ≡ Some d) (same : first ≡ d) where
+    goes_round : (i : ℕ) → i ≤ back.steps → (k : ℕ) × (k ≤ back.steps) × (follower faces (behind i) ≡ Some (behind k))
+    goes_round zero h =
+        (back.steps, omega arith, on_from m (behind back.steps) d (behind_low back.steps (omega arith)) round)
+    goes_round (suc i) h = (i, omega arith, undone i (omega arith))
 
-    within : (j : ℕ) → j ≤ on.last → (i : ℕ) × (i ≤ back.steps)
-        × (walked (follower faces) first j ≡ walked (leader faces) d i)
+    within : (j : ℕ) → j ≤ on.last → (i : ℕ) × (i ≤ back.steps) × (ahead j ≡ behind i)
     within zero l = (0, omega arith, same)
-    within (suc j) l = by_place (within j (omega arith))
-      where
-        by_place : (i : ℕ) × (i ≤ back.steps) × (walked (follower faces) first j ≡ walked (leader faces) d i)
-            → (i : ℕ) × (i ≤ back.steps) × (walked (follower faces) first (suc j) ≡ walked (leader faces) d i)
-        by_place (zero, h, e) = (
-          back.steps,
-          omega arith,
-          same_Some _ _ (sym (on.goes j (omega arith)) ∙ (ap (follower faces) e ∙ turned)),
-        )
-        by_place (suc i, h, e) = (
-          i,
-          omega arith,
-          same_Some _ _ (sym (on.goes j (omega arith)) ∙ (ap (follower faces) e ∙ undone i (omega arith))),
-        )
-
-    goes_round : (i : ℕ) → i ≤ back.steps → follower faces (walked (leader faces) d i) ≡ None → ⊥
-    goes_round zero h e = none-some (walked (leader faces) d back.steps) (sym e ∙ turned)
-    goes_round (suc i) h e = none-some (walked (leader faces) d i) (sym e ∙ undone i (omega arith))
+    within (suc j) l =
+        let (i, h, e) = within j (omega arith) in
+        let (k, lk, next) = goes_round i h in
+        (k, lk, same_Some _ _ (sym (on.goes j (omega arith)) ∙ (ap (follower faces) e ∙ next)))
 
     not_open : line.closed ≡ false → ⊥
-    not_open off = by_place (within on.last (omega arith))
-      where
-        by_place : (i : ℕ) × (i ≤ back.steps) × (walked (follower faces) first on.last ≡ walked (leader faces) d i) → ⊥
-        by_place (i, h, e) = goes_round i h (ap (follower faces) (sym e) ∙ on.opens off)
+    not_open off =
+        let (i, h, e) = within on.last (omega arith) in
+        let (k, lk, next) = goes_round i h in
+        none-some (behind k) (sym (on.opens off) ∙ (ap (follower faces) e ∙ next))
 
   -- A closed run was met again on the way back.
   closed_at : line.closed ≡ true → first ≡ d
-  closed_at shut = by_stop back.stops
-    where
-      by_stop : ((leader faces first ≡ None) × (first ≡ walked (leader faces) d back.steps))
-          ⊎ ((first ≡ d) × (leader faces (walked (leader faces) d back.steps) ≡ Some d)) → first ≡ d
-      by_stop (inl e) = absurd (none-some (walked (follower faces) first on.last) (sym e.0
-          ∙ back_of faces m (walked (follower faces) first on.last) first (ahead_low on.last (omega arith))
-          (on.closes shut)))
-      by_stop (inr e) = e.0
+  closed_at shut = elim back.stops [
+    | inl e ↦ absurd (none-some (ahead on.last) (sym e.0
+        ∙ back_of m (ahead on.last) first (ahead_low on.last (omega arith)) (on.closes shut)))
+    | inr e ↦ e.0
+  ]
 
   -- What the first dart follows stands in the run.
-  begins_at : (e : ℕ) → e < darts faces → follower faces e ≡ Some first
-      → HasDart (walk_list (walked (follower faces) first) on.last) e
-  begins_at e l is = by_test (cases_Bool line.closed)
-    where
-      by_stop : line.closed ≡ false → ((leader faces first ≡ None) × (first ≡ walked (leader faces) d back.steps))
-          ⊎ ((first ≡ d) × (leader faces (walked (leader faces) d back.steps) ≡ Some d))
-          → HasDart (walk_list (walked (follower faces) first) on.last) e
-      by_stop off (inl s) = absurd (none-some e (sym s.0 ∙ back_of faces m e first l is))
-      by_stop off (inr s) = absurd (not_open s.1 s.0 off)
+  begins_at : (e : ℕ) → e < darts faces → follower faces e ≡ Some first → HasDart trail e
+  begins_at e l is = elim (cases_Bool line.closed) [
+    | inl shut ↦ holds_at ahead on.last on.last e (omega arith)
+        ((follows m).once (ahead on.last) e first (ahead_low on.last (omega arith)) l (on.closes shut) is)
+    | inr off ↦ elim back.stops [
+      | inl s ↦ absurd (none-some e (sym s.0 ∙ back_of m e first l is))
+      | inr s ↦ absurd (not_open s.1 s.0 off)
+    ]
+  ]
 
-      by_test : (line.closed ≡ true) ⊎ (line.closed ≡ false)
-          → HasDart (walk_list (walked (follower faces) first) on.last) e
-      by_test (inl shut) = holds_at (walked (follower faces) first) on.last on.last e (omega arith)
-          (one_follower faces m (walked (follower faces) first on.last) e first (ahead_low on.last (omega arith)) l
-          (on.closes shut) is)
-      by_test (inr off) = by_stop off back.stops
+  ends_at : (e : ℕ) → follower faces (ahead on.last) ≡ Some e → HasDart trail e
+  ends_at e is = elim (cases_Bool line.closed) [
+    | inl shut ↦ holds_at ahead on.last 0 e (omega arith) (same_Some first e (sym (on.closes shut) ∙ is))
+    | inr off ↦ absurd (none-some e (sym (on.opens off) ∙ is))
+  ]
 
-  ends_at : (e : ℕ) → follower faces (walked (follower faces) first on.last) ≡ Some e
-      → HasDart (walk_list (walked (follower faces) first) on.last) e
-  ends_at e is = by_test (cases_Bool line.closed)
-    where
-      by_test : (line.closed ≡ true) ⊎ (line.closed ≡ false)
-          → HasDart (walk_list (walked (follower faces) first) on.last) e
-      by_test (inl shut) = holds_at (walked (follower faces) first) on.last 0 e (omega arith)
-          (same_Some first e (sym (on.closes shut) ∙ is))
-      by_test (inr off) = absurd (none-some e (sym (on.opens off) ∙ is))
+  short : (k : ℕ) → k < length trail → k < suc on.last
+  short k l = omega (arith, walk_long ahead on.last)
 
-  pub longest : IsLongestRun faces (walk_list (walked (follower faces) first) on.last)
+  stands : (k : ℕ) → k < length trail → get_or trail k 0 ≡ ahead k
+  stands k l = walk_at ahead on.last k (short k l)
+
+  pub longest : IsLongestRun faces trail
   longest = record {
-    some = omega (arith, walk_long (walked (follower faces) first) on.last);
-    low = λ k l. subst (λ (x : ℕ). x < darts faces)
-        (sym (walk_at (walked (follower faces) first) on.last k (short k l))) (ahead_low k (omega (arith, short k l)));
-    differ = λ i j l h e. places_differ (follower faces) (darts faces) (λ x z. follower_low faces m x z)
-        (λ x y z. one_follower faces m x y z) first back.first_low on.last on.goes on.away i j l
-        (omega (arith, short j h))
-        (sym (walk_at (walked (follower faces) first) on.last i (omega (arith, short j h)))
-        ∙ (e ∙ walk_at (walked (follower faces) first) on.last j (short j h)));
-    straight = λ k l. ap (follower faces) (walk_at (walked (follower faces) first) on.last k
-        (omega (arith, short (suc k) l))) ∙ (on.goes k (omega (arith, short (suc k) l))
-        ∙ ap Some (sym (walk_at (walked (follower faces) first) on.last (suc k) (short (suc k) l))));
+    some = omega (arith, walk_long ahead on.last);
+    low = λ k l. rw (stands k l) (ahead_low k (omega (arith, short k l)));
+    differ = λ i j l h e. places_differ (follows m) first back.first_low on.last on.goes on.away i j l
+        (omega (arith, short j h)) (sym (stands i (omega arith)) ∙ (e ∙ stands j h));
+    straight = λ k l. ap (follower faces) (stands k (omega arith))
+        ∙ (on.goes k (omega (arith, short (suc k) l)) ∙ ap Some (sym (stands (suc k) l)));
     ends = λ e is. ends_at e (ap (follower faces) (sym last_at) ∙ is);
     begins = λ e l is. begins_at e l (is ∙ ap Some first_at);
   }
-    where
-      short : (k : ℕ) → k < length (walk_list (walked (follower faces) first) on.last) → k < suc on.last
-      short k l = omega (arith, l, walk_long (walked (follower faces) first) on.last)
 
-  pub closed_is : is_closed faces (walk_list (walked (follower faces) first) on.last) ≡ line.closed
-  closed_is = ap (λ (x : ℕ). is_dart (follower faces x)
-      (first_dart (walk_list (walked (follower faces) first) on.last))) last_at
-      ∙ (ap (is_dart (follower faces (walked (follower faces) first on.last))) first_at
-      ∙ by_test (cases_Bool line.closed))
-    where
-      by_test : (line.closed ≡ true) ⊎ (line.closed ≡ false)
-          → is_dart (follower faces (walked (follower faces) first on.last)) first ≡ line.closed
-      by_test (inl shut) = ap (λ (o : Option ℕ). is_dart o first) (on.closes shut)
-          ∙ (eq-eqb first first refl ∙ sym shut)
-      by_test (inr off) = ap (λ (o : Option ℕ). is_dart o first) (on.opens off) ∙ sym off
+  pub closed_is : is_closed faces trail ≡ line.closed
+  closed_is = rw (last_at, first_at) (elim (cases_Bool line.closed) [
+    | inl shut ↦ rw (on.closes shut) (eq-eqb first first refl ∙ sym shut)
+    | inr off ↦ rw (on.opens off) (sym off)
+  ])
+
+  -- The walk onward goes the way back.
+  along : first ≡ behind back.steps → (j i : ℕ) → j + i ≡ back.steps → j ≤ on.last → ahead j ≡ behind i
+  along e zero i s l = e ∙ ap behind (omega arith)
+  along e (suc j) i s l = same_Some _ _ (sym (on.goes j (omega arith))
+      ∙ (ap (follower faces) (along e j (suc i) (omega arith) (omega arith)) ∙ undone i (omega arith)))
+
+  too_short : first ≡ behind back.steps → (i : ℕ) → on.last + suc i ≡ back.steps → ⊥
+  too_short e i s =
+      let next = ap (follower faces) (along e on.last (suc i) s (omega arith)) ∙ undone i (omega arith) in
+      elim (cases_Bool line.closed) [
+        | inl shut ↦ places_differ (leads m) d low back.steps back.goes back.away i back.steps (omega arith)
+            (omega arith) (same_Some _ _ (sym next ∙ on.closes shut) ∙ e)
+        | inr off ↦ none-some (behind i) (sym (on.opens off) ∙ next)
+      ]
 
   -- The dart with which the walk back began stands in the run.
-  pub d_stands : (k : ℕ) × (k < suc on.last) × (walked (follower faces) first k ≡ d)
-  d_stands = by_stop back.stops
-    where
-      -- The walk onward goes the way back.
-      along : first ≡ walked (leader faces) d back.steps → (j i : ℕ) → j + i ≡ back.steps → j ≤ on.last
-          → walked (follower faces) first j ≡ walked (leader faces) d i
-      along e zero i s l = e ∙ ap (walked (leader faces) d) (omega (arith, s))
-      along e (suc j) i s l = same_Some _ _ (sym (on.goes j (omega arith))
-          ∙ (ap (follower faces) (along e j (suc i) (omega arith) (omega arith)) ∙ undone i (omega arith)))
-
-      too_short : first ≡ walked (leader faces) d back.steps → (i : ℕ) → on.last + suc i ≡ back.steps → ⊥
-      too_short e i s = by_test (cases_Bool line.closed)
-        where
-          next : follower faces (walked (follower faces) first on.last) ≡ Some (walked (leader faces) d i)
-          next = ap (follower faces) (along e on.last (suc i) s (omega arith)) ∙ undone i (omega arith)
-
-          by_test : (line.closed ≡ true) ⊎ (line.closed ≡ false) → ⊥
-          by_test (inl shut) = places_differ (leader faces) (darts faces) (λ x z. leader_low faces m x z)
-              (λ x y z. one_leader faces m x y z) d low back.steps back.goes back.away i back.steps (omega arith)
-              (omega arith) (same_Some _ _ (sym next ∙ on.closes shut) ∙ e)
-          by_test (inr off) = none-some (walked (leader faces) d i) (sym (on.opens off) ∙ next)
-
-      by_long : first ≡ walked (leader faces) d back.steps → (on.last < back.steps) ⊎ (back.steps ≤ on.last)
-          → (k : ℕ) × (k < suc on.last) × (walked (follower faces) first k ≡ d)
-      by_long e (inl l) = absurd (too_short e (back.steps - suc on.last) (omega arith))
-      by_long e (inr l) = (back.steps, omega arith, along e back.steps 0 (omega arith) l)
-
-      by_stop : ((leader faces first ≡ None) × (first ≡ walked (leader faces) d back.steps))
-          ⊎ ((first ≡ d) × (leader faces (walked (leader faces) d back.steps) ≡ Some d)) → (k : ℕ) × (k < suc on.last)
-          × (walked (follower faces) first k ≡ d)
-      by_stop (inl e) = by_long e.1 (cases_lt on.last back.steps)
-      by_stop (inr e) = (0, omega arith, e.0)
+  pub d_stands : (k : ℕ) × (k < suc on.last) × (ahead k ≡ d)
+  d_stands = elim back.stops [
+    | inl e ↦ elim (cases_lt on.last back.steps) [
+      | inl l ↦ absurd (too_short e.1 (back.steps - suc on.last) (omega arith))
+      | inr l ↦ (back.steps, omega arith, along e.1 back.steps 0 (omega arith) l)
+    ]
+    | inr e ↦ (0, omega arith, e.0)
+  ]
 
 -- In whole runs, a dart with its number leads to darts with numbers.
-module _ (faces : Faces) (m : IsManifold faces) (d : ℕ) (run at : List ℕ) (lists : List (List ℕ))
-    (found : AreRunsBelow faces d run at lists) where
-  none_told : length lists ≤ NONE → (r k : ℕ) → r < length lists → k < length (nth_run lists r)
-      → get_or run (get_or (nth_run lists r) k 0) 0 ≢ NONE
-  none_told few r k l h e = absurd (omega (arith, (found.told r k l h).0, e))
+module _ {faces : Faces} (m : IsManifold faces) {d : ℕ} {run at : List ℕ} {lists : List (List ℕ)}
+    (found : AreRunsBelow faces d run at lists) (few : length lists ≤ NONE) where
+  held : (r e : ℕ) → r < length lists → HasDart (nth_run lists r) e → get_or run e 0 ≢ NONE
+  held r e l (k, h, s) off = absurd (omega (arith, (found.told r k l h).0, ap (λ (x : ℕ). get_or run x 0) s))
 
-  held : length lists ≤ NONE → (r e : ℕ) → r < length lists → HasDart (nth_run lists r) e → get_or run e 0 ≢ NONE
-  held few r e l (k, h, s) off = none_told few r k l h (ap (λ (x : ℕ). get_or run x 0) s ∙ off)
+  fresh_where : (y : ℕ) → y < darts faces → ((r k : ℕ) → r < length lists → k < length (nth_run lists r)
+      → get_or (nth_run lists r) k 0 ≡ y → ⊥) → get_or run y 0 ≡ NONE
+  fresh_where y l none = elim (cases_eq (get_or run y 0) NONE) [
+    | inl e ↦ e
+    | inr ne ↦ let t = found.there y l ne in absurd (none (get_or run y 0) (get_or at y 0) t.0 t.1 t.2)
+  ]
 
   -- Where x is not numbered, neither is the dart before it, nor the one after it.
-  pub before_fresh : length lists ≤ NONE → (x y : ℕ) → x < darts faces → leader faces x ≡ Some y → get_or run x 0 ≡ NONE
+  pub before_fresh : (x y : ℕ) → x < darts faces → leader faces x ≡ Some y → get_or run x 0 ≡ NONE
       → get_or run y 0 ≡ NONE
-  before_fresh few x y l is fresh = elim (cases_eq (get_or run y 0) NONE) [
-    | inl e ↦ e
-    | inr ne ↦ absurd (by_place ne (found.there y (leader_low faces m x y l is) ne))
-  ]
-    where
-      follows : follower faces y ≡ Some x
-      follows = on_from faces m x y l is
+  before_fresh x y l is fresh = fresh_where y ((leads m).low x y l is) (λ r k lr lk s.
+      let next = ap (follower faces) s ∙ on_from m x y l is in
+      elim (cases_lt (suc k) (length (nth_run lists r))) [
+        | inl more ↦
+            held r x lr (suc k, more, same_Some _ _ (sym ((found.runs r lr).straight k more) ∙ next)) fresh
+        | inr last ↦ let e : length (nth_run lists r) - 1 ≡ k = omega arith in
+            held r x lr ((found.runs r lr).ends x (rw e next)) fresh
+      ])
 
-      by_place : get_or run y 0 ≢ NONE → (get_or run y 0 < length lists)
-          × (get_or at y 0 < length (nth_run lists (get_or run y 0)))
-          × (get_or (nth_run lists (get_or run y 0)) (get_or at y 0) 0 ≡ y) → ⊥
-      by_place ne (lr, lk, s) = by_last (cases_lt (suc (get_or at y 0)) (length (nth_run lists (get_or run y 0))))
-        where
-          by_last : (suc (get_or at y 0) < length (nth_run lists (get_or run y 0)))
-              ⊎ (length (nth_run lists (get_or run y 0)) ≤ suc (get_or at y 0)) → ⊥
-          by_last (inl more) =
-              let e : x ≡ get_or (nth_run lists (get_or run y 0)) (suc (get_or at y 0)) 0 =
-              same_Some _ _ (sym follows
-              ∙ (ap (follower faces) (sym s) ∙ (found.runs (get_or run y 0) lr).straight (get_or at y 0) more)) in
-              none_told few (get_or run y 0) (suc (get_or at y 0)) lr more (ap (λ (z : ℕ). get_or run z 0) (sym e)
-              ∙ fresh)
-          by_last (inr last) =
-              let e : length (nth_run lists (get_or run y 0)) - 1 ≡ get_or at y 0 = omega (arith, last, lk) in
-              held few (get_or run y 0) x lr
-              ((found.runs (get_or run y 0) lr).ends x
-              (ap (λ (k : ℕ). follower faces (get_or (nth_run lists (get_or run y 0)) k 0)) e
-              ∙ (ap (follower faces) s ∙ follows))) fresh
-
-  pub after_fresh : length lists ≤ NONE → (x y : ℕ) → x < darts faces → follower faces x ≡ Some y
-      → get_or run x 0 ≡ NONE → get_or run y 0 ≡ NONE
-  after_fresh few x y l is fresh = elim (cases_eq (get_or run y 0) NONE) [
-    | inl e ↦ e
-    | inr ne ↦ absurd (by_place (get_or run y 0) (get_or at y 0) (found.there y (follower_low faces m x y l is) ne))
-  ]
+  pub after_fresh : (x y : ℕ) → x < darts faces → follower faces x ≡ Some y → get_or run x 0 ≡ NONE
+      → get_or run y 0 ≡ NONE
+  after_fresh x y l is fresh = fresh_where y ((follows m).low x y l is) by_place
     where
-      by_place : (r k : ℕ) → (r < length lists) × (k < length (nth_run lists r)) × (get_or (nth_run lists r) k 0 ≡ y)
-          → ⊥
-      by_place r zero (lr, lk, s) = held few r x lr ((found.runs r lr).begins x l (is ∙ ap Some (sym s))) fresh
-      by_place r (suc k) (lr, lk, s) =
-          let e : get_or (nth_run lists r) k 0 ≡ x = one_follower faces m (get_or (nth_run lists r) k 0) x y
-          ((found.runs r lr).low k (omega arith)) l ((found.runs r lr).straight k lk ∙ ap Some s) is in
-          none_told few r k lr (omega arith) (ap (λ (z : ℕ). get_or run z 0) e ∙ fresh)
+      by_place : (r k : ℕ) → r < length lists → k < length (nth_run lists r) → get_or (nth_run lists r) k 0 ≡ y → ⊥
+      by_place r zero lr lk s = held r x lr ((found.runs r lr).begins x l (is ∙ ap Some (sym s))) fresh
+      by_place r (suc k) lr lk s = held r x lr (
+        k,
+        omega arith,
+        (follows m).once _ x y
+            ((found.runs r lr).low k (omega arith)) l ((found.runs r lr).straight k lk ∙ ap Some s) is,
+      ) fresh
 
 -- One run more is found.
-module _ (faces : Faces) (m : IsManifold faces) (d first : ℕ) (line : Line) (run_old run at_old at len : List ℕ)
-    (closed : List Bool) (so : AreRunsSoFar faces d run_old at_old len closed) (low : d < darts faces)
-    (small : darts faces < NONE)
-    (fresh : get_or run_old d 0 ≡ NONE) (back : IsBack faces d first) (on : IsLine faces first (length so.lists) line
-    run_old run at_old at) (run_long : length run ≡ length run_old) (at_long : length at ≡ length at_old) where
+module _ {faces : Faces} (m : IsManifold faces) {d first : ℕ} {line : Line} {run_old run at_old at len : List ℕ}
+    {closed : List Bool} (so : AreRunsSoFar faces d run_old at_old len closed) (low : d < darts faces)
+    (small : darts faces < NONE) (fresh : get_or run_old d 0 ≡ NONE) (back : IsBack faces d first)
+    (on : IsLine faces first (length so.lists) line run_old run at_old at) (run_long : length run ≡ length run_old)
+    (at_long : length at ≡ length at_old) where
+  abbrev onward : (k : ℕ) → ℕ
+  onward = walked (follower faces) first
+
+  abbrev new : List ℕ
+  new = walk_list onward on.last
+
   abbrev lists : List (List ℕ)
-  lists = so.lists ++ walk_list (walked (follower faces) first) on.last ∷ []
+  lists = so.lists ++ new ∷ []
 
   few : length so.lists ≤ NONE
-  few = omega (arith, so.few, low, small)
+  few = omega (arith, so.few)
 
-  long : length (so.lists ++ walk_list (walked (follower faces) first) on.last ∷ []) ≡ suc (length so.lists)
-  long = length-append so.lists (walk_list (walked (follower faces) first) on.last ∷ []) ∙ omega arith
+  long : length lists ≡ suc (length so.lists)
+  long = length-append so.lists (new ∷ []) ∙ omega arith
 
-  old_at : (r : ℕ) → r < length so.lists → nth_run (so.lists ++ walk_list (walked (follower faces) first) on.last ∷ [])
-      r ≡ nth_run so.lists r
-  old_at r l = get_or_append_left so.lists (walk_list (walked (follower faces) first) on.last ∷ []) [] r l
+  old_at : (r : ℕ) → r < length so.lists → nth_run lists r ≡ nth_run so.lists r
+  old_at r l = get_or_append_left so.lists (new ∷ []) [] r l
 
-  new_at : nth_run (so.lists ++ walk_list (walked (follower faces) first) on.last ∷ []) (length so.lists)
-      ≡ walk_list (walked (follower faces) first) on.last
+  new_at : nth_run lists (length so.lists) ≡ new
   new_at = let e : length so.lists + 0 ≡ length so.lists = omega arith in
-      ap (nth_run (so.lists ++ walk_list (walked (follower faces) first) on.last ∷ [])) (sym e)
-      ∙ get_or-append-add so.lists (walk_list (walked (follower faces) first) on.last ∷ []) 0 []
+      ap (nth_run lists) (sym e) ∙ get_or-append-add so.lists (new ∷ []) 0 []
 
   -- What holds of each run found before and of the new one holds of each.
   each_more : (P : ℕ → List ℕ → Type 0) → ((r : ℕ) → r < length so.lists → P r (nth_run so.lists r))
-      → P (length so.lists) (walk_list (walked (follower faces) first) on.last)
-      → (r : ℕ) → r < length (so.lists ++ walk_list (walked (follower faces) first) on.last ∷ [])
-      → P r (nth_run (so.lists ++ walk_list (walked (follower faces) first) on.last ∷ []) r)
-  each_more P old new r l = elim (cases_eq r (length so.lists)) [
-    | inl e ↦ subst (λ (x : ℕ). P x (nth_run (so.lists ++ walk_list (walked (follower faces) first) on.last ∷ []) x))
-        (sym e) (subst (P (length so.lists)) (sym new_at) new)
-    | inr ne ↦ let h : r < length so.lists = omega (arith, l, long) in subst (P r) (sym (old_at r h)) (old r h)
+      → P (length so.lists) new → (r : ℕ) → r < length lists → P r (nth_run lists r)
+  each_more P each last r l = elim (cases_eq r (length so.lists)) [
+    | inl e ↦ rw (e, new_at) last
+    | inr ne ↦ let h : r < length so.lists = omega (arith, long) in rw (old_at r h) (each r h)
   ]
 
   -- No dart of the new run had a number.
   behind_fresh : (k : ℕ) → k ≤ back.steps → get_or run_old (walked (leader faces) d k) 0 ≡ NONE
   behind_fresh zero l = fresh
-  behind_fresh (suc k) l = before_fresh faces m d run_old at_old so.lists so.found few (walked (leader faces) d k)
-      (walked (leader faces) d (suc k))
-      (behind_low faces m d first (length so.lists) line run_old run at_old at low back on k (omega arith))
+  behind_fresh (suc k) l = before_fresh m so.found few _ _ (behind_low m low back on k (omega arith))
       (back.goes k (omega arith)) (behind_fresh k (omega arith))
 
-  first_fresh : get_or run_old first 0 ≡ NONE
-  first_fresh = by_stop back.stops
-    where
-      by_stop : ((leader faces first ≡ None) × (first ≡ walked (leader faces) d back.steps))
-          ⊎ ((first ≡ d) × (leader faces (walked (leader faces) d back.steps) ≡ Some d)) → get_or run_old first 0 ≡ NONE
-      by_stop (inl e) = ap (λ (x : ℕ). get_or run_old x 0) e.1 ∙ behind_fresh back.steps (omega arith)
-      by_stop (inr e) = ap (λ (x : ℕ). get_or run_old x 0) e.0 ∙ fresh
-
-  ahead_fresh : (k : ℕ) → k ≤ on.last → get_or run_old (walked (follower faces) first k) 0 ≡ NONE
-  ahead_fresh zero l = first_fresh
-  ahead_fresh (suc k) l = after_fresh faces m d run_old at_old so.lists so.found few (walked (follower faces) first k)
-      (walked (follower faces) first (suc k))
-      (ahead_low faces m d first (length so.lists) line run_old run at_old at low back on k (omega arith))
+  ahead_fresh : (k : ℕ) → k ≤ on.last → get_or run_old (onward k) 0 ≡ NONE
+  ahead_fresh zero l = elim back.stops [
+    | inl e ↦ rw e.1 (behind_fresh back.steps (omega arith))
+    | inr e ↦ rw e.0 fresh
+  ]
+  ahead_fresh (suc k) l = after_fresh m so.found few _ _ (ahead_low m low back on k (omega arith))
       (on.goes k (omega arith)) (ahead_fresh k (omega arith))
 
   -- So each of them is d or greater.
-  ahead_high : (k : ℕ) → k ≤ on.last → d ≤ walked (follower faces) first k
-  ahead_high k l = elim (cases_lt (walked (follower faces) first k) d)
-      [ inl below ↦ absurd (so.found.all (walked (follower faces) first k) below (ahead_fresh k l)) | inr high ↦ high ]
-
-  list_high : (k : ℕ) → k < length (walk_list (walked (follower faces) first) on.last)
-      → d ≤ get_or (walk_list (walked (follower faces) first) on.last) k 0
+  list_high : (k : ℕ) → k < length new → d ≤ get_or new k 0
   list_high k l =
-      let h : k < suc on.last = omega (arith, l, walk_long (walked (follower faces) first) on.last) in
-      omega (arith, walk_at (walked (follower faces) first) on.last k h, ahead_high k (omega (arith, h)))
+      let h : k < suc on.last = omega (arith, walk_long onward on.last) in
+      elim (cases_lt (onward k) d) [
+        | inl below ↦ absurd (so.found.all (onward k) below (ahead_fresh k (omega arith)))
+        | inr high ↦ omega (arith, walk_at onward on.last k h)
+      ]
 
   -- A dart that had a number keeps it.
   kept_at : (e : ℕ) → get_or run_old e 0 ≢ NONE → (get_or run e 0 ≡ get_or run_old e 0)
       × (get_or at e 0 ≡ get_or at_old e 0)
-  kept_at e old = on.told.kept e (λ k l s. old (ap (λ (x : ℕ). get_or run_old x 0) (sym s)
-      ∙ ahead_fresh k (omega (arith, l))))
+  kept_at e old = on.told.kept e (λ k l s. old (rw (← s) (ahead_fresh k (omega arith))))
 
   told_old : (r : ℕ) → r < length so.lists → (k : ℕ) → k < length (nth_run so.lists r)
       → (get_or run (get_or (nth_run so.lists r) k 0) 0 ≡ r) × (get_or at (get_or (nth_run so.lists r) k 0) 0 ≡ k)
   told_old r l k h =
-      let o : (get_or run_old (get_or (nth_run so.lists r) k 0) 0 ≡ r)
-      × (get_or at_old (get_or (nth_run so.lists r) k 0) 0 ≡ k) = so.found.told r k l h in
-      let n : (get_or run (get_or (nth_run so.lists r) k 0) 0 ≡ get_or run_old (get_or (nth_run so.lists r) k 0) 0)
-      × (get_or at (get_or (nth_run so.lists r) k 0) 0 ≡ get_or at_old (get_or (nth_run so.lists r) k 0) 0) =
-      kept_at (get_or (nth_run so.lists r) k 0) (λ e. absurd (omega (arith, l, e, o.0, few))) in
+      let o = so.found.told r k l h in
+      let n = kept_at (get_or (nth_run so.lists r) k 0) (λ e. absurd (omega (arith, o.0, few))) in
       (n.0 ∙ o.0, n.1 ∙ o.1)
 
-  told_new : (k : ℕ) → k < length (walk_list (walked (follower faces) first) on.last)
-      → (get_or run (get_or (walk_list (walked (follower faces) first) on.last) k 0) 0 ≡ length so.lists)
-      × (get_or at (get_or (walk_list (walked (follower faces) first) on.last) k 0) 0 ≡ k)
+  told_new : (k : ℕ) → k < length new
+      → (get_or run (get_or new k 0) 0 ≡ length so.lists) × (get_or at (get_or new k 0) 0 ≡ k)
   told_new k l =
-      let h : k < suc on.last = omega (arith, l, walk_long (walked (follower faces) first) on.last) in
-      let t : (get_or run (walked (follower faces) first k) 0 ≡ length so.lists)
-      × (get_or at (walked (follower faces) first k) 0 ≡ k) = on.told.told k h in (
-        ap (λ (x : ℕ). get_or run x 0) (walk_at (walked (follower faces) first) on.last k h) ∙ t.0,
-        ap (λ (x : ℕ). get_or at x 0) (walk_at (walked (follower faces) first) on.last k h) ∙ t.1,
-      )
+      let h : k < suc on.last = omega (arith, walk_long onward on.last) in
+      rw (walk_at onward on.last k h) (on.told.told k h)
 
-  abbrev Stands : (e r k : ℕ) → Type 0
-  Stands e r k = (r < length (so.lists ++ walk_list (walked (follower faces) first) on.last ∷ []))
-      × (k < length (nth_run (so.lists ++ walk_list (walked (follower faces) first) on.last ∷ []) r))
-      × (get_or (nth_run (so.lists ++ walk_list (walked (follower faces) first) on.last ∷ []) r) k 0 ≡ e)
-
-  stands_old : (e r k : ℕ) → (r < length so.lists) × (k < length (nth_run so.lists r))
-      × (get_or (nth_run so.lists r) k 0 ≡ e) → Stands e r k
-  stands_old e r k (l, h, s) = (omega (arith, l, long), rw (old_at r l) h, rw (old_at r l) s)
-
-  stands_new : (e k : ℕ) → k < suc on.last → walked (follower faces) first k ≡ e → Stands e (length so.lists) k
-  stands_new e k l s = (
-    omega (arith, long),
-    rw new_at (omega (arith, l, walk_long (walked (follower faces) first) on.last)),
-    rw new_at (walk_at (walked (follower faces) first) on.last k l ∙ s),
-  )
-
-  there : (e : ℕ) → e < darts faces → get_or run e 0 ≢ NONE → Stands e (get_or run e 0) (get_or at e 0)
-  there e l ne = by_place (sent_or_not (walked (follower faces) first) e (suc on.last))
-    where
-      by_place : ((k : ℕ) × (k < suc on.last) × (walked (follower faces) first k ≡ e))
-          ⊎ ((k : ℕ) → k < suc on.last → walked (follower faces) first k ≡ e → ⊥)
-          → Stands e (get_or run e 0) (get_or at e 0)
-      by_place (inl (k, h, s)) =
-          let r : get_or run e 0 ≡ length so.lists = ap (λ (x : ℕ). get_or run x 0) (sym s) ∙ (on.told.told k h).0 in
-          let a : get_or at e 0 ≡ k = ap (λ (x : ℕ). get_or at x 0) (sym s) ∙ (on.told.told k h).1 in
-          subst (λ (x : ℕ). Stands e x (get_or at e 0)) (sym r) (subst (λ (x : ℕ). Stands e (length so.lists) x) (sym a)
-          (stands_new e k h s))
-      by_place (inr other) =
-          let o : (get_or run e 0 ≡ get_or run_old e 0) × (get_or at e 0 ≡ get_or at_old e 0) = on.told.kept e other in
-          subst (λ (x : ℕ). Stands e x (get_or at e 0)) (sym o.0) (subst (λ (x : ℕ). Stands e (get_or run_old e 0) x)
-          (sym o.1) (stands_old e (get_or run_old e 0) (get_or at_old e 0)
-          (so.found.there e l (λ s. ne (o.0 ∙ s)))))
+  there : (e : ℕ) → e < darts faces → get_or run e 0 ≢ NONE → (get_or run e 0 < length lists)
+      × (get_or at e 0 < length (nth_run lists (get_or run e 0)))
+      × (get_or (nth_run lists (get_or run e 0)) (get_or at e 0) 0 ≡ e)
+  there e l ne = elim (sent_or_not onward e (suc on.last)) [
+    | inl t ↦
+        let told = on.told.told t.0 t.1 in
+        let r : get_or run e 0 ≡ length so.lists = ap (λ (x : ℕ). get_or run x 0) (sym t.2) ∙ told.0 in
+        let a : get_or at e 0 ≡ t.0 = ap (λ (x : ℕ). get_or at x 0) (sym t.2) ∙ told.1 in
+        rw (r, a, new_at)
+        (omega (arith, long), omega (arith, t.1, walk_long onward on.last), walk_at onward on.last t.0 t.1 ∙ t.2)
+    | inr other ↦
+        let same = on.told.kept e other in
+        let old = so.found.there e l (λ s. ne (same.0 ∙ s)) in
+        rw (same.0, same.1, old_at (get_or run_old e 0) old.0) (omega (arith, old.0, long), old.1, old.2)
+  ]
 
   all : (e : ℕ) → e < d + 1 → get_or run e 0 ≢ NONE
-  all e l = elim (cases_eq e d) [
-    | inl s ↦ λ no_number. by_place s no_number (d_stands faces m d first (length so.lists) line run_old run at_old at
-        low back on)
-    | inr ne ↦ λ no_number. so.found.all e (omega arith) (sym (kept_at e (so.found.all e (omega arith))).0 ∙ no_number)
+  all e l none = elim (cases_eq e d) [
+    | inl s ↦ let (k, h, t) = d_stands m low back on in
+        absurd (omega (arith, ap (λ (x : ℕ). get_or run x 0) (t ∙ sym s), (on.told.told k h).0, so.few))
+    | inr ne ↦ let old = so.found.all e (omega arith) in old (sym (kept_at e old).0 ∙ none)
   ]
-    where
-      by_place : e ≡ d → get_or run e 0 ≡ NONE → (k : ℕ) × (k < suc on.last) × (walked (follower faces) first k ≡ d) → ⊥
-      by_place s none (k, h, t) =
-          absurd (omega (
-            arith,
-            ap (λ (x : ℕ). get_or run x 0) (t ∙ sym s),
-            (on.told.told k h).0,
-            none,
-            so.few,
-            low,
-            small,
-          ))
-
-  least_new : is_closed faces (walk_list (walked (follower faces) first) on.last) ≡ true → (k : ℕ)
-      → k < length (walk_list (walked (follower faces) first) on.last)
-      → first_dart (walk_list (walked (follower faces) first) on.last)
-      ≤ get_or (walk_list (walked (follower faces) first) on.last) k 0
-  least_new c k l = omega (
-    arith,
-    first_at faces m d first (length so.lists) line run_old run at_old at low back on,
-    closed_at faces m d first (length so.lists) line run_old run at_old at low back on
-        (sym (closed_is faces m d first (length so.lists) line run_old run at_old at low back on) ∙ c),
-    list_high k l,
-  )
-
-  increasing_old : (r : ℕ) → r < length so.lists → (q : ℕ) → q < r
-      → IsBefore (nth_run (so.lists ++ walk_list (walked (follower faces) first) on.last ∷ []) q) (nth_run so.lists r)
-  increasing_old r l q less = subst (λ (xs : List ℕ). IsBefore xs (nth_run so.lists r)) (sym (old_at q (omega arith)))
-      (so.found.increasing q r less l)
-
-  increasing_new : (q : ℕ) → q < length so.lists
-      → IsBefore (nth_run (so.lists ++ walk_list (walked (follower faces) first) on.last ∷ []) q)
-      (walk_list (walked (follower faces) first) on.last)
-  increasing_new q less = subst (λ (xs : List ℕ). IsBefore xs (walk_list (walked (follower faces) first) on.last))
-      (sym (old_at q less)) (by_dart (so.found.below q less))
-    where
-      by_dart : (k : ℕ) × (k < length (nth_run so.lists q)) × (get_or (nth_run so.lists q) k 0 < d)
-          → IsBefore (nth_run so.lists q) (walk_list (walked (follower faces) first) on.last)
-      by_dart (k, h, b) = (k, h, λ j l. omega (arith, b, list_high j l))
-
-  below_old : (r : ℕ) → r < length so.lists → (k : ℕ) × (k < length (nth_run so.lists r))
-      × (get_or (nth_run so.lists r) k 0 < d + 1)
-  below_old r l = by_dart (so.found.below r l)
-    where
-      by_dart : (k : ℕ) × (k < length (nth_run so.lists r)) × (get_or (nth_run so.lists r) k 0 < d)
-          → (k : ℕ) × (k < length (nth_run so.lists r)) × (get_or (nth_run so.lists r) k 0 < d + 1)
-      by_dart (k, h, b) = (k, h, omega (arith, b))
-
-  below_new : (k : ℕ) × (k < length (walk_list (walked (follower faces) first) on.last))
-      × (get_or (walk_list (walked (follower faces) first) on.last) k 0 < d + 1)
-  below_new = by_place (d_stands faces m d first (length so.lists) line run_old run at_old at low back on)
-    where
-      by_place : (k : ℕ) × (k < suc on.last) × (walked (follower faces) first k ≡ d)
-          → (k : ℕ) × (k < length (walk_list (walked (follower faces) first) on.last))
-          × (get_or (walk_list (walked (follower faces) first) on.last) k 0 < d + 1)
-      by_place (k, h, t) = (
-        k,
-        omega (arith, h, walk_long (walked (follower faces) first) on.last),
-        omega (arith, walk_at (walked (follower faces) first) on.last k h, t),
-      )
 
   pub one_more : AreRunsSoFar faces (d + 1) run at (len ++ line.len ∷ []) (closed ++ line.closed ∷ [])
   one_more = record {
-    lists = so.lists ++ walk_list (walked (follower faces) first) on.last ∷ [];
+    lists = lists;
     few = omega (arith, long, so.few);
     found = record {
-      runs = each_more (λ x xs. IsLongestRun faces xs) so.found.runs (longest faces m d first (length so.lists) line
-          run_old run at_old at low back on);
+      runs = each_more (λ x xs. IsLongestRun faces xs) so.found.runs (longest m low back on);
       least = λ r k l c h. each_more (λ x xs. is_closed faces xs ≡ true → (j : ℕ) → j < length xs
-          → first_dart xs ≤ get_or xs j 0) (λ x b e j t. so.found.least x j b e t) least_new r l c k h;
-      increasing = λ q r less l. each_more (λ x xs. (p : ℕ) → p < x
-          → IsBefore (nth_run (so.lists ++ walk_list (walked (follower faces) first) on.last ∷ []) p) xs)
-          increasing_old increasing_new r l q less;
-      below = each_more (λ x xs. (k : ℕ) × (k < length xs) × (get_or xs k 0 < d + 1)) below_old below_new;
+          → first_dart xs ≤ get_or xs j 0) (λ x b e j t. so.found.least x j b e t)
+          (λ shut j t. omega (
+            arith,
+            first_at m low back on,
+            closed_at m low back on (sym (closed_is m low back on) ∙ shut),
+            list_high j t,
+          )) r l c k h;
+      increasing = λ q r less l. each_more (λ x xs. (p : ℕ) → p < x → IsBefore (nth_run lists p) xs)
+          (λ x b p t. rw (old_at p (omega arith)) (so.found.increasing p x t b))
+          (λ p t. let (k, h, b) = so.found.below p t in
+          rw (old_at p t) (k, h, λ j s. omega (arith, b, list_high j s))) r l q less;
+      below = each_more (λ x xs. (k : ℕ) × (k < length xs) × (get_or xs k 0 < d + 1))
+          (λ x b. let (k, h, t) = so.found.below x b in (k, h, omega arith))
+          (let (k, h, t) = d_stands m low back on in
+          (k, omega (arith, walk_long onward on.last), omega (arith, walk_at onward on.last k h)));
       told = λ r k l h. each_more (λ x xs. (j : ℕ) → j < length xs → (get_or run (get_or xs j 0) 0 ≡ x)
           × (get_or at (get_or xs j 0) 0 ≡ j)) told_old told_new r l k h;
       there = there;
@@ -455,42 +304,30 @@ module _ (faces : Faces) (m : IsManifold faces) (d first : ℕ) (line : Line) (r
     };
     run_long = run_long ∙ so.run_long;
     at_long = at_long ∙ so.at_long;
-    lengths = ap (λ xs. xs ++ line.len ∷ []) so.lengths
-        ∙ sym (map-append length so.lists (walk_list (walked (follower faces) first) on.last ∷ [])
-        ∙ ap (λ n. map length so.lists ++ n ∷ []) (walk_long (walked (follower faces) first) on.last ∙ sym on.long));
-    closes = ap (λ xs. xs ++ line.closed ∷ []) so.closes
-        ∙ sym (map-append (is_closed faces) so.lists (walk_list (walked (follower faces) first) on.last ∷ [])
-        ∙ ap (λ b. map (is_closed faces) so.lists ++ b ∷ []) (closed_is faces m d first (length so.lists) line run_old
-        run at_old at low back on));
+    lengths = rw (so.lengths, map-append length so.lists (new ∷ []), walk_long onward on.last, on.long) refl;
+    closes = rw (so.closes, map-append (is_closed faces) so.lists (new ∷ []), closed_is m low back on) refl;
   }
 
 -- Where d has its number, its run is found already.
-pub passed_by : (faces : Faces) (d : ℕ) (run at len : List ℕ) (closed : List Bool) → get_or run d 0 ≢ NONE
+pub passed_by : {faces : Faces} {d : ℕ} {run at len : List ℕ} {closed : List Bool} → get_or run d 0 ≢ NONE
     → AreRunsSoFar faces d run at len closed → AreRunsSoFar faces (d + 1) run at len closed
-passed_by faces d run at len closed old so = record {
+passed_by {d} {run} old so = record {
   lists = so.lists;
   few = omega (arith, so.few);
   found = record {
     runs = so.found.runs;
     least = so.found.least;
     increasing = so.found.increasing;
-    below = λ r l. by_dart r (so.found.below r l);
+    below = λ r l. let (k, h, b) = so.found.below r l in (k, h, omega arith);
     told = so.found.told;
     there = so.found.there;
-    all = λ e l. elim (cases_eq e d) [
-      | inl s ↦ subst (λ (x : ℕ). get_or run x 0 ≢ NONE) (sym s) old
-      | inr ne ↦ so.found.all e (omega arith)
-    ];
+    all = λ e l. elim (cases_eq e d) [ inl s ↦ rw s old | inr ne ↦ so.found.all e (omega arith) ];
   };
   run_long = so.run_long;
   at_long = so.at_long;
   lengths = so.lengths;
   closes = so.closes;
 }
-  where
-    by_dart : (r : ℕ) → (k : ℕ) × (k < length (nth_run so.lists r)) × (get_or (nth_run so.lists r) k 0 < d)
-        → (k : ℕ) × (k < length (nth_run so.lists r)) × (get_or (nth_run so.lists r) k 0 < d + 1)
-    by_dart r (k, h, b) = (k, h, omega (arith, b))
 
 -- No run is found at first.
 pub none_found : (faces : Faces) (run at : List ℕ) → run ≡ replicate (darts faces) NONE → at ≡ replicate (darts faces) 0
@@ -504,16 +341,11 @@ none_found faces run at is_run is_at = record {
     increasing = λ q r less l. absurd (omega arith);
     below = λ r l. absurd (omega arith);
     told = λ r k l h. absurd (omega arith);
-    there = λ e l ne. absurd (ne (ap (λ (xs : List ℕ). get_or xs e 0) is_run ∙ get_or_replicate_at (darts faces) e l));
+    there = λ e l ne. absurd (ne (rw is_run (get_or-replicate (darts faces) e NONE 0 l)));
     all = λ e l. absurd (omega arith);
   };
-  run_long = ap length is_run ∙ length-replicate (darts faces) NONE;
-  at_long = ap length is_at ∙ length-replicate (darts faces) 0;
+  run_long = rw is_run (length-replicate (darts faces) NONE);
+  at_long = rw is_at (length-replicate (darts faces) 0);
   lengths = refl;
   closes = refl;
 }
-  where
-    get_or_replicate_at : (n e : ℕ) → e < n → get_or (replicate n NONE) e 0 ≡ NONE
-    get_or_replicate_at zero e l = absurd (omega arith)
-    get_or_replicate_at (suc n) zero l = refl
-    get_or_replicate_at (suc n) (suc e) l = get_or_replicate_at n e (omega arith)

@@ -28,4 +28,4 @@ module _ (faces : Faces) where
   pub number_there : IsManifold faces → {numbers : List ℕ} → numbers ≡ component_numbers faces → {d : ℕ}
       → d < darts faces → get_or numbers (d / 4) 0 < length (least_faces faces)
   number_there manifold {numbers} are {d} low =
-      omega (arith, number_read faces numbers d are, number_low faces manifold d low)
+      omega (arith, number_read faces numbers d are, number_low manifold d low)

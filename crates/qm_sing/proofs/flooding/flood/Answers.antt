@@ -3,27 +3,20 @@ use Rattle.qm_sing.proofs.Floods.{flood_none, flood_more, flood_over, taken_low}
 use Rattle.qm_sing.proofs.flooding.flood.Goals as goal
 
 pub loop-f-init : goal.loop-f-init
-loop-f-init c = flood_none c.args.mesh.now c.args.first c.args.component c.args.numbers.now c.args.waiting.now.items
-    c.push.new.self.items c.requires.face.0 c.requires.face.1 c.requires.long
+loop-f-init c = flood_none c.args.waiting.now.items c.requires.face.0 c.requires.face.1 c.requires.long
     (λ e. absurd (omega (arith, e, c.requires.number))) c.requires.empty c.in_ok-push.ensures.items
 
 pub spread-requires-clause-face : goal.spread-requires-clause-face
-spread-requires-clause-face c =
-    (taken_low c.args.mesh.now c.args.first c.args.component c.in-Some.f c.args.numbers.now c.loop-f.numbers
-    c.loop-f.waiting.items c.pop.new.self.items c.in-Some.ensures.items c.loop-f.invariant).0
+spread-requires-clause-face c = (taken_low _ _ c.in-Some.ensures.items c.loop-f.invariant).0
 
 pub spread-requires-clause-low : goal.spread-requires-clause-low
-spread-requires-clause-low c =
-    (taken_low c.args.mesh.now c.args.first c.args.component c.in-Some.f c.args.numbers.now c.loop-f.numbers
-    c.loop-f.waiting.items c.pop.new.self.items c.in-Some.ensures.items c.loop-f.invariant).1
+spread-requires-clause-low c = (taken_low _ _ c.in-Some.ensures.items c.loop-f.invariant).1
 
 pub loop-f-preserved : goal.loop-f-preserved
-loop-f-preserved c = flood_more c.args.mesh.now c.faces-known.ensures.mesh.manifold c.args.first c.args.component
-    c.in-Some.f c.args.numbers.now c.loop-f.numbers c.spread.new.numbers c.loop-f.waiting.items c.pop.new.self.items
-    c.spread.new.waiting.items c.requires.face.0 (λ e. absurd (omega (arith, e, c.requires.number)))
-    c.in-Some.ensures.items c.loop-f.invariant c.in_ok-spread.ensures
+loop-f-preserved c = flood_more _ _ c.in-Some.ensures.items c.loop-f.invariant c.faces-known.ensures.mesh.manifold
+    c.requires.face.0 (λ e. absurd (omega (arith, e, c.requires.number))) c.in_ok-spread.ensures
 
 pub returns-clause-flooded : goal.returns-clause-flooded
-returns-clause-flooded c = flood_over c.args.mesh.now c.args.first c.args.component c.args.numbers.now c.loop-f.numbers
-    c.loop-f.waiting.items c.requires.face.0 c.requires.face.1 (λ e. absurd (omega (arith, e, c.requires.number)))
-    c.requires.closed (omega (arith, c.in_default.ensures.cases.0, c.loop-f.waiting.ok.0)) c.loop-f.invariant
+returns-clause-flooded c = flood_over c.requires.face.0 c.requires.face.1
+    (λ e. absurd (omega (arith, e, c.requires.number))) c.requires.closed
+    (omega (arith, c.in_default.ensures.cases.0, c.loop-f.waiting.ok.0)) c.loop-f.invariant

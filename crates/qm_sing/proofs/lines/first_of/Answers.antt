@@ -1,32 +1,28 @@
 use Rattle.std.proofs.Common.{◌≡◌, ◌+◌, Some, suc, length, sym, subst, ap, ◌∙◌, arith}
 use Rattle.def_mesh.specs.Darts.{darts}
 use Rattle.qm_sing.specs.Walks.{Goes, StaysAway, leader, walked}
-use Rattle.qm_sing.proofs.Walking.{away_more, goes_more, leader_low, not_endless, one_leader, walked_on}
+use Rattle.qm_sing.proofs.Walking.{away_more, goes_more, leads, not_endless, walked_on}
 use Rattle.qm_sing.proofs.lines.first_of.Goals as goal
 
 pub back-preserved : goal.back-preserved
 back-preserved c =
-    let m = c.faces.ensures.mesh.manifold in
+    let m = leads c.faces.ensures.mesh.manifold in
     let i = c.back.invariant in
     let step = leader c.args.mesh.now in
-    let low = leader_low c.args.mesh.now m in
-    let once = one_leader c.args.mesh.now m in
     let plus : suc c.back.counter ≡ c.back.counter + 1 = omega arith in
     let on = sym c.leader.ensures.value ∙ c.in-Some.is in
     let is : step (walked step c.args.d c.back.counter) ≡ Some c.in-Some.before = ap step (sym i.at) ∙ on in
     record {
-      at = sym (walked_on step _ low once _ c.requires _ _ is) ∙ ap (walked step c.args.d) plus;
-      low = low _ _ i.low on;
-      goes = subst (Goes step c.args.d) plus (goes_more step _ low once _ c.requires _ _ i.goes is);
-      away = subst (StaysAway step c.args.d) plus
-          (away_more step _ low once _ c.requires _ _ i.away is c.if-before-d.false);
+      at = sym (walked_on m _ c.requires _ _ is) ∙ ap (walked step c.args.d) plus;
+      low = m.low _ _ i.low on;
+      goes = subst (Goes step c.args.d) plus (goes_more m _ c.requires _ _ i.goes is);
+      away = subst (StaysAway step c.args.d) plus (away_more m _ c.requires _ _ i.away is c.if-before-d.false);
     }
 
 pub unreachable-requires : goal.unreachable-requires
 unreachable-requires c =
-    let m = c.faces.ensures.mesh.manifold in
     let step = leader c.args.mesh.now in
     let all : c.back.counter ≡ darts c.args.mesh.now =
     omega (arith, c.back-test.false, c.back.auto.counter-end, ap length c.faces.ensures.value) in
-    not_endless step _ (leader_low c.args.mesh.now m) (one_leader c.args.mesh.now m) _ c.requires
+    not_endless (leads c.faces.ensures.mesh.manifold) _ c.requires
     (subst (Goes step c.args.d) all c.back.invariant.goes) (subst (StaysAway step c.args.d) all c.back.invariant.away)

@@ -7,7 +7,7 @@ use Rattle.qm_sing.proofs.origins.seeds.Goals as goal
 pub loop-v-preserved : goal.loop-v-preserved
 loop-v-preserved c =
     let t : get_or c.args.marks.now c.loop-v.v false ≡ is_seed c.args.mesh.now c.loop-v.v =
-    mark_test c.args.mesh.now c.vertices-v-end.ensures.mesh.manifold c.args.marks.now c.loop-v.v c.requires in
+    mark_test c.vertices-v-end.ensures.mesh.manifold c.args.marks.now c.loop-v.v c.requires in
     elim c.if-marks-v.branch [
       | then-marks-v+in_ok-push w ↦ rw (w.seeds-is, w.in_ok-push.ensures.items)
           (ap (λ xs. xs ++ c.loop-v.v ∷ []) c.loop-v.invariant

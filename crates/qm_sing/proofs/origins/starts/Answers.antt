@@ -14,10 +14,10 @@ pub loop-d-preserved : goal.loop-d-preserved
 loop-d-preserved c = let s = c.args.classed.now in
     let ld : c.loop-d.d < darts s.mesh.now = omega (arith, c.loop-d-test.true, ap length c.faces.ensures.value) in
     let t : c.may_start.result ≡ is_start s.mesh.now (seeds s.mesh.now) c.loop-d.d =
-    start_told _ _ _ _ _ _ _ c.from-v.ensures.value
+    start_told _ c.from-v.ensures.value
     (kind_read _ _ c.from-v.result Regular c.from-v.ensures.vertex s.classes)
     (c.is_some.ensures ∙ ap is_some c.twin.ensures.value)
-    (mark_test _ c.faces.ensures.mesh.manifold c.args.marks.now c.from-v.result c.requires)
+    (mark_test c.faces.ensures.mesh.manifold c.args.marks.now c.from-v.result c.requires)
     c.from-v.ensures.vertex ld c.may_start.ensures in
     elim c.if-may_start.branch [
       | then-may_start+in_ok-push w ↦ rw (w.starts-is, w.in_ok-push.ensures.items)

@@ -24,7 +24,7 @@ take_corner-requires-clause-least c = let s = c.args.classed.now in
 pub loop-d-preserved : goal.loop-d-preserved
 loop-d-preserved c = let s = c.args.classed.now in
     let ld : c.loop-d.d < darts s.mesh.now = omega (arith, c.loop-d-test.true, ap length c.faces.ensures.value) in
-    gathered _ c.faces.ensures.mesh.manifold _ _ _ _ _ _ _ _ ld (number_read _ _ c.loop-d.d s.numbers)
+    gathered c.faces.ensures.mesh.manifold ld (number_read _ _ c.loop-d.d s.numbers)
     c.from-v.ensures.value (kind_read _ _ c.from-v.result Regular c.from-v.ensures.vertex s.classes)
     c.take_corner.ensures.regular c.take_corner.ensures.least c.loop-d.invariant
 
