@@ -1,35 +1,30 @@
 -- What is read of the arcs in a slice.
-use Rattle.std.proofs.Common.{◌≡◌, ℕ, ◌<◌, Bool, List, [], map, length, get_or, sym, ◌∙◌, ap, subst, arith}
+use Rattle.std.proofs.Common.{◌≡◌, ℕ, ◌<◌, Bool, List, [], map, length, get_or, sym, ◌∙◌, ap, arith}
 use Rattle.std.proofs.lemmas.Grind.{get_or_default_zero}
 use Rattle.std.proofs.lemmas.List.{get_or-map, length-map}
 use Rattle.def_mesh.specs.{Faces.Faces, Darts.darts, HalfEdges.half_edges}
 use Rattle.def_cut.specs.{FullCut.is_on, Grids.rectangle, Grids.patch_at, declared.patch.Patch.Patch}
 use Rattle.def_layout.specs.Arcs.{Path}
 use Rattle.def_layout.specs.{Arcs.path, Arcs.path_at, Arcs.long_at, Nodes.is_node, declared.tmesh.TArc.TArc}
-use Rattle.layout_laws.specs.Named.{run_list}
 use Rattle.layout_laws.proofs.{Runs.run_low, Uses.run_entry}
-use Rattle.qm_tmesh.specs.{Tables.IsMarked, Tables.IsNamedRun, Uses.AreNamed}
+use Rattle.qm_tmesh.specs.{Tables.IsMarked, Uses.AreNamed}
 
 -- The arc that was read.
 pub read_arc : (arcs : List TArc) (a : ℕ) (x : TArc) → a < length arcs → x ≡ get_or arcs a x → path_at (map path arcs) a
     ≡ path x
 read_arc arcs a x l is = get_or-map path arcs a x (record { first = 0; last = 0; darts = [] }) l ∙ ap path (sym is)
 
-module _ (faces : Faces) (cut marks : List Bool) (marked : IsMarked faces cut marks) (arcs : List Path)
+module _ {faces : Faces} {cut marks : List Bool} (marked : IsMarked faces cut marks) {arcs : List Path}
     (named : AreNamed faces cut arcs) where
   pub named_some : (a : ℕ) → a < length arcs → 0 < long_at arcs a
   named_some a l = (named.each a l).1.run.some
 
   pub named_low : (a k : ℕ) → a < length arcs → k < long_at arcs a → get_or (path_at arcs a).darts k 0 < darts faces
-  named_low a k l lk = by_run (named.each a l)
-    where
-      by_run : (s : ℕ) × IsNamedRun faces cut s (long_at arcs a)
-          × ((path_at arcs a).darts ≡ run_list (half_edges faces) s (long_at arcs a))
-          → get_or (path_at arcs a).darts k 0 < darts faces
-      by_run p = subst (λ (x : ℕ). x < darts faces)
-          (sym (ap (λ (xs : List ℕ). get_or xs k 0) p.2 ∙ run_entry (half_edges faces) p.0 (long_at arcs a) k lk))
-          (run_low (half_edges faces) marked.laws (is_on cut) marked.full (is_node faces cut) marked.stand p.0
-          (long_at arcs a) p.1.run k lk)
+  named_low a k l lk =
+      let (s, run, is) = named.each a l in
+      rw (ap (λ (xs : List ℕ). get_or xs k 0) is ∙ run_entry (half_edges faces) s (long_at arcs a) k lk)
+      (run_low (half_edges faces) marked.laws (is_on cut) marked.full (is_node faces cut) marked.stand s
+      (long_at arcs a) run.run k lk)
 
 -- A named arc that was read has darts, which are darts of the mesh.
 pub record IsArcRead (faces : Faces) (arcs : List TArc) (a : ℕ) (arc : TArc) : Type 0 where
@@ -41,30 +36,15 @@ pub record IsArcRead (faces : Faces) (arcs : List TArc) (a : ℕ) (arc : TArc) :
 pub arc_read : {faces : Faces} {cut marks : List Bool} → IsMarked faces cut marks → (arcs : List TArc)
     → AreNamed faces cut (map path arcs) → {a : ℕ} {arc : TArc} → a < length arcs → arc ≡ get_or arcs a arc
     → IsArcRead faces arcs a arc
-arc_read {faces} {cut} marked arcs named {a} {arc} l is = record {
-  same = same;
-  low = low;
-  some = rw same at run.1.run.some;
-  below = rw same at below;
-}
-  where
-    same : path_at (map path arcs) a ≡ path arc
-    same = read_arc arcs a arc l is
-
-    low : a < length (map path arcs)
-    low = omega (arith, l, length-map arcs path)
-
-    long : ℕ
-    long = long_at (map path arcs) a
-
-    run : (s : ℕ) × IsNamedRun faces cut s (long_at (map path arcs) a)
-        × ((path_at (map path arcs) a).darts ≡ run_list (half_edges faces) s (long_at (map path arcs) a))
-    run = named.each a low
-
-    below : (k : ℕ) → k < long_at (map path arcs) a → get_or (path_at (map path arcs) a).darts k 0 < darts faces
-    below k less = rw (ap (λ (xs : List ℕ). get_or xs k 0) run.2 ∙ run_entry (half_edges faces) run.0 long k less)
-        (run_low (half_edges faces) marked.laws (is_on cut) marked.full (is_node faces cut) marked.stand run.0
-        long run.1.run k less)
+arc_read {faces} {cut} marked arcs named {a} {arc} l is =
+    let same = read_arc arcs a arc l is in
+    let low : a < length (map path arcs) = omega (arith, length-map arcs path) in
+    record {
+      same = same;
+      low = low;
+      some = rw same at (named_some marked named a low);
+      below = rw same at (λ (k : ℕ). named_low marked named a k low);
+    }
 
 -- A number at place k of a list, where it was read at an equal place.
 pub read_at : (items : List ℕ) (k : ℕ) {place d : ℕ} → d ≡ get_or items place d → place ≡ k → k < length items

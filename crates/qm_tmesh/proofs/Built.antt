@@ -6,24 +6,25 @@ use Rattle.std.proofs.lemmas.List.FromFn.{get_or-map-range_with_len, length-map-
 use Rattle.std.specs.List.{filter, range_with_len}
 use Rattle.list_laws.proofs.Filters.{filter_range_more}
 use Rattle.def_mesh.specs.{Faces.Faces, Meshes.IsMesh, Darts.darts, Darts.from_of, Darts.to_of, Darts.twin_of}
-use Rattle.def_mesh.specs.{Vertices.vertex_count, HalfEdges.half_edges}
+use Rattle.def_mesh.specs.{Vertices.vertex_count, HalfEdges.HalfEdges, HalfEdges.half_edges}
 use Rattle.def_cut.specs.{FullCut.is_on, FullCut.IsFullCut, Grids.Rectangle, Grids.patch_at, Grids.IsPartition}
 use Rattle.def_cut.specs.Steps.{easts}
-use Rattle.def_layout.specs.Arcs.{IsRun, Path, path, path_at, dart_at, long_at, IsArc}
+use Rattle.def_layout.specs.Arcs.{Path, path, path_at, dart_at, long_at, IsArc}
 use Rattle.def_layout.specs.{Arcs.LiesAt, Borders.side_size, Borders.border_dart, Gluings.Way, Nodes.is_node}
 use Rattle.def_layout.specs.{Layouts.way_number, Layouts.IsDartLayout, declared.tmesh.SideArc.SideArc}
 use Rattle.def_layout.specs.declared.tmesh.TArc.{TArc}
 use Rattle.mesh_laws.proofs.HalfEdges.{manifold_law}
 use Rattle.face_laws.proofs.FullCuts.{full_cut_law}
 use Rattle.layout_laws.specs.Named.{run_list}
-use Rattle.layout_laws.proofs.Borders.{IsLine, line, line_easts, each_in_run}
-use Rattle.layout_laws.proofs.{FaceNodes.are_nodes, Runs.IsBack, Runs.run_low, Uses.run_long, Uses.run_entry}
+use Rattle.layout_laws.proofs.Borders.{IsLine, line_easts, each_in_run}
+use Rattle.layout_laws.proofs.{FaceNodes.are_nodes, Runs.run_low, Uses.run_long, Uses.run_entry}
 use Rattle.layout_laws.proofs.Uses.{named_arc, named_or_back}
 use Rattle.qm_tmesh.specs.{Arcs.IsArcFrom, Arcs.AreArcsBelow, Four.AreRuns, Four.IsPatchOf, Four.HavePatches}
-use Rattle.qm_tmesh.specs.{Four.AreAllFour, Sides.reach_in, Sides.HasUseAt, Sides.IsSplit, Sides.IsSideOf}
-use Rattle.qm_tmesh.specs.{Tables.IsMarked, Tables.IsNamedRun, Uses.use_in, Uses.HasUsesBelow}
-use Rattle.qm_tmesh.proofs.{Splits.arc_use, Splits.begins, Splits.side_split, Splits.entry, UseTables.to_named}
-use Rattle.qm_tmesh.proofs.{UseTables.uses_done, Walks.name_low}
+use Rattle.qm_tmesh.specs.{Four.AreAllFour, Sides.reach_in, Sides.IsSplit, Sides.IsSideOf}
+use Rattle.qm_tmesh.specs.{Tables.IsMarked, Uses.use_in, Uses.HasUsesBelow}
+use Rattle.qm_tmesh.proofs.{Splits.arc_use, Splits.begins, Splits.side_split, Splits.entry, Splits.is_line}
+use Rattle.qm_tmesh.proofs.UseTables.{to_named}
+use Rattle.qm_tmesh.proofs.{UseTables.uses_done, UseTables.arc_of}
 
 -- Tests that agree below n filter the numbers below n alike.
 filter_same : (p q : ℕ → Bool) (n : ℕ) → ((v : ℕ) → v < n → p v ≡ q v) → filter p (range_with_len 0 n)
@@ -38,65 +39,61 @@ filter_same p q (suc n) same =
     ∙ (sym (filter_range_more q n) ∙ ap (λ k. filter q (range_with_len 0 k)) e))))
 
 -- A mesh, a full cut and the marks of its nodes.
-pub to_marked : (faces : Faces) (cut marks : List Bool) → IsMesh faces → IsFullCut faces cut
+pub to_marked : {faces : Faces} {cut marks : List Bool} → IsMesh faces → IsFullCut faces cut
     → marks ≡ map (is_node faces cut) (range_with_len 0 (vertex_count faces)) → IsMarked faces cut marks
-to_marked faces cut marks mesh full e = record {
-  few = mesh.few;
-  long = full.long;
-  laws = manifold_law faces mesh.manifold;
-  full = ((full_cut_law faces cut mesh.manifold).0 full).1;
-  stand = are_nodes faces (manifold_law faces mesh.manifold) cut ((full_cut_law faces cut mesh.manifold).0 full).1;
-  many = ap length e ∙ length-map-range_with_len (is_node faces cut) 0 (vertex_count faces);
-  told = λ v l. ap (λ (xs : List Bool). get_or xs v false) e ∙ get_or-map-range_with_len (is_node faces cut) 0
-      (vertex_count faces) v v false l (omega arith);
-}
+to_marked {faces} {cut} mesh full e =
+    let laws = manifold_law faces mesh.manifold in
+    let is_cut = ((full_cut_law faces cut mesh.manifold).0 full).1 in
+    record {
+      few = mesh.few;
+      long = full.long;
+      laws = laws;
+      full = is_cut;
+      stand = are_nodes faces laws cut is_cut;
+      many = rw e (length-map-range_with_len (is_node faces cut) 0 (vertex_count faces));
+      told = λ v l. rw e (get_or-map-range_with_len (is_node faces cut) 0 (vertex_count faces) v v false l
+          (omega arith));
+    }
 
 -- The same where the cut is borrowed.
-pub marked_of : (faces : Faces) (cut now marks : List Bool) → IsMesh faces → IsFullCut faces cut → now ≡ cut
+pub marked_of : {faces : Faces} {cut now marks : List Bool} → IsMesh faces → IsFullCut faces cut → now ≡ cut
     → marks ≡ map (is_node faces now) (range_with_len 0 (vertex_count faces)) → IsMarked faces now marks
-marked_of faces cut now marks mesh full e told =
-    to_marked faces now marks mesh (subst (λ (xs : List Bool). IsFullCut faces xs) (sym e) full) told
+marked_of {faces} mesh full e told = to_marked mesh (subst (λ (xs : List Bool). IsFullCut faces xs) (sym e) full) told
 
 -- The table of uses, where the arcs were borrowed.
-pub table_of : (faces : Faces) (items now : List TArc) (uses : List SideArc) → now ≡ items
+pub table_of : {faces : Faces} {items now : List TArc} {uses : List SideArc} → now ≡ items
     → HasUsesBelow faces (map path now) (length now) uses
     → HasUsesBelow faces (map path items) (length (map path items)) uses
-table_of faces items now uses e table =
-    subst (λ (xs : List TArc). HasUsesBelow faces (map path xs) (length (map path xs)) uses) e
-    (subst (λ (b : ℕ). HasUsesBelow faces (map path now) b uses) (sym (length-map now path)) table)
+table_of {faces} {items} {now} {uses} e table = rw (← e) (subst (λ (b : ℕ). HasUsesBelow faces (map path now) b uses)
+    (sym (length-map now path)) table)
 
 -- The places at which the uses of a side begin.
-pub split_begins : (arcs : List Path) (uses : List SideArc) (line : List ℕ) (begins : ℕ → Bool) (used : List SideArc)
+pub split_begins : {arcs : List Path} {uses : List SideArc} {line : List ℕ} {begins : ℕ → Bool} {used : List SideArc}
     → IsSplit arcs uses line begins → IsSideOf arcs uses line used → (k : ℕ) → k < length used
     → begins (reach_in arcs used k) ≡ true
-split_begins arcs uses line begins used split side zero l = split.first (let h : reach_in arcs used 0 < length line =
-    (side.each 0 l).0 in omega arith)
-split_begins arcs uses line begins used split side (suc k) l = next (side.each k (omega arith)) (side.each (suc k) l).0
-    (split_begins arcs uses line begins used split side k (omega arith))
-  where
-    next : (reach_in arcs used k < length line) × (use_in used k ≡ use_in uses (get_or line (reach_in arcs used k) 0))
-        → reach_in arcs used (suc k) < length line → begins (reach_in arcs used k) ≡ true
-        → begins (reach_in arcs used (suc k)) ≡ true
-    next e low on =
-        let long : long_at arcs (use_in used k).arc
-        ≡ long_at arcs (use_in uses (get_or line (reach_in arcs used k) 0)).arc =
-        ap (λ (u : SideArc). long_at arcs u.arc) e.1 in
-        let at : HasUseAt arcs uses line begins (reach_in arcs used k) = split.step (reach_in arcs used k) e.0 on in
-        ap (λ x. begins (reach_in arcs used k + x)) long ∙ at.next (omega (arith, low, long))
+split_begins split side zero l = split.first (let low = (side.each 0 l).0 in omega arith)
+split_begins {arcs} {uses} {line} {begins} {used} split side (suc k) l =
+    let (low, is) = side.each k (omega arith) in
+    let long = ap (λ (u : SideArc). long_at arcs u.arc) is in
+    let at = split.step (reach_in arcs used k) low (split_begins split side k (omega arith)) in
+    ap (λ x. begins (reach_in arcs used k + x)) long ∙ at.next (omega (arith, (side.each (suc k) l).0, long))
 
-module _ (faces : Faces) (cut marks : List Bool) (marked : IsMarked faces cut marks) (m : ℕ) (far : darts faces ≤ m)
-    (list : List ℕ) (arcs : List Path) (uses : List SideArc) (ps : List Rectangle) (face : ℕ
-    → ℕ) (parts : IsPartition (half_edges faces) (is_on cut) face ps) (below : AreArcsBelow faces cut list m arcs)
+module _ {faces : Faces} {cut marks : List Bool} (marked : IsMarked faces cut marks) {m : ℕ} (far : darts faces ≤ m)
+    {list : List ℕ} {arcs : List Path} {uses : List SideArc} {ps : List Rectangle} {face : ℕ → ℕ}
+    (parts : IsPartition (half_edges faces) (is_on cut) face ps) (below : AreArcsBelow faces cut list m arcs)
     (table : HasUsesBelow faces arcs (length arcs) uses) where
+  abbrev mesh : HalfEdges
+  mesh = half_edges faces
+
   abbrev pub runs : AreRuns faces arcs uses
   runs = record {
     cut = cut;
     laws = marked.laws;
     full = marked.full;
     stand = marked.stand;
-    named = to_named faces cut marks marked list m arcs below;
+    named = to_named marked below;
     long = table.long;
-    begin = uses_done faces cut marks marked list m arcs uses ps face far below table parts;
+    begin = uses_done marked far below table parts;
   }
 
   pub placed : (p : ℕ) → p < length ps → IsPatchOf faces cut (patch_at ps p)
@@ -106,164 +103,98 @@ module _ (faces : Faces) (cut marks : List Bool) (marked : IsMarked faces cut ma
   have_patches = (runs, placed)
 
   dart_is : (a k s : ℕ) → IsArcFrom faces cut list s (path_at arcs a) → k < long_at arcs a
-      → dart_at arcs a k ≡ easts (half_edges faces) s k
-  dart_is a k s from l = ap (λ (xs : List ℕ). get_or xs k 0) from.darts
-      ∙ run_entry (half_edges faces) s (long_at arcs a) k l
+      → dart_at arcs a k ≡ easts mesh s k
+  dart_is a k s from l = ap (λ (xs : List ℕ). get_or xs k 0) from.darts ∙ run_entry mesh s (long_at arcs a) k l
 
-  each : (a : ℕ) → a < length arcs → IsArc (half_edges faces) (is_on cut) (is_node faces cut) (path_at arcs a).darts
-  each a l = at (below.each a l)
-    where
-      at : (s : ℕ) × IsNamedRun faces cut s (long_at arcs a) × IsArcFrom faces cut list s (path_at arcs a)
-          → IsArc (half_edges faces) (is_on cut) (is_node faces cut) (path_at arcs a).darts
-      at b = subst (λ (xs : List ℕ). IsArc (half_edges faces) (is_on cut) (is_node faces cut) xs) (sym b.2.darts)
-          (named_arc (half_edges faces) marked.laws (is_on cut) marked.full (is_node faces cut) marked.stand b.0
-          (long_at arcs a) b.1)
+  each : (a : ℕ) → a < length arcs → IsArc mesh (is_on cut) (is_node faces cut) (path_at arcs a).darts
+  each a l = let (s, named, from) = below.each a l in
+      subst (λ (xs : List ℕ). IsArc mesh (is_on cut) (is_node faces cut) xs) (sym from.darts)
+      (named_arc mesh marked.laws (is_on cut) marked.full (is_node faces cut) marked.stand s (long_at arcs a) named)
 
-  Covered : ℕ → Type 0
-  Covered d = (a : ℕ) × (place : ℕ) × (forward : Bool) × (a < length arcs) × (place < long_at arcs a)
-      × LiesAt (half_edges faces) (path_at arcs a).darts forward place d
+  covers : (d : ℕ) → d < darts faces → is_on cut d ≡ true → (a : ℕ) × (place : ℕ) × (forward : Bool)
+      × (a < length arcs) × (place < long_at arcs a) × LiesAt mesh (path_at arcs a).darts forward place d
+  covers d l on =
+      let (s, n, k, run, lk, e) = each_in_run mesh marked.laws (is_on cut) marked.full (is_node faces cut) marked.stand
+      face ps parts d l on in
+      elim (named_or_back mesh marked.laws (is_on cut) marked.full (is_node faces cut) marked.stand s n run) [
+        | inl named ↦ let (a, la, is) = arc_of marked far below s n named in (
+          a,
+          k,
+          true,
+          la,
+          omega (arith, lk, ap length is, run_long mesh s n),
+          sym (ap (λ (xs : List ℕ). get_or xs k 0) is ∙ (run_entry mesh s n k lk ∙ e)),
+        )
+        | inr (r, back, named) ↦
+            let (a, la, is) = arc_of marked far below r n named in
+            let long : long_at arcs a ≡ n = ap length is ∙ run_long mesh r n in
+            let place : long_at arcs a - 1 - k ≡ n - suc k = omega arith in
+            let there = ap (λ x. get_or (path_at arcs a).darts x 0) place
+            ∙ (ap (λ (xs : List ℕ). get_or xs (n - suc k) 0) is ∙ run_entry mesh r n (n - suc k) (omega arith)) in (
+              a,
+              k,
+              false,
+              la,
+              omega (arith, long, lk),
+              ap (twin_of faces) there ∙ (marked.laws.twin_twin (easts mesh s k) (easts mesh r (n - suc k))
+                  (run_low mesh marked.laws (is_on cut) marked.full (is_node faces cut) marked.stand s n run k lk)
+                  (back.twin k (n - suc k) (omega arith)) ∙ ap Some e),
+            )
+      ]
 
-  covers : (d : ℕ) → d < darts faces → is_on cut d ≡ true → Covered d
-  unfolding Covered
-  covers d l on = by_run (each_in_run (half_edges faces) marked.laws (is_on cut) marked.full (is_node faces cut)
-      marked.stand face ps parts d l on)
-    where
-      low : (s n : ℕ) → IsNamedRun faces cut s n → (a : ℕ) × (a < length arcs)
-          × ((path_at arcs a).darts ≡ run_list (half_edges faces) s n)
-      low s n named = let h : run_list (half_edges faces) s n ≡ run_list (half_edges faces) s n = refl in
-          below.all s n named (omega (arith, name_low marked s n named))
-
-      along : (s n k : ℕ) → k < n → easts (half_edges faces) s k ≡ d → (a : ℕ) × (a < length arcs)
-          × ((path_at arcs a).darts ≡ run_list (half_edges faces) s n) → Covered d
-      along s n k lk e a = (
-        a.0,
-        k,
-        true,
-        a.1,
-        omega (arith, ap length a.2, run_long (half_edges faces) s n),
-        sym (ap (λ (xs : List ℕ). get_or xs k 0) a.2 ∙ (run_entry (half_edges faces) s n k lk ∙ e)),
-      )
-
-      against : (s n k r : ℕ) → IsRun (half_edges faces) (is_on cut) (is_node faces cut) s n → k < n
-          → easts (half_edges faces) s k ≡ d → IsBack (half_edges faces) (is_on cut) (is_node faces cut) s n r
-          → (a : ℕ) × (a < length arcs) × ((path_at arcs a).darts ≡ run_list (half_edges faces) r n) → Covered d
-      against s n k r run lk e back a =
-          let long : long_at arcs a.0 ≡ n = ap length a.2 ∙ run_long (half_edges faces) r n in
-          let place : long_at arcs a.0 - 1 - k ≡ n - suc k = omega arith in
-          let there : get_or (path_at arcs a.0).darts (long_at arcs a.0 - 1 - k) 0
-          ≡ easts (half_edges faces) r (n - suc k) = ap (λ x. get_or (path_at arcs a.0).darts x 0) place
-          ∙ (ap (λ (xs : List ℕ). get_or xs (n - suc k) 0) a.2 ∙ run_entry (half_edges faces) r n (n - suc k)
-          (omega arith)) in (
-            a.0,
-            k,
-            false,
-            a.1,
-            omega (arith, long),
-            ap (twin_of faces) there
-                ∙ (marked.laws.twin_twin (easts (half_edges faces) s k) (easts (half_edges faces) r (n - suc k))
-                (run_low (half_edges faces) marked.laws (is_on cut) marked.full (is_node faces cut) marked.stand s n
-                run k lk) (back.twin k (n - suc k) (omega arith)) ∙ ap Some e),
-          )
-
-      by_run : (s : ℕ) × (n : ℕ) × (k : ℕ) × IsRun (half_edges faces) (is_on cut) (is_node faces cut) s n × (k < n)
-          × (easts (half_edges faces) s k ≡ d) → Covered d
-      by_run r = elim (named_or_back (half_edges faces) marked.laws (is_on cut) marked.full (is_node faces cut)
-          marked.stand r.0 r.1 r.3) [
-            | inl named ↦ along r.0 r.1 r.2 r.4 r.5 (low r.0 r.1 named)
-            | inr b ↦ against r.0 r.1 r.2 b.0 r.3 r.4 r.5 b.1 (low b.0 r.1 b.2)
-          ]
-
-  module _ (sides : List (List (List SideArc))) (all : AreAllFour faces arcs uses ps sides) (nodes : list
-      ≡ filter (is_on marks) (range_with_len 0 (length marks))) where
-    side : (p : ℕ) (way : Way) → p < length ps
-        → IsSideOf arcs uses (run_list (half_edges faces) (border_dart (half_edges faces) (patch_at ps p) way 0)
-        (side_size (patch_at ps p) way)) (get_or (get_or sides p []) (way_number way) [])
-    side p way l = (all.each p l).each way
-
+  module _ {sides : List (List (List SideArc))} (all : AreAllFour faces arcs uses ps sides)
+      (nodes : list ≡ filter (is_on marks) (range_with_len 0 (length marks))) where
     -- The use at a slot begins where the uses before it end, and lies along the border.
-    slot_use : (p : ℕ) (way : Way) (k : ℕ) → p < length ps → k < length (get_or (get_or sides p []) (way_number way) [])
-        → ((use_in (get_or (get_or sides p []) (way_number way) []) k).arc < length arcs)
-        × ((o : ℕ) → o < long_at arcs (use_in (get_or (get_or sides p []) (way_number way) []) k).arc
-        → LiesAt (half_edges faces)
-        (path_at arcs (use_in (get_or (get_or sides p []) (way_number way) []) k).arc).darts
-        (use_in (get_or (get_or sides p []) (way_number way) []) k).forward o
-        (border_dart (half_edges faces) (patch_at ps p) way
-        (reach_in arcs (get_or (get_or sides p []) (way_number way) []) k + o)))
-    slot_use p way k lp lk = by_place (reach_in arcs us k) refl ((side p way lp).each k lk)
-        (split_begins arcs uses list_here (begins faces arcs uses runs (patch_at ps p) (placed p lp) way) us split
-        (side p way lp) k lk)
-      where
-        us : List SideArc
-        us = get_or (get_or sides p []) (way_number way) []
+    module _ (p : ℕ) (way : Way) (k : ℕ) (lp : p < length ps)
+        (lk : k < length (get_or (get_or sides p []) (way_number way) [])) where
+      abbrev border : (t : ℕ) → ℕ
+      border = border_dart mesh (patch_at ps p) way
 
-        list_here : List ℕ
-        list_here = run_list (half_edges faces) (border_dart (half_edges faces) (patch_at ps p) way 0)
-            (side_size (patch_at ps p) way)
+      abbrev us : List SideArc
+      us = get_or (get_or sides p []) (way_number way) []
 
-        split : IsSplit arcs uses list_here (begins faces arcs uses runs (patch_at ps p) (placed p lp) way)
-        split = side_split faces arcs uses runs (patch_at ps p) (placed p lp) way
+      abbrev slot_use : SideArc
+      slot_use = use_in us k
 
-        here : IsLine (half_edges faces) (is_on cut) (border_dart (half_edges faces) (patch_at ps p) way)
-            (side_size (patch_at ps p) way)
-        here = line (half_edges faces) marked.laws (is_on cut) marked.full (patch_at ps p) (parts.patch p lp).grid way
+      abbrev t : ℕ
+      t = reach_in arcs us k
 
-        by_place : (t : ℕ) → reach_in arcs us k ≡ t → (reach_in arcs us k < length list_here)
-            × (use_in us k ≡ use_in uses (get_or list_here (reach_in arcs us k) 0))
-            → begins faces arcs uses runs (patch_at ps p) (placed p lp) way (reach_in arcs us k) ≡ true
-            → ((use_in us k).arc < length arcs) × ((o : ℕ) → o < long_at arcs (use_in us k).arc
-            → LiesAt (half_edges faces) (path_at arcs (use_in us k).arc).darts (use_in us k).forward o
-            (border_dart (half_edges faces) (patch_at ps p) way (reach_in arcs us k + o)))
-        by_place t is at on = (low, lies)
-          where
-            size_is : length list_here ≡ side_size (patch_at ps p) way
-            size_is = run_long (half_edges faces) (border_dart (half_edges faces) (patch_at ps p) way 0)
-                (side_size (patch_at ps p) way)
+      side : IsSideOf arcs uses (run_list mesh (border 0) (side_size (patch_at ps p) way)) us
+      side = (all.each p lp).each way
 
-            lt : reach_in arcs us k < side_size (patch_at ps p) way
-            lt = omega (arith, at.0, size_is)
+      here : IsLine mesh (is_on cut) border (side_size (patch_at ps p) way)
+      here = is_line runs (placed p lp) way
 
-            dart : get_or list_here (reach_in arcs us k) 0 ≡ border_dart (half_edges faces) (patch_at ps p) way
-                (reach_in arcs us k)
-            dart = entry faces arcs uses runs (patch_at ps p) (placed p lp) way (reach_in arcs us k) lt
+      split : IsSplit arcs uses (run_list mesh (border 0) (side_size (patch_at ps p) way))
+          (begins runs (placed p lp) way)
+      split = side_split runs (placed p lp) way
 
-            use_is : use_in us k ≡ use_in uses (border_dart (half_edges faces) (patch_at ps p) way (reach_in arcs us k))
-            use_is = at.1 ∙ ap (use_in uses) dart
+      size_is : length (run_list mesh (border 0) (side_size (patch_at ps p) way)) ≡ side_size (patch_at ps p) way
+      size_is = run_long mesh (border 0) (side_size (patch_at ps p) way)
 
-            begun : ((use_in uses (border_dart (half_edges faces) (patch_at ps p) way (reach_in arcs us k))).arc
-                < length arcs) × LiesAt (half_edges faces)
-                (path_at arcs (use_in uses (border_dart (half_edges faces) (patch_at ps p) way
-                (reach_in arcs us k))).arc).darts
-                (use_in uses (border_dart (half_edges faces) (patch_at ps p) way (reach_in arcs us k))).forward 0
-                (border_dart (half_edges faces) (patch_at ps p) way (reach_in arcs us k))
-            begun = runs.begin (border_dart (half_edges faces) (patch_at ps p) way (reach_in arcs us k))
-                (here.low (reach_in arcs us k) lt) (here.on (reach_in arcs us k) lt) on
+      t_low : t < side_size (patch_at ps p) way
+      t_low = omega (arith, (side.each k lk).0, size_is)
 
-            low : (use_in us k).arc < length arcs
-            low = subst (λ (u : SideArc). u.arc < length arcs) (sym use_is) begun.0
+      on : begins runs (placed p lp) way t ≡ true
+      on = split_begins split side k lk
 
-            starts : LiesAt (half_edges faces) (path_at arcs (use_in us k).arc).darts (use_in us k).forward 0
-                (border_dart (half_edges faces) (patch_at ps p) way (reach_in arcs us k))
-            starts = subst (λ (u : SideArc). LiesAt (half_edges faces) (path_at arcs u.arc).darts u.forward 0
-                (border_dart (half_edges faces) (patch_at ps p) way (reach_in arcs us k))) (sym use_is) begun.1
+      slot_begun : (slot_use.arc < length arcs)
+          × LiesAt mesh (path_at arcs slot_use.arc).darts slot_use.forward 0 (border t)
+      slot_begun = rw ((side.each k lk).1, entry runs (placed p lp) way t t_low)
+          (runs.begin (border t) (here.low t t_low) (here.on t t_low) on)
 
-            fits : reach_in arcs us k + long_at arcs (use_in us k).arc ≤ side_size (patch_at ps p) way
-            fits = let f : HasUseAt arcs uses list_here (begins faces arcs uses runs (patch_at ps p) (placed p lp) way)
-                (reach_in arcs us k) = split.step (reach_in arcs us k) at.0 on in
-                omega (arith, f.fits, size_is, ap (λ (u : SideArc). long_at arcs u.arc) at.1)
-
-            lies : (o : ℕ) → o < long_at arcs (use_in us k).arc
-                → LiesAt (half_edges faces) (path_at arcs (use_in us k).arc).darts (use_in us k).forward o
-                (border_dart (half_edges faces) (patch_at ps p) way (reach_in arcs us k + o))
-            lies o lo = subst (λ (x : ℕ). LiesAt (half_edges faces) (path_at arcs (use_in us k).arc).darts
-                (use_in us k).forward o x) (line_easts (half_edges faces) marked.laws (is_on cut) marked.full
-                (is_node faces cut) marked.stand (border_dart (half_edges faces) (patch_at ps p) way)
-                (side_size (patch_at ps p) way) here (reach_in arcs us k) o (omega (arith, fits, lo)))
-                ((arc_use faces arcs uses runs (use_in us k).arc (use_in us k).forward
-                (border_dart (half_edges faces) (patch_at ps p) way (reach_in arcs us k)) low starts).lies o lo)
+      slot_lies : (o : ℕ) → o < long_at arcs slot_use.arc
+          → LiesAt mesh (path_at arcs slot_use.arc).darts slot_use.forward o (border (t + o))
+      slot_lies o lo =
+          let fits = (split.step t (side.each k lk).0 on).fits in
+          let long = ap (λ (u : SideArc). long_at arcs u.arc) (side.each k lk).1 in
+          subst (λ (x : ℕ). LiesAt mesh (path_at arcs slot_use.arc).darts slot_use.forward o x)
+          (line_easts mesh marked.laws (is_on cut) marked.full (is_node faces cut) marked.stand border
+          (side_size (patch_at ps p) way) here t o (omega (arith, fits, long, lo, size_is)))
+          ((arc_use runs slot_use.arc slot_use.forward (border t) slot_begun.0 slot_begun.1).lies o lo)
 
     pub is_layout : IsDartLayout (half_edges faces) (is_on cut) (is_node faces cut) face (vertex_count faces)
         (record { nodes = list; arcs = arcs; patches = ps; sides = sides })
-    unfolding Covered
     is_layout = record {
       patches = parts;
       nodes = nodes ∙ (ap (λ n. filter (is_on marks) (range_with_len 0 n)) marked.many
@@ -277,8 +208,8 @@ module _ (faces : Faces) (cut marks : List Bool) (marked : IsMarked faces cut ma
           b.2.last_at k e ∙ ap (to_of faces) (sym (dart_is a k b.0 b.2 (omega arith)));
       sided = all.count;
       four = λ p l. (all.each p l).count;
-      sizes = λ p way l. (side p way l).total ∙ run_long (half_edges faces)
-          (border_dart (half_edges faces) (patch_at ps p) way 0) (side_size (patch_at ps p) way);
-      uses = λ slot is. (slot_use slot.patch slot.side slot.at is.patch_low is.low).0;
-      used = λ slot offset is lo. (slot_use slot.patch slot.side slot.at is.patch_low is.low).1 offset lo;
+      sizes = λ p way l. ((all.each p l).each way).total ∙ run_long mesh (border_dart mesh (patch_at ps p) way 0)
+          (side_size (patch_at ps p) way);
+      uses = λ slot is. (slot_begun slot.patch slot.side slot.at is.patch_low is.low).0;
+      used = λ slot offset is lo. slot_lies slot.patch slot.side slot.at is.patch_low is.low offset lo;
     }

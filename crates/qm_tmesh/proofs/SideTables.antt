@@ -1,11 +1,11 @@
 -- A side as it grows, use by use.
-use Rattle.std.proofs.Common.{◌≡◌, ◌⊎◌, ℕ, suc, ◌+◌, ◌<◌, ◌≤◌, Bool, true, List, [], ◌∷◌, ◌++◌, length, get_or, sym}
+use Rattle.std.proofs.Common.{◌≡◌, ℕ, suc, ◌+◌, ◌<◌, ◌≤◌, Bool, true, List, [], ◌∷◌, ◌++◌, length, get_or}
 use Rattle.std.proofs.Common.{◌∙◌, ap, inl, inr, length-append, arith}
 use Rattle.std.proofs.lemmas.Bool.{cases_lt}
 use Rattle.std.proofs.lemmas.List.{get_or_append_left, get_or-append-add}
 use Rattle.sum_laws.proofs.Counts.{count_below_same}
 use Rattle.def_layout.specs.{Arcs.Path, Arcs.long_at, declared.tmesh.SideArc.SideArc}
-use Rattle.qm_tmesh.specs.{Uses.use_in, Sides.reach_in, Sides.HasUseAt, Sides.IsSplit, Sides.IsSideSoFar}
+use Rattle.qm_tmesh.specs.{Uses.use_in, Sides.reach_in, Sides.IsSplit, Sides.IsSideSoFar}
 
 use_front : (used : List SideArc) (u : SideArc) (k : ℕ) → k < length used → use_in (used ++ u ∷ []) k ≡ use_in used k
 use_front used u k l = get_or_append_left used (u ∷ []) (record { arc = 0; forward = true }) k l
@@ -28,39 +28,21 @@ reach_end arcs used u =
     ap (λ (x : SideArc). long_at arcs x.arc) (use_end used u) in
     ap (reach_in arcs (used ++ u ∷ [])) n ∙ omega (arith, last, reach_front arcs used u (length used) (omega arith))
 
-pub side_more : (arcs : List Path) (uses : List SideArc) (line : List ℕ) (begins : ℕ → Bool) (t next : ℕ)
-    (used : List SideArc) (u : SideArc) → IsSplit arcs uses line begins → IsSideSoFar arcs uses line begins t used
+pub side_more : {arcs : List Path} {uses : List SideArc} {line : List ℕ} {begins : ℕ → Bool} {t next : ℕ}
+    {used : List SideArc} {u : SideArc} → IsSplit arcs uses line begins → IsSideSoFar arcs uses line begins t used
     → t < length line → u ≡ use_in uses (get_or line t 0) → next ≡ t + long_at arcs u.arc
     → IsSideSoFar arcs uses line begins next (used ++ u ∷ [])
-side_more arcs uses line begins t next used u split so l is on = record {
-  at = reach_end arcs used u ∙ omega (arith, so.at);
-  high = omega (arith, long, at.fits);
-  next = λ h. ap begins (on ∙ ap (λ x. t + x) long) ∙ at.next (omega (arith, long));
-  each = each;
-}
-  where
-    at : HasUseAt arcs uses line begins t
-    at = split.step t l (so.next l)
-
-    long : long_at arcs u.arc ≡ long_at arcs (use_in uses (get_or line t 0)).arc
-    long = ap (λ (x : SideArc). long_at arcs x.arc) is
-
-    each : (k : ℕ) → k < length (used ++ u ∷ []) → (reach_in arcs (used ++ u ∷ []) k < length line)
-        × (use_in (used ++ u ∷ []) k ≡ use_in uses (get_or line (reach_in arcs (used ++ u ∷ []) k) 0))
-    each k lk = by_place (cases_lt k (length used))
-      where
-        by_place : (k < length used) ⊎ (length used ≤ k) → (reach_in arcs (used ++ u ∷ []) k < length line)
-            × (use_in (used ++ u ∷ []) k ≡ use_in uses (get_or line (reach_in arcs (used ++ u ∷ []) k) 0))
-        by_place (inl b) =
-            let r : reach_in arcs (used ++ u ∷ []) k ≡ reach_in arcs used k = reach_front arcs used u k (omega arith) in
-            let e : (reach_in arcs used k < length line)
-            × (use_in used k ≡ use_in uses (get_or line (reach_in arcs used k) 0)) = so.each k b in
-            (omega (arith, r, e.0), use_front used u k b ∙ (e.1 ∙ ap (λ x. use_in uses (get_or line x 0)) (sym r)))
-        by_place (inr g) =
+side_more {arcs} {uses} {line} {begins} {t} {next} {used} {u} split so l is on =
+    let at = split.step t l (so.next l) in
+    let long = ap (λ (x : SideArc). long_at arcs x.arc) is in
+    record {
+      at = reach_end arcs used u ∙ omega (arith, so.at);
+      high = omega (arith, long, at.fits);
+      next = λ h. ap begins (on ∙ ap (λ x. t + x) long) ∙ at.next (omega (arith, long));
+      each = λ k lk. elim (cases_lt k (length used)) [
+        | inl b ↦ rw (reach_front arcs used u k (omega arith), use_front used u k b) (so.each k b)
+        | inr g ↦
             let same : k ≡ length used = omega (arith, length-append used (u ∷ [])) in
-            let r : reach_in arcs (used ++ u ∷ []) k ≡ t = ap (reach_in arcs (used ++ u ∷ [])) same
-            ∙ (reach_front arcs used u (length used) (omega arith) ∙ so.at) in (
-              omega (arith, r),
-              ap (use_in (used ++ u ∷ [])) same
-                  ∙ (use_end used u ∙ (is ∙ ap (λ x. use_in uses (get_or line x 0)) (sym r))),
-            )
+            rw (same, reach_front arcs used u (length used) (omega arith), so.at, use_end used u) (l, is)
+      ];
+    }

@@ -25,17 +25,15 @@ invariant_of-start c = record {
 
 pub is_least-requires : goal.is_least-requires
 is_least-requires c = subst (λ (xs : List ℕ). (k : ℕ) → k < length xs → get_or xs k 0 < darts c.args.mesh.now)
-    (sym c.deref-2.ensures.value) (run_darts c.requires.marked c.args.s
-    c.in_ok-darts.darts.items c.in_ok-darts.ensures.run c.in_ok-darts.ensures.darts)
+    (sym c.deref-2.ensures.value) (run_darts c.requires.marked c.in_ok-darts.ensures.run c.in_ok-darts.ensures.darts)
 
 pub returns-then-is_least : goal.returns-then-is_least
 returns-then-is_least c =
-    let list = c.in_ok-darts.darts.items in
     let name : c.least-name.result ≡ least_of c.in_ok-darts.darts.items = c.least-name.ensures
     ∙ ap least_of c.deref.ensures.value in (
       length c.in_ok-darts.darts.items,
-      run_named c.requires.marked c.args.s c.in_ok-darts.darts.items c.in_ok-darts.ensures.run
-          c.in_ok-darts.ensures.darts (rw (c.deref-2.ensures.value, name) at c.if-is_least.ensures),
+      run_named c.requires.marked c.in_ok-darts.ensures.run c.in_ok-darts.ensures.darts
+          (rw (c.deref-2.ensures.value, name) at c.if-is_least.ensures),
       sym (ap least_of c.in_ok-darts.ensures.darts) ∙ sym name,
     )
 
@@ -43,5 +41,5 @@ pub returns : goal.returns
 returns c =
     let name : c.least-name.result ≡ least_of c.in_ok-darts.darts.items = c.least-name.ensures
     ∙ ap least_of c.deref.ensures.value in
-    run_unnamed c.requires.marked c.args.s c.in_ok-darts.darts.items
-    c.in_ok-darts.ensures.run c.in_ok-darts.ensures.darts (rw (c.deref-2.ensures.value, name) at c.if-is_least.ensures)
+    run_unnamed c.requires.marked c.in_ok-darts.ensures.run c.in_ok-darts.ensures.darts
+    (rw (c.deref-2.ensures.value, name) at c.if-is_least.ensures)

@@ -1,20 +1,15 @@
-use Rattle.std.proofs.Common.{map, ◌∙◌}
-use Rattle.def_layout.specs.Arcs.{path}
+use Rattle.std.proofs.Common.{◌∙◌}
 use Rattle.qm_tmesh.proofs.Splits.{from_straight, from_split, from_low, from_some}
 use Rattle.qm_tmesh.proofs.sides.side_from.Goals as goal
 
 pub line-requires-clause-dart : goal.line-requires-clause-dart
-line-requires-clause-dart c = from_low c.args.mesh.now (map path c.args.runs.now.arcs.items) c.args.runs.now.uses.items
-    c.args.first c.args.size c.requires
+line-requires-clause-dart c = from_low c.requires
 
 pub line-requires-clause-some : goal.line-requires-clause-some
-line-requires-clause-some c = from_some c.args.mesh.now (map path c.args.runs.now.arcs.items) c.args.runs.now.uses.items
-    c.args.first c.args.size c.requires
+line-requires-clause-some c = from_some c.requires
 
 pub line-requires-clause-straight : goal.line-requires-clause-straight
-line-requires-clause-straight c = from_straight c.args.mesh.now (map path c.args.runs.now.arcs.items)
-    c.args.runs.now.uses.items c.args.first c.args.size c.requires
+line-requires-clause-straight c = from_straight c.requires
 
 pub side-requires : goal.side-requires
-side-requires c = from_split c.args.mesh.now (map path c.args.runs.now.arcs.items) c.args.runs.now.uses.items
-    c.args.first c.args.size c.requires c.deref.result.now (c.deref.ensures.value ∙ c.in_ok-darts.ensures)
+side-requires c = from_split c.requires c.deref.result.now (c.deref.ensures.value ∙ c.in_ok-darts.ensures)

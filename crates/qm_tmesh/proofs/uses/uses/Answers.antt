@@ -43,18 +43,16 @@ loop-a-preserved c =
     let one = set c.loop-a.uses.items c.index-first.result.now (record { arc = c.loop-a.a; forward = true }) in
     let twin = c.twin.ensures.value ∙ ap (twin_of c.args.mesh.now) last in
     let low : c.index-first.result.now < darts c.args.mesh.now = omega (arith, first, arc.below 0 arc.some) in
-    let more = uses_more c.args.mesh.now c.args.cut.now c.args.nodes.now c.requires.marked (map path c.args.arcs.now)
-    c.requires.arcs c.loop-a.a c.index-first.result.now c.twin.result c.loop-a.uses.items one in
     let begins : c.index-first.result.now ≡ get_or (path_at (map path c.args.arcs.now) c.loop-a.a).darts 0 0 =
     rw arc.same first in
     let ends : c.twin.result ≡ twin_of c.args.mesh.now (get_or (path_at (map path c.args.arcs.now) c.loop-a.a).darts
     (long_at (map path c.args.arcs.now) c.loop-a.a - 1) 0) = rw arc.same twin in
     elim c.match-twin.branch [
-      | in-Some w ↦ rw w.uses-is (more (set one w.in-Some.t (record { arc = c.loop-a.a; forward = false })) arc.low
-          c.loop-a.invariant begins ends refl low
+      | in-Some w ↦ rw w.uses-is (uses_more c.requires.marked c.requires.arcs {one = one} arc.low c.loop-a.invariant
+          begins ends refl low
           (λ t q. ap (λ x. set one x (record { arc = c.loop-a.a; forward = false }))
           (same_Some w.in-Some.t t (sym w.in-Some.is ∙ q)))
           (λ q. absurd (none-some w.in-Some.t (sym q ∙ w.in-Some.is))))
-      | in_default w ↦ rw w.uses-is (more one arc.low c.loop-a.invariant begins ends refl low
-          (λ t q. absurd (none-some t (sym w.in_default.is ∙ q))) (λ q. refl))
+      | in_default w ↦ rw w.uses-is (uses_more c.requires.marked c.requires.arcs {one = one} arc.low c.loop-a.invariant
+          begins ends refl low (λ t q. absurd (none-some t (sym w.in_default.is ∙ q))) (λ q. refl))
     ]
