@@ -1,17 +1,17 @@
 -- What has grown from a corner, as a list of cells: a patch, which holds the faces of one class.
 use Rattle.std.proofs.Common.{◌≡◌, ℕ, zero, suc, ◌+◌, ◌*◌, ◌/◌, ◌%◌, ◌<◌, ◌≤◌, Bool, true, eqb, List, [], ◌∷◌, length}
-use Rattle.std.proofs.Common.{get_or, sym, ◌∙◌, ap, subst, refl, inl, inr, length-append, Option, Some, arith}
+use Rattle.std.proofs.Common.{get_or, sym, ◌∙◌, ap, subst, refl, inl, inr, length-append, arith}
 use Rattle.std.proofs.Math.Nat.{mul-le-mul_right, suc-mul, zero-mul}
 use Rattle.std.proofs.lemmas.Bool.{cases_lt, eqb-true, eq-eqb, or_cases, false≢true}
 use Rattle.std.proofs.lemmas.List.{get_or_append_left, get_or-append-add}
 use Rattle.std.proofs.lemmas.List.Folds.{list_any_at}
 use Rattle.std.proofs.lemmas.List.FromFn.{get_or-map-range_with_len, length-map-range_with_len}
-use Rattle.def_mesh.specs.{Faces.Faces, Darts.darts, HalfEdges.HalfEdges, HalfEdges.half_edges}
+use Rattle.def_mesh.specs.{Faces.Faces, HalfEdges.HalfEdges, HalfEdges.half_edges}
 use Rattle.def_cut.specs.{Cuts.Cut, Cuts.IsCorner, FullCut.is_on, Grids.Cells, Grids.IsGrid, Grids.IsPatch}
 use Rattle.def_cut.specs.{Grids.Rectangle, Grids.cell_of, Steps.easts, Steps.norths, Steps.spin}
 use Rattle.cut_laws.specs.Grown.{grown, IsGrown}
-use Rattle.cut_laws.proofs.{Grown.grown_grid, Classes.In, Classes.AtMost, Classes.closed, Classes.linked_cell}
-use Rattle.cut_laws.proofs.{Classes.links_join, Classes.step_spin, Classes.at_most, Folds.At, OneList.place_row}
+use Rattle.cut_laws.proofs.{Grown.grown_grid, Classes.AtMost, Classes.closed, Classes.linked_cell}
+use Rattle.cut_laws.proofs.{Classes.links_join, Classes.step_spin, Classes.at_most, OneList.place_row}
 use Rattle.cut_laws.proofs.OneList.{place_is}
 use Rattle.face_laws.proofs.Fans.{same_face}
 use Rattle.mesh_laws.proofs.Darts.{next_face}
@@ -55,8 +55,7 @@ pub lies_at : (cells : List ℕ) (f : ℕ) → lies_in cells f ≡ true → (k :
 lies_at [] f l = absurd (false≢true l)
 lies_at (c ∷ cells) f l = elim (or_cases (eqb (c / 4) f) (lies_in cells f) l) [
   | inl here ↦ (0, omega arith, eqb-true (c / 4) f here)
-  | inr later ↦ let r : (k : ℕ) × (k < length cells) × (get_or cells k 0 / 4 ≡ f) = lies_at cells f later in
-      (suc r.0, omega (arith, r.1), r.2)
+  | inr later ↦ let (k, l, e) = lies_at cells f later in (suc k, omega arith, e)
 ]
 
 pub at_lies : (cells : List ℕ) (f k : ℕ) → k < length cells → get_or cells k 0 / 4 ≡ f → lies_in cells f ≡ true
@@ -68,122 +67,91 @@ pub grid_same : (mesh : HalfEdges) (cut : Cut) (w h : ℕ) (cell tile : Cells)
 grid_same mesh cut w h cell tile same g = record {
   wide = g.wide;
   tall = g.tall;
-  low = λ i j li lj. subst (λ (x : ℕ). x < mesh.count) (sym (same i j li lj)) (g.low i j li lj);
-  east = λ i j li lj. ap (λ x. mesh.twin (mesh.next x)) (same i j (omega arith) lj)
-      ∙ (g.east i j li lj ∙ ap (λ x. step_back x) (sym (same (suc i) j li lj)));
-  north = λ i j li lj. ap (λ x. mesh.twin (mesh.next (mesh.next x))) (same i j li (omega arith))
-      ∙ (g.north i j li lj ∙ ap some_of (sym (same i (suc j) li lj)));
-  east_open = λ i j li lj. ap (λ x. cut (mesh.next x)) (same i j (omega arith) lj) ∙ g.east_open i j li lj;
-  north_open = λ i j li lj. ap (λ x. cut (mesh.next (mesh.next x))) (same i j li (omega arith))
-      ∙ g.north_open i j li lj;
-  south_shut = λ i li. ap cut (same i 0 li g.tall) ∙ g.south_shut i li;
-  west_shut = λ j lj. ap (λ x. cut (mesh.prev x)) (same 0 j g.wide lj) ∙ g.west_shut j lj;
-  east_shut = λ i j e lj. ap (λ x. cut (mesh.next x)) (same i j (omega arith) lj) ∙ g.east_shut i j e lj;
-  north_shut = λ i j li e. ap (λ x. cut (mesh.next (mesh.next x))) (same i j li (omega arith)) ∙ g.north_shut i j li e;
+  low = λ i j li lj. rw (same i j li lj) (g.low i j li lj);
+  east = λ i j li lj. rw (same i j (omega arith) lj, same (suc i) j li lj) (g.east i j li lj);
+  north = λ i j li lj. rw (same i j li (omega arith), same i (suc j) li lj) (g.north i j li lj);
+  east_open = λ i j li lj. rw (same i j (omega arith) lj) (g.east_open i j li lj);
+  north_open = λ i j li lj. rw (same i j li (omega arith)) (g.north_open i j li lj);
+  south_shut = λ i li. rw (same i 0 li g.tall) (g.south_shut i li);
+  west_shut = λ j lj. rw (same 0 j g.wide lj) (g.west_shut j lj);
+  east_shut = λ i j e lj. rw (same i j (omega arith) lj) (g.east_shut i j e lj);
+  north_shut = λ i j li e. rw (same i j li (omega arith)) (g.north_shut i j li e);
 }
-  where
-    step_back : ℕ → Option ℕ
-    step_back x = Some (mesh.prev x)
 
-    some_of : ℕ → Option ℕ
-    some_of x = Some x
-
-module _ (faces : Faces) (cut : List Bool) (cutting : IsCutting faces cut) (d w h : ℕ)
+module _ {faces : Faces} {cut : List Bool} (cutting : IsCutting faces cut) {d w h : ℕ}
     (corner : IsCorner (half_edges faces) (is_on cut) d) (g : IsGrown (half_edges faces) (is_on cut) d w h) where
-  whole : IsGrid (half_edges faces) (is_on cut) w h (grown (half_edges faces) d)
-  whole = grown_grid (half_edges faces) cutting.laws (is_on cut) cutting.full d w h corner g
+  abbrev mesh : HalfEdges
+  mesh = half_edges faces
+
+  abbrev cells : List ℕ
+  cells = grid_list mesh d w h
+
+  whole : IsGrid mesh (is_on cut) w h (grown mesh d)
+  whole = grown_grid mesh cutting.laws (is_on cut) cutting.full d w h corner g
+
+  cell_is : (k : ℕ) → k < length cells → (k / w < h) × (get_or cells k 0 ≡ grown mesh d (k % w) (k / w))
+  cell_is k l =
+      let row = place_row k w h g.wide (omega (arith, grid_long mesh d w h)) in (
+        row,
+        ap (λ x. get_or cells x 0) (place_is k w g.wide)
+            ∙ grid_at mesh d w h (k % w) (k / w) (omega (arith, g.wide)) row,
+      )
 
   -- Each cell is a dart.
   pub cells_low : (k : ℕ) → k < length (grid_list (half_edges faces) d w h)
       → get_or (grid_list (half_edges faces) d w h) k 0 / 4 < length faces
   cells_low k l =
-      let low : k < h * w = omega (arith, grid_long (half_edges faces) d w h) in
-      let here : get_or (grid_list (half_edges faces) d w h) k 0 ≡ grown (half_edges faces) d (k % w) (k / w) =
-      ap (λ x. get_or (grid_list (half_edges faces) d w h) x 0) (place_is k w g.wide)
-      ∙ grid_at (half_edges faces) d w h (k % w) (k / w) (omega (arith, g.wide)) (place_row k w h g.wide low) in
-      let dart : grown (half_edges faces) d (k % w) (k / w) < darts faces =
-      whole.low (k % w) (k / w) (omega (arith, g.wide)) (place_row k w h g.wide low) in
-      omega arith
+      let (row, is) = cell_is k l in
+      let dart = whole.low (k % w) (k / w) (omega (arith, g.wide)) row in
+      omega (arith, is, dart)
 
   -- A face of the cells is of the class,
   pub lies_linked : (f : ℕ) → lies_in (grid_list (half_edges faces) d w h) f ≡ true → AreOfOne faces cut d (4 * f)
-  lies_linked f l = by_place (lies_at (grid_list (half_edges faces) d w h) f l)
-    where
-      by_place : (k : ℕ) × (k < length (grid_list (half_edges faces) d w h))
-          × (get_or (grid_list (half_edges faces) d w h) k 0 / 4 ≡ f) → AreOfOne faces cut d (4 * f)
-      by_place p =
-          let low : p.0 < h * w = omega (arith, p.1, grid_long (half_edges faces) d w h) in
-          let here : get_or (grid_list (half_edges faces) d w h) p.0 0
-          ≡ grown (half_edges faces) d (p.0 % w) (p.0 / w) =
-          ap (λ x. get_or (grid_list (half_edges faces) d w h) x 0) (place_is p.0 w g.wide)
-          ∙ grid_at (half_edges faces) d w h (p.0 % w) (p.0 / w) (omega (arith, g.wide))
-          (place_row p.0 w h g.wide low) in
-          let s : (k : ℕ) × (4 * f ≡ spin (half_edges faces) k (grown (half_edges faces) d (p.0 % w) (p.0 / w))) =
-          same_face faces cutting.laws (grown (half_edges faces) d (p.0 % w) (p.0 / w)) (4 * f)
-          (ap (λ x. x / 4) (sym here) ∙ (p.2 ∙ omega arith)) in
-          let linked : AreOfOne faces cut d (grown (half_edges faces) d (p.0 % w) (p.0 / w)) =
-          linked_cell (half_edges faces) cutting.laws (is_on cut) cutting.full w h (grown (half_edges faces) d)
-          whole (p.0 % w) (p.0 / w) (omega (arith, g.wide)) (place_row p.0 w h g.wide low) in
-          subst (λ (x : ℕ). AreOfOne faces cut d x) (sym s.1) (step_spin (half_edges faces) cutting.laws (is_on cut) d
-          (grown (half_edges faces) d (p.0 % w) (p.0 / w)) s.0 linked)
+  lies_linked f l =
+      let (k, lk, e) = lies_at cells f l in
+      let (row, here) = cell_is k lk in
+      let (n, is) = same_face faces cutting.laws (grown mesh d (k % w) (k / w)) (4 * f)
+      (ap (λ x. x / 4) (sym here) ∙ (e ∙ omega arith)) in
+      rw is (step_spin mesh cutting.laws (is_on cut) d (grown mesh d (k % w) (k / w)) n
+      (linked_cell mesh cutting.laws (is_on cut) cutting.full w h (grown mesh d) whole (k % w) (k / w)
+      (omega (arith, g.wide)) row))
 
-  spin_face : (k x : ℕ) → spin (half_edges faces) k x / 4 ≡ x / 4
+  spin_face : (k x : ℕ) → spin mesh k x / 4 ≡ x / 4
   spin_face zero x = refl
-  spin_face (suc k) x = next_face (spin (half_edges faces) k x) ∙ spin_face k x
+  spin_face (suc k) x = next_face (spin mesh k x) ∙ spin_face k x
 
   -- and a dart of the class lies in the face of a cell.
   pub linked_lies : (x : ℕ) → AreOfOne faces cut d x → lies_in (grid_list (half_edges faces) d w h) (x / 4) ≡ true
-  linked_lies x l = by_in (closed (half_edges faces) cutting.laws (is_on cut) cutting.full w h
-      (grown (half_edges faces) d) whole d x l.0 l.1 (
-        0,
-        record {
-          a = 0;
-          b = 0;
-          a_low = g.wide;
-          b_low = g.tall;
-          is = refl;
-        },
-      ))
-    where
-      by_in : In (half_edges faces) w h (grown (half_edges faces) d) x
-          → lies_in (grid_list (half_edges faces) d w h) (x / 4) ≡ true
-      by_in i = at i.0 i.1
-        where
-          at : (k : ℕ) → At (half_edges faces) w h (grown (half_edges faces) d) k x
-              → lies_in (grid_list (half_edges faces) d w h) (x / 4) ≡ true
-          at k s =
-              let m : suc s.b * w ≤ h * w = mul-le-mul_right w s.b_low in
-              at_lies (grid_list (half_edges faces) d w h) (x / 4) (s.b * w + s.a)
-              (omega (arith, grid_long (half_edges faces) d w h, suc-mul s.b w, s.a_low))
-              (ap (λ y. y / 4) (grid_at (half_edges faces) d w h s.a s.b s.a_low s.b_low)
-              ∙ (sym (spin_face k (grown (half_edges faces) d s.a s.b)) ∙ ap (λ y. y / 4) (sym s.is)))
+  linked_lies x l =
+      let (k, s) = closed mesh cutting.laws (is_on cut) cutting.full w h (grown mesh d) whole d x l.0 l.1
+      (0, record { a = 0; b = 0; a_low = g.wide; b_low = g.tall; is = refl }) in
+      let m = mul-le-mul_right w s.b_low in
+      at_lies cells (x / 4) (s.b * w + s.a) (omega (arith, m, grid_long mesh d w h, suc-mul s.b w, s.a_low))
+      (ap (λ y. y / 4) (grid_at mesh d w h s.a s.b s.a_low s.b_low)
+      ∙ (sym (spin_face k (grown mesh d s.a s.b)) ∙ ap (λ y. y / 4) (sym s.is)))
 
   -- From the least corner grows a patch.
-  pub laid_patch : (f : ℕ) → IsHead faces cut f d → (patch : Rectangle) → patch.w ≡ w → patch.h ≡ h
+  pub laid_patch : {f : ℕ} → IsHead faces cut f d → (patch : Rectangle) → patch.w ≡ w → patch.h ≡ h
       → patch.cells ≡ grid_list (half_edges faces) d w h
       → IsPatch (half_edges faces) (is_on cut) patch.w patch.h (cell_of patch)
-  laid_patch f head patch ew eh ec = subst (λ (n : ℕ). IsPatch (half_edges faces) (is_on cut) n patch.h (cell_of patch))
-      (sym ew) (subst (λ (n : ℕ). IsPatch (half_edges faces) (is_on cut) w n (cell_of patch)) (sym eh) here)
-    where
-      same : (i j : ℕ) → i < w → j < h → cell_of patch i j ≡ grown (half_edges faces) d i j
-      same i j li lj = ap (λ n. get_or patch.cells (j * n + i) 0) ew
-          ∙ (ap (λ xs. get_or xs (j * w + i) 0) ec ∙ grid_at (half_edges faces) d w h i j li lj)
-
-      grid : IsGrid (half_edges faces) (is_on cut) w h (cell_of patch)
-      grid = grid_same (half_edges faces) (is_on cut) w h (grown (half_edges faces) d) (cell_of patch) same whole
-
-      most : AtMost (half_edges faces) w h (cell_of patch) d
-      most = at_most (half_edges faces) cutting.laws (is_on cut) cutting.full w h (cell_of patch) grid d
-          (λ x l c. head.least x (links_join (half_edges faces) cutting.laws (is_on cut) (4 * f) d x head.linked
-          (subst (λ (y : ℕ). AreOfOne faces cut y x) (same 0 0 g.wide g.tall) l)) c)
-
-      first : cell_of patch 0 0 ≡ d
-      first = same 0 0 g.wide g.tall
-
-      here : IsPatch (half_edges faces) (is_on cut) w h (cell_of patch)
-      here = record {
+  laid_patch {f} head patch ew eh ec = subst (λ (n : ℕ). IsPatch mesh (is_on cut) n patch.h (cell_of patch)) (sym ew)
+      (subst (λ (n : ℕ). IsPatch mesh (is_on cut) w n (cell_of patch)) (sym eh) (record {
         grid = grid;
         least_east = λ i e. omega (arith, first, most.east i e);
         least_far = λ i j e z. omega (arith, first, most.far i j e z);
         least_north = λ j z. omega (arith, first, most.north j z);
-      }
+      }))
+    where
+      same : (i j : ℕ) → i < w → j < h → cell_of patch i j ≡ grown mesh d i j
+      same i j li lj = ap (λ n. get_or patch.cells (j * n + i) 0) ew
+          ∙ (ap (λ xs. get_or xs (j * w + i) 0) ec ∙ grid_at mesh d w h i j li lj)
+
+      grid : IsGrid mesh (is_on cut) w h (cell_of patch)
+      grid = grid_same mesh (is_on cut) w h (grown mesh d) (cell_of patch) same whole
+
+      first : cell_of patch 0 0 ≡ d
+      first = same 0 0 g.wide g.tall
+
+      most : AtMost mesh w h (cell_of patch) d
+      most = at_most mesh cutting.laws (is_on cut) cutting.full w h (cell_of patch) grid d
+          (λ x l c. head.least x (links_join mesh cutting.laws (is_on cut) (4 * f) d x head.linked (rw first at l)) c)

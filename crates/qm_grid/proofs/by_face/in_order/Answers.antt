@@ -1,9 +1,8 @@
-use Rattle.std.proofs.Common.{◌≡◌, ℕ, ◌<◌, ◌/◌, ◌||◌, false, List, [], ◌∷◌, ◌++◌, map, length, get_or, ap, sym, subst}
+use Rattle.std.proofs.Common.{ℕ, ◌<◌, ◌||◌, false, List, [], ◌∷◌, map, length, get_or, ap}
 use Rattle.std.proofs.Common.{◌∙◌, arith}
 use Rattle.std.proofs.lemmas.List.{map-append}
-use Rattle.def_mesh.specs.HalfEdges.{half_edges}
 use Rattle.def_cut.specs.Grids.{rectangle}
-use Rattle.qm_grid.specs.{Cells.grid_list, Heads.lies_in, Heads.IsHead}
+use Rattle.qm_grid.specs.{Heads.lies_in}
 use Rattle.qm_grid.proofs.Laid.{cells_low}
 use Rattle.qm_grid.proofs.Found.{found_skip, found_more, found_done}
 use Rattle.qm_grid.proofs.by_face.in_order.Goals.{then-not-seen-f+in_ok-patch+in_ok-push, else-not-seen-f}
@@ -16,14 +15,9 @@ grid-requires c = record {
 
 pub mark-requires : goal.mark-requires
 mark-requires c =
-    let head : IsHead c.args.cut.now.faces c.args.cut.now.marks c.loop-f.f (get_or c.args.heads.now c.loop-f.f 0) =
-    c.requires.heads c.loop-f.f (omega (arith, c.loop-f-test.true, c.requires.long)) in
-    let e : c.deref.result.now ≡ grid_list (half_edges c.args.cut.now.faces) (get_or c.args.heads.now c.loop-f.f 0)
-    c.in_ok-patch.patch.w c.in_ok-patch.patch.h = c.deref.ensures.value ∙ c.in_ok-patch.ensures.cells in
-    let low : (k : ℕ) → k < length c.deref.result.now
-    → get_or c.deref.result.now k 0 / 4 < length c.args.cut.now.faces =
-    subst (λ (xs : List ℕ). (k : ℕ) → k < length xs → get_or xs k 0 / 4 < length c.args.cut.now.faces) (sym e)
-    (cells_low _ _ c.is_full.ensures _ _ _ head.corner c.in_ok-patch.ensures.grown) in
+    let head = c.requires.heads c.loop-f.f (omega (arith, c.loop-f-test.true, c.requires.long)) in
+    let low = rw (← (c.deref.ensures.value ∙ c.in_ok-patch.ensures.cells)) at
+    (cells_low c.is_full.ensures head.corner c.in_ok-patch.ensures.grown) in
     λ k l. omega (arith, low k l, c.loop-f.invariant.long)
 
 pub loop-f-preserved : goal.loop-f-preserved
@@ -31,22 +25,18 @@ loop-f-preserved c =
     let low : c.loop-f.f < length c.args.cut.now.faces = omega (arith, c.loop-f-test.true, c.requires.long) in
     elim c.if-not-seen-f.branch [
       | then-not-seen-f+in_ok-patch+in_ok-push w ↦
-          let list : map rectangle w.push.new.self.items ≡ map rectangle c.loop-f.found.items
-          ++ rectangle w.in_ok-patch.patch ∷ [] = ap (map rectangle) w.in_ok-push.ensures.items
+          let list = ap (map rectangle) w.in_ok-push.ensures.items
           ∙ map-append rectangle c.loop-f.found.items (w.in_ok-patch.patch ∷ []) in
-          rw (w.seen-is, w.found-is, list) (found_more _ _ c.is_full.ensures c.loop-f.f
-          (get_or c.args.heads.now c.loop-f.f 0) (rectangle w.in_ok-patch.patch) low
-          (c.requires.heads c.loop-f.f low) w.in_ok-patch.ensures.grown w.in_ok-patch.ensures.cells c.loop-f.seen
-          w.mark.new.seen (map rectangle c.loop-f.found.items) c.loop-f.invariant w.if-not-seen-f.true
-          w.mark.auto.seen
+          rw (w.seen-is, w.found-is, list) (found_more c.is_full.ensures (rectangle w.in_ok-patch.patch) low
+          (c.requires.heads c.loop-f.f low) w.in_ok-patch.ensures.grown w.in_ok-patch.ensures.cells _
+          c.loop-f.invariant w.if-not-seen-f.true w.mark.auto.seen
           (λ g l. w.mark.ensures g l ∙ ap (λ (xs : List ℕ). (get_or c.loop-f.seen g false || lies_in xs g))
           w.deref.ensures.value))
-      | else-not-seen-f w ↦ rw (w.seen-is, w.found-is) (found_skip _ _ c.is_full.ensures
-          c.loop-f.f c.loop-f.seen (map rectangle c.loop-f.found.items) c.loop-f.invariant w.if-not-seen-f.false)
+      | else-not-seen-f w ↦ rw (w.seen-is, w.found-is) (found_skip c.is_full.ensures c.loop-f.invariant
+          w.if-not-seen-f.false)
     ]
 
 pub returns : goal.returns
 returns c = record {
-  patches = found_done c.args.cut.now.faces c.args.cut.now.marks c.is_full.ensures c.loop-f.f c.loop-f.seen
-      (map rectangle c.loop-f.found.items) c.loop-f.invariant (omega (arith, c.loop-f-test.false, c.requires.long));
+  patches = found_done c.is_full.ensures c.loop-f.invariant (omega (arith, c.loop-f-test.false, c.requires.long));
 }

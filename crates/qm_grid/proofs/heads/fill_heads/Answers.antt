@@ -4,6 +4,5 @@ use Rattle.qm_grid.proofs.heads.fill_heads.Goals as goal
 
 pub returns : goal.returns
 returns c = record {
-  heads = heads_done c.args.cut.now.faces c.args.cut.now.marks c.is_full.ensures c.loop-d.d c.loop-d.heads
-      c.loop-d.invariant (omega (arith, c.is_full.ensures.long, c.loop-d-test.false));
+  heads = heads_done c.is_full.ensures c.loop-d.invariant (omega (arith, c.is_full.ensures.long, c.loop-d-test.false));
 }
