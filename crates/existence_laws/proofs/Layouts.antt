@@ -8,7 +8,7 @@ use Rattle.def_mesh.specs.{Darts.darts, Faces.Faces, HalfEdges.half_edges, Meshe
 use Rattle.def_remesh.specs.LayoutLaws.{HasOneLayout, LayoutLaw, TracedLayoutLaw}
 use Rattle.embedding_laws.proofs.OneLayout.{one_layout_law}
 use Rattle.qm_grid.proofs.Cuttings.{to_cutting}
-use Rattle.qm_tmesh.specs.{Arcs.AreArcsBelow, Four.AreAllFour, Tables.IsMarked, Uses.HasUsesBelow}
+use Rattle.qm_tmesh.specs.{Arcs.AreArcsBelow, Tables.IsMarked, Uses.HasUsesBelow}
 use Rattle.qm_tmesh.proofs.{Built.have_patches, Built.is_layout, Built.to_marked, UseTables.to_named}
 use Rattle.site_laws.proofs.Laws.{graph_law}
 use Rattle.existence_laws.proofs.{Arcs.arcs_exist, Arcs.node_list, Arcs.uses_exist, Patches.patches_exist}
@@ -19,30 +19,23 @@ module _ (faces : Faces) (marks : List Bool) (mesh : IsMesh faces) (full : IsFul
   nodes = map (is_node faces marks) (range_with_len 0 (vertex_count faces))
 
   marked : IsMarked faces marks nodes
-  marked = to_marked faces marks nodes mesh full refl
+  marked = to_marked mesh full refl
 
-  with_sides : (ps : List Rectangle) (parts : IsPartition (half_edges faces) (is_on marks) (λ d. d / 4) ps)
-      (arcs : List Path)
-      (below : AreArcsBelow faces marks (node_list faces marks nodes marked) (darts faces) arcs)
-      (uses : List SideArc) (table : HasUsesBelow faces arcs (length arcs) uses)
-      → (sides : List (List (List SideArc))) × AreAllFour faces arcs uses ps sides → (layout : Layout)
-      × IsCutLayout faces marks layout
-  with_sides ps parts arcs below uses table (sides, all) = (
-    record { nodes = node_list faces marks nodes marked; arcs = arcs; patches = ps; sides = sides },
-    is_layout faces marks nodes marked (darts faces) (omega arith) (node_list faces marks nodes marked) arcs uses ps
-        (λ d. d / 4) parts below table sides all refl,
-  )
+  with_sides : {ps : List Rectangle} (parts : IsPartition (half_edges faces) (is_on marks) (λ d. d / 4) ps)
+      {arcs : List Path} (below : AreArcsBelow faces marks (node_list marked) (darts faces) arcs) {uses : List SideArc}
+      → HasUsesBelow faces arcs (length arcs) uses → (layout : Layout) × IsCutLayout faces marks layout
+  with_sides {ps} parts {arcs} below table =
+      let (sides, all) = sides_exist (have_patches marked (omega arith) parts below table) in (
+        record { nodes = node_list marked; arcs = arcs; patches = ps; sides = sides },
+        is_layout marked (omega arith) parts below table all refl,
+      )
 
   exists : (layout : Layout) × IsCutLayout faces marks layout
   exists =
-      let ps = patches_exist faces marks (to_cutting faces marks mesh full) in
-      let arcs = arcs_exist faces marks nodes marked ps.0 ps.1 in
-      let uses = uses_exist faces marks nodes marked arcs.0
-      (to_named faces marks nodes marked (node_list faces marks nodes marked) (darts faces) arcs.0 arcs.1) in
-      with_sides ps.0 ps.1 arcs.0 arcs.1 uses.0 uses.1
-      (sides_exist faces arcs.0 uses.0 ps.0
-      (have_patches faces marks nodes marked (darts faces) (omega arith) (node_list faces marks nodes marked) arcs.0
-      uses.0 ps.0 (λ d. d / 4) ps.1 arcs.1 uses.1))
+      let ps = patches_exist (to_cutting faces marks mesh full) in
+      let arcs = arcs_exist marked ps.1 in
+      let uses = uses_exist marked (to_named marked arcs.1) in
+      with_sides ps.1 arcs.1 uses.1
 
   one : HasOneLayout faces marks
   one = record {
