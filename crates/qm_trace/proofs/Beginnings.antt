@@ -1,5 +1,5 @@
 -- The tables and the queue before the first instant.
-use Rattle.std.proofs.Common.{◌≡◌, ℕ, ◌+◌, ◌<◌, ◌≤◌, Bool, true, false, not, eqb, ◌&&◌, ◌||◌, List, [], ◌∷◌, length}
+use Rattle.std.proofs.Common.{◌≡◌, ℕ, ◌<◌, ◌≤◌, Bool, true, false, not, eqb, ◌&&◌, ◌||◌, List, [], ◌∷◌, length}
 use Rattle.std.proofs.Common.{map, replicate, ap, ◌∙◌, arith}
 use Rattle.std.proofs.lemmas.List.{get_or-map, length-map, length-replicate}
 use Rattle.std.specs.List.{list_any, range_with_len}
@@ -68,7 +68,7 @@ first_at faces marks starts riders covered taken nowhere left stood marked is_st
 pub first_queue : (starts : List ℕ) (riders : List Moving) → riders ≡ map begun starts
     → IsQueue riders (range_with_len 0 (length starts))
 first_queue starts riders is = record {
-  runs = λ r m. let p : (0 ≤ r) × (r < 0 + length starts) = range_among 0 (length starts) r m in (
+  runs = λ r m. let p = range_among 0 (length starts) r m in (
     omega (arith, p.1, ap length is, length-map starts begun),
     ap (λ (rs : List Moving). (rider_at rs r).stop) is
         ∙ ap (λ (x : Moving). x.stop) (get_or-map begun starts r 0 (begun 0) (omega (arith, p.1))),

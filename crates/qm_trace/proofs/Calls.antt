@@ -35,23 +35,16 @@ pub first_stood : {faces : Faces} → IsManifold faces → {nowhere stood : List
     → nowhere ≡ replicate (vertex_count faces) false → length stood ≡ length nowhere → starts ≡ start_darts faces
     → ((v : ℕ) → is_on stood v ≡ (is_on nowhere v || list_any (λ d. eqb (from_of faces d) v) starts))
     → stood ≡ marked_from (terrain_of faces) (start_darts faces) (replicate (vertex_count faces) false)
-first_stood {faces} m {nowhere} {stood} {starts} is long same each = ext_get_or false stood _
-    (long ∙ (ap length is ∙ sym (marked_long (terrain_of faces) (start_darts faces) nobody))) (λ v l. at v)
-  where
-    nobody : List Bool
-    nobody = replicate (vertex_count faces) false
-
-    at : (v : ℕ) → is_on stood v ≡ is_on (marked_from (terrain_of faces) (start_darts faces) nobody) v
-    at v = each v ∙ rw (
+first_stood {faces} m {nowhere} {stood} {starts} is long same each =
+    let nobody = replicate (vertex_count faces) false in
+    ext_get_or false stood _ (long ∙ (ap length is ∙ sym (marked_long (terrain_of faces) (start_darts faces) nobody)))
+    (λ v l. each v ∙ rw (
       is,
       same,
-      from_marks (terrain_of faces) (start_darts faces) nobody v (λ d n. omega (
-        arith,
-        all_below faces d ((started faces m).low d n),
-        length-replicate (vertex_count faces) false,
-      )),
+      from_marks (terrain_of faces) (start_darts faces) nobody v
+          (λ d n. omega (arith, all_below faces d ((started faces m).low d n), length-replicate (vertex_count faces) false)),
       none_on (vertex_count faces) v,
-    ) (sym (or-false _))
+    ) (sym (or-false _)))
 
 pub first_counted : {riders : Riders} {noted : List (Option ℕ)} (starts : List ℕ) → riders.list.items ≡ map begun starts
     → riders.running ≡ length starts → riders.untold ≡ 0 → noted ≡ replicate (length starts) None

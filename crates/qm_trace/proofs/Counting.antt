@@ -1,6 +1,6 @@
 -- How many riders pass a test with their notes.
 use Rattle.std.proofs.Common.{◌≡◌, ◌≢◌, ◌↔◌, ℕ, zero, suc, ◌+◌, ◌<◌, ◌≤◌, Bool, true, false, cond, eqb, ◌&&◌, List, ◌∷◌}
-use Rattle.std.proofs.Common.{map, length, set, replicate, Option, Some, None, sym, subst, ap, ◌∙◌, refl, arith, []}
+use Rattle.std.proofs.Common.{map, length, set, replicate, Option, Some, None, sym, ap, ◌∙◌, refl, arith, []}
 use Rattle.std.proofs.lemmas.Bool.{eq-eqb, ne_eqb, eqb-true}
 use Rattle.std.proofs.lemmas.List.{set-get_or}
 use Rattle.std.specs.List.{list_all}
@@ -12,6 +12,10 @@ use Rattle.motion_laws.proofs.Shown.{AreShown, IsNoted, shown_by}
 use Rattle.motion_laws.proofs.Among.{among_here, among_later}
 use Rattle.qm_trace.specs.Motions.{AreCounted, is_untold, is_untold_by, runs_on, tally}
 use Rattle.qm_trace.specs.{declared.telling.Riders.Riders, Tables.is_running}
+
+more_is : (b : Bool) (n : ℕ) → more_if b n ≡ more_if b 0 + n
+more_is true n = omega arith
+more_is false n = omega arith
 
 -- One rider and its note changed.
 pub tally_set : (p : Moving → Option ℕ → Bool) (rs : List Moving) (ns : List (Option ℕ)) (r : ℕ) (x : Moving)
@@ -25,51 +29,23 @@ tally_set p (q ∷ rs) (k ∷ ns) zero x n l h = exchange (p x n) (p q k) (tally
     exchange true false t = omega arith
     exchange false true t = omega arith
     exchange false false t = refl
-tally_set p (q ∷ rs) (k ∷ ns) (suc r) x n l h = behind (p q k) (tally_set p rs ns r x n (omega arith) (omega arith))
-  where
-    behind : (b : Bool) → tally p (set rs r x) (set ns r n) + more_if (p (rider_at rs r) (note_at ns r)) 0
-        ≡ tally p rs ns + more_if (p x n) 0
-        → more_if b (tally p (set rs r x) (set ns r n)) + more_if (p (rider_at rs r) (note_at ns r)) 0
-        ≡ more_if b (tally p rs ns) + more_if (p x n) 0
-    behind true e = omega (arith, e)
-    behind false e = e
+tally_set p (q ∷ rs) (k ∷ ns) (suc r) x n l h =
+    omega (arith, more_is (p q k) (tally p (set rs r x) (set ns r n)), more_is (p q k) (tally p rs ns),
+      tally_set p rs ns r x n (omega arith) (omega arith))
 tally_set p _ _ r x n l h = absurd (omega arith)
 
 pub tally_rider : (p : Moving → Option ℕ → Bool) (rs : List Moving) (ns : List (Option ℕ)) (r : ℕ) (x : Moving)
     → r < length rs → r < length ns → tally p (set rs r x) ns + more_if (p (rider_at rs r) (note_at ns r)) 0
     ≡ tally p rs ns + more_if (p x (note_at ns r)) 0
-tally_rider p rs ns r x l h =
-    subst (λ (ms : List (Option ℕ)). tally p (set rs r x) ms + more_if (p (rider_at rs r) (note_at ns r)) 0
-    ≡ tally p rs ns + more_if (p x (note_at ns r)) 0) (set-get_or ns r None) (tally_set p rs ns r x (note_at ns r) l h)
+tally_rider p rs ns r x l h = rw (set-get_or ns r None) at (tally_set p rs ns r x (note_at ns r) l h)
 
 -- Who passes is counted.
 pub tally_some : (p : Moving → Option ℕ → Bool) (rs : List Moving) (ns : List (Option ℕ)) (r : ℕ) → r < length rs
     → r < length ns → p (rider_at rs r) (note_at ns r) ≡ true → 0 < tally p rs ns
-tally_some p rs ns r l h e = omega (
-  arith,
-  tally_rider p rs ns r (rider_at rs r) l h,
-  one,
-  ap (λ (qs : List Moving). tally p qs ns) (set-get_or rs r (begun 0)),
-  zero_more p rs ns r l h,
-)
-  where
-    one : more_if (p (rider_at rs r) (note_at ns r)) 0 ≡ 1
-    one = ap (λ (b : Bool). more_if b 0) e
-
-    zero_more : (p : Moving → Option ℕ → Bool) (rs : List Moving) (ns : List (Option ℕ)) (r : ℕ) → r < length rs
-        → r < length ns → more_if (p (rider_at rs r) (note_at ns r)) 0 ≤ tally p rs ns
-    zero_more p (q ∷ rs) (k ∷ ns) zero l h = at (p q k)
-      where
-        at : (b : Bool) → more_if b 0 ≤ more_if b (tally p rs ns)
-        at true = omega arith
-        at false = omega arith
-    zero_more p (q ∷ rs) (k ∷ ns) (suc r) l h = at (p q k) (zero_more p rs ns r (omega arith) (omega arith))
-      where
-        at : (b : Bool) → more_if (p (rider_at rs r) (note_at ns r)) 0 ≤ tally p rs ns
-            → more_if (p (rider_at rs r) (note_at ns r)) 0 ≤ more_if b (tally p rs ns)
-        at true e = omega (arith, e)
-        at false e = e
-    zero_more p _ _ r l h = absurd (omega arith)
+tally_some p (q ∷ rs) (k ∷ ns) zero l h e = rw e (omega arith)
+tally_some p (q ∷ rs) (k ∷ ns) (suc r) l h e =
+    omega (arith, more_is (p q k) (tally p rs ns), tally_some p rs ns r (omega arith) (omega arith) e)
+tally_some p _ _ r l h e = absurd (omega arith)
 
 pub tally_none : (p : Moving → Option ℕ → Bool) (rs : List Moving) (ns : List (Option ℕ))
     → ((r : ℕ) → r < length rs → p (rider_at rs r) (note_at ns r) ≡ false) → tally p rs ns ≡ 0
@@ -87,28 +63,25 @@ waiting_is [] ns = refl
 waiting_is (q ∷ rs) [] = refl
 waiting_is (q ∷ rs) (k ∷ ns) = ap (more_if (is_waiting q.stop k)) (waiting_is rs ns)
 
+not_noted : (o : Option Stop) (d : ℕ) → is_untold_by o d None ≡ false
+not_noted None d = refl
+not_noted (Some s) d = refl
+
+waits_bare : (o : Option Stop) → is_waiting o None ≡ is_running o
+waits_bare None = refl
+waits_bare (Some s) = refl
+
 -- Without notes all who run wait, and nobody is untold.
 pub none_untold : (rs : List Moving) (k : ℕ) → tally is_untold rs (replicate k None) ≡ 0
 none_untold [] k = refl
 none_untold (q ∷ rs) zero = refl
-none_untold (q ∷ rs) (suc k) = at q.stop (none_untold rs k)
-  where
-    at : (o : Option Stop) → tally is_untold rs (replicate k None) ≡ 0
-        → more_if (is_untold_by o q.dart None) (tally is_untold rs (replicate k None)) ≡ 0
-    at None e = e
-    at (Some s) e = e
+none_untold (q ∷ rs) (suc k) = rw (not_noted q.stop q.dart) (none_untold rs k)
 
 pub all_wait : (rs : List Moving) (ns : List (Option ℕ)) → length ns ≡ length rs
     → waiting rs (replicate (length ns) None) ≡ tally runs_on rs ns
 all_wait [] ns e = refl
 all_wait (q ∷ rs) [] e = absurd (omega arith)
-all_wait (q ∷ rs) (k ∷ ns) e = at q.stop (all_wait rs ns (omega arith))
-  where
-    at : (o : Option Stop) → waiting rs (replicate (length ns) None) ≡ tally runs_on rs ns
-        → more_if (is_waiting o None) (waiting rs (replicate (length ns) None))
-        ≡ more_if (is_running o) (tally runs_on rs ns)
-    at None e = ap suc e
-    at (Some s) e = e
+all_wait (q ∷ rs) (k ∷ ns) e = rw (waits_bare q.stop, all_wait rs ns (omega arith)) refl
 
 -- Whatever the notes, as many run.
 pub tally_runs : (rs : List Moving) (ns ms : List (Option ℕ)) → length ns ≡ length ms → tally runs_on rs ns
@@ -151,10 +124,6 @@ untold_is g stood ds V (b ∷ bs) (r ∷ rs) (n ∷ ns) a onward =
     later None d m = m
     later (Some e) d m = among_later d e (darts_in ns) m
 
-    not_noted : (o : Option Stop) (d : ℕ) → is_untold_by o d None ≡ false
-    not_noted None d = refl
-    not_noted (Some s) d = refl
-
     -- Who was told is not untold.
     was_told : (d : ℕ) (o : Option Stop) → (o ≡ None → or_else (straight g d) d ≢ d)
         → is_untold (after_ride g d b.rides o) (Some d) ≡ false
@@ -166,20 +135,17 @@ untold_is g stood ds V (b ∷ bs) (r ∷ rs) (n ∷ ns) a onward =
         → (stop_of g stood ds d ≡ None → or_else (straight g d) d ≢ d) → eqb (tally is_untold rs ns) 0
         ≡ list_all (λ e. V (end_of g e)) (darts_in ns) → eqb (more_if (is_untold r (Some d)) (tally is_untold rs ns)) 0
         ≡ (t && list_all (λ e. V (end_of g e)) (darts_in ns))
-    by_end d true is i s f rest = ap (λ (q : Bool). eqb (more_if q (tally is_untold rs ns)) 0)
-        (ap (λ (x : Moving). is_untold x (Some d)) s ∙ was_told d (stop_of g stood ds d) f) ∙ rest
+    by_end d true is i s f rest = rw (s, was_told d (stop_of g stood ds d) f) rest
     by_end d false is i s f rest =
-        let e : is_untold r (Some d) ≡ true = ap (λ (x : Moving). is_untold x (Some d)) s
-        ∙ (ap (λ (o : Option Stop). is_untold_by o b.dart (Some d)) i.0 ∙ eq-eqb b.dart d (sym i.1)) in
-        ap (λ (q : Bool). eqb (more_if q (tally is_untold rs ns)) 0) e ∙ ne_eqb (suc (tally is_untold rs ns)) 0
-        (λ (z : suc (tally is_untold rs ns) ≡ 0). omega (arith, z))
+        let e : is_untold r (Some d) ≡ true = rw (s, i.0) (eq-eqb b.dart d (sym i.1)) in
+        rw e (ne_eqb (suc (tally is_untold rs ns)) 0 (λ (z : suc (tally is_untold rs ns) ≡ 0). omega arith))
 
     at : (n : Option ℕ) → IsNoted b n → r ≡ shown_by g stood ds V b n
         → ((d : ℕ) → is_among d (with_note n (darts_in ns)) ≡ true → stop_of g stood ds d ≡ None
         → or_else (straight g d) d ≢ d) → eqb (tally is_untold rs ns) 0 ≡ list_all (λ d. V (end_of g d)) (darts_in ns)
         → eqb (more_if (is_untold r n) (tally is_untold rs ns)) 0
         ≡ list_all (λ d. V (end_of g d)) (with_note n (darts_in ns))
-    at None i s f rest = ap (λ (q : Bool). eqb (more_if q (tally is_untold rs ns)) 0) (not_noted r.stop r.dart) ∙ rest
+    at None i s f rest = rw (not_noted r.stop r.dart) rest
     at (Some d) i s f rest = by_end d (V (end_of g d)) refl i s (f d (among_here d d (darts_in ns) refl)) rest
 untold_is g stood ds V _ _ _ a onward = absurd a
 
@@ -214,8 +180,8 @@ tally_few p (q ∷ rs) [] = omega arith
 tally_few p (q ∷ rs) (k ∷ ns) = at (p q k) (tally_few p rs ns)
   where
     at : (b : Bool) → tally p rs ns ≤ length rs → more_if b (tally p rs ns) ≤ suc (length rs)
-    at true e = omega (arith, e)
-    at false e = omega (arith, e)
+    at true e = omega arith
+    at false e = omega arith
 
 -- A ride: as many run, one more is untold, and one less waits.
 module _ (rs : List Moving) (ns : List (Option ℕ)) (r : ℕ) (low : r < length rs) (long : length ns ≡ length rs)

@@ -1,6 +1,6 @@
 -- The queue of the next instant, and the end of the motion.
 use Rattle.std.proofs.Common.{◌≡◌, ℕ, zero, suc, ◌+◌, ◌-◌, ◌<◌, ◌≤◌, Bool, true, false, not, eqb, is_some, List, ◌∷◌}
-use Rattle.std.proofs.Common.{◌++◌, length, get_or, map, Option, Some, None, sym, ap, ◌∙◌, refl, arith, [], ◌||◌}
+use Rattle.std.proofs.Common.{◌++◌, length, map, Option, Some, None, sym, ap, ◌∙◌, refl, arith, [], ◌||◌}
 use Rattle.std.proofs.lemmas.Bool.{false≢true}
 use Rattle.std.proofs.lemmas.List.{ext_get_or, get_or-map, length-map}
 use Rattle.std.proofs.lemmas.List.FromFn.{length-range_with_len, get_or-map-range_with_len}
@@ -155,16 +155,14 @@ marks_are faces covered marks long each =
 pub cut_is : (faces : Faces) (s : State) (covered : List Bool)
     → ((d : ℕ) → d < darts faces → is_on covered d ≡ s.covered d) → map (is_closed_at faces covered) (all_darts faces)
     ≡ map (is_cut (terrain_of faces) s) (all_darts faces)
-cut_is faces s covered same = ext_get_or false (map (is_closed_at faces covered) (all_darts faces))
-    (map (is_cut (terrain_of faces) s) (all_darts faces))
-    (closed_long faces covered ∙ sym (length-map (all_darts faces) (is_cut (terrain_of faces) s)
-    ∙ length-range_with_len 0 (darts faces))) (λ d l. at d (omega (arith, l, closed_long faces covered)))
-  where
-    at : (d : ℕ) → d < darts faces → get_or (map (is_closed_at faces covered) (all_darts faces)) d false
-        ≡ get_or (map (is_cut (terrain_of faces) s) (all_darts faces)) d false
-    at d l = get_or-map-range_with_len (is_closed_at faces covered) 0 (darts faces) d d false l (omega arith)
-        ∙ (ap (λ b. b || not (is_some (twin_of faces d))) (same d l)
-        ∙ sym (get_or-map-range_with_len (is_cut (terrain_of faces) s) 0 (darts faces) d d false l (omega arith)))
+cut_is faces s covered same =
+    ext_get_or false (map (is_closed_at faces covered) (all_darts faces)) (map (is_cut (terrain_of faces) s)
+    (all_darts faces)) (closed_long faces covered ∙ sym (length-map (all_darts faces) (is_cut (terrain_of faces) s)
+    ∙ length-range_with_len 0 (darts faces))) (λ d h.
+      let l : d < darts faces = omega (arith, h, closed_long faces covered) in
+      get_or-map-range_with_len (is_closed_at faces covered) 0 (darts faces) d d false l (omega arith)
+      ∙ (ap (λ b. b || not (is_some (twin_of faces d))) (same d l)
+      ∙ sym (get_or-map-range_with_len (is_cut (terrain_of faces) s) 0 (darts faces) d d false l (omega arith))))
 
 -- No rider is lost.
 finish_long : (g : Terrain) (k : ℕ) (s : State) → length (finish g k s).riders ≡ length s.riders

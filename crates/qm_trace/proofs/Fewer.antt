@@ -1,6 +1,6 @@
 -- Each event leaves less that can still happen.
 use Rattle.std.proofs.Common.{◌≡◌, ℕ, zero, suc, ◌+◌, ◌*◌, ◌-◌, ◌<◌, ◌≤◌, Bool, true, false, cond, List, ◌∷◌, ◌++◌}
-use Rattle.std.proofs.Common.{length, set, map, replicate, Option, Some, None, sym, subst, ap, ◌∙◌, refl, arith, []}
+use Rattle.std.proofs.Common.{length, set, map, replicate, Option, Some, None, sym, ap, ◌∙◌, refl, arith, []}
 use Rattle.std.proofs.lemmas.Bool.{false≢true}
 use Rattle.std.proofs.lemmas.List.{length-map, length-replicate, length-set}
 use Rattle.std.specs.List.{list_any}
@@ -100,7 +100,7 @@ module _ {faces : Faces} (m : IsManifold faces) where
       → Leads (terrain_of faces) (first_event_state faces) done x → rides_of x.riders ≡ c
       → Leads (terrain_of faces) x es y → rides_of y.riders ≡ c + rides_in es
   rides_from done [] x y c l e led = let n : c + 0 ≡ c = omega arith in
-      rw n (subst (λ (s : EventState). rides_of s.riders ≡ c) led e)
+      rw n (rw (← led) e)
   rides_from done (Ride r ∷ es) x y c l e led =
       let n : c + suc (rides_in es) ≡ suc c + rides_in es = omega arith in
       rw n (rides_from (done ++ Ride r ∷ []) es (after_ride_of (terrain_of faces) x r) y (suc c)
@@ -123,8 +123,8 @@ pub ride_less : {faces : Faces} {x : EventState} {r : ℕ} → MayRide faces x r
 ride_less {faces} {x} {r} k =
     let more = rides_set x.riders r k.low in
     let few = rides_few (reached k.now.mesh (after_ride_of (terrain_of faces) x r) (ride_reached k)) in
-    let b : ℕ = darts faces - suc (rides_of x.riders) in
-    let n : ℕ = length x.settled + 2 in
+    let b = darts faces - suc (rides_of x.riders) in
+    let n = length x.settled + 2 in
     let here : darts faces - rides_of x.riders ≡ suc b = omega (arith, more, few) in
     let there : darts faces - rides_of (set x.riders r (ridden_once_more (rider_at x.riders r))) ≡ b =
     ap (λ t. darts faces - t) more in

@@ -1,10 +1,10 @@
 -- By the marks of an instant riders ride as the motion says.
-use Rattle.std.proofs.Common.{◌≡◌, ℕ, suc, ◌<◌, Bool, true, false, cond, not, ◌&&◌, List, length, get_or, map, Option}
+use Rattle.std.proofs.Common.{◌≡◌, ℕ, suc, ◌<◌, Bool, true, false, cond, not, ◌&&◌, List, length, map, Option}
 use Rattle.std.proofs.Common.{Some, None, sym, ap, ◌∙◌, refl, arith, ◌||◌}
 use Rattle.std.proofs.lemmas.Bool.{false≢true}
 use Rattle.std.proofs.lemmas.List.{ext_get_or, get_or-map, length-map}
 use Rattle.def_mesh.specs.Darts.{next_of, prev_of, twin_of, to_of}
-use Rattle.def_mesh.specs.{Faces.Faces, Manifold.IsManifold, Vertices.vertex_count, Kinds.is_inner, Kinds.is_singular}
+use Rattle.def_mesh.specs.{Faces.Faces, Manifold.IsManifold, Kinds.is_inner, Kinds.is_singular}
 use Rattle.def_mesh.specs.HalfEdges.{half_edges}
 use Rattle.def_cut.specs.Motion.{end_of, ridden, is_among, is_found, is_met, arrivals, goes_on, stop_of, after_ride}
 use Rattle.def_cut.specs.Motion.{ride_on, ride, begun, State, Terrain}
@@ -48,16 +48,14 @@ module _ {faces : Faces} (m : IsManifold faces) {begin : ℕ → Bool} {first s 
       → cond (is_crowded faces (twin_of faces d) taken) (Some (Tie (end_of g d))) None
       ≡ cond (goes_on g (arrivals g ds (end_of g d)) d) None (Some (Tie (end_of g d)))
   crowded_by d a b c n off x =
-      ap (λ (q : Bool). cond q (Some (Tie (end_of g d))) None) crowd
-      ∙ (tie_or_on (is_among (prev_of a) ds) (is_among (prev_of b) ds) (Some (Tie (end_of g d)))
-      ∙ sym (ap (λ (q : Bool). cond q None (Some (Tie (end_of g d)))) (two_bits g (terrain faces m) s.stood ds
-      reached.apart reached.low reached.left d a b c n off x)))
-    where
-      crowd : is_crowded faces (twin_of faces d) taken ≡ (is_among (prev_of a) ds || is_among (prev_of b) ds)
-      crowd = ap (λ o. is_crowded faces o taken)
-          (sym (ap (twin_of faces) ((terrain faces m).half.prev_next d)) ∙ x.first)
-          ∙ (ap (λ q. q || is_faced (twin_of faces (prev_of a)) taken) (marked (prev_of a))
-          ∙ ap (λ q. is_among (prev_of a) ds || q) (ap (λ o. is_faced o taken) x.second ∙ marked (prev_of b)))
+      let tie = Some (Tie (end_of g d)) in
+      let crowd : is_crowded faces (twin_of faces d) taken ≡ (is_among (prev_of a) ds || is_among (prev_of b) ds) =
+      ap (λ o. is_crowded faces o taken) (sym (ap (twin_of faces) ((terrain faces m).half.prev_next d)) ∙ x.first)
+      ∙ (ap (λ q. q || is_faced (twin_of faces (prev_of a)) taken) (marked (prev_of a))
+      ∙ ap (λ q. is_among (prev_of a) ds || q) (ap (λ o. is_faced o taken) x.second ∙ marked (prev_of b))) in
+      ap (λ (q : Bool). cond q tie None) crowd
+      ∙ (tie_or_on (is_among (prev_of a) ds) (is_among (prev_of b) ds) tie ∙ sym (ap (λ (q : Bool). cond q None tie)
+      (two_bits g (terrain faces m) s.stood ds reached.apart reached.low reached.left d a b c n off x)))
 
   -- So the rider by d stops as the motion says, where it is known whether somebody had stood at its end.
   pub stop_same : (d : ℕ) (stood : Bool) → is_among d (ridden s.riders) ≡ true
@@ -66,16 +64,10 @@ module _ {faces : Faces} (m : IsManifold faces) {begin : ℕ → Bool} {first s 
       ≡ stop_of (terrain_of faces) s.stood (ridden s.riders) d
   stop_same d stood n same = rw (met_same (twin_of faces d), same) (in_a_row (is_met g ds d)
       (not (is_inner faces (to_of faces d))) (is_singular faces (to_of faces d)) (s.stood (end_of g d)) _ _ _ _ _ _
-      last)
-    where
-      last : is_met g ds d ≡ false → not (is_inner faces (to_of faces d)) ≡ false
-          → is_singular faces (to_of faces d) ≡ false → s.stood (end_of g d) ≡ false
-          → cond (is_crowded faces (twin_of faces d) taken) (Some (Tie (end_of g d))) None
-          ≡ cond (goes_on g (arrivals g ds (end_of g d)) d) None (Some (Tie (end_of g d)))
-      last unmet inner regular off =
-          let t = terrain faces m in
-          let x = t.crossed (next_of d) (t.half.next_low d (reached.low d n)) inner regular in
-          crowded_by d x.0 x.1 x.2 n off x.3
+      (λ unmet inner regular off.
+        let t = terrain faces m in
+        let x = t.crossed (next_of d) (t.half.next_low d (reached.low d n)) inner regular in
+        crowded_by d x.0 x.1 x.2 n off x.3))
 
 module _ {faces : Faces} (m : IsManifold faces) {marks : List Bool} {k : ℕ} {riders : List Moving} {queue : List ℕ}
     {stood taken : List Bool} (i : IsInstant faces marks k riders queue stood taken) where
@@ -95,8 +87,7 @@ module _ {faces : Faces} (m : IsManifold faces) {marks : List Bool} {k : ℕ} {r
       let runs : (rider_at riders r).stop ≡ None = (i.waits.runs r on).1 in
       let there : is_among d (ridden now.riders) ≡ true =
       sym (ap (λ (rs : List Moving). is_among d (ridden rs)) i.riders_are) ∙ runs_ridden riders r l runs in
-      let end_low : to_of faces d < vertex_count faces =
-      all_below faces (next_of d) ((terrain faces m).half.next_low d (reached.low d there)) in
+      let end_low = all_below faces (next_of d) ((terrain faces m).half.next_low d (reached.low d there)) in
       ap (after_ride (terrain_of faces) d (rider_at riders r).rides)
       (stop_same m reached taken (λ e. i.taken_is e ∙ ap (λ (rs : List Moving). is_among e (ridden rs)) i.riders_are) d
       (is_on stood (to_of faces d)) there (i.stood_is (to_of faces d) end_low))
@@ -110,11 +101,9 @@ module _ {faces : Faces} (m : IsManifold faces) {marks : List Bool} {k : ℕ} {r
 
   pub next_riders : (new : List Moving) → length new ≡ length riders → AreRode faces stood taken queue riders new
       → new ≡ (state_at faces marks (suc k)).riders
-  next_riders new long each = ext_get_or (begun 0) new (map f riders) (long ∙ sym (length-map riders f))
-      (λ r l. at r (omega (arith, l, long))) ∙ ap (map f) i.riders_are
-    where
-      f : Moving → Moving
-      f = ride (terrain_of faces) now.stood (ridden now.riders)
-
-      at : (r : ℕ) → r < length riders → get_or new r (begun 0) ≡ get_or (map f riders) r (begun 0)
-      at r l = each r l ∙ (one_rider r l (is_among r queue) refl ∙ sym (get_or-map f riders r (begun 0) (begun 0) l))
+  next_riders new long each =
+      let f = ride (terrain_of faces) now.stood (ridden now.riders) in
+      ext_get_or (begun 0) new (map f riders) (long ∙ sym (length-map riders f)) (λ r h.
+        let l : r < length riders = omega (arith, h, long) in
+        each r l ∙ (one_rider r l (is_among r queue) refl ∙ sym (get_or-map f riders r (begun 0) (begun 0) l)))
+      ∙ ap (map f) i.riders_are

@@ -2,25 +2,20 @@
 use Rattle.std.proofs.Common.{◌≡◌, ℕ, ◌+◌, ◌<◌, Bool, true, false, cond, eqb, ◌||◌, List, [], ◌∷◌, ◌++◌, length, get_or}
 use Rattle.std.proofs.Common.{set, take, Option, Some, None, sym, ap, ◌∙◌, refl, inl, inr, arith}
 use Rattle.std.proofs.Math.Bool.{or-false}
-use Rattle.std.proofs.lemmas.Bool.{cases_eq, eq-eqb, ne_eqb, eqb-true, false≢true}
+use Rattle.std.proofs.lemmas.Bool.{cases_eq, eq-eqb, ne_eqb, eqb-true, false≢true, or_right}
+use Rattle.std.proofs.lemmas.List.Folds.{list_any-append}
 use Rattle.std.proofs.lemmas.List.{take_more, get_or-set_same, get_or-set_other}
 use Rattle.std.specs.List.{list_any, range_with_len}
 use Rattle.list_laws.proofs.Filters.{range_more}
 use Rattle.sum_laws.proofs.Tests.{same_test}
-use Rattle.def_mesh.specs.{Faces.Faces, Darts.darts, Darts.twin_of, Manifold.IsManifold, HalfEdges.IsQuadManifold}
-use Rattle.def_mesh.specs.HalfEdges.{half_edges}
+use Rattle.def_mesh.specs.{Faces.Faces, Darts.darts, Darts.twin_of, Manifold.IsManifold}
 use Rattle.def_cut.specs.{FullCut.is_on, Motion.is_among, Motion.is_found, Events.mark_twin}
 use Rattle.mesh_laws.proofs.HalfEdges.{manifold_law}
 use Rattle.motion_laws.proofs.{Among.among_here, Marks.twin_marks, Marks.found_more}
 
 -- One more at the end of a list.
 any_snoc : (p : ℕ → Bool) (xs : List ℕ) (x : ℕ) → list_any p (xs ++ x ∷ []) ≡ (list_any p xs || p x)
-any_snoc p [] x = or-false (p x)
-any_snoc p (y ∷ ys) x = ap (λ b. p y || b) (any_snoc p ys x) ∙ at (p y) (list_any p ys) (p x)
-  where
-    at : (a b c : Bool) → (a || (b || c)) ≡ ((a || b) || c)
-    at true b c = refl
-    at false b c = refl
+any_snoc p xs x = list_any-append p xs (x ∷ []) ∙ ap (λ b. list_any p xs || b) (or-false (p x))
 
 pub or_shift : (a b c : Bool) → ((a || b) || c) ≡ (a || (b || c))
 or_shift true b c = refl
@@ -39,19 +34,24 @@ among_more ds i d l = ap (is_among d) (take_more ds i 0 l) ∙ any_snoc (λ e. e
 pub marks_more : (ds : List ℕ) (i : ℕ) (value : Bool) (marks old : List Bool) → i < length ds
     → get_or ds i 0 < length marks → ((d : ℕ) → is_on marks d ≡ cond (is_among d (take i ds)) value (is_on old d))
     → (d : ℕ) → is_on (set marks (get_or ds i 0) value) d ≡ cond (is_among d (take (i + 1) ds)) value (is_on old d)
-marks_more ds i value marks old l low each d = elim (cases_eq d (get_or ds i 0)) [
-  | inl e ↦ ap (λ x. get_or (set marks (get_or ds i 0) value) x false) e
-      ∙ (get_or-set_same marks (get_or ds i 0) value false low
-      ∙ sym (ap (λ (b : Bool). cond b value (is_on old d)) (among_more ds i d l
-      ∙ (ap (λ b. is_among d (take i ds) || b) (eq-eqb d (get_or ds i 0) e) ∙ on (is_among d (take i ds))))))
-  | inr ne ↦ get_or-set_other marks (get_or ds i 0) d value false ne
-      ∙ (each d ∙ sym (ap (λ (b : Bool). cond b value (is_on old d)) (among_more ds i d l
-      ∙ (ap (λ b. is_among d (take i ds) || b) (ne_eqb d (get_or ds i 0) ne) ∙ or-false (is_among d (take i ds))))))
-]
-  where
-    on : (b : Bool) → (b || true) ≡ true
-    on true = refl
-    on false = refl
+marks_more ds i value marks old l low each d =
+    let x = get_or ds i 0 in
+    elim (cases_eq d (get_or ds i 0)) [
+      | inl e ↦ rw (
+        e,
+        get_or-set_same marks x value false low,
+        among_more ds i x l,
+        eq-eqb x x refl,
+        or_right (is_among x (take i ds)) true refl,
+      ) refl
+      | inr ne ↦ rw (
+        get_or-set_other marks x d value false ne,
+        each d,
+        among_more ds i d l,
+        ne_eqb d x ne,
+        or-false (is_among d (take i ds)),
+      ) refl
+    ]
 
 -- One edge more.
 twin_test : (faces : Faces) → IsManifold faces → (d e : ℕ) → d < darts faces → e < darts faces
@@ -66,9 +66,8 @@ twin_test faces m d e ld le = same_test _ _ (one_way d e ld) (one_way e d le)
             ≡ true
         at None is f = absurd (false≢true f)
         at (Some u) is f =
-            let same : u ≡ e = eqb-true u e (sym (or-false (eqb u e)) ∙ f) in
-            let laws : IsQuadManifold (half_edges faces) = manifold_law faces m in
-            ap (λ o. is_found o (d ∷ [])) (laws.twin_twin d e ld (is ∙ ap Some same)) ∙ among_here d d [] refl
+            let same = eqb-true u e (sym (or-false (eqb u e)) ∙ f) in
+            rw ((manifold_law faces m).twin_twin d e ld (is ∙ ap Some same)) (among_here d d [] refl)
 
 shuffle : (c m f a b : Bool) → ((c || (m || f)) || (a || b)) ≡ (c || ((m || a) || (f || b)))
 shuffle true m f a b = refl
@@ -84,20 +83,15 @@ pub cover_more : (faces : Faces) → IsManifold faces → (ds : List ℕ) (i : �
     → d < darts faces → is_on now d
     ≡ (is_on old d || (is_among d (take (i + 1) ds) || is_found (twin_of faces d) (take (i + 1) ds)))
 cover_more faces m ds i covered old now l low long is each d ld =
-    ap (λ (b : List Bool). is_on b d) is
-    ∙ (twin_marks (twin_of faces (get_or ds i 0)) covered (get_or ds i 0) d (omega (arith, low, long))
-    (λ u w. omega (arith, laws.twin_low (get_or ds i 0) u low w, long))
-    ∙ (ap (λ b. b || (eqb d (get_or ds i 0) || is_found (twin_of faces (get_or ds i 0)) (d ∷ []))) (each d ld)
-    ∙ (ap (λ b. (is_on old d || (is_among d (take i ds) || is_found (twin_of faces d) (take i ds)))
-    || (eqb d (get_or ds i 0) || b)) (twin_test faces m (get_or ds i 0) d low ld)
-    ∙ (shuffle (is_on old d) (is_among d (take i ds)) (is_found (twin_of faces d) (take i ds)) (eqb d (get_or ds i 0))
-    (is_found (twin_of faces d) (get_or ds i 0 ∷ []))
-    ∙ (ap (λ b. is_on old d || (b
-    || (is_found (twin_of faces d) (take i ds) || is_found (twin_of faces d) (get_or ds i 0 ∷ []))))
-    (sym (among_more ds i d l))
-    ∙ ap (λ b. is_on old d || (is_among d (take (i + 1) ds) || b))
-    (sym (found_more (twin_of faces d) (take i ds) (take (i + 1) ds) (get_or ds i 0)
-    (λ e. among_more ds i e l))))))))
-  where
-    laws : IsQuadManifold (half_edges faces)
-    laws = manifold_law faces m
+    let x = get_or ds i 0 in
+    let laws = manifold_law faces m in
+    rw (
+      is,
+      twin_marks (twin_of faces x) covered x d (omega (arith, low, long))
+          (λ u w. omega (arith, laws.twin_low x u low w, long)),
+      each d ld,
+      twin_test faces m x d low ld,
+      among_more ds i d l,
+      found_more (twin_of faces d) (take i ds) (take (i + 1) ds) x (λ e. among_more ds i e l),
+    ) (shuffle (is_on old d) (is_among d (take i ds)) (is_found (twin_of faces d) (take i ds)) (eqb d x)
+    (is_found (twin_of faces d) (x ∷ [])))

@@ -1,15 +1,16 @@
 -- Notes that are made, and taken back.
 use Rattle.std.proofs.Common.{◌≡◌, ◌≢◌, ◌⊎◌, ℕ, suc, ◌+◌, ◌<◌, ◌≤◌, Bool, true, false, cond, eqb, List, ◌∷◌, ◌++◌}
 use Rattle.std.proofs.Common.{length, get_or, set, take, replicate, Option, Some, None, sym, subst, ap, ◌∙◌, refl, inl}
-use Rattle.std.proofs.Common.{inr, arith, [], ◌||◌}
+use Rattle.std.proofs.Common.{inr, arith, []}
 use Rattle.std.proofs.lemmas.Option.{none-some, same_Some}
-use Rattle.std.proofs.lemmas.Bool.{cases_eq, eq-eqb, ne_eqb, false≢true, false_from_ne_true, or_right}
+use Rattle.std.proofs.lemmas.Bool.{cases_eq, eq-eqb, ne_eqb, false≢true, false_from_ne_true, or_left, or_right}
+use Rattle.std.proofs.lemmas.List.Folds.{list_any-append}
 use Rattle.std.proofs.lemmas.List.{get_or-set_same, get_or-set_other, length-set, length-replicate, get_or_default}
 use Rattle.std.specs.Vec.{vec_capacity}
 use Rattle.std.proofs.Math.Bool.{or-false}
 use Rattle.def_mesh.specs.{Faces.Faces, Darts.darts, Darts.to_of}
 use Rattle.def_cut.specs.{FullCut.is_on, Motion.is_among, Events.darts_in, Events.note_at}
-use Rattle.motion_laws.proofs.Among.{among_here, among_later, among_cases}
+use Rattle.motion_laws.proofs.Among.{among_here, among_cases}
 use Rattle.motion_laws.proofs.Marks.{among_append, apart_append, apart_few, mark_is, no_darts, noted_more, among_at}
 use Rattle.motion_laws.proofs.Order.{v_low}
 use Rattle.qm_trace.specs.{declared.notes.Notes.Notes, Motions.AreNotes, Tables.AreEachOnce}
@@ -27,37 +28,23 @@ all_off (b ∷ marks) each = ap (λ c. c ∷ marks) (each 0) ∙ ap (λ bs. fals
 -- There is room in the queue for a rider without a note.
 pub has_room : (notes : Notes) (r : ℕ) → AreNotes notes → r < length notes.noted.items → note_at notes.noted.items r
     ≡ None → length notes.queue.items < vec_capacity notes.queue
-has_room notes r are low fresh =
-    omega (
-      arith,
-      are.room,
-      apart_few (length notes.noted.items) (r ∷ notes.queue.items) (
-        new,
-        all_apart notes.queue.items are.queue_apart,
-      ) each,
-    )
-  where
-    new : is_among r notes.queue.items ≡ false
-    new = false_from_ne_true _ (λ a. let d : (d : ℕ) × (note_at notes.noted.items r ≡ Some d) = are.queue_is r a in
-        none-some d.0 (sym fresh ∙ d.1))
-
-    each : (q : ℕ) → is_among q (r ∷ notes.queue.items) ≡ true → q < length notes.noted.items
-    each q a = elim (among_cases q r notes.queue.items a) [
-      | inl e ↦ subst (λ (x : ℕ). x < length notes.noted.items) (sym e) low
-      | inr b ↦ let d : (d : ℕ) × (note_at notes.noted.items q ≡ Some d) = are.queue_is q b in
-          noted_short notes.noted.items q d.0 d.1
-    ]
+has_room notes r are low fresh = omega (
+  arith,
+  are.room,
+  apart_few (length notes.noted.items) (r ∷ notes.queue.items) (
+    false_from_ne_true _ (λ a. let d = are.queue_is r a in none-some d.0 (sym fresh ∙ d.1)),
+    all_apart notes.queue.items are.queue_apart,
+  ) (λ q a. elim (among_cases q r notes.queue.items a) [
+    | inl e ↦ rw e low
+    | inr b ↦ let d = are.queue_is q b in noted_short notes.noted.items q d.0 d.1
+  ]),
+)
 
 among_left : (q : ℕ) (xs ys : List ℕ) → is_among q xs ≡ true → is_among q (xs ++ ys) ≡ true
-among_left q [] ys a = absurd (false≢true a)
-among_left q (x ∷ xs) ys a = elim (among_cases q x xs a) [
-  | inl e ↦ among_here q x (xs ++ ys) e
-  | inr b ↦ among_later q x (xs ++ ys) (among_left q xs ys b)
-]
+among_left q xs ys a = list_any-append (λ e. eqb q e) xs ys ∙ or_left _ _ a
 
 among_last : (q : ℕ) (xs : List ℕ) → is_among q (xs ++ q ∷ []) ≡ true
-among_last q [] = among_here q q [] refl
-among_last q (x ∷ xs) = among_later q x (xs ++ q ∷ []) (among_last q xs)
+among_last q xs = list_any-append (λ e. eqb q e) xs (q ∷ []) ∙ or_right _ _ (among_here q q [] refl)
 
 -- One note more.
 pub one_note : (notes new : Notes) (r d : ℕ) → AreNotes notes → r < length notes.noted.items
@@ -66,71 +53,58 @@ pub one_note : (notes new : Notes) (r d : ℕ) → AreNotes notes → r < length
     → new.places.items ≡ set notes.places.items d r → new.queue.items ≡ notes.queue.items ++ r ∷ []
     → vec_capacity notes.queue ≤ vec_capacity new.queue → AreNotes new
 one_note notes new r d are low d_low fresh alone is_noted is_taken is_places is_queue room = record {
-  places_long = ap length is_places ∙ (length-set notes.places.items d r
-      ∙ (are.places_long ∙ sym (ap length is_taken ∙ length-set notes.taken.items d true)));
-  taken_is = λ e. ap (λ (xs : List Bool). is_on xs e) is_taken ∙ (mark_is notes.taken.items d e d_low
-      ∙ (ap (λ b. b || eqb e d) (are.taken_is e) ∙ sym (ap (λ ns. is_among e (darts_in ns)) is_noted
-      ∙ noted_more notes.noted.items r d e low fresh)));
-  slot = λ q e n. ap (λ (xs : List ℕ). get_or xs e 0) is_places ∙ slot_at q e (sym (ap (λ ns. note_at ns q) is_noted)
-      ∙ n);
-  queue_has = λ q e n. ap (is_among q) is_queue ∙ has_at q e (sym (ap (λ ns. note_at ns q) is_noted) ∙ n);
-  queue_is = λ q a. let e : (e : ℕ) × (note_at (set notes.noted.items r (Some d)) q ≡ Some e) =
-      is_at q (among_append q notes.queue.items (r ∷ []) (sym (ap (is_among q) is_queue) ∙ a)) in
-      (e.0, ap (λ ns. note_at ns q) is_noted ∙ e.1);
-  queue_apart = subst AreEachOnce (sym is_queue) (each_once (notes.queue.items ++ r ∷ [])
-      (apart_append notes.queue.items (r ∷ []) (all_apart notes.queue.items are.queue_apart) (
-        refl,
-        tt,
-      ) (λ q a b. apart_at q a b)));
+  places_long = rw (is_places, is_taken, length-set notes.places.items d r, length-set notes.taken.items d true)
+      are.places_long;
+  taken_is = λ e. rw (
+    is_taken,
+    is_noted,
+    mark_is notes.taken.items d e d_low,
+    are.taken_is e,
+    noted_more notes.noted.items r d e low fresh,
+  ) refl;
+  slot = λ q e n. rw is_places (slot_at q e (rw is_noted at n));
+  queue_has = λ q e n. rw is_queue (has_at q e (rw is_noted at n));
+  queue_is = λ q a. rw is_noted (is_at q (among_append q notes.queue.items (r ∷ []) (rw is_queue at a)));
+  queue_apart = rw is_queue (each_once (notes.queue.items ++ r ∷ []) (apart_append notes.queue.items (r ∷ [])
+      (all_apart notes.queue.items are.queue_apart) (refl, tt) (λ q a b. apart_at q a b)));
   room = omega (arith, are.room, room, ap length is_noted, length-set notes.noted.items r (Some d));
 }
   where
     slot_at : (q e : ℕ) → note_at (set notes.noted.items r (Some d)) q ≡ Some e
         → get_or (set notes.places.items d r) e 0 ≡ q
     slot_at q e n = elim (cases_eq q r) [
-      | inl s ↦ let same : e ≡ d =
-          same_Some e d (sym n ∙ (ap (note_at (set notes.noted.items r (Some d))) s
-          ∙ get_or-set_same notes.noted.items r (Some d) None low)) in
-          ap (λ x. get_or (set notes.places.items d r) x 0) same
-          ∙ (get_or-set_same notes.places.items d r 0 (omega (arith, d_low, are.places_long)) ∙ sym s)
+      | inl s ↦
+          let same = same_Some e d (sym (rw s at n) ∙ get_or-set_same notes.noted.items r (Some d) None low) in
+          rw (same, get_or-set_same notes.places.items d r 0 (omega (arith, d_low, are.places_long))) (sym s)
       | inr ne ↦
-          let old : note_at notes.noted.items q ≡ Some e = sym (get_or-set_other notes.noted.items r q (Some d) None ne)
-          ∙ n in
-          let differ : e ≢ d = λ s. false≢true (sym alone ∙ (ap (λ x. is_among x (darts_in notes.noted.items)) (sym s)
-          ∙ noted_among notes.noted.items q e old)) in
-          get_or-set_other notes.places.items d e r 0 differ ∙ are.slot q e old
+          let old = sym (get_or-set_other notes.noted.items r q (Some d) None ne) ∙ n in
+          get_or-set_other notes.places.items d e r 0
+          (λ s. false≢true (sym alone ∙ rw s at (noted_among notes.noted.items q e old))) ∙ are.slot q e old
     ]
 
     has_at : (q e : ℕ) → note_at (set notes.noted.items r (Some d)) q ≡ Some e
         → is_among q (notes.queue.items ++ r ∷ []) ≡ true
     has_at q e n = elim (cases_eq q r) [
-      | inl s ↦ ap (λ x. is_among x (notes.queue.items ++ r ∷ [])) s ∙ among_last r notes.queue.items
+      | inl s ↦ rw s (among_last r notes.queue.items)
       | inr ne ↦ among_left q notes.queue.items (r ∷ [])
           (are.queue_has q e (sym (get_or-set_other notes.noted.items r q (Some d) None ne) ∙ n))
     ]
 
+    -- Who is in the queue is another rider, since r had no note.
+    differs : (q : ℕ) → is_among q notes.queue.items ≡ true → q ≢ r
+    differs q a s = let e = are.queue_is q a in none-some e.0 (sym fresh ∙ (ap (note_at notes.noted.items) (sym s) ∙ e.1))
+
     is_at : (q : ℕ) → (is_among q notes.queue.items ≡ true) ⊎ (is_among q (r ∷ []) ≡ true)
         → (e : ℕ) × (note_at (set notes.noted.items r (Some d)) q ≡ Some e)
-    is_at q (inl a) =
-        let e : (e : ℕ) × (note_at notes.noted.items q ≡ Some e) = are.queue_is q a in (
-          e.0,
-          get_or-set_other notes.noted.items r q (Some d) None
-              (λ s. none-some e.0 (sym fresh ∙ (ap (note_at notes.noted.items) (sym s) ∙ e.1))) ∙ e.1,
-        )
+    is_at q (inl a) = let (e, n) = are.queue_is q a in
+        (e, get_or-set_other notes.noted.items r q (Some d) None (differs q a) ∙ n)
     is_at q (inr b) = elim (among_cases q r [] b) [
-      | inl s ↦ (
-        d,
-        ap (note_at (set notes.noted.items r (Some d))) s ∙ get_or-set_same notes.noted.items r (Some d) None low,
-      )
+      | inl s ↦ (d, rw s (get_or-set_same notes.noted.items r (Some d) None low))
       | inr c ↦ absurd (false≢true c)
     ]
 
     apart_at : (q : ℕ) → is_among q notes.queue.items ≡ true → is_among q (r ∷ []) ≡ true → ⊥
-    apart_at q a b = elim (among_cases q r [] b) [
-      | inl s ↦ let e : (e : ℕ) × (note_at notes.noted.items q ≡ Some e) = are.queue_is q a in
-          none-some e.0 (sym fresh ∙ (ap (note_at notes.noted.items) (sym s) ∙ e.1))
-      | inr c ↦ false≢true c
-    ]
+    apart_at q a b = elim (among_cases q r [] b) [ inl s ↦ differs q a s | inr c ↦ false≢true c ]
 
 -- No notes.
 pub are_none : (notes : Notes) (ns : List (Option ℕ)) → notes.noted.items ≡ replicate (length ns) None
@@ -224,12 +198,10 @@ module _ {faces : Faces} {queue : List ℕ} {i : ℕ} {first noted : List (Optio
       → (u : ℕ) → is_on (set settled v false) u ≡ true
       → (q : ℕ) × (e : ℕ) × (note_at (set noted (get_or queue i 0) None) q ≡ Some e) × (to_of faces e ≡ u)
   ends_back settled {v} v_is v_low old u on =
+      let differ : u ≢ v = λ s. false≢true
+      (sym (ap (is_on (set settled v false)) s ∙ get_or-set_same settled v false false v_low) ∙ on) in
       let q = old u (sym (get_or-set_other settled v u false false differ) ∙ on) in
       (q.0, q.1, stays q.0 q.1 q.2 (λ s. differ (sym q.3 ∙ (ap (to_of faces) s ∙ sym v_is))), q.3)
-    where
-      differ : u ≢ v
-      differ s = false≢true (sym (ap (is_on (set settled v false)) s ∙ get_or-set_same settled v false false v_low)
-          ∙ on)
 
 -- Where the notes of the riders in the queue are taken back, none is left.
 pub cleared : (notes : Notes) (new : List (Option ℕ)) → AreNotes notes

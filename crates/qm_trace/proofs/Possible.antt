@@ -1,5 +1,5 @@
 -- Which events are possible, and how many can still happen.
-use Rattle.std.proofs.Common.{◌≡◌, ℕ, suc, ◌<◌, Bool, true, false, List, ◌∷◌, length, Option, sym, subst, ap, ◌∙◌, refl}
+use Rattle.std.proofs.Common.{◌≡◌, ℕ, suc, ◌<◌, Bool, true, false, List, ◌∷◌, length, Option, sym, ap, ◌∙◌, refl}
 use Rattle.std.proofs.Common.{arith, []}
 use Rattle.std.proofs.lemmas.Bool.{and_from, eq-eqb, false≢true, not_from_false}
 use Rattle.std.specs.List.{list_any}
@@ -26,9 +26,7 @@ pub none_there : (read rs : List Moving) (noted ns : List (Option ℕ)) → read
     → ((r : ℕ) → r < length read → is_waiting (rider_at read r).stop (note_at noted r) ≡ false)
     → (r : ℕ) → r < length rs → is_waiting (rider_at rs r).stop (note_at ns r) ≡ false
 none_there read rs noted ns same alike none =
-    subst (λ (qs : List Moving). (r : ℕ) → r < length qs → is_waiting (rider_at qs r).stop (note_at ns r) ≡ false) same
-    (subst (λ (ms : List (Option ℕ)). (r : ℕ) → r < length read → is_waiting (rider_at read r).stop (note_at ms r)
-    ≡ false) alike none)
+    rw (← same) (rw (← alike) none)
 
 module _ {faces : Faces} {x : EventState} (now : Reached faces x) where
   -- Where nobody waits, and each noted dart ends at a settled vertex, nobody runs.

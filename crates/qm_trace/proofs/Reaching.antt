@@ -8,12 +8,12 @@ use Rattle.def_cut.specs.declared.graph.Stop.TheVariants.{Middle, Boundary, Sing
 use Rattle.def_cut.specs.Motion.{Terrain, end_of, with_next, ridden, is_among, is_met, arrivals, goes_on, stop_of}
 use Rattle.def_cut.specs.Motion.{start, after_steps, State}
 use Rattle.def_cut.specs.Events.{EventState, darts_in, rider_at, note_at, may_ride, after_ride_of, told_at, all_told}
-use Rattle.def_cut.specs.Events.{Event, May, after_event, Leads, rides_in, first_event_state, IsMotionOf}
+use Rattle.def_cut.specs.Events.{Event, May, after_event, Leads, first_event_state, IsMotionOf}
 use Rattle.def_cut.specs.{FullCut.is_on, declared.graph.Stop.Stop, declared.moving.Moving.Moving, Traced.terrain_of}
 use Rattle.def_cut.specs.Events.Event.{Ride}
 use Rattle.mesh_laws.proofs.Vertices.{all_below}
 use Rattle.motion_laws.proofs.Among.{AreApart, among_here, among_later, among_cases}
-use Rattle.motion_laws.proofs.Order.{IsWithin, within, rode, at_last, runs_ridden}
+use Rattle.motion_laws.proofs.Order.{within, rode, at_last, runs_ridden}
 use Rattle.motion_laws.proofs.Shown.{AreShown, IsNoted, long, shown_by, IsShown, waits_runs}
 use Rattle.motion_laws.proofs.{Steps.next_is, Terrains.IsReached, Traced.after_reached}
 use Rattle.site_laws.proofs.Sites.{terrain, started}
@@ -23,7 +23,7 @@ use Rattle.qm_trace.proofs.Steps.{begun_low, rides_low}
 pub leads_more : (g : Terrain) (a x : EventState) (es : List Event) (e : Event) → Leads g a es x → May g x e
     → Leads g a (es ++ e ∷ []) (after_event g x e)
 leads_more g a x [] e l may =
-    (subst (λ (y : EventState). May g y e) (sym l) may, ap (λ (y : EventState). after_event g y e) l)
+    (rw l may, ap (λ (y : EventState). after_event g y e) l)
 leads_more g a x (f ∷ es) e l may = (l.0, leads_more g (after_event g a f) x es e l.1 may)
 
 -- Who has a note.
@@ -109,12 +109,10 @@ pub record Reached (faces : Faces) (x : EventState) : Type 0 where
   pub shown : IsShown (terrain_of faces) (vertex_count faces) (after faces steps) x
 
 pub reached : {faces : Faces} → IsManifold faces → (x : EventState) → IsMotionOf faces x → Reached faces x
-reached {faces} m x z = record { mesh = m; led = z; steps = w.instant; shown = w.shown }
-  where
-    w : IsWithin (terrain_of faces) (terrain faces m) (start_darts faces) (started faces m) (vertex_count faces)
-        (all_below faces) x (rides_in z.0)
-    w = within (terrain_of faces) (terrain faces m) (start_darts faces) (started faces m) (vertex_count faces)
-        (all_below faces) z.0 x z.1
+reached {faces} m x z =
+    let w = within (terrain_of faces) (terrain faces m) (start_darts faces) (started faces m) (vertex_count faces)
+    (all_below faces) z.0 x z.1 in
+    record { mesh = m; led = z; steps = w.instant; shown = w.shown }
 
 module _ {faces : Faces} (m : IsManifold faces) where
   pub reached_at : (k : ℕ) → IsReached (terrain_of faces) (start_darts faces) (after faces k)

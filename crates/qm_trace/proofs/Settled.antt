@@ -32,29 +32,16 @@ use Rattle.qm_trace.specs.{declared.ground.Site.Site, declared.notes.Notes.Notes
 pub end_is : (faces : Faces) (v : ℕ) (ds : List ℕ) (taken : List Bool) → ((d : ℕ) → is_on taken d ≡ is_among d ds)
     → ((d : ℕ) → is_among d ds ≡ true → d < darts faces) → IsManifold faces
     → list_any (λ e. is_on taken (prev_of e)) (fan_of faces v) ≡ list_any (leads_to (terrain_of faces) v) ds
-end_is faces v ds taken is low m = same_test _ _ to from
-  where
-    to : list_any (λ e. is_on taken (prev_of e)) (fan_of faces v) ≡ true → list_any (leads_to (terrain_of faces) v) ds
-        ≡ true
-    to a = by_dart (any_where (λ e. is_on taken (prev_of e)) (fan_of faces v) a)
-      where
-        by_dart : (e : ℕ) × (is_among e (fan_of faces v) ≡ true) × (is_on taken (prev_of e) ≡ true)
-            → list_any (leads_to (terrain_of faces) v) ds ≡ true
-        by_dart (e, n, t) = any_at (leads_to (terrain_of faces) v) (prev_of e) ds (sym (is (prev_of e)) ∙ t)
-            (ap (λ x. eqb (from_of faces x) v) (next_of-prev_of e)
-            ∙ (from_filter (λ d. eqb (from_of faces d) v) e (all_darts faces) n).1)
-
-    from : list_any (leads_to (terrain_of faces) v) ds ≡ true → list_any (λ e. is_on taken (prev_of e)) (fan_of faces v)
-        ≡ true
-    from a = by_dart (any_where (leads_to (terrain_of faces) v) ds a)
-      where
-        by_dart : (d : ℕ) × (is_among d ds ≡ true) × (leads_to (terrain_of faces) v d ≡ true)
-            → list_any (λ e. is_on taken (prev_of e)) (fan_of faces v) ≡ true
-        by_dart (d, n, t) = any_at (λ e. is_on taken (prev_of e)) (next_of d) (fan_of faces v)
-            (in_filter (λ e. eqb (from_of faces e) v) (next_of d) (all_darts faces)
-            (among_range 0 (darts faces) (next_of d) (omega arith)
-            (omega (arith, (terrain faces m).half.next_low d (low d n)))) t)
-            (ap (is_on taken) (prev_of-next_of d) ∙ (is d ∙ n))
+end_is faces v ds taken is low m = same_test _ _
+    (λ a. let (e, n, t) = any_where (λ e. is_on taken (prev_of e)) (fan_of faces v) a in
+    any_at (leads_to (terrain_of faces) v) (prev_of e) ds (sym (is (prev_of e)) ∙ t)
+    (ap (λ x. eqb (from_of faces x) v) (next_of-prev_of e)
+    ∙ (from_filter (λ d. eqb (from_of faces d) v) e (all_darts faces) n).1))
+    (λ a. let (d, n, t) = any_where (leads_to (terrain_of faces) v) ds a in
+    any_at (λ e. is_on taken (prev_of e)) (next_of d) (fan_of faces v)
+    (in_filter (λ e. eqb (from_of faces e) v) (next_of d) (all_darts faces)
+    (among_range 0 (darts faces) (next_of d) (omega arith)
+    (omega (arith, (terrain faces m).half.next_low d (low d n)))) t) (ap (is_on taken) (prev_of-next_of d) ∙ (is d ∙ n)))
 
 -- Each settled vertex is the end of a noted dart.
 abbrev pub AreEnds : (faces : Faces) (x : EventState) → Type 0
@@ -88,8 +75,8 @@ module _ {faces : Faces} {x : EventState} {v : ℕ} (k : MaySettle faces x v) wh
 
   -- A noted dart ends there.
   pub some_end : (d : ℕ) × (is_among d (darts_in x.noted) ≡ true) × (to_of faces d ≡ v)
-  some_end = let d = any_where (leads_to (terrain_of faces) v) (darts_in x.noted) settle_parts.1 in
-      (d.0, d.1, eqb-true (to_of faces d.0) v d.2)
+  some_end = let (d, n, e) = any_where (leads_to (terrain_of faces) v) (darts_in x.noted) settle_parts.1 in
+      (d, n, eqb-true (to_of faces d) v e)
 
   pub ends_decided : AreEnds faces x → AreEnds faces (decided_at (terrain_of faces) x v)
   ends_decided old u on = elim (cases_eq u v) [
@@ -183,12 +170,12 @@ module _ {faces : Faces} {x : EventState} {v : ℕ} {notes : Notes} {site : Site
   -- Why a rider that ends at v stops, by the tables, by the motion and by the events.
   stop_then : (d : ℕ) → is_among d (darts_in x.noted) ≡ true → to_of faces d ≡ v
       → stop_here faces site notes.taken.items d ≡ stop_of g s.stood ds d
-  stop_then d n e = by_site ∙ stop_same mesh since notes.taken.items marked d (is_on x.stood v) (among_ridden d n)
+  stop_then d n e =
+      let by_site : stop_here faces site notes.taken.items d ≡ stop_by faces (not (is_inner faces (to_of faces d)))
+      (is_singular faces (to_of faces d)) (is_on x.stood v) notes.taken.items d =
+      rw (at_v.boundary, at_v.singular, at_v.stood_is, e) refl in
+      by_site ∙ stop_same mesh since notes.taken.items marked d (is_on x.stood v) (among_ridden d n)
       (then ∙ ap s.stood (sym e))
-    where
-      by_site : stop_here faces site notes.taken.items d ≡ stop_by faces (not (is_inner faces (to_of faces d)))
-          (is_singular faces (to_of faces d)) (is_on x.stood v) notes.taken.items d
-      by_site = rw (at_v.boundary, at_v.singular, at_v.stood_is, e) refl
 
   stop_now_is : (d : ℕ) → is_among d (darts_in x.noted) ≡ true → to_of faces d ≡ v
       → stop_here faces site notes.taken.items d ≡ stop_of g (is_on x.stood) (darts_in x.noted) d
@@ -205,20 +192,13 @@ module _ {faces : Faces} {x : EventState} {v : ℕ} {notes : Notes} {site : Site
   -- A rider with a note whose end is not settled runs along its noted dart.
   still : (r d : ℕ) → note_at x.noted r ≡ Some d → to_of faces d ≡ v → ((rider_at x.riders r).stop ≡ None)
       × ((rider_at x.riders r).dart ≡ d)
-  still r d n e = (ap (λ (q : Moving). q.stop) as_ridden ∙ was.0, ap (λ (q : Moving). q.dart) as_ridden ∙ sym was.1)
-    where
-      before : Moving
-      before = rider_at s.riders r
-
-      shows : IsNoted before (note_at x.noted r)
-          × (rider_at x.riders r ≡ shown_by g s.stood ds (is_on x.settled) before (note_at x.noted r))
-      shows = rider_shown now r (omega (arith, noted_short x.noted r d n, as_long now))
-
-      was : (before.stop ≡ None) × (d ≡ before.dart)
-      was = subst (IsNoted before) n shows.0
-
-      as_ridden : rider_at x.riders r ≡ ridden_once_more before
-      as_ridden = shows.1 ∙ rw (n, e, (settle_parts k).2) refl
+  still r d n e =
+      let before = rider_at s.riders r in
+      let shows : IsNoted before (note_at x.noted r) × (rider_at x.riders r ≡ shown_by g s.stood ds (is_on x.settled)
+      before (note_at x.noted r)) = rider_shown now r (omega (arith, noted_short x.noted r d n, as_long now)) in
+      let was : (before.stop ≡ None) × (d ≡ before.dart) = subst (IsNoted before) n shows.0 in
+      let as_ridden : rider_at x.riders r ≡ ridden_once_more before = shows.1 ∙ rw (n, e, (settle_parts k).2) refl in
+      (ap (λ (q : Moving). q.stop) as_ridden ∙ was.0, ap (λ (q : Moving). q.dart) as_ridden ∙ sym was.1)
 
   pub can_tell : (riders : Riders) → riders.list.items ≡ x.riders → CanTell faces site v notes riders
   can_tell riders is = record {

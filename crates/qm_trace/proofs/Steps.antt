@@ -46,18 +46,12 @@ ridden_where (x ∷ rs) d m = elim (with_cases x.stop x.dart d (ridden rs) m) [
 -- The darts of the queue are those ridden next.
 pub same_darts : (riders : List Moving) (queue ds : List ℕ) → IsQueue riders queue → ds ≡ map (dart_of riders) queue
     → (d : ℕ) → is_among d ds ≡ is_among d (ridden riders)
-same_darts riders queue ds q e d = ap (is_among d) e ∙ same_test _ _ to from
-  where
-    to : is_among d (map (dart_of riders) queue) ≡ true → is_among d (ridden riders) ≡ true
-    to m =
-        let r = among_map (dart_of riders) queue d m in
-        let runs = q.runs r.0 r.1 in
-        rw (← r.2) (runs_ridden riders r.0 runs.0 runs.1)
-
-    from : is_among d (ridden riders) ≡ true → is_among d (map (dart_of riders) queue) ≡ true
-    from m =
-        let r = ridden_where riders d m in
-        rw (← r.3) (map_among (dart_of riders) queue r.0 (q.all r.0 r.1 r.2))
+same_darts riders queue ds q e d = ap (is_among d) e ∙ same_test _ _
+    (λ m. let (r, n, is) = among_map (dart_of riders) queue d m in
+    let runs = q.runs r n in
+    rw (← is) (runs_ridden riders r runs.0 runs.1))
+    (λ m. let (r, l, runs, is) = ridden_where riders d m in
+    rw (← is) (map_among (dart_of riders) queue r (q.all r l runs)))
 
 -- Riders that have just begun have not ridden.
 pub begun_low : (ds : List ℕ) (r : ℕ) → (rider_at (map begun ds) r).rides ≤ 0
@@ -159,28 +153,22 @@ module _ {faces : Faces} {marks : List Bool} {k : ℕ} {riders : List Moving} {s
 
     -- Somebody has stood at v after the step where one had before, or ends there now.
     stands_next : (v : ℕ) → (now.stood v || list_any (λ d. eqb (to_of faces d) v) ds) ≡ next.stood v
-    stands_next v = same_test _ _ to from
-      where
-        to : (now.stood v || list_any (λ d. eqb (to_of faces d) v) ds) ≡ true → next.stood v ≡ true
-        to b = elim (or_cases (now.stood v) (list_any (λ d. eqb (to_of faces d) v) ds) b) [
-          | inl y ↦ or_left (now.stood v) (list_any (arrives_at (terrain_of faces) (ridden now.riders) v)
-              (ridden now.riders)) y
+    stands_next v = same_test _ _
+        (λ b. elim (or_cases (now.stood v) (list_any (λ d. eqb (to_of faces d) v) ds) b) [
+          | inl y ↦ or_left (now.stood v) _ y
           | inr n ↦
-              let d = any_where (λ d. eqb (to_of faces d) v) ds n in
-              ap next.stood (sym (eqb-true (to_of faces d.0) v d.2))
+              let (d, m, e) = any_where (λ d. eqb (to_of faces d) v) ds n in
+              ap next.stood (sym (eqb-true (to_of faces d) v e))
               ∙ stands (terrain_of faces) (terrain faces mesh) (begins faces marks) (marked_first faces marks) now
-              reached d.0 (sym (members d.0) ∙ d.1)
-        ]
-
-        from : next.stood v ≡ true → (now.stood v || list_any (λ d. eqb (to_of faces d) v) ds) ≡ true
-        from b = elim (or_cases (now.stood v) (list_any (arrives_at (terrain_of faces) (ridden now.riders) v)
+              reached d (sym (members d) ∙ m)
+        ])
+        (λ b. elim (or_cases (now.stood v) (list_any (arrives_at (terrain_of faces) (ridden now.riders) v)
             (ridden now.riders)) b) [
-              | inl y ↦ or_left (now.stood v) (list_any (λ d. eqb (to_of faces d) v) ds) y
+              | inl y ↦ or_left (now.stood v) _ y
               | inr n ↦
-                  let d = any_where (arrives_at (terrain_of faces) (ridden now.riders) v) (ridden now.riders) n in
-                  or_right (now.stood v) (list_any (λ d. eqb (to_of faces d) v) ds)
-                  (any_at (λ x. eqb (to_of faces x) v) d.0 ds (members d.0 ∙ d.1) (and_parts _ _ d.2).0)
-            ]
+                  let (d, m, e) = any_where (arrives_at (terrain_of faces) (ridden now.riders) v) (ridden now.riders) n in
+                  or_right (now.stood v) _ (any_at (λ x. eqb (to_of faces x) v) d ds (members d ∙ m) (and_parts _ _ e).0)
+            ])
 
     pub stepped : {riders2 : List Moving} {stood2 covered2 taken2 : List Bool}
         → riders2 ≡ (state_at faces marks (suc k)).riders → length stood2 ≡ length stood

@@ -1,7 +1,6 @@
 use Rattle.std.proofs.Common.{◌≡◌, ◌<◌, false, cond, ℕ, Bool, Some, None, length, sym, ap, ◌∙◌, replicate, arith}
 use Rattle.std.proofs.lemmas.Bool.{false_from_ne_true}
 use Rattle.std.proofs.lemmas.Option.{none-some}
-use Rattle.def_mesh.specs.Darts.{to_of}
 use Rattle.def_cut.specs.{Motion.is_among, Events.note_at}
 use Rattle.qm_trace.proofs.Noting.{all_none, all_off, are_none, cleared}
 use Rattle.qm_trace.proofs.Reaching.{noted_among, noted_where}
@@ -27,9 +26,8 @@ returns-clause-noted c =
 
 pub returns-clause-settled : goal.returns-clause-settled
 returns-clause-settled c =
-    all_off c.clear_each.new.settled.items (λ v. false_from_ne_true _ (λ on. let r : (r : ℕ) × (d : ℕ)
-    × (note_at c.clear_each.new.noted.items r ≡ Some d) × (to_of c.args.mesh.now d ≡ v) =
-    c.clear_each.ensures.settled v on in
+    all_off c.clear_each.new.settled.items (λ v. false_from_ne_true _ (λ on.
+    let r = c.clear_each.ensures.settled v on in
     none-some r.1 (sym (cleared c.args.notes.now c.clear_each.new.noted.items c.requires.notes
     (λ q. c.clear_each.ensures.noted q ∙ ap (λ (b : Bool). cond b None (note_at c.args.notes.now.noted.items q))
     (ap (is_among q) c.deref.ensures.value)) r.0) ∙ r.2)))
@@ -47,7 +45,6 @@ returns-clause-notes c =
       places = c.args.notes.now.places;
       queue = c.clear.new.self;
     }) c.clear_each.new.noted.items (all_none c.clear_each.new.noted.items none)
-    (λ d. false_from_ne_true _ (λ on. let r : (r : ℕ) × (note_at c.clear_each.new.noted.items r ≡ Some d) =
-    c.clear_each.ensures.taken d on in none-some d (sym (none r.0) ∙ r.1)))
+    (λ d. false_from_ne_true _ (λ on. let r = c.clear_each.ensures.taken d on in none-some d (sym (none r.0) ∙ r.1)))
     (c.requires.notes.places_long ∙ sym c.clear_each.ensures.taken_long) c.clear.ensures.items
     (omega (arith, c.clear_each.ensures.long, c.requires.notes.room, c.clear.ensures.capacity))

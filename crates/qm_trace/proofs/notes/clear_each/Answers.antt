@@ -1,32 +1,28 @@
 use Rattle.std.proofs.Common.{false, None, is_some, ap, ◌∙◌, arith}
 use Rattle.std.proofs.lemmas.List.{length-set}
 use Rattle.def_mesh.specs.Darts.{to_of}
-use Rattle.qm_trace.proofs.Noting.{ends_back, marks_back, taken_back, NoteBack, back_short, dart_read, note_back}
+use Rattle.qm_trace.proofs.Noting.{ends_back, marks_back, taken_back, back_short, dart_read, note_back}
 use Rattle.qm_trace.proofs.Noting.{note_read}
 use Rattle.qm_trace.proofs.notes.clear_each.Goals as goal
 
 pub index-requires : goal.index-requires
 index-requires c =
-    let back : NoteBack c.args.mesh.now c.args.queue.now c.loop-r.r-index c.args.noted.now.items c.loop-r.noted.items =
-    note_back c.requires.queue c.loop-r-test.true c.loop-r.invariant.noted c.requires.notes in
+    let back = note_back c.requires.queue c.loop-r-test.true c.loop-r.invariant.noted c.requires.notes in
     omega (arith, c.loop-r.noted.ok.0, back_short back)
 
 pub unwrap-d-requires : goal.unwrap-d-requires
 unwrap-d-requires c =
-    let back : NoteBack c.args.mesh.now c.args.queue.now c.loop-r.r-index c.args.noted.now.items c.loop-r.noted.items =
-    note_back c.requires.queue c.loop-r-test.true c.loop-r.invariant.noted c.requires.notes in
+    let back = note_back c.requires.queue c.loop-r-test.true c.loop-r.invariant.noted c.requires.notes in
     ap is_some (note_read back c.index.ensures)
 
 pub index_mut-requires : goal.index_mut-requires
 index_mut-requires c =
-    let back : NoteBack c.args.mesh.now c.args.queue.now c.loop-r.r-index c.args.noted.now.items c.loop-r.noted.items =
-    note_back c.requires.queue c.loop-r-test.true c.loop-r.invariant.noted c.requires.notes in
+    let back = note_back c.requires.queue c.loop-r-test.true c.loop-r.invariant.noted c.requires.notes in
     omega (arith, c.loop-r.noted.ok.0, back_short back)
 
 pub index_mut-requires-in-loop-r : goal.index_mut-requires-in-loop-r
 index_mut-requires-in-loop-r c =
-    let back : NoteBack c.args.mesh.now c.args.queue.now c.loop-r.r-index c.args.noted.now.items c.loop-r.noted.items =
-    note_back c.requires.queue c.loop-r-test.true c.loop-r.invariant.noted c.requires.notes in
+    let back = note_back c.requires.queue c.loop-r-test.true c.loop-r.invariant.noted c.requires.notes in
     omega (
       arith,
       dart_read back c.index.ensures c.unwrap-d.ensures,
@@ -38,14 +34,12 @@ index_mut-requires-in-loop-r c =
 
 pub to-requires : goal.to-requires
 to-requires c =
-    let back : NoteBack c.args.mesh.now c.args.queue.now c.loop-r.r-index c.args.noted.now.items c.loop-r.noted.items =
-    note_back c.requires.queue c.loop-r-test.true c.loop-r.invariant.noted c.requires.notes in
+    let back = note_back c.requires.queue c.loop-r-test.true c.loop-r.invariant.noted c.requires.notes in
     omega (arith, dart_read back c.index.ensures c.unwrap-d.ensures, back.note.2)
 
 pub loop-r-preserved : goal.loop-r-preserved
 loop-r-preserved c =
-    let back : NoteBack c.args.mesh.now c.args.queue.now c.loop-r.r-index c.args.noted.now.items c.loop-r.noted.items =
-    note_back c.requires.queue c.loop-r-test.true c.loop-r.invariant.noted c.requires.notes in
+    let back = note_back c.requires.queue c.loop-r-test.true c.loop-r.invariant.noted c.requires.notes in
     let dart = dart_read back c.index.ensures c.unwrap-d.ensures in
     record {
       long = length-set c.loop-r.noted.items _ None ∙ c.loop-r.invariant.long;

@@ -1,4 +1,4 @@
-use Rattle.std.proofs.Common.{rules, ◌≡◌, Bool, List, false, replicate, sym, subst, ap, ◌∙◌}
+use Rattle.std.proofs.Common.{rules, ◌≡◌, false, replicate, sym, ap, ◌∙◌}
 use Rattle.std.proofs.lemmas.Result.{IfOk-weaker}
 use Rattle.def_cut.specs.Traced.{IsGraphOf}
 use Rattle.def_mesh.specs.Darts.{darts}
@@ -17,5 +17,4 @@ returns-clause-graph c =
     let items : c.in_ok-marks.marks.items ≡ replicate (darts c.args.mesh.now) false = search rules in
     IfOk-weaker c.graph_from.result (IsMarkedGraph c.args.mesh.now c.deref-2.result.now) (IsGraphOf c.args.mesh.now)
     (λ graph g. same_graph c.args.mesh.now graph
-    (subst (λ (marks : List Bool). IsMarkedGraph c.args.mesh.now marks graph) (c.deref-2.ensures.value ∙ items)
-    g)) c.graph_from.ensures.graph
+    (rw (← (c.deref-2.ensures.value ∙ items)) g)) c.graph_from.ensures.graph
