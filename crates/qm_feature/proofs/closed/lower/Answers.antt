@@ -1,11 +1,10 @@
 use Rattle.std.proofs.Common.{min, set, ap, ◌∙◌, arith}
-use Rattle.qm_feature.specs.{declared.closed.TheConstants.NONE, Rings.least_at, Rings.run_at}
+use Rattle.qm_feature.specs.{Rings.least_at, Rings.run_at}
 use Rattle.qm_feature.proofs.Tables.{least_more}
 use Rattle.qm_feature.proofs.closed.lower.Goals as goal
 
 pub loop-d-preserved : goal.loop-d-preserved
-loop-d-preserved c = least_more c.args.mesh.now c.args.run.now c.loop-d.least c.lower_one.new.least NONE c.loop-d.d
-    c.loop-d.invariant
+loop-d-preserved c = least_more c.loop-d.invariant
     (omega (arith, c.requires.runs c.loop-d.d c.loop-d-test.true, c.loop-d.auto.least))
     (omega (arith, c.from.type_inv, c.from.ensures.value))
     (c.lower_one.ensures ∙ ap (λ x. set c.loop-d.least (run_at c.args.run.now c.loop-d.d)

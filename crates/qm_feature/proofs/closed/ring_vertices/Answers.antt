@@ -13,11 +13,8 @@ returns-clause-each c v l =
     let rings : c.in_ok-rings.rings.items ≡ replicate (vertex_count c.args.mesh.now) false = search rules in
     ap (λ (xs : List Bool). is_on xs v)
     (with_items_is c.in_ok-rings.rings c.mark_rings.new.rings (c.mark_rings.auto.rings ∙ c.deref_mut-3.ensures.len))
-    ∙ rings_told c.args.mesh.now c.faces-known.ensures.mesh.manifold c.in_ok-table.table c.in_ok-table.ensures
-    c.args.marks.now c.deref-2.result.now c.deref-3.result.now c.deref-4.result.now c.deref_mut.result.now
-    c.drop_unmarked.new.whole c.deref-5.result.now c.lower.new.least c.deref-6.result.now c.deref_mut-3.result.now
-    c.mark_rings.new.rings NONE v
-    c.deref-2.ensures.value c.deref-3.ensures.value c.deref-4.ensures.value
+    ∙ rings_told c.faces-known.ensures.mesh.manifold c.in_ok-table.ensures c.deref_mut-3.result.now
+    c.mark_rings.new.rings v c.deref-2.ensures.value c.deref-3.ensures.value c.deref-4.ensures.value
     (c.deref_mut.ensures.value ∙ (c.in_ok-whole.ensures.items ∙ c.deref.ensures.value)) c.drop_unmarked.ensures
     (c.deref-5.ensures.value ∙ with_items_is c.in_ok-whole.whole c.drop_unmarked.new.whole
     (c.drop_unmarked.auto.whole ∙ c.deref_mut.ensures.len))
