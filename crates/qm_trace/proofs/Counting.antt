@@ -30,8 +30,12 @@ tally_set p (q ∷ rs) (k ∷ ns) zero x n l h = exchange (p x n) (p q k) (tally
     exchange false true t = omega arith
     exchange false false t = refl
 tally_set p (q ∷ rs) (k ∷ ns) (suc r) x n l h =
-    omega (arith, more_is (p q k) (tally p (set rs r x) (set ns r n)), more_is (p q k) (tally p rs ns),
-      tally_set p rs ns r x n (omega arith) (omega arith))
+    omega (
+      arith,
+      more_is (p q k) (tally p (set rs r x) (set ns r n)),
+      more_is (p q k) (tally p rs ns),
+      tally_set p rs ns r x n (omega arith) (omega arith),
+    )
 tally_set p _ _ r x n l h = absurd (omega arith)
 
 pub tally_rider : (p : Moving → Option ℕ → Bool) (rs : List Moving) (ns : List (Option ℕ)) (r : ℕ) (x : Moving)

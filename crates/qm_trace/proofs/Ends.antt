@@ -116,18 +116,15 @@ next_on {faces} {marks} {k} {riders} {queue = r ∷ queue} t q some way more e =
 pub end_at : {faces : Faces} {marks : List Bool} {k : ℕ} {riders : List Moving} {stood covered taken : List Bool}
     → IsTableAt faces marks k riders stood covered taken → IsOnItsWay faces marks k → k ≤ vertex_count faces
     → ridden riders ≡ [] → IsEnd faces marks riders covered
-end_at {faces} {marks} {k} t way low none = record {
-  riders_are = t.riders_are ∙ ap (λ (s : State). s.riders) same;
-  covered_long = t.covered_long;
-  covered_is = λ d l. t.covered_is d l ∙ ap (λ (s : State). s.covered d) same;
-}
-  where
-    left : ℕ
-    left = suc (vertex_count faces) - k
-
-    same : state_at faces marks k ≡ marked_last faces marks
-    same = sym (at_rest (terrain_of faces) left (state_at faces marks k) (sym (ap ridden t.riders_are) ∙ none))
-        ∙ way left (omega (arith, low))
+end_at {faces} {marks} {k} t way low none =
+    let left = suc (vertex_count faces) - k in
+    let same = sym (at_rest (terrain_of faces) left (state_at faces marks k) (sym (ap ridden t.riders_are) ∙ none))
+    ∙ way left (omega (arith, low)) in
+    record {
+      riders_are = t.riders_are ∙ ap (λ (s : State). s.riders) same;
+      covered_long = t.covered_long;
+      covered_is = λ d l. t.covered_is d l ∙ ap (λ (s : State). s.covered d) same;
+    }
 
 -- After as many steps as there are vertices nobody rides.
 pub all_over : {faces : Faces} → IsManifold faces → {marks : List Bool} → AreMarks faces marks → {riders : List Moving}
@@ -159,10 +156,10 @@ cut_is faces s covered same =
     ext_get_or false (map (is_closed_at faces covered) (all_darts faces)) (map (is_cut (terrain_of faces) s)
     (all_darts faces)) (closed_long faces covered ∙ sym (length-map (all_darts faces) (is_cut (terrain_of faces) s)
     ∙ length-range_with_len 0 (darts faces))) (λ d h.
-      let l : d < darts faces = omega (arith, h, closed_long faces covered) in
-      get_or-map-range_with_len (is_closed_at faces covered) 0 (darts faces) d d false l (omega arith)
-      ∙ (ap (λ b. b || not (is_some (twin_of faces d))) (same d l)
-      ∙ sym (get_or-map-range_with_len (is_cut (terrain_of faces) s) 0 (darts faces) d d false l (omega arith))))
+    let l : d < darts faces = omega (arith, h, closed_long faces covered) in
+    get_or-map-range_with_len (is_closed_at faces covered) 0 (darts faces) d d false l (omega arith)
+    ∙ (ap (λ b. b || not (is_some (twin_of faces d))) (same d l)
+    ∙ sym (get_or-map-range_with_len (is_cut (terrain_of faces) s) 0 (darts faces) d d false l (omega arith))))
 
 -- No rider is lost.
 finish_long : (g : Terrain) (k : ℕ) (s : State) → length (finish g k s).riders ≡ length s.riders

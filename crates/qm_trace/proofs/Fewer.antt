@@ -13,7 +13,7 @@ use Rattle.def_cut.specs.{FullCut.is_on, declared.graph.Stop.Stop, declared.movi
 use Rattle.def_cut.specs.Events.Event.{Ride, Settle}
 use Rattle.motion_laws.proofs.Marks.{no_darts}
 use Rattle.site_laws.proofs.Laws.{order_law}
-use Rattle.qm_trace.proofs.Reaching.{reached, settled_long, leads_more, MayRide, Reached, as_long, ride_reached}
+use Rattle.qm_trace.proofs.Reaching.{reached, leads_more, MayRide, Reached, as_long, ride_reached}
 use Rattle.qm_trace.proofs.Settled.{settle_low, settle_parts, MaySettle}
 use Rattle.qm_trace.specs.Left.{left_in, left_of, rides_of, unset}
 
@@ -163,6 +163,6 @@ settle_less {faces} {x} {v} may =
       arith,
       here,
       by_noted faces v (darts_in x.noted) (set x.settled v true) (settle_parts may).1,
-      unset_set x.settled v (omega (arith, settle_low may, settled_long may.now)) (settle_parts may).2,
+      unset_set x.settled v (omega (arith, settle_low may, may.now.shown.settled_long)) (settle_parts may).2,
       product (length (set x.settled v true)) (length-set x.settled v true),
     )

@@ -65,9 +65,9 @@ module _ {faces : Faces} (m : IsManifold faces) {begin : ℕ → Bool} {first s 
   stop_same d stood n same = rw (met_same (twin_of faces d), same) (in_a_row (is_met g ds d)
       (not (is_inner faces (to_of faces d))) (is_singular faces (to_of faces d)) (s.stood (end_of g d)) _ _ _ _ _ _
       (λ unmet inner regular off.
-        let t = terrain faces m in
-        let x = t.crossed (next_of d) (t.half.next_low d (reached.low d n)) inner regular in
-        crowded_by d x.0 x.1 x.2 n off x.3))
+      let t = terrain faces m in
+      let x = t.crossed (next_of d) (t.half.next_low d (reached.low d n)) inner regular in
+      crowded_by d x.0 x.1 x.2 n off x.3))
 
 module _ {faces : Faces} (m : IsManifold faces) {marks : List Bool} {k : ℕ} {riders : List Moving} {queue : List ℕ}
     {stood taken : List Bool} (i : IsInstant faces marks k riders queue stood taken) where
@@ -104,6 +104,6 @@ module _ {faces : Faces} (m : IsManifold faces) {marks : List Bool} {k : ℕ} {r
   next_riders new long each =
       let f = ride (terrain_of faces) now.stood (ridden now.riders) in
       ext_get_or (begun 0) new (map f riders) (long ∙ sym (length-map riders f)) (λ r h.
-        let l : r < length riders = omega (arith, h, long) in
-        each r l ∙ (one_rider r l (is_among r queue) refl ∙ sym (get_or-map f riders r (begun 0) (begun 0) l)))
+      let l : r < length riders = omega (arith, h, long) in
+      each r l ∙ (one_rider r l (is_among r queue) refl ∙ sym (get_or-map f riders r (begun 0) (begun 0) l)))
       ∙ ap (map f) i.riders_are

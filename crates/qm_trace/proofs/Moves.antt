@@ -5,7 +5,7 @@ use Rattle.def_mesh.specs.{Faces.Faces, Manifold.IsManifold}
 use Rattle.def_cut.specs.Events.{may_ride, may_settle, rider_at, EventState, after_ride_of, after_settling}
 use Rattle.def_cut.specs.Views.{IsMotionOn, MotionView, with_state}
 use Rattle.def_cut.specs.{declared.moving.Moving.Moving, Motion.begun, Traced.terrain_of, FullCut.is_on}
-use Rattle.qm_trace.proofs.Reaching.{reached, MayRide, Reached, ride_reached, stood_long}
+use Rattle.qm_trace.proofs.Reaching.{reached, MayRide, Reached, ride_reached}
 use Rattle.qm_trace.proofs.Settled.{settle_low, MaySettle, Settling, settle_reached}
 use Rattle.qm_trace.proofs.Fewer.{riders_long}
 use Rattle.qm_trace.specs.{Motions.AreNotes, Tables.IsSite, declared.notes.Notes.Notes, declared.ground.Site.Site}
@@ -56,5 +56,5 @@ pub settling : {faces : Faces} {x : EventState} {v : ℕ} {notes : Notes} {site 
     → read ≡ get_or x.stood v read → IsSite faces read v site → Settling faces x v notes site
 settling {faces} {x} {v} {notes} {site} {read} k noted are long e at =
     let stood : read ≡ is_on x.stood v =
-    e ∙ get_or_default x.stood v read false (omega (arith, settle_low k, stood_long k.now)) in
+    e ∙ get_or_default x.stood v read false (omega (arith, settle_low k, k.now.shown.stood_long)) in
     record { k = k; noted_is = noted; are = are; taken_long = long; at_v = rw stood at at }

@@ -92,7 +92,8 @@ one_note notes new r d are low d_low fresh alone is_noted is_taken is_places is_
 
     -- Who is in the queue is another rider, since r had no note.
     differs : (q : ℕ) → is_among q notes.queue.items ≡ true → q ≢ r
-    differs q a s = let e = are.queue_is q a in none-some e.0 (sym fresh ∙ (ap (note_at notes.noted.items) (sym s) ∙ e.1))
+    differs q a s = let e = are.queue_is q a in
+        none-some e.0 (sym fresh ∙ (ap (note_at notes.noted.items) (sym s) ∙ e.1))
 
     is_at : (q : ℕ) → (is_among q notes.queue.items ≡ true) ⊎ (is_among q (r ∷ []) ≡ true)
         → (e : ℕ) × (note_at (set notes.noted.items r (Some d)) q ≡ Some e)

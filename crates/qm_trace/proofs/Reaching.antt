@@ -142,15 +142,6 @@ module _ {faces : Faces} (m : IsManifold faces) where
 module _ {faces : Faces} {x : EventState} (now : Reached faces x) where
   open now use {mesh, steps, shown}
 
-  pub covered_long : length x.covered ≡ darts faces
-  covered_long = shown.covered_long
-
-  pub stood_long : length x.stood ≡ vertex_count faces
-  stood_long = shown.stood_long
-
-  pub settled_long : length x.settled ≡ vertex_count faces
-  settled_long = shown.settled_long
-
   pub as_long : (length x.riders ≡ length (after faces steps).riders)
       × (length x.noted ≡ length (after faces steps).riders)
   as_long = long (terrain_of faces) (after faces steps).stood (ridden_at faces steps) (is_on x.settled)
@@ -207,18 +198,16 @@ module _ {faces : Faces} {x : EventState} {r : ℕ} (k : MayRide faces x r) wher
 
   -- Nobody else has its dart noted.
   pub ride_alone : is_among (rider_at x.riders r).dart (darts_in x.noted) ≡ false
-  ride_alone = false_from_ne_true _ (λ a. by_note (noted_where x.noted rider.dart a))
-    where
-      by_note : (q : ℕ) × (q < length x.noted) × (note_at x.noted q ≡ Some rider.dart) → ⊥
-      by_note (q, l, n) =
-          let both = as_long now in
-          let begun = rider_at (after faces steps).riders q in
-          let f : (begun.stop ≡ None) × (rider.dart ≡ begun.dart) =
-          subst (IsNoted begun) n (rider_shown now q (omega (arith, l, both))).0 in
-          let same : r ≡ q = one_rider_on (after faces steps).riders (reached_at mesh steps).apart r q
-          (omega (arith, low, both)) (omega (arith, l, both)) (sym (ap (λ (b : Moving). b.stop) as_begun) ∙ ride_runs)
-          f.0 (sym (ap (λ (b : Moving). b.dart) as_begun) ∙ f.1) in
-          none-some rider.dart (sym ride_fresh ∙ (ap (note_at x.noted) same ∙ n))
+  ride_alone = false_from_ne_true _ (λ a.
+      let (q, l, n) = noted_where x.noted rider.dart a in
+      let both = as_long now in
+      let begun = rider_at (after faces steps).riders q in
+      let f : (begun.stop ≡ None) × (rider.dart ≡ begun.dart) =
+      subst (IsNoted begun) n (rider_shown now q (omega (arith, l, both))).0 in
+      let same : r ≡ q = one_rider_on (after faces steps).riders (reached_at mesh steps).apart r q
+      (omega (arith, low, both)) (omega (arith, l, both)) (sym (ap (λ (b : Moving). b.stop) as_begun) ∙ ride_runs)
+      f.0 (sym (ap (λ (b : Moving). b.dart) as_begun) ∙ f.1) in
+      none-some rider.dart (sym ride_fresh ∙ (ap (note_at x.noted) same ∙ n)))
 
   pub ride_reached : IsMotionOf faces (after_ride_of (terrain_of faces) x r)
   ride_reached = (

@@ -41,7 +41,8 @@ end_is faces v ds taken is low m = same_test _ _
     any_at (λ e. is_on taken (prev_of e)) (next_of d) (fan_of faces v)
     (in_filter (λ e. eqb (from_of faces e) v) (next_of d) (all_darts faces)
     (among_range 0 (darts faces) (next_of d) (omega arith)
-    (omega (arith, (terrain faces m).half.next_low d (low d n)))) t) (ap (is_on taken) (prev_of-next_of d) ∙ (is d ∙ n)))
+    (omega (arith, (terrain faces m).half.next_low d (low d n)))) t)
+    (ap (is_on taken) (prev_of-next_of d) ∙ (is d ∙ n)))
 
 -- Each settled vertex is the end of a noted dart.
 abbrev pub AreEnds : (faces : Faces) (x : EventState) → Type 0

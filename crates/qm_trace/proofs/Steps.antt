@@ -163,12 +163,12 @@ module _ {faces : Faces} {marks : List Bool} {k : ℕ} {riders : List Moving} {s
               reached d (sym (members d) ∙ m)
         ])
         (λ b. elim (or_cases (now.stood v) (list_any (arrives_at (terrain_of faces) (ridden now.riders) v)
-            (ridden now.riders)) b) [
-              | inl y ↦ or_left (now.stood v) _ y
-              | inr n ↦
-                  let (d, m, e) = any_where (arrives_at (terrain_of faces) (ridden now.riders) v) (ridden now.riders) n in
-                  or_right (now.stood v) _ (any_at (λ x. eqb (to_of faces x) v) d ds (members d ∙ m) (and_parts _ _ e).0)
-            ])
+        (ridden now.riders)) b) [
+          | inl y ↦ or_left (now.stood v) _ y
+          | inr n ↦
+              let (d, m, e) = any_where (arrives_at (terrain_of faces) (ridden now.riders) v) (ridden now.riders) n in
+              or_right (now.stood v) _ (any_at (λ x. eqb (to_of faces x) v) d ds (members d ∙ m) (and_parts _ _ e).0)
+        ])
 
     pub stepped : {riders2 : List Moving} {stood2 covered2 taken2 : List Bool}
         → riders2 ≡ (state_at faces marks (suc k)).riders → length stood2 ≡ length stood

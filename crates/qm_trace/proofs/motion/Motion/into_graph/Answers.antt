@@ -2,7 +2,7 @@ use Rattle.std.proofs.Common.{length, ap, ◌∙◌, arith}
 use Rattle.def_cut.specs.Motion.{ridden}
 use Rattle.site_laws.proofs.Laws.{graph_law}
 use Rattle.qm_trace.proofs.{Beginnings.starts_few, Calls.end_cut, Calls.end_riders, Ends.have_stopped}
-use Rattle.qm_trace.proofs.{Reaching.covered_long, Moves.reached_now, Fewer.riders_long}
+use Rattle.qm_trace.proofs.{Moves.reached_now, Fewer.riders_long}
 use Rattle.qm_trace.proofs.motion.Motion.into_graph.Goals as goal
 
 pub tell_riders-requires-clause-few : goal.tell_riders-requires-clause-few
@@ -35,7 +35,7 @@ tell_riders-requires-clause-stopped c =
 pub close-covered-requires : goal.close-covered-requires
 close-covered-requires c =
     let now = reached_now c.faces-known.ensures.mesh.manifold c.self.view_is c.requires.motion in
-    covered_long now
+    now.shown.covered_long
 
 pub returns-clause-graph : goal.returns-clause-graph
 returns-clause-graph c =

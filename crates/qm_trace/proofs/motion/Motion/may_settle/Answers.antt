@@ -1,19 +1,19 @@
 use Rattle.std.proofs.Common.{refl, false, length, ap, ◌∙◌, arith}
 use Rattle.std.proofs.lemmas.List.{get_or_default}
 use Rattle.def_cut.specs.Events.{darts_in}
-use Rattle.qm_trace.proofs.{Reaching.settled_long, Reaching.covered_long, Settled.end_is, Settled.noted_low_at}
+use Rattle.qm_trace.proofs.{Settled.end_is, Settled.noted_low_at}
 use Rattle.qm_trace.proofs.Moves.{reached_now}
 use Rattle.qm_trace.proofs.motion.Motion.may_settle.Goals as goal
 
 pub is_end-ends-requires-clause-taken : goal.is_end-ends-requires-clause-taken
 is_end-ends-requires-clause-taken c =
     let now = reached_now c.faces-known.ensures.mesh.manifold c.self.view_is c.requires.motion in
-    ap length c.deref.ensures.value ∙ (c.self.invariant.taken_long ∙ covered_long now)
+    ap length c.deref.ensures.value ∙ (c.self.invariant.taken_long ∙ now.shown.covered_long)
 
 pub index-requires : goal.index-requires
 index-requires c =
     let now = reached_now c.faces-known.ensures.mesh.manifold c.self.view_is c.requires.motion in
-    omega (arith, c.requires.vertex, settled_long now, c.self.inside.settled.ok.0)
+    omega (arith, c.requires.vertex, now.shown.settled_long, c.self.inside.settled.ok.0)
 
 pub returns : goal.returns
 returns c =
@@ -21,7 +21,7 @@ returns c =
     let ends = end_is c.args.mesh.now c.args.v (darts_in c.self.inside.notes.noted.items)
     c.self.inside.notes.taken.items c.self.invariant.notes_are.taken_is (noted_low_at now) now.mesh in
     let mark = c.index.ensures ∙ get_or_default c.self.inside.settled.items c.args.v c.index.result.now false
-    (omega (arith, c.requires.vertex, settled_long now)) in
+    (omega (arith, c.requires.vertex, now.shown.settled_long)) in
     rw (
       ← c.self.view_is,
       c.all_hold.ensures,

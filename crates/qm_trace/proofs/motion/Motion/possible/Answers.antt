@@ -2,7 +2,7 @@ use Rattle.std.proofs.Common.{◌≡◌, ℕ, true, length, refl, sym, ap, ◌�
 use Rattle.std.proofs.lemmas.Option.{none-some}
 use Rattle.def_mesh.specs.Darts.{to_of}
 use Rattle.def_cut.specs.{Events.darts_in, FullCut.is_on, Motion.is_among}
-use Rattle.qm_trace.proofs.Reaching.{reached, settled_long, noted_among, noted_where}
+use Rattle.qm_trace.proofs.Reaching.{reached, noted_among, noted_where}
 use Rattle.qm_trace.proofs.Possible.{none_there, over_where, settle_may, settle_not_over}
 use Rattle.qm_trace.proofs.{Beginnings.starts_few, Settled.noted_low_at, Moves.reached_now, Fewer.riders_long}
 use Rattle.qm_trace.proofs.motion.Motion.possible.Goals as goal
@@ -30,7 +30,7 @@ first_open-requires-clause-notes c r among =
 pub first_open-requires-clause-long : goal.first_open-requires-clause-long
 first_open-requires-clause-long c =
     let now = reached_now c.faces-known.ensures.mesh.manifold c.self.view_is c.requires in
-    ap length c.deref-5.ensures.value ∙ settled_long now
+    ap length c.deref-5.ensures.value ∙ now.shown.settled_long
 
 pub returns-in_err-vertex-clause-over : goal.returns-in_err-vertex-clause-over
 returns-in_err-vertex-clause-over c =

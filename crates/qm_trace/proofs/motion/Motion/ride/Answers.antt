@@ -3,7 +3,7 @@ use Rattle.std.proofs.lemmas.List.{length-set, with_items_is}
 use Rattle.def_cut.specs.{declared.moving.Moving.Moving, Views.IsMotionOn, Views.MotionView}
 use Rattle.qm_trace.specs.Motions.{is_untold}
 use Rattle.qm_trace.proofs.Calls.{made, ride_state, rode_counted, rode_waits}
-use Rattle.qm_trace.proofs.Reaching.{covered_long, ride_alone, ride_dart, ride_few}
+use Rattle.qm_trace.proofs.Reaching.{ride_alone, ride_dart, ride_few}
 use Rattle.qm_trace.proofs.Moves.{rides, as_read, rode_on}
 use Rattle.qm_trace.proofs.{Beginnings.starts_few, Counting.tally_few}
 use Rattle.qm_trace.proofs.motion.Motion.ride.Goals as goal
@@ -48,14 +48,14 @@ pub cover_edge-requires-clause-long : goal.cover_edge-requires-clause-long
 cover_edge-requires-clause-long c =
     let k = rides c.vertices-vertices.ensures.mesh.manifold c.self.view_is c.requires.motion c.args.r
     c.requires.rider c.requires.possible in
-    ap length c.deref_mut.ensures.value ∙ covered_long k.now
+    ap length c.deref_mut.ensures.value ∙ k.now.shown.covered_long
 
 pub note-requires-clause-dart : goal.note-requires-clause-dart
 note-requires-clause-dart c =
     let k = rides c.vertices-vertices.ensures.mesh.manifold c.self.view_is c.requires.motion c.args.r
     c.requires.rider c.requires.possible in
     let same = as_read k c.index-rider.ensures in
-    omega (arith, ap (λ (q : Moving). q.dart) same, ride_dart k, covered_long k.now, c.self.invariant.taken_long)
+    omega (arith, ap (λ (q : Moving). q.dart) same, ride_dart k, k.now.shown.covered_long, c.self.invariant.taken_long)
 
 pub note-requires-clause-alone : goal.note-requires-clause-alone
 note-requires-clause-alone c =

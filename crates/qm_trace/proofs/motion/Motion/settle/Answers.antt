@@ -2,7 +2,6 @@ use Rattle.std.proofs.Common.{true, sym, subst, ap, ◌∙◌, refl, arith}
 use Rattle.std.proofs.lemmas.List.{length-set}
 use Rattle.def_cut.specs.Views.{IsMotionOn}
 use Rattle.qm_trace.proofs.Moves.{settling, settles, settled_on}
-use Rattle.qm_trace.proofs.Reaching.{settled_long, covered_long, stood_long}
 use Rattle.qm_trace.proofs.Settled.{closed_state, ends_now, open_state, can_tell, noted_low_at, are_ends, settle_low}
 use Rattle.qm_trace.proofs.Settled.{still_wait}
 use Rattle.qm_trace.proofs.Calls.{counted_again, made, waits_again}
@@ -11,7 +10,7 @@ use Rattle.qm_trace.proofs.motion.Motion.settle.Goals as goal
 pub index-requires : goal.index-requires
 index-requires c =
     let k = settles c.faces-known.ensures.mesh.manifold c.self.view_is c.requires.motion c.args.v c.requires.possible in
-    omega (arith, settle_low k, stood_long k.now, c.self.inside.stood.ok.0)
+    omega (arith, settle_low k, k.now.shown.stood_long, c.self.inside.stood.ok.0)
 
 pub site_at-site-requires : goal.site_at-site-requires
 site_at-site-requires c =
@@ -33,17 +32,17 @@ tell_all-requires-clause-can c =
 pub index_mut-requires : goal.index_mut-requires
 index_mut-requires c =
     let k = settles c.faces-known.ensures.mesh.manifold c.self.view_is c.requires.motion c.args.v c.requires.possible in
-    omega (arith, settle_low k, stood_long k.now, c.self.inside.stood.ok.0)
+    omega (arith, settle_low k, k.now.shown.stood_long, c.self.inside.stood.ok.0)
 
 pub index_mut-requires-2 : goal.index_mut-requires-2
 index_mut-requires-2 c =
     let k = settles c.faces-known.ensures.mesh.manifold c.self.view_is c.requires.motion c.args.v c.requires.possible in
-    omega (arith, settle_low k, settled_long k.now, c.self.inside.settled.ok.0)
+    omega (arith, settle_low k, k.now.shown.settled_long, c.self.inside.settled.ok.0)
 
 pub clear-requires-clause-long : goal.clear-requires-clause-long
 clear-requires-clause-long c =
     let k = settles c.faces-known.ensures.mesh.manifold c.self.view_is c.requires.motion c.args.v c.requires.possible in
-    c.self.invariant.taken_long ∙ covered_long k.now
+    c.self.invariant.taken_long ∙ k.now.shown.covered_long
 
 pub clear-requires-clause-low : goal.clear-requires-clause-low
 clear-requires-clause-low c =
@@ -53,7 +52,7 @@ clear-requires-clause-low c =
 pub clear-requires-clause-settled_long : goal.clear-requires-clause-settled_long
 clear-requires-clause-settled_long c =
     let k = settles c.faces-known.ensures.mesh.manifold c.self.view_is c.requires.motion c.args.v c.requires.possible in
-    length-set c.self.inside.settled.items c.args.v true ∙ settled_long k.now
+    length-set c.self.inside.settled.items c.args.v true ∙ k.now.shown.settled_long
 
 pub clear-requires-clause-settled : goal.clear-requires-clause-settled
 clear-requires-clause-settled c =
