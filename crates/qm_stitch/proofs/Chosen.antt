@@ -6,7 +6,7 @@ use Rattle.std.specs.{List.Contains, Prelude.pos, Prelude.ℤ}
 use Rattle.def_certtext.specs.declared.certs.Rise.{Rise}
 use Rattle.def_flow.specs.declared.limits.TheConstants.{MAX_FLOOR}
 use Rattle.def_layout.specs.{Lengths.Lengths, Layouts.gluing_of, Layouts.Layout, Surfaces.HasWholeSides}
-use Rattle.def_remesh.specs.{NewPoints.lengths_in, Rises.rise_at, Rises.AreNeeded, Rises.IsTightArc}
+use Rattle.def_remesh.specs.{NewPoints.lengths_in, Rises.AreNeeded, Rises.IsTightArc}
 use Rattle.qm_stitch.specs.Raised.{AreRisesUpto, IsShortTight}
 use Rattle.qm_stitch.specs.Remedies.{AreMarksOf, FollowCheapest, IsArcOf, IsCheapest, IsCheapestIn, IsRemedy}
 use Rattle.qm_stitch.specs.declared.remedy.Remedy.{Remedy}
@@ -14,11 +14,10 @@ use Rattle.qm_stitch.specs.declared.remedy.Run.TheVariants.{Arc}
 use Rattle.qm_stitch.proofs.RiseLists.{all_needed, chosen_needed}
 use Rattle.qm_stitch.proofs.Runs.{arc_low, none_short, remedy_in, remedy_tight}
 
-module _ (layout : Layout) (xs : List ℕ) (prices : List ℤ) (rs : List Remedy) (marks : List Bool) (rises : List Rise)
-    (paved : HasWholeSides (gluing_of layout)) (long : length xs ≡ length layout.arcs)
-    (found : (r : Remedy) → Contains rs r ↔ IsRemedy layout (lengths_in xs) prices r)
-    (are : AreMarksOf layout rs marks) (some : Bool) (on : some ≡ true → 0 < length rs)
-    (off : some ≡ false → length rs ≡ 0) (risen : AreRisesUpto some marks xs (length xs) rises) where
+module _ {layout : Layout} {xs : List ℕ} (prices : List ℤ) {rs : List Remedy} {marks : List Bool} {rises : List Rise}
+    (paved : HasWholeSides (gluing_of layout)) (long : length xs ≡ length layout.arcs) (found : (r : Remedy) → Contains
+    rs r ↔ IsRemedy layout (lengths_in xs) prices r) (are : AreMarksOf layout rs marks) {some : Bool} (on : some ≡ true
+    → 0 < length rs) (off : some ≡ false → length rs ≡ 0) (risen : AreRisesUpto some marks xs (length xs) rises) where
   abbrev x : Lengths
   x = lengths_in xs
 
@@ -38,48 +37,39 @@ module _ (layout : Layout) (xs : List ℕ) (prices : List ℤ) (rs : List Remedy
   some_short : 0 < length rs → (arc : ℕ) × (arc < length xs) × IsShortTight marks xs arc
   some_short has =
       let c = are.each _ (Contains-get_or rs 0 (record { key = 0; price = pos 0; run = Arc 0 }) has) in
-      of_remedy c.0 c.1 c.3
-    where
-      of_remedy : (r : Remedy) → IsCheapestIn rs r → ((arc : ℕ) → arc < length layout.arcs → IsArcOf layout r.run arc
-          → get_or marks arc false ≡ true) → (arc : ℕ) × (arc < length xs) × IsShortTight marks xs arc
-      of_remedy r is all =
-          let remedy : IsRemedy layout x prices r = (found r).0 is.has in
-          let short = remedy.1.short in
-          let less : short.0 < length layout.arcs = low r short.0 remedy short.1 in
-          (short.0, omega (arith, less, long), (all short.0 less short.1, short.2))
+      let remedy = (found c.0).0 c.1.has in
+      let short = remedy.1.short in
+      let less = low c.0 short.0 remedy short.1 in
+      (short.0, omega arith, (c.3 short.0 less short.1, short.2))
 
   pub choice_needed : ¬ ((arc : ℕ) → arc < length xs → MAX_FLOOR ≤ x arc) → AreNeeded (gluing_of layout) x rises
   choice_needed not_long = by_some some refl
     where
       by_some : (b : Bool) → some ≡ b → AreNeeded (gluing_of layout) x rises
-      by_some true is = chosen_needed (gluing_of layout) xs marks long rises marked
-          (subst (λ (b : Bool). AreRisesUpto b marks xs (length xs) rises) is risen) (some_short (on is))
-      by_some false is =
-          all_needed (gluing_of layout) xs marks long rises
-          (none_short layout x prices
-          (λ r remedy. let has = (found r).1 remedy in omega (arith, has.1, off is)))
-          (subst (λ (b : Bool). AreRisesUpto b marks xs (length xs) rises) is risen) not_long
+      by_some true is =
+          chosen_needed (gluing_of layout) xs marks long rises marked (rw is at risen) (some_short (on is))
+      by_some false is = all_needed (gluing_of layout) xs marks long rises (none_short layout x prices
+          (λ r remedy. let has = (found r).1 remedy in omega (arith, off is))) (rw is at risen) not_long
 
   by_marks : (r : Remedy) → IsRemedy layout x prices r → AreRisesUpto true marks xs (length xs) rises
   by_marks r remedy = by_some some refl
     where
       by_some : (b : Bool) → some ≡ b → AreRisesUpto true marks xs (length xs) rises
-      by_some true is = subst (λ (b : Bool). AreRisesUpto b marks xs (length xs) rises) is risen
-      by_some false is = let has = (found r).1 remedy in absurd (omega (arith, has.1, off is))
+      by_some true is = rw is at risen
+      by_some false is = let has = (found r).1 remedy in absurd (omega arith)
 
   pub choice_follows : FollowCheapest layout x prices rises
   choice_follows = record {
     each = λ r remedy.
-        let c = are.each r ((found r).1 remedy) in (
-          c.0,
+        let c = are.each r ((found r).1 remedy) in ( c.0,
           cheapest c.0 c.1,
           c.2,
           λ arc of short.
-              let less : arc < length layout.arcs = low c.0 arc ((found c.0).0 c.1.has) of in
-              (by_marks r remedy).each arc (x arc + 1) (omega (arith, less, long)) (short, c.3 arc less of, refl),
+              let less = low c.0 arc ((found c.0).0 c.1.has) of in
+              (by_marks r remedy).each arc (x arc + 1) (omega arith) (short, c.3 arc less of, refl),
         );
     only = λ r remedy arc has.
         let floor = (by_marks r remedy).floors has.0 has.1 in
-        let c = are.only (rise_at rises has.0).arc (omega (arith, floor.0, long)) floor.1.1 in
+        let c = are.only _ (omega arith) floor.1.1 in
         (c.0, cheapest c.0 c.1, subst (IsArcOf layout c.0.run) has.2 c.2);
   }

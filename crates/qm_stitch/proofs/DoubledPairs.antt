@@ -1,7 +1,7 @@
 -- What repeats among the keys of the listed edges are the doubled pairs.
 use Rattle.std.proofs.Common.{◌≡◌, ◌≢◌, ◌⊎◌, ℕ, ◌+◌, ◌*◌, ◌/◌, ◌%◌, ◌^◌, ◌<◌, ◌≤◌, List, length, get_or, refl, sym, ◌∙◌}
 use Rattle.std.proofs.Common.{ap, subst, inl, inr, arith}
-use Rattle.std.proofs.lemmas.Bool.{cases_lt}
+use Rattle.std.proofs.lemmas.Bool.{cases_lt, cases_order}
 use Rattle.std.proofs.lemmas.List.{get_or-map, get_or_default, length-map}
 use Rattle.std.specs.{Prelude.min, Prelude.max, List.Contains, Coded.×_prop, Coded.le_prop}
 use mathlib.Core.HLevel.{⊥_prop}
@@ -20,8 +20,7 @@ use Rattle.qm_stitch.specs.Rims.{key_of, keys_of, pair_key, rim_edges, IsLeastRe
 use Rattle.qm_stitch.proofs.RimEdges.{all_edges, deep_or_listed, fresh_rim, IsDeep}
 
 -- The two vertices of a key.
-split_key : (a b key : ℕ) → a < 2 ^ 32 → b < 2 ^ 32 → key ≡ pair_key a b
-    → (key / 2 ^ 32 ≤ key % 2 ^ 32)
+split_key : (a b key : ℕ) → a < 2 ^ 32 → b < 2 ^ 32 → key ≡ pair_key a b → (key / 2 ^ 32 ≤ key % 2 ^ 32)
     × (((a ≡ key / 2 ^ 32) × (b ≡ key % 2 ^ 32)) ⊎ ((a ≡ key % 2 ^ 32) × (b ≡ key / 2 ^ 32)))
 split_key a b key a_low b_low is =
     let high : key / 2 ^ 32 ≡ min a b = omega arith in
@@ -51,7 +50,7 @@ module _ (l : Gluing) (x : Lengths) (laid : IsSurface l) (len : AreLengths l x) 
     way = east;
     inner = (is.0, record { a_some = deep.0; a_low = is.1; b_some = is.2; b_low = is.3 });
     is = refl;
-    other = point_inside l x laid len p (i + 1) j (omega arith) deep.1 is.2 is.3;
+    other = point_inside l x laid len p _ j (omega arith) deep.1 is.2 is.3;
   }
   deep_hub (steep p i j) is deep = record {
     p = p;
@@ -63,56 +62,27 @@ module _ (l : Gluing) (x : Lengths) (laid : IsSurface l) (len : AreLengths l x) 
     other = point_inside l x laid len p i (j + 1) is.1 is.2 (omega arith) deep.1;
   }
 
-  -- It is the only one between its ends.
-  hub_alone : (e f : Edge) (h : IsHub e) → IsEdge l x f
-      → Joins l x f (inside h.p h.i h.j) (tip l x h.p h.i h.j h.way) → e ≡ f
-  hub_alone e f h is_f joins = by_way (hub_edge l x laid len f h.p h.i h.j (tip l x h.p h.i h.j h.way) is_f joins)
-    where
-      by_way : (w : Way) × (f ≡ spoke h.p h.i h.j w) × (tip l x h.p h.i h.j h.way ≡ tip l x h.p h.i h.j w) → e ≡ f
-      by_way s =
-          let at : (h.p ≡ h.p) × (tip_column h.i s.0 ≡ tip_column h.i h.way) × (tip_row h.j s.0 ≡ tip_row h.j h.way) =
-          point_sort l x laid len h.p (tip_column h.i s.0) (tip_row h.j s.0) h.p (tip_column h.i h.way)
-          (tip_row h.j h.way) h.inner.0
-          (tip_low l x laid len h.p h.i h.j s.0 h.inner).0 (tip_low l x laid len h.p h.i h.j s.0 h.inner).1 (sym s.2
-          ∙ h.other) in
-          let same : s.0 ≡ h.way = one_way h.i h.j s.0 h.way h.inner.1.a_some h.inner.1.b_some at.1 at.2 in
-          h.is ∙ ap (spoke h.p h.i h.j) (sym same) ∙ sym s.1
-
   -- Edges with the same numbers at their ends join the same points.
   joins_same : (e f : Edge) (u v : ℕ) → IsEdge l x e → IsEdge l x f → HasEnds l x e u v → HasEnds l x f u v
       → Joins l x f (edge_start l x e) (edge_end l x e)
-  joins_same e f u v is_e is_f e_ends f_ends = by_order e_ends f_ends
-    where
-      low_low : vertex_number l x (edge_start l x f) ≡ vertex_number l x (edge_start l x e)
-          → edge_start l x f ≡ edge_start l x e
-      low_low = number_same l x (edge_start l x f) (edge_start l x e) (edge_points l x laid len f is_f).0
-          (edge_points l x laid len e is_e).0
-
-      top_top : vertex_number l x (edge_end l x f) ≡ vertex_number l x (edge_end l x e)
-          → edge_end l x f ≡ edge_end l x e
-      top_top = number_same l x (edge_end l x f) (edge_end l x e) (edge_points l x laid len f is_f).1
-          (edge_points l x laid len e is_e).1
-
-      low_top : vertex_number l x (edge_start l x f) ≡ vertex_number l x (edge_end l x e)
-          → edge_start l x f ≡ edge_end l x e
-      low_top = number_same l x (edge_start l x f) (edge_end l x e) (edge_points l x laid len f is_f).0
-          (edge_points l x laid len e is_e).1
-
-      top_low : vertex_number l x (edge_end l x f) ≡ vertex_number l x (edge_start l x e)
-          → edge_end l x f ≡ edge_start l x e
-      top_low = number_same l x (edge_end l x f) (edge_start l x e) (edge_points l x laid len f is_f).1
-          (edge_points l x laid len e is_e).0
-
-      by_order : HasEnds l x e u v → HasEnds l x f u v → Joins l x f (edge_start l x e) (edge_end l x e)
-      by_order (inl s) (inl t) = inl (low_low (t.0 ∙ sym s.0), top_top (t.1 ∙ sym s.1))
-      by_order (inl s) (inr t) = inr (low_top (t.0 ∙ sym s.1), top_low (t.1 ∙ sym s.0))
-      by_order (inr s) (inl t) = inr (low_top (t.0 ∙ sym s.1), top_low (t.1 ∙ sym s.0))
-      by_order (inr s) (inr t) = inl (low_low (t.0 ∙ sym s.0), top_top (t.1 ∙ sym s.1))
+  joins_same e f u v is_e is_f e_ends f_ends =
+      let one = number_same l x in
+      let p = edge_points l x laid len e is_e in
+      let q = edge_points l x laid len f is_f in
+      elim e_ends [
+        | inl s ↦ elim f_ends [
+          | inl t ↦ inl (one _ _ q.0 p.0 (t.0 ∙ sym s.0), one _ _ q.1 p.1 (t.1 ∙ sym s.1))
+          | inr t ↦ inr (one _ _ q.0 p.1 (t.0 ∙ sym s.1), one _ _ q.1 p.0 (t.1 ∙ sym s.0))
+        ]
+        | inr s ↦ elim f_ends [
+          | inl t ↦ inr (one _ _ q.0 p.1 (t.0 ∙ sym s.1), one _ _ q.1 p.0 (t.1 ∙ sym s.0))
+          | inr t ↦ inl (one _ _ q.0 p.0 (t.0 ∙ sym s.0), one _ _ q.1 p.1 (t.1 ∙ sym s.1))
+        ]
+      ]
 
   hub_joins : (e f : Edge) (h : IsHub e) → Joins l x f (edge_start l x e) (edge_end l x e)
       → Joins l x f (inside h.p h.i h.j) (tip l x h.p h.i h.j h.way)
-  hub_joins e f h joins = by_spoke (subst (λ (g : Edge). Joins l x g (inside h.p h.i h.j) (tip l x h.p h.i h.j h.way))
-      (sym h.is) (spoke_joins l x laid len h.p h.i h.j h.way h.inner)) joins
+  hub_joins e f h joins = by_spoke (rw h.is (spoke_joins l x laid len h.p h.i h.j h.way h.inner)) joins
     where
       by_spoke : Joins l x e (inside h.p h.i h.j) (tip l x h.p h.i h.j h.way)
           → Joins l x f (edge_start l x e) (edge_end l x e)
@@ -126,36 +96,29 @@ module _ (l : Gluing) (x : Lengths) (laid : IsSurface l) (len : AreLengths l x) 
   pub deep_alone : (e f : Edge) (u v : ℕ) → IsEdge l x e → IsEdge l x f → HasEnds l x e u v → HasEnds l x f u v
       → IsDeep l x e → e ≡ f
   deep_alone e f u v is_e is_f e_ends f_ends deep =
-      let h : IsHub e = deep_hub e is_e deep in
-      hub_alone e f h is_f (hub_joins e f h (joins_same e f u v is_e is_f e_ends f_ends))
+      let h = deep_hub e is_e deep in
+      let s = hub_edge l x laid len f h.p h.i h.j (tip l x h.p h.i h.j h.way) is_f
+      (hub_joins e f h (joins_same e f u v is_e is_f e_ends f_ends)) in
+      let low = tip_low l x laid len h.p h.i h.j s.0 h.inner in
+      let at = point_sort l x laid len h.p (tip_column h.i s.0) (tip_row h.j s.0) h.p (tip_column h.i h.way)
+      (tip_row h.j h.way) h.inner.0 low.0 low.1 (sym s.2 ∙ h.other) in
+      let same = one_way h.i h.j s.0 h.way h.inner.1.a_some h.inner.1.b_some at.1 at.2 in
+      h.is ∙ ap (spoke h.p h.i h.j) (sym same) ∙ sym s.1
 
   -- An edge between two inner points has two ends.
   pub deep_apart : (e : Edge) (u : ℕ) → IsEdge l x e → HasEnds l x e u u → IsDeep l x e → ⊥
   deep_apart e u is ends deep =
-      let h : IsHub e = deep_hub e is deep in loop_at l x laid len e h.p h.i h.j h.way h.inner h.is (equal ends)
-    where
-      same : vertex_number l x (edge_start l x e) ≡ vertex_number l x (edge_end l x e)
-          → edge_start l x e ≡ edge_end l x e
-      same = number_same l x (edge_start l x e) (edge_end l x e) (edge_points l x laid len e is).0
-          (edge_points l x laid len e is).1
-
-      equal : HasEnds l x e u u → edge_start l x e ≡ edge_end l x e
-      equal (inl s) = same (s.0 ∙ sym s.1)
-      equal (inr s) = same (s.0 ∙ sym s.1)
+      let h = deep_hub e is deep in
+      let p = edge_points l x laid len e is in
+      let same = number_same l x _ _ p.0 p.1 in
+      loop_at l x laid len e h.p h.i h.j h.way h.inner h.is
+      (elim ends [ inl s ↦ same (s.0 ∙ sym s.1) | inr s ↦ same (s.0 ∙ sym s.1) ])
 
 module _ (l : Gluing) (x : Lengths) (paved : HasWholeSides l) (laid : ∥ IsSurface l ∥₁) (len : AreLengths l x) where
   -- An edge that is doubled is listed.
-  listed : (e f : Edge) (u v : ℕ) → IsEdge l x e → IsEdge l x f → HasEnds l x e u v → HasEnds l x f u v → e ≢ f
-      → Contains (rim_edges l x) e
-  listed e f u v is_e is_f e_ends f_ends apart = elim (deep_or_listed l x e is_e) [
-    | inl deep ↦ absurd (∥∥₁_elim laid ⊥_prop (λ is. apart (deep_alone l x is len e f u v is_e is_f e_ends f_ends
-        deep)))
-    | inr has ↦ has
-  ]
-
-  loop_listed : (e : Edge) (u : ℕ) → IsEdge l x e → HasEnds l x e u u → Contains (rim_edges l x) e
-  loop_listed e u is ends = elim (deep_or_listed l x e is) [
-    | inl deep ↦ absurd (∥∥₁_elim laid ⊥_prop (λ whole. deep_apart l x whole len e u is ends deep))
+  listed : (e : Edge) → IsEdge l x e → (IsSurface l → IsDeep l x e → ⊥) → Contains (rim_edges l x) e
+  listed e is never = elim (deep_or_listed l x e is) [
+    | inl deep ↦ absurd (∥∥₁_elim laid ⊥_prop (λ whole. never whole deep))
     | inr has ↦ has
   ]
 
@@ -163,8 +126,8 @@ module _ (l : Gluing) (x : Lengths) (paved : HasWholeSides l) (laid : ∥ IsSurf
     ends_low : (e : Edge) → IsEdge l x e → (vertex_number l x (edge_start l x e) < 2 ^ 32)
         × (vertex_number l x (edge_end l x e) < 2 ^ 32)
     ends_low e is = ∥∥₁_elim laid (×_prop le_prop le_prop) (λ whole. let ends = edge_points l x whole len e is in (
-      omega (arith, few, number_low l x (edge_start l x e) ends.0),
-      omega (arith, few, number_low l x (edge_end l x e) ends.1),
+      omega (arith, number_low l x (edge_start l x e) ends.0),
+      omega (arith, number_low l x (edge_end l x e) ends.1),
     ))
 
     pub key_ends : (e : Edge) (key : ℕ) → IsEdge l x e → key ≡ key_of l x e
@@ -190,101 +153,66 @@ module _ (l : Gluing) (x : Lengths) (paved : HasWholeSides l) (laid : ∥ IsSurf
     edge_at k = get_or edges k (on_arc 0 0)
 
     edge_is : (k : ℕ) → k < length keys → IsEdge l x (edge_at k)
-    edge_is k less = all_edges l x paved len k (on_arc 0 0) (omega (arith, less, keys_long))
+    edge_is k less = all_edges l x paved len k (on_arc 0 0) (omega (arith, keys_long))
 
     key_at : (k d : ℕ) → k < length keys → get_or keys k d ≡ key_of l x (edge_at k)
-    key_at k d less = get_or-map (key_of l x) edges k (on_arc 0 0) d (omega (arith, less, keys_long))
+    key_at k d less = get_or-map (key_of l x) edges k (on_arc 0 0) d (omega (arith, keys_long))
 
     -- What repeats is doubled.
     pub repeat_doubled : (key : ℕ) → IsRepeat keys key → IsDoubledAt l x (key / 2 ^ 32) (key % 2 ^ 32)
-    repeat_doubled key (inl (same, (k, k_low, at))) =
-        let ends : (key / 2 ^ 32 ≤ key % 2 ^ 32) × HasEnds l x (edge_at k) (key / 2 ^ 32) (key % 2 ^ 32) =
-        key_ends (edge_at k) key (edge_is k k_low) (sym at ∙ key_at k key k_low) in (
-          ends.0,
-          inl (
-            same,
-            (
-              edge_at k,
-              edge_is k k_low,
-              subst (λ v. HasEnds l x (edge_at k) (key / 2 ^ 32) v) (sym same) ends.1,
-            ),
-          ),
-        )
+    repeat_doubled key (inl (same, (k, low, at))) =
+        let ends = key_ends (edge_at k) key (edge_is k low) (sym at ∙ key_at k key low) in
+        (ends.0, inl (same, (edge_at k, edge_is k low, rw (← same) at ends.1)))
     repeat_doubled key (inr (i, j, less, j_low, at_i, at_j)) =
         let i_low : i < length keys = omega (arith, less, j_low) in
-        let i_ends : (key / 2 ^ 32 ≤ key % 2 ^ 32) × HasEnds l x (edge_at i) (key / 2 ^ 32) (key % 2 ^ 32) =
-        key_ends (edge_at i) key (edge_is i i_low) (sym at_i ∙ key_at i 0 i_low) in
-        let j_ends : (key / 2 ^ 32 ≤ key % 2 ^ 32) × HasEnds l x (edge_at j) (key / 2 ^ 32) (key % 2 ^ 32) =
-        key_ends (edge_at j) key (edge_is j j_low) (sym at_j ∙ key_at j 0 j_low) in (
-          i_ends.0,
-          inr (
-            edge_at i,
-            edge_at j,
-            edge_is i i_low,
-            edge_is j j_low,
-            fresh_rim l x i j (on_arc 0 0) less (omega (arith, j_low, keys_long)),
-            i_ends.1,
-            j_ends.1,
-          ),
-        )
+        let i_ends = key_ends (edge_at i) key (edge_is i i_low) (sym at_i ∙ key_at i 0 i_low) in
+        let j_ends = key_ends (edge_at j) key (edge_is j j_low) (sym at_j ∙ key_at j 0 j_low) in
+        let apart = fresh_rim l x i j (on_arc 0 0) less (omega (arith, j_low, keys_long)) in
+        (i_ends.0, inr (edge_at i, edge_at j, edge_is i i_low, edge_is j j_low, apart, i_ends.1, j_ends.1))
 
     -- A listed edge stands at a place, with its key.
-    place_of : (e : Edge) → Contains edges e → (k : ℕ) × (k < length keys) × (edge_at k ≡ e)
-    place_of e (k, less, at) = (k, omega (arith, less, keys_long), get_or_default edges k (on_arc 0 0) e less ∙ at)
+    place_of : (e : Edge) (u v : ℕ) → u ≤ v → IsEdge l x e → HasEnds l x e u v → Contains edges e
+        → (k : ℕ) × (k < length keys) × (edge_at k ≡ e) × ((d : ℕ) → get_or keys k d ≡ u * 2 ^ 32 + v)
+    place_of e u v le is ends (k, less, at) =
+        let low : k < length keys = omega (arith, less, keys_long) in
+        let same = get_or_default edges k (on_arc 0 0) e less ∙ at in
+        (k, low, same, λ d. key_at k d low ∙ ap (key_of l x) same ∙ (ends_key e u v is le ends).0)
 
     -- What is doubled repeats.
     pub doubled_repeats : (u v : ℕ) → IsDoubledAt l x u v → IsRepeat keys (u * 2 ^ 32 + v) × (v < 2 ^ 32)
-    doubled_repeats u v (le, inl (same, (e, is, ends))) = at_place (place_of e (loop_listed e u is ends))
-      where
-        ends_uv : HasEnds l x e u v
-        ends_uv = subst (λ w. HasEnds l x e u w) same ends
-
-        at_place : (k : ℕ) × (k < length keys) × (edge_at k ≡ e) → IsRepeat keys (u * 2 ^ 32 + v) × (v < 2 ^ 32)
-        at_place (k, less, at) =
-            let key : (key_of l x e ≡ u * 2 ^ 32 + v) × (v < 2 ^ 32) = ends_key e u v is le ends_uv in (
-              inl (omega (arith, same, key.1), (k, less, key_at k (u * 2 ^ 32 + v) less ∙ ap (key_of l x) at ∙ key.0)),
-              key.1,
-            )
+    doubled_repeats u v (le, inl (same, (e, is, ends))) =
+        let loop = listed e is (λ whole. deep_apart l x whole len e u is ends) in
+        let ends_uv = subst (λ w. HasEnds l x e u w) same ends in
+        let at = place_of e u v le is ends_uv loop in
+        let low = (ends_key e u v is le ends_uv).1 in
+        (inl (omega (arith, same, low), (at.0, at.1, at.3 (u * 2 ^ 32 + v))), low)
     doubled_repeats u v (le, inr (e, f, is_e, is_f, apart, e_ends, f_ends)) =
-        at_places (place_of e (listed e f u v is_e is_f e_ends f_ends apart))
-        (place_of f (listed f e u v is_f is_e f_ends e_ends (λ same. apart (sym same))))
-      where
-        at_places : (k : ℕ) × (k < length keys) × (edge_at k ≡ e) → (m : ℕ) × (m < length keys) × (edge_at m ≡ f)
-            → IsRepeat keys (u * 2 ^ 32 + v) × (v < 2 ^ 32)
-        at_places (k, k_low, k_at) (m, m_low, m_at) =
-            let e_key : (key_of l x e ≡ u * 2 ^ 32 + v) × (v < 2 ^ 32) = ends_key e u v is_e le e_ends in
-            let f_key : (key_of l x f ≡ u * 2 ^ 32 + v) × (v < 2 ^ 32) = ends_key f u v is_f le f_ends in
-            let k_key : get_or keys k 0 ≡ u * 2 ^ 32 + v = key_at k 0 k_low ∙ ap (key_of l x) k_at ∙ e_key.0 in
-            let m_key : get_or keys m 0 ≡ u * 2 ^ 32 + v = key_at m 0 m_low ∙ ap (key_of l x) m_at ∙ f_key.0 in (
-              inr (elim (cases_lt k m) [
-                | inl less ↦ (k, m, less, m_low, k_key, m_key)
-                | inr more ↦ (m, k, order more, k_low, m_key, k_key)
-              ]),
-              e_key.1,
-            )
-          where
-            order : m ≤ k → m < k
-            order more = elim (cases_lt m k) [
-              | inl less ↦ less
-              | inr le ↦ absurd (apart (sym k_at ∙ ap edge_at (let e : k ≡ m = omega arith in e) ∙ m_at))
-            ]
+        let never = λ (g h : Edge) (is_g : IsEdge l x g) (is_h : IsEdge l x h) (g_ends : HasEnds l x g u v)
+        (h_ends : HasEnds l x h u v) (other : g ≢ h) (whole : IsSurface l) (deep : IsDeep l x g).
+        other (deep_alone l x whole len g h u v is_g is_h g_ends h_ends deep) in
+        let k = place_of e u v le is_e e_ends (listed e is_e (never e f is_e is_f e_ends f_ends apart)) in
+        let m = place_of f u v le is_f f_ends
+        (listed f is_f (never f e is_f is_e f_ends e_ends (λ same. apart (sym same)))) in (
+          inr (elim (cases_order k.0 m.0) [
+            | inl same ↦ absurd (apart (sym k.2 ∙ ap edge_at same ∙ m.2))
+            | inr (inl less) ↦ (k.0, m.0, less, m.1, k.3 0, m.3 0)
+            | inr (inr more) ↦ (m.0, k.0, more, k.1, m.3 0, k.3 0)
+          ]),
+          (ends_key e u v is_e le e_ends).1,
+        )
 
     -- The least that repeats is the least pair.
     pub first_doubled : (key : ℕ) → IsLeastRepeat keys key → IsFirstDoubled l x (key / 2 ^ 32) (key % 2 ^ 32)
     first_doubled key is = record {
       doubled = repeat_doubled key is.is;
       least = λ a b doubled.
-          let r : IsRepeat keys (a * 2 ^ 32 + b) × (b < 2 ^ 32) = doubled_repeats a b doubled in
-          let le : key ≤ a * 2 ^ 32 + b = is.least (a * 2 ^ 32 + b) r.0 in
-          by_order a b r.1 le;
+          let r = doubled_repeats a b doubled in
+          let le = is.least (a * 2 ^ 32 + b) r.0 in
+          elim (cases_lt (key / 2 ^ 32) a) [
+            | inl less ↦ inl less
+            | inr more ↦ inr (omega (arith, r.1), omega (arith, r.1))
+          ];
     }
-      where
-        by_order : (a b : ℕ) → b < 2 ^ 32 → key ≤ a * 2 ^ 32 + b → (key / 2 ^ 32 < a)
-            ⊎ ((key / 2 ^ 32 ≡ a) × (key % 2 ^ 32 ≤ b))
-        by_order a b b_low le = elim (cases_lt (key / 2 ^ 32) a) [
-          | inl less ↦ inl less
-          | inr more ↦ inr (omega arith, omega arith)
-        ]
 
     pub none_doubled : ((key : ℕ) → ¬ IsRepeat keys key) → IsUndoubled l x
     none_doubled none u v doubled = none (u * 2 ^ 32 + v) (doubled_repeats u v doubled).0

@@ -23,12 +23,12 @@ module _ (some : Bool) (tight : List Bool) (xs : List ℕ) where
   pub stays : (arc : ℕ) (rises : List Rise) → AreRisesUpto some tight xs arc rises
       → ((floor : ℕ) → ¬ IsFloorOf some tight xs arc floor) → AreRisesUpto some tight xs (arc + 1) rises
   stays arc rises are none = record {
-    below = λ k low. omega (arith, are.below k low);
+    below = λ k low. omega arith;
     ordered = are.ordered;
     floors = are.floors;
     each = λ a floor low is. elim (cases_eq a arc) [
-      | inl same ↦ absurd (none floor (subst (λ (b : ℕ). IsFloorOf some tight xs b floor) same is))
-      | inr other ↦ are.each a floor (omega (arith, low, other)) is
+      | inl same ↦ absurd (none floor (rw (← same) is))
+      | inr other ↦ are.each a floor (omega arith) is
     ];
   }
 
@@ -38,22 +38,14 @@ module _ (some : Bool) (tight : List Bool) (xs : List ℕ) where
   rises_too arc rise rises are same low is = record {
     below = λ k k_low. by_place (λ r. r.arc < arc + 1) k k_low (λ old. omega (arith, are.below k old))
         (omega (arith, same));
-    ordered = λ k k_low. elim (cases_lt (k + 1) (length rises)) [
-      | inl old ↦ subst (λ (r : Rise). r.arc < (rise_at (rises ++ rise ∷ []) (k + 1)).arc)
-          (sym (at_old k (omega (arith, old))))
-          (subst (λ (r : Rise). (rise_at rises k).arc < r.arc) (sym (at_old (k + 1) old)) (are.ordered k old))
-      | inr last ↦
-          let before : k < length rises = omega (arith, k_low, longer) in
-          subst (λ (r : Rise). r.arc < (rise_at (rises ++ rise ∷ []) (k + 1)).arc) (sym (at_old k before))
-          (subst (λ (r : Rise). (rise_at rises k).arc < r.arc)
-          (sym (at_new (k + 1) (omega (arith, last, before))))
-          (omega (arith, same, are.below k before)))
-    ];
+    ordered = λ k k_low.
+        let before : k < length rises = omega (arith, longer) in
+        rw (at_old k before) (by_place (λ r. (rise_at rises k).arc < r.arc) (k + 1) k_low (are.ordered k)
+        (omega (arith, are.below k before)));
     floors = λ k k_low. by_place (λ r. (r.arc < length xs) × IsFloorOf some tight xs r.arc r.floor) k k_low
         (are.floors k) (omega (arith, same, low), is);
     each = λ a floor a_low has. elim (cases_eq a arc) [
-      | inl this ↦ (
-        length rises,
+      | inl this ↦ ( length rises,
         omega (arith, longer),
         ap (λ (r : Rise). r.arc) (at_new (length rises) refl) ∙ same ∙ sym this,
       )
@@ -82,84 +74,73 @@ module _ (some : Bool) (tight : List Bool) (xs : List ℕ) where
 -- A short arc is there, or all are long.
 find_short : (xs : List ℕ) (n : ℕ) → ((arc : ℕ) × (arc < n) × (lengths_in xs arc < MAX_FLOOR))
     ⊎ ((arc : ℕ) → arc < n → MAX_FLOOR ≤ lengths_in xs arc)
-find_short xs zero = inr (λ arc low. absurd (omega (arith, low)))
-find_short xs (suc n) = elim (cases_lt (lengths_in xs n) MAX_FLOOR) [
+find_short xs zero = inr (λ arc low. absurd (omega arith))
+find_short xs (suc n) = elim (cases_lt _ MAX_FLOOR) [
   | inl short ↦ inl (n, omega arith, short)
   | inr high ↦ elim (find_short xs n) [
-    | inl (arc, low, short) ↦ inl (arc, omega (arith, low), short)
+    | inl (arc, low, short) ↦ inl (arc, omega arith, short)
     | inr all ↦ inr (λ arc low. elim (cases_lt arc n) [
       | inl less ↦ all arc less
-      | inr more ↦ subst (λ (a : ℕ). MAX_FLOOR ≤ lengths_in xs a) (let e : n ≡ arc = omega (arith, low, more) in e) high
+      | inr more ↦ rw (← let e : n ≡ arc = omega (arith, low, more) in e) high
     ])
   ]
 ]
 
-module _
-    (l : Gluing) (xs : List ℕ) (tight : List Bool) (long : length xs ≡ l.arcs)
-    (tells : (arc : ℕ) → arc < l.arcs → (get_or tight arc false ≡ true) ↔ IsTightArc l (lengths_in xs) arc)
-    (some : Bool) (told : (some ≡ true) ↔ ((arc : ℕ) × (arc < length xs) × IsShortTight tight xs arc))
-  where
-    tight_long : some ≡ false → AreTightLong l (lengths_in xs)
-    tight_long none arc low is = elim (cases_lt (lengths_in xs arc) MAX_FLOOR) [
-      | inl short ↦ absurd (false≢true (sym none
-          ∙ told.1 (arc, omega (arith, low, long), ((tells arc low).1 is, short))))
-      | inr high ↦ high
-    ]
+module _ (l : Gluing) (xs : List ℕ) (tight : List Bool) (long : length xs ≡ l.arcs) where
+  -- A floor by marks of tight arcs is needed.
+  floor_needed : (some : Bool) (rise : Rise)
+      → (some ≡ true → (arc : ℕ) → arc < l.arcs → get_or tight arc false ≡ true → IsTightArc l (lengths_in xs) arc)
+      → (some ≡ false → AreTightLong l (lengths_in xs)) → rise.arc < length xs
+      → IsFloorOf some tight xs rise.arc rise.floor → IsNeeded l (lengths_in xs) rise
+  floor_needed true rise sound all low (short, marked, same) = record {
+    there = omega arith;
+    short = omega arith;
+    low = omega arith;
+    reason = inl (sound refl rise.arc (omega arith) marked, same);
+  }
+  floor_needed false rise sound all low (short, same) = record {
+    there = omega arith;
+    short = omega arith;
+    low = omega arith;
+    reason = inr (all refl, same);
+  }
 
-    -- A floor by the marks is needed.
-    floor_needed : (rise : Rise) → rise.arc < length xs → IsFloorOf some tight xs rise.arc rise.floor
-        → IsNeeded l (lengths_in xs) rise
-    floor_needed rise low is = by_some some refl is
-      where
-        there : rise.arc < l.arcs
-        there = omega (arith, low, long)
+  module _ (tells : (arc : ℕ) → arc < l.arcs → (get_or tight arc false ≡ true) ↔ IsTightArc l (lengths_in xs) arc)
+      (some : Bool) (told : (some ≡ true) ↔ ((arc : ℕ) × (arc < length xs) × IsShortTight tight xs arc))
+    where
+      tight_long : some ≡ false → AreTightLong l (lengths_in xs)
+      tight_long none arc low is = elim (cases_lt (lengths_in xs arc) MAX_FLOOR) [
+        | inl short ↦ absurd (false≢true (sym none ∙ told.1 (arc, omega arith, ((tells arc low).1 is, short))))
+        | inr high ↦ high
+      ]
 
-        by_some : (b : Bool) → some ≡ b → IsFloorOf b tight xs rise.arc rise.floor → IsNeeded l (lengths_in xs) rise
-        by_some true on (short, marked, same) = record {
-          there = there;
-          short = omega (arith, same);
-          low = omega (arith, short, same);
-          reason = inl ((tells rise.arc there).0 marked, same);
-        }
-        by_some false off (short, same) = record {
-          there = there;
-          short = omega (arith, short, same);
-          low = omega (arith, same);
-          reason = inr (tight_long off, same);
-        }
+      -- A needed floor is one by the marks.
+      needed_floor : (rise : Rise) → IsNeeded l (lengths_in xs) rise
+          → (rise.arc < length xs) × IsFloorOf some tight xs rise.arc rise.floor
+      needed_floor rise is = (omega (arith, is.there), by_some some refl is.reason)
+        where
+          by_some : (b : Bool) → some ≡ b
+              → (IsTightArc l (lengths_in xs) rise.arc × (rise.floor ≡ lengths_in xs rise.arc + 1))
+              ⊎ (AreTightLong l (lengths_in xs) × (rise.floor ≡ MAX_FLOOR)) → IsFloorOf b tight xs rise.arc rise.floor
+          by_some true on (inl (t, same)) = (omega (arith, is.low), (tells rise.arc is.there).1 t, same)
+          by_some true on (inr (all, same)) =
+              let s = told.0 on in
+              let inner : s.0 < l.arcs = omega (arith, s.1) in
+              absurd (omega (arith, all s.0 inner ((tells s.0 inner).0 s.2.0)))
+          by_some false off (inl (t, same)) = absurd (omega (arith, tight_long off rise.arc is.there t, is.low))
+          by_some false off (inr (all, same)) = (omega (arith, is.short), same)
 
-    -- A needed floor is one by the marks.
-    needed_floor : (rise : Rise) → IsNeeded l (lengths_in xs) rise
-        → (rise.arc < length xs) × IsFloorOf some tight xs rise.arc rise.floor
-    needed_floor rise is = (omega (arith, is.there, long), by_some some refl is.reason)
-      where
-        by_some : (b : Bool) → some ≡ b
-            → (IsTightArc l (lengths_in xs) rise.arc × (rise.floor ≡ lengths_in xs rise.arc + 1))
-            ⊎ (AreTightLong l (lengths_in xs) × (rise.floor ≡ MAX_FLOOR))
-            → IsFloorOf b tight xs rise.arc rise.floor
-        by_some true on (inl (t, same)) = (omega (arith, is.low, same), (tells rise.arc is.there).1 t, same)
-        by_some true on (inr (all, same)) =
-            let s = told.0 on in
-            let inner : s.0 < l.arcs = omega (arith, s.1, long) in
-            absurd (omega (arith, all s.0 inner ((tells s.0 inner).0 s.2.0), s.2.1))
-        by_some false off (inl (t, same)) = absurd (omega (arith, tight_long off rise.arc is.there t, is.low, same))
-        by_some false off (inr (all, same)) = (omega (arith, is.short, same), same)
-
-    needed_is : (rises : List Rise) → AreNeeded l (lengths_in xs) rises
-        → (0 < length rises) × AreOrdered rises × AreFloors some tight xs rises
-    needed_is rises are = (are.some, are.ordered, λ k low. needed_floor (rise_at rises k) (are.each k low))
-
-    is_needed : (rises : List Rise) → 0 < length rises → AreOrdered rises → AreFloors some tight xs rises
-        → AreNeeded l (lengths_in xs) rises
-    is_needed rises first ordered floors = record {
-      some = first;
-      ordered = ordered;
-      each = λ k low. floor_needed (rise_at rises k) (floors k low).0 (floors k low).1;
-    }
-
-    pub needed_are : (rises : List Rise) → ((0 < length rises) × AreOrdered rises × AreFloors some tight xs rises)
-        ↔ AreNeeded l (lengths_in xs) rises
-    needed_are rises = (λ all. is_needed rises all.0 all.1 all.2, needed_is rises)
+      pub needed_are : (rises : List Rise) → ((0 < length rises) × AreOrdered rises × AreFloors some tight xs rises)
+          ↔ AreNeeded l (lengths_in xs) rises
+      needed_are rises = (
+        λ all. record {
+          some = all.0;
+          ordered = all.1;
+          each = λ k low. floor_needed some (rise_at rises k) (λ on arc less. (tells arc less).0) tight_long
+              (all.2 k low).0 (all.2 k low).1;
+        },
+        λ are. (are.some, are.ordered, λ k low. needed_floor (rise_at rises k) (are.each k low)),
+      )
 
 -- Rises of tight arcs are needed, and where no tight arc is short those of all short arcs.
 module _ (l : Gluing) (xs : List ℕ) (chosen : List Bool) (long : length xs ≡ l.arcs) (rises : List Rise) where
@@ -167,17 +148,10 @@ module _ (l : Gluing) (xs : List ℕ) (chosen : List Bool) (long : length xs ≡
       → AreRisesUpto true chosen xs (length xs) rises → (arc : ℕ) × (arc < length xs) × IsShortTight chosen xs arc
       → AreNeeded l (lengths_in xs) rises
   chosen_needed sound are (arc, low, (marked, short)) = record {
-    some = let has = are.each arc (lengths_in xs arc + 1) low (short, marked, refl) in omega (arith, has.1);
+    some = let has = are.each arc _ low (short, marked, refl) in omega arith;
     ordered = are.ordered;
-    each = λ k k_low.
-        let floor = are.floors k k_low in
-        let there : (rise_at rises k).arc < l.arcs = omega (arith, floor.0, long) in
-        record {
-          there = there;
-          short = omega (arith, floor.1.2);
-          low = omega (arith, floor.1.0, floor.1.2);
-          reason = inl (sound (rise_at rises k).arc there floor.1.1, floor.1.2);
-        };
+    each = λ k k_low. floor_needed l xs chosen long true _ (λ on. sound) (λ off. absurd cc)
+        (are.floors k k_low).0 (are.floors k k_low).1;
   }
 
   pub all_needed : AreTightLong l (lengths_in xs) → AreRisesUpto false chosen xs (length xs) rises
@@ -188,12 +162,6 @@ module _ (l : Gluing) (xs : List ℕ) (chosen : List Bool) (long : length xs ≡
       | inr all ↦ absurd (some_short all)
     ];
     ordered = are.ordered;
-    each = λ k k_low.
-        let floor = are.floors k k_low in
-        record {
-          there = omega (arith, floor.0, long);
-          short = omega (arith, floor.1.0, floor.1.1);
-          low = omega (arith, floor.1.1);
-          reason = inr (tight_long, floor.1.1);
-        };
+    each = λ k k_low. floor_needed l xs chosen long false (rise_at rises k) (λ on. absurd cc) (λ off. tight_long)
+        (are.floors k k_low).0 (are.floors k k_low).1;
   }

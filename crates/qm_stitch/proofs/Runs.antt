@@ -3,7 +3,7 @@ use Rattle.std.proofs.Common.{◌≡◌, ◌<◌, ℕ, List, length, refl, sym, 
 use Rattle.std.proofs.lemmas.Bool.{cases_lt}
 use Rattle.std.specs.Prelude.{ℤ}
 use Rattle.def_flow.specs.declared.limits.TheConstants.{MAX_FLOOR}
-use Rattle.def_layout.specs.{Gluings.Way, Lengths.Lengths, Layouts.gluing_of, Layouts.side_at, Layouts.way_number}
+use Rattle.def_layout.specs.{Lengths.Lengths, Layouts.gluing_of, Layouts.side_at, Layouts.way_number}
 use Rattle.def_layout.specs.{Layouts.Layout}
 use Rattle.def_layout.specs.{Surfaces.HasWholeSides, declared.tmesh.SideArc.SideArc}
 use Rattle.def_remesh.specs.Numberings.{used_at}
@@ -61,13 +61,12 @@ module _ (layout : Layout) (x : Lengths) (prices : List ℤ) where
   }
 
   -- Where a tight arc is short, there is a remedy.
-  tight_remedy : (arc : ℕ) → IsTightArc (gluing_of layout) x arc → x arc < MAX_FLOOR
-      → (r : Remedy) × IsRemedy layout x prices r
-  tight_remedy arc t short =
-      let run = run_along layout t.edge arc t.along in (
-        record { key = key_of (gluing_of layout) x t.edge; price = price_of layout x prices run.0; run = run.0 },
-        (
-          t.edge,
+  pub none_short : ((r : Remedy) → ¬ IsRemedy layout x prices r) → AreTightLong (gluing_of layout) x
+  none_short none arc low t = elim (cases_lt (x arc) MAX_FLOOR) [
+    | inl short ↦
+        let run = run_along layout t.edge arc t.along in
+        let price = price_of layout x prices run.0 in
+        absurd (none (record { key = key_of (gluing_of layout) x t.edge; price = price; run = run.0 }) ( t.edge,
           record {
             doubled = record { is = t.is; u = t.u; v = t.v; ends = t.ends; doubled = t.doubled };
             key = refl;
@@ -75,37 +74,27 @@ module _ (layout : Layout) (x : Lengths) (prices : List ℤ) where
             short = (arc, run.2, short);
             price = refl;
           },
-        ),
-      )
-
-  pub none_short : ((r : Remedy) → ¬ IsRemedy layout x prices r) → AreTightLong (gluing_of layout) x
-  none_short none arc low t = elim (cases_lt (x arc) MAX_FLOOR) [
-    | inl short ↦ let some = tight_remedy arc t short in absurd (none some.0 some.1)
+        ))
     | inr high ↦ high
   ]
 
 -- Short arcs in use are short arcs of a side.
 pub uses_short : (layout : Layout) (x : Lengths) (p s : ℕ) (uses : List SideArc) → uses ≡ arcs_on layout p s
     → IsSomeShort x uses → IsShortRun layout x (Side p s)
-uses_short layout x p s uses same some = of_uses (subst (IsSomeShort x) same some)
-  where
-    of_uses : IsSomeShort x (arcs_on layout p s) → IsShortRun layout x (Side p s)
-    of_uses (at, low, short) = ((used_at (arcs_on layout p s) at).arc, (at, low, refl), short)
+uses_short layout x p s uses same some =
+    let on = subst (IsSomeShort x) same some in
+    ((used_at (arcs_on layout p s) on.0).arc, (on.0, on.1, refl), on.2)
 
 pub short_uses : (layout : Layout) (x : Lengths) (p s : ℕ) (uses : List SideArc) → uses ≡ arcs_on layout p s
     → IsShortRun layout x (Side p s) → IsSomeShort x uses
-short_uses layout x p s uses same (arc, (at, low, is), short) =
-    subst (IsSomeShort x) (sym same) (at, low, subst (λ (a : ℕ). x a < MAX_FLOOR) (sym is) short)
+short_uses layout x p s uses same (arc, (at, low, is), short) = rw same (at, low, rw is short)
 
 -- What the arcs of a run are numbers of.
 pub arc_low : (layout : Layout) (run : Run) (arc : ℕ) → HasWholeSides (gluing_of layout) → IsRunIn layout run
     → IsArcOf layout run arc → arc < length layout.arcs
-arc_low layout (Arc a) arc paved there same = omega (arith, there, same)
-arc_low layout (Side p s) arc paved there has = by_way (way_for s there.1)
-  where
-    by_way : (w : Way) × (way_number w ≡ s) → arc < length layout.arcs
-    by_way (w, same) =
-        let on : IsArcOf layout (Side p (way_number w)) arc =
-        subst (λ (t : ℕ). IsArcOf layout (Side p t) arc) (sym same) has in
-        subst (λ (b : ℕ). b < length layout.arcs) on.2
-        (arcs_low layout paved p w (length layout.arcs) (side_at layout p w) there.0 refl refl on.0 _ on.1)
+arc_low layout (Arc a) arc paved there same = omega arith
+arc_low layout (Side p s) arc paved there has =
+    let w = way_for s there.1 in
+    let on : IsArcOf layout (Side p (way_number w.0)) arc = rw w.1 has in
+    rw (← on.2)
+    (arcs_low layout paved p w.0 (length layout.arcs) (side_at layout p w.0) there.0 refl refl on.0 _ on.1)

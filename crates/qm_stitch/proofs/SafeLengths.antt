@@ -1,11 +1,10 @@
 -- Safe lengths double no edge, and lengths that double none keep the shape.
-use Rattle.std.proofs.Common.{◌≡◌, ℕ, zero, suc, ◌*◌, ◌/◌, ◌<◌, Bool}
+use Rattle.std.proofs.Common.{◌≡◌, ℕ, ◌*◌, ◌/◌, ◌<◌, Bool}
 use Rattle.std.proofs.Common.{List, length, sym, ◌∙◌, ap, subst, inl}
 use Rattle.std.proofs.{Common.inr, Common.arith, lemmas.Bool.cases_lt, lemmas.List.get_or_past, lemmas.Nat.div-mul-add}
 use Rattle.std.specs.Prelude.{◌↔◌, IsTrue}
 use Rattle.def_layout.specs.{Arcs.long_at, Arcs.Path, Lengths.Lengths, Lengths.AreLengths, Layouts.Layout}
 use Rattle.def_layout.specs.{Layouts.gluing_of}
-use Rattle.def_layout.specs.Layouts.{vertex_at}
 use Rattle.def_layoutnet.specs.MeshLayouts.{IsSomeLayout}
 use Rattle.def_written.specs.Edges.{IsUndoubled}
 use Rattle.def_remesh.specs.NewPoints.{lengths_in, multiple_of}
@@ -24,50 +23,38 @@ module _ (layout : Layout) (list : List ℕ) (long : length list ≡ length layo
         let none : long_at layout.arcs arc ≡ 0 =
         ap (λ (path : Path). length path.darts) (get_or_past layout.arcs arc _ past) in
         let zero : by * long_at layout.arcs arc ≡ by * 0 = ap (λ n. by * n) none in
-        omega (arith, zero, get_or_past list arc 0 (omega (arith, past, long)))
+        omega (arith, get_or_past list arc 0 (omega (arith, past, long)))
   ]
 
   pub safe_undoubled : IsSomeLayout layout → AreLengths (gluing_of layout) (lengths_in list)
-      → AreSafe layout (lengths_in list)
-      → IsUndoubled (gluing_of layout) (lengths_in list)
-  safe_undoubled is len (inl most) = three_law (gluing_of layout) (lengths_in list) (laid_of layout is) len most
-  safe_undoubled is len (inr (by, some, same)) =
-      subst (λ (x : Lengths). IsUndoubled (gluing_of layout) x) (λ i arc. same_lengths by same arc i)
-      (multiple_law is.faces (gluing_of layout) (long_at layout.arcs) (vertex_at layout) (lies layout is) by some).1
+      → AreSafe layout (lengths_in list) → IsUndoubled (gluing_of layout) (lengths_in list)
+  safe_undoubled is len (inl most) = three_law _ _ (laid_of layout is) len most
+  safe_undoubled is len (inr (by, some, same)) = subst (λ (x : Lengths). IsUndoubled (gluing_of layout) x)
+      (λ i arc. same_lengths by same arc i) (multiple_law is.faces _ _ _ (lies layout is) by some).1
 
   -- Where lengths are multiples of the old ones, the first tells how many times.
   pub times_found : AreLengths (gluing_of layout) (lengths_in list) → (result : Bool) (old by : ℕ) → 0 < length list
-      → old ≡ long_at layout.arcs 0 → 0 < old
-      → by ≡ lengths_in list 0 / old
+      → old ≡ long_at layout.arcs 0 → 0 < old → by ≡ lengths_in list 0 / old
       → IsTrue result ↔ ((arc : ℕ) → arc < length list → lengths_in list arc ≡ multiple_of by (long_at layout.arcs) arc)
       → IsTrue result ↔ AreMultiples layout (lengths_in list)
-  times_found len result old by some old_is old_some by_is both = (there, back)
-    where
-      at_first : 0 < length layout.arcs
-      at_first = omega (arith, some, long)
-
-      there : IsTrue result → AreMultiples layout (lengths_in list)
-      there on =
-          let each : (arc : ℕ) → arc < length list → lengths_in list arc ≡ multiple_of by (long_at layout.arcs) arc =
-          both.0 on in
-          (by, by_some by (each 0 some) (len.some 0 at_first), λ arc low. each arc (omega (arith, low, long)))
-        where
-          by_some : (n : ℕ) → lengths_in list 0 ≡ multiple_of n (long_at layout.arcs) 0 → 0 < lengths_in list 0 → 0 < n
-          by_some zero is more = absurd (omega (arith, is, more))
-          by_some (suc n) is more = omega arith
-
-      back : AreMultiples layout (lengths_in list) → IsTrue result
-      back (times, times_some, each) =
-          let first : lengths_in list 0 ≡ times * old = each 0 at_first ∙ ap (λ n. times * n) (sym old_is) in
-          let same : by ≡ times = by_is ∙ ap (λ n. n / old) first ∙ ap (λ n. n / old) (omega arith)
-          ∙ div-mul-add times old 0 old_some in
-          both.1 (λ arc low. each arc (omega (arith, low, long)) ∙ ap (λ n. multiple_of n (long_at layout.arcs) arc)
-          (sym same))
+  times_found len result old by some old_is old_some by_is both = ( λ on.
+        let each = both.0 on in
+        let positive : 0 < by = elim (cases_lt 0 by) [
+          | inl more ↦ more
+          | inr none ↦
+              let zero : by ≡ 0 = omega arith in
+              let is = rw zero at (each 0 some) in absurd (omega arith)
+        ] in
+        (by, positive, λ arc low. each arc (omega arith)),
+    λ (times, times_some, each).
+        let first : lengths_in list 0 ≡ times * old = each 0 (omega arith) ∙ ap (λ n. times * n) (sym old_is) in
+        let same : by ≡ times = by_is ∙ ap (λ n. n / old) first ∙ ap (λ n. n / old) (omega arith)
+        ∙ div-mul-add times old 0 old_some in
+        both.1 (λ arc low. each arc (omega arith) ∙ ap (λ n. multiple_of n (long_at layout.arcs) arc) (sym same)),
+  )
 
 -- The new mesh has the shape of each mesh with the layout.
 pub shapes_kept : (layout : Layout) (lengths : Lengths) → AreLengths (gluing_of layout) lengths
-    → IsUndoubled (gluing_of layout) lengths
-    → KeepsShapes layout lengths
-shapes_kept layout lengths len undoubled faces marks mesh quads cut laid = keeps_shape_law faces (gluing_of layout)
-    (long_at layout.arcs) (vertex_at layout) (embedding_law faces marks layout mesh quads cut laid) lengths len
-    undoubled
+    → IsUndoubled (gluing_of layout) lengths → KeepsShapes layout lengths
+shapes_kept layout lengths len undoubled faces marks mesh quads cut laid = keeps_shape_law faces _ _ _
+    (embedding_law faces marks layout mesh quads cut laid) lengths len undoubled

@@ -1,14 +1,14 @@
 -- Which edges are doubled: the keys tell, and none between two inner points of a patch is.
-use Rattle.std.proofs.Common.{◌≡◌, ◌⊎◌, ◌↔◌, ℕ, ◌+◌, ◌-◌, ◌/◌, ◌%◌, ◌^◌, ◌<◌, ◌≤◌, Bool, true, false, not, List}
-use Rattle.std.proofs.Common.{length, get_or, refl, sym, ◌∙◌, ap, subst, inl, inr, arith}
+use Rattle.std.proofs.Common.{◌≡◌, ◌⊎◌, ◌↔◌, ℕ, ◌+◌, ◌-◌, ◌/◌, ◌%◌, ◌^◌, ◌<◌, Bool, true, false, not, List}
+use Rattle.std.proofs.Common.{length, get_or, refl, sym, ◌∙◌, subst, inl, inr, arith}
 use Rattle.std.proofs.lemmas.Bool.{cases_eq, cases_lt}
 use Rattle.std.proofs.lemmas.List.{get_or_default, length-map}
 use mathlib.Core.HLevel.{⊥_prop}
 use mathlib.Core.Logic.{∥∥₁_elim}
-use Rattle.def_layout.specs.{Arcs.path, Gluings.Gluing, Surfaces.IsSurface, Lengths.Lengths, Lengths.size}
+use Rattle.def_layout.specs.{Arcs.path, Gluings.Gluing, Lengths.Lengths, Lengths.size}
 use Rattle.def_layout.specs.Layouts.{layout_of}
 use Rattle.def_remesh.specs.Rises.{IsTightArc, RunsAlong}
-use Rattle.def_written.specs.Edges.{Edge, on_arc, flat, steep, IsEdge, HasEnds, HasLoop, HasPair}
+use Rattle.def_written.specs.Edges.{Edge, on_arc, flat, steep, IsEdge, HasEnds}
 use Rattle.written_laws.proofs.Sides.{size_some}
 use Rattle.qm_stitch.specs.{Lengthened.gluing_in, Lengthened.lengths_by, Numbered.AreTables}
 use Rattle.qm_stitch.specs.Rims.{along_lines, key_of, keys_of, line_edge, rim_edges, IsLine, IsRepeat}
@@ -49,16 +49,16 @@ tight_by l x arc e is along = record {
 -- So an arc is where an edge of it is doubled, or one in a line beside it.
 tight_of : (l : Gluing) (x : Lengths) (arc : ℕ) → IsDoubledOn l x arc ⊎ IsTightUpto l x l.patches arc
     → IsTightArc l x arc
-tight_of l x arc (inl (k, is)) = tight_by l x arc (on_arc arc k) is refl
-tight_of l x arc (inr (p, false, low, ((n, (k, is)), beside))) = tight_by l x arc (flat p k n) is beside
-tight_of l x arc (inr (p, true, low, ((n, (k, is)), beside))) = tight_by l x arc (steep p n k) is beside
+tight_of l x arc (inl (k, is)) = tight_by l x arc _ is refl
+tight_of l x arc (inr (p, false, low, ((n, (k, is)), beside))) = tight_by l x arc _ is beside
+tight_of l x arc (inr (p, true, low, ((n, (k, is)), beside))) = tight_by l x arc _ is beside
 
 of_tight : (l : Gluing) (x : Lengths) (arc : ℕ) → IsTightArc l x arc
     → IsDoubledOn l x arc ⊎ IsTightUpto l x l.patches arc
 of_tight l x arc t = by_edge t.edge (record { is = t.is; u = t.u; v = t.v; ends = t.ends; doubled = t.doubled }) t.along
   where
     by_edge : (e : Edge) → IsDoubled l x e → RunsAlong l e arc → IsDoubledOn l x arc ⊎ IsTightUpto l x l.patches arc
-    by_edge (on_arc a k) is along = inl (k, subst (λ (b : ℕ). IsDoubled l x (on_arc b k)) along is)
+    by_edge (on_arc a k) is along = inl (k, rw (← along) is)
     by_edge (flat p i j) is along = inr (p, false, is.is.0, ((j, (i, is)), along))
     by_edge (steep p i j) is along = inr (p, true, is.is.0, ((i, (j, is)), along))
 
@@ -68,26 +68,16 @@ pub tight_told : (l : Gluing) (x : Lengths) (n : ℕ) (on old new : List Bool) �
     → AddsMarks old new (IsTightUpto l x n) → (arc : ℕ) → arc < l.arcs
     → (get_or new arc false ≡ true) ↔ IsTightArc l x arc
 tight_told l x n on old new all same long each adds arc low =
-    (λ marked. tight_of l x arc (of_more (more.0 marked)), λ is. more.1 (to_more (of_tight l x arc is)))
-  where
-    more : (get_or new arc false ≡ true) ↔ ((get_or old arc false ≡ true) ⊎ IsTightUpto l x n arc)
-    more = adds arc (omega (arith, low, long, ap length same))
-
-    of_more : (get_or old arc false ≡ true) ⊎ IsTightUpto l x n arc
-        → IsDoubledOn l x arc ⊎ IsTightUpto l x l.patches arc
-    of_more (inl marked) = inl ((each arc low).0 (subst (λ (xs : List Bool). get_or xs arc false ≡ true) same marked))
-    of_more (inr is) = inr (subst (λ (m : ℕ). IsTightUpto l x m arc) all is)
-
-    to_more : IsDoubledOn l x arc ⊎ IsTightUpto l x l.patches arc
-        → (get_or old arc false ≡ true) ⊎ IsTightUpto l x n arc
-    to_more (inl is) = inl (subst (λ (xs : List Bool). get_or xs arc false ≡ true) (sym same) ((each arc low).1 is))
-    to_more (inr is) = inr (subst (λ (m : ℕ). IsTightUpto l x m arc) (sym all) is)
+    let more = (rw (same, all) at adds) arc (omega arith) in (
+      λ marked. tight_of l x arc (elim (more.0 marked) [ inl on ↦ inl ((each arc low).0 on) | inr is ↦ inr is ]),
+      λ is. more.1 (elim (of_tight l x arc is) [ inl by ↦ inl ((each arc low).1 by) | inr by ↦ inr by ]),
+    )
 
 -- The length of an arc, as a loop reads it.
 pub end_is : (numbered : Numbered) (arc end : ℕ) → arc < length numbered.t.now.arcs.items
     → end ≡ get_or numbered.tables.now.lengths.items arc end → end ≡ lengths_by numbered arc
-end_is numbered arc end low read = read ∙ get_or_default numbered.tables.now.lengths.items arc end 0
-    (omega (arith, low, numbered.numbers.long, length-map numbered.t.now.arcs.items path))
+end_is numbered arc end low read = read ∙ get_or_default _ arc end 0
+    (omega (arith, length-map numbered.t.now.arcs.items path))
 
 module _ (keyed : Keyed) where
   abbrev l : Gluing
@@ -101,14 +91,13 @@ module _ (keyed : Keyed) where
 
   -- An edge between two inner points of a patch is not doubled.
   never_deep : (e : Edge) → IsDoubled l x e → IsDeep l x e → ⊥
-  never_deep e is deep = ∥∥₁_elim are.laid ⊥_prop (λ laid. by_case laid is.doubled.1)
-    where
-      by_case : IsSurface l → ((is.u ≡ is.v) × HasLoop l x is.u) ⊎ HasPair l x is.u is.v → ⊥
-      by_case laid (inl (same, loop)) = deep_apart l x laid are.lengths e is.u is.is
-          (subst (λ (w : ℕ). HasEnds l x e is.u w) (sym same) is.ends) deep
-      by_case laid (inr (f, g, is_f, is_g, apart, f_ends, g_ends)) =
-          apart (sym (deep_alone l x laid are.lengths e f is.u is.v is.is is_f is.ends f_ends deep)
-          ∙ deep_alone l x laid are.lengths e g is.u is.v is.is is_g is.ends g_ends deep)
+  never_deep e is deep = ∥∥₁_elim are.laid ⊥_prop (λ laid. elim is.doubled.1 [
+    | inl loop ↦ deep_apart l x laid are.lengths e is.u is.is (rw (← loop.0) at is.ends) deep
+    | inr (f, g, is_f, is_g, apart, f_ends, g_ends) ↦
+        let alone = λ (h : Edge) (is_h : IsEdge l x h) (ends : HasEnds l x h is.u is.v).
+        deep_alone l x laid are.lengths e h is.u is.v is.is is_h is.ends ends deep in
+        apart (sym (alone f is_f f_ends) ∙ alone g is_g g_ends)
+  ])
 
   -- So in a line it is the first edge or the last one.
   pub line_end : (u : Bool) (p n k : ℕ) → IsDoubled l x (line_edge u p n k)
@@ -123,61 +112,43 @@ module _ (keyed : Keyed) where
 
   -- Whether an edge is doubled its key tells.
   pub key_tells : (e : Edge) → IsEdge l x e → IsRepeat keyed.keys.now (key_of l x e) ↔ IsDoubled l x e
-  key_tells e is = (there, back)
-    where
-      rim : List ℕ
-      rim = keys_of l x (rim_edges l x)
+  key_tells e is =
+      let key = key_of l x e in
+      let rim = keys_of l x (rim_edges l x) in (
+        λ repeats. record {
+          is = is;
+          u = key / 2 ^ 32;
+          v = key % 2 ^ 32;
+          ends = (key_ends l x are.whole.paved are.laid are.lengths are.few e key is refl).1;
+          doubled = repeat_doubled l x are.whole.paved are.laid are.lengths are.few key
+              (repeat_moved keyed.keys.now rim key (λ f. sym (keyed.rim.moved f)) repeats);
+        },
+        λ d. repeat_moved rim keyed.keys.now key keyed.rim.moved (subst (IsRepeat rim)
+            (sym (ends_key l x are.whole.paved are.laid are.lengths are.few e d.u d.v is d.doubled.0 d.ends).0)
+            (doubled_repeats l x are.whole.paved are.laid are.lengths are.few d.u d.v d.doubled).0),
+      )
 
-      there : IsRepeat keyed.keys.now (key_of l x e) → IsDoubled l x e
-      there repeats = record {
-        is = is;
-        u = key_of l x e / 2 ^ 32;
-        v = key_of l x e % 2 ^ 32;
-        ends = (key_ends l x are.whole.paved are.laid are.lengths are.few e (key_of l x e) is refl).1;
-        doubled = repeat_doubled l x are.whole.paved are.laid are.lengths are.few (key_of l x e)
-            (repeat_moved keyed.keys.now rim (key_of l x e) (λ f. sym (keyed.rim.moved f)) repeats);
-      }
-
-      back : IsDoubled l x e → IsRepeat keyed.keys.now (key_of l x e)
-      back d =
-          repeat_moved rim keyed.keys.now (key_of l x e) keyed.rim.moved
-          (subst (IsRepeat rim)
-          (sym (ends_key l x are.whole.paved are.laid are.lengths are.few e d.u d.v is d.doubled.0 d.ends).0)
-          (doubled_repeats l x are.whole.paved are.laid are.lengths are.few d.u d.v d.doubled).0)
-
-  module _ (line : Line) (inside : IsLine l x line) where
-    abbrev line_long : ℕ
-    line_long = size l x line.patch (along_lines line.upright)
-
+  module _ {line : Line} (inside : IsLine l x line) where
     -- A line has edges.
     pub line_some : 0 < size l x line.patch (along_lines line.upright)
     line_some = size_some l x are.whole.paved are.lengths line.patch (along_lines line.upright) inside.patch
-
-    -- A key of it is that of a doubled pair.
-    abbrev IsTold : (k : ℕ) → Type 0
-    IsTold k = IsRepeat keyed.keys.now (key_of l x (line_edge line.upright line.patch line.number k))
 
     -- It tells by its first and its last edge whether one is doubled.
     pub line_tells : (IsRepeat keyed.keys.now (key_of l x (line_edge line.upright line.patch line.number 0))
         ⊎ IsRepeat keyed.keys.now (key_of l x (line_edge line.upright line.patch line.number
         (size l x line.patch (along_lines line.upright) - 1)))) ↔ IsLineDoubled l x line.upright line.patch line.number
-    line_tells = (there, back)
-      where
-        told : (k : ℕ) → k < line_long → IsTold k ↔ IsDoubled l x (line_edge line.upright line.patch line.number k)
-        told k less = key_tells (line_edge line.upright line.patch line.number k)
-            (line_is l x line.upright line.patch line.number k inside.patch inside.some inside.inside less)
-
-        last : ℕ
-        last = line_long - 1
-
-        there : IsTold 0 ⊎ IsTold last → IsLineDoubled l x line.upright line.patch line.number
-        there (inl first) = (0, (told 0 line_some).0 first)
-        there (inr end) = (last, (told last (omega (arith, line_some))).0 end)
-
-        back : IsLineDoubled l x line.upright line.patch line.number → IsTold 0 ⊎ IsTold last
-        back (k, is) = elim (line_end line.upright line.patch line.number k is) [
-          | inl first ↦ inl ((told 0 line_some).1
-              (subst (λ (m : ℕ). IsDoubled l x (line_edge line.upright line.patch line.number m)) first is))
-          | inr end ↦ inr ((told last (omega (arith, line_some))).1
-              (subst (λ (m : ℕ). IsDoubled l x (line_edge line.upright line.patch line.number m)) end is))
-        ]
+    line_tells =
+        let edge = line_edge line.upright line.patch line.number in
+        let last = size l x line.patch (along_lines line.upright) - 1 in
+        let told = λ (k : ℕ) (less : k < size l x line.patch (along_lines line.upright)). key_tells (edge k)
+        (line_is l x line.upright line.patch line.number k inside.patch inside.some inside.inside less) in
+        let end : last < size l x line.patch (along_lines line.upright) = omega (arith, line_some) in (
+          elim [
+            | inl first ↦ (0, (told 0 line_some).0 first)
+            | inr repeats ↦ (last, (told last end).0 repeats)
+          ],
+          λ by. elim (line_end line.upright line.patch line.number by.0 by.1) [
+            | inl first ↦ inl ((told 0 line_some).1 (subst (λ (k : ℕ). IsDoubled l x (edge k)) first by.1))
+            | inr same ↦ inr ((told last end).1 (subst (λ (k : ℕ). IsDoubled l x (edge k)) same by.1))
+          ],
+        )

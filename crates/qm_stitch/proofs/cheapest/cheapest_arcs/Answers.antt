@@ -9,10 +9,9 @@ use Rattle.qm_stitch.proofs.Firsts.{marks_of}
 use Rattle.qm_stitch.proofs.cheapest.cheapest_arcs.Goals as goal
 
 pub mark_firsts-requires-clause-runs : goal.mark_firsts-requires-clause-runs
-mark_firsts-requires-clause-runs c =
-    subst (All (λ (r : Remedy). IsRunIn (layout_of c.args.numbered.now.t.now) r.run)) (sym c.deref.ensures.value)
-    (All-permutation (λ (r : Remedy). IsRunIn (layout_of c.args.numbered.now.t.now) r.run) c.args.remedies.items
-    c.sort.new.remedies.items c.sort.ensures.moved c.requires)
+mark_firsts-requires-clause-runs c = subst (All (λ (r : Remedy). IsRunIn (layout_of c.args.numbered.now.t.now) r.run))
+    (sym c.deref.ensures.value) (All-permutation (λ (r : Remedy). IsRunIn (layout_of c.args.numbered.now.t.now) r.run)
+    c.args.remedies.items c.sort.new.remedies.items c.sort.ensures.moved c.requires)
 
 pub returns : goal.returns
 returns c =

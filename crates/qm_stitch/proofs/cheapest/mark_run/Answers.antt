@@ -1,10 +1,9 @@
-use Rattle.std.proofs.Common.{ℕ, sym, subst, arith}
+use Rattle.std.proofs.Common.{subst, arith}
 use Rattle.std.proofs.lemmas.List.{length-map}
 use Rattle.def_cut.specs.Grids.{rectangle}
 use Rattle.def_layout.specs.Layouts.{layout_of}
 use Rattle.qm_offsets.proofs.Whole.{way_for}
-use Rattle.qm_stitch.specs.{Remedies.IsArcOf, Remedies.IsRunIn, Tight.AddsMarks}
-use Rattle.qm_stitch.specs.declared.remedy.Run.{Run}
+use Rattle.qm_stitch.specs.{Remedies.IsRunIn}
 use Rattle.qm_stitch.specs.declared.remedy.Run.TheVariants.{Side}
 use Rattle.qm_stitch.proofs.cheapest.mark_run.Goals as goal
 
@@ -23,8 +22,6 @@ pub returns-in-Side : goal.returns-in-Side
 returns-in-Side c =
     let there : IsRunIn (layout_of c.args.numbered.now.t.now) (Side c.in-Side.patch c.in-Side.side) =
     subst (IsRunIn (layout_of c.args.numbered.now.t.now)) c.in-Side.is c.requires.run in
-    let w = way_for c.in-Side.side there.1 in
-    subst (λ (run : Run). AddsMarks c.args.chosen.now c.mark_side.new.tight
-    (IsArcOf (layout_of c.args.numbered.now.t.now) run)) (sym c.in-Side.is)
-    (subst (λ (s : ℕ). AddsMarks c.args.chosen.now c.mark_side.new.tight
-    (IsArcOf (layout_of c.args.numbered.now.t.now) (Side c.in-Side.patch s))) w.1 (c.mark_side.ensures w.0 w.1))
+    let w = way_for _ there.1 in
+    rw c.in-Side.is
+    (rw (← w.1) (c.mark_side.ensures w.0 w.1))

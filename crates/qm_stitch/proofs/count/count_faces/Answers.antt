@@ -17,17 +17,13 @@ few : (t : TMesh) (x : ℕ → ℕ) (is : IsSomeLayout (layout_of t)) → ((a : 
     → cells_before (gluing_of (layout_of t)) x p + wide (gluing_of (layout_of t)) x p * high (gluing_of (layout_of t))
     x p < 2 ^ 128
 few t x is most p low =
-    let l_low : suc p ≤ length (layout_of t).patches = omega (arith, low, length-map t.patches.items rectangle) in
-    let all : cells_before (gluing_of (layout_of t)) (long_at (layout_of t).arcs) (suc p) ≤ face_count
-    (gluing_of (layout_of t))
-    (long_at (layout_of t).arcs) =
-    count_rises _ (suc p) (length (layout_of t).patches) l_low in
-    omega (
-      arith,
-      cells_most (gluing_of (layout_of t)) (long_at (layout_of t).arcs) x (10 ^ 12) (laid_of (layout_of t) is)
-          (lengths_of (layout_of t) is)
+    let l = gluing_of (layout_of t) in
+    let l_low : suc p ≤ length (layout_of t).patches = omega (arith, length-map t.patches.items rectangle) in
+    let all : cells_before l (long_at (layout_of t).arcs) (suc p) ≤ face_count l (long_at (layout_of t).arcs) =
+    count_rises _ (suc p) _ l_low in
+    omega ( arith,
+      cells_most l (long_at (layout_of t).arcs) x (10 ^ 12) (laid_of (layout_of t) is) (lengths_of (layout_of t) is)
           most (suc p) l_low,
-      all,
       old_faces (layout_of t) is,
     )
 
@@ -35,29 +31,17 @@ product : (c : goal.After-from-in-loop-patch) → c.from.result * c.from-in-loop
     ≡ wide (gluing_of (layout_of c.args.stretched.now.t.now)) (lengths_in c.args.stretched.now.lengths.now)
     c.loop-patch.patch * high (gluing_of (layout_of c.args.stretched.now.t.now))
     (lengths_in c.args.stretched.now.lengths.now) c.loop-patch.patch
-product c =
-    λ i. (c.from.ensures ∙ c.size_on-wide.ensures south refl) i * (c.from-in-loop-patch.ensures
-    ∙ c.size_on-high.ensures west refl) i
+product c = λ i. (c.from.ensures ∙ c.size_on-wide.ensures south refl) i
+    * (c.from-in-loop-patch.ensures ∙ c.size_on-high.ensures west refl) i
 
 pub overflow_add-faces : goal.overflow_add-faces
 overflow_add-faces c =
-    omega (
-      arith,
-      product c,
-      c.loop-patch.invariant,
-      few c.args.stretched.now.t.now (lengths_in c.args.stretched.now.lengths.now) c.requires.layout
-          c.args.stretched.now.bounded c.loop-patch.patch
-          (omega (arith, c.loop-patch-test.true, c.len-patch-end.ensures, c.args.stretched.now.t.now.patches.ok.0)),
-    )
+    let s = c.args.stretched.now in
+    let low : c.loop-patch.patch < length s.t.now.patches.items = omega arith in
+    omega (arith, product c, few s.t.now (lengths_in s.lengths.now) c.requires.layout s.bounded c.loop-patch.patch low)
 
 pub loop-patch-preserved : goal.loop-patch-preserved
 loop-patch-preserved c =
-    omega (
-      arith,
-      product c,
-      c.loop-patch.invariant,
-      count_step (λ q. wide (gluing_of (layout_of c.args.stretched.now.t.now))
-          (lengths_in c.args.stretched.now.lengths.now)
-          q * high (gluing_of (layout_of c.args.stretched.now.t.now)) (lengths_in c.args.stretched.now.lengths.now) q)
-          c.loop-patch.patch,
-    )
+    let l = gluing_of (layout_of c.args.stretched.now.t.now) in
+    let x = lengths_in c.args.stretched.now.lengths.now in
+    omega (arith, product c, count_step (λ q. wide l x q * high l x q) c.loop-patch.patch)

@@ -6,6 +6,5 @@ use Rattle.qm_stitch.proofs.keyed.keys_of.Goals as goal
 pub returns : goal.returns
 returns c = record {
   increasing = c.sort.ensures.increasing;
-  moved = λ f. sum_by-IsPermutation f c.in_ok-keys.keys.items c.sort.new.keys.items c.sort.ensures.moved
-      ∙ ap (sum_by f) c.in_ok-keys.ensures;
+  moved = λ f. sum_by-IsPermutation f _ _ c.sort.ensures.moved ∙ ap (sum_by f) c.in_ok-keys.ensures;
 }

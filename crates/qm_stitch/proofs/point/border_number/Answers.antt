@@ -1,8 +1,7 @@
-use Rattle.std.proofs.Common.{◌<◌, ℕ, List, ◌∙◌, ap, subst, arith}
+use Rattle.std.proofs.Common.{List, ◌∙◌, ap, arith}
 use Rattle.std.proofs.lemmas.List.{length-map}
-use Rattle.std.specs.List.{All}
 use Rattle.def_cut.specs.Grids.{rectangle}
-use Rattle.def_layout.specs.{Arcs.path, declared.tmesh.SideArc.SideArc, Layouts.layout_of}
+use Rattle.def_layout.specs.{Arcs.path, declared.tmesh.SideArc.SideArc}
 use Rattle.def_written.specs.Numbers.{vertex_number}
 use Rattle.def_remesh.specs.{Numberings.tables_of, declared.tables.RunStarts.RunStarts}
 use Rattle.qm_stitch.specs.{Sizes.point_on, Sizes.table_in, Lengthened.gluing_in, Lengthened.lengths_by}
@@ -10,33 +9,26 @@ use Rattle.qm_stitch.proofs.Grids.{border, IsBorder}
 use Rattle.qm_stitch.proofs.point.border_number.Goals.{After-side_of}
 use Rattle.qm_stitch.proofs.point.border_number.Goals as goal
 
-there : (c : After-side_of) → IsBorder (layout_of c.args.numbered.now.t.now) c.args.numbered.now.tables.now
-    c.args.numbered.now.numbers c.args.patch c.args.side c.side_of.result.now c.starts_on-starts.result.now
-there c = border (layout_of c.args.numbered.now.t.now) c.args.numbered.now.tables.now c.args.numbered.now.numbers
-    c.args.patch c.args.side c.side_of.result.now c.starts_on-starts.result.now
-    (omega (arith, c.requires.patch, length-map c.args.numbered.now.t.now.patches.items rectangle)) c.requires.side
-    c.side_of.ensures
-    (c.starts_on-starts.ensures
-    ∙ ap (λ (sides : List (List RunStarts)). table_in (tables_of sides) c.args.patch c.args.side)
-    c.deref.ensures.value)
+there : (c : After-side_of) → IsBorder c.args.numbered.now.numbers c.args.patch c.args.side c.side_of.result.now
+    c.starts_on-starts.result.now
+there c = border c.args.numbered.now.numbers _ _ _ _ (omega ( arith,
+  length-map c.args.numbered.now.t.now.patches.items rectangle,
+)) c.requires.side c.side_of.ensures (c.starts_on-starts.ensures
+    ∙ ap (λ (sides : List (List RunStarts)). table_in (tables_of sides) c.args.patch c.args.side) c.deref.ensures.value)
 
 pub invariant_of-border : goal.invariant_of-border
 invariant_of-border c =
     let is = there (goal.at.invariant_of-border c).After-side_of in
     record {
       some = is.some;
-      low = subst (λ (n : ℕ). All (λ (used : SideArc). used.arc < n) c.side_of.result.now)
-          (length-map c.args.numbered.now.t.now.arcs.items path) is.low;
+      low = rw (length-map c.args.numbered.now.t.now.arcs.items path) at is.low;
       begun = is.starts_are;
     }
 
 pub side_number-requires : goal.side_number-requires
-side_number-requires c =
-    omega (arith, (there (goal.at.side_number-requires c).After-side_of).long, c.requires.upto)
+side_number-requires c = omega (arith, (there (goal.at.side_number-requires c).After-side_of).long)
 
 pub returns : goal.returns
-returns c =
-    c.side_number.ensures ∙ ap (λ (side : List SideArc). vertex_number (gluing_in c.args.numbered.now)
-    (lengths_by c.args.numbered.now)
-    (point_on (gluing_in c.args.numbered.now) (lengths_by c.args.numbered.now) side c.args.place))
-    c.side_of.ensures
+returns c = c.side_number.ensures
+    ∙ ap (λ (side : List SideArc). vertex_number (gluing_in c.args.numbered.now) (lengths_by c.args.numbered.now)
+    (point_on (gluing_in c.args.numbered.now) (lengths_by c.args.numbered.now) side c.args.place)) c.side_of.ensures

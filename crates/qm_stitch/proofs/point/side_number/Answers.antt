@@ -1,5 +1,4 @@
 use Rattle.std.proofs.Common.{length, ◌∙◌, ap}
-use Rattle.def_layout.specs.Layouts.{layout_of}
 use Rattle.def_written.specs.Numbers.{vertex_number}
 use Rattle.def_remesh.specs.Numberings.{sizes_on}
 use Rattle.qm_stitch.proofs.Grids.{there, IsThere}
@@ -7,13 +6,12 @@ use Rattle.qm_stitch.specs.Lengthened.{gluing_in, lengths_by}
 use Rattle.qm_stitch.proofs.point.side_number.Goals.{After-spot_in-at}
 use Rattle.qm_stitch.proofs.point.side_number.Goals as goal
 
-here : (c : After-spot_in-at) → IsThere (layout_of c.args.side.now.numbered.t.now)
-    c.args.side.now.numbered.tables.now c.args.side.now.numbered.numbers c.args.side.now.arcs.now
+here : (c : After-spot_in-at) → IsThere c.args.side.now.numbered.numbers c.args.side.now.arcs.now
     c.args.side.now.starts.now c.args.place c.spot_in-at.result
 here c =
     let side = c.args.side.now in
-    there (layout_of side.numbered.t.now) side.numbered.tables.now side.numbered.numbers side.arcs.now side.starts.now
-    c.args.place c.spot_in-at.result side.some side.begun c.requires
+    there side.numbered.numbers side.arcs.now side.starts.now c.args.place c.spot_in-at.result side.some side.begun
+    c.requires
     (c.spot_in-at.ensures.run (sizes_on side.arcs.now (lengths_by side.numbered)) (length side.arcs.now) side.begun)
 
 pub overflow_sub-place : goal.overflow_sub-place
@@ -23,7 +21,5 @@ pub use_number-requires-clause-upto : goal.use_number-requires-clause-upto
 use_number-requires-clause-upto c = (here (goal.at.use_number-requires-clause-upto c).After-spot_in-at).upto
 
 pub returns : goal.returns
-returns c =
-    c.use_number.ensures
-    ∙ ap (vertex_number (gluing_in c.args.side.now.numbered) (lengths_by c.args.side.now.numbered))
-    (here (goal.at.returns c).After-spot_in-at).point
+returns c = c.use_number.ensures ∙ ap (vertex_number (gluing_in c.args.side.now.numbered)
+    (lengths_by c.args.side.now.numbered)) (here (goal.at.returns c).After-spot_in-at).point

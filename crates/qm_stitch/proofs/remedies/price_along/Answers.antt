@@ -1,4 +1,4 @@
-use Rattle.std.proofs.Common.{◌≡◌, ◌+◌, ◌∷◌, [], ◌<◌, ℕ, List, take, get_or, length, false, ◌∙◌, ap, arith, pos, ◌+ℤ◌}
+use Rattle.std.proofs.Common.{◌≡◌, ◌+◌, ◌<◌, ℕ, List, take, get_or, length, false, ◌∙◌, ap, arith, pos, ◌+ℤ◌}
 use Rattle.std.proofs.Common.{rules, w64, to_z, of_z}
 use Rattle.std.proofs.lemmas.Int.{ints, to_z-of_z}
 use Rattle.std.proofs.lemmas.List.{take_more}
@@ -12,7 +12,7 @@ more : (x : Lengths) (prices : List ℤ) (uses : List SideArc) (i : ℕ) (d : Si
     → price_along x prices (take (i + 1) uses)
     ≡ price_along x prices (take i uses) +ℤ (short_price x prices (get_or uses i d).arc +ℤ pos 0)
 more x prices uses i d low = ap (price_along x prices) (take_more uses i d low) ∙ total_append
-    (λ (u : SideArc). short_price x prices u.arc) (take i uses) (get_or uses i d ∷ [])
+    (λ (u : SideArc). short_price x prices u.arc) _ _
 
 pub loop-used-preserved : goal.loop-used-preserved
 loop-used-preserved c =
@@ -22,8 +22,7 @@ loop-used-preserved c =
     let back : to_z w64 (of_z w64 c.short_price.result) ≡ c.short_price.result =
     to_z-of_z w64 c.short_price.result (search rules) in
     record {
-      sum = omega (
-        arith,
+      sum = omega ( arith,
         ints,
         e,
         back,

@@ -6,6 +6,5 @@ use Rattle.qm_stitch.proofs.Lines.{IsBy}
 use Rattle.qm_stitch.proofs.remedies.push_arc.Given as goal
 
 abbrev pub invariant-loop-k : goal.invariant-loop-k
-invariant-loop-k l = AddsRemedies l.initial.found.items l.found.items (λ r. (k : ℕ) × (k < l.k)
-    × IsBy l.priced (on_arc l.arc k) (short_price (lengths_by l.priced.keyed.numbered) l.priced.prices.now l.arc)
-    (Arc l.arc) r)
+invariant-loop-k l = AddsRemedies l.initial.found.items l.found.items (λ r. (k : ℕ) × (k < l.k) × IsBy l.priced
+    (on_arc l.arc k) (short_price (lengths_by l.priced.keyed.numbered) l.priced.prices.now l.arc) (Arc l.arc) r)

@@ -1,14 +1,18 @@
-use Rattle.std.proofs.Common.{◌≡◌, List, sym, subst}
-use Rattle.qm_stitch.specs.Remedies.{AddsRemedies}
-use Rattle.qm_stitch.specs.Rims.{IsRepeat}
-use Rattle.qm_stitch.specs.declared.remedy.Remedy.{Remedy}
-use Rattle.qm_stitch.proofs.Adding.{adds_one}
+use Rattle.std.proofs.Common.{[], ◌∷◌, sym, inl, inr}
+use Rattle.std.proofs.lemmas.List.Elements.{Contains-append_left, Contains-push, Contains-push_cases}
 use Rattle.qm_stitch.proofs.remedies.push_remedy.Goals as goal
 
 pub returns : goal.returns
-returns c =
-    subst (λ (new : List Remedy). AddsRemedies c.args.found.now.items new
-    (λ way. (way ≡ c.args.remedy) × IsRepeat c.args.priced.now.keyed.keys.now c.args.remedy.key))
-    (sym c.in_ok-push.ensures.items)
-    (adds_one c.args.found.now.items c.args.remedy (IsRepeat c.args.priced.now.keyed.keys.now c.args.remedy.key)
-    (c.is_repeat.ensures.0 c.if-not-is_repeat.false))
+returns c r =
+    let old = c.args.found.now.items in
+    let new = c.args.remedy in
+    rw c.in_ok-push.ensures.items (
+      λ has. elim (Contains-push_cases old new r has) [
+        | inl before ↦ inl before
+        | inr same ↦ inr (sym same, c.is_repeat.ensures.0 c.if-not-is_repeat.false)
+      ],
+      elim [
+        | inl before ↦ Contains-append_left old (new ∷ []) r before
+        | inr is ↦ rw is.0 (Contains-push old new)
+      ],
+    )

@@ -8,4 +8,4 @@ returns-then-is_at-clause-some c = first_is c.args.keys.now c.requires c.loop-pl
 
 pub returns-clause-none : goal.returns-clause-none
 returns-clause-none c none =
-    none_is c.args.keys.now c.requires (λ k low. c.loop-place.invariant k (omega (arith, low, c.loop-place-test.false)))
+    none_is c.args.keys.now c.requires (λ k low. c.loop-place.invariant k (omega (arith, c.loop-place-test.false)))

@@ -1,7 +1,7 @@
 use Rattle.std.proofs.Common.{◌≡◌, ◌+◌, ℕ, Bool, true, false, refl, ◌∙◌, arith}
 use Rattle.def_layout.specs.{Gluings.Gluing, Lengths.Lengths}
 use Rattle.def_written.specs.Numbers.{vertex_number}
-use Rattle.qm_stitch.specs.Rims.{along_lines, key_of, line_edge, line_point, pair_key}
+use Rattle.qm_stitch.specs.Rims.{key_of, line_edge, line_point, pair_key}
 use Rattle.qm_stitch.specs.Lengthened.{gluing_in, lengths_by}
 use Rattle.qm_stitch.proofs.rim.key_at.Goals as goal
 
@@ -12,12 +12,7 @@ key_is l x false p n k = refl
 key_is l x true p n k = refl
 
 pub overflow_add-at : goal.overflow_add-at
-overflow_add-at c =
-    omega (
-      arith,
-      c.requires.low,
-      c.args.numbered.now.numbers.short c.args.line.patch (along_lines c.args.line.upright) c.requires.line.patch,
-    )
+overflow_add-at c = omega arith
 
 pub returns : goal.returns
 returns c = c.key_for.ensures ∙ (λ i. pair_key (c.line_point-from.ensures i) (c.line_point-to.ensures i)) ∙ key_is

@@ -1,4 +1,4 @@
-use Rattle.std.proofs.Common.{◌≡◌, ◌↔◌, ◌<◌, ℕ, List, true, false, length, sym, ◌∙◌, ap, subst, inl, inr, arith}
+use Rattle.std.proofs.Common.{◌≡◌, ◌↔◌, ◌<◌, true, false, length, sym, ◌∙◌, ap, subst, inl, inr, arith}
 use Rattle.std.proofs.lemmas.Bool.{cases_eq, false≢true}
 use Rattle.std.proofs.lemmas.List.Elements.{Contains-get_or}
 use Rattle.std.proofs.lemmas.Result.{IfOk-weaker}
@@ -15,17 +15,13 @@ use Rattle.qm_stitch.proofs.rises.cheapest_rises.Goals as goal
 found : (c : In_ok-remedies) → (r : Remedy) → Contains c.in_ok-remedies.remedies.items r
     ↔ IsRemedy (layout_of c.args.priced.now.keyed.numbered.t.now) (lengths_in c.args.priced.now.lengths.now)
     c.args.priced.now.prices.now r
-found c =
-    subst (λ (xs : List ℕ). (r : Remedy) → Contains c.in_ok-remedies.remedies.items r
-    ↔ IsRemedy (layout_of c.args.priced.now.keyed.numbered.t.now) (lengths_in xs) c.args.priced.now.prices.now r)
-    c.args.priced.now.same c.in_ok-remedies.ensures
+found c r = rw c.args.priced.now.same at (c.in_ok-remedies.ensures r)
 
 pub cheapest_arcs-requires : goal.cheapest_arcs-requires
 cheapest_arcs-requires c k d low =
     let w = (goal.at.cheapest_arcs-requires c).In_ok-remedies in
-    remedy_in (layout_of c.args.priced.now.keyed.numbered.t.now) (lengths_in c.args.priced.now.lengths.now)
-    c.args.priced.now.prices.now _
-    ((found w _).0 (Contains-get_or c.in_ok-remedies.remedies.items k d low))
+    remedy_in _ _
+    _ _ ((found w _).0 (Contains-get_or c.in_ok-remedies.remedies.items k d low))
 
 long : (c : In_ok-remedies)
     → length c.args.priced.now.lengths.now ≡ length (layout_of c.args.priced.now.keyed.numbered.t.now).arcs
@@ -37,37 +33,24 @@ invariant_of-marked c = record {
       ∙ sym (long (goal.at.invariant_of-marked c).In_ok-remedies);
 }
 
--- Whether there is one.
-any : (c : After-is_any-some) → c.is_any-some.result ≡ true → 0 < length c.in_ok-remedies.remedies.items
-any c on = omega (arith, c.is_any-some.ensures.0 on, ap length c.deref.ensures.value)
-
-none : (c : After-is_any-some) → c.is_any-some.result ≡ false → length c.in_ok-remedies.remedies.items ≡ 0
-none c off = elim (cases_eq (length c.in_ok-remedies.remedies.items) 0) [
-  | inl same ↦ same
-  | inr some ↦ absurd (false≢true (sym off
-      ∙ c.is_any-some.ensures.1 (omega (arith, some, ap length c.deref.ensures.value))))
-]
-
-pub returns-clause-needed : goal.returns-clause-needed
-returns-clause-needed c =
-    let at = goal.at.returns-clause-needed c in
-    IfOk-weaker c.rises_by.result _ _
-    (λ rises risen. choice_needed (layout_of c.args.priced.now.keyed.numbered.t.now) c.args.priced.now.lengths.now
-    c.args.priced.now.prices.now c.in_ok-remedies.remedies.items c.deref-2.result.now rises.items
-    c.args.priced.now.keyed.numbered.numbers.whole.paved (long at.In_ok-remedies) (found at.In_ok-remedies)
-    (subst (AreMarksOf (layout_of c.args.priced.now.keyed.numbered.t.now) c.in_ok-remedies.remedies.items)
-    (sym c.deref-2.ensures.value) c.in_ok-chosen.ensures)
-    c.is_any-some.result (any at.After-is_any-some) (none at.After-is_any-some) risen c.args.priced.now.short)
-    c.rises_by.ensures
-
-pub returns-clause-cheapest : goal.returns-clause-cheapest
-returns-clause-cheapest c =
-    let at = goal.at.returns-clause-cheapest c in
-    IfOk-weaker c.rises_by.result _ _
-    (λ rises risen. choice_follows (layout_of c.args.priced.now.keyed.numbered.t.now) c.args.priced.now.lengths.now
-    c.args.priced.now.prices.now c.in_ok-remedies.remedies.items c.deref-2.result.now rises.items
-    c.args.priced.now.keyed.numbered.numbers.whole.paved (long at.In_ok-remedies) (found at.In_ok-remedies)
-    (subst (AreMarksOf (layout_of c.args.priced.now.keyed.numbered.t.now) c.in_ok-remedies.remedies.items)
-    (sym c.deref-2.ensures.value) c.in_ok-chosen.ensures)
-    c.is_any-some.result (any at.After-is_any-some) (none at.After-is_any-some) risen)
-    c.rises_by.ensures
+pub returns : goal.returns
+returns c =
+    let w = (goal.at.returns c).In_ok-remedies in
+    let prices = c.args.priced.now.prices.now in
+    let paved = c.args.priced.now.keyed.numbered.numbers.whole.paved in
+    let rs = c.in_ok-remedies.remedies.items in
+    let marks = subst (AreMarksOf (layout_of c.args.priced.now.keyed.numbered.t.now) rs) (sym c.deref-2.ensures.value)
+    c.in_ok-chosen.ensures in
+    let any : c.is_any-some.result ≡ true → 0 < length rs =
+    λ on. omega (arith, c.is_any-some.ensures.0 on, ap length c.deref.ensures.value) in
+    let none : c.is_any-some.result ≡ false → length rs ≡ 0 = λ off. elim (cases_eq (length rs) 0) [
+      | inl same ↦ same
+      | inr some ↦ absurd (false≢true (sym off
+          ∙ c.is_any-some.ensures.1 (omega (arith, some, ap length c.deref.ensures.value))))
+    ] in
+    record {
+      needed = IfOk-weaker c.rises_by.result _ _ (λ rises risen. choice_needed prices paved (long w) (found w) marks any
+          none risen c.args.priced.now.short) c.rises_by.ensures;
+      cheapest = IfOk-weaker c.rises_by.result _ _ (λ rises risen. choice_follows prices paved (long w) (found w) marks
+          any none risen) c.rises_by.ensures;
+    }

@@ -5,8 +5,7 @@ use Rattle.qm_stitch.proofs.{Grids.tables_are, SafeLengths.safe_undoubled}
 use Rattle.qm_stitch.proofs.rises.needed_rises.Goals as goal
 
 pub invariant_of-numbered : goal.invariant_of-numbered
-invariant_of-numbered c =
-    record { numbers = tables_are (layout_of c.args.t.now) c.in_ok-tables.tables c.in_ok-tables.ensures.numbering }
+invariant_of-numbered c = record { numbers = tables_are c.in_ok-tables.ensures.numbering }
 
 pub invariant_of-keyed : goal.invariant_of-keyed
 invariant_of-keyed c = record { rim = rw c.deref.ensures.value c.in_ok-keys.ensures }

@@ -8,10 +8,8 @@ use Rattle.qm_stitch.proofs.safe.are_multiples.Goals as goal
 
 first_old : (t : TMesh) (arc : TArc) → 0 < length t.arcs.items → arc ≡ get_or t.arcs.items 0 arc
     → length arc.darts.items ≡ long_at (layout_of t).arcs 0
-first_old t arc some read =
-    ap (λ (a : TArc). length a.darts.items) read
-    ∙ sym (ap (λ (p : Path). length p.darts)
-    (get_or-map path t.arcs.items 0 arc (record { first = 0; last = 0; darts = [] }) some))
+first_old t arc some read = ap (λ (a : TArc). length a.darts.items) read ∙ sym (ap (λ (p : Path). length p.darts)
+    (get_or-map path _ 0 arc (record { first = 0; last = 0; darts = [] }) some))
 
 pub returns-then-old-gt0 : goal.returns-then-old-gt0
 returns-then-old-gt0 c =
@@ -20,8 +18,7 @@ returns-then-old-gt0 c =
     (omega (arith, c.args.stretched.now.long, length-map c.args.stretched.now.t.now.arcs.items path))
     c.args.stretched.now.even c.are_times.result
     c.len-old.result (lengths_in c.args.stretched.now.lengths.now 0 / c.len-old.result) some
-    (omega (
-      arith,
+    (omega ( arith,
       c.len-old.ensures,
       c.index.result.now.darts.ok.0,
       first_old c.args.stretched.now.t.now c.index.result.now (omega (arith, some, c.args.stretched.now.long))

@@ -1,29 +1,25 @@
 use Rattle.std.proofs.Common.{◌≡◌, ◌++◌, [], ◌∷◌, map, ◌∙◌, ap, sym, arith}
 use Rattle.std.proofs.lemmas.List.FromFn.{map-range_with_len_more}
 use Rattle.std.specs.List.{range_with_len}
-use Rattle.def_layout.specs.Layouts.{layout_of}
 use Rattle.def_written.specs.NewFaces.{face_count, new_face}
 use Rattle.qm_stitch.specs.Lengthened.{gluing_in, lengths_by}
-use Rattle.qm_stitch.proofs.{Grids.cells_end, stitching.all_faces.Goals.After-last_of-count}
+use Rattle.qm_stitch.proofs.{Grids.starts_end, stitching.all_faces.Goals.After-last_of-count}
 use Rattle.qm_stitch.proofs.stitching.all_faces.Goals as goal
 
 all : (c : After-last_of-count) → c.last_of-count.result ≡ face_count (gluing_in c.args.numbered.now)
     (lengths_by c.args.numbered.now)
-all c = cells_end (layout_of c.args.numbered.now.t.now) c.args.numbered.now.tables.now c.args.numbered.now.numbers
-    c.deref.result.now c.last_of-count.result c.deref.ensures.value c.last_of-count.ensures
+all c = starts_end c.args.numbered.now.numbers.cells c.deref.ensures.value c.last_of-count.ensures
 
 pub face-requires : goal.face-requires
-face-requires c = omega (arith, c.loop-face-test.true, all (goal.at.face-requires c).After-last_of-count)
+face-requires c = omega (arith, all (goal.at.face-requires c).After-last_of-count)
 
 pub loop-face-preserved : goal.loop-face-preserved
-loop-face-preserved c =
-    c.in_ok-push.ensures.items ∙ (λ i. c.loop-face.invariant i ++ c.face.ensures i ∷ [])
-    ∙ sym (map-range_with_len_more (new_face (gluing_in c.args.numbered.now) (lengths_by c.args.numbered.now)) 0
-    c.loop-face.face c.loop-face.face (omega arith))
+loop-face-preserved c = c.in_ok-push.ensures.items ∙ (λ i. c.loop-face.invariant i ++ c.face.ensures i ∷ [])
+    ∙ sym (map-range_with_len_more _ 0 _ _ (omega arith))
 
 pub returns : goal.returns
 returns c =
     let end : c.loop-face.face ≡ face_count (gluing_in c.args.numbered.now) (lengths_by c.args.numbered.now) =
-    omega (arith, c.loop-face-test.false, c.loop-face.auto.face-end, all (goal.at.returns c).After-last_of-count) in
+    omega (arith, all (goal.at.returns c).After-last_of-count) in
     c.loop-face.invariant ∙ ap (λ n. map (new_face (gluing_in c.args.numbered.now) (lengths_by c.args.numbered.now))
     (range_with_len 0 n)) end

@@ -1,5 +1,5 @@
-use Rattle.std.proofs.Common.{◌≡◌, ◌↔◌, ◌+◌, ◌∷◌, ◌++◌, [], ℕ, Bool, true, false, get_or, below_more}
-use Rattle.std.proofs.Common.{sym, ap, ◌∙◌, subst, arith}
+use Rattle.std.proofs.Common.{◌≡◌, ◌↔◌, ◌+◌, ◌∷◌, ◌++◌, [], ℕ, true, false, get_or, below_more}
+use Rattle.std.proofs.Common.{ap, ◌∙◌, arith}
 use Rattle.std.proofs.lemmas.List.{get_or_append_left, get_or_push, length_push}
 use Rattle.qm_stitch.specs.{Lengthened.gluing_in, Lengthened.lengths_by, Tight.IsDoubledOn}
 use Rattle.qm_stitch.proofs.tight.doubled_arcs.Goals as goal
@@ -7,16 +7,10 @@ use Rattle.qm_stitch.proofs.tight.doubled_arcs.Goals as goal
 pub loop-arc-preserved : goal.loop-arc-preserved
 loop-arc-preserved c = rw c.in_ok-push.ensures.items (record {
   long = length_push c.loop-arc.on.items c.is_doubled_on.result ∙ ap (λ (n : ℕ). n + 1) c.loop-arc.invariant.long;
-  each = below_more
-      (λ (a : ℕ). (get_or (c.loop-arc.on.items ++ c.is_doubled_on.result ∷ []) a false ≡ true)
-      ↔ IsDoubledOn (gluing_in c.args.keyed.now.numbered) (lengths_by c.args.keyed.now.numbered) a) c.loop-arc.arc
-      (λ a low. subst (λ (b : Bool). (b ≡ true)
-      ↔ IsDoubledOn (gluing_in c.args.keyed.now.numbered) (lengths_by c.args.keyed.now.numbered) a)
-      (sym (get_or_append_left c.loop-arc.on.items (c.is_doubled_on.result ∷ []) false a
-      (omega (arith, low, c.loop-arc.invariant.long))))
-      (c.loop-arc.invariant.each a low))
-      (subst (λ (b : Bool). (b ≡ true)
-      ↔ IsDoubledOn (gluing_in c.args.keyed.now.numbered) (lengths_by c.args.keyed.now.numbered) c.loop-arc.arc)
-      (sym (get_or_push c.loop-arc.on.items c.is_doubled_on.result false c.loop-arc.arc c.loop-arc.invariant.long))
+  each = below_more (λ (a : ℕ). (get_or (c.loop-arc.on.items ++ c.is_doubled_on.result ∷ []) a false ≡ true) ↔
+      IsDoubledOn (gluing_in c.args.keyed.now.numbered) (lengths_by c.args.keyed.now.numbered) a) c.loop-arc.arc
+      (λ a low. rw (get_or_append_left c.loop-arc.on.items (c.is_doubled_on.result ∷ []) false a
+      (omega (arith, low, c.loop-arc.invariant.long))) (c.loop-arc.invariant.each a low))
+      (rw (get_or_push c.loop-arc.on.items c.is_doubled_on.result false c.loop-arc.arc c.loop-arc.invariant.long)
       c.is_doubled_on.ensures);
 })

@@ -1,4 +1,4 @@
-use Rattle.std.proofs.Common.{◌≡◌, ◌↔◌, ◌<◌, ℕ, refl, sym, subst, below_more, ◌∙◌, true, arith}
+use Rattle.std.proofs.Common.{◌≡◌, ◌↔◌, ℕ, refl, sym, subst, below_more, ◌∙◌, true, arith}
 use Rattle.std.proofs.lemmas.Bool.{false≢true}
 use Rattle.std.proofs.lemmas.List.{length-map}
 use Rattle.def_layout.specs.Arcs.{path}
@@ -14,13 +14,11 @@ told : (c : After-is_repeat) → (c.is_repeat.result ≡ true)
 told c =
     let tells = key_tells c.args.keyed.now (on_arc c.args.arc c.loop-k.k) (
       omega (arith, c.requires.arc, length-map c.args.keyed.now.numbered.t.now.arcs.items path),
-      omega (
-        arith,
+      omega ( arith,
         c.loop-k-test.true,
         end_is c.args.keyed.now.numbered c.args.arc c.index-k-end.result.now c.requires.arc c.index-k-end.ensures,
       ),
-    ) in (
-      λ on. tells.0 (subst (IsRepeat c.args.keyed.now.keys.now) c.arc_key.ensures (c.is_repeat.ensures.0 on)),
+    ) in ( λ on. tells.0 (subst (IsRepeat c.args.keyed.now.keys.now) c.arc_key.ensures (c.is_repeat.ensures.0 on)),
       λ is. c.is_repeat.ensures.1 (subst (IsRepeat c.args.keyed.now.keys.now) (sym c.arc_key.ensures) (tells.1 is)),
     )
 
@@ -33,15 +31,11 @@ pub loop-k-preserved : goal.loop-k-preserved
 loop-k-preserved c =
     let w = (goal.at.loop-k-preserved c).After-is_repeat in
     below_more (λ (k : ℕ). ¬ IsDoubled (gluing_in c.args.keyed.now.numbered) (lengths_by c.args.keyed.now.numbered)
-    (on_arc c.args.arc k)) c.loop-k.k c.loop-k.invariant (λ is. false≢true (sym c.if-is_repeat.false ∙ (told w).1 is))
+    (on_arc c.args.arc k)) _ c.loop-k.invariant (λ is. false≢true (sym c.if-is_repeat.false ∙ (told w).1 is))
 
 pub returns : goal.returns
-returns c = (
-  λ on. absurd (false≢true on),
-  λ has. absurd (c.loop-k.invariant has.0 (omega (
-    arith,
-    has.1.is.1,
-    c.loop-k-test.false,
+returns c = ( λ on. absurd (false≢true on),
+  λ has. absurd (c.loop-k.invariant has.0 (omega ( arith,
     end_is c.args.keyed.now.numbered c.args.arc c.index-k-end.result.now c.requires.arc c.index-k-end.ensures,
   )) has.1),
 )
