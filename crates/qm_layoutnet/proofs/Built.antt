@@ -1,9 +1,9 @@
 -- The network of a layout is even and within bounds.
-use Rattle.std.proofs.Common.{◌≡◌, ◌⊎◌, ℕ, zero, suc, ◌*◌, ◌^◌, ◌<◌, ◌≤◌, Bool, true, false, List, [], ◌∷◌, length, map}
-use Rattle.std.proofs.Common.{Option, Some, pos}
-use Rattle.std.proofs.Common.{refl, sym, ap, ◌∙◌, subst, inl, inr, arith, ◌&&◌}
-use Rattle.std.proofs.lemmas.Bool.{le-leb, lt-ltb}
-use Rattle.std.specs.{Prelude.nat_le, Prelude.nat_lt, Prelude.option_to_list, List.list_all}
+use Rattle.std.proofs.Common.{◌≡◌, ℕ, zero, suc, ◌*◌, ◌^◌, ◌<◌, ◌≤◌, Bool, true, List, [], ◌∷◌, length, map}
+use Rattle.std.proofs.Common.{pos}
+use Rattle.std.proofs.Common.{refl, sym, ap, ◌∙◌, inl, inr, arith, ◌&&◌}
+use Rattle.std.proofs.lemmas.{Bool.le-leb, Bool.lt-ltb, List.length-map}
+use Rattle.std.specs.{Prelude.nat_lt, List.list_all}
 use Rattle.def_math.specs.Counts.{count, count_below}
 use Rattle.sum_laws.proofs.Counts.{count_below_prefix, count_below_le, count_below_ones, count_below_same}
 use Rattle.sum_laws.proofs.Sums.{total_below_same}
@@ -13,15 +13,15 @@ use Rattle.def_flow.specs.declared.limits.TheConstants.{MAX_OLD, MAX_WEIGHT}
 use Rattle.def_flow.specs.{declared.net.Arc.Arc, declared.net.End.End, declared.net.Settings.Settings}
 use Rattle.def_flow.specs.{declared.net.Weight.Weight, declared.net.Weight.TheVariants.Plain}
 use Rattle.def_flow.specs.declared.net.Weight.TheVariants.{Length}
-use Rattle.def_layout.specs.{declared.tmesh.SideArc.SideArc, declared.tmesh.TArc.TArc, Arcs.path, Arcs.long_at}
+use Rattle.def_layout.specs.{declared.tmesh.TArc.TArc, Arcs.path, Arcs.long_at}
 use Rattle.def_layout.specs.Gluings.{Way, south, east, north, west, Gluing}
-use Rattle.def_layout.specs.{Gluings.Slot, Gluings.IsSlot, Gluings.use_of, Surfaces.IsSurface, Lengths.Lengths}
+use Rattle.def_layout.specs.{Gluings.Slot, Gluings.IsSlot, Surfaces.IsSurface, Lengths.Lengths}
 use Rattle.def_layout.specs.Lengths.{size, AreLengths}
-use Rattle.def_layoutnet.specs.LayoutNet.{end_at, weight_of, AreSettings, IsNetOf}
+use Rattle.def_layoutnet.specs.LayoutNet.{node_of, weight_of, AreSettings, IsNetOf}
 use Rattle.def_layoutnet.specs.LayoutNetLaws.{sum_along}
 use Rattle.qm_layoutnet.specs.Ends.{arc_of, open_arc, AreEnds, PatchesBelow}
-use Rattle.qm_layoutnet.proofs.{Hits.use_of_arc, Balance.balance_law, Balance.has_ends, Balance.node_low}
-use Rattle.qm_layoutnet.proofs.{Balance.HasEnds, Opposite.size_is, Tangles.tangle_small, Tangles.term_low}
+use Rattle.qm_layoutnet.proofs.Balance.{balance_law, has_slots, node_low, one_end, two_ends}
+use Rattle.qm_layoutnet.proofs.{Opposite.size_is, Tangles.tangle_small, Tangles.term_low}
 
 -- A count along a list is one over its places.
 pub count_at : (f : Arc → ℕ) (xs : List Arc) → count f xs ≡ count_below (λ k. f (arc_at xs k)) (length xs)
@@ -42,28 +42,20 @@ open_at set [] a l = absurd (omega arith)
 open_at set (r ∷ rs) zero l = refl
 open_at set (r ∷ rs) (suc a) l = open_at set rs a (omega arith)
 
-open_long : (set : Settings) (runs : List TArc) → length (map (open_arc set) runs) ≡ length (map path runs)
-open_long set [] = refl
-open_long set (r ∷ rs) = omega (arith, open_long set rs)
-
-path_long : (runs : List TArc) → length (map path runs) ≡ length runs
-path_long [] = refl
-path_long (r ∷ rs) = omega (arith, path_long rs)
-
 pub ends_begin : (l : Gluing) (set : Settings) (runs : List TArc) → length (map path runs) ≡ l.arcs
     → AreEnds l (long_at (map path runs)) set (PatchesBelow 0) (map (open_arc set) runs)
 ends_begin l set runs long = record {
-  long = open_long set runs ∙ long;
+  long = length-map runs _ ∙ sym (length-map runs path) ∙ long;
   olds = λ a low. ap (λ (x : Arc). x.old) (at a low);
   weights = λ a low. ap (λ (x : Arc). x.weight) (at a low);
   floors = λ a low. ap (λ (x : Arc). x.floor) (at a low);
-  left = λ v slot none f. absurd (omega (arith, none));
-  right = λ v slot none f. absurd (omega (arith, none));
+  left = λ v slot none f. absurd (omega arith);
+  right = λ v slot none f. absurd (omega arith);
   alone = λ a low only. ap (λ (x : Arc). x.right) (at a low);
 }
   where
     at : (a : ℕ) → a < l.arcs → arc_at (map (open_arc set) runs) a ≡ arc_of set (long_at (map path runs) a)
-    at a low = open_at set runs a (omega (arith, low, long, path_long runs))
+    at a low = open_at set runs a (omega (arith, length-map runs path))
 
 -- When all slots are done, these are the arcs of the network.
 pub net_is : (l : Gluing) (old : Lengths) (set : Settings) (net : Network) → net.nodes ≡ 2 * l.patches → net.p ≡ set.p
@@ -81,24 +73,21 @@ net_is l old set net nodes p q are = record {
   alone = λ a low only. are.alone a low (λ w slot d e. only w slot e);
 }
 
-module _ (l : Gluing) (x : Lengths) (set : Settings) (net : Network) (laid : IsSurface l) (len : AreLengths l x)
-    (few : count_below x l.arcs ≤ 2 ^ 23)
-    (in_range : AreSettings set) (floor : Lengths) (floors : (a : ℕ) → a < l.arcs → (1 ≤ floor a)
-    × (floor a ≤ MAX_FLOOR)) (is : IsNetOf l x x set floor net) where
+module _ {l : Gluing} {x floor : Lengths} {set : Settings} {net : Network} (laid : IsSurface l) (len : AreLengths l x)
+    (few : count_below x l.arcs ≤ 2 ^ 23) (in_range : AreSettings set)
+    (floors : (a : ℕ) → a < l.arcs → (1 ≤ floor a) × (floor a ≤ MAX_FLOOR)) (is : IsNetOf l x x set floor net) where
   -- The arcs are few.
   arcs_few : l.arcs ≤ 2 ^ 23
-  arcs_few = omega (arith, few, count_below_ones l.arcs, count_below_le (λ k. 1) x l.arcs (λ k low. len.some k low))
+  arcs_few = omega (arith, count_below_ones l.arcs, count_below_le (λ k. 1) x l.arcs (λ k low. len.some k low))
 
   old_at : (k : ℕ) → k < length net.arcs → (arc_at net.arcs k).old ≡ x k
-  old_at k low = is.olds k (omega (arith, low, is.long))
+  old_at k low = is.olds k (omega arith)
 
   -- The sum along a side is the size of the side.
   along_is : (p : ℕ) (s : Way) → p < l.patches → sum_along l (λ k. pos (arc_at net.arcs k).old) p s ≡ pos (size l x p s)
-  along_is p s low =
-      total_below_same (λ k. pos (arc_at net.arcs (l.use_at p s k).arc).old) (λ k. pos (x (l.use_at p s k).arc))
-      (l.many p s)
-      (λ k less. ap pos (is.olds (l.use_at p s k).arc (laid.paved.arc_low (record { patch = p; side = s; at = k })
-      (record { patch_low = low; low = less }))))
+  along_is p s low = total_below_same (λ k. pos _) (λ k. pos (x (l.use_at p s k).arc)) (l.many p s)
+      (λ k less. ap pos (is.olds (l.use_at p s k).arc
+      (laid.paved.arc_low (record { patch = p; side = s; at = k }) (record { patch_low = low; low = less }))))
       ∙ sym (size_is l x p s)
 
   pub even : IsEven net
@@ -120,67 +109,40 @@ module _ (l : Gluing) (x : Lengths) (set : Settings) (net : Network) (laid : IsS
   -- Weights are from 1 on.
   weight_low : (w : Weight) (n : ℕ) → 1 ≤ n → 1 ≤ weight_of w n
   weight_low Plain n h = omega arith
-  weight_low Length n h = omega (arith, h)
+  weight_low Length n h = omega arith
 
   weight_high : (w : Weight) (n : ℕ) → weight_of w n ≤ MAX_WEIGHT
   weight_high Plain n = omega arith
   weight_high Length n = omega arith
 
-  abbrev rest : (right : Option End) → Bool
-  rest right = list_all (λ (e : End). nat_lt e.node net.nodes) (option_to_list right)
-
   ends_low : (k : ℕ) → k < l.arcs → list_all (λ (e : End). nat_lt e.node net.nodes) (ends (arc_at net.arcs k)) ≡ true
-  ends_low k low = by_ends (has_ends l x x set floor net laid is (λ k. pos 0) k low)
+  ends_low k low =
+      let h = has_slots laid k low in
+      let all = λ (es : List End). list_all (λ (e : End). nat_lt e.node net.nodes) es in
+      elim h.right [
+        | inl v ↦ ap all (two_ends is h.ahead_is h.ahead_use v.1 v.2) ∙ rw (at h.ahead h.ahead_is, at v.0 v.1)
+        | inr none ↦ ap all (one_end is low h.ahead_is h.ahead_use none) ∙ rw (at h.ahead h.ahead_is)
+      ]
     where
-      by_ends : HasEnds l x x set floor net laid is (λ k. pos 0) k
-          → list_all (λ (e : End). nat_lt e.node net.nodes) (ends (arc_at net.arcs k)) ≡ true
-      by_ends h = ap (λ (b : Bool). b && rest (arc_at net.arcs k).right) (low_at (arc_at net.arcs k).left h.ahead left
-          h.ahead_is) ∙ by_right h.right
-        where
-          low_at : (e : End) (v : Slot) → e ≡ end_at v.patch v.side → IsSlot l v → nat_lt e.node net.nodes ≡ true
-          low_at e v same slot = lt-ltb e.node net.nodes (omega (
-            arith,
-            ap (λ (f : End). f.node) same,
-            node_low v.patch v.side l.patches slot.patch_low,
-            is.nodes,
-          ))
-
-          left : (arc_at net.arcs k).left ≡ end_at h.ahead.patch h.ahead.side
-          left = subst (λ (u : SideArc). (arc_at net.arcs u.arc).left ≡ end_at h.ahead.patch h.ahead.side) h.ahead_use
-              (is.left h.ahead h.ahead_is (ap (λ (u : SideArc). u.forward) h.ahead_use))
-
-          by_right : ((v : Slot) × IsSlot l v × (use_of l v ≡ use_of_arc k false))
-              ⊎ ((v : Slot) → IsSlot l v → use_of l v ≡ use_of_arc k false → ⊥) → rest (arc_at net.arcs k).right ≡ true
-          by_right (inl v) =
-              let right : (arc_at net.arcs k).right ≡ Some (end_at v.0.patch v.0.side) =
-              subst (λ (u : SideArc). (arc_at net.arcs u.arc).right ≡ Some (end_at v.0.patch v.0.side)) v.2
-              (is.right v.0 v.1 (ap (λ (u : SideArc). u.forward) v.2)) in
-              ap rest right ∙ ap (λ (b : Bool). b && true) (low_at (end_at v.0.patch v.0.side) v.0 refl v.1)
-          by_right (inr none) = ap rest (is.alone k low (λ w slot e. only w slot e (use_of l w).forward refl))
-            where
-              only : (w : Slot) → IsSlot l w → (use_of l w).arc ≡ k → (b : Bool) → (use_of l w).forward ≡ b
-                  → (use_of l w).forward ≡ true
-              only w slot e true f = f
-              only w slot e false f = absurd (none w slot (ap (λ (a : ℕ). use_of_arc a (use_of l w).forward) e
-                  ∙ ap (λ (b : Bool). use_of_arc k b) f))
+      at : (v : Slot) → IsSlot l v → nat_lt (node_of v.patch v.side) net.nodes ≡ true
+      at v slot = lt-ltb _ net.nodes (omega (arith, node_low v.patch v.side l.patches slot.patch_low))
 
   bounded : (k : ℕ) → k < length net.arcs → is_bounded net.nodes (arc_at net.arcs k) ≡ true
   bounded k low =
-      let k_low : k < l.arcs = omega (arith, low, is.long) in
+      let k_low : k < l.arcs = omega (arith, is.long) in
       let a = arc_at net.arcs k in
       let o : a.old ≤ 2 ^ 23 = omega (arith, old_at k low, term_low x l.arcs k k_low, few) in
       let w1 : 1 ≤ a.weight = omega (arith, is.weights k k_low, weight_low set.weight (x k) (len.some k k_low)) in
       let w2 : a.weight ≤ MAX_WEIGHT = omega (arith, is.weights k k_low, weight_high set.weight (x k)) in
       let f1 : 1 ≤ a.floor = omega (arith, is.floors k k_low, (floors k k_low).0) in
       let f2 : a.floor ≤ MAX_FLOOR = omega (arith, is.floors k k_low, (floors k k_low).1) in
-      let all = list_all (λ (e : End). nat_lt e.node net.nodes) (ends a) in
-      ap (λ (b : Bool). b && nat_le a.weight MAX_WEIGHT && nat_le a.old MAX_OLD && nat_le 1 a.floor
-      && nat_le a.floor MAX_FLOOR && all) (le-leb 1 a.weight w1)
-      ∙ (ap (λ (b : Bool). b && nat_le a.old MAX_OLD && nat_le 1 a.floor && nat_le a.floor MAX_FLOOR && all) (le-leb
-      a.weight MAX_WEIGHT w2)
-      ∙ (ap (λ (b : Bool). b && nat_le 1 a.floor && nat_le a.floor MAX_FLOOR && all) (le-leb a.old MAX_OLD
-      (omega (arith, o))) ∙ (ap (λ (b : Bool). b && nat_le a.floor MAX_FLOOR && all) (le-leb 1 a.floor f1)
-      ∙ (ap (λ (b : Bool). b && all) (le-leb a.floor MAX_FLOOR f2) ∙ ends_low k k_low))))
+      rw (
+        le-leb 1 a.weight w1,
+        le-leb a.weight MAX_WEIGHT w2,
+        le-leb a.old MAX_OLD (omega arith),
+        le-leb 1 a.floor f1,
+        le-leb a.floor MAX_FLOOR f2,
+      ) (ends_low k k_low)
 
   pub within : IsWithinBounds net
   within = record {

@@ -1,60 +1,39 @@
 -- The arcs of a network while their ends are put in.
-use Rattle.std.proofs.Common.{◌≡◌, ◌≢◌, ◌⊎◌, ℕ, suc, ◌+◌, ◌<◌, Bool, true, false, cond, List, [], ◌∷◌, length, get_or}
-use Rattle.std.proofs.Common.{Some, None}
+use Rattle.std.proofs.Common.{◌≡◌, ◌≢◌, ◌⊎◌, ℕ, suc, ◌+◌, ◌<◌, Bool, true, false, cond, not, List, [], ◌∷◌, length}
+use Rattle.std.proofs.Common.{get_or, Option, Some}
 use Rattle.std.proofs.Common.{refl, sym, ap, ◌∙◌, subst, inl, inr, arith}
-use Rattle.std.proofs.lemmas.Bool.{cases_eq, false≢true, cases_Bool}
+use Rattle.std.proofs.lemmas.Bool.{cases_eq}
 use Rattle.std.proofs.lemmas.List.{get_or-set_same, get_or-set_other, length-set}
 use Rattle.std.specs.List.{All}
 use Rattle.def_flow.specs.{Network.arc_at, declared.net.Arc.Arc, declared.net.End.End, declared.net.Settings.Settings}
 use Rattle.def_layout.specs.{declared.tmesh.SideArc.SideArc, Gluings.Way, Gluings.south, Gluings.east, Gluings.north}
 use Rattle.def_layout.specs.Gluings.{west, Gluing, Slot, IsSlot, use_of}
 use Rattle.def_layout.specs.{Surfaces.IsSurface, Lengths.Lengths, Layouts.way_number}
-use Rattle.def_layoutnet.specs.LayoutNet.{end_at, weight_of}
+use Rattle.def_layoutnet.specs.LayoutNet.{end_at}
 use Rattle.qm_layoutnet.specs.Ends.{with_side, with_end, with_ends, with_four, AreEnds, PatchesBelow, SlotsBelow}
 use Rattle.qm_layoutnet.proofs.Hits.{use_of_arc}
 
--- As many arcs are left.
-pub ends_long : (end : End) (us : List SideArc) (arcs : List Arc) → length (with_ends end us arcs) ≡ length arcs
-ends_long end [] arcs = refl
-ends_long end (u ∷ us) arcs = ends_long end us (with_end end u arcs)
-    ∙ length-set arcs u.arc (with_side end u (arc_at arcs u.arc))
-
--- Lengths and weights stay.
-side_old : (end : End) (u : SideArc) (a : Arc) → (with_side end u a).old ≡ a.old
-side_old end u a = by_way u.forward
-  where
-    by_way : (b : Bool) → (cond b (record a { left = end }) (record a { right = Some end })).old ≡ a.old
-    by_way true = refl
-    by_way false = refl
-
-side_weight : (end : End) (u : SideArc) (a : Arc) → (with_side end u a).weight ≡ a.weight
-side_weight end u a = by_way u.forward
-  where
-    by_way : (b : Bool) → (cond b (record a { left = end }) (record a { right = Some end })).weight ≡ a.weight
-    by_way true = refl
-    by_way false = refl
-
-side_floor : (end : End) (u : SideArc) (a : Arc) → (with_side end u a).floor ≡ a.floor
-side_floor end u a = by_way u.forward
-  where
-    by_way : (b : Bool) → (cond b (record a { left = end }) (record a { right = Some end })).floor ≡ a.floor
-    by_way true = refl
-    by_way false = refl
-
 -- What a use changes of its arc: the left end where it goes along it, else the right end.
-side_left : (end : End) (u : SideArc) (a : Arc) → u.forward ≡ true → ((with_side end u a).left ≡ end)
-    × ((with_side end u a).right ≡ a.right)
-side_left end u a e = (
-  ap (λ (b : Bool). (cond b (record a { left = end }) (record a { right = Some end })).left) e,
-  ap (λ (b : Bool). (cond b (record a { left = end }) (record a { right = Some end })).right) e,
-)
+abbrev with_way : (way : Bool) (end : End) (a : Arc) → Arc
+with_way way end a = cond way (record a { left = end }) (record a { right = Some end })
 
-side_right : (end : End) (u : SideArc) (a : Arc) → u.forward ≡ false → ((with_side end u a).right ≡ Some end)
-    × ((with_side end u a).left ≡ a.left)
-side_right end u a e = (
-  ap (λ (b : Bool). (cond b (record a { left = end }) (record a { right = Some end })).right) e,
-  ap (λ (b : Bool). (cond b (record a { left = end }) (record a { right = Some end })).left) e,
-)
+abbrev end_on : (way : Bool) (a : Arc) → Option End
+end_on true a = Some a.left
+end_on false a = a.right
+
+there_changed : (way : Bool) (end : End) (a : Arc) → end_on way (with_way way end a) ≡ Some end
+there_changed true end a = refl
+there_changed false end a = refl
+
+other_stays : (way : Bool) (end : End) (a : Arc) → end_on way (with_way (not way) end a) ≡ end_on way a
+other_stays true end a = refl
+other_stays false end a = refl
+
+one_way : (a b : Bool) → (a ≡ b) ⊎ (a ≡ not b)
+one_way true true = inl refl
+one_way true false = inr refl
+one_way false true = inr refl
+one_way false false = inl refl
 
 -- Sides with one number are one.
 same_number : (s t : Way) → way_number s ≡ way_number t → s ≡ t
@@ -66,9 +45,9 @@ same_number _ _ e = absurd (omega arith)
 
 module _ (l : Gluing) (old : Lengths) (set : Settings) (laid : IsSurface l) where
   -- The ends are those of the slots that are done, however that is said.
-  pub same_ends : (done now : Slot → Type 0) (arcs : List Arc) → ((w : Slot) → IsSlot l w → now w → done w)
+  same_ends : {done now : Slot → Type 0} {arcs : List Arc} → ((w : Slot) → IsSlot l w → now w → done w)
       → ((w : Slot) → IsSlot l w → done w → now w) → AreEnds l old set done arcs → AreEnds l old set now arcs
-  same_ends done now arcs back on are = record {
+  same_ends back on are = record {
     long = are.long;
     olds = are.olds;
     weights = are.weights;
@@ -79,17 +58,23 @@ module _ (l : Gluing) (old : Lengths) (set : Settings) (laid : IsSurface l) wher
   }
 
   -- One slot more is done.
-  pub end_more : (done now : Slot → Type 0) (arcs : List Arc) (v : Slot) → IsSlot l v
+  end_more : {done now : Slot → Type 0} {arcs : List Arc} (v : Slot) → IsSlot l v
       → ((w : Slot) → IsSlot l w → now w → done w ⊎ (w ≡ v)) → ((w : Slot) → IsSlot l w → done w → now w) → now v
       → AreEnds l old set done arcs → AreEnds l old set now (with_end (end_at v.patch v.side) (use_of l v) arcs)
-  end_more done now arcs v is_slot back on here are = record {
-    long = length-set arcs u.arc new ∙ are.long;
-    olds = olds;
-    weights = weights;
-    floors = floors;
-    left = left;
-    right = right;
-    alone = alone;
+  end_more {done} {now} {arcs} v is_slot back on here are = record {
+    long = length-set arcs u.arc _ ∙ are.long;
+    olds = λ a low. stays (λ x. x.old) (λ x. refl) (λ x. refl) a ∙ are.olds a low;
+    weights = λ a low. stays (λ x. x.weight) (λ x. refl) (λ x. refl) a ∙ are.weights a low;
+    floors = λ a low. stays (λ x. x.floor) (λ x. refl) (λ x. refl) a ∙ are.floors a low;
+    left = λ w slot n f. let e = ends true w slot n f in cc;
+    right = ends false;
+    alone = λ a low only.
+        let was = are.alone a low (λ w slot d e. only w slot (on w slot d) e) in
+        elim (cases_eq a u.arc) [
+          | inl e ↦ ap (λ (x : Arc). x.right) (at_use a e)
+              ∙ (ap (λ (way : Bool). (with_way way end (arc_at arcs a)).right) (only v is_slot here (sym e)) ∙ was)
+          | inr ne ↦ ap (λ (x : Arc). x.right) (at_other a ne) ∙ was
+        ];
   }
     where
       u : SideArc
@@ -98,168 +83,95 @@ module _ (l : Gluing) (old : Lengths) (set : Settings) (laid : IsSurface l) wher
       end : End
       end = end_at v.patch v.side
 
-      new : Arc
-      new = with_side end u (arc_at arcs u.arc)
-
       after : List Arc
       after = with_end end u arcs
 
-      at_same : arc_at after u.arc ≡ new
-      at_same = get_or-set_same arcs u.arc new _ (omega (arith, laid.paved.arc_low v is_slot, are.long))
+      at_same : arc_at after u.arc ≡ with_side end u (arc_at arcs u.arc)
+      at_same = get_or-set_same arcs u.arc _ _ (omega arith)
 
       at_other : (a : ℕ) → a ≢ u.arc → arc_at after a ≡ arc_at arcs a
-      at_other a ne = get_or-set_other arcs u.arc a new _ ne
+      at_other a ne = get_or-set_other arcs u.arc a _ _ ne
 
       at_use : (a : ℕ) → a ≡ u.arc → arc_at after a ≡ with_side end u (arc_at arcs a)
-      at_use a e = ap (arc_at after) e ∙ (at_same ∙ ap (λ (i : ℕ). with_side end u (arc_at arcs i)) (sym e))
+      at_use a e = rw e at_same
 
-      olds : (a : ℕ) → a < l.arcs → (arc_at after a).old ≡ old a
-      olds a low = elim (cases_eq a u.arc) [
-        | inl e ↦ ap (λ (x : Arc). x.old) (at_use a e) ∙ (side_old end u (arc_at arcs a) ∙ are.olds a low)
-        | inr ne ↦ ap (λ (x : Arc). x.old) (at_other a ne) ∙ are.olds a low
-      ]
-
-      floors : (a : ℕ) → a < l.arcs → (arc_at after a).floor ≡ set.floor
-      floors a low = elim (cases_eq a u.arc) [
-        | inl e ↦ ap (λ (x : Arc). x.floor) (at_use a e) ∙ (side_floor end u (arc_at arcs a) ∙ are.floors a low)
-        | inr ne ↦ ap (λ (x : Arc). x.floor) (at_other a ne) ∙ are.floors a low
-      ]
-
-      weights : (a : ℕ) → a < l.arcs → (arc_at after a).weight ≡ weight_of set.weight (old a)
-      weights a low = elim (cases_eq a u.arc) [
-        | inl e ↦ ap (λ (x : Arc). x.weight) (at_use a e) ∙ (side_weight end u (arc_at arcs a) ∙ are.weights a low)
-        | inr ne ↦ ap (λ (x : Arc). x.weight) (at_other a ne) ∙ are.weights a low
-      ]
-
-      -- Slots with one use are one.
-      is_v : (w : Slot) → IsSlot l w → (use_of l w).arc ≡ u.arc → (b : Bool) → (use_of l w).forward ≡ b → u.forward ≡ b
-          → w ≡ v
-      is_v w slot e b f g = laid.once w v slot is_slot (ap (λ (a : ℕ). use_of_arc a (use_of l w).forward) e
-          ∙ ap (λ (c : Bool). use_of_arc u.arc c) (f ∙ sym g))
-
-      left : (w : Slot) → IsSlot l w → now w → (use_of l w).forward ≡ true → (arc_at after (use_of l w).arc).left
-          ≡ end_at w.patch w.side
-      left w slot n f = elim (cases_eq (use_of l w).arc u.arc) [
-        | inl e ↦ by_way e (cases_Bool u.forward)
-        | inr ne ↦ by_done ne (back w slot n)
+      stays : (f : Arc → ℕ) → ((x : Arc) → f (record x { left = end }) ≡ f x)
+          → ((x : Arc) → f (record x { right = Some end }) ≡ f x) → (a : ℕ) → f (arc_at after a) ≡ f (arc_at arcs a)
+      stays f left right a = elim (cases_eq a u.arc) [
+        | inl e ↦ ap f (at_use a e) ∙ by_way u.forward
+        | inr ne ↦ ap f (at_other a ne)
       ]
         where
-          by_done : (use_of l w).arc ≢ u.arc → done w ⊎ (w ≡ v) → (arc_at after (use_of l w).arc).left
-              ≡ end_at w.patch w.side
-          by_done ne (inl d) = ap (λ (x : Arc). x.left) (at_other (use_of l w).arc ne) ∙ are.left w slot d f
-          by_done ne (inr e) = absurd (ne (ap (λ (x : Slot). (use_of l x).arc) e))
+          by_way : (way : Bool) → f (with_way way end (arc_at arcs a)) ≡ f (arc_at arcs a)
+          by_way true = left _
+          by_way false = right _
 
-          by_same : (use_of l w).arc ≡ u.arc → u.forward ≡ false → done w ⊎ (w ≡ v)
-              → (arc_at after (use_of l w).arc).left ≡ end_at w.patch w.side
-          by_same e g (inl d) = ap (λ (x : Arc). x.left) (at_use (use_of l w).arc e)
-              ∙ ((side_right end u (arc_at arcs (use_of l w).arc) g).1 ∙ are.left w slot d f)
-          by_same e g (inr same) =
-              absurd (false≢true (sym g ∙ (sym (ap (λ (x : Slot). (use_of l x).forward) same) ∙ f)))
+      at_v : (way : Bool) → u.forward ≡ way → end_on way (arc_at after u.arc) ≡ Some end
+      at_v way f = ap (end_on way) at_same
+          ∙ (ap (λ (b : Bool). end_on way (with_way b end (arc_at arcs u.arc))) f ∙ there_changed way end _)
 
-          by_way : (use_of l w).arc ≡ u.arc → (u.forward ≡ true) ⊎ (u.forward ≡ false)
-              → (arc_at after (use_of l w).arc).left ≡ end_at w.patch w.side
-          by_way e (inl g) = ap (λ (x : Arc). x.left) (at_use (use_of l w).arc e)
-              ∙ ((side_left end u (arc_at arcs (use_of l w).arc) g).0
-              ∙ sym (ap (λ (x : Slot). end_at x.patch x.side) (is_v w slot e true f g)))
-          by_way e (inr g) = by_same e g (back w slot n)
+      was : (way : Bool) (w : Slot) → IsSlot l w → done w → (use_of l w).forward ≡ way
+          → end_on way (arc_at arcs (use_of l w).arc) ≡ Some (end_at w.patch w.side)
+      was true w slot d f = ap Some (are.left w slot d f)
+      was false w slot d f = are.right w slot d f
 
-      right : (w : Slot) → IsSlot l w → now w → (use_of l w).forward ≡ false → (arc_at after (use_of l w).arc).right
-          ≡ Some (end_at w.patch w.side)
-      right w slot n f = elim (cases_eq (use_of l w).arc u.arc) [
-        | inl e ↦ by_way e (cases_Bool u.forward)
-        | inr ne ↦ by_done ne (back w slot n)
-      ]
-        where
-          by_done : (use_of l w).arc ≢ u.arc → done w ⊎ (w ≡ v) → (arc_at after (use_of l w).arc).right
-              ≡ Some (end_at w.patch w.side)
-          by_done ne (inl d) = ap (λ (x : Arc). x.right) (at_other (use_of l w).arc ne) ∙ are.right w slot d f
-          by_done ne (inr e) = absurd (ne (ap (λ (x : Slot). (use_of l x).arc) e))
-
-          by_same : (use_of l w).arc ≡ u.arc → u.forward ≡ true → done w ⊎ (w ≡ v)
-              → (arc_at after (use_of l w).arc).right ≡ Some (end_at w.patch w.side)
-          by_same e g (inl d) = ap (λ (x : Arc). x.right) (at_use (use_of l w).arc e)
-              ∙ ((side_left end u (arc_at arcs (use_of l w).arc) g).1 ∙ are.right w slot d f)
-          by_same e g (inr same) =
-              absurd (false≢true (sym (sym (ap (λ (x : Slot). (use_of l x).forward) same) ∙ f) ∙ g))
-
-          by_way : (use_of l w).arc ≡ u.arc → (u.forward ≡ true) ⊎ (u.forward ≡ false)
-              → (arc_at after (use_of l w).arc).right ≡ Some (end_at w.patch w.side)
-          by_way e (inr g) = ap (λ (x : Arc). x.right) (at_use (use_of l w).arc e)
-              ∙ ((side_right end u (arc_at arcs (use_of l w).arc) g).0
-              ∙ sym (ap (λ (x : Slot). Some (end_at x.patch x.side)) (is_v w slot e false f g)))
-          by_way e (inl g) = by_same e g (back w slot n)
-
-      alone : (a : ℕ) → a < l.arcs → ((w : Slot) → IsSlot l w → now w → (use_of l w).arc ≡ a → (use_of l w).forward
-          ≡ true) → (arc_at after a).right ≡ None
-      alone a low only = elim (cases_eq a u.arc) [
-        | inl e ↦ ap (λ (x : Arc). x.right) (at_use a e)
-            ∙ ((side_left end u (arc_at arcs a) (only v is_slot here (sym e))).1 ∙ was)
-        | inr ne ↦ ap (λ (x : Arc). x.right) (at_other a ne) ∙ was
-      ]
-        where
-          was : (arc_at arcs a).right ≡ None
-          was = are.alone a low (λ w slot d e. only w slot (on w slot d) e)
+      ends : (way : Bool) (w : Slot) → IsSlot l w → now w → (use_of l w).forward ≡ way
+          → end_on way (arc_at after (use_of l w).arc) ≡ Some (end_at w.patch w.side)
+      ends way w slot n f =
+          let same = λ (e : w ≡ v). subst (λ (x : Slot). end_on way (arc_at after (use_of l x).arc)
+          ≡ Some (end_at x.patch x.side)) (sym e) (at_v way (sym (ap (λ (x : Slot). (use_of l x).forward) e) ∙ f)) in
+          elim (back w slot n) [
+            | inr e ↦ same e
+            | inl d ↦ elim (cases_eq _ u.arc) [
+              | inr ne ↦ ap (end_on way) (at_other _ ne) ∙ was way w slot d f
+              | inl e ↦ elim (one_way u.forward way) [
+                | inl g ↦ same (laid.once w v slot is_slot (λ i. use_of_arc (e i) ((f ∙ sym g) i)))
+                | inr g ↦ ap (end_on way) (at_use _ e) ∙ (ap (λ (b : Bool). end_on way
+                    (with_way b end (arc_at arcs (use_of l w).arc))) g ∙ (other_stays way end _ ∙ was way w slot d f))
+              ]
+            ]
+          ]
 
   -- Side s of patch p is done from its k-th use on.
-  side_from : (p : ℕ) (s : Way) (us : List SideArc) (k : ℕ) (arcs : List Arc) → p < l.patches
+  side_from : (p : ℕ) (s : Way) (us : List SideArc) (k : ℕ) {arcs : List Arc} → p < l.patches
       → ((j : ℕ) (d : SideArc) → j < length us → get_or us j d ≡ l.use_at p s (k + j)) → k + length us ≡ l.many p s
       → AreEnds l old set (SlotsBelow p (way_number s) k) arcs
       → AreEnds l old set (SlotsBelow p (way_number s) (l.many p s)) (with_ends (end_at p s) us arcs)
-  side_from p s [] k arcs low same many are =
+  side_from p s [] k {arcs} low same many are =
       subst (λ (m : ℕ). AreEnds l old set (SlotsBelow p (way_number s) m) arcs) (omega (arith, many)) are
-  side_from p s (u ∷ us) k arcs low same many are =
-      side_from p s us (k + 1) (with_end (end_at p s) u arcs) low
-      (λ j d h. same (suc j) d (omega arith) ∙ ap (l.use_at p s) (let n : k + suc j ≡ k + 1 + j = omega arith in n))
-      (omega (arith, many))
-      (subst (λ (x : SideArc). AreEnds l old set (SlotsBelow p (way_number s) (k + 1))
-      (with_end (end_at p s) x arcs)) (sym here)
-      (end_more (SlotsBelow p (way_number s) k) (SlotsBelow p (way_number s) (k + 1)) arcs v
-      (record { patch_low = low; low = omega (arith, many) }) back on (inr (refl, inr (refl, omega arith))) are))
+  side_from p s (u ∷ us) k {arcs} low same many are = side_from p s us _ low (λ j d h. same (suc j) d (omega arith)
+      ∙ ap (l.use_at p s) (let n : k + suc j ≡ k + 1 + j = omega arith in n)) (omega arith) (subst
+      (λ (x : SideArc). AreEnds l old set (SlotsBelow p (way_number s) (k + 1)) (with_end (end_at p s) x arcs)) (sym
+      (same 0 u (omega arith) ∙ ap (l.use_at p s) (omega arith))) (end_more (record { patch = p; side = s; at = k })
+      (record { patch_low = low; low = omega arith }) back on (inr (refl, inr (refl, omega arith))) are))
     where
-      v : Slot
-      v = record { patch = p; side = s; at = k }
-
-      here : u ≡ l.use_at p s k
-      here = same 0 u (omega arith) ∙ ap (l.use_at p s) (omega arith)
-
-      back : (w : Slot) → IsSlot l w → SlotsBelow p (way_number s) (k + 1) w → SlotsBelow p (way_number s) k w ⊎ (w ≡ v)
+      back : (w : Slot) → IsSlot l w → SlotsBelow p (way_number s) (k + 1) w
+          → SlotsBelow p (way_number s) k w ⊎ (w ≡ record { patch = p; side = s; at = k })
       back w slot (inl h) = inl (inl h)
       back w slot (inr (e, inl h)) = inl (inr (e, inl h))
       back w slot (inr (e, inr (n, h))) = elim (cases_eq w.at k) [
-        | inl at ↦ inr (same_slot w e (same_number w.side s n) at)
+        | inl at ↦
+            let side = same_number w.side s n in inr (λ i. record { patch = e i; side = side i; at = at i })
         | inr ne ↦ inl (inr (e, inr (n, omega arith)))
       ]
-        where
-          same_slot : (w : Slot) → w.patch ≡ p → w.side ≡ s → w.at ≡ k → w ≡ v
-          same_slot w e f g = ap (λ (q : ℕ). record { patch = q; side = w.side; at = w.at }) e
-              ∙ (ap (λ (q : Way). record { patch = p; side = q; at = w.at }) f
-              ∙ ap (λ (q : ℕ). record { patch = p; side = s; at = q }) g)
 
       on : (w : Slot) → IsSlot l w → SlotsBelow p (way_number s) k w → SlotsBelow p (way_number s) (k + 1) w
       on w slot (inl h) = inl h
       on w slot (inr (e, inl h)) = inr (e, inl h)
       on w slot (inr (e, inr (n, h))) = inr (e, inr (n, omega arith))
 
-  side_whole : (p : ℕ) (s : Way) (us : List SideArc) (arcs : List Arc) → p < l.patches
+  -- A side that is done whole, and then the next one is begun.
+  next_side : (p : ℕ) (s : Way) (us : List SideArc) {arcs : List Arc} → p < l.patches
       → ((j : ℕ) (d : SideArc) → j < length us → get_or us j d ≡ l.use_at p s j) → length us ≡ l.many p s
       → AreEnds l old set (SlotsBelow p (way_number s) 0) arcs
-      → AreEnds l old set (SlotsBelow p (way_number s) (l.many p s)) (with_ends (end_at p s) us arcs)
-  side_whole p s us arcs low same many are =
-      side_from p s us 0 arcs low (λ j d h. same j d h ∙ ap (l.use_at p s) (omega arith)) (omega (arith, many)) are
-
-  -- A side that is done whole, and the next one.
-  next_side : (p : ℕ) (s : Way) (arcs : List Arc) → AreEnds l old set (SlotsBelow p (way_number s) (l.many p s)) arcs
-      → AreEnds l old set (SlotsBelow p (way_number s + 1) 0) arcs
-  next_side p s arcs are = same_ends (SlotsBelow p (way_number s) (l.many p s)) (SlotsBelow p (way_number s + 1) 0) arcs
-      back on are
+      → AreEnds l old set (SlotsBelow p (way_number s + 1) 0) (with_ends (end_at p s) us arcs)
+  next_side p s us low same many are = same_ends back on
+      (side_from p s us 0 low (λ j d h. same j d h ∙ ap (l.use_at p s) (omega arith)) (omega (arith, many)) are)
     where
-      whole : (w : Slot) → IsSlot l w → w.patch ≡ p → w.side ≡ s → w.at < l.many p s
-      whole w slot e f = subst (λ (t : Way). w.at < l.many p t) f (subst (λ (q : ℕ). w.at < l.many q w.side) e slot.low)
-
       back : (w : Slot) → IsSlot l w → SlotsBelow p (way_number s + 1) 0 w → SlotsBelow p (way_number s) (l.many p s) w
       back w slot (inl h) = inl h
       back w slot (inr (e, inl h)) = elim (cases_eq (way_number w.side) (way_number s)) [
-        | inl n ↦ inr (e, inr (n, whole w slot e (same_number w.side s n)))
+        | inl n ↦ let side = same_number w.side s n in inr (e, inr (n, rw (e, side) at slot.low))
         | inr ne ↦ inr (e, inl (omega arith))
       ]
       back w slot (inr (e, inr (n, h))) = absurd (omega (arith, h))
@@ -275,53 +187,35 @@ module _ (l : Gluing) (old : Lengths) (set : Settings) (laid : IsSurface l) wher
       → ((s : Way) → length (side s) ≡ l.many p s)
       → AreEnds l old set (PatchesBelow p) arcs → AreEnds l old set (PatchesBelow (p + 1)) (with_four p side arcs)
   patch_more p side arcs low same many are =
-      same_ends (SlotsBelow p 3 (l.many p west)) (PatchesBelow (p + 1)) (with_four p side arcs) last_back last_on
-      (side_whole p west (side west) norths low (same west) (many west) (next_side p north norths
-      (side_whole p north (side north) easts low (same north) (many north) (next_side p east easts
-      (side_whole p east (side east) souths low (same east) (many east) (next_side p south souths
-      (side_whole p south (side south) arcs low (same south) (many south)
-      (same_ends (PatchesBelow p) (SlotsBelow p 0 0) arcs first_back (λ w slot h. inl h) are))))))))
+      let begun : AreEnds l old set (SlotsBelow p 0 0) arcs = same_ends first_back (λ w slot h. inl h) are in
+      same_ends last_back last_on
+      (next_side p west (side west) low (same west) (many west)
+      (next_side p north (side north) low (same north) (many north)
+      (next_side p east (side east) low (same east) (many east)
+      (next_side p south (side south) low (same south) (many south) begun))))
     where
-      souths : List Arc
-      souths = with_ends (end_at p south) (side south) arcs
-
-      easts : List Arc
-      easts = with_ends (end_at p east) (side east) souths
-
-      norths : List Arc
-      norths = with_ends (end_at p north) (side north) easts
-
       first_back : (w : Slot) → IsSlot l w → SlotsBelow p 0 0 w → w.patch < p
       first_back w slot (inl h) = h
-      first_back w slot (inr (e, inl h)) = absurd (omega (arith, h))
-      first_back w slot (inr (e, inr (n, h))) = absurd (omega (arith, h))
+      first_back w slot (inr (e, inl h)) = absurd (omega arith)
+      first_back w slot (inr (e, inr (n, h))) = absurd (omega arith)
 
-      in_patch : (w : Slot) → w.patch ≡ p → (s : Way) → w.side ≡ s → w.at < l.many p s
-          → SlotsBelow p 3 (l.many p west) w
-      in_patch w e south f h = inr (e, inl (omega (arith, ap way_number f)))
-      in_patch w e east f h = inr (e, inl (omega (arith, ap way_number f)))
-      in_patch w e north f h = inr (e, inl (omega (arith, ap way_number f)))
-      in_patch w e west f h = inr (e, inr (ap way_number f, h))
+      number_low : (s : Way) → way_number s < 4
+      number_low south = omega arith
+      number_low east = omega arith
+      number_low north = omega arith
+      number_low west = omega arith
 
-      last_back : (w : Slot) → IsSlot l w → w.patch < p + 1 → SlotsBelow p 3 (l.many p west) w
+      last_back : (w : Slot) → IsSlot l w → w.patch < p + 1 → SlotsBelow p 4 0 w
       last_back w slot h = elim (cases_eq w.patch p) [
-        | inl e ↦ in_patch w e w.side refl (subst (λ (q : ℕ). w.at < l.many q w.side) e slot.low)
+        | inl e ↦ inr (e, inl (number_low w.side))
         | inr ne ↦ inl (omega arith)
       ]
 
-      last_on : (w : Slot) → IsSlot l w → SlotsBelow p 3 (l.many p west) w → w.patch < p + 1
+      last_on : (w : Slot) → IsSlot l w → SlotsBelow p 4 0 w → w.patch < p + 1
       last_on w slot (inl h) = omega arith
       last_on w slot (inr (e, h)) = omega arith
 
 -- Uses of arcs that are there, read from a table.
 pub low_among : (us vs : List SideArc) (n m : ℕ) → vs ≡ us → m ≡ n → All (λ (u : SideArc). u.arc < n) us
     → All (λ (u : SideArc). u.arc < m) vs
-low_among us vs n m e long low = subst (λ (xs : List SideArc). All (λ (u : SideArc). u.arc < m) xs) (sym e)
-    (λ k d h. omega (arith, low k d h, long))
-
--- As many arcs are left.
-pub four_long : (p : ℕ) (side : Way → List SideArc) (arcs : List Arc) → length (with_four p side arcs) ≡ length arcs
-four_long p side arcs =
-    ends_long (end_at p west) (side west) _
-    ∙ (ends_long (end_at p north) (side north) _
-    ∙ (ends_long (end_at p east) (side east) _ ∙ ends_long (end_at p south) (side south) arcs))
+low_among us vs n m e long low = rw (e, long) low

@@ -11,7 +11,7 @@ use Rattle.def_flow.specs.Network.{Network, arc_at, ends, is_bounded, tangle_num
 use Rattle.def_flow.specs.{Network.IsWithinBounds, declared.limits.TheConstants.MAX_FLOOR}
 use Rattle.def_flow.specs.declared.limits.TheConstants.{MAX_OLD, MAX_WEIGHT}
 use Rattle.def_flow.specs.{declared.net.Arc.Arc, declared.net.End.End, declared.net.Settings.Settings}
-use Rattle.def_layout.specs.{Gluings.Gluing, Gluings.use_of, Lengths.Lengths, Surfaces.IsSurface}
+use Rattle.def_layout.specs.{Gluings.Gluing, Lengths.Lengths, Surfaces.IsSurface}
 use Rattle.def_layoutnet.specs.{LayoutNet.IsNetOf, Floors.at_floor, Floors.HasFloors}
 use Rattle.qm_net.proofs.Within.{arc_bounded}
 use Rattle.qm_layoutnet.specs.Floors.{AreFloored}
@@ -24,10 +24,9 @@ no_arc = record { left = record { node = 0; plus = true }; right = None; old = 0
 -- Where each arc has a floor, the list is that of the arcs with that floor.
 pub all_floored : (floor : ℕ) (arcs new : List Arc) → AreFloored (length arcs) floor arcs new
     → new ≡ map (at_floor floor) arcs
-all_floored floor arcs new are =
-    ext_get_or no_arc new (map (at_floor floor) arcs) (are.long ∙ sym (length-map arcs (at_floor floor)))
-    (λ k l. (let low : k < length arcs = omega (arith, l, are.long) in
-    are.done k low low ∙ sym (get_or-map (at_floor floor) arcs k no_arc no_arc low)))
+all_floored floor arcs new are = ext_get_or no_arc new _ (are.long ∙ sym (length-map arcs _))
+    (λ k l. (let low : k < length arcs = omega arith in
+    are.done k low low ∙ sym (get_or-map _ arcs k no_arc no_arc low)))
 
 -- A network with these arcs has this floor everywhere.
 pub has_floors : (net : Network) (floor : ℕ) (new : Network)
@@ -36,22 +35,22 @@ has_floors net floor new same = subst (HasFloors net (λ a. floor)) (sym same) (
   nodes = refl;
   p = refl;
   q = refl;
-  long = length-map net.arcs (at_floor floor);
-  arcs = λ k l. get_or-map (at_floor floor) net.arcs k no_arc no_arc l;
+  long = length-map net.arcs _;
+  arcs = λ k l. get_or-map _ net.arcs k no_arc no_arc l;
 })
 
 -- No floor of a network within bounds is above the greatest.
 pub floor_high : (net : Network) → IsWithinBounds net → (k : ℕ) → k < length net.arcs
     → (arc_at net.arcs k).floor ≤ MAX_FLOOR
 floor_high net b k l =
-    let a : Arc = arc_at net.arcs k in
-    let low : Bool = nat_le 1 a.weight && nat_le a.weight MAX_WEIGHT && nat_le a.old MAX_OLD && nat_le 1 a.floor in
+    let a = arc_at net.arcs k in
+    let low = nat_le 1 a.weight && nat_le a.weight MAX_WEIGHT && nat_le a.old MAX_OLD && nat_le 1 a.floor in
     let parts = and_parts (low && nat_le a.floor MAX_FLOOR) _ (arc_bounded net b k l) in
     leb-true a.floor MAX_FLOOR (and_parts low _ parts.0).1
 
 module _ (net : Network) (floor : Lengths) (new : Network) (has : HasFloors net floor new) where
   pub floors_at : (k : ℕ) → k < length new.arcs → (arc_at new.arcs k).floor ≡ floor k
-  floors_at k l = ap (λ (a : Arc). a.floor) (has.arcs k (omega (arith, l, has.long)))
+  floors_at k l = ap (λ (a : Arc). a.floor) (has.arcs k (omega arith))
 
   same_ends : (k : ℕ) → k < length net.arcs → ends (arc_at new.arcs k) ≡ ends (arc_at net.arcs k)
   same_ends k l = ap ends (has.arcs k l)
@@ -64,15 +63,14 @@ module _ (net : Network) (floor : Lengths) (new : Network) (has : HasFloors net 
 
   pub floors_even : IsEven net → IsEven new
   floors_even even = record {
-    high = λ k l. (let low : k < length net.arcs = omega (arith, l, has.long) in
+    high = λ k l. (let low : k < length net.arcs = omega (arith, has.long) in
         omega (arith, old_at k low, even.high k low));
     small = omega (arith, olds, even.small);
     balanced = λ v. sums true v ∙ (even.balanced v ∙ sym (sums false v));
   }
     where
       olds : count (λ (a : Arc). a.old) new.arcs ≡ count (λ (a : Arc). a.old) net.arcs
-      olds =
-          count_at (λ a. a.old) new.arcs ∙ ap (count_below (λ k. (arc_at new.arcs k).old)) has.long
+      olds = count_at (λ a. a.old) new.arcs ∙ ap (count_below (λ k. (arc_at new.arcs k).old)) has.long
           ∙ count_below_same (λ k. (arc_at new.arcs k).old) (λ k. (arc_at net.arcs k).old) (length net.arcs) old_at
           ∙ sym (count_at (λ a. a.old) net.arcs)
 
@@ -83,11 +81,9 @@ module _ (net : Network) (floor : Lengths) (new : Network) (has : HasFloors net 
 
   -- Lists deviate as much from what is wanted.
   pub floors_deviation : (x : ℕ → ℤ) → deviation new x ≡ deviation net x
-  floors_deviation x =
-      ap (count_below (λ k. arc_deviation new (arc_at new.arcs k) (x k))) has.long
-      ∙ count_below_same (λ k. arc_deviation new (arc_at new.arcs k) (x k))
-      (λ k. arc_deviation net (arc_at net.arcs k) (x k)) (length net.arcs)
-      (λ k l. ap (λ (a : Arc). arc_deviation new a (x k)) (has.arcs k l) ∙ scale (arc_at net.arcs k) (x k))
+  floors_deviation x = ap (count_below (λ k. arc_deviation new (arc_at new.arcs k) (x k))) has.long ∙ count_below_same
+      (λ k. arc_deviation new (arc_at new.arcs k) (x k)) (λ k. arc_deviation net (arc_at net.arcs k) (x k)) (length
+      net.arcs) (λ k l. ap (λ (a : Arc). arc_deviation new a (x k)) (has.arcs k l) ∙ scale (arc_at net.arcs k) (x k))
     where
       scale : (a : Arc) (y : ℤ) → arc_deviation new a y ≡ arc_deviation net a y
       scale a y = λ i. a.weight * unsigned_abs (pos (has.q i) *ℤ y -ℤ pos (has.p i * a.old))
@@ -96,31 +92,27 @@ module _ (net : Network) (floor : Lengths) (new : Network) (has : HasFloors net 
   pub floors_within : IsWithinBounds net → ((k : ℕ) → k < length net.arcs → (1 ≤ floor k) × (floor k ≤ MAX_FLOOR))
       → IsWithinBounds new
   floors_within b within = record {
-    p_low = omega (arith, has.p, b.p_low);
-    p_high = omega (arith, has.p, b.p_high);
-    q_low = omega (arith, has.q, b.q_low);
-    q_high = omega (arith, has.q, b.q_high);
-    arcs = all_pass (is_bounded new.nodes) new.arcs (λ k l. bounded k (omega (arith, l, has.long)));
-    few = omega (arith, has.long, b.few);
+    p_low = omega arith;
+    p_high = omega arith;
+    q_low = omega arith;
+    q_high = omega arith;
+    arcs = all_pass _ new.arcs (λ k l. bounded k (omega arith));
+    few = omega arith;
   }
     where
       bounded : (k : ℕ) → k < length net.arcs → is_bounded new.nodes (arc_at new.arcs k) ≡ true
-      bounded k l =
-          ap (is_bounded new.nodes) (has.arcs k l)
-          ∙ ap (λ (n : ℕ). is_bounded n (at_floor (floor k) (arc_at net.arcs k))) has.nodes ∙ kept
+      bounded k l = (λ i. is_bounded (has.nodes i) (has.arcs k l i)) ∙ kept
         where
           kept : is_bounded net.nodes (at_floor (floor k) (arc_at net.arcs k)) ≡ true
           kept =
-              let a : Arc = arc_at net.arcs k in
+              let a = arc_at net.arcs k in
               let all : Bool = list_all (λ (e : End). nat_lt e.node net.nodes) (ends a) in
-              let numbers : Bool = nat_le 1 a.weight && nat_le a.weight MAX_WEIGHT && nat_le a.old MAX_OLD in
+              let numbers = nat_le 1 a.weight && nat_le a.weight MAX_WEIGHT && nat_le a.old MAX_OLD in
               let parts = and_parts (numbers && nat_le 1 a.floor && nat_le a.floor MAX_FLOOR) all
               (arc_bounded net b k l) in
-              let floors = and_parts (numbers && nat_le 1 a.floor) (nat_le a.floor MAX_FLOOR) parts.0 in
-              let first = and_parts numbers (nat_le 1 a.floor) floors.0 in
-              ap (λ (t : Bool). t && nat_le 1 (floor k) && nat_le (floor k) MAX_FLOOR && all) first.0
-              ∙ (ap (λ (t : Bool). t && nat_le (floor k) MAX_FLOOR && all) (le-leb 1 (floor k) (within k l).0)
-              ∙ (ap (λ (t : Bool). t && all) (le-leb (floor k) MAX_FLOOR (within k l).1) ∙ parts.1))
+              let floors = and_parts (numbers && nat_le 1 a.floor) _ parts.0 in
+              let first = and_parts numbers _ floors.0 in
+              rw (first.0, le-leb 1 (floor k) (within k l).0, le-leb (floor k) MAX_FLOOR (within k l).1) parts.1
 
 -- It is the network of the layout for these floors.
 pub floored : (l : Gluing) (old wish : Lengths) (settings : Settings) (before floor : Lengths) (net new : Network)
@@ -134,10 +126,10 @@ floored l old wish settings before floor net new laid is has = record {
   olds = λ a low. ap (λ (x : Arc). x.old) (at a low) ∙ is.olds a low;
   weights = λ a low. ap (λ (x : Arc). x.weight) (at a low) ∙ is.weights a low;
   floors = λ a low. ap (λ (x : Arc). x.floor) (at a low);
-  left = λ w slot f. ap (λ (x : Arc). x.left) (at (use_of l w).arc (laid.paved.arc_low w slot)) ∙ is.left w slot f;
-  right = λ w slot f. ap (λ (x : Arc). x.right) (at (use_of l w).arc (laid.paved.arc_low w slot)) ∙ is.right w slot f;
+  left = λ w slot f. ap (λ (x : Arc). x.left) (at _ (laid.paved.arc_low w slot)) ∙ is.left w slot f;
+  right = λ w slot f. ap (λ (x : Arc). x.right) (at _ (laid.paved.arc_low w slot)) ∙ is.right w slot f;
   alone = λ a low only. ap (λ (x : Arc). x.right) (at a low) ∙ is.alone a low only;
 }
   where
     at : (a : ℕ) → a < l.arcs → arc_at new.arcs a ≡ at_floor (floor a) (arc_at net.arcs a)
-    at a low = has.arcs a (omega (arith, low, is.long))
+    at a low = has.arcs a (omega arith)

@@ -1,7 +1,7 @@
 -- How often a side uses an arc in one direction, and the sum along a side as a sum over all arcs.
 use Rattle.std.proofs.Common.{◌≡◌, ℕ, zero, suc, ◌<◌, Bool, true, false, cond, not, ◌&&◌, ◌==◌, ℤ, pos, ◌+ℤ◌}
 use Rattle.std.proofs.Common.{refl, sym, ap, ◌∙◌, inl, inr, arith}
-use Rattle.std.proofs.lemmas.Bool.{cases_eq, eq-eqb, ne_eqb, false≢true, and_parts}
+use Rattle.std.proofs.lemmas.Bool.{cases_Bool, eq-eqb, eqb-true, ne_eqb, false≢true, and_parts}
 use Rattle.std.proofs.lemmas.Int.{ints}
 use Rattle.def_math.specs.Sums.{total_below}
 use Rattle.sum_laws.proofs.Sums.{total_below_none, total_below_one, total_below_same, total_below_sum}
@@ -34,24 +34,17 @@ same_way false false e = refl
 
 -- A hit is such a use.
 pub hit_is : (k : ℕ) (forward : Bool) (used : SideArc) → is_hit k forward used ≡ true → used ≡ use_of_arc k forward
-hit_is k forward used e = by_parts (and_parts (used.arc == k) (cond forward used.forward (not used.forward)) e)
-  where
-    by_parts : (((used.arc == k) ≡ true) × (cond forward used.forward (not used.forward) ≡ true))
-        → used ≡ use_of_arc k forward
-    by_parts p = elim (cases_eq used.arc k) [
-      | inl same ↦ ap (λ (b : Bool). use_of_arc used.arc b) (same_way forward used.forward p.1)
-          ∙ ap (λ (a : ℕ). use_of_arc a forward) same
-      | inr other ↦ absurd (false≢true (sym (ne_eqb used.arc k other) ∙ p.0))
-    ]
+hit_is k forward used e =
+    let p = and_parts (used.arc == k) _ e in
+    λ i. use_of_arc (eqb-true used.arc k p.0 i) (same_way forward used.forward p.1 i)
 
 -- Any other use of it is none.
 pub no_hit : (k : ℕ) (forward : Bool) (used : SideArc) → (used ≡ use_of_arc k forward → ⊥) → is_hit k forward used
     ≡ false
-no_hit k forward used never = by_test (is_hit k forward used) refl
-  where
-    by_test : (b : Bool) → is_hit k forward used ≡ b → is_hit k forward used ≡ false
-    by_test true e = absurd (never (hit_is k forward used e))
-    by_test false e = e
+no_hit k forward used never = elim (cases_Bool _) [
+  | inl on ↦ absurd (never (hit_is k forward used on))
+  | inr off ↦ off
+]
 
 -- What a use puts on arc k, in either direction.
 abbrev pub put : (x : ℕ → ℤ) (used : SideArc) (k : ℕ) → ℤ
@@ -73,12 +66,8 @@ pub along_is : (x : ℕ → ℤ) (n m : ℕ) (use_at : ℕ → SideArc) → ((j 
     → total_below (λ j. x (use_at j).arc) m
     ≡ total_below (λ k. total_below (λ j. cond (is_hit k true (use_at j)) (x k) (pos 0)) m +ℤ total_below
     (λ j. cond (is_hit k false (use_at j)) (x k) (pos 0)) m) n
-along_is x n m use_at low =
-    total_below_same (λ j. x (use_at j).arc) (λ j. total_below (put x (use_at j)) n) m
-    (λ j l. sym (put_once x n (use_at j) (low j l)))
-    ∙ (swapped (λ k j. put x (use_at j) k) n m
-    ∙ total_below_same (λ k. total_below (λ j. put x (use_at j) k) m)
-    (λ k. total_below (λ j. cond (is_hit k true (use_at j)) (x k) (pos 0)) m +ℤ total_below
-    (λ j. cond (is_hit k false (use_at j)) (x k) (pos 0)) m) n
-    (λ k l. total_below_sum (λ j. cond (is_hit k true (use_at j)) (x k) (pos 0))
-    (λ j. cond (is_hit k false (use_at j)) (x k) (pos 0)) m))
+along_is x n m use_at low = total_below_same (λ j. x (use_at j).arc) (λ j. total_below (put x (use_at j)) n) m
+    (λ j l. sym (put_once x n (use_at j) (low j l))) ∙ (swapped (λ k j. put x (use_at j) k) n m ∙ total_below_same (λ
+    k. total_below (λ j. put x (use_at j) k) m) (λ k. total_below (λ j. cond (is_hit k true (use_at j)) (x k) (pos 0)) m
+    +ℤ total_below (λ j. cond (is_hit k false (use_at j)) (x k) (pos 0)) m) n (λ k l. total_below_sum
+    (λ j. cond (is_hit k true (use_at j)) (x k) (pos 0)) (λ j. cond (is_hit k false (use_at j)) (x k) (pos 0)) m))

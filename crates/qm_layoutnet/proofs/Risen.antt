@@ -24,8 +24,7 @@ no_rise = record { arc = 0; floor = 0 }
 -- Without a rise the floors are as they were.
 pub risen_none : (arcs : List Arc) (rises : List Rise)
     → AreArcsAt (risen_floors (drop (length rises) rises) (floor_of arcs)) arcs arcs
-risen_none arcs rises = subst (λ (rs : List Rise). AreArcsAt (risen_floors rs (floor_of arcs)) arcs arcs)
-    (sym (drop_all (length rises) rises (omega arith))) (record { long = refl; each = λ k low. refl })
+risen_none arcs rises = rw (drop_all (length rises) rises (omega arith)) (record { long = refl; each = λ k low. refl })
 
 -- One rise more, before those that are done.
 pub risen_next : (arcs mid : List Arc) (rises : List Rise) (k : ℕ) → k < length rises
@@ -33,10 +32,8 @@ pub risen_next : (arcs mid : List Arc) (rises : List Rise) (k : ℕ) → k < len
     → AreArcsAt (risen_floors (drop (k + 1) rises) (floor_of arcs)) arcs mid
     → AreArcsAt (risen_floors (drop k rises) (floor_of arcs)) arcs
     (set mid (rise_at rises k).arc (at_floor (rise_at rises k).floor (arc_at mid (rise_at rises k).arc)))
-risen_next arcs mid rises k low there is =
-    subst (λ (rs : List Rise). AreArcsAt (risen_floors rs (floor_of arcs)) arcs new)
-    (sym (drop_more rises k no_rise low))
-    (record { long = length-set mid r.arc (at_floor r.floor (arc_at mid r.arc)) ∙ is.long; each = each })
+risen_next arcs mid rises k low there is = rw (drop_more rises k no_rise low)
+    (record { long = length-set mid r.arc _ ∙ is.long; each = each })
   where
     r : Rise
     r = rise_at rises k
@@ -49,15 +46,11 @@ risen_next arcs mid rises k low there is =
 
     each : (j : ℕ) → j < length arcs → arc_at new j ≡ at_floor (cond (j == r.arc) r.floor (rest j)) (arc_at arcs j)
     each j less = elim (cases_eq j r.arc) [
-      | inl same ↦ get_or-set_at mid r.arc j (at_floor r.floor (arc_at mid r.arc)) no_arc same
-          (omega (arith, there, is.long))
-          ∙ (ap (at_floor r.floor) (is.each r.arc there)
-          ∙ sym (λ i. at_floor (cond-true (j == r.arc) r.floor (rest j) (eq-eqb j r.arc same) i)
-          (arc_at arcs (same i))))
-      | inr other ↦ get_or-set_other mid r.arc j (at_floor r.floor (arc_at mid r.arc)) no_arc other
-          ∙ (is.each j less
-          ∙ sym (ap (λ (f : ℕ). at_floor f (arc_at arcs j))
-          (cond-false (j == r.arc) r.floor (rest j) (ne_eqb j r.arc other))))
+      | inl same ↦ get_or-set_at mid r.arc j _ no_arc same (omega arith)
+          ∙ (ap (at_floor r.floor) (is.each r.arc there) ∙ sym
+          (λ i. at_floor (cond-true (j == r.arc) r.floor (rest j) (eq-eqb j r.arc same) i) (arc_at arcs (same i))))
+      | inr other ↦ get_or-set_other mid r.arc j _ no_arc other ∙ (is.each j less ∙ sym (ap
+          (λ (f : ℕ). at_floor f (arc_at arcs j)) (cond-false (j == r.arc) r.floor (rest j) (ne_eqb j r.arc other))))
     ]
 
 -- A fact of a floor that stays, and of each floor to which one rises, is one of the floors then.
@@ -66,10 +59,8 @@ risen_is : (P : ℕ → Type 0) (rises : List Rise) (floors : Lengths) (a : ℕ)
     → P (risen_floors rises floors a)
 risen_is P [] floors a rose stayed = stayed
 risen_is P (r ∷ rs) floors a rose stayed = elim (cases_eq a r.arc) [
-  | inl same ↦ subst P (sym (cond-true (a == r.arc) r.floor (risen_floors rs floors a) (eq-eqb a r.arc same)))
-      (rose 0 (omega arith) (sym same))
-  | inr other ↦ subst P (sym (cond-false (a == r.arc) r.floor (risen_floors rs floors a) (ne_eqb a r.arc other)))
-      (risen_is P rs floors a (λ k low. rose (suc k) (omega (arith, low))) stayed)
+  | inl same ↦ rw (eq-eqb a r.arc same) (rose 0 (omega arith) (sym same))
+  | inr other ↦ rw (ne_eqb a r.arc other) (risen_is P rs floors a (λ k low. rose (suc k) (omega arith)) stayed)
 ]
 
 module _ (l : Gluing) (x : Lengths) (rises : List Rise) (are : AreNeeded l x rises) (floors : Lengths) where
@@ -95,13 +86,11 @@ module _ (l : Gluing) (x : Lengths) (rises : List Rise) (are : AreNeeded l x ris
             → ((a : ℕ) → floors a ≤ risen_floors rs floors a)
             → count_below (λ a. MAX_FLOOR - risen_floors rs floors a) l.arcs
             < count_below (λ a. MAX_FLOOR - floors a) l.arcs
-        by_first [] some first higher = absurd (omega (arith, some))
+        by_first [] some first higher = absurd (omega arith)
         by_first (r ∷ rs) some first higher =
             count_below_lt (λ a. MAX_FLOOR - risen_floors (r ∷ rs) floors a) (λ a. MAX_FLOOR - floors a) l.arcs r.arc
             first.there (λ a low. omega (arith, higher a)) (omega (
               arith,
-              first.short,
-              first.low,
               kept r.arc first.there,
               cond-true (r.arc == r.arc) r.floor (risen_floors rs floors r.arc) (eq-eqb r.arc r.arc refl),
             ))

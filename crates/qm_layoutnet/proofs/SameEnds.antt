@@ -9,10 +9,8 @@ use Rattle.qm_layoutnet.proofs.Built.{count_at}
 module _ (net new : Network) (nodes : new.nodes ≡ net.nodes) (long : length new.arcs ≡ length net.arcs)
     (same : (k : ℕ) → k < length net.arcs → ends (arc_at new.arcs k) ≡ ends (arc_at net.arcs k)) where
   degree_same : (v : ℕ) → degree new.arcs v ≡ degree net.arcs v
-  degree_same v =
-      count_at at_v new.arcs ∙ ap (count_below (λ k. at_v (arc_at new.arcs k))) long
-      ∙ count_below_same (λ k. at_v (arc_at new.arcs k)) (λ k. at_v (arc_at net.arcs k)) (length net.arcs)
-      (λ k l. ap there (same k l))
+  degree_same v = count_at at_v new.arcs ∙ ap (count_below (λ k. at_v (arc_at new.arcs k))) long ∙ count_below_same
+      (λ k. at_v (arc_at new.arcs k)) (λ k. at_v (arc_at net.arcs k)) (length net.arcs) (λ k l. ap there (same k l))
       ∙ sym (count_at at_v net.arcs)
     where
       there : List End → ℕ

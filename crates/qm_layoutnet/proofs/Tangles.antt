@@ -40,11 +40,11 @@ arc_ends a n = by_right a.right
         (option_to_list right)) n ≤ 2
     by_right None =
         let sum = count_below_sum (λ v. cond (a.left.node == v) 1 0) (λ v. 0) n in
-        omega (arith, sum, one_below a.left.node n, count_below_none (λ v. 0) n (λ v l. refl))
+        omega (arith, one_below a.left.node n, count_below_none (λ v. 0) n (λ v l. refl))
     by_right (Some r) =
         let sum = count_below_sum (λ v. cond (a.left.node == v) 1 0) (λ v. cond (r.node == v) 1 0 + 0) n in
         let more = count_below_sum (λ v. cond (r.node == v) 1 0) (λ v. 0) n in
-        omega (arith, sum, more, one_below a.left.node n, one_below r.node n, count_below_none (λ v. 0) n (λ v l. refl))
+        omega (arith, one_below a.left.node n, one_below r.node n, count_below_none (λ v. 0) n (λ v l. refl))
 
 degrees_few : (arcs : List Arc) (n : ℕ) → count_below (degree arcs) n ≤ 2 * length arcs
 degrees_few [] n = omega (arith, count_below_none (λ v. 0) n (λ v l. refl))
@@ -69,14 +69,13 @@ degree_few [] v = omega arith
 degree_few (a ∷ arcs) v = omega (arith, arc_degree a v, degree_few arcs v)
 
 pub tangle_small : (net : Network) → length net.arcs ≤ 2 ^ 23 → tangle_number net < 2 ^ 64
-tangle_small net few = omega (arith, each, times, degrees_few net.arcs net.nodes)
-  where
-    square : (d : ℕ) → d ≤ 2 ^ 24 → 16 * (d * d) ≤ 2 ^ 28 * d
-    square d l = omega (arith, mul-le-mul_right {m = d} {n = 2 ^ 24} d l)
-
-    each : tangle_number net ≤ count_below (λ v. 2 ^ 28 * degree net.arcs v) net.nodes
-    each = count_below_le (λ v. 16 * (degree net.arcs v * degree net.arcs v)) (λ v. 2 ^ 28 * degree net.arcs v)
-        net.nodes (λ v l. square (degree net.arcs v) (omega (arith, degree_few net.arcs v)))
-
-    times : count_below (λ v. 2 ^ 28 * degree net.arcs v) net.nodes ≡ 2 ^ 28 * count_below (degree net.arcs) net.nodes
-    times = count_below_times (2 ^ 28) (degree net.arcs) net.nodes
+tangle_small net few =
+    let d = degree net.arcs in
+    omega (
+      arith,
+      count_below_le (λ v. 16 * (d v * d v)) (λ v. 2 ^ 28 * d v) net.nodes
+          (λ v l. let low : d v ≤ 2 ^ 24 = omega (arith, degree_few net.arcs v) in
+          omega (arith, mul-le-mul_right {m = d v} {n = 2 ^ 24} (d v) low)),
+      count_below_times (2 ^ 28) d net.nodes,
+      degrees_few net.arcs net.nodes,
+    )

@@ -36,7 +36,7 @@ module _ (layout : Layout) (is : IsSomeLayout layout) where
 
   here : (t : ℕ) → t < count_below (long_at layout.arcs) (length layout.arcs)
       → IsInRun (long_at layout.arcs) (length layout.arcs) t (run_of t) (place_of t)
-  here t l = run_here (long_at layout.arcs) (length layout.arcs) t l
+  here t l = run_here _ _ t l
 
   -- They are darts of the mesh.
   pub arc_inside : (a k : ℕ) → a < length layout.arcs → k < long_at layout.arcs a
@@ -53,20 +53,10 @@ module _ (layout : Layout) (is : IsSomeLayout layout) where
           → j < count_below (long_at layout.arcs) (length layout.arcs)
           → dart_at layout.arcs (run_of i) (place_of i) ≡ dart_at layout.arcs (run_of j) (place_of j) → i ≡ j
       apart i j li lj e =
-          by_same (same_dart (half_edges is.faces) laws (is_on is.marks) cut (is_node is.faces is.marks) nodes
-          layout.arcs
-          is.laid.arcs
-          (run_of i) (run_of j) (place_of i) (place_of j) (here i li).low (here j lj).low (here i li).inside
-          (here j lj).inside e)
-        where
-          by_same : (run_of i ≡ run_of j) × (place_of i ≡ place_of j) → i ≡ j
-          by_same s = omega (
-            arith,
-            (here i li).place,
-            (here j lj).place,
-            ap (count_below (long_at layout.arcs)) s.0,
-            s.1,
-          )
+          let s = same_dart (half_edges is.faces) laws (is_on is.marks) cut (is_node is.faces is.marks) nodes
+          layout.arcs is.laid.arcs (run_of i) (run_of j) (place_of i) (place_of j) (here i li).low (here j lj).low
+          (here i li).inside (here j lj).inside e in
+          omega (arith, (here i li).place, (here j lj).place, ap (count_below (long_at layout.arcs)) s.0, s.1)
 
       there : (i : ℕ) → i < count_below (long_at layout.arcs) (length layout.arcs) → (j : ℕ) × (j < darts is.faces)
           × (j ≡ dart_at layout.arcs (run_of i) (place_of i))
@@ -78,7 +68,7 @@ module _ (layout : Layout) (is : IsSomeLayout layout) where
 
   -- The first cells of patches differ, too.
   pub patches_few : length layout.patches ≤ darts is.faces
-  patches_few = no_more (length layout.patches) (darts is.faces) first (λ d. d) apart (λ p l. (first p, low p l, refl))
+  patches_few = no_more _ _ first (λ d. d) apart (λ p l. (first p, low p l, refl))
     where
       first : (p : ℕ) → ℕ
       first p = cell_of (patch_at layout.patches p) 0 0
@@ -109,4 +99,4 @@ runs_short t is k d l =
     )
 
 pub few_patches : (t : TMesh) → IsSomeLayout (layout_of t) → length t.patches.items ≤ 2 ^ 23
-few_patches t is = omega (arith, patches_few (layout_of t) is, is.mesh.few, length-map t.patches.items rectangle)
+few_patches t is = omega (arith, patches_few (layout_of t) is, length-map t.patches.items rectangle)

@@ -17,26 +17,16 @@ open_arcs-requires c = subst (λ (runs : List TArc). All (λ (run : TArc). lengt
     (sym c.deref.ensures.value) (runs_short c.args.t.now c.requires.layout)
 
 pub put_all_ends-requires-clause-laid : goal.put_all_ends-requires-clause-laid
-put_all_ends-requires-clause-laid c = laid_of (layout_of c.args.t.now) c.requires.layout
+put_all_ends-requires-clause-laid c = laid_of _ c.requires.layout
 
 pub put_all_ends-requires-clause-few : goal.put_all_ends-requires-clause-few
 put_all_ends-requires-clause-few c = few_patches c.args.t.now c.requires.layout
 
 pub overflow_cast-result : goal.overflow_cast-result
-overflow_cast-result c = omega (
-  arith,
-  few_patches c.args.t.now c.requires.layout,
-  c.len.ensures,
-  c.args.t.now.patches.ok.0,
-)
+overflow_cast-result c = omega (arith, few_patches c.args.t.now c.requires.layout)
 
 pub overflow_mul-result : goal.overflow_mul-result
-overflow_mul-result c = omega (
-  arith,
-  few_patches c.args.t.now c.requires.layout,
-  c.len.ensures,
-  c.args.t.now.patches.ok.0,
-)
+overflow_mul-result c = omega (arith, few_patches c.args.t.now c.requires.layout)
 
 -- The arcs with all their ends.
 filled : (c : goal.After-len) → (with_items c.in_ok-arcs.arcs c.put_all_ends.new.arcs).items ≡ c.put_all_ends.new.arcs
@@ -57,9 +47,7 @@ ends_put c =
     let begun = subst (λ (arcs : List Arc). AreEnds l x w (PatchesBelow 0) arcs) (sym opened)
     (ends_begin l w t.arcs.items refl) in
     subst (λ (p : ℕ). AreEnds l x w (PatchesBelow p) (with_items c.in_ok-arcs.arcs c.put_all_ends.new.arcs).items)
-    (sym (length-map t.patches.items rectangle))
-    (subst (λ (arcs : List Arc). AreEnds l x w (PatchesBelow (length t.patches.items)) arcs) (sym (filled c))
-    (c.put_all_ends.ensures w begun))
+    (sym (length-map t.patches.items rectangle)) (rw (filled c) (c.put_all_ends.ensures w begun))
 
 -- The network.
 abbrev net : (c : goal.After-len) → Network
@@ -86,20 +74,17 @@ returns-clause-net c = is_net c
 pub returns-clause-even : goal.returns-clause-even
 returns-clause-even c =
     let p = layout_of c.args.t.now in
-    even (gluing_of p) (long_at p.arcs) c.args.set.now (net c) (laid_of p c.requires.layout)
-    (lengths_of p c.requires.layout) (few c) c.requires.settings (λ a. c.args.set.now.floor)
+    even (laid_of p c.requires.layout) (lengths_of p c.requires.layout) (few c) c.requires.settings
     (λ a low. (c.requires.settings.floor_low, c.requires.settings.floor_high)) (is_net c)
 
 pub returns-clause-bounds : goal.returns-clause-bounds
 returns-clause-bounds c =
     let p = layout_of c.args.t.now in
-    within (gluing_of p) (long_at p.arcs) c.args.set.now (net c) (laid_of p c.requires.layout)
-    (lengths_of p c.requires.layout) (few c) c.requires.settings (λ a. c.args.set.now.floor)
+    within (laid_of p c.requires.layout) (lengths_of p c.requires.layout) (few c) c.requires.settings
     (λ a low. (c.requires.settings.floor_low, c.requires.settings.floor_high)) (is_net c)
 
 pub returns-clause-small : goal.returns-clause-small
 returns-clause-small c =
     let p = layout_of c.args.t.now in
-    small (gluing_of p) (long_at p.arcs) c.args.set.now (net c) (laid_of p c.requires.layout)
-    (lengths_of p c.requires.layout) (few c) c.requires.settings (λ a. c.args.set.now.floor)
+    small (laid_of p c.requires.layout) (lengths_of p c.requires.layout) (few c) c.requires.settings
     (λ a low. (c.requires.settings.floor_low, c.requires.settings.floor_high)) (is_net c)

@@ -7,5 +7,5 @@ returns-then-tangle-from-clause-tangled c = record {
   net = network c.in_ok-net.net;
   is = c.in_ok-net.ensures.net;
   told = c.in_ok-tangle.ensures;
-  high = omega (arith, c.if-tangle-from.true, c.from.ensures, c.in_ok-tangle.ensures);
+  high = omega arith;
 }

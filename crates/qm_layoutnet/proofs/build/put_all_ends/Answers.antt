@@ -1,4 +1,4 @@
-use Rattle.std.proofs.Common.{◌≡◌, ℕ, ◌+◌, ◌<◌, true, List, map, length, sym, ap, refl, subst, arith}
+use Rattle.std.proofs.Common.{◌≡◌, ◌+◌, ◌<◌, true, List, map, length, sym, ap, refl, subst, arith}
 use Rattle.std.proofs.lemmas.List.{get_or_default, length-map}
 use Rattle.def_flow.specs.declared.net.Arc.{Arc}
 use Rattle.def_layout.specs.{declared.tmesh.SideArc.SideArc, Arcs.path, Arcs.long_at, Gluings.Slot, Layouts.gluing_of}
@@ -13,24 +13,10 @@ put_four-requires-clause-uses c s k d less =
     let t = c.args.t.now in
     let slot : Slot = record { patch = c.loop-p.p; side = s; at = k } in
     let p_low : c.loop-p.p < length (map rectangle t.patches.items) =
-    omega (
-      arith,
-      c.loop-p-test.true,
-      c.len-p-end.ensures,
-      t.sides.ok.0,
-      c.requires.sided,
-      length-map t.patches.items rectangle,
-    ) in
+    omega (arith, length-map t.patches.items rectangle) in
     let low = c.requires.laid.paved.arc_low slot (record { patch_low = p_low; low = less }) in
-    let same = get_or_default (side_at (layout_of t) c.loop-p.p s) k d (record { arc = 0; forward = true }) less in
-    omega (
-      arith,
-      low,
-      ap (λ (u : SideArc). u.arc) same,
-      c.loop-p.invariant.long,
-      c.requires.long,
-      length-map t.arcs.items path,
-    )
+    let same = get_or_default _ k d (record { arc = 0; forward = true }) less in
+    omega (arith, ap (λ (u : SideArc). u.arc) same, length-map t.arcs.items path)
 
 pub loop-p-preserved : goal.loop-p-preserved
 loop-p-preserved c =
@@ -46,11 +32,9 @@ loop-p-preserved c =
     ) in
     record {
       done = λ set begin. subst (λ (xs : List Arc). AreEnds (gluing_of (layout_of t)) (long_at (map path t.arcs.items))
-          set (PatchesBelow (c.loop-p.p + 1)) xs)
-          (sym c.put_four.ensures)
-          (patch_more (gluing_of (layout_of t)) (long_at (map path t.arcs.items)) set c.requires.laid c.loop-p.p
-          (side_at (layout_of t) c.loop-p.p) c.loop-p.arcs p_low
-          (λ s j d h. get_or_default (side_at (layout_of t) c.loop-p.p s) j d _ h) (λ s. refl)
+          set (PatchesBelow (c.loop-p.p + 1)) xs) (sym c.put_four.ensures) (patch_more (gluing_of (layout_of t))
+          (long_at (map path t.arcs.items)) set c.requires.laid c.loop-p.p (side_at (layout_of t) c.loop-p.p)
+          c.loop-p.arcs p_low (λ s j d h. get_or_default (side_at (layout_of t) c.loop-p.p s) j d _ h) (λ s. refl)
           (c.loop-p.invariant.done set begin));
       long = omega (arith, c.put_four.auto.arcs, c.loop-p.invariant.long);
     }
@@ -58,7 +42,5 @@ loop-p-preserved c =
 pub returns : goal.returns
 returns c set begin =
     let t = c.args.t.now in
-    let all : c.loop-p.p ≡ length t.patches.items =
-    omega (arith, c.loop-p-test.false, c.loop-p.auto.p-end, c.len-p-end.ensures, t.sides.ok.0, c.requires.sided) in
-    subst (λ (p : ℕ). AreEnds (gluing_of (layout_of t)) (long_at (map path t.arcs.items)) set (PatchesBelow p)
-    c.loop-p.arcs) all (c.loop-p.invariant.done set begin)
+    let all : c.loop-p.p ≡ length t.patches.items = omega arith in
+    rw (← all) (c.loop-p.invariant.done set begin)
