@@ -8,7 +8,7 @@ use Rattle.def_layout.specs.{Arcs.dart_at, Arcs.long_at, Arcs.path, Layouts.Layo
 use Rattle.def_layout.specs.{Layouts.layout_of}
 use Rattle.def_layout.specs.{Lengths.Lengths, declared.tmesh.TArc.TArc, declared.tmesh.TMesh.TMesh}
 use Rattle.def_map.specs.{Spots.edge_spot, declared.spot.EdgeSpot.EdgeSpot}
-use Rattle.def_written.specs.Spacings.{edge_begin, shared_step, step_parameter, IsSpacing, Shares}
+use Rattle.def_written.specs.Spacings.{shared_step, step_parameter, IsSpacing, Shares}
 use Rattle.def_written.specs.{Numbers.before_arc, Places.ONE, Places.Step}
 use Rattle.def_remesh.specs.{Placings.shares_in, Placings.IsSpaced, Spaced.shares_along, Spaced.spacing_by}
 use Rattle.def_remesh.specs.{declared.places.Spaced.Spaced, NewPoints.lengths_in}
@@ -26,11 +26,7 @@ read_short t {a = a} fine low read =
 pub points_few : {layout : Layout} {list : List ℕ} → AreFine layout list → {arc place : ℕ} → arc < length layout.arcs
     → place < lengths_in list arc - 1 → before_arc (lengths_in list) arc + place < 2 ^ 23
 points_few {layout} {list} fine {arc} {place} low less =
-    omega (
-      arith,
-      place_low (λ b. lengths_in list b - 1) (length layout.arcs) arc place low less,
-      fine.points,
-    )
+    omega (arith, place_low (λ b. lengths_in list b - 1) (length layout.arcs) arc place low less)
 
 module _ (layout : Layout) (new : Lengths) (o : Option Spaced) (told : IsSpaced layout new o) (spaced : Spaced)
     (is : o ≡ Some spaced) (arc k : ℕ) (low : arc < length layout.arcs) (some : 0 < k) (less : k < new arc) where
@@ -39,42 +35,38 @@ module _ (layout : Layout) (new : Lengths) (o : Option Spaced) (told : IsSpaced 
     arith,
     (told spaced is).long,
     place_low (λ b. new b - 1) (length layout.arcs) arc (k - 1) low (omega (arith, some, less)),
-    some,
   )
 
   inner_value : slice_index spaced.parameters.items (before_arc new arc + k - 1)
       ≡ (spacing_by layout (shares_in o) new).parameter_of arc true k
-  inner_value =
-      (told spaced is).each arc k low some less
+  inner_value = (told spaced is).each arc k low some less
       ∙ ap (λ (p : Option Spaced). (spacing_by layout (shares_in p) new).parameter_of arc true k) (sym is)
 
   -- What is read there.
-  pub read_inner : {index read : ℕ} → index ≡ before_arc new arc + k - 1
-      → read ≡ get_or spaced.parameters.items index read
-      → read ≡ (spacing_by layout (shares_in o) new).parameter_of arc true k
-  read_inner {index} {read} place same = get_or_read spaced.parameters.items index read
+  pub read_inner : {index read : ℕ} → index ≡ before_arc new arc + k - 1 → read
+      ≡ get_or spaced.parameters.items index read → read ≡ (spacing_by layout (shares_in o) new).parameter_of arc true k
+  read_inner {index} {read} place same = get_or_read _ index read
       (omega (arith, place, inner_low)) same 0 ∙ ap (slice_index spaced.parameters.items) place ∙ inner_value
 
 -- The parts of a step by shares are those of a parameter.
 parts_are : (old new : Lengths) (shares : Shares) (arc k : ℕ) → (shared_step old new shares arc k).parts ≡ ONE
-parts_are old new shares arc k = cond_both (k == 0) (edge_begin 0) _ (λ (s : Step). s.parts ≡ ONE) (λ e. refl)
-    (λ e. cond_both (k == new arc) (edge_begin (old arc)) _ (λ (s : Step). s.parts ≡ ONE) (λ f. refl) (λ f. refl))
+parts_are old new shares arc k = cond_both (k == 0) _ _ (λ (s : Step). s.parts ≡ ONE) (λ e. refl)
+    (λ e. cond_both (k == new arc) _ _ (λ (s : Step). s.parts ≡ ONE) (λ f. refl) (λ f. refl))
 
 -- A parameter tells its step.
 edge_told : (step : Step) → step.some < ONE → step_parameter step / ONE ≡ step.edge
-edge_told step less = omega (arith, less)
+edge_told step less = omega arith
 
 some_told : (step : Step) → step.some < ONE → step_parameter step % ONE ≡ step.some
-some_told step less = omega (arith, less)
+some_told step less = omega arith
 
 -- Where a point of an arc lies, by its parameter.
 pub spot_told : (layout : Layout) {new : Lengths} {o : Option Spaced} (spaced : Spaced) → o ≡ Some spaced
     → IsSpacing (gluing_of layout) (long_at layout.arcs) new (spacing_by layout (shares_in o) new)
-    → {arc k parameter : ℕ}
-    → arc < length layout.arcs → k < new arc
-    → parameter ≡ (spacing_by layout (shares_in o) new).parameter_of arc true k → {spot : EdgeSpot}
-    → spot ≡ record { dart = dart_at layout.arcs arc (parameter / ONE); some = parameter % ONE; parts = ONE }
-    → spot ≡ edge_spot layout (spacing_by layout (shares_in o) new) arc k
+    → {arc k parameter : ℕ} → arc < length layout.arcs → k < new arc → parameter
+    ≡ (spacing_by layout (shares_in o) new).parameter_of arc true k → {spot : EdgeSpot} → spot
+    ≡ record { dart = dart_at layout.arcs arc (parameter / ONE); some = parameter % ONE; parts = ONE } → spot
+    ≡ edge_spot layout (spacing_by layout (shares_in o) new) arc k
 spot_told layout {new} spaced is spacing {arc} {k} {parameter} low less told spot_is =
     spot_is ∙ (λ i. record {
       dart = dart_at layout.arcs arc ((ap (λ n. n / ONE) here ∙ edge_told step some) i);

@@ -21,18 +21,16 @@ axis_of faces layout places shares new v (suc (suc zero)) low = refl
 axis_of faces layout places shares new v (suc (suc (suc axis))) low = absurd (omega arith)
 
 module _ (faces : Faces) (layout : Layout) (shares : Option (List ℕ)) (new : Lengths)
-    (laid_out : IsMeshLayout faces layout)
-    (lengths : AreLengths (gluing_of layout) new)
+    (laid_out : IsMeshLayout faces layout) (lengths : AreLengths (gluing_of layout) new)
     (spaced : IsSpacing (gluing_of layout) (long_at layout.arcs) new (spacing_by layout shares new)) where
   pub lies_between : (places : Positions) {v : ℕ} → length places ≡ vertex_count faces
       → v < vertices (gluing_of layout) new → LiesBetween places (spaced_place faces layout places shares new v)
-  lies_between places {v} all low axis axis_low least greatest bound =
-      subst (λ z. (least ≤ℤ z) × (z ≤ℤ greatest)) (sym (axis_of faces layout places shares new v axis axis_low))
-      (subst (λ (F : Faces).
-      (least ≤ℤ new_coordinate F layout places shares new (point_at (gluing_of layout) new v) axis)
+  lies_between places {v} all low axis axis_low least greatest bound = subst (λ z. (least ≤ℤ z) × (z ≤ℤ greatest))
+      (sym (axis_of faces layout places shares new v axis axis_low)) (subst
+      (λ (F : Faces). (least ≤ℤ new_coordinate F layout places shares new (point_at (gluing_of layout) new v) axis)
       × (new_coordinate F layout places shares new (point_at (gluing_of layout) new v) axis ≤ℤ greatest)) laid_out.1
       (between_law (gluing_of layout) (long_at layout.arcs) new (spacing_by layout shares new)
-      (coordinate laid_out.0.faces layout places axis) least greatest
-      (laid_of layout laid_out.0) (lengths_of layout laid_out.0) lengths spaced
+      (coordinate laid_out.0.faces layout places axis) least greatest (laid_of layout laid_out.0)
+      (lengths_of layout laid_out.0) lengths spaced
       (λ a is. bound _ (omega (arith, old_low layout laid_out.0 a is, all, ap vertex_count laid_out.1)))
       (point_at (gluing_of layout) new v) (is_point (gluing_of layout) new v low)))

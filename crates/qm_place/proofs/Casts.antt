@@ -3,7 +3,7 @@ use Rattle.std.proofs.Common.{◌≡◌, ℕ, zero, suc, ◌-◌, ◌*◌, ◌^�
 use Rattle.std.proofs.Common.{◌∙◌, ap, arith}
 use Rattle.std.proofs.lemmas.Int.{ints}
 use Rattle.std.proofs.lemmas.Nat.{mul-le}
-use Rattle.std.specs.Prelude.{◌≤ℤ◌, unsigned_abs, neg_ℤ}
+use Rattle.std.specs.Prelude.{unsigned_abs, neg_ℤ}
 use Rattle.std.specs.Int.{int_div_euclid, w64, w128}
 use Rattle.def_written.specs.Places.{on_the_way, ONE, blend}
 use Rattle.written_laws.proofs.Between.{way_within, blend_within}
@@ -28,52 +28,34 @@ times_few k m (pos n) b k_le z_le = mul-le k n m b k_le z_le
 times_few k m (negsuc n) b k_le z_le =
     omega (arith, negated (k * suc n), mul-le k (suc n) m b k_le (omega (arith, z_le)))
 
+-- A number within the bounds of a coordinate.
+abbrev IsMicro : ℤ → Type 0
+IsMicro z = unsigned_abs z ≤ 999999999999999
+
 -- A part of the way is no longer than the way may be.
 pub part_few : (way : ℤ) {some parts : ℕ} → some < parts → unsigned_abs way ≤ 2 ^ 52
     → unsigned_abs (int_div_euclid ((pos (2 * some) *ℤ way) +ℤ pos parts) (pos (2 * parts))) ≤ 2 ^ 52
 part_few way {some} {parts} less small =
-    by_bounds (way_within (pos 0) way (neg_ℤ (pos (2 ^ 52))) (pos (2 ^ 52)) some parts (omega arith) (omega arith)
-    (omega (arith, ints)) (omega (arith, ints)) (omega (arith, ints, small)) (omega (arith, ints, small)))
-  where
-    same : way -ℤ pos 0 ≡ way
-    same = omega (arith, ints)
-
-    by_bounds : (neg_ℤ (pos (2 ^ 52)) ≤ℤ on_the_way (pos 0) way some parts)
-        × (on_the_way (pos 0) way some parts ≤ℤ pos (2 ^ 52))
-        → unsigned_abs (int_div_euclid ((pos (2 * some) *ℤ way) +ℤ pos parts) (pos (2 * parts))) ≤ 2 ^ 52
-    by_bounds b =
-        let e : int_div_euclid ((pos (2 * some) *ℤ (way -ℤ pos 0)) +ℤ pos parts) (pos (2 * parts))
-        ≡ int_div_euclid ((pos (2 * some) *ℤ way) +ℤ pos parts) (pos (2 * parts)) =
-        ap (λ z. int_div_euclid ((pos (2 * some) *ℤ z) +ℤ pos parts) (pos (2 * parts))) same in
-        omega (arith, ints, b.0, b.1, e)
+    let same : way -ℤ pos 0 ≡ way = omega (arith, ints) in
+    let b = way_within (pos 0) way (neg_ℤ (pos (2 ^ 52))) (pos (2 ^ 52)) some parts (omega arith) (omega arith)
+    (omega (arith, ints)) (omega (arith, ints)) (omega (arith, ints)) (omega (arith, ints)) in
+    let e = ap (λ (z : ℤ). int_div_euclid ((pos (2 * some) *ℤ z) +ℤ pos parts) (pos (2 * parts))) same in
+    omega (arith, ints, b.0, b.1, e)
 
 -- Between coordinates lies a coordinate.
-pub way_micro : (p q : ℤ) {some parts : ℕ} → some < parts → unsigned_abs p ≤ 999999999999999
-    → unsigned_abs q ≤ 999999999999999 → unsigned_abs (on_the_way p q some parts) ≤ 999999999999999
+pub way_micro : (p q : ℤ) {some parts : ℕ} → some < parts → IsMicro p → IsMicro q → IsMicro (on_the_way p q some parts)
 way_micro p q {some} {parts} less p_small q_small =
-    by_bounds (way_within p q (neg_ℤ (pos 999999999999999)) (pos 999999999999999) some parts (omega arith) (omega arith)
-    (omega (arith, ints, p_small)) (omega (arith, ints, p_small)) (omega (arith, ints, q_small))
-    (omega (arith, ints, q_small)))
-  where
-    by_bounds : (neg_ℤ (pos 999999999999999) ≤ℤ on_the_way p q some parts)
-        × (on_the_way p q some parts ≤ℤ pos 999999999999999)
-        → unsigned_abs (on_the_way p q some parts) ≤ 999999999999999
-    by_bounds b = omega (arith, ints, b.0, b.1)
+    let b = way_within p q (neg_ℤ (pos 999999999999999)) (pos 999999999999999) some parts (omega arith) (omega arith)
+    (omega (arith, ints)) (omega (arith, ints)) (omega (arith, ints)) (omega (arith, ints)) in
+    omega (arith, ints, b.0, b.1)
 
-pub blend_micro : {s t : ℕ} (a b c d : ℤ) → s ≤ ONE → t ≤ ONE → unsigned_abs a ≤ 999999999999999
-    → unsigned_abs b ≤ 999999999999999
-    → unsigned_abs c ≤ 999999999999999 → unsigned_abs d ≤ 999999999999999 → unsigned_abs (blend s t a b c d)
-    ≤ 999999999999999
+pub blend_micro : {s t : ℕ} (a b c d : ℤ) → s ≤ ONE → t ≤ ONE → IsMicro a → IsMicro b → IsMicro c → IsMicro d
+    → IsMicro (blend s t a b c d)
 blend_micro {s} {t} a b c d s_le t_le a_small b_small c_small d_small =
-    by_bounds (blend_within s t a b c d (neg_ℤ (pos 999999999999999)) (pos 999999999999999) s_le t_le
-    (omega (arith, ints, a_small)) (omega (arith, ints, b_small)) (omega (arith, ints, c_small))
-    (omega (arith, ints, d_small))
-    (omega (arith, ints, a_small)) (omega (arith, ints, b_small)) (omega (arith, ints, c_small))
-    (omega (arith, ints, d_small)))
-  where
-    by_bounds : (neg_ℤ (pos 999999999999999) ≤ℤ blend s t a b c d) × (blend s t a b c d ≤ℤ pos 999999999999999)
-        → unsigned_abs (blend s t a b c d) ≤ 999999999999999
-    by_bounds e = omega (arith, ints, e.0, e.1)
+    let e = blend_within s t a b c d (neg_ℤ (pos 999999999999999)) (pos 999999999999999) s_le t_le
+    (omega (arith, ints)) (omega (arith, ints)) (omega (arith, ints)) (omega (arith, ints))
+    (omega (arith, ints)) (omega (arith, ints)) (omega (arith, ints)) (omega (arith, ints)) in
+    omega (arith, ints, e.0, e.1)
 
 -- What the calls of `weighed`, `part_of` and `blend` compute.
 pub weighed_is : {a b f g : ℕ} (n : ℤ) {m : ℤ} → f ≡ a → g ≡ b → m ≡ to_z w64 (of_z w64 n) → a ≤ ONE → b ≤ ONE
@@ -88,14 +70,13 @@ weighed_is {a} {b} {f} {g} n {m} f_is g_is m_is a_le b_le small =
 
     few : unsigned_abs (pos (a * b) *ℤ n) ≤ 2 ^ 116
     few = let e : unsigned_abs (pos (a * b) *ℤ n) ≤ (ONE * ONE) * 2 ^ 52 =
-        times_few (a * b) (ONE * ONE) n (2 ^ 52) product (omega (arith, small)) in omega (arith, e)
+        times_few (a * b) (ONE * ONE) n (2 ^ 52) product (omega arith) in omega (arith, e)
 
     weight : to_z w128 (f * g) ≡ pos (a * b)
     weight = (λ i. to_z w128 (f_is i * g_is i)) ∙ natural (omega (arith, product))
 
     number : to_z w128 (of_z w128 m) ≡ n
-    number = ap (λ z. to_z w128 (of_z w128 z)) (m_is ∙ kept_half n (omega (arith, small)))
-        ∙ kept n (omega (arith, small))
+    number = ap (λ z. to_z w128 (of_z w128 z)) (m_is ∙ kept_half n (omega arith)) ∙ kept n (omega arith)
 
 pub part_is : (way : ℤ) {q twice one double : ℤ} (some : ℕ) {parts : ℕ} → (some < parts) → parts ≤ ONE
     → unsigned_abs way < 2 ^ 52
@@ -110,17 +91,19 @@ part_is way {q} {twice} {one} {double} some {parts} less le small twice_is one_i
     plain : twice ≡ pos (2 * some) *ℤ way
     plain =
         let e : some * 2 ≡ 2 * some = omega arith in
-        twice_is ∙ (λ i. pos (e i) *ℤ kept_half way (omega (arith, small)) i)
+        twice_is ∙ (λ i. pos (e i) *ℤ kept_half way (omega arith) i)
 
     twice_few : unsigned_abs (pos (2 * some) *ℤ way) ≤ 2 ^ 33 * 2 ^ 52
-    twice_few = times_few (2 * some) (2 ^ 33) way (2 ^ 52) (omega (arith, less, le)) (omega (arith, small))
+    twice_few = times_few (2 * some) (2 ^ 33) way (2 ^ 52) (omega (arith, less, le)) (omega arith)
 
     sum : to_z w128 (of_z w128 (to_z w128 (of_z w128 twice) +ℤ to_z w128 (of_z w128 one)))
         ≡ (pos (2 * some) *ℤ way) +ℤ pos parts
-    sum =
-        (λ i. to_z w128 (of_z w128 (to_z w128 (of_z w128 (plain i)) +ℤ to_z w128 (of_z w128 (one_is i)))))
-        ∙ (λ i. to_z w128 (of_z w128 (kept (pos (2 * some) *ℤ way) (omega (arith, twice_few)) i +ℤ kept (pos parts)
-        (omega (arith, ints, le)) i)))
+    sum = (λ i. to_z w128 (of_z w128 (to_z w128 (of_z w128 (plain i)) +ℤ to_z w128 (of_z w128 (one_is i)))))
+        ∙ (λ i. to_z w128
+        (of_z w128 (kept (pos (2 * some) *ℤ way) (omega (
+          arith,
+          twice_few,
+        )) i +ℤ kept (pos parts) (omega (arith, ints, le)) i)))
         ∙ kept ((pos (2 * some) *ℤ way) +ℤ pos parts) (omega (arith, ints, twice_few, le))
 
     bottom : to_z w128 (of_z w128 double) ≡ pos (2 * parts)
@@ -130,48 +113,46 @@ part_is way {q} {twice} {one} {double} some {parts} less le small twice_is one_i
     quotient = q_is ∙ (λ i. int_div_euclid (sum i) (bottom i))
 
     few : unsigned_abs q ≤ 2 ^ 52
-    few = omega (arith, part_few way less (omega (arith, small)), ap unsigned_abs quotient)
+    few = omega (arith, part_few way less (omega arith), ap unsigned_abs quotient)
 
-pub way_is : (p q : ℤ) {r : ℤ} {some : ℕ} {parts : ℕ} → some < parts → unsigned_abs p ≤ 999999999999999
-    → unsigned_abs q ≤ 999999999999999
+pub way_is : (p q : ℤ) {r : ℤ} {some : ℕ} {parts : ℕ} → some < parts → IsMicro p → IsMicro q
     → r ≡ int_div_euclid ((pos (2 * some) *ℤ to_z w64 (of_z w64 (to_z w64 (of_z w64 q) -ℤ to_z w64 (of_z w64 p)))) +ℤ
     pos parts) (pos (2 * parts)) → unsigned_abs r ≤ 2 ^ 52
     → to_z w64 (of_z w64 (to_z w64 (of_z w64 p) +ℤ to_z w64 (of_z w64 r))) ≡ on_the_way p q some parts
-way_is p q {r} {some} {parts} less p_small q_small r_is r_small =
-    (λ i. to_z w64 (of_z w64 (kept_half p (omega (arith, p_small)) i +ℤ kept_half r (omega (arith, r_small)) i)))
-    ∙ kept_half (p +ℤ r) (omega (arith, ints, p_small, r_small))
+way_is p q {r} {some} {parts} less p_small q_small r_is r_small = (λ i. to_z w64
+    (of_z w64 (kept_half p (omega arith) i +ℤ kept_half r (omega arith) i))) ∙ kept_half (p +ℤ r) (omega (arith, ints))
     ∙ ap (λ z. p +ℤ z) (r_is ∙ ap (λ z. int_div_euclid ((pos (2 * some) *ℤ z) +ℤ pos parts) (pos (2 * parts))) gap)
   where
     gap : to_z w64 (of_z w64 (to_z w64 (of_z w64 q) -ℤ to_z w64 (of_z w64 p))) ≡ q -ℤ p
-    gap = (λ i. to_z w64 (of_z w64 (kept_half q (omega (arith, q_small)) i -ℤ kept_half p (omega (arith, p_small)) i)))
-        ∙ kept_half (q -ℤ p) (omega (arith, ints, p_small, q_small))
+    gap = (λ i. to_z w64 (of_z w64 (kept_half q (omega arith) i -ℤ kept_half p (omega arith) i)))
+        ∙ kept_half (q -ℤ p) (omega (arith, ints))
 
-pub sum_is : (a b c d : ℤ) → unsigned_abs a ≤ 2 ^ 116 → unsigned_abs b ≤ 2 ^ 116 → unsigned_abs c ≤ 2 ^ 116
-    → unsigned_abs d ≤ 2 ^ 116
+-- Terms of a sum.
+abbrev IsTerm : ℤ → Type 0
+IsTerm z = unsigned_abs z ≤ 2 ^ 116
+
+pub sum_is : (a b c d : ℤ) → IsTerm a → IsTerm b → IsTerm c → IsTerm d
     → to_z w128 (of_z w128 (to_z w128 (of_z w128 (to_z w128 (of_z w128 a) +ℤ to_z w128 (of_z w128 b))) +ℤ to_z w128
     (of_z w128 (to_z w128 (of_z w128 c) +ℤ to_z w128 (of_z w128 d))))) ≡ (a +ℤ b) +ℤ (c +ℤ d)
-sum_is a b c d a_small b_small c_small d_small =
-    (λ i. to_z w128 (of_z w128 (two a b a_small b_small i +ℤ two c d c_small d_small i)))
-    ∙ kept ((a +ℤ b) +ℤ (c +ℤ d)) (omega (arith, ints, a_small, b_small, c_small, d_small))
+sum_is a b c d a_small b_small c_small d_small = (λ i. to_z w128 (of_z w128
+    (two a b a_small b_small i +ℤ two c d c_small d_small i))) ∙ kept ((a +ℤ b) +ℤ (c +ℤ d)) (omega (arith, ints))
   where
-    two : (y z : ℤ) → unsigned_abs y ≤ 2 ^ 116 → unsigned_abs z ≤ 2 ^ 116
+    two : (y z : ℤ) → IsTerm y → IsTerm z
         → to_z w128 (of_z w128 (to_z w128 (of_z w128 y) +ℤ to_z w128 (of_z w128 z))) ≡ y +ℤ z
-    two y z y_small z_small =
-        (λ i. to_z w128 (of_z w128 (kept y (omega (arith, y_small)) i +ℤ kept z (omega (arith, z_small)) i)))
-        ∙ kept (y +ℤ z) (omega (arith, ints, y_small, z_small))
+    two y z y_small z_small = (λ i. to_z w128 (of_z w128 (kept y (omega arith) i +ℤ kept z (omega arith) i)))
+        ∙ kept (y +ℤ z) (omega (arith, ints))
 
-pub sum_fits : (a b c d : ℤ) → unsigned_abs a ≤ 2 ^ 116 → unsigned_abs b ≤ 2 ^ 116 → unsigned_abs c ≤ 2 ^ 116
-    → unsigned_abs d ≤ 2 ^ 116 → unsigned_abs ((a +ℤ b) +ℤ (c +ℤ d)) ≤ 2 ^ 118
-sum_fits a b c d a_small b_small c_small d_small = omega (arith, ints, a_small, b_small, c_small, d_small)
+pub sum_fits : (a b c d : ℤ) → IsTerm a → IsTerm b → IsTerm c → IsTerm d → unsigned_abs ((a +ℤ b) +ℤ (c +ℤ d)) ≤ 2 ^ 118
+sum_fits a b c d a_small b_small c_small d_small = omega (arith, ints)
 
 -- The four corners with their weights.
 pub record AreWeighed (s t : ℕ) (a b c d wa wb wc wd : ℤ) : Type 0 where
   pub s_le : s ≤ ONE
   pub t_le : t ≤ ONE
-  pub a_small : unsigned_abs a ≤ 999999999999999
-  pub b_small : unsigned_abs b ≤ 999999999999999
-  pub c_small : unsigned_abs c ≤ 999999999999999
-  pub d_small : unsigned_abs d ≤ 999999999999999
+  pub a_small : IsMicro a
+  pub b_small : IsMicro b
+  pub c_small : IsMicro c
+  pub d_small : IsMicro d
   pub a_is : wa ≡ pos ((ONE - s) * (ONE - t)) *ℤ to_z w64 (of_z w64 a)
   pub b_is : wb ≡ pos (s * (ONE - t)) *ℤ to_z w64 (of_z w64 b)
   pub c_is : wc ≡ pos ((ONE - s) * t) *ℤ to_z w64 (of_z w64 c)
@@ -196,10 +177,9 @@ mean_is {s} {t} {a} {b} {c} {d} {wa} {wb} {wc} {wd} are is =
     +ℤ (term c wc ((ONE - s) * t) are.c_small are.c_is i +ℤ term d wd (s * t) are.d_small are.d_is i)) +ℤ pos (2 ^ 63))
     (pos (2 ^ 64)))
   where
-    term : (z w : ℤ) (k : ℕ) → unsigned_abs z ≤ 999999999999999 → w ≡ pos k *ℤ to_z w64 (of_z w64 z) → w ≡ pos k *ℤ z
-    term z w k small same = same ∙ ap (λ n. pos k *ℤ n) (kept_half z (omega (arith, small)))
+    term : (z w : ℤ) (k : ℕ) → IsMicro z → w ≡ pos k *ℤ to_z w64 (of_z w64 z) → w ≡ pos k *ℤ z
+    term z w k small same = same ∙ ap (λ n. pos k *ℤ n) (kept_half z (omega arith))
 
 -- A coordinate that is cast.
-pub cast_micro : (z : ℤ) → unsigned_abs z ≤ 999999999999999 → to_z w64 (of_z w64 (to_z w128 (of_z w128 z))) ≡ z
-cast_micro z small = ap (λ n. to_z w64 (of_z w64 n)) (kept z (omega (arith, small)))
-    ∙ kept_half z (omega (arith, small))
+pub cast_micro : (z : ℤ) → IsMicro z → to_z w64 (of_z w64 (to_z w128 (of_z w128 z))) ≡ z
+cast_micro z small = ap (λ n. to_z w64 (of_z w64 n)) (kept z (omega arith)) ∙ kept_half z (omega arith)

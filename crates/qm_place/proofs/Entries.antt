@@ -20,15 +20,13 @@ use Rattle.qm_place.specs.{Placed.ArePlaced, Spots.HasRoom}
 -- Where a run begins.
 pub start_read : {f : ℕ → ℕ} {n : ℕ} {k v : ℕ} {starts : List ℕ} → AreRunStarts f n starts → k < n → v
     ≡ get_or starts k v → v ≡ count_below f k
-start_read {k} {v} {starts} are low read = get_or_read starts k v (omega (arith, low, are.count)) read 0
-    ∙ are.each k (omega (arith, low))
+start_read {k} {v} {starts} are low read = get_or_read starts k v (omega arith) read 0 ∙ are.each k (omega arith)
 
 -- A dart of an arc.
 pub dart_read : (t : TMesh) {a i j : ℕ} {arc : TArc} {d : ℕ} → a < length t.arcs.items → arc ≡ get_or t.arcs.items a arc
     → i < length arc.darts.items → d ≡ get_or arc.darts.items i d → i ≡ j → d ≡ dart_at (layout_of t).arcs a j
-dart_read t {a} {i} {arc} {d} low same i_low read place =
-    get_or_read arc.darts.items i d i_low read 0 ∙ ap (λ (q : Path). slice_index q.darts i) (ap path same
-    ∙ sym (get_or-map path t.arcs.items a arc (record { first = 0; last = 0; darts = [] }) low))
+dart_read t {a} {i} {arc} {d} low same i_low read place = get_or_read _ i d i_low read 0 ∙ ap (λ (q : Path). slice_index
+    q.darts i) (ap path same ∙ sym (get_or-map path _ a arc (record { first = 0; last = 0; darts = [] }) low))
     ∙ ap (dart_at (layout_of t).arcs a) place
 
 -- An arc.
@@ -44,7 +42,7 @@ arc_read t {a} {arc} is low read = record {
 }
   where
     a_low : a < length (layout_of t).arcs
-    a_low = omega (arith, low, length-map t.arcs.items path)
+    a_low = omega (arith, length-map t.arcs.items path)
 
 -- A patch.
 pub record IsOldPatch (t : TMesh) (p : ℕ) (patch : Patch) : Type 0 where
@@ -57,37 +55,26 @@ pub record IsOldPatch (t : TMesh) (p : ℕ) (patch : Patch) : Type 0 where
 
 pub patch_read : (t : TMesh) {tables : PlaceTables} {p : ℕ} {patch : Patch} → ArePlaced (layout_of t) tables
     → p < length t.patches.items → patch ≡ get_or t.patches.items p patch → IsOldPatch t p patch
-patch_read t {p = p} {patch = patch} is low read = record {
-  same = same;
-  wide = wide_is;
-  high = high_is;
-  some = omega (arith, wide_is, (is.patches p p_low).some);
-  tall = omega (arith, high_is, (is.patches p p_low).tall);
-  cells = ap (λ (r : Rectangle). length r.cells) same ∙ (is.patches p p_low).cells
-      ∙ (λ k. (sym same k).h * (sym same k).w);
-}
-  where
-    p_low : p < length (layout_of t).patches
-    p_low = omega (arith, low, length-map t.patches.items rectangle)
-
-    same : rectangle patch ≡ patch_at (layout_of t).patches p
-    same = ap rectangle read ∙ sym (get_or-map rectangle t.patches.items p patch (record { w = 0; h = 0; cells = [] })
-        low)
-
-    wide_is : patch.w ≡ wide (gluing_of (layout_of t)) (long_at (layout_of t).arcs) p
-    wide_is = ap (λ (r : Rectangle). r.w) same ∙ (is.patches p p_low).width
-
-    high_is : patch.h ≡ high (gluing_of (layout_of t)) (long_at (layout_of t).arcs) p
-    high_is = ap (λ (r : Rectangle). r.h) same ∙ (is.patches p p_low).height
+patch_read t {p = p} {patch = patch} is low read =
+    let sized = is.patches p (omega (arith, length-map t.patches.items rectangle)) in
+    let same : rectangle patch ≡ patch_at (layout_of t).patches p =
+    ap rectangle read ∙ sym (get_or-map rectangle _ p patch (record { w = 0; h = 0; cells = [] }) low) in
+    let wide_is = ap (λ (r : Rectangle). r.w) same ∙ sized.width in
+    let high_is = ap (λ (r : Rectangle). r.h) same ∙ sized.height in
+    record {
+      same = same;
+      wide = wide_is;
+      high = high_is;
+      some = omega arith;
+      tall = omega arith;
+      cells = ap (λ (r : Rectangle). length r.cells) same ∙ sized.cells ∙ (λ k. (sym same k).h * (sym same k).w);
+    }
 
 -- A cell of a patch.
 pub cell_low : {t : TMesh} {p : ℕ} {a b : ℕ} {patch : Patch} → IsOldPatch t p patch → a < patch.w → b < patch.h
     → b * patch.w + a < length patch.cells.items
-cell_low {a} {b} {patch} is a_low b_low = by_parts patch.w patch.h a b (length patch.cells.items) a_low b_low is.cells
-  where
-    by_parts : (w h a b n : ℕ) → a < w → b < h → n ≡ h * w → b * w + a < n
-    by_parts w h a b n a_less b_less e = let le : (b + 1) * w ≤ h * w =
-        mul-le (b + 1) w h w (omega arith) (omega arith) in omega (arith, le)
+cell_low {a} {b} {patch} is a_low b_low =
+    omega (arith, mul-le (b + 1) patch.w patch.h patch.w (omega arith) (omega arith))
 
 pub cell_read : {t : TMesh} {p : ℕ} {a b d : ℕ} {patch : Patch} → IsOldPatch t p patch → a < patch.w → b < patch.h
     → d ≡ get_or patch.cells.items (b * patch.w + a) d → d ≡ cell_of (patch_at (layout_of t).patches p) a b
@@ -98,7 +85,7 @@ cell_read {t} {p} {a} {b} {d} {patch} is a_low b_low read = get_or_read patch.ce
 pub rim_read : (layout : Layout) (tables : PlaceTables) {p : ℕ} {rim : Rim}
     → length tables.rims.items ≡ length layout.patches
     → p < length layout.patches → rim ≡ get_or tables.rims.items p rim → rim ≡ rim_at tables.rims.items p
-rim_read layout tables {p} {rim} rimmed low read = get_or_read tables.rims.items p rim (omega (arith, rimmed, low)) read
+rim_read layout tables {p} {rim} rimmed low read = get_or_read tables.rims.items p rim (omega arith) read
     (record { wide = 0; high = 0; begin = 0 })
 
 pub record IsRimRead (t : TMesh) (tables : PlaceTables) (p : ℕ) (rim : Rim) : Type 0 where
@@ -109,30 +96,22 @@ pub record IsRimRead (t : TMesh) (tables : PlaceTables) (p : ℕ) (rim : Rim) : 
 
 pub rim_here : (t : TMesh) {tables : PlaceTables} {p : ℕ} {rim : Rim} → ArePlaced (layout_of t) tables
     → p < length t.patches.items → rim ≡ get_or tables.rims.items p rim → IsRimRead t tables p rim
-rim_here t {tables} {p} {rim} are low read = record {
-  low = p_low;
-  same = same;
-  is = rw same (are.rims p p_low);
-}
-  where
-    p_low : p < length (layout_of t).patches
-    p_low = omega (arith, low, length-map t.patches.items rectangle)
-
-    same : rim ≡ rim_at tables.rims.items p
-    same = rim_read (layout_of t) tables are.rimmed p_low read
+rim_here t {tables} {p} {rim} are low read =
+    let p_low : p < length (layout_of t).patches = omega (arith, length-map t.patches.items rectangle) in
+    let same = rim_read (layout_of t) tables are.rimmed p_low read in
+    record { low = p_low; same = same; is = rw same (are.rims p p_low) }
 
 pub rim_room : {layout : Layout} (tables : PlaceTables) {p : ℕ} {rim : Rim} {list : List ℕ} → p < length layout.patches
     → IsRim layout (lengths_in tables.lengths.items) (spacing_in layout tables) p rim tables.parameters.items
     → list ≡ tables.parameters.items → HasRoom rim list
-rim_room tables low is same =
-    omega (arith, (is.sides west).room, is.wide, is.high, ap (λ (xs : List ℕ). length xs) same)
+rim_room tables low is same = omega (arith, (is.sides west).room, ap (λ (xs : List ℕ). length xs) same)
 
 -- Where the last run ends.
 pub end_read : {f : ℕ → ℕ} {n : ℕ} {len v : ℕ} {starts : List ℕ} → AreRunStarts f n starts → len ≡ length starts
     → v ≡ get_or starts (len - 1) v → v ≡ count_below f n
 end_read {f} {n} {len} {v} {starts} are long read =
     let last : len - 1 ≡ length starts - 1 = ap (λ k. k - 1) long in
-    get_or_read starts (len - 1) v (omega (arith, long, are.count)) read 0 ∙ ap (slice_index starts) last
+    get_or_read starts (len - 1) v (omega arith) read 0 ∙ ap (slice_index starts) last
     ∙ last_is f n starts are
 
 -- Where a place lies in runs there is a run.
@@ -146,9 +125,8 @@ pub record IsOffset (layout : Layout) (tables : PlaceTables) (patch begin column
   pub columns_are : columns ≡ wide (gluing_of layout) (lengths_in tables.lengths.items) patch
 
 pub offset_read : {layout : Layout} {tables : PlaceTables} (are : ArePlaced layout tables) {patch begin : ℕ} {rim : Rim}
-    → patch < length layout.patches
-    → begin ≡ get_or tables.inside.begin.items patch begin → rim ≡ get_or tables.rims.items patch rim
-    → IsOffset layout tables patch begin rim.wide
+    → patch < length layout.patches → begin ≡ get_or tables.inside.begin.items patch begin → rim
+    ≡ get_or tables.rims.items patch rim → IsOffset layout tables patch begin rim.wide
 offset_read {layout} {tables} are {patch} {begin} {rim} low begin_read rim_is = record {
   begin_is = start_read are.inside low begin_read;
   columns_are = ap (λ (r : Rim). r.wide) (rim_read layout tables are.rimmed low rim_is) ∙ (are.rims patch low).wide;

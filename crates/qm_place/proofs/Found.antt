@@ -15,12 +15,12 @@ use Rattle.def_map.specs.Spots.{edge_spot, face_spot, spot_at, spot_of}
 use Rattle.def_map.specs.declared.spot.Spot.TheVariants.{AtVertex, InFace, OnEdge}
 use Rattle.def_map.specs.{declared.spot.EdgeSpot.EdgeSpot, declared.spot.FaceSpot.FaceSpot}
 use Rattle.def_remesh.specs.NewPoints.{along_arcs, inside_patches, lengths_in, point_at}
-use Rattle.def_remesh.specs.Placings.{shares_in, spacing_in, ArePlaces}
+use Rattle.def_remesh.specs.Placings.{spacing_in, ArePlaces}
 use Rattle.def_remesh.specs.{Spaced.shares_along, Spaced.spacing_by, declared.places.PlaceTables.PlaceTables}
 use Rattle.map_laws.proofs.Numbered.{at_arc, at_node, at_patch, is_point}
 use Rattle.map_laws.proofs.Parameters.{ahead_end, back_end, u_upto, v_upto}
 use Rattle.map_laws.proofs.Spaced.{spacing_is}
-use Rattle.written_laws.proofs.{Spacings.even_edge, Spacings.step_is, Runs.run_here, Runs.IsInRun, EdgeNumbers.in_rows}
+use Rattle.written_laws.proofs.{Spacings.even_edge, Spacings.step_is, Runs.run_here, EdgeNumbers.in_rows}
 use Rattle.written_laws.proofs.Grid.{wide_some, high_some}
 use Rattle.embedding_laws.proofs.Bounds.{side_few, vertices_few}
 use Rattle.qm_offsets.proofs.{Spots.term_room, Whole.laid_of, Whole.lengths_of}
@@ -32,38 +32,25 @@ module _ (layout : Layout) (shares : Option (List ℕ)) (new : Lengths) where
   -- Where a number of a vertex leads.
   pub on_arc : {place arc : ℕ} → place < before_arc new (length layout.arcs)
       → arc ≡ run_at (before_arc new) (length layout.arcs) place → IsAlong layout new arc place
-  on_arc {place} low same = subst (λ a. IsAlong layout new a place) (sym same) (record {
-    low = here.low;
-    from = omega (arith, here.place);
-    upto = omega (arith, here.inside);
-  })
-    where
-      here : IsInRun (λ b. new b - 1) (length layout.arcs) place (run_at (before_arc new) (length layout.arcs) place)
-          (place - before_arc new (run_at (before_arc new) (length layout.arcs) place))
-      here = run_here (λ b. new b - 1) (length layout.arcs) place low
+  on_arc {place} low same =
+      let here = run_here (λ b. new b - 1) _ place low in
+      rw same (record { low = here.low; from = omega arith; upto = omega arith })
 
-  pub in_patch : {place patch : ℕ} → place < before_patch (gluing_of layout) new (length layout.patches)
-      → patch ≡ run_at (before_patch (gluing_of layout) new) (length layout.patches) place
-      → IsInside layout new patch place
+  pub in_patch : {place patch : ℕ} → place < before_patch (gluing_of layout) new (length layout.patches) → patch
+      ≡ run_at (before_patch (gluing_of layout) new) (length layout.patches) place → IsInside layout new patch place
   in_patch {place} low same =
-      subst (λ p. IsInside layout new p place) (sym same)
-      (by_run _ _ (run_here (λ q. (wide (gluing_of layout) new q - 1) * (high (gluing_of layout) new q - 1))
-      (length layout.patches) place low))
-    where
-      by_run : (p o : ℕ) → IsInRun (λ q. (wide (gluing_of layout) new q - 1) * (high (gluing_of layout) new q - 1))
-          (length layout.patches) place p o → IsInside layout new p place
-      by_run p o here =
-          let offset : place - before_patch (gluing_of layout) new p ≡ o = omega (arith, here.place) in
-          let less : o < (high (gluing_of layout) new p - 1) * (wide (gluing_of layout) new p - 1) = subst (λ n. o < n)
-          (mul_comm (wide (gluing_of layout) new p - 1) (high (gluing_of layout) new p - 1)) here.inside in
-          let rows = in_rows (wide (gluing_of layout) new p - 1) (high (gluing_of layout) new p - 1) o less in
-          record {
-            low = here.low;
-            from = omega (arith, here.place);
-            column = omega (arith, ap (λ k. k % (wide (gluing_of layout) new p - 1)) offset, rows.0);
-            row = omega (arith, ap (λ k. k / (wide (gluing_of layout) new p - 1)) offset, rows.1);
-            some = omega (arith, rows.0);
-          }
+      let l = gluing_of layout in
+      let p = run_at (before_patch l new) (length layout.patches) place in
+      let here = run_here (λ q. (wide l new q - 1) * (high l new q - 1)) _ place low in
+      let less = subst (λ n. place - before_patch l new p < n) (mul_comm _ _) here.inside in
+      let rows = in_rows _ _ _ less in
+      rw same (record {
+        low = here.low;
+        from = omega arith;
+        column = omega arith;
+        row = omega arith;
+        some = omega arith;
+      })
 
   -- A node, by its number.
   pub found_at : {v u : ℕ} → v < length layout.nodes → u ≡ vertex_at layout v → AtVertex u ≡ spot_at layout shares new v
@@ -75,12 +62,10 @@ module _ (layout : Layout) (shares : Option (List ℕ)) (new : Lengths) where
       → place < before_arc new (length layout.arcs) → arc ≡ run_at (before_arc new) (length layout.arcs) place
       → spot ≡ edge_spot layout (spacing_by layout shares new) arc (place - before_arc new arc + 1)
       → OnEdge spot ≡ spot_at layout shares new v
-  found_on {v} {place} from place_is low same spot_is =
-      ap OnEdge spot_is
-      ∙ (λ t. spot_of layout new (spacing_by layout shares new) (along (same t) (place - before_arc new (same t) + 1)))
-      ∙ ap (λ k. spot_of layout new (spacing_by layout shares new) (along_arcs (gluing_of layout) new k)) place_is
-      ∙ ap (spot_of layout new (spacing_by layout shares new))
-      (sym (at_arc (gluing_of layout) new v from (omega (arith, from, low, place_is))))
+  found_on {v} {place} from place_is low same spot_is = ap OnEdge spot_is ∙ (λ t. spot_of layout new
+      (spacing_by layout shares new) (along (same t) (place - before_arc new (same t) + 1))) ∙ ap (λ k. spot_of layout
+      new (spacing_by layout shares new) (along_arcs (gluing_of layout) new k)) place_is ∙ ap (spot_of layout new
+      (spacing_by layout shares new)) (sym (at_arc (gluing_of layout) new v from (omega (arith, from, low, place_is))))
 
   -- A vertex inside a patch.
   pub found_in : {v place patch : ℕ} {spot : FaceSpot} → length layout.nodes + before_arc new (length layout.arcs) ≤ v
@@ -101,7 +86,7 @@ module _ (layout : Layout) (shares : Option (List ℕ)) (new : Lengths) where
 pub short_step : {layout : Layout} (shares : Option (List ℕ)) {new : Lengths} → IsSomeLayout layout
     → AreLengths (gluing_of layout) new → ((arc : ℕ) → arc < length layout.arcs → new arc ≤ 2 ^ 24)
     → {arc k : ℕ} → arc < length layout.arcs → k < new arc → ((spacing_by layout shares new).step arc k).parts ≤ ONE
-short_step None is len short {arc} {k} low less = omega (arith, short arc low)
+short_step None is len short {arc} {k} low less = omega arith
 short_step {layout} (Some shares) {new} is len short {arc} {k} low less =
     omega (
       arith,
@@ -139,7 +124,7 @@ module _ (faces : Faces) (layout : Layout) (tables : PlaceTables) (are : ArePlac
 
   -- All numbers are small.
   few_points : vertices (gluing_of layout) (lengths_in tables.lengths.items) ≤ 2 ^ 23
-  few_points = omega (arith, vertices_few l new (laid_of layout is) are.lengths, are.few)
+  few_points = omega (arith, vertices_few l new (laid_of layout is) are.lengths)
 
   -- Lengths are short.
   new_short : (arc : ℕ) → arc < length layout.arcs → lengths_in tables.lengths.items arc ≤ 2 ^ 24
@@ -147,15 +132,15 @@ module _ (faces : Faces) (layout : Layout) (tables : PlaceTables) (are : ArePlac
 
   spaced : IsSpacing (gluing_of layout) (long_at layout.arcs) (lengths_in tables.lengths.items)
       (spacing_in layout tables)
-  spaced = spacing_is layout is new are.lengths are.few (shares_in tables.spaced)
+  spaced = spacing_is layout is new are.lengths are.few _
 
   patch_narrow : (p : ℕ) → p < length layout.patches
       → wide (gluing_of layout) (lengths_in tables.lengths.items) p ≤ 2 ^ 21
-  patch_narrow p low = omega (arith, side_few l new (laid_of layout is) are.lengths p south low, are.few)
+  patch_narrow p low = omega (arith, side_few l new (laid_of layout is) are.lengths p south low)
 
   patch_short : (p : ℕ) → p < length layout.patches
       → high (gluing_of layout) (lengths_in tables.lengths.items) p ≤ 2 ^ 21
-  patch_short p low = omega (arith, side_few l new (laid_of layout is) are.lengths p west low, are.few)
+  patch_short p low = omega (arith, side_few l new (laid_of layout is) are.lengths p west low)
 
   -- What is read of the tables.
   sized : (p : ℕ) → p < length layout.patches → IsSized layout p
@@ -173,9 +158,8 @@ module _ (faces : Faces) (layout : Layout) (tables : PlaceTables) (are : ArePlac
   ends_of : (p : ℕ) → p < length layout.patches → HasEnds layout new spacing p
   ends_of p low = record {
     south = ahead_end l old new spacing (laid_of layout is) (lengths_of layout is) are.lengths spaced p south low;
-    east = ap (parameter l old new spacing p east) (sym (are.lengths.upright p low))
-        ∙ ahead_end l old new spacing (laid_of layout is) (lengths_of layout is) are.lengths spaced p east low
-        ∙ omega (arith, (lengths_of layout is).upright p low);
+    east = ap (parameter l old new spacing p east) (sym (are.lengths.upright p low)) ∙ ahead_end l old new spacing
+        (laid_of layout is) (lengths_of layout is) are.lengths spaced p east low ∙ omega arith;
     north = ap (parameter_back l old new spacing p north) (sym (are.lengths.across p low))
         ∙ back_end l old new spacing (laid_of layout is) (lengths_of layout is) are.lengths spaced p north low;
     west = back_end l old new spacing (laid_of layout is) (lengths_of layout is) are.lengths spaced p west low;

@@ -8,7 +8,6 @@ use Rattle.std.proofs.Math.Nat.{mul_comm}
 use Rattle.std.specs.Prelude.{slice_index}
 use Rattle.def_layout.specs.Gluings.{Way, south, east, north, west, Gluing, IsSlot}
 use Rattle.def_layout.specs.{Lengths.Lengths, Lengths.reach, Lengths.size, Layouts.Layout, Layouts.gluing_of}
-use Rattle.def_layout.specs.{Layouts.layout_of}
 use Rattle.def_layout.specs.{Arcs.long_at, declared.tmesh.SideArc.SideArc}
 use Rattle.def_written.specs.{Places.ONE, Places.parameter, Places.parameter_back, Places.ArcSpacing, Points.use_over}
 use Rattle.def_remesh.specs.Placings.{side_parameter, AreParameters}
@@ -19,14 +18,14 @@ use Rattle.qm_place.specs.Pushed.{on_arc, ArePushed, IsKept}
 pub pushed_join : {a b c : List ℕ} {n : ℕ} {m : ℕ} {f : ℕ → ℕ} {g : ℕ → ℕ} → ArePushed a b n f → ArePushed b c m g
     → ((k : ℕ) → k < m → g k ≡ f (n + k)) → ArePushed a c (n + m) f
 pushed_join {a} {b} {c} {n} {f} p q same = record {
-  long = omega (arith, p.long, q.long);
-  kept = λ k low. q.kept k (omega (arith, low, p.long)) ∙ p.kept k low;
+  long = omega arith;
+  kept = λ k low. q.kept k (omega arith) ∙ p.kept k low;
   each = λ k low. elim (cases_lt k n) [
-    | inl less ↦ q.kept (length a + k) (omega (arith, less, p.long)) ∙ p.each k less
+    | inl less ↦ q.kept _ (omega arith) ∙ p.each k less
     | inr more ↦
-        let place : length a + k ≡ length b + (k - n) = omega (arith, p.long, more) in
-        let there : n + (k - n) ≡ k = omega (arith, more) in
-        ap (slice_index c) place ∙ q.each (k - n) (omega (arith, low, more)) ∙ same (k - n) (omega (arith, low, more))
+        let place : length a + k ≡ length b + (k - n) = omega arith in
+        let there : n + (k - n) ≡ k = omega arith in
+        ap (slice_index c) place ∙ q.each _ (omega arith) ∙ same _ (omega arith)
         ∙ ap f there
   ];
 }
@@ -35,28 +34,27 @@ pushed_join {a} {b} {c} {n} {f} p q same = record {
 pub pushed_more : {z a b : List ℕ} {n : ℕ} {x : ℕ} {f : ℕ → ℕ} → ArePushed z a n f → b ≡ a ++ x ∷ [] → x ≡ f n
     → ArePushed z b (n + 1) f
 pushed_more {z} {a} {b} {n} {x} {f} p same value = pushed_join p (record {
-  long = ap length same ∙ length-append a (x ∷ []);
-  kept = λ k low. ap (λ (xs : List ℕ). slice_index xs k) same ∙ get_or_append_left a (x ∷ []) 0 k low;
-  each = λ k low. ap (λ (xs : List ℕ). slice_index xs (length a + k)) same
-      ∙ get_or_push a x 0 (length a + k) (omega (arith, low));
-}) (λ k low. let none : n ≡ n + k = omega (arith, low) in value ∙ ap f none)
+  long = ap length same ∙ length-append a _;
+  kept = λ k low. ap (λ (xs : List ℕ). slice_index xs k) same ∙ get_or_append_left a _ 0 k low;
+  each = λ k low. ap (λ (xs : List ℕ). slice_index xs (length a + k)) same ∙ get_or_push a x 0 _ (omega arith);
+}) (λ k low. let none : n ≡ n + k = omega arith in value ∙ ap f none)
 
 pub pushed_kept : {a b : List ℕ} {n : ℕ} {f : ℕ → ℕ} → ArePushed a b n f → IsKept a b
-pushed_kept p = record { long = omega (arith, p.long); kept = p.kept }
+pushed_kept p = record { long = omega arith; kept = p.kept }
 
 pub kept_on : {a b c : List ℕ} → IsKept a b → IsKept b c → IsKept a c
 kept_on p q = record {
-  long = omega (arith, p.long, q.long);
-  kept = λ k low. q.kept k (omega (arith, low, p.long)) ∙ p.kept k low;
+  long = omega arith;
+  kept = λ k low. q.kept k (omega arith) ∙ p.kept k low;
 }
 
 -- A parameter is at most that of the end of the arc.
 pub part_most : {k : ℕ} (old : ℕ) {new : ℕ} → k ≤ new → 0 < new → ONE * k * old / new ≤ ONE * old
-part_most {k} old {new} le some = div_most (ONE * k * old) (ONE * old) new some (by_parts k old new le)
+part_most {k} old {new} le some = div_most _ _ new some (by_parts k old new le)
   where
     by_parts : (i m n : ℕ) → i ≤ n → ONE * i * m ≤ ONE * m * n
     by_parts i m n less = let e : i * m ≤ m * n =
-        subst (λ z. i * m ≤ z) (mul_comm n m) (mul-le i m n m less (omega arith)) in omega (arith, e)
+        subst (λ z. i * m ≤ z) (mul_comm n m) (mul-le i m n m less (omega arith)) in omega arith
 
 -- Parameters that were put behind others, and stay there.
 pub parameters_in : (layout : Layout) (new : Lengths) (spacing : ArcSpacing) (p : ℕ) (s : Way) {begin : ℕ} {a : List ℕ}
@@ -64,18 +62,18 @@ pub parameters_in : (layout : Layout) (new : Lengths) (spacing : ArcSpacing) (p 
     → begin ≡ length a → ArePushed a b (size (gluing_of layout) new p s) (side_parameter layout new spacing p s)
     → IsKept b c → AreParameters layout new spacing p s begin c
 parameters_in layout new spacing p s {begin} {a} {c} here p_ed kept = record {
-  room = omega (arith, here, p_ed.long, kept.long);
+  room = omega arith;
   each = λ k low.
-      let place : begin + k ≡ length a + k = omega (arith, here) in
-      ap (slice_index c) place ∙ kept.kept (length a + k) (omega (arith, low, p_ed.long)) ∙ p_ed.each k low;
+      let place : begin + k ≡ length a + k = omega arith in
+      ap (slice_index c) place ∙ kept.kept _ (omega arith) ∙ p_ed.each k low;
 }
 
 pub parameters_kept : {layout : Layout} {new : Lengths} {spacing : ArcSpacing} {p : ℕ} {s : Way} {begin : ℕ}
     {a b : List ℕ}
     → IsKept a b → AreParameters layout new spacing p s begin a → AreParameters layout new spacing p s begin b
 parameters_kept {begin} kept are = record {
-  room = omega (arith, are.room, kept.long);
-  each = λ k low. kept.kept (begin + k) (omega (arith, low, are.room)) ∙ are.each k low;
+  room = omega arith;
+  each = λ k low. kept.kept _ (omega arith) ∙ are.each k low;
 }
 
 -- Whether a side runs against its parameter.
@@ -86,8 +84,7 @@ is_back north = true
 is_back west = true
 
 module _ (l : Gluing) (old new : Lengths) (spacing : ArcSpacing) (p i : ℕ) (s : Way) (is : IsSlot l (slot p s i))
-    (o : ℕ)
-    (low : o < new (l.use_at p s i).arc) where
+    (o : ℕ) (low : o < new (l.use_at p s i).arc) where
   over : use_over l new p s (reach l new p s i + o) ≡ i
   over = over_is l new (slot p s i) o is low
 
@@ -99,8 +96,7 @@ module _ (l : Gluing) (old new : Lengths) (spacing : ArcSpacing) (p i : ℕ) (s 
 
   ahead : parameter l old new spacing p s (reach l new p s i + o)
       ≡ on_arc spacing (reach l old p s i) (new used.arc) used false o
-  ahead =
-      ap (λ m. ONE * reach l old p s m + spacing.parameter_of (l.use_at p s m).arc (l.use_at p s m).forward
+  ahead = ap (λ m. ONE * reach l old p s m + spacing.parameter_of (l.use_at p s m).arc (l.use_at p s m).forward
       (reach l new p s i + o - reach l new p s m)) over
       ∙ ap (λ k. ONE * reach l old p s i + spacing.parameter_of used.arc used.forward k) rest
 

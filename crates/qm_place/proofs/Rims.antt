@@ -4,7 +4,7 @@ use Rattle.std.proofs.Common.{sym, ◌∙◌, ap, arith}
 use Rattle.std.proofs.lemmas.List.{get_or_default, get_or-map, length-map}
 use Rattle.std.specs.Prelude.{nat_le}
 use Rattle.def_cut.specs.Grids.{rectangle}
-use Rattle.def_layout.specs.Gluings.{Way, south, east, north, west, Slot, IsSlot, use_of}
+use Rattle.def_layout.specs.Gluings.{Way, south, east, north, west, Gluing, IsSlot}
 use Rattle.def_layout.specs.Layouts.{Layout, gluing_of, way_number, layout_of, side_at}
 use Rattle.def_layout.specs.{Arcs.Path, Arcs.long_at, Arcs.path, Lengths.Lengths, Lengths.reach, Lengths.size}
 use Rattle.def_layout.specs.Lengths.{AreLengths}
@@ -35,17 +35,14 @@ old_few {layout} is {p} s low =
 -- Arcs are short.
 pub old_short : (layout : Layout) → IsSomeLayout layout → (arc : ℕ) → arc < length layout.arcs
     → long_at layout.arcs arc ≤ 2 ^ 21
-old_short layout is arc low = by_slot ((laid_of layout is).forward arc low)
-  where
-    by_slot : (w : Slot) × IsSlot (gluing_of layout) w
-        × (use_of (gluing_of layout) w ≡ record { arc = arc; forward = true }) → long_at layout.arcs arc ≤ 2 ^ 21
-    by_slot f =
-        omega (
-          arith,
-          reach_low (gluing_of layout) (long_at layout.arcs) f.0 f.1,
-          old_few is f.0.side f.1.patch_low,
-          ap (λ (u : SideArc). long_at layout.arcs u.arc) f.2,
-        )
+old_short layout is arc low =
+    let f = (laid_of layout is).forward arc low in
+    omega (
+      arith,
+      reach_low (gluing_of layout) (long_at layout.arcs) f.0 f.1,
+      old_few is f.0.side f.1.patch_low,
+      ap (λ (u : SideArc). long_at layout.arcs u.arc) f.2,
+    )
 
 -- What is known of lengths of a layout of a mesh that give few faces.
 pub fine_of : {layout : Layout} {list : List ℕ} → IsSomeLayout layout → length list ≡ length layout.arcs
@@ -60,81 +57,64 @@ fine_of {layout} {list} is long lengths few = record {
   long = long;
   lengths = lengths;
   few = few;
-  points = omega (arith, vertices_few (gluing_of layout) (lengths_in list) (laid_of layout is) lengths, few);
-  new_few = λ p s low. omega (
-    arith,
-    side_few (gluing_of layout) (lengths_in list) (laid_of layout is) lengths p s low,
-    few,
-  );
+  points = omega (arith, vertices_few (gluing_of layout) (lengths_in list) (laid_of layout is) lengths);
+  new_few = λ p s low. omega (arith, side_few (gluing_of layout) (lengths_in list) (laid_of layout is) lengths p s low);
   spacing = spacing_is layout is (lengths_in list) lengths few;
 }
 
 -- What is read of an arc.
 pub old_read : (t : TMesh) {a : ℕ} {arc : TArc} → a < length t.arcs.items → arc ≡ get_or t.arcs.items a arc
     → length arc.darts.items ≡ long_at (layout_of t).arcs a
-old_read t {a} {arc} low same =
-    ap (λ (z : TArc). length z.darts.items) same ∙ sym (ap (λ (q : Path). length q.darts)
-    (get_or-map path t.arcs.items a arc (record { first = 0; last = 0; darts = [] }) low))
+old_read t {a} {arc} low same = ap (λ (z : TArc). length z.darts.items) same
+    ∙ sym (ap (λ (q : Path). length q.darts) (get_or-map path _ a arc (record { first = 0; last = 0; darts = [] }) low))
 
 -- The arc at a place of a side, as it is read.
-pub record IsRead (t : TMesh) (list : List ℕ) (p i : ℕ) (s : Way) (used : SideArc) : Type 0 where
-  pub is_slot : IsSlot (gluing_of (layout_of t)) (slot p s i)
-  pub arc_low : used.arc < length t.arcs.items
-  pub listed : used.arc < length list
-  pub same : used ≡ (gluing_of (layout_of t)).use_at p s i
-  pub old_upto : reach (gluing_of (layout_of t)) (long_at (layout_of t).arcs) p s i + long_at (layout_of t).arcs
-      used.arc
-      ≤ size (gluing_of (layout_of t)) (long_at (layout_of t).arcs) p s
-  pub old_short : size (gluing_of (layout_of t)) (long_at (layout_of t).arcs) p s ≤ 2 ^ 21
-  pub old_next : reach (gluing_of (layout_of t)) (long_at (layout_of t).arcs) p s (i + 1)
-      ≡ reach (gluing_of (layout_of t)) (long_at (layout_of t).arcs) p s i + long_at (layout_of t).arcs used.arc
-  pub new_next : reach (gluing_of (layout_of t)) (lengths_in list) p s (i + 1)
-      ≡ reach (gluing_of (layout_of t)) (lengths_in list) p s i + lengths_in list used.arc
+module _ (t : TMesh) where
+  abbrev l : Gluing
+  l = gluing_of (layout_of t)
 
-pub read : (t : TMesh) {list : List ℕ} {p i side : ℕ} {s : Way} {us : List SideArc} → AreFine (layout_of t) list
-    → p < length t.patches.items
-    → us ≡ get_or (get_or (layout_of t).sides p []) side [] → i < length us → way_number s ≡ side
-    → IsRead t list p i s (get_or us i (record { arc = 0; forward = false }))
-read t {list} {p} {i} {side} {s} {us} fine low us_is i_low way = record {
-  is_slot = is_slot;
-  arc_low = omega (arith, arc, arc_less, length-map t.arcs.items path);
-  listed = omega (arith, arc, arc_less, fine.long);
-  same = used_is;
-  old_upto = omega (
-    arith,
-    reach_low (gluing_of (layout_of t)) (long_at (layout_of t).arcs) (slot p s i) is_slot,
-    ap (long_at (layout_of t).arcs) arc,
-  );
-  old_short = fine.old_few p s p_low;
-  old_next = count_step (λ k. long_at (layout_of t).arcs ((gluing_of (layout_of t)).use_at p s k).arc) i
-      ∙ ap (λ a. reach (gluing_of (layout_of t)) (long_at (layout_of t).arcs) p s i + long_at (layout_of t).arcs a)
-      (sym arc);
-  new_next = count_step (λ k. lengths_in list ((gluing_of (layout_of t)).use_at p s k).arc) i
-      ∙ ap (λ a. reach (gluing_of (layout_of t)) (lengths_in list) p s i + lengths_in list a) (sym arc);
-}
-  where
-    p_low : p < length (layout_of t).patches
-    p_low = omega (arith, low, length-map t.patches.items rectangle)
+  abbrev old : Lengths
+  old = long_at (layout_of t).arcs
 
-    same : us ≡ side_at (layout_of t) p s
-    same = us_is ∙ ap (λ k. get_or (get_or (layout_of t).sides p []) k []) (sym way)
+  pub record IsRead (list : List ℕ) (p i : ℕ) (s : Way) (used : SideArc) : Type 0 where
+    pub is_slot : IsSlot l (slot p s i)
+    pub arc_low : used.arc < length t.arcs.items
+    pub listed : used.arc < length list
+    pub same : used ≡ l.use_at p s i
+    pub old_upto : reach l old p s i + old used.arc ≤ size l old p s
+    pub old_short : size l old p s ≤ 2 ^ 21
+    pub old_next : reach l old p s (i + 1) ≡ reach l old p s i + old used.arc
+    pub new_next : reach l (lengths_in list) p s (i + 1) ≡ reach l (lengths_in list) p s i + lengths_in list used.arc
 
-    is_slot : IsSlot (gluing_of (layout_of t)) (slot p s i)
-    is_slot = record { patch_low = p_low; low = omega (arith, i_low, ap (λ (xs : List SideArc). length xs) same) }
-
-    used_is : get_or us i (record { arc = 0; forward = false }) ≡ (gluing_of (layout_of t)).use_at p s i
-    used_is = get_or_default us i (record { arc = 0; forward = false }) (record { arc = 0; forward = true }) i_low ∙ ap
-        (λ (xs : List SideArc). get_or xs i (record { arc = 0; forward = true })) same
-
-    arc : (get_or us i (record { arc = 0; forward = false })).arc ≡ ((gluing_of (layout_of t)).use_at p s i).arc
-    arc = ap (λ (u : SideArc). u.arc) used_is
-
-    arc_less : ((gluing_of (layout_of t)).use_at p s i).arc < length (layout_of t).arcs
-    arc_less = fine.whole.paved.arc_low (slot p s i) is_slot
+  pub read : {list : List ℕ} {p i side : ℕ} {s : Way} {us : List SideArc} → AreFine (layout_of t) list
+      → p < length t.patches.items → us ≡ get_or (get_or (layout_of t).sides p []) side [] → i < length us
+      → way_number s ≡ side → IsRead list p i s (get_or us i (record { arc = 0; forward = false }))
+  read {list} {p} {i} {side} {s} {us} fine low us_is i_low way =
+      let p_low : p < length (layout_of t).patches = omega (arith, length-map t.patches.items rectangle) in
+      let same : us ≡ side_at (layout_of t) p s =
+      us_is ∙ ap (λ k. get_or (get_or (layout_of t).sides p []) k []) (sym way) in
+      let is_slot : IsSlot l (slot p s i) =
+      record { patch_low = p_low; low = omega (arith, ap (λ (xs : List SideArc). length xs) same) } in
+      let used_is : get_or us i (record { arc = 0; forward = false }) ≡ l.use_at p s i =
+      get_or_default us i (record { arc = 0; forward = false }) (record { arc = 0; forward = true }) i_low
+      ∙ ap (λ (xs : List SideArc). get_or xs i (record { arc = 0; forward = true })) same in
+      let arc = ap (λ (u : SideArc). u.arc) used_is in
+      let less = fine.whole.paved.arc_low (slot p s i) is_slot in
+      record {
+        is_slot = is_slot;
+        arc_low = omega (arith, length-map t.arcs.items path);
+        listed = omega arith;
+        same = used_is;
+        old_upto = omega (arith, reach_low l old (slot p s i) is_slot, ap old arc);
+        old_short = fine.old_few p s p_low;
+        old_next = count_step (λ k. old (l.use_at p s k).arc) i ∙ ap (λ a. reach l old p s i + old a) (sym arc);
+        new_next = count_step (λ k. lengths_in list (l.use_at p s k).arc) i
+            ∙ ap (λ a. reach l (lengths_in list) p s i + lengths_in list a) (sym arc);
+      }
 
 -- North and west are the sides numbered from 2 on.
 pub back_by : (s : Way) {side : ℕ} → way_number s ≡ side → nat_le 2 side ≡ is_back s
-back_by s way = ap (λ k. nat_le 2 k) (sym way) ∙ by_way s
+back_by s way = rw (← way) (by_way s)
   where
     by_way : (w : Way) → nat_le 2 (way_number w) ≡ is_back w
     by_way south = refl
@@ -157,10 +137,9 @@ side_more {t} {list} spacing {p} {i} {s} {used} {z} {a} {b} {start} {back} is ba
     same : (o : ℕ) → o < lengths_in list used.arc → on_arc spacing start (lengths_in list used.arc) used back o
         ≡ side_parameter (layout_of t) (lengths_in list) spacing p s
         (reach (gluing_of (layout_of t)) (lengths_in list) p s i + o)
-    same o low =
-        (λ k. on_arc spacing start (lengths_in list (is.same k).arc) (is.same k) (back_is k) o)
+    same o low = (λ k. on_arc spacing start (lengths_in list (is.same k).arc) (is.same k) (back_is k) o)
         ∙ slot_parameter (layout_of t) (lengths_in list) spacing p i s is.is_slot
-        (omega (arith, low, ap (λ (u : SideArc). lengths_in list u.arc) is.same)) start_is
+        (omega (arith, ap (λ (u : SideArc). lengths_in list u.arc) is.same)) start_is
 
 pub start_few : {w : ℕ} (b o : ℕ) (back : Bool) → b + o ≤ w → w ≤ 2 ^ 21 → cond back (w - b - o) b ≤ 2 ^ 21
 start_few b o true le few = omega arith
@@ -181,8 +160,8 @@ pub rim_built : {layout : Layout} {list : List ℕ} (spacing : ArcSpacing) → A
     → IsRim layout (lengths_in list) spacing p (record { wide = w; high = h; begin = begin }) d
 rim_built {layout} {list} spacing fine {p} low {z} {a} {b} {c} {d} {begin} {w} {h} first second third fourth begin_is
     w_is h_is = record {
-      wide = omega (arith, first.long, begin_is, w_is);
-      high = omega (arith, first.long, second.long, begin_is, w_is, h_is, fine.lengths.upright p low);
+      wide = omega arith;
+      high = omega arith;
       sides = sides;
     }
   where
@@ -200,14 +179,10 @@ rim_built {layout} {list} spacing fine {p} low {z} {a} {b} {c} {d} {begin} {w} {
 
     sides : (s : Way) → AreParameters layout (lengths_in list) spacing p s
         (parameters_from (record { wide = w; high = h; begin = begin }) s) d
-    sides south = parameters_in layout (lengths_in list) spacing p south begin_is first from_a
-    sides east = parameters_in layout (lengths_in list) spacing p east
-        (omega (arith, first.long, begin_is, w_is)) second from_b
-    sides north = parameters_in layout (lengths_in list) spacing p north
-        (omega (arith, first.long, second.long, begin_is, w_is, h_is)) third from_c
-    sides west = parameters_in layout (lengths_in list) spacing p west
-        (omega (arith, first.long, second.long, third.long, begin_is, w_is, h_is, fine.lengths.across p low)) fourth
-        itself
+    sides south = parameters_in layout _ spacing p south begin_is first from_a
+    sides east = parameters_in layout _ spacing p east (omega arith) second from_b
+    sides north = parameters_in layout _ spacing p north (omega arith) third from_c
+    sides west = parameters_in layout _ spacing p west (omega arith) fourth itself
 
 pub rim_kept : {layout : Layout} {new : Lengths} {spacing : ArcSpacing} {p : ℕ} {rim : Rim} {a : List ℕ} {b : List ℕ}
     → IsKept a b → IsRim layout new spacing p rim a → IsRim layout new spacing p rim b

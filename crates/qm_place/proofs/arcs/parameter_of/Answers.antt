@@ -24,19 +24,16 @@ pub returns-in-None-clause-low : goal.returns-in-None-clause-low
 returns-in-None-clause-low c =
     omega (
       arith,
-      c.part_of_arc.ensures.low,
       c.len-old.ensures ∙ c.index.result.now.darts.ok.0,
       read_short c.args.places.now.t.now c.args.places.now.fine c.requires.arc c.index.ensures,
     )
 
 pub returns-then-used-clause-low : goal.returns-then-used-clause-low
-returns-then-used-clause-low c =
-    omega (
-      arith,
-      c.shared_part.ensures.low,
-      c.args.places.now.fine.old_short c.args.used.arc
-          (omega (arith, c.requires.arc, length-map c.args.places.now.t.now.arcs.items path)),
-    )
+returns-then-used-clause-low c = omega (
+  arith,
+  c.args.places.now.fine.old_short c.args.used.arc
+      (omega (arith, c.requires.arc, length-map c.args.places.now.t.now.arcs.items path)),
+)
 
 pub returns-else-used-clause-low : goal.returns-else-used-clause-low
 returns-else-used-clause-low c =

@@ -10,13 +10,13 @@ use Rattle.qm_place.proofs.arcs.shared_part.Goals as goal
 
 -- The arc is one of the layout, and the place is inside.
 low : (c : Else-k-places) → c.args.arc < length (layout_of c.args.places.now.t.now).arcs
-low c = omega (arith, c.requires.arc, length-map c.args.places.now.t.now.arcs.items path)
+low c = omega (arith, length-map c.args.places.now.t.now.arcs.items path)
 
 less : (c : Else-k-places) → c.args.k < lengths_in c.args.places.now.lengths.now c.args.arc
-less c = omega (arith, c.requires.place, c.if-k-places.false)
+less c = omega arith
 
 some : (c : Else-k-places) → 0 < c.args.k
-some c = omega (arith, c.if-k-eq0.false)
+some c = omega arith
 
 -- The place in the table.
 index : (c : After-index-2) → c.index-2.result.now + c.args.k - 1
@@ -55,7 +55,6 @@ index-requires-3 c =
       inner_low (layout_of c.args.places.now.t.now) (lengths_in c.args.places.now.lengths.now)
           c.args.places.now.spaced.now
           c.args.places.now.inner c.args.spaced.now c.requires.spaced c.args.arc c.args.k (low at) (some at) (less at),
-      c.args.spaced.now.parameters.ok.0,
     )
 
 pub returns-clause-value : goal.returns-clause-value

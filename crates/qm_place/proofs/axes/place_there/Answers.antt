@@ -6,7 +6,7 @@ use Rattle.qm_place.proofs.axes.place_there.Goals as goal
 pub vertex_place-requires : goal.vertex_place-requires
 vertex_place-requires c =
     let is = subst (IsSpot c.args.old.now.mesh.now) c.in-AtVertex.is c.requires.spot in
-    omega (arith, is, c.args.old.now.positions)
+    omega arith
 
 pub way_place-requires-clause-dart : goal.way_place-requires-clause-dart
 way_place-requires-clause-dart c = (subst (IsSpot c.args.old.now.mesh.now) c.in-OnEdge.is c.requires.spot).0
@@ -23,7 +23,7 @@ cell_place-requires-clause-dart c = (subst (IsSpot c.args.old.now.mesh.now) c.in
 pub cell_place-requires-clause-inside : goal.cell_place-requires-clause-inside
 cell_place-requires-clause-inside c =
     let is = subst (IsSpot c.args.old.now.mesh.now) c.in-InFace.is c.requires.spot in
-    (omega (arith, is.1), omega (arith, is.2))
+    (omega arith, omega arith)
 
 pub returns-in-AtVertex : goal.returns-in-AtVertex
 returns-in-AtVertex c =

@@ -6,7 +6,7 @@ use Rattle.qm_place.proofs.Entries.{end_read}
 use Rattle.qm_place.proofs.find.arcs_end.Goals as goal
 
 pub overflow_cast-result : goal.overflow_cast-result
-overflow_cast-result c = omega (arith, c.args.placed.now.placed.few, c.len.ensures, c.args.placed.now.t.now.nodes.ok.0)
+overflow_cast-result c = omega arith
 
 pub overflow_add-result : goal.overflow_add-result
 overflow_add-result c =

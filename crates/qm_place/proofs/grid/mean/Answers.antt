@@ -8,8 +8,8 @@ whole near some rest = omega arith
 
 pub returns-then-near-far : goal.returns-then-near-far
 returns-then-near-far c =
-    let parts : (c.args.parts - c.args.some) + c.args.some ≡ c.args.parts = omega (arith, c.requires.0) in
+    let parts : (c.args.parts - c.args.some) + c.args.some ≡ c.args.parts = omega arith in
     sym (ap (λ far. (c.args.near * (c.args.parts - c.args.some) + far * c.args.some) / c.args.parts)
     (sym c.if-near-far.true)
-    ∙ (ap (λ sum. sum / c.args.parts) (whole c.args.near c.args.some (c.args.parts - c.args.some)
-    ∙ ap (λ n. c.args.near * n) parts) ∙ mul-div_cancel c.args.near c.requires.1))
+    ∙ (ap (λ sum. sum / c.args.parts) (whole _ _ _
+    ∙ ap (λ n. c.args.near * n) parts) ∙ mul-div_cancel _ c.requires.1))

@@ -8,7 +8,6 @@ overflow_mul-rim c =
     omega (
       arith,
       term_room (inner_of c.args.rims.now) (length c.args.rims.now) c.loop-rim.rim-index c.loop-rim-test.true,
-      c.requires.small,
     )
 
 pub push_start-requires-clause-small : goal.push_start-requires-clause-small
@@ -17,5 +16,4 @@ push_start-requires-clause-small c =
       arith,
       next_room (inner_of c.args.rims.now) (length c.args.rims.now) c.loop-rim.rim-index c.loop-rim.starts.begin.items
           c.loop-rim-test.true c.loop-rim.invariant,
-      c.requires.small,
     )

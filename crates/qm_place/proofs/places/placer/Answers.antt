@@ -13,9 +13,8 @@ use Rattle.qm_place.proofs.places.placer.Goals as goal
 
 -- What is asked of the lengths.
 fine : (t : TMesh) (x : List ℕ) → IsSomeLayout (layout_of t) → length x ≡ length t.arcs.items
-    → AreLengths (gluing_of (layout_of t)) (lengths_in x)
-    → face_count (gluing_of (layout_of t)) (lengths_in x) ≤ MAX_NEW_FACES
-    → AreFine (layout_of t) x
+    → AreLengths (gluing_of (layout_of t)) (lengths_in x) → face_count (gluing_of (layout_of t)) (lengths_in x)
+    ≤ MAX_NEW_FACES → AreFine (layout_of t) x
 fine t x mesh long = fine_of mesh (long ∙ sym (length-map t.arcs.items path))
 
 pub short_lengths-requires : goal.short_lengths-requires
@@ -83,5 +82,5 @@ returns-clause-places c =
           c.in_ok-sides.sides.parameters.items all c.in_ok-sides.ensures.rims c.in_ok-inside.inside.begin.items inside);
       spaced = rw (← c.deref-2.ensures.value) c.in_ok-spaced.ensures.spaced;
       rimmed = c.in_ok-sides.ensures.count ∙ all;
-      rims = λ p low. rw (← c.deref-3.ensures.value) (c.in_ok-sides.ensures.rims p (omega (arith, low, all)));
+      rims = λ p low. rw (← c.deref-3.ensures.value) (c.in_ok-sides.ensures.rims p (omega arith));
     }

@@ -12,13 +12,13 @@ loop-offset-preserved c =
     let new = lengths_in c.args.places.now.lengths.now c.args.used.arc in
     let forward : c.if-back.forward ≡ cond c.args.back (not c.args.used.forward) c.args.used.forward =
     elim c.if-back.branch [
-      | then-back w ↦ w.forward-is ∙ sym (cond-true c.args.back _ _ w.if-back.true)
-      | else-back w ↦ w.forward-is ∙ sym (cond-false c.args.back _ _ w.if-back.false)
+      | then-back w ↦ w.forward-is ∙ sym (cond-true _ _ _ w.if-back.true)
+      | else-back w ↦ w.forward-is ∙ sym (cond-false _ _ _ w.if-back.false)
     ] in
     let place : c.if-back-2.k ≡ cond c.args.back (new - c.loop-offset.offset) c.loop-offset.offset =
     elim c.if-back-2.branch [
-      | then-back-2 w ↦ w.k-is ∙ sym (cond-true c.args.back _ _ w.if-back-2.true)
-      | else-back-2 w ↦ w.k-is ∙ sym (cond-false c.args.back _ _ w.if-back-2.false)
+      | then-back-2 w ↦ w.k-is ∙ sym (cond-true _ _ _ w.if-back-2.true)
+      | else-back-2 w ↦ w.k-is ∙ sym (cond-false _ _ _ w.if-back-2.false)
     ] in
     pushed_more c.loop-offset.invariant c.in_ok-push.ensures.items
     (λ i. ONE * c.args.before + (c.parameter_of.ensures.value

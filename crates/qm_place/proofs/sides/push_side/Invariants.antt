@@ -10,7 +10,6 @@ invariant-loop-used l = record {
   pushed : (way : Way) → way_number way ≡ l.fn.side → ArePushed l.fn.parameters.items l.parameters.items
       (reach (gluing_of (layout_of l.places.t.now)) (lengths_in l.places.lengths.now) l.patch way l.used-index)
       (side_parameter (layout_of l.places.t.now) (lengths_in l.places.lengths.now) (spacing_on l.places) l.patch way);
-  before : (way : Way) → way_number way ≡ l.fn.side
-      → l.before ≡ reach (gluing_of (layout_of l.places.t.now)) (long_at (layout_of l.places.t.now).arcs)
-      l.patch way l.used-index;
+  before : (way : Way) → way_number way ≡ l.fn.side → l.before
+      ≡ reach (gluing_of (layout_of l.places.t.now)) (long_at (layout_of l.places.t.now).arcs) l.patch way l.used-index;
 }

@@ -5,8 +5,7 @@ use Rattle.qm_place.proofs.spacing.push_shared.Goals as goal
 
 pub returns : goal.returns
 returns c =
-    let all : c.loop-k.k - 1 ≡ c.args.new - 1 =
-    omega (arith, c.loop-k-test.false, c.loop-k.auto.k, c.loop-k.auto.k-end, c.requires) in
+    let all : c.loop-k.k - 1 ≡ c.args.new - 1 = omega arith in
     subst (λ n. ArePushed c.args.parameters.now.items c.loop-k.parameters.items n (λ i. step_parameter (inner_step
     (counted (share_by c.args.darts.now.all.now c.args.shares.now false) (length c.args.darts.now.all.now))
     (length c.args.darts.now.all.now) c.args.new (i + 1)))) all c.loop-k.invariant.pushed

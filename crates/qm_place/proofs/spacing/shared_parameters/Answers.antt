@@ -13,13 +13,11 @@ use Rattle.qm_place.proofs.spacing.shared_parameters.Goals as goal
 
 -- The arc is one of the layout, and the darts are its own.
 arc_low : (c : After-deref) → c.loop-arc.arc < length c.args.t.now.arcs.items
-arc_low c = omega (arith, c.loop-arc-test.true, c.len-arc-end.ensures, c.args.t.now.arcs.ok.0)
+arc_low c = omega arith
 
 darts : (c : After-deref) → c.deref.result.now ≡ (path_at (layout_of c.args.t.now).arcs c.loop-arc.arc).darts
-darts c =
-    c.deref.ensures.value ∙ ap (λ (z : TArc). z.darts.items) c.index.ensures
-    ∙ sym (ap (λ (q : Path). q.darts) (get_or-map path c.args.t.now.arcs.items c.loop-arc.arc c.index.result.now
-    (record { first = 0; last = 0; darts = [] }) (arc_low c)))
+darts c = c.deref.ensures.value ∙ ap (λ (z : TArc). z.darts.items) c.index.ensures
+    ∙ sym (ap (λ (q : Path). q.darts) (get_or-map path _ _ _ (record { first = 0; last = 0; darts = [] }) (arc_low c)))
 
 pub invariant_of-darts : goal.invariant_of-darts
 invariant_of-darts c =
@@ -56,7 +54,6 @@ loop-arc-preserved c = record {
         c.in_ok-push_shared.ensures.kept (before_arc (lengths_in c.args.lengths.now) arc + k - 1) (omega (
           arith,
           c.loop-arc.invariant.long,
-          some,
           place_low (λ b. lengths_in c.args.lengths.now b - 1) c.loop-arc.arc arc (k - 1) before
               (omega (arith, some, less)),
         ))
@@ -77,7 +74,7 @@ loop-arc-preserved c = record {
         (shares_along (layout_of c.args.t.now) c.args.shares.now) c.loop-arc.arc k)
     here k some less =
         let place : before_arc (lengths_in c.args.lengths.now) c.loop-arc.arc + k - 1
-        ≡ length c.loop-arc.parameters.items + (k - 1) = omega (arith, c.loop-arc.invariant.long, some) in
+        ≡ length c.loop-arc.parameters.items + (k - 1) = omega (arith, c.loop-arc.invariant.long) in
         ap (slice_index c.push_shared.new.parameters.items) place
         ∙ c.in_ok-push_shared.ensures.each (k - 1) (omega (arith, some, less))
         ∙ arc_parameter (layout_of c.args.t.now) (lengths_in c.args.lengths.now) c.args.shares.now c.loop-arc.arc
@@ -90,11 +87,4 @@ returns c = record {
 }
   where
     all : c.loop-arc.arc ≡ length (layout_of c.args.t.now).arcs
-    all = omega (
-      arith,
-      c.loop-arc-test.false,
-      c.loop-arc.auto.arc-end,
-      c.len-arc-end.ensures,
-      c.args.t.now.arcs.ok.0,
-      length-map c.args.t.now.arcs.items path,
-    )
+    all = omega (arith, length-map c.args.t.now.arcs.items path)

@@ -28,13 +28,7 @@ value c =
     (omega arith) c.requires.along.upto (omega (arith, c.requires.along.from)) c.index.ensures
 
 pub index-requires : goal.index-requires
-index-requires c =
-    omega (
-      arith,
-      low (goal.at.index-requires c).In-Some,
-      c.requires.along.from,
-      c.in-Some.spaced.parameters.ok.0,
-    )
+index-requires c = omega (arith, low (goal.at.index-requires c).In-Some)
 
 pub shared_spot-requires-clause-low : goal.shared_spot-requires-clause-low
 shared_spot-requires-clause-low c =
@@ -66,7 +60,7 @@ parts c =
     (omega (arith, placed.placed.long, c.requires.along.low)) c.index-in-None-2.ensures 0
 
 pub overflow_sub-k : goal.overflow_sub-k
-overflow_sub-k c = omega (arith, begins (goal.at.overflow_sub-k c).After-index-in-None, c.requires.along.from)
+overflow_sub-k c = omega (arith, begins (goal.at.overflow_sub-k c).After-index-in-None)
 
 pub even_spot-requires-clause-place : goal.even_spot-requires-clause-place
 even_spot-requires-clause-place c =
@@ -85,12 +79,7 @@ even_spot-requires-clause-low c =
     let same : (c.args.place - c.index-in-None.result.now + 1) * old / c.index-in-None-2.result.now
     ≡ (c.args.place - before_arc (lengths_by placed) c.args.arc + 1) * old / lengths_by placed c.args.arc =
     λ i. (c.args.place - first i + 1) * old / many i in
-    omega (
-      arith,
-      same,
-      placed.placed.darts c.args.arc (c.args.place - before_arc (lengths_by placed) c.args.arc + 1)
-          c.requires.along.low c.requires.along.upto,
-    )
+    omega arith
 
 pub returns-in-None : goal.returns-in-None
 returns-in-None c =

@@ -33,19 +33,13 @@ returns c =
     let l = gluing_of (layout_of c.args.placed.now.t.now) in
     let o = long_at (layout_of c.args.placed.now.t.now).arcs in
     let u : c.grid_point-point.result.u ≡ parameter_u l o x (spacing_at c.args.placed.now) c.args.patch c.args.i
-    c.args.j =
-    ap (λ (p : GridPoint). p.u) c.grid_point-point.ensures.value in
+    c.args.j = ap (λ (p : GridPoint). p.u) c.grid_point-point.ensures.value in
     let v : c.grid_point-point.result.v ≡ parameter_v l o x (spacing_at c.args.placed.now) c.args.patch c.args.i
-    c.args.j =
-    ap (λ (p : GridPoint). p.v) c.grid_point-point.ensures.value in
-    let a : c.cell_at-a.result
-    ≡ cell_at (wide l o c.args.patch) (parameter_u l o x (spacing_at c.args.placed.now) c.args.patch c.args.i
-    c.args.j) =
-    c.cell_at-a.ensures.value ∙ (λ k. cell_at (old.wide k) (u k)) in
-    let b : c.cell_at-b.result
-    ≡ cell_at (high l o c.args.patch) (parameter_v l o x (spacing_at c.args.placed.now) c.args.patch c.args.i
-    c.args.j) =
-    c.cell_at-b.ensures.value ∙ (λ k. cell_at (old.high k) (v k)) in
+    c.args.j = ap (λ (p : GridPoint). p.v) c.grid_point-point.ensures.value in
+    let a : c.cell_at-a.result ≡ cell_at (wide l o c.args.patch) (parameter_u l o x (spacing_at c.args.placed.now)
+    c.args.patch c.args.i c.args.j) = c.cell_at-a.ensures.value ∙ (λ k. cell_at (old.wide k) (u k)) in
+    let b : c.cell_at-b.result ≡ cell_at (high l o c.args.patch) (parameter_v l o x (spacing_at c.args.placed.now)
+    c.args.patch c.args.i c.args.j) = c.cell_at-b.ensures.value ∙ (λ k. cell_at (old.high k) (v k)) in
     let dart = cell_read old c.cell_at-a.ensures.low c.cell_at-b.ensures.low c.index.ensures
     ∙ (λ k. cell_of (patch_at (layout_of c.args.placed.now.t.now).patches c.args.patch) (a k) (b k)) in
     λ k. record { dart = dart k; s = u k - (c.from.ensures ∙ a) k * ONE; t = v k - (c.from-2.ensures ∙ b) k * ONE }

@@ -1,6 +1,6 @@
-use Rattle.std.proofs.Common.{◌≡◌, ap, arith}
+use Rattle.std.proofs.Common.{◌≡◌, arith}
 use Rattle.def_layout.specs.{Arcs.long_at, Layouts.gluing_of, Layouts.layout_of}
-use Rattle.def_remesh.specs.{NewPoints.lengths_in, declared.places.Rim.Rim}
+use Rattle.def_remesh.specs.{NewPoints.lengths_in}
 use Rattle.def_written.specs.Places.{parameter_u, parameter_v}
 use Rattle.qm_place.specs.Lengthened.{spacing_at}
 use Rattle.qm_place.proofs.Entries.{patch_read, rim_here, rim_room}
@@ -42,7 +42,5 @@ returns-clause-value c = λ k. record { u = u_is c k; v = v_is c k }
 pub returns-clause-small : goal.returns-clause-small
 returns-clause-small c =
     let rim = rim_here c.args.placed.now.t.now c.args.placed.now.placed c.requires.patch c.index-rim.ensures in
-    let small = c.args.placed.now.placed.small c.args.patch c.args.i c.args.j rim.low
-    (omega (arith, c.requires.grid.0, ap (λ (r : Rim). r.wide) rim.same, rim.is.wide))
-    (omega (arith, c.requires.grid.1, ap (λ (r : Rim). r.high) rim.same, rim.is.high)) in
+    let small = c.args.placed.now.placed.small c.args.patch c.args.i c.args.j rim.low (omega arith) (omega arith) in
     (omega (arith, u_is c, small.0), omega (arith, v_is c, small.1))

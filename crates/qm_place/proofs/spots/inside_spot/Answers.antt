@@ -13,10 +13,9 @@ overflow_add-offset-2 c =
     let x = lengths_in c.args.placed.now.tables.now.lengths.items in
     let l = gluing_of (layout_of c.args.placed.now.t.now) in
     let at = offset_read are c.requires.inside.low c.index.ensures c.index-2.ensures in
-    let row : (c.args.place - c.index.result.now) / (c.index-2.result.now.wide - 1)
-    ≡ (c.args.place - before_patch l x c.args.patch) / (wide l x c.args.patch - 1) =
-    λ k. (c.args.place - at.begin_is k) / (at.columns_are k - 1) in
-    omega (arith, row, c.requires.inside.row, are.low c.args.patch c.requires.inside.low)
+    let row : (c.args.place - c.index.result.now) / (c.index-2.result.now.wide - 1) ≡ (c.args.place - before_patch l x
+    c.args.patch) / (wide l x c.args.patch - 1) = λ k. (c.args.place - at.begin_is k) / (at.columns_are k - 1) in
+    omega arith
 
 pub cell_spot-requires-clause-grid : goal.cell_spot-requires-clause-grid
 cell_spot-requires-clause-grid c =
@@ -24,17 +23,15 @@ cell_spot-requires-clause-grid c =
     let x = lengths_in c.args.placed.now.tables.now.lengths.items in
     let l = gluing_of (layout_of c.args.placed.now.t.now) in
     let at = offset_read are c.requires.inside.low c.index.ensures c.index-2.ensures in
-    let column : (c.args.place - c.index.result.now) % (c.index-2.result.now.wide - 1)
-    ≡ (c.args.place - before_patch l x c.args.patch) % (wide l x c.args.patch - 1) =
-    λ k. (c.args.place - at.begin_is k) % (at.columns_are k - 1) in
-    let row : (c.args.place - c.index.result.now) / (c.index-2.result.now.wide - 1)
-    ≡ (c.args.place - before_patch l x c.args.patch) / (wide l x c.args.patch - 1) =
-    λ k. (c.args.place - at.begin_is k) / (at.columns_are k - 1) in
-    let is = are.rims c.args.patch c.requires.inside.low in (
-      omega (arith, column, c.requires.inside.column, is.wide),
-      omega (arith, row, c.requires.inside.row, is.high),
-      omega (arith, c.requires.inside.some, is.wide),
-      omega (arith, c.requires.inside.row, is.high),
+    let column : (c.args.place - c.index.result.now) % (c.index-2.result.now.wide - 1) ≡ (c.args.place - before_patch l
+    x c.args.patch) % (wide l x c.args.patch - 1) = λ k. (c.args.place - at.begin_is k) % (at.columns_are k - 1) in
+    let row : (c.args.place - c.index.result.now) / (c.index-2.result.now.wide - 1) ≡ (c.args.place - before_patch l x
+    c.args.patch) / (wide l x c.args.patch - 1) = λ k. (c.args.place - at.begin_is k) / (at.columns_are k - 1) in
+    let is = are.rims _ c.requires.inside.low in (
+      omega arith,
+      omega arith,
+      omega arith,
+      omega arith,
     )
 
 pub returns : goal.returns

@@ -23,17 +23,15 @@ less c =
     c.requires.edge
 
 few : (c : After-from-5) → c.args.new * share_in c.args.path.now c.args.at.edge ≤ 2 ^ 32 * 2 ^ 62
-few c = mul-le c.args.new (share_in c.args.path.now c.args.at.edge) (2 ^ 32) (2 ^ 62) (omega (arith, c.ranges.new.fits))
-    (omega (arith, c.share_at.ensures.small, c.share_at.ensures.value))
+few c = mul-le _ _ (2 ^ 32) (2 ^ 62) (omega arith) (omega arith)
 
 part : (c : After-from-5) → c.from-5.result * (c.from.result * c.args.path.now.all - c.from-2.result * c.args.at.before)
     / (c.from-3.result * c.from-4.result) < ONE
 part c =
     let path = c.args.path.now in
     let same : c.from-5.result * (c.from.result * path.all - c.from-2.result * c.args.at.before)
-    / (c.from-3.result * c.from-4.result)
-    ≡ ONE * (c.args.k * path.all - c.args.new * c.args.at.before) / (c.args.new * share_in path c.args.at.edge) =
-    λ i. c.from-5.ensures i * rest c i / share c i in
+    / (c.from-3.result * c.from-4.result) ≡ ONE * (c.args.k * path.all - c.args.new * c.args.at.before)
+    / (c.args.new * share_in path c.args.at.edge) = λ i. c.from-5.ensures i * rest c i / share c i in
     omega (
       arith,
       same,
@@ -46,9 +44,8 @@ pub overflow_mul-result-2 : goal.overflow_mul-result-2
 overflow_mul-result-2 c =
     let at = (goal.at.overflow_mul-result-2 c).After-from-5 in
     let same : c.from-5.result * (c.from.result * c.args.path.now.all - c.from-2.result * c.args.at.before)
-    ≡ ONE * (c.args.k * c.args.path.now.all - c.args.new * c.args.at.before) =
-    λ i. c.from-5.ensures i * rest at i in
-    omega (arith, same, less at, few at)
+    ≡ ONE * (c.args.k * c.args.path.now.all - c.args.new * c.args.at.before) = λ i. c.from-5.ensures i * rest at i in
+    omega (arith, less at, few at)
 
 pub nonzero_div-result : goal.nonzero_div-result
 nonzero_div-result c =
@@ -58,10 +55,4 @@ pub overflow_cast-result : goal.overflow_cast-result
 overflow_cast-result c = omega (arith, part (goal.at.overflow_cast-result c).After-from-5)
 
 pub overflow_add-result : goal.overflow_add-result
-overflow_add-result c =
-    omega (
-      arith,
-      part (goal.at.overflow_add-result c).After-from-5,
-      c.requires.reached.edge,
-      c.args.path.now.long,
-    )
+overflow_add-result c = omega (arith, part (goal.at.overflow_add-result c).After-from-5)

@@ -11,13 +11,7 @@ few : (c : After-from-in-edges-2) → c.edges.at.before ≤ 2 ^ 83
 few c =
     let path = c.args.path.now in
     let at = c.edges.invariant.reached in
-    omega (
-      arith,
-      at.before,
-      count_rises (share_in path) c.edges.at.edge (length path.darts.now) (omega (arith, at.edge)),
-      path.whole,
-      path.few,
-    )
+    omega (arith, count_rises (share_in path) c.edges.at.edge (length path.darts.now) (omega (arith, at.edge)))
 
 -- What is compared, as it is computed.
 upto : (c : After-from-in-edges-2) → c.from-in-edges.result * (c.edges.at.before + c.from-in-edges-2.result)
@@ -28,13 +22,7 @@ wish : (c : After-from-in-edges-2) → c.from.result * c.args.path.now.all ≡ c
 wish c = λ i. c.from.ensures i * c.args.path.now.all
 
 pub overflow_add-at : goal.overflow_add-at
-overflow_add-at c =
-    omega (
-      arith,
-      few (goal.at.overflow_add-at c).After-from-in-edges-2,
-      c.from-in-edges-2.ensures,
-      c.edges.invariant.small,
-    )
+overflow_add-at c = omega (arith, few (goal.at.overflow_add-at c).After-from-in-edges-2)
 
 pub overflow_mul-from : goal.overflow_mul-from
 overflow_mul-from c =
@@ -55,7 +43,7 @@ share_at-share-requires-in-edges c =
     let at = c.edges.invariant.reached in
     let here = (goal.at.share_at-share-requires-in-edges c).After-from-in-edges-2 in
     next_low (share_in path) (length path.darts.now) c.args.new c.args.k path.all path.whole path.some c.requires.place
-    c.edges.at.edge c.edges.at.before at.edge at.before (omega (arith, upto here, wish here, c.edges-test.true))
+    c.edges.at.edge c.edges.at.before at.edge at.before (omega (arith, upto here, wish here))
 
 pub edges-preserved : goal.edges-preserved
 edges-preserved c =
@@ -63,18 +51,16 @@ edges-preserved c =
     let at = c.edges.invariant.reached in
     let here = (goal.at.edges-preserved c).After-from-in-edges-2 in
     let le : c.args.new * (c.edges.at.before + share_in path c.edges.at.edge) ≤ c.args.k * path.all =
-    omega (arith, upto here, wish here, c.edges-test.true) in
+    omega (arith, upto here, wish here) in
     let share : c.from-in-edges-3.result ≡ share_in path c.edges.at.edge =
     c.from-in-edges-3.ensures ∙ c.edges.invariant.share in
     let sum : c.edges.at.before + c.from-in-edges-3.result ≡ c.edges.at.before + share_in path c.edges.at.edge =
     ap (λ n. c.edges.at.before + n) share in
     record {
       reached = record {
-        edge = next_low (share_in path) (length path.darts.now) c.args.new c.args.k path.all path.whole path.some
-            c.requires.place c.edges.at.edge c.edges.at.before at.edge at.before le;
-        before = sum ∙ next_is (share_in path) (length path.darts.now) c.args.new c.args.k path.all path.whole path.some
-            c.requires.place c.edges.at.edge c.edges.at.before at.edge at.before;
-        upto = omega (arith, ap (λ n. c.args.new * n) sum, le);
+        edge = next_low _ _ _ _ path.all path.whole path.some c.requires.place _ _ at.edge at.before le;
+        before = sum ∙ next_is _ _ _ _ path.all path.whole path.some c.requires.place _ _ at.edge at.before;
+        upto = omega (arith, ap (λ n. c.args.new * n) sum);
       };
       share = c.share_at-share-in-edges.ensures.value;
       small = c.share_at-share-in-edges.ensures.small;
@@ -87,4 +73,4 @@ returns-clause-edge c =
     let here = (goal.at.returns-clause-edge c).After-from-in-edges-2 in
     edge_is (share_in path) (length path.darts.now) c.args.new c.args.k path.all path.whole path.some c.requires.place
     c.edges.at.edge c.edges.at.before at.edge at.before at.upto
-    (omega (arith, upto here, wish here, c.edges-test.false))
+    (omega (arith, upto here, wish here))

@@ -72,11 +72,9 @@ four : (c : goal.After-div_euclid-mean) → 4 ≤ length c.args.corners
 four c = search rules
 
 pub returns : goal.returns
-returns c =
-    cast_micro c.div_euclid-mean.result (small c) ∙ is c
-    ∙ (λ i. blend c.args.s c.args.t (c.p00.view_is i) (c.p10.view_is i) (c.p01.view_is i) (c.p11.view_is i))
-    ∙ (λ i. blend c.args.s c.args.t
-    (get_or_default c.args.corners 0 c.index-corners-0.result (pos 0) (omega (arith, four c)) i)
+returns c = cast_micro c.div_euclid-mean.result (small c) ∙ is c
+    ∙ (λ i. blend c.args.s c.args.t (c.p00.view_is i) (c.p10.view_is i) (c.p01.view_is i) (c.p11.view_is i)) ∙ (λ i.
+    blend c.args.s c.args.t (get_or_default c.args.corners 0 c.index-corners-0.result (pos 0) (omega (arith, four c)) i)
     (get_or_default c.args.corners 1 c.index-corners-1.result (pos 0) (omega (arith, four c)) i)
     (get_or_default c.args.corners 3 c.index-corners-3.result (pos 0) (omega (arith, four c)) i)
     (get_or_default c.args.corners 2 c.index-corners-2.result (pos 0) (omega (arith, four c)) i))

@@ -17,12 +17,12 @@ on_grid : (t : TMesh) {tables : PlaceTables} {p : ℕ} {i j a b : ℕ} → ArePl
     → j < high (gluing_of (layout_of t)) (lengths_in tables.lengths.items) p
     → a ≤ i + 1 → b ≤ j + 1 → IsOnGrid (rim_at tables.rims.items p) a b
 on_grid t {p} are low i_low j_low a_le b_le =
-    let p_low : p < length (layout_of t).patches = omega (arith, low, length-map t.patches.items rectangle) in
+    let p_low : p < length (layout_of t).patches = omega (arith, length-map t.patches.items rectangle) in
     let is = are.rims p p_low in (
-      omega (arith, is.wide, i_low, a_le),
-      omega (arith, is.high, j_low, b_le),
-      omega (arith, is.wide, i_low),
-      omega (arith, is.high, j_low),
+      omega arith,
+      omega arith,
+      omega arith,
+      omega arith,
     )
 
 -- A cell of a patch stands in a low column and row.
@@ -31,17 +31,15 @@ cell_few : (t : TMesh) {tables : PlaceTables} {p : ℕ} {patch : Patch} → AreP
     → (a ≤ 2 ^ 21) × (b ≤ 2 ^ 21)
 cell_few t {tables} {p} {patch} are low read a_low b_low =
     let old = patch_read t are low read in
-    let sized = are.patches p (omega (arith, low, length-map t.patches.items rectangle)) in
-    (omega (arith, old.wide, sized.few_columns, a_low), omega (arith, old.high, sized.few_rows, b_low))
+    let sized = are.patches p (omega (arith, length-map t.patches.items rectangle)) in
+    (omega (arith, old.wide, sized.few_columns), omega (arith, old.high, sized.few_rows))
 
 pub overflow_add-j-2 : goal.overflow_add-j-2
-overflow_add-j-2 c =
-    omega (
-      arith,
-      c.args.self.now.placed.low c.args.patch
-          (omega (arith, c.requires.patch, length-map c.args.self.now.t.now.patches.items rectangle)),
-      c.requires.row,
-    )
+overflow_add-j-2 c = omega (
+  arith,
+  c.args.self.now.placed.low c.args.patch
+      (omega (arith, c.requires.patch, length-map c.args.self.now.t.now.patches.items rectangle)),
+)
 
 pub grid_point-south_west-requires-clause-grid : goal.grid_point-south_west-requires-clause-grid
 grid_point-south_west-requires-clause-grid c = on_grid c.args.self.now.t.now c.args.self.now.placed c.requires.patch

@@ -21,15 +21,13 @@ returns-clause-few c =
     λ i. at.is.wide i * at.is.high i in
     omega (
       arith,
-      product,
       term_room (λ p. wide l x p * high l x p) (length (layout_of placed.t.now).patches) c.args.patch at.low,
-      placed.placed.few_faces,
     )
 
 pub returns-clause-short : goal.returns-clause-short
 returns-clause-short c =
     let placed = c.args.self.now.placed in
     let at = read (goal.at.returns-clause-short c).After-index in (
-      omega (arith, at.is.wide, placed.narrow c.args.patch at.low),
-      omega (arith, at.is.high, placed.low c.args.patch at.low),
+      omega arith,
+      omega arith,
     )

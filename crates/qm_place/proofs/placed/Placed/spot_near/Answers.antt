@@ -10,13 +10,7 @@ use Rattle.qm_place.proofs.Entries.{some_runs}
 use Rattle.qm_place.proofs.placed.Placed.spot_near.Goals as goal
 
 pub overflow_cast-nodes : goal.overflow_cast-nodes
-overflow_cast-nodes c =
-    omega (
-      arith,
-      c.args.self.now.placed.few,
-      c.len-nodes.ensures,
-      c.args.self.now.t.now.nodes.ok.0,
-    )
+overflow_cast-nodes c = omega arith
 
 pub returns-then-v-nodes : goal.returns-then-v-nodes
 returns-then-v-nodes c =
@@ -47,11 +41,11 @@ returns-then-v-arcs_end c =
     let t = layout_of c.args.self.now.t.now in
     let nodes = c.len-nodes.ensures ∙ c.args.self.now.t.now.nodes.ok.0 in
     let low : c.args.v - c.len-nodes.result < before_arc x (length t.arcs) =
-    omega (arith, nodes, c.if-v-nodes.false, c.if-v-arcs_end.true, c.arcs_end-arcs_end.ensures) in
+    omega (arith, c.if-v-nodes.false, c.if-v-arcs_end.true, c.arcs_end-arcs_end.ensures) in
     let same : c.spot_near-near.result ≡ run_at (before_arc x) (length t.arcs) (c.args.v - c.len-nodes.result) =
     c.spot_near-near.ensures.run (λ b. x b - 1) (length t.arcs) (rw c.deref.ensures.value are.along) in
     found_on t (shares_by c.args.self.now) x
-    (omega (arith, nodes, c.if-v-nodes.false)) (ap (λ n. c.args.v - n) nodes) low same c.along_spot.ensures
+    (omega (arith, c.if-v-nodes.false)) (ap (λ n. c.args.v - n) nodes) low same c.along_spot.ensures
 
 pub spot_near-near-requires-2 : goal.spot_near-near-requires-2
 spot_near-near-requires-2 c =
@@ -59,12 +53,10 @@ spot_near-near-requires-2 c =
     let x = lengths_in c.args.self.now.tables.now.lengths.items in
     let t = layout_of c.args.self.now.t.now in
     let l = gluing_of t in
-    let low : c.args.v - c.arcs_end-arcs_end.result < before_patch l x (length t.patches) =
-    omega (arith, c.if-v-arcs_end.false, c.arcs_end-arcs_end.ensures, c.requires.vertex) in
+    let low : c.args.v - c.arcs_end-arcs_end.result < before_patch l x (length t.patches) = omega arith in
     omega (
       arith,
       some_runs (λ p. (wide l x p - 1) * (high l x p - 1)) (length t.patches) low,
-      are.inside.count,
       ap (λ (xs : List ℕ). length xs) c.deref-2.ensures.value,
     )
 
@@ -74,12 +66,10 @@ inside_spot-requires c =
     let x = lengths_in c.args.self.now.tables.now.lengths.items in
     let t = layout_of c.args.self.now.t.now in
     let l = gluing_of t in
-    let low : c.args.v - c.arcs_end-arcs_end.result < before_patch l x (length t.patches) =
-    omega (arith, c.if-v-arcs_end.false, c.arcs_end-arcs_end.ensures, c.requires.vertex) in
+    let low : c.args.v - c.arcs_end-arcs_end.result < before_patch l x (length t.patches) = omega arith in
     let same : c.spot_near-near-2.result ≡ run_at (before_patch l x) (length t.patches)
-    (c.args.v - c.arcs_end-arcs_end.result) =
-    c.spot_near-near-2.ensures.run (λ p. (wide l x p - 1) * (high l x p - 1)) (length t.patches)
-    (rw c.deref-2.ensures.value are.inside) in
+    (c.args.v - c.arcs_end-arcs_end.result) = c.spot_near-near-2.ensures.run (λ p. (wide l x p - 1) * (high l x p - 1))
+    (length t.patches) (rw c.deref-2.ensures.value are.inside) in
     record {
       inside = in_patch t (shares_by c.args.self.now) x low same;
     }
@@ -93,8 +83,7 @@ returns c =
     let low : c.args.v - c.arcs_end-arcs_end.result < before_patch l x (length t.patches) =
     omega (arith, c.if-v-arcs_end.false, c.arcs_end-arcs_end.ensures, c.requires.vertex) in
     let same : c.spot_near-near-2.result ≡ run_at (before_patch l x) (length t.patches)
-    (c.args.v - c.arcs_end-arcs_end.result) =
-    c.spot_near-near-2.ensures.run (λ p. (wide l x p - 1) * (high l x p - 1)) (length t.patches)
-    (rw c.deref-2.ensures.value are.inside) in
+    (c.args.v - c.arcs_end-arcs_end.result) = c.spot_near-near-2.ensures.run (λ p. (wide l x p - 1) * (high l x p - 1))
+    (length t.patches) (rw c.deref-2.ensures.value are.inside) in
     found_in t (shares_by c.args.self.now) x (omega (arith, c.arcs_end-arcs_end.ensures, c.if-v-arcs_end.false))
     (ap (λ n. c.args.v - n) c.arcs_end-arcs_end.ensures) same c.inside_spot.ensures

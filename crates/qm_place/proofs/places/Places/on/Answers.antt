@@ -6,7 +6,6 @@ use Rattle.qm_place.proofs.places.Places.on.Goals as goal
 
 pub invariant_of-result : goal.invariant_of-result
 invariant_of-result c = record {
-  placed = placed_of c.requires.0 (layout_of c.args.t.now) c.self.inside.tables
-      (subst (λ (s : PlaceTables). ArePlaces c.requires.0 (layout_of c.args.t.now) s) (sym c.self.view_is)
-      c.requires.1);
+  placed = placed_of c.requires.0 (layout_of c.args.t.now) c.self.inside.tables (subst
+      (λ (s : PlaceTables). ArePlaces c.requires.0 (layout_of c.args.t.now) s) (sym c.self.view_is) c.requires.1);
 }
