@@ -1,6 +1,6 @@
 -- Climbing from two vertices of one blossom until one meets: what is passed on the way is what lies around just one.
 use Rattle.std.proofs.Common.{◌≡◌, ◌≢◌, ℕ, zero, suc, ◌+◌, ◌*◌, ◌<◌, ◌≤◌, ◌^◌, Bool, true, false, not, cond, eqb, ◌||◌}
-use Rattle.std.proofs.Common.{ℤ, pos, ◌+ℤ◌, ◌⊎◌, refl, sym, ◌∙◌, ap, inl, inr, arith}
+use Rattle.std.proofs.Common.{ℤ, pos, ◌+ℤ◌, refl, sym, ◌∙◌, ap, inl, inr, arith}
 use Rattle.std.proofs.lemmas.Int.{ints}
 use Rattle.std.proofs.lemmas.Bool.{cases_eq, cond-true, cond-false, eq-eqb, ne_eqb, eqb-true, or_cases}
 use Rattle.std.proofs.lemmas.Bool.{false_from_ne_true, or_left}
@@ -18,6 +18,10 @@ pub or_twice : (a : Bool) → (a || a) ≡ a
 or_twice true = refl
 or_twice false = refl
 
+pub none_either : (s : Bool) → ◌≡◌ {A = ℕ} (cond s 0 0) 0
+none_either true = refl
+none_either false = refl
+
 -- One step more passes nothing new where one has come to stay.
 climbs_last : (up : ℕ → ℕ) (m b y : ℕ) → up (walk up y m) ≡ walk up y m → climbs up (suc m) b y ≡ climbs up m b y
 climbs_last up zero b y e = ap (λ x. eqb y b || eqb x b) e ∙ or_twice (eqb y b)
@@ -30,31 +34,27 @@ module _ {n : ℕ} {up : ℕ → ℕ} (rank : ℕ → ℕ) {out : ℕ → ℕ} (
   passed_rank : (k b from : ℕ) → climbs up k b from ≡ true → from ≢ b → rank from < rank b
   passed_rank zero b from on ne = absurd (ne (eqb-true from b on))
   passed_rank (suc k) b from on ne =
-      by_or (or_cases (eqb from b) (climbs up k b (up from)) on) (passed_rank k b (up from))
-    where
-      climbing : (up from ≡ b) ⊎ (up from ≢ b) → (climbs up k b (up from) ≡ true → up from ≢ b
-          → rank (up from) < rank b) → climbs up k b (up from) ≡ true → rank from < rank b
-      climbing (inl e) more on' = rw e at (rises from (λ s. ne (sym s ∙ e)))
-      climbing (inr nb) more on' = by_step (cases_eq (up from) from) (more on' nb)
-        where
-          by_step : (up from ≡ from) ⊎ (up from ≢ from) → rank (up from) < rank b → rank from < rank b
-          by_step (inl s) l = rw s at l
-          by_step (inr ns) l = let h : rank from < rank (up from) = rises from ns in omega arith
-
-      by_or : (eqb from b ≡ true) ⊎ (climbs up k b (up from) ≡ true) → (climbs up k b (up from) ≡ true → up from ≢ b
-          → rank (up from) < rank b) → rank from < rank b
-      by_or (inl e) more = absurd (ne (eqb-true from b e))
-      by_or (inr on') more = climbing (cases_eq (up from) b) more on'
+      let more = passed_rank k b (up from) in
+      elim (or_cases (eqb from b) (climbs up k b (up from)) on) [
+        | inl e ↦ absurd (ne (eqb-true from b e))
+        | inr past ↦ elim (cases_eq (up from) b) [
+          | inl e ↦ rw e at (rises from (λ s. ne (sym s ∙ e)))
+          | inr nb ↦ elim (cases_eq (up from) from) [
+            | inl s ↦ rw s at (more past nb)
+            | inr ns ↦ omega (arith, rises from ns, more past nb)
+          ]
+        ]
+      ]
 
   rank_up : (x : ℕ) → rank x ≤ rank (up x)
   rank_up x = elim (cases_eq (up x) x) [
     | inl e ↦ (let h : rank (up x) ≡ rank x = ap rank e in omega arith)
-    | inr ne ↦ (let h : rank x < rank (up x) = rises x ne in omega arith)
+    | inr ne ↦ (let h = rises x ne in omega arith)
   ]
 
   rank_walk : (x k : ℕ) → rank x ≤ rank (walk up x k)
   rank_walk x zero = omega arith
-  rank_walk x (suc k) = let h : rank (walk up x k) ≤ rank (up (walk up x k)) = rank_up (walk up x k) in
+  rank_walk x (suc k) = let h : rank (walk up x k) ≤ rank (up (walk up x k)) = rank_up _ in
       omega (arith, rank_walk x k)
 
   -- A blossom on the way from a vertex.
@@ -65,8 +65,7 @@ module _ {n : ℕ} {up : ℕ → ℕ} (rank : ℕ → ℕ) {out : ℕ → ℕ} (
   pub comes_out : (v x : ℕ) → v < n → OnWayFrom v x → walk up x n ≡ out v
   comes_out v x l w =
       let order : w.0 + n ≡ n + w.0 = omega arith in
-      ap (λ y. walk up y n) (sym w.1) ∙ (sym (walk_sum up v w.0 n) ∙ (ap (walk up v) order
-      ∙ (walk_sum up v n w.0 ∙ (ap (λ y. walk up y w.0) (climb.ends v l) ∙ walk_fixed up w.0 (climb.tops v l)))))
+      cc (walk_sum up v w.0 n, walk_sum up v n w.0, climb.ends v l, walk_fixed up w.0 (climb.tops v l))
 
   pub rank_low : (v x : ℕ) → v < n → OnWayFrom v x → rank x ≤ rank (out v)
   rank_low v x l w = rw (comes_out v x l w) at (rank_walk x n)
@@ -81,38 +80,32 @@ module _ {n : ℕ} {up : ℕ → ℕ} (rank : ℕ → ℕ) {out : ℕ → ℕ} (
   -- Of two blossoms on the ways, the lower can climb.
   pub can_climb : (u v x y : ℕ) → u < n → v < n → out u ≡ out v → OnWayFrom u x → OnWayFrom v y → x ≢ y
       → rank x ≤ rank y → up x ≢ x
-  can_climb u v x y lu lv same wx wy ne le fixed = by_top (cases_eq (up y) y)
-    where
-      x_top : x ≡ out u
-      x_top = fixed_top u lu wx fixed
-
-      by_top : (up y ≡ y) ⊎ (up y ≢ y) → ⊥
-      by_top (inl fy) = ne (x_top ∙ (same ∙ sym (fixed_top v lv wy fy)))
-      by_top (inr ny) =
-          let h : rank y < rank (up y) = rises y ny in
-          let top : rank (up y) ≤ rank (out v) = rank_low v (up y) lv (goes_on v y wy) in
-          let e : rank x ≡ rank (out v) = ap rank (x_top ∙ same) in
-          omega arith
+  can_climb u v x y lu lv same wx wy ne le fixed =
+      let x_top = fixed_top u lu wx fixed in
+      elim (cases_eq (up y) y) [
+        | inl fy ↦ ne (x_top ∙ (same ∙ sym (fixed_top v lv wy fy)))
+        | inr ny ↦ let h = rises y ny in let top = rank_low v
+            (up y) lv (goes_on v y wy) in let e : rank x ≡ rank (out v) = ap rank (x_top ∙ same) in omega arith
+      ]
 
   -- What is passed from a blossom: itself, and what is passed from the one around it.
   climbs_step : (v x b : ℕ) → v < n → OnWayFrom v x → climbs up n b x ≡ (eqb x b || climbs up n b (up x))
   climbs_step v x b l w = by_size n refl
     where
       by_size : (m : ℕ) → n ≡ m → climbs up n b x ≡ (eqb x b || climbs up n b (up x))
-      by_size zero e = absurd (omega (arith, e, l))
+      by_size zero e = absurd (omega arith)
       by_size (suc m) e =
           let fuel : climbs up n b x ≡ (eqb x b || climbs up m b (up x)) = ap (λ k. climbs up k b x) e in
           let here : walk up (up x) m ≡ walk up x n = sym (walk_front up x m) ∙ ap (walk up x) (sym e) in
           let top : up (walk up (up x) m) ≡ walk up (up x) m = ap up (here ∙ comes_out v x l w)
           ∙ (climb.tops v l ∙ sym (here ∙ comes_out v x l w)) in
-          fuel ∙ ap (λ (s : Bool). eqb x b || s) (sym (climbs_last up m b (up x) top)
-          ∙ ap (λ k. climbs up k b (up x)) (sym e))
+          cc (climbs_last up m b (up x) top)
 
   module _ (weight : ℕ → ℤ) (size : ℕ) (u v x y : ℕ) (lu : u < n) (wx : OnWayFrom u x) (ne : x ≢ y)
       (le : rank x ≤ rank y) (inner : up x ≢ x) (low : x < size) where
     not_from_y : climbs up n x y ≡ false
     not_from_y = false_from_ne_true (climbs up n x y)
-        (λ on. absurd (omega (arith, le, passed_rank n x y on (λ e. ne (sym e)))))
+        (λ on. absurd (omega (arith, passed_rank n x y on (λ e. ne (sym e)))))
 
     not_further : climbs up n x (up x) ≡ false
     not_further = false_from_ne_true (climbs up n x (up x))
@@ -125,11 +118,9 @@ module _ {n : ℕ} {up : ℕ → ℕ} (rank : ℕ → ℕ) {out : ℕ → ℕ} (
         (weight b) (pos 0) +ℤ cond (eqb b x) (weight x) (pos 0)
     term b = elim (cases_eq b x) [
       | inl e ↦ rw e (let left : cond (splits (climbs up n x) x y) (weight x) (pos 0)
-          ≡ weight x = ap (λ (s : Bool). cond (cond s (not (climbs up n x y)) (climbs up n x y)) (weight x) (pos 0))
-          here_true ∙ ap (λ (s : Bool). cond (not s) (weight x) (pos 0)) not_from_y in
+          ≡ weight x = cc (here_true, not_from_y) in
           let right : cond (splits (climbs up n x) (up x) y) (weight x) (pos 0) ≡ pos 0 =
-          ap (λ (s : Bool). cond (cond s (not (climbs up n x y)) (climbs up n x y)) (weight x) (pos 0))
-          not_further ∙ ap (λ (s : Bool). cond s (weight x) (pos 0)) not_from_y in
+          cc (not_further, not_from_y) in
           let one : cond (eqb x x) (weight x) (pos 0) ≡ weight x = cond-true _ _ _ (eq-eqb x x refl) in
           omega (arith, ints, left, right, one))
       | inr nb ↦ (let same : climbs up n b x ≡ climbs up n b (up x) = climbs_step u x b lu wx
@@ -151,14 +142,9 @@ module _ {n : ℕ} {up : ℕ → ℕ} (rank : ℕ → ℕ) {out : ℕ → ℕ} (
         let one : total_below (λ b. cond (eqb b x) (weight x) (pos 0)) size ≡ weight x =
         total_below_one (λ b. cond (eqb b x) (weight x) (pos 0)) size x low
         (λ k l nk. cond-false _ _ _ (ne_eqb k x nk)) ∙ cond-true _ _ _ (eq-eqb x x refl) in
-        omega (
-          arith,
-          ints,
-          same,
-          total_below_sum (λ b. cond (splits (climbs up n b) (up x) y) (weight b) (pos 0))
-              (λ b. cond (eqb b x) (weight x) (pos 0)) size,
-          one,
-        )
+        let parts = total_below_sum (λ b. cond (splits (climbs up n b) (up x) y) (weight b) (pos 0))
+        (λ b. cond (eqb b x) (weight x) (pos 0)) size in
+        omega (arith, ints, same, one)
 
 -- It is the same in either order, nothing where one has met, and small.
 pub apart_order : (n : ℕ) (up : ℕ → ℕ) (weight : ℕ → ℤ) (size x y : ℕ) → apart n up weight size x y
@@ -169,13 +155,10 @@ apart_order n up weight size x y = total_below_same (λ b. cond (splits (climbs 
 
 pub apart_met : (n : ℕ) (up : ℕ → ℕ) (weight : ℕ → ℤ) (size : ℕ) {x y : ℕ} → x ≡ y → apart n up weight size x y ≡ pos 0
 apart_met n up weight size {x} {y} e = total_below_none (λ b. cond (splits (climbs up n b) x y) (weight b) (pos 0)) size
-    (λ b l. by_same (climbs up n b x) (climbs up n b y) (weight b) (ap (climbs up n b) e))
+    (λ b l. by_same _ _ _ (ap (climbs up n b) e))
 
 pub apart_small : (n : ℕ) (up : ℕ → ℕ) (weight : ℕ → ℤ) (size x y : ℕ) → ((b : ℕ) → unsigned_abs (weight b) ≤ 2 ^ 62)
     → unsigned_abs (apart n up weight size x y) ≤ size * 2 ^ 62
 apart_small n up weight size x y small = sum_small (λ b. cond (splits (climbs up n b) x y) (weight b) (pos 0)) size
-    (λ b l. by_test (splits (climbs up n b) x y) b)
-  where
-    by_test : (c : Bool) (b : ℕ) → unsigned_abs (cond c (weight b) (pos 0)) ≤ 2 ^ 62
-    by_test true b = small b
-    by_test false b = omega (arith, ints)
+    (λ b l. elim (splits (climbs up n b) x y) as (λ s. unsigned_abs (cond s (weight b) (pos 0)) ≤ 2 ^ 62)
+    [ true ↦ small b | false ↦ omega arith ])

@@ -14,8 +14,8 @@ pub copied_more : (list : List ℕ) {pushed : List ℕ} (next : ℕ → ℕ) (fr
     → length list ≡ k → v ≡ walk next from k → ((j : ℕ) → j < k → get_or list j 0 ≡ walk next from j) → (j : ℕ)
     → j < k + 1 → get_or pushed j 0 ≡ walk next from j
 copied_more list {pushed} next from {k} {v} is size here each j l = elim (cases_lt j k) [
-  | inl lt ↦ ap (λ xs. get_or xs j 0) is ∙ (get_or_append_left list (v ∷ []) 0 j (omega (arith, lt, size)) ∙ each j lt)
-  | inr ge ↦ (let e : k ≡ j = omega (arith, ge, l) in
+  | inl lt ↦ ap (λ xs. get_or xs j 0) is ∙ (get_or_append_left list (v ∷ []) 0 j (omega arith) ∙ each j lt)
+  | inr ge ↦ (let e : k ≡ j = omega arith in
       ap (λ xs. get_or xs j 0) is ∙ (get_or_push list v 0 j (size ∙ e) ∙ (here ∙ ap (walk next from) e)))
 ]
 
@@ -37,6 +37,5 @@ pub copied_all : {t : ForestTables} {hid : HiddenTables} → AreTied t hid → (
     × (get_or list k 0 ≡ v)
 copied_all {t} {hid} tied x low used list count each v l held =
     let p : (k : ℕ) × (k < get_or t.rank x 0) × (walk (λ i. get_or hid.following i 0) (get_or hid.first x 0) k ≡ v) =
-    listed_place (λ i. get_or hid.following i 0) (get_or hid.first x 0) (get_or t.rank x 0) v
-    ((tied.nest.members x low used).all v l ∙ held) in
-    (p.0, omega (arith, p.1, count), each p.0 p.1 ∙ p.2)
+    listed_place (λ i. get_or hid.following i 0) _ _ v ((tied.nest.members x low used).all v l ∙ held) in
+    (p.0, omega arith, each p.0 p.1 ∙ p.2)

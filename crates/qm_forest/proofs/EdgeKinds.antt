@@ -5,7 +5,7 @@ use Rattle.std.proofs.lemmas.Bool.{cases_Bool, cond-true, cond-false, eq-eqb}
 use Rattle.std.proofs.Common.{◌*ℤ◌, ◌≤ℤ◌, Option, is_some, ◌⊎◌, refl, sym, ◌∙◌, ap, subst, inl, inr, arith}
 use Rattle.std.specs.Prelude.{int_lt}
 use Rattle.def_matching.specs.Matching.{IsSmallGraph, WeightedGraph, edge_at}
-use Rattle.def_forest.specs.{Darts.darts_of, Darts.other_dart, Darts.far, Forests.Forest, Forests.weight_between}
+use Rattle.def_forest.specs.{Darts.darts_of, Darts.far, Forests.Forest, Forests.weight_between}
 use Rattle.def_forest.specs.{Forests.IsTight, Tables.edge_kind, Tables.kind_by, Tables.slack_of, Tables.outer_dart}
 use Rattle.def_forest.specs.{Tables.dart_by, Valid.IsFeasible, declared.kinds.Label.Label}
 use Rattle.def_forest.specs.declared.kinds.Label.TheVariants.{Outer}
@@ -14,7 +14,7 @@ use Rattle.def_forest.specs.declared.kinds.EdgeKind.TheVariants.{Loose, Augment}
 use Rattle.def_forest.specs.declared.kinds.EdgeKind.TheVariants.{Grow, Shrink}
 use Rattle.def_forest.specs.{declared.kinds.EdgeKind.TheVariants.Idle, Ways.Reaches}
 use Rattle.forest_laws.proofs.Facts.{tight_twin, far_twin}
-use Rattle.forest_laws.proofs.Graphs.{are_darts, twin_even, dart_near, dart_far, dart_cost}
+use Rattle.forest_laws.proofs.Graphs.{are_darts, near_odd, twin_even, dart_near, dart_far, dart_cost}
 use Rattle.forest_laws.proofs.Writes.{true_false}
 
 not_loose : (x : ℤ) → int_lt (pos 0) x ≡ false → x ≤ℤ pos 0
@@ -55,25 +55,6 @@ module _ {g : WeightedGraph} (is : IsSmallGraph g) {f : Forest} (feasible : IsFe
     | inr off ↦ (not_loose_tight off, sym (cond-false _ _ _ off) ∙ is_k)
   ]
 
-  -- The dart from the one end, and from the other.
-  from_u : IsTight (darts_of g) f first → f.label out_u ≡ Outer → f.label out_v
-      ≡ Outside → Reaches (darts_of g) f (2 * e)
-  from_u tight lu lv = record {
-    tight = tight;
-    outer = ap (λ v. f.label (f.out v)) (dart_near g e) ∙ lu;
-    off = ap (λ v. f.label (f.out v)) (dart_far g e) ∙ lv;
-  }
-
-  from_v : IsTight (darts_of g) f first → f.label out_u ≡ Outside → f.label out_v
-      ≡ Outer → Reaches (darts_of g) f (2 * e + 1)
-  from_v tight lu lv =
-      let d : other_dart (2 * e) ≡ 2 * e + 1 = twin_even (2 * e) (omega arith) in
-      subst (λ x. Reaches (darts_of g) f x) d (record {
-        tight = tight_twin (are_darts is.lawful) tight;
-        outer = ap (λ v. f.label (f.out v)) (dart_far g e) ∙ lv;
-        off = ap (λ v. f.label (f.out v)) (far_twin (are_darts is.lawful) (2 * e) ∙ dart_near g e) ∙ lu;
-      })
-
   -- What a dart to a blossom outside the tree reaches: a matched one, or one that is not.
   abbrev Leads : (some : Bool) → Type 0
   Leads some = Reaches (darts_of g) f (outer_dart g f e)
@@ -83,23 +64,17 @@ module _ {g : WeightedGraph} (is : IsSmallGraph g) {f : Forest} (feasible : IsFe
   far_second = ap (far (darts_of g)) (sym (twin_even (2 * e) (omega arith)))
       ∙ (far_twin (are_darts is.lawful) (2 * e) ∙ dart_near g e)
 
-  leads_u : {some : Bool} → IsTight (darts_of g) f first → f.label out_u ≡ Outer
-      → f.label out_v ≡ Outside → is_some (f.mate out_v) ≡ some → Leads some
-  leads_u tight lu lv m =
-      let d : outer_dart g f e ≡ 2 * e = ap (λ (l : Label). dart_by l e) lu in (
-        (rw d (from_u tight lu lv)),
-        ap (λ x. is_some (f.mate (f.out (far (darts_of g) x)))) d
-            ∙ (ap (λ v. is_some (f.mate (f.out v))) (dart_far g e) ∙ m),
-      )
-
-  leads_v : {some : Bool} → IsTight (darts_of g) f first → f.label out_u ≡ Outside
-      → f.label out_v ≡ Outer → is_some (f.mate out_u) ≡ some → Leads some
-  leads_v tight lu lv m =
-      let d : outer_dart g f e ≡ 2 * e + 1 = ap (λ (l : Label). dart_by l e) lu in (
-        (rw d (from_v tight lu lv)),
-        ap (λ x. is_some (f.mate (f.out (far (darts_of g) x)))) d ∙ (ap (λ v. is_some (f.mate (f.out v))) far_second
-            ∙ m),
-      )
+  leads : {some : Bool} (x : ℕ) {u v : ℕ} → (darts_of g).near x ≡ u → far (darts_of g) x ≡ v → outer_dart g f e ≡ x
+      → IsTight (darts_of g) f x → f.label (f.out u) ≡ Outer → f.label (f.out v) ≡ Outside
+      → is_some (f.mate (f.out v)) ≡ some → Leads some
+  leads x near_is far_is d tight outer off m = (
+    rw d (record {
+      tight = tight;
+      outer = ap (λ v. f.label (f.out v)) near_is ∙ outer;
+      off = ap (λ v. f.label (f.out v)) far_is ∙ off;
+    }),
+    ap (λ x. is_some (f.mate (f.out (far (darts_of g) x)))) d ∙ (ap (λ v. is_some (f.mate (f.out v))) far_is ∙ m),
+  )
 
   -- An edge by which the tree grows, or the matching, by whether the blossom outside the tree is matched.
   abbrev reaching : (some : Bool) → EdgeKind
@@ -125,10 +100,12 @@ module _ {g : WeightedGraph} (is : IsSmallGraph g) {f : Forest} (feasible : IsFe
 
   reaches : (some : Bool) → reaching some ≢ Loose → edge_kind g f e ≡ reaching some → Leads some
   reaches some ne k =
-      let p : IsTight (darts_of g) f first × (by_labels ≡ reaching some) = tight_kind ne k in
+      let p = tight_kind ne k in
       elim (reach_labels some (f.label out_u) (f.label out_v) (f.mate out_u) (f.mate out_v) (eqb out_u out_v) p.1) [
-        | inl w ↦ leads_u p.0 w.0 w.1 w.2
-        | inr w ↦ leads_v p.0 w.0 w.1 w.2
+        | inl w ↦ leads (2 * e) (dart_near g e) (dart_far g e) (ap (λ (l : Label). dart_by l e) w.0) p.0 w.0 w.1 w.2
+        | inr w ↦ leads (2 * e + 1) (near_odd g (2 * e + 1) e refl) far_second (ap (λ (l : Label). dart_by l e) w.0)
+            (subst (IsTight (darts_of g) f) (twin_even (2 * e) (omega arith)) (tight_twin (are_darts is.lawful) p.0))
+            w.1 w.0 w.2
       ]
 
   pub grows : edge_kind g f e ≡ Grow → Leads true

@@ -1,6 +1,6 @@
 -- Climbing after a row of outermost blossoms got a set around them.
 use Rattle.std.proofs.Common.{◌≡◌, ◌≢◌, ℕ, zero, suc, ◌+◌, ◌<◌, ◌≤◌, Bool, true, false, cond, eqb, ◌||◌, refl, sym}
-use Rattle.std.proofs.Common.{◌∙◌, ap, inl, inr, arith}
+use Rattle.std.proofs.Common.{◌∙◌, ap, subst, inl, inr, arith}
 use Rattle.std.proofs.Math.Bool.{or-false}
 use Rattle.std.proofs.lemmas.Bool.{cases_eq, cases_Bool, eq-eqb, ne_eqb}
 use Rattle.def_forest.specs.{Forests.walk, Tables.climbs}
@@ -62,94 +62,67 @@ module _ {n : ℕ} {up out rank up2 : ℕ → ℕ} {inside : ℕ → Bool} {b : 
   climbs_higher v x l w inner =
       omega (arith, rises x inner, rank_low rank climb rises v (up x) l (goes_on rank climb rises v x w))
 
-  -- Where one stayed one goes on to the new set, or stays.
-  reach_top : (v : ℕ) {x : ℕ} (m : ℕ) → v < n → On v x → up x ≡ x → walk up2 x (suc m) ≡ fresh v
-  reach_top v {x} m l w top = elim (cases_Bool (inside (out v))) [
-    | inl on ↦ rw (on, walk_front up2 x m, up_in x (ap inside x_is ∙ on)) (walk_fixed up2 m up_b)
-    | inr off ↦ rw off (walk_fixed up2 (suc m) (up_off x (ap inside x_is ∙ off) ∙ top) ∙ x_is)
-  ]
+  -- What holds where one stays, and a step before where it holds, holds of the way from a vertex.
+  climbing : (P : ℕ → ℕ → Type 0) (v : ℕ) → v < n → ((m x : ℕ) → On v x → up x ≡ x → P (suc m) x)
+      → ((m x : ℕ) → On v x → up x ≢ x → P (suc m) (up x) → P (suc (suc m)) x) → P n v
+  climbing P v l top step = by_size n refl
     where
-      x_is : x ≡ out v
-      x_is = fixed_top rank climb rises v l w top
+      from : (m x : ℕ) → On v x → rank (out v) ≤ rank x + m → P (suc m) x
+      from zero x w h = elim (cases_eq (up x) x) [
+        | inl at ↦ top 0 x w at
+        | inr inner ↦ absurd (omega (arith, climbs_higher v x l w inner))
+      ]
+      from (suc m) x w h =
+          let more = from m (up x) (goes_on rank climb rises v x w) in
+          elim (cases_eq (up x) x)
+          [ inl at ↦ top (suc m) x w at | inr inner ↦ step m x w inner (more (omega (arith, rises x inner))) ]
 
-  reach : (m v x : ℕ) → v < n → On v x → rank (out v) ≤ rank x + m → walk up2 x (suc m) ≡ fresh v
-  reach zero v x l w h = elim (cases_eq (up x) x) [
-    | inl top ↦ reach_top v 0 l w top
-    | inr inner ↦ absurd (omega (arith, h, climbs_higher v x l w inner))
-  ]
-  reach (suc m) v x l w h = elim (cases_eq (up x) x) [
-    | inl top ↦ reach_top v (suc m) l w top
-    | inr inner ↦ walk_front up2 x (suc m) ∙ (ap (λ z. walk up2 z (suc m)) (up_off x (off_inner x inner))
-        ∙ reach m v (up x) l (goes_on rank climb rises v x w) (omega (arith, h, rises x inner)))
-  ]
+      by_size : (k : ℕ) → k ≡ n → P n v
+      by_size zero e = absurd (omega arith)
+      by_size (suc m) e = subst (λ k. P k v) e (from m v (0, refl) (omega (arith, few v l, ones v l)))
+
+  -- Where one stayed one goes on to the new set, or stays.
+  reach_top : (v : ℕ) → v < n → (m x : ℕ) → On v x → up x ≡ x → walk up2 x (suc m) ≡ fresh v
+  reach_top v l m x w top =
+      let x_is = fixed_top rank climb rises v l w top in
+      elim (cases_Bool (inside (out v))) [
+        | inl on ↦ rw (on, walk_front up2 x m, up_in x (ap inside x_is ∙ on)) (walk_fixed up2 m up_b)
+        | inr off ↦ rw off (walk_fixed up2 (suc m) (up_off x (ap inside x_is ∙ off) ∙ top) ∙ x_is)
+      ]
 
   -- One comes to the new set, or to where one came.
   pub climb_enclosed : IsClimb n up2 fresh
   climb_enclosed = record {
-    ends = λ v l. ends v l n refl;
+    ends = λ v l. climbing (λ k x. walk up2 x k ≡ fresh v) v l (reach_top v l) (λ m x w inner more.
+        walk_front up2 x (suc m) ∙ (ap (λ z. walk up2 z (suc m)) (up_off x (off_inner x inner)) ∙ more));
     tops = λ v l. elim (cases_Bool (inside (out v))) [
       | inl on ↦ rw on up_b
       | inr off ↦ rw (off, up_off (out v) off) (climb.tops v l)
     ];
   }
-    where
-      ends : (v : ℕ) → v < n → (k : ℕ) → k ≡ n → walk up2 v n ≡ fresh v
-      ends v l zero e = absurd (omega (arith, l, e))
-      ends v l (suc m) e = ap (walk up2 v) (sym e) ∙ reach m v v l (0, refl) (omega (arith, few v l, ones v l, e))
 
   -- One comes past the same old blossoms.
   past_top : (m : ℕ) {x : ℕ} (c : ℕ) → c ≢ b → up x ≡ x → climbs up2 (suc m) c x ≡ climbs up (suc m) c x
   past_top m {x} c ne top = elim (cases_Bool (inside x)) [
     | inl on ↦ rw (up_in x on, top, climbs_self up2 m c up_b, ne_eqb b c (λ e. ne (sym e)), climbs_self up m c top)
-        (or-false (eqb x c) ∙ sym (or_twice (eqb x c)))
+        (or-false (eqb x c) ∙ sym (or_twice _))
     | inr off ↦ rw (up_off x off, top, climbs_self up2 m c (up_off x off ∙ top), climbs_self up m c top)
   ]
 
-  same_past : (m v x c : ℕ) → c ≢ b → v < n → On v x → rank (out v) ≤ rank x + m → climbs up2 (suc m) c x
-      ≡ climbs up (suc m) c x
-  same_past zero v x c ne l w h = elim (cases_eq (up x) x) [
-    | inl top ↦ past_top 0 c ne top
-    | inr inner ↦ absurd (omega (arith, h, climbs_higher v x l w inner))
-  ]
-  same_past (suc m) v x c ne l w h = elim (cases_eq (up x) x) [
-    | inl top ↦ past_top (suc m) c ne top
-    | inr inner ↦ rw (up_off x (off_inner x inner)) (ap (λ (s : Bool). eqb x c || s)
-        (same_past m v (up x) c ne l (goes_on rank climb rises v x w) (omega (arith, h, rises x inner))))
-  ]
-
   pub holds_same : (c v : ℕ) → c ≢ b → v < n → climbs up2 n c v ≡ climbs up n c v
-  holds_same c v ne l = by_size n refl
-    where
-      by_size : (k : ℕ) → k ≡ n → climbs up2 n c v ≡ climbs up n c v
-      by_size zero e = absurd (omega (arith, l, e))
-      by_size (suc m) e = rw (← e) (same_past m v v c ne l (0, refl) (omega (arith, few v l, ones v l, e)))
+  holds_same c v ne l = climbing (λ k x. climbs up2 k c x ≡ climbs up k c x) v l (λ m x w top. past_top m c ne top)
+      (λ m x w inner more. rw (up_off x (off_inner x inner)) (ap (λ (s : Bool). eqb x c || s) more))
 
   -- And past the new set from the vertices of the row.
   new_top : (m v : ℕ) {x : ℕ} → v < n → On v x → up x ≡ x → climbs up2 (suc m) b x ≡ inside (out v)
-  new_top m v {x} l w top = rw (ne_eqb x b (on_way_ne v x l w)) (elim (cases_Bool (inside (out v))) [
-    | inl on ↦ rw (up_in x (ap inside x_is ∙ on), on) (climbs_here up2 m b)
-    | inr off ↦ rw (up_off x (ap inside x_is ∙ off), top, off)
-        (climbs_self up2 m b (up_off x (ap inside x_is ∙ off) ∙ top) ∙ ne_eqb x b (on_way_ne v x l w))
-  ])
-    where
-      x_is : x ≡ out v
-      x_is = fixed_top rank climb rises v l w top
-
-  new_past : (m v x : ℕ) → v < n → On v x → rank (out v) ≤ rank x + m → climbs up2 (suc m) b x ≡ inside (out v)
-  new_past zero v x l w h = elim (cases_eq (up x) x) [
-    | inl top ↦ new_top 0 v l w top
-    | inr inner ↦ absurd (omega (arith, h, climbs_higher v x l w inner))
-  ]
-  new_past (suc m) v x l w h = elim (cases_eq (up x) x) [
-    | inl top ↦ new_top (suc m) v l w top
-    | inr inner ↦ rw (ne_eqb x b (on_way_ne v x l w), up_off x (off_inner x inner))
-        (new_past m v (up x) l (goes_on rank climb rises v x w) (omega (arith, h, rises x inner)))
-  ]
+  new_top m v {x} l w top =
+      let x_is = fixed_top rank climb rises v l w top in
+      rw (ne_eqb x b (on_way_ne v x l w)) (elim (cases_Bool (inside (out v))) [
+        | inl on ↦ rw (up_in x (ap inside x_is ∙ on), on) (climbs_here up2 m b)
+        | inr off ↦ rw (up_off x (ap inside x_is ∙ off), top, off)
+            (climbs_self up2 m b (up_off x (ap inside x_is ∙ off) ∙ top) ∙ ne_eqb x b (on_way_ne v x l w))
+      ])
 
   pub holds_new : (v : ℕ) → v < n → climbs up2 n b v ≡ inside (out v)
-  holds_new v l = by_size n refl
-    where
-      by_size : (k : ℕ) → k ≡ n → climbs up2 n b v ≡ inside (out v)
-      by_size zero e = absurd (omega (arith, l, e))
-      by_size (suc m) e = ap (λ k. climbs up2 k b v) (sym e)
-          ∙ new_past m v v l (0, refl) (omega (arith, few v l, ones v l, e))
+  holds_new v l = climbing (λ k x. climbs up2 k b x ≡ inside (out v)) v l (λ m x w top. new_top m v l w top)
+      (λ m x w inner more. rw (ne_eqb x b (on_way_ne v x l w), up_off x (off_inner x inner)) more)

@@ -1,5 +1,5 @@
 -- Expanding, step by step: what each of its calls needs, and the forest after all of them.
-use Rattle.std.proofs.Common.{◌≡◌, ◌≢◌, ℕ, ◌*◌, ◌<◌, ◌≤◌, Bool, true, length, Option}
+use Rattle.std.proofs.Common.{◌≡◌, ◌≢◌, ℕ, ◌*◌, ◌<◌, ◌≤◌, Bool, true, length}
 use Rattle.std.proofs.Common.{Some, None, refl, sym, ◌∙◌, ap, subst, inl, inr}
 use Rattle.def_matching.specs.Matching.{WeightedGraph}
 use Rattle.def_forest.specs.{Darts.Darts, Darts.darts_of, Forests.Forest, Forests.walk, Opened.IsExpanding}
@@ -11,7 +11,7 @@ use Rattle.forest_laws.proofs.{Circles.IsCircle, ExpandedTrees.opened_valid}
 use Rattle.qm_forest.specs.{Parts.HasOpened, Parts.IsCourse, Parts.IsParted, Parts.hung, Parts.paired, Ties.fixed_of}
 use Rattle.qm_forest.specs.{Ties.HasSameNest, Ties.labelled, Ties.linked, Ties.mated, declared.expanding.Course.Course}
 use Rattle.qm_forest.proofs.{Leavings.outermost_kept, OnWays.valid_as}
-use Rattle.qm_forest.proofs.{Openeds.expanding, Openeds.laid, Openings.CanOpen, Openings.IsJoined, Openings.are}
+use Rattle.qm_forest.proofs.{Openeds.expanding, Openeds.laid, Openings.CanOpen, Openings.are}
 use Rattle.qm_forest.proofs.Openings.{inside as the_inside}
 use Rattle.qm_forest.proofs.Openings.{in_tree, joined, mate_is, part_low, ring_from}
 use Rattle.qm_forest.proofs.Openings.{first_in, last_in, tree_is}
@@ -19,8 +19,7 @@ use Rattle.qm_forest.proofs.Openings.{first_in, last_in, tree_is}
 module _ {g : WeightedGraph} {t0 : ForestTables} {b : ℕ} (ready : CanOpen g t0 b) where
   -- The set is matched, and its darts are darts of the graph.
   pub matched : (forest_of t0).mate b ≢ None
-  matched none = (let clash : ◌≡◌ {A = Option ℕ} (Some (in_tree ready).dart) None =
-      sym (in_tree ready).mate ∙ none in absurd (cc clash))
+  matched none = absurd (cc ((in_tree ready).mate, none))
 
   mate_dart_is : {x : ℕ} → x ≡ dart_or ((forest_of t0).mate b) → x ≡ (in_tree ready).dart
   mate_dart_is e = e ∙ ap dart_or (in_tree ready).mate
@@ -62,18 +61,17 @@ module _ {g : WeightedGraph} {t0 t2 : ForestTables} {b mate link first last many
 
   parted : IsParted g.n (mated (labelled f0 b Outside) b None) f2
       (listed f0.nest.after (f0.nest.head b) (f0.nest.parts b)) b
-  parted = rw (ap length opened.same.hand ∙ valid.vertices) at (subst (λ (x : Forest).
-      IsParted (length opened.left.hand) x f2 (listed x.nest.after (x.nest.head b) (x.nest.parts b)) b)
-      opened.gone opened.is)
+  parted = rw (ap length opened.same.hand ∙ valid.vertices) at (subst (λ (x : Forest). IsParted
+      (length opened.left.hand) x f2 (listed x.nest.after (x.nest.head b) (x.nest.parts b)) b) opened.gone opened.is)
 
   abbrev inside : ℕ → Bool
   inside = the_inside ready
 
   part_top : (x : ℕ) → inside x ≡ true → IsOutermostIn t2 x
   part_top x on =
-      let j : IsJoined ready f2.out f2.nest.after f2.nest.joint x = joined ready parted x on in (
-        d.near (f2.nest.joint x),
-        vertex_low ready opened (d.near (f2.nest.joint x)) (f2.nest.joint x) refl j.tight.low,
+      let j = joined ready parted x on in (
+        d.near _,
+        vertex_low ready opened _ _ refl j.tight.low,
         j.near_part,
       )
 
@@ -102,7 +100,7 @@ module _ {g : WeightedGraph} {t0 t2 : ForestTables} {b mate link first last many
   some = rw many_is (circle_at first first_marked).some
 
   pub places_low : (k : ℕ) → k < many → walk f2.nest.after first k < length t2.up
-  places_low k l = low2 (walk f2.nest.after first k) ((circle_at first first_marked).marked k)
+  places_low k l = low2 _ ((circle_at first first_marked).marked k)
 
   -- The parts are matched.
   module _ {t3 : ForestTables} (seen3 : forest_of t3 ≡ mated (paired f2 first many) first (Some mate))
@@ -113,43 +111,27 @@ module _ {g : WeightedGraph} {t0 t2 : ForestTables} {b mate link first last many
     at3 : (x k : ℕ) → walk (forest_of t3).nest.after x k ≡ walk f2.nest.after x k
     at3 x k = ap (λ (h : ℕ → ℕ). walk h x k) after3
 
-    up3 : length t3.up ≡ length t2.up
-    up3 = ap length same3.up
-
     pub reached3 : (k : ℕ) × (k < many) × (walk (forest_of t3).nest.after first k ≡ last)
-    reached3 = (let w : (k : ℕ) × (k < f0.nest.parts b) × (walk f2.nest.after first k ≡ last) =
-        (circle_at first first_marked).all last last_marked in
-        (w.0, subst (λ n. w.0 < n) (sym many_is) w.1, at3 first w.0 ∙ w.2))
-
-    low_from : (x : ℕ) → inside x ≡ true → (k : ℕ) → walk (forest_of t3).nest.after x k < length t3.up
-    low_from x on k = rw (up3, at3 x k) (low2 (walk f2.nest.after x k) ((circle_at x on).marked k))
+    reached3 = let w = (circle_at first first_marked).all last last_marked in
+        (w.0, subst (λ n. w.0 < n) (sym many_is) w.1, at3 first w.0 ∙ w.2)
 
     -- And hung into the tree.
     module _ {course : Course} (way : IsCourse (forest_of t3).nest.after first last many course) where
       front_marked : inside course.front ≡ true
-      front_marked = elim way.way [
-        | inl w ↦ ap inside w.1 ∙ first_marked
-        | inr w ↦ ap inside w.1 ∙ last_marked
-      ]
+      front_marked = elim way.way [ inl w ↦ ap inside w.1 ∙ first_marked | inr w ↦ ap inside w.1 ∙ last_marked ]
 
       pub tops3 : (k : ℕ) → k < course.many → IsOutermostIn t3 (walk (forest_of t3).nest.after course.front k)
-      tops3 k l = outermost_kept same3 (at3 course.front k)
-          (part_top (walk f2.nest.after course.front k) ((circle_at course.front front_marked).marked k))
+      tops3 k l = outermost_kept same3 (at3 _ k) (part_top _ ((circle_at _ front_marked).marked k))
 
-      way2 : IsCourse f2.nest.after (f2.out (d.near (in_tree ready).dart)) (f2.out (d.near (f0.link b)))
-          (f0.nest.parts b) course
-      way2 = rw (after3, first_is, last_is, many_is) at way
-
-      module _ {f6 : Forest} (t4 : ForestTables) (seen4 : forest_of t4
-          ≡ hung (forest_of t3) course.front course.many course.forward) (seen6 : f6
-          ≡ linked (forest_of t4) last link) where
+      module _ {f6 : Forest} (t4 : ForestTables) (seen4 : forest_of t4 ≡ hung (forest_of t3) course.front course.many
+          course.forward) (seen6 : f6 ≡ linked (forest_of t4) last link) where
         done : f6 ≡ laid ready parted course.front course.many course.forward
         done = seen6 ∙ (ap (λ (f : Forest). linked f last link)
             (seen4 ∙ ap (λ (f : Forest). hung f course.front course.many course.forward) seen3)
             ∙ rw (first_is, many_is, m_is, last_is, link_is))
 
         pub expanded : IsExpanding d f0 f6 b
-        expanded = expanding ready parted way2 done
+        expanded = expanding ready parted (rw (after3, first_is, last_is, many_is) at way) done
 
         abbrev tree : (r : ℕ) × (t0.root ≡ Some r) × IsTree d f0 r
         tree = tree_is ready

@@ -1,11 +1,11 @@
 -- The tables after a ring of outermost blossoms was gathered into a set.
-use Rattle.std.proofs.Common.{◌≡◌, ◌≢◌, ℕ, suc, ◌-◌, ◌<◌, ◌≤◌, Bool, true, false, cond, eqb, List, length, get_or}
-use Rattle.std.proofs.Common.{pos, ◌⊎◌, Option, Some, None, refl, sym, ◌∙◌, ap, subst, inl, inr}
+use Rattle.std.proofs.Common.{◌≡◌, ◌≢◌, ℕ, suc, ◌-◌, ◌<◌, Bool, true, false, cond, eqb, List, length, get_or}
+use Rattle.std.proofs.Common.{pos, Option, Some, None, refl, sym, ◌∙◌, ap, subst, inl, inr}
 use Rattle.std.proofs.Common.{length-set, get_or-set_same, get_or-set_other, arith}
 use Rattle.std.proofs.Math.ListN.{set}
 use Rattle.std.proofs.lemmas.Int.{ints}
 use Rattle.std.proofs.lemmas.Bool.{cases_eq, cases_Bool, cond-true, cond-false, eq-eqb, ne_eqb}
-use Rattle.def_forest.specs.Forests.{walk, ring_sum, set_at}
+use Rattle.def_forest.specs.Forests.{walk, ring_sum}
 use Rattle.def_forest.specs.Tables.{ForestTables, forest_of, climbs, label_at, out_of, up_at}
 use Rattle.def_forest.specs.declared.kinds.Label.TheVariants.{Outside}
 use Rattle.forest_laws.specs.Walks.{listed}
@@ -19,7 +19,8 @@ use Rattle.qm_forest.specs.{declared.forest.Forest.TheInside.Inside, declared.ta
 use Rattle.qm_forest.specs.{declared.tables.Lists.Lists, declared.tables.Rings.Rings}
 use Rattle.qm_forest.proofs.Enclosed.{Enclosing, climb_enclosed, holds_new, holds_same}
 use Rattle.qm_forest.proofs.GatheredRows.{FreeRow, alone, b_off, b_outside, big_in, handle_at, handle_top, in_row_out}
-use Rattle.qm_forest.proofs.GatheredRows.{lasts_differ, no_out, own_handle, own_list, row_ended, row_list, row_outside}
+use Rattle.qm_forest.proofs.GatheredRows.{lasts_differ, no_out, row_used, own_handle}
+use Rattle.qm_forest.proofs.GatheredRows.{own_list, row_ended, row_list, row_outside}
 use Rattle.qm_forest.proofs.GatheredRows.{row_top, unused}
 use Rattle.qm_forest.proofs.Insides.{seen_in, hidden_in}
 use Rattle.qm_forest.proofs.JoinedLists.{list_agrees, list_has_last, list_last, list_member, list_renamed, row_joined}
@@ -86,7 +87,7 @@ module _ {s : Inside} {h2 : Handles} {l2 : Lists} {r2 : Rings} {pool2 : List (Op
   up2 = up_at r2.up.items
 
   ups : (x : ℕ) → up2 x ≡ cond (inside x) b (up_at t.up x)
-  ups x = ap (λ (f : ℕ → ℕ). f x) enclosed.up ∙ writes_all (up_at t.up) (λ i. get_or t.after i 0) front many b x
+  ups x = ap (λ (f : ℕ → ℕ). f x) enclosed.up ∙ writes_all _ (λ i. get_or t.after i 0) front many b x
 
   enclosing : Enclosing n (up_at t.up) out rank up2 inside b
   enclosing = record {
@@ -133,7 +134,7 @@ module _ {s : Inside} {h2 : Handles} {l2 : Lists} {r2 : Rings} {pool2 : List (Op
   at_old xs x is y ne = ap (λ zs. get_or zs y 0) is ∙ get_or-set_other xs b y x 0 ne
 
   leader_b : get_or (set hid.leader b handle) b 0 ≡ handle
-  leader_b = at_new hid.leader handle refl tied.sizes.leader
+  leader_b = at_new _ handle refl tied.sizes.leader
 
   rank_b : get_or l2.rank.items b 0 ≡ total
   rank_b = at_new _ _ joined.rank tied.sizes.rank
@@ -165,15 +166,14 @@ module _ {s : Inside} {h2 : Handles} {l2 : Lists} {r2 : Rings} {pool2 : List (Op
 
   -- Each old list stays.
   next_off : (v : ℕ) → ((k : ℕ) → suc k < many → last (at k) ≢ v) → next2 v ≡ get_or hid.following v 0
-  next_off v off = ap (λ (f : ℕ → ℕ). f v) joined.following
-      ∙ writes_off (λ i. get_or hid.following i 0) (λ j. last (at j)) (λ j. first (at (suc j))) (many - 1) v
-      (λ k lk. off k (omega (arith, lk)))
+  next_off v off = ap (λ (f : ℕ → ℕ). f v) joined.following ∙ writes_off (λ i. get_or hid.following i 0)
+      (λ j. last (at j)) (λ j. first (at (suc j))) (many - 1) v (λ k lk. off k (omega (arith, lk)))
 
   old_next : (y : ℕ) → y < length t.up → IsInUse n t.parts y → (k : ℕ) → suc k < rank y
       → next2 (walk (λ i. get_or hid.following i 0) (first y) k)
       ≡ walk (λ i. get_or hid.following i 0) (first y) (suc k)
   old_next y ly used k lk = next_off (walk (λ i. get_or hid.following i 0) (first y) k)
-      (λ j lj same. row_ended free j y k (omega (arith, lj)) ly used lk (sym same))
+      (λ j lj same. row_ended free j y k (omega arith) ly used lk (sym same))
 
   old_list : (y : ℕ) → y < length t.up → IsInUse n t.parts y → IsListed n next2 (first y) (last y) (rank y)
       (climbs (up_at t.up) n y)
@@ -181,7 +181,7 @@ module _ {s : Inside} {h2 : Handles} {l2 : Lists} {r2 : Rings} {pool2 : List (Op
 
   old_walk : (y k : ℕ) → y < length t.up → IsInUse n t.parts y → k < rank y → walk next2 (first y) k
       ≡ walk (λ i. get_or hid.following i 0) (first y) k
-  old_walk y k ly used = walk_agrees _ next2 (first y) (rank y) (old_next y ly used) k
+  old_walk y k ly used = walk_agrees _ next2 _ _ (old_next y ly used) k
 
   -- The joined list.
   next_at : (k : ℕ) → suc k < many → next2 (last (at k)) ≡ first (at (suc k))
@@ -191,20 +191,13 @@ module _ {s : Inside} {h2 : Handles} {l2 : Lists} {r2 : Rings} {pool2 : List (Op
 
   new_list : IsListed n next2 (first front) (last (at (many - 1))) total (λ v. inside (out v))
   new_list =
-      let whole : suc (many - 1) ≡ many = omega (arith, ring.two) in
+      let whole : suc (many - 1) ≡ many = omega arith in
       subst (λ m. IsListed n next2 (first front) (last (at (many - 1)))
       (ring_sum (λ i. get_or t.after i 0) rank front m) (λ v. listed (λ i. get_or t.after i 0) front m (out v))) whole
       (row_joined n next2 (λ i. get_or t.after i 0) first last rank front many out ring.row.distinct
       (λ k lk. list_agrees next2 (own_list free k lk) (λ j lj. next_off _
-      (λ i li same. apart i k j (omega (arith, li)) lk lj (sym same)))) next_at (many - 1) (omega (arith, ring.two)))
-    where
-      apart : (i k j : ℕ) → i < many → k < many → suc j < rank (at k)
-          → walk (λ m. get_or hid.following m 0) (first (at k)) j ≢ last (at i)
-      apart i k j li lk = row_ended free i (at k) j li (ring.row.low k lk) (used k lk)
-        where
-          used : (k : ℕ) → k < many → IsInUse n t.parts (at k)
-          used k lk = let v : (v : ℕ) × (v < n) × (out v ≡ at k) = ring.tops k lk in
-              subst (IsInUse n t.parts) v.2 (out_used tied.nest v.0 v.1)
+      (λ i li same. row_ended free i (at k) j (omega arith) (ring.row.low k lk)
+      (row_used free k lk) lj (sym same)))) next_at _ (omega arith))
 
   row_rank : (x : ℕ) → inside x ≡ true → rank x < total
   row_rank x on =
@@ -215,13 +208,9 @@ module _ {s : Inside} {h2 : Handles} {l2 : Lists} {r2 : Rings} {pool2 : List (Op
   within : (x k : ℕ) → x < length t.up → IsInUse n t.parts x → k < total → walk next2 (first front) k ≡ last x
       → rank x < total
   within x k lx used lk same =
-      let mine : (last x < n) × (climbs (up_at t.up) n x (last x) ≡ true) =
-      list_has_last (tied.nest.members x lx used) in
-      omega (
-        arith,
-        rank_passed tied.nest (last x) x mine.0 mine.1,
-        row_rank (out (last x)) (rw same at (list_member new_list k lk)),
-      )
+      let mine = list_has_last (tied.nest.members x lx used) in
+      (let low = rank_passed tied.nest _ x mine.0 mine.1 in
+      omega (arith, row_rank _ (rw same at (list_member new_list k lk))))
 
   nest_new : IsLaidOut n (length t.up) h2.hand.items (set t.top handle b) r2.up.items l2.rank.items r2.parts.items
       (set hid.leader b handle) l2.first.items l2.last.items l2.following.items
@@ -264,72 +253,58 @@ module _ {s : Inside} {h2 : Handles} {l2 : Lists} {r2 : Rings} {pool2 : List (Op
       | inr ne ↦ rw (first_old x ne, last_old x ne, rank_old x ne)
           (list_renamed _ (old_list x lx (still_used x ne used)) (λ v lv. sym (holds_old x v ne lv)))
     ];
-    ended = λ x y k lx ly ux uy lk same. ended x y k lx ly ux uy lk same (cases_eq x b) (cases_eq y b);
-    idle = λ x hx none. idle x hx none (cases_eq x b) (cases_Bool (inside x));
-    around = λ x inner. around x inner (cases_Bool (inside x));
+    ended = λ x y k lx ly ux uy lk same. elim (cases_eq y b) [
+      | inl yb ↦ elim (cases_eq x b) [
+        | inl xb ↦ (let p = list_last total new_list in
+            absurd (new_list.distinct k p.0 (omega (arith, rw (yb, rank_b) at lk, p.1)) (omega (arith, p.1))
+            ((rw (yb, xb, first_b, last_b) at same) ∙ sym p.2)))
+        | inr nx ↦ rw (yb, rank_b, rank_old x nx) (within x k lx (still_used x nx ux)
+            (omega (arith, rw (yb, rank_b) at lk)) (rw (yb, first_b, last_old x nx) at same))
+      ]
+      | inr ny ↦ (let few : suc k < rank y = rw (rank_old y ny) at lk in
+          let uy = still_used y ny uy in
+          let came = sym (old_walk y k ly uy (omega (arith, few))) in
+          elim (cases_eq x b) [
+            | inl xb ↦ absurd (row_ended free (many - 1) y k (omega (arith, ring.two)) ly uy few
+                (came ∙ (rw (xb, first_old y ny, last_b) at same)))
+            | inr nx ↦ rw (rank_old x nx, rank_old y ny) (tied.nest.ended x y k lx ly (still_used x nx ux) uy few
+                (came ∙ (rw (first_old y ny, last_old x nx) at same)))
+          ])
+    ];
+    idle = λ x hx none. elim (cases_eq x b) [
+      | inl same ↦ absurd (omega (arith, ring.two, parts_b, rw same at none))
+      | inr ne ↦ elim (cases_Bool (inside x)) [
+        | inl on ↦ (let v = in_row_out free x on in elim (subst (IsInUse n t.parts) v.2 (out_used tied.nest v.0 v.1)) [
+          | inl lx ↦ absurd (omega (arith, lx, hx))
+          | inr live ↦ absurd (live (sym (parts_old x ne) ∙ none))
+        ])
+        | inr off ↦ rw (ups x, off) (tied.nest.idle x hx (sym (parts_old x ne) ∙ none))
+      ]
+    ];
+    around = λ x inner. elim (cases_Bool (inside x)) [
+      | inl on ↦ rw (ups x, on) (high, (λ none. absurd (omega (arith, ring.two, parts_b, none))))
+      | inr off ↦ (let is : up2 x ≡ up_at t.up x = ups x ∙ cond-false _ _ _ off in
+          let was = tied.nest.around x (λ s. inner (is ∙ s)) in
+          rw (is, parts_old (up_at t.up x) (λ s. was.1 (ap (λ y. get_or t.parts y 0) s ∙ dead))) was)
+    ];
     rises = λ x inner. elim (cases_Bool (inside x)) [
-      | inl on ↦ rw (ups x, on, rank_b, rank_old x (in_ne x on)) (row_rank x on)
-      | inr off ↦
-          (let is : up2 x ≡ up_at t.up x = ups x ∙ cond-false _ _ _ off in
+      | inl on ↦ rw (ups x, on, rank_b, rank_old x (λ same. true_false (ap inside (sym same) ∙ on) (b_off free)))
+          (row_rank x on)
+      | inr off ↦ (let is : up2 x ≡ up_at t.up x = ups x ∙ cond-false _ _ _ off in
           let ne : x ≢ b = λ same. inner (rw same (ups b ∙ (cond-false _ _ _ (b_off free) ∙ alone free))) in
           rw (is, rank_old x ne, rank_old (up_at t.up x) (unused free x ne)) (tied.nest.rises x (λ s. inner (is ∙ s))))
     ];
   }
-    where
-      in_ne : (x : ℕ) → inside x ≡ true → x ≢ b
-      in_ne x on same = true_false (ap inside (sym same) ∙ on) (b_off free)
-
-      ended : (x y k : ℕ) → x < length t.up → y < length t.up → IsInUse n r2.parts.items x → IsInUse n r2.parts.items y
-          → suc k < get_or l2.rank.items y 0 → walk next2 (get_or l2.first.items y 0) k ≡ get_or l2.last.items x 0
-          → (x ≡ b) ⊎ (x ≢ b) → (y ≡ b) ⊎ (y ≢ b) → get_or l2.rank.items x 0 < get_or l2.rank.items y 0
-      ended x y k lx ly ux uy lk same (inl xb) (inl yb) =
-          let p : (j : ℕ) × (suc j ≡ total) × (walk next2 (first front) j ≡ last (at (many - 1))) =
-          list_last total new_list in
-          absurd (new_list.distinct k p.0 (omega (arith, rw (yb, rank_b) at lk, p.1)) (omega (arith, p.1))
-          ((rw (yb, xb, first_b, last_b) at same) ∙ sym p.2))
-      ended x y k lx ly ux uy lk same (inr nx) (inl yb) =
-          rw (yb, rank_b, rank_old x nx) (within x k lx (still_used x nx ux) (omega (arith, rw (yb, rank_b) at lk))
-          (rw (yb, first_b, last_old x nx) at same))
-      ended x y k lx ly ux uy lk same (inl xb) (inr ny) =
-          let few : suc k < rank y = rw (rank_old y ny) at lk in
-          absurd (row_ended free (many - 1) y k (omega (arith, ring.two)) ly (still_used y ny uy) few
-          (sym (old_walk y k ly (still_used y ny uy) (omega (arith, few))) ∙ (rw (xb, first_old y ny, last_b) at same)))
-      ended x y k lx ly ux uy lk same (inr nx) (inr ny) =
-          let few : suc k < rank y = rw (rank_old y ny) at lk in
-          rw (rank_old x nx, rank_old y ny) (tied.nest.ended x y k lx ly (still_used x nx ux) (still_used y ny uy) few
-          (sym (old_walk y k ly (still_used y ny uy) (omega (arith, few)))
-          ∙ (rw (first_old y ny, last_old x nx) at same)))
-
-      idle : (x : ℕ) → n ≤ x → get_or r2.parts.items x 0 ≡ 0 → (x ≡ b) ⊎ (x ≢ b)
-          → (inside x ≡ true) ⊎ (inside x ≡ false) → up2 x ≡ x
-      idle x hx none (inl same) y = absurd (omega (arith, ring.two, parts_b, rw same at none))
-      idle x hx none (inr ne) (inl on) =
-          let v : (v : ℕ) × (v < n) × (out v ≡ x) = in_row_out free x on in
-          elim (subst (IsInUse n t.parts) v.2 (out_used tied.nest v.0 v.1)) [
-            | inl lx ↦ absurd (omega (arith, lx, hx))
-            | inr live ↦ absurd (live (sym (parts_old x ne) ∙ none))
-          ]
-      idle x hx none (inr ne) (inr off) = rw (ups x, off) (tied.nest.idle x hx (sym (parts_old x ne) ∙ none))
-
-      around : (x : ℕ) → up2 x ≢ x → (inside x ≡ true) ⊎ (inside x ≡ false) → (n ≤ up2 x)
-          × (get_or r2.parts.items (up2 x) 0 ≢ 0)
-      around x inner (inl on) = rw (ups x, on) (high, (λ none. absurd (omega (arith, ring.two, parts_b, none))))
-      around x inner (inr off) =
-          let is : up2 x ≡ up_at t.up x = ups x ∙ cond-false _ _ _ off in
-          let was : (n ≤ up_at t.up x) × (get_or t.parts (up_at t.up x) 0 ≢ 0) =
-          tied.nest.around x (λ s. inner (is ∙ s)) in
-          rw (is, parts_old (up_at t.up x) (λ s. was.1 (ap (λ y. get_or t.parts y 0) s ∙ dead))) was
 
   -- The numbers, the trail and the pool.
   handle_outside : label_at t.label (out handle) ≡ Outside
-  handle_outside = row_outside free (out handle) (ap inside (handle_at free).1 ∙ big_in free)
+  handle_outside = row_outside free _ (ap inside (handle_at free).1 ∙ big_in free)
 
   told_new : (v : ℕ) → v < n → told h2.q.items h2.hand.items (set t.top handle b) hid.off t.label t.delta v
       ≡ told hid.q t.hand t.top hid.off t.label t.delta v
   told_new v lv = elim (cases_Bool (inside (out v))) [
-    | inl on ↦
-        (rw (out_in v lv on, hand_in v lv on, b_outside free, row_outside free (out v) on) (
-        omega (arith, ints, renamed.q v lv ∙ cond-true _ _ _ on)))
+    | inl on ↦ (rw (out_in v lv on, hand_in v lv on, b_outside free, row_outside free (out v) on)
+        (omega (arith, ints, renamed.q v lv ∙ cond-true _ _ _ on)))
     | inr off ↦ (let q : get_or h2.q.items v (pos 0) ≡ get_or hid.q v (pos 0) = renamed.q v lv ∙ cond-false _ _ _ off in
         rw (out_off v lv off, hand_off v lv off, q))
   ]
@@ -350,7 +325,7 @@ module _ {s : Inside} {h2 : Handles} {l2 : Lists} {r2 : Rings} {pool2 : List (Op
   numbers_new : HasNumbers h2.hand.items (set t.top handle b) r2.up.items t.base t.label t.delta root2 h2.q.items
       hid.off
   numbers_new = numbers_kept tied (ring.weightless b high dead) renamed.hands enclosed.size holds_old
-      (λ none. no_root s.tree.root (sym root_is ∙ none)) told_new moved_new
+      (λ none. no_root _ (sym root_is ∙ none)) told_new moved_new
     where
       no_root : (o : Option ℕ) → root_around r2.up.items b o ≡ None → o ≡ None
       no_root None n = refl
@@ -364,7 +339,7 @@ module _ {s : Inside} {h2 : Handles} {l2 : Lists} {r2 : Rings} {pool2 : List (Op
 
   pool_new : IsPooled n (length t.up) r2.parts.items pool2
   pool_new = rw (enclosed.parts, took.taken) (pool_changed tied.pool took.id high low tied.sizes.parts took.is took.free
-      (inl (refl, dead)) (Some took.node) many (inr (took.node, refl, (λ z. absurd (omega (arith, z, ring.two))))))
+      (inl (refl, dead)) _ many (inr (took.node, refl, (λ z. absurd (omega arith)))))
 
   abbrev pub gathered : ForestTables
   gathered = record t {
@@ -394,8 +369,8 @@ module _ {s : Inside} {h2 : Handles} {l2 : Lists} {r2 : Rings} {pool2 : List (Op
 
   sizes_new : HasSizes gathered gathered_hidden
   sizes_new = record {
-    few = omega (arith, tied.sizes.few, enclosed.size);
-    vertices = omega (arith, tied.sizes.vertices, enclosed.size, renamed.hands);
+    few = omega arith;
+    vertices = omega arith;
     top = length-set t.top handle b ∙ (tied.sizes.top ∙ sym renamed.hands);
     q = renamed.qs ∙ (tied.sizes.q ∙ sym renamed.hands);
     off = tied.sizes.off ∙ sym (length-set t.top handle b);
@@ -410,10 +385,10 @@ module _ {s : Inside} {h2 : Handles} {l2 : Lists} {r2 : Rings} {pool2 : List (Op
     joint = tied.sizes.joint ∙ sym enclosed.size;
     head = as_long _ _ _ enclosed.head tied.sizes.head;
     parts = as_long _ _ _ enclosed.parts tied.sizes.parts;
-    leader = as_long hid.leader b handle refl tied.sizes.leader;
+    leader = as_long _ b handle refl tied.sizes.leader;
     first = as_long _ _ _ joined.first tied.sizes.first;
     last = as_long _ _ _ joined.last tied.sizes.last;
-    room = omega (arith, tied.sizes.room, renamed.hands);
+    room = omega arith;
   }
 
   -- The tie after a ring was gathered.
@@ -441,7 +416,11 @@ module _ {s : Inside} {h2 : Handles} {l2 : Lists} {r2 : Rings} {pool2 : List (Op
     link = refl;
     after = refl;
     joint = refl;
-    up = λ x. up_seen x (cases_eq x b);
+    up = λ x. elim (cases_eq x b) [
+      | inl same ↦ rw (same, set_here (λ y. cond (inside y) b (up_at t.up y)) b b)
+          (ups b ∙ (cond-false _ _ _ (b_off free) ∙ alone free))
+      | inr ne ↦ ups x ∙ sym (set_there (λ y. cond (inside y) b (up_at t.up y)) b x b ne)
+    ];
     head = λ x. ap (λ (f : ℕ → ℕ). f x) (ap (λ xs y. get_or xs y 0) enclosed.head
         ∙ entry_set t.head b front 0 (rw tied.sizes.head low));
     parts = λ x. ap (λ (f : ℕ → ℕ). f x) (ap (λ xs y. get_or xs y 0) enclosed.parts
@@ -449,11 +428,6 @@ module _ {s : Inside} {h2 : Handles} {l2 : Lists} {r2 : Rings} {pool2 : List (Op
     rank = rank_old;
     ranked = λ x on. rw rank_b (row_rank x on);
   }
-    where
-      up_seen : (x : ℕ) → (x ≡ b) ⊎ (x ≢ b) → up2 x ≡ set_at (λ y. cond (inside y) b (up_at t.up y)) b b x
-      up_seen x (inl same) = rw (same, set_here (λ y. cond (inside y) b (up_at t.up y)) b b)
-          (ups b ∙ (cond-false _ _ _ (b_off free) ∙ alone free))
-      up_seen x (inr ne) = ups x ∙ sym (set_there (λ y. cond (inside y) b (up_at t.up y)) b x b ne)
 
   -- The root's blossom is enclosed where it is in the row.
   pub root_new : (x : ℕ) → x < length t.up → x ≢ b → cond (eqb (get_or r2.up.items x 0) b) b x ≡ cond (inside x) b x

@@ -1,7 +1,7 @@
 -- A row of outermost blossoms before it is gathered: what its blossoms, their lists and their handles are.
-use Rattle.std.proofs.Common.{◌≡◌, ◌≢◌, ℕ, suc, ◌<◌, ◌≤◌, Bool, true, false, eqb, length, get_or, ◌⊎◌, sym, ◌∙◌}
+use Rattle.std.proofs.Common.{◌≡◌, ◌≢◌, ℕ, suc, ◌<◌, ◌≤◌, Bool, true, false, eqb, length, get_or, sym, ◌∙◌}
 use Rattle.std.proofs.Common.{ap, subst, inl, inr, arith}
-use Rattle.std.proofs.lemmas.Bool.{cases_eq, cases_Bool, eq-eqb, ne_eqb, eqb-true}
+use Rattle.std.proofs.lemmas.Bool.{cases_Bool, eq-eqb, ne_eqb, eqb-true}
 use Rattle.def_forest.specs.{Forests.walk, Tables.ForestTables, Tables.climbs, Tables.label_at, Tables.out_of}
 use Rattle.def_forest.specs.{Tables.up_at, declared.kinds.Label.TheVariants.Outside}
 use Rattle.forest_laws.specs.Walks.{listed}
@@ -44,7 +44,7 @@ module _ {t : ForestTables} {hid : HiddenTables} {front many b big : ℕ} (free 
   -- The new number lies on no way.
   never : (v i : ℕ) → v < n → walk (up_at t.up) v i ≢ b
   never v i l e = elim (reached_used tied.nest v i l e) [
-    | inl lb ↦ absurd (omega (arith, lb, high))
+    | inl lb ↦ absurd (omega arith)
     | inr live ↦ live dead
   ]
 
@@ -58,19 +58,19 @@ module _ {t : ForestTables} {hid : HiddenTables} {front many b big : ℕ} (free 
   alone = tied.nest.idle b high dead
 
   pub b_outside : label_at t.label b ≡ Outside
-  b_outside = elim (label_cases (label_at t.label b)) [
+  b_outside = elim (label_cases _) [
     | inl e ↦ e
-    | inr named ↦ (let w : (k : ℕ) × (k < length t.trail) × (out (get_or t.trail k 0) ≡ b) = tied.trail.named b named in
+    | inr named ↦ (let w = tied.trail.named b named in
         absurd (no_out (get_or t.trail w.0 0) (tied.trail.low w.0 w.1) w.2))
   ]
 
   -- What is in the row is the outermost blossom of a vertex.
   pub in_row_out : (x : ℕ) → inside x ≡ true → (v : ℕ) × (v < n) × (out v ≡ x)
   in_row_out x yes' = let w : (k : ℕ) × (k < many) × (at k ≡ x) = listed_place _ front many x yes' in
-      let v : (v : ℕ) × (v < n) × (out v ≡ at w.0) = ring.tops w.0 w.1 in (v.0, v.1, v.2 ∙ w.2)
+      let v = ring.tops w.0 w.1 in (v.0, v.1, v.2 ∙ w.2)
 
   pub row_top : (x : ℕ) → inside x ≡ true → up_at t.up x ≡ x
-  row_top x yes' = let w : (v : ℕ) × (v < n) × (out v ≡ x) = in_row_out x yes' in
+  row_top x yes' = let w = in_row_out x yes' in
       (rw w.2 at (tied.nest.climb.tops w.0 w.1))
 
   pub row_outside : (x : ℕ) → inside x ≡ true → label_at t.label x ≡ Outside
@@ -78,7 +78,7 @@ module _ {t : ForestTables} {hid : HiddenTables} {front many b big : ℕ} (free 
       ap (label_at t.label) (sym w.2) ∙ ring.outside w.0 w.1
 
   pub b_off : inside b ≡ false
-  b_off = listed_off _ front many b (λ k l e. (let v : (v : ℕ) × (v < n) × (out v ≡ at k) = ring.tops k l in
+  b_off = listed_off _ front many b (λ k l e. (let v = ring.tops k l in
       no_out v.0 v.1 (v.2 ∙ e)))
 
   pub big_in : inside big ≡ true
@@ -88,7 +88,7 @@ module _ {t : ForestTables} {hid : HiddenTables} {front many b big : ℕ} (free 
   pub leader_at : (k : ℕ) → k < many → (leader k < n) × (out (leader k) ≡ at k) × (get_or t.hand (leader k) 0
       ≡ leader k)
   leader_at k l =
-      let v : (v : ℕ) × (v < n) × (out v ≡ at k) = ring.tops k l in
+      let v = ring.tops k l in
       let lv : leader k < n = rw v.2 at (leader_low tied.nest v.0 v.1) in
       let own : out (leader k) ≡ at k = rw v.2 at (leader_out tied.nest v.0 v.1) in
       (lv, own, tied.nest.led (leader k) lv ∙ ap (λ x. get_or hid.leader x 0) own)
@@ -104,25 +104,20 @@ module _ {t : ForestTables} {hid : HiddenTables} {front many b big : ℕ} (free 
   own_handle v l e = sym (ap out (tied.nest.led v l) ∙ leader_out tied.nest v l) ∙ (ap out e ∙ handle_at.1)
 
   pub held : (k v : ℕ) → k < many → v < n → climbs (up_at t.up) n (at k) v ≡ eqb (out v) (at k)
-  held k v lk lv = by_test (ring.tops k lk) (cases_Bool (climbs (up_at t.up) n (at k) v)) (cases_eq (out v) (at k))
-    where
-      by_test : (u : ℕ) × (u < n) × (out u ≡ at k) → (climbs (up_at t.up) n (at k) v ≡ true)
-          ⊎ (climbs (up_at t.up) n (at k) v ≡ false) → (out v ≡ at k) ⊎ (out v ≢ at k) → climbs (up_at t.up) n (at k) v
-          ≡ eqb (out v) (at k)
-      by_test w (inl yes') x = yes' ∙ sym (eq-eqb (out v) (at k)
-          (held_out tied.nest w.0 v w.1 lv (ap (λ y. climbs (up_at t.up) n y v) w.2 ∙ yes') ∙ w.2))
-      by_test w (inr off) (inr ne) = off ∙ sym (ne_eqb (out v) (at k) ne)
-      by_test w (inr off) (inl same) = absurd (true_false
-          (came_past (up_at t.up) n v (at k) (tied.nest.climb.ends v lv ∙ same)) off)
+  held k v lk lv = elim (cases_Bool (climbs (up_at t.up) n (at k) v)) [
+    | inl on ↦ (let w = ring.tops k lk in cc (eq-eqb (out v) (at k) (held_out tied.nest w.0 v w.1 lv
+        (ap (λ y. climbs (up_at t.up) n y v) w.2 ∙ on) ∙ w.2)))
+    | inr off ↦ cc (ne_eqb (out v) (at k) (λ e. true_false (came_past (up_at t.up) n v (at k)
+        (tied.nest.climb.ends v lv ∙ e)) off))
+  ]
 
   -- The lists of the row.
+  pub row_used : (k : ℕ) → k < many → IsInUse n t.parts (at k)
+  row_used k l = let w = ring.tops k l in subst (IsInUse n t.parts) w.2 (out_used tied.nest w.0 w.1)
+
   pub row_list : (k : ℕ) → k < many → IsListed n (λ i. get_or hid.following i 0) (get_or hid.first (at k) 0)
       (get_or hid.last (at k) 0) (get_or t.rank (at k) 0) (climbs (up_at t.up) n (at k))
   row_list k l = tied.nest.members (at k) (ring.row.low k l) (row_used k l)
-    where
-      row_used : (k : ℕ) → k < many → IsInUse n t.parts (at k)
-      row_used k l = let w : (v : ℕ) × (v < n) × (out v ≡ at k) = ring.tops k l in
-          subst (IsInUse n t.parts) w.2 (out_used tied.nest w.0 w.1)
 
   -- The same, where a vertex is on a list as the blossom is its outermost one.
   pub own_list : (k : ℕ) → k < many → IsListed n (λ i. get_or hid.following i 0) (get_or hid.first (at k) 0)
@@ -132,14 +127,13 @@ module _ {t : ForestTables} {hid : HiddenTables} {front many b big : ℕ} (free 
   pub row_ended : (k y j : ℕ) → k < many → y < length t.up → IsInUse n t.parts y → suc j < get_or t.rank y 0
       → walk (λ i. get_or hid.following i 0) (get_or hid.first y 0) j ≢ get_or hid.last (at k) 0
   row_ended k y j l ly used lj e =
-      let w : (v : ℕ) × (v < n) × (out v ≡ at k) = ring.tops k l in
+      let w = ring.tops k l in
       last_free tied.nest w.0 y j w.1 ly used lj (e ∙ ap (λ x. get_or hid.last x 0) (sym w.2))
 
   pub last_in : (k : ℕ) → k < many → (get_or hid.last (at k) 0 < n) × (out (get_or hid.last (at k) 0) ≡ at k)
-  last_in k l = let w : (get_or hid.last (at k) 0 < n) × (eqb (out (get_or hid.last (at k) 0)) (at k) ≡ true) =
-      list_has_last (own_list k l) in
+  last_in k l = let w = list_has_last (own_list k l) in
       (w.0, eqb-true (out (get_or hid.last (at k) 0)) (at k) w.1)
 
   pub lasts_differ : (i j : ℕ) → i < j → j < many → get_or hid.last (at i) 0 ≢ get_or hid.last (at j) 0
-  lasts_differ i j lij lj e = ring.row.distinct i j lij lj (sym (last_in i (omega (arith, lij, lj))).1
+  lasts_differ i j lij lj e = ring.row.distinct i j lij lj (sym (last_in i (omega arith)).1
       ∙ (ap out e ∙ (last_in j lj).1))

@@ -1,18 +1,18 @@
 -- Gathering a ring, step by step: what each of its loops needs, and the tie and the forest after all of them.
 use Rattle.std.proofs.Common.{◌≡◌, ℕ, ◌<◌, ◌≤◌, ◌^◌, cond}
-use Rattle.std.proofs.Common.{List, length, get_or, pos, ◌+ℤ◌, Option}
+use Rattle.std.proofs.Common.{Bool, List, length, get_or, pos, ◌+ℤ◌, Option}
 use Rattle.std.proofs.Common.{Some, None, refl, sym, ◌∙◌, ap}
 use Rattle.std.proofs.{Common.inl, Common.inr, Common.arith, Math.ListN.set, lemmas.Int.ints, lemmas.Bool.cases_lt}
 use Rattle.std.proofs.{lemmas.List.get_or_past, lemmas.Option.slice_get_within}
 use Rattle.std.specs.Prelude.{unsigned_abs}
 use Rattle.def_forest.specs.Forests.{Forest, walk}
 use Rattle.def_forest.specs.Steps.{weight_change}
-use Rattle.def_forest.specs.Tables.{ForestTables, forest_of, label_at, out_of, IsOutermostIn}
+use Rattle.def_forest.specs.Tables.{ForestTables, forest_of, label_at, out_of}
 use Rattle.forest_laws.specs.Walks.{listed}
 use Rattle.qm_pool.specs.declared.pool.Node.{Node}
-use Rattle.qm_forest.specs.Gathers.{HasListsOf, AreJoinable}
+use Rattle.qm_forest.specs.{Gathers.HasListAt, Gathers.HasListsOf, Gathers.AreJoinable, Ties.IsListed}
 use Rattle.qm_forest.specs.Gathers.{TookSet, IsFreeRing, IsGathered}
-use Rattle.qm_forest.specs.{Gathers.root_around, Ties.AreTied, Ties.HiddenTables, Ties.added, Ties.told}
+use Rattle.qm_forest.specs.{Ties.AreTied, Ties.HiddenTables, Ties.added, Ties.told}
 use Rattle.qm_forest.specs.{Views.tables_of, Views.hidden_of, declared.tables.Handles.Handles}
 use Rattle.qm_forest.specs.{declared.forest.Forest.TheInside.Inside, declared.tables.Lists.Lists}
 use Rattle.qm_forest.specs.{declared.tables.Rings.Rings}
@@ -24,17 +24,10 @@ use Rattle.qm_forest.proofs.Ranges.{added_small, change_small, delta_small, oute
 
 module _ {t : ForestTables} {hid : HiddenTables} (tied : AreTied t hid) where
   off_small : (v : ℕ) → v < length t.hand → unsigned_abs (get_or hid.off (get_or t.hand v 0) (pos 0)) ≤ 2 ^ 97
-  off_small v lv = (let is : added t.hand t.top hid.off t.label t.delta v
-      ≡ get_or hid.off (get_or t.hand v 0) (pos 0) +ℤ weight_change (label_at t.label (out_of t.hand t.top v)) t.delta =
-      refl in
-      omega (
-        arith,
-        ints,
-        is,
-        added_small tied v lv,
-        change_small (label_at t.label (out_of t.hand t.top v)) t.delta,
-        delta_small tied,
-      ))
+  off_small v lv = (let is : added t.hand t.top hid.off t.label t.delta v ≡ get_or hid.off (get_or t.hand v 0) (pos 0)
+      +ℤ weight_change (label_at t.label (out_of t.hand t.top v)) t.delta = refl in
+      (let change = change_small (label_at t.label (out_of t.hand t.top v)) t.delta in
+      omega (arith, ints, is, added_small tied v lv, delta_small tied)))
 
   pub q_small : (v : ℕ) → unsigned_abs (get_or hid.q v (pos 0)) ≤ 2 ^ 97
   q_small v = elim (cases_lt v (length t.hand)) [
@@ -44,6 +37,22 @@ module _ {t : ForestTables} {hid : HiddenTables} (tied : AreTied t hid) where
     | inr past ↦ (let z : get_or hid.q v (pos 0) ≡ pos 0 =
         get_or_past hid.q v (pos 0) (rw tied.sizes.q past) in omega (arith, ints, z))
   ]
+
+-- The list of a blossom, as the loops read it.
+pub list_read : (s : Inside) {x to : ℕ} {set : ℕ → Bool} → AreTied (seen_in s) (hidden_in s)
+    → x < length s.rings.up.items → IsListed (length s.handles.hand.items) (λ i. get_or s.lists.following.items i 0)
+    (get_or s.lists.first.items x 0) to (get_or s.lists.rank.items x 0) set → HasListAt s.handles s.lists x
+list_read s tied low list = record {
+  first = rw tied.sizes.first low;
+  rank = rw tied.sizes.rank low;
+  q = tied.sizes.q;
+  following = tied.sizes.following;
+  few = omega arith;
+  many = list_few list;
+  low = list.low;
+  distinct = list.distinct;
+  small = λ v. omega (arith, q_small tied v);
+}
 
 -- A ring that is free to be gathered, and the number that is taken for its set.
 pub record Taken (s : Inside) (pool2 : List (Option Node)) (front many b : ℕ) : Type 0 where
@@ -58,14 +67,14 @@ module _ {s : Inside} {pool2 : List (Option Node)} {front many b : ℕ} (taken :
   at k = walk (λ i. get_or s.rings.after.items i 0) front k
 
   pub set_low : b < length s.rings.up.items
-  set_low = omega (arith, took.is, slice_get_within s.pool took.id None took.free, tied.pool.room)
+  set_low = omega (arith, slice_get_within s.pool took.id None took.free)
 
   -- The row with a blossom of it: the first one, where no other is meant.
   pub row : {big : ℕ} → ((k : ℕ) × (k < many) × (at k ≡ big)) → FreeRow (seen_in s) (hidden_in s) front many b big
   row on = record {
     tied = tied;
     ring = ring;
-    high = omega (arith, took.is);
+    high = omega arith;
     low = set_low;
     dead = ap (λ x. get_or s.rings.parts.items x 0) took.is ∙ tied.pool.free took.id took.free;
     on = on;
@@ -77,17 +86,7 @@ module _ {s : Inside} {pool2 : List (Option Node)} {front many b : ℕ} (taken :
   pub lists_of_row : HasListsOf s.handles s.lists s.rings.after.items front many
   lists_of_row = record {
     row = rw tied.sizes.after ring.row;
-    each = λ k lk. record {
-      first = rw tied.sizes.first (ring.row.low k lk);
-      rank = rw tied.sizes.rank (ring.row.low k lk);
-      q = tied.sizes.q;
-      following = tied.sizes.following;
-      few = omega (arith, tied.sizes.few, tied.sizes.vertices);
-      many = list_few (row_list free k lk);
-      low = (row_list free k lk).low;
-      distinct = (row_list free k lk).distinct;
-      small = λ v. omega (arith, q_small tied v);
-    };
+    each = λ k lk. list_read s tied (ring.row.low k lk) (row_list free k lk);
     own = λ k v lk lv. (own_list free k lk).all v lv;
     leader = tied.sizes.leader ∙ sym tied.sizes.after;
     rank = tied.sizes.rank ∙ sym tied.sizes.after;
@@ -95,8 +94,7 @@ module _ {s : Inside} {pool2 : List (Option Node)} {front many b : ℕ} (taken :
     led = tied.nest.led;
     small_q = q_small tied;
     small_off = off_small tied;
-    small_leaders = λ k lk. rw (leader_at free k lk).2 at
-        (off_small tied (get_or s.lists.leader.items (at k) 0) (leader_at free k lk).0);
+    small_leaders = λ k lk. rw (leader_at free k lk).2 at (off_small tied _ (leader_at free k lk).0);
   }
 
   pub joinable : AreJoinable s.lists s.rings.after.items front many
@@ -106,15 +104,10 @@ module _ {s : Inside} {pool2 : List (Option Node)} {front many b : ℕ} (taken :
     last = tied.sizes.last ∙ sym tied.sizes.after;
     rank = tied.sizes.rank ∙ sym tied.sizes.after;
     ends = λ k lk. rw tied.sizes.following (last_in free k lk).0;
-    few = omega (
-      arith,
-      row_few (length s.handles.hand.items) _ (λ i. get_or s.rings.after.items i 0)
-          (λ x. get_or s.lists.first.items x 0) (λ x. get_or s.lists.last.items x 0)
-          (λ x. get_or s.lists.rank.items x 0) front many
-          (out_of s.handles.hand.items s.handles.top.items) ring.row.distinct (own_list free),
-      tied.sizes.few,
-      tied.sizes.vertices,
-    );
+    few = (let all = row_few (length s.handles.hand.items) _ (λ i. get_or s.rings.after.items i 0)
+        (λ x. get_or s.lists.first.items x 0) (λ x. get_or s.lists.last.items x 0) (λ x. get_or s.lists.rank.items x 0)
+        front many (out_of s.handles.hand.items s.handles.top.items) ring.row.distinct (own_list free) in
+        omega arith);
   }
 
   pub big_low : {big : ℕ} → ((k : ℕ) × (k < many) × (at k ≡ big)) → big < length s.lists.leader.items
@@ -128,9 +121,8 @@ module _ {s : Inside} {h2 : Handles} {l2 : Lists} {r2 : Rings} {pool2 : List (Op
   pub root_after : (x : ℕ) → s.tree.root ≡ Some x
       → root2 ≡ Some (cond (listed (λ i. get_or s.rings.after.items i 0) front many x) b x)
   root_after x is =
-      let v : IsOutermostIn (seen_in s) x = it.free.ring.root x is in
-      root_is ∙ (ap (root_around r2.up.items b) is ∙ ap (λ (y : ℕ). Some y)
-      (root_new it x (outermost_low it.free.tied x v) (λ same. no_out it.free v.0 v.1 (v.2 ∙ same))))
+      let v = it.free.ring.root x is in
+      cc (root_new it x (outermost_low it.free.tied x v) (λ same. no_out it.free v.0 v.1 (v.2 ∙ same)))
 
   -- The handle that all vertices get is told by what was read.
   module _ {leader : ℕ} (leader_is : leader ≡ get_or s.lists.leader.items big 0) where

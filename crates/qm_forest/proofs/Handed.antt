@@ -10,14 +10,13 @@ use Rattle.qm_forest.proofs.{Ends.met, Ends.perfect, Outlined.dual_is, Outlined.
 
 -- What is in an option.
 pub in_some : {X : Type 0} {o : Option X} (x y : X) → o ≡ Some x → o ≡ Some y → x ≡ y
-in_some {X = X} x y e f = inside (sym e ∙ f)
+in_some {X = X} x y e f =
+    let inside : ◌≡◌ {A = Option X} (Some x) (Some y) → x ≡ y = λ s. ap unpack s in
+    inside (sym e ∙ f)
   where
     unpack : Option X → X
     unpack (Some z) = z
     unpack None = x
-
-    inside : ◌≡◌ {A = Option X} (Some x) (Some y) → x ≡ y
-    inside s = ap unpack s
 
 module _ (t : ForestTables) {u : ForestTables} (room : Option GraphSize) (same : u ≡ record t { room = room }) where
   -- It stays sound.

@@ -1,26 +1,25 @@
 -- Handing the vertices of the parts of a set over to their own leaders, one part after another.
-use Rattle.std.proofs.Common.{◌≡◌, ◌≢◌, ℕ, zero, suc, ◌<◌, true, false, List, length, get_or, ℤ, pos}
-use Rattle.std.proofs.Common.{◌⊎◌, refl, sym, ◌∙◌, ap, inl, inr, arith, length-set}
+use Rattle.std.proofs.Common.{◌≡◌, ℕ, zero, suc, ◌<◌, true, false, List, length, get_or, ℤ, pos}
+use Rattle.std.proofs.Common.{refl, sym, ◌∙◌, ap, inl, inr, arith, length-set}
 use Rattle.std.proofs.Math.ListN.{set}
-use Rattle.std.proofs.lemmas.Bool.{cases_eq, cases_Bool, cond-true, cond-false}
+use Rattle.std.proofs.lemmas.Bool.{cases_eq, cond-true, cond-false, false_from_ne_true}
 use Rattle.def_forest.specs.Forests.{walk, set_at}
 use Rattle.forest_laws.specs.Walks.{writes}
 use Rattle.forest_laws.proofs.Writes.{set_here, set_there}
 use Rattle.qm_forest.specs.{Gathers.HasListAt, Gathers.lists_at, Parts.HasHandedOver, Parts.HasHandedRow}
 use Rattle.qm_forest.specs.{Parts.HasOwnLeader, Parts.HasPartLists, declared.tables.Handles.Handles}
 use Rattle.qm_forest.specs.declared.tables.Lists.{Lists}
-use Rattle.qm_forest.proofs.TiedWrites.{entry_set}
+use Rattle.qm_forest.proofs.{RenamedRows.list_kept, TiedWrites.entry_set}
 
 -- Where each place is written with what stands at one place, that one stays.
 writes_keep : {X : Type 0} (f : ℕ → X) (place : ℕ → ℕ) (a many : ℕ) → writes f place (λ k. f a) many a ≡ f a
 writes_keep f place a zero = refl
-writes_keep f place a (suc k) = by_place (cases_eq a (place k)) (writes_keep f place a k)
-  where
-    by_place : (a ≡ place k) ⊎ (a ≢ place k) → writes f place (λ j. f a) k a ≡ f a
-        → set_at (writes f place (λ j. f a) k) (place k) (f a) a ≡ f a
-    by_place (inl e) was = ap (set_at (writes f place (λ j. f a) k) (place k) (f a)) e
-        ∙ set_here (writes f place (λ j. f a) k) (place k) (f a)
-    by_place (inr ne) was = set_there (writes f place (λ j. f a) k) (place k) a (f a) ne ∙ was
+writes_keep f place a (suc k) =
+    let was = writes_keep f place a k in
+    elim (cases_eq a (place k)) [
+      | inl e ↦ cc (set_here (writes f place (λ j. f a) k) (place k) (f a))
+      | inr ne ↦ set_there (writes f place (λ j. f a) k) _ a (f a) ne ∙ was
+    ]
 
 module _ {h0 h1 : Handles} {lists : Lists} {after : List ℕ} {front many set' k x : ℕ}
     (has : HasPartLists h0 lists after front many set') (l : k < many) (x_is : x ≡ walk (λ i. get_or after i 0) front k)
@@ -32,24 +31,12 @@ module _ {h0 h1 : Handles} {lists : Lists} {after : List ℕ} {front many set' k
   was = has.each k l
 
   pub part_list : HasListAt h1 lists x
-  part_list = rw x_is (record {
-    first = was.first;
-    rank = was.rank;
-    q = done.qs ∙ (was.q ∙ sym done.hands);
-    following = was.following ∙ sym done.hands;
-    few = omega (arith, was.few, done.hands);
-    many = omega (arith, was.many, done.hands);
-    low = λ j lj. rw done.hands (was.low j lj);
-    distinct = was.distinct;
-    small = λ v. rw (done.q v) (was.small v);
-  })
+  part_list = rw x_is (list_kept was done.hands done.qs (λ v. rw (done.q v) (was.small v)))
 
   -- A vertex of this part is in none before.
   first_off : (v : ℕ) → lists_at lists (at k) v ≡ true → (i : ℕ) → i < k → lists_at lists (at i) v ≡ false
-  first_off v on i li = elim (cases_Bool (lists_at lists (at i) v)) [
-    | inl e ↦ (let s : i ≡ k = has.apart i k v (omega (arith, li, l)) l e on in absurd (omega (arith, s, li)))
-    | inr e ↦ e
-  ]
+  first_off v on i li = false_from_ne_true (lists_at lists (at i) v)
+      (λ e. absurd (omega (arith, has.apart i k v (omega (arith, li, l)) l e on)))
 
   pub part_leader : HasOwnLeader h1 lists x set'
   part_leader = rw x_is (record {
@@ -65,15 +52,18 @@ module _ {h0 h1 : Handles} {lists : Lists} {after : List ℕ} {front many set' k
   pub row_more : {h2 : Handles} {j : ℕ} → j ≡ suc k → HasHandedOver h1 h2 lists x set'
       → HasHandedRow h0 h2 lists after front j set'
   row_more {h2} {j} j_is one' = (rw j_is (record {
-    own = λ i v li on. own i v li on (cases_eq i k);
+    own = λ i v li on. one.hand v ∙ elim (cases_eq i k) [
+      | inl e ↦ cond-true _ _ _ (rw e at on) ∙ ap (λ j. get_or lists.leader.items (at j) 0) (sym e)
+      | inr ne ↦ cond-false _ _ _ (false_from_ne_true (lists_at lists (at k) v)
+          (λ here. ne (has.apart i k v (omega (arith, li, l)) l on here))) ∙ done.own i v (omega (arith, li, ne)) on
+    ];
     other = λ v off. one.hand v ∙ (cond-false _ _ _ (off k (omega arith)) ∙ done.other v (λ i li. off i (
         omega (arith, li))));
     q = λ v. one.q v ∙ done.q v;
     hands = one.hands ∙ done.hands;
     qs = one.qs ∙ done.qs;
-    top = ap (λ xs i. get_or xs i 0) one.top ∙ (entry_set h1.top.items (get_or lists.leader.items (at k) 0) (at k) 0
-        (rw done.tops (has.tops k l))
-        ∙ ap (λ (f : ℕ → ℕ). set_at f (get_or lists.leader.items (at k) 0) (at k)) done.top);
+    top = ap (λ xs i. get_or xs i 0) one.top ∙ (entry_set h1.top.items (get_or lists.leader.items (at k) 0) (at k) 0 (rw
+        done.tops (has.tops k l)) ∙ ap (λ (f : ℕ → ℕ). set_at f (get_or lists.leader.items (at k) 0) (at k)) done.top);
     tops = ap length one.top ∙ (length-set h1.top.items (get_or lists.leader.items (at k) 0) (at k) ∙ done.tops);
     off = off_set ∙ (entry_set h1.off.items (get_or lists.leader.items (at k) 0)
         (get_or h1.off.items (get_or lists.leader.items set' 0) (pos 0)) (pos 0)
@@ -97,17 +87,5 @@ module _ {h0 h1 : Handles} {lists : Lists} {after : List ℕ} {front many set' k
 
       set_off : get_or h1.off.items (get_or lists.leader.items set' 0) (pos 0)
           ≡ get_or h0.off.items (get_or lists.leader.items set' 0) (pos 0)
-      set_off = ap (λ (f : ℕ → ℤ). f (get_or lists.leader.items set' 0)) done.off
-          ∙ writes_keep (λ i. get_or h0.off.items i (pos 0)) (λ i. get_or lists.leader.items (at i) 0)
-          (get_or lists.leader.items set' 0) k
-
-      own : (i v : ℕ) → i < suc k → lists_at lists (at i) v ≡ true → (i ≡ k) ⊎ (i ≢ k) → get_or h2.hand.items v 0
-          ≡ get_or lists.leader.items (at i) 0
-      own i v li on (inl e) = one.hand v ∙ (cond-true _ _ _ (rw e at on)
-          ∙ ap (λ j. get_or lists.leader.items (at j) 0) (sym e))
-      own i v li on (inr ne) = one.hand v ∙ (cond-false _ _ _ (off (cases_Bool (lists_at lists (at k) v)))
-          ∙ done.own i v (omega (arith, li, ne)) on)
-        where
-          off : (lists_at lists (at k) v ≡ true) ⊎ (lists_at lists (at k) v ≡ false) → lists_at lists (at k) v ≡ false
-          off (inl e) = absurd (ne (has.apart i k v (omega (arith, li, l)) l on e))
-          off (inr e) = e
+      set_off = ap (λ (f : ℕ → ℤ). f (get_or lists.leader.items set' 0)) done.off ∙ writes_keep (λ i. get_or
+          h0.off.items i (pos 0)) (λ i. get_or lists.leader.items (at i) 0) (get_or lists.leader.items set' 0) k

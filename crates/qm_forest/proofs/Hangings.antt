@@ -14,7 +14,7 @@ pub paired_more : (f0 : Forest) {f1 f2 : Forest} (front k : ℕ) {j before x dar
     → f2 ≡ mated f1 x (Some dart) → dart ≡ side_dart f1 before x (eqb (k % 2) 1)
     → x ≡ walk f0.nest.after front k → before ≡ walk f0.nest.after front (k - 1) → j ≡ suc k → f2 ≡ paired f0 front j
 paired_more f0 {f1} front k e1 e2 dart_is x_is before_is j_is =
-    let dart_was = side_same f0 f1 front k (eqb (k % 2) 1) (ap (λ (f : Forest). f.nest.joint) e1) dart_is x_is before_is
+    let dart_was = side_same f0 f1 front k _ (ap (λ (f : Forest). f.nest.joint) e1) dart_is x_is before_is
     in e2 ∙ rw (dart_was, x_is, e1, j_is)
 
 pub hung_more : (f0 : Forest) {f1 f2 f3 : Forest} (front k : ℕ) {j before x : ℕ} (v : ℕ) {dart : ℕ} {l : Label}

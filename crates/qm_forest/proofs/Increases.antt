@@ -5,7 +5,7 @@ use Rattle.std.proofs.lemmas.Bool.{false≢true}
 use Rattle.std.specs.Prelude.{is_some}
 use Rattle.def_matching.specs.Matching.{WeightedGraph, IsSmallGraph}
 use Rattle.def_forest.specs.{Darts.Darts, Darts.AreDarts, Darts.darts_of, Darts.far, Forests.Forest}
-use Rattle.def_forest.specs.{Forests.IsOutermost, Tables.ForestTables, Tables.forest_of, Tables.IsValidFor}
+use Rattle.def_forest.specs.{Tables.ForestTables, Tables.forest_of, Tables.IsValidFor}
 use Rattle.def_forest.specs.{Valid.IsValid, Valid.IsTree, Ways.dart_or, declared.kinds.Label.TheVariants.Outside}
 use Rattle.forest_laws.specs.Climbing.{rise_of, above_of, level_of, way_of, IsClimbing}
 use Rattle.forest_laws.proofs.{Facts.tree_of, Graphs.are_darts, Forks.can_climb, Forks.climb_on, Levels.level_some}
@@ -45,7 +45,7 @@ module _ {g : WeightedGraph} (is : IsSmallGraph g) {s : ForestTables} (valid : I
 
     -- A blossom of the tree is outermost, so its number is low.
     pub named_low : b < length s.up
-    named_low = let w : IsOutermost g.n f b = valid.valid.outermost.named b named in
+    named_low = let w = valid.valid.outermost.named b named in
         (rw w.2 at (valid.valid.outermost.out_low w.0 w.1))
 
     -- The dart up is one of the graph, and ends at a vertex.
@@ -76,22 +76,22 @@ module _ {g : WeightedGraph} (is : IsSmallGraph g) {s : ForestTables} (valid : I
     place = way a i
 
     place_named : f.label place ≢ Outside
-    place_named = way_named a named i (omega (arith, l))
+    place_named = way_named a named i (omega arith)
 
     pub place_rise : (d : ℕ) × (rise place ≡ Some d)
-    place_rise = rise_some place place_named (omega (arith, l, way_level a named i (omega (arith, l))))
+    place_rise = rise_some place place_named (omega (arith, way_level a named i (omega (arith, l))))
 
     pub place_rises : rise place ≢ None
-    place_rises = some_none (rise place) place_rise.0 place_rise.1
+    place_rises = some_none _ _ place_rise.1
 
     pub place_low : place < length s.up
     place_low = named_low place place_named
 
     pub next_low : way a (suc i) < length s.up
-    next_low = named_low (way a (suc i)) (way_named a named (suc i) l)
+    next_low = named_low _ (way_named a named (suc i) l)
 
     pub place_dart : dart_or (rise place) < 2 * length g.edges
-    place_dart = rw (ap dart_or place_rise.1) (rise_low place place_named place_rise.0 place_rise.1)
+    place_dart = rw (ap dart_or place_rise.1) (rise_low place place_named _ place_rise.1)
 
   -- A climber is in the tree, and so many levels nearer to the root.
   pub climbed_named : {b : ℕ} → f.label b ≢ Outside → {at count : ℕ}
@@ -128,29 +128,13 @@ module _ {g : WeightedGraph} (is : IsSmallGraph g) {s : ForestTables} (valid : I
     pub climb_named : {x y i j : ℕ} → IsClimbing darts f a c x y i j → f.label x ≢ Outside
     climb_named {i} is = rw is.x_is (way_named a named_a i is.x_low)
 
-    module _ (named_c : f.label c ≢ Outside) where
-      climb_low : {x y i j : ℕ} → IsClimbing darts f a c x y i j → x ≢ y → level c - j ≤ level a - i → i < level a
-      climb_low is ne high = can_climb are (rooted_here a named_a) (the_tree a named_a).2 a c named_a named_c is ne high
-
-      climb_rises : {x y i j : ℕ} → IsClimbing darts f a c x y i j → x ≢ y → level c - j ≤ level a - i → rise x ≢ None
-      climb_rises {i} is ne high = rw is.x_is (place_rises a named_a i (climb_low is ne high))
-
-      climb_turn : {x y : ℕ} {x2 : ℕ} {i j : ℕ} → IsClimbing darts f a c x y i j → x ≢ y → level c - j ≤ level a - i
-          → x2 ≡ above x → IsClimbing darts f a c x2 y (i + 1) j
-      climb_turn {y} {x2} {i} {j} is ne high x2_is =
-          let one : suc i ≡ i + 1 = omega arith in
-          (rw one at (climb_on are (rooted_here a named_a) (the_tree a named_a).2 a c named_a named_c is ne high x2_is))
-
   -- Each climber's level tells how far the other has come, where there is a blossom that both come to.
   module _ {a c high low : ℕ} (named_a : f.label a ≢ Outside) (named_c : f.label c ≢ Outside)
       (both : AreOnBoth darts f a c high low) where
     both_level : level a + low ≡ level c + high
-    both_level = omega (
-      arith,
-      ap level both.met,
-      way_level a named_a high both.left_low,
-      way_level c named_c low both.right_low,
-    )
+    both_level =
+        let met = ap level both.met in
+        omega (arith, way_level a named_a high both.left_low, way_level c named_c low both.right_low)
 
     -- No climber goes past it.
     pub both_last : {x y i j : ℕ} → IsClimbing darts f a c x y i j → (i ≤ high) × (j ≤ low)
@@ -164,40 +148,38 @@ module _ {g : WeightedGraph} (is : IsSmallGraph g) {s : ForestTables} (valid : I
     both_order is order = omega (arith, order, both_level, (both_last is).0, (both_last is).1, is.x_low, is.y_low)
 
     pub both_rises : {x y i j : ℕ} → IsClimbing darts f a c x y i j → x ≢ y → low - j ≤ high - i → rise x ≢ None
-    both_rises is ne order = climb_rises a c named_a named_c is ne (both_order is order)
+    both_rises {i} is ne order = rw is.x_is (place_rises a named_a i (can_climb are (rooted_here a named_a)
+        (the_tree a named_a).2 a c named_a named_c is ne (both_order is order)))
 
     pub both_turn : {x y x2 i j : ℕ} → IsClimbing darts f a c x y i j → x ≢ y → low - j ≤ high - i → x2 ≡ above x
         → IsClimbing darts f a c x2 y (i + 1) j
-    both_turn is ne order x2_is = climb_turn a c named_a named_c is ne (both_order is order) x2_is
+    both_turn {i} is ne order x2_is = let one : suc i ≡ i + 1 = omega arith in
+        (rw one at (climb_on are (rooted_here a named_a) (the_tree a named_a).2 a c named_a named_c is ne
+        (both_order is order) x2_is))
 
   -- One climb after another.
   pub climbed_on : {b : ℕ} → f.label b ≢ Outside → {at first : ℕ} {x : ℕ} (more : ℕ)
       → HasClimbed darts f b at first → x ≡ way at more → more ≤ level at → HasClimbed darts f b x (first + more)
   climbed_on {b} named {at} {first} more is x_is low = record {
     way = x_is ∙ (ap (λ y. way y more) is.way ∙ sym (walk_sum (above) b first more));
-    low = omega (arith, climbed_level b named at first is, low);
+    low = omega (arith, climbed_level b named at first is);
   }
 
   -- Where a climber is not at the root, some steps bring him nearer.
   pub climbed_nearer : (at : ℕ) {next steps : ℕ} (reach : ℕ) → f.label at ≢ Outside → (d : ℕ) × (rise at ≡ Some d)
       → next ≡ way at steps → steps ≡ min reach (level at) → 1 ≤ reach → level next < level at
   climbed_nearer at {next} {steps} reach named up next_is steps_is some =
-      let low : steps ≤ level at = omega (arith, steps_is) in
-      omega (
-        arith,
-        steps_is,
-        some,
-        rise_level at named up.0 up.1,
-        climbed_level at named next steps (record { way = next_is; low = low }),
-      )
+      let low : steps ≤ level at = omega arith in
+      let climbed = climbed_level at named next steps (record { way = next_is; low = low }) in
+      omega (arith, rise_level at named up.0 up.1)
 
   -- The root is on all ways.
   pub root_on_both : {a : ℕ} (c : ℕ) {at left : ℕ} → f.label a ≢ Outside → f.label c ≢ Outside
       → HasClimbed darts f a at left → rise at ≡ None → AreOnBoth darts f a c left (level c)
   root_on_both {a} c {at} named_a named_c is off =
       let r : ℕ = (the_tree a named_a).0 in
-      let on : f.label (way c (level c)) ≢ Outside = way_named c named_c (level c) (omega arith) in
-      let end : way c (level c) ≡ r = level_zero are (rooted_here a named_a) (the_tree a named_a).2 (way c (level c)) on
+      let on : f.label (way c (level c)) ≢ Outside = way_named c named_c _ (omega arith) in
+      let end : way c (level c) ≡ r = level_zero are (rooted_here a named_a) (the_tree a named_a).2 _ on
       (omega (arith, way_level c named_c (level c) (omega arith))) in
       let here : at ≡ r = (at_root are (rooted_here a named_a) (the_tree a named_a).2 at
       (climbed_named named_a is) off).0 in

@@ -1,9 +1,10 @@
 -- Lists of vertices that are joined one after another.
 use Rattle.std.proofs.Common.{◌≡◌, ◌≢◌, ℕ, zero, suc, ◌+◌, ◌-◌, ◌<◌, ◌≤◌, Bool, true, false, eqb, ◌||◌, ◌⊎◌, refl, sym}
-use Rattle.std.proofs.Common.{◌∙◌, ap, subst, inl, inr, arith}
+use Rattle.std.proofs.Common.{◌∙◌, ap, inl, inr, arith}
 use Rattle.std.proofs.lemmas.Bool.{cases_lt, eq-eqb, ne_eqb, eqb-true}
 use Rattle.def_math.specs.Counts.{count_below}
 use Rattle.sum_laws.proofs.Counts.{count_below_le, count_below_one, count_below_ones, count_below_same}
+use Rattle.sum_laws.proofs.Tests.{once_at_most}
 use Rattle.def_forest.specs.Forests.{bool_number, walk, ring_sum}
 use Rattle.forest_laws.specs.Walks.{listed}
 use Rattle.forest_laws.proofs.Odds.{counts_exchanged}
@@ -15,15 +16,14 @@ use Rattle.qm_forest.specs.Ties.{IsListed}
 pub walk_agrees : (next other : ℕ → ℕ) (from many : ℕ) → ((k : ℕ) → suc k < many → other (walk next from k)
     ≡ next (walk next from k)) → (k : ℕ) → k < many → walk other from k ≡ walk next from k
 walk_agrees next other from many same zero l = refl
-walk_agrees next other from many same (suc k) l = ap other (walk_agrees next other from many same k (omega (arith, l)))
+walk_agrees next other from many same (suc k) l = ap other (walk_agrees next other from many same k (omega arith))
     ∙ same k l
 
 pub listed_agrees : (next other : ℕ → ℕ) (from many : ℕ) → ((k : ℕ) → k < many → walk other from k ≡ walk next from k)
     → (v k : ℕ) → k ≤ many → listed other from k v ≡ listed next from k v
 listed_agrees next other from many walks v zero l = refl
 listed_agrees next other from many walks v (suc k) l =
-    ap (λ (s : Bool). s || eqb (walk other from k) v) (listed_agrees next other from many walks v k (omega (arith, l)))
-    ∙ ap (λ x. listed next from k v || eqb x v) (walks k (omega (arith, l)))
+    cc (listed_agrees next other from many walks v k (omega (arith, l)), walks k (omega (arith, l)))
 
 pub list_agrees : {n : ℕ} {next : ℕ → ℕ} (other : ℕ → ℕ) {from to many : ℕ} {set : ℕ → Bool}
     → IsListed n next from to many set → ((k : ℕ) → suc k < many → other (walk next from k) ≡ next (walk next from k))
@@ -31,8 +31,8 @@ pub list_agrees : {n : ℕ} {next : ℕ → ℕ} (other : ℕ → ℕ) {from to 
 list_agrees {n} {next} other {from} {many} is same = record {
   all = λ v l. listed_agrees next other from many walks v many (omega arith) ∙ is.all v l;
   low = λ k l. rw (walks k l) (is.low k l);
-  distinct = λ i j lij lj e. is.distinct i j lij lj (sym (walks i (omega (arith, lij, lj))) ∙ (e ∙ walks j lj));
-  ends = λ k e. walks k (omega (arith, e)) ∙ is.ends k e;
+  distinct = λ i j lij lj e. is.distinct i j lij lj (sym (walks i (omega arith)) ∙ (e ∙ walks j lj));
+  ends = λ k e. walks k (omega arith) ∙ is.ends k e;
   some = is.some;
 }
   where
@@ -53,19 +53,19 @@ list_renamed other is same = record {
 -- The last of a list, and the members as such.
 pub list_last : {n : ℕ} {next : ℕ → ℕ} {from to : ℕ} (many : ℕ) {set : ℕ → Bool} → IsListed n next from to many set
     → (k : ℕ) × (suc k ≡ many) × (walk next from k ≡ to)
-list_last zero is = absurd (omega (arith, is.some))
+list_last zero is = absurd (omega arith)
 list_last (suc k) is = (k, refl, is.ends k refl)
 
 pub list_member : {n : ℕ} {next : ℕ → ℕ} {from to many : ℕ} {set : ℕ → Bool} → IsListed n next from to many set
     → (k : ℕ) → k < many → set (walk next from k) ≡ true
-list_member {next} {from} {many} is k l = sym (is.all (walk next from k) (is.low k l)) ∙ listed_at next from many k l
+list_member {next} {from} {many} is k l = sym (is.all _ (is.low k l)) ∙ listed_at next from many k l
 
 pub list_has_last : {n : ℕ} {next : ℕ → ℕ} {from to many : ℕ} {set : ℕ → Bool} → IsListed n next from to many set
     → (to < n) × (set to ≡ true)
 list_has_last {n} {next} {from} {to} {many} {set} is =
-    let w : (k : ℕ) × (suc k ≡ many) × (walk next from k ≡ to) = list_last many is in (
-      rw w.2 at (is.low w.0 (omega (arith, w.1))),
-      rw w.2 at (list_member is w.0 (omega (arith, w.1))),
+    let w = list_last many is in (
+      rw w.2 at (is.low w.0 (omega arith)),
+      rw w.2 at (list_member is w.0 (omega arith)),
     )
 
 -- A list as many members as it counts.
@@ -78,118 +78,100 @@ list_count {n} {next} {from} {many} {set} is = count_below_same (λ v. bool_numb
     ∙ (counts_exchanged next (λ p v. bool_number (eqb v p)) from n many ∙ ones many (omega arith)))
   where
     one : (p : ℕ) → p < n → count_below (λ v. bool_number (eqb v p)) n ≡ 1
-    one p l = count_below_one (λ v. bool_number (eqb v p)) n p l (λ k lk ne. ap bool_number (ne_eqb k p ne))
-        ∙ ap bool_number (eq-eqb p p refl)
+    one p l = cc (
+      count_below_one (λ v. bool_number (eqb v p)) n p l (λ k lk ne. ap bool_number (ne_eqb k p ne)),
+      eq-eqb
+          p p refl,
+    )
 
     ones : (k : ℕ) → k ≤ many → ring_sum next (λ p. count_below (λ v. bool_number (eqb v p)) n) from k ≡ k
     ones zero l = refl
     ones (suc k) l = (let h : ring_sum next (λ p. count_below (λ v. bool_number (eqb v p)) n) from k ≡ k =
-        ones k (omega (arith, l)) in let o : count_below (λ v. bool_number (eqb v (walk next from k))) n ≡ 1 =
-        one (walk next from k) (is.low k (omega (arith, l))) in omega (arith, h, o))
+        ones k (omega arith) in let o : count_below (λ v. bool_number (eqb v (walk next from k))) n ≡ 1 =
+        one _ (is.low k (omega arith)) in omega arith)
 
 pub list_few : {n : ℕ} {next : ℕ → ℕ} {from to many : ℕ} {set : ℕ → Bool} → IsListed n next from to many set → many ≤ n
 list_few {n} {set} is =
     let below : count_below (λ v. bool_number (set v)) n ≤ count_below (λ v. 1) n =
-    count_below_le (λ v. bool_number (set v)) (λ v. 1) n (λ k l. by_test (set k)) in
-    omega (arith, list_count is, below, count_below_ones n)
-  where
-    by_test : (s : Bool) → bool_number s ≤ 1
-    by_test true = omega arith
-    by_test false = omega arith
+    count_below_le (λ v. bool_number (set v)) (λ v. 1) n (λ k l. once_at_most (set k)) in
+    omega (arith, list_count is, count_below_ones n)
 
 -- Two lists, of which the second begins where the first ends.
 pub list_joined : {n : ℕ} {next : ℕ → ℕ} {a b m c d k : ℕ} {s t : ℕ → Bool} → IsListed n next a b m s
     → IsListed n next c d k t → next b ≡ c → ((v : ℕ) → s v ≡ true → t v ≡ true → ⊥)
     → IsListed n next a d (m + k) (λ v. s v || t v)
 list_joined {n} {next} {a} {b} {m} {c} {d} {k} {s} {t} one two seam apart = record {
-  all = λ v l. listed_parts next a m k v ∙ (ap (λ (p : Bool). p || listed next (walk next a m) k v) (one.all v l)
-      ∙ (ap (λ x. s v || listed next x k v) turn ∙ ap (λ (p : Bool). s v || p) (two.all v l)));
-  low = λ i l. by_place (λ x. x < n) i l (λ j lj. one.low j lj) (λ j lj. two.low j lj);
+  all = λ v l. listed_parts next a m k v ∙ (cc (one.all v l, turn, two.all v l));
+  low = λ i l. elim (cases_lt i m) [
+    | inl li ↦ one.low i li
+    | inr h ↦ (let e : m + (i - m) ≡ i = omega arith in
+        rw (sym (second (i - m)) ∙ ap (walk next a) e) at (two.low (i - m) (omega arith)))
+  ];
   distinct = λ i j lij lj e. differ i j lij lj e (cases_lt i m) (cases_lt j m);
   ends = λ j e. at_end j e;
-  some = omega (arith, one.some);
+  some = omega arith;
 }
   where
     turn : walk next a m ≡ c
-    turn = let w : (j : ℕ) × (suc j ≡ m) × (walk next a j ≡ b) = list_last m one in
+    turn = let w = list_last m one in
         ap (walk next a) (sym w.1) ∙ (ap next w.2 ∙ seam)
 
     second : (j : ℕ) → walk next a (m + j) ≡ walk next c j
     second j = walk_sum next a m j ∙ ap (λ x. walk next x j) turn
 
-    by_place : (P : ℕ → Type 0) (i : ℕ) → i < m + k → ((j : ℕ) → j < m → P (walk next a j))
-        → ((j : ℕ) → j < k → P (walk next c j)) → P (walk next a i)
-    by_place P i l first rest = elim (cases_lt i m) [
-      | inl li ↦ first i li
-      | inr h ↦ (let e : m + (i - m) ≡ i = omega (arith, h) in
-          (rw e at (subst P (sym (second (i - m))) (rest (i - m) (omega (arith, h, l))))))
-    ]
-
     differ : (i j : ℕ) → i < j → j < m + k → walk next a i ≡ walk next a j → (i < m) ⊎ (m ≤ i) → (j < m) ⊎ (m ≤ j) → ⊥
     differ i j lij lj e (inl li) (inl lj') = one.distinct i j lij lj' e
     differ i j lij lj e (inl li) (inr hj) =
-        let at : m + (j - m) ≡ j = omega (arith, hj) in
+        let at : m + (j - m) ≡ j = omega arith in
         let same : walk next a i ≡ walk next c (j - m) = e ∙ (ap (walk next a) (sym at) ∙ second (j - m)) in
-        apart (walk next a i) (list_member one i li) (ap t same ∙ list_member two (j - m) (omega (arith, hj, lj)))
-    differ i j lij lj e (inr hi) (inl lj') = absurd (omega (arith, lij, hi, lj'))
+        apart (walk next a i) (list_member one i li) (ap t same ∙ list_member two (j - m) (omega arith))
+    differ i j lij lj e (inr hi) (inl lj') = absurd (omega arith)
     differ i j lij lj e (inr hi) (inr hj) =
-        let ai : m + (i - m) ≡ i = omega (arith, hi) in
-        let aj : m + (j - m) ≡ j = omega (arith, hj) in
-        two.distinct (i - m) (j - m) (omega (arith, hi, lij)) (omega (arith, hj, lj)) (sym (second (i - m))
+        let ai : m + (i - m) ≡ i = omega arith in
+        let aj : m + (j - m) ≡ j = omega arith in
+        two.distinct (i - m) (j - m) (omega arith) (omega arith) (sym (second (i - m))
         ∙ (ap (walk next a) ai ∙ (e ∙ (ap (walk next a) (sym aj) ∙ second (j - m)))))
 
     at_end : (j : ℕ) → suc j ≡ m + k → walk next a j ≡ d
     at_end j e =
-        let w : (i : ℕ) × (suc i ≡ k) × (walk next c i ≡ d) = list_last k two in
-        let at : j ≡ m + w.0 = omega (arith, e, w.1) in
+        let w = list_last k two in
+        let at : j ≡ m + w.0 = omega arith in
         ap (walk next a) at ∙ (second w.0 ∙ w.2)
 
--- The lists of the blossoms of a row, each of which begins where the one before it ends.
-module _ (n : ℕ) (next after first last rank : ℕ → ℕ) (front many : ℕ) (out : ℕ → ℕ) (distinct : (i j : ℕ) → i < j
-    → j < many → walk after front i ≢ walk after front j)
-    (each : (k : ℕ) → k < many → IsListed n next (first (walk after front k)) (last (walk after front k))
-    (rank (walk after front k)) (λ v. eqb (out v) (walk after front k)))
-    (seams : (k : ℕ) → suc k < many → next (last (walk after front k)) ≡ first (walk after front (suc k))) where
-  pub row_joined : (k : ℕ) → k < many → IsListed n next (first front) (last (walk after front k))
-      (ring_sum after rank front (suc k)) (λ v. listed after front (suc k) (out v))
-  row_joined zero l = (let one : rank front ≡ 0 + rank front = omega arith in
-      rw one at (list_renamed (λ v. false || eqb front (out v)) (each 0 l) (λ v lv. eqb_order (out v) front)))
-  row_joined (suc k) l = list_renamed (λ v. listed after front (suc k) (out v)
-      || eqb (walk after front (suc k)) (out v)) (list_joined (row_joined k (omega (arith, l))) (each (suc k) l)
-      (seams k l) (λ v on too. apart v on too)) (λ v lv. ap (λ (s : Bool). listed after front (suc k) (out v) || s)
-      (eqb_order (out v) (walk after front (suc k))))
-    where
-      apart : (v : ℕ) → listed after front (suc k) (out v) ≡ true → eqb (out v) (walk after front (suc k)) ≡ true → ⊥
-      apart v on too = let w : (j : ℕ) × (j < suc k) × (walk after front j ≡ out v) =
-          listed_place after front (suc k) (out v) on in
-          distinct w.0 (suc k) w.1 l (w.2 ∙ eqb-true (out v) (walk after front (suc k)) too)
-
--- The lists of a row have no more members together than there are vertices.
+-- The lists of the blossoms of a row.
 module _ (n : ℕ) (next after first last rank : ℕ → ℕ) (front many : ℕ) (out : ℕ → ℕ) (distinct : (i j : ℕ) → i < j
     → j < many → walk after front i ≢ walk after front j)
     (each : (k : ℕ) → k < many → IsListed n next (first (walk after front k)) (last (walk after front k))
     (rank (walk after front k)) (λ v. eqb (out v) (walk after front k))) where
+  -- They have no more members together than there are vertices.
   counts : (k : ℕ) → k ≤ many → ring_sum after rank front k
       ≡ ring_sum after (λ p. count_below (λ v. bool_number (eqb (out v) p)) n) front k
   counts zero l = refl
   counts (suc k) l =
       let here : count_below (λ v. bool_number (eqb (out v) (walk after front k))) n ≡ rank (walk after front k) =
-      list_count (each k (omega (arith, l))) in
-      omega (arith, here, counts k (omega (arith, l)))
+      list_count (each k (omega arith)) in
+      omega (arith, counts k (omega (arith, l)))
 
   pub row_few : ring_sum after rank front many ≤ n
   row_few =
+      let one : (v : ℕ) → ring_sum after (λ p. bool_number (eqb (out v) p)) front many ≤ 1 = λ v. omega
+      (arith, listed_sum after front many (out v) distinct, once_at_most (listed after front many (out v))) in
       let swap : count_below (λ v. ring_sum after (λ p. bool_number (eqb (out v) p)) front many) n
-      ≡ ring_sum after (λ p. count_below (λ v. bool_number (eqb (out v) p)) n) front many =
-      counts_exchanged after (λ p v. bool_number (eqb (out v) p)) front n many in
+      ≡ ring_sum after (λ p. count_below (λ v. bool_number (eqb (out v) p)) n) front many = counts_exchanged after
+      (λ p v. bool_number (eqb (out v) p)) front n many in
       let below : count_below (λ v. ring_sum after (λ p. bool_number (eqb (out v) p)) front many) n
       ≤ count_below (λ v. 1) n = count_below_le (λ v. ring_sum after (λ p. bool_number (eqb (out v) p)) front many)
       (λ v. 1) n (λ v lv. one v) in
-      omega (arith, counts many (omega arith), swap, below, count_below_ones n)
-    where
-      by_test : (s : Bool) → bool_number s ≤ 1
-      by_test true = omega arith
-      by_test false = omega arith
+      omega (arith, counts many (omega arith), count_below_ones n)
 
-      one : (v : ℕ) → ring_sum after (λ p. bool_number (eqb (out v) p)) front many ≤ 1
-      one v = omega (arith, listed_sum after front many (out v) distinct, by_test (listed after front many (out v)))
+  -- They are joined, where each begins where the one before it ends.
+  pub row_joined : ((k : ℕ) → suc k < many → next (last (walk after front k)) ≡ first (walk after front (suc k)))
+      → (k : ℕ) → k < many → IsListed n next (first front) (last (walk after front k))
+      (ring_sum after rank front (suc k)) (λ v. listed after front (suc k) (out v))
+  row_joined seams zero l = (let one : rank front ≡ 0 + rank front = omega arith in
+      rw one at (list_renamed (λ v. false || eqb front (out v)) (each 0 l) (λ v lv. eqb_order (out v) front)))
+  row_joined seams (suc k) l = list_renamed (λ v. listed after front (suc k) (out v)
+      || eqb (walk after front (suc k)) (out v)) (list_joined (row_joined seams k (omega arith)) (each (suc k) l)
+      (seams k l) (λ v on too. (let w = listed_place after front (suc k) (out v) on in
+      distinct w.0 (suc k) w.1 l (w.2 ∙ eqb-true (out v) (walk after front (suc k)) too)))) (λ v lv.
+      ap (λ (s : Bool). listed after front (suc k) (out v) || s) (eqb_order (out v) _))

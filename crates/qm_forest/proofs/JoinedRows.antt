@@ -1,5 +1,5 @@
 -- One list of a row more is joined.
-use Rattle.std.proofs.Common.{◌≡◌, ◌≢◌, ℕ, zero, suc, ◌+◌, ◌-◌, ◌<◌, ◌≤◌, ◌⊎◌, List, length, get_or, sym, ◌∙◌, ap}
+use Rattle.std.proofs.Common.{◌≡◌, ℕ, zero, suc, ◌+◌, ◌-◌, ◌<◌, ◌≤◌, List, length, get_or, ◌∙◌, ap}
 use Rattle.std.proofs.Common.{inl, inr, arith}
 use Rattle.std.proofs.Math.ListN.{set}
 use Rattle.std.proofs.lemmas.{Bool.cases_eq, List.get_or_read}
@@ -16,40 +16,30 @@ ring_sum_low next f from k (suc m) =
     omega (arith, ap (ring_sum next f from) e, ring_sum_low next f from k m)
 
 pub ring_sum_below : (next f : ℕ → ℕ) (from k n : ℕ) → k ≤ n → ring_sum next f from k ≤ ring_sum next f from n
-ring_sum_below next f from k n l = (let e : k + (n - k) ≡ n = omega (arith, l) in
+ring_sum_below next f from k n l = (let e : k + (n - k) ≡ n = omega arith in
     (rw e at (ring_sum_low next f from k (n - k))))
 
 -- Each of two or more numbers along a row, none of them 0, is less than their sum.
 pub ring_sum_above : (next f : ℕ → ℕ) (from many : ℕ) → 2 ≤ many → ((j : ℕ) → j < many → 1 ≤ f (walk next from j))
     → (k : ℕ) → k < many → f (walk next from k) < ring_sum next f from many
-ring_sum_above next f from many two some k l = by_first (cases_eq k 0)
+ring_sum_above next f from many two some k l =
+    elim (cases_eq k 0) [
+      | inl z ↦ (let below = ring_sum_below next f from (suc 1) many two in
+          omega (arith, ap (λ j. f (walk next from j)) z, some 1 (omega arith)))
+      | inr nz ↦ (let below = ring_sum_below next f from (suc k) many (omega arith) in
+          omega (arith, positive k (omega arith) (omega arith)))
+    ]
   where
     positive : (j : ℕ) → 1 ≤ j → j ≤ many → 1 ≤ ring_sum next f from j
-    positive zero lj le = absurd (omega (arith, lj))
-    positive (suc j) lj le = omega (arith, some j (omega (arith, le)))
-
-    by_first : (k ≡ 0) ⊎ (k ≢ 0) → f (walk next from k) < ring_sum next f from many
-    by_first (inl z) =
-        omega (
-          arith,
-          ap (λ j. f (walk next from j)) z,
-          some 1 (omega (arith, two)),
-          ring_sum_below next f from (suc 1) many two,
-        )
-    by_first (inr nz) = omega (
-      arith,
-      ring_sum_below next f from (suc k) many (omega (arith, l)),
-      positive k (omega (arith, nz)) (omega (arith, l)),
-    )
+    positive zero lj le = absurd (omega arith)
+    positive (suc j) lj le = omega (arith, some j (omega arith))
 
 -- One entry more is written.
 pub written_more : (xs ys : List ℕ) (place value : ℕ → ℕ) (k : ℕ) {j p v : ℕ} → p < length xs → (λ i. get_or xs i 0)
     ≡ writes (λ i. get_or ys i 0) place value k → p ≡ place k → v ≡ value k → j ≡ suc k → (λ i. get_or (set xs p v) i 0)
     ≡ writes (λ i. get_or ys i 0) place value j
 written_more xs ys place value k {p} {v} low was p_is v_is j_is = entry_set xs p v 0 low
-    ∙ (ap (λ (f : ℕ → ℕ). set_at f p v) was ∙ (ap (λ e. set_at (writes (λ i. get_or ys i 0) place value k) e v) p_is
-    ∙ (ap (set_at (writes (λ i. get_or ys i 0) place value k) (place k)) v_is
-    ∙ ap (writes (λ i. get_or ys i 0) place value) (sym j_is))))
+    ∙ rw (p_is, v_is, j_is) (ap (λ (f : ℕ → ℕ). set_at f (place k) (value k)) was)
 
 -- A table that has not changed, with an entry for each blossom, has one for each of a row; and what is read there.
 module _ {after : List ℕ} {front many : ℕ} (k : ℕ) {x : ℕ} (row : IsRow (length after) after front many) (l : k < many)

@@ -1,8 +1,10 @@
 -- What stays of the tie where the nest changes, and no blossom has another weight.
-use Rattle.std.proofs.Common.{◌≡◌, ◌≢◌, ℕ, ◌<◌, cond, List, length, get_or, ℤ, pos, Option, None, sym, ◌∙◌, ap}
-use Rattle.std.proofs.Common.{inl, inr, Bool}
+use Rattle.std.proofs.Common.{◌≡◌, ◌≢◌, ℕ, ◌<◌, cond, List, length, ℤ, pos, Option, None, sym, ◌∙◌, ap}
+use Rattle.std.proofs.Common.{inl, inr, Bool, ◌≤ℤ◌, arith}
+use Rattle.std.proofs.lemmas.Int.{ints}
 use Rattle.std.proofs.lemmas.Bool.{cases_eq}
 use Rattle.sum_laws.proofs.Sums.{total_below_same}
+use Rattle.def_math.specs.Sums.{total_below}
 use Rattle.def_forest.specs.Tables.{ForestTables, climbs, label_at, out_of, up_at, weight_at}
 use Rattle.def_forest.specs.declared.kinds.Label.{Label}
 use Rattle.def_forest.specs.declared.kinds.Label.TheVariants.{Outside}
@@ -53,6 +55,27 @@ numbers_kept {t} tied {b} weightless {hand} {up} hand_size up_size past root_is 
       | inr ne ↦ ap (λ (s : Bool). cond s (weight_at t.base t.label t.delta x) (pos 0)) (past x v ne l)
     ]))
 
+-- The numbers, where no blossom has another weight and no handle adds another number.
+pub numbers_as : {hand top up : List ℕ} {base : List ℤ} {label : List Label} {delta : ℤ} {root : Option ℕ}
+    {q off : List ℤ} → HasNumbers hand top up base label delta root q off → {base2 : List ℤ} {label2 : List Label}
+    {delta2 : ℤ} {root2 : Option ℕ} {off2 : List ℤ} → weight_at base2 label2 delta2 ≡ weight_at base label delta
+    → ((v : ℕ) → v < length hand → added hand top off2 label2 delta2 v ≡ added hand top off label delta v)
+    → (pos 0 ≤ℤ delta2) × (delta2 ≤ℤ delta) → (root2 ≡ None → delta2 ≡ pos 0)
+    → HasNumbers hand top up base2 label2 delta2 root2 q off2
+numbers_as {hand} {up = up} numbers same more risen still =
+    let sum = ap (λ (w : ℕ → ℤ). total_below w (length up)) same in
+    record {
+      potentials = λ v l. (let around = ap (λ (w : ℕ → ℤ). total_below (λ b. cond (climbs (up_at up) (length hand) b v)
+          (w b) (pos 0)) (length up)) same in
+          omega (arith, ints, more v l, numbers.potentials v l));
+      small = λ b. omega (arith, ints, ap (λ (w : ℕ → ℤ). w b) same, numbers.small b);
+      start = numbers.start;
+      small_start = numbers.small_start;
+      moved = λ v l. omega (arith, ints, more v l, sum, numbers.moved v l);
+      risen = (risen.0, omega (arith, ints, sum, risen.1, numbers.risen.1));
+      still = still;
+    }
+
 -- The trail, where each vertex of a blossom with a place in the tree has the outermost blossom that it had.
 pub trail_kept : {n : ℕ} {hand top : List ℕ} {label : List Label} {trail : List ℕ} {touched : List Bool}
     → IsTrailed n hand top label trail touched → {hand2 top2 : List ℕ}
@@ -62,7 +85,6 @@ trail_kept {hand} {top} {label} {trail} is same = record {
   low = is.low;
   counted = is.counted;
   marked = is.marked;
-  named = λ x named. (let w : (k : ℕ) × (k < length trail) × (out_of hand top (get_or trail k 0) ≡ x) =
-      is.named x named in
+  named = λ x named. (let w = is.named x named in
       (w.0, w.1, same _ (is.low w.0 w.1) (λ e. named (ap (label_at label) (sym w.2) ∙ e)) ∙ w.2));
 }

@@ -1,5 +1,5 @@
 -- What tied tables say of how blossoms lie in each other, and the two parts that a joint joins.
-use Rattle.std.proofs.Common.{◌≡◌, ◌≢◌, ℕ, suc, ◌*◌, ◌<◌, ◌≤◌, true, eqb, length, get_or, ◌⊎◌, refl, sym, ◌∙◌, ap}
+use Rattle.std.proofs.Common.{◌≡◌, ◌≢◌, ℕ, suc, ◌*◌, ◌<◌, ◌≤◌, true, eqb, length, get_or, refl, sym, ◌∙◌, ap}
 use Rattle.std.proofs.Common.{inl, inr, arith}
 use Rattle.std.proofs.lemmas.Bool.{cases_eq, cases_lt, eq-eqb, false_from_ne_true, ne_eqb}
 use Rattle.def_matching.specs.Matching.{WeightedGraph, IsSmallGraph}
@@ -8,7 +8,7 @@ use Rattle.def_forest.specs.Tables.{forest_of, climbs, up_at, IsValidFor}
 use Rattle.def_forest.specs.Valid.{IsJoint, IsRing}
 use Rattle.forest_laws.proofs.{Facts.far_low, Graphs.are_darts, Writes.true_false}
 use Rattle.qm_forest.specs.Rounds.{IsSoundFor, IsLaminar, IsPairing, far_at, near_at, within}
-use Rattle.qm_forest.specs.Ties.{AreTied, HiddenTables, IsInUse, IsListed}
+use Rattle.qm_forest.specs.Ties.{AreTied, HiddenTables, IsInUse}
 use Rattle.qm_forest.proofs.{Enclosed.climbs_here, JoinedLists.list_few, JoinedLists.list_member, Nests.climbs_place}
 use Rattle.qm_forest.proofs.{Nests.comes_by, Nests.rank_few, Nests.rank_passed, Withins.none_in_both}
 use Rattle.qm_forest.proofs.Withins.{IsRising, pair_law}
@@ -19,34 +19,24 @@ laminar {t} {hid} tied = record {
   few = tied.sizes.few;
   rises = tied.nest.rises;
   low = λ x l used. list_few (tied.nest.members x l used);
-  passed = λ b v l on. (
-      omega (arith, rank_passed tied.nest v b l on, rank_few tied.nest v l));
-  own = λ b x l on. own b x l (climbs_place (up_at t.up) (length t.hand) x b on) (cases_eq b x);
-  two = λ x l used more. two x more (tied.nest.members x l used);
+  passed = λ b v l on. (omega (arith, rank_passed tied.nest v b l on, rank_few tied.nest v l));
+  own = λ b x l on. elim (cases_eq b x) [
+    | inl e ↦ e
+    | inr ne ↦ (let w = climbs_place _ _ x b on in
+        let y = comes_by _ b w.0 w.1 ne in
+        absurd (omega (arith, rw y.1 at (tied.nest.around y.0 (λ s. y.2 (sym s ∙ y.1))).0)))
+  ];
+  two = λ x l used more. (let list = tied.nest.members x l used in (
+    walk (λ k. get_or hid.following k 0) (get_or hid.first x 0) 0,
+    walk (λ k. get_or hid.following k 0) (get_or hid.first x 0) 1,
+    list.low 0 (omega arith),
+    list.low 1 (omega arith),
+    list.distinct 0 1 (omega arith) (omega arith),
+    list_member list 0 (omega arith),
+    list_member list 1 (omega arith),
+  ));
   some = λ x l used. (tied.nest.members x l used).some;
 }
-  where
-    own : (b x : ℕ) → x < length t.hand → (i : ℕ) × (walk (up_at t.up) b i ≡ x) → (b ≡ x) ⊎ (b ≢ x) → b ≡ x
-    own b x l w (inl e) = e
-    own b x l w (inr ne) =
-        let y : (y : ℕ) × (up_at t.up y ≡ x) × (y ≢ x) = comes_by (up_at t.up) b w.0 w.1 ne in
-        let around : (length t.hand ≤ up_at t.up y.0) × (get_or t.parts (up_at t.up y.0) 0 ≢ 0) =
-        tied.nest.around y.0 (λ s. y.2 (sym s ∙ y.1)) in
-        absurd (omega (arith, l, (rw y.1 at around.0)))
-
-    two : (x : ℕ) → 2 ≤ get_or t.rank x 0 → IsListed (length t.hand) (λ k. get_or hid.following k 0)
-        (get_or hid.first x 0) (get_or hid.last x 0) (get_or t.rank x 0) (climbs (up_at t.up) (length t.hand) x)
-        → (u : ℕ) × (v : ℕ) × (u < length t.hand) × (v < length t.hand) × (u ≢ v) × (within t u x ≡ true)
-        × (within t v x ≡ true)
-    two x more list = (
-      walk (λ k. get_or hid.following k 0) (get_or hid.first x 0) 0,
-      walk (λ k. get_or hid.following k 0) (get_or hid.first x 0) 1,
-      list.low 0 (omega (arith, more)),
-      list.low 1 (omega (arith, more)),
-      list.distinct 0 1 (omega arith) (omega (arith, more)),
-      list_member list 0 (omega (arith, more)),
-      list_member list 1 (omega (arith, more)),
-    )
 
 -- The way out of a blossom rises.
 pub rising : {t : ForestTables} → IsLaminar t → IsRising (length t.hand) (up_at t.up) (λ z. get_or t.rank z 0)
@@ -69,8 +59,7 @@ module _ {t : ForestTables} (known : IsLaminar t) where
   -- A vertex holds itself alone.
   pub alone : (v w : ℕ) → v < length t.hand → w < length t.hand → (forest_of t).holds v w ≡ eqb v w
   alone v w lv lw = elim (cases_eq v w) [
-    | inl e ↦ ap (λ x. climbs (up_at t.up) (length t.hand) v x) (sym e)
-        ∙ (climbs_here (up_at t.up) (length t.hand) v ∙ sym (eq-eqb v w e))
+    | inl e ↦ cc (climbs_here (up_at t.up) (length t.hand) v, eq-eqb v w e)
     | inr ne ↦ false_from_ne_true (climbs (up_at t.up) (length t.hand) v w) (λ on. ne (sym (known.own w v lv on)))
         ∙ sym (ne_eqb v w ne)
   ]
@@ -82,37 +71,28 @@ module _ {t : ForestTables} (known : IsLaminar t) where
     -- A set has another vertex than any one.
     pub another : (x w : ℕ) → length t.hand ≤ x → x < length t.up → get_or t.parts x 0 ≢ 0
         → (v : ℕ) × (v < length t.hand) × (v ≢ w) × ((forest_of t).holds x v ≡ true)
-    another x w high low live = by_two (known.two x low (inr live) (omega (
-      arith,
-      ring.lower 0,
-      known.some (walk (forest_of t).nest.after ((forest_of t).nest.head x) 0) (ring.below 0) part_used,
-    )))
+    another x w high low live =
+        let some = known.some (walk (forest_of t).nest.after ((forest_of t).nest.head x) 0) (ring.below 0) part_used in
+        let s = known.two x low (inr live) (omega (arith, some, ring.lower 0)) in
+        elim (cases_eq s.0 w) [
+          | inl e ↦ (s.1, s.3, (λ f. s.4 (e ∙ sym f)), s.6)
+          | inr ne ↦ (s.0, s.2, ne, s.5)
+        ]
       where
         ring : IsRing (darts_of g) (forest_of t) x
         ring = valid.valid.nested.rings x (rw valid.vertices at high) live
 
         part_used : IsInUse (length t.hand) t.parts (get_or t.head x 0)
-        part_used = by_size (cases_lt (get_or t.head x 0) (length t.hand))
-          where
-            inner : (forest_of t).nest.up (get_or t.head x 0) ≢ get_or t.head x 0
-            inner e = absurd (omega (arith, ring.lower 0, ap (λ y. get_or t.rank y 0) (sym (ring.inside 0) ∙ e)))
-
-            joint : IsJoint (darts_of g) (forest_of t) (get_or t.head x 0)
-            joint = valid.valid.nested.joints (get_or t.head x 0) inner
-
-            by_size : (get_or t.head x 0 < length t.hand) ⊎ (length t.hand ≤ get_or t.head x 0)
-                → IsInUse (length t.hand) t.parts (get_or t.head x 0)
-            by_size (inl l) = inl l
-            by_size (inr h) = inr (λ none. true_false joint.begins
-                (valid.valid.nested.empty (get_or t.head x 0) ((darts_of g).near (get_or t.joint (get_or t.head x 0) 0))
-                (rw valid.vertices at h) (are.near_low (get_or t.joint (get_or t.head x 0) 0) joint.tight.low) none))
-
-        by_two : (u : ℕ) × (v : ℕ) × (u < length t.hand) × (v < length t.hand) × (u ≢ v) × (within t u x ≡ true)
-            × (within t v x ≡ true) → (v : ℕ) × (v < length t.hand) × (v ≢ w) × ((forest_of t).holds x v ≡ true)
-        by_two s = elim (cases_eq s.0 w) [
-          | inl e ↦ (s.1, s.3, (λ f. s.4 (e ∙ sym f)), s.6)
-          | inr ne ↦ (s.0, s.2, ne, s.5)
-        ]
+        part_used =
+            let inner : (forest_of t).nest.up (get_or t.head x 0) ≢ get_or t.head x 0 = λ e. absurd
+            (omega (arith, ring.lower 0, ap (λ y. get_or t.rank y 0) (sym (ring.inside 0) ∙ e))) in
+            let joint = valid.valid.nested.joints (get_or t.head x 0) inner in
+            elim (cases_lt (get_or t.head x 0) (length t.hand)) [
+              | inl l ↦ inl l
+              | inr h ↦ inr (λ none. true_false joint.begins (valid.valid.nested.empty (get_or t.head x 0)
+                  ((darts_of g).near (get_or t.joint (get_or t.head x 0) 0)) (rw valid.vertices at h)
+                  (are.near_low (get_or t.joint (get_or t.head x 0) 0) joint.tight.low) none))
+            ]
 
     -- A part and the next are joined.
     module _ {x : ℕ} (inner : up_at t.up x ≢ x) where
@@ -154,18 +134,15 @@ module _ {t : ForestTables} (known : IsLaminar t) where
       y_low = rw (ap (λ z. get_or t.after z 0) x_place.2) at (ring_around.below (suc x_place.0))
 
       differ : x ≢ y
-      differ e = by_end (cases_eq (suc x_place.0) (get_or t.parts q 0))
-        where
-          same : walk (λ i. get_or t.after i 0) (get_or t.head q 0) x_place.0
-              ≡ walk (λ i. get_or t.after i 0) (get_or t.head q 0) (suc x_place.0)
-          same = x_place.2 ∙ (e ∙ sym (ap (λ z. get_or t.after z 0) x_place.2))
-
-          by_end : (suc x_place.0 ≡ get_or t.parts q 0) ⊎ (suc x_place.0 ≢ get_or t.parts q 0) → ⊥
-          by_end (inr l) = ring_around.distinct x_place.0 (suc x_place.0) (omega arith) (omega (arith, l, x_place.1))
-              same
-          by_end (inl at) = ring_around.distinct 0 x_place.0 (omega (arith, at, ring_around.odd, ring_around.some))
-              x_place.1
-              (sym ring_around.closed ∙ (ap (walk (λ i. get_or t.after i 0) (get_or t.head q 0)) (sym at) ∙ sym same))
+      differ e =
+          let same : walk (λ i. get_or t.after i 0) (get_or t.head q 0) x_place.0 ≡ walk (λ i. get_or t.after i 0)
+          (get_or t.head q 0) (suc x_place.0) = x_place.2 ∙ (e ∙ sym (ap (λ z. get_or t.after z 0) x_place.2)) in
+          elim (cases_eq (suc x_place.0) (get_or t.parts q 0)) [
+            | inr l ↦ ring_around.distinct x_place.0 (suc x_place.0) (omega arith) (omega (arith, l, x_place.1)) same
+            | inl at ↦ ring_around.distinct 0 x_place.0 (omega (arith, at, ring_around.odd, ring_around.some))
+                x_place.1
+                (sym ring_around.closed ∙ (ap (walk (λ i. get_or t.after i 0) (get_or t.head q 0)) (sym at) ∙ sym same))
+          ]
 
       d_low : d < 2 * length g.edges
       d_low = joint_is.tight.low

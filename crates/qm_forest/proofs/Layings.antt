@@ -1,10 +1,9 @@
 -- A way to the root while it is laid.
-use Rattle.std.proofs.Common.{◌≡◌, ◌≢◌, ℕ, suc, ◌*◌, ◌<◌, ◌≤◌, length, None, sym, ◌∙◌, ap, arith}
+use Rattle.std.proofs.Common.{◌≡◌, ◌≢◌, ℕ, suc, ◌*◌, ◌<◌, length, None, sym, ◌∙◌, ap, arith}
 use Rattle.std.proofs.Math.ListN.{set}
 use Rattle.def_matching.specs.Matching.{WeightedGraph, IsSmallGraph}
 use Rattle.def_forest.specs.{Darts.Darts, Darts.darts_of, Darts.far, Forests.Forest, Forests.set_at}
-use Rattle.def_forest.specs.{Tables.ForestTables, Tables.forest_of, Tables.IsValidFor, Ways.dart_or}
-use Rattle.def_forest.specs.declared.kinds.Label.TheVariants.{Outside}
+use Rattle.def_forest.specs.{Tables.ForestTables, Tables.forest_of, Ways.dart_or}
 use Rattle.forest_laws.specs.Climbing.{rise_of, level_of, way_of}
 use Rattle.qm_forest.specs.Rings.{ringed, IsRingedAlike, MayClimb, laid_down, laid_up, laid_ring}
 use Rattle.qm_forest.specs.Ties.{AreTied, HiddenTables}
@@ -29,31 +28,25 @@ pub record IsLaidPlace (g : WeightedGraph) (t0 t : ForestTables) (a i x : ℕ) :
 pub laid_place : {g : WeightedGraph} → IsSmallGraph g → (t0 : ForestTables) (a steps : ℕ) → MayClimb g t0 a steps
     → (i : ℕ) → i < steps → {x : ℕ} → x ≡ way_of (darts_of g) (forest_of t0) a i → (t : ForestTables)
     → IsRingedAlike t0 t → IsLaidPlace g t0 t a i x
-laid_place {g} is t0 a steps may i l {x} x_is t alike = by_first may.0 may.1 may.2 may.3 may.4
-  where
-    by_first : (s : ForestTables) → IsValidFor g s → IsRingedAlike s t0 → (forest_of s).label a ≢ Outside
-        → steps ≤ level_of (darts_of g) (forest_of s) a → IsLaidPlace g t0 t a i x
-    by_first s valid first named few =
-        let li : i < level_of (darts_of g) (forest_of s) a = omega (arith, l, few) in
-        let both : IsRingedAlike s t = alike_more s t0 t first alike in
-        let here : x ≡ way_of (darts_of g) (forest_of s) a i =
-        x_is ∙ ap (λ (u : ForestTables). way_of (darts_of g) (forest_of u) a i) first in
-        let up : t.up ≡ s.up = ap (λ (u : ForestTables). u.up) both in
-        let hand : t.hand ≡ s.hand = ap (λ (u : ForestTables). u.hand) both in
-        let rise : rise_of (forest_of t) x ≡ rise_of (forest_of s) (way_of (darts_of g) (forest_of s) a i) =
-        ap (λ (u : ForestTables). rise_of (forest_of u) x) both ∙ ap (rise_of (forest_of s)) here in
-        let next_is : way_of (darts_of g) (forest_of t0) a (suc i) ≡ way_of (darts_of g) (forest_of s) a (suc i) =
-        ap (λ (u : ForestTables). way_of (darts_of g) (forest_of u) a (suc i)) first in
-        record {
-          low = rw (up, here) (place_low is valid a named i li);
-          some = λ e. place_rises is valid a named i li (sym rise ∙ e);
-          vertices = ap length hand ∙ valid.vertices;
-          dart = rw rise (place_dart is valid a named i li);
-          next = ap (λ (u : ForestTables). (forest_of u).out (far (darts_of g) (dart_or (rise_of (forest_of t) x))))
-              both ∙ (ap (λ o. (forest_of s).out (far (darts_of g) (dart_or o))) rise ∙ sym next_is);
-          next_low = rw (up, next_is) (next_low is valid a named i li);
-          same = ap (λ (u : ForestTables). rise_of (forest_of u) x) alike ∙ ap (rise_of (forest_of t0)) x_is;
-        }
+laid_place {g} is t0 a steps may i l {x} x_is t alike =
+    let s = may.0 in
+    let valid = may.1 in
+    let named = may.3 in
+    let li : i < level_of (darts_of g) (forest_of may.0) a = omega arith in
+    let both = alike_more s t0 t may.2 alike in
+    let here = x_is ∙ ap (λ (u : ForestTables). way_of (darts_of g) (forest_of u) a i) may.2 in
+    let up = ap (λ (u : ForestTables). u.up) both in
+    let rise = ap (λ (u : ForestTables). rise_of (forest_of u) x) both ∙ ap (rise_of (forest_of s)) here in
+    let next_is = ap (λ (u : ForestTables). way_of (darts_of g) (forest_of u) a (suc i)) may.2 in
+    record {
+      low = rw (up, here) (place_low is valid a named i li);
+      some = λ e. place_rises is valid a named i li (sym rise ∙ e);
+      vertices = ap (λ (u : ForestTables). length u.hand) both ∙ valid.vertices;
+      dart = rw rise (place_dart is valid a named i li);
+      next = cc;
+      next_low = rw (up, next_is) (next_low is valid a named i li);
+      same = ap (λ (u : ForestTables). rise_of (forest_of u) x) alike ∙ ap (rise_of (forest_of t0)) x_is;
+    }
 
 -- One step more is laid.
 pub laid_more_down : (g : Darts) (f0 : Forest) {f1 f2 : Forest} (a i : ℕ) {x y d e : ℕ} → f1 ≡ laid_down g f0 a i → f2
@@ -73,8 +66,8 @@ pub seen_lay : {t : ForestTables} {hid : HiddenTables} → AreTied t hid → (x 
 seen_lay {t} tied x next dart low i = record (forest_of t) {
   nest = record {
     up = (forest_of t).nest.up;
-    after = entry_set t.after x next 0 (omega (arith, tied.sizes.after)) i;
-    joint = entry_set t.joint x dart 0 (omega (arith, tied.sizes.joint)) i;
+    after = entry_set t.after x next 0 (omega arith) i;
+    joint = entry_set t.joint x dart 0 (omega arith) i;
     head = (forest_of t).nest.head;
     parts = (forest_of t).nest.parts;
     rank = (forest_of t).nest.rank;

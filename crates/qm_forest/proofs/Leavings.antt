@@ -27,12 +27,10 @@ left_more f0 front k v e1 e2 v_is x_is j_is = e2 ∙ rw (v_is, x_is, e1, j_is)
 pub gathered_outermost : {t : ForestTables} (u : ForestTables) {front many b : ℕ} → IsFreeRing t front many
     → IsGathered (length t.hand) (forest_of t) (forest_of u) (listed (λ i. get_or t.after i 0) front many) front many b
     → length u.hand ≡ length t.hand → IsOutermostIn u b
-gathered_outermost {t} u {front} {many} {b} ring is size = by_first (ring.tops 0 ring.row.some)
-  where
-    by_first : IsOutermostIn t front → IsOutermostIn u b
-    by_first w = (
+gathered_outermost {t} u {front} {many} {b} ring is size =
+    let w = ring.tops 0 ring.row.some in (
       w.0,
-      (rw size w.1),
+      rw size w.1,
       is.out w.0 w.1 ∙ cond-true _ _ _ (ap (listed (λ i. get_or t.after i 0) front many) w.2
           ∙ listed_at (λ i. get_or t.after i 0) front many 0 ring.row.some),
     )
@@ -42,6 +40,6 @@ pub leader_of : {t : ForestTables} {hid : HiddenTables} → AreTied t hid → (b
     → IsOutermostIn t b → v ≡ get_or hid.leader b v → out_of u.hand u.top v ≡ b
 leader_of {t} {hid} tied b {v} e w read =
     let low : b < length hid.leader = rw tied.sizes.leader (outermost_low tied b w) in
-    let v_is : v ≡ get_or hid.leader b 0 = get_or_read hid.leader b v low read 0 in
+    let v_is = get_or_read hid.leader b v low read 0 in
     (rw e at (ap (out_of t.hand t.top) v_is
     ∙ (ap (λ x. out_of t.hand t.top (get_or hid.leader x 0)) (sym w.2) ∙ (leader_out tied.nest w.0 w.1 ∙ w.2))))

@@ -5,6 +5,7 @@ use Rattle.std.proofs.{Math.ListN.set, lemmas.Option.none-some}
 use Rattle.std.proofs.lemmas.Bool.{cases_Bool, cases_eq, cases_lt, cond-true, cond-false, eq-eqb, eqb-true, ne_eqb}
 use Rattle.std.proofs.lemmas.Bool.{false_from_ne_true}
 use Rattle.sum_laws.proofs.Counts.{count_below_none, count_below_one, count_below_same}
+use Rattle.sum_laws.proofs.Tests.{same_test}
 use Rattle.def_matching.specs.Matching.{WeightedGraph}
 use Rattle.def_forest.specs.{Darts.AreDarts, Darts.darts_of, Darts.far, Darts.other_dart, Forests.Forest}
 use Rattle.def_forest.specs.{Forests.bool_number, Forests.splits, Forests.walk, Tables.ForestTables, Tables.forest_of}
@@ -48,35 +49,35 @@ module _ {t : ForestTables} (known : IsLaminar t) {g : WeightedGraph} (valid : I
   top_stays u lu = valid.valid.outermost.tops u (low_in u lu)
 
   top_rank : (u : ℕ) → u < length t.hand → get_or t.rank (f.out u) 0 ≤ length t.hand
-  top_rank u lu = known.passed (f.out u) u lu (own u lu)
+  top_rank u lu = known.passed _ u lu (own u lu)
 
   -- What holds a vertex lies in its outermost blossom.
   around_in : (b u : ℕ) → u < length t.hand → within t u b ≡ true → within t b (f.out u) ≡ true
   around_in b u lu on =
-      let wb : (j : ℕ) × (walk (up_at t.up) u j ≡ b) = where_in (rising known) u b on in
-      let wo : (j : ℕ) × (walk (up_at t.up) u j ≡ f.out u) = where_in (rising known) u (f.out u) (own u lu) in
+      let wb = where_in (rising known) u b on in
+      let wo = where_in (rising known) u _ (own u lu) in
       elim (in_line (rising known) u wb.0 wo.0 wb.1 wo.1) [
         | inl m ↦ in_where (rising known) b m.0 (top_rank u lu) m.1
-        | inr m ↦ in_where (rising known) b 0 (top_rank u lu) (sym m.1 ∙ walk_fixed (up_at t.up) m.0 (top_stays u lu))
+        | inr m ↦ in_where (rising known) b 0 (top_rank u lu) (sym m.1 ∙ walk_fixed _ m.0 (top_stays u lu))
       ]
 
   through : (b u w : ℕ) → u < length t.hand → within t w b ≡ true → within t b (f.out u) ≡ true → within t w (f.out u)
       ≡ true
   through b u w lu first second =
-      let wb : (j : ℕ) × (walk (up_at t.up) w j ≡ b) = where_in (rising known) w b first in
-      let wo : (j : ℕ) × (walk (up_at t.up) b j ≡ f.out u) = where_in (rising known) b (f.out u) second in
-      in_where (rising known) w (wb.0 + wo.0)
-      (top_rank u lu) (walk_sum (up_at t.up) w wb.0 wo.0 ∙ (ap (λ x. walk (up_at t.up) x wo.0) wb.1 ∙ wo.1))
+      let wb = where_in (rising known) w b first in
+      let wo = where_in (rising known) b _ second in
+      in_where (rising known) w _
+      (top_rank u lu) (walk_sum _ w wb.0 wo.0 ∙ (ap (λ x. walk (up_at t.up) x wo.0) wb.1 ∙ wo.1))
 
   -- No blossom lies in two outermost ones.
   not_both : (b u v : ℕ) → u < length t.hand → v < length t.hand → f.out u ≢ f.out v → within t b (f.out u) ≡ true
       → within t b (f.out v) ≡ true → ⊥
   not_both b u v lu lv ne on other =
-      let wu : (j : ℕ) × (walk (up_at t.up) b j ≡ f.out u) = where_in (rising known) b (f.out u) on in
-      let wv : (j : ℕ) × (walk (up_at t.up) b j ≡ f.out v) = where_in (rising known) b (f.out v) other in
+      let wu = where_in (rising known) b _ on in
+      let wv = where_in (rising known) b _ other in
       elim (in_line (rising known) b wu.0 wv.0 wu.1 wv.1) [
-        | inl m ↦ ne (sym (walk_fixed (up_at t.up) m.0 (top_stays u lu)) ∙ m.1)
-        | inr m ↦ ne (sym m.1 ∙ walk_fixed (up_at t.up) m.0 (top_stays v lv))
+        | inl m ↦ ne (sym (walk_fixed _ m.0 (top_stays u lu)) ∙ m.1)
+        | inr m ↦ ne (sym m.1 ∙ walk_fixed _ m.0 (top_stays v lv))
       ]
 
   -- Two outermost blossoms are a pair.
@@ -84,7 +85,7 @@ module _ {t : ForestTables} (known : IsLaminar t) {g : WeightedGraph} (valid : I
       → bool_number (splits (f.holds b) u v) + (waits_but t b (f.out u) u + waits_but t b (f.out v) v)
       ≡ bool_number (within t b (f.out u)) + bool_number (within t b (f.out v))
   tops_law u v b lu lv ne = by_pair (rising known)
-      (within t b (f.out u)) (within t b (f.out v)) (f.holds b u) (f.holds b v) (λ on. (
+      _ _ _ _ (λ on. (
         false_from_ne_true (within t b (f.out v)) (λ o. not_both b u v lu lv ne on o),
         false_from_ne_true (f.holds b v) (λ o. not_both b u v lu lv ne on (around_in b v lv o)),
       )) (λ on. (
@@ -111,7 +112,7 @@ module _ {t : ForestTables} (known : IsLaminar t) {g : WeightedGraph} (valid : I
 
   used_at : (u : ℕ) → u < length t.hand → length t.hand ≤ f.out u → get_or t.parts (f.out u) 0 ≢ 0
   used_at u lu high none = true_false (own u lu)
-      (valid.valid.nested.empty (f.out u) u (rw valid.vertices at high) (low_in u lu) none)
+      (valid.valid.nested.empty _ u (rw valid.vertices at high) (low_in u lu) none)
 
   pub mate_edge : (e : ℕ) → f.mate (out (from e)) ≡ Some (2 * e) → IsMateEdge e
   mate_edge e mate = record {
@@ -165,7 +166,7 @@ module _ {t : ForestTables} (known : IsLaminar t) {g : WeightedGraph} (valid : I
   dart_is d e = ap (λ (x : Option ℕ). is_dart x d) e ∙ eq-eqb d d refl
 
   pub matches_is : (e : ℕ) → matches t e ≡ true → IsMateEdge e
-  matches_is e on = mate_edge e (dart_true (f.mate (out (from e))) (2 * e) on)
+  matches_is e on = mate_edge e (dart_true _ (2 * e) on)
 
   abbrev term : ℕ → ℕ → ℕ
   term b e = cond (matches t e) (bool_number (within t b (out (from e))) + bool_number (within t b (out (to e)))) 0
@@ -174,10 +175,10 @@ module _ {t : ForestTables} (known : IsLaminar t) {g : WeightedGraph} (valid : I
   term_none : (w e : ℕ) → w < length t.hand → ((d : ℕ) → f.mate (f.out w) ≡ Some d → e ≢ d / 2) → term w e ≡ 0
   term_none w e lw other = elim (cases_Bool (matches t e)) [
     | inr off ↦ cond-false _ _ _ off
-    | inl on ↦ (let m : IsMateEdge e = matches_is e on in
+    | inl on ↦ (let m = matches_is e on in
         let first : within t w (out (from e)) ≡ false =
         false_from_ne_true (within t w (out (from e))) (λ o. other (2 * e) (ap f.mate (eqb-true (f.out w) (out (from e))
-        (sym (within_out w (from e) lw m.near_low) ∙ o)) ∙ m.mate) (omega arith)) in
+        (sym (within_out w _ lw m.near_low) ∙ o)) ∙ m.mate) (omega arith)) in
         let second : within t w (out (to e)) ≡ false =
         false_from_ne_true (within t w (out (to e))) (λ o. other (2 * e + 1) (ap f.mate (eqb-true (f.out w) (out (to e))
         (sym (within_out w (to e) lw m.far_low) ∙ o)) ∙ m.back) (omega arith)) in
@@ -185,131 +186,102 @@ module _ {t : ForestTables} (known : IsLaminar t) {g : WeightedGraph} (valid : I
   ]
 
   term_one : (w d : ℕ) → w < length t.hand → f.mate (f.out w) ≡ Some d → (term w (d / 2) ≡ 1) × (d / 2 < length g.edges)
-  term_one w d lw mate = by_side (cases_eq (d % 2) 0)
+  term_one w d lw mate =
+      let m = valid.valid.matched (f.out w) d mate in
+      let d_low = m.tight.low in
+      let near_is : f.out (near_at t d) ≡ f.out w = ap f.out (valid.ends d d_low) ∙ m.here in
+      elim (cases_eq (d % 2) 0) [
+        | inl z ↦ let s : d ≡ 2 * (d / 2) = omega (arith, z) in let here : f.out w ≡ f.out (near_at t (2 * (d / 2))) =
+            sym near_is ∙ ap (λ k. f.out (near_at t k)) s in (
+              value (d / 2) (dart_is (2 * (d / 2))
+                  (ap f.mate (sym here) ∙ (mate ∙ ap (λ (k : ℕ). Some k) s))) (inl here),
+              omega (arith, d_low),
+            )
+        | inr nz ↦ let s : other_dart d ≡ 2 * (d / 2) = twin_odd d nz ∙ (let k : d - 1 ≡ 2 * (d / 2) = omega (
+          arith,
+          nz,
+        ) in k) in let up : d ≡ 2 * (d / 2) + 1 = omega (arith, nz) in let far_is : far (darts_of g) d ≡ near_at t
+            (2 * (d / 2)) = sym (valid.ends (other_dart d) (are.twin_low d d_low)) ∙ ap (near_at t) s in (
+              value (d / 2) (dart_is (2 * (d / 2)) (ap (λ v. f.mate (f.out v)) (sym far_is)
+                  ∙ (m.back ∙ ap (λ (k : ℕ). Some k) s))) (inr (sym near_is ∙ ap (λ k. f.out (near_at t k)) up)),
+              omega (arith, d_low),
+            )
+      ]
     where
-      m : IsMate (darts_of g) f (f.out w) d
-      m = valid.valid.matched (f.out w) d mate
-
-      d_low : d < 2 * length g.edges
-      d_low = m.tight.low
-
       value : (e : ℕ) → matches t e ≡ true → (f.out w ≡ out (from e)) ⊎ (f.out w ≡ out (to e)) → term w e ≡ 1
-      value e on side = cond-true _ _ _ on ∙ by_end side
-        where
-          me : IsMateEdge e
-          me = matches_is e on
+      value e on side =
+          let me = matches_is e on in
+          cond-true _ _ _ on ∙ elim side [
+            | inl s ↦ rw (
+              within_out w (from e) lw me.near_low,
+              eq-eqb (f.out w) (out (from e)) s,
+              within_out w (to e) lw me.far_low,
+              ne_eqb (f.out w) (out (to e)) (λ z. me.other (sym s ∙ z)),
+            )
+            | inr s ↦ rw (
+              within_out w (from e) lw me.near_low,
+              ne_eqb (f.out w) (out (from e)) (λ z. me.other (sym z ∙ s)),
+              within_out w (to e) lw me.far_low,
+              eq-eqb (f.out w) (out (to e)) s,
+            )
+          ]
 
-          at : (v : ℕ) → v < length t.hand → f.out w ≡ f.out v → bool_number (within t w (f.out v)) ≡ 1
-          at v lv s = ap bool_number (within_out w v lw lv ∙ eq-eqb (f.out w) (f.out v) s)
-
-          off : (v : ℕ) → v < length t.hand → f.out w ≢ f.out v → bool_number (within t w (f.out v)) ≡ 0
-          off v lv s = ap bool_number (within_out w v lw lv ∙ ne_eqb (f.out w) (f.out v) s)
-
-          by_end : (f.out w ≡ out (from e)) ⊎ (f.out w ≡ out (to e))
-              → bool_number (within t w (out (from e))) + bool_number (within t w (out (to e))) ≡ 1
-          by_end (inl s) = omega (arith, at (from e) me.near_low s, off (to e) me.far_low (λ z. me.other (sym s ∙ z)))
-          by_end (inr s) = omega (arith, off (from e) me.near_low (λ z. me.other (sym z ∙ s)), at (to e) me.far_low s)
-
-      near_is : f.out (near_at t d) ≡ f.out w
-      near_is = ap f.out (valid.ends d d_low) ∙ m.here
-
-      by_side : (d % 2 ≡ 0) ⊎ (d % 2 ≢ 0) → (term w (d / 2) ≡ 1) × (d / 2 < length g.edges)
-      by_side (inl z) =
-          let s : d ≡ 2 * (d / 2) = omega (arith, z) in
-          let here : f.out w ≡ f.out (near_at t (2 * (d / 2))) = sym near_is ∙ ap (λ k. f.out (near_at t k)) s in (
-            value (d / 2) (dart_is (2 * (d / 2)) (ap f.mate (sym here) ∙ (mate ∙ ap (λ (k : ℕ). Some k) s))) (inl here),
-            omega (arith, d_low),
-          )
-      by_side (inr nz) =
-          let s : other_dart d ≡ 2 * (d / 2) = twin_odd d nz ∙ (let k : d - 1 ≡ 2 * (d / 2) = omega (arith, nz) in k) in
-          let up : d ≡ 2 * (d / 2) + 1 = omega (arith, nz) in
-          let far_is : far (darts_of g) d ≡ near_at t (2 * (d / 2)) =
-          sym (valid.ends (other_dart d) (are.twin_low d d_low)) ∙ ap (near_at t) s in (
-            value (d / 2) (dart_is (2 * (d / 2))
-                (ap (λ v. f.mate (f.out v)) (sym far_is) ∙ (m.back ∙ ap (λ (k : ℕ). Some k) s)))
-                (inr (sym near_is ∙ ap (λ k. f.out (near_at t k)) up)),
-            omega (arith, d_low),
-          )
+  others_none : (w d : ℕ) → w < length t.hand → f.mate (f.out w) ≡ Some d → (k : ℕ) → k ≢ d / 2 → term w k ≡ 0
+  others_none w d lw mate k ne = term_none w k lw (λ x e at. ne (at ∙ ap (λ z. z / 2) (some_is x d (sym e ∙ mate))))
 
   -- A vertex is met once at most, and once where its blossom is matched.
   pub due_low : (w edges : ℕ) → w < length t.hand → matched_by t edges w ≤ 1
-  due_low w edges lw = by_mate (option_cases (f.mate (f.out w)))
-    where
-      by_mate : (f.mate (f.out w) ≡ None) ⊎ ((d : ℕ) × (f.mate (f.out w) ≡ Some d)) → matched_by t edges w ≤ 1
-      by_mate (inl none) = omega (
-        arith,
-        count_below_none (term w) edges (λ k l. term_none w k lw (λ d s. absurd (none-some d (sym none ∙ s)))),
-      )
-      by_mate (inr s) = by_place (cases_lt (s.0 / 2) edges)
-        where
-          others : (k : ℕ) → k ≢ s.0 / 2 → term w k ≡ 0
-          others k ne = term_none w k lw (λ d e at. ne (at ∙ ap (λ x. x / 2) (some_is d s.0 (sym e ∙ s.1))))
-
-          by_place : (s.0 / 2 < edges) ⊎ (edges ≤ s.0 / 2) → matched_by t edges w ≤ 1
-          by_place (inl l) = omega (
-            arith,
-            count_below_one (term w) edges (s.0 / 2) l (λ k lk ne. others k ne),
-            (term_one w s.0 lw s.1).0,
-          )
-          by_place (inr h) = omega (
-            arith,
-            count_below_none (term w) edges (λ k l. others k (λ e. absurd (omega (arith, l, h, e)))),
-          )
+  due_low w edges lw = elim (option_cases _) [
+    | inl none ↦ (let none = count_below_none _ edges (λ k l. term_none w k lw
+        (λ d s. absurd (none-some d (sym none ∙ s)))) in
+        omega arith)
+    | inr s ↦ elim (cases_lt (s.0 / 2) edges) [
+      | inl l ↦ (let one = count_below_one _ edges _ l (λ k lk. others_none w s.0 lw s.1 k) in
+          omega (arith, (term_one w s.0 lw s.1).0))
+      | inr h ↦ (let none = count_below_none _ edges (λ k l. others_none w s.0 lw s.1 k (λ e. absurd (omega arith))) in
+          omega arith)
+    ]
+  ]
 
   pub due_one : (w : ℕ) {edges : ℕ} → w < length t.hand → edges ≡ length g.edges → f.mate (f.out w) ≢ None
       → matched_by t edges w ≡ 1
-  due_one w {edges} lw all matched = elim (option_cases (f.mate (f.out w))) [
+  due_one w {edges} lw all matched = elim (option_cases _) [
     | inl none ↦ absurd (matched none)
-    | inr s ↦ count_below_one (term w) edges (s.0 / 2) (rw all (term_one w s.0 lw s.1).1)
-        (λ k lk ne. term_none w k lw (λ d e at. ne (at ∙ ap (λ x. x / 2) (some_is d s.0 (sym e ∙ s.1)))))
-        ∙ (term_one w s.0 lw s.1).0
+    | inr s ↦ count_below_one _ edges _ (rw all (term_one w s.0 lw s.1).1)
+        (λ k lk. others_none w s.0 lw s.1 k) ∙ (term_one w s.0 lw s.1).0
   ]
 
   -- A blossom is met as its vertices are.
   pub due_same : (b w edges : ℕ) → w < length t.hand → within t w b ≡ true → matched_by t edges b ≡ matched_by t edges w
-  due_same b w edges lw held = count_below_same (term b) (term w) edges (λ e l. each e (cases_Bool (matches t e)))
-    where
-      same : (u : ℕ) → u < length t.hand → within t b (f.out u) ≡ within t w (f.out u)
-      same u lu = by_test (cases_Bool (within t b (f.out u))) (cases_Bool (within t w (f.out u)))
-        where
-          by_test : (within t b (f.out u) ≡ true) ⊎ (within t b (f.out u) ≡ false) → (within t w (f.out u) ≡ true)
-              ⊎ (within t w (f.out u) ≡ false) → within t b (f.out u) ≡ within t w (f.out u)
-          by_test (inl on) y = on ∙ sym (through b u w lu held on)
-          by_test (inr off) (inr free) = off ∙ sym free
-          by_test (inr off) (inl on) =
-              let here : f.out w ≡ f.out u = eqb-true (f.out w) (f.out u) (sym (within_out w u lw lu) ∙ on) in
-              absurd (true_false (ap (within t b) (sym here) ∙ around_in b w lw held) off)
-
-      each : (e : ℕ) → (matches t e ≡ true) ⊎ (matches t e ≡ false) → term b e ≡ term w e
-      each e (inr off) = cond-false _ _ _ off ∙ sym (cond-false _ _ _ off)
-      each e (inl on) =
-          let m : IsMateEdge e = matches_is e on in
-          rw (same (from e) m.near_low, same (to e) m.far_low)
+  due_same b w edges lw held =
+      let same : (u : ℕ) → u < length t.hand → within t b (f.out u) ≡ within t w (f.out u) = λ u lu. same_test _ _
+      (λ on. through b u w lu held on) (λ on. (let here = eqb-true (f.out w) (f.out u) (sym (within_out w u lw lu) ∙ on)
+      in ap (within t b) (sym here) ∙ around_in b w lw held)) in
+      count_below_same _ _ edges (λ e l. elim (cases_Bool (matches t e)) [
+        | inr off ↦ cond-false _ _ _ off ∙ sym (cond-false _ _ _ off)
+        | inl on ↦ (let m = matches_is e on in rw (same (from e) m.near_low, same (to e) m.far_low))
+      ])
 
   -- One edge more.
   pub edge_more : {marks : List Bool} {marks2 : List Bool} {left : List (Option ℕ)} {left2 : List (Option ℕ)} (e j : ℕ)
-      → j ≡ e + 1 → length t.near ≡ 2 * length marks → length left ≡ length t.up → f.mate (out (from e))
-      ≡ Some (2 * e) → marks2 ≡ set marks (2 * e / 2) true → left2 ≡ entered (length t.hand)
-      (entered (length t.hand) left (out (from e)) (from e)) (out (to e))
-      (far_at t (2 * e)) → IsRound t marks left (λ b. 0) (matched_by t e)
-      → IsRound t marks2 left2 (λ b. 0) (matched_by t j)
-  edge_more {marks} {left} {left2} e j j_is size_marks size_left mate marks_is left_is round =
-      rw (marks_is, left_is) (paired_round known valid marks
-      left (out (from e)) (out (to e)) (2 * e) (λ b. 0) (matched_by t j) size_marks size_left (record {
+      → j ≡ e + 1 → length t.near ≡ 2 * length marks → length left ≡ length t.up → f.mate (out (from e)) ≡ Some (2 * e)
+      → marks2 ≡ set marks (2 * e / 2) true → left2
+      ≡ entered (length t.hand) (entered (length t.hand) left (out (from e)) (from e)) (out (to e)) (far_at t (2 * e))
+      → IsRound t marks left (λ b. 0) (matched_by t e) → IsRound t marks2 left2 (λ b. 0) (matched_by t j)
+  edge_more {marks} {left} e j j_is size_marks size_left mate marks_is left_is round =
+      let step : (b : ℕ) → matched_by t j b ≡ matched_by t e b + (bool_number (within t b (out (from e)))
+      + bool_number (within t b (out (to e)))) = λ b. (let o : j ≡ suc e = omega arith in
+      ap (λ k. matched_by t k b) o ∙ ap (λ m. matched_by t e b + m) (cond-true _ _ _ (dart_is (2 * e) mate))) in
+      rw (marks_is, left_is) (paired_round known valid marks left _ _ (2 * e) (λ b. 0)
+      _ size_marks size_left (record {
         each = λ b l. omega (arith, round.each b l, step b);
         entry = round.entry;
         once = λ v l. due_low v j l;
         tight = round.tight;
       }) (mate_edge e mate).pairing)
-    where
-      step : (b : ℕ) → matched_by t j b ≡ matched_by t e b + (bool_number (within t b (out (from e))) +
-          bool_number (within t b (out (to e))))
-      step b = ap (λ k. matched_by t k b) (j_is ∙ (let o : e + 1 ≡ suc e = omega arith in o))
-          ∙ ap (λ m. matched_by t e b + m) (cond-true _ _ _ (dart_is (2 * e) mate))
 
-  pub edge_same : {marks : List Bool} {left : List (Option ℕ)} (e j : ℕ) → j ≡ e + 1
-      → f.mate (out (from e)) ≢ Some (2 * e) → IsRound t marks left (λ b. 0) (matched_by t e)
-      → IsRound t marks left (λ b. 0) (matched_by t j)
+  pub edge_same : {marks : List Bool} {left : List (Option ℕ)} (e j : ℕ) → j ≡ e + 1 → f.mate (out (from e))
+      ≢ Some (2 * e) → IsRound t marks left (λ b. 0) (matched_by t e) → IsRound t marks left (λ b. 0) (matched_by t j)
   edge_same e j j_is off round = record {
     each = λ b l. omega (arith, round.each b l, step b);
     entry = round.entry;
@@ -318,7 +290,6 @@ module _ {t : ForestTables} (known : IsLaminar t) {g : WeightedGraph} (valid : I
   }
     where
       step : (b : ℕ) → matched_by t j b ≡ matched_by t e b
-      step b = ap (λ k. matched_by t k b) (j_is ∙ (let o : e + 1 ≡ suc e = omega arith in o))
-          ∙ (ap (λ m. matched_by t e b + m) (cond-false _ _ _
-          (false_from_ne_true (matches t e) (λ on. off (dart_true (f.mate (out (from e))) (2 * e) on))))
+      step b = ap (λ k. matched_by t k b) (j_is ∙ (let o : e + 1 ≡ suc e = omega arith in o)) ∙ (ap (λ m. matched_by t e
+          b + m) (cond-false _ _ _ (false_from_ne_true (matches t e) (λ on. off (dart_true _ (2 * e) on))))
           ∙ (let o : matched_by t e b + 0 ≡ matched_by t e b = omega arith in o))

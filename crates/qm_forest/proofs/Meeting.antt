@@ -22,16 +22,12 @@ module _ {g : WeightedGraph} {t : ForestTables} (valid : IsValidFor g t) (climb 
 
   -- Ranks rise.
   rises : (x : ℕ) → up x ≢ x → rank x < rank (up x)
-  rises x inner = by_ring (valid.valid.nested.rings (up x) (valid.valid.nested.live x inner).0
-      (valid.valid.nested.live x inner).1)
-    where
-      by_ring : IsRing (darts_of g) (forest_of t) (up_at t.up x)
-          → slice_index t.rank x < slice_index t.rank (up_at t.up x)
-      by_ring ring =
-          let w : (k : ℕ) × (k < (forest_of t).nest.parts (up_at t.up x))
-          × (walk (forest_of t).nest.after ((forest_of t).nest.head (up_at t.up x)) k ≡ x) =
-          ring.all x refl (λ e. inner (sym e)) in
-          (rw w.2 at (ring.lower w.0))
+  rises x inner =
+      let by_ring : IsRing (darts_of g) (forest_of t) (up_at t.up x) → slice_index t.rank x
+      < slice_index t.rank (up_at t.up x) = λ ring. let w : (k : ℕ) × (k < (forest_of t).nest.parts (up_at t.up x))
+      × (walk (forest_of t).nest.after ((forest_of t).nest.head (up_at t.up x)) k ≡ x) = ring.all x refl
+      (λ e. inner (sym e)) in (rw w.2 at (ring.lower w.0)) in
+      by_ring (valid.valid.nested.rings (up x) (valid.valid.nested.live x inner).0 (valid.valid.nested.live x inner).1)
 
   -- The weight of a blossom that is not outermost is as it is kept.
   base_is : (x : ℕ) → up x ≢ x → get_or t.base x (pos 0) ≡ (forest_of t).weight x
@@ -45,7 +41,6 @@ module _ {g : WeightedGraph} {t : ForestTables} (valid : IsValidFor g t) (climb 
   passing x y = apart (length t.hand) up (forest_of t).weight (length t.up) x y
 
   -- One is within where one is.
-
   within_up : (b x : ℕ) → IsWithin t b x → IsWithin t b (up x)
   within_up b x w = (w.0, w.1, w.2, suc w.3, ap up w.4)
 
@@ -59,86 +54,69 @@ module _ {g : WeightedGraph} {t : ForestTables} (valid : IsValidFor g t) (climb 
   within_step : (b x y : ℕ) → IsWithin t b x → IsWithin t b y → x ≢ y → rank x ≤ rank y → x < length t.up
       → passing x y ≡ passing (up x) y +ℤ get_or t.base x (pos 0)
   within_step b x y wx wy ne le low =
-      let inner : up x ≢ x = within_climbs b x y wx wy ne le in
-      apart_step rank climb rises (forest_of t).weight (length t.up) wx.0 wx.0 x y
-      wx.1 (wx.3, wx.4) ne le inner low ∙ ap (λ z. passing (up x) y +ℤ z) (sym (base_is x inner))
+      let inner = within_climbs b x y wx wy ne le in
+      cc (
+        apart_step rank climb rises (forest_of t).weight (length t.up) wx.0 wx.0 x y wx.1 (wx.3, wx.4) ne le inner
+            low,
+        base_is x inner,
+      )
 
   all_small : (x y : ℕ) → unsigned_abs (passing x y) ≤ 2 ^ 88
-  all_small x y = omega (arith, apart_small (length t.hand) up (forest_of t).weight (length t.up) x y small, few)
+  all_small x y = omega (arith, apart_small (length t.hand) up (forest_of t).weight (length t.up) x y small)
 
   module _ {u v x y : ℕ} {load : ℤ} (meet : IsMeeting t u v x y load) (ne : x ≢ y) where
     abbrev top : ℕ
     top = (forest_of t).out u
 
+    -- Either is the lower one.
+    sides : {low high : ℕ} → ((low ≡ x) × (high ≡ y)) ⊎ ((low ≡ y) × (high ≡ x))
+        → IsMeeting t u v low high load × (low ≢ high) × (rank x + rank y ≡ rank low + rank high)
+    sides (inl e) = (rw (e.0, e.1) meet, rw (e.0, e.1) ne, rw (e.0, e.1))
+    sides (inr e) = (
+      rw (e.0, e.1) (record {
+        sum = omega (arith, ints, apart_order (length t.hand) up (forest_of t).weight (length t.up) x y, meet.sum);
+        first = meet.second;
+        second = meet.first;
+        low_x = meet.low_y;
+        low_y = meet.low_x;
+        small = meet.small;
+      }),
+      rw (e.0, e.1) (λ s. ne (sym s)),
+      omega (arith, ap rank e.0, ap rank e.1),
+    )
+
     -- A turn: the lower one climbs, and what it was at is passed.
     pub turn_meets : (low high : ℕ) {x2 : ℕ} (load2 : ℤ) → ((low ≡ x) × (high ≡ y)) ⊎ ((low ≡ y) × (high ≡ x))
         → rank low ≤ rank high → x2 ≡ up low → (low < length t.up → x2 < length t.up)
         → load2 ≡ load +ℤ get_or t.base low (pos 0) → IsMeeting t u v x2 high load2
-    turn_meets low high {x2} load2 either order x2_is x2_low load_is = by_side either
-      where
-        build : IsWithin t top low → IsWithin t top high → low ≢ high → low < length t.up → high < length t.up
-            → passing x y ≡ passing low high → IsMeeting t u v x2 high load2
-        build wl wh nlh ll lh same =
-            let sum : load2 +ℤ passing x2 high ≡ passing u v =
-            omega (
-              arith,
-              ints,
-              within_step top low high wl wh nlh order ll,
-              ap (λ k. passing k high) x2_is,
-              load_is,
-              same,
-              meet.sum,
-            ) in
-            record {
-              sum = sum;
-              first = rw x2_is (within_up top low wl);
-              second = wh;
-              low_x = x2_low ll;
-              low_y = lh;
-              small = omega (arith, ints, sum, all_small x2 high, all_small u v);
-            }
-
-        by_side : ((low ≡ x) × (high ≡ y)) ⊎ ((low ≡ y) × (high ≡ x)) → IsMeeting t u v x2 high load2
-        by_side (inl e) = build (rw e.0 meet.first) (rw e.1 meet.second) (λ s. ne (sym e.0 ∙ (s ∙ e.1)))
-            (rw e.0 meet.low_x) (rw e.1 meet.low_y) (ap (λ k. passing k y) (sym e.0) ∙ ap (passing low) (sym e.1))
-        by_side (inr e) = build (rw e.0 meet.second) (rw e.1 meet.first) (λ s. ne (sym (sym e.0 ∙ (s ∙ e.1))))
-            (rw e.0 meet.low_y) (rw e.1 meet.low_x)
-            (apart_order (length t.hand) up (forest_of t).weight (length t.up) x y
-            ∙ (ap (λ k. passing k x) (sym e.0) ∙ ap (passing low) (sym e.1)))
+    turn_meets low high {x2} load2 either order x2_is x2_low load_is =
+        let w = sides either in
+        let sum : load2 +ℤ passing x2 high ≡ passing u v = (let step = within_step top low high w.0.first w.0.second w.1
+        order w.0.low_x in
+        omega (arith, ints, ap (λ k. passing k high) x2_is, load_is, w.0.sum)) in
+        record {
+          sum = sum;
+          first = rw x2_is (within_up top low w.0.first);
+          second = w.0.second;
+          low_x = x2_low w.0.low_x;
+          low_y = w.0.low_y;
+          small = omega (arith, ints, sum, all_small x2 high, all_small u v);
+        }
 
     -- And they come nearer.
     pub turn_nearer : (low high : ℕ) {x2 : ℕ} → ((low ≡ x) × (high ≡ y)) ⊎ ((low ≡ y) × (high ≡ x))
-        → rank low ≤ rank high → x2 ≡ up low → (rank top + rank top) - (rank x2 + rank high) < (rank top + rank top) -
-        (rank x + rank y)
-    turn_nearer low high {x2} either order x2_is = by_side either
-      where
-        increasing : IsWithin t top low → IsWithin t top high → low ≢ high → (rank low < rank x2) × (rank x2 ≤ rank top)
-            × (rank high ≤ rank top)
-        increasing wl wh nlh = (
-          (rw x2_is (rises low (within_climbs top low high wl wh nlh order))),
-          (rw x2_is (within_rank top (up low) (within_up top low wl))),
-          within_rank top high wh,
-        )
-
-        by_side : ((low ≡ x) × (high ≡ y)) ⊎ ((low ≡ y) × (high ≡ x)) → (rank top + rank top) - (rank x2 + rank high)
-            < (rank top + rank top) - (rank x + rank y)
-        by_side (inl e) =
-            let r : (rank low < rank x2) × (rank x2 ≤ rank top) × (rank high ≤ rank top) =
-            increasing (rw e.0 meet.first) (rw e.1 meet.second) (λ s. ne (sym e.0 ∙ (s ∙ e.1))) in
-            let a : rank low ≡ rank x = ap rank e.0 in
-            let b : rank high ≡ rank y = ap rank e.1 in
-            omega (arith, r.0, r.1, r.2)
-        by_side (inr e) =
-            let r : (rank low < rank x2) × (rank x2 ≤ rank top) × (rank high ≤ rank top) =
-            increasing (rw e.0 meet.second) (rw e.1 meet.first) (λ s. ne (sym (sym e.0 ∙ (s ∙ e.1)))) in
-            let a : rank low ≡ rank y = ap rank e.0 in
-            let b : rank high ≡ rank x = ap rank e.1 in
-            omega (arith, r.0, r.1, r.2)
+        → rank low ≤ rank high → x2 ≡ up low
+        → (rank top + rank top) - (rank x2 + rank high) < (rank top + rank top) - (rank x + rank y)
+    turn_nearer low high either order x2_is =
+        let w = sides either in
+        let rise = rises low (within_climbs top low high w.0.first w.0.second w.1 order) in
+        let below = within_rank top (up low) (within_up top low w.0.first) in
+        omega (arith, ap rank x2_is, within_rank top high w.0.second)
 
 -- Where they have met, the load is found.
 pub met_load : {t : ForestTables} {u v x y : ℕ} {sum : ℤ} → IsMeeting t u v x y sum → x ≡ y
     → sum ≡ weight_between (forest_of t) u v
-met_load {t} {u} {v} {x} {y} {sum} meet e = let none : apart (length t.hand) (up_at t.up) (forest_of t).weight
-    (length t.up) x y ≡ pos 0 = apart_met (length t.hand) (up_at t.up) (forest_of t).weight (length t.up) e in
+met_load {t} {u} {v} {x} {y} {sum} meet e = let none = apart_met (length t.hand) (up_at t.up) (forest_of t).weight
+    (length t.up) e in
     let all : sum ≡ apart (length t.hand) (up_at t.up) (forest_of t).weight (length t.up) u v =
     omega (arith, ints, none, meet.sum) in all

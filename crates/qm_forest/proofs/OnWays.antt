@@ -1,12 +1,12 @@
 -- Steps of the tree in the tables: growing, and changing the matching along the way to the root.
-use Rattle.std.proofs.Common.{◌≡◌, ◌≢◌, ℕ, suc, ◌+◌, ◌*◌, ◌<◌, List, length, get_or, Option, Some, None, true}
-use Rattle.std.proofs.Common.{is_some, refl, sym, ◌∙◌, ap, ◌⊎◌, inl, inr, arith}
+use Rattle.std.proofs.Common.{◌≡◌, ◌≢◌, ℕ, ◌+◌, ◌*◌, ◌<◌, List, length, get_or, Option, Some, None, true}
+use Rattle.std.proofs.Common.{is_some, refl, sym, ◌∙◌, ap, inl, inr, arith}
 use Rattle.std.proofs.lemmas.Bool.{cases_eq}
 use Rattle.def_matching.specs.Matching.{IsSmallGraph, WeightedGraph}
 use Rattle.def_forest.specs.{Darts.Darts, Darts.AreDarts, Darts.darts_of, Darts.far, Forests.Forest}
-use Rattle.def_forest.specs.{Forests.IsOutermost, Forests.set_at}
+use Rattle.def_forest.specs.{Forests.set_at}
 use Rattle.def_forest.specs.{Steps.grown, Steps.with_mates, Steps.IsAugmented, Tables.GraphSize}
-use Rattle.def_forest.specs.{Tables.ForestTables, Tables.forest_of, Tables.IsValidFor, Valid.IsValid, Valid.IsTree}
+use Rattle.def_forest.specs.{Tables.ForestTables, Tables.forest_of, Tables.IsValidFor, Valid.IsValid}
 use Rattle.def_forest.specs.{declared.kinds.Label.Label}
 use Rattle.def_forest.specs.{declared.kinds.Label.TheVariants.Outside, Ways.Reaches, Ways.steps}
 use Rattle.def_forest.specs.Ways.{parent_of}
@@ -42,14 +42,10 @@ pub valid_grown : {t : ForestTables} (u : ForestTables) {g : WeightedGraph} → 
     → {d : ℕ} (m : ℕ) → Reaches (darts_of g) (forest_of t) d → (forest_of t).mate
     ((forest_of t).out (far (darts_of g) d)) ≡ Some m → forest_of u ≡ grown (darts_of g) (forest_of t) d m → u.hand
     ≡ t.hand → u.root ≡ t.root → fixed_of u ≡ fixed_of t → IsValidFor g u
-valid_grown {t} u {g} is valid {d} m reach mate seen hand root fixed = valid_as u valid fixed (ap length hand)
-    (by_tree (tree_of (are_darts is.lawful) valid.valid
-    ((forest_of t).out ((darts_of g).near d)) (outer_named reach.outer)))
-  where
-    by_tree : (r : ℕ) × (t.root ≡ Some r) × IsTree (darts_of g) (forest_of t) r
-        → IsValid (darts_of g) (forest_of u) u.root
-    by_tree w = rw (seen, (root ∙ w.1)) (grown_valid (darts_of g) (are_darts is.lawful) (forest_of t) w.0
-        (rw w.1 at valid.valid) d m reach mate)
+valid_grown {t} u {g} is valid {d} m reach mate seen hand root fixed =
+    let at = tree_of (are_darts is.lawful) valid.valid _ (outer_named reach.outer) in
+    valid_as u valid fixed (ap length hand) (rw (seen, root ∙ at.1) (grown_valid _ (are_darts is.lawful)
+    _ at.0 (rw at.1 at valid.valid) d m reach mate))
 
 -- Another mate, seen in a forest whose mates were changed.
 pub remated_more : (f0 : Forest) {f1 f2 : Forest} (mate : ℕ → Option ℕ) (b : ℕ) (m : Option ℕ) → f1 ≡ remated f0 mate
@@ -68,17 +64,15 @@ pub way_begins : {g : WeightedGraph} {t : ForestTables} → IsSmallGraph g → I
     → Reaches (darts_of g) (forest_of t) start → (forest_of t).mate ((forest_of t).out (far (darts_of g) start)) ≡ None
     → {mate : ℕ → Option ℕ} {a : ℕ} → mate ≡ set_at (forest_of t).mate ((forest_of t).out (far (darts_of g) start))
     (Some ((darts_of g).twin start)) → a ≡ (forest_of t).out ((darts_of g).near start) → IsOnWay g t start mate a start
-way_begins {g} {t} is valid {start} reach free {mate} {a} mate_is a_is = by_tree
-    (tree_of (are_darts is.lawful) valid.valid ((forest_of t).out ((darts_of g).near start)) (outer_named reach.outer))
-  where
-    by_tree : (r : ℕ) × (t.root ≡ Some r) × IsTree (darts_of g) (forest_of t) r → IsOnWay g t start mate a start
-    by_tree w = record {
+way_begins {g} {t} is valid {start} reach free mate_is a_is =
+    let at = tree_of (are_darts is.lawful) valid.valid _ (outer_named reach.outer) in
+    record {
       is = is;
       valid = valid;
-      top = w.0;
-      root = w.1;
-      tree = w.2;
-      almost = rw (a_is, mate_is) (begin (are_darts is.lawful) (rw w.1 at valid.valid) w.2 start reach free);
+      top = at.0;
+      root = at.1;
+      tree = at.2;
+      almost = rw (a_is, mate_is) (begin (are_darts is.lawful) (rw at.1 at valid.valid) at.2 start reach free);
     }
 
 module _ {g : WeightedGraph} {t : ForestTables} {start : ℕ} {mate : ℕ → Option ℕ} {a e : ℕ}
@@ -107,41 +101,32 @@ module _ {g : WeightedGraph} {t : ForestTables} {start : ℕ} {mate : ℕ → Op
   pub way_goes_on : (old : ℕ) {inner up a2 e2 : ℕ} {mate2 : ℕ → Option ℕ} → mate a ≡ Some old → inner
       ≡ f.out (far d old) → up ≡ f.link inner → a2 ≡ f.out (far d up) → e2 ≡ d.twin up → mate2
       ≡ set_at (set_at mate a (Some e)) inner (Some up) → IsOnWay g t start mate2 a2 e2
-  way_goes_on old {up} {a2} {e2} was inner_is' up_is a_is e_is mate_is = record {
+  way_goes_on old was inner_is' up_is a_is e_is mate_is = record {
     is = way.is;
     valid = way.valid;
     top = way.top;
     root = way.root;
     tree = way.tree;
-    almost = rw (
-      mate_is ∙ (ap (λ x. set_at (set_at mate a (Some e)) x (Some up)) inner_is'
-          ∙ ap (λ x. set_at (set_at mate a (Some e)) inn (Some x)) link_is),
-      a_is ∙ ap (λ x. f.out (far d x)) link_is,
-      e_is ∙ ap d.twin link_is,
-    ) (turn are valid_top way.tree start way.almost old (sym own_mate ∙ was));
+    almost = rw (mate_is, a_is, e_is, up_is, inner_is')
+        (turn are valid_top way.tree start way.almost old (sym own_mate ∙ was));
   }
-    where
-      inn : ℕ
-      inn = f.out (far d old)
-
-      link_is : up ≡ f.link inn
-      link_is = up_is ∙ ap f.link inner_is'
 
   -- And gets shorter.
   pub way_shorter : (old : ℕ) {inner up a2 : ℕ} → mate a ≡ Some old → inner ≡ f.out (far d old)
       → up ≡ f.link inner → a2 ≡ f.out (far d up) → far_up a2 < far_up a
   way_shorter old {a2} was inner_is' up_is a_is =
       let own : f.mate a ≡ Some old = sym own_mate ∙ was in
-      let parent : a2 ≡ parent_of d f a = a_is ∙ ap (λ x. f.out (far d x)) (up_is ∙ ap f.link
-      (inner_is' ∙ sym (inner_is are valid_top way.tree a old way.almost.outer own))) in
-      let less : far_up a ≡ suc (far_up (parent_of d f a)) =
-      fewer_steps are valid_top way.tree a old way.almost.outer own in
-      let same : far_up a2 ≡ far_up (parent_of d f a) = ap far_up parent in
-      omega arith
+      let parent : a2 ≡ parent_of d f a = rw (
+        a_is,
+        up_is,
+        inner_is',
+        inner_is are valid_top way.tree a old way.almost.outer own,
+      ) in
+      omega (arith, fewer_steps are valid_top way.tree a old way.almost.outer own, ap far_up parent)
 
   -- The blossom at hand is outermost, and its number low.
   pub way_low : a < length t.up
-  way_low = let w : IsOutermost d.n f a = way.valid.valid.outermost.named a (outer_named way.almost.outer) in
+  way_low = let w = way.valid.valid.outermost.named a (outer_named way.almost.outer) in
       (rw w.2 at (way.valid.valid.outermost.out_low w.0 w.1))
 
   -- Darts met on the way are darts of the graph.
@@ -150,7 +135,7 @@ module _ {g : WeightedGraph} {t : ForestTables} {start : ℕ} {mate : ℕ → Op
 
   pub up_low : (old : ℕ) {inner up : ℕ} → mate a ≡ Some old → inner ≡ f.out (far d old)
       → up ≡ f.link inner → up < 2 * length g.edges
-  up_low old was inner_is' up_is = rw (up_is ∙ ap f.link inner_is') (way.tree.inner (f.out (far d old))
+  up_low old was inner_is' up_is = rw (up_is, inner_is') (way.tree.inner _
       (outer_mate are valid_top a old way.almost.outer (sym own_mate ∙ was))).tight.low
 
   -- It ends where the blossom at hand is not matched.
@@ -199,21 +184,13 @@ pub one_more_outside : (f1 : Forest) {f2 : Forest} (trail : List ℕ) (k : ℕ) 
     → f2 ≡ labelled f1 (f1.out v) Outside → ((i : ℕ) → i < k → f1.label (f1.out (get_or trail i 0)) ≡ Outside)
     → (i : ℕ) → i < k + 1 → f2.label (f2.out (get_or trail i 0)) ≡ Outside
 one_more_outside f1 trail k {v} v_is e2 done i l = ap (λ (f : Forest). f.label (f.out (get_or trail i 0))) e2
-    ∙ by_place (cases_eq (f1.out (get_or trail i 0)) (f1.out v)) (cases_eq i k)
-  where
-    by_place : (f1.out (get_or trail i 0) ≡ f1.out v) ⊎ (f1.out (get_or trail i 0) ≢ f1.out v) → (i ≡ k) ⊎ (i ≢ k)
-        → set_at f1.label (f1.out v) Outside (f1.out (get_or trail i 0)) ≡ Outside
-    by_place (inl e) x = ap (set_at f1.label (f1.out v) Outside) e ∙ set_here f1.label (f1.out v) Outside
-    by_place (inr ne) (inl e) = absurd (ne (ap (λ j. f1.out (get_or trail j 0)) e ∙ ap f1.out (sym v_is)))
-    by_place (inr ne) (inr nk) = set_there f1.label (f1.out v) (f1.out (get_or trail i 0)) Outside ne
-        ∙ done i (omega arith)
-
--- The forest is valid after an augmentation.
-pub valid_augmented : {t : ForestTables} (u : ForestTables) {g : WeightedGraph} → IsValidFor g t → (mate : ℕ → Option ℕ)
-    → IsValid (darts_of g) (with_mates (forest_of t) mate) None → forest_of u ≡ with_mates (forest_of t) mate
-    → u.hand ≡ t.hand → u.root ≡ None → fixed_of u ≡ fixed_of t → IsValidFor g u
-valid_augmented u valid mate whole seen hand root fixed = valid_as u valid fixed (ap length hand)
-    (rw (seen, root) whole)
+    ∙ elim (cases_eq (f1.out (get_or trail i 0)) (f1.out v)) [
+      | inl e ↦ ap (set_at f1.label (f1.out v) Outside) e ∙ set_here f1.label (f1.out v) Outside
+      | inr ne ↦ set_there f1.label (f1.out v) (f1.out (get_or trail i 0)) Outside ne ∙ elim (cases_eq i k) [
+        | inl e ↦ absurd (ne (ap (λ j. f1.out (get_or trail j 0)) e ∙ ap f1.out (sym v_is)))
+        | inr nk ↦ done i (omega arith)
+      ]
+    ]
 
 -- What has come of an augmentation.
 pub augmented : {t : ForestTables} (s u : ForestTables) {g : WeightedGraph} → IsSmallGraph g → IsValidFor g t
@@ -223,19 +200,9 @@ pub augmented : {t : ForestTables} (s u : ForestTables) {g : WeightedGraph} → 
     ≡ remated (forest_of t) (forest_of s).mate → forest_of u ≡ with_mates (forest_of s) (forest_of s).mate → u.hand
     ≡ t.hand → u.root ≡ None → fixed_of u ≡ fixed_of t → ((r : ℕ) × (t.root ≡ Some r)
     × IsAugmented (darts_of g) (forest_of t) (forest_of u) r start) × IsValidFor g u
-augmented {t} s u {g} is valid {start} reach done seen ended hand root fixed = by_tree
-    (tree_of (are_darts is.lawful) valid.valid ((forest_of t).out ((darts_of g).near start)) (outer_named reach.outer))
-  where
-    whole : forest_of u ≡ with_mates (forest_of t) (forest_of s).mate
-    whole = ended ∙ ap (λ (f : Forest). with_mates f (forest_of s).mate) seen
-
-    by_tree : (r : ℕ) × (t.root ≡ Some r) × IsTree (darts_of g) (forest_of t) r
-        → ((r : ℕ) × (t.root ≡ Some r) × IsAugmented (darts_of g) (forest_of t) (forest_of u) r start) × IsValidFor g u
-    by_tree w = (
-      (
-        w.0,
-        w.1,
-        (rw whole (done w.0 w.1).1),
-      ),
-      valid_augmented u valid (forest_of s).mate (done w.0 w.1).0 whole hand root fixed,
-    )
+augmented {t} s u {g} is valid {start} reach done seen ended hand root fixed =
+    let at = tree_of (are_darts is.lawful) valid.valid _ (outer_named reach.outer) in
+    let whole : forest_of u ≡ with_mates (forest_of t) (forest_of s).mate =
+    ended ∙ ap (λ (f : Forest). with_mates f (forest_of s).mate) seen in
+    let made = done at.0 at.1 in
+    ((at.0, at.1, rw whole made.1), valid_as u valid fixed (ap length hand) (rw (whole, root) made.0))

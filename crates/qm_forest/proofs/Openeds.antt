@@ -1,6 +1,6 @@
 -- An inner set that is opened: labels, mates and links of its parts, along the ring and against it.
-use Rattle.std.proofs.Common.{◌≡◌, ◌≢◌, ℕ, suc, ◌+◌, ◌-◌, ◌*◌, ◌/◌, ◌%◌, ◌<◌, ◌≤◌, Bool, true, false, cond, eqb, length}
-use Rattle.std.proofs.Common.{Option, Some, None, ◌⊎◌, refl, sym, ◌∙◌, ap, inl, inr, arith}
+use Rattle.std.proofs.Common.{◌≡◌, ◌≢◌, ℕ, suc, ◌+◌, ◌-◌, ◌*◌, ◌/◌, ◌%◌, ◌<◌, ◌≤◌, Bool, true, false, eqb}
+use Rattle.std.proofs.Common.{Option, Some, None, refl, sym, ◌∙◌, ap, inl, inr, arith}
 use Rattle.std.proofs.lemmas.Bool.{cases_Bool, cases_eq, cases_lt, cond-true, cond-false, eq-eqb, ne_eqb}
 use Rattle.def_matching.specs.Matching.{WeightedGraph}
 use Rattle.def_forest.specs.{Darts.Darts, Darts.darts_of, Forests.Forest, Forests.walk, Opened.IsOpened}
@@ -17,10 +17,10 @@ use Rattle.qm_forest.proofs.Openings.{opening_at, opening_is, out_is, part_aroun
 use Rattle.qm_forest.proofs.Openings.{ring_is, set_top}
 
 even_is : (k i : ℕ) → k ≡ 2 * i → turn_label k ≡ Inner
-even_is k i e = cond-true _ _ _ (eq-eqb (k % 2) 0 (omega (arith, e)))
+even_is k i e = cond-true _ _ _ (eq-eqb (k % 2) 0 (omega arith))
 
 odd_is : (k i : ℕ) → k ≡ 2 * i + 1 → turn_label k ≡ Outer
-odd_is k i e = cond-false _ _ _ (ne_eqb (k % 2) 0 (λ z. absurd (omega (arith, e, z))))
+odd_is k i e = cond-false _ _ _ (ne_eqb (k % 2) 0 (λ z. absurd (omega arith)))
 
 module _ {g : WeightedGraph} {t0 : ForestTables} {b : ℕ} (ready : CanOpen g t0 b) {f2 : Forest}
     (parted : IsParted g.n (mated (labelled (forest_of t0) b Outside) b None) f2
@@ -77,7 +77,7 @@ module _ {g : WeightedGraph} {t0 : ForestTables} {b : ℕ} (ready : CanOpen g t0
     begins = refl;
     marked = circle.marked;
     distinct = λ i j lij lj. circle.distinct i j lij (omega (arith, odd, lj));
-    all = λ x on. (let w : (k : ℕ) × (k < many) × (at k ≡ x) = circle.all x on in (w.0, omega (arith, odd, w.1), w.2));
+    all = λ x on. (let w = circle.all x on in (w.0, omega (arith, odd, w.1), w.2));
     tight = λ j l. (joint_at j).tight;
     near = λ j l. ((joint_at j).near_in, (joint_at j).near_part);
     far = λ j l. ((joint_at j).far_in, (joint_at j).far_part ∙ at_same (suc j) (j + 1) (omega arith));
@@ -88,8 +88,16 @@ module _ {g : WeightedGraph} {t0 : ForestTables} {b : ℕ} (ready : CanOpen g t0
   route_back = record {
     begins = at_same (many - 0) many (omega arith) ∙ circle.closed;
     marked = λ j. circle.marked (many - j);
-    distinct = λ i j lij lj e. differ i j lij lj e (cases_eq i 0);
-    all = λ x on. found x (circle.all x on) (cases_eq (circle.all x on).0 0);
+    distinct = λ i j lij lj e. elim (cases_eq i 0) [
+      | inl z ↦ circle.distinct 0 (many - j) (omega (arith, odd, lj)) (omega (arith, odd, lij, lj))
+          (sym circle.closed ∙ (at_same many (many - i) (omega (arith, z)) ∙ e))
+      | inr nz ↦ circle.distinct (many - j) (many - i) (omega (arith, odd, lij, lj)) (omega (arith, odd, lij, lj, nz))
+          (sym e)
+    ];
+    all = λ x on. (let w = circle.all x on in elim (cases_eq w.0 0) [
+      | inl z ↦ (0, omega arith, at_same (many - 0) many (omega arith) ∙ (circle.closed ∙ (ap at (sym z) ∙ w.2)))
+      | inr nz ↦ (many - w.0, omega (arith, odd, nz), at_same (many - (many - w.0)) w.0 (omega (arith, w.1)) ∙ w.2)
+    ]);
     tight = λ j l. tight_twin (are ready) (joint_at (many - suc j)).tight;
     near = λ j l. (
       (joint_at (many - suc j)).far_in,
@@ -101,19 +109,6 @@ module _ {g : WeightedGraph} {t0 : ForestTables} {b : ℕ} (ready : CanOpen g t0
           ∙ ((joint_at (many - suc j)).near_part ∙ at_same (many - suc j) (many - (j + 1)) (omega arith)),
     );
   }
-    where
-      differ : (i j : ℕ) → i < j → j ≤ 2 * half → at (many - i) ≡ at (many - j) → (i ≡ 0) ⊎ (i ≢ 0) → ⊥
-      differ i j lij lj e (inl z) = circle.distinct 0 (many - j) (omega (arith, odd, lj)) (omega (arith, odd, lij, lj))
-          (sym circle.closed ∙ (at_same many (many - i) (omega (arith, z)) ∙ e))
-      differ i j lij lj e (inr nz) = circle.distinct (many - j) (many - i) (omega (arith, odd, lij, lj))
-          (omega (arith, odd, lij, lj, nz)) (sym e)
-
-      found : (x : ℕ) (w : (k : ℕ) × (k < many) × (at k ≡ x)) → (w.0 ≡ 0) ⊎ (w.0 ≢ 0)
-          → (j : ℕ) × (j ≤ 2 * half) × (at (many - j) ≡ x)
-      found x w (inl z) =
-          (0, omega arith, at_same (many - 0) many (omega arith) ∙ (circle.closed ∙ (ap at (sym z) ∙ w.2)))
-      found x w (inr nz) =
-          (many - w.0, omega (arith, odd, nz), at_same (many - (many - w.0)) w.0 (omega (arith, w.1)) ∙ w.2)
 
   b_off : inside b ≡ false
   b_off = elim (cases_Bool (inside b)) [ inl on ↦ absurd (part_other ready b on refl) | inr off ↦ off ]
@@ -122,12 +117,11 @@ module _ {g : WeightedGraph} {t0 : ForestTables} {b : ℕ} (ready : CanOpen g t0
   other_off x ne = elim (cases_Bool (inside x)) [ inl on ↦ absurd (ne (part_around ready x on)) | inr off ↦ off ]
 
   b_top : f0.nest.up b ≡ b
-  b_top = (let w : (v : ℕ) × (v < length t0.hand) × (f0.out v ≡ b) = set_top ready in
+  b_top = (let w = set_top ready in
       (rw w.2 at (ready.valid.valid.outermost.tops w.0 (rw ready.valid.vertices at w.1))))
 
   part_label : (x : ℕ) → inside x ≡ true → f2.label x ≡ Outside
-  part_label x on = ap (λ (h : ℕ → Label). h x) parted.label
-      ∙ (set_there f0.label b x Outside (part_other ready x on) ∙ part_outside ready x on)
+  part_label x on = cc (set_there f0.label b x Outside (part_other ready x on), part_outside ready x on)
 
   -- The parts are matched along the ring, the first one as the set was.
   abbrev matched : Forest
@@ -137,73 +131,66 @@ module _ {g : WeightedGraph} {t0 : ForestTables} {b : ℕ} (ready : CanOpen g t0
   abbrev pub laid : (front count : ℕ) (forward : Bool) → Forest
   laid front count forward = linked (hung matched front count forward) last (f0.link b)
 
-  -- The forest after a way of so many parts from one on is hung into the tree.
-  record IsLaid (f6 : Forest) (front count : ℕ) (forward : Bool) : Type 0 where
-    on : f6 ≡ laid front count forward
+  -- A way of so many parts from one on is hung into the tree.
+  record IsLaid (front count : ℕ) (forward : Bool) : Type 0 where
     marked : inside front ≡ true
     few : count ≤ many
 
-  module _ {f6 : Forest} {front count : ℕ} {forward : Bool} (lies : IsLaid f6 front count forward) where
-    open lies use {on, marked, few}
+  module _ {front count : ℕ} {forward : Bool} (lies : IsLaid front count forward) where
+    abbrev f6 : Forest
+    f6 = laid front count forward
 
     mate_at : (k : ℕ) → 1 ≤ k → k < many → f6.mate (at k) ≡ Some (side_dart f2 (at (k - 1)) (at k) (eqb (k % 2) 1))
-    mate_at k some l = ap (λ (f : Forest). f.mate (at k)) on ∙ (set_there (paired f2 first many).mate first (at k)
-        (Some m) (λ e. circle.distinct 0 k some l (sym e)) ∙ writes_at f2.mate at
-        (λ j. Some (side_dart f2 (at (j - 1)) (at j) (eqb (j % 2) 1))) many k l circle.distinct)
+    mate_at k some l = set_there (paired f2 first many).mate first (at k) (Some m)
+        (λ e. circle.distinct 0 k some l (sym e)) ∙ writes_at f2.mate at
+        (λ j. Some (side_dart f2 (at (j - 1)) (at j) (eqb (j % 2) 1))) many k l circle.distinct
 
     mate_odd : (k i : ℕ) → k ≡ 2 * i + 1 → k < many → f6.mate (at k) ≡ Some (joint (at k))
     mate_odd k i e l = mate_at k (omega (arith, e)) l ∙ ap (λ (x : ℕ). Some x)
         (cond-true _ _ _ (eq-eqb (k % 2) 1 (omega (arith, e))))
 
     mate_even : (k j i : ℕ) → k ≡ 2 * i + 2 → k ≡ suc j → k < many → f6.mate (at k) ≡ Some (d.twin (joint (at j)))
-    mate_even k j i e ej l = mate_at k (omega (arith, e)) l
-        ∙ ap (λ (x : ℕ). Some x) (cond-false _ _ _ (ne_eqb (k % 2) 1 (λ z. absurd (omega (arith, e, z))))
-        ∙ ap (λ x. d.twin (joint x)) (at_same (k - 1) j (omega (arith, ej))))
+    mate_even k j i e ej l = mate_at k (omega (arith, e)) l ∙ ap (λ (x : ℕ). Some x) (cond-false _ _ _ (ne_eqb (k % 2) 1
+        (λ z. absurd (omega (arith, e, z)))) ∙ ap (λ x. d.twin (joint x)) (at_same (k - 1) j (omega (arith, ej))))
 
     mate_first : f6.mate first ≡ Some m
-    mate_first = ap (λ (f : Forest). f.mate first) on ∙ set_here (paired f2 first many).mate first (Some m)
+    mate_first = set_here (paired f2 first many).mate first (Some m)
 
     mate_off : (x : ℕ) → inside x ≡ false → f6.mate x ≡ f2.mate x
-    mate_off x off = ap (λ (f : Forest). f.mate x) on ∙ (set_there (paired f2 first many).mate first x (Some m)
-        (λ e. true_false (ap inside e ∙ circle.marked 0) off)
-        ∙ writes_off f2.mate at (λ j. Some (side_dart f2 (at (j - 1)) (at j) (eqb (j % 2) 1))) many x
-        (λ k lk e. true_false (ap inside (sym e) ∙ circle.marked k) off))
+    mate_off x off = set_there (paired f2 first many).mate first x (Some m) (λ e. true_false (ap inside e
+        ∙ circle.marked 0) off) ∙ writes_off f2.mate at (λ j. Some (side_dart f2 (at (j - 1)) (at j) (eqb (j % 2) 1)))
+        many x (λ k lk e. true_false (ap inside (sym e) ∙ circle.marked k) off)
 
     -- The way that hangs in the tree goes along the ring.
     abbrev way : ℕ → ℕ
     way k = walk next front k
 
     ring : IsCircle next front many inside
-    ring = ring_from ready parted front marked
+    ring = ring_from ready parted front lies.marked
 
     differ : (i j : ℕ) → i < j → j < count → way i ≢ way j
-    differ i j lij lj = ring.distinct i j lij (omega (arith, lj, few))
+    differ i j lij lj = ring.distinct i j lij (omega (arith, lj, lies.few))
 
     label_at : (k : ℕ) → k < count → f6.label (way k) ≡ turn_label k
-    label_at k l = ap (λ (f : Forest). f.label (way k)) on ∙ writes_at f2.label way turn_label count k l differ
+    label_at k l = writes_at f2.label way turn_label count k l differ
 
     label_missed : (x : ℕ) → ((k : ℕ) → k < count → way k ≢ x) → f6.label x ≡ f2.label x
-    label_missed x missed = ap (λ (f : Forest). f.label x) on ∙ writes_off f2.label way turn_label count x missed
+    label_missed x missed = writes_off f2.label way turn_label count x missed
 
     abbrev sides : ℕ → ℕ
     sides k = side_dart f2 (way (k - 1)) (way k) forward
 
     link_at : (k : ℕ) → k < count → way k ≢ last → f6.link (way k) ≡ sides k
-    link_at k l ne = ap (λ (f : Forest). f.link (way k)) on
-        ∙ (set_there (hung matched front count forward).link last (way k) (f0.link b) ne
-        ∙ writes_at f2.link way sides count k l differ)
-
-    link_last : f6.link last ≡ f0.link b
-    link_last = ap (λ (f : Forest). f.link last) on ∙ set_here (hung matched front count forward).link last (f0.link b)
+    link_at k l ne = set_there (hung matched front count forward).link last (way k) (f0.link b) ne
+        ∙ writes_at f2.link way sides count k l differ
 
     label_off : (x : ℕ) → inside x ≡ false → f6.label x ≡ f2.label x
     label_off x off = label_missed x (λ k lk e. true_false (ap inside (sym e) ∙ ring.marked k) off)
 
     link_off : (x : ℕ) → inside x ≡ false → f6.link x ≡ f2.link x
-    link_off x off = ap (λ (f : Forest). f.link x) on
-        ∙ (set_there (hung matched front count forward).link last x (f0.link b)
+    link_off x off = set_there (hung matched front count forward).link last x (f0.link b)
         (λ e. true_false (ap inside e ∙ last_in ready parted) off)
-        ∙ writes_off f2.link way sides count x (λ k lk e. true_false (ap inside (sym e) ∙ ring.marked k) off))
+        ∙ writes_off f2.link way sides count x (λ k lk e. true_false (ap inside (sym e) ∙ ring.marked k) off)
 
     -- Where the parts stand, and how they are joined, in the order of a route.
     record HasPlaces (q e : ℕ → ℕ) (turns : ℕ) : Type 0 where
@@ -218,11 +205,11 @@ module _ {g : WeightedGraph} {t0 : ForestTables} {b : ℕ} (ready : CanOpen g t0
 
     opened_is : {q e : ℕ → ℕ} {turns : ℕ} → HasPlaces q e turns → IsOpened d f0 f6 (opening_at ready parted q e turns)
     opened_is places = record {
-      size = ap (λ (f : Forest). f.size) on ∙ parted.size;
-      weight = λ x. ap (λ (f : Forest). f.weight x) on ∙ ap (λ h. h x) parted.weight;
-      holds = λ x v ne l. ap (λ (f : Forest). f.holds x v) on ∙ parted.holds x v ne l;
-      holds_none = λ v l. ap (λ (f : Forest). f.holds b v) on ∙ parted.holds_none v l;
-      out = λ v l. ap (λ (f : Forest). f.out v) on ∙ out_is ready parted v l;
+      size = parted.size;
+      weight = λ x. ap (λ h. h x) parted.weight;
+      holds = parted.holds;
+      holds_none = parted.holds_none;
+      out = out_is ready parted;
       inner = places.inners;
       outer = places.outers;
       off = places.off;
@@ -230,7 +217,7 @@ module _ {g : WeightedGraph} {t0 : ForestTables} {b : ℕ} (ready : CanOpen g t0
       odd_mate = places.odd_mate;
       even_mate = places.even_mate;
       link = places.links;
-      last_link = ap f6.link places.ends ∙ link_last;
+      last_link = ap f6.link places.ends ∙ set_here (hung matched front count forward).link last (f0.link b);
       gone = (
         label_off b b_off ∙ (ap (λ (h : ℕ → Label). h b) parted.label ∙ set_here f0.label b Outside),
         mate_off b b_off ∙ (ap (λ (h : ℕ → Option ℕ). h b) parted.mate ∙ set_here f0.mate b None),
@@ -241,25 +228,24 @@ module _ {g : WeightedGraph} {t0 : ForestTables} {b : ℕ} (ready : CanOpen g t0
         mate = mate_off x (other_off x ne)
             ∙ (ap (λ (h : ℕ → Option ℕ). h x) parted.mate ∙ set_there f0.mate b x None (other_b x ne));
         link = link_off x (other_off x ne) ∙ ap (λ (h : ℕ → ℕ). h x) parted.link;
-        up = ap (λ (f : Forest). f.nest.up x) on ∙ (parted.up x ∙ cond-false _ _ _ (other_off x ne));
-        after = ap (λ (f : Forest). f.nest.after x) on ∙ ap (λ (h : ℕ → ℕ). h x) parted.after;
-        joint = ap (λ (f : Forest). f.nest.joint x) on ∙ ap (λ (h : ℕ → ℕ). h x) parted.joint;
+        up = parted.up x ∙ cond-false _ _ _ (other_off x ne);
+        after = ap (λ (h : ℕ → ℕ). h x) parted.after;
+        joint = ap (λ (h : ℕ → ℕ). h x) parted.joint;
       };
-      parts_out = λ x up. ap (λ (f : Forest). f.nest.up x) on ∙ (parted.up x ∙ part_top x up (cases_eq x b));
-      no_parts = ap (λ (f : Forest). f.nest.parts b) on ∙ (parted.parts b ∙ set_here f0.nest.parts b 0);
+      parts_out = λ x up. parted.up x ∙ elim (cases_eq x b) [
+        | inl e ↦ cond-false _ _ _ (ap inside e ∙ b_off) ∙ (up ∙ sym e)
+        | inr ne ↦ cond-true _ _ _ (around_part ready x up ne)
+      ];
+      no_parts = parted.parts b ∙ set_here f0.nest.parts b 0;
       sets = λ x ne. record {
-        head = ap (λ (f : Forest). f.nest.head x) on ∙ ap (λ (h : ℕ → ℕ). h x) parted.head;
-        many = ap (λ (f : Forest). f.nest.parts x) on ∙ (parted.parts x ∙ set_there f0.nest.parts b x 0 ne);
-        rank = ap (λ (f : Forest). f.nest.rank x) on ∙ ap (λ (h : ℕ → ℕ). h x) parted.rank;
+        head = ap (λ (h : ℕ → ℕ). h x) parted.head;
+        many = parted.parts x ∙ set_there f0.nest.parts b x 0 ne;
+        rank = ap (λ (h : ℕ → ℕ). h x) parted.rank;
       };
     }
       where
         other_b : (x : ℕ) → f0.nest.up x ≢ b → x ≢ b
         other_b x ne e = ne (ap f0.nest.up e ∙ b_top)
-
-        part_top : (x : ℕ) → f0.nest.up x ≡ b → (x ≡ b) ⊎ (x ≢ b) → cond (inside x) x (f0.nest.up x) ≡ x
-        part_top x up (inl e) = cond-false _ _ _ (ap inside e ∙ b_off) ∙ (up ∙ sym e)
-        part_top x up (inr ne) = cond-true _ _ _ (around_part ready x up ne)
 
     expanding_at : {q e : ℕ → ℕ} {turns : ℕ} → IsRoute ready parted q e → turns ≤ half → HasPlaces q e turns
         → IsExpanding d f0 f6 b
@@ -271,41 +257,42 @@ module _ {g : WeightedGraph} {t0 : ForestTables} {b : ℕ} (ready : CanOpen g t0
     }
 
   -- The tree goes along the ring.
-  expanding_on : {f6 : Forest} {steps : ℕ} → steps < many → at steps ≡ last → steps % 2 ≡ 0
-      → f6 ≡ laid first (steps + 1) true → IsExpanding d f0 f6 b
-  expanding_on {f6} {steps} low ends even on = expanding_at lies route_on (omega (arith, low, odd)) (record {
-    inners = λ i l. label_at lies (2 * i) (omega (arith, l)) ∙ even_is (2 * i) i refl;
-    outers = λ i l. label_at lies (2 * i + 1) (omega (arith, l)) ∙ odd_is (2 * i + 1) i refl;
-    off = λ j more l. label_missed lies (at j) (λ k lk. circle.distinct k j (omega (arith, lk, more, even))
-        (omega (arith, l, odd))) ∙ part_label (at j) (circle.marked j);
-    first_mate = mate_first lies;
-    odd_mate = λ i l. mate_odd lies (2 * i + 1) i refl (omega (arith, odd, l));
-    even_mate = λ i l. mate_even lies (2 * i + 2) (2 * i + 1) i refl (omega arith) (omega (arith, odd, l));
-    links = λ i l. link_at lies (2 * i) (omega (arith, l))
-        (λ e. circle.distinct (2 * i) steps (omega (arith, l)) low (e ∙ sym ends));
-    ends = at_same (2 * (steps / 2)) steps (omega (arith, even)) ∙ ends;
-  })
-    where
-      lies : IsLaid f6 first (steps + 1) true
-      lies = record { on = on; marked = first_in ready parted; few = omega (arith, low) }
+  expanding_on : {steps : ℕ} → steps < many → at steps ≡ last → steps % 2 ≡ 0
+      → IsExpanding d f0 (laid first (steps + 1) true) b
+  expanding_on {steps} low ends even =
+      let lies : IsLaid first (steps + 1) true = record { marked = first_in ready parted; few = omega (arith, low) } in
+      expanding_at lies route_on (omega (arith, low, odd)) (record {
+        inners = λ i l. label_at lies (2 * i) (omega (arith, l)) ∙ even_is (2 * i) i refl;
+        outers = λ i l. label_at lies (2 * i + 1) (omega (arith, l)) ∙ odd_is (2 * i + 1) i refl;
+        off = λ j more l. label_missed lies (at j) (λ k lk. circle.distinct k j (omega (arith, lk, more, even))
+            (omega (arith, l, odd))) ∙ part_label (at j) (circle.marked j);
+        first_mate = mate_first lies;
+        odd_mate = λ i l. mate_odd lies (2 * i + 1) i refl (omega (arith, odd, l));
+        even_mate = λ i l. mate_even lies (2 * i + 2) (2 * i + 1) i refl (omega arith) (omega (arith, odd, l));
+        links = λ i l. link_at lies (2 * i) (omega (arith, l))
+            (λ e. circle.distinct (2 * i) steps (omega (arith, l)) low (e ∙ sym ends));
+        ends = at_same (2 * (steps / 2)) steps (omega (arith, even)) ∙ ends;
+      })
 
   -- The tree goes against the ring.
-  module _ {f6 : Forest} {steps : ℕ} (low : steps < many) (ends : at steps ≡ last) (uneven : steps % 2 ≡ 1)
-      (on : f6 ≡ laid last (many - steps + 1) false) where
+  module _ {steps : ℕ} (low : steps < many) (ends : at steps ≡ last) (uneven : steps % 2 ≡ 1) where
+    abbrev back : Forest
+    back = laid last (many - steps + 1) false
+
     abbrev turns : ℕ
     turns = (many - steps) / 2
 
     twice : 2 * turns ≡ many - steps
     twice = omega (arith, odd, uneven, low)
 
-    lies : IsLaid f6 last (many - steps + 1) false
-    lies = record { on = on; marked = last_in ready parted; few = omega (arith, uneven, low) }
+    lies : IsLaid last (many - steps + 1) false
+    lies = record { marked = last_in ready parted; few = omega (arith, uneven, low) }
 
     way_at : (k j : ℕ) → steps + k ≡ j → walk next last k ≡ at j
     way_at k j e = ap (λ x. walk next x k) (sym ends) ∙ (sym (walk_sum next first steps k) ∙ ap at e)
 
-    label_back : (k j : ℕ) → k < many - steps + 1 → steps + k ≡ j → f6.label (at j) ≡ turn_label k
-    label_back k j l e = ap f6.label (sym (way_at k j e)) ∙ label_at lies k l
+    label_back : (k j : ℕ) → k < many - steps + 1 → steps + k ≡ j → back.label (at j) ≡ turn_label k
+    label_back k j l e = ap back.label (sym (way_at k j e)) ∙ label_at lies k l
 
     missed : (k j : ℕ) → k < many - steps + 1 → 2 * turns < j → j ≤ 2 * half → walk next last k ≢ at (many - j)
     missed k j lk more lj e = elim (cases_lt (steps + k) many) [
@@ -315,26 +302,24 @@ module _ {g : WeightedGraph} {t0 : ForestTables} {b : ℕ} (ready : CanOpen g t0
           (sym circle.closed ∙ (sym (way_at k many (omega (arith, h, lk))) ∙ e))
     ]
 
-    expanding_back : IsExpanding d f0 f6 b
+    expanding_back : IsExpanding d f0 back b
     expanding_back = expanding_at lies route_back (omega (arith, twice, odd, uneven)) (record {
       inners = λ i l. label_back (many - steps - 2 * i) (many - 2 * i) (omega (arith, low))
           (omega (arith, l, twice, low)) ∙ even_is (many - steps - 2 * i) (turns - i) (omega (arith, l, twice));
-      outers = λ i l. label_back (many - steps - (2 * i + 1)) (many - (2 * i + 1)) (omega (arith, low))
-          (omega (arith, l, twice, low)) ∙ odd_is (many - steps - (2 * i + 1)) (turns - suc i)
-          (omega (arith, l, twice));
+      outers = λ i l. label_back (many - steps - (2 * i + 1)) (many - (2 * i + 1)) (omega (arith, low)) (omega
+          (arith, l, twice, low)) ∙ odd_is (many - steps - (2 * i + 1)) (turns - suc i) (omega (arith, l, twice));
       off = λ j more l. label_missed lies (at (many - j)) (λ k lk. missed k j lk more l)
           ∙ part_label (at (many - j)) (circle.marked (many - j));
-      first_mate = ap f6.mate (at_same (many - 0) many (omega arith) ∙ circle.closed) ∙ mate_first lies;
+      first_mate = ap back.mate (at_same (many - 0) many (omega arith) ∙ circle.closed) ∙ mate_first lies;
       odd_mate = λ i l. mate_even lies (many - (2 * i + 1)) (many - suc (2 * i + 1)) (half - suc i)
           (omega (arith, odd, l)) (omega (arith, odd, l)) (omega (arith, odd));
       even_mate = λ i l. mate_odd lies (many - (2 * i + 2)) (half - suc i) (omega (arith, odd, l)) (omega (arith, odd))
           ∙ ap (λ (x : ℕ). Some x) (ap joint (at_same (many - (2 * i + 2)) (many - suc (2 * i + 1)) (omega arith))
           ∙ sym ((are ready).twin_twin (joint (at (many - suc (2 * i + 1))))));
-      links = λ i l. ap f6.link (sym (way_at (many - steps - 2 * i) (many - 2 * i) (omega (arith, l, twice, low))))
-          ∙ (link_at lies (many - steps - 2 * i) (omega arith)
-          (λ e. differ lies 0 (many - steps - 2 * i) (omega (arith, l, twice)) (omega arith) (sym e))
-          ∙ ap (λ x. d.twin (joint x)) (way_at (many - steps - 2 * i - 1) (many - suc (2 * i))
-          (omega (arith, l, twice, low))));
+      links = λ i l. ap back.link (sym (way_at (many - steps - 2 * i) (many - 2 * i) (omega (arith, l, twice, low))))
+          ∙ (link_at lies (many - steps - 2 * i) (omega arith) (λ e. differ lies 0 (many - steps - 2 * i)
+          (omega (arith, l, twice)) (omega arith) (sym e)) ∙ ap (λ x. d.twin (joint x))
+          (way_at (many - steps - 2 * i - 1) (many - suc (2 * i)) (omega (arith, l, twice, low))));
       ends = at_same (many - 2 * turns) steps (omega (arith, twice, low)) ∙ ends;
     })
 
@@ -342,6 +327,6 @@ module _ {g : WeightedGraph} {t0 : ForestTables} {b : ℕ} (ready : CanOpen g t0
   pub expanding : {course : Course} → IsCourse next first last many course → {f6 : Forest}
       → f6 ≡ laid course.front course.many course.forward → IsExpanding d f0 f6 b
   expanding {course} way {f6} done = elim way.way [
-    | inl w ↦ expanding_on way.low way.at w.3 (done ∙ rw (w.1, w.2, w.0))
-    | inr w ↦ expanding_back way.low way.at w.3 (done ∙ rw (w.1, w.2, w.0))
+    | inl w ↦ rw (done, w.1, w.2, w.0) (expanding_on way.low way.at w.3)
+    | inr w ↦ rw (done, w.1, w.2, w.0) (expanding_back way.low way.at w.3)
   ]

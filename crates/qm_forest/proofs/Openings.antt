@@ -1,6 +1,6 @@
 -- The ring of an inner set that is opened: what holds of the set before, and of its parts after.
-use Rattle.std.proofs.Common.{◌≡◌, ◌≢◌, ℕ, suc, ◌+◌, ◌*◌, ◌<◌, ◌≤◌, Bool, true, false, cond, eqb, length, pos, Some}
-use Rattle.std.proofs.Common.{None, ◌⊎◌, sym, ◌∙◌, ap, inl, inr, arith}
+use Rattle.std.proofs.Common.{◌≡◌, ◌≢◌, ℕ, suc, ◌+◌, ◌*◌, ◌<◌, ◌≤◌, Bool, true, cond, eqb, length, pos, Some}
+use Rattle.std.proofs.Common.{None, sym, ◌∙◌, ap, inl, inr, arith}
 use Rattle.std.proofs.lemmas.Bool.{cases_Bool, cases_eq, cond-true, cond-false, eq-eqb, eqb-true, ne_eqb}
 use Rattle.def_matching.specs.Matching.{WeightedGraph, IsSmallGraph}
 use Rattle.def_forest.specs.{Darts.AreDarts, Darts.Darts, Darts.darts_of, Darts.far, Forests.Forest}
@@ -51,11 +51,11 @@ module _ {g : WeightedGraph} {t0 : ForestTables} {b : ℕ} (ready : CanOpen g t0
   set_low = named_low is valid b (inner_named inner)
 
   held_b : (v : ℕ) → v < g.n → f0.holds b v ≡ eqb (f0.out v) b
-  held_b v l = rw top_is.2 at (valid.valid.outermost.held top_is.0 v top_is.1 l)
+  held_b v l = rw top_is.2 at (valid.valid.outermost.held _ v top_is.1 l)
 
   pub set_live : many ≢ 0
-  set_live none = true_false (held_b top_is.0 top_is.1 ∙ eq-eqb (f0.out top_is.0) b top_is.2)
-      (valid.valid.nested.empty b top_is.0 high top_is.1 none)
+  set_live none = true_false (held_b _ top_is.1 ∙ eq-eqb (f0.out _) b top_is.2)
+      (valid.valid.nested.empty b _ high top_is.1 none)
 
   pub ring_is : IsRing d f0 b
   ring_is = valid.valid.nested.rings b high set_live
@@ -71,10 +71,10 @@ module _ {g : WeightedGraph} {t0 : ForestTables} {b : ℕ} (ready : CanOpen g t0
 
   -- The parts are at the places of the ring.
   part_place : (x : ℕ) → inside x ≡ true → (k : ℕ) × (k < many) × (walk f0.nest.after (f0.nest.head b) k ≡ x)
-  part_place x on = listed_place f0.nest.after (f0.nest.head b) many x on
+  part_place = listed_place _ _ many
 
   pub part_around : (x : ℕ) → inside x ≡ true → f0.nest.up x ≡ b
-  part_around x on = ap f0.nest.up (sym (part_place x on).2) ∙ ring_is.inside (part_place x on).0
+  part_around x on = ap f0.nest.up (sym (part_place x on).2) ∙ ring_is.inside _
 
   pub part_other : (x : ℕ) → inside x ≡ true → x ≢ b
   part_other x on e =
@@ -84,17 +84,16 @@ module _ {g : WeightedGraph} {t0 : ForestTables} {b : ℕ} (ready : CanOpen g t0
   part_low x on = rw (part_place x on).2 at (ring_is.below (part_place x on).0)
 
   pub around_part : (x : ℕ) → f0.nest.up x ≡ b → x ≢ b → inside x ≡ true
-  around_part x up ne = (let w : (k : ℕ) × (k < many) × (walk f0.nest.after (f0.nest.head b) k ≡ x) =
-      ring_is.all x up ne in ap inside (sym w.2) ∙ listed_at f0.nest.after (f0.nest.head b) many w.0 w.1)
+  around_part x up ne = (let w = ring_is.all x up ne in ap inside (sym w.2) ∙ listed_at _ _ many w.0 w.1)
 
   part_inner : (x : ℕ) → inside x ≡ true → f0.nest.up x ≢ x
   part_inner x on e = part_other x on (sym e ∙ part_around x on)
 
   -- Parts are outside the tree.
   pub part_outside : (x : ℕ) → inside x ≡ true → f0.label x ≡ Outside
-  part_outside x on = elim (label_cases (f0.label x)) [
+  part_outside x on = elim (label_cases _) [
     | inl e ↦ e
-    | inr named ↦ (let w : IsOutermost g.n f0 x = valid.valid.outermost.named x named in
+    | inr named ↦ (let w = valid.valid.outermost.named x named in
         absurd (part_inner x on (ap f0.nest.up (sym w.2) ∙ (valid.valid.outermost.tops w.0 w.1 ∙ w.2))))
   ]
 
@@ -103,7 +102,7 @@ module _ {g : WeightedGraph} {t0 : ForestTables} {b : ℕ} (ready : CanOpen g t0
     some = omega (arith, ring_is.odd);
     closed = ring_is.closed;
     distinct = ring_is.distinct;
-    marked = listed_closed f0.nest.after many (omega (arith, ring_is.odd)) ring_is.closed;
+    marked = listed_closed _ many (omega (arith, ring_is.odd)) ring_is.closed;
     all = part_place;
   }
 
@@ -189,23 +188,19 @@ module _ {g : WeightedGraph} {t0 : ForestTables} {b : ℕ} (ready : CanOpen g t0
     ]
 
     pub out_is : (v : ℕ) → v < g.n → f2.out v ≡ cond (eqb (f0.out v) b) (part v) (f0.out v)
-    out_is v l = by_test (cases_eq (f0.out v) b) (cases_Bool (inside (part v)))
-      where
-        by_test : (f0.out v ≡ b) ⊎ (f0.out v ≢ b) → (inside (part v) ≡ true) ⊎ (inside (part v) ≡ false)
-            → part v ≡ cond (eqb (f0.out v) b) (part v) (f0.out v)
-        by_test (inl e) x = sym (cond-true _ _ _ (eq-eqb (f0.out v) b e))
-        by_test (inr ne) (inl on) = absurd (ne (parted.out v l ∙ cond-true _ _ _ on))
-        by_test (inr ne) (inr off) = sym (parted.out v l ∙ cond-false _ _ _ off)
-            ∙ sym (cond-false _ _ _ (ne_eqb (f0.out v) b ne))
+    out_is v l = elim (cases_eq (f0.out v) b) [
+      | inl e ↦ sym (cond-true _ _ _ (eq-eqb (f0.out v) b e))
+      | inr ne ↦ elim (cases_Bool (inside (part v))) [
+        | inl on ↦ absurd (ne (parted.out v l ∙ cond-true _ _ _ on))
+        | inr off ↦ sym (parted.out v l ∙ cond-false _ _ _ off) ∙ sym (cond-false _ _ _ (ne_eqb (f0.out v) b ne))
+      ]
+    ]
 
     held_part : (x v : ℕ) → inside x ≡ true → v < g.n → f0.holds x v ≡ eqb (part v) x
-    held_part x v on l = by_test (cases_Bool (f0.holds x v)) (cases_eq (part v) x)
-      where
-        by_test : (f0.holds x v ≡ true) ⊎ (f0.holds x v ≡ false) → (part v ≡ x) ⊎ (part v ≢ x)
-            → f0.holds x v ≡ eqb (part v) x
-        by_test (inl held) y = held ∙ sym (eq-eqb (part v) x (parted.own x v on l held))
-        by_test (inr free) (inl e) = absurd (true_false (rw e at (parted.holds_out v l)) free)
-        by_test (inr free) (inr ne) = free ∙ sym (ne_eqb (part v) x ne)
+    held_part x v on l = elim (cases_Bool (f0.holds x v)) [
+      | inl held ↦ held ∙ sym (eq-eqb (part v) x (parted.own x v on l held))
+      | inr free ↦ free ∙ sym (ne_eqb (part v) x (λ e. true_false (rw e at (parted.holds_out v l)) free))
+    ]
 
     abbrev pub first : ℕ
     first = part (d.near in_tree.dart)

@@ -4,7 +4,7 @@ use Rattle.std.proofs.Common.{subst, inl, inr, arith}
 use Rattle.std.proofs.Math.Bool.{or-false}
 use Rattle.std.proofs.lemmas.Int.{ints}
 use Rattle.std.proofs.lemmas.Bool.{cases_eq, cases_lt, cond-false, cond-true, eq-eqb, eqb-true, le-leb, le-ltb, lt-ltb}
-use Rattle.std.proofs.lemmas.Bool.{ne_eqb}
+use Rattle.std.proofs.lemmas.Bool.{ne_eqb, or_left, or_right}
 use Rattle.std.proofs.Common.{◌&&◌, ◌||◌, List, length, get_or, ℤ, pos, ◌+ℤ◌, ◌*ℤ◌, ◌≤ℤ◌, ◌⊎◌, refl, sym, ◌∙◌, ap}
 use Rattle.std.specs.{Prelude.nat_lt, Prelude.nat_le, List.list_any}
 use Rattle.def_math.specs.Sums.{total, total_below}
@@ -19,7 +19,7 @@ use Rattle.def_forest.specs.Forests.{Forest, dual_sum_of, weight_between, bool_n
 use Rattle.def_forest.specs.Tables.{ForestTables, forest_of, climbs, up_at}
 use Rattle.def_forest.specs.Written.{IsDualOf}
 use Rattle.forest_laws.proofs.{Graphs.are_darts, Graphs.dart_cost, Graphs.dart_far, Graphs.dart_near, Odds.large_set}
-use Rattle.forest_laws.proofs.{Odds.odd_blossom, Writes.by_two}
+use Rattle.forest_laws.proofs.{Odds.odd_blossom, Writes.by_none, Writes.by_two}
 use Rattle.qm_forest.specs.{Outlines.IsOutline, Outlines.entry_of, Outlines.set_in, Rounds.IsLaminar, Rounds.IsSoundFor}
 use Rattle.qm_forest.proofs.{Fresh.climbs_self, Laminars.alone, Laminars.rising, Nests.climbs_place}
 use Rattle.qm_forest.proofs.{Orders.place_of, Orders.set_low, Orders.sized}
@@ -27,16 +27,9 @@ use Rattle.qm_forest.proofs.{Orders.sum_parts, Withins.IsRising, Withins.in_wher
 
 -- A lawful entry, and a lawful size.
 entry_lawful : (n m i entry : ℕ) → (entry ≡ 0) ⊎ ((i + 1 < n + entry) × (entry ≤ m)) → is_up n m i entry ≡ true
-entry_lawful n m i entry (inl e) = ap (λ (s : Bool). s || (nat_lt (i + 1) (n + entry) && nat_le entry m))
-    (eq-eqb entry 0 e)
-entry_lawful n m i entry (inr h) = right (eqb entry 0) ∙ refl
-  where
-    both : (nat_lt (i + 1) (n + entry) && nat_le entry m) ≡ true
-    both = ap (λ (s : Bool). s && nat_le entry m) (lt-ltb (i + 1) (n + entry) h.0) ∙ le-leb entry m h.1
-
-    right : (s : Bool) → (s || (nat_lt (i + 1) (n + entry) && nat_le entry m)) ≡ true
-    right true = refl
-    right false = both
+entry_lawful n m i entry (inl e) = or_left (eqb entry 0) _ (eq-eqb entry 0 e)
+entry_lawful n m i entry (inr h) = or_right (eqb entry 0) _ (ap (λ (s : Bool). s && nat_le entry m)
+    (lt-ltb (i + 1) (n + entry) h.0) ∙ le-leb entry m h.1)
 
 size_lawful : (size : ℕ) → size % 2 ≡ 1 → 3 ≤ size → is_odd_size size ≡ true
 size_lawful size odd large = ap (λ (s : Bool). s && nat_le 3 size) (eq-eqb (size % 2) 1 odd) ∙ le-leb 3 size large
@@ -87,32 +80,23 @@ module _ (t : ForestTables) (known : IsLaminar t) (sets : List (ℕ × ℕ)) (d 
   later : (j k : ℕ) → j < m → k < m → get_or t.rank (set_in sets j) 0 < get_or t.rank (set_in sets k) 0 → j < k
   later j k lj lk less = elim (cases_lt j k) [
     | inl l ↦ l
-    | inr h ↦ absurd (omega (
-      arith,
-      is.order.increasing k j (0, 0) h lj,
-      (sized is.order k lk).rank,
-      (sized is.order j lj).rank,
-      less,
-    ))
+    | inr h ↦ absurd (let rising = is.order.increasing k j (0, 0) h lj in
+        omega (arith, (sized is.order k lk).rank, (sized is.order j lj).rank))
   ]
 
   inner_later : (j x : ℕ) → j < m → set_in sets j ≡ x → (ne : up x ≢ x) → j < (around_place x ne).0
-  inner_later j x l at ne = later j (around_place x ne).0 l (around_place x ne).1
-      (subst (λ b. get_or t.rank b 0 < get_or t.rank (set_in sets (around_place x ne).0) 0) (sym at)
-      (rw (around_place x ne).2 (known.rises x ne)))
+  inner_later j x l at ne = later j _ l (around_place x ne).1 (subst (λ b. get_or t.rank b 0
+      < get_or t.rank (set_in sets (around_place x ne).0) 0) (sym at) (rw (around_place x ne).2 (known.rises x ne)))
 
   name_rises : (x : ℕ) → up x ≢ x → name x < name (up x)
-  name_rises x ne = by_size (cases_lt x n)
-    where
-      outer : name (up x) ≡ suc (around_place x ne).0
-      outer = ap name (sym (around_place x ne).2) ∙ name_set (around_place x ne).0 (around_place x ne).1
-
-      by_size : (x < n) ⊎ (n ≤ x) → name x < name (up x)
-      by_size (inl l) = omega (arith, outer, name_vertex x l)
-      by_size (inr h) = placed (place_of is.order x h (is.inner x ne) (is.live x ne h))
-        where
-          placed : (j : ℕ) × (j < m) × (set_in sets j ≡ x) → name x < name (up x)
-          placed w = omega (arith, outer, ap name (sym w.2) ∙ name_set w.0 w.1, inner_later w.0 x w.1 w.2 ne)
+  name_rises x ne =
+      let outer : name (up x) ≡ suc (around_place x ne).0 =
+      ap name (sym (around_place x ne).2) ∙ name_set _ (around_place x ne).1 in
+      elim (cases_lt x n) [
+        | inl l ↦ omega (arith, name_vertex x l)
+        | inr h ↦ (let w = place_of is.order x h (is.inner x ne) (is.live x ne h) in
+            omega (arith, ap name (sym w.2) ∙ name_set w.0 w.1, inner_later w.0 x w.1 w.2 ne))
+      ]
 
   names : IsRising m up name
   names = record { rises = name_rises }
@@ -124,80 +108,51 @@ module _ (t : ForestTables) (known : IsLaminar t) (sets : List (ℕ × ℕ)) (d 
     abbrev here : ℕ → Bool
     here j = eqb j k
 
+    any_none : (most : ℕ) {x : ℕ} → up x ≡ x → list_any here (sets_from n d.up (suc most) (entry x)) ≡ false
+    any_none most e = ap (λ z. list_any here (sets_from n d.up (suc most) z)) (entry_none e)
+
+    any_step : (most x : ℕ) → up x ≢ x → list_any here (sets_from n d.up (suc most) (entry x))
+        ≡ (eqb (up x) b || list_any here (sets_from n d.up most (entry (up x))))
+    any_step most x ne =
+        let w = around_place x ne in
+        let same = same_test _ _ (λ on. eq-eqb (up x) b (sym w.2 ∙ ap (set_in sets)
+        (eqb-true w.0 k on))) (λ on. eq-eqb w.0 k (let e : suc w.0 ≡ suc k = sym (is.named w.0 w.1)
+        ∙ (ap (λ z. get_or is.names z 0) (w.2 ∙ eqb-true (up x) b on) ∙ is.named k low) in omega arith)) in
+        cc (entry_some x w.0 ne w.1 w.2, is.entries.sets w.0 w.1)
+
     -- The sets that an entry leads to are those that one climbs past.
-    abbrev leads : (most x : ℕ) → Type 0
-    leads most x = list_any here (sets_from n d.up (suc most) (entry x))
-        ≡ cond (eqb (up x) x) false (climbs up most b (up x))
-
-    any_step : (most x : ℕ) → (eqb (up x) b || list_any here (sets_from n d.up most (entry (up x))))
-        ≡ climbs up most b (up x) → leads most x
-    any_step most x rest = by_up (cases_eq (up x) x)
-      where
-        placed : (ne : up x ≢ x) → (j : ℕ) × (j < m) × (set_in sets j ≡ up x)
-            → list_any here (sets_from n d.up (suc most) (entry x))
-            ≡ cond (eqb (up x) x) false (climbs up most b (up x))
-        placed ne w = ap (λ z. list_any here (sets_from n d.up (suc most) z)) (entry_some x w.0 ne w.1 w.2)
-            ∙ (ap (λ z. here w.0 || list_any here (sets_from n d.up most z)) (is.entries.sets w.0 w.1 ∙ ap entry w.2)
-            ∙ (ap (λ s. s || list_any here (sets_from n d.up most (entry (up x)))) same
-            ∙ (rest ∙ sym (cond-false _ _ _ (ne_eqb (up x) x ne)))))
-          where
-            same : here w.0 ≡ eqb (up x) b
-            same = same_test (here w.0) (eqb (up x) b)
-                (λ on. eq-eqb (up x) b (sym w.2 ∙ ap (set_in sets) (eqb-true w.0 k on)))
-                (λ on. eq-eqb w.0 k (let e : suc w.0 ≡ suc k = sym (is.named w.0 w.1)
-                ∙ (ap (λ z. get_or is.names z 0) (w.2 ∙ eqb-true (up x) b on) ∙ is.named k low) in
-                omega (arith, e)))
-
-        by_up : (up x ≡ x) ⊎ (up x ≢ x) → list_any here (sets_from n d.up (suc most) (entry x))
-            ≡ cond (eqb (up x) x) false (climbs up most b (up x))
-        by_up (inl e) = ap (λ z. list_any here (sets_from n d.up (suc most) z)) (entry_none e)
-            ∙ sym (cond-true _ _ _ (eq-eqb (up x) x e))
-        by_up (inr ne) = placed ne (around_place x ne)
-
-    any_rest : (more x : ℕ) → leads more (up x)
-        → (eqb (up x) b || list_any here (sets_from n d.up (suc more) (entry (up x)))) ≡ climbs up (suc more) b (up x)
-    any_rest more x further = ap (λ s. eqb (up x) b || s) further ∙ by_next (cases_eq (up (up x)) (up x))
-      where
-        by_next : (up (up x) ≡ up x) ⊎ (up (up x) ≢ up x) → (eqb (up x) b || cond (eqb (up (up x)) (up x)) false
-            (climbs up more b (up (up x)))) ≡ climbs up (suc more) b (up x)
-        by_next (inl e) = ap (λ s. eqb (up x) b || s) (cond-true _ _ _ (eq-eqb (up (up x)) (up x) e))
-            ∙ (or-false (eqb (up x) b) ∙ sym (climbs_self up (suc more) b e))
-        by_next (inr ne) = ap (λ s. eqb (up x) b || s) (cond-false _ _ _ (ne_eqb (up (up x)) (up x) ne))
-
-    any_is : (most x : ℕ) → leads most x
-    any_is zero x = any_step zero x (or-false (eqb (up x) b))
-    any_is (suc more) x = any_step (suc more) x (any_rest more x (any_is more (up x)))
+    any_is : (most x : ℕ) → up x ≢ x → list_any here (sets_from n d.up (suc most) (entry x)) ≡ climbs up most b (up x)
+    any_is zero x ne = any_step zero x ne ∙ or-false (eqb (up x) b)
+    any_is (suc more) x ne = any_step (suc more) x ne ∙ elim (cases_eq (up (up x)) (up x)) [
+      | inl e ↦ ap (λ s. eqb (up x) b || s) (any_none more e)
+          ∙ (or-false (eqb (up x) b) ∙ sym (climbs_self up (suc more) b e))
+      | inr inner ↦ ap (λ s. eqb (up x) b || s) (any_is more (up x) inner)
+    ]
 
     -- A set holds what it held.
     pub holds_is : (v : ℕ) → v < n → holds n d k v ≡ f.holds b v
-    holds_is v l = ap (λ e. list_any here (sets_from n d.up (length d.z) e)) (vertex_entry v l)
-        ∙ (ap (λ z. list_any here (sets_from n d.up z (entry v))) sets_many ∙ (fuel m refl ∙ enough))
+    holds_is v l =
+        let enough : climbs up m b v ≡ climbs up n b v = same_test _ _
+        (λ on. (let w : (i : ℕ) × (walk up v i ≡ b) = climbs_place up m b v on in in_where (rising known) v w.0
+        (known.low b (set_low is.order k low) (inr (sized is.order k low).live)) w.1)) (λ on. (let w : (i : ℕ)
+        × (walk up v i ≡ b) = climbs_place up n b v on in in_where names v w.0 (omega (arith, name_set k low)) w.1)) in
+        cc (vertex_entry v l, fuel m refl)
       where
         other : v ≢ b
-        other e = omega (arith, e, l, (sized is.order k low).high)
+        other e = omega (arith, (sized is.order k low).high)
 
         fuel : (z : ℕ) → z ≡ m → list_any here (sets_from n d.up z (entry v)) ≡ climbs up z b v
-        fuel zero e = absurd (omega (arith, e, low))
-        fuel (suc z) e = any_is z v
-            ∙ (by_up (cases_eq (up v) v) ∙ sym (ap (λ s. s || climbs up z b (up v)) (ne_eqb v b other)))
-          where
-            by_up : (up v ≡ v) ⊎ (up v ≢ v) → cond (eqb (up v) v) false (climbs up z b (up v)) ≡ climbs up z b (up v)
-            by_up (inl s) = cond-true _ _ _ (eq-eqb (up v) v s)
-                ∙ sym (climbs_self up z b (ap up s) ∙ ne_eqb (up v) b (λ x. other (sym s ∙ x)))
-            by_up (inr ne) = cond-false _ _ _ (ne_eqb (up v) v ne)
-
-        enough : climbs up m b v ≡ climbs up n b v
-        enough = same_test (climbs up m b v) (climbs up n b v)
-            (λ on. (let w : (i : ℕ) × (walk up v i ≡ b) = climbs_place up m b v on in
-            in_where (rising known) v w.0 (known.low b (set_low is.order k low) (inr (sized is.order k low).live)) w.1))
-            (λ on. (let w : (i : ℕ) × (walk up v i ≡ b) = climbs_place up n b v on in
-            in_where names v w.0 (omega (arith, name_set k low, low)) w.1))
+        fuel zero e = absurd (omega arith)
+        fuel (suc z) e = elim (cases_eq (up v) v) [
+          | inl s ↦ any_none z s ∙ sym (climbs_self up (suc z) b s ∙ ne_eqb v b other)
+          | inr ne ↦ any_is z v ne ∙ sym (ap (λ s. s || climbs up z b (up v)) (ne_eqb v b other))
+        ]
 
     pub z_is : z_at d k ≡ f.weight b
     z_is = is.z.each k low
 
   pub few_is : 2 * length d.z ≤ n
-  few_is = omega (arith, sets_many, is.order.few, is.whole)
+  few_is = omega arith
 
   y_is : (v : ℕ) → v < n → y_at d v ≡ f.weight v
   y_is v l = is.y.each v l
@@ -221,9 +176,11 @@ module _ (t : ForestTables) (known : IsLaminar t) (sets : List (ℕ × ℕ)) (d 
     -- The sum is that of the weights.
     sum_is : dual_sum d ≡ dual_sum_of f
     sum_is =
-        let ys : total (λ y. y) d.y ≡ total_below f.weight n = total_entries (λ y. y) (pos 0) d.y
-        ∙ (ap (total_below (λ k. get_or d.y k (pos 0))) is.y.size ∙ total_below_same (λ k. get_or d.y k (pos 0))
-        f.weight n (λ v l. is.y.each v l)) in
+        let ys : total (λ y. y) d.y ≡ total_below f.weight n = cc (
+          total_entries (λ y. y) (pos 0) d.y,
+          is.y.size,
+          total_below_same (λ k. get_or d.y k (pos 0)) f.weight n (λ v l. is.y.each v l),
+        ) in
         let zs : total (λ z. z) d.z ≡ total_below (λ k. f.weight (set_in sets k)) m = total_entries (λ z. z) (pos 0) d.z
         ∙ (ap (total_below (λ k. get_or d.z k (pos 0))) sets_many ∙ total_below_same (λ k. get_or d.z k (pos 0))
         (λ k. f.weight (set_in sets k)) m (λ k l. is.z.each k l)) in
@@ -246,28 +203,26 @@ module _ (t : ForestTables) (known : IsLaminar t) (sets : List (ℕ × ℕ)) (d 
     nested : AreNestedSets g.n (length d.z) d.up
     nested = record {
       entries = is.entries.size ∙ (ap (λ x. x + m) valid.vertices ∙ ap (λ x. g.n + x) (sym sets_many));
-      later = λ i l. subst (λ x. is_up x (length d.z) i (get_or d.up i 0) ≡ true) valid.vertices
-          (subst (λ x. is_up n x i (get_or d.up i 0) ≡ true) (sym sets_many)
-          (by_place i (omega (arith, l, valid.vertices, sets_many)) (cases_lt i n)));
+      later = λ i l. subst (λ x. is_up x (length d.z) i (get_or d.up i 0) ≡ true) valid.vertices (subst (λ x. is_up n x
+          i (get_or d.up i 0) ≡ true) (sym sets_many) (by_place i (omega (arith, l, valid.vertices, sets_many))));
     }
       where
         at : (i x : ℕ) → get_or d.up i 0 ≡ entry x → ((ne : up x ≢ x) → i < n + (around_place x ne).0)
             → is_up n m i (get_or d.up i 0) ≡ true
-        at i x e less = ap (λ z. is_up n m i z) e ∙ entry_lawful n m i (entry x) (by_up (cases_eq (up x) x))
-          where
-            by_up : (up x ≡ x) ⊎ (up x ≢ x) → (entry x ≡ 0) ⊎ ((i + 1 < n + entry x) × (entry x ≤ m))
-            by_up (inl s) = inl (entry_none s)
-            by_up (inr ne) = (let e : entry x ≡ suc (around_place x ne).0 =
-                entry_some x (around_place x ne).0 ne (around_place x ne).1 (around_place x ne).2 in
-                inr (omega (arith, e, less ne), omega (arith, e, (around_place x ne).1)))
+        at i x e less = ap (λ z. is_up n m i z) e ∙ entry_lawful n m i (entry x) (elim (cases_eq (up x) x) [
+          | inl s ↦ inl (entry_none s)
+          | inr ne ↦ (let w = around_place x ne in let e = entry_some x w.0 ne w.1 w.2 in
+              inr (omega (arith, e, less ne), omega (arith, e, w.1)))
+        ])
 
-        by_place : (i : ℕ) → i < n + m → (i < n) ⊎ (n ≤ i) → is_up n m i (get_or d.up i 0) ≡ true
-        by_place i l (inl low) = at i i (vertex_entry i low) (λ ne. omega (arith, low))
-        by_place i l (inr high) =
-            let k_low : i - n < m = omega (arith, l, high) in
-            let i_is : i ≡ n + (i - n) = omega (arith, high) in
-            at i (set_in sets (i - n)) (ap (λ z. get_or d.up z 0) i_is ∙ is.entries.sets (i - n) k_low)
-            (λ ne. omega (arith, inner_later (i - n) (set_in sets (i - n)) k_low refl ne, high))
+        by_place : (i : ℕ) → i < n + m → is_up n m i (get_or d.up i 0) ≡ true
+        by_place i l = elim (cases_lt i n) [
+          | inl low ↦ at i i (vertex_entry i low) (λ ne. omega (arith, low))
+          | inr high ↦ (let k_low : i - n < m = omega (arith, l, high) in
+              let i_is : i ≡ n + (i - n) = omega (arith, high) in
+              at i (set_in sets (i - n)) (ap (λ z. get_or d.up z 0) i_is ∙ is.entries.sets (i - n) k_low)
+              (λ ne. omega (arith, inner_later (i - n) (set_in sets (i - n)) k_low refl ne, high)))
+        ]
 
     -- A set has as many vertices as it had.
     size_is : (k : ℕ) → k < m → set_size g.n d k ≡ blossom_size g.n f (set_in sets k)
@@ -284,44 +239,48 @@ module _ (t : ForestTables) (known : IsLaminar t) (sets : List (ℕ × ℕ)) (d 
     -- What the vertices add to a load.
     ends_load : (u v : ℕ) → u < n → v < n → u ≢ v
         → total_below (λ w. cond (splits (f.holds w) u v) (f.weight w) (pos 0)) n ≡ f.weight u +ℤ f.weight v
-    ends_load u v lu lv ne = total_below_same (λ w. cond (splits (f.holds w) u v) (f.weight w) (pos 0))
+    ends_load u v lu lv ne =
+        let only : (a : ℕ) → a < n → total_below (λ w. cond (eqb w a) (f.weight w) (pos 0)) n ≡ f.weight a = λ a l.
+        total_below_one (λ w. cond (eqb w a) (f.weight w) (pos 0)) n a l (λ k lk off. cond-false _ _ _ (ne_eqb k a off))
+        ∙ cond-true _ _ _ (eq-eqb a a refl) in
+        let each : (w : ℕ) → w < n → cond (splits (f.holds w) u v) (f.weight w) (pos 0)
+        ≡ cond (eqb w u) (f.weight w) (pos 0) +ℤ cond (eqb w v) (f.weight w) (pos 0) = λ w l. ap
+        (λ (s : Bool). cond (cond s (not (f.holds w v)) (f.holds w v)) (f.weight w) (pos 0)) (alone known w u l lu)
+        ∙ (ap (λ (s : Bool). cond (cond (eqb w u) (not s) s) (f.weight w) (pos 0)) (alone known w v l lv)
+        ∙ by_two (eqb w u) (eqb w v) (f.weight w) (λ a c. ne (sym (eqb-true w u a) ∙ eqb-true w v c))) in
+        total_below_same (λ w. cond (splits (f.holds w) u v) (f.weight w) (pos 0))
         (λ w. cond (eqb w u) (f.weight w) (pos 0) +ℤ cond (eqb w v) (f.weight w) (pos 0)) n each
         ∙ (total_below_sum (λ w. cond (eqb w u) (f.weight w) (pos 0)) (λ w. cond (eqb w v) (f.weight w) (pos 0)) n
         ∙ (ap (λ x. x +ℤ total_below (λ w. cond (eqb w v) (f.weight w) (pos 0)) n) (only u lu)
         ∙ ap (λ x. f.weight u +ℤ x) (only v lv)))
-      where
-        only : (a : ℕ) → a < n → total_below (λ w. cond (eqb w a) (f.weight w) (pos 0)) n ≡ f.weight a
-        only a l = total_below_one (λ w. cond (eqb w a) (f.weight w) (pos 0)) n a l
-            (λ k lk off. cond-false _ _ _ (ne_eqb k a off)) ∙ cond-true _ _ _ (eq-eqb a a refl)
-
-        each : (w : ℕ) → w < n → cond (splits (f.holds w) u v) (f.weight w) (pos 0)
-            ≡ cond (eqb w u) (f.weight w) (pos 0) +ℤ cond (eqb w v) (f.weight w) (pos 0)
-        each w l = ap (λ (s : Bool). cond (cond s (not (f.holds w v)) (f.holds w v)) (f.weight w) (pos 0))
-            (alone known w u l lu)
-            ∙ (ap (λ (s : Bool). cond (cond (eqb w u) (not s) s) (f.weight w) (pos 0)) (alone known w v l lv)
-            ∙ by_two (eqb w u) (eqb w v) (f.weight w) (λ a c. ne (sym (eqb-true w u a) ∙ eqb-true w v c)))
 
     -- The load of an edge is what it was.
     load_is : (e : ℕ) → e < length g.edges → dual_load g.n d (edge_at g e)
         ≡ weight_between f (edge_at g e).u (edge_at g e).v
     load_is e l =
-        let parts : total_below added n +ℤ total_below (λ k. added (set_in sets k)) m ≡ weight_between f u v =
-        sum_parts is.order added known.vertices (λ b h lb. high_term (splits (f.holds b) u v) (f.weight b)
-        (weights_high b h lb)) (λ b h dead. no_term (splits (f.holds b) u v) (f.weight b) (weights_none b h dead)) in
+        let u_low = low_in u (valid.small.lawful.left e l) in
+        let v_low = low_in v (valid.small.lawful.right e l) in
+        let added : ℕ → ℤ = λ b. cond (splits (f.holds b) u v) (f.weight b) (pos 0) in
+        let held : (k w : ℕ) → k < m → w < n → holds g.n d k w
+        ≡ f.holds (set_in sets k) w = λ k w lk lw. ap (λ x. holds x d k w) (sym valid.vertices) ∙ holds_is k lk w lw in
+        let term : (k : ℕ) → k < m → cond (crosses (holds g.n d k) (edge_at g e)) (z_at d k) (pos 0) ≡ added (set_in
+        sets k) = λ k lk. ap (λ (s : Bool). cond (cond s (not (holds g.n d k v)) (holds g.n d k v)) (z_at d k) (pos 0))
+        (held k u lk u_low) ∙ (ap (λ (s : Bool). cond (cond (f.holds (set_in sets k) u) (not s) s) (z_at d k) (pos 0))
+        (held k v lk v_low) ∙ ap (λ (z : ℤ). cond (splits (f.holds (set_in sets k)) u v) z (pos 0)) (z_is k lk)) in
+        let parts : total_below added n +ℤ total_below (λ k. added (set_in sets k)) m ≡ weight_between f u v = sum_parts
+        is.order added known.vertices (λ b h lb. elim (splits (f.holds b) u v) as (λ s. pos 0 ≤ℤ cond s (f.weight b)
+        (pos 0)) [ true ↦ weights_high b h lb | false ↦ omega (arith, ints) ]) (λ b h dead. ap (λ (x : ℤ). cond
+        (splits (f.holds b) u v) x (pos 0)) (weights_none b h dead) ∙ by_none (splits (f.holds b) u v)) in
         let sets_load : total_below (λ k. cond (crosses (holds g.n d k) (edge_at g e)) (z_at d k) (pos 0)) (length d.z)
-        ≡ total_below (λ k. added (set_in sets k)) m =
-        ap (total_below (λ k. cond (crosses (holds g.n d k) (edge_at g e)) (z_at d k) (pos 0))) sets_many
-        ∙ total_below_same (λ k. cond (crosses (holds g.n d k) (edge_at g e)) (z_at d k) (pos 0))
-        (λ k. added (set_in sets k)) m term in
-        omega (
-          arith,
-          ints,
-          parts,
-          sets_load,
-          ends_load u v u_low v_low (valid.small.lawful.apart e l),
-          y_is u u_low,
-          y_is v v_low,
+        ≡ total_below (λ k. added (set_in sets k)) m = cc (
+          sets_many,
+          total_below_same
+              (λ k. cond (crosses (holds g.n d k) (edge_at g e)) (z_at d k) (pos 0)) (λ k. added (set_in sets k)) m
+              term,
         )
+        in
+        let ends = ends_load u v u_low v_low (valid.small.lawful.apart e l) in
+        omega (arith, ints, parts, sets_load, y_is u u_low, y_is v v_low)
       where
         u : ℕ
         u = (edge_at g e).u
@@ -329,39 +288,12 @@ module _ (t : ForestTables) (known : IsLaminar t) (sets : List (ℕ × ℕ)) (d 
         v : ℕ
         v = (edge_at g e).v
 
-        u_low : u < n
-        u_low = low_in u (valid.small.lawful.left e l)
-
-        v_low : v < n
-        v_low = low_in v (valid.small.lawful.right e l)
-
-        added : ℕ → ℤ
-        added b = cond (splits (f.holds b) u v) (f.weight b) (pos 0)
-
-        high_term : (s : Bool) (x : ℤ) → pos 0 ≤ℤ x → pos 0 ≤ℤ cond s x (pos 0)
-        high_term true x h = h
-        high_term false x h = omega (arith, ints)
-
-        no_term : (s : Bool) (x : ℤ) → x ≡ pos 0 → cond s x (pos 0) ≡ pos 0
-        no_term true x z = z
-        no_term false x z = refl
-
-        held : (k w : ℕ) → k < m → w < n → holds g.n d k w ≡ f.holds (set_in sets k) w
-        held k w lk lw = ap (λ x. holds x d k w) (sym valid.vertices) ∙ holds_is k lk w lw
-
-        term : (k : ℕ) → k < m → cond (crosses (holds g.n d k) (edge_at g e)) (z_at d k) (pos 0) ≡ added (set_in sets k)
-        term k lk = ap (λ (s : Bool). cond (cond s (not (holds g.n d k v)) (holds g.n d k v)) (z_at d k) (pos 0))
-            (held k u lk u_low)
-            ∙ (ap (λ (s : Bool). cond (cond (f.holds (set_in sets k) u) (not s) s) (z_at d k) (pos 0))
-            (held k v lk v_low) ∙ ap (λ (z : ℤ). cond (splits (f.holds (set_in sets k)) u v) z (pos 0)) (z_is k lk))
-
     edge_loaded : (e : ℕ) → e < length g.edges → dual_load g.n d (edge_at g e) ≤ℤ (pos 2 *ℤ (edge_at g e).cost)
     edge_loaded e l =
         let low : 2 * e < (darts_of g).count = omega (arith, l) in
         let ends : weight_between f ((darts_of g).near (2 * e)) ((darts_of g).near ((darts_of g).twin (2 * e)))
-        ≡ weight_between f (edge_at g e).u (edge_at g e).v =
-        ap (λ x. weight_between f x ((darts_of g).near ((darts_of g).twin (2 * e)))) (dart_near g e)
-        ∙ ap (weight_between f (edge_at g e).u) (dart_far g e) in
+        ≡ weight_between f (edge_at g e).u (edge_at g e).v = ap (λ x. weight_between f x ((darts_of g).near
+        ((darts_of g).twin (2 * e)))) (dart_near g e) ∙ ap (weight_between f (edge_at g e).u) (dart_far g e) in
         omega (arith, ints, valid.valid.feasible.darts (2 * e) low, ends, dart_cost g e, load_is e l)
 
     -- The dual says yes.

@@ -1,5 +1,5 @@
 -- Two blossoms are matched with each other: the round goes on.
-use Rattle.std.proofs.Common.{◌≡◌, ◌≢◌, ℕ, zero, suc, ◌+◌, ◌-◌, ◌*◌, ◌/◌, ◌%◌, ◌<◌, ◌≤◌, Bool, true, false, not, cond}
+use Rattle.std.proofs.Common.{◌≡◌, ◌≢◌, ℕ, zero, suc, ◌+◌, ◌-◌, ◌*◌, ◌/◌, ◌%◌, ◌<◌, ◌≤◌, Bool, true, false, cond}
 use Rattle.std.proofs.Common.{◌&&◌, List, length, get_or, Option, Some, None, ◌⊎◌, refl, sym, ◌∙◌, ap, subst, inl}
 use Rattle.std.proofs.Common.{inr, arith, length-set, get_or-set_same, get_or-set_other}
 use Rattle.std.proofs.Math.ListN.{set}
@@ -18,33 +18,28 @@ use Rattle.qm_forest.proofs.Laminars.{alone, another}
 
 -- A term of a count.
 pub term_low : (f : ℕ → ℕ) (n k : ℕ) → k < n → f k ≤ count_below f n
-term_low f zero k l = absurd (omega (arith, l))
-term_low f (suc n) k l = by_last (cases_eq k n) (λ lk. term_low f n k lk)
-  where
-    by_last : (k ≡ n) ⊎ (k ≢ n) → (k < n → f k ≤ count_below f n) → f k ≤ count_below f n + f n
-    by_last (inl e) more = omega (arith, ap f e)
-    by_last (inr ne) more = (let h : f k ≤ count_below f n = more (omega (arith, l, ne)) in omega (arith, h))
+term_low f zero k l = absurd (omega arith)
+term_low f (suc n) k l = elim (cases_eq k n) [
+  | inl e ↦ omega (arith, ap f e)
+  | inr ne ↦ omega (arith, term_low f n k (omega (arith, l, ne)))
+]
 
 -- Two counts that differ at one place alone.
 pub count_changed : (f g : ℕ → ℕ) (n x : ℕ) → x < n → ((k : ℕ) → k < n → k ≢ x → g k ≡ f k)
     → count_below g n + f x ≡ count_below f n + g x
-count_changed f g zero x l same = absurd (omega (arith, l))
+count_changed f g zero x l same = absurd (omega arith)
 count_changed f g (suc n) x l same =
-    by_last (cases_eq x n) (λ lx. count_changed f g n x lx (λ k lk. same k (omega (arith, lk))))
-  where
-    by_last : (x ≡ n) ⊎ (x ≢ n) → (x < n → count_below g n + f x ≡ count_below f n + g x)
-        → (count_below g n + g n) + f x ≡ (count_below f n + f n) + g x
-    by_last (inl e) more = omega (
-      arith,
-      ap f e,
-      ap g e,
-      count_below_same g f n (λ k lk. same k (omega (arith, lk)) (λ at. absurd (omega (arith, at, e, lk)))),
-    )
-    by_last (inr ne) more = omega (arith, more (omega (arith, l, ne)), same n (omega arith) (λ at. ne (sym at)))
+    let more : x < n → count_below g n + f x ≡ count_below f n + g x =
+    λ lx. count_changed f g n x lx (λ k lk. same k (omega arith)) in
+    elim (cases_eq x n) [
+      | inl e ↦ (let rest = count_below_same g f n (λ k lk. same k (omega arith) (λ at. absurd (omega arith))) in
+          omega (arith, ap f e, ap g e))
+      | inr ne ↦ omega (arith, more (omega arith), same n (omega arith) (λ at. ne (sym at)))
+    ]
 
 pub count_more : (f g : ℕ → ℕ) (n x : ℕ) → x < n → f x ≡ 0 → ((k : ℕ) → k < n → k ≢ x → g k ≡ f k)
     → count_below g n ≡ count_below f n + g x
-count_more f g n x l none same = omega (arith, none, count_changed f g n x l same)
+count_more f g n x l none same = omega (arith, count_changed f g n x l same)
 
 pub option_cases : (o : Option ℕ) → (o ≡ None) ⊎ ((v : ℕ) × (o ≡ Some v))
 option_cases None = inl refl
@@ -75,25 +70,24 @@ entered_size n left x u = elim (cases_lt x n) [
 pub entry_cases : (n : ℕ) (left : List (Option ℕ)) (x u c : ℕ) → x < length left
     → ((n ≤ x) × (c ≡ x) × (get_or (entered n left x u) c None ≡ Some u))
     ⊎ (get_or (entered n left x u) c None ≡ get_or left c None)
-entry_cases n left x u c low = by_size (cases_lt x n) (cases_eq c x)
-  where
-    by_size : (x < n) ⊎ (n ≤ x) → (c ≡ x) ⊎ (c ≢ x) → ((n ≤ x) × (c ≡ x)
-        × (get_or (entered n left x u) c None ≡ Some u)) ⊎ (get_or (entered n left x u) c None ≡ get_or left c None)
-    by_size (inl l) y = inr (ap (λ xs. get_or xs c None) (cond-true _ _ _ (lt-ltb x n l)))
-    by_size (inr h) (inl e) = inl (
+entry_cases n left x u c low = elim (cases_lt x n) [
+  | inl l ↦ inr (ap (λ xs. get_or xs c None) (cond-true _ _ _ (lt-ltb x n l)))
+  | inr h ↦ elim (cases_eq c x) [
+    | inl e ↦ inl (
       h,
       e,
       ap (λ xs. get_or xs c None) (cond-false _ _ _ (le-ltb x n h))
           ∙ (ap (λ k. get_or (set left x (Some u)) k None) e ∙ get_or-set_same left x (Some u) None low),
     )
-    by_size (inr h) (inr ne) = inr (ap (λ xs. get_or xs c None) (cond-false _ _ _ (le-ltb x n h))
+    | inr ne ↦ inr (ap (λ xs. get_or xs c None) (cond-false _ _ _ (le-ltb x n h))
         ∙ get_or-set_other left x c (Some u) None ne)
+  ]
+]
 
 module _ {t : ForestTables} (known : IsLaminar t) {g : WeightedGraph} (valid : IsSoundFor g t) (marks : List Bool)
     (left : List (Option ℕ)) (x y d : ℕ) (rest due : ℕ → ℕ) (size_marks : length t.near ≡ 2 * length marks)
-    (size_left : length left ≡ length t.up)
-    (round : IsRound t marks left (λ b. (bool_number (within t b x) + bool_number (within t b y)) + rest b) due)
-    (pairing : IsPairing t x y d) where
+    (size_left : length left ≡ length t.up) (round : IsRound t marks left
+    (λ b. (bool_number (within t b x) + bool_number (within t b y)) + rest b) due) (pairing : IsPairing t x y d) where
   abbrev n : ℕ
   n = length t.hand
 
@@ -107,78 +101,61 @@ module _ {t : ForestTables} (known : IsLaminar t) {g : WeightedGraph} (valid : I
   v = far_at t d
 
   e_low : e < length marks
-  e_low = omega (arith, size_marks, pairing.dart)
+  e_low = omega arith
 
   -- The edge's ends are those of the dart, in one order or the other.
   sides : (b : ℕ) → splits ((forest_of t).holds b) (near_at t (2 * e)) (near_at t (2 * e + 1))
       ≡ splits ((forest_of t).holds b) u v
   sides b = elim (cases_eq (d % 2) 0) [
-    | inl z ↦ (let first : 2 * e ≡ d = omega (arith, z) in
-        let second : 2 * e + 1 ≡ other_dart d = (let s : 2 * e + 1 ≡ d + 1 = omega (arith, z) in
+    | inl z ↦ (let first : 2 * e ≡ d = omega arith in
+        let second : 2 * e + 1 ≡ other_dart d = (let s : 2 * e + 1 ≡ d + 1 = omega arith in
         s ∙ sym (twin_even d z)) in
-        ap (λ k. splits ((forest_of t).holds b) (near_at t k) (near_at t (2 * e + 1))) first
-        ∙ ap (λ k. splits ((forest_of t).holds b) u (near_at t k)) second)
-    | inr nz ↦
-        (let first : 2 * e ≡ other_dart d = (let s : 2 * e ≡ d - 1 = omega (arith, nz) in s ∙ sym (twin_odd d nz)) in
-        let second : 2 * e + 1 ≡ d = omega (arith, nz) in
-        ap (λ k. splits ((forest_of t).holds b) (near_at t k) (near_at t (2 * e + 1))) first
-        ∙ (ap (λ k. splits ((forest_of t).holds b) v (near_at t k)) second
-        ∙ by_order ((forest_of t).holds b v) ((forest_of t).holds b u)))
+        cc)
+    | inr nz ↦ (let first : 2 * e ≡ other_dart d = (let s : 2 * e ≡ d - 1 = omega arith in s ∙ sym (twin_odd d nz)) in
+        let second : 2 * e + 1 ≡ d = omega arith in
+        cc (by_order ((forest_of t).holds b v) ((forest_of t).holds b u)))
   ]
 
   low_u : u < length t.up
-  low_u = omega (arith, pairing.near_low, known.vertices)
+  low_u = omega arith
 
   -- The edge was not chosen.
   fresh : get_or marks e false ≡ false
   fresh = elim (cases_Bool (get_or marks e false)) [
     | inr off ↦ off
-    | inl on ↦ (let at_u : splits ((forest_of t).holds u) u v ≡ true = ap (λ (s : Bool). cond s
-        (not ((forest_of t).holds u v)) ((forest_of t).holds u v)) (alone known u u pairing.near_low pairing.near_low
-        ∙ eq-eqb u u refl) ∙ ap not (alone known u v pairing.near_low pairing.far_low ∙ ne_eqb u v pairing.apart) in
+    | inl on ↦ (let at_u : splits ((forest_of t).holds u) u v ≡ true = cc (
+      alone known u u pairing.near_low
+          pairing.near_low,
+      eq-eqb u u refl,
+      alone known u v pairing.near_low pairing.far_low,
+      ne_eqb u v pairing.apart,
+    )
+        in
         let one : bool_number (get_or marks e false && splits ((forest_of t).holds u) (near_at t (2 * e))
-        (near_at t (2 * e + 1))) ≡ 1 =
-        ap (λ (s : Bool). bool_number (s && splits ((forest_of t).holds u) (near_at t (2 * e))
-        (near_at t (2 * e + 1)))) on ∙ ap bool_number (sides u ∙ at_u) in
+        (near_at t (2 * e + 1))) ≡ 1 = cc (sides u) in
         let some : bool_number (get_or marks e false && splits ((forest_of t).holds u) (near_at t (2 * e))
-        (near_at t (2 * e + 1))) ≤ leaving t marks u =
-        term_low (λ k. bool_number (get_or marks k false && splits ((forest_of t).holds u) (near_at t (2 * k))
-        (near_at t (2 * k + 1)))) (length marks) e e_low in
-        absurd (omega (
-          arith,
-          one,
-          some,
-          ap bool_number pairing.near_held,
-          round.each u low_u,
-          round.once u pairing.near_low,
-        )))
+        (near_at t (2 * e + 1))) ≤ leaving t marks u = term_low (λ k. bool_number (get_or marks k false && splits
+        ((forest_of t).holds u) (near_at t (2 * k)) (near_at t (2 * k + 1)))) _ e e_low in
+        absurd (omega (arith, ap bool_number pairing.near_held, round.each u low_u, round.once u pairing.near_low)))
   ]
 
   -- Neither blossom waited.
   free_of : (c w : ℕ) → c < length t.up → (n ≤ c → get_or t.parts c 0 ≢ 0)
       → ((b : ℕ) → bool_number (within t b c) ≤ bool_number (within t b x) + bool_number (within t b y)) → n ≤ c
       → get_or left c None ≡ None
-  free_of c w low live covered high = elim (option_cases (get_or left c None)) [
+  free_of c w low live covered high = elim (option_cases _) [
     | inl none ↦ none
-    | inr s ↦ (let other : (z : ℕ) × (z < n) × (z ≢ s.0) × ((forest_of t).holds c z ≡ true) =
-        another known valid c s.0 high low (live high) in
-        let entry : IsEntry t c s.0 = round.entry c s.0 s.1 in
-        let waits : waits_for t other.0 c (get_or left c None) ≡ 1 = ap (waits_for t other.0 c) s.1
-        ∙ (ap (λ (q : Bool). cond q (cond ((forest_of t).holds other.0 s.0) 0 1) 0) other.3
-        ∙ ap (λ (q : Bool). cond q 0 1) (alone known other.0 s.0 other.1 entry.low ∙ ne_eqb other.0 s.0 other.2)) in
+    | inr s ↦ (let other = another known valid c s.0 high low (live high) in
+        let entry = round.entry c s.0 s.1 in
+        let waits : waits_for t other.0 c (get_or left c None) ≡ 1 = cc (
+          alone known other.0 s.0 other.1 entry.low,
+          ne_eqb other.0 s.0 other.2,
+        ) in
         let some : waits_for t other.0 c (get_or left c None) ≤ waiting t left other.0 =
-        term_low (λ k. waits_for t other.0 k (get_or left k None)) (length left) c (rw size_left low) in
+        term_low (λ k. waits_for t other.0 k (get_or left k None)) _ c (rw size_left low) in
         let in_c : bool_number (within t other.0 c) ≡ 1 = ap bool_number other.3 in
-        let low_z : other.0 < length t.up = omega (arith, other.1, known.vertices) in
-        absurd (omega (
-          arith,
-          waits,
-          some,
-          in_c,
-          covered other.0,
-          round.each other.0 low_z,
-          round.once other.0 other.1,
-        )))
+        let low_z : other.0 < length t.up = omega arith in
+        absurd (omega (arith, covered other.0, round.each other.0 low_z, round.once other.0 other.1)))
   ]
 
   free_x : n ≤ x → get_or left x None ≡ None
@@ -190,8 +167,7 @@ module _ {t : ForestTables} (known : IsLaminar t) {g : WeightedGraph} (valid : I
   zero_at : (c w b : ℕ) → (forest_of t).holds c w ≡ true → c < n → waits_but t b c w ≡ 0
   zero_at c w b held low = elim (cases_Bool (within t b c)) [
     | inr off ↦ ap (λ (s : Bool). cond s (cond ((forest_of t).holds b w) 0 1) 0) off
-    | inl on ↦ ap (λ (s : Bool). cond s (cond ((forest_of t).holds b w) 0 1) 0) on
-        ∙ ap (λ (s : Bool). cond s 0 1) (ap (λ z. (forest_of t).holds z w) (known.own b c low on) ∙ held)
+    | inl on ↦ cc (known.own b c low on)
   ]
 
   abbrev first_left : List (Option ℕ)
@@ -203,42 +179,41 @@ module _ {t : ForestTables} (known : IsLaminar t) {g : WeightedGraph} (valid : I
 
   waiting_now : (b : ℕ) → waiting t (entered n first_left y v) b ≡ (waiting t left b + waits_but t b x u) + waits_but
       t b y v
-  waiting_now b = entered_more t first_left y v b (rw (entered_size n left x u ∙ size_left) pairing.low_y) free_y2
-      (zero_at y v b pairing.far_held) ∙ ap (λ m. m + waits_but t b y v)
-      (entered_more t left x u b (rw size_left pairing.low_x) free_x (zero_at x u b pairing.near_held))
+  waiting_now b = cc (
+    entered_more t first_left y v b (rw (entered_size n left x u ∙ size_left) pairing.low_y) free_y2
+        (zero_at y v b pairing.far_held),
+    entered_more t left x u b (rw size_left pairing.low_x) free_x
+        (zero_at x u b pairing.near_held),
+  )
 
   leaving_now : (b : ℕ) → leaving t (set marks e true) b
       ≡ leaving t marks b + bool_number (splits ((forest_of t).holds b) u v)
-  leaving_now b = ap (count_below (λ k. bool_number (get_or (set marks e true) k false && splits
-      ((forest_of t).holds b) (near_at t (2 * k)) (near_at t (2 * k + 1))))) (length-set marks e true)
-      ∙ (count_more (λ k. bool_number (get_or marks k false && splits ((forest_of t).holds b) (near_at t (2 * k))
-      (near_at t (2 * k + 1)))) (λ k. bool_number (get_or (set marks e true) k false && splits ((forest_of t).holds b)
-      (near_at t (2 * k)) (near_at t (2 * k + 1)))) (length marks) e e_low
-      (ap (λ (s : Bool). bool_number (s && splits ((forest_of t).holds b) (near_at t (2 * e))
-      (near_at t (2 * e + 1)))) fresh) (λ k lk ne. ap (λ (s : Bool). bool_number
-      (s && splits ((forest_of t).holds b) (near_at t (2 * k)) (near_at t (2 * k + 1))))
-      (get_or-set_other marks e k true false ne)) ∙ ap (λ m. leaving t marks b + m)
-      (ap (λ (s : Bool). bool_number (s && splits ((forest_of t).holds b) (near_at t (2 * e))
-      (near_at t (2 * e + 1)))) (get_or-set_same marks e true false e_low) ∙ ap bool_number (sides b)))
+  leaving_now b = cc (
+    length-set marks e true,
+    count_more (λ k. bool_number
+        (get_or marks k false && splits ((forest_of t).holds b) (near_at t (2 * k)) (near_at t (2 * k + 1))))
+        (λ k. bool_number (get_or (set marks e true) k false && splits ((forest_of t).holds b) (near_at t (2 * k))
+        (near_at t (2 * k + 1)))) (length marks) e e_low (ap (λ (s : Bool). bool_number
+        (s && splits ((forest_of t).holds b) (near_at t (2 * e)) (near_at t (2 * e + 1)))) fresh)
+        (λ k lk ne. ap (λ (s : Bool). bool_number (s && splits ((forest_of t).holds b) (near_at t (2 * k))
+        (near_at t (2 * k + 1)))) (get_or-set_other marks e k true false ne)),
+    get_or-set_same marks e true false e_low,
+    sides b,
+  )
 
   entry_now : (c w : ℕ) → get_or (entered n first_left y v) c None ≡ Some w → IsEntry t c w
-  entry_now c w is = by_last (entry_cases n first_left y v c (rw (entered_size n left x u ∙ size_left) pairing.low_y))
-    where
-      made : (z s : ℕ) → (n ≤ z) → c ≡ z → (n ≤ z → get_or t.parts z 0 ≢ 0) → s < n → (forest_of t).holds z s ≡ true
-          → s ≡ w → IsEntry t c w
-      made z s high at live low held same = subst (λ k. IsEntry t k w) (sym at)
-          (subst (IsEntry t z) same (record { high = high; live = live high; low = low; held = held }))
-
-      by_first : get_or first_left c None ≡ Some w → ((n ≤ x) × (c ≡ x) × (get_or first_left c None ≡ Some u))
-          ⊎ (get_or first_left c None ≡ get_or left c None) → IsEntry t c w
-      by_first now (inl s) = made x u s.0 s.1 pairing.live_x pairing.near_low pairing.near_held
-          (some_is u w (sym s.2 ∙ now))
-      by_first now (inr same) = round.entry c w (sym same ∙ now)
-
-      by_last : ((n ≤ y) × (c ≡ y) × (get_or (entered n first_left y v) c None ≡ Some v))
-          ⊎ (get_or (entered n first_left y v) c None ≡ get_or first_left c None) → IsEntry t c w
-      by_last (inl s) = made y v s.0 s.1 pairing.live_y pairing.far_low pairing.far_held (some_is v w (sym s.2 ∙ is))
-      by_last (inr same) = by_first (sym same ∙ is) (entry_cases n left x u c (rw size_left pairing.low_x))
+  entry_now c w is =
+      let made : (z s : ℕ) → (n ≤ z) → c ≡ z → (n ≤ z → get_or t.parts z 0 ≢ 0) → s < n
+      → (forest_of t).holds z s ≡ true → s ≡ w → IsEntry t c w = λ z s high at live low held same.
+      rw (at, ← same) (record { high = high; live = live high; low = low; held = held }) in
+      elim (entry_cases n first_left y v c (rw (entered_size n left x u ∙ size_left) pairing.low_y)) [
+        | inl s ↦ made y v s.0 s.1 pairing.live_y pairing.far_low pairing.far_held (some_is v w (sym s.2 ∙ is))
+        | inr same ↦ elim (entry_cases n left x u c (rw size_left pairing.low_x)) [
+          | inl s ↦ made x u s.0 s.1 pairing.live_x pairing.near_low pairing.near_held
+              (some_is u w (sym s.2 ∙ (sym same ∙ is)))
+          | inr was ↦ round.entry c w (sym was ∙ (sym same ∙ is))
+        ]
+      ]
 
   pub paired_round : IsRound t (set marks (d / 2) true)
       (entered (length t.hand) (entered (length t.hand) left x (near_at t d)) y (far_at t d)) rest due
@@ -246,16 +221,14 @@ module _ {t : ForestTables} (known : IsLaminar t) {g : WeightedGraph} (valid : I
     each = λ b l. (omega (arith, pairing.law b l, round.each b l, leaving_now b, waiting_now b));
     entry = entry_now;
     once = round.once;
-    tight = λ h sound k on. tight_now h sound k on (cases_eq k e);
-  }
-    where
-      tight_now : (h : WeightedGraph) → IsSoundFor h t → (k : ℕ) → get_or (set marks e true) k false ≡ true
-          → (k ≡ e) ⊎ (k ≢ e) → IsTight (darts_of h) (forest_of t) (2 * k)
-      tight_now h sound k on (inr ne) = round.tight h sound k (sym (get_or-set_other marks e k true false ne) ∙ on)
-      tight_now h sound k on (inl at) = elim (cases_eq (d % 2) 0) [
+    tight = λ h sound k on. elim (cases_eq k e) [
+      | inl at ↦ elim (cases_eq (d % 2) 0) [
         | inl z ↦ (let s : d ≡ 2 * k = omega (arith, z, at) in
             subst (IsTight (darts_of h) (forest_of t)) s (pairing.tight h sound))
         | inr nz ↦ (let s : d - 1 ≡ 2 * k = omega (arith, nz, at) in
             subst (IsTight (darts_of h) (forest_of t)) (twin_odd d nz ∙ s)
             (tight_twin (are_darts sound.small.lawful) (pairing.tight h sound)))
       ]
+      | inr ne ↦ round.tight h sound k (sym (get_or-set_other marks e k true false ne) ∙ on)
+    ];
+  }

@@ -1,10 +1,10 @@
 -- The tables after a set was parted into the blossoms of its ring.
-use Rattle.std.proofs.Common.{◌≡◌, ◌≢◌, ℕ, zero, suc, ◌+◌, ◌<◌, ◌≤◌, true, false, List, length, get_or, Bool}
-use Rattle.std.proofs.Common.{ℤ, pos, ◌⊎◌, Option, Some, None, refl, sym, ◌∙◌, ap, inl}
+use Rattle.std.proofs.Common.{◌≡◌, ◌≢◌, ℕ, zero, suc, ◌+◌, ◌<◌, true, false, List, length, get_or, Bool}
+use Rattle.std.proofs.Common.{ℤ, pos, Option, Some, None, refl, sym, ◌∙◌, ap, inl}
 use Rattle.std.proofs.Common.{inr, arith, length-set, get_or-set_same, get_or-set_other}
 use Rattle.std.proofs.{Math.ListN.set, lemmas.Bool.cases_eq, lemmas.Bool.cases_Bool}
 use Rattle.std.specs.Prelude.{slice_get}
-use Rattle.def_forest.specs.{Forests.walk, Forests.set_at}
+use Rattle.def_forest.specs.{Forests.walk}
 use Rattle.def_forest.specs.Tables.{ForestTables, forest_of, climbs, label_at, out_of, up_at}
 use Rattle.forest_laws.specs.Walks.{listed, writes}
 use Rattle.forest_laws.proofs.Walks.{listed_place, writes_at, writes_off}
@@ -27,12 +27,11 @@ writes_has : {X : Type 0} (P : X → Type 0) (f : ℕ → X) (place : ℕ → �
     → ((k : ℕ) → k < many → P (value k)) → P (f x) → P (writes f place value many x)
 writes_has P f place value zero x values was = was
 writes_has P f place value (suc k) x values was =
-    by_place (cases_eq x (place k)) (writes_has P f place value k x (λ j lj. values j (omega (arith, lj))) was)
-  where
-    by_place : (x ≡ place k) ⊎ (x ≢ place k) → P (writes f place value k x)
-        → P (set_at (writes f place value k) (place k) (value k) x)
-    by_place (inl e) more = rw (e, set_here (writes f place value k) (place k) (value k)) (values k (omega arith))
-    by_place (inr ne) more = rw (set_there (writes f place value k) (place k) x (value k) ne) more
+    let more = (writes_has P f place value k x (λ j lj. values j (omega arith)) was) in
+    elim (cases_eq x (place k)) [
+      | inl e ↦ rw (e, set_here (writes f place value k) (place k) (value k)) (values k (omega arith))
+      | inr ne ↦ rw (set_there _ _ x _ ne) more
+    ]
 
 -- A set that is parted: its vertices are handed over to its parts, and its number is given back.
 pub record Parting (s : Inside) (h2 : Handles) (r2 : Rings) (pool2 : List (Option Node)) (b : ℕ) : Type 0 where
@@ -94,7 +93,7 @@ module _ {s : Inside} {h2 : Handles} {r2 : Rings} {pool2 : List (Option Node)} {
 
   part_of : (v : ℕ) → v < n → inside (fresh v) ≡ true → HasPart v
   part_of v lv on =
-      let p : (k : ℕ) × (k < many) × (at k ≡ fresh v) = fresh_place way v on in
+      let p = fresh_place way v on in
       record {
         place = p.0;
         low = p.1;
@@ -118,8 +117,7 @@ module _ {s : Inside} {h2 : Handles} {r2 : Rings} {pool2 : List (Option Node)} {
 
   pub out_new : (v : ℕ) → v < n → out2 v ≡ fresh v
   out_new v lv = elim (cases_Bool (inside (fresh v))) [
-    | inl on ↦
-        (let p : HasPart v = part_of v lv on in
+    | inl on ↦ (let p = part_of v lv on in
         rw (p.hand, ap (λ (f : ℕ → ℕ). f (leader p.place)) handed.top)
         (writes_at _ leader at many p.place p.low (leaders_differ way) ∙ p.is))
     | inr off ↦ rw (hand_off v lv off, ap (λ (f : ℕ → ℕ). f (get_or t.hand v 0)) handed.top)
@@ -130,8 +128,7 @@ module _ {s : Inside} {h2 : Handles} {r2 : Rings} {pool2 : List (Option Node)} {
   off_new : (v : ℕ) → v < n → get_or h2.off.items (get_or h2.hand.items v 0) (pos 0)
       ≡ get_or hid.off (get_or t.hand v 0) (pos 0)
   off_new v lv = elim (cases_Bool (inside (fresh v))) [
-    | inl on ↦
-        (let p : HasPart v = part_of v lv on in
+    | inl on ↦ (let p = part_of v lv on in
         rw (p.hand, ap (λ (f : ℕ → ℤ). f (leader p.place)) handed.off)
         (writes_at _ leader _ many p.place p.low (leaders_differ way) ∙ ap (λ i. get_or hid.off i (pos 0))
         (sym (tied.nest.led v lv ∙ ap (λ x. get_or hid.leader x 0) (out_in way v lv on)))))
@@ -168,24 +165,24 @@ module _ {s : Inside} {h2 : Handles} {r2 : Rings} {pool2 : List (Option Node)} {
 
   -- What is in use was, and is not the set.
   used_old : (x : ℕ) → IsInUse n r2.parts.items x → IsInUse n t.parts x × (x ≢ b)
-  used_old x used = by_use used (cases_eq x b)
-    where
-      by_use : IsInUse n r2.parts.items x → (x ≡ b) ⊎ (x ≢ b) → IsInUse n t.parts x × (x ≢ b)
-      by_use (inl low) y = (inl low, (λ at_b. absurd (omega (arith, low, at_b, ready.high))))
-      by_use (inr live) (inl at_b) = absurd (live (ap (λ y. get_or r2.parts.items y 0) at_b ∙ parts_b))
-      by_use (inr live) (inr ne) = (inr (λ dead. live (parts_old x ne ∙ dead)), ne)
+  used_old x used = elim used [
+    | inl low ↦ (inl low, (λ at_b. absurd (omega arith)))
+    | inr live ↦ elim (cases_eq x b) [
+      | inl at_b ↦ absurd (live (ap (λ y. get_or r2.parts.items y 0) at_b ∙ parts_b))
+      | inr ne ↦ (inr (λ dead. live (parts_old x ne ∙ dead)), ne)
+    ]
+  ]
 
   nest_new : IsLaidOut n (length t.up) h2.hand.items h2.top.items r2.up.items t.rank r2.parts.items hid.leader hid.first
       hid.last hid.following
   nest_new = record {
     hands = λ v lv. rw handed.tops (elim (cases_Bool (inside (fresh v))) [
-      | inl on ↦ (let p : HasPart v = part_of v lv on in
+      | inl on ↦ (let p = part_of v lv on in
           rw (p.hand, tied.sizes.top) (leader_in way p.place p.low).0)
       | inr off ↦ rw (hand_off v lv off) (tied.nest.hands v lv)
     ]);
-    outs = λ k lk. rw (ap (λ (f : ℕ → ℕ). f k) handed.top) (writes_has
-        (λ x. x < length t.up) _ leader at many k ready.row.low
-        (tied.nest.outs k (rw handed.tops at lk)));
+    outs = λ k lk. rw (ap (λ (f : ℕ → ℕ). f k) handed.top)
+        (writes_has (λ x. x < length t.up) _ leader at many k ready.row.low (tied.nest.outs k (rw handed.tops at lk)));
     ups = λ x lx. rw (read_nat r2.up.items x 0 x (rw opened.size lx)) (elim (cases_Bool (inside x)) [
       | inl on ↦ rw (up_in way x on) lx
       | inr off ↦ rw (up_off way x off, read_nat t.up x x 0 lx) (tied.nest.ups x lx)
@@ -195,34 +192,33 @@ module _ {s : Inside} {h2 : Handles} {r2 : Rings} {pool2 : List (Option Node)} {
       tops = λ v lv. rw (out_new v lv) ((climb_parted way).tops v lv);
     };
     led = λ v lv. elim (cases_Bool (inside (fresh v))) [
-      | inl on ↦ (let p : HasPart v = part_of v lv on in
+      | inl on ↦ (let p = part_of v lv on in
           p.hand ∙ ap (λ x. get_or hid.leader x 0) (p.is ∙ sym (out_new v lv)))
       | inr off ↦ hand_off v lv off
           ∙ (tied.nest.led v lv ∙ ap (λ x. get_or hid.leader x 0) (out_off way v lv off ∙ sym (out_new v lv)))
     ];
-    leaders = λ x lx used. (let was : (get_or hid.leader x 0 < n)
-        × (climbs (up_at t.up) n x (get_or hid.leader x 0) ≡ true) = tied.nest.leaders x lx (used_old x used).0 in
+    leaders = λ x lx used. (let was = tied.nest.leaders x lx (used_old x used).0 in
         (was.0, holds_old way x (get_or hid.leader x 0) (used_old x used).1 was.0 ∙ was.1));
     members = λ x lx used. list_renamed _ (tied.nest.members x lx (used_old x used).0)
         (λ v lv. sym (holds_old way x v (used_old x used).1 lv));
     ended = λ x y k lx ly ux uy lk. tied.nest.ended x y k lx ly (used_old x ux).0 (used_old y uy).0 lk;
-    idle = λ x hx none. idle x hx none (cases_eq x b) (cases_Bool (inside x));
-    around = λ x inner. around x inner (cases_Bool (inside x)) (cases_eq x b);
+    idle = λ x hx none. elim (cases_eq x b) [
+      | inl at_b ↦ rw at_b (alone way)
+      | inr ne ↦ elim (cases_Bool (inside x)) [
+        | inl on ↦ up_in way x on
+        | inr off ↦ up_off way x off ∙ tied.nest.idle x hx (sym (parts_old x ne) ∙ none)
+      ]
+    ];
+    around = λ x inner. elim (cases_Bool (inside x)) [
+      | inl on ↦ absurd (inner (up_in way x on))
+      | inr off ↦ elim (cases_eq x b) [
+        | inl at_b ↦ absurd (inner (rw at_b (alone way)))
+        | inr ne ↦ rw (parts_old (up_at r2.up.items x) (unused way x ne), up_off way x off)
+            (tied.nest.around x (λ at_x. inner (up_off way x off ∙ at_x)))
+      ]
+    ];
     rises = rises way;
   }
-    where
-      idle : (x : ℕ) → n ≤ x → get_or r2.parts.items x 0 ≡ 0 → (x ≡ b) ⊎ (x ≢ b) → (inside x ≡ true) ⊎
-          (inside x ≡ false) → up_at r2.up.items x ≡ x
-      idle x hx none (inl at_b) s = rw at_b (alone way)
-      idle x hx none (inr ne) (inl on) = up_in way x on
-      idle x hx none (inr ne) (inr off) = up_off way x off ∙ tied.nest.idle x hx (sym (parts_old x ne) ∙ none)
-
-      around : (x : ℕ) → up_at r2.up.items x ≢ x → (inside x ≡ true) ⊎ (inside x ≡ false) → (x ≡ b) ⊎ (x ≢ b)
-          → (n ≤ up_at r2.up.items x) × (get_or r2.parts.items (up_at r2.up.items x) 0 ≢ 0)
-      around x inner (inl on) y = absurd (inner (up_in way x on))
-      around x inner (inr off) (inl at_b) = absurd (inner (rw at_b (alone way)))
-      around x inner (inr off) (inr ne) = rw (parts_old (up_at r2.up.items x) (unused way x ne), up_off way x off)
-          (tied.nest.around x (λ at_x. inner (up_off way x off ∙ at_x)))
 
   trail_new : IsTrailed n h2.hand.items h2.top.items t.label t.trail hid.touched
   trail_new = trail_kept tied.trail (λ v lv named. out_new v lv ∙ elim (cases_Bool (inside (fresh v))) [
@@ -238,8 +234,8 @@ module _ {s : Inside} {h2 : Handles} {r2 : Rings} {pool2 : List (Option Node)} {
 
   sizes_new : HasSizes parted parted_hidden
   sizes_new = record {
-    few = omega (arith, tied.sizes.few, opened.size);
-    vertices = omega (arith, tied.sizes.vertices, opened.size, handed.hands);
+    few = omega arith;
+    vertices = omega arith;
     top = handed.tops ∙ (tied.sizes.top ∙ sym handed.hands);
     q = handed.qs ∙ (tied.sizes.q ∙ sym handed.hands);
     off = handed.offs ∙ (tied.sizes.off ∙ sym handed.tops);
@@ -257,7 +253,7 @@ module _ {s : Inside} {h2 : Handles} {r2 : Rings} {pool2 : List (Option Node)} {
     leader = tied.sizes.leader ∙ sym opened.size;
     first = tied.sizes.first ∙ sym opened.size;
     last = tied.sizes.last ∙ sym opened.size;
-    room = omega (arith, tied.sizes.room, handed.hands);
+    room = omega arith;
   }
 
   pool_new : IsPooled n (length t.up) r2.parts.items pool2
@@ -269,9 +265,8 @@ module _ {s : Inside} {h2 : Handles} {r2 : Rings} {pool2 : List (Option Node)} {
 
   -- The tie after a set was parted.
   pub tied_parted : AreTied (seen_in after_parting) (hidden_in after_parting)
-  tied_parted = rw (opened.after, opened.joint, opened.head)
-      (tied_as {t = parted} {hid = parted_hidden} handed.hands opened.size sizes_new nest_new numbers_new trail_new
-      pool_new)
+  tied_parted = rw (opened.after, opened.joint, opened.head) (tied_as {t = parted} {hid = parted_hidden} handed.hands
+      opened.size sizes_new nest_new numbers_new trail_new pool_new)
 
   -- What the forest sees.
   pub parted_is : IsParted n (forest_of t) (forest_of (seen_in after_parting)) inside b

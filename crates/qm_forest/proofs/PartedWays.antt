@@ -22,9 +22,8 @@ writes_self f next from (suc k) x = elim (cases_eq x (walk next from k)) [
   | inl e ↦ rw (e, listed_at next from (suc k) k (omega arith))
       (set_here (writes f (walk next from) (walk next from) k) (walk next from k) (walk next from k))
   | inr ne ↦ set_there (writes f (walk next from) (walk next from) k) (walk next from k) x (walk next from k) ne
-      ∙ (writes_self f next from k x
-      ∙ ap (λ (s : Bool). cond s x (f x)) (sym (rw (ne_eqb (walk next from k) x (λ e. ne (sym e)))
-      (or-false (listed next from k x)))))
+      ∙ (writes_self f next from k x ∙ ap (λ (s : Bool). cond s x (f x))
+      (sym (rw (ne_eqb (walk next from k) x (λ e. ne (sym e))) (or-false (listed next from k x)))))
 ]
 
 -- A set that can be parted; once it is, one climbs by up2, in which nothing is around its parts.
@@ -59,7 +58,7 @@ module _ {t : ForestTables} {hid : HiddenTables} {b : ℕ} {up2 : List ℕ} (way
   fresh v = walk (up_at up2) v n
 
   pub ups : (x : ℕ) → up_at up2 x ≡ cond (inside x) x (up_at t.up x)
-  ups x = ap (λ (f : ℕ → ℕ). f x) up_is ∙ writes_self (up_at t.up) (λ i. get_or t.after i 0) (get_or t.head b 0) many x
+  ups x = ap (λ (f : ℕ → ℕ). f x) up_is ∙ writes_self _ (λ i. get_or t.after i 0) _ many x
 
   pub up_in : (x : ℕ) → inside x ≡ true → up_at up2 x ≡ x
   up_in x on = rw (ups x, on)
@@ -78,10 +77,10 @@ module _ {t : ForestTables} {hid : HiddenTables} {b : ℕ} {up2 : List ℕ} (way
   b_off = listed_off _ _ many b ready.other
 
   around_in : (x : ℕ) → up_at t.up x ≡ b → x ≢ b → inside x ≡ true
-  around_in x e ne = let w : (k : ℕ) × (k < many) × (at k ≡ x) = ready.all x e ne in ap inside (sym w.2) ∙ at_in w.0 w.1
+  around_in x e ne = let w = ready.all x e ne in ap inside (sym w.2) ∙ at_in w.0 w.1
 
   b_top : up_at t.up b ≡ b
-  b_top = ap (up_at t.up) (sym ready.top.2) ∙ (tied.nest.climb.tops ready.top.0 ready.top.1 ∙ ready.top.2)
+  b_top = ap (up_at t.up) (sym ready.top.2) ∙ (tied.nest.climb.tops _ ready.top.1 ∙ ready.top.2)
 
   pub alone : up_at up2 b ≡ b
   alone = up_off b b_off ∙ b_top
@@ -101,38 +100,36 @@ module _ {t : ForestTables} {hid : HiddenTables} {b : ℕ} {up2 : List ℕ} (way
   -- Where one comes to one came before.
   on_way : (v i : ℕ) → (j : ℕ) × (walk (up_at t.up) v j ≡ walk (up_at up2) v i)
   on_way v zero = (0, refl)
-  on_way v (suc i) = by_test (on_way v i) (cases_Bool (inside (walk (up_at up2) v i)))
-    where
-      by_test : (j : ℕ) × (walk (up_at t.up) v j ≡ walk (up_at up2) v i) → (inside (walk (up_at up2) v i) ≡ true)
-          ⊎ (inside (walk (up_at up2) v i) ≡ false) → (j : ℕ) × (walk (up_at t.up) v j ≡ walk (up_at up2) v (suc i))
-      by_test w (inl on) = (w.0, w.1 ∙ sym (up_in _ on))
-      by_test w (inr off) = (suc w.0, ap (up_at t.up) w.1 ∙ sym (up_off _ off))
+  on_way v (suc i) =
+      let w = on_way v i in
+      elim (cases_Bool (inside (walk (up_at up2) v i))) [
+        | inl on ↦ (w.0, w.1 ∙ sym (up_in _ on))
+        | inr off ↦ (suc w.0, ap (up_at t.up) w.1 ∙ sym (up_off _ off))
+      ]
 
   few : (v i : ℕ) → v < n → rank (walk (up_at up2) v i) ≤ n
-  few v i l = omega (
-    arith,
-    rank_low rank tied.nest.climb tied.nest.rises v (walk (up_at up2) v i) l (on_way v i),
-    rank_few tied.nest v l,
-  )
+  few v i l =
+      let low = rank_low rank tied.nest.climb tied.nest.rises v _ l (on_way v i) in
+      omega (arith, rank_few tied.nest v l)
 
   -- Each step rises, or one has come to stay.
   stays_or : (v i : ℕ) → v < n → (up_at up2 (walk (up_at up2) v i) ≡ walk (up_at up2) v i)
       ⊎ (i < rank (walk (up_at up2) v i))
   stays_or v zero l = inr (rank_some tied.nest v l tied.sizes.vertices)
-  stays_or v (suc i) l = by_stay (stays_or v i l) (cases_eq (up_at up2 (walk (up_at up2) v i)) (walk (up_at up2) v i))
-    where
-      by_stay : (up_at up2 (walk (up_at up2) v i) ≡ walk (up_at up2) v i) ⊎ (i < rank (walk (up_at up2) v i))
-          → (up_at up2 (walk (up_at up2) v i) ≡ walk (up_at up2) v i) ⊎
-          (up_at up2 (walk (up_at up2) v i) ≢ walk (up_at up2) v i) → (up_at up2 (walk (up_at up2) v (suc i))
-          ≡ walk (up_at up2) v (suc i)) ⊎ (suc i < rank (walk (up_at up2) v (suc i)))
-      by_stay x (inl e) = inl (ap (up_at up2) e)
-      by_stay (inl e) (inr ne) = absurd (ne e)
-      by_stay (inr h) (inr ne) = inr (omega (arith, h, rises (walk (up_at up2) v i) ne))
+  stays_or v (suc i) l =
+      let before = stays_or v i l in
+      elim (cases_eq (up_at up2 (walk (up_at up2) v i)) (walk (up_at up2) v i)) [
+        | inl e ↦ inl (ap (up_at up2) e)
+        | inr ne ↦ elim before [
+          | inl e ↦ absurd (ne e)
+          | inr h ↦ inr (omega (arith, rises (walk (up_at up2) v i) ne))
+        ]
+      ]
 
   pub climb_parted : IsClimb n (up_at up2) (λ v. walk (up_at up2) v n)
   climb_parted = record {
     ends = λ v l. refl;
-    tops = λ v l. elim (stays_or v n l) [ inl e ↦ e | inr h ↦ absurd (omega (arith, h, few v n l)) ];
+    tops = λ v l. elim (stays_or v n l) [ inl e ↦ e | inr h ↦ absurd (omega (arith, few v n l)) ];
   }
 
   -- The set was around its parts.
@@ -183,10 +180,10 @@ module _ {t : ForestTables} {hid : HiddenTables} {b : ℕ} {up2 : List ℕ} (way
       at_x w lw hw = comes_out rank climb_parted rises w x lw (climbs_place _ n x w (holds_old x w ne lw ∙ hw))
 
   pub fresh_part : (k v : ℕ) → k < many → v < n → fresh v ≡ at k → climbs (up_at t.up) n (at k) v ≡ true
-  fresh_part k v lk l e = sym (holds_old (at k) v (ready.other k lk) l) ∙ came_past (up_at up2) n v (at k) e
+  fresh_part k v lk l e = sym (holds_old (at k) v (ready.other k lk) l) ∙ came_past _ n v (at k) e
 
   pub fresh_place : (v : ℕ) → inside (fresh v) ≡ true → (k : ℕ) × (k < many) × (at k ≡ fresh v)
-  fresh_place v on = listed_place _ _ many (fresh v) on
+  fresh_place v on = listed_place _ _ many _ on
 
   pub out_in : (v : ℕ) → v < n → inside (fresh v) ≡ true → out v ≡ b
   out_in v l on = rw (out_is v l, on)
@@ -196,21 +193,16 @@ module _ {t : ForestTables} {hid : HiddenTables} {b : ℕ} {up2 : List ℕ} (way
 
   -- The parts are in use, and outside the tree.
   pub part_used : (k : ℕ) → k < many → IsInUse n t.parts (at k)
-  part_used k l = by_size (cases_lt (at k) n) (cases_eq (get_or t.parts (at k) 0) 0)
-    where
-      by_size : (at k < n) ⊎ (n ≤ at k) → (get_or t.parts (at k) 0 ≡ 0) ⊎ (get_or t.parts (at k) 0 ≢ 0)
-          → IsInUse n t.parts (at k)
-      by_size (inl low) x = inl low
-      by_size (inr high) (inr live) = inr live
-      by_size (inr high) (inl dead) =
-          absurd (ready.other k l (sym (tied.nest.idle (at k) high dead) ∙ ready.around k l))
+  part_used k l = elim (cases_lt (at k) n) [
+    | inl low ↦ inl low
+    | inr high ↦ inr (λ dead. ready.other k l (sym (tied.nest.idle (at k) high dead) ∙ ready.around k l))
+  ]
 
   pub part_outside : (x : ℕ) → inside x ≡ true → label_at t.label x ≡ Outside
-  part_outside x on = elim (label_cases (label_at t.label x)) [
+  part_outside x on = elim (label_cases _) [
     | inl e ↦ e
-    | inr named ↦ (let w : (k : ℕ) × (k < length t.trail) × (out (get_or t.trail k 0) ≡ x) = tied.trail.named x named in
-        let top : up_at t.up x ≡ x = (rw w.2 at (tied.nest.climb.tops (get_or t.trail w.0 0)
-        (tied.trail.low w.0 w.1))) in
+    | inr named ↦ (let w = tied.trail.named x named in
+        let top : up_at t.up x ≡ x = (rw w.2 at (tied.nest.climb.tops _ (tied.trail.low w.0 w.1))) in
         let set : x ≡ b = sym top ∙ in_around x on in
         absurd (true_false (ap inside (sym set) ∙ on) b_off))
   ]
@@ -221,8 +213,8 @@ module _ {t : ForestTables} {hid : HiddenTables} {b : ℕ} {up2 : List ℕ} (way
   leader_in k l = tied.nest.leaders (at k) (ready.row.low k l) (part_used k l)
 
   pub leader_fresh : (k : ℕ) → k < many → fresh (get_or hid.leader (at k) 0) ≡ at k
-  leader_fresh k l = part_fresh k (get_or hid.leader (at k) 0) l (leader_in k l).0 (leader_in k l).1
+  leader_fresh k l = part_fresh k _ l (leader_in k l).0 (leader_in k l).1
 
   pub leaders_differ : (i j : ℕ) → i < j → j < many → get_or hid.leader (at i) 0 ≢ get_or hid.leader (at j) 0
   leaders_differ i j lij lj e = ready.row.distinct i j lij lj
-      (sym (leader_fresh i (omega (arith, lij, lj))) ∙ (ap fresh e ∙ leader_fresh j lj))
+      (sym (leader_fresh i (omega arith)) ∙ (ap fresh e ∙ leader_fresh j lj))

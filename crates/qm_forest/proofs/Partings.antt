@@ -1,5 +1,5 @@
 -- Parting a set, step by step: what each of its loops needs, and the tie and the forest after all of them.
-use Rattle.std.proofs.Common.{◌≡◌, ◌≢◌, ℕ, ◌+◌, ◌-◌, ◌<◌, ◌≤◌, true, List, length, get_or, ◌⊎◌, Option}
+use Rattle.std.proofs.Common.{◌≡◌, ℕ, ◌+◌, ◌-◌, ◌<◌, true, List, length, get_or, Option}
 use Rattle.std.proofs.Common.{Some, None, sym, ◌∙◌, ap, inl, inr, arith}
 use Rattle.std.proofs.Math.ListN.{set}
 use Rattle.std.proofs.lemmas.Bool.{cases_eq, cases_lt}
@@ -13,7 +13,7 @@ use Rattle.qm_forest.specs.{Gathers.lists_at, Parts.HasHandedRow, Parts.HasPartL
 use Rattle.qm_forest.specs.{Parts.IsParted, Ties.AreTied, Ties.IsListed}
 use Rattle.qm_forest.specs.{declared.forest.Forest.TheInside.Inside, declared.tables.Handles.Handles}
 use Rattle.qm_forest.specs.{declared.tables.Rings.Rings}
-use Rattle.qm_forest.proofs.{Gatherings.q_small, Insides.seen_in, Insides.hidden_in, JoinedLists.list_few}
+use Rattle.qm_forest.proofs.{Gatherings.list_read, Insides.seen_in, Insides.hidden_in}
 use Rattle.qm_forest.proofs.{Parted.Parting, PartedWays.PartedWay, PartedWays.part_fresh, PartedWays.part_used}
 use Rattle.qm_forest.proofs.PartedWays.{leader_in, out_in, at_in}
 
@@ -40,7 +40,7 @@ module _ {s : Inside} {r2 : Rings} {b : ℕ} (it : Opened s r2 b) where
 
   pub set_live : (id : ℕ) × (b ≡ n + id) × (node : Node) × (slice_get s.pool id ≡ Some (Some node))
   set_live =
-      let is : b ≡ n + (b - n) = omega (arith, ready.high) in
+      let is : b ≡ n + (b - n) = omega arith in
       let live : (node : Node) × (slice_get s.pool (b - n) ≡ Some (Some node)) =
       tied.pool.live (b - n) (λ none. ready.live (ap (λ x. get_or s.rings.parts.items x 0) is ∙ none)) in
       (b - n, is, live.0, live.1)
@@ -66,36 +66,28 @@ module _ {s : Inside} {r2 : Rings} {b : ℕ} (it : Opened s r2 b) where
 
   apart : (i j v : ℕ) → i < many → j < many → lists_at s.lists (at i) v ≡ true → lists_at s.lists (at j) v ≡ true
       → i ≡ j
-  apart i j v li lj oi oj = by_order (cases_eq i j) (cases_lt i j)
-    where
-      same : at i ≡ at j
-      same = sym (fresh_at i v li oi) ∙ fresh_at j v lj oj
-
-      by_order : (i ≡ j) ⊎ (i ≢ j) → (i < j) ⊎ (j ≤ i) → i ≡ j
-      by_order (inl e) y = e
-      by_order (inr ne) (inl lt) = absurd (ready.row.distinct i j lt lj same)
-      by_order (inr ne) (inr le) = absurd (ready.row.distinct j i (omega (arith, ne, le)) li (sym same))
+  apart i j v li lj oi oj =
+      let same : at i ≡ at j = sym (fresh_at i v li oi) ∙ fresh_at j v lj oj in
+      elim (cases_eq i j) [
+        | inl e ↦ e
+        | inr ne ↦ elim (cases_lt i j) [
+          | inl lt ↦ absurd (ready.row.distinct i j lt lj same)
+          | inr le ↦ absurd (ready.row.distinct j i (omega arith) li (sym same))
+        ]
+      ]
 
   led : (k v : ℕ) → k < many → lists_at s.lists (at k) v ≡ true
       → get_or s.handles.hand.items v 0 ≡ get_or s.lists.leader.items b 0
-  led k v lk on = tied.nest.led v (on_list k v lk on).0 ∙ ap (λ x. get_or s.lists.leader.items x 0) (out_in way v
-      (on_list k v lk on).0 (ap (listed (λ i. get_or s.rings.after.items i 0) front many) (fresh_at k v lk on)
-      ∙ at_in way k lk))
+  led k v lk on = cc (
+    tied.nest.led v (on_list k v lk on).0,
+    out_in way v (on_list k v lk on).0
+        (ap (listed (λ i. get_or s.rings.after.items i 0) front many) (fresh_at k v lk on) ∙ at_in way k lk),
+  )
 
   pub part_lists : HasPartLists s.handles s.lists r2.after.items front many b
   part_lists = rw opened.after (record {
     row = rw tied.sizes.after ready.row;
-    each = λ k lk. record {
-      first = rw tied.sizes.first (ready.row.low k lk);
-      rank = rw tied.sizes.rank (ready.row.low k lk);
-      q = tied.sizes.q;
-      following = tied.sizes.following;
-      few = omega (arith, tied.sizes.few, tied.sizes.vertices);
-      many = list_few (list_at k lk);
-      low = (list_at k lk).low;
-      distinct = (list_at k lk).distinct;
-      small = λ v. omega (arith, q_small tied v);
-    };
+    each = λ k lk. list_read s tied (ready.row.low k lk) (list_at k lk);
     apart = apart;
     leader = tied.sizes.leader ∙ sym tied.sizes.after;
     set_low = rw tied.sizes.after ready.low;

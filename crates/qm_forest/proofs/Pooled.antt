@@ -46,67 +46,55 @@ module _ {n size : ℕ} {parts : List ℕ} {pool : List (Option Node)} (pooled :
   at_old x ne = get_or-set_other parts b x many 0 ne
 
   here : slice_get pool2 id ≡ Some new
-  here = slice_get-get_or pool2 id None (rw pool_size id_low)
-      ∙ ap (λ (o : Option Node). Some o) (get_or-set_same pool id new None id_low)
+  here = cc (slice_get-get_or pool2 id None (rw pool_size id_low), get_or-set_same pool id new None id_low)
 
   there : (k : ℕ) → k ≢ id → slice_get pool2 k ≡ slice_get pool k
   there k ne = elim (cases_lt k (length pool)) [
-    | inl l ↦ slice_get-get_or pool2 k None (rw pool_size l)
-        ∙ (ap (λ (o : Option Node). Some o) (get_or-set_other pool id k new None ne)
-        ∙ sym (slice_get-get_or pool k None l))
+    | inl l ↦ cc (
+      slice_get-get_or pool2 k None (rw pool_size l),
+      get_or-set_other pool id k new None ne,
+      slice_get-get_or pool k None l,
+    )
     | inr h ↦ slice_get_past pool2 k (rw pool_size h) ∙ sym (slice_get_past pool k h)
   ]
 
   set_at : (k : ℕ) → k ≡ id → get_or parts2 (n + k) 0 ≡ many
-  set_at k e = ap (λ x. get_or parts2 x 0) (let at : n + k ≡ b = omega (arith, e, id_is) in at) ∙ at_b
+  set_at k e = ap (λ x. get_or parts2 x 0) (let at : n + k ≡ b = omega arith in at) ∙ at_b
 
   old_at : (k : ℕ) → k ≢ id → get_or parts2 (n + k) 0 ≡ get_or parts (n + k) 0
-  old_at k ne = at_old (n + k) (λ e. ne (omega (arith, e, id_is)))
-
-  free : (k : ℕ) → slice_get pool2 k ≡ Some None → (k ≡ id) ⊎ (k ≢ id) → get_or parts2 (n + k) 0 ≡ 0
-  free k is (inl e) = elim new_fit [
-    | inl w ↦ set_at k e ∙ w.1
-    | inr w ↦ (let s : ◌≡◌ {A = Option (Option Node)} (Some new) (Some None) =
-        sym here ∙ (ap (slice_get pool2) (sym e) ∙ is) in
-        let same : new ≡ Some w.0 = w.1 in absurd (cc (s, same)))
-  ]
-  free k is (inr ne) = old_at k ne ∙ pooled.free k (sym (there k ne) ∙ is)
-
-  live : (k : ℕ) → get_or parts2 (n + k) 0 ≢ 0 → (k ≡ id) ⊎ (k ≢ id) → (node : Node)
-      × (slice_get pool2 k ≡ Some (Some node))
-  live k some (inl e) = elim new_fit [
-    | inl w ↦ absurd (some (set_at k e ∙ w.1))
-    | inr w ↦ (w.0, ap (slice_get pool2) e ∙ (here ∙ ap (λ (o : Option Node). Some o) w.1))
-  ]
-  live k some (inr ne) =
-      let w : (node : Node) × (slice_get pool k ≡ Some (Some node)) =
-      pooled.live k (λ none. some (old_at k ne ∙ none)) in
-      (w.0, there k ne ∙ w.1)
+  old_at k ne = at_old (n + k) (λ e. ne (omega arith))
 
   -- The number is counted before and after as the pool counts its entry.
   live_b : (parts' : List ℕ) {m : ℕ} → get_or parts' b 0 ≡ m → live_at n (λ i. get_or parts' i 0) b ≡ cond (eqb m 0) 0 1
   live_b parts' is = cond-false _ _ _ (le-ltb b n high) ∙ ap (λ k. cond (eqb k 0) 0 1) is
 
   counted : count_by is_some pool2 ≡ count_below (live_at n (λ i. get_or parts2 i 0)) size
-  counted = omega (
-    arith,
-    sum_by-set (λ (o : Option Node). cond (is_some o) 1 0) pool id new None id_low,
-    ap {B = ℕ} (λ (o : Option Node). cond (is_some o) 1 0) (get_or_from_slice_get pool id was None was_is),
-    count_changed (live_at n (λ i. get_or parts i 0)) (live_at n (λ i. get_or parts2 i 0)) size b low
-        (λ x lx ne. ap (λ m. cond (nat_lt x n) 0 (cond (eqb m 0) 0 1)) (at_old x ne)),
-    live_b parts refl,
-    live_b parts2 at_b,
-    fit_count old_fit,
-    fit_count new_fit,
-    pooled.counted,
-  )
+  counted =
+      let sum = sum_by-set (λ (o : Option Node). cond (is_some o) 1 0) pool id new None id_low in
+      let entry = ap {B = ℕ} (λ (o : Option Node). cond (is_some o) 1 0) (get_or_from_slice_get pool id was None was_is)
+      in
+      let count = count_changed (live_at n (λ i. get_or parts i 0)) (live_at n (λ i. get_or parts2 i 0)) size b low
+      (λ x lx ne. ap (λ m. cond (nat_lt x n) 0 (cond (eqb m 0) 0 1)) (at_old x ne)) in
+      omega (arith, live_b parts refl, live_b parts2 at_b, fit_count old_fit, fit_count new_fit)
 
   pub pool_changed : IsPooled n size (set parts b many) (set pool id new)
   pool_changed = record {
     room = ap (λ m. n + m) pool_size ∙ pooled.room;
     half = pool_size ∙ pooled.half;
-    free = λ k is. free k is (cases_eq k id);
-    live = λ k some. live k some (cases_eq k id);
-    vertices = λ v l. at_old v (λ e. absurd (omega (arith, e, l, high))) ∙ pooled.vertices v l;
+    free = λ k is. elim (cases_eq k id) [
+      | inl e ↦ elim new_fit [
+        | inl w ↦ set_at k e ∙ w.1
+        | inr w ↦ absurd (cc (sym here ∙ (ap (slice_get pool2) (sym e) ∙ is), w.1))
+      ]
+      | inr ne ↦ old_at k ne ∙ pooled.free k (sym (there k ne) ∙ is)
+    ];
+    live = λ k some. elim (cases_eq k id) [
+      | inl e ↦ elim new_fit [
+        | inl w ↦ absurd (some (set_at k e ∙ w.1))
+        | inr w ↦ (w.0, ap (slice_get pool2) e ∙ (here ∙ ap (λ (o : Option Node). Some o) w.1))
+      ]
+      | inr ne ↦ (let w = pooled.live k (λ none. some (old_at k ne ∙ none)) in (w.0, there k ne ∙ w.1))
+    ];
+    vertices = λ v l. at_old v (λ e. absurd (omega arith)) ∙ pooled.vertices v l;
     counted = counted;
   }

@@ -32,10 +32,25 @@ pub more_as : (F : ℕ → ℤ) (B : ℕ → Bool) (G : ℕ → ℤ) {m n : ℤ}
     → (v : ℕ) → F v ≡ cond (B v) (G v +ℤ n) (G v)
 more_as F B G e was v = was v ∙ ap (λ (x : ℤ). cond (B v) (G v +ℤ x) (G v)) e
 
+-- The list of a blossom is the same over other handles.
+pub list_kept : {h0 h1 : Handles} {lists : Lists} {x : ℕ} → HasListAt h0 lists x
+    → length h1.hand.items ≡ length h0.hand.items → length h1.q.items ≡ length h0.q.items
+    → ((v : ℕ) → unsigned_abs (get_or h1.q.items v (pos 0)) ≤ 2 ^ 100) → HasListAt h1 lists x
+list_kept was hands qs small = record {
+  first = was.first;
+  rank = was.rank;
+  q = qs ∙ (was.q ∙ sym hands);
+  following = was.following ∙ sym hands;
+  few = omega arith;
+  many = omega arith;
+  low = λ j lj. rw hands (was.low j lj);
+  distinct = was.distinct;
+  small = small;
+}
+
 -- The next vertex of a blossom's list, where tables are written at those before it.
-module _ {h : Handles} {lists : Lists} {x : ℕ} (has : HasListAt h lists x) {k v : ℕ}
-    (l : k < get_or lists.rank.items x 0)
-    (v_is : v ≡ walk (λ i. get_or lists.following.items i 0) (get_or lists.first.items x 0) k) where
+module _ {h : Handles} {lists : Lists} {x : ℕ} (has : HasListAt h lists x) {k v : ℕ} (l : k < get_or lists.rank.items x
+    0) (v_is : v ≡ walk (λ i. get_or lists.following.items i 0) (get_or lists.first.items x 0) k) where
   abbrev next : ℕ → ℕ
   next i = get_or lists.following.items i 0
 
@@ -43,7 +58,7 @@ module _ {h : Handles} {lists : Lists} {x : ℕ} (has : HasListAt h lists x) {k 
   from = get_or lists.first.items x 0
 
   distinct : (i j : ℕ) → i < j → j < suc k → walk next from i ≢ walk next from j
-  distinct i j lij lj = has.distinct i j lij (omega (arith, lj, l))
+  distinct i j lij lj = has.distinct i j lij (omega arith)
 
   pub next_low : v < length h.hand.items
   next_low = rw v_is (has.low k l)
@@ -52,7 +67,7 @@ module _ {h : Handles} {lists : Lists} {x : ℕ} (has : HasListAt h lists x) {k 
   pub next_old : {X : Type 0} (f new old : ℕ → X) → ((u : ℕ) → f u ≡ cond (listed next from k u) (new u) (old u))
       → f v ≡ old v
   next_old f new old was =
-      let off : listed next from k v ≡ false = rw v_is (listed_off next from k (walk next from k)
+      let off : listed next from k v ≡ false = rw v_is (listed_off next from k _
       (λ j lj. distinct j k lj (omega arith))) in was v ∙ cond-false _ _ _ off
 
   -- It is written.
@@ -91,12 +106,10 @@ module _ {h0 h1 : Handles} {lists : Lists} {after : List ℕ} {front many k x bi
   own_handle : at k ≡ big → (v : ℕ) → lists_at lists (at k) v ≡ true → get_or h1.hand.items v 0 ≡ handle
   own_handle at_big v on =
       let w : (j : ℕ) × (j < get_or lists.rank.items (at k) 0) × (walk (λ i. get_or lists.following.items i 0)
-      (get_or lists.first.items (at k) 0) j ≡ v) = listed_place (λ i. get_or lists.following.items i 0)
-      (get_or lists.first.items (at k) 0) (get_or lists.rank.items (at k) 0) v on in
+      (get_or lists.first.items (at k) 0) j ≡ v) = listed_place (λ i. get_or lists.following.items i 0) _ _ v on in
       let lv : v < length h0.hand.items = rw w.2 at ((has.each k l).low w.0 w.1) in
       let e : out v ≡ at k = eqb-true (out v) (at k) (sym (own v lv) ∙ on) in
-      done.hand v lv ∙ (cond-false _ _ _ (before_off v e)
-      ∙ (has.led v lv ∙ ap (λ b. get_or lists.leader.items b 0) (e ∙ at_big)))
+      cc (done.hand v lv, cond-false _ _ _ (before_off v e), has.led v lv)
 
   pub row_leaders : ((j : ℕ) × (j < many) × (at j ≡ big)) → HasLeaders h1 lists x big
   row_leaders on = rw x_is (record {
@@ -119,27 +132,13 @@ module _ {h0 h1 : Handles} {lists : Lists} {after : List ℕ} {front many k x bi
       small_handle : unsigned_abs (get_or h0.off.items handle (pos 0)) ≤ 2 ^ 97
       small_handle = rw on.2 at (has.small_leaders on.0 on.1)
 
-      by_test : v < length h0.hand.items → (s : Bool)
-          → get_or h1.q.items v (pos 0) ≡ cond s (moved v) (get_or h0.q.items v (pos 0))
-          → unsigned_abs (get_or h1.q.items v (pos 0)) ≤ 2 ^ 100
+      by_test : v < length h0.hand.items → (s : Bool) → get_or h1.q.items v (pos 0)
+          ≡ cond s (moved v) (get_or h0.q.items v (pos 0)) → unsigned_abs (get_or h1.q.items v (pos 0)) ≤ 2 ^ 100
       by_test lv true e = omega (arith, ints, e, has.small_q v, has.small_off v lv, small_handle)
       by_test lv false e = omega (arith, ints, e, has.small_q v)
 
   pub row_lists : ((j : ℕ) × (j < many) × (at j ≡ big)) → HasListAt h1 lists x
-  row_lists on = rw x_is (record {
-    first = was.first;
-    rank = was.rank;
-    q = done.qs ∙ (was.q ∙ sym done.hands);
-    following = was.following ∙ sym done.hands;
-    few = omega (arith, was.few, done.hands);
-    many = omega (arith, was.many, done.hands);
-    low = λ j lj. rw done.hands (was.low j lj);
-    distinct = was.distinct;
-    small = row_small on;
-  })
-    where
-      was : HasListAt h0 lists (at k)
-      was = has.each k l
+  row_lists on = rw x_is (list_kept (has.each k l) done.hands done.qs (row_small on))
 
   -- A blossom of the row more is renamed.
   module _ {h2 : Handles} (renamed : HasRenamed h1 h2 lists x handle (differ_by h1 lists x big)) where
@@ -159,13 +158,11 @@ module _ {h0 h1 : Handles} {lists : Lists} {after : List ℕ} {front many k x bi
         ≡ cond (in_row h0 after front (suc k) v) (moved v) (get_or h0.q.items v (pos 0))
     q_more v lv = renamed_at.q v
         ∙ rw (own v lv ∙ eqb_order (out v) (at k)) (elim (cases_eq (at k) (out v)) [
-          | inl e ↦
-              (let was : get_or h1.q.items v (pos 0) ≡ get_or h0.q.items v (pos 0) =
-              done.q v lv ∙ cond-false _ _ _ (before_off v (sym e)) in
+          | inl e ↦ (let was : get_or h1.q.items v (pos 0) ≡ get_or h0.q.items v (pos 0) = done.q v lv
+              ∙ cond-false _ _ _ (before_off v (sym e)) in
               let lead : get_or h0.off.items (get_or h0.hand.items v 0) (pos 0)
-              ≡ get_or h0.off.items (get_or lists.leader.items (at k) 0) (pos 0) =
-              ap (λ j. get_or h0.off.items j (pos 0)) (has.led v lv
-              ∙ ap (λ b. get_or lists.leader.items b 0) (sym e)) in
+              ≡ get_or h0.off.items (get_or lists.leader.items (at k) 0) (pos 0) = ap
+              (λ j. get_or h0.off.items j (pos 0)) (has.led v lv ∙ ap (λ b. get_or lists.leader.items b 0) (sym e)) in
               rw (eq-eqb (at k) (out v) e, or-true (in_row h0 after front k v)) (omega (arith, ints, was, lead)))
           | inr ne ↦ rw (ne_eqb (at k) (out v) ne, or-false (in_row h0 after front k v)) (done.q v lv)
         ])
@@ -199,37 +196,30 @@ pub row_most : (after rank : List ℕ) (front k best : ℕ) {x : ℕ} (r : ℕ) 
 row_most after rank front k best r x_is was lb lx j l = elim (cases_eq j k) [
   | inl e ↦ rw (x_is ∙ ap (walk (λ i. get_or after i 0) front) (sym e)) at lx
   | inr ne ↦ (let h : get_or rank (walk (λ i. get_or after i 0) front j) 0 ≤ get_or rank best 0 =
-      was j (omega (arith, l, ne)) in omega (arith, h, lb))
+      was j (omega arith) in omega arith)
 ]
 
 -- A blossom that keeps its handle is as if renamed.
 pub kept_handle : (h : Handles) (lists : Lists) {x big : ℕ} → x ≡ big
     → ((v : ℕ) → lists_at lists x v ≡ true → get_or h.hand.items v 0 ≡ get_or lists.leader.items big 0)
     → HasRenamed h h lists x (get_or lists.leader.items big 0) (differ_by h lists x big)
-kept_handle h lists {x} {big} e same = record {
-  hand = λ v. by_hand v (cases_Bool (lists_at lists x v));
-  q = λ v. by_q v (cases_Bool (lists_at lists x v));
-  hands = refl;
-  qs = refl;
-  top = refl;
-  off = refl;
-}
-  where
-    none : differ_by h lists x big ≡ pos 0
-    none = (let s : get_or h.off.items (get_or lists.leader.items x 0) (pos 0)
-        ≡ get_or h.off.items (get_or lists.leader.items big 0) (pos 0) =
-        ap (λ b. get_or h.off.items (get_or lists.leader.items b 0) (pos 0)) e in omega (arith, ints, s))
-
-    by_hand : (v : ℕ) → (lists_at lists x v ≡ true) ⊎ (lists_at lists x v ≡ false) → get_or h.hand.items v 0
-        ≡ cond (lists_at lists x v) (get_or lists.leader.items big 0) (get_or h.hand.items v 0)
-    by_hand v (inl on) = same v on ∙ sym (cond-true _ _ _ on)
-    by_hand v (inr off) = sym (cond-false _ _ _ off)
-
-    by_q : (v : ℕ) → (lists_at lists x v ≡ true) ⊎ (lists_at lists x v ≡ false) → get_or h.q.items v (pos 0)
-        ≡ cond (lists_at lists x v) (get_or h.q.items v (pos 0) +ℤ differ_by h lists x big) (get_or h.q.items v (pos 0))
-    by_q v (inl on) = (let s : get_or h.q.items v (pos 0) ≡ get_or h.q.items v (pos 0) +ℤ differ_by h lists x big =
-        omega (arith, ints, none) in s) ∙ sym (cond-true _ _ _ on)
-    by_q v (inr off) = sym (cond-false _ _ _ off)
+kept_handle h lists {x} {big} e same =
+    let none : differ_by h lists x big ≡ pos 0 = (let s = ap (λ b. get_or h.off.items (get_or lists.leader.items b 0)
+    (pos 0)) e in omega (arith, ints, s)) in
+    record {
+      hand = λ v. elim (cases_Bool (lists_at lists x v)) [
+        | inl on ↦ same v on ∙ sym (cond-true _ _ _ on)
+        | inr off ↦ sym (cond-false _ _ _ off)
+      ];
+      q = λ v. elim (cases_Bool (lists_at lists x v)) [
+        | inl on ↦ rw on (omega (arith, ints, none))
+        | inr off ↦ sym (cond-false _ _ _ off)
+      ];
+      hands = refl;
+      qs = refl;
+      top = refl;
+      off = refl;
+    }
 
 -- The handle and what it adds are told otherwise.
 pub renamed_as : {h0 h1 : Handles} {lists : Lists} {x a : ℕ} {b : ℕ} {m : ℤ} (n : ℤ) → HasRenamed h0 h1 lists x a m → a

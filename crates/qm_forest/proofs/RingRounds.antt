@@ -11,7 +11,7 @@ use Rattle.forest_laws.proofs.Circles.{IsCircle, circle_from}
 use Rattle.forest_laws.proofs.Walks.{listed_at, listed_closed, listed_place, walk_fixed, walk_front}
 use Rattle.qm_forest.specs.Rounds.{IsSoundFor, IsLaminar, IsPairing, IsRound, entered, far_at, near_at, waits_but}
 use Rattle.qm_forest.specs.Rounds.{within}
-use Rattle.qm_forest.proofs.{Enclosed.climbs_here, Nests.climbs_place}
+use Rattle.qm_forest.proofs.{Apart.none_either, Enclosed.climbs_here, Nests.climbs_place}
 use Rattle.qm_forest.proofs.Laminars.{ring_around, ring_pairing, rising}
 use Rattle.qm_forest.proofs.{Pairings.entered_size, Pairings.entry_cases, Pairings.paired_round, Withins.climb_law}
 use Rattle.qm_forest.proofs.Withins.{in_where, rank_walk, ring_front}
@@ -46,26 +46,26 @@ module _ {t : ForestTables} (known : IsLaminar t) {g : WeightedGraph} (valid : I
 
   part : (x : ℕ) → inside x ≡ true → (up_at t.up x ≡ q) × (x ≢ q)
   part x on =
-      let w : (k : ℕ) × (k < many) × (walk after (get_or t.head q 0) k ≡ x) =
-      listed_place after (get_or t.head q 0) many x on in (
+      let w =
+      listed_place after _ many x on in (
         ap (up_at t.up) (sym w.2) ∙ ring.inside w.0,
         (λ e. absurd (omega (arith, ring.lower w.0, ap (λ z. get_or t.rank z 0) (w.2 ∙ e)))),
       )
 
   parts : (x : ℕ) → up_at t.up x ≡ q → x ≢ q → inside x ≡ true
-  parts x e ne = (let w : (k : ℕ) × (k < many) × (walk after (get_or t.head q 0) k ≡ x) = ring.all x e ne in
+  parts x e ne = (let w = ring.all x e ne in
       (rw w.2 at (listed_at after (get_or t.head q 0) many w.0 w.1)))
 
   inner_part : (x : ℕ) → inside x ≡ true → up_at t.up x ≢ x
   inner_part x on e = (part x on).1 (sym e ∙ (part x on).0)
 
   circle : IsCircle after p many inside
-  circle = circle_from after (get_or t.head q 0) many inside (record {
-    some = omega (arith, ring.odd);
+  circle = circle_from after _ many inside (record {
+    some = omega arith;
     closed = ring.closed;
     distinct = ring.distinct;
-    marked = listed_closed after many (omega (arith, ring.odd)) ring.closed;
-    all = λ x on. listed_place after (get_or t.head q 0) many x on;
+    marked = listed_closed after many (omega arith) ring.closed;
+    all = λ x on. listed_place after _ many x on;
   }) p (parts p refl (λ e. inner (sym e)))
 
   abbrev at : ℕ → ℕ
@@ -91,12 +91,11 @@ module _ {t : ForestTables} (known : IsLaminar t) {g : WeightedGraph} (valid : I
   pub ring_begun : {marks : List Bool} {left : List (Option ℕ)} (rest : ℕ → ℕ) {due : ℕ → ℕ} {x : ℕ} (k : ℕ) → x
       ≡ after p → k ≡ 0 → IsRound t marks left (λ b. sum_from (after p) (many - 1) b + rest b) due
       → IsRound t marks left (λ b. sum_from x (many - 1 - 2 * k) b + rest b) due
-  ring_begun rest {x} k x_is k_is round = round_rest (λ b. sum_from x (many - 1 - 2 * k) b + rest b)
-      (λ b l. ap (λ m. m + rest b) (same b)) round
-    where
-      same : (b : ℕ) → sum_from (after p) (many - 1) b ≡ sum_from x (many - 1 - 2 * k) b
-      same b = (let e : many - 1 ≡ many - 1 - 2 * k = omega (arith, k_is) in ap (λ m. sum_from (after p) m b) e
-          ∙ ap (λ z. sum_from z (many - 1 - 2 * k) b) (sym x_is))
+  ring_begun rest {x} k x_is k_is round =
+      let same : (b : ℕ) → sum_from (after p) (many - 1) b ≡ sum_from x (many - 1 - 2 * k) b =
+      λ b. (let e : many - 1 ≡ many - 1 - 2 * k = omega arith in ap (λ m. sum_from (after p) m b) e
+      ∙ ap (λ z. sum_from z (many - 1 - 2 * k) b) (sym x_is)) in
+      round_rest (λ b. sum_from x (many - 1 - 2 * k) b + rest b) (λ b l. ap (λ m. m + rest b) (same b)) round
 
   -- The sets that wait after it are parts, or waited before.
   pub turn_entries : (left : List (Option ℕ)) {left2 : List (Option ℕ)} (k : ℕ) {x y : ℕ} (d c v : ℕ) → x ≡ at (2 * k)
@@ -105,37 +104,18 @@ module _ {t : ForestTables} (known : IsLaminar t) {g : WeightedGraph} (valid : I
       → get_or left2 c None ≡ Some v → (get_or left c None ≡ Some v) ⊎
       (get_or t.rank c 0 < get_or t.rank (up_at t.up p) 0)
   turn_entries left k {x} {y} d c v x_is y_is size is low_x low_y e =
-      by_last (entry_cases (length t.hand) (entered (length t.hand) left x (near_at t d)) y (far_at t d) c
-      (rw (entered_size (length t.hand) left x (near_at t d) ∙ size) low_y))
-    where
-      now : get_or (entered (length t.hand) (entered (length t.hand) left x (near_at t d)) y (far_at t d)) c None
-          ≡ Some v
-      now = ap (λ xs. get_or xs c None) (sym is) ∙ e
-
-      below : (z j : ℕ) → z ≡ at j → c ≡ z → get_or t.rank c 0 < get_or t.rank (up_at t.up p) 0
-      below z j z_is c_is =
-          omega (
-            arith,
-            known.rises (at j) (inner_part (at j) (at_in j)),
-            ap (λ w. get_or t.rank w 0) (at_around j),
-            ap (λ w. get_or t.rank w 0) (c_is ∙ z_is),
-          )
-
-      by_first : ((length t.hand ≤ x) × (c ≡ x) × (get_or (entered (length t.hand) left x (near_at t d)) c None
-          ≡ Some (near_at t d))) ⊎ (get_or (entered (length t.hand) left x (near_at t d)) c None ≡ get_or left c None)
-          → get_or (entered (length t.hand) left x (near_at t d)) c None ≡ Some v → (get_or left c None ≡ Some v)
-          ⊎ (get_or t.rank c 0 < get_or t.rank (up_at t.up p) 0)
-      by_first (inl w) here = inr (below x (2 * k) x_is w.1)
-      by_first (inr same) here = inl (sym same ∙ here)
-
-      by_last : ((length t.hand ≤ y) × (c ≡ y)
-          × (get_or (entered (length t.hand) (entered (length t.hand) left x (near_at t d)) y (far_at t d)) c None
-          ≡ Some (far_at t d))) ⊎ (get_or (entered (length t.hand) (entered (length t.hand) left x (near_at t d)) y
-          (far_at t d)) c None ≡ get_or (entered (length t.hand) left x (near_at t d)) c None)
-          → (get_or left c None ≡ Some v) ⊎ (get_or t.rank c 0 < get_or t.rank (up_at t.up p) 0)
-      by_last (inl w) = inr (below y (suc (2 * k)) (y_is ∙ ap after x_is) w.1)
-      by_last (inr same) = by_first (entry_cases (length t.hand) left x (near_at t d) c (rw size low_x))
-          (sym same ∙ now)
+      let now = ap (λ xs. get_or xs c None) (sym is) ∙ e in
+      let below : (z j : ℕ) → z ≡ at j → c ≡ z → get_or t.rank c 0 < get_or t.rank (up_at t.up p) 0 =
+      λ z j z_is c_is. (let rise = known.rises (at j) (inner_part (at j) (at_in j)) in
+      omega (arith, ap (λ w. get_or t.rank w 0) (at_around j), ap (λ w. get_or t.rank w 0) (c_is ∙ z_is))) in
+      elim (entry_cases (length t.hand) (entered (length t.hand) left x (near_at t d)) y (far_at t d) c
+      (rw (entered_size (length t.hand) left x (near_at t d) ∙ size) low_y)) [
+        | inl w ↦ inr (below y (suc (2 * k)) (y_is ∙ ap after x_is) w.1)
+        | inr same ↦ elim (entry_cases (length t.hand) left x (near_at t d) c (rw size low_x)) [
+          | inl w ↦ inr (below x (2 * k) x_is w.1)
+          | inr was ↦ inl (sym was ∙ (sym same ∙ now))
+        ]
+      ]
 
   -- One pair more.
   pub ring_turn : {marks : List Bool} {marks2 : List Bool} {left : List (Option ℕ)} {left2 : List (Option ℕ)}
@@ -145,39 +125,28 @@ module _ {t : ForestTables} (known : IsLaminar t) {g : WeightedGraph} (valid : I
       (far_at t d) → IsRound t marks left (λ b. sum_from x (many - 1 - 2 * k) b + rest b) due
       → IsRound t marks2 left2 (λ b. sum_from (after y) (many - 1 - 2 * j) b + rest b) due
   ring_turn {marks} {left} {left2} rest {due} k j {x} {y} {d} x_is low y_is d_is j_is size_marks size_left marks_is
-      left_is round = rw (marks_is, left_is) (paired_round known valid marks left x y d
-      (λ b. sum_from (after y) (many - 1 - 2 * j) b + rest b) due size_marks size_left
-      (round_rest (λ b. (bool_number (within t b x) + bool_number (within t b y)) +
+      left_is round =
+      let peeled : (b : ℕ) → sum_from x (many - 1 - 2 * k) b + rest b
+      ≡ (bool_number (within t b x) + bool_number (within t b y)) + (sum_from (after y) (many - 1 - 2 * j) b + rest b) =
+      λ b. let two : many - 1 - 2 * k ≡ suc (suc (many - 1 - 2 * j)) = omega (arith, ring.odd, low, j_is) in let first :
+      sum_from x (suc (suc (many - 1 - 2 * j))) b ≡ bool_number (within t b x) + sum_from (after x)
+      (suc (many - 1 - 2 * j)) b = ring_front after (λ r. bool_number (within t b r)) x (suc (many - 1 - 2 * j)) in let
+      second : sum_from (after x) (suc (many - 1 - 2 * j)) b ≡ bool_number (within t b (after x)) + sum_from
+      (after (after x)) (many - 1 - 2 * j) b = ring_front after (λ r. bool_number (within t b r)) (after x)
+      (many - 1 - 2 * j) in (let here = ap (λ z. bool_number (within t b z)) (sym y_is) in
+      let rest = ap (λ z. sum_from (after z) (many - 1 - 2 * j) b) (sym y_is) in
+      omega (arith, ap (λ m. sum_from x m b) two, first, second)) in
+      rw (marks_is, left_is) (paired_round known valid marks left x y d (λ b. sum_from (after y) (many - 1 - 2 * j) b +
+      rest b) due size_marks size_left (round_rest (λ b. (bool_number (within t b x) + bool_number (within t b y)) +
       (sum_from (after y) (many - 1 - 2 * j) b + rest b)) (λ b l. peeled b) round) (turn_pairing k x_is y_is d_is))
-    where
-      peeled : (b : ℕ) → sum_from x (many - 1 - 2 * k) b + rest b ≡ (bool_number (within t b x) + bool_number
-          (within t b y)) + (sum_from (after y) (many - 1 - 2 * j) b + rest b)
-      peeled b =
-          let two : many - 1 - 2 * k ≡ suc (suc (many - 1 - 2 * j)) = omega (arith, ring.odd, low, j_is) in
-          let first : sum_from x (suc (suc (many - 1 - 2 * j))) b ≡ bool_number (within t b x) + sum_from (after x)
-          (suc (many - 1 - 2 * j)) b = ring_front after (λ r. bool_number (within t b r)) x (suc (many - 1 - 2 * j)) in
-          let second : sum_from (after x) (suc (many - 1 - 2 * j)) b ≡ bool_number (within t b (after x)) + sum_from
-          (after (after x)) (many - 1 - 2 * j) b = ring_front after (λ r. bool_number (within t b r)) (after x)
-          (many - 1 - 2 * j) in
-          omega (
-            arith,
-            ap (λ m. sum_from x m b) two,
-            first,
-            second,
-            ap (λ z. bool_number (within t b z)) (sym y_is),
-            ap (λ z. sum_from (after z) (many - 1 - 2 * j) b) (sym y_is),
-          )
 
   -- All pairs.
   pub ring_ended : {marks : List Bool} {left : List (Option ℕ)} (rest : ℕ → ℕ) {due : ℕ → ℕ} (k x : ℕ) → k ≡ many / 2
       → IsRound t marks left (λ b. sum_from x (many - 1 - 2 * k) b + rest b) due → IsRound t marks left rest due
-  ring_ended rest k x k_is round = round_rest rest (λ b l. none b) round
-    where
-      none : (b : ℕ) → sum_from x (many - 1 - 2 * k) b + rest b ≡ rest b
-      none b = (let z : many - 1 - 2 * k ≡ 0 = omega (arith, ring.odd, k_is) in omega (
-        arith,
-        ap (λ m. sum_from x m b) z,
-      ))
+  ring_ended rest k x k_is round =
+      let none : (b : ℕ) → sum_from x (many - 1 - 2 * k) b + rest b ≡ rest b = λ b.
+      (let z : many - 1 - 2 * k ≡ 0 = omega arith in omega (arith, ap (λ m. sum_from x m b) z)) in
+      round_rest rest (λ b l. none b) round
 
   -- From a part to its set.
   pub ring_climb : {marks : List Bool} {left : List (Option ℕ)} (rest : ℕ → ℕ) {due : ℕ → ℕ} (v : ℕ) {c : ℕ} (j : ℕ)
@@ -185,15 +154,12 @@ module _ {t : ForestTables} (known : IsLaminar t) {g : WeightedGraph} (valid : I
       → get_or t.rank q 0 ≤ length t.hand → IsRound t marks left (λ b. cond (within t b p) 0 (waits_but t b c v) + rest
       b) due → IsRound t marks left (λ b. sum_from (after p) (many - 1) b +
       (cond (within t b q) 0 (waits_but t b c v) + rest b)) due
-  ring_climb rest v {c} j held lv climbs' low_c low_q round = round_rest
-      (λ b. sum_from (after p) (many - 1) b + (cond (within t b q) 0 (waits_but t b c v) + rest b))
-      (λ b l. (let law : cond (within t b p) 0 (waits_but t b c v) ≡ sum_from (after p) (many - 1) b + cond
-      (within t b q) 0 (waits_but t b c v) = climb_law (rising known)
-      q v circle part parts low low_q low_c held j climbs' b in
-      omega (arith, law))) round
-    where
-      low : (x : ℕ) → inside x ≡ true → get_or t.rank x 0 ≤ length t.hand
-      low x on = omega (arith, known.rises x (inner_part x on), ap (λ z. get_or t.rank z 0) (part x on).0, low_q)
+  ring_climb rest v {c} j held lv climbs' low_c low_q round =
+      let low : (x : ℕ) → inside x ≡ true → get_or t.rank x 0 ≤ length t.hand = λ x on. omega
+      (arith, known.rises x (inner_part x on), ap (λ z. get_or t.rank z 0) (part x on).0, low_q) in
+      round_rest (λ b. sum_from (after p) (many - 1) b + (cond (within t b q) 0 (waits_but t b c v) + rest b))
+      (λ b l. (let law = climb_law (rising known) q v
+      circle part parts low low_q low_c held j climbs' b in omega arith)) round
 
 -- Going up from a vertex: at it, at each step, and at the end.
 module _ {t : ForestTables} (known : IsLaminar t) {v : ℕ} (c : ℕ) (lv : v < length t.hand)
@@ -204,30 +170,22 @@ module _ {t : ForestTables} (known : IsLaminar t) {v : ℕ} (c : ℕ) (lv : v < 
   pub climb_begins : {marks : List Bool} {left : List (Option ℕ)} (rest : ℕ → ℕ) {due : ℕ → ℕ}
       → IsRound t marks left (λ b. waits_but t b c v + rest b) due
       → IsRound t marks left (λ b. cond (within t b v) 0 (waits_but t b c v) + rest b) due
-  climb_begins rest round = round_rest (λ b. cond (within t b v) 0 (waits_but t b c v) + rest b)
-      (λ b l. ap (λ m. m + rest b) (same b (cases_Bool (within t b v)))) round
-    where
-      nothing : (s : Bool) → ◌≡◌ {A = ℕ} (cond s 0 0) 0
-      nothing true = refl
-      nothing false = refl
-
-      same : (b : ℕ) → (within t b v ≡ true) ⊎ (within t b v ≡ false)
-          → waits_but t b c v ≡ cond (within t b v) 0 (waits_but t b c v)
-      same b (inr off) = sym (cond-false _ _ _ off)
-      same b (inl on) =
-          let own : (forest_of t).holds b v ≡ true = ap (λ z. (forest_of t).holds z v) (known.own b v lv on)
-          ∙ climbs_here (up_at t.up) (length t.hand) v in
-          ap (λ (s : Bool). cond (within t b c) (cond s 0 1) 0) own
-          ∙ (nothing (within t b c) ∙ sym (cond-true _ _ _ on))
+  climb_begins rest round =
+      let same : (b : ℕ) → waits_but t b c v ≡ cond (within t b v) 0 (waits_but t b c v) =
+      λ b. elim (cases_Bool (within t b v)) [
+        | inl on ↦ (let own = ap (λ z. (forest_of t).holds z v) (known.own b v lv on)
+            ∙ climbs_here (up_at t.up) (length t.hand) v in ap (λ (s : Bool). cond (within t b c) (cond s 0 1) 0) own
+            ∙ (none_either (within t b c) ∙ sym (cond-true _ _ _ on)))
+        | inr off ↦ sym (cond-false _ _ _ off)
+      ] in
+      round_rest (λ b. cond (within t b v) 0 (waits_but t b c v) + rest b) (λ b l. ap (λ m. m + rest b) (same b)) round
 
   pub climb_ends : {marks : List Bool} {left : List (Option ℕ)} (rest : ℕ → ℕ) {due : ℕ → ℕ} {p : ℕ} → p ≡ c
       → IsRound t marks left (λ b. cond (within t b p) 0 (waits_but t b c v) + rest b) due
       → IsRound t marks left rest due
-  climb_ends rest {p} p_is round = round_rest rest (λ b l. (omega (
-    arith,
-    ap (λ z. cond (within t b z) 0 (waits_but t b c v)) p_is,
-    none b (within t b c),
-  ))) round
+  climb_ends rest {p} p_is round = round_rest rest (λ b l. (let at_c = ap (λ z. cond (within t b z) 0
+      (waits_but t b c v)) p_is in
+      omega (arith, none b (within t b c)))) round
     where
       none : (b : ℕ) (s : Bool) → ◌≡◌ {A = ℕ} (cond s 0 (cond s (cond ((forest_of t).holds b v) 0 1) 0)) 0
       none b true = refl

@@ -21,7 +21,7 @@ pub record IsPlaced (t : ForestTables) : Type 0 where
 pub placed : {t : ForestTables} {hid : HiddenTables} → AreTied t hid → IsPlaced t
 placed {t} tied = record {
   known = laminar tied;
-  whole = omega (arith, tied.pool.room, tied.pool.half);
+  whole = omega arith;
   around = λ x ne. (
     (tied.nest.around x ne).0,
     rw (get_or_default_zero t.up x x (inner_low x ne)) (tied.nest.ups x (inner_low x ne)),
@@ -48,10 +48,9 @@ module _ {t : ForestTables} (it : IsPlaced t) {g : WeightedGraph} (valid : IsSou
   has_room = record {
     laminar = it.known;
     sound = (g, valid);
-    marks = omega (arith, ap (λ (r : GraphSize). r.edges) (view_is ∙ room), valid.darts);
+    marks = omega (arith, ap (λ (r : GraphSize). r.edges) (view_is ∙ room));
     left_out = ap length blank.left_out ∙ (length-replicate (n + n / 2) None ∙ omega (arith, n_is, half_is, it.whole));
   }
 
   pub room_begun : IsRound t round.marks.items round.left_out.items (λ b. 0) (λ b. 0)
-  room_begun = round_begins t (length round.marks.items) (n + n / 2) (λ b. 0)
-      blank.marks blank.left_out (λ v l. omega arith)
+  room_begun = round_begins t _ _ (λ b. 0) blank.marks blank.left_out (λ v l. omega arith)

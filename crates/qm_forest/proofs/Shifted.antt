@@ -28,13 +28,12 @@ change_low Outside s h = omega (arith, ints)
 -- The forest sees the shift.
 pub seen_shift : (t : ForestTables) (s : ℤ) {d : ℤ} → d ≡ t.delta +ℤ s → forest_of (record t { delta = d })
     ≡ shifted (forest_of t) s
-seen_shift t s {d} e i = record (forest_of t) { weight = λ b. weight b i }
-  where
-    weight : (b : ℕ) → (forest_of (record t { delta = d })).weight b ≡ (forest_of t).weight b +ℤ weight_change
-        (label_at t.label b) s
-    weight b = let h : weight_change (label_at t.label b) d ≡ weight_change (label_at t.label b) t.delta +ℤ
-        weight_change (label_at t.label b) s = ap (weight_change (label_at t.label b)) e
-        ∙ change_sum (label_at t.label b) t.delta s in omega (arith, ints, h)
+seen_shift t s {d} e i =
+    let weight : (b : ℕ) → (forest_of (record t { delta = d })).weight b
+    ≡ (forest_of t).weight b +ℤ weight_change (label_at t.label b) s = λ b. let h : weight_change (label_at t.label b) d
+    ≡ weight_change (label_at t.label b) t.delta +ℤ weight_change (label_at t.label b) s = ap
+    (weight_change (label_at t.label b)) e ∙ change_sum _ t.delta s in omega (arith, ints, h) in
+    record (forest_of t) { weight = λ b. weight b i }
 
 -- Where no tree stands a shift changes nothing.
 pub seen_still : {g : WeightedGraph} {t : ForestTables} (s : ℤ) → IsValidFor g t → t.root ≡ None
@@ -58,27 +57,21 @@ module _ {t : ForestTables} {hid : HiddenTables} (tied : AreTied t hid) {g : Wei
       weight_change (label_at t.label (out_of t.hand t.top v)) s
   added_is v = let h : weight_change (label_at t.label (out_of t.hand t.top v)) d
       ≡ weight_change (label_at t.label (out_of t.hand t.top v)) t.delta +ℤ weight_change
-      (label_at t.label (out_of t.hand t.top v)) s = ap (weight_change (label_at t.label (out_of t.hand t.top v))) d_is
-      ∙ change_sum (label_at t.label (out_of t.hand t.top v)) t.delta s in omega (arith, ints, h)
+      (label_at t.label (out_of t.hand t.top v)) s = cc (change_sum (label_at t.label (out_of t.hand t.top v)) t.delta
+      s) in omega (arith, ints, h)
 
   -- The tie after a shift.
   pub tied_shift : AreTied (record t { delta = d }) hid
   tied_shift = record {
-    sizes = sizes_kept tied.sizes d t.root t.trail hid.touched hid.room tied.sizes.touched (omega arith);
+    sizes = sizes_kept tied.sizes refl refl refl refl (omega arith);
     nest = tied.nest;
     numbers = record {
       potentials = potentials;
       small = λ b. subst (λ (f : Forest). unsigned_abs (f.weight b) ≤ 2 ^ 62) (sym (seen_shift t s d_is)) (small b);
       start = tied.numbers.start;
       small_start = tied.numbers.small_start;
-      moved = λ v lv. omega (
-        arith,
-        ints,
-        sum_is,
-        added_is v,
-        tied.numbers.moved v lv,
-        change_low (label_at t.label (out_of t.hand t.top v)) s high,
-      );
+      moved = λ v lv. (let low = change_low (label_at t.label (out_of t.hand t.top v)) s high in
+          omega (arith, ints, sum_is, added_is v, tied.numbers.moved v lv));
       risen = (
         omega (arith, ints, d_is, tied.numbers.risen.0),
         omega (arith, ints, d_is, sum_is, tied.numbers.risen.1),
@@ -95,17 +88,10 @@ module _ {t : ForestTables} {hid : HiddenTables} (tied : AreTied t hid) {g : Wei
       potentials : (v : ℕ) → v < length t.hand → potential (forest_of (record t { delta = d })) v
           ≡ told hid.q t.hand t.top hid.off t.label d v
       potentials v lv =
-          let h : potential (shifted (forest_of t) s) v ≡ potential (forest_of t) v +ℤ weight_change
-          (label_at t.label (out_of t.hand t.top v)) s =
-          potential_shifted valid.valid.outermost s v (rw valid.vertices at lv) in
-          omega (
-            arith,
-            ints,
-            ap (λ (f : Forest). potential f v) (seen_shift t s d_is),
-            h,
-            tied.numbers.potentials v lv,
-            added_is v,
-          )
+          let h : potential (shifted (forest_of t) s) v ≡ potential (forest_of t) v +ℤ weight_change (label_at t.label
+          (out_of t.hand t.top v)) s = potential_shifted valid.valid.outermost s v (rw valid.vertices at lv) in
+          let seen = ap (λ (f : Forest). potential f v) (seen_shift t s d_is) in
+          omega (arith, ints, h, tied.numbers.potentials v lv, added_is v)
 
 -- The forest is valid after a shift whose end is feasible.
 pub valid_shift : {t : ForestTables} (u : ForestTables) {g : WeightedGraph} (s : ℤ) → IsGraph g → IsValidFor g t
@@ -122,8 +108,3 @@ pub valid_rooted : {t : ForestTables} (u : ForestTables) {g : WeightedGraph} →
 valid_rooted {t} u is valid v low none free seen hand root fixed = valid_as u valid fixed (ap length hand)
     (rw (seen, root) (rooted_valid (are_darts is) (rw none at valid.valid) ((forest_of t).out v)
     (v, rw valid.vertices at low, refl) free))
-
--- The forest sees the shift, of tables that are tied.
-pub seen_shift_tied : {t : ForestTables} {hid : HiddenTables} → AreTied t hid → (s d : ℤ) → d ≡ t.delta +ℤ s
-    → forest_of (record t { delta = d }) ≡ shifted (forest_of t) s
-seen_shift_tied {t} tied s d e = seen_shift t s e

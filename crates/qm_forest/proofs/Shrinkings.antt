@@ -1,12 +1,12 @@
 -- Shrinking, step by step: the ring that is laid is a cycle of the tree, and what comes of it is one blossom.
 use Rattle.std.proofs.Common.{◌≡◌, ◌≢◌, ℕ, suc, ◌+◌, ◌-◌, ◌*◌, ◌<◌, ◌≤◌, Bool, true, false, cond, length, get_or}
-use Rattle.std.proofs.Common.{ℤ, pos, ◌⊎◌, Option, Some, None, refl, sym, ◌∙◌, ap, inl, inr, arith}
+use Rattle.std.proofs.Common.{ℤ, Option, Some, None, refl, sym, ◌∙◌, ap, subst, inl, inr, arith}
 use Rattle.std.proofs.lemmas.Bool.{cases_eq, cases_lt, cond-true, eq-eqb}
 use Rattle.def_matching.specs.Matching.{WeightedGraph, IsSmallGraph}
 use Rattle.def_forest.specs.{Darts.Darts, Darts.AreDarts, Darts.darts_of, Darts.far, Forests.Forest, Forests.IsTight}
 use Rattle.def_forest.specs.{Forests.IsOutermost, Forests.set_at, Forests.walk, Shrunk.IsClosedRow}
 use Rattle.def_forest.specs.{Shrunk.IsCycle, Shrunk.IsShrunk, Shrunk.IsShrinking, Shrunk.IsUnused, Tables.ForestTables}
-use Rattle.def_forest.specs.{Tables.forest_of, Tables.label_at, Tables.IsOutermostIn, Tables.IsValidFor, Valid.IsMate}
+use Rattle.def_forest.specs.{Tables.forest_of, Tables.label_at, Tables.IsOutermostIn, Tables.IsValidFor}
 use Rattle.def_forest.specs.{Valid.IsValid, Valid.IsTree, Ways.dart_or, declared.kinds.Label.Label}
 use Rattle.def_forest.specs.declared.kinds.Label.TheVariants.{Outer, Outside}
 use Rattle.forest_laws.specs.Climbing.{rise_of, way_of, IsClimbing, ring_at, ring_dart}
@@ -21,7 +21,7 @@ use Rattle.qm_forest.specs.Rings.{IsRingedAlike, laid_ring}
 use Rattle.qm_forest.specs.Ties.{fixed_of, HasSameNest, labelled, mated, left_alone}
 use Rattle.qm_forest.proofs.OnWays.{valid_as}
 use Rattle.qm_forest.proofs.Increases.{the_tree, named_low}
-use Rattle.qm_forest.proofs.WritesAlong.{IsForked, lain_left, lain_over, lain_right, lain_off}
+use Rattle.qm_forest.proofs.{Pairings.option_cases, WritesAlong.IsForked, WritesAlong.lain_at, WritesAlong.lain_off}
 
 -- Two functions that differ at most where both are written are one once they are.
 set_same : {X : Type 0} (f h : ℕ → X) (b : ℕ) (x : X) → ((y : ℕ) → y ≢ b → f y ≡ h y) → (y : ℕ) → set_at f b x y
@@ -101,17 +101,16 @@ module _ {g : WeightedGraph} {t0 : ForestTables} {start top left right : ℕ}
 
   -- The two ways differ but for where they meet.
   ways_differ : (i m : ℕ) → i ≤ left → m < right → way_c m ≢ way_a i
-  ways_differ i m li lm e =
-      (let h : right ≤ m = met.right i m (omega (arith, li, met.x_low)) (omega (arith, lm, met.y_low)) (sym e) in
-      omega (arith, h, lm))
+  ways_differ i m li lm e = (let h : right ≤ m = met.right i m (omega arith) (omega arith) (sym e) in
+      omega arith)
 
   left_differs : (i j : ℕ) → i < j → j ≤ left → way_a i ≢ way_a j
   left_differs i j lij lj e = (let s : i ≡ j = way_differs are whole tree_is.2 a i j named_a
-      (omega (arith, lij, lj, met.x_low)) (omega (arith, lj, met.x_low)) e in omega (arith, s, lij))
+      (omega arith) (omega arith) e in omega arith)
 
   right_differs : (i j : ℕ) → i < j → j < right → way_c i ≢ way_c j
   right_differs i j lij lj e = (let s : i ≡ j = way_differs are whole tree_is.2 c i j named_c
-      (omega (arith, lij, lj, met.y_low)) (omega (arith, lj, met.y_low)) e in omega (arith, s, lij))
+      (omega arith) (omega arith) e in omega arith)
 
   -- The ring is one of two ways, along which its tables are written.
   ways : IsForked way_a way_c at left right
@@ -130,32 +129,15 @@ module _ {g : WeightedGraph} {t0 : ForestTables} {start top left right : ℕ}
   joint = (laid_ring d f start left right).nest.joint
 
   after_at : (k : ℕ) → k < many → after (at k) ≡ at (suc k)
-  after_at k l = by_place (cases_lt k left) (cases_eq k left)
-    where
-      by_place : (k < left) ⊎ (left ≤ k) → (k ≡ left) ⊎ (k ≢ left) → after (at k) ≡ at (suc k)
-      by_place (inl lk) x = lain_left ways f.nest.after way_a c
-          (λ i. way_c (suc i)) k lk ∙ (let s : left - k - 1 ≡ left - suc k = omega (arith, lk) in
-          ap way_a s ∙ sym (left_is (suc k) (omega (arith, lk))))
-      by_place (inr h) (inl e) = ap (λ j. after (at j)) e ∙ (lain_over ways f.nest.after way_a c
-          (λ i. way_c (suc i)) ∙ sym (right_is (suc k) 0 (omega (arith, e))))
-      by_place (inr h) (inr ne) = (let m : k ≡ left + 1 + (k - left - 1) = omega (arith, h, ne) in
-          lain_right ways f.nest.after way_a c (λ i. way_c (suc i)) (k - left - 1) m
-          (omega (arith, h, ne, l)) ∙ sym (right_is (suc k) (suc (k - left - 1)) (omega (arith, h, ne))))
+  after_at = lain_at ways f.nest.after way_a c (λ i. way_c (suc i)) (λ k. at (suc k)) (λ k l.
+      (let s : left - k - 1 ≡ left - suc k = omega arith in ap way_a s ∙ sym (left_is (suc k) (omega arith))))
+      (sym (right_is _ 0 (omega arith))) (λ m l. sym (right_is _ (suc m) (omega arith)))
 
   joint_at : (k : ℕ) → k < many → joint (at k) ≡ ring_dart d f a c left start k
-  joint_at k l = by_place (cases_lt k left) (cases_eq k left)
-    where
-      by_place : (k < left) ⊎ (left ≤ k) → (k ≡ left) ⊎ (k ≢ left) → joint (at k) ≡ ring_dart d f a c left start k
-      by_place (inl lk) x = lain_left ways f.nest.joint downs start ups k lk ∙ sym
-          (dart_left are whole tree_is.2 a c named_a named_c top left right met outer_a outer_c tight refl refl k lk)
-      by_place (inr h) (inl e) = ap (λ j. joint (at j)) e ∙ (lain_over ways f.nest.joint downs start ups
-          ∙ sym (dart_over are whole tree_is.2 a c named_a named_c top left right met outer_a outer_c tight refl refl
-          e))
-      by_place (inr h) (inr ne) = (let m : k ≡ left + 1 + (k - left - 1) = omega (arith, h, ne) in
-          lain_right ways f.nest.joint downs start
-          ups (k - left - 1) m (omega (arith, h, ne, l))
-          ∙ sym (dart_right are whole tree_is.2 a c named_a named_c top left right met outer_a outer_c tight refl refl
-          (k - left - 1) m))
+  joint_at = lain_at ways f.nest.joint downs start ups _ (λ k l. sym (dart_left are whole tree_is.2 a c named_a named_c
+      top left right met outer_a outer_c tight refl refl k l)) (sym (dart_over are whole tree_is.2 a c named_a named_c
+      top left right met outer_a outer_c tight refl refl {k = left} refl)) (λ m l. sym (dart_right are whole tree_is.2 a
+      c named_a named_c top left right met outer_a outer_c tight refl refl {k = left + 1 + m} m refl))
 
   abbrev pub inside : ℕ → Bool
   inside = listed after top many
@@ -173,233 +155,170 @@ module _ {g : WeightedGraph} {t0 : ForestTables} {start top left right : ℕ}
       refl refl after joint after_at joint_at apart
 
   walk_named : (k : ℕ) → k < many → f.label (walk after top k) ≢ Outside
-  walk_named k l = rw (walk_at k (omega (arith, l)))
+  walk_named k l = rw (walk_at k (omega arith))
       (at_named are whole tree_is.2 a c named_a named_c top left right met outer_a outer_c k l)
 
   missed : (x : ℕ) → inside x ≡ false → (k : ℕ) → k < many → at k ≢ x
-  missed x off k l e = true_false
-      (ap inside (sym (walk_at k (omega (arith, l)) ∙ e)) ∙ listed_at after top many k l) off
+  missed x off k l e = true_false (ap inside (sym (walk_at k (omega arith) ∙ e)) ∙ listed_at after top many k l) off
 
   after_off : (x : ℕ) → inside x ≡ false → after x ≡ f.nest.after x
-  after_off x off = lain_off ways f.nest.after way_a c (λ i. way_c (suc i)) x (missed x off)
+  after_off x off = lain_off ways _ way_a c (λ i. way_c (suc i)) x (missed x off)
 
   joint_off : (x : ℕ) → inside x ≡ false → joint x ≡ f.nest.joint x
-  joint_off x off = lain_off ways f.nest.joint downs start ups x (missed x off)
-
-  -- Three blossoms of the ring, so that there is room for a set more.
-  abbrev spot : ℕ → ℕ
-  spot k = walk after top k
+  joint_off x off = lain_off ways _ downs start ups x (missed x off)
 
   spot_out : (k : ℕ) → k < many → IsOutermost g.n f (walk after top k)
-  spot_out k l = valid.valid.outermost.named (walk after top k) (walk_named k l)
+  spot_out k l = valid.valid.outermost.named _ (walk_named k l)
 
   spot_low : (k : ℕ) → k < many → walk after top k < length t0.up
-  spot_low k l = named_low is valid (walk after top k) (walk_named k l)
+  spot_low k l = named_low is valid _ (walk_named k l)
 
   spot_top : (k : ℕ) → k < many → f.nest.up (walk after top k) ≡ walk after top k
-  spot_top k l = (let w : IsOutermost g.n f (walk after top k) = spot_out k l in
+  spot_top k l = (let w = spot_out k l in
       (rw w.2 at (valid.valid.outermost.tops w.0 w.1)))
 
   spot_used : (k : ℕ) → k < many → IsBlossom d f (walk after top k)
   spot_used k l = elim (cases_lt (walk after top k) g.n) [
     | inl low ↦ inl low
-    | inr high ↦ (let w : IsOutermost g.n f (walk after top k) = spot_out k l in inr (
+    | inr high ↦ (let w = spot_out k l in inr (
       high,
       (λ none. true_false (rw w.2 at (valid.valid.outermost.held w.0 w.0 w.1 w.1 ∙ eq-eqb (f.out w.0) (f.out w.0) refl))
-          (valid.valid.nested.empty (walk after top k) w.0 high w.1 none)),
+          (valid.valid.nested.empty _ w.0 high w.1 none)),
     ))
   ]
 
   three_many : 3 ≤ many
   three_many = omega (arith, ring_is.odd, ring_is.some)
 
+  -- Three blossoms are on the ring, so that there is room for a set more.
   pub room_is : 2 * live_sets t0 + 3 ≤ length t0.hand
-  room_is = rw valid.vertices (sets_few d are f valid.valid.nested
-      valid.valid.outermost.vertices (spot 0) (spot 1) (spot 2) (spot_low 0 (here 0 (omega arith)))
-      (spot_low 1 (here 1 (omega arith))) (spot_low 2 (here 2 (omega arith)))
-      (ring_is.distinct 0 1 (omega arith) (here 1 (omega arith)))
-      (ring_is.distinct 0 2 (omega arith) (here 2 (omega arith)))
-      (ring_is.distinct 1 2 (omega arith) (here 2 (omega arith))) (spot_top 0 (here 0 (omega arith)))
-      (spot_top 1 (here 1 (omega arith))) (spot_top 2 (here 2 (omega arith))) (spot_used 0 (here 0 (omega arith)))
-      (spot_used 1 (here 1 (omega arith))) (spot_used 2 (here 2 (omega arith))))
-    where
-      here : (k : ℕ) → k < 3 → k < many
-      here k l = omega (arith, l, three_many)
+  room_is =
+      let zero : 0 < many = omega arith in
+      let one : 1 < many = omega (arith, three_many) in
+      let two : 2 < many = omega (arith, three_many) in
+      rw valid.vertices (sets_few d are f valid.valid.nested valid.valid.outermost.vertices
+      _ _ _ (spot_low 0 zero) (spot_low 1 one) (spot_low 2 two)
+      (ring_is.distinct 0 1 (omega arith) one) (ring_is.distinct 0 2 (omega arith) two)
+      (ring_is.distinct 1 2 (omega arith) two) (spot_top 0 zero) (spot_top 1 one) (spot_top 2 two) (spot_used 0 zero)
+      (spot_used 1 one) (spot_used 2 two))
 
   -- The ring that is laid is one of outermost blossoms.
   pub tops_laid : (t1 : ForestTables) → forest_of t1 ≡ laid_ring d f start left right
       → IsRingedAlike t0 t1 → (k : ℕ) → k < many → IsOutermostIn t1 (walk (λ i. get_or t1.after i 0) top k)
   tops_laid t1 laid alike k l =
-      let w : IsOutermost g.n f (walk after top k) = spot_out k l in (
+      let w = spot_out k l in (
         w.0,
         rw (ap (λ (t : ForestTables). t.hand) alike, valid.vertices) w.1,
         ap (λ (x : Forest). x.out w.0) laid ∙ (w.2 ∙ sym (ap (λ (x : Forest). walk x.nest.after top k) laid)),
       )
 
   -- The tables after the ring is laid, and after its blossoms have left the tree.
-  module _ {t1 t2 : ForestTables} (laid : forest_of t1 ≡ laid_ring d f start left right)
-      (alike : IsRingedAlike t0 t1) (gone : forest_of t2 ≡ left_alone (forest_of t1) top many)
-      (same : HasSameNest t1 t2) where
-    was : forest_of t2 ≡ left_alone (laid_ring d f start left right) top (many)
-    was = gone ∙ ap (λ (x : Forest). left_alone x top (many)) laid
+  module _ {t1 t2 : ForestTables} (laid : forest_of t1 ≡ laid_ring d f start left right) (alike : IsRingedAlike t0 t1)
+      (gone : forest_of t2 ≡ left_alone (forest_of t1) top many) (same : HasSameNest t1 t2) where
+    was : forest_of t2 ≡ left_alone (laid_ring d f start left right) top many
+    was = gone ∙ ap (λ (x : Forest). left_alone x top many) laid
 
     after_is : (λ k. get_or t2.after k 0) ≡ after
     after_is = ap (λ (x : Forest). x.nest.after) was
 
-    hand_same : t2.hand ≡ t0.hand
-    hand_same = same.hand ∙ ap (λ (t : ForestTables). t.hand) alike
+    nest_is : HasSameNest (record t0 { after = t1.after; joint = t1.joint }) t2
+    nest_is = rw alike at same
 
     n_is : length t2.hand ≡ g.n
-    n_is = ap length hand_same ∙ valid.vertices
-
-    up_same : t2.up ≡ t0.up
-    up_same = same.up ∙ ap (λ (t : ForestTables). t.up) alike
-
-    parts_same : t2.parts ≡ t0.parts
-    parts_same = same.parts ∙ ap (λ (t : ForestTables). t.parts) alike
-
-    root_same : t2.root ≡ t0.root
-    root_same = same.root ∙ ap (λ (t : ForestTables). t.root) alike
+    n_is = ap length nest_is.hand ∙ valid.vertices
 
     outermost_same : (x : ℕ) → f.label x ≢ Outside → IsOutermostIn t2 x
     outermost_same x named = (let w : IsOutermost g.n f x = valid.valid.outermost.named x named in
         (w.0, rw n_is w.1, ap (λ (y : Forest). y.out w.0) was ∙ w.2))
 
-    label_is : (x : ℕ) → (forest_of t2).label x ≡ cond (inside x) Outside (f.label x)
-    label_is x = ap (λ (y : Forest). y.label x) was ∙ writes_all f.label after top many Outside x
-
-    mate_is : (x : ℕ) → (forest_of t2).mate x ≡ cond (inside x) None (f.mate x)
-    mate_is x = ap (λ (y : Forest). y.mate x) was ∙ writes_all f.mate after top many None x
-
     spot_is : (k : ℕ) → walk (λ i. get_or t2.after i 0) top k ≡ walk after top k
     spot_is k = ap (λ (h : ℕ → ℕ). walk h top k) after_is
-
-    -- A number without parts has no weight.
-    no_weight : (x : ℕ) → length t2.hand ≤ x → get_or t2.parts x 0 ≡ 0 → f.weight x ≡ pos 0
-    no_weight x high none = valid.valid.nested.weightless x (rw n_is at high) (rw parts_same at none)
 
     -- The ring is free to be gathered.
     pub free_ring : IsFreeRing t2 top (many)
     free_ring = record {
       row = record {
         some = omega arith;
-        low = λ k l. rw (up_same, spot_is k) (spot_low k l);
+        low = λ k l. rw (nest_is.up, spot_is k) (spot_low k l);
         distinct = λ i j lij lj e. ring_is.distinct i j lij lj (sym (spot_is i) ∙ (e ∙ spot_is j));
       };
       two = omega (arith, three_many);
       tops = λ k l. rw (spot_is k) (outermost_same (walk after top k) (walk_named k l));
-      outside = λ k l. ap (label_at t2.label) (spot_is k) ∙ (label_is (walk after top k)
-          ∙ cond-true _ _ _ (listed_at after top many k l));
-      weightless = λ x high none. ap (λ (y : Forest). y.weight x) was ∙ no_weight x high none;
-      room = rw (hand_same, parts_same, up_same) room_is;
-      root = λ r e. outermost_same r (outer_named (valid.valid.tree r (sym root_same ∙ e)).root_outer);
+      outside = λ k l. ap (label_at t2.label) (spot_is k) ∙ (ap (λ (y : Forest). y.label (walk after top k)) was
+          ∙ (writes_all f.label after top many Outside _ ∙ cond-true _ _ _ (listed_at after top many k l)));
+      weightless = λ x high none. ap (λ (y : Forest). y.weight x) was
+          ∙ valid.valid.nested.weightless x (rw n_is at high) (rw nest_is.parts at none);
+      room = rw (nest_is.hand, nest_is.parts, nest_is.up) room_is;
+      root = λ r e. outermost_same r (outer_named (valid.valid.tree r (sym nest_is.root ∙ e)).root_outer);
     }
 
     -- And what has come of it is one outer blossom, matched as the top was.
-    module _ (t5 : ForestTables) {mate : Option ℕ} (mate_was : mate ≡ f.mate top) (t3 : ForestTables)
-        {b : ℕ} (v : ℕ) (gathered : IsGathered (length t2.hand) (forest_of t2) (forest_of t3)
-        (listed (λ i. get_or t2.after i 0) top many) top many b) (v_is : (forest_of t3).out v ≡ b)
-        (done : forest_of t5 ≡ mated (labelled (forest_of t3) ((forest_of t3).out v) Outer) b mate)
-        (root : (r : ℕ) → t1.root ≡ Some r
-        → t5.root ≡ Some (cond (listed (λ i. get_or t2.after i 0) top many r) b r))
-        (hand : length t5.hand ≡ length t1.hand) where
-      marks : (x : ℕ) → listed (λ i. get_or t2.after i 0) top many x ≡ inside x
-      marks x = ap (λ (h : ℕ → ℕ). listed h top many x) after_is
+    module _ (t5 : ForestTables) {mate : Option ℕ} (mate_was : mate ≡ f.mate top) (t3 : ForestTables) {b : ℕ} (v : ℕ)
+        (gathered : IsGathered (length t2.hand) (forest_of t2) (forest_of t3) (listed (λ i. get_or t2.after i 0) top
+        many) top many b) (v_is : (forest_of t3).out v ≡ b) (done : forest_of t5 ≡ mated
+        (labelled (forest_of t3) ((forest_of t3).out v) Outer) b mate) (root : (r : ℕ) → t1.root ≡ Some r → t5.root
+        ≡ Some (cond (listed (λ i. get_or t2.after i 0) top many r) b r)) (hand : length t5.hand ≡ length t1.hand) where
+      now : forest_of t5 ≡ mated (labelled (forest_of t3) b Outer) b (f.mate top)
+      now = rw (v_is, mate_was) at done
 
-      now : forest_of t5 ≡ mated (labelled (forest_of t3) b Outer) b mate
-      now = done ∙ ap (λ x. mated (labelled (forest_of t3) x Outer) b mate) v_is
+      -- What was gathered, told of the forest before.
+      made : IsGathered g.n (left_alone (laid_ring d f start left right) top many) (forest_of t3) inside top many b
+      made = subst (λ (h : ℕ → ℕ). IsGathered g.n (left_alone (laid_ring d f start left right) top many) (forest_of t3)
+          (listed h top many) top many b) after_is (rw (was, n_is) at gathered)
 
-      after_now : (forest_of t5).nest.after ≡ after
-      after_now = ap (λ (y : Forest). y.nest.after) done ∙ (gathered.after ∙ after_is)
+      shrunk : IsShrunk g.n f (forest_of t5) inside top b top many
+      shrunk = rw now (record {
+        size = made.size;
+        holds_new = made.holds_new;
+        holds_old = made.holds_old;
+        out = made.out;
+        weight = λ x. ap (λ (h : ℕ → ℤ). h x) made.weight;
+        label = set_same (forest_of t3).label (λ y. cond (inside y) Outside (f.label y)) b Outer
+            (λ y ne. ap (λ (h : ℕ → Label). h y) made.label ∙ writes_all f.label after top many Outside y);
+        mate = set_same (forest_of t3).mate (λ y. cond (inside y) None (f.mate y)) b (f.mate top)
+            (λ y ne. ap (λ (h : ℕ → Option ℕ). h y) made.mate ∙ writes_all f.mate after top many None y);
+        link = λ x. ap (λ (h : ℕ → ℕ). h x) made.link;
+        up = made.up;
+        after = λ x off. ap (λ (h : ℕ → ℕ). h x) made.after ∙ after_off x off;
+        joint = λ x off. ap (λ (h : ℕ → ℕ). h x) made.joint ∙ joint_off x off;
+        head = made.head;
+        parts = made.parts;
+        rank = made.rank;
+        ranked = made.ranked;
+      })
 
-      joint_now : (forest_of t5).nest.joint ≡ joint
-      joint_now = ap (λ (y : Forest). y.nest.joint) done ∙ (gathered.joint ∙ ap (λ (y : Forest). y.nest.joint) was)
-
-      shrunk : IsShrunk g.n f (forest_of t5) inside top b top (many)
-      shrunk = record {
-        size = ap (λ (y : Forest). y.size) now ∙ (gathered.size ∙ ap (λ (y : Forest). y.size) was);
-        holds_new = λ u l. ap (λ (y : Forest). y.holds b u) now ∙ (gathered.holds_new u (low u l)
-            ∙ (marks ((forest_of t2).out u) ∙ ap (λ (y : Forest). inside (y.out u)) was));
-        holds_old = λ x u ne l. ap (λ (y : Forest). y.holds x u) now
-            ∙ (gathered.holds_old x u ne (low u l) ∙ ap (λ (y : Forest). y.holds x u) was);
-        out = λ u l. ap (λ (y : Forest). y.out u) now ∙ (gathered.out u (low u l)
-            ∙ (ap (λ (s : Bool). cond s b ((forest_of t2).out u)) (marks ((forest_of t2).out u))
-            ∙ ap (λ (y : Forest). cond (inside (y.out u)) b (y.out u)) was));
-        weight = λ x. ap (λ (y : Forest). y.weight x) now
-            ∙ (ap (λ (h : ℕ → ℤ). h x) gathered.weight ∙ ap (λ (y : Forest). y.weight x) was);
-        label = λ x. ap (λ (y : Forest). y.label x) now ∙ set_same (forest_of t3).label
-            (λ y. cond (inside y) Outside (f.label y)) b Outer
-            (λ y ne. ap (λ (h : ℕ → Label). h y) gathered.label ∙ label_is y) x;
-        mate = λ x. ap (λ (y : Forest). y.mate x) now
-            ∙ (ap (λ (m : Option ℕ). set_at (forest_of t3).mate b m x) mate_was ∙ set_same (forest_of t3).mate
-            (λ y. cond (inside y) None (f.mate y)) b (f.mate top)
-            (λ y ne. ap (λ (h : ℕ → Option ℕ). h y) gathered.mate ∙ mate_is y) x);
-        link = λ x. ap (λ (y : Forest). y.link x) now
-            ∙ (ap (λ (h : ℕ → ℕ). h x) gathered.link ∙ ap (λ (y : Forest). y.link x) was);
-        up = λ x. ap (λ (y : Forest). y.nest.up x) now ∙ (gathered.up x ∙ set_same
-            (λ y. cond (listed (λ i. get_or t2.after i 0) top many y) b ((forest_of t2).nest.up y))
-            (λ y. cond (inside y) b (f.nest.up y)) b b
-            (λ y ne. ap (λ (s : Bool). cond s b ((forest_of t2).nest.up y)) (marks y)
-            ∙ ap (λ (z : Forest). cond (inside y) b (z.nest.up y)) was) x);
-        after = λ x off. ap (λ (h : ℕ → ℕ). h x) after_now ∙ after_off x off;
-        joint = λ x off. ap (λ (h : ℕ → ℕ). h x) joint_now ∙ joint_off x off;
-        head = λ x. ap (λ (y : Forest). y.nest.head x) now
-            ∙ (gathered.head x ∙ ap (λ (y : Forest). set_at y.nest.head b top x) was);
-        parts = λ x. ap (λ (y : Forest). y.nest.parts x) now
-            ∙ (gathered.parts x ∙ ap (λ (y : Forest). set_at y.nest.parts b many x) was);
-        rank = λ x ne. ap (λ (y : Forest). y.nest.rank x) now
-            ∙ (gathered.rank x ne ∙ ap (λ (y : Forest). y.nest.rank x) was);
-        ranked = λ x on. omega (
-          arith,
-          ap (λ (y : Forest). y.nest.rank b) now,
-          ap (λ (y : Forest). y.nest.rank x) was,
-          gathered.ranked x (marks x ∙ on),
-        );
-      }
-        where
-          low : (u : ℕ) → u < g.n → u < length t2.hand
-          low u l = rw n_is l
-
-      row_is : IsClosedRow d f (forest_of t5).nest.after (forest_of t5).nest.joint inside top (many)
-      row_is = rw (after_now, joint_now) ring_is
+      row_is : IsClosedRow d f (forest_of t5).nest.after (forest_of t5).nest.joint inside top many
+      row_is = rw (
+        ap (λ (y : Forest). y.nest.after) now ∙ made.after,
+        ap (λ (y : Forest). y.nest.joint) now ∙ made.joint,
+      ) ring_is
 
       unused : IsUnused g.n f b
       unused = record {
-        high = rw n_is at gathered.high;
-        low = rw (ap (λ (y : Forest). y.size) was) at gathered.low;
-        no_parts = rw parts_same at gathered.no_parts;
-        weightless = no_weight b gathered.high gathered.no_parts;
-        outside = outside_b;
-        unmatched = mate_b (f.mate b) refl;
-        alone = sym (up_old b) ∙ gathered.alone;
-        around_none = λ x ne e. gathered.around_none x ne (up_old x ∙ e);
-        no_out = no_out_b;
+        high = made.high;
+        low = made.low;
+        no_parts = made.no_parts;
+        weightless = valid.valid.nested.weightless b made.high made.no_parts;
+        outside = elim (label_cases (f.label b)) [
+          | inl e ↦ e
+          | inr named ↦ (let w = valid.valid.outermost.named b named in absurd (made.no_out w.0 w.1 w.2))
+        ];
+        unmatched = elim (option_cases (f.mate b)) [
+          | inl e ↦ e
+          | inr m ↦ (let pair = valid.valid.matched b m.0 m.1 in
+              absurd (made.no_out (d.near m.0) (are.near_low m.0 pair.tight.low) pair.here))
+        ];
+        alone = made.alone;
+        around_none = made.around_none;
+        no_out = made.no_out;
       }
-        where
-          up_old : (x : ℕ) → (forest_of t2).nest.up x ≡ f.nest.up x
-          up_old x = ap (λ (y : Forest). y.nest.up x) was
-
-          no_out_b : (u : ℕ) → u < g.n → f.out u ≢ b
-          no_out_b u l e = gathered.no_out u (rw n_is l) (ap (λ (y : Forest). y.out u) was ∙ e)
-
-          outside_b : f.label b ≡ Outside
-          outside_b = elim (label_cases (f.label b)) [
-            | inl e ↦ e
-            | inr named ↦ (let w : IsOutermost g.n f b = valid.valid.outermost.named b named in
-                absurd (no_out_b w.0 w.1 w.2))
-          ]
-
-          mate_b : (o : Option ℕ) → f.mate b ≡ o → f.mate b ≡ None
-          mate_b None e = e
-          mate_b (Some m) e = (let pair : IsMate d f b m = valid.valid.matched b m e in
-              absurd (no_out_b (d.near m) (are.near_low m pair.tight.low) pair.here))
 
       new_root : t5.root ≡ Some (cond (inside tree_is.0) b tree_is.0)
       new_root = root tree_is.0 (ap (λ (t : ForestTables). t.root) alike ∙ tree_is.1)
-          ∙ ap (λ (s : Bool). Some (cond s b tree_is.0)) (marks tree_is.0)
+          ∙ ap (λ (h : ℕ → ℕ). Some (cond (listed h top many tree_is.0) b tree_is.0)) after_is
 
       -- The cycle has become one blossom.
-      pub shrinking : IsShrinking d f (forest_of t5) t0.root t5.root start
+      shrinking : IsShrinking d f (forest_of t5) t0.root t5.root start
       shrinking = record {
         r = tree_is.0;
         old_root = tree_is.1;
@@ -425,7 +344,10 @@ module _ {g : WeightedGraph} {t0 : ForestTables} {start top left right : ℕ}
           marked k x l e = ap inside (sym (walk_at k (omega (arith, l)) ∙ e)) ∙ listed_at after top many k l
 
       -- And the forest is valid.
-      pub shrunk_tables : fixed_of t5 ≡ fixed_of t1 → IsValidFor g t5
-      shrunk_tables fixed = valid_as t5 valid (fixed ∙ ap fixed_of alike)
-          (hand ∙ ap (λ (t : ForestTables). length t.hand) alike)
-          (rw new_root (shrunk_valid are whole tree_is.2 cycle_is unused row_is shrunk))
+      pub shrunk_tables : fixed_of t5 ≡ fixed_of t1 → IsShrinking d f (forest_of t5) t0.root t5.root start
+          × IsValidFor g t5
+      shrunk_tables fixed = (
+        shrinking,
+        valid_as t5 valid (fixed ∙ ap fixed_of alike) (hand ∙ ap (λ (t : ForestTables). length t.hand) alike)
+            (rw new_root (shrunk_valid are whole tree_is.2 cycle_is unused row_is shrunk)),
+      )

@@ -6,19 +6,19 @@ use Rattle.std.proofs.Math.ListN.{set}
 use Rattle.std.proofs.lemmas.Bool.{cases_eq, cases_lt, cond-false, cond-true, le-ltb, lt-ltb, ne_eqb}
 use Rattle.std.proofs.lemmas.Bool.Decides.{nat_tests}
 use Rattle.std.proofs.lemmas.Option.{none-some}
-use Rattle.std.proofs.lemmas.List.{get_or_read, get_or_past}
+use Rattle.std.proofs.lemmas.List.{get_or_past}
 use Rattle.std.proofs.lemmas.List.Elements.{All-push, Contains-push, Contains-append_left}
 use Rattle.std.proofs.lemmas.List.Sums.{sum_by-cons}
 use Rattle.std.proofs.lemmas.List.Sorted.{sum_by-IsPermutation, All-permutation, Contains-permutation}
 use Rattle.std.proofs.lemmas.List.Sorted.{IsNonDecreasingBy-from_all_adjacent}
-use Rattle.std.specs.{List.Contains, List.Sorted.IsNonDecreasingBy, List.Sorted.IsPermutation, List.Sorted.IsSorted}
+use Rattle.std.specs.{List.Sorted.IsNonDecreasingBy, List.Sorted.IsPermutation, List.Sorted.IsSorted}
 use Rattle.std.specs.{Ordering.is_lt, Ordering.nat_cmp, Ordering.ordering_then}
 use Rattle.def_math.specs.Counts.{count, count_below}
 use Rattle.sum_laws.proofs.Counts.{count_append, count_below_none}
 use Rattle.def_forest.specs.{Forests.live_at, Tables.ForestTables}
 use Rattle.qm_forest.specs.Rounds.{AreInOrder, HasSets, IsEntry, IsRound, IsSized, WaitWithin, waiting, waits_but}
 use Rattle.qm_forest.specs.Rounds.{waits_for}
-use Rattle.qm_forest.proofs.Pairings.{count_more}
+use Rattle.qm_forest.proofs.{Orders.place_of, Pairings.count_more}
 
 -- Others that wait where one does not any more did before.
 pub taken_entries : (left : List (Option ℕ)) (c b w : ℕ) → c < length left → get_or (set left c None) b None ≡ Some w
@@ -41,12 +41,13 @@ taken {t} {left} c v low here round = record {
 }
   where
     less : (b : ℕ) → waiting t left b ≡ waiting t (set left c None) b + waits_but t b c v
-    less b = count_more (λ k. waits_for t b k (get_or (set left c None) k None))
-        (λ k. waits_for t b k (get_or left k None)) (length left) c low
-        (ap (waits_for t b c) (get_or-set_same left c None None low)) (λ k lk ne. ap (waits_for t b k)
-        (sym (get_or-set_other left c k None None ne))) ∙ (ap (λ m. m + waits_for t b c (get_or left c None))
-        (ap (count_below (λ k. waits_for t b k (get_or (set left c None) k None))) (sym (length-set left c None)))
-        ∙ ap (λ (o : Option ℕ). waiting t (set left c None) b + waits_for t b c o) here)
+    less b = cc (
+      count_more (λ k. waits_for t b k (get_or (set left c None) k None))
+          (λ k. waits_for t b k (get_or left k None)) (length left) c low (ap (waits_for t b c)
+          (get_or-set_same left c None None low)) (λ k lk ne. ap (waits_for t b k)
+          (sym (get_or-set_other left c k None None ne))),
+      length-set left c None,
+    )
 
 -- Pairs that are sorted have first parts that do not fall.
 pub firsts_rise : (xs : List (ℕ × ℕ)) → IsSorted (λ (x y : ℕ × ℕ). ordering_then (nat_cmp x.0 y.0) (nat_cmp x.1 y.1)) xs
@@ -80,38 +81,19 @@ pub wait_before : {t : ForestTables} {sets : List (ℕ × ℕ)} (left left2 : Li
     → ((b w : ℕ) → get_or left2 b None ≡ Some w → ((get_or left b None ≡ Some w) × (b ≢ c))
     ⊎ (get_or t.rank b 0 < get_or t.rank c 0)) → ((b w : ℕ) → get_or left2 b None ≡ Some w → (length t.hand ≤ b)
     × (b < length t.up) × (get_or t.parts b 0 ≢ 0)) → WaitWithin left2 sets k
-wait_before {t} {sets} left left2 k {c} order low at within entries lawful b w is = by_entry (entries b w is)
-  where
-    by_entry : ((get_or left b None ≡ Some w) × (b ≢ c)) ⊎ (get_or t.rank b 0 < get_or t.rank c 0) → (j : ℕ) × (j < k)
-        × (j < length sets) × ((get_or sets j (0, 0)).1 ≡ b)
-    by_entry (inl was) =
-        let p : (j : ℕ) × (j < suc k) × (j < length sets) × ((get_or sets j (0, 0)).1 ≡ b) = within b w was.0 in
-        elim (cases_eq p.0 k) [
-          | inl e ↦ absurd (was.1 (sym p.3 ∙ (ap (λ i. (get_or sets i (0, 0)).1) e ∙ at)))
-          | inr ne ↦ (p.0, omega (arith, p.1, ne), p.2, p.3)
-        ]
-    by_entry (inr less) = found (order.has.all b (lawful b w is).0 (lawful b w is).1 (lawful b w is).2)
-      where
-        rank_at : (j : ℕ) → j < length sets → (get_or sets j (0, 0)).0 ≡ get_or t.rank (get_or sets j (0, 0)).1 0
-        rank_at j l = (order.has.each j (0, 0) l).rank
-
-        found : Contains sets (get_or t.rank b 0, b) → (j : ℕ) × (j < k) × (j < length sets)
-            × ((get_or sets j (0, 0)).1 ≡ b)
-        found s = by_order (cases_lt s.0 k)
-          where
-            here : ◌≡◌ {A = ℕ × ℕ} (get_or sets s.0 (0, 0)) (get_or t.rank b 0, b)
-            here = sym (get_or_read sets s.0 (get_or t.rank b 0, b) s.1 (sym s.2) (0, 0))
-
-            by_order : (s.0 < k) ⊎ (k ≤ s.0) → (j : ℕ) × (j < k) × (j < length sets) × ((get_or sets j (0, 0)).1 ≡ b)
-            by_order (inl l) = (s.0, l, s.1, ap (λ (x : ℕ × ℕ). x.1) here)
-            by_order (inr h) =
-                absurd (omega (
-                  arith,
-                  order.increasing k s.0 (0, 0) h s.1,
-                  rank_at k low ∙ ap (λ z. get_or t.rank z 0) at,
-                  ap (λ (x : ℕ × ℕ). x.0) here,
-                  less,
-                ))
+wait_before {t} {sets} left left2 k {c} order low at within entries lawful b w is = elim (entries b w is) [
+  | inl was ↦ (let p = within b w was.0 in elim (cases_eq p.0 k) [
+    | inl e ↦ absurd (was.1 (sym p.3 ∙ (ap (λ i. (get_or sets i (0, 0)).1) e ∙ at)))
+    | inr ne ↦ (p.0, omega arith, p.2, p.3)
+  ])
+  | inr less ↦ (let s = place_of order b (lawful b w is).0 (lawful b w is).1 (lawful b w is).2 in
+      elim (cases_lt s.0 k) [
+        | inl l ↦ (s.0, l, s.1, s.2)
+        | inr h ↦ absurd (let rank_k = (order.has.each k (0, 0) low).rank ∙ ap (λ z. get_or t.rank z 0) at in
+            let rank_s = (order.has.each s.0 (0, 0) s.1).rank ∙ ap (λ z. get_or t.rank z 0) s.2 in
+            omega (arith, order.increasing k s.0 (0, 0) h s.1))
+      ])
+]
 
 -- What waits has an entry, so that its number is one.
 pub entry_low : (left : List (Option ℕ)) (c v : ℕ) → get_or left c None ≡ Some v → c < length left
@@ -123,17 +105,9 @@ entry_low left c v is = elim (cases_lt c (length left)) [
 pub wait_begins : {t : ForestTables} {sets : List (ℕ × ℕ)} (left : List (Option ℕ)) (many : ℕ) → AreInOrder t sets
     → many ≡ length sets → length left ≡ length t.up → ((c v : ℕ) → get_or left c None ≡ Some v → IsEntry t c v)
     → WaitWithin left sets many
-wait_begins {t} {sets} left many order all size lawful c v is =
-    found (order.has.all c (lawful c v is).high (rw size at (entry_low left c v is)) (lawful c v is).live)
-  where
-    found : Contains sets (get_or t.rank c 0, c) → (j : ℕ) × (j < many) × (j < length sets)
-        × ((get_or sets j (0, 0)).1 ≡ c)
-    found s = (
-      s.0,
-      omega (arith, s.1, all),
-      s.1,
-      ap (λ (x : ℕ × ℕ). x.1) (sym (get_or_read sets s.0 (get_or t.rank c 0, c) s.1 (sym s.2) (0, 0))),
-    )
+wait_begins left many order all size lawful c v is =
+    let w = place_of order c (lawful c v is).high (rw size at (entry_low left c v is)) (lawful c v is).live in
+    (w.0, omega arith, w.1, w.2)
 
 -- One number more is that of a set in use, or not.
 pub sets_more : {t : ForestTables} {b : ℕ} {xs : List (ℕ × ℕ)} → length t.hand ≤ b → get_or t.parts b 0 ≢ 0
@@ -145,38 +119,32 @@ sets_more {t} {b} {xs} high live has = record {
     low = omega (arith, (has.each k d l).low);
     live = (has.each k d l).live;
   }) (record { rank = refl; high = high; low = omega arith; live = live });
-  all = λ c hc lc used. by_place c hc lc used (cases_eq c b);
+  all = λ c hc lc used. elim (cases_eq c b) [
+    | inl e ↦ rw e (Contains-push xs (get_or t.rank b 0, b))
+    | inr ne ↦ Contains-append_left xs ((get_or t.rank b 0, b) ∷ []) (get_or t.rank c 0, c)
+        (has.all c hc (omega (arith, lc, ne)) used)
+  ];
   counts = λ f. (
-      let last : count (λ (set : ℕ × ℕ). f set.1) (xs ++ (get_or t.rank b 0, b) ∷ [])
-      ≡ count (λ (set : ℕ × ℕ). f set.1) xs + (f b + 0) =
-      count_append (λ (set : ℕ × ℕ). f set.1) xs ((get_or t.rank b 0, b) ∷ []) in
+      let last : count (λ (set : ℕ × ℕ). f set.1) (xs ++ (get_or t.rank b 0, b) ∷ []) ≡ count (λ (set : ℕ × ℕ). f set.1)
+      xs + (f b + 0) = count_append (λ (set : ℕ × ℕ). f set.1) xs _ in
       let here : live_at (length t.hand) (λ k. get_or t.parts k 0) b * f b ≡ 1 * f b = ap (λ (m : ℕ). m * f b)
       (cond-false _ _ _ (le-ltb b (length t.hand) high) ∙ cond-false _ _ _ (ne_eqb (get_or t.parts b 0) 0 live)) in
-      let up : count_below (λ c. live_at (length t.hand) (λ k. get_or t.parts k 0) c * f c) (b + 1)
-      ≡ count_below (λ c. live_at (length t.hand) (λ k. get_or t.parts k 0) c * f c) (suc b) =
-      (let o : b + 1 ≡ suc b = omega arith in
+      let up : count_below (λ c. live_at (length t.hand) (λ k. get_or t.parts k 0) c * f c) (b + 1) ≡ count_below
+      (λ c. live_at (length t.hand) (λ k. get_or t.parts k 0) c * f c) (suc b) = (let o : b + 1 ≡ suc b = omega arith in
       ap (count_below (λ c. live_at (length t.hand) (λ k. get_or t.parts k 0) c * f c)) o) in
-      omega (arith, last, here, up, has.counts f));
+      omega (arith, has.counts f));
 }
-  where
-    by_place : (c : ℕ) → length t.hand ≤ c → c < b + 1 → get_or t.parts c 0 ≢ 0 → (c ≡ b) ⊎ (c ≢ b)
-        → Contains (xs ++ (get_or t.rank b 0, b) ∷ []) (get_or t.rank c 0, c)
-    by_place c hc lc used (inl e) = rw e (Contains-push xs (get_or t.rank b 0, b))
-    by_place c hc lc used (inr ne) = Contains-append_left xs ((get_or t.rank b 0, b) ∷ []) (
-      get_or t.rank c 0,
-      c,
-    ) (has.all c hc (omega (arith, lc, ne)) used)
 
 -- No set below the vertices' number is one.
 pub sets_none : (t : ForestTables) (xs : List (ℕ × ℕ)) → length xs ≡ 0 → HasSets t (length t.hand) xs
 sets_none t xs none = record {
-  each = λ k d l. absurd (omega (arith, l, none));
-  all = λ b high low live. absurd (omega (arith, high, low));
+  each = λ k d l. absurd (omega arith);
+  all = λ b high low live. absurd (omega arith);
   counts = λ f. none_in f xs none ∙ sym (count_below_none (λ b. live_at (length t.hand) (λ k. get_or t.parts k 0) b * f
-      b) (length t.hand) (λ b l. (let z : live_at (length t.hand) (λ k. get_or t.parts k 0) b * f b
-      ≡ 0 * f b = ap (λ (m : ℕ). m * f b) (cond-true _ _ _ (lt-ltb b (length t.hand) l)) in omega (arith, z))));
+      b) _ (λ b l. (let z : live_at (length t.hand) (λ k. get_or t.parts k 0) b * f b
+      ≡ 0 * f b = ap (λ (m : ℕ). m * f b) (cond-true _ _ _ (lt-ltb b (length t.hand) l)) in omega arith)));
 }
   where
     none_in : (f : ℕ → ℕ) (ys : List (ℕ × ℕ)) → length ys ≡ 0 → count (λ (set : ℕ × ℕ). f set.1) ys ≡ 0
     none_in f [] e = refl
-    none_in f (y ∷ ys) e = absurd (omega (arith, e))
+    none_in f (y ∷ ys) e = absurd (omega arith)

@@ -1,10 +1,11 @@
 -- Blossoms within each other: climbing from one, one comes past the other.
-use Rattle.std.proofs.Common.{◌≡◌, ◌≢◌, ℕ, zero, suc, ◌+◌, ◌-◌, ◌<◌, ◌≤◌, Bool, true, false, not, cond, eqb, ◌||◌, ◌⊎◌}
+use Rattle.std.proofs.Common.{◌≡◌, ◌≢◌, ℕ, zero, suc, ◌+◌, ◌-◌, ◌<◌, ◌≤◌, Bool, true, false, not, cond, eqb, ◌⊎◌}
 use Rattle.std.proofs.Common.{refl, sym, ◌∙◌, ap, inl, inr, arith}
 use Rattle.std.proofs.lemmas.Bool.{cases_eq, cases_lt, cases_Bool, eq-eqb, false_from_ne_true, or_left, or_right}
+use Rattle.sum_laws.proofs.Tests.{same_test}
 use Rattle.def_forest.specs.{Forests.bool_number, Forests.walk, Forests.ring_sum, Tables.climbs}
 use Rattle.forest_laws.proofs.{Circles.IsCircle, Walks.walk_fixed, Walks.walk_front, Walks.walk_sum, Writes.true_false}
-use Rattle.qm_forest.proofs.Nests.{climbs_place}
+use Rattle.qm_forest.proofs.{Apart.none_either, Nests.climbs_place}
 
 -- A sum along a ring: without its front, of nothing, and of one place alone.
 pub ring_front : (next f : ℕ → ℕ) (from k : ℕ) → ring_sum next f from (suc k) ≡ f from + ring_sum next f (next from) k
@@ -14,26 +15,21 @@ ring_front next f from (suc k) = omega (arith, ring_front next f from k, ap f (w
 pub ring_none : (next f : ℕ → ℕ) (from k : ℕ) → ((j : ℕ) → j < k → f (walk next from j) ≡ 0) → ring_sum next f from k
     ≡ 0
 ring_none next f from zero none = refl
-ring_none next f from (suc k) none = omega (
-  arith,
-  ring_none next f from k (λ j l. none j (omega (arith, l))),
-  none k (omega arith),
-)
+ring_none next f from (suc k) none =
+    let rest = ring_none next f from k (λ j l. none j (omega arith)) in
+    omega (arith, none k (omega arith))
 
 pub ring_one : (next f : ℕ → ℕ) (from k j : ℕ) → j < k → f (walk next from j) ≡ 1
     → ((i : ℕ) → i < k → i ≢ j → f (walk next from i) ≡ 0) → ring_sum next f from k ≡ 1
-ring_one next f from zero j l one others = absurd (omega (arith, l))
+ring_one next f from zero j l one others = absurd (omega arith)
 ring_one next f from (suc k) j l one others =
-    by_last (cases_eq j k) (λ lj. ring_one next f from k j lj one (λ i li ne. others i (omega (arith, li)) ne))
-  where
-    by_last : (j ≡ k) ⊎ (j ≢ k) → (j < k → ring_sum next f from k ≡ 1) → ring_sum next f from k + f (walk next from k)
-        ≡ 1
-    by_last (inl e) more = omega (
-      arith,
-      ap (λ i. f (walk next from i)) (sym e) ∙ one,
-      ring_none next f from k (λ i li. others i (omega (arith, li)) (λ s. absurd (omega (arith, li, s, e)))),
-    )
-    by_last (inr ne) more = omega (arith, more (omega (arith, l, ne)), others k (omega arith) (λ s. ne (sym s)))
+    let more : j < k → ring_sum next f from k ≡ 1 =
+    λ lj. ring_one next f from k j lj one (λ i li ne. others i (omega arith) ne) in
+    elim (cases_eq j k) [
+      | inl e ↦ (let rest = ring_none next f from k (λ i li. others i (omega arith) (λ s. absurd (omega arith))) in
+          omega (arith, ap (λ i. f (walk next from i)) (sym e) ∙ one))
+      | inr ne ↦ omega (arith, more (omega arith), others k (omega arith) (λ s. ne (sym s)))
+    ]
 
 -- The way out rises in rank.
 pub record IsRising (n : ℕ) (up rank : ℕ → ℕ) : Type 0 where
@@ -52,36 +48,26 @@ module _ {n : ℕ} {up rank : ℕ → ℕ} (rising : IsRising n up rank) where
     | inr ne ↦ omega (arith, rank_walk x k, rises (walk up x k) ne)
   ]
 
+  here : (k : ℕ) {c from : ℕ} → from ≡ c → climbs up k c from ≡ true
+  here zero {c} {from} e = eq-eqb from c e
+  here (suc k) {c} {from} e = or_left (eqb from c) (climbs up k c (up from)) (eq-eqb from c e)
+
   -- What one comes to one comes past, if there are steps enough.
   reach : (k : ℕ) {c : ℕ} (from j : ℕ) → walk up from j ≡ c → rank c ≤ rank from + k → climbs up k c from ≡ true
-  reach zero {c} from j e low = by_eq (cases_eq from c) (cases_eq (up from) from)
-    where
-      by_eq : (from ≡ c) ⊎ (from ≢ c) → (up from ≡ from) ⊎ (up from ≢ from) → climbs up zero c from ≡ true
-      by_eq (inl s) x = eq-eqb from c s
-      by_eq (inr ne) (inl stays) = absurd (ne (sym (walk_fixed up j stays) ∙ e))
-      by_eq (inr ne) (inr goes) = by_steps j e
-        where
-          by_steps : (i : ℕ) → walk up from i ≡ c → climbs up zero c from ≡ true
-          by_steps zero s = absurd (ne s)
-          by_steps (suc i) s =
-              let there : walk up (up from) i ≡ c = sym (walk_front up from i) ∙ s in
-              absurd (omega (arith, rises from goes, rank_walk (up from) i, ap rank there, low))
-  reach (suc k) {c} from j e low = by_eq (cases_eq from c) (cases_eq (up from) from) (λ i s l. reach k (up from) i s l)
-    where
-      by_eq : (from ≡ c) ⊎ (from ≢ c) → (up from ≡ from) ⊎ (up from ≢ from)
-          → ((i : ℕ) → walk up (up from) i ≡ c → rank c ≤ rank (up from) + k → climbs up k c (up from) ≡ true)
-          → (eqb from c || climbs up k c (up from)) ≡ true
-      by_eq (inl s) x more = or_left (eqb from c) (climbs up k c (up from)) (eq-eqb from c s)
-      by_eq (inr ne) (inl stays) more = absurd (ne (sym (walk_fixed up j stays) ∙ e))
-      by_eq (inr ne) (inr goes) more = by_steps j e
-        where
-          by_steps : (i : ℕ) → walk up from i ≡ c → (eqb from c || climbs up k c (up from)) ≡ true
-          by_steps zero s = absurd (ne s)
-          by_steps (suc i) s = (or_right (eqb from c) _ (more i (sym (walk_front up from i) ∙ s) (
-              omega (arith, rises from goes, low))))
+  reach k from zero e low = here k e
+  reach zero from (suc i) e low = elim (cases_eq (up from) from) [
+    | inl stays ↦ here zero (sym (walk_fixed up (suc i) stays) ∙ e)
+    | inr goes ↦ absurd (let same = ap rank (sym (walk_front up from i) ∙ e) in
+        omega (arith, low, rises from goes, rank_walk (up from) i))
+  ]
+  reach (suc k) {c} from (suc i) e low = elim (cases_eq (up from) from) [
+    | inl stays ↦ here (suc k) (sym (walk_fixed up (suc i) stays) ∙ e)
+    | inr goes ↦ or_right (eqb from c) (climbs up k c (up from)) (reach k (up from) i (sym (walk_front up from i) ∙ e)
+        (omega (arith, low, rises from goes)))
+  ]
 
   pub in_where : (b : ℕ) {c : ℕ} (j : ℕ) → rank c ≤ n → walk up b j ≡ c → in_it b c ≡ true
-  in_where b j low e = reach n b j e (omega (arith, low))
+  in_where b j low e = reach n b j e (omega arith)
 
   pub where_in : (b c : ℕ) → in_it b c ≡ true → (j : ℕ) × (walk up b j ≡ c)
   where_in b c on = climbs_place up n c b on
@@ -89,34 +75,34 @@ module _ {n : ℕ} {up rank : ℕ → ℕ} (rising : IsRising n up rank) where
   -- Of two blossoms on one way one lies within the other.
   pub in_line : (w : ℕ) {a b : ℕ} (i j : ℕ) → walk up w i ≡ a → walk up w j ≡ b → ((m : ℕ) × (walk up a m ≡ b))
       ⊎ ((m : ℕ) × (walk up b m ≡ a))
-  in_line w {a} {b} i j ea eb = by_order (cases_lt i j)
-    where
-      by_order : (i < j) ⊎ (j ≤ i) → ((m : ℕ) × (walk up a m ≡ b)) ⊎ ((m : ℕ) × (walk up b m ≡ a))
-      by_order (inl l) = inl (
-        j - i,
-        ap (λ x. walk up x (j - i)) (sym ea)
-            ∙ (sym (walk_sum up w i (j - i)) ∙ ((let s : i + (j - i) ≡ j = omega (arith, l) in ap (walk up w) s) ∙ eb)),
-      )
-      by_order (inr h) = inr (
-        i - j,
-        ap (λ x. walk up x (i - j)) (sym eb)
-            ∙ (sym (walk_sum up w j (i - j)) ∙ ((let s : j + (i - j) ≡ i = omega (arith, h) in ap (walk up w) s) ∙ ea)),
-      )
+  in_line w {a} {b} i j ea eb =
+      elim (cases_lt i j) [
+        | inl l ↦ inl (
+          j - i,
+          ap (λ x. walk up x (j - i)) (sym ea) ∙
+              (sym (walk_sum up w i (j - i)) ∙ ((let s : i + (j - i) ≡ j = omega arith in ap (walk up w) s) ∙ eb)),
+        )
+        | inr h ↦ inr (
+          i - j,
+          ap (λ x. walk up x (i - j)) (sym eb) ∙
+              (sym (walk_sum up w j (i - j)) ∙ ((let s : j + (i - j) ≡ i = omega arith in ap (walk up w) s) ∙ ea)),
+        )
+      ]
 
   -- Two parts of a set are not within each other.
   pub parts_apart : (x : ℕ) {y q : ℕ} (m : ℕ) → up x ≡ q → up y ≡ q → y ≢ q → x ≢ y → walk up x m ≡ y → ⊥
   parts_apart x zero ex ey nq ne e = ne e
   parts_apart x {y} {q} (suc m) ex ey nq ne e =
-      let h : rank q ≤ rank (walk up q m) = rank_walk q m in
+      let h = rank_walk q m in
       let there : walk up q m ≡ y = ap (λ z. walk up z m) (sym ex) ∙ (sym (walk_front up x m) ∙ e) in
-      absurd (omega (arith, h, ap rank there, rises y (λ s. nq (sym s ∙ ey)), ap rank ey))
+      absurd (omega (arith, ap rank there, rises y (λ s. nq (sym s ∙ ey)), ap rank ey))
 
   -- Two parts have nothing in common.
   pub none_in_both : (w x y : ℕ) {q : ℕ} → up x ≡ q → up y ≡ q → x ≢ q → y ≢ q → x ≢ y → in_it w x ≡ true → in_it w y
       ≡ true → ⊥
   none_in_both w x y ex ey nx ny ne hx hy =
-      let wx : (j : ℕ) × (walk up w j ≡ x) = where_in w x hx in
-      let wy : (j : ℕ) × (walk up w j ≡ y) = where_in w y hy in
+      let wx = where_in w x hx in
+      let wy = where_in w y hy in
       elim (in_line w wx.0 wy.0 wx.1 wy.1) [
         | inl m ↦ parts_apart x m.0 ex ey ny ne m.1
         | inr m ↦ parts_apart y m.0 ey ex nx (λ s. ne (sym s)) m.1
@@ -155,45 +141,36 @@ module _ {n : ℕ} {up rank : ℕ → ℕ} (rising : IsRising n up rank) where
     around_other : (u v x y b : ℕ) → up x ≡ q → up y ≡ q → rank x ≤ n → in_it u x ≡ true → in_it v y ≡ true
         → in_it b x ≡ false → rank b ≤ n → in_it u b ≡ true → in_it v b ≡ true
     around_other u v x y b ex ey low_x hu hv off low on =
-        let wx : (j : ℕ) × (walk up u j ≡ x) = where_in u x hu in
-        let wb : (j : ℕ) × (walk up u j ≡ b) = where_in u b on in
-        let wy : (j : ℕ) × (walk up v j ≡ y) = where_in v y hv in
+        let wx = where_in u x hu in
+        let wb = where_in u b on in
+        let wy = where_in v y hv in
         elim (in_line u wb.0 wx.0 wb.1 wx.1)
         [ inl m ↦ absurd (true_false (in_where b m.0 low_x m.1) off) | inr m ↦ beyond wy m.0 m.1 ]
       where
         beyond : (j : ℕ) × (walk up v j ≡ y) → (m : ℕ) → walk up x m ≡ b → in_it v b ≡ true
         beyond wy zero e = absurd (true_false (in_where b 0 low_x (sym e)) off)
-        beyond wy (suc m) e = in_where v (wy.0 + suc m) low (walk_sum up v wy.0 (suc m)
-            ∙ (ap (λ z. walk up z (suc m)) wy.1
-            ∙ (walk_front up y m ∙ (ap (λ z. walk up z m) (ey ∙ sym ex) ∙ (sym (walk_front up x m) ∙ e)))))
+        beyond wy (suc m) e = in_where v _ low (walk_sum up v wy.0 (suc m) ∙ (ap (λ z. walk up z (suc m))
+            wy.1 ∙ (walk_front up y m ∙ (ap (λ z. walk up z m) (ey ∙ sym ex) ∙ (sym (walk_front up x m) ∙ e)))))
 
     pub pair_law : (b : ℕ) → (in_it u b ≡ true → rank b ≤ n) → (in_it v b ≡ true → rank b ≤ n)
         → bool_number (cond (in_it u b) (not (in_it v b)) (in_it v b))
         + (cond (in_it b x) (cond (in_it u b) 0 1) 0 + cond (in_it b y) (cond (in_it v b) 0 1) 0)
         ≡ bool_number (in_it b x) + bool_number (in_it b y)
-    pair_law b low_u low_v = by_pair (in_it b x) (in_it b y) (in_it u b) (in_it v b) (λ on. (
+    pair_law b low_u low_v = by_pair _ _ _ _ (λ on. (
       false_from_ne_true (in_it b y) (λ o. none_in_both b x y ex ey nx ny ne on o),
       false_from_ne_true (in_it v b) (λ o. none_in_both v x y ex ey nx ny ne (through v b x low_x o on) hv),
     )) (λ on. (
       false_from_ne_true (in_it b x) (λ o. none_in_both b x y ex ey nx ny ne o on),
       false_from_ne_true (in_it u b) (λ o. none_in_both u x y ex ey nx ny ne hu (through u b y low_y o on)),
-    )) (λ ox oy. both ox oy (cases_Bool (in_it u b)) (cases_Bool (in_it v b)))
+    )) (λ ox oy. same_test _ _ (λ on. around_other u v x y b ex ey low_x hu hv ox (low_u on) on)
+        (λ on. around_other v u y x b ey ex low_y hv hu oy (low_v on) on))
       where
         through : (w b c : ℕ) → rank c ≤ n → in_it w b ≡ true → in_it b c ≡ true → in_it w c ≡ true
         through w b c low o on =
-            let first : (j : ℕ) × (walk up w j ≡ b) = where_in w b o in
-            let second : (j : ℕ) × (walk up b j ≡ c) = where_in b c on in
-            in_where w (first.0 + second.0) low (walk_sum up w first.0 second.0
+            let first = where_in w b o in
+            let second = where_in b c on in
+            in_where w _ low (walk_sum up w first.0 _
             ∙ (ap (λ z. walk up z second.0) first.1 ∙ second.1))
-
-        both : in_it b x ≡ false → in_it b y ≡ false → (in_it u b ≡ true) ⊎ (in_it u b ≡ false) → (in_it v b ≡ true)
-            ⊎ (in_it v b ≡ false) → in_it u b ≡ in_it v b
-        both ox oy (inl hu') (inl hv') = hu' ∙ sym hv'
-        both ox oy (inr fu) (inr fv) = fu ∙ sym fv
-        both ox oy (inl hu') (inr fv) =
-            absurd (true_false (around_other u v x y b ex ey low_x hu hv ox (low_u hu') hu') fv)
-        both ox oy (inr fu) (inl hv') =
-            absurd (true_false (around_other v u y x b ey ex low_y hv hu oy (low_v hv') hv') fu)
 
   -- From a part to its set: what waited there waits in the parts after it, or around the set.
   module _ {p : ℕ} (q v : ℕ) {c : ℕ} {many : ℕ} {after : ℕ → ℕ} {inside : ℕ → Bool}
@@ -203,29 +180,25 @@ module _ {n : ℕ} {up rank : ℕ → ℕ} (rising : IsRising n up rank) where
     abbrev pub rest_at : ℕ → ℕ → ℕ
     rest_at p b = cond (in_it b p) 0 (cond (in_it b c) (cond (in_it v b) 0 1) 0)
 
+    -- The parts after p, and how many of them hold a blossom.
+    abbrev nth : ℕ → ℕ
+    nth k = walk after (after p) k
+
+    abbrev others : ℕ → ℕ
+    others b = ring_sum after (λ r. bool_number (in_it b r)) (after p) (many - 1)
+
     p_part : (up p ≡ q) × (p ≢ q)
     p_part = part p (circle.marked 0)
 
-    at_part : (k : ℕ) → (up (walk after (after p) k) ≡ q) × (walk after (after p) k ≢ q)
+    at_part : (k : ℕ) → (up (nth k) ≡ q) × (nth k ≢ q)
     at_part k = rw (walk_front after p k) at (part (walk after p (suc k)) (circle.marked (suc k)))
 
-    at_other : (k : ℕ) → k < many - 1 → p ≢ walk after (after p) k
-    at_other k l e = circle.distinct 0 (suc k) (omega arith) (omega (arith, l)) (e ∙ sym (walk_front after p k))
-
     in_set : (b r : ℕ) → up r ≡ q → in_it b r ≡ true → in_it b q ≡ true
-    in_set b r er on = (let w : (i : ℕ) × (walk up b i ≡ r) = where_in b r on in
-        in_where b (suc w.0) low_q (ap up w.1 ∙ er))
+    in_set b r er on = let w = where_in b r on in in_where b (suc w.0) low_q (ap up w.1 ∙ er)
 
-    q_free : (r : ℕ) → up r ≡ q → r ≢ q → in_it q r ≡ false
-    q_free r er nr = false_from_ne_true (in_it q r) (λ on. at_rank (where_in q r on))
-      where
-        at_rank : (i : ℕ) × (walk up q i ≡ r) → ⊥
-        at_rank w = absurd (omega (arith, rank_walk q w.0, ap rank w.1, rises r (λ s. nr (sym s ∙ er)), ap rank er))
-
-    none_after : (b : ℕ) → ((k : ℕ) → k < many - 1 → in_it b (walk after (after p) k) ≡ false)
-        → ring_sum after (λ r. bool_number (in_it b r)) (after p) (many - 1) ≡ 0
+    none_after : (b : ℕ) → ((k : ℕ) → k < many - 1 → in_it b (nth k) ≡ true → ⊥) → others b ≡ 0
     none_after b off = ring_none after (λ r. bool_number (in_it b r)) (after p) (many - 1)
-        (λ k l. ap bool_number (off k l))
+        (λ k l. ap bool_number (false_from_ne_true (in_it b (nth k)) (off k l)))
 
     zero_in : (b x : ℕ) → in_it b x ≡ true → rest_at x b ≡ 0
     zero_in b x on = ap (λ (s : Bool). cond s 0 (cond (in_it b c) (cond (in_it v b) 0 1) 0)) on
@@ -233,85 +206,58 @@ module _ {n : ℕ} {up rank : ℕ → ℕ} (rising : IsRising n up rank) where
     out_of : (b x : ℕ) → in_it b x ≡ false → rest_at x b ≡ cond (in_it b c) (cond (in_it v b) 0 1) 0
     out_of b x off = ap (λ (s : Bool). cond s 0 (cond (in_it b c) (cond (in_it v b) 0 1) 0)) off
 
-    pub climb_law : (b : ℕ) → rest_at p b ≡ ring_sum after (λ r. bool_number (in_it b r)) (after p) (many - 1)
-        + rest_at q b
-    climb_law b = by_part (cases_Bool (in_it b p)) (cases_Bool (in_it b q)) (cases_eq b q)
-      where
-        v_in : in_it v q ≡ true
-        v_in = in_set v p p_part.0 hv
+    apart : (i k : ℕ) → i < many - 1 → k < many - 1 → i ≢ k → nth i ≢ nth k
+    apart i k li lk ne same =
+        let places : walk after p (suc i) ≡ walk after p (suc k) =
+        walk_front after p i ∙ (same ∙ sym (walk_front after p k)) in
+        elim (cases_lt i k) [
+          | inl lt ↦ circle.distinct (suc i) (suc k) (omega (arith, lt)) (omega (arith, lk)) places
+          | inr ge ↦ circle.distinct (suc k) (suc i) (omega (arith, ge, ne)) (omega (arith, li)) (sym places)
+        ]
 
-        around : (r : ℕ) × (up r ≡ q) × (r ≢ q) × (i : ℕ) × (walk up b i ≡ r) → in_it b p ≡ false → in_it b q ≡ true
-            → rest_at p b ≡ ring_sum after (λ r. bool_number (in_it b r)) (after p) (many - 1) + rest_at q b
-        around w off on = by_place (circle.all w.0 (parts w.0 w.1 w.2))
-          where
-            in_r : in_it b w.0 ≡ true
-            in_r = in_where b w.3 (low w.0 (parts w.0 w.1 w.2)) w.4
+    -- What lies in a part after p lies in no other.
+    one_after : (b : ℕ) {r : ℕ} → up r ≡ q → r ≢ q → in_it b r ≡ true → r ≢ p → (k : ℕ) → k < many → walk after p k ≡ r
+        → others b ≡ 1
+    one_after b er nr on np zero l e = absurd (np (sym e))
+    one_after b {r} er nr on np (suc k) l e =
+        let here : nth k ≡ r = sym (walk_front after p k) ∙ e in
+        ring_one after (λ x. bool_number (in_it b x)) (after p) (many - 1) k (omega (arith, l))
+        (ap (λ x. bool_number (in_it b x)) here ∙ ap bool_number on) (λ i li ni. ap bool_number
+        (false_from_ne_true (in_it b (nth i)) (λ o. none_in_both b (nth i) r (at_part i).0 er (at_part i).1 nr
+        (λ same. apart i k li (omega (arith, l)) ni (same ∙ sym here)) o on)))
 
-            other_p : w.0 ≢ p
-            other_p e = true_false (rw e at in_r) off
+    around : (b : ℕ) → (r : ℕ) × (up r ≡ q) × (r ≢ q) × (i : ℕ) × (walk up b i ≡ r) → in_it b p ≡ false
+        → in_it b q ≡ true → rest_at p b ≡ others b + rest_at q b
+    around b w off on =
+        let inside_r = parts w.0 w.1 w.2 in
+        let in_r = in_where b w.3 (low w.0 inside_r) w.4 in
+        let other_p : w.0 ≢ p = λ e. true_false (rw e at in_r) off in
+        let s = where_in b q on in
+        let in_c = in_where b (s.0 + j) low_c (walk_sum up b s.0 j ∙ (ap (λ x. walk up x j) s.1 ∙ hq)) in
+        let v_off = false_from_ne_true (in_it v b) (λ o. (let s = where_in v b o in none_in_both v w.0 p w.1 p_part.0
+        w.2 p_part.1 other_p (in_where v (s.0 + w.3) (low w.0 inside_r) (walk_sum up v s.0 w.3
+        ∙ (ap (λ x. walk up x w.3) s.1 ∙ w.4))) hv)) in
+        let left : rest_at p b ≡ 1 = out_of b p off ∙ (ap (λ (s : Bool). cond s (cond (in_it v b) 0 1) 0) in_c
+        ∙ ap (λ (s : Bool). cond s 0 1) v_off) in
+        let k = circle.all w.0 inside_r in
+        omega (arith, left, zero_in b q on, one_after b w.1 w.2 in_r other_p k.0 k.1 k.2)
 
-            in_c : in_it b c ≡ true
-            in_c = (let s : (i : ℕ) × (walk up b i ≡ q) = where_in b q on in
-                in_where b (s.0 + j) low_c (walk_sum up b s.0 j ∙ (ap (λ x. walk up x j) s.1 ∙ hq)))
-
-            v_off : in_it v b ≡ false
-            v_off = false_from_ne_true (in_it v b) (λ o. (let s : (i : ℕ) × (walk up v i ≡ b) = where_in v b o in
-                none_in_both v w.0 p w.1 p_part.0 w.2 p_part.1 other_p (in_where v (s.0 + w.3)
-                (low w.0 (parts w.0 w.1 w.2)) (walk_sum up v s.0 w.3 ∙ (ap (λ x. walk up x w.3) s.1 ∙ w.4))) hv))
-
-            one_left : rest_at p b ≡ 1
-            one_left = out_of b p off ∙ (ap (λ (s : Bool). cond s (cond (in_it v b) 0 1) 0) in_c
-                ∙ ap (λ (s : Bool). cond s 0 1) v_off)
-
-            by_place : (k : ℕ) × (k < many) × (walk after p k ≡ w.0)
-                → rest_at p b ≡ ring_sum after (λ r. bool_number (in_it b r)) (after p) (many - 1) + rest_at q b
-            by_place s = by_front s.0 s.1 s.2
-              where
-                by_front : (k : ℕ) → k < many → walk after p k ≡ w.0
-                    → rest_at p b ≡ ring_sum after (λ r. bool_number (in_it b r)) (after p) (many - 1) + rest_at q b
-                by_front zero l e = absurd (other_p (sym e))
-                by_front (suc k) l e =
-                    let here : walk after (after p) k ≡ w.0 = sym (walk_front after p k) ∙ e in
-                    let one : ring_sum after (λ r. bool_number (in_it b r)) (after p) (many - 1) ≡ 1 =
-                    ring_one after (λ r. bool_number (in_it b r)) (after p) (many - 1) k (omega (arith, l))
-                    (ap (λ x. bool_number (in_it b x)) here ∙ ap bool_number in_r)
-                    (λ i li ne. ap bool_number (false_from_ne_true (in_it b (walk after (after p) i))
-                    (λ o. none_in_both b (walk after (after p) i) w.0 (at_part i).0 w.1 (at_part i).1 w.2
-                    (λ same. apart i k li (omega (arith, l)) ne (same ∙ sym here)) o in_r))) in
-                    omega (arith, one_left, one, zero_in b q on)
-                  where
-                    apart : (i k : ℕ) → i < many - 1 → k < many - 1 → i ≢ k
-                        → walk after (after p) i ≢ walk after (after p) k
-                    apart i k li lk ne same = elim (cases_lt i k) [
-                      | inl lt ↦ circle.distinct (suc i) (suc k) (omega (arith, lt)) (omega (arith, lk))
-                          (walk_front after p i ∙ (same ∙ sym (walk_front after p k)))
-                      | inr ge ↦ circle.distinct (suc k) (suc i) (omega (arith, ge, ne)) (omega (arith, li))
-                          (walk_front after p k ∙ (sym same ∙ sym (walk_front after p i)))
-                    ]
-
-        by_part : (in_it b p ≡ true) ⊎ (in_it b p ≡ false) → (in_it b q ≡ true) ⊎ (in_it b q ≡ false) → (b ≡ q)
-            ⊎ (b ≢ q) → rest_at p b ≡ ring_sum after (λ r. bool_number (in_it b r)) (after p) (many - 1) + rest_at q b
-        by_part (inl on) y z =
-            let none : ring_sum after (λ r. bool_number (in_it b r)) (after p) (many - 1) ≡ 0 =
-            none_after b (λ k l. false_from_ne_true (in_it b (walk after (after p) k))
-            (λ o. none_in_both b p (walk after (after p) k) p_part.0 (at_part k).0 p_part.1 (at_part k).1
-            (at_other k l) on o)) in
-            omega (arith, zero_in b p on, none, zero_in b q (in_set b p p_part.0 on))
-        by_part (inr off) (inr free) z =
-            let none : ring_sum after (λ r. bool_number (in_it b r)) (after p) (many - 1) ≡ 0 =
-            none_after b (λ k l. false_from_ne_true (in_it b (walk after (after p) k))
-            (λ o. true_false (in_set b (walk after (after p) k) (at_part k).0 o) free)) in
-            omega (arith, none, out_of b p off, out_of b q free)
-        by_part (inr off) (inl on) (inl e) =
-            let none : ring_sum after (λ r. bool_number (in_it b r)) (after p) (many - 1) ≡ 0 =
-            none_after b (λ k l. ap (λ x. in_it x (walk after (after p) k)) e
-            ∙ q_free (walk after (after p) k) (at_part k).0 (at_part k).1) in
-            let held : in_it v b ≡ true = ap (in_it v) e ∙ v_in in
-            let left : rest_at p b ≡ 0 = out_of b p off ∙ (ap (λ (s : Bool). cond (in_it b c) (cond s 0 1) 0) held
-            ∙ nothing (in_it b c)) in
-            omega (arith, none, left, zero_in b q on)
-          where
-            nothing : (s : Bool) → ◌≡◌ {A = ℕ} (cond s 0 0) 0
-            nothing true = refl
-            nothing false = refl
-        by_part (inr off) (inl on) (inr ne) = around (in_part b (where_in b q on).0 (where_in b q on).1 ne) off on
+    pub climb_law : (b : ℕ) → rest_at p b ≡ others b + rest_at q b
+    climb_law b = elim (cases_Bool (in_it b p)) [
+      | inl on ↦ (let none = none_after b (λ k l. none_in_both b p (nth k) p_part.0 (at_part k).0 p_part.1 (at_part k).1
+          (λ e. circle.distinct 0 (suc k) (omega arith) (omega (arith, l)) (e ∙ sym (walk_front after p k))) on) in
+          omega (arith, zero_in b p on, zero_in b q (in_set b p p_part.0 on)))
+      | inr off ↦ elim (cases_Bool (in_it b q)) [
+        | inr free ↦ (let none = none_after b (λ k l o. true_false (in_set b (nth k) (at_part k).0 o) free) in
+            omega (arith, out_of b p off, out_of b q free))
+        | inl on ↦ elim (cases_eq b q) [
+          | inl e ↦ (let left : rest_at p b ≡ 0 = out_of b p off ∙ (ap (λ (s : Bool). cond (in_it b c) (cond s 0 1) 0)
+              (ap (in_it v) e ∙ in_set v p p_part.0 hv) ∙ none_either (in_it b c)) in
+              (let none = none_after b (λ k l o. (let w = where_in q (nth k) (rw e at o) in absurd
+              (let less = rises (nth k) (λ s. (at_part k).1 (sym s ∙ (at_part k).0)) in omega
+              (arith, rank_walk q w.0, ap rank w.1, ap rank (at_part k).0)))) in
+              omega (arith, left, zero_in b q on)))
+          | inr ne ↦ around b (in_part b (where_in b q on).0 (where_in b q on).1 ne) off on
+        ]
+      ]
+    ]

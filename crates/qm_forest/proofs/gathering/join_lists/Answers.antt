@@ -8,7 +8,7 @@ use Rattle.qm_forest.proofs.gathering.join_lists.Goals as goal
 -- What is read: the end of the list at hand, and the beginning and the length of the next one.
 end_is : (c : After-index-end) → c.index-end.result.now
     ≡ get_or c.args.lists.now.last.items (walk (λ k. get_or c.args.after.now k 0) c.args.front c.loop.counter) 0
-end_is c = entry_read c.loop.counter c.requires.lists.row (omega (arith, c.loop-test.true)) c.loop.invariant.here
+end_is c = entry_read _ c.requires.lists.row (omega (arith, c.loop-test.true)) c.loop.invariant.here
     (ap (λ o. o.items) c.loop.invariant.last) c.requires.lists.last c.index-end.ensures
 
 first_is : (c : After-index) → c.index.result.now
@@ -24,66 +24,51 @@ more_is c = entry_read (suc c.loop.counter) c.requires.lists.row (omega (arith, 
     c.requires.lists.rank c.index-in-loop.ensures
 
 pub index-end-requires : goal.index-end-requires
-index-end-requires c = omega (
-  arith,
-  entry_low c.loop.counter c.requires.lists.row (omega (arith, c.loop-test.true)) c.loop.invariant.here
-      (ap (λ o. o.items) c.loop.invariant.last) c.requires.lists.last,
-  c.loop.lists.last.ok.0,
-)
+index-end-requires c =
+    let low = entry_low c.loop.counter c.requires.lists.row (omega (arith, c.loop-test.true)) c.loop.invariant.here
+    (ap (λ o. o.items) c.loop.invariant.last) c.requires.lists.last in
+    omega arith
 
 pub index-requires : goal.index-requires
-index-requires c = omega (
-  arith,
-  entry_low (suc c.loop.counter) c.requires.lists.row (omega (arith, c.loop-test.true))
-      (ap (λ x. get_or c.args.after.now x 0) c.loop.invariant.here) (ap (λ o. o.items) c.loop.invariant.first)
-      c.requires.lists.first,
-  c.loop.lists.first.ok.0,
-)
+index-requires c =
+    let low = entry_low (suc c.loop.counter) c.requires.lists.row (omega (arith, c.loop-test.true))
+    (ap (λ x. get_or c.args.after.now x 0) c.loop.invariant.here) (ap (λ o. o.items) c.loop.invariant.first)
+    c.requires.lists.first in
+    omega arith
 
 pub index_mut-requires : goal.index_mut-requires
-index_mut-requires c = omega (
-  arith,
-  end_is (goal.at.index_mut-requires c).After-index-end,
-  c.requires.lists.ends c.loop.counter (omega (arith, c.loop-test.true)),
-  c.loop.invariant.size,
-  c.loop.lists.following.ok.0,
-)
+index_mut-requires c =
+    let ends = end_is (goal.at.index_mut-requires c).After-index-end in
+    omega (arith, c.requires.lists.ends c.loop.counter (omega (arith, c.loop-test.true)))
 
 pub index-requires-in-loop : goal.index-requires-in-loop
-index-requires-in-loop c = omega (
-  arith,
-  entry_low (suc c.loop.counter) c.requires.lists.row (omega (arith, c.loop-test.true))
-      (ap (λ x. get_or c.args.after.now x 0) c.loop.invariant.here) (ap (λ o. o.items) c.loop.invariant.rank)
-      c.requires.lists.rank,
-  c.loop.lists.rank.ok.0,
-)
+index-requires-in-loop c =
+    let low = entry_low (suc c.loop.counter) c.requires.lists.row (omega (arith, c.loop-test.true))
+    (ap (λ x. get_or c.args.after.now x 0) c.loop.invariant.here) (ap (λ o. o.items) c.loop.invariant.rank)
+    c.requires.lists.rank in
+    omega arith
 
 pub overflow_add-total : goal.overflow_add-total
-overflow_add-total c = omega (
-  arith,
-  c.loop.invariant.total,
-  more_is (goal.at.overflow_add-total c).After-index-in-loop,
-  ring_sum_below (λ k. get_or c.args.after.now k 0) (λ k. get_or c.args.lists.now.rank.items k 0) c.args.front
-      (suc (suc c.loop.counter)) c.args.many (omega (arith, c.loop-test.true)),
-  c.requires.lists.few,
-)
+overflow_add-total c =
+    let more = more_is (goal.at.overflow_add-total c).After-index-in-loop in
+    let below = ring_sum_below (λ k. get_or c.args.after.now k 0) (λ k. get_or c.args.lists.now.rank.items k 0)
+    c.args.front (suc (suc c.loop.counter)) c.args.many (omega (arith, c.loop-test.true)) in
+    omega arith
 
 pub loop-preserved : goal.loop-preserved
 loop-preserved c =
     let at = goal.at.loop-preserved c in
     let ends : get_or c.args.lists.now.last.items (walk (λ k. get_or c.args.after.now k 0) c.args.front c.loop.counter)
-    0 < length c.args.lists.now.following.items =
-    c.requires.lists.ends c.loop.counter (omega (arith, c.loop-test.true)) in
+    0 < length c.args.lists.now.following.items = c.requires.lists.ends _ (omega (arith, c.loop-test.true)) in
     let total : c.loop.total + c.index-in-loop.result.now ≡ ring_sum (λ k. get_or c.args.after.now k 0)
     (λ k. get_or c.args.lists.now.rank.items k 0) c.args.front (suc (suc c.loop.counter)) =
-    omega (arith, c.loop.invariant.total, more_is at.After-index-in-loop) in
+    omega (arith, more_is at.After-index-in-loop) in
     record {
       here = rw (add-one c.loop.counter, c.loop.invariant.here);
       total = rw (add-one c.loop.counter) total;
-      following = written_more c.loop.lists.following.items c.args.lists.now.following.items
-          (λ k. get_or c.args.lists.now.last.items (walk (λ k. get_or c.args.after.now k 0) c.args.front k) 0)
-          (λ k. get_or c.args.lists.now.first.items (walk (λ k. get_or c.args.after.now k 0) c.args.front (suc k)) 0)
-          c.loop.counter (omega (arith, end_is at.After-index-end, ends, c.loop.invariant.size))
+      following = written_more _ _ (λ k. get_or c.args.lists.now.last.items
+          (walk (λ k. get_or c.args.after.now k 0) c.args.front k) 0) (λ k. get_or c.args.lists.now.first.items
+          (walk (λ k. get_or c.args.after.now k 0) c.args.front (suc k)) 0) _ (omega (arith, end_is at.After-index-end))
           c.loop.invariant.following (end_is at.After-index-end) (first_is at.After-index) (add-one c.loop.counter);
       size = length-set c.loop.lists.following.items c.index-end.result.now c.index.result.now ∙ c.loop.invariant.size;
       first = c.loop.invariant.first;
@@ -95,15 +80,13 @@ loop-preserved c =
 pub returns : goal.returns
 returns c =
     let all : c.loop.counter ≡ c.args.many - 1 = omega (arith, c.loop-test.false, c.loop.auto.counter-end) in
-    let some : suc c.loop.counter ≡ c.args.many = omega (arith, all, c.requires.lists.row.some) in
+    let some : suc c.loop.counter ≡ c.args.many = omega arith in
     let front_is : c.index-2.result.now ≡ get_or c.args.lists.now.first.items c.args.front 0 =
     entry_read 0 c.requires.lists.row c.requires.lists.row.some refl (ap (λ o. o.items) c.loop.invariant.first)
     c.requires.lists.first c.index-2.ensures in
-    let last_is : c.index-3.result.now ≡ get_or c.args.lists.now.last.items
-    (walk (λ k. get_or c.args.after.now k 0) c.args.front (c.args.many - 1)) 0 =
-    entry_read (c.args.many - 1) c.requires.lists.row (omega (arith, c.requires.lists.row.some))
-    (rw (← all) c.loop.invariant.here) (ap (λ o. o.items) c.loop.invariant.last) c.requires.lists.last
-    c.index-3.ensures in
+    let last_is : c.index-3.result.now ≡ get_or c.args.lists.now.last.items (walk (λ k. get_or c.args.after.now k 0)
+    c.args.front (c.args.many - 1)) 0 = entry_read (c.args.many - 1) c.requires.lists.row (omega arith) (rw (← all)
+    c.loop.invariant.here) (ap (λ o. o.items) c.loop.invariant.last) c.requires.lists.last c.index-3.ensures in
     record {
       following = rw (← all) c.loop.invariant.following;
       size = c.loop.invariant.size;

@@ -21,13 +21,8 @@ read c l = get_or_read c.loop.handles.q.items c.loop.v _ (rw (c.loop.invariant.q
 pub overflow_add-index_mut : goal.overflow_add-index_mut
 overflow_add-index_mut c =
     let at = goal.at.overflow_add-index_mut c in
-    omega (
-      arith,
-      ints,
-      read at.After-index_mut-in-loop (omega (arith, c.loop-test.true, many_is at.After-index-end)),
-      c.requires.lists.small c.loop.v,
-      c.requires.more,
-    )
+    let was = read at.After-index_mut-in-loop (omega (arith, c.loop-test.true, many_is at.After-index-end)) in
+    omega (arith, ints, c.requires.lists.small c.loop.v, c.requires.more)
 
 pub loop-preserved : goal.loop-preserved
 loop-preserved c =
@@ -38,10 +33,10 @@ loop-preserved c =
     record {
       here = get_or_read c.args.lists.now.following.items c.loop.v _ (rw c.requires.lists.following low)
           c.index-v-in-loop.ensures 0 ∙ rw (add-one c.loop.counter, c.loop.invariant.here);
-      hand = next_written c.requires.lists l c.loop.invariant.here c.loop.handles.hand.items 0 (λ v. c.args.handle)
+      hand = next_written c.requires.lists l c.loop.invariant.here _ 0 (λ v. c.args.handle)
           (λ v. get_or c.args.handles.now.hand.items v 0) (rw c.loop.invariant.hands low) c.loop.invariant.hand
           (add-one c.loop.counter) refl;
-      q = next_written c.requires.lists l c.loop.invariant.here c.loop.handles.q.items (pos 0) _
+      q = next_written c.requires.lists l c.loop.invariant.here _ (pos 0) _
           (λ v. get_or c.args.handles.now.q.items v (pos 0)) (rw (c.loop.invariant.qs, c.requires.lists.q) low)
           c.loop.invariant.q (add-one c.loop.counter) (omega (
             arith,
@@ -58,19 +53,15 @@ loop-preserved c =
 
 pub returns : goal.returns
 returns c =
-    let all : c.loop.counter ≡ get_or c.args.lists.now.rank.items c.args.x 0 = omega (
-      arith,
-      c.loop-test.false,
-      c.loop.auto.counter-end,
-      many_is (goal.at.returns c).After-index-end,
-    ) in
+    let all : c.loop.counter ≡ get_or c.args.lists.now.rank.items c.args.x 0 =
+    (let many = many_is (goal.at.returns c).After-index-end in
+    omega (arith, c.loop-test.false, c.loop.auto.counter-end)) in
     record {
       hand = λ v. rw (← all) (c.loop.invariant.hand v);
-      q = λ v. rw (← all) (more_as (λ u. get_or c.loop.handles.q.items u (pos 0))
-          (λ u. listed (λ k. get_or c.args.lists.now.following.items k 0)
-          (get_or c.args.lists.now.first.items c.args.x 0) c.loop.counter u)
-          (λ u. get_or c.args.handles.now.q.items u (pos 0)) (kept_in_bits c.args.more c.requires.more)
-          c.loop.invariant.q v);
+      q = λ v. rw (← all) (more_as (λ u. get_or c.loop.handles.q.items u (pos 0)) (λ u. listed
+          (λ k. get_or c.args.lists.now.following.items k 0) (get_or c.args.lists.now.first.items c.args.x 0)
+          c.loop.counter u) (λ u. get_or c.args.handles.now.q.items u (pos 0))
+          (kept_in_bits c.args.more c.requires.more) c.loop.invariant.q v);
       hands = c.loop.invariant.hands;
       qs = c.loop.invariant.qs;
       top = c.loop.invariant.top;

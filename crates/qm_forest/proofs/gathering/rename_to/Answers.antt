@@ -21,5 +21,4 @@ returns-then-x-big c =
     ))
 
 pub returns-else-x-big : goal.returns-else-x-big
-returns-else-x-big c = kept_handle c.args.handles.now c.args.lists.now c.if-x-big.false
-    (c.requires.leaders.same c.if-x-big.false)
+returns-else-x-big c = kept_handle _ _ c.if-x-big.false (c.requires.leaders.same c.if-x-big.false)

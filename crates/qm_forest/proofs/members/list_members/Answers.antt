@@ -10,14 +10,13 @@ loop-preserved c =
     get_or_read c.args.lists.now.rank.items c.args.x _ c.requires.lists.rank c.index-end.ensures 0 in
     let low : c.loop.v < length c.args.lists.now.following.items =
     subst (λ v. v < length c.args.lists.now.following.items) (sym c.loop.invariant.here)
-    (c.requires.lists.low c.loop.counter (omega (arith, c.loop-test.true, end))) in
+    (c.requires.lists.low _ (omega (arith, c.loop-test.true))) in
     let pushed : c.push.new.self.items ≡ c.loop.list.items ++ c.loop.v ∷ [] = grind (arith, common_steps) in
     record {
       here = get_or_read c.args.lists.now.following.items c.loop.v _ low c.index-v-in-loop.ensures 0
           ∙ rw (add-one c.loop.counter, c.loop.invariant.here);
       count = ap length pushed ∙ (length_push c.loop.list.items c.loop.v
-          ∙ (let e : length c.loop.list.items + 1 ≡ c.loop.counter + 1 = omega (arith, c.loop.invariant.count) in e));
-      each = copied_more c.loop.list.items _ _ pushed c.loop.invariant.count
-          c.loop.invariant.here c.loop.invariant.each;
-      room = omega (arith, c.push.ensures.capacity, c.loop.invariant.room);
+          ∙ (let e : length c.loop.list.items + 1 ≡ c.loop.counter + 1 = omega arith in e));
+      each = copied_more _ _ _ pushed c.loop.invariant.count c.loop.invariant.here c.loop.invariant.each;
+      room = omega arith;
     }

@@ -10,5 +10,5 @@ loop-e-preserved c =
     c.requires.costs c.loop-e.e (omega (arith, c.loop-e-test.true, c.edge_count-e-end.ensures.value)) in
     let cost : c.edge.result.cost ≡ (edge_at c.args.g.now.graph c.loop-e.e).cost =
     ap (λ (x : WEdge). x.cost) c.edge.ensures.value in
-    one_more_cost c.unsigned_abs.result
+    one_more_cost _
     (omega (arith, ints, c.unsigned_abs.ensures.value, cost, bound)) c.greater_of-most.ensures c.loop-e.invariant

@@ -56,7 +56,7 @@ invariant_of-result c = fresh_tied _ _ _ _ _ (fresh (goal.at.invariant_of-result
 
 pub returns-clause-valid : goal.returns-clause-valid
 returns-clause-valid c = fresh_valid _ _ _ _ _ (fresh (goal.at.returns-clause-valid c).After-new _)
-    c.args.g.now.graph c.args.g.now.small.lawful c.n-n.ensures.value c.requires.weights
+    _ c.args.g.now.small.lawful c.n-n.ensures.value c.requires.weights
     (subst (λ xs. AreStarts c.args.g.now.graph (2 * length c.args.g.now.graph.edges) xs)
     (sym c.in_ok-no_tree.ensures.near) c.in_ok-near.ensures) (ap (λ (z : GraphSize). Some z) (c.in_ok-new.ensures
     ∙ (ap (λ (m : ℕ). record { vertices = c.n-n.result; edges = m }) c.edge_count.ensures.value

@@ -5,6 +5,5 @@ use Rattle.qm_forest.proofs.forest.Forest.above.Goals as goal
 pub far_blossom-requires : goal.far_blossom-requires
 far_blossom-requires c = record {
   vertices = c.requires.valid.vertices;
-  dart = rise_low c.args.g.now.small c.requires.valid c.args.b c.requires.named c.in-Some.d
-      (sym c.rise.ensures.value ∙ c.in-Some.is);
+  dart = rise_low c.args.g.now.small c.requires.valid _ c.requires.named _ (sym c.rise.ensures.value ∙ c.in-Some.is);
 }

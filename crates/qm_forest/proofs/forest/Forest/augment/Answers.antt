@@ -17,9 +17,8 @@ done : (c : After-end_search) → Reaches (darts_of c.args.g.now.graph) (forest_
     × IsAugmented (darts_of c.args.g.now.graph) (forest_of c.args.self.now) (forest_of c.end_search.new.self) r
     c.outer_dart-start.result) × IsValidFor c.args.g.now.graph c.end_search.new.self
 done c reaches = augmented c.rematch.new.self c.end_search.new.self c.args.g.now.small c.requires.valid reaches
-    c.rematch.ensures.done c.rematch.ensures.seen c.end_search.ensures.seen
-    (c.end_search.ensures.hand ∙ c.rematch.ensures.same.hand) c.end_search.ensures.root
-    (c.end_search.ensures.fixed ∙ c.rematch.ensures.same.fixed)
+    c.rematch.ensures.done c.rematch.ensures.seen c.end_search.ensures.seen (c.end_search.ensures.hand
+    ∙ c.rematch.ensures.same.hand) c.end_search.ensures.root (c.end_search.ensures.fixed ∙ c.rematch.ensures.same.fixed)
 
 pub rematch-requires : goal.rematch-requires
 rematch-requires c =

@@ -9,7 +9,7 @@ match_waiting-requires-clause-begun c =
 pub returns-clause-chosen : goal.returns-clause-chosen
 returns-clause-chosen c =
     let same : length c.match_mates.new.round.marks.items ≡ length c.match_waiting.new.round.marks.items =
-    omega (arith, c.match_mates.ensures.room.marks, c.match_waiting.ensures.room.marks) in
+    omega arith in
     record {
       room = c.match_waiting.ensures.room;
       done = rw (← same) (c.match_waiting.ensures.done _ _ c.match_mates.ensures.done);

@@ -34,8 +34,7 @@ opened c = record {
 }
 
 pub mate_dart-mate-requires : goal.mate_dart-mate-requires
-mate_dart-mate-requires c =
-    matched (ready (goal.at.mate_dart-mate-requires c).After-parts-many)
+mate_dart-mate-requires c = matched (ready (goal.at.mate_dart-mate-requires c).After-parts-many)
 
 pub open-requires-clause-partable : goal.open-requires-clause-partable
 open-requires-clause-partable c = partable (ready (goal.at.open-requires-clause-partable c).After-parts-many)
@@ -61,8 +60,7 @@ pub match_parts-requires-clause-low : goal.match_parts-requires-clause-low
 match_parts-requires-clause-low c = places_low (opened (goal.at.match_parts-requires-clause-low c).After-outermost-last)
 
 pub course-course-requires : goal.course-course-requires
-course-course-requires c =
-    reached3 (opened (goal.at.course-course-requires c).After-outermost-last)
+course-course-requires c = reached3 (opened (goal.at.course-course-requires c).After-outermost-last)
     c.match_parts.ensures.seen c.match_parts.ensures.same
 
 pub hang_parts-requires : goal.hang_parts-requires

@@ -4,9 +4,9 @@ use Rattle.qm_forest.proofs.OnWays.{twin_dart}
 use Rattle.qm_forest.proofs.forest.Forest.far_blossom.Goals as goal
 
 pub near-requires : goal.near-requires
-near-requires c = twin_dart c.args.g.now.small c.args.d c.requires.dart c.twin.ensures
+near-requires c = twin_dart c.args.g.now.small _ c.requires.dart c.twin.ensures
 
 pub outermost-requires : goal.outermost-requires
 outermost-requires c = subst (λ n. c.near.result < n) (sym c.requires.vertices)
     (subst (λ v. v < c.args.g.now.graph.n) (sym c.near.ensures) ((are_darts c.args.g.now.small.lawful).near_low
-    c.twin.result (twin_dart c.args.g.now.small c.args.d c.requires.dart c.twin.ensures)))
+    c.twin.result (twin_dart c.args.g.now.small _ c.requires.dart c.twin.ensures)))

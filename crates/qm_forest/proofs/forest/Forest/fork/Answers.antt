@@ -15,34 +15,30 @@ gone_on c = both_turn c.args.g.now.small c.requires.valid c.requires.first c.req
 pub above-x-requires : goal.above-x-requires
 above-x-requires c = record {
   valid = c.requires.valid;
-  named = climb_named c.args.g.now.small c.requires.valid c.args.a c.args.c c.requires.first c.loop-x.invariant;
+  named = climb_named c.args.g.now.small c.requires.valid _ _ c.requires.first c.loop-x.invariant;
   below = both_rises c.args.g.now.small c.requires.valid c.requires.first c.requires.second
       c.meeting-high.ensures.both c.loop-x.invariant c.loop-x-test.true (omega (arith, c.if-high-left.false));
 }
 
 pub overflow_add-left : goal.overflow_add-left
-overflow_add-left c = omega (
-  arith,
-  (both_last c.args.g.now.small c.requires.valid c.requires.first c.requires.second c.meeting-high.ensures.both
-      (gone_on (goal.at.overflow_add-left c).After-above-x)).0,
-  c.ranges,
-)
+overflow_add-left c =
+    let last = (both_last c.args.g.now.small c.requires.valid c.requires.first c.requires.second
+    c.meeting-high.ensures.both (gone_on (goal.at.overflow_add-left c).After-above-x)).0 in
+    omega arith
 
 pub loop-x-preserved : goal.loop-x-preserved
 loop-x-preserved c = gone_on (goal.at.loop-x-preserved c).After-above-x
 
 pub loop-x-smaller : goal.loop-x-smaller
-loop-x-smaller c = omega (
-  arith,
-  (both_last c.args.g.now.small c.requires.valid c.requires.first c.requires.second c.meeting-high.ensures.both
-      (gone_on (goal.at.loop-x-smaller c).After-above-x)).0,
-)
+loop-x-smaller c =
+    let last = (both_last c.args.g.now.small c.requires.valid c.requires.first c.requires.second
+    c.meeting-high.ensures.both (gone_on (goal.at.loop-x-smaller c).After-above-x)).0 in
+    omega arith
 
 pub above-y-requires : goal.above-y-requires
 above-y-requires c = record {
   valid = c.requires.valid;
-  named = climb_named c.args.g.now.small c.requires.valid c.args.c c.args.a c.requires.second
-      (swapped c.loop-x.invariant);
+  named = climb_named c.args.g.now.small c.requires.valid _ _ c.requires.second (swapped c.loop-x.invariant);
   below = both_rises c.args.g.now.small c.requires.valid c.requires.second c.requires.first
       (both_swapped c.meeting-high.ensures.both) (swapped c.loop-x.invariant) (λ e. c.loop-x-test.true (sym e))
       (omega (arith, c.if-high-left.true));

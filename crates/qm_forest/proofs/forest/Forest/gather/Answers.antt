@@ -1,8 +1,7 @@
-use Rattle.std.proofs.Common.{◌≡◌, ◌<◌, ℕ, ◌∙◌, ap, subst, sym, cond, get_or, length, Some, arith}
+use Rattle.std.proofs.Common.{◌≡◌, ◌<◌, ℕ, ◌∙◌, ap, cond, get_or, length, Some, arith}
 use Rattle.std.proofs.lemmas.List.{get_or_read}
 use Rattle.def_forest.specs.{Forests.walk, Tables.ForestTables}
 use Rattle.forest_laws.specs.Walks.{listed}
-use Rattle.qm_forest.specs.Gathers.{IsFreeRing}
 use Rattle.qm_forest.proofs.{Gathered.Gathering, GatheredRows.handle_top}
 use Rattle.qm_forest.proofs.Gatherings.{Taken, row, lists_of_row, joinable, set_low, big_low}
 use Rattle.qm_forest.proofs.Gatherings.{gathered_as, tied_after, seen_after, root_after}
@@ -13,11 +12,10 @@ use Rattle.qm_forest.proofs.forest.Forest.gather.Goals as goal
 taken : (c : After-take_set-set) → Taken c.self.inside c.take_set-set.new.pool c.args.front c.args.many
     c.take_set-set.result
 taken c =
-    let n_is : c.len.result ≡ length c.self.inside.handles.hand.items =
-    omega (arith, c.len.ensures, c.self.inside.handles.hand.ok.0) in
+    let n_is : c.len.result ≡ length c.self.inside.handles.hand.items = omega arith in
     record {
       tied = c.self.invariant;
-      ring = subst (λ (t : ForestTables). IsFreeRing t c.args.front c.args.many) (sym c.self.view_is) c.requires;
+      ring = rw c.self.view_is c.requires;
       took = rw n_is at c.take_set-set.ensures;
     }
 
@@ -54,13 +52,9 @@ pub index_mut-requires : goal.index_mut-requires
 index_mut-requires c =
     let at = goal.at.index_mut-requires c in
     let it = taken at.After-take_set-set in
-    omega (
-      arith,
-      leader_is at.After-index-leader (big_low it (on at.After-rename_row-big)),
-      handle_top (row it (on at.After-rename_row-big)),
-      ap (λ o. length o.items) c.rename_row-big.ensures.renamed.top,
-      c.rename_row-big.new.handles.top.ok.0,
-    )
+    let leader = leader_is at.After-index-leader (big_low it (on at.After-rename_row-big)) in
+    let top = ap (λ o. length o.items) c.rename_row-big.ensures.renamed.top in
+    omega (arith, handle_top (row it (on at.After-rename_row-big)), c.rename_row-big.new.handles.top.ok.0)
 
 pub join_lists-requires-clause-lists : goal.join_lists-requires-clause-lists
 join_lists-requires-clause-lists c = rw c.deref-2.ensures.value
@@ -71,13 +65,9 @@ join_lists-requires-clause-set c = rw (c.deref-2.ensures.value, c.self.invariant
     (set_low (taken (goal.at.join_lists-requires-clause-set c).After-take_set-set))
 
 pub index_mut-requires-2 : goal.index_mut-requires-2
-index_mut-requires-2 c = omega (
-  arith,
-  set_low (taken (goal.at.index_mut-requires-2 c).After-take_set-set),
-  ap (λ o. length o.items) c.join_lists.ensures.leader,
-  c.self.invariant.sizes.leader,
-  c.join_lists.new.lists.leader.ok.0,
-)
+index_mut-requires-2 c =
+    let low = set_low (taken (goal.at.index_mut-requires-2 c).After-take_set-set) in
+    omega (arith, ap (λ o. length o.items) c.join_lists.ensures.leader)
 
 pub enclose-requires : goal.enclose-requires
 enclose-requires c =

@@ -3,6 +3,5 @@ use Rattle.qm_forest.proofs.OnWays.{mate_low, twin_dart}
 use Rattle.qm_forest.proofs.forest.Forest.grow_along.Goals as goal
 
 pub near-requires : goal.near-requires
-near-requires c = twin_dart c.args.g.now.small c.in-Some.m
-    (mate_low c.args.g.now.small c.requires.valid _ c.in-Some.m (sym c.mate.ensures ∙ c.in-Some.is))
-    c.twin-in-Some.ensures
+near-requires c = twin_dart c.args.g.now.small _ (mate_low c.args.g.now.small c.requires.valid _ _
+    (sym c.mate.ensures ∙ c.in-Some.is)) c.twin-in-Some.ensures

@@ -19,10 +19,9 @@ loop-k-preserved c =
           ∙ (ap (λ x. get_or c.args.self.now.after x 0) c.loop-k.invariant.here
           ∙ ap (walk (λ k. get_or c.args.self.now.after k 0) c.args.course.front) (sym one)));
       back = c.loop-k.invariant.here ∙ ap (walk (λ k. get_or c.args.self.now.after k 0) c.args.course.front) back;
-      seen = hung_more (forest_of c.args.self.now) c.args.course.front c.loop-k.k
-          c.leader-v.result c.args.course.forward c.loop-k.invariant.seen
-          c.set_label.ensures.seen c.set_link.ensures.seen c.leader-v.ensures.value c.turn_label.ensures
-          c.side_dart-d.ensures c.loop-k.invariant.here c.loop-k.invariant.back one;
+      seen = hung_more _ _ _ _ _ c.loop-k.invariant.seen c.set_label.ensures.seen c.set_link.ensures.seen
+          c.leader-v.ensures.value c.turn_label.ensures c.side_dart-d.ensures c.loop-k.invariant.here
+          c.loop-k.invariant.back one;
       same = same_nest c.loop-k.invariant.same (same_nest c.set_label.ensures.same c.set_link.ensures.same);
     }
 

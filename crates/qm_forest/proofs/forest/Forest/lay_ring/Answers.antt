@@ -4,7 +4,7 @@ use Rattle.qm_forest.proofs.{Layings.laid_whole, OnWays.near_in}
 use Rattle.qm_forest.proofs.forest.Forest.lay_ring.Goals as goal
 
 pub outermost-a-requires : goal.outermost-a-requires
-outermost-a-requires c = near_in c.args.g.now.small c.requires.valid c.args.start c.requires.dart c.near.ensures
+outermost-a-requires c = near_in c.args.g.now.small c.requires.valid _ c.requires.dart c.near.ensures
 
 pub returns-clause-seen : goal.returns-clause-seen
 returns-clause-seen c = laid_whole (darts_of c.args.g.now.graph) (forest_of c.args.self.now) c.args.start

@@ -7,13 +7,12 @@ use Rattle.qm_forest.proofs.forest.Forest.lay_up.Goals as goal
 
 place : (c : After-rise_from-d) → IsLaidPlace c.args.g.now.graph c.args.self.now c.loop.self c.args.c c.loop.counter
     c.loop.x
-place c = laid_place c.args.g.now.small c.args.self.now c.args.c c.args.steps c.requires.from c.loop.counter
-    (omega (arith, c.loop-test.true)) c.loop.invariant.here c.loop.self c.loop.invariant.same
+place c = laid_place c.args.g.now.small _ _ _ c.requires.from _
+    (omega (arith, c.loop-test.true)) c.loop.invariant.here _ c.loop.invariant.same
 
 pub rise_from-d-requires : goal.rise_from-d-requires
-rise_from-d-requires c = (laid_place c.args.g.now.small c.args.self.now c.args.c c.args.steps
-    c.requires.from c.loop.counter (omega (arith, c.loop-test.true)) c.loop.invariant.here c.loop.self
-    c.loop.invariant.same).some
+rise_from-d-requires c = (laid_place c.args.g.now.small _ _ _ c.requires.from
+    _ (omega (arith, c.loop-test.true)) c.loop.invariant.here _ c.loop.invariant.same).some
 
 pub far_blossom-y-requires : goal.far_blossom-y-requires
 far_blossom-y-requires c =
@@ -28,8 +27,7 @@ loop-preserved c =
     let it = place (goal.at.loop-preserved c).After-rise_from-d in
     let next : c.far_blossom-y.result ≡ way_of (darts_of c.args.g.now.graph) (forest_of c.args.self.now) c.args.c
     (suc c.loop.counter) = c.far_blossom-y.ensures.value
-    ∙ (ap (λ d. (forest_of c.loop.self).out (far (darts_of c.args.g.now.graph) d)) c.rise_from-d.ensures
-    ∙ it.next) in
+    ∙ (ap (λ d. (forest_of c.loop.self).out (far (darts_of c.args.g.now.graph) d)) c.rise_from-d.ensures ∙ it.next) in
     record {
       here = rw (add-one c.loop.counter) next;
       seen = rw (add-one c.loop.counter) (laid_more_up (darts_of c.args.g.now.graph) (forest_of c.args.self.now)

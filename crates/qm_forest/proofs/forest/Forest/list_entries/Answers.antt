@@ -1,6 +1,5 @@
-use Rattle.std.proofs.Common.{◌≡◌, length, ◌∙◌, ap}
+use Rattle.std.proofs.Common.{◌≡◌, ◌∙◌, ap}
 use Rattle.def_forest.specs.Tables.{ForestTables}
-use Rattle.qm_forest.specs.Outlines.{set_in}
 use Rattle.qm_forest.proofs.Orders.{distinct, list_made}
 use Rattle.qm_forest.proofs.forest.Forest.list_entries.Goals as goal
 
@@ -12,7 +11,7 @@ returns-clause-entries c =
     let up : c.self.inside.rings.up.items ≡ c.args.self.up = ap (λ (t : ForestTables). t.up) c.self.view_is in (
       c.name_sets.new.names.items,
       c.name_sets.ensures.named,
-      list_made (length c.args.sets.now) (set_in c.args.sets.now) _ _ (c.deref.ensures.value ∙ up)
+      list_made _ _ _ _ (c.deref.ensures.value ∙ up)
           (c.deref-3.ensures.value ∙ up) c.deref-2.ensures.value c.deref-4.ensures.value c.vertices-vertices.ensures
           c.add_vertex_entries.ensures.size c.add_vertex_entries.ensures.each c.add_set_entries.ensures.size
           c.add_set_entries.ensures.kept c.add_set_entries.ensures.each,

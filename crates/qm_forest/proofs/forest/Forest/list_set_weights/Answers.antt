@@ -6,10 +6,9 @@ use Rattle.qm_forest.proofs.forest.Forest.list_set_weights.Goals as goal
 
 pub loop-k-preserved : goal.loop-k-preserved
 loop-k-preserved c =
-    let pushed : c.push.new.self.items ≡ c.loop-k.numbers.items ++ c.weight.result ∷ [] =
-    grind (arith, common_steps) in
+    let pushed : c.push.new.self.items ≡ c.loop-k.numbers.items ++ c.weight.result ∷ [] = grind (arith, common_steps) in
     record {
       weights = weights_more pushed (c.weight.ensures
           ∙ ap (forest_of c.args.self.now).weight c.set_at.ensures) c.loop-k.invariant.weights;
-      room = omega (arith, c.loop-k.invariant.room, c.push.ensures.capacity);
+      room = omega (arith, c.loop-k.invariant.room);
     }

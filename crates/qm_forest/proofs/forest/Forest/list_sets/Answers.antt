@@ -8,10 +8,10 @@ use Rattle.qm_forest.proofs.forest.Forest.list_sets.Goals as goal
 pub loop-b-init : goal.loop-b-init
 loop-b-init c = record {
   count = (let none : length c.clear.new.self.items ≡ 0 = ap length c.clear.ensures.items in
-      omega (arith, none, c.vertices-b.ensures));
-  room = omega (arith, c.requires, c.clear.ensures.capacity);
+      omega (arith, c.vertices-b.ensures));
+  room = omega arith;
   has = subst (λ m. HasSets c.args.self.now m c.clear.new.self.items) (sym c.vertices-b.ensures)
-      (sets_none c.args.self.now c.clear.new.self.items (ap length c.clear.ensures.items));
+      (sets_none _ _ (ap length c.clear.ensures.items));
 }
 
 pub returns : goal.returns
@@ -25,20 +25,12 @@ returns c =
       c.loop-b-test.false,
       c.loop-b.auto.b-end,
       c.len-b-end.ensures,
-      c.self.inside.rings.up.ok.0,
-      up,
-      hand,
       c.vertices-b.ensures,
-      c.self.invariant.sizes.vertices,
     ) in
     record {
-      has = sets_moved c.sort.new.sets.items
+      has = sets_moved _
           c.sort.ensures.moved (subst (λ m. HasSets c.args.self.now m c.loop-b.sets.items) all c.loop-b.invariant.has);
-      few = omega (
-        arith,
-        all,
-        c.loop-b.invariant.count,
-        length_permutation c.loop-b.sets.items c.sort.new.sets.items c.sort.ensures.moved,
-      );
+      few = (let moved = length_permutation c.loop-b.sets.items c.sort.new.sets.items c.sort.ensures.moved in
+          omega (arith, c.loop-b.invariant.count));
       increasing = c.sort.ensures.increasing;
     }

@@ -12,7 +12,7 @@ loop-x-smaller c = turn_nearer c.requires.ends.valid c.base_at-load.ensures.clim
 
 pub loop-x-preserved : goal.loop-x-preserved
 loop-x-preserved c = turn_meets c.requires.ends.valid c.base_at-load.ensures.climb c.base_at-load.ensures.few
-    c.base_at-load.ensures.small c.loop-x.invariant c.loop-x-test.true c.by_rank-low.result.0 c.by_rank-low.result.1 _
+    c.base_at-load.ensures.small c.loop-x.invariant c.loop-x-test.true _ _ _
     c.by_rank-low.ensures.either c.by_rank-low.ensures.order c.up_at-x.ensures.value c.up_at-x.ensures.low
     (omega (arith, ints, c.loop-x.invariant.small, c.base_at-load.ensures.bound, c.base_at-load.ensures.value))
 

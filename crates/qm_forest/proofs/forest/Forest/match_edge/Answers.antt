@@ -23,14 +23,14 @@ pair-requires-clause-pairing c =
     let at = goal.at.pair-requires-clause-pairing c in
     let on : matches c.args.self.now c.args.e ≡ true = sym (matches_as at.After-is_mate-matched) ∙ c.if-matched.true in
     rw (a_is at.After-is_mate-matched, b_is at.After-outermost-b)
-    (matches_is c.requires.room.laminar c.requires.room.sound.1 c.args.e on).pairing
+    (matches_is c.requires.room.laminar c.requires.room.sound.1 _ on).pairing
 
 pub returns-then-matched-clause-done : goal.returns-then-matched-clause-done
 returns-then-matched-clause-done c =
     let at = goal.at.returns-then-matched-clause-done c in
     let on : matches c.args.self.now c.args.e ≡ true = sym (matches_as at.After-is_mate-matched) ∙ c.if-matched.true in
-    edge_more c.requires.room.laminar c.requires.room.sound.1 c.args.e (c.args.e + 1) refl c.requires.room.marks
-    c.requires.room.left_out (matches_is c.requires.room.laminar c.requires.room.sound.1 c.args.e on).mate
+    edge_more c.requires.room.laminar c.requires.room.sound.1 _ _ refl c.requires.room.marks
+    c.requires.room.left_out (matches_is c.requires.room.laminar c.requires.room.sound.1 _ on).mate
     c.pair.ensures.marks (rw (a_is at.After-is_mate-matched, b_is at.After-outermost-b) at c.pair.ensures.left_out)
     c.requires.begun
 
@@ -38,5 +38,5 @@ pub returns-else-matched-clause-done : goal.returns-else-matched-clause-done
 returns-else-matched-clause-done c =
     let at = (goal.at.returns-else-matched-clause-done c).After-is_mate-matched in
     let off : matches c.args.self.now c.args.e ≡ false = sym (matches_as at) ∙ c.if-matched.false in
-    edge_same c.requires.room.laminar c.requires.room.sound.1 c.args.e (c.args.e + 1) refl
-    (λ s. true_false (dart_is c.requires.room.laminar c.requires.room.sound.1 (2 * c.args.e) s) off) c.requires.begun
+    edge_same c.requires.room.laminar c.requires.room.sound.1 _ _ refl
+    (λ s. true_false (dart_is c.requires.room.laminar c.requires.room.sound.1 _ s) off) c.requires.begun

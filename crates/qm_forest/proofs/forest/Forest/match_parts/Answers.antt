@@ -6,7 +6,7 @@ use Rattle.qm_forest.proofs.forest.Forest.match_parts.Goals as goal
 
 pub set_mate-requires : goal.set_mate-requires
 set_mate-requires c = place_low c.loop-k.x _ c.loop-k.invariant.same
-    c.loop-k.invariant.here (c.requires.low c.loop-k.k (omega (arith, c.loop-k-test.true)))
+    c.loop-k.invariant.here (c.requires.low _ (omega (arith, c.loop-k-test.true)))
 
 pub loop-k-preserved : goal.loop-k-preserved
 loop-k-preserved c =
@@ -17,14 +17,13 @@ loop-k-preserved c =
           ∙ c.loop-k.invariant.same.after) ∙ (ap (λ x. get_or c.args.self.now.after x 0) c.loop-k.invariant.here
           ∙ ap (walk (λ k. get_or c.args.self.now.after k 0) c.args.first) (sym one)));
       back = c.loop-k.invariant.here ∙ ap (walk (λ k. get_or c.args.self.now.after k 0) c.args.first) back;
-      seen = paired_more (forest_of c.args.self.now) c.args.first c.loop-k.k c.loop-k.invariant.seen
+      seen = paired_more _ _ _ c.loop-k.invariant.seen
           c.set_mate.ensures.seen c.side_dart-d.ensures c.loop-k.invariant.here c.loop-k.invariant.back one;
       same = same_nest c.loop-k.invariant.same c.set_mate.ensures.same;
     }
 
 pub set_mate-requires-2 : goal.set_mate-requires-2
-set_mate-requires-2 c = place_low c.args.first _ c.loop-k.invariant.same refl
-    (c.requires.low 0 (omega (arith, c.requires.some)))
+set_mate-requires-2 c = place_low c.args.first _ c.loop-k.invariant.same refl (c.requires.low 0 (omega arith))
 
 pub returns-clause-seen : goal.returns-clause-seen
 returns-clause-seen c =

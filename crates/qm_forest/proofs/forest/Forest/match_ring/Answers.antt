@@ -10,7 +10,7 @@ parts_is : (c : After-parts-end) → c.parts-end.result
 parts_is c = c.parts-end.ensures ∙ ap (λ z. get_or c.args.self.now.parts z 0) c.up_at.ensures.value
 
 pairing : (c : After-joint-d) → IsPairing c.args.self.now c.loop.x c.next-y.result c.joint-d.result
-pairing c = turn_pairing c.requires.room.laminar c.requires.room.sound.1 c.requires.inner c.loop.counter
+pairing c = turn_pairing c.requires.room.laminar c.requires.room.sound.1 c.requires.inner _
     c.loop.invariant.here c.next-y.ensures c.joint-d.ensures
 
 pub loop-init : goal.loop-init

@@ -17,18 +17,17 @@ loop-p-init c = record {
 }
 
 pub match_ring-requires-clause-inner : goal.match_ring-requires-clause-inner
-match_ring-requires-clause-inner c = climbs_on c.requires.room.laminar c.args.c c.requires.held.vertex
+match_ring-requires-clause-inner c = climbs_on c.requires.room.laminar _ c.requires.held.vertex
     c.requires.held.held c.loop-p.invariant.above c.loop-p-test.true
 
 pub loop-p-smaller : goal.loop-p-smaller
-loop-p-smaller c = omega (
-  arith,
-  ap (λ z. get_or c.args.self.now.rank z 0) c.up_at-p.ensures.value,
-  rises_here c.requires.room.laminar c.args.c c.requires.held.vertex c.requires.held.held c.loop-p.invariant.above
-      c.loop-p-test.true,
-  next_rank c.requires.room.laminar c.args.c c.requires.held.vertex c.requires.held.held c.loop-p.invariant.above
-      c.loop-p-test.true,
-)
+loop-p-smaller c =
+    let rank = ap (λ z. get_or c.args.self.now.rank z 0) c.up_at-p.ensures.value in
+    let rise = rises_here c.requires.room.laminar _ c.requires.held.vertex c.requires.held.held c.loop-p.invariant.above
+    c.loop-p-test.true in
+    let next = next_rank c.requires.room.laminar _ c.requires.held.vertex c.requires.held.held c.loop-p.invariant.above
+    c.loop-p-test.true in
+    omega arith
 
 pub loop-p-preserved : goal.loop-p-preserved
 loop-p-preserved c =
@@ -43,10 +42,9 @@ loop-p-preserved c =
           c.loop-p.invariant.above c.loop-p-test.true c.loop-p.invariant.held;
       low = c.up_at-p.ensures.low c.loop-p.invariant.low;
       room = c.match_ring.ensures.room;
-      done = λ rest due r. rw c.up_at-p.ensures.value (c.match_ring.ensures.done _ due
-          (ring_climb known c.requires.room.sound.1
-          (climbs_on known c.args.c lv held c.loop-p.invariant.above c.loop-p-test.true) rest c.args.v more.0
-          c.loop-p.invariant.held lv more.1 (top_rank known c.args.c lv held)
+      done = λ rest due r. rw c.up_at-p.ensures.value (c.match_ring.ensures.done _ due (ring_climb known
+          c.requires.room.sound.1 (climbs_on known c.args.c lv held c.loop-p.invariant.above c.loop-p-test.true) rest
+          c.args.v more.0 c.loop-p.invariant.held lv more.1 (top_rank known c.args.c lv held)
           (omega (arith, next, top_rank known c.args.c lv held)) (c.loop-p.invariant.done rest due r)));
       entries = λ b w e. elim (c.match_ring.ensures.entries b w e) [
         | inl was ↦ c.loop-p.invariant.entries b w was

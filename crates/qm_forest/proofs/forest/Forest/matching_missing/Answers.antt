@@ -6,9 +6,8 @@ use Rattle.qm_forest.proofs.forest.Forest.matching_missing.Goals as goal
 
 begun : (c : After-match_up) → IsRound c.args.self.now c.match_up.new.round.marks.items
     c.match_up.new.round.left_out.items (λ b. 0) (λ b. waits_but c.args.self.now b c.args.b c.args.v + 0)
-begun c = c.match_up.ensures.done _ _ (c.in_ok-round.ensures.begun
-    (λ b. waits_but c.args.self.now b c.args.b c.args.v + 0)
-    (λ w l. omega (arith, waits_low c.args.self.now w c.args.b c.args.v)))
+begun c = c.match_up.ensures.done _ _ (c.in_ok-round.ensures.begun (λ b. waits_but c.args.self.now b c.args.b c.args.v
+    + 0) (λ w l. omega (arith, waits_low c.args.self.now w c.args.b c.args.v)))
 
 pub match_waiting-requires-clause-begun : goal.match_waiting-requires-clause-begun
 match_waiting-requires-clause-begun c = (

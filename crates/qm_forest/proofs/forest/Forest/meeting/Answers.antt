@@ -17,13 +17,11 @@ returns-in-Some-clause-both c =
     }
 
 pub overflow_add-left : goal.overflow_add-left
-overflow_add-left c = omega (
-  arith,
-  (climbed_on c.args.g.now.small c.requires.valid c.requires.first c.climb-next.result.1
-      c.loop-right.invariant.climbed c.climb-next.ensures.way (omega (arith, c.climb-next.ensures.steps))).low,
-  level_few (darts_of c.args.g.now.graph) (forest_of c.args.self.now) c.args.a,
-  c.rise.ensures.few,
-)
+overflow_add-left c =
+    let on = (climbed_on c.args.g.now.small c.requires.valid c.requires.first c.climb-next.result.1
+    c.loop-right.invariant.climbed c.climb-next.ensures.way (omega (arith, c.climb-next.ensures.steps))).low in
+    let few = level_few (darts_of c.args.g.now.graph) (forest_of c.args.self.now) c.args.a in
+    omega arith
 
 pub loop-right-smaller : goal.loop-right-smaller
 loop-right-smaller c = climbed_nearer c.args.g.now.small c.requires.valid c.loop-right.at c.loop-right.reach
@@ -41,12 +39,7 @@ loop-right-preserved c = record {
 pub returns-clause-both : goal.returns-clause-both
 returns-clause-both c =
     let whole : c.climb.result.1 ≡ level_of (darts_of c.args.g.now.graph) (forest_of c.args.self.now) c.args.c =
-    omega (
-      arith,
-      c.climb.ensures.steps,
-      level_few (darts_of c.args.g.now.graph) (forest_of c.args.self.now) c.args.c,
-      c.rise.ensures.few,
-    ) in
+    omega (arith, level_few (darts_of c.args.g.now.graph) (forest_of c.args.self.now) c.args.c) in
     rw whole (root_on_both c.args.g.now.small c.requires.valid c.args.c c.requires.first c.requires.second
     c.loop-right.invariant.climbed
     (none_of _ (ap is_some (sym c.rise.ensures.value) ∙ (sym c.is_some.ensures ∙ c.loop-right-test.false))))

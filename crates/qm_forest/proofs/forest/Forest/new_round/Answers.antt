@@ -18,5 +18,4 @@ returns-clause-room c =
     c.empty_round.ensures.left_out
 
 pub returns-clause-begun : goal.returns-clause-begun
-returns-clause-begun c = rounds_begin c.args.self.now c.empty_round.result (c.len.result / 2) c.len-2.result
-    c.empty_round.ensures.marks c.empty_round.ensures.left_out
+returns-clause-begun c = rounds_begin _ _ _ _ c.empty_round.ensures.marks c.empty_round.ensures.left_out

@@ -15,13 +15,9 @@ pub returns-clause-room : goal.returns-clause-room
 returns-clause-room c = record {
   laminar = c.requires.room.laminar;
   sound = c.requires.room.sound;
-  marks = omega (
-    arith,
-    c.requires.room.marks,
-    length-set c.args.round.now.marks.items (c.args.d / 2) true,
-    ap (λ o. length o.items) c.enter.ensures.marks,
-    ap (λ o. length o.items) c.enter-2.ensures.marks,
-  );
+  marks = (let marks = length-set c.args.round.now.marks.items (c.args.d / 2) true in
+      let first = ap (λ o. length o.items) c.enter.ensures.marks in
+      omega (arith, ap (λ o. length o.items) c.enter-2.ensures.marks));
   left_out = ap length c.enter-2.ensures.left_out ∙ (entered_size _ _ _ _ ∙ (ap length c.enter.ensures.left_out
       ∙ (entered_size _ _ _ _ ∙ c.requires.room.left_out)));
 }

@@ -1,6 +1,5 @@
-use Rattle.std.proofs.{Common.◌≡◌, Common.subst, Common.sym, Common.length, Common.get_or, Common.arith}
+use Rattle.std.proofs.{Common.◌≡◌, Common.length, Common.get_or, Common.arith}
 use Rattle.std.proofs.lemmas.List.{get_or_read}
-use Rattle.def_forest.specs.Tables.{ForestTables}
 use Rattle.qm_forest.specs.Parts.{IsPartable}
 use Rattle.qm_forest.proofs.{Insides.seen_in, Parted.Parting, Parted.tied_parted, Parted.parted_is}
 use Rattle.qm_forest.proofs.Partings.{Opened, set_live, part_lists, parting, parted_as}
@@ -8,7 +7,7 @@ use Rattle.qm_forest.proofs.forest.Forest.part.Goals.{After-give_set, After-open
 use Rattle.qm_forest.proofs.forest.Forest.part.Goals as goal
 
 ready : (c : After-open_ring) → IsPartable (seen_in c.self.inside) c.args.b
-ready c = subst (λ (t : ForestTables). IsPartable t c.args.b) (sym c.self.view_is) c.requires
+ready c = rw c.self.view_is c.requires
 
 front_is : (c : After-open_ring) → c.index-front.result.now ≡ get_or c.self.inside.rings.head.items c.args.b 0
 front_is c = get_or_read c.self.inside.rings.head.items c.args.b _ (rw c.self.invariant.sizes.head (ready c).low)
@@ -30,8 +29,7 @@ parting_of : (c : After-give_set) → Opened c.self.inside c.open_ring.new.rings
     → c.index-many.result.now ≡ get_or c.self.inside.rings.parts.items c.args.b 0
     → Parting c.self.inside c.hand_over_row.new.handles c.open_ring.new.rings c.give_set.new.pool c.args.b
 parting_of c opened front_is many_is =
-    let n_is : c.len.result ≡ length c.self.inside.handles.hand.items =
-    omega (arith, c.len.ensures, c.hand_over_row.new.handles.hand.ok.0, c.hand_over_row.ensures.hands) in
+    let n_is : c.len.result ≡ length c.self.inside.handles.hand.items = omega arith in
     parting opened (rw (c.deref.ensures.value, front_is, many_is) at c.hand_over_row.ensures)
     (rw n_is at c.give_set.ensures)
 

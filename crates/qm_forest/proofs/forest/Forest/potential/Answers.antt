@@ -15,7 +15,7 @@ more_is : (c : After-deref-5) → c.args.v < length c.self.inside.handles.hand.i
     (to_z w128 (of_z w128 c.self.inside.weights.delta)) ≡ added c.self.inside.handles.hand.items
     c.self.inside.handles.top.items c.self.inside.handles.off.items c.self.inside.tree.label.items
     c.self.inside.weights.delta c.args.v
-more_is c low = added_bound c.self.invariant c.args.v low _ _ c.deref-5.ensures.value (cc) (cc)
+more_is c low = added_bound c.self.invariant _ low _ _ c.deref-5.ensures.value (cc) (cc)
     (kept_in_bits _ (omega (arith, delta_small c.self.invariant)))
 
 low : (c : After-deref-5) → c.args.v < length c.self.inside.handles.hand.items
@@ -29,7 +29,7 @@ told : (c : After-deref-6) → c.args.v < length c.self.inside.handles.hand.item
     c.self.inside.weights.delta c.args.v
     → get_or c.deref-6.result.now c.args.v (pos 0) +ℤ to_z w128 (of_z w128 c.added_at-more.result)
     ≡ potential (forest_of (seen_in c.self.inside)) c.args.v
-told c low more = told_bound c.self.invariant c.args.v low c.deref-6.ensures.value
+told c low more = told_bound c.self.invariant _ low c.deref-6.ensures.value
     (omega (arith, ints, more, c.added_at-more.ensures, added_small c.self.invariant c.args.v low))
 
 pub added_at-more-requires-clause-delta : goal.added_at-more-requires-clause-delta
@@ -43,32 +43,17 @@ added_at-more-requires-clause-small c =
 pub sum_at-requires : goal.sum_at-requires
 sum_at-requires c =
     let at = (goal.at.sum_at-requires c).After-deref-5 in
-    omega (
-      arith,
-      ints,
-      told (goal.at.sum_at-requires c).After-deref-6 (low at) (more_is at (low at)),
-      potential_small c.self.invariant c.args.v,
-    )
+    let is = told (goal.at.sum_at-requires c).After-deref-6 (low at) (more_is at (low at)) in
+    omega (arith, ints, potential_small c.self.invariant c.args.v)
 
-pub returns-clause-small : goal.returns-clause-small
-returns-clause-small c =
-    let at = (goal.at.returns-clause-small c).After-deref-5 in
-    omega (
-      arith,
-      ints,
-      c.sum_at.ensures,
-      told (goal.at.returns-clause-small c).After-deref-6 (low at) (more_is at (low at)),
-      potential_small c.self.invariant c.args.v,
-    )
-
-pub returns-clause-value : goal.returns-clause-value
-returns-clause-value c =
-    let at = (goal.at.returns-clause-value c).After-deref-5 in
-    omega (
-      arith,
-      ints,
-      c.sum_at.ensures,
-      told (goal.at.returns-clause-value c).After-deref-6 (low at) (more_is at (low at)),
-      potential_small c.self.invariant c.args.v,
-      ap (λ (t : ForestTables). potential (forest_of t) c.args.v) c.self.view_is,
-    )
+pub returns : goal.returns
+returns c =
+    let steps = goal.at.returns c in
+    let lv = low steps.After-deref-5 in
+    let is = told steps.After-deref-6 lv (more_is steps.After-deref-5 lv) in
+    let small = potential_small c.self.invariant c.args.v in
+    let seen = ap (λ (t : ForestTables). potential (forest_of t) c.args.v) c.self.view_is in
+    record {
+      value = omega (arith, ints, c.sum_at.ensures, is, small, seen);
+      small = omega (arith, ints, c.sum_at.ensures, is, small);
+    }

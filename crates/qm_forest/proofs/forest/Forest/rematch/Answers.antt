@@ -8,10 +8,9 @@ use Rattle.qm_forest.proofs.forest.Forest.rematch.Goals as goal
 
 pub loop-old-init : goal.loop-old-init
 loop-old-init c = record {
-  way = way_begins c.args.g.now.small c.requires.valid c.requires.reaches c.requires.free
-      (rw (c.far_blossom-reached.ensures.value, c.twin.ensures) at
-      (ap (λ (f : Forest). f.mate) c.set_mate.ensures.seen)) (c.outermost-at.ensures.value
-      ∙ (ap (λ (f : Forest). f.out c.near.result) c.set_mate.ensures.seen
+  way = way_begins c.args.g.now.small c.requires.valid c.requires.reaches c.requires.free (rw
+      (c.far_blossom-reached.ensures.value, c.twin.ensures) at (ap (λ (f : Forest). f.mate) c.set_mate.ensures.seen))
+      (c.outermost-at.ensures.value ∙ (ap (λ (f : Forest). f.out c.near.result) c.set_mate.ensures.seen
       ∙ ap (forest_of c.args.self.now).out c.near.ensures));
   seen = seen_own c.args.self.now c.set_mate.new.self _ c.set_mate.ensures.seen;
   same = c.set_mate.ensures.same;

@@ -8,5 +8,5 @@ pub returns-clause-seen : goal.returns-clause-seen
 returns-clause-seen c =
     let low : c.args.b < length c.self.inside.rings.up.items =
     subst (λ (t : ForestTables). c.args.b < length t.up) (sym c.self.view_is) c.requires in
-    seen_mate c.self.invariant c.args.b c.args.mate low
+    seen_mate c.self.invariant _ _ low
     ∙ ap (λ (t : ForestTables). mated (forest_of t) c.args.b c.args.mate) c.self.view_is

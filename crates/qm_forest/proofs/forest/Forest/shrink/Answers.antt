@@ -2,7 +2,7 @@ use Rattle.std.proofs.Common.{◌+◌, ◌*◌, ◌≤◌, ◌^◌, ◌∙◌, a
 use Rattle.def_forest.specs.{Darts.darts_of, Tables.forest_of}
 use Rattle.forest_laws.proofs.{Levels.level_few, Writes.outer_named}
 use Rattle.qm_forest.proofs.{EdgeKinds.shrinks, Increases.met_at, Shrinkings.Closing}
-use Rattle.qm_forest.proofs.Shrinkings.{tops_laid, free_ring, shrinking, shrunk_tables}
+use Rattle.qm_forest.proofs.Shrinkings.{tops_laid, free_ring, shrunk_tables}
 use Rattle.qm_forest.proofs.forest.Forest.shrink.Goals.{After-fork-fork}
 use Rattle.qm_forest.proofs.forest.Forest.shrink.Goals as goal
 
@@ -10,7 +10,7 @@ use Rattle.qm_forest.proofs.forest.Forest.shrink.Goals as goal
 closing : (c : After-fork-fork) → Closing c.args.g.now.graph c.args.self.now (2 * c.args.e) c.fork-fork.result.top
     c.fork-fork.result.left c.fork-fork.result.right
 closing c =
-    let s = shrinks c.args.g.now.small c.requires.valid.valid.feasible c.args.e c.requires.edge c.requires.kind in
+    let s = shrinks c.args.g.now.small c.requires.valid.valid.feasible _ c.requires.edge c.requires.kind in
     record {
       is = c.args.g.now.small;
       valid = c.requires.valid;
@@ -23,13 +23,9 @@ closing c =
     }
 
 short : (c : After-fork-fork) → c.fork-fork.result.left + c.fork-fork.result.right ≤ 2 ^ 30
-short c = omega (
-  arith,
-  (closing c).met.x_low,
-  (closing c).met.y_low,
-  level_few (darts_of c.args.g.now.graph) (forest_of c.args.self.now),
-  c.fork-fork.ensures.few,
-)
+short c =
+    let few = level_few (darts_of c.args.g.now.graph) (forest_of c.args.self.now) in
+    omega (arith, (closing c).met.x_low, (closing c).met.y_low, c.fork-fork.ensures.few)
 
 pub lay_ring-requires : goal.lay_ring-requires
 lay_ring-requires c =
@@ -53,20 +49,13 @@ close_ring-requires-clause-tops c = tops_laid (closing (goal.at.close_ring-requi
     c.lay_ring.new.self c.lay_ring.ensures.seen c.lay_ring.ensures.same
 
 pub close_ring-requires-clause-free : goal.close_ring-requires-clause-free
-close_ring-requires-clause-free c = λ left gone same.
-    free_ring (closing (goal.at.close_ring-requires-clause-free c).After-fork-fork)
-    c.lay_ring.ensures.seen c.lay_ring.ensures.same gone same
+close_ring-requires-clause-free c = λ left gone same. free_ring (closing (goal.at.close_ring-requires-clause-free
+    c).After-fork-fork) c.lay_ring.ensures.seen c.lay_ring.ensures.same gone same
 
-pub returns-clause-changed : goal.returns-clause-changed
-returns-clause-changed c =
+pub returns : goal.returns
+returns c =
     let done = c.close_ring.ensures in
-    shrinking (closing (goal.at.returns-clause-changed c).After-fork-fork) c.lay_ring.ensures.seen
-    c.lay_ring.ensures.same done.gone done.same c.close_ring.new.self c.mate-mate.ensures done.gathered done.vertex
-    done.is done.holds done.done done.root done.hand
-
-pub returns-clause-valid : goal.returns-clause-valid
-returns-clause-valid c =
-    let done = c.close_ring.ensures in
-    shrunk_tables (closing (goal.at.returns-clause-valid c).After-fork-fork) c.lay_ring.ensures.seen
-    c.lay_ring.ensures.same done.gone done.same c.close_ring.new.self c.mate-mate.ensures done.gathered done.vertex
-    done.is done.holds done.done done.root done.hand done.fixed
+    let it = shrunk_tables (closing (goal.at.returns c).After-fork-fork) c.lay_ring.ensures.seen c.lay_ring.ensures.same
+    done.gone done.same c.close_ring.new.self c.mate-mate.ensures done.gathered done.vertex done.is done.holds done.done
+    done.root done.hand done.fixed in
+    record { changed = it.0; valid = it.1 }

@@ -1,7 +1,6 @@
 use Rattle.std.proofs.Common.{◌≡◌, ◌<◌, length, ◌∙◌, subst, sym, false, get_or, arith}
 use Rattle.std.proofs.lemmas.Grind.{common_steps}
 use Rattle.def_forest.specs.Tables.{ForestTables}
-use Rattle.qm_forest.specs.Ties.{IsOnTrail}
 use Rattle.qm_forest.proofs.{Ranges.mark_read, Trails.trail_room, Trails.tied_touched}
 use Rattle.qm_forest.proofs.forest.Forest.touch.Goals.{After-index}
 use Rattle.qm_forest.proofs.forest.Forest.touch.Goals as goal
@@ -15,20 +14,18 @@ mark_is c = mark_read _ c.args.v false (rw c.self.invariant.sizes.touched (low c
 pub unwrap-requires : goal.unwrap-requires
 unwrap-requires c =
     let at = (goal.at.unwrap-requires c).After-index in
-    c.push.ensures.succeeds (omega (
-      arith,
-      trail_room c.self.invariant c.args.v (low at) (mark_is at ∙ c.if-not-index.true),
-      c.self.inside.trail.vertices.ok.0,
-    ))
+    c.push.ensures.succeeds (let room = trail_room c.self.invariant c.args.v (low at)
+    (mark_is at ∙ c.if-not-index.true) in
+    omega arith)
 
 pub invariant_of-self : goal.invariant_of-self
 invariant_of-self c =
     let at = (goal.at.invariant_of-self c).After-index in
-    tied_touched c.self.invariant c.args.v (low at) (mark_is at ∙ c.if-not-index.true) _
-    (grind (arith, common_steps)) _ (omega (arith, c.push.ensures.capacity))
+    tied_touched c.self.invariant _ (low at) (mark_is at ∙ c.if-not-index.true) _
+    (grind (arith, common_steps)) _ (omega arith)
 
 pub returns-else-not-index-clause-here : goal.returns-else-not-index-clause-here
 returns-else-not-index-clause-here c =
     let at = (goal.at.returns-else-not-index-clause-here c).After-index in
-    subst (λ (t : ForestTables). IsOnTrail t.trail c.args.v) c.self.view_is
-    (c.self.invariant.trail.marked c.args.v (mark_is at ∙ c.if-not-index.false))
+    rw (← c.self.view_is)
+    (c.self.invariant.trail.marked _ (mark_is at ∙ c.if-not-index.false))

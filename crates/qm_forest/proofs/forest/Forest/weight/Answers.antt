@@ -18,10 +18,5 @@ returns c =
     let is : c.weight_from.result ≡ weight_at c.self.inside.weights.base.items c.self.inside.tree.label.items
     c.self.inside.weights.delta c.args.b = weight_read _ c.weight_from.ensures c.deref.ensures.value
     c.deref-2.ensures.value (kept_in_bits _ (omega (arith, delta_small c.self.invariant))) in
-    omega (
-      arith,
-      ints,
-      is,
-      c.self.invariant.numbers.small c.args.b,
-      ap (λ (t : ForestTables). weight_at t.base t.label t.delta c.args.b) c.self.view_is,
-    )
+    let seen = ap (λ (t : ForestTables). weight_at t.base t.label t.delta c.args.b) c.self.view_is in
+    omega (arith, ints, is, c.self.invariant.numbers.small c.args.b)
