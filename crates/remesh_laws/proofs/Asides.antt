@@ -1,35 +1,33 @@
 -- The lines of a text around its mesh: whole lines, and those that begin with `#` are passed over.
-use Rattle.std.proofs.Common.{◌≡◌, ◌<◌, ◌≤◌, ◌^◌, ℕ, zero, suc, ℤ, pos, negsuc, Bool, true, false, List, [], ◌∷◌, ◌++◌}
-use Rattle.std.proofs.Common.{codes, length, map, get_or, refl, sym, ◌∙◌, ap, subst, arith, length-append}
+use Rattle.std.proofs.Common.{◌≡◌, ◌<◌, ◌≤◌, ◌^◌, ℕ, zero, suc, ℤ, pos, negsuc, Bool, true, false, List, []}
+use Rattle.std.proofs.Common.{◌∷◌, ◌++◌, codes, length, map, get_or, refl, sym, ◌∙◌, ap, subst, arith, length-append}
 use Rattle.std.proofs.lemmas.Bool.{and_parts, leb-true}
-use Rattle.std.proofs.lemmas.Fmt.{length-decimal-le}
-use Rattle.std.proofs.lemmas.List.{append-nil}
-use Rattle.std.proofs.lemmas.List.Folds.{flat_map-map}
+use Rattle.std.proofs.lemmas.{Fmt.length-decimal-le, List.append-nil, List.Folds.flat_map-map}
+use Rattle.std.specs.{Fmt.signed_decimal, List.before_first, List.flat_map, List.list_all}
 use Rattle.std.specs.Prelude.{◌&&◌, ◌==◌, ◌+◌, ◌-◌, if◌then◌else◌, decimal, slice_index, unsigned_abs}
-use Rattle.std.specs.Fmt.{signed_decimal}
-use Rattle.std.specs.List.{before_first, flat_map, list_all}
 use Rattle.def_certtext.specs.{CertLines.dual_line, CertLines.line_text, CertLines.text_of, HeadLine.head_line}
 use Rattle.def_certtext.specs.{Reading.is_small, Reading.may_stand, Settings.floor_text, Settings.scale_text}
 use Rattle.def_certtext.specs.{Settings.weight_text, Settings.AreInRange, Settings.IsFloor, declared.CertLine.CertLine}
-use Rattle.def_certtext.specs.declared.CertLine.TheVariants.{Floor, Length}
-use Rattle.def_certtext.specs.declared.CertLine.TheVariants.{Set, Vertex}
-use Rattle.def_certtext.specs.{declared.CertLine.TheVariants.Rise as RiseLine, declared.certs.Rise.Rise}
-use Rattle.def_certtext.specs.declared.certs.Rising.{Rising}
-use Rattle.def_flow.specs.{declared.limits.TheConstants.MAX_FLOOR, declared.net.Settings.Settings}
-use Rattle.def_flow.specs.{declared.net.Weight.Weight, declared.net.Weight.TheVariants.Plain}
-use Rattle.def_flow.specs.{declared.net.Weight.TheVariants.Length as ByLength}
+use Rattle.def_certtext.specs.declared.CertLine.TheVariants.{Floor, Length, Set, Vertex, Rise as RiseLine}
+use Rattle.def_certtext.specs.declared.certs.{Rise.Rise, Rising.Rising}
+use Rattle.def_flow.specs.declared.{limits.TheConstants.MAX_FLOOR, net.Settings.Settings, net.Weight.Weight}
+use Rattle.def_flow.specs.declared.net.Weight.TheVariants.{Plain, Length as ByLength}
 use Rattle.def_io.specs.{Bytes.Bytes, Bytes.Lines, Lines.lines_of}
-use Rattle.def_text.specs.{Canonical.canonical_text, FaceSet.FaceSet, Laws.is_position, Laws.is_quad}
-use Rattle.def_text.specs.{Laws.IsWritableSoup, Logical.continues, Logical.is_hash, Logical.with_space}
-use Rattle.def_text.specs.{Reading.begins_with, Words.words}
+use Rattle.def_text.specs.{Canonical.canonical_text, FaceSet.FaceSet}
+use Rattle.def_text.specs.Laws.{is_position, is_quad, IsWritableSoup}
+use Rattle.def_text.specs.{Logical.continues, Logical.is_hash, Logical.with_space, Reading.begins_with, Words.words}
 use Rattle.def_remesh.specs.{ReadAgain.ends_line, Refined.refine_head}
-use Rattle.qm_certtext.proofs.{Counts.small_parts, Letters.floor_low, Letters.rise_low, Texts.both_inside}
-use Rattle.qm_certtext.proofs.Texts.{lines_inside, number_inside, settings_inside, settings_line}
-use Rattle.qm_obj.proofs.LawSoup.{canonical_lines, each_both, each_map, face_line}
-use Rattle.qm_obj.proofs.LawSoup.{face_line_is, position_line, position_line_is, text_lines}
-use Rattle.qm_obj.proofs.LawText.{is_inside, lines_back, lines_split, no_continuation}
-use Rattle.qm_obj.proofs.{LawText.IsLine, ListLemmas.passes_at, SoupLemmas.are_below}
+use Rattle.qm_certtext.proofs.{Counts.small_parts, Letters.floor_low, Letters.rise_low}
+use Rattle.qm_certtext.proofs.Texts.{both_inside, lines_inside, number_inside, settings_inside, settings_line}
+use Rattle.qm_obj.proofs.LawSoup.{canonical_lines, each_both}
+use Rattle.qm_obj.proofs.LawSoup.{each_map, face_line, face_line_is, position_line, position_line_is, text_lines}
+use Rattle.qm_obj.proofs.LawText.{is_inside, lines_back, lines_split, no_continuation, IsLine}
+use Rattle.qm_obj.proofs.{ListLemmas.passes_at, SoupLemmas.are_below}
 use Rattle.remesh_laws.specs.Asides.{IsAside, IsPassedOver}
+
+-- Lines that are passed over.
+abbrev pub ArePassed : (lines : Lines) → Type 0
+ArePassed lines = (k : ℕ) → k < length lines → IsPassedOver (get_or lines k [])
 
 -- ---- Whole lines.
 
@@ -57,21 +55,19 @@ pub canonical_ends : (soup : FaceSet) → ends_line (canonical_text soup) ≡ tr
 canonical_ends soup = ap ends_line (text_lines soup) ∙ ends_lines (canonical_lines soup)
 
 module _ (soup : FaceSet) (is : IsWritableSoup soup) where
-  lines_are : (k : ℕ) → k < length (canonical_lines soup) → IsLine (get_or (canonical_lines soup) k [])
-  lines_are =
-      each_both IsLine (map position_line soup.pos) (map face_line soup.faces) []
-      (each_map IsLine position_line soup.pos [] [] (λ k l. position_line_is (get_or soup.pos k [])
-      (passes_at is_position soup.pos k [] is.positions l)))
-      (each_map IsLine face_line soup.faces [] [] (λ k l.
-      face_line_is (length soup.pos) (get_or soup.faces k []) is.few_vertices
-      (passes_at is_quad soup.faces k [] is.quads l)
+  -- They are lines.
+  pub lines_are : (k : ℕ) → k < length (canonical_lines soup) → IsLine (get_or (canonical_lines soup) k [])
+  lines_are = each_both IsLine (map position_line soup.pos) (map face_line soup.faces) []
+      (each_map IsLine position_line soup.pos [] []
+      (λ k l. position_line_is (get_or soup.pos k []) (passes_at is_position soup.pos k [] is.positions l)))
+      (each_map IsLine face_line soup.faces [] [] (λ k l. face_line_is (length soup.pos) (get_or soup.faces k [])
+      is.few_vertices (passes_at is_quad soup.faces k [] is.quads l)
       (passes_at (are_below (length soup.pos)) soup.faces k [] is.soup.in_range l)))
 
   -- No line is joined to one of them.
   pub canonical_whole : (k : ℕ) → k < length (lines_of (canonical_text soup))
       → continues (get_or (lines_of (canonical_text soup)) k []) ≡ false
-  canonical_whole = subst (λ (ls : Lines). (k : ℕ) → k < length ls → continues (get_or ls k []) ≡ false)
-      (sym (ap lines_of (text_lines soup) ∙ lines_split (canonical_lines soup) lines_are))
+  canonical_whole = rw (ap lines_of (text_lines soup) ∙ lines_split (canonical_lines soup) lines_are)
       (λ k l. no_continuation (get_or (canonical_lines soup) k []) (lines_are k l).tame)
 
 -- ---- Lines that begin with `#`.
@@ -97,26 +93,23 @@ marked_passed line short = record {
 
 pub hash_passed : (line : Bytes) → get_or line 0 0 ≡ 35 → length line ≤ 65536 → IsPassedOver line
 hash_passed [] begins short = absurd (omega (arith, begins))
-hash_passed (byte ∷ line) begins short =
-    subst (λ (b : ℕ). IsPassedOver (b ∷ line)) (sym begins) (marked_passed line short)
+hash_passed (byte ∷ line) begins short = rw begins (marked_passed line short)
 
--- A text of one such line.
-pub line_aside : (line : Bytes) → get_or line 0 0 ≡ 35 → list_all is_inside line ≡ true → length line ≤ 65536
-    → IsAside (line ++ 10 ∷ [])
-line_aside line begins inside short =
-    record {
-      ended = ends_last line;
-      each = subst (λ (ls : Lines). (k : ℕ) → k < length ls → IsPassedOver (get_or ls k [])) (sym lines) one;
-    }
+-- A text of one line that ends no line has that line alone.
+pub one_line : (line : Bytes) → list_all is_inside line ≡ true → lines_of (line ++ 10 ∷ []) ≡ line ∷ []
+one_line line inside = ap lines_of (sym (append-nil (line ++ 10 ∷ []))) ∙ lines_back (line ∷ []) at
   where
     at : (k : ℕ) → k < 1 → list_all is_inside (get_or (line ∷ []) k []) ≡ true
     at zero l = inside
     at (suc k) l = absurd (omega (arith, l))
 
-    lines : lines_of (line ++ 10 ∷ []) ≡ line ∷ []
-    lines = ap lines_of (sym (append-nil (line ++ 10 ∷ []))) ∙ lines_back (line ∷ []) at
-
-    one : (k : ℕ) → k < 1 → IsPassedOver (get_or (line ∷ []) k [])
+-- A text of one such line.
+pub line_aside : (line : Bytes) → get_or line 0 0 ≡ 35 → list_all is_inside line ≡ true → length line ≤ 65536
+    → IsAside (line ++ 10 ∷ [])
+line_aside line begins inside short =
+    record { ended = ends_last line; each = subst ArePassed (sym (one_line line inside)) one }
+  where
+    one : ArePassed (line ∷ [])
     one zero l = hash_passed line begins short
     one (suc k) l = absurd (omega (arith, l))
 
@@ -162,24 +155,19 @@ cert_passed rising (Floor floor) may = hash_passed (line_text (Floor floor)) ref
 cert_passed rising (RiseLine rise) may =
     hash_passed (line_text (RiseLine rise)) refl (rise_short rise (rise_low rising rise may))
 
-certs_passed : (rising : Rising) (said : List CertLine) → list_all (may_stand rising) said ≡ true → (k : ℕ)
-    → k < length (map line_text said)
-    → IsPassedOver (get_or (map line_text said) k [])
+certs_passed : (rising : Rising) (said : List CertLine) → list_all (may_stand rising) said ≡ true → (k : ℕ) → k
+    < length (map line_text said) → IsPassedOver (get_or (map line_text said) k [])
 certs_passed rising [] all k low = absurd (omega (arith, low))
 certs_passed rising (line ∷ said) all zero low =
     cert_passed rising line (and_parts (may_stand rising line) (list_all (may_stand rising) said) all).0
 certs_passed rising (line ∷ said) all (suc k) low = certs_passed rising said
     (and_parts (may_stand rising line) (list_all (may_stand rising) said) all).1 k (omega (arith, low))
 
-pub cert_lines_passed : (rising : Rising) (said : List CertLine) → list_all (may_stand rising) said ≡ true → (k : ℕ)
-    → k < length (lines_of (text_of said))
-    → IsPassedOver (get_or (lines_of (text_of said)) k [])
-cert_lines_passed rising said all = subst (λ (ls : Lines). (k : ℕ) → k < length ls → IsPassedOver (get_or ls k []))
-    (sym lines) (certs_passed rising said all)
-  where
-    lines : lines_of (text_of said) ≡ map line_text said
-    lines = ap lines_of (sym (flat_map-map (λ l. l ++ 10 ∷ []) line_text said))
-        ∙ lines_back (map line_text said) (lines_inside rising said all)
+pub cert_lines_passed : (rising : Rising) (said : List CertLine) → list_all (may_stand rising) said ≡ true
+    → ArePassed (lines_of (text_of said))
+cert_lines_passed rising said all = subst ArePassed
+    (sym (ap lines_of (sym (flat_map-map (λ l. l ++ 10 ∷ []) line_text said))
+    ∙ lines_back (map line_text said) (lines_inside rising said all))) (certs_passed rising said all)
 
 -- ---- Head lines.
 
@@ -233,10 +221,8 @@ head_aside settings auto range = settings_aside (codes "#quadq 1 remesh scale ")
     range
 
 pub refine_aside : (by : ℕ) → by < 2 ^ 64 → IsAside (refine_head by)
-refine_aside by low = line_aside (codes "#quadq 1 refine by " ++ decimal by) refl inside short
-  where
-    inside : list_all is_inside (codes "#quadq 1 refine by " ++ decimal by) ≡ true
-    inside = both_inside (codes "#quadq 1 refine by ") (decimal by) refl (number_inside by low)
-
-    short : length (codes "#quadq 1 refine by " ++ decimal by) ≤ 65536
-    short = omega (arith, length-append (codes "#quadq 1 refine by ") (decimal by), number_short by low)
+refine_aside by low =
+    let inside = both_inside (codes "#quadq 1 refine by ") (decimal by) refl (number_inside by low) in
+    let short : length (codes "#quadq 1 refine by " ++ decimal by)
+    ≤ 65536 = omega (arith, length-append (codes "#quadq 1 refine by ") (decimal by), number_short by low) in
+    line_aside (codes "#quadq 1 refine by " ++ decimal by) refl inside short

@@ -14,12 +14,10 @@ pub certified_lengths : {wish : Wish} {floors : Lengths} (layout : Layout) (sett
     → ((arc : ℕ) → 1 ≤ floors arc) → HasLeastLengths wish layout settings floors cert
     → AreLengths (gluing_of layout) (lengths_in cert.x)
 certified_lengths layout settings cert floor is =
+    let some : (a : ℕ) → a < length layout.arcs → 0
+    < slice_index cert.x a = λ a low. let high = is.least.admissible.high a (omega (arith, low, is.of_layout.long)) in
+    omega (arith, ints, high, floor a, is.of_layout.floors a low) in
     (opposite_law (gluing_of layout) (lengths_in cert.x) some).1 is.opposite
-  where
-    some : (a : ℕ) → a < length layout.arcs → 0 < slice_index cert.x a
-    some a low =
-        let high = is.least.admissible.high a (omega (arith, low, is.of_layout.long)) in
-        omega (arith, ints, high, floor a, is.of_layout.floors a low)
 
 -- So are those that are used, after each round.
 lengths_behind : (wish : Wish) (layout : Layout) (settings : Settings) (rising : Rising) (certificates : Certificates)
@@ -30,9 +28,8 @@ lengths_behind wish layout settings rising (alone cert) floors some kept =
     certified_lengths layout settings cert some kept
 lengths_behind wish layout settings rising (raised first cert) floors some kept =
     certified_lengths layout settings cert (λ arc. omega arith) kept.2
-lengths_behind wish layout settings rising (risen first rises after) floors some kept =
-    lengths_behind wish layout settings
-    rising after (risen_floors rises floors) (needed_some layout first.x rises floors kept.2 some) kept.3
+lengths_behind wish layout settings rising (risen first rises after) floors some kept = lengths_behind wish layout
+    settings rising after (risen_floors rises floors) (needed_some layout first.x rises floors kept.2 some) kept.3
 
 pub used_lengths : (wish : Wish) (layout : Layout) (settings : Settings) (rising : Rising) (certificates : Certificates)
     → 1 ≤ settings.floor

@@ -1,31 +1,28 @@
 -- What least lengths and the numbers of their new mesh make, together, of a layout that is remeshed.
-use Rattle.std.proofs.{lemmas.Bool.cases_lt, lemmas.List.get_or_past, Common.◌≡◌, Common.◌≤◌, Common.◌<◌, Common.◌⊎◌}
-use Rattle.std.proofs.Common.{inl, inr, ℕ, List, length, sym, ◌∙◌, ap}
-use Rattle.std.proofs.{Common.subst, Common.refl, Common.arith, lemmas.Int.ints}
+use Rattle.std.proofs.Common.{◌≡◌, ◌≤◌, ◌<◌, inl, inr, ℕ, List, length, ◌∙◌, ap, subst, refl, arith}
+use Rattle.std.proofs.lemmas.{Bool.cases_lt, Int.ints, List.get_or_past}
 use Rattle.std.specs.Prelude.{IsErrOf, Result, Err}
 use Rattle.def_certtext.specs.CertLines.{alone, lists_of, raised, used, Certificates}
-use Rattle.def_certtext.specs.declared.certs.Rising.{Rising}
-use Rattle.def_certtext.specs.declared.certs.Rising.TheVariants.{Third}
+use Rattle.def_certtext.specs.declared.certs.Rising.{Rising, TheVariants.Third}
 use Rattle.def_flow.specs.{Accepted.certificate, Descent.IsSolution, Network.arc_at, Network.Network}
-use Rattle.def_flow.specs.{declared.cert.Cert.Cert, declared.limits.TheConstants.MAX_FLOOR}
-use Rattle.def_flow.specs.{declared.limits.TheConstants.MAX_LENGTH, declared.net.Settings.Settings}
-use Rattle.def_layout.specs.{FaceLayouts.IsCutLayout, Lengths.AreLengths as AreArcLengths, Lengths.Lengths}
-use Rattle.def_layout.specs.{Layouts.Layout}
-use Rattle.def_layout.specs.Layouts.{gluing_of, vertex_at}
+use Rattle.def_flow.specs.declared.{cert.Cert.Cert, limits.TheConstants.MAX_FLOOR}
+use Rattle.def_flow.specs.declared.{limits.TheConstants.MAX_LENGTH, net.Settings.Settings}
+use Rattle.def_layout.specs.{FaceLayouts.IsCutLayout, Layouts.Layout, Layouts.gluing_of, Layouts.vertex_at}
+use Rattle.def_layout.specs.Lengths.{AreLengths as AreArcLengths, Lengths}
 use Rattle.def_mesh.specs.Faces.{Faces}
-use Rattle.def_remesh.specs.{Placings.IsMeshLayout, Keeping.IsKept, NewPoints.lengths_in, Refusals.AreTooFine}
-use Rattle.def_remesh.specs.{Certified.AreKept, Certified.IsCertified, Remeshed.AreKeptBy, Remeshed.HasLeastLengths}
-use Rattle.def_remesh.specs.{Remeshed.AreCoarse, Remeshed.AreDoubled, Remeshed.finished_text, Stitched.AreLong}
-use Rattle.def_remesh.specs.{Stitched.AreSafe, Stitched.IsUnstitched, Stitched.KeepsShapes, Tasks.given_floors}
-use Rattle.def_remesh.specs.{Tasks.Task, Tasks.Wish, declared.fail.StitchFail.StitchFail, declared.tables.Tables.Tables}
-use Rattle.def_remesh.specs.Keeping.{IsNetWith}
+use Rattle.def_remesh.specs.{Certified.AreKept, Certified.IsCertified, Keeping.IsKept}
+use Rattle.def_remesh.specs.{Keeping.IsNetWith, NewPoints.lengths_in, Placings.IsMeshLayout, Refusals.AreTooFine}
+use Rattle.def_remesh.specs.Remeshed.{AreKeptBy, HasLeastLengths, AreCoarse, AreDoubled, finished_text}
+use Rattle.def_remesh.specs.Stitched.{AreLong, AreSafe, IsUnstitched, KeepsShapes}
+use Rattle.def_remesh.specs.Tasks.{given_floors, Task, Wish}
+use Rattle.def_remesh.specs.declared.{fail.StitchFail.StitchFail, tables.Tables.Tables}
 use Rattle.def_text.specs.FaceSet.{FaceSet}
-use Rattle.def_written.specs.{Shape.KeepsShape, Edges.IsFirstDoubled, NewFaces.new_faces}
-use Rattle.def_remesh.specs.declared.fail.StitchFail.TheVariants as fails
+use Rattle.def_written.specs.{Edges.IsFirstDoubled, NewFaces.new_faces, Shape.KeepsShape}
 use Rattle.remesh_laws.specs.Keeps.{IsNumbered, ShowsTask}
 use Rattle.def_layoutnet.specs.Floors.{HasFloors}
-use Rattle.remesh_laws.proofs.{Certified.certified_lengths, ReadAgain.task_read, Rounds.kept_by, Rounds.raised_net}
-use Rattle.remesh_laws.proofs.Solved.{certified}
+use Rattle.remesh_laws.proofs.Certified.{certified_lengths}
+use Rattle.remesh_laws.proofs.{ReadAgain.task_read, Rounds.kept_by, Rounds.raised_net, Solved.certified}
+use Rattle.def_remesh.specs.declared.fail.StitchFail.TheVariants as fails
 
 -- Its solution is certified.
 pub solved : {wish : Wish} {floors : Lengths} (layout : Layout) (settings : Settings) (net : Network) (cert : Cert)
@@ -38,8 +35,7 @@ solved layout settings net cert for is = certified _ layout settings _ net (list
 pub are_lengths : {wish : Wish} {floors : Lengths} (layout : Layout) (settings : Settings) (net : Network) (cert : Cert)
     (xs : List ℕ) → IsNetWith wish layout settings floors net
     → IsSolution net (certificate cert) → xs ≡ cert.x.items → AreArcLengths (gluing_of layout) (lengths_in xs)
-are_lengths layout settings net cert xs for is same =
-    subst (λ (ys : List ℕ). AreArcLengths (gluing_of layout) (lengths_in ys)) (sym same)
+are_lengths layout settings net cert xs for is same = rw same
     (certified_lengths layout settings (lists_of cert) for.floor (solved layout settings net cert for is).lengths)
 
 -- The network with floor 3.
@@ -64,7 +60,7 @@ keeps {wish} layout settings rising certificates xs tables same kept numbered = 
 }
   where
     is : IsNumbered layout (used certificates).x tables
-    is = subst (λ (ys : List ℕ). IsNumbered layout ys tables) same numbered
+    is = rw (← same) numbered
 
 pub keeps_first : {wish : Wish} (layout : Layout) (settings : Settings) (rising : Rising) (cert : Cert) (xs : List ℕ)
     (tables : Tables) → xs ≡ cert.x.items
@@ -73,8 +69,7 @@ pub keeps_first : {wish : Wish} (layout : Layout) (settings : Settings) (rising 
 keeps_first layout settings rising cert xs tables = keeps layout settings rising (alone (lists_of cert)) xs tables
 
 pub keeps_third : {wish : Wish} (layout : Layout) (settings : Settings) (first third : Cert) (xs : List ℕ)
-    (tables : Tables)
-    → xs ≡ third.x.items
+    (tables : Tables) → xs ≡ third.x.items
     → AreKept wish layout settings Third (raised (lists_of first) (lists_of third)) → IsNumbered layout xs tables
     → IsKept wish layout settings Third (raised (lists_of first) (lists_of third)) tables
 keeps_third layout settings first third xs tables =
@@ -86,14 +81,12 @@ pub too_fine : (layout : Layout) (xs ys : List ℕ) (fail : StitchFail) (faces :
 too_fine layout xs ys fail faces same is refused =
     let told : IsUnstitched (gluing_of layout) (lengths_in xs) (fails.TooFine faces) =
     subst (IsUnstitched (gluing_of layout) (lengths_in xs)) is refused in
-    subst (λ (zs : List ℕ). AreTooFine layout zs faces) same (told.0, omega (arith, told.0, told.1))
+    rw (← same) (told.0, omega (arith, told.0, told.1))
 
-pub doubled_first : (layout : Layout) (xs ys : List ℕ) (fail : StitchFail) (u v : ℕ) → xs ≡ ys
-    → fail ≡ fails.Doubled u v
-    → IsUnstitched (gluing_of layout) (lengths_in xs) fail → AreCoarse layout ys
+pub doubled_first : (layout : Layout) (xs ys : List ℕ) (fail : StitchFail) (u v : ℕ) → xs ≡ ys → fail
+    ≡ fails.Doubled u v → IsUnstitched (gluing_of layout) (lengths_in xs) fail → AreCoarse layout ys
     × IsFirstDoubled (gluing_of layout) (lengths_in ys) u v
-doubled_first layout xs ys fail u v same is refused =
-    subst (λ (zs : List ℕ). AreCoarse layout zs × IsFirstDoubled (gluing_of layout) (lengths_in zs) u v) same
+doubled_first layout xs ys fail u v same is refused = rw (← same)
     (subst (IsUnstitched (gluing_of layout) (lengths_in xs)) is refused)
 
 pub doubled_some : (layout : Layout) (ys : List ℕ) (u v : ℕ) → IsFirstDoubled (gluing_of layout) (lengths_in ys) u v
@@ -103,12 +96,11 @@ doubled_some layout ys u v first = (u, v, first.doubled)
 -- No length is too great, also beyond the last arc.
 pub bounded : (net : Network) (cert : Cert) (xs : List ℕ) → IsSolution net (certificate cert) → xs ≡ cert.x.items
     → (arc : ℕ) → lengths_in xs arc ≤ MAX_LENGTH
-bounded net cert xs is same arc = subst (λ (ys : List ℕ). lengths_in ys arc ≤ MAX_LENGTH) (sym same)
-    (by_arc (cases_lt arc (length cert.x.items)))
-  where
-    by_arc : (arc < length cert.x.items) ⊎ (length cert.x.items ≤ arc) → lengths_in cert.x.items arc ≤ MAX_LENGTH
-    by_arc (inl low) = is.lengths.small arc low
-    by_arc (inr high) = omega (arith, get_or_past cert.x.items arc 0 high)
+bounded net cert xs is same arc = rw same
+    (elim (cases_lt arc (length cert.x.items)) [
+      | inl low ↦ is.lengths.small arc low
+      | inr high ↦ omega (arith, get_or_past cert.x.items arc 0 high)
+    ])
 
 -- Lengths for the greatest floors are long.
 pub long_lengths : {wish : Wish} {floors : Lengths} (layout : Layout) (settings : Settings) (net : Network)
@@ -125,7 +117,7 @@ pub none_doubled : {T : Type 0} (layout : Layout) (xs ys : List ℕ) (result : R
     → (AreSafe layout (lengths_in xs) → (a b : ℕ) → ¬ IsErrOf result (fails.Doubled a b))
     → result ≡ Err fail → fail ≡ fails.Doubled u v → ⊥
 none_doubled layout xs ys result fail u v same long safe told doubled =
-    safe (inl (subst (λ (zs : List ℕ). AreLong layout (lengths_in zs)) (sym same) long)) u v (told ∙ ap Err doubled)
+    safe (inl (rw same long)) u v (told ∙ ap Err doubled)
 
 -- So lengths that double one are for a lower floor.
 pub low_floor : {T : Type 0} {wish : Wish} (layout : Layout) (settings : Settings) (cert : Cert) (xs : List ℕ)
@@ -134,26 +126,19 @@ pub low_floor : {T : Type 0} {wish : Wish} (layout : Layout) (settings : Setting
     → (AreSafe layout (lengths_in xs) → (a b : ℕ) → ¬ IsErrOf result (fails.Doubled a b))
     → result ≡ Err fail → fail ≡ fails.Doubled u v → settings.floor < MAX_FLOOR
 low_floor layout settings cert xs result fail u v same is safe told doubled =
-    by_floor (cases_lt settings.floor MAX_FLOOR)
-  where
-    long : MAX_FLOOR ≤ settings.floor → AreLong layout (lengths_in cert.x.items)
-    long high a low =
-        let above = is.lengths.least.admissible.high a (omega (arith, low, is.lengths.of_layout.long)) in
-        omega (arith, ints, above, high, is.lengths.of_layout.floors a low)
-
-    by_floor : (settings.floor < MAX_FLOOR) ⊎ (MAX_FLOOR ≤ settings.floor) → settings.floor < MAX_FLOOR
-    by_floor (inl low) = low
-    by_floor (inr high) = absurd
-        (none_doubled layout xs cert.x.items result fail u v same (long high) safe told doubled)
+    elim (cases_lt settings.floor MAX_FLOOR) [
+      | inl low ↦ low
+      | inr high ↦ absurd (none_doubled layout xs cert.x.items result fail u v same (λ a low.
+          let above = is.lengths.least.admissible.high a (omega (arith, low, is.lengths.of_layout.long)) in
+          omega (arith, ints, above, high, is.lengths.of_layout.floors a low)) safe told doubled)
+    ]
 
 -- The new mesh has the shape of the one that the layout lies in.
 pub kept_shape : (soup : FaceSet) (layout : Layout) (xs : List ℕ) → IsMeshLayout soup.faces layout
     → KeepsShapes layout (lengths_in xs)
     → KeepsShape soup.faces (new_faces (gluing_of layout) (lengths_in xs)) (gluing_of layout).nodes (vertex_at layout)
-kept_shape soup layout xs lies shapes = subst
-    (λ (fs : Faces). KeepsShape fs (new_faces (gluing_of layout) (lengths_in xs)) (gluing_of layout).nodes
-    (vertex_at layout))
-    lies.1
+kept_shape soup layout xs lies shapes = subst (λ (fs : Faces). KeepsShape fs
+    (new_faces (gluing_of layout) (lengths_in xs)) (gluing_of layout).nodes (vertex_at layout)) lies.1
     (shapes lies.0.faces lies.0.marks lies.0.mesh lies.0.quads lies.0.cut lies.0.laid)
 
 -- Accepted certificates have least lengths.
@@ -169,10 +154,7 @@ pub shown : (task : Task) (soup : FaceSet) (layout : Layout) (certificates : Cer
     → IsCutLayout soup.faces task.marks layout → IsKept task.wish layout task.settings task.rising certificates tables
     → ShowsTask task soup (finished_text task soup layout certificates)
 shown task soup layout certificates tables lies cut kept =
-    let lengths : AreKeptBy (HasLeastLengths task.wish layout task.settings) layout (given_floors task.settings)
-    task.rising
-    certificates =
-    least_of task.wish layout task.settings task.rising certificates kept.kept in
+    let lengths = least_of task.wish layout task.settings task.rising certificates kept.kept in
     record {
       shown = record {
         finished = record {
@@ -187,8 +169,6 @@ shown task soup layout certificates tables lies cut kept =
         };
         certified = kept.kept;
       };
-      read = task_read task soup layout certificates kept.numbering.mesh
-          (subst (λ (xs : List ℕ). AreArcLengths (gluing_of layout) (lengths_in xs)) kept.lengths
-          kept.numbering.lengths)
+      read = task_read task soup layout certificates kept.numbering.mesh (rw (← kept.lengths) kept.numbering.lengths)
           lengths;
     }

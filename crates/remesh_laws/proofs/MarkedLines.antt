@@ -1,14 +1,13 @@
 -- The lines of marked arcs: whole lines, of which none begins with `#`.
-use Rattle.std.proofs.Common.{◌≡◌, ◌+◌, ◌/◌, ◌%◌, ◌<◌, ◌≤◌, ℕ, zero, suc, Bool, true, false, List, [], ◌∷◌, ◌++◌}
-use Rattle.std.proofs.Common.{length, map, filter, get_or, ◌∙◌, ap, refl, arith}
-use Rattle.std.proofs.lemmas.Bool.{and_from, cond-true, lt-ltb}
-use Rattle.std.proofs.lemmas.Bool.Decides.{nat_tests}
-use Rattle.std.proofs.lemmas.List.Folds.{list_all-append}
+use Rattle.std.proofs.Common.{◌≡◌, ◌+◌, ◌/◌, ◌%◌, ◌<◌, ◌≤◌, ℕ, zero, suc, Bool, true, false, List}
+use Rattle.std.proofs.Common.{[], ◌∷◌, ◌++◌, length, map, filter, get_or, ◌∙◌, ap, refl, arith, inl, inr, sym}
+use Rattle.std.proofs.lemmas.Bool.{and_from, cases_Bool, cond-true, cond_both, lt-ltb, Decides.nat_tests}
+use Rattle.std.proofs.lemmas.List.Folds.{flat_map-map, list_all-append}
 use Rattle.std.specs.{Fmt.digit_glyph, Fmt.digits, Fmt.digits_onto, List.flat_map, List.list_all, List.range_with_len}
-use Rattle.std.specs.Prelude.{◌==◌, decimal, if◌then◌else◌, nat_lt}
+use Rattle.std.specs.Prelude.{◌==◌, decimal, nat_lt}
 use Rattle.def_certtext.specs.Reading.{is_hash_line}
 use Rattle.def_io.specs.{Bytes.Bytes, Lines.lines_of}
-use Rattle.def_layout.specs.{Lengths.Lengths, Layouts.gluing_of, Layouts.Layout}
+use Rattle.def_layout.specs.{Layouts.gluing_of, Layouts.Layout, Lengths.Lengths}
 use Rattle.def_marks.specs.MarkedText.{arc_chain, arc_text, chain_text, is_marked_arc, marked_text}
 use Rattle.def_remesh.specs.ReadAgain.{ends_line}
 use Rattle.qm_obj.proofs.LawText.{is_inside, is_tame, lines_back, tame_inside}
@@ -27,18 +26,10 @@ digits_tame : (k n : ℕ) (behind : Bytes) → list_all is_tame behind ≡ true
     → list_all is_tame (digits_onto k 10 false n behind) ≡ true
 digits_tame zero n behind all = all
 digits_tame (suc k) n behind all =
-    by_test (n / 10 == 0) more (digits_tame k (n / 10) (digit_glyph false (n % 10) ∷ behind) more)
-  where
-    more : list_all is_tame (digit_glyph false (n % 10) ∷ behind) ≡ true
-    more = and_from (is_tame (digit_glyph false (n % 10))) (list_all is_tame behind) (glyph_tame (n % 10) (omega arith))
-        all
-
-    by_test : (t : Bool) → list_all is_tame (digit_glyph false (n % 10) ∷ behind) ≡ true
-        → list_all is_tame (digits_onto k 10 false (n / 10) (digit_glyph false (n % 10) ∷ behind)) ≡ true
-        → list_all is_tame (if t then digit_glyph false (n % 10) ∷ behind else digits_onto k 10 false (n / 10)
-        (digit_glyph false (n % 10) ∷ behind)) ≡ true
-    by_test true last next = last
-    by_test false last next = next
+    let more : list_all is_tame (digit_glyph false (n % 10) ∷ behind) ≡ true =
+    and_from _ _ (glyph_tame (n % 10) (omega arith)) all in
+    cond_both (n / 10 == 0) _ _ (λ (bs : Bytes). list_all is_tame bs ≡ true) (λ on. more)
+    (λ off. digits_tame k (n / 10) (digit_glyph false (n % 10) ∷ behind) more)
 
 decimal_tame : (n : ℕ) → list_all is_tame (decimal n) ≡ true
 unfolding digits
@@ -68,33 +59,23 @@ chains_plain [] = refl
 chains_plain (chain ∷ chains) = chains_plain chains
 
 module _ (marks : List Bool) (layout : Layout) (new : Lengths) where
-  -- The chains of the marked ones of some arcs.
-  abbrev chains_in : (arcs : List ℕ) → List (List ℕ)
-  chains_in [] = []
-  chains_in (arc ∷ arcs) =
-      if is_marked_arc marks layout arc then arc_chain (gluing_of layout) new arc ∷ chains_in arcs else chains_in arcs
-
-  text_is : (arcs : List ℕ) → flat_map (arc_text marks layout new) arcs
-      ≡ flat_map (λ l. l ++ 10 ∷ []) (map chain_line (chains_in arcs))
-  text_is [] = refl
-  text_is (arc ∷ arcs) = by_test (is_marked_arc marks layout arc) (text_is arcs)
-    where
-      by_test : (t : Bool) → flat_map (arc_text marks layout new) arcs
-          ≡ flat_map (λ l. l ++ 10 ∷ []) (map chain_line (chains_in arcs))
-          → (if t then chain_text (arc_chain (gluing_of layout) new arc) else []) ++ flat_map
-          (arc_text marks layout new)
-          arcs
-          ≡ flat_map (λ l. l ++ 10 ∷ [])
-          (map chain_line (if t then arc_chain (gluing_of layout) new arc ∷ chains_in arcs else chains_in arcs))
-      by_test true same = ap (λ (t : Bytes). chain_text (arc_chain (gluing_of layout) new arc) ++ t) same
-      by_test false same = same
+  -- The lines of marked arcs are those of their chains.
+  pub marked_is : (arcs : List ℕ) → flat_map (arc_text marks layout new) arcs
+      ≡ flat_map chain_text (map (arc_chain (gluing_of layout) new) (filter (is_marked_arc marks layout) arcs))
+  marked_is [] = refl
+  marked_is (arc ∷ arcs) = elim (cases_Bool (is_marked_arc marks layout arc)) [
+    | inl on ↦ rw on (ap (λ (t : Bytes). chain_text (arc_chain (gluing_of layout) new arc) ++ t) (marked_is arcs))
+    | inr off ↦ rw off (marked_is arcs)
+  ]
 
   -- The chains of all marked arcs.
   abbrev pub marked_chains : List (List ℕ)
-  marked_chains = chains_in (range_with_len 0 (length layout.arcs))
+  marked_chains = map (arc_chain (gluing_of layout) new)
+      (filter (is_marked_arc marks layout) (range_with_len 0 (length layout.arcs)))
 
-  pub chains_text : marked_text marks layout new ≡ flat_map (λ l. l ++ 10 ∷ []) (map chain_line marked_chains)
-  chains_text = text_is (range_with_len 0 (length layout.arcs))
+  chains_text : marked_text marks layout new ≡ flat_map (λ l. l ++ 10 ∷ []) (map chain_line marked_chains)
+  chains_text = marked_is (range_with_len 0 (length layout.arcs))
+      ∙ sym (flat_map-map (λ l. l ++ 10 ∷ []) chain_line marked_chains)
 
   pub marked_lines : lines_of (marked_text marks layout new) ≡ map chain_line marked_chains
   marked_lines = ap lines_of chains_text ∙ lines_back (map chain_line marked_chains) (chains_inside marked_chains)
@@ -103,7 +84,5 @@ module _ (marks : List Bool) (layout : Layout) (new : Lengths) where
   marked_ended = ap ends_line chains_text ∙ ends_lines (map chain_line marked_chains)
 
   pub marked_silent : IsSilent (marked_text marks layout new)
-  marked_silent = record {
-    ended = marked_ended;
-    plain = ap (filter is_hash_line) marked_lines ∙ chains_plain marked_chains;
-  }
+  marked_silent =
+      record { ended = marked_ended; plain = ap (filter is_hash_line) marked_lines ∙ chains_plain marked_chains }

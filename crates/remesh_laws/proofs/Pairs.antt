@@ -1,5 +1,5 @@
 -- A text is a checked pair in one way: its lines from the head line on tell how the remesh was made, and no other way.
-use Rattle.std.proofs.Common.{◌≡◌, ◌↔◌, ℕ, ◌+◌, [], drop, slice_index_or, ◌∙◌, ap, subst}
+use Rattle.std.proofs.Common.{◌≡◌, ◌↔◌, ℕ, ◌+◌, [], drop, slice_index_or, ◌∙◌, ap}
 use Rattle.def_certtext.specs.{Laws.TellsOnly, Reading.Made, Reading.TellHow}
 use Rattle.def_io.specs.{Bytes.Bytes, Bytes.Lines, Lines.lines_of, Lines.tail_of}
 use Rattle.def_remesh.specs.TextLaws.{made_by, PairLaw}
@@ -9,15 +9,11 @@ use Rattle.remesh_laws.proofs.{Tails.first-drop, Tails.lines-tail, Tails.tail_be
 pub tail_told : (bytes : Bytes) (line : ℕ) (by : Made) → TellsOnly (tail_of line bytes) by → (made : Made)
     → TellHow (slice_index_or (lines_of bytes) line []) (drop (line + 1) (lines_of bytes)) made ↔ (made ≡ by)
 tail_told bytes line by only made =
-    subst (λ (head : Bytes). TellHow head (drop (line + 1) (lines_of bytes)) made ↔ (made ≡ by)) head
-    (subst (λ (behind : Lines). TellHow (slice_index_or (lines_of (tail_of line bytes)) 0 []) behind made ↔ (made ≡ by))
-    behind (only made))
-  where
-    head : slice_index_or (lines_of (tail_of line bytes)) 0 [] ≡ slice_index_or (lines_of bytes) line []
-    head = ap (λ (ls : Lines). slice_index_or ls 0 []) (lines-tail line bytes) ∙ first-drop line (lines_of bytes)
-
-    behind : drop 1 (lines_of (tail_of line bytes)) ≡ drop (line + 1) (lines_of bytes)
-    behind = tail_behind line bytes
+    let head : slice_index_or (lines_of (tail_of line bytes)) 0 [] ≡ slice_index_or (lines_of bytes) line [] = ap
+    (λ (ls : Lines). slice_index_or ls 0 []) (lines-tail line bytes) ∙ first-drop line (lines_of bytes) in
+    let behind = tail_behind line bytes in
+    rw (← head)
+    (rw (← behind) (only made))
 
 pub pair_law : PairLaw
 pair_law bytes pair solid made = tail_told bytes pair.line (made_by pair.settings pair.auto pair.remeshed.certificates)

@@ -1,32 +1,29 @@
 -- The soup of a new mesh can be written: its coordinates are in range, and its faces are quads over few vertices.
-use Rattle.std.proofs.Common.{◌≡◌, ◌⊎◌, ℕ, zero, suc, ◌+◌, ◌-◌, ◌*◌, ◌^◌, ◌<◌, ◌≤◌, Bool, true, not, List, [], ◌∷◌}
+use Rattle.std.proofs.Common.{◌≡◌, ℕ, zero, suc, ◌+◌, ◌-◌, ◌*◌, ◌^◌, ◌<◌, ◌≤◌, Bool, true, not, List, [], ◌∷◌}
 use Rattle.std.proofs.Common.{Option, length, refl, sym, ◌∙◌, ap, subst, inl, inr, arith, pos, negsuc, neg_ℤ, ℤ, ◌≤ℤ◌}
 use Rattle.std.proofs.lemmas.Bool.{and_from, and_parts, cases_lt, cond-false, cond-true, false≢true, le-ltb, lt-ltb}
-use Rattle.std.proofs.lemmas.Bool.Decides.{Decides-eqb}
-use Rattle.std.proofs.lemmas.Int.{ints}
+use Rattle.std.proofs.lemmas.{Bool.Decides.Decides-eqb, Int.ints, List.Folds.list_all-map}
 use Rattle.std.proofs.lemmas.List.FromFn.{get_or-range_with_len, length-range_with_len}
-use Rattle.std.proofs.lemmas.List.Folds.{list_all-map}
 use Rattle.std.proofs.lemmas.List.Sums.{list_all-from_AllPass}
-use Rattle.std.specs.{Prelude.nat_lt, Prelude.unsigned_abs, Prelude.slice_index_or, List.list_all, List.range_with_len}
-use Rattle.written_laws.proofs.{Runs.run_here, Runs.IsInRun, EdgeNumbers.in_rows, Between.between_law, Borders.from_is}
-use Rattle.written_laws.proofs.{Numbers.number_low, NewDarts.cell_is}
+use Rattle.std.specs.{List.list_all, List.range_with_len, Prelude.nat_lt, Prelude.unsigned_abs, Prelude.slice_index_or}
+use Rattle.written_laws.proofs.{Between.between_law, Borders.from_is}
+use Rattle.written_laws.proofs.{EdgeNumbers.in_rows, NewDarts.cell_is, Numbers.number_low, Runs.run_here, Runs.IsInRun}
 use Rattle.def_math.specs.Runs.{run_at}
 use Rattle.def_mesh.specs.Faces.{Faces}
-use Rattle.def_text.specs.{Decimal.is_far, FaceSet.FaceSet, Laws.is_position, Laws.is_quad, Types.Positions}
-use Rattle.def_text.specs.declared.limits.TheConstants.{MAX_MICRO}
+use Rattle.def_text.specs.{Decimal.is_far, FaceSet.FaceSet}
+use Rattle.def_text.specs.{Laws.is_position, Laws.is_quad, Types.Positions, declared.limits.TheConstants.MAX_MICRO}
 use Rattle.def_certtext.specs.Laws.{IsPrintable}
-use Rattle.def_layout.specs.{Arcs.long_at, Gluings.Gluing, Gluings.Way, Gluings.south, Gluings.east, Gluings.north}
-use Rattle.def_layout.specs.{Gluings.west, Lengths.Lengths, Lengths.wide, Lengths.high, Lengths.AreLengths}
-use Rattle.def_layout.specs.{Layouts.Layout}
-use Rattle.def_layout.specs.{Layouts.gluing_of, FaceLayouts.IsCutLayout}
-use Rattle.def_written.specs.NewFaces.{face_count, dart_start, new_face, dart_of}
-use Rattle.def_written.specs.{NewFaces.cell_vertex, Numbers.before_arc, Numbers.before_patch, Numbers.vertices}
-use Rattle.def_written.specs.{Points.IsPoint, Laws.AreQuads}
+use Rattle.def_layout.specs.{Arcs.long_at, FaceLayouts.IsCutLayout, Gluings.Gluing, Gluings.Way, Gluings.south}
+use Rattle.def_layout.specs.{Gluings.east, Gluings.north, Gluings.west, Layouts.Layout, Layouts.gluing_of}
+use Rattle.def_layout.specs.{Lengths.Lengths, Lengths.wide, Lengths.high, Lengths.AreLengths, Surfaces.IsSurface}
+use Rattle.def_written.specs.Laws.{AreQuads}
+use Rattle.def_written.specs.NewFaces.{face_count, dart_start, new_face, new_faces, dart_of, cell_vertex}
+use Rattle.def_written.specs.{Numbers.before_arc, Numbers.before_patch, Numbers.vertices, Points.IsPoint}
 use Rattle.def_cut.specs.{FullCut.IsFullCut, Traced.traced_marks}
 use Rattle.def_layoutnet.specs.MeshLayouts.{IsSomeLayout}
-use Rattle.def_remesh.specs.{TextLaws.IsSolid, declared.limits.TheConstants.MAX_NEW_FACES, NewPoints.along_arcs}
-use Rattle.def_remesh.specs.{NewPoints.inside_patches, NewPoints.old_vertex, NewPoints.point_at, NewSoup.coordinate}
-use Rattle.def_remesh.specs.{NewSoup.new_coordinate, NewSoup.spaced_place, NewSoup.spaced_soup, Spaced.spacing_by}
+use Rattle.def_remesh.specs.NewPoints.{along_arcs, inside_patches, old_vertex, point_at}
+use Rattle.def_remesh.specs.NewSoup.{coordinate, new_coordinate, spaced_place, spaced_soup}
+use Rattle.def_remesh.specs.{Spaced.spacing_by, TextLaws.IsSolid, declared.limits.TheConstants.MAX_NEW_FACES}
 use Rattle.map_laws.proofs.Spaced.{spacing_is}
 use Rattle.embedding_laws.proofs.{Bounds.vertices_few, MeshLayouts.laid_of, MeshLayouts.lengths_of}
 use Rattle.site_laws.proofs.Laws.{graph_law}
@@ -37,9 +34,35 @@ passes_range p n each = list_all-from_AllPass p (range_with_len 0 n)
     (λ k x l. let low : k < n = omega (arith, l, length-range_with_len 0 n) in
     ap p (get_or-range_with_len 0 n k x low ∙ omega arith) ∙ each k low)
 
+-- What passes at each corner of a new mesh passes at all corners of its faces, which are quads.
+pub faces_pass : (l : Gluing) (x : Lengths) (p : ℕ → Bool)
+    → ((f : ℕ) (w : Way) → f < face_count l x → p (cell_vertex l x f w) ≡ true)
+    → list_all (λ face. list_all p face) (new_faces l x) ≡ true
+faces_pass l x p each = list_all-map (λ face. list_all p face) (new_face l x) (range_with_len 0 (face_count l x))
+    ∙ passes_range _ (face_count l x) (λ f low. and_from _ _ (each f south low) (and_from _ _ (each f east low)
+    (and_from _ _ (each f north low) (and_from _ _ (each f west low) refl))))
+
+pub quads_pass : (l : Gluing) (x : Lengths) → list_all is_quad (new_faces l x) ≡ true
+quads_pass l x = list_all-map is_quad (new_face l x) (range_with_len 0 (face_count l x))
+    ∙ passes_range _ (face_count l x) (λ f low. refl)
+
+-- Each corner is a new vertex.
+pub corner_there : (l : Gluing) (x : Lengths) → IsSurface l → AreLengths l x → (f : ℕ) (w : Way)
+    → f < face_count l x → cell_vertex l x f w < vertices l x
+corner_there l x laid len f w low = number_low l x (dart_start l x (dart_of l x f w))
+    (from_is l x laid len (dart_of l x f w) (cell_is l x laid len f w low))
+
 -- The point with a number is a point.
 pub point_is : (l : Gluing) (x : Lengths) (v : ℕ) → v < vertices l x → IsPoint l x (point_at l x v)
-point_is l x v low = by_node (cases_lt v l.nodes)
+point_is l x v low = elim (cases_lt v l.nodes) [
+  | inl lt ↦ subst (IsPoint l x) (sym (cond-true _ _ _ (lt-ltb v l.nodes lt))) lt
+  | inr le ↦ elim (cases_lt v ends) [
+    | inl lt ↦ subst (IsPoint l x) (sym (cond-false _ _ _ (le-ltb v l.nodes le) ∙ cond-true _ _ _ (lt-ltb v ends lt)))
+        (on_arc (v - l.nodes) (omega (arith, le, lt)))
+    | inr ge ↦ subst (IsPoint l x) (sym (cond-false _ _ _ (le-ltb v l.nodes le)
+        ∙ cond-false _ _ _ (le-ltb v ends ge))) (in_patch (v - ends) (omega (arith, ge, low)))
+  ]
+]
   where
     ends : ℕ
     ends = l.nodes + before_arc x l.arcs
@@ -50,23 +73,11 @@ point_is l x v low = by_node (cases_lt v l.nodes)
 
     in_patch : (t : ℕ) → t < before_patch l x l.patches → IsPoint l x (inside_patches l x t)
     in_patch t l_t =
-        let p : ℕ = run_at (before_patch l x) l.patches t in
+        let p = run_at (before_patch l x) l.patches t in
         let here : IsInRun (λ q. (wide l x q - 1) * (high l x q - 1)) l.patches t p (t - before_patch l x p) =
         run_here (λ q. (wide l x q - 1) * (high l x q - 1)) l.patches t l_t in
         let at = in_rows (wide l x p - 1) (high l x p - 1) (t - before_patch l x p) (omega (arith, here.inside)) in
         (here.low, omega arith, omega (arith, at.0), omega arith, omega (arith, at.1))
-
-    by_arc : l.nodes ≤ v → (v < ends) ⊎ (ends ≤ v) → IsPoint l x (point_at l x v)
-    by_arc le (inl lt) =
-        subst (IsPoint l x) (sym (cond-false _ _ _ (le-ltb v l.nodes le) ∙ cond-true _ _ _ (lt-ltb v ends lt)))
-        (on_arc (v - l.nodes) (omega (arith, le, lt)))
-    by_arc le (inr ge) =
-        subst (IsPoint l x) (sym (cond-false _ _ _ (le-ltb v l.nodes le) ∙ cond-false _ _ _ (le-ltb v ends ge)))
-        (in_patch (v - ends) (omega (arith, ge, low)))
-
-    by_node : (v < l.nodes) ⊎ (l.nodes ≤ v) → IsPoint l x (point_at l x v)
-    by_node (inl lt) = subst (IsPoint l x) (sym (cond-true _ _ _ (lt-ltb v l.nodes lt))) lt
-    by_node (inr le) = by_arc le (cases_lt v ends)
 
 -- A number within the range is not far, and a number that is not far is within it.
 near : (z : ℤ) → neg_ℤ (pos MAX_MICRO) ≤ℤ z → z ≤ℤ pos MAX_MICRO → not (is_far z) ≡ true
@@ -78,12 +89,10 @@ by_size (pos a) fine = (omega (arith, ints), omega (arith, ints, fine))
 by_size (negsuc a) fine = (omega (arith, ints, fine), omega (arith, ints))
 
 within : (z : ℤ) → not (is_far z) ≡ true → (neg_ℤ (pos MAX_MICRO) ≤ℤ z) × (z ≤ℤ pos MAX_MICRO)
-within z is = by_test (cases_lt MAX_MICRO (unsigned_abs z))
-  where
-    by_test : (MAX_MICRO < unsigned_abs z) ⊎ (unsigned_abs z ≤ MAX_MICRO) → (neg_ℤ (pos MAX_MICRO) ≤ℤ z)
-        × (z ≤ℤ pos MAX_MICRO)
-    by_test (inl far) = absurd (false≢true (sym (ap not (lt-ltb MAX_MICRO (unsigned_abs z) far)) ∙ is))
-    by_test (inr fine) = by_size z fine
+within z is = elim (cases_lt MAX_MICRO (unsigned_abs z)) [
+  | inl far ↦ absurd (false≢true (sym (ap not (lt-ltb MAX_MICRO (unsigned_abs z) far)) ∙ is))
+  | inr fine ↦ by_size z fine
+]
 
 -- An entry of a list of numbers that are not far, or 0, is within the range.
 entry_within : (p : List ℤ) (k : ℕ) → list_all (λ z. not (is_far z)) p ≡ true
@@ -120,14 +129,12 @@ cut_layout soup marks layout solid full cut = record {
 
 -- So is the one that a traced graph cuts.
 pub mesh_layout : (soup : FaceSet) (layout : Layout) → IsSolid soup
-    → IsCutLayout soup.faces (traced_marks soup.faces) layout
-    → IsSomeLayout layout
+    → IsCutLayout soup.faces (traced_marks soup.faces) layout → IsSomeLayout layout
 mesh_layout soup layout solid cut =
     cut_layout soup (traced_marks soup.faces) layout solid (graph_law soup.faces solid.mesh.manifold).1 cut
 
 module _ (soup : FaceSet) (solid : IsSolid soup) (layout : Layout) (is : IsSomeLayout layout) (shares : Option (List ℕ))
-    (x : Lengths) (len : AreLengths (gluing_of layout) x)
-    (few : face_count (gluing_of layout) x ≤ MAX_NEW_FACES) where
+    (x : Lengths) (len : AreLengths (gluing_of layout) x) (few : face_count (gluing_of layout) x ≤ MAX_NEW_FACES) where
   place_fine : (v : ℕ) → v < vertices (gluing_of layout) x
       → is_position (spaced_place soup.faces layout soup.pos shares x v) ≡ true
   place_fine v low = and_from _ _ (fine 0) (and_from _ _ (fine 1) (and_from _ _ (fine 2) refl))
@@ -142,27 +149,15 @@ module _ (soup : FaceSet) (solid : IsSolid soup) (layout : Layout) (is : IsSomeL
           (point_at (gluing_of layout) x v) (point_is (gluing_of layout) x v low) in
           near _ both.0 both.1
 
-  corner_fine : (f : ℕ) (w : Way) → f < face_count (gluing_of layout) x
-      → nat_lt (cell_vertex (gluing_of layout) x f w) (2 ^ 32) ≡ true
-  corner_fine f w low =
-      let at : cell_vertex (gluing_of layout) x f w < vertices (gluing_of layout) x =
-      number_low (gluing_of layout) x (dart_start (gluing_of layout) x (dart_of (gluing_of layout) x f w))
-      (from_is (gluing_of layout) x (laid_of layout is) len (dart_of (gluing_of layout) x f w)
-      (cell_is (gluing_of layout) x (laid_of layout is) len f w low)) in
-      lt-ltb _ _ (omega (arith, at, few, vertices_few (gluing_of layout) x (laid_of layout is) len))
-
-  face_fine : (f : ℕ) → f < face_count (gluing_of layout) x
-      → list_all (λ v. nat_lt v (2 ^ 32)) (new_face (gluing_of layout) x f) ≡ true
-  face_fine f low = and_from _ _ (corner_fine f south low) (and_from _ _ (corner_fine f east low)
-      (and_from _ _ (corner_fine f north low) (and_from _ _ (corner_fine f west low) refl)))
-
   pub printable : IsPrintable (spaced_soup soup layout shares x)
   printable = record {
     positions = list_all-map is_position (spaced_place soup.faces layout soup.pos shares x)
         (range_with_len 0 (vertices (gluing_of layout) x)) ∙ passes_range _ (vertices (gluing_of layout) x) place_fine;
-    quads = list_all-map is_quad (new_face (gluing_of layout) x) (range_with_len 0 (face_count (gluing_of layout) x))
-        ∙ passes_range _ (face_count (gluing_of layout) x) (λ f low. refl);
-    corners = list_all-map (λ face. list_all (λ v. nat_lt v (2 ^ 32)) face) (new_face (gluing_of layout) x)
-        (range_with_len 0 (face_count (gluing_of layout) x))
-        ∙ passes_range _ (face_count (gluing_of layout) x) face_fine;
+    quads = quads_pass (gluing_of layout) x;
+    corners = faces_pass (gluing_of layout) x (λ v. nat_lt v (2 ^ 32)) (λ f w low. lt-ltb _ _ (omega (
+      arith,
+      corner_there (gluing_of layout) x (laid_of layout is) len f w low,
+      few,
+      vertices_few (gluing_of layout) x (laid_of layout is) len,
+    )));
   }

@@ -1,25 +1,24 @@
 -- What is written for a task, or for a refined mesh, is read again as the new mesh.
-use Rattle.std.proofs.Common.{◌≡◌, ◌<◌, ◌^◌, ℕ, true, None, [], ◌∷◌}
-use Rattle.std.proofs.Common.{◌++◌, length, get_or, Ok, sym, ◌∙◌, ap}
-use Rattle.std.proofs.{Common.subst, Common.arith, Common.append_assoc, lemmas.List.append-nil}
+use Rattle.std.proofs.Common.{◌≡◌, ◌<◌, ◌^◌, ℕ, true, None, [], ◌∷◌, ◌++◌, length, Ok, sym, ◌∙◌, ap, subst}
+use Rattle.std.proofs.{Common.arith, Common.append_assoc, lemmas.List.append-nil}
 use Rattle.std.specs.List.{list_all}
 use Rattle.def_certtext.specs.{CertLines.text_of, CertLines.used, CertLines.Certificates, Laws.certificate_lines}
 use Rattle.def_certtext.specs.{Reading.may_stand, Risings.third_if, declared.certs.Rising.Rising}
 use Rattle.def_flow.specs.declared.net.Settings.{Settings}
 use Rattle.def_io.specs.{Bytes.Bytes, Bytes.Lines, Lines.lines_of}
-use Rattle.def_layout.specs.{Arcs.long_at, Surfaces.IsSurface, Lengths.AreLengths, Lengths.Lengths, Layouts.Layout}
-use Rattle.def_layout.specs.Layouts.{gluing_of, vertex_at}
+use Rattle.def_layout.specs.{Arcs.long_at, Layouts.Layout, Layouts.gluing_of}
+use Rattle.def_layout.specs.{Layouts.vertex_at, Lengths.AreLengths, Lengths.Lengths, Surfaces.IsSurface}
 use Rattle.def_layoutnet.specs.MeshLayouts.{IsSomeLayout}
-use Rattle.def_text.specs.{Canonical.canonical_text, FaceSet.FaceSet, Laws.IsWritableSoup, Text.numbers_to}
-use Rattle.def_text.specs.Text.{soup_in, text_soup}
-use Rattle.def_remesh.specs.{NewPoints.lengths_in, NewPoints.multiple_of, NewSoup.new_soup, NewSoup.spaced_soup}
-use Rattle.def_remesh.specs.{ReadAgain.IsReadAgain, Refined.refine_head, Refined.refined_text, Remeshed.finished_text}
-use Rattle.def_remesh.specs.{Remeshed.AreKeptBy, Remeshed.HasLeastLengths, Tasks.given_floors, Tasks.remesh_task}
-use Rattle.def_remesh.specs.{Tasks.Task, Tasks.Wish, TextLaws.ReadAgainLaw}
+use Rattle.def_text.specs.{Canonical.canonical_text, FaceSet.FaceSet, Laws.IsWritableSoup}
+use Rattle.def_text.specs.Text.{numbers_to, soup_in, text_soup}
+use Rattle.def_remesh.specs.{NewPoints.lengths_in, NewPoints.multiple_of, NewSoup.new_soup}
+use Rattle.def_remesh.specs.{NewSoup.spaced_soup, ReadAgain.IsReadAgain, Refined.refine_head, Refined.refined_text}
+use Rattle.def_remesh.specs.Remeshed.{finished_text, AreKeptBy, HasLeastLengths}
+use Rattle.def_remesh.specs.{Tasks.given_floors, Tasks.remesh_task, Tasks.Task, Tasks.Wish, TextLaws.ReadAgainLaw}
 use Rattle.qm_certtext.proofs.Chosen.{chosen_allowed}
 use Rattle.qm_obj.proofs.LawSoup.{each_both, text_back}
-use Rattle.remesh_laws.proofs.Asides.{canonical_ends, canonical_whole, cert_lines_passed}
-use Rattle.remesh_laws.proofs.{Asides.head_aside, Asides.none_aside, Asides.refine_aside, Certified.used_lengths}
+use Rattle.remesh_laws.proofs.Asides.{canonical_ends, canonical_whole, cert_lines_passed, ArePassed, head_aside}
+use Rattle.remesh_laws.proofs.{Asides.none_aside, Asides.refine_aside, Certified.used_lengths}
 use Rattle.remesh_laws.proofs.{Joined.lines_append, NewSoups.new_names, NewSoups.writable, PassedOver.passed_over}
 use Rattle.remesh_laws.proofs.{Printable.mesh_layout, Printable.printable, Writable.kept_writable}
 use Rattle.remesh_laws.specs.Asides.{IsAside, IsPassedOver}
@@ -28,9 +27,7 @@ use Rattle.written_laws.proofs.Shape.{multiple_law}
 
 -- The canonical text of a soup whose vertices are numbered from 1 in order, between lines that are passed over.
 framed : (front behind : Bytes) (soup : FaceSet) → IsWritableSoup soup → soup.names ≡ numbers_to (length soup.pos)
-    → IsAside front
-    → ((k : ℕ) → k < length (lines_of behind) → IsPassedOver (get_or (lines_of behind) k []))
-    → soup_in (front ++ (canonical_text soup ++ behind)) ≡ Ok soup
+    → IsAside front → ArePassed (lines_of behind) → soup_in (front ++ (canonical_text soup ++ behind)) ≡ Ok soup
 framed front behind soup is names before after = ap (text_soup 1) lines ∙ passed_over (lines_of front)
     (lines_of (canonical_text soup)) (lines_of behind) soup before.each (canonical_whole soup is) after
     (text_back soup is ∙ ap Ok (λ i. record { pos = soup.pos; faces = soup.faces; names = sym names i }))
@@ -53,18 +50,15 @@ module _ (soup : FaceSet) (layout : Layout) (x : Lengths) (laid : IsSurface (glu
   -- The new mesh behind lines that are passed over, as that of a refined mesh.
   pub mesh_read : (front : Bytes) → IsAside front → IsReadAgain (front ++ canonical_text (new_soup soup layout x))
       (new_soup soup layout x)
-  mesh_read front before is =
-      ap (λ (t : Bytes). soup_in (front ++ t)) (sym (append-nil (canonical_text (new_soup soup layout x))))
-      ∙ framed front [] (new_soup soup layout x) (writable soup layout None x laid len is)
-      (new_names soup layout None x laid len)
-      before (λ k l. absurd (omega (arith, l)))
+  mesh_read front before is = ap (λ (t : Bytes). soup_in (front ++ t))
+      (sym (append-nil (canonical_text (new_soup soup layout x)))) ∙ framed front [] (new_soup soup layout x) (writable
+      soup layout None x laid len is) (new_names soup layout None x laid len) before (λ k l. absurd (omega (arith, l)))
 
 -- The text of a refined mesh.
 pub refined_read : (by : ℕ) (soup : FaceSet) (layout : Layout) → IsSomeLayout layout → 0 < by → by < 2 ^ 64
     → IsReadAgain (refined_text by soup layout) (new_soup soup layout (multiple_of by (long_at layout.arcs)))
-refined_read by soup layout is some low =
-    mesh_read soup layout (multiple_of by (long_at layout.arcs)) (laid_of layout is)
-    (multiple_law is.faces (gluing_of layout) (long_at layout.arcs) (vertex_at layout) (lies layout is) by some).0
+refined_read by soup layout is some low = mesh_read soup layout (multiple_of by (long_at layout.arcs)) (laid_of layout
+    is) (multiple_law is.faces (gluing_of layout) (long_at layout.arcs) (vertex_at layout) (lies layout is) by some).0
     (refine_head by) (refine_aside by low)
 
 -- The text of a task.
@@ -85,10 +79,8 @@ task_read task soup layout certificates mesh len kept head between is = ap soup_
     certs : Bytes
     certs = text_of (certificate_lines task.rising certificates)
 
-    behind : (k : ℕ) → k < length (lines_of (task.between layout new ++ certs))
-        → IsPassedOver (get_or (lines_of (task.between layout new ++ certs)) k [])
-    behind = subst (λ (ls : Lines). (k : ℕ) → k < length ls → IsPassedOver (get_or ls k []))
-        (sym (lines_append (task.between layout new) certs between.ended))
+    behind : ArePassed (lines_of (task.between layout new ++ certs))
+    behind = subst ArePassed (sym (lines_append (task.between layout new) certs between.ended))
         (each_both IsPassedOver (lines_of (task.between layout new)) (lines_of certs) [] between.each
         (cert_lines_passed task.rising (certificate_lines task.rising certificates)
         (kept_allowed task.wish layout task.settings task.rising certificates mesh kept)))

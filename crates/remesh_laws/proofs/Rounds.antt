@@ -1,13 +1,11 @@
 -- Rounds of certificates, and the networks and the floors behind them.
-use Rattle.std.proofs.Common.{◌≡◌, ℕ, suc, ◌<◌, ◌≤◌, ◌==◌, Bool, true, false, cond, List, [], ◌∷◌, ◌++◌, length}
-use Rattle.std.proofs.Common.{refl, ap, ◌∙◌, arith}
-use Rattle.def_certtext.specs.CertLines.{alone, lists_of, raised, risen}
-use Rattle.def_certtext.specs.CertLines.{risen_by, used, Certificates, Lists}
-use Rattle.def_certtext.specs.{declared.certs.Rise.Rise, declared.certs.Rising.Rising}
-use Rattle.def_certtext.specs.{declared.certs.Rising.TheVariants.Rounds, declared.certs.Round.Round}
-use Rattle.def_flow.specs.{Network.arc_at, Network.Network, declared.limits.TheConstants.MAX_FLOOR}
-use Rattle.def_flow.specs.declared.net.Settings.{Settings}
-use Rattle.def_layout.specs.{Lengths.Lengths, Layouts.Layout, Layouts.gluing_of}
+use Rattle.std.proofs.Common.{◌≡◌, ℕ, suc, ◌<◌, ◌≤◌, ◌==◌, cond, List, [], ◌∷◌, ◌++◌, length, refl}
+use Rattle.std.proofs.{Common.ap, Common.◌∙◌, Common.arith, lemmas.Bool.cond_both}
+use Rattle.def_certtext.specs.CertLines.{alone, lists_of, raised, risen, risen_by, used, Certificates, Lists}
+use Rattle.def_certtext.specs.declared.certs.{Rise.Rise, Rising.Rising, Rising.TheVariants.Rounds, Round.Round}
+use Rattle.def_flow.specs.Network.{arc_at, Network}
+use Rattle.def_flow.specs.declared.{limits.TheConstants.MAX_FLOOR, net.Settings.Settings}
+use Rattle.def_layout.specs.{Layouts.Layout, Layouts.gluing_of, Lengths.Lengths}
 use Rattle.def_layoutnet.specs.Floors.{at_floor, floor_of, HasFloors}
 use Rattle.def_remesh.specs.{Keeping.IsNetWith, NewPoints.lengths_in, Remeshed.AreKeptBy, Remeshed.IsDoublingBy}
 use Rattle.def_remesh.specs.{Rises.rise_at, Rises.risen_floors, Rises.AreNeeded, Tasks.old_lengths, Tasks.Wish}
@@ -82,13 +80,8 @@ risen_same (rise ∷ rises) floors others arc same =
 risen_some : (rises : List Rise) (floors : Lengths) (arc : ℕ)
     → ((k : ℕ) → k < length rises → 1 ≤ (rise_at rises k).floor) → 1 ≤ floors arc → 1 ≤ risen_floors rises floors arc
 risen_some [] floors arc rose some = some
-risen_some (rise ∷ rises) floors arc rose some = by_test (arc == rise.arc) (rose 0 (omega arith))
-    (risen_some rises floors arc (λ k low. rose (suc k) (omega (arith, low))) some)
-  where
-    by_test : (t : Bool) → 1 ≤ rise.floor → 1 ≤ risen_floors rises floors arc
-        → 1 ≤ cond t rise.floor (risen_floors rises floors arc)
-    by_test true first rest = first
-    by_test false first rest = rest
+risen_some (rise ∷ rises) floors arc rose some = cond_both (arc == rise.arc) _ _ (λ (n : ℕ). 1 ≤ n)
+    (λ on. rose 0 (omega arith)) (λ off. risen_some rises floors arc (λ k low. rose (suc k) (omega (arith, low))) some)
 
 -- So needed ones leave none at 0.
 pub needed_some : (layout : Layout) (xs : List ℕ) (rises : List Rise) (floors : Lengths)

@@ -1,40 +1,36 @@
 -- An accepted certificate of the network of a layout certifies its lengths, and can be written.
-use Rattle.std.proofs.Common.{◌≡◌, ◌⊎◌, ℕ, zero, suc, ◌^◌, ◌<◌, ◌≤◌, Bool, true, ◌&&◌, List, [], ◌∷◌, ◌++◌}
-use Rattle.std.proofs.Common.{length, map, take, drop, refl, sym, ◌∙◌, arith, inl, inr, ℤ}
-use Rattle.std.proofs.lemmas.Bool.{and_from, and_parts, le-leb, leb-true, lt-ltb}
-use Rattle.std.proofs.lemmas.Bool.Decides.{nat_tests}
-use Rattle.std.proofs.lemmas.List.Folds.{list_all-append}
-use Rattle.std.specs.{Prelude.nat_lt, Prelude.slice_index, List.list_all}
-use Rattle.def_certtext.specs.{CertLines.dual_lines, CertLines.HasUps, CertLines.Lists, Laws.IsWritableCert}
-use Rattle.def_certtext.specs.{Reading.is_small, Reading.may_stand, declared.CertLine.CertLine}
-use Rattle.def_certtext.specs.declared.certs.Rising.TheVariants.{Never}
-use Rattle.def_certtext.specs.declared.CertLine.TheVariants as lines
-use Rattle.def_flow.specs.{Admissible.entries, Descent.IsSolution, Network.Network, Network.tangle_number}
-use Rattle.def_flow.specs.{Network.IsWithinBounds, declared.limits.TheConstants.MAX_LENGTH}
-use Rattle.def_flow.specs.{declared.limits.TheConstants.MAX_TANGLE, declared.net.Settings.Settings}
-use Rattle.def_layout.specs.{Lengths.Lengths, Layouts.Layout, Layouts.gluing_of}
+use Rattle.std.proofs.Common.{◌≡◌, ℕ, zero, suc, ◌^◌, ◌<◌, ◌≤◌, Bool, true, ◌&&◌}
+use Rattle.std.proofs.Common.{List, [], ◌∷◌, ◌++◌, length, map, take, drop, refl, sym, ◌∙◌, arith, ℤ, ap}
+use Rattle.std.proofs.lemmas.Bool.{and_from, and_parts, le-leb, leb-true, lt-ltb, Decides.nat_tests}
+use Rattle.std.proofs.lemmas.List.{take-append-drop, Folds.list_all-append}
+use Rattle.std.specs.{List.list_all, Prelude.nat_lt, Prelude.slice_index}
+use Rattle.def_certtext.specs.CertLines.{dual_lines, HasUps, Lists}
+use Rattle.def_certtext.specs.{Laws.IsWritableCert, Reading.is_small, Reading.may_stand}
+use Rattle.def_certtext.specs.declared.{CertLine.CertLine, certs.Rising.TheVariants.Never}
+use Rattle.def_flow.specs.{Admissible.entries, Descent.IsSolution, Network.Network}
+use Rattle.def_flow.specs.{Network.tangle_number, Network.IsWithinBounds, declared.limits.TheConstants.MAX_LENGTH}
+use Rattle.def_flow.specs.declared.{limits.TheConstants.MAX_TANGLE, net.Settings.Settings}
+use Rattle.def_layout.specs.{Layouts.Layout, Layouts.gluing_of, Lengths.Lengths}
 use Rattle.def_layoutnet.specs.{LayoutNet.IsNetOf, MeshLayouts.IsSomeLayout}
 use Rattle.def_matching.specs.Dual.{is_up, AreSmall}
 use Rattle.def_remesh.specs.{Certified.certificate_of, Certified.IsCertified, Tasks.old_lengths, Tasks.Wish}
 use Rattle.qm_layoutnet.proofs.Balance.{balance_law}
 use Rattle.embedding_laws.proofs.MeshLayouts.{laid_of}
 use Rattle.gadget_laws.proofs.Sound.{sound}
+use Rattle.def_certtext.specs.declared.CertLine.TheVariants as lines
 
 -- What passes in a list passes in each front and in each tail of it.
 pub all_take : {X : Type 0} (p : X → Bool) (n : ℕ) (xs : List X) → list_all p xs ≡ true → list_all p (take n xs) ≡ true
-all_take p zero xs all = refl
-all_take p (suc n) [] all = refl
-all_take p (suc n) (x ∷ xs) all = and_from _ _ (and_parts _ _ all).0 (all_take p n xs (and_parts _ _ all).1)
+all_take p n xs all = (and_parts _ _ (sym (list_all-append p (take n xs) (drop n xs))
+    ∙ (ap (list_all p) (take-append-drop n xs) ∙ all))).0
 
 pub all_drop : {X : Type 0} (p : X → Bool) (n : ℕ) (xs : List X) → list_all p xs ≡ true → list_all p (drop n xs) ≡ true
-all_drop p zero xs all = all
-all_drop p (suc n) [] all = refl
-all_drop p (suc n) (x ∷ xs) all = all_drop p n xs (and_parts _ _ all).1
+all_drop p n xs all = (and_parts _ _ (sym (list_all-append p (take n xs) (drop n xs))
+    ∙ (ap (list_all p) (take-append-drop n xs) ∙ all))).1
 
 -- Lines of small numbers may stand.
 numbered_stand : (kind : ℤ → ℕ → CertLine) → ((z : ℤ) (u : ℕ) → may_stand Never (kind z u) ≡ is_small z u)
-    → (numbers : List ℤ) (ups : List ℕ)
-    → AreSmall numbers → list_all (λ u. nat_lt u (2 ^ 32)) ups ≡ true
+    → (numbers : List ℤ) (ups : List ℕ) → AreSmall numbers → list_all (λ u. nat_lt u (2 ^ 32)) ups ≡ true
     → list_all (may_stand Never) (dual_lines kind numbers ups) ≡ true
 numbered_stand kind same [] ups small low = refl
 numbered_stand kind same (z ∷ zs) [] small low = refl
@@ -48,16 +44,9 @@ lengths_stand [] low = refl
 lengths_stand (x ∷ xs) low =
     and_from _ _ (le-leb _ _ (low 0 (omega arith))) (lengths_stand xs (λ k l. low (suc k) (omega (arith, l))))
 
-entry_is : (n m i e : ℕ) → is_up n m i e ≡ true → (e ≡ 0) ⊎ (e ≤ m)
-entry_is n m i e on = grind (arith, nat_tests)
-
 -- An entry that nests names one of the sets, or none.
 up_low : (n m i e : ℕ) → is_up n m i e ≡ true → e ≤ m
-up_low n m i e is = by_entry (entry_is n m i e is)
-  where
-    by_entry : (e ≡ 0) ⊎ (e ≤ m) → e ≤ m
-    by_entry (inl none) = omega (arith, none)
-    by_entry (inr some) = some
+up_low n m i e on = grind (arith, nat_tests)
 
 all_low : (xs : List ℕ) → ((k : ℕ) → k < length xs → slice_index xs k < 2 ^ 32) → list_all (λ u. nat_lt u (2 ^ 32)) xs
     ≡ true
@@ -66,10 +55,9 @@ all_low (x ∷ xs) low = and_from _ _ (lt-ltb _ _ (low 0 (omega arith)))
     (all_low xs (λ k l. low (suc k) (omega (arith, l))))
 
 pub certified : (wish : Wish) (layout : Layout) (settings : Settings) (floors : Lengths) (net : Network) (cert : Lists)
-    → IsSomeLayout layout
-    → IsNetOf (gluing_of layout) (old_lengths layout) (wish layout) settings floors net → IsWithinBounds net
-    → tangle_number net ≤ MAX_TANGLE
-    → IsSolution net (certificate_of cert) → IsCertified wish layout settings floors cert
+    → IsSomeLayout layout → IsNetOf (gluing_of layout) (old_lengths layout) (wish layout) settings floors net
+    → IsWithinBounds net → tangle_number net ≤ MAX_TANGLE → IsSolution net (certificate_of cert)
+    → IsCertified wish layout settings floors cert
 certified wish layout settings floors net cert is of_layout bounds untangled solved = record {
   lengths = record {
     net = net;
@@ -108,9 +96,8 @@ certified wish layout settings floors net cert is of_layout bounds untangled sol
     allowed = list_all-append (may_stand Never) (arcs ++ vertices) sets ∙ and_from _ _
         (list_all-append (may_stand Never) arcs vertices ∙ and_from _ _ (lengths_stand cert.x solved.lengths.small)
         (numbered_stand lines.Vertex (λ z u. refl) cert.y (take (length cert.y) cert.up) solved.small.small_y
-        (all_take _ (length cert.y) cert.up low)))
-        (numbered_stand lines.Set (λ z u. refl) cert.z (drop (length cert.y) cert.up) solved.small.small_z
-        (all_drop _ (length cert.y) cert.up low))
+        (all_take _ (length cert.y) cert.up low))) (numbered_stand lines.Set (λ z u. refl) cert.z
+        (drop (length cert.y) cert.up) solved.small.small_z (all_drop _ (length cert.y) cert.up low))
 
 -- The lengths of a certificate that can be written are not too great.
 standing_short : (xs : List ℕ) → list_all (may_stand Never) (map lines.Length xs) ≡ true → (k : ℕ) → k < length xs
@@ -121,19 +108,12 @@ standing_short (x ∷ xs) all (suc k) l = standing_short xs (and_parts _ _ all).
 
 pub writable_short : (cert : Lists) → IsWritableCert cert → (k : ℕ) → k < length cert.x
     → slice_index cert.x k ≤ MAX_LENGTH
-writable_short cert is = standing_short cert.x (and_parts _ _ both).0
-  where
-    arcs : List CertLine
-    arcs = map lines.Length cert.x
-
-    vertices : List CertLine
-    vertices = dual_lines lines.Vertex cert.y (take (length cert.y) cert.up)
-
-    sets : List CertLine
-    sets = dual_lines lines.Set cert.z (drop (length cert.y) cert.up)
-
-    all : (list_all (may_stand Never) (arcs ++ vertices) && list_all (may_stand Never) sets) ≡ true
-    all = sym (list_all-append (may_stand Never) (arcs ++ vertices) sets) ∙ is.allowed
-
-    both : (list_all (may_stand Never) arcs && list_all (may_stand Never) vertices) ≡ true
-    both = sym (list_all-append (may_stand Never) arcs vertices) ∙ (and_parts _ _ all).0
+writable_short cert is =
+    let arcs = map lines.Length cert.x in
+    let vertices = dual_lines lines.Vertex cert.y (take (length cert.y) cert.up) in
+    let sets = dual_lines lines.Set cert.z (drop (length cert.y) cert.up) in
+    let all : (list_all (may_stand Never) (arcs ++ vertices) && list_all (may_stand Never) sets)
+    ≡ true = sym (list_all-append (may_stand Never) (arcs ++ vertices) sets) ∙ is.allowed in
+    let both : (list_all (may_stand Never) arcs && list_all (may_stand Never) vertices)
+    ≡ true = sym (list_all-append (may_stand Never) arcs vertices) ∙ (and_parts _ _ all).0 in
+    standing_short cert.x (and_parts _ _ both).0
