@@ -1,8 +1,7 @@
 -- The canonical text of a length is a word of it, and has no space.
 use Rattle.std.proofs.Common.{◌≡◌, ◌≤◌, not, ℕ, ℤ, pos, true, [], ◌∷◌, eqb, refl, ap, sym, ◌∙◌, arith}
-use Rattle.std.proofs.lemmas.Bool.{and_from, and_parts, le-ltb}
-use Rattle.std.proofs.lemmas.Bool.Decides.{nat_tests}
-use Rattle.std.specs.{Prelude.unsigned_abs, Prelude.◌≤ℤ◌, List.list_all}
+use Rattle.std.proofs.lemmas.Bool.{and_from, and_parts, le-ltb, Decides.nat_tests}
+use Rattle.std.specs.{List.list_all, Prelude.unsigned_abs, Prelude.◌≤ℤ◌}
 use Rattle.def_fit.specs.FitWords.{IsEdgeLength}
 use Rattle.def_text.specs.{Canonical.micro_text, Decimal.is_far, Types.Word}
 use Rattle.qm_certtext.specs.Cuts.{is_bare}

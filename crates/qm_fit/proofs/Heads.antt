@@ -1,18 +1,15 @@
 -- The head line of a fit is cut into its words in one way.
-use Rattle.std.proofs.Common.{◌≡◌, ◌-◌, ℕ, Bool, true, false, List, [], ◌∷◌, ◌++◌, codes, length, length-append, take}
-use Rattle.std.proofs.Common.{drop, refl, ap, sym, subst, ◌∙◌, append_assoc, arith}
-use Rattle.std.proofs.lemmas.List.{append-nil, append_cancel_left, take_at}
-use Rattle.std.proofs.lemmas.Fmt.{decimal_digit}
+use Rattle.std.proofs.Common.{◌≡◌, ◌-◌, ℕ, Bool, true, false, List, [], ◌∷◌, ◌++◌}
+use Rattle.std.proofs.Common.{codes, length, length-append, take, drop, refl, ap, sym, subst, ◌∙◌, append_assoc, arith}
+use Rattle.std.proofs.lemmas.{Fmt.decimal_digit, List.append-nil, List.append_cancel_left, List.take_at}
 use Rattle.def_certtext.specs.{HeadLine.head_line, Settings.floor_text, Settings.weight_text, Settings.IsFloor}
 use Rattle.def_fit.specs.Aims.{IsAim, IsFit}
 use Rattle.def_fit.specs.FitWords.{aim_text, fit_head, keep_word, patches_word, spacing_word, AreFitWords, IsAimWord}
-use Rattle.def_fit.specs.{declared.fit.Aim.Aim, declared.fit.Aim.TheVariants.Scale, declared.fit.Aim.TheVariants.Edge}
-use Rattle.def_fit.specs.{declared.fit.Aim.TheVariants.Wishes, declared.fit.Fit.Fit}
-use Rattle.def_flow.specs.declared.net.Weight.{Weight}
-use Rattle.def_flow.specs.declared.net.Weight.TheVariants.{Plain, Length}
-use Rattle.def_patches.specs.{declared.Keep.Keep, declared.Keep.TheVariants.Nothing, declared.Keep.TheVariants.Lines}
-use Rattle.def_patches.specs.{declared.Patches.Patches, declared.Patches.TheVariants.Traced}
-use Rattle.def_patches.specs.declared.Patches.TheVariants.{Merged, Conforming}
+use Rattle.def_fit.specs.declared.fit.Aim.{Aim, TheVariants.Scale, TheVariants.Edge, TheVariants.Wishes}
+use Rattle.def_fit.specs.declared.fit.Fit.{Fit}
+use Rattle.def_flow.specs.declared.net.Weight.{Weight, TheVariants.Plain, TheVariants.Length}
+use Rattle.def_patches.specs.declared.{Keep.Keep, Keep.TheVariants.Nothing, Keep.TheVariants.Lines, Patches.Patches}
+use Rattle.def_patches.specs.declared.Patches.TheVariants.{Traced}
 use Rattle.def_text.specs.Types.{Word}
 use Rattle.qm_certtext.proofs.Cutting.{asked_cut, one_word}
 use Rattle.qm_certtext.specs.Cuts.{asked_line, is_bare}
@@ -26,8 +23,7 @@ keep_bare Lines = refl
 
 patches_bare : (patches : Patches) → is_bare (patches_word patches) ≡ true
 patches_bare Traced = refl
-patches_bare Merged = refl
-patches_bare Conforming = refl
+patches_bare _ = refl
 
 aim_bare : (aim : Aim) → IsAim aim → is_bare (aim_text aim) ≡ true
 aim_bare (Scale p q) is =
@@ -37,13 +33,7 @@ aim_bare Wishes is = refl
 
 floor_bare : (floor : ℕ) (auto : Bool) → IsFloor floor auto → is_bare (floor_text floor auto) ≡ true
 floor_bare floor auto is = (asked_cut [] _ (record { p = 1; q = 1; floor = floor; weight = Plain }) auto
-    (record {
-      p_low = omega arith;
-      p_high = omega arith;
-      q_low = omega arith;
-      q_high = omega arith;
-      floor = is;
-    })
+    (record { p_low = omega arith; p_high = omega arith; q_low = omega arith; q_high = omega arith; floor = is })
     refl).floor_bare
 
 weight_bare : (weight : Weight) → is_bare (weight_text weight) ≡ true
@@ -86,11 +76,9 @@ head_cut fit is = record {
 pub line_cut : (line : Word) (fit : Fit) → IsFit fit → line ≡ fit_head fit
     → IsFitCut line (keep_word fit.keep) (patches_word fit.patches) (aim_text fit.aim)
     (floor_text fit.floor fit.auto) (weight_text fit.weight) (spacing_word fit.spacing)
-line_cut line fit is head =
-    subst
-    (λ (l : Word). IsFitCut l (keep_word fit.keep) (patches_word fit.patches) (aim_text fit.aim)
-    (floor_text fit.floor fit.auto) (weight_text fit.weight) (spacing_word fit.spacing))
-    (sym head) (head_cut fit is)
+line_cut line fit is head = subst (λ (l : Word). IsFitCut l (keep_word fit.keep) (patches_word fit.patches)
+    (aim_text fit.aim) (floor_text fit.floor fit.auto) (weight_text fit.weight) (spacing_word fit.spacing)) (sym head)
+    (head_cut fit is)
 
 -- What stands behind each word.
 abbrev behind_weight : (spacing : Word) → Word
@@ -108,6 +96,10 @@ behind_patches aim floor weight spacing = codes " aim " ++ (aim ++ behind_aim fl
 abbrev pub fit_front : Word
 fit_front = codes "#quadq 1 fit keep "
 
+-- A line has no cut.
+abbrev NoCut : (line : Word) → Type 0
+NoCut line = (k p a f w s : Word) → IsFitCut line k p a f w s → ⊥
+
 -- A line that is cut so far has these words first in each cut.
 module _ (line r0 : Word) (is : line ≡ fit_front ++ r0) where
   behind_front : (k p a f w s : Word) → IsFitCut line k p a f w s
@@ -119,8 +111,7 @@ module _ (line r0 : Word) (is : line ≡ fit_front ++ r0) where
     at_patches k p a f w s cut = one_word keep k r1 _ (codes " patches ") bare1 cut.keep_bare refl (sym split1
         ∙ behind_front k p a f w s cut)
 
-    pub no_patches : ((word rest : Word) → is_bare word ≡ true → r1 ≡ word ++ (codes " aim " ++ rest) → ⊥)
-        → (k p a f w s : Word) → IsFitCut line k p a f w s → ⊥
+    pub no_patches : ((word rest : Word) → is_bare word ≡ true → r1 ≡ word ++ (codes " aim " ++ rest) → ⊥) → NoCut line
     no_patches none k p a f w s cut = none p _ cut.patches_bare (at_patches k p a f w s cut).1
 
     module _ (patches r2 : Word) (bare2 : is_bare patches ≡ true) (split2 : r1 ≡ patches ++ (codes " aim " ++ r2)) where
@@ -128,8 +119,7 @@ module _ (line r0 : Word) (is : line ≡ fit_front ++ r0) where
       at_aim k p a f w s cut = one_word patches p r2 _ (codes " aim ") bare2 cut.patches_bare refl (sym split2
           ∙ (at_patches k p a f w s cut).1)
 
-      pub no_aim : ((word rest : Word) → is_bare word ≡ true → r2 ≡ word ++ (codes " floor " ++ rest) → ⊥)
-          → (k p a f w s : Word) → IsFitCut line k p a f w s → ⊥
+      pub no_aim : ((word rest : Word) → is_bare word ≡ true → r2 ≡ word ++ (codes " floor " ++ rest) → ⊥) → NoCut line
       no_aim none k p a f w s cut = none a _ cut.aim_bare (at_aim k p a f w s cut).1
 
       module _ (aim r3 : Word) (bare3 : is_bare aim ≡ true) (split3 : r2 ≡ aim ++ (codes " floor " ++ r3)) where
@@ -138,7 +128,7 @@ module _ (line r0 : Word) (is : line ≡ fit_front ++ r0) where
             ∙ (at_aim k p a f w s cut).1)
 
         pub no_floor : ((word rest : Word) → is_bare word ≡ true → r3 ≡ word ++ (codes " weight " ++ rest) → ⊥)
-            → (k p a f w s : Word) → IsFitCut line k p a f w s → ⊥
+            → NoCut line
         no_floor none k p a f w s cut = none f _ cut.floor_bare (at_floor k p a f w s cut).1
 
         module _ (floor r4 : Word) (bare4 : is_bare floor ≡ true) (split4 : r3
@@ -148,7 +138,7 @@ module _ (line r0 : Word) (is : line ≡ fit_front ++ r0) where
               ∙ (at_floor k p a f w s cut).1)
 
           pub no_weight : ((word rest : Word) → is_bare word ≡ true → r4 ≡ word ++ (codes " spacing " ++ rest) → ⊥)
-              → (k p a f w s : Word) → IsFitCut line k p a f w s → ⊥
+              → NoCut line
           no_weight none k p a f w s cut = none w _ cut.weight_bare (at_weight k p a f w s cut).1
 
           pub cut_whole : (weight spacing : Word) → is_bare weight ≡ true
@@ -193,7 +183,7 @@ module _ (line keep patches aim floor weight spacing : Word) (one : IsFitCut lin
         record {
           kept = same.0;
           cut = same.1;
-          aimed = subst (λ (w : Word). IsAimWord w fit.aim) (sym same.2) (written_aim fit.aim is.aim);
+          aimed = rw same.2 (written_aim fit.aim is.aim);
           bounded = same.3;
           weighed = same.4;
           spaced = same.5;
@@ -210,9 +200,7 @@ module _ (line keep patches aim floor weight spacing : Word) (one : IsFitCut lin
   -- And such words make its head line.
   pub head_of : (fit : Fit) → AreFitWords keep patches aim floor weight spacing fit → aim ≡ aim_text fit.aim
       → line ≡ fit_head fit
-  head_of fit words written =
-      one.written
-      ∙ (λ i. fit_front ++ (words.kept i
+  head_of fit words written = one.written ∙ (λ i. fit_front ++ (words.kept i
       ++ (codes " patches " ++ (words.cut i
       ++ (codes " aim " ++ (written i ++ (codes " floor " ++ (words.bounded i
       ++ (codes " weight " ++ (words.weighed i ++ (codes " spacing " ++ words.spaced i)))))))))))
@@ -235,11 +223,11 @@ pub least_cut : (old head : Word) (long floor : ℕ) (auto : Bool) (weight : Wei
     → long ≡ length head → old ++ take (long - 1 - 25) (drop 25 head)
     ≡ old ++ codes " floor " ++ floor_text floor auto ++ codes " weight " ++ weight_text weight
 least_cut old head long floor auto weight is told =
-    let text : Word = least_text floor auto weight in
+    let text = least_text floor auto weight in
     let same : head ≡ codes "#quadq 1 remesh scale 1/1" ++ (least_text floor auto weight ++ 10 ∷ []) =
     is ∙ least_behind floor auto weight in
     let size : long - 1 - 25 ≡ length (least_text floor auto weight) =
-    omega (arith, told, ap length same, length-append (least_text floor auto weight) (10 ∷ [])) in
+    omega (arith, ap length same, length-append (least_text floor auto weight) (10 ∷ [])) in
     ap (λ (t : Word). old ++ t) (ap (λ (t : Word). take (long - 1 - 25) (drop 25 t)) same
     ∙ take_at text (10 ∷ []) (long - 1 - 25) (sym size))
     ∙ ap (λ (t : Word). old ++ t) (regrouped (codes " floor ") (floor_text floor auto ∷ codes " weight "

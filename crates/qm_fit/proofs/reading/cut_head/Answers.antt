@@ -10,48 +10,40 @@ front c = stripped fit_front c.args.line.now c.in-Some.rest.now c.in-Some.ensure
 
 pub returns-in_default-cut_word-2 : goal.returns-in_default-cut_word-2
 returns-in_default-cut_word-2 c =
-    let one = c.in-Some-cut_word in
-    no_patches c.args.line.now c.in-Some.rest.now (front (goal.at.returns-in_default-cut_word-2 c).In-Some-cut_word)
-    one.keep.now one.rest.now one.ensures.0 one.ensures.1 c.in_default-cut_word-2.ensures
+    let one = c.in-Some-cut_word.ensures in
+    no_patches _ _ (front (goal.at.returns-in_default-cut_word-2 c).In-Some-cut_word) _ _ one.0 one.1
+    c.in_default-cut_word-2.ensures
 
 pub returns-in_default-cut_word-3 : goal.returns-in_default-cut_word-3
 returns-in_default-cut_word-3 c =
-    let one = c.in-Some-cut_word in
-    let two = c.in-Some-cut_word-2 in
-    no_aim c.args.line.now c.in-Some.rest.now (front (goal.at.returns-in_default-cut_word-3 c).In-Some-cut_word)
-    one.keep.now one.rest.now one.ensures.0 one.ensures.1 two.patches.now two.rest.now two.ensures.0 two.ensures.1
+    let one = c.in-Some-cut_word.ensures in
+    let two = c.in-Some-cut_word-2.ensures in
+    no_aim _ _ (front (goal.at.returns-in_default-cut_word-3 c).In-Some-cut_word) _ _ one.0 one.1 _ _ two.0 two.1
     c.in_default-cut_word-3.ensures
 
 pub returns-in_default-cut_word-4 : goal.returns-in_default-cut_word-4
 returns-in_default-cut_word-4 c =
-    let one = c.in-Some-cut_word in
-    let two = c.in-Some-cut_word-2 in
-    let three = c.in-Some-cut_word-3 in
-    no_floor c.args.line.now c.in-Some.rest.now (front (goal.at.returns-in_default-cut_word-4 c).In-Some-cut_word)
-    one.keep.now one.rest.now one.ensures.0 one.ensures.1 two.patches.now two.rest.now two.ensures.0 two.ensures.1
-    three.aim.now three.rest.now three.ensures.0 three.ensures.1 c.in_default-cut_word-4.ensures
+    let one = c.in-Some-cut_word.ensures in
+    let two = c.in-Some-cut_word-2.ensures in
+    let three = c.in-Some-cut_word-3.ensures in
+    no_floor _ _ (front (goal.at.returns-in_default-cut_word-4 c).In-Some-cut_word) _ _ one.0 one.1 _ _ two.0 two.1 _ _
+    three.0 three.1 c.in_default-cut_word-4.ensures
 
 pub returns-in_default-cut_word-5 : goal.returns-in_default-cut_word-5
 returns-in_default-cut_word-5 c =
-    let one = c.in-Some-cut_word in
-    let two = c.in-Some-cut_word-2 in
-    let three = c.in-Some-cut_word-3 in
-    let four = c.in-Some-cut_word-4 in
-    no_weight c.args.line.now c.in-Some.rest.now (front (goal.at.returns-in_default-cut_word-5 c).In-Some-cut_word)
-    one.keep.now one.rest.now one.ensures.0 one.ensures.1 two.patches.now two.rest.now two.ensures.0 two.ensures.1
-    three.aim.now three.rest.now three.ensures.0 three.ensures.1 four.floor.now four.rest.now four.ensures.0
-    four.ensures.1
-    c.in_default-cut_word-5.ensures
+    let one = c.in-Some-cut_word.ensures in
+    let two = c.in-Some-cut_word-2.ensures in
+    let three = c.in-Some-cut_word-3.ensures in
+    let four = c.in-Some-cut_word-4.ensures in
+    no_weight _ _ (front (goal.at.returns-in_default-cut_word-5 c).In-Some-cut_word) _ _ one.0 one.1 _ _ two.0 two.1 _ _
+    three.0 three.1 _ _ four.0 four.1 c.in_default-cut_word-5.ensures
 
 pub returns : goal.returns
 returns c =
-    let one = c.in-Some-cut_word in
-    let two = c.in-Some-cut_word-2 in
-    let three = c.in-Some-cut_word-3 in
-    let four = c.in-Some-cut_word-4 in
-    let five = c.in-Some-cut_word-5 in
-    cut_whole c.args.line.now c.in-Some.rest.now (front (goal.at.returns c).In-Some-cut_word)
-    one.keep.now one.rest.now one.ensures.0 one.ensures.1 two.patches.now two.rest.now two.ensures.0 two.ensures.1
-    three.aim.now three.rest.now three.ensures.0 three.ensures.1 four.floor.now four.rest.now four.ensures.0
-    four.ensures.1
-    five.weight.now five.spacing.now five.ensures.0 five.ensures.1
+    let one = c.in-Some-cut_word.ensures in
+    let two = c.in-Some-cut_word-2.ensures in
+    let three = c.in-Some-cut_word-3.ensures in
+    let four = c.in-Some-cut_word-4.ensures in
+    let five = c.in-Some-cut_word-5.ensures in
+    cut_whole _ _ (front (goal.at.returns c).In-Some-cut_word) _ _ one.0 one.1 _ _ two.0 two.1 _ _ three.0 three.1 _ _
+    four.0 four.1 _ _ five.0 five.1

@@ -6,10 +6,8 @@ use Rattle.qm_certtext.proofs.Cutting.{stripped}
 use Rattle.qm_fit.proofs.words.read_aim.Goals as goal
 
 pub returns-in-Some-strip_prefix : goal.returns-in-Some-strip_prefix
-returns-in-Some-strip_prefix c =
-    subst
-    (λ (w : Word). MatchOption c.read_length.result ((aim : Aim) → IsAim aim → IsAimWord w aim
-    → ⊥) (λ aim. IsAimWord w aim × IsAim aim))
+returns-in-Some-strip_prefix c = subst (λ (w : Word). MatchOption c.read_length.result
+    ((aim : Aim) → IsAim aim → IsAimWord w aim → ⊥) (λ aim. IsAimWord w aim × IsAim aim))
     (sym (stripped (codes "edge:") c.args.word.now c.in-Some-strip_prefix.length.now
     c.in-Some-strip_prefix.ensures.cases.0 c.in-Some-strip_prefix.ensures.cases.1))
     c.read_length.ensures
