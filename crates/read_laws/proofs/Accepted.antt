@@ -1,22 +1,19 @@
 -- The text of a finished remesh behind that of its mesh is a checked pair.
-use Rattle.std.proofs.Common.{◌≡◌, ◌<◌, ◌+◌, ◌-◌, ℕ, zero, suc, Bool, true, false, cond, List, [], ◌∷◌, ◌++◌, length}
-use Rattle.std.proofs.Common.{map, take, drop, get_or, sym, ◌∙◌, ap, refl, arith, length-append, length-drop}
-use Rattle.std.proofs.Math.Seq.{take-append_seam}
-use Rattle.std.proofs.lemmas.Bool.{and_parts, eq-eqb, eqb-true, false_from_ne_true, false≢true}
-use Rattle.std.proofs.lemmas.List.{get_or-append-add}
-use Rattle.std.specs.{Prelude.codes, Prelude.nat_eq, List.filter, List.starts_with}
+use Rattle.std.proofs.Common.{◌≡◌, ◌<◌, ◌+◌, ◌-◌, ℕ, zero, suc, Bool, true, false, cond, List, [], ◌∷◌, ◌++◌}
+use Rattle.std.proofs.Common.{length, map, take, drop, get_or, sym, ◌∙◌, ap, refl, arith, length-append, length-drop}
+use Rattle.std.proofs.{Math.Seq.take-append_seam, lemmas.Bool.and_parts, lemmas.Bool.eq-eqb}
+use Rattle.std.proofs.lemmas.{Bool.eqb-true, Bool.false_from_ne_true, Bool.false≢true, List.get_or-append-add}
+use Rattle.std.specs.{List.filter, List.starts_with, Prelude.codes, Prelude.nat_eq}
 use Rattle.def_certtext.specs.{CertLines.line_text, HeadLine.begins_head, HeadLine.head_line, HeadLine.IsLastLine}
-use Rattle.def_certtext.specs.{Reading.is_hash_line, Reading.TellHow, declared.CertLine.CertLine}
-use Rattle.def_certtext.specs.declared.CertLine.TheVariants.{Length, Vertex}
-use Rattle.def_certtext.specs.declared.CertLine.TheVariants.{Set, Floor}
-use Rattle.def_certtext.specs.{declared.CertLine.TheVariants.Rise as rise_line, Settings.AreInRange}
+use Rattle.def_certtext.specs.{Reading.is_hash_line, Reading.TellHow, Settings.AreInRange, declared.CertLine.CertLine}
+use Rattle.def_certtext.specs.declared.CertLine.TheVariants.{Length}
 use Rattle.def_flow.specs.declared.net.Settings.{Settings}
 use Rattle.def_io.specs.{Bytes.Bytes, Bytes.Lines, Lines.lines_of}
 use Rattle.def_recheck.specs.Accepting.{AcceptsLaw}
-use Rattle.def_remesh.specs.{Certified.IsShown, ReadAgain.ends_line, Tasks.remesh_task, TextLaws.IsSolid}
-use Rattle.def_remesh.specs.TextLaws.{made_by}
+use Rattle.def_remesh.specs.{Certified.IsShown, ReadAgain.ends_line, Tasks.remesh_task}
+use Rattle.def_remesh.specs.TextLaws.{IsSolid, made_by}
 use Rattle.def_text.specs.{FaceSet.FaceSet, Text.text_soup, declared.letters.TheConstants.HASH}
-use Rattle.remesh_laws.proofs.{Told.told_law, Joined.lines_append, Joined.tail_append}
+use Rattle.remesh_laws.proofs.{Joined.lines_append, Joined.tail_append, Told.told_law}
 
 -- A test of lines that the head line of a remesh passes, and no line of a certificate or without a mark does.
 pub record IsHeadTest (begins_so : Bytes → Bool) : Type 0 where
@@ -27,10 +24,7 @@ pub record IsHeadTest (begins_so : Bytes → Bool) : Type 0 where
 -- No line of a certificate begins as a head line.
 cert_begins : (line : CertLine) → begins_head (line_text line) ≡ false
 cert_begins (Length n) = refl
-cert_begins (Vertex number up) = refl
-cert_begins (Set number up) = refl
-cert_begins (Floor floor) = refl
-cert_begins (rise_line rise) = refl
+cert_begins _ = refl
 
 -- Nor does a line without a mark begin with one.
 pub plain_begins : (rest line : Bytes) → is_hash_line line ≡ false → starts_with nat_eq line (HASH ∷ rest) ≡ false
@@ -71,14 +65,10 @@ module _ (begins_so : Bytes → Bool) (test : IsHeadTest begins_so) where
           → (t : Bool) → is_hash_line line ≡ t → (said : List CertLine) → filter is_hash_line (line ∷ behind)
           ≡ map line_text said
           → (k : ℕ) → k < suc (length behind) → begins_so (get_or (line ∷ behind) k []) ≡ false
-      by_test rest true is said texts k low =
-          by_said rest said (sym (ap (λ (t : Bool). cond t (line ∷ filter is_hash_line behind)
-          (filter is_hash_line behind)) is) ∙ texts) k low
-      by_test rest false is said texts k low =
-          by_place k low (test.plain line is)
-          (rest said (sym (ap (λ (t : Bool). cond t (line ∷ filter is_hash_line behind) (filter is_hash_line behind))
-          is)
-          ∙ texts))
+      by_test rest true is said texts k low = by_said rest said (sym
+          (ap (λ (t : Bool). cond t (line ∷ filter is_hash_line behind) (filter is_hash_line behind)) is) ∙ texts) k low
+      by_test rest false is said texts k low = by_place k low (test.plain line is) (rest said
+          (sym (ap (λ (t : Bool). cond t (line ∷ filter is_hash_line behind) (filter is_hash_line behind)) is) ∙ texts))
 
 -- Lines of which the first passes a test are some.
 some_line : (begins_so : Bytes → Bool) (lines : Lines) → begins_so [] ≡ false
@@ -141,9 +131,8 @@ module _ (settings : Settings) (auto : Bool) (old text : Bytes) (soup : FaceSet)
         arith,
         ap length lines,
         length-append (lines_of old) (lines_of text),
-        some_line begins_so (lines_of text) (test.plain [] refl)
-            (ap begins_so (sym (place 0 ∙ refl)) ∙ ap (λ n. begins_so (get_or (lines_of (old ++ text)) n [])) zero_more
-            ∙ begins),
+        some_line begins_so (lines_of text) (test.plain [] refl) (ap begins_so (sym (place 0 ∙ refl))
+            ∙ ap (λ n. begins_so (get_or (lines_of (old ++ text)) n [])) zero_more ∙ begins),
       );
       begins = begins;
       last = last;

@@ -1,21 +1,17 @@
 -- The `l` lines that a command wrote are read again as the marks along the chains of its marked arcs.
-use Rattle.std.proofs.Common.{◌≡◌, ◌⊎◌, ◌+◌, ◌-◌, ◌<◌, ◌≤◌, ◌++◌, ℕ, zero, suc, Bool, true, false, cond, List, [], ◌∷◌}
-use Rattle.std.proofs.Common.{length, map, filter, get_or, Option, inl, inr, refl, sym, ap, subst, ◌∙◌, arith}
-use Rattle.std.proofs.lemmas.Bool.{and_from, cases_lt}
-use Rattle.std.proofs.lemmas.List.{append_assoc}
-use Rattle.std.proofs.lemmas.List.Folds.{flat_map-map}
+use Rattle.std.proofs.Common.{◌≡◌, ◌⊎◌, ◌+◌, ◌-◌, ◌<◌, ◌≤◌, ◌++◌, ℕ, zero, suc, Bool, true, false, cond, List}
+use Rattle.std.proofs.Common.{[], ◌∷◌, length, map, filter, get_or, Option, inl, inr, refl, sym, ap, subst, ◌∙◌, arith}
+use Rattle.std.proofs.lemmas.{Bool.and_from, Bool.cases_lt, List.append_assoc, List.Folds.flat_map-map}
 use Rattle.std.proofs.lemmas.List.FromFn.{get_or-range_with_len, length-map-range_with_len, length-range_with_len}
 use Rattle.std.specs.List.{flat_map, list_all, range_with_len}
-use Rattle.def_certtext.specs.{CertLines.line_text, CertLines.text_of, CertLines.used, Reading.is_hash_line}
-use Rattle.def_certtext.specs.{Reading.may_stand, declared.CertLine.CertLine, Laws.certificate_lines}
-use Rattle.def_certtext.specs.{declared.certs.Rising.Rising, declared.CertLine.TheVariants.Length}
-use Rattle.def_certtext.specs.declared.CertLine.TheVariants.{Vertex, Set}
-use Rattle.def_certtext.specs.{declared.CertLine.TheVariants.Floor, declared.CertLine.TheVariants.Rise as rise_line}
+use Rattle.def_certtext.specs.CertLines.{line_text, text_of, used}
+use Rattle.def_certtext.specs.{Laws.certificate_lines, Reading.is_hash_line, Reading.may_stand}
+use Rattle.def_certtext.specs.declared.{CertLine.CertLine, CertLine.TheVariants.Length, certs.Rising.Rising}
 use Rattle.def_io.specs.{Bytes.Bytes, Lines.lines_of}
-use Rattle.def_layout.specs.{Lengths.AreLengths, Lengths.Lengths, Layouts.gluing_of, Layouts.Layout}
+use Rattle.def_layout.specs.{Layouts.gluing_of, Layouts.Layout, Lengths.AreLengths, Lengths.Lengths}
 use Rattle.def_layoutnet.specs.MeshLayouts.{IsSomeLayout}
 use Rattle.def_marks.specs.Lines.{marks_in}
-use Rattle.def_marks.specs.MarkedText.{arc_chain, arc_text, chain_text, is_marked_arc}
+use Rattle.def_marks.specs.MarkedText.{arc_chain, chain_text, is_marked_arc, marked_text}
 use Rattle.def_readlaws.specs.ReadChains.{AreHashLines, FinishedMarksLaw, IsChainOf, marked_arc_chains}
 use Rattle.def_remesh.specs.{NewPoints.lengths_in, NewSoup.spaced_place, NewSoup.spaced_soup, ReadAgain.ends_line}
 use Rattle.def_text.specs.{Canonical.canonical_text, FaceSet.FaceSet, Text.numbers_to}
@@ -23,18 +19,16 @@ use Rattle.def_written.specs.{Edges.on_arc, Numbers.vertex_number, Numbers.verti
 use Rattle.embedding_laws.proofs.MeshLayouts.{laid_of}
 use Rattle.qm_certtext.proofs.Texts.{lines_inside}
 use Rattle.qm_obj.proofs.LawText.{lines_back}
-use Rattle.remesh_laws.proofs.{Asides.ends_lines, ReadAgain.kept_allowed, Certified.used_lengths}
+use Rattle.remesh_laws.proofs.{Asides.ends_lines, MarkedLines.marked_is, ReadAgain.kept_allowed}
 use Rattle.written_laws.proofs.{EdgeDarts.edge_points, Shape.numbers_law}
-use Rattle.read_laws.proofs.{LayoutsRead.task_layout_law, MarksAgain.marks_again_law, NewChains.at_link}
-use Rattle.read_laws.proofs.{NewChains.chain_is, Soups.mesh_text_law, Soups.soup_in_law}
+use Rattle.read_laws.proofs.LayoutsRead.{finished_layout, finished_lengths}
+use Rattle.read_laws.proofs.{MarksAgain.marks_again_law, NewChains.at_link, NewChains.chain_is, Soups.soup_in_law}
+use Rattle.def_run.specs.{Map.asks_of, Remesh.WritesFinished, declared.command.Command.Command}
 
 -- The lines of certificates begin with `#`.
 cert_hash : (line : CertLine) → is_hash_line (line_text line) ≡ true
 cert_hash (Length n) = refl
-cert_hash (Vertex number up) = refl
-cert_hash (Set number up) = refl
-cert_hash (Floor floor) = refl
-cert_hash (rise_line rise) = refl
+cert_hash _ = refl
 
 certs_hash : (said : List CertLine) → list_all is_hash_line (map line_text said) ≡ true
 certs_hash [] = refl
@@ -67,22 +61,6 @@ each_passing P f p (x ∷ xs) each k low =
     by_test true first rest (suc j) l = rest j (omega (arith, l))
     by_test false first rest j l = rest j l
 
--- The lines of marked arcs are those of their chains.
-marked_is : (marks : List Bool) (layout : Layout) (new : Lengths) (arcs : List ℕ)
-    → flat_map (arc_text marks layout new) arcs
-    ≡ flat_map chain_text (map (arc_chain (gluing_of layout) new) (filter (is_marked_arc marks layout) arcs))
-marked_is marks layout new [] = refl
-marked_is marks layout new (arc ∷ arcs) = by_test (is_marked_arc marks layout arc) (marked_is marks layout new arcs)
-  where
-    by_test : (t : Bool)
-        → flat_map (arc_text marks layout new) arcs
-        ≡ flat_map chain_text (map (arc_chain (gluing_of layout) new) (filter (is_marked_arc marks layout) arcs))
-        → cond t (chain_text (arc_chain (gluing_of layout) new arc)) [] ++ flat_map (arc_text marks layout new) arcs
-        ≡ flat_map chain_text (map (arc_chain (gluing_of layout) new)
-        (cond t (arc ∷ filter (is_marked_arc marks layout) arcs) (filter (is_marked_arc marks layout) arcs)))
-    by_test true rest = ap (λ (bytes : Bytes). chain_text (arc_chain (gluing_of layout) new arc) ++ bytes) rest
-    by_test false rest = rest
-
 module _ (soup : FaceSet) (layout : Layout) (shares : Option (List ℕ)) (new : Lengths) (is : IsSomeLayout layout)
     (len : AreLengths (gluing_of layout) new) where
   many : length (spaced_soup soup layout shares new).pos ≡ vertices (gluing_of layout) new
@@ -93,16 +71,15 @@ module _ (soup : FaceSet) (layout : Layout) (shares : Option (List ℕ)) (new : 
   on_arc_low : (a k : ℕ) → a < length layout.arcs → k < new a + 1
       → vertex_number (gluing_of layout) new (arc_point (gluing_of layout) new a k) < vertices (gluing_of layout) new
   on_arc_low a k low less = (numbers_law (gluing_of layout) new).low (arc_point (gluing_of layout) new a k)
-      (by_place (cases_lt k (new a)))
-    where
-      by_place : (k < new a) ⊎ (new a ≤ k) → IsPoint (gluing_of layout) new (arc_point (gluing_of layout) new a k)
-      by_place (inl inside) = (edge_points (gluing_of layout) new (laid_of layout is) len (on_arc a k) (low, inside)).0
-      by_place (inr end) =
-          let some : 0 < new a = len.some a low in
-          let last : new a - 1 + 1 ≡ k = omega (arith, some, end, less) in
-          subst (λ j. IsPoint (gluing_of layout) new (arc_point (gluing_of layout) new a j)) last
-          (edge_points (gluing_of layout) new (laid_of layout is) len (on_arc a (new a - 1))
-          (low, omega (arith, some))).1
+      (elim (cases_lt k (new a)) [
+        | inl inside ↦ (edge_points (gluing_of layout) new (laid_of layout is) len (on_arc a k) (low, inside)).0
+        | inr end ↦
+            let some = len.some a low in
+            let last : new a - 1 + 1 ≡ k = omega (arith, some, end, less) in
+            subst (λ j. IsPoint (gluing_of layout) new (arc_point (gluing_of layout) new a j)) last
+            (edge_points (gluing_of layout) new (laid_of layout is) len (on_arc a (new a - 1))
+            (low, omega (arith, some))).1
+      ])
 
   chain_of : (a : ℕ) → a < length layout.arcs
       → IsChainOf (spaced_soup soup layout shares new) (arc_chain (gluing_of layout) new a)
@@ -125,61 +102,40 @@ module _ (soup : FaceSet) (layout : Layout) (shares : Option (List ℕ)) (new : 
       chain_of (get_or (range_with_len 0 (length layout.arcs)) k 0)
       (omega (arith, get_or-range_with_len 0 (length layout.arcs) k 0 inside, inside)))
 
+-- The text of a finished task whose lines between are those of marked arcs.
+module _ (command : Command) (bytes text : Bytes) (wrote : WritesFinished (asks_of command) bytes text) where
+  abbrev layout : Layout
+  layout = wrote.shown.finished.layout
+
+  abbrev new : Lengths
+  new = lengths_in (used wrote.shown.finished.certificates).x
+
+  abbrev fresh : FaceSet
+  fresh = spaced_soup wrote.soup layout wrote.task.shares new
+
+  abbrev certs : List CertLine
+  certs = certificate_lines wrote.task.rising wrote.shown.finished.certificates
+
+  text_is : (marks : List Bool) → wrote.task.between ≡ marked_text marks → text ≡ (wrote.task.head ++ 10 ∷ [])
+      ++ (canonical_text fresh ++ (flat_map chain_text (marked_arc_chains marks layout new) ++ text_of certs))
+  text_is marks between =
+      wrote.shown.finished.written
+      ∙ ((λ i. wrote.task.head ++ 10 ∷ (canonical_text fresh ++ ((ap (λ f. f layout new) between
+      ∙ marked_is marks layout new (range_with_len 0 (length layout.arcs))) i ++ text_of certs)))
+      ∙ sym (append_assoc wrote.task.head (10 ∷ [])
+      (canonical_text fresh ++ (flat_map chain_text (marked_arc_chains marks layout new) ++ text_of certs))))
+
 pub finished_marks_law : FinishedMarksLaw
 finished_marks_law command bytes text marks wrote range head between read =
-    ap (λ (t : Bytes). marks_in t (spaced_soup wrote.soup wrote.shown.finished.layout wrote.task.shares
-    (lengths_in (used wrote.shown.finished.certificates).x))) text_is
-    ∙ marks_again_law (wrote.task.head ++ 10 ∷ [])
-    (text_of (certificate_lines wrote.task.rising wrote.shown.finished.certificates))
-    (spaced_soup wrote.soup wrote.shown.finished.layout wrote.task.shares
-    (lengths_in (used wrote.shown.finished.certificates).x))
-    (marked_arc_chains marks wrote.shown.finished.layout (lengths_in (used wrote.shown.finished.certificates).x)) head
-    (cert_lines wrote.task.rising (certificate_lines wrote.task.rising wrote.shown.finished.certificates)
-    (kept_allowed wrote.task.wish wrote.shown.finished.layout wrote.task.settings wrote.task.rising
-    wrote.shown.finished.certificates some wrote.shown.finished.lengths))
-    (soup_in_law text (spaced_soup wrote.soup wrote.shown.finished.layout wrote.task.shares
-    (lengths_in (used wrote.shown.finished.certificates).x)) read)
-    (ap numbers_to (sym (many wrote.soup wrote.shown.finished.layout wrote.task.shares
-    (lengths_in (used wrote.shown.finished.certificates).x) some len)))
-    (chains_of wrote.soup wrote.shown.finished.layout wrote.task.shares
-    (lengths_in (used wrote.shown.finished.certificates).x) some len
-    marks)
-  where
-    some : IsSomeLayout wrote.shown.finished.layout
-    some =
-        let mesh = mesh_text_law bytes wrote.soup wrote.mesh in
-        record {
-          faces = wrote.soup.faces;
-          mesh = mesh.1;
-          quads = mesh.2;
-          marks = wrote.task.marks;
-          cut = (task_layout_law command bytes wrote.soup wrote.task wrote.mesh wrote.asked).0;
-          laid = wrote.shown.finished.cut;
-        }
-
-    len : AreLengths (gluing_of wrote.shown.finished.layout) (lengths_in (used wrote.shown.finished.certificates).x)
-    len = used_lengths wrote.task.wish wrote.shown.finished.layout wrote.task.settings wrote.task.rising
-        wrote.shown.finished.certificates range.floor.low wrote.shown.finished.lengths
-
-    text_is : text ≡ (wrote.task.head ++ 10 ∷ [])
-        ++ (canonical_text (spaced_soup wrote.soup wrote.shown.finished.layout wrote.task.shares
-        (lengths_in (used wrote.shown.finished.certificates).x))
-        ++ (flat_map chain_text (marked_arc_chains marks wrote.shown.finished.layout
-        (lengths_in (used wrote.shown.finished.certificates).x))
-        ++ text_of (certificate_lines wrote.task.rising wrote.shown.finished.certificates)))
-    text_is =
-        wrote.shown.finished.written
-        ∙ ((λ i. wrote.task.head
-        ++ 10 ∷ (canonical_text (spaced_soup wrote.soup wrote.shown.finished.layout wrote.task.shares
-        (lengths_in (used wrote.shown.finished.certificates).x))
-        ++ ((ap (λ f. f wrote.shown.finished.layout (lengths_in (used wrote.shown.finished.certificates).x))
-        between ∙ marked_is marks wrote.shown.finished.layout
-        (lengths_in (used wrote.shown.finished.certificates).x)
-        (range_with_len 0 (length wrote.shown.finished.layout.arcs))) i
-        ++ text_of (certificate_lines wrote.task.rising wrote.shown.finished.certificates))))
-        ∙ sym (append_assoc wrote.task.head (10 ∷ [])
-        (canonical_text (spaced_soup wrote.soup wrote.shown.finished.layout wrote.task.shares
-        (lengths_in (used wrote.shown.finished.certificates).x))
-        ++ (flat_map chain_text (marked_arc_chains marks wrote.shown.finished.layout
-        (lengths_in (used wrote.shown.finished.certificates).x))
-        ++ text_of (certificate_lines wrote.task.rising wrote.shown.finished.certificates)))))
+    let is = finished_layout command bytes text wrote in
+    let len = finished_lengths command bytes text wrote range.floor.low in
+    let here = layout command bytes text wrote in
+    let lengths = new command bytes text wrote in
+    let soup = fresh command bytes text wrote in
+    ap (λ (t : Bytes). marks_in t soup) (text_is command bytes text wrote marks between)
+    ∙ marks_again_law (wrote.task.head ++ 10 ∷ []) (text_of (certs command bytes text wrote)) soup
+    (marked_arc_chains marks here lengths) head
+    (cert_lines wrote.task.rising (certs command bytes text wrote) (kept_allowed wrote.task.wish here
+    wrote.task.settings wrote.task.rising wrote.shown.finished.certificates is wrote.shown.finished.lengths))
+    (soup_in_law text soup read) (ap numbers_to (sym (many wrote.soup here wrote.task.shares lengths is len)))
+    (chains_of wrote.soup here wrote.task.shares lengths is len marks)

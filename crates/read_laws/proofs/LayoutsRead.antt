@@ -1,20 +1,19 @@
 -- The layouts of bytes that are read.
-use Rattle.std.proofs.Common.{◌≡◌, Bool, List, Option, sym, subst, ◌∙◌, refl, Ok, Some, None}
+use Rattle.std.proofs.Common.{◌≡◌, Bool, List, Option, sym, subst, ◌∙◌, refl, Ok, Some, None, ◌≤◌}
 use Rattle.def_cut.specs.{FullCut.IsFullCut, Traced.traced_marks}
 use Rattle.def_feature.specs.Marked.{marked_cut}
-use Rattle.def_fit.specs.FitTasks.{Asides, asides_in, fit_task}
 use Rattle.def_io.specs.Bytes.{Bytes}
-use Rattle.def_layout.specs.FaceLayouts.{IsCutLayout}
+use Rattle.def_certtext.specs.CertLines.{used}
+use Rattle.def_layout.specs.{FaceLayouts.IsCutLayout, Layouts.gluing_of, Lengths.AreLengths}
+use Rattle.def_layoutnet.specs.MeshLayouts.{IsSomeLayout}
+use Rattle.def_remesh.specs.{LayoutLaws.HasOneLayout, NewPoints.lengths_in, Tasks.Task}
+use Rattle.def_run.specs.{Map.asks_of, Mesh.IsMeshText, Remesh.WritesFinished, declared.command.Command.Command}
+use Rattle.def_run.specs.declared.command.Command.TheVariants.{Coarse, Crease, Fit, Remesh, Size}
+use Rattle.remesh_laws.proofs.Certified.{used_lengths}
 use Rattle.def_mesh.specs.{Faces.Faces, Meshes.IsMesh}
-use Rattle.def_patches.specs.{Chosen.AreKeptMarks, Chosen.IsChosenCut, Laws.IsOneCut, declared.Patches.Patches}
-use Rattle.def_patches.specs.declared.Patches.TheVariants.{Merged, Traced}
+use Rattle.def_patches.specs.{Chosen.AreKeptMarks, Laws.IsOneCut}
+use Rattle.def_patches.specs.declared.Patches.{Patches, TheVariants.Merged, TheVariants.Traced}
 use Rattle.def_readlaws.specs.ReadLayouts.{HasOneChosen, OneChosenLaw, OneTracedLaw, TaskLayoutLaw}
-use Rattle.def_remesh.specs.{LayoutLaws.HasOneLayout, Tasks.Task}
-use Rattle.def_run.specs.Mesh.{IsMeshText}
-use Rattle.def_run.specs.Map.{asks_of}
-use Rattle.def_run.specs.declared.command.Command.{Command}
-use Rattle.def_run.specs.declared.command.Command.TheVariants.{Bench, Blocks, Check, Coarse, Crease, Fit, Graph, Grids}
-use Rattle.def_run.specs.declared.command.Command.TheVariants.{LayOut, Map, Refine, Remesh, Size, Tidy}
 use Rattle.def_text.specs.FaceSet.{FaceSet}
 use Rattle.existence_laws.proofs.Layouts.{layout_law, traced_layout_law}
 use Rattle.patch_laws.proofs.Chosen.{chosen_cut_law, one_cut_law}
@@ -30,9 +29,7 @@ one_traced_law bytes has = record {
   layout = one.layout;
   traced = record { soup = has.soup; mesh = has.mesh; cut = one.laid };
   full = (graph_law has.soup.faces has.mesh.manifold).1;
-  alone = λ other also.
-      one.alone other (subst (λ (s : FaceSet). IsCutLayout s.faces (traced_marks s.faces) other)
-      (one_soup bytes has.soup also.soup has.mesh also.mesh) also.cut);
+  alone = λ other also. one.alone other (rw (← one_soup bytes has.soup also.soup has.mesh also.mesh) also.cut);
 }
   where
     one : HasOneLayout has.soup.faces (traced_marks has.soup.faces)
@@ -47,8 +44,7 @@ one_chosen faces kept patches mesh marks = record {
   chosen = cut.chosen;
   full = full;
   laid = one.laid;
-  alone = λ other laid. one.alone other (subst (λ (c : List Bool). IsCutLayout faces c other) (cut.only laid.0 laid.1)
-      laid.2);
+  alone = λ other laid. one.alone other (rw (← cut.only laid.0 laid.1) laid.2);
 }
   where
     cut : IsOneCut faces kept patches
@@ -67,36 +63,36 @@ one_chosen_law fit bytes soup asides is said = one_chosen soup.faces asides.kept
 -- The cut that a task asks for is full.
 full_task : (command : Command) (bytes : Bytes) (soup : FaceSet) (task : Task) → IsMeshText bytes soup
     → asks_of command bytes soup task → IsFullCut soup.faces task.marks
-full_task (Remesh settings auto) bytes soup task is asked =
-    subst (λ (t : Task). IsFullCut soup.faces t.marks) (sym asked) (graph_law soup.faces is.manifold).1
-full_task (Crease settings) bytes soup task is asked =
-    subst (λ (t : Task). IsFullCut soup.faces t.marks) (sym asked.2)
-    (chosen_cut_law soup.faces (Some asked.0) Traced (marked_cut soup.faces asked.0) is.manifold
-    (marks_in_law bytes soup asked.0 is asked.1) refl)
-full_task (Size edge floor) bytes soup task is asked =
-    subst (λ (t : Task). IsFullCut soup.faces t.marks) (sym asked.0) (graph_law soup.faces is.manifold).1
-full_task (Coarse settings) bytes soup task is asked = subst (λ (t : Task). IsFullCut soup.faces t.marks) (sym asked.2)
+full_task (Remesh settings auto) bytes soup task is asked = rw asked (graph_law soup.faces is.manifold).1
+full_task (Crease settings) bytes soup task is asked = rw asked.2 (chosen_cut_law soup.faces (Some asked.0) Traced
+    (marked_cut soup.faces asked.0) is.manifold (marks_in_law bytes soup asked.0 is asked.1) refl)
+full_task (Size edge floor) bytes soup task is asked = rw asked.0 (graph_law soup.faces is.manifold).1
+full_task (Coarse settings) bytes soup task is asked = rw asked.2
     (chosen_cut_law soup.faces None Merged asked.0 is.manifold tt asked.1)
-full_task (Fit fit) bytes soup task is asked = by_parts asked.0.0 asked.0.1 asked.0.2 asked.0.3 asked.0.4
-  where
-    by_parts : (asides : Asides) (cut : List Bool) → asides_in fit bytes soup ≡ Ok asides
-        → IsChosenCut soup.faces asides.kept fit.patches cut
-        → task ≡ fit_task fit soup asides cut → IsFullCut soup.faces task.marks
-    by_parts asides cut said chosen same =
-        subst (λ (t : Task). IsFullCut soup.faces t.marks) (sym same)
-        (chosen_cut_law soup.faces asides.kept fit.patches cut is.manifold (asides_in_law fit bytes soup asides is said)
-        chosen)
-full_task Tidy bytes soup task is asked = absurd asked
-full_task Graph bytes soup task is asked = absurd asked
-full_task (Refine by) bytes soup task is asked = absurd asked
-full_task Check bytes soup task is asked = absurd asked
-full_task (Bench size) bytes soup task is asked = absurd asked
-full_task Map bytes soup task is asked = absurd asked
-full_task (Blocks by) bytes soup task is asked = absurd asked
-full_task (LayOut keep patches) bytes soup task is asked = absurd asked
-full_task (Grids keep patches by) bytes soup task is asked = absurd asked
+full_task (Fit fit) bytes soup task is ((asides, cut, said, chosen, same), near) = rw same (chosen_cut_law soup.faces
+    asides.kept fit.patches cut is.manifold (asides_in_law fit bytes soup asides is said) chosen)
+full_task _ bytes soup task is asked = absurd asked
 
 pub task_layout_law : TaskLayoutLaw
 task_layout_law command bytes soup task is asked =
-    let full : IsFullCut soup.faces task.marks = full_task command bytes soup task is asked in
+    let full = full_task command bytes soup task is asked in
     (full, layout_law soup.faces task.marks (mesh_text_law bytes soup is).1 full)
+
+-- The layout of a finished task is that of a mesh, and the lengths that it used are lengths of it.
+module _ (command : Command) (bytes text : Bytes) (wrote : WritesFinished (asks_of command) bytes text) where
+  pub finished_layout : IsSomeLayout wrote.shown.finished.layout
+  finished_layout =
+      let mesh = mesh_text_law bytes wrote.soup wrote.mesh in
+      record {
+        faces = wrote.soup.faces;
+        mesh = mesh.1;
+        quads = mesh.2;
+        marks = wrote.task.marks;
+        cut = full_task command bytes wrote.soup wrote.task wrote.mesh wrote.asked;
+        laid = wrote.shown.finished.cut;
+      }
+
+  pub finished_lengths : 1 ≤ wrote.task.settings.floor → AreLengths (gluing_of wrote.shown.finished.layout)
+      (lengths_in (used wrote.shown.finished.certificates).x)
+  finished_lengths some = used_lengths wrote.task.wish wrote.shown.finished.layout wrote.task.settings
+      wrote.task.rising wrote.shown.finished.certificates some wrote.shown.finished.lengths

@@ -1,17 +1,14 @@
 -- The lines of chains behind a canonical text are read again as the marks along these chains.
-use Rattle.std.proofs.Common.{◌≡◌, ◌+◌, ◌<◌, ◌≤◌, ◌&&◌, ◌||◌, ◌^◌, ℕ, pos, suc, true, false, cond, not, List, [], ◌∷◌}
-use Rattle.std.proofs.Common.{◌++◌, length, map, get_or, refl, sym, ap, ◌∙◌, arith, subst, eqb, ltb, is_some, Ok}
+use Rattle.std.proofs.Common.{◌≡◌, ◌+◌, ◌<◌, ◌≤◌, ◌&&◌, ◌||◌, ◌^◌, ℕ, pos, suc, true, false, cond, not, List, []}
+use Rattle.std.proofs.Common.{◌∷◌, ◌++◌, length, map, get_or, refl, sym, ap, ◌∙◌, arith, subst, eqb, ltb, is_some, Ok}
 use Rattle.std.proofs.lemmas.Bool.{and_parts, and_right, eqb-true, ltb-false, ltb-true, not-true}
-use Rattle.std.proofs.lemmas.List.{append-nil, append_assoc, take_all}
-use Rattle.std.proofs.lemmas.List.Folds.{flat_map-map}
-use Rattle.std.proofs.lemmas.List.Sums.{sum_by-cons}
+use Rattle.std.proofs.lemmas.List.{append-nil, append_assoc, take_all, Folds.flat_map-map, Sums.sum_by-cons}
 use Rattle.std.specs.List.{before_first, count_by, flat_map, list_all, list_any}
 use Rattle.def_certtext.specs.Reading.{is_hash_line}
 use Rattle.def_io.specs.{Bytes.Bytes, Bytes.Lines, Lines.lines_of}
-use Rattle.def_marks.specs.Chains.{marks_along, runs_along}
-use Rattle.def_marks.specs.Lines.{corner_fails, corners_of, first_fail, line_chain, line_fails, marks_in, marks_of}
-use Rattle.def_marks.specs.Lines.{named_chain, Placed, placed_lines, text_lines, vertex_lines_in}
-use Rattle.def_marks.specs.MarkedText.{chain_text}
+use Rattle.def_marks.specs.{Chains.marks_along, Chains.runs_along, Lines.corner_fails, Lines.corners_of}
+use Rattle.def_marks.specs.Lines.{first_fail, line_chain, line_fails, marks_in, marks_of, named_chain, Placed}
+use Rattle.def_marks.specs.{Lines.placed_lines, Lines.text_lines, Lines.vertex_lines_in, MarkedText.chain_text}
 use Rattle.def_mesh.specs.Darts.{all_darts, twin_of}
 use Rattle.def_readlaws.specs.ReadChains.{AreHashLines, IsChainOf, MarksAgainLaw}
 use Rattle.def_remesh.specs.ReadAgain.{ends_line}
@@ -19,14 +16,13 @@ use Rattle.def_text.specs.{Canonical.canonical_text, Canonical.micro_text, Decim
 use Rattle.def_text.specs.{Laws.is_position, Laws.is_quad, Laws.IsWritableSoup, Logical.continues, Logical.is_hash}
 use Rattle.def_text.specs.{Logical.Logical, Logical.logical_lines, Reading.begins_with, Reading.is_vertex_line}
 use Rattle.def_text.specs.{Text.numbers_to, Types.Position, Types.Positions, Types.Words, Words.is_blank, Words.words}
-use Rattle.qm_obj.proofs.{Groups.logical_step, LawSoup.canonical_lines, LawSoup.each_both, LawSoup.each_map}
-use Rattle.qm_obj.proofs.LawSoup.{face_line, face_line_is, position_line, position_line_is}
-use Rattle.qm_obj.proofs.{LawSoup.text_lines as lines_text, LawSoup.vertex_word, LawText.decimal_word, LawText.is_tame}
-use Rattle.qm_obj.proofs.LawText.{IsLine, IsWord, line_text, line_words, lines_back}
-use Rattle.qm_obj.proofs.{LawText.lines_split, LawText.micro_word, LawText.no_continuation, ListLemmas.passes_at}
-use Rattle.qm_obj.proofs.SoupLemmas.{are_below}
-use Rattle.remesh_laws.proofs.{Asides.canonical_ends, Asides.ends_lines, Joined.lines_append, MarkedLines.chain_line}
-use Rattle.remesh_laws.proofs.MarkedLines.{chain_tame, chains_inside}
+use Rattle.qm_obj.proofs.Groups.{logical_step}
+use Rattle.qm_obj.proofs.LawSoup.{canonical_lines, each_both, each_map, face_line}
+use Rattle.qm_obj.proofs.LawSoup.{face_line_is, position_line, position_line_is, text_lines as lines_text, vertex_word}
+use Rattle.qm_obj.proofs.LawText.{decimal_word, is_tame, IsLine, IsWord, line_text, line_words, lines_back, lines_split}
+use Rattle.qm_obj.proofs.{LawText.micro_word, LawText.no_continuation, ListLemmas.passes_at, SoupLemmas.are_below}
+use Rattle.remesh_laws.proofs.{Asides.canonical_ends, Asides.ends_lines, Asides.lines_are, Joined.lines_append}
+use Rattle.remesh_laws.proofs.MarkedLines.{chain_line, chain_tame, chains_inside}
 use Rattle.read_laws.proofs.{SaidChains.chain_said_law, SaidChains.line_is, SaidChains.none_passes, Soups.all_weaker}
 
 -- Tame bytes have no comment.
@@ -62,8 +58,7 @@ record IsOther (line : Bytes) : Type 0 where
 
 hash_other : (line : Bytes) → is_hash_line line ≡ true → IsOther line
 hash_other [] is = cc is
-hash_other (byte ∷ line) is = subst (λ (b : ℕ). IsOther (b ∷ line)) (sym (eqb-true byte 35 is))
-    (record { whole = and_right _ _ refl; other = refl })
+hash_other (byte ∷ line) is = rw (eqb-true byte 35 is) (record { whole = and_right _ _ refl; other = refl })
 
 letter_other : (letter : ℕ) (ws : Words) → is_blank letter ≡ false → eqb letter 108 ≡ false
     → IsLine (line_text letter ws) → ((k : ℕ) → k < length ws → IsWord (get_or ws k [])) → IsOther (line_text letter ws)
@@ -75,9 +70,8 @@ letter_other letter ws bare off line each = record {
 
 position_words : (position : Position) → is_position position ≡ true → (k : ℕ) → k < length (map micro_text position)
     → IsWord (get_or (map micro_text position) k [])
-position_words position is =
-    each_map IsWord micro_text position (pos 0) [] (λ k low. micro_word (get_or position k (pos 0))
-    (ltb-false _ _ (not-true _ (passes_at (λ z. not (is_far z)) position k (pos 0) (and_parts _ _ is).1 low))))
+position_words position is = each_map IsWord micro_text position (pos 0) [] (λ k low. micro_word (get_or position k
+    (pos 0)) (ltb-false _ _ (not-true _ (passes_at (λ z. not (is_far z)) position k (pos 0) (and_parts _ _ is).1 low))))
 
 -- Lines say chains, and no line of theirs is refused.
 record Gives (soup : FaceSet) (placed : List Placed) (chains : List (List ℕ)) : Type 0 where
@@ -101,16 +95,13 @@ module _ (soup : FaceSet) (all : ℕ) where
       → ((before n : ℕ) → Gives soup (placed_lines all before (lone_lines n rest)) chains) → (before n : ℕ)
       → Gives soup (placed_lines all before (lone_lines n (lines ++ rest))) chains
   pass chains [] rest each gives before n = gives before n
-  pass chains (line ∷ lines) rest each gives before n =
-      gives_other _ _ chains (each 0 (omega arith)).other
-      (pass chains lines rest (λ k low. each (suc k) (omega (arith, low))) gives
-      (before + vertex_lines_in (lone n line)) (n + 1))
+  pass chains (line ∷ lines) rest each gives before n = gives_other _ _ chains (each 0 (omega arith)).other (pass chains
+      lines rest (λ k low. each (suc k) (omega (arith, low))) gives (before + vertex_lines_in (lone n line)) (n + 1))
 
   say : (chains : List (List ℕ)) (rest : Lines) → soup.names ≡ numbers_to (length soup.pos) → length soup.pos ≤ 2 ^ 21
-      → length soup.pos ≤ all
-      → ((k : ℕ) → k < length chains → IsChainOf soup (get_or chains k []))
-      → ((before n : ℕ) → Gives soup (placed_lines all before (lone_lines n rest)) [])
-      → (before n : ℕ) → Gives soup (placed_lines all before (lone_lines n (map chain_line chains ++ rest))) chains
+      → length soup.pos ≤ all → ((k : ℕ) → k < length chains → IsChainOf soup (get_or chains k []))
+      → ((before n : ℕ) → Gives soup (placed_lines all before (lone_lines n rest)) []) → (before n : ℕ)
+      → Gives soup (placed_lines all before (lone_lines n (map chain_line chains ++ rest))) chains
   say [] rest names few many each gives before n = gives before n
   say (chain ∷ chains) rest names few many each gives before n =
       more _ (each 0 (omega arith)) refl (tame_whole (chain_line chain) (chain_tame chain))
@@ -147,15 +138,13 @@ count_positions (p ∷ ps) rest n near =
     let counted : vertex_lines_in (lone n (position_line p)) ≡ 1 = ap (λ t. cond t 1 0) one in
     let all : count_by is_vertex_line (lone_lines n (position_line p ∷ (map position_line ps ++ rest)))
     ≡ vertex_lines_in (lone n (position_line p)) + count_by is_vertex_line
-    (lone_lines (n + 1) (map position_line ps ++ rest)) =
-    sum_by-cons (λ l. cond (is_vertex_line l) 1 0) (lone n (position_line p))
-    (lone_lines (n + 1) (map position_line ps ++ rest)) in
+    (lone_lines (n + 1) (map position_line ps ++ rest)) = sum_by-cons (λ l. cond (is_vertex_line l) 1 0)
+    (lone n (position_line p)) (lone_lines (n + 1) (map position_line ps ++ rest)) in
     omega (arith, all, counted, count_positions ps rest (n + 1) parts.1)
 
 module _ (front behind : Bytes) (soup : FaceSet) (chains : List (List ℕ)) (before : AreHashLines front)
-    (after : AreHashLines behind) (fine : IsWritableSoup soup)
-    (names : soup.names ≡ numbers_to (length soup.pos)) (each : (k : ℕ) → k < length chains
-    → IsChainOf soup (get_or chains k [])) where
+    (after : AreHashLines behind) (fine : IsWritableSoup soup) (names : soup.names ≡ numbers_to (length soup.pos))
+    (each : (k : ℕ) → k < length chains → IsChainOf soup (get_or chains k [])) where
   abbrev chain_lines : Lines
   chain_lines = map chain_line chains
 
@@ -181,21 +170,13 @@ module _ (front behind : Bytes) (soup : FaceSet) (chains : List (List ℕ)) (bef
         ltb-true _ _ (passes_at (λ v. ltb v (length soup.pos)) face k 0 below low),
       )))
 
-  canonical_is : (k : ℕ) → k < length (canonical_lines soup) → IsLine (get_or (canonical_lines soup) k [])
-  canonical_is = each_both IsLine (map position_line soup.pos) (map face_line soup.faces) []
-      (each_map IsLine position_line soup.pos [] [] (λ k low. position_line_is (get_or soup.pos k [])
-      (position_is k low)))
-      (each_map IsLine face_line soup.faces [] [] face_is)
-
   canonical_other : (k : ℕ) → k < length (canonical_lines soup) → IsOther (get_or (canonical_lines soup) k [])
   canonical_other = each_both IsOther (map position_line soup.pos) (map face_line soup.faces) []
-      (each_map IsOther position_line soup.pos [] [] (λ k low.
-      letter_other 118 (map micro_text (get_or soup.pos k [])) refl refl
-      (position_line_is (get_or soup.pos k []) (position_is k low))
+      (each_map IsOther position_line soup.pos [] [] (λ k low. letter_other 118 (map micro_text (get_or soup.pos k []))
+      refl refl (position_line_is (get_or soup.pos k []) (position_is k low))
       (position_words (get_or soup.pos k []) (position_is k low))))
-      (each_map IsOther face_line soup.faces [] [] (λ k low.
-      letter_other 102 (map vertex_word (get_or soup.faces k [])) refl refl (face_is k low)
-      (face_words (get_or soup.faces k []) (face_below k low))))
+      (each_map IsOther face_line soup.faces [] [] (λ k low. letter_other 102 (map vertex_word (get_or soup.faces k []))
+      refl refl (face_is k low) (face_words (get_or soup.faces k []) (face_below k low))))
 
   hashes : (text : Bytes) → AreHashLines text → (k : ℕ) → k < length (lines_of text)
       → IsOther (get_or (lines_of text) k [])
@@ -209,44 +190,43 @@ module _ (front behind : Bytes) (soup : FaceSet) (chains : List (List ℕ)) (bef
       lines_append front _ before.ended
       ∙ ap (λ ls. lines_of front ++ ls)
       (lines_append (canonical_text soup) _ (canonical_ends soup)
-      ∙ (λ i. (ap lines_of (lines_text soup) ∙ lines_split (canonical_lines soup) canonical_is) i
+      ∙ (λ i. (ap lines_of (lines_text soup) ∙ lines_split (canonical_lines soup) (lines_are soup fine)) i
       ++ (lines_append (flat_map chain_text chains) behind (ap ends_line same ∙ ends_lines chain_lines)
       ∙ ap (λ ls. ls ++ lines_of behind) (ap lines_of same ∙ lines_back chain_lines (chains_inside chains))) i))
 
-  none_joined : (k : ℕ) → k < length all_lines → continues (get_or all_lines k []) ≡ false
-  none_joined = each_both (λ line. continues line ≡ false) (lines_of front) _ []
-      (λ k low. (hashes front before k low).whole)
-      (each_both (λ line. continues line ≡ false) (canonical_lines soup) _ [] (λ k low. (canonical_other k low).whole)
-      (each_both (λ line. continues line ≡ false) chain_lines (lines_of behind) []
-      (each_map (λ line. continues line ≡ false) chain_line chains [] []
+  abbrev IsWhole : (line : Bytes) → Type 0
+  IsWhole line = continues line ≡ false
+
+  none_joined : (k : ℕ) → k < length all_lines → IsWhole (get_or all_lines k [])
+  none_joined = each_both IsWhole (lines_of front) _ [] (λ k low. (hashes front before k low).whole)
+      (each_both IsWhole (canonical_lines soup) _ [] (λ k low. (canonical_other k low).whole)
+      (each_both IsWhole chain_lines (lines_of behind) [] (each_map IsWhole chain_line chains [] []
       (λ k low. no_continuation (chain_line (get_or chains k [])) (chain_tame (get_or chains k []))))
       (λ k low. (hashes behind after k low).whole)))
 
   many : (n : ℕ) → length soup.pos ≤ count_by is_vertex_line (lone_lines n all_lines)
-  many = count_more (length soup.pos) (lines_of front) _ (λ n.
-      subst (λ (ls : Lines). length soup.pos ≤ count_by is_vertex_line (lone_lines n ls))
-      (sym (append_assoc (map position_line soup.pos) (map face_line soup.faces) (chain_lines ++ lines_of behind)))
-      (count_positions soup.pos _ n fine.positions))
+  many = count_more (length soup.pos) (lines_of front) _ (λ n. rw (append_assoc (map position_line soup.pos)
+      (map face_line soup.faces) (chain_lines ++ lines_of behind)) (count_positions soup.pos _ n fine.positions))
+
+  -- The number of its `v` lines.
+  abbrev all : ℕ
+  all = count_by is_vertex_line (lone_lines 1 all_lines)
 
   gives : Gives soup (text_lines (lone_lines 1 all_lines)) chains
   gives =
-      pass soup (count_by is_vertex_line (lone_lines 1 all_lines)) chains (lines_of front) _ (hashes front before)
-      (pass soup (count_by is_vertex_line (lone_lines 1 all_lines)) chains (canonical_lines soup) _ canonical_other
-      (say soup (count_by is_vertex_line (lone_lines 1 all_lines)) chains (lines_of behind) names fine.few_vertices
-      (many 1) each
-      (λ b n. subst (λ (ls : Lines). Gives soup (placed_lines (count_by is_vertex_line (lone_lines 1 all_lines)) b
-      (lone_lines n ls)) []) (append-nil (lines_of behind))
-      (pass soup (count_by is_vertex_line (lone_lines 1 all_lines)) [] (lines_of behind) [] (hashes behind after)
+      pass soup all chains (lines_of front) _ (hashes front before)
+      (pass soup all chains (canonical_lines soup) _ canonical_other
+      (say soup all chains (lines_of behind) names fine.few_vertices (many 1) each (λ b n.
+      subst (λ (ls : Lines). Gives soup (placed_lines all b (lone_lines n ls)) []) (append-nil (lines_of behind))
+      (pass soup all [] (lines_of behind) [] (hashes behind after)
       (λ c m. record { fails = refl; along = λ d. refl }) b n)))) 0 1
 
   pub marks_again : marks_in (front ++ (canonical_text soup ++ (flat_map chain_text chains ++ behind))) soup
       ≡ Ok (marks_along soup.faces chains)
-  marks_again =
-      ap (λ ls. marks_of soup (text_lines (logical_lines 1 ls))) lines
+  marks_again = ap (λ ls. marks_of soup (text_lines (logical_lines 1 ls))) lines
       ∙ (ap (λ ls. marks_of soup (text_lines ls)) (logical_lone 1 all_lines none_joined)
       ∙ (ap (λ fs. first_fail fs (marks_along soup.faces (map (line_chain soup) (text_lines (lone_lines 1 all_lines)))))
-      gives.fails
-      ∙ (λ i. Ok (map (λ d. is_some (twin_of soup.faces d) && gives.along d i) (all_darts soup.faces)))))
+      gives.fails ∙ (λ i. Ok (map (λ d. is_some (twin_of soup.faces d) && gives.along d i) (all_darts soup.faces)))))
 
 pub marks_again_law : MarksAgainLaw
 marks_again_law front behind soup chains before after fine names each =

@@ -1,8 +1,7 @@
 -- The marks that the text of a mesh says are marks of the mesh.
-use Rattle.std.proofs.Common.{◌≡◌, ℕ, ◌+◌, ◌<◌, Bool, false, eqb, ◌&&◌, ◌||◌, List, [], ◌∷◌, Option, Some, None}
-use Rattle.std.proofs.Common.{is_some, sym, subst, ap, ◌∙◌, arith, map, refl, Ok, Err, Result}
-use Rattle.std.proofs.lemmas.List.{length-map}
-use Rattle.std.proofs.lemmas.List.FromFn.{length-range_with_len, get_or-map-range_with_len}
+use Rattle.std.proofs.Common.{◌≡◌, ℕ, ◌+◌, ◌<◌, Bool, false, eqb, ◌&&◌, ◌||◌, List, []}
+use Rattle.std.proofs.Common.{◌∷◌, Option, Some, None, is_some, sym, subst, ap, ◌∙◌, arith, map, refl, Ok, Err, Result}
+use Rattle.std.proofs.lemmas.List.{length-map, FromFn.length-range_with_len, FromFn.get_or-map-range_with_len}
 use Rattle.std.specs.{List.flat_map, List.list_any, Result.result_map_both}
 use Rattle.def_cut.specs.FullCut.{is_on}
 use Rattle.def_feature.specs.Marks.{AreMarks}
@@ -14,11 +13,11 @@ use Rattle.def_marks.specs.declared.fail.MarkFail.{MarkFail}
 use Rattle.def_mesh.specs.Darts.{all_darts, darts, from_of, IsTwin, to_of, twin_of}
 use Rattle.def_mesh.specs.{Faces.Faces, Manifold.IsManifold}
 use Rattle.def_patches.specs.{Chosen.AreKeptMarks, declared.Keep.Keep}
-use Rattle.def_patches.specs.declared.Keep.TheVariants as keeps
 use Rattle.def_readlaws.specs.ReadMarks.{AsidesInLaw, MarksInLaw}
 use Rattle.def_run.specs.Mesh.{IsMeshText}
 use Rattle.def_text.specs.{FaceSet.FaceSet, Logical.logical_lines}
 use Rattle.mesh_laws.proofs.Twins.{twin_found, twin_is}
+use Rattle.def_patches.specs.declared.Keep.TheVariants as keeps
 
 -- Tests of the two ends of an edge do not tell its direction.
 turned : (a b c e : Bool) → ((e && c) || (b && a)) ≡ ((a && b) || (c && e))
@@ -37,8 +36,7 @@ twins_along faces d e is chain = λ i. list_any (λ k. between (link_at chain k)
     (step_places chain)
   where
     between : (u v : ℕ) → runs_between faces u v e ≡ runs_between faces u v d
-    between u v =
-        ap (λ x. (eqb x u && eqb (to_of faces e) v) || (eqb x v && eqb (to_of faces e) u)) is.1
+    between u v = ap (λ x. (eqb x u && eqb (to_of faces e) v) || (eqb x v && eqb (to_of faces e) u)) is.1
         ∙ (ap (λ y. (eqb (to_of faces d) u && eqb y v) || (eqb (to_of faces d) v && eqb y u)) is.2
         ∙ turned (eqb (from_of faces d) u) (eqb (to_of faces d) v) (eqb (from_of faces d) v) (eqb (to_of faces d) u))
 
@@ -55,8 +53,7 @@ chain_marks faces chains m = record {
   where
     alike : (d e : ℕ) → d < darts faces → twin_of faces d ≡ Some e → IsTwin faces d e → is_along_chains faces chains e
         ≡ is_along_chains faces chains d
-    alike d e low twin is =
-        ap (λ (o : Option ℕ). is_some o && list_any (λ chain. runs_along faces chain e) chains)
+    alike d e low twin is = ap (λ (o : Option ℕ). is_some o && list_any (λ chain. runs_along faces chain e) chains)
         (twin_found faces m.edges_once e d (low, sym is.2, sym is.1))
         ∙ ((λ i. list_any (λ chain. twins_along faces d e is chain i) chains)
         ∙ sym (ap (λ (o : Option ℕ). is_some o && list_any (λ chain. runs_along faces chain d) chains) twin))

@@ -1,87 +1,78 @@
 -- The chains of the arcs of a new mesh are chains of its edges, and name each edge once.
-use Rattle.std.proofs.Common.{◌≡◌, ◌⊎◌, ◌+◌, ◌-◌, ◌<◌, ◌&&◌, ℕ, Bool, true, false, eqb, length, map, inl, inr, sym, ap}
-use Rattle.std.proofs.Common.{subst, ◌∙◌, arith}
+use Rattle.std.proofs.Common.{◌≡◌, ◌⊎◌, ◌+◌, ◌-◌}
+use Rattle.std.proofs.Common.{◌<◌, ◌&&◌, ℕ, Bool, true, false, eqb, length, map, inl, inr, sym, ap, subst, ◌∙◌, arith}
 use Rattle.std.proofs.lemmas.Bool.{and_from, and_parts, eq-eqb, eqb-true, or_cases, or_left, or_right}
 use Rattle.std.proofs.lemmas.List.Folds.{list_any_at}
 use Rattle.std.proofs.lemmas.List.FromFn.{get_or-map-range_with_len, get_or-range_with_len, length-map-range_with_len}
-use Rattle.std.proofs.lemmas.List.FromFn.{length-range_with_len}
-use Rattle.std.proofs.lemmas.List.Sums.{list_all-from_AllPass}
+use Rattle.std.proofs.lemmas.List.{FromFn.length-range_with_len, Sums.list_all-from_AllPass}
 use Rattle.std.specs.List.{range_with_len}
 use Rattle.def_certtext.specs.CertLines.{used}
-use Rattle.def_layout.specs.{Arcs.long_at, Fans.HasFans, Cells.CellDart, Cells.IsDart, Gluings.Gluing}
-use Rattle.def_layout.specs.{Lengths.AreLengths, Lengths.Lengths, Layouts.gluing_of, Layouts.Layout, Layouts.vertex_at}
-use Rattle.def_layout.specs.Surfaces.{IsSurface}
+use Rattle.def_layout.specs.{Arcs.long_at, Cells.CellDart, Cells.IsDart, Fans.HasFans, Gluings.Gluing}
+use Rattle.def_layout.specs.Layouts.{gluing_of, Layout, vertex_at}
+use Rattle.def_layout.specs.{Lengths.AreLengths, Lengths.Lengths, Surfaces.IsSurface}
 use Rattle.def_layoutnet.specs.MeshLayouts.{IsSomeLayout}
 use Rattle.def_marks.specs.Chains.{is_chain, is_edge, link_at, runs_between, step_places}
 use Rattle.def_marks.specs.MarkedText.{arc_chain}
 use Rattle.def_mesh.specs.{Darts.darts, Darts.from_of, Darts.to_of, Faces.Faces, Manifold.IsManifold}
 use Rattle.def_readlaws.specs.ReadChains.{AreNewChains, FinishedChainsLaw}
 use Rattle.def_remesh.specs.NewPoints.{lengths_in}
-use Rattle.def_written.specs.{Edges.Edge, Edges.IsEdge, Edges.IsUndoubled, Edges.on_arc, NewFaces.new_faces}
-use Rattle.def_written.specs.{Numbers.vertex_number, Points.arc_point}
+use Rattle.def_written.specs.Edges.{Edge, IsEdge, IsUndoubled, on_arc}
+use Rattle.def_written.specs.{NewFaces.new_faces, Numbers.vertex_number, Points.arc_point, Points.IsPoint}
 use Rattle.embedding_laws.proofs.MeshLayouts.{laid_of, lies}
-use Rattle.remesh_laws.proofs.Certified.{used_lengths}
-use Rattle.written_laws.proofs.Courses.{course, course_from, course_of, course_to}
-use Rattle.written_laws.proofs.{Courses.end_at, Courses.start_at, EdgeDarts.edge_dart, EdgeDarts.edge_points}
-use Rattle.written_laws.proofs.NewDarts.{dart_low, dart_number, number_from, number_to}
-use Rattle.written_laws.proofs.{Numbers.number_same, Shape.laid_law, Shape.new_manifold_law, Simple.IsSimple}
-use Rattle.written_laws.proofs.Undoubled.{simple_from}
-use Rattle.read_laws.proofs.{LayoutsRead.task_layout_law, MarksRead.chain_marks, Soups.mesh_text_law}
+use Rattle.written_laws.proofs.Courses.{course, course_from, course_of, course_to, end_at, start_at}
+use Rattle.written_laws.proofs.{EdgeDarts.edge_dart, EdgeDarts.edge_points, NewDarts.dart_low}
+use Rattle.written_laws.proofs.{NewDarts.dart_number, NewDarts.number_from, NewDarts.number_to, Numbers.number_same}
+use Rattle.written_laws.proofs.{Shape.laid_law, Shape.new_manifold_law, Simple.IsSimple, Undoubled.simple_from}
+use Rattle.read_laws.proofs.{LayoutsRead.finished_layout, LayoutsRead.finished_lengths, MarksRead.chain_marks}
 
 -- The ends of a dart that runs between two vertices.
-ends_of : (faces : Faces) (u v d : ℕ) → runs_between faces u v d ≡ true
-    → ((from_of faces d ≡ u) × (to_of faces d ≡ v)) ⊎ ((from_of faces d ≡ v) × (to_of faces d ≡ u))
+abbrev HasEnds : (faces : Faces) (u v d : ℕ) → Type 0
+HasEnds faces u v d = ((from_of faces d ≡ u) × (to_of faces d ≡ v)) ⊎ ((from_of faces d ≡ v) × (to_of faces d ≡ u))
+
+ends_of : (faces : Faces) (u v d : ℕ) → runs_between faces u v d ≡ true → HasEnds faces u v d
 ends_of faces u v d runs = by_way (or_cases _ _ runs)
   where
     by_way : ((eqb (from_of faces d) u && eqb (to_of faces d) v) ≡ true)
-        ⊎ ((eqb (from_of faces d) v && eqb (to_of faces d) u) ≡ true)
-        → ((from_of faces d ≡ u) × (to_of faces d ≡ v)) ⊎ ((from_of faces d ≡ v) × (to_of faces d ≡ u))
+        ⊎ ((eqb (from_of faces d) v && eqb (to_of faces d) u) ≡ true) → HasEnds faces u v d
     by_way (inl both) = inl (eqb-true _ _ (and_parts _ _ both).0, eqb-true _ _ (and_parts _ _ both).1)
     by_way (inr both) = inr (eqb-true _ _ (and_parts _ _ both).0, eqb-true _ _ (and_parts _ _ both).1)
 
 module _ (l : Gluing) (x : Lengths) where
+  -- The number of a point of an arc.
+  abbrev number : (a k : ℕ) → ℕ
+  number a k = vertex_number l x (arc_point l x a k)
+
   -- The vertex at a place of the chain of an arc.
-  pub at_link : (a k : ℕ) → k < x a + 1 → link_at (arc_chain l x a) k ≡ vertex_number l x (arc_point l x a k)
-  at_link a k low = get_or-map-range_with_len (λ k. vertex_number l x (arc_point l x a k)) 0 (x a + 1) k k 0 low
-      (omega arith)
+  pub at_link : (a k : ℕ) → k < x a + 1 → link_at (arc_chain l x a) k ≡ number a k
+  at_link a k low = get_or-map-range_with_len (λ k. number a k) 0 (x a + 1) k k 0 low (omega arith)
 
   module _ (laid : IsSurface l) (len : AreLengths l x) where
     -- Two successive points of an arc are the ends of an edge.
-    step_edge : (a k : ℕ) → a < l.arcs → k < x a
-        → is_edge (new_faces l x) (vertex_number l x (arc_point l x a k)) (vertex_number l x (arc_point l x a (k + 1)))
-        ≡ true
+    step_edge : (a k : ℕ) → a < l.arcs → k < x a → is_edge (new_faces l x) (number a k) (number a (k + 1)) ≡ true
     step_edge a k low less = by_dart (edge_dart l x laid len (on_arc a k) (low, less))
       where
         by_dart : (d : CellDart) × IsDart l x d × ((course_of l x d).edge ≡ on_arc a k)
-            → is_edge (new_faces l x) (vertex_number l x (arc_point l x a k))
-            (vertex_number l x (arc_point l x a (k + 1))) ≡ true
-        by_dart (d, is, same) =
-            list_any_at (runs_between (new_faces l x) (vertex_number l x (arc_point l x a k))
-            (vertex_number l x (arc_point l x a (k + 1))))
+            → is_edge (new_faces l x) (number a k) (number a (k + 1)) ≡ true
+        by_dart (d, is, same) = list_any_at (runs_between (new_faces l x) (number a k) (number a (k + 1)))
             (range_with_len 0 (darts (new_faces l x))) (dart_number l x d) 0
             (omega (arith, length-range_with_len 0 (darts (new_faces l x)), dart_low l x d is))
-            (ap (runs_between (new_faces l x) (vertex_number l x (arc_point l x a k))
-            (vertex_number l x (arc_point l x a (k + 1))))
+            (ap (runs_between (new_faces l x) (number a k) (number a (k + 1)))
             (get_or-range_with_len 0 (darts (new_faces l x)) (dart_number l x d) 0 (dart_low l x d is) ∙ omega arith)
-            ∙ by_way (course_of l x d).ahead
-            (number_from l x d is ∙ ap (vertex_number l x) (course_from l x laid len d is
-            ∙ ap (λ (e : Edge). start_at l x (course e (course_of l x d).ahead)) same))
-            (number_to l x d is ∙ ap (vertex_number l x) (course_to l x laid len d is
-            ∙ ap (λ (e : Edge). end_at l x (course e (course_of l x d).ahead)) same)))
+            ∙ by_way (course_of l x d).ahead (number_from l x d is ∙ ap (vertex_number l x)
+            (course_from l x laid len d is ∙ ap (λ (e : Edge). start_at l x (course e (course_of l x d).ahead)) same))
+            (number_to l x d is ∙ ap (vertex_number l x)
+            (course_to l x laid len d is ∙ ap (λ (e : Edge). end_at l x (course e (course_of l x d).ahead)) same)))
           where
             by_way : (b : Bool) → from_of (new_faces l x) (dart_number l x d)
-                ≡ vertex_number l x (start_at l x (course (on_arc a k) b))
-                → to_of (new_faces l x) (dart_number l x d) ≡ vertex_number l x (end_at l x (course (on_arc a k) b))
-                → runs_between (new_faces l x) (vertex_number l x (arc_point l x a k))
-                (vertex_number l x (arc_point l x a (k + 1))) (dart_number l x d) ≡ true
+                ≡ vertex_number l x (start_at l x (course (on_arc a k) b)) → to_of (new_faces l x) (dart_number l x d)
+                ≡ vertex_number l x (end_at l x (course (on_arc a k) b))
+                → runs_between (new_faces l x) (number a k) (number a (k + 1)) (dart_number l x d) ≡ true
             by_way true from to = or_left _ _ (and_from _ _ (eq-eqb _ _ from) (eq-eqb _ _ to))
             by_way false from to = or_right _ _ (and_from _ _ (eq-eqb _ _ from) (eq-eqb _ _ to))
 
     pub chain_is : (a : ℕ) → a < l.arcs → is_chain (new_faces l x) (arc_chain l x a) ≡ true
-    chain_is a low =
-        list_all-from_AllPass (λ k. is_edge (new_faces l x) (link_at (arc_chain l x a) k)
-        (link_at (arc_chain l x a) (k + 1))) (step_places (arc_chain l x a))
-        (λ i other there.
+    chain_is a low = list_all-from_AllPass (λ k. is_edge (new_faces l x) (link_at (arc_chain l x a) k)
+        (link_at (arc_chain l x a) (k + 1))) (step_places (arc_chain l x a)) (λ i other there.
         let inside : i < length (arc_chain l x a) - 1 =
         omega (arith, length-range_with_len 0 (length (arc_chain l x a) - 1)) in
         subst (λ k. is_edge (new_faces l x) (link_at (arc_chain l x a) k) (link_at (arc_chain l x a) (k + 1)) ≡ true)
@@ -89,74 +80,48 @@ module _ (l : Gluing) (x : Lengths) where
         (step i (omega (
           arith,
           inside,
-          length-map-range_with_len (λ k. vertex_number l x (arc_point l x a k)) 0 (x a + 1),
+          length-map-range_with_len (λ k. number a k) 0 (x a + 1),
         ))))
       where
         step : (k : ℕ) → k < x a
             → is_edge (new_faces l x) (link_at (arc_chain l x a) k) (link_at (arc_chain l x a) (k + 1)) ≡ true
-        step k less =
-            (λ t. is_edge (new_faces l x) (at_link a k (omega arith) t) (at_link a (k + 1) (omega arith) t))
+        step k less = (λ t. is_edge (new_faces l x) (at_link a k (omega arith) t) (at_link a (k + 1) (omega arith) t))
             ∙ step_edge a k low less
 
     -- Edges with one pair of vertices are one edge.
     one_edge : IsUndoubled l x → (a k b m d : ℕ) → IsEdge l x (on_arc a k) → IsEdge l x (on_arc b m)
-        → runs_between (new_faces l x) (vertex_number l x (arc_point l x a k))
-        (vertex_number l x (arc_point l x a (k + 1))) d ≡ true
-        → runs_between (new_faces l x) (vertex_number l x (arc_point l x b m))
-        (vertex_number l x (arc_point l x b (m + 1))) d ≡ true
-        → on_arc a k ≡ on_arc b m
+        → runs_between (new_faces l x) (number a k) (number a (k + 1)) d ≡ true
+        → runs_between (new_faces l x) (number b m) (number b (m + 1)) d ≡ true → on_arc a k ≡ on_arc b m
     one_edge undoubled a k b m d is also runs and_runs =
         by_ends (ends_of (new_faces l x) _ _ d runs) (ends_of (new_faces l x) _ _ d and_runs)
       where
         simple : IsSimple l x
         simple = simple_from l x undoubled
 
-        by_ends : ((from_of (new_faces l x) d ≡ vertex_number l x (arc_point l x a k))
-            × (to_of (new_faces l x) d ≡ vertex_number l x (arc_point l x a (k + 1))))
-            ⊎ ((from_of (new_faces l x) d ≡ vertex_number l x (arc_point l x a (k + 1)))
-            × (to_of (new_faces l x) d ≡ vertex_number l x (arc_point l x a k)))
-            → ((from_of (new_faces l x) d ≡ vertex_number l x (arc_point l x b m))
-            × (to_of (new_faces l x) d ≡ vertex_number l x (arc_point l x b (m + 1))))
-            ⊎ ((from_of (new_faces l x) d ≡ vertex_number l x (arc_point l x b (m + 1)))
-            × (to_of (new_faces l x) d ≡ vertex_number l x (arc_point l x b m)))
-            → on_arc a k ≡ on_arc b m
-        by_ends (inl s) (inl t) =
-            simple.same (on_arc a k) (on_arc b m) is also
-            (number_same l x (arc_point l x a k) (arc_point l x b m) (edge_points l x laid len (on_arc a k) is).0
-            (edge_points l x laid len (on_arc b m) also).0 (sym s.0 ∙ t.0))
-            (number_same l x (arc_point l x a (k + 1)) (arc_point l x b (m + 1))
-            (edge_points l x laid len (on_arc a k) is).1 (edge_points l x laid len (on_arc b m) also).1 (sym s.1
-            ∙ t.1))
-        by_ends (inl s) (inr t) =
-            simple.crossed (on_arc a k) (on_arc b m) is also
-            (number_same l x (arc_point l x a k) (arc_point l x b (m + 1)) (edge_points l x laid len (on_arc a k) is).0
-            (edge_points l x laid len (on_arc b m) also).1 (sym s.0 ∙ t.0))
-            (number_same l x (arc_point l x a (k + 1)) (arc_point l x b m) (edge_points l x laid len (on_arc a k) is).1
-            (edge_points l x laid len (on_arc b m) also).0 (sym s.1 ∙ t.1))
-        by_ends (inr s) (inl t) =
-            simple.crossed (on_arc a k) (on_arc b m) is also
-            (number_same l x (arc_point l x a k) (arc_point l x b (m + 1)) (edge_points l x laid len (on_arc a k) is).0
-            (edge_points l x laid len (on_arc b m) also).1 (sym s.1 ∙ t.1))
-            (number_same l x (arc_point l x a (k + 1)) (arc_point l x b m) (edge_points l x laid len (on_arc a k) is).1
-            (edge_points l x laid len (on_arc b m) also).0 (sym s.0 ∙ t.0))
-        by_ends (inr s) (inr t) =
-            simple.same (on_arc a k) (on_arc b m) is also
-            (number_same l x (arc_point l x a k) (arc_point l x b m) (edge_points l x laid len (on_arc a k) is).0
-            (edge_points l x laid len (on_arc b m) also).0 (sym s.1 ∙ t.1))
-            (number_same l x (arc_point l x a (k + 1)) (arc_point l x b (m + 1))
-            (edge_points l x laid len (on_arc a k) is).1 (edge_points l x laid len (on_arc b m) also).1 (sym s.0
-            ∙ t.0))
+        one : IsPoint l x (arc_point l x a k) × IsPoint l x (arc_point l x a (k + 1))
+        one = edge_points l x laid len (on_arc a k) is
+
+        two : IsPoint l x (arc_point l x b m) × IsPoint l x (arc_point l x b (m + 1))
+        two = edge_points l x laid len (on_arc b m) also
+
+        by_ends : HasEnds (new_faces l x) (number a k) (number a (k + 1)) d
+            → HasEnds (new_faces l x) (number b m) (number b (m + 1)) d → on_arc a k ≡ on_arc b m
+        by_ends (inl s) (inl t) = simple.same (on_arc a k) (on_arc b m) is also
+            (number_same l x _ _ one.0 two.0 (sym s.0 ∙ t.0)) (number_same l x _ _ one.1 two.1 (sym s.1 ∙ t.1))
+        by_ends (inl s) (inr t) = simple.crossed (on_arc a k) (on_arc b m) is also
+            (number_same l x _ _ one.0 two.1 (sym s.0 ∙ t.0)) (number_same l x _ _ one.1 two.0 (sym s.1 ∙ t.1))
+        by_ends (inr s) (inl t) = simple.crossed (on_arc a k) (on_arc b m) is also
+            (number_same l x _ _ one.0 two.1 (sym s.1 ∙ t.1)) (number_same l x _ _ one.1 two.0 (sym s.0 ∙ t.0))
+        by_ends (inr s) (inr t) = simple.same (on_arc a k) (on_arc b m) is also
+            (number_same l x _ _ one.0 two.0 (sym s.1 ∙ t.1)) (number_same l x _ _ one.1 two.1 (sym s.0 ∙ t.0))
 
 new_chains : (layout : Layout) (new : Lengths) → IsSomeLayout layout → AreLengths (gluing_of layout) new
     → IsUndoubled (gluing_of layout) new → AreNewChains layout new
 new_chains layout new is len undoubled = record {
   chain = λ arc low. chain_is (gluing_of layout) new (laid_of layout is) len arc low;
   once = λ a k b m d low also less fewer runs and_runs.
-      let same : on_arc a k ≡ on_arc b m = one_edge (gluing_of layout) new (laid_of layout is) len undoubled a k b m d (
-        low,
-        less,
-      ) (also, fewer)
-      (along a k d less runs) (along b m d fewer and_runs) in
+      let same = one_edge (gluing_of layout) new (laid_of layout is) len undoubled a k b m d
+      (low, less) (also, fewer) (along a k d less runs) (along b m d fewer and_runs) in
       let arcs : a ≡ b = cc same in let places : k ≡ m = cc same in (arcs, places);
   marked = λ arcs. chain_marks (new_faces (gluing_of layout) new) (map (arc_chain (gluing_of layout) new) arcs)
       manifold;
@@ -164,8 +129,7 @@ new_chains layout new is len undoubled = record {
   where
     manifold : IsManifold (new_faces (gluing_of layout) new)
     manifold =
-        let surface : IsSurface (gluing_of layout) × HasFans (gluing_of layout) =
-        laid_law is.faces (gluing_of layout) (long_at layout.arcs) (vertex_at layout) (lies layout is) in
+        let surface = laid_law is.faces (gluing_of layout) (long_at layout.arcs) (vertex_at layout) (lies layout is) in
         new_manifold_law (gluing_of layout) new surface.0 surface.1 len undoubled
 
     along : (a k d : ℕ) → k < new a
@@ -179,17 +143,6 @@ new_chains layout new is len undoubled = record {
         (sym (at_link (gluing_of layout) new a (k + 1) (omega arith)) t) d) ∙ runs
 
 pub finished_chains_law : FinishedChainsLaw
-finished_chains_law command bytes text wrote range =
-    let mesh = mesh_text_law bytes wrote.soup wrote.mesh in
-    new_chains wrote.shown.finished.layout (lengths_in (used wrote.shown.finished.certificates).x)
-    (record {
-      faces = wrote.soup.faces;
-      mesh = mesh.1;
-      quads = mesh.2;
-      marks = wrote.task.marks;
-      cut = (task_layout_law command bytes wrote.soup wrote.task wrote.mesh wrote.asked).0;
-      laid = wrote.shown.finished.cut;
-    })
-    (used_lengths wrote.task.wish wrote.shown.finished.layout wrote.task.settings wrote.task.rising
-    wrote.shown.finished.certificates range.floor.low wrote.shown.finished.lengths)
-    wrote.shown.finished.undoubled
+finished_chains_law command bytes text wrote range = new_chains wrote.shown.finished.layout
+    (lengths_in (used wrote.shown.finished.certificates).x) (finished_layout command bytes text wrote)
+    (finished_lengths command bytes text wrote range.floor.low) wrote.shown.finished.undoubled

@@ -1,22 +1,20 @@
 -- An `l` line that is written for a chain says that chain, where it is read.
-use Rattle.std.proofs.Common.{◌≡◌, ◌+◌, ◌^◌, ◌<◌, ◌≤◌, ◌&&◌, ℕ, suc, Bool, true, false, cond, not, List, [], ◌∷◌}
-use Rattle.std.proofs.Common.{length, drop, map, get_or, refl, sym, ap, ◌∙◌, arith, eqb, ltb}
+use Rattle.std.proofs.Common.{◌≡◌, ◌+◌, ◌^◌, ◌<◌, ◌≤◌, ◌&&◌, ℕ, suc, Bool, true, false}
+use Rattle.std.proofs.Common.{cond, not, List, [], ◌∷◌, length, drop, map, get_or, refl, sym, ap, ◌∙◌, arith, eqb, ltb}
 use Rattle.std.proofs.lemmas.Bool.{and_from, and_parts, cond-false, eq-eqb, le-ltb, leb-true, ne_eqb, or_from}
-use Rattle.std.proofs.lemmas.Fmt.{decimal_nonempty}
-use Rattle.std.proofs.lemmas.List.{append-nil, drop_all, length-map, take_all}
-use Rattle.std.proofs.lemmas.List.Folds.{flat_map-map}
-use Rattle.std.proofs.lemmas.List.Sums.{position_or_len_is}
-use Rattle.std.specs.{Char.is_ascii_digit, List.after_first, List.list_all, List.list_any, List.position_or_len}
-use Rattle.std.specs.Prelude.{decimal}
+use Rattle.std.proofs.lemmas.{Fmt.decimal_nonempty, List.append-nil}
+use Rattle.std.proofs.lemmas.List.{drop_all, length-map, take_all, Folds.flat_map-map, Sums.position_or_len_is}
+use Rattle.std.specs.Char.{is_ascii_digit}
+use Rattle.std.specs.{List.after_first, List.list_all, List.list_any, List.position_or_len, Prelude.decimal}
 use Rattle.def_io.specs.{Bytes.Bytes, Bytes.Lines, Lines.lines_of}
 use Rattle.def_marks.specs.Chains.{is_chain, link_at}
 use Rattle.def_marks.specs.Lines.{corner_fails, corner_index, is_line_corner, is_nothing, named_chain, named_vertex}
 use Rattle.def_marks.specs.MarkedText.{chain_text}
 use Rattle.def_readlaws.specs.ReadChains.{ChainSaidLaw}
-use Rattle.def_text.specs.Corner.{index_of, is_optional, is_out, is_slash, resolved}
-use Rattle.def_text.specs.{Corner.used_index, Digits.is_negative, Digits.is_number, Digits.is_signed}
-use Rattle.def_text.specs.{Digits.number_written, Digits.unsigned, Reading.begins_with, Text.numbers_to, Types.Words}
-use Rattle.def_text.specs.{Words.words, declared.index.Index.TheVariants.Vertex}
+use Rattle.def_text.specs.Corner.{index_of, is_optional, is_out, is_slash, resolved, used_index}
+use Rattle.def_text.specs.Digits.{is_negative, is_number, is_signed, number_written, unsigned}
+use Rattle.def_text.specs.Reading.{begins_with}
+use Rattle.def_text.specs.{Text.numbers_to, Types.Words, Words.words, declared.index.Index.TheVariants.Vertex}
 use Rattle.qm_dec.proofs.Texts.{decimal_digits, decimal_number}
 use Rattle.qm_obj.proofs.{LawSoup.each_map, LawSoup.vertex_word, LawText.decimal_word, LawText.IsWord}
 use Rattle.qm_obj.proofs.{LawText.line_words, LawText.lines_back, SoupLemmas.length-numbers_to, SoupLemmas.numbers_at}
@@ -49,11 +47,8 @@ number_corner n some small = by_word (decimal n) (decimal_digits n small) (decim
     by_word [] all long value = absurd (omega (arith, long))
     by_word (b ∷ bs) all long value = record {
       corner = and_from _ _ (ap is_signed used ∙ signed) (ap is_optional rest);
-      index = λ many before low.
-          ap (index_of many before) used
-          ∙ (cond-false _ _ _ (ap not signed)
-          ∙ (cond-false _ _ _ (or_from _ _ (inside before) (ap (ltb many) (names before) ∙ le-ltb many n low))
-          ∙ ap Vertex (names before)));
+      index = λ many before low. ap (index_of many before) used ∙ (cond-false _ _ _ (ap not signed) ∙ (cond-false _ _ _
+          (or_from _ _ (inside before) (ap (ltb many) (names before) ∙ le-ltb many n low)) ∙ ap Vertex (names before)));
     }
       where
         bare : list_all (λ c. not (is_slash c)) (b ∷ bs) ≡ true
@@ -87,9 +82,8 @@ number_corner n some small = by_word (decimal n) (decimal_digits n small) (decim
         names before = cond-false _ _ _ minus ∙ value_is
 
         inside : (before : ℕ) → is_out before (b ∷ bs) ≡ false
-        inside before =
-            or_from _ _ (ne_eqb (number_written (unsigned (b ∷ bs))) 0 (λ (e : number_written (unsigned (b ∷ bs)) ≡ 0).
-            omega (arith, value_is, some)))
+        inside before = or_from _ _ (ne_eqb (number_written (unsigned (b ∷ bs))) 0
+            (λ (e : number_written (unsigned (b ∷ bs)) ≡ 0). omega (arith, value_is, some)))
             (ap (λ t. t && ltb before (number_written (unsigned (b ∷ bs)))) minus)
 
 -- The number of a vertex names it.
@@ -129,18 +123,14 @@ chain_corners n all before few many (v ∷ chain) low =
 -- The words of the line.
 chain_words : (n : ℕ) (chain : List ℕ) → n < 2 ^ 32 → ((k : ℕ) → k < length chain → link_at chain k < n)
     → words (chain_line chain) ≡ (108 ∷ []) ∷ map vertex_word chain
-chain_words n chain few low =
-    ap (λ (bytes : Bytes). words (108 ∷ bytes)) (sym (flat_map-map (λ w. 32 ∷ w) vertex_word chain))
-    ∙ line_words 108 (map vertex_word chain) refl
-    (each_map IsWord vertex_word chain 0 [] (λ k less. decimal_word (get_or chain k 0 + 1)
-    (omega (arith, low k less, few))))
+chain_words n chain few low = ap (λ (bytes : Bytes). words (108 ∷ bytes))
+    (sym (flat_map-map (λ w. 32 ∷ w) vertex_word chain)) ∙ line_words 108 (map vertex_word chain) refl (each_map IsWord
+    vertex_word chain 0 [] (λ k less. decimal_word (get_or chain k 0 + 1) (omega (arith, low k less, few))))
 
 -- The line of a chain.
 pub line_is : (chain : List ℕ) → get_or (lines_of (chain_text chain)) 0 [] ≡ chain_line chain
-line_is chain =
-    ap (λ (ls : Lines). get_or ls 0 [])
-    (ap lines_of (sym (append-nil (chain_text chain))) ∙ lines_back (map chain_line (chain ∷ []))
-    (chains_inside (chain ∷ [])))
+line_is chain = ap (λ (ls : Lines). get_or ls 0 []) (ap lines_of (sym (append-nil (chain_text chain)))
+    ∙ lines_back (map chain_line (chain ∷ [])) (chains_inside (chain ∷ [])))
 
 pub chain_said_law : ChainSaidLaw
 chain_said_law soup chain placed names few many line long low edges = (
@@ -157,10 +147,8 @@ chain_said_law soup chain placed names few many line long low edges = (
     named = ap (λ ns. named_chain ns placed.all placed.before (map vertex_word chain)) names ∙ said.named
 
     fails : corner_fails soup placed.all placed.before placed.line.number (map vertex_word chain) ≡ []
-    fails =
-        cond-false _ _ _ (or_from _ _
-        (le-ltb (length (map vertex_word chain)) 2 (omega (arith, long, length-map chain vertex_word)))
-        (ap not said.corners))
+    fails = cond-false _ _ _ (or_from _ _ (le-ltb (length (map vertex_word chain)) 2
+        (omega (arith, long, length-map chain vertex_word))) (ap not said.corners))
         ∙ (cond-false _ _ _ said.known ∙ cond-false _ _ _ (ap not (ap (is_chain soup.faces) named ∙ edges)))
 
     read : words placed.line.text ≡ (108 ∷ []) ∷ map vertex_word chain

@@ -1,20 +1,17 @@
 -- What one line says, where it is not refused.
-use Rattle.std.proofs.Common.{◌≡◌, ℕ, ℤ, ◌+◌, ◌^◌, ◌<◌, ◌≤◌, Bool, true, false, cond, not, ◌&&◌, List, [], ◌∷◌, length}
-use Rattle.std.proofs.Common.{take, map, refl, sym, ap, ◌∙◌, arith, ltb, leb, eqb}
-use Rattle.std.proofs.lemmas.Bool.{and_from, eqb-true, false≢true, leb-false, ne_eqb, or_parts}
-use Rattle.std.proofs.lemmas.Bool.Decides.{nat_tests}
+use Rattle.std.proofs.Common.{◌≡◌, ℕ, ℤ, ◌+◌, ◌^◌, ◌<◌, ◌≤◌, Bool, true, false, cond}
+use Rattle.std.proofs.Common.{not, ◌&&◌, List, [], ◌∷◌, length, take, map, refl, sym, ap, ◌∙◌, arith, ltb, leb, eqb}
+use Rattle.std.proofs.lemmas.Bool.{and_from, eqb-true, false≢true, leb-false, ne_eqb, or_parts, Decides.nat_tests}
 use Rattle.std.proofs.lemmas.List.{length-map}
 use Rattle.std.specs.List.{list_all, list_any}
-use Rattle.def_text.specs.{Corner.is_out, Corner.resolved, Corner.used_index, Decimal.is_far, Decimal.rounded}
-use Rattle.def_text.specs.{Laws.is_position, Laws.is_quad, Logical.Logical, Reading.begins_with, Reading.face_reading}
-use Rattle.def_text.specs.Reading.{is_face_line, is_letter, is_position_count, is_vertex_line}
-use Rattle.def_text.specs.{Reading.reading, Reading.vertex_reading, Reading.words_reading, Text.face_in}
-use Rattle.def_text.specs.{Text.position_in, Text.refusal_in, Types.Words, Words.words}
-use Rattle.def_text.specs.{declared.reading.Reading.Reading, declared.reading.Reading.TheVariants.Passed}
-use Rattle.def_text.specs.declared.reading.Reading.TheVariants.{Position, Face}
-use Rattle.def_text.specs.{declared.reading.Reading.TheVariants.Refused, declared.refusal.ObjFail.ObjFail}
-use Rattle.def_text.specs.declared.refusal.ObjFail.TheVariants.{Limit, NotQuad}
-use Rattle.def_text.specs.declared.refusal.ObjFail.TheVariants.{Range, Syntax}
+use Rattle.def_text.specs.Corner.{is_out, resolved, used_index}
+use Rattle.def_text.specs.{Decimal.is_far, Decimal.rounded, Laws.is_position, Laws.is_quad, Logical.Logical}
+use Rattle.def_text.specs.Reading.{begins_with, face_reading, is_face_line}
+use Rattle.def_text.specs.Reading.{is_letter, is_position_count, is_vertex_line, reading, vertex_reading, words_reading}
+use Rattle.def_text.specs.{Text.face_in, Text.position_in, Text.refusal_in, Types.Words, Words.words}
+use Rattle.def_text.specs.declared.reading.Reading.{Reading, TheVariants.Passed, TheVariants.Position, TheVariants.Face}
+use Rattle.def_text.specs.declared.{reading.Reading.TheVariants.Refused, refusal.ObjFail.ObjFail}
+use Rattle.def_text.specs.declared.refusal.ObjFail.TheVariants.{Limit, NotQuad, Range, Syntax}
 use Rattle.def_text.specs.declared.refusal.Which.TheVariants as limits
 
 -- What a line says that is not refused, behind so many `v` and `f` lines: its position can be written, its face is a
@@ -48,8 +45,7 @@ positive_all vertices (w ∷ ws) inside =
 
 -- Three numbers in range are a position.
 near_of : (ws : Words) → is_position_count (length ws) ≡ true → list_any (λ word. is_far (rounded word)) (take 3 ws)
-    ≡ false
-    → is_position (map rounded (take 3 ws)) ≡ true
+    ≡ false → is_position (map rounded (take 3 ws)) ≡ true
 near_of [] count near = absurd (false≢true count)
 near_of (a ∷ []) count near = absurd (false≢true count)
 near_of (a ∷ b ∷ []) count near = absurd (false≢true count)
@@ -111,12 +107,9 @@ module _ (vertices faces : ℕ) (line : Logical) where
       → Says (cond many (Refused (Limit limits.Vertices line.number))
       (cond (not (count && numbers)) (Refused (Syntax line.number))
       (cond far (Refused (Range line.number)) (Position (map rounded (take 3 ws))))))
-  by_vertex ws true count numbers far m c f vertex no_face = said_refused _
-  by_vertex ws false false numbers far m c f vertex no_face = said_refused _
-  by_vertex ws false true false far m c f vertex no_face = said_refused _
-  by_vertex ws false true true true m c f vertex no_face = said_refused _
   by_vertex ws false true true false m c f vertex no_face =
       λ _. said_position (map rounded (take 3 ws)) vertex no_face (leb-false _ _ m) (near_of ws c f)
+  by_vertex ws _ _ _ _ m c f vertex no_face = said_refused _
 
   by_face : (ws : Words) (many words_fit four out : Bool) → leb (2 ^ 20) faces ≡ many → eqb (length ws) 4 ≡ four
       → list_any (λ word. is_out vertices (used_index word)) ws ≡ out → is_vertex_line line ≡ false
@@ -125,13 +118,10 @@ module _ (vertices faces : ℕ) (line : Logical) where
       (cond (not four) (Refused (NotQuad line.number (length ws)))
       (cond out (Refused (Range line.number))
       (Face line.number (map (λ word. resolved vertices (used_index word)) ws))))))
-  by_face ws true words_fit four out m q o no_vertex face = said_refused _
-  by_face ws false false four out m q o no_vertex face = said_refused _
-  by_face ws false true false out m q o no_vertex face = said_refused _
-  by_face ws false true true true m q o no_vertex face = said_refused _
   by_face ws false true true false m q o no_vertex face =
       λ _. said_face line.number (map (λ word. resolved vertices (used_index word)) ws) no_vertex face (leb-false _ _ m)
       (ap (λ n. eqb n 4) (length-map ws (λ word. resolved vertices (used_index word))) ∙ q) (positive_all vertices ws o)
+  by_face ws _ _ _ _ m q o no_vertex face = said_refused _
 
   by_letter : (word : List ℕ) (ws : Words) (v f : Bool) → words line.text ≡ word ∷ ws → is_letter 118 word ≡ v
       → is_letter 102 word ≡ f

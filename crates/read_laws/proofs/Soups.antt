@@ -1,17 +1,16 @@
 -- The soup of a text that is read can be written, and a mesh of it is what all laws of meshes ask for.
-use Rattle.std.proofs.Common.{◌≡◌, ℕ, zero, suc, ◌-◌, ◌^◌, ◌≤◌, Bool, true, false, cond, List, [], ◌∷◌, ◌++◌, length}
-use Rattle.std.proofs.Common.{map, refl, sym, ap, ◌∙◌, arith, subst, ltb, eqb, Ok}
-use Rattle.std.proofs.lemmas.Bool.{and_from, and_parts, lt-ltb, ltb-true}
-use Rattle.std.proofs.lemmas.List.{append-nil, length-map, map-append}
-use Rattle.std.proofs.lemmas.List.Folds.{list_all-append}
+use Rattle.std.proofs.Common.{◌≡◌, ℕ, zero, suc, ◌-◌, ◌^◌, ◌≤◌, Bool, true}
+use Rattle.std.proofs.Common.{List, [], ◌∷◌, ◌++◌, length, map, refl, sym, ap, ◌∙◌, arith, subst, ltb, eqb, Ok}
+use Rattle.std.proofs.lemmas.Bool.{and_from, and_parts, cond_both, lt-ltb, ltb-true}
+use Rattle.std.proofs.lemmas.List.{append-nil, length-map, map-append, Folds.list_all-append}
 use Rattle.std.specs.List.{flat_map, list_all}
 use Rattle.def_io.specs.Lines.{lines_of}
 use Rattle.def_mesh.specs.{Faces.Faces, Meshes.IsMesh, Vertices.is_used, Vertices.UsesEach, Vertices.vertex_count}
 use Rattle.def_readlaws.specs.ReadMeshes.{MeshTextLaw, SoupInLaw}
 use Rattle.def_text.specs.{FaceSet.FaceSet, Laws.is_position, Laws.is_quad, Laws.IsWritableSoup, Logical.logical_lines}
-use Rattle.def_text.specs.Text.{face_set, faces, first_refusal, late_in, line_vertex}
-use Rattle.def_text.specs.Text.{position_of, positions, readings, refusal_in, used_to}
-use Rattle.def_text.specs.{Types.Positions, declared.reading.Reading.Reading, declared.refusal.ObjFail.ObjFail}
+use Rattle.def_text.specs.Text.{face_set, faces, first_refusal, late_in, line_vertex, position_of, positions, readings}
+use Rattle.def_text.specs.{Text.refusal_in, Text.used_to, Types.Positions}
+use Rattle.def_text.specs.declared.{reading.Reading.Reading, refusal.ObjFail.ObjFail}
 use Rattle.def_written.specs.Laws.{AreQuads}
 use Rattle.qm_mesh.proofs.Vertices.{below_from, corners_from, count_is}
 use Rattle.qm_obj.proofs.ListLemmas.{parts_none, passes_at}
@@ -23,20 +22,17 @@ use Rattle.read_laws.proofs.SaidTexts.{are_known, are_said, AreSaid}
 used_near : (ps : Positions) (fs : Faces) (n : ℕ) → n ≤ length ps → list_all is_position ps ≡ true
     → list_all is_position (map (position_of ps) (used_to fs n)) ≡ true
 used_near ps fs zero few near = refl
-used_near ps fs (suc n) few near = ap (λ ks. list_all is_position (map (position_of ps) ks)) (used_more fs n) ∙ by_used
-    (is_used fs (suc n)) (used_near ps fs n (omega arith) near)
-  where
-    here : is_position (position_of ps (suc n)) ≡ true
-    here = let e : suc n - 1 ≡ n = omega arith in rw e (passes_at is_position ps n [] near (omega arith))
-
-    by_used : (t : Bool) → list_all is_position (map (position_of ps) (used_to fs n)) ≡ true
-        → list_all is_position (map (position_of ps) (used_to fs n ++ cond t (suc n ∷ []) [])) ≡ true
-    by_used true before =
-        ap (list_all is_position) (map-append (position_of ps) (used_to fs n) (suc n ∷ []))
-        ∙ (list_all-append is_position (map (position_of ps) (used_to fs n)) (position_of ps (suc n) ∷ [])
-        ∙ and_from _ _ before (and_from _ _ here refl))
-    by_used false before = ap (λ ks. list_all is_position (map (position_of ps) ks)) (append-nil (used_to fs n))
-        ∙ before
+used_near ps fs (suc n) few near =
+    let here : is_position (position_of ps (suc n)) ≡ true =
+    let e : suc n - 1 ≡ n = omega arith in rw e (passes_at is_position ps n [] near (omega arith)) in
+    let before = used_near ps fs n (omega arith) near in
+    ap (λ ks. list_all is_position (map (position_of ps) ks)) (used_more fs n)
+    ∙ cond_both (is_used fs (suc n)) _ _
+    (λ (ks : List ℕ). list_all is_position (map (position_of ps) (used_to fs n ++ ks)) ≡ true)
+    (λ on. ap (list_all is_position) (map-append (position_of ps) (used_to fs n) (suc n ∷ []))
+    ∙ (list_all-append is_position (map (position_of ps) (used_to fs n)) (position_of ps (suc n) ∷ [])
+    ∙ and_from _ _ before (and_from _ _ here refl)))
+    (λ off. ap (λ ks. list_all is_position (map (position_of ps) ks)) (append-nil (used_to fs n)) ∙ before)
 
 -- Faces that are renumbered are quads where they were.
 quads_renumbered : (f : ℕ → ℕ) (fs : Faces) → list_all is_quad fs ≡ true
@@ -74,8 +70,7 @@ pub soup_in_law : SoupInLaw
 soup_in_law bytes soup read =
     let said = readings [] (logical_lines 1 (lines_of bytes)) in
     let fine : (flat_map refusal_in said ++ flat_map (late_in (length (positions said))) said ≡ [])
-    × (face_set (positions said) (faces said) ≡ soup) =
-    accepted _ (face_set (positions said) (faces said)) soup read in
+    × (face_set (positions said) (faces said) ≡ soup) = accepted _ (face_set (positions said) (faces said)) soup read in
     let none : (flat_map refusal_in said ≡ []) × (flat_map (late_in (length (positions said))) said ≡ []) =
     parts_none _ _ fine.0 in
     subst IsWritableSoup fine.1 (writable said (are_said [] (logical_lines 1 (lines_of bytes)) none.0) none.1)
@@ -105,8 +100,6 @@ mesh_text_law bytes soup is = (
     }
 
     corners : list_all (λ face. list_all (λ v. ltb v (2 ^ 32)) face) soup.faces ≡ true
-    corners =
-        all_weaker (λ face. list_all (λ v. ltb v (length soup.pos)) face) (λ face. list_all (λ v. ltb v (2 ^ 32)) face)
-        (λ face all. all_weaker (λ v. ltb v (length soup.pos)) (λ v. ltb v (2 ^ 32))
-        (λ v low. lt-ltb v (2 ^ 32) (omega (arith, fine.few_vertices, ltb-true v (length soup.pos) low))) face all)
-        soup.faces fine.soup.in_range
+    corners = all_weaker (λ face. list_all (λ v. ltb v (length soup.pos)) face) (λ face. list_all (λ v. ltb v (2 ^ 32))
+        face) (λ face all. all_weaker (λ v. ltb v (length soup.pos)) (λ v. ltb v (2 ^ 32)) (λ v low. lt-ltb v (2 ^ 32)
+        (omega (arith, fine.few_vertices, ltb-true v (length soup.pos) low))) face all) soup.faces fine.soup.in_range

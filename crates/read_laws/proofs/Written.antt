@@ -1,55 +1,46 @@
 -- What is written for bytes that are read: it is accepted behind them, and its vertices lie where they are said to.
 use Rattle.std.specs.Prelude.{codes}
 use Rattle.std.proofs.Common.{◌≡◌, ◌++◌, false, [], None, length, inr, sym, subst, ap, ◌∙◌, arith, refl}
-use Rattle.std.proofs.lemmas.List.FromFn.{get_or-map-range_with_len}
-use Rattle.std.proofs.lemmas.Bool.{false≢true}
+use Rattle.std.proofs.lemmas.{Bool.false≢true, List.FromFn.get_or-map-range_with_len}
 use Rattle.read_laws.proofs.Accepted.{accepts_law, head_there, last_line, plain_begins, IsHeadTest}
-use Rattle.def_certtext.specs.CertLines.{alone, Certificates, line_text, raised, risen, used}
+use Rattle.read_laws.proofs.LayoutsRead.{finished_layout, finished_lengths, task_layout_law}
+use Rattle.read_laws.proofs.Soups.{mesh_text_law}
+use Rattle.def_certtext.specs.CertLines.{alone, Certificates, line_text, used}
 use Rattle.def_certtext.specs.Risings.{third_if}
-use Rattle.def_certtext.specs.declared.certs.Rising.{Rising}
-use Rattle.def_certtext.specs.declared.CertLine.{CertLine}
-use Rattle.def_certtext.specs.declared.CertLine.TheVariants.{Length, Vertex, Set, Floor, Rise as rise_line}
+use Rattle.def_certtext.specs.declared.{CertLine.CertLine, CertLine.TheVariants.Length, certs.Rising.Rising}
 use Rattle.def_flow.specs.{Admissible.deviation, Admissible.entries, Network.Network, declared.net.Settings.Settings}
 use Rattle.def_io.specs.{Bytes.Bytes, Lines.lines_of}
-use Rattle.def_layout.specs.{Arcs.long_at, Lengths.AreLengths, Lengths.Lengths, Layouts.gluing_of, Layouts.Layout}
-use Rattle.def_layout.specs.Layouts.{vertex_at}
+use Rattle.def_layout.specs.{Arcs.long_at, Layouts.gluing_of, Layouts.Layout, Layouts.vertex_at}
+use Rattle.def_layout.specs.Lengths.{AreLengths, Lengths}
 use Rattle.def_cut.specs.{FullCut.IsFullCut, Traced.traced_marks}
-use Rattle.def_layoutnet.specs.{LayoutNet.IsNetOf, MeshLayouts.IsSomeLayout}
+use Rattle.def_layoutnet.specs.LayoutNet.{IsNetOf}
 use Rattle.def_readlaws.specs.ReadPairs.{AcceptsTextLaw}
 use Rattle.def_readlaws.specs.ReadSpots.{FinishedSpotsLaw, RefinedSpotsLaw, SpotTextLaw}
 use Rattle.def_remesh.specs.{Certified.IsShown, Checked.accepted_line, Checked.IsCheckedPair, NewPoints.lengths_in}
 use Rattle.def_remesh.specs.{NewPoints.multiple_of, NewSoup.spaced_place, Remeshed.AreKeptBy, Remeshed.HasLeastLengths}
 use Rattle.def_remesh.specs.{Tasks.given_floors, Tasks.old_lengths, Tasks.remesh_task, Tasks.Task, TextLaws.IsSolid}
-use Rattle.def_run.specs.{Check.head_of, Checking.begins_fit, Checking.HasFitText, Checking.WritesAccepted}
-use Rattle.def_run.specs.MarkLines.{begins_mark}
+use Rattle.def_run.specs.Check.{head_of}
+use Rattle.def_run.specs.{Checking.begins_fit, Checking.HasFitText, Checking.WritesAccepted, MarkLines.begins_mark}
 use Rattle.def_written.specs.{Laws.LiesInMesh, Numbers.vertices}
 use Rattle.map_laws.proofs.{Spaced.spacing_is, SpotPlaces.spot_law}
 use Rattle.embedding_laws.proofs.LayoutLies.{embedding_law}
-use Rattle.remesh_laws.proofs.{LastLines.one_last, Certified.used_lengths}
+use Rattle.remesh_laws.proofs.LastLines.{one_last}
 use Rattle.site_laws.proofs.Laws.{graph_law}
 use Rattle.written_laws.proofs.{Shape.multiple_law, Spacings.even_law}
-use Rattle.read_laws.proofs.{LayoutsRead.task_layout_law, Soups.mesh_text_law}
 
 -- Kept certificates have the network of their layout.
 net_of : (layout : Layout) (settings : Settings) (rising : Rising) (certificates : Certificates)
     → AreKeptBy (HasLeastLengths old_lengths layout settings) layout (given_floors settings) rising certificates
-    → (net : Network) × IsNetOf (gluing_of layout) (old_lengths layout) (old_lengths layout) settings
-    (λ a. settings.floor)
-    net
+    → (net : Network)
+    × IsNetOf (gluing_of layout) (old_lengths layout) (old_lengths layout) settings (λ a. settings.floor) net
 net_of layout settings rising (alone cert) kept = (kept.net, kept.of_layout)
-net_of layout settings rising (raised first cert) kept = (kept.1.fit.net, kept.1.fit.of_layout)
-net_of layout settings rising (risen first rises after) kept = (kept.1.fit.net, kept.1.fit.of_layout)
+net_of layout settings rising _ kept = (kept.1.fit.net, kept.1.fit.of_layout)
 
 -- A checked pair that is no text of `fit` has the line that tells its numbers.
 told_pair : (bytes : Bytes) → ¬ HasFitText bytes → IsCheckedPair bytes → (line : Bytes) × WritesAccepted bytes line
 told_pair bytes other pair =
-    by_net (net_of pair.remeshed.layout pair.settings (third_if pair.auto) pair.remeshed.certificates
-    pair.remeshed.lengths)
-  where
-    by_net : (net : Network) × IsNetOf (gluing_of pair.remeshed.layout) (old_lengths pair.remeshed.layout)
-        (old_lengths pair.remeshed.layout) pair.settings (λ a. pair.settings.floor) net
-        → (line : Bytes) × WritesAccepted bytes line
-    by_net of = (
+    let of = net_of pair.remeshed.layout pair.settings (third_if pair.auto) pair.remeshed.certificates
+    pair.remeshed.lengths in (
       accepted_line _ _ _,
       record {
         arcs = _;
@@ -73,10 +64,7 @@ told_pair bytes other pair =
 -- No line of a certificate begins as a head line of any command.
 cert_marks : (line : CertLine) → begins_mark (line_text line) ≡ false
 cert_marks (Length n) = refl
-cert_marks (Vertex number up) = refl
-cert_marks (Set number up) = refl
-cert_marks (Floor floor) = refl
-cert_marks (rise_line rise) = refl
+cert_marks _ = refl
 
 mark_test : IsHeadTest begins_mark
 mark_test = record { head = λ settings auto. refl; cert = cert_marks; plain = plain_begins (codes "quadq 1 ") }
@@ -89,13 +77,12 @@ accepts_text_law settings auto old text range ends wrote = told_pair (old ++ tex
     solid = (mesh_text_law old wrote.soup wrote.mesh).0
 
     shown : IsShown (remesh_task settings auto wrote.soup.faces) wrote.soup text
-    shown = subst (λ (t : Task). IsShown t wrote.soup text) wrote.asked wrote.shown
+    shown = rw (← wrote.asked) wrote.shown
 
     -- The last head line of all is that of the remesh.
     no_fit : ¬ HasFitText (old ++ text)
     no_fit fit =
-        let there : fit.line ≡ length (lines_of old) = one_last begins_mark (lines_of (old ++ text)) fit.line
-        (length (lines_of old)) fit.divided
+        let there = one_last begins_mark (lines_of (old ++ text)) fit.line (length (lines_of old)) fit.divided
         (last_line settings auto old text wrote.soup range ends solid shown begins_mark mark_test) in
         false≢true (sym (ap begins_fit (ap (λ n. head_of (old ++ text) n) there
         ∙ head_there settings auto old text wrote.soup range ends solid shown)) ∙ fit.begins)
@@ -107,10 +94,8 @@ spot_text_law bytes soup marks layout shares new is full laid long spaced v low 
     (record { faces = soup.faces; mesh = mesh.1; quads = mesh.2; marks = marks; cut = full; laid = laid }, refl) long
     spaced v low in (
       spot.0,
-      spot.1 soup.pos
-          ∙ sym (get_or-map-range_with_len (spaced_place soup.faces layout soup.pos shares new) 0
-          (vertices (gluing_of layout) new) v
-          v [] low (omega arith)),
+      spot.1 soup.pos ∙ sym (get_or-map-range_with_len (spaced_place soup.faces layout soup.pos shares new) 0
+          (vertices (gluing_of layout) new) v v [] low (omega arith)),
     )
 
 pub refined_spots_law : RefinedSpotsLaw
@@ -138,18 +123,9 @@ refined_spots_law by bytes text some wrote =
 pub finished_spots_law : FinishedSpotsLaw
 finished_spots_law command bytes text wrote range =
     let finished = wrote.shown.finished in
-    let new : Lengths = lengths_in (used finished.certificates).x in
-    let mesh = mesh_text_law bytes wrote.soup wrote.mesh in
+    let new = lengths_in (used finished.certificates).x in
     let full = (task_layout_law command bytes wrote.soup wrote.task wrote.mesh wrote.asked).0 in
-    let laid : IsSomeLayout finished.layout = record {
-      faces = wrote.soup.faces;
-      mesh = mesh.1;
-      quads = mesh.2;
-      marks = wrote.task.marks;
-      cut = full;
-      laid = finished.cut;
-    } in
-    let lengths : AreLengths (gluing_of finished.layout) new = used_lengths wrote.task.wish finished.layout
-    wrote.task.settings wrote.task.rising finished.certificates range.floor.low finished.lengths in
+    let lengths = finished_lengths command bytes text wrote range.floor.low in
     spot_text_law bytes wrote.soup wrote.task.marks finished.layout wrote.task.shares new wrote.mesh full finished.cut
-    lengths (spacing_is finished.layout laid new lengths finished.coarse wrote.task.shares)
+    lengths (spacing_is finished.layout (finished_layout command bytes text wrote) new lengths finished.coarse
+    wrote.task.shares)

@@ -29,7 +29,8 @@ module _ (l : Gluing) (x : Lengths) (laid : IsSurface l) (len : AreLengths l x) 
       by_point (a, is, number) = by_dart a number (point_dart l x laid len a is)
 
   corners_low : names_below (vertices l x) (new_faces l x) ≡ true
-  corners_low = faces_pass l x (λ v. nat_lt v (vertices l x)) (λ f w low. lt-ltb _ _ (corner_there l x laid len f w low))
+  corners_low =
+      faces_pass l x (λ v. nat_lt v (vertices l x)) (λ f w low. lt-ltb _ _ (corner_there l x laid len f w low))
 
 module _ (soup : FaceSet) (layout : Layout) (shares : Option (List ℕ)) (x : Lengths)
     (laid : IsSurface (gluing_of layout)) (len : AreLengths (gluing_of layout) x) where
