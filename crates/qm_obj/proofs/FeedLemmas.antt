@@ -1,26 +1,23 @@
 -- Lines and pieces that are taken one by one, and what is then kept.
-use Rattle.std.proofs.Common.{◌≡◌, ℕ, ◌+◌, ◌-◌, ◌<◌, ◌≤◌, true, false, eqb, List, [], ◌∷◌, ◌++◌, length, refl, sym, ◌≢◌}
-use Rattle.std.proofs.Common.{ap, ◌∙◌, arith, Option, Some, None, Result, Ok, Err, map}
-use Rattle.std.proofs.lemmas.{Bool.eqb-true, Bool.false≢true, Bool.lt-ltb, Bool.or_from, List.Folds.list_any-append}
-use Rattle.std.proofs.lemmas.{List.append-nil, List.append_assoc, List.length-append, Result.IfErr-weaker}
-use Rattle.std.specs.{Prelude.is_some, Prelude.IfErr, Prelude.OnErr, Prelude.OnOk, List.list_any}
-use Rattle.def_feed.specs.Feed.{StandsFor, is_line_feed}
-use Rattle.def_feed.specs.Kept.{KeptText, kept_readings, logical_behind, soup_with, soup_with_lines, face_readings}
-use Rattle.def_io.specs.{Bytes.Bytes, Bytes.Lines, Lines.line_of, Lines.lines_of}
-use Rattle.def_mesh.specs.Faces.{Faces}
-use Rattle.def_text.specs.{FaceSet.FaceSet, Text.soup_in, Text.soup_of, Types.Positions}
+use Rattle.def_feed.specs.Kept.{KeptText, face_readings, kept_readings, logical_behind, soup_with, soup_with_lines}
+use Rattle.def_io.{specs.Bytes.Bytes, specs.Bytes.Lines, specs.Lines.line_of, specs.Lines.lines_of}
 use Rattle.def_text.specs.Logical.{Logical, continues, is_hash, logical_lines, with_space}
-use Rattle.def_text.specs.declared.reading.Reading.TheVariants.{Refused, Position}
+use Rattle.def_text.specs.declared.reading.{Reading.TheVariants.Position, Reading.TheVariants.Refused}
 use Rattle.def_text.specs.declared.refusal.{ObjFail.ObjFail, ObjFail.TheVariants.Limit, ObjFail.TheVariants.Memory}
-use Rattle.def_text.specs.declared.refusal.Which.TheVariants.{Line}
-use Rattle.qm_obj.specs.Feeding.{RefusesLine, RefusesPiece, TookLine, TookPiece, number_by}
-use Rattle.qm_obj.specs.Lines.{Fits, Took, line_as, next_said}
-use Rattle.qm_obj.specs.{Views.kept_at, Views.kept_of, declared.joiner.Joiner.Joiner}
-use Rattle.qm_obj.specs.declared.progress.Progress.{Progress}
+use Rattle.def_text.specs.{FaceSet.FaceSet, Text.soup_in, Types.Positions, declared.refusal.Which.TheVariants.Line}
 use Rattle.qm_obj.proofs.PrefixLemmas.{BeginsWith, bare_more, begins_behind, behind_held, behind_nothing}
-use Rattle.qm_obj.proofs.JoinLemmas.{length-with_space}
-use Rattle.qm_obj.proofs.KeptLemmas.{line_taken, stops_at}
 use Rattle.qm_obj.proofs.TailLemmas.{FirstLine, count_append, count_none, first_line, lines_fed, lines_open}
+use Rattle.qm_obj.proofs.{JoinLemmas.length-with_space, KeptLemmas.line_taken, KeptLemmas.stops_at}
+use Rattle.qm_obj.specs.Feeding.{RefusesLine, RefusesPiece, TookLine, TookPiece, number_by}
+use Rattle.qm_obj.specs.{Lines.next_said, declared.joiner.Joiner.Joiner, declared.progress.Progress.Progress}
+use Rattle.qm_obj.specs.{Lines.Fits, Lines.Took, Lines.line_as, Views.kept_at, Views.kept_of}
+use Rattle.std.proofs.Common.{Err, List, None, Option, Result, Some, arith, eqb, false, length, map, refl, true, ◌++◌}
+use Rattle.std.proofs.Common.{Ok, [], ap, sym, ℕ, ◌+◌, ◌-◌, ◌<◌, ◌∙◌, ◌∷◌, ◌≡◌, ◌≢◌, ◌≤◌}
+use Rattle.std.proofs.lemmas.List.{Folds.list_any-append, append-nil, append_assoc, length-append}
+use Rattle.std.proofs.lemmas.{Bool.eqb-true, Bool.false≢true, Bool.lt-ltb, Bool.or_from, Result.IfErr-weaker}
+use Rattle.std.specs.{List.list_any, Prelude.IfErr, Prelude.OnErr, Prelude.OnOk, Prelude.is_some}
+use Rattle.{def_feed.specs.Feed.StandsFor, def_feed.specs.Feed.is_line_feed, def_text.specs.Text.soup_of}
+use Rattle.{def_mesh.specs.Faces.Faces}
 
 -- Whether bytes are empty, by their number.
 pub is_nothing : {xs : Bytes} {n : ℕ} → true ≡ eqb n 0 → n ≡ length xs → xs ≡ []
@@ -43,7 +40,7 @@ pub record IsSound (kept : KeptText) : Type 0 where
 
 -- A joiner of lines and a reader of pieces keep it so.
 pub sound_of : (joiner : Joiner) → IsSound (kept_of joiner [])
-sound_of j = record { fits = j.reader.fits; bare = j.bare; unended = refl; held = omega (arith, j.short) }
+sound_of j = record { fits = j.reader.fits; bare = j.bare; unended = refl; held = omega arith }
 
 pub sound_at : (progress : Progress) → IsSound (kept_at progress)
 sound_at p = record { fits = p.joiner.reader.fits; bare = p.joiner.bare; unended = p.unended; held = p.short }
@@ -76,17 +73,15 @@ module _ {old : KeptText} (sound : IsSound old) where
   -- A logical line that is too long is refused, whatever comes behind.
   pub long_line : (line : Bytes) {number : ℕ} → number ≡ number_by old.joined old.next old.begun
       → 65536 < length old.joined + length line → RefusesLine old line (Limit Line number)
-  long_line line {number} is long = λ lines. by_first lines (begins_behind old line lines)
-    where
-      limit : (one : Logical) → one.number ≡ number → length old.joined + length line ≤ one.size
-          → next_said old.positions old.faces one ≡ Refused (Limit Line number)
-      limit one same size = rw (lt-ltb 65536 one.size (omega arith), same) refl
-
-      by_first : (lines : Lines) → BeginsWith (logical_behind old (line ∷ lines))
-          (number_by old.joined old.next old.begun) (length old.joined + length line)
-          → soup_with_lines old (line ∷ lines) ≡ Err (Limit Line number)
-      by_first lines first = rw first.are (stops_at _ _ _ first.line first.rest sound.fits.sizes
-          (limit first.line (first.number_is ∙ sym is) first.long))
+  long_line line {number} is long =
+      let limit : (one : Logical) → one.number ≡ number → length old.joined + length line ≤ one.size
+      → next_said old.positions old.faces one
+      ≡ Refused (Limit Line number) = λ one same size. rw (lt-ltb 65536 one.size (omega arith), same) refl in
+      let by_first : (lines : Lines) → BeginsWith (logical_behind old (line ∷ lines))
+      (number_by old.joined old.next old.begun) (length old.joined + length line) → soup_with_lines old (line ∷ lines)
+      ≡ Err (Limit Line number) = λ lines first. rw first.are (stops_at _ _ _ first.line first.rest sound.fits.sizes
+      (limit first.line (first.number_is ∙ sym is) first.long)) in
+      λ lines. by_first lines (begins_behind old line lines)
 
   -- A line that ends a logical line is read.
   pub ended_line : {line joined : Bytes} {one : Logical} {p : Positions} {c : Faces} {l : List ℕ} {begun : ℕ}
@@ -125,8 +120,7 @@ module _ {old : KeptText} (sound : IsSound old) (some : 0 < length old.joined) w
   pub last_same : {p : Positions} {c : Faces} {l : List ℕ}
       → Took old.positions p old.faces c old.lines l (next_said old.positions old.faces (last_line old))
       → soup_with_lines old [] ≡ soup_of (map (λ position. Position position) p ++ face_readings l c)
-  last_same {p} {c} {l} took = rw (behind_nothing old some sound.bare)
-      (line_taken (last_line old) sound.fits took []
+  last_same {p} {c} {l} took = rw (behind_nothing old some sound.bare) (line_taken (last_line old) sound.fits took []
       ∙ ap soup_of (append-nil (map (λ position. Position position) p ++ face_readings l c)))
 
   pub last_refused : {fail : ObjFail} → next_said old.positions old.faces (last_line old) ≡ Refused fail
@@ -147,7 +141,7 @@ module _ {old : KeptText} (sound : IsSound old) where
       → TookLine (record old { tail = [] }) (record new { tail = [] }) line → TookPiece old new (prefix ++ 10 ∷ [])
   fed_piece {new} prefix off is none took = record {
     same = λ more. rw (fed_lines old.tail prefix more sound.unended off, ← is, none) (took.same (lines_of more));
-    counted = omega (arith, took.next, count_append prefix (10 ∷ []), count_none prefix off);
+    counted = omega (arith, count_append prefix (10 ∷ []), count_none prefix off);
   }
 
   pub fed_refused : (prefix line : Bytes) (fail : ObjFail) → list_any is_line_feed prefix ≡ false
@@ -167,15 +161,13 @@ module _ {old : KeptText} (sound : IsSound old) where
   pub long_piece : (bytes : Bytes) {number : ℕ} → list_any is_line_feed bytes ≡ false
       → number ≡ number_by old.joined old.next old.begun
       → 65537 - (length old.joined + length old.tail) < length bytes → RefusesPiece old bytes (Limit Line number)
-  long_piece bytes {number} off is long = λ more.
-      rw (← append_assoc old.tail bytes more) (by_first more (first_line (old.tail ++ bytes) more
-      (list_any-append is_line_feed old.tail bytes ∙ or_from _ _ sound.unended off)
+  long_piece bytes {number} off is long =
+      let by_first : (more : Bytes) → FirstLine (old.tail ++ bytes) ((old.tail ++ bytes) ++ more) → soup_with_lines old
+      (lines_of ((old.tail ++ bytes) ++ more)) ≡ Err (Limit Line number) = λ more first. rw first.are (long_line sound
+      first.line is (omega (arith, length-append old.tail bytes)) first.rest) in
+      λ more. rw (← append_assoc old.tail bytes more) (by_first more
+      (first_line (old.tail ++ bytes) more (list_any-append is_line_feed old.tail bytes ∙ or_from _ _ sound.unended off)
       (omega (arith, length-append old.tail bytes))))
-    where
-      by_first : (more : Bytes) → FirstLine (old.tail ++ bytes) ((old.tail ++ bytes) ++ more)
-          → soup_with_lines old (lines_of ((old.tail ++ bytes) ++ more)) ≡ Err (Limit Line number)
-      by_first more first = rw first.are (long_line sound first.line is
-          (omega (arith, first.long, length-append old.tail bytes, sound.held)) first.rest)
 
   -- The end of the text is that of its last line.
   pub ended_tail : {line : Bytes} → 0 < length old.tail → line ≡ line_of old.tail
@@ -186,7 +178,7 @@ module _ {old : KeptText} (sound : IsSound old) where
 pub both_taken : {a b c : KeptText} {x y : Bytes} → TookPiece a b x → TookPiece b c y → TookPiece a c (x ++ y)
 both_taken {x = x} {y = y} first second = record {
   same = λ more. rw (append_assoc x y more) (first.same (y ++ more) ∙ second.same more);
-  counted = omega (arith, first.counted, second.counted, count_append x y);
+  counted = omega (arith, count_append x y);
 }
 
 pub refused_behind : {a b : KeptText} {x : Bytes} (y : Bytes) (fail : ObjFail) → TookPiece a b x → RefusesPiece b y fail
@@ -209,7 +201,7 @@ pub stands_more : {old new : KeptText} {refused : Option ObjFail} {piece text : 
     → StandsFor (record { kept = new; refused = refused }) (text ++ piece)
 stands_more {refused = None} {piece = piece} {text = text} none took stands = record {
   answers = λ more. rw (append_assoc text piece more) (sym (took.same more) ∙ stands.answers (piece ++ more));
-  counted = λ none. omega (arith, took.counted, stands.counted refl, count_append text piece);
+  counted = λ none. omega (arith, stands.counted refl, count_append text piece);
 }
 stands_more {refused = Some fail} none took stands = absurd (false≢true none)
 

@@ -1,12 +1,9 @@
 -- The first group of physical lines is the logical line ahead.
-use Rattle.std.proofs.Common.{◌≡◌, ℕ, suc, ◌+◌, Bool, true, false, cond, List, [], ◌∷◌, ◌++◌, length, drop}
-use Rattle.std.proofs.Common.{slice_index_or, refl, sym, ap, ◌∙◌, arith}
-use Rattle.std.proofs.lemmas.List.{append-nil, length-append}
-use Rattle.std.specs.List.{before_first, flat_map}
-use Rattle.def_io.specs.Bytes.{Lines}
-use Rattle.def_text.specs.Logical.{continues, first_group, groups_of, is_hash, joined, logical_lines}
-use Rattle.def_text.specs.Logical.{numbered_groups, part_of, with_line, with_space}
+use Rattle.def_text.specs.Logical.{continues, first_group, groups_of, is_hash, joined, logical_lines, numbered_groups}
 use Rattle.qm_obj.specs.{Ahead.size_ahead, Ahead.span, Ahead.text_ahead, Lines.first_logical}
+use Rattle.std.proofs.Common.{List, arith, cond, drop, inl, inr, length, refl, slice_index_or, suc, ◌+◌, ◌∙◌, ◌∷◌, ◌≡◌}
+use Rattle.std.proofs.{Common.[], Common.ap, lemmas.Bool.cases_Bool, lemmas.List.append-nil, lemmas.List.length-append}
+use Rattle.{def_io.specs.Bytes.Lines, std.proofs.Common.ℕ, std.specs.List.before_first, std.specs.List.flat_map}
 
 -- The physical lines of the logical line ahead.
 abbrev pub prefix : (lines : Lines) → Lines
@@ -17,16 +14,12 @@ prefix (line ∷ lines) = cond (continues line) (line ∷ prefix lines) (line �
 pub groups_step : (line : List ℕ) (lines : Lines)
     → groups_of (line ∷ lines) ≡ prefix (line ∷ lines) ∷ groups_of (drop (span (line ∷ lines)) (line ∷ lines))
 groups_step line [] = grind (arith)
-groups_step line (l ∷ ls) = ap (with_line line) (groups_step l ls) ∙ by_more (continues line) (groups_step l ls)
-  where
-    by_more : (t : Bool) → groups_of (l ∷ ls) ≡ prefix (l ∷ ls) ∷ groups_of (drop (span (l ∷ ls)) (l ∷ ls))
-        → cond t ((line ∷ prefix (l ∷ ls)) ∷ groups_of (drop (span (l ∷ ls)) (l ∷ ls))) ((line ∷ []) ∷ prefix (l ∷ ls)
-        ∷ groups_of (drop (span (l ∷ ls)) (l ∷ ls)))
-        ≡ cond t (line ∷ prefix (l ∷ ls)) (line ∷ []) ∷ groups_of (drop (cond t (1 + span (l ∷ ls)) 1) (line ∷ l ∷ ls))
-    by_more true again =
-        let e : suc (span (l ∷ ls)) ≡ 1 + span (l ∷ ls) = omega arith in
-        ap (λ n. (line ∷ prefix (l ∷ ls)) ∷ groups_of (drop n (line ∷ l ∷ ls))) e
-    by_more false again = ap (λ gs. (line ∷ []) ∷ gs) (sym again)
+groups_step line (l ∷ ls) =
+    let e : 1 + span (l ∷ ls) ≡ suc (span (l ∷ ls)) = omega arith in
+    elim (cases_Bool (continues line)) [
+      | inl on ↦ rw (groups_step l ls, on, e) refl
+      | inr off ↦ rw (groups_step l ls, off, groups_step l ls) refl
+    ]
 
 pub prefix_span : (lines : Lines) → length (prefix lines) ≡ span lines
 prefix_span [] = refl
@@ -34,23 +27,17 @@ prefix_span (line ∷ lines) = grind (arith, prefix_span lines)
 
 pub prefix_size : (lines : Lines) → length (flat_map (λ l. l) (prefix lines)) ≡ size_ahead lines
 prefix_size [] = refl
-prefix_size (line ∷ lines) = by_more (continues line) (prefix_size lines)
-  where
-    by_more : (t : Bool) → length (flat_map (λ l. l) (prefix lines)) ≡ size_ahead lines
-        → length (flat_map (λ l. l) (cond t (line ∷ prefix lines) (line ∷ [])))
-        ≡ cond t (length line + size_ahead lines) (length line)
-    by_more true again = omega (arith, again, length-append line (flat_map (λ l. l) (prefix lines)))
-    by_more false again = ap length (append-nil line)
+prefix_size (line ∷ lines) = elim (cases_Bool (continues line)) [
+  | inl on ↦ rw on (omega (arith, prefix_size lines, length-append line (flat_map (λ l. l) (prefix lines))))
+  | inr off ↦ rw off (ap length (append-nil line))
+]
 
 pub prefix_text : (lines : Lines) → joined (prefix lines) ≡ text_ahead lines
 prefix_text [] = refl
-prefix_text (line ∷ lines) = by_more (continues line) refl (prefix_text lines)
-  where
-    by_more : (t : Bool) → continues line ≡ t → flat_map part_of (prefix lines) ≡ text_ahead lines
-        → flat_map part_of (cond t (line ∷ prefix lines) (line ∷ [])) ≡ cond t (with_space line ++ text_ahead lines)
-        (before_first is_hash line)
-    by_more true on again = rw (on, again) refl
-    by_more false off again = rw off (append-nil (before_first is_hash line))
+prefix_text (line ∷ lines) = elim (cases_Bool (continues line)) [
+  | inl on ↦ rw (on, on, prefix_text lines) refl
+  | inr off ↦ rw (off, off) (append-nil (before_first is_hash line))
+]
 
 -- The first group is they.
 pub first_group_is : (lines : Lines) → first_group lines ≡ prefix lines

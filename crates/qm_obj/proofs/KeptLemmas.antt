@@ -1,24 +1,21 @@
 -- The soup of what is kept, with more lines behind it.
-use Rattle.std.proofs.Common.{◌≡◌, ◌≢◌, ℕ, ◌+◌, ◌^◌, ◌≤◌, Bool, true, false, cond, List, [], ◌∷◌, ◌++◌, length, map, ℤ}
-use Rattle.std.proofs.Common.{refl, sym, ap, ◌∙◌, arith, ltb, Option, Some, None, Result, Ok, Err}
-use Rattle.std.proofs.lemmas.{Bool.and_from, List.append-nil, List.append_assoc, List.length-append, List.length-map}
-use Rattle.std.proofs.lemmas.List.{Concat.flat_map-append, Folds.list_all-append, Sums.sum_by_push}
-use Rattle.std.proofs.lemmas.Result.{IfErr-weaker, IfOk-weaker}
-use Rattle.std.specs.{Prelude.IfErr, Prelude.IfOk, List.count_by, List.flat_map, List.list_all, List.list_any}
-use Rattle.def_feed.specs.Kept.{face_readings, readings_behind}
-use Rattle.def_mesh.specs.Faces.{Faces}
-use Rattle.def_text.specs.{FaceSet.FaceSet, Logical.Logical, Text.refusal_in, Text.soup_of, Types.Positions}
-use Rattle.def_text.specs.Reading.{is_face_line, is_vertex_line, reading}
-use Rattle.def_text.specs.Text.{face_in, face_set, faces, first_refusal, late_in, position_in, positions, readings}
-use Rattle.def_text.specs.declared.reading.Reading.{Reading}
-use Rattle.def_text.specs.declared.reading.Reading.TheVariants.{Passed, Position, Face, Refused}
+use Rattle.def_text.specs.Text.{face_in, face_set, first_refusal, late_in, position_in, positions, readings, refusal_in}
+use Rattle.def_text.specs.declared.reading.Reading.{TheVariants.Passed, TheVariants.Position, TheVariants.Refused}
 use Rattle.def_text.specs.declared.refusal.{ObjFail.ObjFail, ObjFail.TheVariants.Memory, ObjFail.TheVariants.Range}
-use Rattle.qm_obj.specs.{Indices.clamped, Indices.with_clamped, Kept.IsLate, Kept.first_late}
-use Rattle.qm_obj.specs.Lines.{Fits, Took, line_in, next_said}
-use Rattle.qm_obj.proofs.{ListLemmas.parts_none, SoupLemmas.few_pos, SoupLemmas.same_faces}
-use Rattle.qm_obj.proofs.ReadLemmas.{any_clamped, face_clamped, late_none, late_some, line_clamped, position_clamped}
-use Rattle.qm_obj.proofs.ReadLemmas.{positive_clamped, refusal_clamped, refused_clamped, unclamped_face}
-use Rattle.qm_obj.proofs.SuitLemmas.{Suits, reading_suits}
+use Rattle.def_text.specs.{FaceSet.FaceSet, declared.reading.Reading.Reading, declared.reading.Reading.TheVariants.Face}
+use Rattle.def_text.specs.{Logical.Logical, Reading.is_face_line, Reading.is_vertex_line, Reading.reading, Text.soup_of}
+use Rattle.qm_obj.proofs.ReadLemmas.{face_clamped, position_clamped, positive_clamped, refusal_clamped, refused_clamped}
+use Rattle.qm_obj.proofs.ReadLemmas.{any_clamped, late_none, late_some, line_clamped, unclamped_face}
+use Rattle.qm_obj.proofs.{ListLemmas.parts_none, SoupLemmas.few_pos, SoupLemmas.same_faces, SuitLemmas.reading_suits}
+use Rattle.qm_obj.specs.{Indices.clamped, Indices.with_clamped, Kept.first_late, Lines.line_in, Lines.next_said}
+use Rattle.std.proofs.Common.{Bool, Err, List, None, Option, Result, Some, arith, cond, false, length, refl, true, ◌++◌}
+use Rattle.std.proofs.Common.{Ok, [], ap, ltb, map, sym, ℕ, ℤ, ◌+◌, ◌^◌, ◌∙◌, ◌∷◌, ◌≡◌, ◌≢◌, ◌≤◌}
+use Rattle.std.proofs.lemmas.List.{Concat.flat_map-append, Folds.list_all-append, Sums.sum_by_push, length-append}
+use Rattle.std.proofs.lemmas.{List.append-nil, List.append_assoc, Result.IfErr-weaker, Result.IfOk-weaker}
+use Rattle.std.specs.{List.count_by, List.flat_map, List.list_all, List.list_any, Prelude.IfErr, Prelude.IfOk}
+use Rattle.{def_feed.specs.Kept.face_readings, def_feed.specs.Kept.readings_behind, std.proofs.lemmas.List.length-map}
+use Rattle.{def_mesh.specs.Faces.Faces, def_text.specs.Types.Positions, std.proofs.lemmas.Bool.and_from}
+use Rattle.{def_text.specs.Text.faces, qm_obj.specs.Kept.IsLate, qm_obj.specs.Lines.Fits, qm_obj.specs.Lines.Took}
 
 -- What the kept positions and faces say, apart.
 pub positions_silent : {X : Type 0} (f : Reading → List X) → ((x : List ℤ) → f (Position x) ≡ []) → (p : Positions)
@@ -38,25 +35,24 @@ faces_silent f none (n ∷ l) (x ∷ c) = rw (none n x) (faces_silent f none l c
 
 faces_said : (l : List ℕ) (c : Faces) → length l ≡ length c → flat_map face_in (face_readings l c) ≡ c
 faces_said [] [] sizes = refl
-faces_said (n ∷ l) (x ∷ c) sizes = ap (λ ys. x ∷ ys) (faces_said l c (omega (arith, sizes)))
-faces_said _ _ sizes = absurd (omega (arith, sizes))
+faces_said (n ∷ l) (x ∷ c) sizes = ap (λ ys. x ∷ ys) (faces_said l c (omega arith))
+faces_said _ _ sizes = absurd (omega arith)
 
 faces_lined : (l : List ℕ) (c : Faces) → length l ≡ length c → flat_map line_in (face_readings l c) ≡ l
 faces_lined [] c sizes = refl
-faces_lined (n ∷ l) [] sizes = absurd (omega (arith, sizes))
-faces_lined (n ∷ l) (x ∷ c) sizes = ap (λ ys. n ∷ ys) (faces_lined l c (omega (arith, sizes)))
+faces_lined (n ∷ l) [] sizes = absurd (omega arith)
+faces_lined (n ∷ l) (x ∷ c) sizes = ap (λ ys. n ∷ ys) (faces_lined l c (omega arith))
 
 faces_pushed : (l : List ℕ) (c : Faces) (n : ℕ) (x : List ℕ) → length l ≡ length c
     → face_readings (l ++ n ∷ []) (c ++ x ∷ []) ≡ face_readings l c ++ Face n x ∷ []
 faces_pushed [] [] n x sizes = refl
-faces_pushed (m ∷ l) (y ∷ c) n x sizes = ap (λ said. Face m y ∷ said) (faces_pushed l c n x (omega (arith, sizes)))
-faces_pushed _ _ n x sizes = absurd (omega (arith, sizes))
+faces_pushed (m ∷ l) (y ∷ c) n x sizes = ap (λ said. Face m y ∷ said) (faces_pushed l c n x (omega arith))
+faces_pushed _ _ n x sizes = absurd (omega arith)
 
 -- The soup of kept positions and faces, with readings behind them.
 abbrev kept_soup : (p : Positions) (c : Faces) (l : List ℕ) (said : List Reading) → Result FaceSet ObjFail
-kept_soup p c l said =
-    first_refusal (flat_map refusal_in said ++ (flat_map (late_in (length (p ++ positions said))) (face_readings l c)
-    ++ flat_map (late_in (length (p ++ positions said))) said))
+kept_soup p c l said = first_refusal (flat_map refusal_in said ++ (flat_map (late_in (length (p ++ positions said)))
+    (face_readings l c) ++ flat_map (late_in (length (p ++ positions said))) said))
     (face_set (p ++ positions said) (c ++ faces said))
 
 split : {X : Type 0} (f : Reading → List X) (a b c : List Reading) → flat_map f ((a ++ b) ++ c)
@@ -90,15 +86,14 @@ few_behind v f [] few none = omega arith
 few_behind v f (line ∷ lines) few none =
     let said = reading v f line in
     let behind = readings_behind (v + cond (is_vertex_line line) 1 0) (f + cond (is_face_line line) 1 0) lines in
-    let fits : Suits v f line said = reading_suits v f line in
+    let fits = reading_suits v f line in
     let nones : (refusal_in said ≡ []) × (flat_map refusal_in behind ≡ []) = parts_none _ _ none in
-    let one : length (position_in said) ≡ cond (is_vertex_line line) 1 0 = fits.vertex nones.0 in
-    let fewer : v + length (position_in said) ≤ 2 ^ 21 = fits.few_vertices few in
+    let one = fits.vertex nones.0 in
+    let fewer = fits.few_vertices few in
     let again : v + cond (is_vertex_line line) 1 0 + length (positions behind) ≤ 2 ^ 21 = few_behind
     (v + cond (is_vertex_line line) 1 0) (f + cond (is_face_line line) 1 0) lines (omega arith) nones.1 in
-    let many : length (position_in said ++ positions behind) ≡ length (position_in said) + length (positions behind) =
-    length-append (position_in said) (positions behind) in
-    omega (arith, again, one, many)
+    let many = length-append (position_in said) (positions behind) in
+    omega arith
 
 -- A refusal is the first one whatever the soup would be.
 some_refusal : (fails : List ObjFail) (fail : ObjFail) (more : List ObjFail) (s t : FaceSet)
@@ -152,9 +147,8 @@ more_said : {p p' : Positions} {c c' : Faces} {l l' : List ℕ} (one : Reading) 
     ≡ kept_soup p' c' l' said
 more_said {p = p} {c = c} {l = l} Passed said sizes took few =
     rw (took.position, took.face, took.line, append-nil p, append-nil c, append-nil l) refl
-more_said {p = p} {c = c} {l = l} (Position place) said sizes took few =
-    rw (took.position, took.face, took.line, append-nil c, append-nil l, append_assoc p (place ∷ []) (positions said))
-    refl
+more_said {p = p} {c = c} {l = l} (Position place) said sizes took few = rw
+    (took.position, took.face, took.line, append-nil c, append-nil l, append_assoc p (place ∷ []) (positions said)) refl
 more_said {p = p} {c = c} {l = l} (Face n corners) said sizes took few =
     let ps : length p ≡ length (p ++ []) = omega (arith, length-append p []) in
     rw (took.position, append-nil p, took.face, took.line) (face_more p c l n corners said sizes
@@ -175,7 +169,7 @@ module _ {p p' : Positions} {c c' : Faces} {l l' : List ℕ} (line : Logical) (o
   grown : Grown p p' c c' l' line
   grown =
       let said = reading (length p) (length c) line in
-      let suits : Suits (length p) (length c) line said = reading_suits (length p) (length c) line in
+      let suits = reading_suits (length p) (length c) line in
       let calm : refusal_in said ≡ [] = sym (refusal_clamped said) ∙ took.accepted in
       let ps : length p' ≡ length p + length (position_in said) =
       rw (took.position, position_clamped said) (length-append p (position_in said)) in
@@ -183,15 +177,15 @@ module _ {p p' : Positions} {c c' : Faces} {l l' : List ℕ} (line : Logical) (o
       rw (took.face, face_clamped said) (simp (length-append, length-map)) in
       let ls : length l' ≡ length l + length (line_in said) =
       rw (took.line, line_clamped said) (length-append l (line_in said)) in
-      let v : length (position_in said) ≡ cond (is_vertex_line line) 1 0 = suits.vertex calm in
-      let f : length (face_in said) ≡ cond (is_face_line line) 1 0 = suits.face calm in
+      let v = suits.vertex calm in
+      let f = suits.face calm in
       record {
-        vertices = omega (arith, ps, v);
-        faces_are = omega (arith, cs, f);
+        vertices = omega arith;
+        faces_are = omega arith;
         fits = record {
-          few_vertices = omega (arith, ps, suits.few_vertices old.few_vertices);
-          few_faces = omega (arith, cs, suits.few_faces old.few_faces);
-          sizes = omega (arith, ls, cs, line_face said, old.sizes);
+          few_vertices = omega (arith, suits.few_vertices old.few_vertices);
+          few_faces = omega (arith, suits.few_faces old.few_faces);
+          sizes = omega (arith, line_face said);
           positive = rw (took.face, face_clamped said) (
               list_all-append (list_all (λ corner. ltb 0 corner)) c (map (λ face. map clamped face) (face_in said))
               ∙ and_from _ _ old.positive (positive_clamped (face_in said) suits.positive));
@@ -259,8 +253,7 @@ readings_by_counts before (line ∷ lines) =
     1 0 = sum_by_push (λ l. cond (is_vertex_line l) 1 0) before line in
     let f : count_by is_face_line (before ++ line ∷ []) ≡ count_by is_face_line before + cond (is_face_line line) 1 0 =
     sum_by_push (λ l. cond (is_face_line l) 1 0) before line in
-    let again : readings (before ++ line ∷ []) lines ≡ readings_behind (count_by is_vertex_line (before ++ line ∷ []))
-    (count_by is_face_line (before ++ line ∷ [])) lines = readings_by_counts (before ++ line ∷ []) lines in
+    let again = readings_by_counts (before ++ line ∷ []) lines in
     rw (again, v, f) refl
 
 pub nothing_kept : (lines : List Logical) → soup_of (readings_behind 0 0 lines) ≡ soup_of (readings [] lines)
@@ -270,8 +263,7 @@ nothing_kept lines = ap soup_of (sym (readings_by_counts [] lines))
 module _ {p : Positions} {c : Faces} {l : List ℕ} (old : Fits p c l) where
   nothing_behind : soup_of (map (λ position. Position position) p ++ face_readings l c)
       ≡ first_refusal (flat_map (late_in (length p)) (face_readings l c)) (face_set p c)
-  nothing_behind =
-      ap soup_of (sym (append-nil (map (λ position. Position position) p ++ face_readings l c)))
+  nothing_behind = ap soup_of (sym (append-nil (map (λ position. Position position) p ++ face_readings l c)))
       ∙ kept_soup_is p c l [] old.sizes
       ∙ rw (append-nil p, append-nil c, append-nil (flat_map (late_in (length p)) (face_readings l c))) refl
 
@@ -288,7 +280,7 @@ module _ {p : Positions} {c : Faces} {l : List ℕ} (old : Fits p c l) where
       → IfOk r (λ s. (first_late (length p) c l ≡ None) × (s ≡ face_set p c))
       → IfOk r (λ s. (length s.pos ≤ 2 ^ 21) × (length s.faces ≤ 2 ^ 20))
   finished_few r = IfOk-weaker r _ _ (λ s (is : (first_late (length p) c l ≡ None) × (s ≡ face_set p c)).
-      rw is.1 (omega (arith, old.few_vertices, few_pos p c), omega (arith, old.few_faces, same_faces p c)))
+      rw is.1 (omega (arith, few_pos p c), omega (arith, same_faces p c)))
 
   pub finished_refused : (r : Result FaceSet ObjFail)
       → IfErr r (λ fail. fail ≢ Memory → IsLate fail (first_late (length p) c l))

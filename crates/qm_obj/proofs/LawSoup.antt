@@ -1,32 +1,29 @@
 -- What the lines of a canonical text say, and the soup that they have.
-use Rattle.std.proofs.Common.{◌≡◌, ℕ, ℤ, pos, zero, suc, ◌+◌, ◌-◌, ◌^◌, ◌<◌, ◌≤◌, Bool, true, false, cond, not, ◌&&◌}
-use Rattle.std.proofs.Common.{List, [], ◌∷◌, ◌++◌, length, map, get_or, refl, sym, ap, ◌∙◌, arith, eqb, ltb}
-use Rattle.std.proofs.{Common.add-one, Common.Ok, lemmas.Bool.not-true, lemmas.Bool.or_from, lemmas.List.take_all}
-use Rattle.std.proofs.lemmas.Bool.{and_from, and_parts, cond-false, eqb-true, le-ltb, ltb-false, ltb-true, ne_eqb}
-use Rattle.std.proofs.lemmas.List.{append-nil, append_assoc, get_or-map, get_or_default, length-map, same_lists}
-use Rattle.std.proofs.lemmas.List.{Concat.flat_map-append, Elements.filter-append, Folds.flat_map-map, Sums.sum_by_push}
-use Rattle.std.proofs.lemmas.Fmt.{decimal_nonempty}
-use Rattle.std.specs.{Prelude.decimal, Prelude.unsigned_abs, Char.is_ascii_digit}
-use Rattle.std.specs.List.{count_by, filter, flat_map, list_all, list_any}
 use Rattle.def_text.specs.Canonical.{canonical_text, face_text, micro_text, position_text}
-use Rattle.def_text.specs.Corner.{are_indices, is_corner_word, is_out, is_slash, resolved, used_index}
-use Rattle.def_text.specs.{Decimal.is_decimal, Decimal.is_far, Decimal.rounded, FaceSet.FaceSet, FaceSet.IsSoup}
-use Rattle.def_text.specs.Digits.{is_negative, is_number, is_signed, number_written, unsigned}
-use Rattle.def_text.specs.{Logical.Logical, Logical.logical_lines, Words.words, declared.reading.Reading.Reading}
+use Rattle.def_text.specs.Corner.{are_indices, is_corner_word, is_out, resolved, used_index}
 use Rattle.def_text.specs.Reading.{begins_with, is_face_line, is_position_count, is_vertex_line, reading, words_reading}
-use Rattle.def_text.specs.Text.{face_in, face_set, faces, late_in, numbers_to, position_in, position_of, readings}
-use Rattle.def_text.specs.Text.{refusal_in, soup_of, text_soup, used_to, line_vertex}
-use Rattle.def_text.specs.declared.reading.Reading.TheVariants.{Position, Face}
-use Rattle.def_text.specs.{Laws.ReadsBack, Laws.is_position, Laws.is_quad, Types.Positions}
-use Rattle.def_mesh.specs.{Vertices.is_used, Faces.Faces}
-use Rattle.def_io.specs.{Lines.lines_of, Bytes.Lines}
-use Rattle.qm_obj.proofs.CornerLemmas.{behind_none, digits_index, no_slash, whole_word}
-use Rattle.qm_obj.proofs.LawText.{IsLine, IsWord, decimal_word, line_tame, line_text, line_words, lines_split}
-use Rattle.qm_obj.proofs.{LawText.logical_plain, LawText.micro_word, LawText.plain_lines, ListLemmas.passes_at}
-use Rattle.qm_obj.proofs.{KeptLemmas.positions_said, KeptLemmas.positions_silent, ReadLemmas.readings_append}
-use Rattle.qm_obj.proofs.LineLemmas.{face_rest, vertex_rest}
-use Rattle.qm_obj.proofs.SoupLemmas.{are_below, length-numbers_to, numbers_at, used_renumbered}
+use Rattle.def_text.specs.Text.{face_set, line_vertex, numbers_to, position_in, position_of, refusal_in, text_soup}
+use Rattle.def_text.specs.declared.reading.Reading.{Reading, TheVariants.Face, TheVariants.Position}
+use Rattle.def_text.specs.{Decimal.is_decimal, Digits.is_number, Digits.is_signed, Digits.number_written, Text.readings}
+use Rattle.def_text.specs.{Decimal.rounded, Digits.unsigned, FaceSet.FaceSet, Laws.is_position, Logical.Logical}
+use Rattle.def_text.specs.{Decimal.is_far, FaceSet.IsSoup, Laws.ReadsBack, Laws.is_quad, Text.face_in, Types.Positions}
+use Rattle.def_text.specs.{Text.faces, Text.late_in, Text.soup_of, Text.used_to, Words.words}
 use Rattle.qm_dec.proofs.{ReadBack.canonical_law, Texts.decimal_digits, Texts.decimal_number}
+use Rattle.qm_obj.proofs.CornerLemmas.{behind_none, digits_index, no_slash, whole_word}
+use Rattle.qm_obj.proofs.LawText.{IsLine, decimal_word, line_words, lines_split, logical_plain, micro_word, plain_lines}
+use Rattle.qm_obj.proofs.SoupLemmas.{are_below, length-numbers_to, numbers_at, same_soups, used_renumbered}
+use Rattle.qm_obj.proofs.{KeptLemmas.positions_said, KeptLemmas.positions_silent, ReadLemmas.readings_append}
+use Rattle.qm_obj.proofs.{LawText.line_tame, LineLemmas.face_rest, LineLemmas.vertex_rest, ListLemmas.passes_at}
+use Rattle.std.proofs.Common.{Bool, List, Ok, add-one, arith, cond, false, get_or, length, refl, true, zero, ◌&&◌, ◌++◌}
+use Rattle.std.proofs.Common.{[], ap, eqb, ltb, map, not, pos, suc, sym, ℕ, ℤ, ◌+◌, ◌-◌, ◌<◌, ◌^◌, ◌∙◌, ◌∷◌, ◌≡◌, ◌≤◌}
+use Rattle.std.proofs.lemmas.Bool.{and_from, and_parts, cond-false, eqb-true, ltb-false, ltb-true, not-true, or_from}
+use Rattle.std.proofs.lemmas.List.{Concat.flat_map-append, Elements.filter-append, Folds.flat_map-map, Sums.sum_by_push}
+use Rattle.std.proofs.lemmas.List.{append-nil, append_assoc, get_or-map, get_or_default, length-map, same_lists}
+use Rattle.std.proofs.lemmas.{Bool.le-ltb, Bool.ne_eqb, Fmt.decimal_nonempty, List.take_all}
+use Rattle.std.specs.{Char.is_ascii_digit, List.count_by, List.flat_map, Prelude.decimal, Prelude.unsigned_abs}
+use Rattle.{def_mesh.specs.Vertices.is_used, qm_obj.proofs.LawText.IsWord, qm_obj.proofs.LawText.line_text}
+use Rattle.{def_io.specs.Bytes.Lines, def_io.specs.Lines.lines_of, def_mesh.specs.Faces.Faces, std.specs.List.list_all}
+use Rattle.{std.specs.List.filter, std.specs.List.list_any}
 
 -- What holds at each position of two lists holds at each position of both together, and of a map what holds of each
 -- image.
@@ -88,10 +85,10 @@ record PositionBack (position : List ℤ) : Type 0 where
 position_back : (position : List ℤ) → list_all (λ z. not (is_far z)) position ≡ true → PositionBack position
 position_back [] all = record { right = refl; near = refl; same = refl }
 position_back (z ∷ zs) all =
-    let parts : (not (is_far z) ≡ true) × (list_all (λ z. not (is_far z)) zs ≡ true) = and_parts _ _ all in
+    let parts = and_parts (not (is_far z)) _ all in
     let back : (is_decimal (micro_text z) ≡ true) × (rounded (micro_text z) ≡ z) =
     canonical_law z (ltb-false _ _ (not-true _ parts.0)) in
-    let again : PositionBack zs = position_back zs parts.1 in
+    let again = position_back zs parts.1 in
     record {
       right = and_from _ _ back.0 again.right;
       near = or_from _ _ (ap is_far back.1 ∙ not-true _ parts.0) again.near;
@@ -115,10 +112,9 @@ position_line_is position is =
 position_said : (vertices faces n : ℕ) (position : List ℤ) → vertices < 2 ^ 21 → is_position position ≡ true
     → reading vertices faces (plain_line n (position_line position)) ≡ Position position
 position_said vertices faces n position few is =
-    let parts : (eqb (length position) 3 ≡ true) × (list_all (λ z. not (is_far z)) position ≡ true) =
-    and_parts _ _ is in
+    let parts = and_parts (eqb (length position) 3) _ is in
     let three : length (map micro_text position) ≡ 3 = length-map position micro_text ∙ eqb-true _ _ parts.0 in
-    let back : PositionBack position = position_back position parts.1 in
+    let back = position_back position parts.1 in
     let right : (is_position_count (length (map micro_text position)) && list_all is_decimal (map micro_text position))
     ≡ true = and_from _ _ (ap is_position_count three) back.right in
     let all = take_all 3 (map micro_text position) (omega arith) in
@@ -140,9 +136,9 @@ names_vertex vertices n some small = by_word (decimal n) (decimal_digits n small
         → NamesVertex vertices word n
     by_word [] all long value = absurd (omega arith)
     by_word (b ∷ bs) all long value =
-        let index : (unsigned (b ∷ bs) ≡ b ∷ bs) × (is_negative (b ∷ bs) ≡ false) = digits_index b bs all in
-        let none : list_any is_slash (b ∷ bs) ≡ false = no_slash (b ∷ bs) all in
-        let used : used_index (b ∷ bs) ≡ b ∷ bs = whole_word (b ∷ bs) none in
+        let index = digits_index b bs all in
+        let none = no_slash (b ∷ bs) all in
+        let used = whole_word (b ∷ bs) none in
         let signed : is_signed (b ∷ bs) ≡ true = ap is_number index.0 ∙ all in
         let value' : number_written (unsigned (b ∷ bs)) ≡ n = ap number_written index.0 ∙ value in
         let other : eqb (number_written (unsigned (b ∷ bs))) 0 ≡ false =
@@ -161,10 +157,10 @@ record FaceBack (vertices : ℕ) (face : List ℕ) : Type 0 where
 face_back : (vertices : ℕ) (face : List ℕ) → vertices ≤ 2 ^ 21 → are_below vertices face ≡ true → FaceBack vertices face
 face_back vertices [] few all = record { corners = refl; inside = refl; same = refl }
 face_back vertices (v ∷ vs) few all =
-    let parts : (ltb v vertices ≡ true) × (are_below vertices vs ≡ true) = and_parts _ _ all in
+    let parts = and_parts (ltb v vertices) _ all in
     let low : v < vertices = ltb-true _ _ parts.0 in
     let first = names_vertex vertices (v + 1) (omega arith) (omega arith) in
-    let again : FaceBack vertices vs = face_back vertices vs few parts.1 in
+    let again = face_back vertices vs few parts.1 in
     record {
       corners = and_from _ _ first.form again.corners;
       inside = or_from _ _ first.inside again.inside;
@@ -189,7 +185,7 @@ face_said : (vertices faces n : ℕ) (face : List ℕ) → vertices ≤ 2 ^ 21 �
     → reading vertices faces (plain_line n (face_line face)) ≡ Face n (map (λ v. v + 1) face)
 face_said vertices faces n face few room is all =
     let four : eqb (length (map vertex_word face)) 4 ≡ true = ap (λ m. eqb m 4) (length-map face vertex_word) ∙ is in
-    let back : FaceBack vertices face = face_back vertices face few all in
+    let back = face_back vertices face few all in
     said_by_words vertices faces n (face_line_is vertices face few is all)
     (ap (words_reading n vertices faces) (line_words 102 (map vertex_word face) refl (face_words vertices face few all))
     ∙ face_rest n vertices faces (map vertex_word face) room back.corners four ∙ rw (back.inside, back.same) refl)
@@ -226,23 +222,19 @@ record PositionsSaid (before : List Logical) (n : ℕ) (ps : Positions) : Type 0
 
 positions_are_said : (before : List Logical) (n : ℕ) (ps : Positions) → list_all is_position ps ≡ true
     → count_by is_vertex_line before + length ps ≤ 2 ^ 21 → PositionsSaid before n ps
-positions_are_said before n [] all few = record {
-  are = refl;
-  vertices = rw (append-nil before) (omega arith);
-  no_faces = rw (append-nil before) refl;
-}
+positions_are_said before n [] all few =
+    record { are = refl; vertices = rw (append-nil before) (omega arith); no_faces = rw (append-nil before) refl }
 positions_are_said before n (p ∷ ps) all few =
-    let parts : (is_position p ≡ true) × (list_all is_position ps ≡ true) = and_parts _ _ all in
+    let parts = and_parts (is_position p) _ all in
     let line = plain_line n (position_line p) in
-    let kind : (is_vertex_line line ≡ true) × (is_face_line line ≡ false) = position_kind n p parts.0 in
+    let kind = position_kind n p parts.0 in
     let v : count_by is_vertex_line (before ++ line ∷ []) ≡ count_by is_vertex_line before + 1 =
     one_more is_vertex_line before line ∙ rw kind.0 refl in
     let f : count_by is_face_line (before ++ line ∷ []) ≡ count_by is_face_line before =
     one_more is_face_line before line ∙ rw kind.1 (omega arith) in
     let again = positions_are_said (before ++ line ∷ []) (n + 1) ps parts.1 (omega arith) in
-    let same : before ++ line ∷ plain_lines (n + 1) (map position_line ps)
-    ≡ (before ++ line ∷ []) ++ plain_lines (n + 1) (map position_line ps) =
-    sym (append_assoc before (line ∷ []) (plain_lines (n + 1) (map position_line ps))) in
+    let same : before ++ line ∷ plain_lines (n + 1) (map position_line ps) ≡ (before ++ line ∷ []) ++ plain_lines (n
+    + 1) (map position_line ps) = sym (append_assoc before (line ∷ []) (plain_lines (n + 1) (map position_line ps))) in
     let first : reading (count_by is_vertex_line before) (count_by is_face_line before) line ≡ Position p =
     position_said (count_by is_vertex_line before) (count_by is_face_line before) n p (omega arith) parts.0 in
     record {
@@ -262,18 +254,17 @@ faces_said : (vertices : ℕ) (before : List Logical) (n : ℕ) (fs : Faces) →
     ≡ faces_from n fs
 faces_said vertices before n [] few many quads below room = refl
 faces_said vertices before n (f ∷ fs) few many quads below room =
-    let q : (is_quad f ≡ true) × (list_all is_quad fs ≡ true) = and_parts _ _ quads in
-    let b : (are_below vertices f ≡ true) × (list_all (are_below vertices) fs ≡ true) = and_parts _ _ below in
+    let q = and_parts (is_quad f) _ quads in
+    let b = and_parts (are_below vertices f) _ below in
     let line = plain_line n (face_line f) in
-    let kind : (is_vertex_line line ≡ false) × (is_face_line line ≡ true) = face_kind vertices n f few b.0 in
+    let kind = face_kind vertices n f few b.0 in
     let v : count_by is_vertex_line (before ++ line ∷ []) ≡ vertices = one_more is_vertex_line before line
     ∙ rw kind.0 (omega arith) in
     let g : count_by is_face_line (before ++ line ∷ []) ≡ count_by is_face_line before + 1 =
     one_more is_face_line before line ∙ rw kind.1 refl in
     let first : reading (count_by is_vertex_line before) (count_by is_face_line before) line
-    ≡ Face n (map (λ v. v + 1) f) =
-    ap (λ m. reading m (count_by is_face_line before) line) many ∙ face_said vertices (count_by is_face_line before) n f
-    few (omega arith) q.0 b.0 in
+    ≡ Face n (map (λ v. v + 1) f) = ap (λ m. reading m (count_by is_face_line before) line) many
+    ∙ face_said vertices (count_by is_face_line before) n f few (omega arith) q.0 b.0 in
     rw (first, faces_said vertices (before ++ line ∷ []) (n + 1) fs few v q.1 b.1 (omega arith)) refl
 
 -- What these readings have.
@@ -293,14 +284,14 @@ not_late : (vertices : ℕ) (face : List ℕ) → are_below vertices face ≡ tr
     → list_any (λ corner. ltb vertices corner) (map (λ v. v + 1) face) ≡ false
 not_late vertices [] all = refl
 not_late vertices (v ∷ vs) all =
-    let parts : (ltb v vertices ≡ true) × (are_below vertices vs ≡ true) = and_parts _ _ all in
+    let parts = and_parts (ltb v vertices) _ all in
     or_from _ _ (le-ltb _ _ (omega (arith, ltb-true v vertices parts.0))) (not_late vertices vs parts.1)
 
 late_of_faces : (vertices n : ℕ) (fs : Faces) → list_all (are_below vertices) fs ≡ true
     → flat_map (late_in vertices) (faces_from n fs) ≡ []
 late_of_faces vertices n [] all = refl
 late_of_faces vertices n (f ∷ fs) all =
-    let parts : (are_below vertices f ≡ true) × (list_all (are_below vertices) fs ≡ true) = and_parts _ _ all in
+    let parts = and_parts (are_below vertices f) _ all in
     rw (not_late vertices f parts.0) (late_of_faces vertices (n + 1) fs parts.1)
 
 soup_said : (ps : Positions) (fs : Faces) (n : ℕ) → list_all (are_below (length ps)) fs ≡ true
@@ -328,11 +319,10 @@ keeps_all p (suc n) each =
 record AllUsed (fs : Faces) (n : ℕ) : Type 0 where
   kept : (k : ℕ) → k ≤ n → used_to fs k ≡ numbers_to k
 
-all_used_to : (s : FaceSet) → IsSoup s → AllUsed (map (λ f. map (λ v. v + 1) f) s.faces) (length s.pos)
-all_used_to s soup = record {
-  kept = λ k le. keeps_all (is_used (map (λ f. map (λ v. v + 1) f) s.faces)) k
-      (λ j l. used_renumbered (λ v. v + 1) j s.faces (soup.used j (omega arith)));
-}
+all_used_to : (s : FaceSet) → IsSoup s → (k : ℕ) → k ≤ length s.pos
+    → used_to (map (λ f. map (λ v. v + 1) f) s.faces) k ≡ numbers_to k
+all_used_to s soup k le = keeps_all (is_used (map (λ f. map (λ v. v + 1) f) s.faces)) k
+    (λ j l. used_renumbered (λ v. v + 1) j s.faces (soup.used j (omega arith)))
 
 positions_back : (ps : Positions) → map (position_of ps) (numbers_to (length ps)) ≡ ps
 positions_back ps =
@@ -344,21 +334,22 @@ positions_back ps =
     ∙ ap (position_of ps) (numbers_at (length ps) k there) ∙ ap (λ j. get_or ps j []) e
     ∙ get_or_default ps k [] d there)
 
-corners_back : (fs : Faces) (n : ℕ) → AllUsed fs n → (face : List ℕ) → are_below n face ≡ true
-    → map (line_vertex fs) (map (λ v. v + 1) face) ≡ face
+corners_back : (fs : Faces) (n : ℕ) → ((k : ℕ) → k ≤ n → used_to fs k ≡ numbers_to k) → (face : List ℕ)
+    → are_below n face ≡ true → map (line_vertex fs) (map (λ v. v + 1) face) ≡ face
 corners_back fs n used [] all = refl
 corners_back fs n used (v ∷ vs) all =
-    let parts : (ltb v n ≡ true) × (are_below n vs ≡ true) = and_parts _ _ all in
+    let parts = and_parts (ltb v n) _ all in
     let e : v + 1 - 1 ≡ v = omega arith in
     let first : line_vertex fs (v + 1) ≡ v = ap (λ k. length (used_to fs k)) e
-    ∙ ap length (used.kept v (omega (arith, ltb-true v n parts.0))) ∙ length-numbers_to v in
+    ∙ ap length (used v (omega (arith, ltb-true v n parts.0))) ∙ length-numbers_to v in
     rw (first, corners_back fs n used vs parts.1) refl
 
-faces_back : (fs : Faces) (n : ℕ) → AllUsed fs n → (some : Faces) → list_all (are_below n) some ≡ true
+faces_back : (fs : Faces) (n : ℕ) → ((k : ℕ) → k ≤ n → used_to fs k ≡ numbers_to k) → (some : Faces)
+    → list_all (are_below n) some ≡ true
     → map (λ corners. map (line_vertex fs) corners) (map (λ f. map (λ v. v + 1) f) some) ≡ some
 faces_back fs n used [] all = refl
 faces_back fs n used (f ∷ rest) all =
-    let parts : (are_below n f ≡ true) × (list_all (are_below n) rest ≡ true) = and_parts _ _ all in
+    let parts = and_parts (are_below n f) _ all in
     rw (corners_back fs n used f parts.0, faces_back fs n used rest parts.1) refl
 
 -- The canonical text of a soup reads back.
@@ -366,32 +357,22 @@ pub text_back : ReadsBack
 text_back s is =
     let soup = is.soup in
     let lines = canonical_lines s in
-    let each : (k : ℕ) → k < length lines → IsLine (get_or lines k []) =
-    each_both IsLine (map position_line s.pos) (map face_line s.faces) []
-    (each_map IsLine position_line s.pos [] []
-    (λ k l. position_line_is (get_or s.pos k []) (passes_at is_position s.pos k [] is.positions l)))
-    (each_map IsLine face_line s.faces [] [] (λ k l. face_line_is (length s.pos) (get_or s.faces k []) is.few_vertices
-    (passes_at is_quad s.faces k [] is.quads l) (passes_at (are_below (length s.pos)) s.faces k [] soup.in_range
-    l))) in
-    let cut : lines_of (canonical_text s) ≡ lines = ap lines_of (text_lines s) ∙ lines_split lines each in
     let ps = map position_line s.pos in
     let fs = map face_line s.faces in
     let n = 1 + length ps in
     let named = map (λ f. map (λ v. v + 1) f) s.faces in
-    let logical = logical_plain 1 lines each ∙ plain_append 1 ps fs in
-    let prefix : PositionsSaid [] 1 s.pos = positions_are_said [] 1 s.pos is.positions (omega arith) in
-    let behind : readings (plain_lines 1 ps) (plain_lines n fs) ≡ faces_from n s.faces =
-    faces_said (length s.pos) (plain_lines 1 ps) n s.faces is.few_vertices (prefix.vertices ∙ omega arith) is.quads
-    soup.in_range (omega (arith, prefix.no_faces)) in
-    let said : readings [] (logical_lines 1 lines) ≡ map Position s.pos ++ faces_from n s.faces = ap (readings [])
-    logical ∙ readings_append [] (plain_lines 1 ps) (plain_lines n fs) ∙ rw (prefix.are, behind) refl in
-    let used : AllUsed named (length s.pos) = all_used_to s soup in
-    let names : used_to named (length s.pos) ≡ numbers_to (length s.pos) = used.kept (length s.pos) (omega arith) in
-    ap (text_soup 1) cut ∙ ap soup_of said ∙ soup_said s.pos s.faces n soup.in_range
-    ∙ ap Ok (same_parts (face_set s.pos named)
-    (record { pos = s.pos; faces = s.faces; names = numbers_to (length s.pos) })
-    (ap (map (position_of s.pos)) names ∙ positions_back s.pos)
+    let each = each_both IsLine ps fs [] (each_map IsLine position_line s.pos [] []
+    (λ k l. position_line_is (get_or s.pos k []) (passes_at is_position s.pos k [] is.positions l)))
+    (each_map IsLine face_line s.faces [] [] (λ k l. face_line_is (length s.pos) (get_or s.faces k []) is.few_vertices
+    (passes_at is_quad s.faces k [] is.quads l) (passes_at (are_below (length s.pos)) s.faces k [] soup.in_range l))) in
+    let cut = ap lines_of (text_lines s) ∙ lines_split lines each in
+    let prefix = positions_are_said [] 1 s.pos is.positions (omega arith) in
+    let behind = faces_said (length s.pos) (plain_lines 1 ps) n s.faces is.few_vertices (prefix.vertices ∙ omega arith)
+    is.quads soup.in_range (omega arith) in
+    let said = ap (readings []) (logical_plain 1 lines each ∙ plain_append 1 ps fs)
+    ∙ readings_append [] (plain_lines 1 ps) (plain_lines n fs) in
+    let used = all_used_to s soup in
+    let names = used (length s.pos) (omega arith) in
+    ap (text_soup 1) cut ∙ ap soup_of said ∙ rw (prefix.are, behind) (soup_said s.pos s.faces n soup.in_range)
+    ∙ ap Ok (same_soups (ap (map (position_of s.pos)) names ∙ positions_back s.pos)
     (faces_back named (length s.pos) used s.faces soup.in_range) names)
-  where
-    same_parts : (s t : FaceSet) → s.pos ≡ t.pos → s.faces ≡ t.faces → s.names ≡ t.names → s ≡ t
-    same_parts s t p q r = λ i. record { pos = p i; faces = q i; names = r i }

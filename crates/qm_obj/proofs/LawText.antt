@@ -1,19 +1,17 @@
 -- The lines and the words of a canonical text.
-use Rattle.std.proofs.Common.{◌≡◌, ℕ, ℤ, zero, suc, ◌+◌, ◌-◌, ◌*◌, ◌/◌, ◌%◌, ◌^◌, ◌<◌, ◌≤◌, Bool, true, false, cond}
-use Rattle.std.proofs.Common.{not, ◌&&◌, List, [], ◌∷◌, ◌++◌, length, take, drop, map, get_or, refl, ap, ◌∙◌, arith}
-use Rattle.std.proofs.{Common.eqb, Common.leb, lemmas.Bool.Decides.nat_tests, lemmas.List.Folds.list_all-append}
-use Rattle.std.proofs.lemmas.Bool.{and_from, and_parts, le-leb, leb-true, not-true}
-use Rattle.std.proofs.lemmas.Fmt.{decimal_nonempty, length-decimal-le}
-use Rattle.std.proofs.lemmas.List.{append_assoc, get_or_at, length-append, length-drop, length-take, take_all, take_at}
-use Rattle.std.specs.{Prelude.decimal, Prelude.int_lt, Prelude.pos, Prelude.unsigned_abs, Char.is_ascii_digit}
-use Rattle.std.specs.List.{before_first, flat_map, list_all, position_or_len, suffix_len}
+use Rattle.def_io.specs.{Bytes.Lines, Lines.line_of, Lines.lines_of, Lines.pieces, Lines.without_last}
 use Rattle.def_text.specs.Canonical.{fraction_text, micro_text, minus_text, six_digits, without_zeros}
-use Rattle.def_text.specs.{Logical.Logical, Logical.continues, Logical.is_hash, Logical.logical_lines, Types.Words}
-use Rattle.def_text.specs.Words.{ends_word, is_blank, words}
-use Rattle.qm_obj.proofs.{Groups.logical_step, ListLemmas.passes_at}
-use Rattle.def_io.specs.Lines.{byte_in_front, line_of, lines_of, pieces, without_last}
-use Rattle.def_io.specs.Bytes.{Lines}
-use Rattle.qm_dec.proofs.Texts.{decimal_digits}
+use Rattle.def_text.specs.{Logical.Logical, Logical.continues, Logical.is_hash, Logical.logical_lines, Words.ends_word}
+use Rattle.std.proofs.Common.{Bool, List, arith, cond, drop, eqb, false, get_or, length, refl, take, true, ◌&&◌, ◌++◌}
+use Rattle.std.proofs.Common.{[], ap, leb, map, not, suc, sym, ℕ, ◌%◌, ◌*◌, ◌+◌, ◌-◌, ◌/◌, ◌<◌, ◌^◌, ◌∙◌, ◌∷◌, ◌≡◌, ◌≤◌}
+use Rattle.std.proofs.lemmas.List.{Folds.list_all-append, append_assoc, length-append, length-drop, take-append-drop}
+use Rattle.std.proofs.lemmas.{Bool.Decides.nat_tests, Fmt.decimal_nonempty, Fmt.length-decimal-le, List.length-take}
+use Rattle.std.proofs.lemmas.{Bool.and_from, Bool.and_parts, Bool.leb-true, Bool.not-true, List.get_or_at, List.take_at}
+use Rattle.std.specs.List.{before_first, flat_map, list_all, position_or_len, suffix_len}
+use Rattle.std.specs.{Char.is_ascii_digit, Prelude.decimal, Prelude.int_lt, Prelude.pos, Prelude.unsigned_abs}
+use Rattle.{qm_dec.proofs.Texts.decimal_digits, qm_obj.proofs.Groups.logical_step, qm_obj.proofs.ListLemmas.passes_at}
+use Rattle.{def_text.specs.Types.Words, def_text.specs.Words.is_blank, std.proofs.lemmas.List.take_all}
+use Rattle.{def_text.specs.Words.words, std.proofs.Common.ℤ}
 
 -- The bytes of words: from the minus to the digits.
 abbrev pub is_plain : ℕ → Bool
@@ -24,36 +22,32 @@ abbrev pub is_tame : ℕ → Bool
 is_tame b = (not (eqb b 10) && not (eqb b 13)) && (not (eqb b 35) && not (eqb b 92))
 
 plain_bounds : (b : ℕ) → is_plain b ≡ true → (45 ≤ b) × (b ≤ 57)
-plain_bounds b is = let both : (leb 45 b ≡ true) × (leb b 57 ≡ true) = and_parts _ _ is in
+plain_bounds b is = let both = and_parts (leb 45 b) _ is in
     (leb-true 45 b both.0, leb-true b 57 both.1)
 
 plain_tame : (b : ℕ) → is_plain b ≡ true → is_tame b ≡ true
-plain_tame b is = let h : (45 ≤ b) × (b ≤ 57) = plain_bounds b is in grind (arith, nat_tests)
+plain_tame b is = grind (arith, nat_tests)
 
 plain_word : (b : ℕ) → is_plain b ≡ true → is_blank b ≡ false
-plain_word b is = let h : (45 ≤ b) × (b ≤ 57) = plain_bounds b is in grind (arith, nat_tests)
+plain_word b is = grind (arith, nat_tests)
 
 digit_plain : (b : ℕ) → is_ascii_digit b ≡ true → is_plain b ≡ true
-digit_plain b is = let both : (leb 48 b ≡ true) × (leb b 57 ≡ true) = and_parts _ _ is in
-    and_from _ _ (le-leb 45 b (omega (arith, leb-true 48 b both.0))) both.1
+digit_plain b is = grind (arith, nat_tests)
 
 -- A test that follows from another.
 all_from : {X : Type 0} (p q : X → Bool) → ((x : X) → p x ≡ true → q x ≡ true) → (xs : List X) → list_all p xs ≡ true
     → list_all q xs ≡ true
 all_from p q to [] all = refl
-all_from p q to (x ∷ xs) all = let parts : (p x ≡ true) × (list_all p xs ≡ true) = and_parts _ _ all in
+all_from p q to (x ∷ xs) all = let parts = and_parts (p x) _ all in
     and_from _ _ (to x parts.0) (all_from p q to xs parts.1)
 
 all_take : {X : Type 0} (p : X → Bool) (n : ℕ) (xs : List X) → list_all p xs ≡ true → list_all p (take n xs) ≡ true
-all_take p zero xs all = refl
-all_take p (suc n) [] all = refl
-all_take p (suc n) (x ∷ xs) all = let parts : (p x ≡ true) × (list_all p xs ≡ true) = and_parts _ _ all in
-    and_from _ _ parts.0 (all_take p n xs parts.1)
+all_take p n xs all =
+    (and_parts _ _ (sym (list_all-append p (take n xs) (drop n xs)) ∙ rw (take-append-drop n xs) all)).0
 
 all_drop : {X : Type 0} (p : X → Bool) (n : ℕ) (xs : List X) → list_all p xs ≡ true → list_all p (drop n xs) ≡ true
-all_drop p zero xs all = all
-all_drop p (suc n) [] all = refl
-all_drop p (suc n) (x ∷ xs) all = all_drop p n xs (and_parts _ _ all).1
+all_drop p n xs all =
+    (and_parts _ _ (sym (list_all-append p (take n xs) (drop n xs)) ∙ rw (take-append-drop n xs) all)).1
 
 all_both : {X : Type 0} (p : X → Bool) (xs ys : List X) → list_all p xs ≡ true → list_all p ys ≡ true
     → list_all p (xs ++ ys) ≡ true
@@ -100,19 +94,17 @@ pub micro_word : (z : ℤ) → unsigned_abs z ≤ 999_999_999_999_999 → IsWord
 micro_word z near =
     let whole : IsWord (decimal (unsigned_abs z / 10 ^ 6)) = decimal_word (unsigned_abs z / 10 ^ 6) (omega arith) in
     let twenty = length-decimal-le 20 (unsigned_abs z / 10 ^ 6) (omega arith) (omega arith) (omega arith) in
-    let behind : (list_all is_plain (fraction_text (unsigned_abs z % 10 ^ 6)) ≡ true)
-    × (length (fraction_text (unsigned_abs z % 10 ^ 6)) ≤ 21) =
-    fraction_plain (unsigned_abs z % 10 ^ 6) (omega arith) in
-    let sign : (list_all is_plain (minus_text z) ≡ true) × (length (minus_text z) ≤ 1) = by_sign (int_lt z (pos 0)) in
+    let behind : (list_all is_plain (fraction_text (unsigned_abs z % 10 ^ 6)) ≡ true) ×
+    (length (fraction_text (unsigned_abs z % 10 ^ 6)) ≤ 21) = fraction_plain (unsigned_abs z % 10 ^ 6) (omega arith) in
+    let sign = by_sign (int_lt z (pos 0)) in
     let prefix : length (minus_text z ++ decimal (unsigned_abs z / 10 ^ 6))
     ≡ length (minus_text z) + length (decimal (unsigned_abs z / 10 ^ 6)) = length-append (minus_text z) _ in
-    let all : length (micro_text z) ≡ length (minus_text z ++ decimal (unsigned_abs z / 10 ^ 6))
-    + length (fraction_text (unsigned_abs z % 10 ^ 6)) =
-    length-append (minus_text z ++ decimal (unsigned_abs z / 10 ^ 6)) _ in
+    let all : length (micro_text z) ≡ length (minus_text z ++ decimal (unsigned_abs z / 10 ^ 6)) + length
+    (fraction_text (unsigned_abs z % 10 ^ 6)) = length-append (minus_text z ++ decimal (unsigned_abs z / 10 ^ 6)) _ in
     record {
       plain = all_both is_plain (minus_text z ++ decimal (unsigned_abs z / 10 ^ 6)) _
           (all_both is_plain (minus_text z) _ sign.0 whole.plain) behind.0;
-      some = omega (arith, whole.some);
+      some = omega arith;
       short = omega arith;
     }
   where
@@ -131,19 +123,12 @@ blank_next (w ∷ ws) = refl
 
 word_then : (b : ℕ) (bs rest : List ℕ) → list_all is_plain (b ∷ bs) ≡ true → ends_word rest ≡ true
     → words (b ∷ bs ++ rest) ≡ (b ∷ bs) ∷ words rest
-word_then b [] rest plain ends = let bare : is_blank b ≡ false = plain_word b (and_parts _ _ plain).0 in
-    rw (bare, ends) refl
+word_then b [] rest plain ends = rw (plain_word b (and_parts _ _ plain).0, ends) refl
 word_then b (c ∷ cs) rest plain ends =
-    let parts : (is_plain b ≡ true) × (list_all is_plain (c ∷ cs) ≡ true) = and_parts _ _ plain in
-    let bare : is_blank b ≡ false = plain_word b parts.0 in
-    let next : is_blank c ≡ false = plain_word c (and_parts _ _ parts.1).0 in
-    by_tests (is_blank b) (is_blank c) bare next (word_then c cs rest parts.1 ends)
-  where
-    by_tests : (t u : Bool) → t ≡ false → u ≡ false → words (c ∷ cs ++ rest) ≡ (c ∷ cs) ∷ words rest
-        → cond t (words (c ∷ cs ++ rest))
-        (cond u ((b ∷ []) ∷ words (c ∷ cs ++ rest)) (byte_in_front b (words (c ∷ cs ++ rest))))
-        ≡ (b ∷ c ∷ cs) ∷ words rest
-    by_tests t u off stays again = rw (off, stays, again) refl
+    let parts = and_parts (is_plain b) _ plain in
+    let bare = plain_word b parts.0 in
+    let next = plain_word c (and_parts _ _ parts.1).0 in
+    rw (bare, word_then c cs rest parts.1 ends, next) refl
 
 words_behind : (ws : Words) → AreWords ws → words (flat_map (λ w. 32 ∷ w) ws) ≡ ws
 words_behind [] each = refl
@@ -153,31 +138,20 @@ words_behind ((b ∷ bs) ∷ ws) each = word_then b bs (flat_map (λ w. 32 ∷ w
 
 pub line_words : (letter : ℕ) (ws : Words) → is_blank letter ≡ false → AreWords ws
     → words (line_text letter ws) ≡ (letter ∷ []) ∷ ws
-line_words letter ws bare each = by_tests (is_blank letter) bare
-  where
-    by_tests : (t : Bool) → t ≡ false
-        → cond t (words (flat_map (λ w. 32 ∷ w) ws)) (cond (ends_word (flat_map (λ w. 32 ∷ w) ws))
-        ((letter ∷ []) ∷ words (flat_map (λ w. 32 ∷ w) ws))
-        (byte_in_front letter (words (flat_map (λ w. 32 ∷ w) ws)))) ≡ (letter ∷ []) ∷ ws
-    by_tests t off = rw (off, blank_next ws) (ap (λ rest. (letter ∷ []) ∷ rest) (words_behind ws each))
+line_words letter ws bare each = rw (bare, blank_next ws) (ap (λ rest. (letter ∷ []) ∷ rest) (words_behind ws each))
 
 -- Its bytes are tame, and it is short.
 behind_tame : (ws : Words) → AreWords ws → list_all is_tame (flat_map (λ w. 32 ∷ w) ws) ≡ true
 behind_tame [] each = refl
-behind_tame (w ∷ ws) each =
-    all_both is_tame (32 ∷ w) (flat_map (λ w. 32 ∷ w) ws)
-    (all_from is_plain is_tame plain_tame w (each 0 (omega arith)).plain)
-    (behind_tame ws (λ k l. each (suc k) (omega arith)))
+behind_tame (w ∷ ws) each = all_both is_tame (32 ∷ w) (flat_map (λ w. 32 ∷ w) ws) (all_from is_plain is_tame plain_tame
+    w (each 0 (omega arith)).plain) (behind_tame ws (λ k l. each (suc k) (omega arith)))
 
 behind_short : (ws : Words) → AreWords ws → length (flat_map (λ w. 32 ∷ w) ws) ≤ length ws * 61
 behind_short [] each = omega arith
 behind_short (w ∷ ws) each =
     let first : length w ≤ 60 = (each 0 (omega arith)).short in
-    omega (
-      arith,
-      length-append (32 ∷ w) (flat_map (λ w. 32 ∷ w) ws),
-      behind_short ws (λ k l. each (suc k) (omega arith)),
-    )
+    omega
+    (arith, length-append (32 ∷ w) (flat_map (λ w. 32 ∷ w) ws), behind_short ws (λ k l. each (suc k) (omega arith)))
 
 pub record IsLine (line : List ℕ) : Type 0 where
   pub tame : list_all is_tame line ≡ true
@@ -201,7 +175,7 @@ piece_then : (line rest : List ℕ) → list_all is_inside line ≡ true → pie
     ≡ (line ++ 10 ∷ []) ∷ pieces rest
 piece_then [] rest inside = refl
 piece_then (b ∷ bs) rest inside =
-    let parts : (is_inside b ≡ true) × (list_all is_inside bs ≡ true) = and_parts _ _ inside in
+    let parts = and_parts (is_inside b) _ inside in
     let other : eqb b 10 ≡ false = not-true _ (and_parts (not (eqb b 10)) (not (eqb b 13)) parts.0).0 in
     rw (other, piece_then bs rest parts.1) refl
 
@@ -209,8 +183,8 @@ piece_then (b ∷ bs) rest inside =
 bare_line : (line : List ℕ) → list_all is_inside line ≡ true → line_of (line ++ 10 ∷ []) ≡ line
 bare_line line inside =
     let long : length (line ++ 10 ∷ []) - 1 ≡ length line = omega (arith, length-append line (10 ∷ [])) in
-    let last : get_or (line ++ 10 ∷ []) (length line) 0 ≡ 10 = get_or_at line 10 [] 0 (length line) refl in
-    let prefix : take (length line) (line ++ 10 ∷ []) ≡ line = take_at line (10 ∷ []) (length line) refl in
+    let last = get_or_at line 10 [] 0 (length line) refl in
+    let prefix = take_at line (10 ∷ []) (length line) refl in
     let cut : without_last 10 (line ++ 10 ∷ []) ≡ line = rw (long, last) prefix in
     ap (without_last 13) cut ∙ no_return line inside
   where
@@ -268,6 +242,6 @@ pub logical_plain : (number : ℕ) (ls : Lines) → ((k : ℕ) → k < length ls
 logical_plain number [] each = refl
 logical_plain number (l ∷ ls) each =
     let first : IsLine l = each 0 (omega arith) in
-    let stays : continues l ≡ false = no_continuation l first.tame in
+    let stays = no_continuation l first.tame in
     let again = logical_plain (number + 1) ls (λ k m. each (suc k) (omega arith)) in
     logical_step number l ls ∙ rw stays (rw (no_comment l first.tame, again) refl)

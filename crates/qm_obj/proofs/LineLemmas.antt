@@ -1,33 +1,19 @@
 -- What `v` lines and `f` lines say, refusal by refusal.
-use Rattle.std.proofs.Common.{◌≡◌, ℕ, ℤ, ◌^◌, ◌<◌, ◌≤◌, Bool, true, false, cond, ◌&&◌, ◌||◌, List, [], ◌∷◌, length, map}
-use Rattle.std.proofs.Common.{take, refl, sym, ap, ◌∙◌, arith, eqb, leb, Some, None}
-use Rattle.std.proofs.lemmas.{Bool.lt-leb, Bool.or_parts, Bool.Decides.nat_tests}
-use Rattle.std.specs.List.{list_all, list_any}
-use Rattle.def_text.specs.{Corner.is_corner_word, Corner.is_out, Corner.resolved, Corner.used_index, Types.Words}
-use Rattle.def_text.specs.Decimal.{is_decimal, is_far, rounded}
-use Rattle.def_text.specs.Reading.{face_reading, is_position_count, vertex_reading}
-use Rattle.def_text.specs.declared.reading.Reading.TheVariants.{Position, Face, Refused}
-use Rattle.def_text.specs.declared.refusal.ObjFail.TheVariants.{Syntax, NotQuad, Range}
-use Rattle.qm_obj.specs.Indices.{clamped, corner_of, with_clamped}
-use Rattle.qm_obj.specs.declared.position.Coordinate.TheVariants.{Near, Far}
-use Rattle.qm_obj.specs.Positions.{all_near, coordinate, in_front}
+use Rattle.def_text.specs.declared.reading.Reading.{TheVariants.Face, TheVariants.Position, TheVariants.Refused}
+use Rattle.def_text.specs.declared.refusal.ObjFail.{TheVariants.NotQuad, TheVariants.Range, TheVariants.Syntax}
+use Rattle.def_text.specs.{Corner.is_corner_word, Decimal.is_decimal, Reading.is_position_count, Reading.vertex_reading}
+use Rattle.def_text.specs.{Corner.resolved, Corner.used_index, Decimal.is_far, Decimal.rounded, Reading.face_reading}
+use Rattle.qm_obj.specs.{Indices.corner_of, Indices.with_clamped, Positions.all_near, Positions.coordinate}
+use Rattle.std.proofs.Common.{List, None, Some, arith, cond, eqb, false, leb, length, map, refl, sym, take, true, ◌&&◌}
+use Rattle.std.proofs.Common.{[], ℕ, ℤ, ◌<◌, ◌^◌, ◌∙◌, ◌∷◌, ◌≡◌, ◌≤◌}
+use Rattle.std.proofs.{lemmas.Bool.Decides.nat_tests, lemmas.Bool.lt-leb, lemmas.Bool.or_parts}
+use Rattle.{def_text.specs.Corner.is_out, def_text.specs.Types.Words, qm_obj.specs.Indices.clamped}
+use Rattle.{std.specs.List.list_all, std.specs.List.list_any}
 
 all_coordinates : (ws : Words) → all_near (map coordinate ws) ≡ cond (list_any (λ w. is_far (rounded w)) ws) None
     (Some (map rounded ws))
 all_coordinates [] = refl
-all_coordinates (w ∷ ws) = by_far (is_far (rounded w)) (all_coordinates ws)
-  where
-    by_rest : (t : Bool) → all_near (map coordinate ws) ≡ cond t None (Some (map rounded ws))
-        → in_front (rounded w) (all_near (map coordinate ws)) ≡ cond t None (Some (rounded w ∷ map rounded ws))
-    by_rest true again = ap (in_front (rounded w)) again
-    by_rest false again = ap (in_front (rounded w)) again
-
-    by_far : (t : Bool) → all_near (map coordinate ws) ≡ cond (list_any (λ w. is_far (rounded w)) ws) None
-        (Some (map rounded ws))
-        → all_near (cond t Far (Near (rounded w)) ∷ map coordinate ws)
-        ≡ cond (t || list_any (λ w. is_far (rounded w)) ws) None (Some (rounded w ∷ map rounded ws))
-    by_far true again = refl
-    by_far false again = by_rest (list_any (λ w. is_far (rounded w)) ws) again
+all_coordinates (w ∷ ws) = grind (arith, all_coordinates ws)
 
 module _ (line vertices : ℕ) (ws : Words) (few : vertices < 2 ^ 21) where
   room : leb (2 ^ 21) vertices ≡ false
@@ -46,13 +32,7 @@ module _ (line vertices : ℕ) (ws : Words) (few : vertices < 2 ^ 21) where
 
     pub vertex_position : {position : List ℤ} → all_near (map coordinate (take 3 ws)) ≡ Some position
         → Position position ≡ vertex_reading line vertices ws
-    vertex_position {position} is = by_far (list_any (λ w. is_far (rounded w)) (take 3 ws))
-        (sym (all_coordinates (take 3 ws)) ∙ is) ∙ sym vertex_rest
-      where
-        by_far : (t : Bool) → cond t None (Some (map rounded (take 3 ws))) ≡ Some position → Position position
-            ≡ cond t (Refused (Range line)) (Position (map rounded (take 3 ws)))
-        by_far true is = cc is
-        by_far false is = cc is
+    vertex_position is = grind (arith, sym (all_coordinates (take 3 ws)) ∙ is) ∙ sym vertex_rest
 
     pub vertex_far : all_near (map coordinate (take 3 ws)) ≡ None → Refused (Range line)
         ≡ vertex_reading line vertices ws
@@ -75,8 +55,7 @@ all_in : (vertices : ℕ) (ws : Words) → list_any (λ w. is_out vertices (used
     → map (corner_of vertices) ws ≡ map clamped (map (λ w. resolved vertices (used_index w)) ws)
 all_in vertices [] inside = refl
 all_in vertices (w ∷ ws) inside =
-    let parts : (is_out vertices (used_index w) ≡ false) × (list_any (λ w. is_out vertices (used_index w)) ws ≡ false) =
-    or_parts _ _ inside in
+    let parts = or_parts (is_out vertices (used_index w)) _ inside in
     rw (in_clamped vertices w parts.0, all_in vertices ws parts.1) refl
 
 module _ (line vertices faces : ℕ) (ws : Words) (few : faces < 2 ^ 20) where

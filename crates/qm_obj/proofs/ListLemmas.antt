@@ -9,8 +9,8 @@ use Rattle.std.specs.{Prelude.slice_range, List.list_all}
 pub at_back : {X : Type 0} (xs ys : List X) (k : ℕ) (d : X) → drop k xs ≡ drop k ys → get_or xs k d ≡ get_or ys k d
 at_back xs ys k d same =
     let e : k + 0 ≡ k = omega arith in
-    let a : get_or (drop k xs) 0 d ≡ get_or xs (k + 0) d = get_or-drop k xs 0 d in
-    let b : get_or (drop k ys) 0 d ≡ get_or ys (k + 0) d = get_or-drop k ys 0 d in
+    let a = get_or-drop k xs 0 d in
+    let b = get_or-drop k ys 0 d in
     ap (λ n. get_or xs n d) (sym e) ∙ sym a ∙ ap (λ zs. get_or zs 0 d) same ∙ b ∙ ap (λ n. get_or ys n d) e
 
 -- Lists that agree from k on agree from the next on, also after a write at k or before.

@@ -1,16 +1,15 @@
 -- Logical lines of which the first begins with text that is joined.
-use Rattle.std.proofs.Common.{◌≡◌, ℕ, suc, ◌+◌, ◌-◌, ◌<◌, ◌≤◌, Bool, true, false, cond, List, [], ◌∷◌, ◌++◌, length}
-use Rattle.std.proofs.Common.{take, refl, sym, ap, ◌∙◌, arith}
-use Rattle.std.proofs.lemmas.{Bool.and_parts, Bool.not-true, Bool.or_from, List.Folds.list_any-append}
-use Rattle.std.proofs.lemmas.List.{append-nil, append_assoc, length-append}
-use Rattle.std.specs.List.{before_first, flat_map, list_any}
-use Rattle.def_feed.specs.Kept.{KeptText, logical_behind, with_front, with_joined}
-use Rattle.def_io.specs.Bytes.{Bytes, Lines}
-use Rattle.def_text.specs.Logical.{Logical, continues, groups_of, is_hash, joined, logical_lines, part_of}
-use Rattle.def_text.specs.Logical.{numbered_groups, with_line, with_space}
-use Rattle.qm_obj.specs.{Ahead.size_ahead, Feeding.number_by, Lines.first_logical, Lines.line_as}
-use Rattle.qm_obj.proofs.{Groups.logical_step, JoinLemmas.any_take, JoinLemmas.cut_none, JoinLemmas.length-with_space}
-use Rattle.qm_obj.proofs.WordLemmas.{uncommented_is, uncommented_none}
+use Rattle.def_feed.specs.{Kept.KeptText, Kept.logical_behind, Kept.with_front, Kept.with_joined}
+use Rattle.def_text.specs.Logical.{Logical, continues, groups_of, logical_lines, numbered_groups, with_line, with_space}
+use Rattle.def_text.{specs.Logical.is_hash, specs.Logical.joined, specs.Logical.part_of}
+use Rattle.qm_obj.proofs.{JoinLemmas.length-with_space, WordLemmas.uncommented_is, WordLemmas.uncommented_none}
+use Rattle.qm_obj.{proofs.Groups.logical_step, proofs.JoinLemmas.cut_none, proofs.JoinLemmas.space_none}
+use Rattle.qm_obj.{specs.Feeding.number_by, specs.Lines.first_logical, specs.Lines.line_as}
+use Rattle.std.proofs.Common.{List, [], arith, false, length, refl, suc, sym, take, true, ◌++◌, ◌+◌, ◌-◌, ◌<◌, ◌∙◌, ◌∷◌}
+use Rattle.std.proofs.lemmas.List.{Folds.list_any-append, append-nil, append_assoc, length-append}
+use Rattle.std.proofs.{Common.ap, Common.ℕ, Common.◌≡◌, Common.◌≤◌, lemmas.Bool.or_from}
+use Rattle.{def_io.specs.Bytes.Bytes, def_io.specs.Bytes.Lines, std.specs.List.before_first, std.specs.List.flat_map}
+use Rattle.{std.specs.List.list_any}
 
 -- Joined text that is there stands in front.
 pub joined_some : (number : ℕ) (prefix : Bytes) (lines : List Logical) → 0 < length prefix
@@ -76,11 +75,8 @@ begins_line number line lines = record {
   rest = _;
   are = logical_step number line lines;
   number_is = refl;
-  long = by_more (continues line);
+  long = grind (arith);
 }
-  where
-    by_more : (t : Bool) → length line ≤ cond t (length line + size_ahead lines) (length line)
-    by_more t = grind (arith)
 
 begins_prefix : (lines : List Logical) (number other least : ℕ) (prefix : Bytes) → BeginsWith lines other least
     → BeginsWith (with_front number prefix lines) number (length prefix + least)
@@ -89,7 +85,7 @@ begins_prefix lines number other least prefix begins = record {
   rest = begins.rest;
   are = ap (with_front number prefix) begins.are;
   number_is = refl;
-  long = omega (arith, begins.long);
+  long = omega arith;
 }
 
 -- The logical line to which a physical line belongs is at least as long as what is joined and that line.
@@ -111,11 +107,10 @@ pub behind_held : (kept : KeptText) (line : Bytes) (lines : Lines) → continues
 behind_held kept line lines on = by_joined kept.joined
   where
     some : (prefix : Bytes) → 0 < length (prefix ++ with_space line)
-    some prefix = omega (
-      arith,
-      length-append prefix (with_space line),
-      length-append (take (length line - 1) line) (32 ∷ []),
-    )
+    some prefix =
+        let g0 = length-append prefix (with_space line) in
+        let g1 = length-append (take (length line - 1) line) (32 ∷ []) in
+        omega arith
 
     by_joined : (prefix : Bytes) → with_joined kept.begun prefix (logical_lines kept.next (line ∷ lines))
         ≡ with_joined (number_by prefix kept.next kept.begun) (prefix ++ with_space line)
@@ -152,8 +147,4 @@ behind_nothing kept some bare = rw (uncommented_none kept.joined bare) (joined_s
 -- What is joined has no comment, with a line more that goes on.
 pub bare_more : (prefix line : Bytes) → list_any is_hash prefix ≡ false → continues line ≡ true
     → list_any is_hash (prefix ++ with_space line) ≡ false
-bare_more prefix line bare on =
-    let none : list_any is_hash line ≡ false = not-true _ (and_parts _ _ on).1 in
-    list_any-append is_hash prefix (with_space line)
-    ∙ or_from _ _ bare (list_any-append is_hash (take (length line - 1) line) (32 ∷ [])
-    ∙ or_from _ _ (any_take (length line - 1) line none) refl)
+bare_more prefix line bare on = list_any-append is_hash prefix (with_space line) ∙ or_from _ _ bare (space_none line on)

@@ -1,16 +1,12 @@
 -- The logical lines of a text that a reader takes one by one.
-use Rattle.std.proofs.Common.{◌≡◌, ℕ, ◌+◌, ◌<◌, ◌≤◌, List, [], ◌∷◌, ◌++◌, length, map, refl, sym, ◌∙◌, arith, Err}
-use Rattle.std.proofs.lemmas.List.{append-nil}
-use Rattle.std.specs.Prelude.{slice_range}
-use Rattle.def_text.specs.{Logical.logical_lines, Text.soup_of, Text.text_soup, declared.refusal.ObjFail.ObjFail}
-use Rattle.def_text.specs.declared.reading.Reading.TheVariants.{Position, Refused}
-use Rattle.def_text.specs.Types.{Positions}
-use Rattle.qm_obj.proofs.Ranges.{next_lines, range_none, span_within}
-use Rattle.qm_obj.proofs.KeptLemmas.{line_taken, nothing_kept, stops_at}
-use Rattle.def_feed.specs.Kept.{face_readings, readings_behind}
+use Rattle.def_text.specs.declared.reading.{Reading.TheVariants.Position, Reading.TheVariants.Refused}
+use Rattle.def_text.specs.{Logical.logical_lines, Text.text_soup, Types.Positions, declared.refusal.ObjFail.ObjFail}
+use Rattle.qm_obj.proofs.{KeptLemmas.line_taken, KeptLemmas.nothing_kept, KeptLemmas.stops_at, Ranges.span_within}
 use Rattle.qm_obj.specs.{Ahead.span, Lines.Fits, Lines.Took, Lines.first_logical, Lines.next_said}
-use Rattle.def_mesh.specs.Faces.{Faces}
-use Rattle.def_io.specs.Bytes.{Lines}
+use Rattle.std.proofs.Common.{Err, List, [], arith, length, map, refl, sym, ℕ, ◌++◌, ◌+◌, ◌<◌, ◌∙◌, ◌∷◌, ◌≡◌, ◌≤◌}
+use Rattle.{def_feed.specs.Kept.face_readings, def_feed.specs.Kept.readings_behind, std.proofs.lemmas.List.append-nil}
+use Rattle.{qm_obj.proofs.Ranges.next_lines, qm_obj.proofs.Ranges.range_none, std.specs.Prelude.slice_range}
+use Rattle.{def_io.specs.Bytes.Lines, def_mesh.specs.Faces.Faces, def_text.specs.Text.soup_of}
 
 -- The first physical lines, up to line i, are read, and the soup of what is kept with those from i up to `after` behind
 -- it is that of the text.
@@ -21,16 +17,13 @@ pub record IsAt (all : Lines) (first i after : ℕ) (p : Positions) (c : Faces) 
       ++ readings_behind (length p) (length c) (logical_lines (i + 1) (slice_range all i after)))
 
 pub at_start : (all : Lines) (first after : ℕ) → first ≤ after → IsAt all first first after [] [] []
-at_start all first after order = record {
-  within = order;
-  same = sym (nothing_kept (logical_lines (first + 1) (slice_range all first after)));
-}
+at_start all first after order =
+    record { within = order; same = sym (nothing_kept (logical_lines (first + 1) (slice_range all first after))) }
 
 module _ {all : Lines} {first i after : ℕ} {p : Positions} {c : Faces} {l : List ℕ} (at : IsAt all first i after p c l)
   where
     -- One logical line more.
-    pub at_next : {next : ℕ} {p' : Positions} {c' : Faces} {l' : List ℕ} → Fits p c l → i < after
-        → after ≤ length all
+    pub at_next : {next : ℕ} {p' : Positions} {c' : Faces} {l' : List ℕ} → Fits p c l → i < after → after ≤ length all
         → next ≡ i + span (slice_range all i after)
         → Took p p' c c' l l' (next_said p c (first_logical (i + 1) (slice_range all i after)))
         → IsAt all first next after p' c' l'
@@ -48,10 +41,8 @@ module _ {all : Lines} {first i after : ℕ} {p : Positions} {c : Faces} {l : Li
     pub at_refused : {fail : ObjFail} → Fits p c l → i < after → after ≤ length all
         → next_said p c (first_logical (i + 1) (slice_range all i after)) ≡ Refused fail
         → text_soup (first + 1) (slice_range all first after) ≡ Err fail
-    at_refused fits lt within stops =
-        at.same ∙ rw (next_lines all i after lt within)
-        (stops_at p c l (first_logical (i + 1) (slice_range all i after))
-        (logical_lines (i + span (slice_range all i after) + 1)
+    at_refused fits lt within stops = at.same ∙ rw (next_lines all i after lt within) (stops_at p c l
+        (first_logical (i + 1) (slice_range all i after)) (logical_lines (i + span (slice_range all i after) + 1)
         (slice_range all (i + span (slice_range all i after)) after)) fits.sizes stops)
 
     -- All lines are read.
@@ -59,5 +50,5 @@ module _ {all : Lines} {first i after : ℕ} {p : Positions} {c : Faces} {l : Li
         ≡ soup_of (map (λ position. Position position) p ++ face_readings l c)
     at_end past =
         let none : slice_range all i after ≡ [] =
-        let end : i ≡ after = omega (arith, at.within) in rw end (range_none all after) in
+        let end : i ≡ after = omega arith in rw end (range_none all after) in
         at.same ∙ rw (none, append-nil (map (λ position. Position position) p ++ face_readings l c)) refl

@@ -1,11 +1,10 @@
 -- The logical line with which a range of physical lines begins.
-use Rattle.std.proofs.Common.{◌≡◌, ℕ, suc, ◌+◌, ◌-◌, ◌<◌, ◌≤◌, false, List, [], ◌∷◌, length, drop, get_or, refl, arith}
-use Rattle.std.proofs.lemmas.List.{drop_more}
-use Rattle.std.specs.{Prelude.slice_range, List.before_first}
-use Rattle.def_io.specs.Bytes.{Lines}
-use Rattle.def_text.specs.Logical.{continues, is_hash, logical_lines}
-use Rattle.qm_obj.specs.{Ahead.span, Ahead.text_ahead, Lines.first_logical}
+use Rattle.def_text.{specs.Logical.continues, specs.Logical.is_hash, specs.Logical.logical_lines}
 use Rattle.qm_obj.proofs.{Groups.logical_step, ListLemmas.length-range, ListLemmas.range_drop}
+use Rattle.qm_obj.{specs.Ahead.span, specs.Ahead.text_ahead, specs.Lines.first_logical}
+use Rattle.std.proofs.Common.{List, [], arith, drop, false, get_or, length, refl, suc, ℕ, ◌+◌, ◌-◌, ◌<◌, ◌∷◌, ◌≡◌, ◌≤◌}
+use Rattle.std.{proofs.lemmas.List.drop_more, specs.List.before_first, specs.Prelude.slice_range}
+use Rattle.{def_io.specs.Bytes.Lines}
 
 -- A range by its first line.
 pub range_cons : (xs : Lines) (i b : ℕ) → i < b → b ≤ length xs → slice_range xs i b

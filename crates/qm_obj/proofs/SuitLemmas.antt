@@ -1,17 +1,16 @@
 -- What one line says fits its kind and the limits.
-use Rattle.std.proofs.Common.{◌≡◌, ℕ, ℤ, ◌+◌, ◌^◌, ◌<◌, ◌≤◌, Bool, true, false, cond, List, [], ◌∷◌, length, take, map}
-use Rattle.std.proofs.Common.{refl, sym, ap, ◌∙◌, arith, ltb, leb}
-use Rattle.std.proofs.lemmas.Bool.{and_from, eqb-true, leb-false, ne_eqb, or_parts}
-use Rattle.std.proofs.lemmas.Bool.Decides.{nat_tests}
-use Rattle.std.specs.List.{list_all, list_any}
-use Rattle.def_text.specs.{Corner.is_out, Corner.resolved, Corner.used_index, Decimal.rounded, Logical.Logical}
-use Rattle.def_text.specs.Reading.{begins_with, face_reading, is_face_line, is_letter, is_vertex_line, reading}
-use Rattle.def_text.specs.{Reading.vertex_reading, Reading.words_reading, Words.words, declared.refusal.ObjFail.ObjFail}
-use Rattle.def_text.specs.{Text.face_in, Text.faces, Text.position_in, Text.refusal_in, Types.Words}
-use Rattle.def_text.specs.declared.refusal.ObjFail.TheVariants.{Limit, NotQuad, Range, Syntax}
-use Rattle.def_text.specs.declared.refusal.Which.TheVariants.{Faces, Line, Vertices}
-use Rattle.def_text.specs.declared.reading.Reading.{Reading}
-use Rattle.def_text.specs.declared.reading.Reading.TheVariants.{Passed, Position, Face, Refused}
+use Rattle.def_text.specs.Reading.{face_reading, is_face_line, is_letter, is_vertex_line, vertex_reading, words_reading}
+use Rattle.def_text.specs.declared.reading.Reading.{TheVariants.Passed, TheVariants.Position, TheVariants.Refused}
+use Rattle.def_text.specs.declared.refusal.ObjFail.{ObjFail, TheVariants.Limit, TheVariants.NotQuad, TheVariants.Syntax}
+use Rattle.def_text.specs.declared.refusal.Which.{TheVariants.Faces, TheVariants.Line, TheVariants.Vertices}
+use Rattle.def_text.specs.declared.{reading.Reading.TheVariants.Face, refusal.ObjFail.TheVariants.Range}
+use Rattle.def_text.specs.{Corner.used_index, Reading.begins_with, Text.position_in, declared.reading.Reading.Reading}
+use Rattle.def_text.specs.{Corner.resolved, Decimal.rounded, Logical.Logical, Reading.reading, Text.refusal_in}
+use Rattle.def_text.specs.{Corner.is_out, Text.face_in, Text.faces, Types.Words, Words.words}
+use Rattle.std.proofs.Common.{Bool, List, arith, cond, false, leb, length, ltb, map, refl, sym, take, true, ℕ, ◌+◌, ◌<◌}
+use Rattle.std.proofs.Common.{[], ap, ℤ, ◌^◌, ◌∙◌, ◌∷◌, ◌≡◌, ◌≤◌}
+use Rattle.std.proofs.lemmas.Bool.{Decides.nat_tests, and_from, eqb-true, leb-false, ne_eqb, or_parts}
+use Rattle.{std.specs.List.list_all, std.specs.List.list_any}
 
 -- What a line says fits its kind and the limits.
 pub record Suits (vertices faces : ℕ) (line : Logical) (said : Reading) : Type 0 where
@@ -76,8 +75,7 @@ positive_corners : (vertices : ℕ) (ws : Words) → list_any (λ w. is_out vert
     → list_all (λ corner. ltb 0 corner) (map (λ w. resolved vertices (used_index w)) ws) ≡ true
 positive_corners vertices [] inside = refl
 positive_corners vertices (w ∷ ws) inside =
-    let parts : (is_out vertices (used_index w) ≡ false) × (list_any (λ w. is_out vertices (used_index w)) ws ≡ false) =
-    or_parts _ _ inside in
+    let parts = or_parts (is_out vertices (used_index w)) _ inside in
     and_from _ _ (resolved_positive vertices (used_index w) parts.0) (positive_corners vertices ws parts.1)
 
 pub reading_suits : (vertices faces : ℕ) (line : Logical) → Suits vertices faces line (reading vertices faces line)
@@ -100,9 +98,8 @@ reading_suits vertices faces line = by_size (ltb 65536 line.size)
         → Suits vertices faces line (cond many (Refused (Limit Faces line.number))
         (cond bad (Refused (Syntax line.number)) (cond other (Refused (NotQuad line.number (length ws)))
         (cond out (Refused (Range line.number)) (Face line.number (map (λ w. resolved vertices (used_index w)) ws))))))
-    by_face ws false false false false many is no_vertex face =
-        suits_face vertices faces line line.number (map (λ w. resolved vertices (used_index w)) ws) no_vertex face
-        (leb-false _ _ many) (positive_corners vertices ws is)
+    by_face ws false false false false many is no_vertex face = suits_face vertices faces line line.number (map (λ
+        w. resolved vertices (used_index w)) ws) no_vertex face (leb-false _ _ many) (positive_corners vertices ws is)
     by_face ws _ _ _ _ many is no_vertex face = suits_refused vertices faces line _
 
     by_letter : (word : List ℕ) (ws : Words) (v f : Bool) → words line.text ≡ word ∷ ws → is_letter 118 word ≡ v

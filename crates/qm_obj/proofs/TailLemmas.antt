@@ -1,14 +1,11 @@
 -- Physical lines of a text whose last bytes are not ended.
-use Rattle.std.proofs.Common.{◌≡◌, ℕ, zero, suc, ◌+◌, ◌-◌, ◌<◌, ◌≤◌, Bool, true, false, cond, eqb, [], ◌∷◌, ◌++◌}
-use Rattle.std.proofs.Common.{length, take, drop, map, get_or, refl, sym, ap, ◌∙◌, arith}
-use Rattle.std.proofs.Math.Seq.{take-add}
-use Rattle.std.proofs.lemmas.{Bool.or_parts, List.take_more, List.take_rest}
-use Rattle.std.proofs.lemmas.List.{append-nil, get_or_push, length-append, length-take-le, take-append-drop, take_at}
-use Rattle.std.proofs.lemmas.List.Sums.{sum_by-append, sum_by-cons}
-use Rattle.std.specs.List.{count_by, list_any}
-use Rattle.def_feed.specs.Feed.{is_line_feed}
-use Rattle.def_io.specs.Bytes.{Bytes, Lines}
-use Rattle.def_io.specs.Lines.{byte_in_front, line_of, lines_of, pieces, without_last}
+use Rattle.def_io.specs.{Lines.byte_in_front, Lines.line_of, Lines.lines_of, Lines.pieces, Lines.without_last}
+use Rattle.std.proofs.Common.{Bool, arith, cond, drop, eqb, false, get_or, length, map, refl, take, true, zero, ℕ, ◌++◌}
+use Rattle.std.proofs.Common.{[], ap, suc, sym, ◌+◌, ◌-◌, ◌<◌, ◌∙◌, ◌∷◌, ◌≡◌, ◌≤◌}
+use Rattle.std.proofs.lemmas.List.{Sums.sum_by-append, Sums.sum_by-cons, get_or_push, length-take-le, take-append-drop}
+use Rattle.std.proofs.lemmas.{Bool.or_parts, List.append-nil, List.length-append, List.take_more, List.take_rest}
+use Rattle.std.{proofs.Math.Seq.take-add, proofs.lemmas.List.take_at, specs.List.count_by, specs.List.list_any}
+use Rattle.{def_feed.specs.Feed.is_line_feed, def_io.specs.Bytes.Bytes, def_io.specs.Bytes.Lines}
 
 -- What no element of a list passes, no element passes.
 none_at : (p : ℕ → Bool) (xs : Bytes) (i : ℕ) → list_any p xs ≡ false → i < length xs → p (get_or xs i 0) ≡ false
@@ -39,7 +36,7 @@ pieces_fed : (prefix more : Bytes) → list_any is_line_feed prefix ≡ false �
     ≡ (prefix ++ 10 ∷ []) ∷ pieces more
 pieces_fed [] more none = refl
 pieces_fed (b ∷ bs) more none =
-    let parts : (eqb b 10 ≡ false) × (list_any is_line_feed bs ≡ false) = or_parts _ _ none in
+    let parts = or_parts (eqb b 10) _ none in
     rw parts.0 (ap (byte_in_front b) (pieces_fed bs more parts.1))
 
 -- A line that ends.
@@ -104,15 +101,15 @@ lines_open prefix none some = ap (map line_of) (one_piece prefix none some)
     one_piece [] none some = absurd (omega arith)
     one_piece (b ∷ []) none some = rw (or_parts (eqb b 10) false none).0 refl
     one_piece (b ∷ c ∷ cs) none some =
-        let parts : (eqb b 10 ≡ false) × (list_any is_line_feed (c ∷ cs) ≡ false) = or_parts _ _ none in
+        let parts = or_parts (eqb b 10) _ none in
         rw parts.0 (ap (byte_in_front b) (one_piece (c ∷ cs) parts.1 (omega arith)))
 
 -- How many line feeds there are.
 pub count_none : (xs : Bytes) → list_any is_line_feed xs ≡ false → count_by is_line_feed xs ≡ 0
 count_none [] none = refl
 count_none (x ∷ xs) none =
-    let parts : (eqb x 10 ≡ false) × (list_any is_line_feed xs ≡ false) = or_parts _ _ none in
-    let rest : count_by is_line_feed xs ≡ 0 = count_none xs parts.1 in
+    let parts = or_parts (eqb x 10) _ none in
+    let rest = count_none xs parts.1 in
     sum_by-cons (λ b. cond (eqb b 10) 1 0) x xs ∙ rw (parts.0, rest) refl
 
 pub count_append : (xs ys : Bytes) → count_by is_line_feed (xs ++ ys) ≡ count_by is_line_feed xs + count_by is_line_feed
@@ -126,7 +123,7 @@ pub prefix_fed : (piece : Bytes) (at end : ℕ) → 0 < end → end ≤ length (
 prefix_fed piece at end some within feed =
     let one : end - 1 + 1 ≡ end = omega arith in
     let many : at + end - 1 - at ≡ end - 1 = omega arith in
-    let rest : take (length piece - at) (drop at piece) ≡ drop at piece = take_rest piece at in
+    let rest = take_rest piece at in
     let fits : end ≤ length (drop at piece) = omega (arith, ap length rest) in
     let at_end : get_or (drop at piece) (end - 1) 0 ≡ 10 = ap (λ xs. get_or xs (end - 1) 0) (sym rest) ∙ feed in
     take-add at end piece ∙ ap (λ xs. take at piece ++ xs) (

@@ -1,63 +1,57 @@
 -- The positions that some face names, and the numbers of the vertices that they become.
-use Rattle.std.proofs.Common.{◌≡◌, ℕ, zero, suc, ◌+◌, ◌-◌, ◌<◌, ◌≤◌, Bool, true, false, cond, ◌&&◌, List, [], ◌∷◌, ◌++◌}
-use Rattle.std.proofs.Common.{length, drop, set, map, get_or, refl, sym, ap, ◌∙◌, arith, ltb, leb, add-one}
-use Rattle.std.proofs.lemmas.List.{append-nil, take_more_set, map_push, length_push, drop-drop, drop_more, length-set}
-use Rattle.std.proofs.lemmas.List.Elements.{filter-append}
-use Rattle.std.proofs.lemmas.Bool.{and_parts, ltb-true, leb-true}
-use Rattle.std.specs.{Prelude.IsTrue, List.filter, List.list_all, List.list_any}
-use Rattle.def_mesh.specs.{Vertices.is_used, Faces.Faces}
-use Rattle.def_text.specs.{FaceSet.FaceSet, Text.face_set, Text.numbers_to, Text.position_of, Text.used_to}
-use Rattle.def_text.specs.{Text.line_vertex, Types.Positions}
-use Rattle.qm_obj.proofs.ListLemmas.{at_back, back_more}
-use Rattle.qm_obj.specs.Kept.{are_numbers, chosen, first_late, IsCounted, IsKept, IsMarked}
+use Rattle.def_text.specs.{FaceSet.FaceSet, Text.line_vertex, Text.numbers_to, Text.position_of, Types.Positions}
+use Rattle.qm_obj.specs.Kept.{IsCounted, IsKept, IsMarked, are_numbers, chosen, first_late}
+use Rattle.qm_obj.{proofs.ListLemmas.at_back, proofs.ListLemmas.back_more, proofs.SoupLemmas.same_soups}
+use Rattle.std.proofs.Common.{Bool, List, [], add-one, arith, cond, drop, false, get_or, length, refl, true, zero, ◌&&◌}
+use Rattle.std.proofs.Common.{ap, leb, ltb, map, set, suc, sym, ℕ, ◌++◌, ◌+◌, ◌-◌, ◌<◌, ◌∙◌, ◌∷◌, ◌≡◌, ◌≤◌}
+use Rattle.std.proofs.lemmas.List.{Elements.filter-append, append-nil, length-set, length_push, map_push, take_more_set}
+use Rattle.std.proofs.lemmas.{Bool.and_parts, Bool.leb-true, Bool.ltb-true, List.drop-drop, List.drop_more}
+use Rattle.std.{specs.List.filter, specs.List.list_all, specs.List.list_any, specs.Prelude.IsTrue}
+use Rattle.{def_mesh.specs.Vertices.is_used, def_text.specs.Text.face_set, def_text.specs.Text.used_to}
+use Rattle.{def_mesh.specs.Faces.Faces}
 
 -- A filter and one number more.
 pub filter_numbers : (p : ℕ → Bool) (k : ℕ) → filter p (numbers_to (k + 1)) ≡ filter p (numbers_to k)
     ++ cond (p (k + 1)) ((k + 1) ∷ []) []
 filter_numbers p k = rw (add-one k) (filter-append p (numbers_to k) (suc k ∷ []))
 
-pub chosen_yes : (marks : List Bool) (k : ℕ) → get_or marks k false ≡ true → chosen marks (k + 1) ≡ chosen marks k
-    ++ (k + 1) ∷ []
-chosen_yes marks k on =
-    let e : k + 1 - 1 ≡ k = omega arith in
-    let p : get_or marks (k + 1 - 1) false ≡ true = rw e on in
-    filter_numbers (λ k. get_or marks (k - 1) false) k ∙ rw p refl
-
-pub chosen_no : (marks : List Bool) (k : ℕ) → get_or marks k false ≡ false → chosen marks (k + 1) ≡ chosen marks k
-chosen_no marks k off =
-    let e : k + 1 - 1 ≡ k = omega arith in
-    let p : get_or marks (k + 1 - 1) false ≡ false = rw e off in
-    filter_numbers (λ k. get_or marks (k - 1) false) k ∙ rw p (append-nil _)
+pub chosen_more : (marks : List Bool) (k : ℕ) → chosen marks (k + 1) ≡ chosen marks k
+    ++ cond (get_or marks k false) ((k + 1) ∷ []) []
+chosen_more marks k = let e : k + 1 - 1 ≡ k = omega arith in
+    filter_numbers (λ k. get_or marks (k - 1) false) k ∙ rw e refl
 
 -- One position more, that is kept.
 pub kept_mark : {marks : List Bool} {old positions : Positions} {names : List ℕ} {k : ℕ} → k < length marks
-    → get_or marks k false ≡ true
-    → IsKept marks old positions names k → IsKept marks old (set positions (length names) (get_or positions k []))
-    (names ++ (k + 1) ∷ []) (k + 1)
-kept_mark {marks} {old} {positions} {names} {k} there on kept = record {
-  names_are = rw (kept.names_are, chosen_yes marks k on) refl;
-  few = omega (arith, length_push names (k + 1), kept.few);
-  size = length-set positions (length names) (get_or positions k []) ∙ kept.size;
-  prefix =
-      let n : length (names ++ (k + 1) ∷ []) ≡ length names + 1 = length_push names (k + 1) in
-      let room : length names < length positions = omega (arith, kept.few, kept.size) in
-      let e : k + 1 - 1 ≡ k = omega arith in
-      let same : get_or positions k [] ≡ position_of old (k + 1) = rw e (at_back positions old k [] kept.back) in
-      rw (n, chosen_yes marks k on) (take_more_set positions (length names) (get_or positions k []) room
-      ∙ rw (kept.prefix, same) (sym (map_push (position_of old) (chosen marks k) (k + 1))));
-  back = back_more positions old k (length names) (get_or positions k []) kept.few kept.back;
-}
+    → get_or marks k false ≡ true → IsKept marks old positions names k
+    → IsKept marks old (set positions (length names) (get_or positions k [])) (names ++ (k + 1) ∷ []) (k + 1)
+kept_mark {marks} {old} {positions} {names} {k} there on kept =
+    let more : chosen marks (k + 1) ≡ chosen marks k ++ (k + 1) ∷ [] = chosen_more marks k ∙ rw on refl in
+    record {
+      names_are = rw (kept.names_are, more) refl;
+      few = omega (arith, length_push names (k + 1));
+      size = length-set positions (length names) (get_or positions k []) ∙ kept.size;
+      prefix =
+          let n = length_push names (k + 1) in
+          let room : length names < length positions = omega arith in
+          let e : k + 1 - 1 ≡ k = omega arith in
+          let same : get_or positions k [] ≡ position_of old (k + 1) = rw e (at_back positions old k [] kept.back) in
+          rw (n, more) (take_more_set positions (length names) (get_or positions k []) room
+          ∙ rw (kept.prefix, same) (sym (map_push (position_of old) (chosen marks k) (k + 1))));
+      back = back_more positions old k (length names) (get_or positions k []) kept.few kept.back;
+    }
 
 -- One position more, that is dropped.
 pub kept_skip : {marks : List Bool} {old positions : Positions} {names : List ℕ} {k : ℕ} → get_or marks k false ≡ false
     → IsKept marks old positions names k → IsKept marks old positions names (k + 1)
-kept_skip {marks} {old} {positions} {k = k} off kept = record {
-  names_are = kept.names_are ∙ sym (chosen_no marks k off);
-  few = omega (arith, kept.few);
-  size = kept.size;
-  prefix = kept.prefix ∙ ap (map (position_of old)) (sym (chosen_no marks k off));
-  back = sym (drop-drop 1 k positions) ∙ ap (drop 1) kept.back ∙ drop-drop 1 k old;
-}
+kept_skip {marks} {old} {positions} {k = k} off kept =
+    let more : chosen marks (k + 1) ≡ chosen marks k = chosen_more marks k ∙ rw off (append-nil _) in
+    record {
+      names_are = kept.names_are ∙ sym more;
+      few = omega arith;
+      size = kept.size;
+      prefix = kept.prefix ∙ ap (map (position_of old)) (sym more);
+      back = sym (drop-drop 1 k positions) ∙ ap (drop 1) kept.back ∙ drop-drop 1 k old;
+    }
 
 -- Marked are the used.
 pub chosen_used : (faces : Faces) (n : ℕ) (marks : List Bool) → IsMarked faces n marks → (k : ℕ) → k ≤ n
@@ -75,9 +69,9 @@ pub map_numbers : (f g : ℕ → ℕ) (n : ℕ) → ((k : ℕ) → 0 < k → k �
     → IsTrue (are_numbers n xs) → map f xs ≡ map g xs
 map_numbers f g n same [] all = refl
 map_numbers f g n same (x ∷ xs) all =
-    let parts : ((ltb 0 x && leb x n) ≡ true) × (are_numbers n xs ≡ true) = and_parts _ _ all in
-    let both : (ltb 0 x ≡ true) × (leb x n ≡ true) = and_parts _ _ parts.0 in
-    let e : f x ≡ g x = same x (ltb-true 0 x both.0) (leb-true x n both.1) in
+    let parts = and_parts ((ltb 0 x && leb x n)) _ all in
+    let both = and_parts (ltb 0 x) _ parts.0 in
+    let e = same x (ltb-true 0 x both.0) (leb-true x n both.1) in
     rw (e, map_numbers f g n same xs parts.1) refl
 
 pub map_faces : (f g : ℕ → ℕ) (n : ℕ) → ((k : ℕ) → 0 < k → k ≤ n → f k ≡ g k) → (faces : Faces)
@@ -85,7 +79,7 @@ pub map_faces : (f g : ℕ → ℕ) (n : ℕ) → ((k : ℕ) → 0 < k → k ≤
     → map (λ corners. map f corners) faces ≡ map (λ corners. map g corners) faces
 map_faces f g n same [] all = refl
 map_faces f g n same (x ∷ xs) all =
-    let parts : (are_numbers n x ≡ true) × (list_all (are_numbers n) xs ≡ true) = and_parts _ _ all in
+    let parts = and_parts (are_numbers n x) _ all in
     rw (map_numbers f g n same x parts.0, map_faces f g n same xs parts.1) refl
 
 -- A face that is not late is passed.
@@ -98,23 +92,14 @@ late_more vertices faces lines i there size calm =
 -- What was kept, counted and renumbered is the soup.
 pub made_of : (positions : Positions) (faces : Faces) (marks : List Bool) (made : FaceSet) (vertices : List ℕ)
     → IsMarked faces (length positions) marks → IsTrue (list_all (are_numbers (length positions)) faces)
-    → IsCounted marks vertices
-    → made.names ≡ chosen marks (length marks) → made.pos ≡ map (position_of positions) (chosen marks (length marks))
-    → made.faces ≡ map (λ corners. map (λ corner. get_or vertices (corner - 1) 0) corners) faces
-    → made ≡ face_set positions faces
+    → IsCounted marks vertices → made.names ≡ chosen marks (length marks) → made.pos
+    ≡ map (position_of positions) (chosen marks (length marks)) → made.faces
+    ≡ map (λ corners. map (λ corner. get_or vertices (corner - 1) 0) corners) faces → made ≡ face_set positions faces
 made_of positions faces marks made vertices marked known counted names pos renumbered =
-    let all : chosen marks (length marks) ≡ used_to faces (length positions) =
-    ap (chosen marks) marked.size ∙ chosen_used faces (length positions) marks marked (length positions)
-    (omega arith) in
-    same_parts made (face_set positions faces)
-    (pos ∙ ap (map (position_of positions)) all)
-    (renumbered ∙ map_faces (λ corner. get_or vertices (corner - 1) 0) (line_vertex faces) (length positions) each faces
-    known)
+    let count = length positions in
+    let all = ap (chosen marks) marked.size ∙ chosen_used faces count marks marked count (omega arith) in
+    same_soups (pos ∙ ap (map (position_of positions)) all)
+    (renumbered ∙ map_faces (λ corner. get_or vertices (corner - 1) 0) (line_vertex faces) count (λ k some le.
+    counted.each (k - 1) (omega arith)
+    ∙ ap length (chosen_used faces count marks marked (k - 1) (omega arith))) faces known)
     (names ∙ all)
-  where
-    each : (k : ℕ) → 0 < k → k ≤ length positions → get_or vertices (k - 1) 0 ≡ line_vertex faces k
-    each k some le = counted.each (k - 1) (omega (arith, marked.size)) ∙ ap length
-        (chosen_used faces (length positions) marks marked (k - 1) (omega arith))
-
-    same_parts : (s t : FaceSet) → s.pos ≡ t.pos → s.faces ≡ t.faces → s.names ≡ t.names → s ≡ t
-    same_parts s t p q r = λ i. record { pos = p i; faces = q i; names = r i }

@@ -1,35 +1,26 @@
 -- The words of a line, one after another.
-use Rattle.std.proofs.Common.{◌≡◌, ℕ, suc, ◌+◌, ◌<◌, ◌≤◌, Bool, true, false, cond, not, List, [], ◌∷◌, length, take}
-use Rattle.std.proofs.Common.{drop, set, map, get_or, below_more, refl, sym, ap, ◌∙◌, arith, eqb, Some, None}
-use Rattle.std.proofs.lemmas.Bool.{and_from, eqb-true, or_from, or_left, or_parts, or_right, true≢false}
-use Rattle.std.proofs.lemmas.List.{drop_more, get_or-map, get_or-set_other, get_or-set_same, get_or-take, length-drop}
-use Rattle.std.proofs.lemmas.List.{length-map, length-set, length-take-le, same_lists, take_all}
-use Rattle.std.proofs.lemmas.List.Folds.{list_all_at, list_all_more}
-use Rattle.std.specs.List.{before_first, list_all, list_any, position_or_len}
-use Rattle.def_text.specs.{Logical.is_hash, Reading.face_reading, Reading.is_letter, Reading.vertex_reading}
-use Rattle.def_text.specs.{Reading.words_reading, declared.reading.Reading.TheVariants.Passed, Words.ends_word}
-use Rattle.def_text.specs.{Words.is_blank, Words.words, Types.Words}
-use Rattle.def_io.specs.Lines.{byte_in_front}
-use Rattle.qm_obj.specs.Indices.{with_clamped}
-use Rattle.qm_obj.specs.Lines.{IsFilled, IsReadTo, is_end, uncommented, with_word}
+use Rattle.def_text.specs.Reading.{face_reading, is_letter, vertex_reading, words_reading}
+use Rattle.def_text.specs.{Logical.is_hash, Types.Words, Words.ends_word, declared.reading.Reading.TheVariants.Passed}
+use Rattle.qm_obj.specs.{Indices.with_clamped, Lines.IsFilled, Lines.IsReadTo, Lines.uncommented, Lines.with_word}
+use Rattle.std.proofs.Common.{Bool, List, None, Some, arith, below_more, cond, drop, false, get_or, length, refl, take}
+use Rattle.std.proofs.Common.{[], ap, eqb, inl, inr, map, not, set, suc, sym, true, ℕ, ◌+◌, ◌<◌, ◌∙◌, ◌∷◌, ◌≡◌, ◌≤◌}
+use Rattle.std.proofs.lemmas.Bool.{and_from, cases_Bool, eqb-true, or_from, or_left, or_parts, or_right, true≢false}
+use Rattle.std.proofs.lemmas.List.{Folds.list_all_at, Folds.list_all_more, drop_more, get_or-set_other, get_or-set_same}
+use Rattle.std.proofs.lemmas.List.{get_or-map, get_or-take, length-drop, length-map, length-set, length-take-le}
+use Rattle.std.specs.{List.before_first, List.list_all, List.list_any, List.position_or_len}
+use Rattle.{def_io.specs.Lines.byte_in_front, std.proofs.lemmas.List.same_lists, std.proofs.lemmas.List.take_all}
+use Rattle.{def_text.specs.Words.is_blank, def_text.specs.Words.words, qm_obj.specs.Lines.is_end}
 
 -- A text that begins with no blank has its prefix up to the first blank as its first word.
-pub words_word : (b : ℕ) (bs : List ℕ) → is_blank b ≡ false
-    → words (b ∷ bs) ≡ take (suc (position_or_len is_blank bs)) (b ∷ bs)
-    ∷ words (drop (suc (position_or_len is_blank bs)) (b ∷ bs))
+pub words_word : (b : ℕ) (bs : List ℕ) → is_blank b ≡ false → words (b ∷ bs)
+    ≡ take (suc (position_or_len is_blank bs)) (b ∷ bs) ∷ words (drop (suc (position_or_len is_blank bs)) (b ∷ bs))
 words_word b [] off = rw off refl
-words_word b (c ∷ cs) off = rw off (by_next (is_blank c) refl (words_word c cs))
-  where
-    by_next : (t : Bool) → is_blank c ≡ t
-        → (is_blank c ≡ false → words (c ∷ cs) ≡ take (suc (position_or_len is_blank cs)) (c ∷ cs)
-        ∷ words (drop (suc (position_or_len is_blank cs)) (c ∷ cs)))
-        → cond (is_blank c) ((b ∷ []) ∷ words (c ∷ cs)) (byte_in_front b (words (c ∷ cs)))
-        ≡ take (suc (cond (not (is_blank c)) (1 + position_or_len is_blank cs) 0)) (b ∷ c ∷ cs)
-        ∷ words (drop (suc (cond (not (is_blank c)) (1 + position_or_len is_blank cs) 0)) (b ∷ c ∷ cs))
-    by_next true on again = rw on (rw on refl)
-    by_next false after again =
-        rw (again after) (rw after (let e : 1 + position_or_len is_blank cs ≡ suc (position_or_len is_blank cs) =
-        omega arith in rw e refl))
+words_word b (c ∷ cs) off =
+    let e : 1 + position_or_len is_blank cs ≡ suc (position_or_len is_blank cs) = omega arith in
+    rw off (elim (cases_Bool (is_blank c)) [
+      | inl on ↦ rw on (rw on refl)
+      | inr after ↦ rw (words_word c cs after) (rw after (rw e refl))
+    ])
 
 -- Up to the first end of a word a line is as it is without its comment, and behind it the comment is cut from the rest.
 record EndsAlike (bs : List ℕ) : Type 0 where
@@ -39,44 +30,47 @@ record EndsAlike (bs : List ℕ) : Type 0 where
 
 ends_alike : (bs : List ℕ) → EndsAlike bs
 ends_alike [] = record { prefix = refl; behind = refl }
-ends_alike (c ∷ cs) = by_byte (is_blank c) (is_hash c) refl refl (ends_alike cs)
-  where
-    by_byte : (blank hash : Bool) → is_blank c ≡ blank → is_hash c ≡ hash → EndsAlike cs → EndsAlike (c ∷ cs)
-    by_byte blank true b-is h-is again =
-        let end : is_end c ≡ true = or_right _ _ h-is in
-        record { prefix = rw end (rw h-is refl); behind = rw end (rw h-is refl) }
-    by_byte true false b-is h-is again =
-        let end : is_end c ≡ true = or_left _ _ b-is in
-        record { prefix = rw end (rw h-is (rw b-is refl)); behind = rw end (rw h-is (rw b-is refl)) }
-    by_byte false false b-is h-is again =
-        let more : is_end c ≡ false = or_from _ _ b-is h-is in
-        let e : 1 + position_or_len is_blank (uncommented cs) ≡ suc (position_or_len is_blank (uncommented cs)) =
-        omega arith in
-        let f : 1 + position_or_len is_end cs ≡ suc (position_or_len is_end cs) = omega arith in
-        record {
-          prefix = rw more (rw h-is (rw (b-is, e, f) (ap (λ xs. c ∷ xs) again.prefix)));
-          behind = rw more (rw h-is (rw (b-is, e, f) again.behind));
-        }
+ends_alike (c ∷ cs) =
+    let e : 1 + position_or_len is_blank (uncommented cs) ≡ suc (position_or_len is_blank (uncommented cs)) =
+    omega arith in
+    let f : 1 + position_or_len is_end cs ≡ suc (position_or_len is_end cs) = omega arith in
+    elim (cases_Bool (is_hash c)) [
+      | inl hash ↦
+          let end : is_end c ≡ true = or_right _ _ hash in
+          record { prefix = rw end (rw hash refl); behind = rw end (rw hash refl) }
+      | inr hash ↦ elim (cases_Bool (is_blank c)) [
+        | inl blank ↦
+            let end : is_end c ≡ true = or_left _ _ blank in
+            record { prefix = rw end (rw hash (rw blank refl)); behind = rw end (rw hash (rw blank refl)) }
+        | inr blank ↦
+            let more : is_end c ≡ false = or_from _ _ blank hash in
+            let again = ends_alike cs in
+            record {
+              prefix = rw more (rw hash (rw (blank, e, f) (ap (λ xs. c ∷ xs) again.prefix)));
+              behind = rw more (rw hash (rw (blank, e, f) again.behind));
+            }
+      ]
+    ]
 
 -- The first word of a line that is empty or begins with no blank.
 pub first_word : (rest : List ℕ) → (0 < length rest → is_blank (get_or rest 0 0) ≡ false)
     → words (uncommented rest) ≡ with_word (take (position_or_len is_end rest) rest)
     (words (uncommented (drop (position_or_len is_end rest) rest)))
 first_word [] at_word = refl
-first_word (b ∷ bs) at_word = by_hash (is_hash b) refl (at_word (omega arith))
-  where
-    by_hash : (hash : Bool) → is_hash b ≡ hash → is_blank b ≡ false
-        → words (uncommented (b ∷ bs)) ≡ with_word (take (position_or_len is_end (b ∷ bs)) (b ∷ bs))
-        (words (uncommented (drop (position_or_len is_end (b ∷ bs)) (b ∷ bs))))
-    by_hash true is off =
-        let end : position_or_len is_end (b ∷ bs) ≡ 0 = let e : is_end b ≡ true = or_right _ _ is in rw e refl in
-        rw end (rw is refl)
-    by_hash false is off =
-        let end : position_or_len is_end (b ∷ bs) ≡ suc (position_or_len is_end bs) = let e : is_end b ≡ false =
-        or_from _ _ off is in rw e (omega arith) in
-        let bare : uncommented (b ∷ bs) ≡ b ∷ uncommented bs = rw is refl in
-        let alike : EndsAlike bs = ends_alike bs in
-        rw end (ap words bare ∙ words_word b (uncommented bs) off ∙ rw (alike.prefix, alike.behind) refl)
+first_word (b ∷ bs) at_word =
+    let off : is_blank b ≡ false = at_word (omega arith) in
+    elim (cases_Bool (is_hash b)) [
+      | inl is ↦
+          let e : is_end b ≡ true = or_right _ _ is in
+          let end : position_or_len is_end (b ∷ bs) ≡ 0 = rw e refl in
+          rw end (rw is refl)
+      | inr is ↦
+          let e : is_end b ≡ false = or_from _ _ off is in
+          let end : position_or_len is_end (b ∷ bs) ≡ suc (position_or_len is_end bs) = rw e (omega arith) in
+          let bare : uncommented (b ∷ bs) ≡ b ∷ uncommented bs = rw is refl in
+          let alike = ends_alike bs in
+          rw end (ap words bare ∙ words_word b (uncommented bs) off ∙ rw (alike.prefix, alike.behind) refl)
+    ]
 
 -- A line is no longer without its comment, which is what stands from its first `#` on.
 pub uncommented_short : (line : List ℕ) → length (uncommented line) ≤ length line
@@ -96,18 +90,16 @@ uncommented_is (b ∷ bs) = by_hash (is_hash b) (uncommented_is bs)
 pub uncommented_none : (line : List ℕ) → list_any is_hash line ≡ false → uncommented line ≡ line
 uncommented_none [] none = refl
 uncommented_none (b ∷ bs) none =
-    let parts : (is_hash b ≡ false) × (list_any is_hash bs ≡ false) = or_parts _ _ none in
+    let parts = or_parts (is_hash b) _ none in
     rw (parts.0, uncommented_none bs parts.1) refl
 
 -- No text has more words than bytes.
 pub words_few : (bytes : List ℕ) → length (words bytes) ≤ length bytes
 words_few [] = omega arith
-words_few (b ∷ bs) = by_blank (is_blank b) (words_few bs)
-  where
-    by_blank : (t : Bool) → length (words bs) ≤ length bs
-        → length (cond t (words bs) (cond (ends_word bs) ((b ∷ []) ∷ words bs) (byte_in_front b (words bs))))
-        ≤ suc (length bs)
-    by_blank t few = grind (arith)
+words_few (b ∷ bs) =
+    let by_blank : (t : Bool) → length (words bs) ≤ length bs → length (cond t (words bs) (cond (ends_word bs)
+    ((b ∷ []) ∷ words bs) (byte_in_front b (words bs)))) ≤ suc (length bs) = λ t few. grind (arith) in
+    by_blank (is_blank b) (words_few bs)
 
 -- Nor has a line more words than bytes in front of its comment.
 pub words_short : (line : List ℕ) → length (words (uncommented line)) ≤ length line
@@ -124,7 +116,7 @@ pub next_is : (all : Words) (count : ℕ) (word : List ℕ) (after : Words) → 
 next_is all count [] after is some = absurd (true≢false some)
 next_is all count (b ∷ bs) after is some =
     let long : length (drop count all) ≡ suc (length after) = ap length (sym is) in
-    let there : count < length all = omega (arith, long, length-drop count all) in
+    let there : count < length all = omega (arith, length-drop count all) in
     let parts : get_or all count [] ∷ drop (count + 1) all ≡ (b ∷ bs) ∷ after = sym (drop_more all count [] there)
     ∙ sym is in
     record { there = there; here = cc parts; behind = cc parts }
@@ -133,10 +125,8 @@ next_is all count (b ∷ bs) after is some =
 pub next_none : (all : Words) (count : ℕ) (word : List ℕ) (after : Words) → with_word word after ≡ drop count all
     → eqb (length word) 0 ≡ true → length all ≤ count
 next_none all count [] after is none = omega (arith, ap length is, length-drop count all)
-next_none all count (b ∷ bs) after is none = absurd (eqb-suc none)
-  where
-    eqb-suc : eqb (suc (length bs)) 0 ≡ true → ⊥
-    eqb-suc e = let h : suc (length bs) ≡ 0 = eqb-true _ _ e in omega arith
+next_none all count (b ∷ bs) after is none =
+    let h : suc (length bs) ≡ 0 = eqb-true _ _ none in absurd (omega arith)
 
 -- One slot more.
 pub filled_more : {X : Type 0} (says : List ℕ → X) (all : Words) (count size : ℕ) (slots : List X) (x : X)
@@ -145,18 +135,17 @@ pub filled_more : {X : Type 0} (says : List ℕ → X) (all : Words) (count size
 filled_more {X} says all count size slots x is filled = record {
   many = length-set slots count x ∙ filled.many;
   each = λ k d. below_more (λ k. k < size → get_or (set slots count x) k d ≡ says (get_or all k [])) count
-      (λ k l fits. get_or-set_other slots count k x d (λ (e : k ≡ count). let h : k ≡ count = e in omega arith)
-      ∙ filled.each k d l fits)
-      (λ fits. get_or-set_same slots count x d (omega (arith, filled.many)) ∙ is) k;
+      (λ k l fits. get_or-set_other slots count k x d (λ (e : k ≡ count). let h = e in omega arith)
+      ∙ filled.each k d l fits) (λ fits. get_or-set_same slots count x d (omega arith) ∙ is) k;
 }
 
 -- The slots have what the first words say.
 pub filled_all : {X : Type 0} (says : List ℕ → X) (all : Words) (count size : ℕ) (slots : List X) → size ≤ count
     → size ≤ length all → IsFilled says all count size slots → slots ≡ map says (take size all)
 filled_all {X} says all count size slots read fits filled =
-    let long : length (take size all) ≡ size = length-take-le size all fits in
+    let long = length-take-le size all fits in
     same_lists slots (map says (take size all)) (filled.many ∙ sym long ∙ sym (length-map (take size all) says))
-    (λ k d l. let there : k < size = omega (arith, filled.many) in
+    (λ k d l. let there : k < size = omega arith in
     filled.each k d (omega arith) there ∙ sym (get_or-map says (take size all) k [] d (omega arith)
     ∙ ap says (get_or-take size all k [] there)))
 
@@ -169,16 +158,14 @@ pub record AreRead {X : Type 0} (test : List ℕ → Bool) (says : List ℕ → 
 
 -- What a test gives, where it gives something, and where it gives nothing.
 pub some_from : {X : Type 0} (t : Bool) (x y : X) → cond t (Some x) None ≡ Some y → (t ≡ true) × (y ≡ x)
-some_from true x y is = (refl, cc)
-some_from false x y is = cc
+some_from t x y is = grind (arith)
 
 pub none_from : {X : Type 0} (t : Bool) (x : X) → cond t (Some x) None ≡ None → t ≡ false
 none_from t x is = grind (arith)
 
 -- Where the next word is one, fewer are left behind it.
 pub fewer_left : (word : List ℕ) (after : Words) {rest : Words} → with_word word after ≡ rest → eqb (length word) 0
-    ≡ false
-    → length after < length rest
+    ≡ false → length after < length rest
 fewer_left word after first some = grind (arith, ap length first)
 
 module _ {X : Type 0} {test : List ℕ → Bool} {says : List ℕ → X} {all : Words} {size count : ℕ} {rest : Words}
@@ -195,7 +182,7 @@ module _ {X : Type 0} {test : List ℕ → Bool} {says : List ℕ → X} {all : 
       let next = next_read some in
       let got = some_from (test word) (says word) x is in
       record {
-        within = omega (arith, next.there);
+        within = omega arith;
         rest_is = next.behind;
         passed = list_all_more test all count [] next.there ∙ and_from _ _ read.passed (ap test next.here ∙ got.0);
         filled = filled_more says all count size slots x (got.1 ∙ ap says (sym next.here)) read.filled;
@@ -212,9 +199,9 @@ module _ {X : Type 0} {test : List ℕ → Bool} {says : List ℕ → X} {all : 
   all_read empty =
       let none : length all ≤ count = next_none all count word after (first ∙ read.rest_is) empty in
       record {
-        many = omega (arith, none, read.within);
+        many = omega arith;
         passed = ap (list_all test) (sym (take_all count all none)) ∙ read.passed;
-        filled = λ fits. filled_all says all count size slots fits (omega (arith, read.within)) read.filled;
+        filled = λ fits. filled_all says all count size slots fits (omega arith) read.filled;
       }
 
 -- A `v` line says no face.
@@ -228,14 +215,7 @@ pub by_first_word : (line vertices faces : ℕ) (all rest : Words) (first : List
     ≡ cond (is_letter 118 first) (vertex_reading line vertices rest)
     (cond (is_letter 102 first) (with_clamped (face_reading line vertices faces rest)) Passed)
 by_first_word line vertices faces all rest [] is = ap (λ ws. with_clamped (words_reading line vertices faces ws)) is
-by_first_word line vertices faces all rest (b ∷ bs) is = ap (λ ws. with_clamped (words_reading line vertices faces ws))
-    is ∙ by_letter (is_letter 118 (b ∷ bs)) (is_letter 102 (b ∷ bs))
-  where
-    by_letter : (v f : Bool)
-        → with_clamped (cond v (vertex_reading line vertices rest) (cond f (face_reading line vertices faces rest)
-        Passed))
-        ≡ cond v (vertex_reading line vertices rest) (cond f (with_clamped (face_reading line vertices faces rest))
-        Passed)
-    by_letter true f = vertex_clamped line vertices rest
-    by_letter false true = refl
-    by_letter false false = refl
+by_first_word line vertices faces all rest (b ∷ bs) is = rw is (elim (cases_Bool (is_letter 118 (b ∷ bs))) [
+  | inl v ↦ rw v (vertex_clamped line vertices rest)
+  | inr v ↦ elim (cases_Bool (is_letter 102 (b ∷ bs))) [ inl f ↦ rw (v, f) refl | inr f ↦ rw (v, f) refl ]
+])

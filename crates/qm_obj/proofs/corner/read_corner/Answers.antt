@@ -1,5 +1,4 @@
-use Rattle.std.proofs.Common.{◌∙◌, sym}
-use Rattle.qm_obj.proofs.CornerLemmas.{plain_corner}
+use Rattle.{qm_obj.proofs.CornerLemmas.plain_corner, std.proofs.Common.sym, std.proofs.Common.◌∙◌}
 use Rattle.qm_obj.proofs.corner.read_corner.Goals as goal
 
 pub returns-in-Some : goal.returns-in-Some

@@ -1,9 +1,7 @@
-use Rattle.std.proofs.Common.{◌+◌, ◌∙◌, sym, length, ◌++◌, ◌≡◌, false}
-use Rattle.def_io.specs.Lines.{lines_of}
-use Rattle.std.specs.List.{before_first}
-use Rattle.def_text.specs.Logical.{is_hash}
-use Rattle.qm_obj.proofs.JoinLemmas.{IsJoined, joined_last, joining_more}
-use Rattle.qm_obj.proofs.joining.join.Goals.{After-goes_on}
+use Rattle.qm_obj.proofs.{JoinLemmas.joined_last, JoinLemmas.joining_more, joining.join.Goals.After-goes_on}
+use Rattle.std.proofs.Common.{false, length, sym, ◌++◌, ◌+◌, ◌∙◌, ◌≡◌}
+use Rattle.{def_io.specs.Lines.lines_of, def_text.specs.Logical.is_hash, qm_obj.proofs.JoinLemmas.IsJoined}
+use Rattle.{std.specs.List.before_first}
 use Rattle.qm_obj.proofs.joining.join.Goals as goal
 
 -- The last line is read.

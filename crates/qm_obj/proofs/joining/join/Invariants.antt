@@ -1,6 +1,4 @@
-use Rattle.std.proofs.Common.{◌-◌}
-use Rattle.def_io.specs.Lines.{lines_of}
-use Rattle.qm_obj.proofs.JoinLemmas.{IsJoining}
+use Rattle.{def_io.specs.Lines.lines_of, qm_obj.proofs.JoinLemmas.IsJoining, std.proofs.Common.◌-◌}
 use Rattle.qm_obj.proofs.joining.join.Given as goal
 
 abbrev pub invariant-loop-next : goal.invariant-loop-next

@@ -1,11 +1,10 @@
-use Rattle.std.proofs.Common.{◌≡◌, true, map, arith, sym, ◌∙◌, ap}
-use Rattle.std.proofs.lemmas.{Bool.eq-eqb, Bool.ne_eqb, List.take_all}
-use Rattle.def_text.specs.{Corner.is_corner_word, declared.refusal.ObjFail.TheVariants.NotQuad, Words.words}
-use Rattle.def_text.specs.declared.reading.Reading.TheVariants.{Face, Refused}
-use Rattle.qm_obj.specs.{Indices.corner_of, Lines.uncommented}
+use Rattle.def_text.specs.declared.reading.{Reading.TheVariants.Face, Reading.TheVariants.Refused}
+use Rattle.def_text.specs.{Corner.is_corner_word, Words.words, declared.refusal.ObjFail.TheVariants.NotQuad}
 use Rattle.qm_obj.proofs.LineLemmas.{face_count, face_in, face_out, face_syntax}
-use Rattle.qm_obj.proofs.WordLemmas.{AreRead, all_read, fewer_left, read_bad, read_more, next_read, words_short}
-use Rattle.qm_obj.proofs.line.read_face.Goals.{After-is_empty}
+use Rattle.qm_obj.proofs.WordLemmas.{AreRead, all_read, fewer_left, next_read, read_bad, read_more, words_short}
+use Rattle.qm_obj.{proofs.line.read_face.Goals.After-is_empty, specs.Indices.corner_of, specs.Lines.uncommented}
+use Rattle.std.proofs.{Common.arith, Common.true, lemmas.Bool.eq-eqb, lemmas.Bool.ne_eqb, lemmas.List.take_all}
+use Rattle.std.proofs.{Common.ap, Common.map, Common.sym, Common.◌∙◌, Common.◌≡◌}
 use Rattle.qm_obj.proofs.line.read_face.Goals as goal
 
 pub words-smaller : goal.words-smaller
@@ -15,17 +14,16 @@ pub overflow_add-count : goal.overflow_add-count
 overflow_add-count c =
     let next = next_read c.words.invariant _ _ (sym c.next_word.ensures.first)
     (sym c.is_empty.ensures ∙ c.if-is_empty.false) in
-    omega (arith, next.there, words_short c.args.text.now)
+    omega (arith, words_short c.args.text.now)
 
 pub words-preserved : goal.words-preserved
 words-preserved c = rw c.put.ensures (read_more c.words.invariant _ _ (sym c.next_word.ensures.first)
     (sym c.is_empty.ensures ∙ c.if-is_empty.false) (sym c.read_corner.ensures ∙ c.in-Some.is))
 
 pub returns-in_default : goal.returns-in_default
-returns-in_default c =
-    face_syntax c.args.line c.args.vertices c.args.faces (words (uncommented c.args.text.now)) (omega arith)
-    (read_bad c.words.invariant _ _ (sym c.next_word.ensures.first) (sym c.is_empty.ensures ∙ c.if-is_empty.false)
-    (sym c.read_corner.ensures ∙ c.in_default.is))
+returns-in_default c = face_syntax c.args.line c.args.vertices c.args.faces (words (uncommented c.args.text.now))
+    (omega arith) (read_bad c.words.invariant _ _ (sym c.next_word.ensures.first)
+    (sym c.is_empty.ensures ∙ c.if-is_empty.false) (sym c.read_corner.ensures ∙ c.in_default.is))
 
 -- Where no word is left, all are corners.
 read : (c : After-is_empty) → c.is_empty.result ≡ true
@@ -51,7 +49,7 @@ returns-then-names_none c =
     let at = (goal.at.returns-then-names_none c).After-is_empty in
     let all = read at c.if-is_empty.true in
     face_out c.args.line c.args.vertices c.args.faces (words (uncommented c.args.text.now)) (omega arith)
-    all.passed (eq-eqb _ _ (omega (arith, all.many)))
+    all.passed (eq-eqb _ _ (omega arith))
     (rw (← four at c.if-is_empty.true (omega arith)) (sym c.names_none.ensures ∙ c.if-names_none.true))
 
 pub returns : goal.returns
@@ -62,8 +60,8 @@ returns c =
     four at c.if-is_empty.true (omega arith) in
     ap (Face c.args.line) are
     ∙ face_in c.args.line c.args.vertices c.args.faces (words (uncommented c.args.text.now)) (omega arith)
-    all.passed (eq-eqb _ _ (omega (arith, all.many)))
+    all.passed (eq-eqb _ _ (omega arith))
     (rw (← are) (sym c.names_none.ensures ∙ c.if-names_none.false))
 
 pub overflow_cast-result : goal.overflow_cast-result
-overflow_cast-result c = omega (arith, c.words.invariant.within, words_short c.args.text.now, c.requires)
+overflow_cast-result c = omega (arith, words_short c.args.text.now)

@@ -1,6 +1,5 @@
-use Rattle.std.proofs.Common.{length}
-use Rattle.def_text.specs.{Corner.is_corner_word, Words.words}
-use Rattle.qm_obj.specs.{Indices.corner_of, Lines.IsReadTo, Lines.uncommented}
+use Rattle.qm_obj.{specs.Indices.corner_of, specs.Lines.IsReadTo, specs.Lines.uncommented}
+use Rattle.{def_text.specs.Corner.is_corner_word, def_text.specs.Words.words, std.proofs.Common.length}
 use Rattle.qm_obj.proofs.line.read_face.Given as goal
 
 abbrev pub invariant-words : goal.invariant-words

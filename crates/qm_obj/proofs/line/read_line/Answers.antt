@@ -1,8 +1,6 @@
-use Rattle.std.proofs.Common.{◌≡◌, ◌∙◌, sym, refl, true, false, ltb, arith}
-use Rattle.std.proofs.lemmas.Bool.{le-ltb}
-use Rattle.def_text.specs.{Reading.is_letter, Words.words}
-use Rattle.qm_obj.specs.Lines.{uncommented}
-use Rattle.qm_obj.proofs.WordLemmas.{by_first_word}
+use Rattle.std.proofs.Common.{arith, false, ltb, refl, sym, true, ◌∙◌, ◌≡◌}
+use Rattle.{def_text.specs.Reading.is_letter, qm_obj.proofs.WordLemmas.by_first_word, qm_obj.specs.Lines.uncommented}
+use Rattle.{def_text.specs.Words.words, std.proofs.lemmas.Bool.le-ltb}
 use Rattle.qm_obj.proofs.line.read_line.Goals as goal
 
 pub returns-then-is_one : goal.returns-then-is_one

@@ -1,11 +1,10 @@
-use Rattle.std.proofs.Common.{◌≡◌, ◌&&◌, true, length, map, take, arith, sym, ◌∙◌, ap}
-use Rattle.std.proofs.lemmas.Bool.{and_from, and_left, and_right}
-use Rattle.std.specs.List.{list_all}
-use Rattle.def_text.specs.{Decimal.is_decimal, Reading.is_position_count, Words.words}
-use Rattle.qm_obj.specs.{Positions.all_near, Positions.coordinate, Lines.uncommented}
+use Rattle.def_text.{specs.Decimal.is_decimal, specs.Reading.is_position_count, specs.Words.words}
 use Rattle.qm_obj.proofs.LineLemmas.{position_words, vertex_far, vertex_position, vertex_syntax}
-use Rattle.qm_obj.proofs.WordLemmas.{AreRead, all_read, fewer_left, read_bad, read_more, next_read, words_short}
-use Rattle.qm_obj.proofs.line.read_vertex.Goals.{After-is_empty}
+use Rattle.qm_obj.proofs.WordLemmas.{AreRead, all_read, fewer_left, next_read, read_bad, read_more, words_short}
+use Rattle.qm_obj.{proofs.line.read_vertex.Goals.After-is_empty, specs.Positions.all_near, specs.Positions.coordinate}
+use Rattle.std.proofs.Common.{ap, arith, length, map, sym, take, true, ◌&&◌, ◌∙◌, ◌≡◌}
+use Rattle.std.proofs.{lemmas.Bool.and_from, lemmas.Bool.and_left, lemmas.Bool.and_right}
+use Rattle.{qm_obj.specs.Lines.uncommented, std.specs.List.list_all}
 use Rattle.qm_obj.proofs.line.read_vertex.Goals as goal
 
 pub words-smaller : goal.words-smaller
@@ -15,17 +14,16 @@ pub overflow_add-count : goal.overflow_add-count
 overflow_add-count c =
     let next = next_read c.words.invariant _ _ (sym c.next_word.ensures.first)
     (sym c.is_empty.ensures ∙ c.if-is_empty.false) in
-    omega (arith, next.there, words_short c.args.text.now)
+    omega (arith, words_short c.args.text.now)
 
 pub words-preserved : goal.words-preserved
 words-preserved c = rw c.put.ensures (read_more c.words.invariant _ _ (sym c.next_word.ensures.first)
     (sym c.is_empty.ensures ∙ c.if-is_empty.false) (sym c.read_coordinate.ensures ∙ c.in-Some.is))
 
 pub returns-in_default : goal.returns-in_default
-returns-in_default c =
-    vertex_syntax c.args.line c.args.vertices (words (uncommented c.args.text.now)) (omega arith)
-    (and_right _ _ (read_bad c.words.invariant _ _ (sym c.next_word.ensures.first) (sym c.is_empty.ensures
-    ∙ c.if-is_empty.false) (sym c.read_coordinate.ensures ∙ c.in_default.is)))
+returns-in_default c = vertex_syntax c.args.line c.args.vertices (words (uncommented c.args.text.now)) (omega arith)
+    (and_right _ _ (read_bad c.words.invariant _ _ (sym c.next_word.ensures.first)
+    (sym c.is_empty.ensures ∙ c.if-is_empty.false) (sym c.read_coordinate.ensures ∙ c.in_default.is)))
 
 -- Where no word is left, all are decimals.
 read : (c : After-is_empty) → c.is_empty.result ≡ true

@@ -1,6 +1,5 @@
-use Rattle.std.proofs.Common.{length}
-use Rattle.def_text.specs.{Decimal.is_decimal, Words.words}
-use Rattle.qm_obj.specs.{Positions.coordinate, Lines.IsReadTo, Lines.uncommented}
+use Rattle.qm_obj.{specs.Lines.IsReadTo, specs.Lines.uncommented, specs.Positions.coordinate}
+use Rattle.{def_text.specs.Decimal.is_decimal, def_text.specs.Words.words, std.proofs.Common.length}
 use Rattle.qm_obj.proofs.line.read_vertex.Given as goal
 
 abbrev pub invariant-words : goal.invariant-words

@@ -1,7 +1,6 @@
-use Rattle.def_io.specs.Lines.{lines_of}
-use Rattle.error_laws.proofs.Errors.{handed}
-use Rattle.qm_obj.proofs.KeptLemmas.{finished_few, finished_refused, finished_soup}
-use Rattle.qm_obj.proofs.RangeLemmas.{at_end, at_next, at_refused, at_start}
+use Rattle.qm_obj.proofs.{KeptLemmas.finished_few, KeptLemmas.finished_refused, KeptLemmas.finished_soup}
+use Rattle.qm_obj.proofs.{RangeLemmas.at_end, RangeLemmas.at_next, RangeLemmas.at_refused, RangeLemmas.at_start}
+use Rattle.{def_io.specs.Lines.lines_of, error_laws.proofs.Errors.handed}
 use Rattle.qm_obj.proofs.read.read_obj.Goals as goal
 
 pub loop-i-init : goal.loop-i-init

@@ -1,10 +1,7 @@
-use Rattle.std.proofs.Common.{◌≡◌, ◌+◌, ◌∙◌, length, ap, arith}
-use Rattle.std.specs.Prelude.{slice_range}
-use Rattle.error_laws.proofs.Errors.{handed}
-use Rattle.def_io.specs.Lines.{lines_of}
-use Rattle.qm_obj.specs.Lines.{first_logical, line_as}
-use Rattle.qm_obj.proofs.JoinLemmas.{same_refused, same_took, joined_logical, joined_short}
-use Rattle.qm_obj.proofs.read.take_joined.Goals.{After-deref}
+use Rattle.qm_obj.proofs.JoinLemmas.{joined_logical, joined_short, same_refused, same_took}
+use Rattle.qm_obj.{proofs.read.take_joined.Goals.After-deref, specs.Lines.first_logical, specs.Lines.line_as}
+use Rattle.std.proofs.{Common.ap, Common.arith, Common.length, Common.◌+◌, Common.◌∙◌, Common.◌≡◌}
+use Rattle.{def_io.specs.Lines.lines_of, error_laws.proofs.Errors.handed, std.specs.Prelude.slice_range}
 use Rattle.qm_obj.proofs.read.take_joined.Goals as goal
 
 pub take-requires : goal.take-requires
@@ -15,8 +12,8 @@ take-requires c =
       arith,
       ap length c.deref.ensures.value,
       ap length joined.bytes,
-      joined.size,
-      joined_short (slice_range (lines_of rest.lines.now) rest.first rest.after),
+      joined_short
+          (slice_range (lines_of rest.lines.now) rest.first rest.after),
     )
 
 -- The line that is read is the first logical one.

@@ -1,10 +1,8 @@
-use Rattle.std.proofs.Common.{◌≡◌, ◌+◌, ◌∙◌, sym, ap, length, false}
-use Rattle.std.specs.Prelude.{slice_range}
-use Rattle.error_laws.proofs.Errors.{handed}
-use Rattle.def_io.specs.Lines.{lines_of}
-use Rattle.qm_obj.specs.Lines.{first_logical, line_as}
-use Rattle.qm_obj.proofs.{JoinLemmas.same_refused, JoinLemmas.same_took, JoinLemmas.single_logical, Ranges.single_span}
-use Rattle.qm_obj.proofs.read.take_logical.Goals.{After-goes_on}
+use Rattle.qm_obj.proofs.{JoinLemmas.same_refused, JoinLemmas.single_logical, read.take_logical.Goals.After-goes_on}
+use Rattle.qm_obj.{proofs.JoinLemmas.same_took, proofs.Ranges.single_span, specs.Lines.first_logical}
+use Rattle.std.proofs.Common.{ap, false, length, sym, ◌+◌, ◌∙◌, ◌≡◌}
+use Rattle.{def_io.specs.Lines.lines_of, error_laws.proofs.Errors.handed, std.specs.Prelude.slice_range}
+use Rattle.{qm_obj.specs.Lines.line_as}
 use Rattle.qm_obj.proofs.read.take_logical.Goals as goal
 
 pub returns-clause-next : goal.returns-clause-next

@@ -1,6 +1,5 @@
-use Rattle.std.proofs.Common.{◌≡◌, ◌≤◌, ◌∷◌, ◌+◌, ◌*◌, take}
-use Rattle.arrayvec.specs.ArrayVec.{array_vec_len}
-use Rattle.std.specs.{Prelude.decimal, List.flat_map}
+use Rattle.std.proofs.{Common.take, Common.◌*◌, Common.◌+◌, Common.◌∷◌, Common.◌≡◌, Common.◌≤◌}
+use Rattle.{arrayvec.specs.ArrayVec.array_vec_len, std.specs.List.flat_map, std.specs.Prelude.decimal}
 use Rattle.qm_obj.proofs.row.face_row.Given as goal
 
 abbrev pub invariant-loop-vertex : goal.invariant-loop-vertex

@@ -1,7 +1,5 @@
-use Rattle.std.proofs.Common.{◌≡◌, ◌≤◌, ◌∷◌, ◌+◌, ◌*◌, take}
-use Rattle.arrayvec.specs.ArrayVec.{array_vec_len}
-use Rattle.std.specs.List.{flat_map}
-use Rattle.def_text.specs.Canonical.{micro_text}
+use Rattle.std.proofs.{Common.take, Common.◌*◌, Common.◌+◌, Common.◌∷◌, Common.◌≡◌, Common.◌≤◌}
+use Rattle.{arrayvec.specs.ArrayVec.array_vec_len, def_text.specs.Canonical.micro_text, std.specs.List.flat_map}
 use Rattle.qm_obj.proofs.row.position_row.Given as goal
 
 abbrev pub invariant-loop-number : goal.invariant-loop-number

@@ -1,7 +1,6 @@
-use Rattle.std.proofs.Common.{◌≡◌, ◌+◌, ◌-◌, Err, ap, ◌∙◌, arith}
-use Rattle.std.specs.List.{length_refill}
-use Rattle.error_laws.proofs.Errors.{same_error}
-use Rattle.qm_obj.proofs.InputLemmas.{fed_more, fed_whole, gave_beyond}
+use Rattle.qm_obj.proofs.{InputLemmas.fed_more, InputLemmas.fed_whole, InputLemmas.gave_beyond}
+use Rattle.std.proofs.{Common.Err, Common.ap, Common.arith, Common.◌+◌, Common.◌-◌, Common.◌∙◌, Common.◌≡◌}
+use Rattle.{error_laws.proofs.Errors.same_error, std.specs.List.length_refill}
 use Rattle.qm_obj.proofs.soup.feed_of.Goals as goal
 
 pub returns-in_err-count-clause-too_long : goal.returns-in_err-count-clause-too_long
@@ -12,10 +11,8 @@ returns-in_err-count-clause-too_long g c = λ said.
     (gave_beyond {limit = c.args.limit} {room = c.pieces.room} so_far.fed so_far.short more.0, more.1 ∙ so_far.calm)
 
 pub returns-then-count-eq0-clause-whole : goal.returns-then-count-eq0-clause-whole
-returns-then-count-eq0-clause-whole g c =
-    fed_whole (fed_more c.pieces.invariant.fed c.in_ok-count.ensures.fed)
-    (omega (arith, c.pieces.invariant.short, c.in_ok-count.ensures.fits))
-    (c.in_ok-count.ensures.end c.if-count-eq0.true)
+returns-then-count-eq0-clause-whole g c = fed_whole (fed_more c.pieces.invariant.fed c.in_ok-count.ensures.fed)
+    (omega arith) (c.in_ok-count.ensures.end c.if-count-eq0.true)
 
 pub pieces-preserved : goal.pieces-preserved
 pieces-preserved g c =
@@ -26,11 +23,8 @@ pieces-preserved g c =
     record {
       fed = rw many (fed_more so_far.fed c.in_ok-count.ensures.fed);
       calm = c.in_ok-count.ensures.calm ∙ so_far.calm;
-      short = omega (arith, so_far.short);
-      room = omega (
-        arith,
-        so_far.room,
-        buffer.ok.0,
-        length_refill buffer.len buffer.items c.feed_piece.new.buffer buffer.ok.0,
-      );
+      short = omega arith;
+      room =
+          let g0 = length_refill buffer.len buffer.items c.feed_piece.new.buffer buffer.ok.0 in
+          omega arith;
     }

@@ -1,6 +1,4 @@
-use Rattle.def_text.specs.Input.{IsSoupFail}
-use Rattle.error_laws.proofs.Errors.{handed}
-use Rattle.qm_obj.proofs.InputLemmas.{refused}
+use Rattle.{def_text.specs.Input.IsSoupFail, error_laws.proofs.Errors.handed, qm_obj.proofs.InputLemmas.refused}
 use Rattle.qm_obj.proofs.soup.read_soup.Goals as goal
 
 pub returns-clause-soup : goal.returns-clause-soup

@@ -1,5 +1,4 @@
-use Rattle.std.proofs.Common.{subst}
-use Rattle.def_text.specs.{Canonical.position_text, Types.Position}
+use Rattle.def_text.specs.{Canonical.position_text}
 use Rattle.qm_output.proofs.{Prefixes.of_error, Lists.stops_at_item}
 use Rattle.qm_obj.proofs.text.put_positions.Goals as goal
 
@@ -10,5 +9,4 @@ returns-in_err-put_position-clause-part g c =
     (stops_at_item g.T.Output.takes g.T.Output.stops laws.stops_later laws.stops_before position_text
     c.args.positions.now c.loop-position.position-index
     c.position-item.result _ _ _ c.loop-position-test.true c.loop-position.invariant
-    (subst (λ (p : Position). g.T.Output.stops c.loop-position.out c.put_position.new.out (position_text p))
-    c.position-item.is c.in_err-put_position.ensures.part))
+    (rw (← c.position-item.is) c.in_err-put_position.ensures.part))

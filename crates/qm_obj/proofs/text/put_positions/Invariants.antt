@@ -1,6 +1,4 @@
-use Rattle.std.proofs.Common.{take}
-use Rattle.std.specs.List.{flat_map}
-use Rattle.def_text.specs.Canonical.{position_text}
+use Rattle.{def_text.specs.Canonical.position_text, std.proofs.Common.take, std.specs.List.flat_map}
 use Rattle.qm_obj.proofs.text.put_positions.Given as goal
 
 abbrev pub invariant-loop-position : goal.invariant-loop-position

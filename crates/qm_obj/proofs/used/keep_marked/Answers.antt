@@ -1,8 +1,7 @@
-use Rattle.std.proofs.Common.{◌≡◌, ◌+◌, ◌∷◌, ◌++◌, [], length, get_or, arith, ◌∙◌, ap, below_more}
-use Rattle.std.proofs.lemmas.{Grind.common_steps, List.length_push, List.get_or_push, List.get_or_append_left}
-use Rattle.qm_obj.specs.Kept.{chosen}
-use Rattle.qm_obj.proofs.UsedLemmas.{kept_mark, kept_skip}
-use Rattle.qm_obj.proofs.used.keep_marked.Goals.{then-marks-k+in_ok-keep_position, else-marks-k}
+use Rattle.qm_obj.proofs.used.keep_marked.{Goals.else-marks-k, Goals.then-marks-k+in_ok-keep_position}
+use Rattle.qm_obj.{proofs.UsedLemmas.kept_mark, proofs.UsedLemmas.kept_skip, specs.Kept.chosen}
+use Rattle.std.proofs.Common.{[], ap, arith, below_more, get_or, length, ◌++◌, ◌+◌, ◌∙◌, ◌∷◌, ◌≡◌}
+use Rattle.std.proofs.lemmas.{Grind.common_steps, List.get_or_append_left, List.get_or_push, List.length_push}
 use Rattle.qm_obj.proofs.used.keep_marked.Goals as goal
 
 pub loop-k-preserved : goal.loop-k-preserved
@@ -10,7 +9,7 @@ loop-k-preserved c =
     let pushed : c.push.new.self.items ≡ c.loop-k.vertices.items ++ length c.loop-k.names.items ∷ [] =
     grind (arith, common_steps) in
     let before = c.loop-k.invariant.kept in
-    let count : length c.loop-k.vertices.items ≡ c.loop-k.k = c.loop-k.invariant.count in
+    let count = c.loop-k.invariant.count in
     record {
       kept = elim c.if-marks-k.branch [
         | then-marks-k+in_ok-keep_position w ↦ let kept = w.in_ok-keep_position.ensures in
@@ -21,9 +20,7 @@ loop-k-preserved c =
       count = ap length pushed ∙ length_push c.loop-k.vertices.items (length c.loop-k.names.items)
           ∙ ap (λ n. n + 1) count;
       vertices = rw pushed (below_more (λ j. get_or (c.loop-k.vertices.items ++ length c.loop-k.names.items ∷ []) j 0
-          ≡ length (chosen c.args.marks.now j)) c.loop-k.k
-          (λ j l. get_or_append_left c.loop-k.vertices.items (length c.loop-k.names.items ∷ []) 0 j (omega arith)
-          ∙ c.loop-k.invariant.vertices j l)
-          (get_or_push c.loop-k.vertices.items (length c.loop-k.names.items) 0 c.loop-k.k count
-          ∙ ap length before.names_are));
+          ≡ length (chosen c.args.marks.now j)) c.loop-k.k (λ j l. get_or_append_left c.loop-k.vertices.items
+          (length c.loop-k.names.items ∷ []) 0 j (omega arith) ∙ c.loop-k.invariant.vertices j l) (get_or_push
+          c.loop-k.vertices.items (length c.loop-k.names.items) 0 c.loop-k.k count ∙ ap length before.names_are));
     }

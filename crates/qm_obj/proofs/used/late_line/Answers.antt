@@ -1,5 +1,4 @@
-use Rattle.std.proofs.Common.{◌∙◌, sym}
-use Rattle.qm_obj.proofs.UsedLemmas.{late_more}
+use Rattle.{qm_obj.proofs.UsedLemmas.late_more, std.proofs.Common.sym, std.proofs.Common.◌∙◌}
 use Rattle.qm_obj.proofs.used.late_line.Goals as goal
 
 pub loop-i-preserved : goal.loop-i-preserved

@@ -1,5 +1,4 @@
-use Rattle.std.proofs.Common.{◌≡◌, drop}
-use Rattle.qm_obj.specs.Kept.{first_late}
+use Rattle.{qm_obj.specs.Kept.first_late, std.proofs.Common.drop, std.proofs.Common.◌≡◌}
 use Rattle.qm_obj.proofs.used.late_line.Given as goal
 
 abbrev pub invariant-loop-i : goal.invariant-loop-i

@@ -1,5 +1,4 @@
-use Rattle.std.proofs.Common.{take}
-use Rattle.qm_obj.specs.Kept.{IsMarked}
+use Rattle.{qm_obj.specs.Kept.IsMarked, std.proofs.Common.take}
 use Rattle.qm_obj.proofs.used.used_marks.Given as goal
 
 abbrev pub invariant-loop-face : goal.invariant-loop-face

@@ -1,6 +1,5 @@
-use Rattle.std.proofs.Common.{◌≡◌, true, length, get_or, arith, sym, ◌∙◌}
-use Rattle.std.proofs.lemmas.List.Sums.{position_or_len_is}
-use Rattle.qm_obj.specs.Lines.{is_end}
+use Rattle.std.proofs.Common.{arith, get_or, length, sym, true, ◌∙◌, ◌≡◌}
+use Rattle.{qm_obj.specs.Lines.is_end, std.proofs.lemmas.List.Sums.position_or_len_is}
 use Rattle.qm_obj.proofs.words.word_end.Goals as goal
 
 pub returns-then-ends-clause-exact : goal.returns-then-ends-clause-exact

@@ -1,7 +1,6 @@
-use Rattle.std.proofs.{Common.◌≢◌, lemmas.Result.on_ok_weaker}
-use Rattle.def_text.specs.declared.refusal.ObjFail.TheVariants.{Memory}
-use Rattle.qm_obj.specs.Views.{kept_at}
-use Rattle.qm_obj.proofs.FeedLemmas.{stands_more, stands_refused, stands_still}
+use Rattle.qm_obj.proofs.{FeedLemmas.stands_more, FeedLemmas.stands_refused, FeedLemmas.stands_still}
+use Rattle.{def_text.specs.declared.refusal.ObjFail.TheVariants.Memory, std.proofs.lemmas.Result.on_ok_weaker}
+use Rattle.{qm_obj.specs.Views.kept_at, std.proofs.Common.◌≢◌}
 use Rattle.qm_obj.proofs.feed.ObjFeed.feed.Goals as goal
 
 pub returns-then-is_some : goal.returns-then-is_some

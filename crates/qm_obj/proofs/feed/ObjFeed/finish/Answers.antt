@@ -1,10 +1,8 @@
-use Rattle.std.proofs.lemmas.Result.{IfErr-weaker, IfOk-weaker}
-use Rattle.qm_obj.proofs.FeedLemmas.{stands_end, stands_stopped}
+use Rattle.qm_obj.{proofs.FeedLemmas.stands_end, proofs.FeedLemmas.stands_stopped, specs.Views.kept_at}
+use Rattle.std.proofs.{Common.Err, Common.◌≡◌, Common.◌≢◌, lemmas.Result.IfErr-weaker, lemmas.Result.IfOk-weaker}
+use Rattle.{def_feed.specs.Kept.soup_with, def_text.specs.declared.refusal.ObjFail.TheVariants.Memory}
+use Rattle.{std.proofs.Common.Ok, std.proofs.Common.[]}
 use Rattle.qm_obj.proofs.feed.ObjFeed.finish.Goals as goal
-use Rattle.def_feed.specs.Kept.{soup_with}
-use Rattle.def_text.specs.declared.refusal.ObjFail.TheVariants.{Memory}
-use Rattle.qm_obj.specs.Views.{kept_at}
-use Rattle.std.proofs.Common.{◌≡◌, [], Ok, Err, ◌≢◌}
 
 pub returns-in-Some-clause-refused : goal.returns-in-Some-clause-refused
 returns-in-Some-clause-refused c = λ _. rw (← c.self.view_is) (λ text stands. stands_stopped c.in-Some.is stands)

@@ -1,11 +1,8 @@
-use Rattle.std.proofs.Common.{◌≡◌, ◌++◌, ◌∙◌, arith, []}
-use Rattle.std.specs.List.{before_first}
-use Rattle.error_laws.proofs.Errors.{handed}
-use Rattle.def_text.specs.Logical.{is_hash}
-use Rattle.qm_obj.specs.Views.{kept_of}
 use Rattle.qm_obj.proofs.FeedLemmas.{ended_line, is_nothing, is_something, long_line, number_some, refused_line}
-use Rattle.qm_obj.proofs.{FeedLemmas.sound_of, PrefixLemmas.behind_alone, PrefixLemmas.behind_joined}
-use Rattle.qm_obj.proofs.joiner.Joiner.end.Goals.{After-deref}
+use Rattle.qm_obj.proofs.{PrefixLemmas.behind_alone, PrefixLemmas.behind_joined, joiner.Joiner.end.Goals.After-deref}
+use Rattle.std.proofs.{Common.[], Common.arith, Common.◌++◌, Common.◌∙◌, Common.◌≡◌}
+use Rattle.{def_text.specs.Logical.is_hash, error_laws.proofs.Errors.handed, qm_obj.proofs.FeedLemmas.sound_of}
+use Rattle.{qm_obj.specs.Views.kept_of, std.specs.List.before_first}
 use Rattle.qm_obj.proofs.joiner.Joiner.end.Goals as goal
 
 pub returns-in_err-take-clause-refused : goal.returns-in_err-take-clause-refused
@@ -18,7 +15,7 @@ returns-in_err-take-clause-refused c =
 pub returns-then-is_empty-clause-took : goal.returns-then-is_empty-clause-took
 returns-then-is_empty-clause-took c =
     let self = c.args.self.now in
-    let none : self.joined.items ≡ [] = is_nothing c.if-is_empty.ensures self.joined.ok.0 in
+    let none = is_nothing c.if-is_empty.ensures self.joined.ok.0 in
     ended_line (sound_of self) none (behind_alone (kept_of self []) c.args.line.now c.requires.ends none)
     c.in_ok-take.ensures.kept
 
@@ -27,7 +24,7 @@ returns-then-size-gt-MAX_LINE-clause-refused c = λ _.
     let old = c.args.self.now in
     rw c.too_long.ensures (long_line (sound_of old) c.args.line.now
     (number_some old.joined.items old.next old.begun (is_something _ c.if-is_empty.ensures old.joined.ok.0))
-    (omega (arith, c.len.ensures, old.joined.ok.0, c.if-size-gt-MAX_LINE.true)))
+    (omega arith))
 
 -- The bytes that are read.
 text : (c : After-deref) → c.deref.result.now ≡ c.args.self.now.joined.items ++ before_first is_hash c.args.line.now

@@ -7,9 +7,8 @@ returns-clause-took c =
     held_line (sound_of c.args.self.now) c.requires.more c.number-number.ensures c.in_ok-append_spaced.ensures.grown
 
 pub returns-then-len-line-gt-MAX_LINE-clause-refused : goal.returns-then-len-line-gt-MAX_LINE-clause-refused
-returns-then-len-line-gt-MAX_LINE-clause-refused c = λ _.
-    rw c.too_long.ensures (long_line (sound_of c.args.self.now) c.args.line.now c.number-number.ensures
-    (omega (arith, c.len.ensures, c.args.self.now.joined.ok.0, c.if-len-line-gt-MAX_LINE.true)))
+returns-then-len-line-gt-MAX_LINE-clause-refused c = λ _. rw c.too_long.ensures
+    (long_line (sound_of c.args.self.now) c.args.line.now c.number-number.ensures (omega arith))
 
 pub invariant_of-self : goal.invariant_of-self
 invariant_of-self c =
@@ -20,5 +19,5 @@ pub invariant_of-self-2 : goal.invariant_of-self-2
 invariant_of-self-2 c =
     let self = c.args.self.now in
     let more = joined_more self.joined.items c.args.line.now c.requires.more c.in_ok-append_spaced.ensures.grown
-    self.bare (omega (arith, c.len.ensures, self.joined.ok.0)) in
+    self.bare (omega arith) in
     record { bare = more.0; short = more.1 }

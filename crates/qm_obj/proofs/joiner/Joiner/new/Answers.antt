@@ -1,5 +1,4 @@
-use Rattle.def_text.specs.Logical.{logical_lines}
-use Rattle.qm_obj.proofs.KeptLemmas.{nothing_kept}
+use Rattle.{def_text.specs.Logical.logical_lines, qm_obj.proofs.KeptLemmas.nothing_kept}
 use Rattle.qm_obj.proofs.joiner.Joiner.new.Goals as goal
 
 pub returns-clause-same : goal.returns-clause-same

@@ -1,7 +1,5 @@
-use Rattle.std.proofs.Common.{◌∙◌, []}
-use Rattle.error_laws.proofs.Errors.{handed}
-use Rattle.qm_obj.specs.Views.{kept_of}
 use Rattle.qm_obj.proofs.FeedLemmas.{is_nothing, is_something, last_refused, last_same, nothing_joined, sound_of}
+use Rattle.{error_laws.proofs.Errors.handed, qm_obj.specs.Views.kept_of, std.proofs.Common.[], std.proofs.Common.◌∙◌}
 use Rattle.qm_obj.proofs.joiner.Joiner.read_rest.Goals as goal
 
 pub returns-then-is_empty-clause-same : goal.returns-then-is_empty-clause-same

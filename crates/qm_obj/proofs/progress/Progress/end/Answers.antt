@@ -1,9 +1,8 @@
-use Rattle.std.proofs.Common.{◌∙◌, refl, ap, [], ◌≢◌}
-use Rattle.std.proofs.lemmas.Result.{IfErr-weaker, on_ok_weaker}
-use Rattle.def_io.specs.Lines.{line_of}
 use Rattle.qm_obj.proofs.FeedLemmas.{ended_tail, is_nothing, is_something, sound_at}
-use Rattle.def_text.specs.declared.refusal.ObjFail.TheVariants.{Memory}
-use Rattle.qm_obj.specs.{Feeding.RefusesLine, Feeding.TookLine, Views.kept_of}
+use Rattle.qm_obj.{specs.Feeding.RefusesLine, specs.Feeding.TookLine, specs.Views.kept_of}
+use Rattle.std.proofs.{Common.refl, Common.◌∙◌, Common.◌≢◌, lemmas.Result.IfErr-weaker, lemmas.Result.on_ok_weaker}
+use Rattle.{def_io.specs.Lines.line_of, def_text.specs.declared.refusal.ObjFail.TheVariants.Memory}
+use Rattle.{std.proofs.Common.[], std.proofs.Common.ap}
 use Rattle.qm_obj.proofs.progress.Progress.end.Goals as goal
 
 pub returns-then-is_empty-clause-same : goal.returns-then-is_empty-clause-same

@@ -1,22 +1,19 @@
-use Rattle.std.proofs.Common.{◌≡◌, ◌∷◌, [], ◌≢◌}
-use Rattle.std.proofs.lemmas.Result.{IfErr-weaker, on_ok_weaker}
-use Rattle.error_laws.proofs.Errors.{handed}
-use Rattle.qm_obj.specs.{Views.kept_at, Views.kept_of, Feeding.RefusesLine}
 use Rattle.qm_obj.proofs.FeedLemmas.{both_taken, each_behind, fed_piece, fed_refused, is_nothing, refused_before}
-use Rattle.qm_obj.proofs.FeedLemmas.{sound_at}
-use Rattle.def_text.specs.declared.refusal.ObjFail.TheVariants.{Memory}
+use Rattle.qm_obj.{proofs.FeedLemmas.sound_at, specs.Feeding.RefusesLine, specs.Views.kept_at, specs.Views.kept_of}
+use Rattle.std.proofs.{Common.[], Common.◌∷◌, Common.◌≢◌, lemmas.Result.IfErr-weaker, lemmas.Result.on_ok_weaker}
+use Rattle.{def_text.specs.declared.refusal.ObjFail.TheVariants.Memory, error_laws.proofs.Errors.handed}
 use Rattle.qm_obj.proofs.progress.Progress.end_line.Goals as goal
 
 pub returns-then-is_empty-clause-took : goal.returns-then-is_empty-clause-took
 returns-then-is_empty-clause-took c =
-    let none : c.args.self.now.tail.items ≡ [] = is_nothing c.if-is_empty.ensures c.args.self.now.tail.ok.0 in
+    let none = is_nothing c.if-is_empty.ensures c.args.self.now.tail.ok.0 in
     on_ok_weaker _
     (λ took. fed_piece (sound_at c.args.self.now) _ c.requires.unended (rw none c.line_of.ensures) none took)
     c.take.ensures.took
 
 pub returns-then-is_empty-clause-refused : goal.returns-then-is_empty-clause-refused
 returns-then-is_empty-clause-refused c =
-    let none : c.args.self.now.tail.items ≡ [] = is_nothing c.if-is_empty.ensures c.args.self.now.tail.ok.0 in
+    let none = is_nothing c.if-is_empty.ensures c.args.self.now.tail.ok.0 in
     IfErr-weaker c.take.result _ _
     (λ fail (is : fail ≢ Memory → RefusesLine (kept_of c.args.self.now.joiner []) c.line_of.result.now fail) other.
     fed_refused (sound_at c.args.self.now) c.args.prefix.now c.line_of.result.now fail c.requires.unended

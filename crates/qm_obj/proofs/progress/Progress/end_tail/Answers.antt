@@ -1,10 +1,8 @@
-use Rattle.std.proofs.Common.{◌≡◌, ◌≢◌, ◌++◌, refl, []}
-use Rattle.std.proofs.lemmas.{List.append-nil, Result.IfErr-weaker, Result.on_ok_weaker}
-use Rattle.def_text.specs.declared.refusal.ObjFail.TheVariants.{Memory}
-use Rattle.def_io.specs.Lines.{line_of}
-use Rattle.qm_obj.specs.{Feeding.RefusesLine, Views.kept_of}
-use Rattle.qm_obj.proofs.FeedLemmas.{fed_piece, fed_refused, sound_at}
-use Rattle.qm_obj.proofs.progress.Progress.end_tail.Goals.{After-line_of}
+use Rattle.qm_obj.proofs.{FeedLemmas.fed_piece, FeedLemmas.fed_refused, progress.Progress.end_tail.Goals.After-line_of}
+use Rattle.qm_obj.{proofs.FeedLemmas.sound_at, specs.Feeding.RefusesLine, specs.Views.kept_of}
+use Rattle.std.proofs.{Common.refl, lemmas.List.append-nil, lemmas.Result.IfErr-weaker, lemmas.Result.on_ok_weaker}
+use Rattle.std.{proofs.Common.[], proofs.Common.◌++◌, proofs.Common.◌≡◌, proofs.Common.◌≢◌}
+use Rattle.{def_io.specs.Lines.line_of, def_text.specs.declared.refusal.ObjFail.TheVariants.Memory}
 use Rattle.qm_obj.proofs.progress.Progress.end_tail.Goals as goal
 
 -- The line that ends.

@@ -3,9 +3,8 @@ use Rattle.qm_obj.proofs.FeedLemmas.{kept_piece, long_piece, sound_at, tail_more
 use Rattle.qm_obj.proofs.progress.Progress.keep.Goals as goal
 
 pub returns-then-bytes-held-clause-refused : goal.returns-then-bytes-held-clause-refused
-returns-then-bytes-held-clause-refused c =
-    λ _. rw c.too_long.ensures (long_piece (sound_at c.args.self.now) c.args.bytes.now c.requires.unended
-    c.number.ensures (omega (arith, c.held.ensures, c.if-bytes-held.true)))
+returns-then-bytes-held-clause-refused c = λ _. rw c.too_long.ensures
+    (long_piece (sound_at c.args.self.now) c.args.bytes.now c.requires.unended c.number.ensures (omega arith))
 
 pub returns-clause-took : goal.returns-clause-took
 returns-clause-took c = on_ok_weaker _ (λ grown. kept_piece (sound_at c.args.self.now) c.requires.unended grown)
@@ -16,4 +15,4 @@ invariant_of-self c =
     let self = c.args.self.now in
     let more = tail_more c.append.result self.tail.items c.args.bytes.now _ c.append.ensures.grown
     c.append.ensures.still self.unended c.requires.unended in
-    record { unended = more.0; short = omega (arith, more.1, c.held.ensures, c.if-bytes-held.false, self.short) }
+    record { unended = more.0; short = omega arith }

@@ -1,9 +1,8 @@
-use Rattle.std.proofs.Common.{◌+◌, ◌-◌, length, take, drop, arith}
-use Rattle.std.proofs.lemmas.{List.length-drop, List.length-take, List.take-append-drop, Result.on_ok_weaker}
-use Rattle.error_laws.proofs.Errors.{handed}
-use Rattle.qm_obj.specs.Views.{kept_at}
 use Rattle.qm_obj.proofs.FeedLemmas.{both_taken, each_behind, refused_before, refused_behind}
-use Rattle.qm_obj.proofs.TailLemmas.{prefix_fed, prefix_rest}
+use Rattle.qm_obj.{proofs.TailLemmas.prefix_fed, proofs.TailLemmas.prefix_rest, specs.Views.kept_at}
+use Rattle.std.proofs.lemmas.{List.length-drop, List.length-take, List.take-append-drop, Result.on_ok_weaker}
+use Rattle.std.proofs.{Common.arith, Common.drop, Common.length, Common.take, Common.◌+◌, Common.◌-◌}
+use Rattle.{error_laws.proofs.Errors.handed}
 use Rattle.qm_obj.proofs.progress.Progress.take.Goals as goal
 
 pub loop-end-preserved : goal.loop-end-preserved
@@ -12,13 +11,10 @@ loop-end-preserved c =
     let at = c.loop-end.at in
     let found = c.in-Some.ensures in
     record {
-      within = omega (
-        arith,
-        found.within,
-        c.loop-end.invariant.within,
-        length-take (length piece - at) (drop at piece),
-        length-drop at piece,
-      );
+      within =
+          let g0 = length-take (length piece - at) (drop at piece) in
+          let g1 = length-drop at piece in
+          omega arith;
       took = rw (prefix_fed piece at c.in-Some.end found.more found.within found.feed)
           (both_taken c.loop-end.invariant.took c.in_ok-end_line.ensures.took);
     }

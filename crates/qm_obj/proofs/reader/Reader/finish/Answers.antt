@@ -1,6 +1,5 @@
-use Rattle.std.proofs.Common.{◌≡◌, ◌∙◌, sym, subst, None, ℕ}
-use Rattle.qm_obj.specs.Kept.{first_late}
-use Rattle.qm_obj.proofs.SoupLemmas.{none_late}
+use Rattle.std.{proofs.Common.None, proofs.Common.sym, proofs.Common.◌∙◌, proofs.Common.◌≡◌}
+use Rattle.{qm_obj.proofs.SoupLemmas.none_late, qm_obj.specs.Kept.first_late}
 use Rattle.qm_obj.proofs.reader.Reader.finish.Goals as goal
 
 pub soup_of-requires-clause-known : goal.soup_of-requires-clause-known
@@ -8,5 +7,5 @@ soup_of-requires-clause-known c =
     let calm : first_late c.len.result c.args.self.faces.items c.args.self.lines.items ≡ None =
     rw (← c.deref.ensures.value, ← c.deref-2.ensures.value) (sym c.late_line.ensures ∙ c.in_default.is) in
     none_late _ _ _ c.args.self.fits.sizes c.args.self.fits.positive
-    (subst (λ (n : ℕ). first_late n c.args.self.faces.items c.args.self.lines.items ≡ None) (c.len.ensures
+    (rw (← c.len.ensures
     ∙ c.args.self.positions.ok.0) calm)

@@ -1,7 +1,6 @@
-use Rattle.std.proofs.Common.{◌≡◌, ◌∙◌, sym}
-use Rattle.qm_obj.specs.Lines.{line_as, next_said}
-use Rattle.qm_obj.proofs.KeptLemmas.{fits_face, fits_position}
-use Rattle.qm_obj.proofs.reader.Reader.take.Goals.{After-read_line}
+use Rattle.qm_obj.proofs.{KeptLemmas.fits_face, KeptLemmas.fits_position, reader.Reader.take.Goals.After-read_line}
+use Rattle.{qm_obj.specs.Lines.line_as, qm_obj.specs.Lines.next_said, std.proofs.Common.sym, std.proofs.Common.◌∙◌}
+use Rattle.{std.proofs.Common.◌≡◌}
 use Rattle.qm_obj.proofs.reader.Reader.take.Goals as goal
 
 -- What the line says.
