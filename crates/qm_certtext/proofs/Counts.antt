@@ -1,23 +1,20 @@
 -- Numbers as certificate lines have them.
-use Rattle.std.proofs.Common.{◌≡◌, ◌⊎◌, ◌≤◌, ◌<◌, ◌+◌, ◌-◌, ◌^◌, ◌&&◌, min, ℕ, zero, suc, ℤ, pos, negsuc, Bool, true}
-use Rattle.std.proofs.Common.{false, not, List, [], ◌∷◌, ◌++◌, Option, Some, None, length, take, drop, get_or, map}
-use Rattle.std.proofs.Common.{cond, eqb}
-use Rattle.std.proofs.Common.{ltb, inl, inr, refl, ap, ap₂, sym, ◌∙◌, subst, arith}
-use Rattle.std.proofs.lemmas.Bool.{and_cases, and_from, and_parts, eq-eqb, eqb-false, eqb-true, false≢true, le-leb}
-use Rattle.std.proofs.lemmas.Bool.{lt-ltb, ltb-false, ltb-true, ne_eqb, not-true, not_from_false, and_right, true≢false}
-use Rattle.std.proofs.lemmas.Fmt.{decimal-digits_value, decimal_nonempty, first_decimal}
-use Rattle.std.proofs.lemmas.List.{drop_at, take_at, take-append-drop}
-use Rattle.std.proofs.lemmas.Str.Parse.{numerals_by_fold, IsDigitsTest, IsNumeralModel}
-use Rattle.std.proofs.lemmas.Fmt.{decimal_injective}
-use Rattle.std.specs.{Prelude.decimal, Prelude.unsigned_abs, Char.is_ascii_digit, Fmt.digits}
-use Rattle.std.specs.{Int.Digits.number_from_digits_after, List.list_all, List.position_or_len, Fmt.signed_decimal}
-use Rattle.def_certtext.specs.{Reading.is_small, Reading.may_tell, declared.certs.Rise.Rise}
-use Rattle.def_certtext.specs.declared.certs.Rising.TheVariants.{Rounds}
-use Rattle.def_text.specs.{Digits.is_number, Digits.number_written, Types.Word}
-use Rattle.qm_certtext.proofs.Letters.{rise_low, rise_small}
+use Rattle.def_certtext.specs.{Reading.is_small, declared.certs.Rise.Rise, declared.certs.Rising.TheVariants.Rounds}
+use Rattle.def_text.{specs.Digits.is_number, specs.Digits.number_written, specs.Types.Word}
 use Rattle.qm_dec.proofs.Texts.{decimal_digits, decimal_number, digit_other, digits_fail, first_at}
-use Rattle.qm_dec.proofs.Ratios.{first_passes}
-use Rattle.qm_scan.proofs.Numbers.{digit_small, number_all}
+use Rattle.std.proofs.Common.{Bool, List, None, Option, Some, arith, cond, drop, false, get_or, length, negsuc}
+use Rattle.std.proofs.Common.{ap₂, eqb, inl, inr, ltb, map, min, not, pos, refl, suc, sym, take, true, zero, ◌&&◌, ◌++◌}
+use Rattle.std.proofs.Common.{[], ap, ℕ, ℤ, ◌+◌, ◌-◌, ◌<◌, ◌^◌, ◌∙◌, ◌∷◌, ◌≡◌, ◌≤◌}
+use Rattle.std.proofs.lemmas.Bool.{and_cases, and_parts, and_right, cases_Bool, false≢true, not_from_false, true≢false}
+use Rattle.std.proofs.lemmas.Bool.{and_from, eq-eqb, eqb-false, eqb-true, le-leb, lt-ltb, ltb-false, ltb-true, not-true}
+use Rattle.std.proofs.lemmas.Fmt.{decimal-digits_value, decimal_injective, decimal_nonempty, first_decimal}
+use Rattle.std.proofs.lemmas.Str.{Parse.IsDigitsTest, Parse.IsNumeralModel, Parse.numerals_by_fold}
+use Rattle.std.proofs.lemmas.{Bool.ne_eqb, List.drop_at, List.take-append-drop, List.take_at}
+use Rattle.std.specs.{Int.Digits.number_from_digits_after, List.position_or_len, Prelude.decimal, Prelude.unsigned_abs}
+use Rattle.std.specs.{Char.is_ascii_digit, Fmt.digits, Fmt.signed_decimal, List.list_all}
+use Rattle.{def_certtext.specs.Reading.may_tell, qm_certtext.proofs.Letters.rise_small}
+use Rattle.{qm_certtext.proofs.Letters.rise_low, qm_dec.proofs.Ratios.first_passes, qm_scan.proofs.Numbers.digit_small}
+use Rattle.{qm_scan.proofs.Numbers.number_all}
 
 -- Digits, and the number that they write.
 abbrev AreDigits : (word : Word) → Type 0
@@ -42,28 +39,17 @@ numeral = numerals_by_fold AreDigits digits_test after (record { empty = λ n. r
 pub written : (word : Word) → is_number word ≡ true → (ltb 1 (length word) && eqb (get_or word 0 0) 48) ≡ false
     → number_written word < 2 ^ 64 → word ≡ decimal (number_written word)
 written word is lead small =
-    let parts = and_parts (not (eqb (length word) 0)) (list_all is_ascii_digit word) (sym (number_all word) ∙ is) in
+    let parts = and_parts (not (eqb (length word) 0)) _ (sym (number_all word) ∙ is) in
     let some : 0 < length word = omega (arith, eqb-false (length word) 0 (not-true _ parts.0)) in
-    sym (decimal-digits_value numeral word parts.1 some
-    (λ zero_first. by_lead zero_first (and_cases (ltb 1 (length word)) (eqb (get_or word 0 0) 48) lead)) small)
-  where
-    by_lead : get_or word 0 0 ≡ 48 → (ltb 1 (length word) ≡ false) ⊎ (eqb (get_or word 0 0) 48 ≡ false)
-        → length word ≡ 1
-    by_lead zero_first (inl short) = omega (arith, ltb-false 1 (length word) short, some_of (is_some word is))
-      where
-        is_some : (w : Word) → is_number w ≡ true → 0 < length w
-        is_some [] none = absurd (false≢true none)
-        is_some (b ∷ bs) all = omega arith
-
-        some_of : 0 < length word → 0 < length word
-        some_of l = l
-    by_lead zero_first (inr other) = absurd (true≢false (sym (eq-eqb _ 48 zero_first) ∙ other))
+    sym (decimal-digits_value numeral word parts.1 some (λ zero_first.
+    elim (and_cases (ltb 1 (length word)) (eqb (get_or word 0 0) 48) lead) [
+      | inl short ↦ omega (arith, ltb-false 1 (length word) short)
+      | inr other ↦ absurd (true≢false (sym (eq-eqb _ 48 zero_first) ∙ other))
+    ]) small)
 
 -- A printed number is a number, without a leading zero.
 pub decimal_is_number : (n : ℕ) → n < 2 ^ 64 → is_number (decimal n) ≡ true
-decimal_is_number n low =
-    number_all (decimal n)
-    ∙ and_from _ _ (not_from_false (eqb (length (decimal n)) 0)
+decimal_is_number n low = number_all (decimal n) ∙ and_from _ _ (not_from_false (eqb (length (decimal n)) 0)
     (ne_eqb _ _ (λ e. absurd (omega (arith, decimal_nonempty n low))))) (decimal_digits n low)
 
 pub no_lead : (n : ℕ) → n < 2 ^ 64 → (ltb 1 (length (decimal n)) && eqb (get_or (decimal n) 0 0) 48) ≡ false
@@ -84,29 +70,25 @@ no_count word greatest n o few low is read =
 pub count_read : (word : Word) (greatest n : ℕ) → greatest < 10 ^ 18 → n ≤ greatest
     → (ltb 1 (length word) && eqb (get_or word 0 0) 48) ≡ false
     → Some n ≡ cond (is_number word) (Some (min (number_written word) (2 ^ 64 - 1))) None → word ≡ decimal n
-count_read word greatest n few low lead read = by_form (is_number word) refl read
-  where
-    by_form : (t : Bool) → is_number word ≡ t → Some n ≡ cond t (Some (min (number_written word) (2 ^ 64 - 1))) None
-        → word ≡ decimal n
-    by_form true is same =
-        let value : n ≡ min (number_written word) (2 ^ 64 - 1) = cc in
-        let whole : number_written word ≡ n = omega arith in
-        written word is lead (omega arith) ∙ ap decimal whole
-    by_form false isnt same = absurd cc
+count_read word greatest n few low lead read = elim (cases_Bool (is_number word)) [
+  | inl is ↦
+      let value : n ≡ min (number_written word) (2 ^ 64 - 1) = cc (rw is at read) in
+      let whole : number_written word ≡ n = omega arith in
+      written word is lead (omega arith) ∙ ap decimal whole
+  | inr isnt ↦ cc (rw isnt at read)
+]
 
 -- And nowhere else.
 pub count_other : (word : Word) (greatest m n : ℕ) → greatest < 10 ^ 18 → greatest < m → n ≤ greatest → word ≡ decimal n
     → Some m ≡ cond (is_number word) (Some (min (number_written word) (2 ^ 64 - 1))) None → ⊥
 count_other word greatest m n few high low is read =
-    let same : Some m ≡ Some n = no_count word greatest n (Some m) few low is read in
+    let same = no_count word greatest n (Some m) few low is read in
     let equal : m ≡ n = cc in
     omega arith
 
 pub count_none : (word : Word) (greatest n : ℕ) → greatest < 10 ^ 18 → n ≤ greatest → word ≡ decimal n
     → None ≡ cond (is_number word) (Some (min (number_written word) (2 ^ 64 - 1))) None → ⊥
-count_none word greatest n few low is read =
-    let same : None ≡ Some n = no_count word greatest n None few low is read in
-    cc
+count_none word greatest n few low is read = cc (no_count word greatest n None few low is read)
 
 pub count_lead : (word : Word) (greatest n : ℕ) → greatest < 10 ^ 18 → n ≤ greatest
     → (ltb 1 (length word) && eqb (get_or word 0 0) 48) ≡ true → word ≡ decimal n → ⊥
@@ -116,9 +98,8 @@ count_lead word greatest n few low lead is =
 -- A number with a minus is below 0.
 no_minus : (n : ℕ) (digits : Word) → n < 2 ^ 64 → 45 ∷ digits ≡ decimal n → ⊥
 no_minus n digits low is =
-    let minus : is_ascii_digit 45 ≡ true =
-    (and_parts (is_ascii_digit 45) (list_all is_ascii_digit digits) (ap (list_all is_ascii_digit) is
-    ∙ decimal_digits n low)).0 in
+    let minus : is_ascii_digit 45 ≡ true = (and_parts (is_ascii_digit 45) (list_all is_ascii_digit digits)
+    (ap (list_all is_ascii_digit) is ∙ decimal_digits n low)).0 in
     false≢true minus
 
 pub negative_form : (z : ℤ) (digits : Word) → unsigned_abs z < 10 ^ 18 → 45 ∷ digits ≡ signed_decimal z
@@ -131,15 +112,14 @@ pub not_negative : (z : ℤ) (digits : Word) (n : ℕ) → unsigned_abs z < 10 ^
     → 45 ∷ digits ≡ signed_decimal z → ⊥
 not_negative z digits n low none is same =
     let form = negative_form z digits low same in
-    let equal : n ≡ suc form.0 = decimal_injective n (suc form.0) (omega arith) (omega (arith, form.3)) (sym is
-    ∙ form.2) in
+    let equal : n ≡ suc form.0 = decimal_injective n (suc form.0) (omega arith) (omega arith) (sym is ∙ form.2) in
     omega arith
 
 pub none_negative : (z : ℤ) (digits : Word) → ((n : ℕ) → n ≤ 10 ^ 18 - 1 → digits ≡ decimal n → ⊥)
     → unsigned_abs z < 10 ^ 18 → 45 ∷ digits ≡ signed_decimal z → ⊥
 none_negative z digits none low same =
     let form = negative_form z digits low same in
-    none (suc form.0) (omega (arith, form.3)) form.2
+    none (suc form.0) (omega arith) form.2
 
 -- A number has no space, and the first space stands behind it.
 abbrev no_space : (word : Word) → Bool
@@ -151,9 +131,8 @@ signed_bare (pos n) low = digits_fail (λ b. eqb b 32) (digit_other 32 (omega ar
 signed_bare (negsuc k) low = digits_fail (λ b. eqb b 32) (digit_other 32 (omega arith)) (decimal (suc k))
     (decimal_digits (suc k) (omega arith))
 
-pub place_of_space : (text : Word) (z : ℤ) (up : ℕ) → unsigned_abs z < 10 ^ 18
-    → text ≡ signed_decimal z ++ 32 ∷ decimal up
-    → position_or_len (λ b. eqb b 32) text ≡ length (signed_decimal z)
+pub place_of_space : (text : Word) (z : ℤ) (up : ℕ) → unsigned_abs z < 10 ^ 18 → text
+    ≡ signed_decimal z ++ 32 ∷ decimal up → position_or_len (λ b. eqb b 32) text ≡ length (signed_decimal z)
 place_of_space text z up low is = ap (position_or_len (λ b. eqb b 32)) is ∙ first_at (λ b. eqb b 32) (signed_decimal z)
     32 (decimal up) (signed_bare z low) refl
 
@@ -162,8 +141,8 @@ small_parts z up is =
     let parts = and_parts (ltb (unsigned_abs z) (10 ^ 18)) (ltb up (2 ^ 32)) is in
     (ltb-true _ _ parts.0, ltb-true _ _ parts.1)
 
-module _ (text prefix behind : Word) (i : ℕ) (place : i ≡ position_or_len (λ b. eqb b 32) text) (before : prefix
-    ≡ take i text) (back : behind ≡ drop i text) where
+module _ {text prefix behind : Word} {i : ℕ} (place : i ≡ position_or_len (λ b. eqb b 32) text)
+    (before : prefix ≡ take i text) (back : behind ≡ drop i text) where
   parts_are : (z : ℤ) (up : ℕ) → unsigned_abs z < 10 ^ 18 → text ≡ signed_decimal z ++ 32 ∷ decimal up
       → (prefix ≡ signed_decimal z) × (behind ≡ 32 ∷ decimal up)
   parts_are z up low is =
@@ -174,15 +153,14 @@ module _ (text prefix behind : Word) (i : ℕ) (place : i ≡ position_or_len (�
 
   pub no_behind : length behind ≡ 0 → (z : ℤ) (up : ℕ) → is_small z up ≡ true
       → text ≡ signed_decimal z ++ 32 ∷ decimal up → ⊥
-  no_behind none z up small is = omega (arith, none, ap length (parts_are z up (small_parts z up small).0 is).1)
+  no_behind none z up small is = omega (arith, ap length (parts_are z up (small_parts z up small).0 is).1)
 
   pub no_number : ((z : ℤ) → unsigned_abs z < 10 ^ 18 → prefix ≡ signed_decimal z → ⊥) → (z : ℤ) (up : ℕ)
       → is_small z up ≡ true → text ≡ signed_decimal z ++ 32 ∷ decimal up → ⊥
   no_number none z up small is = none z (small_parts z up small).0 (parts_are z up (small_parts z up small).0 is).0
 
   pub no_up : (rest : Word) → rest ≡ drop 1 behind → ((n : ℕ) → n ≤ 2 ^ 32 - 1 → rest ≡ decimal n → ⊥)
-      → (z : ℤ) (up : ℕ) → is_small z up ≡ true
-      → text ≡ signed_decimal z ++ 32 ∷ decimal up → ⊥
+      → (z : ℤ) (up : ℕ) → is_small z up ≡ true → text ≡ signed_decimal z ++ 32 ∷ decimal up → ⊥
   no_up rest is none z up small same = none up (omega (arith, (small_parts z up small).1))
       (is ∙ ap (drop 1) (parts_are z up (small_parts z up small).0 same).1)
 
@@ -197,13 +175,12 @@ module _ (text prefix behind : Word) (i : ℕ) (place : i ≡ position_or_len (�
     where
       first_space : (x : ℕ) (xs : Word) → x ∷ xs ≡ drop (position_or_len (λ b. eqb b 32) text) text → eqb x 32 ≡ true
       first_space x xs same = ap (λ (w : Word). eqb (get_or w 0 0) 32) same ∙ first_passes (λ b. eqb b 32) text
-          (subst (λ (w : Word). 0 < length w) same (omega arith))
+          (rw (← same) (omega arith))
 
       by_behind : (b : Word) → behind ≡ b → 0 < length b → b ≡ 32 ∷ drop 1 b
       by_behind [] same none = absurd (omega arith)
-      by_behind (x ∷ xs) same more =
-          ap (λ (y : ℕ). y ∷ xs) (eqb-true x 32
-          (first_space x xs (sym same ∙ back ∙ ap (λ (k : ℕ). drop k text) place)))
+      by_behind (x ∷ xs) same more = ap (λ (y : ℕ). y ∷ xs)
+          (eqb-true x 32 (first_space x xs (sym same ∙ back ∙ ap (λ (k : ℕ). drop k text) place)))
 
       begins : behind ≡ 32 ∷ drop 1 behind
       begins = by_behind behind refl some
@@ -212,13 +189,12 @@ module _ (text prefix behind : Word) (i : ℕ) (place : i ≡ position_or_len (�
   pub rise_parts : (rise : Rise) → may_tell Rounds rise ≡ true
       → text ≡ decimal (rise.arc + 1) ++ 32 ∷ decimal rise.floor
       → (prefix ≡ decimal (rise.arc + 1)) × (behind ≡ 32 ∷ decimal rise.floor)
-  rise_parts rise may is =
-      parts_are (pos (rise.arc + 1)) rise.floor
+  rise_parts rise may is = parts_are (pos (rise.arc + 1)) rise.floor
       (small_parts (pos (rise.arc + 1)) rise.floor (rise_small Rounds rise may)).0 is
 
   pub rise_no_behind : length behind ≡ 0 → (rise : Rise) → may_tell Rounds rise ≡ true
       → text ≡ decimal (rise.arc + 1) ++ 32 ∷ decimal rise.floor → ⊥
-  rise_no_behind none rise may is = omega (arith, none, ap length (rise_parts rise may is).1)
+  rise_no_behind none rise may is = omega (arith, ap length (rise_parts rise may is).1)
 
   pub rise_no_floor : (rest : Word) → rest ≡ drop 1 behind → ((n : ℕ) → n ≤ 3 → rest ≡ decimal n → ⊥) → (rise : Rise)
       → may_tell Rounds rise ≡ true → text ≡ decimal (rise.arc + 1) ++ 32 ∷ decimal rise.floor → ⊥
@@ -233,19 +209,19 @@ module _ (text prefix behind : Word) (i : ℕ) (place : i ≡ position_or_len (�
   pub rise_not_zero : (n : ℕ) → n ≡ 0 → prefix ≡ decimal n → (rise : Rise) → may_tell Rounds rise ≡ true
       → text ≡ decimal (rise.arc + 1) ++ 32 ∷ decimal rise.floor → ⊥
   rise_not_zero n none is rise may same =
-      let equal : n ≡ rise.arc + 1 = decimal_injective n (rise.arc + 1) (omega (arith, none))
+      let equal : n ≡ rise.arc + 1 = decimal_injective n (rise.arc + 1) (omega arith)
       (omega (arith, (rise_low Rounds rise may).0)) (sym is ∙ (rise_parts rise may same).0) in
-      omega (arith, none, equal)
+      omega arith
 
   pub rise_read : (rest : Word) (number floor : ℕ) → 0 < length behind → rest ≡ drop 1 behind → 0 < number
       → number ≤ 2 ^ 32 → prefix ≡ decimal number → floor ≤ 3 → rest ≡ decimal floor
       → (may_tell Rounds (record { arc = number - 1; floor = floor }) ≡ true)
       × (text ≡ decimal (number - 1 + 1) ++ 32 ∷ decimal floor)
   rise_read rest number floor some is low high number_is least floor_is =
-      let same : number - 1 + 1 ≡ number = omega (arith, low) in
-      let read = both_read rest (pos number) floor some is (omega (arith, high)) number_is (omega (arith, least))
+      let same : number - 1 + 1 ≡ number = omega arith in
+      let read = both_read rest (pos number) floor some is (omega arith) number_is (omega arith)
       floor_is in (
-        and_from _ _ (lt-ltb (number - 1) (2 ^ 32) (omega (arith, low, high))) (le-leb floor 3 least),
+        and_from _ _ (lt-ltb (number - 1) (2 ^ 32) (omega arith)) (le-leb floor 3 least),
         read.1 ∙ ap (λ (n : ℕ). decimal n ++ 32 ∷ decimal floor) (sym same),
       )
 
@@ -258,8 +234,8 @@ pub split_once : (text : Word) (y z : ℤ) (u v : ℕ) → unsigned_abs y < 10 ^
     → text ≡ signed_decimal y ++ 32 ∷ decimal u
     → text ≡ signed_decimal z ++ 32 ∷ decimal v → (signed_decimal y ≡ signed_decimal z) × (decimal u ≡ decimal v)
 split_once text y z u v low_y low_z one two =
-    let first = parts_are text (take (length (signed_decimal y)) text) (drop (length (signed_decimal y)) text)
-    (length (signed_decimal y)) (sym (place_of_space text y u low_y one)) refl refl in
+    let first = parts_are {text = text} {i = length (signed_decimal y)} (sym (place_of_space text y u low_y one)) refl
+    refl in
     let by_y = first y u low_y one in
     let by_z = first z v low_z two in
     (sym by_y.0 ∙ by_z.0, ap (drop 1) (sym by_y.1 ∙ by_z.1))

@@ -1,18 +1,14 @@
 -- A head line is cut into its words in one way.
-use Rattle.std.proofs.Common.{◌≡◌, ◌+◌, not, ℕ, suc, Bool, true, false, [], ◌∷◌, ◌++◌, Option, Some, None, MatchOption}
-use Rattle.std.proofs.Common.{codes, length, take, drop, get_or, eqb, inl, inr, refl, ap, ap₂, sym, ◌∙◌, arith}
-use Rattle.std.proofs.Common.{append_assoc}
-use Rattle.std.proofs.lemmas.Bool.{and_from, cases_Bool, true≢false}
-use Rattle.std.proofs.lemmas.List.{append_cancel_left, drop_at, take_at, take-append-drop}
-use Rattle.std.proofs.lemmas.List.Folds.{list_all-append}
-use Rattle.std.proofs.lemmas.Slice.Eq.{bytes_eq-Decides}
-use Rattle.std.specs.{Prelude.decimal, Char.is_ascii_digit, List.list_all, List.position_or_len, Str.bytes_eq}
-use Rattle.def_certtext.specs.{Reading.IsHead, Settings.floor_text, Settings.scale_text, Settings.weight_text}
-use Rattle.def_certtext.specs.{Settings.AreInRange, Settings.AreWordsOf, Settings.IsFloor, declared.Asked.Asked}
-use Rattle.def_flow.specs.declared.net.Settings.{Settings}
-use Rattle.def_text.specs.Types.{Word}
-use Rattle.qm_certtext.specs.Cuts.{asked_line, is_bare, IsCut}
-use Rattle.qm_dec.proofs.Texts.{decimal_digits, digit_other, digits_fail, first_at}
+use Rattle.def_certtext.specs.Settings.{AreInRange, AreWordsOf, IsFloor, floor_text, scale_text, weight_text}
+use Rattle.qm_certtext.{specs.Cuts.IsCut, specs.Cuts.asked_line, specs.Cuts.is_bare}
+use Rattle.qm_dec.proofs.{Texts.decimal_digits, Texts.digit_other, Texts.digits_fail, Texts.first_at}
+use Rattle.std.proofs.Common.{Bool, MatchOption, None, Option, Some, append_assoc, arith, codes, false, get_or, length}
+use Rattle.std.proofs.Common.{[], ap₂, drop, eqb, inl, inr, not, refl, suc, sym, take, true, ◌++◌, ◌+◌, ◌∙◌, ◌∷◌, ◌≡◌}
+use Rattle.std.proofs.lemmas.List.{Folds.list_all-append, append_cancel_left, drop_at, take-append-drop, take_at}
+use Rattle.std.proofs.lemmas.{Bool.and_from, Bool.cases_Bool, Bool.true≢false, Slice.Eq.bytes_eq-Decides}
+use Rattle.std.specs.{Char.is_ascii_digit, List.list_all, List.position_or_len, Prelude.decimal, Str.bytes_eq}
+use Rattle.{def_certtext.specs.declared.Asked.Asked, def_flow.specs.declared.net.Settings.Settings, std.proofs.Common.ℕ}
+use Rattle.{def_certtext.specs.Reading.IsHead, def_text.specs.Types.Word, std.proofs.Common.ap}
 
 -- A text with and without this prefix.
 pub stripped : (prefix text rest : Word) → bytes_eq (take (length prefix) text) prefix ≡ true
@@ -22,17 +18,14 @@ stripped prefix text rest is behind = sym (take-append-drop (length prefix) text
 
 pub not_stripped : (prefix text rest : Word) → bytes_eq (take (length prefix) text) prefix ≡ false
     → text ≡ prefix ++ rest → ⊥
-not_stripped prefix text rest other is =
-    true≢false (sym ((bytes_eq-Decides (take (length prefix) text) prefix).1 (ap (take (length prefix)) is
-    ∙ take_at prefix rest (length prefix) refl)) ∙ other)
+not_stripped prefix text rest other is = true≢false (sym ((bytes_eq-Decides (take (length prefix) text) prefix).1
+    (ap (take (length prefix)) is ∙ take_at prefix rest (length prefix) refl)) ∙ other)
 
 -- What stands before the first space has none.
 prefix_bare : (text : Word) → is_bare (take (position_or_len (λ b. eqb b 32) text) text) ≡ true
 prefix_bare [] = refl
-prefix_bare (x ∷ xs) = elim (cases_Bool (eqb x 32)) [
-  | inl is ↦ rw is refl
-  | inr other ↦ rw other (step (prefix_bare xs) other)
-]
+prefix_bare (x ∷ xs) =
+    elim (cases_Bool (eqb x 32)) [ inl is ↦ rw is refl | inr other ↦ rw other (step (prefix_bare xs) other) ]
   where
     step : is_bare (take (position_or_len (λ b. eqb b 32) xs) xs) ≡ true → eqb x 32 ≡ false
         → is_bare (take (1 + position_or_len (λ b. eqb b 32) xs) (x ∷ xs)) ≡ true
@@ -57,9 +50,8 @@ place_of word mark rest bare begins =
     ap (λ (m : Word). position_or_len (λ b. eqb b 32) (word ++ (m ++ rest))) form.1
     ∙ first_at (λ b. eqb b 32) word 32 (form.0 ++ rest) bare refl
 
-pub behind_is : (text word mark rest behind : Word) (i : ℕ) → is_bare word ≡ true → get_or mark 0 0 ≡ 32
-    → text ≡ word ++ (mark ++ rest)
-    → i ≡ position_or_len (λ b. eqb b 32) text → behind ≡ drop i text → behind ≡ mark ++ rest
+pub behind_is : (text word mark rest behind : Word) (i : ℕ) → is_bare word ≡ true → get_or mark 0 0 ≡ 32 → text
+    ≡ word ++ (mark ++ rest) → i ≡ position_or_len (λ b. eqb b 32) text → behind ≡ drop i text → behind ≡ mark ++ rest
 behind_is text word mark rest behind i bare begins is place back =
     let at : i ≡ length word = place ∙ ap (position_or_len (λ b. eqb b 32)) is ∙ place_of word mark rest bare begins in
     back ∙ ap₂ (λ (k : ℕ) (t : Word). drop k t) at is ∙ drop_at word (mark ++ rest) (length word) refl
@@ -68,8 +60,7 @@ behind_is text word mark rest behind i bare begins is place back =
 pub one_word : (a b x y mark : Word) → is_bare a ≡ true → is_bare b ≡ true → get_or mark 0 0 ≡ 32
     → a ++ (mark ++ x) ≡ b ++ (mark ++ y) → (a ≡ b) × (x ≡ y)
 one_word a b x y mark bare_a bare_b begins same =
-    let long : length a ≡ length b =
-    sym (place_of a mark x bare_a begins) ∙ ap (position_or_len (λ c. eqb c 32)) same
+    let long : length a ≡ length b = sym (place_of a mark x bare_a begins) ∙ ap (position_or_len (λ c. eqb c 32)) same
     ∙ place_of b mark y bare_b begins in
     let prefix : a ≡ b = sym (take_at a (mark ++ x) (length a) refl) ∙ ap (take (length a)) same
     ∙ take_at b (mark ++ y) (length a) (sym long) in
@@ -85,18 +76,17 @@ weight_mark = codes " weight "
 
 -- What stands behind the prefix of a head line.
 behind_prefix : (prefix line rest scale floor weight : Word) → line ≡ prefix ++ rest
-    → IsCut prefix line scale floor weight
-    → rest ≡ scale ++ (floor_mark ++ (floor ++ (weight_mark ++ weight)))
+    → IsCut prefix line scale floor weight → rest ≡ scale ++ (floor_mark ++ (floor ++ (weight_mark ++ weight)))
 behind_prefix prefix line rest scale floor weight is cut = append_cancel_left prefix _ _ (sym is ∙ cut.written)
 
 -- A line has one cut.
 one_cut : (prefix line a b c d e f : Word) → IsCut prefix line a b c → IsCut prefix line d e f → (a ≡ d) × (b ≡ e)
     × (c ≡ f)
 one_cut prefix line a b c d e f one two =
-    let scales : (a ≡ d) × (b ++ (weight_mark ++ c) ≡ e ++ (weight_mark ++ f)) =
-    one_word a d (b ++ (weight_mark ++ c)) (e ++ (weight_mark ++ f)) floor_mark one.scale_bare two.scale_bare refl
+    let scales = one_word a d (b ++ (weight_mark ++ c)) (e ++ (weight_mark ++ f)) floor_mark one.scale_bare
+    two.scale_bare refl
     (behind_prefix prefix line (a ++ (floor_mark ++ (b ++ (weight_mark ++ c)))) d e f one.written two) in
-    let floors : (b ≡ e) × (c ≡ f) = one_word b e c f weight_mark one.floor_bare two.floor_bare refl scales.1 in
+    let floors = one_word b e c f weight_mark one.floor_bare two.floor_bare refl scales.1 in
     (scales.0, floors.0, floors.1)
 
 -- The words of settings have no space.
@@ -104,14 +94,13 @@ digits_bare : (digits : Word) → list_all is_ascii_digit digits ≡ true → is
 digits_bare digits all = digits_fail (λ b. eqb b 32) (digit_other 32 (omega arith)) digits all
 
 scale_bare : (settings : Settings) (auto : Bool) → AreInRange settings auto → is_bare (scale_text settings) ≡ true
-scale_bare settings auto range =
-    list_all-append (λ b. not (eqb b 32)) (decimal settings.p) (47 ∷ decimal settings.q)
-    ∙ and_from _ _ (digits_bare (decimal settings.p) (decimal_digits settings.p (omega (arith, range.p_high))))
-    (digits_bare (decimal settings.q) (decimal_digits settings.q (omega (arith, range.q_high))))
+scale_bare settings auto range = list_all-append (λ b. not (eqb b 32)) (decimal settings.p) (47 ∷ decimal settings.q)
+    ∙ and_from _ _ (digits_bare (decimal settings.p) (decimal_digits settings.p (omega arith)))
+    (digits_bare (decimal settings.q) (decimal_digits settings.q (omega arith)))
 
 floor_bare : (floor : ℕ) (auto : Bool) → IsFloor floor auto → is_bare (floor_text floor auto) ≡ true
 floor_bare floor true may = refl
-floor_bare floor false may = digits_bare (decimal floor) (decimal_digits floor (omega (arith, may.high)))
+floor_bare floor false may = digits_bare (decimal floor) (decimal_digits floor (omega arith))
 
 -- The parts of a head line, from the right.
 nested : (a b c d e f : Word) → a ++ b ++ c ++ d ++ e ++ f ≡ a ++ (b ++ (c ++ (d ++ (e ++ f))))
@@ -139,11 +128,9 @@ asked_words prefix line scale floor weight settings auto cut range is =
 words_asked : (prefix line scale floor weight : Word) (settings : Settings) (auto : Bool)
     → IsCut prefix line scale floor weight
     → AreWordsOf scale floor weight settings auto → line ≡ asked_line prefix settings auto
-words_asked prefix line scale floor weight settings auto cut words =
-    cut.written ∙ (λ i. prefix
-    ++ (words.scaled i ++ (floor_mark ++ (words.bounded i ++ (weight_mark ++ words.weighed i)))))
-    ∙ sym (nested prefix (scale_text settings) floor_mark (floor_text settings.floor auto) weight_mark
-    (weight_text settings.weight))
+words_asked prefix line scale floor weight settings auto cut words = cut.written ∙ (λ i. prefix
+    ++ (words.scaled i ++ (floor_mark ++ (words.bounded i ++ (weight_mark ++ words.weighed i))))) ∙ sym (nested prefix
+    (scale_text settings) floor_mark (floor_text settings.floor auto) weight_mark (weight_text settings.weight))
 
 -- Where the line was cut so far, it is cut whole, or it has no cut.
 pub cut_of : (prefix line rest scale more floor weight : Word) → line ≡ prefix ++ rest → is_bare scale ≡ true

@@ -1,18 +1,13 @@
 -- Rounds in the making: one rise more, the end of a round, and one line of the next.
-use Rattle.std.proofs.Common.{◌≡◌, ◌<◌, false, List, [], ◌∷◌, ◌++◌, length, map}
-use Rattle.std.proofs.Common.{refl, ap, ap₂, sym, ◌∙◌, subst, append_assoc, append-nil}
-use Rattle.std.proofs.lemmas.Bool.{or_from}
-use Rattle.def_certtext.specs.CertLines.{alone, lists_of, risen, risen_by}
-use Rattle.def_certtext.specs.{CertLines.Lists, Reading.certificates_by, Reading.certificates_in, Reading.lists_in}
-use Rattle.def_certtext.specs.{Rounds.parts_of, declared.CertLine.CertLine, declared.CertLine.TheVariants.Length}
-use Rattle.def_certtext.specs.declared.CertLine.TheVariants.{Vertex, Set}
-use Rattle.def_certtext.specs.{declared.CertLine.TheVariants.Floor, declared.CertLine.TheVariants.Rise as rise_line}
-use Rattle.def_certtext.specs.{declared.certs.Rise.Rise, declared.certs.Rising.TheVariants.Rounds}
-use Rattle.def_certtext.specs.declared.certs.Round.{Round}
-use Rattle.qm_certtext.specs.Parts.{is_rise, lists_in_parts, EndsRound, HoldRounds, Holds}
-use Rattle.qm_certtext.specs.{Parts.TakesLine, declared.parts.Found.Found, declared.parts.Parts.Parts}
-use Rattle.qm_certtext.proofs.Holding.{any_append, holds_more, Adds}
-use Rattle.qm_certtext.proofs.Rounds.{last_alone, risen_more, round_first}
+use Rattle.def_certtext.specs.CertLines.{Lists, alone, lists_of, risen, risen_by}
+use Rattle.def_certtext.specs.declared.{CertLine.TheVariants.Rise as rise_line, certs.Rising.TheVariants.Rounds}
+use Rattle.def_certtext.specs.{declared.CertLine.CertLine, declared.certs.Rise.Rise, declared.certs.Round.Round}
+use Rattle.def_certtext.specs.{Reading.certificates_by, Reading.certificates_in, Reading.lists_in, Rounds.parts_of}
+use Rattle.qm_certtext.proofs.{Holding.holds_more, Rounds.last_alone, Rounds.risen_more, Rounds.round_first}
+use Rattle.qm_certtext.specs.Parts.{EndsRound, HoldRounds, Holds, TakesLine, is_rise, lists_in_parts}
+use Rattle.qm_certtext.{proofs.Holding.Adds, specs.declared.parts.Found.Found, specs.declared.parts.Parts.Parts}
+use Rattle.std.proofs.Common.{List, append-nil, append_assoc, ap₂, false, length, map, refl, sym, ◌++◌, ◌<◌, ◌∙◌, ◌∷◌}
+use Rattle.std.proofs.{Common.[], Common.ap, Common.◌≡◌, lemmas.Bool.or_from, lemmas.List.Folds.list_any-append}
 
 -- One rise more.
 pub takes_rise : (old new : Found) (rise : Rise) → new.rounds.items ≡ old.rounds.items → new.last ≡ old.last
@@ -20,7 +15,7 @@ pub takes_rise : (old new : Found) (rise : Rise) → new.rounds.items ≡ old.ro
 takes_rise old new rise rounds last rises said hold = record {
   lines = hold.lines;
   plain = hold.plain;
-  holds = subst (λ (p : Parts). Holds p hold.lines) (sym last) hold.holds;
+  holds = rw last hold.holds;
   same = λ more.
       let behind : map rise_line new.rises.items ++ more ≡ map rise_line old.rises.items ++ (rise_line rise ∷ more) =
       ap (λ (rs : List Rise). map rise_line rs ++ more) rises ∙ one_more old.rises.items more in
@@ -42,8 +37,7 @@ ends_none found none said hold = record {
   plain = hold.plain;
   holds = hold.holds;
   none = none;
-  same = λ more plain. hold.same more
-      ∙ ap (λ (rs : List Rise). risen_by found.rounds.items
+  same = λ more plain. hold.same more ∙ ap (λ (rs : List Rise). risen_by found.rounds.items
       (certificates_by (parts_of (hold.lines ++ (map rise_line rs ++ more))))) none;
 }
 
@@ -76,11 +70,8 @@ ends_some old new round some rounds none empty cert rises said hold = record {
 
 -- A line that is none of a rise raises no floor.
 pub no_rise_line : (line : CertLine) → ((rise : Rise) → line ≡ rise_line rise → ⊥) → is_rise line ≡ false
-no_rise_line (Length n) other = refl
-no_rise_line (Vertex z u) other = refl
-no_rise_line (Set z u) other = refl
-no_rise_line (Floor f) other = refl
 no_rise_line (rise_line r) other = absurd (other r refl)
+no_rise_line _ other = refl
 
 -- One line of the last certificate more.
 pub takes_plain : (old ended new : Found) (line : CertLine) → is_rise line ≡ false → EndsRound old ended
@@ -90,7 +81,7 @@ takes_plain old ended new line plain ends rounds rises adds said hold =
     let end = ends said hold in
     record {
       lines = end.lines ++ line ∷ [];
-      plain = any_append is_rise end.lines (line ∷ []) ∙ or_from _ _ end.plain (or_from _ _ plain refl);
+      plain = list_any-append is_rise end.lines (line ∷ []) ∙ or_from _ _ end.plain (or_from _ _ plain refl);
       holds = holds_more ended.last new.last end.lines line adds end.holds;
       same = λ more.
           let behind : (end.lines ++ line ∷ []) ++ (map rise_line new.rises.items ++ more) ≡ end.lines ++ (line ∷ more)

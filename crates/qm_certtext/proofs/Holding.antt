@@ -1,16 +1,13 @@
 -- The lists of one line more, and those before and behind the first `#f 3`.
-use Rattle.std.proofs.Common.{◌≡◌, ◌+◌, ◌||◌, not, ℕ, suc, Bool, true, false, List, [], ◌∷◌, ◌++◌, Option, Some, None}
-use Rattle.std.proofs.Common.{is_some, Result, Ok, Err, OnOk, ◌&&◌, take, drop, inl, inr, refl, ap, ap₂, sym, ◌∙◌}
-use Rattle.std.proofs.Common.{subst, arith, append-nil}
-use Rattle.std.proofs.lemmas.Bool.{cases_Bool, false≢true, or_parts}
-use Rattle.std.proofs.lemmas.List.Concat.{flat_map-append}
-use Rattle.std.specs.List.{after_first, before_first, flat_map, list_any, position_or_len}
 use Rattle.def_certtext.specs.Reading.{is_third, length_in, set_in, set_up_in, vertex_in, vertex_up_in}
-use Rattle.def_certtext.specs.declared.CertLine.{CertLine}
-use Rattle.def_certtext.specs.declared.certs.Rising.{Rising}
-use Rattle.def_certtext.specs.declared.certs.Rising.TheVariants.{Never, Third, Rounds}
-use Rattle.qm_certtext.specs.{Parts.HoldBoth, Parts.Holds, Parts.TakesLine, declared.parts.Found.Found}
-use Rattle.qm_certtext.specs.declared.parts.Parts.{Parts}
+use Rattle.def_certtext.specs.declared.certs.Rising.{Rising, TheVariants.Never, TheVariants.Rounds, TheVariants.Third}
+use Rattle.qm_certtext.specs.{Parts.HoldBoth, Parts.TakesLine, declared.parts.Found.Found, declared.parts.Parts.Parts}
+use Rattle.std.proofs.Common.{Bool, List, None, OnOk, Option, Result, Some, append-nil, arith, false, is_some, ℕ}
+use Rattle.std.proofs.Common.{Err, Ok, drop, inl, inr, not, refl, suc, sym, take, true, ◌&&◌, ◌++◌, ◌+◌, ◌∙◌}
+use Rattle.std.proofs.lemmas.{Bool.cases_Bool, Bool.false≢true, List.Concat.flat_map-append, List.Folds.list_any-append}
+use Rattle.std.proofs.{Common.[], Common.ap, Common.◌∷◌, Common.◌≡◌, lemmas.Bool.or_parts}
+use Rattle.std.specs.List.{after_first, before_first, flat_map, list_any, position_or_len}
+use Rattle.{def_certtext.specs.declared.CertLine.CertLine, qm_certtext.specs.Parts.Holds}
 
 -- Before and behind the first that passes, where it is not the front.
 module _ {X : Type 0} (p : X → Bool) where
@@ -33,53 +30,38 @@ module _ {X : Type 0} (p : X → Bool) where
   -- Behind one that passes more may stand.
   pub before_there : (xs ys : List X) → list_any p xs ≡ true → before_first p (xs ++ ys) ≡ before_first p xs
   before_there [] ys some = absurd (false≢true some)
-  before_there (x ∷ xs) ys some =
-      let later : list_any p xs ≡ true → before_first p (xs ++ ys) ≡ before_first p xs = before_there xs ys in
-      elim (cases_Bool (p x)) [
-        | inl is ↦ before_here x (xs ++ ys) is ∙ sym (before_here x xs is)
-        | inr other ↦ before_step x (xs ++ ys) other ∙ ap (λ (zs : List X). x ∷ zs) (later (rw other at some))
-            ∙ sym (before_step x xs other)
-      ]
+  before_there (x ∷ xs) ys some = elim (cases_Bool (p x)) [
+    | inl is ↦ before_here x (xs ++ ys) is ∙ sym (before_here x xs is)
+    | inr other ↦ before_step x (xs ++ ys) other
+        ∙ ap (λ (zs : List X). x ∷ zs) (before_there xs ys (rw other at some)) ∙ sym (before_step x xs other)
+  ]
 
   pub after_there : (xs ys : List X) → list_any p xs ≡ true → after_first p (xs ++ ys) ≡ after_first p xs ++ ys
   after_there [] ys some = absurd (false≢true some)
-  after_there (x ∷ xs) ys some =
-      let later : list_any p xs ≡ true → after_first p (xs ++ ys) ≡ after_first p xs ++ ys = after_there xs ys in
-      elim (cases_Bool (p x)) [
-        | inl is ↦ after_here x (xs ++ ys) is ∙ ap (λ (zs : List X). zs ++ ys) (sym (after_here x xs is))
-        | inr other ↦ after_step x (xs ++ ys) other ∙ later (rw other at some)
-            ∙ ap (λ (zs : List X). zs ++ ys) (sym (after_step x xs other))
-      ]
+  after_there (x ∷ xs) ys some = elim (cases_Bool (p x)) [
+    | inl is ↦ rw (after_here x (xs ++ ys) is, after_here x xs is) refl
+    | inr other ↦ after_step x (xs ++ ys) other ∙ after_there xs ys (rw other at some)
+        ∙ ap (λ (zs : List X). zs ++ ys) (sym (after_step x xs other))
+  ]
 
   -- Where none passes before it.
   pub before_first_one : (xs : List X) (y : X) (ys : List X) → list_any p xs ≡ false → p y ≡ true
       → before_first p (xs ++ y ∷ ys) ≡ xs
   before_first_one [] y ys none is = before_here y ys is
   before_first_one (x ∷ xs) y ys none is =
-      let parts : (p x ≡ false) × (list_any p xs ≡ false) = or_parts (p x) (list_any p xs) none in
+      let parts = or_parts (p x) _ none in
       before_step x (xs ++ y ∷ ys) parts.0 ∙ ap (λ (zs : List X). x ∷ zs) (before_first_one xs y ys parts.1 is)
 
   pub after_first_one : (xs : List X) (y : X) (ys : List X) → list_any p xs ≡ false → p y ≡ true
       → after_first p (xs ++ y ∷ ys) ≡ ys
   after_first_one [] y ys none is = after_here y ys is
   after_first_one (x ∷ xs) y ys none is =
-      let parts : (p x ≡ false) × (list_any p xs ≡ false) = or_parts (p x) (list_any p xs) none in
-      after_step x (xs ++ y ∷ ys) parts.0 ∙ after_first_one xs y ys parts.1 is
-
-  pub any_append : (xs ys : List X) → list_any p (xs ++ ys) ≡ (list_any p xs || list_any p ys)
-  any_append [] ys = refl
-  any_append (x ∷ xs) ys = ap (λ b. p x || b) (any_append xs ys) ∙ or_assoc (p x) (list_any p xs) (list_any p ys)
-    where
-      or_assoc : (a b c : Bool) → (a || (b || c)) ≡ ((a || b) || c)
-      or_assoc true b c = refl
-      or_assoc false b c = refl
+      let parts = or_parts (p x) _ none in after_step x (xs ++ y ∷ ys) parts.0 ∙ after_first_one xs y ys parts.1 is
 
 -- One line more.
-more : {Y : Type 0} (f : CertLine → List Y) (old new : List Y) (said : List CertLine) (line : CertLine)
-    → old ≡ flat_map f said → new ≡ old ++ f line
-    → new ≡ flat_map f (said ++ line ∷ [])
-more f old new said line is grown = grown ∙ ap (λ (ys : List _). ys ++ f line) is ∙ ap
-    (λ (ys : List _). flat_map f said ++ ys) (sym (append-nil (f line))) ∙ sym (flat_map-append f said (line ∷ []))
+more : {Y : Type 0} (f : CertLine → List Y) (old new : List Y) (said : List CertLine) (line : CertLine) → old
+    ≡ flat_map f said → new ≡ old ++ f line → new ≡ flat_map f (said ++ line ∷ [])
+more f old new said line is grown = rw (grown, is, flat_map-append f said (line ∷ []), append-nil (f line)) refl
 
 -- What a line adds to lists.
 pub record Adds (old new : Parts) (line : CertLine) : Type 0 where
@@ -100,6 +82,11 @@ holds_more old new said line adds holds = record {
   set_ups = more set_up_in _ _ said line holds.set_ups adds.set_ups;
 }
 
+-- Parts with nothing in them hold the lists of no line.
+pub holds_none : {parts : Parts} → parts.lengths.items ≡ [] → (parts.vertices.items ≡ [])
+    × (parts.vertex_ups.items ≡ []) → (parts.sets.items ≡ []) × (parts.set_ups.items ≡ []) → Holds parts []
+holds_none x y z = record { lengths = x; vertices = y.0; vertex_ups = y.1; sets = z.0; set_ups = z.1 }
+
 -- One line more, where floors do not rise in rounds.
 abbrev pub TakesBoth : (old new : Found) (line : CertLine) → Type 0
 TakesBoth old new line =
@@ -115,14 +102,11 @@ takes_both Rounds old new line other takes = absurd (other refl)
 pub takes_third : (old new : Found) (line : CertLine) → old.first ≡ None → is_third line ≡ true
     → new.first ≡ Some old.last → Holds new.last [] → TakesBoth old new line
 takes_third old new line none third first empty said holds =
-    let before : (list_any is_third said ≡ false) × Holds old.last said =
-    subst (λ (o : Option Parts). HoldBoth o old.last said) none holds in
-    let some : list_any is_third (said ++ line ∷ []) ≡ true = any_append is_third said (line ∷ [])
-    ∙ ap₂ (λ a b. a || (b || false)) before.0 third in
-    subst (λ (o : Option Parts). HoldBoth o new.last (said ++ line ∷ [])) (sym first) (
-      some,
-      subst (Holds old.last) (sym (before_first_one is_third said line [] before.0 third)) before.1,
-      subst (Holds new.last) (sym (after_first_one is_third said line [] before.0 third)) empty,
+    let before : (list_any is_third said ≡ false) × Holds old.last said = rw none at holds in
+    rw first (
+      list_any-append is_third said (line ∷ []) ∙ rw (before.0, third) refl,
+      rw (before_first_one is_third said line [] before.0 third) before.1,
+      rw (after_first_one is_third said line [] before.0 third) empty,
     )
 
 -- Any other line is one of the last certificate.
@@ -132,22 +116,16 @@ takes_other old new line other first adds said holds = by_first old.first refl h
   where
     by_first : (o : Option Parts) → old.first ≡ o → HoldBoth o old.last said
         → HoldBoth new.first new.last (said ++ line ∷ [])
-    by_first None is none =
-        let still : list_any is_third (said ++ line ∷ []) ≡ false = any_append is_third said (line ∷ [])
-        ∙ ap₂ (λ a b. a || (b || false)) none.0 (other is) in
-        subst (λ (o : Option Parts). HoldBoth o new.last (said ++ line ∷ [])) (sym (first ∙ is)) (
-          still,
-          holds_more old.last new.last said line adds none.1,
-        )
-    by_first (Some prefix) is both =
-        let still : list_any is_third (said ++ line ∷ []) ≡ true = any_append is_third said (line ∷ [])
-        ∙ ap (λ a. a || (is_third line || false)) both.0 in
-        subst (λ (o : Option Parts). HoldBoth o new.last (said ++ line ∷ [])) (sym (first ∙ is)) (
-          still,
-          subst (Holds prefix) (sym (before_there is_third said (line ∷ []) both.0)) both.1,
-          subst (Holds new.last) (sym (after_there is_third said (line ∷ []) both.0))
-              (holds_more old.last new.last (after_first is_third said) line adds both.2),
-        )
+    by_first None is none = rw (first ∙ is) (
+      list_any-append is_third said (line ∷ []) ∙ rw (none.0, other is) refl,
+      holds_more old.last new.last said line adds none.1,
+    )
+    by_first (Some prefix) is both = rw (first ∙ is) (
+      list_any-append is_third said (line ∷ []) ∙ rw both.0 refl,
+      rw (before_there is_third said (line ∷ []) both.0) both.1,
+      rw (after_there is_third said (line ∷ []) both.0)
+          (holds_more old.last new.last (after_first is_third said) line adds both.2),
+    )
 
 -- Whether a line starts the certificate for floor 3.
 pub starts : (first : Option Parts) (line : CertLine) → (not (is_some first) && is_third line) ≡ true → (first ≡ None)

@@ -1,28 +1,19 @@
 -- A line of one kind is none of another.
-use Rattle.std.proofs.Common.{◌≡◌, ◌≤◌, ◌<◌, ◌+◌, ◌^◌, ◌⊎◌, ℕ, ℤ, pos, true, ◌∷◌, ◌++◌, drop, get_or, eqb}
-use Rattle.std.proofs.Common.{leb, ltb, inl, inr, ap, arith}
+use Rattle.def_certtext.specs.declared.certs.Rising.{Rising, TheVariants.Never, TheVariants.Rounds, TheVariants.Third}
+use Rattle.def_certtext.specs.declared.{CertLine.CertLine, CertLine.TheVariants.Floor, CertLine.TheVariants.Set}
+use Rattle.def_certtext.specs.{Reading.is_small, Reading.may_name, Reading.may_tell, declared.certs.Rise.Rise}
+use Rattle.std.proofs.Common.{arith, drop, eqb, get_or, inl, inr, leb, ltb, pos, true, ℕ, ◌++◌, ◌+◌, ◌<◌, ◌^◌, ◌∷◌, ◌≡◌}
 use Rattle.std.proofs.lemmas.Bool.{and_from, and_parts, eqb-true, false≢true, leb-true, lt-ltb, ltb-true, or_cases}
-use Rattle.std.specs.{Prelude.decimal, Fmt.signed_decimal}
-use Rattle.def_certtext.specs.Reading.{is_small, may_name, may_tell, Says}
-use Rattle.def_certtext.specs.declared.CertLine.{CertLine}
-use Rattle.def_certtext.specs.declared.CertLine.TheVariants.{Length, Vertex, Set, Floor, Rise as rise_line}
-use Rattle.def_certtext.specs.declared.certs.Rise.{Rise}
-use Rattle.def_certtext.specs.declared.certs.Rising.{Rising}
-use Rattle.def_certtext.specs.declared.certs.Rising.TheVariants.{Never, Third, Rounds}
-use Rattle.def_text.specs.Types.{Word}
-
--- The letter of a line, and what stands behind it.
-pub letter_is : (a b : ℕ) (rest more : Word) → 35 ∷ a ∷ rest ≡ 35 ∷ b ∷ more → a ≡ b
-letter_is a b rest more same = ap (λ (w : Word). get_or w 1 0) same
+use Rattle.std.{proofs.Common.ap, proofs.Common.ℤ, proofs.Common.◌≤◌, specs.Fmt.signed_decimal, specs.Prelude.decimal}
+use Rattle.{def_certtext.specs.Reading.Says, def_text.specs.Types.Word}
 
 -- A floor that a line may name is small.
 pub floor_low : (rising : Rising) (floor : ℕ) → may_name rising floor ≡ true → floor ≤ 3
 floor_low Never floor may = absurd (false≢true may)
-floor_low Third floor may = by_test (or_cases (eqb floor 1) (eqb floor 3) may)
-  where
-    by_test : (eqb floor 1 ≡ true) ⊎ (eqb floor 3 ≡ true) → floor ≤ 3
-    by_test (inl one) = omega (arith, eqb-true floor 1 one)
-    by_test (inr three) = omega (arith, eqb-true floor 3 three)
+floor_low Third floor may = elim (or_cases (eqb floor 1) (eqb floor 3) may) [
+  | inl one ↦ omega (arith, eqb-true floor 1 one)
+  | inr three ↦ omega (arith, eqb-true floor 3 three)
+]
 floor_low Rounds floor may = omega (arith, eqb-true floor 1 may)
 
 -- So are the numbers of a rise, which a line may tell in rounds alone.
@@ -38,22 +29,16 @@ pub rise_small : (rising : Rising) (rise : Rise) → may_tell rising rise ≡ tr
     → is_small (pos (rise.arc + 1)) rise.floor ≡ true
 rise_small rising rise may =
     let low = rise_low rising rise may in
-    and_from _ _ (lt-ltb (rise.arc + 1) (10 ^ 18) (omega (arith, low.0)))
-    (lt-ltb rise.floor (2 ^ 32) (omega (arith, low.1)))
+    and_from _ _ (lt-ltb (rise.arc + 1) (10 ^ 18) (omega arith))
+    (lt-ltb rise.floor (2 ^ 32) (omega arith))
 
 pub not_set : (rising : Rising) (rest : Word)
     → ((z : ℤ) (up : ℕ) → is_small z up ≡ true → rest ≡ signed_decimal z ++ 32 ∷ decimal up → ⊥)
     → (said : CertLine) → Says rising (35 ∷ 115 ∷ 32 ∷ rest) said → ⊥
-not_set rising rest none (Length n) says = absurd (omega (arith, letter_is 115 120 _ _ says.written))
-not_set rising rest none (Vertex number up) says = absurd (omega (arith, letter_is 115 121 _ _ says.written))
 not_set rising rest none (Set number up) says = none number up says.allowed (ap (drop 3) says.written)
-not_set rising rest none (Floor floor) says = absurd (omega (arith, letter_is 115 102 _ _ says.written))
-not_set rising rest none (rise_line rise) says = absurd (omega (arith, letter_is 115 114 _ _ says.written))
+not_set rising rest none _ says = omega (arith, ap (λ (w : Word). get_or w 1 0) says.written)
 
 pub not_floor : (rising : Rising) (rest : Word) → ((n : ℕ) → may_name rising n ≡ true → rest ≡ decimal n → ⊥)
     → (said : CertLine) → Says rising (35 ∷ 102 ∷ 32 ∷ rest) said → ⊥
-not_floor rising rest none (Length n) says = absurd (omega (arith, letter_is 102 120 _ _ says.written))
-not_floor rising rest none (Vertex number up) says = absurd (omega (arith, letter_is 102 121 _ _ says.written))
-not_floor rising rest none (Set number up) says = absurd (omega (arith, letter_is 102 115 _ _ says.written))
 not_floor rising rest none (Floor floor) says = none floor says.allowed (ap (drop 3) says.written)
-not_floor rising rest none (rise_line rise) says = absurd (omega (arith, letter_is 102 114 _ _ says.written))
+not_floor rising rest none _ says = omega (arith, ap (λ (w : Word). get_or w 1 0) says.written)

@@ -1,27 +1,17 @@
 -- The marked lines of a text, one line after another.
-use Rattle.std.proofs.Common.{◌≡◌, ◌<◌, ◌+◌, ℕ, zero, suc, Bool, true, false, Option, None, List, [], ◌∷◌, ◌++◌, length}
-use Rattle.std.proofs.Common.{take, map, filter, slice_index_or, cond, inl, inr, refl, ap, sym, ◌∙◌, subst, arith}
-use Rattle.std.proofs.lemmas.Bool.{and_parts, cases_Bool, true≢false}
-use Rattle.std.proofs.lemmas.List.{get_or-take, length-take-le, take_more}
-use Rattle.std.specs.List.{list_all}
-use Rattle.def_certtext.specs.{CertLines.line_text, Reading.is_hash_line, Reading.may_stand, Reading.IsBehindFail}
-use Rattle.def_certtext.specs.{Reading.Says, declared.CertLine.CertLine, declared.certs.Rising.Rising}
-use Rattle.def_certtext.specs.declared.certs.Rising.TheVariants.{Never, Third}
-use Rattle.def_certtext.specs.{declared.certs.Rising.TheVariants.Rounds, declared.CertFail.CertFail}
-use Rattle.def_certtext.specs.declared.CertFail.TheVariants.{Head, Line}
-use Rattle.def_certtext.specs.declared.CertFail.TheVariants.{Memory}
-use Rattle.def_io.specs.Bytes.{Bytes, Lines}
-use Rattle.qm_certtext.specs.Parts.{HoldBoth, HoldSome, Holds, IsLineFail, ReadSome}
-use Rattle.qm_certtext.specs.{Parts.TakesText, declared.parts.Found.Found, declared.parts.Parts.Parts}
+use Rattle.def_certtext.specs.declared.CertFail.{CertFail, TheVariants.Head, TheVariants.Line, TheVariants.Memory}
+use Rattle.def_certtext.specs.declared.certs.Rising.{Rising, TheVariants.Never, TheVariants.Rounds, TheVariants.Third}
+use Rattle.def_certtext.specs.{Reading.IsBehindFail, Reading.Says, Reading.is_hash_line, declared.CertLine.CertLine}
+use Rattle.qm_certtext.specs.{Parts.HoldSome, Parts.IsLineFail, Parts.TakesText, declared.parts.Found.Found}
+use Rattle.std.proofs.Common.{Bool, List, None, [], arith, filter, length, refl, slice_index_or, take, true, zero, ◌++◌}
+use Rattle.std.proofs.Common.{ap, inl, inr, map, suc, sym, ℕ, ◌+◌, ◌<◌, ◌∙◌, ◌∷◌, ◌≡◌}
+use Rattle.std.proofs.lemmas.List.{Elements.filter-append, get_or-take, length-take-le, take_more}
+use Rattle.std.{proofs.lemmas.Bool.and_parts, proofs.lemmas.Bool.cases_Bool, specs.List.list_all}
+use Rattle.{def_certtext.specs.CertLines.line_text, def_certtext.specs.Reading.may_stand, qm_certtext.specs.Parts.Holds}
+use Rattle.{def_io.specs.Bytes.Bytes, def_io.specs.Bytes.Lines, qm_certtext.specs.Parts.ReadSome}
 
 pub filter_append : {X : Type 0} (p : X → Bool) (xs ys : List X) → filter p (xs ++ ys) ≡ filter p xs ++ filter p ys
-filter_append p [] ys = refl
-filter_append p (x ∷ xs) ys = by_test (p x) (filter_append p xs ys)
-  where
-    by_test : (t : Bool) → filter p (xs ++ ys) ≡ filter p xs ++ filter p ys
-        → cond t (x ∷ filter p (xs ++ ys)) (filter p (xs ++ ys)) ≡ cond t (x ∷ filter p xs) (filter p xs) ++ filter p ys
-    by_test true is = ap (λ (zs : List _). x ∷ zs) is
-    by_test false is = is
+filter_append p xs ys = filter-append p xs ys
 
 -- Each marked line of those that were read says something.
 pub said_at : (rising : Rising) (behind : Lines) (said : List CertLine)
@@ -29,68 +19,33 @@ pub said_at : (rising : Rising) (behind : Lines) (said : List CertLine)
     → (j : ℕ) → j < length behind → is_hash_line (slice_index_or behind j []) ≡ true → (line : CertLine)
     × Says rising (slice_index_or behind j []) line
 said_at rising [] said texts all j low is = absurd (omega arith)
-said_at rising (line ∷ behind) said texts all j low is =
-    let later : (more : List CertLine) → filter is_hash_line behind ≡ map line_text more
-    → list_all (may_stand rising) more ≡ true
-    → (i : ℕ) → i < length behind → is_hash_line (slice_index_or behind i []) ≡ true → (l : CertLine)
-    × Says rising (slice_index_or behind i []) l =
-    said_at rising behind in
-    elim (cases_Bool (is_hash_line line)) [
-      | inl marked ↦ by_said said (rw marked at texts) all later j low is
-      | inr other ↦ by_place j low is (later said (rw other at texts) all) other
-    ]
-  where
-    by_place : (i : ℕ) → i < length (line ∷ behind) → is_hash_line (slice_index_or (line ∷ behind) i []) ≡ true
-        → ((k : ℕ) → k < length behind → is_hash_line (slice_index_or behind k []) ≡ true → (l : CertLine)
-        × Says rising (slice_index_or behind k []) l)
-        → is_hash_line line ≡ false → (l : CertLine) × Says rising (slice_index_or (line ∷ behind) i []) l
-    by_place zero lt marked rest other = absurd (true≢false (sym marked ∙ other))
-    by_place (suc i) lt marked rest other = rest i (omega arith) marked
-
-    by_said : (more : List CertLine) → line ∷ filter is_hash_line behind ≡ map line_text more
-        → list_all (may_stand rising) more ≡ true
-        → ((rest : List CertLine) → filter is_hash_line behind ≡ map line_text rest → list_all (may_stand rising) rest
-        ≡ true
-        → (k : ℕ) → k < length behind → is_hash_line (slice_index_or behind k []) ≡ true → (l : CertLine)
-        × Says rising (slice_index_or behind k []) l)
-        → (i : ℕ) → i < length (line ∷ behind) → is_hash_line (slice_index_or (line ∷ behind) i []) ≡ true
-        → (l : CertLine) × Says rising (slice_index_or (line ∷ behind) i []) l
-    by_said [] same ok rest i lt marked = absurd cc
-    by_said (one ∷ more) same ok rest zero lt marked =
-        let first : line ≡ line_text one = cc in (
-          one,
-          record {
-            written = first;
-            allowed = (and_parts (may_stand rising one) (list_all (may_stand rising) more) ok).0;
-          },
-        )
-    by_said (one ∷ more) same ok rest (suc i) lt marked =
-        let others : filter is_hash_line behind ≡ map line_text more = cc in
-        rest more others (and_parts (may_stand rising one) (list_all (may_stand rising) more) ok).1 i (omega arith)
-        marked
+said_at rising (line ∷ behind) [] texts all zero low is = cc (rw is at texts)
+said_at rising (line ∷ behind) (one ∷ more) texts all zero low is =
+    let same : line ∷ filter is_hash_line behind ≡ line_text one ∷ map line_text more = rw is at texts in
+    (one, record { written = cc; allowed = (and_parts (may_stand rising one) _ all).0 })
+said_at rising (line ∷ behind) [] texts all (suc j) low is = elim (cases_Bool (is_hash_line line)) [
+  | inl marked ↦ cc (rw marked at texts)
+  | inr other ↦ said_at rising behind [] (rw other at texts) all j (omega arith) is
+]
+said_at rising (line ∷ behind) (one ∷ more) texts all (suc j) low is = elim (cases_Bool (is_hash_line line)) [
+  | inl marked ↦
+      let same : line ∷ filter is_hash_line behind ≡ line_text one ∷ map line_text more = rw marked at texts in
+      said_at rising behind more (cc) (and_parts (may_stand rising one) _ all).1 j (omega arith) is
+  | inr other ↦ said_at rising behind (one ∷ more) (rw other at texts) all j (omega arith) is
+]
 
 -- Where no line was read, nothing is said.
 hold_none : (rising : Rising) (found : Found) → found.first ≡ None
     → (found.rounds.items ≡ []) × (found.rises.items ≡ []) → Holds found.last [] → HoldSome rising found []
-hold_none Rounds found first rounds holds = record {
-  lines = [];
-  plain = refl;
-  holds = holds;
-  same = λ more. rw rounds.0 (rw rounds.1 refl);
-}
-hold_none Never found first rounds holds =
-    subst (λ (f : Option Parts). HoldBoth f found.last []) (sym first) (refl, holds)
-hold_none Third found first rounds holds =
-    subst (λ (f : Option Parts). HoldBoth f found.last []) (sym first) (refl, holds)
+hold_none Rounds found first rounds holds =
+    record { lines = []; plain = refl; holds = holds; same = λ more. rw rounds.0 (rw rounds.1 refl) }
+hold_none Never found first rounds holds = rw first (refl, holds)
+hold_none Third found first rounds holds = rw first (refl, holds)
 
 pub read_none : (rising : Rising) (found : Found) → found.first ≡ None
     → (found.rounds.items ≡ []) × (found.rises.items ≡ []) → Holds found.last [] → ReadSome rising [] found
-read_none rising found first rounds holds = record {
-  said = [];
-  texts = refl;
-  allowed = refl;
-  holds = hold_none rising found first rounds holds;
-}
+read_none rising found first rounds holds =
+    record { said = []; texts = refl; allowed = refl; holds = hold_none rising found first rounds holds }
 
 -- The next line behind the head line.
 module _ (rising : Rising) (behind : Lines) (i : ℕ) (line : Bytes) (old : Found) (low : i < length behind) (is : line
@@ -100,7 +55,7 @@ module _ (rising : Rising) (behind : Lines) (i : ℕ) (line : Bytes) (old : Foun
   read_next new read takes =
       let longer : take i behind ++ line ∷ [] ≡ take (i + 1) behind =
       ap (λ (l : Bytes). take i behind ++ l ∷ []) is ∙ sym (take_more behind i [] low) in
-      subst (λ (ls : Lines). ReadSome rising ls new) longer (takes (take i behind) read)
+      rw (← longer) (takes (take i behind) read)
 
   pub behind_fail : (number : ℕ) (fail : CertFail) → ReadSome rising (take i behind) old
       → IsLineFail rising line (number + i) fail → IsBehindFail rising number behind fail
@@ -111,12 +66,11 @@ module _ (rising : Rising) (behind : Lines) (i : ℕ) (line : Bytes) (old : Foun
     bad = record {
       there = low;
       marked = ap is_hash_line (sym is) ∙ why.1;
-      bad = λ said says. why.2 said (subst (λ (l : Bytes). Says rising l said) (sym is) says);
+      bad = λ said says. why.2 said (rw is says);
       before = λ j lt marked.
-          let same : slice_index_or (take i behind) j [] ≡ slice_index_or behind j [] = get_or-take i behind j [] lt in
-          let there : j < length (take i behind) =
-          omega (arith, lt, low, length-take-le i behind (omega (arith, low))) in
-          subst (λ (l : Bytes). (said : CertLine) × Says rising l said) same
+          let same = get_or-take i behind j [] lt in
+          let there : j < length (take i behind) = omega (arith, length-take-le i behind (omega (arith, low))) in
+          rw (← same)
           (said_at rising (take i behind) read.said read.texts read.allowed j there (ap is_hash_line same ∙ marked));
     };
     told = why.0;

@@ -1,41 +1,29 @@
 -- The certificates of the lines of rounds.
-use Rattle.std.proofs.Common.{◌≡◌, ◌<◌, not, Bool, true, false, List, [], ◌∷◌, ◌++◌, length, map, eqb, refl, ap, ◌∙◌}
-use Rattle.std.proofs.Common.{arith}
-use Rattle.std.proofs.lemmas.Bool.{ne_eqb, or_parts}
-use Rattle.std.specs.List.{list_any}
-use Rattle.def_certtext.specs.CertLines.{alone, lists_of, risen, risen_by, Certificates}
-use Rattle.def_certtext.specs.Reading.{certificates_by, lists_in}
-use Rattle.def_certtext.specs.Rounds.{parts_of, put_line, put_rise, Part}
-use Rattle.def_certtext.specs.declared.CertLine.{CertLine}
-use Rattle.def_certtext.specs.declared.CertLine.TheVariants.{Length, Vertex, Set, Floor, Rise as rise_line}
-use Rattle.def_certtext.specs.declared.certs.Rise.{Rise}
-use Rattle.def_certtext.specs.declared.certs.Round.{Round}
-use Rattle.qm_certtext.specs.Parts.{begins_plain, is_rise}
+use Rattle.def_certtext.specs.CertLines.{Certificates, alone, lists_of, risen, risen_by}
+use Rattle.def_certtext.specs.declared.{CertLine.CertLine, CertLine.TheVariants.Rise as rise_line, certs.Round.Round}
+use Rattle.def_certtext.specs.{Reading.certificates_by, Reading.lists_in, Rounds.parts_of, declared.certs.Rise.Rise}
+use Rattle.def_certtext.{specs.Rounds.Part, specs.Rounds.put_line, specs.Rounds.put_rise}
+use Rattle.std.proofs.Common.{List, [], ap, arith, eqb, false, length, map, not, refl, true, ◌++◌, ◌<◌, ◌∙◌, ◌∷◌, ◌≡◌}
+use Rattle.std.{proofs.lemmas.Bool.ne_eqb, proofs.lemmas.Bool.not-true, proofs.lemmas.Bool.or_parts}
+use Rattle.{qm_certtext.specs.Parts.begins_plain, qm_certtext.specs.Parts.is_rise, std.specs.List.list_any}
 
 -- A list with a first element is not empty.
 not_none : {X : Type 0} (x : X) (xs : List X) → eqb (length (x ∷ xs)) 0 ≡ false
-not_none x xs = ne_eqb (length (x ∷ xs)) 0 (λ none. absurd (omega (arith, none)))
+not_none x xs = ne_eqb (length (x ∷ xs)) 0 (λ none. absurd (omega arith))
 
 -- A line that raises no floor joins the part behind it.
 joins : (line : CertLine) (said : List CertLine) → is_rise line ≡ false
     → parts_of (line ∷ said) ≡ put_line line (parts_of said)
-joins (Length n) said plain = refl
-joins (Vertex z u) said plain = refl
-joins (Set z u) said plain = refl
-joins (Floor f) said plain = refl
 joins (rise_line r) said plain = absurd cc
+joins _ said plain = refl
 
 -- A rise in front of such lines is a part of its own.
 alone_in_front : (rise : Rise) (more : List CertLine) → begins_plain more ≡ true
     → put_rise rise (parts_of more) ≡ record { said = []; rises = rise ∷ [] } ∷ parts_of more
 alone_in_front rise [] plain = refl
 alone_in_front rise (line ∷ more) plain =
-    rw (joins line more (not_true (is_rise line) plain)) (by_parts (parts_of more))
+    rw (joins line more (not-true (is_rise line) plain)) (by_parts (parts_of more))
   where
-    not_true : (b : Bool) → not b ≡ true → b ≡ false
-    not_true true is = absurd cc
-    not_true false is = refl
-
     by_parts : (parts : List Part) → put_rise rise (put_line line parts)
         ≡ record { said = []; rises = rise ∷ [] } ∷ put_line line parts
     by_parts [] = refl
@@ -43,15 +31,13 @@ alone_in_front rise (line ∷ more) plain =
 
 -- So are rises one behind another.
 rises_part : (rise : Rise) (rises : List Rise) (more : List CertLine) → begins_plain more ≡ true
-    → parts_of (map rise_line (rise ∷ rises) ++ more)
-    ≡ record { said = []; rises = rise ∷ rises } ∷ parts_of more
+    → parts_of (map rise_line (rise ∷ rises) ++ more) ≡ record { said = []; rises = rise ∷ rises } ∷ parts_of more
 rises_part rise [] more plain = alone_in_front rise more plain
 rises_part rise (next ∷ rises) more plain = ap (put_rise rise) (rises_part next rises more plain)
 
 -- With the lines in front of them they are a part.
-whole_part : (lines : List CertLine) (rise : Rise) (rises : List Rise) (more : List CertLine)
-    → list_any is_rise lines ≡ false → begins_plain more ≡ true
-    → parts_of (lines ++ (map rise_line (rise ∷ rises) ++ more))
+whole_part : (lines : List CertLine) (rise : Rise) (rises : List Rise) (more : List CertLine) → list_any is_rise lines
+    ≡ false → begins_plain more ≡ true → parts_of (lines ++ (map rise_line (rise ∷ rises) ++ more))
     ≡ record { said = lines; rises = rise ∷ rises } ∷ parts_of more
 whole_part [] rise rises more none plain = rises_part rise rises more plain
 whole_part (line ∷ lines) rise rises more none plain =
@@ -60,9 +46,8 @@ whole_part (line ∷ lines) rise rises more none plain =
     ∙ ap (put_line line) (whole_part lines rise rises more parts.1 plain)
 
 -- Lines and the floors that rise behind them are a round of what is behind.
-pub round_first : (lines : List CertLine) (rises : List Rise) (more : List CertLine)
-    → list_any is_rise lines ≡ false → 0 < length rises → begins_plain more ≡ true
-    → certificates_by (parts_of (lines ++ (map rise_line rises ++ more)))
+pub round_first : (lines : List CertLine) (rises : List Rise) (more : List CertLine) → list_any is_rise lines ≡ false
+    → 0 < length rises → begins_plain more ≡ true → certificates_by (parts_of (lines ++ (map rise_line rises ++ more)))
     ≡ risen (lists_in lines) rises (certificates_by (parts_of more))
 round_first lines [] more none some plain = absurd (omega arith)
 round_first lines (rise ∷ rises) more none some plain =

@@ -1,12 +1,11 @@
 -- What the bytes from the head line on tell, and those behind it.
-use Rattle.std.proofs.Common.{◌≡◌, ◌+◌, ◌<◌, ◌^◌, ℕ, Bool, [], ◌∷◌, length, drop, get_or, slice_index_or, sym, ◌∙◌, ap}
-use Rattle.std.proofs.Common.{subst, arith, length-drop}
-use Rattle.std.proofs.lemmas.List.{drop-drop, get_or-drop}
 use Rattle.def_certtext.specs.Reading.{IsBehindFail, IsCertFail, IsHead, Made, TellHow}
 use Rattle.def_certtext.specs.{Risings.third_if, declared.CertFail.CertFail, declared.CertFail.TheVariants.Head}
-use Rattle.def_io.specs.{Bytes.Bytes, Bytes.Lines, Lines.lines_of, Lines.tail_of}
-use Rattle.def_flow.specs.declared.net.Settings.{Settings}
-use Rattle.qm_io.proofs.Cuts.{last_lines}
+use Rattle.def_io.{specs.Bytes.Bytes, specs.Bytes.Lines, specs.Lines.lines_of, specs.Lines.tail_of}
+use Rattle.std.proofs.Common.{Bool, arith, drop, get_or, length, length-drop, slice_index_or, subst, sym, ◌+◌, ◌<◌, ◌^◌}
+use Rattle.std.proofs.{Common.[], Common.◌∙◌, Common.◌∷◌, Common.◌≡◌, lemmas.List.drop-drop, lemmas.List.get_or-drop}
+use Rattle.{def_flow.specs.declared.net.Settings.Settings, qm_io.proofs.Cuts.last_lines, std.proofs.Common.ap}
+use Rattle.{std.proofs.Common.ℕ}
 
 module _ (bytes tail : Bytes) (line : ℕ) (is : tail ≡ tail_of line bytes) where
   lines_are : lines_of tail ≡ drop line (lines_of bytes)
@@ -23,20 +22,16 @@ module _ (bytes tail : Bytes) (line : ℕ) (is : tail ≡ tail_of line bytes) wh
 
   pub few_lines : line < length (lines_of bytes) → length (lines_of bytes) < 2 ^ 32 → line + length (lines_of tail)
       < 2 ^ 32
-  few_lines there few = omega (arith, there, few, ap length lines_are, length-drop line (lines_of bytes))
+  few_lines there few = omega (arith, ap length lines_are, length-drop line (lines_of bytes))
 
   pub tail_tells : (made : Made) → TellHow (slice_index_or (lines_of tail) 0 []) (drop 1 (lines_of tail)) made
       → TellHow (slice_index_or (lines_of bytes) line []) (drop (line + 1) (lines_of bytes)) made
-  tail_tells made tells = subst (λ (head : Bytes). TellHow head (drop (line + 1) (lines_of bytes)) made) head_is
-      (subst (λ (behind : Lines). TellHow (slice_index_or (lines_of tail) 0 []) behind made) behind_is tells)
+  tail_tells made tells = rw (← head_is) (rw (← behind_is) tells)
 
   pub tail_fails : (fail : CertFail) → IsCertFail (slice_index_or (lines_of tail) 0 []) (line + 2)
       (drop 1 (lines_of tail)) fail
       → IsCertFail (slice_index_or (lines_of bytes) line []) (line + 2) (drop (line + 1) (lines_of bytes)) fail
-  tail_fails fail why =
-      subst (λ (head : Bytes). IsCertFail head (line + 2) (drop (line + 1) (lines_of bytes)) fail) head_is
-      (subst (λ (behind : Lines). IsCertFail (slice_index_or (lines_of tail) 0 []) (line + 2) behind fail) behind_is
-      why)
+  tail_fails fail why = rw (← head_is) (rw (← behind_is) why)
 
 -- Why the lines behind a head line tell nothing, their text tells nothing.
 pub text_fails : (text line behind : Bytes) (settings : Settings) (auto : Bool) (number : ℕ) (fail : CertFail)
@@ -47,7 +42,7 @@ text_fails text line behind settings auto number Head cut head why = absurd why
 text_fails text line behind settings auto number fail cut head why = (
   settings,
   auto,
-  subst (λ (first : Bytes). IsHead first settings auto) (sym (ap (λ (ls : Lines). slice_index_or ls 0 []) cut)) head,
+  rw (ap (λ (ls : Lines). slice_index_or ls 0 []) cut) head,
   subst (λ (later : Lines). IsBehindFail (third_if auto) number later fail)
       (sym (ap (λ (ls : Lines). drop 1 ls) cut)) why,
 )

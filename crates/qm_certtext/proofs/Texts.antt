@@ -1,41 +1,32 @@
 -- The lines of a written text, and what they tell.
-use Rattle.std.proofs.Common.{◌≡◌, ◌↔◌, ◌<◌, ◌+◌, ◌^◌, not, ℕ, zero, suc, ℤ, pos, negsuc, Bool, true, false, List, []}
-use Rattle.std.proofs.Common.{◌∷◌, ◌++◌, codes, length, drop, get_or, slice_index_or, map, filter, ltb, refl, ap, ap₂}
-use Rattle.std.proofs.Common.{sym, ◌∙◌, subst, arith, append_assoc}
-use Rattle.std.proofs.lemmas.Bool.{and_from, and_parts, eqb-true, leb-true, ltb-true}
-use Rattle.std.proofs.lemmas.List.{length-map}
-use Rattle.std.proofs.lemmas.List.Concat.{flat_map-append}
-use Rattle.std.proofs.lemmas.List.Folds.{flat_map-map, list_all-append}
-use Rattle.std.specs.{Prelude.decimal, Prelude.unsigned_abs, Char.is_ascii_digit, List.flat_map, List.list_all}
-use Rattle.std.specs.Fmt.{signed_decimal}
-use Rattle.def_io.specs.{Bytes.Lines, Lines.lines_of}
+use Rattle.def_certtext.specs.Reading.{IsHead, Made, TellCerts, TellHow, certificates_in, is_hash_line, may_stand}
+use Rattle.def_certtext.specs.Settings.{AreInRange, IsFloor, floor_text, scale_text, weight_text}
+use Rattle.def_certtext.specs.declared.CertLine.TheVariants.{Floor, Length, Rise as rise_line, Set, Vertex}
+use Rattle.def_certtext.specs.{CertLines.Certificates, declared.CertLine.CertLine, declared.certs.Rising.Rising}
+use Rattle.def_certtext.specs.{CertLines.line_text, CertLines.text_of, HeadLine.head_line, Laws.certificate_lines}
+use Rattle.def_certtext.specs.{Laws.AreWritable, Laws.IsPrintable, Laws.WrittenLaw, Risings.third_if}
+use Rattle.def_flow.specs.declared.net.Weight.{TheVariants.Length as ByLength, TheVariants.Plain, Weight}
 use Rattle.def_text.specs.{Canonical.canonical_text, FaceSet.FaceSet, Laws.is_position, Laws.is_quad, Types.Word}
-use Rattle.def_flow.specs.{declared.net.Settings.Settings, declared.net.Weight.Weight}
-use Rattle.def_flow.specs.{declared.net.Weight.TheVariants.Plain, declared.net.Weight.TheVariants.Length as ByLength}
-use Rattle.def_certtext.specs.CertLines.{line_text, text_of, Certificates}
-use Rattle.def_certtext.specs.HeadLine.{head_line}
-use Rattle.def_certtext.specs.Laws.{certificate_lines, AreWritable, IsPrintable, WrittenLaw}
-use Rattle.def_certtext.specs.Reading.{certificates_in, is_hash_line, may_stand, IsHead, Made, TellCerts, TellHow}
-use Rattle.def_certtext.specs.Risings.{third_if}
-use Rattle.def_certtext.specs.Settings.{floor_text, scale_text, weight_text, AreInRange, IsFloor}
-use Rattle.def_certtext.specs.declared.CertLine.{CertLine}
-use Rattle.def_certtext.specs.declared.CertLine.TheVariants.{Length, Vertex, Set, Floor, Rise as rise_line}
-use Rattle.def_certtext.specs.declared.certs.Rising.{Rising}
-use Rattle.qm_dec.proofs.Texts.{decimal_digits, digit_other}
-use Rattle.qm_obj.proofs.LawSoup.{canonical_lines, each_both, each_map, face_line, position_line, position_line_is}
-use Rattle.qm_obj.proofs.LawSoup.{text_lines, vertex_word}
-use Rattle.qm_obj.proofs.LawText.{decimal_word, is_inside, line_tame, lines_back, tame_inside, IsLine, IsWord}
-use Rattle.qm_obj.proofs.ListLemmas.{passes_at}
-use Rattle.qm_certtext.proofs.{Counts.small_parts, Cutting.asked_cut, Cutting.asked_words, Marks.filter_append}
-use Rattle.qm_certtext.proofs.{Chosen.chosen_allowed, Chosen.chosen_certs, Letters.floor_low, Letters.rise_low}
-use Rattle.qm_certtext.proofs.{Telling.all_marked, Telling.one_list, Unique.same_settings}
-use Rattle.qm_certtext.specs.Cuts.{asked_line}
+use Rattle.qm_certtext.proofs.{Chosen.chosen_allowed, Chosen.chosen_certs, Cutting.asked_words, Unique.same_settings}
+use Rattle.qm_certtext.proofs.{Counts.small_parts, Cutting.asked_cut, Marks.filter_append, Telling.all_marked}
+use Rattle.qm_certtext.{proofs.Letters.floor_low, proofs.Letters.rise_low, proofs.Telling.one_list}
+use Rattle.qm_obj.proofs.LawSoup.{canonical_lines, each_both, position_line, position_line_is, text_lines, vertex_word}
+use Rattle.qm_obj.proofs.LawText.{IsLine, IsWord, decimal_word, is_inside, line_tame, lines_back, tame_inside}
+use Rattle.qm_obj.{proofs.LawSoup.each_map, proofs.LawSoup.face_line, proofs.ListLemmas.passes_at}
+use Rattle.std.proofs.Common.{Bool, List, append_assoc, ap₂, arith, codes, false, filter, get_or, length, negsuc, subst}
+use Rattle.std.proofs.Common.{ltb, map, not, pos, refl, suc, sym, true, zero, ◌++◌, ◌+◌, ◌<◌, ◌^◌, ◌↔◌, ◌∙◌, ◌∷◌, ◌≡◌}
+use Rattle.std.proofs.lemmas.List.{Concat.flat_map-append, Folds.flat_map-map, Folds.list_all-append, length-map}
+use Rattle.std.proofs.lemmas.{Bool.and_from, Bool.and_parts, Bool.eqb-true, Bool.leb-true, Bool.ltb-true}
+use Rattle.std.specs.{Char.is_ascii_digit, Fmt.signed_decimal, List.flat_map, Prelude.decimal, Prelude.unsigned_abs}
+use Rattle.std.{proofs.Common.[], proofs.Common.ap, proofs.Common.ℕ, proofs.Common.ℤ, specs.List.list_all}
+use Rattle.{def_flow.specs.declared.net.Settings.Settings, def_io.specs.Bytes.Lines, qm_dec.proofs.Texts.decimal_digits}
+use Rattle.{def_io.specs.Lines.lines_of, qm_certtext.specs.Cuts.asked_line, qm_dec.proofs.Texts.digit_other}
 
 -- Digits end no line.
 digits_inside : (digits : Word) → list_all is_ascii_digit digits ≡ true → list_all is_inside digits ≡ true
 digits_inside [] all = refl
 digits_inside (d ∷ ds) all =
-    let parts = and_parts (is_ascii_digit d) (list_all is_ascii_digit ds) all in
+    let parts = and_parts (is_ascii_digit d) _ all in
     and_from _ _ (and_from _ _ (ap not (digit_other 10 (omega arith) d parts.0))
     (ap not (digit_other 13 (omega arith) d parts.0))) (digits_inside ds parts.1)
 
@@ -57,25 +48,23 @@ line_inside rising (Length n) may = number_inside n (omega (arith, leb-true n (1
 line_inside rising (Vertex z u) may =
     let parts = small_parts z u may in
     both_inside (35 ∷ 121 ∷ 32 ∷ signed_decimal z) (32 ∷ decimal u) (signed_inside z parts.0)
-    (number_inside u (omega (arith, parts.1)))
+    (number_inside u (omega arith))
 line_inside rising (Set z u) may =
     let parts = small_parts z u may in
     both_inside (35 ∷ 115 ∷ 32 ∷ signed_decimal z) (32 ∷ decimal u) (signed_inside z parts.0)
-    (number_inside u (omega (arith, parts.1)))
+    (number_inside u (omega arith))
 line_inside rising (Floor f) may = number_inside f (omega (arith, floor_low rising f may))
 line_inside rising (rise_line r) may =
     let low = rise_low rising r may in
     both_inside (35 ∷ 114 ∷ 32 ∷ decimal (r.arc + 1)) (32 ∷ decimal r.floor)
-    (number_inside (r.arc + 1) (omega (arith, low.0))) (number_inside r.floor (omega (arith, low.1)))
+    (number_inside (r.arc + 1) (omega arith)) (number_inside r.floor (omega arith))
 
-pub lines_inside : (rising : Rising) (said : List CertLine) → list_all (may_stand rising) said ≡ true → (k : ℕ)
-    → k < length (map line_text said)
-    → list_all is_inside (get_or (map line_text said) k []) ≡ true
+pub lines_inside : (rising : Rising) (said : List CertLine) → list_all (may_stand rising) said ≡ true → (k : ℕ) → k
+    < length (map line_text said) → list_all is_inside (get_or (map line_text said) k []) ≡ true
 lines_inside rising [] all k low = absurd (omega arith)
-lines_inside rising (line ∷ said) all zero low =
-    line_inside rising line (and_parts (may_stand rising line) (list_all (may_stand rising) said) all).0
-lines_inside rising (line ∷ said) all (suc k) low = lines_inside rising said
-    (and_parts (may_stand rising line) (list_all (may_stand rising) said) all).1 k (omega arith)
+lines_inside rising (line ∷ said) all zero low = line_inside rising line (and_parts (may_stand rising line) _ all).0
+lines_inside rising (line ∷ said) all (suc k) low =
+    lines_inside rising said (and_parts (may_stand rising line) _ all).1 k (omega arith)
 
 -- So is a line that ends with settings, as a head line does.
 abbrev pub settings_line : (front : Word) (settings : Settings) (auto : Bool) → Word
@@ -85,22 +74,19 @@ settings_line front settings auto = front ++ scale_text settings ++ codes " floo
 -- The word of a floor ends no line.
 pub floor_inside : (floor : ℕ) (auto : Bool) → IsFloor floor auto → list_all is_inside (floor_text floor auto) ≡ true
 floor_inside floor true may = refl
-floor_inside floor false may = number_inside floor (omega (arith, may.high))
+floor_inside floor false may = number_inside floor (omega arith)
 
 weight_inside : (weight : Weight) → list_all is_inside (weight_text weight) ≡ true
 weight_inside Plain = refl
 weight_inside ByLength = refl
 
 pub settings_inside : (front : Word) (settings : Settings) (auto : Bool) → list_all is_inside front ≡ true
-    → AreInRange settings auto
-    → list_all is_inside (settings_line front settings auto) ≡ true
+    → AreInRange settings auto → list_all is_inside (settings_line front settings auto) ≡ true
 settings_inside front settings auto inside range =
-    let scale : Word = front ++ scale_text settings in
-    let floor : Word = scale ++ codes " floor " ++ floor_text settings.floor auto in
-    let parts : list_all is_inside scale ≡ true =
-    both_inside front (scale_text settings) inside
-    (both_inside (decimal settings.p) (47 ∷ decimal settings.q) (number_inside settings.p (omega (arith, range.p_high)))
-    (number_inside settings.q (omega (arith, range.q_high)))) in
+    let scale = front ++ scale_text settings in
+    let floor = scale ++ codes " floor " ++ floor_text settings.floor auto in
+    let parts = both_inside front (scale_text settings) inside (both_inside (decimal settings.p)
+    (47 ∷ decimal settings.q) (number_inside settings.p (omega arith)) (number_inside settings.q (omega arith))) in
     both_inside (floor ++ codes " weight ") (weight_text settings.weight)
     (both_inside floor (codes " weight ")
     (both_inside (scale ++ codes " floor ") (floor_text settings.floor auto)
@@ -111,18 +97,14 @@ pub head_inside : (settings : Settings) (auto : Bool) → AreInRange settings au
     → list_all is_inside (head_line settings auto) ≡ true
 head_inside settings auto range = settings_inside (codes "#quadq 1 remesh scale ") settings auto refl range
 
--- The lines of a mesh.
-face_words_are : (face : List ℕ) → list_all (λ v. ltb v (2 ^ 32)) face ≡ true → (k : ℕ)
-    → k < length (map vertex_word face) → IsWord (get_or (map vertex_word face) k [])
-face_words_are face low = each_map IsWord vertex_word face 0 [] (λ k l.
-    let small : get_or face k 0 < 2 ^ 32 = ltb-true _ _ (passes_at (λ v. ltb v (2 ^ 32)) face k 0 low l) in
-    decimal_word (get_or face k 0 + 1) (omega arith))
-
 face_line_is : (face : List ℕ) → is_quad face ≡ true → list_all (λ v. ltb v (2 ^ 32)) face ≡ true
     → IsLine (face_line face)
 face_line_is face quad low =
-    let four : length face ≡ 4 = eqb-true _ _ quad in
-    line_tame 102 (map vertex_word face) refl (omega (arith, length-map face vertex_word)) (face_words_are face low)
+    let four = eqb-true _ _ quad in
+    line_tame 102 (map vertex_word face) refl (omega (arith, length-map face vertex_word)) (each_map IsWord vertex_word
+    face 0 [] (λ k l.
+    let small = ltb-true _ _ (passes_at (λ v. ltb v (2 ^ 32)) face k 0 low l) in
+    decimal_word (get_or face k 0 + 1) (omega arith)))
 
 mesh_inside : (soup : FaceSet) → IsPrintable soup → (k : ℕ) → k < length (canonical_lines soup)
     → list_all is_inside (get_or (canonical_lines soup) k []) ≡ true
@@ -147,10 +129,7 @@ no_marks_at (x ∷ xs) = no_marks_at xs
 -- The lines of a mesh and of a certificate.
 mesh_and_said : (soup : FaceSet) (said : List CertLine) → canonical_text soup ++ text_of said
     ≡ flat_map (λ l. l ++ 10 ∷ []) (canonical_lines soup ++ map line_text said)
-mesh_and_said soup said =
-    let cert : text_of said ≡ flat_map (λ l. l ++ 10 ∷ []) (map line_text said) =
-    sym (flat_map-map (λ l. l ++ 10 ∷ []) line_text said) in
-    ap₂ ◌++◌ (text_lines soup) cert
+mesh_and_said soup said = ap₂ ◌++◌ (text_lines soup) (sym (flat_map-map (λ l. l ++ 10 ∷ []) line_text said))
     ∙ sym (flat_map-append (λ l. l ++ 10 ∷ []) (canonical_lines soup) (map line_text said))
 
 behind_inside : (rising : Rising) (soup : FaceSet) (said : List CertLine) → IsPrintable soup
@@ -167,10 +146,9 @@ lines_behind rising soup said able allowed = ap lines_of (mesh_and_said soup sai
     (canonical_lines soup ++ map line_text said) (behind_inside rising soup said able allowed)
 
 -- All lines of a text with some head line.
-pub lines_whole : (head : Word) (rising : Rising) (soup : FaceSet) (said : List CertLine)
-    → list_all is_inside head ≡ true → IsPrintable soup → list_all (may_stand rising) said ≡ true
-    → lines_of (head ++ 10 ∷ (canonical_text soup ++ text_of said))
-    ≡ head ∷ canonical_lines soup ++ map line_text said
+pub lines_whole : (head : Word) (rising : Rising) (soup : FaceSet) (said : List CertLine) → list_all is_inside head
+    ≡ true → IsPrintable soup → list_all (may_stand rising) said ≡ true
+    → lines_of (head ++ 10 ∷ (canonical_text soup ++ text_of said)) ≡ head ∷ canonical_lines soup ++ map line_text said
 lines_whole head rising soup said inside able allowed =
     ap lines_of (ap (λ (t : Word). head ++ 10 ∷ t) (mesh_and_said soup said) ∙ sym (append_assoc head (10 ∷ []) _))
     ∙ lines_back (head ∷ canonical_lines soup ++ map line_text said) by_place
@@ -183,8 +161,7 @@ lines_whole head rising soup said inside able allowed =
 -- Those that are marked.
 pub marked_are : (soup : FaceSet) (said : List CertLine)
     → filter is_hash_line (canonical_lines soup ++ map line_text said) ≡ map line_text said
-marked_are soup said =
-    filter_append is_hash_line (canonical_lines soup) (map line_text said)
+marked_are soup said = filter_append is_hash_line (canonical_lines soup) (map line_text said)
     ∙ ap₂ ◌++◌ (filter_append is_hash_line (map position_line soup.pos) (map face_line soup.faces)
     ∙ ap₂ ◌++◌ (no_marks_in soup.pos) (no_marks_at soup.faces)) (all_marked said)
 
@@ -202,26 +179,21 @@ same_head line s t a b one two = same_asked (codes "#quadq 1 remesh scale ") lin
     two.in_range two.written
 
 -- Lines of which those of certificates are marked say these certificates, and no others.
-pub certs_tell : (rising : Rising) (behind : Lines) (certificates : Certificates)
-    → filter is_hash_line behind ≡ map line_text (certificate_lines rising certificates)
-    → AreWritable rising certificates → (other : Certificates)
+pub certs_tell : (rising : Rising) (behind : Lines) (certificates : Certificates) → filter is_hash_line behind
+    ≡ map line_text (certificate_lines rising certificates) → AreWritable rising certificates → (other : Certificates)
     → TellCerts rising behind other ↔ (other ≡ certificates)
-certs_tell rising behind certificates texts able other = (only, is)
-  where
-    only : TellCerts rising behind other → other ≡ certificates
-    only tell =
-        let lines : certificate_lines rising certificates ≡ tell.said =
-        one_list rising (certificate_lines rising certificates) tell.said
-        (chosen_allowed rising certificates able) tell.allowed (sym texts ∙ tell.texts) in
-        tell.are ∙ ap (certificates_in rising) (sym lines) ∙ sym (chosen_certs rising certificates able)
-
-    is : other ≡ certificates → TellCerts rising behind other
-    is same = record {
-      said = certificate_lines rising certificates;
-      texts = texts;
-      allowed = chosen_allowed rising certificates able;
-      are = same ∙ chosen_certs rising certificates able;
-    }
+certs_tell rising behind certificates texts able other =
+    let allowed = chosen_allowed rising certificates able in (
+      λ (tell : TellCerts rising behind other). tell.are ∙ ap (certificates_in rising)
+          (sym (one_list rising (certificate_lines rising certificates) tell.said allowed tell.allowed
+          (sym texts ∙ tell.texts))) ∙ sym (chosen_certs rising certificates able),
+      λ same. record {
+        said = certificate_lines rising certificates;
+        texts = texts;
+        allowed = allowed;
+        are = same ∙ chosen_certs rising certificates able;
+      },
+    )
 
 -- So do the lines of a mesh and of certificates.
 pub certs_told : (rising : Rising) (soup : FaceSet) (certificates : Certificates) → IsPrintable soup
@@ -236,9 +208,11 @@ certs_told rising soup certificates printable able =
 -- A text tells what it was made of, and nothing else.
 pub written_law : WrittenLaw
 written_law settings auto soup certificates range printable able other =
-    subst (λ (ls : Lines). TellHow (slice_index_or ls 0 []) (drop 1 ls) other ↔ (other ≡ made))
-    (sym (lines_whole (head_line settings auto) (third_if auto) soup said (head_inside settings auto range) printable
-    (chosen_allowed (third_if auto) certificates able))) (only, is)
+    let is : other ≡ made → TellHow (head_line settings auto) (canonical_lines soup ++ map line_text said) other =
+    λ same. subst (TellHow (head_line settings auto) (canonical_lines soup ++ map line_text said)) (sym same)
+    (record { settings = head; certificates = (tells certificates).1 refl }) in
+    rw (lines_whole (head_line settings auto) (third_if auto) soup said (head_inside settings auto range) printable
+    (chosen_allowed (third_if auto) certificates able)) (only, is)
   where
     made : Made
     made = record { settings = settings; auto = auto; certificates = certificates }
@@ -257,11 +231,6 @@ written_law settings auto soup certificates range printable able other =
     only : TellHow (head_line settings auto) (canonical_lines soup ++ map line_text said) other → other ≡ made
     only tell =
         let same = same_head (head_line settings auto) settings other.settings auto other.auto head tell.settings in
-        let both : other.certificates ≡ certificates = (tells other.certificates).0
-        (subst (λ (b : Bool). TellCerts (third_if b) (canonical_lines soup ++ map line_text said) other.certificates)
-        (sym same.1) tell.certificates) in
+        let both : other.certificates ≡ certificates = (tells other.certificates).0 (subst (λ (b : Bool). TellCerts
+        (third_if b) (canonical_lines soup ++ map line_text said) other.certificates) (sym same.1) tell.certificates) in
         λ i. record { settings = sym same.0 i; auto = sym same.1 i; certificates = both i }
-
-    is : other ≡ made → TellHow (head_line settings auto) (canonical_lines soup ++ map line_text said) other
-    is same = subst (TellHow (head_line settings auto) (canonical_lines soup ++ map line_text said))
-        (sym same) (record { settings = head; certificates = (tells certificates).1 refl })

@@ -1,15 +1,10 @@
 -- What the lines of certificates are written from.
-use Rattle.std.proofs.Common.{◌≡◌, zero, suc, List, [], ◌∷◌, ◌++◌, map, refl, ap, ◌∙◌}
-use Rattle.std.proofs.Common.{arith, append_assoc}
-use Rattle.std.proofs.lemmas.List.Concat.{flat_map-append}
-use Rattle.std.specs.List.{All}
-use Rattle.def_certtext.specs.CertLines.{alone, line_text, lists_of, raised}
-use Rattle.def_certtext.specs.CertLines.{risen, risen_by, said_by, text_of}
-use Rattle.def_certtext.specs.{CertLines.used, CertLines.Certificates, CertLines.HasUps, Laws.chosen_lines}
-use Rattle.def_certtext.specs.{Laws.AreWritable, declared.CertLine.CertLine}
-use Rattle.def_certtext.specs.{declared.CertLine.TheVariants.Rise as rise_line, declared.certs.Rising.Rising}
-use Rattle.def_certtext.specs.declared.certs.Round.{Round}
-use Rattle.qm_certtext.specs.RoundLines.{round_lines, HaveUps}
+use Rattle.def_certtext.specs.CertLines.{Certificates, HasUps, line_text, lists_of, raised, risen_by, said_by, text_of}
+use Rattle.def_certtext.specs.declared.{CertLine.CertLine, CertLine.TheVariants.Rise as rise_line, certs.Rising.Rising}
+use Rattle.def_certtext.specs.{CertLines.alone, Laws.AreWritable, Laws.chosen_lines, declared.certs.Round.Round}
+use Rattle.std.proofs.Common.{List, [], ap, append_assoc, arith, map, refl, suc, zero, ◌++◌, ◌∙◌, ◌∷◌, ◌≡◌}
+use Rattle.{qm_certtext.specs.RoundLines.round_lines, std.proofs.lemmas.List.Concat.flat_map-append, std.specs.List.All}
+use Rattle.{def_certtext.specs.CertLines.risen, def_certtext.specs.CertLines.used, qm_certtext.specs.RoundLines.HaveUps}
 
 -- Behind rounds the certificate that is used is that behind them.
 pub used_risen : (rounds : List Round) (after : Certificates) → used (risen_by rounds after) ≡ used after
@@ -41,9 +36,7 @@ text_both a b = flat_map-append (λ line. line_text line ++ 10 ∷ []) a b
 pub round_lines_are : (rounds : List Round) (after : Certificates)
     → round_lines rounds ++ chosen_lines after ≡ chosen_lines (risen_by rounds after)
 round_lines_are [] after = refl
-round_lines_are (round ∷ rounds) after =
-    append_assoc (said_by (lists_of round.cert)) (map rise_line round.rises.items ++ round_lines rounds)
-    (chosen_lines after)
-    ∙ ap (λ (ls : List CertLine). said_by (lists_of round.cert) ++ ls)
+round_lines_are (round ∷ rounds) after = append_assoc (said_by (lists_of round.cert)) (map rise_line round.rises.items
+    ++ round_lines rounds) (chosen_lines after) ∙ ap (λ (ls : List CertLine). said_by (lists_of round.cert) ++ ls)
     (append_assoc (map rise_line round.rises.items) (round_lines rounds) (chosen_lines after)
     ∙ ap (λ (ls : List CertLine). map rise_line round.rises.items ++ ls) (round_lines_are rounds after))

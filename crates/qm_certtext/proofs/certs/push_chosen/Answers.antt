@@ -1,19 +1,14 @@
-use Rattle.std.proofs.Common.{◌≡◌, ◌++◌, List, ap, sym, ◌∙◌, subst, append_assoc}
-use Rattle.std.proofs.lemmas.Result.{on_ok_weaker}
-use Rattle.def_certtext.specs.CertLines.{alone, cert_lines, certificates_of, lists_of}
-use Rattle.def_certtext.specs.CertLines.{risen_by, said_by, text_of, HasUps}
-use Rattle.def_certtext.specs.{CertLines.Lists, Laws.chosen_lines, declared.certs.Certs.Certs}
-use Rattle.def_certtext.specs.declared.certs.Round.{Round}
-use Rattle.std.specs.List.{All}
-use Rattle.def_io.specs.Bytes.{Bytes}
-use Rattle.qm_certtext.specs.RoundLines.{round_lines, HaveUps}
+use Rattle.def_certtext.specs.CertLines.{HasUps, cert_lines, certificates_of, lists_of, risen_by, said_by, text_of}
+use Rattle.def_certtext.specs.{Laws.chosen_lines, declared.certs.Certs.Certs, declared.certs.Round.Round}
 use Rattle.qm_certtext.proofs.Writing.{round_lines_are, text_both, ups_rounds, ups_used, used_risen}
+use Rattle.std.proofs.Common.{List, ap, append_assoc, subst, sym, ◌++◌, ◌∙◌, ◌≡◌}
+use Rattle.{def_io.specs.Bytes.Bytes, qm_certtext.specs.RoundLines.round_lines, std.proofs.lemmas.Result.on_ok_weaker}
+use Rattle.{def_certtext.specs.CertLines.Lists, qm_certtext.specs.RoundLines.HaveUps}
+use Rattle.{def_certtext.specs.CertLines.alone}
 use Rattle.qm_certtext.proofs.certs.push_chosen.Goals as goal
 
 pub push_rounds-requires : goal.push_rounds-requires
-push_rounds-requires c =
-    subst (λ (rounds : List Round). All (λ round. HasUps (lists_of round.cert)) rounds) (sym c.deref.ensures.value)
-    (ups_rounds c.in-Risen.rounds.items (alone (lists_of c.in-Risen.cert))
+push_rounds-requires c = rw c.deref.ensures.value (ups_rounds c.in-Risen.rounds.items (alone (lists_of c.in-Risen.cert))
     (subst (λ (certs : Certs). HaveUps (certificates_of certs)) c.in-Risen.is c.requires))
 
 pub push_cert-requires-in-Risen : goal.push_cert-requires-in-Risen

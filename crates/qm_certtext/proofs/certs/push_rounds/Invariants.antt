@@ -1,6 +1,5 @@
-use Rattle.std.proofs.Common.{◌≡◌, ◌++◌, drop}
-use Rattle.def_certtext.specs.CertLines.{text_of}
-use Rattle.qm_certtext.specs.RoundLines.{round_lines}
+use Rattle.{def_certtext.specs.CertLines.text_of, qm_certtext.specs.RoundLines.round_lines, std.proofs.Common.drop}
+use Rattle.{std.proofs.Common.◌++◌, std.proofs.Common.◌≡◌}
 use Rattle.qm_certtext.proofs.certs.push_rounds.Given as goal
 
 abbrev pub invariant-loop-round : goal.invariant-loop-round

@@ -4,11 +4,8 @@ use Rattle.qm_io.proofs.Cuts.{cut_behind, cut_ended, cut_is, cut_there, lines_fe
 use Rattle.qm_certtext.proofs.last.find_last.Goals as goal
 
 pub lines-init : goal.lines-init
-lines-init c = record {
-  rest = whole_tail c.args.bytes.now;
-  low = omega arith;
-  found = λ k l. absurd (omega (arith, l));
-}
+lines-init c =
+    record { rest = whole_tail c.args.bytes.now; low = omega arith; found = λ k l. absurd (omega arith) }
 
 pub overflow_sub-at : goal.overflow_sub-at
 overflow_sub-at c = rest_low c.args.bytes.now c.lines.rest.now c.lines.i c.lines.invariant.rest
@@ -17,7 +14,7 @@ pub overflow_add-i : goal.overflow_add-i
 overflow_add-i c =
     let there = cut_there c.args.bytes.now c.lines.rest.now c.lines.i c.lines.invariant.rest c.in-Some.line.now
     c.in-Some.behind.now c.in-Some.ensures.line c.in-Some.ensures.rest in
-    omega (arith, there, lines_few c.args.bytes.now, c.requires)
+    omega (arith, lines_few c.args.bytes.now)
 
 pub lines-preserved : goal.lines-preserved
 lines-preserved c =
@@ -26,12 +23,10 @@ lines-preserved c =
     record {
       rest = cut_behind c.args.bytes.now c.lines.rest.now c.lines.i c.lines.invariant.rest c.in-Some.line.now
           c.in-Some.behind.now c.in-Some.ensures.line c.in-Some.ensures.rest;
-      low = omega (arith, there);
+      low = omega arith;
       found = found_more c.args.prefix.now c.args.bytes.now c.lines.rest.now c.in-Some.line.now c.lines.i _
-          c.lines.found _ c.lines.invariant.rest
-          (cut_is c.args.bytes.now c.lines.rest.now c.lines.i c.lines.invariant.rest c.in-Some.line.now
-          c.in-Some.behind.now c.in-Some.ensures.line
-          c.in-Some.ensures.rest)
+          c.lines.found _ c.lines.invariant.rest (cut_is c.args.bytes.now c.lines.rest.now c.lines.i
+          c.lines.invariant.rest c.in-Some.line.now c.in-Some.behind.now c.in-Some.ensures.line c.in-Some.ensures.rest)
           refl c.lines.invariant.found c.found_with-found.ensures;
     }
 

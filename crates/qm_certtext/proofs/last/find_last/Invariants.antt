@@ -1,6 +1,5 @@
-use Rattle.std.proofs.Common.{◌≡◌, ◌≤◌, length}
-use Rattle.def_io.specs.Lines.{lines_of, tail_of}
-use Rattle.qm_certtext.specs.Heads.{IsFoundIn}
+use Rattle.{def_io.specs.Lines.lines_of, def_io.specs.Lines.tail_of, qm_certtext.specs.Heads.IsFoundIn}
+use Rattle.{std.proofs.Common.length, std.proofs.Common.◌≡◌, std.proofs.Common.◌≤◌}
 use Rattle.qm_certtext.proofs.last.find_last.Given as goal
 
 abbrev pub invariant-lines : goal.invariant-lines

@@ -3,27 +3,23 @@ use Rattle.qm_certtext.proofs.Counts.{rise_no_arc, rise_no_behind, rise_no_floor
 use Rattle.qm_certtext.proofs.numbers.read_rise.Goals as goal
 
 pub returns-then-is_empty : goal.returns-then-is_empty
-returns-then-is_empty c = rise_no_behind c.args.text.now c.split_at.result.0.now c.split_at.result.1.now _
-    c.find_byte.ensures.exact c.split_at.ensures.front c.split_at.ensures.back
+returns-then-is_empty c = rise_no_behind c.find_byte.ensures.exact c.split_at.ensures.front c.split_at.ensures.back
     (eqb-true (length c.split_at.result.1.now) 0 (sym c.if-is_empty.ensures))
 
 pub returns-in_default : goal.returns-in_default
-returns-in_default c = rise_no_floor c.args.text.now c.split_at.result.0.now c.split_at.result.1.now _
-    c.find_byte.ensures.exact c.split_at.ensures.front c.split_at.ensures.back c.behind_first.result.now
-    c.behind_first.ensures (λ n low is. c.in_default.ensures n (omega (arith, low, c.from.ensures)) is)
+returns-in_default c = rise_no_floor c.find_byte.ensures.exact c.split_at.ensures.front c.split_at.ensures.back
+    c.behind_first.result.now c.behind_first.ensures (λ n low is. c.in_default.ensures n (omega arith) is)
 
 pub returns-in-Some-read_count : goal.returns-in-Some-read_count
-returns-in-Some-read_count c = rise_read c.args.text.now c.split_at.result.0.now c.split_at.result.1.now _
-    c.find_byte.ensures.exact c.split_at.ensures.front c.split_at.ensures.back c.behind_first.result.now
-    c.in-Some-read_count.number c.in-Some.floor (some_behind c.split_at.result.1.now c.if-is_empty.ensures)
-    c.behind_first.ensures c.if-number-gt0.true c.in-Some-read_count.ensures.0 c.in-Some-read_count.ensures.1
-    (omega (arith, c.in-Some.ensures.0, c.from.ensures)) c.in-Some.ensures.1
+returns-in-Some-read_count c = rise_read c.find_byte.ensures.exact c.split_at.ensures.front c.split_at.ensures.back
+    c.behind_first.result.now c.in-Some-read_count.number c.in-Some.floor (some_behind c.split_at.result.1.now
+    c.if-is_empty.ensures) c.behind_first.ensures c.if-number-gt0.true c.in-Some-read_count.ensures.0
+    c.in-Some-read_count.ensures.1 (omega (arith, c.in-Some.ensures.0, c.from.ensures)) c.in-Some.ensures.1
 
 pub returns-in_default-read_count : goal.returns-in_default-read_count
-returns-in_default-read_count c = rise_not_zero c.args.text.now c.split_at.result.0.now c.split_at.result.1.now _
-    c.find_byte.ensures.exact c.split_at.ensures.front c.split_at.ensures.back c.in-Some-read_count.number
-    (omega (arith, c.if-number-gt0.false)) c.in-Some-read_count.ensures.1
+returns-in_default-read_count c = rise_not_zero c.find_byte.ensures.exact c.split_at.ensures.front
+    c.split_at.ensures.back c.in-Some-read_count.number (omega arith) c.in-Some-read_count.ensures.1
 
 pub returns-in_default-read_count-2 : goal.returns-in_default-read_count-2
-returns-in_default-read_count-2 c = rise_no_arc c.args.text.now c.split_at.result.0.now c.split_at.result.1.now _
-    c.find_byte.ensures.exact c.split_at.ensures.front c.split_at.ensures.back c.in_default-read_count.ensures
+returns-in_default-read_count-2 c = rise_no_arc c.find_byte.ensures.exact c.split_at.ensures.front
+    c.split_at.ensures.back c.in_default-read_count.ensures

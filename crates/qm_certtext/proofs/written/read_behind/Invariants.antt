@@ -1,6 +1,5 @@
-use Rattle.std.proofs.Common.{◌≡◌, ◌≤◌, ◌-◌, length, take}
-use Rattle.def_io.specs.Lines.{lines_of, tail_of}
-use Rattle.qm_certtext.specs.Parts.{ReadSome}
+use Rattle.std.proofs.{Common.length, Common.take, Common.◌-◌, Common.◌≡◌, Common.◌≤◌}
+use Rattle.{def_io.specs.Lines.lines_of, def_io.specs.Lines.tail_of, qm_certtext.specs.Parts.ReadSome}
 use Rattle.qm_certtext.proofs.written.read_behind.Given as goal
 
 abbrev pub invariant-lines : goal.invariant-lines

@@ -1,5 +1,4 @@
-use Rattle.def_certtext.specs.CertLines.{lists_of}
-use Rattle.qm_certtext.proofs.Ending.{rounds_are}
+use Rattle.{def_certtext.specs.CertLines.lists_of, qm_certtext.proofs.Ending.rounds_are}
 use Rattle.qm_certtext.proofs.written.rounds_of.Goals as goal
 
 pub returns : goal.returns

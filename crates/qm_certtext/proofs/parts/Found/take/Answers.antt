@@ -1,8 +1,7 @@
-use Rattle.std.proofs.Common.{◌≡◌, Some, sym, ap, subst, refl}
-use Rattle.std.proofs.lemmas.Bool.{false≢true}
-use Rattle.def_certtext.specs.declared.certs.Rising.TheVariants.{Rounds}
-use Rattle.qm_certtext.specs.{Parts.Holds, declared.parts.Found.Found, declared.parts.Parts.Parts}
-use Rattle.qm_certtext.proofs.Holding.{added_ok, starts, starts_not, takes_both, takes_other, takes_third}
+use Rattle.qm_certtext.proofs.Holding.{added_ok, holds_none, starts, starts_not, takes_both, takes_other, takes_third}
+use Rattle.qm_certtext.specs.{declared.parts.Found.Found, declared.parts.Parts.Parts}
+use Rattle.std.proofs.{Common.Some, Common.refl, Common.sym, Common.◌≡◌, lemmas.Bool.false≢true}
+use Rattle.{def_certtext.specs.declared.certs.Rising.TheVariants.Rounds, std.proofs.Common.ap}
 use Rattle.qm_certtext.proofs.parts.Found.take.Goals as goal
 
 pub returns-then-starts_third : goal.returns-then-starts_third
@@ -17,13 +16,7 @@ returns-then-starts_third c =
     let both = starts c.args.self.now.first c.args.line (sym c.if-starts_third.ensures) in
     takes_both c.args.rising c.args.self.now new c.args.line other
     (takes_third c.args.self.now new c.args.line both.0 both.1 (ap (λ (p : Parts). Some p) c.replace.ensures.value)
-    (subst (λ (p : Parts). Holds p _) (sym c.replace.ensures.after) (record {
-      lengths = c.new.ensures.lengths;
-      vertices = c.new.ensures.vertices.0;
-      vertex_ups = c.new.ensures.vertices.1;
-      sets = c.new.ensures.sets.0;
-      set_ups = c.new.ensures.sets.1;
-    })))
+    (rw c.replace.ensures.after (holds_none c.new.ensures.lengths c.new.ensures.vertices c.new.ensures.sets)))
 
 pub returns : goal.returns
 returns c =

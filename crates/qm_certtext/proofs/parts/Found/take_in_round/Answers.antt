@@ -1,6 +1,5 @@
-use Rattle.std.proofs.Common.{refl}
-use Rattle.qm_certtext.specs.declared.parts.Found.{Found}
-use Rattle.qm_certtext.proofs.{Ending.no_rise_line, Ending.takes_plain, Holding.added_ok}
+use Rattle.qm_certtext.{proofs.Ending.no_rise_line, proofs.Ending.takes_plain, specs.declared.parts.Found.Found}
+use Rattle.{qm_certtext.proofs.Holding.added_ok, std.proofs.Common.refl}
 use Rattle.qm_certtext.proofs.parts.Found.take_in_round.Goals as goal
 
 pub returns : goal.returns
