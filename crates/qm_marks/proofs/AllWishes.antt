@@ -1,27 +1,16 @@
 -- Wishes line by line: what is known after some lines of a text.
-use Rattle.std.proofs.Common.{◌≡◌, ℕ, ◌+◌, ◌-◌, ◌<◌, ◌≤◌, true, false, cond, List, [], ◌∷◌, ◌++◌, codes, length}
-use Rattle.std.proofs.Common.{map, take, drop, get_or, Ok, refl, sym, ap, ◌∙◌, arith, length-take}
+use Rattle.def_fit.specs.WishLines.{all_wish_fails, edge_wishes, is_wish_line, vertex_line_count, wish_or, wishes_said}
+use Rattle.def_fit.specs.WishLines.{Wished, all_wished, wish_fails, wish_words, wished_by, wishes_of}
+use Rattle.std.proofs.Common.{List, arith, codes, cond, drop, false, get_or, length, length-take, map, refl, take, true}
+use Rattle.std.proofs.Common.{Ok, [], ap, sym, ℕ, ◌++◌, ◌+◌, ◌-◌, ◌<◌, ◌∙◌, ◌∷◌, ◌≡◌, ◌≤◌}
+use Rattle.std.proofs.lemmas.List.{FromFn.get_or-map-range_with_len, FromFn.length-range_with_len, get_or_default}
+use Rattle.std.proofs.lemmas.List.{at_drop_more, drop_all, get_or-take, length-map, same_lists}
 use Rattle.std.proofs.lemmas.{Bool.false_from_ne_true, Bool.true≢false, Slice.Eq.bytes_eq-Decides}
-use Rattle.std.proofs.lemmas.List.{at_drop_more, drop_all, get_or-take, get_or_default, length-map, same_lists}
-use Rattle.std.proofs.lemmas.List.FromFn.{get_or-map-range_with_len, length-range_with_len}
-use Rattle.std.specs.{Prelude.slice_range, List.All, List.range_with_len, Str.bytes_eq}
-use Rattle.def_fit.specs.WishLines.{all_wish_fails, all_wished, edge_wishes, is_wish_line, said_fails}
-use Rattle.def_fit.specs.WishLines.{vertex_line_count, wish_fails, wish_or, wish_words, wished_by, wishes_of}
-use Rattle.def_fit.specs.{WishLines.wishes_said, WishLines.Wished, declared.fit.TheConstants.MAX_WISH}
-use Rattle.def_io.specs.{Bytes.Bytes, Bytes.Lines, Lines.lines_of}
-use Rattle.def_marks.specs.{Chains.runs_between}
-use Rattle.def_mesh.specs.{Darts.darts, Faces.Faces}
-use Rattle.def_text.specs.FaceSet.{FaceSet}
-use Rattle.qm_marks.specs.Wishing.{pieces_of, TakesWish}
-
--- A line that begins so wishes, and no other does.
-wishes_line : (line : Bytes) → bytes_eq (take 3 line) (codes "#w ") ≡ true → is_wish_line line ≡ true
-wishes_line line begins = ap (bytes_eq (codes "#w ")) ((bytes_eq-Decides (take 3 line) (codes "#w ")).0 begins)
-
-other_line : (line : Bytes) → bytes_eq (take 3 line) (codes "#w ") ≡ false → is_wish_line line ≡ false
-other_line line other = false_from_ne_true _ (λ begins.
-    true≢false (sym ((bytes_eq-Decides (take 3 line) (codes "#w ")).1
-    (sym ((bytes_eq-Decides (codes "#w ") (take 3 line)).0 begins))) ∙ other))
+use Rattle.std.specs.{List.All, List.range_with_len, Prelude.slice_range, Str.bytes_eq}
+use Rattle.{def_fit.specs.declared.fit.TheConstants.MAX_WISH, def_marks.specs.Chains.runs_between}
+use Rattle.{def_text.specs.FaceSet.FaceSet, qm_marks.specs.Wishing.TakesWish, qm_marks.specs.Wishing.pieces_of}
+use Rattle.{def_io.specs.Lines.lines_of, def_mesh.specs.Darts.darts, def_mesh.specs.Faces.Faces}
+use Rattle.{def_io.specs.Bytes.Bytes, def_io.specs.Bytes.Lines}
 
 -- Wishes one after another.
 wish_or_more : (faces : Faces) (d before : ℕ) (one more : List Wished) → wish_or faces d before (one ++ more)
@@ -47,42 +36,40 @@ module _ {soup : FaceSet} {lines : Lines} {all i : ℕ} {wishes : List ℕ} (kno
     abbrev said : List Wished
     said = cond (is_wish_line line) (wishes_said soup.names (wished_by (wish_words line))) []
 
-    fails_next : all_wish_fails soup all 1 lines ≡ wish_fails soup all (i + 1) line
-        ++ all_wish_fails soup all (i + 1 + 1) (drop (i + 1) lines)
-    fails_next = sym known.fails ∙ at_drop_more (all_wish_fails soup all (i + 1)) lines i [] low
-
     -- A line that is accepted.
     more : (new : List ℕ) → wish_fails soup all (i + 1) line ≡ [] → length new ≡ darts soup.faces
         → ((d : ℕ) → d < darts soup.faces → get_or new d 0 ≡ wish_or soup.faces d (get_or wishes d 0) said)
         → ((d : ℕ) → d < darts soup.faces → get_or new d 0 ≤ MAX_WISH) → IsAtWish soup lines all (i + 1) new
-    more new accepted long each few = record {
-      long = long;
-      fails = sym (rw accepted at fails_next);
-      wishes = λ d l. rw (each d l) (
-          sym (wish_or_more soup.faces d (get_or wishes d 0) said (all_wished soup.names (drop (i + 1) lines)))
-          ∙ sym (at_drop_more (λ (ls : Lines). wish_or soup.faces d (get_or wishes d 0) (all_wished soup.names ls))
-          lines i [] low) ∙ known.wishes d l);
-      small = few;
-    }
+    more new accepted long each few =
+        let next : all_wish_fails soup all 1 lines ≡ wish_fails soup all (i + 1) line ++ all_wish_fails soup all (i + 1
+        + 1) (drop (i + 1) lines) = sym known.fails ∙ at_drop_more (all_wish_fails soup all (i + 1)) lines i [] low in
+        record {
+          long = long;
+          fails = sym (rw accepted at next);
+          wishes = λ d l. rw (each d l) (
+              sym (wish_or_more soup.faces d (get_or wishes d 0) said (all_wished soup.names (drop (i + 1) lines)))
+              ∙ sym (at_drop_more (λ (ls : Lines). wish_or soup.faces d (get_or wishes d 0) (all_wished soup.names ls))
+              lines i [] low) ∙ known.wishes d l);
+          small = few;
+        }
 
     -- One that wishes for nothing.
     pub at_other : bytes_eq (take 3 line) (codes "#w ") ≡ false → IsAtWish soup lines all (i + 1) wishes
     at_other other =
-        let off : is_wish_line line ≡ false = other_line line other in
+        let off : is_wish_line line ≡ false = false_from_ne_true _ (λ begins.
+        true≢false (sym ((bytes_eq-Decides (take 3 line) (codes "#w ")).1
+        (sym ((bytes_eq-Decides (codes "#w ") (take 3 line)).0 begins))) ∙ other)) in
         more wishes (rw off refl) known.long (λ d l. rw off refl) known.small
 
     module _ (begins : bytes_eq (take 3 line) (codes "#w ") ≡ true) {rest : Bytes} (behind : rest ≡ drop 3 line) where
       on : is_wish_line line ≡ true
-      on = wishes_line line begins
+      on = ap (bytes_eq (codes "#w ")) ((bytes_eq-Decides (take 3 line) (codes "#w ")).0 begins)
 
       -- One that is taken.
       pub at_wish : (new : List ℕ) → length new ≡ darts soup.faces
           → TakesWish soup all (i + 1) (pieces_of rest) wishes new → IsAtWish soup lines all (i + 1) new
-      at_wish new long took =
-          let says : wish_fails soup all (i + 1) line ≡ said_fails soup all (i + 1) (wished_by (pieces_of rest)) =
-          rw (on, behind) refl in
-          more new (says ∙ took.accepted) long (λ d l. rw (on, ← behind) (took.wishes d l))
-          (λ d l. took.small d l (known.small d l))
+      at_wish new long took = more new (rw (on, ← behind) took.accepted) long
+          (λ d l. rw (on, ← behind) (took.wishes d l)) (λ d l. took.small d l (known.small d l))
 
   -- Behind the last line.
   module _ (high : length lines ≤ i) where
@@ -102,12 +89,12 @@ module _ {soup : FaceSet} {lines : Lines} {all i : ℕ} {wishes : List ℕ} (kno
             length-map (range_with_len 0 (darts soup.faces)) f ∙ length-range_with_len 0 (darts soup.faces) in
             same_lists (map f (range_with_len 0 (darts soup.faces))) wishes (long ∙ sym known.long)
             (λ k d l.
-            let low : k < darts soup.faces = omega (arith, l, long) in
+            let low : k < darts soup.faces = omega arith in
             get_or-map-range_with_len f 0 (darts soup.faces) k k d low (omega arith)
-            ∙ sym (get_or_default wishes k d 0 (omega (arith, low, known.long)) ∙ each k low))
+            ∙ sym (get_or_default wishes k d 0 (omega arith) ∙ each k low))
 
     pub at_small : All (λ wish. wish ≤ MAX_WISH) wishes
-    at_small k d l = rw (← get_or_default wishes k 0 d l) (known.small k (omega (arith, l, known.long)))
+    at_small k d l = rw (← get_or_default wishes k 0 d l) (known.small k (omega arith))
 
 -- All lines before one, and the list of one number.
 pub first_lines : (lines : Lines) (after : ℕ) → slice_range lines 0 after ≡ take after lines
@@ -116,9 +103,8 @@ first_lines lines after = let e : after - 0 ≡ after = omega arith in rw e refl
 -- A line before that one.
 pub low_in : (text : Bytes) (after i : ℕ) → after ≤ length (lines_of text) → i < after
     → i < length (take after (lines_of text))
-low_in text after i within low = omega (arith, within, low, length-take after (lines_of text))
+low_in text after i within low = omega (arith, length-take after (lines_of text))
 
-pub line_in : (text : Bytes) (after i : ℕ) (line : Bytes) → after ≤ length (lines_of text) → i < after
-    → line ≡ get_or (lines_of text) i []
-    → line ≡ get_or (take after (lines_of text)) i []
+pub line_in : (text : Bytes) (after i : ℕ) (line : Bytes) → after ≤ length (lines_of text) → i < after → line
+    ≡ get_or (lines_of text) i [] → line ≡ get_or (take after (lines_of text)) i []
 line_in text after i line within low is = is ∙ sym (get_or-take after (lines_of text) i [] low)

@@ -1,11 +1,10 @@
 -- The corners of a line, word by word.
-use Rattle.std.proofs.Common.{◌≡◌, ℕ, suc, ◌+◌, Bool, true, false, cond, not, eqb, ◌&&◌, List, [], ◌∷◌, ◌++◌, length}
-use Rattle.std.proofs.Common.{take, drop, map, refl, sym, ap, ◌∙◌, arith, None, Some}
-use Rattle.std.proofs.lemmas.List.{append_assoc}
-use Rattle.std.specs.List.{after_first, list_all, position_or_len}
-use Rattle.def_text.specs.{Corner.is_optional, Corner.is_slash, Corner.used_index, Digits.is_signed, Types.Word}
-use Rattle.def_text.specs.{Words.words, declared.index.Index.Index}
-use Rattle.def_marks.specs.Lines.{corner_index, is_line_corner}
+use Rattle.def_text.specs.{Corner.is_optional, Corner.used_index, Digits.is_signed, declared.index.Index.Index}
+use Rattle.std.proofs.Common.{Bool, List, Some, cond, drop, eqb, false, length, map, sym, take, true, ◌&&◌, ◌++◌, ◌+◌}
+use Rattle.std.proofs.{Common.[], Common.◌∙◌, Common.◌∷◌, Common.◌≡◌, lemmas.List.append_assoc, lemmas.List.drop-drop}
+use Rattle.std.{proofs.Common.ap, specs.List.after_first, specs.List.list_all, specs.List.position_or_len}
+use Rattle.{def_marks.specs.Lines.corner_index, def_marks.specs.Lines.is_line_corner, def_text.specs.Corner.is_slash}
+use Rattle.{def_text.specs.Types.Word, def_text.specs.Words.words, std.proofs.Common.ℕ}
 
 -- Some words of a line are read, and the rest is left.
 pub record IsReadTo (all before : ℕ) (text rest : List ℕ) (indices : List Index) : Type 0 where
@@ -38,20 +37,11 @@ module _ (all before : ℕ) (text rest after : List ℕ) (word : Word) (indices 
 
 -- The parts of a word before and behind its first slash.
 pub behind_slash : (p : ℕ → Bool) (word : Word) → drop 1 (drop (position_or_len p word) word) ≡ after_first p word
-behind_slash p [] = refl
-behind_slash p (b ∷ bs) = by_first (p b) (behind_slash p bs)
-  where
-    by_first : (t : Bool) → drop 1 (drop (position_or_len p bs) bs) ≡ after_first p bs
-        → drop 1 (drop (cond (not t) (1 + position_or_len p bs) 0) (b ∷ bs))
-        ≡ drop (cond (not t) (1 + position_or_len p bs) 0 + 1) (b ∷ bs)
-    by_first true again = refl
-    by_first false again = let e : 1 + position_or_len p bs ≡ suc (position_or_len p bs) = omega arith in
-        let f : suc (position_or_len p bs) + 1 ≡ suc (position_or_len p bs + 1) = omega arith in rw (e, f) again
+behind_slash p word = drop-drop 1 (position_or_len p word) word
 
 -- A word by these parts.
-pub corner_found : (word first tail : List ℕ) (p : ℕ) → p ≡ position_or_len is_slash word → first ≡ take p word
-    → tail ≡ drop p word
-    → (is_line_corner word ≡ (is_signed first && is_optional (drop 1 tail))) × (used_index word ≡ first)
+pub corner_found : (word first tail : List ℕ) (p : ℕ) → p ≡ position_or_len is_slash word → first ≡ take p word → tail
+    ≡ drop p word → (is_line_corner word ≡ (is_signed first && is_optional (drop 1 tail))) × (used_index word ≡ first)
 corner_found word first tail p at front back =
     let head : used_index word ≡ first = sym (front ∙ ap (λ n. take n word) at) in
     let rest : drop 1 tail ≡ after_first is_slash word = ap (drop 1) (back ∙ ap (λ n. drop n word) at)
@@ -60,8 +50,3 @@ corner_found word first tail p at front back =
           ∙ ap (λ xs. is_signed first && is_optional xs) (sym rest),
       head,
     )
-
--- What was found.
-pub found_corner : {X : Type 0} (t : Bool) (x y : X) → cond t (Some x) None ≡ Some y → (t ≡ true) × (y ≡ x)
-found_corner true x y is = (refl, cc)
-found_corner false x y is = cc

@@ -1,10 +1,8 @@
 -- The first word of a line.
-use Rattle.std.proofs.Common.{◌≡◌, ℕ, suc, ◌<◌, false, cond, eqb, List, [], ◌∷◌, length, take}
-use Rattle.std.proofs.Common.{drop, get_or, refl, sym, ◌∙◌, arith}
-use Rattle.std.proofs.lemmas.Bool.{cond-false, ne_eqb}
-use Rattle.std.specs.List.{position_or_len}
-use Rattle.def_text.specs.Words.{is_blank, words}
-use Rattle.qm_obj.proofs.WordLemmas.{words_word}
+use Rattle.std.proofs.Common.{List, arith, cond, drop, eqb, false, get_or, length, refl, suc, sym, take, ◌<◌, ◌∙◌, ◌∷◌}
+use Rattle.std.proofs.{Common.[], Common.ℕ, Common.◌≡◌, lemmas.Bool.cond-false, lemmas.Bool.ne_eqb}
+use Rattle.{def_text.specs.Words.is_blank, qm_obj.proofs.WordLemmas.words_word, std.specs.List.position_or_len}
+use Rattle.{def_text.specs.Words.words}
 
 some_bytes : (k : ℕ) → eqb (suc k) 0 ≡ false
 some_bytes k = ne_eqb (suc k) 0 (λ (z : suc k ≡ 0). omega arith)

@@ -1,23 +1,18 @@
 -- Marks line by line: what is known after some lines of a text.
-use Rattle.std.proofs.Common.{◌≡◌, ℕ, ◌+◌, ◌<◌, ◌≤◌, Bool, true, false, cond, ◌&&◌, ◌||◌, List, [], ◌∷◌, length, map}
-use Rattle.std.proofs.Common.{is_some, sym, ap, ◌∙◌, refl, arith, Ok, Err}
-use Rattle.std.proofs.lemmas.{List.get_or_default, List.length-map, List.same_lists, List.FromFn.length-range_with_len}
-use Rattle.std.proofs.lemmas.List.Sums.{sum_by-cons}
-use Rattle.std.specs.{Prelude.slice_range, List.count_by, List.flat_map, List.list_any}
-use Rattle.def_cut.specs.FullCut.{is_on}
-use Rattle.def_io.specs.Bytes.{Lines}
-use Rattle.def_mesh.specs.{Faces.Faces, Darts.all_darts, Darts.darts, Darts.twin_of, Manifold.IsManifold}
-use Rattle.def_feature.specs.Marks.{AreMarks}
-use Rattle.def_text.specs.{FaceSet.FaceSet, Logical.Logical, Logical.logical_lines, Reading.is_vertex_line}
-use Rattle.def_text.specs.declared.limits.TheConstants.{MAX_V_LINES}
-use Rattle.def_marks.specs.{Chains.is_along_chains, Chains.marks_along, Chains.runs_along, Lines.vertex_lines_in}
-use Rattle.def_marks.specs.Lines.{first_fail, line_chain, line_fails, marks_of, Placed, placed_lines, text_lines}
-use Rattle.def_marks.specs.declared.fail.MarkFail.{MarkFail}
-use Rattle.qm_marks.proofs.AlongChains.{mark_along, marks_are}
-use Rattle.qm_obj.proofs.Ranges.{next_lines, range_none, span_within}
-use Rattle.qm_obj.specs.{Ahead.span, Lines.first_logical}
-use Rattle.qm_marks.specs.Reading.{IsBegun, IsReading, line_at, placed_at, TookLine}
-use Rattle.qm_marks.specs.declared.lines.MarkReader.{MarkReader}
+use Rattle.def_marks.specs.Lines.{Placed, line_chain, line_fails, marks_of, placed_lines, text_lines, vertex_lines_in}
+use Rattle.def_marks.specs.{Chains.is_along_chains, Chains.marks_along, declared.fail.MarkFail.MarkFail}
+use Rattle.def_mesh.specs.{Darts.all_darts, Darts.darts, Darts.twin_of, Faces.Faces, Manifold.IsManifold}
+use Rattle.def_text.specs.{Logical.logical_lines, Reading.is_vertex_line, declared.limits.TheConstants.MAX_V_LINES}
+use Rattle.qm_marks.specs.Reading.{IsBegun, IsReading, TookLine, line_at, placed_at}
+use Rattle.qm_marks.{proofs.AlongChains.mark_along, proofs.EdgeMarks.merged, specs.declared.lines.MarkReader.MarkReader}
+use Rattle.qm_obj.{proofs.Ranges.next_lines, proofs.Ranges.span_within, specs.Ahead.span, specs.Lines.first_logical}
+use Rattle.std.proofs.Common.{Bool, Err, List, Ok, arith, cond, false, is_some, length, map, refl, sym, ◌&&◌, ◌+◌, ◌||◌}
+use Rattle.std.proofs.Common.{[], ap, ℕ, ◌<◌, ◌∙◌, ◌∷◌, ◌≡◌, ◌≤◌}
+use Rattle.std.proofs.lemmas.List.{FromFn.length-range_with_len, Sums.sum_by-cons, get_or_default, length-map}
+use Rattle.std.specs.{List.count_by, List.flat_map, List.list_any, Prelude.slice_range}
+use Rattle.{def_marks.specs.Chains.runs_along, qm_marks.proofs.AlongChains.marks_are, std.proofs.lemmas.List.same_lists}
+use Rattle.{def_feature.specs.Marks.AreMarks, def_text.specs.FaceSet.FaceSet, qm_obj.proofs.Ranges.range_none}
+use Rattle.{def_cut.specs.FullCut.is_on, def_io.specs.Bytes.Lines, def_text.specs.Logical.Logical}
 
 -- Whether dart d runs along the chain of some line.
 abbrev pub is_said : (soup : FaceSet) (placed : List Placed) (d : ℕ) → Bool
@@ -40,18 +35,13 @@ count_cons line rest = sum_by-cons (λ l. cond (is_vertex_line l) 1 0) line rest
 pub one_vertex : (line : Logical) → vertex_lines_in line ≤ 1
 one_vertex line = grind (arith)
 
-merged : (o s a b : Bool) → ((o || (s && a)) || (s && b)) ≡ (o || (s && (a || b)))
-merged true s a b = refl
-merged false true a b = refl
-merged false false a b = refl
-
 module _ (soup : FaceSet) (mesh : Faces) where
   -- Before the first line.
   pub left_begun : (lines : List Logical) (reader : MarkReader) → mesh ≡ soup.faces → length soup.names ≤ MAX_V_LINES
       → IsBegun mesh (count_by is_vertex_line lines) reader → IsLeft soup mesh (text_lines lines) lines reader
   left_begun lines reader same few begun = record {
-    reads = record { same = same; ends = begun.ends; long = begun.long; within = omega (arith, begun.none); few = few };
-    left = omega (arith, begun.none, begun.all_is);
+    reads = record { same = same; ends = begun.ends; long = begun.long; within = omega arith; few = few };
+    left = omega arith;
     fails = λ i. flat_map (line_fails soup) (placed_lines (begun.all_is i) (begun.none i) lines);
     marks = λ d l. ap (λ b. b
         || (is_some (twin_of soup.faces d) && is_said soup (placed_lines reader.all reader.before lines) d))
@@ -63,7 +53,7 @@ module _ {soup : FaceSet} {mesh : Faces} where
   module _ {all : List Placed} {line : Logical} {rest : List Logical} {old : MarkReader}
       (known : IsLeft soup mesh all (line ∷ rest) old) where
     pub room : old.before + vertex_lines_in line ≤ old.all
-    room = omega (arith, known.left, count_cons line rest)
+    room = omega (arith, count_cons line rest)
 
     -- One line more.
     pub left_more : {new : MarkReader} → TookLine soup old new line → IsLeft soup mesh all rest new
@@ -75,7 +65,7 @@ module _ {soup : FaceSet} {mesh : Faces} where
         within = omega (arith, took.before, took.same.all, room);
         few = known.reads.few;
       };
-      left = omega (arith, known.left, count_cons line rest, took.before, took.same.all);
+      left = omega (arith, count_cons line rest);
       fails = (λ i. flat_map (line_fails soup) (placed_lines (took.same.all i) (took.before i) rest))
           ∙ (rw took.accepted at known.fails);
       marks = λ d l. (λ i. is_on new.marks.items d
@@ -100,9 +90,7 @@ module _ {soup : FaceSet} {mesh : Faces} where
         ∙ length-range_with_len 0 (darts soup.faces)
 
     nothing : (o s : Bool) → o ≡ (o || (s && false))
-    nothing true s = refl
-    nothing false true = refl
-    nothing false false = refl
+    nothing o s = grind (arith)
 
     at : (d : ℕ) → d < darts soup.faces → is_on reader.marks.items d
         ≡ is_on (marks_along soup.faces (map (line_chain soup) all)) d
@@ -112,13 +100,11 @@ module _ {soup : FaceSet} {mesh : Faces} where
     -- Behind the last line.
     pub left_same : reader.marks.items ≡ marks_along soup.faces (map (line_chain soup) all)
     left_same = same_lists reader.marks.items (marks_along soup.faces (map (line_chain soup) all)) (long ∙ sym long_all)
-        (λ d x l. get_or_default reader.marks.items d x false l
-        ∙ (at d (omega (arith, l, long)) ∙ get_or_default (marks_along soup.faces (map (line_chain soup) all)) d
-        false x (omega (arith, l, long, long_all))))
+        (λ d x l. get_or_default reader.marks.items d x false l ∙ (at d (omega (arith, l, long)) ∙ get_or_default
+        (marks_along soup.faces (map (line_chain soup) all)) d false x (omega (arith, l, long, long_all))))
 
     pub left_none : marks_of soup all ≡ Ok reader.marks.items
-    left_none = ap (λ fails. first_fail fails (marks_along soup.faces (map (line_chain soup) all))) (sym known.fails)
-        ∙ ap Ok (sym left_same)
+    left_none = rw (← known.fails) (ap Ok (sym left_same))
 
 -- What is read of a line is its number and its text.
 pub took_line : {soup : FaceSet} {old new : MarkReader} (line : Logical) {text : List ℕ} → text ≡ line.text
@@ -162,7 +148,7 @@ module _ {soup : FaceSet} {mesh : Faces} {all : Lines} {first i after : ℕ} {re
 
   ends : after ≤ i → IsLeft soup mesh (text_lines (logical_lines (first + 1) (slice_range all first after))) [] reader
   ends past =
-      let end : i ≡ after = omega (arith, at.within, past) in
+      let end : i ≡ after = omega arith in
       let none : slice_range all i after ≡ [] = rw end (range_none all after) in
       let left = at.left in rw none at left
 
@@ -171,8 +157,7 @@ module _ {soup : FaceSet} {mesh : Faces} {all : Lines} {first i after : ℕ} {re
   at_end past = left_none (ends past)
 
   pub at_inner : after ≤ i → IsManifold mesh → AreMarks mesh reader.marks.items
-  at_inner past m =
-      rw (left_same (ends past), ← (ends past).reads.same)
+  at_inner past m = rw (left_same (ends past), ← (ends past).reads.same)
       (marks_are mesh (map (line_chain soup) (text_lines (logical_lines (first + 1) (slice_range all first after)))) m)
 
 -- Before the first line.
@@ -194,9 +179,8 @@ pub record IsCounted (all : Lines) (first i after count : ℕ) : Type 0 where
       ≡ count_by is_vertex_line (logical_lines (first + 1) (slice_range all first after))
 
 pub counted_next : {all : Lines} {first i after count next more : ℕ} → i < after → after ≤ length all
-    → IsCounted all first i after count → next ≡ i + span (slice_range all i after)
-    → more ≡ vertex_lines_in (first_logical (i + 1) (slice_range all i after))
-    → IsCounted all first next after (count + more)
+    → IsCounted all first i after count → next ≡ i + span (slice_range all i after) → more
+    ≡ vertex_lines_in (first_logical (i + 1) (slice_range all i after)) → IsCounted all first next after (count + more)
 counted_next {all} {first} {i} {after} {count} {next} {more} lt within at is are =
     let line = first_logical (i + 1) (slice_range all i after) in
     let rest : logical_lines (i + 1) (slice_range all i after)
@@ -205,7 +189,7 @@ counted_next {all} {first} {i} {after} {count} {next} {more} lt within at is are
     ≡ vertex_lines_in line + count_by is_vertex_line (logical_lines (next + 1) (slice_range all next after)) =
     ap (count_by is_vertex_line) rest ∙ count_cons line (logical_lines (next + 1) (slice_range all next after)) in
     record {
-      within = omega (arith, is, (span_within all i after lt within).1);
-      few = omega (arith, is, are, one_vertex line, at.few, (span_within all i after lt within).0);
-      left = omega (arith, cut, are, at.left);
+      within = omega (arith, (span_within all i after lt within).1);
+      few = omega (arith, one_vertex line, (span_within all i after lt within).0);
+      left = omega arith;
     }

@@ -1,47 +1,33 @@
 -- What one line wishes, and the wishes at the darts of one edge.
-use Rattle.std.proofs.Common.{◌≡◌, ◌≢◌, ◌⊎◌, ℕ, ◌-◌, ◌^◌, ◌<◌, ◌≤◌, Bool, true, false, ◌||◌, cond, List, [], ◌∷◌}
-use Rattle.std.proofs.Common.{length, get_or, set, Some, None, refl, sym, ap, ◌∙◌, inl, inr, arith}
-use Rattle.std.proofs.lemmas.Bool.{and_from, cases_eq, cases_lt, eq-eqb, false_from_ne_true, le-ltb, lt-ltb, or_left}
-use Rattle.std.proofs.lemmas.{Bool.or_right, Bool.true≢false, Option.none-some}
-use Rattle.std.proofs.lemmas.List.{get_or-set_other, get_or-set_same, length-set}
-use Rattle.std.specs.Prelude.{min, nat_lt}
 use Rattle.def_fit.specs.WishLines.{is_out_of_range, said_fails, vertex_named, wished_by}
-use Rattle.def_fit.specs.declared.fit.TheConstants.{MAX_WISH}
-use Rattle.def_marks.specs.Chains.{is_edge, runs_between}
-use Rattle.def_marks.specs.declared.fail.MarkFail.TheVariants.{Range, NotEdge}
-use Rattle.def_mesh.specs.{Faces.Faces, Darts.IsTwin, Darts.darts, Darts.from_of, Darts.to_of, Darts.twin_of}
-use Rattle.def_mesh.specs.Manifold.{IsManifold}
-use Rattle.def_text.specs.{FaceSet.FaceSet, Types.Words}
-use Rattle.mesh_laws.proofs.Twins.{twin_found, twin_is}
-use Rattle.qm_marks.proofs.EdgeMarks.{on_edge}
-use Rattle.qm_marks.specs.{Wishing.IsSaid, Wishing.TakesWish, declared.said.Said.Said}
+use Rattle.def_marks.specs.declared.fail.{MarkFail.TheVariants.NotEdge, MarkFail.TheVariants.Range}
+use Rattle.def_mesh.specs.{Darts.darts, Darts.from_of, Darts.to_of, Darts.twin_of, Faces.Faces, Manifold.IsManifold}
+use Rattle.qm_marks.{proofs.EdgeMarks.on_edge, specs.Wishing.TakesWish, specs.declared.said.Said.Said}
+use Rattle.std.proofs.Common.{Bool, List, None, Some, arith, cond, false, get_or, inl, inr, length, refl, true, ℕ, ◌||◌}
+use Rattle.std.proofs.Common.{[], ap, set, sym, ◌-◌, ◌<◌, ◌^◌, ◌∙◌, ◌∷◌, ◌≡◌, ◌≤◌}
+use Rattle.std.proofs.lemmas.Bool.{Decides.nat_tests, and_from, cases_eq, false_from_ne_true, ltb-false, or_right}
+use Rattle.std.proofs.lemmas.{List.get_or-set_other, List.get_or-set_same, List.length-set, Option.none-some}
+use Rattle.std.{proofs.lemmas.Bool.eq-eqb, proofs.lemmas.Bool.or_left, specs.Prelude.min, specs.Prelude.nat_lt}
+use Rattle.{def_fit.specs.declared.fit.TheConstants.MAX_WISH, def_marks.specs.Chains.runs_between}
+use Rattle.{def_marks.specs.Chains.is_edge, def_text.specs.FaceSet.FaceSet, mesh_laws.proofs.Twins.twin_found}
+use Rattle.{def_text.specs.Types.Words, mesh_laws.proofs.Twins.twin_is, qm_marks.specs.Wishing.IsSaid}
 
 -- A number that is cut off at a bound is above what is far below the bound where the number is.
 clamped_lt : (a b : ℕ) → a < 2 ^ 64 - 1 → nat_lt a (min b (2 ^ 64 - 1)) ≡ nat_lt a b
-clamped_lt a b low = elim (cases_lt a b) [
-  | inl less ↦ lt-ltb a (min b (2 ^ 64 - 1)) (omega arith) ∙ sym (lt-ltb a b less)
-  | inr more ↦ le-ltb a (min b (2 ^ 64 - 1)) (omega arith) ∙ sym (le-ltb a b more)
-]
+clamped_lt a b low = grind (arith, nat_tests)
 
 -- Nothing is cut off that is not above it.
 unclamped : (a b : ℕ) → a < 2 ^ 64 - 1 → nat_lt a (min b (2 ^ 64 - 1)) ≡ false → min b (2 ^ 64 - 1) ≡ b
-unclamped a b low off = elim (cases_lt a (min b (2 ^ 64 - 1))) [
-  | inl less ↦ absurd (true≢false (sym (lt-ltb a (min b (2 ^ 64 - 1)) less) ∙ off))
-  | inr more ↦ omega arith
-]
+unclamped a b low off = omega (arith, ltb-false a (min b (2 ^ 64 - 1)) off)
 
 -- Some of three is on, or none.
 three_off : (a b c : Bool) → (a || b || c) ≡ false → (a ≡ false) × (b ≡ false) × (c ≡ false)
-three_off true b c off = absurd (true≢false off)
-three_off false true c off = absurd (true≢false off)
-three_off false false true off = absurd (true≢false off)
-three_off false false false off = (refl, refl, refl)
+three_off a b c off = grind (arith)
 
 module _ (soup : FaceSet) (all number : ℕ) (words : Words) (low : all < 2 ^ 32) where
   module _ (said : Said) (is : IsSaid words said) where
     far_same : (nat_lt all said.u || nat_lt all said.v || nat_lt MAX_WISH said.wish) ≡ is_out_of_range all is.wished
-    far_same =
-        (λ i. nat_lt all (is.u i) || nat_lt all (is.v i) || nat_lt MAX_WISH (is.wish i))
+    far_same = (λ i. nat_lt all (is.u i) || nat_lt all (is.v i) || nat_lt MAX_WISH (is.wish i))
         ∙ (λ i. clamped_lt all is.wished.u (omega arith) i || clamped_lt all is.wished.v (omega arith) i
         || clamped_lt MAX_WISH is.wished.wish (omega arith) i)
 
@@ -63,18 +49,11 @@ module _ (soup : FaceSet) (all number : ℕ) (words : Words) (low : all < 2 ^ 32
       wish_is : said.wish ≡ is.wished.wish
       wish_is = is.wish ∙ unclamped MAX_WISH is.wished.wish (omega arith) (ap (nat_lt MAX_WISH) (sym is.wish) ∙ off.2)
 
-      -- Numbers in range fit their types.
-      low_of : (n most : ℕ) → nat_lt most n ≡ false → n ≤ most
-      low_of n most within = elim (cases_lt most n) [
-        | inl less ↦ absurd (true≢false (sym (lt-ltb most n less) ∙ within))
-        | inr more ↦ more
-      ]
-
       pub fits : (said.u < 2 ^ 32) × (said.v < 2 ^ 32) × (said.wish < 2 ^ 32)
       fits = (
-        omega (arith, low_of said.u all off.0, low),
-        omega (arith, low_of said.v all off.1, low),
-        omega (arith, low_of said.wish MAX_WISH off.2),
+        omega (arith, ltb-false all said.u off.0),
+        omega (arith, ltb-false all said.v off.1),
+        omega (arith, ltb-false MAX_WISH said.wish off.2),
       )
 
       -- Whether the edge is one.
@@ -101,7 +80,7 @@ module _ (soup : FaceSet) (all number : ℕ) (words : Words) (low : all < 2 ^ 32
       }
         where
           by_test : (b : Bool) (before : ℕ) → before ≤ MAX_WISH → cond b said.wish before ≤ MAX_WISH
-          by_test true before few = low_of said.wish MAX_WISH off.2
+          by_test true before few = ltb-false MAX_WISH said.wish off.2
           by_test false before few = few
 
 -- The darts of an edge, and all others.
@@ -111,9 +90,8 @@ module _ (faces : Faces) (m : IsManifold faces) (wishes : List ℕ) (wish d : �
   runs_self = or_left _ _ (and_from _ _ (eq-eqb (from_of faces d) (from_of faces d) refl)
       (eq-eqb (to_of faces d) (to_of faces d) refl))
 
-  at_dart : (list : List ℕ) (x : ℕ) → runs_between faces (from_of faces d) (to_of faces d) x ≡ true
-      → get_or list x 0 ≡ wish
-      → get_or list x 0 ≡ cond (runs_between faces (from_of faces d) (to_of faces d) x) wish (get_or wishes x 0)
+  at_dart : (list : List ℕ) (x : ℕ) → runs_between faces (from_of faces d) (to_of faces d) x ≡ true → get_or list x 0
+      ≡ wish → get_or list x 0 ≡ cond (runs_between faces (from_of faces d) (to_of faces d) x) wish (get_or wishes x 0)
   at_dart list x on is = rw on is
 
   at_rest : (list : List ℕ) (x : ℕ) → runs_between faces (from_of faces d) (to_of faces d) x ≡ false
@@ -122,42 +100,34 @@ module _ (faces : Faces) (m : IsManifold faces) (wishes : List ℕ) (wish d : �
   at_rest list x off is = rw off is
 
   -- An edge of one dart.
-  pub put_one : twin_of faces d ≡ None → (x : ℕ) → x < darts faces
-      → get_or (set wishes d wish) x 0 ≡ cond (runs_between faces (from_of faces d) (to_of faces d) x) wish
-      (get_or wishes x 0)
+  pub put_one : twin_of faces d ≡ None → (x : ℕ) → x < darts faces → get_or (set wishes d wish) x 0
+      ≡ cond (runs_between faces (from_of faces d) (to_of faces d) x) wish (get_or wishes x 0)
   put_one none x lx = elim (cases_eq x d) [
-    | inl e ↦ at_dart (set wishes d wish) x (rw e runs_self)
-        (rw e (get_or-set_same wishes d wish 0 (omega (arith, ld, long))))
-    | inr ne ↦ at_rest (set wishes d wish) x (false_from_ne_true _ (λ on. refuted ne (on_edge faces m d x ld lx on)))
-        (get_or-set_other wishes d x wish 0 ne)
+    | inl e ↦ at_dart (set wishes d wish) x (rw e runs_self) (rw e (get_or-set_same wishes d wish 0 (omega arith)))
+    | inr ne ↦ at_rest (set wishes d wish) x (false_from_ne_true _ (λ on. elim (on_edge faces m d x ld lx on) [
+      | inl e ↦ ne e
+      | inr t ↦ none-some x (sym none ∙ twin_found faces m.edges_once d x t)
+    ])) (get_or-set_other wishes d x wish 0 ne)
   ]
-    where
-      refuted : x ≢ d → (x ≡ d) ⊎ IsTwin faces d x → ⊥
-      refuted ne (inl e) = ne e
-      refuted ne (inr t) = none-some x (sym none ∙ twin_found faces m.edges_once d x t)
 
   -- An edge of two.
   pub put_two : (t : ℕ) → twin_of faces d ≡ Some t → (x : ℕ) → x < darts faces
       → get_or (set (set wishes d wish) t wish) x 0 ≡ cond (runs_between faces (from_of faces d) (to_of faces d) x) wish
       (get_or wishes x 0)
-  put_two t twin x lx = elim (cases_eq x t) [
-    | inl e ↦ at_dart (set (set wishes d wish) t wish) x
-        (or_right _ _ (and_from _ _ (eq-eqb _ _ (ap (from_of faces) e ∙ is.1))
-        (eq-eqb _ _ (ap (to_of faces) e ∙ is.2))))
-        (rw e (get_or-set_same (set wishes d wish) t wish 0 (omega (arith, is.0, long, length-set wishes d wish))))
-    | inr ne ↦ elim (cases_eq x d) [
-      | inl e ↦ at_dart (set (set wishes d wish) t wish) x (rw e runs_self)
-          (get_or-set_other (set wishes d wish) t x wish 0 ne
-          ∙ rw e (get_or-set_same wishes d wish 0 (omega (arith, ld, long))))
-      | inr other ↦ at_rest (set (set wishes d wish) t wish) x
-          (false_from_ne_true _ (λ on. refuted ne other (on_edge faces m d x ld lx on)))
-          (get_or-set_other (set wishes d wish) t x wish 0 ne ∙ get_or-set_other wishes d x wish 0 other)
-    ]
-  ]
-    where
-      is : IsTwin faces d t
-      is = twin_is faces d t twin
-
-      refuted : x ≢ t → x ≢ d → (x ≡ d) ⊎ IsTwin faces d x → ⊥
-      refuted ne other (inl e) = other e
-      refuted ne other (inr tw) = ne (m.edges_once x t lx is.0 (tw.1 ∙ sym is.1, tw.2 ∙ sym is.2))
+  put_two t twin x lx =
+      let is = twin_is faces d t twin in
+      elim (cases_eq x t) [
+        | inl e ↦ at_dart (set (set wishes d wish) t wish) x (or_right _ _
+            (and_from _ _ (eq-eqb _ _ (ap (from_of faces) e ∙ is.1)) (eq-eqb _ _ (ap (to_of faces) e ∙ is.2))))
+            (rw e (get_or-set_same (set wishes d wish) t wish 0 (omega (arith, length-set wishes d wish))))
+        | inr ne ↦ elim (cases_eq x d) [
+          | inl e ↦ at_dart (set (set wishes d wish) t wish) x (rw e runs_self) (get_or-set_other
+              (set wishes d wish) t x wish 0 ne ∙ rw e (get_or-set_same wishes d wish 0 (omega arith)))
+          | inr other ↦ at_rest (set (set wishes d wish) t wish) x
+              (false_from_ne_true _ (λ on. elim (on_edge faces m d x ld lx on) [
+                | inl e ↦ other e
+                | inr tw ↦ ne (m.edges_once x t lx is.0 (tw.1 ∙ sym is.1, tw.2 ∙ sym is.2))
+              ]))
+              (get_or-set_other (set wishes d wish) t x wish 0 ne ∙ get_or-set_other wishes d x wish 0 other)
+        ]
+      ]

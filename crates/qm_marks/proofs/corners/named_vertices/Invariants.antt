@@ -1,5 +1,4 @@
-use Rattle.std.proofs.Common.{◌≡◌, map, take}
-use Rattle.def_marks.specs.Lines.{named_vertex}
+use Rattle.{def_marks.specs.Lines.named_vertex, std.proofs.Common.map, std.proofs.Common.take, std.proofs.Common.◌≡◌}
 use Rattle.qm_marks.proofs.corners.named_vertices.Given as goal
 
 abbrev pub invariant-loop-index : goal.invariant-loop-index

@@ -1,7 +1,6 @@
-use Rattle.std.proofs.Common.{Bool, List, ℕ, cond, None, Some, sym, ap, ◌∙◌}
-use Rattle.def_text.specs.Corner.{index_of}
-use Rattle.def_marks.specs.Lines.{corner_index}
-use Rattle.qm_marks.proofs.CornerWords.{corner_found}
+use Rattle.std.proofs.Common.{Bool, List, None, Some, ap, cond, sym, ℕ, ◌∙◌}
+use Rattle.{def_marks.specs.Lines.corner_index, qm_marks.proofs.CornerWords.corner_found}
+use Rattle.{def_text.specs.Corner.index_of}
 use Rattle.qm_marks.proofs.corners.read_corner.Goals as goal
 
 pub returns-then-is_corner : goal.returns-then-is_corner

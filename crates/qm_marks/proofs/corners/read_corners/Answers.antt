@@ -1,6 +1,6 @@
-use Rattle.std.proofs.Common.{◌≡◌, ◌∷◌, sym, ◌∙◌}
-use Rattle.def_text.specs.Words.{words}
-use Rattle.qm_marks.proofs.CornerWords.{found_corner, next_word, read_more}
+use Rattle.std.{proofs.Common.sym, proofs.Common.◌∙◌, proofs.Common.◌∷◌, proofs.Common.◌≡◌}
+use Rattle.{def_text.specs.Words.words, qm_marks.proofs.CornerWords.next_word, qm_marks.proofs.CornerWords.read_more}
+use Rattle.{qm_obj.proofs.WordLemmas.some_from}
 use Rattle.qm_marks.proofs.corners.read_corners.Goals as goal
 
 pub words-preserved : goal.words-preserved
@@ -10,4 +10,4 @@ words-preserved c =
     (sym c.is_empty.ensures ∙ c.if-is_empty.false) in
     rw c.in_ok-push.ensures.items (read_more c.args.place.all c.args.place.before c.args.text.now c.words.rest.now
     c.first_word.result.1.now c.first_word.result.0.now _ c.words.invariant next c.in-Some.index
-    (found_corner _ _ _ (sym c.read_corner.ensures ∙ c.in-Some.is)))
+    (some_from _ _ _ (sym c.read_corner.ensures ∙ c.in-Some.is)))

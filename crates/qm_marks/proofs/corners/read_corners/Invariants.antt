@@ -1,6 +1,4 @@
-use Rattle.std.proofs.Common.{length}
-use Rattle.def_text.specs.Words.{words}
-use Rattle.qm_marks.proofs.CornerWords.{IsReadTo}
+use Rattle.{def_text.specs.Words.words, qm_marks.proofs.CornerWords.IsReadTo, std.proofs.Common.length}
 use Rattle.qm_marks.proofs.corners.read_corners.Given as goal
 
 abbrev pub invariant-words : goal.invariant-words

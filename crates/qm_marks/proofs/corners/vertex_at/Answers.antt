@@ -8,7 +8,7 @@ pub returns-then-is_in_place : goal.returns-then-is_in_place
 returns-then-is_in_place c =
     let names = c.args.names.now in
     let at = c.is_in_place.ensures c.if-is_in_place.true in
-    sym (place_found names.all.now names.rising c.args.k (c.args.k - 1) (omega (arith, at.0, at.1)) at.2)
+    sym (place_found names.all.now names.rising c.args.k (c.args.k - 1) (omega arith) at.2)
 
 pub returns-in-Ok : goal.returns-in-Ok
 returns-in-Ok c =
@@ -25,4 +25,4 @@ returns-in-Err c =
     (subst (λ (r : Result ℕ ℕ). IsBinarySearchResult (λ y. nat_cmp y c.args.k) names.all.now r) c.in-Err.is
     c.binary_search.ensures.position) (rising names.all.now names.rising) in
     sym (place_missing names.all.now c.args.k (λ j low is. elim (cases_lt j c.in-Err.field-0)
-    [ inl less ↦ omega (arith, at.1 j less, is) | inr more ↦ omega (arith, at.2 j more low, is) ]))
+    [ inl less ↦ omega (arith, at.1 j less) | inr more ↦ omega (arith, at.2 j more low) ]))

@@ -1,6 +1,5 @@
-use Rattle.std.proofs.Common.{◌≡◌, map}
-use Rattle.std.specs.{Prelude.filter, List.range_with_len}
-use Rattle.qm_marks.specs.{Keys.dart_key, Keys.is_busy, declared.ends.TheConstants.FEW}
+use Rattle.qm_marks.{specs.Keys.dart_key, specs.Keys.is_busy, specs.declared.ends.TheConstants.FEW}
+use Rattle.std.{proofs.Common.map, proofs.Common.◌≡◌, specs.List.range_with_len, specs.Prelude.filter}
 use Rattle.qm_marks.proofs.ends.busy_keys.Given as goal
 
 abbrev pub invariant-loop-d : goal.invariant-loop-d

@@ -1,6 +1,5 @@
-use Rattle.std.proofs.Common.{length, sym, ◌∙◌, ap, arith}
-use Rattle.def_mesh.specs.Darts.{to_of}
-use Rattle.mesh_laws.proofs.Fans.{IsFan, fan_of_is, is_fan}
+use Rattle.std.proofs.{Common.ap, Common.arith, Common.length, Common.sym, Common.◌∙◌}
+use Rattle.{def_mesh.specs.Darts.to_of, mesh_laws.proofs.Fans.fan_of_is, mesh_laws.proofs.Fans.is_fan}
 use Rattle.qm_marks.proofs.ends.dart_in_fan.Goals as goal
 
 pub to-requires : goal.to-requires
@@ -12,8 +11,7 @@ to-requires c = omega (
 
 pub returns-then-to-v-clause-some : goal.returns-then-to-v-clause-some
 returns-then-to-v-clause-some c =
-    let fan : IsFan c.args.mesh.now c.args.u c.fan-d-items.result.now =
-    is_fan c.args.mesh.now c.args.u c.fan-d-items.result.now c.fan-d-items.ensures in
+    let fan = is_fan c.args.mesh.now c.args.u c.fan-d-items.result.now c.fan-d-items.ensures in
     record {
       low = fan.dart c.loop-d.d-index c.loop-d-test.true;
       from = fan.leaves c.loop-d.d-index c.loop-d-test.true;
@@ -23,5 +21,5 @@ returns-then-to-v-clause-some c =
 pub returns-clause-none : goal.returns-clause-none
 returns-clause-none c none d low from to =
     let place = (fan_of_is c.args.mesh.now c.args.u).place d low from in
-    c.loop-d.invariant place.0 (omega (arith, place.1, c.loop-d-test.false, ap length c.fan-d-items.ensures))
+    c.loop-d.invariant place.0 (omega (arith, ap length c.fan-d-items.ensures))
     (ap (to_of c.args.mesh.now) place.2 ∙ to)

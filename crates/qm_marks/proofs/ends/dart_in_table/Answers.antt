@@ -1,6 +1,6 @@
-use Rattle.std.proofs.Common.{◌≡◌, ◌/◌, ◌^◌, ◌<◌, ltb, length, get_or, ℕ, sym, subst, ap, ◌∙◌, arith}
+use Rattle.std.proofs.Common.{◌≡◌, ◌/◌, ◌^◌, ◌<◌, ltb, length, get_or, sym, ap, ◌∙◌, arith}
 use Rattle.def_mesh.specs.{Darts.darts, Vertices.faces_at, Vertices.vertex_count}
-use Rattle.qm_marks.specs.{Keys.IsLeastPlace, Keys.key_of, declared.ends.TheConstants.FEW}
+use Rattle.qm_marks.specs.{Keys.key_of, declared.ends.TheConstants.FEW}
 use Rattle.qm_marks.proofs.{EndKeys.in_table, EndKeys.not_in_table, ends.dart_in_table.Goals.After-place_of-place}
 use Rattle.qm_marks.proofs.ends.dart_in_table.Goals.{else-place-keys-via-then-place-keys+else-keys-place}
 use Rattle.qm_marks.proofs.ends.dart_in_table.Goals.{else-place-keys-via-else-place-keys}
@@ -8,8 +8,8 @@ use Rattle.qm_marks.proofs.ends.dart_in_table.Goals as goal
 
 small : (c : After-place_of-place) → (vertex_count c.args.mesh.now < 2 ^ 32) × (darts c.args.mesh.now < 2 ^ 32)
 small c = (
-  omega (arith, c.vertices-count.ensures.value, c.vertices-count.type_inv),
-  omega (arith, c.faces-known.ensures.mesh.few),
+  omega arith,
+  omega arith,
 )
 
 pub returns-then-keys-place-clause-some : goal.returns-then-keys-place-clause-some
@@ -24,7 +24,7 @@ returns-else-place-keys-clause-none c none =
     let sizes = small (goal.at.returns-else-place-keys-clause-none c).After-place_of-place in
     not_in_table c.args.mesh.now FEW c.args.keys.now c.requires.ends sizes.0 sizes.1 c.args.u c.args.v c.ranges.v.fits
     c.place_of-place.result
-    (subst (λ (key : ℕ). IsLeastPlace c.args.keys.now key c.place_of-place.result) c.key_for-key.ensures
+    (rw (← c.key_for-key.ensures)
     c.place_of-place.ensures) other
     (λ d l from. ap (λ v. ltb FEW (faces_at c.args.mesh.now v)) from ∙ c.requires.busy)
   where
@@ -33,5 +33,5 @@ returns-else-place-keys-clause-none c none =
     other = elim c.else-place-keys.branch [
       | else-place-keys-via-then-place-keys+else-keys-place w ↦
           λ l e. w.if-keys-place.false (e ∙ sym (ap (λ x. x / 2 ^ 32) c.key_for-key.ensures))
-      | else-place-keys-via-else-place-keys w ↦ λ l e. absurd (omega (arith, l, w.if-place-keys.false))
+      | else-place-keys-via-else-place-keys w ↦ λ l e. absurd (omega arith)
     ]

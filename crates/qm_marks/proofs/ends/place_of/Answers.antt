@@ -8,7 +8,7 @@ returns-in-Ok c k low above =
     let at = searched c.args.keys.now c.args.key (Ok c.in-Ok.place)
     (subst (λ (r : Result ℕ ℕ). IsBinarySearchResult (λ y. nat_cmp y c.args.key) c.args.keys.now r) c.in-Ok.is
     c.binary_search.ensures.position) (λ i j le l. c.requires i j 0 le l) in
-    (at.0, omega (arith, at.1), omega (arith, at.1, above))
+    (at.0, omega arith, omega arith)
 
 pub returns-in-Err : goal.returns-in-Err
 returns-in-Err c k low above =
@@ -16,10 +16,10 @@ returns-in-Err c k low above =
     (subst (λ (r : Result ℕ ℕ). IsBinarySearchResult (λ y. nat_cmp y c.args.key) c.args.keys.now r) c.in-Err.is
     c.binary_search.ensures.position) (λ i j le l. c.requires i j 0 le l) in
     elim (cases_lt k c.in-Err.place) [
-      | inl less ↦ absurd (omega (arith, at.1 k less, above))
+      | inl less ↦ absurd (omega (arith, at.1 k less))
       | inr more ↦ (
-        omega (arith, more, low),
-        omega (arith, at.2 c.in-Err.place (omega arith) (omega (arith, more, low))),
+        omega arith,
+        omega (arith, at.2 c.in-Err.place (omega arith) (omega arith)),
         c.requires c.in-Err.place k 0 more low,
       )
     ]

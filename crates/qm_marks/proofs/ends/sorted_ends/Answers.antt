@@ -1,5 +1,4 @@
-use Rattle.qm_marks.specs.declared.ends.TheConstants.{FEW}
-use Rattle.qm_marks.proofs.EndKeys.{sorted_are}
+use Rattle.{qm_marks.proofs.EndKeys.sorted_are, qm_marks.specs.declared.ends.TheConstants.FEW}
 use Rattle.qm_marks.proofs.ends.sorted_ends.Goals as goal
 
 pub returns : goal.returns

@@ -1,12 +1,9 @@
-use Rattle.std.proofs.Common.{◌≡◌, ◌+◌, cond, ap, ◌∙◌, arith}
-use Rattle.std.specs.Prelude.{slice_range}
-use Rattle.def_io.specs.Lines.{lines_of}
-use Rattle.def_text.specs.{Reading.begins_with, Words.words}
-use Rattle.qm_obj.specs.Ahead.{span, text_ahead}
-use Rattle.qm_obj.proofs.Groups.{group_span, group_text}
-use Rattle.qm_obj.proofs.Ranges.{single_span, single_text, span_within}
-use Rattle.qm_marks.proofs.LineMarks.{counted_next}
-use Rattle.qm_marks.proofs.lines.count_vertex_lines.Goals.{After-drop-joined}
+use Rattle.qm_marks.proofs.{LineMarks.counted_next, lines.count_vertex_lines.Goals.After-drop-joined}
+use Rattle.qm_obj.proofs.{Groups.group_span, Ranges.single_span, Ranges.single_text, Ranges.span_within}
+use Rattle.qm_obj.{proofs.Groups.group_text, specs.Ahead.span, specs.Ahead.text_ahead}
+use Rattle.std.proofs.{Common.ap, Common.arith, Common.cond, Common.◌+◌, Common.◌∙◌, Common.◌≡◌}
+use Rattle.{def_io.specs.Lines.lines_of, def_text.specs.Reading.begins_with, std.specs.Prelude.slice_range}
+use Rattle.{def_text.specs.Words.words}
 use Rattle.qm_marks.proofs.lines.count_vertex_lines.Goals as goal
 
 next : (c : After-drop-joined) → c.in_ok-joined.joined.next
@@ -17,7 +14,7 @@ next c = c.in_ok-joined.ensures.next
 pub loop-i-smaller-then-may_go_on : goal.loop-i-smaller-then-may_go_on
 loop-i-smaller-then-may_go_on c =
     let within = span_within (lines_of c.args.lines.now) c.loop-i.i c.args.after c.loop-i-test.true c.requires.within in
-    omega (arith, next c, within.0, within.1)
+    omega (arith, next c)
 
 pub loop-i-preserved-then-may_go_on : goal.loop-i-preserved-then-may_go_on
 loop-i-preserved-then-may_go_on c =

@@ -1,6 +1,4 @@
-use Rattle.std.proofs.Common.{◌-◌}
-use Rattle.def_io.specs.Lines.{lines_of}
-use Rattle.qm_marks.proofs.LineMarks.{IsCounted}
+use Rattle.{def_io.specs.Lines.lines_of, qm_marks.proofs.LineMarks.IsCounted, std.proofs.Common.◌-◌}
 use Rattle.qm_marks.proofs.lines.count_vertex_lines.Given as goal
 
 abbrev pub invariant-loop-i : goal.invariant-loop-i

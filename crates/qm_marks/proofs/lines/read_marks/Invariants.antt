@@ -1,6 +1,4 @@
-use Rattle.std.proofs.Common.{◌-◌}
-use Rattle.def_io.specs.Lines.{lines_of}
-use Rattle.qm_marks.proofs.LineMarks.{IsAtLine}
+use Rattle.{def_io.specs.Lines.lines_of, qm_marks.proofs.LineMarks.IsAtLine, std.proofs.Common.◌-◌}
 use Rattle.qm_marks.proofs.lines.read_marks.Given as goal
 
 abbrev pub invariant-loop-i : goal.invariant-loop-i

@@ -1,18 +1,15 @@
-use Rattle.std.proofs.Common.{◌≡◌, ◌+◌, sym, ap, ◌∙◌}
-use Rattle.std.specs.Prelude.{slice_range}
-use Rattle.def_io.specs.Lines.{lines_of}
-use Rattle.error_laws.proofs.Errors.{handed}
-use Rattle.qm_obj.specs.{Ahead.text_ahead, Lines.first_logical}
+use Rattle.qm_marks.proofs.lines.{take_logical.Goals.After-before_comment, take_logical.Goals.After-deref}
 use Rattle.qm_obj.proofs.{Groups.group_span, Groups.group_text, Ranges.single_span, Ranges.single_text}
-use Rattle.qm_marks.proofs.LineMarks.{fails_line, took_line}
-use Rattle.qm_marks.proofs.lines.take_logical.Goals.{After-before_comment, After-deref}
+use Rattle.std.proofs.{Common.ap, Common.sym, Common.◌+◌, Common.◌∙◌, Common.◌≡◌}
+use Rattle.{error_laws.proofs.Errors.handed, qm_marks.proofs.LineMarks.fails_line, qm_marks.proofs.LineMarks.took_line}
+use Rattle.{def_io.specs.Lines.lines_of, qm_obj.specs.Ahead.text_ahead, std.specs.Prelude.slice_range}
+use Rattle.qm_obj.specs.Lines.{first_logical}
 use Rattle.qm_marks.proofs.lines.take_logical.Goals as goal
 
 -- The text of several physical lines, and that of one.
 joined_text : (c : After-deref) → c.deref.result.now
     ≡ text_ahead (slice_range (lines_of c.args.given.now.lines.now) c.args.i c.args.given.now.after)
-joined_text c = c.deref.ensures.value
-    ∙ (c.in_ok-joined.ensures.bytes
+joined_text c = c.deref.ensures.value ∙ (c.in_ok-joined.ensures.bytes
     ∙ group_text (slice_range (lines_of c.args.given.now.lines.now) c.args.i c.args.given.now.after))
 
 line_text : (c : After-before_comment) → c.before_comment.result.now
@@ -40,9 +37,7 @@ returns-then-may_go_on-clause-next c =
 
 pub returns-then-may_go_on-clause-took : goal.returns-then-may_go_on-clause-took
 returns-then-may_go_on-clause-took c =
-    took_line
-    (first_logical (c.args.i + 1) (slice_range (lines_of c.args.given.now.lines.now) c.args.i c.args.given.now.after))
-    (joined_text (goal.at.returns-then-may_go_on-clause-took c).After-deref) c.in_ok-take.ensures.took
+    took_line _ (joined_text (goal.at.returns-then-may_go_on-clause-took c).After-deref) c.in_ok-take.ensures.took
 
 pub take-requires-2-clause-room : goal.take-requires-2-clause-room
 take-requires-2-clause-room c = rw (line_text c) c.requires.room
@@ -62,6 +57,4 @@ returns-clause-next c =
 
 pub returns-clause-took : goal.returns-clause-took
 returns-clause-took c =
-    took_line
-    (first_logical (c.args.i + 1) (slice_range (lines_of c.args.given.now.lines.now) c.args.i c.args.given.now.after))
-    (line_text (goal.at.returns-clause-took c).After-before_comment) c.in_ok-take-2.ensures.took
+    took_line _ (line_text (goal.at.returns-clause-took c).After-before_comment) c.in_ok-take-2.ensures.took

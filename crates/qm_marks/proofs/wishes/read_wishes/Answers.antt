@@ -1,10 +1,8 @@
-use Rattle.std.proofs.Common.{length, drop, ◌∙◌, ap, arith, length-take, ◌≡◌}
-use Rattle.std.proofs.lemmas.List.{take_at}
-use Rattle.def_fit.specs.WishLines.{vertex_line_count}
-use Rattle.def_io.specs.Lines.{lines_of}
-use Rattle.def_mesh.specs.Darts.{darts}
 use Rattle.qm_marks.proofs.AllWishes.{at_last, at_other, at_small, at_wish, first_lines, line_in, low_in}
-use Rattle.qm_marks.proofs.wishes.read_wishes.Goals.{in-Some+in_ok-take_wish, in_default}
+use Rattle.qm_marks.proofs.wishes.{read_wishes.Goals.in-Some+in_ok-take_wish, read_wishes.Goals.in_default}
+use Rattle.std.proofs.Common.{ap, arith, drop, length, length-take, ◌∙◌, ◌≡◌}
+use Rattle.{def_fit.specs.WishLines.vertex_line_count, def_io.specs.Lines.lines_of, std.proofs.lemmas.List.take_at}
+use Rattle.{def_mesh.specs.Darts.darts}
 use Rattle.qm_marks.proofs.wishes.read_wishes.Goals as goal
 
 pub loop-i-preserved : goal.loop-i-preserved
@@ -17,8 +15,7 @@ loop-i-preserved c =
       | in-Some+in_ok-take_wish w ↦
           let new = w.take_wish.new.wishes in
           let taken = w.take_wish.ensures in
-          let many : length new ≡ c.loop-i.wishes.len =
-          omega (arith, taken.long, ap darts c.requires.mesh, known.long, c.loop-i.wishes.ok.0) in
+          let many : length new ≡ c.loop-i.wishes.len = omega (arith, ap darts c.requires.mesh) in
           rw (w.wishes-is, take_at new (drop (length new) c.loop-i.wishes.items) c.loop-i.wishes.len many)
           (at_wish known low (rw (← line) w.in-Some.ensures.cases.0)
           (w.in-Some.ensures.cases.1 ∙ ap (drop 3) line) new (taken.long ∙ ap darts c.requires.mesh)
@@ -28,9 +25,9 @@ loop-i-preserved c =
 
 pub returns-clause-wishes : goal.returns-clause-wishes
 returns-clause-wishes c = at_last c.loop-i.invariant
-    (omega (arith, c.loop-i-test.false, length-take c.args.after (lines_of c.args.lines.now)))
+    (omega (arith, length-take c.args.after (lines_of c.args.lines.now)))
     (c.in_ok-count_vertex_lines.ensures ∙ ap vertex_line_count (first_lines (lines_of c.args.lines.now) c.args.after))
 
 pub returns-clause-small : goal.returns-clause-small
 returns-clause-small c = at_small c.loop-i.invariant
-    (omega (arith, c.loop-i-test.false, length-take c.args.after (lines_of c.args.lines.now)))
+    (omega (arith, length-take c.args.after (lines_of c.args.lines.now)))

@@ -1,6 +1,4 @@
-use Rattle.std.proofs.Common.{take}
-use Rattle.def_io.specs.Lines.{lines_of}
-use Rattle.qm_marks.proofs.AllWishes.{IsAtWish}
+use Rattle.{def_io.specs.Lines.lines_of, qm_marks.proofs.AllWishes.IsAtWish, std.proofs.Common.take}
 use Rattle.qm_marks.proofs.wishes.read_wishes.Given as goal
 
 abbrev pub invariant-loop-i : goal.invariant-loop-i

@@ -1,8 +1,7 @@
-use Rattle.std.proofs.Common.{◌≡◌, cond, get_or, sym, ◌∙◌}
-use Rattle.def_fit.specs.WishLines.{vertex_named}
-use Rattle.def_marks.specs.Chains.{is_edge, runs_between}
 use Rattle.qm_marks.proofs.{OneWish.takes_no_edge, OneWish.takes_wish, wishes.take_wish.Goals.After-put_wish}
-use Rattle.qm_marks.specs.Wishing.{pieces_of}
+use Rattle.std.proofs.{Common.cond, Common.get_or, Common.sym, Common.◌∙◌, Common.◌≡◌}
+use Rattle.{def_fit.specs.WishLines.vertex_named, def_marks.specs.Chains.runs_between, qm_marks.specs.Wishing.pieces_of}
+use Rattle.{def_marks.specs.Chains.is_edge}
 use Rattle.qm_marks.proofs.wishes.take_wish.Goals as goal
 
 -- The vertices of the line.
@@ -30,8 +29,7 @@ returns-then-put_wish-clause-took c =
     ∙ (λ i. cond (runs_between (same i) (u_is at i) (v_is at i) d) c.in-Some.said.wish (get_or c.args.wishes.now d 0)))
 
 pub returns-else-put_wish-clause-refused : goal.returns-else-put_wish-clause-refused
-returns-else-put_wish-clause-refused c =
-    takes_no_edge c.args.places.now.soup.now c.args.places.now.all c.args.number (pieces_of c.args.text.now)
-    c.is_far.ensures.few c.in-Some.said
-    c.in-Some.ensures (sym c.is_far.ensures.far ∙ c.if-is_far.false)
+returns-else-put_wish-clause-refused c = takes_no_edge c.args.places.now.soup.now c.args.places.now.all c.args.number
+    (pieces_of c.args.text.now) c.is_far.ensures.few c.in-Some.said c.in-Some.ensures
+    (sym c.is_far.ensures.far ∙ c.if-is_far.false)
     (sym (edge_is (goal.at.returns-else-put_wish-clause-refused c).After-put_wish) ∙ c.if-put_wish.false)

@@ -1,5 +1,4 @@
-use Rattle.std.proofs.Common.{◌≡◌, length}
-use Rattle.def_text.specs.Words.{words}
+use Rattle.{def_text.specs.Words.words, std.proofs.Common.length, std.proofs.Common.◌≡◌}
 use Rattle.qm_marks.proofs.words.skip_blanks.Given as goal
 
 abbrev pub invariant-loop-rest : goal.invariant-loop-rest

@@ -1,14 +1,11 @@
-use Rattle.std.proofs.Common.{◌≡◌, Bool, List, Ok, true, false, ltb, not, ◌||◌, ◌&&◌, is_some, length, map, refl, sym}
-use Rattle.std.proofs.{Common.ap, Common.◌∙◌, Common.arith, lemmas.List.with_items_is}
-use Rattle.std.specs.List.{list_any}
-use Rattle.def_cut.specs.FullCut.{is_on}
-use Rattle.def_marks.specs.Chains.{is_chain, runs_along}
 use Rattle.def_marks.specs.Lines.{corner_index, is_malformed, is_nothing, named_chain, named_vertex}
-use Rattle.def_mesh.specs.Darts.{darts, twin_of}
-use Rattle.def_text.specs.{FaceSet.FaceSet, Words.words}
-use Rattle.qm_marks.proofs.CornerFails.{chain_is, fails_edge, fails_none, fails_range, indices_are, malformed_is}
-use Rattle.qm_marks.proofs.CornerFails.{nothing_is}
-use Rattle.qm_marks.proofs.lines.MarkReader.take_corners.Goals.{After-mark_chain, After-names_nothing}
+use Rattle.qm_marks.proofs.CornerFails.{fails_edge, fails_none, fails_range, indices_are, malformed_is, nothing_is}
+use Rattle.qm_marks.proofs.lines.MarkReader.take_corners.{Goals.After-mark_chain, Goals.After-names_nothing}
+use Rattle.std.proofs.Common.{Bool, List, Ok, arith, false, is_some, length, ltb, map, not, refl, sym, true, ◌&&◌, ◌||◌}
+use Rattle.std.proofs.{Common.ap, Common.◌∙◌, Common.◌≡◌, lemmas.List.with_items_is}
+use Rattle.{def_marks.specs.Chains.is_chain, def_marks.specs.Chains.runs_along, qm_marks.proofs.CornerFails.chain_is}
+use Rattle.{def_cut.specs.FullCut.is_on, def_mesh.specs.Darts.twin_of, def_text.specs.FaceSet.FaceSet}
+use Rattle.{def_mesh.specs.Darts.darts, def_text.specs.Words.words, std.specs.List.list_any}
 use Rattle.qm_marks.proofs.lines.MarkReader.take_corners.Goals as goal
 
 -- What is known of the corners once they are read.
@@ -44,9 +41,8 @@ returns-then-names_nothing-clause-refused c other =
 
 -- The chain whose edges are marked.
 chain : (c : After-mark_chain) → c.read_corners.new.indices.items
-    ≡ map (corner_index c.args.self.now.all c.args.self.now.before) (words c.args.text.now)
-    → c.deref-5.result.now ≡ named_chain c.args.soup.now.names c.args.self.now.all c.args.self.now.before
-    (words c.args.text.now)
+    ≡ map (corner_index c.args.self.now.all c.args.self.now.before) (words c.args.text.now) → c.deref-5.result.now
+    ≡ named_chain c.args.soup.now.names c.args.self.now.all c.args.self.now.before (words c.args.text.now)
 chain c they =
     let names : c.deref-2.result.now ≡ c.args.soup.now.names = c.deref-2.ensures.value
     ∙ ap (λ (s : FaceSet). s.names) c.soup.view_is in
@@ -84,8 +80,7 @@ returns-clause-took c =
         long = ap length items ∙ (c.mark_chain.ensures.long ∙ ap darts c.requires.reads.same);
       };
       before = refl;
-      marked = λ d l. ap (λ (xs : List Bool). is_on xs d) items
-          ∙ (c.mark_chain.ensures.marks c.if-not-mark_chain.false d (omega (arith, l, ap darts c.requires.reads.same))
-          ∙ (λ i. is_on (c.deref_mut.ensures.value i) d || (is_some (twin_of (c.requires.reads.same i) d)
-          && runs_along (c.requires.reads.same i) (chain at k.1 i) d)));
+      marked = λ d l. ap (λ (xs : List Bool). is_on xs d) items ∙ (c.mark_chain.ensures.marks c.if-not-mark_chain.false
+          d (omega (arith, ap darts c.requires.reads.same)) ∙ (λ i. is_on (c.deref_mut.ensures.value i) d ||
+          (is_some (twin_of (c.requires.reads.same i) d) && runs_along (c.requires.reads.same i) (chain at k.1 i) d)));
     }
