@@ -1,50 +1,39 @@
 -- What clap's contracts say of the words.
-use Rattle.std.proofs.Common.{◌≡◌, ◌≤◌, ◌&&◌, ◌||◌, ◌==◌, not, ℕ, Bool, true, false, List, [], ◌∷◌, Option, Some, None}
-use Rattle.std.proofs.Common.{fold, map, inl, inr, cond, eqb, refl, ap, ap₂, sym, ◌∙◌, subst, arith}
-use Rattle.std.proofs.lemmas.Bool.{and_from, and_parts, cases_Bool, eq-eqb, eqb-true, false≢true, or_from, or_parts}
-use Rattle.std.proofs.lemmas.Bool.{true≢false}
-use Rattle.std.proofs.lemmas.Slice.Eq.{bytes_eq-Decides}
-use Rattle.std.specs.{List.list_all, List.list_any, Str.bytes_eq}
-use Rattle.clap.specs.Faults.{built_fault, default_fault, defaults_fault, fault_of}
-use Rattle.clap.specs.{Faults.settle_fault, Faults.walk_fault, Kinds.or_else, Kinds.Kinds, Matches.first_value}
-use Rattle.clap.specs.{Simple.matches_of, Simple.App, Takes.is_given, Walk.first_of, Walk.has_row, Walk.nothing_held}
-use Rattle.clap.specs.Walk.{rows_after, with_default, Row, Rule}
-use Rattle.clap.specs.declared.error.kind.ErrorKind.TheVariants.{MissingRequiredArgument}
-use Rattle.clap.specs.declared.parser.matches.Found.{Found}
+use Rattle.clap.specs.Faults.{built_fault, default_fault, defaults_fault, fault_of, settle_fault, walk_fault}
+use Rattle.clap.specs.Walk.{Row, Rule, first_of, has_row, nothing_held, rows_after, with_default}
+use Rattle.clap.specs.declared.{error.kind.ErrorKind.TheVariants.MissingRequiredArgument, parser.matches.Found.Found}
+use Rattle.clap.specs.{Kinds.Kinds, Kinds.or_else, Simple.App, Simple.matches_of, Takes.is_given}
+use Rattle.def_run.specs.Options.{AreOptions, are_once, attached, count_of, dashed, is_equals, is_of, separate, uses_of}
+use Rattle.qm_words.proofs.Uses.{count, count_given, count_hyphens, either_way, first_value_of, given_count, rows_of}
+use Rattle.qm_words.proofs.Walks.{Passes, both_quiet, end, end_rows, quiet_both, rests}
+use Rattle.qm_words.proofs.{Rules.full_rule, Words.plain_view, Words.uses_flag, Words.uses_pair, Words.with_hyphens}
+use Rattle.qm_words.proofs.{Fits.pair_long, Fits.prefix_is, Rules.built_is, Rules.rules, Rules.shape, Sound.sound}
+use Rattle.qm_words.specs.Parsing.{Reads, is_end, is_known, is_plain, options_app}
+use Rattle.std.proofs.Common.{Bool, List, None, Some, ap₂, arith, cond, false, fold, inl, refl, true, ◌&&◌, ◌==◌, ◌||◌}
+use Rattle.std.proofs.Common.{[], ap, inr, map, not, sym, ◌∙◌, ◌∷◌, ◌≡◌, ◌≤◌}
+use Rattle.std.proofs.lemmas.Bool.{and_parts, cases_Bool, eq-eqb, false_from_ne_true, false≢true, not-false, true≢false}
+use Rattle.std.proofs.lemmas.{Bool.and_from, Bool.eqb-true, Bool.or_parts, Bool.or_right, Slice.Eq.bytes_eq-Decides}
+use Rattle.std.{proofs.lemmas.Bool.or_from, specs.List.list_all, specs.List.list_any, specs.Str.bytes_eq}
+use Rattle.{clap.proofs.FaultLemmas.leaf_fault, clap.proofs.WalkLemmas.first_value-rows, def_run.specs.Options.Uses}
+use Rattle.{def_run.specs.Options.Use, def_text.specs.Types.Word, def_text.specs.Types.Words, qm_words.proofs.Fits.fits}
+use Rattle.{qm_words.proofs.Uses.Good}
 use Rattle.clap.specs.Walk as clap
-use Rattle.clap.proofs.{FaultLemmas.leaf_fault, WalkLemmas.first_value-rows}
-use Rattle.def_run.specs.Options.{are_once, attached, count_of, dashed, is_equals, is_of, separate, uses_of, AreOptions}
-use Rattle.def_run.specs.Options.{Use, Uses}
-use Rattle.def_text.specs.Types.{Word, Words}
-use Rattle.qm_words.specs.Parsing.{is_end, is_known, is_plain, options_app, Reads}
-use Rattle.qm_words.proofs.{Fits.fits, Fits.prefix_is, Fits.pair_long, Fits.Fit, Rules.built_is, Rules.full_rule}
-use Rattle.qm_words.proofs.{Rules.rules, Rules.shape, Sound.sound, Sound.Read, Uses.count, Uses.count_given}
-use Rattle.qm_words.proofs.Uses.{count_hyphens, either_way, first_value_of, given_count, rows_of}
-use Rattle.qm_words.proofs.{Uses.Good, Walks.both_quiet, Walks.end, Walks.end_rows, Walks.quiet_both, Walks.rests}
-use Rattle.qm_words.proofs.{Walks.Passes, Words.plain_view, Words.uses_flag, Words.uses_pair, Words.with_hyphens}
 
 -- No option has a default.
 same_rows : (names : Words) (rows : List Row) → fold with_default rows (rules names) ≡ rows
 same_rows [] rows = refl
 same_rows (name ∷ names) rows =
-    let stays : with_default rows (full_rule name) ≡ rows = by_test (has_row name rows) in
+    let cond_same : (t : Bool) → cond t rows rows ≡ rows = λ t. grind (arith) in
+    let stays = cond_same (has_row name rows) in
     ap (λ (rs : List Row). fold with_default rs (rules names)) stays ∙ same_rows names rows
-  where
-    by_test : (t : Bool) → cond t rows rows ≡ rows
-    by_test true = refl
-    by_test false = refl
 
 no_defaults : (names : Words) (rows : List Row) → defaults_fault rows (rules names) ≡ []
 unfolding defaults_fault
 no_defaults [] rows = refl
 no_defaults (name ∷ names) rows =
-    let quiet : default_fault rows (full_rule name) ≡ [] = by_test (has_row name rows) in
+    let quiet : default_fault rows (full_rule name) ≡ [] = rw (or_right (has_row name rows) true refl) refl in
     ap (λ (k : Kinds). or_else k (defaults_fault (with_default rows (full_rule name)) (rules names))) quiet
     ∙ no_defaults names (with_default rows (full_rule name))
-  where
-    by_test : (t : Bool) → ◌≡◌ {A = Kinds} (cond (t || true) [] []) []
-    by_test true = refl
-    by_test false = refl
 
 -- An option that must stand and was not given.
 abbrev is_missing : (rows : List Row) (rule : Rule) → Bool
@@ -75,8 +64,7 @@ passes_of names words quiet =
     )
 
 of_passes : (names words : Words) → Passes names words (rests [] None)
-    → missing names (end_rows names (rests [] None) words) ≡ []
-    → fault_of (options_app names) words ≡ []
+    → missing names (end_rows names (rests [] None) words) ≡ [] → fault_of (options_app names) words ≡ []
 of_passes names words passes given =
     let from = rests [] None in
     fault_is names words
@@ -89,37 +77,26 @@ of_passes names words passes given =
 -- Each option was given exactly where none is missing.
 none_missing : (names : Words) (rows : List Row) → missing names rows ≡ [] → list_any (is_missing rows) (rules names)
     ≡ false
-none_missing names rows quiet = by_test (list_any (is_missing rows) (rules names)) quiet
-  where
-    by_test : (t : Bool) → ◌≡◌ {A = Kinds} (cond t (MissingRequiredArgument ∷ []) []) [] → t ≡ false
-    by_test true is = absurd cc
-    by_test false is = refl
+none_missing names rows quiet =
+    false_from_ne_true (list_any (is_missing rows) (rules names)) (λ some. cc (rw some at quiet))
 
 once_each : (names : Words) (uses : Uses) → ((name : Word) → count name uses ≤ 1)
     → list_any (is_missing (rows_of uses)) (rules names) ≡ false
     → list_all (λ name. count_of name (map with_hyphens uses) == 1) names ≡ true
 once_each [] uses once given = refl
 once_each (name ∷ names) uses once given =
-    let parts : (not (is_given name (rows_of uses)) ≡ false)
-    × (list_any (is_missing (rows_of uses)) (rules names) ≡ false) =
-    or_parts (not (is_given name (rows_of uses))) (list_any (is_missing (rows_of uses)) (rules names)) given in
-    let some : 1 ≤ count name uses = given_count name uses (by_test (is_given name (rows_of uses)) parts.0) in
+    let parts = or_parts (not (is_given name (rows_of uses))) _ given in
+    let some = given_count name uses (not-false _ parts.0) in
     let one : count_of name (map with_hyphens uses) ≡ 1 = count_hyphens name uses ∙ omega (arith, once name) in
     and_from _ _ (eq-eqb _ _ one) (once_each names uses once parts.1)
-  where
-    by_test : (t : Bool) → not t ≡ false → t ≡ true
-    by_test true is = refl
-    by_test false is = absurd (true≢false is)
 
 none_lacks : (names : Words) (uses : Uses) → list_all (λ name. count_of name (map with_hyphens uses) == 1) names ≡ true
     → list_any (is_missing (rows_of uses)) (rules names) ≡ false
 none_lacks [] uses all = refl
 none_lacks (name ∷ names) uses all =
-    let parts = and_parts (count_of name (map with_hyphens uses) == 1)
-    (list_all (λ n. count_of n (map with_hyphens uses) == 1) names) all in
+    let parts = and_parts (count_of name (map with_hyphens uses) == 1) _ all in
     let one : count name uses ≡ 1 = sym (count_hyphens name uses) ∙ eqb-true _ 1 parts.0 in
-    let given : is_given name (rows_of uses) ≡ true = count_given name uses (omega arith) in
-    rw given (none_lacks names uses parts.1)
+    rw (count_given name uses (omega arith)) (none_lacks names uses parts.1)
 
 -- Known names with hyphens and without.
 known_names : (names : Words) (name : Word) → list_any (λ n. bytes_eq name n) names ≡ is_known names name
@@ -132,82 +109,15 @@ known_uses : (names : Words) (uses : Uses)
 known_uses names [] = refl
 known_uses names (one ∷ uses) = ap₂ (λ a b. a && b) (known_names names one.name) (known_uses names uses)
 
--- A name that is known is used.
-used_once : (names : Words) (uses : Uses) (name : Word) → list_all (λ n. count_of n (map with_hyphens uses) == 1) names
-    ≡ true → is_known names name ≡ true
-    → 1 ≤ count name uses
-used_once [] uses name all known = absurd (false≢true known)
-used_once (n ∷ names) uses name all known =
-    let parts = and_parts (count_of n (map with_hyphens uses) == 1)
-    (list_all (λ m. count_of m (map with_hyphens uses) == 1) names) all in
-    let later : is_known names name ≡ true → 1 ≤ count name uses = used_once names uses name parts.1 in
-    elim (cases_Bool (bytes_eq n name)) [
-      | inl is ↦
-          let one : count n uses ≡ 1 = sym (count_hyphens n uses) ∙ eqb-true _ 1 parts.0 in
-          subst (λ (m : Word). 1 ≤ count m uses) ((bytes_eq-Decides n name).0 is) (omega arith)
-      | inr other ↦ later (rw other at known)
-    ]
-
--- Words that clap takes, without `--`, are the options.
-pub taken : (names words : Words) (found : Found) → list_any is_end words ≡ false → fault_of (options_app names) words
-    ≡ []
-    → clap.rows_of found ≡ matches_of (options_app names) words → Reads names words found
-taken names words found ends quiet is =
-    let parts = passes_of names words quiet in
-    let read : Read names words [] (rests [] None) = sound names words ends parts.0 in
-    let rows : clap.rows_of found ≡ rows_of read.rest = is ∙ ap (λ (a : App). rows_after a.top.rules [] words)
-    (built_is names) ∙ same_rows names (end_rows names (rests [] None) words) ∙ read.rows in
-    let given : list_any (is_missing (rows_of read.rest)) (rules names) ≡ false =
-    none_missing names (rows_of read.rest) (ap (missing names) (sym read.rows) ∙ parts.1) in
-    let each : list_all (λ name. count_of name (map with_hyphens read.rest) == 1) names ≡ true =
-    once_each names read.rest read.good.once given in
-    record {
-      uses = map with_hyphens read.rest;
-      options = record {
-        spelled = read.spelled;
-        once = and_from _ _ each (known_uses names read.rest ∙ read.good.known);
-      };
-      values = λ name known. first_value-rows found name ∙ ap (first_of name) rows
-          ∙ first_value_of name read.rest (used_once names read.rest name each known);
-    }
-
--- A name of an option that is used, without its hyphens.
-bare_name : (names : Words) (one : Use) → list_any (λ name. is_of name one) names ≡ true → (name : Word)
-    × (one.name ≡ dashed name)
-bare_name [] one some = absurd (false≢true some)
-bare_name (name ∷ names) one some =
-    let later : list_any (λ n. is_of n one) names ≡ true → (n : Word) × (one.name ≡ dashed n) = bare_name names one in
-    elim (cases_Bool (is_of name one)) [
-      | inl is ↦ (name, (bytes_eq-Decides one.name (dashed name)).0 is)
-      | inr other ↦ later (rw other at some)
-    ]
-
-bare_uses : (names : Words) (uses : Uses) → list_all (λ (one : Use). list_any (λ name. is_of name one) names) uses
-    ≡ true
-    → (bare : Uses) × (uses ≡ map with_hyphens bare)
-bare_uses names [] all = ([], refl)
-bare_uses names (one ∷ uses) all =
-    let parts = and_parts (list_any (λ name. is_of name one) names)
-    (list_all (λ (u : Use). list_any (λ name. is_of name u) names) uses) all in
-    let first = bare_name names one parts.0 in
-    let later = bare_uses names uses parts.1 in (
-      record { name = first.0; value = one.value } ∷ later.0,
-      λ i. record { name = first.1 i; value = one.value } ∷ later.1 i,
-    )
-
--- Each option once, and no other: known uses, none twice.
 unknown_count : (names : Words) (uses : Uses) (name : Word) → list_all (λ (one : Use). is_known names one.name) uses
-    ≡ true → is_known names name ≡ false
-    → count name uses ≡ 0
+    ≡ true → is_known names name ≡ false → count name uses ≡ 0
 unknown_count names [] name known not_there = refl
 unknown_count names (one ∷ uses) name known not_there =
-    let parts = and_parts (is_known names one.name) (list_all (λ (u : Use). is_known names u.name) uses) known in
-    let later : count name uses ≡ 0 = unknown_count names uses name parts.1 not_there in
+    let parts = and_parts (is_known names one.name) _ known in
     elim (cases_Bool (bytes_eq one.name name)) [
-      | inl is ↦ absurd (true≢false
-          (sym (subst (λ (n : Word). is_known names n ≡ true) ((bytes_eq-Decides one.name name).0 is) parts.0)
+      | inl is ↦ absurd (true≢false (sym parts.0 ∙ ap (is_known names) ((bytes_eq-Decides one.name name).0 is)
           ∙ not_there))
-      | inr other ↦ rw other (omega arith)
+      | inr other ↦ rw other (omega (arith, unknown_count names uses name parts.1 not_there))
     ]
 
 known_count : (names : Words) (uses : Uses) (name : Word)
@@ -215,15 +125,51 @@ known_count : (names : Words) (uses : Uses) (name : Word)
     → count name uses ≡ 1
 known_count [] uses name all known = absurd (false≢true known)
 known_count (n ∷ names) uses name all known =
-    let parts = and_parts (count_of n (map with_hyphens uses) == 1)
-    (list_all (λ m. count_of m (map with_hyphens uses) == 1) names) all in
-    let later : is_known names name ≡ true → count name uses ≡ 1 = known_count names uses name parts.1 in
+    let parts = and_parts (count_of n (map with_hyphens uses) == 1) _ all in
     elim (cases_Bool (bytes_eq n name)) [
-      | inl is ↦ subst (λ (m : Word). count m uses ≡ 1) ((bytes_eq-Decides n name).0 is) (sym (count_hyphens n uses)
-          ∙ eqb-true _ 1 parts.0)
-      | inr other ↦ later (rw other at known)
+      | inl is ↦ rw (← (bytes_eq-Decides n name).0 is) (sym (count_hyphens n uses) ∙ eqb-true _ 1 parts.0)
+      | inr other ↦ known_count names uses name parts.1 (rw other at known)
     ]
 
+-- Words that clap takes, without `--`, are the options.
+pub taken : (names words : Words) (found : Found) → list_any is_end words ≡ false → fault_of (options_app names) words
+    ≡ [] → clap.rows_of found ≡ matches_of (options_app names) words → Reads names words found
+taken names words found ends quiet is =
+    let parts = passes_of names words quiet in
+    let read = sound names words ends parts.0 in
+    let rows = is ∙ ap (λ (a : App). rows_after a.top.rules [] words) (built_is names)
+    ∙ same_rows names (end_rows names (rests [] None) words) ∙ read.rows in
+    let given = none_missing names (rows_of read.rest) (ap (missing names) (sym read.rows) ∙ parts.1) in
+    let each = once_each names read.rest read.good.once given in
+    record {
+      uses = map with_hyphens read.rest;
+      options =
+          record { spelled = read.spelled; once = and_from _ _ each (known_uses names read.rest ∙ read.good.known) };
+      values = λ name known. first_value-rows found name ∙ ap (first_of name) rows
+          ∙ first_value_of name read.rest (omega (arith, known_count names read.rest name each known));
+    }
+
+-- A name of an option that is used, without its hyphens.
+bare_name : (names : Words) (one : Use) → list_any (λ name. is_of name one) names ≡ true → (name : Word)
+    × (one.name ≡ dashed name)
+bare_name [] one some = absurd (false≢true some)
+bare_name (name ∷ names) one some = elim (cases_Bool (is_of name one)) [
+  | inl is ↦ (name, (bytes_eq-Decides one.name (dashed name)).0 is)
+  | inr other ↦ bare_name names one (rw other at some)
+]
+
+bare_uses : (names : Words) (uses : Uses) → list_all (λ (one : Use). list_any (λ name. is_of name one) names) uses
+    ≡ true → (bare : Uses) × (uses ≡ map with_hyphens bare)
+bare_uses names [] all = ([], refl)
+bare_uses names (one ∷ uses) all =
+    let parts = and_parts (list_any (λ name. is_of name one) names) _ all in
+    let first = bare_name names one parts.0 in
+    let later = bare_uses names uses parts.1 in (
+      record { name = first.0; value = one.value } ∷ later.0,
+      λ i. record { name = first.1 i; value = one.value } ∷ later.1 i,
+    )
+
+-- Each option once, and no other: known uses, none twice.
 good_of : (names : Words) (bare : Uses) → are_once names (map with_hyphens bare) ≡ true → Good names bare
 good_of names bare once =
     let parts = and_parts (list_all (λ n. count_of n (map with_hyphens bare) == 1) names) _ once in
@@ -267,78 +213,39 @@ pub line_taken : (names words : Words) (uses : Uses) → is_known names [] ≡ f
     → list_all (λ (one : Use). is_plain one.value) uses ≡ true → fault_of (options_app names) words ≡ []
 line_taken names words uses named line plain =
     let line_of = bare_of names words uses line plain in
-    let fit : Fit names words line_of.bare (rests [] None) =
-    fits names words line_of.bare named line_of.spelled line_of.plain line_of.good in
-    of_passes names words fit.passes
-    (ap (missing names) fit.rows ∙ ap (λ b. cond b (MissingRequiredArgument ∷ []) [])
-    (none_lacks names line_of.bare line_of.each))
+    let fit = fits names words line_of.bare named line_of.spelled line_of.plain line_of.good in
+    of_passes names words fit.passes (rw (fit.rows, none_lacks names line_of.bare line_of.each) refl)
 
 -- No word of it is `--`.
-no_ends : (names : Words) → is_known names [] ≡ false → (words : Words) (bare : Uses)
-    → uses_of words ≡ Some (map with_hyphens bare)
-    → list_all (λ (one : Use). is_known names one.name) bare ≡ true → list_all (λ (one : Use). is_plain one.value) bare
-    ≡ true
-    → list_any is_end words ≡ false
+no_ends : (names : Words) → is_known names [] ≡ false → (words : Words) (bare : Uses) → uses_of words
+    ≡ Some (map with_hyphens bare) → list_all (λ (one : Use). is_known names one.name) bare ≡ true
+    → list_all (λ (one : Use). is_plain one.value) bare ≡ true → list_any is_end words ≡ false
 no_ends names named [] bare spelled known plain = refl
 no_ends names named (word ∷ []) bare spelled known plain = elim (cases_Bool (list_any is_equals word)) [
-  | inl some ↦ by_prefix (prefix_is (attached word) [] bare (sym (uses_pair word [] some) ∙ spelled)) some
+  | inl some ↦
+      let at = prefix_is (attached word) [] bare (sym (uses_pair word [] some) ∙ spelled) in
+      ap (λ (w : Word). is_end w || false) (pair_long word at.one at.head some).3
+  | inr none ↦ cc (rw none at spelled)
+]
+no_ends names named (word ∷ value ∷ tail) bare spelled known plain = elim (cases_Bool (list_any is_equals word)) [
+  | inl some ↦
+      let at = prefix_is (attached word) (value ∷ tail) bare (sym (uses_pair word (value ∷ tail) some) ∙ spelled) in
+      let all = and_parts (is_known names at.one.name) _ (rw at.is at known) in
+      let values = and_parts (is_plain at.one.value) _ (rw at.is at plain) in
+      or_from (is_end word) _ (ap is_end (pair_long word at.one at.head some).3)
+      (no_ends names named (value ∷ tail) at.rest at.behind all.1 values.1)
   | inr none ↦
-      let never : ◌≡◌ {A = Option Uses} None (Some (map with_hyphens bare)) = rw none at spelled in
-      absurd cc
+      let at = prefix_is (separate word value) tail bare (sym (uses_flag word value tail none) ∙ spelled) in
+      let all = and_parts (is_known names at.one.name) _ (rw at.is at known) in
+      let values = and_parts (is_plain at.one.value) _ (rw at.is at plain) in
+      or_from (is_end word) _ (ap is_end (ap (λ (u : Use). u.name) at.head) ∙ by_name at.one.name all.0)
+      (or_from (is_end value) _ (ap is_end (ap (λ (u : Use). u.value) at.head) ∙ (plain_view at.one.value values.0).2)
+      (no_ends names named tail at.rest at.behind all.1 values.1))
 ]
   where
-    by_prefix : ((one : Use) × (more : Uses) × (bare ≡ one ∷ more) × (attached word ≡ with_hyphens one)
-        × (uses_of [] ≡ Some (map with_hyphens more)))
-        → list_any is_equals word ≡ true → list_any is_end (word ∷ []) ≡ false
-    by_prefix (one, more, is, head, behind) some = ap (λ (w : Word). is_end w || false) (pair_long word one head some).3
-no_ends names named (word ∷ value ∷ tail) bare spelled known plain =
-    let from_value : (us : Uses) → uses_of (value ∷ tail) ≡ Some (map with_hyphens us)
-    → list_all (λ (one : Use). is_known names one.name) us ≡ true
-    → list_all (λ (one : Use). is_plain one.value) us ≡ true → list_any is_end (value ∷ tail) ≡ false =
-    no_ends names named (value ∷ tail) in
-    let from_tail : (us : Uses) → uses_of tail ≡ Some (map with_hyphens us)
-    → list_all (λ (one : Use). is_known names one.name) us ≡ true
-    → list_all (λ (one : Use). is_plain one.value) us ≡ true → list_any is_end tail ≡ false =
-    no_ends names named tail in
-    elim (cases_Bool (list_any is_equals word)) [
-      | inl some ↦ by_pair from_value some (prefix_is (attached word) (value ∷ tail) bare
-          (sym (uses_pair word (value ∷ tail) some) ∙ spelled))
-      | inr none ↦ by_flag from_tail (prefix_is (separate word value) tail bare (sym (uses_flag word value tail none)
-          ∙ spelled))
-    ]
-  where
-    by_pair : ((us : Uses) → uses_of (value ∷ tail) ≡ Some (map with_hyphens us)
-        → list_all (λ (one : Use). is_known names one.name) us ≡ true
-        → list_all (λ (one : Use). is_plain one.value) us ≡ true → list_any is_end (value ∷ tail) ≡ false)
-        → list_any is_equals word ≡ true
-        → ((one : Use) × (more : Uses) × (bare ≡ one ∷ more) × (attached word ≡ with_hyphens one)
-        × (uses_of (value ∷ tail) ≡ Some (map with_hyphens more)))
-        → list_any is_end (word ∷ value ∷ tail) ≡ false
-    by_pair later some (one, more, is, head, behind) =
-        let all = and_parts (is_known names one.name) (list_all (λ (u : Use). is_known names u.name) more)
-        (sym (ap (list_all (λ (u : Use). is_known names u.name)) is) ∙ known) in
-        let values = and_parts (is_plain one.value) (list_all (λ (u : Use). is_plain u.value) more)
-        (sym (ap (list_all (λ (u : Use). is_plain u.value)) is) ∙ plain) in
-        or_from (is_end word) _ (ap is_end (pair_long word one head some).3) (later more behind all.1 values.1)
-
-    by_flag : ((us : Uses) → uses_of tail ≡ Some (map with_hyphens us)
-        → list_all (λ (one : Use). is_known names one.name) us ≡ true
-        → list_all (λ (one : Use). is_plain one.value) us ≡ true → list_any is_end tail ≡ false)
-        → ((one : Use) × (more : Uses) × (bare ≡ one ∷ more) × (separate word value ≡ with_hyphens one)
-        × (uses_of tail ≡ Some (map with_hyphens more)))
-        → list_any is_end (word ∷ value ∷ tail) ≡ false
-    by_flag later (one, more, is, head, behind) =
-        let all = and_parts (is_known names one.name) (list_all (λ (u : Use). is_known names u.name) more)
-        (sym (ap (list_all (λ (u : Use). is_known names u.name)) is) ∙ known) in
-        let values = and_parts (is_plain one.value) (list_all (λ (u : Use). is_plain u.value) more)
-        (sym (ap (list_all (λ (u : Use). is_plain u.value)) is) ∙ plain) in
-        or_from (is_end word) _ (ap is_end (ap (λ (u : Use). u.name) head) ∙ by_name one.name all.0)
-        (or_from (is_end value) _ (ap is_end (ap (λ (u : Use). u.value) head) ∙ (plain_view one.value values.0).2)
-        (later more behind all.1 values.1))
-      where
-        by_name : (name : Word) → is_known names name ≡ true → is_end (dashed name) ≡ false
-        by_name [] there = absurd (true≢false (sym there ∙ named))
-        by_name (z ∷ zs) there = refl
+    by_name : (name : Word) → is_known names name ≡ true → is_end (dashed name) ≡ false
+    by_name [] there = absurd (true≢false (sym there ∙ named))
+    by_name (z ∷ zs) there = refl
 
 pub line_no_end : (names words : Words) (uses : Uses) → is_known names [] ≡ false → AreOptions names words uses
     → list_all (λ (one : Use). is_plain one.value) uses ≡ true → list_any is_end words ≡ false

@@ -1,16 +1,14 @@
 -- The command that the loop makes, and clap's answers to it.
-use Rattle.std.proofs.Common.{◌≡◌, ◌<◌, ◌≤◌, ◌+◌, ℕ, zero, suc, true, false, List, [], ◌∷◌, ◌++◌, length, take}
-use Rattle.std.proofs.Common.{take_all, map, slice_index_or, inl, inr, refl, ap, sym, ◌∙◌, subst, arith}
-use Rattle.std.specs.{List.list_any, Borrow.Bor}
-use Rattle.clap.specs.{Faults.fault_of, Faults.is_simple_and_free, Kinds.HasKind, Kinds.Kinds, Matches.found_of}
-use Rattle.clap.specs.{Simple.with_rule, Simple.App, Simple.HasMatchesOf, Values.kind_of, Walk.Rule}
-use Rattle.clap.specs.{declared.error.Error.Error, declared.error.kind.ErrorKind.TheVariants.OutOfMemory}
-use Rattle.clap.specs.declared.parser.matches.ArgMatches.{ArgMatches}
-use Rattle.def_run.specs.declared.words.WordsFail.{WordsFail}
-use Rattle.def_run.specs.declared.words.WordsFail.TheVariants.{Memory, Usage}
-use Rattle.def_text.specs.Types.{Word, Words}
-use Rattle.qm_words.specs.Parsing.{is_end, is_known, option_rule, options_app, Reads, Refuses}
+use Rattle.clap.specs.declared.{error.kind.ErrorKind.TheVariants.OutOfMemory, parser.matches.ArgMatches.ArgMatches}
+use Rattle.clap.specs.{Faults.is_simple_and_free, Matches.found_of, Simple.HasMatchesOf, declared.error.Error.Error}
+use Rattle.clap.specs.{Faults.fault_of, Kinds.HasKind, Kinds.Kinds, Simple.App, Simple.with_rule, Values.kind_of}
+use Rattle.def_run.specs.declared.words.WordsFail.{TheVariants.Memory, TheVariants.Usage, WordsFail}
 use Rattle.qm_words.proofs.{Level.line_taken, Level.taken, Rules.simple, Rules.simple_free}
+use Rattle.qm_words.specs.Parsing.{Reads, Refuses, is_end, is_known, option_rule, options_app}
+use Rattle.std.proofs.Common.{List, arith, false, length, refl, slice_index_or, subst, take, take_all, true, zero, ◌++◌}
+use Rattle.std.proofs.Common.{[], ap, inl, inr, map, suc, sym, ℕ, ◌+◌, ◌<◌, ◌∙◌, ◌∷◌, ◌≡◌, ◌≤◌}
+use Rattle.{clap.specs.Walk.Rule, def_text.specs.Types.Word, def_text.specs.Types.Words, std.specs.List.list_any}
+use Rattle.{std.specs.Borrow.Bor}
 
 abbrev pub texts : (names : List (Bor Word)) → Words
 texts names = map (λ name. name.now) names
@@ -26,14 +24,12 @@ rules_more (name ∷ names) (suc i) d low =
     ∙ sym (ap (λ (k : ℕ). map option_rule (texts (take k (name ∷ names)))) next)
 
 -- One option more.
-pub app_more : (names : List (Bor Word)) (i : ℕ) (d : Bor Word) (before now : App) → i < length names
-    → before ≡ options_app (texts (take i names))
-    → now ≡ with_rule before (option_rule (slice_index_or names i d).now)
-    → now ≡ options_app (texts (take (i + 1) names))
-app_more names i d before now low is more =
-    more ∙ ap (λ (a : App). with_rule a (option_rule (slice_index_or names i d).now)) is
-    ∙ ap (λ (rs : List Rule). record { top = record (options_app []).top { rules = rs }; subs = [] })
-    (rules_more names i d low)
+pub app_more : (names : List (Bor Word)) (i : ℕ) (d : Bor Word) (before now : App) → i < length names → before
+    ≡ options_app (texts (take i names)) → now ≡ with_rule before (option_rule (slice_index_or names i d).now) → now
+    ≡ options_app (texts (take (i + 1) names))
+app_more names i d before now low is more = more
+    ∙ ap (λ (a : App). with_rule a (option_rule (slice_index_or names i d).now)) is ∙ ap (λ (rs : List Rule). record
+    { top = record (options_app []).top { rules = rs }; subs = [] }) (rules_more names i d low)
 
 -- All of them.
 pub app_all : (names : List (Bor Word)) (i : ℕ) (now : App) → length names ≤ i
@@ -48,9 +44,8 @@ took names words a m is ends quiet rows = taken names words (found_of m) ends
     ((subst (λ (b : App). HasMatchesOf b words m) is rows) (simple names)).0
 
 -- clap refused them.
-pub refused : (names words : Words) (a : App) (e : Error) (fail : WordsFail) → a ≡ options_app names
-    → is_known names [] ≡ false
-    → (is_simple_and_free a ≡ true → HasKind (fault_of a words) e) → (kind_of e ≡ OutOfMemory → fail ≡ Memory)
+pub refused : (names words : Words) (a : App) (e : Error) (fail : WordsFail) → a ≡ options_app names → is_known names []
+    ≡ false → (is_simple_and_free a ≡ true → HasKind (fault_of a words) e) → (kind_of e ≡ OutOfMemory → fail ≡ Memory)
     → fail ≡ Usage → Refuses names words
 refused names words a e fail is named kinds memory usage uses line plain =
     let quiet : fault_of a words ≡ [] = ap (λ (b : App). fault_of b words) is ∙ line_taken names words uses named line

@@ -1,24 +1,20 @@
 -- Words that clap takes are uses of the options.
-use Rattle.std.proofs.Common.{◌≡◌, ℕ, true, false, List, [], ◌∷◌, ◌++◌, Option, Some, None, map, inl, inr, arith, refl}
-use Rattle.std.proofs.Common.{ap, sym, ◌∙◌, subst, append-nil, append_assoc, slice_get}
-use Rattle.std.proofs.lemmas.Bool.{cases_Bool, or_parts, true≢false}
-use Rattle.std.specs.{List.list_any, Str.chars}
-use Rattle.clap.specs.{Faults.use_fault, Kinds.or_else, Kinds.Kinds, Lexer.long_of, Walk.idle, Walk.option}
-use Rattle.clap.specs.Walk.{settled_rows, used, walked, Row, Walk}
-use Rattle.clap.specs.declared.error.kind.ErrorKind.TheVariants.{InvalidValue}
-use Rattle.clap.specs.declared.error.kind.ErrorKind.TheVariants.{UnknownArgument}
-use Rattle.def_run.specs.Options.{attached, dashed, use_in_front, is_equals, separate, uses_of, Use, Uses}
-use Rattle.def_text.specs.Types.{Word, Words}
-use Rattle.qm_words.specs.Parsing.{is_end, is_known}
-use Rattle.qm_words.proofs.Rules.{by_id, by_long, full_rule, no_long, rules}
-use Rattle.qm_words.proofs.Steps.{fault_at, flag_fault, flag_walk, garbled_fault, garbled_value_walk, pair_fault}
-use Rattle.qm_words.proofs.Steps.{pair_walk, settle, short_fault, stands, stray_fault, unknown_fault, value_walk}
-use Rattle.qm_words.proofs.Steps.{waits_fault}
-use Rattle.qm_words.proofs.Uses.{all_of, fresh_count, fresh_from, good_more, pending, rows_of, same_name, settled}
-use Rattle.qm_words.proofs.Uses.{used_fresh, Good, IsKnown}
-use Rattle.qm_words.proofs.Walks.{both_quiet, end_rows, first_passes, rests, stops, waits, Passes}
-use Rattle.qm_words.proofs.Words.{uses_flag, uses_pair, view, with_hyphens, View}
-use Rattle.qm_words.proofs.Words.View.{plain, short, flag, pair, dashes}
+use Rattle.clap.specs.Walk.{Row, Walk, idle, option, settled_rows, used, walked}
+use Rattle.clap.specs.declared.error.kind.ErrorKind.{TheVariants.InvalidValue, TheVariants.UnknownArgument}
+use Rattle.clap.{specs.Faults.use_fault, specs.Kinds.Kinds, specs.Kinds.or_else, specs.Lexer.long_of}
+use Rattle.def_run.specs.Options.{Use, Uses, attached, dashed, is_equals, separate, use_in_front, uses_of}
+use Rattle.qm_words.proofs.Steps.{flag_walk, garbled_fault, garbled_value_walk, short_fault, stray_fault, unknown_fault}
+use Rattle.qm_words.proofs.Steps.{fault_at, flag_fault, pair_fault, pair_walk, settle, stands, value_walk, waits_fault}
+use Rattle.qm_words.proofs.Uses.{IsKnown, fresh_count, fresh_from, good_more, pending, rows_of, same_name, used_fresh}
+use Rattle.qm_words.proofs.Walks.{Passes, both_quiet, end_rows, first_passes, rests, stops, waits}
+use Rattle.qm_words.proofs.Words.{View.dashes, View.flag, View.plain, View.short, uses_flag, uses_pair, with_hyphens}
+use Rattle.qm_words.proofs.{Rules.by_id, Rules.by_long, Rules.full_rule, Rules.no_long, Uses.settled, Words.View.pair}
+use Rattle.qm_words.proofs.{Rules.rules, Uses.Good, Uses.all_of, Words.View, Words.view}
+use Rattle.std.proofs.Common.{List, None, Option, Some, append-nil, append_assoc, arith, false, refl, slice_get, subst}
+use Rattle.std.proofs.Common.{[], ap, inl, inr, map, sym, true, ℕ, ◌++◌, ◌∙◌, ◌∷◌, ◌≡◌}
+use Rattle.std.proofs.{lemmas.Bool.cases_Bool, lemmas.Bool.or_parts, lemmas.Bool.true≢false}
+use Rattle.{def_text.specs.Types.Words, qm_words.specs.Parsing.is_end, qm_words.specs.Parsing.is_known}
+use Rattle.{def_text.specs.Types.Word, std.specs.List.list_any, std.specs.Str.chars}
 
 -- From this state, behind some uses, the words are more uses.
 pub record Read (names words : Words) (before : Uses) (from : Walk) : Type 0 where
@@ -39,13 +35,11 @@ pub record ReadValue (names words : Words) (before : Uses) (id : Word) (from : W
 
 abbrev Rests : (names words : Words) → Type 0
 Rests names words = (uses : Uses) (last : Option Use) → Good names uses → IsKnown names last → list_any is_end words
-    ≡ false
-    → Passes names words (rests uses last) → Read names words (all_of uses last) (rests uses last)
+    ≡ false → Passes names words (rests uses last) → Read names words (all_of uses last) (rests uses last)
 
 abbrev Waits : (names words : Words) → Type 0
 Waits names words = (uses : Uses) (id : Word) → Good names uses → is_known names id ≡ true → list_any is_end words
-    ≡ false
-    → Passes names words (waits uses id) → ReadValue names words uses id (waits uses id)
+    ≡ false → Passes names words (waits uses id) → ReadValue names words uses id (waits uses id)
 
 -- No words.
 rests_nil : (names : Words) → Rests names []
@@ -67,11 +61,9 @@ waits_nil names uses id good known ends passes =
 module _ (names : Words) (word : Word) (words : Words) where
   -- A name, and its value behind it.
   by_flag : Waits names words → (uses : Uses) (last : Option Use) → Good names uses → IsKnown names last
-      → list_any is_end words ≡ false
-      → Passes names (word ∷ words) (rests uses last) → (name : Word) → long_of word ≡ Some (name, None)
-      → is_end word ≡ false → word ≡ dashed name
-      → list_any is_equals word ≡ false → is_known names name ≡ true
-      → Read names (word ∷ words) (all_of uses last) (rests uses last)
+      → list_any is_end words ≡ false → Passes names (word ∷ words) (rests uses last) → (name : Word) → long_of word
+      ≡ Some (name, None) → is_end word ≡ false → word ≡ dashed name → list_any is_equals word ≡ false
+      → is_known names name ≡ true → Read names (word ∷ words) (all_of uses last) (rests uses last)
   by_flag later uses last good known ends passes name long other is none there =
       let rule = by_long names name there in
       let first = first_passes names word words (rests uses last) passes in
@@ -94,32 +86,28 @@ module _ (names : Words) (word : Word) (words : Words) where
 
   -- A name with its value.
   by_pair : Rests names words → (uses : Uses) (last : Option Use) → Good names uses → IsKnown names last
-      → list_any is_end words ≡ false
-      → Passes names (word ∷ words) (rests uses last) → (name value : Word) → long_of word ≡ Some (name, Some value)
-      → is_end word ≡ false
-      → attached word ≡ record { name = dashed name; value = value } → list_any is_equals word ≡ true
-      → is_known names name ≡ true
+      → list_any is_end words ≡ false → Passes names (word ∷ words) (rests uses last) → (name value : Word)
+      → long_of word ≡ Some (name, Some value) → is_end word ≡ false → attached word
+      ≡ record { name = dashed name; value = value } → list_any is_equals word ≡ true → is_known names name ≡ true
       → Read names (word ∷ words) (all_of uses last) (rests uses last)
   by_pair later uses last good known ends passes name value long other is some there =
       let one : Use = record { name = name; value = value } in
-      let all : Uses = all_of uses last in
+      let all = all_of uses last in
       let rule = by_long names name there in
       let first = first_passes names word words (rests uses last) passes in
       let quiet : or_else (or_else (settle names (rows_of uses) (pending last))
-      (use_fault false (full_rule name) (value ∷ []) (settled_rows (rules names) (pending last) (rows_of uses))))
-      [] ≡ [] =
-      sym (pair_fault names (rows_of uses) (pending last) idle word name value other long rule) ∙ first.0 in
+      (use_fault false (full_rule name) (value ∷ []) (settled_rows (rules names) (pending last) (rows_of uses)))) []
+      ≡ [] = sym (pair_fault names (rows_of uses) (pending last) idle word name value other long rule) ∙ first.0 in
       let parts = both_quiet (settle names (rows_of uses) (pending last)) _ (both_quiet _ [] quiet).0 in
       let done = settled names uses last good known parts.0 in
-      let fresh = fresh_from name value (rows_of all)
-      (subst (λ (rows : List Row). use_fault false (full_rule name) (value ∷ []) rows ≡ []) done.1 parts.1) in
+      let fresh = fresh_from name value (rows_of all) (rw (← done.1) parts.1) in
       let goes : walked (rules names) [] (rests uses last) word ≡ rests (all ++ one ∷ []) None =
       pair_walk names (rows_of uses) (pending last) idle word name value other long rule
       ∙ ap (λ (rows : List Row). stands rows None idle) (ap (use_of name value) done.1 ∙ used_fresh one all fresh) in
       let read : Read names words (all ++ one ∷ []) (rests (all ++ one ∷ []) None) =
       later (all ++ one ∷ []) None (good_more names all one done.0 there (fresh_count name all fresh)) tt ends
       (subst (Passes names words) goes first.1) in
-      let joined : (all ++ one ∷ []) ++ read.rest ≡ all ++ one ∷ read.rest = append_assoc all (one ∷ []) read.rest in
+      let joined = append_assoc all (one ∷ []) read.rest in
       record {
         rest = one ∷ read.rest;
         spelled = uses_pair word words some ∙ ap (use_in_front (attached word)) read.spelled
@@ -133,16 +121,15 @@ module _ (names : Words) (word : Word) (words : Words) where
 
   -- The value of the option that waits.
   by_value : Rests names words → (uses : Uses) (id : Word) → Good names uses → is_known names id ≡ true
-      → list_any is_end words ≡ false
-      → Passes names (word ∷ words) (waits uses id) → walked (rules names) [] (waits uses id) word
-      ≡ rests uses (Some (record { name = id; value = word }))
+      → list_any is_end words ≡ false → Passes names (word ∷ words) (waits uses id)
+      → walked (rules names) [] (waits uses id) word ≡ rests uses (Some (record { name = id; value = word }))
       → ReadValue names (word ∷ words) uses id (waits uses id)
   by_value later uses id good known ends passes goes =
       let one : Use = record { name = id; value = word } in
       let first = first_passes names word words (waits uses id) passes in
       let read : Read names words (uses ++ one ∷ []) (rests uses (Some one)) =
       later uses (Some one) good known ends (subst (Passes names words) goes first.1) in
-      let joined : (uses ++ one ∷ []) ++ read.rest ≡ uses ++ one ∷ read.rest = append_assoc uses (one ∷ []) read.rest in
+      let joined = append_assoc uses (one ∷ []) read.rest in
       record {
         value = word;
         tail = words;
@@ -156,8 +143,7 @@ module _ (names : Words) (word : Word) (words : Words) where
   -- A word with a fault.
   bad : {X : Type 0} (from : Walk) (kind : _) → Passes names (word ∷ words) from → fault_at names from word ≡ kind ∷ []
       → X
-  bad from kind passes is = let never : ◌≡◌ {A = Kinds} (kind ∷ []) [] =
-      stops names word words from (kind ∷ []) passes is in absurd cc
+  bad from kind passes is = let never = stops names word words from (kind ∷ []) passes is in absurd cc
 
   rests_word : Rests names words → Waits names words → Rests names (word ∷ words)
   rests_word rest wait uses last good known ends passes =
@@ -208,8 +194,7 @@ module _ (names : Words) (word : Word) (words : Words) where
               (short_fault names (rows_of uses) (Some (id, [])) (option id) word byte bytes letter e l s c)
       by_view (flag name l e is none) apart = elim (cases_Bool (is_known names name)) [
         | inl there ↦ bad (waits uses id) InvalidValue passes (flag_fault names (rows_of uses) (Some (id, []))
-            (option id) word name e l (by_long names name there)
-            ∙ ap (λ (k : Kinds). or_else k []) waiting)
+            (option id) word name e l (by_long names name there) ∙ ap (λ (k : Kinds). or_else k []) waiting)
         | inr unknown ↦ bad (waits uses id) UnknownArgument passes (unknown_fault names (rows_of uses) (Some (id, []))
             (option id) word name None e l (no_long names name unknown))
       ]
@@ -226,8 +211,7 @@ module _ (names : Words) (word : Word) (words : Words) where
 
 sound_both : (names words : Words) → Rests names words × Waits names words
 sound_both names [] = (rests_nil names, waits_nil names)
-sound_both names (word ∷ words) =
-    let later : Rests names words × Waits names words = sound_both names words in
+sound_both names (word ∷ words) = let later = sound_both names words in
     (rests_word names word words later.0 later.1, waits_word names word words later.0)
 
 -- Words without `--` that clap takes from the beginning are uses of known options, none twice.

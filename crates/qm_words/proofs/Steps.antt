@@ -1,14 +1,12 @@
 -- One word's step of clap's walk, in each state: its fault, and the state behind it.
-use Rattle.std.proofs.Common.{◌≡◌, ℕ, true, false, List, [], ◌∷◌, Option, Some, None, refl}
-use Rattle.std.specs.{Prelude.slice_get, Str.bytes_eq, Str.chars}
-use Rattle.clap.specs.{Faults.flags_fault, Faults.settle_fault, Faults.turn_fault, Faults.use_fault, Kinds.or_else}
-use Rattle.clap.specs.{Kinds.Kinds, Lexer.long_of, Lexer.short_of, Walk.arg_by_id, Walk.arg_by_long, Walk.bundle_met}
-use Rattle.clap.specs.Walk.{idle, option, positional, settled_rows, used, walked, Held}
-use Rattle.clap.specs.{Walk.Row, Walk.Waiting, Walk.Walk, declared.error.kind.ErrorKind.TheVariants.UnknownArgument}
-use Rattle.clap.specs.declared.error.kind.ErrorKind.TheVariants.{InvalidValue}
-use Rattle.def_text.specs.Types.{Word, Words}
-use Rattle.qm_words.specs.Parsing.{is_end}
-use Rattle.qm_words.proofs.Rules.{full_rule, no_index, no_short, rules, shape}
+use Rattle.clap.specs.Walk.{Held, Waiting, arg_by_id, arg_by_long, bundle_met, option, positional, settled_rows, walked}
+use Rattle.clap.specs.declared.error.kind.ErrorKind.{TheVariants.InvalidValue, TheVariants.UnknownArgument}
+use Rattle.clap.specs.{Faults.flags_fault, Faults.settle_fault, Faults.turn_fault, Faults.use_fault, Lexer.short_of}
+use Rattle.clap.specs.{Kinds.Kinds, Kinds.or_else, Lexer.long_of, Walk.Row, Walk.Walk, Walk.idle, Walk.used}
+use Rattle.qm_words.proofs.{Rules.full_rule, Rules.no_index, Rules.no_short, Rules.rules, Rules.shape}
+use Rattle.std.proofs.Common.{List, None, Option, Some, [], false, refl, true, ℕ, ◌∷◌, ◌≡◌}
+use Rattle.{def_text.specs.Types.Words, qm_words.specs.Parsing.is_end, std.specs.Prelude.slice_get, std.specs.Str.chars}
+use Rattle.{def_text.specs.Types.Word, std.specs.Str.bytes_eq}
 
 -- An option with the values that it has so far.
 abbrev pub Pending : Type 0
@@ -19,13 +17,8 @@ held rows pending = record { rows = rows; pending = pending; skip = 0 }
 
 -- Between two words.
 abbrev pub stands : (rows : List Row) (pending : Pending) (waiting : Waiting) → Walk
-stands rows pending waiting = record {
-  held = held rows pending;
-  waiting = waiting;
-  position = 1;
-  is_trailing = false;
-  stopped = None;
-}
+stands rows pending waiting =
+    record { held = held rows pending; waiting = waiting; position = 1; is_trailing = false; stopped = None }
 
 abbrev pub fault_at : (names : Words) (walk : Walk) (word : Word) → Kinds
 fault_at names walk word = turn_fault (shape names) [] walk word
@@ -62,9 +55,8 @@ module _ (names : Words) (rows : List Row) (pending : Pending) where
   pair_fault (option id) word name value e l k = rw (e, l, k) refl
   pair_fault positional word name value e l k = rw (e, l, k) refl
 
-  pub pair_walk : (waiting : Waiting) (word name value : Word) → is_end word ≡ false
-      → long_of word ≡ Some (name, Some value)
-      → arg_by_long (rules names) name ≡ Some (full_rule name)
+  pub pair_walk : (waiting : Waiting) (word name value : Word) → is_end word ≡ false → long_of word
+      ≡ Some (name, Some value) → arg_by_long (rules names) name ≡ Some (full_rule name)
       → walked (rules names) [] (stands rows pending waiting) word
       ≡ stands (used (full_rule name) (value ∷ []) (settled_rows (rules names) pending rows)) None idle
   unfolding walked
@@ -112,12 +104,6 @@ module _ (names : Words) (rows : List Row) (id : Word) (rule : arg_by_id (rules 
       → walked (rules names) [] (stands rows (Some (id, [])) (option id)) word ≡ stands rows (Some (id, word ∷ [])) idle
   unfolding walked
   value_walk word e l s = rw (e, l, s, rule, same) refl
-
-  pub garbled_value_fault : (word : Word) (byte : ℕ) (bytes : Word) → is_end word ≡ false → long_of word ≡ None
-      → short_of word ≡ Some (byte ∷ bytes) → slice_get (chars (byte ∷ bytes)) 0 ≡ None
-      → fault_at names (stands rows (Some (id, [])) (option id)) word ≡ []
-  unfolding bundle_met flags_fault
-  garbled_value_fault word byte bytes e l s c = rw (e, l, s, c) refl
 
   pub garbled_value_walk : (word : Word) (byte : ℕ) (bytes : Word) → is_end word ≡ false → long_of word ≡ None
       → short_of word ≡ Some (byte ∷ bytes) → slice_get (chars (byte ∷ bytes)) 0 ≡ None

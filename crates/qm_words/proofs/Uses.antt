@@ -1,30 +1,19 @@
 -- Uses counted, and the rows that clap keeps of them.
-use Rattle.std.proofs.Common.{◌≡◌, ◌⊎◌, ◌≤◌, ◌+◌, ℕ, true, false, List, [], ◌∷◌, ◌++◌, Option, Some, None, map, cond}
-use Rattle.std.proofs.Common.{inl, inr, refl, ap, sym, ◌∙◌, subst, arith, append-nil}
-use Rattle.std.proofs.lemmas.Bool.{and_parts, cases_Bool, false≢true, or_parts, true≢false}
-use Rattle.std.proofs.lemmas.List.{map-append}
-use Rattle.std.proofs.lemmas.List.Folds.{list_all-append}
-use Rattle.std.proofs.lemmas.Slice.Eq.{bytes_eq-Decides}
-use Rattle.std.specs.{List.list_all, Str.bytes_eq}
-use Rattle.clap.specs.{Faults.use_fault, Kinds.Kinds, Takes.is_given, Walk.at_row, Walk.first_of, Walk.has_row}
-use Rattle.clap.specs.Walk.{more_values, settled_rows, used, Row}
-use Rattle.clap.specs.declared.builder.value_parser.Reading.TheVariants.{AsWritten}
-use Rattle.clap.specs.declared.error.kind.ErrorKind.TheVariants.{ArgumentConflict}
-use Rattle.clap.specs.declared.parser.matches.ValueSource.TheVariants.{CommandLine}
-use Rattle.def_run.specs.Options.{count_of, value_of, Use, Uses}
-use Rattle.def_text.specs.Types.{Word, Words}
-use Rattle.qm_words.specs.Parsing.{is_known}
-use Rattle.qm_words.proofs.{Rules.by_id, Rules.full_rule, Rules.rules, Steps.settle, Steps.Pending, Words.with_hyphens}
+use Rattle.clap.specs.Walk.{Row, at_row, first_of, has_row, more_values, settled_rows, used}
+use Rattle.clap.specs.{Faults.use_fault, Takes.is_given, declared.builder.value_parser.Reading.TheVariants.AsWritten}
+use Rattle.def_run.{specs.Options.Use, specs.Options.Uses, specs.Options.count_of, specs.Options.value_of}
+use Rattle.qm_words.proofs.{Rules.by_id, Rules.full_rule, Rules.rules, Steps.Pending, Steps.settle, Words.with_hyphens}
+use Rattle.std.proofs.Common.{List, None, Option, Some, append-nil, arith, cond, false, inl, inr, map, refl, true, ◌++◌}
+use Rattle.std.proofs.Common.{[], ap, sym, ℕ, ◌+◌, ◌∙◌, ◌∷◌, ◌≡◌, ◌≤◌}
+use Rattle.std.proofs.lemmas.Bool.{and_parts, cases_Bool, false_from_ne_true, false≢true, or_parts, true≢false}
+use Rattle.std.proofs.lemmas.{List.Folds.list_all-append, List.map-append, Slice.Eq.bytes_eq-Decides}
+use Rattle.{clap.specs.declared.parser.matches.ValueSource.TheVariants.CommandLine, qm_words.specs.Parsing.is_known}
+use Rattle.{def_text.specs.Types.Word, def_text.specs.Types.Words, std.specs.List.list_all, std.specs.Str.bytes_eq}
 
 -- The row of a use without hyphens.
 abbrev pub row_of : (one : Use) → Row
-row_of one = record {
-  id = one.name;
-  values = one.value ∷ [];
-  count = None;
-  source = Some CommandLine;
-  reading = AsWritten;
-}
+row_of one =
+    record { id = one.name; values = one.value ∷ []; count = None; source = Some CommandLine; reading = AsWritten }
 
 abbrev pub rows_of : (uses : Uses) → List Row
 rows_of uses = map row_of uses
@@ -38,15 +27,11 @@ pub same_name : (name : Word) → bytes_eq name name ≡ true
 same_name name = (bytes_eq-Decides name name).1 refl
 
 pub either_way : (a b : Word) → bytes_eq a b ≡ bytes_eq b a
-either_way a b = by_test (cases_Bool (bytes_eq a b))
-  where
-    by_test : (bytes_eq a b ≡ true) ⊎ (bytes_eq a b ≡ false) → bytes_eq a b ≡ bytes_eq b a
-    by_test (inl is) = is ∙ sym ((bytes_eq-Decides b a).1 (sym ((bytes_eq-Decides a b).0 is)))
-    by_test (inr other) = other ∙ sym (back (cases_Bool (bytes_eq b a)))
-      where
-        back : (bytes_eq b a ≡ true) ⊎ (bytes_eq b a ≡ false) → bytes_eq b a ≡ false
-        back (inl is) = absurd (true≢false (sym ((bytes_eq-Decides a b).1 (sym ((bytes_eq-Decides b a).0 is))) ∙ other))
-        back (inr same) = same
+either_way a b = elim (cases_Bool (bytes_eq a b)) [
+  | inl is ↦ is ∙ sym ((bytes_eq-Decides b a).1 (sym ((bytes_eq-Decides a b).0 is)))
+  | inr other ↦ other ∙ sym (false_from_ne_true _ (λ is.
+      true≢false (sym ((bytes_eq-Decides a b).1 (sym ((bytes_eq-Decides b a).0 is))) ∙ other)))
+]
 
 -- Hyphens change no count.
 pub count_hyphens : (name : Word) (uses : Uses) → count_of name (map with_hyphens uses) ≡ count name uses
@@ -61,85 +46,58 @@ count_append name (one ∷ uses) more = omega (arith, count_append name uses mor
 pub fresh_count : (name : Word) (uses : Uses) → has_row name (rows_of uses) ≡ false → count name uses ≡ 0
 fresh_count name [] none = refl
 fresh_count name (one ∷ uses) none =
-    let parts : (bytes_eq one.name name ≡ false) × (has_row name (rows_of uses) ≡ false) =
-    or_parts (bytes_eq one.name name) (has_row name (rows_of uses)) none in
+    let parts = or_parts (bytes_eq one.name name) _ none in
     rw parts.0 (omega (arith, fresh_count name uses parts.1))
 
 pub count_fresh : (name : Word) (uses : Uses) → count name uses ≡ 0 → has_row name (rows_of uses) ≡ false
 count_fresh name [] none = refl
-count_fresh name (one ∷ uses) none =
-    let later : count name uses ≡ 0 → has_row name (rows_of uses) ≡ false = count_fresh name uses in
-    elim (cases_Bool (bytes_eq one.name name)) [
-      | inl is ↦
-          let bad : 1 + count name uses ≡ 0 = rw is at none in
-          absurd (omega arith)
-      | inr other ↦
-          let rest : 0 + count name uses ≡ 0 = rw other at none in
-          rw other (later (omega arith))
-    ]
+count_fresh name (one ∷ uses) none = elim (cases_Bool (bytes_eq one.name name)) [
+  | inl is ↦ absurd (omega (arith, rw is at none))
+  | inr other ↦ rw other (count_fresh name uses (omega (arith, rw other at none)))
+]
 
 -- A row of a name that was given is a use of it.
 pub given_count : (name : Word) (uses : Uses) → is_given name (rows_of uses) ≡ true → 1 ≤ count name uses
 given_count name [] given = absurd (false≢true given)
-given_count name (one ∷ uses) given =
-    let later : is_given name (rows_of uses) ≡ true → 1 ≤ count name uses = given_count name uses in
-    elim (cases_Bool (bytes_eq one.name name)) [
-      | inl is ↦ rw is (omega arith)
-      | inr other ↦
-          let some : 1 ≤ count name uses = later (rw other at given) in
-          rw other (omega arith)
-    ]
+given_count name (one ∷ uses) given = elim (cases_Bool (bytes_eq one.name name)) [
+  | inl is ↦ rw is (omega arith)
+  | inr other ↦ rw other (omega (arith, given_count name uses (rw other at given)))
+]
 
 pub count_given : (name : Word) (uses : Uses) → 1 ≤ count name uses → is_given name (rows_of uses) ≡ true
 count_given name [] some = absurd (omega arith)
-count_given name (one ∷ uses) some =
-    let later : 1 ≤ count name uses → is_given name (rows_of uses) ≡ true = count_given name uses in
-    elim (cases_Bool (bytes_eq one.name name)) [
-      | inl is ↦ rw is refl
-      | inr other ↦
-          let rest : 1 ≤ 0 + count name uses = rw other at some in
-          rw other (later (omega arith))
-    ]
+count_given name (one ∷ uses) some = elim (cases_Bool (bytes_eq one.name name)) [
+  | inl is ↦ rw is refl
+  | inr other ↦ rw other (count_given name uses (omega (arith, rw other at some)))
+]
 
 -- The first row of a name has the value of its first use.
 pub first_value_of : (name : Word) (uses : Uses) → 1 ≤ count name uses → first_of name (rows_of uses)
     ≡ Some (value_of name (map with_hyphens uses))
 first_value_of name [] some = absurd (omega arith)
-first_value_of name (one ∷ uses) some =
-    let later : 1 ≤ count name uses → first_of name (rows_of uses) ≡ Some (value_of name (map with_hyphens uses)) =
-    first_value_of name uses in
-    elim (cases_Bool (bytes_eq one.name name)) [
-      | inl is ↦ rw is refl
-      | inr other ↦
-          let rest : 1 ≤ 0 + count name uses = rw other at some in
-          rw other (later (omega arith))
-    ]
+first_value_of name (one ∷ uses) some = elim (cases_Bool (bytes_eq one.name name)) [
+  | inl is ↦ rw is refl
+  | inr other ↦ rw other (first_value_of name uses (omega (arith, rw other at some)))
+]
 
 -- A row that is not there is put at the end.
 at_row_fresh : (id : Word) (change : Row → List Row) (missing rows : List Row) → has_row id rows ≡ false
     → at_row id change missing rows ≡ rows ++ missing
 at_row_fresh id change missing [] none = refl
 at_row_fresh id change missing (r ∷ rows) none =
-    let parts : (bytes_eq r.id id ≡ false) × (has_row id rows ≡ false) =
-    or_parts (bytes_eq r.id id) (has_row id rows) none in
+    let parts = or_parts (bytes_eq r.id id) _ none in
     rw parts.0 (ap (λ (rs : List Row). r ∷ rs) (at_row_fresh id change missing rows parts.1))
 
 pub used_fresh : (one : Use) (uses : Uses) → has_row one.name (rows_of uses) ≡ false
     → used (full_rule one.name) (one.value ∷ []) (rows_of uses) ≡ rows_of (uses ++ one ∷ [])
-used_fresh one uses none =
-    rw (at_row_fresh one.name (λ r. []) [] (rows_of uses) none, append-nil (rows_of uses))
+used_fresh one uses none = rw (at_row_fresh one.name (λ r. []) [] (rows_of uses) none, append-nil (rows_of uses))
     (at_row_fresh one.name (more_values CommandLine (one.value ∷ [])) (row_of one ∷ []) (rows_of uses) none
     ∙ sym (map-append row_of uses (one ∷ [])))
 
 -- A use has no fault exactly where it is the first of its name.
 pub fresh_from : (id value : Word) (rows : List Row) → use_fault false (full_rule id) (value ∷ []) rows ≡ []
     → has_row id rows ≡ false
-fresh_from id value rows quiet = elim (cases_Bool (has_row id rows)) [
-  | inl has ↦
-      let bad : ◌≡◌ {A = Kinds} (ArgumentConflict ∷ []) [] = rw has at quiet in
-      cc
-  | inr none ↦ none
-]
+fresh_from id value rows quiet = false_from_ne_true _ (λ has. cc (rw has at quiet))
 
 pub fresh_quiet : (id value : Word) (rows : List Row) → has_row id rows ≡ false
     → use_fault false (full_rule id) (value ∷ []) rows ≡ []
@@ -151,13 +109,11 @@ pub record Good (names : Words) (uses : Uses) : Type 0 where
   pub known : list_all (λ (one : Use). is_known names one.name) uses ≡ true
 
 pub good_more : (names : Words) (uses : Uses) (one : Use) → Good names uses → is_known names one.name ≡ true
-    → count one.name uses ≡ 0
-    → Good names (uses ++ one ∷ [])
+    → count one.name uses ≡ 0 → Good names (uses ++ one ∷ [])
 good_more names uses one good known none = record {
   once = λ name. elim (cases_Bool (bytes_eq one.name name)) [
     | inl is ↦
-        let zero_of : count name uses ≡ 0 =
-        subst (λ (n : Word). count n uses ≡ 0) ((bytes_eq-Decides one.name name).0 is) none in
+        let zero_of : count name uses ≡ 0 = rw (← (bytes_eq-Decides one.name name).0 is) none in
         let one_of : count name (one ∷ []) ≡ 1 = rw is refl in
         omega (arith, count_append name uses (one ∷ []))
     | inr other ↦
@@ -175,8 +131,7 @@ good_prefix names uses more good = record {
 
 pub good_back : (names : Words) (uses more : Uses) → Good names (uses ++ more)
     → list_all (λ (one : Use). is_known names one.name) more ≡ true
-good_back names uses more good =
-    (and_parts (list_all (λ (u : Use). is_known names u.name) uses) _
+good_back names uses more good = (and_parts (list_all (λ (u : Use). is_known names u.name) uses) _
     (sym (list_all-append (λ (u : Use). is_known names u.name) uses more) ∙ good.known)).1
 
 -- The last of such uses is the first of its name.
@@ -200,9 +155,8 @@ IsKnown names (Some one) = is_known names one.name ≡ true
 
 -- Where settling it has no fault, it joins the others.
 pub settled : (names : Words) (uses : Uses) (last : Option Use) → Good names uses → IsKnown names last
-    → settle names (rows_of uses) (pending last) ≡ []
-    → Good names (all_of uses last) × (settled_rows (rules names) (pending last) (rows_of uses)
-    ≡ rows_of (all_of uses last))
+    → settle names (rows_of uses) (pending last) ≡ [] → Good names (all_of uses last)
+    × (settled_rows (rules names) (pending last) (rows_of uses) ≡ rows_of (all_of uses last))
 settled names uses None good known quiet = (good, refl)
 settled names uses (Some one) good known quiet =
     let rule = by_id names one.name known in
@@ -217,5 +171,5 @@ pub settles : (names : Words) (uses : Uses) (last : Option Use) → IsKnown name
 settles names uses None known good = (refl, refl)
 settles names uses (Some one) known good =
     let rule = by_id names one.name known in
-    let none : has_row one.name (rows_of uses) ≡ false = count_fresh one.name uses (last_fresh names uses one good) in
+    let none = count_fresh one.name uses (last_fresh names uses one good) in
     (rw rule (fresh_quiet one.name one.value (rows_of uses) none), rw rule (used_fresh one uses none))

@@ -1,5 +1,5 @@
 -- clap's walk over words: where it passes, and its first step.
-use Rattle.std.proofs.Common.{◌≡◌, ℕ, false, List, [], ◌∷◌, Option, Some, fold, refl, ap, sym, ◌∙◌}
+use Rattle.std.proofs.Common.{◌≡◌, false, List, [], ◌∷◌, Option, Some, fold, refl, ap, sym, ◌∙◌}
 use Rattle.clap.specs.{Faults.settle_fault, Faults.turn_fault, Faults.walk_fault, Kinds.or_else, Kinds.Kinds, Walk.idle}
 use Rattle.clap.specs.Walk.{option, settled_rows, walked, Held, Row, Walk}
 use Rattle.def_run.specs.Options.{Use, Uses}
@@ -40,9 +40,7 @@ pub first_passes : (names : Words) (word : Word) (words : Words) (from : Walk) �
     → (fault_at names from word ≡ []) × Passes names words (walked (rules names) [] from word)
 unfolding walk_fault
 first_passes names word words from passes =
-    let both : (turn_fault (shape names) [] from word ≡ [])
-    × (walk_fault (shape names) [] (walked (rules names) [] from word) words ≡ []) =
-    both_quiet (turn_fault (shape names) [] from word) _ passes.walked in
+    let both = both_quiet (turn_fault (shape names) [] from word) _ passes.walked in
     (both.0, record { walked = both.1; settled = passes.settled })
 
 pub passes_first : (names : Words) (word : Word) (words : Words) (from : Walk) → fault_at names from word ≡ []
@@ -55,6 +53,5 @@ passes_first names word words from first passes = record {
 
 -- A word with a fault does not pass.
 pub stops : (names : Words) (word : Word) (words : Words) (from : Walk) (kinds : Kinds)
-    → Passes names (word ∷ words) from
-    → fault_at names from word ≡ kinds → kinds ≡ []
+    → Passes names (word ∷ words) from → fault_at names from word ≡ kinds → kinds ≡ []
 stops names word words from kinds passes is = sym is ∙ (first_passes names word words from passes).0

@@ -1,12 +1,11 @@
 -- What a word is to clap, and what it is as the use of an option.
-use Rattle.std.proofs.Common.{◌≡◌, ◌+◌, ◌==◌, not, ℕ, suc, true, false, [], ◌∷◌, Some, None, take, drop, inl, inr, refl}
-use Rattle.std.proofs.Common.{ap, sym, ◌∙◌, subst, arith}
-use Rattle.std.proofs.lemmas.Bool.{cases_Bool, eqb-true, not-true, or_parts}
-use Rattle.std.specs.List.{after_first, before_first, list_any, position_or_len}
-use Rattle.clap.specs.Lexer.{long_of, short_of}
-use Rattle.def_run.specs.Options.{attached, dashed, use_in_front, is_equals, separate, uses_of, Use}
-use Rattle.def_text.specs.Types.{Word, Words}
-use Rattle.qm_words.specs.Parsing.{is_end, is_plain}
+use Rattle.def_run.specs.Options.{Use, attached, dashed, is_equals, separate, use_in_front, uses_of}
+use Rattle.std.proofs.Common.{None, Some, arith, drop, false, inl, inr, refl, suc, sym, take, true, ℕ, ◌+◌, ◌==◌}
+use Rattle.std.proofs.lemmas.{Bool.cases_Bool, Bool.eqb-true, Bool.not-true, Bool.or_parts}
+use Rattle.std.proofs.{Common.[], Common.ap, Common.◌∙◌, Common.◌∷◌, Common.◌≡◌}
+use Rattle.std.specs.{List.after_first, List.before_first, List.list_any, List.position_or_len}
+use Rattle.{def_text.specs.Types.Words, qm_words.specs.Parsing.is_end, qm_words.specs.Parsing.is_plain}
+use Rattle.{clap.specs.Lexer.long_of, clap.specs.Lexer.short_of, def_text.specs.Types.Word}
 
 -- A use, with the hyphens in front of its name.
 abbrev pub with_hyphens : (bare : Use) → Use
@@ -40,8 +39,7 @@ after_step byte bytes other =
 pub before_all : (word : Word) → list_any is_equals word ≡ false → before_first is_equals word ≡ word
 before_all [] none = refl
 before_all (byte ∷ bytes) none =
-    let parts : (is_equals byte ≡ false) × (list_any is_equals bytes ≡ false) =
-    or_parts (is_equals byte) (list_any is_equals bytes) none in
+    let parts = or_parts (is_equals byte) (list_any is_equals bytes) none in
     before_step byte bytes parts.0 ∙ ap (λ (bs : Word). byte ∷ bs) (before_all bytes parts.1)
 
 -- The two hyphens stay in front.
@@ -61,17 +59,17 @@ long_view byte bytes = elim (cases_Bool (list_any is_equals (byte ∷ bytes))) [
   | inl some ↦ pair (before_first is_equals (byte ∷ bytes)) (after_first is_equals (byte ∷ bytes)) (rw some refl) refl
       (attached_dashed (byte ∷ bytes)) some
   | inr none ↦
-      let whole : before_first is_equals (byte ∷ bytes) ≡ byte ∷ bytes = before_all (byte ∷ bytes) none in
+      let whole = before_all (byte ∷ bytes) none in
       flag (byte ∷ bytes) (rw none (ap (λ (n : Word). Some (n, None)) whole)) refl refl none
 ]
 
 hyphen_view : (y : ℕ) (ys : Word) → View (45 ∷ y ∷ ys)
 hyphen_view y [] = elim (cases_Bool (y == 45)) [
-  | inl is ↦ subst (λ (b : ℕ). View (45 ∷ b ∷ [])) (sym (eqb-true y 45 is)) (dashes refl)
+  | inl is ↦ rw (eqb-true y 45 is) (dashes refl)
   | inr other ↦ short y [] (rw other refl) (rw other refl) (rw other refl)
 ]
 hyphen_view y (z ∷ zs) = elim (cases_Bool (y == 45)) [
-  | inl is ↦ subst (λ (b : ℕ). View (45 ∷ b ∷ z ∷ zs)) (sym (eqb-true y 45 is)) (long_view z zs)
+  | inl is ↦ rw (eqb-true y 45 is) (long_view z zs)
   | inr other ↦ short y (z ∷ zs) (rw other refl) (rw other refl) (rw other refl)
 ]
 
@@ -83,7 +81,7 @@ view (x ∷ []) = elim (cases_Bool (x == 45)) [
   | inr other ↦ plain (rw other refl) (rw other refl) (rw other refl)
 ]
 view (x ∷ y ∷ ys) = elim (cases_Bool (x == 45)) [
-  | inl is ↦ subst (λ (b : ℕ). View (b ∷ y ∷ ys)) (sym (eqb-true x 45 is)) (hyphen_view y ys)
+  | inl is ↦ rw (eqb-true x 45 is) (hyphen_view y ys)
   | inr other ↦ plain (rw other refl) (rw other refl) (rw other refl)
 ]
 
@@ -92,7 +90,7 @@ pub plain_view : (word : Word) → is_plain word ≡ true → (long_of word ≡ 
     × (is_end word ≡ false)
 plain_view [] begins = (refl, refl, refl)
 plain_view (x ∷ xs) begins =
-    let other : (x == 45) ≡ false = not-true (x == 45) begins in
+    let other = not-true (x == 45) begins in
     (rw other refl, rw other refl, rw other refl)
 
 -- A word with an `=` is one use, whatever stands behind it.

@@ -1,6 +1,5 @@
-use Rattle.std.proofs.Common.{◌≡◌, map, drop, string_bytes}
-use Rattle.std.specs.List.{list_any}
-use Rattle.qm_words.specs.Parsing.{is_end}
+use Rattle.std.{proofs.Common.drop, proofs.Common.map, proofs.Common.string_bytes, specs.List.list_any}
+use Rattle.{qm_words.specs.Parsing.is_end, std.proofs.Common.◌≡◌}
 use Rattle.qm_words.proofs.options.has_end.Given as goal
 
 abbrev pub invariant-loop-word : goal.invariant-loop-word

@@ -1,6 +1,5 @@
-use Rattle.std.proofs.Common.{◌≡◌, map, take}
-use Rattle.clap.specs.Simple.{app_of}
-use Rattle.qm_words.specs.Parsing.{options_app}
+use Rattle.{clap.specs.Simple.app_of, qm_words.specs.Parsing.options_app, std.proofs.Common.map, std.proofs.Common.take}
+use Rattle.{std.proofs.Common.◌≡◌}
 use Rattle.qm_words.proofs.options.read_options.Given as goal
 
 abbrev pub invariant-loop-name : goal.invariant-loop-name

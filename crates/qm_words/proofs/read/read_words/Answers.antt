@@ -1,5 +1,4 @@
-use Rattle.std.proofs.Common.{map, string_bytes}
-use Rattle.qm_words.proofs.Unique.{accepted}
+use Rattle.{qm_words.proofs.Unique.accepted, std.proofs.Common.map, std.proofs.Common.string_bytes}
 use Rattle.qm_words.proofs.read.read_words.Goals as goal
 
 pub returns-clause-accepts : goal.returns-clause-accepts

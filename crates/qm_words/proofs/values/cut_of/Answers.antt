@@ -1,10 +1,7 @@
-use Rattle.std.proofs.Common.{map, string_bytes}
-use Rattle.error_laws.proofs.Errors.{handed}
-use Rattle.qm_words.proofs.Plain.{no_cut}
+use Rattle.{error_laws.proofs.Errors.handed, qm_words.proofs.Plain.no_cut, std.proofs.Common.string_bytes}
+use Rattle.{std.proofs.Common.map}
 use Rattle.qm_words.proofs.values.cut_of.Goals as goal
 
 pub returns-in_err-matches-clause-refuses : goal.returns-in_err-matches-clause-refuses
-returns-in_err-matches-clause-refuses c =
-    handed _ _ c.in_err-matches.field-0.0 c.from_residual.ensures.1
-    (λ usage keep patches has. no_cut (map string_bytes c.args.words.now) keep patches
-    (c.in_err-matches.ensures.refuses usage) has)
+returns-in_err-matches-clause-refuses c = handed _ _ c.in_err-matches.field-0.0 c.from_residual.ensures.1 (λ usage keep
+    patches has. no_cut (map string_bytes c.args.words.now) keep patches (c.in_err-matches.ensures.refuses usage) has)

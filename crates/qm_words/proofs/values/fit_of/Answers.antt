@@ -1,6 +1,5 @@
-use Rattle.std.proofs.Common.{map, string_bytes}
-use Rattle.error_laws.proofs.Errors.{handed}
-use Rattle.qm_words.proofs.Plain.{no_fit}
+use Rattle.{error_laws.proofs.Errors.handed, qm_words.proofs.Plain.no_fit, std.proofs.Common.string_bytes}
+use Rattle.{std.proofs.Common.map}
 use Rattle.qm_words.proofs.values.fit_of.Goals as goal
 
 pub returns-in_err-matches-clause-refuses : goal.returns-in_err-matches-clause-refuses

@@ -1,6 +1,5 @@
 use Rattle.std.proofs.{Common.map, Common.string_bytes, Common.sym, Common.◌∙◌, lemmas.Bool.true≢false}
-use Rattle.error_laws.proofs.Errors.{handed}
-use Rattle.qm_words.proofs.Unique.{same_asked}
+use Rattle.{error_laws.proofs.Errors.handed, qm_words.proofs.Unique.same_asked}
 use Rattle.qm_words.proofs.values.fixed_settings_of.Goals as goal
 
 pub returns-in_err-asked-clause-refuses : goal.returns-in_err-asked-clause-refuses
