@@ -1,13 +1,11 @@
 -- A text whose lines are cut off one after another.
-use Rattle.std.proofs.Common.{◌≡◌, ◌+◌, ◌-◌, ◌<◌, ◌≤◌, ◌==◌, ℕ, zero, suc, true, false, [], ◌∷◌, ◌++◌, length, take}
-use Rattle.std.proofs.Common.{drop, map, get_or, slice_index_or, inl, inr, refl, sym, ◌∙◌, ap, arith, length-append}
-use Rattle.std.proofs.{Common.length-drop, lemmas.Bool.cases_Bool, lemmas.List.take_at}
-use Rattle.std.proofs.lemmas.List.{drop-drop, drop-map, drop_at, get_or-drop, length-map, take-append-drop, take-map}
-use Rattle.std.proofs.lemmas.List.Concat.{flat_map-append}
-use Rattle.std.specs.List.{flat_map}
-use Rattle.def_io.specs.Bytes.{Bytes, Lines}
-use Rattle.def_io.specs.Lines.{byte_in_front, line_of, lines_of, pieces, tail_of}
-use Rattle.qm_io.proofs.Pieces.{flat-pieces, length-pieces}
+use Rattle.def_io.specs.{Bytes.Bytes, Lines.byte_in_front, Lines.line_of, Lines.lines_of, Lines.pieces, Lines.tail_of}
+use Rattle.std.proofs.Common.{arith, drop, false, get_or, inl, length, length-append, length-drop, refl, slice_index_or}
+use Rattle.std.proofs.Common.{[], inr, map, suc, sym, take, true, zero, ◌++◌, ◌+◌, ◌-◌, ◌<◌, ◌==◌, ◌∙◌, ◌∷◌, ◌≡◌, ◌≤◌}
+use Rattle.std.proofs.lemmas.List.{Concat.flat_map-append, drop-drop, get_or-drop, length-map, take-append-drop}
+use Rattle.std.proofs.lemmas.{Bool.cases_Bool, List.drop-map, List.drop_at, List.take-map, List.take_at}
+use Rattle.{def_io.specs.Bytes.Lines, qm_io.proofs.Pieces.flat-pieces, qm_io.proofs.Pieces.length-pieces}
+use Rattle.{std.proofs.Common.ap, std.proofs.Common.ℕ, std.specs.List.flat_map}
 
 -- ---- Texts of the first pieces and of the last ones.
 
@@ -78,18 +76,13 @@ lines_few bs = omega (arith, length-map (pieces bs) line_of, length-pieces bs)
 -- A text is cut where its rest begins.
 module _ (bs rest : Bytes) (i : ℕ) (at : rest ≡ tail_of i bs) where
   both : bs ≡ flat_map (λ p. p) (take i (pieces bs)) ++ tail_of i bs
-  both =
-      sym (flat-pieces bs)
-      ∙ (ap (λ (ps : Lines). flat_map (λ p. p) ps) (sym (take-append-drop i (pieces bs)))
+  both = sym (flat-pieces bs) ∙ (ap (λ (ps : Lines). flat_map (λ p. p) ps) (sym (take-append-drop i (pieces bs)))
       ∙ flat_map-append (λ p. p) (take i (pieces bs)) (drop i (pieces bs)))
 
   sizes : length bs ≡ length (flat_map (λ p. p) (take i (pieces bs))) + length rest
-  sizes = omega (
-    arith,
-    ap length both,
-    ap length at,
-    length-append (flat_map (λ p. p) (take i (pieces bs))) (tail_of i bs),
-  )
+  sizes =
+      let all = length-append (flat_map (λ p. p) (take i (pieces bs))) (tail_of i bs) in
+      omega (arith, ap length both, ap length at)
 
   pub rest_low : length rest ≤ length bs
   rest_low = omega (arith, sizes)
@@ -109,11 +102,9 @@ module _ (bs rest : Bytes) (i : ℕ) (at : rest ≡ tail_of i bs) where
 
   -- Where nothing is left there is no further line.
   pub cut_ended : rest ≡ [] → length (lines_of bs) ≤ i
-  cut_ended none = omega (
-    arith,
-    length-drop i (lines_of bs),
-    ap length (sym (last_lines bs i) ∙ (ap lines_of (sym at) ∙ ap lines_of none)),
-  )
+  cut_ended none =
+      let end = sym (last_lines bs i) ∙ (ap lines_of (sym at) ∙ ap lines_of none) in
+      omega (arith, length-drop i (lines_of bs), ap length end)
 
   -- Else the next line is the first of the rest.
   module _ (line behind : Bytes) (first : lines_of rest ≡ line ∷ lines_of behind) (more : behind ≡ tail_of 1 rest) where

@@ -1,10 +1,10 @@
 -- Facts on the pieces of a text and on the positions after them.
-use Rattle.std.proofs.Common.{◌≡◌, ℕ, zero, suc, ◌+◌, ◌-◌, ◌==◌, ◌<◌, ◌≤◌, Bool, true, false, if◌then◌else◌, List, []}
-use Rattle.std.proofs.Common.{◌∷◌, ◌++◌, length, take, drop, map, slice_index, slice_index_or, refl, sym, ◌∙◌, ap}
-use Rattle.std.proofs.{Common.arith, Common.length-append, lemmas.Bool.or_from, lemmas.List.length-map}
-use Rattle.std.specs.List.{flat_map, list_any}
-use Rattle.def_io.specs.Lines.{byte_in_front, pieces, line_of, lines_of, tail_of}
-use Rattle.qm_io.specs.Ends.{ends_from}
+use Rattle.def_io.specs.{Lines.byte_in_front, Lines.line_of, Lines.lines_of, Lines.pieces, Lines.tail_of}
+use Rattle.std.proofs.Common.{List, [], arith, false, if◌then◌else◌, length, length-append, slice_index, slice_index_or}
+use Rattle.std.proofs.Common.{ap, drop, inl, inr, map, refl, suc, sym, take, true, zero, ◌++◌, ◌+◌, ◌-◌, ◌<◌, ◌==◌, ◌∙◌}
+use Rattle.std.proofs.lemmas.{Bool.cases_Bool, Bool.false_from_ne_true, Bool.or_from, List.get_or-map, List.length-map}
+use Rattle.std.proofs.{Common.ℕ, Common.◌∷◌, Common.◌≡◌, Common.◌≤◌, Math.Seq.drop-cons, lemmas.List.take_at}
+use Rattle.{qm_io.specs.Ends.ends_from, std.specs.List.flat_map, std.specs.List.list_any}
 
 -- One piece more where a byte stands in front of the first, and no more than that.
 length-in_front : (b : ℕ) (ps : List (List ℕ)) → length (byte_in_front b ps) ≤ length ps + 1
@@ -14,12 +14,7 @@ length-in_front b (p ∷ ps) = omega arith
 -- A text has no more pieces than bytes.
 pub length-pieces : (bs : List ℕ) → length (pieces bs) ≤ length bs
 length-pieces [] = omega arith
-length-pieces (b ∷ bs) = by_test (b == 10) (length-pieces bs)
-  where
-    by_test : (t : Bool) → length (pieces bs) ≤ length bs
-        → length (if t then (b ∷ []) ∷ pieces bs else byte_in_front b (pieces bs)) ≤ suc (length bs)
-    by_test true less = omega arith
-    by_test false less = omega (arith, length-in_front b (pieces bs))
+length-pieces (b ∷ bs) = grind (arith, length-pieces bs, length-in_front b (pieces bs))
 
 -- Each piece has its end.
 pub length-ends_from : (s : ℕ) (ps : List (List ℕ)) → length (ends_from s ps) ≡ length ps
@@ -34,12 +29,10 @@ flat-in_front b (p ∷ ps) = refl
 -- The pieces joined are the text.
 pub flat-pieces : (bs : List ℕ) → flat_map (λ p. p) (pieces bs) ≡ bs
 flat-pieces [] = refl
-flat-pieces (b ∷ bs) = by_test (b == 10) (ap (λ xs. b ∷ xs) (flat-pieces bs))
-  where
-    by_test : (t : Bool) → b ∷ flat_map (λ p. p) (pieces bs) ≡ b ∷ bs
-        → flat_map (λ p. p) (if t then (b ∷ []) ∷ pieces bs else byte_in_front b (pieces bs)) ≡ b ∷ bs
-    by_test true is = is
-    by_test false is = flat-in_front b (pieces bs) ∙ is
+flat-pieces (b ∷ bs) = elim (cases_Bool (b == 10)) [
+  | inl is ↦ rw is (ap (λ xs. b ∷ xs) (flat-pieces bs))
+  | inr off ↦ rw off (flat-in_front b (pieces bs) ∙ ap (λ xs. b ∷ xs) (flat-pieces bs))
+]
 
 -- The position where piece `i` begins.
 abbrev pub begin : ℕ → List (List ℕ) → ℕ → ℕ
@@ -75,26 +68,14 @@ end-begin s [] i l = absurd (omega arith)
 end-begin s (p ∷ ps) zero l = refl
 end-begin s (p ∷ ps) (suc i) l = end-begin (s + length p) ps i (omega arith)
 
--- The pieces from one on begin with it.
-drop-piece : (ps : List (List ℕ)) (i : ℕ) → i < length ps → drop i ps ≡ slice_index_or ps i [] ∷ drop (suc i) ps
-drop-piece [] i l = absurd (omega arith)
-drop-piece (p ∷ ps) zero l = refl
-drop-piece (p ∷ ps) (suc i) l = drop-piece ps i (omega arith)
-
-take-prefix : (p xs : List ℕ) (n : ℕ) → n ≡ length p → take n (p ++ xs) ≡ p
-take-prefix [] xs n is = ap (λ m. take m xs) is
-take-prefix (b ∷ p) xs zero is = absurd (omega arith)
-take-prefix (b ∷ p) xs (suc n) is = ap (λ ys. b ∷ ys) (take-prefix p xs n (omega arith))
-
 -- The bytes from where a piece begins, as many as it has, are that piece.
 pub piece-cut : (bs : List ℕ) (i n : ℕ) → i < length (pieces bs) → n ≡ length (slice_index_or (pieces bs) i [])
     → take n (drop (begin 0 (pieces bs) i) bs) ≡ slice_index_or (pieces bs) i []
 piece-cut bs i n l is =
-    let at : drop (begin 0 (pieces bs) i) bs ≡ flat_map (λ p. p) (drop i (pieces bs)) =
-    ap (λ xs. drop (begin 0 (pieces bs) i) xs) (sym (flat-pieces bs))
+    let at = ap (λ xs. drop (begin 0 (pieces bs) i) xs) (sym (flat-pieces bs))
     ∙ drop-begin 0 (begin 0 (pieces bs) i) (pieces bs) i (omega arith) (omega arith) in
-    ap (λ xs. take n xs) (at ∙ ap (flat_map (λ p. p)) (drop-piece (pieces bs) i l))
-    ∙ take-prefix (slice_index_or (pieces bs) i []) (flat_map (λ p. p) (drop (suc i) (pieces bs))) n is
+    ap (λ xs. take n xs) (at ∙ ap (flat_map (λ p. p)) (drop-cons (pieces bs) i [] l))
+    ∙ take_at (slice_index_or (pieces bs) i []) (flat_map (λ p. p) (drop (suc i) (pieces bs))) n (sym is)
 
 -- No piece ends behind the text.
 pub end-low : (s : ℕ) (ps : List (List ℕ)) (i : ℕ) → i ≤ length ps → begin s ps i ≤ s + length (flat_map (λ p. p) ps)
@@ -106,11 +87,7 @@ end-low s (p ∷ ps) (suc i) l =
 -- A byte that is no LF joins the piece behind it.
 other : (b : ℕ) → ((b == 10) ≡ true → ⊥) → (ps : List (List ℕ))
     → (if b == 10 then (b ∷ []) ∷ ps else byte_in_front b ps) ≡ byte_in_front b ps
-other b differs ps = by_test (b == 10) differs
-  where
-    by_test : (t : Bool) → (t ≡ true → ⊥) → (if t then (b ∷ []) ∷ ps else byte_in_front b ps) ≡ byte_in_front b ps
-    by_test true off = absurd (off refl)
-    by_test false off = refl
+other b differs ps = rw (false_from_ne_true (b == 10) differs) refl
 
 -- Where the first LF stands at `k`, the first piece ends behind it.
 pub pieces-first : (bs : List ℕ) (k : ℕ) → k < length bs → (slice_index bs k == 10) ≡ true
@@ -143,9 +120,7 @@ end-within bs i l = omega (arith, end-low 0 (pieces bs) (suc i) (omega arith), a
 -- The line of a piece.
 pub line-piece : (ps : List (List ℕ)) (i : ℕ) → i < length ps
     → line_of (slice_index_or ps i []) ≡ slice_index_or (map line_of ps) i []
-line-piece [] i l = absurd (omega arith)
-line-piece (p ∷ ps) zero l = refl
-line-piece (p ∷ ps) (suc i) l = line-piece ps i (omega arith)
+line-piece ps i l = sym (get_or-map line_of ps i [] [] l)
 
 -- No piece begins behind the text.
 pub begin-within : (bs : List ℕ) (i : ℕ) → i < length (pieces bs) → begin 0 (pieces bs) i ≤ length bs
@@ -161,9 +136,5 @@ pub none_in_front : (bs : List ℕ) (k : ℕ) → ((j : ℕ) → j < k → (slic
     → list_any (λ b. b == 10) (take k bs) ≡ false
 none_in_front bs zero none = refl
 none_in_front [] (suc k) none = refl
-none_in_front (b ∷ bs) (suc k) none =
-    or_from _ _ (by_test (b == 10) (none 0 (omega arith))) (none_in_front bs k (λ j l. none (suc j) (omega arith)))
-  where
-    by_test : (t : Bool) → (t ≡ true → ⊥) → t ≡ false
-    by_test true off = absurd (off refl)
-    by_test false off = refl
+none_in_front (b ∷ bs) (suc k) none = or_from _ _ (false_from_ne_true (b == 10) (none 0 (omega arith)))
+    (none_in_front bs k (λ j l. none (suc j) (omega arith)))

@@ -1,11 +1,10 @@
 -- Reading words one by one.
-use Rattle.std.proofs.Common.{◌≡◌, ◌<◌, ◌≤◌, ◌+◌, ◌⊎◌, ◌++◌, ◌∷◌, [], ℕ, List, Option, Some, None, length, map, get_or}
-use Rattle.std.proofs.Common.{sym, subst, ◌∙◌, ap, inl, inr, arith, length-append}
-use Rattle.std.proofs.Math.Seq.{get_or-append_seam}
-use Rattle.std.proofs.lemmas.{List.get_or_append_left, List.map-append, Bool.cases_lt}
-use Rattle.std.specs.{Prelude.IfSome, Str.IsUtf8}
 use Rattle.def_io.specs.{Bytes.Bytes, Bytes.Lines, Words.IsReadAs, Words.IsReadAt, Words.IsWordAt}
-use Rattle.qm_io.specs.WordLists.{ReadsSome}
+use Rattle.std.proofs.Common.{List, None, Option, Some, [], arith, get_or, inl, inr, length, length-append, subst, ◌++◌}
+use Rattle.std.proofs.Common.{ap, map, sym, ℕ, ◌+◌, ◌<◌, ◌∙◌, ◌∷◌, ◌≡◌, ◌≤◌, ◌⊎◌}
+use Rattle.std.proofs.{Math.Seq.get_or-append_seam, lemmas.List.get_or_append_left, lemmas.List.map-append}
+use Rattle.{qm_io.specs.WordLists.ReadsSome, std.proofs.lemmas.Bool.cases_lt, std.specs.Prelude.IfSome}
+use Rattle.{std.specs.Str.IsUtf8}
 
 -- A word that fits is read as it is where it is text, and else as the empty word.
 pub word_read : (most : ℕ) (given : Option Lines) (i : ℕ) (bytes word : Bytes) → IsWordAt given i bytes

@@ -1,8 +1,6 @@
-use Rattle.std.proofs.Common.{◌≡◌, ◌-◌, ◌<◌, ◌∷◌, ℕ, List, length, take, drop, map, sym, ◌∙◌, ap, arith, refl}
-use Rattle.std.proofs.Common.{length-drop}
-use Rattle.std.specs.List.{flat_map}
-use Rattle.def_io.specs.Lines.{line_of, pieces, tail_of}
-use Rattle.qm_io.proofs.Pieces.{flat-pieces}
+use Rattle.std.proofs.Common.{List, ap, arith, drop, length, length-drop, map, refl, sym, take, ◌-◌, ◌<◌, ◌∙◌, ◌∷◌, ◌≡◌}
+use Rattle.{def_io.specs.Lines.line_of, def_io.specs.Lines.tail_of, qm_io.proofs.Pieces.flat-pieces}
+use Rattle.{def_io.specs.Lines.pieces, std.proofs.Common.ℕ, std.specs.List.flat_map}
 use Rattle.qm_io.proofs.ends.cut_line.Goals as goal
 
 -- The two parts of a text are its first piece and the rest.

@@ -1,6 +1,5 @@
-use Rattle.std.proofs.Common.{◌≡◌, ◌≤◌, ◌-◌, ◌++◌, length, drop}
-use Rattle.def_io.specs.Lines.{pieces}
-use Rattle.qm_io.specs.Ends.{ends_from}
+use Rattle.std.proofs.{Common.drop, Common.length, Common.◌++◌, Common.◌-◌, Common.◌≡◌, Common.◌≤◌}
+use Rattle.{def_io.specs.Lines.pieces, qm_io.specs.Ends.ends_from}
 use Rattle.qm_io.proofs.ends.ends_of.Given as goal
 
 abbrev pub invariant-loop-at : goal.invariant-loop-at

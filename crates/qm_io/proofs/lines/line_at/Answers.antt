@@ -1,6 +1,5 @@
-use Rattle.std.proofs.Common.{ap, ◌∙◌}
-use Rattle.def_io.specs.Lines.{line_of, pieces}
-use Rattle.qm_io.proofs.Pieces.{line-piece, piece-there}
+use Rattle.{def_io.specs.Lines.line_of, qm_io.proofs.Pieces.line-piece, qm_io.proofs.Pieces.piece-there}
+use Rattle.{def_io.specs.Lines.pieces, std.proofs.Common.ap, std.proofs.Common.◌∙◌}
 use Rattle.qm_io.proofs.lines.line_at.Goals as goal
 
 pub returns : goal.returns

@@ -1,8 +1,7 @@
-use Rattle.std.proofs.Common.{◌≡◌, ℕ, List, [], ◌∷◌, ◌+◌, ◌-◌, ◌<◌, ◌≤◌, length, take, drop, slice_index, refl}
-use Rattle.std.proofs.Common.{slice_index_or, ap, ◌∙◌, arith}
-use Rattle.def_io.specs.Lines.{lines_of, pieces}
-use Rattle.qm_io.specs.Ends.{ends_from}
-use Rattle.qm_io.proofs.Pieces.{end-there, piece-there, end-within, end-begin, begin, piece-cut}
+use Rattle.qm_io.proofs.Pieces.{begin, end-begin, end-there, end-within, piece-cut, piece-there}
+use Rattle.std.proofs.Common.{List, arith, drop, length, refl, slice_index, slice_index_or, take, ℕ, ◌+◌, ◌-◌, ◌<◌, ◌∙◌}
+use Rattle.std.proofs.{Common.[], Common.ap, Common.◌∷◌, Common.◌≡◌, Common.◌≤◌}
+use Rattle.{def_io.specs.Lines.lines_of, def_io.specs.Lines.pieces, qm_io.specs.Ends.ends_from}
 use Rattle.qm_io.proofs.lines.piece_at.Goals as goal
 
 -- The two ends of a piece, as the table of ends has them, and the piece between them.

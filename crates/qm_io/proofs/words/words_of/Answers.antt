@@ -1,6 +1,5 @@
-use Rattle.std.proofs.Common.{◌+◌, length, map, string_bytes, subst, sym}
-use Rattle.qm_io.specs.WordLists.{ReadsSome}
-use Rattle.qm_io.proofs.WordLists.{reads_pushed}
+use Rattle.std.proofs.{Common.length, Common.map, Common.string_bytes, Common.subst, Common.sym, Common.◌+◌}
+use Rattle.{qm_io.proofs.WordLists.reads_pushed, qm_io.specs.WordLists.ReadsSome}
 use Rattle.qm_io.proofs.words.words_of.Goals as goal
 
 pub words-preserved : goal.words-preserved

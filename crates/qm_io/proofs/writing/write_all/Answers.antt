@@ -1,5 +1,4 @@
-use Rattle.std.proofs.Common.{◌∙◌}
-use Rattle.qm_io.proofs.Moved.{rest_more, prefix_more}
+use Rattle.{qm_io.proofs.Moved.prefix_more, qm_io.proofs.Moved.rest_more, std.proofs.Common.◌∙◌}
 use Rattle.qm_io.proofs.writing.write_all.Goals as goal
 
 pub loop-rest-preserved : goal.loop-rest-preserved

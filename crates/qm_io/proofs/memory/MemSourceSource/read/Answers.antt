@@ -1,7 +1,6 @@
-use Rattle.std.proofs.Common.{◌≡◌, ℕ, List, ◌+◌, ◌-◌, ◌++◌, Some, take, drop, length, min, ap, sym, ◌∙◌, arith}
-use Rattle.std.proofs.lemmas.List.{drop-drop, length-take-le, take-append-drop, take_rest}
-use Rattle.std.proofs.Math.Seq.{take-append_seam}
-use Rattle.def_io.specs.Memory.{Feed}
+use Rattle.std.proofs.Common.{List, Some, ap, arith, drop, length, min, sym, take, ℕ, ◌++◌, ◌+◌, ◌-◌, ◌∙◌, ◌≡◌}
+use Rattle.std.proofs.lemmas.{List.drop-drop, List.length-take-le, List.take-append-drop, List.take_rest}
+use Rattle.{def_io.specs.Memory.Feed, std.proofs.Math.Seq.take-append_seam}
 use Rattle.qm_io.proofs.memory.MemSourceSource.read.Goals as goal
 
 -- What was copied to the front of the buffer, and the rest behind it, are what was left.
