@@ -1,24 +1,13 @@
 -- Sums on one side of the nodes, one arc at a time.
-use Rattle.std.proofs.Common.{◌≡◌, ℕ, zero, suc, ◌+◌, ◌*◌, ◌^◌, ◌<◌, ◌≤◌, Bool, true, false, not, cond, List, length}
+use Rattle.std.proofs.Common.{◌≡◌, ℕ, zero, suc, ◌+◌, ◌*◌, ◌^◌, ◌<◌, ◌≤◌, Bool, true, false, cond, List, length}
 use Rattle.std.proofs.Common.{pos, refl, ◌∙◌, add-one, arith}
 use Rattle.std.specs.Prelude.{slice_index}
-use Rattle.def_math.specs.{Tables.at_place, Tables.IsRaised}
+use Rattle.def_math.specs.{Tables.IsRaised}
 use Rattle.sum_laws.proofs.{Counts.count_total, Counts.count_below_total, Sums.total_same, Sums.total_below_same}
-use Rattle.table_laws.proofs.Tallies.{raised_as, raised_none, tally_low, tally_more}
+use Rattle.table_laws.proofs.Tallies.{tally_low, tally_more}
 use Rattle.def_flow.specs.{Network.arc_at, Network.ends, Admissible.AreNetLengths, Admissible.entries}
 use Rattle.def_flow.specs.{Admissible.is_on_side, Admissible.side_sum, declared.net.Arc.Arc, declared.net.End.End}
 use Rattle.qm_cert.specs.Sides.{end_put, arc_put, side_count, AreSides}
-
--- Adding at the node of an end that is on the side.
-pub end_raised : (plus : Bool) (e : End) (x : ℕ) (old new : List ℕ) → cond plus e.plus (not e.plus) ≡ true
-    → IsRaised (at_place e.node x) old new → IsRaised (end_put plus e x) old new
-end_raised plus e x old new on raised =
-    raised_as (at_place e.node x) (end_put plus e x) old new (λ v l. rw on (grind (arith))) raised
-
--- An end on the other side puts nothing.
-pub end_still : (plus : Bool) (e : End) (x : ℕ) (table : List ℕ) → cond plus e.plus (not e.plus) ≡ false
-    → IsRaised (end_put plus e x) table table
-end_still plus e x table off = raised_none (end_put plus e x) table (λ v l. rw off (grind (arith)))
 
 -- An end puts its length at most, and an arc twice its length.
 pub end_low : (plus : Bool) (e : End) (x v : ℕ) → end_put plus e x v ≤ x

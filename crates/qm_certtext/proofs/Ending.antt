@@ -9,38 +9,6 @@ use Rattle.qm_certtext.{proofs.Holding.Adds, specs.declared.parts.Found.Found, s
 use Rattle.std.proofs.Common.{List, append-nil, append_assoc, ap₂, false, length, map, refl, sym, ◌++◌, ◌<◌, ◌∙◌, ◌∷◌}
 use Rattle.std.proofs.{Common.[], Common.ap, Common.◌≡◌, lemmas.Bool.or_from, lemmas.List.Folds.list_any-append}
 
--- One rise more.
-pub takes_rise : (old new : Found) (rise : Rise) → new.rounds.items ≡ old.rounds.items → new.last ≡ old.last
-    → new.rises.items ≡ old.rises.items ++ rise ∷ [] → TakesLine Rounds old new (rise_line rise)
-takes_rise old new rise rounds last rises said hold = record {
-  lines = hold.lines;
-  plain = hold.plain;
-  holds = rw last hold.holds;
-  same = λ more.
-      let behind : map rise_line new.rises.items ++ more ≡ map rise_line old.rises.items ++ (rise_line rise ∷ more) =
-      ap (λ (rs : List Rise). map rise_line rs ++ more) rises ∙ one_more old.rises.items more in
-      ap (λ (ls : List CertLine). certificates_by (parts_of ls)) (append_assoc said (rise_line rise ∷ []) more)
-      ∙ hold.same (rise_line rise ∷ more)
-      ∙ ap₂ (λ (rs : List Round) (ls : List CertLine). risen_by rs (certificates_by (parts_of (hold.lines ++ ls))))
-      (sym rounds) (sym behind);
-}
-  where
-    one_more : (rs : List Rise) (more : List CertLine)
-        → map rise_line (rs ++ rise ∷ []) ++ more ≡ map rise_line rs ++ (rise_line rise ∷ more)
-    one_more [] more = refl
-    one_more (r ∷ rs) more = ap (λ (ls : List CertLine). rise_line r ∷ ls) (one_more rs more)
-
--- Where no floor rose, the round is not at its end.
-pub ends_none : (found : Found) → found.rises.items ≡ [] → EndsRound found found
-ends_none found none said hold = record {
-  lines = hold.lines;
-  plain = hold.plain;
-  holds = hold.holds;
-  none = none;
-  same = λ more plain. hold.same more ∙ ap (λ (rs : List Rise). risen_by found.rounds.items
-      (certificates_by (parts_of (hold.lines ++ (map rise_line rs ++ more))))) none;
-}
-
 -- The lists of lines are those of the parts that hold them.
 held : (parts : Parts) (lines : List CertLine) → Holds parts lines → lists_in lines ≡ lists_in_parts parts
 held parts lines holds = λ i. record {

@@ -1,10 +1,10 @@
 -- A line of one kind is none of another.
 use Rattle.def_certtext.specs.declared.certs.Rising.{Rising, TheVariants.Never, TheVariants.Rounds, TheVariants.Third}
-use Rattle.def_certtext.specs.declared.{CertLine.CertLine, CertLine.TheVariants.Floor, CertLine.TheVariants.Set}
+use Rattle.def_certtext.specs.declared.{CertLine.CertLine, CertLine.TheVariants.Floor}
 use Rattle.def_certtext.specs.{Reading.is_small, Reading.may_name, Reading.may_tell, declared.certs.Rise.Rise}
-use Rattle.std.proofs.Common.{arith, drop, eqb, get_or, inl, inr, leb, ltb, pos, true, ℕ, ◌++◌, ◌+◌, ◌<◌, ◌^◌, ◌∷◌, ◌≡◌}
+use Rattle.std.proofs.Common.{arith, drop, eqb, get_or, inl, inr, leb, ltb, pos, true, ℕ, ◌+◌, ◌<◌, ◌^◌, ◌∷◌, ◌≡◌}
 use Rattle.std.proofs.lemmas.Bool.{and_from, and_parts, eqb-true, false≢true, leb-true, lt-ltb, ltb-true, or_cases}
-use Rattle.std.{proofs.Common.ap, proofs.Common.ℤ, proofs.Common.◌≤◌, specs.Fmt.signed_decimal, specs.Prelude.decimal}
+use Rattle.std.{proofs.Common.ap, proofs.Common.◌≤◌, specs.Prelude.decimal}
 use Rattle.{def_certtext.specs.Reading.Says, def_text.specs.Types.Word}
 
 -- A floor that a line may name is small.
@@ -31,12 +31,6 @@ rise_small rising rise may =
     let low = rise_low rising rise may in
     and_from _ _ (lt-ltb (rise.arc + 1) (10 ^ 18) (omega arith))
     (lt-ltb rise.floor (2 ^ 32) (omega arith))
-
-pub not_set : (rising : Rising) (rest : Word)
-    → ((z : ℤ) (up : ℕ) → is_small z up ≡ true → rest ≡ signed_decimal z ++ 32 ∷ decimal up → ⊥)
-    → (said : CertLine) → Says rising (35 ∷ 115 ∷ 32 ∷ rest) said → ⊥
-not_set rising rest none (Set number up) says = none number up says.allowed (ap (drop 3) says.written)
-not_set rising rest none _ says = omega (arith, ap (λ (w : Word). get_or w 1 0) says.written)
 
 pub not_floor : (rising : Rising) (rest : Word) → ((n : ℕ) → may_name rising n ≡ true → rest ≡ decimal n → ⊥)
     → (said : CertLine) → Says rising (35 ∷ 102 ∷ 32 ∷ rest) said → ⊥

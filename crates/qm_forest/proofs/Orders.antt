@@ -59,11 +59,6 @@ module _ {t : ForestTables} {sets : List (ℕ × ℕ)} (order : AreInOrder t set
   pub set_low : (k : ℕ) → k < length sets → set_in sets k < length t.up
   set_low k l = (sized k l).low
 
-  pub live_one : (b : ℕ) → length t.hand ≤ b → get_or t.parts b 0 ≢ 0
-      → live_at (length t.hand) (λ k. get_or t.parts k 0) b ≡ 1
-  live_one b high live = cond-false _ _ _
-      (le-ltb b (length t.hand) high) ∙ cond-false _ _ _ (ne_eqb (get_or t.parts b 0) 0 live)
-
   live_low : (b : ℕ) → live_at (length t.hand) (λ k. get_or t.parts k 0) b ≤ 1
   live_low b = low _ _
     where

@@ -1,15 +1,15 @@
 -- Counts of active ends, one unit at a time.
-use Rattle.std.proofs.Common.{◌≡◌, ℕ, zero, suc, ◌+◌, ◌*◌, ◌%◌, ◌<◌, ◌≤◌, ◌==◌, Bool, true, false, not, ◌&&◌, cond}
+use Rattle.std.proofs.Common.{◌≡◌, ℕ, zero, suc, ◌+◌, ◌*◌, ◌%◌, ◌<◌, ◌≤◌, ◌==◌, Bool, false, not, ◌&&◌, cond}
 use Rattle.std.proofs.Common.{List, [], ◌∷◌, length, take, drop, Option, Some, None, refl, subst, inl, inr, arith}
 use Rattle.std.proofs.lemmas.Bool.{cases_lt, ne_eqb}
 use Rattle.std.proofs.lemmas.List.{drop_more, get_or_past, length-take}
 use Rattle.std.specs.Prelude.{slice_index, slice_index_or, option_to_list}
 use mathlib.Core.Bool.{beq}
-use Rattle.def_math.specs.{Counts.count, Tables.at_place, Tables.IsRaised, Tables.IsTally}
+use Rattle.def_math.specs.{Counts.count, Tables.IsRaised, Tables.IsTally}
 use Rattle.def_flow.specs.{Network.EndsBelow, Units.is_active, Units.active_at, Units.active, Units.alone_active}
 use Rattle.def_flow.specs.{Units.rim_active, declared.net.End.End, declared.units.ArcUnit.ArcUnit}
 use Rattle.qm_gadget.specs.{Layout.IsAtNodes, Layout.AreAtNodes, Over.end_active}
-use Rattle.table_laws.proofs.Tallies.{raised_as, raised_none, tally_low, tally_more}
+use Rattle.table_laws.proofs.Tallies.{tally_low, tally_more}
 use Rattle.sum_laws.proofs.Tests.{once_at_most}
 
 -- Functions that agree everywhere are equal.
@@ -25,16 +25,6 @@ left_at nodes left (Some right) at = at.0
 pub right_at : (nodes : ℕ) (left right : End) (o : Option End) → o ≡ Some right → EndsBelow nodes left o
     → right.node < nodes
 right_at nodes left right o is at = (subst (λ (p : Option End). EndsBelow nodes left p) is at).1
-
--- Counting at the node of an active end.
-pub end_raised : (e : End) (on : Bool) (old new : List ℕ) → is_active on e ≡ true → IsRaised (at_place e.node 1) old new
-    → IsRaised (end_active e on) old new
-end_raised e on old new active raised =
-    raised_as (at_place e.node 1) (end_active e on) old new (λ v l. rw active (grind (arith))) raised
-
--- An end that is not active counts nowhere.
-pub end_still : (e : End) (on : Bool) (table : List ℕ) → is_active on e ≡ false → IsRaised (end_active e on) table table
-end_still e on table off = raised_none (end_active e on) table (λ v l. rw off (grind (arith)))
 
 -- 1 at most.
 pub end_low : (e : End) (on : Bool) (v : ℕ) → end_active e on v ≤ 1

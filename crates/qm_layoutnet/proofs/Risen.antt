@@ -1,18 +1,14 @@
 -- Floors that rise: one by one from the last rise on, within their bounds, and higher than they were.
-use Rattle.std.proofs.Common.{◌≡◌, ℕ, suc, ◌+◌, ◌-◌, ◌<◌, ◌≤◌, cond, List, [], ◌∷◌, drop, length, set, refl, sym, ◌∙◌}
-use Rattle.std.proofs.Common.{ap, subst, inl, inr, arith}
-use Rattle.std.proofs.lemmas.Bool.{cases_eq, cond-false, cond-true, eq-eqb, ne_eqb}
-use Rattle.std.proofs.lemmas.Grind.{get_or-set_at}
-use Rattle.std.proofs.lemmas.List.{drop_all, drop_more, get_or-set_other, length-set}
+use Rattle.std.proofs.Common.{◌≡◌, ℕ, suc, ◌-◌, ◌<◌, ◌≤◌, List, [], ◌∷◌, length, refl, sym}
+use Rattle.std.proofs.Common.{subst, inl, inr, arith}
+use Rattle.std.proofs.lemmas.Bool.{cases_eq, cond-true, eq-eqb, ne_eqb}
 use Rattle.std.specs.Prelude.{◌==◌, None, true}
 use Rattle.def_certtext.specs.declared.certs.Rise.{Rise}
-use Rattle.def_flow.specs.{Network.arc_at, declared.limits.TheConstants.MAX_FLOOR, declared.net.Arc.Arc}
+use Rattle.def_flow.specs.{declared.limits.TheConstants.MAX_FLOOR, declared.net.Arc.Arc}
 use Rattle.def_layout.specs.{Gluings.Gluing, Lengths.Lengths}
 use Rattle.def_math.specs.Counts.{count_below}
 use Rattle.def_remesh.specs.Rises.{rise_at, risen_floors, AreNeeded, IsNeeded}
 use Rattle.sum_laws.proofs.Counts.{count_below_lt}
-use Rattle.def_layoutnet.specs.Floors.{at_floor, floor_of}
-use Rattle.qm_layoutnet.specs.Floors.{AreArcsAt}
 
 -- The arc and the rise past the last one.
 abbrev no_arc : Arc
@@ -20,38 +16,6 @@ no_arc = record { left = record { node = 0; plus = true }; right = None; old = 0
 
 abbrev no_rise : Rise
 no_rise = record { arc = 0; floor = 0 }
-
--- Without a rise the floors are as they were.
-pub risen_none : (arcs : List Arc) (rises : List Rise)
-    → AreArcsAt (risen_floors (drop (length rises) rises) (floor_of arcs)) arcs arcs
-risen_none arcs rises = rw (drop_all (length rises) rises (omega arith)) (record { long = refl; each = λ k low. refl })
-
--- One rise more, before those that are done.
-pub risen_next : (arcs mid : List Arc) (rises : List Rise) (k : ℕ) → k < length rises
-    → (rise_at rises k).arc < length arcs
-    → AreArcsAt (risen_floors (drop (k + 1) rises) (floor_of arcs)) arcs mid
-    → AreArcsAt (risen_floors (drop k rises) (floor_of arcs)) arcs
-    (set mid (rise_at rises k).arc (at_floor (rise_at rises k).floor (arc_at mid (rise_at rises k).arc)))
-risen_next arcs mid rises k low there is = rw (drop_more rises k no_rise low)
-    (record { long = length-set mid r.arc _ ∙ is.long; each = each })
-  where
-    r : Rise
-    r = rise_at rises k
-
-    new : List Arc
-    new = set mid r.arc (at_floor r.floor (arc_at mid r.arc))
-
-    rest : Lengths
-    rest = risen_floors (drop (k + 1) rises) (floor_of arcs)
-
-    each : (j : ℕ) → j < length arcs → arc_at new j ≡ at_floor (cond (j == r.arc) r.floor (rest j)) (arc_at arcs j)
-    each j less = elim (cases_eq j r.arc) [
-      | inl same ↦ get_or-set_at mid r.arc j _ no_arc same (omega arith)
-          ∙ (ap (at_floor r.floor) (is.each r.arc there) ∙ sym
-          (λ i. at_floor (cond-true (j == r.arc) r.floor (rest j) (eq-eqb j r.arc same) i) (arc_at arcs (same i))))
-      | inr other ↦ get_or-set_other mid r.arc j _ no_arc other ∙ (is.each j less ∙ sym (ap
-          (λ (f : ℕ). at_floor f (arc_at arcs j)) (cond-false (j == r.arc) r.floor (rest j) (ne_eqb j r.arc other))))
-    ]
 
 -- A fact of a floor that stays, and of each floor to which one rises, is one of the floors then.
 risen_is : (P : ℕ → Type 0) (rises : List Rise) (floors : Lengths) (a : ℕ)

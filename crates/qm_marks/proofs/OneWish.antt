@@ -1,6 +1,6 @@
 -- What one line wishes, and the wishes at the darts of one edge.
 use Rattle.def_fit.specs.WishLines.{is_out_of_range, said_fails, vertex_named, wished_by}
-use Rattle.def_marks.specs.declared.fail.{MarkFail.TheVariants.NotEdge, MarkFail.TheVariants.Range}
+use Rattle.def_marks.specs.declared.fail.{MarkFail.TheVariants.NotEdge}
 use Rattle.def_mesh.specs.{Darts.darts, Darts.from_of, Darts.to_of, Darts.twin_of, Faces.Faces, Manifold.IsManifold}
 use Rattle.qm_marks.{proofs.EdgeMarks.on_edge, specs.Wishing.TakesWish, specs.declared.said.Said.Said}
 use Rattle.std.proofs.Common.{Bool, List, None, Some, arith, cond, false, get_or, inl, inr, length, refl, true, ℕ, ◌||◌}
@@ -30,11 +30,6 @@ module _ (soup : FaceSet) (all number : ℕ) (words : Words) (low : all < 2 ^ 32
     far_same = (λ i. nat_lt all (is.u i) || nat_lt all (is.v i) || nat_lt MAX_WISH (is.wish i))
         ∙ (λ i. clamped_lt all is.wished.u (omega arith) i || clamped_lt all is.wished.v (omega arith) i
         || clamped_lt MAX_WISH is.wished.wish (omega arith) i)
-
-    -- A number that is out of range.
-    pub takes_far : (nat_lt all said.u || nat_lt all said.v || nat_lt MAX_WISH said.wish) ≡ true
-        → said_fails soup all number (wished_by words) ≡ Range number ∷ []
-    takes_far far = rw (is.told, sym far_same ∙ far) refl
 
     module _ (near : (nat_lt all said.u || nat_lt all said.v || nat_lt MAX_WISH said.wish) ≡ false) where
       off : (nat_lt all said.u ≡ false) × (nat_lt all said.v ≡ false) × (nat_lt MAX_WISH said.wish ≡ false)

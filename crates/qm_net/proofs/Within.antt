@@ -18,10 +18,6 @@ pub record IsBoundedArc (nodes : ℕ) (a : Arc) : Type 0 where
 pub bounded_arc : {nodes : ℕ} {a : Arc} → is_bounded nodes a ≡ true → IsBoundedArc nodes a
 bounded_arc on = grind (arith, nat_tests, on)
 
--- An arc within bounds passes the test.
-pub passes_bounds : {nodes : ℕ} {a : Arc} → IsBoundedArc nodes a → is_bounded nodes a ≡ true
-passes_bounds are = grind (arith, nat_tests)
-
 -- Each arc passes the test of its bounds.
 pub arc_bounded : (net : Network) → IsWithinBounds net → (k : ℕ) → k < length net.arcs
     → is_bounded net.nodes (arc_at net.arcs k) ≡ true

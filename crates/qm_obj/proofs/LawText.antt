@@ -6,7 +6,7 @@ use Rattle.std.proofs.Common.{Bool, List, arith, cond, drop, eqb, false, get_or,
 use Rattle.std.proofs.Common.{[], ap, leb, map, not, suc, sym, ℕ, ◌%◌, ◌*◌, ◌+◌, ◌-◌, ◌/◌, ◌<◌, ◌^◌, ◌∙◌, ◌∷◌, ◌≡◌, ◌≤◌}
 use Rattle.std.proofs.lemmas.List.{Folds.list_all-append, append_assoc, length-append, length-drop, take-append-drop}
 use Rattle.std.proofs.lemmas.{Bool.Decides.nat_tests, Fmt.decimal_nonempty, Fmt.length-decimal-le, List.length-take}
-use Rattle.std.proofs.lemmas.{Bool.and_from, Bool.and_parts, Bool.leb-true, Bool.not-true, List.get_or_at, List.take_at}
+use Rattle.std.proofs.lemmas.{Bool.and_from, Bool.and_parts, Bool.not-true, List.get_or_at, List.take_at}
 use Rattle.std.specs.List.{before_first, flat_map, list_all, position_or_len, suffix_len}
 use Rattle.std.specs.{Char.is_ascii_digit, Prelude.decimal, Prelude.int_lt, Prelude.pos, Prelude.unsigned_abs}
 use Rattle.{qm_dec.proofs.Texts.decimal_digits, qm_obj.proofs.Groups.logical_step, qm_obj.proofs.ListLemmas.passes_at}
@@ -20,10 +20,6 @@ is_plain b = leb 45 b && leb b 57
 -- No byte that ends or cuts a line.
 abbrev pub is_tame : ℕ → Bool
 is_tame b = (not (eqb b 10) && not (eqb b 13)) && (not (eqb b 35) && not (eqb b 92))
-
-plain_bounds : (b : ℕ) → is_plain b ≡ true → (45 ≤ b) × (b ≤ 57)
-plain_bounds b is = let both = and_parts (leb 45 b) _ is in
-    (leb-true 45 b both.0, leb-true b 57 both.1)
 
 plain_tame : (b : ℕ) → is_plain b ≡ true → is_tame b ≡ true
 plain_tame b is = grind (arith, nat_tests)
@@ -150,8 +146,11 @@ behind_short : (ws : Words) → AreWords ws → length (flat_map (λ w. 32 ∷ w
 behind_short [] each = omega arith
 behind_short (w ∷ ws) each =
     let first : length w ≤ 60 = (each 0 (omega arith)).short in
-    omega
-    (arith, length-append (32 ∷ w) (flat_map (λ w. 32 ∷ w) ws), behind_short ws (λ k l. each (suc k) (omega arith)))
+    omega (
+      arith,
+      length-append (32 ∷ w) (flat_map (λ w. 32 ∷ w) ws),
+      behind_short ws (λ k l. each (suc k) (omega arith)),
+    )
 
 pub record IsLine (line : List ℕ) : Type 0 where
   pub tame : list_all is_tame line ≡ true

@@ -23,13 +23,6 @@ use Rattle.remesh_laws.specs.Keeps.{floors_behind, IsNumbered}
 use Rattle.sum_laws.proofs.Counts.{count_below_same}
 use Rattle.qm_remesh.specs.Rounds.{room_of, IsFitNet, IsLedBy}
 
--- Before the first round.
-pub led_first : {layout : Layout} {settings : Settings} {net : Network} {cert : Cert}
-    → IsSolution net (certificate cert)
-    → IsLedBy layout settings net [] net cert
-led_first is =
-    record { solved = is; even = λ even. even; led = λ wish for. tt; behind = λ wish for. for }
-
 module _ {fit : Fit} {layout : Layout} {first net : Network} {rounds : List Round} {cert : Cert}
     (fits : IsFitNet fit layout first) (is : IsLedBy layout (fit_settings fit) first rounds net cert) where
   -- The network with the floors that rose.

@@ -1,5 +1,5 @@
 -- Tables that something is added to, one place after the other.
-use Rattle.std.proofs.Common.{◌≡◌, ℕ, ◌+◌, ◌<◌, ◌≤◌, List, length, replicate, refl, sym, ◌∙◌, inl, inr, eq-eqb, ne_eqb}
+use Rattle.std.proofs.Common.{◌≡◌, ℕ, ◌+◌, ◌<◌, ◌≤◌, List, length, replicate, sym, ◌∙◌, inl, inr, eq-eqb, ne_eqb}
 use Rattle.std.proofs.Common.{arith}
 use Rattle.std.proofs.lemmas.Bool.{cases_eq, cases_lt}
 use Rattle.std.proofs.lemmas.List.{length-set, get_or_past, get_or-set_same, get_or-set_other, length-replicate}
@@ -19,11 +19,6 @@ raised_at table place more low = record { long = length-set table place (slice_i
       | inr ne ↦ rw (ne_eqb place v ne) (get_or-set_other table place v (slice_index table place + more) 0
           (λ is. ne (sym is)) ∙ omega arith)
     ]
-
--- Nothing is added.
-pub raised_none : (more : ℕ → ℕ) (table : List ℕ) → ((v : ℕ) → v < length table → more v ≡ 0)
-    → IsRaised more table table
-raised_none more table none = record { long = refl; each = λ v l. omega (arith, none v l) }
 
 -- An addition, in other words.
 pub raised_as : (f g : ℕ → ℕ) (old new : List ℕ) → ((v : ℕ) → v < length old → f v ≡ g v) → IsRaised f old new

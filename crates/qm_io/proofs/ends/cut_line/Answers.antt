@@ -1,4 +1,4 @@
-use Rattle.std.proofs.Common.{List, ap, arith, drop, length, length-drop, map, refl, sym, take, ◌-◌, ◌<◌, ◌∙◌, ◌∷◌, ◌≡◌}
+use Rattle.std.proofs.Common.{List, ap, arith, drop, map, refl, sym, take, ◌-◌, ◌∙◌, ◌∷◌, ◌≡◌}
 use Rattle.{def_io.specs.Lines.line_of, def_io.specs.Lines.tail_of, qm_io.proofs.Pieces.flat-pieces}
 use Rattle.{def_io.specs.Lines.pieces, std.proofs.Common.ℕ, std.specs.List.flat_map}
 use Rattle.qm_io.proofs.ends.cut_line.Goals as goal
@@ -13,9 +13,6 @@ module _ (bs : List ℕ) {piece rest : List ℕ} (n : ℕ) (front : piece ≡ ta
 
   is_rest : rest ≡ tail_of 1 bs
   is_rest = sym (flat-pieces rest) ∙ ap (λ (ps : List (List ℕ)). flat_map (λ p. p) (drop 1 ps)) (sym is_cut)
-
-  is_shorter : 0 < n → 0 < length bs → length rest < length bs
-  is_shorter some long = omega (arith, ap length back, length-drop n bs)
 
 pub returns-clause-line : goal.returns-clause-line
 returns-clause-line c =
