@@ -115,10 +115,10 @@ module _ {m : HalfEdges} (laws : IsQuadManifold m) {cut : Cut} (full : IsCut m c
       a_less : name_at arcs a < name_at others b
       a_less =
           let p = least_there (path_at others b).darts (them.each b b_low).run.some in
-          let l = (are.each a a_low).named (long_at others b - 1 - p.0) (dart_at others b p.0) (omega
-          (arith, long, p.1)) (laws.twin_twin (dart_at others b p.0) (dart_at arcs a (long_at others b - 1 - p.0))
-          (dart_low m laws cut full node nodes others them b p.0 b_low p.1)
-          (across p.0 (long_at others b - 1 - p.0) (omega (arith, p.1)))) in
+          let l = (are.each a a_low).named (long_at others b - 1 - p.0) (dart_at others b p.0)
+          (omega (arith, long, p.1))
+          (laws.twin_twin (dart_at others b p.0) (dart_at arcs a (long_at others b - 1 - p.0)) (dart_low m laws cut full
+          node nodes others them b p.0 b_low p.1) (across p.0 (long_at others b - 1 - p.0) (omega (arith, p.1)))) in
           omega (arith, l, p.2)
 
 module _ (m : HalfEdges) (laws : IsQuadManifold m) (cut : Cut) (full : IsCut m cut) (node : ℕ → Bool)

@@ -51,12 +51,12 @@ module _ (faces : Faces) (m : IsManifold faces) (marks : List Bool) (marked : Ar
             (laws.twin_twin (prev_of c) x (laws.prev_low c lc) k.last) ∙ kept.kept x l on))))
         | inr (inr y) ↦
             let found = any_where (λ e. is_on cut_marks e && is_on cut_marks (prev_of e))
-                (fan_of faces (from_of faces x))
+            (fan_of faces (from_of faces x))
             (kept.turned x l y) in
             let f = from_fan faces (from_of faces x) found.0 found.1 in
             let p = and_parts (is_on cut_marks found.0) (is_on cut_marks (prev_of found.0)) found.2 in
             absurd (false≢true
-                (sym inner ∙ (ap (is_node faces cut_marks) (sym f.1) ∙ nodes.corner found.0 f.0 p.0 p.1)))
+            (sym inner ∙ (ap (is_node faces cut_marks) (sym f.1) ∙ nodes.corner found.0 f.0 p.0 p.1)))
       ]
 
   -- So it does along an arc,
@@ -119,7 +119,7 @@ traced_beside faces m marks marked =
     let cut = ((full_cut_law faces cut_marks m).0 kept.full).1 in
     -- All edges at a break are in the cut.
     let at_break : (e t : ℕ) → e < darts faces → twin_of faces e ≡ Some t → is_break faces marks (from_of faces e)
-        ≡ true
+    ≡ true
     → is_on (marked_cut faces marks) e ≡ true =
     λ e t l w y. origin_cut faces m marks marked e l (break_origin faces m marks marked e t w y) in
     record {

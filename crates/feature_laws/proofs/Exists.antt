@@ -116,8 +116,12 @@ a_conforming faces marks m marked =
     told d = elim (cases_lt d (darts faces)) [
       | inl l ↦ get_or-map-range_with_len (is_source_at faces marks) 0 (darts faces) d d false l (omega arith)
       | inr le ↦ false_from_ne_true _
-          (λ y. omega (arith, mark_low sources d y, length-map (all_darts faces) (is_source_at faces marks),
-              length-range_with_len 0 (darts faces)))
+          (λ y. omega (
+            arith,
+            mark_low sources d y,
+            length-map (all_darts faces) (is_source_at faces marks),
+            length-range_with_len 0 (darts faces),
+          ))
           ∙ none le (is_among d (marked_starts faces marks)) (is_on marks d) refl refl
     ]
       where

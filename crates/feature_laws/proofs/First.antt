@@ -210,9 +210,13 @@ module _ (faces : Faces) (m : IsManifold faces) (marks : List Bool) (marked : Ar
   -- Each component has a source.
   first_found : HasSources mesh (begins faces marks)
   first_found d l =
-      let by = found faces m d l in
-      (by.0, by.1, by.2, elim by.3
-          [ inl s ↦ inl (or_left _ _ (or_left _ _ (start_of faces by.0 s).1)) | inr a ↦ inr a ])
+      let by = found faces m d l in (
+        by.0,
+        by.1,
+        by.2,
+        elim by.3
+            [ inl s ↦ inl (or_left _ _ (or_left _ _ (start_of faces by.0 s).1)) | inr a ↦ inr a ],
+      )
 
   first_sided : (d : ℕ) → d < darts faces → not (is_inner faces (to_of faces d)) ≡ true → IsShutFirst (next_of d)
       ⊎ ((t : ℕ) × (twin_of faces (next_of d) ≡ Some t) × (twin_of faces (next_of t) ≡ None))

@@ -96,8 +96,10 @@ module _ (g : Darts) (are : AreDarts g) (f : Forest) (nested : IsNested g f) (ve
 
   three_parts : (b : ℕ) → IsRing g f b → 3 ≤ count_below (λ p. part p b) f.size
   three_parts b ring =
-      let one : (k : ℕ) → 1 ≤ part (walk f.nest.after (f.nest.head b) k) b = λ k. omega
-      (arith, is_part (ring.inside k) (λ e. absurd (omega (arith, ap f.nest.rank e, ring.lower k)))) in
+      let one : (k : ℕ) → 1 ≤ part (walk f.nest.after (f.nest.head b) k) b = λ k. omega (
+        arith,
+        is_part (ring.inside k) (λ e. absurd (omega (arith, ap f.nest.rank e, ring.lower k))),
+      ) in
       three_below (λ p. part p b) (ring.below 0) (ring.below 1) (ring.below 2) (ring.distinct 0 1 (omega arith)
       (omega arith)) (ring.distinct 0 2 (omega arith) (omega arith))
       (ring.distinct 1 2 (omega arith) (omega arith)) (one 0) (one 1) (one 2)
@@ -116,7 +118,7 @@ module _ (g : Darts) (are : AreDarts g) (f : Forest) (nested : IsNested g f) (ve
     | inl top ↦ omega (arith, count_below_none (part p) f.size (λ b l. off b (λ up self. self (sym top ∙ up))))
     | inr ne ↦ elim (cases_lt (f.nest.up p) f.size) [
       | inl l ↦ (let one = count_below_one (part p) f.size (f.nest.up p) l
-              (λ b lb nb. off b (λ up self. nb (sym up))) in
+          (λ b lb nb. off b (λ up self. nb (sym up))) in
           omega (arith, is_inner ne, is_part refl (λ e. ne (sym e))))
       | inr h ↦ omega (arith, count_below_none (part p) f.size (λ b l. off b (λ up self. absurd (omega (arith, up)))))
     ]

@@ -125,5 +125,5 @@ pub shrunk_valid : {g : Darts} → AreDarts g → {f : Forest} {r : ℕ} → IsV
     → {new : Forest} {inside : ℕ → Bool} {top b front many : ℕ} → IsCycle g f r tree.depth inside top
     → IsUnused g.n f b → IsClosedRow g f new.nest.after new.nest.joint inside front many
     → IsShrunk g.n f new inside top b front many → IsValid g new (Some (cond (inside r) b r))
-shrunk_valid are valid tree cycle unused row is = valid_after (record
-    { are = are; valid = valid; tree = tree; cycle = cycle; unused = unused; row = row; is = is })
+shrunk_valid are valid tree cycle unused row is = valid_after
+    (record { are = are; valid = valid; tree = tree; cycle = cycle; unused = unused; row = row; is = is })

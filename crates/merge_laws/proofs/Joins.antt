@@ -226,7 +226,7 @@ module _ {mesh : HalfEdges} (laws : IsQuadManifold mesh) {cut : Cut} (full : IsC
         | inr none ↦ elim (on_or_not mesh s t n (mesh.prev e)) [
           | inl o ↦
               let next : (x : ℕ) → mesh.prev e ≡ x → e ≡ mesh.next x = λ x at. sym (laws.next_prev e)
-                  ∙ ap mesh.next at in
+              ∙ ap mesh.next at in
               elim o.2 [
                 | inl at ↦ lost laws full arc grid other without d e l (m, c.2)
                     (1, record { a = o.0; b = 0; a_low = o.1; b_low = grid.tall; is = next _ at })

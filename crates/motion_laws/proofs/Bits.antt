@@ -151,7 +151,7 @@ module _ (g : Terrain) (laws : IsQuadManifold g.half) where
           → ⊥
       ne i k l e =
           let s = four_apart g.half laws (g.half.next d) a b c (laws.next_low d low) x i (suc (i + k)) (omega arith) l
-              e in
+          e in
           omega (arith, s)
 
       over : (x y : ℕ) → g.half.prev x ≡ g.half.prev y → x ≡ y

@@ -271,7 +271,7 @@ module _ (g : Terrain) (t : IsTerrain g) (starts : List ℕ) (begin : IsStarted 
               (ap (is_among f.0) (all_ridden parts.0) ∙ f.1) in
               false≢true (sym off ∙ (ap is_settled (sym (eqb-true _ _ e.0)) ∙ there))) in
               ap (λ b. s.stood u || (b && list_any (arrives_at g now u) now)) off
-                  ∙ ap (λ b. s.stood u || b) (sym nobody)
+              ∙ ap (λ b. s.stood u || b) (sym nobody)
 
   -- The state at an instant, which the motion reaches.
   abbrev after : ℕ → State
@@ -399,7 +399,7 @@ module _ (g : Terrain) (t : IsTerrain g) (starts : List ℕ) (begin : IsStarted 
               let all = all_ridden s (reached w.instant) x w.shown done in
               let m = runs_ridden x.riders r low runs in
               absurd (false≢true
-                  (sym (ap (is_among (rider_at x.riders r).dart) (ap ridden same ∙ (sym all ∙ none.0))) ∙ m))
+              (sym (ap (is_among (rider_at x.riders r).dart) (ap ridden same ∙ (sym all ∙ none.0))) ∙ m))
           | inr f ↦ (
             Settle (end_of g f.0),
             and_from _ _ (eq-eqb _ _ done) (and_from _ _ (any_at (leads_to g (end_of g f.0)) f.0 (darts_in x.noted) f.1

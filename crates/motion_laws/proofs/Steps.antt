@@ -302,9 +302,11 @@ module _ (g : Terrain) (t : IsTerrain g) where
       | inl o ↦ let e = r.ends d low o in (known_then _ e.0, known_then _ e.1)
       | inr (inl m) ↦ (inl (stood_old _ (r.left d m)), inl (stands d m))
       | inr (inr w) ↦
-          let ends = t.half.twin_ends d w.0 low w.1 in
-          (inl (ap next.stood (sym ends.1) ∙ stands w.0 w.2), inl
-              (ap next.stood (sym ends.0) ∙ stood_old _ (r.left w.0 w.2)))
+          let ends = t.half.twin_ends d w.0 low w.1 in (
+            inl (ap next.stood (sym ends.1) ∙ stands w.0 w.2),
+            inl
+                (ap next.stood (sym ends.0) ∙ stood_old _ (r.left w.0 w.2)),
+          )
     ]
 
     step_alike : (d e : ℕ) → d < g.half.count → g.half.twin d ≡ Some e → next.covered e ≡ next.covered d

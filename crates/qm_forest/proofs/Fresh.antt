@@ -168,9 +168,8 @@ module _ (n size : ℕ) (lows : List ℤ) (t : ForestTables) (hid : HiddenTables
         ap (λ (xs : List ℤ). get_or xs v (pos 0)) fresh.kept in omega (arith, ints, e, added_is v (in_n v l)));
     small = λ b. omega (arith, ints, weight_is b, small b);
     start = dual_sum_of (forest_of t);
-    small_start = (let sum = sum_small (forest_of t).weight (length t.up) (λ k l. omega
-        (arith, ints, weight_is k, small k)) in
-        omega (arith, ints, fresh.up.size, fresh.few));
+    small_start = (let sum = sum_small (forest_of t).weight (length t.up)
+        (λ k l. omega (arith, ints, weight_is k, small k)) in omega (arith, ints, fresh.up.size, fresh.few));
     moved = λ v l. omega (arith, ints, added_is v (in_n v l));
     risen = (omega (arith, ints, fresh.delta), omega (arith, ints, fresh.delta));
     still = λ none. fresh.delta;

@@ -154,8 +154,11 @@ module _ (n : ℕ) (next after first last rank : ℕ → ℕ) (front many : ℕ)
 
   pub row_few : ring_sum after rank front many ≤ n
   row_few =
-      let one : (v : ℕ) → ring_sum after (λ p. bool_number (eqb (out v) p)) front many ≤ 1 = λ v. omega
-      (arith, listed_sum after front many (out v) distinct, once_at_most (listed after front many (out v))) in
+      let one : (v : ℕ) → ring_sum after (λ p. bool_number (eqb (out v) p)) front many ≤ 1 = λ v. omega (
+        arith,
+        listed_sum after front many (out v) distinct,
+        once_at_most (listed after front many (out v)),
+      ) in
       let swap : count_below (λ v. ring_sum after (λ p. bool_number (eqb (out v) p)) front many) n
       ≡ ring_sum after (λ p. count_below (λ v. bool_number (eqb (out v) p)) n) front many = counts_exchanged after
       (λ p v. bool_number (eqb (out v) p)) front n many in

@@ -306,8 +306,12 @@ module _ {g : WeightedGraph} {t0 : ForestTables} {b : ℕ} (ready : CanOpen g t0
     expanding_back = expanding_at lies route_back (omega (arith, twice, odd, uneven)) (record {
       inners = λ i l. label_back (many - steps - 2 * i) (many - 2 * i) (omega (arith, low))
           (omega (arith, l, twice, low)) ∙ even_is (many - steps - 2 * i) (turns - i) (omega (arith, l, twice));
-      outers = λ i l. label_back (many - steps - (2 * i + 1)) (many - (2 * i + 1)) (omega (arith, low)) (omega
-          (arith, l, twice, low)) ∙ odd_is (many - steps - (2 * i + 1)) (turns - suc i) (omega (arith, l, twice));
+      outers = λ i l. label_back (many - steps - (2 * i + 1)) (many - (2 * i + 1)) (omega (arith, low)) (omega (
+        arith,
+        l,
+        twice,
+        low,
+      )) ∙ odd_is (many - steps - (2 * i + 1)) (turns - suc i) (omega (arith, l, twice));
       off = λ j more l. label_missed lies (at (many - j)) (λ k lk. missed k j lk more l)
           ∙ part_label (at (many - j)) (circle.marked (many - j));
       first_mate = ap back.mate (at_same (many - 0) many (omega arith) ∙ circle.closed) ∙ mate_first lies;

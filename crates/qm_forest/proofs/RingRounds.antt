@@ -155,8 +155,12 @@ module _ {t : ForestTables} (known : IsLaminar t) {g : WeightedGraph} (valid : I
       b) due → IsRound t marks left (λ b. sum_from (after p) (many - 1) b +
       (cond (within t b q) 0 (waits_but t b c v) + rest b)) due
   ring_climb rest v {c} j held lv climbs' low_c low_q round =
-      let low : (x : ℕ) → inside x ≡ true → get_or t.rank x 0 ≤ length t.hand = λ x on. omega
-      (arith, known.rises x (inner_part x on), ap (λ z. get_or t.rank z 0) (part x on).0, low_q) in
+      let low : (x : ℕ) → inside x ≡ true → get_or t.rank x 0 ≤ length t.hand = λ x on. omega (
+        arith,
+        known.rises x (inner_part x on),
+        ap (λ z. get_or t.rank z 0) (part x on).0,
+        low_q,
+      ) in
       round_rest (λ b. sum_from (after p) (many - 1) b + (cond (within t b q) 0 (waits_but t b c v) + rest b))
       (λ b l. (let law = climb_law (rising known) q v
       circle part parts low low_q low_c held j climbs' b in omega arith)) round

@@ -254,8 +254,12 @@ module _ {n : ℕ} {up rank : ℕ → ℕ} (rising : IsRising n up rank) where
           | inl e ↦ (let left : rest_at p b ≡ 0 = out_of b p off ∙ (ap (λ (s : Bool). cond (in_it b c) (cond s 0 1) 0)
               (ap (in_it v) e ∙ in_set v p p_part.0 hv) ∙ none_either (in_it b c)) in
               (let none = none_after b (λ k l o. (let w = where_in q (nth k) (rw e at o) in absurd
-              (let less = rises (nth k) (λ s. (at_part k).1 (sym s ∙ (at_part k).0)) in omega
-              (arith, rank_walk q w.0, ap rank w.1, ap rank (at_part k).0)))) in
+              (let less = rises (nth k) (λ s. (at_part k).1 (sym s ∙ (at_part k).0)) in omega (
+                arith,
+                rank_walk q w.0,
+                ap rank w.1,
+                ap rank (at_part k).0,
+              )))) in
               omega (arith, left, zero_in b q on)))
           | inr ne ↦ around b (in_part b (where_in b q on).0 (where_in b q on).1 ne) off on
         ]

@@ -55,8 +55,8 @@ module _ {faces : Faces} {marks : List Bool} (rest : List Bool) (cutting : IsCut
       name = place.seam.name;
       named = is.named;
       first = λ r u m d arc y on.
-        let n = name_there mesh r u m arc.glued.near.some in
-        omega (arith, least r u m n.0 arc y n.1, n.1.least d on);
+          let n = name_there mesh r u m arc.glued.near.some in
+          omega (arith, least r u m n.0 arc y n.1, n.1.least d on);
     };
     long = long;
     without = without;
@@ -98,7 +98,7 @@ module _ {faces : Faces} {marks : List Bool} (rest : List Bool) (cutting : IsCut
           → WaitStill mesh (is_on marks) (is_on rest) old new starts new_starts
       wait_still near_noted kept far_noted still s t n name arc named was =
           elim (grown_law mesh (is_on marks) (is_on rest) place.start place.seam.far place.seam.long s t n cutting.laws
-              cutting.full is.joinable without arc) [
+          cutting.full is.joinable without arc) [
             | inl before ↦ still s t n name arc named (kept s t n name arc named (was before))
             | inr (inl o) ↦ still s t n name arc named
                 (noted_over cutting.laws cutting_after.full near_end.2 between one_starts near_noted arc o named)

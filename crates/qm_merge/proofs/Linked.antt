@@ -91,7 +91,7 @@ module _ {mesh : HalfEdges} (laws : IsQuadManifold mesh) {cut : Cut} (full : IsC
         let near_fourth = next_is_corner laws full ones.fourth in
         let far_fourth = next_is_corner laws full others.fourth in
         let few_at : (c : ℕ) → IsCorner mesh cut c → at links.long.items c ≤ mesh.count + 1 =
-            λ c corner. side_few (are.side c corner.0 corner) in
+        λ c corner. side_few (are.side c corner.0 corner) in
         record {
           near_next = omega (arith, are.nexts, near_fourth.0);
           far_next = omega (arith, are.nexts, far_fourth.0);
@@ -141,13 +141,13 @@ module _ {mesh : HalfEdges} (laws : IsQuadManifold mesh) {cut rest : Cut} (full 
   grown_near =
       let second = next_is_corner laws full others.second in
       near_side laws full arc without ones others (at longs near.fourth) (at longs far.second)
-          (are.side near.fourth corner_near.0 corner_near) (are.side far.second second.0 second)
+      (are.side near.fourth corner_near.0 corner_near) (are.side far.second second.0 second)
 
   grown_far : IsWholeSide mesh rest far.fourth far_sum × (near.third ≡ mesh.next (easts mesh far.fourth (far_sum - 1)))
   grown_far =
       let second = next_is_corner laws full ones.second in
       near_side laws full back back_without others ones (at longs far.fourth) (at longs near.second)
-          (are.side far.fourth corner_far.0 corner_far) (are.side near.second second.0 second)
+      (are.side far.fourth corner_far.0 corner_far) (are.side near.second second.0 second)
 
   -- What stands in a table in which two places were set.
   at_near : (xs ys : List ℕ) (x y : ℕ) → ys ≡ set (set xs near.fourth x) far.fourth y → length xs ≡ mesh.count
@@ -187,12 +187,12 @@ module _ {mesh : HalfEdges} (laws : IsQuadManifold mesh) {cut rest : Cut} (full 
       | inl e ↦ rw e (told far.fourth far_sum near.third (at_far longs new.long.items near_sum far_sum joined.long
           are.longs) (at_far nexts new.next.items far.third near.third joined.next are.nexts) grown_far.0 grown_far.1)
       | inr b ↦
-        let was = corner_was laws full arc without c corner in
-        told c (at longs c) (at nexts c) (at_other longs new.long.items near_sum far_sum c joined.long a b)
-            (at_other nexts new.next.items far.third near.third c joined.next a b)
-            (side_stays laws full arc without c (at longs c) corner (are.side c was.0 was)
-            (λ next. a (one_before laws full next (near_closes laws full arc without ones others))) (λ next. b
-            (one_before laws full next (near_closes laws full back back_without others ones)))) (are.after c was.0 was)
+          let was = corner_was laws full arc without c corner in
+          told c (at longs c) (at nexts c) (at_other longs new.long.items near_sum far_sum c joined.long a b)
+          (at_other nexts new.next.items far.third near.third c joined.next a b)
+          (side_stays laws full arc without c (at longs c) corner (are.side c was.0 was)
+          (λ next. a (one_before laws full next (near_closes laws full arc without ones others))) (λ next. b
+          (one_before laws full next (near_closes laws full back back_without others ones)))) (are.after c was.0 was)
     ]
   ]
 

@@ -78,10 +78,10 @@ module _ {mesh : HalfEdges} (laws : IsQuadManifold mesh) {cut : Cut} (full : IsC
       → (start ≡ s) ⊎ (start ≡ t) → may start seam.far seam.long ≡ true
   seam_free may turn {start} {seam} is {s} {t} {n} arc free side =
       let from : (c b : ℕ) → start ≡ c → IsJoinable mesh cut c b n → may c b n ≡ true
-          → may start seam.far seam.long ≡ true = λ c b e joined y.
-            let here : IsJoinable mesh cut start b n = rw e joined in
-            let far = one_far mesh laws cut full start seam.far b seam.long n is.joinable.glued here.glued in
-            rw (far.1, far.0, e) y in
+      → may start seam.far seam.long ≡ true = λ c b e joined y.
+      let here : IsJoinable mesh cut start b n = rw e joined in
+      let far = one_far mesh laws cut full start seam.far b seam.long n is.joinable.glued here.glued in
+      rw (far.1, far.0, e) y in
       elim side [
         | inl e ↦ from s t e arc free
         | inr e ↦ from t s e (turned_arc mesh laws cut full s t n arc) (turn s t n free)
@@ -101,15 +101,15 @@ module _ {mesh : HalfEdges} (laws : IsQuadManifold mesh) {cut : Cut} (full : IsC
       → IsNameOf mesh s t n name → IsNoted names starts s t name
   noted_over {start} {m} {k} {d} on names starts noted {s} {t} {n} {name} arc o named =
       let is : (c j : ℕ) → IsWholeSide mesh cut c n → j < n → d ≡ easts mesh c j → c ≡ start = λ c j side l e.
-          sym (one_place mesh laws cut full start m c n k j on.side side on.low l (on.at ∙ e)).0 in
+      sym (one_place mesh laws cut full start m c n k j on.side side on.low l (on.at ∙ e)).0 in
       elim o.2 [
         | inl e ↦
-          let same = is s o.0 arc.glued.near o.1 e in
-          rw same (noted t n name (rw same at arc) (rw same at named))
+            let same = is s o.0 arc.glued.near o.1 e in
+            rw same (noted t n name (rw same at arc) (rw same at named))
         | inr e ↦
-          let same = is t o.0 arc.glued.far o.1 e in
-          other_noted names starts t s name (rw same (noted s n name
-              (rw same at (turned_arc mesh laws cut full s t n arc)) (rw same at (name_other mesh s t n name named))))
+            let same = is t o.0 arc.glued.far o.1 e in
+            other_noted names starts t s name (rw same (noted s n name
+            (rw same at (turned_arc mesh laws cut full s t n arc)) (rw same at (name_other mesh s t n name named))))
       ]
 
   -- One arc more is noted.
@@ -127,12 +127,12 @@ module _ {mesh : HalfEdges} (laws : IsQuadManifold mesh) {cut : Cut} (full : IsC
       put_kept old new seam.name updates name noted.0,
       elim (cases_eq name seam.name) [
         | inl e ↦
-          let here : at (set starts seam.name s) name ≡ s = rw e (get_or-set_same starts seam.name s 0 low) in
-          elim (one_arc mesh laws cut full s seam.far seam.long r u m name is.joinable.glued arc.glued
-              (rw e is.named.on) named.on).0 [ inl p ↦ inl (here ∙ p.0) | inr p ↦ inr (here ∙ p.0) ]
+            let here : at (set starts seam.name s) name ≡ s = rw e (get_or-set_same starts seam.name s 0 low) in
+            elim (one_arc mesh laws cut full s seam.far seam.long r u m name is.joinable.glued arc.glued
+            (rw e is.named.on) named.on).0 [ inl p ↦ inl (here ∙ p.0) | inr p ↦ inr (here ∙ p.0) ]
         | inr ne ↦
-          let kept = get_or-set_other starts seam.name name s 0 ne in
-          elim noted.1 [ inl q ↦ inl (kept ∙ q) | inr q ↦ inr (kept ∙ q) ]
+            let kept = get_or-set_other starts seam.name name s 0 ne in
+            elim noted.1 [ inl q ↦ inl (kept ∙ q) | inr q ↦ inr (kept ∙ q) ]
       ],
     )
 

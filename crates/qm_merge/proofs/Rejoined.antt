@@ -17,8 +17,8 @@ module _ {mesh : HalfEdges} (laws : IsQuadManifold mesh) {cut rest : Cut} (full 
   on_start : (c : ℕ) → IsCorner mesh cut c → IsOnArc mesh s t n c → (c ≡ s) ⊎ (c ≡ t)
   on_start c corner o =
       let start : (b k : ℕ) → IsWholeSide mesh cut b n → k < n → c ≡ easts mesh b k → c ≡ b = λ b k side l e.
-          let first = first_place mesh laws cut full b n side k l (cc (e, corner.2)) in
-          cc (e, first) in
+      let first = first_place mesh laws cut full b n side k l (cc (e, corner.2)) in
+      cc (e, first) in
       elim o.2 [
         | inl e ↦ inl (start s o.0 arc.glued.near o.1 e)
         | inr e ↦ inr (start t o.0 arc.glued.far o.1 e)
@@ -29,12 +29,12 @@ module _ {mesh : HalfEdges} (laws : IsQuadManifold mesh) {cut rest : Cut} (full 
       → IsNextCorner mesh cut s c ⊎ IsNextCorner mesh cut t c
   on_end c corner o =
       let end : (b k : ℕ) → IsWholeSide mesh cut b n → k < n → mesh.prev c ≡ easts mesh b k
-          → IsNextCorner mesh cut b c = λ b k side l e.
-            let here : c ≡ mesh.next (easts mesh b k) = cc (laws.next_prev c, e) in
-            elim (cases_eq (suc k) n) [
-              | inl q ↦ (k, rw q side, here)
-              | inr ne ↦ absurd (true≢false (cc (corner.1, here, side.inside k (omega (arith, l, ne)))))
-            ] in
+      → IsNextCorner mesh cut b c = λ b k side l e.
+      let here : c ≡ mesh.next (easts mesh b k) = cc (laws.next_prev c, e) in
+      elim (cases_eq (suc k) n) [
+        | inl q ↦ (k, rw q side, here)
+        | inr ne ↦ absurd (true≢false (cc (corner.1, here, side.inside k (omega (arith, l, ne)))))
+      ] in
       elim o.2 [
         | inl e ↦ inl (end s o.0 arc.glued.near o.1 e)
         | inr e ↦ inr (end t o.0 arc.glued.far o.1 e)
@@ -100,8 +100,8 @@ module _ {mesh : HalfEdges} (laws : IsQuadManifold mesh) {cut rest : Cut} (full 
     inside : (k : ℕ) → suc k < suc a + suc b → rest (mesh.next (easts mesh p k)) ≡ false
     inside k l =
         let open_at : (c m i : ℕ) → IsWholeSide mesh cut c m → suc i < m → rest (mesh.next (easts mesh c i)) ≡ false =
-            λ c m i side h. opened mesh laws cut rest s t n without (mesh.next (easts mesh c i)) (laws.next_low
-            (easts mesh c i) (side_low mesh laws cut full c m side i (omega (arith, h)))) (side.inside i h) in
+        λ c m i side h. opened mesh laws cut rest s t n without (mesh.next (easts mesh c i)) (laws.next_low
+        (easts mesh c i) (side_low mesh laws cut full c m side i (omega (arith, h)))) (side.inside i h) in
         elim (cases_order k a) [
           | inl e ↦ cc (e, meets, without.gone s (0, arc.glued.near.some, inl refl))
           | inr (inl less) ↦ open_at p (suc a) k before (omega (arith, less))
@@ -182,9 +182,12 @@ module _ {mesh : HalfEdges} (laws : IsQuadManifold mesh) {cut rest : Cut} (full 
         let left = one_size mesh laws cut full near.fourth (suc i) a near_closes.1 one in
         let right = one_size mesh laws cut full far.second (suc j) b others.third.1 two in
         let sum : suc i + suc j ≡ a + b = omega (arith, left, right) in
-        rw (← sum) (grown_side near_closes.1 near_closes.2 others.third.1 others.third.2 others.second near_stays
-            far_third_off, grown_end near_closes.1 near_closes.2 others.third.1 others.third.2 others.second near_stays
-            far_third_off)
+        rw (← sum) (
+          grown_side near_closes.1 near_closes.2 others.third.1 others.third.2 others.second near_stays
+              far_third_off,
+          grown_end near_closes.1 near_closes.2 others.third.1 others.third.2 others.second near_stays
+              far_third_off,
+        )
 
     -- The dart before the arc stands on it.
     pub near_over : (m : ℕ) × (k : ℕ) × StandsOn mesh rest near.fourth m k (mesh.prev s)

@@ -61,7 +61,7 @@ module _ {mesh : HalfEdges} (laws : IsQuadManifold mesh) {cut : Cut} (full : IsC
   pub one_before : {c d e : ℕ} → IsNextCorner mesh cut c e → IsNextCorner mesh cut d e → c ≡ d
   one_before {c} {d} {e} a b =
       let same : easts mesh c a.0 ≡ easts mesh d b.0 =
-          cc (laws.prev_next (easts mesh c a.0), a.2, b.2, laws.prev_next (easts mesh d b.0)) in
+      cc (laws.prev_next (easts mesh c a.0), a.2, b.2, laws.prev_next (easts mesh d b.0)) in
       (one_place mesh laws cut full c (suc a.0) d (suc b.0) a.0 b.0 a.1 b.1 (omega arith) (omega arith) same).0
 
   -- Round a patch.
@@ -128,7 +128,7 @@ module _ {mesh : HalfEdges} (laws : IsQuadManifold mesh) {cut : Cut} (full : IsC
     is_one_of t corner a =
         let p = on_first in
         found p.1 t (corner_in mesh laws cut full w p.0 (grown mesh s) p.1 t (closed mesh laws cut full w p.0
-            (grown mesh s) p.1 s t a.0 a.1 (first_in mesh laws cut full w p.0 (grown mesh s) p.1)) corner)
+        (grown mesh s) p.1 s t a.0 a.1 (first_in mesh laws cut full w p.0 (grown mesh s) p.1)) corner)
 
     -- They follow each other round: after the fourth comes the first again, and the third is another one.
     pub closes : IsNextCorner mesh cut g s
@@ -137,14 +137,17 @@ module _ {mesh : HalfEdges} (laws : IsQuadManifold mesh) {cut : Cut} (full : IsC
         by_grid : (h : ℕ) × IsGrid mesh cut w h (grown mesh s) → IsNextCorner mesh cut g s
         by_grid p =
             let west : IsWholeSide mesh cut g p.0 =
-                rw (fourth p.1) (west_side mesh laws cut full w p.0 (grown mesh s) p.1) in
-            let side : IsWholeSide mesh cut g (suc two.0) = rw (tall p.1) west in
-            (two.0, side, sym (laws.four_sides s) ∙ sym (ap (λ x. mesh.next (easts mesh x two.0)) (fourth p.1)
-                ∙ ap mesh.next (along_west mesh laws cut full w p.0 (grown mesh s) p.1 two.0 0
-                (omega (arith, tall p.1)))))
+            rw (fourth p.1) (west_side mesh laws cut full w p.0 (grown mesh s) p.1) in
+            let side : IsWholeSide mesh cut g (suc two.0) = rw (tall p.1) west in (
+              two.0,
+              side,
+              sym (laws.four_sides s) ∙ sym (ap (λ x. mesh.next (easts mesh x two.0)) (fourth p.1)
+                  ∙ ap mesh.next (along_west mesh laws cut full w p.0 (grown mesh s) p.1 two.0 0
+                  (omega (arith, tall p.1)))),
+            )
 
     pub opposite : f ≡ s → ⊥
     opposite same =
         let p = on_first in
         never_south mesh laws cut full w p.0 (grown mesh s) p.1 2 0 (w - 1) (p.0 - 1) (omega arith) (omega arith)
-            (omega arith) (last_column p.1) (last_row p.1) (sym same ∙ third p.1)
+        (omega arith) (last_column p.1) (last_row p.1) (sym same ∙ third p.1)

@@ -112,8 +112,8 @@ module _
       let inner : k < length layout.arcs = arc_low k low in
       let wanted : net.p * (arc_at net.arcs k).old ≡ 1 * wish layout k =
       (λ i. (is.is.p ∙ unit) i * is.is.olds k inner i) in
-      let part : wish layout k ≤ wish_sum wish layout = omega
-      (arith, part_low (wish layout) k (length layout.arcs) inner) in
+      let part : wish layout k
+      ≤ wish_sum wish layout = omega (arith, part_low (wish layout) k (length layout.arcs) inner) in
       omega (arith, wanted, part, near, all_far, is.is.q, parts)
 
   pub start_at : IsStartOf net xs

@@ -12,7 +12,8 @@ told_all none told = (λ b. elim (told.0 b) [ inl a ↦ absurd (none a) | inr p 
 
 -- The same is said in other words.
 pub told_so : {A B P Q : Type 0} → B ↔ (A ⊎ P) → P ↔ Q → B ↔ (A ⊎ Q)
-told_so told so = ( λ b. elim (told.0 b) [ inl a ↦ inl a | inr p ↦ inr (so.0 p) ],
+told_so told so = (
+  λ b. elim (told.0 b) [ inl a ↦ inl a | inr p ↦ inr (so.0 p) ],
   elim [ inl a ↦ told.1 (inl a) | inr q ↦ told.1 (inr (so.1 q)) ],
 )
 

@@ -38,7 +38,8 @@ module _ {layout : Layout} {list : List ℕ} (fine : IsFine layout list) where
 
   -- Each length is short, and so are sides and the arcs together.
   pub lengths_short : (arc : ℕ) → arc < length list → slice_index list arc < 2 ^ 32
-  lengths_short arc low = omega ( arith,
+  lengths_short arc low = omega (
+    arith,
     few_points,
     term_room (λ a. lengths_in list a - 1) (length layout.arcs) arc (omega (arith, low, fine.long)),
   )
@@ -68,8 +69,10 @@ module _ {layout : Layout} {list : List ℕ} (fine : IsFine layout list) where
           let some = size_some l x (laid_of layout fine.mesh).paved fine.lengths p w.0 (within p low) in
           let long = long_is p w.0 (within p low) in
           rw (← w.1) (omega arith, omega arith);
-      small = omega ( arith,
-        count_below_le (product_by tables less) cells (length tables) (λ p low. omega ( arith,
+      small = omega (
+        arith,
+        count_below_le (product_by tables less) cells (length tables) (λ p low. omega (
+          arith,
           product_is less p (within p low),
           mul-le (wide l x p - less) (high l x p - less) (wide l x p) (high l x p) (omega arith) (omega arith),
         )),

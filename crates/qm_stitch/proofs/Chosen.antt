@@ -61,7 +61,8 @@ module _ {layout : Layout} {xs : List ℕ} (prices : List ℤ) {rs : List Remedy
   pub choice_follows : FollowCheapest layout x prices rises
   choice_follows = record {
     each = λ r remedy.
-        let c = are.each r ((found r).1 remedy) in ( c.0,
+        let c = are.each r ((found r).1 remedy) in (
+          c.0,
           cheapest c.0 c.1,
           c.2,
           λ arc of short.

@@ -85,7 +85,8 @@ marks_of layout xs ys none marks moved ordered long longer blank adds = record {
   each = λ some has.
       let in_ys = Contains-permutation xs ys some moved has in
       let k = find_first ys ordered in_ys.0 in_ys.1 in
-      let low : k.0 < length ys = omega arith in ( remedy_at ys k.0,
+      let low : k.0 < length ys = omega arith in (
+        remedy_at ys k.0,
         cheapest k.0 low k.3,
         k.2 ∙ ap (λ (r : Remedy). r.key) (get_or_default ys in_ys.0 _ some in_ys.1 ∙ in_ys.2),
         λ arc arc_low of. (adds arc (omega arith)).1 (inr (k.0, low, (k.3, of))),

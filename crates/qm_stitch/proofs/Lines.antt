@@ -115,8 +115,10 @@ module _ (priced : Priced) where
   side_both p s lines price low lines_is price_is short r = (to, of)
     where
       to : (n : ℕ) × (n < lines) × IsInLine p s price n r → IsAlong priced (Side p s) r
-      to (n, less, (some, by)) = ( by.run,
-        ( line_edge (s % 2 == 1) p n by.at,
+      to (n, less, (some, by)) = (
+        by.run,
+        (
+          line_edge (s % 2 == 1) p n by.at,
           record {
             doubled = by.doubled;
             key = by.key;
@@ -152,8 +154,10 @@ module _ (priced : Priced) where
 
       to : (k : ℕ) × (k < many) × IsBy (on_arc a k) price (Arc a) r → IsAlong priced (Arc a) r
       to (k, less, (same, repeats)) =
-          let run : r.run ≡ Arc a = ap (λ (b : Remedy). b.run) same in ( run,
-            ( on_arc a k,
+          let run : r.run ≡ Arc a = ap (λ (b : Remedy). b.run) same in (
+            run,
+            (
+              on_arc a k,
               record {
                 doubled = (key_tells priced.keyed _ (low, omega arith)).0 repeats;
                 key = ap (λ (b : Remedy). b.key) same;
@@ -169,7 +173,8 @@ module _ (priced : Priced) where
           let run = run_arc e a (subst (IsRunOf e) same by.run) in
           let doubled = subst (IsDoubled l x) run.1 by.doubled in
           let key : r.key ≡ key_of l x (on_arc a run.0) = by.key ∙ ap (key_of l x) run.1 in
-          let cost : r.price ≡ price = by.price ∙ ap (price_of layout x priced.prices.now) same in ( run.0,
+          let cost : r.price ≡ price = by.price ∙ ap (price_of layout x priced.prices.now) same in (
+            run.0,
             omega arith,
             (λ i. made (key i) (cost i) (same i), (key_tells priced.keyed (on_arc a run.0) doubled.is).1 doubled),
           )
@@ -181,7 +186,8 @@ module _ (priced : Priced) where
   -- Those along all arcs and all sides are all.
   pub all_both : (arcs patches : ℕ) → arcs ≡ l.arcs → patches ≡ l.patches → (r : Remedy)
       → (IsAlongArcs priced arcs r ⊎ IsAlongPatches priced patches r) ↔ IsPricedRemedy priced r
-  all_both arcs patches arcs_are patches_are r = ( elim [ inl along ↦ along.2.1 | inr along ↦ along.2.2.1 ],
+  all_both arcs patches arcs_are patches_are r = (
+    elim [ inl along ↦ along.2.1 | inr along ↦ along.2.2.1 ],
     λ has. by_run has r.run refl (remedy_in layout x priced.prices.now r has),
   )
     where

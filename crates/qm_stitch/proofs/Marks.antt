@@ -54,7 +54,8 @@ across true = east
 pub lines_both : (l : Gluing) (x : Lengths) (u : Bool) (p arc : ℕ) → IsDoubledIn l x u p
     → (IsOnSide l p (along_lines u) arc ⊎ IsOnSide l p (across u) arc) ↔ IsTightAt l x u p arc
 lines_both l x false p arc doubled = (λ on. (doubled, on), λ is. is.1)
-lines_both l x true p arc doubled = ( elim [ inl on ↦ (doubled, inr on) | inr on ↦ (doubled, inl on) ],
+lines_both l x true p arc doubled = (
+  elim [ inl on ↦ (doubled, inr on) | inr on ↦ (doubled, inl on) ],
   λ is. elim is.1 [ inl on ↦ inr on | inr on ↦ inl on ],
 )
 

@@ -65,7 +65,8 @@ module _ {X : Type 0} where
       let later = all_parts (λ z. first + 1 ≤ tag z) part (first + 1) many
       (λ k low high m d less. omega (arith, tags k m d less)) in
       fresh_append (part first) (flat_map part (range_with_len (first + 1) many)) (fresh first)
-      (fresh_parts part tag (first + 1) many fresh tags) (λ x y in_first in_rest same. omega ( arith,
+      (fresh_parts part tag (first + 1) many fresh tags) (λ x y in_first in_rest same. omega (
+        arith,
         All-contains (λ z. tag z ≡ first) (part first) x (tags first) in_first,
         All-contains (λ z. first + 1 ≤ tag z) (flat_map part (range_with_len (first + 1) many)) y later in_rest,
         ap tag same,
@@ -88,7 +89,8 @@ module _ {X : Type 0} where
       subst P (sym (get_or-map-range_with_len item 0 many i i d less (omega arith))) (each i less)
 
   pub in_range : (item : ℕ → X) (many k : ℕ) → k < many → Contains (map item (range_with_len 0 many)) (item k)
-  in_range item many k low = ( k,
+  in_range item many k low = (
+    k,
     omega (arith, length-map-range_with_len item 0 many),
     get_or-map-range_with_len item 0 many k k (item k) low (omega arith),
   )

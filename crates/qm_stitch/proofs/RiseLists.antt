@@ -45,7 +45,8 @@ module _ (some : Bool) (tight : List Bool) (xs : List ℕ) where
     floors = λ k k_low. by_place (λ r. (r.arc < length xs) × IsFloorOf some tight xs r.arc r.floor) k k_low
         (are.floors k) (omega (arith, same, low), is);
     each = λ a floor a_low has. elim (cases_eq a arc) [
-      | inl this ↦ ( length rises,
+      | inl this ↦ (
+        length rises,
         omega (arith, longer),
         ap (λ (r : Rise). r.arc) (at_new (length rises) refl) ∙ same ∙ sym this,
       )

@@ -66,7 +66,8 @@ module _ (layout : Layout) (x : Lengths) (prices : List ℤ) where
     | inl short ↦
         let run = run_along layout t.edge arc t.along in
         let price = price_of layout x prices run.0 in
-        absurd (none (record { key = key_of (gluing_of layout) x t.edge; price = price; run = run.0 }) ( t.edge,
+        absurd (none (record { key = key_of (gluing_of layout) x t.edge; price = price; run = run.0 }) (
+          t.edge,
           record {
             doubled = record { is = t.is; u = t.u; v = t.v; ends = t.ends; doubled = t.doubled };
             key = refl;

@@ -37,7 +37,8 @@ module _ (layout : Layout) (list : List ℕ) (long : length list ≡ length layo
       → old ≡ long_at layout.arcs 0 → 0 < old → by ≡ lengths_in list 0 / old
       → IsTrue result ↔ ((arc : ℕ) → arc < length list → lengths_in list arc ≡ multiple_of by (long_at layout.arcs) arc)
       → IsTrue result ↔ AreMultiples layout (lengths_in list)
-  times_found len result old by some old_is old_some by_is both = ( λ on.
+  times_found len result old by some old_is old_some by_is both = (
+    λ on.
         let each = both.0 on in
         let positive : 0 < by = elim (cases_lt 0 by) [
           | inl more ↦ more

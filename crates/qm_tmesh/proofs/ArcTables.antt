@@ -70,7 +70,7 @@ module _ {faces : Faces} {cut marks : List Bool} (marked : IsMarked faces cut ma
         → AreArcsBelow faces cut nodes (m + 1) arcs
     table_skip {starts} table none = arcs_skip (λ s n named e.
         let here : s ≡ length cut =
-      sym (table.first s n named.run.low named) ∙ (ap (λ x. get_or starts x 0) e ∙ none) in
+        sym (table.first s n named.run.low named) ∙ (ap (λ x. get_or starts x 0) e ∙ none) in
         absurd (omega (arith, here, named.run.low, marked.long)))
 
     -- The run from s has the name m.
@@ -83,8 +83,12 @@ module _ {faces : Faces} {cut marks : List Bool} (marked : IsMarked faces cut ma
           let front : a < length arcs = omega (arith, one_more arcs p) in
           let here = ap (λ (q : Path). least_of q.darts) (arc_front arcs p a front) in
           elim (front_or_end arcs p (suc a) l) [
-            | inl b ↦ omega (arith, here, so.ordered a b,
-              ap (λ (q : Path). least_of q.darts) (arc_front arcs p (suc a) b))
+            | inl b ↦ omega (
+              arith,
+              here,
+              so.ordered a b,
+              ap (λ (q : Path). least_of q.darts) (arc_front arcs p (suc a) b),
+            )
             | inr e ↦ omega (
               arith,
               here,

@@ -42,8 +42,11 @@ first_stood {faces} m {nowhere} {stood} {starts} is long same each =
       is,
       same,
       from_marks (terrain_of faces) (start_darts faces) nobody v
-          (λ d n. omega (arith, all_below faces d ((started faces m).low d n),
-            length-replicate (vertex_count faces) false)),
+          (λ d n. omega (
+            arith,
+            all_below faces d ((started faces m).low d n),
+            length-replicate (vertex_count faces) false,
+          )),
       none_on (vertex_count faces) v,
     ) (sym (or-false _)))
 

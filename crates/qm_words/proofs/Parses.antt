@@ -28,8 +28,10 @@ pub app_more : (names : List (Bor Word)) (i : ℕ) (d : Bor Word) (before now : 
     ≡ options_app (texts (take i names)) → now ≡ with_rule before (option_rule (slice_index_or names i d).now) → now
     ≡ options_app (texts (take (i + 1) names))
 app_more names i d before now low is more = more
-    ∙ ap (λ (a : App). with_rule a (option_rule (slice_index_or names i d).now)) is ∙ ap (λ (rs : List Rule). record
-    { top = record (options_app []).top { rules = rs }; subs = [] }) (rules_more names i d low)
+    ∙ ap (λ (a : App). with_rule a (option_rule (slice_index_or names i d).now)) is ∙ ap (λ (rs : List Rule). record {
+      top = record (options_app []).top { rules = rs };
+      subs = [];
+    }) (rules_more names i d low)
 
 -- All of them.
 pub app_all : (names : List (Bor Word)) (i : ℕ) (now : App) → length names ≤ i

@@ -58,20 +58,23 @@ loop-name-preserved-in-Continue-branch-3 c =
     record {
       cutting = e.cutting;
       tied = e.tied;
-      reached = (suc was.reached.0, (
-        c.loop-name.cut,
-        was.reached.1,
-        step_taken rest was.cutting place found e.long e.without (may_beside c.args.mesh.now c.args.marks.now)
-            (may.0 c.if-may_leave.true) (λ r u m name arc free named. omega (
-              arith,
-              p.named,
-              le_from_not_gt c.in-Some.name name
-                  (c.in-Some.ensures.least name (was.waiting r u m name arc free named).0),
-            )),
-      ));
+      reached = (
+        suc was.reached.0,
+        (
+          c.loop-name.cut,
+          was.reached.1,
+          step_taken rest was.cutting place found e.long e.without (may_beside c.args.mesh.now c.args.marks.now)
+              (may.0 c.if-may_leave.true) (λ r u m name arc free named. omega (
+                arith,
+                p.named,
+                le_from_not_gt c.in-Some.name name
+                    (c.in-Some.ensures.least name (was.waiting r u m name arc free named).0),
+              )),
+        ),
+      );
       waiting = λ s t n name arc free named. e.waiting s t n name arc named (λ old.
           let w = was.waiting s t n name old (held_law c.args.mesh.now c.args.marks.now c.loop-name.cut rest s t n
-              (less_on rest was.cutting place found e.long e.without) free) named in (
+          (less_on rest was.cutting place found e.long e.without) free) named in (
             taken_kept c.loop-name.names c.pop_first.new.self c.in-Some.name c.in-Some.ensures.updates name
                 (λ same. name_gone rest was.cutting place found e.long e.without arc named (same ∙ sym p.named)) w.0,
             w.1,
@@ -94,9 +97,9 @@ loop-name-preserved-else-may_leave c =
           let w = was.waiting s t n name arc free named in (
             taken_kept c.loop-name.names c.pop_first.new.self c.in-Some.name taken name (λ same.
                 let start : c.in-Some-place_of.place.start ≡ at c.loop-name.links.starts.items name =
-                    cc (p.start, same) in
+                cc (p.start, same) in
                 let side : (c.in-Some-place_of.place.start ≡ s) ⊎ (c.in-Some-place_of.place.start ≡ t) =
-                    elim w.1 [ inl q ↦ inl (start ∙ q) | inr q ↦ inr (start ∙ q) ] in
+                elim w.1 [ inl q ↦ inl (start ∙ q) | inr q ↦ inr (start ∙ q) ] in
                 false≢true (sym c.if-may_leave.false ∙ may.1 (seam_free was.cutting.laws was.cutting.full
                 (may_beside c.args.mesh.now c.args.marks.now c.loop-name.cut)
                 (turned_may c.args.mesh.now c.args.marks.now c.loop-name.cut) found arc free side))) w.0,
@@ -118,10 +121,10 @@ loop-name-preserved c =
           let w = was.waiting s t n name arc free named in (
             taken_kept c.loop-name.names c.pop_first.new.self c.in-Some.name taken name (λ same.
                 let start : at c.loop-name.links.starts.items c.in-Some.name ≡ at c.loop-name.links.starts.items name =
-                    cc same in
+                cc same in
                 none_named was.cutting.laws was.cutting.full (at starts c.in-Some.name)
-                    (rw c.new-now.ensures at c.in_default-place_of.ensures.none) arc (rw (← same) named)
-                    (elim w.1 [ inl q ↦ inl (start ∙ q) | inr q ↦ inr (start ∙ q) ])) w.0,
+                (rw c.new-now.ensures at c.in_default-place_of.ensures.none) arc (rw (← same) named)
+                (elim w.1 [ inl q ↦ inl (start ∙ q) | inr q ↦ inr (start ∙ q) ])) w.0,
             w.1,
           );
       below = taken_below c.loop-name.names c.pop_first.new.self c.in-Some.name taken (darts c.args.mesh.now) was.below;
@@ -130,7 +133,7 @@ loop-name-preserved c =
 pub returns-clause-merged : goal.returns-clause-merged
 returns-clause-merged c =
     let none : length c.loop-name.names.keys ≡ 0 = elim (cases_lt 0 (length c.loop-name.names.keys))
-        [ inl some ↦ absurd (false≢true (c.in_default.ensures.variant.1 some)) | inr few ↦ omega (arith, few) ] in
+    [ inl some ↦ absurd (false≢true (c.in_default.ensures.variant.1 some)) | inr few ↦ omega (arith, few) ] in
     record {
       steps = c.loop-name.invariant.reached.0;
       reached = c.loop-name.invariant.reached.1;

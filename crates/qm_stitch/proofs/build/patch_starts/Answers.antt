@@ -19,14 +19,16 @@ product c = λ i. ((c.last_of.ensures ∙ ap end_of c.starts_on.ensures) i - c.a
     * ((c.last_of-in-loop-patch.ensures ∙ ap end_of c.starts_on-in-loop-patch.ensures) i - c.args.less)
 
 pub overflow_mul-wide : goal.overflow_mul-wide
-overflow_mul-wide c = omega ( arith,
+overflow_mul-wide c = omega (
+  arith,
   product (goal.at.overflow_mul-wide c).After-last_of-in-loop-patch,
   term_room (product_by (tables_of c.args.sides.now) c.args.less) (length (tables_of c.args.sides.now))
       c.loop-patch.patch (omega (arith, length-map c.args.sides.now begins_of)),
 )
 
 pub push_start-requires-clause-small : goal.push_start-requires-clause-small
-push_start-requires-clause-small c = omega ( arith,
+push_start-requires-clause-small c = omega (
+  arith,
   product (goal.at.push_start-requires-clause-small c).After-last_of-in-loop-patch,
   next_room (product_by (tables_of c.args.sides.now) c.args.less) (length (tables_of c.args.sides.now))
       c.loop-patch.patch c.loop-patch.starts.begin.items

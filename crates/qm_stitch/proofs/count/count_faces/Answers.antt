@@ -21,7 +21,8 @@ few t x is most p low =
     let l_low : suc p ≤ length (layout_of t).patches = omega (arith, length-map t.patches.items rectangle) in
     let all : cells_before l (long_at (layout_of t).arcs) (suc p) ≤ face_count l (long_at (layout_of t).arcs) =
     count_rises _ (suc p) _ l_low in
-    omega ( arith,
+    omega (
+      arith,
       cells_most l (long_at (layout_of t).arcs) x (10 ^ 12) (laid_of (layout_of t) is) (lengths_of (layout_of t) is)
           most (suc p) l_low,
       old_faces (layout_of t) is,

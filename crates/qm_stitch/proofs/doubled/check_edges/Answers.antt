@@ -10,7 +10,8 @@ invariant_of-numbered c = record { numbers = tables_are c.requires }
 
 pub returns-in-Some-clause-refused : goal.returns-in-Some-clause-refused
 returns-in-Some-clause-refused c =
-    let are = tables_are c.requires in ( c.requires.few,
+    let are = tables_are c.requires in (
+      c.requires.few,
       rw (c.lesser.ensures, c.greater.ensures) (first_doubled (gluing_of (layout_of c.args.t.now))
           (lengths_in c.args.tables.now.lengths.items) are.whole.paved are.laid c.requires.lengths are.few c.in-Some.key
           (rw c.in_ok-rim_keys.ensures at c.in-Some.ensures.some)),

@@ -33,7 +33,8 @@ overflow_sub-cell c =
     let same = patch_found n c.args.f c.deref.ensures.value c.spot_in-patch.ensures.run in
     let cell = cell_is n.numbers c.args.f c.requires.face in
     let low : c.spot_in-patch.result < length (layout_of n.t.now).patches = omega arith in
-    omega ( arith,
+    omega (
+      arith,
       ap (cells_before (gluing_in n) (lengths_by n)) same,
       starts_at n.numbers.cells c.spot_in-patch.result low c.index.ensures,
     )

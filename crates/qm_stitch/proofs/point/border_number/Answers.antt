@@ -11,7 +11,8 @@ use Rattle.qm_stitch.proofs.point.border_number.Goals as goal
 
 there : (c : After-side_of) → IsBorder c.args.numbered.now.numbers c.args.patch c.args.side c.side_of.result.now
     c.starts_on-starts.result.now
-there c = border c.args.numbered.now.numbers _ _ _ _ (omega ( arith,
+there c = border c.args.numbered.now.numbers _ _ _ _ (omega (
+  arith,
   length-map c.args.numbered.now.t.now.patches.items rectangle,
 )) c.requires.side c.side_of.ensures (c.starts_on-starts.ensures
     ∙ ap (λ (sides : List (List RunStarts)). table_in (tables_of sides) c.args.patch c.args.side) c.deref.ensures.value)

@@ -22,7 +22,8 @@ loop-used-preserved c =
     let back : to_z w64 (of_z w64 c.short_price.result) ≡ c.short_price.result =
     to_z-of_z w64 c.short_price.result (search rules) in
     record {
-      sum = omega ( arith,
+      sum = omega (
+        arith,
         ints,
         e,
         back,

@@ -25,7 +25,8 @@ push_line-requires c = record {
   line = record {
     patch = low c.args.numbered.now.t.now c.args.patch c.requires.patch;
     some = c.loop-number.invariant.some;
-    inside = omega ( arith,
+    inside = omega (
+      arith,
       c.loop-number-test.true,
       c.size_at-number-end.ensures (along_lines (not c.args.upright)) c.side_along.ensures.side,
     );

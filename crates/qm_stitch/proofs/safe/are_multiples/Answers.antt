@@ -18,7 +18,8 @@ returns-then-old-gt0 c =
     (omega (arith, c.args.stretched.now.long, length-map c.args.stretched.now.t.now.arcs.items path))
     c.args.stretched.now.even c.are_times.result
     c.len-old.result (lengths_in c.args.stretched.now.lengths.now 0 / c.len-old.result) some
-    (omega ( arith,
+    (omega (
+      arith,
       c.len-old.ensures,
       c.index.result.now.darts.ok.0,
       first_old c.args.stretched.now.t.now c.index.result.now (omega (arith, some, c.args.stretched.now.long))

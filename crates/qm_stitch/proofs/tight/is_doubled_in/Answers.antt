@@ -16,11 +16,13 @@ loop-number-preserved c = record {
 }
 
 pub returns : goal.returns
-returns c = ( λ on. absurd (false≢true on),
+returns c = (
+  λ on. absurd (false≢true on),
   λ has.
       let parts = line_parts (gluing_in c.args.keyed.now.numbered) (lengths_by c.args.keyed.now.numbered) c.args.upright
       c.args.patch has.0 has.1.0 has.1.1.is in
-      absurd (c.loop-number.invariant.none has.0 parts.0 (omega ( arith,
+      absurd (c.loop-number.invariant.none has.0 parts.0 (omega (
+        arith,
         parts.1,
         c.loop-number-test.false,
         c.size_at-number-end.ensures (along_lines (not c.args.upright)) c.side_along.ensures.side,

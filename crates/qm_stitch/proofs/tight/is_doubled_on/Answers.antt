@@ -14,11 +14,13 @@ told : (c : After-is_repeat) → (c.is_repeat.result ≡ true)
 told c =
     let tells = key_tells c.args.keyed.now (on_arc c.args.arc c.loop-k.k) (
       omega (arith, c.requires.arc, length-map c.args.keyed.now.numbered.t.now.arcs.items path),
-      omega ( arith,
+      omega (
+        arith,
         c.loop-k-test.true,
         end_is c.args.keyed.now.numbered c.args.arc c.index-k-end.result.now c.requires.arc c.index-k-end.ensures,
       ),
-    ) in ( λ on. tells.0 (subst (IsRepeat c.args.keyed.now.keys.now) c.arc_key.ensures (c.is_repeat.ensures.0 on)),
+    ) in (
+      λ on. tells.0 (subst (IsRepeat c.args.keyed.now.keys.now) c.arc_key.ensures (c.is_repeat.ensures.0 on)),
       λ is. c.is_repeat.ensures.1 (subst (IsRepeat c.args.keyed.now.keys.now) (sym c.arc_key.ensures) (tells.1 is)),
     )
 
@@ -34,8 +36,10 @@ loop-k-preserved c =
     (on_arc c.args.arc k)) _ c.loop-k.invariant (λ is. false≢true (sym c.if-is_repeat.false ∙ (told w).1 is))
 
 pub returns : goal.returns
-returns c = ( λ on. absurd (false≢true on),
-  λ has. absurd (c.loop-k.invariant has.0 (omega ( arith,
+returns c = (
+  λ on. absurd (false≢true on),
+  λ has. absurd (c.loop-k.invariant has.0 (omega (
+    arith,
     end_is c.args.keyed.now.numbered c.args.arc c.index-k-end.result.now c.requires.arc c.index-k-end.ensures,
   )) has.1),
 )

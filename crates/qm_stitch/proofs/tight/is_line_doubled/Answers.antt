@@ -7,7 +7,8 @@ use Rattle.qm_stitch.proofs.tight.is_line_doubled.Goals.{After-size_at-last}
 use Rattle.qm_stitch.proofs.tight.is_line_doubled.Goals as goal
 
 pub overflow_sub-last : goal.overflow_sub-last
-overflow_sub-last c = omega ( arith,
+overflow_sub-last c = omega (
+  arith,
   line_some c.args.keyed.now c.requires.line,
   c.size_at-last.ensures (along_lines c.args.line.upright) c.side_along.ensures.side,
 )
@@ -16,7 +17,8 @@ pub key_at-requires-clause-low : goal.key_at-requires-clause-low
 key_at-requires-clause-low c = line_some c.args.keyed.now c.requires.line
 
 pub key_at-requires-else-is_repeat-clause-low : goal.key_at-requires-else-is_repeat-clause-low
-key_at-requires-else-is_repeat-clause-low c = omega ( arith,
+key_at-requires-else-is_repeat-clause-low c = omega (
+  arith,
   line_some c.args.keyed.now c.requires.line,
   c.size_at-last.ensures (along_lines c.args.line.upright) c.side_along.ensures.side,
 )

@@ -14,8 +14,8 @@ overflow_add-self c = omega (arith, ints, delta_small c.self.invariant, c.from.e
 pub invariant_of-self : goal.invariant_of-self
 invariant_of-self c =
     let w : (r : ℕ) × (c.self.inside.tree.root ≡ Some r) = some_of c.self.inside.tree.root (cc) in
-    tied_shift c.self.invariant c.args.g.now.small.lawful (rw c.self.view_is c.requires.valid) w.0 w.1 _ _ (omega
-    (arith, ints, delta_small c.self.invariant, c.from.ensures, c.ranges.t)) c.requires.positive
+    tied_shift c.self.invariant c.args.g.now.small.lawful (rw c.self.view_is c.requires.valid) w.0 w.1 _ _
+    (omega (arith, ints, delta_small c.self.invariant, c.from.ensures, c.ranges.t)) c.requires.positive
     (subst (λ (t : ForestTables). (b : ℕ) → unsigned_abs ((shifted (forest_of t) c.args.t).weight b) ≤ 2 ^ 62)
     (sym c.self.view_is) c.requires.small)
 

@@ -23,7 +23,8 @@ pub border_number-requires-then-j-high-clause-upto : goal.border_number-requires
 border_number-requires-then-j-high-clause-upto c =
     let numbers = c.args.self.now.numbers in
     let less = low c.args.self.now.t.now c.args.patch c.requires.patch in
-    omega ( arith,
+    omega (
+      arith,
       c.size_at-wide.ensures south refl,
       long_is numbers c.args.patch north less,
       numbers.lengths.across c.args.patch less,

@@ -10,7 +10,8 @@ overflow_add-result c =
 pub overflow_add-result-2 : goal.overflow_add-result-2
 overflow_add-result-2 c =
     let are = tables_are c.self.invariant.numbers in
-    omega ( arith,
+    omega (
+      arith,
       are.few,
       are.nodes,
       starts_end are.along c.deref.ensures.value c.last_of.ensures,
