@@ -1,19 +1,13 @@
 mod Examples
 pub mod Arcs
 pub mod Box
-pub mod Chain
-pub mod Costs
+pub mod Edges
 pub mod Facts
 pub mod Law
-pub mod Laws
-pub mod Links
 pub mod Perfect
 pub mod Pick
-pub mod Reading
 pub mod Size
 pub mod Sound
 pub mod Steps
-pub mod Touch
-pub mod Unit
 pub mod Units
 pub mod Whole

@@ -1,324 +1,390 @@
--- In a perfect matching each own vertex of each unit has one mate.
-use Rattle.std.proofs.Common.{◌≡◌, ◌≢◌, ℕ, ◌+◌, ◌<◌, ◌≤◌, Bool, true, false, cond, ◌==◌, List, [], ◌∷◌, ◌++◌, length}
-use Rattle.std.proofs.Common.{append_assoc, arith}
-use Rattle.std.proofs.lemmas.{Bool.cases_Bool, Int.ints}
-use Rattle.std.proofs.Common.{drop, Option, Some, None, ℤ, pos, ◌+ℤ◌, ◌*ℤ◌, refl, sym, ◌∙◌, ap, eq-eqb, ne_eqb}
-use Rattle.std.proofs.Common.{inl, inr}
-use Rattle.std.proofs.Math.IntN.{*ℤ-zero}
-use Rattle.def_math.specs.{Sums.total_below, Counts.count, Counts.count_below}
-use Rattle.sum_laws.proofs.Sums.{total_below_one}
-use Rattle.def_flow.specs.Network.{EndsBelow}
-use Rattle.def_flow.specs.MatchingGraph.{link, to_copies, inner_link, are_alike, links_by, size_by, unit_links}
-use Rattle.def_flow.specs.MatchingGraph.{unit_size, units_links, with_rim, rim, link_from, rung, rim_links}
-use Rattle.def_flow.specs.declared.net.End.{End}
-use Rattle.def_flow.specs.declared.units.ArcUnit.{ArcUnit}
+-- A perfect matching tells states of the units that fill the copies, at its own cost.
+use Rattle.std.proofs.Common.{◌≡◌, ◌≢◌, ℕ, zero, suc, ◌+◌, ◌*◌, ◌<◌, ◌≤◌, min, Bool, cond, not, ◌&&◌, ◌==◌}
+use Rattle.std.proofs.Common.{nat_lt, List, [], ◌∷◌, length, map, drop, Option, Some, None, option_to_list, ℤ}
+use Rattle.std.proofs.Common.{pos}
+use Rattle.std.proofs.Common.{◌+ℤ◌, ◌-ℤ◌, ◌*ℤ◌, refl, subst, sym, ◌∙◌, ap, inl, inr, ◌⊎◌, zero-add, eq-eqb, ne_eqb}
+use Rattle.std.proofs.Common.{lt-ltb, le-ltb}
+use Rattle.std.proofs.Common.{arith}
+use Rattle.std.proofs.lemmas.{Bool.cases_eq, Bool.cases_lt, Bool.cases_Bool, Bool.cond_both}
+use Rattle.std.specs.List.{AllByRecursion}
+use Rattle.def_math.specs.{Sums.total, Sums.total_below, Counts.count, Counts.count_below, Increasing.IsIncreasing}
+use Rattle.sum_laws.proofs.Sums.{total_below_minus, integers}
+use Rattle.qm_dual.proofs.{Ends.ends_once, Weak.chosen_below}
+use Rattle.def_matching.specs.Matching.{WeightedGraph, IsPerfect, edge_at, matching_cost}
 use Rattle.def_matching.specs.declared.weighted.WEdge.{WEdge}
-use Rattle.gadget_laws.specs.Told.{width_by}
-use Rattle.gadget_laws.proofs.{Pick.picked, Chain.at_ends, Units.UnitsAt, Links.copies_below, Links.AreBelow}
-use Rattle.gadget_laws.proofs.{Links.IsPast, Touch.pick_split, Touch.AreZero, Touch.zero_append, Touch.picked_zero}
-use Rattle.gadget_laws.proofs.{Touch.fan_zero, Facts.left_marks, Facts.right_marks, Facts.lone_inner, Facts.alike_inner}
-use Rattle.gadget_laws.proofs.Facts.{IsWorth, lone_pick, alike_pick, unlike_pick, pick_units}
-use Rattle.gadget_laws.proofs.Facts.{IsPairOk, IsUnitOk}
+use Rattle.def_flow.specs.{Network.EndsBelow, Units.is_active, Units.active, Units.cost_on}
+use Rattle.def_flow.specs.MatchingGraph.{are_alike, links_by, size_by, unit_links, unit_size, units_links, rim}
+use Rattle.def_flow.specs.MatchingGraph.{rim_links}
+use Rattle.def_flow.specs.MatchingGraph.{first_fresh, lone_vertex, graph_by}
+use Rattle.def_flow.specs.{declared.net.End.End, declared.units.ArcUnit.ArcUnit}
+use Rattle.gadget_laws.specs.Marks.{places}
+use Rattle.gadget_laws.specs.Told.{past, marks_from, width_by, state_told, states_told}
+use Rattle.gadget_laws.proofs.{Pick.picked, Pick.chosen_sum, Pick.at_ends, Units.ends_active, Units.alike_active}
+use Rattle.gadget_laws.proofs.{Units.unlike_active, Units.UnitsAt, Whole.only, Whole.only_here, Whole.only_there}
+use Rattle.gadget_laws.proofs.{Whole.only_total, Edges.copies_below, Edges.size_low, Edges.with_each, Edges.rim_each}
+use Rattle.gadget_laws.proofs.{Edges.picked_zero, Edges.picked_free, Edges.unit_edges, Edges.units_edges}
+use Rattle.gadget_laws.proofs.{Edges.rest_edges, Edges.rest_free, Edges.graph_lawful, Facts.pick_split}
+use Rattle.gadget_laws.proofs.{Facts.pick_units}
+use Rattle.gadget_laws.proofs.Facts.{no_pick, left_marks, right_marks, inner_mark, right_worth, unit_pick}
 
--- All units' own vertices have one mate.
-abbrev pub UnitsOk : (ℕ → ℕ) → List ArcUnit → List Bool → Type 0
-UnitsOk copies_at [] ms = Unit {0}
-UnitsOk copies_at (u ∷ us) ms = IsUnitOk copies_at ms u.left u.right
-    × UnitsOk copies_at us (drop (width_by copies_at u.left u.right) ms)
+-- Whether the inner edge is marked of a unit in this state.
+abbrev inner_told : (on : Bool) (left : End) (right : Option End) → Bool
+inner_told on left None = not (is_active on left)
+inner_told on left (Some right) = are_alike left right && not (is_active on left)
 
--- 1 at b, and 0 elsewhere.
-abbrev pub only : ℕ → ℕ → ℤ
-only b k = pos (cond (k == b) 1 0)
+-- A unit's marks are those of the state that they tell.
+record IsTold (copies_at : ℕ → ℕ) (ms : List Bool) (left : End) (right : Option End) : Type 0 where
+  first : left_marks copies_at ms left ≡ cond (is_active (state_told copies_at ms left) left) 1 0
+  second : right_marks copies_at ms left right
+      ≡ count (λ e. cond (is_active (state_told copies_at ms left) e) 1 0) (option_to_list right)
+  inner : inner_mark copies_at ms left right ≡ inner_told (state_told copies_at ms left) left right
 
-only_here : (b : ℕ) → only b b ≡ pos 1
-only_here b = rw (eq-eqb b b refl) refl
+abbrev AreTold : (ℕ → ℕ) → List ArcUnit → List Bool → Type 0
+AreTold copies_at [] ms = Unit {0}
+AreTold copies_at (u ∷ us) ms =
+    IsTold copies_at ms u.left u.right × AreTold copies_at us (drop (width_by copies_at u.left u.right) ms)
 
-only_there : (b k : ℕ) → k ≢ b → only b k ≡ pos 0
-only_there b k ne = rw (ne_eqb k b ne) refl
+left_told : (copies_at : ℕ → ℕ) (ms : List Bool) (left : End) → left_marks copies_at ms left ≤ 1
+    → left_marks copies_at ms left ≡ cond (is_active (state_told copies_at ms left) left) 1 0
+left_told copies_at ms left le =
+    let same : is_active (state_told copies_at ms left) left ≡ nat_lt 0 (left_marks copies_at ms left) =
+    grind (arith) in
+    rw same (grind (arith, cases_lt 0 (left_marks copies_at ms left)))
 
--- A unit has a vertex of its own.
-size_low : (left : End) (right : Option End) → 1 ≤ size_by left right
-size_low left right = grind (arith)
+-- Of a number and a mark that are 1 together, the mark is the rest.
+mark_rest : (m a : Bool) (n : ℕ) → n ≡ cond a 1 0 → n + cond m 1 0 ≡ 1 → m ≡ not a
+mark_rest m a n e s = grind (arith)
 
--- A weight of which the copies have nothing.
-module _ (w : ℕ → ℤ) (nodes : ℕ) (copies_at : ℕ → ℕ)
-    (none : (k : ℕ) → k < count_below copies_at nodes → w k ≡ pos 0) where
-  none_at : (e : End) (i : ℕ) → e.node < nodes → i < copies_at e.node → w (count_below copies_at e.node + i) ≡ pos 0
-  none_at e i l li = none (count_below copies_at e.node + i) (omega (arith, copies_below copies_at e.node nodes l))
-
-  -- The edges of an end are worth the weight of its vertex.
-  copies_worth : (b : ℕ) (c : ℤ) (e : End) (s : ℤ) → e.node < nodes → w b ≡ s → IsWorth (at_ends w) copies_at b c e s
-  copies_worth b c e s l here i li = omega (arith, ints, here, none_at e i l li)
-
-  -- Units whose vertices weigh nothing have edges that weigh nothing.
-  copies_zero : (b : ℕ) (c : ℤ) (e : End) → e.node < nodes → w b ≡ pos 0 → AreZero w (to_copies copies_at b c e)
-  copies_zero b c e l here = fan_zero w b (cond e.plus c (pos 0)) (count_below copies_at e.node) (copies_at e.node) here
-      (λ k lk. none k (omega (arith, copies_below copies_at e.node nodes l)))
-
-  unit_zero : (b : ℕ) (c : ℤ) (left : End) (right : Option End) → EndsBelow nodes left right
-      → ((k : ℕ) → b ≤ k → k < b + size_by left right → w k ≡ pos 0) → AreZero w (links_by copies_at b c left right)
-  unit_zero b c left None at own =
-      let first = own b (omega arith) (omega arith) in
-      zero_append w (to_copies copies_at b c left) _ (copies_zero b c left at first)
-      (first, own (b + 1) (omega arith) (omega arith), tt)
-  unit_zero b c left (Some right) at own = elim (cases_Bool (are_alike left right)) [
-    | inl e ↦ (let two = second e in rw e (zero_append w (to_copies copies_at b c left) _
-        (copies_zero b c left at.0 first) (zero_append w (to_copies copies_at (b + 1) (pos 0) right) _
-        (copies_zero (b + 1) (pos 0) right at.1 two) (first, two, tt))))
-    | inr e ↦ rw e (zero_append w (to_copies copies_at b c left) _ (copies_zero b c left at.0 first)
-        (copies_zero b c right at.1 first))
-  ]
-    where
-      first : w b ≡ pos 0
-      first = own b (omega arith) (omega (arith, size_low left (Some right)))
-
-      second : are_alike left right ≡ true → w (b + 1) ≡ pos 0
-      second e = own (b + 1) (omega arith) (rw e (omega arith))
-
-  units_zero : (b : ℕ) (us : List ArcUnit) → UnitsAt nodes us → ((k : ℕ) → b ≤ k → w k ≡ pos 0)
-      → AreZero w (units_links copies_at b us)
-  units_zero b [] at high = tt
-  units_zero b (u ∷ us) at high =
-      zero_append w (unit_links copies_at b u) _ (unit_zero b u.cost u.left u.right at.0 (λ k l h. high k l))
-      (units_zero (b + unit_size u) us at.1 (λ k l. high k (omega arith)))
-
--- n edges worth 1, and one more where it is marked.
-one_more : (n : ℕ) (i : Bool) (x : ℤ) → x ≡ pos 1 → pos n *ℤ pos 1 +ℤ cond i x (pos 0) ≡ pos (n + cond i 1 0)
-one_more n i x e = grind (arith, ints)
+-- What marks that weigh 1 together are, by what the edges of each end weigh.
+mates : (l r a c : ℕ) (i : Bool) (t : ℤ) {p x : ℤ} → p ≡ pos a → t ≡ pos c → x ≡ pos 1
+    → pos l *ℤ p +ℤ (pos r *ℤ t +ℤ cond i x (pos 0)) ≡ pos 1 → l * a + (r * c + cond i 1 0) ≡ 1
+mates l r a c i t ep et ex e = let h = rw (ep, et, ex) at e in grind (integers, h)
 
 -- The inner edge of a unit weighs 1 where one of its ends does and the other weighs nothing.
 inner_one : (b : ℕ) → (only b b +ℤ only b (b + 1) ≡ pos 1) × (only (b + 1) b +ℤ only (b + 1) (b + 1) ≡ pos 1)
 inner_one b = (
-  omega (arith, ints, only_here b, only_there b (b + 1) (λ e. omega arith)),
-  omega (arith, ints, only_here (b + 1), only_there (b + 1) b (λ e. omega arith)),
+  omega (integers, only_here b, only_there b (b + 1) (λ e. omega arith)),
+  omega (integers, only_here (b + 1), only_there (b + 1) b (λ e. omega arith)),
 )
 
-lone_ok : (nodes : ℕ) (copies_at : ℕ → ℕ) (b : ℕ) (c : ℤ) (left : End) (ms : List Bool) → left.node < nodes
-    → count_below copies_at nodes ≤ b → picked (at_ends (only b)) ms (links_by copies_at b c left None) ≡ pos 1
-    → IsUnitOk copies_at ms left None
-lone_ok nodes copies_at b c left ms at le first =
-    let worth = copies_worth (only b) nodes copies_at (λ k l. only_there b k (λ e. omega arith)) b c left (pos 1) at
-    (only_here b) in
-    omega (
-      arith,
-      ints,
-      lone_pick (at_ends (only b)) copies_at b c left (pos 1) ms worth,
-      one_more (left_marks copies_at ms left) (lone_inner copies_at ms left) (at_ends (only b) (inner_link b c left))
-          (inner_one b).0,
-    )
+module _ (n nodes : ℕ) (copies_at : ℕ → ℕ) (m : ℕ) (within : m ≤ n) where
+  -- The marks of a unit whose edges weigh 1 together for a weight that is 1 at d alone.
+  weigh : (b d : ℕ) (c : ℤ) (left : End) (right : Option End) (ms : List Bool) (p t : ℕ) → EndsBelow nodes left right
+      → count_below copies_at nodes ≤ d → only d b ≡ pos p → right_worth (λ u z e. only d u) b c left right ≡ pos t
+      → only d b +ℤ only d (b + 1) ≡ pos 1 → picked (at_ends (only d)) ms (links_by copies_at b c left right) ≡ pos 1
+      → left_marks copies_at ms left * p + (right_marks copies_at ms left right * t
+      + cond (inner_mark copies_at ms left right) 1 0) ≡ 1
+  weigh b d c left right ms p t at le first second inner one =
+      mates (left_marks copies_at ms left) (right_marks copies_at ms left right) p t
+      (inner_mark copies_at ms left right) (right_worth (λ u z e. only d u) b c left right) first second inner
+      (sym (unit_pick (at_ends (only d)) nodes copies_at (λ u z e. only d u) (λ u z e l i li.
+      (let end = copies_below copies_at e.node nodes l in
+      omega (integers, only_there d (count_below copies_at e.node + i) (λ q. omega arith)))) b c left right ms at)
+      ∙ one)
 
-pair_ok : (nodes : ℕ) (copies_at : ℕ → ℕ) (b : ℕ) (c : ℤ) (left right : End) (ms : List Bool) → (left.node < nodes)
-    × (right.node < nodes) → count_below copies_at nodes ≤ b
-    → picked (at_ends (only b)) ms (links_by copies_at b c left (Some right)) ≡ pos 1
-    → (are_alike left right ≡ true → picked (at_ends (only (b + 1))) ms (links_by copies_at b c left (Some right))
-    ≡ pos 1) → IsPairOk copies_at ms left right
-pair_ok nodes copies_at b c left right ms at le first second = record {
-  alike_left = λ e. omega (
-    arith,
-    ints,
-    alike_pick (at_ends (only b)) copies_at b c left right (pos 1) (pos 0) ms
-        (left_worth b (pos 1) (omega arith) (only_here b))
-        (right_worth b (pos 0) (omega arith) (only_there b (b + 1) (λ q. omega arith))),
-    alike_first e,
-    one_more (left_marks copies_at ms left) (alike_inner copies_at ms left right)
-        (at_ends (only b) (inner_link b c left)) (inner_one b).0,
-    *ℤ-zero (pos (right_marks copies_at ms left right)),
-  );
-  alike_right = λ e. omega (
-    arith,
-    ints,
-    alike_pick (at_ends (only (b + 1))) copies_at b c left right (pos 0) (pos 1) ms
-        (left_worth (b + 1) (pos 0) (omega arith) (only_there (b + 1) b (λ q. omega arith)))
-        (right_worth (b + 1) (pos 1) (omega arith) (only_here (b + 1))),
-    alike_second e,
-    one_more (right_marks copies_at ms left right) (alike_inner copies_at ms left right)
-        (at_ends (only (b + 1)) (inner_link b c left)) (inner_one b).1,
-    *ℤ-zero (pos (left_marks copies_at ms left)),
-  );
-  unlike = λ e. omega (
-    arith,
-    ints,
-    unlike_pick (at_ends (only b)) copies_at b c left right (pos 1) (pos 1) ms
-        (left_worth b (pos 1) (omega arith) (only_here b)) unlike_worth,
-    unlike_first e,
-  );
-}
-  where
-    low : (d : ℕ) → b ≤ d → (k : ℕ) → k < count_below copies_at nodes → only d k ≡ pos 0
-    low d h k l = only_there d k (λ e. omega arith)
+  -- Where each own vertex of a unit has one mate, its marks are those of a state.
+  unit_told : (b : ℕ) (c : ℤ) (left : End) (right : Option End) (ms : List Bool) → EndsBelow nodes left right
+      → count_below copies_at nodes ≤ b → picked (at_ends (only b)) ms (links_by copies_at b c left right) ≡ pos 1
+      → (size_by left right ≡ 2 → right ≢ None
+      → picked (at_ends (only (b + 1))) ms (links_by copies_at b c left right) ≡ pos 1) → IsTold copies_at ms left right
+  unit_told b c left None ms at le one two =
+      let l = left_marks copies_at ms left in
+      let i = inner_mark copies_at ms left None in
+      let mate = weigh b b c left None ms 1 0 at le (only_here b) refl (inner_one b).0 one in
+      let sum : l + cond i 1 0 ≡ 1 = omega (arith, mate) in
+      let first = left_told copies_at ms left (omega (arith, sum)) in
+      record { first = first; second = refl; inner = mark_rest i _ l first sum }
+  unit_told b c left (Some right) ms at le one two =
+      let l = left_marks copies_at ms left in
+      let r = right_marks copies_at ms left (Some right) in
+      let i = inner_mark copies_at ms left (Some right) in
+      let on = state_told copies_at ms left in
+      let active : End → ℕ = λ (e : End). cond (is_active on e) 1 0 in
+      elim (cases_Bool (are_alike left right)) [
+        | inl e ↦
+            let mate = weigh b b c left (Some right) ms 1 0 at le (only_here b)
+            (rw e (only_there b (b + 1) (λ q. omega arith))) (inner_one b).0 one in
+            let other = weigh b (b + 1) c left (Some right) ms 0 1 at (omega arith)
+            (only_there (b + 1) b (λ q. omega arith)) (rw e (only_here (b + 1))) (inner_one b).1
+            (two (rw e refl) (λ q. cc)) in
+            let sum : l + cond i 1 0 ≡ 1 = omega (arith, mate) in
+            let first = left_told copies_at ms left (omega (arith, sum)) in
+            let same : active left ≡ active right = ap (λ a. cond a 1 0) (alike_active on left right e) in record {
+              first = first;
+              second = omega (arith, first, sum, other, same);
+              inner = mark_rest i (is_active on left) l first sum ∙ rw e refl;
+            }
+        | inr e ↦
+            let none : ◌≡◌ {A = ℕ} (cond i 1 0) 0 = rw e refl in
+            let mate = weigh b b c left (Some right) ms 1 1 at le (only_here b) (rw e (only_here b)) (inner_one b).0
+            one in
+            let sum : l + r ≡ 1 = omega (arith, none, mate) in
+            let first = left_told copies_at ms left (omega (arith, sum)) in
+            let other : ◌≡◌ {A = ℕ} (active left) (cond (not (is_active on right)) 1 0) =
+            ap (λ a. cond a 1 0) (unlike_active on left right e) in
+            record { first = first; second = grind (arith, first, other, sum); inner = rw e refl }
+      ]
 
-    left_worth : (d : ℕ) (s : ℤ) → b ≤ d → only d b ≡ s → IsWorth (at_ends (only d)) copies_at b c left s
-    left_worth d s h e = copies_worth (only d) nodes copies_at (low d h) b c left s at.0 e
+  -- For each weight of nothing below b, at the rim and from m on, the edges of the units from b on weigh what all
+  -- vertices do.
+  abbrev IsFull : ℕ → List ArcUnit → List Bool → Type 0
+  IsFull b us ms = (w : ℕ → ℤ) → ((k : ℕ) → k < b → w k ≡ pos 0) → AllByRecursion (λ r. w r ≡ pos 0) (rim b us)
+      → ((k : ℕ) → m ≤ k → w k ≡ pos 0) → picked (at_ends w) ms (units_links copies_at b us) ≡ total_below w n
 
-    right_worth : (d : ℕ) (s : ℤ) → b ≤ d → only d (b + 1) ≡ s
-        → IsWorth (at_ends (only d)) copies_at (b + 1) (pos 0) right s
-    right_worth d s h e = copies_worth (only d) nodes copies_at (low d h) (b + 1) (pos 0) right s at.1 e
-
-    unlike_worth : IsWorth (at_ends (only b)) copies_at b c right (pos 1)
-    unlike_worth = copies_worth (only b) nodes copies_at (low b (omega arith)) b c right (pos 1) at.1 (only_here b)
-
-    alike_edges : List WEdge
-    alike_edges = to_copies copies_at b c left ++ (to_copies copies_at (b + 1) (pos 0) right ++ inner_link b c left
-        ∷ [])
-
-    unlike_edges : List WEdge
-    unlike_edges = to_copies copies_at b c left ++ to_copies copies_at b c right
-
-    edges : (a : Bool) → are_alike left right ≡ a → links_by copies_at b c left (Some right)
-        ≡ cond a alike_edges unlike_edges
-    edges a e = ap (λ t. cond t alike_edges unlike_edges) e
-
-    alike_first : are_alike left right ≡ true → picked (at_ends (only b)) ms alike_edges ≡ pos 1
-    alike_first e = ap (picked (at_ends (only b)) ms) (sym (edges true e)) ∙ first
-
-    alike_second : are_alike left right ≡ true → picked (at_ends (only (b + 1))) ms alike_edges ≡ pos 1
-    alike_second e = ap (picked (at_ends (only (b + 1))) ms) (sym (edges true e)) ∙ second e
-
-    unlike_first : are_alike left right ≡ false → picked (at_ends (only b)) ms unlike_edges ≡ pos 1
-    unlike_first e = ap (picked (at_ends (only b)) ms) (sym (edges false e)) ∙ first
-
--- Rim vertices that weigh nothing.
-abbrev pub AreNil : (ℕ → ℤ) → List ℕ → Type 0
-AreNil w [] = Unit {0}
-AreNil w (r ∷ rs) = (w r ≡ pos 0) × AreNil w rs
-
-nil_append : (w : ℕ → ℤ) (rs ss : List ℕ) → AreNil w rs → AreNil w ss → AreNil w (rs ++ ss)
-nil_append w [] ss a b = b
-nil_append w (r ∷ rs) ss a b = (a.0, nil_append w rs ss a.1 b)
-
-nil_below : (w : ℕ → ℤ) (b : ℕ) (rs : List ℕ) → AreBelow b rs → ((k : ℕ) → k < b → w k ≡ pos 0) → AreNil w rs
-nil_below w b [] below low = tt
-nil_below w b (r ∷ rs) below low = (low r below.0, nil_below w b rs below.1 low)
-
-pub nil_rim : (w : ℕ → ℤ) (b : ℕ) (us : List ArcUnit) → ((k : ℕ) → b < k → w k ≡ pos 0) → AreNil w (rim b us)
-nil_rim w b [] high = tt
-nil_rim w b (u ∷ us) high = by_right u.right (nil_rim w (b + unit_size u) us (λ k l. high k (omega arith)))
-  where
-    by_right : (right : Option End) → AreNil w (rim (b + unit_size u) us)
-        → AreNil w (with_rim right (b + 1) (rim (b + unit_size u) us))
-    by_right None rest = (high (b + 1) (omega arith), rest)
-    by_right (Some right) rest = rest
-
-from_zero : (w : ℕ → ℤ) (m fresh v : ℕ) (before : Option ℕ) → IsPast m fresh before → ((k : ℕ) → m ≤ k → w k ≡ pos 0)
-    → w v ≡ pos 0 → AreZero w (link_from before v)
-from_zero w m fresh v None past high here = tt
-from_zero w m fresh v (Some b) past high here = (high b past.0, here, tt)
-
-rung_zero : (w : ℕ → ℤ) (m fresh r : ℕ) (before : Option ℕ) → w r ≡ pos 0 → ((k : ℕ) → m ≤ k → w k ≡ pos 0) → m ≤ fresh
-    → IsPast m fresh before → AreZero w (rung before fresh r)
-rung_zero w m fresh r before nil high le past =
-    let last : AreZero w (link fresh (fresh + 1) (pos 0) ∷ []) = (high fresh le, high (fresh + 1) (omega arith), tt) in
-    let up : AreZero w (link_from before fresh) = from_zero w m fresh fresh before past high (high fresh le) in
-    zero_append w (link_from before r) _ (from_zero w m fresh r before past high nil)
-    (nil, high fresh le, zero_append w (link_from before fresh) _ up last)
-
--- At the rim nothing weighs where neither its vertices do nor those past the units.
-pub rim_zero : (w : ℕ → ℤ) (m fresh : ℕ) (before : Option ℕ) (rs : List ℕ) → AreNil w rs
-    → ((k : ℕ) → m ≤ k → w k ≡ pos 0) → m ≤ fresh → IsPast m fresh before → AreZero w (rim_links before fresh rs)
-rim_zero w m fresh before [] nil high le past = tt
-rim_zero w m fresh before (r ∷ []) nil high le past = from_zero w m fresh r before past high nil.0
-rim_zero w m fresh before (r ∷ s ∷ rs) nil high le past =
-    zero_append w (rung before fresh r) _ (rung_zero w m fresh r before nil.0 high le past)
-    (rim_zero w m (fresh + 2) (Some (fresh + 1)) (s ∷ rs) nil.1 high (omega arith) (omega arith, omega arith))
-
--- The rest of the graph, beside the edges of the units from b on: nothing of it weighs where neither its rim
--- vertices do nor those past the units.
-abbrev pub RestZero : ℕ → List ℕ → List WEdge → Type 0
-RestZero m rs rest = (w : ℕ → ℤ) → AreNil w rs → ((k : ℕ) → m ≤ k → w k ≡ pos 0) → AreZero w rest
-
--- For each weight that is 0 below b, the edges of the units from b on and the rest weigh what all vertices do.
-abbrev pub IsFull : ℕ → (ℕ → ℕ) → ℕ → List ArcUnit → List Bool → List WEdge → List Bool → Type 0
-IsFull n copies_at b us ms rest rms = (w : ℕ → ℤ) → ((k : ℕ) → k < b → w k ≡ pos 0)
-    → picked (at_ends w) ms (units_links copies_at b us) +ℤ picked (at_ends w) rms rest ≡ total_below w n
-
-only_total : (n b : ℕ) → b < n → total_below (only b) n ≡ pos 1
-only_total n b l = total_below_one (only b) n b l (λ k lk ne. only_there b k ne) ∙ only_here b
-
--- The rest of the graph holds the rim of these units, and before it vertices below b.
-pub record HasRim (b : ℕ) (us : List ArcUnit) (rs : List ℕ) : Type 0 where
-  pub prefix : List ℕ
-  pub below : AreBelow b prefix
-  pub is : rs ≡ prefix ++ rim b us
-
-below_more : (b m : ℕ) (rs : List ℕ) → b ≤ m → AreBelow b rs → AreBelow m rs
-below_more b m [] le below = tt
-below_more b m (r ∷ rs) le below = (omega (arith, below.0), below_more b m rs le below.1)
-
-below_append : (m : ℕ) (rs ss : List ℕ) → AreBelow m rs → AreBelow m ss → AreBelow m (rs ++ ss)
-below_append m [] ss a b = b
-below_append m (r ∷ rs) ss a b = (a.0, below_append m rs ss a.1 b)
-
-next_rim : (b : ℕ) (u : ArcUnit) (us : List ArcUnit) (rs : List ℕ) → HasRim b (u ∷ us) rs
-    → HasRim (b + unit_size u) us rs
-next_rim b u us rs h = by_right u.right h.is
-  where
-    by_right : (right : Option End) → rs ≡ h.prefix ++ with_rim right (b + 1) (rim (b + size_by u.left right) us)
-        → HasRim (b + size_by u.left right) us rs
-    by_right None e = record {
-      prefix = h.prefix ++ (b + 1) ∷ [];
-      below = below_append (b + 2) h.prefix ((b + 1) ∷ []) (below_more b (b + 2) h.prefix (omega arith) h.below)
-          (omega arith, tt);
-      is = e ∙ sym (append_assoc h.prefix ((b + 1) ∷ []) (rim (b + 2) us));
-    }
-    by_right (Some right) e =
-        record { prefix = h.prefix; below = below_more b _ h.prefix (omega arith) h.below; is = e }
-
--- The units from b on, with what stays the same from unit to unit: the rest of the graph.
-module _ (n nodes : ℕ) (copies_at : ℕ → ℕ) (m : ℕ) (rs : List ℕ) (rest : List WEdge) (rms : List Bool) (within : m ≤ n)
-    (nothing : RestZero m rs rest) where
-  -- What is picked at the first unit for a weight that is 1 at one of its vertices and 0 at all others.
+  -- The first unit has one mate at each of its vertices, but for the one at the rim.
   first_unit : (b d : ℕ) (u : ArcUnit) (us : List ArcUnit) (ms : List Bool) → UnitsAt nodes us
-      → count_below copies_at nodes ≤ b → b ≤ d → d < b + unit_size u → b + (unit_size u + count unit_size us) ≤ m
-      → HasRim b (u ∷ us) rs → AreNil (only d) (with_rim u.right (b + 1) (rim (b + unit_size u) us))
-      → IsFull n copies_at b (u ∷ us) ms rest rms → picked (at_ends (only d)) ms (unit_links copies_at b u) ≡ pos 1
-  first_unit b d u us ms at le low high fits has nil full = omega (
-    arith,
-    ints,
-    full (only d) (λ k l. only_there d k (λ e. omega arith)),
-    pick_split (at_ends (only d)) ms (unit_links copies_at b u) (units_links copies_at (b + unit_size u) us),
-    picked_zero (only d) (drop (length (unit_links copies_at b u)) ms) (units_links copies_at (b + unit_size u) us)
-        (units_zero (only d) nodes copies_at (λ k l. only_there d k (λ e. omega arith)) (b + unit_size u) us at
-        (λ k l. only_there d k (λ e. omega arith))),
-    picked_zero (only d) rms rest
-        (nothing (only d) (rw has.is (nil_append (only d) has.prefix _ (nil_below (only d) b has.prefix has.below
-        (λ k l. only_there d k (λ e. omega arith))) nil)) (λ k l. only_there d k (λ e. omega arith))),
-    only_total n d (omega arith),
-  )
-
-  -- Each own vertex of each unit has one mate.
-  pub units_ok : (b : ℕ) (us : List ArcUnit) (ms : List Bool) → UnitsAt nodes us → count_below copies_at nodes ≤ b
-      → b + count unit_size us ≤ m → HasRim b us rs → IsFull n copies_at b us ms rest rms → UnitsOk copies_at us ms
-  units_ok b [] ms at le fits has full = tt
-  units_ok b (u ∷ us) ms at le fits has full = (
-    by_right u.right at.0 (first b (omega arith) (omega (arith, size_low u.left u.right))
-        (nil_rim (only b) b (u ∷ us) (λ k l. only_there b k (λ e. omega arith))))
-        (λ two. first (b + 1) (omega arith) (omega (arith, two))),
-    units_ok (b + unit_size u) us (drop (width_by copies_at u.left u.right) ms) at.1 (omega arith) (omega arith)
-        (next_rim b u us rs has) later,
-  )
-    where
-      first : (d : ℕ) → b ≤ d → d < b + unit_size u
-          → AreNil (only d) (with_rim u.right (b + 1) (rim (b + unit_size u) us))
-          → picked (at_ends (only d)) ms (unit_links copies_at b u) ≡ pos 1
-      first d low high nil = first_unit b d u us ms at.1 le low high fits has nil full
-
-      by_right : (right : Option End) → EndsBelow nodes u.left right
-          → picked (at_ends (only b)) ms (links_by copies_at b u.cost u.left right) ≡ pos 1
-          → (size_by u.left right ≡ 2 → AreNil (only (b + 1)) (with_rim right (b + 1)
-          (rim (b + size_by u.left right) us))
-          → picked (at_ends (only (b + 1))) ms (links_by copies_at b u.cost u.left right) ≡ pos 1)
-          → IsUnitOk copies_at ms u.left right
-      by_right None a one two = lone_ok nodes copies_at b u.cost u.left ms a le one
-      by_right (Some right) a one two = pair_ok nodes copies_at b u.cost u.left right ms a le one
-          (λ e. two (ap (λ t. cond t 2 1) e) (nil_rim (only (b + 1)) (b + size_by u.left (Some right)) us
-          (λ k l. only_there (b + 1) k (λ q. omega (arith, size_low u.left (Some right))))))
-
-      later : IsFull n copies_at (b + unit_size u) us (drop (width_by copies_at u.left u.right) ms) rest rms
-      later w low = omega (
-        arith,
-        ints,
-        full w (λ k l. low k (omega arith)),
-        pick_units (at_ends w) copies_at b u us ms,
-        picked_zero w ms (unit_links copies_at b u) (unit_zero w nodes copies_at (λ k l. low k (omega arith)) b u.cost
-            u.left u.right at.0 (λ k l h. low k h)),
+      → count_below copies_at nodes ≤ b → b ≤ d → d < b + unit_size u → b + count unit_size (u ∷ us) ≤ m → (u.right
+      ≡ None → d ≢ b + 1) → IsFull b (u ∷ us) ms → picked (at_ends (only d)) ms (unit_links copies_at b u) ≡ pos 1
+  first_unit b d u us ms at le low high fits inside full =
+      let off = only_there d in
+      omega (
+        integers,
+        full (only d) (λ k l. off k (λ e. omega arith)) (with_each (λ r. only d r ≡ pos 0) u.right (b + 1)
+            (rim (b + unit_size u) us) (λ none. off (b + 1) (λ e. inside none (sym e)))
+            (rim_each (λ r. only d r ≡ pos 0) (b + unit_size u) us (λ k l h. off k (λ e. omega arith)))) (λ k l. off k
+            (λ e. omega arith)),
+        pick_units (at_ends (only d)) copies_at b u us ms,
+        picked_zero (only d) (drop (width_by copies_at u.left u.right) ms) (units_links copies_at (b + unit_size u) us)
+            (units_edges (λ k. only d k ≡ pos 0) (λ c. Unit {0}) tt nodes copies_at (λ k l. off k (λ e. omega arith))
+            (b + unit_size u) us at (omega arith) (λ k l h. off k (λ e. omega arith)) (λ k e l. tt)),
+        only_total n d (omega arith),
       )
+
+  -- The marks of all units are those of states.
+  units_told : (b : ℕ) (us : List ArcUnit) (ms : List Bool) → UnitsAt nodes us → count_below copies_at nodes ≤ b
+      → b + count unit_size us ≤ m → IsFull b us ms → AreTold copies_at us ms
+  units_told b [] ms at le fits full = tt
+  units_told b (u ∷ us) ms at le fits full = (
+    unit_told b u.cost u.left u.right ms at.0 le (first_unit b b u us ms at.1 le (omega arith)
+        (omega (arith, size_low u.left u.right)) fits (λ none e. omega arith) full) (λ two some. first_unit b
+        (b + 1) u us ms at.1 le (omega arith) (omega (arith, two)) fits (λ none. absurd (some none)) full),
+    units_told (b + unit_size u) us (drop (width_by copies_at u.left u.right) ms) at.1 (omega arith) (omega arith)
+        (λ w low nil high. omega (
+          integers,
+          full w (λ k l. low k (omega arith)) (with_each (λ r. w r ≡ pos 0) u.right (b + 1) (rim (b + unit_size u) us)
+              (λ none. low (b + 1) (rw none (omega arith))) nil) high,
+          pick_units (at_ends w) copies_at b u us ms,
+          picked_zero w ms (unit_links copies_at b u) (unit_edges (λ k. w k ≡ pos 0) (λ c. Unit {0}) tt nodes copies_at
+              (λ k l. low k (omega arith)) b u.cost u.left u.right at.0 le (λ k l h. low k h) tt),
+        )),
+  )
+
+marks_length : (k n : ℕ) (m : List ℕ) → length (marks_from k n m) ≡ n
+marks_length k zero m = refl
+marks_length k (suc n) [] = omega (arith, marks_length (k + 1) n [])
+marks_length k (suc n) (e ∷ m) = omega (arith, marks_length (k + 1) n (past (e == k) e m))
+
+-- The places of the marks of an increasing list are the list.
+places_marks : (k n : ℕ) (m : List ℕ) → IsIncreasing k (k + n) m → places k (marks_from k n m) ≡ m
+places_marks k zero [] increasing = refl
+places_marks k zero (e ∷ m) increasing = absurd (omega (arith, increasing.0, increasing.1))
+places_marks k (suc n) [] increasing = places_marks (k + 1) n [] tt
+places_marks k (suc n) (e ∷ m) increasing =
+    let high : k + suc n ≡ k + 1 + n = omega arith in
+    elim (cases_eq e k) [
+      | inl here ↦
+          let rest = subst (λ (h : ℕ). IsIncreasing (k + 1) h m) high (rw here at increasing.2) in
+          rw (eq-eqb e k here) (ap (λ l. k ∷ l) (places_marks (k + 1) n m rest) ∙ ap (λ j. j ∷ m) (sym here))
+      | inr later ↦ rw (ne_eqb e k later) (places_marks (k + 1) n (e ∷ m)
+          (omega (arith, increasing.0), omega (arith, increasing.1), rw high at increasing.2))
+    ]
+
+-- A weight that is 1 at the copies of node v and 0 elsewhere.
+abbrev at_copies : (ℕ → ℕ) → ℕ → ℕ → ℤ
+at_copies copies_at v k = pos (cond (nat_lt k (count_below copies_at v + copies_at v)) 1 0) -ℤ pos
+    (cond (nat_lt k (count_below copies_at v)) 1 0)
+
+less_total : (a n : ℕ) → total_below (λ k. pos (cond (nat_lt k a) 1 0)) n ≡ pos (min n a)
+less_total a zero = omega integers
+less_total a (suc n) = grind (integers, cases_lt n a, less_total a n)
+
+outside : (copies_at : ℕ → ℕ) (v k : ℕ)
+    → (k < count_below copies_at v) ⊎ (count_below copies_at v + copies_at v ≤ k) → at_copies copies_at v k ≡ pos 0
+outside copies_at v k apart = elim apart [
+  | inl low ↦ rw (
+    lt-ltb k (count_below copies_at v + copies_at v) (omega arith),
+    lt-ltb k (count_below copies_at v) low,
+  ) refl
+  | inr high ↦ rw (
+    le-ltb k (count_below copies_at v + copies_at v) high,
+    le-ltb k (count_below copies_at v) (omega arith),
+  ) refl
+]
+
+copy_weight : (copies_at : ℕ → ℕ) (v u i : ℕ) → i < copies_at u → at_copies copies_at v (count_below copies_at u + i)
+    ≡ pos (cond (u == v) 1 0)
+copy_weight copies_at v u i l = elim (cases_eq u v) [
+  | inl e ↦
+      let low : i < copies_at v = rw e at l in
+      rw (
+        e,
+        lt-ltb (count_below copies_at v + i) (count_below copies_at v + copies_at v) (omega arith),
+        le-ltb (count_below copies_at v + i) (count_below copies_at v) (omega arith),
+        eq-eqb v v refl,
+      ) refl
+  | inr ne ↦ rw (ne_eqb u v ne) (outside copies_at v (count_below copies_at u + i) (elim (cases_lt u v) [
+    | inl before ↦ inl (omega (arith, copies_below copies_at u v before))
+    | inr after ↦ inr (omega (arith, copies_below copies_at v u (omega arith)))
+  ]))
+]
+
+-- So many marks, each worth 1 or nothing.
+marked : (n : ℕ) (x : ℤ) (h a : Bool) → n ≡ cond a 1 0 → x ≡ pos (cond h 1 0) → pos n *ℤ x ≡ pos (cond (h && a) 1 0)
+marked n x h a e f = rw (e, f) (grind integers)
+
+inner_none : (i : Bool) (x : ℤ) → x ≡ pos 0 → cond i x (pos 0) ≡ pos 0
+inner_none i x e = grind integers
+
+module _ (nodes : ℕ) (copies_at : ℕ → ℕ) (v : ℕ) (w : ℕ → ℤ) (copy : (u i : ℕ) → i < copies_at u
+    → w (count_below copies_at u + i) ≡ pos (cond (u == v) 1 0)) where
+  -- An edge to a copy of the node weighs 1, beside its other end.
+  abbrev hit : ℕ → ℤ → End → ℤ
+  hit u d e = w u +ℤ pos (cond (e.node == v) 1 0)
+
+  -- The copies of node v that a unit takes are its active ends there.
+  unit_copies : (b : ℕ) (c : ℤ) (left : End) (right : Option End) (ms : List Bool) → EndsBelow nodes left right → w b
+      ≡ pos 0 → w (b + 1) ≡ pos 0 → IsTold copies_at ms left right → picked (at_ends w) ms
+      (links_by copies_at b c left right) ≡ pos (ends_active v (state_told copies_at ms left) left right)
+  unit_copies b c left None ms at one two told = omega (
+    integers,
+    unit_pick (at_ends w) nodes copies_at hit (λ u d e l i li. omega (integers, copy e.node i li)) b c left None ms at,
+    marked (left_marks copies_at ms left) (hit b c left) (left.node == v)
+        (is_active (state_told copies_at ms left) left) told.first (omega (integers, one)),
+    inner_none (inner_mark copies_at ms left None) (w b +ℤ w (b + 1)) (omega (integers, one, two)),
+  )
+  unit_copies b c left (Some right) ms at one two told = omega (
+    integers,
+    unit_pick (at_ends w) nodes copies_at hit (λ u d e l i li. omega (integers, copy e.node i li)) b c left
+        (Some right) ms at,
+    marked (left_marks copies_at ms left) (hit b c left) (left.node == v)
+        (is_active (state_told copies_at ms left) left) told.first (omega (integers, one)),
+    marked (right_marks copies_at ms left (Some right)) (right_worth hit b c left (Some right)) (right.node == v)
+        (is_active (state_told copies_at ms left) right) (omega (arith, told.second))
+        (cond_both (are_alike left right) (hit (b + 1) (pos 0) right) (hit b c right)
+        (λ x. x ≡ pos (cond (right.node == v) 1 0)) (λ e. omega (integers, two)) (λ e. omega (integers, one))),
+    inner_none (inner_mark copies_at ms left (Some right)) (w b +ℤ w (b + 1)) (omega (integers, one, two)),
+  )
+
+  units_copies : (b : ℕ) (us : List ArcUnit) (ms : List Bool) → UnitsAt nodes us → ((k : ℕ) → b ≤ k → w k ≡ pos 0)
+      → AreTold copies_at us ms → picked (at_ends w) ms (units_links copies_at b us)
+      ≡ pos (active v us (states_told copies_at us ms))
+  units_copies b [] ms at none told = no_pick (at_ends w) ms
+  units_copies b (u ∷ us) ms at none told = omega (
+    integers,
+    pick_units (at_ends w) copies_at b u us ms,
+    unit_copies b u.cost u.left u.right ms at.0 (none b (omega arith)) (none (b + 1) (omega arith)) told.0,
+    units_copies (b + unit_size u) us (drop (width_by copies_at u.left u.right) ms) at.1
+        (λ k l. none k (omega arith)) told.1,
+  )
+
+-- An active end costs c where it is a plus end, and the inner edge where it is not active and a minus end.
+lone_cost : (n : ℕ) (i : Bool) (c : ℤ) (p o : Bool) → n ≡ cond (cond p o (not o)) 1 0 → i ≡ not (cond p o (not o))
+    → pos n *ℤ cond p c (pos 0) +ℤ cond i (cond p (pos 0) c) (pos 0) ≡ cond o c (pos 0)
+lone_cost n i c p o e f = rw (e, f) (grind integers)
+
+pair_cost : (n k : ℕ) (i : Bool) (c : ℤ) (p q o : Bool) → n ≡ cond (cond p o (not o)) 1 0
+    → k ≡ cond (cond q o (not o)) 1 0 → i ≡ (cond p q (not q) && not (cond p o (not o)))
+    → pos n *ℤ cond p c (pos 0) +ℤ (pos k *ℤ cond (cond p q (not q)) (cond q (pos 0) (pos 0)) (cond q c (pos 0)) +ℤ cond
+    i (cond p (pos 0) c) (pos 0)) ≡ cond o c (pos 0)
+pair_cost n k i c p q o e f g = rw (e, f, g) (grind integers)
+
+-- A unit costs its cost where it is on.
+unit_cost_told : (nodes : ℕ) (copies_at : ℕ → ℕ) (b : ℕ) (c : ℤ) (left : End) (right : Option End) (ms : List Bool)
+    → EndsBelow nodes left right → IsTold copies_at ms left right
+    → picked (λ e. e.cost) ms (links_by copies_at b c left right) ≡ cond (state_told copies_at ms left) c (pos 0)
+unit_cost_told nodes copies_at b c left None ms at told = omega (
+  integers,
+  unit_pick (λ e. e.cost) nodes copies_at (λ u d e. cond e.plus d (pos 0)) (λ u d e l i li. refl) b c left None ms at,
+  lone_cost (left_marks copies_at ms left) (inner_mark copies_at ms left None) c left.plus
+      (state_told copies_at ms left) told.first told.inner,
+)
+unit_cost_told nodes copies_at b c left (Some right) ms at told =
+    unit_pick (λ e. e.cost) nodes copies_at (λ u d e. cond e.plus d (pos 0)) (λ u d e l i li. refl) b c left
+    (Some right) ms at ∙ pair_cost (left_marks copies_at ms left) (right_marks copies_at ms left (Some right))
+    (inner_mark copies_at ms left (Some right)) c left.plus right.plus (state_told copies_at ms left) told.first
+    (omega (arith, told.second)) told.inner
+
+units_cost_told : (nodes : ℕ) (copies_at : ℕ → ℕ) (b : ℕ) (us : List ArcUnit) (ms : List Bool) → UnitsAt nodes us
+    → AreTold copies_at us ms → picked (λ e. e.cost) ms (units_links copies_at b us)
+    ≡ cost_on us (states_told copies_at us ms)
+units_cost_told nodes copies_at b [] ms at told = no_pick (λ (e : WEdge). e.cost) ms
+units_cost_told nodes copies_at b (u ∷ us) ms at told = omega (
+  integers,
+  pick_units (λ (e : WEdge). e.cost) copies_at b u us ms,
+  unit_cost_told nodes copies_at b u.cost u.left u.right ms at.0 told.0,
+  units_cost_told nodes copies_at (b + unit_size u) us (drop (width_by copies_at u.left u.right) ms) at.1 told.1,
+)
+
+pub told_length : (copies_at : ℕ → ℕ) (us : List ArcUnit) (ms : List Bool) → length (states_told copies_at us ms)
+    ≡ length us
+told_length copies_at [] ms = refl
+told_length copies_at (u ∷ us) ms =
+    omega (arith, told_length copies_at us (drop (width_by copies_at u.left u.right) ms))
+
+module _ (nodes : ℕ) (copies_at : ℕ → ℕ) (lone : Bool) (us : List ArcUnit) (at : UnitsAt nodes us) (m : List ℕ)
+    (perfect : IsPerfect (graph_by nodes copies_at lone us) m) where
+  -- The graph, its copies, what is marked of its edges, and the edges at the rim.
+  abbrev g : WeightedGraph
+  g = graph_by nodes copies_at lone us
+
+  abbrev copies : ℕ
+  copies = count_below copies_at nodes
+
+  abbrev ms : List Bool
+  ms = marks_from 0 (length g.edges) m
+
+  abbrev rest : List WEdge
+  rest = rim_links (lone_vertex nodes copies_at lone us) (first_fresh nodes copies_at lone us) (rim copies us)
+
+  abbrev rms : List Bool
+  rms = drop (length (units_links copies_at copies us)) ms
+
+  -- The sum along the matching, at the units and at the rim.
+  matched : (f : WEdge → ℤ) → total f (map (edge_at g) m)
+      ≡ picked f ms (units_links copies_at copies us) +ℤ picked f rms rest
+  matched f =
+      let same = places_marks 0 (length g.edges) m (rw (zero-add (length g.edges)) perfect.increasing) in
+      ap (λ l. total f (map (edge_at g) l)) (sym same) ∙ chosen_sum g f ms (marks_length 0 (length g.edges) m)
+      ∙ pick_split f ms (units_links copies_at copies us) rest
+
+  -- For each weight of nothing at the rim and past the units, the ends at the units weigh what all vertices weigh.
+  ends_weight : (w : ℕ → ℤ) → AllByRecursion (λ r. w r ≡ pos 0) (rim copies us) → ((k : ℕ) → copies + count unit_size us
+      ≤ k → w k ≡ pos 0) → picked (at_ends w) ms (units_links copies_at copies us) ≡ total_below w g.n
+  ends_weight w nil high = omega (
+    integers,
+    matched (at_ends w),
+    ends_once (λ (e : WEdge). e.u) (λ (e : WEdge). e.v) w g.n (map (edge_at g) m)
+        (chosen_below g (graph_lawful nodes copies_at lone us at) 0 m perfect.increasing) perfect.once,
+    picked_zero w rms rest
+        (rest_edges (λ k. w k ≡ pos 0) (λ c. Unit {0}) tt nodes copies_at lone us nil (λ k l h. high k l)),
+  )
+
+  all_told : AreTold copies_at us ms
+  all_told = units_told g.n nodes copies_at (copies + count unit_size us) (omega arith) copies us ms at (omega arith)
+      (omega arith) (λ w low nil high. ends_weight w nil high)
+
+  -- The states that it tells fill the copies.
+  pub told_fills : (v : ℕ) → v < nodes → active v us (states_told copies_at us ms) ≡ copies_at v
+  told_fills v l =
+      let none : (k : ℕ) → copies ≤ k → at_copies copies_at v k ≡ pos 0 =
+      λ k le. outside copies_at v k (inr (omega (arith, copies_below copies_at v nodes l))) in
+      omega (
+        integers,
+        units_copies nodes copies_at v (at_copies copies_at v) (copy_weight copies_at v) copies us ms at none all_told,
+        ends_weight (at_copies copies_at v) (rim_each (λ r. at_copies copies_at v r ≡ pos 0) copies us
+            (λ k lk h. none k (omega arith))) (λ k lk. none k (omega arith)),
+        copies_below copies_at v nodes l,
+        total_below_minus (λ k. pos (cond (nat_lt k (count_below copies_at v + copies_at v)) 1 0))
+            (λ k. pos (cond (nat_lt k (count_below copies_at v)) 1 0)) g.n,
+        less_total (count_below copies_at v + copies_at v) g.n,
+        less_total (count_below copies_at v) g.n,
+      )
+
+  -- Its cost is that of the units that are on.
+  pub told_cost : matching_cost g m ≡ cost_on us (states_told copies_at us ms)
+  told_cost = omega (
+    integers,
+    matched (λ (e : WEdge). e.cost),
+    picked_free rms rest (rest_free nodes copies_at lone us),
+    units_cost_told nodes copies_at copies us ms at all_told,
+  )

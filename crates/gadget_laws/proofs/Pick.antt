@@ -1,30 +1,26 @@
--- Sums over what is marked.
+-- Sums over what is marked: of two lists in a row, of edges to copies, and of the chain at the rim, where each vertex
+-- that waits gets a mate, and so do all fresh vertices.
 use Rattle.std.proofs.Common.{◌≡◌, ℕ, zero, suc, ◌+◌, ◌<◌, ◌≤◌, Bool, true, false, cond, List, [], ◌∷◌, ◌++◌, length}
-use Rattle.std.proofs.Common.{map, get_or, ℤ, pos, ◌+ℤ◌, refl, ◌∙◌, ap, add-zero, arith}
-use Rattle.std.proofs.lemmas.Int.{ints}
-use Rattle.def_math.specs.{Sums.total, Increasing.IsIncreasing, Counts.count_below}
-use Rattle.def_flow.specs.{MatchingGraph.link, MatchingGraph.fan, MatchingGraph.to_copies, declared.net.End.End}
-use Rattle.def_matching.specs.declared.weighted.WEdge.{WEdge}
-use Rattle.gadget_laws.specs.Marks.{choice, keep, chosen, places, end_marks}
+use Rattle.std.proofs.Common.{map, get_or, ℤ, pos, ◌+ℤ◌, refl, ◌∙◌, ap, add-zero, zero-add, arith, ◌-◌, ◌*◌, ◌%◌}
+use Rattle.std.proofs.Common.{Option, Some, None, true≢false}
+use Rattle.def_flow.specs.MatchingGraph.{link, fan, to_copies, rim_links}
+use Rattle.gadget_laws.specs.Marks.{choice, places, end_marks, trues, differ, rim_marks}
+use Rattle.sum_laws.proofs.Sums.{integers}
+use Rattle.def_math.specs.{Sums.total, Sums.span, Increasing.IsIncreasing, Counts.count_below}
+use Rattle.def_flow.specs.declared.net.End.{End}
+use Rattle.def_matching.specs.{Matching.WeightedGraph, Matching.edge_at, declared.weighted.WEdge.WEdge}
 
 -- The sum of f over what is marked.
 abbrev pub picked : {X : Type 0} → (X → ℤ) → List Bool → List X → ℤ
 picked f (m ∷ ms) (x ∷ xs) = cond m (f x) (pos 0) +ℤ picked f ms xs
 picked f _ _ = pos 0
 
--- It is the sum along the marked list.
-pub picked_chosen : {X : Type 0} (f : X → ℤ) (ms : List Bool) (xs : List X) → total f (chosen ms xs) ≡ picked f ms xs
-picked_chosen f [] xs = refl
-picked_chosen f (m ∷ ms) [] = refl
-picked_chosen f (true ∷ ms) (x ∷ xs) = omega (arith, ints, picked_chosen f ms xs)
-picked_chosen f (false ∷ ms) (x ∷ xs) = omega (arith, ints, picked_chosen f ms xs)
-
 -- Two lists in a row, with as many marks.
 pub pick_append : {X : Type 0} (f : X → ℤ) (ms ns : List Bool) (xs ys : List X) → length ms ≡ length xs
     → picked f (ms ++ ns) (xs ++ ys) ≡ picked f ms xs +ℤ picked f ns ys
-pick_append f [] ns [] ys e = omega (arith, ints)
+pick_append f [] ns [] ys e = omega integers
 pick_append f (m ∷ ms) ns (x ∷ xs) ys e = let l : length ms ≡ length xs = omega arith in
-    omega (arith, ints, pick_append f ms ns xs ys l)
+    omega (integers, pick_append f ms ns xs ys l)
 pick_append f _ ns _ ys e = absurd (omega arith)
 
 pub choice_length : (some : Bool) (i n : ℕ) → length (choice some i n) ≡ n
@@ -43,51 +39,125 @@ end_length copies_at used some e b c = omega (arith, choice_length, fan_length)
 -- Of a fan without a mark nothing is picked.
 pick_none : (f : WEdge → ℤ) (i n u : ℕ) (c : ℤ) (a : ℕ) → picked f (choice false i n) (fan u c a n) ≡ pos 0
 pick_none f i zero u c a = refl
-pick_none f zero (suc n) u c a = omega (arith, ints, pick_none f zero n u c (a + 1))
-pick_none f (suc i) (suc n) u c a = omega (arith, ints, pick_none f i n u c (a + 1))
+pick_none f zero (suc n) u c a = omega (integers, pick_none f zero n u c (a + 1))
+pick_none f (suc i) (suc n) u c a = omega (integers, pick_none f i n u c (a + 1))
 
 -- Of a fan with one mark one edge is picked.
 pick_some : (f : WEdge → ℤ) (i n u : ℕ) (c : ℤ) (a : ℕ) → i < n → picked f (choice true i n) (fan u c a n)
     ≡ f (link u (a + i) c)
 pick_some f i zero u c a l = absurd (omega arith)
-pick_some f zero (suc n) u c a l = rw (add-zero a) (omega (arith, ints, pick_none f zero n u c (a + 1)))
+pick_some f zero (suc n) u c a l = rw (add-zero a) (omega (integers, pick_none f zero n u c (a + 1)))
 pick_some f (suc i) (suc n) u c a l =
     let past : a + suc i ≡ a + 1 + i = omega arith in
-    rw past (omega (arith, ints, pick_some f i n u c (a + 1) (omega arith)))
+    rw past (omega (integers, pick_some f i n u c (a + 1) (omega arith)))
 
 -- Of the edges to the copies of an end's node one is picked, or none.
+abbrev pub end_value : (f : WEdge → ℤ) (copies_at used : ℕ → ℕ) (some : Bool) (b : ℕ) (c : ℤ) (e : End) → ℤ
+end_value f copies_at used some b c e =
+    cond some (f (link b (count_below copies_at e.node + used e.node) (cond e.plus c (pos 0)))) (pos 0)
+
 pub pick_end : (f : WEdge → ℤ) (copies_at used : ℕ → ℕ) (some : Bool) (e : End) (b : ℕ) (c : ℤ)
     → (some ≡ true → used e.node < copies_at e.node)
-    → picked f (end_marks copies_at used some e) (to_copies copies_at b c e)
-    ≡ cond some (f (link b (count_below copies_at e.node + used e.node) (cond e.plus c (pos 0)))) (pos 0)
-pick_end f copies_at used true e b c free = pick_some f (used e.node) (copies_at e.node) b (cond e.plus c (pos 0))
-    (count_below copies_at e.node) (free refl)
-pick_end f copies_at used false e b c free = pick_none f (used e.node) (copies_at e.node) b (cond e.plus c (pos 0))
-    (count_below copies_at e.node)
+    → picked f (end_marks copies_at used some e) (to_copies copies_at b c e) ≡ end_value f copies_at used some b c e
+pick_end f copies_at used true e b c free = pick_some f (used e.node) (copies_at e.node) b _ _ (free refl)
+pick_end f copies_at used false e b c free = pick_none f (used e.node) (copies_at e.node) b _ _
 
 -- The places rise.
-increasing_from : (k high : ℕ) (xs : List ℕ) → IsIncreasing (k + 1) high xs → IsIncreasing k high xs
-increasing_from k high [] r = tt
-increasing_from k high (x ∷ xs) r = (omega (arith, r.0), r.1, r.2)
+pub places_rise : (low k end : ℕ) (ms : List Bool) → low ≤ k → k + length ms ≤ end → IsIncreasing low end (places k ms)
+places_rise low k high [] from le = tt
+places_rise low k high (true ∷ ms) from le =
+    (from, omega arith, places_rise (k + 1) (k + 1) high ms (omega arith) (omega arith))
+places_rise low k high (false ∷ ms) from le = places_rise low (k + 1) high ms (omega arith) (omega arith)
 
-pub places_rise : (k high : ℕ) (ms : List Bool) → k + length ms ≤ high → IsIncreasing k high (places k ms)
-places_rise k high [] le = tt
-places_rise k high (true ∷ ms) le = (omega arith, omega arith, places_rise (k + 1) high ms (omega arith))
-places_rise k high (false ∷ ms) le =
-    increasing_from k high (places (k + 1) ms) (places_rise (k + 1) high ms (omega arith))
+-- The sum along what stands at the places of the marks is what is picked.
+at_places : {X : Type 0} (h : ℕ → X) (d : X) (f : X → ℤ) (k : ℕ) (ms : List Bool) (xs : List X) → length ms ≡ length xs
+    → ((j : ℕ) → h (k + j) ≡ get_or xs j d) → total f (map h (places k ms)) ≡ picked f ms xs
+at_places h d f k [] xs l same = refl
+at_places h d f k (true ∷ ms) (x ∷ xs) l same = omega (
+  integers,
+  ap f (rw add-zero at (same 0)),
+  at_places h d f (k + 1) ms xs (omega arith)
+      (λ j. (let e : k + 1 + j ≡ k + suc j = omega arith in ap h e ∙ same (suc j))),
+)
+at_places h d f k (false ∷ ms) (x ∷ xs) l same = at_places h d f (k + 1) ms xs (omega arith)
+    (λ j. (let e : k + 1 + j ≡ k + suc j = omega arith in ap h e ∙ same (suc j))) ∙ omega integers
+at_places h d f k _ _ l same = absurd (omega arith)
 
--- What stands at the places is what is marked.
-pub at_places : {X : Type 0} (h : ℕ → X) (d : X) (k : ℕ) (ms : List Bool) (xs : List X) → length ms ≡ length xs
-    → ((j : ℕ) → h (k + j) ≡ get_or xs j d) → map h (places k ms) ≡ chosen ms xs
-at_places h d k [] xs l same = refl
-at_places h d k (m ∷ ms) [] l same = absurd (omega arith)
-at_places h d k (m ∷ ms) (x ∷ xs) l same =
-    by_mark m (at_places h d (k + 1) ms xs (omega arith) (λ j. (let e : k + 1 + j ≡ k + suc j = omega arith in
-    ap h e ∙ same (suc j))))
+pub chosen_sum : (g : WeightedGraph) (f : WEdge → ℤ) (ms : List Bool) → length ms ≡ length g.edges
+    → total f (map (edge_at g) (places 0 ms)) ≡ picked f ms g.edges
+chosen_sum g f ms l = at_places (edge_at g) (record { u = 0; v = 0; cost = pos 0 }) f 0 ms g.edges l
+    (λ j. ap (edge_at g) (zero-add j))
+
+-- What an edge weighs: the weights of its ends.
+abbrev pub at_ends : (ℕ → ℤ) → WEdge → ℤ
+at_ends w e = w e.u +ℤ w e.v
+
+-- How many fresh vertices the rim has.
+abbrev pub pairs : ℕ → ℕ
+pairs m = 2 * (m - 1)
+
+-- Whether the vertex before is there where it waits.
+abbrev pub IsThere : Option ℕ → Bool → Type 0
+IsThere None waits = waits ≡ false
+IsThere (Some b) waits = Unit {0}
+
+abbrev pub waiting : (ℕ → ℤ) → Option ℕ → Bool → ℤ
+waiting w None waits = pos 0
+waiting w (Some b) waits = cond waits (w b) (pos 0)
+
+-- Two fresh vertices more.
+two_more : (w : ℕ → ℤ) (fresh n : ℕ) → span w fresh (pairs (suc (suc n)))
+    ≡ w fresh +ℤ (w (fresh + 1) +ℤ span w (fresh + 2) (pairs (suc n)))
+two_more w fresh n =
+    let more : pairs (suc (suc n)) ≡ suc (suc (pairs (suc n))) = omega arith in
+    let past : fresh + 1 + 1 ≡ fresh + 2 = omega arith in
+    ap (span w fresh) more ∙ omega (integers, ap (λ a. span w a (pairs (suc n))) past)
+
+still_even : (a b : Bool) (n : ℕ) → (cond a 1 0 + (cond b 1 0 + n)) % 2 ≡ 0 → (cond (differ a b) 1 0 + n) % 2 ≡ 0
+still_even true true n even = omega arith
+still_even _ _ n even = omega arith
+
+-- What is picked at the rim weighs what waits and what is fresh.
+pub chain_sum : (w : ℕ → ℤ) (before : Option ℕ) (waits : Bool) (fresh : ℕ) (rs : List ℕ) (os : List Bool)
+    → length os ≡ length rs → IsThere before waits → (cond waits 1 0 + trues os) % 2 ≡ 0
+    → picked (at_ends w) (rim_marks before waits fresh os) (rim_links before fresh rs)
+    ≡ waiting w before waits +ℤ (picked w os rs +ℤ span w fresh (pairs (length rs)))
+chain_sum w None waits fresh [] [] l there even = refl
+chain_sum w (Some b) true fresh [] [] l there even = absurd (omega arith)
+chain_sum w (Some b) false fresh [] [] l there even = refl
+chain_sum w None false fresh (r ∷ []) (true ∷ []) l there even = absurd (omega arith)
+chain_sum w None false fresh (r ∷ []) (false ∷ []) l there even = omega integers
+chain_sum w (Some b) true fresh (r ∷ []) (true ∷ []) l there even = omega integers
+chain_sum w (Some b) true fresh (r ∷ []) (false ∷ []) l there even = absurd (omega arith)
+chain_sum w (Some b) false fresh (r ∷ []) (true ∷ []) l there even = absurd (omega arith)
+chain_sum w (Some b) false fresh (r ∷ []) (false ∷ []) l there even = omega integers
+chain_sum w before waits fresh (r ∷ s ∷ rs) (o ∷ p ∷ os) l there even =
+    step before waits o there (chain_sum w (Some (fresh + 1)) (differ waits o) (fresh + 2) (s ∷ rs) (p ∷ os)
+    (omega arith) tt (still_even waits o (trues (p ∷ os)) even))
   where
-    here : h k ≡ x
-    here = (let e : k ≡ k + 0 = omega arith in ap h e ∙ same 0)
+    step : (before : Option ℕ) (waits o : Bool) → IsThere before waits
+        → picked (at_ends w) (rim_marks (Some (fresh + 1)) (differ waits o) (fresh + 2) (p ∷ os))
+        (rim_links (Some (fresh + 1)) (fresh + 2) (s ∷ rs)) ≡ waiting w (Some (fresh + 1)) (differ waits o) +ℤ
+        (picked w (p ∷ os) (s ∷ rs) +ℤ span w (fresh + 2) (pairs (length (s ∷ rs))))
+        → picked (at_ends w) (rim_marks before waits fresh (o ∷ p ∷ os)) (rim_links before fresh (r ∷ s ∷ rs)) ≡ waiting
+        w before waits +ℤ (picked w (o ∷ p ∷ os) (r ∷ s ∷ rs) +ℤ span w fresh (pairs (length (r ∷ s ∷ rs))))
+    step None true o there more = absurd (true≢false there)
+    step None false true there more = omega (integers, two_more w fresh (length rs), more)
+    step None false false there more = omega (integers, two_more w fresh (length rs), more)
+    step (Some b) true true there more = omega (integers, two_more w fresh (length rs), more)
+    step (Some b) true false there more = omega (integers, two_more w fresh (length rs), more)
+    step (Some b) false true there more = omega (integers, two_more w fresh (length rs), more)
+    step (Some b) false false there more = omega (integers, two_more w fresh (length rs), more)
+chain_sum w before waits fresh _ _ l there even = first_of (omega integers, cc)
 
-    by_mark : (b : Bool) → map h (places (k + 1) ms) ≡ chosen ms xs → map h (keep b k (places (k + 1) ms))
-        ≡ keep b x (chosen ms xs)
-    by_mark = elim [ true ↦ λ rest. rw (here, rest) refl | false ↦ λ rest. rest ]
+-- There are as many marks as edges.
+pub rim_length : (before : Option ℕ) (waits : Bool) (fresh : ℕ) (rs : List ℕ) (os : List Bool) → length os ≡ length rs
+    → length (rim_marks before waits fresh os) ≡ length (rim_links before fresh rs)
+rim_length before waits fresh [] [] l = refl
+rim_length None waits fresh (r ∷ []) (o ∷ []) l = refl
+rim_length (Some b) waits fresh (r ∷ []) (o ∷ []) l = refl
+rim_length None waits fresh (r ∷ s ∷ rs) (o ∷ p ∷ os) l =
+    omega (arith, rim_length (Some (fresh + 1)) (differ waits o) (fresh + 2) (s ∷ rs) (p ∷ os) (omega arith))
+rim_length (Some b) waits fresh (r ∷ s ∷ rs) (o ∷ p ∷ os) l =
+    omega (arith, rim_length (Some (fresh + 1)) (differ waits o) (fresh + 2) (s ∷ rs) (p ∷ os) (omega arith))
+rim_length before waits fresh _ _ l = absurd (omega arith)

@@ -22,10 +22,6 @@ abbrev pub keep : {X : Type 0} → Bool → X → List X → List X
 keep true x xs = x ∷ xs
 keep false x xs = xs
 
-abbrev pub chosen : {X : Type 0} → List Bool → List X → List X
-chosen (m ∷ ms) (x ∷ xs) = keep m x (chosen ms xs)
-chosen _ _ = []
-
 -- The places of the marks, from k on.
 abbrev pub places : ℕ → List Bool → List ℕ
 places k [] = []

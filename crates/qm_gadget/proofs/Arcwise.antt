@@ -7,22 +7,19 @@ use Rattle.def_flow.specs.{Network.arc_at, Units.arcwise, declared.net.Arc.Arc}
 -- At an arc of the list.
 pub arcwise_at : (f : Arc → ℕ → ℕ) (arcs : List Arc) (xs : List ℕ) (k : ℕ) → length xs ≡ length arcs → k < length arcs
     → get_or (arcwise f arcs xs) k 0 ≡ f (arc_at arcs k) (get_or xs k 0)
-arcwise_at f [] xs k same l = absurd (omega arith)
-arcwise_at f (a ∷ arcs) [] k same l = absurd (omega arith)
 arcwise_at f (a ∷ arcs) (x ∷ xs) zero same l = refl
 arcwise_at f (a ∷ arcs) (x ∷ xs) (suc k) same l = arcwise_at f arcs xs k (omega arith) (omega arith)
+arcwise_at f _ _ k same l = absurd (omega arith)
 
 -- One arc more of the first ones.
 pub arcwise_more : (f : Arc → ℕ → ℕ) (arcs : List Arc) (xs : List ℕ) (k : ℕ) → length xs ≡ length arcs → k < length xs
     → arcwise f (take (k + 1) arcs) (take (k + 1) xs) ≡ arcwise f (take k arcs) (take k xs) ++ f (arc_at arcs k)
     (get_or xs k 0) ∷ []
-arcwise_more f [] [] k same l = absurd (omega arith)
-arcwise_more f (a ∷ arcs) [] k same l = absurd (omega arith)
-arcwise_more f [] (x ∷ xs) k same l = absurd (omega arith)
 arcwise_more f (a ∷ arcs) (x ∷ xs) zero same l = refl
 arcwise_more f (a ∷ arcs) (x ∷ xs) (suc k) same l =
     let past : suc k + 1 ≡ suc (k + 1) = omega arith in
     rw past (ap (λ ys. f a x ∷ ys) (arcwise_more f arcs xs k (omega arith) (omega arith)))
+arcwise_more f _ _ k same l = absurd (omega arith)
 
 -- One entry more, read at an arc of the list.
 pub arcwise_next : (f : Arc → ℕ → ℕ) (arcs : List Arc) (xs : List ℕ) (k : ℕ) {out new : List ℕ} {y : ℕ} {a : Arc}

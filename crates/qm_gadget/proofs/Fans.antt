@@ -1,7 +1,12 @@
--- Parts of lists of edges, joined one after the other.
+-- Parts of lists joined one after the other: of edges, and of units and states by lows and caps.
 use Rattle.std.proofs.Common.{◌≡◌, ℕ, zero, suc, ◌+◌, List, [], ◌∷◌, ◌++◌, ℤ, refl, ◌∙◌, ap, append_assoc, add-one}
-use Rattle.std.proofs.Common.{add-zero, arith}
-use Rattle.def_flow.specs.MatchingGraph.{link, fan}
+use Rattle.std.proofs.Common.{add-zero, arith, ◌-◌, true, false, length, map, sym}
+use Rattle.def_flow.specs.Units.{arcwise, down, cap, run, units_from, states, states_at, unit_at, units_over}
+use Rattle.def_flow.specs.Units.{states_over}
+use Rattle.def_flow.specs.{MatchingGraph.link, MatchingGraph.fan, Network.Network, declared.net.Arc.Arc, Gadget.caps}
+use Rattle.std.proofs.{lemmas.Bool.Decides.nat_tests, lemmas.List.length-append}
+use Rattle.std.specs.Prelude.{nat_lt}
+use Rattle.gadget_laws.proofs.{Box.units_length, Box.run_length}
 
 fan_suc : (u : ℕ) (c : ℤ) (a n : ℕ) → fan u c a (suc n) ≡ fan u c a n ++ link u (a + n) c ∷ []
 fan_suc u c a zero = rw (add-zero a) refl
@@ -29,3 +34,45 @@ pub rung_parts : {X : Type 0} (old one two three now : List X) (xs : List X) (y 
     → now ≡ old ++ (xs ++ (y ∷ ys ++ z ∷ []))
 rung_parts old one two three now xs y ys z first second third fourth = two_parts old one now xs (y ∷ ys ++ z ∷ []) first
     (three_parts one two three now (y ∷ []) ys (z ∷ []) second third fourth)
+
+-- One state more of a run.
+pub run_suc : (j n : ℕ) → run j (suc n) ≡ run j n ++ nat_lt n j ∷ []
+run_suc zero zero = refl
+run_suc (suc j) zero = let on : nat_lt 0 (suc j) ≡ true = grind (arith, nat_tests) in ap (λ b. b ∷ []) (sym on)
+run_suc zero (suc n) = let off : nat_lt n 0 ≡ nat_lt (suc n) 0 = grind (arith, nat_tests) in
+    ap (λ bs. false ∷ bs) (run_suc zero n ∙ ap (λ b. run zero n ++ b ∷ []) off)
+run_suc (suc j) (suc n) = let same : nat_lt n j ≡ nat_lt (suc n) (suc j) = grind (arith, nat_tests) in
+    ap (λ bs. true ∷ bs) (run_suc j n ∙ ap (λ b. run j n ++ b ∷ []) same)
+
+-- One unit more of an arc.
+pub from_suc : (net : Network) (step : ℕ) (a : Arc) (l k n : ℕ) → units_from net step a l k (suc n)
+    ≡ units_from net step a l k n ++ unit_at net step a l (k + n) ∷ []
+from_suc net step a l k zero = rw (add-zero k) refl
+from_suc net step a l k (suc n) =
+    let there : k + 1 + n ≡ k + suc n = omega arith in
+    ap (λ us. unit_at net step a l k ∷ us) (rw (← there) (from_suc net step a l (k + 1) n))
+
+downs : (step : ℕ) (arcs : List Arc) (xs : List ℕ) → map (λ c. c - 2) (arcwise (cap step) arcs xs)
+    ≡ arcwise (down step) arcs xs
+downs step (a ∷ arcs) (x ∷ xs) =
+    let here : down step a x + 2 - 2 ≡ down step a x = omega arith in rw (here, downs step arcs xs) refl
+downs step _ _ = refl
+
+-- The states at the list itself.
+pub own_states : (net : Network) (step : ℕ) (xs : List ℕ)
+    → states_over (caps net step xs) (map (λ c. c - 2) (caps net step xs)) ≡ states_at net step xs
+own_states net step xs = ap (states step net.arcs xs) (downs step net.arcs xs)
+
+-- There is a state for each unit.
+pub states_long : (net : Network) (step : ℕ) (arcs : List Arc) (ls cs js : List ℕ) → length ls ≡ length arcs → length cs
+    ≡ length arcs → length js ≡ length arcs → length (units_over net step arcs ls cs) ≡ length (states_over cs js)
+states_long net step [] ls [] js l c j = refl
+states_long net step (a ∷ arcs) (x ∷ ls) (y ∷ cs) (z ∷ js) l c j = omega (
+  arith,
+  length-append (units_from net step a x 0 y) (units_over net step arcs ls cs),
+  length-append (run z y) (states_over cs js),
+  units_length net step a x 0 y,
+  run_length z y,
+  states_long net step arcs ls cs js (omega arith) (omega arith) (omega arith),
+)
+states_long net step _ _ _ _ l c j = absurd (omega arith)

@@ -1,16 +1,15 @@
 -- Numbers of marks, one part of the marks after the other.
 use Rattle.std.proofs.Common.{◌≡◌, ℕ, zero, suc, ◌+◌, ◌<◌, ◌≤◌, ◌==◌, Bool, true, false, not, ◌&&◌, cond, List, [], ◌∷◌}
-use Rattle.std.proofs.Common.{◌++◌, length, drop, Option, Some, None, refl, sym, ◌∙◌, ap, add-zero}
-use Rattle.std.proofs.Common.{length-append, inl, inr, arith}
-use Rattle.std.proofs.lemmas.Bool.{cases_eq, eq-eqb, ne_eqb}
+use Rattle.std.proofs.Common.{◌++◌, length, drop, Option, Some, None, pos, refl, sym, ◌∙◌, ap, add-zero}
+use Rattle.std.proofs.Common.{inl, inr, arith}
+use Rattle.std.proofs.lemmas.Bool.{cases_eq, eq-eqb, ne_eqb, lt-ltb, le-ltb}
 use Rattle.std.proofs.lemmas.Bool.Decides.{nat_tests}
 use Rattle.std.proofs.lemmas.List.{drop_more, drop_all, append-nil}
 use Rattle.std.specs.Prelude.{nat_lt, slice_index_or}
-use Rattle.def_flow.specs.{Units.is_active, Units.active_at, MatchingGraph.are_alike, declared.net.End.End}
-use Rattle.def_flow.specs.declared.units.ArcUnit.{ArcUnit}
+use Rattle.def_flow.specs.{Units.is_active, MatchingGraph.are_alike, declared.net.End.End}
 use Rattle.gadget_laws.specs.Marks.{choice, places, take_end, end_marks, marks_by}
-use Rattle.gadget_laws.specs.{Marks.units_marks, Marks.differ, Marks.mark_from, Marks.rim_marks, Told.width_by}
-use Rattle.gadget_laws.proofs.Pick.{choice_length}
+use Rattle.gadget_laws.specs.{Marks.differ, Marks.mark_from, Marks.rim_marks, Told.width_by}
+use Rattle.gadget_laws.proofs.{Pick.choice_length, Units.unit_length, Facts.links_width}
 use Rattle.qm_gadget.specs.Marked.{right_marks, mark_if, rim_by, turn_marks}
 use Rattle.qm_gadget.proofs.Fans.{two_parts}
 
@@ -18,11 +17,9 @@ use Rattle.qm_gadget.proofs.Fans.{two_parts}
 pub places_append : (k : ℕ) (ms ns : List Bool) → places k (ms ++ ns) ≡ places k ms ++ places (k + length ms) ns
 places_append k [] ns = ap (λ i. places i ns) (sym (add-zero k))
 places_append k (true ∷ ms) ns =
-    let there : k + 1 + length ms ≡ k + suc (length ms) = omega arith in
-    ap (λ l. k ∷ l) (places_append (k + 1) ms ns ∙ ap (λ i. places (k + 1) ms ++ places i ns) there)
+    let there : k + 1 + length ms ≡ k + suc (length ms) = omega arith in rw (places_append (k + 1) ms ns, there) refl
 places_append k (false ∷ ms) ns =
-    let there : k + 1 + length ms ≡ k + suc (length ms) = omega arith in
-    places_append (k + 1) ms ns ∙ ap (λ i. places (k + 1) ms ++ places i ns) there
+    let there : k + 1 + length ms ≡ k + suc (length ms) = omega arith in rw (places_append (k + 1) ms ns, there) refl
 
 none_chosen : (k i n : ℕ) → places k (choice false i n) ≡ []
 none_chosen k i zero = refl
@@ -33,19 +30,15 @@ none_chosen k (suc i) (suc n) = none_chosen (k + 1) i n
 pub choice_places : (k : ℕ) (some : Bool) (i n : ℕ) → places k (choice some i n)
     ≡ cond (some && nat_lt i n) ((k + i) ∷ []) []
 choice_places k false i n = none_chosen k i n
-choice_places k true i zero = let off : nat_lt i 0 ≡ false = grind (arith, nat_tests) in rw off refl
-choice_places k true zero (suc n) =
-    let on : nat_lt 0 (suc n) ≡ true = grind (arith, nat_tests) in
-    let here : k ≡ k + 0 = sym (add-zero k) in
-    rw on (ap (λ l. k ∷ l) (none_chosen (k + 1) zero n) ∙ ap (λ j. j ∷ []) here)
+choice_places k true i zero = rw (le-ltb i 0 (omega arith)) refl
+choice_places k true zero (suc n) = rw (lt-ltb 0 (suc n) (omega arith), none_chosen (k + 1) zero n, add-zero k) refl
 choice_places k true (suc i) (suc n) =
     let same : nat_lt i n ≡ nat_lt (suc i) (suc n) = grind (arith, nat_tests) in
     let there : k + 1 + i ≡ k + suc i = omega arith in
-    choice_places (k + 1) true i n ∙ (ap (λ b. cond b ((k + 1 + i) ∷ []) []) same
-    ∙ ap (λ j. cond (nat_lt (suc i) (suc n)) (j ∷ []) []) there)
+    rw (choice_places (k + 1) true i n, same, there) refl
 
 -- The numbers of one part of the marks after what was there, and those of a second part.
-places_two : {mid now : List ℕ} {n : ℕ} (old : List ℕ) (k : ℕ) (ms ns : List Bool) → length ms ≡ n
+pub places_two : {mid now : List ℕ} {n : ℕ} (old : List ℕ) (k : ℕ) (ms ns : List Bool) → length ms ≡ n
     → mid ≡ old ++ places k ms → now ≡ mid ++ places (k + n) ns → now ≡ old ++ places k (ms ++ ns)
 places_two {mid} {now} old k ms ns width first second =
     rw (places_append k ms ns, width) (two_parts old mid now _ _ first second)
@@ -64,20 +57,8 @@ marks_two copies_at used on left right =
 -- A unit has as many marks as edges.
 pub marks_width : (copies_at used : ℕ → ℕ) (on : Bool) (left : End) (right : Option End)
     → length (marks_by copies_at used on left right) ≡ width_by copies_at left right
-marks_width copies_at used on left None = length-append (end_marks copies_at used (is_active on left) left)
-    (not (is_active on left) ∷ [])
-    ∙ ap (λ n. n + 1) (choice_length (is_active on left) (used left.node) (copies_at left.node))
-marks_width copies_at used on left (Some right) =
-    let firsts = end_marks copies_at used (is_active on left) left in
-    let seconds = end_marks copies_at (take_end used (is_active on left) left) (is_active on right) right in
-    grind (
-      arith,
-      length-append firsts (seconds ++ not (is_active on left) ∷ []),
-      length-append seconds (not (is_active on left) ∷ []),
-      choice_length (is_active on left) (used left.node) (copies_at left.node),
-      choice_length (is_active on right) (take_end used (is_active on left) left right.node) (copies_at right.node),
-      length-append firsts seconds,
-    )
+marks_width copies_at used on left right =
+    unit_length copies_at used 0 (pos 0) on left right ∙ links_width copies_at 0 (pos 0) left right
 
 -- The marks at the rim, by whether there is a vertex before.
 abbrev pub is_there : Option ℕ → Bool
@@ -97,40 +78,11 @@ rim_is before waits fresh (o ∷ p ∷ os) = rw (
   rim_is (Some (fresh + 1)) (differ waits o) (fresh + 2) (p ∷ os),
 ) refl
 
--- The marks from a unit on, and those from the next on.
-pub units_marks_step : (copies_at used : ℕ → ℕ) (us : List ArcUnit) (ons : List Bool) (k : ℕ) (u : ArcUnit) (b : Bool)
-    → k < length us → length us ≡ length ons
-    → units_marks copies_at used (drop k us) (drop k ons) ≡ marks_by copies_at used (slice_index_or ons k b)
-    (slice_index_or us k u).left (slice_index_or us k u).right
-    ++ units_marks copies_at (λ v. used v + active_at v (slice_index_or us k u) (slice_index_or ons k b))
-    (drop (k + 1) us) (drop (k + 1) ons)
-units_marks_step copies_at used us ons k u b l same =
-    let inner : k < length ons = omega arith in
-    rw (drop_more us k u l, drop_more ons k b inner) refl
-
--- The marks of the second end and of the edge inside, one after the other.
-pub right_alike : (old mid now : List ℕ) (k : ℕ) (copies_at used : ℕ → ℕ) (on : Bool) (left right : End)
-    → are_alike left right ≡ true
-    → mid ≡ old ++ places k (end_marks copies_at used (is_active on right) right)
-    → now ≡ mid ++ places (k + copies_at right.node) (not (is_active on left) ∷ [])
-    → now ≡ old ++ places k (right_marks copies_at used on left right)
-right_alike old mid now k copies_at used on left right alike first second = rw alike
-    (places_two old k _ _ (choice_length (is_active on right) (used right.node) (copies_at right.node)) first second)
-
--- The marks of a unit with one end.
-pub unit_lone : (old mid now : List ℕ) (k : ℕ) (copies_at used : ℕ → ℕ) (on : Bool) (left : End)
-    → mid ≡ old ++ places k (end_marks copies_at used (is_active on left) left)
-    → now ≡ mid ++ places (k + copies_at left.node) (not (is_active on left) ∷ [])
-    → now ≡ old ++ places k (marks_by copies_at used on left None)
-unit_lone old mid now k copies_at used on left first second =
-    places_two old k _ _ (choice_length (is_active on left) (used left.node) (copies_at left.node)) first second
-
 -- The marks of a unit with two ends, where the copies in use are counted in between.
 pub unit_two : (old mid now : List ℕ) (k : ℕ) (copies_at used next : ℕ → ℕ) (on : Bool) (left right : End)
-    → next right.node ≡ take_end used (is_active on left) left right.node
-    → mid ≡ old ++ places k (end_marks copies_at used (is_active on left) left)
-    → now ≡ mid ++ places (k + copies_at left.node) (right_marks copies_at next on left right)
-    → now ≡ old ++ places k (marks_by copies_at used on left (Some right))
+    → next right.node ≡ take_end used (is_active on left) left right.node → mid ≡ old ++ places k
+    (end_marks copies_at used (is_active on left) left) → now ≡ mid ++ places (k + copies_at left.node)
+    (right_marks copies_at next on left right) → now ≡ old ++ places k (marks_by copies_at used on left (Some right))
 unit_two old mid now k copies_at used next on left right taken first second =
     rw (marks_two copies_at used on left right, ← taken)
     (places_two old k _ _ (choice_length (is_active on left) (used left.node) (copies_at left.node)) first second)

@@ -1,38 +1,30 @@
 -- The lows and caps of an admissible list are ready for a plan, and its plan gives its matching graph.
-use Rattle.std.proofs.Common.{◌≡◌, ℕ, zero, suc, ◌+◌, ◌-◌, ◌*◌, ◌^◌, ◌<◌, ◌≤◌, List, [], ◌∷◌}
-use Rattle.std.proofs.Common.{length, Option, refl, sym, ◌∙◌, ap, inl, inr, arith}
-use Rattle.std.proofs.Math.Nat.{mul-le-mul}
-use Rattle.std.proofs.lemmas.Bool.{cases_lt}
-use Rattle.std.proofs.lemmas.List.{get_or_past}
-use Rattle.std.specs.Prelude.{unsigned_abs}
-use Rattle.def_math.specs.Counts.{count, count_below}
-use Rattle.def_flow.specs.{Network.Network, Network.IsWithinBounds, Network.tangle_number, Admissible.IsAdmissible}
-use Rattle.def_flow.specs.{Admissible.entries, Units.low, Units.cap, Units.units, Units.active}
-use Rattle.def_flow.specs.MatchingGraph.{graph_by, graph_of_units, matching_graph}
-use Rattle.def_flow.specs.MatchingGraph.{first_fresh, unit_size, size_by}
-use Rattle.def_flow.specs.{MatchingGraph.rim, declared.net.End.End}
-use Rattle.def_flow.specs.{declared.units.ArcUnit.ArcUnit, Admissible.AreNetLengths, Gadget.caps, Gadget.lows}
-use Rattle.def_flow.specs.Units.{units_over}
+use Rattle.std.proofs.Common.{◌≡◌, ℕ, suc, ◌+◌, ◌-◌, ◌*◌, ◌^◌, ◌<◌, ◌≤◌, List, [], ◌∷◌, length, refl, sym}
+use Rattle.std.proofs.Common.{◌∙◌, ap, inl, inr, arith, ◌%◌, ◌==◌, Bool, true, false}
+use Rattle.def_flow.specs.Network.{EndsBelow, Network, IsWithinBounds, tangle_number}
+use Rattle.def_flow.specs.Units.{low, cap, units, active, units_over, states_over, states, rim_active}
+use Rattle.def_flow.specs.MatchingGraph.{graph_by, graph_of_units, matching_graph, first_fresh, unit_size, rim}
 use Rattle.def_matching.specs.Matching.{WeightedGraph, IsCheap, IsSmallGraph, edge_at}
-use Rattle.gadget_laws.proofs.{Units.UnitsAt, Box.arcwise_length, Costs.costs, Law.arcs_at, Law.units_at, Law.graph_law}
-use Rattle.gadget_laws.proofs.Size.{size_law}
-use Rattle.qm_gadget.specs.{Layout.copies_in, Layout.AreAtNodes, Ready.graph_by_lows, Ready.IsReady, Ready.IsPlan}
-use Rattle.qm_gadget.specs.{Ready.own_states as states_of_caps, declared.plan.Plan.Plan}
-use Rattle.qm_gadget.proofs.{Arcwise.arcwise_at, ByLows.own_states, NodeCounts.same_everywhere, NodeCounts.none_past}
-
--- Ends at nodes, one unit at a time.
-at_by_index : (nodes : ℕ) (us : List ArcUnit) → UnitsAt nodes us → AreAtNodes nodes us
-at_by_index nodes [] at k u l = absurd (omega arith)
-at_by_index nodes (v ∷ us) at zero u l = at.0
-at_by_index nodes (v ∷ us) at (suc k) u l = at_by_index nodes us at.1 k u (omega arith)
+use Rattle.qm_gadget.specs.Ready.{graph_by_lows, IsReady, IsPlan, own_states as states_of_caps, marks_over}
+use Rattle.gadget_laws.specs.Marks.{places, states_marks, rim_marks, rim_states}
+use Rattle.std.proofs.{Math.Nat.mul-le-mul, lemmas.Bool.cases_lt, lemmas.List.get_or_past}
+use Rattle.std.proofs.{lemmas.List.Elements.All-from_recursion, lemmas.List.Elements.recursion_from_All}
+use Rattle.std.specs.{Prelude.unsigned_abs, Prelude.slice_index}
+use Rattle.def_math.specs.{Counts.count, Counts.count_below}
+use Rattle.def_flow.specs.{Admissible.IsAdmissible, Admissible.entries, Admissible.AreNetLengths}
+use Rattle.def_flow.specs.{MatchingGraph.lone_vertex}
+use Rattle.def_flow.specs.{declared.units.ArcUnit.ArcUnit, Gadget.caps, Gadget.lows}
+use Rattle.gadget_laws.proofs.{Arcs.active_past, Edges.size_low, Box.arcwise_length, Law.costs, Law.units_at}
+use Rattle.gadget_laws.proofs.{Law.graph_law, Size.size_law}
+use Rattle.qm_gadget.specs.{Layout.copies_in, Layout.AreAtNodes, declared.plan.Plan.Plan, Marked.rim_by}
+use Rattle.qm_gadget.proofs.{Arcwise.arcwise_at, Fans.own_states, NodeCounts.same_everywhere, NodeCounts.active_low}
+use Rattle.qm_gadget.proofs.Numbers.{rim_is}
+use Rattle.gadget_laws.specs.{Box.ups, Box.matching_told}
 
 -- There are no more units than vertices of units.
 units_few : (us : List ArcUnit) → length us ≤ count unit_size us
 units_few [] = omega arith
-units_few (u ∷ us) = omega (arith, one u.left u.right, units_few us)
-  where
-    one : (left : End) (right : Option End) → 1 ≤ size_by left right
-    one left right = grind (arith)
+units_few (u ∷ us) = omega (arith, size_low u.left u.right, units_few us)
 
 module _ {net : Network} (step : ℕ) {xs : List ℕ} (bounds : IsWithinBounds net) (lengths : AreNetLengths net.arcs xs)
     (admissible : IsAdmissible net (entries xs)) (tangle : tangle_number net ≤ 2 ^ 25) where
@@ -72,8 +64,8 @@ module _ {net : Network} (step : ℕ) {xs : List ℕ} (bounds : IsWithinBounds n
       most = λ k l. omega (arith, arcwise_at (cap step) net.arcs xs k lengths.count l);
     };
     few = omega (arith, units_few (units net step net.arcs xs), graph_small);
-    at = at_by_index net.nodes (units net step net.arcs xs)
-        (units_at net step net.arcs xs (arcs_at net.nodes net.arcs bounds.arcs));
+    at = All-from_recursion (λ u. EndsBelow net.nodes u.left u.right) (units net step net.arcs xs)
+        (units_at net step xs bounds);
   }
 
 -- The graph of units by lows and caps is the matching graph of the list.
@@ -81,15 +73,40 @@ pub graph_over : (net : Network) (step : ℕ) (xs : List ℕ)
     → graph_by_lows net step (lows net step xs) (caps net step xs) ≡ matching_graph net step xs
 graph_over net step xs = ap (graph_of_units net.nodes (units net step net.arcs xs)) (own_states net step xs)
 
+-- There is a number of steps for each entry.
+pub ups_length : (step : ℕ) (ls ys : List ℕ) → length ls ≡ length ys → length (ups step ls ys) ≡ length ls
+ups_length step [] ys same = refl
+ups_length step (l ∷ ls) [] same = absurd (omega arith)
+ups_length step (l ∷ ls) (y ∷ ys) same = ap suc (ups_length step ls ys (omega arith))
+
+-- Marks by lows and caps are those of the matching that is told.
+pub marks_over_is : (net : Network) (step : ℕ) (xs js : List ℕ)
+    → places 0 (marks_over net step (lows net step xs) (caps net step xs) js) ≡ matching_told net step xs js
+marks_over_is net step xs js =
+    let us = units net step net.arcs xs in
+    ap (λ os. places 0 (states_marks net.nodes (λ v. active v us os) (rim_active us os % 2 == 1) us
+    (states step net.arcs xs js))) (own_states net step xs)
+
+-- No more units are at the rim than there are.
+pub rim_states_few : (us : List ArcUnit) (ons : List Bool) → length (rim_states us ons) ≤ length us
+rim_states_few (u ∷ us) (on ∷ ons) = grind (arith, rim_states_few us ons)
+rim_states_few _ _ = omega arith
+
+-- The rim begins with the lone vertex, where there is one.
+pub rim_from_lone : (nodes : ℕ) (copies_at : ℕ → ℕ) (lone : Bool) (us : List ArcUnit) (fresh : ℕ) (os : List Bool)
+    → rim_marks (lone_vertex nodes copies_at lone us) lone fresh os ≡ rim_by lone lone os
+rim_from_lone nodes copies_at true us fresh os = rim_is (lone_vertex nodes copies_at true us) true fresh os
+rim_from_lone nodes copies_at false us fresh os = rim_is (lone_vertex nodes copies_at false us) false fresh os
+
 module _ {net : Network} {step : ℕ} {ls cs : List ℕ} {p : Plan} (ready : IsReady net step ls cs)
     (plan : IsPlan net step ls cs p) where
   -- The copies of a plan are the active ends at each number, also past the nodes.
-  pub plan_counts : copies_in p.counts.items
-      ≡ (λ v. active v (units_over net step net.arcs ls cs) (states_of_caps cs))
+  pub plan_counts : copies_in p.counts.items ≡ (λ v. active v (units_over net step net.arcs ls cs) (states_of_caps cs))
   plan_counts = same_everywhere (copies_in p.counts.items) _ (λ v. elim (cases_lt v net.nodes) [
     | inl l ↦ plan.counts.each v l
     | inr h ↦ get_or_past p.counts.items v 0 (omega (arith, plan.counts.count))
-        ∙ sym (none_past net.nodes (units_over net step net.arcs ls cs) (states_of_caps cs) ready.at v h)
+        ∙ sym (active_past net.nodes v (units_over net step net.arcs ls cs) (states_of_caps cs) h
+        (recursion_from_All (λ u. EndsBelow net.nodes u.left u.right) (units_over net step net.arcs ls cs) ready.at))
   ])
 
   -- The graph of a plan.
@@ -110,3 +127,23 @@ module _ {net : Network} {step : ℕ} {ls cs : List ℕ} {p : Plan} (ready : IsR
       + 2 * (length (rim (count_below (copies_in p.counts.items) (length p.counts.items)) p.units.items) - 1)
       ≡ (graph_by_lows net step ls cs).n = ap (λ (g : WeightedGraph). g.n) plan_graph in
       omega arith
+
+  -- The marks of a plan.
+  pub plan_marks : (js : List ℕ) → states_marks (length p.counts.items) (copies_in p.counts.items) p.lone p.units.items
+      (states_over cs js) ≡ marks_over net step ls cs js
+  plan_marks js = rw (plan_counts, plan.counts.count, plan.lone, plan.units) refl
+
+  -- A plan has few units, and few copies of each node.
+  pub plan_few : (length p.units.items ≤ 2 ^ 25) × ((v : ℕ) → slice_index p.counts.items v ≤ 2 ^ 27)
+  plan_few = (
+    omega (arith, ap length plan.units, ready.few),
+    λ v. elim (cases_lt v net.nodes) [
+      | inl l ↦ omega (
+        arith,
+        plan.counts.each v l,
+        active_low v (units_over net step net.arcs ls cs) (states_of_caps cs),
+        ready.few,
+      )
+      | inr h ↦ omega (arith, get_or_past p.counts.items v 0 (omega (arith, plan.counts.count)))
+    ],
+  )

@@ -1,7 +1,6 @@
 -- What a gadget's matchings and lists tell of each other.
-use Rattle.std.proofs.Common.{◌≡◌, ℕ, ◌-◌, ◌%◌, ◌^◌, ◌≤◌, ◌==◌, Bool, List, length, map, pos, ◌-ℤ◌, ◌≤ℤ◌, sym, ◌∙◌}
+use Rattle.std.proofs.Common.{◌≡◌, ℕ, ◌%◌, ◌^◌, ◌≤◌, ◌==◌, Bool, List, length, pos, ◌-ℤ◌, ◌≤ℤ◌, sym, ◌∙◌}
 use Rattle.std.proofs.Common.{ap, arith}
-use Rattle.std.proofs.lemmas.List.{length-map}
 use Rattle.def_flow.specs.{Network.Network, Network.IsWithinBounds, Admissible.IsAdmissible}
 use Rattle.def_flow.specs.{Admissible.deviation, Admissible.entries, Units.units, Units.states_at}
 use Rattle.def_flow.specs.{Units.active, Units.rim_active, MatchingGraph.graph_by, MatchingGraph.matching_graph}
@@ -10,12 +9,13 @@ use Rattle.def_flow.specs.{declared.gadget.Gadget.Gadget, Units.units_over, Unit
 use Rattle.def_matching.specs.Matching.{WeightedGraph, graph, matching_cost, IsPerfect}
 use Rattle.gadget_laws.specs.{Box.ups, Box.matching_told, Marks.places, Told.marks_from, Told.states_told}
 use Rattle.gadget_laws.specs.Told.{lengths_told}
-use Rattle.gadget_laws.proofs.{Steps.in_box, Law.matching_law, Size.size_law, Arcs.lengths_law, Arcs.told_in_box}
+use Rattle.gadget_laws.proofs.Whole.{marks_length}
+use Rattle.gadget_laws.proofs.{Steps.in_box, Law.matching_law, Size.size_law, Arcs.lengths_law}
 use Rattle.qm_gadget.specs.{Ready.IsReady, Ready.marks_over, Ready.own_states as states_of_caps, Read.lengths_by}
 use Rattle.qm_gadget.specs.Read.{lengths_read, widths_over}
-use Rattle.qm_gadget.proofs.{ByLows.states_long, ByLows.own_states, OfList.list_ready, OfList.graph_over}
-use Rattle.qm_gadget.proofs.{Reading.widths_low, Reading.lengths_is, Steps.ups_length, Steps.marks_long}
-use Rattle.qm_gadget.proofs.Steps.{marks_over_is}
+use Rattle.qm_gadget.proofs.{Fans.states_long, Fans.own_states, OfList.list_ready, OfList.graph_over}
+use Rattle.qm_gadget.proofs.{Reading.widths_low, Reading.lengths_is, OfList.ups_length}
+use Rattle.qm_gadget.proofs.OfList.{marks_over_is}
 
 module _ {net : Network} {g : Gadget} (bounds : IsWithinBounds net) (of : IsGadgetOf net g) where
   -- The lows and caps of a gadget are ready for a plan.
@@ -35,11 +35,6 @@ module _ {net : Network} {g : Gadget} (bounds : IsWithinBounds net) (of : IsGadg
   own_is : own_graph ≡ matching_graph net g.step of.x
   own_is = rw (of.lows, of.caps) (graph_over net g.step of.x)
 
-  -- There is a state for each unit.
-  states_many : (js : List ℕ) → length js ≡ length g.cap.items → length over ≡ length (states_over g.cap.items js)
-  states_many js long = states_long net g.step net.arcs g.low.items g.cap.items js gadget_ready.boxes.lows_count
-      gadget_ready.boxes.caps_count (long ∙ gadget_ready.boxes.caps_count)
-
   -- A gadget's graph has few edges.
   pub gadget_edges : length g.graph.edges.items ≤ 2 ^ 26
   gadget_edges =
@@ -51,12 +46,13 @@ module _ {net : Network} {g : Gadget} (bounds : IsWithinBounds net) (of : IsGadg
       → length (marks_over net g.step g.low.items g.cap.items (ups g.step g.low.items ys)) ≤ 2 ^ 26
   gadget_short ys inside =
       let js = ups g.step g.low.items ys in
-      let states = states_many js (ups_length g.step g.low.items ys (sym inside.count)
-      ∙ gadget_ready.boxes.lows_count ∙ sym gadget_ready.boxes.caps_count) in
+      let boxes = gadget_ready.boxes in
+      let states = states_long net g.step net.arcs g.low.items g.cap.items js boxes.lows_count boxes.caps_count
+      (ups_length g.step g.low.items ys (sym inside.count) ∙ boxes.lows_count) in
       omega (
         arith,
         gadget_edges,
-        marks_long net.nodes (λ v. active v over ons) (rim_active over ons % 2 == 1) over
+        marks_length net.nodes (λ v. active v over ons) (rim_active over ons % 2 == 1) over
             (states_over g.cap.items js) states,
         ap (λ (h : WeightedGraph). length h.edges) (own_is ∙ sym of.graphs),
       )
@@ -65,16 +61,14 @@ module _ {net : Network} {g : Gadget} (bounds : IsWithinBounds net) (of : IsGadg
   pub gadget_wide : widths_over net g.step g.low.items g.cap.items ≤ length g.graph.edges.items
   gadget_wide = omega (
     arith,
-    widths_low net.nodes (λ v. active v over ons) (rim_active over ons % 2 == 1) over ons
-        (states_many (map (λ c. c - 2) g.cap.items) (length-map g.cap.items (λ c. c - 2))),
+    widths_low net.nodes (λ v. active v over ons) (rim_active over ons % 2 == 1) over,
     ap (λ (h : WeightedGraph). length h.edges) (own_is ∙ sym of.graphs),
   )
 
   -- The matching that a list in the box tells.
   pub gadget_matching : (ys : List ℕ) → IsAdmissible net (entries ys) → IsInBox g.step g.low.items g.cap.items ys
       → (m : List ℕ) → m ≡ places 0 (marks_over net g.step g.low.items g.cap.items (ups g.step g.low.items ys))
-      → IsPerfect (graph g.graph) m
-      × (matching_cost (graph g.graph) m ≡ pos (deviation net (entries ys)) -ℤ pos
+      → IsPerfect (graph g.graph) m × (matching_cost (graph g.graph) m ≡ pos (deviation net (entries ys)) -ℤ pos
       (deviation net (entries g.low.items)))
   gadget_matching ys admissible inside m is =
       let js = ups g.step (lows net g.step of.x) ys in
@@ -99,8 +93,7 @@ gadget_lengths {net} {g} bounds of m perfect edges long ys is =
     let us = units net g.step net.arcs of.x in
     let many : edges ≡ length (matching_graph net g.step of.x).edges =
     long ∙ ap (λ (h : WeightedGraph). length h.edges) of.graphs in
-    let told : ys ≡ lengths_told net g.step of.x m =
-    (rw (of.lows, of.caps, many) at is)
+    let told : ys ≡ lengths_told net g.step of.x m = (rw (of.lows, of.caps, many) at is)
     ∙ (ap (λ os. lengths_by g.step (lows net g.step of.x) (caps net g.step of.x)
     (states_told (λ v. active v us os) us (marks_from 0 (length (matching_graph net g.step of.x).edges) m)))
     (own_states net g.step of.x)
@@ -112,5 +105,5 @@ gadget_lengths {net} {g} bounds of m perfect edges long ys is =
       count = ap length told ∙ law.0;
       admissible = rw told law.1;
       cost = rw (told, of.lows, of.graphs) law.2;
-      inside = rw (of.lows, of.caps, told) (told_in_box net g.step of.x m of.lengths.count);
+      inside = rw (of.lows, of.caps, told) law.3;
     }

@@ -1,4 +1,4 @@
-use Rattle.gadget_laws.proofs.Costs.{costs}
+use Rattle.gadget_laws.proofs.Law.{costs}
 use Rattle.gadget_laws.proofs.cost_law.Goals as goal
 
 pub returns : goal.returns

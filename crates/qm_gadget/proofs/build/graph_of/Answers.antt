@@ -1,4 +1,4 @@
-use Rattle.std.proofs.Common.{◌≡◌, length, ◌∙◌, ap, subst, sym, arith}
+use Rattle.std.proofs.Common.{◌≡◌, length, refl, ◌∙◌, ap, subst, sym, arith}
 use Rattle.def_flow.specs.{Network.network, MatchingGraph.matching_graph}
 use Rattle.def_matching.specs.Matching.{WeightedGraph, IsCheap}
 use Rattle.gadget_laws.proofs.Size.{size_law}
@@ -25,42 +25,30 @@ graph_over-requires c = omega (
   graph_small c.args.step c.args.net.now.bounds c.requires.lengths c.requires.admissible c.requires.tangle,
 )
 
-pub returns-clause-graph : goal.returns-clause-graph
-returns-clause-graph c = c.in_ok-graph.ensures ∙ graph_is (goal.at.returns-clause-graph c).After-deref-2
-
-pub returns-clause-small : goal.returns-clause-small
-returns-clause-small c = rw (returns-clause-graph c)
-    (graph_lawful c.args.step c.args.net.now.bounds c.requires.lengths c.requires.admissible c.requires.tangle)
-
-pub returns-clause-vertices : goal.returns-clause-vertices
-returns-clause-vertices c = omega (
-  arith,
-  ap (λ (g : WeightedGraph). g.n) (returns-clause-graph c),
-  (size_law (network c.args.net.now.whole.now) c.args.step c.args.x.now c.args.net.now.bounds c.requires.lengths.count
-      c.requires.admissible).0,
-)
-
-pub returns-clause-edges : goal.returns-clause-edges
-returns-clause-edges c = omega (
-  arith,
-  ap (λ (g : WeightedGraph). length g.edges) (returns-clause-graph c),
-  (size_law (network c.args.net.now.whole.now) c.args.step c.args.x.now c.args.net.now.bounds c.requires.lengths.count
-      c.requires.admissible).1,
-)
-
-pub returns-clause-cheap : goal.returns-clause-cheap
-returns-clause-cheap c = subst (λ (g : WeightedGraph). IsCheap g) (sym (returns-clause-graph c))
-    (graph_cheap c.args.step c.args.net.now.bounds c.requires.lengths c.requires.admissible c.requires.tangle
-    c.requires.step.1)
-
-pub returns-clause-given : goal.returns-clause-given
-returns-clause-given c = record {
-  x = c.args.x.now;
-  lengths = c.requires.lengths;
-  admissible = c.requires.admissible;
-  tangle = c.requires.tangle;
-  steps = c.requires.step;
-  graphs = returns-clause-graph c;
-  lows = c.in_ok-low.ensures;
-  caps = c.in_ok-cap.ensures;
-}
+pub returns : goal.returns
+returns c =
+    let net = network c.args.net.now.whole.now in
+    let bounds = c.args.net.now.bounds in
+    let given = c.requires in
+    let graph = c.in_ok-graph.ensures ∙ graph_is (goal.at.returns c).After-deref-2 in
+    let law = size_law net c.args.step c.args.x.now bounds given.lengths.count given.admissible in record {
+      graph = graph;
+      low = c.in_ok-low.ensures;
+      cap = c.in_ok-cap.ensures;
+      step = refl;
+      given = record {
+        x = c.args.x.now;
+        lengths = given.lengths;
+        admissible = given.admissible;
+        tangle = given.tangle;
+        steps = given.step;
+        graphs = graph;
+        lows = c.in_ok-low.ensures;
+        caps = c.in_ok-cap.ensures;
+      };
+      small = rw graph (graph_lawful c.args.step bounds given.lengths given.admissible given.tangle);
+      vertices = omega (arith, ap (λ (g : WeightedGraph). g.n) graph, law.0);
+      edges = omega (arith, ap (λ (g : WeightedGraph). length g.edges) graph, law.1);
+      cheap = subst (λ (g : WeightedGraph). IsCheap g) (sym graph)
+          (graph_cheap c.args.step bounds given.lengths given.admissible given.tangle given.step.1);
+    }

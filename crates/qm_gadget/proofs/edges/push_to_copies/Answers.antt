@@ -1,5 +1,6 @@
-use Rattle.std.proofs.{Common.◌≡◌, Common.slice_index, Common.arith, lemmas.List.get_or_read}
-use Rattle.qm_gadget.proofs.Rows.{copies_fit}
+use Rattle.std.proofs.{Common.◌≡◌, Common.slice_index, Common.length, Common.arith, lemmas.List.get_or_read}
+use Rattle.table_laws.proofs.Ranges.{part_low}
+use Rattle.qm_gadget.specs.Layout.{copies_in}
 use Rattle.qm_gadget.proofs.edges.push_to_copies.Goals as goal
 
 pub push_fan-requires : goal.push_fan-requires
@@ -13,7 +14,8 @@ push_fan-requires c =
       arith,
       first,
       count,
-      copies_fit c.args.copies.now.counts.items c.args.end.now.node c.requires.at,
+      part_low (copies_in c.args.copies.now.counts.items) c.args.end.now.node (length c.args.copies.now.counts.items)
+          c.requires.at,
       c.args.copies.now.laid_out.each c.args.end.now.node (omega arith),
       c.args.copies.now.laid_out.few,
     )

@@ -1,10 +1,9 @@
 use Rattle.std.proofs.Common.{◌∙◌}
-use Rattle.qm_gadget.proofs.{OfList.plan_counts, Steps.plan_few}
+use Rattle.qm_gadget.proofs.{OfList.plan_counts, OfList.plan_few}
 use Rattle.qm_gadget.proofs.lengths.lengths_over.Goals as goal
 
 pub invariant_of-spread-clause-few : goal.invariant_of-spread-clause-few
-invariant_of-spread-clause-few c =
-    rw c.deref.ensures.value (plan_few c.args.boxes.now.ready c.in_ok-plan.ensures).1
+invariant_of-spread-clause-few c = rw c.deref.ensures.value (plan_few c.args.boxes.now.ready c.in_ok-plan.ensures).1
 
 pub states_in-requires-clause-wide : goal.states_in-requires-clause-wide
 states_in-requires-clause-wide c = rw (

@@ -1,14 +1,11 @@
-use Rattle.std.proofs.Common.{◌≡◌, ℕ, ◌+◌, ◌++◌, Bool, List, length, drop, slice_index, slice_index_or, false, None}
-use Rattle.std.proofs.Common.{pos, sym, ◌∙◌, ap, length-append, arith}
-use Rattle.def_flow.specs.{declared.units.ArcUnit.ArcUnit, Units.active_at}
+use Rattle.std.proofs.Common.{◌≡◌, ℕ, ◌+◌, ◌++◌, Bool, List, length, drop, slice_index, slice_index_or, false}
+use Rattle.std.proofs.Common.{sym, ◌∙◌, ap, length-append, arith}
+use Rattle.def_flow.specs.{Units.active_at}
 use Rattle.gadget_laws.specs.Marks.{marks_by, units_marks}
 use Rattle.qm_gadget.specs.Layout.{copies_in}
-use Rattle.qm_gadget.proofs.Numbers.{marks_step, marks_width, units_marks_step}
-use Rattle.qm_gadget.proofs.NodeCounts.{same_everywhere, active_at_low, raised_read}
+use Rattle.qm_gadget.proofs.Numbers.{marks_step, marks_width}
+use Rattle.qm_gadget.proofs.NodeCounts.{no_unit, step_of, same_everywhere, active_at_low, raised_read}
 use Rattle.qm_gadget.proofs.marks.push_all_marks.Goals as goal
-
-abbrev no_unit : ArcUnit
-no_unit = record { left = record { node = 0; plus = false }; right = None; cost = pos 0 }
 
 pub loop-i-preserved : goal.loop-i-preserved
 loop-i-preserved c =
@@ -26,7 +23,7 @@ loop-i-preserved c =
     (drop (c.loop-i.i + 1) ons) in
     let split : units_marks copies (copies_in c.loop-i.used) (drop c.loop-i.i us) (drop c.loop-i.i ons)
     ≡ part ++ rest = rw (same_everywhere (copies_in c.push_unit_marks.new.used) _ read)
-    (units_marks_step copies (copies_in c.loop-i.used) us ons c.loop-i.i no_unit false c.loop-i-test.true
+    (step_of (units_marks copies (copies_in c.loop-i.used)) us ons c.loop-i.i no_unit false c.loop-i-test.true
     c.args.laid.now.stated.each) in
     let width = marks_width copies (copies_in c.loop-i.used) on u.left u.right ∙ sym c.width_of-k.ensures in
     record {

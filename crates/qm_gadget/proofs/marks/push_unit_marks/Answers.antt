@@ -1,9 +1,11 @@
-use Rattle.std.proofs.Common.{ℕ, ◌+◌, ◌++◌, [], ◌∷◌, ◌<◌, not, length, ◌∙◌, ap, arith}
+use Rattle.std.proofs.Common.{ℕ, ◌+◌, ◌++◌, [], ◌∷◌, ◌<◌, not, length, slice_index, ◌∙◌, ap, arith}
 use Rattle.std.proofs.lemmas.Result.{on_ok_weaker}
 use Rattle.def_flow.specs.{declared.units.ArcUnit.ArcUnit}
+use Rattle.def_flow.specs.Units.{is_active}
 use Rattle.gadget_laws.specs.Marks.{places}
+use Rattle.gadget_laws.proofs.Pick.{choice_length}
 use Rattle.qm_gadget.specs.Layout.{copies_in}
-use Rattle.qm_gadget.proofs.{Numbers.unit_lone, Numbers.unit_two, NodeCounts.right_at}
+use Rattle.qm_gadget.proofs.{Numbers.places_two, Numbers.unit_two}
 use Rattle.qm_gadget.proofs.marks.push_unit_marks.Goals as goal
 
 pub returns-in-None-clause-marks : goal.returns-in-None-clause-marks
@@ -11,8 +13,9 @@ returns-in-None-clause-marks c =
     let unit : ArcUnit = c.args.counted.now.unit.now in
     let copies : ℕ → ℕ = copies_in c.args.counted.now.counts.now in
     on_ok_weaker c.push_mark.result
-    (λ pushed. rw c.in-None.is (unit_lone c.args.m.now.items c.push_end_marks.new.m.items c.push_mark.new.m.items
-    c.args.k copies (copies_in c.args.used.now) c.args.on unit.left c.in_ok-push_end_marks.ensures
+    (λ pushed. rw c.in-None.is (places_two c.args.m.now.items c.args.k _ _
+    (choice_length (is_active c.args.on unit.left) (slice_index c.args.used.now unit.left.node)
+    (copies unit.left.node)) c.in_ok-push_end_marks.ensures
     (pushed ∙ ap (λ b. c.push_end_marks.new.m.items ++ places (c.args.k + copies unit.left.node) (not b ∷ []))
     c.is_active.ensures)))
     c.push_mark.ensures
@@ -21,11 +24,8 @@ pub returns-in_ok-push_right_marks-in-Some-clause-marks : goal.returns-in_ok-pus
 returns-in_ok-push_right_marks-in-Some-clause-marks c =
     let unit = c.args.counted.now.unit.now in
     let right = c.in-Some.right in
-    let at : right.node < length c.args.used.now = omega (
-      arith,
-      right_at (length c.args.counted.now.counts.now) unit.left right unit.right c.in-Some.is c.args.counted.now.at,
-      c.requires.same,
-    ) in
+    let ends = rw c.in-Some.is at c.args.counted.now.at in
+    let at : right.node < length c.args.used.now = omega (arith, ends.1, c.requires.same) in
     rw c.in-Some.is (unit_two c.args.m.now.items c.push_end_marks.new.m.items c.push_right_marks.new.m.items c.args.k
     (copies_in c.args.counted.now.counts.now) (copies_in c.args.used.now) (copies_in c.bump.new.counts) c.args.on
     unit.left right (c.bump.ensures.each right.node at) c.in_ok-push_end_marks.ensures

@@ -1,9 +1,9 @@
-use Rattle.std.proofs.Common.{◌≡◌, ℕ, ◌+◌, ◌++◌, [], Bool, List, length, sym, ◌∙◌, ap, length-append, arith}
+use Rattle.std.proofs.Common.{◌≡◌, ℕ, ◌+◌, Bool, List, length, refl, ◌∙◌, ap, length-append, arith}
 use Rattle.def_flow.specs.MatchingGraph.{lone_vertex, first_fresh}
 use Rattle.def_flow.specs.declared.units.ArcUnit.{ArcUnit}
-use Rattle.gadget_laws.specs.Marks.{places, units_marks, rim_marks, rim_states}
-use Rattle.qm_gadget.specs.{Layout.copies_in, Marked.rim_by}
-use Rattle.qm_gadget.proofs.{Fans.two_parts, Numbers.places_append, Steps.rim_states_few, Steps.rim_from_lone}
+use Rattle.gadget_laws.specs.Marks.{units_marks, rim_marks, rim_states}
+use Rattle.qm_gadget.specs.{Layout.copies_in}
+use Rattle.qm_gadget.proofs.{Numbers.places_append, OfList.rim_states_few, OfList.rim_from_lone}
 use Rattle.qm_gadget.proofs.matching.marks_told.Goals as goal
 
 -- The marks of the units' edges.
@@ -36,16 +36,14 @@ returns c =
     let us : List ArcUnit = c.args.laid.now.stated.units.now in
     let ons : List Bool = c.args.laid.now.stated.ons.now in
     let front : List Bool = firsts counts us ons in
-    let back : List Bool = lasts counts c.args.lone us ons in
-    let first : c.push_units_marks.new.m.items ≡ [] ++ places 0 front = c.in_ok-past.ensures.marks
-    ∙ ap (λ l. l ++ places 0 front) c.new-m.ensures.items in
-    let rims : rim_by c.args.lone c.args.lone c.deref.result.now ≡ back =
-    ap (rim_by c.args.lone c.args.lone) (c.deref.ensures.value ∙ c.in_ok-states.ensures)
-    ∙ sym (rim_from_lone (length counts) (copies_in counts) c.args.lone us _ _) in
     let there : c.in_ok-past.past ≡ 0 + length front = omega (arith, c.in_ok-past.ensures.past) in
-    let second : c.push_rim_marks.new.m.items ≡ c.push_units_marks.new.m.items ++ places (0 + length front) back =
-    c.in_ok-push_rim_marks.ensures ∙ ap (λ l. c.push_units_marks.new.m.items ++ l)
-    (ap (λ k. places k (rim_by c.args.lone c.args.lone c.deref.result.now)) there
-    ∙ ap (places (0 + length front)) rims) in
-    two_parts [] c.push_units_marks.new.m.items c.push_rim_marks.new.m.items (places 0 front)
-    (places (0 + length front) back) first second ∙ sym (places_append 0 front back)
+    rw (
+      c.in_ok-push_rim_marks.ensures,
+      c.in_ok-past.ensures.marks,
+      c.new-m.ensures.items,
+      c.deref.ensures.value,
+      c.in_ok-states.ensures,
+      there,
+      places_append 0 front (lasts counts c.args.lone us ons),
+      rim_from_lone (length counts) (copies_in counts) c.args.lone us,
+    ) refl

@@ -1,38 +1,35 @@
 use Rattle.std.proofs.Common.{◌≡◌, length, sym, ◌∙◌, ap, arith}
 use Rattle.def_flow.specs.{Network.Network, Network.network, Units.states_over}
 use Rattle.gadget_laws.specs.Box.{ups}
-use Rattle.qm_gadget.proofs.{ByLows.states_long, OfList.plan_at, Steps.ups_length, Steps.plan_marks, Steps.plan_few}
+use Rattle.qm_gadget.proofs.{Fans.states_long, OfList.plan_at, OfList.ups_length, OfList.plan_marks, OfList.plan_few}
 use Rattle.qm_gadget.proofs.matching.matching_by.Goals.{After-deref-4}
 use Rattle.qm_gadget.proofs.matching.matching_by.Goals as goal
 
 pub states_of-requires : goal.states_of-requires
 states_of-requires c =
     let boxes = c.args.boxes.now in
-    boxes.ready.boxes.caps_count ∙ (sym boxes.ready.boxes.lows_count
-    ∙ (sym (ups_length boxes.step boxes.lows.now c.args.x2.now (sym c.requires.inside.count))
-    ∙ sym (ap length (c.deref.ensures.value ∙ c.in_ok-raised.ensures))))
+    let long = ups_length boxes.step boxes.lows.now c.args.x2.now (sym c.requires.inside.count) in
+    let read = ap length (c.deref.ensures.value ∙ c.in_ok-raised.ensures) in
+    omega (arith, long, read, boxes.ready.boxes.lows_count, boxes.ready.boxes.caps_count)
 
-pub invariant_of-stated-clause-each : goal.invariant_of-stated-clause-each
-invariant_of-stated-clause-each c =
+pub invariant_of-stated : goal.invariant_of-stated
+invariant_of-stated c =
     let boxes = c.args.boxes.now in
     let net : Network = network boxes.net.whole.now in
+    let units = c.deref-2.ensures.value ∙ c.in_ok-plan.ensures.units in
     let raised : length c.deref.result.now ≡ length net.arcs =
     ap length (c.deref.ensures.value ∙ c.in_ok-raised.ensures) ∙ (ups_length boxes.step boxes.lows.now
     c.args.x2.now (sym c.requires.inside.count) ∙ boxes.ready.boxes.lows_count) in
-    ap length (c.deref-2.ensures.value ∙ c.in_ok-plan.ensures.units)
-    ∙ (states_long net boxes.step net.arcs boxes.lows.now boxes.caps.now c.deref.result.now boxes.ready.boxes.lows_count
-    boxes.ready.boxes.caps_count raised ∙ sym (ap length (c.deref-3.ensures.value ∙ c.in_ok-ons.ensures)))
-
-pub invariant_of-stated-clause-few : goal.invariant_of-stated-clause-few
-invariant_of-stated-clause-few c =
-    omega (arith, ap length (c.deref-2.ensures.value ∙ c.in_ok-plan.ensures.units), c.args.boxes.now.ready.few)
-
-pub invariant_of-stated-clause-at : goal.invariant_of-stated-clause-at
-invariant_of-stated-clause-at c = rw (c.deref-2.ensures.value, c.in_ok-plan.ensures.units) c.args.boxes.now.ready.at
+    record {
+      at = rw units boxes.ready.at;
+      each = ap length units ∙ (states_long net boxes.step net.arcs boxes.lows.now boxes.caps.now c.deref.result.now
+          boxes.ready.boxes.lows_count boxes.ready.boxes.caps_count raised
+          ∙ sym (ap length (c.deref-3.ensures.value ∙ c.in_ok-ons.ensures)));
+      few = omega (arith, ap length units, boxes.ready.few);
+    }
 
 pub invariant_of-laid-clause-few : goal.invariant_of-laid-clause-few
-invariant_of-laid-clause-few c =
-    rw c.deref-4.ensures.value (plan_few c.args.boxes.now.ready c.in_ok-plan.ensures).1
+invariant_of-laid-clause-few c = rw c.deref-4.ensures.value (plan_few c.args.boxes.now.ready c.in_ok-plan.ensures).1
 
 pub invariant_of-laid-clause-at : goal.invariant_of-laid-clause-at
 invariant_of-laid-clause-at c = rw (c.deref-4.ensures.value, c.deref-2.ensures.value)

@@ -1,6 +1,6 @@
 use Rattle.std.proofs.{Common.◌≡◌, Common.◌-◌, Common.length, Common.◌∙◌, Common.sym, Common.ap, lemmas.List.length-map}
 use Rattle.def_flow.specs.Network.{network}
-use Rattle.qm_gadget.proofs.ByLows.{states_long}
+use Rattle.qm_gadget.proofs.Fans.{states_long}
 use Rattle.qm_gadget.proofs.plan.plan_of.Goals as goal
 
 pub invariant_of-stated-clause-each : goal.invariant_of-stated-clause-each

@@ -1,10 +1,7 @@
-use Rattle.std.proofs.Common.{◌+◌, false, None, pos, drop, arith}
-use Rattle.def_flow.specs.{declared.units.ArcUnit.ArcUnit, Units.rim_active}
-use Rattle.qm_gadget.proofs.NodeCounts.{rim_step, differ_parity}
+use Rattle.std.proofs.Common.{◌+◌, false, drop, arith}
+use Rattle.def_flow.specs.Units.{rim_active}
+use Rattle.qm_gadget.proofs.NodeCounts.{no_unit, step_of, differ_parity}
 use Rattle.qm_gadget.proofs.states.is_rim_odd.Goals as goal
-
-abbrev no_unit : ArcUnit
-no_unit = record { left = record { node = 0; plus = false }; right = None; cost = pos 0 }
 
 pub loop-k-preserved : goal.loop-k-preserved
 loop-k-preserved c = omega (
@@ -13,6 +10,6 @@ loop-k-preserved c = omega (
   differ_parity c.loop-k.odd c.is_rim_active-odd.result (rim_active (drop (c.loop-k.k + 1) c.args.stated.now.units.now)
       (drop (c.loop-k.k + 1) c.args.stated.now.ons.now)),
   c.is_rim_active-odd.ensures,
-  rim_step c.args.stated.now.units.now c.args.stated.now.ons.now c.loop-k.k no_unit false c.loop-k-test.true
+  step_of rim_active c.args.stated.now.units.now c.args.stated.now.ons.now c.loop-k.k no_unit false c.loop-k-test.true
       c.args.stated.now.each,
 )
