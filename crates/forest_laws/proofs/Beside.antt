@@ -1,5 +1,5 @@
 -- What stays where only a set of weight 0 holds other vertices and has other parts than before.
-use Rattle.std.proofs.Common.{◌≡◌, ◌≢◌, ℕ, zero, suc, ◌<◌, ◌≤◌, false, cond, ℤ, pos, ◌⊎◌, refl, sym, ◌∙◌, ap, subst}
+use Rattle.std.proofs.Common.{◌≡◌, ◌≢◌, ℕ, zero, suc, ◌<◌, ◌≤◌, false, cond, ℤ, pos, refl, sym, ◌∙◌, ap, subst}
 use Rattle.std.proofs.Common.{inl, inr, arith}
 use Rattle.std.proofs.lemmas.Bool.{cases_eq}
 use Rattle.sum_laws.proofs.Sums.{total_below_same}
@@ -7,7 +7,7 @@ use Rattle.def_forest.specs.Darts.{Darts, AreDarts, far}
 use Rattle.def_forest.specs.Forests.{Forest, weight_between, splits, IsTight, bool_number, walk, ring_sum}
 use Rattle.def_forest.specs.Opened.{KeepsParts}
 use Rattle.def_forest.specs.Valid.{IsFeasible, IsNested, IsRing, IsJoint}
-use Rattle.forest_laws.proofs.{Writes.by_none, Facts.far_low}
+use Rattle.forest_laws.proofs.{Facts.far_low}
 
 -- Walks and sums along a ring that two tables have in common.
 walk_same : (f h : ℕ → ℕ) (a : ℕ) → ((k : ℕ) → h (walk f a k) ≡ f (walk f a k)) → (k : ℕ) → walk h a k ≡ walk f a k
@@ -37,13 +37,8 @@ module _ {g : Darts} (are : AreDarts g) {f new : Forest} {b : ℕ} (changed : Ch
   same_load u v lu lv =
       let sum : ℕ → ℤ = λ s. weight_between (record new { size = s }) u v in
       ap sum size ∙ total_below_same (λ x. cond (splits (new.holds x) u v) (new.weight x) (pos 0))
-      (λ x. cond (splits (f.holds x) u v) (f.weight x) (pos 0)) f.size (λ x l. each x (cases_eq x b))
-    where
-      each : (x : ℕ) → (x ≡ b) ⊎ (x ≢ b) → cond (splits (new.holds x) u v) (new.weight x) (pos 0)
-          ≡ cond (splits (f.holds x) u v) (f.weight x) (pos 0)
-      each x (inl e) = rw (weight x, e, changed.weightless)
-          (by_none (splits (new.holds b) u v) ∙ sym (by_none (splits (f.holds b) u v)))
-      each x (inr ne) = rw (weight x, holds x u ne lu, holds x v ne lv) refl
+      (λ x. cond (splits (f.holds x) u v) (f.weight x) (pos 0)) f.size
+      (λ x l. grind (arith, weight x, changed.weightless, holds x u, holds x v))
 
   pub same_tight : {d : ℕ} → IsTight g f d → IsTight g new d
   same_tight {d} tight = record {
@@ -122,14 +117,9 @@ module _ {g : Darts} (are : AreDarts g) {f new : Forest} {b : ℕ} (changed : Ch
       | inl e ↦ rw e (ring_b (rw e at live))
       | inr ne ↦ ring_old c ne (nested.rings c high (λ none. live ((sets c ne).many ∙ none)))
     ];
-    empty = λ c v high low none. elim (cases_eq c b) [
-      | inl e ↦ rw e (empty_b v low (ap new.nest.parts (sym e) ∙ none))
-      | inr ne ↦ holds c v ne low ∙ nested.empty c v high low (sym (sets c ne).many ∙ none)
-    ];
-    weightless = λ c high none. elim (cases_eq c b) [
-      | inl e ↦ weight c ∙ ap f.weight e ∙ changed.weightless
-      | inr ne ↦ weight c ∙ nested.weightless c high (sym (sets c ne).many ∙ none)
-    ];
+    empty = λ c v high low none.
+        grind (arith, empty_b v low, holds c v, nested.empty c v, λ (ne : c ≢ b). (sets c ne).many);
+    weightless = λ c high none. grind (arith, weight c, nested.weightless c, λ (ne : c ≢ b). (sets c ne).many);
     live = live;
     joints = joints;
   }

@@ -1,7 +1,7 @@
 -- The dual of a valid forest bounds each perfect matching.
-use Rattle.std.proofs.Common.{◌≡◌, ℕ, ◌+◌, ◌*◌, ◌<◌, ◌≤◌, Bool, true, false, not, cond, eqb, List, [], ◌∷◌, map}
+use Rattle.std.proofs.Common.{◌≡◌, ℕ, ◌+◌, ◌*◌, ◌<◌, ◌≤◌, Bool, true, not, cond, eqb, List, [], ◌∷◌, map}
 use Rattle.std.proofs.lemmas.Int.{ints}
-use Rattle.std.proofs.lemmas.Bool.{cases_Bool, cases_eq, cases_lt, eq-eqb, ne_eqb, eqb-true}
+use Rattle.std.proofs.lemmas.Bool.{cases_eq, cases_lt, eqb-true}
 use Rattle.std.proofs.Common.{length, ℤ, pos, ◌+ℤ◌, ◌*ℤ◌, ◌≤ℤ◌, refl, sym, ◌∙◌, inl, inr, arith}
 use Rattle.def_math.specs.{Counts.count, Increasing.IsIncreasing, Sums.total}
 use Rattle.sum_laws.proofs.Sums.{total_below_le, two_orders}
@@ -14,34 +14,22 @@ use Rattle.forest_laws.proofs.{Graphs.are_darts, Graphs.dart_near, Graphs.dart_f
 
 -- A test of two numbers, in either order.
 pub eqb_order : (a b : ℕ) → eqb a b ≡ eqb b a
-eqb_order a b = elim (cases_eq a b) [
-  | inl e ↦ eq-eqb a b e ∙ sym (eq-eqb b a (sym e))
-  | inr ne ↦ ne_eqb a b ne ∙ sym (ne_eqb b a (λ e. ne (sym e)))
-]
+eqb_order a b = grind arith
 
 -- One of two that are not both.
 one_of : (p q : Bool) → (p ≡ true → q ≡ true → ⊥) → ◌≡◌ {A = ℕ} (cond (cond p (not q) q) 1 0) (cond p 1 0 + cond q 1 0)
-one_of true true off = absurd (off refl refl)
-one_of true false off = refl
-one_of false true off = refl
-one_of false false off = refl
+one_of p q off = grind arith
 
 -- A number that counts just once along a list is the sum.
 once_sum : (s : ℕ → Bool) (z : ℤ) (es : List WEdge) → count (λ (e : WEdge). cond (crosses s e) 1 0) es ≡ 0
     → total (λ (e : WEdge). cond (crosses s e) z (pos 0)) es ≡ pos 0
 once_sum s z [] none = refl
-once_sum s z (e ∷ es) none = elim (cases_Bool (crosses s e)) [
-  | inl on ↦ (let one = rw on at none in absurd (omega arith))
-  | inr off ↦ (let rest = rw off at none in rw off (omega (arith, ints, once_sum s z es (omega arith))))
-]
+once_sum s z (e ∷ es) none = grind (arith, ints, once_sum s z es)
 
 pub just_once : (s : ℕ → Bool) (z : ℤ) (es : List WEdge) → count (λ (e : WEdge). cond (crosses s e) 1 0) es ≡ 1
     → total (λ (e : WEdge). cond (crosses s e) z (pos 0)) es ≡ z
 just_once s z [] one = absurd (omega arith)
-just_once s z (e ∷ es) one = elim (cases_Bool (crosses s e)) [
-  | inl on ↦ (let rest = rw on at one in rw on (omega (arith, ints, once_sum s z es (omega arith))))
-  | inr off ↦ (let rest = rw off at one in rw off (omega (arith, ints, just_once s z es (omega arith))))
-]
+just_once s z (e ∷ es) one = grind (arith, ints, just_once s z es, once_sum s z es)
 
 module _ {g : WeightedGraph} (is : IsGraph g) {f : Forest} (vertices : g.n ≤ f.size)
     (nested : IsNested (darts_of g) f) where
@@ -93,7 +81,4 @@ module _ {g : WeightedGraph} (is : IsGraph g) {f : Forest} (vertices : g.n ≤ f
         unused : (b : ℕ) → f.weight b ≡ pos 0 → (es : List WEdge)
             → f.weight b ≤ℤ total (λ (e : WEdge). cond (crosses (f.holds b) e) (f.weight b) (pos 0)) es
         unused b z [] = omega (arith, ints)
-        unused b z (e ∷ es) = elim (cases_Bool (crosses (f.holds b) e)) [
-          | inl on ↦ rw on (omega (arith, ints, unused b z es))
-          | inr off ↦ rw off (omega (arith, ints, unused b z es))
-        ]
+        unused b z (e ∷ es) = grind (arith, ints, unused b z es)

@@ -1,8 +1,8 @@
 -- What follows at once from a forest's validity.
-use Rattle.std.proofs.Common.{◌≡◌, ◌≢◌, ℕ, ◌<◌, Option, Some, ◌+ℤ◌, sym, ◌∙◌, ap, inl, inr}
+use Rattle.std.proofs.Common.{◌≡◌, ◌≢◌, ℕ, ◌<◌, Option, Some, None, ◌+ℤ◌, sym, ◌∙◌, ap, inl, inr}
 use Rattle.def_forest.specs.Darts.{Darts, AreDarts, far}
 use Rattle.def_forest.specs.Forests.{Forest, weight_between, IsTight}
-use Rattle.def_forest.specs.Valid.{IsValid, IsTree}
+use Rattle.def_forest.specs.Valid.{AreOutermost, IsFeasible, IsMatched, IsNested, IsTree, IsValid, KeepsOutside}
 use Rattle.def_forest.specs.declared.kinds.Label.TheVariants.{Outer, Inner, Outside}
 use Rattle.forest_laws.proofs.{Writes.some_is, Writes.option_cases, Loads.load_order}
 
@@ -21,6 +21,15 @@ tight_twin {g} are {f} {d} tight = record {
   exact = ap (weight_between f (far g d)) (far_twin are d)
       ∙ (load_order f (far g d) (g.near d) ∙ (tight.exact ∙ sym (ap (λ x. x +ℤ x) (are.cost_twin d))));
 }
+
+-- A forest with a tree is valid where all its parts are in order.
+pub tree_valid : {g : Darts} {f : Forest} {r : ℕ} → AreOutermost g.n f → IsNested g f → IsFeasible g f → IsMatched g f
+    → IsTree g f r → KeepsOutside g f → IsValid g f (Some r)
+tree_valid {g} {f} {r} outermost nested feasible matched tree outside =
+    let trees : (x : ℕ) → ◌≡◌ {A = Option ℕ} (Some r) (Some x) → IsTree g f x =
+    λ x e. rw (← some_is r x e) tree in
+    let none : ◌≡◌ {A = Option ℕ} (Some r) None → (b : ℕ) → f.label b ≡ Outside = λ e. absurd cc in
+    assumption
 
 module _ {g : Darts} (are : AreDarts g) {f : Forest} {root : Option ℕ} (valid : IsValid g f root) where
   -- Where a blossom has a place in the tree there is one.

@@ -1,7 +1,7 @@
 -- The darts of a graph are darts: they come in pairs and begin at vertices.
 use Rattle.std.proofs.Common.{◌≡◌, ◌≢◌, ℕ, ◌+◌, ◌-◌, ◌*◌, ◌/◌, ◌%◌, eqb, refl, ◌∙◌, ap}
-use Rattle.std.proofs.Common.{inl, inr, arith}
-use Rattle.std.proofs.lemmas.Bool.{cases_eq, cond-true, cond-false, eq-eqb, ne_eqb}
+use Rattle.std.proofs.Common.{arith}
+use Rattle.std.proofs.lemmas.Bool.{cond-true, cond-false, eq-eqb, ne_eqb}
 use Rattle.def_matching.specs.Matching.{WeightedGraph, IsGraph, edge_at}
 use Rattle.def_forest.specs.Darts.{AreDarts, darts_of, other_dart, far}
 
@@ -13,16 +13,10 @@ pub twin_odd : (d : ℕ) → d % 2 ≢ 0 → other_dart d ≡ d - 1
 twin_odd d ne = cond-false (eqb (d % 2) 0) (d + 1) (d - 1) (ne_eqb (d % 2) 0 ne)
 
 pub near_even : (g : WeightedGraph) (d k : ℕ) → d ≡ 2 * k → (darts_of g).near d ≡ (edge_at g k).u
-near_even g d k e =
-    let half : d / 2 ≡ k = omega arith in
-    cond-true (eqb (d % 2) 0) (edge_at g (d / 2)).u (edge_at g (d / 2)).v (eq-eqb (d % 2) 0 (omega arith))
-    ∙ ap (λ j. (edge_at g j).u) half
+near_even g d k e = grind arith
 
 pub near_odd : (g : WeightedGraph) (d k : ℕ) → d ≡ 2 * k + 1 → (darts_of g).near d ≡ (edge_at g k).v
-near_odd g d k e =
-    let half : d / 2 ≡ k = omega arith in
-    cond-false (eqb (d % 2) 0) (edge_at g (d / 2)).u (edge_at g (d / 2)).v
-    (ne_eqb (d % 2) 0 (λ x. absurd (omega arith))) ∙ ap (λ j. (edge_at g j).v) half
+near_odd g d k e = grind arith
 
 -- An edge's first dart goes from its one end to the other.
 pub dart_near : (g : WeightedGraph) (k : ℕ) → (darts_of g).near (2 * k) ≡ (edge_at g k).u
@@ -35,21 +29,4 @@ pub dart_cost : (g : WeightedGraph) (k : ℕ) → (darts_of g).cost (2 * k) ≡ 
 dart_cost g k = let half : (2 * k) / 2 ≡ k = omega arith in ap (λ j. (edge_at g j).cost) half
 
 pub are_darts : {g : WeightedGraph} → IsGraph g → AreDarts (darts_of g)
-are_darts {g} is = record {
-  near_low = λ d l. elim (cases_eq (d % 2) 0) [
-    | inl e ↦ rw (near_even g d (d / 2) (omega arith)) (is.left (d / 2) (omega arith))
-    | inr ne ↦ rw (near_odd g d (d / 2) (omega arith)) (is.right (d / 2) (omega arith))
-  ];
-  twin_low = λ d l. elim (cases_eq (d % 2) 0) [
-    | inl e ↦ rw (twin_even d e) (omega arith)
-    | inr ne ↦ rw (twin_odd d ne) (omega arith)
-  ];
-  twin_twin = λ d. elim (cases_eq (d % 2) 0) [
-    | inl e ↦ ap other_dart (twin_even d e) ∙ twin_odd (d + 1) (λ x. absurd (omega arith)) ∙ omega arith
-    | inr ne ↦ ap other_dart (twin_odd d ne) ∙ twin_even (d - 1) (omega arith) ∙ omega arith
-  ];
-  cost_twin = λ d. elim (cases_eq (d % 2) 0) [
-    | inl e ↦ (let half : (d + 1) / 2 ≡ d / 2 = omega arith in rw (twin_even d e, half))
-    | inr ne ↦ (let half : (d - 1) / 2 ≡ d / 2 = omega arith in rw (twin_odd d ne, half))
-  ];
-}
+are_darts is = grind (arith, is.left, is.right)

@@ -8,8 +8,8 @@ use Rattle.def_forest.specs.Valid.{AreOutermost, IsNested, IsJoint, IsFeasible}
 use Rattle.def_forest.specs.Valid.{IsMatched, IsMate, IsTree, IsInner, IsValid}
 use Rattle.def_forest.specs.{Valid.KeepsOutside, declared.kinds.Label.Label, declared.kinds.Label.TheVariants.Outer}
 use Rattle.def_forest.specs.declared.kinds.Label.TheVariants.{Inner, Outside}
-use Rattle.forest_laws.proofs.Writes.{some_is, set_here, set_there, inner_named, outer_named}
-use Rattle.forest_laws.proofs.Facts.{far_low, far_twin, tight_twin}
+use Rattle.forest_laws.proofs.Writes.{set_here, set_there, inner_named, outer_named}
+use Rattle.forest_laws.proofs.Facts.{far_low, far_twin, tight_twin, tree_valid}
 
 -- Only weights, labels, mates and links differ.
 abbrev pub replaced : (f : Forest) (weight : ℕ → ℤ) (label : ℕ → Label) (mate : ℕ → Option ℕ) (link : ℕ → ℕ) → Forest
@@ -33,14 +33,7 @@ module _ {g : Darts} {f : Forest} {weight : ℕ → ℤ} {label : ℕ → Label}
 pub same_outermost : {n : ℕ} {f : Forest} {weight : ℕ → ℤ} {label : ℕ → Label} {mate : ℕ → Option ℕ} {link : ℕ → ℕ}
     → AreOutermost n f → ((b : ℕ) → label b ≢ Outside → IsOutermost n f b)
     → AreOutermost n (replaced f weight label mate link)
-same_outermost top named = record {
-  vertices = top.vertices;
-  out_low = top.out_low;
-  held = top.held;
-  tops = top.tops;
-  together = top.together;
-  named = named;
-}
+same_outermost top named = assumption
 
 -- Only labels, mates and links differ.
 module _ {g : Darts} {f : Forest} {label : ℕ → Label} {mate : ℕ → Option ℕ} {link : ℕ → ℕ} where
@@ -61,46 +54,22 @@ own_matched matched b d is = let x = matched b d is in
 
 module _ {g : Darts} (are : AreDarts g) {f : Forest} (valid : IsValid g f None) (b : ℕ)
     (outermost : IsOutermost g.n f b) (free : f.mate b ≡ None) where
-  abbrev labels_rooted : ℕ → Label
-  labels_rooted = set_at f.label b Outer
-
-  -- Only b has a label, that of the root.
-  data RootPlace (x : ℕ) : Type 0 where
-    at_root : x ≡ b → labels_rooted x ≡ Outer → RootPlace x
-    elsewhere : labels_rooted x ≡ Outside → RootPlace x
-
-  root_place : (x : ℕ) → RootPlace x
-  root_place x = elim (cases_eq x b) [
-    | inl e ↦ at_root e (ap labels_rooted e ∙ set_here f.label b Outer)
-    | inr ne ↦ elsewhere (set_there f.label b x Outer ne ∙ valid.no_tree refl x)
-  ]
-
   rooted_tree : IsTree g (rooted f b) b
   rooted_tree = record {
     depth = λ x. 0;
     root_outer = set_here f.label b Outer;
     root_free = free;
-    inner = λ x l. elim (root_place x) [ at_root e on ↦ absurd cc | elsewhere off ↦ absurd cc ];
-    outer = λ x l. elim (root_place x) [ at_root e on ↦ inl e | elsewhere off ↦ absurd cc ];
+    inner = λ x l. absurd (grind (arith, valid.no_tree refl x));
+    outer = λ x l. inl (grind (arith, valid.no_tree refl x));
   }
 
   -- Where no tree stands, a blossom that is not matched may become the root.
   pub rooted_valid : IsValid g (rooted f b) (Some b)
-  rooted_valid = record {
-    outermost = same_outermost valid.outermost (λ x some. elim (root_place x) [
-      | at_root e on ↦ rw e outermost
-      | elsewhere off ↦ absurd (some off)
-    ]);
-    nested = same_nested valid.nested;
-    feasible = same_feasible valid.feasible;
-    matched = own_matched valid.matched;
-    tree = λ r e. rw (← some_is b r e) rooted_tree;
-    no_tree = λ e. absurd cc;
-    outside = λ x d _ mate. elim (root_place (f.out (far g d))) [
-      | at_root e on ↦ absurd (cc ((valid.matched x d mate).back, free))
-      | elsewhere off ↦ off
-    ];
-  }
+  rooted_valid = tree_valid (same_outermost valid.outermost (λ x some. elim (cases_eq x b) [
+    | inl e ↦ rw e outermost
+    | inr ne ↦ absurd (some (set_there f.label b x Outer ne ∙ valid.no_tree refl x))
+  ])) (same_nested valid.nested) (same_feasible valid.feasible) (own_matched valid.matched) rooted_tree
+      (λ x d _ mate. grind (arith, (valid.matched x d mate).back, valid.no_tree refl (f.out (far g d))))
 
 module _ (g : Darts) (are : AreDarts g) (f : Forest) (r : ℕ) (valid : IsValid g f (Some r)) (d m : ℕ)
     (reach : Reaches g f d) (mate : f.mate (f.out (far g d)) ≡ Some m) where
@@ -116,9 +85,6 @@ module _ (g : Darts) (are : AreDarts g) (f : Forest) (r : ℕ) (valid : IsValid 
 
   pair : IsMate g f inn m
   pair = valid.matched inn m mate
-
-  outer_off : f.label outer ≡ Outside
-  outer_off = valid.outside inn m reach.off mate
 
   -- What stands in a table with new values at the two: at the outer one, the inner one, and any other.
   module _ {X : Type 0} (table : ℕ → X) (at_inn at_outer : X) where
@@ -138,7 +104,8 @@ module _ (g : Darts) (are : AreDarts g) (f : Forest) (r : ℕ) (valid : IsValid 
     -- A blossom with a place in the tree already is none of the two.
     renewed_named : (x : ℕ) → f.label x ≢ Outside → renewed x ≡ table x
     renewed_named x named =
-        renewed_other x (λ e. named (ap f.label e ∙ reach.off)) (λ e. named (ap f.label e ∙ outer_off))
+        renewed_other x (λ e. named (ap f.label e ∙ reach.off))
+        (λ e. named (ap f.label e ∙ valid.outside inn m reach.off mate))
 
   abbrev labels : ℕ → Label
   labels = renewed f.label Inner Outer
@@ -161,16 +128,10 @@ module _ (g : Darts) (are : AreDarts g) (f : Forest) (r : ℕ) (valid : IsValid 
   ]
 
   outside : KeepsOutside g (grown g f d m)
-  outside x e l is = elim (place x) [
-    | is_outer at label ↦ absurd cc
-    | is_inner at label ↦ absurd cc
-    | is_other ni nu same ↦ (let mine = valid.matched x e is in
-        elim (place (f.out (far g e))) [
-          | is_outer at label ↦ absurd (ni (cc (pair.here, pair.back, are.twin_twin e, are.twin_twin m)))
-          | is_inner at label ↦ absurd (nu (cc (mate, are.twin_twin e)))
-          | is_other _ _ kept ↦ kept ∙ valid.outside x e (sym same ∙ l) is
-        ])
-  ]
+  outside x e l is = (let here = place x in
+      let there = place (f.out (far g e)) in
+      let mine = valid.matched x e is in
+      grind (arith, pair.here, pair.back, mate, are.twin_twin e, are.twin_twin m, valid.outside x e))
 
   module _ (tree : IsTree g f r) where
     abbrev deeper : ℕ
@@ -239,16 +200,9 @@ module _ (g : Darts) (are : AreDarts g) (f : Forest) (r : ℕ) (valid : IsValid 
 
   -- A tree that grows along a tight dart to a matched blossom outside keeps the forest valid.
   pub grown_valid : IsValid g (grown g f d m) (Some r)
-  grown_valid = record {
-    outermost = same_outermost valid.outermost (λ x is. elim (place x) [
-      | is_outer e _ ↦ (far g m, far_low g are m pair.tight.low, sym e)
-      | is_inner e _ ↦ (far g d, far_low g are d reach.tight.low, sym e)
-      | is_other _ _ same ↦ valid.outermost.named x (λ off. is (same ∙ off))
-    ]);
-    nested = same_nested valid.nested;
-    feasible = same_feasible valid.feasible;
-    matched = own_matched valid.matched;
-    tree = λ x e. rw (← some_is r x e) (grown_tree (valid.tree r refl));
-    no_tree = λ e. absurd cc;
-    outside = outside;
-  }
+  grown_valid = tree_valid (same_outermost valid.outermost (λ x is. elim (place x) [
+    | is_outer e _ ↦ (far g m, far_low g are m pair.tight.low, sym e)
+    | is_inner e _ ↦ (far g d, far_low g are d reach.tight.low, sym e)
+    | is_other _ _ same ↦ valid.outermost.named x (λ off. is (same ∙ off))
+  ])) (same_nested valid.nested) (same_feasible valid.feasible) (own_matched valid.matched)
+      (grown_tree (valid.tree r refl)) outside

@@ -1,16 +1,18 @@
--- Climbing the tree one blossom at a time: each step brings one a level nearer to the root.
+-- Climbing the tree one blossom at a time: each step brings one a level nearer to the root, and so climbing ends.
 use Rattle.std.proofs.Common.{◌≡◌, ◌≢◌, ℕ, zero, suc, ◌+◌, ◌-◌, ◌*◌, ◌<◌, ◌≤◌, Some, None, ◌⊎◌, refl, sym, ◌∙◌}
 use Rattle.std.proofs.Common.{ap, subst, inl, inr, arith}
+use Rattle.std.proofs.lemmas.Bool.{lt-ltb, le-ltb}
+use Rattle.std.specs.Prelude.{nat_lt}
+use Rattle.def_math.specs.Counts.{count_below}
+use Rattle.sum_laws.proofs.{Counts.count_below_le, Counts.count_below_lt, Counts.count_below_ones}
+use Rattle.sum_laws.proofs.Tests.{once_at_most}
 use Rattle.def_forest.specs.{Darts.Darts, Darts.AreDarts, Darts.far, Forests.Forest, Forests.IsTight, Valid.IsValid}
-use Rattle.def_forest.specs.{Valid.IsTree, Ways.dart_or, Ways.inner_of}
+use Rattle.def_forest.specs.{Forests.bool_number, Valid.IsInner, Valid.IsTree, Ways.dart_or, Ways.inner_of}
 use Rattle.def_forest.specs.{Ways.parent_of, Ways.steps_by, Ways.steps, declared.kinds.Label.Label}
-use Rattle.def_forest.specs.declared.kinds.Label.TheVariants.{Outer, Inner}
-use Rattle.def_forest.specs.declared.kinds.Label.TheVariants.{Outside}
+use Rattle.def_forest.specs.declared.kinds.Label.TheVariants.{Outer, Inner, Outside}
 use Rattle.forest_laws.specs.Climbing.{rise_of, above_of, level_of, way_of}
-use Rattle.forest_laws.proofs.{Writes.some_is, Writes.option_cases, Writes.label_is, Writes.inner_named}
-use Rattle.forest_laws.proofs.{Writes.outer_named, Facts.far_twin, Climbs.fewer_steps, Climbs.inner_is}
-use Rattle.forest_laws.proofs.{Climbs.inner_label}
-use Rattle.forest_laws.proofs.Climbs.{inner_back, inner_depth, steps_low}
+use Rattle.forest_laws.proofs.{Writes.some_is, Writes.option_cases}
+use Rattle.forest_laws.proofs.{Writes.outer_named, Facts.far_twin, Facts.named_low, Facts.outer_mate}
 
 -- A blossom of the tree is outer or inner.
 pub tree_cases : (l : Label) → l ≢ Outside → (l ≡ Outer) ⊎ (l ≡ Inner)
@@ -18,7 +20,65 @@ tree_cases Outer named = inl refl
 tree_cases Inner named = inr refl
 tree_cases Outside named = absurd (named refl)
 
+-- What is less than a number is less than a greater one.
+less_more : (x : ℕ) {p a : ℕ} → p < a → bool_number (nat_lt x p) ≤ bool_number (nat_lt x a)
+less_more x {p} {a} l = grind arith
+
 module _ {g : Darts} (are : AreDarts g) {f : Forest} {r : ℕ} (valid : IsValid g f (Some r)) (tree : IsTree g f r) where
+  -- The inner blossom that an outer one is matched to.
+  module _ (a d : ℕ) (outer : f.label a ≡ Outer) (mate : f.mate a ≡ Some d) where
+    pub inner_is : inner_of g f a ≡ f.out (far g d)
+    inner_is = ap (λ o. f.out (far g (dart_or o))) mate
+
+    inner_label : f.label (inner_of g f a) ≡ Inner
+    inner_label = ap f.label inner_is ∙ outer_mate are valid a d outer mate
+
+    inner_tree : IsInner g f tree.depth (inner_of g f a)
+    inner_tree = tree.inner (inner_of g f a) inner_label
+
+    inner_back : f.mate (inner_of g f a) ≡ Some (g.twin d)
+    inner_back = ap f.mate inner_is ∙ (valid.matched a d mate).back
+
+    inner_depth : tree.depth (inner_of g f a) ≡ tree.depth a
+    inner_depth =
+        cc (inner_tree.same, inner_tree.mate, inner_back, (valid.matched a d mate).here, are.twin_twin d)
+
+  -- How many blossoms are nearer to the root.
+  abbrev nearer_to : ℕ → ℕ → ℕ
+  nearer_to a b = bool_number (nat_lt (tree.depth b) (tree.depth a))
+
+  abbrev nearer : ℕ → ℕ
+  nearer a = count_below (nearer_to a) f.size
+
+  nearer_falls : (a d : ℕ) → f.label a ≡ Outer → f.mate a ≡ Some d → nearer (parent_of g f a) < nearer a
+  nearer_falls a d outer mate =
+      let p = parent_of g f a in
+      let is = inner_tree a d outer mate in
+      let less : tree.depth p < tree.depth a = omega (arith, is.nearer, inner_depth a d outer mate) in
+      count_below_lt (nearer_to p) (nearer_to a) f.size p (named_low are valid (outer_named is.above))
+      (λ b lb. less_more (tree.depth b) less)
+      (rw (le-ltb (tree.depth p) (tree.depth p) (omega arith), lt-ltb (tree.depth p) (tree.depth a) less) (omega arith))
+
+  -- More steps than there are blossoms change nothing.
+  enough : (k a : ℕ) → f.label a ≡ Outer → nearer a < k → steps g f (suc k) a ≡ steps g f k a
+  enough zero a outer l = absurd (omega arith)
+  enough (suc k) a outer l = elim (option_cases (f.mate a)) [
+    | inl e ↦ rw e
+    | inr w ↦ ap (steps_by (f.mate a)) (enough k (parent_of g f a) (inner_tree a w.0 outer w.1).above
+        (omega (arith, nearer_falls a w.0 outer w.1)))
+  ]
+
+  -- The parent has one step less to the root.
+  pub fewer_steps : (a d : ℕ) → f.label a ≡ Outer → f.mate a ≡ Some d → steps g f (f.size + 1) a
+      ≡ suc (steps g f (f.size + 1) (parent_of g f a))
+  fewer_steps a d outer mate =
+      let few = count_below_le (nearer_to a) (λ b. 1) f.size
+      (λ b l. once_at_most (nat_lt (tree.depth b) (tree.depth a))) in
+      let more = enough f.size (parent_of g f a) (inner_tree a d outer mate).above
+      (omega (arith, nearer_falls a d outer mate, count_below_ones f.size)) in
+      let one : f.size + 1 ≡ suc f.size = omega arith in
+      rw one (ap (λ o. steps_by o (steps g f f.size (parent_of g f a))) mate ∙ ap suc (sym more))
+
   abbrev level : ℕ → ℕ
   level = level_of g f
 
@@ -28,17 +88,13 @@ module _ {g : Darts} (are : AreDarts g) {f : Forest} {r : ℕ} (valid : IsValid 
   abbrev way : ℕ → ℕ → ℕ
   way = way_of g f
 
-  outer_rise : (b : ℕ) → f.label b ≡ Outer → rise_of f b ≡ f.mate b
-  outer_rise b e = rw e
+  -- The dart up from an outer blossom and its level, and those of an inner one.
+  at_outer : (b : ℕ) → f.label b ≡ Outer → (rise_of f b ≡ f.mate b) × (level b ≡ 2 * steps g f (f.size + 1) b)
+  at_outer b e = (rw e, rw e)
 
-  inner_rise : (b : ℕ) → f.label b ≡ Inner → rise_of f b ≡ Some (f.link b)
-  inner_rise b e = rw e
-
-  outer_level : (b : ℕ) → f.label b ≡ Outer → level b ≡ 2 * steps g f (f.size + 1) b
-  outer_level b e = rw e
-
-  inner_level : (b : ℕ) → f.label b ≡ Inner → level b ≡ 2 * steps g f (f.size + 1) (inner_of g f b) - 1
-  inner_level b e = rw e
+  at_inner : (b : ℕ) → f.label b ≡ Inner → (rise_of f b ≡ Some (f.link b))
+      × (level b ≡ 2 * steps g f (f.size + 1) (inner_of g f b) - 1)
+  at_inner b e = (rw e, rw e)
 
   above_is : (b d : ℕ) → rise_of f b ≡ Some d → above b ≡ f.out (far g d)
   above_is b d e = ap (λ o. f.out (far g (dart_or o))) e
@@ -54,77 +110,47 @@ module _ {g : Darts} (are : AreDarts g) {f : Forest} {r : ℕ} (valid : IsValid 
 
   step_outer : (b d : ℕ) → f.label b ≡ Outer → f.mate b ≡ Some d → IsStep b d
   step_outer b d outer mate =
-      let up : above b ≡ inner_of g f b =
-      above_is b d (outer_rise b outer ∙ mate) ∙ sym (inner_is are valid tree b d outer mate) in
-      let label = inner_label are valid tree b d outer mate in
+      let there = above_is b d ((at_outer b outer).0 ∙ mate) in
+      let up : above b ≡ inner_of g f b = there ∙ sym (inner_is b d outer mate) in
+      let label = inner_label b d outer mate in
       let pair = valid.matched b d mate in
-      let back : inner_of g f (inner_of g f b) ≡ b = ap (λ o. f.out (far g (dart_or o)))
-      (inner_back are valid tree b d outer mate) ∙ ap f.out (far_twin are d) ∙ pair.here in
-      record {
-        tight = pair.tight;
-        here = pair.here;
-        there = sym (above_is b d (outer_rise b outer ∙ mate));
-        named = inner_named (ap f.label up ∙ label);
-        lower = omega (
-          arith,
-          outer_level b outer,
-          fewer_steps are valid tree b d outer mate,
-          inner_level (inner_of g f b) label,
-          ap (λ x. 2 * steps g f (f.size + 1) x - 1) back,
-          ap level up,
-        );
-        depth = omega (arith, ap tree.depth up, inner_depth are valid tree b d outer mate);
-      }
-
-  -- The child of an inner blossom.
-  child_of : (b : ℕ) → f.label b ≡ Inner → (d : ℕ) × (f.label (inner_of g f b) ≡ Outer)
-      × (f.mate (inner_of g f b) ≡ Some d) × (f.out (far g d) ≡ b)
-  child_of b label =
-      let is = tree.inner b label in
-      let pair = valid.matched b is.dart is.mate in
-      let same : inner_of g f b ≡ f.out (far g is.dart) = ap (λ o. f.out (far g (dart_or o))) is.mate in (
-        g.twin is.dart,
-        ap f.label same ∙ is.child,
-        ap f.mate same ∙ pair.back,
-        ap f.out (far_twin are is.dart) ∙ pair.here,
-      )
+      let back : inner_of g f (inner_of g f b) ≡ b = ap (λ o. f.out (far g (dart_or o))) (inner_back b d outer mate)
+      ∙ ap f.out (far_twin are d) ∙ pair.here in
+      let rise = at_outer b outer in
+      let fewer = fewer_steps b d outer mate in
+      let lower = at_inner (inner_of g f b) label in
+      let depth = inner_depth b d outer mate in
+      grind arith
 
   step_inner : (b : ℕ) → f.label b ≡ Inner → IsStep b (f.link b)
   step_inner b label =
       let is = tree.inner b label in
-      let c = child_of b label in
-      let up = above_is b (f.link b) (inner_rise b label) in
-      let back : inner_of g f (inner_of g f b) ≡ b = ap (λ o. f.out (far g (dart_or o))) c.2 ∙ c.3 in
+      let pair = valid.matched b is.dart is.mate in
+      let child : inner_of g f b ≡ f.out (far g is.dart) = ap (λ o. f.out (far g (dart_or o))) is.mate in
+      let mate = ap f.mate child ∙ pair.back in
+      let back : inner_of g f (inner_of g f b) ≡ b =
+      ap (λ o. f.out (far g (dart_or o))) mate ∙ ap f.out (far_twin are is.dart) ∙ pair.here in
+      let up = above_is b (f.link b) (at_inner b label).0 in
       let parent : parent_of g f (inner_of g f b) ≡ above b = ap (λ x. f.out (far g (f.link x))) back ∙ sym up in
       let outer : f.label (above b) ≡ Outer = ap f.label up ∙ is.above in
-      let fewer = fewer_steps are valid tree (inner_of g f b) c.0 c.1 c.2 in
-      record {
-        tight = is.tight;
-        here = is.here;
-        there = sym up;
-        named = outer_named outer;
-        lower = omega (arith, inner_level b label, ap (steps g f (f.size + 1)) parent, outer_level (above b) outer);
-        depth = omega (arith, ap tree.depth up);
-      }
+      let fewer = fewer_steps (inner_of g f b) (g.twin is.dart) (ap f.label child ∙ is.child) mate in
+      let lower = at_inner b label in
+      let higher = at_outer (above b) outer in
+      grind arith
 
   -- A step up from a blossom of the tree.
   pub step_up : (b d : ℕ) → f.label b ≢ Outside → rise_of f b ≡ Some d → IsStep b d
   step_up b d named rise = elim (tree_cases (f.label b) named) [
-    | inl outer ↦ step_outer b d outer (sym (outer_rise b outer) ∙ rise)
-    | inr inner ↦ rw (some_is d (f.link b) (sym rise ∙ inner_rise b inner)) (step_inner b inner)
+    | inl outer ↦ step_outer b d outer (sym (at_outer b outer).0 ∙ rise)
+    | inr inner ↦ rw (some_is d (f.link b) (sym rise ∙ (at_inner b inner).0)) (step_inner b inner)
   ]
 
   -- Where there is none one is at the root.
   pub at_root : (b : ℕ) → f.label b ≢ Outside → rise_of f b ≡ None → (b ≡ r) × (level b ≡ 0)
-  at_root b named rise = elim (tree_cases (f.label b) named) [
-    | inl outer ↦ elim (tree.outer b outer) [
-      | inl e ↦ (let one : f.size + 1 ≡ suc f.size = omega arith in
-          let free = ap (λ o. steps_by o (steps g f f.size (parent_of g f b))) (sym (outer_rise b outer) ∙ rise) in
-          (e, omega (arith, outer_level b outer, ap (λ k. steps g f k b) one)))
-      | inr w ↦ absurd (cc (w.1, outer_rise b outer))
-    ]
-    | inr inner ↦ absurd (cc (inner_rise b inner))
-  ]
+  at_root b named rise =
+      let one : f.size + 1 ≡ suc f.size = omega arith in
+      let kind = tree_cases (f.label b) named in
+      grind (arith, at_outer b, at_inner b, tree.outer b)
 
   pub level_zero : (b : ℕ) → f.label b ≢ Outside → level b ≡ 0 → b ≡ r
   level_zero b named e = elim (option_cases (rise_of f b)) [
@@ -139,7 +165,7 @@ module _ {g : Darts} (are : AreDarts g) {f : Forest} {r : ℕ} (valid : IsValid 
   ]
 
   pub root_level : level r ≡ 0
-  root_level = (at_root r (outer_named tree.root_outer) (outer_rise r tree.root_outer ∙ tree.root_free)).1
+  root_level = (at_root r (outer_named tree.root_outer) ((at_outer r tree.root_outer).0 ∙ tree.root_free)).1
 
   -- Along a way the levels fall one by one, and one stays in the tree.
   pub on_way : (a m : ℕ) → f.label a ≢ Outside → m ≤ level a → (f.label (way a m) ≢ Outside)
@@ -167,33 +193,31 @@ module _ {g : Darts} (are : AreDarts g) {f : Forest} {r : ℕ} (valid : IsValid 
   pub way_differs : (a i j : ℕ) → f.label a ≢ Outside → i ≤ level a → j ≤ level a → way a i ≡ way a j → i ≡ j
   way_differs a i j named li lj e = omega (arith, ap level e, (on_way a i named li).1, (on_way a j named lj).1)
 
-  -- What one comes to from an inner blossom is outer, and an inner blossom is come to from what it is matched to.
-  pub above_inner : (b : ℕ) → f.label b ≡ Inner → f.label (above b) ≡ Outer
-  above_inner b inner = ap f.label (above_is b (f.link b) (inner_rise b inner)) ∙ (tree.inner b inner).above
-
+  -- An inner blossom is come to from what it is matched to.
   pub come_from : (b e : ℕ) → f.label b ≢ Outside → 1 ≤ level b → f.label (above b) ≡ Inner → f.mate (above b) ≡ Some e
       → f.out (far g e) ≡ b
   come_from b e named some inner mate = elim (tree_cases (f.label b) named) [
-    | inr low ↦ (let h : ◌≡◌ {A = Label} Outer Inner = sym (above_inner b low) ∙ inner in absurd (cc h))
+    | inr low ↦ absurd (cc (above_is b (f.link b) (at_inner b low).0, (tree.inner b low).above))
     | inl outer ↦ (let d = level_some b named some in
-        let pair = valid.matched b d.0 (sym (outer_rise b outer) ∙ d.1) in
+        let pair = valid.matched b d.0 (sym (at_outer b outer).0 ∙ d.1) in
         let back = ap f.mate (above_is b d.0 d.1) ∙ pair.back in
         ap (λ x. f.out (far g x)) (some_is e (g.twin d.0) (sym mate ∙ back)) ∙ ap f.out (far_twin are d.0) ∙ pair.here)
   ]
 
   -- Levels of outer blossoms are even.
   pub outer_even : (b : ℕ) → f.label b ≡ Outer → (k : ℕ) × (level b ≡ 2 * k)
-  outer_even b outer = (steps g f (f.size + 1) b, outer_level b outer)
+  outer_even b outer = (steps g f (f.size + 1) b, (at_outer b outer).1)
 
   -- The mate of an outer blossom is where one comes to.
   pub outer_above : (b d : ℕ) → f.label b ≡ Outer → f.mate b ≡ Some d → (f.out (far g d) ≡ above b)
       × (level b ≡ suc (level (above b)))
   outer_above b d outer mate = let s = step_outer b d outer mate in (s.there, s.lower)
 
+-- There are no more steps than the bound.
+steps_low : (g : Darts) (f : Forest) (k a : ℕ) → steps g f k a ≤ k
+steps_low g f zero a = omega arith
+steps_low g f (suc k) a = grind (arith, steps_low g f k (parent_of g f a))
+
 -- There are no more levels than twice the numbers of blossoms and two.
 pub level_few : (g : Darts) (f : Forest) (b : ℕ) → level_of g f b ≤ 2 * f.size + 2
-level_few g f b = elim (label_is (f.label b)) [
-  | inl e ↦ rw e (omega (arith, steps_low g f (f.size + 1) b))
-  | inr (inl e) ↦ rw e (omega (arith, steps_low g f (f.size + 1) (inner_of g f b)))
-  | inr (inr e) ↦ rw e (omega arith)
-]
+level_few g f b = grind (arith, steps_low)

@@ -1,7 +1,4 @@
 pub mod Bounds
-pub mod Circles
-pub mod Climbs
-pub mod ExpandedTrees
 pub mod Expands
 pub mod Facts
 pub mod Graphs
@@ -9,14 +6,11 @@ pub mod Grows
 pub mod Loads
 pub mod Odds
 pub mod Parities
-pub mod Rises
 pub mod Beside
 pub mod Shifts
 pub mod Shrinks
-pub mod ShrunkTrees
 pub mod WayLaws
 pub mod Writes
 pub mod Levels
 pub mod Walks
 pub mod Forks
-pub mod Rooms

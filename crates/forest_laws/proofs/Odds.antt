@@ -1,11 +1,15 @@
--- Each blossom holds an odd number of vertices.
-use Rattle.std.proofs.Common.{◌≡◌, ◌≢◌, ℕ, zero, suc, ◌%◌, ◌<◌, ◌≤◌, ◌⊎◌, refl, sym, ◌∙◌, ap, inl, inr, arith}
-use Rattle.std.proofs.lemmas.Bool.{cases_lt, eq-eqb, ne_eqb}
+-- Each blossom holds an odd number of vertices, and there are fewer than half as many sets as vertices: each set has
+-- three parts at least.
+use Rattle.std.proofs.Common.{◌≡◌, ◌≢◌, ℕ, zero, suc, ◌+◌, ◌*◌, ◌%◌, ◌<◌, ◌≤◌, ◌⊎◌, true, cond, eqb, refl, sym, ◌∙◌}
+use Rattle.std.proofs.Common.{ap, inl, inr, arith}
+use Rattle.std.proofs.lemmas.Bool.{cases_eq, cases_lt, eq-eqb, ne_eqb, lt-ltb, le-ltb}
+use Rattle.std.specs.Prelude.{nat_lt}
 use Rattle.def_math.specs.Counts.{count_below}
-use Rattle.sum_laws.proofs.Counts.{count_below_same, count_below_sum, count_below_none, count_below_one}
-use Rattle.def_forest.specs.{Darts.Darts, Darts.AreDarts, Forests.Forest, Forests.bool_number, Forests.walk}
-use Rattle.def_forest.specs.{Forests.ring_sum, Forests.blossom_size, Valid.IsNested, Valid.IsRing, Valid.IsJoint}
-use Rattle.forest_laws.proofs.Writes.{true_false}
+use Rattle.sum_laws.proofs.Counts.{count_below_same, count_below_le, count_below_sum, count_below_none, count_below_one}
+use Rattle.sum_laws.proofs.Counts.{count_below_ones, count_below_times}
+use Rattle.def_forest.specs.{Darts.Darts, Darts.AreDarts, Valid.AreOutermost, Valid.IsNested}
+use Rattle.def_forest.specs.Valid.{IsRing}
+use Rattle.def_forest.specs.Forests.{Forest, blossom_size, bool_number, live_at, ring_sum, sets_of, walk}
 
 -- A count of sums along a ring.
 pub counts_exchanged : (next : ℕ → ℕ) (f : ℕ → ℕ → ℕ) (front n k : ℕ)
@@ -26,26 +30,16 @@ abbrev pub IsBlossom : (g : Darts) (f : Forest) (b : ℕ) → Type 0
 IsBlossom g f b = (b < g.n) ⊎ ((g.n ≤ b) × (f.nest.parts b ≢ 0))
 
 module _ {g : Darts} (are : AreDarts g) {f : Forest} (nested : IsNested g f) where
-  vertex_odd : (b : ℕ) → b < g.n → blossom_size g.n f b ≡ 1
-  vertex_odd b l = count_below_one (λ v. bool_number (f.holds b v)) g.n b l (λ k lk ne. ap bool_number
-      (nested.alone b k l lk ∙ ne_eqb b k (λ e. ne (sym e)))) ∙ ap bool_number (nested.alone b b l l ∙ eq-eqb b b refl)
+  -- What holds a vertex is in use, and so is a part.
+  pub holder_used : {p v : ℕ} → v < g.n → f.holds p v ≡ true → IsBlossom g f p
+  holder_used {p} {v} l on = grind (arith, nested.empty p v)
 
-  -- A part is in use.
   pub part_used : {b : ℕ} → IsRing g f b → (k : ℕ) → IsBlossom g f (walk f.nest.after (f.nest.head b) k)
-  part_used {b} ring k = elim (cases_lt p g.n) [
-    | inl l ↦ inl l
-    | inr h ↦ inr (
-      h,
-      λ none. true_false joint.begins (nested.empty p (g.near (f.nest.joint p)) h
-          (are.near_low (f.nest.joint p) joint.tight.low) none),
-    )
-  ]
-    where
-      p : ℕ
-      p = walk f.nest.after (f.nest.head b) k
-
-      joint : IsJoint g f p
-      joint = nested.joints p (λ e. absurd (omega (arith, ring.lower k, ap f.nest.rank (sym (ring.inside k) ∙ e))))
+  part_used {b} ring k =
+      let p = walk f.nest.after (f.nest.head b) k in
+      let joint = nested.joints p
+      (λ e. absurd (omega (arith, ring.lower k, ap f.nest.rank (sym (ring.inside k) ∙ e)))) in
+      holder_used (are.near_low (f.nest.joint p) joint.tight.low) joint.begins
 
   -- A set has the vertices of its parts.
   set_sum : {b : ℕ} → IsRing g f b → blossom_size g.n f b ≡ ring_sum f.nest.after (blossom_size g.n f) (f.nest.head b)
@@ -54,20 +48,17 @@ module _ {g : Darts} (are : AreDarts g) {f : Forest} (nested : IsNested g f) whe
       (λ v. ring_sum f.nest.after (λ p. bool_number (f.holds p v)) (f.nest.head b) (f.nest.parts b)) g.n ring.shared
       ∙ counts_exchanged f.nest.after (λ p v. bool_number (f.holds p v)) (f.nest.head b) g.n (f.nest.parts b)
 
-  set_odd : {b : ℕ} → IsRing g f b → ((k : ℕ) → blossom_size g.n f (walk f.nest.after (f.nest.head b) k) % 2 ≡ 1)
-      → blossom_size g.n f b % 2 ≡ 1
-  set_odd {b} ring odd =
-      let sum = odd_sum f.nest.after (blossom_size g.n f) (f.nest.head b) (f.nest.parts b) odd in
-      omega (arith, set_sum ring)
-
   odd_below : (fuel b : ℕ) → f.nest.rank b < fuel → IsBlossom g f b → blossom_size g.n f b % 2 ≡ 1
   odd_below zero b l used = absurd (omega arith)
-  odd_below (suc fuel) b l (inl low) = ap (λ x. x % 2) (vertex_odd b low)
+  odd_below (suc fuel) b l (inl low) =
+      let one = count_below_one (λ v. bool_number (f.holds b v)) g.n b low (λ k lk ne. ap bool_number
+      (nested.alone b k low lk ∙ ne_eqb b k (λ e. ne (sym e)))) in
+      omega (arith, ap bool_number (nested.alone b b low low ∙ eq-eqb b b refl))
   odd_below (suc fuel) b l (inr (high, live)) =
-      let by_ring : IsRing g f b → ((p : ℕ) → f.nest.rank p < fuel → IsBlossom g f p → blossom_size g.n f p % 2 ≡ 1)
-      → blossom_size g.n f b % 2 ≡ 1 = λ ring more. set_odd ring
-      (λ k. more (walk f.nest.after (f.nest.head b) k) (omega (arith, ring.lower k)) (part_used ring k)) in
-      by_ring (nested.rings b high live) (λ p lp used. odd_below fuel p lp used)
+      let ring = nested.rings b high live in
+      let odd = odd_sum f.nest.after (blossom_size g.n f) (f.nest.head b) (f.nest.parts b)
+      (λ k. odd_below fuel (walk f.nest.after (f.nest.head b) k) (omega (arith, ring.lower k)) (part_used ring k)) in
+      omega (arith, set_sum ring, ring.odd)
 
   -- A blossom holds an odd number of vertices.
   pub odd_blossom : (b : ℕ) → IsBlossom g f b → blossom_size g.n f b % 2 ≡ 1
@@ -83,3 +74,154 @@ module _ {g : Darts} (are : AreDarts g) {f : Forest} (nested : IsNested g f) whe
       each : (k : ℕ) → k ≤ ring_sum f.nest.after (blossom_size g.n f) (f.nest.head b) k
       each zero = omega arith
       each (suc k) = omega (arith, each k, odd_blossom (walk f.nest.after (f.nest.head b) k) (part_used ring k))
+
+-- The order of two counts does not matter.
+counts_swapped : (f : ℕ → ℕ → ℕ) (m n : ℕ) → count_below (λ i. count_below (f i) m) n
+    ≡ count_below (λ j. count_below (λ i. f i j) n) m
+counts_swapped f m zero = sym (count_below_none (λ j. 0) m (λ k l. refl))
+counts_swapped f m (suc n) =
+    let h = counts_swapped f m n in
+    omega (arith, count_below_sum (λ j. count_below (λ i. f i j) n) (f n) m)
+
+one_at : (a m : ℕ) → a < m → count_below (λ k. bool_number (eqb k a)) m ≡ 1
+one_at a m l = count_below_one (λ k. bool_number (eqb k a)) m a l (λ k lk ne. ap bool_number (ne_eqb k a ne))
+    ∙ ap bool_number (eq-eqb a a refl)
+
+-- Three different places.
+abbrev three : (at : ℕ → ℕ) → ℕ → ℕ
+three at k = bool_number (eqb k (at 0)) + (bool_number (eqb k (at 1)) + bool_number (eqb k (at 2)))
+
+three_count : (at : ℕ → ℕ) (m : ℕ) → ((k : ℕ) → k < 3 → at k < m) → count_below (three at) m ≡ 3
+three_count at m low =
+    let one = count_below_sum (λ k. bool_number (eqb k (at 0)))
+    (λ k. bool_number (eqb k (at 1)) + bool_number (eqb k (at 2))) m in
+    let two = count_below_sum (λ k. bool_number (eqb k (at 1))) (λ k. bool_number (eqb k (at 2))) m in
+    omega (
+      arith,
+      one_at (at 0) m (low 0 (omega arith)),
+      one_at (at 1) m (low 1 (omega arith)),
+      one_at (at 2) m (low 2 (omega arith)),
+    )
+
+-- What is less than a function at each of the three, and never greater, is no greater with how many of them there are.
+three_low : (less more at : ℕ → ℕ) → ((i j : ℕ) → i < j → j < 3 → at i ≢ at j)
+    → ((k : ℕ) → k < 3 → less (at k) < more (at k)) → ((p : ℕ) → less p ≤ more p) → (p : ℕ)
+    → less p + three at p ≤ more p
+three_low less more at differ each low p =
+    grind (arith, differ 0 1, differ 0 2, differ 1 2, each 0, each 1, each 2, low p)
+
+-- So many numbers are below another.
+count_low : (n m : ℕ) → n ≤ m → count_below (λ p. bool_number (nat_lt p n)) m ≡ n
+count_low n zero l = omega arith
+count_low n (suc m) l = elim (cases_lt m n) [
+  | inl h ↦ (let all = count_below_same (λ p. bool_number (nat_lt p n)) (λ p. 1) m
+      (λ k lk. ap bool_number (lt-ltb k n (omega arith))) in
+      rw (lt-ltb m n h) (omega (arith, count_below_ones m)))
+  | inr h ↦ rw (le-ltb m n h) (omega (arith, count_low n m h))
+]
+
+-- A number is that of a set in use where it is that of a set, and has parts.
+pub live_low : {n : ℕ} (parts : ℕ → ℕ) {b : ℕ} → b < n → live_at n parts b ≡ 0
+live_low {n} parts {b} l = rw (lt-ltb b n l)
+
+pub live_none : {n : ℕ} (parts : ℕ → ℕ) {b : ℕ} → n ≤ b → parts b ≡ 0 → live_at n parts b ≡ 0
+live_none {n} parts {b} h e = rw (le-ltb b n h, eq-eqb (parts b) 0 e)
+
+pub live_some : {n : ℕ} (parts : ℕ → ℕ) {b : ℕ} → n ≤ b → parts b ≢ 0 → live_at n parts b ≡ 1
+live_some {n} parts {b} h ne = rw (le-ltb b n h, ne_eqb (parts b) 0 ne)
+
+module _ (g : Darts) (are : AreDarts g) (f : Forest) (nested : IsNested g f) (vertices : g.n ≤ f.size) where
+  -- p is a part of b.
+  abbrev part : ℕ → ℕ → ℕ
+  part p b = cond (eqb (f.nest.up p) b) (cond (eqb p b) 0 1) 0
+
+  abbrev inner : ℕ → ℕ
+  inner p = cond (eqb (f.nest.up p) p) 0 1
+
+  abbrev used : ℕ → ℕ
+  used p = bool_number (nat_lt p g.n) + live_at g.n f.nest.parts p
+
+  is_part : {p b : ℕ} → f.nest.up p ≡ b → p ≢ b → part p b ≡ 1
+  is_part {p} {b} e ne = rw (eq-eqb (f.nest.up p) b e, ne_eqb p b ne)
+
+  is_top : {p : ℕ} → f.nest.up p ≡ p → inner p ≡ 0
+  is_top {p} e = rw (eq-eqb (f.nest.up p) p e)
+
+  is_inner : {p : ℕ} → f.nest.up p ≢ p → inner p ≡ 1
+  is_inner {p} ne = rw (ne_eqb (f.nest.up p) p ne)
+
+  three_parts : (b : ℕ) → IsRing g f b → 3 ≤ count_below (λ p. part p b) f.size
+  three_parts b ring =
+      let one : (k : ℕ) → 1 ≤ part (walk f.nest.after (f.nest.head b) k) b = λ k. omega (
+        arith,
+        is_part (ring.inside k) (λ e. absurd (omega (arith, ap f.nest.rank e, ring.lower k))),
+      ) in
+      let at = walk f.nest.after (f.nest.head b) in
+      let below = count_below_le (three at) (λ p. part p b) f.size (λ p l. (let low = three_low (λ x. 0)
+      (λ x. part x b) at (λ i j lij lj. ring.distinct i j lij (omega (arith, ring.odd, ring.some))) (λ k l. one k)
+      (λ x. omega arith) p in omega arith)) in
+      omega (arith, three_count at f.size (λ k l. ring.below k))
+
+  one_set : (p : ℕ) → count_below (part p) f.size ≤ inner p
+  one_set p = elim (cases_eq (f.nest.up p) p) [
+    | inl top ↦ omega (arith, count_below_none (part p) f.size (λ b l. off b (λ up self. self (sym top ∙ up))))
+    | inr ne ↦ elim (cases_lt (f.nest.up p) f.size) [
+      | inl l ↦ (let one = count_below_one (part p) f.size (f.nest.up p) l
+          (λ b lb nb. off b (λ up self. nb (sym up))) in
+          omega (arith, is_inner ne, is_part refl (λ e. ne (sym e))))
+      | inr h ↦ omega (arith, count_below_none (part p) f.size (λ b l. off b (λ up self. absurd (omega (arith, up)))))
+    ]
+  ]
+    where
+      off : (b : ℕ) → (f.nest.up p ≡ b → p ≢ b → ⊥) → part p b ≡ 0
+      off b none = grind arith
+
+  is_used : (p : ℕ) → IsBlossom g f p → used p ≡ 1
+  is_used p in_use = grind arith
+
+  -- What is in use, with so many outermost blossoms marked that are no parts: three times the sets are few.
+  sets_beside : (tops : ℕ → ℕ) → ((p : ℕ) → p < f.size → inner p + tops p ≤ used p)
+      → 2 * sets_of g.n f + count_below tops f.size ≤ g.n
+  sets_beside tops each =
+      let live = live_at g.n f.nest.parts in
+      let uses = count_below_sum (λ p. bool_number (nat_lt p g.n)) live f.size in
+      let times = count_below_times 3 live f.size in
+      let parts = count_below_le (λ x. 3 * live x) (λ x. count_below (λ p. part p x) f.size) f.size
+      (λ b l. grind (arith, λ (h : g.n ≤ b) (some : f.nest.parts b ≢ 0). three_parts b (nested.rings b h some))) in
+      let swapped = counts_swapped (λ x p. part p x) f.size f.size in
+      let sets = count_below_le (λ p. count_below (part p) f.size) inner f.size (λ p l. one_set p) in
+      let more = count_below_le (λ p. inner p + tops p) used f.size each in
+      let sum = count_below_sum inner tops f.size in
+      omega (arith, count_low g.n f.size vertices)
+
+  inner_low : (p : ℕ) → inner p ≤ used p
+  inner_low p = elim (cases_eq (f.nest.up p) p) [
+    | inl top ↦ omega (arith, is_top top)
+    | inr ne ↦ (let joint = nested.joints p ne in
+        let low = are.near_low (f.nest.joint p) joint.tight.low in
+        omega (arith, is_inner ne, is_used p (holder_used are nested low joint.begins)))
+  ]
+
+  -- Where there is no vertex there is no set.
+  pub no_sets : g.n ≡ 0 → sets_of g.n f ≡ 0
+  no_sets none = omega (arith, sets_beside (λ p. 0) (λ p l. omega (arith, inner_low p)))
+
+  -- The outermost blossom of a vertex is in use, and no part.
+  pub few_sets : AreOutermost g.n f → 0 < g.n → 2 * sets_of g.n f < g.n
+  few_sets outermost some =
+      let top = f.out 0 in
+      let top_used = holder_used are nested some (outermost.held 0 0 some some ∙ eq-eqb top top refl) in
+      let few = sets_beside (λ p. bool_number (eqb p top)) (λ p l. elim (cases_eq p top) [
+        | inr ne ↦ rw (ne_eqb p top ne) (omega (arith, inner_low p))
+        | inl e ↦ rw (e, eq-eqb top top refl) (omega (arith, is_top (outermost.tops 0 some), is_used top top_used))
+      ]) in
+      omega (arith, one_at top f.size (outermost.out_low 0 some))
+
+  -- Where three outermost blossoms are in use, there is room for a set more.
+  pub sets_few : (at : ℕ → ℕ) → ((k : ℕ) → k < 3 → at k < f.size) → ((i j : ℕ) → i < j → j < 3 → at i ≢ at j)
+      → ((k : ℕ) → k < 3 → f.nest.up (at k) ≡ at k) → ((k : ℕ) → k < 3 → IsBlossom g f (at k))
+      → 2 * count_below (live_at g.n f.nest.parts) f.size + 3 ≤ g.n
+  sets_few at low differ tops uses =
+      let few = sets_beside (three at) (λ p l. three_low inner used at differ
+      (λ k lk. omega (arith, is_top (tops k lk), is_used (at k) (uses k lk))) inner_low p) in
+      omega (arith, three_count at f.size low)

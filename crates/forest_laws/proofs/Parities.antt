@@ -1,12 +1,12 @@
 -- The potentials of the vertices of one blossom have one parity, and so have those of all vertices in the tree.
-use Rattle.std.proofs.Common.{◌≡◌, ℕ, zero, suc, ◌<◌, ◌≤◌, Bool, true, false, not, cond, length, Option}
+use Rattle.std.proofs.Common.{◌≡◌, ℕ, zero, suc, ◌<◌, ◌≤◌, Bool, true, not, cond, length, Option}
 use Rattle.std.proofs.Common.{ℤ, pos, ◌+ℤ◌, ◌-ℤ◌, refl, sym, ◌∙◌, ap, inl, inr, arith}
 use Rattle.std.proofs.lemmas.Int.{ints}
 use Rattle.std.proofs.lemmas.Bool.{cases_lt, eq-eqb, eqb-true}
 use Rattle.def_math.specs.Sums.{total_below}
 use Rattle.def_matching.specs.Matching.{WeightedGraph, IsGraph, edge_at}
 use Rattle.def_forest.specs.Darts.{Darts, AreDarts, darts_of, far}
-use Rattle.def_forest.specs.Forests.{Forest, weight_between, splits, IsTight, bool_number, walk, ring_sum}
+use Rattle.def_forest.specs.Forests.{Forest, splits, IsTight, bool_number, walk, ring_sum}
 use Rattle.def_forest.specs.Tables.{slack_of}
 use Rattle.def_forest.specs.Valid.{IsNested, IsRing, IsJoint, IsTree, IsValid}
 use Rattle.def_forest.specs.declared.kinds.Label.TheVariants.{Outer}
@@ -33,21 +33,14 @@ around_both f u v b = cond (f.holds b u) (cond (f.holds b v) (f.weight b) (pos 0
 
 by_both : (p q : Bool) (x : ℤ) → cond p x (pos 0) +ℤ cond q x (pos 0)
     ≡ cond (cond p (not q) q) x (pos 0) +ℤ (cond p (cond q x (pos 0)) (pos 0) +ℤ cond p (cond q x (pos 0)) (pos 0))
-by_both true true x = omega (arith, ints)
-by_both true false x = omega (arith, ints)
-by_both false true x = omega (arith, ints)
-by_both false false x = omega (arith, ints)
+by_both p q x = grind (arith, ints)
 
+-- Two potentials are a load and twice what lies around both vertices.
 sums_both : (f : Forest) (u v m : ℕ) → total_below (λ b. cond (f.holds b u) (f.weight b) (pos 0)) m +ℤ total_below
     (λ b. cond (f.holds b v) (f.weight b) (pos 0)) m ≡ total_below (λ b. cond (splits (f.holds b) u v) (f.weight b)
     (pos 0)) m +ℤ (total_below (around_both f u v) m +ℤ total_below (around_both f u v) m)
 sums_both f u v zero = omega (arith, ints)
 sums_both f u v (suc m) = omega (arith, ints, sums_both f u v m, by_both (f.holds m u) (f.holds m v) (f.weight m))
-
--- Two potentials are a load and twice what lies around both vertices.
-potentials_both : (f : Forest) (u v : ℕ) → potential f u +ℤ potential f v
-    ≡ weight_between f u v +ℤ (total_below (around_both f u v) f.size +ℤ total_below (around_both f u v) f.size)
-potentials_both f u v = sums_both f u v f.size
 
 -- Where a sum along a ring is not 0, one of its terms is not.
 ring_found : (next f : ℕ → ℕ) (front n : ℕ) → 1 ≤ ring_sum next f front n → (k : ℕ) × (k < n)
@@ -63,7 +56,7 @@ module _ {g : Darts} (are : AreDarts g) (f : Forest) where
   pub tight_alike : {d : ℕ} → IsTight g f d → AreAlike (potential f (g.near d)) (potential f (far g d))
   tight_alike {d} tight =
       let both = total_below (around_both f (g.near d) (far g d)) f.size in
-      let sum = potentials_both f (g.near d) (far g d) in
+      let sum = sums_both f (g.near d) (far g d) f.size in
       record { half = (g.cost d +ℤ both) -ℤ potential f (far g d); is = omega (arith, ints, sum, tight.exact) }
 
   module _ (nested : IsNested g f) where
@@ -145,14 +138,6 @@ module _ {g : Darts} (are : AreDarts g) (f : Forest) where
       pub to_root : (u : ℕ) → u < g.n → f.label (f.out u) ≡ Outer → AreAlike (potential f u) (potential f w)
       to_root u lu label = outer_alike (suc (tree.depth (f.out u))) u lu label (omega arith)
 
-    -- Two vertices in outer blossoms.
-    pub outers_alike : (u v : ℕ) → u < g.n → v < g.n → f.label (f.out u) ≡ Outer → f.label (f.out v) ≡ Outer
-        → AreAlike (potential f u) (potential f v)
-    outers_alike u v lu lv on_u on_v =
-        let t = tree_of are valid (f.out u) (outer_named on_u) in
-        let x = valid.outermost.named t.0 (outer_named t.2.root_outer) in
-        alike_on (to_root t.2 x.0 x.1 x.2 u lu on_u) (alike_back (to_root t.2 x.0 x.1 x.2 v lv on_v))
-
 -- The slack between two outer blossoms is even.
 pub slack_even : (g : WeightedGraph) (f : Forest) (root : Option ℕ) (e : ℕ) → IsGraph g → IsValid (darts_of g) f root
     → e < length g.edges → f.label (f.out (edge_at g e).u) ≡ Outer → f.label (f.out (edge_at g e).v) ≡ Outer
@@ -160,6 +145,9 @@ pub slack_even : (g : WeightedGraph) (f : Forest) (root : Option ℕ) (e : ℕ) 
 slack_even g f root e is valid low on_u on_v =
     let u = (edge_at g e).u in
     let v = (edge_at g e).v in
-    let p = outers_alike (are_darts is) f valid u v (is.left e low) (is.right e low) on_u on_v in
+    let t = tree_of (are_darts is) valid (f.out u) (outer_named on_u) in
+    let x = valid.outermost.named t.0 (outer_named t.2.root_outer) in
+    let to = to_root (are_darts is) f valid t.2 x.0 x.1 x.2 in
+    let p = alike_on (to u (is.left e low) on_u) (alike_back (to v (is.right e low) on_v)) in
     let both = total_below (around_both f u v) f.size in
-    (((edge_at g e).cost +ℤ both) -ℤ (p.half +ℤ potential f v), omega (arith, ints, p.is, potentials_both f u v))
+    (((edge_at g e).cost +ℤ both) -ℤ (p.half +ℤ potential f v), omega (arith, ints, p.is, sums_both f u v f.size))

@@ -1,14 +1,16 @@
--- A shrink keeps a forest valid.
-use Rattle.std.proofs.Common.{◌≡◌, ◌≢◌, ℕ, suc, ◌<◌, Bool, true, false, eqb, Some, None, refl, sym, ◌∙◌}
+-- A shrink keeps a forest valid: a cycle of tight darts in its tree becomes one outer blossom.
+use Rattle.std.proofs.Common.{◌≡◌, ◌≢◌, ℕ, suc, ◌<◌, ◌≤◌, Bool, true, false, cond, eqb, Some, None, refl, sym, ◌∙◌}
 use Rattle.std.proofs.Common.{ap, inl, inr, arith}
 use Rattle.std.proofs.lemmas.Bool.{cases_eq, cases_Bool, cond_both, false_from_ne_true, eq-eqb, ne_eqb}
 use Rattle.def_forest.specs.Darts.{Darts, AreDarts, far}
-use Rattle.def_forest.specs.Forests.{Forest, IsTight, IsOutermost, bool_number, walk}
+use Rattle.def_forest.specs.Forests.{Forest, IsTight, IsOutermost, bool_number, set_at, walk}
+use Rattle.def_forest.specs.Opened.{KeepsParts}
 use Rattle.def_forest.specs.Shrunk.{IsUnused, IsCycle, IsClosedRow, IsShrunk}
-use Rattle.def_forest.specs.Valid.{AreOutermost, IsNested, IsRing, IsJoint, IsMatched, IsTree, IsValid}
+use Rattle.def_forest.specs.Valid.{AreOutermost, IsInner, IsJoint, IsMatched, IsNested, IsRing, IsTree, IsValid}
+use Rattle.def_forest.specs.Valid.{KeepsOutside}
 use Rattle.def_forest.specs.declared.kinds.Label.TheVariants.{Outer, Outside}
-use Rattle.forest_laws.proofs.{Writes.set_here, Writes.set_there, Writes.true_false, Facts.far_low, Facts.far_twin}
-use Rattle.forest_laws.proofs.WayLaws.{some_none}
+use Rattle.forest_laws.proofs.{Writes.set_here, Writes.set_there, Writes.true_false, Facts.far_low}
+use Rattle.forest_laws.proofs.{Facts.far_twin, Facts.tree_valid, WayLaws.some_none, Beside.same_feasible}
 use Rattle.forest_laws.proofs.Beside.{ChangesOnly, same_joint, same_nested, same_ring, ring_sum_same}
 use Rattle.forest_laws.proofs.Beside.{same_tight as tight_stays}
 
@@ -92,18 +94,9 @@ module _ {g : Darts} {f : Forest} {r : ℕ} {new : Forest} {inside : ℕ → Boo
       is.holds_old x v (marked_old x on) l ∙ rw w.2 at (valid.outermost.held w.0 v w.1 l)
 
   pub changes : ChangesOnly g.n f new b
-  changes = record {
-    high = unused.high;
-    size = is.size;
-    weight = is.weight;
-    weightless = unused.weightless;
-    holds = is.holds_old;
-    sets = λ x ne. record {
-      head = is.head x ∙ set_there f.nest.head b x front ne;
-      many = is.parts x ∙ set_there f.nest.parts b x many ne;
-      rank = is.rank x ne;
-    };
-  }
+  changes =
+      let sets : (x : ℕ) → x ≢ b → KeepsParts f new x = λ x ne. grind (arith, is.head x, is.parts x, is.rank x ne) in
+      assumption
 
   pub same_tight : {d : ℕ} → IsTight g f d → IsTight g new d
   same_tight = tight_stays are changes
@@ -113,20 +106,15 @@ module _ {g : Darts} {f : Forest} {r : ℕ} {new : Forest} {inside : ℕ → Boo
     vertices = rw is.size valid.outermost.vertices;
     out_low = λ v l. rw is.size (out_cases (λ x. x < f.size) v l (λ on. unused.low)
         (λ off. valid.outermost.out_low v l));
-    held = λ u v lu lv. out_cases (λ x. new.holds x v ≡ eqb (new.out v) x) u lu
-        (λ on. is.holds_new v lv ∙ out_cases (λ y. inside (f.out v) ≡ eqb y b) v lv
-        (λ too. too ∙ sym (eq-eqb b b refl)) (λ off. off ∙ sym (ne_eqb (f.out v) b (unused.no_out v lv))))
-        (λ off. is.holds_old (f.out u) v (unused.no_out u lu) lv ∙ valid.outermost.held u v lu lv
-        ∙ out_cases (λ y. eqb (f.out v) (f.out u) ≡ eqb y (f.out u)) v lv
-        (λ on. ne_eqb (f.out v) (f.out u) (λ e. true_false (ap inside (sym e) ∙ on) off)
-        ∙ sym (ne_eqb b (f.out u) (λ e. unused.no_out u lu (sym e)))) (λ too. refl));
+    held = λ u v lu lv. (let was = valid.outermost.held u v lu lv in
+        let none = unused.no_out v lv in
+        grind (arith, is.out u lu, is.out v lv, is.holds_new v lv, is.holds_old (f.out u) v, unused.no_out u lu));
     tops = λ v l. out_cases (λ x. new.nest.up x ≡ x) v l (λ on. up_b)
         (λ off. up_off (f.out v) (unused.no_out v l) off ∙ valid.outermost.tops v l);
-    together = λ x u v lu lv hu hv. elim (cases_eq x b) [
-      | inl e ↦ out_on u lu (cc (is.holds_new u lu)) ∙ sym (out_on v lv (cc (is.holds_new v lv)))
-      | inr ne ↦ (let same = valid.outermost.together x u v lu lv (cc (is.holds_old x u ne lu))
-          (cc (is.holds_old x v ne lv)) in rw (is.out u lu, is.out v lv, same) refl)
-    ];
+    together = λ x u v lu lv hu hv. (let was = valid.outermost.together x u v lu lv in
+        let new_u = is.holds_new u lu in
+        let new_v = is.holds_new v lv in
+        grind (arith, is.out u lu, is.out v lv, is.holds_old x u, is.holds_old x v));
     named = λ x n. elim (place x) [
       | is_new e ↦ (let w = marked_out top cycle.top_in in
           (w.0, w.1, out_on w.0 w.1 (ap inside w.2 ∙ cycle.top_in) ∙ sym e))
@@ -143,11 +131,7 @@ module _ {g : Darts} {f : Forest} {r : ℕ} {new : Forest} {inside : ℕ → Boo
       let off = false_from_ne_true (inside p) (λ on. (let w = marked_out p on in
       inner (sym (rw w.2 at (valid.outermost.tops w.0 w.1)) ∙ up))) in
       record { other = other; up = up_off p other off; after = is.after p off }))
-      (λ p up inner. elim (place p) [
-        | is_new e ↦ absurd (ne (sym up ∙ ap new.nest.up e ∙ up_b))
-        | on_cycle on ↦ absurd (ne (sym up ∙ up_on p on))
-        | beside other off ↦ sym (up_off p other off) ∙ up
-      ])
+      (λ p up inner. grind (arith, place p, up_b, up_on p, up_off p))
 
   ring_new : IsRing g new b
   ring_new = let head_b = is.head b ∙ set_here f.nest.head b front in record {
@@ -218,12 +202,9 @@ module _ {g : Darts} {f : Forest} {r : ℕ} {new : Forest} {inside : ℕ → Boo
   -- Who is matched to a blossom of the cycle from outside it is matched to the top.
   pub only_top : (c d : ℕ) → inside c ≡ false → f.mate c ≡ Some d → inside (f.out (far g d)) ≡ true
       → f.out (far g d) ≡ top
-  only_top c d off mate on = elim (cases_eq (f.out (far g d)) top) [
-    | inl e ↦ e
-    | inr ne ↦ (let pair = valid.matched c d mate in absurd (true_false
-        (ap inside (sym (ap f.out (far_twin are d) ∙ pair.here)) ∙ cycle.mates (f.out (far g d)) (g.twin d) on ne
-        pair.back) off))
-  ]
+  only_top c d off mate on =
+      let pair = valid.matched c d mate in
+      grind (arith, cases_eq (f.out (far g d)) top, far_twin are d, cycle.mates (f.out (far g d)) (g.twin d) on)
 
   -- Where a dart begins beside the cycle, and where it leads.
   pub near_off : {c d : ℕ} → IsTight g f d → f.out (g.near d) ≡ c → inside c ≡ false → new.out (g.near d) ≡ c
@@ -259,17 +240,99 @@ module _ {g : Darts} {f : Forest} {r : ℕ} {new : Forest} {inside : ℕ → Boo
     | on_cycle on ↦ absurd (some_none (new.mate c) d mate (mate_on c on))
     | beside ne off ↦ (let was = sym (mate_off c ne off) ∙ mate in
         let pair = valid.matched c d was in
-        let both : (new.out (far g d) ≢ c) × (new.mate (new.out (far g d)) ≡ Some (g.twin d)) =
-        elim (cases_Bool (inside (f.out (far g d)))) [
-          | inl on ↦ (
-            (λ x. ne (sym x ∙ beyond_on pair.tight on)),
-            ap new.mate (beyond_on pair.tight on) ∙ mate_b ∙ ap f.mate (sym (only_top c d off was on)) ∙ pair.back,
-          )
-          | inr too ↦ (
-            (λ x. pair.other (sym (beyond_off pair.tight too) ∙ x)),
-            beyond_mate pair.tight too ∙ pair.back,
-          )
-        ] in
+        let tight = same_tight pair.tight in
         let here = near_off pair.tight pair.here off in
-        record { tight = same_tight pair.tight; here = here; other = both.0; back = both.1 })
+        let on = beyond_on pair.tight in
+        let away = beyond_off pair.tight in
+        let partner = beyond_mate pair.tight in
+        let top_is = only_top c d off was in
+        grind (arith, cases_Bool (inside (f.out (far g d))), mate_b))
   ]
+
+  -- The tree: the new blossom is as deep as the top was.
+  abbrev depths : ℕ → ℕ
+  depths = set_at tree.depth b (tree.depth top)
+
+  depth_b : depths b ≡ tree.depth top
+  depth_b = set_here tree.depth b (tree.depth top)
+
+  depth_old : (x : ℕ) → x ≢ b → depths x ≡ tree.depth x
+  depth_old x ne = set_there tree.depth b x (tree.depth top) ne
+
+  -- Where a dart leads beside the cycle, nothing is deeper.
+  beyond_depth : {d : ℕ} → IsTight g f d → inside (f.out (far g d)) ≡ false → depths (new.out (far g d))
+      ≡ tree.depth (f.out (far g d))
+  beyond_depth {d} tight off =
+      ap depths (beyond_off tight off) ∙ depth_old (f.out (far g d)) (beyond_other tight)
+
+  -- Where a dart leads to an outer blossom, it leads to an outer one that is no deeper.
+  outer_after : {d : ℕ} → IsTight g f d → f.label (f.out (far g d)) ≡ Outer → (new.label (new.out (far g d)) ≡ Outer)
+      × (depths (new.out (far g d)) ≤ tree.depth (f.out (far g d)))
+  outer_after {d} tight outer =
+      let over = cycle.above (f.out (far g d)) in
+      grind (arith, place (f.out (far g d)), beyond_on tight, beyond_label tight, label_b, depth_b, beyond_depth tight)
+
+  new_inner : {c : ℕ} → c ≢ b → inside c ≡ false → IsInner g f tree.depth c → IsInner g new depths c
+  new_inner {c} ne off old =
+      let parent = outer_after old.tight old.above in
+      let down = (valid.matched c old.dart old.mate).tight in
+      let own = depth_old c ne in
+      record {
+        tight = rw (is.link c) (same_tight old.tight);
+        here = rw (is.link c) (near_off old.tight old.here off);
+        above = rw (is.link c) parent.0;
+        nearer = rw (is.link c) (omega (arith, own, old.nearer, parent.1));
+        dart = old.dart;
+        mate = mate_off c ne off ∙ old.mate;
+        child = (outer_after down old.child).0;
+        same = (let top_is = only_top c old.dart off old.mate in
+            grind (arith, cases_Bool (inside (f.out (far g old.dart))), beyond_on down, depth_b, beyond_depth down));
+      }
+
+  new_tree : IsTree g new (cond (inside r) b r)
+  new_tree =
+      let r_old : r ≢ b = λ e. cc (tree.root_outer, unused.outside) in
+      record {
+        depth = depths;
+        root_outer = grind (arith, cases_Bool (inside r), label_b, label_off r r_old, tree.root_outer);
+        root_free = grind (arith, cases_Bool (inside r), mate_b, cycle.root_top, mate_off r r_old, tree.root_free);
+        inner = λ c l. elim (place c) [
+          | is_new e ↦ absurd (cc (label_b))
+          | on_cycle on ↦ absurd (cc (label_on c on))
+          | beside ne off ↦ new_inner ne off (tree.inner c (sym (label_off c ne off) ∙ l))
+        ];
+        outer = λ c l. elim (place c) [
+          | is_new e ↦ rw e (elim (tree.outer top cycle.top_outer) [
+            | inl at ↦ inl (rw (ap inside (sym at) ∙ cycle.top_in) refl)
+            | inr w ↦ (let pair = valid.matched top w.0 w.1 in inr (
+              w.0,
+              mate_b ∙ w.1,
+              beyond_label pair.tight (cycle.top_mate w.0 w.1) ∙ w.2,
+            ))
+          ])
+          | on_cycle on ↦ absurd (cc (label_on c on))
+          | beside ne off ↦ elim (tree.outer c (sym (label_off c ne off) ∙ l)) [
+            | inl at ↦ inl (rw (ap inside (sym at) ∙ off) at)
+            | inr w ↦ (let pair = valid.matched c w.0 w.1 in
+                -- The mate of an outer blossom beside the cycle is inner, so not the top.
+                let too = false_from_ne_true (inside (f.out (far g w.0)))
+                (λ on. cc (only_top c w.0 off w.1 on, cycle.top_outer, w.2)) in
+                inr (w.0, mate_off c ne off ∙ w.1, beyond_label pair.tight too ∙ w.2))
+          ]
+        ];
+      }
+
+  new_outside : KeepsOutside g new
+  new_outside c d l mate = elim (place c) [
+    | is_new e ↦ absurd (cc (label_b))
+    | on_cycle on ↦ absurd (cc (mate_on c on))
+    | beside ne off ↦ (let was = sym (mate_off c ne off) ∙ mate in
+        let gone = valid.outside c d (sym (label_off c ne off) ∙ l) was in
+        beyond_label (valid.matched c d was).tight
+        (false_from_ne_true (inside (f.out (far g d))) (λ on. cycle.in_tree (f.out (far g d)) on gone)) ∙ gone)
+  ]
+
+  -- A cycle of tight darts in the tree may become one outer blossom.
+  pub shrunk_valid : IsValid g new (Some (cond (inside r) b r))
+  shrunk_valid =
+      tree_valid new_outermost new_nested (same_feasible are changes valid.feasible) new_matched new_tree new_outside

@@ -8,7 +8,7 @@ use Rattle.def_forest.specs.declared.kinds.Label.TheVariants.{Inner}
 use Rattle.def_forest.specs.{declared.kinds.Label.TheVariants.Outside, Ways.Reaches, Ways.IsHalf, Ways.IsAlmost}
 use Rattle.forest_laws.proofs.{Writes.some_is, Writes.set_here, Writes.set_there, Facts.far_twin, Facts.tight_twin}
 use Rattle.forest_laws.proofs.{Facts.outer_mate, Writes.inner_named, Writes.outer_named}
-use Rattle.forest_laws.proofs.Grows.{same_outermost, same_nested, same_feasible, same_tight}
+use Rattle.forest_laws.proofs.Grows.{same_outermost, same_nested, same_feasible}
 
 -- An option with something in it is not empty.
 pub some_none : (o : Option ℕ) (d : ℕ) → o ≡ Some d → o ≢ None
@@ -31,24 +31,10 @@ module _ {g : Darts} (are : AreDarts g) {f : Forest} {r : ℕ} (valid : IsValid 
         reached = at_there;
         above = inl reach.off;
         kept = λ b named low. elsewhere b (λ e. named (ap f.label e ∙ reach.off));
-        each = λ b d ne mate. elim (cases_eq b there) [
-          | inl e ↦ (let same : d ≡ g.twin start = cc at_there in rw same (record {
-            tight = tight_twin are reach.tight;
-            here = sym e;
-            other = λ x. ne (sym x ∙ ap f.out (far_twin are start));
-            back = inr (ap f.out (far_twin are start), inl refl);
-          }))
-          | inr off ↦ (let is = valid.matched b d (sym (elsewhere b off) ∙ mate) in record {
-            tight = is.tight;
-            here = is.here;
-            other = is.other;
-            back = inl (elsewhere (f.out (far g d)) (λ x. absurd (cc (free, is.back))) ∙ is.back);
-          })
-        ];
-        more = λ b mate. elim (cases_eq b there) [
-          | inl e ↦ absurd (cc at_there)
-          | inr off ↦ sym (elsewhere b off) ∙ mate
-        ];
+        each = λ b d ne mate. (let twin = tight_twin are reach.tight in
+            let goes = far_twin are start in
+            grind (arith, at_there, elsewhere b, elsewhere (f.out (far g d)), valid.matched b d, free));
+        more = λ b mate. grind arith;
         begun = λ off. cc at_there;
       }
 
@@ -79,34 +65,15 @@ module _ {g : Darts} (are : AreDarts g) {f : Forest} {r : ℕ} (valid : IsValid 
     elsewhere : (x : ℕ) → x ≢ a → mates x ≡ mate x
     elsewhere x = set_there mate a x (Some e)
 
-    -- It ends at a blossom that is not matched: all mates are in order.
-    pub end_matched : f.mate a ≡ None → (b d : ℕ) → mates b ≡ Some d → IsMate g (with_mates f mates) b d
-    end_matched free b d is = elim (cases_eq b a) [
-      | inl at ↦ (let same : d ≡ e = cc here in rw same (record {
-        tight = same_tight almost.tight;
-        here = almost.here ∙ sym at;
-        other = λ x. not_back (x ∙ at);
-        back = elsewhere (f.out (far g e)) not_back ∙ almost.reached;
-      }))
-      | inr ne ↦ (let half = almost.each b d ne (sym (elsewhere b ne) ∙ is) in record {
-        tight = same_tight half.tight;
-        here = half.here;
-        other = half.other;
-        back = elim half.back [
-          | inl back ↦ elsewhere (f.out (far g d)) (λ at. cc (own, free)) ∙ back
-          | inr (at, inl twin) ↦ ap mates at ∙ here ∙ ap Some (sym (ap g.twin twin ∙ are.twin_twin e))
-          | inr (at, inr was) ↦ absurd (cc (was, free))
-        ];
-      })
-    ]
-
-    -- The forest is valid then, and no tree stands.
+    -- It ends at a blossom that is not matched: the forest is valid then, and no tree stands.
     pub end_valid : f.mate a ≡ None → IsValid g (with_mates f (set_at mate a (Some e))) None
     end_valid free = record {
       outermost = same_outermost valid.outermost (λ b named. absurd (named refl));
       nested = same_nested valid.nested;
       feasible = same_feasible valid.feasible;
-      matched = end_matched free;
+      matched = λ b d is. (let there = elsewhere (f.out (far g d)) in
+          let reached = elsewhere (f.out (far g e)) not_back in
+          grind (arith, almost.each b d, almost.reached, elsewhere b, here, own, not_back, are.twin_twin e));
       tree = λ x is. absurd cc;
       no_tree = λ is b. refl;
       outside = λ b d off is. refl;
@@ -117,18 +84,7 @@ module _ {g : Darts} (are : AreDarts g) {f : Forest} {r : ℕ} (valid : IsValid 
     end_augmented free =
         let root_is : r ≡ a = elim (tree.outer a almost.outer) [ inl at ↦ sym at | inr is ↦ absurd (cc (is.1, free)) ]
         in
-        record {
-          changed = refl;
-          root_matched = λ off. cc (here, root_is);
-          reached_matched = λ off. elim (cases_eq (f.out (far g start)) a) [
-            | inl at ↦ cc here
-            | inr ne ↦ almost.begun (sym (elsewhere (f.out (far g start)) ne) ∙ off)
-          ];
-          others = λ b off. elim (cases_eq b a) [
-            | inl at ↦ absurd (cc here)
-            | inr ne ↦ almost.more b (sym (elsewhere b ne) ∙ off)
-          ];
-        }
+        grind (arith, here, root_is, almost.begun, almost.more)
 
     module _ (old : ℕ) (was : f.mate a ≡ Some old) where
       abbrev inn : ℕ
@@ -201,37 +157,16 @@ module _ {g : Darts} (are : AreDarts g) {f : Forest} {r : ℕ} (valid : IsValid 
             here = refl;
             reached = ap turned reached ∙ at_inn ∙ ap Some (sym (are.twin_twin up));
             above = inr (rw reached inn_is.nearer);
-            kept = λ b named low. elim (place b) [
-              | is_inn at now ↦ absurd (omega (arith, ap tree.depth at, inn_depth, next_nearer))
-              | is_a at now ↦ absurd (omega (arith, ap tree.depth at, next_nearer))
-              | is_other _ _ same ↦ same ∙ almost.kept b named (omega (arith, next_nearer))
-            ];
+            kept = λ b named low. (let there = place b in grind (arith, almost.kept b named, inn_depth, next_nearer));
             each = λ b d ne is. elim (place b) [
-              | is_inn at now ↦ rw (some_is d up (sym is ∙ now)) (record {
-                tight = inn_is.tight;
-                here = inn_is.here ∙ sym at;
-                other = λ x. absurd (omega (arith, ap tree.depth (x ∙ at), inn_is.nearer));
-                back = inr (refl, inl (sym (are.twin_twin up)));
-              })
-              | is_a at now ↦ rw (some_is d e (sym is ∙ now)) (record {
-                tight = almost.tight;
-                here = almost.here ∙ sym at;
-                other = λ x. not_back (x ∙ at);
-                back = inl (set_there mates inn (f.out (far g e)) (Some up)
-                    (reaches_deeper (inner_named inn_inner) (omega (arith, inn_depth)))
-                    ∙ elsewhere (f.out (far g e)) not_back ∙ almost.reached);
-              })
+              | is_inn at now ↦ rw (some_is d up (sym is ∙ now)) (grind (arith, inn_is, are.twin_twin up))
+              | is_a at now ↦ (let past = set_there mates inn (f.out (far g e)) (Some up)
+                  (reaches_deeper (inner_named inn_inner) (omega (arith, inn_depth))) in
+                  let reached = elsewhere (f.out (far g e)) not_back in
+                  rw (some_is d e (sym is ∙ now)) (grind (arith, almost.reached, not_back)))
               | is_other ni na same ↦ (let half = almost.each b d na (sym same ∙ is) in
                   record { tight = half.tight; here = half.here; other = half.other; back = inl (by_old ni na half) })
             ];
-            more = λ b is. elim (place b) [
-              | is_inn at now ↦ absurd cc
-              | is_a at now ↦ absurd cc
-              | is_other _ _ same ↦ almost.more b (sym same ∙ is)
-            ];
-            begun = λ off. elim (place (f.out (far g start))) [
-              | is_inn at now ↦ cc
-              | is_a at now ↦ cc
-              | is_other _ _ same ↦ almost.begun (sym same ∙ off)
-            ];
+            more = λ b is. grind (arith, almost.more b);
+            begun = λ off. grind (arith, almost.begun);
           }

@@ -44,33 +44,19 @@ inner_named e off = cc
 -- Two sets that have nothing in common: what lies in just one of them.
 pub by_two : (p q : Bool) (x : ℤ) → (p ≡ true → q ≡ true → ⊥) → cond (cond p (not q) q) x (pos 0)
     ≡ cond p x (pos 0) +ℤ cond q x (pos 0)
-by_two true true x off = absurd (off refl refl)
-by_two true false x off = omega (arith, ints)
-by_two false true x off = omega (arith, ints)
-by_two false false x off = omega (arith, ints)
+by_two p q x off = grind (arith, ints)
 
 -- Nothing lies in just one of two equal sets.
 pub by_same : (p q : Bool) (x : ℤ) → p ≡ q → cond (cond p (not q) q) x (pos 0) ≡ pos 0
-by_same true true x e = refl
-by_same false false x e = refl
-by_same _ _ x e = absurd (cc e)
+by_same p q x e = grind (arith, ints)
 
 -- A test with nothing on either side.
 pub by_none : (p : Bool) → cond p (pos 0) (pos 0) ≡ pos 0
-by_none true = refl
-by_none false = refl
-
--- A test over a sum.
-pub by_sum : (p : Bool) (x y : ℤ) → cond p (x +ℤ y) (pos 0) ≡ cond p x (pos 0) +ℤ cond p y (pos 0)
-by_sum true x y = refl
-by_sum false x y = omega (arith, ints)
+by_none p = grind arith
 
 -- Exactly one of two, in either order.
 pub by_order : (p q : Bool) → cond p (not q) q ≡ cond q (not p) p
-by_order true true = refl
-by_order true false = refl
-by_order false true = refl
-by_order false false = refl
+by_order p q = grind arith
 
 -- True is not false.
 pub true_false : {b : Bool} → b ≡ true → b ≡ false → ⊥

@@ -1,54 +1,45 @@
--- The edges that are chosen in the end, as a list.
-use Rattle.std.proofs.Common.{◌≡◌, ℕ, suc, ◌+◌, ◌-◌, ◌*◌, ◌<◌, ◌≤◌, Bool, true, false, cond, eqb, ◌&&◌, List, [], ◌∷◌}
-use Rattle.std.proofs.Common.{◌++◌, map, length, get_or, replicate, Option, None, Result, Ok, Err, IfOk}
-use Rattle.std.proofs.Common.{refl, sym, ◌∙◌, ap, inl, inr, arith, length-append}
-use Rattle.std.proofs.lemmas.Bool.{cases_lt}
-use Rattle.std.proofs.lemmas.Option.{none-some}
-use Rattle.std.proofs.lemmas.List.{get_or_append_left, get_or-append_right, length-replicate}
-use Rattle.def_math.specs.{Counts.count, Counts.count_below, Increasing.IsIncreasing}
+-- The edges that are chosen in the end, as a list. Where all blossoms are matched, they are a perfect matching, and
+-- twice its cost is the sum.
+use Rattle.std.proofs.Common.{◌≡◌, ℕ, suc, ◌+◌, ◌*◌, ◌<◌, ◌≤◌, Bool, true, false, cond, ◌&&◌, List, [], ◌∷◌, ◌++◌, map}
+use Rattle.std.proofs.Common.{length, get_or, replicate, Option, None, Result, Ok, Err, IfOk, refl, sym, ◌∙◌, ap, inl}
+use Rattle.std.proofs.Common.{inr, arith, ◌≢◌, ℤ, pos, ◌*ℤ◌, add-one}
+use Rattle.std.proofs.{lemmas.Grind.common_steps, lemmas.Option.none-some, lemmas.Int.ints, lemmas.Bool.cases_eq}
+use Rattle.std.proofs.{lemmas.Bool.cases_lt}
+use Rattle.def_math.specs.{Counts.count, Counts.count_below, Increasing.IsIncreasing, Sums.total}
 use Rattle.sum_laws.proofs.Counts.{count_append, count_below_none, count_below_same}
-use Rattle.def_matching.specs.Matching.{WeightedGraph, edge_at, ends_at}
-use Rattle.def_forest.specs.Forests.{bool_number, splits}
+use Rattle.sum_laws.proofs.{Sums.total_below_same, Sums.two_orders}
+use Rattle.def_matching.specs.Matching.{WeightedGraph, edge_at, ends_at, IsPerfect, matching_cost}
+use Rattle.def_matching.specs.{Dual.crosses, declared.weighted.WEdge.WEdge}
+use Rattle.def_forest.specs.Forests.{bool_number, splits, Forest, IsTight, dual_sum_of, weight_between}
 use Rattle.def_forest.specs.Tables.{ForestTables, forest_of, MatchesBut}
-use Rattle.forest_laws.proofs.{Bounds.leaves_vertex, Graphs.dart_near, Graphs.near_odd}
-use Rattle.forest_laws.proofs.Writes.{true_false}
-use Rattle.qm_forest.specs.Rounds.{IsSoundFor, AreMarked, HasRoom, IsLaminar, IsRound, leaving, near_at, waiting}
-use Rattle.qm_forest.specs.Rounds.{waits_but, waits_for}
-use Rattle.qm_forest.specs.declared.rounds.Round.{Round}
-use Rattle.qm_forest.proofs.{Fresh.same_everywhere, Laminars.alone}
+use Rattle.def_forest.specs.Darts.{darts_of}
+use Rattle.forest_laws.proofs.Graphs.{dart_near, near_odd, dart_far, dart_cost}
+use Rattle.forest_laws.proofs.{Bounds.leaves_vertex, Bounds.just_once, Writes.true_false}
+use Rattle.qm_forest.specs.Rounds.{IsSoundFor, AreMarked, IsLaminar, IsRound, leaving, waiting, waits_but, waits_for}
+use Rattle.qm_forest.specs.Rounds.{matched_by}
+use Rattle.qm_forest.proofs.{Fresh.same_everywhere, Laminars.alone, Laminars.another, MateRounds.due_one}
+use Rattle.qm_forest.proofs.{MateRounds.due_same}
 
 -- An increasing list with one number more at its end.
 pub increasing_more : (low bound : ℕ) (xs : List ℕ) → low ≤ bound → IsIncreasing low bound xs
     → IsIncreasing low (bound + 1) (xs ++ bound ∷ [])
 increasing_more low bound [] le increasing = (le, omega arith, tt)
-increasing_more low bound (x ∷ xs) le increasing = (
-  increasing.0,
-  omega arith,
-  increasing_more (x + 1) bound xs (omega arith) increasing.2,
-)
+increasing_more low bound (x ∷ xs) le increasing =
+    (increasing.0, omega arith, increasing_more (x + 1) bound xs (omega arith) increasing.2)
 
 pub increasing_higher : (low bound : ℕ) (xs : List ℕ) → IsIncreasing low bound xs → IsIncreasing low (bound + 1) xs
 increasing_higher low bound [] increasing = tt
 increasing_higher low bound (x ∷ xs) increasing =
     (increasing.0, omega arith, increasing_higher (x + 1) bound xs increasing.2)
 
-marked_count : (marks : List Bool) (e : ℕ) (f : ℕ → ℕ) → count_below (λ k. cond (get_or marks k false) (f k) 0) (e + 1)
-    ≡ count_below (λ k. cond (get_or marks k false) (f k) 0) e + cond (get_or marks e false) (f e) 0
-marked_count marks e f =
-    let o : e + 1 ≡ suc e = omega arith in ap (count_below (λ k. cond (get_or marks k false) (f k) 0)) o
-
 -- One place more, with a mark or without.
 pub marked_more : {marks : List Bool} {e : ℕ} {xs : List ℕ} → get_or marks e false ≡ true → AreMarked marks e xs
     → AreMarked marks (e + 1) (xs ++ e ∷ [])
 marked_more {marks} {e} {xs} on are = record {
   increasing = increasing_more 0 e xs (omega arith) are.increasing;
-  each = λ k l. elim (cases_lt k (length xs)) [
-    | inl low ↦ ap (λ x. get_or marks x false) (get_or_append_left xs (e ∷ []) 0 k low) ∙ are.each k low
-    | inr high ↦ (let last : k - length xs ≡ 0 = omega (arith, length-append xs (e ∷ [])) in
-        cc (get_or-append_right xs (e ∷ []) (length xs) k 0 refl high))
-  ];
-  counts = λ f. (let here = ap (λ (s : Bool). cond s (f e) 0) on in
-      omega (arith, count_append f xs (e ∷ []), marked_count marks e f, are.counts f));
+  each = λ k l. grind (arith, common_steps);
+  counts = λ f. (let next = ap (count_below (λ k. cond (get_or marks k false) (f k) 0)) (add-one e) in
+      grind (arith, count_append f xs (e ∷ []), are.counts f));
 }
 
 pub marked_same : {marks : List Bool} {e : ℕ} {xs : List ℕ} → get_or marks e false ≡ false → AreMarked marks e xs
@@ -56,7 +47,7 @@ pub marked_same : {marks : List Bool} {e : ℕ} {xs : List ℕ} → get_or marks
 marked_same {marks} {e} {xs} off are = record {
   increasing = increasing_higher 0 e xs are.increasing;
   each = are.each;
-  counts = λ f. omega (arith, ap (λ (s : Bool). cond s (f e) 0) off, marked_count marks e f, are.counts f);
+  counts = λ f. grind (arith, are.counts f, ap (count_below (λ k. cond (get_or marks k false) (f k) 0)) (add-one e));
 }
 
 -- Nothing is chosen, and nothing waits.
@@ -64,112 +55,125 @@ pub round_begins : (t : ForestTables) {marks : List Bool} {left : List (Option �
     → marks ≡ replicate m false → left ≡ replicate size None → ((v : ℕ) → v < length t.hand → rest v ≤ 1)
     → IsRound t marks left rest rest
 round_begins t {marks} {left} m size rest marks_is left_is once = record {
-  each = λ b l. (let none : leaving t marks b ≡ 0 = count_below_none (λ e. bool_number
-      (get_or marks e false && splits ((forest_of t).holds b) (near_at t (2 * e)) (near_at t (2 * e + 1)))) _ (λ e le.
-      ap (λ (s : Bool). bool_number (s && splits ((forest_of t).holds b) (near_at t (2 * e)) (near_at t (2 * e + 1))))
-      (same_everywhere m false marks_is e)) in
-      let calm : waiting t left b ≡ 0 = count_below_none (λ c. waits_for t b c (get_or left c None)) _
-      (λ c lc. ap (waits_for t b c) (same_everywhere size None left_is c)) in
+  each = λ b l. (let none : leaving t marks b ≡ 0 = count_below_none _ _
+      (λ e le. rw (same_everywhere m false marks_is e)) in
+      let calm : waiting t left b ≡ 0 = count_below_none _ _ (λ c lc. rw (same_everywhere size None left_is c)) in
       omega arith);
   entry = λ c v is. absurd (none-some v (sym (same_everywhere size None left_is c) ∙ is));
   once = once;
   tight = λ g valid e on. absurd (true_false on (same_everywhere m false marks_is e));
 }
 
-pub room_begins : {E : Type 0} {t : ForestTables} (r : Result Round E) (m size : ℕ) → IsLaminar t
-    → (g : WeightedGraph) × IsSoundFor g t → length t.near ≡ 2 * m → size ≡ length t.up
-    → IfOk r (λ round. round.marks.items ≡ replicate m false)
-    → IfOk r (λ round. round.left_out.items ≡ replicate size None) → IfOk r (λ round. HasRoom t round)
-room_begins (Ok round) m size known sound near up marks left = record {
-  laminar = known;
-  sound = sound;
-  marks = omega (arith, ap length marks, length-replicate m false);
-  left_out = ap length left ∙ (length-replicate size None ∙ up);
-}
-room_begins (Err e) m size known sound near up marks left = tt
-
-pub rounds_begin : {E : Type 0} (t : ForestTables) (r : Result Round E) (m size : ℕ)
-    → IfOk r (λ round. round.marks.items ≡ replicate m false) → IfOk r
-    (λ round. round.left_out.items ≡ replicate size None) → IfOk r (λ round. (rest : ℕ → ℕ)
-    → ((v : ℕ) → v < length t.hand → rest v ≤ 1) → IsRound t round.marks.items round.left_out.items rest rest)
-rounds_begin t (Ok round) m size marks left = λ rest once. round_begins t m size rest marks left once
-rounds_begin t (Err e) m size marks left = tt
+-- What follows for what was made from two things that hold of it.
+pub if_both : {X E : Type 0} {P Q R : X → Type 0} (r : Result X E) → IfOk r P → IfOk r Q → ((x : X) → P x → Q x → R x)
+    → IfOk r R
+if_both (Ok x) p q both = both x p q
+if_both (Err e) p q both = tt
 
 -- Where nothing waits, each blossom is left as often as is due.
-pub round_ends : {t : ForestTables} {marks : List Bool} {left : List (Option ℕ)} {due : ℕ → ℕ}
-    → IsRound t marks left (λ b. 0) due → ((c : ℕ) → get_or left c None ≡ None) → (b : ℕ) → b < length t.up
-    → leaving t marks b ≡ due b
+pub round_ends : {t : ForestTables} {marks : List Bool} {left : List (Option ℕ)} {due : ℕ → ℕ} → IsRound t marks left
+    (λ b. 0) due → ((c : ℕ) → get_or left c None ≡ None) → (b : ℕ) → b < length t.up → leaving t marks b ≡ due b
 round_ends {t} {left} round ended b l =
-    let calm : waiting t left b ≡ 0 = count_below_none (λ c. waits_for t b c (get_or left c None)) _
+    let calm = count_below_none (λ c. waits_for t b c (get_or left c None)) (length left)
     (λ c lc. ap (waits_for t b c) (ended c)) in
     omega (arith, round.each b l)
-
--- A blossom waits in a set once at most.
-pub waits_low : (t : ForestTables) (b c v : ℕ) → waits_but t b c v ≤ 1
-waits_low t b c v = low _ _
-  where
-    low : (p q : Bool) → cond p (cond q 0 1) 0 ≤ 1
-    low true true = omega arith
-    low true false = omega arith
-    low false q = omega arith
 
 pub count_map : {X : Type 0} (f : X → ℕ) (h : ℕ → X) (xs : List ℕ) → count f (map h xs) ≡ count (λ k. f (h k)) xs
 count_map f h [] = refl
 count_map f h (x ∷ xs) = ap (λ m. f (h x) + m) (count_map f h xs)
 
+and_number : (p q : Bool) → bool_number (p && q) ≡ cond p (bool_number q) 0
+and_number p q = grind arith
+
+-- A blossom without weight adds nothing.
+none_added : (s : ℕ → Bool) {z : ℤ} (es : List WEdge) → z ≡ pos 0
+    → total (λ (e : WEdge). cond (crosses s e) z (pos 0)) es ≡ pos 0
+none_added s [] zero' = refl
+none_added s (e ∷ es) zero' = grind (arith, ints, none_added s es zero')
+
+-- The loads of tight edges are twice their costs.
+loads_exact : (g : WeightedGraph) (f : Forest) (xs : List ℕ)
+    → ((k : ℕ) → k < length xs → IsTight (darts_of g) f (2 * get_or xs k 0))
+    → total (λ (e : WEdge). weight_between f e.u e.v) (map (edge_at g) xs) ≡ pos 2 *ℤ matching_cost g xs
+loads_exact g f [] tight = omega (arith, ints)
+loads_exact g f (x ∷ xs) tight =
+    let rest = loads_exact g f xs (λ k l. tight (suc k) (omega arith)) in
+    grind (arith, ints, (tight 0 (omega arith)).exact, dart_near g x, dart_far g x, dart_cost g x)
+
 module _ {t : ForestTables} (known : IsLaminar t) {g : WeightedGraph} (valid : IsSoundFor g t) {marks : List Bool}
     (size : length t.near ≡ 2 * length marks) {list : List ℕ} (are : AreMarked marks (length marks) list) where
-  pub edges_is : length marks ≡ length g.edges
+  abbrev f : Forest
+  f = forest_of t
+
+  -- An edge leaves a blossom, once or not.
+  abbrev leaves : ℕ → ℕ → ℕ
+  leaves b e = bool_number (splits (f.holds b) (edge_at g e).u (edge_at g e).v)
+
+  edges_is : length marks ≡ length g.edges
   edges_is = omega arith
 
-  sides : (e : ℕ) → e < length marks → (near_at t (2 * e) ≡ (edge_at g e).u) × (near_at t (2 * e + 1) ≡ (edge_at g e).v)
-  sides e l = (
-    valid.ends (2 * e) (omega arith) ∙ dart_near g e,
-    valid.ends _ (omega arith) ∙ near_odd g _ e refl,
-  )
+  increasing : IsIncreasing 0 (length g.edges) list
+  increasing = rw edges_is at are.increasing
 
   -- Edges that leave a blossom, along the list.
-  pub leaving_listed : (b : ℕ) → leaving t marks b ≡ count (λ e. bool_number
-      (splits ((forest_of t).holds b) (edge_at g e).u (edge_at g e).v)) list
-  leaving_listed b = count_below_same (λ e. bool_number (get_or marks e false && splits ((forest_of t).holds b)
-      (near_at t (2 * e)) (near_at t (2 * e + 1)))) (λ e. cond (get_or marks e false) (bool_number
-      (splits ((forest_of t).holds b) (edge_at g e).u (edge_at g e).v)) 0) _ (λ e l. each e l _) ∙ sym
-      (are.counts (λ e. bool_number (splits ((forest_of t).holds b) (edge_at g e).u (edge_at g e).v)))
-    where
-      each : (e : ℕ) → e < length marks → (s : Bool)
-          → bool_number (s && splits ((forest_of t).holds b) (near_at t (2 * e)) (near_at t (2 * e + 1)))
-          ≡ cond s (bool_number (splits ((forest_of t).holds b) (edge_at g e).u (edge_at g e).v)) 0
-      each e l false = refl
-      each e l true = cc ((sides e l).0, (sides e l).1)
+  leaving_listed : (b : ℕ) → leaving t marks b ≡ count (leaves b) list
+  leaving_listed b = count_below_same _ (λ e. cond (get_or marks e false) (leaves b e) 0) _ (λ e l.
+      (let near = valid.ends (2 * e) (omega arith) ∙ dart_near g e in
+      let far = valid.ends (2 * e + 1) (omega arith) ∙ near_odd g (2 * e + 1) e refl in
+      rw (near, far) (and_number _ _))) ∙ sym (are.counts (leaves b))
 
   -- A vertex is met as often as it is left.
-  pub met_as_left : (w : ℕ) → w < length t.hand → count (ends_at w) (map (edge_at g) list) ≡ leaving t marks w
+  met_as_left : (w : ℕ) → w < length t.hand → count (ends_at w) (map (edge_at g) list) ≡ leaving t marks w
   met_as_left w lw = sym (leaving_listed w ∙ (counted 0 list increasing ∙ sym (count_map _ _ list)))
     where
-      increasing : IsIncreasing 0 (length g.edges) list
-      increasing = rw edges_is at are.increasing
-
       counted : (low : ℕ) (xs : List ℕ) → IsIncreasing low (length g.edges) xs
-          → count (λ e. bool_number (splits ((forest_of t).holds w) (edge_at g e).u (edge_at g e).v)) xs
-          ≡ count (λ e. ends_at w (edge_at g e)) xs
+          → count (leaves w) xs ≡ count (λ e. ends_at w (edge_at g e)) xs
       counted low [] r = refl
       counted low (x ∷ xs) r =
-          let here : bool_number (splits ((forest_of t).holds w) (edge_at g x).u (edge_at g x).v)
-          ≡ ends_at w (edge_at g x) = leaves_vertex valid.small.lawful
+          let here : leaves w x ≡ ends_at w (edge_at g x) = leaves_vertex valid.small.lawful
           (rw valid.vertices at known.vertices) valid.valid.nested w x (rw valid.vertices at lw) r.1 in
           omega (arith, counted (x + 1) xs r.2)
 
   -- The edges match all vertices of a blossom but one.
-  pub matches_but : {left : List (Option ℕ)} (b v : ℕ) → v < length t.hand
-      → IsRound t marks left (λ c. 0) (λ c. waits_but t c b v + 0) → ((c : ℕ) → get_or left c None ≡ None)
-      → MatchesBut g (forest_of t) b v list
+  pub matches_but : {left : List (Option ℕ)} (b v : ℕ) → v < length t.hand → IsRound t marks left (λ c. 0)
+      (λ c. waits_but t c b v + 0) → ((c : ℕ) → get_or left c None ≡ None) → MatchesBut g f b v list
   matches_but b v lv round ended = record {
-    increasing = rw edges_is at are.increasing;
+    increasing = increasing;
     tight = λ k l. round.tight g valid _ (are.each k l);
-    once = λ w lw. (
-        let low : w < length t.hand = rw valid.vertices lw in
-        let low_up : w < length t.up = omega arith in
-        let other : waits_but t w b v ≡ cond ((forest_of t).holds b w) (cond (eqb w v) 0 1) 0 =
-        ap (λ (s : Bool). cond ((forest_of t).holds b w) (cond s 0 1) 0) (alone known w v low lv) in
-        omega (arith, met_as_left w low, round_ends round ended w low_up));
+    once = λ w lw. (let low : w < length t.hand = rw valid.vertices lw in
+        grind (arith, met_as_left w low, round_ends round ended w (omega arith), alone known w v low lv));
   }
+
+  module _ {left : List (Option ℕ)} (round : IsRound t marks left (λ b. 0) (matched_by t (length marks)))
+      (ended : (c : ℕ) → get_or left c None ≡ None) (matched : (v : ℕ) → v < g.n → f.mate (f.out v) ≢ None) where
+    due : (w : ℕ) → w < length t.hand → matched_by t (length marks) w ≡ 1
+    due w l = due_one known valid w l edges_is (matched w (rw valid.vertices at l))
+
+    abbrev es : List WEdge
+    es = map (edge_at g) list
+
+    abbrev adds : ℕ → WEdge → ℤ
+    adds b e = cond (crosses (f.holds b) e) (f.weight b) (pos 0)
+
+    counted : (b : ℕ) → b < f.size → matched_by t (length marks) b ≡ 1 → f.weight b ≡ total (adds b) es
+    counted b l one = sym (just_once (f.holds b) (f.weight b) es
+        (count_map (λ (e : WEdge). cond (crosses (f.holds b) e) 1 0) (edge_at g) list
+        ∙ (sym (leaving_listed b) ∙ (round_ends round ended b l ∙ one))))
+
+    -- The edges are a perfect matching, and the sum of the weights is the sum of the loads.
+    pub perfect : IsPerfect g list × (dual_sum_of f ≡ pos 2 *ℤ matching_cost g list)
+    perfect =
+        let once : (w : ℕ) → w < g.n → count (ends_at w) es ≡ 1 = λ w lw. (let low : w < length t.hand =
+        rw valid.vertices lw in met_as_left w low ∙ (round_ends round ended w (omega arith) ∙ due w low)) in
+        let sum = total_below_same _ (λ b. total (adds b) es) f.size (λ b l. elim (cases_lt b (length t.hand)) [
+          | inl low ↦ counted b l (due b low)
+          | inr high ↦ elim (cases_eq (get_or t.parts b 0) 0) [
+            | inl dead ↦ (let z = valid.valid.nested.weightless b (rw valid.vertices at high) dead in
+                z ∙ sym (none_added (f.holds b) es z))
+            | inr live ↦ (let w = another known valid b 0 high l live in
+                counted b l (due_same known valid b w.0 _ w.1 w.3 ∙ due w.0 w.1))
+          ]
+        ]) in (
+          record { increasing = increasing; once = once },
+          sum ∙ (sym (two_orders adds f.size es) ∙ loads_exact g f list (λ k l. round.tight g valid _ (are.each k l))),
+        )

@@ -1,12 +1,11 @@
 -- Climbing after a row of outermost blossoms got a set around them.
-use Rattle.std.proofs.Common.{◌≡◌, ◌≢◌, ℕ, zero, suc, ◌+◌, ◌<◌, ◌≤◌, Bool, true, false, cond, eqb, ◌||◌, refl, sym}
-use Rattle.std.proofs.Common.{◌∙◌, ap, subst, inl, inr, arith}
-use Rattle.std.proofs.Math.Bool.{or-false}
+use Rattle.std.proofs.Common.{◌≡◌, ◌≢◌, ℕ, zero, suc, ◌+◌, ◌<◌, ◌≤◌, Bool, true, false, cond, eqb, ◌||◌, refl, ◌∙◌, ap}
+use Rattle.std.proofs.Common.{subst, inl, inr, arith}
 use Rattle.std.proofs.lemmas.Bool.{cases_eq, cases_Bool, eq-eqb, ne_eqb}
 use Rattle.def_forest.specs.{Forests.walk, Tables.climbs}
-use Rattle.forest_laws.proofs.Walks.{walk_front, walk_fixed}
+use Rattle.forest_laws.proofs.{Walks.walk_front, Walks.walk_fixed}
 use Rattle.qm_forest.specs.Ties.{IsClimb}
-use Rattle.qm_forest.proofs.{Apart.OnWayFrom, Apart.fixed_top, Apart.rank_low, Apart.goes_on, Apart.or_twice}
+use Rattle.qm_forest.proofs.Apart.{OnWayFrom, fixed_top, rank_low, goes_on}
 use Rattle.qm_forest.proofs.Fresh.{climbs_self}
 
 -- One comes past where one is.
@@ -58,10 +57,6 @@ module _ {n : ℕ} {up out rank up2 : ℕ → ℕ} {inside : ℕ → Bool} {b : 
   abbrev pub fresh : ℕ → ℕ
   fresh v = cond (inside (out v)) b (out v)
 
-  climbs_higher : (v x : ℕ) → v < n → On v x → up x ≢ x → rank x < rank (out v)
-  climbs_higher v x l w inner =
-      omega (arith, rises x inner, rank_low rank climb rises v (up x) l (goes_on rank climb rises v x w))
-
   -- What holds where one stays, and a step before where it holds, holds of the way from a vertex.
   climbing : (P : ℕ → ℕ → Type 0) (v : ℕ) → v < n → ((m x : ℕ) → On v x → up x ≡ x → P (suc m) x)
       → ((m x : ℕ) → On v x → up x ≢ x → P (suc m) (up x) → P (suc (suc m)) x) → P n v
@@ -70,7 +65,8 @@ module _ {n : ℕ} {up out rank up2 : ℕ → ℕ} {inside : ℕ → Bool} {b : 
       from : (m x : ℕ) → On v x → rank (out v) ≤ rank x + m → P (suc m) x
       from zero x w h = elim (cases_eq (up x) x) [
         | inl at ↦ top 0 x w at
-        | inr inner ↦ absurd (omega (arith, climbs_higher v x l w inner))
+        | inr inner ↦ (let top = rank_low rank climb rises v (up x) l (goes_on rank climb rises v x w) in
+            absurd (omega (arith, rises x inner)))
       ]
       from (suc m) x w h =
           let more = from m (up x) (goes_on rank climb rises v x w) in
@@ -81,48 +77,29 @@ module _ {n : ℕ} {up out rank up2 : ℕ → ℕ} {inside : ℕ → Bool} {b : 
       by_size zero e = absurd (omega arith)
       by_size (suc m) e = subst (λ k. P k v) e (from m v (0, refl) (omega (arith, few v l, ones v l)))
 
-  -- Where one stayed one goes on to the new set, or stays.
-  reach_top : (v : ℕ) → v < n → (m x : ℕ) → On v x → up x ≡ x → walk up2 x (suc m) ≡ fresh v
-  reach_top v l m x w top =
-      let x_is = fixed_top rank climb rises v l w top in
-      elim (cases_Bool (inside (out v))) [
-        | inl on ↦ rw (on, walk_front up2 x m, up_in x (ap inside x_is ∙ on)) (walk_fixed up2 m up_b)
-        | inr off ↦ rw off (walk_fixed up2 (suc m) (up_off x (ap inside x_is ∙ off) ∙ top) ∙ x_is)
-      ]
-
   -- One comes to the new set, or to where one came.
   pub climb_enclosed : IsClimb n up2 fresh
   climb_enclosed = record {
-    ends = λ v l. climbing (λ k x. walk up2 x k ≡ fresh v) v l (reach_top v l) (λ m x w inner more.
+    ends = λ v l. climbing (λ k x. walk up2 x k ≡ fresh v) v l (λ m x w top.
+        (let x_is = fixed_top rank climb rises v l w top in
+        let there = walk_fixed up2 m up_b in
+        grind (arith, up_in x, up_off x, walk_front up2 x m, walk_fixed up2 {a = x} (suc m))))
+        (λ m x w inner more.
         walk_front up2 x (suc m) ∙ (ap (λ z. walk up2 z (suc m)) (up_off x (off_inner x inner)) ∙ more));
-    tops = λ v l. elim (cases_Bool (inside (out v))) [
-      | inl on ↦ rw on up_b
-      | inr off ↦ rw (off, up_off (out v) off) (climb.tops v l)
-    ];
+    tops = λ v l. grind (arith, up_b, up_off (out v), climb.tops v l);
   }
 
-  -- One comes past the same old blossoms.
-  past_top : (m : ℕ) {x : ℕ} (c : ℕ) → c ≢ b → up x ≡ x → climbs up2 (suc m) c x ≡ climbs up (suc m) c x
-  past_top m {x} c ne top = elim (cases_Bool (inside x)) [
-    | inl on ↦ rw (up_in x on, top, climbs_self up2 m c up_b, ne_eqb b c (λ e. ne (sym e)), climbs_self up m c top)
-        (or-false (eqb x c) ∙ sym (or_twice _))
-    | inr off ↦ rw (up_off x off, top, climbs_self up2 m c (up_off x off ∙ top), climbs_self up m c top)
-  ]
-
+  -- One comes past the same old blossoms, and past the new set from the vertices of the row.
   pub holds_same : (c v : ℕ) → c ≢ b → v < n → climbs up2 n c v ≡ climbs up n c v
-  holds_same c v ne l = climbing (λ k x. climbs up2 k c x ≡ climbs up k c x) v l (λ m x w top. past_top m c ne top)
+  holds_same c v ne l = climbing (λ k x. climbs up2 k c x ≡ climbs up k c x) v l
+      (λ m x w top. (let there = climbs_self up2 m c up_b in
+      grind (arith, up_in x, up_off x, climbs_self up2 m c {v = x}, climbs_self up m c top)))
       (λ m x w inner more. rw (up_off x (off_inner x inner)) (ap (λ (s : Bool). eqb x c || s) more))
 
-  -- And past the new set from the vertices of the row.
-  new_top : (m v : ℕ) {x : ℕ} → v < n → On v x → up x ≡ x → climbs up2 (suc m) b x ≡ inside (out v)
-  new_top m v {x} l w top =
-      let x_is = fixed_top rank climb rises v l w top in
-      rw (ne_eqb x b (on_way_ne v x l w)) (elim (cases_Bool (inside (out v))) [
-        | inl on ↦ rw (up_in x (ap inside x_is ∙ on), on) (climbs_here up2 m b)
-        | inr off ↦ rw (up_off x (ap inside x_is ∙ off), top, off)
-            (climbs_self up2 m b (up_off x (ap inside x_is ∙ off) ∙ top) ∙ ne_eqb x b (on_way_ne v x l w))
-      ])
-
   pub holds_new : (v : ℕ) → v < n → climbs up2 n b v ≡ inside (out v)
-  holds_new v l = climbing (λ k x. climbs up2 k b x ≡ inside (out v)) v l (λ m x w top. new_top m v l w top)
+  holds_new v l = climbing (λ k x. climbs up2 k b x ≡ inside (out v)) v l
+      (λ m x w top. (let x_is = fixed_top rank climb rises v l w top in
+      let here = climbs_here up2 m b in
+      let ne = on_way_ne v x l w in
+      grind (arith, up_in x, up_off x, climbs_self up2 m b {v = x})))
       (λ m x w inner more. rw (ne_eqb x b (on_way_ne v x l w), up_off x (off_inner x inner)) more)

@@ -1,20 +1,18 @@
 -- Expanding, step by step: what each of its calls needs, and the forest after all of them.
-use Rattle.std.proofs.Common.{◌≡◌, ◌≢◌, ℕ, ◌*◌, ◌<◌, ◌≤◌, Bool, true, length}
-use Rattle.std.proofs.Common.{Some, None, refl, sym, ◌∙◌, ap, subst, inl, inr}
+use Rattle.std.proofs.Common.{◌≡◌, ◌≢◌, ℕ, ◌*◌, ◌<◌, ◌≤◌, Bool, true, length, Some, None, refl, sym, ◌∙◌, ap, subst}
+use Rattle.std.proofs.Common.{inl, inr}
 use Rattle.def_matching.specs.Matching.{WeightedGraph}
-use Rattle.def_forest.specs.{Darts.Darts, Darts.darts_of, Forests.Forest, Forests.walk, Opened.IsExpanding}
 use Rattle.def_forest.specs.Tables.{ForestTables, forest_of, IsOutermostIn, IsValidFor}
-use Rattle.def_forest.specs.{Valid.IsTree, Ways.dart_or}
-use Rattle.def_forest.specs.declared.kinds.Label.TheVariants.{Outside}
+use Rattle.def_forest.specs.{Darts.Darts, Darts.darts_of, Forests.Forest, Forests.walk, Opened.IsExpanding}
+use Rattle.def_forest.specs.{Ways.dart_or, declared.kinds.Label.TheVariants.Outside}
 use Rattle.forest_laws.specs.Walks.{listed}
-use Rattle.forest_laws.proofs.{Circles.IsCircle, ExpandedTrees.opened_valid}
-use Rattle.qm_forest.specs.{Parts.HasOpened, Parts.IsCourse, Parts.IsParted, Parts.hung, Parts.paired, Ties.fixed_of}
-use Rattle.qm_forest.specs.{Ties.HasSameNest, Ties.labelled, Ties.linked, Ties.mated, declared.expanding.Course.Course}
-use Rattle.qm_forest.proofs.{Leavings.outermost_kept, OnWays.valid_as}
-use Rattle.qm_forest.proofs.{Openeds.expanding, Openeds.laid, Openings.CanOpen, Openings.are}
-use Rattle.qm_forest.proofs.Openings.{inside as the_inside}
-use Rattle.qm_forest.proofs.Openings.{in_tree, joined, mate_is, part_low, ring_from}
+use Rattle.forest_laws.proofs.{Walks.IsCircle, Expands.opened_valid}
+use Rattle.qm_forest.specs.Parts.{HasOpened, IsCourse, IsParted, hung, paired}
+use Rattle.qm_forest.specs.Ties.{fixed_of, HasSameNest, labelled, linked, mated}
+use Rattle.qm_forest.specs.declared.expanding.Course.{Course}
+use Rattle.qm_forest.proofs.Openings.{CanOpen, are, inside as the_inside, in_tree, joined, mate_is, part_low, ring_from}
 use Rattle.qm_forest.proofs.Openings.{first_in, last_in, tree_is}
+use Rattle.qm_forest.proofs.{Leavings.outermost_kept, OnWays.valid_as, Openings.expanding, Openings.laid}
 
 module _ {g : WeightedGraph} {t0 : ForestTables} {b : ℕ} (ready : CanOpen g t0 b) where
   -- The set is matched, and its darts are darts of the graph.
@@ -67,17 +65,6 @@ module _ {g : WeightedGraph} {t0 t2 : ForestTables} {b mate link first last many
   abbrev inside : ℕ → Bool
   inside = the_inside ready
 
-  part_top : (x : ℕ) → inside x ≡ true → IsOutermostIn t2 x
-  part_top x on =
-      let j = joined ready parted x on in (
-        d.near _,
-        vertex_low ready opened _ _ refl j.tight.low,
-        j.near_part,
-      )
-
-  low2 : (x : ℕ) → inside x ≡ true → x < length t2.up
-  low2 x on = rw parted.size (part_low ready x on)
-
   m_is : mate ≡ (in_tree ready).dart
   m_is = mate_dart_is ready it.mate_is
 
@@ -100,7 +87,7 @@ module _ {g : WeightedGraph} {t0 t2 : ForestTables} {b mate link first last many
   some = rw many_is (circle_at first first_marked).some
 
   pub places_low : (k : ℕ) → k < many → walk f2.nest.after first k < length t2.up
-  places_low k l = low2 _ ((circle_at first first_marked).marked k)
+  places_low k l = rw parted.size (part_low ready _ ((circle_at first first_marked).marked k))
 
   -- The parts are matched.
   module _ {t3 : ForestTables} (seen3 : forest_of t3 ≡ mated (paired f2 first many) first (Some mate))
@@ -117,32 +104,24 @@ module _ {g : WeightedGraph} {t0 t2 : ForestTables} {b mate link first last many
 
     -- And hung into the tree.
     module _ {course : Course} (way : IsCourse (forest_of t3).nest.after first last many course) where
-      front_marked : inside course.front ≡ true
-      front_marked = elim way.way [ inl w ↦ ap inside w.1 ∙ first_marked | inr w ↦ ap inside w.1 ∙ last_marked ]
-
       pub tops3 : (k : ℕ) → k < course.many → IsOutermostIn t3 (walk (forest_of t3).nest.after course.front k)
-      tops3 k l = outermost_kept same3 (at3 _ k) (part_top _ ((circle_at _ front_marked).marked k))
+      tops3 k l =
+          let front : inside course.front ≡ true =
+          elim way.way [ inl w ↦ ap inside w.1 ∙ first_marked | inr w ↦ ap inside w.1 ∙ last_marked ] in
+          let j = joined ready parted _ ((circle_at _ front).marked k) in
+          outermost_kept same3 (at3 _ k) (d.near _, vertex_low ready opened _ _ refl j.tight.low, j.near_part)
 
-      module _ {f6 : Forest} (t4 : ForestTables) (seen4 : forest_of t4 ≡ hung (forest_of t3) course.front course.many
-          course.forward) (seen6 : f6 ≡ linked (forest_of t4) last link) where
-        done : f6 ≡ laid ready parted course.front course.many course.forward
-        done = seen6 ∙ (ap (λ (f : Forest). linked f last link)
-            (seen4 ∙ ap (λ (f : Forest). hung f course.front course.many course.forward) seen3)
-            ∙ rw (first_is, many_is, m_is, last_is, link_is))
-
-        pub expanded : IsExpanding d f0 f6 b
-        expanded = expanding ready parted (rw (after3, first_is, last_is, many_is) at way) done
-
-        abbrev tree : (r : ℕ) × (t0.root ≡ Some r) × IsTree d f0 r
-        tree = tree_is ready
-
-        pub expanded_valid : (t6 : ForestTables) → forest_of t6 ≡ f6 → length t6.hand ≡ length t2.hand
-            → t6.root ≡ t0.root → fixed_of t6 ≡ fixed_of t2 → IsValidFor g t6
-        expanded_valid t6 seen hand root fixed = valid_as t6 valid (fixed ∙ (opened.fixed ∙ opened.same.fixed))
-            (hand ∙ (opened.hand ∙ ap length opened.same.hand)) (rw (root, tree.1) (rw seen (opened_valid (record {
-              are = are ready;
-              valid = rw tree.1 at valid.valid;
-              tree = tree.2;
-              opening = expanded.opening;
-              is = expanded.opened;
-            }))))
+      pub expanded : (t4 : ForestTables)
+          → forest_of t4 ≡ hung (forest_of t3) course.front course.many course.forward → (t6 : ForestTables)
+          → forest_of t6 ≡ linked (forest_of t4) last link → length t6.hand ≡ length t2.hand → t6.root ≡ t0.root
+          → fixed_of t6 ≡ fixed_of t2 → IsExpanding d f0 (forest_of t6) b × (t6.root ≡ t0.root) × IsValidFor g t6
+      expanded t4 seen4 t6 seen6 hand root fixed =
+          let done : forest_of t6 ≡ laid ready parted course.front course.many course.forward =
+          seen6 ∙ (ap (λ (f : Forest). linked f last link) (seen4 ∙ ap (λ (f : Forest). hung f course.front course.many
+          course.forward) seen3) ∙ rw (first_is, many_is, m_is, last_is, link_is)) in
+          let is = expanding ready parted (rw (after3, first_is, last_is, many_is) at way) done in
+          let tree = tree_is ready in
+          let whole = valid_as t6 valid (fixed ∙ (opened.fixed ∙ opened.same.fixed)) (hand ∙ (opened.hand
+          ∙ ap length opened.same.hand)) (rw (root, tree.1) (opened_valid {f = f0} {o = is.o}
+          (assumption (are ready, rw tree.1 at valid.valid, is, tree)))) in
+          (is, root, whole)

@@ -1,15 +1,14 @@
 -- Lists of vertices that are joined one after another.
-use Rattle.std.proofs.Common.{◌≡◌, ◌≢◌, ℕ, zero, suc, ◌+◌, ◌-◌, ◌<◌, ◌≤◌, Bool, true, false, eqb, ◌||◌, ◌⊎◌, refl, sym}
-use Rattle.std.proofs.Common.{◌∙◌, ap, inl, inr, arith}
+use Rattle.std.proofs.Common.{◌≡◌, ◌≢◌, ℕ, zero, suc, ◌+◌, ◌-◌, ◌<◌, ◌≤◌, Bool, true, false, eqb, ◌||◌, refl, sym, ◌∙◌}
+use Rattle.std.proofs.Common.{ap, inl, inr, arith}
 use Rattle.std.proofs.lemmas.Bool.{cases_lt, eq-eqb, ne_eqb, eqb-true}
 use Rattle.def_math.specs.Counts.{count_below}
 use Rattle.sum_laws.proofs.Counts.{count_below_le, count_below_one, count_below_ones, count_below_same}
 use Rattle.sum_laws.proofs.Tests.{once_at_most}
 use Rattle.def_forest.specs.Forests.{bool_number, walk, ring_sum}
 use Rattle.forest_laws.specs.Walks.{listed}
-use Rattle.forest_laws.proofs.Odds.{counts_exchanged}
 use Rattle.forest_laws.proofs.Walks.{walk_sum, listed_at, listed_place, listed_parts, listed_sum}
-use Rattle.forest_laws.proofs.Bounds.{eqb_order}
+use Rattle.forest_laws.proofs.{Odds.counts_exchanged, Bounds.eqb_order}
 use Rattle.qm_forest.specs.Ties.{IsListed}
 
 -- A list is the same over tables that agree on it.
@@ -42,20 +41,11 @@ list_agrees {n} {next} other {from} {many} is same = record {
 -- The same list of the same set under another name.
 pub list_renamed : {n : ℕ} {next : ℕ → ℕ} {from to many : ℕ} {set : ℕ → Bool} (other : ℕ → Bool)
     → IsListed n next from to many set → ((v : ℕ) → v < n → set v ≡ other v) → IsListed n next from to many other
-list_renamed other is same = record {
-  all = λ v l. is.all v l ∙ same v l;
-  low = is.low;
-  distinct = is.distinct;
-  ends = is.ends;
-  some = is.some;
-}
+list_renamed {n} {next} {from} {many = many} other is same =
+    let all : (v : ℕ) → v < n → listed next from many v ≡ other v = λ v l. is.all v l ∙ same v l in
+    assumption
 
--- The last of a list, and the members as such.
-pub list_last : {n : ℕ} {next : ℕ → ℕ} {from to : ℕ} (many : ℕ) {set : ℕ → Bool} → IsListed n next from to many set
-    → (k : ℕ) × (suc k ≡ many) × (walk next from k ≡ to)
-list_last zero is = absurd (omega arith)
-list_last (suc k) is = (k, refl, is.ends k refl)
-
+-- The members as such, and the last of them.
 pub list_member : {n : ℕ} {next : ℕ → ℕ} {from to many : ℕ} {set : ℕ → Bool} → IsListed n next from to many set
     → (k : ℕ) → k < many → set (walk next from k) ≡ true
 list_member {next} {from} {many} is k l = sym (is.all _ (is.low k l)) ∙ listed_at next from many k l
@@ -63,80 +53,51 @@ list_member {next} {from} {many} is k l = sym (is.all _ (is.low k l)) ∙ listed
 pub list_has_last : {n : ℕ} {next : ℕ → ℕ} {from to many : ℕ} {set : ℕ → Bool} → IsListed n next from to many set
     → (to < n) × (set to ≡ true)
 list_has_last {n} {next} {from} {to} {many} {set} is =
-    let w = list_last many is in (
-      rw w.2 at (is.low w.0 (omega arith)),
-      rw w.2 at (list_member is w.0 (omega arith)),
-    )
+    let last = is.ends (many - 1) (omega arith) in
+    (rw last at (is.low (many - 1) (omega arith)), rw last at (list_member is (many - 1) (omega arith)))
 
 -- A list as many members as it counts.
 pub list_count : {n : ℕ} {next : ℕ → ℕ} {from to many : ℕ} {set : ℕ → Bool} → IsListed n next from to many set
     → count_below (λ v. bool_number (set v)) n ≡ many
-list_count {n} {next} {from} {many} {set} is = count_below_same (λ v. bool_number (set v))
-    (λ v. bool_number (listed next from many v)) n (λ v l. ap bool_number (sym (is.all v l)))
-    ∙ (count_below_same (λ v. bool_number (listed next from many v))
-    (λ v. ring_sum next (λ p. bool_number (eqb v p)) from many) n (λ v l. listed_sum next from many v is.distinct)
-    ∙ (counts_exchanged next (λ p v. bool_number (eqb v p)) from n many ∙ ones many (omega arith)))
+list_count {n} {next} {from} {many} {set} is =
+    let sum = count_below_same (λ v. bool_number (set v)) (λ v. ring_sum next (λ p. bool_number (eqb v p)) from many) n
+    (λ v l. ap bool_number (sym (is.all v l)) ∙ listed_sum next from many v is.distinct) in
+    omega (arith, sum, counts_exchanged next (λ p v. bool_number (eqb v p)) from n many, ones many (omega arith))
   where
     one : (p : ℕ) → p < n → count_below (λ v. bool_number (eqb v p)) n ≡ 1
-    one p l = cc (
-      count_below_one (λ v. bool_number (eqb v p)) n p l (λ k lk ne. ap bool_number (ne_eqb k p ne)),
-      eq-eqb
-          p p refl,
-    )
+    one p l = count_below_one (λ v. bool_number (eqb v p)) n p l (λ k lk ne. ap bool_number (ne_eqb k p ne))
+        ∙ ap bool_number (eq-eqb p p refl)
 
     ones : (k : ℕ) → k ≤ many → ring_sum next (λ p. count_below (λ v. bool_number (eqb v p)) n) from k ≡ k
     ones zero l = refl
-    ones (suc k) l = (let h : ring_sum next (λ p. count_below (λ v. bool_number (eqb v p)) n) from k ≡ k =
-        ones k (omega arith) in let o : count_below (λ v. bool_number (eqb v (walk next from k))) n ≡ 1 =
-        one _ (is.low k (omega arith)) in omega arith)
+    ones (suc k) l = omega (arith, ones k (omega arith), one _ (is.low k (omega arith)))
 
 pub list_few : {n : ℕ} {next : ℕ → ℕ} {from to many : ℕ} {set : ℕ → Bool} → IsListed n next from to many set → many ≤ n
 list_few {n} {set} is =
-    let below : count_below (λ v. bool_number (set v)) n ≤ count_below (λ v. 1) n =
-    count_below_le (λ v. bool_number (set v)) (λ v. 1) n (λ k l. once_at_most (set k)) in
+    let below = count_below_le (λ v. bool_number (set v)) (λ v. 1) n (λ k l. once_at_most (set k)) in
     omega (arith, list_count is, count_below_ones n)
 
 -- Two lists, of which the second begins where the first ends.
-pub list_joined : {n : ℕ} {next : ℕ → ℕ} {a b m c d k : ℕ} {s t : ℕ → Bool} → IsListed n next a b m s
-    → IsListed n next c d k t → next b ≡ c → ((v : ℕ) → s v ≡ true → t v ≡ true → ⊥)
-    → IsListed n next a d (m + k) (λ v. s v || t v)
+pub list_joined : {n : ℕ} {next : ℕ → ℕ} {a b m c d k : ℕ} {s t : ℕ → Bool} → IsListed n next a b m s → IsListed n next
+    c d k t → next b ≡ c → ((v : ℕ) → s v ≡ true → t v ≡ true → ⊥) → IsListed n next a d (m + k) (λ v. s v || t v)
 list_joined {n} {next} {a} {b} {m} {c} {d} {k} {s} {t} one two seam apart = record {
   all = λ v l. listed_parts next a m k v ∙ (cc (one.all v l, turn, two.all v l));
-  low = λ i l. elim (cases_lt i m) [
-    | inl li ↦ one.low i li
-    | inr h ↦ (let e : m + (i - m) ≡ i = omega arith in
-        rw (sym (second (i - m)) ∙ ap (walk next a) e) at (two.low (i - m) (omega arith)))
-  ];
-  distinct = λ i j lij lj e. differ i j lij lj e (cases_lt i m) (cases_lt j m);
-  ends = λ j e. at_end j e;
+  low = λ i l. elim (cases_lt i m) [ inl li ↦ one.low i li | inr h ↦ rw (past i h) (two.low (i - m) (omega arith)) ];
+  distinct = λ i j lij lj e. (let met = apart (walk next a i) in
+      let first = one.distinct i j in
+      let second = two.distinct (i - m) (j - m) in
+      grind (arith, past i, past j, list_member one i, list_member two (j - m)));
+  ends = λ j e. past j (omega arith) ∙ two.ends (j - m) (omega arith);
   some = omega arith;
 }
   where
     turn : walk next a m ≡ c
-    turn = let w = list_last m one in
-        ap (walk next a) (sym w.1) ∙ (ap next w.2 ∙ seam)
+    turn = let e : suc (m - 1) ≡ m = omega arith in
+        ap (walk next a) (sym e) ∙ (ap next (one.ends (m - 1) e) ∙ seam)
 
-    second : (j : ℕ) → walk next a (m + j) ≡ walk next c j
-    second j = walk_sum next a m j ∙ ap (λ x. walk next x j) turn
-
-    differ : (i j : ℕ) → i < j → j < m + k → walk next a i ≡ walk next a j → (i < m) ⊎ (m ≤ i) → (j < m) ⊎ (m ≤ j) → ⊥
-    differ i j lij lj e (inl li) (inl lj') = one.distinct i j lij lj' e
-    differ i j lij lj e (inl li) (inr hj) =
-        let at : m + (j - m) ≡ j = omega arith in
-        let same : walk next a i ≡ walk next c (j - m) = e ∙ (ap (walk next a) (sym at) ∙ second (j - m)) in
-        apart (walk next a i) (list_member one i li) (ap t same ∙ list_member two (j - m) (omega arith))
-    differ i j lij lj e (inr hi) (inl lj') = absurd (omega arith)
-    differ i j lij lj e (inr hi) (inr hj) =
-        let ai : m + (i - m) ≡ i = omega arith in
-        let aj : m + (j - m) ≡ j = omega arith in
-        two.distinct (i - m) (j - m) (omega arith) (omega arith) (sym (second (i - m))
-        ∙ (ap (walk next a) ai ∙ (e ∙ (ap (walk next a) (sym aj) ∙ second (j - m)))))
-
-    at_end : (j : ℕ) → suc j ≡ m + k → walk next a j ≡ d
-    at_end j e =
-        let w = list_last k two in
-        let at : j ≡ m + w.0 = omega arith in
-        ap (walk next a) at ∙ (second w.0 ∙ w.2)
+    past : (j : ℕ) → m ≤ j → walk next a j ≡ walk next c (j - m)
+    past j h = let e : m + (j - m) ≡ j = omega arith in
+        ap (walk next a) (sym e) ∙ (walk_sum next a m (j - m) ∙ ap (λ x. walk next x (j - m)) turn)
 
 -- The lists of the blossoms of a row.
 module _ (n : ℕ) (next after first last rank : ℕ → ℕ) (front many : ℕ) (out : ℕ → ℕ) (distinct : (i j : ℕ) → i < j
@@ -147,24 +108,14 @@ module _ (n : ℕ) (next after first last rank : ℕ → ℕ) (front many : ℕ)
   counts : (k : ℕ) → k ≤ many → ring_sum after rank front k
       ≡ ring_sum after (λ p. count_below (λ v. bool_number (eqb (out v) p)) n) front k
   counts zero l = refl
-  counts (suc k) l =
-      let here : count_below (λ v. bool_number (eqb (out v) (walk after front k))) n ≡ rank (walk after front k) =
-      list_count (each k (omega arith)) in
-      omega (arith, counts k (omega (arith, l)))
+  counts (suc k) l = omega (arith, counts k (omega (arith, l)), list_count (each k (omega arith)))
 
   pub row_few : ring_sum after rank front many ≤ n
   row_few =
-      let one : (v : ℕ) → ring_sum after (λ p. bool_number (eqb (out v) p)) front many ≤ 1 = λ v. omega (
-        arith,
-        listed_sum after front many (out v) distinct,
-        once_at_most (listed after front many (out v)),
-      ) in
-      let swap : count_below (λ v. ring_sum after (λ p. bool_number (eqb (out v) p)) front many) n
-      ≡ ring_sum after (λ p. count_below (λ v. bool_number (eqb (out v) p)) n) front many = counts_exchanged after
-      (λ p v. bool_number (eqb (out v) p)) front n many in
-      let below : count_below (λ v. ring_sum after (λ p. bool_number (eqb (out v) p)) front many) n
-      ≤ count_below (λ v. 1) n = count_below_le (λ v. ring_sum after (λ p. bool_number (eqb (out v) p)) front many)
-      (λ v. 1) n (λ v lv. one v) in
+      let below = count_below_le (λ v. ring_sum after (λ p. bool_number (eqb (out v) p)) front many) (λ v. 1) n
+      (λ v lv. (let sum = listed_sum after front many (out v) distinct in
+      omega (arith, once_at_most (listed after front many (out v))))) in
+      let swap = counts_exchanged after (λ p v. bool_number (eqb (out v) p)) front n many in
       omega (arith, counts many (omega arith), count_below_ones n)
 
   -- They are joined, where each begins where the one before it ends.

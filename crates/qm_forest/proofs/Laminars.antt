@@ -1,17 +1,18 @@
 -- What tied tables say of how blossoms lie in each other, and the two parts that a joint joins.
-use Rattle.std.proofs.Common.{◌≡◌, ◌≢◌, ℕ, suc, ◌*◌, ◌<◌, ◌≤◌, true, eqb, length, get_or, refl, sym, ◌∙◌, ap}
-use Rattle.std.proofs.Common.{inl, inr, arith}
-use Rattle.std.proofs.lemmas.Bool.{cases_eq, cases_lt, eq-eqb, false_from_ne_true, ne_eqb}
-use Rattle.def_matching.specs.Matching.{WeightedGraph, IsSmallGraph}
-use Rattle.def_forest.specs.{Darts.AreDarts, Darts.darts_of, Darts.other_dart, Forests.walk, Tables.ForestTables}
-use Rattle.def_forest.specs.Tables.{forest_of, climbs, up_at, IsValidFor}
-use Rattle.def_forest.specs.Valid.{IsJoint, IsRing}
+use Rattle.std.proofs.Common.{◌≡◌, ◌≢◌, ℕ, suc, ◌*◌, ◌<◌, ◌≤◌, true, eqb, length, get_or, refl, sym, ◌∙◌, ap, inl, inr}
+use Rattle.std.proofs.Common.{arith}
+use Rattle.std.proofs.lemmas.Bool.{cases_eq, cases_lt, eq-eqb, eqb-true}
+use Rattle.def_matching.specs.{Matching.WeightedGraph, Matching.IsSmallGraph}
+use Rattle.def_forest.specs.Darts.{AreDarts, darts_of, other_dart}
+use Rattle.def_forest.specs.Tables.{ForestTables, forest_of, climbs, up_at, IsValidFor}
+use Rattle.def_forest.specs.{Forests.walk, Valid.IsJoint, Valid.IsRing}
 use Rattle.forest_laws.proofs.{Facts.far_low, Graphs.are_darts, Writes.true_false}
 use Rattle.qm_forest.specs.Rounds.{IsSoundFor, IsLaminar, IsPairing, far_at, near_at, within}
 use Rattle.qm_forest.specs.Ties.{AreTied, HiddenTables, IsInUse}
-use Rattle.qm_forest.proofs.{Enclosed.climbs_here, JoinedLists.list_few, JoinedLists.list_member, Nests.climbs_place}
-use Rattle.qm_forest.proofs.{Nests.comes_by, Nests.rank_few, Nests.rank_passed, Withins.none_in_both}
-use Rattle.qm_forest.proofs.Withins.{IsRising, pair_law}
+use Rattle.qm_forest.proofs.Nests.{climbs_place, comes_by, rank_few, rank_passed}
+use Rattle.qm_forest.proofs.Withins.{none_in_both, IsRising, pair_law}
+use Rattle.qm_forest.proofs.{Enclosed.climbs_here, JoinedLists.list_few, JoinedLists.list_member}
+use Rattle.sum_laws.proofs.Tests.{same_test}
 
 pub laminar : {t : ForestTables} {hid : HiddenTables} → AreTied t hid → IsLaminar t
 laminar {t} {hid} tied = record {
@@ -26,15 +27,10 @@ laminar {t} {hid} tied = record {
         let y = comes_by _ b w.0 w.1 ne in
         absurd (omega (arith, rw y.1 at (tied.nest.around y.0 (λ s. y.2 (sym s ∙ y.1))).0)))
   ];
-  two = λ x l used more. (let list = tied.nest.members x l used in (
-    walk (λ k. get_or hid.following k 0) (get_or hid.first x 0) 0,
-    walk (λ k. get_or hid.following k 0) (get_or hid.first x 0) 1,
-    list.low 0 (omega arith),
-    list.low 1 (omega arith),
-    list.distinct 0 1 (omega arith) (omega arith),
-    list_member list 0 (omega arith),
-    list_member list 1 (omega arith),
-  ));
+  two = λ x l used more. (let list = tied.nest.members x l used in
+      let first : 0 < get_or t.rank x 0 = omega arith in
+      let differ = list.distinct 0 1 (omega arith) more in
+      (_, _, list.low 0 first, list.low 1 more, differ, list_member list 0 first, list_member list 1 more));
   some = λ x l used. (tied.nest.members x l used).some;
 }
 
@@ -44,25 +40,13 @@ rising known = record { rises = known.rises }
 
 -- A valid forest is sound.
 pub sound : {g : WeightedGraph} {t : ForestTables} → IsSmallGraph g → IsValidFor g t → IsSoundFor g t
-sound small valid = record {
-  small = small;
-  vertices = valid.vertices;
-  darts = valid.darts;
-  ends = valid.ends;
-  valid = valid.valid;
-}
+sound small valid = assumption
 
 module _ {t : ForestTables} (known : IsLaminar t) where
-  abbrev n : ℕ
-  n = length t.hand
-
   -- A vertex holds itself alone.
   pub alone : (v w : ℕ) → v < length t.hand → w < length t.hand → (forest_of t).holds v w ≡ eqb v w
-  alone v w lv lw = elim (cases_eq v w) [
-    | inl e ↦ cc (climbs_here (up_at t.up) (length t.hand) v, eq-eqb v w e)
-    | inr ne ↦ false_from_ne_true (climbs (up_at t.up) (length t.hand) v w) (λ on. ne (sym (known.own w v lv on)))
-        ∙ sym (ne_eqb v w ne)
-  ]
+  alone v w lv lw = same_test _ _ (λ on. eq-eqb v w (sym (known.own w v lv on)))
+      (λ e. ap ((forest_of t).holds v) (sym (eqb-true v w e)) ∙ climbs_here (up_at t.up) (length t.hand) v)
 
   module _ {g : WeightedGraph} (valid : IsSoundFor g t) where
     abbrev are : AreDarts (darts_of g)
@@ -74,10 +58,7 @@ module _ {t : ForestTables} (known : IsLaminar t) where
     another x w high low live =
         let some = known.some (walk (forest_of t).nest.after ((forest_of t).nest.head x) 0) (ring.below 0) part_used in
         let s = known.two x low (inr live) (omega (arith, some, ring.lower 0)) in
-        elim (cases_eq s.0 w) [
-          | inl e ↦ (s.1, s.3, (λ f. s.4 (e ∙ sym f)), s.6)
-          | inr ne ↦ (s.0, s.2, ne, s.5)
-        ]
+        elim (cases_eq s.0 w) [ inl e ↦ (s.1, s.3, (λ f. s.4 (e ∙ sym f)), s.6) | inr ne ↦ (s.0, s.2, ne, s.5) ]
       where
         ring : IsRing (darts_of g) (forest_of t) x
         ring = valid.valid.nested.rings x (rw valid.vertices at high) live
@@ -105,11 +86,8 @@ module _ {t : ForestTables} (known : IsLaminar t) where
       abbrev y : ℕ
       y = get_or t.after x 0
 
-      live_q : (g.n ≤ q) × (get_or t.parts q 0 ≢ 0)
-      live_q = valid.valid.nested.live x inner
-
       pub ring_around : IsRing (darts_of g) (forest_of t) q
-      ring_around = valid.valid.nested.rings q live_q.0 live_q.1
+      ring_around = let live = valid.valid.nested.live x inner in valid.valid.nested.rings q live.0 live.1
 
       joint_is : IsJoint (darts_of g) (forest_of t) x
       joint_is = valid.valid.nested.joints x inner
@@ -139,31 +117,19 @@ module _ {t : ForestTables} (known : IsLaminar t) where
           (get_or t.head q 0) (suc x_place.0) = x_place.2 ∙ (e ∙ sym (ap (λ z. get_or t.after z 0) x_place.2)) in
           elim (cases_eq (suc x_place.0) (get_or t.parts q 0)) [
             | inr l ↦ ring_around.distinct x_place.0 (suc x_place.0) (omega arith) (omega (arith, l, x_place.1)) same
-            | inl at ↦ ring_around.distinct 0 x_place.0 (omega (arith, at, ring_around.odd, ring_around.some))
-                x_place.1
+            | inl at ↦ ring_around.distinct 0 x_place.0 (omega (arith, at, ring_around.odd, ring_around.some)) x_place.1
                 (sym ring_around.closed ∙ (ap (walk (λ i. get_or t.after i 0) (get_or t.head q 0)) (sym at) ∙ sym same))
           ]
 
       d_low : d < 2 * length g.edges
       d_low = joint_is.tight.low
 
-      near_is : near_at t d ≡ (darts_of g).near d
-      near_is = valid.ends d d_low
+      near_ok : (near_at t d < length t.hand) × (within t (near_at t d) x ≡ true)
+      near_ok = let is = valid.ends d d_low in (rw (valid.vertices, is) (are.near_low d d_low), rw is joint_is.begins)
 
-      far_is : far_at t d ≡ (darts_of g).near ((darts_of g).twin d)
-      far_is = valid.ends (other_dart d) (are.twin_low d d_low)
-
-      near_ok : near_at t d < length t.hand
-      near_ok = rw (valid.vertices, near_is) (are.near_low d d_low)
-
-      far_ok : far_at t d < length t.hand
-      far_ok = rw (valid.vertices, far_is) (far_low (darts_of g) are d d_low)
-
-      near_in : within t (near_at t d) x ≡ true
-      near_in = rw near_is joint_is.begins
-
-      far_in : within t (far_at t d) y ≡ true
-      far_in = rw far_is joint_is.ends
+      far_ok : (far_at t d < length t.hand) × (within t (far_at t d) y ≡ true)
+      far_ok = let is = valid.ends (other_dart d) (are.twin_low d d_low) in
+          (rw (valid.vertices, is) (far_low (darts_of g) are d d_low), rw is joint_is.ends)
 
       used : (z v : ℕ) → v < length t.hand → within t v z ≡ true → length t.hand ≤ z → get_or t.parts z 0 ≢ 0
       used z v l on high none = true_false on (valid.valid.nested.empty z v (rw valid.vertices at high)
@@ -178,16 +144,16 @@ module _ {t : ForestTables} (known : IsLaminar t) where
         low_y = y_low;
         other = differ;
         apart = λ e. none_in_both (rising known) (near_at t d) x y
-            refl next_around (λ s. inner (sym s)) next_other differ near_in (rw e far_in);
-        near_low = near_ok;
-        far_low = far_ok;
-        near_held = near_in;
-        far_held = far_in;
-        live_x = used x (near_at t d) near_ok near_in;
-        live_y = used y (far_at t d) far_ok far_in;
+            refl next_around (λ s. inner (sym s)) next_other differ near_ok.1 (rw e far_ok.1);
+        near_low = near_ok.0;
+        far_low = far_ok.0;
+        near_held = near_ok.1;
+        far_held = far_ok.1;
+        live_x = used x (near_at t d) near_ok.0 near_ok.1;
+        live_y = used y (far_at t d) far_ok.0 far_ok.1;
         law = λ b l. pair_law (rising known) x y (near_at t d)
-            (far_at t d) refl next_around (λ s. inner (sym s)) next_other differ near_in far_in
-            (known.passed x (near_at t d) near_ok near_in) (known.passed y (far_at t d) far_ok far_in) b
-            (λ on. known.passed b (near_at t d) near_ok on) (λ on. known.passed b (far_at t d) far_ok on);
+            (far_at t d) refl next_around (λ s. inner (sym s)) next_other differ near_ok.1 far_ok.1
+            (known.passed x (near_at t d) near_ok.0 near_ok.1) (known.passed y (far_at t d) far_ok.0 far_ok.1) b
+            (λ on. known.passed b (near_at t d) near_ok.0 on) (λ on. known.passed b (far_at t d) far_ok.0 on);
         tight = λ h valid'. (valid'.valid.nested.joints x inner).tight;
       }

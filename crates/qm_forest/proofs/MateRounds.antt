@@ -1,22 +1,27 @@
 -- The outermost blossoms are matched as they are: each is met once.
-use Rattle.std.proofs.Common.{◌≡◌, ◌≢◌, ℕ, suc, ◌+◌, ◌-◌, ◌*◌, ◌/◌, ◌%◌, ◌<◌, ◌≤◌, Bool, true, false, cond, eqb, List}
+use Rattle.std.proofs.Common.{◌≡◌, ◌≢◌, ℕ, suc, ◌+◌, ◌-◌, ◌*◌, ◌/◌, ◌%◌, ◌<◌, ◌≤◌, Bool, true, cond, eqb, List}
 use Rattle.std.proofs.Common.{length, get_or, Option, Some, None, ◌⊎◌, refl, sym, ◌∙◌, ap, inl, inr, arith}
 use Rattle.std.proofs.{Math.ListN.set, lemmas.Option.none-some}
-use Rattle.std.proofs.lemmas.Bool.{cases_Bool, cases_eq, cases_lt, cond-true, cond-false, eq-eqb, eqb-true, ne_eqb}
-use Rattle.std.proofs.lemmas.Bool.{false_from_ne_true}
+use Rattle.std.proofs.lemmas.Bool.{cases_Bool, cases_eq, cases_lt, cond-false, eq-eqb, eqb-true}
+use Rattle.std.proofs.lemmas.Bool.{false_from_ne_true, ne_eqb}
 use Rattle.sum_laws.proofs.Counts.{count_below_none, count_below_one, count_below_same}
 use Rattle.sum_laws.proofs.Tests.{same_test}
 use Rattle.def_matching.specs.Matching.{WeightedGraph}
 use Rattle.def_forest.specs.{Darts.AreDarts, Darts.darts_of, Darts.far, Darts.other_dart, Forests.Forest}
-use Rattle.def_forest.specs.{Forests.bool_number, Forests.splits, Forests.walk, Tables.ForestTables, Tables.forest_of}
+use Rattle.def_forest.specs.{Forests.bool_number, Forests.splits, Tables.ForestTables, Tables.forest_of}
 use Rattle.def_forest.specs.{Tables.up_at, Valid.IsMate}
 use Rattle.forest_laws.proofs.{Graphs.are_darts, Graphs.twin_even, Graphs.twin_odd, Writes.some_is, Writes.true_false}
-use Rattle.forest_laws.proofs.Walks.{walk_fixed, walk_sum}
+use Rattle.forest_laws.proofs.Writes.{option_cases}
+use Rattle.forest_laws.proofs.Walks.{walk_fixed}
 use Rattle.qm_forest.specs.Rounds.{IsSoundFor, IsLaminar, IsPairing, IsRound, entered, far_at, is_dart, matched_by}
 use Rattle.qm_forest.specs.Rounds.{matches, near_at, waits_but, within}
-use Rattle.qm_forest.proofs.{Laminars.rising, Pairings.option_cases}
-use Rattle.qm_forest.proofs.{Pairings.paired_round, Withins.by_pair, Withins.in_line, Withins.in_where}
-use Rattle.qm_forest.proofs.Withins.{where_in}
+use Rattle.qm_forest.proofs.{Laminars.rising, Pairings.paired_round, Withins.by_pair, Withins.in_line, Withins.in_where}
+use Rattle.qm_forest.proofs.Withins.{through, where_in}
+
+-- What is one of two that differ is just one of them.
+one_side : (on : Bool) (b c : ℕ) {a : ℕ} → on ≡ true → b ≢ c → (a ≡ b) ⊎ (a ≡ c)
+    → cond on (bool_number (eqb a b) + bool_number (eqb a c)) 0 ≡ 1
+one_side on b c is ne side = grind arith
 
 module _ {t : ForestTables} (known : IsLaminar t) {g : WeightedGraph} (valid : IsSoundFor g t) where
   abbrev pub f : Forest
@@ -60,14 +65,6 @@ module _ {t : ForestTables} (known : IsLaminar t) {g : WeightedGraph} (valid : I
         | inl m ↦ in_where (rising known) b m.0 (top_rank u lu) m.1
         | inr m ↦ in_where (rising known) b 0 (top_rank u lu) (sym m.1 ∙ walk_fixed _ m.0 (top_stays u lu))
       ]
-
-  through : (b u w : ℕ) → u < length t.hand → within t w b ≡ true → within t b (f.out u) ≡ true → within t w (f.out u)
-      ≡ true
-  through b u w lu first second =
-      let wb = where_in (rising known) w b first in
-      let wo = where_in (rising known) b _ second in
-      in_where (rising known) w _
-      (top_rank u lu) (walk_sum _ w wb.0 wo.0 ∙ (ap (λ x. walk (up_at t.up) x wo.0) wb.1 ∙ wo.1))
 
   -- No blossom lies in two outermost ones.
   not_both : (b u v : ℕ) → u < length t.hand → v < length t.hand → f.out u ≢ f.out v → within t b (f.out u) ≡ true
@@ -159,8 +156,7 @@ module _ {t : ForestTables} (known : IsLaminar t) {g : WeightedGraph} (valid : I
       apart s = m.other (ap f.out far_is ∙ sym s)
 
   dart_true : (o : Option ℕ) (d : ℕ) → is_dart o d ≡ true → o ≡ Some d
-  dart_true None d on = absurd (cc on)
-  dart_true (Some x) d on = ap (λ (k : ℕ). Some k) (eqb-true x d on)
+  dart_true o d on = grind arith
 
   pub dart_is : {o : Option ℕ} (d : ℕ) → o ≡ Some d → is_dart o d ≡ true
   dart_is d e = ap (λ (x : Option ℕ). is_dart x d) e ∙ eq-eqb d d refl
@@ -175,56 +171,41 @@ module _ {t : ForestTables} (known : IsLaminar t) {g : WeightedGraph} (valid : I
   term_none : (w e : ℕ) → w < length t.hand → ((d : ℕ) → f.mate (f.out w) ≡ Some d → e ≢ d / 2) → term w e ≡ 0
   term_none w e lw other = elim (cases_Bool (matches t e)) [
     | inr off ↦ cond-false _ _ _ off
-    | inl on ↦ (let m = matches_is e on in
-        let first : within t w (out (from e)) ≡ false =
-        false_from_ne_true (within t w (out (from e))) (λ o. other (2 * e) (ap f.mate (eqb-true (f.out w) (out (from e))
-        (sym (within_out w _ lw m.near_low) ∙ o)) ∙ m.mate) (omega arith)) in
-        let second : within t w (out (to e)) ≡ false =
-        false_from_ne_true (within t w (out (to e))) (λ o. other (2 * e + 1) (ap f.mate (eqb-true (f.out w) (out (to e))
-        (sym (within_out w (to e) lw m.far_low) ∙ o)) ∙ m.back) (omega arith)) in
-        cond-true _ _ _ on ∙ omega (arith, ap bool_number first, ap bool_number second))
+    | inl on ↦ (let m = matches_is e on in rw (
+      on,
+      within_out w (from e) lw m.near_low,
+      within_out w (to e) lw m.far_low,
+      ne_eqb (f.out w) (out (from e)) (λ s. other (2 * e) (ap f.mate s ∙ m.mate) (omega arith)),
+      ne_eqb (f.out w) (out (to e)) (λ s. other (2 * e + 1) (ap f.mate s ∙ m.back) (omega arith)),
+    ))
   ]
 
   term_one : (w d : ℕ) → w < length t.hand → f.mate (f.out w) ≡ Some d → (term w (d / 2) ≡ 1) × (d / 2 < length g.edges)
   term_one w d lw mate =
+      let e = d / 2 in
       let m = valid.valid.matched (f.out w) d mate in
-      let d_low = m.tight.low in
-      let near_is : f.out (near_at t d) ≡ f.out w = ap f.out (valid.ends d d_low) ∙ m.here in
+      let near_is = ap f.out (valid.ends d m.tight.low) ∙ m.here in
       elim (cases_eq (d % 2) 0) [
-        | inl z ↦ let s : d ≡ 2 * (d / 2) = omega (arith, z) in let here : f.out w ≡ f.out (near_at t (2 * (d / 2))) =
-            sym near_is ∙ ap (λ k. f.out (near_at t k)) s in (
-              value (d / 2) (dart_is (2 * (d / 2))
-                  (ap f.mate (sym here) ∙ (mate ∙ ap (λ (k : ℕ). Some k) s))) (inl here),
-              omega (arith, d_low),
-            )
-        | inr nz ↦ let s : other_dart d ≡ 2 * (d / 2) = twin_odd d nz ∙ (let k : d - 1 ≡ 2 * (d / 2) = omega (
-          arith,
-          nz,
-        ) in k) in let up : d ≡ 2 * (d / 2) + 1 = omega (arith, nz) in let far_is : far (darts_of g) d ≡ near_at t
-            (2 * (d / 2)) = sym (valid.ends (other_dart d) (are.twin_low d d_low)) ∙ ap (near_at t) s in (
-              value (d / 2) (dart_is (2 * (d / 2)) (ap (λ v. f.mate (f.out v)) (sym far_is)
-                  ∙ (m.back ∙ ap (λ (k : ℕ). Some k) s))) (inr (sym near_is ∙ ap (λ k. f.out (near_at t k)) up)),
-              omega (arith, d_low),
-            )
+        | inl z ↦ (let s : 2 * e ≡ d = omega (arith, z) in
+            let here = ap (λ k. f.out (near_at t k)) s ∙ near_is in (
+              value e (dart_is (2 * e) (ap f.mate here ∙ (mate ∙ ap (λ (k : ℕ). Some k) (sym s)))) (inl (sym here)),
+              omega (arith, m.tight.low),
+            ))
+        | inr nz ↦ (let s : 2 * e ≡ d - 1 = omega (arith, nz) in
+            let up : 2 * e + 1 ≡ d = omega (arith, nz) in
+            let twin = s ∙ sym (twin_odd d nz) in
+            let far_is = ap (near_at t) twin ∙ valid.ends (other_dart d) (are.twin_low d m.tight.low) in (
+              value e (dart_is (2 * e) (ap (λ v. f.mate (f.out v)) far_is
+                  ∙ (m.back ∙ ap (λ (k : ℕ). Some k) (sym twin))))
+                  (inr (sym (ap (λ k. f.out (near_at t k)) up ∙ near_is))),
+              omega (arith, m.tight.low),
+            ))
       ]
     where
       value : (e : ℕ) → matches t e ≡ true → (f.out w ≡ out (from e)) ⊎ (f.out w ≡ out (to e)) → term w e ≡ 1
-      value e on side =
-          let me = matches_is e on in
-          cond-true _ _ _ on ∙ elim side [
-            | inl s ↦ rw (
-              within_out w (from e) lw me.near_low,
-              eq-eqb (f.out w) (out (from e)) s,
-              within_out w (to e) lw me.far_low,
-              ne_eqb (f.out w) (out (to e)) (λ z. me.other (sym s ∙ z)),
-            )
-            | inr s ↦ rw (
-              within_out w (from e) lw me.near_low,
-              ne_eqb (f.out w) (out (from e)) (λ z. me.other (sym z ∙ s)),
-              within_out w (to e) lw me.far_low,
-              eq-eqb (f.out w) (out (to e)) s,
-            )
-          ]
+      value e on side = let me = matches_is e on in
+          rw (within_out w (from e) lw me.near_low, within_out w (to e) lw me.far_low)
+          (one_side (matches t e) (out (from e)) (out (to e)) on me.other side)
 
   others_none : (w d : ℕ) → w < length t.hand → f.mate (f.out w) ≡ Some d → (k : ℕ) → k ≢ d / 2 → term w k ≡ 0
   others_none w d lw mate k ne = term_none w k lw (λ x e at. ne (at ∙ ap (λ z. z / 2) (some_is x d (sym e ∙ mate))))
@@ -255,8 +236,9 @@ module _ {t : ForestTables} (known : IsLaminar t) {g : WeightedGraph} (valid : I
   pub due_same : (b w edges : ℕ) → w < length t.hand → within t w b ≡ true → matched_by t edges b ≡ matched_by t edges w
   due_same b w edges lw held =
       let same : (u : ℕ) → u < length t.hand → within t b (f.out u) ≡ within t w (f.out u) = λ u lu. same_test _ _
-      (λ on. through b u w lu held on) (λ on. (let here = eqb-true (f.out w) (f.out u) (sym (within_out w u lw lu) ∙ on)
-      in ap (within t b) (sym here) ∙ around_in b w lw held)) in
+      (λ on. through (rising known) w b (f.out u) (top_rank u lu) held on)
+      (λ on. (let here = eqb-true (f.out w) (f.out u) (sym (within_out w u lw lu) ∙ on) in
+      ap (within t b) (sym here) ∙ around_in b w lw held)) in
       count_below_same _ _ edges (λ e l. elim (cases_Bool (matches t e)) [
         | inr off ↦ cond-false _ _ _ off ∙ sym (cond-false _ _ _ off)
         | inl on ↦ (let m = matches_is e on in rw (same (from e) m.near_low, same (to e) m.far_low))
@@ -271,7 +253,7 @@ module _ {t : ForestTables} (known : IsLaminar t) {g : WeightedGraph} (valid : I
   edge_more {marks} {left} e j j_is size_marks size_left mate marks_is left_is round =
       let step : (b : ℕ) → matched_by t j b ≡ matched_by t e b + (bool_number (within t b (out (from e)))
       + bool_number (within t b (out (to e)))) = λ b. (let o : j ≡ suc e = omega arith in
-      ap (λ k. matched_by t k b) o ∙ ap (λ m. matched_by t e b + m) (cond-true _ _ _ (dart_is (2 * e) mate))) in
+      grind (arith, o, dart_is (2 * e) mate)) in
       rw (marks_is, left_is) (paired_round known valid marks left _ _ (2 * e) (λ b. 0)
       _ size_marks size_left (record {
         each = λ b l. omega (arith, round.each b l, step b);
@@ -282,14 +264,9 @@ module _ {t : ForestTables} (known : IsLaminar t) {g : WeightedGraph} (valid : I
 
   pub edge_same : {marks : List Bool} {left : List (Option ℕ)} (e j : ℕ) → j ≡ e + 1 → f.mate (out (from e))
       ≢ Some (2 * e) → IsRound t marks left (λ b. 0) (matched_by t e) → IsRound t marks left (λ b. 0) (matched_by t j)
-  edge_same e j j_is off round = record {
-    each = λ b l. omega (arith, round.each b l, step b);
-    entry = round.entry;
-    once = λ v l. due_low v j l;
-    tight = round.tight;
-  }
-    where
-      step : (b : ℕ) → matched_by t j b ≡ matched_by t e b
-      step b = ap (λ k. matched_by t k b) (j_is ∙ (let o : e + 1 ≡ suc e = omega arith in o)) ∙ (ap (λ m. matched_by t e
-          b + m) (cond-false _ _ _ (false_from_ne_true (matches t e) (λ on. off (dart_true _ (2 * e) on))))
-          ∙ (let o : matched_by t e b + 0 ≡ matched_by t e b = omega arith in o))
+  edge_same e j j_is off round =
+      let once = λ (v : ℕ) (l : v < length t.hand). due_low v j l in
+      let step : (b : ℕ) → matched_by t j b ≡ matched_by t e b = λ b.
+      (let o : j ≡ suc e = omega arith in
+      grind (arith, o, cases_Bool (matches t e), dart_true (f.mate (out (from e))) (2 * e))) in
+      grind (arith, round, step, once)

@@ -4,9 +4,9 @@ use Rattle.std.proofs.Common.{◌∙◌, ap, inl, inr, arith}
 use Rattle.std.proofs.lemmas.Int.{ints}
 use Rattle.std.specs.Prelude.{unsigned_abs, slice_index}
 use Rattle.def_matching.specs.Matching.{WeightedGraph}
-use Rattle.def_forest.specs.{Darts.darts_of, Forests.IsOutermost, Forests.walk, Forests.weight_between}
+use Rattle.def_forest.specs.{Forests.IsOutermost, Forests.weight_between}
 use Rattle.def_forest.specs.{Steps.weight_change, Tables.up_at, Tables.ForestTables, Tables.forest_of, Tables.label_at}
-use Rattle.def_forest.specs.{Tables.IsValidFor, Valid.IsRing, declared.kinds.Label.Label}
+use Rattle.def_forest.specs.{Tables.IsValidFor, declared.kinds.Label.Label}
 use Rattle.forest_laws.proofs.Writes.{label_cases}
 use Rattle.qm_forest.specs.Ties.{IsClimb, IsWithin, IsMeeting, apart}
 use Rattle.qm_forest.proofs.Apart.{can_climb, rank_low, apart_step, apart_order, apart_met, apart_small}
@@ -23,11 +23,10 @@ module _ {g : WeightedGraph} {t : ForestTables} (valid : IsValidFor g t) (climb 
   -- Ranks rise.
   rises : (x : ℕ) → up x ≢ x → rank x < rank (up x)
   rises x inner =
-      let by_ring : IsRing (darts_of g) (forest_of t) (up_at t.up x) → slice_index t.rank x
-      < slice_index t.rank (up_at t.up x) = λ ring. let w : (k : ℕ) × (k < (forest_of t).nest.parts (up_at t.up x))
-      × (walk (forest_of t).nest.after ((forest_of t).nest.head (up_at t.up x)) k ≡ x) = ring.all x refl
-      (λ e. inner (sym e)) in (rw w.2 at (ring.lower w.0)) in
-      by_ring (valid.valid.nested.rings (up x) (valid.valid.nested.live x inner).0 (valid.valid.nested.live x inner).1)
+      let live = valid.valid.nested.live x inner in
+      let ring = valid.valid.nested.rings (up x) live.0 live.1 in
+      let w = ring.all x refl (λ e. inner (sym e)) in
+      rw w.2 at (ring.lower w.0)
 
   -- The weight of a blossom that is not outermost is as it is kept.
   base_is : (x : ℕ) → up x ≢ x → get_or t.base x (pos 0) ≡ (forest_of t).weight x
@@ -51,16 +50,6 @@ module _ {g : WeightedGraph} {t : ForestTables} (valid : IsValidFor g t) (climb 
   within_climbs b x y wx wy ne le = can_climb rank climb rises wx.0 wy.0 x y wx.1
       wy.1 (wx.2 ∙ sym wy.2) (wx.3, wx.4) (wy.3, wy.4) ne le
 
-  within_step : (b x y : ℕ) → IsWithin t b x → IsWithin t b y → x ≢ y → rank x ≤ rank y → x < length t.up
-      → passing x y ≡ passing (up x) y +ℤ get_or t.base x (pos 0)
-  within_step b x y wx wy ne le low =
-      let inner = within_climbs b x y wx wy ne le in
-      cc (
-        apart_step rank climb rises (forest_of t).weight (length t.up) wx.0 wx.0 x y wx.1 (wx.3, wx.4) ne le inner
-            low,
-        base_is x inner,
-      )
-
   all_small : (x y : ℕ) → unsigned_abs (passing x y) ≤ 2 ^ 88
   all_small x y = omega (arith, apart_small (length t.hand) up (forest_of t).weight (length t.up) x y small)
 
@@ -73,14 +62,12 @@ module _ {g : WeightedGraph} {t : ForestTables} (valid : IsValidFor g t) (climb 
         → IsMeeting t u v low high load × (low ≢ high) × (rank x + rank y ≡ rank low + rank high)
     sides (inl e) = (rw (e.0, e.1) meet, rw (e.0, e.1) ne, rw (e.0, e.1))
     sides (inr e) = (
-      rw (e.0, e.1) (record {
-        sum = omega (arith, ints, apart_order (length t.hand) up (forest_of t).weight (length t.up) x y, meet.sum);
-        first = meet.second;
-        second = meet.first;
-        low_x = meet.low_y;
-        low_y = meet.low_x;
-        small = meet.small;
-      }),
+      rw (e.0, e.1) (let sum : load +ℤ passing y x ≡ passing u v = omega (
+        arith,
+        ints,
+        apart_order (length t.hand) up (forest_of t).weight (length t.up) x y,
+        meet.sum,
+      ) in assumption),
       rw (e.0, e.1) (λ s. ne (sym s)),
       omega (arith, ap rank e.0, ap rank e.1),
     )
@@ -91,17 +78,14 @@ module _ {g : WeightedGraph} {t : ForestTables} (valid : IsValidFor g t) (climb 
         → load2 ≡ load +ℤ get_or t.base low (pos 0) → IsMeeting t u v x2 high load2
     turn_meets low high {x2} load2 either order x2_is x2_low load_is =
         let w = sides either in
-        let sum : load2 +ℤ passing x2 high ≡ passing u v = (let step = within_step top low high w.0.first w.0.second w.1
-        order w.0.low_x in
-        omega (arith, ints, ap (λ k. passing k high) x2_is, load_is, w.0.sum)) in
-        record {
-          sum = sum;
-          first = rw x2_is (within_up top low w.0.first);
-          second = w.0.second;
-          low_x = x2_low w.0.low_x;
-          low_y = w.0.low_y;
-          small = omega (arith, ints, sum, all_small x2 high, all_small u v);
-        }
+        let inner = within_climbs top low high w.0.first w.0.second w.1 order in
+        let step = apart_step rank climb rises (forest_of t).weight (length t.up) w.0.first.0 w.0.first.0 low high
+        w.0.first.1 (w.0.first.3, w.0.first.4) w.1 order inner w.0.low_x in
+        let sum : load2 +ℤ passing x2 high ≡ passing u v =
+        omega (arith, ints, ap (λ k. passing k high) x2_is, load_is, w.0.sum, base_is low inner) in
+        let first : IsWithin t top x2 = rw x2_is (within_up top low w.0.first) in
+        let small : unsigned_abs load2 ≤ 2 ^ 90 = omega (arith, ints, sum, all_small x2 high, all_small u v) in
+        assumption (x2_low w.0.low_x)
 
     -- And they come nearer.
     pub turn_nearer : (low high : ℕ) {x2 : ℕ} → ((low ≡ x) × (high ≡ y)) ⊎ ((low ≡ y) × (high ≡ x))
@@ -116,7 +100,6 @@ module _ {g : WeightedGraph} {t : ForestTables} (valid : IsValidFor g t) (climb 
 -- Where they have met, the load is found.
 pub met_load : {t : ForestTables} {u v x y : ℕ} {sum : ℤ} → IsMeeting t u v x y sum → x ≡ y
     → sum ≡ weight_between (forest_of t) u v
-met_load {t} {u} {v} {x} {y} {sum} meet e = let none = apart_met (length t.hand) (up_at t.up) (forest_of t).weight
-    (length t.up) e in
-    let all : sum ≡ apart (length t.hand) (up_at t.up) (forest_of t).weight (length t.up) u v =
-    omega (arith, ints, none, meet.sum) in all
+met_load {t} meet e =
+    let none = apart_met (length t.hand) (up_at t.up) (forest_of t).weight (length t.up) e in
+    omega (arith, ints, meet.sum)

@@ -1,19 +1,18 @@
 -- Steps of the tree in the tables: growing, and changing the matching along the way to the root.
 use Rattle.std.proofs.Common.{◌≡◌, ◌≢◌, ℕ, ◌+◌, ◌*◌, ◌<◌, List, length, get_or, Option, Some, None, true}
-use Rattle.std.proofs.Common.{is_some, refl, sym, ◌∙◌, ap, inl, inr, arith}
-use Rattle.std.proofs.lemmas.Bool.{cases_eq}
+use Rattle.std.proofs.Common.{is_some, sym, ◌∙◌, ap, arith}
 use Rattle.def_matching.specs.Matching.{IsSmallGraph, WeightedGraph}
 use Rattle.def_forest.specs.{Darts.Darts, Darts.AreDarts, Darts.darts_of, Darts.far, Forests.Forest}
 use Rattle.def_forest.specs.{Forests.set_at}
-use Rattle.def_forest.specs.{Steps.grown, Steps.with_mates, Steps.IsAugmented, Tables.GraphSize}
+use Rattle.def_forest.specs.{Steps.grown, Steps.with_mates, Steps.IsAugmented}
 use Rattle.def_forest.specs.{Tables.ForestTables, Tables.forest_of, Tables.IsValidFor, Valid.IsValid}
 use Rattle.def_forest.specs.{declared.kinds.Label.Label}
 use Rattle.def_forest.specs.{declared.kinds.Label.TheVariants.Outside, Ways.Reaches, Ways.steps}
 use Rattle.def_forest.specs.Ways.{parent_of}
-use Rattle.forest_laws.proofs.{Climbs.fewer_steps, Climbs.inner_is, Facts.tree_of, Facts.outer_mate, Graphs.are_darts}
+use Rattle.forest_laws.proofs.{Facts.tree_of, Facts.outer_mate, Graphs.are_darts, Levels.fewer_steps, Levels.inner_is}
 use Rattle.forest_laws.proofs.{Grows.grown_valid, WayLaws.begin, WayLaws.turn, WayLaws.end_valid, WayLaws.end_augmented}
-use Rattle.forest_laws.proofs.{WayLaws.some_none, Writes.outer_named, Writes.set_here}
-use Rattle.forest_laws.proofs.Writes.{set_there, some_is}
+use Rattle.forest_laws.proofs.{Writes.outer_named}
+use Rattle.forest_laws.proofs.Writes.{some_is}
 use Rattle.qm_forest.specs.Ties.{fixed_of, IsOnWay, HasSameNest, mated, remated, labelled, relabelled}
 
 -- A mate is a dart of the graph.
@@ -23,19 +22,12 @@ mate_low is valid b m mate = (valid.valid.matched b m mate).tight.low
 
 -- What is not empty.
 pub is_some_ne : (o : Option ℕ) → is_some o ≡ true → o ≢ None
-is_some_ne None e = absurd (cc e)
-is_some_ne (Some x) e = λ off. some_none (Some x) x refl off
+is_some_ne o e off = cc
 
 -- Tables are valid whose forest is, where darts begin where they did.
 pub valid_as : {g : WeightedGraph} {t : ForestTables} (u : ForestTables) → IsValidFor g t → fixed_of u ≡ fixed_of t
     → length u.hand ≡ length t.hand → IsValid (darts_of g) (forest_of u) u.root → IsValidFor g u
-valid_as u valid fixed hand whole = record {
-  vertices = hand ∙ valid.vertices;
-  darts = ap (λ (p : List ℕ × Option GraphSize). length p.0) fixed ∙ valid.darts;
-  ends = λ d l. ap (λ (p : List ℕ × Option GraphSize). get_or p.0 d 0) fixed ∙ valid.ends d l;
-  room = ap (λ (p : List ℕ × Option GraphSize). p.1) fixed ∙ valid.room;
-  valid = whole;
-}
+valid_as u valid fixed hand whole = grind arith
 
 -- The forest is valid after the tree has grown.
 pub valid_grown : {t : ForestTables} (u : ForestTables) {g : WeightedGraph} → IsSmallGraph g → IsValidFor g t
@@ -160,15 +152,7 @@ near_in {g} is valid d {v} low v_is = rw (valid.vertices, v_is) ((are_darts is.l
 
 -- The same blossoms, over two changes.
 pub same_nest : {a b c : ForestTables} → HasSameNest a b → HasSameNest b c → HasSameNest a c
-same_nest p q = record {
-  hand = q.hand ∙ p.hand;
-  top = q.top ∙ p.top;
-  up = q.up ∙ p.up;
-  after = q.after ∙ p.after;
-  parts = q.parts ∙ p.parts;
-  root = q.root ∙ p.root;
-  fixed = q.fixed ∙ p.fixed;
-}
+same_nest p q = grind arith
 
 -- What is seen, said of the mates at hand.
 pub seen_own : (t0 t1 : ForestTables) (mate : ℕ → Option ℕ) → forest_of t1 ≡ remated (forest_of t0) mate
@@ -184,13 +168,7 @@ pub one_more_outside : (f1 : Forest) {f2 : Forest} (trail : List ℕ) (k : ℕ) 
     → f2 ≡ labelled f1 (f1.out v) Outside → ((i : ℕ) → i < k → f1.label (f1.out (get_or trail i 0)) ≡ Outside)
     → (i : ℕ) → i < k + 1 → f2.label (f2.out (get_or trail i 0)) ≡ Outside
 one_more_outside f1 trail k {v} v_is e2 done i l = ap (λ (f : Forest). f.label (f.out (get_or trail i 0))) e2
-    ∙ elim (cases_eq (f1.out (get_or trail i 0)) (f1.out v)) [
-      | inl e ↦ ap (set_at f1.label (f1.out v) Outside) e ∙ set_here f1.label (f1.out v) Outside
-      | inr ne ↦ set_there f1.label (f1.out v) (f1.out (get_or trail i 0)) Outside ne ∙ elim (cases_eq i k) [
-        | inl e ↦ absurd (ne (ap (λ j. f1.out (get_or trail j 0)) e ∙ ap f1.out (sym v_is)))
-        | inr nk ↦ done i (omega arith)
-      ]
-    ]
+    ∙ grind (arith, done i)
 
 -- What has come of an augmentation.
 pub augmented : {t : ForestTables} (s u : ForestTables) {g : WeightedGraph} → IsSmallGraph g → IsValidFor g t

@@ -1,12 +1,12 @@
 -- A forest that is written down as a dual: the sets hold what they held, and the dual says yes.
-use Rattle.std.proofs.Common.{◌≡◌, ◌≢◌, ℕ, zero, suc, ◌+◌, ◌-◌, ◌*◌, ◌%◌, ◌<◌, ◌≤◌, Bool, true, false, not, cond, eqb}
+use Rattle.std.proofs.Common.{◌≡◌, ◌≢◌, ℕ, zero, suc, ◌+◌, ◌-◌, ◌*◌, ◌<◌, ◌≤◌, Bool, true, false, cond, eqb}
 use Rattle.std.proofs.Common.{subst, inl, inr, arith}
 use Rattle.std.proofs.Math.Bool.{or-false}
 use Rattle.std.proofs.lemmas.Int.{ints}
 use Rattle.std.proofs.lemmas.Bool.{cases_eq, cases_lt, cond-false, cond-true, eq-eqb, eqb-true, le-leb, le-ltb, lt-ltb}
-use Rattle.std.proofs.lemmas.Bool.{ne_eqb, or_left, or_right}
-use Rattle.std.proofs.Common.{◌&&◌, ◌||◌, List, length, get_or, ℤ, pos, ◌+ℤ◌, ◌*ℤ◌, ◌≤ℤ◌, ◌⊎◌, refl, sym, ◌∙◌, ap}
-use Rattle.std.specs.{Prelude.nat_lt, Prelude.nat_le, List.list_any}
+use Rattle.std.proofs.lemmas.Bool.{and_from, ne_eqb}
+use Rattle.std.proofs.Common.{◌||◌, List, length, get_or, pos, ◌+ℤ◌, ◌*ℤ◌, ◌≤ℤ◌, ◌⊎◌, refl, sym, ◌∙◌, ap}
+use Rattle.std.specs.{Prelude.nat_lt, List.list_any}
 use Rattle.def_math.specs.Sums.{total, total_below}
 use Rattle.sum_laws.proofs.{Counts.count_below_same, Sums.total_below_one, Sums.total_below_same, Sums.total_below_sum}
 use Rattle.sum_laws.proofs.Tests.{same_test}
@@ -15,24 +15,19 @@ use Rattle.def_matching.specs.Matching.{WeightedGraph, edge_at}
 use Rattle.def_matching.specs.Dual.{DualLists, SaysYes, AreNestedSets, crosses, dual_sum, holds, is_odd_size, is_up}
 use Rattle.def_matching.specs.Dual.{load as dual_load, set_size, sets_from, y_at, z_at}
 use Rattle.def_forest.specs.Darts.{AreDarts, darts_of}
-use Rattle.def_forest.specs.Forests.{Forest, dual_sum_of, weight_between, bool_number, splits, blossom_size, walk}
+use Rattle.def_forest.specs.Forests.{Forest, dual_sum_of, weight_between, bool_number, splits, blossom_size}
 use Rattle.def_forest.specs.Tables.{ForestTables, forest_of, climbs, up_at}
 use Rattle.def_forest.specs.Written.{IsDualOf}
 use Rattle.forest_laws.proofs.{Graphs.are_darts, Graphs.dart_cost, Graphs.dart_far, Graphs.dart_near, Odds.large_set}
 use Rattle.forest_laws.proofs.{Odds.odd_blossom, Writes.by_none, Writes.by_two}
 use Rattle.qm_forest.specs.{Outlines.IsOutline, Outlines.entry_of, Outlines.set_in, Rounds.IsLaminar, Rounds.IsSoundFor}
 use Rattle.qm_forest.proofs.{Fresh.climbs_self, Laminars.alone, Laminars.rising, Nests.climbs_place}
-use Rattle.qm_forest.proofs.{Orders.place_of, Orders.set_low, Orders.sized}
-use Rattle.qm_forest.proofs.{Orders.sum_parts, Withins.IsRising, Withins.in_where}
+use Rattle.qm_forest.proofs.{Waitings.place_of, Waitings.set_low, Waitings.sized}
+use Rattle.qm_forest.proofs.{Waitings.sum_parts, Withins.IsRising, Withins.in_where}
 
--- A lawful entry, and a lawful size.
+-- A lawful entry.
 entry_lawful : (n m i entry : ℕ) → (entry ≡ 0) ⊎ ((i + 1 < n + entry) × (entry ≤ m)) → is_up n m i entry ≡ true
-entry_lawful n m i entry (inl e) = or_left (eqb entry 0) _ (eq-eqb entry 0 e)
-entry_lawful n m i entry (inr h) = or_right (eqb entry 0) _ (ap (λ (s : Bool). s && nat_le entry m)
-    (lt-ltb (i + 1) (n + entry) h.0) ∙ le-leb entry m h.1)
-
-size_lawful : (size : ℕ) → size % 2 ≡ 1 → 3 ≤ size → is_odd_size size ≡ true
-size_lawful size odd large = ap (λ (s : Bool). s && nat_le 3 size) (eq-eqb (size % 2) 1 odd) ∙ le-leb 3 size large
+entry_lawful n m i entry h = grind arith
 
 module _ (t : ForestTables) (known : IsLaminar t) (sets : List (ℕ × ℕ)) (d : DualLists) (is : IsOutline t sets d) where
   abbrev f : Forest
@@ -71,35 +66,28 @@ module _ (t : ForestTables) (known : IsLaminar t) (sets : List (ℕ × ℕ)) (d 
   abbrev name : ℕ → ℕ
   name x = cond (nat_lt x n) 0 (get_or is.names x 0)
 
-  name_vertex : (x : ℕ) → x < n → name x ≡ 0
-  name_vertex x l = cond-true _ _ _ (lt-ltb x n l)
-
   name_set : (k : ℕ) → k < m → name (set_in sets k) ≡ suc k
   name_set k l = cond-false _ _ _ (le-ltb (set_in sets k) n (sized is.order k l).high) ∙ is.named k l
 
   later : (j k : ℕ) → j < m → k < m → get_or t.rank (set_in sets j) 0 < get_or t.rank (set_in sets k) 0 → j < k
-  later j k lj lk less = elim (cases_lt j k) [
-    | inl l ↦ l
-    | inr h ↦ absurd (let rising = is.order.increasing k j (0, 0) h lj in
-        omega (arith, (sized is.order k lk).rank, (sized is.order j lj).rank))
-  ]
+  later j k lj lk less =
+      let rising = is.order.increasing k j (0, 0) in
+      grind (arith, (sized is.order k lk).rank, (sized is.order j lj).rank)
 
   inner_later : (j x : ℕ) → j < m → set_in sets j ≡ x → (ne : up x ≢ x) → j < (around_place x ne).0
   inner_later j x l at ne = later j _ l (around_place x ne).1 (subst (λ b. get_or t.rank b 0
       < get_or t.rank (set_in sets (around_place x ne).0) 0) (sym at) (rw (around_place x ne).2 (known.rises x ne)))
 
-  name_rises : (x : ℕ) → up x ≢ x → name x < name (up x)
-  name_rises x ne =
-      let outer : name (up x) ≡ suc (around_place x ne).0 =
-      ap name (sym (around_place x ne).2) ∙ name_set _ (around_place x ne).1 in
-      elim (cases_lt x n) [
-        | inl l ↦ omega (arith, name_vertex x l)
-        | inr h ↦ (let w = place_of is.order x h (is.inner x ne) (is.live x ne h) in
-            omega (arith, ap name (sym w.2) ∙ name_set w.0 w.1, inner_later w.0 x w.1 w.2 ne))
-      ]
-
   names : IsRising m up name
-  names = record { rises = name_rises }
+  names = record {
+    rises = λ x ne. (let outer : name (up x) ≡ suc (around_place x ne).0 =
+        ap name (sym (around_place x ne).2) ∙ name_set _ (around_place x ne).1 in
+        elim (cases_lt x n) [
+          | inl l ↦ (let here : name x ≡ 0 = cond-true _ _ _ (lt-ltb x n l) in omega arith)
+          | inr h ↦ (let w = place_of is.order x h (is.inner x ne) (is.live x ne h) in
+              omega (arith, ap name (sym w.2) ∙ name_set w.0 w.1, inner_later w.0 x w.1 w.2 ne))
+        ]);
+  }
 
   module _ (k : ℕ) (low : k < m) where
     abbrev b : ℕ
@@ -133,9 +121,9 @@ module _ (t : ForestTables) (known : IsLaminar t) (sets : List (ℕ × ℕ)) (d 
     pub holds_is : (v : ℕ) → v < n → holds n d k v ≡ f.holds b v
     holds_is v l =
         let enough : climbs up m b v ≡ climbs up n b v = same_test _ _
-        (λ on. (let w : (i : ℕ) × (walk up v i ≡ b) = climbs_place up m b v on in in_where (rising known) v w.0
-        (known.low b (set_low is.order k low) (inr (sized is.order k low).live)) w.1)) (λ on. (let w : (i : ℕ)
-        × (walk up v i ≡ b) = climbs_place up n b v on in in_where names v w.0 (omega (arith, name_set k low)) w.1)) in
+        (λ on. (let w = climbs_place up m b v on in in_where (rising known) v w.0
+        (known.low b (set_low is.order k low) (inr (sized is.order k low).live)) w.1))
+        (λ on. (let w = climbs_place up n b v on in in_where names v w.0 (omega (arith, name_set k low)) w.1)) in
         cc (vertex_entry v l, fuel m refl)
       where
         other : v ≢ b
@@ -230,63 +218,46 @@ module _ (t : ForestTables) (known : IsLaminar t) (sets : List (ℕ × ℕ)) (d 
         (λ v lv. ap bool_number (ap (λ x. holds x d k v) (sym valid.vertices) ∙ holds_is k l v (low_in v lv)))
 
     size_odd : (k : ℕ) → k < m → is_odd_size (set_size g.n d k) ≡ true
-    size_odd k l = ap is_odd_size (size_is k l) ∙ size_lawful (blossom_size g.n f (set_in sets k))
-        (odd_blossom are valid.valid.nested (set_in sets k)
-        (inr (high_in (set_in sets k) (sized is.order k l).high, (sized is.order k l).live)))
-        (large_set are valid.valid.nested (set_in sets k)
-        (high_in (set_in sets k) (sized is.order k l).high) (sized is.order k l).live)
+    size_odd k l =
+        let high = high_in (set_in sets k) (sized is.order k l).high in
+        let live = (sized is.order k l).live in
+        ap is_odd_size (size_is k l) ∙ and_from _ _
+        (eq-eqb _ _ (odd_blossom are valid.valid.nested (set_in sets k) (inr (high, live))))
+        (le-leb 3 _ (large_set are valid.valid.nested (set_in sets k) high live))
 
     -- What the vertices add to a load.
     ends_load : (u v : ℕ) → u < n → v < n → u ≢ v
         → total_below (λ w. cond (splits (f.holds w) u v) (f.weight w) (pos 0)) n ≡ f.weight u +ℤ f.weight v
     ends_load u v lu lv ne =
-        let only : (a : ℕ) → a < n → total_below (λ w. cond (eqb w a) (f.weight w) (pos 0)) n ≡ f.weight a = λ a l.
-        total_below_one (λ w. cond (eqb w a) (f.weight w) (pos 0)) n a l (λ k lk off. cond-false _ _ _ (ne_eqb k a off))
-        ∙ cond-true _ _ _ (eq-eqb a a refl) in
-        let each : (w : ℕ) → w < n → cond (splits (f.holds w) u v) (f.weight w) (pos 0)
-        ≡ cond (eqb w u) (f.weight w) (pos 0) +ℤ cond (eqb w v) (f.weight w) (pos 0) = λ w l. ap
-        (λ (s : Bool). cond (cond s (not (f.holds w v)) (f.holds w v)) (f.weight w) (pos 0)) (alone known w u l lu)
-        ∙ (ap (λ (s : Bool). cond (cond (eqb w u) (not s) s) (f.weight w) (pos 0)) (alone known w v l lv)
-        ∙ by_two (eqb w u) (eqb w v) (f.weight w) (λ a c. ne (sym (eqb-true w u a) ∙ eqb-true w v c))) in
-        total_below_same (λ w. cond (splits (f.holds w) u v) (f.weight w) (pos 0))
-        (λ w. cond (eqb w u) (f.weight w) (pos 0) +ℤ cond (eqb w v) (f.weight w) (pos 0)) n each
-        ∙ (total_below_sum (λ w. cond (eqb w u) (f.weight w) (pos 0)) (λ w. cond (eqb w v) (f.weight w) (pos 0)) n
-        ∙ (ap (λ x. x +ℤ total_below (λ w. cond (eqb w v) (f.weight w) (pos 0)) n) (only u lu)
-        ∙ ap (λ x. f.weight u +ℤ x) (only v lv)))
+        let at = λ (a w : ℕ). cond (eqb w a) (f.weight w) (pos 0) in
+        let only : (a : ℕ) → a < n → total_below (at a) n ≡ f.weight a = λ a l. total_below_one (at a) n a l
+        (λ k lk off. cond-false _ _ _ (ne_eqb k a off)) ∙ cond-true _ _ _ (eq-eqb a a refl) in
+        let whole = total_below_same (λ w. cond (splits (f.holds w) u v) (f.weight w) (pos 0))
+        (λ w. at u w +ℤ at v w) n (λ w l. rw (alone known w u l lu, alone known w v l lv)
+        (by_two (eqb w u) (eqb w v) (f.weight w) (λ a c. ne (sym (eqb-true w u a) ∙ eqb-true w v c)))) in
+        omega (arith, ints, total_below_sum (at u) (at v) n, only u lu, only v lv)
 
     -- The load of an edge is what it was.
     load_is : (e : ℕ) → e < length g.edges → dual_load g.n d (edge_at g e)
         ≡ weight_between f (edge_at g e).u (edge_at g e).v
     load_is e l =
+        let u = (edge_at g e).u in
+        let v = (edge_at g e).v in
         let u_low = low_in u (valid.small.lawful.left e l) in
         let v_low = low_in v (valid.small.lawful.right e l) in
-        let added : ℕ → ℤ = λ b. cond (splits (f.holds b) u v) (f.weight b) (pos 0) in
-        let held : (k w : ℕ) → k < m → w < n → holds g.n d k w
-        ≡ f.holds (set_in sets k) w = λ k w lk lw. ap (λ x. holds x d k w) (sym valid.vertices) ∙ holds_is k lk w lw in
-        let term : (k : ℕ) → k < m → cond (crosses (holds g.n d k) (edge_at g e)) (z_at d k) (pos 0) ≡ added (set_in
-        sets k) = λ k lk. ap (λ (s : Bool). cond (cond s (not (holds g.n d k v)) (holds g.n d k v)) (z_at d k) (pos 0))
-        (held k u lk u_low) ∙ (ap (λ (s : Bool). cond (cond (f.holds (set_in sets k) u) (not s) s) (z_at d k) (pos 0))
-        (held k v lk v_low) ∙ ap (λ (z : ℤ). cond (splits (f.holds (set_in sets k)) u v) z (pos 0)) (z_is k lk)) in
-        let parts : total_below added n +ℤ total_below (λ k. added (set_in sets k)) m ≡ weight_between f u v = sum_parts
-        is.order added known.vertices (λ b h lb. elim (splits (f.holds b) u v) as (λ s. pos 0 ≤ℤ cond s (f.weight b)
-        (pos 0)) [ true ↦ weights_high b h lb | false ↦ omega (arith, ints) ]) (λ b h dead. ap (λ (x : ℤ). cond
-        (splits (f.holds b) u v) x (pos 0)) (weights_none b h dead) ∙ by_none (splits (f.holds b) u v)) in
-        let sets_load : total_below (λ k. cond (crosses (holds g.n d k) (edge_at g e)) (z_at d k) (pos 0)) (length d.z)
-        ≡ total_below (λ k. added (set_in sets k)) m = cc (
+        let added = λ (b : ℕ). cond (splits (f.holds b) u v) (f.weight b) (pos 0) in
+        let held : (k w : ℕ) → k < m → w < n → holds g.n d k w ≡ f.holds (set_in sets k) w =
+        λ k w lk lw. ap (λ x. holds x d k w) (sym valid.vertices) ∙ holds_is k lk w lw in
+        let load = λ (k : ℕ). cond (crosses (holds g.n d k) (edge_at g e)) (z_at d k) (pos 0) in
+        let sets_load : total_below load (length d.z) ≡ total_below (λ k. added (set_in sets k)) m = cc (
           sets_many,
-          total_below_same
-              (λ k. cond (crosses (holds g.n d k) (edge_at g e)) (z_at d k) (pos 0)) (λ k. added (set_in sets k)) m
-              term,
-        )
-        in
+          total_below_same load (λ k. added (set_in sets k)) m
+              (λ k lk. rw (held k u lk u_low, held k v lk v_low, z_is k lk)),
+        ) in
+        let parts = sum_parts is.order added known.vertices (λ b h lb. grind (arith, ints, weights_high b h lb))
+        (λ b h dead. rw (weights_none b h dead) (by_none (splits (f.holds b) u v))) in
         let ends = ends_load u v u_low v_low (valid.small.lawful.apart e l) in
-        omega (arith, ints, parts, sets_load, y_is u u_low, y_is v v_low)
-      where
-        u : ℕ
-        u = (edge_at g e).u
-
-        v : ℕ
-        v = (edge_at g e).v
+        omega (arith, ints, y_is u u_low, y_is v v_low)
 
     edge_loaded : (e : ℕ) → e < length g.edges → dual_load g.n d (edge_at g e) ≤ℤ (pos 2 *ℤ (edge_at g e).cost)
     edge_loaded e l =

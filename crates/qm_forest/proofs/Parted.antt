@@ -1,26 +1,36 @@
--- The tables after a set was parted into the blossoms of its ring.
-use Rattle.std.proofs.Common.{◌≡◌, ◌≢◌, ℕ, zero, suc, ◌+◌, ◌<◌, true, false, List, length, get_or, Bool}
-use Rattle.std.proofs.Common.{ℤ, pos, Option, Some, None, refl, sym, ◌∙◌, ap, inl}
+-- Parting a set into the blossoms of its ring: climbing once the ring is open, what the loops need, and the tie and the
+-- forest after all of them.
+use Rattle.std.proofs.Common.{◌≡◌, ◌≢◌, ℕ, zero, suc, ◌+◌, ◌-◌, ◌<◌, ◌≤◌, Bool, true, false, cond, List, length, get_or}
+use Rattle.std.proofs.Common.{ℤ, pos, Option, Some, None, ◌⊎◌, refl, sym, ◌∙◌, ap, inl}
 use Rattle.std.proofs.Common.{inr, arith, length-set, get_or-set_same, get_or-set_other}
-use Rattle.std.proofs.{Math.ListN.set, lemmas.Bool.cases_eq, lemmas.Bool.cases_Bool}
+use Rattle.std.proofs.Math.{ListN.set}
+use Rattle.std.proofs.lemmas.Bool.{cases_eq, cases_Bool, false_from_ne_true}
 use Rattle.std.specs.Prelude.{slice_get}
-use Rattle.def_forest.specs.{Forests.walk}
+use Rattle.def_forest.specs.Forests.{Forest, walk}
 use Rattle.def_forest.specs.Tables.{ForestTables, forest_of, climbs, label_at, out_of, up_at}
+use Rattle.def_forest.specs.declared.kinds.Label.TheVariants.{Outside}
 use Rattle.forest_laws.specs.Walks.{listed, writes}
-use Rattle.forest_laws.proofs.Walks.{listed_place, writes_at, writes_off}
-use Rattle.forest_laws.proofs.Writes.{set_here, set_there, true_false}
+use Rattle.forest_laws.proofs.Walks.{listed_at, listed_off, listed_place, writes_at, writes_off}
+use Rattle.forest_laws.proofs.Writes.{label_cases, set_here, set_there, true_false}
 use Rattle.qm_pool.specs.declared.pool.Node.{Node}
-use Rattle.qm_forest.specs.Parts.{AreOpened, HasHandedRow, IsParted}
-use Rattle.qm_forest.specs.Ties.{AreTied, HiddenTables, HasSizes, HasNumbers, IsInUse, IsLaidOut, IsPooled, IsTrailed}
-use Rattle.qm_forest.specs.{Ties.added, Ties.told, declared.tables.Handles.Handles}
-use Rattle.qm_forest.specs.{declared.forest.Forest.TheInside.Inside, declared.tables.Rings.Rings}
-use Rattle.qm_forest.proofs.{Insides.seen_in, Insides.hidden_in, JoinedLists.list_renamed}
-use Rattle.qm_forest.proofs.{KeptTies.numbers_kept, KeptTies.tied_as, KeptTies.trail_kept}
-use Rattle.qm_forest.proofs.{Nests.came_past, Nests.leader_out, Pooled.pool_changed, Ranges.read_nat}
-use Rattle.qm_forest.proofs.{TiedWrites.entry_set, PartedWays.PartedWay, PartedWays.alone, PartedWays.at_in}
-use Rattle.qm_forest.proofs.PartedWays.{climb_parted, fresh_part, fresh_place, fresh_together, holds_none, holds_old}
-use Rattle.qm_forest.proofs.PartedWays.{leader_fresh, leader_in, leaders_differ, never, out_in, out_is, out_off}
-use Rattle.qm_forest.proofs.PartedWays.{part_fresh, part_outside, part_used, rises, unused, up_in, up_off, ups}
+use Rattle.qm_forest.specs.Gathers.{lists_at}
+use Rattle.qm_forest.specs.Parts.{AreOpened, HasHandedRow, HasPartLists, IsPartable, IsParted}
+use Rattle.qm_forest.specs.Ties.{AreTied, HiddenTables, HasSizes, HasNumbers, IsClimb, IsInUse, IsLaidOut, IsListed}
+use Rattle.qm_forest.specs.Ties.{IsPooled, IsTrailed}
+use Rattle.qm_forest.specs.{declared.tables.Handles.Handles, declared.tables.Rings.Rings}
+use Rattle.qm_forest.specs.declared.forest.Forest.TheInside.{Inside}
+use Rattle.qm_forest.proofs.Apart.{comes_out, fixed_top, rank_low}
+use Rattle.qm_forest.proofs.Enclosed.{Enclosing, climb_enclosed, holds_same, not_new}
+use Rattle.qm_forest.proofs.{Gatherings.list_read, Insides.seen_in, Insides.hidden_in, JoinedLists.list_renamed}
+use Rattle.qm_forest.proofs.{KeptTies.numbers_kept, KeptTies.tied_as, KeptTies.trail_kept, Pooled.pool_changed}
+use Rattle.qm_forest.proofs.{Nests.came_past, Nests.climbs_place, Nests.leader_out, Nests.rank_few, Nests.rank_some}
+use Rattle.qm_forest.proofs.{Ranges.read_nat, TiedWrites.entry_set}
+
+-- A table in which each place of a walk is written with itself.
+writes_self : (f next : ℕ → ℕ) (from many x : ℕ) → writes f (walk next from) (walk next from) many x
+    ≡ cond (listed next from many x) x (f x)
+writes_self f next from zero x = refl
+writes_self f next from (suc k) x = grind (arith, writes_self f next from k x)
 
 -- What holds of all values and of a function holds where it is written.
 writes_has : {X : Type 0} (P : X → Type 0) (f : ℕ → X) (place : ℕ → ℕ) (value : ℕ → X) (many x : ℕ)
@@ -33,21 +43,14 @@ writes_has P f place value (suc k) x values was =
       | inr ne ↦ rw (set_there _ _ x _ ne) more
     ]
 
--- A set that is parted: its vertices are handed over to its parts, and its number is given back.
-pub record Parting (s : Inside) (h2 : Handles) (r2 : Rings) (pool2 : List (Option Node)) (b : ℕ) : Type 0 where
-  pub way : PartedWay (seen_in s) (hidden_in s) b r2.up.items
-  pub handed : HasHandedRow s.handles h2 s.lists s.rings.after.items (get_or s.rings.head.items b 0)
-      (get_or s.rings.parts.items b 0) b
+-- A set of weight 0 outside the tree whose ring has been opened.
+pub record Opened (s : Inside) (r2 : Rings) (b : ℕ) : Type 0 where
+  pub tied : AreTied (seen_in s) (hidden_in s)
+  pub ready : IsPartable (seen_in s) b
   pub opened : AreOpened s.rings r2 (get_or s.rings.head.items b 0) (get_or s.rings.parts.items b 0) b
-  pub id : ℕ
-  pub is : b ≡ length s.handles.hand.items + id
-  pub node : Node
-  pub was : slice_get s.pool id ≡ Some (Some node)
-  pub gave : pool2 ≡ set s.pool id None
 
-module _ {s : Inside} {h2 : Handles} {r2 : Rings} {pool2 : List (Option Node)} {b : ℕ}
-    (parting : Parting s h2 r2 pool2 b) where
-  open parting use {way, way.{tied, ready}, handed, opened}
+module _ {s : Inside} {r2 : Rings} {b : ℕ} (it : Opened s r2 b) where
+  open it use {tied, ready, opened}
 
   abbrev t : ForestTables
   t = seen_in s
@@ -70,225 +73,356 @@ module _ {s : Inside} {h2 : Handles} {r2 : Rings} {pool2 : List (Option Node)} {
   abbrev out : ℕ → ℕ
   out = out_of t.hand t.top
 
-  abbrev out2 : ℕ → ℕ
-  out2 = out_of h2.hand.items h2.top.items
+  abbrev rank : ℕ → ℕ
+  rank x = get_or t.rank x 0
+
+  abbrev up2 : ℕ → ℕ
+  up2 = up_at r2.up.items
 
   abbrev fresh : ℕ → ℕ
-  fresh v = walk (up_at r2.up.items) v n
+  fresh v = walk up2 v n
 
-  abbrev leader : ℕ → ℕ
-  leader k = get_or hid.leader (at k) 0
+  ups : (x : ℕ) → up2 x ≡ cond (inside x) x (up_at t.up x)
+  ups x = ap (λ (f : ℕ → ℕ). f x) opened.up ∙ writes_self _ (λ i. get_or t.after i 0) _ many x
 
-  -- A part has the vertices of its list.
-  in_list : (k v : ℕ) → k < many → v < n → listed (λ i. get_or hid.following i 0) (get_or hid.first (at k) 0)
-      (get_or t.rank (at k) 0) v ≡ climbs (up_at t.up) n (at k) v
-  in_list k v lk lv = (tied.nest.members (at k) (ready.row.low k lk) (part_used way k lk)).all v lv
+  up_in : (x : ℕ) → inside x ≡ true → up2 x ≡ x
+  up_in x on = rw (ups x, on)
 
-  -- The handle of a vertex, and what it tells.
-  record HasPart (v : ℕ) : Type 0 where
-    place : ℕ
-    low : place < many
-    is : at place ≡ fresh v
-    hand : get_or h2.hand.items v 0 ≡ leader place
+  up_off : (x : ℕ) → inside x ≡ false → up2 x ≡ up_at t.up x
+  up_off x off = rw (ups x, off)
 
-  part_of : (v : ℕ) → v < n → inside (fresh v) ≡ true → HasPart v
-  part_of v lv on =
-      let p = fresh_place way v on in
-      record {
-        place = p.0;
-        low = p.1;
-        is = p.2;
-        hand = handed.own p.0 v p.1 (in_list p.0 v p.1 lv ∙ fresh_part way p.0 v p.1 lv (sym p.2));
-      }
+  in_around : (x : ℕ) → inside x ≡ true → up_at t.up x ≡ b
+  in_around x on = let w : (k : ℕ) × (k < many) × (at k ≡ x) = listed_place _ _ many x on in
+      ap (up_at t.up) (sym w.2) ∙ ready.around w.0 w.1
 
-  hand_off : (v : ℕ) → v < n → inside (fresh v) ≡ false → get_or h2.hand.items v 0 ≡ get_or t.hand v 0
-  hand_off v lv off = handed.other v (λ k lk. in_list k v lk lv ∙ elim (cases_Bool (climbs (up_at t.up) n (at k) v)) [
-    | inl on ↦ absurd (true_false (ap inside (part_fresh way k v lk lv on) ∙ at_in way k lk) off)
-    | inr none ↦ none
-  ])
+  at_in : (k : ℕ) → k < many → inside (at k) ≡ true
+  at_in k l = listed_at _ _ many k l
 
-  -- The handle of a vertex outside the set is no part's.
-  hand_apart : (v k : ℕ) → v < n → inside (fresh v) ≡ false → k < many → leader k ≢ get_or t.hand v 0
-  hand_apart v k lv off lk same =
-      let in_b : out (leader k) ≡ b = out_in way (leader k) (leader_in way k lk).0
-      (ap inside (leader_fresh way k lk) ∙ at_in way k lk) in
-      never way v n lv (sym (out_off way v lv off)
-      ∙ (sym (leader_out tied.nest v lv) ∙ (ap out (sym (same ∙ tied.nest.led v lv)) ∙ in_b)))
+  b_off : inside b ≡ false
+  b_off = listed_off _ _ many b ready.other
 
-  pub out_new : (v : ℕ) → v < n → out2 v ≡ fresh v
-  out_new v lv = elim (cases_Bool (inside (fresh v))) [
-    | inl on ↦ (let p = part_of v lv on in
-        rw (p.hand, ap (λ (f : ℕ → ℕ). f (leader p.place)) handed.top)
-        (writes_at _ leader at many p.place p.low (leaders_differ way) ∙ p.is))
-    | inr off ↦ rw (hand_off v lv off, ap (λ (f : ℕ → ℕ). f (get_or t.hand v 0)) handed.top)
-        (writes_off _ leader at many _ (λ k lk. hand_apart v k lv off lk) ∙ out_off way v lv off)
-  ]
+  around_in : (x : ℕ) → up_at t.up x ≡ b → x ≢ b → inside x ≡ true
+  around_in x e ne = let w = ready.all x e ne in ap inside (sym w.2) ∙ at_in w.0 w.1
 
-  -- What the handle of a vertex adds stays.
-  off_new : (v : ℕ) → v < n → get_or h2.off.items (get_or h2.hand.items v 0) (pos 0)
-      ≡ get_or hid.off (get_or t.hand v 0) (pos 0)
-  off_new v lv = elim (cases_Bool (inside (fresh v))) [
-    | inl on ↦ (let p = part_of v lv on in
-        rw (p.hand, ap (λ (f : ℕ → ℤ). f (leader p.place)) handed.off)
-        (writes_at _ leader _ many p.place p.low (leaders_differ way) ∙ ap (λ i. get_or hid.off i (pos 0))
-        (sym (tied.nest.led v lv ∙ ap (λ x. get_or hid.leader x 0) (out_in way v lv on)))))
-    | inr off ↦ rw (hand_off v lv off, ap (λ (f : ℕ → ℤ). f (get_or t.hand v 0)) handed.off)
-        (writes_off _ leader _ many _ (λ k lk. hand_apart v k lv off lk))
-  ]
+  b_top : up_at t.up b ≡ b
+  b_top = ap (up_at t.up) (sym ready.top.2) ∙ (tied.nest.climb.tops _ ready.top.1 ∙ ready.top.2)
 
-  label_new : (v : ℕ) → v < n → label_at t.label (out2 v) ≡ label_at t.label (out v)
-  label_new v lv = ap (label_at t.label) (out_new v lv) ∙ elim (cases_Bool (inside (fresh v))) [
-    | inl on ↦ part_outside way (fresh v) on ∙ sym (ap (label_at t.label) (out_in way v lv on) ∙ ready.outside)
-    | inr off ↦ ap (label_at t.label) (sym (out_off way v lv off))
-  ]
+  alone : up2 b ≡ b
+  alone = up_off b b_off ∙ b_top
 
-  added_new : (v : ℕ) → v < n → added h2.hand.items h2.top.items h2.off.items t.label t.delta v
-      ≡ added t.hand t.top hid.off t.label t.delta v
-  added_new v lv = rw (off_new v lv, label_new v lv)
+  unused : (x : ℕ) → x ≢ b → up2 x ≢ b
+  unused x ne e = grind (arith, ups x, around_in x)
 
-  told_new : (v : ℕ) → v < n → told h2.q.items h2.hand.items h2.top.items h2.off.items t.label t.delta v
-      ≡ told hid.q t.hand t.top hid.off t.label t.delta v
-  told_new v lv = rw (handed.q v, off_new v lv, label_new v lv)
+  rises : (x : ℕ) → up2 x ≢ x → rank x < rank (up2 x)
+  rises x inner = grind (arith, ups x, tied.nest.rises x)
 
-  numbers_new : HasNumbers h2.hand.items h2.top.items r2.up.items t.base t.label t.delta t.root h2.q.items h2.off.items
-  numbers_new = numbers_kept tied ready.weightless handed.hands opened.size (holds_old way) (λ none. none) told_new
-      (λ v lv. (v, lv, added_new v lv))
-
-  set_low : b < length t.parts
-  set_low = rw tied.sizes.parts ready.low
-
-  parts_b : get_or r2.parts.items b 0 ≡ 0
-  parts_b = ap (λ xs. get_or xs b 0) opened.parts ∙ get_or-set_same t.parts b 0 0 set_low
-
-  parts_old : (x : ℕ) → x ≢ b → get_or r2.parts.items x 0 ≡ get_or t.parts x 0
-  parts_old x ne = ap (λ xs. get_or xs x 0) opened.parts ∙ get_or-set_other t.parts b x 0 0 ne
-
-  -- What is in use was, and is not the set.
-  used_old : (x : ℕ) → IsInUse n r2.parts.items x → IsInUse n t.parts x × (x ≢ b)
-  used_old x used = elim used [
-    | inl low ↦ (inl low, (λ at_b. absurd (omega arith)))
-    | inr live ↦ elim (cases_eq x b) [
-      | inl at_b ↦ absurd (live (ap (λ y. get_or r2.parts.items y 0) at_b ∙ parts_b))
-      | inr ne ↦ (inr (λ dead. live (parts_old x ne ∙ dead)), ne)
-    ]
-  ]
-
-  nest_new : IsLaidOut n (length t.up) h2.hand.items h2.top.items r2.up.items t.rank r2.parts.items hid.leader hid.first
-      hid.last hid.following
-  nest_new = record {
-    hands = λ v lv. rw handed.tops (elim (cases_Bool (inside (fresh v))) [
-      | inl on ↦ (let p = part_of v lv on in
-          rw (p.hand, tied.sizes.top) (leader_in way p.place p.low).0)
-      | inr off ↦ rw (hand_off v lv off) (tied.nest.hands v lv)
-    ]);
-    outs = λ k lk. rw (ap (λ (f : ℕ → ℕ). f k) handed.top)
-        (writes_has (λ x. x < length t.up) _ leader at many k ready.row.low (tied.nest.outs k (rw handed.tops at lk)));
-    ups = λ x lx. rw (read_nat r2.up.items x 0 x (rw opened.size lx)) (elim (cases_Bool (inside x)) [
-      | inl on ↦ rw (up_in way x on) lx
-      | inr off ↦ rw (up_off way x off, read_nat t.up x x 0 lx) (tied.nest.ups x lx)
-    ]);
-    climb = record {
-      ends = λ v lv. sym (out_new v lv);
-      tops = λ v lv. rw (out_new v lv) ((climb_parted way).tops v lv);
-    };
-    led = λ v lv. elim (cases_Bool (inside (fresh v))) [
-      | inl on ↦ (let p = part_of v lv on in
-          p.hand ∙ ap (λ x. get_or hid.leader x 0) (p.is ∙ sym (out_new v lv)))
-      | inr off ↦ hand_off v lv off
-          ∙ (tied.nest.led v lv ∙ ap (λ x. get_or hid.leader x 0) (out_off way v lv off ∙ sym (out_new v lv)))
-    ];
-    leaders = λ x lx used. (let was = tied.nest.leaders x lx (used_old x used).0 in
-        (was.0, holds_old way x (get_or hid.leader x 0) (used_old x used).1 was.0 ∙ was.1));
-    members = λ x lx used. list_renamed _ (tied.nest.members x lx (used_old x used).0)
-        (λ v lv. sym (holds_old way x v (used_old x used).1 lv));
-    ended = λ x y k lx ly ux uy lk. tied.nest.ended x y k lx ly (used_old x ux).0 (used_old y uy).0 lk;
-    idle = λ x hx none. elim (cases_eq x b) [
-      | inl at_b ↦ rw at_b (alone way)
-      | inr ne ↦ elim (cases_Bool (inside x)) [
-        | inl on ↦ up_in way x on
-        | inr off ↦ up_off way x off ∙ tied.nest.idle x hx (sym (parts_old x ne) ∙ none)
+  -- Where one comes to one came before.
+  on_way : (v i : ℕ) → (j : ℕ) × (walk (up_at t.up) v j ≡ walk up2 v i)
+  on_way v zero = (0, refl)
+  on_way v (suc i) =
+      let w = on_way v i in
+      elim (cases_Bool (inside (walk up2 v i))) [
+        | inl on ↦ (w.0, w.1 ∙ sym (up_in _ on))
+        | inr off ↦ (suc w.0, ap (up_at t.up) w.1 ∙ sym (up_off _ off))
       ]
-    ];
-    around = λ x inner. elim (cases_Bool (inside x)) [
-      | inl on ↦ absurd (inner (up_in way x on))
-      | inr off ↦ elim (cases_eq x b) [
-        | inl at_b ↦ absurd (inner (rw at_b (alone way)))
-        | inr ne ↦ rw (parts_old (up_at r2.up.items x) (unused way x ne), up_off way x off)
-            (tied.nest.around x (λ at_x. inner (up_off way x off ∙ at_x)))
-      ]
-    ];
-    rises = rises way;
+
+  few : (v i : ℕ) → v < n → rank (walk up2 v i) ≤ n
+  few v i l =
+      let low = rank_low rank tied.nest.climb tied.nest.rises v _ l (on_way v i) in
+      omega (arith, rank_few tied.nest v l)
+
+  -- Each step rises, or one has come to stay.
+  stays_or : (v i : ℕ) → v < n → (up2 (walk up2 v i) ≡ walk up2 v i)
+      ⊎ (i < rank (walk up2 v i))
+  stays_or v zero l = inr (rank_some tied.nest v l tied.sizes.vertices)
+  stays_or v (suc i) l =
+      let before = stays_or v i l in
+      grind (arith, cases_eq (up2 (walk up2 v i)) (walk up2 v i), rises (walk up2 v i))
+
+  climb_parted : IsClimb n up2 (λ v. walk up2 v n)
+  climb_parted = record {
+    ends = λ v l. refl;
+    tops = λ v l. elim (stays_or v n l) [ inl e ↦ e | inr h ↦ absurd (omega (arith, few v n l)) ];
   }
 
-  trail_new : IsTrailed n h2.hand.items h2.top.items t.label t.trail hid.touched
-  trail_new = trail_kept tied.trail (λ v lv named. out_new v lv ∙ elim (cases_Bool (inside (fresh v))) [
-    | inl on ↦ absurd (named (ap (label_at t.label) (out_in way v lv on) ∙ ready.outside))
-    | inr off ↦ sym (out_off way v lv off)
-  ])
+  -- The set was around its parts.
+  enclosing : Enclosing n up2 (λ v. walk up2 v n) rank (up_at t.up) inside b
+  enclosing =
+      grind (arith, climb_parted, rises, rank_some tied.nest, few, up_in, b_off, alone, unused, ups, in_around)
 
-  abbrev parted : ForestTables
-  parted = record t { hand = h2.hand.items; top = h2.top.items; up = r2.up.items; parts = r2.parts.items }
+  holds_old : (x v : ℕ) → x ≢ b → v < n → climbs up2 n x v ≡ climbs (up_at t.up) n x v
+  holds_old x v ne l = sym (holds_same enclosing x v ne l)
 
-  abbrev parted_hidden : HiddenTables
-  parted_hidden = record hid { q = h2.q.items; off = h2.off.items; pool = pool2 }
+  -- The parts of the set are where its vertices are now.
+  out_is : (v : ℕ) → v < n → out v ≡ cond (inside (fresh v)) b (fresh v)
+  out_is v l = sym (tied.nest.climb.ends v l) ∙ (climb_enclosed enclosing).ends v l
 
-  sizes_new : HasSizes parted parted_hidden
-  sizes_new = record {
-    few = omega arith;
-    vertices = omega arith;
-    top = handed.tops ∙ (tied.sizes.top ∙ sym handed.hands);
-    q = handed.qs ∙ (tied.sizes.q ∙ sym handed.hands);
-    off = handed.offs ∙ (tied.sizes.off ∙ sym handed.tops);
-    following = tied.sizes.following ∙ sym handed.hands;
-    touched = tied.sizes.touched ∙ sym handed.hands;
-    base = tied.sizes.base ∙ sym opened.size;
-    label = tied.sizes.label ∙ sym opened.size;
-    mate = tied.sizes.mate ∙ sym opened.size;
-    link = tied.sizes.link ∙ sym opened.size;
-    rank = tied.sizes.rank ∙ sym opened.size;
-    after = tied.sizes.after ∙ sym opened.size;
-    joint = tied.sizes.joint ∙ sym opened.size;
-    head = tied.sizes.head ∙ sym opened.size;
-    parts = ap length opened.parts ∙ (length-set t.parts b 0 ∙ (tied.sizes.parts ∙ sym opened.size));
-    leader = tied.sizes.leader ∙ sym opened.size;
-    first = tied.sizes.first ∙ sym opened.size;
-    last = tied.sizes.last ∙ sym opened.size;
-    room = omega arith;
-  }
+  never : (v i : ℕ) → v < n → walk up2 v i ≢ b
+  never = not_new enclosing
 
-  pool_new : IsPooled n (length t.up) r2.parts.items pool2
-  pool_new = rw (opened.parts, parting.gave) (pool_changed tied.pool parting.id ready.high ready.low tied.sizes.parts
-      parting.is parting.was (inr (parting.node, refl, ready.live)) None 0 (inl (refl, refl)))
+  holds_none : (v : ℕ) → v < n → climbs up2 n b v ≡ false
+  holds_none v l = false_from_ne_true _ (λ on. (let w = climbs_place _ n b v on in never v w.0 l w.1))
 
-  abbrev pub after_parting : Inside
-  after_parting = record s { handles = h2; rings = r2; pool = pool2 }
+  -- A vertex of a part is in it.
+  part_fresh : (k v : ℕ) → k < many → v < n → climbs (up_at t.up) n (at k) v ≡ true → fresh v ≡ at k
+  part_fresh k v lk l on = sym (fixed_top rank climb_parted rises v l
+      (climbs_place _ n (at k) v (holds_old (at k) v (ready.other k lk) l ∙ on)) (up_in (at k) (at_in k lk)))
 
-  -- The tie after a set was parted.
-  pub tied_parted : AreTied (seen_in after_parting) (hidden_in after_parting)
-  tied_parted = rw (opened.after, opened.joint, opened.head) (tied_as {t = parted} {hid = parted_hidden} handed.hands
-      opened.size sizes_new nest_new numbers_new trail_new pool_new)
+  -- The vertices of any other blossom lie in one part.
+  fresh_together : (x u v : ℕ) → u < n → v < n → x ≢ b → climbs (up_at t.up) n x u ≡ true
+      → climbs (up_at t.up) n x v ≡ true → fresh u ≡ fresh v
+  fresh_together x u v lu lv ne hu hv = sym (at_x u lu hu) ∙ at_x v lv hv
+    where
+      at_x : (w : ℕ) → w < n → climbs (up_at t.up) n x w ≡ true → walk up2 x n ≡ fresh w
+      at_x w lw hw = comes_out rank climb_parted rises w x lw (climbs_place _ n x w (holds_old x w ne lw ∙ hw))
 
-  -- What the forest sees.
-  pub parted_is : IsParted n (forest_of t) (forest_of (seen_in after_parting)) inside b
-  parted_is = rw (opened.after, opened.joint, opened.head) (record {
-    size = opened.size;
-    holds = λ x v ne lv. ap (λ m. climbs (up_at r2.up.items) m x v) handed.hands ∙ holds_old way x v ne lv;
-    holds_none = λ v lv. ap (λ m. climbs (up_at r2.up.items) m b v) handed.hands ∙ holds_none way v lv;
-    out = λ v lv. rw (out_new v lv) (out_is way v lv);
-    holds_out = λ v lv. rw (out_new v lv) (sym (holds_old way (fresh v) v (never way v n lv) lv)
-        ∙ came_past (up_at r2.up.items) n v (fresh v) refl);
-    own = λ x v on lv held. (let p : (k : ℕ) × (k < many) × (at k ≡ x) = listed_place _ _ many x on in
-        out_new v lv ∙ (part_fresh way p.0 v p.1 lv (rw p.2 held) ∙ p.2));
-    ended = λ v lv at_b. never way v n lv (sym (out_new v lv) ∙ at_b);
-    together = λ x u v lu lv ne hu hv. out_new u lu ∙ (fresh_together way x u v lu lv ne hu hv ∙ sym (out_new v lv));
-    weight = refl;
-    label = refl;
-    mate = refl;
-    link = refl;
-    up = ups way;
-    after = refl;
-    joint = refl;
-    head = refl;
-    parts = λ x. ap (λ (f : ℕ → ℕ). f x) (ap (λ xs y. get_or xs y 0) opened.parts ∙ entry_set t.parts b 0 0 set_low);
-    rank = refl;
+  out_in : (v : ℕ) → v < n → inside (fresh v) ≡ true → out v ≡ b
+  out_in v l on = rw (out_is v l, on)
+
+  out_off : (v : ℕ) → v < n → inside (fresh v) ≡ false → out v ≡ fresh v
+  out_off v l off = rw (out_is v l, off)
+
+  -- The parts are in use, and outside the tree.
+  part_used : (k : ℕ) → k < many → IsInUse n t.parts (at k)
+  part_used k l = grind (arith, tied.nest.idle (at k), ready.other k l, ready.around k l)
+
+  part_outside : (x : ℕ) → inside x ≡ true → label_at t.label x ≡ Outside
+  part_outside x on = elim (label_cases _) [
+    | inl e ↦ e
+    | inr named ↦ (let w = tied.trail.named x named in
+        let top : up_at t.up x ≡ x = (rw w.2 at (tied.nest.climb.tops _ (tied.trail.low w.0 w.1))) in
+        let set : x ≡ b = sym top ∙ in_around x on in
+        absurd (true_false (ap inside (sym set) ∙ on) b_off))
+  ]
+
+  -- The leaders of the parts are different vertices of them.
+  leader_in : (k : ℕ) → k < many → (get_or hid.leader (at k) 0 < n)
+      × (climbs (up_at t.up) n (at k) (get_or hid.leader (at k) 0) ≡ true)
+  leader_in k l = tied.nest.leaders (at k) (ready.row.low k l) (part_used k l)
+
+  leader_fresh : (k : ℕ) → k < many → fresh (get_or hid.leader (at k) 0) ≡ at k
+  leader_fresh k l = part_fresh k _ l (leader_in k l).0 (leader_in k l).1
+
+  leaders_differ : (i j : ℕ) → i < j → j < many → get_or hid.leader (at i) 0 ≢ get_or hid.leader (at j) 0
+  leaders_differ i j lij lj e = ready.row.distinct i j lij lj
+      (sym (leader_fresh i (omega arith)) ∙ (ap fresh e ∙ leader_fresh j lj))
+
+  pub set_live : (id : ℕ) × (b ≡ n + id) × (node : Node) × (slice_get s.pool id ≡ Some (Some node))
+  set_live =
+      let is : b ≡ n + (b - n) = omega arith in
+      let live : (node : Node) × (slice_get s.pool (b - n) ≡ Some (Some node)) =
+      tied.pool.live (b - n) (λ none. ready.live (ap (λ x. get_or s.rings.parts.items x 0) is ∙ none)) in
+      (b - n, is, live.0, live.1)
+
+  list_at : (k : ℕ) → k < many → IsListed n (λ i. get_or s.lists.following.items i 0)
+      (get_or s.lists.first.items (at k) 0) (get_or s.lists.last.items (at k) 0) (get_or s.lists.rank.items (at k) 0)
+      (climbs (up_at s.rings.up.items) n (at k))
+  list_at k lk = tied.nest.members (at k) (ready.row.low k lk) (part_used k lk)
+
+  on_list : (k v : ℕ) → k < many → lists_at s.lists (at k) v ≡ true
+      → (v < n) × (climbs (up_at s.rings.up.items) n (at k) v ≡ true)
+  on_list k v lk on =
+      let p : (j : ℕ) × (j < get_or s.lists.rank.items (at k) 0) × (walk (λ i. get_or s.lists.following.items i 0)
+      (get_or s.lists.first.items (at k) 0) j ≡ v) = listed_place _ _ _ v on in
+      let lv : v < n = rw p.2 at ((list_at k lk).low p.0 p.1) in
+      (lv, sym ((list_at k lk).all v lv) ∙ on)
+
+  fresh_at : (k v : ℕ) → k < many → lists_at s.lists (at k) v ≡ true → fresh v ≡ at k
+  fresh_at k v lk on = part_fresh k v lk (on_list k v lk on).0 (on_list k v lk on).1
+
+  apart : (i j v : ℕ) → i < many → j < many → lists_at s.lists (at i) v ≡ true → lists_at s.lists (at j) v ≡ true
+      → i ≡ j
+  apart i j v li lj oi oj =
+      let same : at i ≡ at j = sym (fresh_at i v li oi) ∙ fresh_at j v lj oj in
+      grind (arith, ready.row.distinct i j, ready.row.distinct j i)
+
+  led : (k v : ℕ) → k < many → lists_at s.lists (at k) v ≡ true
+      → get_or s.handles.hand.items v 0 ≡ get_or s.lists.leader.items b 0
+  led k v lk on = cc (
+    tied.nest.led v (on_list k v lk on).0,
+    out_in v (on_list k v lk on).0
+        (ap inside (fresh_at k v lk on) ∙ at_in k lk),
+  )
+
+  pub part_lists : HasPartLists s.handles s.lists r2.after.items (get_or t.head b 0) many b
+  part_lists = rw opened.after (record {
+    row = rw tied.sizes.after ready.row;
+    each = λ k lk. list_read s tied (ready.row.low k lk) (list_at k lk);
+    apart = apart;
+    leader = tied.sizes.leader ∙ sym tied.sizes.after;
+    set_low = rw tied.sizes.after ready.low;
+    offs = tied.sizes.off;
+    tops = λ k lk. rw tied.sizes.top (leader_in k lk).0;
+    set_top = rw tied.sizes.top (tied.nest.leaders b ready.low (inr ready.live)).0;
+    led = led;
   })
+
+  -- The set's vertices are handed over to its parts, and its number is given back.
+  pub record Parting (h2 : Handles) (pool2 : List (Option Node)) : Type 0 where
+    pub laid : HasHandedRow s.handles h2 s.lists r2.after.items (get_or t.head b 0) many b
+    pub gave : (id : ℕ) × (b ≡ n + id) × (pool2 ≡ set s.pool id None)
+
+  module _ {h2 : Handles} {pool2 : List (Option Node)} (parting : Parting h2 pool2) where
+    handed : HasHandedRow s.handles h2 s.lists t.after (get_or t.head b 0) many b
+    handed = rw opened.after at parting.laid
+
+    abbrev out2 : ℕ → ℕ
+    out2 = out_of h2.hand.items h2.top.items
+
+    abbrev leader : ℕ → ℕ
+    leader k = get_or hid.leader (at k) 0
+
+    -- A vertex lies in a part, whose leader is its handle now; or it lies where it lay, and has the handle that it had.
+    data Spot (v : ℕ) : Type 0 where
+      in_part : (k : ℕ) → k < many → at k ≡ fresh v → out v ≡ b → get_or h2.hand.items v 0 ≡ leader k → Spot v
+      beside : out v ≡ fresh v → get_or h2.hand.items v 0 ≡ get_or t.hand v 0 → Spot v
+
+    spot : (v : ℕ) → v < n → Spot v
+    spot v lv = elim (cases_Bool (inside (fresh v))) [
+      | inl on ↦ (let p : (k : ℕ) × (k < many) × (at k ≡ fresh v) = listed_place _ _ many _ on in
+          let was = holds_old (at p.0) v (ready.other p.0 p.1) lv in
+          let past = came_past _ n v (at p.0) (sym p.2) in
+          in_part p.0 p.1 p.2 (out_in v lv on) (handed.own p.0 v p.1 ((list_at p.0 p.1).all v lv ∙ (sym was ∙ past))))
+      | inr off ↦ beside (out_off v lv off) (handed.other v (λ k lk. (list_at k lk).all v lv
+          ∙ false_from_ne_true _ (λ on. true_false (ap inside (part_fresh k v lk lv on) ∙ at_in k lk) off)))
+    ]
+
+    -- The handle of a vertex outside the set is no part's.
+    hand_apart : (v k : ℕ) → v < n → out v ≡ fresh v → k < many → leader k ≢ get_or t.hand v 0
+    hand_apart v k lv top lk same =
+        let in_b = out_in (leader k) (leader_in k lk).0 (ap inside (leader_fresh k lk) ∙ at_in k lk) in
+        never v n lv (sym top ∙ (sym (leader_out tied.nest v lv) ∙ (ap out (sym (same ∙ tied.nest.led v lv)) ∙ in_b)))
+
+    out_new : (v : ℕ) → v < n → out2 v ≡ fresh v
+    out_new v lv = elim (spot v lv) [
+      | in_part k lk at_k in_b hand ↦ rw (hand, ap (λ (f : ℕ → ℕ). f (leader k)) handed.top)
+          (writes_at _ leader at many k lk leaders_differ ∙ at_k)
+      | beside top hand ↦ rw (hand, ap (λ (f : ℕ → ℕ). f (get_or t.hand v 0)) handed.top)
+          (writes_off _ leader at many _ (λ k lk. hand_apart v k lv top lk) ∙ top)
+    ]
+
+    -- What the handle of a vertex adds stays.
+    off_new : (v : ℕ) → v < n → get_or h2.off.items (get_or h2.hand.items v 0) (pos 0)
+        ≡ get_or hid.off (get_or t.hand v 0) (pos 0)
+    off_new v lv = elim (spot v lv) [
+      | in_part k lk at_k in_b hand ↦ rw (hand, ap (λ (f : ℕ → ℤ). f (leader k)) handed.off)
+          (writes_at _ leader _ many k lk leaders_differ ∙ ap (λ i. get_or hid.off i (pos 0))
+          (sym (tied.nest.led v lv ∙ ap (λ x. get_or hid.leader x 0) in_b)))
+      | beside top hand ↦ rw (hand, ap (λ (f : ℕ → ℤ). f (get_or t.hand v 0)) handed.off)
+          (writes_off _ leader _ many _ (λ k lk. hand_apart v k lv top lk))
+    ]
+
+    label_new : (v : ℕ) → v < n → label_at t.label (out2 v) ≡ label_at t.label (out v)
+    label_new v lv = ap (label_at t.label) (out_new v lv) ∙ elim (spot v lv) [
+      | in_part k lk at_k in_b hand ↦ part_outside (fresh v) (ap inside (sym at_k) ∙ at_in k lk)
+          ∙ sym (ap (label_at t.label) in_b ∙ ready.outside)
+      | beside top hand ↦ ap (label_at t.label) (sym top)
+    ]
+
+    numbers_new : HasNumbers h2.hand.items h2.top.items r2.up.items t.base t.label t.delta t.root h2.q.items
+        h2.off.items
+    numbers_new = numbers_kept tied ready.weightless handed.hands opened.size holds_old (λ none. none)
+        (λ v lv. rw (handed.q v, off_new v lv, label_new v lv))
+        (λ v lv. (v, lv, rw (off_new v lv, label_new v lv)))
+
+    set_low : b < length t.parts
+    set_low = rw tied.sizes.parts ready.low
+
+    parts_b : get_or r2.parts.items b 0 ≡ 0
+    parts_b = ap (λ xs. get_or xs b 0) opened.parts ∙ get_or-set_same t.parts b 0 0 set_low
+
+    parts_old : (x : ℕ) → x ≢ b → get_or r2.parts.items x 0 ≡ get_or t.parts x 0
+    parts_old x ne = ap (λ xs. get_or xs x 0) opened.parts ∙ get_or-set_other t.parts b x 0 0 ne
+
+    -- What is in use was, and is not the set.
+    used_old : (x : ℕ) → IsInUse n r2.parts.items x → IsInUse n t.parts x × (x ≢ b)
+    used_old x used = grind (arith, parts_b, parts_old x)
+
+    nest_new : IsLaidOut n (length t.up) h2.hand.items h2.top.items r2.up.items t.rank r2.parts.items hid.leader
+        hid.first hid.last hid.following
+    nest_new = record {
+      hands = λ v lv. rw handed.tops (elim (spot v lv) [
+        | in_part k lk at_k in_b hand ↦ rw (hand, tied.sizes.top) (leader_in k lk).0
+        | beside top hand ↦ rw hand (tied.nest.hands v lv)
+      ]);
+      outs = λ k lk. rw (ap (λ (f : ℕ → ℕ). f k) handed.top)
+          (writes_has (λ x. x < length t.up) _ leader at many k ready.row.low
+          (tied.nest.outs k (rw handed.tops at lk)));
+      ups = λ x lx. rw (read_nat r2.up.items x 0 x (rw opened.size lx))
+          (grind (arith, ups x, read_nat t.up x x 0 lx, tied.nest.ups x lx));
+      climb = record { ends = λ v lv. sym (out_new v lv); tops = λ v lv. rw (out_new v lv) (climb_parted.tops v lv) };
+      led = λ v lv. elim (spot v lv) [
+        | in_part k lk at_k in_b hand ↦ hand ∙ ap (λ x. get_or hid.leader x 0) (at_k ∙ sym (out_new v lv))
+        | beside top hand ↦ hand ∙ (tied.nest.led v lv ∙ ap (λ x. get_or hid.leader x 0) (top ∙ sym (out_new v lv)))
+      ];
+      leaders = λ x lx used. (let was = tied.nest.leaders x lx (used_old x used).0 in
+          (was.0, holds_old x (get_or hid.leader x 0) (used_old x used).1 was.0 ∙ was.1));
+      members = λ x lx used. list_renamed _ (tied.nest.members x lx (used_old x used).0)
+          (λ v lv. sym (holds_old x v (used_old x used).1 lv));
+      ended = λ x y k lx ly ux uy lk. tied.nest.ended x y k lx ly (used_old x ux).0 (used_old y uy).0 lk;
+      idle = λ x hx none. grind (arith, alone, ups x, parts_old x, tied.nest.idle x hx);
+      around = λ x inner. grind (arith, alone, ups x, unused x, parts_old (up2 x), tied.nest.around x);
+      rises = rises;
+    }
+
+    trail_new : IsTrailed n h2.hand.items h2.top.items t.label t.trail hid.touched
+    trail_new = trail_kept tied.trail (λ v lv named. out_new v lv ∙ elim (spot v lv) [
+      | in_part k lk at_k in_b hand ↦ absurd (named (ap (label_at t.label) in_b ∙ ready.outside))
+      | beside top hand ↦ sym top
+    ])
+
+    abbrev parted : ForestTables
+    parted = record t { hand = h2.hand.items; top = h2.top.items; up = r2.up.items; parts = r2.parts.items }
+
+    abbrev parted_hidden : HiddenTables
+    parted_hidden = record hid { q = h2.q.items; off = h2.off.items; pool = pool2 }
+
+    sizes_new : HasSizes parted parted_hidden
+    sizes_new = let parts = length-set t.parts b 0 in omega (arith, ap length opened.parts)
+
+    pool_new : IsPooled n (length t.up) r2.parts.items pool2
+    pool_new =
+        let live : (node : Node) × (slice_get s.pool parting.gave.0 ≡ Some (Some node)) =
+        tied.pool.live parting.gave.0 (λ none. ready.live (ap (λ x. get_or t.parts x 0) parting.gave.1 ∙ none)) in
+        rw (opened.parts, parting.gave.2) (pool_changed tied.pool parting.gave.0 ready.high ready.low tied.sizes.parts
+        parting.gave.1 live.1 (inr (live.0, refl, ready.live)) None 0 (inl (refl, refl)))
+
+    abbrev pub after_parting : Inside
+    after_parting = record s { handles = h2; rings = r2; pool = pool2 }
+
+    -- The tie after a set was parted.
+    pub tied_parted : AreTied (seen_in after_parting) (hidden_in after_parting)
+    tied_parted = rw (opened.after, opened.joint, opened.head) (tied_as {t = parted} {hid = parted_hidden} handed.hands
+        opened.size sizes_new nest_new numbers_new trail_new pool_new)
+
+    -- What the forest sees.
+    pub parted_is : IsParted n (forest_of t) (forest_of (seen_in after_parting)) inside b
+    parted_is = rw (opened.after, opened.joint, opened.head) (record {
+      size = opened.size;
+      holds = λ x v ne lv. ap (λ m. climbs up2 m x v) handed.hands ∙ holds_old x v ne lv;
+      holds_none = λ v lv. ap (λ m. climbs up2 m b v) handed.hands ∙ holds_none v lv;
+      out = λ v lv. rw (out_new v lv) (out_is v lv);
+      holds_out = λ v lv. rw (out_new v lv) (sym (holds_old (fresh v) v (never v n lv) lv)
+          ∙ came_past up2 n v (fresh v) refl);
+      own = λ x v on lv held. (let p : (k : ℕ) × (k < many) × (at k ≡ x) = listed_place _ _ many x on in
+          out_new v lv ∙ (part_fresh p.0 v p.1 lv (rw p.2 held) ∙ p.2));
+      ended = λ v lv at_b. never v n lv (sym (out_new v lv) ∙ at_b);
+      together = λ x u v lu lv ne hu hv. out_new u lu ∙ (fresh_together x u v lu lv ne hu hv ∙ sym (out_new v lv));
+      weight = refl;
+      label = refl;
+      mate = refl;
+      link = refl;
+      up = ups;
+      after = refl;
+      joint = refl;
+      head = refl;
+      parts = λ x. ap (λ (f : ℕ → ℕ). f x) (ap (λ xs y. get_or xs y 0) opened.parts ∙ entry_set t.parts b 0 0 set_low);
+      rank = refl;
+    })
+
+-- What the forest sees, said of the tables as contracts see them.
+pub parted_as : {t u : ForestTables} {new : Forest} {b : ℕ} → t ≡ u
+    → IsParted (length t.hand) (forest_of t) new (listed (λ i. get_or t.after i 0) (get_or t.head b 0)
+    (get_or t.parts b 0)) b → IsParted (length u.hand) (forest_of u) new
+    (listed (λ i. get_or u.after i 0) (get_or u.head b 0) (get_or u.parts b 0)) b
+parted_as e is = rw e at is

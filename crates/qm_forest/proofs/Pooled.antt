@@ -1,9 +1,9 @@
 -- The pool after the number of one of its sets was taken, or given back.
 use Rattle.std.proofs.Common.{◌≡◌, ◌≢◌, ℕ, ◌+◌, ◌<◌, ◌≤◌, cond, eqb, List, length, get_or, count_by, is_some, ◌⊎◌}
-use Rattle.std.proofs.Common.{Option, Some, None, refl, sym, ◌∙◌, ap, inl, inr, arith, length-set}
+use Rattle.std.proofs.Common.{Option, Some, None, refl, ◌∙◌, ap, inl, inr, arith, length-set}
 use Rattle.std.proofs.Common.{get_or-set_same, get_or-set_other}
 use Rattle.std.proofs.Math.ListN.{set}
-use Rattle.std.proofs.lemmas.Bool.{cases_eq, cases_lt, cond-false, ne_eqb, le-ltb}
+use Rattle.std.proofs.lemmas.Bool.{cases_eq, cond-false, le-ltb}
 use Rattle.std.proofs.lemmas.List.Sums.{sum_by-set}
 use Rattle.std.proofs.lemmas.Option.{slice_get-get_or, slice_get_past, slice_get_within, get_or_from_slice_get}
 use Rattle.std.specs.Prelude.{slice_get, nat_lt}
@@ -19,8 +19,7 @@ IsFit entry many = ((entry ≡ None) × (many ≡ 0)) ⊎ ((node : Node) × (ent
 
 fit_count : {entry : Option Node} {many : ℕ} → IsFit entry many → ◌≡◌ {A = ℕ} (cond (is_some entry) 1 0)
     (cond (eqb many 0) 0 1)
-fit_count (inl w) = rw (w.0, w.1)
-fit_count {many = many} (inr w) = rw (w.1, ne_eqb many 0 w.2)
+fit_count fit = grind arith
 
 -- One entry has changed, and with it whether its number has parts.
 module _ {n size : ℕ} {parts : List ℕ} {pool : List (Option Node)} (pooled : IsPooled n size parts pool) {b : ℕ}
@@ -49,14 +48,7 @@ module _ {n size : ℕ} {parts : List ℕ} {pool : List (Option Node)} (pooled :
   here = cc (slice_get-get_or pool2 id None (rw pool_size id_low), get_or-set_same pool id new None id_low)
 
   there : (k : ℕ) → k ≢ id → slice_get pool2 k ≡ slice_get pool k
-  there k ne = elim (cases_lt k (length pool)) [
-    | inl l ↦ cc (
-      slice_get-get_or pool2 k None (rw pool_size l),
-      get_or-set_other pool id k new None ne,
-      slice_get-get_or pool k None l,
-    )
-    | inr h ↦ slice_get_past pool2 k (rw pool_size h) ∙ sym (slice_get_past pool k h)
-  ]
+  there k ne = grind (arith, slice_get-get_or, slice_get_past, get_or-set_other pool id k new None ne, pool_size)
 
   set_at : (k : ℕ) → k ≡ id → get_or parts2 (n + k) 0 ≡ many
   set_at k e = ap (λ x. get_or parts2 x 0) (let at : n + k ≡ b = omega arith in at) ∙ at_b
@@ -81,13 +73,7 @@ module _ {n size : ℕ} {parts : List ℕ} {pool : List (Option Node)} (pooled :
   pool_changed = record {
     room = ap (λ m. n + m) pool_size ∙ pooled.room;
     half = pool_size ∙ pooled.half;
-    free = λ k is. elim (cases_eq k id) [
-      | inl e ↦ elim new_fit [
-        | inl w ↦ set_at k e ∙ w.1
-        | inr w ↦ absurd (cc (sym here ∙ (ap (slice_get pool2) (sym e) ∙ is), w.1))
-      ]
-      | inr ne ↦ old_at k ne ∙ pooled.free k (sym (there k ne) ∙ is)
-    ];
+    free = λ k is. grind (arith, here, there k, set_at k, old_at k, pooled.free k, new_fit);
     live = λ k some. elim (cases_eq k id) [
       | inl e ↦ elim new_fit [
         | inl w ↦ absurd (some (set_at k e ∙ w.1))

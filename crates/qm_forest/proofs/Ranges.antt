@@ -9,8 +9,7 @@ use mir.Val.{to_z, of_z}
 use Rattle.def_math.specs.Sums.{total_below}
 use Rattle.def_forest.specs.{Forests.dual_sum_of, Steps.weight_change, Tables.ForestTables, Tables.forest_of}
 use Rattle.def_forest.specs.Tables.{label_at, weight_at, out_of, IsOutermostIn}
-use Rattle.def_forest.specs.{declared.kinds.Label.Label, declared.kinds.Label.TheVariants.Outer}
-use Rattle.def_forest.specs.declared.kinds.Label.TheVariants.{Inner, Outside}
+use Rattle.def_forest.specs.{declared.kinds.Label.Label}
 use Rattle.qm_forest.specs.Ties.{AreTied, HiddenTables, potential, added, told}
 
 -- A sum of small numbers.
@@ -20,9 +19,7 @@ sum_small f zero each = omega arith
 sum_small f (suc n) each = omega (arith, ints, each n (omega arith), sum_small f n (λ k l. each k (omega arith)))
 
 pub change_small : (l : Label) (d : ℤ) → unsigned_abs (weight_change l d) ≤ unsigned_abs d
-change_small Outer d = omega arith
-change_small Inner d = omega (arith, ints)
-change_small Outside d = omega arith
+change_small l d = grind (arith, ints)
 
 module _ {t : ForestTables} {hid : HiddenTables} (tied : AreTied t hid) where
   pub sum_is_small : unsigned_abs (dual_sum_of (forest_of t)) ≤ 2 ^ 88

@@ -1,16 +1,16 @@
 -- One vertex of a list, or one blossom of a row, more.
 use Rattle.std.proofs.Common.{◌≡◌, ◌≢◌, ℕ, suc, ◌+◌, ◌<◌, ◌≤◌, ◌^◌, Bool, true, false, cond, eqb, List, length}
-use Rattle.std.proofs.Common.{get_or, ℤ, pos, ◌+ℤ◌, ◌-ℤ◌, ◌⊎◌, refl, sym, ◌∙◌, ap, subst, inl, inr, arith}
+use Rattle.std.proofs.Common.{get_or, ℤ, pos, ◌+ℤ◌, ◌-ℤ◌, ◌⊎◌, sym, ◌∙◌, ap, subst, inl, inr, arith}
 use Rattle.std.proofs.Common.{get_or-set_same, get_or-set_other}
 use Rattle.std.proofs.Math.ListN.{set}
 use Rattle.std.proofs.lemmas.Int.{ints}
-use Rattle.std.proofs.lemmas.Bool.{cases_eq, cases_lt, cases_Bool, cond-true, cond-false, eq-eqb, ne_eqb, eqb-true}
+use Rattle.std.proofs.lemmas.Bool.{cases_eq, cases_lt, cond-false, eq-eqb, ne_eqb, eqb-true}
 use Rattle.std.proofs.Math.Bool.{or-false, or-true}
 use Rattle.std.proofs.lemmas.List.{get_or_past}
 use Rattle.std.specs.Prelude.{unsigned_abs}
 use Rattle.def_forest.specs.{Forests.walk, Tables.out_of}
 use Rattle.forest_laws.specs.Walks.{listed}
-use Rattle.forest_laws.proofs.{Bounds.eqb_order, Walks.listed_at, Walks.listed_off, Walks.listed_place}
+use Rattle.forest_laws.proofs.{Bounds.eqb_order, Walks.listed_off, Walks.listed_place}
 use Rattle.qm_forest.specs.Gathers.{lists_at, differ_by, in_row, HasListAt, HasListsOf, HasLeaders, HasRenamed, IsRow}
 use Rattle.qm_forest.specs.Gathers.{HasRenamedRow}
 use Rattle.qm_forest.specs.declared.tables.Handles.{Handles}
@@ -18,14 +18,11 @@ use Rattle.qm_forest.specs.declared.tables.Lists.{Lists}
 
 -- A table that is written at one more place of a walk, each place with its value: what is listed has it.
 one_more : {X : Type 0} (xs : List X) (d : X) (next : ℕ → ℕ) (from k : ℕ) (new old : ℕ → X)
-    → walk next from k < length xs → ((i j : ℕ) → i < j → j < suc k → walk next from i ≢ walk next from j)
-    → ((v : ℕ) → get_or xs v d ≡ cond (listed next from k v) (new v) (old v)) → {x : X} → x ≡ new (walk next from k)
-    → (v : ℕ) → get_or (set xs (walk next from k) x) v d ≡ cond (listed next from (suc k) v) (new v) (old v)
-one_more xs d next from k new old low distinct was {x} x_is v = elim (cases_eq v (walk next from k)) [
-  | inl e ↦ rw (e, listed_at next from (suc k) k (omega arith)) (get_or-set_same xs (walk next from k) x d low ∙ x_is)
-  | inr ne ↦ rw (ne_eqb (walk next from k) v (λ e. ne (sym e)), or-false (listed next from k v))
-      (get_or-set_other xs (walk next from k) v x d ne ∙ was v)
-]
+    → walk next from k < length xs → ((v : ℕ) → get_or xs v d ≡ cond (listed next from k v) (new v) (old v))
+    → {x : X} → x ≡ new (walk next from k) → (v : ℕ)
+    → get_or (set xs (walk next from k) x) v d ≡ cond (listed next from (suc k) v) (new v) (old v)
+one_more xs d next from k new old low was {x} x_is v =
+    grind (arith, was v, get_or-set_same xs (walk next from k) x d low, get_or-set_other xs (walk next from k) v x d)
 
 -- What is added is told otherwise.
 pub more_as : (F : ℕ → ℤ) (B : ℕ → Bool) (G : ℕ → ℤ) {m n : ℤ} → m ≡ n → ((v : ℕ) → F v ≡ cond (B v) (G v +ℤ m) (G v))
@@ -36,17 +33,7 @@ more_as F B G e was v = was v ∙ ap (λ (x : ℤ). cond (B v) (G v +ℤ x) (G v
 pub list_kept : {h0 h1 : Handles} {lists : Lists} {x : ℕ} → HasListAt h0 lists x
     → length h1.hand.items ≡ length h0.hand.items → length h1.q.items ≡ length h0.q.items
     → ((v : ℕ) → unsigned_abs (get_or h1.q.items v (pos 0)) ≤ 2 ^ 100) → HasListAt h1 lists x
-list_kept was hands qs small = record {
-  first = was.first;
-  rank = was.rank;
-  q = qs ∙ (was.q ∙ sym hands);
-  following = was.following ∙ sym hands;
-  few = omega arith;
-  many = omega arith;
-  low = λ j lj. rw hands (was.low j lj);
-  distinct = was.distinct;
-  small = small;
-}
+list_kept was hands qs small = grind arith
 
 -- The next vertex of a blossom's list, where tables are written at those before it.
 module _ {h : Handles} {lists : Lists} {x : ℕ} (has : HasListAt h lists x) {k v : ℕ} (l : k < get_or lists.rank.items x
@@ -75,7 +62,7 @@ module _ {h : Handles} {lists : Lists} {x : ℕ} (has : HasListAt h lists x) {k 
       → ((u : ℕ) → get_or xs u d ≡ cond (listed next from k u) (new u) (old u)) → {j : ℕ} → j ≡ suc k → {y : X}
       → y ≡ new v → (u : ℕ) → get_or (set xs v y) u d ≡ cond (listed next from j u) (new u) (old u)
   next_written xs d new old low was j_is y_is u = rw (j_is, v_is)
-      (one_more xs d next from k new old (rw v_is at low) distinct was (rw v_is at y_is) u)
+      (one_more xs d next from k new old (rw v_is at low) was (rw v_is at y_is) u)
 
 -- Some blossoms of a row are renamed: what the loop over the row has at the next one, and what holds after it.
 module _ {h0 h1 : Handles} {lists : Lists} {after : List ℕ} {front many k x big : ℕ}
@@ -112,33 +99,22 @@ module _ {h0 h1 : Handles} {lists : Lists} {after : List ℕ} {front many k x bi
       cc (done.hand v lv, cond-false _ _ _ (before_off v e), has.led v lv)
 
   pub row_leaders : ((j : ℕ) × (j < many) × (at j ≡ big)) → HasLeaders h1 lists x big
-  row_leaders on = rw x_is (record {
-    low_x = rw has.leader (row.low k l);
-    low_big = rw has.leader (rw on.2 at (row.low on.0 on.1));
-    handle_x = rw done.off (has.leaders k l);
-    handle_big = rw done.off (rw on.2 at (has.leaders on.0 on.1));
-    small_x = rw done.off (has.small_leaders k l);
-    small_big = rw done.off (rw on.2 at (has.small_leaders on.0 on.1));
-    same = own_handle;
-  })
+  row_leaders on =
+      rw x_is (grind (arith, has.leader, done.off, has.leaders, has.small_leaders, row.low, own_handle))
 
-  -- The numbers stay small all the while.
-  row_small : ((j : ℕ) × (j < many) × (at j ≡ big)) → (v : ℕ) → unsigned_abs (get_or h1.q.items v (pos 0)) ≤ 2 ^ 100
-  row_small on v = elim (cases_lt v (length h0.hand.items)) [
-    | inl lv ↦ by_test lv (in_row h0 after front k v) (done.q v lv)
+  pub row_lists : ((j : ℕ) × (j < many) × (at j ≡ big)) → HasListAt h1 lists x
+  row_lists on = rw x_is (list_kept (has.each k l) done.hands done.qs (λ v. elim (cases_lt v (length h0.hand.items)) [
+    | inl lv ↦ by_test v lv (in_row h0 after front k v) (done.q v lv)
     | inr h ↦ omega (arith, ints, get_or_past h1.q.items v (pos 0) (rw (done.qs ∙ (has.each k l).q) h))
-  ]
+  ]))
     where
       small_handle : unsigned_abs (get_or h0.off.items handle (pos 0)) ≤ 2 ^ 97
       small_handle = rw on.2 at (has.small_leaders on.0 on.1)
 
-      by_test : v < length h0.hand.items → (s : Bool) → get_or h1.q.items v (pos 0)
+      by_test : (v : ℕ) → v < length h0.hand.items → (s : Bool) → get_or h1.q.items v (pos 0)
           ≡ cond s (moved v) (get_or h0.q.items v (pos 0)) → unsigned_abs (get_or h1.q.items v (pos 0)) ≤ 2 ^ 100
-      by_test lv true e = omega (arith, ints, e, has.small_q v, has.small_off v lv, small_handle)
-      by_test lv false e = omega (arith, ints, e, has.small_q v)
-
-  pub row_lists : ((j : ℕ) × (j < many) × (at j ≡ big)) → HasListAt h1 lists x
-  row_lists on = rw x_is (list_kept (has.each k l) done.hands done.qs (row_small on))
+      by_test v lv true e = omega (arith, ints, e, has.small_q v, has.small_off v lv, small_handle)
+      by_test v lv false e = omega (arith, ints, e, has.small_q v)
 
   -- A blossom of the row more is renamed.
   module _ {h2 : Handles} (renamed : HasRenamed h1 h2 lists x handle (differ_by h1 lists x big)) where
@@ -146,31 +122,21 @@ module _ {h0 h1 : Handles} {lists : Lists} {after : List ℕ} {front many k x bi
     renamed_at = subst (HasRenamed h1 h2 lists (at k) handle) (ap (λ o. get_or o.items
         (get_or lists.leader.items (at k) 0) (pos 0) -ℤ get_or o.items handle (pos 0)) done.off) (rw x_is at renamed)
 
-    hand_more : (v : ℕ) → v < length h0.hand.items → get_or h2.hand.items v 0
-        ≡ cond (in_row h0 after front (suc k) v) handle (get_or h0.hand.items v 0)
-    hand_more v lv = renamed_at.hand v
-        ∙ rw (own v lv ∙ eqb_order (out v) (at k)) (elim (cases_eq (at k) (out v)) [
-          | inl e ↦ rw (eq-eqb (at k) (out v) e, or-true (in_row h0 after front k v))
-          | inr ne ↦ rw (ne_eqb (at k) (out v) ne, or-false (in_row h0 after front k v)) (done.hand v lv)
-        ])
-
-    q_more : (v : ℕ) → v < length h0.hand.items → get_or h2.q.items v (pos 0)
-        ≡ cond (in_row h0 after front (suc k) v) (moved v) (get_or h0.q.items v (pos 0))
-    q_more v lv = renamed_at.q v
-        ∙ rw (own v lv ∙ eqb_order (out v) (at k)) (elim (cases_eq (at k) (out v)) [
-          | inl e ↦ (let was : get_or h1.q.items v (pos 0) ≡ get_or h0.q.items v (pos 0) = done.q v lv
-              ∙ cond-false _ _ _ (before_off v (sym e)) in
-              let lead : get_or h0.off.items (get_or h0.hand.items v 0) (pos 0)
-              ≡ get_or h0.off.items (get_or lists.leader.items (at k) 0) (pos 0) = ap
-              (λ j. get_or h0.off.items j (pos 0)) (has.led v lv ∙ ap (λ b. get_or lists.leader.items b 0) (sym e)) in
-              rw (eq-eqb (at k) (out v) e, or-true (in_row h0 after front k v)) (omega (arith, ints, was, lead)))
-          | inr ne ↦ rw (ne_eqb (at k) (out v) ne, or-false (in_row h0 after front k v)) (done.q v lv)
-        ])
-
     pub row_more : {j : ℕ} → j ≡ suc k → HasRenamedRow h0 h2 lists after front j big
     row_more j_is = rw j_is (record {
-      hand = hand_more;
-      q = q_more;
+      hand = λ v lv. renamed_at.hand v ∙ rw (own v lv ∙ eqb_order (out v) (at k)) (elim (cases_eq (at k) (out v)) [
+        | inl e ↦ rw (eq-eqb (at k) (out v) e, or-true (in_row h0 after front k v))
+        | inr ne ↦ rw (ne_eqb (at k) (out v) ne, or-false (in_row h0 after front k v)) (done.hand v lv)
+      ]);
+      q = λ v lv. renamed_at.q v ∙ rw (own v lv ∙ eqb_order (out v) (at k)) (elim (cases_eq (at k) (out v)) [
+        | inl e ↦ (let was : get_or h1.q.items v (pos 0) ≡ get_or h0.q.items v (pos 0) =
+            done.q v lv ∙ cond-false _ _ _ (before_off v (sym e)) in
+            let lead : get_or h0.off.items (get_or h0.hand.items v 0) (pos 0)
+            ≡ get_or h0.off.items (get_or lists.leader.items (at k) 0) (pos 0) = ap (λ j. get_or h0.off.items j (pos 0))
+            (has.led v lv ∙ ap (λ b. get_or lists.leader.items b 0) (sym e)) in
+            rw (eq-eqb (at k) (out v) e, or-true (in_row h0 after front k v)) (omega (arith, ints, was, lead)))
+        | inr ne ↦ rw (ne_eqb (at k) (out v) ne, or-false (in_row h0 after front k v)) (done.q v lv)
+      ]);
       hands = renamed.hands ∙ done.hands;
       qs = renamed.qs ∙ done.qs;
       top = renamed.top ∙ done.top;
@@ -193,11 +159,7 @@ pub row_most : (after rank : List ℕ) (front k best : ℕ) {x : ℕ} (r : ℕ) 
     → ((j : ℕ) → j < k → get_or rank (walk (λ i. get_or after i 0) front j) 0 ≤ get_or rank best 0)
     → get_or rank best 0 ≤ get_or rank r 0 → get_or rank x 0 ≤ get_or rank r 0
     → (j : ℕ) → j < k + 1 → get_or rank (walk (λ i. get_or after i 0) front j) 0 ≤ get_or rank r 0
-row_most after rank front k best r x_is was lb lx j l = elim (cases_eq j k) [
-  | inl e ↦ rw (x_is ∙ ap (walk (λ i. get_or after i 0) front) (sym e)) at lx
-  | inr ne ↦ (let h : get_or rank (walk (λ i. get_or after i 0) front j) 0 ≤ get_or rank best 0 =
-      was j (omega arith) in omega arith)
-]
+row_most after rank front k best r x_is was lb lx j l = grind (arith, was j)
 
 -- A blossom that keeps its handle is as if renamed.
 pub kept_handle : (h : Handles) (lists : Lists) {x big : ℕ} → x ≡ big
@@ -206,20 +168,7 @@ pub kept_handle : (h : Handles) (lists : Lists) {x big : ℕ} → x ≡ big
 kept_handle h lists {x} {big} e same =
     let none : differ_by h lists x big ≡ pos 0 = (let s = ap (λ b. get_or h.off.items (get_or lists.leader.items b 0)
     (pos 0)) e in omega (arith, ints, s)) in
-    record {
-      hand = λ v. elim (cases_Bool (lists_at lists x v)) [
-        | inl on ↦ same v on ∙ sym (cond-true _ _ _ on)
-        | inr off ↦ sym (cond-false _ _ _ off)
-      ];
-      q = λ v. elim (cases_Bool (lists_at lists x v)) [
-        | inl on ↦ rw on (omega (arith, ints, none))
-        | inr off ↦ sym (cond-false _ _ _ off)
-      ];
-      hands = refl;
-      qs = refl;
-      top = refl;
-      off = refl;
-    }
+    grind (arith, ints, none, same)
 
 -- The handle and what it adds are told otherwise.
 pub renamed_as : {h0 h1 : Handles} {lists : Lists} {x a : ℕ} {b : ℕ} {m : ℤ} (n : ℤ) → HasRenamed h0 h1 lists x a m → a

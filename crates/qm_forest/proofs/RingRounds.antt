@@ -1,17 +1,16 @@
 -- A ring is matched in pairs, but for one part; and the round goes on to the set around it.
-use Rattle.std.proofs.Common.{◌≡◌, ◌≢◌, ℕ, zero, suc, ◌+◌, ◌-◌, ◌*◌, ◌/◌, ◌<◌, ◌≤◌, Bool, true, false, cond, List}
+use Rattle.std.proofs.Common.{◌≡◌, ◌≢◌, ℕ, zero, suc, ◌+◌, ◌-◌, ◌*◌, ◌/◌, ◌<◌, ◌≤◌, Bool, true, cond, List}
 use Rattle.std.proofs.Common.{length, get_or, Option, Some, None, ◌⊎◌, refl, sym, ◌∙◌, ap, inl, inr, arith}
 use Rattle.std.proofs.Math.ListN.{set}
-use Rattle.std.proofs.lemmas.Bool.{cases_Bool, cond-true, cond-false}
 use Rattle.def_matching.specs.Matching.{WeightedGraph}
 use Rattle.def_forest.specs.{Darts.darts_of, Forests.bool_number, Forests.walk, Forests.ring_sum, Tables.ForestTables}
 use Rattle.def_forest.specs.{Tables.forest_of, Tables.up_at, Valid.IsRing}
 use Rattle.forest_laws.specs.Walks.{listed}
-use Rattle.forest_laws.proofs.Circles.{IsCircle, circle_from}
+use Rattle.forest_laws.proofs.Walks.{IsCircle, circle_from}
 use Rattle.forest_laws.proofs.Walks.{listed_at, listed_closed, listed_place, walk_fixed, walk_front}
 use Rattle.qm_forest.specs.Rounds.{IsSoundFor, IsLaminar, IsPairing, IsRound, entered, far_at, near_at, waits_but}
 use Rattle.qm_forest.specs.Rounds.{within}
-use Rattle.qm_forest.proofs.{Apart.none_either, Enclosed.climbs_here, Nests.climbs_place}
+use Rattle.qm_forest.proofs.{Enclosed.climbs_here, Nests.climbs_place}
 use Rattle.qm_forest.proofs.Laminars.{ring_around, ring_pairing, rising}
 use Rattle.qm_forest.proofs.{Pairings.entered_size, Pairings.entry_cases, Pairings.paired_round, Withins.climb_law}
 use Rattle.qm_forest.proofs.Withins.{in_where, rank_walk, ring_front}
@@ -20,12 +19,7 @@ use Rattle.qm_forest.proofs.Withins.{in_where, rank_walk, ring_front}
 pub round_rest : {t : ForestTables} {marks : List Bool} {left : List (Option ℕ)} {rest : ℕ → ℕ} (rest2 : ℕ → ℕ)
     {due : ℕ → ℕ} → ((b : ℕ) → b < length t.up → rest b ≡ rest2 b) → IsRound t marks left rest due
     → IsRound t marks left rest2 due
-round_rest rest2 same round = record {
-  each = λ b l. omega (arith, round.each b l, same b l);
-  entry = round.entry;
-  once = round.once;
-  tight = round.tight;
-}
+round_rest rest2 same round = grind (arith, round.each, same)
 
 module _ {t : ForestTables} (known : IsLaminar t) {g : WeightedGraph} (valid : IsSoundFor g t) {p : ℕ}
     (inner : up_at t.up p ≢ p) where
@@ -74,28 +68,21 @@ module _ {t : ForestTables} (known : IsLaminar t) {g : WeightedGraph} (valid : I
   at_in : (k : ℕ) → inside (at k) ≡ true
   at_in k = rw (walk_front after p k) at (circle.marked (suc k))
 
-  pub at_around : (k : ℕ) → up_at t.up (at k) ≡ q
-  at_around k = (part (at k) (at_in k)).0
-
-  pub at_pairing : (k : ℕ) → IsPairing t (at k) (after (at k)) (get_or t.joint (at k) 0)
-  at_pairing k = ring_pairing known valid (inner_part (at k) (at_in k))
-
   abbrev sum_from : (x m b : ℕ) → ℕ
   sum_from x m b = ring_sum after (λ r. bool_number (within t b r)) x m
 
   -- Each part and the next are a pair.
   pub turn_pairing : (k : ℕ) {x y d : ℕ} → x ≡ at (2 * k) → y ≡ after x → d ≡ get_or t.joint x 0 → IsPairing t x y d
-  turn_pairing k {x} {y} x_is y_is d_is = rw (d_is, y_is, x_is) (at_pairing (2 * k))
+  turn_pairing k {x} {y} x_is y_is d_is = rw (d_is, y_is, x_is)
+      (ring_pairing known valid (inner_part (at (2 * k)) (at_in (2 * k))))
 
   -- Before the first pair.
   pub ring_begun : {marks : List Bool} {left : List (Option ℕ)} (rest : ℕ → ℕ) {due : ℕ → ℕ} {x : ℕ} (k : ℕ) → x
       ≡ after p → k ≡ 0 → IsRound t marks left (λ b. sum_from (after p) (many - 1) b + rest b) due
       → IsRound t marks left (λ b. sum_from x (many - 1 - 2 * k) b + rest b) due
   ring_begun rest {x} k x_is k_is round =
-      let same : (b : ℕ) → sum_from (after p) (many - 1) b ≡ sum_from x (many - 1 - 2 * k) b =
-      λ b. (let e : many - 1 ≡ many - 1 - 2 * k = omega arith in ap (λ m. sum_from (after p) m b) e
-      ∙ ap (λ z. sum_from z (many - 1 - 2 * k) b) (sym x_is)) in
-      round_rest (λ b. sum_from x (many - 1 - 2 * k) b + rest b) (λ b l. ap (λ m. m + rest b) (same b)) round
+      round_rest (λ b. sum_from x (many - 1 - 2 * k) b + rest b) (λ b l. rw x_is
+      (let e : many - 1 ≡ many - 1 - 2 * k = omega arith in ap (λ m. sum_from (after p) m b + rest b) e)) round
 
   -- The sets that wait after it are parts, or waited before.
   pub turn_entries : (left : List (Option ℕ)) {left2 : List (Option ℕ)} (k : ℕ) {x y : ℕ} (d c v : ℕ) → x ≡ at (2 * k)
@@ -107,7 +94,8 @@ module _ {t : ForestTables} (known : IsLaminar t) {g : WeightedGraph} (valid : I
       let now = ap (λ xs. get_or xs c None) (sym is) ∙ e in
       let below : (z j : ℕ) → z ≡ at j → c ≡ z → get_or t.rank c 0 < get_or t.rank (up_at t.up p) 0 =
       λ z j z_is c_is. (let rise = known.rises (at j) (inner_part (at j) (at_in j)) in
-      omega (arith, ap (λ w. get_or t.rank w 0) (at_around j), ap (λ w. get_or t.rank w 0) (c_is ∙ z_is))) in
+      let up = ap (λ w. get_or t.rank w 0) (part (at j) (at_in j)).0 in
+      omega (arith, ap (λ w. get_or t.rank w 0) (c_is ∙ z_is))) in
       elim (entry_cases (length t.hand) (entered (length t.hand) left x (near_at t d)) y (far_at t d) c
       (rw (entered_size (length t.hand) left x (near_at t d) ∙ size) low_y)) [
         | inl w ↦ inr (below y (suc (2 * k)) (y_is ∙ ap after x_is) w.1)
@@ -128,14 +116,9 @@ module _ {t : ForestTables} (known : IsLaminar t) {g : WeightedGraph} (valid : I
       left_is round =
       let peeled : (b : ℕ) → sum_from x (many - 1 - 2 * k) b + rest b
       ≡ (bool_number (within t b x) + bool_number (within t b y)) + (sum_from (after y) (many - 1 - 2 * j) b + rest b) =
-      λ b. let two : many - 1 - 2 * k ≡ suc (suc (many - 1 - 2 * j)) = omega (arith, ring.odd, low, j_is) in let first :
-      sum_from x (suc (suc (many - 1 - 2 * j))) b ≡ bool_number (within t b x) + sum_from (after x)
-      (suc (many - 1 - 2 * j)) b = ring_front after (λ r. bool_number (within t b r)) x (suc (many - 1 - 2 * j)) in let
-      second : sum_from (after x) (suc (many - 1 - 2 * j)) b ≡ bool_number (within t b (after x)) + sum_from
-      (after (after x)) (many - 1 - 2 * j) b = ring_front after (λ r. bool_number (within t b r)) (after x)
-      (many - 1 - 2 * j) in (let here = ap (λ z. bool_number (within t b z)) (sym y_is) in
-      let rest = ap (λ z. sum_from (after z) (many - 1 - 2 * j) b) (sym y_is) in
-      omega (arith, ap (λ m. sum_from x m b) two, first, second)) in
+      λ b. (let two : many - 1 - 2 * k ≡ suc (suc (many - 1 - 2 * j)) = omega (arith, ring.odd, low, j_is) in
+      let front = ring_front after (λ r. bool_number (within t b r)) in
+      rw (y_is, two) (omega (arith, front x (suc (many - 1 - 2 * j)), front (after x) (many - 1 - 2 * j)))) in
       rw (marks_is, left_is) (paired_round known valid marks left x y d (λ b. sum_from (after y) (many - 1 - 2 * j) b +
       rest b) due size_marks size_left (round_rest (λ b. (bool_number (within t b x) + bool_number (within t b y)) +
       (sum_from (after y) (many - 1 - 2 * j) b + rest b)) (λ b l. peeled b) round) (turn_pairing k x_is y_is d_is))
@@ -144,9 +127,8 @@ module _ {t : ForestTables} (known : IsLaminar t) {g : WeightedGraph} (valid : I
   pub ring_ended : {marks : List Bool} {left : List (Option ℕ)} (rest : ℕ → ℕ) {due : ℕ → ℕ} (k x : ℕ) → k ≡ many / 2
       → IsRound t marks left (λ b. sum_from x (many - 1 - 2 * k) b + rest b) due → IsRound t marks left rest due
   ring_ended rest k x k_is round =
-      let none : (b : ℕ) → sum_from x (many - 1 - 2 * k) b + rest b ≡ rest b = λ b.
-      (let z : many - 1 - 2 * k ≡ 0 = omega arith in omega (arith, ap (λ m. sum_from x m b) z)) in
-      round_rest rest (λ b l. none b) round
+      let z : many - 1 - 2 * k ≡ 0 = omega arith in
+      round_rest rest (λ b l. grind (arith, z)) round
 
   -- From a part to its set.
   pub ring_climb : {marks : List Bool} {left : List (Option ℕ)} (rest : ℕ → ℕ) {due : ℕ → ℕ} (v : ℕ) {c : ℕ} (j : ℕ)
@@ -175,25 +157,16 @@ module _ {t : ForestTables} (known : IsLaminar t) {v : ℕ} (c : ℕ) (lv : v < 
       → IsRound t marks left (λ b. waits_but t b c v + rest b) due
       → IsRound t marks left (λ b. cond (within t b v) 0 (waits_but t b c v) + rest b) due
   climb_begins rest round =
-      let same : (b : ℕ) → waits_but t b c v ≡ cond (within t b v) 0 (waits_but t b c v) =
-      λ b. elim (cases_Bool (within t b v)) [
-        | inl on ↦ (let own = ap (λ z. (forest_of t).holds z v) (known.own b v lv on)
-            ∙ climbs_here (up_at t.up) (length t.hand) v in ap (λ (s : Bool). cond (within t b c) (cond s 0 1) 0) own
-            ∙ (none_either (within t b c) ∙ sym (cond-true _ _ _ on)))
-        | inr off ↦ sym (cond-false _ _ _ off)
-      ] in
-      round_rest (λ b. cond (within t b v) 0 (waits_but t b c v) + rest b) (λ b l. ap (λ m. m + rest b) (same b)) round
+      round_rest (λ b. cond (within t b v) 0 (waits_but t b c v) + rest b) (λ b l. grind (
+        arith,
+        known.own b v lv,
+        climbs_here (up_at t.up) (length t.hand) v,
+      )) round
 
   pub climb_ends : {marks : List Bool} {left : List (Option ℕ)} (rest : ℕ → ℕ) {due : ℕ → ℕ} {p : ℕ} → p ≡ c
       → IsRound t marks left (λ b. cond (within t b p) 0 (waits_but t b c v) + rest b) due
       → IsRound t marks left rest due
-  climb_ends rest {p} p_is round = round_rest rest (λ b l. (let at_c = ap (λ z. cond (within t b z) 0
-      (waits_but t b c v)) p_is in
-      omega (arith, none b (within t b c)))) round
-    where
-      none : (b : ℕ) (s : Bool) → ◌≡◌ {A = ℕ} (cond s 0 (cond s (cond ((forest_of t).holds b v) 0 1) 0)) 0
-      none b true = refl
-      none b false = refl
+  climb_ends rest {p} p_is round = round_rest rest (λ b l. grind arith) round
 
   module _ {p : ℕ} (above : (j : ℕ) × (walk (up_at t.up) p j ≡ c)) (below : p ≢ c) where
     pub climbs_on : up_at t.up p ≢ p

@@ -1,7 +1,7 @@
 -- Tied tables with another room, and room that is blank.
 use Rattle.std.proofs.Common.{◌≡◌, ◌≢◌, ℕ, ◌+◌, ◌/◌, ◌<◌, ◌≤◌, length}
-use Rattle.std.proofs.Common.{get_or, None, inl, inr, sym, ◌∙◌, ap}
-use Rattle.std.proofs.{Common.arith, lemmas.Bool.cases_lt, lemmas.Grind.get_or_default_zero}
+use Rattle.std.proofs.Common.{get_or, None, sym, ◌∙◌, ap}
+use Rattle.std.proofs.{Common.arith, lemmas.Grind.get_or_default_zero}
 use Rattle.std.proofs.lemmas.List.{get_or_past, length-replicate}
 use Rattle.def_matching.specs.Matching.{WeightedGraph}
 use Rattle.def_forest.specs.Tables.{ForestTables, GraphSize, size_of, up_at}
@@ -19,20 +19,15 @@ pub record IsPlaced (t : ForestTables) : Type 0 where
   pub live : (x : ℕ) → up_at t.up x ≢ x → length t.hand ≤ x → get_or t.parts x 0 ≢ 0
 
 pub placed : {t : ForestTables} {hid : HiddenTables} → AreTied t hid → IsPlaced t
-placed {t} tied = record {
-  known = laminar tied;
-  whole = omega arith;
-  around = λ x ne. (
-    (tied.nest.around x ne).0,
-    rw (get_or_default_zero t.up x x (inner_low x ne)) (tied.nest.ups x (inner_low x ne)),
-    (tied.nest.around x ne).1,
-  );
-  inner = inner_low;
-  live = λ x ne high none. ne (tied.nest.idle x high none);
-}
-  where
-    inner_low : (x : ℕ) → up_at t.up x ≢ x → x < length t.up
-    inner_low x ne = elim (cases_lt x (length t.up)) [ inl l ↦ l | inr h ↦ absurd (ne (get_or_past t.up x x h)) ]
+placed {t} tied = grind (
+  arith,
+  laminar tied,
+  tied.nest.around,
+  tied.nest.ups,
+  tied.nest.idle,
+  get_or_past,
+  get_or_default_zero t.up,
+)
 
 -- The room of a forest is as large as what it comes to.
 module _ {t : ForestTables} (it : IsPlaced t) {g : WeightedGraph} (valid : IsSoundFor g t) {n : ℕ} {round : Round}
@@ -41,15 +36,13 @@ module _ {t : ForestTables} (it : IsPlaced t) {g : WeightedGraph} (valid : IsSou
   n_is : n ≡ length t.hand
   n_is = ap (λ (r : GraphSize). r.vertices) (view_is ∙ room) ∙ sym valid.vertices
 
-  half_is : n / 2 ≡ length t.hand / 2
-  half_is = ap (λ k. k / 2) n_is
-
   pub has_room : HasRoom t round
   has_room = record {
     laminar = it.known;
     sound = (g, valid);
     marks = omega (arith, ap (λ (r : GraphSize). r.edges) (view_is ∙ room));
-    left_out = ap length blank.left_out ∙ (length-replicate (n + n / 2) None ∙ omega (arith, n_is, half_is, it.whole));
+    left_out = ap length blank.left_out
+        ∙ (length-replicate (n + n / 2) None ∙ omega (arith, n_is, ap (λ k. k / 2) n_is, it.whole));
   }
 
   pub room_begun : IsRound t round.marks.items round.left_out.items (λ b. 0) (λ b. 0)

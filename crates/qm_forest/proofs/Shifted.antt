@@ -7,23 +7,17 @@ use Rattle.def_matching.specs.Matching.{WeightedGraph, IsGraph}
 use Rattle.def_forest.specs.{Darts.darts_of, Forests.Forest, Forests.dual_sum_of, Steps.weight_change, Steps.shifted}
 use Rattle.def_forest.specs.{Steps.rooted, Tables.ForestTables, Tables.forest_of, Tables.label_at, Tables.out_of}
 use Rattle.def_forest.specs.{Tables.IsValidFor, Valid.IsFeasible, Valid.IsValid, declared.kinds.Label.Label}
-use Rattle.def_forest.specs.declared.kinds.Label.TheVariants.{Outer, Inner}
-use Rattle.def_forest.specs.declared.kinds.Label.TheVariants.{Outside}
-use Rattle.forest_laws.proofs.{Graphs.are_darts, Loads.potential_shifted, Rises.sum_rises, Shifts.shift_valid}
+use Rattle.forest_laws.proofs.{Graphs.are_darts, Loads.potential_shifted, Shifts.sum_rises, Shifts.shift_valid}
 use Rattle.forest_laws.proofs.Grows.{rooted_valid}
 use Rattle.qm_forest.specs.Ties.{fixed_of, AreTied, HiddenTables, potential, added, told}
 use Rattle.qm_forest.proofs.{TiedWrites.sizes_kept, OnWays.valid_as}
 
 -- A shift after another.
 change_sum : (l : Label) (d s : ℤ) → weight_change l (d +ℤ s) ≡ weight_change l d +ℤ weight_change l s
-change_sum Outer d s = refl
-change_sum Inner d s = omega (arith, ints)
-change_sum Outside d s = refl
+change_sum l d s = grind (arith, ints)
 
 change_low : (l : Label) (s : ℤ) → pos 0 ≤ℤ s → pos (unsigned_abs (weight_change l s)) ≤ℤ s
-change_low Outer s h = omega (arith, ints)
-change_low Inner s h = omega (arith, ints)
-change_low Outside s h = omega (arith, ints)
+change_low l s h = grind (arith, ints)
 
 -- The forest sees the shift.
 pub seen_shift : (t : ForestTables) (s : ℤ) {d : ℤ} → d ≡ t.delta +ℤ s → forest_of (record t { delta = d })

@@ -10,26 +10,24 @@ use Rattle.def_forest.specs.{Tables.forest_of, Tables.label_at, Tables.IsOutermo
 use Rattle.def_forest.specs.{Valid.IsValid, Valid.IsTree, Ways.dart_or, declared.kinds.Label.Label}
 use Rattle.def_forest.specs.declared.kinds.Label.TheVariants.{Outer, Outside}
 use Rattle.forest_laws.specs.Climbing.{rise_of, way_of, IsClimbing, ring_at, ring_dart}
-use Rattle.forest_laws.specs.Walks.{listed}
-use Rattle.forest_laws.proofs.Forks.{at_left, at_right, at_named, dart_left, dart_over}
-use Rattle.forest_laws.proofs.Forks.{dart_right, closed_row, ring_cycle, walks}
-use Rattle.forest_laws.proofs.{Graphs.are_darts, Levels.way_differs, Odds.IsBlossom, Rooms.sets_few}
-use Rattle.forest_laws.proofs.{ShrunkTrees.shrunk_valid, Walks.listed_at, Walks.writes_all, Writes.label_cases}
+use Rattle.forest_laws.specs.Walks.{listed, writes}
+use Rattle.forest_laws.proofs.Forks.{Fork, at_left, at_right, at_named, dart_left, dart_over, dart_right, closed_row}
+use Rattle.forest_laws.proofs.Forks.{left_differs, right_differs, ring_cycle, walks, ways_differ}
+use Rattle.forest_laws.proofs.{Graphs.are_darts, Shrinks.Shrink, Shrinks.shrunk_valid}
+use Rattle.forest_laws.proofs.Odds.{IsBlossom, holder_used, sets_few}
+use Rattle.forest_laws.proofs.{Walks.listed_at, Walks.writes_all, Walks.writes_at, Walks.writes_off}
+use Rattle.forest_laws.proofs.Writes.{label_cases, option_cases}
 use Rattle.forest_laws.proofs.Writes.{outer_named, set_here, set_there, true_false}
 use Rattle.qm_forest.specs.Gathers.{IsFreeRing, IsGathered, live_sets}
 use Rattle.qm_forest.specs.Rings.{IsRingedAlike, laid_ring}
 use Rattle.qm_forest.specs.Ties.{fixed_of, HasSameNest, labelled, mated, left_alone}
 use Rattle.qm_forest.proofs.OnWays.{valid_as}
 use Rattle.qm_forest.proofs.Increases.{the_tree, named_low}
-use Rattle.qm_forest.proofs.{Pairings.option_cases, WritesAlong.IsForked, WritesAlong.lain_at, WritesAlong.lain_off}
 
 -- Two functions that differ at most where both are written are one once they are.
 set_same : {X : Type 0} (f h : ℕ → X) (b : ℕ) (x : X) → ((y : ℕ) → y ≢ b → f y ≡ h y) → (y : ℕ) → set_at f b x y
     ≡ set_at h b x y
-set_same f h b x same y = elim (cases_eq y b) [
-  | inl e ↦ rw (e, set_here f b x, set_here h b x)
-  | inr ne ↦ set_there f b y x ne ∙ (same y ne ∙ sym (set_there h b y x ne))
-]
+set_same f h b x same y = grind (arith, same y)
 
 -- A dart that closes a cycle in the tree of valid tables: it is tight, it leads from one outer blossom to another, and
 -- the ways from these two to the root meet.
@@ -62,17 +60,14 @@ module _ {g : WeightedGraph} {t0 : ForestTables} {start top left right : ℕ}
   are : AreDarts d
   are = are_darts is.lawful
 
-  named_a : f.label a ≢ Outside
-  named_a = outer_named outer_a
-
-  named_c : f.label c ≢ Outside
-  named_c = outer_named outer_c
-
   pub tree_is : (r : ℕ) × (t0.root ≡ Some r) × IsTree d f r
-  tree_is = the_tree is valid a named_a
+  tree_is = the_tree is valid a (outer_named outer_a)
 
   whole : IsValid d f (Some tree_is.0)
   whole = rw tree_is.1 at valid.valid
+
+  fork : Fork d f tree_is.0 start top left right
+  fork = assumption (are, whole, tree_is.2)
 
   abbrev many : ℕ
   many = left + right + 1
@@ -93,34 +88,53 @@ module _ {g : WeightedGraph} {t0 : ForestTables} {start top left right : ℕ}
   abbrev ups : ℕ → ℕ
   ups i = dart_or (rise_of f (way_c i))
 
-  left_is : (k : ℕ) → k ≤ left → at k ≡ way_a (left - k)
-  left_is = at_left are whole tree_is.2 a c named_a named_c top left right met outer_a outer_c
+  -- A table that is written along the ring, down the first way and up the second.
+  module _ {X : Type 0} (old : ℕ → X) (down : ℕ → X) (over : X) (up : ℕ → X) where
+    abbrev low_part : ℕ → X
+    low_part = writes old (λ i. way_a (suc i)) down left
 
-  right_is : (k m : ℕ) → k ≡ left + 1 + m → at k ≡ way_c m
-  right_is = at_right are whole tree_is.2 a c named_a named_c top left right met outer_a outer_c
+    abbrev lain : ℕ → X
+    lain = writes (set_at low_part (way_a 0) over) way_c up right
 
-  -- The two ways differ but for where they meet.
-  ways_differ : (i m : ℕ) → i ≤ left → m < right → way_c m ≢ way_a i
-  ways_differ i m li lm e = (let h : right ≤ m = met.right i m (omega arith) (omega arith) (sym e) in
-      omega arith)
+    lain_left : (k : ℕ) → k < left → lain (at k) ≡ down (left - k - 1)
+    lain_left k l =
+        let m = left - k - 1 in
+        let i : suc m ≡ left - k = omega arith in
+        ap lain (at_left fork k (omega (arith, l)) ∙ ap way_a (sym i)) ∙ (writes_off _ _ _ right (way_a (suc m))
+        (λ j lj. ways_differ fork (suc m) j (omega (arith, l)) lj) ∙ (set_there low_part (way_a 0) (way_a (suc m)) over
+        (λ e. left_differs fork 0 (suc m) (omega arith) (omega (arith, l)) (sym e)) ∙ writes_at old _ down left m
+        (omega (arith, l)) (λ i j lij lj. left_differs fork (suc i) (suc j) (omega (arith, lij)) (omega (arith, lj)))))
 
-  left_differs : (i j : ℕ) → i < j → j ≤ left → way_a i ≢ way_a j
-  left_differs i j lij lj e = (let s : i ≡ j = way_differs are whole tree_is.2 a i j named_a
-      (omega arith) (omega arith) e in omega arith)
+    lain_over : lain (at left) ≡ over
+    lain_over =
+        let z : left - left ≡ 0 = omega arith in
+        ap lain (at_left fork left (omega arith) ∙ ap way_a z) ∙ (writes_off _ _ _ right (way_a 0)
+        (λ m lm. ways_differ fork 0 m (omega arith) lm) ∙ set_here low_part (way_a 0) over)
 
-  right_differs : (i j : ℕ) → i < j → j < right → way_c i ≢ way_c j
-  right_differs i j lij lj e = (let s : i ≡ j = way_differs are whole tree_is.2 c i j named_c
-      (omega arith) (omega arith) e in omega arith)
+    lain_right : {k : ℕ} (m : ℕ) → k ≡ left + 1 + m → m < right → lain (at k) ≡ up m
+    lain_right {k} m e l = ap lain (at_right fork k m e) ∙ writes_at _ _ up right m l (right_differs fork)
 
-  -- The ring is one of two ways, along which its tables are written.
-  ways : IsForked way_a way_c at left right
-  ways = record {
-    left_is = left_is;
-    right_is = right_is;
-    apart = ways_differ;
-    left_differs = left_differs;
-    right_differs = right_differs;
-  }
+    -- What is written at the places of the ring.
+    lain_at : (ring : ℕ → X) → ((k : ℕ) → k < left → down (left - k - 1) ≡ ring k) → over ≡ ring left
+        → ((m : ℕ) → m < right → up m ≡ ring (left + 1 + m)) → (k : ℕ) → k < left + right + 1 → lain (at k) ≡ ring k
+    lain_at ring lefts overs rights k l = elim (cases_lt k left) [
+      | inl lk ↦ lain_left k lk ∙ lefts k lk
+      | inr h ↦ elim (cases_eq k left) [
+        | inl e ↦ rw e (lain_over ∙ overs)
+        | inr ne ↦ (let m : k ≡ left + 1 + (k - left - 1) = omega arith in
+            let low : k - left - 1 < right = omega arith in
+            lain_right _ m low ∙ (rights (k - left - 1) low ∙ ap ring (sym m)))
+      ]
+    ]
+
+    lain_off : (x : ℕ) → ((k : ℕ) → k < left + right + 1 → at k ≢ x) → lain x ≡ old x
+    lain_off x off =
+        let z : left - left ≡ 0 = omega arith in
+        writes_off _ _ _ right x (λ m lm e. off (left + 1 + m) (omega arith) (at_right fork _ m refl ∙ e))
+        ∙ (set_there low_part _ x over (λ e. off left (omega arith) (at_left fork left (omega arith)
+        ∙ (ap way_a z ∙ sym e))) ∙ writes_off old _ down left x (λ i li e. off (left - suc i) (omega arith)
+        (let s : left - (left - suc i) ≡ suc i = omega arith in
+        at_left fork _ (omega arith) ∙ (ap way_a s ∙ e))))
 
   abbrev pub after : ℕ → ℕ
   after = (laid_ring d f start left right).nest.after
@@ -129,43 +143,32 @@ module _ {g : WeightedGraph} {t0 : ForestTables} {start top left right : ℕ}
   joint = (laid_ring d f start left right).nest.joint
 
   after_at : (k : ℕ) → k < many → after (at k) ≡ at (suc k)
-  after_at = lain_at ways f.nest.after way_a c (λ i. way_c (suc i)) (λ k. at (suc k)) (λ k l.
-      (let s : left - k - 1 ≡ left - suc k = omega arith in ap way_a s ∙ sym (left_is (suc k) (omega arith))))
-      (sym (right_is _ 0 (omega arith))) (λ m l. sym (right_is _ (suc m) (omega arith)))
+  after_at = lain_at f.nest.after way_a c (λ i. way_c (suc i)) (λ k. at (suc k)) (λ k l.
+      (let s : left - k - 1 ≡ left - suc k = omega arith in ap way_a s ∙ sym (at_left fork (suc k) (omega arith))))
+      (sym (at_right fork _ 0 (omega arith))) (λ m l. sym (at_right fork _ (suc m) (omega arith)))
 
   joint_at : (k : ℕ) → k < many → joint (at k) ≡ ring_dart d f a c left start k
-  joint_at = lain_at ways f.nest.joint downs start ups _ (λ k l. sym (dart_left are whole tree_is.2 a c named_a named_c
-      top left right met outer_a outer_c tight refl refl k l)) (sym (dart_over are whole tree_is.2 a c named_a named_c
-      top left right met outer_a outer_c tight refl refl {k = left} refl)) (λ m l. sym (dart_right are whole tree_is.2 a
-      c named_a named_c top left right met outer_a outer_c tight refl refl {k = left + 1 + m} m refl))
+  joint_at = lain_at f.nest.joint downs start ups _ (λ k l. sym (dart_left fork k l))
+      (sym (dart_over fork {k = left} refl)) (λ m l. sym (dart_right fork {k = left + 1 + m} m refl))
 
   abbrev pub inside : ℕ → Bool
   inside = listed after top many
 
   pub ring_is : IsClosedRow d f after joint inside top many
-  ring_is = closed_row are whole tree_is.2 a c named_a named_c top left right met outer_a outer_c
-      tight refl refl after joint after_at joint_at apart
+  ring_is = closed_row fork after joint after_at joint_at
 
   pub cycle_is : IsCycle d f tree_is.0 tree_is.2.depth inside top
-  cycle_is = ring_cycle are whole tree_is.2 a c named_a named_c top left right met outer_a outer_c
-      tight refl refl after joint after_at joint_at apart
+  unfolding fork
+  cycle_is = ring_cycle fork after joint after_at joint_at
 
   walk_at : (k : ℕ) → k ≤ many → walk after top k ≡ at k
-  walk_at = walks are whole tree_is.2 a c named_a named_c top left right met outer_a outer_c tight
-      refl refl after joint after_at joint_at apart
+  walk_at = walks fork after joint after_at joint_at
 
   walk_named : (k : ℕ) → k < many → f.label (walk after top k) ≢ Outside
-  walk_named k l = rw (walk_at k (omega arith))
-      (at_named are whole tree_is.2 a c named_a named_c top left right met outer_a outer_c k l)
+  walk_named k l = rw (walk_at k (omega arith)) (at_named fork k l)
 
   missed : (x : ℕ) → inside x ≡ false → (k : ℕ) → k < many → at k ≢ x
   missed x off k l e = true_false (ap inside (sym (walk_at k (omega arith) ∙ e)) ∙ listed_at after top many k l) off
-
-  after_off : (x : ℕ) → inside x ≡ false → after x ≡ f.nest.after x
-  after_off x off = lain_off ways _ way_a c (λ i. way_c (suc i)) x (missed x off)
-
-  joint_off : (x : ℕ) → inside x ≡ false → joint x ≡ f.nest.joint x
-  joint_off x off = lain_off ways _ downs start ups x (missed x off)
 
   spot_out : (k : ℕ) → k < many → IsOutermost g.n f (walk after top k)
   spot_out k l = valid.valid.outermost.named _ (walk_named k l)
@@ -173,34 +176,20 @@ module _ {g : WeightedGraph} {t0 : ForestTables} {start top left right : ℕ}
   spot_low : (k : ℕ) → k < many → walk after top k < length t0.up
   spot_low k l = named_low is valid _ (walk_named k l)
 
-  spot_top : (k : ℕ) → k < many → f.nest.up (walk after top k) ≡ walk after top k
-  spot_top k l = (let w = spot_out k l in
-      (rw w.2 at (valid.valid.outermost.tops w.0 w.1)))
-
   spot_used : (k : ℕ) → k < many → IsBlossom d f (walk after top k)
-  spot_used k l = elim (cases_lt (walk after top k) g.n) [
-    | inl low ↦ inl low
-    | inr high ↦ (let w = spot_out k l in inr (
-      high,
-      (λ none. true_false (rw w.2 at (valid.valid.outermost.held w.0 w.0 w.1 w.1 ∙ eq-eqb (f.out w.0) (f.out w.0) refl))
-          (valid.valid.nested.empty _ w.0 high w.1 none)),
-    ))
-  ]
+  spot_used k l = (let w = spot_out k l in holder_used are valid.valid.nested w.1
+      (rw w.2 at (valid.valid.outermost.held w.0 w.0 w.1 w.1 ∙ eq-eqb (f.out w.0) (f.out w.0) refl)))
 
   three_many : 3 ≤ many
   three_many = omega (arith, ring_is.odd, ring_is.some)
 
   -- Three blossoms are on the ring, so that there is room for a set more.
   pub room_is : 2 * live_sets t0 + 3 ≤ length t0.hand
-  room_is =
-      let zero : 0 < many = omega arith in
-      let one : 1 < many = omega (arith, three_many) in
-      let two : 2 < many = omega (arith, three_many) in
-      rw valid.vertices (sets_few d are f valid.valid.nested valid.valid.outermost.vertices
-      _ _ _ (spot_low 0 zero) (spot_low 1 one) (spot_low 2 two)
-      (ring_is.distinct 0 1 (omega arith) one) (ring_is.distinct 0 2 (omega arith) two)
-      (ring_is.distinct 1 2 (omega arith) two) (spot_top 0 zero) (spot_top 1 one) (spot_top 2 two) (spot_used 0 zero)
-      (spot_used 1 one) (spot_used 2 two))
+  room_is = rw valid.vertices (sets_few d are f valid.valid.nested valid.valid.outermost.vertices (walk after top)
+      (λ k l. spot_low k (omega (arith, three_many)))
+      (λ i j lij lj. ring_is.distinct i j lij (omega (arith, three_many)))
+      (λ k l. (let w = spot_out k (omega (arith, three_many)) in
+      rw w.2 at (valid.valid.outermost.tops w.0 w.1))) (λ k l. spot_used k (omega (arith, three_many))))
 
   -- The ring that is laid is one of outermost blossoms.
   pub tops_laid : (t1 : ForestTables) → forest_of t1 ≡ laid_ring d f start left right
@@ -267,25 +256,19 @@ module _ {g : WeightedGraph} {t0 : ForestTables} {start top left right : ℕ}
           (listed h top many) top many b) after_is (rw (was, n_is) at gathered)
 
       shrunk : IsShrunk g.n f (forest_of t5) inside top b top many
-      shrunk = rw now (record {
-        size = made.size;
-        holds_new = made.holds_new;
-        holds_old = made.holds_old;
-        out = made.out;
-        weight = λ x. ap (λ (h : ℕ → ℤ). h x) made.weight;
-        label = set_same (forest_of t3).label (λ y. cond (inside y) Outside (f.label y)) b Outer
-            (λ y ne. ap (λ (h : ℕ → Label). h y) made.label ∙ writes_all f.label after top many Outside y);
-        mate = set_same (forest_of t3).mate (λ y. cond (inside y) None (f.mate y)) b (f.mate top)
-            (λ y ne. ap (λ (h : ℕ → Option ℕ). h y) made.mate ∙ writes_all f.mate after top many None y);
-        link = λ x. ap (λ (h : ℕ → ℕ). h x) made.link;
-        up = made.up;
-        after = λ x off. ap (λ (h : ℕ → ℕ). h x) made.after ∙ after_off x off;
-        joint = λ x off. ap (λ (h : ℕ → ℕ). h x) made.joint ∙ joint_off x off;
-        head = made.head;
-        parts = made.parts;
-        rank = made.rank;
-        ranked = made.ranked;
-      })
+      shrunk = rw now (assumption (
+        (λ (x : ℕ). ap (λ (h : ℕ → ℤ). h x) made.weight),
+        set_same (forest_of t3).label (λ y. cond (inside y) Outside (f.label y)) b Outer
+            (λ y ne. ap (λ (h : ℕ → Label). h y) made.label ∙ writes_all f.label after top many Outside y),
+        set_same (forest_of t3).mate (λ y. cond (inside y) None (f.mate y)) b (f.mate top)
+            (λ y ne. ap (λ (h : ℕ → Option ℕ). h y) made.mate ∙ writes_all f.mate after top many None y),
+        (λ (x : ℕ). ap (λ (h : ℕ → ℕ). h x) made.link),
+        (λ (x : ℕ) (off : inside x ≡ false). ap (λ (h : ℕ → ℕ). h x) made.after
+            ∙ lain_off f.nest.after way_a c (λ i. way_c (suc i)) x (missed x off)),
+        (λ (x : ℕ) (off : inside x ≡ false). ap (λ (h : ℕ → ℕ). h x) made.joint
+            ∙ lain_off f.nest.joint downs start ups x (missed x off)),
+        made,
+      ))
 
       row_is : IsClosedRow d f (forest_of t5).nest.after (forest_of t5).nest.joint inside top many
       row_is = rw (
@@ -294,24 +277,17 @@ module _ {g : WeightedGraph} {t0 : ForestTables} {start top left right : ℕ}
       ) ring_is
 
       unused : IsUnused g.n f b
-      unused = record {
-        high = made.high;
-        low = made.low;
-        no_parts = made.no_parts;
-        weightless = valid.valid.nested.weightless b made.high made.no_parts;
-        outside = elim (label_cases (f.label b)) [
-          | inl e ↦ e
-          | inr named ↦ (let w = valid.valid.outermost.named b named in absurd (made.no_out w.0 w.1 w.2))
-        ];
-        unmatched = elim (option_cases (f.mate b)) [
-          | inl e ↦ e
-          | inr m ↦ (let pair = valid.valid.matched b m.0 m.1 in
-              absurd (made.no_out (d.near m.0) (are.near_low m.0 pair.tight.low) pair.here))
-        ];
-        alone = made.alone;
-        around_none = made.around_none;
-        no_out = made.no_out;
-      }
+      unused =
+          let outside : f.label b ≡ Outside = elim (label_cases (f.label b)) [
+            | inl e ↦ e
+            | inr named ↦ (let w = valid.valid.outermost.named b named in absurd (made.no_out w.0 w.1 w.2))
+          ] in
+          let unmatched : f.mate b ≡ None = elim (option_cases (f.mate b)) [
+            | inl e ↦ e
+            | inr m ↦ (let pair = valid.valid.matched b m.0 m.1 in
+                absurd (made.no_out (d.near m.0) (are.near_low m.0 pair.tight.low) pair.here))
+          ] in
+          assumption (made, valid.valid.nested.weightless b made.high made.no_parts)
 
       new_root : t5.root ≡ Some (cond (inside tree_is.0) b tree_is.0)
       new_root = root tree_is.0 (ap (λ (t : ForestTables). t.root) alike ∙ tree_is.1)
@@ -328,10 +304,10 @@ module _ {g : WeightedGraph} {t0 : ForestTables} {start top left right : ℕ}
         set = b;
         many = many;
         begins = marked left a (omega arith)
-            (left_is left (omega arith) ∙ ap way_a (let z : left - left ≡ 0 = omega arith in z));
+            (at_left fork left (omega arith) ∙ ap way_a (let z : left - left ≡ 0 = omega arith in z));
         ends = elim (cases_eq right 0) [
           | inl z ↦ ap inside (ap way_c (sym z) ∙ sym met.y_is) ∙ listed_at after top many 0 (omega arith)
-          | inr nz ↦ marked (left + 1) c (omega (arith, nz)) (right_is (left + 1) 0 (omega arith))
+          | inr nz ↦ marked (left + 1) c (omega (arith, nz)) (at_right fork (left + 1) 0 (omega arith))
         ];
         cycle = cycle_is;
         unused = unused;
@@ -346,8 +322,10 @@ module _ {g : WeightedGraph} {t0 : ForestTables} {start top left right : ℕ}
       -- And the forest is valid.
       pub shrunk_tables : fixed_of t5 ≡ fixed_of t1 → IsShrinking d f (forest_of t5) t0.root t5.root start
           × IsValidFor g t5
-      shrunk_tables fixed = (
-        shrinking,
-        valid_as t5 valid (fixed ∙ ap fixed_of alike) (hand ∙ ap (λ (t : ForestTables). length t.hand) alike)
-            (rw new_root (shrunk_valid are whole tree_is.2 cycle_is unused row_is shrunk)),
-      )
+      shrunk_tables fixed =
+          let is_shrink : Shrink d f tree_is.0 (forest_of t5) inside top b top many =
+          search (are, whole, cycle_is, unused, row_is, shrunk) in (
+            shrinking,
+            valid_as t5 valid (fixed ∙ ap fixed_of alike) (hand ∙ ap (λ (t : ForestTables). length t.hand) alike)
+                (rw new_root (shrunk_valid is_shrink)),
+          )

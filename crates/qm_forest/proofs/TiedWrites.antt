@@ -1,24 +1,21 @@
--- One write to a table, and what it leaves of the tie.
-use Rattle.std.proofs.Common.{Bool, ◌≡◌, ◌≢◌, ℕ, ◌<◌, ◌≤◌, List}
-use Rattle.std.proofs.Common.{length, get_or, ℤ, pos, ◌+ℤ◌, ◌-ℤ◌}
-use Rattle.std.proofs.Common.{◌⊎◌, Option, None, refl, sym, ◌∙◌, ap}
-use Rattle.std.proofs.Common.{inl, inr, length-set, get_or-set_same, get_or-set_other}
-use Rattle.std.proofs.{Common.arith, Math.ListN.set, lemmas.Int.ints, lemmas.Bool.cases_eq}
+-- One write to a table, or a vertex more on the trail, and what it leaves of the tie.
+use Rattle.std.proofs.Common.{◌≡◌, ◌≢◌, ℕ, ◌+◌, ◌<◌, ◌≤◌, Bool, true, false, cond, List, [], ◌∷◌, ◌++◌, length}
+use Rattle.std.proofs.Common.{count_by, get_or, ℤ, pos, ◌+ℤ◌, ◌-ℤ◌, Option, None, refl, sym, ◌∙◌, ap, inl, inr, arith}
+use Rattle.std.proofs.Common.{length-set, get_or-set_same, get_or-set_other}
+use Rattle.std.proofs.{Math.ListN.set, Math.Path.fun_ext, lemmas.Int.ints, lemmas.Bool.cases_eq}
+use Rattle.std.proofs.lemmas.List.{get_or_append_left, get_or_push, length_push}
+use Rattle.std.proofs.lemmas.List.Sums.{count_by-le-length, sum_by-set}
 use Rattle.def_forest.specs.{Forests.set_at, Steps.weight_change, Tables.ForestTables}
 use Rattle.def_forest.specs.Tables.{forest_of, label_at, weight_at, out_of}
 use Rattle.def_forest.specs.{declared.kinds.Label.Label, declared.kinds.Label.TheVariants.Outside}
 use Rattle.qm_forest.specs.Ties.{AreTied, HasSizes, HiddenTables, IsOnTrail, added, labelled, mated, linked}
 use Rattle.qm_forest.proofs.{KeptTies.numbers_as, Ranges.one_hand}
-use Rattle.forest_laws.proofs.Writes.{set_here, set_there}
 
 -- A table with one entry written, as a function.
 pub entry_set : {X : Type 0} (xs : List X) (k : ℕ) (x d : X) → k < length xs → (λ j. get_or (set xs k x) j d)
     ≡ set_at (λ j. get_or xs j d) k x
-entry_set xs k x d low i j = at j (cases_eq j k) i
-  where
-    at : (j : ℕ) → (j ≡ k) ⊎ (j ≢ k) → get_or (set xs k x) j d ≡ set_at (λ n. get_or xs n d) k x j
-    at j (inl e) = cc (get_or-set_same xs k x d low, set_here (λ n. get_or xs n d) k x)
-    at j (inr ne) = get_or-set_other xs k j x d ne ∙ sym (set_there (λ n. get_or xs n d) k j x ne)
+entry_set xs k x d low = fun_ext
+    (λ j. grind (arith, get_or-set_same xs k x d low, get_or-set_other xs k j x d))
 
 -- The tables are as long as they were, where those that differ are.
 pub sizes_kept : {t : ForestTables} {hid : HiddenTables} → HasSizes t hid → {base off : List ℤ} {label : List Label}
@@ -26,28 +23,7 @@ pub sizes_kept : {t : ForestTables} {hid : HiddenTables} → HasSizes t hid → 
     → length label ≡ length t.label → length off ≡ length hid.off → length marks ≡ length hid.touched → hid.room ≤ room
     → HasSizes (record t { base = base; delta = d; label = label; root = r; trail = trail })
     (record hid { off = off; touched = marks; room = room })
-sizes_kept s bases labels offs size more = record {
-  few = s.few;
-  vertices = s.vertices;
-  top = s.top;
-  q = s.q;
-  off = offs ∙ s.off;
-  following = s.following;
-  touched = size ∙ s.touched;
-  base = bases ∙ s.base;
-  label = labels ∙ s.label;
-  mate = s.mate;
-  link = s.link;
-  rank = s.rank;
-  after = s.after;
-  joint = s.joint;
-  head = s.head;
-  parts = s.parts;
-  leader = s.leader;
-  first = s.first;
-  last = s.last;
-  room = omega arith;
-}
+sizes_kept s bases labels offs size more = omega arith
 
 -- The forest sees a mate that is written, and a link.
 pub seen_mate : {t : ForestTables} {hid : HiddenTables} → AreTied t hid → (b : ℕ) (m : Option ℕ) → b < length t.up
@@ -75,13 +51,10 @@ module _ {t : ForestTables} {hid : HiddenTables} (tied : AreTied t hid) {v b h :
   label_there k ne = get_or-set_other t.label b k l Outside ne
 
   weight_same : weight_at (set t.base b x) (set t.label b l) t.delta ≡ (forest_of t).weight
-  weight_same i k = at k i
-    where
-      at : (k : ℕ) → weight_at (set t.base b x) (set t.label b l) t.delta k ≡ (forest_of t).weight k
-      at k = elim (cases_eq k b) [
-        | inl e ↦ rw (e, get_or-set_same t.base b x (pos 0) (rw tied.sizes.base b_low), label_here) base_is
-        | inr ne ↦ rw (get_or-set_other t.base b k x (pos 0) ne, label_there k ne)
-      ]
+  weight_same = fun_ext (λ k. elim (cases_eq k b) [
+    | inl e ↦ rw (e, get_or-set_same t.base b x (pos 0) (rw tied.sizes.base b_low), label_here) base_is
+    | inr ne ↦ rw (get_or-set_other t.base b k x (pos 0) ne, label_there k ne)
+  ])
 
   pub seen_label : forest_of (record t { base = set t.base b x; label = set t.label b l })
       ≡ labelled (forest_of t) (out_of t.hand t.top v) l
@@ -126,6 +99,50 @@ module _ {t : ForestTables} {hid : HiddenTables} (tied : AreTied t hid) {v b h :
     };
     pool = tied.pool;
   }
+
+-- One mark more.
+marks_more : (marks : List Bool) (v : ℕ) → v < length marks → get_or marks v false ≡ false
+    → count_by (λ mark. mark) (set marks v true) ≡ count_by (λ mark. mark) marks + 1
+marks_more marks v low off =
+    let was : ◌≡◌ {A = ℕ} (cond (get_or marks v false) 1 0) 0 = ap (λ (b : Bool). cond b 1 0) off in
+    omega (arith, sum_by-set (λ (b : Bool). cond b 1 0) marks v true false low)
+
+module _ {t : ForestTables} {hid : HiddenTables} (tied : AreTied t hid) (v : ℕ) (low : v < length t.hand)
+    (off : get_or hid.touched v false ≡ false) where
+  v_low : v < length hid.touched
+  v_low = rw tied.sizes.touched low
+
+  -- There is room for it.
+  pub trail_room : length t.trail < hid.room
+  trail_room =
+      let most = count_by-le-length (λ (b : Bool). b) (set hid.touched v true) in
+      omega (arith, marks_more hid.touched v v_low off, length-set hid.touched v true)
+
+  pub tied_touched : (trail : List ℕ) → trail ≡ t.trail ++ v ∷ [] → (room : ℕ) → hid.room ≤ room
+      → AreTied (record t { trail = trail }) (record hid { touched = set hid.touched v true; room = room })
+  tied_touched trail trail_is room more = rw trail_is (record {
+    sizes = sizes_kept tied.sizes refl refl refl (length-set hid.touched v true) more;
+    nest = tied.nest;
+    numbers = tied.numbers;
+    trail = record {
+      low = λ k l. grind (arith, get_or_append_left, get_or_push, length_push, tied.trail.low k);
+      counted = omega (arith, length_push t.trail v, marks_more hid.touched v v_low off);
+      marked = λ u on. elim (cases_eq u v) [
+        | inl e ↦ rw e (length t.trail, omega (arith, length_push t.trail v), get_or_push t.trail v 0 _ refl)
+        | inr ne ↦ (let w = tied.trail.marked u (sym (get_or-set_other hid.touched v u true false ne) ∙ on) in (
+          w.0,
+          omega (arith, length_push t.trail v),
+          get_or_append_left t.trail (v ∷ []) 0 w.0 w.1 ∙ w.2,
+        ))
+      ];
+      named = λ b n. (let w = tied.trail.named b n in (
+        w.0,
+        omega (arith, length_push t.trail v),
+        ap (out_of t.hand t.top) (get_or_append_left t.trail (v ∷ []) 0 w.0 w.1) ∙ w.2,
+      ));
+    };
+    pool = tied.pool;
+  })
 
 -- One part of a number is taken for another: what it is with the new part is what it was with the old.
 pub exchanged_is : {xs ys : List ℤ} {lab old : Label} (new : Label) (k : ℕ) {d e before after : ℤ} (x : ℤ) → xs ≡ ys

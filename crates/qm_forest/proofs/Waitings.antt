@@ -1,33 +1,142 @@
--- Sets that wait, from the one with the most vertices on, and the sets in order.
-use Rattle.std.proofs.Common.{◌≡◌, ◌≢◌, ℕ, suc, ◌+◌, ◌*◌, ◌<◌, ◌≤◌, Bool, false, sum_by, List, ◌∷◌, [], ◌++◌}
-use Rattle.std.proofs.Common.{length, get_or, Option, Some, None, ◌⊎◌, refl, sym, ◌∙◌, ap, inl, inr, arith}
-use Rattle.std.proofs.Common.{length-set, get_or-set_same, get_or-set_other}
+-- Sets that wait, from the one with the most vertices on, and the sets in order: each stands there once, and a sum over
+-- them is a sum over all blossoms.
+use Rattle.std.proofs.Common.{◌≡◌, ◌≢◌, ℕ, zero, suc, ◌+◌, ◌*◌, ◌<◌, ◌≤◌, Bool, false, sum_by, List, ◌∷◌, []}
+use Rattle.std.proofs.Common.{cond, eqb, ◌++◌, length, get_or, Option, Some, None, ◌⊎◌, ℤ, pos, ◌+ℤ◌, ◌≤ℤ◌}
+use Rattle.std.proofs.Common.{refl, sym, ◌∙◌, ap, inl, inr, arith, length-set, get_or-set_same, get_or-set_other}
 use Rattle.std.proofs.Math.ListN.{set}
-use Rattle.std.proofs.lemmas.Bool.{cases_eq, cases_lt, cond-false, cond-true, le-ltb, lt-ltb, ne_eqb}
+use Rattle.std.proofs.lemmas.Int.{ints}
+use Rattle.std.proofs.lemmas.Bool.{cases_eq, cases_lt, cond-false, cond-true, eq-eqb, le-ltb, lt-ltb, ne_eqb}
 use Rattle.std.proofs.lemmas.Bool.Decides.{nat_tests}
-use Rattle.std.proofs.lemmas.Option.{none-some}
-use Rattle.std.proofs.lemmas.List.{get_or_past}
+use Rattle.std.proofs.lemmas.List.{get_or_append_left, get_or-append_right, get_or_past, get_or_read, length-append}
 use Rattle.std.proofs.lemmas.List.Elements.{All-push, Contains-push, Contains-append_left}
 use Rattle.std.proofs.lemmas.List.Sums.{sum_by-cons}
 use Rattle.std.proofs.lemmas.List.Sorted.{sum_by-IsPermutation, All-permutation, Contains-permutation}
 use Rattle.std.proofs.lemmas.List.Sorted.{IsNonDecreasingBy-from_all_adjacent}
 use Rattle.std.specs.{List.Sorted.IsNonDecreasingBy, List.Sorted.IsPermutation, List.Sorted.IsSorted}
-use Rattle.std.specs.{Ordering.is_lt, Ordering.nat_cmp, Ordering.ordering_then}
-use Rattle.def_math.specs.Counts.{count, count_below}
-use Rattle.sum_laws.proofs.Counts.{count_append, count_below_none}
-use Rattle.def_forest.specs.{Forests.live_at, Tables.ForestTables}
+use Rattle.std.specs.{Ordering.is_lt, Ordering.nat_cmp, Ordering.ordering_then, Prelude.nat_lt, Prelude.unsigned_abs}
+use Rattle.def_math.specs.{Counts.count, Counts.count_below, Sums.total_below}
+use Rattle.sum_laws.proofs.Counts.{count_append, count_below_none, count_below_one, count_below_total, count_total}
+use Rattle.sum_laws.proofs.Sums.{total_below_none, total_below_same}
+use Rattle.qm_dual.proofs.Entries.{total_entries}
+use Rattle.def_forest.specs.{Forests.live_at, Forests.bool_number, Tables.ForestTables, Tables.up_at}
+use Rattle.qm_forest.specs.Outlines.{AreDistinct, AreEntries, AreWeights, IsListOf, set_in}
 use Rattle.qm_forest.specs.Rounds.{AreInOrder, HasSets, IsEntry, IsRound, IsSized, WaitWithin, waiting, waits_but}
 use Rattle.qm_forest.specs.Rounds.{waits_for}
-use Rattle.qm_forest.proofs.{Orders.place_of, Pairings.count_more}
+use Rattle.qm_forest.proofs.Pairings.{count_more}
+
+-- What is counted at one place, and at two.
+one_place : {X : Type 0} (f : X → ℕ) (xs : List X) (k : ℕ) (d : X) → k < length xs → f (get_or xs k d) ≤ count f xs
+one_place f [] k d l = absurd (omega arith)
+one_place f (x ∷ xs) zero d l = omega arith
+one_place f (x ∷ xs) (suc k) d l = omega (arith, one_place f xs k d (omega arith))
+
+two_places : {X : Type 0} (f : X → ℕ) (xs : List X) (j k : ℕ) (d : X) → j < k → k < length xs
+    → f (get_or xs j d) + f (get_or xs k d) ≤ count f xs
+two_places f [] j k d lt l = absurd (omega arith)
+two_places f (x ∷ xs) j zero d lt l = absurd (omega arith)
+two_places f (x ∷ xs) zero (suc k) d lt l = omega (arith, one_place f xs k d (omega arith))
+two_places f (x ∷ xs) (suc j) (suc k) d lt l = omega (arith, two_places f xs j k d (omega arith) (omega arith))
+
+-- A sum in two parts: its first terms, and the others.
+split_at : (f : ℕ → ℤ) (n m : ℕ) → n ≤ m → total_below f n +ℤ total_below (λ b. cond (nat_lt b n) (pos 0) (f b)) m
+    ≡ total_below f m
+split_at f n zero l = (let e : n ≡ 0 = omega (arith, l) in omega (arith, ints, ap (total_below f) e))
+split_at f n (suc m) l = elim (cases_lt m n) [
+  | inl h ↦ (let none = total_below_none (λ b. cond (nat_lt b n) (pos 0) (f b)) (suc m)
+      (λ b lb. cond-true _ _ _ (lt-ltb b n (omega (arith, lb, h)))) in
+      let e : n ≡ suc m = omega (arith, l, h) in
+      omega (arith, ints, ap (total_below f) e))
+  | inr h ↦ (let here : cond (nat_lt m n) (pos 0) (f m) ≡ f m = cond-false _ _ _ (le-ltb m n h) in
+      omega (arith, ints, split_at f n m h))
+]
+
+module _ {t : ForestTables} {sets : List (ℕ × ℕ)} (order : AreInOrder t sets) where
+  pub sized : (k : ℕ) → k < length sets → IsSized t (length t.up) (get_or sets k (0, 0))
+  sized k l = order.has.each k (0, 0) l
+
+  pub set_low : (k : ℕ) → k < length sets → set_in sets k < length t.up
+  set_low k l = (sized k l).low
+
+  live_low : (b : ℕ) → live_at (length t.hand) (λ k. get_or t.parts k 0) b ≤ 1
+  live_low b = grind arith
+
+  -- No set stands at two places.
+  pub distinct : AreDistinct sets
+  distinct j k lt l same =
+      let two = two_places (λ (set : ℕ × ℕ). bool_number (eqb set.1 x)) sets j k (0, 0) lt l in
+      let count = order.has.counts (λ b. bool_number (eqb b x)) in
+      omega (arith, at j same, at k refl, one)
+    where
+      x : ℕ
+      x = set_in sets k
+
+      at : (i : ℕ) → set_in sets i ≡ x → bool_number (eqb (get_or sets i (0, 0)).1 x) ≡ 1
+      at i e = ap bool_number (eq-eqb (set_in sets i) x e)
+
+      one : count_below (λ b. live_at (length t.hand) (λ i. get_or t.parts i 0) b * bool_number (eqb b x)) (length t.up)
+          ≤ 1
+      one = rw (
+        count_below_one (λ b. live_at (length t.hand) (λ i. get_or t.parts i 0) b * bool_number (eqb b x))
+            _ x (set_low k l) (λ b lb ne. rw (ne_eqb b x ne) (omega arith)),
+        eq-eqb x x refl,
+      ) (omega (arith, live_low x))
+
+  -- Each set in use stands somewhere.
+  pub place_of : (b : ℕ) → length t.hand ≤ b → b < length t.up → get_or t.parts b 0 ≢ 0 → (k : ℕ) × (k < length sets)
+      × (set_in sets k ≡ b)
+  place_of b high low live =
+      let s = order.has.all b high low live in
+      (s.0, s.1, ap (λ (x : ℕ × ℕ). x.1) (sym (get_or_read sets s.0 (get_or t.rank b 0, b) s.1 (sym s.2) (0, 0))))
+
+  -- A sum over vertices and sets is one over all numbers.
+  pub sum_parts : (f : ℕ → ℤ) → length t.hand ≤ length t.up → ((b : ℕ) → length t.hand ≤ b → b < length t.up
+      → pos 0 ≤ℤ f b) → ((b : ℕ) → length t.hand ≤ b → get_or t.parts b 0 ≡ 0 → f b ≡ pos 0)
+      → total_below f (length t.hand) +ℤ total_below (λ k. f (set_in sets k)) (length sets)
+      ≡ total_below f (length t.up)
+  sum_parts f vertices high none =
+      let places = total_entries (λ (set : ℕ × ℕ). pos (size set.1)) (0, 0) sets in
+      let same = total_below_same (λ k. f (set_in sets k)) (λ k. pos (size (set_in sets k))) (length sets)
+      (λ k l. is_size (f (set_in sets k)) (high (set_in sets k) (sized k l).high (set_low k l))) in
+      let counted = ap (λ (m : ℕ). pos m) (order.has.counts size) in
+      let below = count_below_total lives (length t.up) in
+      let terms = total_below_same (λ b. pos (lives b)) (λ b. cond (nat_lt b (length t.hand)) (pos 0) (f b))
+      (length t.up) term in
+      let all = count_total (λ (set : ℕ × ℕ). size set.1) sets in
+      let split = split_at f (length t.hand) (length t.up) vertices in
+      omega (arith, ints)
+    where
+      size : ℕ → ℕ
+      size b = unsigned_abs (f b)
+
+      lives : ℕ → ℕ
+      lives b = live_at (length t.hand) (λ i. get_or t.parts i 0) b * size b
+
+      is_size : (x : ℤ) → pos 0 ≤ℤ x → x ≡ pos (unsigned_abs x)
+      is_size x h = omega (arith, ints, h)
+
+      term : (b : ℕ) → b < length t.up → pos (lives b) ≡ cond (nat_lt b (length t.hand)) (pos 0) (f b)
+      term b l = grind (arith, ints, none b, λ (h : length t.hand ≤ b). high b h l)
+
+-- A list of entries was made in two parts.
+pub list_made : {up up1 up2 names names1 names2 : List ℕ} {n count : ℕ} (many : ℕ) (place : ℕ → ℕ) (old new : List ℕ)
+    → up1 ≡ up → up2 ≡ up → names1 ≡ names → names2 ≡ names → count ≡ n → length old ≡ count
+    → AreEntries (up_at up1) names1 (λ v. v) 0 count old
+    → length new ≡ length old + many → ((k : ℕ) → k < length old → get_or new k 0 ≡ get_or old k 0)
+    → AreEntries (up_at up2) names2 place (length old) many new → IsListOf (up_at up) names n place many new
+list_made {up} {names1} {names2} {n} many place old new e1 e2 f1 f2 count_is size_old first size kept second =
+    grind (arith, first, kept, second)
+
+-- One weight more.
+pub weights_more : {weight : ℕ → ℤ} {place : ℕ → ℕ} {k : ℕ} {xs : List ℤ} {ys : List ℤ} {x : ℤ} → ys ≡ xs ++ x ∷ []
+    → x ≡ weight (place k) → AreWeights weight place k xs → AreWeights weight place (k + 1) ys
+weights_more {weight} {place} {k} {xs} {x} ys_is x_is are =
+    grind (arith, are.each, length-append, get_or_append_left, get_or-append_right)
 
 -- Others that wait where one does not any more did before.
 pub taken_entries : (left : List (Option ℕ)) (c b w : ℕ) → c < length left → get_or (set left c None) b None ≡ Some w
     → (get_or left b None ≡ Some w) × (b ≢ c)
-taken_entries left c b w low is = elim (cases_eq b c) [
-  | inl e ↦ absurd (none-some w (sym (get_or-set_same left c None None low)
-      ∙ (ap (λ j. get_or (set left c None) j None) (sym e) ∙ is)))
-  | inr ne ↦ (sym (get_or-set_other left c b None None ne) ∙ is, ne)
-]
+taken_entries left c b w low is =
+    grind (arith, get_or-set_same left c None None low, get_or-set_other left c b None None)
 
 -- A set does not wait any more: what waited in it is the rest.
 pub taken : {t : ForestTables} {marks : List Bool} {left : List (Option ℕ)} {rest due : ℕ → ℕ} (c v : ℕ)
@@ -97,10 +206,7 @@ wait_before {t} {sets} left left2 k {c} order low at within entries lawful b w i
 
 -- What waits has an entry, so that its number is one.
 pub entry_low : (left : List (Option ℕ)) (c v : ℕ) → get_or left c None ≡ Some v → c < length left
-entry_low left c v is = elim (cases_lt c (length left)) [
-  | inl l ↦ l
-  | inr h ↦ absurd (none-some v (sym (get_or_past left c None h) ∙ is))
-]
+entry_low left c v is = grind (arith, get_or_past left c None)
 
 pub wait_begins : {t : ForestTables} {sets : List (ℕ × ℕ)} (left : List (Option ℕ)) (many : ℕ) → AreInOrder t sets
     → many ≡ length sets → length left ≡ length t.up → ((c v : ℕ) → get_or left c None ≡ Some v → IsEntry t c v)
@@ -113,12 +219,9 @@ wait_begins left many order all size lawful c v is =
 pub sets_more : {t : ForestTables} {b : ℕ} {xs : List (ℕ × ℕ)} → length t.hand ≤ b → get_or t.parts b 0 ≢ 0
     → HasSets t b xs → HasSets t (b + 1) (xs ++ (get_or t.rank b 0, b) ∷ [])
 sets_more {t} {b} {xs} high live has = record {
-  each = All-push (IsSized t (b + 1)) xs (get_or t.rank b 0, b) (λ k d l. record {
-    rank = (has.each k d l).rank;
-    high = (has.each k d l).high;
-    low = omega (arith, (has.each k d l).low);
-    live = (has.each k d l).live;
-  }) (record { rank = refl; high = high; low = omega arith; live = live });
+  each = All-push (IsSized t (b + 1)) xs (get_or t.rank b 0, b) (λ k d l. (let was = has.each k d l in
+      record { rank = was.rank; high = was.high; low = omega arith; live = was.live }))
+      (record { rank = refl; high = high; low = omega arith; live = live });
   all = λ c hc lc used. elim (cases_eq c b) [
     | inl e ↦ rw e (Contains-push xs (get_or t.rank b 0, b))
     | inr ne ↦ Contains-append_left xs ((get_or t.rank b 0, b) ∷ []) (get_or t.rank c 0, c)
@@ -137,14 +240,11 @@ sets_more {t} {b} {xs} high live has = record {
 
 -- No set below the vertices' number is one.
 pub sets_none : (t : ForestTables) (xs : List (ℕ × ℕ)) → length xs ≡ 0 → HasSets t (length t.hand) xs
-sets_none t xs none = record {
+sets_none t [] none = record {
   each = λ k d l. absurd (omega arith);
   all = λ b high low live. absurd (omega arith);
-  counts = λ f. none_in f xs none ∙ sym (count_below_none (λ b. live_at (length t.hand) (λ k. get_or t.parts k 0) b * f
-      b) _ (λ b l. (let z : live_at (length t.hand) (λ k. get_or t.parts k 0) b * f b
-      ≡ 0 * f b = ap (λ (m : ℕ). m * f b) (cond-true _ _ _ (lt-ltb b (length t.hand) l)) in omega arith)));
+  counts = λ f. sym (count_below_none (λ b. live_at (length t.hand) (λ k. get_or t.parts k 0) b * f b) _ (λ b l.
+      (let z : live_at (length t.hand) (λ k. get_or t.parts k 0) b * f b ≡ 0 * f b =
+      ap (λ (m : ℕ). m * f b) (cond-true _ _ _ (lt-ltb b (length t.hand) l)) in omega arith)));
 }
-  where
-    none_in : (f : ℕ → ℕ) (ys : List (ℕ × ℕ)) → length ys ≡ 0 → count (λ (set : ℕ × ℕ). f set.1) ys ≡ 0
-    none_in f [] e = refl
-    none_in f (y ∷ ys) e = absurd (omega arith)
+sets_none t (x ∷ xs) none = absurd (omega arith)

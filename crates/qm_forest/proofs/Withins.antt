@@ -1,11 +1,11 @@
 -- Blossoms within each other: climbing from one, one comes past the other.
 use Rattle.std.proofs.Common.{◌≡◌, ◌≢◌, ℕ, zero, suc, ◌+◌, ◌-◌, ◌<◌, ◌≤◌, Bool, true, false, not, cond, eqb, ◌⊎◌}
 use Rattle.std.proofs.Common.{refl, sym, ◌∙◌, ap, inl, inr, arith}
-use Rattle.std.proofs.lemmas.Bool.{cases_eq, cases_lt, cases_Bool, eq-eqb, false_from_ne_true, or_left, or_right}
+use Rattle.std.proofs.lemmas.Bool.{cases_eq, cases_lt, eq-eqb, false_from_ne_true, or_left}
 use Rattle.sum_laws.proofs.Tests.{same_test}
 use Rattle.def_forest.specs.{Forests.bool_number, Forests.walk, Forests.ring_sum, Tables.climbs}
-use Rattle.forest_laws.proofs.{Circles.IsCircle, Walks.walk_fixed, Walks.walk_front, Walks.walk_sum, Writes.true_false}
-use Rattle.qm_forest.proofs.{Apart.none_either, Nests.climbs_place}
+use Rattle.forest_laws.proofs.{Walks.IsCircle, Walks.walk_fixed, Walks.walk_front, Walks.walk_sum, Writes.true_false}
+use Rattle.qm_forest.proofs.{Nests.climbs_place}
 
 -- A sum along a ring: without its front, of nothing, and of one place alone.
 pub ring_front : (next f : ℕ → ℕ) (from k : ℕ) → ring_sum next f from (suc k) ≡ f from + ring_sum next f (next from) k
@@ -23,13 +23,16 @@ pub ring_one : (next f : ℕ → ℕ) (from k j : ℕ) → j < k → f (walk nex
     → ((i : ℕ) → i < k → i ≢ j → f (walk next from i) ≡ 0) → ring_sum next f from k ≡ 1
 ring_one next f from zero j l one others = absurd (omega arith)
 ring_one next f from (suc k) j l one others =
-    let more : j < k → ring_sum next f from k ≡ 1 =
-    λ lj. ring_one next f from k j lj one (λ i li ne. others i (omega arith) ne) in
-    elim (cases_eq j k) [
-      | inl e ↦ (let rest = ring_none next f from k (λ i li. others i (omega arith) (λ s. absurd (omega arith))) in
-          omega (arith, ap (λ i. f (walk next from i)) (sym e) ∙ one))
-      | inr ne ↦ omega (arith, more (omega arith), others k (omega arith) (λ s. ne (sym s)))
-    ]
+    let more = λ (lj : j < k). ring_one next f from k j lj one (λ i li ne. others i (omega arith) ne) in
+    let rest = λ (e : j ≡ k). ring_none next f from k (λ i li. others i (omega arith) (λ s. absurd (omega arith))) in
+    grind (arith, one, others k)
+
+-- From a part p to its set q: what is in p is in q and in no other part, what is not in q is in none; and the rest is q
+-- itself, in which v is, or is in one other part, and v is not in it.
+climb_cases : (p q c v : Bool) (others : ℕ) → (p ≡ true → (q ≡ true) × (others ≡ 0)) → (q ≡ false → others ≡ 0)
+    → (p ≡ false → q ≡ true → ((others ≡ 0) × (v ≡ true)) ⊎ ((others ≡ 1) × (c ≡ true) × (v ≡ false)))
+    → cond p 0 (cond c (cond v 0 1) 0) ≡ others + cond q 0 (cond c (cond v 0 1) 0)
+climb_cases p q c v others in_p off between = grind arith
 
 -- The way out rises in rank.
 pub record IsRising (n : ℕ) (up rank : ℕ → ℕ) : Type 0 where
@@ -43,10 +46,7 @@ module _ {n : ℕ} {up rank : ℕ → ℕ} (rising : IsRising n up rank) where
 
   pub rank_walk : (x k : ℕ) → rank x ≤ rank (walk up x k)
   rank_walk x zero = omega arith
-  rank_walk x (suc k) = elim (cases_eq (up (walk up x k)) (walk up x k)) [
-    | inl e ↦ omega (arith, rank_walk x k, ap rank e)
-    | inr ne ↦ omega (arith, rank_walk x k, rises (walk up x k) ne)
-  ]
+  rank_walk x (suc k) = grind (arith, rank_walk x k, rises (walk up x k))
 
   here : (k : ℕ) {c from : ℕ} → from ≡ c → climbs up k c from ≡ true
   here zero {c} {from} e = eq-eqb from c e
@@ -55,22 +55,23 @@ module _ {n : ℕ} {up rank : ℕ → ℕ} (rising : IsRising n up rank) where
   -- What one comes to one comes past, if there are steps enough.
   reach : (k : ℕ) {c : ℕ} (from j : ℕ) → walk up from j ≡ c → rank c ≤ rank from + k → climbs up k c from ≡ true
   reach k from zero e low = here k e
-  reach zero from (suc i) e low = elim (cases_eq (up from) from) [
-    | inl stays ↦ here zero (sym (walk_fixed up (suc i) stays) ∙ e)
-    | inr goes ↦ absurd (let same = ap rank (sym (walk_front up from i) ∙ e) in
-        omega (arith, low, rises from goes, rank_walk (up from) i))
-  ]
-  reach (suc k) {c} from (suc i) e low = elim (cases_eq (up from) from) [
-    | inl stays ↦ here (suc k) (sym (walk_fixed up (suc i) stays) ∙ e)
-    | inr goes ↦ or_right (eqb from c) (climbs up k c (up from)) (reach k (up from) i (sym (walk_front up from i) ∙ e)
-        (omega (arith, low, rises from goes)))
-  ]
+  reach zero from (suc i) e low = grind (arith, walk_front, rises from, rank_walk, walk_fixed)
+  reach (suc k) {c} from (suc i) e low =
+      let next = λ (more : rank c ≤ rank (up from) + k). reach k (up from) i (sym (walk_front up from i) ∙ e) more in
+      grind (arith, rises from, walk_fixed)
 
   pub in_where : (b : ℕ) {c : ℕ} (j : ℕ) → rank c ≤ n → walk up b j ≡ c → in_it b c ≡ true
   in_where b j low e = reach n b j e (omega arith)
 
   pub where_in : (b c : ℕ) → in_it b c ≡ true → (j : ℕ) × (walk up b j ≡ c)
   where_in b c on = climbs_place up n c b on
+
+  -- What lies in a blossom lies in what that lies in.
+  pub through : (w b c : ℕ) → rank c ≤ n → in_it w b ≡ true → in_it b c ≡ true → in_it w c ≡ true
+  through w b c low o on =
+      let first = where_in w b o in
+      let second = where_in b c on in
+      in_where w _ low (walk_sum up w first.0 _ ∙ (ap (λ z. walk up z second.0) first.1 ∙ second.1))
 
   -- Of two blossoms on one way one lies within the other.
   pub in_line : (w : ℕ) {a b : ℕ} (i j : ℕ) → walk up w i ≡ a → walk up w j ≡ b → ((m : ℕ) × (walk up a m ≡ b))
@@ -123,17 +124,7 @@ module _ {n : ℕ} {up rank : ℕ → ℕ} (rising : IsRising n up rank) where
       → (wy ≡ true → (wx ≡ false) × (hu ≡ false)) → (wx ≡ false → wy ≡ false → hu ≡ hv)
       → bool_number (cond hu (not hv) hv) + (cond wx (cond hu 0 1) 0 + cond wy (cond hv 0 1) 0)
       ≡ bool_number wx + bool_number wy
-  by_pair true true hu hv first second none = absurd (true_false refl (first refl).0)
-  by_pair true false hu true first second none = absurd (true_false refl (first refl).1)
-  by_pair true false true false first second none = refl
-  by_pair true false false false first second none = refl
-  by_pair false true true hv first second none = absurd (true_false refl (second refl).1)
-  by_pair false true false true first second none = refl
-  by_pair false true false false first second none = refl
-  by_pair false false true true first second none = refl
-  by_pair false false false false first second none = refl
-  by_pair false false true false first second none = absurd (true_false refl (none refl refl))
-  by_pair false false false true first second none = absurd (true_false refl (sym (none refl refl)))
+  by_pair wx wy hu hv first second none = grind arith
 
   module _ (x y : ℕ) {q : ℕ} (u v : ℕ) (ex : up x ≡ q) (ey : up y ≡ q) (nx : x ≢ q) (ny : y ≢ q) (ne : x ≢ y)
       (hu : in_it u x ≡ true) (hv : in_it v y ≡ true) (low_x : rank x ≤ n) (low_y : rank y ≤ n) where
@@ -164,13 +155,6 @@ module _ {n : ℕ} {up rank : ℕ → ℕ} (rising : IsRising n up rank) where
       false_from_ne_true (in_it u b) (λ o. none_in_both u x y ex ey nx ny ne hu (through u b y low_y o on)),
     )) (λ ox oy. same_test _ _ (λ on. around_other u v x y b ex ey low_x hu hv ox (low_u on) on)
         (λ on. around_other v u y x b ey ex low_y hv hu oy (low_v on) on))
-      where
-        through : (w b c : ℕ) → rank c ≤ n → in_it w b ≡ true → in_it b c ≡ true → in_it w c ≡ true
-        through w b c low o on =
-            let first = where_in w b o in
-            let second = where_in b c on in
-            in_where w _ low (walk_sum up w first.0 _
-            ∙ (ap (λ z. walk up z second.0) first.1 ∙ second.1))
 
   -- From a part to its set: what waited there waits in the parts after it, or around the set.
   module _ {p : ℕ} (q v : ℕ) {c : ℕ} {many : ℕ} {after : ℕ → ℕ} {inside : ℕ → Bool}
@@ -200,20 +184,15 @@ module _ {n : ℕ} {up rank : ℕ → ℕ} (rising : IsRising n up rank) where
     none_after b off = ring_none after (λ r. bool_number (in_it b r)) (after p) (many - 1)
         (λ k l. ap bool_number (false_from_ne_true (in_it b (nth k)) (off k l)))
 
-    zero_in : (b x : ℕ) → in_it b x ≡ true → rest_at x b ≡ 0
-    zero_in b x on = ap (λ (s : Bool). cond s 0 (cond (in_it b c) (cond (in_it v b) 0 1) 0)) on
-
-    out_of : (b x : ℕ) → in_it b x ≡ false → rest_at x b ≡ cond (in_it b c) (cond (in_it v b) 0 1) 0
-    out_of b x off = ap (λ (s : Bool). cond s 0 (cond (in_it b c) (cond (in_it v b) 0 1) 0)) off
-
     apart : (i k : ℕ) → i < many - 1 → k < many - 1 → i ≢ k → nth i ≢ nth k
     apart i k li lk ne same =
-        let places : walk after p (suc i) ≡ walk after p (suc k) =
-        walk_front after p i ∙ (same ∙ sym (walk_front after p k)) in
-        elim (cases_lt i k) [
-          | inl lt ↦ circle.distinct (suc i) (suc k) (omega (arith, lt)) (omega (arith, lk)) places
-          | inr ge ↦ circle.distinct (suc k) (suc i) (omega (arith, ge, ne)) (omega (arith, li)) (sym places)
-        ]
+        grind (
+          arith,
+          circle.distinct (suc i) (suc k),
+          circle.distinct (suc k) (suc i),
+          walk_front after p i,
+          walk_front after p k,
+        )
 
     -- What lies in a part after p lies in no other.
     one_after : (b : ℕ) {r : ℕ} → up r ≡ q → r ≢ q → in_it b r ≡ true → r ≢ p → (k : ℕ) → k < many → walk after p k ≡ r
@@ -226,42 +205,32 @@ module _ {n : ℕ} {up rank : ℕ → ℕ} (rising : IsRising n up rank) where
         (false_from_ne_true (in_it b (nth i)) (λ o. none_in_both b (nth i) r (at_part i).0 er (at_part i).1 nr
         (λ same. apart i k li (omega (arith, l)) ni (same ∙ sym here)) o on)))
 
+    -- What is in the set and not in p, but is not the set, is in one part after it, and v is not in it.
     around : (b : ℕ) → (r : ℕ) × (up r ≡ q) × (r ≢ q) × (i : ℕ) × (walk up b i ≡ r) → in_it b p ≡ false
-        → in_it b q ≡ true → rest_at p b ≡ others b + rest_at q b
+        → in_it b q ≡ true → (others b ≡ 1) × (in_it b c ≡ true) × (in_it v b ≡ false)
     around b w off on =
         let inside_r = parts w.0 w.1 w.2 in
         let in_r = in_where b w.3 (low w.0 inside_r) w.4 in
         let other_p : w.0 ≢ p = λ e. true_false (rw e at in_r) off in
-        let s = where_in b q on in
-        let in_c = in_where b (s.0 + j) low_c (walk_sum up b s.0 j ∙ (ap (λ x. walk up x j) s.1 ∙ hq)) in
-        let v_off = false_from_ne_true (in_it v b) (λ o. (let s = where_in v b o in none_in_both v w.0 p w.1 p_part.0
-        w.2 p_part.1 other_p (in_where v (s.0 + w.3) (low w.0 inside_r) (walk_sum up v s.0 w.3
-        ∙ (ap (λ x. walk up x w.3) s.1 ∙ w.4))) hv)) in
-        let left : rest_at p b ≡ 1 = out_of b p off ∙ (ap (λ (s : Bool). cond s (cond (in_it v b) 0 1) 0) in_c
-        ∙ ap (λ (s : Bool). cond s 0 1) v_off) in
-        let k = circle.all w.0 inside_r in
-        omega (arith, left, zero_in b q on, one_after b w.1 w.2 in_r other_p k.0 k.1 k.2)
+        let k = circle.all w.0 inside_r in (
+          one_after b w.1 w.2 in_r other_p k.0 k.1 k.2,
+          through b q c low_c on (in_where q j low_c hq),
+          false_from_ne_true (in_it v b) (λ o. none_in_both v w.0 p w.1 p_part.0 w.2 p_part.1 other_p
+              (through v b w.0 (low w.0 inside_r) o in_r) hv),
+        )
 
     pub climb_law : (b : ℕ) → rest_at p b ≡ others b + rest_at q b
-    climb_law b = elim (cases_Bool (in_it b p)) [
-      | inl on ↦ (let none = none_after b (λ k l. none_in_both b p (nth k) p_part.0 (at_part k).0 p_part.1 (at_part k).1
-          (λ e. circle.distinct 0 (suc k) (omega arith) (omega (arith, l)) (e ∙ sym (walk_front after p k))) on) in
-          omega (arith, zero_in b p on, zero_in b q (in_set b p p_part.0 on)))
-      | inr off ↦ elim (cases_Bool (in_it b q)) [
-        | inr free ↦ (let none = none_after b (λ k l o. true_false (in_set b (nth k) (at_part k).0 o) free) in
-            omega (arith, out_of b p off, out_of b q free))
-        | inl on ↦ elim (cases_eq b q) [
-          | inl e ↦ (let left : rest_at p b ≡ 0 = out_of b p off ∙ (ap (λ (s : Bool). cond (in_it b c) (cond s 0 1) 0)
-              (ap (in_it v) e ∙ in_set v p p_part.0 hv) ∙ none_either (in_it b c)) in
-              (let none = none_after b (λ k l o. (let w = where_in q (nth k) (rw e at o) in absurd
-              (let less = rises (nth k) (λ s. (at_part k).1 (sym s ∙ (at_part k).0)) in omega (
-                arith,
-                rank_walk q w.0,
-                ap rank w.1,
-                ap rank (at_part k).0,
-              )))) in
-              omega (arith, left, zero_in b q on)))
-          | inr ne ↦ around b (in_part b (where_in b q on).0 (where_in b q on).1 ne) off on
-        ]
-      ]
-    ]
+    climb_law b = climb_cases (in_it b p) (in_it b q) (in_it b c) (in_it v b) (others b) (λ on. (
+      in_set b p p_part.0 on,
+      none_after b (λ k l. none_in_both b p (nth k) p_part.0 (at_part k).0 p_part.1 (at_part k).1
+          (λ e. circle.distinct 0 (suc k) (omega arith) (omega (arith, l)) (e ∙ sym (walk_front after p k))) on),
+    )) (λ free. none_after b (λ k l o. true_false (in_set b (nth k) (at_part k).0 o) free))
+        (λ off on. elim (cases_eq b q) [
+          | inl e ↦ inl (
+            none_after b (λ k l o. (let w = where_in q (nth k) (rw e at o) in
+                let less = rises (nth k) (λ s. (at_part k).1 (sym s ∙ (at_part k).0)) in
+                omega (arith, rank_walk q w.0, ap rank w.1, ap rank (at_part k).0))),
+            ap (in_it v) e ∙ in_set v p p_part.0 hv,
+          )
+          | inr ne ↦ inr (around b (in_part b (where_in b q on).0 (where_in b q on).1 ne) off on)
+        ])

@@ -1,10 +1,9 @@
 -- Each step lessens what is left of a search.
-use Rattle.std.proofs.Common.{◌≡◌, ◌≢◌, ℕ, ◌+◌, ◌*◌, ◌<◌, ◌≤◌, true, cond, eqb, List, length}
+use Rattle.std.proofs.Common.{◌≡◌, ◌≢◌, ℕ, ◌+◌, ◌*◌, ◌<◌, ◌≤◌, true, List, length}
 use Rattle.std.proofs.Common.{mul-le-mul_right, get_or, Option, Some, refl, sym, ◌∙◌, ap, inl, inr, arith}
 use Rattle.std.proofs.Math.ListN.{set}
 use Rattle.std.proofs.lemmas.List.{length-set, get_or-set_same, get_or-set_other}
-use Rattle.std.proofs.lemmas.Bool.{cases_eq, cases_lt, cases_Bool, cond-true, cond-false, cond_both, eq-eqb, ne_eqb}
-use Rattle.std.specs.Prelude.{nat_lt}
+use Rattle.std.proofs.lemmas.Bool.{cases_eq, cases_Bool, cond-true, cond-false, eq-eqb, ne_eqb}
 use Rattle.def_math.specs.Counts.{count_below}
 use Rattle.sum_laws.proofs.Counts.{count_below_le, count_below_lt, count_below_ones}
 use Rattle.def_matching.specs.Matching.{WeightedGraph, IsGraph}
@@ -13,7 +12,7 @@ use Rattle.def_forest.specs.{Forests.set_at, Forests.sets_of, Forests.walk, Open
 use Rattle.def_forest.specs.{Opened.IsOpened, Shrunk.IsShrinking, Steps.grown}
 use Rattle.def_forest.specs.{Valid.IsValid, declared.kinds.Label.Label, declared.kinds.Label.TheVariants.Outer}
 use Rattle.def_forest.specs.declared.kinds.Label.TheVariants.{Inner, Outside}
-use Rattle.forest_laws.proofs.{Facts.far_low, Facts.named_low, Graphs.are_darts, Rooms.live_none, Rooms.live_some}
+use Rattle.forest_laws.proofs.{Facts.far_low, Facts.named_low, Graphs.are_darts, Odds.live_none, Odds.live_some}
 use Rattle.forest_laws.proofs.{Writes.inner_named}
 use Rattle.search_laws.specs.Keys.{is_stale, true_key}
 use Rattle.search_laws.specs.Searches.{not_outer, vertices_left, steps_left, turns_left}
@@ -26,9 +25,7 @@ not_outer_low _ = omega arith
 -- No more sets are in use than there are numbers of blossoms.
 sets_low : (n : ℕ) (f : Forest) → sets_of n f ≤ f.size
 sets_low n f =
-    let below = count_below_le (live_at n f.nest.parts) (λ b. 1) f.size (λ b l. cond_both (nat_lt b n) 0
-    (cond (eqb (f.nest.parts b) 0) 0 1) (λ x. x ≤ 1) (λ e. omega arith)
-    (λ e. cond_both (eqb (f.nest.parts b) 0) 0 1 (λ x. x ≤ 1) (λ _. omega arith) (λ _. omega arith))) in
+    let below = count_below_le (live_at n f.nest.parts) (λ b. 1) f.size (λ b l. grind arith) in
     omega (arith, count_below_ones f.size)
 
 -- So many times as much.
@@ -44,11 +41,12 @@ fewer_sets : (n : ℕ) (f new : Forest) → new.size ≡ f.size → vertices_lef
     → sets_of n new < sets_of n f → steps_left n new < steps_left n f
 fewer_sets n f new size h l =
     let less = rw size at l in
-    rw size (elim (cases_lt (vertices_left n new) (vertices_left n f)) [
-      | inl lt ↦ omega (arith, times_more (f.size + 1) lt)
-      | inr ge ↦ (let e : vertices_left n new ≡ vertices_left n f = omega arith in
-          omega (arith, ap (λ x. x * (f.size + 1)) e))
-    ])
+    rw size (grind (arith, less, times_more (f.size + 1)))
+
+-- With a blossom from outside inner and another outer, no place is more of those that are not outer.
+fewer_at : (label : ℕ → Label) (x outer : ℕ) {inn : ℕ} → label inn ≡ Outside
+    → not_outer (set_at (set_at label inn Inner) outer Outer x) ≤ not_outer (label x)
+fewer_at label x outer off = grind arith
 
 module _ (g : WeightedGraph) (is : IsGraph g) (f : Forest) (root : Option ℕ) (valid : IsValid (darts_of g) f root)
     (d m : ℕ) (off : f.label (f.out (far (darts_of g) d)) ≡ Outside) (mate : f.mate (f.out (far (darts_of g) d))
@@ -65,14 +63,9 @@ module _ (g : WeightedGraph) (is : IsGraph g) (f : Forest) (root : Option ℕ) (
       let pair = valid.matched inn m mate in
       let low = far_low (darts_of g) (are_darts is) m pair.tight.low in
       let fewer = count_below_lt (λ w. not_outer (set_at (set_at f.label inn Inner) outer Outer (f.out w)))
-      (λ w. not_outer (f.label (f.out w))) g.n (far (darts_of g) m) low (λ w l. elim (cases_eq (f.out w) outer) [
-        | inl e ↦ rw (e, eq-eqb outer outer refl) (omega arith)
-        | inr nu ↦ elim (cases_eq (f.out w) inn) [
-          | inl e ↦ rw (ne_eqb (f.out w) outer nu, eq-eqb (f.out w) inn e)
-              (omega (arith, ap not_outer (ap f.label e ∙ off)))
-          | inr ni ↦ rw (ne_eqb (f.out w) outer nu, ne_eqb (f.out w) inn ni) (omega arith)
-        ]
-      ]) (rw (eq-eqb outer outer refl) (omega (arith, ap not_outer (valid.outside inn m off mate)))) in
+      (λ w. not_outer (f.label (f.out w))) g.n (far (darts_of g) m) low
+      (λ w l. fewer_at f.label (f.out w) outer off)
+      (rw (eq-eqb outer outer refl) (omega (arith, ap not_outer (valid.outside inn m off mate)))) in
       fewer_vertices g.n f (grown (darts_of g) f d m) refl fewer
 
 module _ (g : WeightedGraph) (is : IsGraph g) (f new : Forest) (root after : Option ℕ) (d : ℕ)
@@ -134,8 +127,7 @@ module _ {g : WeightedGraph} (is : IsGraph g) {f new : Forest} {r : ℕ} {o : Op
 stale_low : (g : WeightedGraph) (f : Forest) (risen : ℕ) (keys : List ℕ) (n : ℕ)
     → count_below (is_stale g f risen keys) n ≤ n
 stale_low g f risen keys n =
-    let below = count_below_le (is_stale g f risen keys) (λ k. 1) n (λ k l. cond_both
-    (eqb (get_or keys k 0) (true_key g f risen k)) 0 1 (λ x. x ≤ 1) (λ _. omega arith) (λ _. omega arith)) in
+    let below = count_below_le (is_stale g f risen keys) (λ k. 1) n (λ k l. grind arith) in
     omega (arith, count_below_ones n)
 
 pub fewer_turns : (g : WeightedGraph) (f new : Forest) (risen after : ℕ) (old keys : List ℕ) → length keys ≡ length old
@@ -153,10 +145,5 @@ fewer_stale g f risen leaf keys new l ne is =
     let none : is_stale g f risen new leaf ≡ 0 = cond-true _ _ _ (eq-eqb (get_or new leaf 0) key right) in
     let one : is_stale g f risen keys leaf ≡ 1 = cond-false _ _ _ (ne_eqb (get_or keys leaf 0) key ne) in
     let less = count_below_lt (is_stale g f risen new) (is_stale g f risen keys) (length keys) leaf l
-    (λ k lk. elim (cases_eq k leaf) [
-      | inl e ↦ omega (arith, ap (is_stale g f risen new) e)
-      | inr nk ↦ (let same : is_stale g f risen new k ≡ is_stale g f risen keys k =
-          ap (λ x. cond (eqb x (true_key g f risen k)) 0 1) (ap (λ xs. get_or xs k 0) is
-          ∙ get_or-set_other keys leaf k key 0 nk) in omega arith)
-    ]) (omega arith) in
+    (λ k lk. grind (arith, none, is, get_or-set_other keys leaf k key 0)) (omega arith) in
     rw size (omega arith)

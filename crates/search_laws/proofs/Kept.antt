@@ -15,37 +15,20 @@ use Rattle.forest_laws.proofs.Shrinks as shrinks
 use Rattle.forest_laws.proofs.Expands as expands
 use Rattle.search_laws.specs.Keys.{no_key, edge_key_by, set_key_by, set_of, leaf_of, true_key, AreLow}
 use Rattle.search_laws.specs.Keys.{IsMended, AreRightAt}
-use Rattle.search_laws.proofs.Keys.{at_edge, at_set, edge_key_low}
+use Rattle.search_laws.proofs.Keys.{at_edge, at_set}
 
 -- An end of an edge has the label that it had, or is inner now.
 abbrev pub IsQuiet : (f new : Forest) (w : ℕ) → Type 0
 IsQuiet f new w = (new.label (new.out w) ≡ f.label (f.out w)) ⊎ (new.label (new.out w) ≡ Inner)
 
-inner_right : (a : Label) (same : Bool) (slack risen : ℕ) → edge_key_by a Inner same slack risen ≡ no_key
-inner_right Outer same slack risen = refl
-inner_right _ same slack risen = refl
-
-same_labels : (a b : Label) (s t : Bool) (slack risen : ℕ) → (a ≡ Outer → s ≡ true → t ≡ true)
-    → edge_key_by a b s slack risen ≤ edge_key_by a b t slack risen
-same_labels Outer Outer true false slack risen on = absurd (let h : false ≡ true = on refl refl in cc)
-same_labels Outer Outer false true slack risen on = omega arith
-same_labels Outside Outer s t slack risen on = omega arith
-same_labels _ _ _ _ slack risen on = omega arith
-
 quiet_key : {a b c d : Label} (s t : Bool) (slack risen : ℕ) → (c ≡ a) ⊎ (c ≡ Inner) → (d ≡ b) ⊎ (d ≡ Inner)
     → (a ≡ Outer → s ≡ true → t ≡ true) → edge_key_by a b s slack risen ≤ edge_key_by c d t slack risen
-quiet_key {a} {b} {d = d} s t slack risen (inr e) y on = rw e (edge_key_low a b s slack risen)
-quiet_key {a} {b} {c} s t slack risen (inl e) (inr e') on =
-    rw (e', inner_right c t slack risen) (edge_key_low a b s slack risen)
-quiet_key {a} {b} s t slack risen (inl e) (inl e') on = rw (e, e') (same_labels a b s t slack risen on)
+quiet_key s t slack risen x y on = grind arith
 
-set_key_none : (l : Label) (w : ℤ) (risen : ℕ) → l ≢ Inner → set_key_by l w risen ≡ no_key
-set_key_none Inner w risen ne = absurd (ne refl)
-set_key_none _ w risen ne = refl
-
-set_key_low : (l : Label) (w : ℤ) (risen : ℕ) → set_key_by l w risen ≤ no_key
-set_key_low Inner w risen = omega arith
-set_key_low _ w risen = omega arith
+-- The key of a set stays low where an inner set was one of the same weight, or has its key.
+set_key_stays : (l l2 : Label) (w w2 : ℤ) (risen key : ℕ) → key ≤ set_key_by l w risen
+    → (l2 ≡ Inner → ((l ≡ Inner) × (w2 ≡ w)) ⊎ (key ≡ set_key_by l2 w2 risen)) → key ≤ set_key_by l2 w2 risen
+set_key_stays l l2 w w2 risen key low inner = grind arith
 
 inner_cases : (l : Label) → (l ≡ Inner) ⊎ (l ≢ Inner)
 inner_cases Inner = inl refl
@@ -73,37 +56,26 @@ pub stay_low : {g : WeightedGraph} → IsGraph g → {f new : Forest} {risen : �
     → IsMended g new risen old keys → IsTurned g f new risen keys → AreLow g new risen keys
 stay_low {g} is {f} {new} {risen} {old} {keys} low mended turned k l = elim (mended.each k) [
   | inl e ↦ omega arith
-  | inr same ↦ elim (cases_lt k (length g.edges)) [
-    | inl le ↦ elim (turned.ends (edge_at g k).u (is.left k le)) [
-      | inr right ↦ omega (arith, right k le (inl refl))
-      | inl qu ↦ elim (turned.ends (edge_at g k).v (is.right k le)) [
-        | inr right ↦ omega (arith, right k le (inr refl))
-        | inl qv ↦ kept same (at_ends le qu qv)
-      ]
-    ]
-    | inr he ↦ (let b = set_of g k in
-        elim (inner_cases (new.label b)) [
-          | inr ne ↦ kept same (rw (
-            at_set g new risen k he,
-            set_key_none (new.label b) (new.weight b) risen ne,
-            at_set g f risen k he,
-          ) (set_key_low (f.label b) (f.weight b) risen))
-          | inl inner ↦ (let leaf : leaf_of g b ≡ k = omega arith in
-              elim (turned.sets b (omega arith) inner) [
-                | inr right ↦ (let at = sym (ap (λ x. get_or keys x 0) leaf) ∙ right ∙ ap (true_key g new risen) leaf in
-                    omega arith)
-                | inl w ↦ (let keys_are : true_key g f risen k ≡ true_key g new risen k =
-                    rw (at_set g f risen k he, at_set g new risen k he, w.0, inner, w.1) in
-                    kept same (omega arith))
-              ])
-        ])
-  ]
+  | inr same ↦ (let was : get_or keys k 0 ≤ true_key g f risen k = omega (arith, low k (omega (arith, mended.size))) in
+      elim (cases_lt k (length g.edges)) [
+        | inl le ↦ elim (turned.ends (edge_at g k).u (is.left k le)) [
+          | inr right ↦ omega (arith, right k le (inl refl))
+          | inl qu ↦ elim (turned.ends (edge_at g k).v (is.right k le)) [
+            | inr right ↦ omega (arith, right k le (inr refl))
+            | inl qv ↦ omega (arith, at_ends le qu qv)
+          ]
+        ]
+        | inr he ↦ (let b = set_of g k in
+            let leaf : leaf_of g b ≡ k = omega arith in
+            rw (at_set g new risen k he) (set_key_stays (f.label b) (new.label b) (f.weight b) (new.weight b) risen
+            (get_or keys k 0) (rw (at_set g f risen k he) at was) (λ inner. elim (turned.sets b (omega arith) inner) [
+              | inl w ↦ inl w
+              | inr right ↦ inr (sym (ap (λ x. get_or keys x 0) leaf) ∙ right
+                  ∙ (ap (true_key g new risen) leaf ∙ at_set g new risen k he))
+            ])))
+      ])
 ]
   where
-    kept : get_or keys k 0 ≡ get_or old k 0 → true_key g f risen k ≤ true_key g new risen k
-        → get_or keys k 0 ≤ true_key g new risen k
-    kept e h = omega (arith, low k (omega (arith, mended.size)))
-
     at_ends : k < length g.edges → IsQuiet f new (edge_at g k).u → IsQuiet f new (edge_at g k).v
         → true_key g f risen k ≤ true_key g new risen k
     at_ends le qu qv =
@@ -116,12 +88,7 @@ stay_low {g} is {f} {new} {risen} {old} {keys} low mended turned k l = elim (men
 
 -- No key is above the one where nothing happens.
 pub true_key_low : (g : WeightedGraph) (f : Forest) (risen k : ℕ) → true_key g f risen k ≤ no_key
-true_key_low g f risen k = elim (cases_lt k (length g.edges)) [
-  | inl le ↦ rw (at_edge g f risen k le) (edge_key_low (f.label (f.out (edge_at g k).u))
-      (f.label (f.out (edge_at g k).v)) (eqb (f.out (edge_at g k).u) (f.out (edge_at g k).v))
-      (unsigned_abs (slack_of g f k)) risen)
-  | inr he ↦ rw (at_set g f risen k he) (set_key_low (f.label (set_of g k)) (f.weight (set_of g k)) risen)
-]
+true_key_low g f risen k = grind arith
 
 -- The edges at a vertex of a set of vertices.
 right_at : (g : WeightedGraph) (f : Forest) (risen : ℕ) (keys : List ℕ) (set : ℕ → Bool) {w : ℕ}
@@ -137,10 +104,7 @@ held_out g {f} valid w l = valid.outermost.held w w l l ∙ eq-eqb (f.out w) (f.
 -- Where no tree stands nothing happens.
 pub idle_low : (g : WeightedGraph) (f : Forest) (risen : ℕ) (keys : List ℕ) → ((b : ℕ) → f.label b ≡ Outside)
     → ((k : ℕ) → k < length keys → get_or keys k 0 ≤ no_key) → AreLow g f risen keys
-idle_low g f risen keys outside few k l = elim (cases_lt k (length g.edges)) [
-  | inl le ↦ rw (at_edge g f risen k le, outside (f.out (edge_at g k).u), outside (f.out (edge_at g k).v)) (few k l)
-  | inr he ↦ rw (at_set g f risen k he, outside (set_of g k)) (few k l)
-]
+idle_low g f risen keys outside few k l = grind (arith, few k l, outside)
 
 -- A tree begins.
 pub rooted_turned : (g : WeightedGraph) {f : Forest} (b risen : ℕ) (keys : List ℕ) → IsValid (darts_of g) f None
@@ -152,10 +116,7 @@ rooted_turned g {f} b risen keys valid right = record {
     | inr ne ↦ inl (inl (set_there f.label b (f.out w) Outer ne))
   ];
   same = λ u v lu lv outer e. e;
-  sets = λ x h inner. elim (cases_eq x b) [
-    | inl e ↦ absurd (cc (set_here f.label b Outer))
-    | inr ne ↦ absurd (cc (set_there f.label b x Outer ne, valid.no_tree refl x))
-  ];
+  sets = λ x h inner. absurd (grind (arith, valid.no_tree refl x));
 }
 
 -- A tree grows.
@@ -197,15 +158,7 @@ module _ (g : WeightedGraph) (f : Forest) (root : Option ℕ) (valid : IsValid (
 module _ {g : WeightedGraph} (is : IsGraph g) {f new : Forest} {root after : Option ℕ} {d : ℕ}
     (valid : IsValid (darts_of g) f root) (s : IsShrinking (darts_of g) f new root after d) where
   pub shrink : Shrink (darts_of g) f s.r new s.inside s.top s.set s.top s.many
-  shrink = record {
-    are = are_darts is;
-    valid = rw s.old_root at valid;
-    tree = s.tree;
-    cycle = s.cycle;
-    unused = s.unused;
-    row = s.row;
-    is = s.shrunk;
-  }
+  shrink = search (are_darts is, rw s.old_root at valid)
 
   pub shrunk_on : (w : ℕ) → w < g.n → s.inside (f.out w) ≡ true → new.out w ≡ s.set
   shrunk_on = shrinks.out_on shrink
@@ -258,9 +211,6 @@ module _ {g : WeightedGraph} (is : IsGraph g) {f new : Forest} {r : ℕ} {o : Op
   pub expansion : Expansion (darts_of g) f r new o
   expansion = record { are = are_darts is; valid = valid; tree = valid.tree r refl; opening = opening; is = opened }
 
-  pub opened_in : (w : ℕ) → w < g.n → f.out w ≡ o.b → new.out w ≡ o.part w
-  opened_in = expands.out_in expansion
-
   pub opened_old : (w : ℕ) → w < g.n → f.out w ≢ o.b → new.out w ≡ f.out w
   opened_old = expands.out_old expansion
 
@@ -287,7 +237,7 @@ module _ {g : WeightedGraph} (is : IsGraph g) {f new : Forest} {r : ℕ} {o : Op
     ends = λ w l. elim (cases_eq (f.out w) o.b) [
       | inl e ↦ (let p = opening.part_of w l e in
           elim (inner_cases (new.label (o.q p.0))) [
-            | inl inner ↦ inl (inr (ap new.label (opened_in w l e ∙ sym p.2) ∙ inner))
+            | inl inner ↦ inl (inr (ap new.label (expands.out_in expansion w l e ∙ sym p.2) ∙ inner))
             | inr ne ↦ (let held = opened.holds (o.q p.0) w (opening.parts p.0 p.1).1 l ∙ opening.held w p.0 l e p.1
                 ∙ eq-eqb (o.part w) (o.q p.0) (sym p.2) in
                 inr (right_at g new risen keys (new.holds (o.q p.0)) (right p.0 p.1 ne) held))

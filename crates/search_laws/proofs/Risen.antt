@@ -1,6 +1,6 @@
 -- How far the sum of the weights rises, and so how large keys and weights are.
 use Rattle.std.proofs.Common.{◌≡◌, ℕ, zero, suc, ◌+◌, ◌-◌, ◌*◌, ◌/◌}
-use Rattle.std.proofs.Common.{ap, ◌∙◌, ◌<◌, ◌≤◌, Bool, false, eqb}
+use Rattle.std.proofs.Common.{ap, ◌∙◌, ◌<◌, ◌≤◌}
 use Rattle.std.proofs.{Common.List, Common.[], Common.◌∷◌, Common.arith, lemmas.Int.ints, lemmas.Bool.cases_lt}
 use Rattle.std.proofs.Common.{length, map, Option, Some, ℤ, pos, ◌+ℤ◌, ◌*ℤ◌, ◌≤ℤ◌, refl, inl, inr}
 use Rattle.std.specs.Int.RustNames.{unsigned_abs}
@@ -10,36 +10,21 @@ use Rattle.def_matching.specs.Matching.{WeightedGraph, IsGraph, IsCheap, IsPerfe
 use Rattle.def_matching.specs.declared.limits.TheConstants.{MAX_PRODUCT}
 use Rattle.def_matching.specs.declared.weighted.WEdge.{WEdge}
 use Rattle.def_forest.specs.{Darts.darts_of, Forests.Forest, Forests.dual_sum_of, Steps.weight_change, Steps.shifted}
-use Rattle.def_forest.specs.{Tables.slack_of, Valid.IsFeasible, Valid.IsValid, declared.kinds.Label.Label}
-use Rattle.def_forest.specs.declared.kinds.Label.TheVariants.{Outer, Inner}
-use Rattle.def_forest.specs.declared.kinds.Label.TheVariants.{Outside}
-use Rattle.forest_laws.proofs.{Bounds.sum_bounds, Graphs.are_darts, Rises.sum_rises, Shifts.shift_valid}
-use Rattle.search_laws.specs.Keys.{no_key, edge_key_by, set_key_by, set_of, true_key}
+use Rattle.def_forest.specs.{Valid.IsFeasible, Valid.IsValid, declared.kinds.Label.Label}
+use Rattle.forest_laws.proofs.{Bounds.sum_bounds, Graphs.are_darts, Shifts.shift_valid, Shifts.sum_rises}
+use Rattle.search_laws.specs.Keys.{no_key, true_key}
 use Rattle.search_laws.specs.Searches.{IsInRange, first_limit, risen_limit}
-use Rattle.search_laws.proofs.Keys.{at_edge, at_set, lawful}
+use Rattle.search_laws.proofs.Keys.{lawful}
 
 -- The greatest of some numbers, where the product of each with another is small.
 pub greatest_of : (f : ℕ → ℕ) (n limit k : ℕ) → ((i : ℕ) → i < k → n * f i ≤ limit) → (most : ℕ)
     × ((i : ℕ) → i < k → f i ≤ most) × (n * most ≤ limit)
 greatest_of f n limit zero few = (0, (λ i l. absurd (omega (arith, l))), omega arith)
 greatest_of f n limit (suc k) few = let w = greatest_of f n limit k (λ i l. few i (omega arith)) in
+    let each : (m : ℕ) → w.0 ≤ m → f k ≤ m → (i : ℕ) → i < suc k → f i ≤ m = λ m lw lk i l. grind (arith, w.1 i) in
     elim (cases_lt (f k) w.0) [
-      | inl h ↦ (
-        w.0,
-        (λ i l. elim (cases_lt i k) [
-          | inl lt ↦ w.1 i lt
-          | inr ge ↦ (let same : i ≡ k = omega arith in rw same (omega arith))
-        ]),
-        w.2,
-      )
-      | inr h ↦ (
-        f k,
-        (λ i l. elim (cases_lt i k) [
-          | inl lt ↦ omega (arith, w.1 i lt)
-          | inr ge ↦ (let same : i ≡ k = omega arith in rw same (omega arith))
-        ]),
-        few k (omega arith),
-      )
+      | inl h ↦ (w.0, each w.0 (omega arith) (omega arith), w.2)
+      | inr h ↦ (f k, each (f k) (omega arith) (omega arith), few k (omega arith))
     ]
 
 -- A number that bounds all costs.
@@ -90,27 +75,11 @@ known_low {g} is cheap perfect =
     let w = greatest g cheap in omega (arith, ints, known_most is w.0 w.1 perfect, w.2)
 
 change_low : (l : Label) (w : ℤ) (x : ℕ) → unsigned_abs (w +ℤ weight_change l (pos x)) ≤ unsigned_abs w + x
-change_low Outer w x = omega (arith, ints)
-change_low _ w x = omega (arith, ints)
-
-edge_key_high : (a b : Label) (s : Bool) (slack risen : ℕ) → risen ≤ no_key → risen ≤ edge_key_by a b s slack risen
-edge_key_high Outer Outer false slack risen l = omega (arith, l)
-edge_key_high Outer Outside s slack risen l = omega (arith, l)
-edge_key_high Outside Outer s slack risen l = omega (arith, l)
-edge_key_high _ _ _ slack risen l = l
-
-set_key_high : (l : Label) (w : ℤ) (risen : ℕ) → risen ≤ no_key → risen ≤ set_key_by l w risen
-set_key_high Inner w risen h = omega arith
-set_key_high _ w risen h = h
+change_low l w x = grind (arith, ints)
 
 -- Nothing happens before what has happened.
 pub key_high : (g : WeightedGraph) (f : Forest) (risen k : ℕ) → risen ≤ no_key → risen ≤ true_key g f risen k
-key_high g f risen k few = elim (cases_lt k (length g.edges)) [
-  | inl le ↦ rw (at_edge g f risen k le) (edge_key_high (f.label (f.out (edge_at g k).u))
-      (f.label (f.out (edge_at g k).v)) (eqb (f.out (edge_at g k).u) (f.out (edge_at g k).v))
-      (unsigned_abs (slack_of g f k)) risen few)
-  | inr he ↦ rw (at_set g f risen k he) (set_key_high (f.label (set_of g k)) (f.weight (set_of g k)) risen few)
-]
+key_high g f risen k few = grind arith
 
 module _ {g : WeightedGraph} (is : IsGraph g) (cheap : IsCheap g) {m : List ℕ} (perfect : IsPerfect g m) {n first : ℕ}
     (limit : n * first ≤ first_limit) (low : first ≤ first_limit) {f : Forest} {risen : ℕ}

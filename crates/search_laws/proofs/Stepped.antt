@@ -1,6 +1,6 @@
 -- What each step leaves of a search, and which step a key names.
-use Rattle.std.proofs.Common.{◌≡◌, ◌≢◌, ℕ, ◌+◌, ◌-◌, ◌*◌, ◌/◌, ◌<◌, ◌≤◌, Bool, true, false, cond, eqb, length, Option}
-use Rattle.std.proofs.Common.{Some, None, is_some, ℤ, pos, ◌⊎◌, refl, sym, ◌∙◌, ap, inl, inr, arith}
+use Rattle.std.proofs.Common.{◌≡◌, ◌≢◌, ℕ, ◌+◌, ◌-◌, ◌*◌, ◌/◌, ◌<◌, ◌≤◌, Bool, false, cond, eqb, length, Option}
+use Rattle.std.proofs.Common.{Some, None, ℤ, pos, ◌⊎◌, refl, sym, ◌∙◌, ap, inl, inr, arith}
 use Rattle.std.proofs.lemmas.Int.{ints}
 use Rattle.std.proofs.lemmas.Bool.{cases_eq, cases_lt, cases_Bool}
 use Rattle.std.specs.{Int.RustNames.unsigned_abs, Prelude.int_lt}
@@ -12,7 +12,6 @@ use Rattle.def_forest.specs.{declared.kinds.EdgeKind.EdgeKind}
 use Rattle.def_forest.specs.declared.kinds.EdgeKind.TheVariants.{Augment, Grow}
 use Rattle.def_forest.specs.{declared.kinds.EdgeKind.TheVariants.Shrink, declared.kinds.Label.Label}
 use Rattle.def_forest.specs.declared.kinds.Label.TheVariants.{Outer, Inner}
-use Rattle.def_forest.specs.declared.kinds.Label.TheVariants.{Outside}
 use Rattle.sum_laws.proofs.Sums.{total_below_same}
 use Rattle.forest_laws.proofs.{Expands.Expansion, Expands.halves, Parities.slack_even}
 use Rattle.forest_laws.proofs.{Writes.some_is}
@@ -113,17 +112,10 @@ matched_more g {f} {new} {r} {v} is seeking u l none =
 abbrev pub IsStep : (kind : EdgeKind) → Type 0
 IsStep kind = (kind ≡ Shrink) ⊎ ((kind ≡ Grow) ⊎ (kind ≡ Augment))
 
-grow_or : (o : Bool) → IsStep (cond o Grow Augment)
-grow_or true = inr (inl refl)
-grow_or false = inr (inr refl)
-
 key_step : (a b : Label) (ma mb : Option ℕ) (same : Bool) (slack : ℕ) {risen : ℕ} → edge_key_by a b same slack risen
     ≡ risen → risen < no_key → IsStep (kind_by a b ma mb same) × ((slack ≡ 0)
     ⊎ ((slack / 2 ≡ 0) × (a ≡ Outer) × (b ≡ Outer)))
-key_step Outer Outer ma mb false slack e l = (inl refl, inr (omega (arith, e, l), refl, refl))
-key_step Outer Outside ma mb same slack e l = (grow_or (is_some mb), inl (omega (arith, e, l)))
-key_step Outside Outer ma mb same slack e l = (grow_or (is_some ma), inl (omega (arith, e, l)))
-key_step _ _ ma mb _ slack e l = absurd (omega (arith, e, l))
+key_step a b ma mb same slack e l = grind arith
 
 not_loose : {x : ℤ} → x ≡ pos 0 → int_lt (pos 0) x ≡ false
 not_loose e = rw e
@@ -146,8 +138,7 @@ edge_step {g} is {f} {root} {risen} e valid low key few =
 
 set_step_by : (l : Label) (w : ℤ) {risen : ℕ} → set_key_by l w risen ≡ risen → risen < no_key → (l ≡ Inner)
     × (w ≡ pos 0)
-set_step_by Inner w e l = (refl, omega (arith, ints, e, l))
-set_step_by _ w e l = absurd (omega (arith, e, l))
+set_step_by l w e few = grind (arith, ints)
 
 -- A set whose key has come may be opened.
 pub set_step : (g : WeightedGraph) (f : Forest) {risen : ℕ} (k : ℕ) → length g.edges ≤ k → true_key g f risen k ≡ risen

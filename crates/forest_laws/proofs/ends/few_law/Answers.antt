@@ -1,4 +1,4 @@
-use Rattle.forest_laws.proofs.Rooms.{few_sets, no_sets}
+use Rattle.forest_laws.proofs.Odds.{few_sets, no_sets}
 use Rattle.forest_laws.proofs.ends.few_law.Goals as goal
 
 pub returns : goal.returns

@@ -1,5 +1,5 @@
 use Rattle.std.proofs.Common.{refl}
-use Rattle.forest_laws.proofs.Rises.{sum_rises}
+use Rattle.forest_laws.proofs.Shifts.{sum_rises}
 use Rattle.forest_laws.proofs.ends.rise_law.Goals as goal
 
 pub returns : goal.returns

@@ -1,5 +1,5 @@
 use Rattle.std.proofs.Common.{refl}
-use Rattle.forest_laws.proofs.ExpandedTrees.{opened_valid}
+use Rattle.forest_laws.proofs.Expands.{opened_valid}
 use Rattle.forest_laws.proofs.steps.expand_law.Goals as goal
 
 pub returns : goal.returns

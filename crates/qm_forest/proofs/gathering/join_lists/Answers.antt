@@ -1,8 +1,9 @@
-use Rattle.std.proofs.Common.{◌≡◌, suc, ◌+◌, ◌-◌, ◌<◌, ◌∙◌, length, length-set, add-one, get_or, refl, ap, arith}
+use Rattle.std.proofs.Common.{◌≡◌, suc, ◌+◌, ◌-◌, ◌∙◌, length-set, add-one, get_or, refl, ap, arith}
 use Rattle.std.proofs.Math.ListN.{set}
-use Rattle.def_forest.specs.Forests.{walk, ring_sum}
-use Rattle.qm_forest.proofs.JoinedRows.{entry_low, entry_read, ring_sum_below, written_more}
+use Rattle.def_forest.specs.{Forests.walk, Forests.ring_sum}
+use Rattle.qm_forest.proofs.Gatherings.{entry_low, entry_read, ring_sum_below, written_more}
 use Rattle.qm_forest.proofs.gathering.join_lists.Goals.{After-index, After-index-end, After-index-in-loop}
+use Rattle.qm_forest.proofs.Leavings.{next_place}
 use Rattle.qm_forest.proofs.gathering.join_lists.Goals as goal
 
 -- What is read: the end of the list at hand, and the beginning and the length of the next one.
@@ -58,34 +59,26 @@ overflow_add-total c =
 pub loop-preserved : goal.loop-preserved
 loop-preserved c =
     let at = goal.at.loop-preserved c in
-    let ends : get_or c.args.lists.now.last.items (walk (λ k. get_or c.args.after.now k 0) c.args.front c.loop.counter)
-    0 < length c.args.lists.now.following.items = c.requires.lists.ends _ (omega (arith, c.loop-test.true)) in
+    let ends = c.requires.lists.ends c.loop.counter (omega (arith, c.loop-test.true)) in
     let total : c.loop.total + c.index-in-loop.result.now ≡ ring_sum (λ k. get_or c.args.after.now k 0)
-    (λ k. get_or c.args.lists.now.rank.items k 0) c.args.front (suc (suc c.loop.counter)) =
-    omega (arith, more_is at.After-index-in-loop) in
-    record {
-      here = rw (add-one c.loop.counter, c.loop.invariant.here);
-      total = rw (add-one c.loop.counter) total;
-      following = written_more _ _ (λ k. get_or c.args.lists.now.last.items
-          (walk (λ k. get_or c.args.after.now k 0) c.args.front k) 0) (λ k. get_or c.args.lists.now.first.items
-          (walk (λ k. get_or c.args.after.now k 0) c.args.front (suc k)) 0) _ (omega (arith, end_is at.After-index-end))
-          c.loop.invariant.following (end_is at.After-index-end) (first_is at.After-index) (add-one c.loop.counter);
-      size = length-set c.loop.lists.following.items c.index-end.result.now c.index.result.now ∙ c.loop.invariant.size;
-      first = c.loop.invariant.first;
-      last = c.loop.invariant.last;
-      rank = c.loop.invariant.rank;
-      leader = c.loop.invariant.leader;
-    }
+    (λ k. get_or c.args.lists.now.rank.items k 0) c.args.front (suc (c.loop.counter + 1)) =
+    rw (add-one c.loop.counter) (omega (arith, more_is at.After-index-in-loop)) in
+    let next = written_more c.loop.lists.following.items c.args.lists.now.following.items
+    (λ k. get_or c.args.lists.now.last.items (walk (λ k. get_or c.args.after.now k 0) c.args.front k) 0)
+    (λ k. get_or c.args.lists.now.first.items (walk (λ k. get_or c.args.after.now k 0) c.args.front (suc k)) 0)
+    c.loop.counter (omega (arith, end_is at.After-index-end)) c.loop.invariant.following (end_is at.After-index-end)
+    (first_is at.After-index) (add-one c.loop.counter) in
+    let size = length-set c.loop.lists.following.items c.index-end.result.now c.index.result.now ∙ c.loop.invariant.size
+    in
+    assumption (next_place c.args.after.now c.args.front _ refl c.loop.invariant.here refl)
 
 pub returns : goal.returns
 returns c =
     let all : c.loop.counter ≡ c.args.many - 1 = omega (arith, c.loop-test.false, c.loop.auto.counter-end) in
     let some : suc c.loop.counter ≡ c.args.many = omega arith in
-    let front_is : c.index-2.result.now ≡ get_or c.args.lists.now.first.items c.args.front 0 =
-    entry_read 0 c.requires.lists.row c.requires.lists.row.some refl (ap (λ o. o.items) c.loop.invariant.first)
-    c.requires.lists.first c.index-2.ensures in
-    let last_is : c.index-3.result.now ≡ get_or c.args.lists.now.last.items (walk (λ k. get_or c.args.after.now k 0)
-    c.args.front (c.args.many - 1)) 0 = entry_read (c.args.many - 1) c.requires.lists.row (omega arith) (rw (← all)
+    let front_is = entry_read 0 c.requires.lists.row c.requires.lists.row.some refl
+    (ap (λ o. o.items) c.loop.invariant.first) c.requires.lists.first c.index-2.ensures in
+    let last_is = entry_read (c.args.many - 1) c.requires.lists.row (omega arith) (rw (← all)
     c.loop.invariant.here) (ap (λ o. o.items) c.loop.invariant.last) c.requires.lists.last c.index-3.ensures in
     record {
       following = rw (← all) c.loop.invariant.following;

@@ -15,8 +15,8 @@ loop-preserved c =
           c.loop.invariant.here c.loop.invariant.most c.larger-best.ensures.most.0 c.larger-best.ensures.most.1;
     }
 
-pub returns-clause-on : goal.returns-clause-on
-returns-clause-on c = c.loop.invariant.best
-
-pub returns-clause-most : goal.returns-clause-most
-returns-clause-most c = λ k l. c.loop.invariant.most k (omega (arith, c.loop-test.false))
+pub returns : goal.returns
+returns c = record {
+  on = c.loop.invariant.best;
+  most = λ k l. c.loop.invariant.most k (omega (arith, c.loop-test.false));
+}

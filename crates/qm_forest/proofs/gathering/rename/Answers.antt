@@ -1,10 +1,9 @@
 use Rattle.std.proofs.Common.{length-set, add-one, ◌≡◌, ◌<◌, ◌∙◌, get_or, refl, arith, pos}
-use Rattle.std.proofs.lemmas.Int.{ints}
-use Rattle.std.proofs.lemmas.List.{get_or_read}
+use Rattle.std.proofs.{lemmas.Int.ints, lemmas.List.get_or_read}
 use Rattle.forest_laws.specs.Walks.{listed}
-use Rattle.qm_forest.proofs.Ranges.{kept_in_bits}
 use Rattle.qm_forest.proofs.RenamedRows.{next_low, next_old, next_written, more_as}
-use Rattle.qm_forest.proofs.gathering.rename.Goals.{After-index-end, After-index_mut-in-loop}
+use Rattle.qm_forest.proofs.{Ranges.kept_in_bits, gathering.rename.Goals.After-index-end}
+use Rattle.qm_forest.proofs.{gathering.rename.Goals.After-index_mut-in-loop}
 use Rattle.qm_forest.proofs.gathering.rename.Goals as goal
 
 many_is : (c : After-index-end) → c.index-end.result.now ≡ get_or c.args.lists.now.rank.items c.args.x 0
@@ -38,13 +37,8 @@ loop-preserved c =
           (add-one c.loop.counter) refl;
       q = next_written c.requires.lists l c.loop.invariant.here _ (pos 0) _
           (λ v. get_or c.args.handles.now.q.items v (pos 0)) (rw (c.loop.invariant.qs, c.requires.lists.q) low)
-          c.loop.invariant.q (add-one c.loop.counter) (omega (
-            arith,
-            ints,
-            read at.After-index_mut-in-loop l,
-            c.requires.lists.small c.loop.v,
-            c.requires.more,
-          ));
+          c.loop.invariant.q (add-one c.loop.counter)
+          (omega (arith, ints, read at.After-index_mut-in-loop l, c.requires.lists.small c.loop.v, c.requires.more));
       hands = length-set c.loop.handles.hand.items c.loop.v c.args.handle ∙ c.loop.invariant.hands;
       qs = length-set c.loop.handles.q.items c.loop.v _ ∙ c.loop.invariant.qs;
       top = c.loop.invariant.top;
@@ -56,14 +50,8 @@ returns c =
     let all : c.loop.counter ≡ get_or c.args.lists.now.rank.items c.args.x 0 =
     (let many = many_is (goal.at.returns c).After-index-end in
     omega (arith, c.loop-test.false, c.loop.auto.counter-end)) in
-    record {
-      hand = λ v. rw (← all) (c.loop.invariant.hand v);
-      q = λ v. rw (← all) (more_as (λ u. get_or c.loop.handles.q.items u (pos 0)) (λ u. listed
-          (λ k. get_or c.args.lists.now.following.items k 0) (get_or c.args.lists.now.first.items c.args.x 0)
-          c.loop.counter u) (λ u. get_or c.args.handles.now.q.items u (pos 0))
-          (kept_in_bits c.args.more c.requires.more) c.loop.invariant.q v);
-      hands = c.loop.invariant.hands;
-      qs = c.loop.invariant.qs;
-      top = c.loop.invariant.top;
-      off = c.loop.invariant.off;
-    }
+    let q = rw all at (more_as (λ u. get_or c.loop.handles.q.items u (pos 0)) (λ u. listed
+    (λ k. get_or c.args.lists.now.following.items k 0) (get_or c.args.lists.now.first.items c.args.x 0) c.loop.counter
+    u) (λ u. get_or c.args.handles.now.q.items u (pos 0)) (kept_in_bits c.args.more c.requires.more)
+    c.loop.invariant.q) in
+    assumption (rw all at c.loop.invariant.hand)

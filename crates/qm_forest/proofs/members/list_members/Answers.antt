@@ -1,16 +1,13 @@
-use Rattle.std.proofs.Common.{add-one, ◌≡◌, ◌+◌, ◌<◌, ◌++◌, ◌∙◌, [], ◌∷◌, length, get_or, sym, subst, ap, arith}
-use Rattle.std.proofs.lemmas.Grind.{common_steps}
-use Rattle.std.proofs.lemmas.List.{get_or_read, length_push}
+use Rattle.std.proofs.Common.{add-one, ◌≡◌, ◌+◌, ◌<◌, ◌++◌, ◌∙◌, [], ◌∷◌, length, ap, arith}
+use Rattle.std.proofs.{lemmas.Grind.common_steps, lemmas.List.get_or_read, lemmas.List.length_push}
 use Rattle.qm_forest.proofs.Copied.{copied_more}
 use Rattle.qm_forest.proofs.members.list_members.Goals as goal
 
 pub loop-preserved : goal.loop-preserved
 loop-preserved c =
-    let end : c.index-end.result.now ≡ get_or c.args.lists.now.rank.items c.args.x 0 =
-    get_or_read c.args.lists.now.rank.items c.args.x _ c.requires.lists.rank c.index-end.ensures 0 in
+    let end = get_or_read c.args.lists.now.rank.items c.args.x _ c.requires.lists.rank c.index-end.ensures 0 in
     let low : c.loop.v < length c.args.lists.now.following.items =
-    subst (λ v. v < length c.args.lists.now.following.items) (sym c.loop.invariant.here)
-    (c.requires.lists.low _ (omega (arith, c.loop-test.true))) in
+    rw c.loop.invariant.here (c.requires.lists.low _ (omega (arith, c.loop-test.true))) in
     let pushed : c.push.new.self.items ≡ c.loop.list.items ++ c.loop.v ∷ [] = grind (arith, common_steps) in
     record {
       here = get_or_read c.args.lists.now.following.items c.loop.v _ low c.index-v-in-loop.ensures 0

@@ -10,8 +10,4 @@ pub returns-clause-chosen : goal.returns-clause-chosen
 returns-clause-chosen c =
     let same : length c.match_mates.new.round.marks.items ≡ length c.match_waiting.new.round.marks.items =
     omega arith in
-    record {
-      room = c.match_waiting.ensures.room;
-      done = rw (← same) (c.match_waiting.ensures.done _ _ c.match_mates.ensures.done);
-      ended = c.match_waiting.ensures.ended;
-    }
+    assumption (rw same at (c.match_waiting.ensures.done _ _ c.match_mates.ensures.done))

@@ -1,37 +1,19 @@
-use Rattle.std.proofs.Common.{length, refl, ◌∙◌, ap}
+use Rattle.std.proofs.Common.{length, ◌∙◌, ap}
 use Rattle.def_forest.specs.Tables.{forest_of}
-use Rattle.qm_forest.proofs.Expandings.{Expanding, matched, mate_low, link_low, vertex_low, places_low}
-use Rattle.qm_forest.proofs.Expandings.{reached3, tops3, expanded, expanded_valid}
-use Rattle.qm_forest.proofs.Openings.{CanOpen, partable}
-use Rattle.qm_forest.proofs.forest.Forest.expand.Goals.{After-parts-many, After-outermost-last}
+use Rattle.qm_forest.proofs.Expandings.{Expanding, matched, mate_low, link_low, vertex_low, places_low, reached3, tops3}
+use Rattle.qm_forest.proofs.Expandings.{expanded}
+use Rattle.qm_forest.proofs.{Openings.CanOpen, Openings.partable, forest.Forest.expand.Goals.After-parts-many}
+use Rattle.qm_forest.proofs.{forest.Forest.expand.Goals.After-outermost-last}
 use Rattle.qm_forest.proofs.forest.Forest.expand.Goals as goal
 
 ready : (c : After-parts-many) → CanOpen c.args.g.now.graph c.args.self.now c.args.b
-ready c = record {
-  is = c.args.g.now.small;
-  valid = c.requires.valid;
-  high = c.requires.set;
-  inner = c.requires.inner;
-  weightless = c.requires.weightless;
-}
+ready c = assumption
 
 opened : (c : After-outermost-last) → Expanding c.args.g.now.graph c.args.self.now c.open.new.self c.args.b
     c.mate_dart-mate.result c.link-link.result c.outermost-first.result c.outermost-last.result c.parts-many.result
-opened c = record {
-  ready = record {
-    is = c.args.g.now.small;
-    valid = c.requires.valid;
-    high = c.requires.set;
-    inner = c.requires.inner;
-    weightless = c.requires.weightless;
-  };
-  opened = c.open.ensures;
-  mate_is = c.mate_dart-mate.ensures;
-  link_is = c.link-link.ensures;
-  first_is = c.outermost-first.ensures.value ∙ ap (forest_of c.open.new.self).out c.near.ensures;
-  last_is = c.outermost-last.ensures.value ∙ ap (forest_of c.open.new.self).out c.near-2.ensures;
-  many_is = c.parts-many.ensures;
-}
+opened c =
+    let first = c.outermost-first.ensures.value ∙ ap (forest_of c.open.new.self).out c.near.ensures in
+    assumption (c.outermost-last.ensures.value ∙ ap (forest_of c.open.new.self).out c.near-2.ensures)
 
 pub mate_dart-mate-requires : goal.mate_dart-mate-requires
 mate_dart-mate-requires c = matched (ready (goal.at.mate_dart-mate-requires c).After-parts-many)
@@ -67,18 +49,13 @@ pub hang_parts-requires : goal.hang_parts-requires
 hang_parts-requires c = tops3 (opened (goal.at.hang_parts-requires c).After-outermost-last)
     c.match_parts.ensures.seen c.match_parts.ensures.same c.course-course.ensures
 
-pub returns-clause-changed : goal.returns-clause-changed
-returns-clause-changed c = expanded (opened (goal.at.returns-clause-changed c).After-outermost-last)
-    c.match_parts.ensures.seen c.match_parts.ensures.same c.course-course.ensures c.hang_parts.new.self
-    c.hang_parts.ensures.seen c.set_link.ensures.seen
-
-pub returns-clause-valid : goal.returns-clause-valid
-returns-clause-valid c =
+pub returns : goal.returns
+returns c =
     let made = c.match_parts.ensures in
     let hung = c.hang_parts.ensures in
     let linked = c.set_link.ensures in
-    expanded_valid (opened (goal.at.returns-clause-valid c).After-outermost-last) made.seen made.same
-    c.course-course.ensures c.hang_parts.new.self hung.seen linked.seen c.set_link.new.self refl
-    (ap length (linked.same.hand ∙ (hung.same.hand ∙ made.same.hand)))
-    (linked.same.root ∙ (hung.same.root ∙ (made.same.root ∙ (c.open.ensures.root ∙ c.open.ensures.same.root))))
-    (linked.same.fixed ∙ (hung.same.fixed ∙ made.same.fixed))
+    let it = expanded (opened (goal.at.returns c).After-outermost-last) made.seen made.same c.course-course.ensures
+    c.hang_parts.new.self hung.seen c.set_link.new.self linked.seen (ap length (linked.same.hand
+    ∙ (hung.same.hand ∙ made.same.hand))) (linked.same.root ∙ (hung.same.root ∙ (made.same.root
+    ∙ (c.open.ensures.root ∙ c.open.ensures.same.root)))) (linked.same.fixed ∙ (hung.same.fixed ∙ made.same.fixed)) in
+    record { changed = it.0; root = it.1; valid = it.2 }

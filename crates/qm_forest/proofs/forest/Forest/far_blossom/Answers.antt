@@ -1,4 +1,3 @@
-use Rattle.std.proofs.Common.{◌<◌, subst, sym}
 use Rattle.forest_laws.proofs.Graphs.{are_darts}
 use Rattle.qm_forest.proofs.OnWays.{twin_dart}
 use Rattle.qm_forest.proofs.forest.Forest.far_blossom.Goals as goal
@@ -7,6 +6,5 @@ pub near-requires : goal.near-requires
 near-requires c = twin_dart c.args.g.now.small _ c.requires.dart c.twin.ensures
 
 pub outermost-requires : goal.outermost-requires
-outermost-requires c = subst (λ n. c.near.result < n) (sym c.requires.vertices)
-    (subst (λ v. v < c.args.g.now.graph.n) (sym c.near.ensures) ((are_darts c.args.g.now.small.lawful).near_low
-    c.twin.result (twin_dart c.args.g.now.small _ c.requires.dart c.twin.ensures)))
+outermost-requires c = rw (c.requires.vertices, c.near.ensures) ((are_darts c.args.g.now.small.lawful).near_low
+    c.twin.result (twin_dart c.args.g.now.small _ c.requires.dart c.twin.ensures))

@@ -7,8 +7,7 @@ use Rattle.qm_forest.proofs.forest.Forest.grow.Goals as goal
 reach : (c : After-outer_dart-d) → ReachesMatched c.args.g.now.graph c.args.self.now c.outer_dart-d.result
 reach c =
     let it = grows c.args.g.now.small c.requires.valid.valid.feasible c.args.e c.requires.edge c.requires.kind in
-    rw c.outer_dart-d.ensures.value
-    (record { valid = c.requires.valid; reaches = it.0; matched = is_some_ne _ it.1 })
+    rw c.outer_dart-d.ensures.value (record { valid = c.requires.valid; reaches = it.0; matched = is_some_ne _ it.1 })
 
 pub grow_along-requires : goal.grow_along-requires
 grow_along-requires c = reach (goal.at.grow_along-requires c).After-outer_dart-d

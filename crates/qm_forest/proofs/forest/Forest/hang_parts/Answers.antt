@@ -1,7 +1,7 @@
-use Rattle.std.proofs.Common.{◌≡◌, ◌+◌, ◌-◌, suc, get_or, ◌∙◌, ap, sym, arith}
-use Rattle.def_forest.specs.{Forests.walk, Tables.forest_of}
+use Rattle.std.proofs.Common.{add-one, ◌≡◌, ◌+◌, ◌-◌, ◌∙◌, ap, arith}
+use Rattle.def_forest.specs.Tables.{forest_of}
 use Rattle.qm_forest.specs.Parts.{hung}
-use Rattle.qm_forest.proofs.{Hangings.hung_more, Leavings.outermost_kept}
+use Rattle.qm_forest.proofs.Leavings.{hung_more, next_place, outermost_kept}
 use Rattle.qm_forest.proofs.OnWays.{same_nest}
 use Rattle.qm_forest.proofs.forest.Forest.hang_parts.Goals as goal
 
@@ -11,17 +11,14 @@ leader-v-requires c = outermost_kept c.loop-k.invariant.same
 
 pub loop-k-preserved : goal.loop-k-preserved
 loop-k-preserved c =
-    let one : c.loop-k.k + 1 ≡ suc c.loop-k.k = omega arith in
     let back : c.loop-k.k ≡ c.loop-k.k + 1 - 1 = omega arith in
     record {
-      here = c.next-x.ensures ∙ (ap (λ xs. get_or xs c.loop-k.x 0) (c.set_link.ensures.same.after
-          ∙ (c.set_label.ensures.same.after ∙ c.loop-k.invariant.same.after))
-          ∙ (ap (λ x. get_or c.args.self.now.after x 0) c.loop-k.invariant.here
-          ∙ ap (walk (λ k. get_or c.args.self.now.after k 0) c.args.course.front) (sym one)));
-      back = c.loop-k.invariant.here ∙ ap (walk (λ k. get_or c.args.self.now.after k 0) c.args.course.front) back;
+      here = next_place c.args.self.now.after c.args.course.front _ (c.set_link.ensures.same.after
+          ∙ (c.set_label.ensures.same.after ∙ c.loop-k.invariant.same.after)) c.loop-k.invariant.here c.next-x.ensures;
+      back = rw (← back) c.loop-k.invariant.here;
       seen = hung_more _ _ _ _ _ c.loop-k.invariant.seen c.set_label.ensures.seen c.set_link.ensures.seen
           c.leader-v.ensures.value c.turn_label.ensures c.side_dart-d.ensures c.loop-k.invariant.here
-          c.loop-k.invariant.back one;
+          c.loop-k.invariant.back (add-one c.loop-k.k);
       same = same_nest c.loop-k.invariant.same (same_nest c.set_label.ensures.same c.set_link.ensures.same);
     }
 

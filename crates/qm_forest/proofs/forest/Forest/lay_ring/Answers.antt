@@ -1,6 +1,6 @@
 use Rattle.std.proofs.Common.{◌∙◌, ap}
 use Rattle.def_forest.specs.{Darts.darts_of, Tables.forest_of}
-use Rattle.qm_forest.proofs.{Layings.laid_whole, OnWays.near_in}
+use Rattle.qm_forest.proofs.{Increases.laid_whole, OnWays.near_in}
 use Rattle.qm_forest.proofs.forest.Forest.lay_ring.Goals as goal
 
 pub outermost-a-requires : goal.outermost-a-requires

@@ -1,7 +1,6 @@
-use Rattle.std.proofs.Common.{add-one, ◌≡◌, ◌∙◌, ap, suc, arith}
+use Rattle.std.proofs.Common.{add-one, ◌∙◌, ap, arith}
 use Rattle.def_forest.specs.{Darts.darts_of, Darts.far, Tables.forest_of, Ways.dart_or}
-use Rattle.forest_laws.specs.Climbing.{way_of}
-use Rattle.qm_forest.proofs.Layings.{IsLaidPlace, laid_place, laid_more_up, alike_more}
+use Rattle.qm_forest.proofs.Increases.{IsLaidPlace, laid_place, laid_more_up, alike_more}
 use Rattle.qm_forest.proofs.forest.Forest.lay_up.Goals.{After-rise_from-d}
 use Rattle.qm_forest.proofs.forest.Forest.lay_up.Goals as goal
 
@@ -15,9 +14,7 @@ rise_from-d-requires c = (laid_place c.args.g.now.small _ _ _ c.requires.from
     _ (omega (arith, c.loop-test.true)) c.loop.invariant.here _ c.loop.invariant.same).some
 
 pub far_blossom-y-requires : goal.far_blossom-y-requires
-far_blossom-y-requires c =
-    let it = place (goal.at.far_blossom-y-requires c).After-rise_from-d in
-    record { vertices = it.vertices; dart = rw c.rise_from-d.ensures it.dart }
+far_blossom-y-requires c = rw c.rise_from-d.ensures (place (goal.at.far_blossom-y-requires c).After-rise_from-d).dart
 
 pub lay-requires : goal.lay-requires
 lay-requires c = (place (goal.at.lay-requires c).After-rise_from-d).low
@@ -25,8 +22,7 @@ lay-requires c = (place (goal.at.lay-requires c).After-rise_from-d).low
 pub loop-preserved : goal.loop-preserved
 loop-preserved c =
     let it = place (goal.at.loop-preserved c).After-rise_from-d in
-    let next : c.far_blossom-y.result ≡ way_of (darts_of c.args.g.now.graph) (forest_of c.args.self.now) c.args.c
-    (suc c.loop.counter) = c.far_blossom-y.ensures.value
+    let next = c.far_blossom-y.ensures.value
     ∙ (ap (λ d. (forest_of c.loop.self).out (far (darts_of c.args.g.now.graph) d)) c.rise_from-d.ensures ∙ it.next) in
     record {
       here = rw (add-one c.loop.counter) next;

@@ -1,6 +1,6 @@
 use Rattle.std.proofs.Common.{◌≡◌, ◌∙◌, ap}
 use Rattle.def_forest.specs.Tables.{ForestTables}
-use Rattle.qm_forest.proofs.Orders.{distinct, list_made}
+use Rattle.qm_forest.proofs.Waitings.{distinct, list_made}
 use Rattle.qm_forest.proofs.forest.Forest.list_entries.Goals as goal
 
 pub name_sets-requires-clause-distinct : goal.name_sets-requires-clause-distinct

@@ -1,7 +1,7 @@
 use Rattle.std.proofs.Common.{◌≡◌, ◌∷◌, [], ◌++◌, ◌∙◌, ap, arith}
 use Rattle.std.proofs.lemmas.Grind.{common_steps}
 use Rattle.def_forest.specs.Tables.{forest_of}
-use Rattle.qm_forest.proofs.Orders.{weights_more}
+use Rattle.qm_forest.proofs.Waitings.{weights_more}
 use Rattle.qm_forest.proofs.forest.Forest.list_set_weights.Goals as goal
 
 pub loop-k-preserved : goal.loop-k-preserved

@@ -1,8 +1,7 @@
-use Rattle.std.proofs.Common.{◌≡◌, length, ap, subst, sym, arith}
+use Rattle.std.proofs.Common.{◌≡◌, length, ap, arith}
 use Rattle.std.proofs.lemmas.List.Sorted.{length_permutation}
 use Rattle.def_forest.specs.Tables.{ForestTables}
-use Rattle.qm_forest.specs.Rounds.{HasSets}
-use Rattle.qm_forest.proofs.Waitings.{sets_moved, sets_none}
+use Rattle.qm_forest.proofs.{Waitings.sets_moved, Waitings.sets_none}
 use Rattle.qm_forest.proofs.forest.Forest.list_sets.Goals as goal
 
 pub loop-b-init : goal.loop-b-init
@@ -10,26 +9,17 @@ loop-b-init c = record {
   count = (let none : length c.clear.new.self.items ≡ 0 = ap length c.clear.ensures.items in
       omega (arith, c.vertices-b.ensures));
   room = omega arith;
-  has = subst (λ m. HasSets c.args.self.now m c.clear.new.self.items) (sym c.vertices-b.ensures)
-      (sets_none _ _ (ap length c.clear.ensures.items));
+  has = rw c.vertices-b.ensures (sets_none _ _ (ap length c.clear.ensures.items));
 }
 
 pub returns : goal.returns
 returns c =
-    let up : length c.self.inside.rings.up.items ≡ length c.args.self.now.up =
-    ap (λ (t : ForestTables). length t.up) c.self.view_is in
-    let hand : length c.self.inside.handles.hand.items ≡ length c.args.self.now.hand =
-    ap (λ (t : ForestTables). length t.hand) c.self.view_is in
-    let all : c.loop-b.b ≡ length c.args.self.now.up = omega (
-      arith,
-      c.loop-b-test.false,
-      c.loop-b.auto.b-end,
-      c.len-b-end.ensures,
-      c.vertices-b.ensures,
-    ) in
+    let up = ap (λ (t : ForestTables). length t.up) c.self.view_is in
+    let hand = ap (λ (t : ForestTables). length t.hand) c.self.view_is in
+    let all : c.loop-b.b ≡ length c.args.self.now.up =
+    omega (arith, c.loop-b-test.false, c.loop-b.auto.b-end, c.len-b-end.ensures, c.vertices-b.ensures) in
     record {
-      has = sets_moved _
-          c.sort.ensures.moved (subst (λ m. HasSets c.args.self.now m c.loop-b.sets.items) all c.loop-b.invariant.has);
+      has = sets_moved _ c.sort.ensures.moved (rw all at c.loop-b.invariant.has);
       few = (let moved = length_permutation c.loop-b.sets.items c.sort.new.sets.items c.sort.ensures.moved in
           omega (arith, c.loop-b.invariant.count));
       increasing = c.sort.ensures.increasing;

@@ -4,14 +4,8 @@ use Rattle.qm_forest.proofs.forest.Forest.load_across.Goals as goal
 
 pub returns-clause-value : goal.returns-clause-value
 returns-clause-value c =
-    let load = load_across c.requires.ends.valid.valid.outermost c.args.u c.args.v
-    (rw c.requires.ends.valid.vertices at c.requires.ends.vertices.0) (rw c.requires.ends.valid.vertices at
-    c.requires.ends.vertices.1) c.requires.apart in
-    omega (
-      arith,
-      ints,
-      c.potential.ensures.value,
-      c.potential.ensures.small,
-      c.potential-2.ensures.value,
-      c.potential-2.ensures.small,
-    )
+    let load = load_across c.requires.ends.valid.valid.outermost c.args.u c.args.v (rw c.requires.ends.valid.vertices
+    at c.requires.ends.vertices.0) (rw c.requires.ends.valid.vertices at c.requires.ends.vertices.1) c.requires.apart in
+    let first = c.potential.ensures in
+    let second = c.potential-2.ensures in
+    omega (arith, ints)

@@ -29,10 +29,9 @@ pub returns-then-matched-clause-done : goal.returns-then-matched-clause-done
 returns-then-matched-clause-done c =
     let at = goal.at.returns-then-matched-clause-done c in
     let on : matches c.args.self.now c.args.e ≡ true = sym (matches_as at.After-is_mate-matched) ∙ c.if-matched.true in
-    edge_more c.requires.room.laminar c.requires.room.sound.1 _ _ refl c.requires.room.marks
-    c.requires.room.left_out (matches_is c.requires.room.laminar c.requires.room.sound.1 _ on).mate
-    c.pair.ensures.marks (rw (a_is at.After-is_mate-matched, b_is at.After-outermost-b) at c.pair.ensures.left_out)
-    c.requires.begun
+    edge_more c.requires.room.laminar c.requires.room.sound.1 _ _ refl c.requires.room.marks c.requires.room.left_out
+    (matches_is c.requires.room.laminar c.requires.room.sound.1 _ on).mate c.pair.ensures.marks (rw
+    (a_is at.After-is_mate-matched, b_is at.After-outermost-b) at c.pair.ensures.left_out) c.requires.begun
 
 pub returns-else-matched-clause-done : goal.returns-else-matched-clause-done
 returns-else-matched-clause-done c =

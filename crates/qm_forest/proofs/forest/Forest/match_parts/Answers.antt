@@ -1,7 +1,7 @@
-use Rattle.std.proofs.Common.{◌≡◌, ◌+◌, ◌-◌, suc, Some, get_or, refl, ◌∙◌, ap, sym, arith}
+use Rattle.std.proofs.Common.{add-one, ◌≡◌, ◌+◌, ◌-◌, suc, Some, get_or, refl, ◌∙◌, ap, sym, arith}
 use Rattle.def_forest.specs.{Forests.Forest, Forests.walk, Tables.forest_of}
 use Rattle.qm_forest.specs.{Parts.paired, Ties.mated}
-use Rattle.qm_forest.proofs.{Hangings.paired_more, Hangings.place_low, OnWays.same_nest}
+use Rattle.qm_forest.proofs.{Leavings.next_place, Leavings.paired_more, Leavings.place_low, OnWays.same_nest}
 use Rattle.qm_forest.proofs.forest.Forest.match_parts.Goals as goal
 
 pub set_mate-requires : goal.set_mate-requires
@@ -10,26 +10,24 @@ set_mate-requires c = place_low c.loop-k.x _ c.loop-k.invariant.same
 
 pub loop-k-preserved : goal.loop-k-preserved
 loop-k-preserved c =
-    let one : c.loop-k.k + 1 ≡ suc c.loop-k.k = omega arith in
     let back : c.loop-k.k ≡ c.loop-k.k + 1 - 1 = omega arith in
     record {
-      here = c.next-x.ensures ∙ (ap (λ xs. get_or xs c.loop-k.x 0) (c.set_mate.ensures.same.after
-          ∙ c.loop-k.invariant.same.after) ∙ (ap (λ x. get_or c.args.self.now.after x 0) c.loop-k.invariant.here
-          ∙ ap (walk (λ k. get_or c.args.self.now.after k 0) c.args.first) (sym one)));
-      back = c.loop-k.invariant.here ∙ ap (walk (λ k. get_or c.args.self.now.after k 0) c.args.first) back;
-      seen = paired_more _ _ _ c.loop-k.invariant.seen
-          c.set_mate.ensures.seen c.side_dart-d.ensures c.loop-k.invariant.here c.loop-k.invariant.back one;
+      here = next_place c.args.self.now.after c.args.first _
+          (c.set_mate.ensures.same.after ∙ c.loop-k.invariant.same.after) c.loop-k.invariant.here c.next-x.ensures;
+      back = rw (← back) c.loop-k.invariant.here;
+      seen = paired_more _ _ _ c.loop-k.invariant.seen c.set_mate.ensures.seen c.side_dart-d.ensures
+          c.loop-k.invariant.here c.loop-k.invariant.back (add-one c.loop-k.k);
       same = same_nest c.loop-k.invariant.same c.set_mate.ensures.same;
     }
 
 pub set_mate-requires-2 : goal.set_mate-requires-2
 set_mate-requires-2 c = place_low c.args.first _ c.loop-k.invariant.same refl (c.requires.low 0 (omega arith))
 
-pub returns-clause-seen : goal.returns-clause-seen
-returns-clause-seen c =
+pub returns : goal.returns
+returns c =
     let all : c.loop-k.k ≡ c.args.many = omega (arith, c.loop-k-test.false, c.loop-k.auto.k-end) in
-    c.set_mate-2.ensures.seen ∙ ap (λ (f : Forest). mated f c.args.first (Some c.args.mate)) (c.loop-k.invariant.seen
-    ∙ ap (paired (forest_of c.args.self.now) c.args.first) all)
-
-pub returns-clause-same : goal.returns-clause-same
-returns-clause-same c = same_nest c.loop-k.invariant.same c.set_mate-2.ensures.same
+    record {
+      seen = c.set_mate-2.ensures.seen ∙ ap (λ (f : Forest). mated f c.args.first (Some c.args.mate))
+          (c.loop-k.invariant.seen ∙ ap (paired (forest_of c.args.self.now) c.args.first) all);
+      same = same_nest c.loop-k.invariant.same c.set_mate-2.ensures.same;
+    }

@@ -1,8 +1,9 @@
-use Rattle.std.proofs.Common.{◌≡◌, suc, ◌+◌, ◌*◌, ◌/◌, ◌<◌, ◌⊎◌, get_or, refl, ◌∙◌, ap, inl, inr, arith}
+use Rattle.std.proofs.Common.{◌≡◌, suc, ◌+◌, ◌*◌, ◌/◌, ◌<◌, get_or, refl, ◌∙◌, ap, inl, inr, arith}
 use Rattle.def_forest.specs.{Forests.walk, Tables.up_at}
 use Rattle.qm_forest.specs.Rounds.{IsPairing}
 use Rattle.qm_forest.proofs.RingRounds.{ring_begun, ring_ended, ring_turn, turn_entries, turn_pairing}
-use Rattle.qm_forest.proofs.forest.Forest.match_ring.Goals.{After-joint-d, After-parts-end}
+use Rattle.qm_forest.proofs.{forest.Forest.match_ring.Goals.After-joint-d}
+use Rattle.qm_forest.proofs.{forest.Forest.match_ring.Goals.After-parts-end}
 use Rattle.qm_forest.proofs.forest.Forest.match_ring.Goals as goal
 
 parts_is : (c : After-parts-end) → c.parts-end.result
@@ -40,14 +41,11 @@ loop-preserved c =
           c.requires.inner rest c.loop.counter (c.loop.counter + 1) c.loop.invariant.here low c.next-y.ensures
           c.joint-d.ensures refl c.loop.invariant.room.marks c.loop.invariant.room.left_out c.pair.ensures.marks
           c.pair.ensures.left_out (c.loop.invariant.done rest due r));
-      entries = λ b v e. by_turn (turn_entries c.requires.room.laminar c.requires.room.sound.1 c.requires.inner
+      entries = λ b v e. elim (turn_entries c.requires.room.laminar c.requires.room.sound.1 c.requires.inner
           c.loop.round.left_out.items c.loop.counter c.joint-d.result b v c.loop.invariant.here c.next-y.ensures
-          c.loop.invariant.room.left_out c.pair.ensures.left_out it.low_x it.low_y e) (c.loop.invariant.entries b v);
+          c.loop.invariant.room.left_out c.pair.ensures.left_out it.low_x it.low_y e)
+          [ inl x ↦ c.loop.invariant.entries b v x | inr y ↦ inr y ];
     }
-  where
-    by_turn : {P Q R : Type 0} → P ⊎ Q → (P → R ⊎ Q) → R ⊎ Q
-    by_turn (inl x) f = f x
-    by_turn (inr y) f = inr y
 
 pub returns-clause-done : goal.returns-clause-done
 returns-clause-done c rest due r =

@@ -1,7 +1,6 @@
 use Rattle.std.proofs.Common.{◌≡◌, ◌<◌, length, get_or, Some, None, sym, ◌∙◌, inl, inr}
 use Rattle.std.proofs.lemmas.List.{get_or_read}
-use Rattle.qm_forest.proofs.Waitings.{taken, taken_entries}
-use Rattle.qm_forest.proofs.forest.Forest.match_set.Goals.{In-Some}
+use Rattle.qm_forest.proofs.{Waitings.taken, Waitings.taken_entries, forest.Forest.match_set.Goals.In-Some}
 use Rattle.qm_forest.proofs.forest.Forest.match_set.Goals as goal
 
 low : (c : In-Some) → c.args.c < length c.args.round.now.left_out.items

@@ -46,10 +46,8 @@ loop-p-preserved c =
           c.requires.room.sound.1 (climbs_on known c.args.c lv held c.loop-p.invariant.above c.loop-p-test.true) rest
           c.args.v more.0 c.loop-p.invariant.held lv more.1 (top_rank known c.args.c lv held)
           (omega (arith, next, top_rank known c.args.c lv held)) (c.loop-p.invariant.done rest due r)));
-      entries = λ b w e. elim (c.match_ring.ensures.entries b w e) [
-        | inl was ↦ c.loop-p.invariant.entries b w was
-        | inr low ↦ inr (omega (arith, low, next))
-      ];
+      entries = λ b w e. elim (c.match_ring.ensures.entries b w e)
+          [ inl was ↦ c.loop-p.invariant.entries b w was | inr low ↦ inr (omega (arith, low, next)) ];
     }
 
 pub returns-clause-done : goal.returns-clause-done

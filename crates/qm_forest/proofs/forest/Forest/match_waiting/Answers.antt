@@ -1,5 +1,4 @@
-use Rattle.std.proofs.Common.{◌≡◌, suc, ◌+◌, ◌-◌, ◌<◌, length, get_or, sym, ◌∙◌, ap, subst, arith}
-use Rattle.qm_forest.specs.Rounds.{WaitWithin}
+use Rattle.std.proofs.Common.{◌≡◌, suc, ◌+◌, ◌-◌, ◌<◌, length, get_or, sym, ◌∙◌, ap, arith}
 use Rattle.qm_forest.proofs.Waitings.{entry_low, wait_before, wait_begins}
 use Rattle.qm_forest.proofs.forest.Forest.match_waiting.Goals as goal
 
@@ -20,14 +19,9 @@ loop-k-preserved c =
     record {
       room = c.match_set.ensures.room;
       done = λ rest due r. c.match_set.ensures.done rest due (c.loop-k.invariant.done rest due r);
-      later = wait_before _ _
-          _ c.requires.sets (omega arith)
+      later = wait_before _ _ _ c.requires.sets (omega arith)
           (ap (λ j. (get_or c.args.sets.now j (0, 0)).1) (sym place) ∙ sym c.set_at.ensures)
-          (subst (WaitWithin c.loop-k.round.left_out.items c.args.sets.now) (sym one) c.loop-k.invariant.later)
-          c.match_set.ensures.entries (λ b w is. (
-            (round.entry b w is).high,
-            subst (λ m. b < m) c.match_set.ensures.room.left_out
-                (entry_low c.match_set.new.round.left_out.items b w is),
-            (round.entry b w is).live,
-          ));
+          (rw one c.loop-k.invariant.later) c.match_set.ensures.entries (λ b w is. (let it = round.entry b w is in
+          let below = rw c.match_set.ensures.room.left_out at (entry_low c.match_set.new.round.left_out.items b w is) in
+          (it.high, below, it.live)));
     }

@@ -3,18 +3,14 @@ use Rattle.std.specs.Prelude.{is_some}
 use Rattle.def_forest.specs.{Darts.darts_of, Tables.forest_of}
 use Rattle.forest_laws.specs.Climbing.{level_of}
 use Rattle.forest_laws.proofs.Levels.{level_few}
-use Rattle.qm_forest.proofs.Increases.{climbed_named, climbed_nearer, climbed_on, none_of, root_on_both}
-use Rattle.qm_forest.proofs.Increases.{some_of}
+use Rattle.qm_forest.proofs.Increases.{climbed, climbed_nearer, climbed_on, none_of, root_on_both, some_of}
 use Rattle.qm_forest.proofs.forest.Forest.meeting.Goals as goal
 
 pub returns-in-Some-clause-both : goal.returns-in-Some-clause-both
 returns-in-Some-clause-both c =
+    let first = c.loop-right.invariant.climbed in
     let second = c.steps_to.ensures c.in-Some.right c.in-Some.is in
-    record {
-      met = sym c.loop-right.invariant.climbed.way ∙ second.way;
-      left_low = c.loop-right.invariant.climbed.low;
-      right_low = second.low;
-    }
+    record { met = sym first.way ∙ second.way; left_low = first.low; right_low = second.low }
 
 pub overflow_add-left : goal.overflow_add-left
 overflow_add-left c =
@@ -25,7 +21,7 @@ overflow_add-left c =
 
 pub loop-right-smaller : goal.loop-right-smaller
 loop-right-smaller c = climbed_nearer c.args.g.now.small c.requires.valid c.loop-right.at c.loop-right.reach
-    (climbed_named c.args.g.now.small c.requires.valid c.requires.first c.loop-right.invariant.climbed)
+    (climbed c.args.g.now.small c.requires.valid c.requires.first c.loop-right.invariant.climbed).0
     (some_of _ (ap is_some (sym c.rise.ensures.value) ∙ (sym c.is_some.ensures ∙ c.loop-right-test.true)))
     c.climb-next.ensures.way c.climb-next.ensures.steps c.loop-right.invariant.some
 

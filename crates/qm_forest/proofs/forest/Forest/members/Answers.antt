@@ -1,16 +1,23 @@
-use Rattle.std.proofs.Common.{sym, subst, ◌<◌, length}
-use Rattle.def_forest.specs.Tables.{ForestTables}
-use Rattle.qm_forest.specs.Ties.{IsInUse}
-use Rattle.qm_forest.proofs.Copied.{list_at, copied_all}
+use Rattle.std.proofs.Common.{◌∙◌, get_or, arith}
+use Rattle.forest_laws.proofs.Walks.{listed_place}
+use Rattle.qm_forest.proofs.JoinedLists.{list_few}
 use Rattle.qm_forest.proofs.forest.Forest.members.Goals as goal
 
 pub list_members-requires-clause-lists : goal.list_members-requires-clause-lists
-list_members-requires-clause-lists c = list_at c.self.inside c.self.invariant c.args.b
-    (subst (λ (t : ForestTables). c.args.b < length t.up) (sym c.self.view_is) c.requires.used.low)
-    (subst (λ (t : ForestTables). IsInUse (length t.hand) t.parts c.args.b) (sym c.self.view_is) c.requires.used.used)
+list_members-requires-clause-lists c =
+    let sizes = c.self.invariant.sizes in
+    let low = rw (← c.self.view_is) at c.requires.used.low in
+    let list = c.self.invariant.nest.members c.args.b low (rw (← c.self.view_is) at c.requires.used.used) in
+    let many = rw (← sizes.following) at (list_few list) in
+    let below = rw (← sizes.following) at list.low in
+    assumption (rw (← sizes.first) at low, rw (← sizes.rank) at low)
 
 pub returns-clause-all : goal.returns-clause-all
-returns-clause-all c = rw (← c.self.view_is)
-    (copied_all c.self.invariant _ (subst (λ (t : ForestTables). c.args.b < length t.up) (sym c.self.view_is)
-    c.requires.used.low) (subst (λ (t : ForestTables). IsInUse (length t.hand) t.parts c.args.b) (sym c.self.view_is)
-    c.requires.used.used) _ c.list_members.ensures.count c.list_members.ensures.each)
+returns-clause-all c = rw (← c.self.view_is) (λ v l held. (
+    let list = c.self.invariant.nest.members c.args.b (rw (← c.self.view_is) at c.requires.used.low)
+    (rw (← c.self.view_is) at c.requires.used.used) in
+    let lists = c.self.inside.lists in
+    let p = listed_place (λ i. get_or lists.following.items i 0) (get_or lists.first.items c.args.b 0)
+    (get_or lists.rank.items c.args.b 0) v (list.all v l ∙ held) in
+    let made = c.list_members.ensures in
+    (p.0, omega (arith, p.1, made.count), made.each p.0 p.1 ∙ p.2)))

@@ -1,4 +1,4 @@
-use Rattle.std.proofs.Common.{◌≡◌, ◌∙◌, List, get_or, pos, ap, arith, ℤ}
+use Rattle.std.proofs.Common.{◌∙◌, List, get_or, pos, ap, arith, ℤ}
 use Rattle.std.proofs.lemmas.Result.{IfOk-weaker}
 use Rattle.qm_forest.proofs.forest.Forest.new.Goals as goal
 
@@ -6,7 +6,6 @@ pub returns-clause-small : goal.returns-clause-small
 returns-clause-small c = IfOk-weaker c.new_from.result _ _ (λ f weights most above b.
     let least = c.greatest_cost-most.ensures.least most above in
     let small = c.in_ok-lows.ensures.small b in
-    let read : get_or c.deref.result.now b (pos 0) ≡ get_or c.in_ok-lows.lows.items b (pos 0) =
-    ap (λ (xs : List ℤ). get_or xs b (pos 0)) c.deref.ensures.value in
+    let read = ap (λ (xs : List ℤ). get_or xs b (pos 0)) c.deref.ensures.value in
     rw (weights b ∙ read) (omega arith))
     c.new_from.ensures.weights

@@ -3,13 +3,8 @@ use Rattle.qm_forest.proofs.Pairings.{entered_size}
 use Rattle.qm_forest.proofs.forest.Forest.pair.Goals as goal
 
 pub enter-requires-2 : goal.enter-requires-2
-enter-requires-2 c = omega (
-  arith,
-  c.requires.pairing.low_y,
-  c.requires.room.left_out,
-  ap length c.enter.ensures.left_out,
-  entered_size,
-)
+enter-requires-2 c =
+    omega (arith, c.requires.pairing.low_y, c.requires.room.left_out, ap length c.enter.ensures.left_out, entered_size)
 
 pub returns-clause-room : goal.returns-clause-room
 returns-clause-room c = record {

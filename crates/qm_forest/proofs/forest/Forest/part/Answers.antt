@@ -1,8 +1,8 @@
 use Rattle.std.proofs.{Common.◌≡◌, Common.length, Common.get_or, Common.arith}
 use Rattle.std.proofs.lemmas.List.{get_or_read}
 use Rattle.qm_forest.specs.Parts.{IsPartable}
-use Rattle.qm_forest.proofs.{Insides.seen_in, Parted.Parting, Parted.tied_parted, Parted.parted_is}
-use Rattle.qm_forest.proofs.Partings.{Opened, set_live, part_lists, parting, parted_as}
+use Rattle.qm_forest.proofs.Insides.{seen_in}
+use Rattle.qm_forest.proofs.Parted.{Opened, Parting, set_live, part_lists, parted_as, parted_is, tied_parted}
 use Rattle.qm_forest.proofs.forest.Forest.part.Goals.{After-give_set, After-open_ring}
 use Rattle.qm_forest.proofs.forest.Forest.part.Goals as goal
 
@@ -18,20 +18,18 @@ many_is c = get_or_read c.self.inside.rings.parts.items c.args.b _ (rw c.self.in
     c.index-many.ensures 0
 
 opened : (c : After-open_ring) → Opened c.self.inside c.open_ring.new.rings c.args.b
-opened c = record {
-  tied = c.self.invariant;
-  ready = ready c;
-  opened = rw (front_is c, many_is c) at c.open_ring.ensures;
-}
+opened c = assumption (ready c, rw (front_is c, many_is c) at c.open_ring.ensures)
 
-parting_of : (c : After-give_set) → Opened c.self.inside c.open_ring.new.rings c.args.b
+parting_of : (c : After-give_set) (it : Opened c.self.inside c.open_ring.new.rings c.args.b)
     → c.index-front.result.now ≡ get_or c.self.inside.rings.head.items c.args.b 0
     → c.index-many.result.now ≡ get_or c.self.inside.rings.parts.items c.args.b 0
-    → Parting c.self.inside c.hand_over_row.new.handles c.open_ring.new.rings c.give_set.new.pool c.args.b
-parting_of c opened front_is many_is =
+    → Parting it c.hand_over_row.new.handles c.give_set.new.pool
+parting_of c it front_is many_is =
     let n_is : c.len.result ≡ length c.self.inside.handles.hand.items = omega arith in
-    parting opened (rw (c.deref.ensures.value, front_is, many_is) at c.hand_over_row.ensures)
-    (rw n_is at c.give_set.ensures)
+    record {
+      laid = rw (c.deref.ensures.value, front_is, many_is) at c.hand_over_row.ensures;
+      gave = rw n_is at c.give_set.ensures;
+    }
 
 pub hand_over_row-requires : goal.hand_over_row-requires
 hand_over_row-requires c =
@@ -47,10 +45,12 @@ give_set-requires c =
 pub invariant_of-self : goal.invariant_of-self
 invariant_of-self c =
     let at = (goal.at.invariant_of-self c).After-open_ring in
-    tied_parted (parting_of (goal.at.invariant_of-self c).After-give_set (opened at) (front_is at) (many_is at))
+    tied_parted (opened at)
+    (parting_of (goal.at.invariant_of-self c).After-give_set (opened at) (front_is at) (many_is at))
 
 pub returns-clause-parted : goal.returns-clause-parted
 returns-clause-parted c =
     let at = (goal.at.returns-clause-parted c).After-open_ring in
     parted_as c.self.view_is
-    (parted_is (parting_of (goal.at.returns-clause-parted c).After-give_set (opened at) (front_is at) (many_is at)))
+    (parted_is (opened at)
+    (parting_of (goal.at.returns-clause-parted c).After-give_set (opened at) (front_is at) (many_is at)))

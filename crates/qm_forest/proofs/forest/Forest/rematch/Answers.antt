@@ -1,6 +1,6 @@
-use Rattle.std.proofs.Common.{◌≡◌, ◌<◌, ◌*◌, ℕ, length, Some, ◌∙◌, sym, ap}
+use Rattle.std.proofs.Common.{◌≡◌, length, Some, ◌∙◌, sym, ap}
 use Rattle.def_forest.specs.{Darts.darts_of, Darts.far, Forests.Forest, Forests.set_at, Tables.forest_of}
-use Rattle.qm_forest.specs.Ties.{mated, remated}
+use Rattle.qm_forest.specs.{Ties.mated, Ties.remated}
 use Rattle.qm_forest.proofs.OnWays.{way_begins, way_goes_on, way_shorter, way_low, way_ends, old_low, up_low}
 use Rattle.qm_forest.proofs.OnWays.{remated_more, out_same, link_same, same_nest, seen_own}
 use Rattle.qm_forest.proofs.forest.Forest.rematch.Goals.{After-link-up}
@@ -28,9 +28,6 @@ inner_is c = c.far_blossom-inner.ensures.value ∙ out_same (forest_of c.args.se
 up_is : (c : After-link-up) → c.link-up.result ≡ (forest_of c.args.self.now).link c.far_blossom-inner.result
 up_is c = c.link-up.ensures ∙ link_same (forest_of c.args.self.now) _ _ (changed c)
 
-up_is_low : (c : After-link-up) → c.link-up.result < 2 * length c.args.g.now.graph.edges
-up_is_low c = up_low c.loop-old.invariant.way c.in-Some.old (sym c.mate.ensures ∙ c.in-Some.is) (inner_is c) (up_is c)
-
 -- So is the outer blossom on the other side of that one.
 changed_twice : (c : After-link-up) {f : Forest} → f ≡ mated (forest_of c.set_mate-in-Some.new.self)
     c.far_blossom-inner.result (Some c.link-up.result) → f ≡ remated (forest_of c.args.self.now)
@@ -38,33 +35,30 @@ changed_twice : (c : After-link-up) {f : Forest} → f ≡ mated (forest_of c.se
     (Some c.link-up.result))
 changed_twice c = remated_more (forest_of c.args.self.now) _ _ _ (changed c)
 
-at_is : (c : After-link-up) {f : Forest} {at : ℕ} → f ≡ mated (forest_of c.set_mate-in-Some.new.self)
-    c.far_blossom-inner.result (Some c.link-up.result) → at ≡ f.out (far (darts_of c.args.g.now.graph) c.link-up.result)
-    → at ≡ (forest_of c.args.self.now).out (far (darts_of c.args.g.now.graph) c.link-up.result)
-at_is c seen is = is ∙ out_same (forest_of c.args.self.now) _ _ (changed_twice c seen)
-
 pub set_mate-requires-in-Some : goal.set_mate-requires-in-Some
 set_mate-requires-in-Some c = rw c.loop-old.invariant.same.up (way_low c.loop-old.invariant.way)
 
 pub far_blossom-inner-requires : goal.far_blossom-inner-requires
-far_blossom-inner-requires c = record {
-  vertices = ap length (c.set_mate-in-Some.ensures.same.hand ∙ c.loop-old.invariant.same.hand)
-      ∙ c.requires.valid.vertices;
-  dart = old_low c.loop-old.invariant.way c.in-Some.old (sym c.mate.ensures ∙ c.in-Some.is);
-}
+far_blossom-inner-requires c = assumption (
+  ap length (c.set_mate-in-Some.ensures.same.hand ∙ c.loop-old.invariant.same.hand) ∙ c.requires.valid.vertices,
+  old_low c.loop-old.invariant.way c.in-Some.old (sym c.mate.ensures ∙ c.in-Some.is),
+)
 
 pub far_blossom-at-requires : goal.far_blossom-at-requires
-far_blossom-at-requires c = record {
-  vertices = ap length (c.set_mate-in-Some-2.ensures.same.hand
-      ∙ (c.set_mate-in-Some.ensures.same.hand ∙ c.loop-old.invariant.same.hand)) ∙ c.requires.valid.vertices;
-  dart = up_is_low (goal.at.far_blossom-at-requires c).After-link-up;
-}
+far_blossom-at-requires c =
+    let at = (goal.at.far_blossom-at-requires c).After-link-up in
+    assumption (
+      up_low c.loop-old.invariant.way c.in-Some.old (sym c.mate.ensures ∙ c.in-Some.is) (inner_is at) (up_is at),
+      ap length (c.set_mate-in-Some-2.ensures.same.hand ∙ (c.set_mate-in-Some.ensures.same.hand
+          ∙ c.loop-old.invariant.same.hand)) ∙ c.requires.valid.vertices,
+    )
 
 pub loop-old-smaller : goal.loop-old-smaller
 loop-old-smaller c =
     let at = (goal.at.loop-old-smaller c).After-link-up in
+    let seen = changed_twice at c.set_mate-in-Some-2.ensures.seen in
     way_shorter c.loop-old.invariant.way c.in-Some.old (sym c.mate.ensures ∙ c.in-Some.is) (inner_is at) (up_is at)
-    (at_is at c.set_mate-in-Some-2.ensures.seen c.far_blossom-at.ensures.value)
+    (c.far_blossom-at.ensures.value ∙ out_same (forest_of c.args.self.now) _ _ seen)
 
 pub loop-old-preserved : goal.loop-old-preserved
 loop-old-preserved c =
@@ -72,8 +66,8 @@ loop-old-preserved c =
     let seen = changed_twice at c.set_mate-in-Some-2.ensures.seen in
     record {
       way = way_goes_on c.loop-old.invariant.way c.in-Some.old (sym c.mate.ensures ∙ c.in-Some.is) (inner_is at)
-          (up_is at) (at_is at c.set_mate-in-Some-2.ensures.seen c.far_blossom-at.ensures.value) c.twin-next.ensures
-          (ap (λ (f : Forest). f.mate) seen);
+          (up_is at) (c.far_blossom-at.ensures.value ∙ out_same (forest_of c.args.self.now) _ _ seen)
+          c.twin-next.ensures (ap (λ (f : Forest). f.mate) seen);
       seen = seen_own c.args.self.now c.set_mate-in-Some-2.new.self _ seen;
       same = same_nest c.loop-old.invariant.same (same_nest c.set_mate-in-Some.ensures.same
           c.set_mate-in-Some-2.ensures.same);

@@ -1,26 +1,18 @@
-use Rattle.std.proofs.Common.{◌+◌, ◌*◌, ◌≤◌, ◌^◌, ◌∙◌, ap, arith}
+use Rattle.std.proofs.Common.{◌+◌, ◌*◌, ◌≤◌, ◌^◌, arith}
 use Rattle.def_forest.specs.{Darts.darts_of, Tables.forest_of}
 use Rattle.forest_laws.proofs.{Levels.level_few, Writes.outer_named}
-use Rattle.qm_forest.proofs.{EdgeKinds.shrinks, Increases.met_at, Shrinkings.Closing}
-use Rattle.qm_forest.proofs.Shrinkings.{tops_laid, free_ring, shrunk_tables}
-use Rattle.qm_forest.proofs.forest.Forest.shrink.Goals.{After-fork-fork}
+use Rattle.qm_forest.proofs.Shrinkings.{Closing, tops_laid, free_ring, shrunk_tables}
+use Rattle.qm_forest.proofs.{EdgeKinds.shrinks, forest.Forest.shrink.Goals.After-fork-fork}
 use Rattle.qm_forest.proofs.forest.Forest.shrink.Goals as goal
 
 -- The edge closes a cycle.
 closing : (c : After-fork-fork) → Closing c.args.g.now.graph c.args.self.now (2 * c.args.e) c.fork-fork.result.top
     c.fork-fork.result.left c.fork-fork.result.right
 closing c =
-    let s = shrinks c.args.g.now.small c.requires.valid.valid.feasible _ c.requires.edge c.requires.kind in
-    record {
-      is = c.args.g.now.small;
-      valid = c.requires.valid;
-      tight = s.tight;
-      outer_a = s.outer_near;
-      outer_c = s.outer_far;
-      apart = s.apart;
-      met = met_at (c.outermost-a.ensures.value ∙ ap (forest_of c.args.self.now).out c.near.ensures)
-          c.far_blossom-c.ensures.value c.fork-fork.ensures.meeting;
-    }
+    assumption (
+      shrinks c.args.g.now.small c.requires.valid.valid.feasible _ c.requires.edge c.requires.kind,
+      rw (c.outermost-a.ensures.value, c.near.ensures, c.far_blossom-c.ensures.value) at c.fork-fork.ensures.meeting,
+    )
 
 short : (c : After-fork-fork) → c.fork-fork.result.left + c.fork-fork.result.right ≤ 2 ^ 30
 short c =
@@ -30,13 +22,7 @@ short c =
 pub lay_ring-requires : goal.lay_ring-requires
 lay_ring-requires c =
     let it = closing (goal.at.lay_ring-requires c).After-fork-fork in
-    record {
-      valid = c.requires.valid;
-      dart = it.tight.low;
-      first = outer_named it.outer_a;
-      second = outer_named it.outer_c;
-      fork = it.met;
-    }
+    assumption (outer_named it.outer_a, outer_named it.outer_c)
 
 pub overflow_add-fork : goal.overflow_add-fork
 overflow_add-fork c = omega (arith, short (goal.at.overflow_add-fork c).After-fork-fork)
@@ -44,13 +30,14 @@ overflow_add-fork c = omega (arith, short (goal.at.overflow_add-fork c).After-fo
 pub overflow_add-fork-2 : goal.overflow_add-fork-2
 overflow_add-fork-2 c = omega (arith, short (goal.at.overflow_add-fork-2 c).After-fork-fork)
 
-pub close_ring-requires-clause-tops : goal.close_ring-requires-clause-tops
-close_ring-requires-clause-tops c = tops_laid (closing (goal.at.close_ring-requires-clause-tops c).After-fork-fork)
-    c.lay_ring.new.self c.lay_ring.ensures.seen c.lay_ring.ensures.same
-
-pub close_ring-requires-clause-free : goal.close_ring-requires-clause-free
-close_ring-requires-clause-free c = λ left gone same. free_ring (closing (goal.at.close_ring-requires-clause-free
-    c).After-fork-fork) c.lay_ring.ensures.seen c.lay_ring.ensures.same gone same
+pub close_ring-requires : goal.close_ring-requires
+close_ring-requires c =
+    let it = closing (goal.at.close_ring-requires c).After-fork-fork in
+    let laid = c.lay_ring.ensures in
+    record {
+      tops = tops_laid it c.lay_ring.new.self laid.seen laid.same;
+      free = λ left gone same. free_ring it laid.seen laid.same gone same;
+    }
 
 pub returns : goal.returns
 returns c =

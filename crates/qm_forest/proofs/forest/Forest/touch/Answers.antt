@@ -1,12 +1,11 @@
-use Rattle.std.proofs.Common.{◌≡◌, ◌<◌, length, ◌∙◌, subst, sym, false, get_or, arith}
+use Rattle.std.proofs.Common.{◌≡◌, ◌<◌, length, ◌∙◌, false, get_or, arith}
 use Rattle.std.proofs.lemmas.Grind.{common_steps}
-use Rattle.def_forest.specs.Tables.{ForestTables}
-use Rattle.qm_forest.proofs.{Ranges.mark_read, Trails.trail_room, Trails.tied_touched}
+use Rattle.qm_forest.proofs.{Ranges.mark_read, TiedWrites.trail_room, TiedWrites.tied_touched}
 use Rattle.qm_forest.proofs.forest.Forest.touch.Goals.{After-index}
 use Rattle.qm_forest.proofs.forest.Forest.touch.Goals as goal
 
 low : (c : After-index) → c.args.v < length c.self.inside.handles.hand.items
-low c = subst (λ (t : ForestTables). c.args.v < length t.hand) (sym c.self.view_is) c.requires
+low c = rw (← c.self.view_is) at c.requires
 
 mark_is : (c : After-index) → get_or c.self.inside.trail.touched.items c.args.v false ≡ c.index.result.now
 mark_is c = mark_read _ c.args.v false (rw c.self.invariant.sizes.touched (low c)) c.index.ensures
@@ -27,5 +26,4 @@ invariant_of-self c =
 pub returns-else-not-index-clause-here : goal.returns-else-not-index-clause-here
 returns-else-not-index-clause-here c =
     let at = (goal.at.returns-else-not-index-clause-here c).After-index in
-    rw (← c.self.view_is)
-    (c.self.invariant.trail.marked _ (mark_is at ∙ c.if-not-index.false))
+    rw (← c.self.view_is) (c.self.invariant.trail.marked _ (mark_is at ∙ c.if-not-index.false))

@@ -29,8 +29,5 @@ returns-clause-outline c =
     )
 
 pub returns-clause-chosen : goal.returns-clause-chosen
-returns-clause-chosen c = (
-  c.choose.new.round,
-  c.choose.ensures.chosen,
-  rw c.deref-3.ensures.value at c.list_marked.ensures,
-)
+returns-clause-chosen c =
+    (c.choose.new.round, c.choose.ensures.chosen, rw c.deref-3.ensures.value at c.list_marked.ensures)

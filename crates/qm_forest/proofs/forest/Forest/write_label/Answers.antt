@@ -2,9 +2,9 @@ use Rattle.std.proofs.Common.{◌≡◌, ◌≢◌, ◌<◌, ℕ, length, get_or
 use Rattle.std.proofs.lemmas.Int.{ints}
 use mir.Syntax.{w128}
 use mir.Val.{to_z, of_z}
-use Rattle.def_forest.specs.{Steps.weight_change, Tables.ForestTables, Tables.forest_of, Tables.out_of, Tables.label_at}
+use Rattle.def_forest.specs.{Steps.weight_change, Tables.forest_of, Tables.out_of, Tables.label_at}
 use Rattle.def_forest.specs.{declared.kinds.Label.Label, declared.kinds.Label.TheVariants.Outside}
-use Rattle.qm_forest.specs.{Ties.IsOnTrail, Ties.labelled, declared.forest.Forest.TheInside.Inside}
+use Rattle.qm_forest.specs.{Ties.IsOnTrail, declared.forest.Forest.TheInside.Inside}
 use Rattle.qm_forest.proofs.{Insides.seen_in, Ranges.delta_small, Ranges.added_small, Ranges.kept_in_bits}
 use Rattle.qm_forest.proofs.TiedWrites.{exchanged_is, tied_label, seen_label}
 use Rattle.qm_forest.proofs.forest.Forest.write_label.Goals.{After-exchange-off, After-shift_at-after}
@@ -22,41 +22,29 @@ record Places (s : Inside) (v b handle : ℕ) (label new : Label) : Type 0 where
 places : (c : After-shift_at-after) → Places c.self.inside c.args.v c.top_of-b.result c.hand_of-handle.result
     c.label_of.result c.args.label
 places c = record {
-  low = subst (λ (t : ForestTables). c.args.v < length t.hand) (sym c.self.view_is) c.requires.low;
+  low = rw (← c.self.view_is) at c.requires.low;
   b_is = cc;
   h_is = cc;
   label_is = cc;
-  here = subst (λ (t : ForestTables). c.args.label ≢ Outside → IsOnTrail t.trail c.args.v) (sym c.self.view_is)
-      c.requires.here;
+  here = rw (← c.self.view_is) at c.requires.here;
   delta = kept_in_bits _ (omega (arith, delta_small c.self.invariant));
 }
 
 -- With the new label, what is written comes to what was there with the old one.
 written : (c : After-exchange-off) → Places c.self.inside c.args.v c.top_of-b.result c.hand_of-handle.result
-    c.label_of.result c.args.label
-    → (to_z w128 (of_z w128 c.exchange-base.result) +ℤ weight_change c.args.label c.self.inside.weights.delta
-    ≡ (forest_of (seen_in c.self.inside)).weight c.top_of-b.result)
-    × (to_z w128 (of_z w128 c.exchange-off.result) +ℤ weight_change c.args.label c.self.inside.weights.delta
-    ≡ get_or c.self.inside.handles.off.items c.hand_of-handle.result (pos 0)
-    +ℤ weight_change (label_at c.self.inside.tree.label.items c.top_of-b.result) c.self.inside.weights.delta)
-written c at = (
-  exchanged_is _ _ _ c.deref-5.ensures.value c.shift_at-before.ensures.value at.label_is
-      c.shift_at-after.ensures.value at.delta (omega (
-        arith,
-        ints,
-        c.exchange-base.ensures,
-        c.shift_at-before.ensures.small,
-        c.shift_at-after.ensures.small,
-      )),
-  exchanged_is _ _ _ c.deref-6.ensures.value c.shift_at-before.ensures.value at.label_is
-      c.shift_at-after.ensures.value at.delta (omega (
-        arith,
-        ints,
-        c.exchange-off.ensures,
-        c.shift_at-before.ensures.small,
-        c.shift_at-after.ensures.small,
-      )),
-)
+    c.label_of.result c.args.label → (to_z w128 (of_z w128 c.exchange-base.result) +ℤ weight_change c.args.label
+    c.self.inside.weights.delta ≡ (forest_of (seen_in c.self.inside)).weight c.top_of-b.result) × (to_z w128
+    (of_z w128 c.exchange-off.result) +ℤ weight_change c.args.label c.self.inside.weights.delta ≡ get_or
+    c.self.inside.handles.off.items c.hand_of-handle.result (pos 0) +ℤ weight_change (label_at
+    c.self.inside.tree.label.items c.top_of-b.result) c.self.inside.weights.delta)
+written c at =
+    let before = c.shift_at-before.ensures in
+    let after = c.shift_at-after.ensures in (
+      exchanged_is _ _ _ c.deref-5.ensures.value before.value at.label_is after.value at.delta
+          (omega (arith, ints, c.exchange-base.ensures)),
+      exchanged_is _ _ _ c.deref-6.ensures.value before.value at.label_is after.value at.delta
+          (omega (arith, ints, c.exchange-off.ensures)),
+    )
 
 pub shift_at-before-requires : goal.shift_at-before-requires
 shift_at-before-requires c = omega (arith, ints, delta_small c.self.invariant)
@@ -78,9 +66,8 @@ exchange-off-requires-clause-small c =
 pub index_mut-requires : goal.index_mut-requires
 index_mut-requires c =
     let at = places (goal.at.index_mut-requires c).After-shift_at-after in
-    let tied = c.self.invariant in
-    let low = tied.nest.outs _ (tied.nest.hands c.args.v at.low) in
-    omega (arith, at.b_is, tied.sizes.base, c.self.inside.weights.base.ok.0)
+    let low = c.self.invariant.nest.outs _ (c.self.invariant.nest.hands c.args.v at.low) in
+    omega (arith, at.b_is, c.self.invariant.sizes.base, c.self.inside.weights.base.ok.0)
 
 pub index_mut-requires-2 : goal.index_mut-requires-2
 index_mut-requires-2 c =
@@ -91,9 +78,8 @@ index_mut-requires-2 c =
 pub index_mut-requires-3 : goal.index_mut-requires-3
 index_mut-requires-3 c =
     let at = places (goal.at.index_mut-requires-3 c).After-shift_at-after in
-    let tied = c.self.invariant in
-    let low = tied.nest.outs _ (tied.nest.hands c.args.v at.low) in
-    omega (arith, at.b_is, tied.sizes.label, c.self.inside.tree.label.ok.0)
+    let low = c.self.invariant.nest.outs _ (c.self.invariant.nest.hands c.args.v at.low) in
+    omega (arith, at.b_is, c.self.invariant.sizes.label, c.self.inside.tree.label.ok.0)
 
 pub invariant_of-self : goal.invariant_of-self
 invariant_of-self c =
@@ -107,5 +93,4 @@ returns-clause-seen c =
     let steps = goal.at.returns-clause-seen c in
     let at = places steps.After-shift_at-after in
     let w = written steps.After-exchange-off at in
-    seen_label c.self.invariant at.low at.b_is at.h_is c.args.label _ _ at.here w.0 w.1
-    ∙ ap (λ (t : ForestTables). labelled (forest_of t) (out_of t.hand t.top c.args.v) c.args.label) c.self.view_is
+    rw (← c.self.view_is) (seen_label c.self.invariant at.low at.b_is at.h_is c.args.label _ _ at.here w.0 w.1)
