@@ -11,11 +11,11 @@ use Rattle.def_flow.specs.{Gadget.lows, Network.Network, Network.IsWithinBounds,
 use Rattle.def_flow.specs.Admissible.{IsAdmissible, IsLeast, deviation, entries}
 use Rattle.def_flow.specs.{Admissible.side_sum, Units.arcwise, Units.down, Units.on_cost, MatchingGraph.matching_graph}
 use Rattle.def_flow.specs.Accepted.{Certificate, IsAccepted, below_fault, unequal_fault}
-use Rattle.def_flow.specs.Accepted.{refuse_dual, sums_verdict, cert_verdict}
+use Rattle.def_flow.specs.Accepted.{refuse_dual, sums_verdict, cert_verdict, unequal_at}
 use Rattle.def_flow.specs.{declared.cert.CertVerdict.CertVerdict, declared.cert.CertVerdict.TheVariants.Count}
-use Rattle.def_flow.specs.declared.cert.CertVerdict.TheVariants.{Sums}
+use Rattle.def_flow.specs.declared.cert.CertVerdict.TheVariants.{Below, Sums}
 use Rattle.def_flow.specs.{declared.cert.CertVerdict.TheVariants.Yes as Accepted}
-use Rattle.def_matching.specs.{Dual.dual_sum, Dual.verdict, declared.weighted.Verdict.Verdict}
+use Rattle.def_matching.specs.{Dual.dual_sum, Dual.refuse, Dual.verdict, declared.weighted.Verdict.Verdict}
 use Rattle.def_matching.specs.declared.weighted.Verdict.TheVariants.{Yes}
 use Rattle.qm_net.proofs.Balances.{no_side_past}
 use Rattle.gadget_laws.proofs.{Box.own_box, Law.box_deviation, Sound.sound}
@@ -48,29 +48,33 @@ none_of_two : (a b : Option CertVerdict) → first_of_two a b ≡ None → (a �
 none_of_two None b e = (refl, e)
 none_of_two (Some v) b e = absurd cc
 
+admissible : (net : Network) (xs : List ℕ) → IsWithinBounds net → below_fault net xs ≡ None
+    → unequal_fault net xs ≡ None → IsAdmissible net (entries xs)
+admissible net xs bounds below unequal = record {
+  high = λ k l.
+      let h = ltb-false (slice_index xs k) (arc_at net.arcs k).floor (none_below _ (length net.arcs) below k l) in
+      omega (arith, ints, h);
+  balanced = λ v. elim (cases_lt v net.nodes) [
+    | inl l ↦ (Decides-int_eq (side_sum net.arcs (entries xs) true v) (side_sum net.arcs (entries xs) false v)).0
+        (not-false _ (none_below _ net.nodes unequal v l))
+    | inr h ↦ no_side_past net bounds xs true v h ∙ sym (no_side_past net bounds xs false v h)
+  ];
+}
+
 pub no_fault : (net : Network) (xs : List ℕ) → IsWithinBounds net → list_verdict net xs ≡ None
     → (length xs ≡ length net.arcs) × IsAdmissible net (entries xs)
 no_fault net xs bounds none = by_count (length xs == length net.arcs) refl none
   where
-    admissible : (below_verdict net xs ≡ None) × (unequal_verdict net xs ≡ None) → IsAdmissible net (entries xs)
-    admissible parts = record {
-      high = λ k l.
-          let h = ltb-false (slice_index xs k) (arc_at net.arcs k).floor
-          (none_below _ (length net.arcs) (none_of _ (below_fault net xs) parts.0) k l) in
-          omega (arith, ints, h);
-      balanced = λ v. elim (cases_lt v net.nodes) [
-        | inl l ↦ (Decides-int_eq (side_sum net.arcs (entries xs) true v) (side_sum net.arcs (entries xs) false v)).0
-            (not-false _ (none_below _ net.nodes (none_of _ (unequal_fault net xs) parts.1) v l))
-        | inr h ↦ no_side_past net bounds xs true v h ∙ sym (no_side_past net bounds xs false v h)
-      ];
-    }
-
     by_count : (b : Bool) → (length xs == length net.arcs) ≡ b
         → cond (not b) (Some (Count (length net.arcs) (length xs)))
         (first_of_two (below_verdict net xs) (unequal_verdict net xs)) ≡ None → (length xs ≡ length net.arcs)
         × IsAdmissible net (entries xs)
     by_count false e f = absurd cc
-    by_count true e f = (eqb-true (length xs) (length net.arcs) e, admissible (none_of_two _ _ f))
+    by_count true e f =
+        let (below, unequal) = none_of_two _ _ f in (
+          eqb-true (length xs) (length net.arcs) e,
+          admissible net xs bounds (none_of _ (below_fault net xs) below) (none_of _ (unequal_fault net xs) unequal),
+        )
 
 -- An admissible list has no fault.
 admissible_none : (net : Network) (xs : List ℕ) → length xs ≡ length net.arcs → IsAdmissible net (entries xs)
@@ -84,61 +88,27 @@ admissible_none net xs count a =
     (side_sum net.arcs (entries xs) false v)).1 (a.balanced v))) in
     rw (eq-eqb (length xs) (length net.arcs) count, below, unequal) refl
 
--- After a yes the dual has no fault and the sums are equal.
-list_yes : (o : Option CertVerdict) (after : CertVerdict) (d : ℤ) → ((v : CertVerdict) → o ≡ Some v → v ≢ Accepted d)
-    → or_else o after ≡ Accepted d → (o ≡ None) × (after ≡ Accepted d)
-list_yes None after d other e = (refl, e)
-list_yes (Some v) after d other e = absurd (other v refl e)
-
-dual_yes : (v : Verdict) (after : CertVerdict) (d : ℤ) → refuse_dual v after ≡ Accepted d → (s : ℤ) × (v ≡ Yes s)
-    × (after ≡ Accepted d)
-dual_yes (Yes s) after d e = (s, refl, e)
-dual_yes _ after d e = absurd cc
-
-sums_yes : (far sum cost d : ℤ) → checked far sum cost ≡ Accepted d → sum ≡ cost
-sums_yes far sum cost d e = by_test (int_eq sum cost) refl e
-  where
-    by_test : (b : Bool) → int_eq sum cost ≡ b → cond b (Accepted far) (Sums sum cost) ≡ Accepted d → sum ≡ cost
-    by_test true on f = (Decides-int_eq sum cost).0 on
-    by_test false off f = absurd cc
-
-map_other : (f : ℕ → CertVerdict) (o : Option ℕ) (d : ℤ) → ((k : ℕ) → f k ≢ Accepted d) → (v : CertVerdict)
-    → option_map f o ≡ Some v → v ≢ Accepted d
-map_other f None d other v e = absurd cc
-map_other f (Some k) d other v e = λ is. other k ((let g : f k ≡ v = cc in g) ∙ is)
-
-two_other : (a b : Option CertVerdict) (d : ℤ) → ((v : CertVerdict) → a ≡ Some v → v ≢ Accepted d)
-    → ((v : CertVerdict) → b ≡ Some v → v ≢ Accepted d) → (v : CertVerdict) → first_of_two a b ≡ Some v → v ≢ Accepted d
-two_other None b d p q v e = q v e
-two_other (Some u) b d p q v e = p v e
-
--- No fault of a list is a yes.
-list_other : (net : Network) (xs : List ℕ) (d : ℤ) (v : CertVerdict) → list_verdict net xs ≡ Some v → v ≢ Accepted d
-list_other net xs d v e = by_count (length xs == length net.arcs) e
-  where
-    by_count : (b : Bool) → cond (not b) (Some (Count (length net.arcs) (length xs)))
-        (first_of_two (below_verdict net xs) (unequal_verdict net xs)) ≡ Some v → v ≢ Accepted d
-    by_count true f = two_other (below_verdict net xs) (unequal_verdict net xs) d
-        (map_other _ (below_fault net xs) d (λ k g. absurd cc))
-        (map_other _ (unequal_fault net xs) d (λ k g. absurd cc)) v f
-    by_count false f = λ is. (let g : Count (length net.arcs) (length xs) ≡ v = cc in absurd (count_other (g ∙ is)))
-      where
-        count_other : Count (length net.arcs) (length xs) ≡ Accepted d → ⊥
-        count_other h = cc
-
 -- The verdict yes comes exactly where the certificate is accepted.
 pub yes_accepted : (net : Network) (c : Certificate) (d : ℤ) → IsWithinBounds net → cert_verdict net c ≡ Accepted d
     → IsAccepted net c
-yes_accepted net c d bounds says =
-    let list = list_yes (list_verdict net c.x) _ d (list_other net c.x d) (sym (by_list net c) ∙ says) in
-    let dual = dual_yes (verdict (matching_graph net 1 c.x) c.dual) (sums_verdict net c) d list.1 in
-    let fine = no_fault net c.x bounds list.0 in
-    record {
-      count = fine.0;
-      admissible = fine.1;
-      yes = (yes_says (matching_graph net 1 c.x) c.dual dual.0 dual.1).0;
-      sums = sums_yes (pos (deviation net (entries c.x))) (dual_sum c.dual) (pos 2 *ℤ on_cost net 1 c.x) d dual.2;
+yes_accepted net c d bounds says = by_tests (length c.x == length net.arcs) (below_fault net c.x)
+    (unequal_fault net c.x) (verdict (matching_graph net 1 c.x) c.dual)
+    (int_eq (dual_sum c.dual) (pos 2 *ℤ on_cost net 1 c.x)) refl refl refl refl refl says
+  where
+    by_tests : (count : Bool) (below unequal : Option ℕ) (dual : Verdict) (even : Bool)
+        → (length c.x == length net.arcs) ≡ count → below_fault net c.x ≡ below → unequal_fault net c.x ≡ unequal
+        → verdict (matching_graph net 1 c.x) c.dual ≡ dual
+        → int_eq (dual_sum c.dual) (pos 2 *ℤ on_cost net 1 c.x) ≡ even
+        → cond (not count) (Count (length net.arcs) (length c.x)) (refuse below (λ k. Below k (slice_index c.x k))
+        (refuse unequal (unequal_at net c.x) (refuse_dual dual (cond even (Accepted (pos (deviation net (entries c.x))))
+        (Sums (dual_sum c.dual) (pos 2 *ℤ on_cost net 1 c.x)))))) ≡ Accepted d → IsAccepted net c
+    by_tests true None None (Yes s) true e below unequal said equal same = record {
+      count = eqb-true (length c.x) (length net.arcs) e;
+      admissible = admissible net c.x bounds below unequal;
+      yes = (yes_says (matching_graph net 1 c.x) c.dual s said).0;
+      sums = (Decides-int_eq (dual_sum c.dual) (pos 2 *ℤ on_cost net 1 c.x)).0 equal;
     }
+    by_tests _ _ _ _ _ e below unequal said equal same = absurd cc
 
 pub accepted_yes : (net : Network) (c : Certificate) → IsAccepted net c → cert_verdict net c
     ≡ Accepted (pos (deviation net (entries c.x)))

@@ -1,11 +1,11 @@
 -- The verdict on a list by tables of sums.
 use Rattle.std.proofs.Common.{◌≡◌, ℕ, ℤ, ◌<◌, ◌==◌, not, length, List, Option, Some, None, option_map, pos}
-use Rattle.std.proofs.Common.{unsigned_abs, true, false, Bool, refl, sym, ◌∙◌, ap, inl, inr, eq-eqb, ne_eqb, arith}
+use Rattle.std.proofs.Common.{unsigned_abs, true, false, Bool, refl, sym, ◌∙◌, ap, eq-eqb, eqb-true, arith}
 use Rattle.std.proofs.lemmas.Int.{ints}
-use Rattle.std.proofs.lemmas.Bool.{cases_eq}
 use Rattle.std.proofs.lemmas.Bool.Decides.{Decides-int_eq}
 use Rattle.std.specs.{Prelude.slice_index, Ordering.int_eq}
 use Rattle.def_math.specs.Searches.{least}
+use Rattle.sum_laws.proofs.Tests.{same_test}
 use Rattle.qm_dual.proofs.Searches.{least_low, least_same}
 use Rattle.def_flow.specs.{Network.Network, Admissible.entries, Admissible.side_sum, Accepted.unequal_fault}
 use Rattle.def_flow.specs.{declared.cert.CertVerdict.CertVerdict, declared.cert.CertVerdict.TheVariants.Unequal}
@@ -16,17 +16,6 @@ use Rattle.qm_cert.proofs.SideSums.{side_is}
 map_same : (f g : ℕ → CertVerdict) (o : Option ℕ) → ((k : ℕ) → o ≡ Some k → f k ≡ g k) → option_map f o ≡ option_map g o
 map_same f g None same = refl
 map_same f g (Some k) same = ap Some (same k refl)
-
--- Equal numbers, and equal whole numbers.
-same_test : (m n : ℕ) → (m == n) ≡ int_eq (pos m) (pos n)
-same_test m n = elim (cases_eq m n) [
-  | inl e ↦ eq-eqb m n e ∙ sym ((Decides-int_eq (pos m) (pos n)).1 (ap pos e))
-  | inr ne ↦ ne_eqb m n ne
-      ∙ sym (off (int_eq (pos m) (pos n)) (λ on. ne (omega (arith, ints, (Decides-int_eq (pos m) (pos n)).0 on))))
-]
-  where
-    off : (b : Bool) → (b ≡ true → ⊥) → b ≡ false
-    off b no_way = grind (arith)
 
 -- The tables tell the least node with unequal sums, and these.
 pub compared_is : (net : Network) (xs : List ℕ) (plus minus : List ℕ)
@@ -50,7 +39,12 @@ compared_is net xs plus minus p m =
 
     test : (v : ℕ) → v < net.nodes → not (slice_index plus v == slice_index minus v)
         ≡ not (int_eq (side true v) (side false v))
-    test v l = ap not (same_test (slice_index plus v) (slice_index minus v))
+    test v l =
+        let a = slice_index plus v in
+        let b = slice_index minus v in
+        ap not (same_test (a == b) (int_eq (pos a) (pos b))
+        (λ on. (Decides-int_eq (pos a) (pos b)).1 (ap pos (eqb-true a b on)))
+        (λ on. eq-eqb a b (omega (arith, ints, (Decides-int_eq (pos a) (pos b)).0 on))))
         ∙ (ap (λ z. not (int_eq z (pos (slice_index minus v)))) (plus_is v l) ∙ ap (λ z. not (int_eq (side true v) z))
         (minus_is v l))
 

@@ -1,8 +1,6 @@
 mod Climbs
 pub mod Gathered
-mod Meets
 mod OnPaths
-mod Picks
 mod Tallies
 pub mod Weak
 pub mod Verdicts

@@ -12,30 +12,22 @@ least_none p (suc n) off = rw (least_none p n (λ k l. off k (omega arith)), off
 -- The first that passes is found.
 pub least_some : (p : ℕ → Bool) (n j : ℕ) → j < n → ((k : ℕ) → k < j → p k ≡ false) → p j ≡ true → least p n ≡ Some j
 least_some p zero j l off on = absurd (omega arith)
-least_some p (suc n) j l off on = elim (cases_eq j n) [ inl e ↦ at_end e | inr ne ↦ before ne (least_some p n) ]
-  where
-    at_end : j ≡ n → least p (suc n) ≡ Some j
-    at_end e =
-        let none : least p n ≡ None = least_none p n (λ k lk. off k (omega arith)) in
-        let here : p n ≡ true = ap p (sym e) ∙ on in
-        rw (none, here) (ap Some (sym e))
+least_some p (suc n) j l off on = elim (cases_eq j n) [
+  | inl e ↦ rw (least_none p n (λ k lk. off k (omega arith)), ap p (sym e) ∙ on) (ap Some (sym e))
+  | inr ne ↦ rw (least_some p n j (omega arith) off on) refl
+]
 
-    before : (j ≡ n → ⊥) → ((i : ℕ) → i < n → ((k : ℕ) → k < i → p k ≡ false) → p i ≡ true → least p n ≡ Some i)
-        → least p (suc n) ≡ Some j
-    before ne rest =
-        let found : least p n ≡ Some j = rest j (omega arith) off on in
-        rw found refl
+-- What was not found does not pass.
+not_this : (o : Option ℕ) (n : ℕ) (b : Bool) → or_this o n b ≡ None → (o ≡ None) × (b ≡ false)
+not_this None n false none = (refl, refl)
+not_this _ _ _ none = absurd cc
 
 -- Where none is found, none passes.
 pub none_below : (p : ℕ → Bool) (n : ℕ) → least p n ≡ None → (k : ℕ) → k < n → p k ≡ false
 none_below p zero none k l = absurd (omega arith)
-none_below p (suc n) none k l = by_before (least p n) (p n) refl refl none (none_below p n)
-  where
-    by_before : (o : Option ℕ) (b : Bool) → least p n ≡ o → p n ≡ b → or_this o n b ≡ None
-        → (least p n ≡ None → (i : ℕ) → i < n → p i ≡ false) → p k ≡ false
-    by_before None false was is off rest =
-        elim (cases_eq k n) [ inl e ↦ ap p e ∙ is | inr ne ↦ rest was k (omega arith) ]
-    by_before _ _ was is off rest = absurd cc
+none_below p (suc n) none k l =
+    let (before, here) = not_this (least p n) n (p n) none in
+    elim (cases_eq k n) [ inl e ↦ ap p e ∙ here | inr ne ↦ none_below p n before k (omega arith) ]
 
 -- Tests that agree below the bound have the same least number.
 pub least_same : (p q : ℕ → Bool) (n : ℕ) → ((k : ℕ) → k < n → p k ≡ q k) → least p n ≡ least q n

@@ -58,34 +58,25 @@ module _ {faces : Faces} (m : IsManifold faces) {table : RunTable} (are : AreRun
 
   pub rings_are : (v : ℕ) → list_any (λ d. eqb (from_of faces d) v && is_home faces table.run.items whole least d)
       (all_darts faces) ≡ is_least_in_ring faces marks v
-  rings_are v = same_test _ _ to from
-    where
-      to : list_any (λ d. eqb (from_of faces d) v && is_home faces table.run.items whole least d) (all_darts faces)
-          ≡ true → is_least_in_ring faces marks v ≡ true
-      to y =
-          let (d, n, h) = any_where (λ d. eqb (from_of faces d) v && home d) (all_darts faces) y in
-          let r = range_among 0 (darts faces) d n in
-          let l : d < darts faces = omega (arith, r.1) in
-          let p = and_parts (eqb (from_of faces d) v) (home d) h in
-          let at = eqb-true (from_of faces d) v p.0 in
-          let g = round_all m are marks (from_of faces d) (run d) (are.run_low d l) (ring_of d l p.1) (darts faces)
-          (get_or table.at.items d 0) (are.at_low d l) in
-          any_at (goes_round faces marks v (darts faces)) d (fan_of faces v) (in_fan faces v d l at)
-          (ap (λ u. goes_round faces marks u (darts faces) d) (sym at)
-          ∙ (ap (goes_round faces marks (from_of faces d) (darts faces)) (sym (are.stands d l)) ∙ g))
-
-      from : is_least_in_ring faces marks v ≡ true
-          → list_any (λ d. eqb (from_of faces d) v && is_home faces table.run.items whole least d) (all_darts faces)
-          ≡ true
-      from y =
-          let (d, n, g) = any_where (goes_round faces marks v (darts faces)) (fan_of faces v) y in
-          let (l, at) = from_fan faces v d n in
-          let ring = all_round m are marks v (run d) (are.run_low d l) (get_or table.at.items d 0) (are.at_low d l)
-          (ap (goes_round faces marks v (darts faces)) (are.stands d l) ∙ g) in
-          any_at (λ x. eqb (from_of faces x) v && home x) d (all_darts faces)
-          (among_range 0 (darts faces) d (omega arith) (omega (arith, l)))
-          (and_from _ _ (eq-eqb _ _ at) (home_of d l (subst (λ (u : ℕ). IsRing faces table.run.items
-          (nth_run are.lists (run d)) marks u (run d)) (sym at) ring)))
+  rings_are v = same_test _ _
+      (λ y. let (d, n, h) = any_where (λ d. eqb (from_of faces d) v && home d) (all_darts faces) y in
+      let r = range_among 0 (darts faces) d n in
+      let l : d < darts faces = omega (arith, r.1) in
+      let p = and_parts (eqb (from_of faces d) v) (home d) h in
+      let at = eqb-true (from_of faces d) v p.0 in
+      let g = round_all m are marks (from_of faces d) (run d) (are.run_low d l) (ring_of d l p.1) (darts faces)
+      (get_or table.at.items d 0) (are.at_low d l) in
+      any_at (goes_round faces marks v (darts faces)) d (fan_of faces v) (in_fan faces v d l at)
+      (ap (λ u. goes_round faces marks u (darts faces) d) (sym at)
+      ∙ (ap (goes_round faces marks (from_of faces d) (darts faces)) (sym (are.stands d l)) ∙ g)))
+      (λ y. let (d, n, g) = any_where (goes_round faces marks v (darts faces)) (fan_of faces v) y in
+      let (l, at) = from_fan faces v d n in
+      let ring = all_round m are marks v (run d) (are.run_low d l) (get_or table.at.items d 0) (are.at_low d l)
+      (ap (goes_round faces marks v (darts faces)) (are.stands d l) ∙ g) in
+      any_at (λ x. eqb (from_of faces x) v && home x) d (all_darts faces)
+      (among_range 0 (darts faces) d (omega arith) (omega (arith, l)))
+      (and_from _ _ (eq-eqb _ _ at) (home_of d l (subst (λ (u : ℕ). IsRing faces table.run.items
+      (nth_run are.lists (run d)) marks u (run d)) (sym at) ring))))
 
 -- The same of the tables as the calls hand them on.
 pub rings_told : {faces : Faces} (m : IsManifold faces) {table : RunTable} (are : AreRuns faces table)

@@ -14,27 +14,7 @@ use Rattle.mesh_laws.proofs.Vertices.{all_below}
 use Rattle.motion_laws.proofs.Marks.{none_on}
 use Rattle.site_laws.proofs.Sources.{start_in, start_of}
 
--- A dart has its mark where a rider starts without marks.
-begun_is : (faces : Faces) (starts : List ℕ) (none begun : List Bool) (d : ℕ) → d < darts faces
-    → starts ≡ start_darts faces → none ≡ replicate (darts faces) false
-    → ((x : ℕ) → is_on begun x ≡ cond (is_among x starts) true (is_on none x))
-    → is_on begun d ≡ is_start faces (seeds faces) d
-begun_is faces starts none begun d l s e each =
-    each d ∙ (ap (λ (xs : List Bool). cond (is_among d starts) true (is_on xs d)) e
-    ∙ (ap (cond (is_among d starts) true) (none_on (darts faces) d) ∙ (plain (is_among d starts)
-    ∙ (ap (is_among d) s ∙ same_test _ _ (λ m. (start_of faces d m).1) (λ y. start_in faces d l y)))))
-  where
-    plain : (b : Bool) → cond b true false ≡ b
-    plain true = refl
-    plain false = refl
-
-break_is : (faces : Faces) (marks breaks : List Bool) (d : ℕ) → d < darts faces
-    → breaks ≡ map (is_break faces marks) (all_vertices faces)
-    → is_on breaks (from_of faces d) ≡ is_break faces marks (from_of faces d)
-break_is faces marks breaks d l e = ap (λ (xs : List Bool). is_on xs (from_of faces d)) e
-    ∙ get_or-map-range_with_len (is_break faces marks) 0 (vertex_count faces) (from_of faces d) (from_of faces d) false
-    (all_below faces d l) (omega arith)
-
+-- A rider starts at a dart where the tables say so.
 pub starts_told : (faces : Faces) (starts : List ℕ) (marks none begun breaks : List Bool) (d : ℕ)
     (one two three result : Bool) → d < darts faces → starts ≡ start_darts faces → none ≡ replicate (darts faces) false
     → ((x : ℕ) → is_on begun x ≡ cond (is_among x starts) true (is_on none x))
@@ -42,11 +22,19 @@ pub starts_told : (faces : Faces) (starts : List ℕ) (marks none begun breaks :
     → one ≡ is_on begun d → two ≡ (is_some (twin_of faces d) && is_on breaks (from_of faces d)) → three ≡ is_on marks d
     → result ≡ ((one || two) && not three) → result ≡ (is_origin faces marks d && not (is_on marks d))
 starts_told faces starts marks none begun breaks d one two three result l s e each b is_one is_two is_three is =
-    is ∙ rw (
-      is_one ∙ begun_is faces starts none begun d l s e each,
-      is_two ∙ ap (λ x. is_some (twin_of faces d) && x) (break_is faces marks breaks d l b),
-      is_three,
-    ) refl
+    let here : is_on begun d ≡ is_start faces (seeds faces) d = each d
+    ∙ (ap (λ (xs : List Bool). cond (is_among d starts) true (is_on xs d)) e
+    ∙ (ap (cond (is_among d starts) true) (none_on (darts faces) d) ∙ (plain (is_among d starts)
+    ∙ (ap (is_among d) s ∙ same_test _ _ (λ m. (start_of faces d m).1) (λ y. start_in faces d l y))))) in
+    let broken : is_on breaks (from_of faces d) ≡ is_break faces marks (from_of faces d) =
+    ap (λ (xs : List Bool). is_on xs (from_of faces d)) b
+    ∙ get_or-map-range_with_len (is_break faces marks) 0 (vertex_count faces) (from_of faces d) (from_of faces d) false
+    (all_below faces d l) (omega arith) in
+    is ∙ rw (is_one ∙ here, is_two ∙ ap (λ x. is_some (twin_of faces d) && x) broken, is_three) refl
+  where
+    plain : (b : Bool) → cond b true false ≡ b
+    plain true = refl
+    plain false = refl
 
 -- A range filtered with one number more.
 pub filter_on : (p : ℕ → Bool) (n : ℕ) → p n ≡ true

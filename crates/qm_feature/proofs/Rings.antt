@@ -68,25 +68,14 @@ module _ {faces : Faces} (m : IsManifold faces) where
           (long_p.low i (omega (arith, l))) (long_q.straight j h) (long_p.straight i l ∙ ap Some (sym e)),
     )
 
-    -- From place i on, and back from it.
-    held_on : (i n : ℕ) → i + n < length p → HasDart q (get_or p i 0) → HasDart q (get_or p (i + n) 0)
-    held_on i zero l h = let s : i + 0 ≡ i = omega arith in rw s h
-    held_on i (suc n) l h = let s : i + suc n ≡ suc (i + n) = omega arith in
-        rw s (after_held (i + n) (omega (arith, l)) (held_on i n (omega (arith, l)) h))
+    -- Back to the first dart, and on from it.
+    to_first : (i : ℕ) → i < length p → HasDart q (get_or p i 0) → HasDart q (get_or p 0 0)
+    to_first zero l h = h
+    to_first (suc i) l h = to_first i (omega (arith, l)) (before_held i l h)
 
-    held_back : (i n : ℕ) → i + n < length p → HasDart q (get_or p (i + n) 0) → HasDart q (get_or p i 0)
-    held_back i zero l h = let s : i + 0 ≡ i = omega arith in subst (λ (k : ℕ). HasDart q (get_or p k 0)) s h
-    held_back i (suc n) l h = let s : i + suc n ≡ suc (i + n) = omega arith in held_back i n (omega (arith, l))
-        (before_held (i + n) (omega (arith, l)) (subst (λ (k : ℕ). HasDart q (get_or p k 0)) s h))
-
-    all_held : (i j k : ℕ) → i < length p → j < length q → get_or p i 0 ≡ get_or q j 0 → k < length p
-        → HasDart q (get_or p k 0)
-    all_held i j k li lj e lk = elim (cases_lt i k) [
-      | inl less ↦ let s : i + (k - i) ≡ k = omega (arith, less) in subst (λ (x : ℕ). HasDart q (get_or p x 0)) s
-          (held_on i (k - i) (omega (arith, s, lk)) (j, lj, sym e))
-      | inr more ↦ let s : k + (i - k) ≡ i = omega (arith, more) in held_back k (i - k) (omega (arith, s, li))
-          (subst (λ (x : ℕ). HasDart q (get_or p x 0)) (sym s) (j, lj, sym e))
-    ]
+    from_first : (k : ℕ) → k < length p → HasDart q (get_or p 0 0) → HasDart q (get_or p k 0)
+    from_first zero l h = h
+    from_first (suc k) l h = after_held k l (from_first k (omega (arith, l)) h)
 
   module _ {table : RunTable} (are : AreRuns faces table) where
     -- The run of a dart, and its place there.
@@ -100,25 +89,22 @@ module _ {faces : Faces} (m : IsManifold faces) where
         → j < length (nth_run are.lists r) → get_or (nth_run are.lists q) i 0 ≡ get_or (nth_run are.lists r) j 0 → ⊥
     clash q r i j less l li lj e =
         let (k, lk, below) = are.increasing q r less l in
-        let h = all_held (are.runs q (omega (arith, less, l))) (are.runs r l) i j k li lj e lk in
+        let long = are.runs q (omega (arith, less, l)) in
+        let h = from_first long (are.runs r l) k lk (to_first long (are.runs r l) i li (j, lj, sym e)) in
         absurd (omega (arith, h.2, below h.0 h.1))
 
     -- A dart stands in one run alone.
     one_run : (r k : ℕ) → r < length are.lists → k < length (nth_run are.lists r)
         → run_of (get_or (nth_run are.lists r) k 0) ≡ r
-    one_run r k l h = at (get_or (nth_run are.lists r) k 0) refl ((are.runs r l).low k h)
-      where
-        at : (d : ℕ) → get_or (nth_run are.lists r) k 0 ≡ d → get_or (nth_run are.lists r) k 0 < darts faces
-            → run_of d ≡ r
-        at d e less =
-            let low : d < darts faces = omega (arith, e) in
-            elim (cases_order (run_of d) r) [
-              | inl s ↦ s
-              | inr (inl less) ↦ absurd (clash (run_of d) r (place_of d) k less l (are.at_low d low) h
-                  (are.stands d low ∙ sym e))
-              | inr (inr more) ↦ absurd (clash r (run_of d) k (place_of d) more (are.run_low d low) h (are.at_low d low)
-                  (e ∙ sym (are.stands d low)))
-            ]
+    one_run r k l h =
+        let d = get_or (nth_run are.lists r) k 0 in
+        let low = (are.runs r l).low k h in
+        elim (cases_order (run_of d) r) [
+          | inl s ↦ s
+          | inr (inl less) ↦ absurd (clash (run_of d) r (place_of d) k less l (are.at_low d low) h (are.stands d low))
+          | inr (inr more) ↦ absurd (clash r (run_of d) k (place_of d) more (are.run_low d low) h (are.at_low d low)
+              (sym (are.stands d low)))
+        ]
 
     module _ (marks : List Bool) (v r : ℕ) (l : r < length are.lists) where
       abbrev run : List ℕ
@@ -180,16 +166,14 @@ module _ {faces : Faces} (m : IsManifold faces) where
           at (Some y) is h = (y, is, h)
 
       -- A walk from place p goes along the run.
-      along : (p n k : ℕ) → p + n < length run → Goes (n + k) (dart p) → Goes k (dart (p + n))
-      along p zero k h g = let s : p + 0 ≡ p = omega arith in let t : 0 + k ≡ k = omega arith in
-          rw s (ap (λ i. goes_round faces marks v i (dart p)) (sym t) ∙ g)
-      along p (suc n) k h g =
-          let s : p + suc n ≡ suc (p + n) = omega arith in
-          let t : n + suc k ≡ suc n + k = omega arith in
-          let w = walk_next k (dart (p + n)) (along p n (suc k) (omega (arith, h))
-          (ap (λ i. goes_round faces marks v i (dart p)) t ∙ g)) in
-          let is = same_Some _ _ (sym (long.straight (p + n) (omega (arith, h))) ∙ w.1) in
-          rw s (ap (goes_round faces marks v k) is ∙ w.2)
+      along : (n p q k w : ℕ) → p + n ≡ q → w ≡ n + k → q < length run → Goes w (dart p) → Goes k (dart q)
+      along zero p q k w is many h g = let s : q ≡ p = omega arith in let t : k ≡ w = omega arith in rw (s, t) g
+      along (suc n) p q k zero is many h g = absurd (omega arith)
+      along (suc n) p q k (suc w) is many h g =
+          let step = walk_next w (dart p) g in
+          let same = same_Some _ _ (sym (long.straight p (omega (arith, is, h))) ∙ step.1) in
+          along n (suc p) q k w (omega (arith, is)) (omega (arith, many)) h
+          (ap (goes_round faces marks v w) same ∙ step.2)
 
       -- The run is no longer than the mesh.
       few : length run ≤ darts faces
@@ -210,11 +194,8 @@ module _ {faces : Faces} (m : IsManifold faces) where
         left = darts faces - (length run - p)
 
         to_last : Goes (suc left) (dart last)
-        to_last =
-            let s : p + (last - p) ≡ last = omega (arith, h) in
-            let t : (last - p) + suc left ≡ darts faces = omega (arith, h, few) in
-            subst (λ (x : ℕ). Goes (suc left) (dart x)) s (along p (last - p) (suc left) (omega (arith, s, h))
-            (ap (λ i. goes_round faces marks v i (dart p)) t ∙ g))
+        to_last = along (last - p) p last (suc left) (darts faces) (omega (arith, h)) (omega (arith, h, few))
+            (omega (arith, h)) g
 
         end : (y : ℕ) × (follower faces (dart last) ≡ Some y) × Goes left y
         end = walk_next left (dart last) to_last
@@ -231,20 +212,10 @@ module _ {faces : Faces} (m : IsManifold faces) where
 
         each : (k : ℕ) → k < length run → (is_on marks (dart k) ≡ true) × (v ≤ from_of faces (dart k))
         each k lk = elim (cases_lt k p) [
-          | inl less ↦
-              let start : 0 + k ≡ k = omega arith in
-              let t : k + suc (left - suc k) ≡ left = omega (arith, less, h, few) in
-              walk_here (left - suc k) (dart k) (subst (λ (x : ℕ). Goes (suc (left - suc k)) (dart x)) start
-              (along 0 k (suc (left - suc k)) (omega (arith, lk))
-              (ap (λ i. goes_round faces marks v i (first_dart run)) t
-              ∙ (ap (goes_round faces marks v left) (sym first) ∙ end.2))))
-          | inr more ↦
-              let s : p + (k - p) ≡ k = omega (arith, more) in
-              let t : (k - p) + suc (darts faces - suc (k - p)) ≡ darts faces = omega (arith, more, lk, few) in
-              walk_here (darts faces - suc (k - p)) (dart k)
-              (subst (λ (x : ℕ). Goes (suc (darts faces - suc (k - p))) (dart x)) s
-              (along p (k - p) (suc (darts faces - suc (k - p))) (omega (arith, s, lk))
-              (ap (λ i. goes_round faces marks v i (dart p)) t ∙ g)))
+          | inl less ↦ walk_here (left - suc k) (dart k) (along k 0 k (suc (left - suc k)) left (omega arith)
+              (omega (arith, less, h, few)) lk (ap (goes_round faces marks v left) (sym first) ∙ end.2))
+          | inr more ↦ walk_here (darts faces - suc (k - p)) (dart k) (along (k - p) p k
+              (suc (darts faces - suc (k - p))) (darts faces) (omega (arith, more)) (omega (arith, more, lk, few)) lk g)
         ]
 
         of_dart : (d : ℕ) → d < darts faces → run_of d ≡ r → (is_on marks d ≡ true) × (v ≤ from_of faces d)

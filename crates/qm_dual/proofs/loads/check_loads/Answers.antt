@@ -6,40 +6,38 @@ use lib.Signed.{mag}
 use Rattle.def_matching.specs.{declared.weighted.WEdge.WEdge, Matching.WeightedGraph, Matching.edge_at}
 use Rattle.def_matching.specs.Dual.{DualLists, dual, load}
 use Rattle.qm_dual.proofs.Verdicts.{short_found, none_short}
+use Rattle.qm_dual.proofs.loads.check_loads.Goals.{After-from-cost}
 use Rattle.qm_dual.proofs.loads.check_loads.Goals as goal
 
 plain : (z : ℤ) → mag z < 2 ^ 127 → to_z w128 (of_z w128 z) ≡ z
 plain z small = to_z-of_z w128 z (record { sfits = small })
 
-pub returns-then-load-cost : goal.returns-then-load-cost
-returns-then-load-cost c =
+-- Twice the cost and the load, as they are computed.
+told : (c : After-from-cost) → (to_z w128 (of_z w128 (pos 2 *ℤ to_z w128 (of_z w128 c.from-cost.result)))
+    ≡ pos 2 *ℤ (edge_at c.args.judged.now.g.now.graph c.loop-k.k).cost)
+    × (to_z w128 (of_z w128 c.load_of-load.result) ≡ load c.args.judged.now.g.now.graph.n
+    (dual c.args.judged.now.d.whole.now) (edge_at c.args.judged.now.g.now.graph c.loop-k.k))
+told c =
     let g : WeightedGraph = c.args.judged.now.g.now.graph in
     let d : DualLists = dual c.args.judged.now.d.whole.now in
-    let fits : FitsSigned w64 c.edge-edge.result.cost = search rules in
-    let cost : to_z w128 (of_z w128 (pos 2 *ℤ to_z w128 (of_z w128 c.from-cost.result)))
-    ≡ pos 2 *ℤ (edge_at g c.loop-k.k).cost =
-    omega (arith, ints, c.from-cost.ensures, ap (λ (e : WEdge). e.cost) c.edge-edge.ensures.value) in
-    let sum : to_z w128 (of_z w128 c.load_of-load.result) ≡ load g.n d
-    (edge_at g c.loop-k.k) = plain c.load_of-load.result c.load_of-load.type_inv
-    ∙ (c.load_of-load.ensures ∙ (ap (λ n. load n d c.edge-edge.result) c.args.judged.now.over
-    ∙ ap (load g.n d) c.edge-edge.ensures.value)) in
-    short_found g d c.loop-k.k
+    let fits : FitsSigned w64 c.edge-edge.result.cost = search rules in (
+      omega (arith, ints, c.from-cost.ensures, ap (λ (e : WEdge). e.cost) c.edge-edge.ensures.value),
+      plain c.load_of-load.result c.load_of-load.type_inv
+          ∙ (c.load_of-load.ensures ∙ (ap (λ n. load n d c.edge-edge.result) c.args.judged.now.over
+          ∙ ap (load g.n d) c.edge-edge.ensures.value)),
+    )
+
+pub returns-then-load-cost : goal.returns-then-load-cost
+returns-then-load-cost c =
+    let (cost, sum) = told (goal.at.returns-then-load-cost c).After-from-cost in
+    short_found c.args.judged.now.g.now.graph (dual c.args.judged.now.d.whole.now) c.loop-k.k
     (to_z w128 (of_z w128 c.load_of-load.result))
     (to_z w128 (of_z w128 (pos 2 *ℤ to_z w128 (of_z w128 c.from-cost.result))))
     (omega (arith, c.edge_count-k-end.ensures.value)) c.loop-k.invariant sum cost c.if-load-cost.true
 
 pub loop-k-preserved : goal.loop-k-preserved
 loop-k-preserved c =
-    let g : WeightedGraph = c.args.judged.now.g.now.graph in
-    let d : DualLists = dual c.args.judged.now.d.whole.now in
-    let fits : FitsSigned w64 c.edge-edge.result.cost = search rules in
-    let cost : to_z w128 (of_z w128 (pos 2 *ℤ to_z w128 (of_z w128 c.from-cost.result)))
-    ≡ pos 2 *ℤ (edge_at g c.loop-k.k).cost =
-    omega (arith, ints, c.from-cost.ensures, ap (λ (e : WEdge). e.cost) c.edge-edge.ensures.value) in
-    let sum : to_z w128 (of_z w128 c.load_of-load.result) ≡ load g.n d
-    (edge_at g c.loop-k.k) = plain c.load_of-load.result c.load_of-load.type_inv
-    ∙ (c.load_of-load.ensures ∙ (ap (λ n. load n d c.edge-edge.result) c.args.judged.now.over
-    ∙ ap (load g.n d) c.edge-edge.ensures.value)) in
+    let (cost, sum) = told (goal.at.loop-k-preserved c).After-from-cost in
     below_more _ _ c.loop-k.invariant (rw (← cost, ← sum) c.if-load-cost.false)
 
 pub returns : goal.returns

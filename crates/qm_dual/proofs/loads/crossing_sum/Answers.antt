@@ -1,48 +1,31 @@
-use Rattle.std.proofs.Common.{ℕ, ◌*◌, ◌^◌, ◌≤◌, length, unsigned_abs, ◌∙◌, ap, arith}
+use Rattle.std.proofs.Common.{◌*◌, ◌^◌, ◌≤◌, unsigned_abs, ◌∙◌, arith}
 use Rattle.std.proofs.lemmas.Int.{ints}
 use Rattle.def_matching.specs.Dual.{dual}
-use Rattle.qm_dual.specs.Nest.{named_sum}
-use Rattle.qm_dual.proofs.Gathered.{named_small, apart_sums, plain_difference, abs_difference}
+use Rattle.qm_dual.proofs.Gathered.{named_small, apart_sums, plain_difference}
 use Rattle.qm_dual.proofs.loads.crossing_sum.Goals as goal
-
--- The sum of each named set is small.
-small : (c : goal.After-sum_at-2) (entry : ℕ) → entry ≤ length (dual c.args.d.now.whole.now).z
-    → unsigned_abs (named_sum c.args.tables.now.sums.items entry) ≤ length (dual c.args.d.now.whole.now).z * 10 ^ 18
-small c = named_small c.args.d.now.n (dual c.args.d.now.whole.now) c.args.tables.now.sums.items c.requires.tables.summed
-    c.args.d.now.small.small_z
-
-pub overflow_add-result : goal.overflow_add-result
-overflow_add-result c = omega (
-  arith,
-  ints,
-  small c c.args.a c.requires.entries.0,
-  small c c.args.b c.requires.entries.1,
-)
-
-pub overflow_add-result-2 : goal.overflow_add-result-2
-overflow_add-result-2 c = omega (arith, ints, small c c.meeting.result c.meeting.ensures.low)
-
-pub overflow_sub-result : goal.overflow_sub-result
-overflow_sub-result c = omega (
-  arith,
-  ints,
-  small c c.args.a c.requires.entries.0,
-  small c c.args.b c.requires.entries.1,
-  small c c.meeting.result c.meeting.ensures.low,
-)
 
 -- The sums of both entries and of the set around both are small.
 sums : (c : goal.After-sum_at-2) → (unsigned_abs c.sum_at.result ≤ 2 ^ 30 * 10 ^ 18)
     × (unsigned_abs c.sum_at-2.result ≤ 2 ^ 30 * 10 ^ 18) × (unsigned_abs c.sum_at-both.result ≤ 2 ^ 30 * 10 ^ 18)
-sums c = (
-  omega (arith, small c c.args.a c.requires.entries.0, ap unsigned_abs c.sum_at.ensures),
-  omega (arith, small c c.args.b c.requires.entries.1, ap unsigned_abs c.sum_at-2.ensures),
-  omega (arith, small c c.meeting.result c.meeting.ensures.low, ap unsigned_abs c.sum_at-both.ensures),
-)
+sums c =
+    let small = named_small c.args.d.now.n (dual c.args.d.now.whole.now) c.args.tables.now.sums.items
+    c.requires.tables.summed c.args.d.now.small in (
+      small c.args.a c.requires.entries.0 c.sum_at.result c.sum_at.ensures,
+      small c.args.b c.requires.entries.1 c.sum_at-2.result c.sum_at-2.ensures,
+      small c.meeting.result c.meeting.ensures.low c.sum_at-both.result c.sum_at-both.ensures,
+    )
+
+pub overflow_add-result : goal.overflow_add-result
+overflow_add-result c = omega (arith, ints, sums c)
+
+pub overflow_add-result-2 : goal.overflow_add-result-2
+overflow_add-result-2 c = omega (arith, ints, sums c)
+
+pub overflow_sub-result : goal.overflow_sub-result
+overflow_sub-result c = omega (arith, ints, sums c)
 
 pub returns-clause-value : goal.returns-clause-value
-returns-clause-value c =
-    plain_difference c.sum_at.result c.sum_at-2.result c.sum_at-both.result (sums c).0 (sums c).1 (sums c).2
+returns-clause-value c = (plain_difference c.sum_at.result c.sum_at-2.result c.sum_at-both.result (sums c)).0
     ∙ omega (
       arith,
       ints,
@@ -56,5 +39,4 @@ returns-clause-value c =
 
 pub returns-clause-small : goal.returns-clause-small
 returns-clause-small c =
-    rw (plain_difference c.sum_at.result c.sum_at-2.result c.sum_at-both.result (sums c).0 (sums c).1 (sums c).2)
-    (abs_difference c.sum_at.result c.sum_at-2.result c.sum_at-both.result (sums c).0 (sums c).1 (sums c).2)
+    let plain = plain_difference c.sum_at.result c.sum_at-2.result c.sum_at-both.result (sums c) in rw plain.0 plain.1

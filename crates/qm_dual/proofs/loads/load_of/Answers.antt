@@ -1,4 +1,4 @@
-use Rattle.std.proofs.Common.{◌≡◌, ℕ, ◌^◌, ◌<◌, pos, unsigned_abs, slice_index, slice_index_or, ◌∙◌, ap, arith}
+use Rattle.std.proofs.Common.{◌≡◌, ℕ, ◌<◌, pos, length, slice_index, ◌∙◌, ap, arith}
 use Rattle.std.proofs.lemmas.Int.{ints}
 use Rattle.std.proofs.lemmas.List.{get_or_read}
 use Rattle.def_matching.specs.Dual.{DualLists, dual}
@@ -11,11 +11,8 @@ returns c =
     let d : DualLists = dual c.args.d.now.whole.now in
     let u : ℕ = c.args.edge.now.u in
     let v : ℕ = c.args.edge.now.v in
-    let numbers = c.args.d.now.numbers in
-    let left_small : unsigned_abs (slice_index_or d.y u (pos 0)) < 10 ^ 18 =
-    c.args.d.now.small.small_y u (omega (arith, numbers, c.requires.ends)) in
-    let right_small : unsigned_abs (slice_index_or d.y v (pos 0)) < 10 ^ 18 =
-    c.args.d.now.small.small_y v (omega (arith, numbers, c.requires.ends)) in
+    let low_u : u < length d.y = omega (arith, c.args.d.now.numbers, c.requires.ends) in
+    let low_v : v < length d.y = omega (arith, c.args.d.now.numbers, c.requires.ends) in
     let sets : c.crossing_sum.result ≡ apart n d (slice_index d.up u) (slice_index d.up v) =
     c.crossing_sum.ensures.value
     ∙ (ap (λ e. apart n d e c.set_around_vertex-second.result) c.set_around_vertex-first.ensures.value
@@ -23,10 +20,10 @@ returns c =
     omega (
       arith,
       ints,
-      get_or_read d.y u c.index.result.now (omega (arith, numbers, c.requires.ends)) c.index.ensures (pos 0),
-      get_or_read d.y v c.index-2.result.now (omega (arith, numbers, c.requires.ends)) c.index-2.ensures (pos 0),
-      left_small,
-      right_small,
+      get_or_read d.y u c.index.result.now low_u c.index.ensures (pos 0),
+      get_or_read d.y v c.index-2.result.now low_v c.index-2.ensures (pos 0),
+      c.args.d.now.small.small_y u low_u,
+      c.args.d.now.small.small_y v low_v,
       sets,
       c.crossing_sum.ensures.small,
     )

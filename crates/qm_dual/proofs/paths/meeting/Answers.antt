@@ -1,30 +1,25 @@
-use Rattle.std.proofs.Common.{◌≡◌, ◌⊎◌, ◌-◌, length, slice_index, ◌∙◌, sym, ap, arith}
-use Rattle.qm_dual.specs.Nest.{climbs}
-use Rattle.qm_dual.proofs.Meets.{meeting_found, meeting_none}
+use Rattle.std.proofs.Common.{◌≡◌, ◌⊎◌, ◌-◌, length, slice_index, ◌∙◌, sym, arith}
+use Rattle.qm_dual.proofs.OnPaths.{meeting_found, meeting_none}
 use Rattle.qm_dual.proofs.paths.meeting.Goals.{then-loop-first-test+then-second-ne0+else-heads-first}
 use Rattle.qm_dual.proofs.paths.meeting.Goals.{then-loop-first-test+else-second-ne0, else-loop-first-test}
 use Rattle.qm_dual.proofs.paths.meeting.Goals as goal
 
 pub returns-else-second-eq0-clause-least : goal.returns-else-second-eq0-clause-least
 returns-else-second-eq0-clause-least c =
+    let some = c.if-second-eq0.false in
     let heads : slice_index c.args.heads.now (c.loop-first.first - 1)
     ≡ slice_index c.args.heads.now (c.loop-first.second - 1) = elim c.loop-first-test.branch [
       | then-loop-first-test+then-second-ne0+else-heads-first w ↦ omega arith
-      | then-loop-first-test+else-second-ne0 w ↦ absurd (omega (arith, c.if-second-eq0.false))
-      | else-loop-first-test w ↦ absurd (omega (arith, c.if-second-eq0.false))
+      | then-loop-first-test+else-second-ne0 w ↦ absurd (omega arith)
+      | else-loop-first-test w ↦ absurd (omega arith)
     ] in
-    λ k. ap (climbs c.args.d.now.n c.args.d.now.whole.now.up.items (length c.args.d.now.whole.now.z.items) k)
-    c.max.ensures
-    ∙ (meeting_found c.args.d.now.n (length c.args.d.now.whole.now.z.items) c.args.d.now.whole.now.up.items
-    c.args.heads.now
-    c.args.d.now.nest.nested c.requires.headed c.loop-first.first c.loop-first.second (c.loop-first.first - 1)
-    (c.loop-first.second - 1) (omega (arith, c.if-second-eq0.false)) (omega (arith, c.if-second-eq0.false))
-    (omega (arith, c.if-second-eq0.false)) (omega (arith, c.if-second-eq0.false)) heads k
-    ∙ sym (c.loop-first.invariant.same k))
+    λ k. meeting_found c.args.d.now.nest.nested c.requires.headed c.loop-first.first c.loop-first.second
+    (c.loop-first.first - 1) (c.loop-first.second - 1) c.max.result c.max.ensures (omega arith) (omega arith)
+    (omega arith) (omega arith) heads k
+    ∙ sym (c.loop-first.invariant.same k)
 
 pub returns-then-second-eq0-clause-least : goal.returns-then-second-eq0-clause-least
 returns-then-second-eq0-clause-least c =
     let none : (c.loop-first.first ≡ 0) ⊎ (c.loop-first.second ≡ 0) = grind (arith, c.if-second-eq0.either) in
     λ k. meeting_none c.args.d.now.n (length c.args.d.now.whole.now.z.items) c.args.d.now.whole.now.up.items
-    c.loop-first.first
-    c.loop-first.second none k ∙ sym (c.loop-first.invariant.same k)
+    c.loop-first.first c.loop-first.second none k ∙ sym (c.loop-first.invariant.same k)

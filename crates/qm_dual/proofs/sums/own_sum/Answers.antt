@@ -1,36 +1,34 @@
-use Rattle.std.proofs.Common.{◌≡◌, ℕ, ◌+◌, ◌^◌, ◌<◌, pos, ◌+ℤ◌, unsigned_abs}
-use Rattle.std.proofs.Common.{slice_index, slice_index_or, ◌∙◌, ap, add-one, arith}
+use Rattle.std.proofs.Common.{◌≡◌, ℕ, ◌+◌, pos, ◌+ℤ◌, slice_index, ◌∙◌, ap, add-one, arith}
 use Rattle.std.proofs.{lemmas.Int.ints, lemmas.List.get_or_read}
 use Rattle.def_matching.specs.Dual.{DualLists, dual, z_at}
 use Rattle.qm_dual.specs.Nest.{around}
-use Rattle.qm_dual.proofs.Gathered.{around_small, around_step, named_later}
+use Rattle.qm_dual.proofs.Gathered.{around_small, around_step, named_around}
+use Rattle.qm_dual.proofs.sums.own_sum.Goals.{After-sum_of}
 use Rattle.qm_dual.proofs.sums.own_sum.Goals as goal
+
+-- What the sets around the set gather.
+outer : (c : After-sum_of)
+    → c.sum_of.result ≡ around c.args.d.now.n (dual c.args.d.now.whole.now) c.set_around_set.result
+outer c = c.sum_of.ensures ∙ named_around c.args.d.now.n (dual c.args.d.now.whole.now) c.args.sums.now
+    c.requires.summed c.set_around_set.result (omega (arith, c.set_around_set.ensures.later))
+    (λ ne. omega (arith, c.set_around_set.ensures.later))
 
 pub overflow_add-result : goal.overflow_add-result
 overflow_add-result c =
-    let n : ℕ = c.args.d.now.n in
     let d : DualLists = dual c.args.d.now.whole.now in
-    let small : unsigned_abs (slice_index_or d.z c.args.k (pos 0)) < 10 ^ 18 =
-    c.args.d.now.small.small_z c.args.k c.requires.inner in
-    let outer : c.sum_of.result ≡ around n d c.set_around_set.result = c.sum_of.ensures ∙ named_later n d c.args.k
-    c.args.sums.now c.requires.summed c.set_around_set.result c.set_around_set.ensures.later in
     omega (
       arith,
       ints,
       get_or_read d.z c.args.k c.index.result.now c.requires.inner c.index.ensures (pos 0),
-      small,
-      outer,
-      around_small n d c.args.d.now.small.small_z c.set_around_set.result,
+      c.args.d.now.small.small_z c.args.k c.requires.inner,
+      outer c,
+      around_small c.args.d.now.n d c.args.d.now.small.small_z c.set_around_set.result,
     )
 
 pub returns : goal.returns
 returns c =
     let n : ℕ = c.args.d.now.n in
     let d : DualLists = dual c.args.d.now.whole.now in
-    let small : unsigned_abs (slice_index_or d.z c.args.k (pos 0)) < 10 ^ 18 =
-    c.args.d.now.small.small_z c.args.k c.requires.inner in
-    let outer : c.sum_of.result ≡ around n d c.set_around_set.result = c.sum_of.ensures ∙ named_later n d c.args.k
-    c.args.sums.now c.requires.summed c.set_around_set.result c.set_around_set.ensures.later in
     let same : around n d c.set_around_set.result ≡ around n d (slice_index d.up (n + c.args.k)) =
     ap (around n d) c.set_around_set.ensures.value in
     let step : around n d (c.args.k + 1) ≡ z_at d c.args.k +ℤ around n d (slice_index d.up (n + c.args.k)) =
@@ -39,9 +37,7 @@ returns c =
       arith,
       ints,
       get_or_read d.z c.args.k c.index.result.now c.requires.inner c.index.ensures (pos 0),
-      small,
-      outer,
-      same,
-      step,
+      c.args.d.now.small.small_z c.args.k c.requires.inner,
+      outer c,
       around_small n d c.args.d.now.small.small_z c.set_around_set.result,
     )

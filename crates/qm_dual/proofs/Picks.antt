@@ -1,1 +1,0 @@
--- The greatest of the sets directly inside a set, one set at a time.
