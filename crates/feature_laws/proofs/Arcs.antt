@@ -1,7 +1,7 @@
 -- Each arc of the cut is marked in all its edges or in none.
 use Rattle.std.proofs.Common.{◌≡◌, ℕ, zero, suc, ◌<◌, Bool, true, false, ◌&&◌, List, Some}
 use Rattle.std.proofs.Common.{sym, ap, ◌∙◌, refl, inl, inr, arith}
-use Rattle.std.proofs.lemmas.Bool.{and_from, and_parts, false≢true}
+use Rattle.std.proofs.lemmas.Bool.{and_parts, false≢true}
 use Rattle.std.proofs.lemmas.Option.{same_Some}
 use Rattle.sum_laws.proofs.Tests.{same_test}
 use Rattle.def_mesh.specs.{Faces.Faces, Darts.darts, Darts.from_of, Darts.to_of, Darts.next_of, Darts.prev_of}
@@ -11,14 +11,15 @@ use Rattle.def_mesh.specs.Vertices.{fan_of}
 use Rattle.def_cut.specs.{Cuts.IsCross, Cuts.IsCut, FullCut.is_on, Steps.step_east, Steps.easts}
 use Rattle.def_layout.specs.{Arcs.IsRun, Nodes.is_node, Nodes.AreNodes}
 use Rattle.def_feature.specs.{Laws.MarkedArcLaw, Beside.IsCutBeside}
-use Rattle.def_feature.specs.{Beside.BesideArcLaw, Marks.AreMarks, Marks.is_break, Marked.marked_cut}
-use Rattle.cut_laws.proofs.Crosses.{low_a, low_b, low_c, at_a, at_c, both_twins}
+use Rattle.def_feature.specs.{Beside.BesideArcLaw, Marks.AreMarks, Marked.marked_cut}
+use Rattle.cut_laws.proofs.Crosses.{at_c, low_b, low_c}
 use Rattle.face_laws.proofs.FullCuts.{full_cut_law}
 use Rattle.layout_laws.proofs.{FaceNodes.are_nodes, Runs.GoesStraight, Runs.run_low, Runs.run_goes}
 use Rattle.mesh_laws.proofs.HalfEdges.{manifold_law}
-use Rattle.feature_laws.proofs.Breaks.{in_fan, from_fan, twin_on, two_ways, break_origin, break_cross}
-use Rattle.feature_laws.proofs.Laws.{marked_law, origin_cut}
-use Rattle.motion_laws.proofs.Among.{any_at, any_where}
+use Rattle.feature_laws.proofs.Breaks.{break_turns, from_fan, twin_on, two_ways}
+use Rattle.feature_laws.proofs.Laws.{marked_law, soon_cut}
+use Rattle.feature_laws.proofs.First.{origin_soon}
+use Rattle.motion_laws.proofs.Among.{any_where}
 
 module _ (faces : Faces) (m : IsManifold faces) (marks : List Bool) (marked : AreMarks faces marks)
     (cut_marks : List Bool) (kept : IsCutBeside faces marks cut_marks) where
@@ -45,14 +46,12 @@ module _ (faces : Faces) (m : IsManifold faces) (marks : List Bool) (marked : Ar
       elim (two_ways faces m marks marked x a b c l on k) [
         | inl yb ↦ yb
         -- The cut would turn from x to the edge on its left.
-        | inr (inl sides) ↦ absurd (false≢true (sym inner
-            ∙ (ap (is_node faces cut_marks) (sym (at_c mesh laws x a b c l k))
-            ∙ nodes.corner c lc (kept.kept c lc sides.1) (cut.alike x (prev_of c) l
+        | inr (inl sides) ↦ absurd (false≢true (sym inner ∙ (ap (is_node faces cut_marks)
+            (sym (at_c mesh laws x a b c l k)) ∙ nodes.corner c lc (kept.kept c lc sides.1) (cut.alike x (prev_of c) l
             (laws.twin_twin (prev_of c) x (laws.prev_low c lc) k.last) ∙ kept.kept x l on))))
         | inr (inr y) ↦
             let found = any_where (λ e. is_on cut_marks e && is_on cut_marks (prev_of e))
-            (fan_of faces (from_of faces x))
-            (kept.turned x l y) in
+            (fan_of faces (from_of faces x)) (kept.turned x l y) in
             let f = from_fan faces (from_of faces x) found.0 found.1 in
             let p = and_parts (is_on cut_marks found.0) (is_on cut_marks (prev_of found.0)) found.2 in
             absurd (false≢true
@@ -63,23 +62,19 @@ module _ (faces : Faces) (m : IsManifold faces) (marks : List Bool) (marked : Ar
   onward : (e : ℕ) → e < darts faces → GoesStraight mesh (is_on cut_marks) e
       → is_node faces cut_marks (to_of faces e) ≡ false → is_on marks e ≡ true → is_on marks (east e) ≡ true
   onward e l g inner on =
-      let twin = twin_on faces m marks marked e l on in
-      let t = twin.0 in
-      let lt = laws.twin_low e t l twin.1 in
-      let t_on : is_on marks t ≡ true = marked.alike e t l twin.1 ∙ on in
-      let t_twin = laws.twin_twin e t l twin.1 in
+      let (t, w) = twin_on faces m marks marked e l on in
+      let lt = laws.twin_low e t l w in
+      let t_on : is_on marks t ≡ true = marked.alike e t l w ∙ on in
+      let t_twin = laws.twin_twin e t l w in
       let there : is_node faces cut_marks (from_of faces t) ≡ false =
-      ap (is_node faces cut_marks) (laws.twin_ends e t l twin.1).0 ∙ inner in
-      let k = nodes.through t e lt (kept.kept t lt t_on) t_twin there in
-      let b = k.1 in
-      let c = k.2 in
+      ap (is_node faces cut_marks) (laws.twin_ends e t l w).0 ∙ inner in
+      let (a, b, c, k) = nodes.through t e lt (kept.kept t lt t_on) t_twin there in
       let left : next_of e ≡ c = ap next_of (same_Some e (prev_of c) (sym t_twin ∙ laws.twin_twin (prev_of c) t
-      (laws.prev_low c (low_c mesh laws t k.0 b c lt k.3)) k.3.last)) ∙ laws.next_prev c in
-      let is : b ≡ step_east (half_edges faces) e = sym (laws.next_prev b)
-      ∙ (ap next_of (same_Some (prev_of b) (prev_of (east e))
-      (sym (laws.twin_twin (prev_of b) c (laws.prev_low b (low_b mesh laws t k.0 b c lt k.3)) k.3.third)
-      ∙ (ap (twin_of faces) (sym left) ∙ g.over))) ∙ laws.next_prev (east e)) in
-      ap (is_on marks) (sym is) ∙ opposite t k.0 b c lt k.3 there t_on
+      (laws.prev_low c (low_c mesh laws t a b c lt k)) k.last)) ∙ laws.next_prev c in
+      let is : b ≡ step_east (half_edges faces) e = sym (laws.next_prev b) ∙ (ap next_of (same_Some (prev_of b)
+      (prev_of (east e)) (sym (laws.twin_twin (prev_of b) c (laws.prev_low b (low_b mesh laws t a b c lt k)) k.third) ∙
+      (ap (twin_of faces) (sym left) ∙ g.over))) ∙ laws.next_prev (east e)) in
+      ap (is_on marks) (sym is) ∙ opposite t a b c lt k there t_on
 
   -- and back.
   backward : (e : ℕ) → e < darts faces → GoesStraight mesh (is_on cut_marks) e
@@ -88,12 +83,12 @@ module _ (faces : Faces) (m : IsManifold faces) (marks : List Bool) (marked : Ar
       let twin = twin_on faces m marks marked (east e) g.low on in
       let there : is_node faces cut_marks (from_of faces (step_east (half_edges faces) e)) ≡ false =
       ap (is_node faces cut_marks) g.from ∙ inner in
-      let k = nodes.through (east e) twin.0 g.low (kept.kept (east e) g.low on) twin.1 there in
-      let right : k.0 ≡ next_of e = same_Some k.0 (next_of e)
-      (sym k.3.first ∙ laws.twin_twin (next_of e) (prev_of (east e)) (laws.next_low e l) g.over) in
-      let is : twin_of faces e ≡ Some k.1 =
-      ap (twin_of faces) (sym (ap prev_of right ∙ laws.prev_next e)) ∙ k.3.second in
-      sym (marked.alike e k.1 l is) ∙ opposite (east e) k.0 k.1 k.2 g.low k.3 there on
+      let (a, b, c, k) = nodes.through (east e) twin.0 g.low (kept.kept (east e) g.low on) twin.1 there in
+      let right : a ≡ next_of e = same_Some a (next_of e)
+      (sym k.first ∙ laws.twin_twin (next_of e) (prev_of (east e)) (laws.next_low e l) g.over) in
+      let is : twin_of faces e ≡ Some b =
+      ap (twin_of faces) (sym (ap prev_of right ∙ laws.prev_next e)) ∙ k.second in
+      sym (marked.alike e b l is) ∙ opposite (east e) a b c g.low k there on
 
   along : (s n : ℕ) → IsRun mesh (is_on cut_marks) (is_node faces cut_marks) s n → (k : ℕ) → k < n
       → is_on marks (easts mesh s k) ≡ is_on marks s
@@ -112,28 +107,14 @@ beside_arc_law faces marks cut_marks m marked kept s n run k l = along faces m m
 pub traced_beside : (faces : Faces) (m : IsManifold faces) (marks : List Bool) (marked : AreMarks faces marks)
     → IsCutBeside faces marks (marked_cut faces marks)
 traced_beside faces m marks marked =
-    let mesh = half_edges faces in
     let cut_marks = marked_cut faces marks in
     let kept = marked_law faces marks m marked in
-    let laws = manifold_law faces m in
     let cut = ((full_cut_law faces cut_marks m).0 kept.full).1 in
-    -- All edges at a break are in the cut.
-    let at_break : (e t : ℕ) → e < darts faces → twin_of faces e ≡ Some t → is_break faces marks (from_of faces e)
-    ≡ true
-    → is_on (marked_cut faces marks) e ≡ true =
-    λ e t l w y. origin_cut faces m marks marked e l (break_origin faces m marks marked e t w y) in
     record {
       full = kept.full;
       kept = kept.kept;
-      turned = λ d l y.
-          let k = break_cross faces m marks marked d l y in
-          let twin = (both_twins mesh laws d k.0 k.1 k.2 l k.3 d (record { low = l; at = refl })).1 in
-          let back = laws.prev_low d l in
-          any_at (λ e. is_on cut_marks e && is_on cut_marks (prev_of e)) d (fan_of faces (from_of faces d))
-          (in_fan faces (from_of faces d) d l refl) (and_from _ _ (at_break d twin.0 l twin.1 y)
-          (sym (cut.alike (prev_of d) k.0 back k.3.first) ∙ at_break k.0 (prev_of d)
-          (low_a mesh laws d k.0 k.1 k.2 l k.3) (laws.twin_twin (prev_of d) k.0 back k.3.first)
-          (ap (is_break faces marks) (at_a mesh laws d k.0 k.1 k.2 l k.3) ∙ y)));
+      turned = break_turns faces m marks marked cut_marks cut.alike
+          (λ e l o. soon_cut faces m marks marked e l (origin_soon faces m marks marked e l o));
     }
 
 pub marked_arc_law : MarkedArcLaw

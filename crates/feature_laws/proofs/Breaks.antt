@@ -1,26 +1,31 @@
--- Marked edges at a vertex: a line goes straight on there, or it begins.
-use Rattle.std.proofs.Common.{◌≡◌, ◌⊎◌, ℕ, ◌<◌, ◌≤◌, Bool, true, false, not, eqb, ◌&&◌, ◌||◌, List}
-use Rattle.std.proofs.Common.{Option, Some, None, is_some, sym, ap, ◌∙◌, refl, inl, inr, arith}
+-- Marked edges at a vertex: a line goes straight on there, or it begins. A trail leads to each marked dart.
+use Rattle.std.proofs.Common.{◌≡◌, ◌⊎◌, ℕ, ◌<◌, ◌≤◌, Bool, true, false, not, eqb, ◌&&◌, ◌||◌, List, Option, Some, None}
+use Rattle.std.proofs.Common.{is_some, sym, ap, ◌∙◌, refl, inl, inr, arith, zero, suc, ltb}
 use Rattle.std.proofs.lemmas.Bool.{cases_Bool, cond-true, eq-eqb, eqb-true, lt-ltb, or_left, or_right, and_from}
-use Rattle.std.proofs.lemmas.Bool.{and_parts, not_from_false, false≢true, false_from_ne_true}
+use Rattle.std.proofs.lemmas.Bool.{and_parts, not_from_false, false≢true, false_from_ne_true, cases_lt, cases_eq}
+use Rattle.std.proofs.lemmas.Bool.{le-ltb}
 use Rattle.std.proofs.lemmas.Option.{same_Some}
-use Rattle.std.specs.{Prelude.option_map}
-use Rattle.def_mesh.specs.{Faces.Faces, Darts.darts, Darts.all_darts, Darts.from_of, Darts.to_of, Darts.next_of}
-use Rattle.def_mesh.specs.{Darts.prev_of, Darts.twin_of, Darts.straight_of, Manifold.IsManifold, Vertices.faces_at}
-use Rattle.def_mesh.specs.{Vertices.fan_of, Kinds.is_inner, Kinds.is_regular, Components.seeds}
-use Rattle.def_mesh.specs.{Components.is_start, HalfEdges.HalfEdges, HalfEdges.IsQuadManifold}
-use Rattle.def_mesh.specs.HalfEdges.{half_edges}
+use Rattle.std.specs.Prelude.{option_map}
+use Rattle.def_mesh.specs.{Faces.Faces, Manifold.IsManifold}
+use Rattle.def_mesh.specs.Darts.{darts, all_darts, from_of, to_of, next_of, prev_of, twin_of, straight_of}
+use Rattle.def_mesh.specs.Vertices.{faces_at, fan_of}
+use Rattle.def_mesh.specs.Kinds.{is_inner, is_regular}
+use Rattle.def_mesh.specs.Components.{seeds, is_start}
+use Rattle.def_mesh.specs.HalfEdges.{HalfEdges, IsQuadManifold, half_edges}
 use Rattle.def_runs.specs.Runs.{is_passed, follower}
-use Rattle.def_cut.specs.{Cuts.IsCross, Cuts.HasCross, FullCut.is_on, Motion.is_among, Steps.or_zero, Trails.IsStraight}
-use Rattle.def_feature.specs.Marks.{AreMarks, is_found_on, goes_through, is_crossed}
-use Rattle.def_feature.specs.{Marks.is_break, Marked.is_origin}
-use Rattle.cut_laws.proofs.Crosses.{one_of_four, low_a, low_b, low_c, at_a}
+use Rattle.def_cut.specs.Cuts.{IsCross, HasCross}
+use Rattle.def_cut.specs.{FullCut.is_on, Motion.is_among, Steps.or_zero}
+use Rattle.def_cut.specs.Trails.{IsStraight, Trail}
+use Rattle.def_feature.specs.Marks.{AreMarks, is_found_on, goes_through, is_crossed, is_break, goes_round, is_touched}
+use Rattle.def_feature.specs.{Beside.is_turn, Marked.is_origin}
+use Rattle.cut_laws.proofs.Crosses.{at_a, both_twins, low_a, low_b, low_c, one_of_four}
 use Rattle.cut_laws.proofs.Darts.{turn_from, turn_low}
 use Rattle.face_laws.proofs.Fans.{regular_cross, cross_inner, cross_regular}
 use Rattle.mesh_laws.proofs.HalfEdges.{manifold_law}
-use Rattle.motion_laws.proofs.Among.{any_at, any_where, in_filter, from_filter, among_range, range_among}
+use Rattle.motion_laws.proofs.Among.{cases_Option, any_at, any_where, in_filter, from_filter, among_range, range_among}
 use Rattle.motion_laws.proofs.Bits.{rotated}
-use Rattle.site_laws.proofs.Fans.{three_faces}
+use Rattle.site_laws.proofs.Sources.{three_faces}
+use Rattle.cut_laws.proofs.Pigeon.{comes_back}
 
 -- What stands in the fan of a vertex.
 pub in_fan : (faces : Faces) (v d : ℕ) → d < darts faces → from_of faces d ≡ v → is_among d (fan_of faces v) ≡ true
@@ -70,11 +75,8 @@ module _ (faces : Faces) (m : IsManifold faces) (marks : List Bool) (marked : Ar
 
   -- A marked dart has a twin.
   pub twin_on : (d : ℕ) → d < darts faces → is_on marks d ≡ true → (t : ℕ) × (twin_of faces d ≡ Some t)
-  twin_on d l on = at (twin_of faces d) refl
-    where
-      at : (o : Option ℕ) → twin_of faces d ≡ o → (t : ℕ) × (twin_of faces d ≡ Some t)
-      at None w = absurd (false≢true (sym (marked.inner d l w) ∙ on))
-      at (Some t) w = (t, w)
+  twin_on d l on = elim (cases_Option (twin_of faces d))
+      [ inl w ↦ absurd (false≢true (sym (marked.inner d l w) ∙ on)) | inr w ↦ w ]
 
   -- A cross lies at a passed vertex.
   pub cross_passed : (d : ℕ) → d < darts faces → HasCross (half_edges faces) d
@@ -147,6 +149,21 @@ module _ (faces : Faces) (m : IsManifold faces) (marks : List Bool) (marked : Ar
       → is_origin faces marks d ≡ true
   break_origin d t w y = or_right (is_start faces (seeds faces) d) _ (and_from _ _ (ap is_some w) y)
 
+  -- So a cut that has each edge at a break whose dart is an origin turns there.
+  pub break_turns : (cut : List Bool) → ((e t : ℕ) → e < darts faces → twin_of faces e ≡ Some t → is_on cut t
+      ≡ is_on cut e) → ((e : ℕ) → e < darts faces → is_origin faces marks e ≡ true → is_on cut e ≡ true) → (d : ℕ)
+      → d < darts faces → is_break faces marks (from_of faces d) ≡ true → is_turn faces cut (from_of faces d) ≡ true
+  break_turns cut alike on d l y =
+      let (a, b, c, k) = break_cross d l y in
+      let t = (both_twins mesh laws d a b c l k d (record { low = l; at = refl })).1 in
+      let back = laws.prev_low d l in
+      let la = low_a mesh laws d a b c l k in
+      let on_a = on a la (break_origin a (prev_of d) (laws.twin_twin (prev_of d) a back k.first)
+      (ap (is_break faces marks) (at_a mesh laws d a b c l k) ∙ y)) in
+      any_at (λ e. is_on cut e && is_on cut (prev_of e)) d (fan_of faces (from_of faces d))
+      (in_fan faces (from_of faces d) d l refl) (and_from _ _ (on d l (break_origin d t.0 t.1 y))
+      (sym (alike (prev_of d) a back k.first) ∙ on_a))
+
   -- At a boundary vertex with more than two faces so is each dart with a twin, and at a singular one.
   reflex_origin : (d t : ℕ) → twin_of faces d ≡ Some t → is_inner faces (from_of faces d) ≡ false
       → 3 ≤ faces_at faces (from_of faces d) → is_origin faces marks d ≡ true
@@ -207,18 +224,12 @@ module _ (faces : Faces) (m : IsManifold faces) (marks : List Bool) (marked : Ar
           → twin_of faces (prev_of d) ≡ o → twin_of faces (next_of t) ≡ p → begins faces marks d ≡ true
       on_rim t w out None None before after = beside t w (held_alone (prev_of d) before) (held_alone (next_of t) after)
       on_rim t w out (Some a) p before after =
-          let a_low = turn_low mesh laws d a l before in
-          let at : from_of faces (next_of (prev_of a)) ≡ from_of faces d =
-          ap (from_of faces) (laws.next_prev a) ∙ turn_from mesh laws d a l before in
-          or_left _ _ (reflex_origin d t w out (rw (← at)
-          (three_faces faces laws (prev_of a) (prev_of d) t (laws.prev_low a a_low)
-          (ap (twin_of faces) (laws.next_prev a) ∙ laws.twin_twin (prev_of d) a (laws.prev_low d l) before)
+          let at = turn_from mesh laws d a l before in
+          or_left _ _ (reflex_origin d t w out (rw (← at) (three_faces faces laws a (prev_of d) t
+          (turn_low mesh laws d a l before) (laws.twin_twin (prev_of d) a (laws.prev_low d l) before)
           (ap (twin_of faces) (laws.next_prev d) ∙ w) (ap (is_inner faces) at ∙ out))))
       on_rim t w out None (Some u) before after =
-          let at : from_of faces (next_of (prev_of d)) ≡ from_of faces d = ap (from_of faces) (laws.next_prev d) in
-          or_left _ _ (reflex_origin d t w out (rw (← at)
-          (three_faces faces laws (prev_of d) t u (laws.prev_low d l)
-          (ap (twin_of faces) (laws.next_prev d) ∙ w) after (ap (is_inner faces) at ∙ out))))
+          or_left _ _ (reflex_origin d t w out (three_faces faces laws d t u l w after out))
 
       by_kind : (t : ℕ) → twin_of faces d ≡ Some t → (begins faces marks d ≡ true) ⊎ GoesBack faces marks d
       by_kind t w = elim (cases_Bool (is_inner faces (from_of faces d))) [
@@ -228,3 +239,116 @@ module _ (faces : Faces) (m : IsManifold faces) (marks : List Bool) (marked : Ar
           | inl regular ↦ let k = regular_cross faces laws d l inner regular in by_cross t w k.0 k.1 k.2 k.3
         ]
       ]
+
+-- The dart n steps back.
+abbrev pub backs : (faces : Faces) (d n : ℕ) → ℕ
+backs faces d zero = d
+backs faces d (suc n) = back faces (backs faces d n)
+
+-- Of the first n + 1 values of f one is least.
+least_below : (f : ℕ → ℕ) (n : ℕ) → (i : ℕ) × (i ≤ n) × ((j : ℕ) → j ≤ n → f i ≤ f j)
+least_below f zero = (0, omega arith, λ j l. let e : j ≡ 0 = omega arith in omega (arith, ap f e))
+least_below f (suc n) =
+    let before = least_below f n in
+    elim (cases_lt (f (suc n)) (f before.0)) [
+      | inl less ↦ (
+        suc n,
+        omega arith,
+        λ j h. elim (cases_eq j (suc n))
+            [ inl e ↦ omega (arith, ap f e) | inr ne ↦ omega (arith, before.2 j (omega arith)) ],
+      )
+      | inr more ↦ (
+        before.0,
+        omega (arith, before.1),
+        λ j h. elim (cases_eq j (suc n))
+            [ inl e ↦ omega (arith, ap f e) | inr ne ↦ before.2 j (omega arith) ],
+      )
+    ]
+
+module _ (faces : Faces) (m : IsManifold faces) (marks : List Bool) (marked : AreMarks faces marks) where
+  -- A trail leads to d.
+  abbrev pub Led : (d : ℕ) → Type 0
+  Led d = (k : ℕ) × Trail (half_edges faces) (begins faces marks) (is_on marks) d k
+
+  module _ (d : ℕ) (low : d < darts faces) (on : is_on marks d ≡ true) where
+    -- The dart k steps back, and whether one goes back n times.
+    abbrev at : ℕ → ℕ
+    at k = backs faces d k
+
+    abbrev Far : (n : ℕ) → Type 0
+    Far n = (k : ℕ) → k < n → GoesBack faces marks (backs faces d k)
+
+    -- After so many steps back one is at a marked dart.
+    back_low : (n k : ℕ) → Far n → k ≤ n → (at k < darts faces) × (is_on marks (at k) ≡ true)
+    back_low n zero f l = (low, on)
+    back_low n (suc k) f l = let b = f k (omega arith) in (b.low, b.on)
+
+    -- A trail to the dart n steps back leads on to d.
+    led_on : (n : ℕ) → Far n → Led (at n) → Led d
+    led_on zero f t = t
+    led_on (suc n) f t =
+        let b = f n (omega arith) in
+        led_on n (λ k l. f k (omega arith)) (suc t.0, (back faces (at n), t.1, b.low, b.on, b.straight, b.cross))
+
+    far : (n : ℕ) → Led d ⊎ Far n
+    far zero = inr (λ k l. absurd (omega arith))
+    far (suc n) = elim (far n) [
+      | inl t ↦ inl t
+      | inr f ↦
+          let a = back_low n n f (omega arith) in
+          elim (one_back faces m marks marked (at n) a.0 a.1) [
+            | inl b ↦ inl (led_on n f (0, b))
+            | inr b ↦ inr (λ k l. elim (cases_eq k n) [ inl e ↦ rw e b | inr ne ↦ f k (omega arith) ])
+          ]
+    ]
+
+    -- A line that goes back without end comes round.
+    module _ (f : Far (darts faces)) where
+      come : (k : ℕ) × (k < darts faces) × (backs faces d (suc k) ≡ d)
+      come = comes_back (darts faces) (backs faces d) (λ k l. (back_low (darts faces) k f l).0)
+          (λ i j li lj e. same_Some _ _ (sym (f i li).follows ∙ (ap (follower faces) e ∙ (f j lj).follows)))
+
+      -- The least vertex of the round.
+      least : (i : ℕ) × (i ≤ come.0) × ((j : ℕ) → j ≤ come.0 → from_of faces (at i) ≤ from_of faces (at j))
+      least = least_below (λ k. from_of faces (at k)) come.0
+
+      abbrev first : ℕ
+      first = backs faces d least.0
+
+      goes : (i : ℕ) → i ≤ come.0 → GoesBack faces marks (at i)
+      goes i l = f i (omega (arith, l, come.1))
+
+      -- Straight on from each dart of the round is one of it.
+      onward : (i : ℕ) → i ≤ come.0 → (j : ℕ) × (j ≤ come.0) × (follower faces (at i) ≡ Some (at j))
+      onward zero l = (come.0, omega arith, ap (follower faces) (sym come.2) ∙ (goes come.0 (omega arith)).follows)
+      onward (suc i) l = (i, omega (arith, l), (goes i (omega (arith, l))).follows)
+
+      round : (n i : ℕ) → i ≤ come.0 → goes_round faces marks (from_of faces first) n (at i) ≡ true
+      round zero i l = refl
+      round (suc n) i l =
+          let here = and_from (is_on marks (at i)) (not (ltb (from_of faces (at i)) (from_of faces first)))
+          (back_low (darts faces) i f (omega (arith, l, come.1))).1 (not_from_false _ (le-ltb _ _ (least.2 i l))) in
+          let next = onward i l in
+          and_from _ _ here (on_from (follower faces (at i)) next.0 next.2 (round n next.0 next.1))
+        where
+          on_from : (o : Option ℕ) → (j : ℕ) → o ≡ Some (backs faces d j)
+              → goes_round faces marks (from_of faces (backs faces d least.0)) n (backs faces d j) ≡ true
+              → elim o as (λ o. Bool)
+              [ None ↦ false | Some e ↦ goes_round faces marks (from_of faces (backs faces d least.0)) n e ] ≡ true
+          on_from o j is y = rw is y
+
+      -- So the line breaks there.
+      led_round : Led d
+      led_round =
+          let v = from_of faces first in
+          let there = back_low (darts faces) least.0 f (omega (arith, least.1, come.1)) in
+          let ring = any_at (goes_round faces marks v (darts faces)) first (fan_of faces v)
+          (in_fan faces v first there.0 refl) (round (darts faces) least.0 least.1) in
+          let breaks : is_break faces marks (from_of faces (backs faces d least.0)) ≡ true = and_from _ _ (goes least.0
+          least.1).passed (or_right (is_touched faces marks v && not (is_crossed faces marks v)) _ ring) in
+          let t = twin_on faces m marks marked first there.0 there.1 in
+          led_on least.0 (λ k l. goes k (omega (arith, l, least.1)))
+          (0, or_left _ _ (break_origin faces m marks marked first t.0 t.1 breaks))
+
+    pub marked_trail : Led d
+    marked_trail = elim (far (darts faces)) [ inl t ↦ t | inr f ↦ led_round f ]

@@ -1,5 +1,5 @@
 -- The conforming cut is a full cut that keeps marked lines: it is what a motion leaves in which nobody rides any more.
-use Rattle.std.proofs.Common.{◌≡◌, ℕ, zero, suc, ◌<◌, Bool, true, false, not, eqb, cond, ◌&&◌, ◌||◌}
+use Rattle.std.proofs.Common.{◌≡◌, ℕ, zero, suc, ◌<◌, Bool, true, not, eqb, ◌&&◌}
 use Rattle.std.proofs.Common.{List, [], ◌∷◌, length, Option, Some, None, is_some, sym, ap, ◌∙◌, refl, inl}
 use Rattle.std.proofs.Common.{inr, arith}
 use Rattle.std.proofs.lemmas.Bool.{cond-true, eq-eqb, eqb-true, or_left, or_right, or_cases, and_from}
@@ -10,26 +10,28 @@ use Rattle.sum_laws.proofs.Tests.{same_test}
 use Rattle.def_mesh.specs.{Faces.Faces, Darts.darts, Darts.all_darts, Darts.from_of, Darts.to_of, Darts.next_of}
 use Rattle.def_mesh.specs.{Darts.prev_of, Darts.twin_of, Darts.straight_of, Manifold.IsManifold, Kinds.is_end}
 use Rattle.def_mesh.specs.{Kinds.is_inner, Kinds.is_regular, Kinds.is_singular, Components.seeds}
-use Rattle.def_mesh.specs.{Components.is_start, Vertices.fan_of, HalfEdges.HalfEdges, HalfEdges.IsQuadManifold}
+use Rattle.def_mesh.specs.{Components.is_start, HalfEdges.HalfEdges, HalfEdges.IsQuadManifold}
 use Rattle.def_mesh.specs.HalfEdges.{half_edges}
 use Rattle.def_runs.specs.Runs.{is_passed, follower}
-use Rattle.def_cut.specs.{Cuts.IsCross, Cuts.IsCut, FullCut.is_on, Motion.State}
-use Rattle.def_cut.specs.{Trails.IsStraight, Trails.Trail, Trails.IsTracked}
+use Rattle.def_cut.specs.{Cuts.IsCross, FullCut.is_on, Motion.State}
+use Rattle.def_cut.specs.{Trails.IsStraight, Trails.Trail}
 use Rattle.def_cut.specs.Traced.{terrain_of, is_cut}
-use Rattle.def_feature.specs.Beside.{is_turn, IsCutBeside}
+use Rattle.def_feature.specs.Beside.{IsCutBeside}
 use Rattle.def_feature.specs.Conforming.{is_source, Line, IsLed, IsLined, IsConforming, ConformingLaw, StraightLaw}
-use Rattle.def_feature.specs.Marks.{AreMarks, is_break}
+use Rattle.def_feature.specs.Marks.{AreMarks}
 use Rattle.def_feature.specs.Marked.{is_origin, marked_first}
-use Rattle.cut_laws.proofs.Crosses.{low_a, low_b, low_c, at_a, at_b, at_c, both_twins}
+use Rattle.cut_laws.proofs.Crosses.{low_b, low_c, at_b, at_c, both_twins}
 use Rattle.face_laws.proofs.Fans.{inner_twin, regular_cross}
 use Rattle.face_laws.proofs.FullCuts.{full_cut_law}
 use Rattle.mesh_laws.proofs.HalfEdges.{manifold_law}
 use Rattle.motion_laws.proofs.{Among.any_at, Among.any_where, Among.among_range, Among.range_among, Onward.full_cut}
-use Rattle.motion_laws.proofs.{Steps.trail_more, Terrains.IsReachedFrom, Terrains.IsSoon, Terrains.IsCrossedAt}
+use Rattle.motion_laws.proofs.Steps.{trail_more}
+use Rattle.motion_laws.proofs.Terrains.{IsCrossedAt, IsReachedFrom, crossed_at}
 use Rattle.site_laws.proofs.{Laws.same_cut, Sites.terrain}
-use Rattle.feature_laws.proofs.Breaks.{begins, in_fan, twin_on, cross_passed, break_cross, break_origin}
+use Rattle.feature_laws.proofs.Breaks.{begins, break_turns, cross_passed, twin_on, marked_trail}
 use Rattle.feature_laws.proofs.First.{all_origins, is_first, origin_of, marked_begin}
-use Rattle.feature_laws.proofs.Lines.{marked_trail}
+use Rattle.motion_laws.proofs.Among.{cases_Option}
+use Rattle.std.proofs.lemmas.Bool.{cases_Bool}
 
 -- What is marked is there.
 pub mark_low : (marks : List Bool) (d : ℕ) → is_on marks d ≡ true → d < length marks
@@ -40,17 +42,15 @@ mark_low (b ∷ bs) (suc d) on = let l = mark_low bs d on in omega arith
 -- What follows c lies straight on, over a vertex that is passed.
 pub follows : (faces : Faces) (c d : ℕ) → follower faces c ≡ Some d → (is_passed faces (to_of faces c) ≡ true)
     × IsStraight (half_edges faces) c d
-follows faces c d e = at (is_passed faces (to_of faces c)) refl e
-  where
-    by_twin : (o : Option ℕ) → twin_of faces (next_of c) ≡ o → option_map next_of o ≡ Some d
-        → IsStraight (half_edges faces) c d
-    by_twin None w is = absurd cc
-    by_twin (Some t) w is = (t, w, sym (same_Some (next_of t) d is))
-
-    at : (p : Bool) → is_passed faces (to_of faces c) ≡ p → cond p (straight_of faces c) None ≡ Some d
-        → (is_passed faces (to_of faces c) ≡ true) × IsStraight (half_edges faces) c d
-    at true is f = (is, by_twin (twin_of faces (next_of c)) refl f)
-    at false is f = absurd cc
+follows faces c d e = elim (cases_Bool (is_passed faces (to_of faces c))) [
+  | inr off ↦ let f = rw off at e in absurd cc
+  | inl on ↦
+      let f = rw on at e in
+      elim (cases_Option (twin_of faces (next_of c))) [
+        | inl w ↦ let g = rw w at f in absurd cc
+        | inr (t, w) ↦ (on, (t, w, sym (same_Some (next_of t) d (rw w at f))))
+      ]
+]
 
 module _ (faces : Faces) (m : IsManifold faces) (marks : List Bool) (marked : AreMarks faces marks) (cut : List Bool)
     (conform : IsConforming faces marks cut) where
@@ -195,54 +195,6 @@ module _ (faces : Faces) (m : IsManifold faces) (marks : List Bool) (marked : Ar
         ),
       )
 
-  tracks : (d : ℕ) → d < darts faces → covers d ≡ true → IsTracked mesh (begins faces marks) covers d
-  tracks d l y = elim ((conform.lined d l).0 (and_parts _ _ y).0) [
-    | inl none ↦ let clash : None ≡ Some (has_twin d y).0 = sym none ∙ (has_twin d y).1 in absurd cc
-    | inr (inl led) ↦ let t = line_trail d led.0 l led.1 in (t.0, inl t.1)
-    | inr (inr other) ↦
-        let r = line_trail other.0 other.2.0 (laws.twin_low d other.0 l other.1) other.2.1 in
-        (r.0, inr (other.0, other.1, r.1))
-  ]
-
-  -- Where a covered edge ends two opposite ones do.
-  crosses : (d : ℕ) → d < darts faces → stands (from_of faces d) ≡ true → not (is_inner faces (from_of faces d)) ≡ false
-      → is_singular faces (from_of faces d) ≡ false → IsCrossedAt (terrain_of faces) ended (from_of faces d)
-  crosses d l y inner regular =
-      let from_there : (x : ℕ) → x < darts faces → covers x ≡ true → from_of faces x ≡ from_of faces d
-      → IsCrossedAt (terrain_of faces) ended (from_of faces d) = λ x lx on at.
-      let k = (terrain faces m).crossed x lx (ap (λ v. not (is_inner faces v)) at ∙ inner)
-      (ap (is_singular faces) at ∙ regular) in
-      let t = (both_twins mesh laws x k.0 k.1 k.2 lx k.3 k.1
-      (record { low = low_b mesh laws x k.0 k.1 k.2 lx k.3; at = at_b mesh laws x k.0 k.1 k.2 lx k.3 })).1 in
-      record {
-        x = x;
-        a = k.0;
-        b = k.1;
-        c = k.2;
-        low = lx;
-        at = at;
-        cross = k.3;
-        soon = inl on;
-        facing = inl (and_from _ _ (straight x k.0 k.1 k.2 lx k.3 (and_parts _ _ on).0) (ap is_some t.1));
-      } in
-      let found = any_where (λ x. covers x && is_end faces (from_of faces d) x) (all_darts faces) y in
-      let x = found.0 in
-      let p = and_parts (covers x) (is_end faces (from_of faces d) x) found.2 in
-      let lx : x < darts faces = omega (arith, (range_among 0 (darts faces) x found.1).1) in
-      elim (or_cases (eqb (from_of faces x) (from_of faces d)) _ p.1) [
-        | inl e ↦ from_there x lx p.0 (eqb-true _ _ e)
-        | inr e ↦
-            let t = has_twin x p.0 in
-            from_there t.0 (laws.twin_low x t.0 lx t.1) (covers_alike x t.0 lx t.1 ∙ p.0)
-            ((laws.twin_ends x t.0 lx t.1).0 ∙ eqb-true _ _ e)
-      ]
-
-  keeps_first : (d : ℕ) → IsSoon (marked_first faces marks) d → IsSoon ended d
-  keeps_first d (inl on) = inl (mark_covered d on)
-  keeps_first d (inr n) =
-      let o = origin_of faces marks d (is_first faces m marks marked d n) in
-      inl (source_covered d o.0 (or_left _ _ o.1))
-
   reached : IsReachedFrom (terrain_of faces) (begins faces marks) (marked_first faces marks) ended
   reached = record {
     apart = tt;
@@ -253,47 +205,59 @@ module _ (faces : Faces) (m : IsManifold faces) (marks : List Bool) (marked : Ar
       inl (stands_end (from_of faces d) d l y (or_left (eqb (from_of faces d) (from_of faces d)) _ (eq-eqb _ _ refl))),
       inl (stands_end (to_of faces d) d l y (or_right (eqb (from_of faces d) (to_of faces d)) _ (eq-eqb _ _ refl))),
     );
-    kept = keeps_first;
+    kept = λ d k. inl (elim k [
+      | inl on ↦ mark_covered d on
+      | inr n ↦
+          let o = origin_of faces marks d (is_first faces m marks marked d n) in
+          source_covered d o.0 (or_left _ _ o.1)
+    ]);
     trails = λ d n. absurd (false≢true n);
-    tracked = tracks;
-    through = crosses;
+    tracked = λ d l y. elim ((conform.lined d l).0 (and_parts _ _ y).0) [
+      | inl none ↦ let clash : None ≡ Some (has_twin d y).0 = sym none ∙ (has_twin d y).1 in absurd cc
+      | inr (inl led) ↦ let t = line_trail d led.0 l led.1 in (t.0, inl t.1)
+      | inr (inr other) ↦
+          let r = line_trail other.0 other.2.0 (laws.twin_low d other.0 l other.1) other.2.1 in
+          (r.0, inr (other.0, other.1, r.1))
+    ];
+    -- Where a covered edge ends two opposite ones do.
+    through = λ d l y inner regular.
+        let from_there : (x : ℕ) → x < darts faces → covers x ≡ true → from_of faces x ≡ from_of faces d
+        → IsCrossedAt (terrain_of faces) ended (from_of faces d) = λ x lx on at.
+        let k = (terrain faces m).crossed x lx (ap (λ v. not (is_inner faces v)) at ∙ inner)
+        (ap (is_singular faces) at ∙ regular) in
+        let t = (both_twins mesh laws x k.0 k.1 k.2 lx k.3 k.1
+        (record { low = low_b mesh laws x k.0 k.1 k.2 lx k.3; at = at_b mesh laws x k.0 k.1 k.2 lx k.3 })).1 in
+        crossed_at lx at k.3 (inl on)
+        (inl (and_from _ _ (straight x k.0 k.1 k.2 lx k.3 (and_parts _ _ on).0) (ap is_some t.1))) in
+        let (x, n, there) = any_where (λ x. covers x && is_end faces (from_of faces d) x) (all_darts faces) y in
+        let p = and_parts (covers x) (is_end faces (from_of faces d) x) there in
+        let lx : x < darts faces = omega (arith, (range_among 0 (darts faces) x n).1) in
+        elim (or_cases (eqb (from_of faces x) (from_of faces d)) _ p.1) [
+          | inl e ↦ from_there x lx p.0 (eqb-true _ _ e)
+          | inr e ↦
+              let t = has_twin x p.0 in
+              from_there t.0 (laws.twin_low x t.0 lx t.1) (covers_alike x t.0 lx t.1 ∙ p.0)
+              ((laws.twin_ends x t.0 lx t.1).0 ∙ eqb-true _ _ e)
+        ];
   }
 
-  full_there : IsCut mesh (is_cut (terrain_of faces) ended)
-  full_there = full_cut (terrain_of faces) (terrain faces m) (begins faces marks) (marked_first faces marks)
-      (marked_begin faces m marks marked) ended reached refl
-
   same : (d : ℕ) → d < darts faces → is_on cut d ≡ is_cut (terrain_of faces) ended d
-  same d l = at (twin_of faces d) refl (is_on cut d) (λ none. to_cut d l (inl none))
-    where
-      at : (o : Option ℕ) → twin_of faces d ≡ o → (b : Bool) → (twin_of faces d ≡ None → b ≡ true)
-          → b ≡ ((b && is_some (twin_of faces d)) || not (is_some (twin_of faces d)))
-      at None w b on = on w ∙ sym (or_right (b && is_some (twin_of faces d)) _ (ap (λ o. not (is_some o)) w))
-      at (Some t) w true on = sym (or_left _ _ (ap is_some w))
-      at (Some t) w false on = sym (ap (λ o. not (is_some o)) w)
-
-  -- At a break all edges are in the cut.
-  turns : (d : ℕ) → d < darts faces → is_break faces marks (from_of faces d) ≡ true
-      → is_turn faces cut (from_of faces d) ≡ true
-  turns d l y =
-      let at_break : (e t : ℕ) → e < darts faces → twin_of faces e ≡ Some t
-      → is_break faces marks (from_of faces e) ≡ true → is_on cut e ≡ true =
-      λ e t le w k. to_cut e le (inr (inl (0, or_left _ _ (break_origin faces m marks marked e t w k)))) in
-      let k = break_cross faces m marks marked d l y in
-      let a = k.0 in
-      let back = laws.prev_low d l in
-      let t = (both_twins mesh laws d a k.1 k.2 l k.3 d (record { low = l; at = refl })).1 in
-      let on_a = at_break a (prev_of d) (low_a mesh laws d a k.1 k.2 l k.3) (laws.twin_twin (prev_of d) a back
-      k.3.first) (ap (is_break faces marks) (at_a mesh laws d a k.1 k.2 l k.3) ∙ y) in
-      any_at (λ e. is_on cut e && is_on cut (prev_of e)) d (fan_of faces (from_of faces d)) (in_fan faces (from_of faces
-      d) d l refl) (and_from _ _ (at_break d t.0 l t.1 y) (sym (alike (prev_of d) a back k.3.first) ∙ on_a))
+  same d l = elim (cases_Option (twin_of faces d)) [
+    | inl w ↦ rw (w, to_cut d l (inl w)) refl
+    | inr (t, w) ↦ elim (cases_Bool (is_on cut d)) [ inl on ↦ rw (w, on) refl | inr off ↦ rw (w, off) refl ]
+  ]
 
   conforms : IsCutBeside faces marks cut
   conforms = record {
-    full = (full_cut_law faces cut m).1
-        (conform.long, same_cut mesh laws (is_cut (terrain_of faces) ended) (is_on cut) same full_there);
+    full =
+        let made = full_cut (terrain_of faces) (terrain faces m) (begins faces marks) (marked_first faces marks)
+        (marked_begin faces m marks marked) ended reached refl in
+        (full_cut_law faces cut m).1 (
+          conform.long,
+          same_cut mesh laws (is_cut (terrain_of faces) ended) (is_on cut) same made,
+        );
     kept = λ d l on. to_cut d l (inr (inl (0, or_right (is_origin faces marks d) _ on)));
-    turned = turns;
+    turned = break_turns faces m marks marked cut alike (λ e l o. to_cut e l (inr (inl (0, or_left _ _ o))));
   }
 
 pub conforming_law : ConformingLaw

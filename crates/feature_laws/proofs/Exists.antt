@@ -1,6 +1,6 @@
 -- There is one conforming cut.
 use Rattle.std.proofs.Common.{◌≡◌, ℕ, zero, suc, ◌+◌, ◌<◌, ◌≤◌, Bool, true, false, cond, List, length, set}
-use Rattle.std.proofs.Common.{map, replicate, Option, Some, None, sym, ◌∙◌, ap, subst, refl, inl, inr, arith}
+use Rattle.std.proofs.Common.{map, replicate, Some, None, sym, ◌∙◌, ap, refl, inl, inr, arith}
 use Rattle.std.proofs.lemmas.Bool.{cases_Bool, cases_eq, cases_lt, false≢true, false_from_ne_true}
 use Rattle.std.proofs.lemmas.List.{ext_get_or, length-map, length-replicate, get_or-set_same, get_or-set_other}
 use Rattle.std.proofs.lemmas.List.FromFn.{length-range_with_len, get_or-map-range_with_len}
@@ -14,8 +14,10 @@ use Rattle.def_feature.specs.{Conforming.IsConforming, Marked.marked_starts, Mar
 use Rattle.mesh_laws.proofs.HalfEdges.{manifold_law}
 use Rattle.motion_laws.proofs.Marks.{none_on}
 use Rattle.feature_laws.proofs.{First.origin_of, Conforming.follows, Conforming.mark_low, Led.conforms}
-use Rattle.feature_laws.proofs.Leading.{lead_begins, lead_more, lead_ends, led_more}
+use Rattle.feature_laws.proofs.Leading.{lead_begins, lead_more, led_more, set_kept, set_there}
 use Rattle.feature_laws.specs.Leads.{IsLedFrom, IsLeading, IsNext, AreLed, is_led_edge}
+use Rattle.motion_laws.proofs.Among.{cases_Option}
+use Rattle.motion_laws.proofs.Onward.{no_more_at}
 
 pub one_conforming : (faces : Faces) (marks one other : List Bool) → IsConforming faces marks one
     → IsConforming faces marks other → one ≡ other
@@ -31,17 +33,11 @@ module _ (faces : Faces) (m : IsManifold faces) where
   fewer : (led : List Bool) (k : ℕ) → length led ≡ darts faces → k < darts faces → is_on led k ≡ false
       → unled (set led k true) < unled led
   fewer led k long l off =
-      let one : ◌≡◌ {A = ℕ} (cond (is_on led k) 0 1) 1 = ap (λ b. cond {A = ℕ} b 0 1) off in
-      let none : ◌≡◌ {A = ℕ} (cond (is_on (set led k true) k) 0 1) 0 =
-      ap (λ b. cond {A = ℕ} b 0 1) (get_or-set_same led k true false (omega arith)) in
+      let low : k < length led = omega arith in
+      let less : cond (is_on (set led k true) k) 0 1 < cond (is_on led k) 0 1 =
+      rw (set_there led k low, off) (omega arith) in
       count_below_lt (λ d. cond (is_on (set led k true) d) 0 1) (λ d. cond (is_on led d) 0 1) (darts faces) k l
-      (λ d h. elim (cases_eq d k) [
-        | inl e ↦ rw e (omega arith)
-        | inr ne ↦
-            let same : ◌≡◌ {A = ℕ} (cond (is_on (set led k true) d) 0 1) (cond (is_on led d) 0 1) =
-            ap (λ b. cond {A = ℕ} b 0 1) (get_or-set_other led k d true false ne) in
-            omega arith
-      ]) (omega arith)
+      (λ d h. no_more_at (is_on led d) (is_on (set led k true) d) (set_kept led k d low)) less
 
   next_low : (d e : ℕ) → d < darts faces → follower faces d ≡ Some e → e < darts faces
   next_low d e l f =
@@ -53,22 +49,27 @@ module _ (faces : Faces) (m : IsManifold faces) where
       → IsLeading faces s old now at → unled now < fuel → (new : List Bool) × IsLedFrom faces s old new
   lead_on s old long zero now at is l = absurd (omega arith)
   lead_on s old long (suc fuel) now at is l =
-      by_next (follower faces at) refl (λ next go less. lead_on s old long fuel next.0 next.1 go less)
-    where
-      done : IsNext faces now at None → (new : List Bool) × IsLedFrom faces s old new
-      done end = (now, lead_ends faces s old now at is end)
-
-      by_next : (o : Option ℕ) → follower faces at ≡ o
-          → ((next : (List Bool) × ℕ) → IsLeading faces s old next.0 next.1 → unled next.0 < fuel → (new : List Bool)
-          × IsLedFrom faces s old new) → (new : List Bool) × IsLedFrom faces s old new
-      by_next None f go = done (λ e g. let clash : None ≡ Some e = sym f ∙ g in absurd cc)
-      by_next (Some e) f go = elim (cases_Bool (is_on now e)) [
-        | inl on ↦ done (λ x g. ap (is_on now) (same_Some x e (sym g ∙ f)) ∙ on)
-        | inr off ↦
-            let low = next_low at e is.low f in
-            go (set now e true, e) (lead_more faces s old now at e long is (f, low, off))
-            (omega (arith, fewer now e (is.long ∙ long) low off))
+      let go = lead_on s old long fuel in
+      elim (cases_Option (follower faces at)) [
+        | inl f ↦ (now, done (λ e g. let clash : None ≡ Some e = sym f ∙ g in absurd cc))
+        | inr (e, f) ↦ elim (cases_Bool (is_on now e)) [
+          | inl on ↦ (now, done (λ x g. ap (is_on now) (same_Some x e (sym g ∙ f)) ∙ on))
+          | inr off ↦
+              let low = next_low at e is.low f in
+              go (set now e true) e (lead_more faces s old now at e long is (f, low, off))
+              (omega (arith, fewer now e (is.long ∙ long) low off))
+        ]
       ]
+    where
+      done : IsNext faces now at None → IsLedFrom faces s old now
+      done end = record {
+        long = is.long;
+        closed = λ x e on f. elim (is.closed x e on f)
+            [ inl y ↦ y | inr same ↦ end e (sym (ap (follower faces) same) ∙ f) ];
+        kept = is.kept;
+        there = is.there;
+        sound = is.sound;
+      }
 
   led_below : (sources : List Bool) (n : ℕ) → n ≤ darts faces → (led : List Bool) × AreLed faces sources led n
   led_below sources zero le = (
@@ -81,23 +82,19 @@ module _ (faces : Faces) (m : IsManifold faces) where
     },
   )
   led_below sources (suc n) le =
-      let before = led_below sources n (omega (arith, le)) in
-      by_test before.0 before.1 (is_on sources n) refl
+      let (led, is) = led_below sources n (omega (arith, le)) in
+      elim (cases_Bool (is_on sources n)) [
+        | inr y ↦
+            up led (led_more faces sources led led n false le (sym y) is (λ t. absurd (false≢true t)) (λ t. refl))
+        | inl y ↦
+            let line = lead_on n led is.long (suc (unled (set led n true))) (set led n true) n
+            (lead_begins faces n led is.long le is.closed) (omega arith) in
+            up line.0 (led_more faces sources led line.0 n true le (sym y) is (λ t. line.1)
+            (λ t. absurd (false≢true (sym t))))
+      ]
     where
       up : (new : List Bool) → AreLed faces sources new (n + 1) → (led : List Bool) × AreLed faces sources led (suc n)
-      up new r =
-          let step : n + 1 ≡ suc n = omega arith in
-          (new, subst (λ (k : ℕ). AreLed faces sources new k) step r)
-
-      by_test : (led : List Bool) → AreLed faces sources led n → (b : Bool) → is_on sources n ≡ b → (new : List Bool)
-          × AreLed faces sources new (suc n)
-      by_test led is false y =
-          up led (led_more faces sources led led n false le (sym y) is (λ t. absurd (false≢true t)) (λ t. refl))
-      by_test led is true y =
-          let line = lead_on n led is.long (suc (unled (set led n true))) (set led n true) n
-          (lead_begins faces n led is.long le is.closed) (omega arith) in
-          up line.0 (led_more faces sources led line.0 n true le (sym y) is (λ t. line.1)
-          (λ t. absurd (false≢true (sym t))))
+      up new r = let step : n + 1 ≡ suc n = omega arith in (new, rw (← step) r)
 
 abbrev is_source_at : (faces : Faces) (marks : List Bool) → ℕ → Bool
 is_source_at faces marks d = cond (is_among d (marked_starts faces marks)) true (is_on marks d)
@@ -115,13 +112,12 @@ a_conforming faces marks m marked =
     told : (d : ℕ) → is_on sources d ≡ is_source_at faces marks d
     told d = elim (cases_lt d (darts faces)) [
       | inl l ↦ get_or-map-range_with_len (is_source_at faces marks) 0 (darts faces) d d false l (omega arith)
-      | inr le ↦ false_from_ne_true _
-          (λ y. omega (
-            arith,
-            mark_low sources d y,
-            length-map (all_darts faces) (is_source_at faces marks),
-            length-range_with_len 0 (darts faces),
-          ))
+      | inr le ↦ false_from_ne_true _ (λ y. omega (
+        arith,
+        mark_low sources d y,
+        length-map (all_darts faces) (is_source_at faces marks),
+        length-range_with_len 0 (darts faces),
+      ))
           ∙ none le (is_among d (marked_starts faces marks)) (is_on marks d) refl refl
     ]
       where

@@ -1,29 +1,29 @@
 -- The first state of the motion beside marks is one from which it comes to a full cut.
-use Rattle.std.proofs.Common.{◌≡◌, ◌⊎◌, ℕ, ◌<◌, Bool, true, false, not, eqb, ◌&&◌, List, map}
-use Rattle.std.proofs.Common.{Option, Some, None, is_some, sym, subst, ap, ◌∙◌, refl, inl, inr, arith}
+use Rattle.std.proofs.Common.{◌≡◌, ℕ, ◌<◌, Bool, true, false, not, eqb, ◌&&◌, List, map}
+use Rattle.std.proofs.Common.{Some, is_some, sym, subst, ap, ◌∙◌, refl, inl, inr, arith}
 use Rattle.std.proofs.lemmas.Bool.{cases_Bool, eq-eqb, eqb-true, or_left, or_right, or_cases, and_from, and_parts}
-use Rattle.std.proofs.lemmas.Bool.{not_from_false, false≢true, not-true}
+use Rattle.std.proofs.lemmas.Bool.{not_from_false, false≢true}
 use Rattle.std.specs.List.{list_any}
 use Rattle.def_mesh.specs.{Faces.Faces, Darts.darts, Darts.all_darts, Darts.from_of, Darts.to_of, Darts.next_of}
 use Rattle.def_mesh.specs.{Darts.prev_of, Darts.twin_of, Manifold.IsManifold, Kinds.is_end, Kinds.is_inner}
 use Rattle.def_mesh.specs.{Kinds.is_singular, Components.seeds, Components.is_start}
 use Rattle.def_mesh.specs.HalfEdges.{HalfEdges, IsQuadManifold, half_edges}
-use Rattle.def_cut.specs.{Cuts.IsCross, Cuts.HasCross, FullCut.is_on, Motion.ridden, Motion.is_among, Motion.begun}
-use Rattle.def_cut.specs.{Trails.HasSources, Traced.terrain_of}
+use Rattle.def_cut.specs.{Cuts.HasCross, FullCut.is_on, Motion.ridden, Motion.is_among, Motion.begun}
+use Rattle.def_cut.specs.{Traced.terrain_of}
 use Rattle.def_feature.specs.Marks.{AreMarks, is_break}
 use Rattle.def_cut.specs.Motion.{State}
 use Rattle.def_feature.specs.Marked.{is_origin, marked_starts, marked_first}
 use Rattle.cut_laws.proofs.Crosses.{low_a, low_b, at_a, at_b, both_twins}
-use Rattle.cut_laws.proofs.Darts.{turn_from, turn_low}
 use Rattle.mesh_laws.proofs.HalfEdges.{manifold_law}
 use Rattle.motion_laws.proofs.Among.{AreApart, any_at, any_where, in_filter, from_filter}
 use Rattle.motion_laws.proofs.Among.{apart_filter, among_range, range_among, range_apart}
-use Rattle.motion_laws.proofs.{Bits.rotated, Terrains.IsReachedFrom, Terrains.IsFirst, Terrains.IsSoon, Terrains.IsShut}
-use Rattle.motion_laws.proofs.{Terrains.IsCrossedAt, Traced.ridden_begun}
+use Rattle.motion_laws.proofs.{Bits.rotated, Terrains.IsFirst, Terrains.IsSoon, Terrains.IsShut}
+use Rattle.motion_laws.proofs.{Terrains.IsCrossedAt, Terrains.crossed_at, Traced.ridden_begun}
+use Rattle.motion_laws.proofs.Traced.{shut_before, shut_beside}
 use Rattle.site_laws.proofs.Sites.{terrain, started, all_start}
 use Rattle.site_laws.proofs.Sources.{start_in, start_of, found}
-use Rattle.feature_laws.proofs.Breaks.{begins, is_held, is_held_after, twin_on, two_ways}
-use Rattle.feature_laws.proofs.Lines.{marked_trail}
+use Rattle.feature_laws.proofs.Breaks.{begins, is_held, is_held_after, twin_on, two_ways, marked_trail}
+use Rattle.motion_laws.proofs.Among.{cases_Option}
 
 -- Among the starts.
 pub origin_in : (faces : Faces) (marks : List Bool) (d : ℕ) → d < darts faces → is_origin faces marks d ≡ true
@@ -64,10 +64,8 @@ module _ (faces : Faces) (m : IsManifold faces) (marks : List Bool) (marked : Ar
 
   -- An origin is marked, or a rider starts there.
   pub origin_soon : (d : ℕ) → d < darts faces → is_origin faces marks d ≡ true → IsSoon (marked_first faces marks) d
-  origin_soon d l y = elim (cases_Bool (is_on marks d)) [
-    | inl on ↦ inl on
-    | inr off ↦ inr (ap (is_among d) (ridden_begun starts) ∙ origin_in faces marks d l y off)
-  ]
+  origin_soon d l y = elim (cases_Bool (is_on marks d))
+      [ inl on ↦ inl on | inr off ↦ inr (ap (is_among d) (ridden_begun starts) ∙ origin_in faces marks d l y off) ]
 
   -- Of the darts with a twin that leave one vertex all are origins or none.
   pub all_origins : (d e t : ℕ) → d < darts faces → e < darts faces → is_origin faces marks d ≡ true
@@ -78,58 +76,17 @@ module _ (faces : Faces) (m : IsManifold faces) (marks : List Bool) (marked : Ar
         (and_from _ _ (ap is_some w) (ap (is_break faces marks) at ∙ (and_parts _ _ b).1))
   ]
 
-  -- So all edges at an origin are shut.
-  at_origin : (d e : ℕ) → d < darts faces → is_origin faces marks d ≡ true → e < darts faces
-      → from_of faces e ≡ from_of faces d → IsShutFirst e
-  at_origin d e ld y le at = by_twin (twin_of faces e) refl
-    where
-      by_twin : (o : Option ℕ) → twin_of faces e ≡ o → IsShutFirst e
-      by_twin None w = inr (inl w)
-      by_twin (Some x) w = inl (origin_soon e le (all_origins d e x ld le y at w))
-
-  before_origin : (d : ℕ) → d < darts faces → is_origin faces marks d ≡ true → IsShutFirst (prev_of d)
-  before_origin d ld y = by_twin (twin_of faces (prev_of d)) refl
-    where
-      by_twin : (o : Option ℕ) → twin_of faces (prev_of d) ≡ o → IsShutFirst (prev_of d)
-      by_twin None w = inr (inl w)
-      by_twin (Some a) w =
-          let la = turn_low mesh laws d a ld w in
-          inr (inr (
-            a,
-            w,
-            origin_soon a la (all_origins d a (prev_of d) ld la y (turn_from mesh laws d a ld w)
-                (laws.twin_twin (prev_of d) a (laws.prev_low d ld) w)),
-          ))
+  spread : (d : ℕ) → d < darts faces → is_origin faces marks d ≡ true → (e x : ℕ) → e < darts faces
+      → from_of faces e ≡ from_of faces d → twin_of faces e ≡ Some x → IsSoon (marked_first faces marks) e
+  spread d l y e x le at w = origin_soon e le (all_origins d e x l le y at w)
 
   -- What is held is shut.
   held_shut : (d : ℕ) → is_held faces marks d ≡ true → IsShutFirst d
-  held_shut d h =
-      let none_of : (o : Option ℕ) → is_some o ≡ false → o ≡ None =
-      elim [ None ↦ λ e. refl | Some t ↦ λ e. absurd (false≢true (sym e)) ] in
-      elim (or_cases (is_on marks d) _ h) [
-        | inl on ↦ inl (inl on)
-        | inr n ↦ inr (inl (none_of (twin_of faces d) (not-true (is_some (twin_of faces d)) n)))
-      ]
-
-  begins_soon : (d : ℕ) → d < darts faces → begins faces marks d ≡ true → IsSoon first d
-  begins_soon d l y = elim (or_cases _ _ y) [ inl o ↦ origin_soon d l o | inr h ↦ inl (and_parts _ _ h).0 ]
-
-  begins_before : (d : ℕ) → d < darts faces → begins faces marks d ≡ true → IsShutFirst (prev_of d)
-  begins_before d l y = elim (or_cases _ _ y)
-      [ inl o ↦ before_origin d l o | inr h ↦ held_shut (prev_of d) (and_parts _ _ (and_parts _ _ h).1).0 ]
-
-  begins_beside : (d t : ℕ) → d < darts faces → begins faces marks d ≡ true → twin_of faces d ≡ Some t
-      → IsShutFirst (next_of t)
-  begins_beside d t l y w = elim (or_cases _ _ y) [
-    | inl o ↦ at_origin d (next_of t) l o (laws.next_low t (laws.twin_low d t l w)) (laws.twin_ends d t l w).1
-    | inr h ↦ held_shut (next_of t) (sym (ap (is_held_after faces marks) w) ∙ (and_parts _ _ (and_parts _ _ h).1).1)
+  held_shut d h = elim (or_cases (is_on marks d) _ h) [
+    | inl on ↦ inl (inl on)
+    | inr n ↦ elim (cases_Option (twin_of faces d))
+        [ inl w ↦ inr (inl w) | inr (t, w) ↦ absurd (false≢true (rw w at n)) ]
   ]
-
-  -- Two opposite edges at a cross that are soon.
-  crossed : {v x a b c : ℕ} → x < darts faces → from_of faces x ≡ v → IsCross mesh x a b c → IsSoon first x
-      → IsSoon first b → IsCrossedFirst v
-  crossed {x} {a} {b} {c} l at k sx sb =
-      record { x = x; a = a; b = b; c = c; low = l; at = at; cross = k; soon = sx; facing = sb }
 
   -- At a cross where some dart is an origin, all are soon.
   by_origin : (v x : ℕ) → x < darts faces → from_of faces x ≡ v → HasCross mesh x → is_origin faces marks x ≡ true
@@ -138,49 +95,18 @@ module _ (faces : Faces) (m : IsManifold faces) (marks : List Bool) (marked : Ar
       let lb = low_b mesh laws x a b c l k in
       let b_at = at_b mesh laws x a b c l k in
       let t = (both_twins mesh laws x a b c l k b (record { low = lb; at = b_at })).1 in
-      crossed l at k (origin_soon x l y) (origin_soon b lb (all_origins x b t.0 l lb y b_at t.1))
+      crossed_at l at k (origin_soon x l y) (origin_soon b lb (all_origins x b t.0 l lb y b_at t.1))
 
   -- At a cross where some dart is marked, two opposite edges are soon.
   by_mark : (v x : ℕ) → x < darts faces → from_of faces x ≡ v → HasCross mesh x → is_on marks x ≡ true
       → IsCrossedFirst v
   by_mark v x l at (a, b, c, k) on = elim (two_ways faces m marks marked x a b c l on k) [
-    | inl yb ↦ crossed l at k (inl on) (inl yb)
-    | inr (inl both) ↦ crossed (low_a mesh laws x a b c l k) (at_a mesh laws x a b c l k ∙ at)
+    | inl yb ↦ crossed_at l at k (inl on) (inl yb)
+    | inr (inl both) ↦ crossed_at (low_a mesh laws x a b c l k) (at_a mesh laws x a b c l k ∙ at)
         (rotated mesh laws x a b c l k) (inl both.0) (inl both.1)
     | inr (inr y) ↦ by_origin v x l at (a, b, c, k) (or_right (is_start faces (seeds faces) x) _
         (and_from _ _ (ap is_some (twin_on faces m marks marked x l on).1) y))
   ]
-
-  first_through : (d : ℕ) → d < darts faces → (marked_first faces marks).stood (from_of faces d) ≡ true
-      → not (is_inner faces (from_of faces d)) ≡ false → is_singular faces (from_of faces d) ≡ false
-      → IsCrossedFirst (from_of faces d)
-  first_through d low k inner regular =
-      let v = from_of faces d in
-      let cross_at : (x : ℕ) → x < darts faces → from_of faces x ≡ from_of faces d → HasCross mesh x =
-      λ x l at. (terrain faces m).crossed x l (ap (λ v. not (is_inner faces v)) at ∙ inner)
-      (ap (is_singular faces) at ∙ regular) in
-      elim (or_cases (list_any (λ x. eqb (from_of faces x) v) starts) _ k) [
-        | inl a ↦
-            let found = any_where (λ x. eqb (from_of faces x) v) starts a in
-            let o = origin_of faces marks found.0 found.1 in
-            let at : from_of faces found.0 ≡ from_of faces d = eqb-true _ _ found.2 in
-            by_origin v found.0 o.0 at (cross_at found.0 o.0 at) o.1
-        | inr b ↦
-            let found = any_where (λ x. is_on marks x && is_end faces v x) (all_darts faces) b in
-            let x = found.0 in
-            let l : x < darts faces = omega (arith, (range_among 0 (darts faces) x found.1).1) in
-            let p = and_parts (is_on marks x) (is_end faces v x) found.2 in
-            elim (or_cases (eqb (from_of faces x) v) _ p.1) [
-              | inl e ↦
-                  let at : from_of faces x ≡ from_of faces d = eqb-true _ _ e in
-                  by_mark v x l at (cross_at x l at) p.0
-              | inr e ↦
-                  let t = twin_on faces m marks marked x l p.0 in
-                  let lt = laws.twin_low x t.0 l t.1 in
-                  let at : from_of faces t.0 ≡ from_of faces d = (laws.twin_ends x t.0 l t.1).0 ∙ eqb-true _ _ e in
-                  by_mark v t.0 lt at (cross_at t.0 lt at) (marked.alike x t.0 l t.1 ∙ p.0)
-            ]
-      ]
 
   -- Both ends of a marked edge are known.
   stood_end : (v d : ℕ) → d < darts faces → is_on marks d ≡ true → is_end faces v d ≡ true → first.stood v ≡ true
@@ -188,51 +114,70 @@ module _ (faces : Faces) (m : IsManifold faces) (marks : List Bool) (marked : Ar
       (any_at (λ x. is_on marks x && is_end faces v x) d (all_darts faces)
       (among_range 0 (darts faces) d (omega arith) (omega arith)) (and_from _ _ on e))
 
-  first_reached : IsReachedFrom (terrain_of faces) (begins faces marks) first first
-  first_reached = record {
-    apart = subst AreApart (sym (ridden_begun starts)) (apart_filter
-        (λ e. is_origin faces marks e && not (is_on marks e)) (all_darts faces) (range_apart 0 (darts faces)));
-    low = λ d n. (origin_of faces marks d (is_first d n)).0;
-    left = λ d n. or_left _ (list_any (λ x. is_on marks x && is_end faces (from_of faces d) x) (all_darts faces))
-        (any_at (λ x. eqb (from_of faces x) (from_of faces d)) d starts (is_first d n) (eq-eqb _ _ refl));
-    alike = marked.alike;
-    ends = λ d low on. (
-      inl (stood_end (from_of faces d) d low on
-          (or_left (eqb (from_of faces d) (from_of faces d)) _ (eq-eqb _ _ refl))),
-      inl (stood_end (to_of faces d) d low on (or_right (eqb (from_of faces d) (to_of faces d)) _ (eq-eqb _ _ refl))),
-    );
-    kept = λ d k. k;
-    trails = λ d n. (0, or_left _ _ (origin_of faces marks d (is_first d n)).1);
-    tracked = λ d low on. let t = marked_trail faces m marks marked d low on in (t.0, inl t.1);
-    through = first_through;
-  }
-
-  -- Each component has a source.
-  first_found : HasSources mesh (begins faces marks)
-  first_found d l =
-      let by = found faces m d l in (
-        by.0,
-        by.1,
-        by.2,
-        elim by.3
-            [ inl s ↦ inl (or_left _ _ (or_left _ _ (start_of faces by.0 s).1)) | inr a ↦ inr a ],
-      )
-
-  first_sided : (d : ℕ) → d < darts faces → not (is_inner faces (to_of faces d)) ≡ true → IsShutFirst (next_of d)
-      ⊎ ((t : ℕ) × (twin_of faces (next_of d) ≡ Some t) × (twin_of faces (next_of t) ≡ None))
-  first_sided d low out = elim ((started faces m).sided d low out) [
-    | inl s ↦ inl (inl (origin_soon (next_of d) (laws.next_low d low) (or_left _ _ (start_of faces (next_of d) s).1)))
-    | inr (inl w) ↦ inl (inr (inl w))
-    | inr (inr k) ↦ inr k
-  ]
-
   pub marked_begin : IsFirst (terrain_of faces) (begins faces marks) (marked_first faces marks)
   marked_begin = record {
-    reached = first_reached;
-    found = first_found;
-    begun = begins_soon;
-    before = begins_before;
-    beside = begins_beside;
+    reached = record {
+      apart = subst AreApart (sym (ridden_begun starts)) (apart_filter
+          (λ e. is_origin faces marks e && not (is_on marks e)) (all_darts faces) (range_apart 0 (darts faces)));
+      low = λ d n. (origin_of faces marks d (is_first d n)).0;
+      left = λ d n. or_left _ (list_any (λ x. is_on marks x && is_end faces (from_of faces d) x) (all_darts faces))
+          (any_at (λ x. eqb (from_of faces x) (from_of faces d)) d starts (is_first d n) (eq-eqb _ _ refl));
+      alike = marked.alike;
+      ends = λ d low on. (
+        inl (stood_end (from_of faces d) d low on
+            (or_left (eqb (from_of faces d) (from_of faces d)) _ (eq-eqb _ _ refl))),
+        inl (stood_end (to_of faces d) d low on (or_right (eqb (from_of faces d) (to_of faces d)) _ (eq-eqb _ _ refl))),
+      );
+      kept = λ d k. k;
+      trails = λ d n. (0, or_left _ _ (origin_of faces marks d (is_first d n)).1);
+      tracked = λ d low on. let t = marked_trail faces m marks marked d low on in (t.0, inl t.1);
+      through = λ d low k inner regular.
+          let v = from_of faces d in
+          let cross_at : (x : ℕ) → x < darts faces → from_of faces x ≡ from_of faces d → HasCross mesh x =
+          λ x l at. (terrain faces m).crossed x l (ap (λ v. not (is_inner faces v)) at ∙ inner)
+          (ap (is_singular faces) at ∙ regular) in
+          elim (or_cases (list_any (λ x. eqb (from_of faces x) v) starts) _ k) [
+            | inl a ↦
+                let (x, n, e) = any_where (λ x. eqb (from_of faces x) v) starts a in
+                let o = origin_of faces marks x n in
+                let at : from_of faces x ≡ from_of faces d = eqb-true _ _ e in
+                by_origin v x o.0 at (cross_at x o.0 at) o.1
+            | inr b ↦
+                let (x, n, there) = any_where (λ x. is_on marks x && is_end faces v x) (all_darts faces) b in
+                let l : x < darts faces = omega (arith, (range_among 0 (darts faces) x n).1) in
+                let p = and_parts (is_on marks x) (is_end faces v x) there in
+                elim (or_cases (eqb (from_of faces x) v) _ p.1) [
+                  | inl e ↦
+                      let at : from_of faces x ≡ from_of faces d = eqb-true _ _ e in
+                      by_mark v x l at (cross_at x l at) p.0
+                  | inr e ↦
+                      let t = twin_on faces m marks marked x l p.0 in
+                      let lt = laws.twin_low x t.0 l t.1 in
+                      let at : from_of faces t.0 ≡ from_of faces d = (laws.twin_ends x t.0 l t.1).0 ∙ eqb-true _ _ e in
+                      by_mark v t.0 lt at (cross_at t.0 lt at) (marked.alike x t.0 l t.1 ∙ p.0)
+                ]
+          ];
+    };
+    found = λ d l. let by = found faces m d l in (
+      by.0,
+      by.1,
+      by.2,
+      elim by.3
+          [ inl s ↦ inl (or_left _ _ (or_left _ _ (start_of faces by.0 s).1)) | inr a ↦ inr a ],
+    );
+    begun = λ d l y. elim (or_cases _ _ y) [ inl o ↦ origin_soon d l o | inr h ↦ inl (and_parts _ _ h).0 ];
+    before = λ d l y. elim (or_cases _ _ y) [
+      | inl o ↦ shut_before (terrain_of faces) (terrain faces m) (marked_first faces marks) d l (spread d l o)
+      | inr h ↦ held_shut (prev_of d) (and_parts _ _ (and_parts _ _ h).1).0
+    ];
+    beside = λ d t l y w. elim (or_cases _ _ y) [
+      | inl o ↦ shut_beside (terrain_of faces) (terrain faces m) (marked_first faces marks) d l (spread d l o) t w
+      | inr h ↦ held_shut (next_of t) (sym (ap (is_held_after faces marks) w) ∙ (and_parts _ _ (and_parts _ _ h).1).1)
+    ];
     singular = λ d low s. inl (origin_soon d low (or_left _ _ (or_left _ _ s)));
-    sided = first_sided;
+    sided = λ d l out. elim ((started faces m).sided d l out) [
+      | inl s ↦ inl (inl (origin_soon (next_of d) (laws.next_low d l) (or_left _ _ (start_of faces (next_of d) s).1)))
+      | inr (inl w) ↦ inl (inr (inl w))
+      | inr (inr k) ↦ inr k
+    ];
   }

@@ -6,14 +6,14 @@ use Rattle.std.proofs.lemmas.Bool.{or_left, false≢true}
 use Rattle.def_mesh.specs.{Faces.Faces, Darts.darts, Darts.all_darts, Manifold.IsManifold, Vertices.vertex_count}
 use Rattle.def_mesh.specs.HalfEdges.{half_edges}
 use Rattle.def_cut.specs.{Cuts.IsCut, FullCut.is_on, Motion.ridden, Motion.is_among, Traced.terrain_of, Traced.is_cut}
-use Rattle.def_feature.specs.{Laws.KeepsMarks, Laws.MarkedLaw, Marks.AreMarks, Marked.is_origin, Marked.marked_first}
+use Rattle.def_feature.specs.{Laws.KeepsMarks, Laws.MarkedLaw, Marks.AreMarks, Marked.marked_first}
 use Rattle.def_feature.specs.Marked.{marked_last, marked_cut}
 use Rattle.face_laws.proofs.FullCuts.{full_cut_law}
 use Rattle.mesh_laws.proofs.{HalfEdges.manifold_law, Vertices.all_below}
 use Rattle.motion_laws.proofs.Onward.{nobody_runs, end_reached, full_cut}
 use Rattle.motion_laws.proofs.Terrains.{IsReachedFrom, IsSoon}
 use Rattle.site_laws.proofs.{Laws.same_cut, Sites.terrain}
-use Rattle.feature_laws.proofs.{Breaks.begins, First.origin_soon, First.marked_begin}
+use Rattle.feature_laws.proofs.{Breaks.begins, First.marked_begin}
 
 -- A mark of the cut.
 pub mark_is : (faces : Faces) (marks : List Bool) (d : ℕ) → d < darts faces
@@ -46,9 +46,6 @@ module _ (faces : Faces) (m : IsManifold faces) (marks : List Bool) (marked : Ar
   pub soon_cut : (d : ℕ) → d < darts faces → IsSoon (marked_first faces marks) d
       → is_on (marked_cut faces marks) d ≡ true
   soon_cut d l k = mark_is faces marks d l ∙ or_left _ _ (covered d (last.kept d k))
-
-  pub origin_cut : (d : ℕ) → d < darts faces → is_origin faces marks d ≡ true → is_on (marked_cut faces marks) d ≡ true
-  origin_cut d l y = soon_cut d l (origin_soon faces m marks marked d l y)
 
   pub keeps_marks : KeepsMarks faces marks
   keeps_marks = record {

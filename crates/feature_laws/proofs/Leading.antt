@@ -1,6 +1,6 @@
 -- A line is led dart by dart.
 use Rattle.std.proofs.Common.{◌≡◌, ◌⊎◌, ℕ, suc, ◌+◌, ◌<◌, Bool, true, false, List, length, set}
-use Rattle.std.proofs.Common.{Some, None, sym, ◌∙◌, ap, refl, inl, inr, arith}
+use Rattle.std.proofs.Common.{Some, sym, ◌∙◌, ap, refl, inl, inr, arith}
 use Rattle.std.proofs.lemmas.Bool.{cases_eq, false≢true}
 use Rattle.std.proofs.lemmas.List.{get_or-set_same, get_or-set_other, length-set}
 use Rattle.std.proofs.lemmas.Option.{same_Some}
@@ -10,20 +10,16 @@ use Rattle.def_runs.specs.Runs.{follower}
 use Rattle.feature_laws.specs.Leads.{From, IsClosed, IsLedFrom, IsLeading, IsNext, AreLed}
 
 -- One mark more.
-set_there : (xs : List Bool) (k : ℕ) → k < length xs → is_on (set xs k true) k ≡ true
+pub set_there : (xs : List Bool) (k : ℕ) → k < length xs → is_on (set xs k true) k ≡ true
 set_there xs k l = get_or-set_same xs k true false l
 
-set_kept : (xs : List Bool) (k d : ℕ) → k < length xs → is_on xs d ≡ true → is_on (set xs k true) d ≡ true
-set_kept xs k d l on = elim (cases_eq d k) [
-  | inl e ↦ ap (is_on (set xs k true)) e ∙ set_there xs k l
-  | inr ne ↦ get_or-set_other xs k d true false ne ∙ on
-]
+pub set_kept : (xs : List Bool) (k d : ℕ) → k < length xs → is_on xs d ≡ true → is_on (set xs k true) d ≡ true
+set_kept xs k d l on = elim (cases_eq d k)
+    [ inl e ↦ ap (is_on (set xs k true)) e ∙ set_there xs k l | inr ne ↦ get_or-set_other xs k d true false ne ∙ on ]
 
 set_from : (xs : List Bool) (k d : ℕ) → is_on (set xs k true) d ≡ true → (d ≡ k) ⊎ (is_on xs d ≡ true)
-set_from xs k d on = elim (cases_eq d k) [
-  | inl e ↦ inl e
-  | inr ne ↦ inr (sym (get_or-set_other xs k d true false ne) ∙ on)
-]
+set_from xs k d on = elim (cases_eq d k)
+    [ inl e ↦ inl e | inr ne ↦ inr (sym (get_or-set_other xs k d true false ne) ∙ on) ]
 
 module _ (faces : Faces) (s : ℕ) (old : List Bool) where
   pub lead_begins : length old ≡ darts faces → s < darts faces → IsClosed faces old
@@ -68,17 +64,6 @@ module _ (faces : Faces) (s : ℕ) (old : List Bool) where
         | inr same ↦ let ahead : e ≡ next = same_Some e next (sym g ∙ (ap (follower faces) same ∙ f)) in inl
             (ap (is_on (set now next true)) ahead ∙ set_there now next l)
       ]
-
-  pub lead_ends : (now : List Bool) (at : ℕ) → IsLeading faces s old now at → IsNext faces now at None
-      → IsLedFrom faces s old now
-  lead_ends now at is end = record {
-    long = is.long;
-    closed = λ x e on f. elim (is.closed x e on f)
-        [ inl y ↦ y | inr same ↦ end e (sym (ap (follower faces) same) ∙ f) ];
-    kept = is.kept;
-    there = is.there;
-    sound = is.sound;
-  }
 
 -- One source more.
 pub led_more : (faces : Faces) (sources old new : List Bool) (d : ℕ) (test : Bool) → d < darts faces

@@ -1,6 +1,6 @@
 -- What is led from the sources is the conforming cut.
 use Rattle.std.proofs.Common.{◌≡◌, ◌⊎◌, ℕ, zero, suc, ◌<◌, Bool, true, false, cond}
-use Rattle.std.proofs.Common.{List, length, map, Option, Some, None, sym, ◌∙◌, ap, refl, inl, inr, arith}
+use Rattle.std.proofs.Common.{List, length, map, Some, None, sym, ◌∙◌, ap, refl, inl, inr, arith}
 use Rattle.std.proofs.lemmas.Bool.{cases_Bool, or_left, or_right, or_cases, false≢true}
 use Rattle.std.proofs.lemmas.List.{length-map}
 use Rattle.std.proofs.lemmas.List.FromFn.{length-range_with_len, get_or-map-range_with_len}
@@ -8,11 +8,12 @@ use Rattle.std.proofs.lemmas.Option.{same_Some}
 use Rattle.def_mesh.specs.{Faces.Faces, Darts.all_darts, Darts.darts, Darts.twin_of}
 use Rattle.def_mesh.specs.Manifold.{IsManifold}
 use Rattle.def_cut.specs.{FullCut.is_on, Motion.is_among}
-use Rattle.def_feature.specs.Conforming.{is_source, Line, IsLined, IsConforming}
+use Rattle.def_feature.specs.Conforming.{is_source, Line, IsConforming}
 use Rattle.def_feature.specs.{Marked.is_origin, Marked.marked_starts}
 use Rattle.feature_laws.proofs.First.{origin_in, origin_of}
 use Rattle.mesh_laws.proofs.HalfEdges.{manifold_law}
 use Rattle.feature_laws.specs.Leads.{From, AreLed, is_led_edge}
+use Rattle.motion_laws.proofs.Among.{cases_Option}
 
 module _ (faces : Faces) (m : IsManifold faces) (marks : List Bool) (starts : List ℕ) (sources led cut : List Bool)
     (started : starts ≡ marked_starts faces marks) (told : (d : ℕ) → is_on sources d
@@ -57,23 +58,21 @@ module _ (faces : Faces) (m : IsManifold faces) (marks : List Bool) (starts : Li
     long = ap length is ∙ (length-map (all_darts faces) (λ d. is_led_edge led d (twin_of faces d))
         ∙ length-range_with_len 0 (darts faces));
     lined = λ d l. (
-      λ y. to d l (twin_of faces d) refl (sym (value d l) ∙ y),
-      λ y. value d l ∙ from d l (twin_of faces d) refl y,
+      λ y. elim (cases_Option (twin_of faces d)) [
+        | inl w ↦ inl w
+        | inr (t, w) ↦ elim (or_cases _ _ (rw (value d l, w) at y))
+            [ inl a ↦ inr (inl (led_line d a)) | inr b ↦ inr (inr (t, w, led_line t b)) ]
+      ],
+      λ y. elim (cases_Option (twin_of faces d)) [
+        | inl w ↦ rw (value d l, w) refl
+        | inr (t, w) ↦ rw (value d l, w) (elim y [
+          | inl none ↦ let clash : None ≡ Some t = sym none ∙ w in absurd cc
+          | inr (inl line) ↦ or_left _ _ (line_led d line.0 l line.1)
+          | inr (inr (u, v, line)) ↦
+              let same : u ≡ t = same_Some u t (sym v ∙ w) in
+              or_right (is_on led d) _ (ap (is_on led) (sym same)
+              ∙ line_led u line.0 ((manifold_law faces m).twin_low d u l v) line.1)
+        ])
+      ],
     );
   }
-    where
-      to : (d : ℕ) → d < darts faces → (o : Option ℕ) → twin_of faces d ≡ o → is_led_edge led d o ≡ true
-          → IsLined faces marks d
-      to d l None w y = inl w
-      to d l (Some t) w y = elim (or_cases _ _ y)
-          [ inl a ↦ inr (inl (led_line d a)) | inr b ↦ inr (inr (t, w, led_line t b)) ]
-
-      from : (d : ℕ) → d < darts faces → (o : Option ℕ) → twin_of faces d ≡ o → IsLined faces marks d
-          → is_led_edge led d o ≡ true
-      from d l None w y = refl
-      from d l (Some t) w (inl none) = let clash : None ≡ Some t = sym none ∙ w in absurd cc
-      from d l (Some t) w (inr (inl line)) = or_left _ _ (line_led d line.0 l line.1)
-      from d l (Some t) w (inr (inr (u, v, line))) =
-          let same : u ≡ t = same_Some u t (sym v ∙ w) in
-          or_right (is_on led d) _ (ap (is_on led) (sym same)
-          ∙ line_led u line.0 ((manifold_law faces m).twin_low d u l v) line.1)

@@ -1,5 +1,4 @@
 pub mod Breaks
-pub mod Lines
 pub mod First
 pub mod Laws
 pub mod Arcs

@@ -1,7 +1,7 @@
 -- Lines that go straight on, as loops find them.
 use Rattle.std.specs.Prelude.{◌≡◌, ◌⊎◌, ◌||◌, ℕ, zero, suc, ◌<◌, Bool, true, false, List, length, Option, Some, None}
 use Rattle.def_mesh.specs.Faces.{Faces}
-use Rattle.def_mesh.specs.Darts.{darts, twin_of}
+use Rattle.def_mesh.specs.Darts.{darts}
 use Rattle.def_cut.specs.FullCut.{is_on}
 use Rattle.def_runs.specs.Runs.{follower}
 

@@ -1,11 +1,20 @@
 -- Lists of darts: what stands among them, filters, and lists without repeats.
 use Rattle.std.proofs.Common.{◌≡◌, ◌⊎◌, ℕ, zero, suc, Bool, true, false, cond, eqb, ◌&&◌, ◌+◌, ◌<◌, ◌≤◌, List, []}
-use Rattle.std.proofs.Common.{◌∷◌, arith, sym, ap, ◌∙◌, refl, inl, inr}
+use Rattle.std.proofs.Common.{◌∷◌, Option, Some, None, arith, sym, ap, ◌∙◌, refl, inl, inr}
 use Rattle.std.proofs.lemmas.Bool.{or_left, or_right, or_cases, eq-eqb, eqb-true, and_parts, false≢true}
 use Rattle.std.proofs.lemmas.Bool.{false_from_ne_true}
 use Rattle.std.specs.List.{filter, list_any, list_all, range_with_len}
 use Rattle.list_laws.proofs.Filters.{any_in_range, range_any}
-use Rattle.def_cut.specs.Motion.{is_among}
+use Rattle.def_cut.specs.Motion.{is_among, is_found}
+
+-- A value is there or not; a list is empty or not.
+pub cases_Option : {A : Type 0} (o : Option A) → (o ≡ None) ⊎ ((x : A) × (o ≡ Some x))
+cases_Option None = inl refl
+cases_Option (Some x) = inr (x, refl)
+
+pub cases_List : {A : Type 0} (xs : List A) → (xs ≡ []) ⊎ ((x : A) × (ys : List A) × (xs ≡ x ∷ ys))
+cases_List [] = inl refl
+cases_List (x ∷ xs) = inr (x, xs, refl)
 
 -- Among a list with one dart more.
 pub among_here : (d e : ℕ) (ds : List ℕ) → d ≡ e → is_among d (e ∷ ds) ≡ true
@@ -17,13 +26,16 @@ among_later d e ds m = or_right _ _ m
 pub among_cases : (d e : ℕ) (ds : List ℕ) → is_among d (e ∷ ds) ≡ true → (d ≡ e) ⊎ (is_among d ds ≡ true)
 among_cases d e ds m = elim (or_cases _ _ m) [ inl s ↦ inl (eqb-true d e s) | inr r ↦ inr r ]
 
+-- What is found stands there.
+pub found_where : (o : Option ℕ) (ds : List ℕ) → is_found o ds ≡ true → (e : ℕ) × (o ≡ Some e) × (is_among e ds ≡ true)
+found_where None ds f = absurd (false≢true f)
+found_where (Some e) ds f = (e, refl, f)
+
 -- A test that some dart of the list passes.
 pub any_at : (p : ℕ → Bool) (d : ℕ) (ds : List ℕ) → is_among d ds ≡ true → p d ≡ true → list_any p ds ≡ true
 any_at p d [] m t = absurd (false≢true m)
-any_at p d (e ∷ ds) m t = elim (among_cases d e ds m) [
-  | inl s ↦ or_left _ _ (ap p (sym s) ∙ t)
-  | inr r ↦ or_right _ _ (any_at p d ds r t)
-]
+any_at p d (e ∷ ds) m t = elim (among_cases d e ds m)
+    [ inl s ↦ or_left _ _ (ap p (sym s) ∙ t) | inr r ↦ or_right _ _ (any_at p d ds r t) ]
 
 pub any_where : (p : ℕ → Bool) (ds : List ℕ) → list_any p ds ≡ true → (d : ℕ) × (is_among d ds ≡ true) × (p d ≡ true)
 any_where p [] t = absurd (false≢true t)
@@ -54,9 +66,8 @@ pub in_filter : (p : ℕ → Bool) (d : ℕ) (ds : List ℕ) → is_among d ds �
 in_filter p d [] m t = absurd (false≢true m)
 in_filter p d (e ∷ ds) m t = at (p e) refl (among_cases d e ds m) (in_filter p d ds)
   where
-    at : (b : Bool) → p e ≡ b → (d ≡ e) ⊎ (is_among d ds ≡ true)
-        → (is_among d ds ≡ true → p d ≡ true → is_among d (filter p ds) ≡ true)
-        → is_among d (cond b (e ∷ filter p ds) (filter p ds)) ≡ true
+    at : (b : Bool) → p e ≡ b → (d ≡ e) ⊎ (is_among d ds ≡ true) → (is_among d ds ≡ true → p d ≡ true → is_among d
+        (filter p ds) ≡ true) → is_among d (cond b (e ∷ filter p ds) (filter p ds)) ≡ true
     at true k (inl s) rest = among_here d e (filter p ds) s
     at true k (inr r) rest = among_later d e (filter p ds) (rest r t)
     at false k (inl s) rest = absurd (false≢true (sym k ∙ (ap p (sym s) ∙ t)))
@@ -67,13 +78,10 @@ pub from_filter : (p : ℕ → Bool) (d : ℕ) (ds : List ℕ) → is_among d (f
 from_filter p d [] m = absurd (false≢true m)
 from_filter p d (e ∷ ds) m = at (p e) refl m (from_filter p d ds)
   where
-    at : (b : Bool) → p e ≡ b → is_among d (cond b (e ∷ filter p ds) (filter p ds)) ≡ true
-        → (is_among d (filter p ds) ≡ true → (is_among d ds ≡ true) × (p d ≡ true)) → (is_among d (e ∷ ds) ≡ true)
-        × (p d ≡ true)
-    at true k m rest = elim (among_cases d e (filter p ds) m) [
-      | inl s ↦ (among_here d e ds s, ap p s ∙ k)
-      | inr r ↦ (among_later d e ds (rest r).0, (rest r).1)
-    ]
+    at : (b : Bool) → p e ≡ b → is_among d (cond b (e ∷ filter p ds) (filter p ds)) ≡ true → (is_among d (filter p ds)
+        ≡ true → (is_among d ds ≡ true) × (p d ≡ true)) → (is_among d (e ∷ ds) ≡ true) × (p d ≡ true)
+    at true k m rest = elim (among_cases d e (filter p ds) m)
+        [ inl s ↦ (among_here d e ds s, ap p s ∙ k) | inr r ↦ (among_later d e ds (rest r).0, (rest r).1) ]
     at false k m rest = (among_later d e ds (rest m).0, (rest m).1)
 
 -- No dart stands there twice.

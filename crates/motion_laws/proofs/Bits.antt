@@ -1,10 +1,10 @@
 -- Who goes on at a vertex with four faces, told by two bits: the rider by d, where neither the rider to whom it gives
 -- way arrives nor the one from the opposite side.
-use Rattle.std.proofs.Common.{◌≡◌, ◌≢◌, ◌⊎◌, ℕ, suc, ◌+◌, ◌<◌, Bool, true, false, not, eqb, ◌&&◌, ◌||◌, List, [], ◌∷◌}
+use Rattle.std.proofs.Common.{◌≡◌, ◌≢◌, ◌⊎◌, ℕ, suc, ◌+◌, ◌<◌, true, false, not, eqb, ◌&&◌, ◌||◌, List, [], ◌∷◌}
 use Rattle.std.proofs.Common.{sym, ap}
 use Rattle.std.proofs.Common.{◌∙◌, refl, inl, inr, arith}
 use Rattle.std.proofs.Math.Bool.{or-false}
-use Rattle.std.proofs.lemmas.Bool.{eq-eqb, ne_eqb, false≢true}
+use Rattle.std.proofs.lemmas.Bool.{cases_Bool, eq-eqb, false≢true, ne_eqb}
 use Rattle.def_mesh.specs.HalfEdges.{HalfEdges, IsQuadManifold}
 use Rattle.def_cut.specs.Cuts.{IsCross}
 use Rattle.def_cut.specs.Motion.{Terrain, end_of, is_among, is_twin, gives_way, goes_on}
@@ -46,31 +46,25 @@ module _ (g : Terrain) (d p q r : ℕ) (round : AreRound g d p q r) where
   not_d y ne (inl e) = absurd (ne (sym e))
   not_d y ne (inr o) = o
 
-  first_of_two : (x y : ℕ) → d ≡ x → x ≢ y → IsOfFour d p q r y → goes_on g (x ∷ y ∷ []) d
-      ≡ (not (is_among p (x ∷ y ∷ [])) && not (is_among q (x ∷ y ∷ [])))
-  first_of_two x y s ne o = rw (
-    ne_eqb d y (λ k. ne (sym s ∙ k)),
-    eq-eqb d x s,
-    ne_eqb p x (λ k. round.d_p (s ∙ sym k)),
-    ne_eqb q x (λ k. round.d_q (s ∙ sym k)),
-  ) (ap (λ k. gives_way g y k) (sym s) ∙ other y (not_d y (λ k. ne (sym s ∙ k)) o))
+  first_of_two : (y : ℕ) → d ≢ y → IsOfFour d p q r y → goes_on g (d ∷ y ∷ []) d
+      ≡ (not (is_among p (d ∷ y ∷ [])) && not (is_among q (d ∷ y ∷ [])))
+  first_of_two y ne o = rw (
+    ne_eqb d y ne,
+    eq-eqb d d refl,
+    ne_eqb p d (λ k. round.d_p (sym k)),
+    ne_eqb q d (λ k. round.d_q (sym k)),
+  ) (other y (not_d y ne o))
 
-  second_of_two : (x y : ℕ) → d ≡ y → x ≢ y → IsOfFour d p q r x → goes_on g (x ∷ y ∷ []) d
-      ≡ (not (is_among p (x ∷ y ∷ [])) && not (is_among q (x ∷ y ∷ [])))
-  second_of_two x y s ne o = rw (
-    ne_eqb d x (λ k. ne (sym k ∙ s)),
-    eq-eqb d y s,
-    ne_eqb p y (λ k. round.d_p (s ∙ sym k)),
-    ne_eqb q y (λ k. round.d_q (s ∙ sym k)),
-  ) (or-false (gives_way g x y) ∙ (ap (λ k. gives_way g x k) (sym s) ∙ other x (not_d x (λ k. ne (sym k ∙ s)) o)))
+  second_of_two : (y : ℕ) → d ≢ y → IsOfFour d p q r y → goes_on g (y ∷ d ∷ []) d
+      ≡ (not (is_among p (y ∷ d ∷ [])) && not (is_among q (y ∷ d ∷ [])))
+  second_of_two y ne o = rw (
+    ne_eqb d y ne,
+    eq-eqb d d refl,
+    ne_eqb p d (λ k. round.d_p (sym k)),
+    ne_eqb q d (λ k. round.d_q (sym k)),
+  ) (or-false (gives_way g y d) ∙ other y (not_d y ne o))
 
-  -- Of three that differ, one is p or q.
-  side : (x : ℕ) → IsOfFour d p q r x → ((x ≡ p) ⊎ (x ≡ q)) ⊎ ((x ≡ d) ⊎ (x ≡ r))
-  side x (inl e) = inr (inl e)
-  side x (inr (inl e)) = inl (inl e)
-  side x (inr (inr (inl e))) = inl (inr e)
-  side x (inr (inr (inr e))) = inr (inr e)
-
+  -- Of three that are d or r two are the same.
   two_same : (x y z : ℕ) → (x ≡ d) ⊎ (x ≡ r) → (y ≡ d) ⊎ (y ≡ r) → (z ≡ d) ⊎ (z ≡ r) → (x ≡ y) ⊎ ((x ≡ z) ⊎ (y ≡ z))
   two_same x y z (inl a) (inl b) c = inl (a ∙ sym b)
   two_same x y z (inr a) (inr b) c = inl (a ∙ sym b)
@@ -79,57 +73,49 @@ module _ (g : Terrain) (d p q r : ℕ) (round : AreRound g d p q r) where
   two_same x y z (inr a) (inl b) (inl c) = inr (inr (b ∙ sym c))
   two_same x y z (inr a) (inl b) (inr c) = inr (inl (a ∙ sym c))
 
-  off_by : (ds : List ℕ) (x : ℕ) → is_among x ds ≡ true → (x ≡ p) ⊎ (x ≡ q)
-      → false ≡ (not (is_among p ds) && not (is_among q ds))
-  off_by ds x m (inl e) = rw (ap (λ k. is_among k ds) (sym e) ∙ m) refl
-  off_by ds x m (inr e) =
-      let by_test : (b : Bool) → false ≡ (not b && false) = elim [ true ↦ refl | false ↦ refl ] in
-      rw (ap (λ k. is_among k ds) (sym e) ∙ m) (by_test (is_among p ds))
-
   differ : (x y : ℕ) (ds : List ℕ) → is_among x ds ≡ false → is_among y ds ≡ true → x ≢ y
   differ x y ds off on e = false≢true (sym off ∙ (ap (λ k. is_among k ds) e ∙ on))
 
   -- The rider by d goes on where neither p nor q arrives.
-  pub two_bits_of : (ds : List ℕ) → AreApart ds → is_among d ds ≡ true
-      → ((x : ℕ) → is_among x ds ≡ true → IsOfFour d p q r x)
-      → goes_on g ds d ≡ (not (is_among p ds) && not (is_among q ds))
+  pub two_bits_of : (ds : List ℕ) → AreApart ds → is_among d ds ≡ true → ((x : ℕ) → is_among x ds ≡ true
+      → IsOfFour d p q r x) → goes_on g ds d ≡ (not (is_among p ds) && not (is_among q ds))
   two_bits_of [] apart m all = absurd (false≢true m)
   two_bits_of (x ∷ []) apart m all = elim (among_cases d x [] m) [
     | inl s ↦ rw (ne_eqb p x (λ k. round.d_p (s ∙ sym k)), ne_eqb q x (λ k. round.d_q (s ∙ sym k))) refl
     | inr o ↦ absurd (false≢true o)
   ]
   two_bits_of (x ∷ y ∷ []) apart m all = elim (among_cases d x (y ∷ []) m) [
-    | inl s ↦ first_of_two x y s (differ x y (y ∷ []) apart.0 (among_here y y [] refl))
-        (all y (among_later y x (y ∷ []) (among_here y y [] refl)))
+    | inl s ↦ rw (← s) (first_of_two y (λ k. differ x y (y ∷ []) apart.0 (among_here y y [] refl) (sym s ∙ k))
+        (all y (among_later y x (y ∷ []) (among_here y y [] refl))))
     | inr o ↦ elim (among_cases d y [] o) [
-      | inl s ↦ second_of_two x y s (differ x y (y ∷ []) apart.0 (among_here y y [] refl))
-          (all x (among_here x x (y ∷ []) refl))
+      | inl s ↦ rw (← s) (second_of_two x (λ k. differ x y (y ∷ []) apart.0 (among_here y y [] refl) (sym k ∙ s))
+          (all x (among_here x x (y ∷ []) refl)))
       | inr n ↦ absurd (false≢true n)
     ]
   ]
-  two_bits_of (x ∷ y ∷ z ∷ more) apart m all =
-      by_sides (side x (all x in_x)) (side y (all y in_y)) (side z (all z in_z))
-    where
-      in_x : is_among x (x ∷ y ∷ z ∷ more) ≡ true
-      in_x = among_here x x (y ∷ z ∷ more) refl
-
-      in_y : is_among y (x ∷ y ∷ z ∷ more) ≡ true
-      in_y = among_later y x (y ∷ z ∷ more) (among_here y y (z ∷ more) refl)
-
-      in_z : is_among z (x ∷ y ∷ z ∷ more) ≡ true
-      in_z = among_later z x (y ∷ z ∷ more) (among_later z y (z ∷ more) (among_here z z more refl))
-
-      by_sides : ((x ≡ p) ⊎ (x ≡ q)) ⊎ ((x ≡ d) ⊎ (x ≡ r)) → ((y ≡ p) ⊎ (y ≡ q)) ⊎ ((y ≡ d) ⊎ (y ≡ r))
-          → ((z ≡ p) ⊎ (z ≡ q)) ⊎ ((z ≡ d) ⊎ (z ≡ r))
-          → false ≡ (not (is_among p (x ∷ y ∷ z ∷ more)) && not (is_among q (x ∷ y ∷ z ∷ more)))
-      by_sides (inl a) b c = off_by (x ∷ y ∷ z ∷ more) x in_x a
-      by_sides (inr a) (inl b) c = off_by (x ∷ y ∷ z ∷ more) y in_y b
-      by_sides (inr a) (inr b) (inl c) = off_by (x ∷ y ∷ z ∷ more) z in_z c
-      by_sides (inr a) (inr b) (inr c) = absurd (elim (two_same x y z a b c) [
-        | inl e ↦ differ x y (y ∷ z ∷ more) apart.0 (among_here y y (z ∷ more) refl) e
-        | inr (inl e) ↦ differ x z (y ∷ z ∷ more) apart.0 (among_later z y (z ∷ more) (among_here z z more refl)) e
-        | inr (inr e) ↦ differ y z (z ∷ more) apart.1.0 (among_here z z more refl) e
-      ])
+  -- Of three that differ, one is p or q.
+  two_bits_of (x ∷ y ∷ z ∷ more) apart m all = elim (cases_Bool (is_among p (x ∷ y ∷ z ∷ more))) [
+    | inl on ↦ rw on refl
+    | inr no_p ↦ elim (cases_Bool (is_among q (x ∷ y ∷ z ∷ more))) [
+      | inl on ↦ rw (no_p, on) refl
+      | inr no_q ↦
+          let d_or_r : (u : ℕ) → is_among u (x ∷ y ∷ z ∷ more) ≡ true → (u ≡ d) ⊎ (u ≡ r) = λ u n. elim (all u n) [
+            | inl e ↦ inl e
+            | inr (inl e) ↦ absurd (differ p u (x ∷ y ∷ z ∷ more) no_p n (sym e))
+            | inr (inr (inl e)) ↦ absurd (differ q u (x ∷ y ∷ z ∷ more) no_q n (sym e))
+            | inr (inr (inr e)) ↦ inr e
+          ] in
+          let in_y = among_here y y (z ∷ more) refl in
+          let in_z = among_here z z more refl in
+          absurd (elim (two_same x y z (d_or_r x (among_here x x (y ∷ z ∷ more) refl))
+          (d_or_r y (among_later y x (y ∷ z ∷ more) in_y))
+          (d_or_r z (among_later z x (y ∷ z ∷ more) (among_later z y (z ∷ more) in_z)))) [
+            | inl e ↦ differ x y (y ∷ z ∷ more) apart.0 in_y e
+            | inr (inl e) ↦ differ x z (y ∷ z ∷ more) apart.0 (among_later z y (z ∷ more) in_z) e
+            | inr (inr e) ↦ differ y z (z ∷ more) apart.1.0 in_z e
+          ])
+    ]
+  ]
 
 module _ (g : Terrain) (laws : IsQuadManifold g.half) where
   -- The darts before those of a cross are such a round.

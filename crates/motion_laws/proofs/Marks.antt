@@ -2,14 +2,17 @@
 use Rattle.std.proofs.Common.{◌≡◌, ◌⊎◌, ℕ, zero, suc, ◌<◌, ◌≤◌, Bool, true, false, eqb, ◌||◌, List, [], ◌∷◌}
 use Rattle.std.proofs.Common.{◌++◌, length, get_or, set, replicate, Option, Some, None, sym, ap, ◌∙◌, refl, inl, inr}
 use Rattle.std.proofs.Common.{arith}
-use Rattle.std.proofs.Math.Bool.{or-false}
-use Rattle.std.proofs.lemmas.Bool.{or_right, eq-eqb, ne_eqb, cases_eq, false≢true, false_from_ne_true}
+use Rattle.std.proofs.Math.Bool.{or-false, or_assoc, or_comm}
+use Rattle.std.proofs.lemmas.Bool.{or_right, eq-eqb, eqb-true, ne_eqb, cases_eq, false≢true, false_from_ne_true}
 use Rattle.std.proofs.lemmas.List.{get_or-set_same, get_or-set_other, length-set}
+use Rattle.std.proofs.lemmas.Option.{none-some, same_Some}
 use Rattle.std.specs.List.{list_any}
+use Rattle.sum_laws.proofs.Tests.{same_test}
+use Rattle.def_mesh.specs.HalfEdges.{HalfEdges, IsQuadManifold}
 use Rattle.def_cut.specs.{FullCut.is_on, Motion.Terrain, Motion.is_among, Motion.is_found, Events.mark_twin}
 use Rattle.def_cut.specs.Events.{marked_from, darts_in, note_at}
 use Rattle.cut_laws.proofs.Pigeon.{no_more}
-use Rattle.motion_laws.proofs.Among.{among_here, among_later, among_cases, AreApart}
+use Rattle.motion_laws.proofs.Among.{AreApart, among_cases, among_here, among_later, found_where}
 
 -- A mark more.
 pub mark_is : (marks : List Bool) (k d : ℕ) → k < length marks → is_on (set marks k true) d ≡ (is_on marks d || eqb d k)
@@ -19,10 +22,8 @@ mark_is marks k d l = elim (cases_eq d k) [
 ]
 
 eqb_swap : (a b : ℕ) → eqb a b ≡ eqb b a
-eqb_swap a b = elim (cases_eq a b) [
-  | inl s ↦ eq-eqb a b s ∙ sym (eq-eqb b a (sym s))
-  | inr ne ↦ ne_eqb a b ne ∙ sym (ne_eqb b a (λ s. ne (sym s)))
-]
+eqb_swap a b = elim (cases_eq a b)
+    [ inl s ↦ eq-eqb a b s ∙ sym (eq-eqb b a (sym s)) | inr ne ↦ ne_eqb a b ne ∙ sym (ne_eqb b a (λ s. ne (sym s))) ]
 
 -- In no darts none is found.
 pub none_found : (o : Option ℕ) → is_found o [] ≡ false
@@ -39,20 +40,43 @@ pub no_darts : (n : ℕ) → darts_in (replicate n None) ≡ []
 no_darts zero = refl
 no_darts (suc n) = no_darts n
 
--- The marks of a dart and of its twin, for a dart e that has a twin exactly where its twin has.
-pub twin_marks : (o : Option ℕ) (marks : List Bool) (d e : ℕ) → d < length marks
-    → ((t : ℕ) → o ≡ Some t → t < length marks) → is_on (mark_twin o (set marks d true)) e
-    ≡ (is_on marks e || (eqb e d || is_found o (e ∷ [])))
-twin_marks None marks d e l low = mark_is marks d e l ∙ ap (λ b. is_on marks e || b) (sym (or-false (eqb e d)))
-twin_marks (Some t) marks d e l low =
-    mark_is (set marks d true) t e (omega (arith, low t refl, length-set marks d true)) ∙ (ap (λ b. b || eqb e t)
-    (mark_is marks d e l) ∙ at (is_on marks e) (eqb e d) (eqb e t) (eqb t e) (eqb_swap e t))
+-- An edge more is covered, where `es` has one dart more than `ds`.
+pub cover_more : (m : HalfEdges) → IsQuadManifold m → (marks : List Bool) (x : ℕ) → x < m.count → length marks ≡ m.count
+    → (ds es : List ℕ) → ((e : ℕ) → is_among e es ≡ (is_among e ds || eqb e x)) → (old : Bool) (d : ℕ) → d < m.count
+    → is_on marks d ≡ (old || (is_among d ds || is_found (m.twin d) ds))
+    → is_on (mark_twin (m.twin x) (set marks x true)) d ≡ (old || (is_among d es || is_found (m.twin d) es))
+cover_more m laws marks x low long ds es more old d l before =
+    rw (at (m.twin x) refl, before, more d, found_more (m.twin d)) (shuffle old (is_among d ds) (is_found (m.twin d) ds)
+    (eqb d x) (is_found (m.twin d) (x ∷ [])))
   where
-    at : (a b c f : Bool) → c ≡ f → ((a || b) || c) ≡ (a || (b || (f || false)))
-    at true b c f s = refl
-    at false true c f s = refl
-    at false false c true s = s
-    at false false c false s = s
+    one_way : (d e : ℕ) → d < m.count → is_found (m.twin d) (e ∷ []) ≡ true → is_found (m.twin e) (d ∷ []) ≡ true
+    one_way d e ld f =
+        let (u, w, n) = found_where (m.twin d) (e ∷ []) f in
+        let same : u ≡ e = eqb-true u e (sym (or-false (eqb u e)) ∙ n) in
+        rw (laws.twin_twin d e ld (w ∙ ap Some same)) (among_here d d [] refl)
+
+    turned : is_found (m.twin x) (d ∷ []) ≡ is_found (m.twin d) (x ∷ [])
+    turned = same_test _ _ (one_way x d low) (one_way d x l)
+
+    at : (o : Option ℕ) → m.twin x ≡ o
+        → is_on (mark_twin o (set marks x true)) d ≡ (is_on marks d || (eqb d x || is_found (m.twin d) (x ∷ [])))
+    at None is = mark_is marks x d (omega (arith, low, long)) ∙ ap (λ b. is_on marks d || b) (sym (or-false (eqb d x))
+        ∙ ap (λ b. eqb d x || b) (ap (λ o. is_found o (d ∷ [])) (sym is) ∙ turned))
+    at (Some t) is = mark_is (set marks x true) t d (omega (arith, laws.twin_low x t low is, length-set marks x true))
+        ∙ (ap (λ b. b || eqb d t) (mark_is marks x d (omega (arith, low, long))) ∙ (or_assoc (is_on marks d) (eqb d x)
+        (eqb d t) ∙ ap (λ b. is_on marks d || (eqb d x || b)) (eqb_swap d t ∙ (sym (or-false (eqb t d))
+        ∙ (ap (λ o. is_found o (d ∷ [])) (sym is) ∙ turned)))))
+
+    found_more : (o : Option ℕ) → is_found o es ≡ (is_found o ds || is_found o (x ∷ []))
+    found_more None = refl
+    found_more (Some t) = more t ∙ ap (λ b. is_among t ds || b) (sym (or-false (eqb t x)))
+
+    shuffle : (c m f a b : Bool) → ((c || (m || f)) || (a || b)) ≡ (c || ((m || a) || (f || b)))
+    shuffle true m f a b = refl
+    shuffle false true f a b = refl
+    shuffle false false true true b = refl
+    shuffle false false true false b = refl
+    shuffle false false false a b = refl
 
 -- The vertices that darts leave are marked.
 pub marked_long : (g : Terrain) (ds : List ℕ) (marks : List Bool) → length (marked_from g ds marks) ≡ length marks
@@ -65,28 +89,19 @@ pub from_marks : (g : Terrain) (ds : List ℕ) (marks : List Bool) (v : ℕ)
 from_marks g [] marks v low = refl
 from_marks g (d ∷ ds) marks v low = mark_is (marked_from g ds marks) (g.half.from d) v
     (omega (arith, low d (among_here d d ds refl), marked_long g ds marks)) ∙ (ap (λ b. b || eqb v (g.half.from d))
-    (from_marks g ds marks v (λ e m. low e (among_later e d ds m))) ∙ at (list_any (λ e. eqb (g.half.from e) v) ds)
-    (is_on marks v) (eqb v (g.half.from d)) (eqb (g.half.from d) v) (eqb_swap v (g.half.from d)))
-  where
-    at : (a b c f : Bool) → c ≡ f → ((a || b) || c) ≡ ((f || a) || b)
-    at a b c true s = rw s (or_right (a || b) true refl)
-    at a b c false s = rw s (or-false (a || b))
+    (from_marks g ds marks v (λ e m. low e (among_later e d ds m)))
+    ∙ (ap (λ b. (list_any (λ e. eqb (g.half.from e) v) ds || is_on marks v) || b) (eqb_swap v (g.half.from d))
+    ∙ (or_comm (list_any (λ e. eqb (g.half.from e) v) ds || is_on marks v) (eqb (g.half.from d) v)
+    ∙ sym (or_assoc (eqb (g.half.from d) v) (list_any (λ e. eqb (g.half.from e) v) ds) (is_on marks v)))))
 
 -- The darts of some riders with one note more.
 pub noted_more : (ns : List (Option ℕ)) (r d e : ℕ) → r < length ns → note_at ns r ≡ None
     → is_among e (darts_in (set ns r (Some d))) ≡ (is_among e (darts_in ns) || eqb e d)
 noted_more [] r d e l none = absurd (omega arith)
-noted_more (n ∷ ns) zero d e l none = rw none (swap (eqb e d) (is_among e (darts_in ns)))
-  where
-    swap : (a b : Bool) → (a || b) ≡ (b || a)
-    swap true b = sym (or_right b true refl)
-    swap false b = sym (or-false b)
+noted_more (n ∷ ns) zero d e l none = rw none (or_comm (eqb e d) (is_among e (darts_in ns)))
 noted_more (None ∷ ns) (suc r) d e l none = noted_more ns r d e (omega arith) none
 noted_more (Some x ∷ ns) (suc r) d e l none = ap (λ b. eqb e x || b) (noted_more ns r d e (omega arith) none)
-    ∙ at (eqb e x) (is_among e (darts_in ns)) (eqb e d)
-  where
-    at : (a b c : Bool) → (a || (b || c)) ≡ ((a || b) || c)
-    at = elim [ true ↦ λ b c. refl | false ↦ λ b c. refl ]
+    ∙ sym (or_assoc (eqb e x) (is_among e (darts_in ns)) (eqb e d))
 
 pub noted_longer : (ns : List (Option ℕ)) (r d : ℕ) → r < length ns → note_at ns r ≡ None
     → length (darts_in (set ns r (Some d))) ≡ suc (length (darts_in ns))
@@ -95,11 +110,26 @@ noted_longer (n ∷ ns) zero d l none = rw none refl
 noted_longer (None ∷ ns) (suc r) d l none = noted_longer ns r d (omega arith) none
 noted_longer (Some x ∷ ns) (suc r) d l none = ap suc (noted_longer ns r d (omega arith) none)
 
--- A dart is among darts in a list with one more.
-pub found_more : (o : Option ℕ) (ds es : List ℕ) (d : ℕ) → ((e : ℕ) → is_among e es ≡ (is_among e ds || eqb e d))
-    → is_found o es ≡ (is_found o ds || is_found o (d ∷ []))
-found_more None ds es d more = refl
-found_more (Some t) ds es d more = more t ∙ ap (λ b. is_among t ds || b) (sym (or-false (eqb t d)))
+-- Who has a note.
+pub noted_where : (ns : List (Option ℕ)) (d : ℕ) → is_among d (darts_in ns) ≡ true → (r : ℕ) × (r < length ns)
+    × (note_at ns r ≡ Some d)
+noted_where [] d m = absurd (false≢true m)
+noted_where (None ∷ ns) d m = let r = noted_where ns d m in (suc r.0, omega (arith, r.1), r.2)
+noted_where (Some e ∷ ns) d m = elim (among_cases d e (darts_in ns) m) [
+  | inl s ↦ (0, omega arith, ap Some (sym s))
+  | inr k ↦ let r = noted_where ns d k in (suc r.0, omega (arith, r.1), r.2)
+]
+
+pub noted_among : (ns : List (Option ℕ)) (r d : ℕ) → note_at ns r ≡ Some d → is_among d (darts_in ns) ≡ true
+noted_among (None ∷ ns) (suc r) d e = noted_among ns r d e
+noted_among (Some k ∷ ns) zero d e = among_here d k (darts_in ns) (sym (same_Some k d e))
+noted_among (Some k ∷ ns) (suc r) d e = among_later d k (darts_in ns) (noted_among ns r d e)
+noted_among _ _ d e = absurd (none-some d e)
+
+pub noted_short : (ns : List (Option ℕ)) (r d : ℕ) → note_at ns r ≡ Some d → r < length ns
+noted_short [] r d e = absurd (none-some d e)
+noted_short (n ∷ ns) zero d e = omega arith
+noted_short (n ∷ ns) (suc r) d e = omega (arith, noted_short ns r d e)
 
 -- Numbers that differ and are below n are at most n.
 pub among_at : (xs : List ℕ) (i : ℕ) → i < length xs → is_among (get_or xs i 0) xs ≡ true

@@ -1,18 +1,19 @@
 -- The states that the motion reaches from a first state, its end, and that what it traces is a full cut.
 use Rattle.std.proofs.Common.{◌≡◌, ◌⊎◌, ℕ, zero, suc, ◌+◌, ◌<◌, ◌≤◌, Bool, true, false, not, cond, ◌||◌, List, []}
 use Rattle.std.proofs.Common.{◌∷◌, map, length, Option, Some, None, is_some, sym, subst, ap, ◌∙◌, refl, inl, inr, arith}
-use Rattle.std.proofs.lemmas.Bool.{false_from_ne_true, eq-eqb, false≢true, cases_Bool, cases_eq, or_left, or_right}
+use Rattle.std.proofs.lemmas.Bool.{false_from_ne_true, false≢true, cases_Bool, cases_eq, or_left, or_right}
 use Rattle.std.proofs.lemmas.Bool.{or_cases}
 use Rattle.def_math.specs.Counts.{count_below}
 use Rattle.sum_laws.proofs.Counts.{count_below_lt, count_below_ones}
-use Rattle.def_cut.specs.{Cuts.HasCross, Cuts.GoesOn as CutGoesOn, Cuts.IsUncut, Cuts.IsCut, Trails.Trail}
+use Rattle.def_cut.specs.{Cuts.GoesOn as CutGoesOn, Cuts.IsCut, Trails.Trail}
 use Rattle.def_cut.specs.{Trails.IsTraced, declared.graph.Stop.Stop, declared.moving.Moving.Moving}
 use Rattle.def_cut.specs.Motion.{Terrain, State, end_of, with_next, ridden, is_among}
 use Rattle.def_cut.specs.{Motion.ride, Motion.ride_on, Motion.step, Motion.later, Traced.finish, Traced.is_cut}
 use Rattle.cut_laws.proofs.{Corners.corner_law, Crosses.one_of_four, Crosses.low_b}
-use Rattle.motion_laws.proofs.Among.{among_here}
+use Rattle.motion_laws.proofs.Among.{among_here, cases_List, cases_Option}
 use Rattle.motion_laws.proofs.Terrains.{IsTerrain, IsReachedFrom, IsFirst, IsSoon, IsShut, IsCrossedAt}
 use Rattle.motion_laws.proofs.Steps.{trail_more, next_is, step_keeps, back, stands}
+use Rattle.std.proofs.lemmas.List.{length-map}
 
 -- Where nobody rides, a step changes no rider.
 pub still_riders : (g : Terrain) (stood : ℕ → Bool) (ds : List ℕ) (rs : List Moving) → ridden rs ≡ []
@@ -38,6 +39,38 @@ runs_on g k d ds s is = at (ridden s.riders) is
         ≡ finish g k (step g s)
     at xs e = rw e
 
+pub rests_on : (g : Terrain) (first : State) (k : ℕ) → ridden (later g first k).riders ≡ []
+    → ridden (later g first (suc k)).riders ≡ []
+rests_on g first k none =
+    let s = later g first k in ap ridden (still_riders g s.stood (ridden s.riders) s.riders none) ∙ none
+
+-- Steps keep the number of riders.
+pub later_long : (g : Terrain) (s : State) (k : ℕ) → length (later g s k).riders ≡ length s.riders
+later_long g s zero = refl
+later_long g s (suc k) = length-map (later g s k).riders (ride g (later g s k).stood (ridden (later g s k).riders))
+    ∙ later_long g s k
+
+-- Where the motion goes on until nobody runs, at most k steps, it is at one of its states.
+pub finish_later : (g : Terrain) (first : State) (k i : ℕ) → (j : ℕ) × (finish g k (later g first i) ≡ later g first j)
+    × ((ridden (later g first j).riders ≡ []) ⊎ (j ≡ k + i))
+finish_later g first zero i = (i, refl, inr (omega arith))
+finish_later g first (suc k) i =
+    let r = finish_later g first k (suc i) in
+    elim (cases_List (ridden (later g first i).riders)) [
+      | inl is ↦ (i, at_rest g (suc k) (later g first i) is, inl is)
+      | inr (d, ds, is) ↦ (
+        r.0,
+        runs_on g k d ds (later g first i) is ∙ r.1,
+        elim r.2 [ inl none ↦ inl none | inr s ↦ inr (omega (arith, s)) ],
+      )
+    ]
+
+-- What is counted where marks are off is no more where more are on.
+pub no_more_at : (b c : Bool) → (b ≡ true → c ≡ true) → cond c 0 1 ≤ cond b 0 1
+no_more_at b true f = omega arith
+no_more_at false false f = omega arith
+no_more_at true false f = absurd (false≢true (f refl))
+
 module _ (g : Terrain) (t : IsTerrain g) (begins : ℕ → Bool) (first : State) (begin : IsFirst g begins first) where
   pub later_reached : (n : ℕ) → IsReachedFrom g begins first (later g first n)
   later_reached zero = begin.reached
@@ -59,133 +92,87 @@ module _ (g : Terrain) (t : IsTerrain g) (begins : ℕ → Bool) (first : State)
   rides_once e i zero less m n = omega arith
   rides_once e i (suc j) less m n =
       let x = next_is g t begins first (later g first j) (later_reached j) e n in
-      false≢true (sym x.2.going.fresh
-      ∙ (ap (later g first j).stood (sym x.2.at) ∙ stood_later i j (g.half.from e) (omega arith)
-      ((later_reached i).left e m)))
+      false≢true (sym x.2.fresh ∙ (ap (later g first j).stood (sym x.2.at) ∙ stood_later i j (g.half.from e)
+      (omega arith) ((later_reached i).left e m)))
 
   module _ (n : ℕ) (few : (d : ℕ) → d < g.half.count → g.half.from d < n) where
     -- How many vertices there are where nobody has stood.
     abbrev pub fresh : (s : State) → ℕ
     fresh s = count_below (λ v. cond (s.stood v) 0 1) n
 
-    falls_at : (s : State) → IsReachedFrom g begins first s → (e : ℕ) → is_among e (ridden (step g s).riders) ≡ true
-        → fresh (step g s) < fresh s
-    falls_at s r e m =
-        let no_more_at : (b c : Bool) → (b ≡ true → c ≡ true) → cond c 0 1 ≤ cond b 0 1 = elim [
-          | true ↦ elim [ true ↦ λ f. omega arith | false ↦ λ f. absurd (false≢true (f refl)) ]
-          | false ↦ elim [ true ↦ λ f. omega arith | false ↦ λ f. omega arith ]
-        ] in
-        let less_at : (b c : Bool) → b ≡ false → c ≡ true → cond c 0 1 < cond b 0 1 =
-        λ b c off on. rw (off, on) (omega arith) in
-        let f = next_is g t begins first s r e m in
-        let d = f.0 in
-        count_below_lt (λ v. cond ((step g s).stood v) 0 1) (λ v. cond (s.stood v) 0 1) n (end_of g d)
-        (few (g.half.next d) (t.half.next_low d (r.low d f.1)))
-        (λ v l. no_more_at (s.stood v) ((step g s).stood v) (λ y. or_left _ _ y)) (less_at (s.stood (end_of g d))
-        ((step g s).stood (end_of g d)) f.2.going.fresh (stands g t begins first s r d f.1))
-
     pub rests_or_falls : (s : State) → IsReachedFrom g begins first s → (ridden (step g s).riders ≡ [])
         ⊎ (fresh (step g s) < fresh s)
-    rests_or_falls s r = at (ridden (step g s).riders) refl
-      where
-        at : (ds : List ℕ) → ridden (step g s).riders ≡ ds → (ridden (step g s).riders ≡ [])
-            ⊎ (fresh (step g s) < fresh s)
-        at [] is = inl is
-        at (e ∷ ds) is = inr (falls_at s r e (ap (is_among e) is ∙ or_left _ _ (eq-eqb e e refl)))
+    rests_or_falls s r = elim (cases_List (ridden (step g s).riders)) [
+      | inl is ↦ inl is
+      | inr (e, ds, is) ↦
+          let f = next_is g t begins first s r e (ap (is_among e) is ∙ among_here e e ds refl) in
+          let d = f.0 in
+          let less : cond ((step g s).stood (end_of g f.0)) 0 1 < cond (s.stood (end_of g f.0)) 0 1 =
+          rw (stands g t begins first s r f.0 f.1, f.2.fresh) (omega arith) in
+          inr (count_below_lt (λ v. cond ((step g s).stood v) 0 1) (λ v. cond (s.stood v) 0 1) n (end_of g d)
+          (few (g.half.next d) (t.half.next_low d (r.low d f.1)))
+          (λ v l. no_more_at (s.stood v) ((step g s).stood v) (λ y. or_left _ _ y)) less)
+    ]
 
-    none_after : (k : ℕ) (s : State) → ridden s.riders ≡ [] → ridden (finish g k s).riders ≡ []
-    none_after k s none = ap (λ (x : State). ridden x.riders) (at_rest g k s none) ∙ none
-
-    over : (k : ℕ) (s : State) → IsReachedFrom g begins first s → fresh s ≤ k → ridden (finish g (suc k) s).riders ≡ []
-    over zero s r le = at (ridden s.riders) refl
+    -- While somebody rides, each step leaves a rider at a vertex where none had stood.
+    pub runs_out : (k : ℕ) → (ridden (later g first k).riders ≡ []) ⊎ (fresh (later g first k) + k < n)
+    runs_out zero = elim (cases_List (ridden first.riders)) [
+      | inl is ↦ inl is
+      | inr (d, ds, is) ↦
+          let m : is_among d (ridden first.riders) ≡ true = ap (is_among d) is ∙ among_here d d ds refl in
+          let less : cond (first.stood (g.half.from d)) 0 1 < 1 = rw (begin.reached.left d m) (omega arith) in
+          inr (omega (
+            arith,
+            count_below_ones n,
+            count_below_lt (λ v. cond (first.stood v) 0 1) (λ v. 1) n (g.half.from d)
+                (few d (begin.reached.low d m)) (λ v l. at_most (first.stood v)) less,
+          ))
+    ]
       where
-        at : (ds : List ℕ) → ridden s.riders ≡ ds → ridden (finish g 1 s).riders ≡ []
-        at [] is = none_after 1 s is
-        at (d ∷ ds) is = ap (λ (x : State). ridden x.riders) (runs_on g 0 d ds s is)
-            ∙ elim (rests_or_falls s r) [ inl none ↦ none | inr less ↦ absurd (omega (arith, less, le)) ]
-    over (suc k) s r le = at (ridden s.riders) refl (over k)
-      where
-        at : (ds : List ℕ) → ridden s.riders ≡ ds → ((x : State) → IsReachedFrom g begins first x → fresh x ≤ k
-            → ridden (finish g (suc k) x).riders ≡ []) → ridden (finish g (suc (suc k)) s).riders ≡ []
-        at [] is rest = none_after (suc (suc k)) s is
-        at (d ∷ ds) is rest = ap (λ (x : State). ridden x.riders) (runs_on g (suc k) d ds s is)
-            ∙ elim (rests_or_falls s r) [
-              | inl none ↦ none_after (suc k) (step g s) none
-              | inr less ↦ rest (step g s) (step_keeps g t begins first s r) (omega (arith, less, le))
-            ]
-
-    fresh_low : (s : State) (m : ℕ) → count_below (λ v. cond (s.stood v) 0 1) m ≤ m
-    fresh_low s zero = omega arith
-    fresh_low s (suc m) =
-        let at : (b : Bool) → cond b 0 1 ≤ 1 = elim [ true ↦ omega arith | false ↦ omega arith ] in
-        omega (arith, fresh_low s m, at (s.stood m))
-
-    finish_reached : (k : ℕ) (s : State) → IsReachedFrom g begins first s → IsReachedFrom g begins first (finish g k s)
-    finish_reached zero s r = r
-    finish_reached (suc k) s r = at (ridden s.riders) refl (finish_reached k)
-      where
-        at : (ds : List ℕ) → ridden s.riders ≡ ds → ((x : State) → IsReachedFrom g begins first x
-            → IsReachedFrom g begins first (finish g k x)) → IsReachedFrom g begins first (finish g (suc k) s)
-        at [] is rest = subst (IsReachedFrom g begins first) (sym (at_rest g (suc k) s is)) r
-        at (d ∷ ds) is rest = subst (IsReachedFrom g begins first) (sym (runs_on g k d ds s is))
-            (rest (step g s) (step_keeps g t begins first s r))
+        at_most : (b : Bool) → cond b 0 1 ≤ 1
+        at_most b = grind arith
+    runs_out (suc k) = elim (runs_out k) [
+      | inl none ↦ inl (rests_on g first k none)
+      | inr low ↦ elim (rests_or_falls (later g first k) (later_reached k))
+          [ inl none ↦ inl none | inr falls ↦ inr (omega (arith, low, falls)) ]
+    ]
 
     -- After as many steps as there are vertices nobody runs.
     pub last_rests : ridden (later g first n).riders ≡ []
     last_rests = elim (runs_out n) [ inl none ↦ none | inr low ↦ absurd (omega (arith, low)) ]
-      where
-        runs_out : (k : ℕ) → (ridden (later g first k).riders ≡ []) ⊎ (fresh (later g first k) + k < n)
-        runs_out zero = at (ridden first.riders) refl
-          where
-            at : (ds : List ℕ) → ridden first.riders ≡ ds → (ridden first.riders ≡ []) ⊎ (fresh first + 0 < n)
-            at [] is = inl is
-            at (d ∷ ds) is =
-                let m : is_among d (ridden first.riders) ≡ true = ap (is_among d) is ∙ among_here d d ds refl in
-                let no_more_at : (b : Bool) → cond b 0 1 ≤ 1 = elim [ true ↦ omega arith | false ↦ omega arith ] in
-                let less_at : (b : Bool) → b ≡ true → cond b 0 1 < 1 = λ b on. rw on (omega arith) in
-                inr (omega (
-                  arith,
-                  count_below_ones n,
-                  count_below_lt (λ v. cond (first.stood v) 0 1) (λ v. 1) n
-                      (g.half.from d) (few d (begin.reached.low d m)) (λ v l. no_more_at (first.stood v))
-                      (less_at (first.stood (g.half.from d)) (begin.reached.left d m)),
-                ))
-        runs_out (suc k) = elim (runs_out k) [
-          | inl none ↦ inl (ap ridden (still_riders g (later g first k).stood
-              (ridden (later g first k).riders) (later g first k).riders none) ∙ none)
-          | inr low ↦ elim (rests_or_falls (later g first k) (later_reached k)) [
-            | inl none ↦ inl none
-            | inr falls ↦ inr (omega (arith, low, falls))
-          ]
-        ]
 
-    -- Nobody runs in the end.
+    -- Nobody runs in the end, which is a state that the motion reaches.
+    pub ends : (j : ℕ) × (finish g (suc n) first ≡ later g first j) × (ridden (later g first j).riders ≡ [])
+    ends = let f = finish_later g first (suc n) 0 in (
+      f.0,
+      f.1,
+      elim f.2 [
+        | inl none ↦ none
+        | inr s ↦ let same : f.0 ≡ suc n = omega (arith, s) in rw same (rests_on g first n last_rests)
+      ],
+    )
+
     pub nobody_runs : ridden (finish g (suc n) first).riders ≡ []
-    nobody_runs = over n first begin.reached (fresh_low first n)
+    nobody_runs = ap (λ (s : State). ridden s.riders) ends.1 ∙ ends.2
 
     pub end_reached : IsReachedFrom g begins first (finish g (suc n) first)
-    end_reached = finish_reached (suc n) first begin.reached
+    end_reached = subst (IsReachedFrom g begins first) (sym ends.1) (later_reached ends.0)
 
   -- What is traced when nobody runs.
   module _ (s : State) (r : IsReachedFrom g begins first s) (none : ridden s.riders ≡ []) where
     abbrev cut : (d : ℕ) → Bool
     cut d = is_cut g s d
 
-    not_next : (d : ℕ) → is_among d (ridden s.riders) ≡ true → ⊥
-    not_next d m = false≢true (sym (ap (is_among d) none) ∙ m)
-
     soon_cut : (d : ℕ) → IsSoon s d → cut d ≡ true
     soon_cut d (inl c) = or_left _ _ c
-    soon_cut d (inr m) = absurd (not_next d m)
+    soon_cut d (inr m) = absurd (false≢true (sym (ap (is_among d) none) ∙ m))
 
     alone_cut : (d : ℕ) → g.half.twin d ≡ None → cut d ≡ true
     alone_cut d w = or_right _ _ (ap (λ o. not (is_some o)) w)
 
     covered_there : (d e : ℕ) → g.half.twin d ≡ Some e → cut d ≡ true → s.covered d ≡ true
-    covered_there d e w c = elim (or_cases _ _ c) [
-      | inl y ↦ y
-      | inr n ↦ absurd (false≢true (sym (ap (λ o. not (is_some o)) w) ∙ n))
-    ]
+    covered_there d e w c = elim (or_cases _ _ c)
+        [ inl y ↦ y | inr n ↦ absurd (false≢true (sym (ap (λ o. not (is_some o)) w) ∙ n)) ]
 
     cut_alike : (d e : ℕ) → d < g.half.count → g.half.twin d ≡ Some e → cut e ≡ cut d
     cut_alike d e low w = ap (λ b. b || not (is_some (g.half.twin e))) (r.alike d e low w) ∙ (ap
@@ -203,10 +190,8 @@ module _ (g : Terrain) (t : IsTerrain g) (begins : ℕ → Bool) (first : State)
         let next = g.half.next d in
         let next_low = t.half.next_low d low in
         elim (cases_Bool (g.boundary (end_of g d))) [
-          | inl y ↦ elim (begin.sided d low y) [
-            | inl k ↦ inl (shut_cut next next_low k)
-            | inr e ↦ inr (e.0, e.1, alone_cut (g.half.next e.0) e.2)
-          ]
+          | inl y ↦ elim (begin.sided d low y)
+              [ inl k ↦ inl (shut_cut next next_low k) | inr e ↦ inr (e.0, e.1, alone_cut (g.half.next e.0) e.2) ]
           | inr inner ↦ elim (cases_Bool (g.singular (end_of g d))) [
             | inl y ↦ inl (shut_cut next next_low (begin.singular next next_low y))
             | inr regular ↦ by_cross (r.through next next_low (stood_there inner) inner regular)
@@ -214,12 +199,11 @@ module _ (g : Terrain) (t : IsTerrain g) (begins : ℕ → Bool) (first : State)
         ]
       where
         stood_there : g.boundary (end_of g d) ≡ false → s.stood (end_of g d) ≡ true
-        stood_there inner = at (g.half.twin d) refl
-          where
-            at : (o : Option ℕ) → g.half.twin d ≡ o → s.stood (end_of g d) ≡ true
-            at None w = absurd (false≢true (sym inner ∙ (t.edged d low w).1))
-            at (Some e) w = elim (r.ends d low (covered_there d e w c)).1
-                [ inl y ↦ y | inr b ↦ absurd (false≢true (sym inner ∙ b)) ]
+        stood_there inner = elim (cases_Option (g.half.twin d)) [
+          | inl w ↦ absurd (false≢true (sym inner ∙ (t.edged d low w).1))
+          | inr (e, w) ↦ elim (r.ends d low (covered_there d e w c)).1
+              [ inl y ↦ y | inr b ↦ absurd (false≢true (sym inner ∙ b)) ]
+        ]
 
         by_cross : IsCrossedAt g s (end_of g d) → CutGoesOn g.half cut d
         by_cross c =
@@ -244,17 +228,6 @@ module _ (g : Terrain) (t : IsTerrain g) (begins : ℕ → Bool) (first : State)
               )
             ]
 
-    -- A vertex without cut edges has four faces.
-    uncut_crossed : (d : ℕ) → d < g.half.count → IsUncut g.half cut (g.half.from d) → HasCross g.half d
-    uncut_crossed d low u = t.crossed d low (false_from_ne_true _ (λ y.
-        let e = t.rimmed d low y in
-        let off = u e.0 e.1 e.2 in
-        elim e.3 [
-          | inl w ↦ false≢true (sym off.0 ∙ alone_cut e.0 w)
-          | inr w ↦ false≢true (sym off.1 ∙ alone_cut (g.half.prev e.0) w)
-        ]))
-        (false_from_ne_true _ (λ y. false≢true (sym (u d low refl).0 ∙ shut_cut d low (begin.singular d low y))))
-
     traced : IsTraced g.half begins cut
     traced = record {
       alike = cut_alike;
@@ -276,6 +249,14 @@ module _ (g : Terrain) (t : IsTerrain g) (begins : ℕ → Bool) (first : State)
       alike = cut_alike;
       boundary = λ d low w. alone_cut d w;
       gaps = goes;
-      crossed = uncut_crossed;
+      -- A vertex without cut edges has four faces.
+      crossed = λ d low u. t.crossed d low (false_from_ne_true _ (λ y.
+          let e = t.rimmed d low y in
+          let off = u e.0 e.1 e.2 in
+          elim e.3 [
+            | inl w ↦ false≢true (sym off.0 ∙ alone_cut e.0 w)
+            | inr w ↦ false≢true (sym off.1 ∙ alone_cut (g.half.prev e.0) w)
+          ]))
+          (false_from_ne_true _ (λ y. false≢true (sym (u d low refl).0 ∙ shut_cut d low (begin.singular d low y))));
       corner = corner_law g.half begins cut t.half begin.found traced;
     }

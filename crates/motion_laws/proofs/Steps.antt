@@ -1,20 +1,20 @@
 -- Each step keeps what reached states know.
-use Rattle.std.proofs.Common.{◌≡◌, ◌⊎◌, ℕ, zero, suc, ◌<◌, Bool, true, false, not, cond, ◌&&◌, List, Option}
+use Rattle.std.proofs.Common.{◌≡◌, ◌⊎◌, ℕ, zero, suc, ◌<◌, Bool, true, false, not, cond, ◌&&◌, List}
 use Rattle.std.proofs.Common.{Some, None, sym, ap, ◌∙◌, refl, inl, inr}
-use Rattle.std.proofs.lemmas.Option.{none-some, same_Some}
+use Rattle.std.proofs.lemmas.Option.{same_Some}
 use Rattle.std.proofs.lemmas.Bool.{eq-eqb, eqb-true, false≢true, false_from_ne_true, cases_Bool, or_left, or_right}
 use Rattle.std.proofs.lemmas.Bool.{or_cases, and_from, and_parts, not_from_false}
 use Rattle.std.specs.List.{list_any}
 use Rattle.sum_laws.proofs.Tests.{same_test}
 use Rattle.def_mesh.specs.HalfEdges.{HalfEdges}
-use Rattle.def_cut.specs.{Cuts.IsCross, Cuts.HasCross, Trails.IsStraight, Trails.Trail, Trails.IsTracked}
+use Rattle.def_cut.specs.{Cuts.IsCross, Cuts.HasCross, Trails.IsStraight, Trails.Trail}
 use Rattle.def_cut.specs.{declared.graph.Stop.Stop, Motion.Terrain, Motion.State, Motion.end_of, Motion.straight}
 use Rattle.def_cut.specs.Motion.{ridden, is_among, is_found, is_met, arrives_at}
 use Rattle.def_cut.specs.Motion.{arrivals, goes_on, stop_of, or_else, step}
 use Rattle.cut_laws.proofs.Crosses.{low_a, low_c, at_a, at_b, at_c}
 use Rattle.cut_laws.proofs.Darts.{next_same, twin_same}
-use Rattle.motion_laws.proofs.Among.{any_at, any_where, in_filter, from_filter, AreApart, apart_filter}
-use Rattle.motion_laws.proofs.Terrains.{IsTerrain, IsReachedFrom, IsKnown, IsSoon, IsCrossedAt}
+use Rattle.motion_laws.proofs.Among.{AreApart, any_at, any_where, apart_filter, found_where, from_filter, in_filter}
+use Rattle.motion_laws.proofs.Terrains.{IsTerrain, IsReachedFrom, IsKnown, IsSoon, IsCrossedAt, crossed_at}
 use Rattle.motion_laws.proofs.Bits.{rotated, round_of, of_round, two_bits_of}
 use Rattle.motion_laws.proofs.Next.{next_from, next_to, next_apart}
 
@@ -25,32 +25,15 @@ trail_more m begin cut more grown d zero t = t
 trail_more m begin cut more grown d (suc k) t =
     (t.0, trail_more m begin cut more grown t.0 k t.1, t.2, grown t.0 t.3, t.4, t.5)
 
--- When a rider goes on.
-pub record GoesOn (g : Terrain) (stood : ℕ → Bool) (ds : List ℕ) (d : ℕ) : Type 0 where
-  pub unmet : is_met g ds d ≡ false
-  pub inner : g.boundary (end_of g d) ≡ false
-  pub regular : g.singular (end_of g d) ≡ false
-  pub fresh : stood (end_of g d) ≡ false
-  pub on : goes_on g (arrivals g ds (end_of g d)) d ≡ true
-
-pub goes_from : (g : Terrain) (stood : ℕ → Bool) (ds : List ℕ) (d : ℕ) → stop_of g stood ds d ≡ None
-    → GoesOn g stood ds d
-goes_from g stood ds d e =
-    let p = by_tests _ _ _ _ _ _ _ _ _ _ e in
-    record { unmet = p.0; inner = p.1; regular = p.2; fresh = p.3; on = p.4 }
+-- Where a rider goes on.
+goes_from : (g : Terrain) (stood : ℕ → Bool) (ds : List ℕ) (d : ℕ) → stop_of g stood ds d ≡ None
+    → (g.boundary (end_of g d) ≡ false) × (g.singular (end_of g d) ≡ false) × (stood (end_of g d) ≡ false)
+goes_from g stood ds d e = by_tests _ _ _ _ _ _ _ _ _ _ e
   where
-    by_tests : (a b c f h : Bool) (w x y z u : Stop)
-        → cond a (Some w) (cond b (Some x) (cond c (Some y) (cond f (Some z) (cond h None (Some u))))) ≡ None
-        → (a ≡ false) × (b ≡ false) × (c ≡ false) × (f ≡ false) × (h ≡ true)
-    by_tests true b c f h w x y z u e = absurd (none-some w (sym e))
-    by_tests false true c f h w x y z u e = absurd (none-some x (sym e))
-    by_tests false false true f h w x y z u e = absurd (none-some y (sym e))
-    by_tests false false false true h w x y z u e = absurd (none-some z (sym e))
-    by_tests false false false false true w x y z u e = (refl, refl, refl, refl, refl)
-    by_tests false false false false false w x y z u e = absurd (none-some u (sym e))
-
-pub goes_to : (g : Terrain) (stood : ℕ → Bool) (ds : List ℕ) (d : ℕ) → GoesOn g stood ds d → stop_of g stood ds d ≡ None
-goes_to g stood ds d o = rw (o.unmet, o.inner, o.regular, o.fresh, o.on) refl
+    by_tests : (a b c f h : Bool) (w x y z u : Stop) → cond a (Some w) (cond b (Some x) (cond c (Some y)
+        (cond f (Some z) (cond h None (Some u))))) ≡ None → (b ≡ false) × (c ≡ false) × (f ≡ false)
+    by_tests false false false false h w x y z u e = (refl, refl, refl)
+    by_tests _ _ _ _ h w x y z u e = absurd cc
 
 module _ (g : Terrain) (t : IsTerrain g) where
   -- The edge of d is that of its twin.
@@ -61,11 +44,9 @@ module _ (g : Terrain) (t : IsTerrain g) where
       → d < g.half.count) (left : (d : ℕ) → is_among d ds ≡ true → stood (g.half.from d) ≡ true) where
     -- Where nobody has stood, nobody who comes is met.
     pub unmet : (d : ℕ) → is_among d ds ≡ true → stood (end_of g d) ≡ false → is_met g ds d ≡ false
-    unmet d m off = false_from_ne_true _ (λ y. at (g.half.twin d) refl y)
-      where
-        at : (o : Option ℕ) → g.half.twin d ≡ o → is_found o ds ≡ true → ⊥
-        at None is f = false≢true f
-        at (Some e) is f = false≢true (sym off ∙ (ap stood (sym (t.half.twin_ends d e (low d m) is).0) ∙ left e f))
+    unmet d m off = false_from_ne_true _ (λ y.
+        let (e, w, f) = found_where (g.half.twin d) ds y in
+        false≢true (sym off ∙ (ap stood (sym (t.half.twin_ends d e (low d m) w).0) ∙ left e f)))
 
     pub arrives : (d v : ℕ) → is_among d ds ≡ true → end_of g d ≡ v → stood v ≡ false → arrives_at g ds v d ≡ true
     arrives d v m at off = and_from _ _ (eq-eqb _ _ at) (not_from_false _ (unmet d m (ap stood at ∙ off)))
@@ -84,10 +65,9 @@ module _ (g : Terrain) (t : IsTerrain g) where
         (in_filter (arrives_at g ds (end_of g d)) d ds m (arrives d (end_of g d) m refl off))
         (λ y n. let f = from_filter (arrives_at g ds (end_of g d)) y ds n in
         let p = and_parts _ _ f.1 in
-        of_round g t.half d a b c (low d m) x y (low y f.0) (eqb-true _ _ p.0))
-        ∙ (ap (λ k. not k && not (is_among (g.half.prev b) (arrivals g ds (end_of g d))))
-        (all_arrive (g.half.prev a) (end_of g d) end_a off)
-        ∙ ap (λ k. not (is_among (g.half.prev a) ds) && not k) (all_arrive (g.half.prev b) (end_of g d) end_b off))
+        of_round g t.half d a b c (low d m) x y (low y f.0) (eqb-true _ _ p.0)) ∙ (ap (λ k. not k && not (is_among
+        (g.half.prev b) (arrivals g ds (end_of g d)))) (all_arrive (g.half.prev a) (end_of g d) end_a off) ∙ ap
+        (λ k. not (is_among (g.half.prev a) ds) && not k) (all_arrive (g.half.prev b) (end_of g d) end_b off))
       where
         next_low : g.half.next d < g.half.count
         next_low = t.half.next_low d (low d m)
@@ -110,35 +90,30 @@ module _ (g : Terrain) (t : IsTerrain g) where
       over = t.half.twin_twin (g.half.prev c) (g.half.next d)
           (t.half.prev_low c (low_c g.half t.half (g.half.next d) a b c (t.half.next_low d low) x)) x.last
 
-  pub cross_ahead : (stood : ℕ → Bool) (ds : List ℕ) (d : ℕ) → d < g.half.count → GoesOn g stood ds d
-      → HasCross g.half (g.half.next d)
-  cross_ahead stood ds d low o = t.crossed (g.half.next d) (t.half.next_low d low) o.inner o.regular
-
   -- The next dart of a rider that goes on.
   pub record IsNext (stood : ℕ → Bool) (ds : List ℕ) (d e : ℕ) : Type 0 where
     pub low : e < g.half.count
     pub straight : IsStraight g.half d e
     pub at : g.half.from e ≡ end_of g d
     pub cross : HasCross g.half e
-    pub going : GoesOn g stood ds d
+    pub fresh : stood (end_of g d) ≡ false
 
   pub is_next : (stood : ℕ → Bool) (ds : List ℕ) (d e : ℕ) → d < g.half.count → stop_of g stood ds d ≡ None
       → e ≡ or_else (straight g d) d → IsNext stood ds d e
   is_next stood ds d e low on is =
       let o = goes_from g stood ds d on in
-      let x = cross_ahead stood ds d low o in
       let next_low = t.half.next_low d low in
-      let c = x.2 in
-      let c_low = low_c g.half t.half (g.half.next d) x.0 x.1 c next_low x.3 in
-      let c_at = at_c g.half t.half (g.half.next d) x.0 x.1 c next_low x.3 in
-      let s = goes_straight d x.0 x.1 c low x.3 in
+      let (a, b, c, x) = t.crossed (g.half.next d) next_low o.0 o.1 in
+      let c_low = low_c g.half t.half (g.half.next d) a b c next_low x in
+      let c_at = at_c g.half t.half (g.half.next d) a b c next_low x in
+      let s = goes_straight d a b c low x in
       let same : e ≡ c = is ∙ ap (λ k. or_else k d) s.1 in
       rw same (record {
         low = c_low;
         straight = s.0;
         at = c_at;
-        cross = t.crossed c c_low (ap g.boundary c_at ∙ o.inner) (ap g.singular c_at ∙ o.regular);
-        going = o;
+        cross = t.crossed c c_low (ap g.boundary c_at ∙ o.0) (ap g.singular c_at ∙ o.1);
+        fresh = o.2;
       })
 
   -- Straight on from different darts lead different darts.
@@ -172,17 +147,12 @@ module _ (g : Terrain) (t : IsTerrain g) where
     stood_old v c = or_left _ _ c
 
     -- What is covered after the step was so before, or was ridden, or its twin was.
-    why : (d : ℕ) → (step g s).covered d ≡ true → (s.covered d ≡ true)
-        ⊎ ((is_among d (ridden s.riders) ≡ true)
-        ⊎ ((e : ℕ) × (g.half.twin d ≡ Some e) × (is_among e (ridden s.riders) ≡ true)))
+    why : (d : ℕ) → (step g s).covered d ≡ true → (s.covered d ≡ true) ⊎ ((is_among d (ridden s.riders) ≡ true) ⊎
+        ((e : ℕ) × (g.half.twin d ≡ Some e) × (is_among e (ridden s.riders) ≡ true)))
     why d c = elim (or_cases _ _ c) [
       | inl a ↦ inl a
-      | inr b ↦ elim (or_cases _ _ b) [ inl m ↦ inr (inl m) | inr n ↦ inr (inr (at (g.half.twin d) refl n)) ]
+      | inr b ↦ elim (or_cases _ _ b) [ inl m ↦ inr (inl m) | inr n ↦ inr (inr (found_where (g.half.twin d) now n)) ]
     ]
-      where
-        at : (o : Option ℕ) → g.half.twin d ≡ o → is_found o now ≡ true → (e : ℕ) × (g.half.twin d ≡ Some e) × Rides e
-        at None is f = absurd (false≢true f)
-        at (Some e) is f = (e, is, f)
 
     pub soon_then : (d : ℕ) → IsSoon s d → (step g s).covered d ≡ true
     soon_then d k = elim k [ inl c ↦ covered_old d c | inr m ↦ covered_rode d m ]
@@ -193,14 +163,12 @@ module _ (g : Terrain) (t : IsTerrain g) where
     -- Where a ridden dart ends somebody has stood afterwards: whoever is met was there before.
     pub stands : (d : ℕ) → is_among d (ridden s.riders) ≡ true → (step g s).stood (end_of g d) ≡ true
     stands d m = elim (cases_Bool (is_met g now d)) [
-      | inl y ↦ stood_old (end_of g d) (met_at (g.half.twin d) refl y)
+      | inl y ↦
+          let (e, w, f) = found_where (g.half.twin d) now y in
+          stood_old (end_of g d) (ap s.stood (sym (t.half.twin_ends d e (r.low d m) w).0) ∙ r.left e f)
       | inr n ↦ or_right _ _ (any_at (arrives_at g now (end_of g d)) d now m
           (and_from _ _ (eq-eqb _ _ refl) (not_from_false _ n)))
     ]
-      where
-        met_at : (o : Option ℕ) → g.half.twin d ≡ o → is_found o now ≡ true → s.stood (end_of g d) ≡ true
-        met_at None is f = absurd (false≢true f)
-        met_at (Some e) is f = ap s.stood (sym (t.half.twin_ends d e (r.low d m) is).0) ∙ r.left e f
 
     pub next_is : (e : ℕ) → is_among e (ridden (step g s).riders) ≡ true → (d : ℕ)
         × (is_among d (ridden s.riders) ≡ true) × IsNext s.stood (ridden s.riders) d e
@@ -213,17 +181,9 @@ module _ (g : Terrain) (t : IsTerrain g) where
         → IsCrossedAt g next (end_of g f)
     opposite f a b c m x soon =
         let next_low = t.half.next_low f (r.low f m) in
-        record {
-          x = a;
-          a = b;
-          b = c;
-          c = g.half.next f;
-          low = low_a g.half t.half (g.half.next f) a b c next_low x;
-          at = at_a g.half t.half (g.half.next f) a b c next_low x;
-          cross = rotated g.half t.half (g.half.next f) a b c next_low x;
-          soon = inl (covered_twin a f (back f a (r.low f m) (sym (ap g.half.twin (t.half.prev_next f)) ∙ x.first)) m);
-          facing = soon;
-        }
+        crossed_at (low_a g.half t.half (g.half.next f) a b c next_low x) (at_a g.half t.half
+        (g.half.next f) a b c next_low x) (rotated g.half t.half (g.half.next f) a b c next_low x) (inl
+        (covered_twin a f (back f a (r.low f m) (sym (ap g.half.twin (t.half.prev_next f)) ∙ x.first)) m)) soon
 
     facing_too : (f a b c : ℕ) → Rides f → IsCross g.half (g.half.next f) a b c → Rides (g.half.prev b)
         → IsCrossedAt g next (end_of g f)
@@ -235,14 +195,15 @@ module _ (g : Terrain) (t : IsTerrain g) where
         → is_among (g.half.prev b) now ≡ false → IsCrossedAt g next (end_of g f)
     goes_through f a b c m off inner regular x no_a no_b =
         let is : or_else (straight g f) f ≡ c = ap (λ k. or_else k f) (goes_straight f a b c (r.low f m) x).1 in
-        let on = goes_to g s.stood now f (record {
-          unmet = unmet s.stood now r.apart r.low r.left f m off;
-          inner = inner;
-          regular = regular;
-          fresh = off;
-          on = two_bits s.stood now r.apart r.low r.left f a b c m off x
-              ∙ (ap (λ k. not k && not (is_among (g.half.prev b) now)) no_a ∙ ap (λ k. not false && not k) no_b);
-        }) in
+        let on : stop_of g s.stood now f ≡ None = rw (
+          unmet s.stood now r.apart r.low r.left f m off,
+          inner,
+          regular,
+          off,
+          two_bits s.stood now r.apart r.low r.left f a b c m off x,
+          no_a,
+          no_b,
+        ) refl in
         opposite f a b c m x (inr (rw is at (next_to g s.stood now s.riders f m on)))
 
     decided : (f a b c : ℕ) → Rides f → s.stood (end_of g f) ≡ false → g.boundary (end_of g f) ≡ false
@@ -266,78 +227,8 @@ module _ (g : Terrain) (t : IsTerrain g) where
           ]
         ]
 
-    step_through : (d : ℕ) → d < g.half.count → next.stood (g.half.from d) ≡ true → g.boundary (g.half.from d) ≡ false
-        → g.singular (g.half.from d) ≡ false → IsCrossedAt g next (g.half.from d)
-    step_through d low k inner regular = elim (cases_Bool (s.stood (g.half.from d))) [
-      | inl y ↦
-          let x = r.through d low y inner regular in
-          record {
-            x = x.x;
-            a = x.a;
-            b = x.b;
-            c = x.c;
-            low = x.low;
-            at = x.at;
-            cross = x.cross;
-            soon = inl (soon_then x.x x.soon);
-            facing = inl (soon_then x.b x.facing);
-          }
-      | inr off ↦ elim (or_cases (s.stood (g.half.from d)) _ k) [
-        | inl y ↦ absurd (false≢true (sym off ∙ y))
-        | inr n ↦
-            let found = any_where (arrives_at g now (g.half.from d)) now n in
-            let f = found.0 in
-            let m = found.1 in
-            let e : end_of g f ≡ g.half.from d = eqb-true _ _ (and_parts _ _ found.2).0 in
-            let x = t.crossed (g.half.next f) (t.half.next_low f (r.low f m)) (ap g.boundary e ∙ inner)
-            (ap g.singular e ∙ regular) in
-            rw (← e) (decided f x.0 x.1 x.2 m (ap s.stood e ∙ off) (ap g.boundary e ∙ inner) (ap g.singular e ∙ regular)
-            x.3)
-      ]
-    ]
-
-    step_ends : (d : ℕ) → d < g.half.count → next.covered d ≡ true → IsKnown g next (g.half.from d)
-        × IsKnown g next (end_of g d)
-    step_ends d low c = elim (why d c) [
-      | inl o ↦ let e = r.ends d low o in (known_then _ e.0, known_then _ e.1)
-      | inr (inl m) ↦ (inl (stood_old _ (r.left d m)), inl (stands d m))
-      | inr (inr w) ↦
-          let ends = t.half.twin_ends d w.0 low w.1 in (
-            inl (ap next.stood (sym ends.1) ∙ stands w.0 w.2),
-            inl
-                (ap next.stood (sym ends.0) ∙ stood_old _ (r.left w.0 w.2)),
-          )
-    ]
-
-    step_alike : (d e : ℕ) → d < g.half.count → g.half.twin d ≡ Some e → next.covered e ≡ next.covered d
-    step_alike d e low w =
-        let one_way : (d e : ℕ) → d < g.half.count → g.half.twin d ≡ Some e → (step g s).covered e ≡ true
-        → (step g s).covered d ≡ true = λ d e low w c. elim (why e c) [
-          | inl o ↦ covered_old d (sym (r.alike d e low w) ∙ o)
-          | inr (inl m) ↦ covered_twin d e w m
-          | inr (inr x) ↦ covered_rode d
-              (ap (λ k. is_among k now) (same_Some d x.0 (sym (back d e low w) ∙ x.1)) ∙ x.2)
-        ] in
-        same_test _ _ (one_way d e low w) (one_way e d (t.half.twin_low d e low w) (back d e low w))
-
     more : (x k : ℕ) → Trail g.half begins s.covered x k → Trail g.half begins next.covered x k
     more x k p = trail_more g.half begins s.covered next.covered covered_old x k p
-
-    step_trails : (e : ℕ) → is_among e (ridden next.riders) ≡ true → (k : ℕ) × Trail g.half begins next.covered e k
-    step_trails e m =
-        let n = next_is e m in
-        let d = n.0 in
-        let p = r.trails d n.1 in
-        (suc p.0, (d, more d p.0 p.1, r.low d n.1, covered_rode d n.1, n.2.straight, n.2.cross))
-
-    step_tracked : (d : ℕ) → d < g.half.count → next.covered d ≡ true → IsTracked g.half begins next.covered d
-    step_tracked d low c = elim (why d c) [
-      | inl o ↦
-          let k = r.tracked d low o in
-          (k.0, elim k.1 [ inl p ↦ inl (more d k.0 p) | inr w ↦ inr (w.0, w.1, more w.0 k.0 w.2) ])
-      | inr (inl m) ↦ let p = r.trails d m in (p.0, inl (more d p.0 p.1))
-      | inr (inr w) ↦ let p = r.trails w.0 w.2 in (p.0, inr (w.0, w.1, more w.0 p.0 p.1))
-    ]
 
     pub step_keeps : IsReachedFrom g begins first (step g s)
     step_keeps = record {
@@ -347,10 +238,49 @@ module _ (g : Terrain) (t : IsTerrain g) where
           straight_same d e _ (r.low d m) (r.low e n) a.straight b.straight);
       low = λ e m. (next_is e m).2.low;
       left = λ e m. let n = next_is e m in ap next.stood n.2.at ∙ stands n.0 n.1;
-      alike = step_alike;
-      ends = step_ends;
+      alike = λ d e low w.
+          let one_way : (d e : ℕ) → d < g.half.count → g.half.twin d ≡ Some e → (step g s).covered e ≡ true
+          → (step g s).covered d ≡ true = λ d e low w c. elim (why e c) [
+            | inl o ↦ covered_old d (sym (r.alike d e low w) ∙ o)
+            | inr (inl m) ↦ covered_twin d e w m
+            | inr (inr x) ↦ covered_rode d
+                (ap (λ k. is_among k now) (same_Some d x.0 (sym (back d e low w) ∙ x.1)) ∙ x.2)
+          ] in
+          same_test _ _ (one_way d e low w) (one_way e d (t.half.twin_low d e low w) (back d e low w));
+      ends = λ d low c. elim (why d c) [
+        | inl o ↦ let e = r.ends d low o in (known_then _ e.0, known_then _ e.1)
+        | inr (inl m) ↦ (inl (stood_old _ (r.left d m)), inl (stands d m))
+        | inr (inr w) ↦
+            let ends = t.half.twin_ends d w.0 low w.1 in (
+              inl (ap next.stood (sym ends.1) ∙ stands w.0 w.2),
+              inl (ap next.stood (sym ends.0) ∙ stood_old _ (r.left w.0 w.2)),
+            )
+      ];
       kept = λ d k. inl (soon_then d (r.kept d k));
-      trails = step_trails;
-      tracked = step_tracked;
-      through = step_through;
+      trails = λ e m.
+          let n = next_is e m in
+          let d = n.0 in
+          let p = r.trails d n.1 in
+          (suc p.0, (d, more d p.0 p.1, r.low d n.1, covered_rode d n.1, n.2.straight, n.2.cross));
+      tracked = λ d low c. elim (why d c) [
+        | inl o ↦
+            let k = r.tracked d low o in
+            (k.0, elim k.1 [ inl p ↦ inl (more d k.0 p) | inr w ↦ inr (w.0, w.1, more w.0 k.0 w.2) ])
+        | inr (inl m) ↦ let p = r.trails d m in (p.0, inl (more d p.0 p.1))
+        | inr (inr w) ↦ let p = r.trails w.0 w.2 in (p.0, inr (w.0, w.1, more w.0 p.0 p.1))
+      ];
+      through = λ d low k inner regular. elim (cases_Bool (s.stood (g.half.from d))) [
+        | inl y ↦
+            let x = r.through d low y inner regular in
+            crossed_at x.low x.at x.cross (inl (soon_then x.x x.soon)) (inl (soon_then x.b x.facing))
+        | inr off ↦ elim (or_cases (s.stood (g.half.from d)) _ k) [
+          | inl y ↦ absurd (false≢true (sym off ∙ y))
+          | inr n ↦
+              let (f, m, e0) = any_where (arrives_at g now (g.half.from d)) now n in
+              let e : end_of g f ≡ g.half.from d = eqb-true _ _ (and_parts _ _ e0).0 in
+              let (a, b, c, x) = t.crossed (g.half.next f) (t.half.next_low f (r.low f m)) (ap g.boundary e ∙ inner)
+              (ap g.singular e ∙ regular) in
+              rw (← e) (decided f a b c m (ap s.stood e ∙ off) (ap g.boundary e ∙ inner) (ap g.singular e ∙ regular) x)
+        ]
+      ];
     }

@@ -54,6 +54,11 @@ pub record IsCrossedAt (g : Terrain) (s : State) (v : ℕ) : Type 0 where
   pub soon : IsSoon s x
   pub facing : IsSoon s b
 
+pub crossed_at : {g : Terrain} {s : State} {v x a b c : ℕ} → x < g.half.count → g.half.from x ≡ v
+    → IsCross g.half x a b c → IsSoon s x → IsSoon s b → IsCrossedAt g s v
+crossed_at {x = x} {a = a} {b = b} {c = c} low at cross soon facing =
+    record { x = x; a = a; b = b; c = c; low = low; at = at; cross = cross; soon = soon; facing = facing }
+
 -- What each state knows that is reached from a first one, where trails may begin with these darts. The darts ridden
 -- next differ, and leave vertices where a rider has stood; both ends of a covered edge are known; what was covered or
 -- ridden first is kept; trails lead to what is ridden and covered.

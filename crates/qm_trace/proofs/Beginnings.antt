@@ -1,17 +1,21 @@
 -- The tables and the queue before the first instant.
-use Rattle.std.proofs.Common.{◌≡◌, ℕ, ◌<◌, ◌≤◌, Bool, true, false, not, eqb, ◌&&◌, ◌||◌, List, [], ◌∷◌, length}
-use Rattle.std.proofs.Common.{map, replicate, ap, ◌∙◌, arith}
-use Rattle.std.proofs.lemmas.List.{get_or-map, length-map, length-replicate}
-use Rattle.std.specs.List.{list_any, range_with_len}
-use Rattle.def_mesh.specs.{Faces.Faces, Darts.darts, Darts.all_darts, Darts.from_of, Manifold.IsManifold}
-use Rattle.def_mesh.specs.{Vertices.vertex_count, Components.start_darts, Kinds.is_end}
-use Rattle.def_cut.specs.{FullCut.is_on, Motion.begun, Motion.is_among, Events.rider_at, declared.moving.Moving.Moving}
-use Rattle.def_feature.specs.{Marks.AreMarks, Marked.is_origin, Marked.marked_starts}
+use Rattle.std.proofs.Common.{◌≡◌, ℕ, ◌≤◌, Bool, false, not, ◌&&◌, List, [], ◌∷◌, length, map}
+use Rattle.std.proofs.Common.{ap, ◌∙◌, arith, ◌+◌, ◌++◌}
+use Rattle.std.proofs.lemmas.List.{get_or-map, length-map}
+use Rattle.std.specs.List.{range_with_len}
+use Rattle.def_mesh.specs.{Faces.Faces, Manifold.IsManifold, Vertices.vertex_count, Components.start_darts}
+use Rattle.def_mesh.specs.Darts.{darts, all_darts}
+use Rattle.def_mesh.specs.Kinds.{is_inner, is_singular}
+use Rattle.def_cut.specs.{FullCut.is_on, Events.rider_at}
+use Rattle.def_cut.specs.Motion.{begun}
+use Rattle.def_cut.specs.declared.moving.Moving.{Moving}
+use Rattle.def_feature.specs.Marked.{is_origin, marked_starts}
 use Rattle.feature_laws.proofs.First.{origin_of}
 use Rattle.motion_laws.proofs.Among.{AreApart, apart_filter, among_range, range_among, range_apart}
-use Rattle.motion_laws.proofs.Marks.{apart_few, none_on}
+use Rattle.motion_laws.proofs.Marks.{apart_few}
 use Rattle.site_laws.proofs.Sites.{started}
-use Rattle.qm_trace.specs.Tables.{AreEachOnce, IsQueue, IsTableAt}
+use Rattle.qm_trace.specs.Tables.{AreEachOnce, IsQueue, IsGround}
+use Rattle.std.proofs.lemmas.List.FromFn.{length-range_with_len, get_or-map-range_with_len, map-range_with_len_more}
 
 -- Numbers that are apart stand there once each.
 pub each_once : (ns : List ℕ) → AreApart ns → AreEachOnce ns
@@ -26,43 +30,11 @@ all_apart (n ∷ ns) a = (a.0, all_apart ns a.1)
 pub starts_few : (faces : Faces) → IsManifold faces → length (start_darts faces) ≤ darts faces
 starts_few faces m = apart_few (darts faces) (start_darts faces) (started faces m).apart (started faces m).low
 
-pub starts_low : (faces : Faces) → IsManifold faces → (d : ℕ) → is_among d (start_darts faces) ≡ true → d < darts faces
-starts_low faces m = (started faces m).low
-
 -- So they do beside marks.
-pub marked_low : (faces : Faces) (marks : List Bool) (d : ℕ) → is_among d (marked_starts faces marks) ≡ true
-    → d < darts faces
-marked_low faces marks d n = (origin_of faces marks d n).0
-
 pub marked_few : (faces : Faces) (marks : List Bool) → length (marked_starts faces marks) ≤ darts faces
 marked_few faces marks =
-    apart_few (darts faces) (marked_starts faces marks) (apart_filter (λ d. is_origin faces marks d
-    && not (is_on marks d)) (all_darts faces) (range_apart 0 (darts faces))) (marked_low faces marks)
-
-pub first_at : (faces : Faces) (marks : List Bool) (starts : List ℕ) (riders : List Moving)
-    (covered taken nowhere left stood : List Bool) → AreMarks faces marks → starts ≡ marked_starts faces marks
-    → riders ≡ map begun starts
-    → covered ≡ marks → taken ≡ replicate (darts faces) false → nowhere ≡ replicate (vertex_count faces) false
-    → length left ≡ length nowhere
-    → ((v : ℕ) → is_on left v ≡ (is_on nowhere v || list_any (λ d. eqb (from_of faces d) v) starts))
-    → length stood ≡ length left
-    → ((v : ℕ) → is_on stood v
-    ≡ (is_on left v || list_any (λ d. is_on marks d && is_end faces v d) (all_darts faces)))
-    → IsTableAt faces marks 0 riders stood covered taken
-first_at faces marks starts riders covered taken nowhere left stood marked is_starts is_riders is_covered is_taken
-    is_nowhere left_long left_is stood_long stood_is = record {
-      marked = marked;
-      riders_are = is_riders ∙ ap (map begun) is_starts;
-      stood_long = stood_long ∙ (left_long ∙ (ap length is_nowhere ∙ length-replicate (vertex_count faces) false));
-      covered_long = ap length is_covered ∙ marked.long;
-      taken_long = ap length is_taken ∙ length-replicate (darts faces) false;
-      stood_is = λ v l. stood_is v ∙ ap (λ b. b || list_any (λ d. is_on marks d && is_end faces v d) (all_darts faces))
-          (left_is v ∙ (ap (λ (xs : List Bool). is_on xs v || list_any (λ d. eqb (from_of faces d) v) starts) is_nowhere
-          ∙ (ap (λ b. b || list_any (λ d. eqb (from_of faces d) v) starts) (none_on (vertex_count faces) v)
-          ∙ ap (λ (ds : List ℕ). list_any (λ d. eqb (from_of faces d) v) ds) is_starts)));
-      covered_is = λ d l. ap (λ (xs : List Bool). is_on xs d) is_covered;
-      taken_none = λ d. ap (λ (xs : List Bool). is_on xs d) is_taken ∙ none_on (darts faces) d;
-    }
+    apart_few (darts faces) (marked_starts faces marks) (apart_filter (λ d. is_origin faces marks d && not
+    (is_on marks d)) (all_darts faces) (range_apart 0 (darts faces))) (λ d n. (origin_of faces marks d n).0)
 
 -- At first everybody runs.
 pub first_queue : (starts : List ℕ) (riders : List Moving) → riders ≡ map begun starts
@@ -77,3 +49,21 @@ first_queue starts riders is = record {
       (omega (arith, l, ap length is, length-map starts begun));
   apart = each_once (range_with_len 0 (length starts)) (range_apart 0 (length starts));
 }
+
+-- The ground, vertex by vertex.
+pub ground_is : (faces : Faces) (boundary singular : List Bool)
+    → boundary ≡ map (λ v. not (is_inner faces v)) (range_with_len 0 (vertex_count faces))
+    → singular ≡ map (is_singular faces) (range_with_len 0 (vertex_count faces)) → IsGround faces boundary singular
+ground_is faces boundary singular e f = rw (e, f) (record {
+  boundary_long = length-map (range_with_len 0 (vertex_count faces)) (λ v. not (is_inner faces v))
+      ∙ length-range_with_len 0 (vertex_count faces);
+  singular_long = length-map (range_with_len 0 (vertex_count faces)) (is_singular faces)
+      ∙ length-range_with_len 0 (vertex_count faces);
+  at_boundary = λ v l. get_or-map-range_with_len (λ u. not (is_inner faces u)) 0 (vertex_count faces) v v false l
+      (omega arith);
+  at_singular = λ v l. get_or-map-range_with_len (is_singular faces) 0 (vertex_count faces) v v false l (omega arith);
+})
+
+pub map_more : {X : Type 0} (f : ℕ → X) (n : ℕ) → map f (range_with_len 0 (n + 1)) ≡ map f (range_with_len 0 n)
+    ++ f n ∷ []
+map_more f n = map-range_with_len_more f 0 n n (omega arith)

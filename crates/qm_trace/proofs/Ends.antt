@@ -1,25 +1,26 @@
 -- The queue of the next instant, and the end of the motion.
 use Rattle.std.proofs.Common.{◌≡◌, ℕ, zero, suc, ◌+◌, ◌-◌, ◌<◌, ◌≤◌, Bool, true, false, not, eqb, is_some, List, ◌∷◌}
-use Rattle.std.proofs.Common.{◌++◌, length, map, Option, Some, None, sym, ap, ◌∙◌, refl, arith, [], ◌||◌}
+use Rattle.std.proofs.Common.{◌++◌, length, map, Option, Some, None, sym, ap, ◌∙◌, refl, arith, [], ◌||◌, inl, inr}
 use Rattle.std.proofs.lemmas.Bool.{false≢true}
 use Rattle.std.proofs.lemmas.List.{ext_get_or, get_or-map, length-map}
 use Rattle.std.proofs.lemmas.List.FromFn.{length-range_with_len, get_or-map-range_with_len}
 use Rattle.std.specs.List.{filter}
 use Rattle.def_mesh.specs.Darts.{darts, all_darts, twin_of}
 use Rattle.def_mesh.specs.{Faces.Faces, Manifold.IsManifold, Vertices.vertex_count}
-use Rattle.def_cut.specs.Motion.{Terrain, State, ridden, is_among, ride_on, ride, begun, step}
+use Rattle.def_cut.specs.Motion.{Terrain, State, ridden, is_among, ride_on, ride, begun}
 use Rattle.def_cut.specs.Traced.{AreRiders, IsRiderOf, finish, is_cut, terrain_of}
 use Rattle.def_cut.specs.{FullCut.is_on, declared.graph.Rider.Rider, declared.graph.Stop.Stop}
 use Rattle.def_cut.specs.{declared.moving.Moving.Moving, Events.rider_at}
 use Rattle.def_feature.specs.{Marked.marked_starts, Marked.marked_first, Marked.marked_last, Marks.AreMarks}
 use Rattle.mesh_laws.proofs.Vertices.{all_below}
-use Rattle.motion_laws.proofs.Among.{among_here, apart_filter, from_filter, in_filter}
-use Rattle.motion_laws.proofs.{Onward.at_rest, Onward.last_rests, Onward.runs_on, Order.runs_ridden}
+use Rattle.motion_laws.proofs.Among.{among_here, apart_filter, cases_List, cases_Option, from_filter, in_filter}
+use Rattle.motion_laws.proofs.{Next.runs_ridden, Onward.at_rest, Onward.last_rests, Onward.runs_on}
 use Rattle.site_laws.proofs.Sites.{terrain}
 use Rattle.feature_laws.proofs.{Breaks.begins, First.marked_begin}
 use Rattle.qm_trace.specs.Tables.{HaveStopped, IsEnd, IsOnItsWay, IsQueue, IsTableAt, is_running, is_closed_at}
 use Rattle.qm_trace.specs.Tables.{state_at}
 use Rattle.qm_trace.proofs.{Beginnings.all_apart, Beginnings.each_once, Steps.ridden_where}
+use Rattle.motion_laws.proofs.Onward.{finish_later, later_long}
 
 runs_by : (o : Option Stop) → is_running o ≡ true → o ≡ None
 runs_by None e = refl
@@ -59,9 +60,8 @@ module _ {faces : Faces} {marks : List Bool} {k : ℕ} {riders new : List Moving
   before : (r : ℕ) → r < length new → (rider_at new r).stop ≡ None → (rider_at riders r).stop ≡ None
   unfolding moved
   before r l runs = ran (terrain_of faces) then.stood (ridden then.riders) (rider_at riders r) (rider_at riders r).stop
-      (sym (ap (λ (rs : List Moving). (rider_at rs r).stop) next
-      ∙ ap (λ (x : Moving). x.stop) (get_or-map moved riders r (begun 0) (begun 0) (omega (arith, l, long))))
-      ∙ runs) refl
+      (sym (ap (λ (rs : List Moving). (rider_at rs r).stop) next ∙ ap (λ (x : Moving). x.stop)
+      (get_or-map moved riders r (begun 0) (begun 0) (omega (arith, l, long)))) ∙ runs) refl
 
   -- The queue of the riders that still run.
   pub next_queue : IsQueue new (filter (λ r. is_running (rider_at new r).stop) queue)
@@ -77,13 +77,12 @@ module _ {faces : Faces} {marks : List Bool} {k : ℕ} {riders new : List Moving
 -- Nobody waits in the queue, so nobody rides.
 pub none_ride : (riders : List Moving) (queue : List ℕ) → IsQueue riders queue → length queue ≡ 0 → ridden riders ≡ []
 none_ride riders (r ∷ queue) q none = absurd (omega arith)
-none_ride riders [] q none = at (ridden riders) refl
-  where
-    at : (ds : List ℕ) → ridden riders ≡ ds → ridden riders ≡ []
-    at [] is = is
-    at (d ∷ ds) is =
-        let r = ridden_where riders d (ap (is_among d) is ∙ among_here d d ds refl) in
-        absurd (false≢true (q.all r.0 r.1 r.2))
+none_ride riders [] q none = elim (cases_List (ridden riders)) [
+  | inl is ↦ is
+  | inr (d, ds, is) ↦
+      let r = ridden_where riders d (ap (is_among d) is ∙ among_here d d ds refl) in
+      absurd (false≢true (q.all r.0 r.1 r.2))
+]
 
 pub first_on : (faces : Faces) (marks : List Bool) → IsOnItsWay faces marks 0
 first_on faces marks more e = let s : more ≡ suc (vertex_count faces) = omega (arith, e) in
@@ -94,23 +93,18 @@ pub next_on : {faces : Faces} {marks : List Bool} {k : ℕ} {riders : List Movin
     {queue : List ℕ} → IsTableAt faces marks k riders stood covered taken → IsQueue riders queue → 0 < length queue
     → IsOnItsWay faces marks k → IsOnItsWay faces marks (k + 1)
 next_on {queue = []} t q some way more e = absurd (omega arith)
-next_on {faces} {marks} {k} {riders} {queue = r ∷ queue} t q some way more e = at (ridden now.riders) refl
+next_on {faces} {marks} {k} {riders} {queue = r ∷ queue} t q some way more e =
+    let p = q.runs r (among_here r r queue refl) in
+    elim (cases_List (ridden now.riders)) [
+      | inl none ↦ absurd (false≢true (sym (ap (is_among (rider_at riders r).dart)
+          (ap (λ (rs : List Moving). ridden rs) t.riders_are ∙ none)) ∙ runs_ridden riders r p.0 p.1))
+      | inr (d, ds, some) ↦
+          let plus : k + 1 ≡ suc k = omega arith in
+          rw plus (sym (runs_on (terrain_of faces) more d ds now some) ∙ way (suc more) (omega (arith, e)))
+    ]
   where
     now : State
     now = state_at faces marks k
-
-    there : is_among (rider_at riders r).dart (ridden (state_at faces marks k).riders) ≡ true
-    there = let p = q.runs r (among_here r r queue refl) in
-        sym (ap (λ (rs : List Moving). is_among (rider_at riders r).dart (ridden rs)) t.riders_are)
-        ∙ runs_ridden riders r p.0 p.1
-
-    plus : k + 1 ≡ suc k
-    plus = omega arith
-
-    at : (ds : List ℕ) → ridden now.riders ≡ ds
-        → finish (terrain_of faces) more (state_at faces marks (k + 1)) ≡ marked_last faces marks
-    at [] none = absurd (false≢true (sym (ap (is_among (rider_at riders r).dart) none) ∙ there))
-    at (d ∷ ds) some = rw plus (sym (runs_on (terrain_of faces) more d ds now some) ∙ way (suc more) (omega (arith, e)))
 
 -- Where nobody rides, the tables are those of the end.
 pub end_at : {faces : Faces} {marks : List Bool} {k : ℕ} {riders : List Moving} {stood covered taken : List Bool}
@@ -134,18 +128,13 @@ all_over {faces} m {marks} marked is = ap ridden is ∙ last_rests (terrain_of f
     (all_below faces)
 
 -- The marks of the graph.
-closed_long : (faces : Faces) (covered : List Bool) → length (map (is_closed_at faces covered) (all_darts faces))
-    ≡ darts faces
-closed_long faces covered = length-map (all_darts faces) (is_closed_at faces covered)
-    ∙ length-range_with_len 0 (darts faces)
-
 pub marks_are : (faces : Faces) (covered marks : List Bool) → length marks ≡ darts faces
     → ((d : ℕ) → d < darts faces → is_on marks d ≡ (is_on covered d || not (is_some (twin_of faces d))))
     → marks ≡ map (is_closed_at faces covered) (all_darts faces)
 marks_are faces covered marks long each =
-    ext_get_or false marks (map (is_closed_at faces covered) (all_darts faces)) (long ∙ sym (closed_long faces covered))
-    (λ d l. each d (omega (arith, l, long))
-    ∙ sym (get_or-map-range_with_len (is_closed_at faces covered) 0 (darts faces) d d false
+    ext_get_or false marks (map (is_closed_at faces covered) (all_darts faces)) (long ∙ sym (length-map
+    (all_darts faces) (is_closed_at faces covered) ∙ length-range_with_len 0 (darts faces))) (λ d l. each d
+    (omega (arith, l, long)) ∙ sym (get_or-map-range_with_len (is_closed_at faces covered) 0 (darts faces) d d false
     (omega (arith, l, long)) (omega arith)))
 
 -- They are the cut of a state with these covered darts.
@@ -153,36 +142,25 @@ pub cut_is : (faces : Faces) (s : State) (covered : List Bool)
     → ((d : ℕ) → d < darts faces → is_on covered d ≡ s.covered d) → map (is_closed_at faces covered) (all_darts faces)
     ≡ map (is_cut (terrain_of faces) s) (all_darts faces)
 cut_is faces s covered same =
-    ext_get_or false (map (is_closed_at faces covered) (all_darts faces)) (map (is_cut (terrain_of faces) s)
-    (all_darts faces)) (closed_long faces covered ∙ sym (length-map (all_darts faces) (is_cut (terrain_of faces) s)
-    ∙ length-range_with_len 0 (darts faces))) (λ d h.
-    let l : d < darts faces = omega (arith, h, closed_long faces covered) in
-    get_or-map-range_with_len (is_closed_at faces covered) 0 (darts faces) d d false l (omega arith)
-    ∙ (ap (λ b. b || not (is_some (twin_of faces d))) (same d l)
-    ∙ sym (get_or-map-range_with_len (is_cut (terrain_of faces) s) 0 (darts faces) d d false l (omega arith))))
+    let cut = is_cut (terrain_of faces) s in
+    sym (marks_are faces covered (map (is_cut (terrain_of faces) s) (all_darts faces)) (length-map (all_darts faces) cut
+    ∙ length-range_with_len 0 (darts faces)) (λ d l. get_or-map-range_with_len cut 0 (darts faces) d d false l
+    (omega arith) ∙ ap (λ b. b || not (is_some (twin_of faces d))) (sym (same d l))))
 
 -- No rider is lost.
-finish_long : (g : Terrain) (k : ℕ) (s : State) → length (finish g k s).riders ≡ length s.riders
-finish_long g zero s = refl
-finish_long g (suc k) s = at (ridden s.riders) (finish_long g k (step g s))
-  where
-    at : (ds : List ℕ) → length (finish g k (step g s)).riders ≡ length (step g s).riders
-        → length (elim ds as (λ x. State) [ [] ↦ s | d ∷ es ↦ finish g k (step g s) ]).riders ≡ length s.riders
-    at [] e = refl
-    at (d ∷ ds) e = e ∙ length-map s.riders (ride g s.stood (ridden s.riders))
-
 pub last_long : (faces : Faces) (marks : List Bool) → length (marked_last faces marks).riders
     ≡ length (marked_starts faces marks)
-last_long faces marks = finish_long (terrain_of faces) (suc (vertex_count faces)) (marked_first faces marks)
-    ∙ length-map (marked_starts faces marks) begun
+last_long faces marks =
+    let f = finish_later (terrain_of faces) (marked_first faces marks) (suc (vertex_count faces)) 0 in
+    ap (λ (s : State). length s.riders) f.1 ∙ (later_long (terrain_of faces) (marked_first faces marks) f.0
+    ∙ length-map (marked_starts faces marks) begun)
 
 -- Where nobody rides, each rider has stopped.
 pub have_stopped : (riders : List Moving) → ridden riders ≡ [] → HaveStopped riders
-have_stopped riders none r l = at (rider_at riders r).stop refl
-  where
-    at : (o : Option Stop) → (rider_at riders r).stop ≡ o → is_some (rider_at riders r).stop ≡ true
-    at None is = absurd (false≢true (sym (ap (is_among (rider_at riders r).dart) none) ∙ runs_ridden riders r l is))
-    at (Some s) is = ap is_some is
+have_stopped riders none r l = elim (cases_Option (rider_at riders r).stop) [
+  | inl is ↦ absurd (false≢true (sym (ap (is_among (rider_at riders r).dart) none) ∙ runs_ridden riders r l is))
+  | inr (s, is) ↦ ap is_some is
+]
 
 -- One rider more is told.
 pub riders_more : (ms : List Moving) (ds : List ℕ) (rs : List Rider) (m : Moving) (d : ℕ) (r : Rider)

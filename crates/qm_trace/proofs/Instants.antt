@@ -1,17 +1,17 @@
 -- By the marks of an instant riders ride as the motion says.
 use Rattle.std.proofs.Common.{◌≡◌, ℕ, suc, ◌<◌, Bool, true, false, cond, not, ◌&&◌, List, length, map, Option}
-use Rattle.std.proofs.Common.{Some, None, sym, ap, ◌∙◌, refl, arith, ◌||◌}
+use Rattle.std.proofs.Common.{Some, None, sym, ap, ◌∙◌, refl, arith, ◌||◌, inl, inr}
 use Rattle.std.proofs.lemmas.Bool.{false≢true}
 use Rattle.std.proofs.lemmas.List.{ext_get_or, get_or-map, length-map}
 use Rattle.def_mesh.specs.Darts.{next_of, prev_of, twin_of, to_of}
 use Rattle.def_mesh.specs.{Faces.Faces, Manifold.IsManifold, Kinds.is_inner, Kinds.is_singular}
-use Rattle.def_mesh.specs.HalfEdges.{half_edges}
-use Rattle.def_cut.specs.Motion.{end_of, ridden, is_among, is_found, is_met, arrivals, goes_on, stop_of, after_ride}
+use Rattle.def_cut.specs.Motion.{end_of, ridden, is_among, is_found, is_met, stop_of, after_ride}
 use Rattle.def_cut.specs.Motion.{ride_on, ride, begun, State, Terrain}
-use Rattle.def_cut.specs.{Cuts.IsCross, FullCut.is_on, declared.graph.Stop.Stop, declared.graph.Stop.TheVariants.Tie}
+use Rattle.def_cut.specs.{FullCut.is_on, declared.graph.Stop.Stop, declared.graph.Stop.TheVariants.Tie}
 use Rattle.def_cut.specs.{declared.moving.Moving.Moving, Traced.terrain_of, Events.rider_at}
 use Rattle.mesh_laws.proofs.Vertices.{all_below}
-use Rattle.motion_laws.proofs.{Order.runs_ridden, Steps.two_bits, Onward.later_reached, Terrains.IsReachedFrom}
+use Rattle.motion_laws.proofs.Among.{cases_Option}
+use Rattle.motion_laws.proofs.{Next.runs_ridden, Steps.two_bits, Onward.later_reached, Terrains.IsReachedFrom}
 use Rattle.site_laws.proofs.Sites.{terrain}
 use Rattle.def_feature.specs.Marked.{marked_first}
 use Rattle.feature_laws.proofs.{Breaks.begins, First.marked_begin}
@@ -42,32 +42,25 @@ module _ {faces : Faces} (m : IsManifold faces) {begin : ℕ → Bool} {first s 
   met_same None = refl
   met_same (Some t) = marked t
 
-  -- The two bits of a rider.
-  crowded_by : (d a b c : ℕ) → is_among d ds ≡ true → s.stood (end_of g d) ≡ false
-      → IsCross (half_edges faces) (next_of d) a b c
-      → cond (is_crowded faces (twin_of faces d) taken) (Some (Tie (end_of g d))) None
-      ≡ cond (goes_on g (arrivals g ds (end_of g d)) d) None (Some (Tie (end_of g d)))
-  crowded_by d a b c n off x =
-      let tie = Some (Tie (end_of g d)) in
-      let crowd : is_crowded faces (twin_of faces d) taken ≡ (is_among (prev_of a) ds || is_among (prev_of b) ds) =
-      ap (λ o. is_crowded faces o taken) (sym (ap (twin_of faces) ((terrain faces m).half.prev_next d)) ∙ x.first)
-      ∙ (ap (λ q. q || is_faced (twin_of faces (prev_of a)) taken) (marked (prev_of a))
-      ∙ ap (λ q. is_among (prev_of a) ds || q) (ap (λ o. is_faced o taken) x.second ∙ marked (prev_of b))) in
-      ap (λ (q : Bool). cond q tie None) crowd
-      ∙ (tie_or_on (is_among (prev_of a) ds) (is_among (prev_of b) ds) tie ∙ sym (ap (λ (q : Bool). cond q None tie)
-      (two_bits g (terrain faces m) s.stood ds reached.apart reached.low reached.left d a b c n off x)))
-
-  -- So the rider by d stops as the motion says, where it is known whether somebody had stood at its end.
-  pub stop_same : (d : ℕ) (stood : Bool) → is_among d (ridden s.riders) ≡ true
-      → stood ≡ s.stood (end_of (terrain_of faces) d)
-      → stop_by faces (not (is_inner faces (to_of faces d))) (is_singular faces (to_of faces d)) stood taken d
-      ≡ stop_of (terrain_of faces) s.stood (ridden s.riders) d
+  -- The rider by d stops as the motion says, where it is known whether somebody had stood at its end.
+  pub stop_same : (d : ℕ) (stood : Bool) → is_among d (ridden s.riders) ≡ true → stood ≡ s.stood
+      (end_of (terrain_of faces) d) → stop_by faces (not (is_inner faces (to_of faces d)))
+      (is_singular faces (to_of faces d)) stood taken d ≡ stop_of (terrain_of faces) s.stood (ridden s.riders) d
   stop_same d stood n same = rw (met_same (twin_of faces d), same) (in_a_row (is_met g ds d)
       (not (is_inner faces (to_of faces d))) (is_singular faces (to_of faces d)) (s.stood (end_of g d)) _ _ _ _ _ _
       (λ unmet inner regular off.
       let t = terrain faces m in
-      let x = t.crossed (next_of d) (t.half.next_low d (reached.low d n)) inner regular in
-      crowded_by d x.0 x.1 x.2 n off x.3))
+      let low = reached.low d n in
+      let (a, b, c, x) = t.crossed (next_of d) (t.half.next_low d low) inner regular in
+      let tie = Some (Tie (end_of g d)) in
+      -- The two bits of a rider.
+      let crowd : is_crowded faces (twin_of faces d) taken ≡ (is_among (prev_of a) ds || is_among (prev_of b) ds) =
+      ap (λ o. is_crowded faces o taken) (sym (ap (twin_of faces) (t.half.prev_next d)) ∙ x.first)
+      ∙ (ap (λ q. q || is_faced (twin_of faces (prev_of a)) taken) (marked (prev_of a))
+      ∙ ap (λ q. is_among (prev_of a) ds || q) (ap (λ o. is_faced o taken) x.second ∙ marked (prev_of b))) in
+      ap (λ (q : Bool). cond q tie None) crowd
+      ∙ (tie_or_on (is_among (prev_of a) ds) (is_among (prev_of b) ds) tie ∙ sym (ap (λ (q : Bool). cond q None tie)
+      (two_bits g t s.stood ds reached.apart reached.low reached.left d a b c n off x)))))
 
 module _ {faces : Faces} (m : IsManifold faces) {marks : List Bool} {k : ℕ} {riders : List Moving} {queue : List ℕ}
     {stood taken : List Bool} (i : IsInstant faces marks k riders queue stood taken) where
@@ -92,12 +85,8 @@ module _ {faces : Faces} (m : IsManifold faces) {marks : List Bool} {k : ℕ} {r
       (stop_same m reached taken (λ e. i.taken_is e ∙ ap (λ (rs : List Moving). is_among e (ridden rs)) i.riders_are) d
       (is_on stood (to_of faces d)) there (i.stood_is (to_of faces d) end_low))
       ∙ sym (ap (ride_on (terrain_of faces) now.stood (ridden now.riders) (rider_at riders r)) runs)
-  one_rider r l false off = at (rider_at riders r).stop refl
-    where
-      at : (o : Option Stop) → (rider_at riders r).stop ≡ o
-          → rider_at riders r ≡ ride_on (terrain_of faces) now.stood (ridden now.riders) (rider_at riders r) o
-      at None is = absurd (false≢true (sym off ∙ i.waits.all r l is))
-      at (Some q) is = refl
+  one_rider r l false off = elim (cases_Option (rider_at riders r).stop)
+      [ inl is ↦ absurd (false≢true (sym off ∙ i.waits.all r l is)) | inr (q, is) ↦ rw is refl ]
 
   pub next_riders : (new : List Moving) → length new ≡ length riders → AreRode faces stood taken queue riders new
       → new ≡ (state_at faces marks (suc k)).riders

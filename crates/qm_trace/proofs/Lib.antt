@@ -1,6 +1,4 @@
-mod Stops
 pub mod Marking
-mod Riding
 mod Instants
 mod Steps
 mod Beginnings
@@ -9,8 +7,6 @@ mod Counting
 mod Reaching
 mod Settled
 mod Noting
-mod Possible
 mod Fewer
 mod Tellings
 mod Calls
-mod Moves

@@ -1,25 +1,25 @@
 -- Marks at the darts of a list, one after another.
 use Rattle.std.proofs.Common.{◌≡◌, ℕ, ◌+◌, ◌<◌, Bool, true, false, cond, eqb, ◌||◌, List, [], ◌∷◌, ◌++◌, length, get_or}
-use Rattle.std.proofs.Common.{set, take, Option, Some, None, sym, ap, ◌∙◌, refl, inl, inr, arith}
-use Rattle.std.proofs.Math.Bool.{or-false}
-use Rattle.std.proofs.lemmas.Bool.{cases_eq, eq-eqb, ne_eqb, eqb-true, false≢true, or_right}
-use Rattle.std.proofs.lemmas.List.Folds.{list_any-append}
+use Rattle.std.proofs.Common.{set, take, ap, ◌∙◌, refl, inl, inr, zero, suc, sym, arith}
+use Rattle.std.proofs.Math.Bool.{or-false, or_assoc}
+use Rattle.std.proofs.lemmas.Bool.{cases_eq, eq-eqb, ne_eqb, or_right, false≢true, false_from_ne_true}
+use Rattle.std.proofs.lemmas.List.{Folds.list_any-append, Elements.filter-append}
 use Rattle.std.proofs.lemmas.List.{take_more, get_or-set_same, get_or-set_other}
-use Rattle.std.specs.List.{list_any, range_with_len}
+use Rattle.std.specs.List.{list_any, range_with_len, filter}
 use Rattle.list_laws.proofs.Filters.{range_more}
-use Rattle.sum_laws.proofs.Tests.{same_test}
-use Rattle.def_mesh.specs.{Faces.Faces, Darts.darts, Darts.twin_of, Manifold.IsManifold}
-use Rattle.def_cut.specs.{FullCut.is_on, Motion.is_among, Motion.is_found, Events.mark_twin}
-use Rattle.mesh_laws.proofs.HalfEdges.{manifold_law}
-use Rattle.motion_laws.proofs.{Among.among_here, Marks.twin_marks, Marks.found_more}
+use Rattle.def_cut.specs.{FullCut.is_on, Events.rider_at}
+use Rattle.def_cut.specs.Motion.{is_among, begun}
+use Rattle.def_mesh.specs.Faces.{Faces}
+use Rattle.def_cut.specs.declared.moving.Moving.{Moving}
+use Rattle.motion_laws.proofs.{Among.among_cases, Marks.among_at}
+use Rattle.qm_trace.specs.Tables.{AreEachOnce, AreRode, rode}
 
 -- One more at the end of a list.
-any_snoc : (p : ℕ → Bool) (xs : List ℕ) (x : ℕ) → list_any p (xs ++ x ∷ []) ≡ (list_any p xs || p x)
+pub any_snoc : (p : ℕ → Bool) (xs : List ℕ) (x : ℕ) → list_any p (xs ++ x ∷ []) ≡ (list_any p xs || p x)
 any_snoc p xs x = list_any-append p xs (x ∷ []) ∙ ap (λ b. list_any p xs || b) (or-false (p x))
 
 pub or_shift : (a b c : Bool) → ((a || b) || c) ≡ (a || (b || c))
-or_shift true b c = refl
-or_shift false b c = refl
+or_shift = or_assoc
 
 -- One number more in a range.
 pub any_range_more : (p : ℕ → Bool) (n : ℕ) → list_any p (range_with_len 0 (n + 1))
@@ -30,68 +30,57 @@ pub among_more : (ds : List ℕ) (i d : ℕ) → i < length ds → is_among d (t
     ≡ (is_among d (take i ds) || eqb d (get_or ds i 0))
 among_more ds i d l = ap (is_among d) (take_more ds i 0 l) ∙ any_snoc (λ e. eqb d e) (take i ds) (get_or ds i 0)
 
--- One mark set.
-pub marks_more : (ds : List ℕ) (i : ℕ) (value : Bool) (marks old : List Bool) → i < length ds
-    → get_or ds i 0 < length marks → ((d : ℕ) → is_on marks d ≡ cond (is_among d (take i ds)) value (is_on old d))
-    → (d : ℕ) → is_on (set marks (get_or ds i 0) value) d ≡ cond (is_among d (take (i + 1) ds)) value (is_on old d)
-marks_more ds i value marks old l low each d =
+-- One element set, where those before it in the list have their new values.
+pub set_more : {A : Type 0} (z : A) (ds : List ℕ) (i : ℕ) (xs old : List A) (f : ℕ → A) (v : A) → i < length ds
+    → get_or ds i 0 < length xs → v ≡ f (get_or ds i 0) → (d : ℕ)
+    → get_or xs d z ≡ cond (is_among d (take i ds)) (f d) (get_or old d z)
+    → get_or (set xs (get_or ds i 0) v) d z ≡ cond (is_among d (take (i + 1) ds)) (f d) (get_or old d z)
+set_more z ds i xs old f v l low is d each =
     let x = get_or ds i 0 in
     elim (cases_eq d (get_or ds i 0)) [
       | inl e ↦ rw (
         e,
-        get_or-set_same marks x value false low,
+        get_or-set_same xs x v z low,
         among_more ds i x l,
         eq-eqb x x refl,
         or_right (is_among x (take i ds)) true refl,
-      ) refl
+      ) is
       | inr ne ↦ rw (
-        get_or-set_other marks x d value false ne,
-        each d,
+        get_or-set_other xs x d v z ne,
+        each,
         among_more ds i d l,
         ne_eqb d x ne,
         or-false (is_among d (take i ds)),
       ) refl
     ]
 
--- One edge more.
-twin_test : (faces : Faces) → IsManifold faces → (d e : ℕ) → d < darts faces → e < darts faces
-    → is_found (twin_of faces d) (e ∷ []) ≡ is_found (twin_of faces e) (d ∷ [])
-twin_test faces m d e ld le = same_test _ _ (one_way d e ld) (one_way e d le)
-  where
-    one_way : (d e : ℕ) → d < darts faces → is_found (twin_of faces d) (e ∷ []) ≡ true
-        → is_found (twin_of faces e) (d ∷ []) ≡ true
-    one_way d e ld f = at (twin_of faces d) refl f
-      where
-        at : (o : Option ℕ) → twin_of faces d ≡ o → is_found o (e ∷ []) ≡ true → is_found (twin_of faces e) (d ∷ [])
-            ≡ true
-        at None is f = absurd (false≢true f)
-        at (Some u) is f =
-            let same = eqb-true u e (sym (or-false (eqb u e)) ∙ f) in
-            rw ((manifold_law faces m).twin_twin d e ld (is ∙ ap Some same)) (among_here d d [] refl)
+pub marks_more : (ds : List ℕ) (i : ℕ) (value : Bool) (marks old : List Bool) → i < length ds
+    → get_or ds i 0 < length marks → ((d : ℕ) → is_on marks d ≡ cond (is_among d (take i ds)) value (is_on old d))
+    → (d : ℕ) → is_on (set marks (get_or ds i 0) value) d ≡ cond (is_among d (take (i + 1) ds)) value (is_on old d)
+marks_more ds i value marks old l low each d = set_more false ds i marks old (λ x. value) value l low refl d (each d)
 
-shuffle : (c m f a b : Bool) → ((c || (m || f)) || (a || b)) ≡ (c || ((m || a) || (f || b)))
-shuffle true m f a b = refl
-shuffle false true f a b = refl
-shuffle false false true true b = refl
-shuffle false false true false b = refl
-shuffle false false false a b = refl
+-- What stands at a place stands not before it.
+pub once : (q : List ℕ) (i : ℕ) → AreEachOnce q → i < length q → is_among (get_or q i 0) (take i q) ≡ false
+once [] i a l = absurd (omega arith)
+once (x ∷ xs) zero a l = refl
+once (x ∷ xs) (suc i) a l = false_from_ne_true _ (λ m. elim (among_cases (get_or xs i 0) x (take i xs) m) [
+  | inl e ↦ false≢true (sym a.0 ∙ (ap (λ k. is_among k xs) (sym e) ∙ among_at xs i (omega arith)))
+  | inr k ↦ false≢true (sym (once xs i a.1 (omega arith)) ∙ k)
+])
 
-pub cover_more : (faces : Faces) → IsManifold faces → (ds : List ℕ) (i : ℕ) (covered old now : List Bool)
-    → i < length ds → get_or ds i 0 < darts faces → length covered ≡ darts faces
-    → now ≡ mark_twin (twin_of faces (get_or ds i 0)) (set covered (get_or ds i 0) true) → ((d : ℕ) → d < darts faces
-    → is_on covered d ≡ (is_on old d || (is_among d (take i ds) || is_found (twin_of faces d) (take i ds)))) → (d : ℕ)
-    → d < darts faces → is_on now d
-    ≡ (is_on old d || (is_among d (take (i + 1) ds) || is_found (twin_of faces d) (take (i + 1) ds)))
-cover_more faces m ds i covered old now l low long is each d ld =
-    let x = get_or ds i 0 in
-    let laws = manifold_law faces m in
-    rw (
-      is,
-      twin_marks (twin_of faces x) covered x d (omega (arith, low, long))
-          (λ u w. omega (arith, laws.twin_low x u low w, long)),
-      each d ld,
-      twin_test faces m x d low ld,
-      among_more ds i d l,
-      found_more (twin_of faces d) (take i ds) (take (i + 1) ds) x (λ e. among_more ds i e l),
-    ) (shuffle (is_on old d) (is_among d (take i ds)) (is_found (twin_of faces d) (take i ds)) (eqb d x)
-    (is_found (twin_of faces d) (x ∷ [])))
+-- The queue has been ridden through as far as place i.
+module _ (faces : Faces) (stood now : List Bool) (q : List ℕ) (i : ℕ) (old riders : List Moving) (a : AreEachOnce q)
+    (l : i < length q) (low : get_or q i 0 < length old) (each : AreRode faces stood now (take i q) old riders) where
+  -- The rider there has not ridden yet.
+  pub unmoved : rider_at riders (get_or q i 0) ≡ rider_at old (get_or q i 0)
+  unmoved = each (get_or q i 0) low ∙ rw (once q i a l) refl
+
+  -- Where it has ridden, one more has.
+  pub rode_more : {rider : Moving} → length riders ≡ length old → rider ≡ rode faces stood now
+      (rider_at riders (get_or q i 0)) → AreRode faces stood now (take (i + 1) q) old (set riders (get_or q i 0) rider)
+  rode_more {rider} long is r lr = set_more (begun 0) q i riders old (λ r. rode faces stood now (rider_at old r)) rider
+      l (omega (arith, low, long)) (is ∙ ap (rode faces stood now) unmoved) r (each r lr)
+
+pub running_more : (p : ℕ → Bool) (q : List ℕ) (i : ℕ) → i < length q → filter p (take (i + 1) q) ≡ filter p (take i q)
+    ++ cond (p (get_or q i 0)) (get_or q i 0 ∷ []) []
+running_more p q i l = ap (filter p) (take_more q i 0 l) ∙ filter-append p (take i q) (get_or q i 0 ∷ [])

@@ -1,29 +1,24 @@
 -- Notes that are made, and taken back.
-use Rattle.std.proofs.Common.{◌≡◌, ◌≢◌, ◌⊎◌, ℕ, suc, ◌+◌, ◌<◌, ◌≤◌, Bool, true, false, cond, eqb, List, ◌∷◌, ◌++◌}
+use Rattle.std.proofs.Common.{◌≡◌, ◌≢◌, ℕ, suc, ◌+◌, ◌<◌, ◌≤◌, Bool, true, false, cond, eqb, List, ◌∷◌, ◌++◌}
 use Rattle.std.proofs.Common.{length, get_or, set, take, replicate, Option, Some, None, sym, subst, ap, ◌∙◌, refl, inl}
 use Rattle.std.proofs.Common.{inr, arith, []}
 use Rattle.std.proofs.lemmas.Option.{none-some, same_Some}
-use Rattle.std.proofs.lemmas.Bool.{cases_eq, eq-eqb, ne_eqb, false≢true, false_from_ne_true, or_left, or_right}
-use Rattle.std.proofs.lemmas.List.Folds.{list_any-append}
+use Rattle.std.proofs.lemmas.Bool.{cases_eq, eq-eqb, false≢true, false_from_ne_true, or_left, or_right}
 use Rattle.std.proofs.lemmas.List.{get_or-set_same, get_or-set_other, length-set, length-replicate, get_or_default}
 use Rattle.std.specs.Vec.{vec_capacity}
-use Rattle.std.proofs.Math.Bool.{or-false}
 use Rattle.def_mesh.specs.{Faces.Faces, Darts.darts, Darts.to_of}
 use Rattle.def_cut.specs.{FullCut.is_on, Motion.is_among, Events.darts_in, Events.note_at}
-use Rattle.motion_laws.proofs.Among.{among_here, among_cases}
-use Rattle.motion_laws.proofs.Marks.{among_append, apart_append, apart_few, mark_is, no_darts, noted_more, among_at}
-use Rattle.motion_laws.proofs.Order.{v_low}
+use Rattle.motion_laws.proofs.Among.{among_cases}
+use Rattle.motion_laws.proofs.Marks.{among_append, among_at, apart_append, apart_few, mark_is, no_darts}
 use Rattle.qm_trace.specs.{declared.notes.Notes.Notes, Motions.AreNotes, Tables.AreEachOnce}
-use Rattle.qm_trace.proofs.{Beginnings.all_apart, Beginnings.each_once, Marking.among_more, Reaching.noted_among}
-use Rattle.qm_trace.proofs.{Reaching.noted_short, Riding.once}
+use Rattle.motion_laws.proofs.Marks.{noted_among, noted_more, noted_short}
+use Rattle.qm_trace.proofs.Beginnings.{all_apart, each_once}
+use Rattle.qm_trace.proofs.Marking.{any_snoc, once, set_more}
+use Rattle.motion_laws.proofs.Among.{cases_Option}
 
-pub all_none : (ns : List (Option ℕ)) → ((r : ℕ) → note_at ns r ≡ None) → ns ≡ replicate (length ns) None
-all_none [] each = refl
-all_none (n ∷ ns) each = ap (λ k. k ∷ ns) (each 0) ∙ ap (λ ks. None ∷ ks) (all_none ns (λ r. each (suc r)))
-
-pub all_off : (marks : List Bool) → ((v : ℕ) → is_on marks v ≡ false) → marks ≡ replicate (length marks) false
-all_off [] each = refl
-all_off (b ∷ marks) each = ap (λ c. c ∷ marks) (each 0) ∙ ap (λ bs. false ∷ bs) (all_off marks (λ v. each (suc v)))
+pub all_same : {A : Type 0} (z : A) (xs : List A) → ((i : ℕ) → get_or xs i z ≡ z) → xs ≡ replicate (length xs) z
+all_same z [] each = refl
+all_same z (x ∷ xs) each = ap (λ y. y ∷ xs) (each 0) ∙ ap (λ ys. z ∷ ys) (all_same z xs (λ i. each (suc i)))
 
 -- There is room in the queue for a rider without a note.
 pub has_room : (notes : Notes) (r : ℕ) → AreNotes notes → r < length notes.noted.items → note_at notes.noted.items r
@@ -34,17 +29,9 @@ has_room notes r are low fresh = omega (
   apart_few (length notes.noted.items) (r ∷ notes.queue.items) (
     false_from_ne_true _ (λ a. let d = are.queue_is r a in none-some d.0 (sym fresh ∙ d.1)),
     all_apart notes.queue.items are.queue_apart,
-  ) (λ q a. elim (among_cases q r notes.queue.items a) [
-    | inl e ↦ rw e low
-    | inr b ↦ let d = are.queue_is q b in noted_short notes.noted.items q d.0 d.1
-  ]),
+  ) (λ q a. elim (among_cases q r notes.queue.items a)
+      [ inl e ↦ rw e low | inr b ↦ let d = are.queue_is q b in noted_short notes.noted.items q d.0 d.1 ]),
 )
-
-among_left : (q : ℕ) (xs ys : List ℕ) → is_among q xs ≡ true → is_among q (xs ++ ys) ≡ true
-among_left q xs ys a = list_any-append (λ e. eqb q e) xs ys ∙ or_left _ _ a
-
-among_last : (q : ℕ) (xs : List ℕ) → is_among q (xs ++ q ∷ []) ≡ true
-among_last q xs = list_any-append (λ e. eqb q e) xs (q ∷ []) ∙ or_right _ _ (among_here q q [] refl)
 
 -- One note more.
 pub one_note : (notes new : Notes) (r d : ℕ) → AreNotes notes → r < length notes.noted.items
@@ -62,50 +49,39 @@ one_note notes new r d are low d_low fresh alone is_noted is_taken is_places is_
     are.taken_is e,
     noted_more notes.noted.items r d e low fresh,
   ) refl;
-  slot = λ q e n. rw is_places (slot_at q e (rw is_noted at n));
-  queue_has = λ q e n. rw is_queue (has_at q e (rw is_noted at n));
-  queue_is = λ q a. rw is_noted (is_at q (among_append q notes.queue.items (r ∷ []) (rw is_queue at a)));
+  slot = λ q e n.
+      let m = rw is_noted at n in
+      rw is_places (elim (cases_eq q r) [
+        | inl s ↦
+            let same = same_Some e d (sym (rw s at m) ∙ get_or-set_same notes.noted.items r (Some d) None low) in
+            rw (same, get_or-set_same notes.places.items d r 0 (omega (arith, d_low, are.places_long))) (sym s)
+        | inr ne ↦
+            let old = sym (get_or-set_other notes.noted.items r q (Some d) None ne) ∙ m in
+            get_or-set_other notes.places.items d e r 0
+            (λ s. false≢true (sym alone ∙ rw s at (noted_among notes.noted.items q e old))) ∙ are.slot q e old
+      ]);
+  queue_has = λ q e n.
+      let m = rw is_noted at n in
+      rw (is_queue, any_snoc (λ e. eqb q e) notes.queue.items r) (elim (cases_eq q r) [
+        | inl s ↦ or_right _ _ (eq-eqb q r s)
+        | inr ne ↦ or_left _ _ (are.queue_has q e (sym (get_or-set_other notes.noted.items r q (Some d) None ne) ∙ m))
+      ]);
+  queue_is = λ q a. rw is_noted (elim (among_append q notes.queue.items (r ∷ []) (rw is_queue at a)) [
+    | inl b ↦ let (e, n) = are.queue_is q b in
+        (e, get_or-set_other notes.noted.items r q (Some d) None (differs q b) ∙ n)
+    | inr b ↦ elim (among_cases q r [] b)
+        [ inl s ↦ (d, rw s (get_or-set_same notes.noted.items r (Some d) None low)) | inr c ↦ absurd (false≢true c) ]
+  ]);
   queue_apart = rw is_queue (each_once (notes.queue.items ++ r ∷ []) (apart_append notes.queue.items (r ∷ [])
-      (all_apart notes.queue.items are.queue_apart) (refl, tt) (λ q a b. apart_at q a b)));
+      (all_apart notes.queue.items are.queue_apart) (refl, tt)
+      (λ q a b. elim (among_cases q r [] b) [ inl s ↦ differs q a s | inr c ↦ false≢true c ])));
   room = omega (arith, are.room, room, ap length is_noted, length-set notes.noted.items r (Some d));
 }
   where
-    slot_at : (q e : ℕ) → note_at (set notes.noted.items r (Some d)) q ≡ Some e
-        → get_or (set notes.places.items d r) e 0 ≡ q
-    slot_at q e n = elim (cases_eq q r) [
-      | inl s ↦
-          let same = same_Some e d (sym (rw s at n) ∙ get_or-set_same notes.noted.items r (Some d) None low) in
-          rw (same, get_or-set_same notes.places.items d r 0 (omega (arith, d_low, are.places_long))) (sym s)
-      | inr ne ↦
-          let old = sym (get_or-set_other notes.noted.items r q (Some d) None ne) ∙ n in
-          get_or-set_other notes.places.items d e r 0
-          (λ s. false≢true (sym alone ∙ rw s at (noted_among notes.noted.items q e old))) ∙ are.slot q e old
-    ]
-
-    has_at : (q e : ℕ) → note_at (set notes.noted.items r (Some d)) q ≡ Some e
-        → is_among q (notes.queue.items ++ r ∷ []) ≡ true
-    has_at q e n = elim (cases_eq q r) [
-      | inl s ↦ rw s (among_last r notes.queue.items)
-      | inr ne ↦ among_left q notes.queue.items (r ∷ [])
-          (are.queue_has q e (sym (get_or-set_other notes.noted.items r q (Some d) None ne) ∙ n))
-    ]
-
     -- Who is in the queue is another rider, since r had no note.
     differs : (q : ℕ) → is_among q notes.queue.items ≡ true → q ≢ r
     differs q a s = let e = are.queue_is q a in
         none-some e.0 (sym fresh ∙ (ap (note_at notes.noted.items) (sym s) ∙ e.1))
-
-    is_at : (q : ℕ) → (is_among q notes.queue.items ≡ true) ⊎ (is_among q (r ∷ []) ≡ true)
-        → (e : ℕ) × (note_at (set notes.noted.items r (Some d)) q ≡ Some e)
-    is_at q (inl a) = let (e, n) = are.queue_is q a in
-        (e, get_or-set_other notes.noted.items r q (Some d) None (differs q a) ∙ n)
-    is_at q (inr b) = elim (among_cases q r [] b) [
-      | inl s ↦ (d, rw s (get_or-set_same notes.noted.items r (Some d) None low))
-      | inr c ↦ absurd (false≢true c)
-    ]
-
-    apart_at : (q : ℕ) → is_among q notes.queue.items ≡ true → is_among q (r ∷ []) ≡ true → ⊥
-    apart_at q a b = elim (among_cases q r [] b) [ inl s ↦ differs q a s | inr c ↦ false≢true c ]
 
 -- No notes.
 pub are_none : (notes : Notes) (ns : List (Option ℕ)) → notes.noted.items ≡ replicate (length ns) None
@@ -165,19 +141,7 @@ module _ {faces : Faces} {queue : List ℕ} {i : ℕ} {first noted : List (Optio
 
   pub taken_back : (q : ℕ) → note_at (set noted (get_or queue i 0) None) q
       ≡ cond (is_among q (take (i + 1) queue)) None (note_at first q)
-  taken_back q = elim (cases_eq q r) [
-    | inl s ↦ rw (
-      s,
-      get_or-set_same noted r None None back_short,
-      among_more queue i r place,
-      or_right _ _ (eq-eqb r r refl),
-    ) refl
-    | inr ne ↦ get_or-set_other noted r q None None ne ∙ (before q ∙ rw (
-      among_more queue i q place,
-      ne_eqb q r ne,
-      or-false (is_among q (take i queue)),
-    ) refl)
-  ]
+  taken_back q = set_more None queue i noted first (λ r. None) None place back_short refl q (before q)
 
   -- Another note stays.
   stays : (q e : ℕ) → note_at noted q ≡ Some e → e ≢ d → note_at (set noted r None) q ≡ Some e
@@ -205,15 +169,11 @@ module _ {faces : Faces} {queue : List ℕ} {i : ℕ} {first noted : List (Optio
       (q.0, q.1, stays q.0 q.1 q.2 (λ s. differ (sym q.3 ∙ (ap (to_of faces) s ∙ sym v_is))), q.3)
 
 -- Where the notes of the riders in the queue are taken back, none is left.
-pub cleared : (notes : Notes) (new : List (Option ℕ)) → AreNotes notes
-    → ((r : ℕ) → note_at new r ≡ cond (is_among r notes.queue.items) None (note_at notes.noted.items r)) → (r : ℕ)
-    → note_at new r ≡ None
-cleared notes new are each r = each r ∙ at (note_at notes.noted.items r) refl
+pub cleared : (notes : Notes) (new : List (Option ℕ)) → AreNotes notes → ((r : ℕ) → note_at new r ≡ cond
+    (is_among r notes.queue.items) None (note_at notes.noted.items r)) → (r : ℕ) → note_at new r ≡ None
+cleared notes new are each r = rw (each r) (elim (cases_Option (note_at notes.noted.items r))
+    [ inl is ↦ rw is (both (is_among r notes.queue.items)) | inr (d, is) ↦ rw (are.queue_has r d is) refl ])
   where
-    at : (n : Option ℕ) → note_at notes.noted.items r ≡ n → cond (is_among r notes.queue.items) None n ≡ None
-    at None is = both (is_among r notes.queue.items)
-      where
-        both : (b : Bool) → ◌≡◌ {A = Option ℕ} (cond b None None) None
-        both true = refl
-        both false = refl
-    at (Some d) is = ap (λ (b : Bool). cond b None (Some d)) (are.queue_has r d is)
+    both : (b : Bool) → ◌≡◌ {A = Option ℕ} (cond b None None) None
+    both true = refl
+    both false = refl

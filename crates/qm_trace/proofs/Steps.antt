@@ -1,7 +1,7 @@
 -- The tables after a step.
 use Rattle.std.proofs.Common.{◌≡◌, ℕ, zero, suc, ◌+◌, ◌^◌, ◌<◌, ◌≤◌, Bool, true, false, cond, eqb, List, ◌∷◌, length}
 use Rattle.std.proofs.Common.{map, Option, Some, None, sym, ap, ◌∙◌, refl, inl, inr, arith, [], ◌||◌}
-use Rattle.std.proofs.lemmas.Bool.{cases_lt, eqb-true, false≢true, or_left, or_right, or_cases, and_parts}
+use Rattle.std.proofs.lemmas.Bool.{cases_lt, eq-eqb, eqb-true, false≢true, or_left, or_right, or_cases, and_parts}
 use Rattle.std.proofs.lemmas.List.{get_or-map, get_or_past, length-map}
 use Rattle.std.specs.List.{list_any}
 use Rattle.sum_laws.proofs.Tests.{same_test}
@@ -11,28 +11,18 @@ use Rattle.def_cut.specs.Motion.{ridden, is_among, is_found, arrives_at, stop_of
 use Rattle.def_cut.specs.Motion.{later, State, Terrain}
 use Rattle.def_cut.specs.{FullCut.is_on, declared.graph.Stop.Stop, declared.moving.Moving.Moving, Traced.terrain_of}
 use Rattle.def_cut.specs.Events.{rider_at}
-use Rattle.motion_laws.proofs.Among.{among_here, among_later, among_cases, any_at, any_where}
-use Rattle.motion_laws.proofs.{Next.with_cases, Order.runs_ridden, Steps.stands, Onward.later_reached}
+use Rattle.motion_laws.proofs.Among.{any_at, any_where}
+use Rattle.motion_laws.proofs.{Next.runs_ridden, Next.with_cases, Steps.stands, Onward.later_reached}
 use Rattle.motion_laws.proofs.Terrains.{IsReachedFrom}
 use Rattle.site_laws.proofs.Sites.{terrain}
 use Rattle.def_feature.specs.Marked.{marked_starts, marked_first}
 use Rattle.feature_laws.proofs.{Breaks.begins, First.marked_begin}
 use Rattle.qm_trace.specs.Tables.{AreDarts, CanRide, IsInstant, IsQueue, IsTableAt, dart_of, state_at}
 
--- What stands among the values along a list.
-among_map : (f : ℕ → ℕ) (q : List ℕ) (d : ℕ) → is_among d (map f q) ≡ true → (r : ℕ) × (is_among r q ≡ true) × (f r ≡ d)
-among_map f [] d m = absurd (false≢true m)
-among_map f (x ∷ q) d m = elim (among_cases d (f x) (map f q) m) [
-  | inl e ↦ (x, among_here x x q refl, sym e)
-  | inr k ↦ let r = among_map f q d k in (r.0, among_later r.0 x q r.1, r.2)
-]
-
-map_among : (f : ℕ → ℕ) (q : List ℕ) (r : ℕ) → is_among r q ≡ true → is_among (f r) (map f q) ≡ true
-map_among f [] r m = absurd (false≢true m)
-map_among f (x ∷ q) r m = elim (among_cases r x q m) [
-  | inl e ↦ among_here (f r) (f x) (map f q) (ap f e)
-  | inr k ↦ among_later (f r) (f x) (map f q) (map_among f q r k)
-]
+-- What some value along a list passes.
+any_map : (p : ℕ → Bool) (f : ℕ → ℕ) (q : List ℕ) → list_any p (map f q) ≡ list_any (λ r. p (f r)) q
+any_map p f [] = refl
+any_map p f (x ∷ q) = ap (λ b. p (f x) || b) (any_map p f q)
 
 -- Who rides a dart.
 pub ridden_where : (rs : List Moving) (d : ℕ) → is_among d (ridden rs) ≡ true → (r : ℕ) × (r < length rs)
@@ -46,12 +36,13 @@ ridden_where (x ∷ rs) d m = elim (with_cases x.stop x.dart d (ridden rs) m) [
 -- The darts of the queue are those ridden next.
 pub same_darts : (riders : List Moving) (queue ds : List ℕ) → IsQueue riders queue → ds ≡ map (dart_of riders) queue
     → (d : ℕ) → is_among d ds ≡ is_among d (ridden riders)
-same_darts riders queue ds q e d = ap (is_among d) e ∙ same_test _ _
-    (λ m. let (r, n, is) = among_map (dart_of riders) queue d m in
+same_darts riders queue ds q e d =
+    ap (is_among d) e ∙ (any_map (λ e. eqb d e) (dart_of riders) queue ∙ same_test _ _
+    (λ m. let (r, n, is) = any_where (λ r. eqb d (dart_of riders r)) queue m in
     let runs = q.runs r n in
-    rw (← is) (runs_ridden riders r runs.0 runs.1))
+    rw (eqb-true d (dart_of riders r) is) (runs_ridden riders r runs.0 runs.1))
     (λ m. let (r, l, runs, is) = ridden_where riders d m in
-    rw (← is) (map_among (dart_of riders) queue r (q.all r l runs)))
+    any_at (λ r. eqb d (dart_of riders r)) r queue (q.all r l runs) (eq-eqb d (dart_of riders r) (sym is))))
 
 -- Riders that have just begun have not ridden.
 pub begun_low : (ds : List ℕ) (r : ℕ) → (rider_at (map begun ds) r).rides ≤ 0
@@ -84,22 +75,9 @@ rides_low g first none (suc k) r = elim (cases_lt r (length s.riders)) [
     by_rider x None l = omega (arith, by_stop (stop_of g s.stood (ridden s.riders) x.dart) x.dart x.rides)
 
 -- A step from the tables, where riders wait in the queue and ride these darts.
-pub record Ridden (faces : Faces) (marks : List Bool) (k : ℕ) (riders : List Moving) (stood covered taken : List Bool)
-    (queue ds : List ℕ) : Type 0 where
-  pub mesh : IsManifold faces
-  pub at : IsTableAt faces marks k riders stood covered taken
-  pub waits : IsQueue riders queue
-  pub ridden_are : ds ≡ map (dart_of riders) queue
-
-pub step_of : {faces : Faces} {marks : List Bool} {k : ℕ} {riders : List Moving} {stood covered taken : List Bool}
-    {queue ds : List ℕ} → IsManifold faces → IsTableAt faces marks k riders stood covered taken → IsQueue riders queue
-    → ds ≡ map (dart_of riders) queue → Ridden faces marks k riders stood covered taken queue ds
-step_of mesh at waits are = record { mesh = mesh; at = at; waits = waits; ridden_are = are }
-
 module _ {faces : Faces} {marks : List Bool} {k : ℕ} {riders : List Moving} {stood covered taken : List Bool}
-    {queue ds : List ℕ} (step : Ridden faces marks k riders stood covered taken queue ds) where
-  open step use {mesh, at, waits, ridden_are}
-
+    {queue ds : List ℕ} (mesh : IsManifold faces) (at : IsTableAt faces marks k riders stood covered taken)
+    (waits : IsQueue riders queue) (ridden_are : ds ≡ map (dart_of riders) queue) where
   abbrev now : State
   now = state_at faces marks k
 
@@ -120,10 +98,10 @@ module _ {faces : Faces} {marks : List Bool} {k : ℕ} {riders : List Moving} {s
   pub can_ride : k + 1 < 2 ^ 32 → CanRide faces riders queue
   can_ride few = record {
     low = λ r n. (waits.runs r n).0;
-    dart = λ r n. are_darts (dart_of riders r) (rw ridden_are (map_among (dart_of riders) queue r n));
+    dart = λ r n. are_darts (dart_of riders r) (rw ridden_are (any_map (λ e. eqb (dart_of riders r) e)
+        (dart_of riders) queue ∙ any_at (λ x. eqb (dart_of riders r) (dart_of riders x)) r queue n (eq-eqb _ _ refl)));
     rides = λ r n. omega (
       arith,
-      few,
       rides_low (terrain_of faces) (marked_first faces marks) (begun_low (marked_starts faces marks)) k r,
       ap (λ (rs : List Moving). (rider_at rs r).rides) at.riders_are,
     );
@@ -153,15 +131,13 @@ module _ {faces : Faces} {marks : List Bool} {k : ℕ} {riders : List Moving} {s
 
     -- Somebody has stood at v after the step where one had before, or ends there now.
     stands_next : (v : ℕ) → (now.stood v || list_any (λ d. eqb (to_of faces d) v) ds) ≡ next.stood v
-    stands_next v = same_test _ _
-        (λ b. elim (or_cases (now.stood v) (list_any (λ d. eqb (to_of faces d) v) ds) b) [
-          | inl y ↦ or_left (now.stood v) _ y
-          | inr n ↦
-              let (d, m, e) = any_where (λ d. eqb (to_of faces d) v) ds n in
-              ap next.stood (sym (eqb-true (to_of faces d) v e))
-              ∙ stands (terrain_of faces) (terrain faces mesh) (begins faces marks) (marked_first faces marks) now
-              reached d (sym (members d) ∙ m)
-        ])
+    stands_next v = same_test _ _ (λ b. elim (or_cases (now.stood v) (list_any (λ d. eqb (to_of faces d) v) ds) b) [
+      | inl y ↦ or_left (now.stood v) _ y
+      | inr n ↦
+          let (d, m, e) = any_where (λ d. eqb (to_of faces d) v) ds n in
+          ap next.stood (sym (eqb-true (to_of faces d) v e)) ∙ stands (terrain_of faces) (terrain faces mesh)
+          (begins faces marks) (marked_first faces marks) now reached d (sym (members d) ∙ m)
+    ])
         (λ b. elim (or_cases (now.stood v) (list_any (arrives_at (terrain_of faces) (ridden now.riders) v)
         (ridden now.riders)) b) [
           | inl y ↦ or_left (now.stood v) _ y
@@ -170,11 +146,10 @@ module _ {faces : Faces} {marks : List Bool} {k : ℕ} {riders : List Moving} {s
               or_right (now.stood v) _ (any_at (λ x. eqb (to_of faces x) v) d ds (members d ∙ m) (and_parts _ _ e).0)
         ])
 
-    pub stepped : {riders2 : List Moving} {stood2 covered2 taken2 : List Bool}
-        → riders2 ≡ (state_at faces marks (suc k)).riders → length stood2 ≡ length stood
-        → ((v : ℕ) → is_on stood2 v ≡ (is_on stood v || list_any (λ d. eqb (to_of faces d) v) ds))
-        → length covered2 ≡ length covered → ((d : ℕ) → d < darts faces
-        → is_on covered2 d ≡ (is_on covered d || (is_among d ds || is_found (twin_of faces d) ds)))
+    pub stepped : {riders2 : List Moving} {stood2 covered2 taken2 : List Bool} → riders2 ≡
+        (state_at faces marks (suc k)).riders → length stood2 ≡ length stood → ((v : ℕ) → is_on stood2 v ≡
+        (is_on stood v || list_any (λ d. eqb (to_of faces d) v) ds)) → length covered2 ≡ length covered → ((d : ℕ)
+        → d < darts faces → is_on covered2 d ≡ (is_on covered d || (is_among d ds || is_found (twin_of faces d) ds)))
         → length taken2 ≡ length taken → ((d : ℕ) → is_on taken2 d ≡ cond (is_among d ds) false (is_on taken1 d))
         → IsTableAt faces marks (suc k) riders2 stood2 covered2 taken2
     stepped r ls es lc ec lt e2 = record {

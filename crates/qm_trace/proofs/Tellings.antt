@@ -11,24 +11,16 @@ use Rattle.def_cut.specs.Motion.{is_among, or_else, straight, begun}
 use Rattle.def_cut.specs.Events.{more_if, note_at, rider_at, told}
 use Rattle.def_cut.specs.{FullCut.is_on, declared.graph.Stop.Stop, declared.moving.Moving.Moving, Traced.terrain_of}
 use Rattle.mesh_laws.proofs.{Darts.next_of-prev_of, Darts.prev_of-next_of, Darts.next_of_low, Fans.fan_of_is}
-use Rattle.motion_laws.proofs.Among.{among_range, apart_filter, from_filter, in_filter, range_apart}
-use Rattle.qm_trace.specs.Motions.{AreNotes, CanTell, is_untold, is_untold_by, runs_on, told_along, told_by, AreCounted}
+use Rattle.feature_laws.proofs.Breaks.{from_fan, in_fan}
+use Rattle.motion_laws.proofs.Among.{apart_filter, range_apart}
+use Rattle.qm_trace.specs.Motions.{AreNotes, CanTell, is_untold, runs_on, told_along, told_by, AreCounted}
 use Rattle.qm_trace.specs.{Motions.MayTell, declared.ground.Site.Site, declared.notes.Notes.Notes}
 use Rattle.qm_trace.specs.{declared.telling.Riders.Riders, Tables.is_running, Tables.stop_here}
-use Rattle.qm_trace.proofs.{Beginnings.each_once, Counting.tally_rider, Counting.tally_some, Marking.among_more}
-use Rattle.qm_trace.proofs.{Reaching.noted_among, Reaching.noted_where, Riding.once}
-
--- An untold rider runs, and its dart is noted.
-pub untold_runs : (q : Moving) (n : Option ℕ) → is_untold q n ≡ true → (q.stop ≡ None) × (n ≡ Some q.dart)
-untold_runs q n e = at q.stop n refl e
-  where
-    at : (o : Option Stop) (n : Option ℕ) → q.stop ≡ o → is_untold_by o q.dart n ≡ true → (q.stop ≡ None)
-        × (n ≡ Some q.dart)
-    at None (Some d) is e = (is, ap Some (sym (eqb-true q.dart d e)))
-    at _ _ is e = absurd (false≢true e)
-
-pub runs_untold : (q : Moving) (n : Option ℕ) (d : ℕ) → q.stop ≡ None → q.dart ≡ d → n ≡ Some d → is_untold q n ≡ true
-runs_untold q n d run dart is = rw (run, is) (eq-eqb q.dart d dart)
+use Rattle.qm_trace.proofs.Beginnings.{each_once}
+use Rattle.qm_trace.proofs.Counting.{tally_rider, tally_some}
+use Rattle.qm_trace.proofs.Marking.{among_more, once}
+use Rattle.motion_laws.proofs.Marks.{noted_among, noted_where}
+use Rattle.motion_laws.proofs.Among.{cases_Option}
 
 -- One rider is told.
 module _ {faces : Faces} {site : Site} {notes : Notes} {riders : Riders} {r : ℕ}
@@ -48,8 +40,15 @@ module _ {faces : Faces} {site : Site} {notes : Notes} {riders : Riders} {r : �
   abbrev then : Moving
   then = told (terrain_of faces) rider.dart rider stop
 
+  -- An untold rider runs, and its dart is noted.
   was : (rider.stop ≡ None) × (note_at noted r ≡ Some rider.dart)
-  was = untold_runs rider (note_at noted r) may.untold
+  was = elim (cases_Option rider.stop) [
+    | inl run ↦ elim (cases_Option (note_at noted r)) [
+      | inl none ↦ absurd (false≢true (rw (run, none) at may.untold))
+      | inr (d, is) ↦ (run, is ∙ ap Some (sym (eqb-true rider.dart d (rw (run, is) at may.untold))))
+    ]
+    | inr (s, stop) ↦ absurd (false≢true (rw stop at may.untold))
+  ]
 
   noted_low : r < length noted
   noted_low = omega (arith, may.rider, counted.long)
@@ -67,15 +66,11 @@ module _ {faces : Faces} {site : Site} {notes : Notes} {riders : Riders} {r : �
     long = rw list (counted.long ∙ sym (length-set rs r then));
     running = rw list (omega (
       arith,
-      fewer,
-      counted.running,
       rw is at (runs stop),
       rw was.0 at (tally_rider runs_on rs noted r then may.rider noted_low),
     ));
     untold = rw list (omega (
       arith,
-      less,
-      counted.untold,
       rw (may.untold, ended stop may.onward) at (tally_rider is_untold rs noted r then may.rider noted_low),
     ));
   }
@@ -90,24 +85,19 @@ module _ {faces : Faces} {site : Site} {notes : Notes} {riders : Riders} {r : �
       ended None f = rw was.1 (ne_eqb (or_else (straight (terrain_of faces) rider.dart) rider.dart) rider.dart (f refl))
       ended (Some s) f = refl
 
--- The darts that leave v are its fan.
-fan_has : (faces : Faces) (v x : ℕ) → x < darts faces → is_among x (fan_of faces v) ≡ eqb (from_of faces x) v
-fan_has faces v x low = same_test _ _ (λ a. (from_filter (λ d. eqb (from_of faces d) v) x (all_darts faces) a).1)
-    (λ a. in_filter (λ d. eqb (from_of faces d) v) x (all_darts faces)
-    (among_range 0 (darts faces) x (omega arith) (omega (arith, low))) a)
-
 -- Whoever is told along the whole fan is told at the vertex.
 pub told_all_along : {faces : Faces} {site : Site} {v : ℕ} {notes : Notes} {old : Riders}
     → CanTell faces site v notes old → (r : ℕ) (rider : Moving)
     → told_along faces site notes.taken.items (fan_of faces v) (note_at notes.noted.items r) rider
     ≡ told_by faces site notes.taken.items v (note_at notes.noted.items r) rider
-told_all_along {faces} {site} {v} {notes} can r rider = at (note_at notes.noted.items r) refl
-  where
-    at : (n : Option ℕ) → note_at notes.noted.items r ≡ n → told_along faces site notes.taken.items (fan_of faces v) n
-        rider ≡ told_by faces site notes.taken.items v n rider
-    at None is = refl
-    at (Some d) is =
-        rw (fan_has faces v (next_of d) (next_of_low faces d (can.low d (noted_among notes.noted.items r d is)))) refl
+told_all_along {faces} {site} {v} {notes} can r rider = elim (cases_Option (note_at notes.noted.items r)) [
+  | inl is ↦ rw is refl
+  | inr (d, is) ↦
+      let low = next_of_low faces d (can.low d (noted_among notes.noted.items r d is)) in
+      let has : is_among (next_of d) (fan_of faces v) ≡ eqb (to_of faces d) v = same_test _ _
+      (λ a. eq-eqb _ _ (from_fan faces v (next_of d) a).1) (λ e. in_fan faces v (next_of d) low (eqb-true _ _ e)) in
+      rw (is, has) refl
+]
 
 -- The turn of the dart at place i of the fan.
 pub record Turn (faces : Faces) (site : Site) (v : ℕ) (notes : Notes) (old : Riders) (now : List Moving)
@@ -142,9 +132,6 @@ module _ {faces : Faces} {site : Site} {v : ℕ} {notes : Notes} {old : Riders} 
   not_yet = ap (λ x. is_among x (take i fan)) next_is ∙ once fan i (each_once fan (apart_filter
       (λ e. eqb (from_of faces e) v) (all_darts faces) (range_apart 0 (darts faces)))) low
 
-  from_now : is_among (next_of d) (take (i + 1) fan) ≡ true
-  from_now = among_more fan i (next_of d) low ∙ or_right _ _ (eq-eqb (next_of d) (get_or fan i 0) next_is)
-
   -- Who rode another dart is told as before.
   others : (e : ℕ) → e ≢ d → is_among (next_of e) (take (i + 1) fan) ≡ is_among (next_of e) (take i fan)
   others e ne = among_more fan i (next_of e) low ∙ (ap (λ b. is_among (next_of e) (take i fan) || b)
@@ -157,12 +144,8 @@ module _ {faces : Faces} {site : Site} {v : ℕ} {notes : Notes} {old : Riders} 
       (note_at notes.noted.items q) (rider_at old.list.items q)
 
   as_before : (q : ℕ) → (note_at ns q ≡ Some d → ⊥) → TellsMore q (rider_at now q)
-  as_before q not_d = before q ∙ at (note_at ns q) refl
-    where
-      at : (n : Option ℕ) → note_at ns q ≡ n → told_along faces site taken (take i fan) n (rider_at old.list.items q)
-          ≡ told_along faces site taken (take (i + 1) fan) n (rider_at old.list.items q)
-      at None is = refl
-      at (Some e) is = rw (others e (λ s. not_d (is ∙ ap Some s))) refl
+  as_before q not_d = rw (before q) (elim (cases_Option (note_at ns q))
+      [ inl is ↦ rw is refl | inr (e, is) ↦ rw (is, others e (λ s. not_d (is ∙ ap Some s))) refl ])
 
   pub none_here : is_on notes.taken.items d ≡ false → (q : ℕ) → TellsMore q (rider_at now q)
   none_here off q = as_before q (λ is. false≢true (sym off ∙ (are.taken_is d ∙ noted_among ns q d is)))
@@ -184,13 +167,20 @@ module _ {faces : Faces} {site : Site} {v : ℕ} {notes : Notes} {old : Riders} 
     may_tell low d_low = record {
       rider = low;
       dart = rw runs_here.1 d_low;
-      untold = runs_untold (rider_at now r) (note_at ns r) d runs_here.0 runs_here.1 noted_here.0;
+      untold = rw (runs_here.0, noted_here.0) (eq-eqb (rider_at now r).dart d runs_here.1);
       onward = rw runs_here.1 (can.onward d (noted_among ns r d noted_here.0) at_v);
     }
 
     pub one_here : r < length now → (q : ℕ) → TellsMore q (rider_at (set now r (told (terrain_of faces)
         (rider_at now r).dart (rider_at now r) (stop_here faces site notes.taken.items (rider_at now r).dart))) q)
     one_here r_low q = elim (cases_eq q r) [
-      | inl s ↦ rw (s, get_or-set_same now r _ (begun 0) r_low, runs_here.1, as_first, noted_here.0, from_now) refl
+      | inl s ↦ rw (
+        s,
+        get_or-set_same now r _ (begun 0) r_low,
+        runs_here.1,
+        as_first,
+        noted_here.0,
+        among_more fan i (next_of d) low ∙ or_right _ _ (eq-eqb (next_of d) (get_or fan i 0) next_is),
+      ) refl
       | inr ne ↦ get_or-set_other now r q _ (begun 0) ne ∙ as_before q (λ is. ne (sym (are.slot q d is) ∙ sym r_is))
     ]

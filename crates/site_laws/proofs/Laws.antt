@@ -8,24 +8,23 @@ use Rattle.def_mesh.specs.{Darts.darts, Darts.all_darts, Darts.from_of, Vertices
 use Rattle.def_mesh.specs.HalfEdges.{HalfEdges, IsQuadManifold, half_edges}
 use Rattle.def_cut.specs.{Cuts.Links, Cuts.IsCut, FullCut.is_on, Motion.ridden}
 use Rattle.def_cut.specs.{Motion.is_among, Motion.start, Motion.after_steps, Traced.terrain_of, Traced.last_state}
-use Rattle.def_cut.specs.{Traced.is_traced, Traced.traced_marks, Events.rides_in, MotionLaws.IsKnown}
+use Rattle.def_cut.specs.{Traced.is_traced, Traced.traced_marks, MotionLaws.IsKnown}
 use Rattle.def_cut.specs.MotionLaws.{StateLaw, TracedGraphLaw, OrderLaw}
 use Rattle.cut_laws.proofs.Classes.{links_low}
 use Rattle.face_laws.proofs.FullCuts.{full_cut_law}
 use Rattle.mesh_laws.proofs.{HalfEdges.manifold_law, Vertices.all_below}
-use Rattle.motion_laws.proofs.{Marks.among_at, Marks.places_apart, Order.within, Order.bounded}
-use Rattle.motion_laws.proofs.{Order.possible, Order.one_end, Terrains.IsReached, Terrains.IsFirst, Onward.nobody_runs}
-use Rattle.motion_laws.proofs.{Onward.end_reached, Onward.full_cut, Traced.after_reached, Traced.first}
+use Rattle.motion_laws.proofs.{Marks.among_at, Marks.places_apart, Terrains.IsKnown as Known, Traced.first}
+use Rattle.motion_laws.proofs.Order.{bounded, one_end, possible, reached_at, within}
+use Rattle.motion_laws.proofs.Onward.{end_reached, full_cut, nobody_runs}
 use Rattle.def_mesh.specs.Darts.{to_of}
-use Rattle.site_laws.proofs.Sites.{terrain, started}
+use Rattle.site_laws.proofs.Sites.{course, started, terrain}
 
 pub state_law : StateLaw
 state_law faces m n =
-    let r = after_reached (terrain_of faces) (terrain faces m) (start_darts faces) (started faces m) n in
+    let r = reached_at (course faces m) n in
     let s = after_steps (terrain_of faces) (start_darts faces) n in
-    let by_known : (v : ℕ) → Rattle.motion_laws.proofs.Terrains.IsKnown (terrain_of faces)
-    (after_steps (terrain_of faces) (start_darts faces) n) v → IsKnown faces (after_steps (terrain_of faces)
-    (start_darts faces) n) v = λ v k. elim k [ inl y ↦ inl y | inr b ↦ inr (not-true _ b) ] in
+    let by_known : (v : ℕ) → Known (terrain_of faces) s v → IsKnown faces s v =
+    λ v k. elim k [ inl y ↦ inl y | inr b ↦ inr (not-true _ b) ] in
     record {
       differ = λ i j less l e.
           let same = places_apart (ridden s.riders) r.apart i j (omega arith) l e in
@@ -93,15 +92,10 @@ graph_law faces m =
 
 pub order_law : OrderLaw
 order_law faces m es x l =
-    let g = terrain_of faces in
-    let t = terrain faces m in
-    let n = vertex_count faces in
-    let begin = started faces m in
-    let w = within g t (start_darts faces) begin n (all_below faces) es x l in
-    let ends = one_end g t (start_darts faces) begin n (all_below faces) x (rides_in es) w in
+    let w = within (course faces m) es x l in
     record {
-      possible = possible g t (start_darts faces) begin n (all_below faces) x (rides_in es) w;
-      bounded = bounded g t (start_darts faces) begin n (all_below faces) x (rides_in es) w;
-      same_riders = λ none. (ends none).0;
-      same_edges = λ none. (ends none).1;
+      possible = possible w;
+      bounded = bounded w;
+      same_riders = λ none. (one_end w none).0;
+      same_edges = λ none. (one_end w none).1;
     }

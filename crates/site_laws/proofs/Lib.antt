@@ -1,4 +1,3 @@
-pub mod Fans
 pub mod Sources
 pub mod Sites
 pub mod Laws

@@ -1,20 +1,21 @@
 -- A manifold list of faces is a terrain, and its start darts are starts.
-use Rattle.std.proofs.Common.{◌≡◌, ◌⊎◌, ℕ, ◌<◌, true, false, not, eqb, ◌&&◌, ◌||◌, Option, Some}
+use Rattle.std.proofs.Common.{◌≡◌, ◌⊎◌, ℕ, ◌<◌, true, false, not, eqb, ◌&&◌, ◌||◌, Some}
 use Rattle.std.proofs.Common.{None, is_some, sym, ap, ◌∙◌, refl, inl, inr, arith}
 use Rattle.std.proofs.lemmas.Option.{none-some}
 use Rattle.std.proofs.lemmas.Bool.{eqb-true, lt-ltb, or_left, or_right, or_cases, or_parts, and_from, and_parts}
 use Rattle.std.proofs.lemmas.Bool.{not_from_false, false≢true, false_from_ne_true, not-false, not-true}
 use Rattle.std.specs.List.{list_any}
 use Rattle.def_mesh.specs.{Faces.Faces, Darts.darts, Darts.all_darts, Darts.from_of, Darts.to_of, Darts.next_of}
-use Rattle.def_mesh.specs.{Darts.prev_of, Darts.twin_of, Manifold.IsManifold, Vertices.faces_at, Kinds.is_end}
-use Rattle.def_mesh.specs.{Kinds.is_inner, Kinds.is_regular, Kinds.is_singular, Kinds.is_reflex, Components.seeds}
-use Rattle.def_mesh.specs.{Components.is_start, Components.start_darts, HalfEdges.IsQuadManifold, HalfEdges.half_edges}
+use Rattle.def_mesh.specs.{Darts.prev_of, Darts.twin_of, Manifold.IsManifold, Vertices.faces_at, Vertices.vertex_count}
+use Rattle.def_mesh.specs.{Kinds.is_end, Kinds.is_inner, Kinds.is_regular, Kinds.is_singular, Kinds.is_reflex}
+use Rattle.def_mesh.specs.{Components.seeds, Components.is_start, Components.start_darts}
+use Rattle.def_mesh.specs.HalfEdges.{IsQuadManifold, half_edges}
 use Rattle.def_cut.specs.{Motion.is_among, Traced.terrain_of}
-use Rattle.mesh_laws.proofs.HalfEdges.{manifold_law}
+use Rattle.mesh_laws.proofs.{HalfEdges.manifold_law, Vertices.all_below}
 use Rattle.face_laws.proofs.Fans.{inner_twin, regular_cross}
-use Rattle.motion_laws.proofs.Among.{not_all, range_among, range_apart, apart_filter}
-use Rattle.motion_laws.proofs.Terrains.{IsTerrain, IsStarted}
-use Rattle.site_laws.proofs.{Fans.three_faces, Sources.start_in, Sources.start_of, Sources.found}
+use Rattle.motion_laws.proofs.Among.{cases_Option, not_all, range_among, range_apart, apart_filter}
+use Rattle.motion_laws.proofs.{Order.IsCourse, Terrains.IsTerrain, Terrains.IsStarted}
+use Rattle.site_laws.proofs.Sources.{three_faces, start_in, start_of, found}
 
 module _ (faces : Faces) (m : IsManifold faces) where
   abbrev laws : IsQuadManifold (half_edges faces)
@@ -31,13 +32,11 @@ module _ (faces : Faces) (m : IsManifold faces) where
   rim : (v : ℕ) → is_inner faces v ≡ false → (e : ℕ) × (e < darts faces) × (from_of faces e ≡ v)
       × ((twin_of faces e ≡ None) ⊎ (twin_of faces (prev_of e) ≡ None))
   rim v off =
-      let none_of : (o : Option ℕ) → is_some o ≡ false → o ≡ None =
-      elim [ None ↦ λ e. refl | Some t ↦ λ e. absurd (false≢true (sym e)) ] in
-      let found = not_all (λ d. not (is_end faces v d) || is_some (twin_of faces d)) (all_darts faces) off in
-      let d = found.0 in
-      let p = or_parts (not (is_end faces v d)) (is_some (twin_of faces d)) found.2 in
-      let low : d < darts faces = omega (arith, (range_among 0 (darts faces) d found.1).1) in
-      let alone = none_of (twin_of faces d) p.1 in
+      let (d, n, f) = not_all (λ d. not (is_end faces v d) || is_some (twin_of faces d)) (all_darts faces) off in
+      let p = or_parts (not (is_end faces v d)) (is_some (twin_of faces d)) f in
+      let low : d < darts faces = omega (arith, (range_among 0 (darts faces) d n).1) in
+      let alone : twin_of faces d ≡ None = elim (cases_Option (twin_of faces d))
+      [ inl w ↦ w | inr (t, w) ↦ absurd (false≢true (sym (rw w at p.1))) ] in
       elim (or_cases (eqb (from_of faces d) v) _ (not-false (is_end faces v d) p.0)) [
         | inl e ↦ (d, low, eqb-true _ _ e, inl alone)
         | inr e ↦ (next_of d, laws.next_low d low, eqb-true _ _ e, inr (ap (twin_of faces) (laws.prev_next d) ∙ alone))
@@ -68,31 +67,20 @@ module _ (faces : Faces) (m : IsManifold faces) where
       ])
 
   -- Where a dart ends at the boundary, the next one starts or the boundary goes on.
-  sides : (d : ℕ) → d < darts faces → is_inner faces (to_of faces d) ≡ false
-      → (is_among (next_of d) (start_darts faces) ≡ true)
-      ⊎ ((twin_of faces (next_of d) ≡ None) ⊎ ((t : ℕ) × (twin_of faces (next_of d) ≡ Some t)
-      × (twin_of faces (next_of t) ≡ None)))
-  sides d low out = by_first (twin_of faces (next_of d)) refl
-    where
-      three : (t u : ℕ) → twin_of faces (next_of d) ≡ Some t → twin_of faces (next_of t) ≡ Some u
-          → is_among (next_of d) (start_darts faces) ≡ true
-      three t u first w =
-          let many = three_faces faces laws d t u low first w out in
-          start_in faces (next_of d) (laws.next_low d low) (or_right (is_singular faces (from_of faces (next_of d))) _
-          (and_from _ _ (ap is_some first) (or_left _ _ (and_from _ _ (not_from_false _ out)
-          (lt-ltb 2 (faces_at faces (from_of faces (next_of d))) (omega arith))))))
-
-      by_second : (t : ℕ) → twin_of faces (next_of d) ≡ Some t → (o : Option ℕ) → twin_of faces (next_of t) ≡ o
-          → (is_among (next_of d) (start_darts faces) ≡ true) ⊎ (twin_of faces (next_of t) ≡ None)
-      by_second t first None w = inr w
-      by_second t first (Some u) w = inl (three t u first w)
-
-      by_first : (o : Option ℕ) → twin_of faces (next_of d) ≡ o → (is_among (next_of d) (start_darts faces) ≡ true)
-          ⊎ ((twin_of faces (next_of d) ≡ None) ⊎ ((t : ℕ) × (twin_of faces (next_of d) ≡ Some t)
-          × (twin_of faces (next_of t) ≡ None)))
-      by_first None w = inr (inl w)
-      by_first (Some t) w = elim (by_second t w (twin_of faces (next_of t)) refl)
-          [ inl s ↦ inl s | inr k ↦ inr (inr (t, w, k)) ]
+  sides : (d : ℕ) → d < darts faces → is_inner faces (to_of faces d) ≡ false → (is_among (next_of d) (start_darts faces)
+      ≡ true) ⊎ ((twin_of faces (next_of d) ≡ None) ⊎ ((t : ℕ) × (twin_of faces (next_of d) ≡ Some t) ×
+      (twin_of faces (next_of t) ≡ None)))
+  sides d low out = elim (cases_Option (twin_of faces (next_of d))) [
+    | inl w ↦ inr (inl w)
+    | inr (t, w) ↦ elim (cases_Option (twin_of faces (next_of t))) [
+      | inl v ↦ inr (inr (t, w, v))
+      | inr (u, v) ↦
+          let many = three_faces faces laws (next_of d) t u (laws.next_low d low) w v out in
+          inl (start_in faces (next_of d) (laws.next_low d low) (or_right (is_singular faces (to_of faces d)) _
+          (and_from _ _ (ap is_some w) (or_left _ _ (and_from _ _ (not_from_false _ out)
+          (lt-ltb 2 (faces_at faces (to_of faces d)) (omega arith)))))))
+    ]
+  ]
 
   pub started : IsStarted (terrain_of faces) (start_darts faces)
   started = record {
@@ -103,3 +91,7 @@ module _ (faces : Faces) (m : IsManifold faces) where
     singular = λ d l s. start_in faces d l (or_left _ _ s);
     sided = λ d l out. sides d l (not-true _ out);
   }
+
+  -- Riders move from there.
+  pub course : IsCourse (terrain_of faces) (start_darts faces) (vertex_count faces)
+  course = record { terrain = terrain; begin = started; few = all_below faces }

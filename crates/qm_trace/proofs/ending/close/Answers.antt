@@ -8,7 +8,6 @@ use Rattle.qm_trace.proofs.ending.close.Goals as goal
 pub returns : goal.returns
 returns c =
     with_items_is c.args.covered c.close_each.new.covered (c.close_each.auto.covered ∙ c.deref_mut.ensures.len)
-    ∙ marks_are c.args.mesh.now c.args.covered.items c.close_each.new.covered (c.close_each.auto.covered
-    ∙ (ap length c.deref_mut.ensures.value ∙ c.requires))
-    (λ d l. c.close_each.ensures d l ∙ ap (λ (xs : List Bool). is_on xs d || not (is_some (twin_of c.args.mesh.now d)))
-    c.deref_mut.ensures.value)
+    ∙ marks_are c.args.mesh.now c.args.covered.items c.close_each.new.covered (c.close_each.auto.covered ∙
+    (ap length c.deref_mut.ensures.value ∙ c.requires)) (λ d l. c.close_each.ensures d l ∙ ap (λ
+    (xs : List Bool). is_on xs d || not (is_some (twin_of c.args.mesh.now d))) c.deref_mut.ensures.value)

@@ -1,15 +1,9 @@
-use Rattle.std.proofs.Common.{◌<◌, ◌≤◌, length, ap, arith}
-use Rattle.std.proofs.lemmas.List.{length_push, take_more, take_all}
+use Rattle.std.proofs.Common.{◌<◌, length, ap, arith}
+use Rattle.std.proofs.lemmas.List.{length_push, take_more}
 use Rattle.std.specs.Vec.{vec_capacity, vec_len}
 use Rattle.def_cut.specs.Motion.{begun}
 use Rattle.qm_trace.proofs.Ends.{riders_more}
 use Rattle.qm_trace.proofs.ending.tell_riders.Goals as goal
-
-pub bounds-riders-r : goal.bounds-riders-r
-bounds-riders-r c = omega (arith, c.loop-r-test.true, c.requires.each)
-
-pub rider_of-requires : goal.rider_of-requires
-rider_of-requires c = c.requires.stopped c.loop-r.r (omega (arith, c.loop-r-test.true, c.requires.each))
 
 pub loop-r-preserved : goal.loop-r-preserved
 loop-r-preserved c =
@@ -26,23 +20,3 @@ loop-r-preserved c =
       many = omega (arith, ap length items, length_push c.loop-r.told.items c.rider_of.result, c.loop-r.invariant.many);
       room = omega (arith, c.loop-r.invariant.room, c.push.ensures.capacity);
     }
-
-pub returns : goal.returns
-returns c =
-    let end : length c.args.starts.now ≤ c.loop-r.r = omega (arith, c.loop-r-test.false) in
-    rw (
-      take_all c.loop-r.r c.args.riders.now (omega (arith, end, c.requires.each)),
-      take_all c.loop-r.r c.args.starts.now end,
-    ) at c.loop-r.invariant.told
-
-pub unwrap-requires : goal.unwrap-requires
-unwrap-requires c = c.push.ensures.succeeds (omega (
-  arith,
-  c.loop-r-test.true,
-  c.loop-r.invariant.many,
-  c.loop-r.invariant.room,
-  c.loop-r.told.ok.0,
-))
-
-pub offset_bounds-riders-r : goal.offset_bounds-riders-r
-offset_bounds-riders-r c = omega (arith, c.loop-r-test.true, c.requires.few, c.faces-known.ensures.mesh.few)

@@ -1,6 +1,6 @@
 use Rattle.std.proofs.Common.{◌≡◌, not, ◌∙◌, sym, arith}
 use Rattle.def_mesh.specs.{Kinds.is_inner, Kinds.is_singular, Vertices.vertex_count}
-use Rattle.qm_trace.proofs.Stops.{map_more, ground_is}
+use Rattle.qm_trace.proofs.Beginnings.{map_more, ground_is}
 use Rattle.qm_trace.proofs.ground.ground_of.Goals as goal
 
 pub loop-v-preserved : goal.loop-v-preserved
@@ -13,11 +13,6 @@ loop-v-preserved c = record {
 
 pub returns : goal.returns
 returns c =
-    let e : c.loop-v.v ≡ vertex_count c.args.mesh.now = omega (
-      arith,
-      c.loop-v-test.false,
-      c.loop-v.auto.v-end,
-      c.vertices-vertices.ensures.value,
-    ) in
+    let e : c.loop-v.v ≡ vertex_count c.args.mesh.now = omega arith in
     ground_is c.args.mesh.now c.loop-v.boundary.items c.loop-v.singular.items (rw (← e) c.loop-v.invariant.boundary)
     (rw (← e) c.loop-v.invariant.singular)

@@ -1,9 +1,10 @@
-use Rattle.std.proofs.Common.{◌≡◌, ◌<◌, false, cond, ℕ, Bool, Some, None, length, sym, ap, ◌∙◌, replicate, arith}
+use Rattle.std.proofs.Common.{◌≡◌, ◌<◌, false, ℕ, Some, None, length, sym, ap, ◌∙◌, refl, replicate, arith}
 use Rattle.std.proofs.lemmas.Bool.{false_from_ne_true}
 use Rattle.std.proofs.lemmas.Option.{none-some}
 use Rattle.def_cut.specs.{Motion.is_among, Events.note_at}
-use Rattle.qm_trace.proofs.Noting.{all_none, all_off, are_none, cleared}
-use Rattle.qm_trace.proofs.Reaching.{noted_among, noted_where}
+use Rattle.qm_trace.proofs.Noting.{all_same, are_none, cleared}
+use Rattle.motion_laws.proofs.Marks.{noted_among, noted_where}
+use Rattle.qm_trace.proofs.notes.clear.Goals.{After-clear_each}
 use Rattle.qm_trace.proofs.notes.clear.Goals as goal
 
 pub clear_each-requires-clause-notes : goal.clear_each-requires-clause-notes
@@ -18,33 +19,32 @@ clear_each-requires-clause-taken c d on =
     noted_where c.args.notes.now.noted.items d (sym (c.requires.notes.taken_is d) ∙ on) in
     (r.0, r.2)
 
+-- No note is left.
+none : (c : After-clear_each) (r : ℕ) → note_at c.clear_each.new.noted.items r ≡ None
+none c = cleared c.args.notes.now c.clear_each.new.noted.items c.requires.notes (λ q. c.clear_each.ensures.noted q
+    ∙ rw c.deref.ensures.value refl)
+
 pub returns-clause-noted : goal.returns-clause-noted
 returns-clause-noted c =
-    all_none c.clear_each.new.noted.items (cleared c.args.notes.now c.clear_each.new.noted.items c.requires.notes
-    (λ r. c.clear_each.ensures.noted r ∙ ap (λ (b : Bool). cond b None (note_at c.args.notes.now.noted.items r))
-    (ap (is_among r) c.deref.ensures.value))) ∙ ap (λ n. replicate n None) c.clear_each.ensures.long
+    all_same None c.clear_each.new.noted.items (none (goal.at.returns-clause-noted c).After-clear_each)
+    ∙ ap (λ n. replicate n None) c.clear_each.ensures.long
 
 pub returns-clause-settled : goal.returns-clause-settled
 returns-clause-settled c =
-    all_off c.clear_each.new.settled.items (λ v. false_from_ne_true _ (λ on.
+    all_same false c.clear_each.new.settled.items (λ v. false_from_ne_true _ (λ on.
     let r = c.clear_each.ensures.settled v on in
-    none-some r.1 (sym (cleared c.args.notes.now c.clear_each.new.noted.items c.requires.notes
-    (λ q. c.clear_each.ensures.noted q ∙ ap (λ (b : Bool). cond b None (note_at c.args.notes.now.noted.items q))
-    (ap (is_among q) c.deref.ensures.value)) r.0) ∙ r.2)))
+    none-some r.1 (sym (none (goal.at.returns-clause-settled c).After-clear_each r.0) ∙ r.2)))
     ∙ ap (λ n. replicate n false) c.clear_each.ensures.settled_long
 
 pub returns-clause-notes : goal.returns-clause-notes
 returns-clause-notes c =
-    let none : (r : ℕ) → note_at c.clear_each.new.noted.items r ≡ None =
-    cleared c.args.notes.now c.clear_each.new.noted.items c.requires.notes (λ q. c.clear_each.ensures.noted q
-    ∙ ap (λ (b : Bool). cond b None (note_at c.args.notes.now.noted.items q))
-    (ap (is_among q) c.deref.ensures.value)) in
+    let no = none (goal.at.returns-clause-notes c).After-clear_each in
     are_none (record {
       noted = c.clear_each.new.noted;
       taken = c.clear_each.new.taken;
       places = c.args.notes.now.places;
       queue = c.clear.new.self;
-    }) c.clear_each.new.noted.items (all_none c.clear_each.new.noted.items none)
-    (λ d. false_from_ne_true _ (λ on. let r = c.clear_each.ensures.taken d on in none-some d (sym (none r.0) ∙ r.1)))
+    }) c.clear_each.new.noted.items (all_same None c.clear_each.new.noted.items no)
+    (λ d. false_from_ne_true _ (λ on. let r = c.clear_each.ensures.taken d on in none-some d (sym (no r.0) ∙ r.1)))
     (c.requires.notes.places_long ∙ sym c.clear_each.ensures.taken_long) c.clear.ensures.items
     (omega (arith, c.clear_each.ensures.long, c.requires.notes.room, c.clear.ensures.capacity))

@@ -23,14 +23,7 @@ index_mut-requires c =
 pub index_mut-requires-in-loop-r : goal.index_mut-requires-in-loop-r
 index_mut-requires-in-loop-r c =
     let back = note_back c.requires.queue c.loop-r-test.true c.loop-r.invariant.noted c.requires.notes in
-    omega (
-      arith,
-      dart_read back c.index.ensures c.unwrap-d.ensures,
-      back.note.2,
-      c.requires.long.0,
-      c.loop-r.invariant.taken_long,
-      c.loop-r.taken.ok.0,
-    )
+    omega (arith, dart_read back c.index.ensures c.unwrap-d.ensures)
 
 pub to-requires : goal.to-requires
 to-requires c =
@@ -48,7 +41,6 @@ loop-r-preserved c =
       noted = taken_back back;
       taken = rw dart (marks_back back c.loop-r.taken.items
           (omega (arith, back.note.2, c.requires.long.0, c.loop-r.invariant.taken_long)) c.loop-r.invariant.taken);
-      settled = ends_back back c.loop-r.settled.items (c.to.ensures.value ∙ ap (to_of c.args.mesh.now) dart)
-          (omega (arith, c.to.ensures.vertex, c.requires.long.1, c.loop-r.invariant.settled_long))
-          c.loop-r.invariant.settled;
+      settled = ends_back back c.loop-r.settled.items (c.to.ensures.value ∙ ap (to_of c.args.mesh.now) dart) (omega
+          (arith, c.to.ensures.vertex, c.requires.long.1, c.loop-r.invariant.settled_long)) c.loop-r.invariant.settled;
     }

@@ -1,24 +1,21 @@
 use Rattle.std.proofs.Common.{◌<◌, ◌++◌, ◌∷◌, [], cond, Bool, ap, ◌∙◌, refl, arith}
 use Rattle.std.specs.Vec.{vec_capacity, vec_len}
 use Rattle.qm_trace.proofs.Noting.{has_room, one_note}
+use Rattle.qm_trace.proofs.notes.note.Goals.{After-push}
 use Rattle.qm_trace.proofs.notes.note.Goals as goal
 
+few : (c : After-push) → vec_len c.args.notes.now.queue < vec_capacity c.args.notes.now.queue
+few c =
+    let room = has_room c.args.notes.now c.args.r c.requires.notes c.requires.rider c.requires.fresh in
+    omega (arith, room, c.args.notes.now.queue.ok.0)
+
 pub unwrap-requires : goal.unwrap-requires
-unwrap-requires c = c.push.ensures.succeeds (omega (
-  arith,
-  has_room c.args.notes.now c.args.r c.requires.notes c.requires.rider c.requires.fresh,
-  c.args.notes.now.queue.ok.0,
-))
+unwrap-requires c = c.push.ensures.succeeds (few (goal.at.unwrap-requires c).After-push)
 
 pub returns-clause-notes : goal.returns-clause-notes
 returns-clause-notes c =
-    let few : vec_len c.args.notes.now.queue < vec_capacity c.args.notes.now.queue =
-    omega (
-      arith,
-      has_room c.args.notes.now c.args.r c.requires.notes c.requires.rider c.requires.fresh,
-      c.args.notes.now.queue.ok.0,
-    ) in
     one_note c.args.notes.now _ c.args.r c.args.d c.requires.notes c.requires.rider c.requires.dart c.requires.fresh
     c.requires.alone refl refl refl
     (c.push.ensures.items ∙ ap (λ (b : Bool). cond b (c.args.notes.now.queue.items ++ c.args.r ∷ [])
-    c.args.notes.now.queue.items) (c.push.ensures.succeeds few)) c.push.ensures.capacity
+    c.args.notes.now.queue.items) (c.push.ensures.succeeds (few (goal.at.returns-clause-notes c).After-push)))
+    c.push.ensures.capacity

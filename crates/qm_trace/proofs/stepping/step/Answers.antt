@@ -1,20 +1,21 @@
 use Rattle.std.proofs.Common.{◌∙◌}
-use Rattle.qm_trace.proofs.Steps.{are_darts, can_ride, instant, stepped, step_of}
+use Rattle.qm_trace.proofs.Steps.{are_darts, can_ride, instant, stepped}
 use Rattle.qm_trace.proofs.stepping.step.Goals as goal
 
 pub invariant_of-trail : goal.invariant_of-trail
 invariant_of-trail c = record {
-  low = are_darts (step_of c.faces-known.ensures.mesh.manifold c.requires.at.3 c.requires.queue c.requires.ridden);
+  low = are_darts c.faces-known.ensures.mesh.manifold c.requires.at.3 c.requires.queue c.requires.ridden;
 }
 
 pub ride_all-requires : goal.ride_all-requires
 ride_all-requires c =
-    let step = step_of c.faces-known.ensures.mesh.manifold c.requires.at.3 c.requires.queue c.requires.ridden in
-    can_ride step c.requires.at.2
+    can_ride c.faces-known.ensures.mesh.manifold c.requires.at.3 c.requires.queue c.requires.ridden c.requires.at.2
 
 pub returns-clause-at : goal.returns-clause-at
 returns-clause-at c marks k at =
-    let step = step_of c.faces-known.ensures.mesh.manifold at c.requires.queue c.requires.ridden in
+    let m = c.faces-known.ensures.mesh.manifold in
     let each = c.set.ensures.each in
-    stepped step _ each (c.ride_all.ensures marks k (instant step _ each)) c.stand.ensures.long c.stand.ensures.each
-    c.cover.ensures.long c.cover.ensures.each (c.set-2.ensures.long ∙ c.set.ensures.long) c.set-2.ensures.each
+    stepped m at c.requires.queue c.requires.ridden _ each
+    (c.ride_all.ensures marks k (instant m at c.requires.queue c.requires.ridden _ each)) c.stand.ensures.long
+    c.stand.ensures.each c.cover.ensures.long c.cover.ensures.each (c.set-2.ensures.long ∙ c.set.ensures.long)
+    c.set-2.ensures.each

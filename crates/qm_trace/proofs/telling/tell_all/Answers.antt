@@ -1,64 +1,57 @@
-use Rattle.std.proofs.Common.{◌<◌, length, sym, ap, ◌∙◌, arith}
+use Rattle.std.proofs.Common.{◌≡◌, ◌<◌, false, length, sym, ap, ◌∙◌, arith}
 use Rattle.std.proofs.lemmas.List.{get_or_default, length-set, take_all}
 use Rattle.mesh_laws.proofs.Fans.{is_fan}
 use Rattle.def_mesh.specs.Vertices.{fan_of}
+use Rattle.def_cut.specs.FullCut.{is_on}
 use Rattle.def_cut.specs.Events.{rider_at}
 use Rattle.qm_trace.proofs.Tellings.{none_here, noted_here, one_here, told_all_along, Turn, may_tell}
-use Rattle.qm_trace.proofs.Stops.{read_on}
-use Rattle.qm_trace.proofs.telling.tell_all.Goals.{then-index, else-index}
+use Rattle.qm_trace.proofs.telling.tell_all.Goals.{After-index, then-index, else-index}
 use Rattle.qm_trace.proofs.telling.tell_all.Goals as goal
 
 pub prev-d-requires : goal.prev-d-requires
 prev-d-requires c = (is_fan c.args.mesh.now c.args.v c.fan-e-items.result.now c.fan-e-items.ensures).dart
     c.loop-e.e-index c.loop-e-test.true
 
+turn : (c : After-index) → Turn c.args.mesh.now c.args.site c.args.v c.args.notes.now c.args.riders.now
+    c.loop-e.riders.list.items c.loop-e.e-index c.prev-d.result
+turn c = record {
+  can = c.requires.can;
+  are = c.requires.notes;
+  low = omega (arith, ap length c.fan-e-items.ensures);
+  before = c.loop-e.invariant.told;
+  d_is = rw (← c.fan-e-items.ensures) c.prev-d.ensures.value;
+}
+
+mark : (c : After-index) → c.index.result.now ≡ is_on c.args.notes.now.taken.items c.prev-d.result
+mark c = c.index.ensures
+    ∙ get_or_default c.args.notes.now.taken.items c.prev-d.result c.index.result.now false (omega arith)
+
 pub tell_one-requires-clause-may : goal.tell_one-requires-clause-may
 tell_one-requires-clause-may c =
-    let turn : Turn c.args.mesh.now c.args.site c.args.v c.args.notes.now c.args.riders.now c.loop-e.riders.list.items
-    c.loop-e.e-index c.prev-d.result = record {
-      can = c.requires.can;
-      are = c.requires.notes;
-      low = omega (arith, c.loop-e-test.true, ap length c.fan-e-items.ensures);
-      before = c.loop-e.invariant.told;
-      d_is = rw (← c.fan-e-items.ensures) c.prev-d.ensures.value;
-    } in
-    let on = read_on c.args.notes.now.taken.items c.prev-d.result c.index.result.now
-    (omega (arith, c.prev-d.ensures.dart, c.requires.can.taken_long)) c.index.ensures in
+    let at = (goal.at.tell_one-requires-clause-may c).After-index in
+    let on = sym (mark at) ∙ c.if-index.true in
     let place = c.index-then-index.ensures ∙ get_or_default c.args.notes.now.places.items c.prev-d.result _ 0
     (omega (arith, c.prev-d.ensures.dart, c.requires.can.taken_long, c.requires.notes.places_long)) in
-    may_tell turn (sym on ∙ c.if-index.true) place (omega (
-      arith,
-      (noted_here turn (sym on ∙ c.if-index.true) place).1,
-      c.loop-e.invariant.counted.long,
-    )) c.prev-d.ensures.dart
+    may_tell (turn at) on place (omega (arith, (noted_here (turn at) on place).1)) c.prev-d.ensures.dart
 
 pub loop-e-preserved : goal.loop-e-preserved
 loop-e-preserved c =
-    let turn : Turn c.args.mesh.now c.args.site c.args.v c.args.notes.now c.args.riders.now c.loop-e.riders.list.items
-    c.loop-e.e-index c.prev-d.result = record {
-      can = c.requires.can;
-      are = c.requires.notes;
-      low = omega (arith, c.loop-e-test.true, ap length c.fan-e-items.ensures);
-      before = c.loop-e.invariant.told;
-      d_is = rw (← c.fan-e-items.ensures) c.prev-d.ensures.value;
-    } in
-    let mark = read_on c.args.notes.now.taken.items c.prev-d.result c.index.result.now
-    (omega (arith, c.prev-d.ensures.dart, c.requires.can.taken_long)) c.index.ensures in
+    let at = (goal.at.loop-e-preserved c).After-index in
     elim c.if-index.branch [
       | then-index w ↦
-          let on = sym mark ∙ w.if-index.true in
+          let on = sym (mark at) ∙ w.if-index.true in
           let place = w.index-then-index.ensures ∙ get_or_default c.args.notes.now.places.items c.prev-d.result _ 0
           (omega (arith, c.prev-d.ensures.dart, c.requires.can.taken_long, c.requires.notes.places_long)) in
           let low : w.index-then-index.result.now < length c.loop-e.riders.list.items =
-          omega (arith, (noted_here turn on place).1, c.loop-e.invariant.counted.long) in
+          omega (arith, (noted_here (turn at) on place).1, c.loop-e.invariant.counted.long) in
           rw w.riders-is (record {
-            told = λ r. rw w.tell_one.ensures.list (one_here turn on place low r);
+            told = λ r. rw w.tell_one.ensures.list (one_here (turn at) on place low r);
             counted = w.tell_one.ensures.counted;
             many = rw w.tell_one.ensures.list
                 (length-set c.loop-e.riders.list.items w.index-then-index.result.now _ ∙ c.loop-e.invariant.many);
           })
       | else-index w ↦ rw w.riders-is (record {
-        told = none_here turn (sym mark ∙ w.if-index.false);
+        told = none_here (turn at) (sym (mark at) ∙ w.if-index.false);
         counted = c.loop-e.invariant.counted;
         many = c.loop-e.invariant.many;
       })

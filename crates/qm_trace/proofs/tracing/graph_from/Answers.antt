@@ -19,13 +19,16 @@ tell_riders-requires-clause-stopped c =
     have_stopped c.deref.result.now (ap ridden (c.deref.ensures.value ∙ c.in_ok-end.ensures.riders_are)
     ∙ (marked_law c.args.mesh.now c.args.marks.now c.faces-known.ensures.mesh.manifold c.requires.marks).rests)
 
-pub returns-clause-graph : goal.returns-clause-graph
-returns-clause-graph c = record {
-  covered = c.close-covered.ensures ∙ cut_is c.args.mesh.now (marked_last c.args.mesh.now c.args.marks.now)
-      c.in_ok-end.end.covered.items c.in_ok-end.ensures.covered_is;
-  riders = rw (c.deref.ensures.value ∙ c.in_ok-end.ensures.riders_are, c.requires.starts) at c.tell_riders.ensures;
-}
-
-pub returns-clause-cut : goal.returns-clause-cut
-returns-clause-cut c = rw (returns-clause-graph c).covered
-    (marked_law c.args.mesh.now c.args.marks.now c.faces-known.ensures.mesh.manifold c.requires.marks).full
+pub returns : goal.returns
+returns c =
+    let covered = c.close-covered.ensures ∙ cut_is c.args.mesh.now (marked_last c.args.mesh.now c.args.marks.now)
+    c.in_ok-end.end.covered.items c.in_ok-end.ensures.covered_is in
+    record {
+      graph = record {
+        covered = covered;
+        riders = rw (c.deref.ensures.value ∙ c.in_ok-end.ensures.riders_are, c.requires.starts)
+            at c.tell_riders.ensures;
+      };
+      cut = rw covered
+          (marked_law c.args.mesh.now c.args.marks.now c.faces-known.ensures.mesh.manifold c.requires.marks).full;
+    }

@@ -11,12 +11,8 @@ use Rattle.qm_trace.proofs.tracing.last_tables.Goals.{else-instants-test, then-i
 use Rattle.qm_trace.proofs.tracing.last_tables.Goals as goal
 
 pub overflow_cast-course : goal.overflow_cast-course
-overflow_cast-course c = omega (
-  arith,
-  ap length c.args.course.now.beside,
-  marked_few c.args.course.now.mesh.now c.args.course.now.marks.now,
-  c.faces-known.ensures.mesh.few,
-)
+overflow_cast-course c =
+    omega (arith, ap length c.args.course.now.beside, marked_few c.args.course.now.mesh.now c.args.course.now.marks.now)
 
 pub instants-init : goal.instants-init
 instants-init c = record {
@@ -48,7 +44,6 @@ instants-preserved c =
       way = next_on c.instants.invariant.at c.instants.invariant.waits (omega (
         arith,
         some_wait (vec_len c.instants.queue) (sym c.is_empty.ensures ∙ c.if-is_empty.false),
-        c.instants.queue.ok.0,
       )) c.instants.invariant.way;
     }
 
@@ -62,11 +57,7 @@ returns c = elim c.instants-test.branch [
       ∙ ap (λ k. (state_at c.args.course.now.mesh.now c.args.course.now.marks.now k).riders) over))
   | then-instants-test+then-is_empty w ↦
       let none : length c.instants.queue.items ≡ 0 =
-      omega (
-        arith,
-        eqb-true (vec_len c.instants.queue) 0 (sym w.is_empty.ensures ∙ w.if-is_empty.true),
-        c.instants.queue.ok.0,
-      ) in
+      omega (arith, eqb-true (vec_len c.instants.queue) 0 (sym w.is_empty.ensures ∙ w.if-is_empty.true)) in
       end_at c.instants.invariant.at c.instants.invariant.way
       (omega (arith, w.instants-test.true, c.vertices-end.ensures.value))
       (none_ride c.instants.tables.riders.items c.instants.queue.items c.instants.invariant.waits none)

@@ -7,7 +7,6 @@ use Rattle.qm_trace.proofs.marks.Trail.stand.Given as goal
 abbrev pub invariant-loop-d : goal.invariant-loop-d
 invariant-loop-d l = record {
   long : length l.stood.items ≡ length l.initial.stood.items;
-  each : (v : ℕ) → is_on l.stood.items v
-      ≡ (is_on l.initial.stood.items v
+  each : (v : ℕ) → is_on l.stood.items v ≡ (is_on l.initial.stood.items v
       || list_any (λ d. eqb (to_of l.self.mesh.now d) v) (take l.d-index l.self.darts.now));
 }

@@ -1,55 +1,44 @@
 use Rattle.std.proofs.Common.{length, ap, ◌∙◌, arith}
 use Rattle.def_cut.specs.Motion.{ridden}
 use Rattle.site_laws.proofs.Laws.{graph_law}
-use Rattle.qm_trace.proofs.{Beginnings.starts_few, Calls.end_cut, Calls.end_riders, Ends.have_stopped}
-use Rattle.qm_trace.proofs.{Moves.reached_now, Fewer.riders_long}
+use Rattle.def_cut.specs.Traced.{last_state}
+use Rattle.motion_laws.proofs.Order.{one_end}
+use Rattle.qm_trace.proofs.{Beginnings.starts_few, Calls.reached_now, Fewer.riders_long}
+use Rattle.qm_trace.proofs.Ends.{cut_is, have_stopped}
 use Rattle.qm_trace.proofs.motion.Motion.into_graph.Goals as goal
 
-pub tell_riders-requires-clause-few : goal.tell_riders-requires-clause-few
-tell_riders-requires-clause-few c =
-    let starts = rw (← c.self.view_is) at c.requires.motion.started in
-    omega (
-      arith,
-      ap length (c.deref.ensures.value ∙ starts),
-      starts_few c.args.mesh.now c.faces-known.ensures.mesh.manifold,
-    )
-
-pub tell_riders-requires-clause-each : goal.tell_riders-requires-clause-each
-tell_riders-requires-clause-each c =
+pub tell_riders-requires : goal.tell_riders-requires
+tell_riders-requires c =
     let now = reached_now c.faces-known.ensures.mesh.manifold c.self.view_is c.requires.motion in
     let starts = rw (← c.self.view_is) at c.requires.motion.started in
-    omega (
-      arith,
-      ap length c.deref-2.ensures.value,
-      riders_long now,
-      ap length (c.deref.ensures.value ∙ starts),
-    )
-
-pub tell_riders-requires-clause-stopped : goal.tell_riders-requires-clause-stopped
-tell_riders-requires-clause-stopped c =
-    let now = reached_now c.faces-known.ensures.mesh.manifold c.self.view_is c.requires.motion in
     let over = rw (← c.self.view_is) at c.requires.over in
-    have_stopped c.deref-2.result.now (ap ridden (c.deref-2.ensures.value ∙ end_riders now over)
-    ∙ (graph_law c.args.mesh.now now.mesh).0)
+    let long = ap length (c.deref.ensures.value ∙ starts) in
+    record {
+      few = omega (arith, long, starts_few c.args.mesh.now now.mesh);
+      each = omega (arith, ap length c.deref-2.ensures.value, riders_long now, long);
+      stopped = have_stopped c.deref-2.result.now (ap ridden (c.deref-2.ensures.value ∙ (one_end now.at over).0)
+          ∙ (graph_law c.args.mesh.now now.mesh).0);
+      empty = c.self.invariant.untold_yet;
+      room = omega (arith, c.self.invariant.has_room, ap length c.deref.ensures.value);
+    }
 
 pub close-covered-requires : goal.close-covered-requires
 close-covered-requires c =
     let now = reached_now c.faces-known.ensures.mesh.manifold c.self.view_is c.requires.motion in
     now.shown.covered_long
 
-pub returns-clause-graph : goal.returns-clause-graph
-returns-clause-graph c =
+pub returns : goal.returns
+returns c =
     let now = reached_now c.faces-known.ensures.mesh.manifold c.self.view_is c.requires.motion in
     let starts = rw (← c.self.view_is) at c.requires.motion.started in
     let over = rw (← c.self.view_is) at c.requires.over in
+    let covered = c.close-covered.ensures
+    ∙ cut_is c.args.mesh.now (last_state c.args.mesh.now) _ (one_end now.at over).1 in
     record {
-      covered = c.close-covered.ensures ∙ end_cut now over;
-      riders = rw (c.deref-2.ensures.value ∙ end_riders now over, c.deref.ensures.value ∙ starts)
-          at c.tell_riders.ensures;
+      graph = record {
+        covered = covered;
+        riders = rw (c.deref-2.ensures.value ∙ (one_end now.at over).0, c.deref.ensures.value ∙ starts)
+            at c.tell_riders.ensures;
+      };
+      cut = rw covered (graph_law c.args.mesh.now now.mesh).1;
     }
-
-pub returns-clause-cut : goal.returns-clause-cut
-returns-clause-cut c =
-    let now = reached_now c.faces-known.ensures.mesh.manifold c.self.view_is c.requires.motion in
-    let over = rw (← c.self.view_is) at c.requires.over in
-    rw (c.close-covered.ensures ∙ end_cut now over) (graph_law c.args.mesh.now now.mesh).1

@@ -4,34 +4,23 @@ use Rattle.std.proofs.lemmas.List.{length-map, length-replicate}
 use Rattle.def_mesh.specs.{Darts.darts, Vertices.vertex_count, Components.start_darts}
 use Rattle.def_cut.specs.Motion.{begun, is_among}
 use Rattle.qm_trace.proofs.Calls.{first_counted, first_stood, first_waits}
-use Rattle.qm_trace.proofs.Beginnings.{starts_few, starts_low}
+use Rattle.qm_trace.proofs.Beginnings.{starts_few}
+use Rattle.site_laws.proofs.Sites.{started}
 use Rattle.qm_trace.proofs.motion.Motion.new.Goals as goal
 
 pub invariant_of-trail : goal.invariant_of-trail
 invariant_of-trail c = record {
-  low = λ d n. starts_low c.args.mesh.now c.faces.ensures.mesh.manifold d
+  low = λ d n. (started c.args.mesh.now c.faces.ensures.mesh.manifold).low d
       (sym (ap (is_among d) (c.deref-2.ensures.value ∙ c.requires.starts)) ∙ n);
 }
 
 pub overflow_cast-riders : goal.overflow_cast-riders
-overflow_cast-riders c = omega (
-  arith,
-  c.len-many.ensures,
-  c.args.src.now.starts.ok.0,
-  ap length c.requires.starts,
-  starts_few c.args.mesh.now c.faces.ensures.mesh.manifold,
-  c.faces.ensures.mesh.few,
-)
+overflow_cast-riders c =
+    omega (arith, ap length c.requires.starts, starts_few c.args.mesh.now c.faces.ensures.mesh.manifold)
 
 pub overflow_cast-result : goal.overflow_cast-result
-overflow_cast-result c = omega (
-  arith,
-  c.len-many.ensures,
-  c.args.src.now.starts.ok.0,
-  ap length c.requires.starts,
-  starts_few c.args.mesh.now c.faces.ensures.mesh.manifold,
-  c.faces.ensures.mesh.few,
-)
+overflow_cast-result c =
+    omega (arith, ap length c.requires.starts, starts_few c.args.mesh.now c.faces.ensures.mesh.manifold)
 
 pub invariant_of-result : goal.invariant_of-result
 invariant_of-result c =

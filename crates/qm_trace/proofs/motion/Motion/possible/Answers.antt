@@ -2,54 +2,44 @@ use Rattle.std.proofs.Common.{◌≡◌, ℕ, true, length, refl, sym, ap, ◌�
 use Rattle.std.proofs.lemmas.Option.{none-some}
 use Rattle.def_mesh.specs.Darts.{to_of}
 use Rattle.def_cut.specs.{Events.darts_in, FullCut.is_on, Motion.is_among}
-use Rattle.qm_trace.proofs.Reaching.{reached, noted_among, noted_where}
-use Rattle.qm_trace.proofs.Possible.{none_there, over_where, settle_may, settle_not_over}
-use Rattle.qm_trace.proofs.{Beginnings.starts_few, Settled.noted_low_at, Moves.reached_now, Fewer.riders_long}
+use Rattle.motion_laws.proofs.Marks.{noted_among, noted_where}
+use Rattle.qm_trace.proofs.{Reaching.reached_by, Beginnings.starts_few, Settled.noted_low_at, Calls.reached_now}
+use Rattle.qm_trace.proofs.Fewer.{over_where, settle_may, settle_not_over, riders_long}
 use Rattle.qm_trace.proofs.motion.Motion.possible.Goals as goal
 
 pub first_waiting-requires-clause-few : goal.first_waiting-requires-clause-few
 first_waiting-requires-clause-few c =
     let now = reached_now c.faces-known.ensures.mesh.manifold c.self.view_is c.requires in
-    omega (
-      arith,
-      ap length c.deref.ensures.value,
-      riders_long now,
-      starts_few c.args.mesh.now now.mesh,
-      c.faces-known.ensures.mesh.few,
-    )
+    omega (arith, ap length c.deref.ensures.value, riders_long now, starts_few c.args.mesh.now now.mesh)
 
-pub first_open-requires-clause-notes : goal.first_open-requires-clause-notes
-first_open-requires-clause-notes c r among =
+pub first_open-requires : goal.first_open-requires
+first_open-requires c =
     let now = reached_now c.faces-known.ensures.mesh.manifold c.self.view_is c.requires in
-    let note = c.self.invariant.notes_are.queue_is r (sym (ap (is_among r) c.deref-3.ensures.value) ∙ among) in (
-      note.0,
-      rw c.deref-4.ensures.value note.1,
-      noted_low_at now note.0 (noted_among c.self.inside.notes.noted.items r note.0 note.1),
-    )
-
-pub first_open-requires-clause-long : goal.first_open-requires-clause-long
-first_open-requires-clause-long c =
-    let now = reached_now c.faces-known.ensures.mesh.manifold c.self.view_is c.requires in
-    ap length c.deref-5.ensures.value ∙ now.shown.settled_long
+    record {
+      notes = λ r among.
+          let note = c.self.invariant.notes_are.queue_is r (sym (ap (is_among r) c.deref-3.ensures.value) ∙ among) in (
+            note.0,
+            rw c.deref-4.ensures.value note.1,
+            noted_low_at now note.0 (noted_among c.self.inside.notes.noted.items r note.0 note.1),
+          );
+      long = ap length c.deref-5.ensures.value ∙ now.shown.settled_long;
+    }
 
 pub returns-in_err-vertex-clause-over : goal.returns-in_err-vertex-clause-over
 returns-in_err-vertex-clause-over c =
     let now = reached_now c.faces-known.ensures.mesh.manifold c.self.view_is c.requires in
-    let none = none_there _ c.self.inside.riders.list.items _ c.self.inside.notes.noted.items c.deref.ensures.value
-    c.deref-2.ensures.value c.in_default.ensures.none in
+    let none = rw (c.deref.ensures.value, c.deref-2.ensures.value) at c.in_default.ensures.none in
     let settled : (d : ℕ) → is_among d (darts_in c.self.inside.notes.noted.items) ≡ true
     → is_on c.self.inside.settled.items (to_of c.args.mesh.now d) ≡ true = λ d among.
     let r = noted_where c.self.inside.notes.noted.items d among in
-    rw c.deref-5.ensures.value at (c.in_err-vertex.ensures.none r.0 d
-    (ap (is_among r.0) c.deref-3.ensures.value ∙ c.self.invariant.notes_are.queue_has r.0 d r.2)
-    (rw c.deref-4.ensures.value r.2)) in
+    rw c.deref-5.ensures.value at (c.in_err-vertex.ensures.none r.0 d (ap (is_among r.0) c.deref-3.ensures.value
+    ∙ c.self.invariant.notes_are.queue_has r.0 d r.2) (rw c.deref-4.ensures.value r.2)) in
     (λ _. rw (← c.self.view_is) (over_where now none settled), λ _. c.from_residual.ensures)
 
 pub returns-clause-settles : goal.returns-clause-settles
 returns-clause-settles c v is =
     let now = reached_now c.faces-known.ensures.mesh.manifold c.self.view_is c.requires in
-    let none = none_there _ c.self.inside.riders.list.items _ c.self.inside.notes.noted.items c.deref.ensures.value
-    c.deref-2.ensures.value c.in_default.ensures.none in
+    let none = rw (c.deref.ensures.value, c.deref-2.ensures.value) at c.in_default.ensures.none in
     let same : v ≡ c.in_ok-vertex.vertex = cc in
     rw (← c.self.view_is, same) (settle_may now c.in_ok-vertex.vertex none
     (rw c.deref-4.ensures.value at c.in_ok-vertex.ensures.end)
@@ -58,7 +48,7 @@ returns-clause-settles c v is =
 pub returns-clause-over : goal.returns-clause-over
 returns-clause-over c =
     let may = returns-clause-settles c c.in_ok-vertex.vertex refl in
-    let now = reached c.faces-known.ensures.mesh.manifold _ c.requires.reached in (
+    let now = reached_by c.faces-known.ensures.mesh.manifold _ c.requires.reached in (
       λ never r l runs. none-some _ (sym never),
       λ none. absurd (settle_not_over (record { now = now; may = may }) none),
     )

@@ -1,10 +1,10 @@
+use Rattle.def_cut.specs.Events.Event.{Ride}
 use Rattle.std.proofs.Common.{length, sym, subst, ap, ◌∙◌, refl, arith}
 use Rattle.std.proofs.lemmas.List.{length-set, with_items_is}
 use Rattle.def_cut.specs.{declared.moving.Moving.Moving, Views.IsMotionOn, Views.MotionView}
 use Rattle.qm_trace.specs.Motions.{is_untold}
-use Rattle.qm_trace.proofs.Calls.{made, ride_state, rode_counted, rode_waits}
-use Rattle.qm_trace.proofs.Reaching.{ride_alone, ride_dart, ride_few}
-use Rattle.qm_trace.proofs.Moves.{rides, as_read, rode_on}
+use Rattle.qm_trace.proofs.Calls.{made, ride_state, rode_counted, rode_waits, rides, as_read, event_on}
+use Rattle.qm_trace.proofs.Reaching.{ride_alone, ride_dart, ride_few, ride_fresh, ride_noted}
 use Rattle.qm_trace.proofs.{Beginnings.starts_few, Counting.tally_few}
 use Rattle.qm_trace.proofs.motion.Motion.ride.Goals as goal
 
@@ -20,15 +20,7 @@ pub overflow_add-self : goal.overflow_add-self
 overflow_add-self c =
     let few = tally_few is_untold c.self.inside.riders.list.items c.self.inside.notes.noted.items in
     let starts = starts_few c.args.mesh.now c.vertices-vertices.ensures.mesh.manifold in
-    omega (
-      arith,
-      c.self.invariant,
-      few,
-      ap (λ (q : MotionView). length q.starts) c.self.view_is,
-      ap length c.requires.motion.started,
-      starts,
-      c.vertices-vertices.ensures.mesh.few,
-    )
+    omega (arith, ap (λ (q : MotionView). length q.starts) c.self.view_is, ap length c.requires.motion.started)
 
 pub overflow_sub-self : goal.overflow_sub-self
 overflow_sub-self c =
@@ -37,32 +29,28 @@ overflow_sub-self c =
     let same = as_read k c.index-rider.ensures in
     omega (arith, c.self.invariant.waits_is, rode_waits k same refl)
 
-pub cover_edge-requires-clause-dart : goal.cover_edge-requires-clause-dart
-cover_edge-requires-clause-dart c =
+pub cover_edge-requires : goal.cover_edge-requires
+cover_edge-requires c =
     let k = rides c.vertices-vertices.ensures.mesh.manifold c.self.view_is c.requires.motion c.args.r
     c.requires.rider c.requires.possible in
     let same = as_read k c.index-rider.ensures in
-    omega (arith, ap (λ (q : Moving). q.dart) same, ride_dart k)
+    record {
+      dart = omega (arith, ap (λ (q : Moving). q.dart) same, ride_dart k);
+      long = ap length c.deref_mut.ensures.value ∙ k.now.shown.covered_long;
+    }
 
-pub cover_edge-requires-clause-long : goal.cover_edge-requires-clause-long
-cover_edge-requires-clause-long c =
-    let k = rides c.vertices-vertices.ensures.mesh.manifold c.self.view_is c.requires.motion c.args.r
-    c.requires.rider c.requires.possible in
-    ap length c.deref_mut.ensures.value ∙ k.now.shown.covered_long
-
-pub note-requires-clause-dart : goal.note-requires-clause-dart
-note-requires-clause-dart c =
+pub note-requires : goal.note-requires
+note-requires c =
     let k = rides c.vertices-vertices.ensures.mesh.manifold c.self.view_is c.requires.motion c.args.r
     c.requires.rider c.requires.possible in
     let same = as_read k c.index-rider.ensures in
-    omega (arith, ap (λ (q : Moving). q.dart) same, ride_dart k, k.now.shown.covered_long, c.self.invariant.taken_long)
-
-pub note-requires-clause-alone : goal.note-requires-clause-alone
-note-requires-clause-alone c =
-    let k = rides c.vertices-vertices.ensures.mesh.manifold c.self.view_is c.requires.motion c.args.r
-    c.requires.rider c.requires.possible in
-    let same = as_read k c.index-rider.ensures in
-    rw same (ride_alone k)
+    record {
+      notes = c.self.invariant.notes_are;
+      rider = ride_noted k;
+      dart = omega (arith, ap (λ (q : Moving). q.dart) same, ride_dart k);
+      fresh = ride_fresh k;
+      alone = rw same (ride_alone k);
+    }
 
 pub invariant_of-self : goal.invariant_of-self
 invariant_of-self c =
@@ -73,14 +61,7 @@ invariant_of-self c =
     (c.cover_edge.auto.covered ∙ c.deref_mut.ensures.len) in
     record {
       notes_are = c.note.ensures.notes;
-      taken_long = omega (
-        arith,
-        c.note.ensures.long,
-        c.self.invariant.taken_long,
-        ap length covered,
-        c.cover_edge.auto.covered,
-        ap length c.deref_mut.ensures.value,
-      );
+      taken_long = omega (arith, ap length covered, ap length c.deref_mut.ensures.value);
       counted = rode_counted k same c.note.ensures.noted c.self.invariant.counted refl refl refl refl;
       waits_is = omega (arith, rode_waits k same c.note.ensures.noted, c.self.invariant.waits_is);
       starts_long = c.self.invariant.starts_long ∙ sym (length-set c.self.inside.riders.list.items c.args.r _);
@@ -99,5 +80,8 @@ returns-clause-event c =
     (covered ∙ (c.cover_edge.ensures ∙ rw c.deref_mut.ensures.value refl))))
 
 pub returns-clause-motion : goal.returns-clause-motion
-returns-clause-motion c = subst (IsMotionOn c.args.mesh.now) (sym (returns-clause-event c))
-    (rode_on c.vertices-vertices.ensures.mesh.manifold c.requires.motion c.args.r c.requires.rider c.requires.possible)
+returns-clause-motion c =
+    let k = rides c.vertices-vertices.ensures.mesh.manifold refl c.requires.motion c.args.r c.requires.rider
+    c.requires.possible in
+    subst (IsMotionOn c.args.mesh.now) (sym (returns-clause-event c))
+    (event_on c.vertices-vertices.ensures.mesh.manifold c.requires.motion (Ride c.args.r) (k.low, k.may))

@@ -1,10 +1,10 @@
-use Rattle.std.proofs.Common.{true, sym, subst, ap, ◌∙◌, refl, arith}
+use Rattle.std.proofs.lemmas.Bool.{eq-eqb, ne_eqb}
+use Rattle.def_cut.specs.Events.Event.{Settle}
+use Rattle.std.proofs.Common.{true, false, sym, subst, ap, ◌∙◌, refl, arith}
 use Rattle.std.proofs.lemmas.List.{length-set}
 use Rattle.def_cut.specs.Views.{IsMotionOn}
-use Rattle.qm_trace.proofs.Moves.{settling, settles, settled_on}
-use Rattle.qm_trace.proofs.Settled.{closed_state, ends_now, open_state, can_tell, noted_low_at, are_ends, settle_low}
-use Rattle.qm_trace.proofs.Settled.{still_wait}
-use Rattle.qm_trace.proofs.Calls.{counted_again, made, waits_again}
+use Rattle.qm_trace.proofs.Calls.{settling, settles, event_on, counted_again, made, waits_again}
+use Rattle.qm_trace.proofs.Settled.{can_tell, ends_now, noted_low_at, settle_low, settled_state, still_wait}
 use Rattle.qm_trace.proofs.motion.Motion.settle.Goals as goal
 
 pub index-requires : goal.index-requires
@@ -17,17 +17,17 @@ site_at-site-requires c =
     let k = settles c.faces-known.ensures.mesh.manifold c.self.view_is c.requires.motion c.args.v c.requires.possible in
     settle_low k
 
-pub tell_all-requires-clause-vertex : goal.tell_all-requires-clause-vertex
-tell_all-requires-clause-vertex c =
-    let k = settles c.faces-known.ensures.mesh.manifold c.self.view_is c.requires.motion c.args.v c.requires.possible in
-    settle_low k
-
-pub tell_all-requires-clause-can : goal.tell_all-requires-clause-can
-tell_all-requires-clause-can c =
+pub tell_all-requires : goal.tell_all-requires
+tell_all-requires c =
     let k = settles c.faces-known.ensures.mesh.manifold c.self.view_is c.requires.motion c.args.v c.requires.possible in
     let at = settling k refl c.self.invariant.notes_are c.self.invariant.taken_long c.index.ensures
     c.site_at-site.ensures in
-    can_tell at c.self.inside.riders refl
+    record {
+      vertex = settle_low k;
+      notes = c.self.invariant.notes_are;
+      can = can_tell at c.self.inside.riders refl;
+      counted = c.self.invariant.counted;
+    }
 
 pub index_mut-requires : goal.index_mut-requires
 index_mut-requires c =
@@ -39,25 +39,16 @@ index_mut-requires-2 c =
     let k = settles c.faces-known.ensures.mesh.manifold c.self.view_is c.requires.motion c.args.v c.requires.possible in
     omega (arith, settle_low k, k.now.shown.settled_long, c.self.inside.settled.ok.0)
 
-pub clear-requires-clause-long : goal.clear-requires-clause-long
-clear-requires-clause-long c =
+pub clear-requires : goal.clear-requires
+clear-requires c =
     let k = settles c.faces-known.ensures.mesh.manifold c.self.view_is c.requires.motion c.args.v c.requires.possible in
-    c.self.invariant.taken_long ∙ k.now.shown.covered_long
-
-pub clear-requires-clause-low : goal.clear-requires-clause-low
-clear-requires-clause-low c =
-    let k = settles c.faces-known.ensures.mesh.manifold c.self.view_is c.requires.motion c.args.v c.requires.possible in
-    noted_low_at k.now
-
-pub clear-requires-clause-settled_long : goal.clear-requires-clause-settled_long
-clear-requires-clause-settled_long c =
-    let k = settles c.faces-known.ensures.mesh.manifold c.self.view_is c.requires.motion c.args.v c.requires.possible in
-    length-set c.self.inside.settled.items c.args.v true ∙ k.now.shown.settled_long
-
-pub clear-requires-clause-settled : goal.clear-requires-clause-settled
-clear-requires-clause-settled c =
-    let k = settles c.faces-known.ensures.mesh.manifold c.self.view_is c.requires.motion c.args.v c.requires.possible in
-    ends_now k (are_ends k.now)
+    record {
+      notes = c.self.invariant.notes_are;
+      long = c.self.invariant.taken_long ∙ k.now.shown.covered_long;
+      low = noted_low_at k.now;
+      settled_long = length-set c.self.inside.settled.items c.args.v true ∙ k.now.shown.settled_long;
+      settled = ends_now k;
+    }
 
 pub invariant_of-self : goal.invariant_of-self
 invariant_of-self c = record {
@@ -90,21 +81,21 @@ returns-then-self-eq0-clause-event c =
     let k = settles c.faces-known.ensures.mesh.manifold c.self.view_is c.requires.motion c.args.v c.requires.possible in
     let at = settling k refl c.self.invariant.notes_are c.self.invariant.taken_long c.index.ensures
     c.site_at-site.ensures in
-    rw (← c.self.view_is) (ap (made c.self.inside.starts.items) (closed_state at c.tell_all.ensures.counted
-    c.tell_all.ensures.told c.if-self-eq0.true c.clear.ensures.noted c.clear.ensures.settled))
+    rw (← c.self.view_is) (ap (made c.self.inside.starts.items) (settled_state at c.tell_all.ensures.counted
+    c.tell_all.ensures.told true (eq-eqb _ 0 c.if-self-eq0.true) c.clear.ensures.noted c.clear.ensures.settled))
 
 pub returns-then-self-eq0-clause-motion : goal.returns-then-self-eq0-clause-motion
 returns-then-self-eq0-clause-motion c = subst (IsMotionOn c.args.mesh.now) (sym (returns-then-self-eq0-clause-event c))
-    (settled_on c.faces-known.ensures.mesh.manifold c.requires.motion c.args.v c.requires.possible)
+    (event_on c.faces-known.ensures.mesh.manifold c.requires.motion (Settle c.args.v) c.requires.possible)
 
 pub returns-else-self-eq0-clause-event : goal.returns-else-self-eq0-clause-event
 returns-else-self-eq0-clause-event c =
     let k = settles c.faces-known.ensures.mesh.manifold c.self.view_is c.requires.motion c.args.v c.requires.possible in
     let at = settling k refl c.self.invariant.notes_are c.self.invariant.taken_long c.index.ensures
     c.site_at-site.ensures in
-    rw (← c.self.view_is) (ap (made c.self.inside.starts.items) (open_state at c.tell_all.ensures.counted
-    c.tell_all.ensures.told c.if-self-eq0.false))
+    rw (← c.self.view_is) (ap (made c.self.inside.starts.items) (settled_state at c.tell_all.ensures.counted
+    c.tell_all.ensures.told false (ne_eqb _ 0 c.if-self-eq0.false) refl refl))
 
 pub returns-else-self-eq0-clause-motion : goal.returns-else-self-eq0-clause-motion
 returns-else-self-eq0-clause-motion c = subst (IsMotionOn c.args.mesh.now) (sym (returns-else-self-eq0-clause-event c))
-    (settled_on c.faces-known.ensures.mesh.manifold c.requires.motion c.args.v c.requires.possible)
+    (event_on c.faces-known.ensures.mesh.manifold c.requires.motion (Settle c.args.v) c.requires.possible)

@@ -1,8 +1,9 @@
 use Rattle.std.proofs.Common.{◌++◌, ◌∷◌, sym, ap, ◌∙◌, get_or, []}
+use Rattle.std.proofs.lemmas.List.{append-nil}
 use Rattle.def_cut.specs.Events.{rider_at}
 use Rattle.motion_laws.proofs.Marks.{among_at}
 use Rattle.qm_trace.specs.Tables.{is_running}
-use Rattle.qm_trace.proofs.Riding.{running_on, running_off}
+use Rattle.qm_trace.proofs.Marking.{running_more}
 use Rattle.qm_trace.proofs.queue.Queued.still_running.Goals.{then-runs+in_ok-push, else-runs}
 use Rattle.qm_trace.proofs.queue.Queued.still_running.Goals as goal
 
@@ -10,12 +11,13 @@ pub bounds-self-r : goal.bounds-self-r
 bounds-self-r c = c.args.self.now.low _ (among_at c.args.self.now.queue.now c.loop-r.r-index c.loop-r-test.true)
 
 pub loop-r-preserved : goal.loop-r-preserved
-loop-r-preserved c = let s = c.args.self.now in elim c.if-runs.branch [
-  | then-runs+in_ok-push w ↦ rw (w.running-is, w.in_ok-push.ensures.items)
-      (ap (λ xs. xs ++ get_or s.queue.now c.loop-r.r-index 0 ∷ []) c.loop-r.invariant
-      ∙ sym (running_on (λ r. is_running (rider_at s.riders.now r).stop) s.queue.now c.loop-r.r-index
-      c.loop-r-test.true (sym c.runs.ensures ∙ w.if-runs.true)))
-  | else-runs w ↦ rw w.running-is (c.loop-r.invariant
-      ∙ sym (running_off (λ r. is_running (rider_at s.riders.now r).stop) s.queue.now c.loop-r.r-index
-      c.loop-r-test.true (sym c.runs.ensures ∙ w.if-runs.false)))
-]
+loop-r-preserved c =
+    let s = c.args.self.now in
+    let more = running_more (λ r. is_running (rider_at s.riders.now r).stop) s.queue.now c.loop-r.r-index
+    c.loop-r-test.true in
+    elim c.if-runs.branch [
+      | then-runs+in_ok-push w ↦
+          rw (w.running-is, w.in_ok-push.ensures.items, more, sym c.runs.ensures ∙ w.if-runs.true)
+          (ap (λ xs. xs ++ get_or s.queue.now c.loop-r.r-index 0 ∷ []) c.loop-r.invariant)
+      | else-runs w ↦ rw (w.running-is, more, sym c.runs.ensures ∙ w.if-runs.false, append-nil) c.loop-r.invariant
+    ]

@@ -3,9 +3,6 @@ use Rattle.std.proofs.lemmas.List.{with_items_is}
 use Rattle.qm_trace.proofs.Instants.{next_riders}
 use Rattle.qm_trace.proofs.queue.Seen.ride_all.Goals as goal
 
-pub ride_each-requires : goal.ride_each-requires
-ride_each-requires c = rw c.deref_mut.ensures.value c.requires
-
 pub returns : goal.returns
 returns c marks k i = with_items_is c.args.riders.now c.ride_each.new.riders
     (c.ride_each.auto.riders ∙ c.deref_mut.ensures.len) ∙ next_riders c.faces-known.ensures.mesh.manifold i

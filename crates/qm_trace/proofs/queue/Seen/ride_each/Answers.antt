@@ -1,6 +1,6 @@
 use Rattle.std.proofs.Common.{arith}
 use Rattle.motion_laws.proofs.Marks.{among_at}
-use Rattle.qm_trace.proofs.Riding.{unmoved, rode_more}
+use Rattle.qm_trace.proofs.Marking.{unmoved, rode_more}
 use Rattle.qm_trace.proofs.queue.Seen.ride_each.Goals as goal
 
 pub slice_copy_out-rider : goal.slice_copy_out-rider
@@ -8,21 +8,13 @@ slice_copy_out-rider c =
     let m = among_at c.args.queue.now c.loop-r.r-index c.loop-r-test.true in
     omega (arith, c.requires.low _ m, c.loop-r.auto.riders)
 
-pub ride_one-requires-clause-dart : goal.ride_one-requires-clause-dart
-ride_one-requires-clause-dart c =
+pub ride_one-requires : goal.ride_one-requires
+ride_one-requires c =
     let s = c.args.self.now in
     let m = among_at c.args.queue.now c.loop-r.r-index c.loop-r-test.true in
-    let same = unmoved s.mesh.now s.sight.now.stood.items s.sight.now.taken.items _ _ _ _ c.requires.apart
-    c.loop-r-test.true (c.requires.low _ m) c.loop-r.invariant in
-    rw same (c.requires.dart _ m)
-
-pub ride_one-requires-clause-rides : goal.ride_one-requires-clause-rides
-ride_one-requires-clause-rides c =
-    let s = c.args.self.now in
-    let m = among_at c.args.queue.now c.loop-r.r-index c.loop-r-test.true in
-    let same = unmoved s.mesh.now s.sight.now.stood.items s.sight.now.taken.items _ _ _ _ c.requires.apart
-    c.loop-r-test.true (c.requires.low _ m) c.loop-r.invariant in
-    rw same (c.requires.rides _ m)
+    rw (unmoved s.mesh.now s.sight.now.stood.items s.sight.now.taken.items _ _ _ _ c.requires.apart
+    c.loop-r-test.true (c.requires.low _ m) c.loop-r.invariant)
+    (record { dart = c.requires.dart _ m; rides = c.requires.rides _ m })
 
 pub bounds-riders-r : goal.bounds-riders-r
 bounds-riders-r c =
