@@ -2,10 +2,9 @@
 use Rattle.std.proofs.Common.{◌≡◌, ◌⊎◌, ℕ, zero, suc, ◌*◌, ◌/◌, ◌<◌, ◌≤◌, Bool, true, false, List, length, Option, Some}
 use Rattle.std.proofs.Common.{None, option_map, sym, ◌∙◌, ap, refl, inl, inr, true≢false, arith}
 use Rattle.std.proofs.lemmas.Bool.{cases_Bool, cases_eq, false≢true}
-use Rattle.def_mesh.specs.HalfEdges.{HalfEdges}
-use Rattle.def_mesh.specs.{Faces.Faces, Darts.darts, Darts.from_of, Darts.to_of, Darts.next_of, Darts.prev_of}
-use Rattle.def_mesh.specs.{Darts.twin_of, Kinds.is_regular, HalfEdges.half_edges}
-use Rattle.def_mesh.specs.HalfEdges.{IsQuadManifold}
+use Rattle.def_mesh.specs.HalfEdges.{HalfEdges, half_edges, IsQuadManifold}
+use Rattle.def_mesh.specs.Darts.{darts, from_of, to_of, next_of, prev_of, twin_of}
+use Rattle.def_mesh.specs.{Faces.Faces, Kinds.is_regular}
 use Rattle.def_cut.specs.Cuts.{HasCross, IsUncut, Links, IsCorner, GoesOn, IsCut}
 use Rattle.def_cut.specs.{FullCut.is_on, FullCut.IsChain, FullCut.IsFullCut, Laws.FullCutLaw}
 use Rattle.mesh_laws.proofs.{HalfEdges.manifold_law, Darts.next_face}
@@ -21,12 +20,10 @@ module _ (faces : Faces) (laws : IsQuadManifold (half_edges faces)) (marks : Lis
 
   -- From the faces to the half edges.
   module _ (full : IsFullCut faces marks) where
-    twin_there : (d : ℕ) → d < darts faces → cut d ≡ false → (t : ℕ) × (twin_of faces d ≡ Some t)
-    twin_there d l off = by_twin (twin_of faces d) refl
-      where
-        by_twin : (o : Option ℕ) → twin_of faces d ≡ o → (t : ℕ) × (twin_of faces d ≡ Some t)
-        by_twin None is = absurd (true≢false (sym (full.boundary d l is) ∙ off))
-        by_twin (Some t) is = (t, is)
+    twin_there : (d : ℕ) → d < darts faces → cut d ≡ false → (o : Option ℕ) → twin_of faces d ≡ o
+        → (t : ℕ) × (twin_of faces d ≡ Some t)
+    twin_there d l off None is = absurd (true≢false (sym (full.boundary d l is) ∙ off))
+    twin_there d l off (Some t) is = (t, is)
 
     crossed : (d : ℕ) → d < darts faces → IsUncut mesh cut (from_of faces d) → HasCross mesh d
     crossed d l uncut =
@@ -35,7 +32,8 @@ module _ (faces : Faces) (laws : IsQuadManifold (half_edges faces)) (marks : Lis
           | inl at ↦ (uncut x lx at).0
           | inr at ↦ ap cut (sym (laws.prev_next x)) ∙ (uncut (next_of x) (laws.next_low x lx) at).1
         ] in
-        let inner = inner_from faces (from_of faces d) (λ x lx at. twin_there x lx (off x lx at)) in
+        let inner = inner_from faces (from_of faces d)
+        (λ x lx at. twin_there x lx (off x lx at) (twin_of faces x) refl) in
         regular_cross faces laws d l inner (elim (cases_Bool (is_regular faces (from_of faces d))) [
           | inl on ↦ on
           | inr other ↦

@@ -1,8 +1,7 @@
 -- Chains of neighbours round a vertex: their steps, their ends, one after another, and back.
 use Rattle.std.proofs.Common.{◌≡◌, ◌≢◌, ◌⊎◌, ℕ, zero, suc, ◌+◌, ◌/◌, ◌%◌, ◌<◌, Bool, true, false, not, [], ◌∷◌, sym}
 use Rattle.std.proofs.Common.{subst, ap, ◌∙◌, refl, inl, inr, arith}
-use Rattle.std.proofs.lemmas.Bool.{cases_lt}
-use Rattle.std.proofs.lemmas.Bool.Decides.{nat_tests}
+use Rattle.std.proofs.{lemmas.Bool.cases_lt, lemmas.Bool.Decides.nat_tests}
 use Rattle.def_mesh.specs.Faces.{Faces, corner}
 use Rattle.def_mesh.specs.Darts.{darts, from_of, to_of, next_of, prev_of, IsTwin}
 use Rattle.def_mesh.specs.Manifold.{IsRepeatFree, HasEdgesOnce, AreNeighbours, Chain, meet}
@@ -52,14 +51,11 @@ step_neighbour faces true d e s = meet_from _ _ _ _ (inr (inl s.2))
 step_neighbour faces false d e s = meet_from _ _ _ _ (inl s.2)
 
 pub neighbour_back : (faces : Faces) (d e : ℕ) → AreNeighbours faces d e → AreNeighbours faces e d
-neighbour_back faces d e n = meet_from _ _ _ _ (by_case (meet_cases _ _ _ _ n))
+neighbour_back faces d e n =
+    back (to_of faces d) (from_of faces (prev_of d)) (to_of faces e) (from_of faces (prev_of e)) n
   where
-    by_case : ShareOne (to_of faces d) (from_of faces (prev_of d)) (to_of faces e) (from_of faces (prev_of e))
-        → ShareOne (to_of faces e) (from_of faces (prev_of e)) (to_of faces d) (from_of faces (prev_of d))
-    by_case (inl a) = inr (inl a)
-    by_case (inr (inl a)) = inl a
-    by_case (inr (inr (inl a))) = inr (inr (inl (sym a)))
-    by_case (inr (inr (inr a))) = inr (inr (inr (sym a)))
+    back : (a b x y : ℕ) → meet (a ∷ b ∷ []) (x ∷ y ∷ []) ≡ true → meet (x ∷ y ∷ []) (a ∷ b ∷ []) ≡ true
+    back a b x y t = grind (arith, nat_tests)
 
 -- With each edge once, a neighbour is the corner itself or beside it.
 pub neighbour_step : (faces : Faces) → HasEdgesOnce faces → (d e : ℕ) → d < darts faces → e < darts faces
@@ -88,13 +84,13 @@ chain_vertex faces d e (suc n) c = chain_vertex faces d c.0 n c.1 ∙ c.3
 
 pub chain_join : (faces : Faces) (d c e n m : ℕ) → Chain faces d c n → Chain faces c e m → (k : ℕ) × Chain faces d e k
 chain_join faces d c e n zero a b = (n, subst (λ (x : ℕ). Chain faces d x n) b a)
-chain_join faces d c e n (suc m) a b = let j : (k : ℕ) × Chain faces d b.0 k = chain_join faces d c b.0 n m a b.1 in
-    (suc j.0, (b.0, j.1, b.2, b.3, b.4))
+chain_join faces d c e n (suc m) a b =
+    let j = chain_join faces d c b.0 n m a b.1 in (suc j.0, (b.0, j.1, b.2, b.3, b.4))
 
 pub chain_back : (faces : Faces) (d e n : ℕ) → d < darts faces → Chain faces d e n → (k : ℕ) × Chain faces e d k
 chain_back faces d e zero l c = (0, sym c)
 chain_back faces d e (suc n) l c =
-    let b : (k : ℕ) × Chain faces c.0 d k = chain_back faces d c.0 n l c.1 in
+    let b = chain_back faces d c.0 n l c.1 in
     chain_join faces e c.0 d 1 b.0 (e, refl, chain_low faces d c.0 n l c.1, sym c.3, neighbour_back faces c.0 e c.4) b.1
 
 pub twin_differs : (faces : Faces) → IsRepeatFree faces → (d e : ℕ) → d < darts faces → IsTwin faces d e → e ≢ d

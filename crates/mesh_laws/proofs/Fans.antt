@@ -1,8 +1,8 @@
 -- The fan of a vertex by places.
-use Rattle.std.proofs.Common.{◌≡◌, ◌⊎◌, ℕ, ◌<◌, ◌≤◌, eqb, List, length, get_or, sym, subst, ap, inl, inr, arith}
+use Rattle.std.proofs.Common.{◌≡◌, ℕ, ◌<◌, eqb, List, length, get_or, sym, subst, ap, inl, inr, arith}
 use Rattle.std.proofs.lemmas.Bool.{cases_eq, cases_lt, eq-eqb, eqb-true}
 use Rattle.def_mesh.specs.{Faces.Faces, Darts.darts, Darts.from_of, Vertices.fan_of}
-use Rattle.list_laws.proofs.Filters.{IsKept, kept_at, place_of, rises}
+use Rattle.list_laws.proofs.Filters.{kept_at, place_of, rises}
 
 -- The fan of v by places: its entries are the darts that leave v, each at one place, increasing.
 pub record IsFan (faces : Faces) (v : ℕ) (fan : List ℕ) : Type 0 where
@@ -12,20 +12,16 @@ pub record IsFan (faces : Faces) (v : ℕ) (fan : List ℕ) : Type 0 where
   pub increasing : (s t : ℕ) → s < t → t < length fan → get_or fan s 0 < get_or fan t 0
 
 pub fan_of_is : (faces : Faces) (v : ℕ) → IsFan faces v (fan_of faces v)
-fan_of_is faces v = record {
-  dart = λ t l. omega (arith, (kept t l).high);
-  leaves = λ t l. eqb-true _ v (kept t l).passes;
-  place = λ d l e. place_of (λ k. eqb (from_of faces k) v) 0 (darts faces) d (record {
-    low = omega arith;
-    high = omega arith;
-    passes = eq-eqb _ v e;
-  });
-  increasing = rises (λ k. eqb (from_of faces k) v) 0 (darts faces);
-}
-  where
-    kept : (t : ℕ) → t < length (fan_of faces v)
-        → IsKept (λ d. eqb (from_of faces d) v) 0 (darts faces) (get_or (fan_of faces v) t 0)
-    kept t l = kept_at (λ d. eqb (from_of faces d) v) 0 (darts faces) t l
+fan_of_is faces v =
+    let leaves = λ (d : ℕ). eqb (from_of faces d) v in
+    let kept = kept_at leaves 0 (darts faces) in
+    record {
+      dart = λ t l. omega (arith, (kept t l).high);
+      leaves = λ t l. eqb-true _ v (kept t l).passes;
+      place = λ d l e. place_of leaves 0 (darts faces) d
+          (record { low = omega arith; high = omega arith; passes = eq-eqb _ v e });
+      increasing = rises leaves 0 (darts faces);
+    }
 
 pub is_fan : (faces : Faces) (v : ℕ) (fan : List ℕ) → fan ≡ fan_of faces v → IsFan faces v fan
 is_fan faces v fan e = subst (λ (xs : List ℕ). IsFan faces v xs) (sym e) (fan_of_is faces v)
@@ -34,13 +30,11 @@ is_fan faces v fan e = subst (λ (xs : List ℕ). IsFan faces v xs) (sym e) (fan
 pub earlier_place : (faces : Faces) (v : ℕ) (fan : List ℕ) → IsFan faces v fan → (i j : ℕ) → i < length fan
     → j < get_or fan i 0 → from_of faces j ≡ v → (t : ℕ) × (t < i) × (get_or fan t 0 ≡ j)
 earlier_place faces v fan h i j l m e =
-    let p : (t : ℕ) × (t < length fan) × (get_or fan t 0 ≡ j) = h.place j (omega (arith, h.dart i l)) e in
-    by_order p.0 p.1 p.2 (cases_lt p.0 i)
-  where
-    by_order : (t : ℕ) → t < length fan → get_or fan t 0 ≡ j → (t < i) ⊎ (i ≤ t) → (t : ℕ) × (t < i)
-        × (get_or fan t 0 ≡ j)
-    by_order t low s (inl b) = (t, b, s)
-    by_order t low s (inr b) = elim (cases_eq i t) [
-      | inl q ↦ absurd (omega (arith, ap (λ x. get_or fan x 0) q))
-      | inr ne ↦ absurd (omega (arith, h.increasing i t (omega arith) low))
+    let (t, low, s) = h.place j (omega (arith, h.dart i l)) e in
+    elim (cases_lt t i) [
+      | inl b ↦ (t, b, s)
+      | inr b ↦ absurd (elim (cases_eq i t) [
+        | inl q ↦ omega (arith, ap (λ x. get_or fan x 0) q)
+        | inr ne ↦ omega (arith, h.increasing i t (omega arith) low)
+      ])
     ]

@@ -1,9 +1,8 @@
 -- The flood of a component is exact: it marks just the faces to which chains of shared edges lead.
-use Rattle.std.proofs.Common.{◌≡◌, ◌⊎◌, ℕ, zero, suc, ◌*◌, ◌<◌, ◌≤◌, Bool, true, false, not, cond, eqb, ◌&&◌, ◌||◌}
-use Rattle.std.proofs.Common.{map, length, sym, subst, ap, ◌∙◌, refl, inl, inr, arith}
+use Rattle.std.proofs.Common.{◌≡◌, ◌⊎◌, ℕ, zero, suc, ◌*◌, ◌<◌, ◌≤◌, Bool, true, false, not, cond, eqb, ◌&&◌, ◌||◌, map}
+use Rattle.std.proofs.Common.{length, sym, subst, ap, ◌∙◌, refl, inl, inr, arith}
 use Rattle.std.proofs.lemmas.Bool.{not-true, eq-eqb, eqb-true, cases_Bool, cases_lt, or_left, or_right, or_cases}
-use Rattle.std.proofs.lemmas.Bool.{and_parts}
-use Rattle.std.proofs.lemmas.Bool.{and_from, false≢true, not_from_false}
+use Rattle.std.proofs.lemmas.Bool.{and_parts, and_from, false≢true, not_from_false}
 use Rattle.std.proofs.lemmas.List.{length-map}
 use Rattle.std.proofs.lemmas.List.FromFn.{length-range_with_len, get_or-map-range_with_len}
 use Rattle.std.proofs.lemmas.List.Sums.{passes_at_first, fails_before_first}
@@ -12,9 +11,8 @@ use Rattle.sum_laws.proofs.Tests.{once_at_most, same_test}
 use Rattle.sum_laws.proofs.Counts.{count_below_lt, count_below_le, count_below_none, count_below_ones}
 use Rattle.def_math.specs.Counts.{count_below}
 use Rattle.list_laws.proofs.Filters.{any_in_range, range_any, map_range_same}
-use Rattle.def_mesh.specs.Faces.{Faces, all_faces}
-use Rattle.def_mesh.specs.Darts.{from_of, to_of, is_reverse}
 use Rattle.def_mesh.specs.Components.{share_edge, is_marked, within, component_of, least_face}
+use Rattle.def_mesh.specs.{Faces.Faces, Faces.all_faces, Darts.from_of, Darts.to_of, Darts.is_reverse}
 
 -- So many shared edges lead from face f to face g.
 abbrev pub Shares : (faces : Faces) (f g edges : ℕ) → Type 0
@@ -48,18 +46,17 @@ module _ (faces : Faces) where
       shares_join g s.0 f 1 b.0 (g, refl, s.3, s.2, share_back faces s.0 g s.4) b.1
 
   -- What the marks of a round are, by those of the round before.
-  abbrev mark : (f k g : ℕ) → Bool
+  abbrev pub mark : (f k g : ℕ) → Bool
   mark f k g = is_marked (within faces f k) g
 
-  pub first_mark : (f g : ℕ) → g < length faces → is_marked (within faces f 0) g ≡ eqb g f
+  pub first_mark : (f g : ℕ) → g < length faces → mark f 0 g ≡ eqb g f
   first_mark f g l = get_or-map-range_with_len (λ x. eqb x f) 0 (length faces) g g false l (omega arith)
 
-  pub next_mark : (f k g : ℕ) → g < length faces → is_marked (within faces f (suc k)) g
-      ≡ (is_marked (within faces f k) g || list_any (λ h. is_marked (within faces f k) h && share_edge faces h g)
-      (all_faces faces))
-  next_mark f k g l = get_or-map-range_with_len (λ x. is_marked (within faces f k) x
-      || list_any (λ h. is_marked (within faces f k) h && share_edge faces h x) (all_faces faces)) 0 (length faces) g
-      g false l (omega arith)
+  pub next_mark : (f k g : ℕ) → g < length faces → mark f (suc k) g
+      ≡ (mark f k g || list_any (λ h. mark f k h && share_edge faces h g) (all_faces faces))
+  next_mark f k g l = get_or-map-range_with_len (λ x. mark f k x
+      || list_any (λ h. mark f k h && share_edge faces h x) (all_faces faces)) 0 (length faces) g g false l
+      (omega arith)
 
   grows : (f k g : ℕ) → g < length faces → mark f k g ≡ true → mark f (suc k) g ≡ true
   grows f k g l m = next_mark f k g l ∙ or_left _ _ m
@@ -109,16 +106,12 @@ module _ (faces : Faces) where
 
   stable_or_more : (f k : ℕ) → f < length faces → IsStable f k ⊎ (suc k ≤ size f k)
   stable_or_more f zero lf =
-      inr (omega (
-        arith,
-        count_below_none (λ g. 0) (length faces) (λ k l. refl),
-        count_below_lt (λ g. 0) (λ g. cond (mark f 0 g) 1 0) (length faces) f lf (λ k l. omega arith)
-            (one_more false (mark f 0 f) refl (first_mark f f lf ∙ eq-eqb f f refl)),
-      ))
+      let more = count_below_lt (λ g. 0) (λ g. cond (mark f 0 g) 1 0) (length faces) f lf (λ k l. omega arith)
+      (one_more false (mark f 0 f) refl (first_mark f f lf ∙ eq-eqb f f refl)) in
+      inr (omega (arith, count_below_none (λ g. 0) (length faces) (λ k l. refl), more))
   stable_or_more f (suc k) lf =
-      let before = stable_or_more f k lf in
       let is_new = λ (g : ℕ). mark f (suc k) g && not (mark f k g) in
-      elim before [
+      elim (stable_or_more f k lf) [
         | inl stable ↦ inl (stays_stable f k stable)
         | inr big ↦ elim (cases_Bool (list_any is_new (all_faces faces))) [
           | inl new ↦
@@ -142,13 +135,8 @@ module _ (faces : Faces) where
       ≡ true → share_edge faces h g ≡ true → is_marked (component_of faces f) g ≡ true
   closed f h g lf lh lg m s = elim (stable_or_more f (length faces) lf) [
     | inl stable ↦ stable g lg (reaches f (length faces) h g lh lg m s)
-    | inr big ↦ absurd (omega (
-      arith,
-      big,
-      count_below_le (λ x. cond (mark f (length faces) x) 1 0) (λ x. 1) (length faces)
-          (λ x l. once_at_most (mark f (length faces) x)),
-      count_below_ones (length faces),
-    ))
+    | inr big ↦ let most = count_below_le (λ x. cond (mark f (length faces) x) 1 0) (λ x. 1) (length faces)
+        (λ x l. once_at_most (mark f (length faces) x)) in absurd (omega (arith, most, count_below_ones (length faces)))
   ]
 
   -- It has its own face, and each to which a chain leads.

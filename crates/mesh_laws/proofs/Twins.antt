@@ -1,13 +1,12 @@
 -- The twin that a search finds is the dart with the ends exchanged.
-use Rattle.std.proofs.Common.{◌≡◌, ℕ, ◌+◌, ◌<◌, true, eqb, Some, None, sym, ◌∙◌, arith}
+use Rattle.std.proofs.Common.{◌≡◌, ℕ, ◌<◌, true, eqb, Some, None, sym, ◌∙◌, arith}
 use Rattle.std.proofs.lemmas.Bool.{and_parts, and_from, false_from_ne_true, eq-eqb, eqb-true}
-use Rattle.def_mesh.specs.{Faces.Faces, Darts.darts, Darts.from_of, Darts.to_of, Darts.is_reverse, Darts.twin_of}
-use Rattle.def_mesh.specs.{Darts.IsTwin, Manifold.HasEdgesOnce}
+use Rattle.def_mesh.specs.Darts.{darts, is_reverse, twin_of, IsTwin}
+use Rattle.def_mesh.specs.{Faces.Faces, Manifold.HasEdgesOnce}
 use Rattle.list_laws.proofs.Filters.{find_none, find_one, find_passes}
 
 pub reverse_twin : (faces : Faces) (d e : ℕ) → e < darts faces → is_reverse faces d e ≡ true → IsTwin faces d e
-reverse_twin faces d e l r = let b : (eqb (from_of faces e) (to_of faces d) ≡ true)
-    × (eqb (to_of faces e) (from_of faces d) ≡ true) = and_parts _ _ r in (l, eqb-true _ _ b.0, eqb-true _ _ b.1)
+reverse_twin faces d e l r = (l, eqb-true _ _ (and_parts _ _ r).0, eqb-true _ _ (and_parts _ _ r).1)
 
 pub twin_reverse : (faces : Faces) (d e : ℕ) → IsTwin faces d e → is_reverse faces d e ≡ true
 twin_reverse faces d e is = and_from _ _ (eq-eqb _ _ is.1) (eq-eqb _ _ is.2)
@@ -24,5 +23,5 @@ twin_none faces d none = find_none (is_reverse faces d) 0 (darts faces)
 
 -- What is told to be the twin has the ends exchanged.
 pub twin_is : (faces : Faces) (d e : ℕ) → twin_of faces d ≡ Some e → IsTwin faces d e
-twin_is faces d e t = let f : (is_reverse faces d e ≡ true) × (e < 0 + darts faces) =
-    find_passes (is_reverse faces d) 0 (darts faces) e t in reverse_twin faces d e (omega (arith, f.1)) f.0
+twin_is faces d e t = let f = find_passes (is_reverse faces d) 0 (darts faces) e t in
+    reverse_twin faces d e (omega (arith, f.1)) f.0

@@ -26,24 +26,17 @@ from_count faces = length-map (all_darts faces) (from_of faces) ∙ length-range
 
 -- Each corner is a vertex.
 pub all_below : (faces : Faces) → (d : ℕ) → d < darts faces → from_of faces d < vertex_count faces
-all_below faces d l = omega (
-  arith,
-  from_at faces d l,
-  below_bound (map (from_of faces) (all_darts faces)) d (omega (arith, from_count faces)),
-)
+all_below faces d l =
+    let low = below_bound (map (from_of faces) (all_darts faces)) d (omega (arith, from_count faces)) in
+    omega (arith, from_at faces d l)
 
 pub count_least : (faces : Faces) (n : ℕ) → ((d : ℕ) → d < darts faces → from_of faces d < n) → vertex_count faces ≤ n
-count_least faces n within = least_bound (map (from_of faces) (all_darts faces)) n
-    (λ i l. omega (
-      arith,
-      from_at faces i (omega (arith, from_count faces)),
-      within i (omega (arith, from_count faces)),
-    ))
+count_least faces n within = least_bound (map (from_of faces) (all_darts faces)) n (λ i l.
+    let low : i < darts faces = omega (arith, from_count faces) in omega (arith, from_at faces i low, within i low))
 
 -- A fan has at most all darts.
 pub fan_short : (faces : Faces) (v : ℕ) → faces_at faces v ≤ darts faces
-fan_short faces v = omega (
-  arith,
-  length-filter_both (λ d. eqb (from_of faces d) v) (λ d. not (eqb (from_of faces d) v)) (λ d. refl) (all_darts faces),
-  length-range_with_len 0 (darts faces),
-)
+fan_short faces v =
+    let both = length-filter_both (λ d. eqb (from_of faces d) v) (λ d. not (eqb (from_of faces d) v)) (λ d. refl)
+    (all_darts faces) in
+    omega (arith, length-range_with_len 0 (darts faces))

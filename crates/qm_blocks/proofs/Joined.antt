@@ -1,24 +1,20 @@
 -- Linked points are one vertex.
-use Rattle.std.proofs.Common.{◌≡◌, ℕ, ◌+◌, ◌-◌, ◌<◌, ◌≤◌, true, false, Some, Option}
-use Rattle.std.proofs.Common.{refl, sym, ◌∙◌, ap, inl, inr, arith}
-use Rattle.std.proofs.lemmas.Bool.{false≢true}
+use Rattle.std.proofs.Common.{◌≡◌, ℕ, ◌+◌, ◌-◌, ◌<◌, ◌≤◌, refl, sym, ◌∙◌, ap, inl, inr, arith}
+use Rattle.std.proofs.lemmas.Option.{none-some, same_Some}
 use Rattle.def_layout.specs.Surfaces.{IsSurface, IsOtherSlot}
-use Rattle.def_layout.specs.Gluings.{Way, south, east, north, west, Gluing, Slot, IsSlot, use_of}
+use Rattle.def_layout.specs.Gluings.{Way, south, Gluing, Slot, IsSlot, use_of}
 use Rattle.def_layout.specs.Lengths.{Lengths, size, AreLengths}
 use Rattle.def_written.specs.{Numbers.vertex_number, Points.side_point, Points.use_point}
-use Rattle.def_blocks.specs.{Laws.LinkedPointsLaw, Links.first_point, Links.side_name, Links.IsLinkOf}
-use Rattle.def_blocks.specs.{SidePoints.side_vertex, declared.link.SideName.SideName}
+use Rattle.def_blocks.specs.{Laws.LinkedPointsLaw, Links.first_point, Links.side_name, SidePoints.side_vertex}
 use Rattle.written_laws.proofs.{Borders.use_back, Rims.border_point, Sides.reach_low, Sides.side_upto}
-use Rattle.qm_blocks.proofs.Mutual.{block_part, from_part, is_linked, link_to, side_part, slot_of_link}
+use Rattle.qm_blocks.proofs.Mutual.{link_to, slot_of_link}
 
 module _ (l : Gluing) (x : Lengths) (laid : IsSurface l) (len : AreLengths l x) where
   -- The vertex at a point of a side is that of the arc that lies there.
   vertex_on : (p : ℕ) (s : Way) (t : ℕ) → p < l.patches → t ≤ size l x p s
       → side_vertex l x p (side_name s) t ≡ vertex_number l x (side_point l x p s t)
   vertex_on p south t low upto = ap (vertex_number l x) (border_point l x laid len p south t low upto)
-  vertex_on p east t low upto = ap (vertex_number l x) (border_point l x laid len p east t low upto)
-  vertex_on p north t low upto = ap (vertex_number l x) (border_point l x laid len p north t low upto)
-  vertex_on p west t low upto = ap (vertex_number l x) (border_point l x laid len p west t low upto)
+  vertex_on p s t low upto = ap (vertex_number l x) (border_point l x laid len p s t low upto)
 
   -- So is that at a point of a slot.
   slot_vertex : (w : Slot) (k : ℕ) → IsSlot l w → k ≤ x (use_of l w).arc
@@ -41,22 +37,15 @@ module _ (l : Gluing) (x : Lengths) (laid : IsSurface l) (len : AreLengths l x) 
 
 pub linked_points : LinkedPointsLaw
 linked_points l x laid len links are one other low side side' from from' n has k le =
-    let found = slot_of_link l x laid links are one has.0 (link_to side from n other side' from') low has.1 has.2 in
-    by_slot found.0 found.1 found.2 found.3
-  where
-    by_slot : (w : Slot) → IsSlot l w → w.patch ≡ one → IsLinkOf l x w (link_to side from n other side' from')
-        → side_vertex l x one side (from + k) ≡ side_vertex l x other side' (from' + (n - k))
-    by_slot w is at is_link = elim (laid.other w is) [
-      | inr wall ↦ let none : true ≡ false = ap is_linked (is_link.wall wall) in absurd (false≢true (sym none))
-      | inl next ↦ over next.0 next.1 (is_link.linked next.0 next.1)
+    let (w, is, at, is_link) =
+    slot_of_link l x laid links are one has.0 (link_to side from n other side' from') low has.1 has.2 in
+    elim (laid.other w is) [
+      | inr wall ↦ absurd (none-some _ (sym (is_link.wall wall)))
+      | inl next ↦
+          let v = next.0 in
+          let told = sym (same_Some (other, side', from') (v.patch, side_name v.side, first_point l x v)
+          (is_link.linked v next.1)) in
+          (λ t. side_vertex l x ((sym at) t) (is_link.side t) (is_link.from t + k))
+          ∙ one_vertex l x laid len w v k is next.1 (omega (arith, le, is_link.len))
+          ∙ (λ t. side_vertex l x ((told t).0) ((told t).1) ((told t).2 + ((sym is_link.len) t - k)))
     ]
-      where
-        over : (v : Slot) → IsOtherSlot l w v
-            → ◌≡◌ {A = Option (ℕ × SideName × ℕ)} (Some (other, side', from'))
-            (Some (v.patch, side_name v.side, first_point l x v))
-            → side_vertex l x one side (from + k) ≡ side_vertex l x other side' (from' + (n - k))
-        over v across told =
-            (λ t. side_vertex l x ((sym at) t) (is_link.side t) (is_link.from t + k))
-            ∙ one_vertex l x laid len w v k is across (omega (arith, le, is_link.len))
-            ∙ (λ t. side_vertex l x ((sym (ap block_part told)) t) ((sym (ap side_part told)) t)
-            ((sym (ap from_part told)) t + ((sym is_link.len) t - k)))

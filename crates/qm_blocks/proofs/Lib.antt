@@ -2,5 +2,4 @@ pub mod Joined
 mod Lists
 mod Measures
 pub mod Mutual
-mod Slots
 mod Tables

@@ -1,10 +1,10 @@
 -- What a layout with a length for each arc gives for its sides.
-use Rattle.std.proofs.Common.{◌≡◌, ℕ, zero, suc, ◌*◌, ◌^◌, ◌<◌, ◌≤◌, List, length, arith}
-use Rattle.std.proofs.lemmas.{List.length-map, Nat.mul-le}
+use Rattle.std.proofs.Common.{◌≡◌, ℕ, zero, suc, ◌^◌, ◌<◌, ◌≤◌, List, length, arith}
+use Rattle.std.proofs.{lemmas.List.length-map, lemmas.Nat.mul-le}
 use Rattle.def_flow.specs.declared.limits.TheConstants.{MAX_LENGTH}
-use Rattle.def_layout.specs.{Arcs.long_at, Gluings.Way, Lengths.high, Lengths.wide, Lengths.Lengths, Layouts.Layout}
+use Rattle.def_layout.specs.Layouts.{Layout, gluing_of, layout_of, side_at}
+use Rattle.def_layout.specs.{Arcs.long_at, Gluings.Way, Lengths.high, Lengths.wide, declared.tmesh.SideArc.SideArc}
 use Rattle.def_cut.specs.Grids.{rectangle}
-use Rattle.def_layout.specs.{Layouts.gluing_of, Layouts.layout_of, Layouts.side_at, declared.tmesh.SideArc.SideArc}
 use Rattle.def_layoutnet.specs.MeshLayouts.{IsSomeLayout}
 use Rattle.def_written.specs.NewFaces.{cells_before}
 use Rattle.def_remesh.specs.NewPoints.{lengths_in}
@@ -18,19 +18,16 @@ use Rattle.qm_blocks.specs.{Spots.IsMeasured, Spots.IsSummed, declared.measured.
 pub patches_few : (layout : Layout) → IsSomeLayout layout → length layout.patches ≤ 2 ^ 21
 patches_few layout is = omega (arith, up (length layout.patches) (omega arith), old_faces layout is)
   where
-    old : Lengths
-    old = long_at layout.arcs
-
-    one : (p : ℕ) → p < length layout.patches → 1 ≤ wide (gluing_of layout) old p * high (gluing_of layout) old p
-    one p low =
-        let paved = (laid_of layout is).paved in
-        mul-le 1 1 (wide (gluing_of layout) old p) (high (gluing_of layout) old p)
-        (wide_some (gluing_of layout) old paved (lengths_of layout is) p low)
-        (high_some (gluing_of layout) old paved (lengths_of layout is) p low)
-
-    up : (n : ℕ) → n ≤ length layout.patches → n ≤ cells_before (gluing_of layout) old n
+    up : (n : ℕ) → n ≤ length layout.patches → n ≤ cells_before (gluing_of layout) (long_at layout.arcs) n
     up zero le = omega arith
-    up (suc n) le = omega (arith, up n (omega (arith, le)), one n (omega (arith, le)))
+    up (suc n) le =
+        let l = gluing_of layout in
+        let old = long_at layout.arcs in
+        let paved = (laid_of layout is).paved in
+        let one = mul-le 1 1 (wide l old n) (high l old n)
+        (wide_some l old paved (lengths_of layout is) n (omega (arith, le)))
+        (high_some l old paved (lengths_of layout is) n (omega (arith, le))) in
+        omega (arith, up n (omega (arith, le)), one)
 
 -- Its sides are short enough for 64 bits at these lengths.
 pub measured_of : (layout : Layout) (x : List ℕ) → IsSomeLayout layout → length x ≡ length layout.arcs
@@ -39,13 +36,12 @@ measured_of layout x is long bounded = record {
   whole = sides_of layout is;
   each = long;
   few = patches_few layout is;
-  small = λ block way low. omega (
-    arith,
-    side_most (gluing_of layout) (long_at layout.arcs) (lengths_in x) MAX_LENGTH (laid_of layout is)
-        (lengths_of layout is) bounded block way low,
-    side_few (gluing_of layout) (long_at layout.arcs) (laid_of layout is) (lengths_of layout is) block way low,
-    old_faces layout is,
-  );
+  small = λ block way low.
+      let most = side_most (gluing_of layout) (long_at layout.arcs) (lengths_in x) MAX_LENGTH (laid_of layout is)
+      (lengths_of layout is) bounded block way low in
+      let few = side_few (gluing_of layout) (long_at layout.arcs) (laid_of layout is) (lengths_of layout is) block way
+      low in
+      omega (arith, old_faces layout is);
 }
 
 -- A side of a block adds up.
@@ -56,12 +52,9 @@ side_summed measured block low way {side} same =
     let there : block < length (layout_of measured.t.now).patches =
     omega (arith, low, length-map measured.t.now.patches.items rectangle) in
     let is = measured.measured in
+    let long = side_long (layout_of measured.t.now) block way (lengths_in measured.x.now) side same in
     record {
       low = arcs_low (layout_of measured.t.now) is.whole.paved block way (length measured.x.now) side there is.each
           same;
-      small = omega (
-        arith,
-        side_long (layout_of measured.t.now) block way (lengths_in measured.x.now) side same,
-        is.small block way there,
-      );
+      small = omega (arith, is.small block way there);
     }

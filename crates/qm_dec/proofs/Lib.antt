@@ -1,7 +1,5 @@
-pub mod Clamps
 pub mod Digits
 pub mod Scaling
-pub mod Forms
 pub mod Trims
 pub mod Texts
 pub mod Ratios

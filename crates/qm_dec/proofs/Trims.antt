@@ -30,12 +30,10 @@ pub ruleset trims = (without_zeros-zero, without_zeros-other)
 
 -- the text behind the point is short
 pub trimmed_short : (r : ℕ) → r < 10 ^ 6 → length (without_zeros (six_digits r)) ≤ 6
-trimmed_short r l = omega (
-  arith,
-  length-take (length (six_digits r) - suffix_len (λ d. eqb d 48) (six_digits r)) (six_digits r),
-  length-drop 1 (decimal (10 ^ 6 + r)),
-  length-decimal-le 7 (10 ^ 6 + r) (omega arith) (omega arith) (omega arith),
-)
+trimmed_short r l =
+    let kept = length-take (length (six_digits r) - suffix_len (λ d. eqb d 48) (six_digits r)) (six_digits r) in
+    let seven = length-decimal-le 7 (10 ^ 6 + r) (omega arith) (omega arith) (omega arith) in
+    omega (arith, length-drop 1 (decimal (10 ^ 6 + r)))
 
 pub fraction_short : (r : ℕ) → r < 10 ^ 6 → length (fraction_text r) ≤ 7
 fraction_short r l = grind (arith, trimmed_short r l)

@@ -1,77 +1,72 @@
 -- A face without a repeated vertex has four different corners.
-use Rattle.std.proofs.Common.{◌≡◌, ◌≢◌, ℕ, zero, suc, ◌<◌, Bool, true, false, cond, eqb, List, [], ◌∷◌, length, get_or}
-use Rattle.std.proofs.Common.{Option, Some, None, sym, arith, refl, ◌⊎◌, inl, inr, ◌∙◌, subst}
-use Rattle.std.proofs.lemmas.Bool.{or_parts, or_cases, eqb-true, eqb-false, false≢true}
-use Rattle.std.proofs.lemmas.Option.{none-some, same_Some}
+use Rattle.std.proofs.Common.{◌≡◌, ◌≢◌, ℕ, zero, suc, ◌<◌, Bool, false, cond, eqb, List, [], ◌∷◌, length, get_or}
+use Rattle.std.proofs.Common.{Option, Some, None, sym, arith, refl, ◌∙◌, Result, Ok, Err, IfErr, subst}
+use Rattle.std.proofs.lemmas.Bool.{or_parts, or_from, ne_eqb, eqb-false}
+use Rattle.std.proofs.lemmas.Option.{none-some}
 use Rattle.std.specs.List.{list_any}
-use Rattle.def_mesh.specs.{Faces.Faces, Faults.repeat_after, Faults.repeat_in, Manifold.IsRepeatFree}
+use Rattle.def_mesh.specs.Faults.{repeat_after, repeat_in, IsFirstFault}
+use Rattle.def_mesh.specs.declared.Place.TheVariants.{Repeated, EdgeTwice, TwoFans}
+use Rattle.def_mesh.specs.{Faces.Faces, Manifold.IsRepeatFree, Manifold.IsManifold, declared.Place.Place}
+use Rattle.qm_mesh.specs.declared.fail.MeshFail.TheVariants.{NotManifold, Memory}
+use Rattle.qm_mesh.specs.{Refusals.IsRefusal, declared.fail.MeshFail.MeshFail}
 
-none_by : (b : Bool) (v : ℕ) (o : Option ℕ) → cond b (Some v) o ≡ None → (b ≡ false) × (o ≡ None)
-none_by true v o e = absurd (none-some v (sym e))
-none_by false v o e = (refl, e)
-
--- No vertex stands among those seen before.
-unseen : (seen vs : List ℕ) → repeat_after seen vs ≡ None → (j : ℕ) → j < length vs
-    → list_any (λ u. eqb u (get_or vs j 0)) seen ≡ false
-unseen seen [] e j l = absurd (omega arith)
-unseen seen (v ∷ vs) e zero l = (none_by (list_any (λ u. eqb u v) seen) v (repeat_after (v ∷ seen) vs) e).0
-unseen seen (v ∷ vs) e (suc j) l =
-    (or_parts _ _ (unseen (v ∷ seen) vs (none_by (list_any (λ u. eqb u v) seen) v (repeat_after (v ∷ seen) vs) e).1 j
-    (omega arith))).1
-
--- No two places have the same vertex.
-all_differ : (seen vs : List ℕ) → repeat_after seen vs ≡ None → (i j : ℕ) → i < j → j < length vs
-    → get_or vs i 0 ≢ get_or vs j 0
-all_differ seen (v ∷ vs) e zero (suc j) l m =
-    eqb-false v (get_or vs j 0)
-    (or_parts _ _ (unseen (v ∷ seen) vs (none_by (list_any (λ u. eqb u v) seen) v (repeat_after (v ∷ seen) vs) e).1 j
-    (omega arith))).0
-all_differ seen (v ∷ vs) e (suc i) (suc j) l m =
-    all_differ (v ∷ seen) vs (none_by (list_any (λ u. eqb u v) seen) v (repeat_after (v ∷ seen) vs) e).1 i j
-    (omega arith) (omega arith)
-all_differ seen _ e i _ l m = absurd (omega arith)
+-- Where nothing is told to be repeated, no vertex stands among those seen before, and no two places have the same.
+fresh : (seen vs : List ℕ) → repeat_after seen vs ≡ None
+    → ((j : ℕ) → j < length vs → list_any (λ u. eqb u (get_or vs j 0)) seen ≡ false)
+    × ((i j : ℕ) → i < j → j < length vs → get_or vs i 0 ≢ get_or vs j 0)
+fresh seen [] e = (λ j l. absurd (omega arith), λ i j less l. absurd (omega arith))
+fresh seen (v ∷ vs) e =
+    let n = none_by (list_any (λ u. eqb u v) seen) v (repeat_after (v ∷ seen) vs) e in
+    let rest = fresh (v ∷ seen) vs n.1 in (
+      elim [ zero ↦ λ l. n.0 | suc j ↦ λ l. (or_parts _ _ (rest.0 j (omega arith))).1 ],
+      elim [
+        | zero ↦ elim [
+          | zero ↦ λ less l. absurd (omega arith)
+          | suc j ↦ λ less l. eqb-false v (get_or vs j 0) (or_parts _ _ (rest.0 j (omega arith))).0
+        ]
+        | suc i ↦ elim [
+          | zero ↦ λ less l. absurd (omega arith)
+          | suc j ↦ λ less l. rest.1 i j (omega arith) (omega arith)
+        ]
+      ],
+    )
+  where
+    none_by : (b : Bool) (v : ℕ) (o : Option ℕ) → cond b (Some v) o ≡ None → (b ≡ false) × (o ≡ None)
+    none_by b v o e = grind arith
 
 pub repeat_free_from : (faces : Faces) → ((f : ℕ) → f < length faces → length (get_or faces f []) ≡ 4)
     → ((f : ℕ) → f < length faces → repeat_in (get_or faces f []) ≡ None) → IsRepeatFree faces
 repeat_free_from faces four none f i j low l m =
-    all_differ [] (get_or faces f []) (none f low) i j l (omega (arith, four f low))
+    (fresh [] (get_or faces f []) (none f low)).1 i j l (omega (arith, four f low))
 
--- What is told to be repeated is seen already, or stands at two places.
-repeated_by : (seen vs : List ℕ) (v : ℕ) → repeat_after seen vs ≡ Some v →
-    ((list_any (λ u. eqb u v) seen ≡ true) × ((j : ℕ) × (j < length vs) × (get_or vs j 0 ≡ v)))
-    ⊎ ((i : ℕ) × (j : ℕ) × (i < j) × (j < length vs) × (get_or vs i 0 ≡ get_or vs j 0))
-repeated_by seen [] v e = absurd (none-some v e)
-repeated_by seen (u ∷ vs) v e = at (list_any (λ w. eqb w u) seen) refl e (repeated_by (u ∷ seen) vs v)
-  where
-    Found : Type 0
-    Found = ((list_any (λ w. eqb w v) seen ≡ true) × ((j : ℕ) × (j < length (u ∷ vs)) × (get_or (u ∷ vs) j 0 ≡ v)))
-        ⊎ ((i : ℕ) × (j : ℕ) × (i < j) × (j < length (u ∷ vs)) × (get_or (u ∷ vs) i 0 ≡ get_or (u ∷ vs) j 0))
-
-    later : ((list_any (λ w. eqb w v) (u ∷ seen) ≡ true) × ((j : ℕ) × (j < length vs) × (get_or vs j 0 ≡ v)))
-        ⊎ ((i : ℕ) × (j : ℕ) × (i < j) × (j < length vs) × (get_or vs i 0 ≡ get_or vs j 0)) → Found
-    later (inr p) = inr (suc p.0, suc p.1, omega (arith, p.2), omega (arith, p.3), p.4)
-    later (inl p) = elim (or_cases (eqb u v) (list_any (λ w. eqb w v) seen) p.0) [
-      | inl s ↦ inr (0, suc p.1.0, omega arith, omega (arith, p.1.1), eqb-true u v s ∙ sym p.1.2)
-      | inr s ↦ inl (s, (suc p.1.0, omega (arith, p.1.1), p.1.2))
-    ]
-
-    at : (b : Bool) → list_any (λ w. eqb w u) seen ≡ b → cond b (Some u) (repeat_after (u ∷ seen) vs) ≡ Some v
-        → (repeat_after (u ∷ seen) vs ≡ Some v
-        → ((list_any (λ w. eqb w v) (u ∷ seen) ≡ true) × ((j : ℕ) × (j < length vs) × (get_or vs j 0 ≡ v)))
-        ⊎ ((i : ℕ) × (j : ℕ) × (i < j) × (j < length vs) × (get_or vs i 0 ≡ get_or vs j 0))) → Found
-    at true b e after = inl (
-      subst (λ (x : ℕ). list_any (λ w. eqb w x) seen ≡ true) (same_Some u v e) b,
-      (0, omega arith, same_Some u v e),
-    )
-    at false b e after = later (after e)
+-- And the other way round.
+none_from : (seen vs : List ℕ) → ((j : ℕ) → j < length vs → list_any (λ u. eqb u (get_or vs j 0)) seen ≡ false)
+    → ((i j : ℕ) → i < j → j < length vs → get_or vs i 0 ≢ get_or vs j 0) → repeat_after seen vs ≡ None
+none_from seen [] out differ = refl
+none_from seen (v ∷ vs) out differ = rw (out 0 (omega arith)) (none_from (v ∷ seen) vs
+    (λ j l. or_from _ _ (ne_eqb v (get_or vs j 0) (differ 0 (suc j) (omega arith) (omega arith)))
+    (out (suc j) (omega arith))) (λ i j less l. differ (suc i) (suc j) (omega arith) (omega arith)))
 
 -- A face of four that names a vertex twice.
 pub not_repeat_free : (faces : Faces) (f v : ℕ) → f < length faces → length (get_or faces f []) ≡ 4
     → repeat_in (get_or faces f []) ≡ Some v → ¬ IsRepeatFree faces
-not_repeat_free faces f v l four e free = by_case (repeated_by [] (get_or faces f []) v e)
-  where
-    by_case : ((false ≡ true) × ((j : ℕ) × (j < length (get_or faces f [])) × (get_or (get_or faces f []) j 0 ≡ v)))
-        ⊎ ((i : ℕ) × (j : ℕ) × (i < j) × (j < length (get_or faces f []))
-        × (get_or (get_or faces f []) i 0 ≡ get_or (get_or faces f []) j 0)) → ⊥
-    by_case (inl p) = false≢true p.0
-    by_case (inr p) = free f p.0 p.1 l p.2 (omega (arith, p.3)) p.4
+not_repeat_free faces f v l four e free = none-some v (sym (none_from [] (get_or faces f []) (λ j m. refl)
+    (λ i j less m. free f i j l less (omega arith))) ∙ e)
+
+pub refused_result : {M : Type 0} (faces : Faces) → ((f : ℕ) → f < length faces → length (get_or faces f []) ≡ 4)
+    → (r : Result M MeshFail) → IfErr r (IsRefusal faces) → IfErr r (λ e. e ≢ Memory → ¬ IsManifold faces)
+refused_result faces four (Ok m) r = tt
+refused_result faces four (Err (NotManifold (Repeated f v))) r =
+    λ ne m. not_repeat_free faces f v r.is_face (four f r.is_face) r.repeated m.repeat_free
+refused_result faces four (Err (NotManifold (EdgeTwice from to face1 face2))) r = λ ne m.
+    let twice = r.1.2.first in
+    absurd (omega (arith, m.edges_once r.1.0 r.1.1 (omega arith) twice.is_dart twice.same))
+refused_result faces four (Err (NotManifold (TwoFans v))) r = λ ne m. r.2.two_fans (m.one_fan v)
+refused_result faces four (Err Memory) r = λ ne m. ne refl
+
+-- A refusal for a place is that place.
+pub refused_place : {M : Type 0} (faces : Faces) (p : Place) (r : Result M MeshFail) → IfErr r (IsRefusal faces)
+    → r ≡ Err (NotManifold p) → IsFirstFault faces p
+refused_place faces p (Ok m) refusal e = cc
+refused_place faces p (Err f) refusal e = let same : f ≡ NotManifold p = cc in
+    subst (λ (x : MeshFail). IsRefusal faces x) same refusal

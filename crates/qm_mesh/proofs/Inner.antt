@@ -1,76 +1,56 @@
 -- A vertex is inner where the two edges at each of its corners have two darts.
-use Rattle.std.proofs.Common.{◌≡◌, ◌⊎◌, ℕ, ◌<◌, Bool, true, false, not, ◌||◌, cond, List, length, get_or, Some, None}
-use Rattle.std.proofs.Common.{is_some, sym, subst, ap, ◌∙◌, inl, inr, arith}
+use Rattle.std.proofs.Common.{◌≡◌, ℕ, ◌<◌, Bool, true, false, not, ◌||◌, cond, List, length, get_or, Some, None, eqb}
+use Rattle.std.proofs.Common.{is_some, sym, ◌∙◌, inl, inr, arith, refl}
 use Rattle.std.proofs.lemmas.Bool.{cases_Bool, or_left, or_right, or_from, or_cases, eqb-true, eq-eqb, ne_eqb}
-use Rattle.std.proofs.lemmas.{Bool.not_from_true, Bool.not_from_false, List.Sums.list_all-from_AllPass}
-use Rattle.std.proofs.lemmas.List.{FromFn.length-range_with_len, FromFn.get_or-range_with_len, Folds.list_all_at}
+use Rattle.std.proofs.lemmas.Bool.{not_from_true, not_from_false}
+use Rattle.std.proofs.lemmas.List.FromFn.{length-range_with_len, get_or-range_with_len}
+use Rattle.std.proofs.{lemmas.List.Sums.list_all-from_AllPass, lemmas.List.Folds.list_all_at}
 use Rattle.std.specs.Bool.{MatchBool}
-use Rattle.def_mesh.specs.{Faces.Faces, Manifold.IsManifold, Kinds.is_end, Kinds.is_inner}
-use Rattle.def_mesh.specs.Darts.{darts, all_darts, from_of, to_of, next_of, prev_of, twin_of}
-use Rattle.qm_mesh.specs.Pairs.{ArePartners, IsPaired, IsAlone}
-use Rattle.mesh_laws.proofs.Darts.{next_of_low, prev_of_low, prev_of-next_of, next_of-prev_of}
-use Rattle.mesh_laws.proofs.Fans.{IsFan}
-use Rattle.qm_mesh.proofs.Partners.{partner_is}
+use Rattle.def_mesh.specs.{Faces.Faces, Manifold.HasEdgesOnce, Manifold.IsManifold, Manifold.IsRepeatFree, Kinds.is_end}
+use Rattle.def_mesh.specs.{Kinds.is_inner, Darts.darts, Darts.all_darts, Darts.next_of, Darts.prev_of, Darts.twin_of}
+use Rattle.qm_mesh.specs.Pairs.{ArePartners, AreAllPaired, HasAlone, IsPaired, IsAlone, IsPartner}
+use Rattle.mesh_laws.proofs.Darts.{next_of_low, prev_of_low, prev_of-next_of}
+use Rattle.mesh_laws.proofs.{Fans.IsFan, Chains.before_from, Chains.twin_differs, Twins.twin_found, Twins.twin_none}
 
--- What the table has decides whether there is a twin.
-paired_twin : (faces : Faces) (twins : List ℕ) → IsManifold faces → ArePartners faces twins → (d : ℕ) → d < darts faces
-    → IsPaired twins d → is_some (twin_of faces d) ≡ true
-paired_twin faces twins m p d l ne =
-    ap is_some (partner_is faces m.repeat_free m.edges_once d (get_or twins d 0) l (p.each d l))
-    ∙ ap (λ b. is_some (cond b None (Some (get_or twins d 0)))) (ne_eqb (get_or twins d 0) d ne)
+-- What the table has for a dart.
+pub partner_is : (faces : Faces) → IsRepeatFree faces → HasEdgesOnce faces → (d t : ℕ) → d < darts faces
+    → IsPartner faces d t → twin_of faces d ≡ cond (eqb t d) None (Some t)
+partner_is faces free once d t l (inl is) =
+    rw (ne_eqb t d (twin_differs faces free d t l is)) (twin_found faces once d t is)
+partner_is faces free once d t l (inr none) = rw (eq-eqb t d none.0) (twin_none faces d none.1)
 
-alone_twin : (faces : Faces) (twins : List ℕ) → IsManifold faces → ArePartners faces twins → (d : ℕ) → d < darts faces
-    → IsAlone twins d → is_some (twin_of faces d) ≡ false
-alone_twin faces twins m p d l e =
-    ap is_some (partner_is faces m.repeat_free m.edges_once d (get_or twins d 0) l (p.each d l))
-    ∙ ap (λ b. is_some (cond b None (Some (get_or twins d 0)))) (eq-eqb (get_or twins d 0) d e)
+module _ {faces : Faces} {twins : List ℕ} (m : IsManifold faces) (p : ArePartners faces twins) where
+  twin_by : (d : ℕ) → d < darts faces → twin_of faces d ≡ cond (eqb (get_or twins d 0) d) None (Some (get_or twins d 0))
+  twin_by d l = partner_is faces m.repeat_free m.edges_once d (get_or twins d 0) l (p.each d l)
 
--- All edges at v.
-all_inner : (faces : Faces) (v : ℕ) → ((d : ℕ) → d < darts faces → (from_of faces d ≡ v) ⊎ (to_of faces d ≡ v)
-    → is_some (twin_of faces d) ≡ true) → is_inner faces v ≡ true
-all_inner faces v each = list_all-from_AllPass (λ d. not (is_end faces v d) || is_some (twin_of faces d))
-    (all_darts faces) (λ k x l. by_dart k x (omega (arith, length-range_with_len 0 (darts faces))))
-  where
-    at : (d : ℕ) → d < darts faces → (not (is_end faces v d) || is_some (twin_of faces d)) ≡ true
-    at d l = elim (cases_Bool (is_end faces v d)) [
-      | inl e ↦ or_right _ _ (each d l (elim (or_cases _ _ e) [
-        | inl s ↦ inl (eqb-true _ _ s)
-        | inr s ↦ inr (eqb-true _ _ s)
-      ]))
-      | inr e ↦ or_left _ _ (not_from_false _ e)
-    ]
+  paired : (d : ℕ) → d < darts faces → IsPaired twins d → is_some (twin_of faces d) ≡ true
+  paired d l ne = rw (twin_by d l, ne_eqb (get_or twins d 0) d ne) refl
 
-    by_dart : (k x : ℕ) → k < darts faces → (not (is_end faces v (get_or (all_darts faces) k x))
-        || is_some (twin_of faces (get_or (all_darts faces) k x))) ≡ true
-    by_dart k x l = subst (λ (d : ℕ). (not (is_end faces v d) || is_some (twin_of faces d)) ≡ true)
-        (sym (get_or-range_with_len 0 (darts faces) k x l ∙ omega arith)) (at k l)
+  not_inner : (v d : ℕ) → d < darts faces → is_end faces v d ≡ true → IsAlone twins d → is_inner faces v ≡ false
+  not_inner v d l e alone =
+      let at : get_or (all_darts faces) d 0 ≡ d = get_or-range_with_len 0 (darts faces) d 0 l ∙ omega arith in
+      let none : is_some (twin_of faces d) ≡ false = rw (twin_by d l, eq-eqb (get_or twins d 0) d alone) refl in
+      list_all_at (λ k. not (is_end faces v k) || is_some (twin_of faces k)) (all_darts faces) d 0
+      (omega (arith, length-range_with_len 0 (darts faces))) (rw at (or_from _ _ (not_from_true _ e) none))
 
-not_inner : (faces : Faces) (v d : ℕ) → d < darts faces → is_end faces v d ≡ true → is_some (twin_of faces d) ≡ false
-    → is_inner faces v ≡ false
-not_inner faces v d l e s = list_all_at (λ k. not (is_end faces v k) || is_some (twin_of faces k)) (all_darts faces) d 0
-    (omega (arith, length-range_with_len 0 (darts faces)))
-    (subst (λ (k : ℕ). (not (is_end faces v k) || is_some (twin_of faces k)) ≡ false)
-    (sym (get_or-range_with_len 0 (darts faces) d 0 l ∙ omega arith)) (or_from _ _ (not_from_true _ e) s))
-
-pub inner_is : (faces : Faces) (twins : List ℕ) (v : ℕ) (fan : List ℕ) → IsManifold faces → ArePartners faces twins
-    → IsFan faces v fan → (b : Bool) → MatchBool b ((t : ℕ) → t < length fan → IsPaired twins (get_or fan t 0)
-    × IsPaired twins (prev_of (get_or fan t 0))) ((t : ℕ) × (t < length fan)
-    × (IsAlone twins (get_or fan t 0) ⊎ IsAlone twins (prev_of (get_or fan t 0)))) → b ≡ is_inner faces v
-inner_is faces twins v fan m p h true all = sym (all_inner faces v at)
-  where
-    at : (d : ℕ) → d < darts faces → (from_of faces d ≡ v) ⊎ (to_of faces d ≡ v) → is_some (twin_of faces d) ≡ true
-    at d l (inl e) = let q : (t : ℕ) × (t < length fan) × (get_or fan t 0 ≡ d) = h.place d l e in
-        paired_twin faces twins m p d l (subst (λ (x : ℕ). IsPaired twins x) q.2 (all q.0 q.1).0)
-    at d l (inr e) = let q : (t : ℕ) × (t < length fan) × (get_or fan t 0 ≡ next_of d) =
-        h.place (next_of d) (next_of_low faces d l) e in
-        paired_twin faces twins m p d l (subst (λ (x : ℕ). IsPaired twins x) (ap prev_of q.2 ∙ prev_of-next_of d)
-        (all q.0 q.1).1)
-inner_is faces twins v fan m p h false one = sym (by_edge one.0 one.1 one.2)
-  where
-    by_edge : (t : ℕ) → t < length fan → IsAlone twins (get_or fan t 0) ⊎ IsAlone twins (prev_of (get_or fan t 0))
-        → is_inner faces v ≡ false
-    by_edge t l (inl a) = not_inner faces v (get_or fan t 0) (h.dart t l) (or_left _ _ (eq-eqb _ _ (h.leaves t l)))
-        (alone_twin faces twins m p (get_or fan t 0) (h.dart t l) a)
-    by_edge t l (inr a) = not_inner faces v (prev_of (get_or fan t 0)) (prev_of_low faces _ (h.dart t l))
-        (or_right _ _ (eq-eqb _ _ (ap (from_of faces) (next_of-prev_of (get_or fan t 0)) ∙ h.leaves t l)))
-        (alone_twin faces twins m p (prev_of (get_or fan t 0)) (prev_of_low faces _ (h.dart t l)) a)
+  pub inner_is : (v : ℕ) (fan : List ℕ) → IsFan faces v fan → (b : Bool)
+      → MatchBool b (AreAllPaired twins fan) (HasAlone twins fan) → b ≡ is_inner faces v
+  inner_is v fan h true all =
+      sym (list_all-from_AllPass (λ d. not (is_end faces v d) || is_some (twin_of faces d)) (all_darts faces) (λ k x n.
+      let l : k < darts faces = omega (arith, length-range_with_len 0 (darts faces)) in
+      let at : get_or (all_darts faces) k x ≡ k = get_or-range_with_len 0 (darts faces) k x l ∙ omega arith in
+      rw at (elim (cases_Bool (is_end faces v k)) [
+        | inr e ↦ or_left _ _ (not_from_false _ e)
+        | inl e ↦ or_right (not (is_end faces v k)) (is_some (twin_of faces k)) (elim (or_cases _ _ e) [
+          | inl s ↦ let q = h.place k l (eqb-true _ _ s) in
+              rw (← q.2) (paired (get_or fan q.0 0) (h.dart q.0 q.1) (all q.0 q.1).0)
+          | inr s ↦ let q = h.place (next_of k) (next_of_low faces k l) (eqb-true _ _ s) in
+              rw (← prev_of-next_of k, ← q.2) (paired (prev_of (get_or fan q.0 0))
+              (prev_of_low faces _ (h.dart q.0 q.1)) (all q.0 q.1).1)
+        ])
+      ])))
+  inner_is v fan h false (t, l, one) = sym (elim one [
+    | inl a ↦ not_inner v (get_or fan t 0) (h.dart t l) (or_left _ _ (eq-eqb _ _ (h.leaves t l))) a
+    | inr a ↦ not_inner v (prev_of (get_or fan t 0)) (prev_of_low faces _ (h.dart t l))
+        (or_right _ _ (eq-eqb _ _ (before_from faces (get_or fan t 0) ∙ h.leaves t l))) a
+  ])

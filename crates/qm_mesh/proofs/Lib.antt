@@ -1,9 +1,6 @@
 pub mod Corners
-pub mod FanTables
 pub mod Marks
 pub mod Walks
 pub mod OneFan
 pub mod Vertices
-pub mod Partners
-pub mod Fails
 pub mod Inner

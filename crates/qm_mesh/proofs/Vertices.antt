@@ -1,13 +1,17 @@
 -- The number of vertices, and the length of a fan.
 use Rattle.std.proofs.Common.{◌≡◌, ℕ, zero, suc, ◌+◌, ◌*◌, ◌/◌, ◌%◌, ◌<◌, true, IsTrue, ltb, eqb, List, [], length}
-use Rattle.std.proofs.Common.{get_or, ap, ◌∙◌, sym, subst, refl, arith}
-use Rattle.std.proofs.lemmas.{Bool.ltb-true, Bool.eqb-true, List.Sums.AllPass-from_list_all, List.get_or_default}
-use Rattle.std.proofs.lemmas.List.Folds.{Any-from_list_any}
-use Rattle.std.specs.List.{list_all, list_any, Any}
+use Rattle.std.proofs.Common.{get_or, ap, ◌∙◌, sym, refl, arith, ◌∷◌, ◌++◌, set, inl, inr}
+use Rattle.std.proofs.lemmas.List.{get_or-map, get_or_default, append-nil, length-map, length-set, get_or-set_same}
+use Rattle.std.proofs.lemmas.List.{get_or-set_other}
+use Rattle.std.proofs.lemmas.Bool.{ltb-true, eqb-true, cases_eq, eq-eqb, ne_eqb}
+use Rattle.std.proofs.{lemmas.List.Sums.AllPass-from_list_all, lemmas.List.Folds.Any-from_list_any}
+use Rattle.std.specs.List.{list_all, list_any, Any, filter, range_with_len}
 use Rattle.def_mesh.specs.{Faces.Faces, Faces.corner, Darts.darts, Darts.next_of, Darts.to_of, Darts.from_of}
-use Rattle.def_mesh.specs.Vertices.{vertex_count, faces_at, fan_of, names_below, UsesEach}
-use Rattle.qm_mesh.specs.Tables.{NamesBelow, HasCorners}
+use Rattle.def_mesh.specs.{Vertices.vertex_count, Vertices.fan_of, Vertices.names_below, Vertices.UsesEach}
+use Rattle.qm_mesh.specs.Tables.{NamesBelow, HasCorners, fan_lists, fan_at, HoldDarts, AreFans}
 use Rattle.mesh_laws.proofs.{Darts.next_of_low, Fans.IsFan, Fans.is_fan, Vertices.all_below, Vertices.count_least}
+use Rattle.smallvec.specs.SmallVec.{SmallVec}
+use Rattle.list_laws.proofs.Filters.{filter_range_more}
 
 -- Where a dart ends is a vertex.
 pub end_low : (faces : Faces) (n d : ℕ) → NamesBelow n faces → d < darts faces → to_of faces d < n
@@ -19,12 +23,8 @@ count_is faces zero within used = omega (arith, count_least faces zero within)
 count_is faces (suc m) within used =
     let h : IsFan faces m (fan_of faces m) = is_fan faces m (fan_of faces m) refl in
     let u : 0 < length (fan_of faces m) = used m (omega arith) in
-    omega (
-      arith,
-      count_least faces (suc m) within,
-      all_below faces (get_or (fan_of faces m) 0 0) (h.dart 0 u),
-      h.leaves 0 u,
-    )
+    let low = all_below faces (get_or (fan_of faces m) 0 0) (h.dart 0 u) in
+    omega (arith, count_least faces (suc m) within, h.leaves 0 u)
 
 -- The two conditions of a build, by darts.
 pub below_from : (faces : Faces) → ((f : ℕ) → f < length faces → length (get_or faces f []) ≡ 4) → (n : ℕ)
@@ -37,17 +37,39 @@ below_from faces four n all d l =
 
 pub corners_from : (faces : Faces) → ((f : ℕ) → f < length faces → length (get_or faces f []) ≡ 4) → (n : ℕ)
     → UsesEach n faces → HasCorners n faces
-corners_from faces four n used v l = by_face (Any-from_list_any (λ face. list_any (λ u. eqb u v) face) faces (used v l))
-  where
-    by_corner : (f : ℕ) → f < length faces → Any (λ u. eqb u v ≡ true) (get_or faces f []) → 0 < faces_at faces v
-    by_corner f low (i, u, m, is, t) =
-        let four_long : length (get_or faces f []) ≡ 4 = four f low in
-        let e : from_of faces (4 * f + i) ≡ v = ap (λ g. corner faces g ((4 * f + i) % 4)) (omega arith) ∙ ap
-        (corner faces f) (omega arith) ∙ get_or_default (get_or faces f []) i 0 u (omega arith) ∙ is ∙ eqb-true u v t in
-        let p = (is_fan faces v (fan_of faces v) refl).place (4 * f + i) (omega arith) e in
-        omega (arith, p.1)
+corners_from faces four n used v l =
+    let (f, face, low, is, t) = Any-from_list_any (λ face. list_any (λ u. eqb u v) face) faces (used v l) in
+    let there : list_any (λ u. eqb u v) (get_or faces f []) ≡ true = rw (get_or_default faces f [] face low ∙ is) t in
+    let (i, u, m, in_face, same) = Any-from_list_any (λ u. eqb u v) (get_or faces f []) there in
+    let four_long = four f low in
+    let e : from_of faces (4 * f + i) ≡ v = ap (λ g. corner faces g ((4 * f + i) % 4)) (omega arith) ∙ ap
+    (corner faces f) (omega arith) ∙ get_or_default (get_or faces f []) i 0 u (omega arith) ∙ in_face
+    ∙ eqb-true u v same in
+    let p = (is_fan faces v (fan_of faces v) refl).place (4 * f + i) (omega arith) e in
+    omega (arith, p.1)
 
-    by_face : Any (λ face. list_any (λ u. eqb u v) face ≡ true) faces → 0 < faces_at faces v
-    by_face (f, face, low, is, t) =
-        by_corner f low (Any-from_list_any (λ u. eqb u v) (get_or faces f [])
-        (subst (λ (x : List ℕ). list_any (λ u. eqb u v) x ≡ true) (sym (get_or_default faces f [] face low ∙ is)) t))
+-- A fan that was read from the table.
+pub fan_read : (fans : List (SmallVec ℕ)) (v : ℕ) (fan : SmallVec ℕ) → v < length fans → fan ≡ get_or fans v fan
+    → fan.items ≡ fan_at fans v
+fan_read fans v fan l e =
+    ap (λ (x : SmallVec ℕ). x.items) e ∙ sym (get_or-map (λ (x : SmallVec ℕ). x.items) fans v fan [] l)
+
+-- The fan at v, with k put at the end where k leaves v.
+pub hold_more : (faces : Faces) (n k v : ℕ) (fans more : List (SmallVec ℕ)) → HoldDarts faces n k fans
+    → v ≡ from_of faces k → v < n → fan_lists more ≡ set (fan_lists fans) v (fan_at fans v ++ k ∷ [])
+    → HoldDarts faces n (k + 1) more
+hold_more faces n k v fans more h e low put = record { long = ap length put ∙ length-set _ v _ ∙ h.long; each = each }
+  where
+    each : (u : ℕ) → u < n → fan_at more u ≡ filter (λ d. eqb (from_of faces d) u) (range_with_len 0 (k + 1))
+    each u l = let more = filter_range_more (λ d. eqb (from_of faces d) u) k in elim (cases_eq u v) [
+      | inl s ↦ rw (put, more, eq-eqb (from_of faces k) u (sym e ∙ sym s), s)
+          (get_or-set_same (fan_lists fans) v _ [] (omega (arith, h.long)) ∙ ap (λ xs. xs ++ k ∷ []) (h.each v low))
+      | inr ne ↦ rw (put, more, ne_eqb (from_of faces k) u (λ q. ne (sym q ∙ sym e)))
+          (get_or-set_other (fan_lists fans) v u _ [] ne ∙ h.each u l ∙ sym (append-nil _))
+    ]
+
+-- The fan that was read is that of its vertex.
+pub fan_found : (faces : Faces) (n v : ℕ) (fans : List (SmallVec ℕ)) (fan : SmallVec ℕ) → AreFans faces n fans
+    → v < length fans → fan ≡ get_or fans v fan → fan.items ≡ fan_of faces v
+fan_found faces n v fans fan h l e = fan_read fans v fan l e
+    ∙ h.each v (omega (arith, h.long, length-map fans (λ (f : SmallVec ℕ). f.items)))

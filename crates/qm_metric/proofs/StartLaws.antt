@@ -4,7 +4,7 @@ use Rattle.std.proofs.{Common.mul-one, Common.arith, Math.Nat.mul-le-mul_left, M
 use Rattle.std.proofs.{lemmas.Nat.mul-le, lemmas.Int.ints, lemmas.List.get_or-map, lemmas.List.length-map}
 use Rattle.std.specs.Prelude.{unsigned_abs}
 use Rattle.def_math.specs.Counts.{count_below}
-use Rattle.def_flow.specs.Admissible.{arc_deviation, deviation, entries, IsBalanced}
+use Rattle.def_flow.specs.Admissible.{arc_deviation, deviation, entries}
 use Rattle.def_flow.specs.{Descent.IsStartOf, Network.Network, Network.arc_at, declared.limits.TheConstants.MAX_FLOOR}
 use Rattle.def_flow.specs.{declared.net.Settings.Settings, declared.net.Weight.Weight}
 use Rattle.def_flow.specs.declared.net.Weight.TheVariants.{Plain, Length}
@@ -26,8 +26,7 @@ weight_low : (weight : Weight) (old : ℕ) → weight_of weight old ≤ 1000
 weight_low Plain old = omega arith
 weight_low Length old = omega arith
 
-module _
-    (wish : Wish) (layout : Layout) (settings : Settings) (floors : Lengths) (net : Network)
+module _ (wish : Wish) (layout : Layout) (settings : Settings) (floors : Lengths) (net : Network)
     (is : IsNetWith wish layout settings floors net) (times : ℕ)
     (above : (k : ℕ) → k < length net.arcs → ((arc_at net.arcs k).floor ≤ times) × (times ≤ MAX_FLOOR))
     (unit : settings.p ≡ 1) (parts : settings.q ≡ 1000) (near : AreNear wish layout) where
@@ -43,9 +42,6 @@ module _
   laid : IsSurface (gluing_of layout)
   laid = laid_of layout is.mesh
 
-  len : AreLengths (gluing_of layout) (long_at layout.arcs)
-  len = lengths_of layout is.mesh
-
   entry : (a : ℕ) → a < length layout.arcs → entries xs a ≡ pos (times * x a)
   entry a low = ap pos (get_or-map (λ (run : Path). times * length run.darts) layout.arcs a
       (record { first = 0; last = 0; darts = [] }) 0 low)
@@ -53,75 +49,67 @@ module _
   -- Opposite sides are equal.
   along : (p : ℕ) (s : Way) → p < l.patches → sum_along l (entries xs) p s ≡ pos (times * size l x p s)
   along p s low =
-      total_below_same (λ k. entries xs (l.use_at p s k).arc) (λ k. pos (times * x (l.use_at p s k).arc))
-      (l.many p s)
+      total_below_same (λ k. entries xs (l.use_at p s k).arc) (λ k. pos (times * x (l.use_at p s k).arc)) (l.many p s)
       (λ k less. entry (l.use_at p s k).arc (laid.paved.arc_low (record { patch = p; side = s; at = k })
       (record { patch_low = low; low = less })))
       ∙ sym (count_below_total (λ k. times * x (l.use_at p s k).arc) (l.many p s))
       ∙ ap pos (count_below_times times (λ k. x (l.use_at p s k).arc) (l.many p s))
 
-  balanced : IsBalanced net.arcs (entries xs)
-  balanced = (balance_law l (long_at layout.arcs) (wish layout) settings floors net laid is.is
-      (entries xs)).1 (record {
-        across = λ p low. along p south low ∙ (ap (λ n. pos (times * n)) (sym (len.across p low))
-            ∙ sym (along p north low));
-        upright = λ p low. along p east low ∙ (ap (λ n. pos (times * n)) (len.upright p low) ∙ sym (along p west low));
-      })
-
   arc_low : (k : ℕ) → k < length net.arcs → k < length layout.arcs
   arc_low k low = omega (arith, low, is.is.long)
-
-  -- No length is below the floor of its arc.
-  tall : (k : ℕ) → k < length net.arcs → pos (arc_at net.arcs k).floor ≤ℤ entries xs k
-  tall k low =
-      let some : times * 1 ≤ times * x k = mul-le-mul_left times (len.some k (arc_low k low)) in
-      rw (entry k (arc_low k low)) (omega (arith, ints, some, mul-one times, (above k low).0))
 
   -- How far an arc is from its wish.
   far : (k : ℕ) → k < length net.arcs → arc_deviation net (arc_at net.arcs k) (entries xs k)
       ≤ 1000 * (3000 * x k + wish layout k)
   far k low =
-      let inner : k < length layout.arcs = arc_low k low in
+      let inner = arc_low k low in
       let same : arc_deviation net (arc_at net.arcs k) (entries xs k) ≡ weight_of settings.weight (x k) * unsigned_abs
       (pos 1000 *ℤ pos (times * x k) -ℤ pos (1 * wish layout k)) =
       (λ i. is.is.weights k inner i * unsigned_abs (pos ((is.is.q ∙ parts) i) *ℤ entry k inner i -ℤ pos
       ((is.is.p ∙ unit) i * is.is.olds k inner i))) in
       let high : times * x k ≤ 3 * x k = mul-le-mul_right (x k) (above k low).1 in
-      let few : unsigned_abs (pos 1000 *ℤ pos (times * x k) -ℤ pos (1 * wish layout k))
-      ≤ 3000 * x k + wish layout k = omega (arith, ints, high) in
-      let both = mul-le (weight_of settings.weight (x k))
-      (unsigned_abs (pos 1000 *ℤ pos (times * x k) -ℤ pos (1 * wish layout k)))
-      1000 (3000 * x k + wish layout k) (weight_low settings.weight (x k)) few in
-      omega (arith, same, both)
+      let off = unsigned_abs (pos 1000 *ℤ pos (times * x k) -ℤ pos (1 * wish layout k)) in
+      let few : off ≤ 3000 * x k + wish layout k = omega (arith, ints, high) in
+      let product = mul-le (weight_of settings.weight (x k)) off 1000 (3000 * x k + wish layout k)
+      (weight_low settings.weight (x k)) few in
+      omega (arith, same)
 
   all_far : deviation net (entries xs) ≤ 1000 * (3000 * 2 ^ 23 + MAX_TARGETS)
   all_far =
+      let n = length net.arcs in
       let each = count_below_le (λ k. arc_deviation net (arc_at net.arcs k) (entries xs k))
-      (λ k. 1000 * (3000 * x k + wish layout k)) (length net.arcs) far in
-      let heavy = count_below_times 1000 (λ k. 3000 * x k + wish layout k) (length net.arcs) in
-      let sum = count_below_sum (λ k. 3000 * x k) (wish layout) (length net.arcs) in
-      let times = count_below_times 3000 x (length net.arcs) in
-      let lengths : count_below x (length net.arcs) ≡ count_below x (length layout.arcs) =
-      ap (count_below x) is.is.long in
-      let wishes : count_below (wish layout) (length net.arcs) ≡ wish_sum wish layout =
-      ap (count_below (wish layout)) is.is.long in
-      omega (arith, each, heavy, sum, times, lengths, wishes, near, lengths_few layout is.mesh, is.mesh.mesh.few)
-
-  close : (k : ℕ) → k < length net.arcs → net.p * (arc_at net.arcs k).old + deviation net (entries xs) ≤ 10 ^ 12 * net.q
-  close k low =
-      let inner : k < length layout.arcs = arc_low k low in
-      let wanted : net.p * (arc_at net.arcs k).old ≡ 1 * wish layout k =
-      (λ i. (is.is.p ∙ unit) i * is.is.olds k inner i) in
-      let part : wish layout k
-      ≤ wish_sum wish layout = omega (arith, part_low (wish layout) k (length layout.arcs) inner) in
-      omega (arith, wanted, part, near, all_far, is.is.q, parts)
+      (λ k. 1000 * (3000 * x k + wish layout k)) n far in
+      let heavy = count_below_times 1000 (λ k. 3000 * x k + wish layout k) n in
+      let sum = count_below_sum (λ k. 3000 * x k) (wish layout) n in
+      let lengths = ap (count_below x) is.is.long in
+      let wishes = ap (count_below (wish layout)) is.is.long in
+      omega (arith, each, heavy, sum, count_below_times 3000 x n, near, lengths_few layout is.mesh, is.mesh.mesh.few)
 
   pub start_at : IsStartOf net xs
-  start_at = record {
-    count = length-map layout.arcs (λ (run : Path). times * length run.darts) ∙ sym is.is.long;
-    admissible = record { high = tall; balanced = balanced };
-    near = close;
-  }
+  start_at =
+      let len = lengths_of layout is.mesh in
+      let balanced = balance_law l x (wish layout) settings floors net laid is.is (entries xs) in
+      record {
+        count = length-map layout.arcs (λ (run : Path). times * length run.darts) ∙ sym is.is.long;
+        admissible = record {
+          -- No length is below the floor of its arc.
+          high = λ k low. let some = mul-le-mul_left times (len.some k (arc_low k low)) in
+              rw (entry k (arc_low k low)) (omega (arith, ints, some, mul-one times, (above k low).0));
+          balanced = balanced.1 (record {
+            across = λ p low.
+                along p south low ∙ ap (λ n. pos (times * n)) (sym (len.across p low)) ∙ sym (along p north low);
+            upright = λ p low.
+                along p east low ∙ ap (λ n. pos (times * n)) (len.upright p low) ∙ sym (along p west low);
+          });
+        };
+        near = λ k low.
+            let inner = arc_low k low in
+            let wanted : net.p * (arc_at net.arcs k).old ≡ 1 * wish layout k =
+            (λ i. (is.is.p ∙ unit) i * is.is.olds k inner i) in
+            let part : wish layout k ≤ wish_sum wish layout =
+            omega (arith, part_low (wish layout) k (length layout.arcs) inner) in
+            omega (arith, wanted, part, near, all_far, is.is.q, parts);
+      }
 
 pub start_law : StartLaw
 start_law wish layout settings net is =

@@ -1,19 +1,17 @@
 -- The layouts of bytes that are read.
-use Rattle.std.proofs.Common.{◌≡◌, Bool, List, Option, sym, subst, ◌∙◌, refl, Ok, Some, None, ◌≤◌}
-use Rattle.def_cut.specs.{FullCut.IsFullCut, Traced.traced_marks}
+use Rattle.std.proofs.Common.{◌≡◌, sym, ◌∙◌, refl, Ok, Some, None, ◌≤◌}
+use Rattle.def_cut.specs.FullCut.{IsFullCut}
 use Rattle.def_feature.specs.Marked.{marked_cut}
 use Rattle.def_io.specs.Bytes.{Bytes}
 use Rattle.def_certtext.specs.CertLines.{used}
-use Rattle.def_layout.specs.{FaceLayouts.IsCutLayout, Layouts.gluing_of, Lengths.AreLengths}
+use Rattle.def_layout.specs.{Layouts.gluing_of, Lengths.AreLengths}
 use Rattle.def_layoutnet.specs.MeshLayouts.{IsSomeLayout}
-use Rattle.def_remesh.specs.{LayoutLaws.HasOneLayout, NewPoints.lengths_in, Tasks.Task}
-use Rattle.def_run.specs.{Map.asks_of, Mesh.IsMeshText, Remesh.WritesFinished, declared.command.Command.Command}
+use Rattle.def_remesh.specs.{NewPoints.lengths_in, Tasks.Task}
 use Rattle.def_run.specs.declared.command.Command.TheVariants.{Coarse, Crease, Fit, Remesh, Size}
+use Rattle.def_run.specs.{Map.asks_of, Mesh.IsMeshText, Remesh.WritesFinished, declared.command.Command.Command}
 use Rattle.remesh_laws.proofs.Certified.{used_lengths}
-use Rattle.def_mesh.specs.{Faces.Faces, Meshes.IsMesh}
-use Rattle.def_patches.specs.{Chosen.AreKeptMarks, Laws.IsOneCut}
-use Rattle.def_patches.specs.declared.Patches.{Patches, TheVariants.Merged, TheVariants.Traced}
-use Rattle.def_readlaws.specs.ReadLayouts.{HasOneChosen, OneChosenLaw, OneTracedLaw, TaskLayoutLaw}
+use Rattle.def_patches.specs.declared.Patches.TheVariants.{Merged, Traced}
+use Rattle.def_readlaws.specs.ReadLayouts.{OneChosenLaw, OneTracedLaw, TaskLayoutLaw}
 use Rattle.def_text.specs.FaceSet.{FaceSet}
 use Rattle.existence_laws.proofs.Layouts.{layout_law, traced_layout_law}
 use Rattle.patch_laws.proofs.Chosen.{chosen_cut_law, one_cut_law}
@@ -25,40 +23,30 @@ one_soup : (bytes : Bytes) (soup other : FaceSet) → IsMeshText bytes soup → 
 one_soup bytes soup other is also = let same : Ok other ≡ Ok soup = sym also.said ∙ is.said in cc same
 
 pub one_traced_law : OneTracedLaw
-one_traced_law bytes has = record {
-  layout = one.layout;
-  traced = record { soup = has.soup; mesh = has.mesh; cut = one.laid };
-  full = (graph_law has.soup.faces has.mesh.manifold).1;
-  alone = λ other also. one.alone other (rw (← one_soup bytes has.soup also.soup has.mesh also.mesh) also.cut);
-}
-  where
-    one : HasOneLayout has.soup.faces (traced_marks has.soup.faces)
-    one = traced_layout_law has.soup.faces (mesh_text_law bytes has.soup has.mesh).1
-
--- A mesh has one layout for each chosen cut.
-one_chosen : (faces : Faces) (kept : Option (List Bool)) (patches : Patches) → IsMesh faces → AreKeptMarks faces kept
-    → HasOneChosen faces kept patches
-one_chosen faces kept patches mesh marks = record {
-  layout = one.layout;
-  cut = cut.cut;
-  chosen = cut.chosen;
-  full = full;
-  laid = one.laid;
-  alone = λ other laid. one.alone other (rw (← cut.only laid.0 laid.1) laid.2);
-}
-  where
-    cut : IsOneCut faces kept patches
-    cut = one_cut_law faces kept patches mesh.manifold marks
-
-    full : IsFullCut faces cut.cut
-    full = chosen_cut_law faces kept patches cut.cut mesh.manifold marks cut.chosen
-
-    one : HasOneLayout faces cut.cut
-    one = layout_law faces cut.cut mesh full
+one_traced_law bytes has =
+    let one = traced_layout_law has.soup.faces (mesh_text_law bytes has.soup has.mesh).1 in
+    record {
+      layout = one.layout;
+      traced = record { soup = has.soup; mesh = has.mesh; cut = one.laid };
+      full = (graph_law has.soup.faces has.mesh.manifold).1;
+      alone = λ other also. one.alone other (rw (← one_soup bytes has.soup also.soup has.mesh also.mesh) also.cut);
+    }
 
 pub one_chosen_law : OneChosenLaw
-one_chosen_law fit bytes soup asides is said = one_chosen soup.faces asides.kept fit.patches
-    (mesh_text_law bytes soup is).1 (asides_in_law fit bytes soup asides is said)
+one_chosen_law fit bytes soup asides is said =
+    let mesh = (mesh_text_law bytes soup is).1 in
+    let marks = asides_in_law fit bytes soup asides is said in
+    let cut = one_cut_law soup.faces asides.kept fit.patches mesh.manifold marks in
+    let full = chosen_cut_law soup.faces asides.kept fit.patches cut.cut mesh.manifold marks cut.chosen in
+    let one = layout_law soup.faces cut.cut mesh full in
+    record {
+      layout = one.layout;
+      cut = cut.cut;
+      chosen = cut.chosen;
+      full = full;
+      laid = one.laid;
+      alone = λ other laid. one.alone other (rw (← cut.only laid.0 laid.1) laid.2);
+    }
 
 -- The cut that a task asks for is full.
 full_task : (command : Command) (bytes : Bytes) (soup : FaceSet) (task : Task) → IsMeshText bytes soup

@@ -1,6 +1,5 @@
 pub mod Accepted
 mod SaidLines
-mod SaidTexts
 pub mod Soups
 pub mod MarksRead
 pub mod LayoutsRead

@@ -23,12 +23,13 @@ use Rattle.qm_obj.proofs.LawText.{decimal_word, is_tame, IsLine, IsWord, line_te
 use Rattle.qm_obj.proofs.{LawText.micro_word, LawText.no_continuation, ListLemmas.passes_at, SoupLemmas.are_below}
 use Rattle.remesh_laws.proofs.{Asides.canonical_ends, Asides.ends_lines, Asides.lines_are, Joined.lines_append}
 use Rattle.remesh_laws.proofs.MarkedLines.{chain_line, chain_tame, chains_inside}
-use Rattle.read_laws.proofs.{SaidChains.chain_said_law, SaidChains.line_is, SaidChains.none_passes, Soups.all_weaker}
+use Rattle.read_laws.proofs.{SaidChains.chain_said_law, SaidChains.line_is, Soups.all_weaker}
+use Rattle.qm_dec.proofs.Texts.{none_first}
 
 -- Tame bytes have no comment.
 tame_whole : (line : Bytes) → list_all is_tame line ≡ true → before_first is_hash line ≡ line
 tame_whole line tame = take_all _ _
-    (none_passes is_hash line (all_weaker is_tame (λ b. not (is_hash b)) no_hash line tame))
+    (omega (arith, none_first is_hash line (all_weaker is_tame (λ b. not (is_hash b)) no_hash line tame)))
   where
     no_hash : (b : ℕ) → is_tame b ≡ true → not (is_hash b) ≡ true
     no_hash b is = (and_parts (not (eqb b 35)) (not (eqb b 92)) (and_parts (not (eqb b 10) && not (eqb b 13))
@@ -46,10 +47,8 @@ logical_lone : (number : ℕ) (lines : Lines) → ((k : ℕ) → k < length line
     → logical_lines number lines ≡ lone_lines number lines
 logical_lone number [] whole = refl
 logical_lone number (line ∷ lines) whole =
-    let stays : continues line ≡ false = whole 0 (omega arith) in
-    let again : logical_lines (number + 1) lines ≡ lone_lines (number + 1) lines =
-    logical_lone (number + 1) lines (λ k low. whole (suc k) (omega (arith, low))) in
-    logical_step number line lines ∙ rw stays (rw again refl)
+    let again = logical_lone (number + 1) lines (λ k low. whole (suc k) (omega (arith, low))) in
+    logical_step number line lines ∙ rw (whole 0 (omega arith)) (rw again refl)
 
 -- A line of its own that is no `l` line.
 record IsOther (line : Bytes) : Type 0 where
@@ -87,8 +86,7 @@ module _ (soup : FaceSet) (all : ℕ) where
         ++ flat_map (line_fails soup) rest) off ∙ gives.fails;
     along = λ d.
         ap (λ t. runs_along soup.faces (cond t (named_chain soup.names p.all p.before (corners_of p.line)) []) d
-        || list_any (λ chain. runs_along soup.faces chain d) (map (line_chain soup) rest)) off
-        ∙ gives.along d;
+        || list_any (λ chain. runs_along soup.faces chain d) (map (line_chain soup) rest)) off ∙ gives.along d;
   }
 
   pass : (chains : List (List ℕ)) (lines rest : Lines) → ((k : ℕ) → k < length lines → IsOther (get_or lines k []))
@@ -104,130 +102,85 @@ module _ (soup : FaceSet) (all : ℕ) where
       → Gives soup (placed_lines all before (lone_lines n (map chain_line chains ++ rest))) chains
   say [] rest names few many each gives before n = gives before n
   say (chain ∷ chains) rest names few many each gives before n =
-      more _ (each 0 (omega arith)) refl (tame_whole (chain_line chain) (chain_tame chain))
-      (say chains rest names few many (λ k low. each (suc k) (omega (arith, low))) gives _ (n + 1))
-    where
-      more : (p : Placed) {others : List Placed} → IsChainOf soup chain → p.all ≡ all → p.line.text ≡ chain_line chain
-          → Gives soup others chains → Gives soup (p ∷ others) (chain ∷ chains)
-      more p {others} is same text behind =
-          let said : (line_fails soup p ≡ []) × (line_chain soup p ≡ chain) = chain_said_law soup chain p names few
-          (omega (arith, many, same)) (text ∙ sym (line_is chain)) is.long is.low is.edges in
-          record {
-            fails = ap (λ fs. fs ++ flat_map (line_fails soup) others) said.0 ∙ behind.fails;
-            along = λ d i. runs_along soup.faces (said.1 i) d || behind.along d i;
-          }
+      let line = lone n (chain_line chain) in
+      let p : Placed = record { line = line; all = all; before = before } in
+      let is = each 0 (omega arith) in
+      let said = chain_said_law soup chain p names few many (tame_whole (chain_line chain) (chain_tame chain)
+      ∙ sym (line_is chain)) is.long is.low is.edges in
+      let behind = say chains rest names few many (λ k low. each (suc k) (omega (arith, low))) gives
+      (before + vertex_lines_in line) (n + 1) in
+      record {
+        fails = ap (λ fs. fs ++ flat_map (line_fails soup) (placed_lines all (before + vertex_lines_in line)
+            (lone_lines (n + 1) (map chain_line chains ++ rest)))) said.0 ∙ behind.fails;
+        along = λ d i. runs_along soup.faces (said.1 i) d || behind.along d i;
+      }
 
 -- There are as many `v` lines as positions, or more.
 count_more : (m : ℕ) (lines rest : Lines) → ((n : ℕ) → m ≤ count_by is_vertex_line (lone_lines n rest)) → (n : ℕ)
     → m ≤ count_by is_vertex_line (lone_lines n (lines ++ rest))
 count_more m [] rest many n = many n
 count_more m (line ∷ lines) rest many n =
-    let one : count_by is_vertex_line (lone_lines n (line ∷ (lines ++ rest))) ≡ vertex_lines_in (lone n line) + count_by
-    is_vertex_line (lone_lines (n + 1) (lines ++ rest)) =
-    sum_by-cons (λ l. cond (is_vertex_line l) 1 0) (lone n line) (lone_lines (n + 1) (lines ++ rest)) in
+    let one = sum_by-cons (λ l. cond (is_vertex_line l) 1 0) (lone n line) (lone_lines (n + 1) (lines ++ rest)) in
     omega (arith, one, count_more m lines rest many (n + 1))
 
 count_positions : (ps : Positions) (rest : Lines) (n : ℕ) → list_all is_position ps ≡ true
     → length ps ≤ count_by is_vertex_line (lone_lines n (map position_line ps ++ rest))
 count_positions [] rest n near = omega arith
 count_positions (p ∷ ps) rest n near =
-    let parts : (is_position p ≡ true) × (list_all is_position ps ≡ true) = and_parts _ _ near in
+    let parts = and_parts (is_position p) (list_all is_position ps) near in
     let one : begins_with 118 (words (before_first is_hash (position_line p))) ≡ true =
     ap (λ (t : Bytes). begins_with 118 (words t)) (tame_whole (position_line p) (position_line_is p parts.0).tame)
     ∙ ap (begins_with 118) (line_words 118 (map micro_text p) refl (position_words p parts.0)) in
     let counted : vertex_lines_in (lone n (position_line p)) ≡ 1 = ap (λ t. cond t 1 0) one in
-    let all : count_by is_vertex_line (lone_lines n (position_line p ∷ (map position_line ps ++ rest)))
-    ≡ vertex_lines_in (lone n (position_line p)) + count_by is_vertex_line
-    (lone_lines (n + 1) (map position_line ps ++ rest)) = sum_by-cons (λ l. cond (is_vertex_line l) 1 0)
-    (lone n (position_line p)) (lone_lines (n + 1) (map position_line ps ++ rest)) in
+    let all = sum_by-cons (λ l. cond (is_vertex_line l) 1 0) (lone n (position_line p))
+    (lone_lines (n + 1) (map position_line ps ++ rest)) in
     omega (arith, all, counted, count_positions ps rest (n + 1) parts.1)
 
-module _ (front behind : Bytes) (soup : FaceSet) (chains : List (List ℕ)) (before : AreHashLines front)
-    (after : AreHashLines behind) (fine : IsWritableSoup soup) (names : soup.names ≡ numbers_to (length soup.pos))
-    (each : (k : ℕ) → k < length chains → IsChainOf soup (get_or chains k [])) where
-  abbrev chain_lines : Lines
-  chain_lines = map chain_line chains
-
-  abbrev all_lines : Lines
-  all_lines = lines_of front ++ (canonical_lines soup ++ (chain_lines ++ lines_of behind))
-
-  position_is : (k : ℕ) → k < length soup.pos → is_position (get_or soup.pos k []) ≡ true
-  position_is k low = passes_at is_position soup.pos k [] fine.positions low
-
-  face_below : (k : ℕ) → k < length soup.faces → are_below (length soup.pos) (get_or soup.faces k []) ≡ true
-  face_below k low = passes_at (are_below (length soup.pos)) soup.faces k [] fine.soup.in_range low
-
-  face_is : (k : ℕ) → k < length soup.faces → IsLine (face_line (get_or soup.faces k []))
-  face_is k low = face_line_is (length soup.pos) (get_or soup.faces k []) fine.few_vertices
-      (passes_at is_quad soup.faces k [] fine.quads low) (face_below k low)
-
-  face_words : (face : List ℕ) → are_below (length soup.pos) face ≡ true → (k : ℕ) → k < length (map vertex_word face)
-      → IsWord (get_or (map vertex_word face) k [])
-  face_words face below = each_map IsWord vertex_word face 0 [] (λ k low. decimal_word (get_or face k 0 + 1)
-      (omega (
-        arith,
-        fine.few_vertices,
-        ltb-true _ _ (passes_at (λ v. ltb v (length soup.pos)) face k 0 below low),
-      )))
-
-  canonical_other : (k : ℕ) → k < length (canonical_lines soup) → IsOther (get_or (canonical_lines soup) k [])
-  canonical_other = each_both IsOther (map position_line soup.pos) (map face_line soup.faces) []
-      (each_map IsOther position_line soup.pos [] [] (λ k low. letter_other 118 (map micro_text (get_or soup.pos k []))
-      refl refl (position_line_is (get_or soup.pos k []) (position_is k low))
-      (position_words (get_or soup.pos k []) (position_is k low))))
-      (each_map IsOther face_line soup.faces [] [] (λ k low. letter_other 102 (map vertex_word (get_or soup.faces k []))
-      refl refl (face_is k low) (face_words (get_or soup.faces k []) (face_below k low))))
-
-  hashes : (text : Bytes) → AreHashLines text → (k : ℕ) → k < length (lines_of text)
-      → IsOther (get_or (lines_of text) k [])
-  hashes text is k low = hash_other (get_or (lines_of text) k []) (passes_at is_hash_line (lines_of text) k [] is.hashes
-      low)
-
-  lines : lines_of (front ++ (canonical_text soup ++ (flat_map chain_text chains ++ behind))) ≡ all_lines
-  lines =
-      let same : flat_map chain_text chains ≡ flat_map (λ l. l ++ 10 ∷ []) chain_lines =
-      sym (flat_map-map (λ l. l ++ 10 ∷ []) chain_line chains) in
-      lines_append front _ before.ended
-      ∙ ap (λ ls. lines_of front ++ ls)
-      (lines_append (canonical_text soup) _ (canonical_ends soup)
-      ∙ (λ i. (ap lines_of (lines_text soup) ∙ lines_split (canonical_lines soup) (lines_are soup fine)) i
-      ++ (lines_append (flat_map chain_text chains) behind (ap ends_line same ∙ ends_lines chain_lines)
-      ∙ ap (λ ls. ls ++ lines_of behind) (ap lines_of same ∙ lines_back chain_lines (chains_inside chains))) i))
-
-  abbrev IsWhole : (line : Bytes) → Type 0
-  IsWhole line = continues line ≡ false
-
-  none_joined : (k : ℕ) → k < length all_lines → IsWhole (get_or all_lines k [])
-  none_joined = each_both IsWhole (lines_of front) _ [] (λ k low. (hashes front before k low).whole)
-      (each_both IsWhole (canonical_lines soup) _ [] (λ k low. (canonical_other k low).whole)
-      (each_both IsWhole chain_lines (lines_of behind) [] (each_map IsWhole chain_line chains [] []
-      (λ k low. no_continuation (chain_line (get_or chains k [])) (chain_tame (get_or chains k []))))
-      (λ k low. (hashes behind after k low).whole)))
-
-  many : (n : ℕ) → length soup.pos ≤ count_by is_vertex_line (lone_lines n all_lines)
-  many = count_more (length soup.pos) (lines_of front) _ (λ n. rw (append_assoc (map position_line soup.pos)
-      (map face_line soup.faces) (chain_lines ++ lines_of behind)) (count_positions soup.pos _ n fine.positions))
-
-  -- The number of its `v` lines.
-  abbrev all : ℕ
-  all = count_by is_vertex_line (lone_lines 1 all_lines)
-
-  gives : Gives soup (text_lines (lone_lines 1 all_lines)) chains
-  gives =
-      pass soup all chains (lines_of front) _ (hashes front before)
-      (pass soup all chains (canonical_lines soup) _ canonical_other
-      (say soup all chains (lines_of behind) names fine.few_vertices (many 1) each (λ b n.
-      subst (λ (ls : Lines). Gives soup (placed_lines all b (lone_lines n ls)) []) (append-nil (lines_of behind))
-      (pass soup all [] (lines_of behind) [] (hashes behind after)
-      (λ c m. record { fails = refl; along = λ d. refl }) b n)))) 0 1
-
-  pub marks_again : marks_in (front ++ (canonical_text soup ++ (flat_map chain_text chains ++ behind))) soup
-      ≡ Ok (marks_along soup.faces chains)
-  marks_again = ap (λ ls. marks_of soup (text_lines (logical_lines 1 ls))) lines
-      ∙ (ap (λ ls. marks_of soup (text_lines ls)) (logical_lone 1 all_lines none_joined)
-      ∙ (ap (λ fs. first_fail fs (marks_along soup.faces (map (line_chain soup) (text_lines (lone_lines 1 all_lines)))))
-      gives.fails ∙ (λ i. Ok (map (λ d. is_some (twin_of soup.faces d) && gives.along d i) (all_darts soup.faces)))))
+abbrev IsWhole : (line : Bytes) → Type 0
+IsWhole line = continues line ≡ false
 
 pub marks_again_law : MarksAgainLaw
 marks_again_law front behind soup chains before after fine names each =
-    marks_again front behind soup chains before after fine names each
+    let n = length soup.pos in
+    let canonical = canonical_lines soup in
+    let said = map chain_line chains in
+    let all_lines = lines_of front ++ (canonical ++ (said ++ lines_of behind)) in
+    let all = count_by is_vertex_line (lone_lines 1 all_lines) in
+    let hashes = λ (text : Bytes) (is : AreHashLines text) (k : ℕ) (low : k < length (lines_of text)).
+    hash_other (get_or (lines_of text) k []) (passes_at is_hash_line (lines_of text) k [] is.hashes low) in
+    let others : (k : ℕ) → k < length canonical → IsOther (get_or canonical k []) =
+    each_both IsOther (map position_line soup.pos) (map face_line soup.faces) []
+    (each_map IsOther position_line soup.pos [] [] (λ k low.
+    let is = passes_at is_position soup.pos k [] fine.positions low in
+    letter_other 118 (map micro_text (get_or soup.pos k [])) refl refl (position_line_is (get_or soup.pos k []) is)
+    (position_words (get_or soup.pos k []) is))) (each_map IsOther face_line soup.faces [] [] (λ k low.
+    let face = get_or soup.faces k [] in
+    let below = passes_at (are_below n) soup.faces k [] fine.soup.in_range low in
+    letter_other 102 (map vertex_word face) refl refl
+    (face_line_is n face fine.few_vertices (passes_at is_quad soup.faces k [] fine.quads low) below)
+    (each_map IsWord vertex_word face 0 [] (λ k low.
+    let less = ltb-true (get_or face k 0) n (passes_at (λ v. ltb v n) face k 0 below low) in
+    decimal_word (get_or face k 0 + 1) (omega (arith, fine.few_vertices, less)))))) in
+    let same = sym (flat_map-map (λ l. l ++ 10 ∷ []) chain_line chains) in
+    let lines : lines_of (front ++ (canonical_text soup ++ (flat_map chain_text chains ++ behind))) ≡ all_lines =
+    lines_append front _ before.ended ∙ ap (λ ls. lines_of front ++ ls)
+    (lines_append (canonical_text soup) _ (canonical_ends soup)
+    ∙ (λ i. (ap lines_of (lines_text soup) ∙ lines_split canonical (lines_are soup fine)) i
+    ++ (lines_append (flat_map chain_text chains) behind (ap ends_line same ∙ ends_lines said)
+    ∙ ap (λ ls. ls ++ lines_of behind) (ap lines_of same ∙ lines_back said (chains_inside chains))) i)) in
+    let whole = logical_lone 1 all_lines (each_both IsWhole (lines_of front) _ []
+    (λ k low. (hashes front before k low).whole) (each_both IsWhole canonical _ [] (λ k low. (others k low).whole)
+    (each_both IsWhole said (lines_of behind) [] (each_map IsWhole chain_line chains [] []
+    (λ k low. no_continuation (chain_line (get_or chains k [])) (chain_tame (get_or chains k []))))
+    (λ k low. (hashes behind after k low).whole)))) in
+    let many = count_more n (lines_of front) (canonical ++ (said ++ lines_of behind)) (λ k. rw (append_assoc
+    (map position_line soup.pos) (map face_line soup.faces) (said ++ lines_of behind))
+    (count_positions soup.pos _ k fine.positions)) 1 in
+    let gives = pass soup all chains (lines_of front) _ (hashes front before) (pass soup all chains canonical _ others
+    (say soup all chains (lines_of behind) names fine.few_vertices many each (λ b m.
+    subst (λ (ls : Lines). Gives soup (placed_lines all b (lone_lines m ls)) []) (append-nil (lines_of behind))
+    (pass soup all [] (lines_of behind) [] (hashes behind after)
+    (λ c m. record { fails = refl; along = λ d. refl }) b m)))) 0 1 in
+    ap (λ ls. marks_of soup (text_lines (logical_lines 1 ls))) lines ∙ (ap (λ ls. marks_of soup (text_lines ls)) whole
+    ∙ (ap (λ fs. first_fail fs (marks_along soup.faces (map (line_chain soup) (text_lines (lone_lines 1 all_lines)))))
+    gives.fails ∙ (λ i. Ok (map (λ d. is_some (twin_of soup.faces d) && gives.along d i) (all_darts soup.faces)))))

@@ -43,20 +43,17 @@ twins_along faces d e is chain = λ i. list_any (λ k. between (link_at chain k)
 -- The marks along chains are those of inner edges, equal at twins.
 pub chain_marks : (faces : Faces) (chains : List (List ℕ)) → IsManifold faces
     → AreMarks faces (marks_along faces chains)
-chain_marks faces chains m = record {
-  long = length-map (all_darts faces) (is_along_chains faces chains) ∙ length-range_with_len 0 (darts faces);
-  alike = λ d e low twin. mark_along faces chains e (twin_is faces d e twin).0
-      ∙ (alike d e low twin (twin_is faces d e twin) ∙ sym (mark_along faces chains d low));
-  inner = λ d low none. mark_along faces chains d low
-      ∙ ap (λ (o : Option ℕ). is_some o && list_any (λ chain. runs_along faces chain d) chains) none;
-}
-  where
-    alike : (d e : ℕ) → d < darts faces → twin_of faces d ≡ Some e → IsTwin faces d e → is_along_chains faces chains e
-        ≡ is_along_chains faces chains d
-    alike d e low twin is = ap (λ (o : Option ℕ). is_some o && list_any (λ chain. runs_along faces chain e) chains)
-        (twin_found faces m.edges_once e d (low, sym is.2, sym is.1))
-        ∙ ((λ i. list_any (λ chain. twins_along faces d e is chain i) chains)
-        ∙ sym (ap (λ (o : Option ℕ). is_some o && list_any (λ chain. runs_along faces chain d) chains) twin))
+chain_marks faces chains m =
+    let along = λ (d : ℕ) (o : Option ℕ). is_some o && list_any (λ chain. runs_along faces chain d) chains in
+    record {
+      long = length-map (all_darts faces) (is_along_chains faces chains) ∙ length-range_with_len 0 (darts faces);
+      alike = λ d e low twin.
+          let is = twin_is faces d e twin in
+          mark_along faces chains e is.0 ∙ (ap (along e) (twin_found faces m.edges_once e d (low, sym is.2, sym is.1))
+          ∙ ((λ i. list_any (λ chain. twins_along faces d e is chain i) chains)
+          ∙ (sym (ap (along d) twin) ∙ sym (mark_along faces chains d low))));
+      inner = λ d low none. mark_along faces chains d low ∙ ap (along d) none;
+    }
 
 -- Marks that no line refuses are those along the chains.
 passed : (fails : List MarkFail) (along marks : List Bool) → first_fail fails along ≡ Ok marks → along ≡ marks
@@ -73,10 +70,9 @@ marks_in_law bytes soup marks is said =
 -- What is kept where both are read.
 kept_of : (kept : Result (Option (List Bool)) MarkFail) (wishes : Result (List ℕ) MarkFail) (asides : Asides)
     → asides_by kept wishes ≡ Ok asides → kept ≡ Ok asides.kept
-kept_of (Err fail) wishes asides said = cc said
-kept_of (Ok kept) (Err fail) asides said = cc said
 kept_of (Ok kept) (Ok wishes) asides said = let same : record { kept = kept; wishes = wishes } ≡ asides = cc said in
     ap (λ (a : Asides). Ok a.kept) same
+kept_of _ _ asides said = cc said
 
 kept_marks : (keep : Keep) (bytes : Bytes) (soup : FaceSet) (kept : Option (List Bool)) → IsMeshText bytes soup
     → kept_in keep bytes soup ≡ Ok kept → AreKeptMarks soup.faces kept

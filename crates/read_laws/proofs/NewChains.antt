@@ -1,28 +1,27 @@
 -- The chains of the arcs of a new mesh are chains of its edges, and name each edge once.
-use Rattle.std.proofs.Common.{◌≡◌, ◌⊎◌, ◌+◌, ◌-◌}
-use Rattle.std.proofs.Common.{◌<◌, ◌&&◌, ℕ, Bool, true, false, eqb, length, map, inl, inr, sym, ap, subst, ◌∙◌, arith}
+use Rattle.std.proofs.Common.{◌≡◌, ◌⊎◌, ◌+◌, ◌-◌, ◌<◌, ◌&&◌, ℕ, Bool, true, false, eqb, length, map, inl, inr, sym, ap}
+use Rattle.std.proofs.Common.{subst, ◌∙◌, arith}
 use Rattle.std.proofs.lemmas.Bool.{and_from, and_parts, eq-eqb, eqb-true, or_cases, or_left, or_right}
-use Rattle.std.proofs.lemmas.List.Folds.{list_any_at}
 use Rattle.std.proofs.lemmas.List.FromFn.{get_or-map-range_with_len, get_or-range_with_len, length-map-range_with_len}
-use Rattle.std.proofs.lemmas.List.{FromFn.length-range_with_len, Sums.list_all-from_AllPass}
+use Rattle.std.proofs.lemmas.List.FromFn.{length-range_with_len}
+use Rattle.std.proofs.{lemmas.List.Folds.list_any_at, lemmas.List.Sums.list_all-from_AllPass}
 use Rattle.std.specs.List.{range_with_len}
 use Rattle.def_certtext.specs.CertLines.{used}
-use Rattle.def_layout.specs.{Arcs.long_at, Cells.CellDart, Cells.IsDart, Fans.HasFans, Gluings.Gluing}
 use Rattle.def_layout.specs.Layouts.{gluing_of, Layout, vertex_at}
-use Rattle.def_layout.specs.{Lengths.AreLengths, Lengths.Lengths, Surfaces.IsSurface}
+use Rattle.def_layout.specs.{Arcs.long_at, Gluings.Gluing, Lengths.AreLengths, Lengths.Lengths, Surfaces.IsSurface}
 use Rattle.def_layoutnet.specs.MeshLayouts.{IsSomeLayout}
 use Rattle.def_marks.specs.Chains.{is_chain, is_edge, link_at, runs_between, step_places}
 use Rattle.def_marks.specs.MarkedText.{arc_chain}
-use Rattle.def_mesh.specs.{Darts.darts, Darts.from_of, Darts.to_of, Faces.Faces, Manifold.IsManifold}
+use Rattle.def_mesh.specs.{Darts.darts, Darts.from_of, Darts.to_of, Faces.Faces}
 use Rattle.def_readlaws.specs.ReadChains.{AreNewChains, FinishedChainsLaw}
 use Rattle.def_remesh.specs.NewPoints.{lengths_in}
 use Rattle.def_written.specs.Edges.{Edge, IsEdge, IsUndoubled, on_arc}
-use Rattle.def_written.specs.{NewFaces.new_faces, Numbers.vertex_number, Points.arc_point, Points.IsPoint}
+use Rattle.def_written.specs.{NewFaces.new_faces, Numbers.vertex_number, Points.arc_point}
 use Rattle.embedding_laws.proofs.MeshLayouts.{laid_of, lies}
 use Rattle.written_laws.proofs.Courses.{course, course_from, course_of, course_to, end_at, start_at}
-use Rattle.written_laws.proofs.{EdgeDarts.edge_dart, EdgeDarts.edge_points, NewDarts.dart_low}
-use Rattle.written_laws.proofs.{NewDarts.dart_number, NewDarts.number_from, NewDarts.number_to, Numbers.number_same}
-use Rattle.written_laws.proofs.{Shape.laid_law, Shape.new_manifold_law, Simple.IsSimple, Undoubled.simple_from}
+use Rattle.written_laws.proofs.NewDarts.{dart_low, dart_number, number_from, number_to}
+use Rattle.written_laws.proofs.{EdgeDarts.edge_dart, EdgeDarts.edge_points, Numbers.number_same, Shape.laid_law}
+use Rattle.written_laws.proofs.{Shape.new_manifold_law, Undoubled.simple_from}
 use Rattle.read_laws.proofs.{LayoutsRead.finished_layout, LayoutsRead.finished_lengths, MarksRead.chain_marks}
 
 -- The ends of a dart that runs between two vertices.
@@ -30,12 +29,11 @@ abbrev HasEnds : (faces : Faces) (u v d : ℕ) → Type 0
 HasEnds faces u v d = ((from_of faces d ≡ u) × (to_of faces d ≡ v)) ⊎ ((from_of faces d ≡ v) × (to_of faces d ≡ u))
 
 ends_of : (faces : Faces) (u v d : ℕ) → runs_between faces u v d ≡ true → HasEnds faces u v d
-ends_of faces u v d runs = by_way (or_cases _ _ runs)
-  where
-    by_way : ((eqb (from_of faces d) u && eqb (to_of faces d) v) ≡ true)
-        ⊎ ((eqb (from_of faces d) v && eqb (to_of faces d) u) ≡ true) → HasEnds faces u v d
-    by_way (inl both) = inl (eqb-true _ _ (and_parts _ _ both).0, eqb-true _ _ (and_parts _ _ both).1)
-    by_way (inr both) = inr (eqb-true _ _ (and_parts _ _ both).0, eqb-true _ _ (and_parts _ _ both).1)
+ends_of faces u v d runs = elim (or_cases (eqb (from_of faces d) u && eqb (to_of faces d) v)
+    (eqb (from_of faces d) v && eqb (to_of faces d) u) runs) [
+      | inl both ↦ inl (eqb-true _ _ (and_parts _ _ both).0, eqb-true _ _ (and_parts _ _ both).1)
+      | inr both ↦ inr (eqb-true _ _ (and_parts _ _ both).0, eqb-true _ _ (and_parts _ _ both).1)
+    ]
 
 module _ (l : Gluing) (x : Lengths) where
   -- The number of a point of an arc.
@@ -49,26 +47,25 @@ module _ (l : Gluing) (x : Lengths) where
   module _ (laid : IsSurface l) (len : AreLengths l x) where
     -- Two successive points of an arc are the ends of an edge.
     step_edge : (a k : ℕ) → a < l.arcs → k < x a → is_edge (new_faces l x) (number a k) (number a (k + 1)) ≡ true
-    step_edge a k low less = by_dart (edge_dart l x laid len (on_arc a k) (low, less))
+    step_edge a k low less =
+        let (d, is, same) = edge_dart l x laid len (on_arc a k) (low, less) in
+        let n = dart_number l x d in
+        list_any_at (runs_between (new_faces l x) (number a k) (number a (k + 1)))
+        (range_with_len 0 (darts (new_faces l x))) n 0
+        (omega (arith, length-range_with_len 0 (darts (new_faces l x)), dart_low l x d is))
+        (ap (runs_between (new_faces l x) (number a k) (number a (k + 1)))
+        (get_or-range_with_len 0 (darts (new_faces l x)) n 0 (dart_low l x d is) ∙ omega arith)
+        ∙ by_way n (course_of l x d).ahead (number_from l x d is ∙ ap (vertex_number l x)
+        (course_from l x laid len d is ∙ ap (λ (e : Edge). start_at l x (course e (course_of l x d).ahead)) same))
+        (number_to l x d is ∙ ap (vertex_number l x)
+        (course_to l x laid len d is ∙ ap (λ (e : Edge). end_at l x (course e (course_of l x d).ahead)) same)))
       where
-        by_dart : (d : CellDart) × IsDart l x d × ((course_of l x d).edge ≡ on_arc a k)
-            → is_edge (new_faces l x) (number a k) (number a (k + 1)) ≡ true
-        by_dart (d, is, same) = list_any_at (runs_between (new_faces l x) (number a k) (number a (k + 1)))
-            (range_with_len 0 (darts (new_faces l x))) (dart_number l x d) 0
-            (omega (arith, length-range_with_len 0 (darts (new_faces l x)), dart_low l x d is))
-            (ap (runs_between (new_faces l x) (number a k) (number a (k + 1)))
-            (get_or-range_with_len 0 (darts (new_faces l x)) (dart_number l x d) 0 (dart_low l x d is) ∙ omega arith)
-            ∙ by_way (course_of l x d).ahead (number_from l x d is ∙ ap (vertex_number l x)
-            (course_from l x laid len d is ∙ ap (λ (e : Edge). start_at l x (course e (course_of l x d).ahead)) same))
-            (number_to l x d is ∙ ap (vertex_number l x)
-            (course_to l x laid len d is ∙ ap (λ (e : Edge). end_at l x (course e (course_of l x d).ahead)) same)))
-          where
-            by_way : (b : Bool) → from_of (new_faces l x) (dart_number l x d)
-                ≡ vertex_number l x (start_at l x (course (on_arc a k) b)) → to_of (new_faces l x) (dart_number l x d)
-                ≡ vertex_number l x (end_at l x (course (on_arc a k) b))
-                → runs_between (new_faces l x) (number a k) (number a (k + 1)) (dart_number l x d) ≡ true
-            by_way true from to = or_left _ _ (and_from _ _ (eq-eqb _ _ from) (eq-eqb _ _ to))
-            by_way false from to = or_right _ _ (and_from _ _ (eq-eqb _ _ from) (eq-eqb _ _ to))
+        by_way : (d : ℕ) (b : Bool)
+            → from_of (new_faces l x) d ≡ vertex_number l x (start_at l x (course (on_arc a k) b))
+            → to_of (new_faces l x) d ≡ vertex_number l x (end_at l x (course (on_arc a k) b))
+            → runs_between (new_faces l x) (number a k) (number a (k + 1)) d ≡ true
+        by_way d true from to = or_left _ _ (and_from _ _ (eq-eqb _ _ from) (eq-eqb _ _ to))
+        by_way d false from to = or_right _ _ (and_from _ _ (eq-eqb _ _ from) (eq-eqb _ _ to))
 
     pub chain_is : (a : ℕ) → a < l.arcs → is_chain (new_faces l x) (arc_chain l x a) ≡ true
     chain_is a low = list_all-from_AllPass (λ k. is_edge (new_faces l x) (link_at (arc_chain l x a) k)
@@ -77,70 +74,52 @@ module _ (l : Gluing) (x : Lengths) where
         omega (arith, length-range_with_len 0 (length (arc_chain l x a) - 1)) in
         subst (λ k. is_edge (new_faces l x) (link_at (arc_chain l x a) k) (link_at (arc_chain l x a) (k + 1)) ≡ true)
         (sym (get_or-range_with_len 0 (length (arc_chain l x a) - 1) i other inside ∙ omega arith))
-        (step i (omega (
-          arith,
-          inside,
-          length-map-range_with_len (λ k. number a k) 0 (x a + 1),
-        ))))
-      where
-        step : (k : ℕ) → k < x a
-            → is_edge (new_faces l x) (link_at (arc_chain l x a) k) (link_at (arc_chain l x a) (k + 1)) ≡ true
-        step k less = (λ t. is_edge (new_faces l x) (at_link a k (omega arith) t) (at_link a (k + 1) (omega arith) t))
-            ∙ step_edge a k low less
+        (let less : i < x a = omega (arith, inside, length-map-range_with_len (λ k. number a k) 0 (x a + 1)) in
+        (λ t. is_edge (new_faces l x) (at_link a i (omega arith) t) (at_link a (i + 1) (omega arith) t))
+        ∙ step_edge a i low less))
 
     -- Edges with one pair of vertices are one edge.
     one_edge : IsUndoubled l x → (a k b m d : ℕ) → IsEdge l x (on_arc a k) → IsEdge l x (on_arc b m)
         → runs_between (new_faces l x) (number a k) (number a (k + 1)) d ≡ true
         → runs_between (new_faces l x) (number b m) (number b (m + 1)) d ≡ true → on_arc a k ≡ on_arc b m
     one_edge undoubled a k b m d is also runs and_runs =
-        by_ends (ends_of (new_faces l x) _ _ d runs) (ends_of (new_faces l x) _ _ d and_runs)
-      where
-        simple : IsSimple l x
-        simple = simple_from l x undoubled
-
-        one : IsPoint l x (arc_point l x a k) × IsPoint l x (arc_point l x a (k + 1))
-        one = edge_points l x laid len (on_arc a k) is
-
-        two : IsPoint l x (arc_point l x b m) × IsPoint l x (arc_point l x b (m + 1))
-        two = edge_points l x laid len (on_arc b m) also
-
-        by_ends : HasEnds (new_faces l x) (number a k) (number a (k + 1)) d
-            → HasEnds (new_faces l x) (number b m) (number b (m + 1)) d → on_arc a k ≡ on_arc b m
-        by_ends (inl s) (inl t) = simple.same (on_arc a k) (on_arc b m) is also
-            (number_same l x _ _ one.0 two.0 (sym s.0 ∙ t.0)) (number_same l x _ _ one.1 two.1 (sym s.1 ∙ t.1))
-        by_ends (inl s) (inr t) = simple.crossed (on_arc a k) (on_arc b m) is also
-            (number_same l x _ _ one.0 two.1 (sym s.0 ∙ t.0)) (number_same l x _ _ one.1 two.0 (sym s.1 ∙ t.1))
-        by_ends (inr s) (inl t) = simple.crossed (on_arc a k) (on_arc b m) is also
-            (number_same l x _ _ one.0 two.1 (sym s.1 ∙ t.1)) (number_same l x _ _ one.1 two.0 (sym s.0 ∙ t.0))
-        by_ends (inr s) (inr t) = simple.same (on_arc a k) (on_arc b m) is also
-            (number_same l x _ _ one.0 two.0 (sym s.1 ∙ t.1)) (number_same l x _ _ one.1 two.1 (sym s.0 ∙ t.0))
+        let simple = simple_from l x undoubled in
+        let one = edge_points l x laid len (on_arc a k) is in
+        let two = edge_points l x laid len (on_arc b m) also in
+        let as_one = λ (from : number a k ≡ number b m) (to : number a (k + 1) ≡ number b (m + 1)).
+        simple.same (on_arc a k) (on_arc b m) is also (number_same l x (arc_point l x a k) (arc_point l x b m)
+        one.0 two.0 from) (number_same l x (arc_point l x a (k + 1)) (arc_point l x b (m + 1)) one.1 two.1 to) in
+        let as_crossed = λ (from : number a k ≡ number b (m + 1)) (to : number a (k + 1) ≡ number b m).
+        simple.crossed (on_arc a k) (on_arc b m) is also (number_same l x (arc_point l x a k) (arc_point l x b (m + 1))
+        one.0 two.1 from) (number_same l x (arc_point l x a (k + 1)) (arc_point l x b m) one.1 two.0 to) in
+        let other = ends_of (new_faces l x) (number b m) (number b (m + 1)) d and_runs in
+        elim (ends_of (new_faces l x) (number a k) (number a (k + 1)) d runs) [
+          | inl s ↦ elim other
+              [ inl t ↦ as_one (sym s.0 ∙ t.0) (sym s.1 ∙ t.1) | inr t ↦ as_crossed (sym s.0 ∙ t.0) (sym s.1 ∙ t.1) ]
+          | inr s ↦ elim other
+              [ inl t ↦ as_crossed (sym s.1 ∙ t.1) (sym s.0 ∙ t.0) | inr t ↦ as_one (sym s.1 ∙ t.1) (sym s.0 ∙ t.0) ]
+        ]
 
 new_chains : (layout : Layout) (new : Lengths) → IsSomeLayout layout → AreLengths (gluing_of layout) new
     → IsUndoubled (gluing_of layout) new → AreNewChains layout new
-new_chains layout new is len undoubled = record {
-  chain = λ arc low. chain_is (gluing_of layout) new (laid_of layout is) len arc low;
-  once = λ a k b m d low also less fewer runs and_runs.
-      let same = one_edge (gluing_of layout) new (laid_of layout is) len undoubled a k b m d
-      (low, less) (also, fewer) (along a k d less runs) (along b m d fewer and_runs) in
-      let arcs : a ≡ b = cc same in let places : k ≡ m = cc same in (arcs, places);
-  marked = λ arcs. chain_marks (new_faces (gluing_of layout) new) (map (arc_chain (gluing_of layout) new) arcs)
-      manifold;
-}
-  where
-    manifold : IsManifold (new_faces (gluing_of layout) new)
-    manifold =
-        let surface = laid_law is.faces (gluing_of layout) (long_at layout.arcs) (vertex_at layout) (lies layout is) in
-        new_manifold_law (gluing_of layout) new surface.0 surface.1 len undoubled
-
-    along : (a k d : ℕ) → k < new a
-        → runs_between (new_faces (gluing_of layout) new) (link_at (arc_chain (gluing_of layout) new a) k)
-        (link_at (arc_chain (gluing_of layout) new a) (k + 1)) d ≡ true
-        → runs_between (new_faces (gluing_of layout) new)
-        (vertex_number (gluing_of layout) new (arc_point (gluing_of layout) new a k))
-        (vertex_number (gluing_of layout) new (arc_point (gluing_of layout) new a (k + 1))) d ≡ true
-    along a k d less runs =
-        (λ t. runs_between (new_faces (gluing_of layout) new) (sym (at_link (gluing_of layout) new a k (omega arith)) t)
-        (sym (at_link (gluing_of layout) new a (k + 1) (omega arith)) t) d) ∙ runs
+new_chains layout new is len undoubled =
+    let l = gluing_of layout in
+    let laid = laid_of layout is in
+    let surface = laid_law is.faces l (long_at layout.arcs) (vertex_at layout) (lies layout is) in
+    let along : (a k d : ℕ) → k < new a → runs_between (new_faces l new) (link_at (arc_chain l new a) k)
+    (link_at (arc_chain l new a) (k + 1)) d ≡ true → runs_between (new_faces l new) (number l new a k)
+    (number l new a (k + 1)) d ≡ true = λ a k d less runs.
+    (λ t. runs_between (new_faces l new) (sym (at_link l new a k (omega arith)) t)
+    (sym (at_link l new a (k + 1) (omega arith)) t) d) ∙ runs in
+    record {
+      chain = λ arc low. chain_is l new laid len arc low;
+      once = λ a k b m d low also less fewer runs and_runs.
+          let same = one_edge l new laid len undoubled a k b m d (low, less) (also, fewer) (along a k d less runs)
+          (along b m d fewer and_runs) in
+          let arcs : a ≡ b = cc same in let places : k ≡ m = cc same in (arcs, places);
+      marked = λ arcs. chain_marks (new_faces l new) (map (arc_chain l new) arcs)
+          (new_manifold_law l new surface.0 surface.1 len undoubled);
+    }
 
 pub finished_chains_law : FinishedChainsLaw
 finished_chains_law command bytes text wrote range = new_chains wrote.shown.finished.layout

@@ -1,17 +1,20 @@
 -- What one line says, where it is not refused.
-use Rattle.std.proofs.Common.{◌≡◌, ℕ, ℤ, ◌+◌, ◌^◌, ◌<◌, ◌≤◌, Bool, true, false, cond}
-use Rattle.std.proofs.Common.{not, ◌&&◌, List, [], ◌∷◌, length, take, map, refl, sym, ap, ◌∙◌, arith, ltb, leb, eqb}
-use Rattle.std.proofs.lemmas.Bool.{and_from, eqb-true, false≢true, leb-false, ne_eqb, or_parts, Decides.nat_tests}
-use Rattle.std.proofs.lemmas.List.{length-map}
-use Rattle.std.specs.List.{list_all, list_any}
+use Rattle.std.proofs.Common.{◌≡◌, ℕ, ◌+◌, ◌^◌, ◌≤◌, Bool, true, false, cond, not, ◌&&◌, List, [], ◌∷◌, length, take}
+use Rattle.std.proofs.Common.{map, refl, sym, ap, ◌∙◌, arith, ltb, leb, eqb, ◌++◌, Some, None, inl, inr}
+use Rattle.std.proofs.lemmas.Bool.{and_from, eqb-true, false≢true, leb-false, ne_eqb, or_parts, and_parts, cases_Bool}
+use Rattle.std.proofs.lemmas.List.{length-map, length-append}
+use Rattle.std.proofs.{lemmas.Bool.Decides.nat_tests, lemmas.List.Folds.list_all-append, lemmas.List.Sums.sum_by_push}
+use Rattle.std.specs.List.{list_all, list_any, count_by, flat_map}
 use Rattle.def_text.specs.Corner.{is_out, resolved, used_index}
-use Rattle.def_text.specs.{Decimal.is_far, Decimal.rounded, Laws.is_position, Laws.is_quad, Logical.Logical}
-use Rattle.def_text.specs.Reading.{begins_with, face_reading, is_face_line}
-use Rattle.def_text.specs.Reading.{is_letter, is_position_count, is_vertex_line, reading, vertex_reading, words_reading}
-use Rattle.def_text.specs.{Text.face_in, Text.position_in, Text.refusal_in, Types.Words, Words.words}
-use Rattle.def_text.specs.declared.reading.Reading.{Reading, TheVariants.Passed, TheVariants.Position, TheVariants.Face}
-use Rattle.def_text.specs.declared.{reading.Reading.TheVariants.Refused, refusal.ObjFail.ObjFail}
+use Rattle.def_text.specs.Reading.{begins_with, face_reading, is_face_line, is_letter, is_position_count}
+use Rattle.def_text.specs.Reading.{is_vertex_line, reading, vertex_reading, words_reading}
+use Rattle.def_text.specs.Text.{face_in, position_in, refusal_in, faces, late_in, positions, readings}
+use Rattle.def_text.specs.declared.reading.Reading.TheVariants.{Passed, Position, Face, Refused}
 use Rattle.def_text.specs.declared.refusal.ObjFail.TheVariants.{Limit, NotQuad, Range, Syntax}
+use Rattle.def_text.specs.{Decimal.is_far, Decimal.rounded, Laws.is_position, Laws.is_quad, Logical.Logical}
+use Rattle.def_text.specs.{Types.Words, Words.words, declared.reading.Reading.Reading, declared.refusal.ObjFail.ObjFail}
+use Rattle.qm_obj.specs.Kept.{are_numbers}
+use Rattle.qm_obj.proofs.{ListLemmas.parts_none, SoupLemmas.none_late}
 use Rattle.def_text.specs.declared.refusal.Which.TheVariants as limits
 
 -- What a line says that is not refused, behind so many `v` and `f` lines: its position can be written, its face is a
@@ -19,11 +22,10 @@ use Rattle.def_text.specs.declared.refusal.Which.TheVariants as limits
 pub record IsSaid (vertices faces : ℕ) (line : Logical) (said : Reading) : Type 0 where
   pub vertex : length (position_in said) ≡ cond (is_vertex_line line) 1 0
   pub face : length (face_in said) ≡ cond (is_face_line line) 1 0
-  pub few_vertices : vertices ≤ 2 ^ 21 → vertices + length (position_in said) ≤ 2 ^ 21
-  pub few_faces : faces ≤ 2 ^ 20 → faces + length (face_in said) ≤ 2 ^ 20
-  pub near : list_all is_position (position_in said) ≡ true
-  pub quads : list_all is_quad (face_in said) ≡ true
-  pub positive : list_all (list_all (λ corner. ltb 0 corner)) (face_in said) ≡ true
+  pub few : (vertices ≤ 2 ^ 21 → vertices + length (position_in said) ≤ 2 ^ 21)
+      × (faces ≤ 2 ^ 20 → faces + length (face_in said) ≤ 2 ^ 20)
+  pub fine : (list_all is_position (position_in said) ≡ true) × (list_all is_quad (face_in said) ≡ true)
+      × (list_all (list_all (λ corner. ltb 0 corner)) (face_in said) ≡ true)
 
 -- No word is two letters.
 one_letter : (a b : ℕ) → (a ≡ b → ⊥) → (word : List ℕ) → is_letter a word ≡ true → is_letter b word ≡ false
@@ -39,59 +41,26 @@ positive_all : (vertices : ℕ) (ws : Words) → list_any (λ w. is_out vertices
     → list_all (λ corner. ltb 0 corner) (map (λ w. resolved vertices (used_index w)) ws) ≡ true
 positive_all vertices [] inside = refl
 positive_all vertices (w ∷ ws) inside =
-    let parts : (is_out vertices (used_index w) ≡ false) × (list_any (λ w. is_out vertices (used_index w)) ws ≡ false) =
-    or_parts _ _ inside in
+    let parts = or_parts (is_out vertices (used_index w)) (list_any (λ w. is_out vertices (used_index w)) ws) inside in
     and_from _ _ (positive_at vertices (used_index w) parts.0) (positive_all vertices ws parts.1)
 
 -- Three numbers in range are a position.
 near_of : (ws : Words) → is_position_count (length ws) ≡ true → list_any (λ word. is_far (rounded word)) (take 3 ws)
     ≡ false → is_position (map rounded (take 3 ws)) ≡ true
-near_of [] count near = absurd (false≢true count)
-near_of (a ∷ []) count near = absurd (false≢true count)
-near_of (a ∷ b ∷ []) count near = absurd (false≢true count)
 near_of (a ∷ b ∷ c ∷ ws) count near =
-    let first : (is_far (rounded a) ≡ false) × (list_any (λ word. is_far (rounded word)) (b ∷ c ∷ []) ≡ false) =
-    or_parts _ _ near in
-    let second : (is_far (rounded b) ≡ false) × (list_any (λ word. is_far (rounded word)) (c ∷ []) ≡ false) =
-    or_parts _ _ first.1 in
-    let third : (is_far (rounded c) ≡ false) × (false ≡ false) = or_parts _ _ second.1 in
+    let first = or_parts (is_far (rounded a)) (list_any (λ word. is_far (rounded word)) (b ∷ c ∷ [])) near in
+    let second = or_parts (is_far (rounded b)) (list_any (λ word. is_far (rounded word)) (c ∷ [])) first.1 in
+    let third = or_parts (is_far (rounded c)) false second.1 in
     rw (first.0, second.0, third.0) refl
+near_of _ count near = absurd (false≢true count)
 
 module _ (vertices faces : ℕ) (line : Logical) where
   said_passed : is_vertex_line line ≡ false → is_face_line line ≡ false → IsSaid vertices faces line Passed
   said_passed no_vertex no_face = record {
     vertex = rw no_vertex refl;
     face = rw no_face refl;
-    few_vertices = λ few. omega arith;
-    few_faces = λ few. omega arith;
-    near = refl;
-    quads = refl;
-    positive = refl;
-  }
-
-  said_position : (position : List ℤ) → is_vertex_line line ≡ true → is_face_line line ≡ false → vertices < 2 ^ 21
-      → is_position position ≡ true → IsSaid vertices faces line (Position position)
-  said_position position vertex no_face few near = record {
-    vertex = rw vertex refl;
-    face = rw no_face refl;
-    few_vertices = λ _. omega arith;
-    few_faces = λ few. omega arith;
-    near = and_from _ _ near refl;
-    quads = refl;
-    positive = refl;
-  }
-
-  said_face : (n : ℕ) (corners : List ℕ) → is_vertex_line line ≡ false → is_face_line line ≡ true → faces < 2 ^ 20
-      → is_quad corners ≡ true
-      → list_all (λ corner. ltb 0 corner) corners ≡ true → IsSaid vertices faces line (Face n corners)
-  said_face n corners no_vertex face few quad positive = record {
-    vertex = rw no_vertex refl;
-    face = rw face refl;
-    few_vertices = λ few. omega arith;
-    few_faces = λ _. omega arith;
-    near = refl;
-    quads = and_from _ _ quad refl;
-    positive = and_from _ _ positive refl;
+    few = (λ few. omega arith, λ few. omega arith);
+    fine = (refl, refl, refl);
   }
 
   said_refused : (fail : ObjFail) → refusal_in (Refused fail) ≡ [] → IsSaid vertices faces line (Refused fail)
@@ -103,24 +72,34 @@ module _ (vertices faces : ℕ) (line : Logical) where
   by_vertex : (ws : Words) (many count numbers far : Bool) → leb (2 ^ 21) vertices ≡ many
       → is_position_count (length ws) ≡ count
       → list_any (λ word. is_far (rounded word)) (take 3 ws) ≡ far → is_vertex_line line ≡ true
-      → is_face_line line ≡ false
-      → Says (cond many (Refused (Limit limits.Vertices line.number))
+      → is_face_line line ≡ false → Says (cond many (Refused (Limit limits.Vertices line.number))
       (cond (not (count && numbers)) (Refused (Syntax line.number))
       (cond far (Refused (Range line.number)) (Position (map rounded (take 3 ws))))))
   by_vertex ws false true true false m c f vertex no_face =
-      λ _. said_position (map rounded (take 3 ws)) vertex no_face (leb-false _ _ m) (near_of ws c f)
+      let low = leb-false (2 ^ 21) vertices m in
+      λ _. record {
+        vertex = rw vertex refl;
+        face = rw no_face refl;
+        few = (λ few. omega (arith, low), λ few. omega arith);
+        fine = (and_from _ _ (near_of ws c f) refl, refl, refl);
+      }
   by_vertex ws _ _ _ _ m c f vertex no_face = said_refused _
 
   by_face : (ws : Words) (many words_fit four out : Bool) → leb (2 ^ 20) faces ≡ many → eqb (length ws) 4 ≡ four
       → list_any (λ word. is_out vertices (used_index word)) ws ≡ out → is_vertex_line line ≡ false
       → is_face_line line ≡ true
       → Says (cond many (Refused (Limit limits.Faces line.number)) (cond (not words_fit) (Refused (Syntax line.number))
-      (cond (not four) (Refused (NotQuad line.number (length ws)))
-      (cond out (Refused (Range line.number))
+      (cond (not four) (Refused (NotQuad line.number (length ws))) (cond out (Refused (Range line.number))
       (Face line.number (map (λ word. resolved vertices (used_index word)) ws))))))
   by_face ws false true true false m q o no_vertex face =
-      λ _. said_face line.number (map (λ word. resolved vertices (used_index word)) ws) no_vertex face (leb-false _ _ m)
-      (ap (λ n. eqb n 4) (length-map ws (λ word. resolved vertices (used_index word))) ∙ q) (positive_all vertices ws o)
+      let low = leb-false (2 ^ 20) faces m in
+      let four = ap (λ n. eqb n 4) (length-map ws (λ word. resolved vertices (used_index word))) ∙ q in
+      λ _. record {
+        vertex = rw no_vertex refl;
+        face = rw face refl;
+        few = (λ few. omega arith, λ few. omega (arith, low));
+        fine = (refl, and_from _ _ four refl, and_from _ _ (positive_all vertices ws o) refl);
+      }
   by_face ws _ _ _ _ m q o no_vertex face = said_refused _
 
   by_letter : (word : List ℕ) (ws : Words) (v f : Bool) → words line.text ≡ word ∷ ws → is_letter 118 word ≡ v
@@ -145,3 +124,57 @@ module _ (vertices faces : ℕ) (line : Logical) where
 
   pub is_said : refusal_in (reading vertices faces line) ≡ [] → IsSaid vertices faces line (reading vertices faces line)
   is_said = by_size (ltb 65536 line.size)
+
+-- What lines say behind others: positions that can be written, quads of positive numbers, and no more than the limits.
+pub record AreSaid (vertices corners : ℕ) (said : List Reading) : Type 0 where
+  pub few_vertices : vertices ≤ 2 ^ 21 → vertices + length (positions said) ≤ 2 ^ 21
+  pub few_faces : corners ≤ 2 ^ 20 → corners + length (faces said) ≤ 2 ^ 20
+  pub near : list_all is_position (positions said) ≡ true
+  pub quads : list_all is_quad (faces said) ≡ true
+  pub positive : list_all (list_all (λ corner. ltb 0 corner)) (faces said) ≡ true
+
+pub are_said : (before lines : List Logical) → flat_map refusal_in (readings before lines) ≡ []
+    → AreSaid (count_by is_vertex_line before) (count_by is_face_line before) (readings before lines)
+are_said before [] none = record {
+  few_vertices = λ few. omega arith;
+  few_faces = λ few. omega arith;
+  near = refl;
+  quads = refl;
+  positive = refl;
+}
+are_said before (line ∷ lines) none =
+    let vs = count_by is_vertex_line before in
+    let fs = count_by is_face_line before in
+    let said = reading vs fs line in
+    let more = readings (before ++ line ∷ []) lines in
+    let nones = parts_none (refusal_in said) (flat_map refusal_in more) none in
+    let one = is_said vs fs line nones.0 in
+    let rest = are_said (before ++ line ∷ []) lines nones.1 in
+    let v = sum_by_push (λ l. cond (is_vertex_line l) 1 0) before line in
+    let f = sum_by_push (λ l. cond (is_face_line l) 1 0) before line in
+    let pv = length-append (position_in said) (positions more) in
+    let pf = length-append (face_in said) (faces more) in
+    record {
+      few_vertices = λ few. omega (arith, rest.few_vertices (omega (arith, one.few.0 few, one.vertex, v)));
+      few_faces = λ few. omega (arith, one.face, f, pf, rest.few_faces (omega (arith, one.few.1 few, one.face, f)));
+      near = list_all-append is_position (position_in said) (positions more) ∙ and_from _ _ one.fine.0 rest.near;
+      quads = list_all-append is_quad (face_in said) (faces more) ∙ and_from _ _ one.fine.1 rest.quads;
+      positive = list_all-append (list_all (λ corner. ltb 0 corner)) (face_in said) (faces more)
+          ∙ and_from _ _ one.fine.2 rest.positive;
+    }
+
+-- Positive corners, none of which is late, are numbers of positions.
+pub are_known : (n : ℕ) (said : List Reading) → flat_map (late_in n) said ≡ []
+    → list_all (list_all (λ corner. ltb 0 corner)) (faces said) ≡ true → list_all (are_numbers n) (faces said) ≡ true
+are_known n [] none positive = refl
+are_known n (Face line corners ∷ said) none positive =
+    let parts = and_parts (list_all (λ corner. ltb 0 corner) corners)
+    (list_all (list_all (λ corner. ltb 0 corner)) (faces said)) positive in
+    elim (cases_Bool (list_any (λ corner. ltb n corner) corners)) [
+      | inl on ↦ cc (rw on at none)
+      | inr off ↦
+          let one = and_parts (are_numbers n corners) true (none_late n (corners ∷ []) (line ∷ []) refl
+          (and_from _ _ parts.0 refl) (ap (λ t. cond t (Some line) None) off)) in
+          and_from _ _ one.0 (are_known n said (rw off at none) parts.1)
+    ]
+are_known n (_ ∷ said) none positive = are_known n said none positive

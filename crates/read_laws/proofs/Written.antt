@@ -1,27 +1,25 @@
 -- What is written for bytes that are read: it is accepted behind them, and its vertices lie where they are said to.
 use Rattle.std.specs.Prelude.{codes}
-use Rattle.std.proofs.Common.{◌≡◌, ◌++◌, false, [], None, length, inr, sym, subst, ap, ◌∙◌, arith, refl}
-use Rattle.std.proofs.lemmas.{Bool.false≢true, List.FromFn.get_or-map-range_with_len}
+use Rattle.std.proofs.Common.{◌++◌, false, [], None, length, inr, sym, ap, ◌∙◌, arith, refl}
+use Rattle.std.proofs.{lemmas.Bool.false≢true, lemmas.List.FromFn.get_or-map-range_with_len}
 use Rattle.read_laws.proofs.Accepted.{accepts_law, head_there, last_line, plain_begins, IsHeadTest}
 use Rattle.read_laws.proofs.LayoutsRead.{finished_layout, finished_lengths, task_layout_law}
 use Rattle.read_laws.proofs.Soups.{mesh_text_law}
-use Rattle.def_certtext.specs.CertLines.{alone, Certificates, line_text, used}
-use Rattle.def_certtext.specs.Risings.{third_if}
-use Rattle.def_certtext.specs.declared.{CertLine.CertLine, CertLine.TheVariants.Length, certs.Rising.Rising}
+use Rattle.def_certtext.specs.CertLines.{alone, Certificates, used}
+use Rattle.def_certtext.specs.{Risings.third_if, declared.CertLine.TheVariants.Length, declared.certs.Rising.Rising}
 use Rattle.def_flow.specs.{Admissible.deviation, Admissible.entries, Network.Network, declared.net.Settings.Settings}
 use Rattle.def_io.specs.{Bytes.Bytes, Lines.lines_of}
 use Rattle.def_layout.specs.{Arcs.long_at, Layouts.gluing_of, Layouts.Layout, Layouts.vertex_at}
-use Rattle.def_layout.specs.Lengths.{AreLengths, Lengths}
-use Rattle.def_cut.specs.{FullCut.IsFullCut, Traced.traced_marks}
+use Rattle.def_cut.specs.Traced.{traced_marks}
 use Rattle.def_layoutnet.specs.LayoutNet.{IsNetOf}
 use Rattle.def_readlaws.specs.ReadPairs.{AcceptsTextLaw}
 use Rattle.def_readlaws.specs.ReadSpots.{FinishedSpotsLaw, RefinedSpotsLaw, SpotTextLaw}
+use Rattle.def_remesh.specs.Tasks.{given_floors, old_lengths, remesh_task}
 use Rattle.def_remesh.specs.{Certified.IsShown, Checked.accepted_line, Checked.IsCheckedPair, NewPoints.lengths_in}
 use Rattle.def_remesh.specs.{NewPoints.multiple_of, NewSoup.spaced_place, Remeshed.AreKeptBy, Remeshed.HasLeastLengths}
-use Rattle.def_remesh.specs.{Tasks.given_floors, Tasks.old_lengths, Tasks.remesh_task, Tasks.Task, TextLaws.IsSolid}
-use Rattle.def_run.specs.Check.{head_of}
-use Rattle.def_run.specs.{Checking.begins_fit, Checking.HasFitText, Checking.WritesAccepted, MarkLines.begins_mark}
-use Rattle.def_written.specs.{Laws.LiesInMesh, Numbers.vertices}
+use Rattle.def_run.specs.Checking.{begins_fit, HasFitText, WritesAccepted}
+use Rattle.def_run.specs.{Check.head_of, MarkLines.begins_mark}
+use Rattle.def_written.specs.Numbers.{vertices}
 use Rattle.map_laws.proofs.{Spaced.spacing_is, SpotPlaces.spot_law}
 use Rattle.embedding_laws.proofs.LayoutLies.{embedding_law}
 use Rattle.remesh_laws.proofs.LastLines.{one_last}
@@ -62,30 +60,24 @@ told_pair bytes other pair =
     )
 
 -- No line of a certificate begins as a head line of any command.
-cert_marks : (line : CertLine) → begins_mark (line_text line) ≡ false
-cert_marks (Length n) = refl
-cert_marks _ = refl
-
 mark_test : IsHeadTest begins_mark
-mark_test = record { head = λ settings auto. refl; cert = cert_marks; plain = plain_begins (codes "quadq 1 ") }
+mark_test = record {
+  head = λ settings auto. refl;
+  cert = elim [ Length n ↦ refl | _ ↦ refl ];
+  plain = plain_begins (codes "quadq 1 ");
+}
 
 pub accepts_text_law : AcceptsTextLaw
-accepts_text_law settings auto old text range ends wrote = told_pair (old ++ text) no_fit
-    (accepts_law settings auto old text wrote.soup range wrote.mesh.said ends solid shown)
-  where
-    solid : IsSolid wrote.soup
-    solid = (mesh_text_law old wrote.soup wrote.mesh).0
-
-    shown : IsShown (remesh_task settings auto wrote.soup.faces) wrote.soup text
-    shown = rw (← wrote.asked) wrote.shown
-
+accepts_text_law settings auto old text range ends wrote =
+    let solid = (mesh_text_law old wrote.soup wrote.mesh).0 in
+    let shown : IsShown (remesh_task settings auto wrote.soup.faces) wrote.soup text = rw (← wrote.asked) wrote.shown in
     -- The last head line of all is that of the remesh.
-    no_fit : ¬ HasFitText (old ++ text)
-    no_fit fit =
-        let there = one_last begins_mark (lines_of (old ++ text)) fit.line (length (lines_of old)) fit.divided
-        (last_line settings auto old text wrote.soup range ends solid shown begins_mark mark_test) in
-        false≢true (sym (ap begins_fit (ap (λ n. head_of (old ++ text) n) there
-        ∙ head_there settings auto old text wrote.soup range ends solid shown)) ∙ fit.begins)
+    told_pair (old ++ text) (λ fit.
+    let there = one_last begins_mark (lines_of (old ++ text)) fit.line (length (lines_of old)) fit.divided
+    (last_line settings auto old text wrote.soup range ends solid shown begins_mark mark_test) in
+    false≢true (sym (ap begins_fit (ap (λ n. head_of (old ++ text) n) there
+    ∙ head_there settings auto old text wrote.soup range ends solid shown)) ∙ fit.begins))
+    (accepts_law settings auto old text wrote.soup range wrote.mesh.said ends solid shown)
 
 pub spot_text_law : SpotTextLaw
 spot_text_law bytes soup marks layout shares new is full laid long spaced v low =
@@ -100,25 +92,17 @@ spot_text_law bytes soup marks layout shares new is full laid long spaced v low 
 
 pub refined_spots_law : RefinedSpotsLaw
 refined_spots_law by bytes text some wrote =
-    spot_text_law bytes wrote.soup _ wrote.refined.layout None new wrote.mesh full wrote.refined.cut lengths
-    (even_law (gluing_of wrote.refined.layout) (long_at wrote.refined.layout.arcs) new lies.lengths lengths)
-  where
-    full : IsFullCut wrote.soup.faces (traced_marks wrote.soup.faces)
-    full = (graph_law wrote.soup.faces wrote.mesh.manifold).1
-
-    new : Lengths
-    new = multiple_of by (long_at wrote.refined.layout.arcs)
-
-    lies : LiesInMesh wrote.soup.faces (gluing_of wrote.refined.layout) (long_at wrote.refined.layout.arcs)
-        (vertex_at wrote.refined.layout)
-    lies =
-        let mesh = mesh_text_law bytes wrote.soup wrote.mesh in
-        embedding_law wrote.soup.faces (traced_marks wrote.soup.faces) wrote.refined.layout mesh.1 mesh.2 full
-        wrote.refined.cut
-
-    lengths : AreLengths (gluing_of wrote.refined.layout) new
-    lengths = (multiple_law wrote.soup.faces (gluing_of wrote.refined.layout) (long_at wrote.refined.layout.arcs)
-        (vertex_at wrote.refined.layout) lies by some).0
+    let faces = wrote.soup.faces in
+    let layout = wrote.refined.layout in
+    let l = gluing_of layout in
+    let x = long_at layout.arcs in
+    let full = (graph_law faces wrote.mesh.manifold).1 in
+    let mesh = mesh_text_law bytes wrote.soup wrote.mesh in
+    let lies = embedding_law faces (traced_marks faces) layout mesh.1 mesh.2 full wrote.refined.cut in
+    let new = multiple_of by x in
+    let lengths = (multiple_law faces l x (vertex_at layout) lies by some).0 in
+    spot_text_law bytes wrote.soup _ layout None new wrote.mesh full wrote.refined.cut lengths
+    (even_law l x new lies.lengths lengths)
 
 pub finished_spots_law : FinishedSpotsLaw
 finished_spots_law command bytes text wrote range =

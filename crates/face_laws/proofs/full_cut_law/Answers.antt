@@ -1,5 +1,2 @@
-use Rattle.face_laws.proofs.FullCuts.{full_cut_law}
-use Rattle.face_laws.proofs.full_cut_law.Goals as goal
-
-pub returns : goal.returns
-returns c = full_cut_law
+pub returns : Rattle.face_laws.proofs.full_cut_law.Goals.returns
+returns c = Rattle.face_laws.proofs.FullCuts.full_cut_law

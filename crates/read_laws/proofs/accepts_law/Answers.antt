@@ -1,5 +1,2 @@
-use Rattle.read_laws.proofs.Accepted.{accepts_law}
-use Rattle.read_laws.proofs.accepts_law.Goals as goal
-
-pub returns : goal.returns
-returns c = accepts_law
+pub returns : Rattle.read_laws.proofs.accepts_law.Goals.returns
+returns c = Rattle.read_laws.proofs.Accepted.accepts_law

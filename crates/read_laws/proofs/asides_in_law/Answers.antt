@@ -1,5 +1,2 @@
-use Rattle.read_laws.proofs.MarksRead.{asides_in_law}
-use Rattle.read_laws.proofs.asides_in_law.Goals as goal
-
-pub returns : goal.returns
-returns c = asides_in_law
+pub returns : Rattle.read_laws.proofs.asides_in_law.Goals.returns
+returns c = Rattle.read_laws.proofs.MarksRead.asides_in_law

@@ -1,5 +1,2 @@
-use Rattle.read_laws.proofs.SaidChains.{chain_said_law}
-use Rattle.read_laws.proofs.chain_said_law.Goals as goal
-
-pub returns : goal.returns
-returns c = chain_said_law
+pub returns : Rattle.read_laws.proofs.chain_said_law.Goals.returns
+returns c = Rattle.read_laws.proofs.SaidChains.chain_said_law

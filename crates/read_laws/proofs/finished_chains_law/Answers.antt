@@ -1,5 +1,2 @@
-use Rattle.read_laws.proofs.NewChains.{finished_chains_law}
-use Rattle.read_laws.proofs.finished_chains_law.Goals as goal
-
-pub returns : goal.returns
-returns c = finished_chains_law
+pub returns : Rattle.read_laws.proofs.finished_chains_law.Goals.returns
+returns c = Rattle.read_laws.proofs.NewChains.finished_chains_law

@@ -1,5 +1,2 @@
-use Rattle.read_laws.proofs.FinishedMarks.{finished_marks_law}
-use Rattle.read_laws.proofs.finished_marks_law.Goals as goal
-
-pub returns : goal.returns
-returns c = finished_marks_law
+pub returns : Rattle.read_laws.proofs.finished_marks_law.Goals.returns
+returns c = Rattle.read_laws.proofs.FinishedMarks.finished_marks_law

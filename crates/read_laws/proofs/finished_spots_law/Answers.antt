@@ -1,5 +1,2 @@
-use Rattle.read_laws.proofs.Written.{finished_spots_law}
-use Rattle.read_laws.proofs.finished_spots_law.Goals as goal
-
-pub returns : goal.returns
-returns c = finished_spots_law
+pub returns : Rattle.read_laws.proofs.finished_spots_law.Goals.returns
+returns c = Rattle.read_laws.proofs.Written.finished_spots_law

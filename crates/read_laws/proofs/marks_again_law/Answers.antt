@@ -1,5 +1,2 @@
-use Rattle.read_laws.proofs.MarksAgain.{marks_again_law}
-use Rattle.read_laws.proofs.marks_again_law.Goals as goal
-
-pub returns : goal.returns
-returns c = marks_again_law
+pub returns : Rattle.read_laws.proofs.marks_again_law.Goals.returns
+returns c = Rattle.read_laws.proofs.MarksAgain.marks_again_law

@@ -1,5 +1,2 @@
-use Rattle.read_laws.proofs.Written.{refined_spots_law}
-use Rattle.read_laws.proofs.refined_spots_law.Goals as goal
-
-pub returns : goal.returns
-returns c = refined_spots_law
+pub returns : Rattle.read_laws.proofs.refined_spots_law.Goals.returns
+returns c = Rattle.read_laws.proofs.Written.refined_spots_law

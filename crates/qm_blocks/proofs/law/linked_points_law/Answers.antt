@@ -1,5 +1,2 @@
-use Rattle.qm_blocks.proofs.Joined.{linked_points}
-use Rattle.qm_blocks.proofs.law.linked_points_law.Goals as goal
-
-pub returns : goal.returns
-returns c = linked_points
+pub returns : Rattle.qm_blocks.proofs.law.linked_points_law.Goals.returns
+returns c = Rattle.qm_blocks.proofs.Joined.linked_points

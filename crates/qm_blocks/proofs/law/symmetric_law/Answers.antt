@@ -1,5 +1,2 @@
-use Rattle.qm_blocks.proofs.Slots.{symmetric}
-use Rattle.qm_blocks.proofs.law.symmetric_law.Goals as goal
-
-pub returns : goal.returns
-returns c = symmetric
+pub returns : Rattle.qm_blocks.proofs.law.symmetric_law.Goals.returns
+returns c = Rattle.qm_blocks.proofs.Mutual.symmetric

@@ -23,9 +23,7 @@ returns c =
     let x = lengths_in c.args.spotted.now.measured.x.now in
     let table = c.args.spotted.now.table.now in
     let empty : c.new-links.result.items ≡ [] = search rules in
-    c.in_ok-push_links-4.ensures
-    ∙ (λ i. (c.in_ok-push_links-3.ensures
-    ∙ (λ j. (c.in_ok-push_links-2.ensures
+    c.in_ok-push_links-4.ensures ∙ (λ i. (c.in_ok-push_links-3.ensures ∙ (λ j. (c.in_ok-push_links-2.ensures
     ∙ (λ k. (c.in_ok-push_links.ensures
     ∙ (λ h. empty h ++ links_on table x (c.name_of.ensures south refl h) (c.side_of.ensures h))) k
     ++ links_on table x (c.name_of-2.ensures east refl k) (c.side_of-2.ensures k))) j

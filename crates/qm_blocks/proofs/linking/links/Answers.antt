@@ -21,22 +21,14 @@ loop-block-preserved c =
     let f = block_links (layout_of c.args.t.now) (lengths_in c.args.x.now) c.deref.result.now in
     list_more f c.loop-block.block [] _ _ c.in_ok-here.here.items c.loop-block.invariant
     (ap (map (λ block. block.items)) c.in_ok-push.ensures.items
-    ∙ map-append (λ block. block.items) c.loop-block.links.items (c.in_ok-here.here ∷ []))
-    c.in_ok-here.ensures
+    ∙ map-append (λ block. block.items) c.loop-block.links.items (c.in_ok-here.here ∷ [])) c.in_ok-here.ensures
 
 pub returns : goal.returns
 returns c =
     let t = layout_of c.args.t.now in
     let x = lengths_in c.args.x.now in
     let table = c.deref.result.now in
-    let all : c.loop-block.block ≡ length t.patches = omega (
-      arith,
-      c.loop-block-test.false,
-      c.loop-block.auto.block-end,
-      c.len-block-end.ensures,
-      c.args.t.now.patches.ok.0,
-      length-map c.args.t.now.patches.items rectangle,
-    ) in
+    let all : c.loop-block.block ≡ length t.patches = omega (arith, length-map c.args.t.now.patches.items rectangle) in
     subst (AreLinks (gluing_of t) x)
     (sym (c.loop-block.invariant ∙ ap (λ n. map (block_links t x table) (range_with_len 0 n)) all))
     (are_links t x table (laid_of t c.requires.layout)

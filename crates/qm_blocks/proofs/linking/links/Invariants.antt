@@ -3,9 +3,8 @@ use Rattle.std.specs.List.{range_with_len}
 use Rattle.def_layout.specs.Layouts.{layout_of}
 use Rattle.def_remesh.specs.NewPoints.{lengths_in}
 use Rattle.qm_blocks.specs.Spots.{block_links}
-use Rattle.qm_blocks.proofs.linking.links.Given as goal
 
-abbrev pub invariant-loop-block : goal.invariant-loop-block
+abbrev pub invariant-loop-block : Rattle.qm_blocks.proofs.linking.links.Given.invariant-loop-block
 invariant-loop-block l =
     map (λ block. block.items) l.links.items ≡ map (block_links (layout_of l.t) (lengths_in l.x) l.spotted.1.0.now)
     (range_with_len 0 l.block)

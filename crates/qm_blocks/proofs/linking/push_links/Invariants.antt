@@ -3,9 +3,8 @@ use Rattle.std.specs.List.{range_with_len}
 use Rattle.def_math.specs.Counts.{count_below}
 use Rattle.def_remesh.specs.{NewPoints.lengths_in, Numberings.sizes_on}
 use Rattle.qm_blocks.specs.Spots.{link_on}
-use Rattle.qm_blocks.proofs.linking.push_links.Given as goal
 
-abbrev pub invariant-loop-used : goal.invariant-loop-used
+abbrev pub invariant-loop-used : Rattle.qm_blocks.proofs.linking.push_links.Given.invariant-loop-used
 invariant-loop-used l = record {
   pushed : l.links.items ≡ l.initial.links.items
       ++ map (link_on l.spotted.table.now (lengths_in l.spotted.measured.x.now) l.name l.side)

@@ -14,12 +14,9 @@ put_uses-requires-clause-summed c =
     (c.side_of.ensures ∙ ap (arcs_on (layout_of c.args.measured.now.t.now) c.args.block) (sym way.1))
 
 pub overflow_cast-block : goal.overflow_cast-block
-overflow_cast-block c = omega (
-  arith,
-  c.requires.block,
-  length-map c.args.measured.now.t.now.patches.items rectangle,
-  c.args.measured.now.measured.few,
-)
+overflow_cast-block c =
+    let long = length-map c.args.measured.now.t.now.patches.items rectangle in
+    omega (arith, c.requires.block, c.args.measured.now.measured.few)
 
 pub returns : goal.returns
 returns c way is =

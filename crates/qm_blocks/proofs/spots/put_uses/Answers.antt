@@ -7,39 +7,26 @@ use Rattle.qm_blocks.proofs.Tables.{key_low, use_more}
 use Rattle.qm_blocks.proofs.spots.put_uses.Goals as goal
 
 pub overflow_add-from : goal.overflow_add-from
-overflow_add-from c = omega (
-  arith,
-  term_room (sizes_on c.args.side.now (lengths_in c.args.x.now)) (length c.args.side.now) c.loop-used.used-index
-      c.loop-used-test.true,
-  read_size c.args.side.now (lengths_in c.args.x.now) c.loop-used.used-index c.loop-used-test.true,
-  c.loop-used.invariant.from,
-  c.requires.summed.small,
-)
+overflow_add-from c =
+    let room = term_room (sizes_on c.args.side.now (lengths_in c.args.x.now)) (length c.args.side.now)
+    c.loop-used.used-index c.loop-used-test.true in
+    let size = read_size c.args.side.now (lengths_in c.args.x.now) c.loop-used.used-index c.loop-used-test.true in
+    omega (arith, c.loop-used.invariant.from, c.requires.summed.small)
 
 pub loop-used-preserved : goal.loop-used-preserved
 loop-used-preserved c =
     let side = c.args.side.now in
+    let x = lengths_in c.args.x.now in
     let k = c.loop-used.used-index in
-    let key : key_of (used_at side k) ≡ c.key_of.result = ap key_of (read_used side k c.loop-used-test.true)
-    ∙ sym c.key_of.ensures in
+    let key = ap key_of (read_used side k c.loop-used-test.true) ∙ sym c.key_of.ensures in
     let arc = c.requires.summed.low k (record { arc = 0; forward = true }) c.loop-used-test.true in
     let low : key_of (used_at side k) < length c.loop-used.table =
-    omega (
-      arith,
-      key_low (used_at side k) (length c.args.x.now) arc,
-      c.loop-used.invariant.uses.long,
-      c.requires.long,
-    ) in
+    omega (arith, key_low (used_at side k) (length c.args.x.now) arc) in
     record {
       uses = subst (HasUses side (lengths_in c.args.x.now) c.args.block c.args.name (k + 1) c.args.table.now)
           (λ i. slice_set c.loop-used.table (key i)
           (Some (c.args.block, c.args.name, (sym c.loop-used.invariant.from) i)))
           (use_more side (lengths_in c.args.x.now) c.args.block c.args.name k c.args.table.now c.loop-used.table low
           c.loop-used.invariant.uses);
-      from = omega (
-        arith,
-        count_step (sizes_on side (lengths_in c.args.x.now)) k,
-        read_size side (lengths_in c.args.x.now) k c.loop-used-test.true,
-        c.loop-used.invariant.from,
-      );
+      from = omega (arith, count_step (sizes_on side x) k, read_size side x k c.loop-used-test.true);
     }

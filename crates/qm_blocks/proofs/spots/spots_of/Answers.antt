@@ -1,12 +1,10 @@
-use Rattle.std.proofs.Common.{◌+◌, sym, ◌∙◌, subst}
-use Rattle.std.proofs.lemmas.List.{with_items_is}
+use Rattle.std.proofs.{Common.◌+◌, Common.sym, Common.◌∙◌, Common.subst, lemmas.List.with_items_is}
 use Rattle.def_layout.specs.Layouts.{gluing_of, layout_of}
 use Rattle.def_remesh.specs.NewPoints.{lengths_in}
 use Rattle.qm_blocks.specs.Spots.{HasSpots, HavePut, IsBefore, IsOnBlock}
 use Rattle.qm_blocks.proofs.Tables.{spots_more}
-use Rattle.qm_blocks.proofs.spots.spots_of.Goals as goal
 
-pub loop-block-preserved : goal.loop-block-preserved
+pub loop-block-preserved : Rattle.qm_blocks.proofs.spots.spots_of.Goals.loop-block-preserved
 loop-block-preserved c =
     let l = gluing_of (layout_of c.args.measured.now.t.now) in
     let x = lengths_in c.args.measured.now.x.now in

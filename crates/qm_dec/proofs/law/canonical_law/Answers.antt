@@ -1,5 +1,2 @@
-use Rattle.qm_dec.proofs.ReadBack.{canonical_law}
-use Rattle.qm_dec.proofs.law.canonical_law.Goals as goal
-
-pub returns : goal.returns
-returns c = canonical_law
+pub returns : Rattle.qm_dec.proofs.law.canonical_law.Goals.returns
+returns c = Rattle.qm_dec.proofs.ReadBack.canonical_law

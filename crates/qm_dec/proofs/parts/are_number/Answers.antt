@@ -1,5 +1,6 @@
-use Rattle.std.proofs.{Common.sym, Common.◌∙◌, Common.arith, lemmas.Bool.and_left}
-use Rattle.qm_dec.proofs.Forms.{number_both, both_of_first}
+use Rattle.std.proofs.{Common.sym, Common.◌∙◌, Common.arith, Common.ap, Common.◌&&◌, lemmas.Bool.and_left}
+use Rattle.std.specs.{Char.is_ascii_digit, List.list_all}
+use Rattle.qm_dec.proofs.Digits.{number_both}
 use Rattle.qm_dec.proofs.parts.are_number.Goals as goal
 
 pub returns-then-not-are_digits : goal.returns-then-not-are_digits
@@ -10,4 +11,4 @@ returns-then-not-are_digits c =
 pub returns : goal.returns
 returns c =
     c.are_digits-2.ensures ∙ sym (number_both c.args.whole.now c.args.fraction.now (omega arith)
-    ∙ both_of_first _ _ (sym c.if-not-are_digits.ensures))
+    ∙ ap (λ t. t && list_all is_ascii_digit c.args.fraction.now) (sym c.if-not-are_digits.ensures))

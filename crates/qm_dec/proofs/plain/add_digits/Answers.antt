@@ -5,19 +5,16 @@ use Rattle.qm_dec.proofs.{Digits.after_more, FewDigits.after_room}
 use Rattle.qm_dec.proofs.plain.add_digits.Goals as goal
 
 pub overflow_mul-value : goal.overflow_mul-value
-overflow_mul-value c = omega (
-  arith,
-  after_room c.args.value c.args.text.now c.loop-i.i c.requires.small c.loop-i.invariant.digits c.requires.short,
-  c.loop-i.invariant.so_far,
-)
+overflow_mul-value c =
+    let room = after_room c.args.value c.args.text.now c.loop-i.i c.requires.small c.loop-i.invariant.digits
+    c.requires.short in
+    omega (arith, c.loop-i.invariant.so_far)
 
 pub overflow_add-value : goal.overflow_add-value
-overflow_add-value c = omega (
-  arith,
-  after_room c.args.value c.args.text.now c.loop-i.i c.requires.small c.loop-i.invariant.digits c.requires.short,
-  c.loop-i.invariant.so_far,
-  c.from.ensures,
-)
+overflow_add-value c =
+    let room = after_room c.args.value c.args.text.now c.loop-i.i c.requires.small c.loop-i.invariant.digits
+    c.requires.short in
+    omega (arith, c.loop-i.invariant.so_far, c.from.ensures)
 
 pub loop-i-preserved : goal.loop-i-preserved
 loop-i-preserved c = record {

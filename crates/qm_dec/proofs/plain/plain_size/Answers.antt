@@ -1,8 +1,6 @@
-use Rattle.std.proofs.{Common.arith, Common.sym, lemmas.Bool.eqb-true}
-use Rattle.qm_dec.specs.Sizes.{IsSize}
-use Rattle.qm_dec.proofs.Forms.{some_from}
-use Rattle.qm_dec.proofs.FewDigits.{IsPrefix, prefix_is, prefix_small, pointed_size, some_weaker, whole_size}
-use Rattle.qm_dec.proofs.plain.plain_size.Goals.{After-add_digits-whole}
+use Rattle.std.proofs.{Common.arith, Common.sym, lemmas.Bool.eqb-true, lemmas.Option.IfSome_then}
+use Rattle.qm_dec.proofs.FewDigits.{IsPrefix, prefix_is, prefix_small, pointed_size, whole_size}
+use Rattle.qm_dec.proofs.{Digits.some_from, plain.plain_size.Goals.After-add_digits-whole}
 use Rattle.qm_dec.proofs.plain.plain_size.Goals as goal
 
 -- What the digits say with which the body begins.
@@ -23,8 +21,7 @@ returns-then-is_empty c = whole_size c.args.word.now c.requires c.unsigned-body.
     (eqb-true _ _ (sym c.if-is_empty.ensures))
 
 pub returns : goal.returns
-returns c = some_weaker c.with_fraction.result _ (IsSize c.args.word.now)
+returns c = IfSome_then c.with_fraction.result c.with_fraction.ensures
     (λ size good. pointed_size c.args.word.now size c.requires c.unsigned-body.ensures
     (whole (goal.at.returns c).After-add_digits-whole) c.if-count-eq0.false c.split_at.ensures.back
     (some_from c.split_at.result.1.now c.if-is_empty.ensures) c.if-rest-ne-POINT.false c.behind_first.ensures good)
-    c.with_fraction.ensures

@@ -1,8 +1,14 @@
-use Rattle.std.proofs.Common.{ap, min, ◌+◌, ◌*◌, ◌^◌, ◌∙◌}
-use Rattle.qm_dec.proofs.Digits.{step_more}
-use Rattle.qm_dec.proofs.size.number_after.Goals as goal
+use Rattle.std.proofs.Common.{ap, get_or, sym, take, ◌+◌, ◌-◌, ◌*◌, ◌∙◌, arith}
+use Rattle.std.specs.Int.Digits.{number_from_digits_after}
+use Rattle.qm_dec.specs.Sizes.{clamped}
+use Rattle.qm_dec.proofs.{Digits.clamp_linear, Digits.after_more}
+use Rattle.qm_scan.proofs.Numbers.{values}
 
-pub loop-digit-preserved : goal.loop-digit-preserved
-loop-digit-preserved c = step_more c.args.value c.loop-digit.value _ c.args.digits.now c.loop-digit.digit-index
-    c.loop-digit-test.true c.loop-digit.invariant (c.min-value.ensures
-    ∙ ap (λ d. min (c.loop-digit.value * 10 + d) (10 ^ 15)) c.from.ensures)
+pub loop-digit-preserved : Rattle.qm_dec.proofs.size.number_after.Goals.loop-digit-preserved
+loop-digit-preserved c =
+    let ds = c.args.digits.now in
+    let i = c.loop-digit.digit-index in
+    c.min-value.ensures ∙ ap (λ d. clamped (c.loop-digit.value * 10 + d)) c.from.ensures
+    ∙ ap (λ m. clamped (m * 10 + (get_or ds i 0 - 48))) c.loop-digit.invariant
+    ∙ clamp_linear (number_from_digits_after 10 c.args.value (values (take i ds))) 10 (get_or ds i 0 - 48) (omega arith)
+    ∙ ap clamped (sym (after_more c.args.value ds i c.loop-digit-test.true))

@@ -1,6 +1,7 @@
 use Rattle.std.proofs.Common.{ap, sym, ◌+◌, ◌-◌, ◌++◌, length, length-append, arith}
+use Rattle.std.proofs.lemmas.Bool.{le-ltb, lt-ltb}
 use Rattle.qm_dec.specs.Sizes.{clamped}
-use Rattle.qm_dec.proofs.{Digits.digits_both, Scaling.cut_below, Scaling.cut_above, Scaling.cut_zero}
+use Rattle.qm_dec.proofs.{Digits.digits_both, Scaling.cut_is, Scaling.cut_zero}
 use Rattle.qm_dec.proofs.size.round_at.Goals as goal
 
 pub returns-then-last-count : goal.returns-then-last-count
@@ -10,15 +11,15 @@ returns-then-last-count c =
     (omega (arith, length-append c.args.whole.now c.args.fraction.now))))
 
 pub returns-then-digit_at-lt53 : goal.returns-then-digit_at-lt53
-returns-then-digit_at-lt53 c = cut_below (c.args.whole.now ++ c.args.fraction.now)
-    (length c.args.whole.now + length c.args.fraction.now - c.args.last) c.args.last _ c.digit_at.result
+returns-then-digit_at-lt53 c = cut_is (c.args.whole.now ++ c.args.fraction.now)
+    (length c.args.whole.now + length c.args.fraction.now - c.args.last) c.args.last _ c.digit_at.result _
     (digits_both c.args.whole.now c.args.fraction.now c.requires.whole c.requires.fraction) c.requires.some
     (omega (arith, length-append c.args.whole.now c.args.fraction.now)) c.first_digits-value.ensures c.digit_at.ensures
-    c.if-digit_at-lt53.true
+    (rw (lt-ltb _ _ c.if-digit_at-lt53.true) (omega (arith, c.first_digits-value.ensures)))
 
 pub returns-else-digit_at-lt53 : goal.returns-else-digit_at-lt53
-returns-else-digit_at-lt53 c = cut_above (c.args.whole.now ++ c.args.fraction.now)
+returns-else-digit_at-lt53 c = cut_is (c.args.whole.now ++ c.args.fraction.now)
     (length c.args.whole.now + length c.args.fraction.now - c.args.last) c.args.last c.first_digits-value.result
     c.digit_at.result _ (digits_both c.args.whole.now c.args.fraction.now c.requires.whole c.requires.fraction)
     c.requires.some (omega (arith, length-append c.args.whole.now c.args.fraction.now)) c.first_digits-value.ensures
-    c.digit_at.ensures c.if-digit_at-lt53.false c.min.ensures
+    c.digit_at.ensures (rw (le-ltb _ _ c.if-digit_at-lt53.false) c.min.ensures)

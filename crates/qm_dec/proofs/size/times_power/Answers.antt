@@ -1,6 +1,7 @@
-use Rattle.std.proofs.Common.{◌≡◌, ◌*◌, ◌-◌, ◌^◌, ap, ◌∙◌, arith}
+use Rattle.std.proofs.Common.{◌*◌, ◌-◌, ◌^◌, ap, ◌∙◌, arith}
+use Rattle.std.proofs.Math.Nat.{mul-le-mul_left}
 use Rattle.qm_dec.specs.Sizes.{clamped}
-use Rattle.qm_dec.proofs.Clamps.{grown_more, grown_far}
+use Rattle.qm_dec.proofs.Digits.{grown_more, ten_power}
 use Rattle.qm_dec.proofs.size.times_power.Goals as goal
 
 pub loop-power-preserved : goal.loop-power-preserved
@@ -12,5 +13,5 @@ loop-power-preserved c = record {
 
 pub returns-else-value-lt-FAR : goal.returns-else-value-lt-FAR
 returns-else-value-lt-FAR c =
-    let e : c.loop-power.value ≡ 10 ^ 15 = omega arith in
-    e ∙ grown_far c.loop-power.value c.loop-power.power (omega arith) ∙ c.loop-power.invariant.whole
+    let most = mul-le-mul_left c.loop-power.value (ten_power c.loop-power.power) in
+    omega (arith, c.loop-power.invariant.whole)

@@ -2,10 +2,9 @@ use Rattle.std.proofs.Common.{ℕ, ◌<◌, List, length, ap, set, ◌++◌, ◌
 use Rattle.std.proofs.lemmas.List.{map-set, length-map}
 use Rattle.smallvec.specs.SmallVec.{SmallVec}
 use Rattle.qm_mesh.specs.Tables.{fan_lists}
-use Rattle.qm_mesh.proofs.FanTables.{fan_read}
-use Rattle.qm_mesh.proofs.fans.add.Goals as goal
+use Rattle.qm_mesh.proofs.Vertices.{fan_read}
 
-pub returns : goal.returns
+pub returns : Rattle.qm_mesh.proofs.fans.add.Goals.returns
 returns c =
     let low : c.args.v < length c.args.fans.now.items =
     omega (arith, c.requires, length-map c.args.fans.now.items (λ (fan : SmallVec ℕ). fan.items)) in

@@ -1,8 +1,7 @@
 use Rattle.std.proofs.Common.{◌<◌, arith}
-use Rattle.qm_mesh.proofs.FanTables.{hold_more}
-use Rattle.qm_mesh.proofs.fans.gather.Goals as goal
+use Rattle.qm_mesh.proofs.Vertices.{hold_more}
 
-pub loop-d-preserved : goal.loop-d-preserved
+pub loop-d-preserved : Rattle.qm_mesh.proofs.fans.gather.Goals.loop-d-preserved
 loop-d-preserved c =
     let quads = c.args.quads.now in
     let low : c.from.result < quads.vertices =

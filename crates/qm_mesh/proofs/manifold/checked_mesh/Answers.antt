@@ -25,13 +25,9 @@ from_tables-requires c =
 pub check_fans-requires : goal.check_fans-requires
 check_fans-requires c =
     let quads = c.args.quads.now in
+    let count = length-map c.in_ok-fans.fans.items (λ (fan : SmallVec ℕ). fan.items) in
     let long : length c.deref-2.result.now ≡ quads.vertices =
-    omega (
-      arith,
-      ap length c.deref-2.ensures.value,
-      c.in_ok-fans.ensures.long,
-      length-map c.in_ok-fans.fans.items (λ (fan : SmallVec ℕ). fan.items),
-    ) in
+    omega (arith, ap length c.deref-2.ensures.value, c.in_ok-fans.ensures.long) in
     record {
       few = quads.are.few;
       repeat_free = c.in_ok-check_repeats.ensures.ok;

@@ -1,7 +1,6 @@
 use Rattle.std.proofs.Common.{ℕ, ◌<◌, get_or}
 use Rattle.qm_mesh.specs.Turns.{IsSeen}
-use Rattle.qm_mesh.proofs.one_fan.are_seen.Given as goal
 
 -- The darts so far are marked.
-abbrev pub invariant-loop-d : goal.invariant-loop-d
+abbrev pub invariant-loop-d : Rattle.qm_mesh.proofs.one_fan.are_seen.Given.invariant-loop-d
 invariant-loop-d l = (t : ℕ) → t < l.d-index → IsSeen l.seen (get_or l.fan t 0)

@@ -1,9 +1,9 @@
-use Rattle.std.proofs.Common.{◌≡◌, length, get_or, ◌<◌, ap, ◌∙◌, arith}
+use Rattle.std.proofs.Common.{◌≡◌, length, ◌<◌, ap, ◌∙◌, arith}
 use Rattle.def_mesh.specs.Vertices.{fan_of}
-use Rattle.qm_mesh.proofs.FanTables.{fan_found}
-use Rattle.qm_mesh.proofs.OneFan.{IsVisited, visited, not_seen, checked_more, two_fans_first, one_fan_all}
-use Rattle.mesh_laws.proofs.Fans.{IsFan, is_fan}
+use Rattle.qm_mesh.proofs.Vertices.{fan_found}
+use Rattle.qm_mesh.proofs.OneFan.{IsVisited, not_seen, checked_more, two_fans_first, one_fan_all}
 use Rattle.qm_mesh.proofs.one_fan.check_fans.Goals.{After-as_slice, After-is_one_fan}
+use Rattle.mesh_laws.proofs.Fans.{IsFan, is_fan}
 use Rattle.qm_mesh.proofs.one_fan.check_fans.Goals as goal
 
 -- The darts are those of the vertex, and there is one.
@@ -31,13 +31,18 @@ is_one_fan-requires-clause-unseen c =
 
 -- What the turn around the vertex saw.
 visit : (c : After-is_one_fan) → IsFan c.args.faces.now c.loop-v.v c.as_slice.result.now
-    → 0 < length c.as_slice.result.now → IsVisited c.args.faces.now c.args.twins.now c.loop-v.v
-    (get_or c.as_slice.result.now 0 0) c.loop-v.corners.seen.items c.is_one_fan.new.self.seen.items
-visit c h some =
-    let same = c.is_one_fan.ensures.same ∙ c.loop-v.invariant.0 in
-    visited h some c.requires.partners c.requires.repeat_free c.requires.once c.loop-v.invariant.1
-    (omega (arith, c.is_one_fan.new.self.long, ap length same, c.requires.partners.long))
-    (rw c.loop-v.invariant.0 at c.is_one_fan.ensures.visit)
+    → 0 < length c.as_slice.result.now → IsVisited c.args.faces.now c.args.twins.now c.loop-v.v c.as_slice.result.now
+    c.loop-v.corners.seen.items c.is_one_fan.new.self.seen.items
+visit c h some = record {
+  partners = c.requires.partners;
+  free = c.requires.repeat_free;
+  once = c.requires.once;
+  is_fan = h;
+  used = some;
+  before = c.loop-v.invariant.1;
+  long = omega (arith, ap length (c.is_one_fan.ensures.same ∙ c.loop-v.invariant.0));
+  visit = rw c.loop-v.invariant.0 at c.is_one_fan.ensures.visit;
+}
 
 pub returns-then-not-is_one_fan-clause-err : goal.returns-then-not-is_one_fan-clause-err
 returns-then-not-is_one_fan-clause-err c =
@@ -45,8 +50,7 @@ returns-then-not-is_one_fan-clause-err c =
     let h = fan at.After-as_slice in (
       c.requires.repeat_free,
       c.requires.once,
-      two_fans_first h (visit at.After-is_one_fan h (used at.After-as_slice)) c.loop-v.invariant.1
-          c.if-not-is_one_fan.ensures.all,
+      two_fans_first (visit at.After-is_one_fan h (used at.After-as_slice)) c.if-not-is_one_fan.ensures.all,
     )
 
 pub loop-v-preserved : goal.loop-v-preserved
@@ -54,8 +58,7 @@ loop-v-preserved c =
     let at = goal.at.loop-v-preserved c in
     let h = fan at.After-as_slice in (
       c.is_one_fan.ensures.same ∙ c.loop-v.invariant.0,
-      checked_more h (visit at.After-is_one_fan h (used at.After-as_slice)) c.loop-v.invariant.1
-          c.if-not-is_one_fan.ensures.all,
+      checked_more (visit at.After-is_one_fan h (used at.After-as_slice)) c.if-not-is_one_fan.ensures.all,
     )
 
 pub returns-clause-ok : goal.returns-clause-ok

@@ -1,7 +1,6 @@
 use Rattle.std.proofs.Common.{◌≡◌, ℕ, ◌<◌, get_or, [], None}
 use Rattle.def_mesh.specs.Faults.{repeat_in}
-use Rattle.qm_mesh.proofs.repeats.check_repeats.Given as goal
 
 -- No earlier face names a vertex twice.
-abbrev pub invariant-loop-f : goal.invariant-loop-f
+abbrev pub invariant-loop-f : Rattle.qm_mesh.proofs.repeats.check_repeats.Given.invariant-loop-f
 invariant-loop-f l = (g : ℕ) → g < l.f → repeat_in (get_or l.quads.faces.now g []) ≡ None

@@ -1,7 +1,6 @@
 use Rattle.std.proofs.Common.{refl}
-use Rattle.qm_mesh.proofs.twins.edge_twice.Goals as goal
 
-pub returns : goal.returns
+pub returns : Rattle.qm_mesh.proofs.twins.edge_twice.Goals.returns
 returns c = (
   c.requires.repeat_free,
   (

@@ -1,8 +1,8 @@
-use Rattle.std.proofs.Common.{ℕ, List, arith, ◌≡◌, ◌++◌, take, drop, length, sym, subst}
-use Rattle.std.proofs.Math.Seq.{take-append_seam}
-use Rattle.qm_mesh.proofs.{Vertices.end_low, Marks.edges_once_from, Marks.first_twice_from}
-use Rattle.qm_mesh.proofs.twins.pair.Goals as goal
+use Rattle.std.proofs.Common.{ℕ, List, arith, ◌≡◌, ◌++◌, take, drop, length, sym, subst, inl, inr, refl}
+use Rattle.std.proofs.{Math.Seq.take-append_seam, lemmas.Bool.cases_order}
+use Rattle.qm_mesh.proofs.Vertices.{end_low}
 use Rattle.qm_mesh.specs.Pairs.{ArePartners}
+use Rattle.qm_mesh.proofs.twins.pair.Goals as goal
 
 -- What was lent whole comes back whole.
 come_back : (n : ℕ) (new old : List ℕ) → length new ≡ n → take n (new ++ drop (length new) old) ≡ new
@@ -10,9 +10,15 @@ come_back n new old e = rw (← e) (take-append_seam new _)
 
 pub edge_twice-requires-clause-first : goal.edge_twice-requires-clause-first
 edge_twice-requires-clause-first c =
-    let quads = c.args.quads.now in
-    let f = rw c.in-Some.is at c.pair_all-twice.ensures.first in
-    first_twice_from quads.faces.now quads.vertices _ _ quads.are.within f.0 (λ u l. f.1 u (omega arith))
+    let within = c.args.quads.now.are.within in
+    let (is, none) = rw c.in-Some.is at c.pair_all-twice.ensures.first in
+    record {
+      is_dart = is.is_dart;
+      before = is.before;
+      same = is.same;
+      least = λ j k less below same.
+          none _ (omega (arith, within j (omega (arith, is.is_dart)))) j k less below refl same;
+    }
 
 pub returns-clause-ok : goal.returns-clause-ok
 returns-clause-ok c =
@@ -23,7 +29,13 @@ returns-clause-ok c =
     (record { long = a.long; each = λ e l. a.each e l (end_low quads.faces.now _ _ quads.are.within l) })
 
 pub returns-clause-once : goal.returns-clause-once
-returns-clause-once c =
-    let quads = c.args.quads.now in
-    let f = rw c.in-None.is at c.pair_all-twice.ensures.first in
-    edges_once_from quads.faces.now quads.vertices quads.are.within (λ u l. f u (omega arith))
+returns-clause-once c d e low high same =
+    let within = c.args.quads.now.are.within in
+    let none = rw c.in-None.is at c.pair_all-twice.ensures.first in
+    elim (cases_order d e) [
+      | inl s ↦ s
+      | inr r ↦ absurd (elim r [
+        | inl l ↦ none _ (omega (arith, within d low)) d e l high refl same
+        | inr l ↦ none _ (omega (arith, within e high)) e d l low refl (sym same.0, sym same.1)
+      ])
+    ]

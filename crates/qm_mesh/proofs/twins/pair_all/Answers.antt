@@ -1,8 +1,9 @@
-use Rattle.std.proofs.Common.{◌∙◌, arith}
-use Rattle.qm_mesh.proofs.Marks.{each_more, lesser_first}
-use Rattle.qm_mesh.proofs.twins.pair_all.Goals as goal
+use Rattle.std.proofs.Common.{◌∙◌, arith, inl, inr}
+use Rattle.def_mesh.specs.Darts.{to_of}
+use Rattle.list_laws.proofs.Filters.{last_or}
+use Rattle.qm_mesh.proofs.Marks.{lesser_first}
 
-pub loop-v-preserved : goal.loop-v-preserved
+pub loop-v-preserved : Rattle.qm_mesh.proofs.twins.pair_all.Goals.loop-v-preserved
 loop-v-preserved c =
     let faces = c.args.ends.now.quads.faces.now in
     let before = c.loop-v.invariant.1 in
@@ -11,7 +12,10 @@ loop-v-preserved c =
       same,
       record {
         long = omega (arith, before.long);
-        each = each_more faces c.loop-v.v _ _ before.each paired.arriving paired.others;
+        each = λ e low ends. elim (last_or c.loop-v.v (to_of faces e) ends) [
+          | inl b ↦ rw (paired.others e (λ s. absurd (omega (arith, s, b)))) (before.each e low b)
+          | inr s ↦ paired.arriving e low s
+        ];
         first = lesser_first faces c.loop-v.v _ _ _ before.first (rw c.loop-v.invariant.0 at c.mark-found.ensures.first)
             c.earlier_pair-twice.ensures;
       },

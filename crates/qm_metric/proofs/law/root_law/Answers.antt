@@ -1,5 +1,2 @@
-use Rattle.qm_metric.proofs.RootLaws.{root_law}
-use Rattle.qm_metric.proofs.law.root_law.Goals as goal
-
-pub returns : goal.returns
-returns c = root_law
+pub returns : Rattle.qm_metric.proofs.law.root_law.Goals.returns
+returns c = Rattle.qm_metric.proofs.RootLaws.root_law

@@ -1,28 +1,22 @@
 use Rattle.std.proofs.Common.{◌≡◌, ◌<◌, ℕ, List, replicate, sym, ap, ◌∙◌, subst}
 use Rattle.std.proofs.lemmas.List.{with_items_is}
 use Rattle.std.specs.List.{All}
-use Rattle.def_layout.specs.{Arcs.AreArcs, Layouts.layout_of, Layouts.Layout, declared.tmesh.TArc.TArc, Nodes.is_node}
+use Rattle.def_layout.specs.{Arcs.AreArcs, Layouts.Layout, declared.tmesh.TArc.TArc, Nodes.is_node}
 use Rattle.def_cut.specs.FullCut.{is_on}
 use Rattle.def_mesh.specs.{Darts.darts, Faces.Faces, HalfEdges.half_edges, Manifold.IsManifold}
-use Rattle.def_remesh.specs.Placings.{IsMeshLayout}
 use Rattle.mesh_laws.proofs.HalfEdges.{manifold_law}
 use Rattle.qm_metric.specs.Lengths.{with_arcs}
 use Rattle.qm_metric.proofs.{CutTables.filled_is, Reading.runs_inside, lengths.cut_lengths.Goals.After-deref}
 use Rattle.qm_metric.proofs.lengths.cut_lengths.Goals as goal
 
 -- The darts of the arcs are darts of the mesh.
-inside : (c : After-deref)
-    → All (λ (arc : TArc). All (λ (d : ℕ). d < darts c.args.cut.now.soup.faces) arc.darts.items)
+inside : (c : After-deref) → All (λ (arc : TArc). All (λ (d : ℕ). d < darts c.args.cut.now.soup.faces) arc.darts.items)
     c.layout-layout.result.now.arcs.items
-inside c =
-    let lies : IsMeshLayout c.args.cut.now.soup.faces (layout_of c.layout-layout.result.now) =
-    subst (IsMeshLayout c.args.cut.now.soup.faces) (sym c.layout-layout.ensures.layout) c.layout-layout.ensures.laid in
-    subst (λ (faces : Faces). All (λ (arc : TArc). All (λ (d : ℕ). d < darts faces) arc.darts.items)
-    c.layout-layout.result.now.arcs.items) lies.1 (runs_inside c.layout-layout.result.now lies.0)
+inside c = runs_inside c.args.cut.now.soup.faces c.layout-layout.result.now c.args.cut.now.layout
+    c.layout-layout.ensures.layout c.layout-layout.ensures.laid
 
 pub put_arcs-requires-clause-inside : goal.put_arcs-requires-clause-inside
-put_arcs-requires-clause-inside c =
-    rw c.deref.ensures.value (inside c)
+put_arcs-requires-clause-inside c = rw c.deref.ensures.value (inside c)
 
 pub returns : goal.returns
 returns c marks full laid =
@@ -33,14 +27,11 @@ returns c marks full laid =
     let begun : c.deref_mut.result.now ≡ zeros =
     c.deref_mut.ensures.value ∙ (c.in_ok-lengths.ensures.items_if_clones_equal (λ y is. is)
     ∙ ap (λ (fs : Faces). replicate (darts fs) 0) (c.faces.ensures.value ∙ c.mesh-mesh.ensures)) in
-    let put : c.put_arcs.new.lengths ≡ with_arcs soup.faces soup.pos zeros arcs =
-    c.put_arcs.ensures.value
-    ∙ (λ i. with_arcs soup.faces soup.pos (begun i) (c.deref.ensures.value i)) in
+    let put = c.put_arcs.ensures.value ∙ (λ i. with_arcs soup.faces soup.pos (begun i) (c.deref.ensures.value i)) in
     let mesh = c.layout-layout.ensures.laid in
     with_items_is c.in_ok-lengths.lengths c.put_arcs.new.lengths (c.put_arcs.auto.lengths ∙ c.deref_mut.ensures.len)
     ∙ put
     ∙ filled_is soup.faces soup.pos (manifold_law soup.faces (subst IsManifold mesh.1 mesh.0.mesh.manifold)) marks full
     (is_node soup.faces marks) arcs
     (subst (λ (p : Layout). AreArcs (half_edges soup.faces) (is_on marks) (is_node soup.faces marks) p.arcs)
-    (sym c.layout-layout.ensures.layout) laid.arcs)
-    (inside at)
+    (sym c.layout-layout.ensures.layout) laid.arcs) (inside at)

@@ -2,9 +2,8 @@ use Rattle.std.proofs.Common.{◌≡◌, ◌<◌, ◌^◌, length, take}
 use Rattle.std.specs.List.{All}
 use Rattle.def_mesh.specs.Darts.{darts}
 use Rattle.qm_metric.specs.Lengths.{with_arcs}
-use Rattle.qm_metric.proofs.lengths.put_arcs.Given as goal
 
-abbrev pub invariant-loop-arc : goal.invariant-loop-arc
+abbrev pub invariant-loop-arc : Rattle.qm_metric.proofs.lengths.put_arcs.Given.invariant-loop-arc
 invariant-loop-arc l = record {
   put : l.lengths ≡ with_arcs l.cut.soup.faces l.cut.soup.pos l.initial.lengths (take l.arc-index l.arcs);
   table : length l.lengths ≡ darts l.cut.soup.faces;

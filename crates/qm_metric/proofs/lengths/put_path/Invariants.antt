@@ -2,9 +2,8 @@ use Rattle.std.proofs.Common.{◌≡◌, ◌<◌, ◌^◌, length, take}
 use Rattle.std.specs.List.{All}
 use Rattle.def_mesh.specs.Darts.{darts}
 use Rattle.qm_metric.specs.Lengths.{with_path}
-use Rattle.qm_metric.proofs.lengths.put_path.Given as goal
 
-abbrev pub invariant-loop-dart : goal.invariant-loop-dart
+abbrev pub invariant-loop-dart : Rattle.qm_metric.proofs.lengths.put_path.Given.invariant-loop-dart
 invariant-loop-dart l = record {
   put : l.lengths ≡ with_path l.cut.soup.faces l.cut.soup.pos l.initial.lengths (take l.dart-index l.path);
   table : length l.lengths ≡ darts l.cut.soup.faces;

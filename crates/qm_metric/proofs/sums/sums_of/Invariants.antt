@@ -3,9 +3,8 @@ use Rattle.std.specs.Prelude.{min}
 use Rattle.def_math.specs.Counts.{count}
 use Rattle.def_layout.specs.declared.tmesh.TArc.{TArc}
 use Rattle.qm_metric.specs.Wishes.{wish_along}
-use Rattle.qm_metric.proofs.sums.sums_of.Given as goal
 
-abbrev pub invariant-loop-run : goal.invariant-loop-run
+abbrev pub invariant-loop-run : Rattle.qm_metric.proofs.sums.sums_of.Given.invariant-loop-run
 invariant-loop-run l = record {
   sum : l.sum ≡ count (λ (run : TArc). wish_along l.aim l.cut.soup l.wishes run.darts.items) (take l.run-index l.runs);
   found : l.found.items ≡ map (λ (run : TArc). min (wish_along l.aim l.cut.soup l.wishes run.darts.items) (2 ^ 32 - 1))

@@ -3,7 +3,7 @@ use Rattle.std.proofs.lemmas.List.{length-map}
 use Rattle.smallvec.specs.SmallVec.{SmallVec}
 use Rattle.def_mesh.specs.{Faces.Faces, Vertices.faces_at, Vertices.vertex_count}
 use Rattle.qm_mesh.specs.Tables.{IsMeshOf}
-use Rattle.qm_mesh.proofs.FanTables.{fan_found}
+use Rattle.qm_mesh.proofs.Vertices.{fan_found}
 use Rattle.mesh_laws.proofs.Vertices.{fan_short}
 use Rattle.qm_mesh.proofs.mesh.Mesh.faces_at.Goals as goal
 
@@ -16,13 +16,7 @@ count {fans = fans} v fan k l e =
 pub overflow_cast-result : goal.overflow_cast-result
 overflow_cast-result c =
     let k = rw c.self.view_is at c.self.invariant in
-    omega (
-      arith,
-      c.len.ensures.value,
-      count c.args.v _ k c.requires c.index.ensures,
-      fan_short c.args.self.now c.args.v,
-      k.mesh.few,
-    )
+    omega (arith, count c.args.v _ k c.requires c.index.ensures, fan_short c.args.self.now c.args.v)
 
 pub returns : goal.returns
 returns c =

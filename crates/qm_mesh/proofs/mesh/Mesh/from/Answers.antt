@@ -1,10 +1,8 @@
-use Rattle.std.proofs.Common.{◌≡◌, ap, ◌∙◌, arith}
+use Rattle.std.proofs.Common.{ap, ◌∙◌, arith}
 use Rattle.def_mesh.specs.Darts.{from_of}
 use Rattle.mesh_laws.proofs.Vertices.{all_below}
-use Rattle.qm_mesh.proofs.mesh.Mesh.from.Goals as goal
 
-pub returns-clause-vertex : goal.returns-clause-vertex
+pub returns-clause-vertex : Rattle.qm_mesh.proofs.mesh.Mesh.from.Goals.returns-clause-vertex
 returns-clause-vertex c =
-    let e : c.from.result ≡ from_of c.args.self.now c.args.d =
-    c.from.ensures ∙ ap (λ f. from_of f c.args.d) (c.deref.ensures.value ∙ c.self.view_is) in
+    let e = c.from.ensures ∙ ap (λ f. from_of f c.args.d) (c.deref.ensures.value ∙ c.self.view_is) in
     omega (arith, e, all_below c.args.self.now c.args.d c.requires)

@@ -2,9 +2,8 @@ use Rattle.std.proofs.Common.{◌≡◌, arith}
 use Rattle.def_mesh.specs.{Darts.to_of}
 use Rattle.qm_mesh.proofs.Vertices.{end_low}
 use Rattle.mesh_laws.proofs.Vertices.{all_below}
-use Rattle.qm_mesh.proofs.mesh.Mesh.to.Goals as goal
 
-pub returns-clause-vertex : goal.returns-clause-vertex
+pub returns-clause-vertex : Rattle.qm_mesh.proofs.mesh.Mesh.to.Goals.returns-clause-vertex
 returns-clause-vertex c =
     let e : c.to.result ≡ to_of c.args.self.now c.args.d =
     rw (← c.self.view_is, ← c.deref.ensures.value) c.to.ensures in

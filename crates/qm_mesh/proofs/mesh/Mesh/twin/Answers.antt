@@ -1,8 +1,7 @@
 use Rattle.std.proofs.Common.{sym}
-use Rattle.qm_mesh.proofs.Partners.{partner_is}
-use Rattle.qm_mesh.proofs.mesh.Mesh.twin.Goals as goal
+use Rattle.qm_mesh.proofs.Inner.{partner_is}
 
-pub returns-clause-value : goal.returns-clause-value
+pub returns-clause-value : Rattle.qm_mesh.proofs.mesh.Mesh.twin.Goals.returns-clause-value
 returns-clause-value c =
     let k = rw c.self.view_is at c.self.invariant in
     rw (c.partner.ensures, c.deref.ensures.value)

@@ -1,8 +1,7 @@
 use Rattle.std.proofs.Common.{arith}
 use Rattle.qm_mesh.proofs.Walks.{visit_both}
-use Rattle.qm_mesh.proofs.one_fan.Corners.turn_both_ways.Goals as goal
 
-pub returns-clause-visit : goal.returns-clause-visit
+pub returns-clause-visit : Rattle.qm_mesh.proofs.one_fan.Corners.turn_both_ways.Goals.returns-clause-visit
 returns-clause-visit c =
     let self = c.args.self.now in
     visit_both self.twins.now c.args.first self.seen.items _ _ (omega (arith, self.long, c.requires.dart))

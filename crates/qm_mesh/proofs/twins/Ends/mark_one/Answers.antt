@@ -1,9 +1,7 @@
-use Rattle.std.proofs.Common.{◌∙◌}
-use Rattle.std.proofs.lemmas.List.{length-set}
+use Rattle.std.proofs.{Common.◌∙◌, lemmas.List.length-set}
 use Rattle.qm_mesh.proofs.Marks.{put_darts}
-use Rattle.qm_mesh.proofs.twins.Ends.mark_one.Goals as goal
 
-pub invariant_of-self : goal.invariant_of-self
+pub invariant_of-self : Rattle.qm_mesh.proofs.twins.Ends.mark_one.Goals.invariant_of-self
 invariant_of-self c =
     let self = c.args.self.now in
     record {

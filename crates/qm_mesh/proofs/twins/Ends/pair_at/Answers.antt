@@ -1,8 +1,7 @@
 use Rattle.std.proofs.Common.{◌≡◌, ◌<◌, arith}
-use Rattle.def_mesh.specs.Darts.{darts, to_of}
-use Rattle.mesh_laws.proofs.{Darts.before_ends, Darts.before_low, Fans.is_fan}
-use Rattle.qm_mesh.proofs.Marks.{pair_more, paired_all}
-use Rattle.qm_mesh.proofs.twins.Ends.pair_at.Goals.{After-prev-e}
+use Rattle.def_mesh.specs.Darts.{darts, next_of, to_of}
+use Rattle.mesh_laws.proofs.{Darts.before_ends, Darts.before_low, Darts.next_of_low, Darts.prev_of-next_of, Fans.is_fan}
+use Rattle.qm_mesh.proofs.{Marks.pair_more, twins.Ends.pair_at.Goals.After-prev-e}
 use Rattle.qm_mesh.proofs.twins.Ends.pair_at.Goals as goal
 
 -- The dart before the corner is one, and arrives at the vertex.
@@ -24,13 +23,10 @@ bounds-twins-e c = omega (arith, low (goal.at.bounds-twins-e c).After-prev-e, c.
 pub loop-d-preserved : goal.loop-d-preserved
 loop-d-preserved c =
     let at = (goal.at.loop-d-preserved c).After-prev-e in
-    pair_more _ _ _ c.loop-d.d-index _ _ _ _ c.prev-e.ensures (omega (
-      arith,
-      low at,
-      c.loop-d.auto.twins,
-      c.requires.long,
-    )) (ends at) c.partner.ensures c.loop-d.invariant
+    pair_more _ _ _ c.loop-d.d-index _ _ _ _ c.prev-e.ensures (omega (arith, low at)) (ends at) c.partner.ensures
+    c.loop-d.invariant
 
 pub returns-clause-arriving : goal.returns-clause-arriving
-returns-clause-arriving c = paired_all _ _ _ (is_fan _ _ _ c.requires.fan) c.loop-d.d-index _ _ c.loop-d-test.false
-    c.loop-d.invariant
+returns-clause-arriving c e l at =
+    let p = (is_fan _ _ _ c.requires.fan).place (next_of e) (next_of_low c.args.self.now.quads.faces.now e l) at in
+    rw (← prev_of-next_of e, ← p.2) (c.loop-d.invariant.each p.0 (omega (arith, p.1)))

@@ -1,8 +1,7 @@
 use Rattle.std.proofs.Common.{◌≡◌, ◌<◌, ◌∙◌, length, get_or, sym, inl, arith}
 use Rattle.std.proofs.lemmas.{Bool.and_parts, Bool.eqb-true, List.get_or_default}
-use Rattle.qm_mesh.proofs.twins.Ends.partner.Goals as goal
 
-pub returns-then-runs : goal.returns-then-runs
+pub returns-then-runs : Rattle.qm_mesh.proofs.twins.Ends.partner.Goals.returns-then-runs
 returns-then-runs c =
     let self = c.args.self.now in
     let start = c.from-start.result in
