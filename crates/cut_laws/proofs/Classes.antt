@@ -1,10 +1,11 @@
 -- Classes of faces that are joined over edges that are not cut: each is one grid, and has one patch.
 use Rattle.std.proofs.Common.{◌≡◌, ℕ, zero, suc, ◌-◌, ◌<◌, ◌≤◌, true, false, Some, sym, ◌∙◌, ap, refl, inl, inr}
-use Rattle.std.proofs.{Common.true≢false, Common.arith, lemmas.Bool.cases_eq, lemmas.Bool.cases_order}
+use Rattle.std.proofs.{Common.true≢false, Common.arith, lemmas.Bool.cases_eq}
 use Rattle.def_mesh.specs.HalfEdges.{HalfEdges, IsQuadManifold}
 use Rattle.def_cut.specs.Cuts.{Cut, Links, IsCorner, IsCut}
 use Rattle.def_cut.specs.{Grids.Cells, Grids.IsGrid, Grids.IsPatch, Steps.spin}
 use Rattle.cut_laws.proofs.Darts.{prev_three, prev_twice, prev_same}
+use Rattle.cut_laws.proofs.Increasing.{same_if}
 use Rattle.cut_laws.proofs.Folds.{At, one_more, cross_to, west_open, south_open}
 
 -- x is a side of a cell of the grid.
@@ -210,23 +211,16 @@ module _ (mesh : HalfEdges) (laws : IsQuadManifold mesh) (cut : Cut) (full : IsC
     wide = same_wide;
     tall = same_tall;
     cells = λ i j li lj. let lv : i < v = omega (arith, same_wide) in
-        cells_north one two i j li lv (cells_east one two e i li lv) lj
-        (omega (arith, same_tall));
+        cells_north one two i j li lv (cells_east one two e i li lv) lj (omega (arith, same_tall));
   }
     where
       same_wide : w ≡ v
-      same_wide = elim (cases_order w v) [
-        | inl s ↦ s
-        | inr (inl l) ↦ absurd (not_wider one two e (w - 1) (omega (arith, one.wide)) (omega (arith, one.wide)))
-        | inr (inr l) ↦ absurd (not_wider two one (sym e) (v - 1) (omega (arith, two.wide)) (omega (arith, two.wide)))
-      ]
+      same_wide = same_if (λ l. not_wider one two e (w - 1) (omega (arith, one.wide)) (omega (arith, one.wide)))
+          (λ l. not_wider two one (sym e) (v - 1) (omega (arith, two.wide)) (omega (arith, two.wide)))
 
       same_tall : h ≡ g
-      same_tall = elim (cases_order h g) [
-        | inl s ↦ s
-        | inr (inl l) ↦ absurd (not_taller one two e (h - 1) (omega (arith, one.tall)) (omega (arith, one.tall)))
-        | inr (inr l) ↦ absurd (not_taller two one (sym e) (g - 1) (omega (arith, two.tall)) (omega (arith, two.tall)))
-      ]
+      same_tall = same_if (λ l. not_taller one two e (h - 1) (omega (arith, one.tall)) (omega (arith, one.tall)))
+          (λ l. not_taller two one (sym e) (g - 1) (omega (arith, two.tall)) (omega (arith, two.tall)))
 
   -- Patches with a dart in common are one.
   pub one_patch : {w h v g : ℕ} {cell tile : Cells} → IsPatch mesh cut w h cell → IsPatch mesh cut v g tile → (x : ℕ)

@@ -17,8 +17,7 @@ module _ {mesh : HalfEdges} (laws : IsQuadManifold mesh) {start cut : ℕ → Bo
   corner_at d e l corner = (e, l.0, l.1, corner)
 
   from_class : (d e : ℕ) → AreLinked mesh cut d e → CornerOf mesh cut e → CornerOf mesh cut d
-  from_class d e l c = let j = links_join mesh laws cut d e c.0 l (c.1, c.2) in
-      corner_at d c.0 j c.3
+  from_class d e l c = corner_at d c.0 (links_join mesh laws cut d e c.0 l (c.1, c.2)) c.3
 
   start_corner : (d : ℕ) → d < mesh.count → start d ≡ true → IsCorner mesh cut d
   start_corner d ld on = (ld, traced.started d ld on, traced.before d ld on)

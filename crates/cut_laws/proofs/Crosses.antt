@@ -1,9 +1,9 @@
 -- Four faces round a vertex, told by turns and by counting the darts that leave it.
 use Rattle.std.proofs.Common.{◌≡◌, ◌⊎◌, ℕ, zero, suc, ◌<◌, ◌≤◌, Some, sym, ◌∙◌, ap, refl, inl, inr, arith}
-use Rattle.std.proofs.{lemmas.Bool.cases_eq, lemmas.Bool.cases_order, lemmas.Option.same_Some}
+use Rattle.std.proofs.{lemmas.Bool.cases_eq, lemmas.Option.same_Some}
 use Rattle.def_mesh.specs.HalfEdges.{HalfEdges, AreTurned, Turns, IsQuadManifold}
 use Rattle.def_cut.specs.{Cuts.IsCross, Cuts.HasCross, Steps.or_zero}
-use Rattle.cut_laws.proofs.Darts.{prev_three, turn_from, turn_low, turn_same}
+use Rattle.cut_laws.proofs.{Darts.prev_three, Darts.turn_from, Darts.turn_low, Darts.turn_same, Increasing.apart_if}
 
 -- Each edge at which a dart arrives at v has two darts.
 abbrev pub IsRound : (mesh : HalfEdges) (v : ℕ) → Type 0
@@ -113,8 +113,11 @@ module _ (mesh : HalfEdges) (laws : IsQuadManifold mesh) where
               apart = λ e. two (sym e);
             },
           )
-          | inr four ↦ absurd (let h = fan.least 5 _
-              (record { each = λ j l. turned_leaves j; apart = apart two three four }) in omega arith)
+          | inr four ↦ absurd (let h = fan.least 5 _ (record {
+            each = λ j l. turned_leaves j;
+            apart = apart_if 5 _
+                (λ i j l lj e. let r = down i j l e in early two three four r.0 r.1 (omega (arith, r.2)));
+          }) in omega arith)
         ]
       ]
     ]
@@ -133,14 +136,6 @@ module _ (mesh : HalfEdges) (laws : IsQuadManifold mesh) where
         early two three four (suc (suc zero)) e l = three e
         early two three four (suc (suc (suc zero))) e l = four e
         early two three four (suc (suc (suc (suc k)))) e l = omega arith
-
-        apart : (turned mesh d 2 ≡ d → ⊥) → (turned mesh d 3 ≡ d → ⊥) → (turned mesh d 4 ≡ d → ⊥) → (i j : ℕ) → i < 5
-            → j < 5 → turned mesh d i ≡ turned mesh d j → i ≡ j
-        apart two three four i j li lj e = elim (cases_order i j) [
-          | inl s ↦ s
-          | inr (inl l) ↦ absurd (let r = down i j l e in early two three four r.0 r.1 (omega arith))
-          | inr (inr l) ↦ absurd (let r = down j i l (sym e) in early two three four r.0 r.1 (omega arith))
-        ]
 
   -- And the other way round: a cross has four darts, all with twins on both sides.
   module _ (d a b c : ℕ) (low : d < mesh.count) (cross : IsCross mesh d a b c) where
@@ -205,23 +200,16 @@ module _ (mesh : HalfEdges) (laws : IsQuadManifold mesh) where
     a_c e = cross.apart (turn_same mesh laws d b low low_b cross.first (cc))
 
     pub four_apart : (i j : ℕ) → i < 4 → j < 4 → of_four d a b c i ≡ of_four d a b c j → i ≡ j
-    four_apart zero zero li lj e = refl
-    four_apart zero (suc zero) li lj e = absurd (step_apart low cross.first e)
-    four_apart zero (suc (suc zero)) li lj e = absurd (cross.apart e)
-    four_apart zero (suc (suc (suc zero))) li lj e = absurd (step_apart low_c cross.last (sym e))
-    four_apart (suc zero) zero li lj e = absurd (step_apart low cross.first (sym e))
-    four_apart (suc zero) (suc zero) li lj e = refl
-    four_apart (suc zero) (suc (suc zero)) li lj e = absurd (step_apart low_a cross.second e)
-    four_apart (suc zero) (suc (suc (suc zero))) li lj e = absurd (a_c e)
-    four_apart (suc (suc zero)) zero li lj e = absurd (cross.apart (sym e))
-    four_apart (suc (suc zero)) (suc zero) li lj e = absurd (step_apart low_a cross.second (sym e))
-    four_apart (suc (suc zero)) (suc (suc zero)) li lj e = refl
-    four_apart (suc (suc zero)) (suc (suc (suc zero))) li lj e = absurd (step_apart low_b cross.third e)
-    four_apart (suc (suc (suc zero))) zero li lj e = absurd (step_apart low_c cross.last e)
-    four_apart (suc (suc (suc zero))) (suc zero) li lj e = absurd (a_c (sym e))
-    four_apart (suc (suc (suc zero))) (suc (suc zero)) li lj e = absurd (step_apart low_b cross.third (sym e))
-    four_apart (suc (suc (suc zero))) (suc (suc (suc zero))) li lj e = refl
-    four_apart _ _ li lj e = absurd (omega arith)
+    four_apart = apart_if 4 (of_four d a b c) later
+      where
+        later : (i j : ℕ) → i < j → j < 4 → of_four d a b c i ≡ of_four d a b c j → ⊥
+        later zero (suc zero) l lj e = step_apart low cross.first e
+        later zero (suc (suc zero)) l lj e = cross.apart e
+        later zero (suc (suc (suc zero))) l lj e = step_apart low_c cross.last (sym e)
+        later (suc zero) (suc (suc zero)) l lj e = step_apart low_a cross.second e
+        later (suc zero) (suc (suc (suc zero))) l lj e = a_c e
+        later (suc (suc zero)) (suc (suc (suc zero))) l lj e = step_apart low_b cross.third e
+        later _ _ l lj e = omega arith
 
     pub four_some : AreSome mesh (mesh.from d) 4 (of_four d a b c)
     four_some = record { each = each; apart = four_apart }

@@ -2,10 +2,11 @@
 -- at which no four faces meet.
 use Rattle.std.proofs.Common.{◌≡◌, ◌⊎◌, ℕ, zero, suc, ◌+◌, ◌*◌, ◌-◌, ◌/◌, ◌<◌, ◌≤◌, false, Some, sym, ◌∙◌, ap, refl}
 use Rattle.std.proofs.Common.{inl, inr, true≢false, arith}
-use Rattle.std.proofs.{lemmas.Bool.cases_eq, lemmas.Bool.cases_order, lemmas.Option.same_Some}
+use Rattle.std.proofs.{lemmas.Bool.cases_eq, lemmas.Option.same_Some}
 use Rattle.def_mesh.specs.HalfEdges.{HalfEdges, IsQuadManifold}
 use Rattle.def_cut.specs.{Cuts.Cut, Cuts.IsUncut, Cuts.IsCut, Grids.Cells, Grids.IsGrid, Steps.spin, Laws.NoFoldLaw}
 use Rattle.cut_laws.proofs.Darts.{prev_three, prev_same, no_self, turn_low, two_darts}
+use Rattle.cut_laws.proofs.Increasing.{same_if}
 
 -- x is the k-th side of a cell of a grid, where k may be any number.
 pub record At (mesh : HalfEdges) (w h : ℕ) (cell : Cells) (k x : ℕ) : Type 0 where
@@ -119,25 +120,17 @@ module _ (mesh : HalfEdges) (laws : IsQuadManifold mesh) (cut : Cut) (full : IsC
       four_less laws (moved (laws.four_sides (cell i j)) (one_more (one_more there)))
 
   -- So it stands over each cell.
-  to_west : (k i j : ℕ) → i < w → j < h → At mesh w h cell k (cell i j) → At mesh w h cell k (cell 0 j)
-  to_west k zero j li lj at = at
-  to_west k (suc i) j li lj at = to_west k i j (omega arith) lj (at_west k i j li lj at)
-
-  to_south : (k j : ℕ) → j < h → At mesh w h cell k (cell 0 j) → At mesh w h cell k (cell 0 0)
-  to_south k zero lj at = at
-  to_south k (suc j) lj at = to_south k j (omega arith) (at_south k 0 j grid.wide lj at)
-
-  to_east : (k i j : ℕ) → i < w → j < h → At mesh w h cell k (cell 0 j) → At mesh w h cell k (cell i j)
-  to_east k zero j li lj at = at
-  to_east k (suc i) j li lj at = at_east k i j li lj (to_east k i j (omega arith) lj at)
-
-  to_north : (k j : ℕ) → j < h → At mesh w h cell k (cell 0 0) → At mesh w h cell k (cell 0 j)
-  to_north k zero lj at = at
-  to_north k (suc j) lj at = at_north k 0 j grid.wide lj (to_north k j (omega arith) at)
+  slide : (P : ℕ → Type 0) (n : ℕ) → ((i : ℕ) → suc i < n → (P i → P (suc i)) × (P (suc i) → P i)) → (i a : ℕ) → i < n
+      → a < n → P i → P a
+  slide P n step zero zero li la p = p
+  slide P n step zero (suc a) li la p = (step a la).0 (slide P n step zero a li (omega arith) p)
+  slide P n step (suc i) a li la p = slide P n step i a (omega arith) la ((step i li).1 p)
 
   pub carry : (k i j a b : ℕ) → i < w → j < h → a < w → b < h → At mesh w h cell k (cell i j)
       → At mesh w h cell k (cell a b)
-  carry k i j a b li lj la lb at = to_east k a b la lb (to_north k b lb (to_south k j lj (to_west k i j li lj at)))
+  carry k i j a b li lj la lb at =
+      slide (λ y. At mesh w h cell k (cell a y)) h (λ y l. (at_north k a y la l, at_south k a y la l)) j b lj lb
+      (slide (λ x. At mesh w h cell k (cell x j)) w (λ x l. (at_east k x j l lj, at_west k x j l lj)) i a li la at)
 
   -- Equal cells stand in one column and in one row.
   column_less : (n i j a b : ℕ) → a + suc n ≡ w → i < a → j < h → b < h → cell i j ≡ cell a b → ⊥
@@ -152,11 +145,8 @@ module _ (mesh : HalfEdges) (laws : IsQuadManifold mesh) (cut : Cut) (full : IsC
       (prev_same mesh laws (cell (suc i) j) (cell (suc a) b) same)
 
   pub same_column : (i j a b : ℕ) → i < w → j < h → a < w → b < h → cell i j ≡ cell a b → i ≡ a
-  same_column i j a b li lj la lb e = elim (cases_order i a) [
-    | inl s ↦ s
-    | inr (inl l) ↦ absurd (column_less (w - suc a) i j a b (omega arith) l lj lb e)
-    | inr (inr l) ↦ absurd (column_less (w - suc i) a b i j (omega arith) l lb lj (sym e))
-  ]
+  same_column i j a b li lj la lb e = same_if (λ l. column_less (w - suc a) i j a b (omega arith) l lj lb e)
+      (λ l. column_less (w - suc i) a b i j (omega arith) l lb lj (sym e))
 
   row_less : (n i j a b : ℕ) → b + suc n ≡ h → j < b → i < w → a < w → cell i j ≡ cell a b → ⊥
   row_less zero i j a b far l li la e = true≢false (sym (grid.north_shut a b la (omega arith))
@@ -169,11 +159,8 @@ module _ (mesh : HalfEdges) (laws : IsQuadManifold mesh) (cut : Cut) (full : IsC
       row_less n i (suc j) a (suc b) (omega arith) (omega arith) li la same
 
   pub same_row : (i j a b : ℕ) → i < w → j < h → a < w → b < h → cell i j ≡ cell a b → j ≡ b
-  same_row i j a b li lj la lb e = elim (cases_order j b) [
-    | inl s ↦ s
-    | inr (inl l) ↦ absurd (row_less (h - suc b) i j a b (omega arith) l li la e)
-    | inr (inr l) ↦ absurd (row_less (h - suc j) a b i j (omega arith) l la li (sym e))
-  ]
+  same_row i j a b li lj la lb e = same_if (λ l. row_less (h - suc b) i j a b (omega arith) l li la e)
+      (λ l. row_less (h - suc j) a b i j (omega arith) l la li (sym e))
 
   -- A half turn exchanges east and west, and north and south.
   turned_column : (n i j a b : ℕ) → i + suc n ≡ w → j < h → a < w → b < h → cell i j ≡ mesh.next (mesh.next (cell a b))
@@ -182,8 +169,7 @@ module _ (mesh : HalfEdges) (laws : IsQuadManifold mesh) (cut : Cut) (full : IsC
   turned_column zero i j (suc a) b far lj la lb e = absurd (true≢false (sym (grid.east_shut i j (omega arith) lj)
       ∙ (ap (λ x. cut (mesh.next x)) e ∙ (ap cut (sym (prev_three mesh laws (cell (suc a) b))) ∙ west_open a b la lb))))
   turned_column (suc n) i j zero b far lj la lb e =
-      absurd (true≢false (sym (grid.west_shut b lb)
-      ∙ (ap cut (prev_three mesh laws (cell 0 b))
+      absurd (true≢false (sym (grid.west_shut b lb) ∙ (ap cut (prev_three mesh laws (cell 0 b))
       ∙ (ap (λ x. cut (mesh.next x)) (sym e) ∙ grid.east_open i j (omega arith) lj))))
   turned_column (suc n) i j (suc a) b far lj la lb e =
       let li : suc i < w = omega arith in
@@ -243,8 +229,7 @@ module _ (mesh : HalfEdges) (laws : IsQuadManifold mesh) (cut : Cut) (full : IsC
       let f = mesh.prev (cell (suc i) j) in
       let before : mesh.prev d ≡ mesh.next (cell i j) = cc (prev_three mesh laws d) in
       let above = prev_three mesh laws f ∙ ap (λ x. mesh.next (mesh.next x)) (laws.next_prev _) in
-      two_turns d f (grid.low _ _ li lj) (cc (grid.east i j li (omega arith)))
-      (cc (grid.north _ j li lj))
+      two_turns d f (grid.low _ _ li lj) (cc (grid.east i j li (omega arith))) (cc (grid.north _ j li lj))
       (south_open _ j li lj) (cc (grid.east_open i j li (omega arith)))
       (west_open i j li (omega arith)) (cc (grid.north_open _ j li lj))
 
@@ -254,28 +239,23 @@ module _ (mesh : HalfEdges) (laws : IsQuadManifold mesh) (cut : Cut) (full : IsC
       (omega arith)
     where
       by_middle : (x y : ℕ) → 2 * x < w → w ≤ 2 * x + 2 → 2 * y < h → h ≤ 2 * y + 2 → ⊥
-      by_middle x y xl xh yl yh = by_at (carry 2 i j x y li lj (omega arith) (omega arith) at)
-        where
-          by_at : At mesh w h cell 2 (cell x y) → ⊥
-          by_at c =
-              let column = turned_column (w - suc x) x y c.a c.b (omega arith) (omega arith) c.a_low c.b_low c.is in
-              let row = turned_row (h - suc y) x y c.a c.b (omega arith) (omega arith) c.a_low c.b_low c.is in
-              by_place c.a c.b column row c.is (cases_eq c.a x) (cases_eq c.b y)
-            where
-              by_place : (a b : ℕ) → a ≡ w - suc x → b ≡ h - suc y → cell x y ≡ mesh.next (mesh.next (cell a b))
-                  → (a ≡ x) ⊎ (a ≡ x → ⊥) → (b ≡ y) ⊎ (b ≡ y → ⊥) → ⊥
-              by_place a b column row is (inl p) (inl q) = at_face x y (omega arith) (omega arith) (cc (is, p, q))
-              by_place a b column row is (inr p) (inl q) = let on : a ≡ suc x = omega arith in
-                  at_east_edge x y (omega arith) (omega arith)
-                  (cc (is, on, q))
-              by_place a b column row is (inl p) (inr q) = let up : b ≡ suc y = omega arith in
-                  at_north_edge x y (omega arith) (omega arith)
-                  (cc (is, p, up))
-              by_place a b column row is (inr p) (inr q) =
-                  let on : a ≡ suc x = omega arith in
-                  let up : b ≡ suc y = omega arith in
-                  at_vertex x y (omega arith) (omega arith)
-                  (cc (is, on, up))
+      by_middle x y xl xh yl yh =
+          let c = carry 2 i j x y li lj (omega arith) (omega arith) at in
+          let column = turned_column (w - suc x) x y c.a c.b (omega arith) (omega arith) c.a_low c.b_low c.is in
+          let row = turned_row (h - suc y) x y c.a c.b (omega arith) (omega arith) c.a_low c.b_low c.is in
+          let on : (c.a ≡ x → ⊥) → c.a ≡ suc x = λ p. omega (arith, p, column, c.a_low) in
+          let up : (c.b ≡ y → ⊥) → c.b ≡ suc y = λ q. omega (arith, q, row, c.b_low) in
+          elim (cases_eq c.a x) [
+            | inl p ↦ elim (cases_eq c.b y) [
+              | inl q ↦ at_face x y (omega arith) (omega arith) (cc (c.is, p, q))
+              | inr q ↦ at_north_edge x y (omega arith) (omega (arith, up q, c.b_low)) (cc (c.is, p, up q))
+            ]
+            | inr p ↦ elim (cases_eq c.b y) [
+              | inl q ↦ at_east_edge x y (omega (arith, on p, c.a_low)) (omega arith) (cc (c.is, on p, q))
+              | inr q ↦ at_vertex x y (omega (arith, on p, c.a_low)) (omega (arith, up q, c.b_low))
+                  (cc (c.is, on p, up q))
+            ]
+          ]
 
   -- No quarter turn either: done twice it is a half turn.
   no_quarter : (i j : ℕ) → i < w → j < h → At mesh w h cell 1 (cell i j) → ⊥
@@ -286,8 +266,7 @@ module _ (mesh : HalfEdges) (laws : IsQuadManifold mesh) (cut : Cut) (full : IsC
   no_three : (i j : ℕ) → i < w → j < h → At mesh w h cell 3 (cell i j) → ⊥
   no_three i j li lj at =
       let two = carry 3 i j at.a at.b li lj at.a_low at.b_low at in
-      no_half_turn i j li lj
-      (four_less laws {k = 2} (as_side two (cc)))
+      no_half_turn i j li lj (four_less laws {k = 2} (as_side two (cc)))
 
   -- A cell with a side in common with another is that cell.
   pub no_fold : (k i j a b : ℕ) → i < w → j < h → a < w → b < h → cell i j ≡ spin mesh k (cell a b) → (i ≡ a) × (j ≡ b)

@@ -13,12 +13,12 @@ pub record IsFirst (p : ℕ → Bool) (k : ℕ) : Type 0 where
   pub on : p k ≡ true
   pub before : (i : ℕ) → i < k → p i ≡ false
 
-first_or_none : (p : ℕ → Bool) (n : ℕ) → ((k : ℕ) × IsFirst p k) ⊎ ((i : ℕ) → i < n → p i ≡ false)
+pub first_or_none : (p : ℕ → Bool) (n : ℕ) → ((k : ℕ) × (k < n) × IsFirst p k) ⊎ ((i : ℕ) → i < n → p i ≡ false)
 first_or_none p zero = inr (λ i l. absurd (omega arith))
 first_or_none p (suc n) = elim (first_or_none p n) [
-  | inl found ↦ inl found
+  | inl found ↦ inl (found.0, omega (arith, found.1), found.2)
   | inr none ↦ elim (cases_Bool (p n)) [
-    | inl on ↦ inl (n, record { on = on; before = none })
+    | inl on ↦ inl (n, omega arith, record { on = on; before = none })
     | inr off ↦ inr (λ i l. elim (cases_eq i n) [ inl e ↦ cc | inr ne ↦ none i (omega arith) ])
   ]
 ]
@@ -31,7 +31,7 @@ norths_turned mesh d (suc j) = ap (step_east mesh) (norths_turned mesh d j)
 module _ (mesh : HalfEdges) (laws : IsQuadManifold mesh) (cut : Cut) (full : IsCut mesh cut) where
   row_there : (d : ℕ) → IsCorner mesh cut d → (w : ℕ) × IsRow mesh cut d w
   row_there d corner = elim (first_or_none (λ i. cut (mesh.next (easts mesh d i))) (suc mesh.count)) [
-    | inl (k, first) ↦ (
+    | inl (k, low, first) ↦ (
       suc k,
       record {
         wide = omega arith;
@@ -50,11 +50,11 @@ module _ (mesh : HalfEdges) (laws : IsQuadManifold mesh) (cut : Cut) (full : IsC
   endless_north d l on off = endless mesh laws cut full (mesh.next d) (laws.next_low d l) (ap cut (laws.prev_next d)
       ∙ on) (λ j h. ap (λ x. cut (mesh.next x)) (sym (norths_turned mesh d j)) ∙ off j h)
 
-  grown_there : (d : ℕ) → IsCorner mesh cut d → (w : ℕ) × (h : ℕ) × IsGrown mesh cut d w h
-  grown_there d corner =
+  pub grow : (d : ℕ) → IsCorner mesh cut d → (w : ℕ) × (h : ℕ) × IsGrown mesh cut d w h
+  grow d corner =
       let (w, row) = row_there d corner in
       elim (first_or_none (λ j. cut (mesh.next (mesh.next (norths mesh d j)))) (suc mesh.count)) [
-        | inl (k, first) ↦ (
+        | inl (k, low, first) ↦ (
           w,
           suc k,
           record {
@@ -86,25 +86,20 @@ module _ (mesh : HalfEdges) (laws : IsQuadManifold mesh) (cut : Cut) (full : IsC
   grown_grid d w h corner g = record {
     wide = g.wide;
     tall = g.tall;
-    low = λ i j li lj. row_low mesh laws cut full (norths mesh d j) w (row j lj) i li;
+    low = λ i j li lj. row_low mesh laws cut full (norths mesh d j) w (row_at g j lj) i li;
     east = λ i j li lj. east_twin mesh laws cut full (grown mesh d i j) (row_low mesh laws cut full (norths mesh d j) w
-        (row j lj) i (omega arith)) ((row j lj).inside i li);
+        (row_at g j lj) i (omega arith)) ((row_at g j lj).inside i li);
     north = λ i j li lj. north_twin mesh laws cut full (grown mesh d i j) (row_low mesh laws cut full (norths mesh d j)
-        w (row j (omega arith)) i li) (row_north_off mesh laws cut full (row j (omega arith)) (g.inside j lj) i li)
-        ∙ ap Some (sym (row_above mesh laws cut full (row j (omega arith)) (g.inside j lj) i li));
-    east_open = λ i j li lj. (row j lj).inside i li;
-    north_open = λ i j li lj. row_north_off mesh laws cut full (row j (omega arith)) (g.inside j lj) i li;
+        w (row_at g j (omega arith)) i li)
+        (row_north_off mesh laws cut full (row_at g j (omega arith)) (g.inside j lj) i li)
+        ∙ ap Some (sym (row_above mesh laws cut full (row_at g j (omega arith)) (g.inside j lj) i li));
+    east_open = λ i j li lj. (row_at g j lj).inside i li;
+    north_open = λ i j li lj. row_north_off mesh laws cut full (row_at g j (omega arith)) (g.inside j lj) i li;
     south_shut = λ i li. row_south mesh laws cut full d w g.row corner.1 i li;
     west_shut = λ j lj. west_at g corner.2 j lj;
-    east_shut = λ i j e lj. (row j lj).ends i e;
-    north_shut = λ i j li e. row_north_on mesh laws cut full (row j (omega arith)) (g.ends j e) i li;
+    east_shut = λ i j e lj. (row_at g j lj).ends i e;
+    north_shut = λ i j li e. row_north_on mesh laws cut full (row_at g j (omega arith)) (g.ends j e) i li;
   }
-    where
-      row : (j : ℕ) → j < h → IsRow mesh cut (norths mesh d j) w
-      row j l = row_at g j l
-
-  pub grow : (d : ℕ) → IsCorner mesh cut d → (w : ℕ) × (h : ℕ) × IsGrown mesh cut d w h
-  grow d corner = grown_there d corner
 
 pub grid_law : GridLaw
 grid_law mesh cut laws full d corner =

@@ -2,6 +2,16 @@
 use Rattle.std.proofs.Common.{◌≡◌, ℕ, zero, suc, ◌<◌, ◌≤◌, sym, ◌∙◌, ap, inl, inr, arith}
 use Rattle.std.proofs.lemmas.Bool.{cases_eq, cases_order}
 
+-- Numbers of which neither is less are equal.
+pub same_if : {a b : ℕ} → (a < b → ⊥) → (b < a → ⊥) → a ≡ b
+same_if {a} {b} less more = elim (cases_order a b)
+    [ inl s ↦ s | inr (inl l) ↦ absurd (less l) | inr (inr l) ↦ absurd (more l) ]
+
+-- Values below a bound differ if each differs from the earlier ones.
+pub apart_if : (n : ℕ) (g : ℕ → ℕ) → ((i j : ℕ) → i < j → j < n → g i ≡ g j → ⊥) → (i j : ℕ) → i < n → j < n
+    → g i ≡ g j → i ≡ j
+apart_if n g later i j li lj e = same_if (λ l. later i j l lj e) (λ l. later j i l li (sym e))
+
 -- The first n values rise.
 pub record AreIncreasing (a : ℕ → ℕ) (n : ℕ) : Type 0 where
   pub step : (k : ℕ) → suc k < n → a k < a (suc k)
@@ -16,11 +26,7 @@ increasing_less {a} r j (suc k) l h =
     ]
 
 pub increasing_place : (a : ℕ → ℕ) (n : ℕ) → AreIncreasing a n → (j k : ℕ) → j < n → k < n → a j ≡ a k → j ≡ k
-increasing_place a n r j k lj lk e = elim (cases_order j k) [
-  | inl s ↦ s
-  | inr (inl l) ↦ absurd (let less = increasing_less r j k l lk in omega arith)
-  | inr (inr l) ↦ absurd (let less = increasing_less r k j l lj in omega arith)
-]
+increasing_place a n r = apart_if n a (λ j k l lk e. let less = increasing_less r j k l lk in omega arith)
 
 -- No value of one at place k is below that of the other, which has it too, if they agree before.
 not_below : {a b : ℕ → ℕ} {n m : ℕ} → AreIncreasing a n → AreIncreasing b m → (k : ℕ) → k < n

@@ -12,16 +12,13 @@ use Rattle.merge_laws.proofs.Sides.{side_low, side_on}
 
 -- Whether a dart lies on an arc.
 pub on_or_not : (mesh : HalfEdges) (s t n d : ℕ) → IsOnArc mesh s t n d ⊎ (IsOnArc mesh s t n d → ⊥)
-on_or_not mesh s t n d = by_sides (sent_or_not (easts mesh s) d n) (sent_or_not (easts mesh t) d n)
-  where
-    by_sides : ((k : ℕ) × (k < n) × (easts mesh s k ≡ d)) ⊎ ((k : ℕ) → k < n → easts mesh s k ≡ d → ⊥)
-        → ((k : ℕ) × (k < n) × (easts mesh t k ≡ d)) ⊎ ((k : ℕ) → k < n → easts mesh t k ≡ d → ⊥) → IsOnArc mesh s t n d
-        ⊎ (IsOnArc mesh s t n d → ⊥)
-    by_sides (inl a) b = inl (a.0, a.1, inl (sym a.2))
-    by_sides (inr a) (inl b) = inl (b.0, b.1, inr (sym b.2))
-    by_sides (inr a) (inr b) =
-        let none : IsOnArc mesh s t n d → ⊥ = λ o. elim o.2 [ inl e ↦ a o.0 o.1 (sym e) | inr e ↦ b o.0 o.1 (sym e) ] in
-        inr none
+on_or_not mesh s t n d = elim (sent_or_not (easts mesh s) d n) [
+  | inl a ↦ inl (a.0, a.1, inl (sym a.2))
+  | inr a ↦ elim (sent_or_not (easts mesh t) d n) [
+    | inl b ↦ inl (b.0, b.1, inr (sym b.2))
+    | inr b ↦ inr (λ o. elim o.2 [ inl e ↦ a o.0 o.1 (sym e) | inr e ↦ b o.0 o.1 (sym e) ])
+  ]
+]
 
 pub other_way : (mesh : HalfEdges) (s t n d : ℕ) → IsOnArc mesh s t n d → IsOnArc mesh t s n d
 other_way mesh s t n d o = (o.0, o.1, elim o.2 [ inl e ↦ inr e | inr e ↦ inl e ])
@@ -67,32 +64,22 @@ module _ (mesh : HalfEdges) (laws : IsQuadManifold mesh) (cut : Cut) (full : IsC
   }
 
   pub on_low : (s t n : ℕ) → AreGlued mesh cut s t n → (d : ℕ) → IsOnArc mesh s t n d → d < mesh.count
-  on_low s t n g d o = elim o.2 [
-    | inl e ↦ rw e (side_low mesh laws cut full s n g.near o.0 o.1)
-    | inr e ↦ rw e (side_low mesh laws cut full t n g.far o.0 o.1)
-  ]
+  on_low s t n g d (k, l, inl e) = rw e (side_low mesh laws cut full s n g.near k l)
+  on_low s t n g d (k, l, inr e) = rw e (side_low mesh laws cut full t n g.far k l)
 
   pub on_cut : (s t n : ℕ) → AreGlued mesh cut s t n → (d : ℕ) → IsOnArc mesh s t n d → cut d ≡ true
-  on_cut s t n g d o = elim o.2 [
-    | inl e ↦ ap cut e ∙ side_on mesh laws cut full s n g.near o.0 o.1
-    | inr e ↦ ap cut e ∙ side_on mesh laws cut full t n g.far o.0 o.1
-  ]
+  on_cut s t n g d (k, l, inl e) = ap cut e ∙ side_on mesh laws cut full s n g.near k l
+  on_cut s t n g d (k, l, inr e) = ap cut e ∙ side_on mesh laws cut full t n g.far k l
 
   -- Its darts are paired.
   pub on_twin : {s t n : ℕ} → AreGlued mesh cut s t n → (d : ℕ) → IsOnArc mesh s t n d → (e : ℕ)
       × (mesh.twin d ≡ Some e) × IsOnArc mesh s t n e
-  on_twin {s} {t} {n} g d o = elim o.2 [
-    | inl e ↦ (
-      easts mesh t (n - suc o.0),
-      ap mesh.twin e ∙ g.across o.0 (n - suc o.0) (omega arith),
-      (n - suc o.0, omega arith, inr refl),
-    )
-    | inr e ↦ (
-      easts mesh s (n - suc o.0),
-      ap mesh.twin e ∙ (turned_glued g).across o.0 (n - suc o.0) (omega arith),
-      (n - suc o.0, omega arith, inl refl),
-    )
-  ]
+  on_twin {s} {t} {n} g d (k, l, inl e) =
+      let j = n - suc k in
+      (easts mesh t j, ap mesh.twin e ∙ g.across k j (omega arith), (j, omega arith, inr refl))
+  on_twin {s} {t} {n} g d (k, l, inr e) =
+      let j = n - suc k in
+      (easts mesh s j, ap mesh.twin e ∙ (turned_glued g).across k j (omega arith), (j, omega arith, inl refl))
 
   -- No other side of a cell is a south side of its grid.
   pub never_south : (w h : ℕ) (cell : Cells) → IsGrid mesh cut w h cell → (q i a b : ℕ) → 0 < q → q < 4 → i < w → a < w
@@ -109,12 +96,11 @@ module _ (mesh : HalfEdges) (laws : IsQuadManifold mesh) (cut : Cut) (full : IsC
       lc = grid.low a b la lb
 
       by_turn : (q : ℕ) → 0 < q → q < 4 → cell a b ≡ spin mesh q (cell a b) → ⊥
-      by_turn zero some low e = omega arith
       by_turn (suc zero) some low e = (laws.corners_differ (cell a b) lc).0 (ap mesh.from e)
       by_turn (suc (suc zero)) some low e = (laws.corners_differ (cell a b) lc).1 (ap mesh.from e)
       by_turn (suc (suc (suc zero))) some low e =
           (laws.corners_differ (cell a b) lc).0 (sym (ap mesh.from (ap mesh.next e ∙ laws.four_sides (cell a b))))
-      by_turn (suc (suc (suc (suc q)))) some low e = omega arith
+      by_turn _ some low e = omega arith
 
 -- What is left of the cut without an arc.
 module _ (mesh : HalfEdges) (laws : IsQuadManifold mesh) (cut rest : Cut) (s t n : ℕ)

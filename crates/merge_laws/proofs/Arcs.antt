@@ -2,10 +2,11 @@
 -- run.
 use Rattle.std.proofs.Common.{◌≡◌, ◌⊎◌, ℕ, zero, suc, ◌-◌, ◌<◌, ◌≤◌, Bool, true, false, sym, ◌∙◌, ap, refl, inl}
 use Rattle.std.proofs.Common.{inr, true≢false, arith}
-use Rattle.std.proofs.lemmas.Bool.{cases_Bool, cases_eq, cases_lt}
+use Rattle.std.proofs.lemmas.Bool.{cases_eq, cases_lt}
 use Rattle.std.proofs.lemmas.Option.{same_Some}
 use Rattle.def_mesh.specs.HalfEdges.{HalfEdges, IsQuadManifold}
 use Rattle.def_cut.specs.{Cuts.Cut, Cuts.IsCut, Steps.easts}
+use Rattle.cut_laws.proofs.Grown.{first_or_none}
 use Rattle.merge_laws.proofs.Sides.{side_low, side_on, first_place, one_place, one_size}
 use Rattle.merge_laws.proofs.ArcDarts.{on_or_not, other_way, turned_glued, less, links_less}
 use Rattle.merge_laws.proofs.Joins.{join_law}
@@ -16,66 +17,38 @@ use Rattle.def_merge.specs.Laws.{GrownLaw}
 abbrev pub AreOneArc : (s t r u : ℕ) → Type 0
 AreOneArc s t r u = ((s ≡ r) × (t ≡ u)) ⊎ ((s ≡ u) × (t ≡ r))
 
--- A test passes at some number below a bound, or at none.
-some_or_none : (p : ℕ → Bool) (n : ℕ) → ((k : ℕ) × (k < n) × (p k ≡ true)) ⊎ ((k : ℕ) → k < n → p k ≡ false)
-some_or_none p zero = inr (λ k l. absurd (omega arith))
-some_or_none p (suc n) = elim (some_or_none p n) [
-  | inl f ↦ inl (f.0, omega (arith, f.1), f.2)
-  | inr none ↦ elim (cases_Bool (p n)) [
-    | inl on ↦ inl (n, omega arith, on)
-    | inr off ↦ inr (λ k l. elim (cases_eq k n) [ inl e ↦ ap p e ∙ off | inr ne ↦ none k (omega arith) ])
-  ]
-]
-
--- Two darts for each of n places: the least of them.
-least_below : (f g : ℕ → ℕ) (n : ℕ) → 0 < n → (m : ℕ) × ((k : ℕ) × (k < n) × ((m ≡ f k) ⊎ (m ≡ g k)))
-    × ((k : ℕ) → k < n → (m ≤ f k) × (m ≤ g k))
-least_below f g zero l = absurd (omega arith)
-least_below f g (suc zero) l =
-    let all : (m : ℕ) → m ≤ f 0 → m ≤ g 0 → (k : ℕ) → k < 1 → (m ≤ f k) × (m ≤ g k) = λ m a b k h.
-    let e : k ≡ 0 = omega arith in
-    rw e (a, b) in
-    elim (cases_lt (g 0) (f 0)) [
-      | inl less ↦ (g 0, (0, omega arith, inr refl), all (g 0) (omega arith) (omega arith))
-      | inr more ↦ (f 0, (0, omega arith, inl refl), all (f 0) (omega arith) (omega arith))
-    ]
-least_below f g (suc (suc n)) l =
-    let r = least_below f g (suc n) (omega arith) in
-    let with_last : (m : ℕ) → m ≤ r.0 → m ≤ f (suc n) → m ≤ g (suc n) → (k : ℕ) → k < suc (suc n)
-    → (m ≤ f k) × (m ≤ g k) = λ m below a b k h. elim (cases_eq k (suc n)) [
-      | inl e ↦ rw e (a, b)
-      | inr ne ↦ let q = r.2 k (omega arith) in (omega (arith, q.0, below), omega (arith, q.1, below))
-    ] in
-    elim (cases_lt (f (suc n)) r.0) [
-      | inr a ↦ elim (cases_lt (g (suc n)) r.0) [
-        | inr b ↦ (r.0, (r.1.0, omega (arith, r.1.1), r.1.2), with_last r.0 (omega arith) a b)
-        | inl b ↦ (
-          g (suc n),
-          (suc n, omega arith, inr refl),
-          with_last (g (suc n)) (omega arith) (omega arith) (omega arith),
-        )
-      ]
-      | inl a ↦ elim (cases_lt (g (suc n)) (f (suc n))) [
-        | inl c ↦ (
-          g (suc n),
-          (suc n, omega arith, inr refl),
-          with_last (g (suc n)) (omega arith) (omega arith) (omega arith),
-        )
-        | inr c ↦ (f (suc n), (suc n, omega arith, inl refl), with_last (f (suc n)) (omega arith) (omega arith) c)
-      ]
+-- The least value up to some place.
+least_to : (f : ℕ → ℕ) (n : ℕ) → (k : ℕ) × (k ≤ n) × ((j : ℕ) → j ≤ n → f k ≤ f j)
+least_to f zero = (0, omega arith, λ j h. let e : j ≡ 0 = omega arith in rw e (omega arith))
+least_to f (suc n) =
+    let r = least_to f n in
+    let with_last : (k : ℕ) → f k ≤ f r.0 → f k ≤ f (suc n) → (j : ℕ) → j ≤ suc n → f k ≤ f j = λ k a b j h. elim
+    (cases_eq j (suc n)) [ inl e ↦ rw e b | inr ne ↦ let c = r.2 j (omega arith) in omega (arith, a, c) ] in
+    elim (cases_lt (f (suc n)) (f r.0)) [
+      | inl l ↦ (suc n, omega arith, with_last (suc n) (omega arith) (omega arith))
+      | inr g ↦ (r.0, omega (arith, r.1), with_last r.0 (omega arith) (omega arith))
     ]
 
 -- Each arc has a name.
 pub name_there : (mesh : HalfEdges) (s t n : ℕ) → 0 < n → (name : ℕ) × IsNameOf mesh s t n name
 name_there mesh s t n some =
-    let r = least_below (easts mesh s) (easts mesh t) n some in (
-      r.0,
-      record {
-        on = r.1;
-        least = λ d o. let q = r.2 o.0 o.1 in elim o.2
-            [ inl e ↦ omega (arith, e, q.0) | inr e ↦ omega (arith, e, q.1) ];
-      },
-    )
+    let a = least_to (easts mesh s) (n - 1) in
+    let b = least_to (easts mesh t) (n - 1) in
+    let least : (name : ℕ) → name ≤ easts mesh s a.0 → name ≤ easts mesh t b.0 → (d : ℕ) → IsOnArc mesh s t n d
+    → name ≤ d = λ name p q d o. elim o.2 [
+      | inl e ↦ omega (arith, e, p, a.2 o.0 (omega (arith, o.1)))
+      | inr e ↦ omega (arith, e, q, b.2 o.0 (omega (arith, o.1)))
+    ] in
+    elim (cases_lt (easts mesh s a.0) (easts mesh t b.0)) [
+      | inl l ↦ (
+        easts mesh s a.0,
+        record { on = (a.0, omega (arith, a.1), inl refl); least = least _ (omega arith) (omega arith) },
+      )
+      | inr g ↦ (
+        easts mesh t b.0,
+        record { on = (b.0, omega (arith, b.1), inr refl); least = least _ (omega arith) (omega arith) },
+      )
+    ]
 
 pub one_name : (mesh : HalfEdges) (s t n a b : ℕ) → IsNameOf mesh s t n a → IsNameOf mesh s t n b → a ≡ b
 one_name mesh s t n a b one two = omega (arith, one.least b two.on, two.least a one.on)
@@ -103,19 +76,16 @@ module _ (mesh : HalfEdges) (laws : IsQuadManifold mesh) (cut : Cut) (full : IsC
   -- Arcs with a dart in common are one.
   pub one_arc : (s t n r u m d : ℕ) → AreGlued mesh cut s t n → AreGlued mesh cut r u m → IsOnArc mesh s t n d
       → IsOnArc mesh r u m d → AreOneArc s t r u × (n ≡ m)
-  one_arc s t n r u m d one two a b =
-      let turned_one = turned_glued mesh laws cut full one in
+  one_arc s t n r u m d one two (k, lk, inl e) (j, lj, inl f) =
+      let p = one_near k j one two lk lj (sym e ∙ f) in (inl (p.0, p.1), p.2)
+  one_arc s t n r u m d one two (k, lk, inl e) (j, lj, inr f) =
+      let p = one_near k j one (turned_glued mesh laws cut full two) lk lj (sym e ∙ f) in (inr (p.0, p.1), p.2)
+  one_arc s t n r u m d one two (k, lk, inr e) (j, lj, inl f) =
+      let p = one_near k j (turned_glued mesh laws cut full one) two lk lj (sym e ∙ f) in (inr (p.1, p.0), p.2)
+  one_arc s t n r u m d one two (k, lk, inr e) (j, lj, inr f) =
       let turned_two = turned_glued mesh laws cut full two in
-      elim a.2 [
-        | inl e ↦ elim b.2 [
-          | inl f ↦ let p = one_near a.0 b.0 one two a.1 b.1 (sym e ∙ f) in (inl (p.0, p.1), p.2)
-          | inr f ↦ let p = one_near a.0 b.0 one turned_two a.1 b.1 (sym e ∙ f) in (inr (p.0, p.1), p.2)
-        ]
-        | inr e ↦ elim b.2 [
-          | inl f ↦ let p = one_near a.0 b.0 turned_one two a.1 b.1 (sym e ∙ f) in (inr (p.1, p.0), p.2)
-          | inr f ↦ let p = one_near a.0 b.0 turned_one turned_two a.1 b.1 (sym e ∙ f) in (inl (p.1, p.0), p.2)
-        ]
-      ]
+      let p = one_near k j (turned_glued mesh laws cut full one) turned_two lk lj (sym e ∙ f) in
+      (inl (p.1, p.0), p.2)
 
   module _ {rest : Cut} {s t n : ℕ} (arc : IsJoinable mesh cut s t n) (without : IsWithout mesh cut rest s t n) where
     full_rest : IsCut mesh rest
@@ -140,7 +110,7 @@ module _ (mesh : HalfEdges) (laws : IsQuadManifold mesh) (cut : Cut) (full : IsC
     side_before_or_over : (r m : ℕ) → IsWholeSide mesh rest r m → IsWholeSide mesh cut r m
         ⊎ ((k : ℕ) × (k < m) × ((mesh.prev s ≡ easts mesh r k) ⊎ (mesh.prev t ≡ easts mesh r k)))
     unfolding full_rest
-    side_before_or_over r m side = elim (some_or_none (λ k. cut (mesh.next (easts mesh r k))) (m - 1)) [
+    side_before_or_over r m side = elim (first_or_none (λ k. cut (mesh.next (easts mesh r k))) (m - 1)) [
       | inl f ↦ elim (on_or_not mesh s t n (mesh.next (easts mesh r f.0))) [
         | inl o ↦ inr (
           f.0,
@@ -148,8 +118,7 @@ module _ (mesh : HalfEdges) (laws : IsQuadManifold mesh) (cut : Cut) (full : IsC
           elim (over_end (easts mesh r f.0) (low f.0 (omega arith)) (side_on mesh laws rest full_rest r m side f.0
               (omega arith)) o) [ inl e ↦ inl (sym e) | inr e ↦ inr (sym e) ],
         )
-        | inr none ↦ absurd (true≢false (sym f.2
-            ∙ (sym (without.kept (mesh.next (easts mesh r f.0))
+        | inr none ↦ absurd (true≢false (sym f.2.on ∙ (sym (without.kept (mesh.next (easts mesh r f.0))
             (laws.next_low (easts mesh r f.0) (low f.0 (omega arith))) none) ∙ side.inside f.0 (omega arith))))
       ]
       | inr none ↦ inl (record {

@@ -2,7 +2,7 @@
 use Rattle.std.proofs.Common.{◌≡◌, ℕ, zero, suc, ◌<◌, Bool, true, false, not, eqb, ◌&&◌, ◌||◌, List}
 use Rattle.std.proofs.Common.{length, sym, ◌∙◌, ap, refl, inl, inr, arith}
 use Rattle.std.proofs.lemmas.Bool.{cases_Bool, or_left, or_right, or_cases, and_from, and_parts, eq-eqb, eqb-true}
-use Rattle.std.proofs.lemmas.Bool.{false≢true}
+use Rattle.std.proofs.lemmas.Bool.{false≢true, false_from_ne_true}
 use Rattle.std.proofs.lemmas.List.{ext_get_or, length-map}
 use Rattle.std.proofs.lemmas.List.FromFn.{length-range_with_len, get_or-map-range_with_len}
 use Rattle.std.specs.List.{list_all, range_with_len}
@@ -15,7 +15,7 @@ use Rattle.def_merge.specs.Merged.{IsStep, Steps}
 use Rattle.mesh_laws.proofs.HalfEdges.{manifold_law}
 use Rattle.face_laws.proofs.FullCuts.{full_cut_law}
 use Rattle.motion_laws.proofs.Among.{any_at, any_where, all_at, not_all, among_range, range_among}
-use Rattle.merge_laws.proofs.OneMerged.{IsCutOf, cut_reached}
+use Rattle.merge_laws.proofs.{ArcDarts.on_or_not, OneMerged.IsCutOf, OneMerged.cut_reached}
 
 -- The test of an arc's darts is what it says.
 pub on_arc : (mesh : HalfEdges) (s t n d : ℕ) → IsOnArc mesh s t n d → is_on_arc mesh s t n d ≡ true
@@ -77,24 +77,31 @@ pub without_long : (faces : Faces) (cut : List Bool) (s t n : ℕ) → length (w
 without_long faces cut s t n = length-map (all_darts faces)
     (λ x. is_on cut x && not (is_on_arc (half_edges faces) s t n x)) ∙ length-range_with_len 0 (darts faces)
 
+-- What is left of a cut without an arc.
+pub left_at : (faces : Faces) (cut : List Bool) (s t n d : ℕ) → d < darts faces
+    → (IsOnArc (half_edges faces) s t n d → is_on (without faces cut s t n) d ≡ false)
+    × ((IsOnArc (half_edges faces) s t n d → ⊥) → is_on (without faces cut s t n) d ≡ is_on cut d)
+left_at faces cut s t n d l =
+    let mesh = half_edges faces in
+    let off_test : (a b : Bool) → b ≡ true → (a && not b) ≡ false =
+    elim [ true ↦ λ b y. ap not y | false ↦ λ b y. refl ] in
+    let on_test : (a b : Bool) → b ≡ false → (a && not b) ≡ a =
+    elim [ true ↦ λ b y. ap not y | false ↦ λ b y. refl ] in (
+      λ o. without_is faces cut s t n d l ∙ off_test (is_on cut d) _ (on_arc mesh s t n d o),
+      λ none. without_is faces cut s t n d l
+          ∙ on_test (is_on cut d) _ (false_from_ne_true _ (λ y. none (of_arc mesh s t n d y))),
+    )
+
 -- The cut of a step is the one that is left.
 pub step_is : {faces : Faces} (marks : List Bool) {cut rest : List Bool} → length cut ≡ darts faces
     → (step : IsStep faces (may_beside faces marks) cut rest) → rest ≡ without faces cut step.near step.far step.size
-step_is {faces} marks {cut} {rest} long step =
-    let mesh = half_edges faces in
-    let s = step.near in
-    let t = step.far in
-    let n = step.size in
-    let off_test : (a b : Bool) → b ≡ true → (a && not b) ≡ false =
-    elim [ true ↦ λ b y. ap not y | false ↦ λ b y. refl ] in
-    let on_test : (a b : Bool) → b ≡ false → (a && not b) ≡ a = elim [ true ↦ λ b y. ap not y | false ↦ λ b y. refl ] in
-    ext_get_or false rest (without faces cut s t n) (step.long ∙ (long ∙ sym (without_long faces cut s t n))) (λ d h.
+step_is {faces} marks {cut} {rest} long step = ext_get_or false rest (without faces cut step.near step.far step.size)
+    (step.long ∙ (long ∙ sym (without_long faces cut step.near step.far step.size))) (λ d h.
     let l : d < darts faces = omega (arith, h, step.long, long) in
-    elim (cases_Bool (is_on_arc mesh s t n d)) [
-      | inl y ↦ step.without.gone d (of_arc mesh s t n d y)
-          ∙ sym (without_is faces cut s t n d l ∙ off_test (is_on cut d) _ y)
-      | inr clear ↦ step.without.kept d l (λ o. false≢true (sym clear ∙ on_arc mesh s t n d o))
-          ∙ sym (without_is faces cut s t n d l ∙ on_test (is_on cut d) _ clear)
+    let left = left_at faces cut step.near step.far step.size d l in
+    elim (on_or_not (half_edges faces) step.near step.far step.size d) [
+      | inl o ↦ step.without.gone d o ∙ sym (left.0 o)
+      | inr none ↦ step.without.kept d l none ∙ sym (left.1 none)
     ])
 
 module _ (faces : Faces) (laws : IsQuadManifold (half_edges faces)) (marks : List Bool) where

@@ -17,51 +17,45 @@ found_or_not : (o : Option ℕ) (t : ℕ) → (o ≡ Some t) ⊎ (o ≡ Some t �
 found_or_not None t = inr (λ e. cc)
 found_or_not (Some x) t = elim (cases_eq x t) [ inl e ↦ inl (ap Some e) | inr ne ↦ inr (λ e. ne (same_Some x t e)) ]
 
+-- Whether something holds is decided.
+abbrev OrNot : Type 0 → Type 0
+OrNot P = P ⊎ (P → ⊥)
+
+either : {P Q : Type 0} → OrNot P → OrNot Q → OrNot (P ⊎ Q)
+either (inl p) q = inl (inl p)
+either (inr none) (inl q) = inl (inr q)
+either (inr none) (inr never) = inr (λ o. elim o [ inl p ↦ none p | inr q ↦ never q ])
+
 module _ {mesh : HalfEdges} (laws : IsQuadManifold mesh) {cut : Cut} (full : IsCut mesh cut) (may : Leave) where
-  -- The arcs that join two patches from s.
-  abbrev From : (s : ℕ) → Type 0
-  From s = (t : ℕ) × (n : ℕ) × IsJoinable mesh cut s t n
+  -- The arcs that join two patches over the whole side from s.
+  abbrev From : (s n : ℕ) → Type 0
+  From s n = (t : ℕ) × IsJoinable mesh cut s t n
 
   -- An arc over d may leave.
   abbrev pub Over : (d : ℕ) → Type 0
   Over d = (s : ℕ) × (t : ℕ) × (n : ℕ) × IsJoinable mesh cut s t n × (may s t n ≡ true) × IsOnArc mesh s t n d
 
-  abbrev OrNot : Type 0 → Type 0
-  OrNot P = P ⊎ (P → ⊥)
-
   -- Whether a corner lies in the patch of a side.
   in_one_or_not : (s n t : ℕ) → IsWholeSide mesh cut s n → IsCorner mesh cut t → OrNot (AreInOne mesh cut s t)
   in_one_or_not s n t side corner =
-      let g = grid_on mesh laws cut full s n side in
-      let h = g.0 in
-      let grid = g.1 in
+      let (h, grid) = grid_on mesh laws cut full s n side in
       let cell = grown mesh s in
       let linked : (k a b : ℕ) → a < n → b < h → t ≡ spin mesh k (grown mesh s a b) → AreInOne mesh cut s t =
       λ k a b la lb is. linked_in mesh laws cut full n h cell grid t
       (k, record { a = a; b = b; a_low = la; b_low = lb; is = is }) in
-      let none : (IsFirstDart mesh n h (grown mesh s) t → ⊥) → AreInOne mesh cut s t → ⊥ = λ not_first a.
-      not_first (corner_in mesh laws cut full n h cell grid t (closed mesh laws cut full n h cell grid s t a.0 a.1
-      (first_in mesh laws cut full n h cell grid)) corner) in
-      elim (cases_eq t (cell 0 0)) [
-        | inl e ↦ inl (linked 0 0 0 grid.wide grid.tall e)
-        | inr a ↦ elim (cases_eq t (mesh.next (cell (n - 1) 0))) [
-          | inl e ↦ inl (linked 1 (n - 1) 0 (omega arith) grid.tall e)
-          | inr b ↦ elim (cases_eq t (mesh.next (mesh.next (cell (n - 1) (h - 1))))) [
-            | inl e ↦ inl (linked 2 (n - 1) (h - 1) (omega arith) (omega arith) e)
-            | inr c ↦ elim (cases_eq t (mesh.next (mesh.next (mesh.next (cell 0 (h - 1)))))) [
-              | inl e ↦ inl (linked 3 0 (h - 1) grid.wide (omega arith) e)
-              | inr d ↦ inr (none (λ first. elim first
-                  [ inl e ↦ a e | inr (inl e) ↦ b e | inr (inr (inl e)) ↦ c e | inr (inr (inr e)) ↦ d e ]))
-            ]
-          ]
-        ]
+      let first : OrNot (IsFirstDart mesh n h (grown mesh s) t) = either (cases_eq t (cell 0 0)) (either
+      (cases_eq t (mesh.next (cell (n - 1) 0))) (either (cases_eq t (mesh.next (mesh.next (cell (n - 1) (h - 1)))))
+      (cases_eq t (mesh.next (mesh.next (mesh.next (cell 0 (h - 1)))))))) in
+      elim first [
+        | inl f ↦ inl (elim f [
+          | inl e ↦ linked 0 0 0 grid.wide grid.tall e
+          | inr (inl e) ↦ linked 1 (n - 1) 0 (omega arith) grid.tall e
+          | inr (inr (inl e)) ↦ linked 2 (n - 1) (h - 1) (omega arith) (omega arith) e
+          | inr (inr (inr e)) ↦ linked 3 0 (h - 1) grid.wide (omega arith) e
+        ])
+        | inr none ↦ inr (λ a. none (corner_in mesh laws cut full n h cell grid t (closed mesh laws cut full n h cell
+            grid s t a.0 a.1 (first_in mesh laws cut full n h cell grid)) corner))
       ]
-
-  -- The whole side that begins at a corner.
-  side_there : (s : ℕ) → IsCorner mesh cut s → (n : ℕ) × IsWholeSide mesh cut s n
-  side_there s corner =
-      let g = grow mesh laws cut full s corner in
-      (g.0, record { some = g.2.wide; corner = corner; inside = g.2.row.inside; ends = g.2.row.ends })
 
   -- Whether two whole sides are one arc.
   abbrev Across : (s t n : ℕ) → Type 0
@@ -86,30 +80,27 @@ module _ {mesh : HalfEdges} (laws : IsQuadManifold mesh) {cut : Cut} (full : IsC
       ]
 
   -- Whether an arc that joins two patches begins at s.
-  begins_at : {s : ℕ} (n : ℕ) → IsWholeSide mesh cut s n → OrNot (From s)
+  begins_at : {s : ℕ} (n : ℕ) → IsWholeSide mesh cut s n → OrNot (From s n)
   begins_at {s} n side = by_twin (mesh.twin (easts mesh s (n - 1))) refl
     where
       -- Each arc from s ends there.
-      far_is : (f : From s) → mesh.twin (easts mesh s (n - 1)) ≡ Some f.0
-      far_is (t, m, arc) =
-          let same = one_size mesh laws cut full s m n arc.glued.near side in
-          arc.glued.across (n - 1) 0 (omega arith)
+      far_is : (f : From s n) → mesh.twin (easts mesh s (n - 1)) ≡ Some f.0
+      far_is (t, arc) = arc.glued.across (n - 1) 0 (omega arith)
 
-      by_far : (t : ℕ) → mesh.twin (easts mesh s (n - 1)) ≡ Some t → IsCorner mesh cut t → OrNot (From s)
+      by_far : (t : ℕ) → mesh.twin (easts mesh s (n - 1)) ≡ Some t → IsCorner mesh cut t → OrNot (From s n)
       by_far t is there =
-          let m = (side_there t there).0 in
-          let far = (side_there t there).1 in
-          let at_t : From s → IsJoinable mesh cut s t n = λ f. rw (← same_Some f.0 t (sym (far_is f) ∙ is))
-          (rw (one_size mesh laws cut full s f.1 n f.2.glued.near side) at f.2) in
-          elim (cases_eq m n) [
-            | inr never ↦ inr (λ f. never (one_size mesh laws cut full t m n far (at_t f).glued.far))
+          let g = grow mesh laws cut full t there in
+          let far : IsWholeSide mesh cut t g.0 =
+          record { some = g.2.wide; corner = there; inside = g.2.row.inside; ends = g.2.row.ends } in
+          let at_t : From s n → IsJoinable mesh cut s t n = λ f. rw (← same_Some f.0 t (sym (far_is f) ∙ is)) f.1 in
+          elim (cases_eq g.0 n) [
+            | inr never ↦ inr (λ f. never (one_size mesh laws cut full t g.0 n far (at_t f).glued.far))
             | inl e ↦ elim (across_or_not s t n n (omega arith)) [
               | inr never ↦ inr (λ f. never (at_t f).glued.across)
               | inl across ↦ elim (in_one_or_not s n t side there) [
                 | inl one ↦ inr (λ f. (at_t f).apart one)
                 | inr apart ↦ inl (
                   t,
-                  n,
                   record {
                     glued = record { near = side; far = rw e at far; across = λ k j sum. across k j (omega arith) sum };
                     apart = apart;
@@ -119,7 +110,7 @@ module _ {mesh : HalfEdges} (laws : IsQuadManifold mesh) {cut : Cut} (full : IsC
             ]
           ]
 
-      by_twin : (o : Option ℕ) → mesh.twin (easts mesh s (n - 1)) ≡ o → OrNot (From s)
+      by_twin : (o : Option ℕ) → mesh.twin (easts mesh s (n - 1)) ≡ o → OrNot (From s n)
       by_twin None is = inr (λ f. let both : None ≡ Some f.0 = sym is ∙ far_is f in cc)
       by_twin (Some t) is =
           let x = easts mesh s (n - 1) in
@@ -132,11 +123,8 @@ module _ {mesh : HalfEdges} (laws : IsQuadManifold mesh) {cut : Cut} (full : IsC
             )
             | inr off ↦ inr (λ f.
                 let same = same_Some f.0 t (sym (far_is f) ∙ is) in
-                true≢false (sym (rw same at f.2.glued.far.corner).2 ∙ off))
+                true≢false (sym (rw same at f.1.glued.far.corner).2 ∙ off))
           ]
-
-  from_or_not : (s : ℕ) → IsCorner mesh cut s → OrNot (From s)
-  from_or_not s corner = begins_at (side_there s corner).0 (side_there s corner).1
 
   -- Whether one that may leave goes over d.
   over_or_not : (d : ℕ) → d < mesh.count → OrNot (Over d)
@@ -145,11 +133,31 @@ module _ {mesh : HalfEdges} (laws : IsQuadManifold mesh) {cut : Cut} (full : IsC
     | inl on ↦ let st = stands mesh laws cut full d low on in by_side st.0 st.1 st.2 st.3
   ]
     where
-      turned : {r u m : ℕ} → IsJoinable mesh cut r u m → IsJoinable mesh cut u r m
-      turned {r} {u} {m} arc = turned_arc mesh laws cut full r u m arc
-
       by_side : (c n k : ℕ) → StandsOn mesh cut c n k d → OrNot (Over d)
-      by_side c n k stand = by_from (from_or_not c stand.side.corner)
+      by_side c n k stand = elim (begins_at n stand.side) [
+        | inr never ↦ inr (λ o. let r = from_c o in never (r.0, r.1))
+        | inl f ↦ elim (cases_Bool (may c f.0 n)) [
+          | inl free ↦ inl (c, f.0, n, f.1, free, (k, stand.low, inl (sym stand.at)))
+          | inr held ↦ elim (cases_Bool (may f.0 c n)) [
+            | inl free ↦ inl (
+              f.0,
+              c,
+              n,
+              turned_arc mesh laws cut full c f.0 n f.1,
+              free,
+              (k, stand.low, inr (sym stand.at)),
+            )
+            | inr back ↦ inr (λ o.
+                let r = from_c o in
+                let far : r.0 ≡ f.0 = same_Some r.0 f.0 (sym (r.1.glued.across (n - 1) 0 (omega (arith, stand.low)))
+                ∙ f.1.glued.across (n - 1) 0 (omega (arith, stand.low))) in
+                elim r.2 [
+                  | inl free ↦ true≢false (sym (rw far at free) ∙ held)
+                  | inr free ↦ true≢false (sym (rw far at free) ∙ back)
+                ])
+          ]
+        ]
+      ]
         where
           begins : {r u m : ℕ} → IsJoinable mesh cut r u m → (j : ℕ) → j < m → d ≡ easts mesh r j → (r ≡ c) × (m ≡ n)
           begins {r} {m} arc j l e =
@@ -157,39 +165,15 @@ module _ {mesh : HalfEdges} (laws : IsQuadManifold mesh) {cut : Cut} (full : IsC
               (sym e ∙ sym stand.at) in
               (same.0, one_size mesh laws cut full c m n (rw same.0 at arc.glued.near) stand.side)
 
-          by_from : OrNot (From c) → OrNot (Over d)
-          by_from (inr never) =
-              let at : (r u m : ℕ) → IsJoinable mesh cut r u m → (j : ℕ) → j < m → d ≡ easts mesh r j → ⊥ =
-              λ r u m arc j l e. never (u, m, rw (begins arc j l e).0 at arc) in
-              inr (λ o. elim o.5.2 [ inl e ↦ at _ _ _ o.3 o.5.0 o.5.1 e | inr e ↦ at _ _ _ (turned o.3) o.5.0 o.5.1 e ])
-          by_from (inl f) = elim (cases_Bool (may c f.0 n)) [
-            | inl free ↦ inl (c, f.0, n, here, free, (k, stand.low, inl (sym stand.at)))
-            | inr held ↦ elim (cases_Bool (may f.0 c n)) [
-              | inl free ↦ inl (f.0, c, n, turned here, free, (k, stand.low, inr (sym stand.at)))
-              | inr back ↦ inr (λ o. elim o.5.2 [
-                | inl e ↦
-                    let same = begins o.3 o.5.0 o.5.1 e in
-                    let far = far_is o.3 same in
-                    let free : may c f.0 n ≡ true = rw same.1 at (rw far at (rw same.0 at o.4)) in
-                    true≢false (sym free ∙ held)
-                | inr e ↦
-                    let same = begins (turned o.3) o.5.0 o.5.1 e in
-                    let far = far_is (turned o.3) same in
-                    let free : may f.0 c n ≡ true = rw same.1 at (rw far at (rw same.0 at o.4)) in
-                    true≢false (sym free ∙ back)
-              ])
-            ]
-          ]
-            where
-              here : IsJoinable mesh cut c f.0 n
-              here = rw (← one_size mesh laws cut full c f.1 n f.2.glued.near stand.side) f.2
-
-              -- The other side of an arc that begins at c.
-              far_is : {r u m : ℕ} → IsJoinable mesh cut r u m → (r ≡ c) × (m ≡ n) → u ≡ f.0
-              far_is {r} {u} {m} arc same =
-                  let there : IsJoinable mesh cut c u n = rw (← same.1) (rw same.0 at arc) in
-                  same_Some u f.0 (sym (there.glued.across (n - 1) 0 (omega arith))
-                  ∙ here.glued.across (n - 1) 0 (omega arith))
+          -- What goes over d begins at c, from one side or the other.
+          from_c : Over d → (u : ℕ) × IsJoinable mesh cut c u n × ((may c u n ≡ true) ⊎ (may u c n ≡ true))
+          from_c (s, t, m, arc, free, (j, l, inl e)) =
+              let same = begins arc j l e in
+              (t, rw same.1 at (rw same.0 at arc), inl (rw same.1 at (rw same.0 at free)))
+          from_c (s, t, m, arc, free, (j, l, inr e)) =
+              let turned = turned_arc mesh laws cut full s t m arc in
+              let same = begins turned j l e in
+              (s, rw same.1 at (rw same.0 at turned), inr (rw same.1 at (rw same.0 at free)))
 
   -- The first one.
   abbrev Least : ℕ → Type 0

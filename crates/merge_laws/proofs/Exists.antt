@@ -1,9 +1,7 @@
 -- Each full cut has a merged cut: each step leaves fewer darts.
 use Rattle.std.proofs.Common.{◌≡◌, ◌⊎◌, ℕ, zero, suc, ◌<◌, ◌≤◌, Bool, true, false, cond}
-use Rattle.std.proofs.Common.{List, map, sym, ◌∙◌, ap, refl, inl, inr, arith}
+use Rattle.std.proofs.Common.{List, sym, ◌∙◌, ap, refl, inl, inr, arith}
 use Rattle.std.proofs.lemmas.Bool.{cases_lt}
-use Rattle.std.proofs.lemmas.List.FromFn.{get_or-map-range_with_len, length-map-range_with_len}
-use Rattle.std.specs.List.{range_with_len}
 use Rattle.def_math.specs.Counts.{count_below}
 use Rattle.sum_laws.proofs.Counts.{count_below_lt}
 use Rattle.def_mesh.specs.{Faces.Faces, Darts.darts, HalfEdges.HalfEdges, HalfEdges.IsQuadManifold}
@@ -13,25 +11,10 @@ use Rattle.mesh_laws.proofs.HalfEdges.{manifold_law}
 use Rattle.face_laws.proofs.FullCuts.{full_cut_law}
 use Rattle.def_merge.specs.{Joins.IsJoinable, Joins.IsOnArc, Laws.MergedLaw, Merged.IsMergedBy, Merged.IsStep}
 use Rattle.def_merge.specs.Merged.{Steps, MayLeave}
+use Rattle.def_merge.specs.Beside.{without}
+use Rattle.merge_laws.proofs.Beside.{left_at, without_long}
 use Rattle.merge_laws.proofs.{ArcDarts.on_cut, ArcDarts.on_low, ArcDarts.on_or_not, OneMerged.IsCutOf}
 use Rattle.merge_laws.proofs.{OneMerged.cut_after, Decided.Over, Decided.least_or_none}
-
--- Marks without those of an arc.
-abbrev left : (b : Bool) {P : Type 0} → P ⊎ (P → ⊥) → Bool
-left b (inl p) = false
-left b (inr never) = b
-
-left_on : (b : Bool) {P : Type 0} (o : P ⊎ (P → ⊥)) → P → left b o ≡ false
-left_on b (inl p) is = refl
-left_on b (inr never) is = absurd (never is)
-
-left_off : (b : Bool) {P : Type 0} (o : P ⊎ (P → ⊥)) → (P → ⊥) → left b o ≡ b
-left_off b (inl p) none = absurd (none p)
-left_off b (inr never) none = refl
-
-left_le : (b : Bool) {P : Type 0} (o : P ⊎ (P → ⊥)) → cond (left b o) 1 0 ≤ cond b 1 0
-left_le b (inl p) = omega arith
-left_le b (inr never) = omega arith
 
 module _ (faces : Faces) (may : MayLeave) (laws : IsQuadManifold (half_edges faces)) where
   abbrev mesh : HalfEdges
@@ -41,35 +24,27 @@ module _ (faces : Faces) (may : MayLeave) (laws : IsQuadManifold (half_edges fac
   abbrev marked : (marks : List Bool) → ℕ
   marked marks = count_below (λ d. cond (is_on marks d) 1 0) (darts faces)
 
-  abbrev without : (marks : List Bool) (s t n : ℕ) → List Bool
-  without marks s t n = map (λ d. left (is_on marks d) (on_or_not mesh s t n d)) (range_with_len 0 (darts faces))
-
   -- Either an arc leaves, and fewer darts are marked, or none is joinable.
   step_or_end : (marks : List Bool) → IsCutOf faces marks
       → ((rest : List Bool) × IsStep faces may marks rest × (marked rest < marked marks))
       ⊎ ((s t n : ℕ) → IsJoinable mesh (is_on marks) s t n → may marks s t n ≡ true → ⊥)
   step_or_end marks cut = elim (least_or_none laws cut.full (may marks) (darts faces) (omega arith)) [
-    | inl f ↦ inl (after f.0 f.1 f.2.0 f.2.1 f.2.2 f.2.3 f.2.4 f.2.5 f.3)
+    | inl f ↦ inl (after f)
     | inr none ↦ inr (λ s t n arc free. none s arc.glued.near.corner.0
         (s, t, n, arc, free, (0, arc.glued.near.some, inl refl)))
   ]
     where
-      after : (d : ℕ) → d < darts faces → (s t n : ℕ) → IsJoinable mesh (is_on marks) s t n → may marks s t n ≡ true
-          → IsOnArc mesh s t n d → ((x : ℕ) → x < d → Over laws cut.full (may marks) x → ⊥)
+      after : (d : ℕ) × (d < darts faces) × Over laws cut.full (may marks) d
+          × ((x : ℕ) → x < d → Over laws cut.full (may marks) x → ⊥)
           → (rest : List Bool) × IsStep faces may marks rest × (marked rest < marked marks)
-      after d low s t n arc free on before = (without marks s t n, step, fewer)
+      after (d, low, (s, t, n, arc, free, on), before) = (without faces marks s t n, step, fewer)
         where
-          value : (x : ℕ) → x < darts faces
-              → is_on (without marks s t n) x ≡ left (is_on marks x) (on_or_not mesh s t n x)
-          value x l = get_or-map-range_with_len (λ y. left (is_on marks y) (on_or_not mesh s t n y)) 0 (darts faces) x x
-              false l (omega arith)
-
           least : (r u m x : ℕ) → IsJoinable mesh (is_on marks) r u m → may marks r u m ≡ true → IsOnArc mesh r u m x
               → d ≤ x
           least r u m x other may_too o = elim (cases_lt x d)
               [ inl l ↦ absurd (before x l (r, u, m, other, may_too, o)) | inr le ↦ omega arith ]
 
-          step : IsStep faces may marks (without marks s t n)
+          step : IsStep faces may marks (without faces marks s t n)
           step = record {
             near = s;
             far = t;
@@ -81,23 +56,24 @@ module _ (faces : Faces) (may : MayLeave) (laws : IsQuadManifold (half_edges fac
               named = record { on = on; least = λ x o. least s t n x arc free o };
               first = least;
             };
-            long = length-map-range_with_len (λ y. left (is_on marks y) (on_or_not mesh s t n y)) 0 (darts faces)
-                ∙ sym cut.long;
+            long = without_long faces marks s t n ∙ sym cut.long;
             without = record {
-              gone = λ x o. value x (on_low mesh laws (is_on marks) cut.full s t n arc.glued x o)
-                  ∙ left_on (is_on marks x) (on_or_not mesh s t n x) o;
-              kept = λ x l none. value x l ∙ left_off (is_on marks x) (on_or_not mesh s t n x) none;
+              gone = λ x o.
+                  (left_at faces marks s t n x (on_low mesh laws (is_on marks) cut.full s t n arc.glued x o)).0 o;
+              kept = λ x l. (left_at faces marks s t n x l).1;
             };
           }
 
-          fewer : marked (without marks s t n) < marked marks
+          fewer : marked (without faces marks s t n) < marked marks
           fewer =
-              let off = value d low ∙ left_on (is_on marks d) (on_or_not mesh s t n d) on in
               let was = on_cut mesh laws (is_on marks) cut.full s t n arc.glued d on in
-              let zero_now = ap (λ (b : Bool). cond {A = ℕ} b 1 0) off in
+              let zero_now = ap (λ (b : Bool). cond {A = ℕ} b 1 0) ((left_at faces marks s t n d low).0 on) in
               let one_before = ap (λ (b : Bool). cond {A = ℕ} b 1 0) was in
-              count_below_lt (λ x. cond (is_on (without marks s t n) x) 1 0) (λ x. cond (is_on marks x) 1 0) (darts
-              faces) d low (λ x l. rw (value x l) (left_le (is_on marks x) (on_or_not mesh s t n x))) (omega arith)
+              count_below_lt (λ x. cond (is_on (without faces marks s t n) x) 1 0) (λ x. cond (is_on marks x) 1 0)
+              (darts faces) d low (λ x l. elim (on_or_not mesh s t n x) [
+                | inl o ↦ rw ((left_at faces marks s t n x l).0 o) (omega arith)
+                | inr none ↦ rw ((left_at faces marks s t n x l).1 none) (omega arith)
+              ]) (omega arith)
 
   -- A step in front of others.
   in_front : {marks between : List Bool} (rest : List Bool) (n : ℕ) → IsStep faces may marks between
@@ -108,17 +84,13 @@ module _ (faces : Faces) (may : MayLeave) (laws : IsQuadManifold (half_edges fac
   merged_from : (fuel : ℕ) {marks : List Bool} → IsCutOf faces marks → marked marks < fuel → (rest : List Bool)
       × IsMergedBy faces may marks rest
   merged_from zero cut le = absurd (omega arith)
-  merged_from (suc fuel) {marks} cut le = by_step (step_or_end marks cut) (λ rest c l. merged_from fuel c l)
-    where
-      by_step : ((rest : List Bool) × IsStep faces may marks rest × (marked rest < marked marks))
-          ⊎ ((s t n : ℕ) → IsJoinable mesh (is_on marks) s t n → may marks s t n ≡ true → ⊥)
-          → ((rest : List Bool) → IsCutOf faces rest → marked rest < fuel → (last : List Bool)
-          × IsMergedBy faces may rest last) → (rest : List Bool) × IsMergedBy faces may marks rest
-      by_step (inr none) go = (marks, record { steps = 0; reached = refl; merged = none })
-      by_step (inl (between, step, fewer)) go =
-          let f = go between (cut_after faces may laws cut step) (omega arith) in
-          let is = f.1 in
-          (f.0, record { steps = suc is.steps; reached = in_front f.0 is.steps step is.reached; merged = is.merged })
+  merged_from (suc fuel) {marks} cut le = elim (step_or_end marks cut) [
+    | inr none ↦ (marks, record { steps = 0; reached = refl; merged = none })
+    | inl n ↦
+        let f = merged_from fuel (cut_after faces may laws cut n.1) (omega (arith, n.2)) in
+        let is = f.1 in
+        (f.0, record { steps = suc is.steps; reached = in_front f.0 is.steps n.1 is.reached; merged = is.merged })
+  ]
 
 pub merged_law : MergedLaw
 merged_law faces may marks manifold full =

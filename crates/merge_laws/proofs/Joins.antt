@@ -15,54 +15,74 @@ use Rattle.merge_laws.proofs.ArcDarts.{on_or_not, other_without, cross_from, tur
 use Rattle.merge_laws.proofs.ArcDarts.{never_south, less, still, links_less}
 use Rattle.merge_laws.proofs.Sides.{side_low, side_link, side_from, first_place, grid_on}
 
--- The grids on both sides of a joinable arc.
+-- A joinable arc, with the grids on both its sides.
 module _ {mesh : HalfEdges} (laws : IsQuadManifold mesh) {cut : Cut} (full : IsCut mesh cut) {s t n : ℕ}
-    (arc : IsJoinable mesh cut s t n) {h g : ℕ} (grid : IsGrid mesh cut n h (grown mesh s))
-    (other : IsGrid mesh cut n g (grown mesh t)) where
+    (arc : IsJoinable mesh cut s t n) where
+  grid : (h : ℕ) × IsGrid mesh cut n h (grown mesh s)
+  grid = grid_on mesh laws cut full s n arc.glued.near
+
+  other : (g : ℕ) × IsGrid mesh cut n g (grown mesh t)
+  other = grid_on mesh laws cut full t n arc.glued.far
+
   abbrev near_low : (k : ℕ) → k < n → easts mesh s k < mesh.count
   near_low k l = side_low mesh laws cut full s n arc.glued.near k l
 
-  -- They have no dart in common.
-  foreign : (x : ℕ) → In mesh n h (grown mesh s) x → In mesh n g (grown mesh t) x → ⊥
-  foreign x i j = arc.apart (links_join mesh laws cut s x t (linked_in mesh laws cut full n h (grown mesh s) grid x i)
+  -- The grids have no dart in common.
+  foreign : (x : ℕ) → In mesh n grid.0 (grown mesh s) x → In mesh n other.0 (grown mesh t) x → ⊥
+  foreign x i j = arc.apart (links_join mesh laws cut s x t
+      (linked_in mesh laws cut full n grid.0 (grown mesh s) grid.1 x i)
       (linked_back mesh laws cut full t x arc.glued.far.corner.0
-      (linked_in mesh laws cut full n g (grown mesh t) other x j)))
+      (linked_in mesh laws cut full n other.0 (grown mesh t) other.1 x j)))
 
   -- No other side of a cell on the near side lies on the arc.
-  clear : (q a b : ℕ) → 0 < q → q < 4 → a < n → b < h → IsOnArc mesh s t n (spin mesh q (grown mesh s a b)) → ⊥
-  clear q a b some low la lb o = elim o.2 [
-    | inl e ↦ never_south mesh laws cut full n h (grown mesh s) grid q o.0 a b some low o.1 la lb (sym e)
-    | inr e ↦ foreign (spin mesh q (grown mesh s a b)) (q, record { a = a; b = b; a_low = la; b_low = lb; is = refl })
-        (0, record { a = o.0; b = 0; a_low = o.1; b_low = other.tall; is = e })
-  ]
+  clear : (q a b : ℕ) → 0 < q → q < 4 → a < n → b < grid.0 → IsOnArc mesh s t n (spin mesh q (grown mesh s a b)) → ⊥
+  clear q a b some low la lb (k, l, inl e) =
+      never_south mesh laws cut full n grid.0 (grown mesh s) grid.1 q k a b some low l la lb (sym e)
+  clear q a b some low la lb (k, l, inr e) =
+      foreign (spin mesh q (grown mesh s a b)) (q, record { a = a; b = b; a_low = la; b_low = lb; is = refl })
+      (0, record { a = k; b = 0; a_low = l; b_low = other.1.tall; is = e })
 
   -- Inside the arc four faces go round a vertex.
   pub crossed_at : (k : ℕ) → suc k < n → HasCross mesh (easts mesh s (suc k))
-  crossed_at k l = at (n - suc (suc k)) (omega arith)
-    where
-      at : (i : ℕ) → k + suc (suc i) ≡ n → HasCross mesh (easts mesh s (suc k))
-      at i e =
-          let a = easts mesh s k in
-          let b = easts mesh t i in
-          let lb = side_low mesh laws cut full t n arc.glued.far i (omega arith) in (
-            mesh.next a,
-            easts mesh t (suc i),
-            mesh.next b,
-            record {
-              first = laws.twin_twin (mesh.next a) (mesh.prev (easts mesh s (suc k)))
-                  (laws.next_low a (near_low k (omega arith))) (side_link mesh laws cut full s n arc.glued.near k l);
-              second = ap mesh.twin (laws.prev_next a) ∙ arc.glued.across k (suc i) e;
-              third = laws.twin_twin (mesh.next b) (mesh.prev (easts mesh t (suc i))) (laws.next_low b lb)
-                  (side_link mesh laws cut full t n arc.glued.far i (omega arith));
-              last = ap mesh.twin (laws.prev_next b)
-                  ∙ (turned_glued mesh laws cut full arc.glued).across i (suc k) (omega arith);
-              apart = λ same. foreign (easts mesh s (suc k))
-                  (0, record { a = suc k; b = 0; a_low = l; b_low = grid.tall; is = refl })
-                  (0, record { a = suc i; b = 0; a_low = omega arith; b_low = other.tall; is = same });
-            },
-          )
+  crossed_at k l =
+      let i = n - suc (suc k) in
+      let a = easts mesh s k in
+      let b = easts mesh t i in
+      let lb = side_low mesh laws cut full t n arc.glued.far i (omega arith) in (
+        mesh.next a,
+        easts mesh t (suc i),
+        mesh.next b,
+        record {
+          first = laws.twin_twin (mesh.next a) (mesh.prev (easts mesh s (suc k)))
+              (laws.next_low a (near_low k (omega arith))) (side_link mesh laws cut full s n arc.glued.near k l);
+          second = ap mesh.twin (laws.prev_next a) ∙ arc.glued.across k (suc i) (omega arith);
+          third = laws.twin_twin (mesh.next b) (mesh.prev (easts mesh t (suc i))) (laws.next_low b lb)
+              (side_link mesh laws cut full t n arc.glued.far i (omega arith));
+          last = ap mesh.twin (laws.prev_next b)
+              ∙ (turned_glued mesh laws cut full arc.glued).across i (suc k) (omega arith);
+          apart = λ same. foreign (easts mesh s (suc k))
+              (0, record { a = suc k; b = 0; a_low = l; b_low = grid.1.tall; is = refl })
+              (0, record { a = suc i; b = 0; a_low = omega arith; b_low = other.1.tall; is = same });
+        },
+      )
+
+  -- An open vertex with a dart that arrives along the near side.
+  cross_before : (d : ℕ) → d < mesh.count → cut d ≡ false → (k : ℕ) → k < n → mesh.prev d ≡ easts mesh s k
+      → HasCross mesh d
+  cross_before d ld off k l e =
+      let is : d ≡ mesh.next (easts mesh s k) = sym (laws.next_prev d) ∙ ap mesh.next e in
+      elim (cases_eq (suc k) n) [
+        | inl z ↦ absurd (true≢false (sym (arc.glued.near.ends k z) ∙ (ap cut (sym is) ∙ off)))
+        | inr ne ↦
+            let lk : suc k < n = omega arith in
+            cross_from mesh laws (easts mesh s (suc k)) d (near_low (suc k) lk) ld
+            (ap mesh.from is ∙ sym (side_from mesh laws cut full s n arc.glued.near k lk)) (crossed_at k lk)
+      ]
 
   module _ {rest : Cut} (without : IsWithout mesh cut rest s t n) where
+    abbrev stays : (d : ℕ) → d < mesh.count → (IsOnArc mesh s t n d → ⊥) → cut d ≡ true → rest d ≡ true
+    stays d l none on = still mesh laws cut rest s t n without d l none on
+
     -- Where the cut came along the face to the arc, it goes straight on over its end.
     gap_over : (d : ℕ) → d < mesh.count → cut d ≡ true → (k : ℕ) → k < n → mesh.next d ≡ easts mesh s k
         → (rest_end : rest (mesh.next (easts mesh t (n - 1))) ≡ true) → GoesOn mesh rest d
@@ -74,7 +94,7 @@ module _ {mesh : HalfEdges} (laws : IsQuadManifold mesh) {cut : Cut} (full : IsC
 
     -- Where it came straight on to the arc, it came along the arc.
     gap_on : (d e : ℕ) → d < mesh.count → cut (mesh.next d) ≡ false → mesh.twin (mesh.next d) ≡ Some e → (k : ℕ)
-        → k < n → mesh.next e ≡ easts mesh s k → (j : ℕ) × (j < n) × (d ≡ easts mesh s j)
+        → k < n → mesh.next e ≡ easts mesh s k → rest d ≡ false
     gap_on d e ld off tw zero l is = absurd (true≢false
         (sym arc.glued.near.corner.2 ∙ (ap (λ x. cut (mesh.prev x)) (sym is)
         ∙ (ap cut (laws.prev_next e) ∙ (full.alike (mesh.next d) e (laws.next_low d ld) tw ∙ off)))))
@@ -83,70 +103,57 @@ module _ {mesh : HalfEdges} (laws : IsQuadManifold mesh) {cut : Cut} (full : IsC
         let before : e ≡ mesh.prev (easts mesh s (suc k)) = sym (laws.prev_next e) ∙ ap mesh.prev is in
         let same = twin_same mesh laws (mesh.next d) (mesh.next x) e (laws.next_low d ld) (laws.next_low x (near_low k
         (omega arith))) tw (side_link mesh laws cut full s n arc.glued.near k l ∙ ap Some (sym before)) in
-        (k, omega arith, next_same mesh laws d x same)
-
-    stays : (d : ℕ) → d < mesh.count → (IsOnArc mesh s t n d → ⊥) → cut d ≡ true → rest d ≡ true
-    stays d l none on = still mesh laws cut rest s t n without d l none on
+        without.gone d (k, omega arith, inl (next_same mesh laws d x same))
 
     -- The end of the arc on the near side is followed by an edge that stays.
     end_stays : rest (mesh.next (easts mesh s (n - 1))) ≡ true
     end_stays =
         let last : n - 1 < n = omega arith in
         stays (mesh.next (easts mesh s (n - 1))) (laws.next_low (easts mesh s (n - 1)) (near_low (n - 1) last))
-        (clear 1 (n - 1) 0 (omega arith) (omega arith) last grid.tall) (arc.glued.near.ends (n - 1) (omega arith))
+        (clear 1 (n - 1) 0 (omega arith) (omega arith) last grid.1.tall) (arc.glued.near.ends (n - 1) (omega arith))
 
     -- An open vertex with a dart on the near side: the edge before the start of the arc stays.
-    cross_on : (d : ℕ) → d < mesh.count → rest (mesh.prev d) ≡ false → (k : ℕ) → k < n → d ≡ easts mesh s k
-        → HasCross mesh d
-    cross_on d ld off zero l e =
+    cross_on : (d : ℕ) → rest (mesh.prev d) ≡ false → (k : ℕ) → k < n → d ≡ easts mesh s k → HasCross mesh d
+    cross_on d off zero l e =
         let three = prev_three mesh laws s in
         let start : rest (mesh.prev s) ≡ true = ap rest three
         ∙ stays (spin mesh 3 s) (rw three at (laws.prev_low s arc.glued.near.corner.0)) (clear 3 0 0 (omega arith)
-        (omega arith) arc.glued.near.some grid.tall) (ap cut (sym three) ∙ arc.glued.near.corner.2) in
+        (omega arith) arc.glued.near.some grid.1.tall) (ap cut (sym three) ∙ arc.glued.near.corner.2) in
         absurd (false≢true (sym off ∙ (ap (λ x. rest (mesh.prev x)) e ∙ start)))
-    cross_on d ld off (suc k) l e = rw e (crossed_at k l)
-
-    cross_before : (d : ℕ) → d < mesh.count → cut d ≡ false → (k : ℕ) → k < n → mesh.prev d ≡ easts mesh s k
-        → HasCross mesh d
-    cross_before d ld off k l e =
-        let is : d ≡ mesh.next (easts mesh s k) = sym (laws.next_prev d) ∙ ap mesh.next e in
-        elim (cases_eq (suc k) n) [
-          | inl z ↦ absurd (true≢false (sym (arc.glued.near.ends k z) ∙ (ap cut (sym is) ∙ off)))
-          | inr ne ↦
-              let lk : suc k < n = omega arith in
-              cross_from mesh laws (easts mesh s (suc k)) d (near_low (suc k) lk) ld
-              (ap mesh.from is ∙ sym (side_from mesh laws cut full s n arc.glued.near k lk)) (crossed_at k lk)
-        ]
+    cross_on d off (suc k) l e = rw e (crossed_at k l)
 
     -- The near grid keeps its far corner.
-    lost : (d e : ℕ) → d < mesh.count → AreLinked mesh cut d e → In mesh n h (grown mesh s) e → CornerOf mesh rest d
-    lost d e ld a i =
+    lost : (d e : ℕ) → d < mesh.count → AreLinked mesh cut d e → (q k : ℕ) → k < n → e ≡ spin mesh q (easts mesh s k)
+        → CornerOf mesh rest d
+    lost d e ld a q k lk at =
+        let h = grid.0 in
+        let g = grid.1 in
         let last : n - 1 < n = omega arith in
-        let top : h - 1 < h = omega arith in
+        let top : h - 1 < h = omega (arith, g.tall) in
         let cell = grown mesh s (n - 1) (h - 1) in
-        let low = laws.next_low cell (grid.low (n - 1) (h - 1) last top) in
+        let low = laws.next_low cell (g.low (n - 1) (h - 1) last top) in
         let far = mesh.next (mesh.next cell) in
-        let corner : IsCorner mesh rest (mesh.next (mesh.next (grown mesh s (n - 1) (h - 1)))) = (
+        let corner : IsCorner mesh rest (mesh.next (mesh.next (grown mesh s (n - 1) (grid.0 - 1)))) = (
           laws.next_low (mesh.next cell) low,
           stays far (laws.next_low (mesh.next cell) low) (clear 2 (n - 1) (h - 1) (omega arith) (omega arith) last top)
-              (grid.north_shut (n - 1) (h - 1) last (omega arith)),
+              (g.north_shut (n - 1) (h - 1) last (omega (arith, g.tall))),
           ap rest (laws.prev_next (mesh.next cell)) ∙ stays (mesh.next cell) low (clear 1 (n - 1) (h - 1) (omega arith)
-              (omega arith) last top) (grid.east_shut (n - 1) (h - 1) (omega arith) top),
+              (omega arith) last top) (g.east_shut (n - 1) (h - 1) (omega arith) top),
         ) in
+        let near = linked_in mesh laws cut full n h (grown mesh s) g in
         let l = links_join mesh laws cut d e far a (links_join mesh laws cut e s far (linked_back mesh laws cut full s e
-        arc.glued.near.corner.0 (linked_in mesh laws cut full n h (grown mesh s) grid e i)) (linked_in mesh laws cut
-        full n h (grown mesh s) grid far (2, record { a = n - 1; b = h - 1; a_low = last; b_low = top; is = refl }))) in
+        arc.glued.near.corner.0 (near e (q, record { a = k; b = 0; a_low = lk; b_low = g.tall; is = at })))
+        (near far (2, record { a = n - 1; b = h - 1; a_low = last; b_low = top; is = refl }))) in
         (far, l.0, links_less mesh laws cut rest s t n without d far l.0 ld l.1, corner)
 
 module _ {mesh : HalfEdges} (laws : IsQuadManifold mesh) {cut : Cut} (full : IsCut mesh cut) {s t n : ℕ}
-    (arc : IsJoinable mesh cut s t n) {h g : ℕ} (grid : IsGrid mesh cut n h (grown mesh s))
-    (other : IsGrid mesh cut n g (grown mesh t)) {rest : Cut} (without : IsWithout mesh cut rest s t n) where
-  -- The same arc seen from its other side.
-  abbrev back : IsJoinable mesh cut t s n
-  back = turned_arc mesh laws cut full s t n arc
-
-  abbrev without_back : IsWithout mesh cut rest t s n
-  without_back = other_without mesh cut rest s t n without
+    (arc : IsJoinable mesh cut s t n) {rest : Cut} (without : IsWithout mesh cut rest s t n) where
+  -- Each dart of the arc lies on the near side, as the arc is seen from one side or from the other.
+  seen : {P : Type 0} {d : ℕ} → ((s t : ℕ) → IsJoinable mesh cut s t n → IsWithout mesh cut rest s t n → (k : ℕ) → k < n
+      → d ≡ easts mesh s k → P) → IsOnArc mesh s t n d → P
+  seen from (k, l, inl e) = from s t arc without k l e
+  seen from (k, l, inr e) =
+      from t s (turned_arc mesh laws cut full s t n arc) (other_without mesh cut rest s t n without) k l e
 
   keeps : (d : ℕ) → d < mesh.count → (IsOnArc mesh s t n d → ⊥) → cut d ≡ true → rest d ≡ true
   keeps d l none on = still mesh laws cut rest s t n without d l none on
@@ -157,34 +164,20 @@ module _ {mesh : HalfEdges} (laws : IsQuadManifold mesh) {cut : Cut} (full : IsC
       let was = less mesh laws cut rest s t n without d l on in
       elim (cases_Bool (cut next)) [
         | inl c ↦ elim (on_or_not mesh s t n next) [
-          | inl o ↦ elim o.2 [
-            | inl e ↦ gap_over laws full arc grid other without d l was o.0 o.1 e
-                (end_stays laws full back other grid without_back)
-            | inr e ↦ gap_over laws full back other grid without_back d l was o.0 o.1 e
-                (end_stays laws full arc grid other without)
-          ]
+          | inl o ↦ seen (λ s t arc without k lk e. gap_over laws full arc without d l was k lk e (end_stays laws full
+              (turned_arc mesh laws cut full s t n arc) (other_without mesh cut rest s t n without))) o
           | inr none ↦ inl (keeps next (laws.next_low d l) none c)
         ]
         | inr off ↦ elim (full.gaps d l was) [
           | inl c ↦ absurd (true≢false (sym c ∙ off))
           | inr f ↦ elim (on_or_not mesh s t n (mesh.next f.0)) [
-            | inl o ↦ absurd (true≢false (sym on ∙ without.gone d (along f.0 off f.1 o)))
+            | inl o ↦ absurd (true≢false (sym on
+                ∙ seen (λ s t arc without. gap_on laws full arc without d f.0 l off f.1) o))
             | inr none ↦
                 let low = laws.next_low f.0 (laws.twin_low next f.0 (laws.next_low d l) f.1) in
                 inr (f.0, f.1, keeps (mesh.next f.0) low none f.2)
           ]
         ]
-      ]
-    where
-      along : (e : ℕ) → cut (mesh.next d) ≡ false → mesh.twin (mesh.next d) ≡ Some e → IsOnArc mesh s t n (mesh.next e)
-          → IsOnArc mesh s t n d
-      along e off tw o = elim o.2 [
-        | inl is ↦
-            let p = gap_on laws full arc grid other without d e l off tw o.0 o.1 is in
-            (p.0, p.1, inl p.2)
-        | inr is ↦
-            let p = gap_on laws full back other grid without_back d e l off tw o.0 o.1 is in
-            (p.0, p.1, inr p.2)
       ]
 
   crossed : (d : ℕ) → d < mesh.count → IsUncut mesh rest (mesh.from d) → HasCross mesh d
@@ -193,50 +186,26 @@ module _ {mesh : HalfEdges} (laws : IsQuadManifold mesh) {cut : Cut} (full : IsC
       let on_arc : (x : ℕ) → x < mesh.count → cut x ≡ true → rest x ≡ false → IsOnArc mesh s t n x = λ x lx c r. elim
       (on_or_not mesh s t n x) [ inl o ↦ o | inr none ↦ absurd (true≢false (sym (keeps x lx none c) ∙ r)) ] in
       elim (cases_Bool (cut d)) [
-        | inl c ↦
-            let o = on_arc d l c off.0 in
-            elim o.2 [
-              | inl e ↦ cross_on laws full arc grid other without d l off.1 o.0 o.1 e
-              | inr e ↦ cross_on laws full back other grid without_back d l off.1 o.0 o.1 e
-            ]
+        | inl c ↦ seen (λ s t arc without. cross_on laws full arc without d off.1) (on_arc d l c off.0)
         | inr c ↦ elim (cases_Bool (cut (mesh.prev d))) [
-          | inl b ↦
-              let o = on_arc (mesh.prev d) (laws.prev_low d l) b off.1 in
-              elim o.2 [
-                | inl e ↦ cross_before laws full arc grid other without d l c o.0 o.1 e
-                | inr e ↦ cross_before laws full back other grid without_back d l c o.0 o.1 e
-              ]
+          | inl b ↦ seen (λ s t arc without. cross_before laws full arc d l c)
+              (on_arc (mesh.prev d) (laws.prev_low d l) b off.1)
           | inr b ↦ cross_at mesh laws cut full d l (c, b)
         ]
       ]
 
   corner : (d : ℕ) → d < mesh.count → CornerOf mesh rest d
   corner d l =
-      let c = full.corner d l in
-      let e = c.0 in
-      let m = c.1 in
-      let is = c.3 in
+      let (e, m, there, is) = full.corner d l in
       elim (on_or_not mesh s t n e) [
-        | inl o ↦ elim o.2 [
-          | inl at ↦ lost laws full arc grid other without d e l (m, c.2)
-              (0, record { a = o.0; b = 0; a_low = o.1; b_low = grid.tall; is = at })
-          | inr at ↦ lost laws full back other grid without_back d e l (m, c.2)
-              (0, record { a = o.0; b = 0; a_low = o.1; b_low = other.tall; is = at })
-        ]
+        | inl o ↦ seen (λ s t arc without. lost laws full arc without d e l (m, there) 0) o
         | inr none ↦ elim (on_or_not mesh s t n (mesh.prev e)) [
-          | inl o ↦
-              let next : (x : ℕ) → mesh.prev e ≡ x → e ≡ mesh.next x = λ x at. sym (laws.next_prev e)
-              ∙ ap mesh.next at in
-              elim o.2 [
-                | inl at ↦ lost laws full arc grid other without d e l (m, c.2)
-                    (1, record { a = o.0; b = 0; a_low = o.1; b_low = grid.tall; is = next _ at })
-                | inr at ↦ lost laws full back other grid without_back d e l (m, c.2)
-                    (1, record { a = o.0; b = 0; a_low = o.1; b_low = other.tall; is = next _ at })
-              ]
+          | inl o ↦ seen (λ s t arc without k lk at. lost laws full arc without d e l (m, there) 1 k lk
+              (sym (laws.next_prev e) ∙ ap mesh.next at)) o
           | inr clear ↦ (
             e,
             m,
-            links_less mesh laws cut rest s t n without d e m l c.2,
+            links_less mesh laws cut rest s t n without d e m l there,
             (is.0, keeps e is.0 none is.1, keeps (mesh.prev e) (laws.prev_low e is.0) clear is.2),
           )
         ]
@@ -263,5 +232,4 @@ module _ {mesh : HalfEdges} (laws : IsQuadManifold mesh) {cut : Cut} (full : IsC
       }
 
 pub join_law : JoinLaw
-join_law mesh cut rest s t n laws full arc without = full_rest laws full arc
-    (grid_on mesh laws cut full s n arc.glued.near).1 (grid_on mesh laws cut full t n arc.glued.far).1 without
+join_law mesh cut rest s t n laws full arc without = full_rest laws full arc without

@@ -24,23 +24,13 @@ pub record IsBorder (mesh : HalfEdges) (cut : Cut) (p : Rectangle) (side : Way) 
 
 module _ (mesh : HalfEdges) (laws : IsQuadManifold mesh) (cut : Cut) (full : IsCut mesh cut) (p : Rectangle)
     (grid : IsGrid mesh cut p.w p.h (cell_of p)) where
-  first_column : p.w - 1 - 0 ≡ p.w - 1
-  first_column = omega arith
-
-  top : p.h - 1 - 0 ≡ p.h - 1
-  top = omega arith
-
   north_start : mesh.next (mesh.next (cell_of p (p.w - 1) (p.h - 1))) ≡ border_dart mesh p north 0
-  north_start = ap (λ x. mesh.next (mesh.next (cell_of p x (p.h - 1)))) (sym first_column)
+  north_start = let same : p.w - 1 ≡ p.w - 1 - 0 = omega arith in
+      ap (λ x. mesh.next (mesh.next (cell_of p x (p.h - 1)))) same
 
   west_start : mesh.next (mesh.next (mesh.next (cell_of p 0 (p.h - 1)))) ≡ border_dart mesh p west 0
-  west_start = sym (prev_three mesh laws (cell_of p 0 (p.h - 1))) ∙ ap (λ x. mesh.prev (cell_of p 0 x)) (sym top)
-
-  last_column : p.w - 1 < p.w
-  last_column = omega arith
-
-  last_row : p.h - 1 < p.h
-  last_row = omega arith
+  west_start = let same : p.h - 1 ≡ p.h - 1 - 0 = omega arith in
+      sym (prev_three mesh laws (cell_of p 0 (p.h - 1))) ∙ ap (λ x. mesh.prev (cell_of p 0 x)) same
 
   pub border : (side : Way) → IsBorder mesh cut p side
   border south = record {
@@ -51,28 +41,21 @@ module _ (mesh : HalfEdges) (laws : IsQuadManifold mesh) (cut : Cut) (full : IsC
   border east = record {
     whole = east_side mesh laws cut full p.w p.h (cell_of p) grid;
     along = along_east mesh laws cut full p.w p.h (cell_of p) grid;
-    inside = λ k l. (1, record { a = p.w - 1; b = k; a_low = last_column; b_low = l; is = refl });
+    inside = λ k l. (1, record { a = p.w - 1; b = k; a_low = omega arith; b_low = l; is = refl });
   }
   border north = record {
     whole = rw north_start at (north_side mesh laws cut full p.w p.h (cell_of p) grid);
     along = λ k l. ap (λ x. easts mesh x k) (sym north_start)
         ∙ along_north mesh laws cut full p.w p.h (cell_of p) grid k (p.w - 1 - k) (omega arith);
-    inside = λ k l. (2, record { a = p.w - 1 - k; b = p.h - 1; a_low = omega arith; b_low = last_row; is = refl });
+    inside = λ k l. (2, record { a = p.w - 1 - k; b = p.h - 1; a_low = omega arith; b_low = omega arith; is = refl });
   }
   border west = record {
     whole = rw west_start at (west_side mesh laws cut full p.w p.h (cell_of p) grid);
     along = λ k l. ap (λ x. easts mesh x k) (sym west_start) ∙ (along_west mesh laws cut full p.w p.h (cell_of p) grid k
         (p.h - 1 - k) (omega arith) ∙ sym (prev_three mesh laws (cell_of p 0 (p.h - 1 - k))));
-    inside = λ k l. (
-      3,
-      record {
-        a = 0;
-        b = p.h - 1 - k;
-        a_low = grid.wide;
-        b_low = omega arith;
-        is = prev_three mesh laws (cell_of p 0 (p.h - 1 - k));
-      },
-    );
+    inside = λ k l. let at = p.h - 1 - k in
+        let is = prev_three mesh laws (cell_of p 0 at) in
+        (3, record { a = 0; b = at; a_low = grid.wide; b_low = omega arith; is = is });
   }
 
 module _ {mesh : HalfEdges} (laws : IsQuadManifold mesh) {cut : Cut} (full : IsCut mesh cut) {node : ℕ → Bool}
@@ -102,24 +85,21 @@ module _ {mesh : HalfEdges} (laws : IsQuadManifold mesh) {cut : Cut} (full : IsC
       at_first : slot.at ≡ 0
       at_first = omega arith
 
-      use_here : gluing.use_at slot.patch slot.side 0 ≡ use_of gluing slot
-      use_here = ap (λ k. gluing.use_at slot.patch slot.side k) (sym at_first)
-
-      one_long : reach gluing (long_at layout.arcs) slot.patch slot.side 1 ≡ length_of slot
-      one_long = let none : 0 + length_of slot ≡ length_of slot =
-          omega arith in ap (λ u. 0 + long_at layout.arcs u.arc) use_here ∙ none
-
       long : length_of slot ≡ side_size (patch slot) slot.side
-      long = sym one_long ∙ (ap (reach gluing (long_at layout.arcs) slot.patch slot.side) (sym alone)
+      long =
+          let none : 0 + length_of slot ≡ length_of slot = omega arith in
+          let one_long : reach gluing (long_at layout.arcs) slot.patch slot.side 1 ≡ length_of slot =
+          ap (λ k. 0 + long_at layout.arcs (gluing.use_at slot.patch slot.side k).arc) (sym at_first) ∙ none in
+          sym one_long ∙ (ap (reach gluing (long_at layout.arcs) slot.patch slot.side) (sym alone)
           ∙ lay.sizes slot.patch slot.side is.patch_low)
 
       lies : (o : ℕ) → o < length_of slot
           → LiesAt mesh (path_at layout.arcs (arc_of slot)).darts (use_of gluing slot).forward o (dart slot o)
-      lies o l = rw none at (lay.used slot o is l)
-        where
-          none : reach gluing (long_at layout.arcs) slot.patch slot.side slot.at + o ≡ o
-          none = let same : 0 + o ≡ o = omega arith in ap
-              (λ k. reach gluing (long_at layout.arcs) slot.patch slot.side k + o) at_first ∙ same
+      lies o l =
+          let same : 0 + o ≡ o = omega arith in
+          let none : reach gluing (long_at layout.arcs) slot.patch slot.side slot.at + o ≡ o =
+          ap (λ k. reach gluing (long_at layout.arcs) slot.patch slot.side k + o) at_first ∙ same in
+          rw none at (lay.used slot o is l)
 
   module _ {one other : Slot} (are : IsJoinableAt gluing one other) where
     near : IsBorder mesh cut (patch one) one.side
@@ -159,11 +139,8 @@ module _ {mesh : HalfEdges} (laws : IsQuadManifold mesh) {cut : Cut} (full : IsC
             let lj : j < side_size (patch other) other.side = omega (arith, far_long) in
             let low = in_low mesh laws cut full (patch other).w (patch_at layout.patches other.patch).h
             (cell_of (patch other)) (grid_of are.across.0) (dart other j) (far.inside j lj) in
-            ap mesh.twin (near.along k (omega (arith, near_long)))
-            ∙ (paired (use_of gluing one).forward k j
-            (dart one k)
-            (dart other j) low sum
-            (lies one are.slot are.alone k (omega arith)) (far_lies j (omega arith))
+            ap mesh.twin (near.along k (omega (arith, near_long))) ∙ (paired (use_of gluing one).forward k j
+            (dart one k) (dart other j) low sum (lies one are.slot are.alone k (omega arith)) (far_lies j (omega arith))
             ∙ ap Some (sym (far.along j lj)))
 
         apart : AreInOne mesh cut (dart one 0) (dart other 0) → ⊥

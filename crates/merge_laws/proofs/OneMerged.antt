@@ -38,14 +38,15 @@ module _ (faces : Faces) (may : MayLeave) (laws : IsQuadManifold (half_edges fac
 
   one_step : (marks a b : List Bool) → IsCutOf faces marks → IsStep faces may marks a → IsStep faces may marks b → a ≡ b
   one_step marks a b cut one two =
-      let one_least = one.first.first two.near two.far two.size two.first.name two.first.joinable two.first.free
-      two.first.named.on in
-      let two_least = two.first.first one.near one.far one.size one.first.name one.first.joinable one.first.free
-      one.first.named.on in
+      let a_first = one.first in
+      let b_first = two.first in
+      let one_least =
+      a_first.first two.near two.far two.size b_first.name b_first.joinable b_first.free b_first.named.on in
+      let two_least =
+      b_first.first one.near one.far one.size a_first.name a_first.joinable a_first.free a_first.named.on in
       let names : one.first.name ≡ two.first.name = omega (arith, one_least, two_least) in
       let arcs = one_arc mesh laws (is_on marks) cut.full one.near one.far one.size two.near two.far two.size
-      one.first.name one.first.joinable.glued two.first.joinable.glued one.first.named.on
-      (rw names two.first.named.on) in
+      a_first.name a_first.joinable.glued b_first.joinable.glued a_first.named.on (rw names b_first.named.on) in
       let back : AreOneArc two.near two.far one.near one.far =
       elim arcs.0 [ inl p ↦ inl (sym p.0, sym p.1) | inr p ↦ inr (sym p.1, sym p.0) ] in
       ext_get_or false a b (one.long ∙ sym two.long) (λ d h.
@@ -75,8 +76,7 @@ module _ (faces : Faces) (may : MayLeave) (laws : IsQuadManifold (half_edges fac
   same_reached a b zero cut one two = sym one ∙ two
   same_reached {marks} a b (suc i) cut one two =
       let same = same_reached two.0 one.0 i cut two.1 one.1 in
-      one_step one.0 a b (cut_reached one.0 i cut one.1) one.2
-      (rw same at two.2)
+      one_step one.0 a b (cut_reached one.0 i cut one.1) one.2 (rw same at two.2)
 
   -- Fewer steps lead to a cut from which one more is taken.
   NextAt : (marks : List Bool) (i : ℕ) → Type 0

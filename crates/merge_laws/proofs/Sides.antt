@@ -1,7 +1,7 @@
 -- Whole sides of patches: each cut dart lies on one, at one place, and the four of a patch follow each other.
 use Rattle.std.proofs.Common.{◌≡◌, ◌⊎◌, ℕ, zero, suc, ◌+◌, ◌-◌, ◌<◌, true, false, Some, sym, ◌∙◌, ap, refl, inl}
 use Rattle.std.proofs.Common.{inr, true≢false, arith}
-use Rattle.std.proofs.lemmas.Bool.{cases_eq, cases_order}
+use Rattle.std.proofs.lemmas.Bool.{cases_eq}
 use Rattle.def_mesh.specs.HalfEdges.{HalfEdges, IsQuadManifold}
 use Rattle.def_cut.specs.{Cuts.Cut, Cuts.IsCorner, Cuts.IsCut, Grids.Cells, Grids.IsGrid, Steps.spin}
 use Rattle.def_cut.specs.Steps.{or_zero, step_east, easts}
@@ -9,7 +9,7 @@ use Rattle.cut_laws.specs.Grown.{grown, IsRow}
 use Rattle.cut_laws.proofs.{Darts.prev_three, Darts.next_same, Darts.twin_same, Rows.east_twin, Rows.west_off}
 use Rattle.cut_laws.proofs.{Rows.row_low, Rows.row_south, Folds.west, Folds.south, Folds.west_open, Folds.south_open}
 use Rattle.cut_laws.proofs.Classes.{In, linked_back, closed, first_in}
-use Rattle.cut_laws.proofs.Grown.{grow, grown_grid}
+use Rattle.cut_laws.proofs.{Grown.grow, Grown.grown_grid, Increasing.same_if}
 use Rattle.def_merge.specs.Joins.{IsWholeSide}
 
 -- One step on, and then straight on.
@@ -92,10 +92,7 @@ module _ (mesh : HalfEdges) (laws : IsQuadManifold mesh) (cut : Cut) (full : IsC
   shorter (suc k) one two l = true≢false (sym (one.ends k refl) ∙ two.inside k (omega arith))
 
   pub one_size : (s n m : ℕ) → IsWholeSide mesh cut s n → IsWholeSide mesh cut s m → n ≡ m
-  one_size s n m one two = elim (cases_order n m) [
-    | inl e ↦ e
-    | inr o ↦ elim o [ inl l ↦ absurd (shorter n one two l) | inr l ↦ absurd (shorter m two one l) ]
-  ]
+  one_size s n m one two = same_if (shorter n one two) (shorter m two one)
 
   -- The grid that stands on a whole side.
   pub grid_on : (s n : ℕ) → IsWholeSide mesh cut s n → (h : ℕ) × IsGrid mesh cut n h (grown mesh s)
@@ -222,36 +219,26 @@ module _ (mesh : HalfEdges) (laws : IsQuadManifold mesh) (cut : Cut) (full : IsC
     stands_at zero i (suc j) li lj e on =
         absurd (true≢false (sym on ∙ (ap cut e ∙ south_open mesh laws cut full w h cell grid i j li lj)))
     stands_at (suc zero) i j li lj e on = elim (cases_eq (suc i) w) [
-      | inl z ↦ let same : w - 1 ≡ i = omega arith in (
-        mesh.next (cell (w - 1) 0),
-        h,
-        j,
-        record { side = east_side; low = lj; at = along_east j lj ∙ (ap (λ y. mesh.next (cell y j)) same ∙ sym e) },
-        inr (inl refl),
-      )
+      | inl z ↦
+          let same : w - 1 ≡ i = omega arith in
+          let at = along_east j lj ∙ (ap (λ y. mesh.next (cell y j)) same ∙ sym e) in
+          (mesh.next (cell (w - 1) 0), h, j, record { side = east_side; low = lj; at = at }, inr (inl refl))
       | inr ne ↦ absurd (true≢false (sym on ∙ (ap cut e ∙ grid.east_open i j (omega arith) lj)))
     ]
     stands_at (suc (suc zero)) i j li lj e on = elim (cases_eq (suc j) h) [
-      | inl z ↦ let same : h - 1 ≡ j = omega arith in (
-        mesh.next (mesh.next (cell (w - 1) (h - 1))),
-        w,
-        w - suc i,
-        record {
-          side = north_side;
-          low = omega arith;
-          at = along_north (w - suc i) i (omega arith) ∙ (ap (λ y. mesh.next (mesh.next (cell i y))) same ∙ sym e);
-        },
-        inr (inr (inl refl)),
-      )
+      | inl z ↦
+          let same : h - 1 ≡ j = omega arith in
+          let k = w - suc i in
+          let at = along_north k i (omega arith) ∙ (ap (λ y. mesh.next (mesh.next (cell i y))) same ∙ sym e) in
+          let first = mesh.next (mesh.next (cell (w - 1) (h - 1))) in
+          (first, w, k, record { side = north_side; low = omega arith; at = at }, inr (inr (inl refl)))
       | inr ne ↦ absurd (true≢false (sym on ∙ (ap cut e ∙ grid.north_open i j li (omega arith))))
     ]
-    stands_at (suc (suc (suc zero))) zero j li lj e on = (
-      mesh.next (mesh.next (mesh.next (cell 0 (h - 1)))),
-      h,
-      h - suc j,
-      record { side = west_side; low = omega arith; at = along_west (h - suc j) j (omega arith) ∙ sym e },
-      inr (inr (inr refl)),
-    )
+    stands_at (suc (suc (suc zero))) zero j li lj e on =
+        let k = h - suc j in
+        let at = along_west k j (omega arith) ∙ sym e in
+        let first = mesh.next (mesh.next (mesh.next (cell 0 (h - 1)))) in
+        (first, h, k, record { side = west_side; low = omega arith; at = at }, inr (inr (inr refl)))
     stands_at (suc (suc (suc zero))) (suc i) j li lj e on =
         absurd (true≢false (sym on ∙ (ap cut (e ∙ sym (prev_three mesh laws (cell (suc i) j)))
         ∙ west_open mesh laws cut full w h cell grid i j li lj)))

@@ -1,11 +1,11 @@
 -- Whether an arc may leave beside marked lines is told at its darts and its two ends.
-use Rattle.std.proofs.Common.{◌≡◌, ◌⊎◌, ℕ, zero, suc, ◌+◌, ◌-◌, ◌<◌, Bool, true, false, not, ◌&&◌, List}
+use Rattle.std.proofs.Common.{◌≡◌, ◌⊎◌, ℕ, zero, suc, ◌+◌, ◌-◌, ◌<◌, Bool, true, false, List}
 use Rattle.std.proofs.Common.{Some, sym, ◌∙◌, ap, subst, refl, inl, inr, arith}
 use Rattle.std.proofs.lemmas.Bool.{false≢true, false_from_ne_true}
 use Rattle.std.proofs.lemmas.Option.{same_Some}
 use Rattle.def_mesh.specs.{Faces.Faces, Darts.darts, Darts.from_of, Darts.next_of, Darts.prev_of, Darts.twin_of}
 use Rattle.def_mesh.specs.{HalfEdges.HalfEdges, HalfEdges.IsQuadManifold, HalfEdges.half_edges, Manifold.IsManifold}
-use Rattle.def_cut.specs.{Cuts.IsCut, FullCut.is_on, Steps.easts}
+use Rattle.def_cut.specs.{Cuts.IsCorner, Cuts.IsCut, FullCut.is_on, Steps.easts}
 use Rattle.def_feature.specs.{Beside.IsCutBeside, Beside.keeps_lines, Marks.AreMarks, Marks.is_break}
 use Rattle.def_merge.specs.Beside.{without, IsEndFree, IsSpared, SparedLaw}
 use Rattle.def_merge.specs.Joins.{AreGlued, IsJoinable, IsOnArc, IsWithout}
@@ -13,10 +13,10 @@ use Rattle.cut_laws.proofs.Crosses.{one_of_four, low_a, low_b, low_c, at_a, at_b
 use Rattle.mesh_laws.proofs.HalfEdges.{manifold_law}
 use Rattle.face_laws.proofs.FullCuts.{full_cut_law}
 use Rattle.feature_laws.proofs.Breaks.{break_cross, two_ways}
-use Rattle.merge_laws.proofs.Beside.{on_arc, of_arc, keeps_from, kept_from, turned_from, without_is}
+use Rattle.merge_laws.proofs.Beside.{keeps_from, kept_from, left_at, turned_from}
 use Rattle.merge_laws.proofs.ArcDarts.{less, on_or_not, on_low, on_twin, still, turned_glued}
 use Rattle.merge_laws.proofs.Joins.{join_law, crossed_at}
-use Rattle.merge_laws.proofs.Sides.{grid_on, side_low, side_link, side_before}
+use Rattle.merge_laws.proofs.Sides.{side_low, side_link, side_before}
 use Rattle.merge_laws.proofs.Held.{Turn, turn_there, turn_from}
 
 module _ (faces : Faces) (m : IsManifold faces) (marks : List Bool) (marked : AreMarks faces marks) (cut : List Bool)
@@ -44,17 +44,10 @@ module _ (faces : Faces) (m : IsManifold faces) (marks : List Bool) (marked : Ar
     OnArc d = IsOnArc (half_edges faces) s t n d
 
     left : IsWithout mesh (is_on cut) (is_on rest) s t n
-    left =
-        let off_test : (a b : Bool) → b ≡ true → (a && not b) ≡ false =
-        elim [ true ↦ λ b y. ap not y | false ↦ λ b y. refl ] in
-        let on_test : (a b : Bool) → b ≡ false → (a && not b) ≡ a =
-        elim [ true ↦ λ b y. ap not y | false ↦ λ b y. refl ] in
-        record {
-          gone = λ d o. without_is faces cut s t n d (on_low mesh laws (is_on cut) full s t n arc.glued d o)
-              ∙ off_test (is_on cut d) _ (on_arc mesh s t n d o);
-          kept = λ d l none. without_is faces cut s t n d l
-              ∙ on_test (is_on cut d) _ (false_from_ne_true _ (λ y. none (of_arc mesh s t n d y)));
-        }
+    left = record {
+      gone = λ d o. (left_at faces cut s t n d (on_low mesh laws (is_on cut) full s t n arc.glued d o)).0 o;
+      kept = λ d l. (left_at faces cut s t n d l).1;
+    }
 
     full_left : IsCut mesh (is_on rest)
     full_left = join_law mesh (is_on cut) (is_on rest) s t n laws full arc left
@@ -63,18 +56,15 @@ module _ (faces : Faces) (m : IsManifold faces) (marks : List Bool) (marked : Ar
     near_low k l = side_low mesh laws (is_on cut) full s n arc.glued.near k l
 
     -- Inside a side no patch has a corner.
-    no_turn : (r u : ℕ) → AreGlued mesh (is_on cut) r u n → (k e : ℕ) → suc k < n → IsBreak (easts mesh r (suc k))
-        → e < darts faces → from_of faces e ≡ from_of faces (easts mesh r (suc k)) → is_on cut e ≡ true
-        → is_on cut (prev_of e) ≡ true → ⊥
-    no_turn r u glued k e l y le at on before =
+    no_turn : (r u : ℕ) → AreGlued mesh (is_on cut) r u n → (k d : ℕ) → suc k < n → d ≡ easts mesh r (suc k) → IsBreak d
+        → TurnsAt cut d → ⊥
+    no_turn r u glued k d l is_x broken (e, le, v, on, before) =
         let x = easts mesh r (suc k) in
+        let y = ap (λ z. is_break faces marks (from_of faces z)) (sym is_x) ∙ broken in
+        let at = v ∙ ap (from_of faces) is_x in
         let lx = side_low mesh laws (is_on cut) full r n glued.near (suc k) l in
         let west = side_before mesh laws (is_on cut) full glued.near k l in
-        let cross = break_cross faces m marks marked x lx y in
-        let a = cross.0 in
-        let b = cross.1 in
-        let c = cross.2 in
-        let is = cross.3 in
+        let (a, b, c, is) = break_cross faces m marks marked x lx y in
         let lc = low_c mesh laws x a b c lx is in
         let off_a : is_on cut a ≡ false = full.alike (prev_of x) a (laws.prev_low x lx) is.first ∙ west in
         let far : (j : ℕ) → suc k + suc j ≡ n → is_on cut c ≡ false = λ j sum.
@@ -93,29 +83,26 @@ module _ (faces : Faces) (m : IsManifold faces) (marks : List Bool) (marked : Ar
 
     -- So of the darts that leave a corner of a patch where lines break only the first ones lie on the arc.
     first_at : (d : ℕ) → OnArc d → IsBreak d → TurnsAt cut d → (d ≡ s) ⊎ (d ≡ t)
-    first_at d (zero, l, inl e) y turn = inl e
-    first_at d (zero, l, inr e) y turn = inr e
-    first_at d (suc k, l, inl e) y turn = absurd (no_turn s t arc.glued k turn.0 l (ap
-        (λ z. is_break faces marks (from_of faces z)) (sym e) ∙ y) turn.1 (turn.2 ∙ ap (from_of faces) e) turn.3 turn.4)
-    first_at d (suc k, l, inr e) y turn = absurd (no_turn t s (turned_glued mesh laws (is_on cut) full arc.glued)
-        k turn.0 l (ap (λ z. is_break faces marks (from_of faces z)) (sym e) ∙ y) turn.1 (turn.2 ∙ ap (from_of faces) e)
-        turn.3 turn.4)
+    first_at d (zero, l, e) y turn = e
+    first_at d (suc k, l, inl e) y turn = absurd (no_turn s t arc.glued k d l e y turn)
+    first_at d (suc k, l, inr e) y turn =
+        absurd (no_turn t s (turned_glued mesh laws (is_on cut) full arc.glued) k d l e y turn)
 
     -- Where the edge opposite to an end stays, a corner stays.
-    module _ (r u : ℕ) (lr : r < darts faces) (corner : (is_on cut r ≡ true) × (is_on cut (prev_of r) ≡ true))
-        (on : OnArc r) (other : (d : ℕ) → (d ≡ s) ⊎ (d ≡ t) → (d ≡ r) ⊎ (d ≡ u)) where
+    module _ (r u : ℕ) (corner : IsCorner mesh (is_on cut) r) (on : OnArc r)
+        (other : (d : ℕ) → (d ≡ s) ⊎ (d ≡ t) → (d ≡ r) ⊎ (d ≡ u)) where
+      abbrev lr : r < darts faces
+      lr = corner.0
+
       stays : IsBreak r → IsEndFree faces marks cut r u → TurnsAt rest r
       stays y free =
-          let cross = break_cross faces m marks marked r lr y in
-          let a = cross.0 in
-          let b = cross.1 in
-          let is = cross.3 in
-          let la = low_a mesh laws r a b cross.2 lr is in
-          let lb = low_b mesh laws r a b cross.2 lr is in
+          let (a, b, c, is) = break_cross faces m marks marked r lr y in
+          let la = low_a mesh laws r a b c lr is in
+          let lb = low_b mesh laws r a b c lr is in
           let opposite = free y a b is.first is.second in
-          let at = at_b mesh laws r a b cross.2 lr is in
+          let at = at_b mesh laws r a b c lr is in
           let clear : IsOnArc (half_edges faces) s t n b → ⊥ = λ o.
-          elim (other b (first_at b o (ap (is_break faces marks) at ∙ y) (r, lr, sym at, corner.0, corner.1))) [
+          elim (other b (first_at b o (ap (is_break faces marks) at ∙ y) (r, lr, sym at, corner.1, corner.2))) [
             | inl e ↦ is.apart (sym e)
             | inr e ↦ opposite.1 e
           ] in
@@ -130,30 +117,24 @@ module _ (faces : Faces) (m : IsManifold faces) (marks : List Bool) (marked : Ar
                 absurd (false≢true (sym (left.gone r on)
                 ∙ (ap (is_on rest) (sym (ap next_of same ∙ laws.next_prev r)) ∙ w.2)))
           ] in
-          (a, la, at_a mesh laws r a b cross.2 lr is, on_a, before)
+          (a, la, at_a mesh laws r a b c lr is, on_a, before)
 
       -- And where a corner stays, the opposite edge does.
       free : OnArc u → (IsBreak r → TurnsAt rest r) → IsEndFree faces marks cut r u
       free on_u turn y a b first second =
-          let cross = break_cross faces m marks marked r lr y in
-          let x = cross.0 in
-          let z = cross.1 in
-          let w = cross.2 in
-          let is = cross.3 in
+          let (x, z, w, is) = break_cross faces m marks marked r lr y in
           let same_a = same_Some x a (sym is.first ∙ first) in
           let same_b = same_Some z b (sym is.second ∙ (ap (λ x. twin_of faces (prev_of x)) same_a ∙ second)) in
-          let there = turn y in
-          let e = there.0 in
-          let on_e = there.3 in
+          let (e, le, at, on_e, before) = turn y in
           let on_b : is_on rest z ≡ true =
-          elim (one_of_four mesh laws r x z w lr is e (record { low = there.1; at = there.2 })) [
+          elim (one_of_four mesh laws r x z w lr is e (record { low = le; at = at })) [
             | inl same ↦ absurd (false≢true (sym (left.gone r on) ∙ (ap (is_on rest) (sym same) ∙ on_e)))
             | inr (inl same) ↦ full_left.alike (prev_of x) z (laws.prev_low x (low_a mesh laws r x z w lr is)) is.second
-                ∙ (ap (λ z. is_on rest (prev_of z)) (sym same) ∙ there.4)
+                ∙ (ap (λ z. is_on rest (prev_of z)) (sym same) ∙ before)
             | inr (inr (inl same)) ↦ ap (is_on rest) (sym same) ∙ on_e
             | inr (inr (inr same)) ↦ absurd (false≢true (sym (left.gone r on)
                 ∙ (full_left.alike (prev_of w) r (laws.prev_low w (low_c mesh laws r x z w lr is)) is.last
-                ∙ (ap (λ z. is_on rest (prev_of z)) (sym same) ∙ there.4))))
+                ∙ (ap (λ z. is_on rest (prev_of z)) (sym same) ∙ before))))
           ] in (
             ap (is_on cut) (sym same_b) ∙ less mesh laws (is_on cut) (is_on rest) s t n left z
                 (low_b mesh laws r x z w lr is) on_b,
@@ -170,13 +151,7 @@ module _ (faces : Faces) (m : IsManifold faces) (marks : List Bool) (marked : Ar
         let lx = near_low (suc k) l in
         let ly = near_low k (omega arith) in
         false_from_ne_true _ (λ on.
-        let near = grid_on mesh laws (is_on cut) full s n arc.glued.near in
-        let far = grid_on mesh laws (is_on cut) full t n arc.glued.far in
-        let cross = crossed_at laws full arc near.1 far.1 k l in
-        let a = cross.0 in
-        let b = cross.1 in
-        let c = cross.2 in
-        let is = cross.3 in
+        let (a, b, c, is) = crossed_at laws full arc k l in
         let right = same_Some a (next_of y) (sym is.first ∙ laws.twin_twin (next_of y) (prev_of x) (laws.next_low y ly)
         (side_link mesh laws (is_on cut) full s n arc.glued.near k l)) in
         let across : twin_of faces (easts mesh s k) ≡ Some b =
@@ -185,9 +160,8 @@ module _ (faces : Faces) (m : IsManifold faces) (marks : List Bool) (marked : Ar
           | inl on ↦ false≢true (sym before ∙ (sym (marked.alike y b ly across) ∙ on))
           | inr (inl both) ↦ false≢true (sym (arc.glued.near.inside k l) ∙ (ap (is_on cut) (sym right)
               ∙ beside.kept a (low_a mesh laws x a b c lx is) both.0))
-          | inr (inr broken) ↦
-              let turn = turn_there faces cut (from_of faces x) (beside.turned x lx broken) in
-              no_turn s t arc.glued k turn.0 l broken turn.1 turn.2 turn.3 turn.4
+          | inr (inr broken) ↦ no_turn s t arc.glued k x l refl broken
+              (turn_there faces cut (from_of faces x) (beside.turned x lx broken))
         ])
 
     on_s : OnArc s
@@ -201,17 +175,14 @@ module _ (faces : Faces) (m : IsManifold faces) (marks : List Bool) (marked : Ar
     swap d (inr e) = inl e
 
     to_spared : keeps_lines faces marks rest ≡ true → IsSpared faces marks cut s t n
-    to_spared keeps =
-        let near = arc.glued.near.corner in
-        let far = arc.glued.far.corner in
-        record {
-          unmarked = λ k l. false_from_ne_true _ (λ y. false≢true (sym (left.gone (easts mesh s k) (k, l, inl refl))
-              ∙ kept_from faces marks rest keeps (easts mesh s k) (near_low k l) y));
-          near = free s t near.0 (near.1, near.2) on_s (λ d o. o) on_t
-              (λ y. turn_there faces rest (from_of faces s) (turned_from faces marks rest keeps s near.0 y));
-          far = free t s far.0 (far.1, far.2) on_t swap on_s
-              (λ y. turn_there faces rest (from_of faces t) (turned_from faces marks rest keeps t far.0 y));
-        }
+    to_spared keeps = record {
+      unmarked = λ k l. false_from_ne_true _ (λ y. false≢true (sym (left.gone (easts mesh s k) (k, l, inl refl))
+          ∙ kept_from faces marks rest keeps (easts mesh s k) (near_low k l) y));
+      near = free s t arc.glued.near.corner on_s (λ d o. o) on_t (λ y. turn_there faces rest (from_of faces s)
+          (turned_from faces marks rest keeps s arc.glued.near.corner.0 y));
+      far = free t s arc.glued.far.corner on_t swap on_s (λ y. turn_there faces rest (from_of faces t)
+          (turned_from faces marks rest keeps t arc.glued.far.corner.0 y));
+    }
 
     from_spared : IsSpared faces marks cut s t n → keeps_lines faces marks rest ≡ true
     from_spared spared = keeps_from faces marks rest (λ d l y. still mesh laws (is_on cut) (is_on rest) s t n left d l
@@ -227,18 +198,16 @@ module _ (faces : Faces) (m : IsManifold faces) (marks : List Bool) (marked : Ar
 
         turned : (d : ℕ) → IsBreak d → TurnsAt cut d → TurnsAt rest d
         turned d y (e, le, at, on, before) =
-            let near = arc.glued.near.corner in
-            let far = arc.glued.far.corner in
             -- At an end of the arc, whose dart leaves it or arrives there,
             let leaves : (z : ℕ) → OnArc z → from_of faces z ≡ from_of faces d → TurnsAt rest d = λ z o v.
             elim (first_at z o (ap (is_break faces marks) v ∙ y) (e, le, at ∙ sym v, on, before)) [
               | inl same ↦
                   let v : from_of faces s ≡ from_of faces d = ap (from_of faces) (sym same) ∙ v in
-                  subst (Turn faces rest) v (stays s t near.0 (near.1, near.2) on_s (λ z o. o)
+                  subst (Turn faces rest) v (stays s t arc.glued.near.corner on_s (λ z o. o)
                   (ap (is_break faces marks) v ∙ y) spared.near)
               | inr same ↦
                   let v : from_of faces t ≡ from_of faces d = ap (from_of faces) (sym same) ∙ v in
-                  subst (Turn faces rest) v (stays t s far.0 (far.1, far.2) on_t swap
+                  subst (Turn faces rest) v (stays t s arc.glued.far.corner on_t swap
                   (ap (is_break faces marks) v ∙ y) spared.far)
             ] in
             -- or elsewhere.

@@ -114,8 +114,7 @@ module _ (faces : Faces) (m : IsManifold faces) (marks : List Bool) (marked : Ar
     outer_two : is_inner faces v ≡ false → faces_at faces v ≡ 2
     outer_two out = elim (cases_lt 2 (faces_at faces v)) [
       | inl more
-          ↦ absurd (starts (or_right _ _
-          (and_from _ _ (ap is_some over)
+          ↦ absurd (starts (or_right _ _ (and_from _ _ (ap is_some over)
           (or_left _ _ (and_from _ _ (not_from_false _ out) (lt-ltb 2 (faces_at faces v) more))))))
       | inr few ↦ omega (arith, few, many)
     ]
@@ -256,16 +255,14 @@ module _ (faces : Faces) (m : IsManifold faces) (marks : List Bool) (marked : Ar
       sized : count_below lengths sides ≡ side_size (patch_at layout.patches patch) side
       sized = lay.sizes patch side low
 
-      arc_there : (k : ℕ) → k < sides
-          → IsArc (half_edges faces) (is_on cut) (is_node faces cut)
+      arc_there : (k : ℕ) → k < sides → IsArc (half_edges faces) (is_on cut) (is_node faces cut)
           (path_at layout.arcs ((gluing_of layout).use_at patch side k).arc).darts
       arc_there k l = lay.arcs.each ((gluing_of layout).use_at patch side k).arc
           (lay.uses (record { patch = patch; side = side; at = k }) (record { patch_low = low; low = l }))
 
       -- An arc in use begins at a node.
       node_at : (k : ℕ) → k < sides → reach (gluing_of layout) (long_at layout.arcs) patch side k < side_size
-          (patch_at layout.patches patch) side
-          → is_node faces cut (from_of faces
+          (patch_at layout.patches patch) side → is_node faces cut (from_of faces
           (border_dart (half_edges faces) (patch_at layout.patches patch) side
           (reach (gluing_of layout) (long_at layout.arcs) patch side k))) ≡ true
       node_at k l place =
