@@ -5,7 +5,7 @@ use Rattle.def_mesh.specs.HalfEdges.{HalfEdges, IsQuadManifold}
 use Rattle.def_cut.specs.{Cuts.Cut, Cuts.IsCut, Steps.easts}
 use Rattle.def_layout.specs.Arcs.{LiesAt, Path, path_at, dart_at, long_at, name_at, AreArcs}
 use Rattle.def_layout.specs.Nodes.{AreNodes}
-use Rattle.cut_laws.proofs.Leasts.{least_high, least_there}
+use Rattle.cut_laws.proofs.{Leasts.least_high, Leasts.least_there, Increasing.increasing_place}
 use Rattle.layout_laws.proofs.Runs.{IsBack, run_low, same_place, same_length, back_run}
 
 module _ (m : HalfEdges) (laws : IsQuadManifold m) (cut : Cut) (full : IsCut m cut) (node : ℕ → Bool)
@@ -13,24 +13,6 @@ module _ (m : HalfEdges) (laws : IsQuadManifold m) (cut : Cut) (full : IsCut m c
   pub dart_low : (a k : ℕ) → a < length arcs → k < long_at arcs a → dart_at arcs a k < m.count
   dart_low a k low less = rw ((are.each a low).each k less)
       (run_low m laws cut full node nodes _ _ (are.each a low).run k less)
-
-module _ {m : HalfEdges} {cut : Cut} {node : ℕ → Bool} {arcs : List Path} (are : AreArcs m cut node arcs) where
-  -- Arcs are told by their names.
-  pub names_rise : (a b : ℕ) → a < b → b < length arcs → name_at arcs a < name_at arcs b
-  names_rise a zero less low = absurd (omega arith)
-  names_rise a (suc b) less low = elim (cases_eq a b) [
-    | inl e ↦ let s : name_at arcs a ≡ name_at arcs b = ap (name_at arcs) e in omega (arith, are.ordered b low)
-    | inr ne ↦ omega (arith, names_rise a b (omega arith) (omega arith), are.ordered b low)
-  ]
-
-  pub one_name : (a b : ℕ) → a < length arcs → b < length arcs → name_at arcs a ≡ name_at arcs b → a ≡ b
-  one_name a b a_low b_low same = elim (cases_order a b) [
-    | inl e ↦ e
-    | inr o ↦ elim o [
-      | inl less ↦ absurd (omega (arith, names_rise a b less b_low))
-      | inr more ↦ absurd (omega (arith, names_rise b a more a_low))
-    ]
-  ]
 
 -- The same of two lists of arcs.
 module _ {m : HalfEdges} (laws : IsQuadManifold m) {cut : Cut} (full : IsCut m cut) {node : ℕ → Bool}
@@ -45,19 +27,18 @@ module _ {m : HalfEdges} (laws : IsQuadManifold m) {cut : Cut} (full : IsCut m c
   -- Arcs with a dart in common have the same darts.
   pub same_arc : (a b k j : ℕ) → a < length arcs → b < length others → k < long_at arcs a → j < long_at others b
       → dart_at arcs a k ≡ dart_at others b j → IsSameArc a b k j
-  same_arc a b k j a_low b_low k_low j_low same = record { place = place.1; long = long; each = each }
-    where
-      place : (dart_at arcs a 0 ≡ dart_at others b 0) × (k ≡ j)
-      place = same_place m laws cut full node nodes (dart_at arcs a 0) (long_at arcs a) (dart_at others b 0)
-          (long_at others b) (are.each a a_low).run (them.each b b_low).run
-          k j k_low j_low (cc ((are.each a a_low).each k k_low, (them.each b b_low).each j j_low))
-
-      long : long_at arcs a ≡ long_at others b
-      long = same_length m laws cut full node nodes (dart_at others b 0) (long_at arcs a) (long_at others b)
-          (rw place.0 at (are.each a a_low).run) (them.each b b_low).run
-
-      each : (i : ℕ) → i < long_at arcs a → dart_at arcs a i ≡ dart_at others b i
-      each i less = cc ((are.each a a_low).each i less, place.0, (them.each b b_low).each i (omega (arith, long)))
+  same_arc a b k j a_low b_low k_low j_low same =
+      let (first, place) = same_place m laws cut full node nodes (dart_at arcs a 0) (long_at arcs a) (dart_at others b
+      0) (long_at others b) (are.each a a_low).run (them.each b b_low).run k j k_low j_low
+      (cc ((are.each a a_low).each k k_low, (them.each b b_low).each j j_low)) in
+      let long = same_length m laws cut full node nodes (dart_at others b 0) (long_at arcs a) (long_at others b)
+      (rw first at (are.each a a_low).run) (them.each b b_low).run in
+      record {
+        place = place;
+        long = long;
+        each = λ i less.
+            cc ((are.each a a_low).each i less, first, (them.each b b_low).each i (omega (arith, long)));
+      }
 
   -- Then they have one name.
   pub one_name_both : (a b k j : ℕ) → a < length arcs → b < length others → IsSameArc a b k j
@@ -76,50 +57,38 @@ module _ {m : HalfEdges} (laws : IsQuadManifold m) {cut : Cut} (full : IsCut m c
   -- A dart of one is no twin of a dart of the other.
   pub clash : (a b k j : ℕ) → a < length arcs → b < length others → k < long_at arcs a → j < long_at others b
       → m.twin (dart_at others b j) ≡ Some (dart_at arcs a k) → ⊥
-  clash a b k j a_low b_low k_low j_low twin = omega (arith, a_less, b_less)
-    where
-      met : (r : ℕ) × IsBack m cut node (dart_at others b 0) (long_at others b) r
-      met = back_run m laws cut full node nodes (dart_at others b 0) (long_at others b) (them.each b b_low).run j
-          (dart_at arcs a k) j_low (ap m.twin (sym ((them.each b b_low).each j j_low)) ∙ twin)
-
-      back : IsBack m cut node (dart_at others b 0) (long_at others b) met.0
-      back = met.1
-
-      there : dart_at arcs a k ≡ easts m met.0 (long_at others b - 1 - j)
-      there = cc (twin, (them.each b b_low).each j j_low, back.twin j (long_at others b - 1 - j) (omega arith))
-
-      place : (dart_at arcs a 0 ≡ met.0) × (k ≡ long_at others b - 1 - j)
-      place = same_place m laws cut full node nodes (dart_at arcs a 0) (long_at arcs a) met.0 (long_at others b)
-          (are.each a a_low).run back.run k (long_at others b - 1 - j) k_low (omega arith)
-          (cc ((are.each a a_low).each k k_low, there))
-
-      long : long_at arcs a ≡ long_at others b
-      long = same_length m laws cut full node nodes met.0 (long_at arcs a) (long_at others b)
-          (rw place.0 at (are.each a a_low).run) back.run
-
-      across : (i n : ℕ) → i + suc n ≡ long_at others b → m.twin (dart_at others b i) ≡ Some (dart_at arcs a n)
-      across i n sum = cc (
+  clash a b k j a_low b_low k_low j_low twin =
+      let (r, back) = back_run m laws cut full node nodes (dart_at others b 0) (long_at others b) (them.each b
+      b_low).run j (dart_at arcs a k) j_low (ap m.twin (sym ((them.each b b_low).each j j_low)) ∙ twin) in
+      let there : dart_at arcs a k ≡ easts m r (long_at others b - 1 - j) =
+      cc (twin, (them.each b b_low).each j j_low, back.twin j (long_at others b - 1 - j) (omega arith)) in
+      let place = same_place m laws cut full node nodes (dart_at arcs a 0) (long_at arcs a) r (long_at others b)
+      (are.each a a_low).run back.run k (long_at others b - 1 - j) k_low (omega arith)
+      (cc ((are.each a a_low).each k k_low, there)) in
+      let long = same_length m laws cut full node nodes r (long_at arcs a) (long_at others b)
+      (rw place.0 at (are.each a a_low).run) back.run in
+      let across : (i n : ℕ) → i + suc n ≡ long_at others b → m.twin (dart_at others b i) ≡ Some (dart_at arcs a n) =
+      λ i n sum. cc (
         (them.each b b_low).each i (omega arith),
         back.twin i n sum,
         place.0,
         (are.each a a_low).each n (omega (arith, long)),
-      )
-
-      b_less : name_at others b < name_at arcs a
-      b_less =
-          let n = least_there (path_at arcs a).darts (are.each a a_low).run.some in
-          let l = (them.each b b_low).named (long_at others b - 1 - n.0) (dart_at arcs a n.0)
-          (omega (arith, long, n.1)) (across (long_at others b - 1 - n.0) n.0 (omega (arith, long, n.1))) in
-          omega (arith, l, n.2)
-
-      a_less : name_at arcs a < name_at others b
-      a_less =
-          let p = least_there (path_at others b).darts (them.each b b_low).run.some in
-          let l = (are.each a a_low).named (long_at others b - 1 - p.0) (dart_at others b p.0)
-          (omega (arith, long, p.1))
-          (laws.twin_twin (dart_at others b p.0) (dart_at arcs a (long_at others b - 1 - p.0)) (dart_low m laws cut full
-          node nodes others them b p.0 b_low p.1) (across p.0 (long_at others b - 1 - p.0) (omega (arith, p.1)))) in
-          omega (arith, l, p.2)
+      ) in
+      let n = least_there (path_at arcs a).darts (are.each a a_low).run.some in
+      let p = least_there (path_at others b).darts (them.each b b_low).run.some in
+      let b_less = (them.each b b_low).named (long_at others b - 1 - n.0) (dart_at arcs a n.0) (omega (
+        arith,
+        long,
+        n.1,
+      )) (across (long_at others b - 1 - n.0) n.0 (omega (arith, long, n.1))) in
+      let a_less = (are.each a a_low).named (long_at others b - 1 - p.0) (dart_at others b p.0) (omega (
+        arith,
+        long,
+        p.1,
+      ))
+      (laws.twin_twin (dart_at others b p.0) (dart_at arcs a (long_at others b - 1 - p.0)) (dart_low m laws cut full
+      node nodes others them b p.0 b_low p.1) (across p.0 (long_at others b - 1 - p.0) (omega (arith, p.1)))) in
+      omega (arith, a_less, b_less, n.2, p.2)
 
 module _ (m : HalfEdges) (laws : IsQuadManifold m) (cut : Cut) (full : IsCut m cut) (node : ℕ → Bool)
     (nodes : AreNodes m cut node) (arcs : List Path) (are : AreArcs m cut node arcs) where
@@ -127,8 +96,11 @@ module _ (m : HalfEdges) (laws : IsQuadManifold m) (cut : Cut) (full : IsCut m c
   pub same_dart : (a b k j : ℕ) → a < length arcs → b < length arcs → k < long_at arcs a → j < long_at arcs b
       → dart_at arcs a k ≡ dart_at arcs b j → (a ≡ b) × (k ≡ j)
   same_dart a b k j a_low b_low k_low j_low same =
-      let s = same_arc laws full nodes are are a b k j a_low b_low k_low j_low same in
-      (one_name are a b a_low b_low (one_name_both laws full nodes are are a b k j a_low b_low s), s.place)
+      let s = same_arc laws full nodes are are a b k j a_low b_low k_low j_low same in (
+        increasing_place (name_at arcs) (length arcs) (record { step = are.ordered }) a b a_low b_low
+            (one_name_both laws full nodes are are a b k j a_low b_low s),
+        s.place,
+      )
 
   pub same_use : (a b : ℕ) (f g : Bool) (o k d : ℕ) → a < length arcs → b < length arcs → o < long_at arcs a
       → k < long_at arcs b
@@ -140,9 +112,8 @@ module _ (m : HalfEdges) (laws : IsQuadManifold m) (cut : Cut) (full : IsCut m c
   same_use a b false true o k d a_low b_low o_low k_low at also = absurd
       (clash laws full nodes are are b a k (long_at arcs a - 1 - o) b_low a_low k_low (omega arith) (at ∙ ap Some also))
   same_use a b false false o k d a_low b_low o_low k_low at also =
-      let one : m.twin d ≡ Some (dart_at arcs a (long_at arcs a - 1 - o)) =
-      laws.twin_twin (dart_at arcs a (long_at arcs a - 1 - o)) d (dart_low m laws cut full node nodes arcs are a
-      (long_at arcs a - 1 - o) a_low (omega arith)) at in
+      let one : m.twin d ≡ Some (dart_at arcs a (long_at arcs a - 1 - o)) = laws.twin_twin (dart_at arcs a (long_at arcs
+      a - 1 - o)) d (dart_low m laws cut full node nodes arcs are a (long_at arcs a - 1 - o) a_low (omega arith)) at in
       let other : m.twin d ≡ Some (dart_at arcs b (long_at arcs b - 1 - k)) =
       laws.twin_twin (dart_at arcs b (long_at arcs b - 1 - k)) d (dart_low m laws cut full node nodes arcs are b
       (long_at arcs b - 1 - k) b_low (omega arith)) also in

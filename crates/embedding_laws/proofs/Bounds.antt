@@ -47,34 +47,28 @@ module _ (l : Gluing) (x : Lengths) (laid : IsSurface l) (len : AreLengths l x) 
       count_rises (λ q. wide l x q * high l x q) (suc p) l.patches (omega (arith, low)) in
       omega (arith, le)
 
-  wide_few : (p : ℕ) → p < l.patches → wide l x p ≤ face_count l x
-  wide_few p low = omega (
-    arith,
-    patch_few p low,
-    mul-le (wide l x p) 1 (wide l x p) (high l x p) (omega arith) (high_some l x laid.paved len p low),
-  )
-
-  high_few : (p : ℕ) → p < l.patches → high l x p ≤ face_count l x
-  high_few p low = omega (
-    arith,
-    patch_few p low,
-    mul-le 1 (high l x p) (wide l x p) (high l x p) (wide_some l x laid.paved len p low) (omega arith),
-  )
+  both_few : (p : ℕ) → p < l.patches → (wide l x p ≤ face_count l x) × (high l x p ≤ face_count l x)
+  both_few p low =
+      let few = patch_few p low in
+      let w_some = wide_some l x laid.paved len p low in
+      let h_some = high_some l x laid.paved len p low in
+      let w = mul-le (wide l x p) 1 (wide l x p) (high l x p) (omega arith) h_some in
+      let h = mul-le 1 (high l x p) (wide l x p) (high l x p) w_some (omega arith) in
+      (omega arith, omega arith)
 
   pub side_few : (p : ℕ) (s : Way) → p < l.patches → size l x p s ≤ face_count l x
-  side_few p south low = wide_few p low
-  side_few p east low = omega (arith, len.upright p low, high_few p low)
-  side_few p north low = omega (arith, len.across p low, wide_few p low)
-  side_few p west low = high_few p low
+  side_few p south low = (both_few p low).0
+  side_few p east low = omega (arith, len.upright p low, both_few p low)
+  side_few p north low = omega (arith, len.across p low, both_few p low)
+  side_few p west low = (both_few p low).1
 
 -- Lengths of at most k make a layout no larger than k times the old lengths do.
 module _ (l : Gluing) (old x : Lengths) (k : ℕ) (laid : IsSurface l) (len : AreLengths l old) (most : (a : ℕ)
     → x a ≤ k) where
   pub side_most : (p : ℕ) (s : Way) → p < l.patches → size l x p s ≤ k * size l old p s
   side_most p s low =
-      let each : count_below (λ m. x (l.use_at p s m).arc) (l.many p s)
-      ≤ count_below (λ m. k * old (l.use_at p s m).arc) (l.many p s) =
-      count_below_le (λ m. x (l.use_at p s m).arc) (λ m. k * old (l.use_at p s m).arc) _ term in
+      let each : count_below (λ m. x (l.use_at p s m).arc) (l.many p s) ≤ count_below (λ m. k * old (l.use_at p s
+      m).arc) (l.many p s) = count_below_le (λ m. x (l.use_at p s m).arc) (λ m. k * old (l.use_at p s m).arc) _ term in
       omega (arith, count_below_times k (λ m. old (l.use_at p s m).arc) (l.many p s))
     where
       term : (m : ℕ) → m < l.many p s → x (l.use_at p s m).arc ≤ k * old (l.use_at p s m).arc

@@ -1,6 +1,4 @@
 pub mod ArcUses
-pub mod NodeEdges
-mod Spins
 pub mod Lies
 pub mod LayoutLies
 pub mod OneLayout

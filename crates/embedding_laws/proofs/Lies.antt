@@ -1,22 +1,66 @@
 -- The layout of a full cut lies in the mesh.
-use Rattle.std.proofs.Common.{◌≡◌, ◌⊎◌, ℕ, zero, suc, ◌+◌, ◌-◌, ◌<◌, Bool, true, false, length, Option, Some, None}
-use Rattle.std.proofs.Common.{refl, sym, ◌∙◌, ap, subst, inl, inr, arith}
-use Rattle.std.proofs.lemmas.Bool.{cases_eq, cases_lt, cases_order, false≢true}
+use Rattle.std.proofs.Common.{◌≡◌, ◌≢◌, ℕ, zero, suc, ◌<◌, refl, sym, ap, ◌⊎◌, ◌+◌, ◌-◌, Bool, true, false, length}
+use Rattle.std.proofs.Common.{Option, Some, None, ◌∙◌, subst, inl, inr, arith}
+use Rattle.std.proofs.lemmas.Bool.{cases_Bool, cases_eq, cases_lt, cases_order, false≢true}
 use Rattle.std.proofs.lemmas.Option.{none-some}
 use Rattle.def_mesh.specs.HalfEdges.{HalfEdges, IsQuadManifold}
-use Rattle.def_cut.specs.{Cuts.Cut, Cuts.IsCut, Grids.cell_of, Grids.patch_at, Grids.IsGrid, Grids.IsSide, Steps.spin}
-use Rattle.def_layout.specs.Gluings.{Way, south, east, north, west, Gluing, Slot, IsSlot, use_of, start_node}
+use Rattle.def_cut.specs.Grids.{cell_of, patch_at, IsGrid, IsSide}
+use Rattle.def_cut.specs.{Steps.spin, Cuts.Cut, Cuts.IsCut}
+use Rattle.def_layout.specs.Gluings.{Way, south, east, north, west, side_after, Gluing, Slot, IsSlot, use_of}
+use Rattle.def_layout.specs.Layouts.{way_number, Layout, vertex_at, gluing_of, IsDartLayout}
 use Rattle.def_layout.specs.Lengths.{reach, size, wide, high, AreLengths}
 use Rattle.def_layout.specs.Cells.{CellDart, IsDart, dart, dart_along, slot_dart}
 use Rattle.def_layout.specs.Arcs.{end_vertex, IsRun, LiesAt, path_at, dart_at, long_at}
-use Rattle.def_layout.specs.Layouts.{Layout, way_number, vertex_at, gluing_of, IsDartLayout}
-use Rattle.def_layout.specs.{declared.tmesh.SideArc.SideArc, Surfaces.HasWholeSides, Surfaces.IsOtherSlot}
-use Rattle.def_layout.specs.{Embeddings.IsEmbedding, Borders.side_size, Borders.border_dart, Nodes.AreNodes}
+use Rattle.def_layout.specs.{Gluings.start_node, declared.tmesh.SideArc.SideArc, Surfaces.HasWholeSides}
+use Rattle.def_layout.specs.{Surfaces.IsOtherSlot, Embeddings.IsEmbedding, Borders.side_size, Borders.border_dart}
+use Rattle.def_layout.specs.Nodes.{AreNodes}
+use Rattle.cut_laws.proofs.Increasing.{increasing_place}
 use Rattle.list_laws.proofs.Filters.{IsKept, kept_at, rises}
-use Rattle.layout_laws.proofs.{Runs.run_inner, Borders.line, Borders.on_side, Borders.line_from}
+use Rattle.layout_laws.proofs.{Runs.none_or, Runs.run_inner, Borders.line, Borders.on_side, Borders.line_from}
 use Rattle.written_laws.proofs.Sides.{slot, IsOn, place_on}
-use Rattle.embedding_laws.proofs.Spins.{spin_low, spin_after, spin_way, spin_once, prev_is}
 use Rattle.embedding_laws.proofs.ArcUses.{dart_low, same_use}
+
+module _ (m : HalfEdges) (laws : IsQuadManifold m) where
+  pub spin_low : (k c : ℕ) → c < m.count → spin m k c < m.count
+  spin_low zero c low = low
+  spin_low (suc k) c low = laws.next_low _ (spin_low k c low)
+
+  pub spin_after : (w : Way) (c : ℕ) → spin m (way_number (side_after w)) c ≡ m.next (spin m (way_number w) c)
+  spin_after west c = sym (laws.four_sides c)
+  spin_after _ c = refl
+
+  pub spin_way : (k c : ℕ) → (w : Way) × (spin m k c ≡ spin m (way_number w) c)
+  spin_way zero c = (south, refl)
+  spin_way (suc k) c =
+      let w = spin_way k c in
+      (side_after w.0, cc (spin_after w.0 c))
+
+  one_on : (d : ℕ) → d < m.count → d ≢ m.next d
+  one_on d low e = (laws.corners_differ d low).0 (ap m.from e)
+
+  two_on : (d : ℕ) → d < m.count → d ≢ m.next (m.next d)
+  two_on d low e = (laws.corners_differ d low).1 (ap m.from e)
+
+  three_on : (d : ℕ) → d < m.count → d ≢ m.next (m.next (m.next d))
+  three_on d low e = one_on d low (sym (cc (laws.four_sides d)))
+
+  pub spin_once : (c : ℕ) (w v : Way) → c < m.count → spin m (way_number w) c ≡ spin m (way_number v) c → w ≡ v
+  spin_once c south east low e = absurd (one_on c low e)
+  spin_once c south north low e = absurd (two_on c low e)
+  spin_once c south west low e = absurd (three_on c low e)
+  spin_once c east south low e = absurd (one_on c low (sym e))
+  spin_once c east north low e = absurd (one_on (m.next c) (spin_low 1 c low) e)
+  spin_once c east west low e = absurd (two_on (m.next c) (spin_low 1 c low) e)
+  spin_once c north south low e = absurd (two_on c low (sym e))
+  spin_once c north east low e = absurd (one_on (m.next c) (spin_low 1 c low) (sym e))
+  spin_once c north west low e = absurd (one_on (m.next (m.next c)) (spin_low 2 c low) e)
+  spin_once c west south low e = absurd (three_on c low (sym e))
+  spin_once c west east low e = absurd (two_on (m.next c) (spin_low 1 c low) (sym e))
+  spin_once c west north low e = absurd (one_on (m.next (m.next c)) (spin_low 2 c low) (sym e))
+  spin_once c _ _ low e = refl
+
+  pub prev_is : (c : ℕ) → m.next (m.next (m.next c)) ≡ m.prev c
+  prev_is c = cc (laws.next_prev c, laws.four_sides (m.prev c))
 
 -- The dart of the mesh for a dart of a cell.
 abbrev pub cell_dart : (m : HalfEdges) (layout : Layout) (d : CellDart) → ℕ
@@ -96,17 +140,9 @@ module _ {m : HalfEdges} (laws : IsQuadManifold m) {cut : Cut} (full : IsCut m c
   pub node_kept : (n : ℕ) → n < length t.nodes → IsKept node 0 v_count (vertex_at t n)
   node_kept n low = rw lay.nodes (kept_at node 0 v_count n (rw (← lay.nodes) low))
 
-  vertices_rise : (i j : ℕ) → i < j → j < length t.nodes → vertex_at t i < vertex_at t j
-  vertices_rise i j less low = rw lay.nodes (rises node 0 v_count i j less (rw (← lay.nodes) low))
-
   pub vertex_same : (i j : ℕ) → i < length t.nodes → j < length t.nodes → vertex_at t i ≡ vertex_at t j → i ≡ j
-  vertex_same i j i_low j_low e = elim (cases_order i j) [
-    | inl s ↦ s
-    | inr o ↦ elim o [
-      | inl less ↦ absurd (omega (arith, vertices_rise i j less j_low))
-      | inr more ↦ absurd (omega (arith, vertices_rise j i more i_low))
-    ]
-  ]
+  vertex_same = increasing_place (vertex_at t) (length t.nodes)
+      (record { step = λ k low. rw lay.nodes (rises node 0 v_count k (suc k) (omega arith) (rw (← lay.nodes) low)) })
 
   -- Border darts by side and place.
   rim_dart : (p : ℕ) (s : Way) (k : ℕ) → p < length t.patches → cell_dart m t (dart_along l x p s k)
@@ -124,10 +160,12 @@ module _ {m : HalfEdges} (laws : IsQuadManifold m) {cut : Cut} (full : IsCut m c
     pub low : o < x (use_of l w).arc
     pub lies : LiesAt m (path_at t.arcs (use_of l w).arc).darts (use_of l w).forward o d
 
-  border_stands : (p : ℕ) (s : Way) (k d : ℕ) → p < length t.patches → k < side_size (patch_at t.patches p) s
-      → border_dart m (patch_at t.patches p) s k ≡ d → (w : Slot) × (o : ℕ) × StandsAt d w o
-  border_stands p s k d low less is =
-      let on : IsOn l x p s k _ _ = place_on l x p s k low (omega (arith, lay.sizes p s low)) in (
+  pub stands : (d : ℕ) → d < m.count → cut d ≡ true → (w : Slot) × (o : ℕ) × StandsAt d w o
+  stands d low on =
+      let (p, i, j, q, p_low, side) = lay.patches.covers d low in
+      let (s, k, less, is) =
+      on_side m laws cut full (patch_at t.patches p) (grid p p_low) q i j d side.i_low side.j_low side.is on in
+      let on : IsOn l x p s k _ _ = place_on l x p s k p_low (omega (arith, lay.sizes p s p_low)) in (
         slot p s _,
         _,
         record {
@@ -137,17 +175,9 @@ module _ {m : HalfEdges} (laws : IsQuadManifold m) {cut : Cut} (full : IsCut m c
         },
       )
 
-  pub stands : (d : ℕ) → d < m.count → cut d ≡ true → (w : Slot) × (o : ℕ) × StandsAt d w o
-  stands d low on =
-      let (p, i, j, q, p_low, side) = lay.patches.covers d low in
-      let (s, k, less, is) =
-      on_side m laws cut full (patch_at t.patches p) (grid p p_low) q i j d side.i_low side.j_low side.is on in
-      border_stands p s k d p_low less is
-
   -- What lies on an arc has one slot's use.
-  one_use : (a : ℕ) (f : Bool) (k d : ℕ) (w : Slot) (o : ℕ) → a < length t.arcs → k < long_at t.arcs a
-      → LiesAt m (path_at t.arcs a).darts f k d → StandsAt d w o
-      → ((use_of l w).arc ≡ a) × ((use_of l w).forward ≡ f) × (o ≡ k)
+  one_use : (a : ℕ) (f : Bool) (k d : ℕ) (w : Slot) (o : ℕ) → a < length t.arcs → k < long_at t.arcs a → LiesAt m
+      (path_at t.arcs a).darts f k d → StandsAt d w o → ((use_of l w).arc ≡ a) × ((use_of l w).forward ≡ f) × (o ≡ k)
   one_use a f k d w o a_low k_low at s = same_use m laws cut full node nodes t.arcs lay.arcs (use_of l w).arc a
       (use_of l w).forward f o k d (lay.uses w s.is_slot) a_low s.low k_low s.lies at
 
@@ -164,79 +194,16 @@ module _ {m : HalfEdges} (laws : IsQuadManifold m) {cut : Cut} (full : IsCut m c
       let u = one_use a true 0 (dart_at t.arcs a 0) w o low (arc_run a low).some refl s in
       (w, s.is_slot, λ r. record { arc = u.0 r; forward = u.1 r })
 
-  -- The twin of a dart of an arc lies on the arc the other way round.
-  twin_lies : (a k u : ℕ) → k < long_at t.arcs a → m.twin (dart_at t.arcs a k) ≡ Some u
-      → LiesAt m (path_at t.arcs a).darts false (long_at t.arcs a - 1 - k) u
-  twin_lies a k u less twin =
+  -- The twin of a dart of an arc has a slot that uses the arc the other way round.
+  twin_slot : (a k u : ℕ) → a < length t.arcs → k < long_at t.arcs a → m.twin (dart_at t.arcs a k) ≡ Some u
+      → (v : Slot) × IsSlot l v × ((use_of l v).arc ≡ a) × ((use_of l v).forward ≡ false)
+  twin_slot a k u low less twin =
+      let d_low = arc_dart_low a k low less in
       let e : long_at t.arcs a - 1 - (long_at t.arcs a - 1 - k) ≡ k = omega arith in
-      ap (λ i. m.twin (dart_at t.arcs a i)) e ∙ twin
-
-  twin_on : (d u : ℕ) → d < m.count → m.twin d ≡ Some u → cut d ≡ true → (u < m.count) × (cut u ≡ true)
-  twin_on d u low twin on = (laws.twin_low d u low twin, full.alike d u low twin ∙ on)
-
-  -- An arc has a slot the other way round where its first dart has a twin.
-  other : (w : Slot) → IsSlot l w → ((v : Slot) × IsOtherSlot l w v) ⊎ ((v : Slot) → ¬ IsOtherSlot l w v)
-  other w is = by_twin (m.twin (dart_at t.arcs (use_of l w).arc 0)) refl
-    where
-      a_low : (use_of l w).arc < length t.arcs
-      a_low = lay.uses w is
-
-      some : 0 < long_at t.arcs (use_of l w).arc
-      some = (arc_run (use_of l w).arc a_low).some
-
-      by_way : (f : Bool) → (use_of l w).forward ≡ f → (u : ℕ) → m.twin (dart_at t.arcs (use_of l w).arc 0) ≡ Some u
-          → (v : Slot) × IsOtherSlot l w v
-      by_way false e u twin =
-          let (v, is_v, used) = forward (use_of l w).arc a_low in
-          (v, (is_v, record { arc = ap (λ (z : SideArc). z.arc) used; turned = cc (used, e) }))
-      by_way true e u twin =
-          let on = twin_on (dart_at t.arcs (use_of l w).arc 0) u (arc_dart_low (use_of l w).arc 0 a_low some) twin
-          (arc_on (use_of l w).arc 0 a_low some) in
-          let (v, o, s) = stands u on.0 on.1 in
-          let one = one_use (use_of l w).arc false (long_at t.arcs (use_of l w).arc - 1 - 0) u v o a_low
-          (omega (arith, some)) (twin_lies (use_of l w).arc 0 u some twin) s in
-          (v, (s.is_slot, record { arc = one.0; turned = cc (one.1, e) }))
-
-      -- The last border dart of a slot's arc.
-      last_dart : (v : Slot) → ℕ
-      last_dart v = border_dart m (patch_at t.patches v.patch) v.side
-          (reach l x v.patch v.side v.at + (long_at t.arcs (use_of l v).arc - 1))
-
-      -- A slot against the arc's direction makes the first dart have a twin.
-      backward : (v : Slot) → IsSlot l v → (use_of l v).arc ≡ (use_of l w).arc → (use_of l v).forward ≡ false
-          → m.twin (dart_at t.arcs (use_of l w).arc 0) ≡ None → ⊥
-      backward v is_v arc way none =
-          let low : long_at t.arcs (use_of l v).arc - 1 < long_at t.arcs (use_of l v).arc =
-          omega (arith, (arc_run (use_of l v).arc (lay.uses v is_v)).some) in
-          let at : LiesAt m (path_at t.arcs (use_of l v).arc).darts (use_of l v).forward (long_at t.arcs
-          (use_of l v).arc - 1) (last_dart v) = lay.used v (long_at t.arcs (use_of l v).arc - 1) is_v low in
-          let back : LiesAt m (path_at t.arcs (use_of l w).arc).darts false (long_at t.arcs (use_of l w).arc - 1)
-          (last_dart v) = subst (λ (z : SideArc). LiesAt m (path_at t.arcs z.arc).darts z.forward
-          (long_at t.arcs z.arc - 1) (last_dart v)) (λ r. record { arc = arc r; forward = way r }) at in
-          let zero_is : long_at t.arcs (use_of l w).arc - 1 - (long_at t.arcs (use_of l w).arc - 1) ≡ 0 = omega arith in
-          none-some (last_dart v) (cc (none, zero_is, back))
-
-      by_twin : (o : Option ℕ) → m.twin (dart_at t.arcs (use_of l w).arc 0) ≡ o → ((v : Slot) × IsOtherSlot l w v)
-          ⊎ ((v : Slot) → ¬ IsOtherSlot l w v)
-      by_twin (Some u) twin = inl (by_way (use_of l w).forward refl u twin)
-      by_twin None none = inr (λ v o. by_ways (use_of l w).forward refl v o)
-        where
-          by_ways : (f : Bool) → (use_of l w).forward ≡ f → (v : Slot) → IsOtherSlot l w v → ⊥
-          by_ways false e v o = backward w is refl e none
-          by_ways true e v o = backward v o.0 o.1.arc (cc (o.1.turned, e)) none
-
-  alone : (a k : ℕ) → a < l.arcs → k < x a → ((w : Slot) → IsSlot l w → (use_of l w).arc ≡ a → (use_of l w).forward
-      ≡ true)
-      → m.twin (dart_at t.arcs a k) ≡ None
-  alone a k low less all = by_twin _ refl
-    where
-      by_twin : (o : Option ℕ) → m.twin (dart_at t.arcs a k) ≡ o → m.twin (dart_at t.arcs a k) ≡ None
-      by_twin None e = e
-      by_twin (Some u) e =
-          let on = twin_on (dart_at t.arcs a k) u (arc_dart_low a k low less) e (arc_on a k low less) in
-          let (v, o, s) = stands u on.0 on.1 in
-          let one = one_use a false (long_at t.arcs a - 1 - k) u v o low (omega arith) (twin_lies a k u less e) s in
-          absurd (cc (all v s.is_slot one.0))
+      let (v, o, s) = stands u (laws.twin_low _ u d_low twin) (full.alike _ u d_low twin ∙ arc_on a k low less) in
+      let one = one_use a false (long_at t.arcs a - 1 - k) u v o low (omega arith)
+      (ap (λ i. m.twin (dart_at t.arcs a i)) e ∙ twin) s in
+      (v, s.is_slot, one.0, one.1)
 
   ahead_is : (w : Slot) (k : ℕ) → IsSlot l w → k < x (use_of l w).arc → (use_of l w).forward ≡ true
       → cell_dart m t (slot_dart l x w k) ≡ dart_at t.arcs (use_of l w).arc k
@@ -250,6 +217,43 @@ module _ {m : HalfEdges} (laws : IsQuadManifold m) {cut : Cut} (full : IsCut m c
       (border_dart m (patch_at t.patches w.patch) w.side (reach l x w.patch w.side w.at + k))) e (lay.used w k is less)
       ∙ ap Some (sym (rim_dart w.patch w.side (reach l x w.patch w.side w.at + k) is.patch_low))
 
+  -- An arc has a slot the other way round where its first dart has a twin.
+  other : (w : Slot) → IsSlot l w → ((v : Slot) × IsOtherSlot l w v) ⊎ ((v : Slot) → ¬ IsOtherSlot l w v)
+  other w is = elim (none_or (m.twin (dart_at t.arcs (use_of l w).arc 0))) [
+    | inl none ↦ inr (λ v o. elim (cases_Bool (use_of l w).forward) [
+      | inl e ↦ backward v o.0 o.1.arc (cc (o.1.turned)) none
+      | inr e ↦ backward w is refl e none
+    ])
+    | inr (u, twin) ↦ inl (elim (cases_Bool (use_of l w).forward) [
+      | inl e ↦
+          let (v, is_v, arc, way) = twin_slot (use_of l w).arc 0 u a_low (arc_run (use_of l w).arc a_low).some twin in
+          (v, (is_v, record { arc = arc; turned = cc }))
+      | inr e ↦
+          let (v, is_v, used) = forward (use_of l w).arc a_low in
+          (v, (is_v, record { arc = ap (λ (z : SideArc). z.arc) used; turned = cc }))
+    ])
+  ]
+    where
+      a_low : (use_of l w).arc < length t.arcs
+      a_low = lay.uses w is
+
+      -- A slot against the arc's direction makes the first dart have a twin.
+      backward : (v : Slot) → IsSlot l v → (use_of l v).arc ≡ (use_of l w).arc → (use_of l v).forward ≡ false
+          → m.twin (dart_at t.arcs (use_of l w).arc 0) ≡ None → ⊥
+      backward v is_v arc way none =
+          let low : long_at t.arcs (use_of l v).arc - 1 < long_at t.arcs (use_of l v).arc =
+          omega (arith, (arc_run (use_of l v).arc (lay.uses v is_v)).some) in
+          let zero_is : long_at t.arcs (use_of l v).arc - 1 - (long_at t.arcs (use_of l v).arc - 1) ≡ 0 = omega arith in
+          none-some _ (sym none ∙ ap (λ a. m.twin (dart_at t.arcs a 0)) (sym arc)
+          ∙ ap (λ k. m.twin (dart_at t.arcs (use_of l v).arc k)) (sym zero_is) ∙ behind_is v _ is_v low way)
+
+  alone : (a k : ℕ) → a < l.arcs → k < x a → ((w : Slot) → IsSlot l w → (use_of l w).arc ≡ a → (use_of l w).forward
+      ≡ true) → m.twin (dart_at t.arcs a k) ≡ None
+  alone a k low less all = elim (none_or (m.twin (dart_at t.arcs a k))) [
+    | inl none ↦ none
+    | inr (u, e) ↦ let (v, is_v, arc, way) = twin_slot a k u low less e in absurd (cc (all v is_v arc))
+  ]
+
   last_vertex : (a : ℕ) → a < l.arcs → m.from (m.next (dart_at t.arcs a (x a - 1))) ≡ vertex_at t (l.last a)
   last_vertex a low = sym (lay.last_at a _ low (omega (arith, (arc_run a low).some)))
 
@@ -258,43 +262,35 @@ module _ {m : HalfEdges} (laws : IsQuadManifold m) {cut : Cut} (full : IsCut m c
       × IsSlot l w × (start_node l (use_of l w) ≡ n)
   node_starts n d n_low d_low on leaves =
       let (w, o, s) = stands d d_low on in
-      let z = place (use_of l w).arc (use_of l w).forward o (lay.uses w s.is_slot) s.low s.lies in
-      (w, s.is_slot, starts (use_of l w).arc (use_of l w).forward (lay.uses w s.is_slot) (rw z at s.lies))
+      (w, s.is_slot, go (use_of l w).arc (use_of l w).forward o (lay.uses w s.is_slot) s.low s.lies)
     where
       is_node_here : node (m.from d) ≡ true
       is_node_here = ap node leaves ∙ (node_kept n n_low).passes
 
       -- Past its beginning an arc meets no node.
-      place : (a : ℕ) (f : Bool) (o : ℕ) → a < length t.arcs → o < long_at t.arcs a
-          → LiesAt m (path_at t.arcs a).darts f o d → o ≡ 0
-      place a f zero a_low o_low at = refl
-      place a true (suc o) a_low o_low at =
-          absurd (false≢true (sym (run_inner m laws cut full node nodes (dart_at t.arcs a 0) (long_at t.arcs a)
-          (arc_run a a_low) o o_low)
-          ∙ ap (λ k. node (m.from k))
-          (sym (at ∙ (lay.arcs.each a a_low).each (suc o) o_low)) ∙ is_node_here))
-      place a false (suc o) a_low o_low at =
-          let k_low : long_at t.arcs a - 1 - suc o < long_at t.arcs a = omega arith in
-          let ends : m.from d ≡ m.from (m.next (dart_at t.arcs a (long_at t.arcs a - 1 - suc o))) =
-          (laws.twin_ends (dart_at t.arcs a (long_at t.arcs a - 1 - suc o)) d
-          (arc_dart_low a (long_at t.arcs a - 1 - suc o) a_low k_low) at).0 in
-          absurd (false≢true (sym ((arc_run a a_low).inside (long_at t.arcs a - 1 - suc o) (omega arith))
-          ∙ ap (λ k. node (m.from (m.next k)))
-          (sym ((lay.arcs.each a a_low).each (long_at t.arcs a - 1 - suc o) k_low))
-          ∙ ap node (sym ends) ∙ is_node_here))
-
-      starts : (a : ℕ) (f : Bool) → a < length t.arcs → LiesAt m (path_at t.arcs a).darts f 0 d
-          → start_node l (record { arc = a; forward = f }) ≡ n
-      starts a true a_low at =
+      go : (a : ℕ) (f : Bool) (o : ℕ) → a < length t.arcs → o < long_at t.arcs a
+          → LiesAt m (path_at t.arcs a).darts f o d → start_node l (record { arc = a; forward = f }) ≡ n
+      go a true zero a_low o_low at =
           vertex_same (l.first a) n (lay.first_low a a_low) n_low (lay.first_at a a_low ∙ ap m.from (sym at) ∙ leaves)
-      starts a false a_low at =
-          let z : long_at t.arcs a - 1 - 0 ≡ long_at t.arcs a - 1 = omega arith in
-          let some : 0 < long_at t.arcs a = (arc_run a a_low).some in
-          let ends : m.from d ≡ m.from (m.next (dart_at t.arcs a (long_at t.arcs a - 1))) =
-          (laws.twin_ends (dart_at t.arcs a (long_at t.arcs a - 1)) d
-          (arc_dart_low a (long_at t.arcs a - 1) a_low (omega (arith, some)))
-          (ap (λ i. m.twin (dart_at t.arcs a i)) (sym z) ∙ at)).0 in
-          vertex_same (l.last a) n (lay.last_low a a_low) n_low (sym (last_vertex a a_low) ∙ sym ends ∙ leaves)
+      go a true (suc o) a_low o_low at =
+          absurd (false≢true (sym (run_inner m laws cut full node nodes (dart_at t.arcs a 0) (long_at t.arcs a)
+          (arc_run a a_low) o o_low) ∙ ap (λ k. node (m.from k))
+          (sym (at ∙ (lay.arcs.each a a_low).each (suc o) o_low)) ∙ is_node_here))
+      go a false o a_low o_low at =
+          let k_low : long_at t.arcs a - 1 - o < long_at t.arcs a = omega arith in
+          let ends = (laws.twin_ends (dart_at t.arcs a (long_at t.arcs a - 1 - o)) d
+          (arc_dart_low a (long_at t.arcs a - 1 - o) a_low k_low) at).0 in
+          elim (cases_eq o 0) [
+            | inl z ↦
+                let e : long_at t.arcs a - 1 ≡ long_at t.arcs a - 1 - o = omega arith in
+                vertex_same (l.last a) n (lay.last_low a a_low) n_low (sym (last_vertex a a_low)
+                ∙ ap (λ k. m.from (m.next (dart_at t.arcs a k))) e ∙ sym ends ∙ leaves)
+            | inr some ↦ absurd
+                (false≢true (sym ((arc_run a a_low).inside (long_at t.arcs a - 1 - o) (omega arith))
+                ∙ ap (λ k. node (m.from (m.next k)))
+                (sym ((lay.arcs.each a a_low).each (long_at t.arcs a - 1 - o) k_low)) ∙ ap node (sym ends)
+                ∙ is_node_here))
+          ]
 
   -- After a dart of the cut comes one that leaves its end.
   pub goes_on : (d : ℕ) → d < m.count → cut d ≡ true → (e : ℕ) × (e < m.count) × (cut e ≡ true)
@@ -315,9 +311,8 @@ module _ {m : HalfEdges} (laws : IsQuadManifold m) {cut : Cut} (full : IsCut m c
       ]
 
   -- All that a layout needs of its mesh, where an edge of the cut ends at each node.
-  pub sided : ((n : ℕ) → n < l.nodes → (e : ℕ) × (e < m.count) × (cut e ≡ true)
-      × ((m.from e ≡ vertex_at t n) ⊎ (end_vertex m e ≡ vertex_at t n)))
-      → IsEmbedding m l x (cell_dart m t) (vertex_at t) (dart_at t.arcs)
+  pub sided : ((n : ℕ) → n < l.nodes → (e : ℕ) × (e < m.count) × (cut e ≡ true) × ((m.from e ≡ vertex_at t n)
+      ⊎ (end_vertex m e ≡ vertex_at t n))) → IsEmbedding m l x (cell_dart m t) (vertex_at t) (dart_at t.arcs)
   sided met = record {
     low = λ d is. spin_low m laws _ _ (corner_low d is);
     same = same;

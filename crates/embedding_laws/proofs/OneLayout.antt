@@ -34,21 +34,19 @@ module _ (m : HalfEdges) (laws : IsQuadManifold m) (cut : Cut) (full : IsCut m c
   found arcs others are them a low =
       let (b, o, f, b_low, o_low, lies) = them.covers (dart_at arcs a 0) (dart_low m laws cut full node nodes arcs are a
       0 low (are.each a low).run.some) ((are.each a low).run.on 0 (are.each a low).run.some) in
-      by_way b o f b_low o_low lies
-    where
-      by_way : (b o : ℕ) (f : Bool) → b < length others → o < long_at others b
-          → LiesAt m (path_at others b).darts f o (dart_at arcs a 0) → IsFound arcs others a
-      by_way b o true b_low o_low lies =
-          let s = same_arc laws full nodes are them a b 0 o low b_low (are.each a low).run.some o_low lies in
-          record {
-            at = b;
-            low = b_low;
-            name = one_name_both laws full nodes are them a b 0 o low b_low s;
-            long = s.long;
-            each = s.each;
-          }
-      by_way b o false b_low o_low lies = absurd (clash laws full nodes are them a b 0 (long_at others b - 1 - o) low
-          b_low (are.each a low).run.some (omega arith) lies)
+      (elim f as (λ g. LiesAt m (path_at others b).darts g o (dart_at arcs a 0) → IsFound arcs others a) [
+        | true ↦ λ at.
+            let s = same_arc laws full nodes are them a b 0 o low b_low (are.each a low).run.some o_low at in
+            record {
+              at = b;
+              low = b_low;
+              name = one_name_both laws full nodes are them a b 0 o low b_low s;
+              long = s.long;
+              each = s.each;
+            }
+        | false ↦ λ at. absurd (clash laws full nodes are them a b 0 (long_at others b - 1 - o) low b_low
+            (are.each a low).run.some (omega arith) at)
+      ]) lies
 
   increasing : (arcs : List Path) → AreArcs m cut node arcs → AreIncreasing (name_at arcs) (length arcs)
   increasing arcs are = record { step = are.ordered }
@@ -59,25 +57,22 @@ module _ (m : HalfEdges) (laws : IsQuadManifold m) (cut : Cut) (full : IsCut m c
     each : (a : ℕ) → a < length arcs → (path_at arcs a).darts ≡ (path_at others a).darts
 
   same_arcs : (arcs others : List Path) → AreArcs m cut node arcs → AreArcs m cut node others → AreSame arcs others
-  same_arcs arcs others are them = record { many = many; each = each }
-    where
-      there : (a : ℕ) → a < length arcs → (b : ℕ) × (b < length others) × (name_at arcs a ≡ name_at others b)
-      there a low = let f = found arcs others are them a low in (f.at, f.low, f.name)
-
-      back : (b : ℕ) → b < length others → (a : ℕ) × (a < length arcs) × (name_at others b ≡ name_at arcs a)
-      back b low = let f = found others arcs them are b low in (f.at, f.low, f.name)
-
-      many : length arcs ≡ length others
-      many = same_many (name_at arcs) (name_at others) (length arcs) (length others) (increasing arcs are)
-          (increasing others them) there back
-
-      each : (a : ℕ) → a < length arcs → (path_at arcs a).darts ≡ (path_at others a).darts
-      each a low =
-          let f = found arcs others are them a low in
-          let same = increasing_place _ _ (increasing others them) f.at a f.low (omega (arith, low, many))
-          (cc (same_values (name_at arcs) (name_at others) (length arcs) (length others) (increasing arcs are)
-          (increasing others them) there back a low)) in
-          cc (ext_get_or 0 (path_at arcs a).darts (path_at others f.at).darts f.long f.each)
+  same_arcs arcs others are them =
+      let ra = increasing arcs are in
+      let rb = increasing others them in
+      let there : (a : ℕ) → a < length arcs → (b : ℕ) × (b < length others) × (name_at arcs a ≡ name_at others b) =
+      λ a low. let f = found arcs others are them a low in (f.at, f.low, f.name) in
+      let back : (b : ℕ) → b < length others → (a : ℕ) × (a < length arcs) × (name_at others b ≡ name_at arcs a) =
+      λ b low. let f = found others arcs them are b low in (f.at, f.low, f.name) in
+      let many = same_many (name_at arcs) (name_at others) (length arcs) (length others) ra rb there back in
+      record {
+        many = many;
+        each = λ a low.
+            let f = found arcs others are them a low in
+            let same = increasing_place _ _ rb f.at a f.low (omega (arith, low, many))
+            (cc (same_values (name_at arcs) (name_at others) (length arcs) (length others) ra rb there back a low)) in
+            cc (ext_get_or 0 (path_at arcs a).darts (path_at others f.at).darts f.long f.each);
+      }
 
   module _ (face : ℕ → ℕ) (v : ℕ) where
     -- The layouts have the same nodes, arcs and patches.
@@ -157,35 +152,30 @@ module _ (m : HalfEdges) (laws : IsQuadManifold m) (cut : Cut) (full : IsCut m c
           ]
 
       -- They have as many uses, since both are as long as the side of the patch.
-      same_count : (p : ℕ) (s : Way) → p < length t.patches → (gluing_of t).many p s ≡ (gluing_of u).many p s
-      same_count p s low = elim (cases_order ((gluing_of t).many p s) ((gluing_of u).many p s)) [
+      fewer : (p : ℕ) (s : Way) → p < length t.patches → (gluing_of t).many p s < (gluing_of u).many p s → ⊥
+      fewer p s low l =
+          let reached = same_reach p s ((gluing_of t).many p s)
+          (agree p s ((gluing_of t).many p s) low (omega arith) (omega arith)) in
+          let far = count_rises (λ i. x (there p s i).arc) (suc ((gluing_of t).many p s)) ((gluing_of u).many p s)
+          (omega arith) in
+          let step = some (there p s ((gluing_of t).many p s)).arc
+          (lu.uses (slot p s ((gluing_of t).many p s)) (record { patch_low = low; low = l })) in
+          omega (arith, lt.sizes p s low, lu.sizes p s low, reached, far, step)
+
+    module _ (t : Layout) (sides : List (List (List SideArc))) (lt : IsDartLayout m cut node face v t)
+        (lu : IsDartLayout m cut node face v (record t { sides = sides })) where
+      same_count : (p : ℕ) (s : Way) → p < length t.patches
+          → (gluing_of t).many p s ≡ (gluing_of (u t sides lt lu)).many p s
+      same_count p s low = elim (cases_order ((gluing_of t).many p s) ((gluing_of (u t sides lt lu)).many p s)) [
         | inl e ↦ e
-        | inr o ↦ elim o [ inl l ↦ absurd (fewer l) | inr l ↦ absurd (more l) ]
+        | inr (inl l) ↦ absurd (fewer t sides lt lu p s low l)
+        | inr (inr l) ↦ absurd (fewer (u t sides lt lu) t.sides lu lt p s low l)
       ]
-        where
-          fewer : (gluing_of t).many p s < (gluing_of u).many p s → ⊥
-          fewer l =
-              let reached = same_reach p s ((gluing_of t).many p s)
-              (agree p s ((gluing_of t).many p s) low (omega arith) (omega arith)) in
-              let far = count_rises (λ i. x (there p s i).arc) (suc ((gluing_of t).many p s)) ((gluing_of u).many p s)
-              (omega arith) in
-              let step = some (there p s ((gluing_of t).many p s)).arc
-              (lu.uses (slot p s ((gluing_of t).many p s)) (record { patch_low = low; low = l })) in
-              omega (arith, lt.sizes p s low, lu.sizes p s low, reached, far, step)
 
-          more : (gluing_of u).many p s < (gluing_of t).many p s → ⊥
-          more l =
-              let reached = same_reach p s ((gluing_of u).many p s)
-              (agree p s ((gluing_of u).many p s) low (omega arith) (omega arith)) in
-              let far = count_rises (λ i. x (here p s i).arc) (suc ((gluing_of u).many p s)) ((gluing_of t).many p s)
-              (omega arith) in
-              let step = some (here p s ((gluing_of u).many p s)).arc
-              (lt.uses (slot p s ((gluing_of u).many p s)) (record { patch_low = low; low = l })) in
-              omega (arith, lt.sizes p s low, lu.sizes p s low, reached, far, step)
-
-      same_side : (p : ℕ) (s : Way) → p < length t.patches → side_at t p s ≡ side_at u p s
-      same_side p s low = ext_get_or (record { arc = 0; forward = true }) (side_at t p s) (side_at u p s) (same_count p
-          s low) (λ i l. agree p s ((gluing_of t).many p s) low (omega arith) (omega (arith, same_count p s low)) i l)
+      same_side : (p : ℕ) (s : Way) → p < length t.patches → side_at t p s ≡ side_at (u t sides lt lu) p s
+      same_side p s low = ext_get_or (record { arc = 0; forward = true }) (side_at t p s) (side_at (u t sides lt lu) p
+          s) (same_count p s low) (λ i l. agree t sides lt lu p s ((gluing_of t).many p s) low (omega arith) (omega
+          (arith, same_count p s low)) i l)
 
       same_four : (p : ℕ) → p < length t.patches → get_or t.sides p [] ≡ get_or sides p []
       same_four p low = ext_get_or [] (get_or t.sides p []) (get_or sides p []) (lt.four p low ∙ sym (lu.four p low))
@@ -203,27 +193,14 @@ module _ (m : HalfEdges) (laws : IsQuadManifold m) (cut : Cut) (full : IsCut m c
           (λ p l. same_four p (omega (arith, l, lt.sided)))
 
     one_layout : (t u : Layout) → IsDartLayout m cut node face v t → IsDartLayout m cut node face v u → t ≡ u
-    one_layout t u lt lu = λ i. record {
-      nodes = nodes_same i;
-      arcs = arcs_same i;
-      patches = patches_same i;
-      sides = sides_same i;
-    }
-      where
-        nodes_same : t.nodes ≡ u.nodes
-        nodes_same = cc (lt.nodes, lu.nodes)
-
-        arcs_same : t.arcs ≡ u.arcs
-        arcs_same = same_paths t u lt lu nodes_same
-
-        patches_same : t.patches ≡ u.patches
-        patches_same = one_list_law m cut face laws full t.patches u.patches lt.patches lu.patches
-
-        moved : IsDartLayout m cut node face v (record t { sides = u.sides })
-        moved = rw (nodes_same, arcs_same, patches_same) lu
-
-        sides_same : t.sides ≡ u.sides
-        sides_same = same_sides t u.sides lt moved
+    one_layout t u lt lu =
+        let nodes_same : t.nodes ≡ u.nodes = cc (lt.nodes, lu.nodes) in
+        let arcs_same = same_paths t u lt lu nodes_same in
+        let patches_same = one_list_law m cut face laws full t.patches u.patches lt.patches lu.patches in
+        let moved : IsDartLayout m cut node face v (record t { sides = u.sides }) =
+        rw (nodes_same, arcs_same, patches_same) lu in
+        let sides_same = same_sides t u.sides lt moved in
+        λ i. record { nodes = nodes_same i; arcs = arcs_same i; patches = patches_same i; sides = sides_same i }
 
 pub one_layout_law : OneLayoutLaw
 one_layout_law faces marks manifold full one other is also =

@@ -33,40 +33,25 @@ module _ (mesh : HalfEdges) (laws : IsQuadManifold mesh) (cut : Cut) (full : IsC
   from_over d e is = cc (laws.next_prev e)
 
   module _ (p : Rectangle) (grid : IsGrid mesh cut p.w p.h (cell_of p)) where
-    cell : Cells
-    cell = cell_of p
-
-    over_south : (t : ℕ) → suc t < p.w → mesh.twin (mesh.next (border_dart mesh p south t))
-        ≡ Some (mesh.prev (border_dart mesh p south (suc t)))
-    over_south t l = grid.east t 0 l grid.tall
-
-    over_east : (t : ℕ) → suc t < p.h → mesh.twin (mesh.next (border_dart mesh p east t))
-        ≡ Some (mesh.prev (border_dart mesh p east (suc t)))
-    over_east t l = cc
+    over : (s : Way) (t : ℕ) → suc t < side_size p s
+        → mesh.twin (mesh.next (border_dart mesh p s t)) ≡ Some (mesh.prev (border_dart mesh p s (suc t)))
+    over south t l = grid.east t 0 l grid.tall
+    over east t l = cc
         (grid.north (p.w - 1) t (omega (arith, grid.wide)) l, laws.prev_next (cell_of p (p.w - 1) (suc t)))
-
-    over_north : (t : ℕ) → suc t < p.w → mesh.twin (mesh.next (border_dart mesh p north t))
-        ≡ Some (mesh.prev (border_dart mesh p north (suc t)))
-    over_north t l = at (p.w - 1 - suc t) (p.w - 1 - t) (omega arith) refl (omega arith)
-      where
-        at : (i k : ℕ) → k ≡ suc i → i ≡ p.w - 1 - suc t → k < p.w
-            → mesh.twin (mesh.next (mesh.next (mesh.next (cell_of p k (p.h - 1)))))
-            ≡ Some (mesh.prev (mesh.next (mesh.next (cell_of p (p.w - 1 - suc t) (p.h - 1)))))
-        at i k e f lk =
-            let link : mesh.twin (mesh.prev (cell_of p (suc i) (p.h - 1))) ≡ Some (mesh.next (cell_of p i (p.h - 1))) =
-            west_link mesh laws cut full p.w p.h (cell_of p) grid i (p.h - 1) (omega arith) (omega arith) in
-            cc (prev_three mesh laws (cell_of p (suc i) (p.h - 1)), laws.prev_next (mesh.next (cell_of p i (p.h - 1))))
-
-    over_west : (t : ℕ) → suc t < p.h → mesh.twin (mesh.next (border_dart mesh p west t))
-        ≡ Some (mesh.prev (border_dart mesh p west (suc t)))
-    over_west t l = at (p.h - 1 - suc t) (p.h - 1 - t) (omega arith) refl (omega arith)
-      where
-        at : (j k : ℕ) → k ≡ suc j → j ≡ p.h - 1 - suc t → k < p.h → mesh.twin (mesh.next (mesh.prev (cell_of p 0 k)))
-            ≡ Some (mesh.prev (mesh.prev (cell_of p 0 (p.h - 1 - suc t))))
-        at j k e f lk =
-            let link : mesh.twin (cell_of p 0 (suc j)) ≡ Some (mesh.next (mesh.next (cell_of p 0 j))) =
-            south_link mesh laws cut full p.w p.h (cell_of p) grid 0 j grid.wide (omega arith) in
-            cc (laws.next_prev (cell_of p 0 k), prev_twice mesh laws (cell_of p 0 j))
+    over north t l =
+        let e : p.w - 1 - t ≡ suc (p.w - 1 - suc t) = omega arith in
+        cc (
+          west_link mesh laws cut full p.w p.h (cell_of p) grid (p.w - 1 - suc t) (p.h - 1) (omega arith) (omega arith),
+          prev_three mesh laws (cell_of p (suc (p.w - 1 - suc t)) (p.h - 1)),
+          laws.prev_next (mesh.next (cell_of p (p.w - 1 - suc t) (p.h - 1))),
+        )
+    over west t l =
+        let e : p.h - 1 - t ≡ suc (p.h - 1 - suc t) = omega arith in
+        cc (
+          south_link mesh laws cut full p.w p.h (cell_of p) grid 0 (p.h - 1 - suc t) grid.wide (omega arith),
+          laws.next_prev (cell_of p 0 (suc (p.h - 1 - suc t))),
+          prev_twice mesh laws (cell_of p 0 (p.h - 1 - suc t)),
+        )
 
     -- Each side is a line.
     pub line : (side : Way) → IsLine mesh cut (border_dart mesh p side) (side_size p side)
@@ -74,8 +59,8 @@ module _ (mesh : HalfEdges) (laws : IsQuadManifold mesh) (cut : Cut) (full : IsC
       some = grid.wide;
       low = λ t l. grid.low t 0 l grid.tall;
       on = λ t l. grid.south_shut t l;
-      next = λ t l. from_over _ _ (over_south t l);
-      over = over_south;
+      next = λ t l. from_over _ _ (over south t l);
+      over = over south;
       first = grid.west_shut 0 grid.tall;
       last = λ t e. grid.east_shut t 0 e grid.tall;
     }
@@ -83,8 +68,8 @@ module _ (mesh : HalfEdges) (laws : IsQuadManifold mesh) (cut : Cut) (full : IsC
       some = grid.tall;
       low = λ t l. laws.next_low (cell_of p (p.w - 1) t) (grid.low (p.w - 1) t (omega arith) l);
       on = λ t l. grid.east_shut (p.w - 1) t (omega arith) l;
-      next = λ t l. from_over (border_dart mesh p east t) (border_dart mesh p east (suc t)) (over_east t l);
-      over = over_east;
+      next = λ t l. from_over (border_dart mesh p east t) (border_dart mesh p east (suc t)) (over east t l);
+      over = over east;
       first = ap cut (laws.prev_next (cell_of p (p.w - 1) 0)) ∙ grid.south_shut (p.w - 1) (omega arith);
       last = λ t e. grid.north_shut (p.w - 1) t (omega arith) e;
     }
@@ -93,8 +78,8 @@ module _ (mesh : HalfEdges) (laws : IsQuadManifold mesh) (cut : Cut) (full : IsC
       low = λ t l. laws.next_low (mesh.next (cell_of p (p.w - 1 - t) (p.h - 1))) (laws.next_low
           (cell_of p (p.w - 1 - t) (p.h - 1)) (grid.low (p.w - 1 - t) (p.h - 1) (omega arith) (omega arith)));
       on = λ t l. grid.north_shut (p.w - 1 - t) (p.h - 1) (omega arith) (omega arith);
-      next = λ t l. from_over (border_dart mesh p north t) (border_dart mesh p north (suc t)) (over_north t l);
-      over = over_north;
+      next = λ t l. from_over (border_dart mesh p north t) (border_dart mesh p north (suc t)) (over north t l);
+      over = over north;
       first = ap cut (laws.prev_next (mesh.next (cell_of p (p.w - 1 - 0) (p.h - 1))))
           ∙ grid.east_shut (p.w - 1 - 0) (p.h - 1) (omega arith) (omega arith);
       last = λ t e. let zero_is : p.w - 1 - t ≡ 0 = omega arith in
@@ -106,8 +91,8 @@ module _ (mesh : HalfEdges) (laws : IsQuadManifold mesh) (cut : Cut) (full : IsC
       some = grid.tall;
       low = λ t l. laws.prev_low (cell_of p 0 (p.h - 1 - t)) (grid.low 0 (p.h - 1 - t) grid.wide (omega arith));
       on = λ t l. grid.west_shut (p.h - 1 - t) (omega arith);
-      next = λ t l. from_over (border_dart mesh p west t) (border_dart mesh p west (suc t)) (over_west t l);
-      over = over_west;
+      next = λ t l. from_over (border_dart mesh p west t) (border_dart mesh p west (suc t)) (over west t l);
+      over = over west;
       first = ap cut (prev_twice mesh laws (cell_of p 0 (p.h - 1 - 0))) ∙ grid.north_shut 0 (p.h - 1 - 0) grid.wide
           (omega arith);
       last = λ t e. let zero_is : p.h - 1 - t ≡ 0 = omega arith in ap cut (laws.next_prev (cell_of p 0 (p.h - 1 - t)))
@@ -139,9 +124,8 @@ module _ (mesh : HalfEdges) (laws : IsQuadManifold mesh) (cut : Cut) (full : IsC
       omega arith,
       ap (λ x. mesh.prev (cell_of p 0 x)) row ∙ (prev_three mesh laws (cell_of p 0 j) ∙ sym e),
     )
-    on_side (suc (suc (suc zero))) (suc i) j d li lj e on =
-        absurd (true≢false (sym on ∙ (ap cut (e ∙ sym (prev_three mesh laws (cell_of p (suc i) j)))
-        ∙ west_open mesh laws cut full p.w p.h (cell_of p) grid i j li lj)))
+    on_side (suc (suc (suc zero))) (suc i) j d li lj e on = absurd (true≢false (sym on ∙ (ap cut (e ∙ sym (prev_three
+        mesh laws (cell_of p (suc i) j))) ∙ west_open mesh laws cut full p.w p.h (cell_of p) grid i j li lj)))
     on_side (suc (suc (suc (suc k)))) i j d li lj e on =
         on_side k i j d li lj (e ∙ laws.four_sides (spin mesh k (cell_of p i j))) on
 
@@ -180,9 +164,8 @@ module _ (mesh : HalfEdges) (laws : IsQuadManifold mesh) (cut : Cut) (full : IsC
           },
         )
 
-        search : (left k : ℕ) → u + k + suc left ≡ size
-            → ((i : ℕ) → i < k → node (end_vertex mesh (easts mesh (b u) i)) ≡ false)
-            → (n : ℕ) × RunsOn mesh cut node b size u n
+        search : (left k : ℕ) → u + k + suc left ≡ size → ((i : ℕ) → i < k → node (end_vertex mesh (easts mesh (b u) i))
+            ≡ false) → (n : ℕ) × RunsOn mesh cut node b size u n
         search zero k sum before =
             done k (omega arith) before (cc (line_easts u k (omega arith), line_ends (u + k) (omega arith)))
         search (suc left) k sum before = elim (cases_Bool (node (end_vertex mesh (easts mesh (b u) k)))) [

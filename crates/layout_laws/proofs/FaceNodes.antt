@@ -12,25 +12,17 @@ use Rattle.def_layout.specs.Nodes.{is_lone_before, cut_degree, is_node, AreNodes
 use Rattle.mesh_laws.proofs.Fans.{is_fan}
 use Rattle.cut_laws.proofs.Crosses.{Leaves, HasFan, of_four, no_fix, low_a, low_b, low_c, at_a, at_b, at_c, four_apart}
 use Rattle.cut_laws.proofs.{Pigeon.no_more, Darts.turn_from, Darts.turn_low, Darts.two_darts, Darts.next_same}
+use Rattle.layout_laws.proofs.Runs.{none_or}
 use Rattle.face_laws.proofs.Fans.{has_fan, inner_from, inner_twin, regular_cross}
 
 -- What passes a test keeps its place in the filtered list.
 filter_place : (p : ℕ → Bool) (xs : List ℕ) (i : ℕ) → i < length xs → p (get_or xs i 0) ≡ true
     → (k : ℕ) × (k < length (filter p xs)) × (get_or (filter p xs) k 0 ≡ get_or xs i 0)
 filter_place p [] i l on = absurd (omega arith)
-filter_place p (x ∷ xs) zero l on = at (p x) refl
-  where
-    at : (b : Bool) → p x ≡ b → (k : ℕ) × (k < length (cond b (x ∷ filter p xs) (filter p xs)))
-        × (get_or (cond b (x ∷ filter p xs) (filter p xs)) k 0 ≡ x)
-    at true is = (0, omega arith, refl)
-    at false is = absurd cc
-filter_place p (x ∷ xs) (suc i) l on = at (p x) (filter_place p xs i (omega arith) on)
-  where
-    at : (b : Bool) → (k : ℕ) × (k < length (filter p xs)) × (get_or (filter p xs) k 0 ≡ get_or xs i 0)
-        → (k : ℕ) × (k < length (cond b (x ∷ filter p xs) (filter p xs)))
-        × (get_or (cond b (x ∷ filter p xs) (filter p xs)) k 0 ≡ get_or xs i 0)
-    at true r = (suc r.0, omega (arith, r.1), r.2)
-    at false r = r
+filter_place p (x ∷ xs) zero l on = rw on (0, omega arith, refl)
+filter_place p (x ∷ xs) (suc i) l on =
+    let r = filter_place p xs i (omega arith) on in
+    elim (cases_Bool (p x)) [ inl kept ↦ rw kept (suc r.0, omega (arith, r.1), r.2) | inr gone ↦ rw gone r ]
 
 -- n different darts of the fan that pass a test.
 fan_least : (faces : Faces) (v : ℕ) (p : ℕ → Bool) (n : ℕ) (g : ℕ → ℕ)
@@ -122,7 +114,27 @@ module _ (faces : Faces) (laws : IsQuadManifold (half_edges faces)) (marks : Lis
   -- A vertex with two faces, from its first dart on.
   two_faces : (v x : ℕ) → HasFan (half_edges faces) v 2 → x < darts faces → from_of faces x ≡ v
       → twin_of faces (prev_of x) ≡ None → (t : ℕ) × (twin_of faces x ≡ Some t) × (twin_of faces (next_of t) ≡ None)
-  two_faces v x fan lx at lone = by_twin _ refl
+  two_faces v x fan lx at lone = elim (none_or (twin_of faces x)) [
+    | inl is ↦
+        let few = fan.most 1 (λ j. x) (λ z l. let t = laws.one_fan x z lx l.low (cc) in
+        (0, omega arith, alone is t.0 z t.1)) in
+        absurd (omega arith)
+    | inr (t, is) ↦
+        let lt = laws.twin_low x t lx is in
+        let ly = laws.next_low t lt in
+        let ay = (laws.twin_ends x t lx is).1 ∙ at in
+        let x_y : x ≡ next_of t → ⊥ = λ e. cc (laws.prev_next t, laws.twin_twin x t lx is) in
+        elim (none_or (twin_of faces (next_of t))) [
+          | inl none ↦ (t, is, none)
+          | inr (s, some) ↦
+              let ls = laws.twin_low _ s ly some in
+              let back = laws.twin_twin _ s ly some in
+              absurd (no_third v x _ _ fan (record { low = lx; at = at }) (record { low = ly; at = ay })
+              (record { low = laws.next_low s ls; at = (laws.twin_ends _ s ly some).1 ∙ ay }) x_y
+              (λ e. cc (laws.prev_next s))
+              (λ e. x_y (cc (next_same _ laws t s e, laws.twin_twin x t lx is))))
+        ]
+  ]
     where
       alone : twin_of faces x ≡ None → (n z : ℕ) → Turns (half_edges faces) x z n → x ≡ z
       alone none zero z t = t
@@ -133,37 +145,6 @@ module _ (faces : Faces) (laws : IsQuadManifold (half_edges faces)) (marks : Lis
             | inr r ↦ absurd (cc (e, laws.twin_twin _ t.0 (laws.prev_low z t.2) r))
           ]
 
-      by_twin : (o : Option ℕ) → twin_of faces x ≡ o → (t : ℕ) × (twin_of faces x ≡ Some t)
-          × (twin_of faces (next_of t) ≡ None)
-      by_twin None is =
-          let few = fan.most 1 (λ j. x) (λ z l. let t = laws.one_fan x z lx l.low (cc) in
-          (0, omega arith, alone is t.0 z t.1)) in
-          absurd (omega arith)
-      by_twin (Some t) is = (t, is, by_next _ refl)
-        where
-          lt : t < darts faces
-          lt = laws.twin_low x t lx is
-
-          ly : next_of t < darts faces
-          ly = laws.next_low t lt
-
-          ay : from_of faces (next_of t) ≡ v
-          ay = (laws.twin_ends x t lx is).1 ∙ at
-
-          x_y : x ≡ next_of t → ⊥
-          x_y e = cc (laws.prev_next t, laws.twin_twin x t lx is)
-
-          by_next : (o : Option ℕ) → twin_of faces (next_of t) ≡ o → twin_of faces (next_of t) ≡ None
-          by_next None none = none
-          by_next (Some s) some =
-              let ls = laws.twin_low _ s ly some in
-              let back = laws.twin_twin _ s ly some in
-              absurd (no_third v x _ _ fan (record { low = lx; at = at })
-              (record { low = ly; at = ay })
-              (record { low = laws.next_low s ls; at = (laws.twin_ends _ s ly some).1 ∙ ay }) x_y
-              (λ e. cc (laws.prev_next s))
-              (λ e. x_y (cc (next_same _ laws t s e, laws.twin_twin x t lx is))))
-
   -- A dart at a boundary vertex with two faces is the first one or the second one.
   pub record IsSecond (d a : ℕ) : Type 0 where
     pub turn : twin_of faces (prev_of d) ≡ Some a
@@ -173,59 +154,44 @@ module _ (faces : Faces) (laws : IsQuadManifold (half_edges faces)) (marks : Lis
 
   first_or_second : (d : ℕ) → d < darts faces → is_inner faces (from_of faces d) ≡ false
       → HasFan (half_edges faces) (from_of faces d) 2 → (twin_of faces (prev_of d) ≡ None) ⊎ ((a : ℕ) × IsSecond d a)
-  first_or_second d ld outer fan = by_turn _ refl
-    where
-      by_turn : (o : Option ℕ) → twin_of faces (prev_of d) ≡ o → (twin_of faces (prev_of d) ≡ None)
-          ⊎ ((a : ℕ) × IsSecond d a)
-      by_turn None is = inl is
-      by_turn (Some a) is = inr (a, by_next _ refl)
-        where
-          la : a < darts faces
-          la = turn_low (half_edges faces) laws d a ld is
-
-          aa : from_of faces a ≡ from_of faces d
-          aa = turn_from (half_edges faces) laws d a ld is
-
-          d_a : d ≡ a → ⊥
-          d_a e = no_fix (half_edges faces) laws d ld (cc)
-
-          back : twin_of faces a ≡ Some (prev_of d)
-          back = laws.twin_twin (prev_of d) a (laws.prev_low d ld) is
-
-          by_next : (o : Option ℕ) → twin_of faces (prev_of a) ≡ o → IsSecond d a
-          by_next None none =
+  first_or_second d ld outer fan = elim (none_or (twin_of faces (prev_of d))) [
+    | inl is ↦ inl is
+    | inr (a, is) ↦
+        let la = turn_low (half_edges faces) laws d a ld is in
+        let aa = turn_from (half_edges faces) laws d a ld is in
+        let d_a : d ≡ a → ⊥ = λ e. no_fix (half_edges faces) laws d ld (cc) in
+        let back = laws.twin_twin (prev_of d) a (laws.prev_low d ld) is in
+        elim (none_or (twin_of faces (prev_of a))) [
+          | inl none ↦
               let (t, over, end) = two_faces _ a fan la aa none in
-              record { turn = is; apart = d_a; lone = none; end = cc (over, end, back, laws.next_prev d) }
-          by_next (Some b) some = elim (cases_eq b d) [
-            | inl e ↦ absurd (cc (closed (some ∙ ap Some e)))
-            | inr ne ↦ absurd (no_third _ d a b fan (record { low = ld; at = refl })
-                (record { low = la; at = aa }) (record {
-                  low = turn_low _ laws a b la some;
-                  at = turn_from _ laws a b la some ∙ aa;
-                }) d_a (λ e. ne (sym e)) (λ e. no_fix _ laws a la (cc)))
+              inr (a, record { turn = is; apart = d_a; lone = none; end = cc (over, end, back, laws.next_prev d) })
+          | inr (b, some) ↦ elim (cases_eq b d) [
+            | inl e ↦ absurd (cc (closed a la is back (some ∙ ap Some e)))
+            | inr ne ↦ absurd (no_third _ d a b fan (record { low = ld; at = refl }) (record { low = la; at = aa })
+                (record { low = turn_low _ laws a b la some; at = turn_from _ laws a b la some ∙ aa }) d_a
+                (λ e. ne (sym e)) (λ e. no_fix _ laws a la (cc)))
           ]
-            where
-              -- Closed with two darts, the vertex would be inner.
-              closed : twin_of faces (prev_of a) ≡ Some d → is_inner faces (from_of faces d) ≡ true
-              closed home = inner_from faces _ each
-                where
-                  of : (x : ℕ) → x < darts faces → from_of faces x ≡ from_of faces d
-                      → ((t : ℕ) × (twin_of faces x ≡ Some t)) × ((t : ℕ) × (twin_of faces (prev_of x) ≡ Some t))
-                  of x lx s =
-                      let t = laws.one_fan d x ld lx (sym s) in
-                      elim (two_darts _ laws d a ld la is home t.0 x t.1) [
-                        | inl s ↦
-                            let over = laws.twin_twin _ d (laws.prev_low a la) home in
-                            ((prev_of a, cc), (a, cc))
-                        | inr s ↦ ((prev_of d, cc (s, back)), (d, cc))
-                      ]
-
-                  each : (x : ℕ) → x < darts faces → (from_of faces x ≡ from_of faces d)
-                      ⊎ (to_of faces x ≡ from_of faces d) → (t : ℕ) × (twin_of faces x ≡ Some t)
-                  each x lx (inl s) = (of x lx s).0
-                  each x lx (inr s) =
-                      let t = (of _ (laws.next_low x lx) s).1 in
-                      (t.0, cc (laws.prev_next x))
+        ]
+  ]
+    where
+      -- Closed with two darts, the vertex would be inner.
+      closed : (a : ℕ) → a < darts faces → twin_of faces (prev_of d) ≡ Some a → twin_of faces a ≡ Some (prev_of d)
+          → twin_of faces (prev_of a) ≡ Some d → is_inner faces (from_of faces d) ≡ true
+      closed a la is back home = inner_from faces _ (λ x lx ends. elim ends [
+        | inl s ↦ (of x lx s).0
+        | inr s ↦ let t = (of _ (laws.next_low x lx) s).1 in (t.0, cc (laws.prev_next x))
+      ])
+        where
+          of : (x : ℕ) → x < darts faces → from_of faces x ≡ from_of faces d
+              → ((t : ℕ) × (twin_of faces x ≡ Some t)) × ((t : ℕ) × (twin_of faces (prev_of x) ≡ Some t))
+          of x lx s =
+              let t = laws.one_fan d x ld lx (sym s) in
+              elim (two_darts _ laws d a ld la is home t.0 x t.1) [
+                | inl s ↦
+                    let over = laws.twin_twin _ d (laws.prev_low a la) home in
+                    ((prev_of a, cc), (a, cc))
+                | inr s ↦ ((prev_of d, cc (s, back)), (d, cc))
+              ]
 
   -- The number of faces at a regular boundary vertex.
   boundary_fan : (v : ℕ) → is_regular faces v ≡ true → is_inner faces v ≡ false → HasFan (half_edges faces) v 2

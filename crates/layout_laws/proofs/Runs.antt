@@ -1,11 +1,16 @@
 -- Straight runs of a cut from node to node.
-use Rattle.std.proofs.Common.{◌≡◌, ℕ, zero, suc, ◌+◌, ◌-◌, ◌<◌, ◌≤◌, Bool, true, false, Option, Some, None, sym, ◌∙◌}
-use Rattle.std.proofs.Common.{ap, refl, inl, inr, arith}
+use Rattle.std.proofs.Common.{◌≡◌, ◌⊎◌, ℕ, zero, suc, ◌+◌, ◌-◌, ◌<◌, ◌≤◌, Bool, true, false, Option, Some, None, sym}
+use Rattle.std.proofs.Common.{◌∙◌, ap, refl, inl, inr, arith}
 use Rattle.std.proofs.lemmas.Bool.{cases_eq, cases_lt, cases_order, false≢true}
 use Rattle.def_mesh.specs.HalfEdges.{HalfEdges, IsQuadManifold}
 use Rattle.def_cut.specs.{Cuts.Cut, Cuts.GoesOn, Cuts.IsCut, Steps.or_zero, Steps.step_east, Steps.easts}
 use Rattle.def_layout.specs.{Arcs.end_vertex, Arcs.IsRun, Nodes.AreNodes}
 use Rattle.cut_laws.proofs.{Darts.next_same, Darts.twin_same, Darts.turn_low, Darts.no_self, Pigeon.comes_back}
+
+-- There is no value, or some.
+pub none_or : (o : Option ℕ) → (o ≡ None) ⊎ ((t : ℕ) × (o ≡ Some t))
+none_or None = inl refl
+none_or (Some t) = inr (t, refl)
 
 -- The cut goes straight on from d to the next dart.
 pub record GoesStraight (mesh : HalfEdges) (cut : Cut) (d : ℕ) : Type 0 where
@@ -36,20 +41,15 @@ module _ (mesh : HalfEdges) (laws : IsQuadManifold mesh) (cut : Cut) (full : IsC
 
   -- At a vertex that is no node a cut edge goes straight on.
   pub on_from : (d : ℕ) → d < mesh.count → cut d ≡ true → node (end_vertex mesh d) ≡ false → GoesStraight mesh cut d
-  on_from d l on inner = by_twin _ refl
-    where
-      no_corner : cut (mesh.next d) ≡ true → ⊥
-      no_corner c = cc (nodes.corner (mesh.next d) (laws.next_low d l) c (ap cut (laws.prev_next d) ∙ on))
-
-      by_gap : GoesOn mesh cut d → GoesStraight mesh cut d
-      by_gap (inl c) = absurd (no_corner c)
-      by_gap (inr g) = straight d g.0 l g.1 g.2
-
-      by_twin : (o : Option ℕ) → mesh.twin d ≡ o → GoesStraight mesh cut d
-      by_twin None is = let a = nodes.along d l is inner in
-          straight d a.0 l a.1 (full.boundary _
-          (laws.next_low a.0 (laws.twin_low _ a.0 (laws.next_low d l) a.1)) a.2)
-      by_twin (Some t) is = by_gap (full.gaps d l on)
+  on_from d l on inner = elim (none_or (mesh.twin d)) [
+    | inl is ↦
+        let a = nodes.along d l is inner in
+        straight d a.0 l a.1 (full.boundary _ (laws.next_low a.0 (laws.twin_low _ a.0 (laws.next_low d l) a.1)) a.2)
+    | inr some ↦ elim (full.gaps d l on) [
+      | inl c ↦ absurd (cc (nodes.corner (mesh.next d) (laws.next_low d l) c (ap cut (laws.prev_next d) ∙ on)))
+      | inr g ↦ straight d g.0 l g.1 g.2
+    ]
+  ]
 
   -- Straight on is injective.
   pub east_same : (d e : ℕ) → d < mesh.count → e < mesh.count → mesh.twin (mesh.next d)
@@ -59,9 +59,8 @@ module _ (mesh : HalfEdges) (laws : IsQuadManifold mesh) (cut : Cut) (full : IsC
       (twin_same mesh laws _ _ _ (laws.next_low d ld) (laws.next_low e le) a (cc))
 
   -- A walk over inner vertices.
-  pub walked : (s i : ℕ) → s < mesh.count → cut s ≡ true
-      → ((k : ℕ) → k < i → node (end_vertex mesh (easts mesh s k)) ≡ false) → (k : ℕ) → k ≤ i
-      → (easts mesh s k < mesh.count) × (cut (easts mesh s k) ≡ true)
+  pub walked : (s i : ℕ) → s < mesh.count → cut s ≡ true → ((k : ℕ) → k < i → node (end_vertex mesh (easts mesh s k))
+      ≡ false) → (k : ℕ) → k ≤ i → (easts mesh s k < mesh.count) × (cut (easts mesh s k) ≡ true)
   walked s i l on inner zero h = (l, on)
   walked s i l on inner (suc k) h =
       let w = walked s i l on inner k (omega arith) in

@@ -1,14 +1,14 @@
 -- The arcs of a cut and their uses.
 use Rattle.std.proofs.Common.{◌≡◌, ◌⊎◌, ℕ, zero, suc, ◌+◌, ◌-◌, ◌<◌, ◌≤◌, Bool, true, false, List, length, get_or}
 use Rattle.std.proofs.Common.{Option, Some, None, sym, ◌∙◌, ap, refl, inl, inr, arith}
-use Rattle.std.proofs.lemmas.Bool.{cases_lt}
+use Rattle.std.proofs.lemmas.Bool.{cases_eq, cases_lt}
 use Rattle.std.proofs.lemmas.List.FromFn.{get_or-map-range_with_len, length-map-range_with_len}
 use Rattle.def_mesh.specs.HalfEdges.{HalfEdges, IsQuadManifold}
 use Rattle.def_cut.specs.{Cuts.Cut, Cuts.IsCut, Steps.easts}
 use Rattle.def_layout.specs.{Arcs.IsRun, Arcs.IsArc, Arcs.LiesAt, Nodes.AreNodes}
 use Rattle.layout_laws.specs.Named.{run_list, run_name, IsNamed}
 use Rattle.cut_laws.proofs.Leasts.{least_high, least_there}
-use Rattle.layout_laws.proofs.Runs.{IsBack, run_low, same_place, same_length, back_run, no_mirror}
+use Rattle.layout_laws.proofs.Runs.{none_or, IsBack, run_low, same_place, same_length, back_run, no_mirror}
 
 pub run_long : (mesh : HalfEdges) (s n : ℕ) → length (run_list mesh s n) ≡ n
 run_long mesh s n = length-map-range_with_len (easts mesh s) 0 n
@@ -59,76 +59,61 @@ module _ (mesh : HalfEdges) (laws : IsQuadManifold mesh) (cut : Cut) (full : IsC
   search : (s n m : ℕ) → m ≤ n → ((k : ℕ) × (t : ℕ) × (k < n) × (mesh.twin (easts mesh s k) ≡ Some t)
       × (t ≤ run_name mesh s n)) ⊎ ((k t : ℕ) → k < m → mesh.twin (easts mesh s k) ≡ Some t → run_name mesh s n < t)
   search s n zero h = inr (λ k t l. absurd (omega arith))
-  search s n (suc m) h = by_last (search s n m (omega arith)) (mesh.twin (easts mesh s m)) refl
-    where
-      by_last : ((k : ℕ) × (t : ℕ) × (k < n) × (mesh.twin (easts mesh s k) ≡ Some t) × (t ≤ run_name mesh s n))
-          ⊎ ((k t : ℕ) → k < m → mesh.twin (easts mesh s k) ≡ Some t → run_name mesh s n < t) → (o : Option ℕ)
-          → mesh.twin (easts mesh s m) ≡ o → ((k : ℕ) × (t : ℕ) × (k < n) × (mesh.twin (easts mesh s k) ≡ Some t)
-          × (t ≤ run_name mesh s n)) ⊎ ((k t : ℕ) → k < suc m → mesh.twin (easts mesh s k) ≡ Some t
-          → run_name mesh s n < t)
-      by_last (inl found) o is = inl found
-      by_last (inr none) None is =
-          inr (λ k t l tw. elim (cases_lt k m) [
-            | inl b ↦ none k t b tw
-            | inr g ↦ let e : k ≡ m = omega arith in absurd (cc (e, is, tw))
-          ])
-      by_last (inr none) (Some u) is = elim (cases_lt (run_name mesh s n) u) [
-        | inl less ↦ inr (λ k t l tw. elim (cases_lt k m) [
-          | inl b ↦ none k t b tw
-          | inr g ↦ let e : k ≡ m = omega arith in let same : u ≡ t = cc (e, is, tw) in omega arith
+  search s n (suc m) h = elim (search s n m (omega arith)) [
+    | inl found ↦ inl found
+    | inr none ↦ elim (none_or (mesh.twin (easts mesh s m))) [
+      | inl is ↦ inr (λ k t l tw.
+          elim (cases_eq k m) [ inl e ↦ absurd (cc (e, is, tw)) | inr ne ↦ none k t (omega arith) tw ])
+      | inr (u, is) ↦ elim (cases_lt (run_name mesh s n) u) [
+        | inl less ↦ inr (λ k t l tw. elim (cases_eq k m) [
+          | inl e ↦ let same : u ≡ t = cc (e, is, tw) in omega arith
+          | inr ne ↦ none k t (omega arith) tw
         ])
         | inr more ↦ inl (m, u, omega arith, is, more)
       ]
+    ]
+  ]
 
   pub named_or_back : (s n : ℕ) → IsRun mesh cut node s n → IsNamed mesh cut node s n
       ⊎ ((r : ℕ) × IsBack mesh cut node s n r × IsNamed mesh cut node r n)
   named_or_back s n run = elim (search s n n (omega arith)) [
-    | inl found ↦ inr (by_twin found.0 found.1 found.2 found.3 found.4 (back_run mesh laws cut full node nodes s n run
-        found.0 found.1 found.2 found.3))
     | inr all ↦ inl (record { run = run; named = all })
+    | inl (k, t, l, tw, low) ↦
+        let (r, back) = back_run mesh laws cut full node nodes s n run k t l tw in
+        -- The least of the twins is at most t, and t is at most each dart of s.
+        let place : k + suc (n - suc k) ≡ n = omega arith in
+        let same : t ≡ easts mesh r (n - suc k) = cc (tw, back.twin k (n - suc k) place) in
+        let least : run_name mesh r n ≤ t = omega (
+          arith,
+          least_high (run_list mesh r n) (n - suc k) (omega (arith, run_long mesh r n)),
+          run_entry mesh r n (n - suc k) (omega arith),
+        ) in
+        -- A twin of a twin is a dart of s, and no dart of s is a twin.
+        inr (
+          r,
+          back,
+          record {
+            run = back.run;
+            named = λ j u lj twu. elim (cases_lt (run_name mesh r n) u) [
+              | inl less ↦ less
+              | inr more ↦
+                  let there : u ≡ easts mesh s (n - suc j) = cc (
+                    twu,
+                    laws.twin_twin (easts mesh s (n - suc j))
+                        (easts mesh r j) (run_low mesh laws cut full node nodes s n run (n - suc j) (omega arith))
+                        (back.twin (n - suc j) j (omega arith)),
+                  ) in
+                  let above : run_name mesh s n ≤ u = omega (
+                    arith,
+                    least_high (run_list mesh s n) (n - suc j) (omega (arith, run_long mesh s n)),
+                    run_entry mesh s n (n - suc j) (omega arith),
+                  ) in
+                  let e : t ≡ easts mesh s (n - suc j) = omega arith in
+                  absurd (no_mirror mesh laws cut full node nodes s n k (n - suc j) run l (omega arith) (cc (tw, e)))
+            ];
+          },
+        )
   ]
-    where
-      by_twin : (k t : ℕ) → k < n → mesh.twin (easts mesh s k) ≡ Some t → t ≤ run_name mesh s n
-          → (r : ℕ) × IsBack mesh cut node s n r → (r : ℕ) × IsBack mesh cut node s n r × IsNamed mesh cut node r n
-      by_twin k t l tw low b = (b.0, b.1, record { run = b.1.run; named = named })
-        where
-          -- The least of the twins is at most t, and t is at most each dart of s.
-          least : run_name mesh b.0 n ≤ t
-          least =
-              let place : k + suc (n - suc k) ≡ n = omega arith in
-              let same : t ≡ easts mesh b.0 (n - suc k) = cc (tw, b.1.twin k (n - suc k) place) in
-              omega (
-                arith,
-                least_high (run_list mesh b.0 n) (n - suc k) (omega (arith, run_long mesh b.0 n)),
-                run_entry mesh b.0 n (n - suc k) (omega arith),
-              )
-
-          -- A twin of a twin is a dart of s, and no dart of s is a twin.
-          named : (j u : ℕ) → j < n → mesh.twin (easts mesh b.0 j) ≡ Some u → run_name mesh b.0 n < u
-          named j u lj twu = elim (cases_lt (run_name mesh b.0 n) u) [
-            | inl less ↦ less
-            | inr more ↦ absurd (clash more)
-          ]
-            where
-              back : u ≡ easts mesh s (n - suc j)
-              back = cc (
-                twu,
-                laws.twin_twin (easts mesh s (n - suc j)) (easts mesh b.0 j) (run_low mesh laws cut full
-                    node nodes s n run (n - suc j) (omega arith)) (b.1.twin (n - suc j) j (omega arith)),
-              )
-
-              above : run_name mesh s n ≤ u
-              above = omega (
-                arith,
-                back,
-                least_high (run_list mesh s n) (n - suc j) (omega (arith, run_long mesh s n)),
-                run_entry mesh s n (n - suc j) (omega arith),
-              )
-
-              clash : u ≤ run_name mesh b.0 n → ⊥
-              clash more =
-                  let e : t ≡ easts mesh s (n - suc j) = omega (arith, above, least, low, back) in
-                  no_mirror mesh laws cut full node nodes s n k (n - suc j) run l (omega arith) (cc (tw, e))
 
   -- Named runs with one name are one.
   pub same_named : (s n r m : ℕ) → IsNamed mesh cut node s n → IsNamed mesh cut node r m

@@ -9,8 +9,8 @@ use Rattle.def_certtext.specs.{CertLines.dual_line, CertLines.line_text, CertLin
 use Rattle.def_certtext.specs.{Reading.is_small, Reading.may_stand, Settings.floor_text, Settings.scale_text}
 use Rattle.def_certtext.specs.{Settings.weight_text, Settings.AreInRange, Settings.IsFloor, declared.CertLine.CertLine}
 use Rattle.def_certtext.specs.declared.CertLine.TheVariants.{Floor, Length, Set, Vertex, Rise as RiseLine}
-use Rattle.def_certtext.specs.declared.certs.{Rise.Rise, Rising.Rising}
-use Rattle.def_flow.specs.declared.{limits.TheConstants.MAX_FLOOR, net.Settings.Settings, net.Weight.Weight}
+use Rattle.def_certtext.specs.declared.certs.{Rising.Rising}
+use Rattle.def_flow.specs.declared.{net.Settings.Settings, net.Weight.Weight}
 use Rattle.def_flow.specs.declared.net.Weight.TheVariants.{Plain, Length as ByLength}
 use Rattle.def_io.specs.{Bytes.Bytes, Bytes.Lines, Lines.lines_of}
 use Rattle.def_text.specs.{Canonical.canonical_text, FaceSet.FaceSet}
@@ -57,12 +57,11 @@ canonical_ends soup = ap ends_line (text_lines soup) ∙ ends_lines (canonical_l
 module _ (soup : FaceSet) (is : IsWritableSoup soup) where
   -- They are lines.
   pub lines_are : (k : ℕ) → k < length (canonical_lines soup) → IsLine (get_or (canonical_lines soup) k [])
-  lines_are = each_both IsLine (map position_line soup.pos) (map face_line soup.faces) []
-      (each_map IsLine position_line soup.pos [] []
-      (λ k l. position_line_is (get_or soup.pos k []) (passes_at is_position soup.pos k [] is.positions l)))
-      (each_map IsLine face_line soup.faces [] [] (λ k l. face_line_is (length soup.pos) (get_or soup.faces k [])
-      is.few_vertices (passes_at is_quad soup.faces k [] is.quads l)
-      (passes_at (are_below (length soup.pos)) soup.faces k [] is.soup.in_range l)))
+  lines_are = each_both IsLine (map position_line soup.pos) (map face_line soup.faces) [] (each_map IsLine position_line
+      soup.pos [] [] (λ k l. position_line_is (get_or soup.pos k []) (passes_at is_position soup.pos k [] is.positions
+      l))) (each_map IsLine face_line soup.faces [] [] (λ k l. face_line_is (length soup.pos) (get_or soup.faces k [])
+      is.few_vertices (passes_at is_quad soup.faces k [] is.quads l) (passes_at (are_below (length soup.pos)) soup.faces
+      k [] is.soup.in_range l)))
 
   -- No line is joined to one of them.
   pub canonical_whole : (k : ℕ) → k < length (lines_of (canonical_text soup))
@@ -76,13 +75,14 @@ off_right : (t : Bool) → (t && false) ≡ false
 off_right true = refl
 off_right false = refl
 
-marked_passed : (line : Bytes) → length (35 ∷ line) ≤ 65536 → IsPassedOver (35 ∷ line)
-marked_passed line short = record {
+pub hash_passed : (line : Bytes) → get_or line 0 0 ≡ 35 → length line ≤ 65536 → IsPassedOver line
+hash_passed [] begins short = absurd (omega (arith, begins))
+hash_passed (byte ∷ line) begins short = rw begins (record {
   short = short;
   whole = whole;
   no_vertex = by_test 118 (continues (35 ∷ line)) whole;
   no_face = by_test 102 (continues (35 ∷ line)) whole;
-}
+})
   where
     whole : continues (35 ∷ line) ≡ false
     whole = off_right (slice_index (35 ∷ line) (length (35 ∷ line) - 1) == 92)
@@ -90,10 +90,6 @@ marked_passed line short = record {
     by_test : (letter : ℕ) (t : Bool) → t ≡ false
         → begins_with letter (words (if t then with_space (35 ∷ line) else before_first is_hash (35 ∷ line))) ≡ false
     by_test letter t off = rw off refl
-
-pub hash_passed : (line : Bytes) → get_or line 0 0 ≡ 35 → length line ≤ 65536 → IsPassedOver line
-hash_passed [] begins short = absurd (omega (arith, begins))
-hash_passed (byte ∷ line) begins short = rw begins (marked_passed line short)
 
 -- A text of one line that ends no line has that line alone.
 pub one_line : (line : Bytes) → list_all is_inside line ≡ true → lines_of (line ++ 10 ∷ []) ≡ line ∷ []
@@ -136,15 +132,6 @@ dual_short letter z up may =
       number_short up (omega (arith, parts.1)),
     )
 
--- So is a line that tells a rise.
-rise_short : (rise : Rise) → (rise.arc < 2 ^ 32) × (rise.floor ≤ MAX_FLOOR) → length (line_text (RiseLine rise)) ≤ 65536
-rise_short rise low = omega (
-  arith,
-  length-append (decimal (rise.arc + 1)) (32 ∷ decimal rise.floor),
-  number_short (rise.arc + 1) (omega (arith, low.0)),
-  number_short rise.floor (omega (arith, low.1)),
-)
-
 cert_passed : (rising : Rising) (line : CertLine) → may_stand rising line ≡ true → IsPassedOver (line_text line)
 cert_passed rising (Length n) may =
     hash_passed (line_text (Length n)) refl (omega (arith, number_short n (omega (arith, leb-true n (10 ^ 12) may))))
@@ -153,7 +140,13 @@ cert_passed rising (Set z up) may = hash_passed (line_text (Set z up)) refl (dua
 cert_passed rising (Floor floor) may = hash_passed (line_text (Floor floor)) refl
     (omega (arith, number_short floor (omega (arith, floor_low rising floor may))))
 cert_passed rising (RiseLine rise) may =
-    hash_passed (line_text (RiseLine rise)) refl (rise_short rise (rise_low rising rise may))
+    let low = rise_low rising rise may in
+    hash_passed (line_text (RiseLine rise)) refl (omega (
+      arith,
+      length-append (decimal (rise.arc + 1)) (32 ∷ decimal rise.floor),
+      number_short (rise.arc + 1) (omega (arith, low.0)),
+      number_short rise.floor (omega (arith, low.1)),
+    ))
 
 certs_passed : (rising : Rising) (said : List CertLine) → list_all (may_stand rising) said ≡ true → (k : ℕ) → k
     < length (map line_text said) → IsPassedOver (get_or (map line_text said) k [])
@@ -165,9 +158,8 @@ certs_passed rising (line ∷ said) all (suc k) low = certs_passed rising said
 
 pub cert_lines_passed : (rising : Rising) (said : List CertLine) → list_all (may_stand rising) said ≡ true
     → ArePassed (lines_of (text_of said))
-cert_lines_passed rising said all = subst ArePassed
-    (sym (ap lines_of (sym (flat_map-map (λ l. l ++ 10 ∷ []) line_text said))
-    ∙ lines_back (map line_text said) (lines_inside rising said all))) (certs_passed rising said all)
+cert_lines_passed rising said all = subst ArePassed (sym (ap lines_of (sym (flat_map-map (λ l. l ++ 10 ∷ []) line_text
+    said)) ∙ lines_back (map line_text said) (lines_inside rising said all))) (certs_passed rising said all)
 
 -- ---- Head lines.
 
@@ -185,35 +177,22 @@ pub settings_aside : (front : Bytes) (settings : Settings) (auto : Bool)
     → get_or (settings_line front settings auto) 0 0 ≡ 35 → list_all is_inside front ≡ true
     → length front ≤ 64 → AreInRange settings auto → IsAside (settings_line front settings auto ++ 10 ∷ [])
 settings_aside front settings auto begins inside few range =
-    line_aside (settings_line front settings auto) begins (settings_inside front settings auto inside range) short
-  where
-    scale : Bytes
-    scale = front ++ scale_text settings
-
-    floor : Bytes
-    floor = (scale ++ codes " floor ") ++ floor_text settings.floor auto
-
-    scale_short : length scale ≤ 128
-    scale_short = omega (
-      arith,
-      few,
-      length-append front (scale_text settings),
-      length-append (decimal settings.p) (47 ∷ decimal settings.q),
-      number_short settings.p (omega (arith, range.p_high)),
-      number_short settings.q (omega (arith, range.q_high)),
-    )
-
-    short : length (settings_line front settings auto) ≤ 65536
-    short = omega (
+    let scale = front ++ scale_text settings in
+    let floor = (scale ++ codes " floor ") ++ floor_text settings.floor auto in
+    line_aside (settings_line front settings auto) begins (settings_inside front settings auto inside range) (omega (
       arith,
       length-append (floor ++ codes " weight ") (weight_text settings.weight),
       length-append floor (codes " weight "),
       length-append (scale ++ codes " floor ") (floor_text settings.floor auto),
       length-append scale (codes " floor "),
-      scale_short,
+      few,
+      length-append front (scale_text settings),
+      length-append (decimal settings.p) (47 ∷ decimal settings.q),
+      number_short settings.p (omega (arith, range.p_high)),
+      number_short settings.q (omega (arith, range.q_high)),
       floor_short settings.floor auto range.floor,
       weight_short settings.weight,
-    )
+    ))
 
 pub head_aside : (settings : Settings) (auto : Bool) → AreInRange settings auto
     → IsAside (head_line settings auto ++ 10 ∷ [])

@@ -21,9 +21,8 @@ certified_lengths layout settings cert floor is =
 
 -- So are those that are used, after each round.
 lengths_behind : (wish : Wish) (layout : Layout) (settings : Settings) (rising : Rising) (certificates : Certificates)
-    (floors : Lengths) → ((arc : ℕ) → 1 ≤ floors arc)
-    → AreKeptBy (HasLeastLengths wish layout settings) layout floors rising certificates
-    → AreLengths (gluing_of layout) (lengths_in (used certificates).x)
+    (floors : Lengths) → ((arc : ℕ) → 1 ≤ floors arc) → AreKeptBy (HasLeastLengths wish layout settings) layout floors
+    rising certificates → AreLengths (gluing_of layout) (lengths_in (used certificates).x)
 lengths_behind wish layout settings rising (alone cert) floors some kept =
     certified_lengths layout settings cert some kept
 lengths_behind wish layout settings rising (raised first cert) floors some kept =
@@ -32,8 +31,7 @@ lengths_behind wish layout settings rising (risen first rises after) floors some
     settings rising after (risen_floors rises floors) (needed_some layout first.x rises floors kept.2 some) kept.3
 
 pub used_lengths : (wish : Wish) (layout : Layout) (settings : Settings) (rising : Rising) (certificates : Certificates)
-    → 1 ≤ settings.floor
-    → AreKeptBy (HasLeastLengths wish layout settings) layout (given_floors settings) rising certificates
-    → AreLengths (gluing_of layout) (lengths_in (used certificates).x)
+    → 1 ≤ settings.floor → AreKeptBy (HasLeastLengths wish layout settings) layout (given_floors settings) rising
+    certificates → AreLengths (gluing_of layout) (lengths_in (used certificates).x)
 used_lengths wish layout settings rising certificates some kept =
     lengths_behind wish layout settings rising certificates (given_floors settings) (λ arc. some) kept

@@ -46,32 +46,28 @@ third_net layout settings net other =
     raised_net layout settings (λ a. 3) net other (λ arc. omega arith) (λ arc low. omega arith)
 
 -- Kept certificates, with the numbers of the new mesh at the lengths that are used.
-pub keeps : {wish : Wish} (layout : Layout) (settings : Settings) (rising : Rising) (certificates : Certificates)
-    (xs : List ℕ) (tables : Tables) → xs ≡ (used certificates).x
-    → AreKept wish layout settings rising certificates → IsNumbered layout xs tables
-    → IsKept wish layout settings rising certificates tables
-keeps {wish} layout settings rising certificates xs tables same kept numbered = record {
-  kept = kept;
-  coarse = subst (AreCoarse layout) is.lengths is.numbering.few;
-  undoubled = is.undoubled;
-  shape = is.shape;
-  numbering = is.numbering;
-  lengths = is.lengths;
-}
-  where
-    is : IsNumbered layout (used certificates).x tables
-    is = rw (← same) numbered
+pub keeps : {wish : Wish} (layout : Layout) (settings : Settings) (rising : Rising) (certificates : Certificates) (xs :
+    List ℕ) (tables : Tables) → xs ≡ (used certificates).x → AreKept wish layout settings rising certificates
+    → IsNumbered layout xs tables → IsKept wish layout settings rising certificates tables
+keeps layout settings rising certificates xs tables same kept numbered =
+    let is : IsNumbered layout (used certificates).x tables = rw (← same) numbered in
+    record {
+      kept = kept;
+      coarse = subst (AreCoarse layout) is.lengths is.numbering.few;
+      undoubled = is.undoubled;
+      shape = is.shape;
+      numbering = is.numbering;
+      lengths = is.lengths;
+    }
 
 pub keeps_first : {wish : Wish} (layout : Layout) (settings : Settings) (rising : Rising) (cert : Cert) (xs : List ℕ)
-    (tables : Tables) → xs ≡ cert.x.items
-    → IsCertified wish layout settings (given_floors settings) (lists_of cert) → IsNumbered layout xs tables
-    → IsKept wish layout settings rising (alone (lists_of cert)) tables
+    (tables : Tables) → xs ≡ cert.x.items → IsCertified wish layout settings (given_floors settings) (lists_of cert)
+    → IsNumbered layout xs tables → IsKept wish layout settings rising (alone (lists_of cert)) tables
 keeps_first layout settings rising cert xs tables = keeps layout settings rising (alone (lists_of cert)) xs tables
 
-pub keeps_third : {wish : Wish} (layout : Layout) (settings : Settings) (first third : Cert) (xs : List ℕ)
-    (tables : Tables) → xs ≡ third.x.items
-    → AreKept wish layout settings Third (raised (lists_of first) (lists_of third)) → IsNumbered layout xs tables
-    → IsKept wish layout settings Third (raised (lists_of first) (lists_of third)) tables
+pub keeps_third : {wish : Wish} (layout : Layout) (settings : Settings) (first third : Cert) (xs : List ℕ) (tables :
+    Tables) → xs ≡ third.x.items → AreKept wish layout settings Third (raised (lists_of first) (lists_of third))
+    → IsNumbered layout xs tables → IsKept wish layout settings Third (raised (lists_of first) (lists_of third)) tables
 keeps_third layout settings first third xs tables =
     keeps layout settings Third (raised (lists_of first) (lists_of third)) xs tables
 
@@ -103,28 +99,25 @@ bounded net cert xs is same arc = rw same
     ])
 
 -- Lengths for the greatest floors are long.
-pub long_lengths : {wish : Wish} {floors : Lengths} (layout : Layout) (settings : Settings) (net : Network)
-    (cert : Cert)
-    → IsNetWith wish layout settings floors net → IsSolution net (certificate cert)
-    → ((k : ℕ) → k < length net.arcs → MAX_FLOOR ≤ (arc_at net.arcs k).floor) → AreLong layout (lengths_in cert.x.items)
+pub long_lengths : {wish : Wish} {floors : Lengths} (layout : Layout) (settings : Settings) (net : Network) (cert :
+    Cert) → IsNetWith wish layout settings floors net → IsSolution net (certificate cert) → ((k : ℕ) → k < length
+    net.arcs → MAX_FLOOR ≤ (arc_at net.arcs k).floor) → AreLong layout (lengths_in cert.x.items)
 long_lengths layout settings net cert for is high a low =
     let inner : a < length net.arcs = omega (arith, low, for.is.long) in
     omega (arith, ints, is.accepted.admissible.high a inner, high a inner)
 
 -- Long lengths double no edge.
-pub none_doubled : {T : Type 0} (layout : Layout) (xs ys : List ℕ) (result : Result T StitchFail) (fail : StitchFail)
-    (u v : ℕ) → xs ≡ ys → AreLong layout (lengths_in ys)
-    → (AreSafe layout (lengths_in xs) → (a b : ℕ) → ¬ IsErrOf result (fails.Doubled a b))
-    → result ≡ Err fail → fail ≡ fails.Doubled u v → ⊥
+pub none_doubled : {T : Type 0} (layout : Layout) (xs ys : List ℕ) (result : Result T StitchFail) (fail : StitchFail) (u
+    v : ℕ) → xs ≡ ys → AreLong layout (lengths_in ys) → (AreSafe layout (lengths_in xs) → (a b : ℕ) → ¬ IsErrOf result
+    (fails.Doubled a b)) → result ≡ Err fail → fail ≡ fails.Doubled u v → ⊥
 none_doubled layout xs ys result fail u v same long safe told doubled =
     safe (inl (rw same long)) u v (told ∙ ap Err doubled)
 
 -- So lengths that double one are for a lower floor.
-pub low_floor : {T : Type 0} {wish : Wish} (layout : Layout) (settings : Settings) (cert : Cert) (xs : List ℕ)
-    (result : Result T StitchFail) (fail : StitchFail) (u v : ℕ)
-    → xs ≡ cert.x.items → IsCertified wish layout settings (given_floors settings) (lists_of cert)
-    → (AreSafe layout (lengths_in xs) → (a b : ℕ) → ¬ IsErrOf result (fails.Doubled a b))
-    → result ≡ Err fail → fail ≡ fails.Doubled u v → settings.floor < MAX_FLOOR
+pub low_floor : {T : Type 0} {wish : Wish} (layout : Layout) (settings : Settings) (cert : Cert) (xs : List ℕ) (result :
+    Result T StitchFail) (fail : StitchFail) (u v : ℕ) → xs ≡ cert.x.items → IsCertified wish layout settings
+    (given_floors settings) (lists_of cert) → (AreSafe layout (lengths_in xs) → (a b : ℕ) → ¬ IsErrOf result
+    (fails.Doubled a b)) → result ≡ Err fail → fail ≡ fails.Doubled u v → settings.floor < MAX_FLOOR
 low_floor layout settings cert xs result fail u v same is safe told doubled =
     elim (cases_lt settings.floor MAX_FLOOR) [
       | inl low ↦ low
@@ -150,9 +143,8 @@ least_of wish layout settings rising certificates =
 
 -- What is kept of a layout that a task's cut gives finishes the task, and shows it.
 pub shown : (task : Task) (soup : FaceSet) (layout : Layout) (certificates : Certificates) (tables : Tables)
-    → IsMeshLayout soup.faces layout
-    → IsCutLayout soup.faces task.marks layout → IsKept task.wish layout task.settings task.rising certificates tables
-    → ShowsTask task soup (finished_text task soup layout certificates)
+    → IsMeshLayout soup.faces layout → IsCutLayout soup.faces task.marks layout → IsKept task.wish layout task.settings
+    task.rising certificates tables → ShowsTask task soup (finished_text task soup layout certificates)
 shown task soup layout certificates tables lies cut kept =
     let lengths = least_of task.wish layout task.settings task.rising certificates kept.kept in
     record {

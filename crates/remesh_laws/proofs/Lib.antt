@@ -5,7 +5,6 @@ pub mod Joined
 pub mod Keeps
 pub mod LastLines
 pub mod MarkedLines
-mod NewSoups
 pub mod Pairs
 mod PassedOver
 pub mod Printable

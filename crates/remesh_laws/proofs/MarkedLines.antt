@@ -31,18 +31,15 @@ digits_tame (suc k) n behind all =
     cond_both (n / 10 == 0) _ _ (λ (bs : Bytes). list_all is_tame bs ≡ true) (λ on. more)
     (λ off. digits_tame k (n / 10) (digit_glyph false (n % 10) ∷ behind) more)
 
-decimal_tame : (n : ℕ) → list_all is_tame (decimal n) ≡ true
-unfolding digits
-decimal_tame n = digits_tame 64 n [] refl
-
 -- The line of a chain, without its end.
 abbrev pub chain_line : (chain : List ℕ) → Bytes
 chain_line chain = 108 ∷ flat_map (λ vertex. 32 ∷ decimal (vertex + 1)) chain
 
 words_tame : (chain : List ℕ) → list_all is_tame (flat_map (λ vertex. 32 ∷ decimal (vertex + 1)) chain) ≡ true
+unfolding digits
 words_tame [] = refl
 words_tame (vertex ∷ chain) = list_all-append is_tame (32 ∷ decimal (vertex + 1))
-    (flat_map (λ v. 32 ∷ decimal (v + 1)) chain) ∙ and_from _ _ (decimal_tame (vertex + 1)) (words_tame chain)
+    (flat_map (λ v. 32 ∷ decimal (v + 1)) chain) ∙ and_from _ _ (digits_tame 64 (vertex + 1) [] refl) (words_tame chain)
 
 pub chain_tame : (chain : List ℕ) → list_all is_tame (chain_line chain) ≡ true
 chain_tame chain = words_tame chain

@@ -9,8 +9,8 @@ use Rattle.def_mesh.specs.Faces.{Face}
 use Rattle.def_text.specs.{Corner.is_corner_word, Corner.is_out, Corner.used_index, Decimal.is_decimal}
 use Rattle.def_text.specs.{Decimal.is_far, Decimal.rounded, FaceSet.FaceSet, Logical.continues, Logical.groups_of}
 use Rattle.def_text.specs.Logical.{joined, logical, logical_lines, numbered_groups, part_of, with_line, Logical}
-use Rattle.def_text.specs.Reading.{begins_with, face_reading, is_face_line}
-use Rattle.def_text.specs.Reading.{is_letter, is_position_count, is_vertex_line, reading, vertex_reading, words_reading}
+use Rattle.def_text.specs.Reading.{begins_with, is_face_line}
+use Rattle.def_text.specs.Reading.{is_letter, is_position_count, is_vertex_line, reading, words_reading}
 use Rattle.def_text.specs.Text.{face_in, face_set, faces, first_refusal}
 use Rattle.def_text.specs.Text.{late_in, position_in, positions, readings, refusal_in, refusals, soup_of, text_soup}
 use Rattle.def_text.specs.{Types.Position as Place, Types.Words, Words.words}
@@ -55,24 +55,14 @@ alike_if true one other = one
 alike_if false one other = other
 
 module _ (m n vertices many : ℕ) where
-  vertex_alike : (ws : Words) → IsAlike (vertex_reading m vertices ws) (vertex_reading n vertices ws)
-  vertex_alike ws = alike_if (nat_le MAX_V_LINES vertices) (refused _ _)
-      (alike_if (not (is_position_count (length ws) && list_all is_decimal ws)) (refused _ _)
-      (alike_if (list_any (λ word. is_far (rounded word)) (take 3 ws)) (refused _ _) (alike_self _)))
-
-  face_alike : (ws : Words) → IsAlike (face_reading m vertices many ws) (face_reading n vertices many ws)
-  face_alike ws = alike_if (nat_le MAX_F_LINES many) (refused _ _)
-      (alike_if (not (list_all is_corner_word ws)) (refused _ _) (alike_if (not (length ws == 4)) (refused _ _)
-      (alike_if (list_any (λ word. is_out vertices (used_index word)) ws) (refused _ _) (faced m n _))))
-
   words_alike : (ws : Words) → IsAlike (words_reading m vertices many ws) (words_reading n vertices many ws)
   words_alike [] = alike_self Passed
-  words_alike (w ∷ ws) =
-      alike_if (is_letter 118 w) (vertex_alike ws) (alike_if (is_letter 102 w) (face_alike ws) (alike_self Passed))
-
-  line_alike : (group : Lines)
-      → IsAlike (reading vertices many (logical m group)) (reading vertices many (logical n group))
-  line_alike group = alike_if (ltb MAX_LINE (logical m group).size) (refused _ _) (words_alike (words (joined group)))
+  words_alike (w ∷ ws) = alike_if (is_letter 118 w) (alike_if (nat_le MAX_V_LINES vertices) (refused _ _) (alike_if (not
+      (is_position_count (length ws) && list_all is_decimal ws)) (refused _ _) (alike_if (list_any (λ word. is_far
+      (rounded word)) (take 3 ws)) (refused _ _) (alike_self _)))) (alike_if (is_letter 102 w) (alike_if (nat_le
+      MAX_F_LINES many) (refused _ _) (alike_if (not (list_all is_corner_word ws)) (refused _ _) (alike_if (not (length
+      ws == 4)) (refused _ _) (alike_if (list_any (λ word. is_out vertices (used_index word)) ws) (refused _ _) (faced m
+      n _))))) (alike_self Passed))
 
 -- ---- Lines under other numbers.
 
@@ -95,20 +85,12 @@ none_more p before line off = omega (arith, one_more p before line, ap (λ (t : 
 
 more_counts : (before after : List Logical) (m n : ℕ) (group : Lines) → SameCounts before after
     → SameCounts (before ++ logical m group ∷ []) (after ++ logical n group ∷ [])
-more_counts before after m n group same = record {
-  vertices = omega (
-    arith,
-    same.vertices,
-    one_more is_vertex_line before (logical m group),
-    one_more is_vertex_line after (logical n group),
-  );
-  faces = omega (
-    arith,
-    same.faces,
-    one_more is_face_line before (logical m group),
-    one_more is_face_line after (logical n group),
-  );
-}
+more_counts before after m n group same =
+    let a = one_more is_vertex_line before (logical m group) in
+    let b = one_more is_vertex_line after (logical n group) in
+    let c = one_more is_face_line before (logical m group) in
+    let d = one_more is_face_line after (logical n group) in
+    record { vertices = omega (arith, same.vertices); faces = omega (arith, same.faces) }
 
 record AreAlike (said other : List Reading) : Type 0 where
   positions : flat_map position_in other ≡ flat_map position_in said
@@ -131,8 +113,8 @@ alike before after m n (group ∷ groups) same = with_rest first (alike (before 
     n group ∷ []) (m + length group) (n + length group) groups (more_counts before after m n group same))
   where
     first : IsAlike (said_by before (logical m group)) (said_by after (logical n group))
-    first = rw (← same.faces, ← same.vertices)
-        (line_alike m n (count_by is_vertex_line before) (count_by is_face_line before) group)
+    first = rw (← same.faces, ← same.vertices) (alike_if (ltb MAX_LINE (logical m group).size) (refused _ _)
+        (words_alike m n (count_by is_vertex_line before) (count_by is_face_line before) (words (joined group))))
 
     with_rest : {said other : Reading} {rest others : List Reading} → IsAlike said other → AreAlike rest others
         → AreAlike (said ∷ rest) (other ∷ others)
@@ -240,10 +222,9 @@ all_passed (line ∷ behind) n before each =
     (all_passed behind (n + 1) (before ++ logical n (line ∷ []) ∷ []) (λ k l. each (suc k) (omega (arith, l)))))
 
 -- Behind lines to which none is joined: they say nothing more.
-said_before : (lines behind : Lines) (n : ℕ) (before : List Logical)
-    → ((k : ℕ) → k < length lines → continues (get_or lines k []) ≡ false) → ArePassed behind
-    → readings before (logical_lines n (lines ++ behind)) ≡ readings before (logical_lines n lines)
-    ++ passes (length behind)
+said_before : (lines behind : Lines) (n : ℕ) (before : List Logical) → ((k : ℕ) → k < length lines → continues (get_or
+    lines k []) ≡ false) → ArePassed behind → readings before (logical_lines n (lines ++ behind)) ≡ readings before
+    (logical_lines n lines) ++ passes (length behind)
 said_before [] behind n before whole each = all_passed behind n before each
 said_before (line ∷ lines) behind n before whole each =
     let stays : continues line ≡ false = whole 0 (omega arith) in

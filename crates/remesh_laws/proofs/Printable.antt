@@ -1,32 +1,38 @@
--- The soup of a new mesh can be written: its coordinates are in range, and its faces are quads over few vertices.
-use Rattle.std.proofs.Common.{◌≡◌, ℕ, zero, suc, ◌+◌, ◌-◌, ◌*◌, ◌^◌, ◌<◌, ◌≤◌, Bool, true, not, List, [], ◌∷◌}
-use Rattle.std.proofs.Common.{Option, length, refl, sym, ◌∙◌, ap, subst, inl, inr, arith, pos, negsuc, neg_ℤ, ℤ, ◌≤ℤ◌}
-use Rattle.std.proofs.lemmas.Bool.{and_from, and_parts, cases_lt, cond-false, cond-true, false≢true, le-ltb, lt-ltb}
-use Rattle.std.proofs.lemmas.{Bool.Decides.Decides-eqb, Int.ints, List.Folds.list_all-map}
-use Rattle.std.proofs.lemmas.List.FromFn.{get_or-range_with_len, length-range_with_len}
-use Rattle.std.proofs.lemmas.List.Sums.{list_all-from_AllPass}
+-- The soup of a new mesh can be written: its coordinates are in range, its faces are quads over few vertices, and
+-- within the limits of the reader it is one that a text can have.
+use Rattle.std.proofs.Common.{◌≡◌, ℕ, zero, suc, ◌+◌, ◌-◌, ◌*◌, ◌^◌, ◌<◌, ◌≤◌, Bool, true, not, List, [], ◌∷◌, Option}
+use Rattle.std.proofs.Common.{length, refl, sym, ◌∙◌, ap, subst, inl, inr, arith, pos, negsuc, neg_ℤ, ℤ, ◌≤ℤ◌}
+use Rattle.std.proofs.lemmas.Bool.{and_from, and_parts, cases_lt, cond-false, cond-true, le-ltb, lt-ltb, ltb-false}
+use Rattle.std.proofs.lemmas.List.FromFn.{get_or-range_with_len, length-range_with_len, length-map-range_with_len}
+use Rattle.std.proofs.{lemmas.Bool.not-true, lemmas.Bool.Decides.Decides-eqb, lemmas.Int.ints}
+use Rattle.std.proofs.{lemmas.List.Folds.list_all-map, lemmas.List.Sums.list_all-from_AllPass}
 use Rattle.std.specs.{List.list_all, List.range_with_len, Prelude.nat_lt, Prelude.unsigned_abs, Prelude.slice_index_or}
-use Rattle.written_laws.proofs.{Between.between_law, Borders.from_is}
-use Rattle.written_laws.proofs.{EdgeNumbers.in_rows, NewDarts.cell_is, Numbers.number_low, Runs.run_here, Runs.IsInRun}
+use Rattle.written_laws.proofs.NewDarts.{cell_is, dart_low, dart_number, number_from}
+use Rattle.written_laws.proofs.{Between.between_law, Borders.from_is, EdgeNumbers.in_rows, EdgeNumbers.point_onto}
+use Rattle.written_laws.proofs.{Numbers.number_low, Runs.run_here, Runs.IsInRun, Models.dart_used, Models.new_quads}
+use Rattle.written_laws.proofs.Models.{point_dart}
 use Rattle.def_math.specs.Runs.{run_at}
-use Rattle.def_mesh.specs.Faces.{Faces}
-use Rattle.def_text.specs.{Decimal.is_far, FaceSet.FaceSet}
-use Rattle.def_text.specs.{Laws.is_position, Laws.is_quad, Types.Positions, declared.limits.TheConstants.MAX_MICRO}
+use Rattle.def_mesh.specs.{Faces.Faces, Vertices.is_used}
+use Rattle.def_text.specs.{Decimal.is_far, FaceSet.FaceSet, Laws.is_position, Laws.is_quad, Laws.IsWritableSoup}
+use Rattle.def_text.specs.{Types.Positions, declared.limits.TheConstants.MAX_MICRO, Text.numbers_to}
 use Rattle.def_certtext.specs.Laws.{IsPrintable}
-use Rattle.def_layout.specs.{Arcs.long_at, FaceLayouts.IsCutLayout, Gluings.Gluing, Gluings.Way, Gluings.south}
-use Rattle.def_layout.specs.{Gluings.east, Gluings.north, Gluings.west, Layouts.Layout, Layouts.gluing_of}
-use Rattle.def_layout.specs.{Lengths.Lengths, Lengths.wide, Lengths.high, Lengths.AreLengths, Surfaces.IsSurface}
-use Rattle.def_written.specs.Laws.{AreQuads}
+use Rattle.def_layout.specs.Gluings.{Gluing, Way, south, east, north, west}
+use Rattle.def_layout.specs.Lengths.{Lengths, wide, high, AreLengths}
+use Rattle.def_layout.specs.{Arcs.long_at, FaceLayouts.IsCutLayout, Layouts.Layout, Layouts.gluing_of}
+use Rattle.def_layout.specs.Surfaces.{IsSurface}
 use Rattle.def_written.specs.NewFaces.{face_count, dart_start, new_face, new_faces, dart_of, cell_vertex}
-use Rattle.def_written.specs.{Numbers.before_arc, Numbers.before_patch, Numbers.vertices, Points.IsPoint}
+use Rattle.def_written.specs.Numbers.{before_arc, before_patch, vertices, vertex_number}
+use Rattle.def_written.specs.{Laws.AreQuads, Points.IsPoint}
 use Rattle.def_cut.specs.{FullCut.IsFullCut, Traced.traced_marks}
 use Rattle.def_layoutnet.specs.MeshLayouts.{IsSomeLayout}
 use Rattle.def_remesh.specs.NewPoints.{along_arcs, inside_patches, old_vertex, point_at}
 use Rattle.def_remesh.specs.NewSoup.{coordinate, new_coordinate, spaced_place, spaced_soup}
 use Rattle.def_remesh.specs.{Spaced.spacing_by, TextLaws.IsSolid, declared.limits.TheConstants.MAX_NEW_FACES}
-use Rattle.map_laws.proofs.Spaced.{spacing_is}
+use Rattle.def_remesh.specs.ReadAgain.{IsReadable}
+use Rattle.map_laws.proofs.{Numbered.is_point, Spaced.spacing_is}
 use Rattle.embedding_laws.proofs.{Bounds.vertices_few, MeshLayouts.laid_of, MeshLayouts.lengths_of}
 use Rattle.site_laws.proofs.Laws.{graph_law}
+use Rattle.qm_obj.proofs.SoupLemmas.{length-numbers_to, numbers_rise}
 
 -- What holds at each number of a range passes.
 pub passes_range : (p : ℕ → Bool) (n : ℕ) → ((k : ℕ) → k < n → p k ≡ true) → list_all p (range_with_len 0 n) ≡ true
@@ -35,9 +41,8 @@ passes_range p n each = list_all-from_AllPass p (range_with_len 0 n)
     ap p (get_or-range_with_len 0 n k x low ∙ omega arith) ∙ each k low)
 
 -- What passes at each corner of a new mesh passes at all corners of its faces, which are quads.
-pub faces_pass : (l : Gluing) (x : Lengths) (p : ℕ → Bool)
-    → ((f : ℕ) (w : Way) → f < face_count l x → p (cell_vertex l x f w) ≡ true)
-    → list_all (λ face. list_all p face) (new_faces l x) ≡ true
+pub faces_pass : (l : Gluing) (x : Lengths) (p : ℕ → Bool) → ((f : ℕ) (w : Way) → f < face_count l x → p (cell_vertex l
+    x f w) ≡ true) → list_all (λ face. list_all p face) (new_faces l x) ≡ true
 faces_pass l x p each = list_all-map (λ face. list_all p face) (new_face l x) (range_with_len 0 (face_count l x))
     ∙ passes_range _ (face_count l x) (λ f low. and_from _ _ (each f south low) (and_from _ _ (each f east low)
     (and_from _ _ (each f north low) (and_from _ _ (each f west low) refl))))
@@ -52,33 +57,6 @@ pub corner_there : (l : Gluing) (x : Lengths) → IsSurface l → AreLengths l x
 corner_there l x laid len f w low = number_low l x (dart_start l x (dart_of l x f w))
     (from_is l x laid len (dart_of l x f w) (cell_is l x laid len f w low))
 
--- The point with a number is a point.
-pub point_is : (l : Gluing) (x : Lengths) (v : ℕ) → v < vertices l x → IsPoint l x (point_at l x v)
-point_is l x v low = elim (cases_lt v l.nodes) [
-  | inl lt ↦ subst (IsPoint l x) (sym (cond-true _ _ _ (lt-ltb v l.nodes lt))) lt
-  | inr le ↦ elim (cases_lt v ends) [
-    | inl lt ↦ subst (IsPoint l x) (sym (cond-false _ _ _ (le-ltb v l.nodes le) ∙ cond-true _ _ _ (lt-ltb v ends lt)))
-        (on_arc (v - l.nodes) (omega (arith, le, lt)))
-    | inr ge ↦ subst (IsPoint l x) (sym (cond-false _ _ _ (le-ltb v l.nodes le)
-        ∙ cond-false _ _ _ (le-ltb v ends ge))) (in_patch (v - ends) (omega (arith, ge, low)))
-  ]
-]
-  where
-    ends : ℕ
-    ends = l.nodes + before_arc x l.arcs
-
-    on_arc : (t : ℕ) → t < before_arc x l.arcs → IsPoint l x (along_arcs l x t)
-    on_arc t l_t =
-        let here = run_here (λ b. x b - 1) l.arcs t l_t in (here.low, omega arith, omega (arith, here.inside))
-
-    in_patch : (t : ℕ) → t < before_patch l x l.patches → IsPoint l x (inside_patches l x t)
-    in_patch t l_t =
-        let p = run_at (before_patch l x) l.patches t in
-        let here : IsInRun (λ q. (wide l x q - 1) * (high l x q - 1)) l.patches t p (t - before_patch l x p) =
-        run_here (λ q. (wide l x q - 1) * (high l x q - 1)) l.patches t l_t in
-        let at = in_rows (wide l x p - 1) (high l x p - 1) (t - before_patch l x p) (omega (arith, here.inside)) in
-        (here.low, omega arith, omega (arith, at.0), omega arith, omega (arith, at.1))
-
 -- A number within the range is not far, and a number that is not far is within it.
 near : (z : ℤ) → neg_ℤ (pos MAX_MICRO) ≤ℤ z → z ≤ℤ pos MAX_MICRO → not (is_far z) ≡ true
 near (pos a) low high = ap not (le-ltb MAX_MICRO a (omega (arith, ints, high)))
@@ -89,10 +67,7 @@ by_size (pos a) fine = (omega (arith, ints), omega (arith, ints, fine))
 by_size (negsuc a) fine = (omega (arith, ints, fine), omega (arith, ints))
 
 within : (z : ℤ) → not (is_far z) ≡ true → (neg_ℤ (pos MAX_MICRO) ≤ℤ z) × (z ≤ℤ pos MAX_MICRO)
-within z is = elim (cases_lt MAX_MICRO (unsigned_abs z)) [
-  | inl far ↦ absurd (false≢true (sym (ap not (lt-ltb MAX_MICRO (unsigned_abs z) far)) ∙ is))
-  | inr fine ↦ by_size z fine
-]
+within z is = by_size z (ltb-false MAX_MICRO (unsigned_abs z) (not-true _ is))
 
 -- An entry of a list of numbers that are not far, or 0, is within the range.
 entry_within : (p : List ℤ) (k : ℕ) → list_all (λ z. not (is_far z)) p ≡ true
@@ -146,7 +121,7 @@ module _ (soup : FaceSet) (solid : IsSolid soup) (layout : Layout) (is : IsSomeL
           (coordinate soup.faces layout soup.pos axis) (neg_ℤ (pos MAX_MICRO)) (pos MAX_MICRO)
           (laid_of layout is) (lengths_of layout is) len (spacing_is layout is x len few shares)
           (λ a at. coordinate_within soup.pos (old_vertex soup.faces layout a) axis solid.printable.positions)
-          (point_at (gluing_of layout) x v) (point_is (gluing_of layout) x v low) in
+          (point_at (gluing_of layout) x v) (is_point (gluing_of layout) x v low) in
           near _ both.0 both.1
 
   pub printable : IsPrintable (spaced_soup soup layout shares x)
@@ -160,4 +135,39 @@ module _ (soup : FaceSet) (solid : IsSolid soup) (layout : Layout) (is : IsSomeL
       few,
       vertices_few (gluing_of layout) x (laid_of layout is) len,
     )));
+  }
+
+module _ (l : Gluing) (x : Lengths) (laid : IsSurface l) (len : AreLengths l x) where
+  -- Each new vertex is a corner of some face.
+  uses : (v : ℕ) → v < vertices l x → is_used (new_faces l x) v ≡ true
+  uses v low =
+      let (a, is, number) = point_onto l x v low in
+      let (d, is_d, begins) = point_dart l x laid len a is in
+      ap (is_used (new_faces l x)) (sym (number_from l x d is_d ∙ (ap (vertex_number l x) begins ∙ number)))
+      ∙ dart_used (new_faces l x) (dart_number l x d) (new_quads l x laid len) (dart_low l x d is_d)
+
+module _ (soup : FaceSet) (layout : Layout) (shares : Option (List ℕ)) (x : Lengths)
+    (laid : IsSurface (gluing_of layout)) (len : AreLengths (gluing_of layout) x) where
+  abbrev new : FaceSet
+  new = spaced_soup soup layout shares x
+
+  many : length new.pos ≡ vertices (gluing_of layout) x
+  many = length-map-range_with_len (spaced_place soup.faces layout soup.pos shares x) 0 (vertices (gluing_of layout) x)
+
+  pub new_names : new.names ≡ numbers_to (length new.pos)
+  new_names = ap numbers_to (sym many)
+
+  pub writable : IsReadable new → IsWritableSoup new
+  writable is = record {
+    soup = record {
+      in_range = rw many (faces_pass (gluing_of layout) x (λ v. nat_lt v (vertices (gluing_of layout) x))
+          (λ f w low. lt-ltb _ _ (corner_there (gluing_of layout) x laid len f w low)));
+      used = rw many (uses (gluing_of layout) x laid len);
+      named = length-numbers_to (vertices (gluing_of layout) x) ∙ sym many;
+      increasing = numbers_rise (vertices (gluing_of layout) x);
+    };
+    positions = is.near;
+    quads = quads_pass (gluing_of layout) x;
+    few_vertices = is.few_vertices;
+    few_faces = is.few_faces;
   }

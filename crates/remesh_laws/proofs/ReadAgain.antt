@@ -7,7 +7,7 @@ use Rattle.def_certtext.specs.{Reading.may_stand, Risings.third_if, declared.cer
 use Rattle.def_flow.specs.declared.net.Settings.{Settings}
 use Rattle.def_io.specs.{Bytes.Bytes, Bytes.Lines, Lines.lines_of}
 use Rattle.def_layout.specs.{Arcs.long_at, Layouts.Layout, Layouts.gluing_of}
-use Rattle.def_layout.specs.{Layouts.vertex_at, Lengths.AreLengths, Lengths.Lengths, Surfaces.IsSurface}
+use Rattle.def_layout.specs.{Layouts.vertex_at, Lengths.AreLengths, Lengths.Lengths}
 use Rattle.def_layoutnet.specs.MeshLayouts.{IsSomeLayout}
 use Rattle.def_text.specs.{Canonical.canonical_text, FaceSet.FaceSet, Laws.IsWritableSoup}
 use Rattle.def_text.specs.Text.{numbers_to, soup_in, text_soup}
@@ -19,7 +19,7 @@ use Rattle.qm_certtext.proofs.Chosen.{chosen_allowed}
 use Rattle.qm_obj.proofs.LawSoup.{each_both, text_back}
 use Rattle.remesh_laws.proofs.Asides.{canonical_ends, canonical_whole, cert_lines_passed, ArePassed, head_aside}
 use Rattle.remesh_laws.proofs.{Asides.none_aside, Asides.refine_aside, Certified.used_lengths}
-use Rattle.remesh_laws.proofs.{Joined.lines_append, NewSoups.new_names, NewSoups.writable, PassedOver.passed_over}
+use Rattle.remesh_laws.proofs.{Joined.lines_append, Printable.new_names, Printable.writable, PassedOver.passed_over}
 use Rattle.remesh_laws.proofs.{Printable.mesh_layout, Printable.printable, Writable.kept_writable}
 use Rattle.remesh_laws.specs.Asides.{IsAside, IsPassedOver}
 use Rattle.embedding_laws.proofs.MeshLayouts.{laid_of, lies}
@@ -28,76 +28,58 @@ use Rattle.written_laws.proofs.Shape.{multiple_law}
 -- The canonical text of a soup whose vertices are numbered from 1 in order, between lines that are passed over.
 framed : (front behind : Bytes) (soup : FaceSet) → IsWritableSoup soup → soup.names ≡ numbers_to (length soup.pos)
     → IsAside front → ArePassed (lines_of behind) → soup_in (front ++ (canonical_text soup ++ behind)) ≡ Ok soup
-framed front behind soup is names before after = ap (text_soup 1) lines ∙ passed_over (lines_of front)
-    (lines_of (canonical_text soup)) (lines_of behind) soup before.each (canonical_whole soup is) after
+framed front behind soup is names before after =
+    let lines = lines_append front (canonical_text soup ++ behind) before.ended
+    ∙ ap (λ (ls : Lines). lines_of front ++ ls) (lines_append (canonical_text soup) behind (canonical_ends soup)) in
+    ap (text_soup 1) lines ∙ passed_over (lines_of front) (lines_of (canonical_text soup)) (lines_of behind) soup
+    before.each (canonical_whole soup is) after
     (text_back soup is ∙ ap Ok (λ i. record { pos = soup.pos; faces = soup.faces; names = sym names i }))
-  where
-    lines : lines_of (front ++ (canonical_text soup ++ behind)) ≡ lines_of front
-        ++ (lines_of (canonical_text soup) ++ lines_of behind)
-    lines = lines_append front (canonical_text soup ++ behind) before.ended
-        ∙ ap (λ (ls : Lines). lines_of front ++ ls) (lines_append (canonical_text soup) behind (canonical_ends soup))
 
 -- The lines of certificates that can be written may stand.
 pub kept_allowed : (wish : Wish) (layout : Layout) (settings : Settings) (rising : Rising) (certificates : Certificates)
-    → IsSomeLayout layout
-    → AreKeptBy (HasLeastLengths wish layout settings) layout (given_floors settings) rising certificates
-    → list_all (may_stand rising) (certificate_lines rising certificates) ≡ true
+    → IsSomeLayout layout → AreKeptBy (HasLeastLengths wish layout settings) layout (given_floors settings) rising
+    certificates → list_all (may_stand rising) (certificate_lines rising certificates) ≡ true
 kept_allowed wish layout settings rising certificates mesh kept = chosen_allowed rising certificates
     (kept_writable wish layout settings rising certificates (given_floors settings) mesh kept)
-
-module _ (soup : FaceSet) (layout : Layout) (x : Lengths) (laid : IsSurface (gluing_of layout))
-    (len : AreLengths (gluing_of layout) x) where
-  -- The new mesh behind lines that are passed over, as that of a refined mesh.
-  pub mesh_read : (front : Bytes) → IsAside front → IsReadAgain (front ++ canonical_text (new_soup soup layout x))
-      (new_soup soup layout x)
-  mesh_read front before is = ap (λ (t : Bytes). soup_in (front ++ t))
-      (sym (append-nil (canonical_text (new_soup soup layout x)))) ∙ framed front [] (new_soup soup layout x) (writable
-      soup layout None x laid len is) (new_names soup layout None x laid len) before (λ k l. absurd (omega (arith, l)))
 
 -- The text of a refined mesh.
 pub refined_read : (by : ℕ) (soup : FaceSet) (layout : Layout) → IsSomeLayout layout → 0 < by → by < 2 ^ 64
     → IsReadAgain (refined_text by soup layout) (new_soup soup layout (multiple_of by (long_at layout.arcs)))
-refined_read by soup layout is some low = mesh_read soup layout (multiple_of by (long_at layout.arcs)) (laid_of layout
-    is) (multiple_law is.faces (gluing_of layout) (long_at layout.arcs) (vertex_at layout) (lies layout is) by some).0
-    (refine_head by) (refine_aside by low)
+refined_read by soup layout mesh some low is =
+    let x : Lengths = multiple_of by (long_at layout.arcs) in
+    let laid = laid_of layout mesh in
+    let len = (multiple_law mesh.faces (gluing_of layout) (long_at layout.arcs) (vertex_at layout) (lies layout mesh) by
+    some).0 in
+    ap (λ (t : Bytes). soup_in (refine_head by ++ t)) (sym (append-nil (canonical_text (new_soup soup layout x))))
+    ∙ framed (refine_head by) [] (new_soup soup layout x) (writable soup layout None x laid len is)
+    (new_names soup layout None x laid len) (refine_aside by low) (λ k l. absurd (omega (arith, l)))
 
 -- The text of a task.
 pub task_read : (task : Task) (soup : FaceSet) (layout : Layout) (certificates : Certificates) → IsSomeLayout layout
-    → AreLengths (gluing_of layout) (lengths_in (used certificates).x)
-    → AreKeptBy (HasLeastLengths task.wish layout task.settings) layout (given_floors task.settings) task.rising
-    certificates → IsAside (task.head ++ 10 ∷ []) → IsAside (task.between layout (lengths_in (used certificates).x))
-    → IsReadAgain (finished_text task soup layout certificates)
-    (spaced_soup soup layout task.shares (lengths_in (used certificates).x))
-task_read task soup layout certificates mesh len kept head between is = ap soup_in
-    (sym (append_assoc task.head (10 ∷ []) _)) ∙ framed (task.head ++ 10 ∷ []) (task.between layout new ++ certs)
-    (spaced_soup soup layout task.shares new) (writable soup layout task.shares new (laid_of layout mesh) len is)
+    → AreLengths (gluing_of layout) (lengths_in (used certificates).x) → AreKeptBy (HasLeastLengths task.wish layout
+    task.settings) layout (given_floors task.settings) task.rising certificates → IsAside (task.head ++ 10 ∷ [])
+    → IsAside (task.between layout (lengths_in (used certificates).x)) → IsReadAgain (finished_text task soup layout
+    certificates) (spaced_soup soup layout task.shares (lengths_in (used certificates).x))
+task_read task soup layout certificates mesh len kept head between is =
+    let new : Lengths = lengths_in (used certificates).x in
+    let certs = text_of (certificate_lines task.rising certificates) in
+    let behind = subst ArePassed (sym (lines_append (task.between layout new) certs between.ended))
+    (each_both IsPassedOver (lines_of (task.between layout new)) (lines_of certs) [] between.each
+    (cert_lines_passed task.rising (certificate_lines task.rising certificates)
+    (kept_allowed task.wish layout task.settings task.rising certificates mesh kept))) in
+    ap soup_in (sym (append_assoc task.head (10 ∷ []) _)) ∙ framed (task.head ++ 10 ∷ [])
+    (task.between layout new ++ certs) (spaced_soup soup layout task.shares new)
+    (writable soup layout task.shares new (laid_of layout mesh) len is)
     (new_names soup layout task.shares new (laid_of layout mesh) len) head behind
-  where
-    new : Lengths
-    new = lengths_in (used certificates).x
-
-    certs : Bytes
-    certs = text_of (certificate_lines task.rising certificates)
-
-    behind : ArePassed (lines_of (task.between layout new ++ certs))
-    behind = subst ArePassed (sym (lines_append (task.between layout new) certs between.ended))
-        (each_both IsPassedOver (lines_of (task.between layout new)) (lines_of certs) [] between.each
-        (cert_lines_passed task.rising (certificate_lines task.rising certificates)
-        (kept_allowed task.wish layout task.settings task.rising certificates mesh kept)))
 
 pub read_again_law : ReadAgainLaw
-read_again_law settings auto soup text range solid is few_vertices few_faces = ap soup_in is.written ∙ task_read
-    (remesh_task settings auto soup.faces) soup is.layout is.certificates mesh lengths is.lengths
-    (head_aside settings auto range)
-    none_aside (record {
+read_again_law settings auto soup text range solid is few_vertices few_faces =
+    let mesh = mesh_layout soup is.layout solid is.cut in
+    let lengths = used_lengths _ is.layout settings (third_if auto) is.certificates range.floor.low is.lengths in
+    ap soup_in is.written ∙ task_read (remesh_task settings auto soup.faces) soup is.layout is.certificates mesh lengths
+    is.lengths (head_aside settings auto range) none_aside (record {
       near = (printable soup solid is.layout mesh None (lengths_in (used is.certificates).x) lengths
           is.coarse).positions;
       few_vertices = few_vertices;
       few_faces = few_faces;
     })
-  where
-    mesh : IsSomeLayout is.layout
-    mesh = mesh_layout soup is.layout solid is.cut
-
-    lengths : AreLengths (gluing_of is.layout) (lengths_in (used is.certificates).x)
-    lengths = used_lengths _ is.layout settings (third_if auto) is.certificates range.floor.low is.lengths

@@ -47,9 +47,8 @@ module _ (fits : Lengths → Lists → Type 0) (layout : Layout) where
 
   -- One round more.
   pub led_more : (rounds : List Round) (round : Round) (floors : Lengths) → AreLed fits layout rounds floors
-      → IsDoublingBy fits layout (floors_behind rounds floors) (lists_of round.cert)
-      → AreNeeded (gluing_of layout) (lengths_in round.cert.x.items) round.rises.items
-      → AreLed fits layout (rounds ++ round ∷ []) floors
+      → IsDoublingBy fits layout (floors_behind rounds floors) (lists_of round.cert) → AreNeeded (gluing_of layout)
+      (lengths_in round.cert.x.items) round.rises.items → AreLed fits layout (rounds ++ round ∷ []) floors
   led_more [] round floors led doubling needed = (doubling, needed, tt)
   led_more (first ∷ rounds) round floors led doubling needed = (
     led.0,
@@ -84,20 +83,17 @@ risen_some (rise ∷ rises) floors arc rose some = cond_both (arc == rise.arc) _
     (λ on. rose 0 (omega arith)) (λ off. risen_some rises floors arc (λ k low. rose (suc k) (omega (arith, low))) some)
 
 -- So needed ones leave none at 0.
-pub needed_some : (layout : Layout) (xs : List ℕ) (rises : List Rise) (floors : Lengths)
-    → AreNeeded (gluing_of layout) (lengths_in xs) rises → ((arc : ℕ) → 1 ≤ floors arc)
-    → (arc : ℕ) → 1 ≤ risen_floors rises floors arc
+pub needed_some : (layout : Layout) (xs : List ℕ) (rises : List Rise) (floors : Lengths) → AreNeeded (gluing_of layout)
+    (lengths_in xs) rises → ((arc : ℕ) → 1 ≤ floors arc) → (arc : ℕ) → 1 ≤ risen_floors rises floors arc
 needed_some layout xs rises floors needed some arc =
     risen_some rises floors arc (λ k low. omega (arith, (needed.each k low).short)) (some arc)
 
 -- ---- Networks.
 
 -- The network with other floors.
-pub raised_net : {wish : Wish} {floors : Lengths} (layout : Layout) (settings : Settings) (higher : Lengths)
-    (net other : Network) → ((arc : ℕ) → 1 ≤ higher arc)
-    → ((arc : ℕ) → arc < length net.arcs → higher arc ≤ MAX_FLOOR)
-    → IsNetWith wish layout settings floors net → HasFloors net higher other
-    → IsNetWith wish layout settings higher other
+pub raised_net : {wish : Wish} {floors : Lengths} (layout : Layout) (settings : Settings) (higher : Lengths) (net other
+    : Network) → ((arc : ℕ) → 1 ≤ higher arc) → ((arc : ℕ) → arc < length net.arcs → higher arc ≤ MAX_FLOOR) → IsNetWith
+    wish layout settings floors net → HasFloors net higher other → IsNetWith wish layout settings higher other
 raised_net {wish} {floors} layout settings higher net other some high for has = record {
   mesh = for.mesh;
   floor = some;
@@ -108,11 +104,10 @@ raised_net {wish} {floors} layout settings higher net other some high for has = 
 }
 
 -- The network with floors that rose by need.
-pub net_risen : {wish : Wish} {floors : Lengths} (layout : Layout) (settings : Settings) (xs : List ℕ)
-    (rises : List Rise)
-    (net next : Network) → IsNetWith wish layout settings floors net
-    → AreNeeded (gluing_of layout) (lengths_in xs) rises → HasFloors net (risen_floors rises (floor_of net.arcs)) next
-    → IsNetWith wish layout settings (risen_floors rises floors) next
+pub net_risen : {wish : Wish} {floors : Lengths} (layout : Layout) (settings : Settings) (xs : List ℕ) (rises : List
+    Rise) (net next : Network) → IsNetWith wish layout settings floors net → AreNeeded (gluing_of layout) (lengths_in
+    xs) rises → HasFloors net (risen_floors rises (floor_of net.arcs)) next → IsNetWith wish layout settings
+    (risen_floors rises floors) next
 net_risen {wish} {floors} layout settings xs rises net next for needed has = raised_net layout settings
     (risen_floors rises floors) net next (needed_some layout xs rises floors needed for.floor) high
     for (record {

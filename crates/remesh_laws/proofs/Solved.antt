@@ -2,7 +2,7 @@
 use Rattle.std.proofs.Common.{◌≡◌, ℕ, zero, suc, ◌^◌, ◌<◌, ◌≤◌, Bool, true, ◌&&◌}
 use Rattle.std.proofs.Common.{List, [], ◌∷◌, ◌++◌, length, map, take, drop, refl, sym, ◌∙◌, arith, ℤ, ap}
 use Rattle.std.proofs.lemmas.Bool.{and_from, and_parts, le-leb, leb-true, lt-ltb, Decides.nat_tests}
-use Rattle.std.proofs.lemmas.List.{take-append-drop, Folds.list_all-append}
+use Rattle.std.proofs.lemmas.List.{take-append-drop, Folds.list_all-append, Folds.list_all-map}
 use Rattle.std.specs.{List.list_all, Prelude.nat_lt, Prelude.slice_index}
 use Rattle.def_certtext.specs.CertLines.{dual_lines, HasUps, Lists}
 use Rattle.def_certtext.specs.{Laws.IsWritableCert, Reading.is_small, Reading.may_stand}
@@ -38,66 +38,53 @@ numbered_stand kind same (z ∷ zs) (u ∷ us) small low =
     and_from _ _ (same z u ∙ and_from _ _ (lt-ltb _ _ (small 0 (omega arith))) (and_parts _ _ low).0)
     (numbered_stand kind same zs us (λ k l. small (suc k) (omega (arith, l))) (and_parts _ _ low).1)
 
-lengths_stand : (xs : List ℕ) → ((k : ℕ) → k < length xs → slice_index xs k ≤ MAX_LENGTH)
-    → list_all (may_stand Never) (map lines.Length xs) ≡ true
-lengths_stand [] low = refl
-lengths_stand (x ∷ xs) low =
-    and_from _ _ (le-leb _ _ (low 0 (omega arith))) (lengths_stand xs (λ k l. low (suc k) (omega (arith, l))))
+-- What passes at each place of a list passes in all of it.
+each_passes : (p : ℕ → Bool) (xs : List ℕ) → ((k : ℕ) → k < length xs → p (slice_index xs k) ≡ true)
+    → list_all p xs ≡ true
+each_passes p [] each = refl
+each_passes p (x ∷ xs) each =
+    and_from _ _ (each 0 (omega arith)) (each_passes p xs (λ k l. each (suc k) (omega (arith, l))))
 
 -- An entry that nests names one of the sets, or none.
 up_low : (n m i e : ℕ) → is_up n m i e ≡ true → e ≤ m
 up_low n m i e on = grind (arith, nat_tests)
 
-all_low : (xs : List ℕ) → ((k : ℕ) → k < length xs → slice_index xs k < 2 ^ 32) → list_all (λ u. nat_lt u (2 ^ 32)) xs
-    ≡ true
-all_low [] low = refl
-all_low (x ∷ xs) low = and_from _ _ (lt-ltb _ _ (low 0 (omega arith)))
-    (all_low xs (λ k l. low (suc k) (omega (arith, l))))
-
 pub certified : (wish : Wish) (layout : Layout) (settings : Settings) (floors : Lengths) (net : Network) (cert : Lists)
     → IsSomeLayout layout → IsNetOf (gluing_of layout) (old_lengths layout) (wish layout) settings floors net
     → IsWithinBounds net → tangle_number net ≤ MAX_TANGLE → IsSolution net (certificate_of cert)
     → IsCertified wish layout settings floors cert
-certified wish layout settings floors net cert is of_layout bounds untangled solved = record {
-  lengths = record {
-    net = net;
-    of_layout = of_layout;
-    untangled = untangled;
-    count = solved.accepted.count;
-    opposite = (balance_law (gluing_of layout) (old_lengths layout) (wish layout) settings floors net
-        (laid_of layout is) of_layout (entries cert.x)).0 solved.accepted.admissible.balanced;
-    least = sound net (certificate_of cert) bounds solved.accepted;
-    writable = record { ups = ups; allowed = allowed };
-  };
-  accepted = solved.accepted;
-}
-  where
-    ups : HasUps cert
-    ups = omega (arith, solved.accepted.yes.nested.entries, solved.accepted.yes.numbers)
-
-    low : list_all (λ u. nat_lt u (2 ^ 32)) cert.up ≡ true
-    low = all_low cert.up (λ k l. omega (
+certified wish layout settings floors net cert is of_layout bounds untangled solved =
+    let low = each_passes (λ u. nat_lt u (2 ^ 32)) cert.up (λ k l. lt-ltb _ _ (omega (
       arith,
       solved.small.sets,
       up_low _ (length cert.z) k (slice_index cert.up k)
           (solved.accepted.yes.nested.later k (omega (arith, l, solved.accepted.yes.nested.entries))),
-    ))
-
-    vertices : List CertLine
-    vertices = dual_lines lines.Vertex cert.y (take (length cert.y) cert.up)
-
-    sets : List CertLine
-    sets = dual_lines lines.Set cert.z (drop (length cert.y) cert.up)
-
-    arcs : List CertLine
-    arcs = map lines.Length cert.x
-
-    allowed : list_all (may_stand Never) ((arcs ++ vertices) ++ sets) ≡ true
-    allowed = list_all-append (may_stand Never) (arcs ++ vertices) sets ∙ and_from _ _
-        (list_all-append (may_stand Never) arcs vertices ∙ and_from _ _ (lengths_stand cert.x solved.lengths.small)
-        (numbered_stand lines.Vertex (λ z u. refl) cert.y (take (length cert.y) cert.up) solved.small.small_y
-        (all_take _ (length cert.y) cert.up low))) (numbered_stand lines.Set (λ z u. refl) cert.z
-        (drop (length cert.y) cert.up) solved.small.small_z (all_drop _ (length cert.y) cert.up low))
+    ))) in
+    let vertices = dual_lines lines.Vertex cert.y (take (length cert.y) cert.up) in
+    let sets = dual_lines lines.Set cert.z (drop (length cert.y) cert.up) in
+    let arcs = map lines.Length cert.x in
+    let allowed = list_all-append (may_stand Never) (arcs ++ vertices) sets ∙ and_from _ _ (list_all-append (may_stand
+    Never) arcs vertices ∙ and_from _ _ (list_all-map (may_stand Never) lines.Length cert.x ∙ each_passes (λ n.
+    may_stand Never (lines.Length n)) cert.x (λ k l. le-leb _ MAX_LENGTH (solved.lengths.small k l))) (numbered_stand
+    lines.Vertex (λ z u. refl) cert.y (take (length cert.y) cert.up) solved.small.small_y (all_take _ (length cert.y)
+    cert.up low))) (numbered_stand lines.Set (λ z u. refl) cert.z (drop (length cert.y) cert.up) solved.small.small_z
+    (all_drop _ (length cert.y) cert.up low)) in
+    record {
+      lengths = record {
+        net = net;
+        of_layout = of_layout;
+        untangled = untangled;
+        count = solved.accepted.count;
+        opposite = (balance_law (gluing_of layout) (old_lengths layout) (wish layout) settings floors net
+            (laid_of layout is) of_layout (entries cert.x)).0 solved.accepted.admissible.balanced;
+        least = sound net (certificate_of cert) bounds solved.accepted;
+        writable = record {
+          ups = omega (arith, solved.accepted.yes.nested.entries, solved.accepted.yes.numbers);
+          allowed = allowed;
+        };
+      };
+      accepted = solved.accepted;
+    }
 
 -- The lengths of a certificate that can be written are not too great.
 standing_short : (xs : List ℕ) → list_all (may_stand Never) (map lines.Length xs) ≡ true → (k : ℕ) → k < length xs

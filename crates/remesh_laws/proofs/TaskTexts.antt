@@ -64,9 +64,8 @@ module _ (task : Task) (soup : FaceSet) (layout : Layout) (certificates : Certif
       ∙ marked_around (canonical_text new) (task.between layout (lengths_in (used certificates).x)) certs
       (canonical_ends new) silent
 
-  pub task_told : (other : Certificates)
-      → TellCerts task.rising (drop 1 (lines_of (finished_text task soup layout certificates))) other
-      ↔ (other ≡ certificates)
+  pub task_told : (other : Certificates) → TellCerts task.rising (drop 1 (lines_of (finished_text task soup layout
+      certificates))) other ↔ (other ≡ certificates)
   task_told other =
       let told = certs_told task.rising new certificates fine (kept_writable task.wish layout task.settings task.rising
       certificates (given_floors task.settings) mesh kept) other in

@@ -16,29 +16,23 @@ use Rattle.sum_laws.proofs.Counts.{count_below_le, count_below_ones}
 
 -- The arcs of a layout are few.
 pub arcs_few : (layout : Layout) → IsSomeLayout layout → length layout.arcs ≤ 2 ^ 23
-arcs_few layout is = omega (
-  arith,
-  count_below_ones (length layout.arcs),
-  count_below_le (λ k. 1) (long_at layout.arcs) (length layout.arcs) (λ k low. (lengths_of layout is).some k low),
-  lengths_few layout is,
-  is.mesh.few,
-)
+arcs_few layout is =
+    let ones = count_below_ones (length layout.arcs) in
+    let most = count_below_le (λ k. 1) (long_at layout.arcs) (length layout.arcs) (lengths_of layout is).some in
+    omega (arith, lengths_few layout is, is.mesh.few)
 
 -- Rises of arcs with small numbers to small floors may be told.
-all_told : (rises : List Rise)
-    → ((k : ℕ) → k < length rises → ((rise_at rises k).arc < 2 ^ 32) × ((rise_at rises k).floor ≤ MAX_FLOOR))
-    → list_all (may_tell Rounds) rises ≡ true
+all_told : (rises : List Rise) → ((k : ℕ) → k < length rises → ((rise_at rises k).arc < 2 ^ 32) × ((rise_at rises
+    k).floor ≤ MAX_FLOOR)) → list_all (may_tell Rounds) rises ≡ true
 all_told [] each = refl
 all_told (rise ∷ rises) each =
     let first : (rise.arc < 2 ^ 32) × (rise.floor ≤ MAX_FLOOR) = each 0 (omega arith) in
     and_from _ _ (and_from _ _ (lt-ltb _ _ first.0) (le-leb _ _ first.1))
     (all_told rises (λ k low. each (suc k) (omega (arith, low))))
 
-pub kept_writable : (wish : Wish) (layout : Layout) (settings : Settings) (rising : Rising)
-    (certificates : Certificates)
-    (floors : Lengths) → IsSomeLayout layout
-    → AreKeptBy (HasLeastLengths wish layout settings) layout floors rising certificates
-    → AreWritable rising certificates
+pub kept_writable : (wish : Wish) (layout : Layout) (settings : Settings) (rising : Rising) (certificates :
+    Certificates) (floors : Lengths) → IsSomeLayout layout → AreKeptBy (HasLeastLengths wish layout settings) layout
+    floors rising certificates → AreWritable rising certificates
 kept_writable wish layout settings rising (alone cert) floors mesh kept = kept.writable
 kept_writable wish layout settings rising (raised first cert) floors mesh kept =
     (kept.0, kept.1.fit.writable, kept.2.writable)

@@ -3,13 +3,14 @@ use Rattle.std.proofs.Common.{◌≡◌, ℕ, zero, suc, ◌+◌, ◌-◌, ◌*�
 use Rattle.std.proofs.Common.{◌*ℤ◌, Bool, not, sym, ◌∙◌, ap, inl, inr, arith}
 use Rattle.std.proofs.Math.Nat.{mod-lt, div-add-mod, div-lt_iff_lt-mul}
 use Rattle.std.proofs.{lemmas.Bool.cases_eq, lemmas.Int.ints, lemmas.Int.by_lt_z, lemmas.Nat.mul-le}
+use Rattle.sum_laws.proofs.Sums.{times_sum}
 use Rattle.std.specs.{Prelude.◌≤ℤ◌, Prelude.◌<ℤ◌, Int.int_div_euclid}
 use Rattle.def_layout.specs.Gluings.{Way, south, east, north, west, Gluing}
 use Rattle.def_layout.specs.Lengths.{Lengths, reach, size, wide, high, AreLengths}
 use Rattle.def_layout.specs.{declared.tmesh.SideArc.SideArc, Surfaces.IsSurface, Cells.dart}
 use Rattle.def_written.specs.Points.{Point, node, along, inside, IsPoint, arc_point, use_over, offset_at, point}
-use Rattle.def_written.specs.Places.{Coordinate, on_the_way, arc_place, ONE, parameter, parameter_back, parameter_u}
-use Rattle.def_written.specs.Places.{parameter_v, cell_at, rest_at, blend, inside_place, place_of, ArcSpacing, Step}
+use Rattle.def_written.specs.Places.{Coordinate, on_the_way, ONE, parameter, parameter_back, parameter_u}
+use Rattle.def_written.specs.Places.{parameter_v, cell_at, rest_at, blend, place_of, ArcSpacing, Step}
 use Rattle.def_written.specs.{Edges.on_arc, NewFaces.dart_start, Spacings.IsSpacing, Laws.BetweenLaw}
 use Rattle.written_laws.proofs.{Runs.count_rises, Sides.IsOn, Sides.place_on, Sides.long_at, Grid.wide_some}
 use Rattle.written_laws.proofs.{Grid.high_some, Borders.from_is, EdgeDarts.edge_points}
@@ -18,10 +19,6 @@ use Rattle.written_laws.proofs.{Grid.high_some, Borders.from_is, EdgeDarts.edge_
 times_le : (k : ℕ) (a b : ℤ) → a ≤ℤ b → (pos k *ℤ a) ≤ℤ (pos k *ℤ b)
 times_le zero a b le = omega (arith, ints)
 times_le (suc k) a b le = omega (arith, ints, times_le k a b le)
-
-times_sum : (k : ℕ) (a b : ℤ) → pos k *ℤ (a +ℤ b) ≡ (pos k *ℤ a) +ℤ (pos k *ℤ b)
-times_sum zero a b = omega (arith, ints)
-times_sum (suc k) a b = omega (arith, ints, times_sum k a b)
 
 sum_times : (k m : ℕ) (a : ℤ) → pos (k + m) *ℤ a ≡ (pos k *ℤ a) +ℤ (pos m *ℤ a)
 sum_times zero m a = let e : zero + m ≡ m = omega arith in omega (arith, ints, ap (λ n. pos n *ℤ a) e)
@@ -46,7 +43,7 @@ quotient_within a lo hi b some above below =
     )
   where
     one : (c : ℤ) → pos b *ℤ (c +ℤ pos 1) ≡ (pos b *ℤ c) +ℤ pos b
-    one c = let e : b * 1 ≡ b = omega arith in times_sum b c (pos 1) ∙ ap (λ n. (pos b *ℤ c) +ℤ pos n) e
+    one c = let e : b * 1 ≡ b = omega arith in times_sum (pos b) c (pos 1) ∙ ap (λ n. (pos b *ℤ c) +ℤ pos n) e
 
 -- A part of the way lies between its ends.
 pub way_within : (p q least greatest : ℤ) (r x : ℕ) → r ≤ x → 0 < x → least ≤ℤ p → p ≤ℤ greatest → least ≤ℤ q
@@ -56,18 +53,12 @@ way_within p q least greatest r x le some p_low p_high q_low q_high =
     let least_split = ap (λ n. pos n *ℤ (least -ℤ p)) split ∙ sum_times (2 * r) (2 * (x - r)) (least -ℤ p) in
     let greatest_split = ap (λ n. pos n *ℤ (greatest -ℤ p)) split ∙ sum_times (2 * r) (2 * (x - r)) (greatest -ℤ p) in
     let z : (2 * (x - r)) * 0 ≡ 0 = omega arith in
+    let low = times_le (2 * r) (least -ℤ p) (q -ℤ p) (omega (arith, ints)) in
+    let low_rest = times_le (2 * (x - r)) (least -ℤ p) (pos 0) (omega (arith, ints)) in
+    let high = times_le (2 * r) (q -ℤ p) (greatest -ℤ p) (omega (arith, ints)) in
+    let high_rest = times_le (2 * (x - r)) (pos 0) (greatest -ℤ p) (omega (arith, ints)) in
     let bounds = quotient_within ((pos (2 * r) *ℤ (q -ℤ p)) +ℤ pos x) (least -ℤ p) (greatest -ℤ p) (2 * x)
-    (omega arith) (omega (
-      arith,
-      ints,
-      times_le (2 * r) (least -ℤ p) (q -ℤ p) (omega (arith, ints)),
-      times_le (2 * (x - r)) (least -ℤ p) (pos 0) (omega (arith, ints)),
-    )) (omega (
-      arith,
-      ints,
-      times_le (2 * r) (q -ℤ p) (greatest -ℤ p) (omega (arith, ints)),
-      times_le (2 * (x - r)) (pos 0) (greatest -ℤ p) (omega (arith, ints)),
-    )) in
+    (omega arith) (omega (arith, ints, low, low_rest)) (omega (arith, ints, high, high_rest)) in
     (omega (arith, ints, bounds.0), omega (arith, ints, bounds.1))
 
 -- A mean lies between the corners.
@@ -126,29 +117,19 @@ module _ {l : Gluing} {old new : Lengths} {spacing : ArcSpacing} (laid : IsSurfa
   ]
 
   -- Parameters of places of a side are at most that of its end.
-  ahead_most : (p : ℕ) (s : Way) (t : ℕ) → p < l.patches → t < size l new p s
-      → parameter l old new spacing p s t ≤ ONE * size l old p s
-  ahead_most p s t p_low less =
-      let on : IsOn l new p s t (use_over l new p s t) (offset_at l new p s t) = place_on l new p s t p_low less in
-      let upto =
-      count_rises (long_at l old p s) (suc (use_over l new p s t)) (l.many p s) (omega (arith, on.is_slot.low)) in
-      let used : SideArc = l.use_at p s (use_over l new p s t) in
-      let part = arc_most used.arc used.forward (offset_at l new p s t) (laid.paved.arc_low
-      (record { patch = p; side = s; at = use_over l new p s t }) on.is_slot) (omega (arith, on.inside)) in
-      omega (arith, upto, part)
-
-  back_most : (p : ℕ) (s : Way) (t : ℕ) → p < l.patches → t < size l new p s
-      → parameter_back l old new spacing p s t ≤ ONE * size l old p s
-  back_most p s t p_low less =
+  sides_most : (p : ℕ) (s : Way) (t : ℕ) → p < l.patches → t < size l new p s → (parameter l old new spacing p s t ≤ ONE
+      * size l old p s) × (parameter_back l old new spacing p s t ≤ ONE * size l old p s)
+  sides_most p s t p_low less =
       let on : IsOn l new p s t (use_over l new p s t) (offset_at l new p s t) = place_on l new p s t p_low less in
       let upto =
       count_rises (long_at l old p s) (suc (use_over l new p s t)) (l.many p s) (omega (arith, on.is_slot.low)) in
       let one : use_over l new p s t + 1 ≡ suc (use_over l new p s t) = omega arith in
       let reaches = ap (reach l old p s) one in
       let used : SideArc = l.use_at p s (use_over l new p s t) in
-      let part = arc_most used.arc (not used.forward) (new used.arc - offset_at l new p s t)
-      (laid.paved.arc_low (record { patch = p; side = s; at = use_over l new p s t }) on.is_slot) (omega arith) in
-      omega (arith, upto, reaches, part)
+      let low = laid.paved.arc_low (record { patch = p; side = s; at = use_over l new p s t }) on.is_slot in
+      let part = arc_most used.arc used.forward (offset_at l new p s t) low (omega (arith, on.inside)) in
+      let rest = arc_most used.arc (not used.forward) (new used.arc - offset_at l new p s t) low (omega arith) in
+      (omega (arith, upto, part), omega (arith, upto, reaches, rest))
 
   -- A mean of parameters is no greater.
   mean_most : (a b m h j : ℕ) → 0 < h → j ≤ h → a ≤ m → b ≤ m → (a * (h - j) + b * j) / h ≤ m
@@ -161,62 +142,39 @@ module _ {l : Gluing} {old new : Lengths} {spacing : ArcSpacing} (laid : IsSurfa
       let g : m * (h - j + j) ≡ m * h = ap (λ n. m * n) s in
       div_most _ m h some (by_parts (a * (h - j)) (b * j) (h - j) e f g)
 
-  -- The parameters of grid points inside a patch are at most the old sizes.
-  pub u_most : (p i j : ℕ) → IsPoint l new (inside p i j) → parameter_u l old new spacing p i j ≤ ONE * wide l old p
-  u_most p i j is = mean_most _
-      _ _ _ j
-      (omega arith) (omega arith) (ahead_most p south i is.0 is.2) (omega (
-        arith,
-        o_len.across p is.0,
-        back_most p north (wide l new p - i) is.0 (omega (arith, is.1, is.2, n_len.across p is.0)),
-      ))
-
-  pub v_most : (p i j : ℕ) → IsPoint l new (inside p i j) → parameter_v l old new spacing p i j ≤ ONE * high l old p
-  v_most p i j is = mean_most _ _ _ _ i (omega arith) (omega arith) (back_most p west _ is.0 (omega arith))
-      (omega (arith, o_len.upright p is.0, ahead_most p east j is.0 (omega (arith, n_len.upright p is.0))))
-
-  module _ (at : Coordinate) (least greatest : ℤ) (bound : (a : Point) → IsPoint l old a → (least ≤ℤ at a)
-      × (at a ≤ℤ greatest)) where
-    arc_within : (a k : ℕ) → IsPoint l new (along a k) → (least ≤ℤ arc_place l old spacing at a k)
-        × (arc_place l old spacing at a k ≤ℤ greatest)
-    arc_within a k is =
-        let step : Step = spacing.step a k in
-        let ends = edge_points l old laid o_len (on_arc a step.edge) (is.0, spaced.edges a k is.0 is.2) in
-        let part : step.some < step.parts = spaced.parts a k is.0 is.2 in
-        let p = bound (arc_point l old a step.edge) ends.0 in
-        let q = bound (arc_point l old a (step.edge + 1)) ends.1 in
-        way_within (at (arc_point l old a step.edge)) (at (arc_point l old a (step.edge + 1))) least greatest step.some
-        step.parts (omega (arith, part)) (omega (arith, part)) p.0 p.1 q.0 q.1
-
-    grid_within : (p a b : ℕ) (s t : ℕ) → p < l.patches → a < wide l old p → b < high l old p → s ≤ ONE → t ≤ ONE
-        → (least ≤ℤ blend s t (at (point l old p a b)) (at (point l old p (a + 1) b)) (at (point l old p a (b + 1)))
-        (at (point l old p (a + 1) (b + 1)))) × (blend s t (at (point l old p a b)) (at (point l old p (a + 1) b))
-        (at (point l old p a (b + 1))) (at (point l old p (a + 1) (b + 1))) ≤ℤ greatest)
-    grid_within p a b s t p_low a_low b_low s_le t_le =
-        let corner : (w : Way) → (least ≤ℤ at (dart_start l old (dart p a b w)))
-        × (at (dart_start l old (dart p a b w)) ≤ℤ greatest) = λ w. bound (dart_start l old (dart p a b w))
-        (from_is l old laid o_len (dart p a b w) (record { patch_low = p_low; i_low = a_low; j_low = b_low })) in
-        blend_within s t (at (point l old p a b)) (at (point l old p (a + 1) b)) (at (point l old p a (b + 1)))
-        (at (point l old p (a + 1) (b + 1))) least greatest s_le t_le (corner south).0 (corner east).0 (corner west).0
-        (corner north).0 (corner south).1 (corner east).1 (corner west).1 (corner north).1
-
-    inside_within : (p i j : ℕ) → IsPoint l new (inside p i j) → (least ≤ℤ inside_place l old new spacing at p i j)
-        × (inside_place l old new spacing at p i j ≤ℤ greatest)
-    inside_within p i j is = grid_within p (cell_at (wide l old p) (parameter_u l old new spacing p i j))
-        (cell_at (high l old p) (parameter_v l old new spacing p i j)) (rest_at (wide l old p)
-        (parameter_u l old new spacing p i j)) (rest_at (high l old p) (parameter_v l old new spacing p i j)) is.0
-        (omega (arith, wide_some l old laid.paved o_len p is.0))
-        (omega (arith, high_some l old laid.paved o_len p is.0)) (rest_most (wide l old p)
-        (parameter_u l old new spacing p i j) (wide_some l old laid.paved o_len p is.0) (u_most p i j is))
-        (rest_most (high l old p) (parameter_v l old new spacing p i j) (high_some l old laid.paved o_len p is.0)
-        (v_most p i j is))
-
-    place_within : (a : Point) → IsPoint l new a → (least ≤ℤ place_of l old new spacing at a)
-        × (place_of l old new spacing at a ≤ℤ greatest)
-    place_within (node n) is = bound (node n) is
-    place_within (along a k) is = arc_within a k is
-    place_within (inside p i j) is = inside_within p i j is
+  place_within : (at : Coordinate) (least greatest : ℤ) → ((a : Point) → IsPoint l old a → (least ≤ℤ at a)
+      × (at a ≤ℤ greatest)) → (a : Point) → IsPoint l new a → (least ≤ℤ place_of l old new spacing at a)
+      × (place_of l old new spacing at a ≤ℤ greatest)
+  place_within at least greatest bound (node n) is = bound (node n) is
+  place_within at least greatest bound (along a k) is =
+      let step : Step = spacing.step a k in
+      let ends = edge_points l old laid o_len (on_arc a step.edge) (is.0, spaced.edges a k is.0 is.2) in
+      let part : step.some < step.parts = spaced.parts a k is.0 is.2 in
+      let p = bound (arc_point l old a step.edge) ends.0 in
+      let q = bound (arc_point l old a (step.edge + 1)) ends.1 in
+      way_within (at (arc_point l old a step.edge)) (at (arc_point l old a (step.edge + 1))) least greatest step.some
+      step.parts (omega (arith, part)) (omega (arith, part)) p.0 p.1 q.0 q.1
+  place_within at least greatest bound (inside p i j) is =
+      let u = parameter_u l old new spacing p i j in
+      let v = parameter_v l old new spacing p i j in
+      let a = cell_at (wide l old p) u in
+      let b = cell_at (high l old p) v in
+      let w_some = wide_some l old laid.paved o_len p is.0 in
+      let h_some = high_some l old laid.paved o_len p is.0 in
+      let corner = λ (w : Way). bound (dart_start l old (dart p a b w)) (from_is l old laid o_len (dart p a b w)
+      (record { patch_low = is.0; i_low = omega (arith, w_some); j_low = omega (arith, h_some) })) in
+      let north_le = (sides_most p north (wide l new p - i) is.0 (omega (arith, is.1, is.2, n_len.across p is.0))).1 in
+      let u_most : u ≤ ONE * wide l old p = mean_most _ _ _ _ j (omega arith) (omega arith)
+      (sides_most p south i is.0 is.2).0 (omega (arith, o_len.across p is.0, north_le)) in
+      let east_le = (sides_most p east j is.0 (omega (arith, is.4, n_len.upright p is.0))).0 in
+      let v_most : v ≤ ONE * high l old p = mean_most _ _ _ _ i (omega arith) (omega arith)
+      (sides_most p west _ is.0 (omega arith)).1 (omega (arith, o_len.upright p is.0, east_le)) in
+      blend_within (rest_at (wide l old p) u) (rest_at (high l old p) v) (at (point l old p a b))
+      (at (point l old p (a + 1) b)) (at (point l old p a (b + 1))) (at (point l old p (a + 1) (b + 1))) least greatest
+      (rest_most (wide l old p) u w_some u_most) (rest_most (high l old p) v h_some v_most) (corner south).0
+      (corner east).0 (corner west).0 (corner north).0 (corner south).1 (corner east).1 (corner west).1
+      (corner north).1
 
 pub between_law : BetweenLaw
-between_law l old new spacing at least greatest laid o_len n_len spaced bound =
-    place_within laid o_len n_len spaced at least greatest bound
+between_law l old new spacing at least greatest laid o_len n_len spaced =
+    place_within laid o_len n_len spaced at least greatest

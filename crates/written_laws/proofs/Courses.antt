@@ -1,16 +1,19 @@
--- Each dart of a new cell runs along one edge, in its direction or against it, and no other dart does.
-use Rattle.std.proofs.Common.{◌≡◌, ◌≢◌, ◌⊎◌, ℕ, ◌+◌, ◌-◌, ◌<◌, Bool, true, false, not, cond, refl, ap, inl, inr, arith}
-use Rattle.std.proofs.lemmas.Bool.{cases_eq, cond-true, cond-false, eq-eqb, ne_eqb}
+-- Each dart of a new cell runs along one edge, in its direction or against it, and no other dart does. Over it lies
+-- the dart that runs the other way, or none where the arc stands once.
+use Rattle.std.proofs.Common.{◌≡◌, ℕ, ◌+◌, ◌-◌, ◌<◌, Bool, true, false, not, cond, refl, sym, ◌∙◌, ap, inl, inr, arith}
+use Rattle.std.proofs.lemmas.Bool.{cond-true, cond-false, eq-eqb, ne_eqb, false≢true}
+use Rattle.std.proofs.Common.{◌⊎◌, subst}
 use Rattle.std.specs.Prelude.{◌==◌}
-use Rattle.def_layout.specs.Gluings.{Way, south, east, north, west, Gluing, Slot, IsSlot, use_of}
+use Rattle.def_layout.specs.Gluings.{Way, south, east, north, west, Gluing, Slot, IsSlot, AreReverse, use_of}
 use Rattle.def_layout.specs.Lengths.{Lengths, reach, size, wide, high, AreLengths}
-use Rattle.def_layout.specs.Cells.{CellDart, IsDart, dart, dart_along, slot_dart}
-use Rattle.def_layout.specs.{declared.tmesh.SideArc.SideArc, Surfaces.IsSurface}
+use Rattle.def_layout.specs.Cells.{CellDart, IsDart, dart, dart_along, slot_dart, prev}
+use Rattle.def_layout.specs.{declared.tmesh.SideArc.SideArc, Surfaces.IsSurface, Surfaces.IsOtherSlot}
 use Rattle.def_written.specs.Points.{Point, arc_point, use_point, use_over, offset_at}
-use Rattle.def_written.specs.NewFaces.{dart_start, dart_end}
 use Rattle.def_written.specs.Edges.{Edge, on_arc, flat, steep, IsEdge, edge_start, edge_end}
-use Rattle.written_laws.proofs.Sides.{slot, place_on, over_is, size_some}
-use Rattle.written_laws.proofs.{Rims.dart_is, Borders.at_low, Borders.at_from, Borders.at_to}
+use Rattle.def_written.specs.NewFaces.{dart_start, dart_end}
+use Rattle.written_laws.proofs.Rims.{inner_edge, over_at, IsWithin, over, over_dart, rim_within, prev_next}
+use Rattle.written_laws.proofs.Borders.{at_low, at_from, at_to, sees, IsOnBorder, at_is, place_at, spot_dart}
+use Rattle.written_laws.proofs.{Sides.over_is, Sides.size_some, Fans.alike_place, Fans.not_twice}
 
 -- An edge, run along in its direction or against it.
 pub record Course : Type 0 where
@@ -20,13 +23,12 @@ pub record Course : Type 0 where
 abbrev pub course : (edge : Edge) (ahead : Bool) → Course
 course e b = record { edge = e; ahead = b }
 
--- Two ways are the same or opposite, and no way is its opposite.
-pub alike_or_turned : (a b : Bool) → (a ≡ b) ⊎ (b ≡ not a)
-alike_or_turned true = elim [ true ↦ inl refl | false ↦ inr refl ]
-alike_or_turned false = elim [ true ↦ inr refl | false ↦ inl refl ]
+-- The other way along it.
+abbrev pub against : (c : Course) → Course
+against c = course c.edge (not c.ahead)
 
-pub not_self : (b : Bool) → b ≢ not b
-not_self = elim [ true ↦ λ e. cc | false ↦ λ e. cc ]
+pub against_twice : (c : Course) → against (against c) ≡ c
+against_twice c = ap (course c.edge) (not_twice c.ahead)
 
 -- Whether an edge lies on an arc.
 abbrev pub is_arc : (edge : Edge) → Bool
@@ -34,23 +36,32 @@ is_arc (on_arc a k) = true
 is_arc (flat p i j) = false
 is_arc (steep p i j) = false
 
--- The edge along which a dart inside a patch runs.
+-- The course of a dart inside a patch.
+abbrev inner_ahead : (w : Way) → Bool
+inner_ahead south = true
+inner_ahead east = true
+inner_ahead north = false
+inner_ahead west = false
+
 abbrev pub inner_course : (p i j : ℕ) (w : Way) → Course
-inner_course p i j south = course (flat p i j) true
-inner_course p i j east = course (steep p (i + 1) j) true
-inner_course p i j north = course (flat p i (j + 1)) false
-inner_course p i j west = course (steep p i j) false
+inner_course p i j w = course (inner_edge p i j w) (inner_ahead w)
 
--- The dart that runs along an edge inside a patch.
-abbrev pub inner_dart_by : (edge : Edge) (ahead : Bool) → CellDart
-inner_dart_by (on_arc a k) b = dart 0 0 0 south
-inner_dart_by (flat p i j) true = dart p i j south
-inner_dart_by (flat p i j) false = dart p i (j - 1) north
-inner_dart_by (steep p i j) true = dart p (i - 1) j east
-inner_dart_by (steep p i j) false = dart p i j west
+inner_no_arc : (p i j : ℕ) (w : Way) → is_arc (inner_edge p i j w) ≡ false
+inner_no_arc p i j = elim [ south ↦ refl | east ↦ refl | north ↦ refl | west ↦ refl ]
 
-abbrev pub inner_dart : (c : Course) → CellDart
-inner_dart c = inner_dart_by c.edge c.ahead
+pub not_on_arc : (p i j : ℕ) (w : Way) {a k : ℕ} {b : Bool} → inner_course p i j w ≡ course (on_arc a k) b → ⊥
+not_on_arc p i j w e = false≢true (sym (inner_no_arc p i j w) ∙ ap (λ (c : Course). is_arc c.edge) e)
+
+-- Darts inside with one course are one.
+inner_once : (p q i j k m : ℕ) (w v : Way) → inner_edge p i j w ≡ inner_edge q k m v → inner_ahead w ≡ inner_ahead v
+    → dart p i j w ≡ dart q k m v
+inner_once p q i j k m south south e ways = cc
+inner_once p q i j k m west west e ways = cc
+inner_once p q i j k m east east e ways =
+    let columns : i + 1 ≡ k + 1 = cc in let column : i ≡ k = omega arith in cc
+inner_once p q i j k m north north e ways =
+    let rows : j + 1 ≡ m + 1 = cc in let row : j ≡ m = omega arith in cc
+inner_once p q i j k m _ _ e ways = cc
 
 module _ (l : Gluing) (x : Lengths) where
   -- Where a course begins and ends.
@@ -60,9 +71,25 @@ module _ (l : Gluing) (x : Lengths) where
   abbrev pub end_at : (c : Course) → Point
   end_at c = cond c.ahead (edge_end l x c.edge) (edge_start l x c.edge)
 
+  -- The other way round it begins where it ends.
+  pub against_ends : (c : Course) → (start_at (against c) ≡ end_at c) × (end_at (against c) ≡ start_at c)
+  against_ends c = elim c.ahead as (λ b. (start_at (course c.edge (not b)) ≡ end_at (course c.edge b))
+      × (end_at (course c.edge (not b)) ≡ start_at (course c.edge b))) [ true ↦ (refl, refl) | false ↦ (refl, refl) ]
+
   -- The course of an arc in use, o after its beginning.
   abbrev pub use_course : (u : SideArc) (o : ℕ) → Course
   use_course u o = course (on_arc u.arc (cond u.forward o (x u.arc - 1 - o))) u.forward
+
+  -- It is that of an arc used the other way round, run against.
+  pub reverse_course : (u v : SideArc) (o : ℕ) → AreReverse u v → o < x u.arc
+      → use_course v (x u.arc - 1 - o) ≡ against (use_course u o)
+  reverse_course u v o rev less =
+      (λ t. use_course (record { arc = rev.arc t; forward = rev.turned t }) (x u.arc - 1 - o))
+      ∙ (elim u.forward as (λ b. use_course (record { arc = u.arc; forward = not b }) (x u.arc - 1 - o)
+      ≡ against (use_course (record { arc = u.arc; forward = b }) o)) [
+        | true ↦ let e : x u.arc - 1 - (x u.arc - 1 - o) ≡ o = omega arith in ap (λ k. course (on_arc u.arc k) false) e
+        | false ↦ refl
+      ])
 
   -- The course of the border dart at a place of a side.
   abbrev pub border_course : (p : ℕ) (s : Way) (t : ℕ) → Course
@@ -79,58 +106,15 @@ module _ (l : Gluing) (x : Lengths) where
   abbrev pub course_of : (d : CellDart) → Course
   course_of d = course_by d.patch d.i d.j d.way
 
-  -- A dart inside a patch.
-  pub record IsWithin (d : CellDart) : Type 0 where
-    pub course : course_of d ≡ inner_course d.patch d.i d.j d.way
-    pub is_edge : IsEdge l x (inner_course d.patch d.i d.j d.way).edge
-
-  -- A dart on the border of a patch, o after the beginning of a slot's arc.
-  pub record IsOnBorder (d : CellDart) (w : Slot) (o : ℕ) : Type 0 where
-    pub is_slot : IsSlot l w
-    pub low : o < x (use_of l w).arc
-    pub dart : d ≡ slot_dart l x w o
+  pub within_course : (p i j : ℕ) (w : Way) → IsEdge l x (inner_edge p i j w) → course_by p i j w ≡ inner_course p i j w
+  within_course p i j south h = cond-false (j == 0) _ _ (ne_eqb j 0 (λ e. omega (arith, h.2)))
+  within_course p i j east h =
+      cond-false (i + 1 == wide l x p) _ _ (ne_eqb (i + 1) (wide l x p) (λ e. omega (arith, h.2)))
+  within_course p i j north h =
+      cond-false (j + 1 == high l x p) _ _ (ne_eqb (j + 1) (high l x p) (λ e. omega (arith, h.3)))
+  within_course p i j west h = cond-false (i == 0) _ _ (ne_eqb i 0 (λ e. omega (arith, h.1)))
 
   module _ (laid : IsSurface l) (len : AreLengths l x) where
-    on_border : (d : CellDart) (p : ℕ) (s : Way) (t : ℕ) → p < l.patches → t < size l x p s → d ≡ dart_along l x p s t
-        → (w : Slot) × (o : ℕ) × IsOnBorder d w o
-    on_border d p s t p_low less is =
-        let on = place_on l x p s t p_low less in (
-          slot p s (use_over l x p s t),
-          offset_at l x p s t,
-          record { is_slot = on.is_slot; low = on.inside; dart = cc },
-        )
-
-    pub sees : {d : CellDart} → IsDart l x d → IsWithin d ⊎ ((w : Slot) × (o : ℕ) × IsOnBorder d w o)
-    sees {d} is = by_way d.patch d.i d.j d.way is
-      where
-        within : {d : CellDart} {B : Type 0} → course_of d ≡ inner_course d.patch d.i d.j d.way
-            → IsEdge l x (inner_course d.patch d.i d.j d.way).edge → IsWithin d ⊎ B
-        within c e = inl (record { course = c; is_edge = e })
-
-        by_way : (p i j : ℕ) (w : Way) → IsDart l x (dart p i j w) → IsWithin (dart p i j w)
-            ⊎ ((v : Slot) × (o : ℕ) × IsOnBorder (dart p i j w) v o)
-        by_way p i j south d = elim (cases_eq j 0) [
-          | inl z ↦ inr (on_border _ p south i d.patch_low d.i_low (dart_is p south refl z))
-          | inr some ↦ within (cond-false (j == 0) _ _ (ne_eqb j 0 some)) (d.patch_low, d.i_low, omega arith, d.j_low)
-        ]
-        by_way p i j east d = elim (cases_eq (i + 1) (wide l x p)) [
-          | inl z ↦ inr (on_border (dart p i j east) p east j d.patch_low
-              (omega (arith, len.upright p d.patch_low)) (dart_is p east (omega arith) refl))
-          | inr some ↦ within (cond-false (i + 1 == wide l x p) _ _ (ne_eqb (i + 1) (wide l x p) some))
-              (d.patch_low, omega arith, omega arith, d.j_low)
-        ]
-        by_way p i j north d = elim (cases_eq (j + 1) (high l x p)) [
-          | inl z ↦ inr (on_border (dart p i j north) p north (wide l x p - 1 - i) d.patch_low
-              (omega (arith, len.across p d.patch_low)) (dart_is p north (omega arith) (omega arith)))
-          | inr some ↦ within (cond-false (j + 1 == high l x p) _ _ (ne_eqb (j + 1) (high l x p) some))
-              (d.patch_low, d.i_low, omega arith, omega arith)
-        ]
-        by_way p i j west d = elim (cases_eq i 0) [
-          | inl z ↦ inr (on_border (dart p i j west) p west (high l x p - 1 - j) d.patch_low (omega arith)
-              (dart_is p west z (omega arith)))
-          | inr some ↦ within (cond-false (i == 0) _ _ (ne_eqb i 0 some)) (d.patch_low, omega arith, d.i_low, d.j_low)
-        ]
-
     rim_course : (p : ℕ) (s : Way) (t : ℕ) → p < l.patches → t < size l x p s → course_of (dart_along l x p s t)
         ≡ border_course p s t
     rim_course p south t p_low less = refl
@@ -147,104 +131,175 @@ module _ (l : Gluing) (x : Lengths) where
         ≡ use_course (use_of l w) o
     at_course w o is less =
         let e : reach l x w.patch w.side w.at + o - reach l x w.patch w.side w.at ≡ o = omega arith in
-        cc (
-          rim_course w.patch w.side (reach l x w.patch w.side w.at + o) is.patch_low
-              (at_low l x laid.paved len o is less),
-          over_is l x w o is less,
-        )
+        let low = at_low l x laid.paved len o is less in
+        cc (rim_course w.patch w.side (place_at l x w o) is.patch_low low, over_is l x w o is less)
 
-    pub border_is : {d : CellDart} {w : Slot} {o : ℕ} → IsOnBorder d w o → course_of d ≡ use_course (use_of l w) o
+    pub border_is : {d : CellDart} {w : Slot} {o : ℕ} → IsOnBorder l x d w o → course_of d ≡ use_course (use_of l w) o
     border_is {w} {o} b = cc (at_course w o b.is_slot b.low)
 
-    -- The courses of darts are those of edges.
-    use_edge : (w : Slot) (o : ℕ) → IsSlot l w → o < x (use_of l w).arc → IsEdge l x (use_course (use_of l w) o).edge
-    use_edge w o is less = by_way (use_of l w).arc (use_of l w).forward (laid.paved.arc_low w is) less
-      where
-        by_way : (a : ℕ) (b : Bool) → a < l.arcs → o < x a → IsEdge l x (on_arc a (cond b o (x a - 1 - o)))
-        by_way a = elim [ true ↦ λ a_low o_low. (a_low, o_low) | false ↦ λ a_low o_low. (a_low, omega arith) ]
-
+    -- The course of a dart is one of an edge, and begins and ends where the dart does.
     pub course_is : {d : CellDart} → IsDart l x d → IsEdge l x (course_of d).edge
-    course_is {d} is = elim (sees is) [
-      | inl i ↦ rw i.course i.is_edge
-      | inr b ↦ rw (border_is b.2) (use_edge b.0 b.1 b.2.is_slot b.2.low)
+    course_is {d} is = elim (sees l x laid.paved len is) [
+      | inl i ↦ rw (within_course d.patch d.i d.j d.way i) i
+      | inr (w, o, b) ↦
+          let low = laid.paved.arc_low w b.is_slot in
+          rw (border_is b) (elim (use_of l w).forward as
+          (λ f. IsEdge l x (on_arc (use_of l w).arc (cond f o (x (use_of l w).arc - 1 - o))))
+          [ true ↦ (low, b.low) | false ↦ (low, omega (arith, b.low)) ])
     ]
 
-    -- A dart begins and ends where its course does.
-    inner_from : (p i j : ℕ) (w : Way) → dart_start l x (dart p i j w) ≡ start_at (inner_course p i j w)
-    inner_from p i j = elim [ south ↦ refl | east ↦ refl | north ↦ refl | west ↦ refl ]
-
-    inner_to : (p i j : ℕ) (w : Way) → dart_end l x (dart p i j w) ≡ end_at (inner_course p i j w)
-    inner_to p i j = elim [ south ↦ refl | east ↦ refl | north ↦ refl | west ↦ refl ]
-
-    use_from : (u : SideArc) (o : ℕ) → o < x u.arc → use_point l x u o ≡ start_at (use_course u o)
-    use_from u o less = by_way u.arc u.forward less
+    course_ends : (d : CellDart) → IsDart l x d
+        → (dart_start l x d ≡ start_at (course_of d)) × (dart_end l x d ≡ end_at (course_of d))
+    course_ends d is = elim (sees l x laid.paved len is) [
+      | inl i ↦
+          let c = within_course d.patch d.i d.j d.way i in
+          let e = inner d.patch d.i d.j d.way in (cc, cc)
+      | inr (w, o, b) ↦
+          let e = by_way (use_of l w).arc (use_of l w).forward o b.low in
+          let c = border_is b in
+          (cc (at_from l x laid len w o b.is_slot b.low), cc (at_to l x laid len w o b.is_slot b.low))
+    ]
       where
-        by_way : (a : ℕ) (b : Bool) → o < x a → use_point l x (record { arc = a; forward = b }) o
-            ≡ start_at (use_course (record { arc = a; forward = b }) o)
-        by_way a true o_low = refl
-        by_way a false o_low = let e : x a - o ≡ x a - 1 - o + 1 = omega arith in ap (arc_point l x a) e
+        inner : (p i j : ℕ) (w : Way) → (dart_start l x (dart p i j w) ≡ start_at (inner_course p i j w))
+            × (dart_end l x (dart p i j w) ≡ end_at (inner_course p i j w))
+        inner p i j = elim [ south ↦ (refl, refl) | east ↦ (refl, refl) | north ↦ (refl, refl) | west ↦ (refl, refl) ]
 
-    use_to : (u : SideArc) (o : ℕ) → o < x u.arc → use_point l x u (o + 1) ≡ end_at (use_course u o)
-    use_to u o less = by_way u.arc u.forward less
-      where
-        by_way : (a : ℕ) (b : Bool) → o < x a → use_point l x (record { arc = a; forward = b }) (o + 1)
-            ≡ end_at (use_course (record { arc = a; forward = b }) o)
-        by_way a true o_low = refl
-        by_way a false o_low = let e : x a - (o + 1) ≡ x a - 1 - o = omega arith in ap (arc_point l x a) e
+        by_way : (a : ℕ) (b : Bool) (o : ℕ) → o < x a → (use_point l x (record { arc = a; forward = b }) o ≡ start_at
+            (use_course (record { arc = a; forward = b }) o)) × (use_point l x (record { arc = a; forward = b }) (o + 1)
+            ≡ end_at (use_course (record { arc = a; forward = b }) o))
+        by_way a true o low = (refl, refl)
+        by_way a false o low =
+            let e : x a - o ≡ x a - 1 - o + 1 = omega arith in
+            let f : x a - (o + 1) ≡ x a - 1 - o = omega arith in
+            (ap (arc_point l x a) e, ap (arc_point l x a) f)
 
     pub course_from : (d : CellDart) → IsDart l x d → dart_start l x d ≡ start_at (course_of d)
-    course_from d is = elim (sees is) [
-      | inl i ↦ cc (inner_from d.patch d.i d.j d.way)
-      | inr b ↦ cc
-          (at_from l x laid len b.0 b.1 b.2.is_slot b.2.low, use_from (use_of l b.0) b.1 b.2.low, border_is b.2)
-    ]
+    course_from d is = (course_ends d is).0
 
     pub course_to : (d : CellDart) → IsDart l x d → dart_end l x d ≡ end_at (course_of d)
-    course_to d is = elim (sees is) [
-      | inl i ↦ cc (inner_to d.patch d.i d.j d.way)
-      | inr b ↦ cc (at_to l x laid len b.0 b.1 b.2.is_slot b.2.low, use_to (use_of l b.0) b.1 b.2.low, border_is b.2)
-    ]
-
-    -- Darts with one course are one.
-    inner_back : (p i j : ℕ) (w : Way) → inner_dart (inner_course p i j w) ≡ dart p i j w
-    inner_back p i j east = dart_is p east (omega arith) refl
-    inner_back p i j north = dart_is p north refl (omega arith)
-    inner_back p i j _ = refl
-
-    pub inner_no_arc : (p i j : ℕ) (w : Way) → is_arc (inner_course p i j w).edge ≡ false
-    inner_no_arc p i j = elim [ south ↦ refl | east ↦ refl | north ↦ refl | west ↦ refl ]
+    course_to d is = (course_ends d is).1
 
     -- A course on an arc tells the slot and the place.
-    pub use_once : (v w : Slot) (o k : ℕ) → IsSlot l v → IsSlot l w → o < x (use_of l v).arc → k < x (use_of l w).arc
+    use_once : (v w : Slot) (o k : ℕ) → IsSlot l v → IsSlot l w → o < x (use_of l v).arc → k < x (use_of l w).arc
         → use_course (use_of l v) o ≡ use_course (use_of l w) k → slot_dart l x v o ≡ slot_dart l x w k
     use_once v w o k is_v is_w o_low k_low same =
+        let ways : (use_of l v).forward ≡ (use_of l w).forward = ap (λ (c : Course). c.ahead) same in
         let edges : on_arc (use_of l v).arc (cond (use_of l v).forward o (x (use_of l v).arc - 1 - o)) ≡ on_arc (use_of
         l w).arc (cond (use_of l w).forward k (x (use_of l w).arc - 1 - k)) = ap (λ (c : Course). c.edge) same in
-        let ways : (use_of l v).forward ≡ (use_of l w).forward = ap (λ (c : Course). c.ahead) same in
-        let arcs : (use_of l v).arc ≡ (use_of l w).arc = let e = edges in cc in
-        let place : cond (use_of l v).forward o (x (use_of l v).arc - 1 - o) ≡ cond (use_of l v).forward k
-        (x (use_of l w).arc - 1 - k) = let e = edges in let f : cond (use_of l v).forward o (x (use_of l v).arc - 1 - o)
-        ≡ cond (use_of l w).forward k (x (use_of l w).arc - 1 - k) = cc in cc (f, ways) in
+        let arcs : (use_of l v).arc ≡ (use_of l w).arc = cc in
         let slots : v ≡ w = laid.once v w is_v is_w (λ t. record { arc = arcs t; forward = ways t }) in
-        let places : (b : Bool) → b ≡ (use_of l w).forward → cond b o (x (use_of l v).arc - 1 - o) ≡ cond b k (x
-        (use_of l w).arc - 1 - k) → o ≡ k = elim [ true ↦ λ e at. at | false ↦ λ e at. omega (arith, at, ap x arcs) ] in
-        λ t. slot_dart l x (slots t) (places (use_of l v).forward ways place t)
+        let place = alike_place (use_of l v).forward ways (ap (λ a. x a - 1) arcs) (omega arith) (omega arith) (cc) in
+        λ t. slot_dart l x (slots t) (place t)
 
+    -- Darts with one course are one.
     pub course_once : {d e : CellDart} → IsDart l x d → IsDart l x e → course_of d ≡ course_of e → d ≡ e
-    course_once {d} {e} is_d is_e same = elim (sees is_d) [
-      | inl i ↦ elim (sees is_e) [
-        | inl j ↦ cc (inner_back d.patch d.i d.j d.way, inner_back e.patch e.i e.j e.way)
-        | inr b ↦ absurd (cc (inner_no_arc d.patch d.i d.j d.way, border_is b.2))
-      ]
-      | inr a ↦ elim (sees is_e) [
-        | inl j ↦ absurd (cc (inner_no_arc e.patch e.i e.j e.way, border_is a.2))
-        | inr b ↦ cc (use_once a.0 b.0 a.1 b.1 a.2.is_slot b.2.is_slot a.2.low b.2.low
-            (cc (border_is a.2, same, border_is b.2)))
-      ]
+    course_once {d} {e} is_d is_e same = elim (sees l x laid.paved len is_d) [
+      | inl i ↦
+          let c = within_course d.patch d.i d.j d.way i in
+          elim (sees l x laid.paved len is_e) [
+            | inl j ↦
+                let s : inner_course d.patch d.i d.j d.way ≡ inner_course e.patch e.i e.j e.way =
+                cc (within_course e.patch e.i e.j e.way j) in
+                inner_once d.patch e.patch d.i d.j e.i e.j d.way e.way (ap (λ (c : Course). c.edge) s)
+                (ap (λ (c : Course). c.ahead) s)
+            | inr (v, k, b) ↦ absurd (not_on_arc d.patch d.i d.j d.way (sym c ∙ same ∙ border_is b))
+          ]
+      | inr (w, o, a) ↦
+          let c = border_is a in
+          elim (sees l x laid.paved len is_e) [
+            | inl j ↦ absurd (not_on_arc e.patch e.i e.j e.way
+                (sym (within_course e.patch e.i e.j e.way j) ∙ sym same ∙ c))
+            | inr (v, k, b) ↦ cc (use_once w v o k a.is_slot b.is_slot a.low b.low (cc (border_is b)))
+          ]
     ]
 
     -- Dart e runs the other way along the edge of d.
     pub record IsAcross (d e : CellDart) : Type 0 where
       pub is_dart : IsDart l x e
-      pub edge : (course_of e).edge ≡ (course_of d).edge
-      pub turned : (course_of e).ahead ≡ not (course_of d).ahead
+      pub course : course_of e ≡ against (course_of d)
+
+module _ {l : Gluing} {x : Lengths} (laid : IsSurface l) (len : AreLengths l x) where
+  -- The dart over an arc that stands twice.
+  pub across_border : (w v : Slot) (o : ℕ) → IsSlot l w → IsOtherSlot l w v → o < x (use_of l w).arc
+      → IsAcross l x laid len (slot_dart l x w o) (slot_dart l x v (x (use_of l w).arc - 1 - o))
+  across_border w v o is other less =
+      let low : x (use_of l w).arc - 1 - o < x (use_of l v).arc = omega (arith, ap x other.1.arc) in
+      let there = at_course l x laid len v (x (use_of l w).arc - 1 - o) other.0 low in
+      let here = at_course l x laid len w o is less in
+      record {
+        is_dart = at_is l x laid.paved len v (x (use_of l w).arc - 1 - o) other.0 low;
+        course = there ∙ reverse_course l x (use_of l w) (use_of l v) o other.1 less ∙ ap against (sym here);
+      }
+
+  -- The dart over an edge inside a patch.
+  pub across_within : (d : CellDart) → IsWithin l x d → IsAcross l x laid len d (over d)
+  across_within d i =
+      let (is, edge) = over_dart laid.paved len d.patch d.i d.j d.way i in
+      let ahead : inner_ahead (over_at d.patch d.i d.j d.way).way ≡ not (inner_ahead d.way) =
+      elim d.way as (λ w. inner_ahead (over_at d.patch d.i d.j w).way ≡ not (inner_ahead w))
+      [ south ↦ refl | east ↦ refl | north ↦ refl | west ↦ refl ] in
+      record {
+        is_dart = is;
+        course = within_course l x (over d).patch (over d).i (over d).j (over d).way (subst (IsEdge l x) (sym edge) i)
+            ∙ (λ t. course (edge t) (ahead t))
+            ∙ ap against (sym (within_course l x d.patch d.i d.j d.way i));
+      }
+
+  -- A dart on an arc that no slot uses the other way round.
+  pub record IsAlone (d : CellDart) (w : Slot) (o : ℕ) : Type 0 where
+    pub on_border : IsOnBorder l x d w o
+    pub alone : (v : Slot) → ¬ IsOtherSlot l w v
+
+  pub across_or_alone : (d : CellDart) → IsDart l x d
+      → ((e : CellDart) × IsAcross l x laid len d e) ⊎ ((w : Slot) × (o : ℕ) × IsAlone d w o)
+  across_or_alone d is = elim (sees l x laid.paved len is) [
+    | inl i ↦ inl (over d, across_within d i)
+    | inr b ↦ elim (laid.other b.0 b.2.is_slot) [
+      | inl v ↦
+          let a = across_border b.0 v.0 b.1 b.2.is_slot v.1 b.2.low in
+          inl (slot_dart l x v.0 (x (use_of l b.0).arc - 1 - b.1), rw b.2.dart a)
+      | inr none ↦ inr (b.0, b.1, record { on_border = b.2; alone = none })
+    ]
+  ]
+
+  -- No dart runs the other way along such an arc.
+  pub alone_not_across : {d : CellDart} (e : CellDart) {w : Slot} {o : ℕ} → IsAlone d w o → ¬ IsAcross l x laid len d e
+  alone_not_across {d} e {w} {o} alone across =
+      let here = across.course ∙ ap against (border_is l x laid len alone.on_border) in
+      elim (sees l x laid.paved len across.is_dart) [
+        | inl i ↦ not_on_arc e.patch e.i e.j e.way (sym (within_course l x e.patch e.i e.j e.way i) ∙ here)
+        | inr (v, k, b) ↦
+            let there = sym (border_is l x laid len b) ∙ here in
+            let edges = ap (λ (c : Course). c.edge) there in
+            alone.alone v (b.is_slot, record { arc = cc; turned = ap (λ (c : Course). c.ahead) there })
+      ]
+
+  -- A dart across begins where the other one ends.
+  pub across_ends : {d e : CellDart} → IsDart l x d → IsAcross l x laid len d e → (dart_start l x e ≡ dart_end l x d)
+      × (dart_end l x e ≡ dart_start l x d)
+  across_ends {d} {e} is a = (
+    course_from l x laid len e a.is_dart ∙ ap (start_at l x) a.course ∙ (against_ends l x (course_of l x d)).0
+        ∙ sym (course_to l x laid len d is),
+    course_to l x laid len e a.is_dart ∙ ap (end_at l x) a.course ∙ (against_ends l x (course_of l x d)).1
+        ∙ sym (course_from l x laid len d is),
+  )
+
+  -- Before the border dart at a place of an arc lies the other dart there, and before that the arc.
+  pub rim_turn : (w : Slot) (o : ℕ) → IsSlot l w → o < x (use_of l w).arc → 0 < place_at l x w o
+      → IsAcross l x laid len (prev (slot_dart l x w o)) (spot_dart l x w o true)
+  rim_turn w o is less some =
+      let r = rim_within laid.paved len w.patch w.side (place_at l x w o) is.patch_low some
+      (at_low l x laid.paved len o is less) in
+      subst (IsAcross l x laid len (prev (slot_dart l x w o))) r.1 (across_within (prev (slot_dart l x w o)) r.0)
+
+  pub spot_back : (w : Slot) (o : ℕ) → 0 < o → prev (spot_dart l x w o true) ≡ slot_dart l x w (o - 1)
+  spot_back w o some =
+      let back : place_at l x w o - 1 ≡ place_at l x w (o - 1) = omega arith in
+      prev_next (dart_along l x w.patch w.side (place_at l x w o - 1)) ∙ ap (dart_along l x w.patch w.side) back
+
+  pub border_turn : (w v : Slot) (o k : ℕ) → IsSlot l w → IsOtherSlot l w v → 0 < o → o < x (use_of l w).arc
+      → k ≡ x (use_of l w).arc - o → IsAcross l x laid len (prev (spot_dart l x w o true)) (slot_dart l x v k)
+  border_turn w v o k is other some less e =
+      let there : x (use_of l w).arc - 1 - (o - 1) ≡ k = omega arith in
+      subst (λ (d : CellDart). IsAcross l x laid len d (slot_dart l x v k)) (sym (spot_back w o some))
+      (rw there at (across_border w v (o - 1) is other (omega arith)))

@@ -1,21 +1,263 @@
--- Multiples of lengths that double no edge double none, and no lengths of at least 3 do.
-use Rattle.std.proofs.Common.{◌⊎◌, ◌≡◌, ◌≢◌, ℕ, zero, suc, ◌+◌, ◌-◌, ◌*◌, ◌/◌, ◌%◌, ◌<◌, ◌≤◌, Bool, true, false, cond}
-use Rattle.std.proofs.Common.{refl, sym, ◌∙◌, ap, subst, inl, inr, arith}
-use Rattle.std.proofs.Math.Nat.{mul-le-mul_left}
-use Rattle.std.proofs.lemmas.Bool.{cases_eq, cond-true, cond-false, eq-eqb, ne_eqb}
-use Rattle.std.specs.Prelude.{◌==◌}
-use Rattle.def_layout.specs.Gluings.{Way, south, east, north, west, Gluing}
+-- Lengths that are open double no edge: lengths of at least 3, and multiples of lengths that double none.
+use Rattle.std.proofs.Common.{◌≡◌, ◌≢◌, ◌⊎◌, ℕ, ◌+◌, ◌-◌, ◌<◌, ◌≤◌, Bool, true, false, refl, sym, ◌∙◌, ap, inl, inr}
+use Rattle.std.proofs.Common.{arith, zero, suc, ◌*◌, ◌/◌, ◌%◌, cond, subst}
+use Rattle.std.proofs.{lemmas.Bool.cases_eq, lemmas.Bool.cond-true, lemmas.Bool.eq-eqb, Math.Nat.mul-le-mul_left}
+use Rattle.std.proofs.lemmas.Bool.Decides.{nat_tests}
+use Rattle.def_layout.specs.Gluings.{Way, south, east, north, west, side_after, Gluing, Slot, use_of}
 use Rattle.def_layout.specs.Lengths.{Lengths, reach, size, wide, high, AreLengths}
-use Rattle.def_layout.specs.Cells.{CellDart, IsDart, dart}
-use Rattle.def_layout.specs.{declared.tmesh.SideArc.SideArc, Surfaces.IsSurface}
-use Rattle.def_written.specs.Points.{Point, node, along, inside, arc_point, use_point, use_over, offset_at, side_point}
-use Rattle.def_written.specs.Points.{point}
-use Rattle.def_written.specs.{NewFaces.dart_start, NewFaces.dart_end, Edges.Edge, Edges.on_arc, Edges.flat, Edges.steep}
+use Rattle.def_layout.specs.{Surfaces.IsSurface, Cells.CellDart, Cells.IsDart, Cells.dart}
+use Rattle.def_layout.specs.declared.tmesh.SideArc.{SideArc}
+use Rattle.def_written.specs.Points.{inside, arc_point, side_point, point, Point, node, along, use_point, use_over}
+use Rattle.def_written.specs.Edges.{Edge, on_arc, flat, steep, IsEdge, edge_start, edge_end}
+use Rattle.def_written.specs.{Points.offset_at, NewFaces.dart_start, NewFaces.dart_end}
+use Rattle.written_laws.proofs.Sides.{slot, arc_last, arc_inner, use_inner, side_in, reach_low, first_slot, last_slot}
+use Rattle.written_laws.proofs.Spokes.{IsOpen, spoke, tip_column, tip_row, one_way, tip, Joins, point_sort, Inner, hub}
+use Rattle.written_laws.proofs.Spokes.{tip_low, spoke_joins, hub_edge, loop_at}
+use Rattle.written_laws.proofs.Courses.{is_arc, course_of, border_course, course_once, across_ends}
+use Rattle.written_laws.proofs.{Sides.last_reach, Sides.place_on, Grid.point_north, Grid.point_west, Grid.point_east}
+use Rattle.written_laws.proofs.{Fans.alike_or_turned, Simple.IsSimple, Rims.before_after, Rims.no_turn}
+use Rattle.written_laws.proofs.{Borders.arc_sort, Manifold.ends_differ}
+use Rattle.std.specs.Prelude.{◌==◌}
 use Rattle.sum_laws.proofs.Counts.{count_below_times}
-use Rattle.written_laws.proofs.Sides.{slot, arc_last, use_inner, side_in, place_on, first_slot, reach_low}
-use Rattle.written_laws.proofs.Courses.{course_of, border_course, course_once, alike_or_turned}
-use Rattle.written_laws.proofs.{Grid.point_north, Grid.point_west, Grid.point_east, Simple.IsSimple}
-use Rattle.written_laws.proofs.{Manifold.ends_differ, Across.across_ends, Spokes.IsOpen, Opens.simple_open}
+
+module _ {l : Gluing} {x : Lengths} (laid : IsSurface l) (len : AreLengths l x) (open_l : IsOpen l x) where
+  side_two : (p : ℕ) (s : Way) → p < l.patches → 2 ≤ size l x p s
+  side_two p s p_low =
+      let first = first_slot l x laid.paved len p s p_low in
+      let le = reach_low l x (slot p s 0) first in
+      omega (arith, open_l.two (l.use_at p s 0).arc (laid.paved.arc_low (slot p s 0) first))
+
+  -- The points beside a corner of a patch differ.
+  beside_corner : (p : ℕ) (s : Way) (t : ℕ) → p < l.patches → t + 1 ≡ size l x p s
+      → side_point l x p s t ≢ side_point l x p (side_after s) 1
+  beside_corner p s t p_low e same =
+      let w = slot p s (l.many p s - 1) in
+      let v = slot p (side_after s) 0 in
+      let is_w = last_slot l x laid.paved len p s p_low in
+      let is_v = first_slot l x laid.paved len p (side_after s) p_low in
+      let w_two = open_l.two (use_of l w).arc (laid.paved.arc_low w is_w) in
+      let v_two = open_l.two (use_of l v).arc (laid.paved.arc_low v is_v) in
+      let place : t ≡ reach l x p s (l.many p s - 1) + (x (use_of l w).arc - 1) =
+      omega (arith, last_reach l x laid.paved len p s p_low, w_two) in
+      let w_point = side_in l x (x (use_of l w).arc - 1) is_w (omega (arith, w_two))
+      ∙ use_inner l x (use_of l w) (x (use_of l w).arc - 1) (omega (arith, w_two)) (omega (arith, w_two)) in
+      let v_point = side_in l x 1 is_v (omega (arith, v_two))
+      ∙ use_inner l x (use_of l v) 1 (omega arith) (omega (arith, v_two)) in
+      let arcs : (use_of l w).arc ≡ (use_of l v).arc =
+      let f = sym w_point ∙ ap (side_point l x p s) (sym place) ∙ same ∙ v_point in cc in
+      elim (alike_or_turned (use_of l w).forward (use_of l v).forward) [
+        | inl ways ↦ no_turn s (ap (λ (u : Slot). u.side)
+            (laid.once w v is_w is_v (λ r. record { arc = arcs r; forward = ways r })))
+        | inr ways ↦ laid.no_fold v is_v refl (rw (before_after s) (record { arc = sym arcs; turned = ways }))
+      ]
+
+  -- The tip l x of a spoke lies on this side of its patch.
+  abbrev Far : (p i j : ℕ) (w : Way) → Type 0
+  Far p i j east = i + 1 ≡ wide l x p
+  Far p i j north = j + 1 ≡ high l x p
+  Far p i j west = i ≡ 1
+  Far p i j south = j ≡ 1
+
+  inner : {p i j : ℕ} → p < l.patches → 0 < i → i < wide l x p → 0 < j → j < high l x p → Inner l x laid len p i j
+  inner low a_some a_low b_some b_low = (low, record { a_some = a_some; a_low = a_low; b_some = b_some; b_low = b_low })
+
+  tip_case : (p i j : ℕ) (w : Way) → Inner l x laid len p i j → Inner l x laid len p (tip_column i w) (tip_row j w)
+      ⊎ Far p i j w
+  tip_case p i j east (low, n) = elim (cases_eq (i + 1) (wide l x p)) [
+    | inl e ↦ inr e
+    | inr less ↦ inl (inner low (omega arith) (omega arith) n.b_some n.b_low)
+  ]
+  tip_case p i j north (low, n) = elim (cases_eq (j + 1) (high l x p)) [
+    | inl e ↦ inr e
+    | inr less ↦ inl (inner low n.a_some n.a_low (omega arith) (omega arith))
+  ]
+  tip_case p i j west (low, n) = elim (cases_eq i 1) [
+    | inl e ↦ inr e
+    | inr more ↦ inl (inner low (omega arith) (omega arith) n.b_some n.b_low)
+  ]
+  tip_case p i j south (low, n) = elim (cases_eq j 1) [
+    | inl e ↦ inr e
+    | inr more ↦ inl (inner low n.a_some n.a_low (omega arith) (omega arith))
+  ]
+
+  near_tips : (p i j : ℕ) (w v : Way) → Inner l x laid len p i j → Inner l x laid len p (tip_column i w) (tip_row j w)
+      → tip l x p i j w ≡ tip l x p i j v → w ≡ v
+  near_tips p i j w v n near same =
+      let e = point_sort l x laid len p _ _ p _ _ n.0 (tip_low l x laid len p i j v n).0
+      (tip_low l x laid len p i j v n).1 (cc (hub l x laid len p (tip_column i w) (tip_row j w) near)) in
+      one_way i j w v n.1.a_some n.1.b_some (sym e.1) (sym e.2)
+
+  far_after : (p i j : ℕ) (w : Way) → Inner l x laid len p i j → Far p i j w → Far p i j (side_after w)
+      → tip l x p i j w ≢ tip l x p i j (side_after w)
+  far_after p i j east (low, n) e f same =
+      let one : wide l x p - i ≡ 1 = omega arith in
+      beside_corner p east j low (omega (arith, len.upright p low))
+      (cc (point_east l x laid len p j low e (omega arith), point_north l x laid len p i low f))
+  far_after p i j north (low, n) e f same =
+      let first : i - 1 ≡ 0 = omega arith in
+      let one : high l x p - j ≡ 1 = omega arith in
+      beside_corner p north (wide l x p - i) low (omega (arith, n.a_low, len.across p low))
+      (cc (point_north l x laid len p i low e, point_west l x laid len p j low (omega arith)))
+  far_after p i j west (low, n) e f same =
+      let first : i - 1 ≡ 0 = omega arith in
+      let bottom : j - 1 ≡ 0 = omega arith in
+      beside_corner p west (high l x p - j) low (omega (arith, n.b_low))
+      (sym (point_west l x laid len p j low (omega (arith, n.b_low))) ∙ ap (λ k. point l x p k j) (sym first) ∙ same
+      ∙ ap (point l x p i) bottom ∙ ap (side_point l x p south) e)
+  far_after p i j south (low, n) e f same =
+      let bottom : j - 1 ≡ 0 = omega arith in
+      beside_corner p south i low f (ap (point l x p i) (sym bottom) ∙ same
+      ∙ point_east l x laid len p j low f (omega (arith, n.b_low)) ∙ ap (side_point l x p east) e)
+
+  east_west : (p i j : ℕ) → Inner l x laid len p i j → Far p i j east → Far p i j west
+      → tip l x p i j east ≢ tip l x p i j west
+  east_west p i j (low, n) e f same =
+      let first : i - 1 ≡ 0 = omega arith in
+      let two : i + 1 ≡ 2 = omega arith in
+      open_l.across p j low (omega arith) n.b_some n.b_low
+      (cc)
+
+  north_south : (p i j : ℕ) → Inner l x laid len p i j → Far p i j north → Far p i j south
+      → tip l x p i j north ≢ tip l x p i j south
+  north_south p i j (low, n) e f same =
+      let first : j - 1 ≡ 0 = omega arith in
+      let two : j + 1 ≡ 2 = omega arith in
+      open_l.upright p i low (omega arith) n.a_some n.a_low
+      (cc)
+
+  far_tips : (p i j : ℕ) (w v : Way) → Inner l x laid len p i j → Far p i j w → Far p i j v
+      → tip l x p i j w ≡ tip l x p i j v → w ≡ v
+  far_tips p i j east north n e f same = absurd (far_after p i j east n e f same)
+  far_tips p i j east west n e f same = absurd (east_west p i j n e f same)
+  far_tips p i j east south n e f same = absurd (far_after p i j south n f e (sym same))
+  far_tips p i j north east n e f same = absurd (far_after p i j east n f e (sym same))
+  far_tips p i j north west n e f same = absurd (far_after p i j north n e f same)
+  far_tips p i j north south n e f same = absurd (north_south p i j n e f same)
+  far_tips p i j west east n e f same = absurd (east_west p i j n f e (sym same))
+  far_tips p i j west north n e f same = absurd (far_after p i j north n f e (sym same))
+  far_tips p i j west south n e f same = absurd (far_after p i j west n e f same)
+  far_tips p i j south east n e f same = absurd (far_after p i j south n e f same)
+  far_tips p i j south north n e f same = absurd (north_south p i j n f e (sym same))
+  far_tips p i j south west n e f same = absurd (far_after p i j west n f e (sym same))
+  far_tips p i j _ _ n e f same = refl
+
+  tips_differ : (p i j : ℕ) (w v : Way) → Inner l x laid len p i j → tip l x p i j w ≡ tip l x p i j v → w ≡ v
+  tips_differ p i j w v n same = elim (tip_case p i j w n) [
+    | inl near ↦ near_tips p i j w v n near same
+    | inr far ↦ elim (tip_case p i j v n) [
+      | inl near ↦ sym (near_tips p i j v w n near (sym same))
+      | inr too ↦ far_tips p i j w v n far too same
+    ]
+  ]
+
+  -- An edge inside a patch is a spoke.
+  edge_spoke : (e : Edge) → IsEdge l x e → is_arc e ≡ false
+      → (p : ℕ) × (i : ℕ) × (j : ℕ) × (w : Way) × Inner l x laid len p i j × (e ≡ spoke p i j w)
+  edge_spoke (on_arc a k) is off = absurd cc
+  edge_spoke (flat p i j) (low, i_low, j_some, j_low) off = elim (cases_eq i 0) [
+    | inl z ↦
+        let n = inner low (omega arith) (omega (arith, side_two p south low)) j_some j_low in
+        (p, 1, j, west, n, ap (λ k. flat p k j) z)
+    | inr some ↦ (p, i, j, east, inner low (omega arith) i_low j_some j_low, refl)
+  ]
+  edge_spoke (steep p i j) (low, i_some, i_low, j_low) off = elim (cases_eq j 0) [
+    | inl z ↦
+        let n = inner low i_some i_low (omega arith) (omega (arith, side_two p west low)) in
+        (p, i, 1, south, n, ap (steep p i) z)
+    | inr some ↦ (p, i, j, north, inner low i_some i_low (omega arith) j_low, refl)
+  ]
+
+  -- The points on both sides of an inner point of an arc differ.
+  arc_tips : (a k : ℕ) → a < l.arcs → 0 < k → k < x a → arc_point l x a (k + 1) ≢ arc_point l x a (k - 1)
+  arc_tips a k a_low some less same = elim (cases_eq (k + 1) (x a)) [
+    | inl last ↦ elim (cases_eq k 1) [
+      | inl one ↦
+          let z : k - 1 ≡ 0 = omega arith in
+          let ends = sym (arc_last l x a (k + 1) last (omega arith)) ∙ same ∙ ap (arc_point l x a) z in
+          let s : l.first a ≡ l.last a = cc in
+          open_l.arcs_open a a_low (omega arith) s
+      | inr more ↦
+          let s = arc_sort l x a (k + 1) a (k - 1) (same ∙ arc_inner l x a (k - 1) (omega arith) (omega arith)) in
+          omega (arith, s.1)
+    ]
+    | inr inner ↦
+        let s = arc_sort l x a (k - 1) a (k + 1) (cc (same, arc_inner l x a (k + 1) (omega arith) (omega arith))) in
+        omega (arith, s.1)
+  ]
+
+  arcs_once : (a k b m : ℕ) → IsEdge l x (on_arc a k) → IsEdge l x (on_arc b m)
+      → Joins l x (on_arc a k) (arc_point l x b m) (arc_point l x b (m + 1)) → on_arc a k ≡ on_arc b m
+  arcs_once a k b m is_a is_b joins = elim (cases_eq m 0) [
+    | inl z ↦ at_first z joins
+    | inr some ↦ at_inner (omega arith) joins
+  ]
+    where
+      two : 2 ≤ x b
+      two = open_l.two b is_b.0
+
+      at_inner : 0 < m → Joins l x (on_arc a k) (arc_point l x b m) (arc_point l x b (m + 1)) → on_arc a k ≡ on_arc b m
+      at_inner some (inl s) =
+          let e : (a ≡ b) × (k ≡ m) = arc_sort l x a k b m (s.0 ∙ arc_inner l x b m some is_b.1) in
+          λ r. on_arc (e.0 r) (e.1 r)
+      at_inner some (inr s) =
+          let e : (a ≡ b) × (k + 1 ≡ m) = arc_sort l x a (k + 1) b m (s.1 ∙ arc_inner l x b m some is_b.1) in
+          let c : k ≡ m - 1 = omega (arith, e.1) in
+          absurd (arc_tips b m is_b.0 some is_b.1 (sym s.0 ∙ (λ r. arc_point l x (e.0 r) (c r))))
+
+      at_first : m ≡ 0 → Joins l x (on_arc a k) (arc_point l x b m) (arc_point l x b (m + 1)) → on_arc a k ≡ on_arc b m
+      at_first z (inl s) =
+          let e = arc_sort l x a (k + 1) b (m + 1) (s.1 ∙ arc_inner l x b (m + 1) (omega arith) (omega (arith, two))) in
+          let c : k ≡ m = omega (arith, e.1) in
+          λ r. on_arc (e.0 r) (c r)
+      at_first z (inr s) =
+          let e = arc_sort l x a k b (m + 1) (s.0 ∙ arc_inner l x b (m + 1) (omega arith) (omega (arith, two))) in
+          let c : k + 1 ≡ m + 1 + 1 = omega (arith, e.1) in
+          let d : m ≡ m + 1 - 1 = omega arith in
+          absurd (arc_tips b (m + 1) is_b.0 (omega arith) (omega (arith, two))
+          ((λ r. arc_point l x (sym e.0 r) (sym c r)) ∙ s.1 ∙ ap (arc_point l x b) d))
+
+  -- An edge with the ends of one inside a patch is that edge.
+  with_spoke : (g h : Edge) → IsEdge l x g → IsEdge l x h → is_arc h ≡ false
+      → Joins l x g (edge_start l x h) (edge_end l x h) → g ≡ h
+  with_spoke g h is_g is_h off both =
+      let (p, i, j, w, n, is) = edge_spoke h is_h off in
+      let on = rw is at both in
+      let joins = elim (spoke_joins l x laid len p i j w n) as (λ t. Joins l x g (inside p i j) (tip l x p i j w)) [
+        | inl s ↦ rw (s.0, s.1) at on
+        | inr s ↦ elim (rw (s.0, s.1) at on) [ inl t ↦ inr t | inr t ↦ inl t ]
+      ] in
+      let hub = hub_edge l x laid len g p i j _ is_g joins in
+      cc (tips_differ p i j w hub.0 n hub.2)
+
+  -- Edges with the same ends are one.
+  joins_once : (e f : Edge) → IsEdge l x e → IsEdge l x f → Joins l x e (edge_start l x f) (edge_end l x f) → e ≡ f
+  joins_once (on_arc a k) (on_arc b m) is_e is_f joins = arcs_once a k b m is_e is_f joins
+  joins_once e (flat p i j) is_e is_f joins = with_spoke e (flat p i j) is_e is_f refl joins
+  joins_once e (steep p i j) is_e is_f joins = with_spoke e (steep p i j) is_e is_f refl joins
+  joins_once e (on_arc b m) is_e is_f joins = sym (with_spoke (on_arc b m) e is_f is_e refl (elim joins [
+    | inl s ↦ inl (sym s.0, sym s.1)
+    | inr s ↦ inr (sym s.1, sym s.0)
+  ]))
+
+  no_loop : (e : Edge) → IsEdge l x e → edge_start l x e ≢ edge_end l x e
+  no_loop (on_arc a k) is same = elim (cases_eq k 0) [
+    | inl z ↦
+        let s =
+        arc_sort l x a k a (k + 1) (same ∙ arc_inner l x a (k + 1) (omega arith) (omega (arith, open_l.two a is.0))) in
+        omega (arith, s.1)
+    | inr some ↦
+        let s : (a ≡ a) × (k + 1 ≡ k) = arc_sort l x a _ a k (cc (arc_inner l x a k (omega arith) is.1)) in
+        omega arith
+  ]
+  no_loop e is same =
+      let s = edge_spoke e is refl in loop_at l x laid len e s.0 s.1 s.2 s.3 s.4 s.5 same
+
+  pub simple_open : IsSimple l x
+  simple_open = record {
+    same = λ e f is_e is_f s t. joins_once e f is_e is_f (inl (s, t));
+    crossed = λ e f is_e is_f s t. joins_once e f is_e is_f (inr (s, t));
+    no_loop = no_loop;
+  }
 
 -- The k-fold lengths.
 abbrev pub scale : (k : ℕ) (y : Lengths) → Lengths
@@ -38,6 +280,10 @@ double_same (inside p i j) (inside q k m) e =
     λ t. inside (patch t) (column t) (row t)
 double_same _ _ e = absurd cc
 
+-- Places at the ends of an arc are twice those at its ends.
+same_tests : (k n : ℕ) → ((2 * k == 0) ≡ (k == 0)) × ((2 * k == 2 * n) ≡ (k == n))
+same_tests k n = (grind (arith, nat_tests), grind (arith, nat_tests))
+
 -- The point in the middle of an edge of an arc, where the lengths are doubled.
 abbrev middle : (e : Edge) → Point
 middle (on_arc a k) = along a (2 * k + 1)
@@ -59,33 +305,21 @@ module _ (l : Gluing) (y : Lengths) where
   }
 
   arc_double : (a k : ℕ) → arc_point l (scale 2 y) a (2 * k) ≡ double (arc_point l y a k)
-  arc_double a k = elim (cases_eq k 0) [
-    | inl e ↦ cc (
-      cond-true (2 * k == 0) _ _ (eq-eqb (2 * k) 0 (omega arith)),
-      cond-true (k == 0) (node (l.first a)) (cond (k == y a) (node (l.last a)) (along a k)) (eq-eqb k 0 e),
-    )
-    | inr some ↦ cond-false (2 * k == 0) _ _ (ne_eqb (2 * k) 0 (λ z. some (omega arith))) ∙ elim (cases_eq k (y a)) [
-      | inl e ↦ cc (
-        cond-true (2 * k == 2 * y a) _ _ (eq-eqb (2 * k) (2 * y a) (ap (λ n. 2 * n) e)),
-        cond-true (k == y a) (node (l.last a)) (along a k) (eq-eqb k (y a) e),
-      )
-      | inr less ↦ cc (
-        cond-false (2 * k == 2 * y a) _ _ (ne_eqb (2 * k) (2 * y a) (λ z. less (omega (arith, z)))),
-        cond-false (k == y a) (node (l.last a)) (along a k) (ne_eqb k (y a) less),
-      )
-    ] ∙ ap double (sym (cond-false (k == 0) (node (l.first a)) (cond (k == y a) (node (l.last a)) (along a k))
-        (ne_eqb k 0 some)))
-  ]
+  arc_double a k = (λ t. cond ((same_tests k (y a)).0 t) (node (l.first a)) (cond ((same_tests k (y a)).1 t) (node
+      (l.last a)) (along a (2 * k)))) ∙ by_tests _ _
+    where
+      by_tests : (b c : Bool) → cond b (node (l.first a)) (cond c (node (l.last a)) (along a (2 * k)))
+          ≡ double (cond b (node (l.first a)) (cond c (node (l.last a)) (along a k)))
+      by_tests true c = refl
+      by_tests false true = refl
+      by_tests false false = refl
 
   use_double : (u : SideArc) (o : ℕ) → o ≤ y u.arc → use_point l (scale 2 y) u (2 * o) ≡ double (use_point l y u o)
-  use_double u o le = by_way u.arc u.forward le
-    where
-      by_way : (a : ℕ) (b : Bool) → o ≤ y a → use_point l (scale 2 y) (record { arc = a; forward = b }) (2 * o) ≡ double
-          (use_point l y (record { arc = a; forward = b }) o)
-      by_way a true low = arc_double a o
-      by_way a false low =
-          let e : 2 * y a - 2 * o ≡ 2 * (y a - o) = omega arith in
-          cc (arc_double a (y a - o))
+  use_double u o le = elim u.forward as (λ b. use_point l (scale 2 y) (record { arc = u.arc; forward = b }) (2 * o)
+      ≡ double (use_point l y (record { arc = u.arc; forward = b }) o)) [
+        | true ↦ arc_double u.arc o
+        | false ↦ let e : 2 * y u.arc - 2 * o ≡ 2 * (y u.arc - o) = omega arith in cc (arc_double u.arc (y u.arc - o))
+      ]
 
   side_double : (p : ℕ) (s : Way) (t : ℕ) → p < l.patches → t < size l y p s
       → side_point l (scale 2 y) p s (2 * t) ≡ double (side_point l y p s t)
@@ -118,13 +352,9 @@ module _ (l : Gluing) (y : Lengths) where
       by_way a false o inner = let e : 2 * y a - (2 * o + 1) ≡ 2 * (y a - 1 - o) + 1 = omega arith in
           ap (along a) e
 
-  middle_same : (p q : ℕ) (s r : Way) (t u : ℕ) → middle (border_course l y p s t).edge
-      ≡ middle (border_course l y q r u).edge → (border_course l y p s t).edge ≡ (border_course l y q r u).edge
-  middle_same p q s r t u e = by_arcs _ _ _ _ e
-    where
-      by_arcs : (a k b m : ℕ) → along a (2 * k + 1) ≡ along b (2 * m + 1) → on_arc a k ≡ on_arc b m
-      by_arcs a k b m s = let arc : a ≡ b = cc in let place : 2 * k + 1 ≡ 2 * m + 1 = cc in let same : k ≡ m =
-          omega arith in λ t. on_arc (arc t) (same t)
+  middle_same : (a k b m : ℕ) → along a (2 * k + 1) ≡ along b (2 * m + 1) → on_arc a k ≡ on_arc b m
+  middle_same a k b m s =
+      let place : 2 * k + 1 ≡ 2 * m + 1 = cc in let same : k ≡ m = omega arith in cc
 
   module _ (laid : IsSurface l) (len : AreLengths l y) (simple : IsSimple l y) where
     z_len : AreLengths l (scale 2 y)
@@ -136,8 +366,8 @@ module _ (l : Gluing) (y : Lengths) where
     no_shared_edge {d} {e} is_d is_e apart ends edges =
         elim (alike_or_turned _ _) [
           | inl ways ↦ apart (course_once l y laid len is_d is_e (λ t. record { edge = sym edges t; ahead = ways t }))
-          | inr ways ↦ ends
-              (across_ends laid len {e = e} is_d (record { is_dart = is_e; edge = edges; turned = ways })).0
+          | inr ways ↦ ends (across_ends laid len {e = e} is_d
+              (record { is_dart = is_e; course = λ t. record { edge = edges t; ahead = ways t } })).0
         ]
 
     -- Where opposite sides meet at a point, they meet at a point or run along one edge at half of the lengths.
@@ -159,7 +389,7 @@ module _ (l : Gluing) (y : Lengths) where
           let rest : m - t ≡ 2 * (n - 1 - t / 2) + 1 = omega arith in
           inr (
             omega arith,
-            middle_same p p s r _ _
+            middle_same _ _ _ _
                 (cc (side_odd p s (t / 2) low (omega arith), side_odd p r (n - 1 - t / 2) low (omega arith))),
           )
     ]
@@ -175,8 +405,7 @@ module _ (l : Gluing) (y : Lengths) where
         ∙ point_west l _ laid z_len p j low (omega arith) in
         elim (opposite p east west j _ _ low (len.upright p low) refl rows some less
         sides) [
-          | inl (e, points) ↦
-              simple.no_loop (flat p 0 (j / 2)) (low, omega arith, omega arith, omega arith)
+          | inl (e, points) ↦ simple.no_loop (flat p 0 (j / 2)) (low, omega arith, omega arith, omega arith)
               (cc (
                 point_west l y laid len p (j / 2) low (omega (arith, rows)),
                 point_east l y laid len p (j / 2) low (sym one) (omega (arith, rows)),
@@ -207,17 +436,14 @@ module _ (l : Gluing) (y : Lengths) where
               (eq-eqb 1 (high l y p) (sym one))))
         ]
 
-    twice_open : IsOpen l (scale 2 y)
-    twice_open = record {
+    simple_twice : IsSimple l (scale 2 y)
+    simple_twice = simple_open laid z_len (record {
       two = λ a low. omega (arith, len.some a low);
       arcs_open = λ a low e s. let one : 1 ≡ y a = omega arith in
           simple.no_loop (on_arc a 0) (low, omega arith) (cc (arc_last l y a 1 one (omega arith)));
       across = across_open;
       upright = upright_open;
-    }
-
-    pub simple_twice : IsSimple l (scale 2 y)
-    simple_twice = simple_open laid z_len twice_open
+    })
 
 module _ {l : Gluing} {x : Lengths} (laid : IsSurface l) (len : AreLengths l x) where
   -- Lengths of at least 3 double no edge.

@@ -15,11 +15,8 @@ module _ (l : Gluing) (x : Lengths) (laid : IsSurface l) (len : AreLengths l x) 
   edge_dart (on_arc a k) is =
       let f = laid.forward a is.0 in
       let long : x (use_of l f.0).arc ≡ x a = ap (λ (u : SideArc). x u.arc) f.2 in
-      let less : k < x (use_of l f.0).arc = omega arith in (
-        slot_dart l x f.0 k,
-        at_is l x laid.paved len f.0 k f.1 less,
-        cc (at_course l x laid len f.0 k f.1 less),
-      )
+      let less : k < x (use_of l f.0).arc = omega arith in
+      (slot_dart l x f.0 k, at_is l x laid.paved len f.0 k f.1 less, cc (at_course l x laid len f.0 k f.1 less))
   edge_dart (flat p i j) is = (
     dart p i j south,
     record { patch_low = is.0; i_low = is.1; j_low = is.3 },
@@ -33,16 +30,13 @@ module _ (l : Gluing) (x : Lengths) (laid : IsSurface l) (len : AreLengths l x) 
 
   -- The ends of an edge are points.
   pub edge_points : (e : Edge) → IsEdge l x e → IsPoint l x (edge_start l x e) × IsPoint l x (edge_end l x e)
-  edge_points e is = by_dart (edge_dart e is)
+  edge_points e is =
+      let (d, is_d, same) = edge_dart e is in
+      subst (λ (f : Edge). IsPoint l x (edge_start l x f) × IsPoint l x (edge_end l x f)) same
+      (by_way (course_of l x d).edge (course_of l x d).ahead
+      (subst (IsPoint l x) (course_from l x laid len d is_d) (from_is l x laid len d is_d))
+      (subst (IsPoint l x) (course_to l x laid len d is_d) (from_is l x laid len (next d) (next_is l x d is_d))))
     where
-      by_dart : (d : CellDart) × IsDart l x d × ((course_of l x d).edge ≡ e) → IsPoint l x (edge_start l x e)
-          × IsPoint l x (edge_end l x e)
-      by_dart f = by_way (course_of l x f.0).ahead (subst (IsPoint l x) (course_from l x laid len f.0 f.1
-          ∙ ap (λ (g : Edge). start_at l x (course g (course_of l x f.0).ahead)) f.2) (from_is l x laid len f.0 f.1))
-          (subst (IsPoint l x)
-          (course_to l x laid len f.0 f.1 ∙ ap (λ (g : Edge). end_at l x (course g (course_of l x f.0).ahead)) f.2)
-          (from_is l x laid len (next f.0) (next_is l x f.0 f.1)))
-        where
-          by_way : (b : Bool) → IsPoint l x (start_at l x (course e b)) → IsPoint l x (end_at l x (course e b))
-              → IsPoint l x (edge_start l x e) × IsPoint l x (edge_end l x e)
-          by_way = elim [ true ↦ λ s t. (s, t) | false ↦ λ s t. (t, s) ]
+      by_way : (f : Edge) (b : Bool) → IsPoint l x (start_at l x (course f b)) → IsPoint l x (end_at l x (course f b))
+          → IsPoint l x (edge_start l x f) × IsPoint l x (edge_end l x f)
+      by_way f = elim [ true ↦ λ s t. (s, t) | false ↦ λ s t. (t, s) ]

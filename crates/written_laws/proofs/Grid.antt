@@ -17,9 +17,9 @@ module _ (l : Gluing) (x : Lengths) (paved : HasWholeSides l) (len : AreLengths 
 module _ (l : Gluing) (x : Lengths) (laid : IsSurface l) (len : AreLengths l x) where
   pub point_north : (p i : ℕ) {j : ℕ} → p < l.patches → j ≡ high l x p
       → point l x p i j ≡ side_point l x p north (wide l x p - i)
-  point_north p i {j} low e = cond-false (j == 0) _ _
-      (ne_eqb j 0 (λ z. omega (arith, high_some l x laid.paved len p low)))
-      ∙ cond-true (j == high l x p) _ _ (eq-eqb j (high l x p) e)
+  point_north p i {j} low e =
+      let some = high_some l x laid.paved len p low in
+      cond-false (j == 0) _ _ (ne_eqb j 0 (λ z. omega arith)) ∙ cond-true (j == high l x p) _ _ (eq-eqb j _ e)
 
   pub point_west : (p j : ℕ) → p < l.patches → j ≤ high l x p → point l x p 0 j ≡ side_point l x p west (high l x p - j)
   point_west p j low le = elim (cases_eq j 0) [

@@ -1,106 +1,106 @@
--- Where no edge is doubled, the new faces are a manifold.
-use Rattle.std.proofs.Common.{◌≡◌, ◌≢◌, ◌⊎◌, ℕ, zero, suc, ◌+◌, ◌-◌, ◌<◌, not, refl, sym, ◌∙◌, ap, subst, inl, inr}
-use Rattle.std.proofs.{Common.arith, lemmas.Bool.false≢true}
-use Rattle.def_mesh.specs.Manifold.{IsManifold, IsRepeatFree, HasEdgesOnce}
-use Rattle.def_mesh.specs.{Faces.corner, Darts.from_of, Darts.to_of}
-use Rattle.def_layout.specs.Gluings.{Way, south, east, north, west, side_after, side_before, Gluing, Slot, use_of}
-use Rattle.def_layout.specs.{Gluings.slot_before, Surfaces.IsSurface, Fans.HasFans, Lengths.Lengths, Lengths.reach}
-use Rattle.def_layout.specs.{Lengths.size, Lengths.AreLengths, Cells.CellDart, Cells.IsDart, Cells.next}
-use Rattle.def_layout.specs.Cells.{dart_along, slot_dart}
+-- Where no edge is doubled, the new faces are a manifold, in which twins run the other way along an edge.
+use Rattle.std.proofs.Common.{ℕ, zero, suc, refl, sym, ◌∙◌, ap, subst, inl, inr, ◌≡◌, ◌≢◌, ◌<◌, Some, None, arith}
+use Rattle.def_mesh.specs.Manifold.{Chain, HasOneFan, IsManifold, IsRepeatFree, HasEdgesOnce}
+use Rattle.def_mesh.specs.{Darts.from_of, Darts.twin_of, Darts.IsTwin, Faces.corner}
+use Rattle.def_layout.specs.Gluings.{Gluing, Way, south, east, north, west, side_after, Slot}
+use Rattle.def_layout.specs.Cells.{CellDart, IsDart, prev, slot_dart, next}
+use Rattle.def_layout.specs.{Surfaces.IsSurface, Fans.HasFans, Lengths.Lengths, Lengths.AreLengths}
+use Rattle.def_written.specs.NewFaces.{dart_start, new_faces, dart_end, face_count, dart_of, cell_vertex}
 use Rattle.def_written.specs.Numbers.{vertex_number}
-use Rattle.def_written.specs.NewFaces.{dart_start, dart_end, face_count, dart_of, cell_vertex, new_faces}
-use Rattle.written_laws.proofs.NewDarts.{turn, way_of, turn_way, dart_number, corner_is, cell_is, number_from}
-use Rattle.written_laws.proofs.NewDarts.{number_to, next_is, at_number, faces_long}
-use Rattle.written_laws.proofs.Courses.{Course, is_arc, inner_course, course_of, IsWithin, IsOnBorder, sees, border_is}
-use Rattle.written_laws.proofs.Courses.{course_is, course_from, course_to, inner_no_arc, course_once}
+use Rattle.mesh_laws.proofs.{Chains.meet_from, Chains.chain_join, Chains.chain_back, Twins.twin_found, Twins.twin_none}
+use Rattle.written_laws.proofs.Courses.{across_ends, across_within, across_border, IsAlone, alone_not_across}
+use Rattle.written_laws.proofs.NewDarts.{dart_number, dart_low, number_from, number_to, prev_number, prev_is, next_is}
+use Rattle.written_laws.proofs.NewDarts.{at_number, turn, way_of, turn_way, corner_is, cell_is, faces_long}
+use Rattle.written_laws.proofs.Courses.{IsAcross, Course, against, course_of, course_is, course_from, course_to}
+use Rattle.written_laws.proofs.Courses.{course_once, against_twice, not_on_arc, within_course, border_is}
 use Rattle.written_laws.proofs.Simple.{IsSimple, one_course, reversed, ends_apart}
-use Rattle.written_laws.proofs.{Sides.slot, Sides.first_is, Sides.last_is, Rims.corner_cell, Rims.rim_way}
-use Rattle.written_laws.proofs.{Rims.rim_patch, Numbers.number_same, Borders.from_is, Borders.at_low, OneFan.one_fan}
+use Rattle.written_laws.proofs.{Borders.at_is, Borders.from_is, Borders.sees, Rims.prev_next, Rims.next_prev}
+use Rattle.written_laws.proofs.{Rims.inner_edge, Numbers.number_same, Fans.IsTurning, Fans.at_nodes, Fans.point_related}
+use Rattle.written_laws.proofs.Spots.{corner_slots}
+
+module _ (l : Gluing) (x : Lengths) (laid : IsSurface l) (len : AreLengths l x) where
+  -- A chain of new darts leads from d to e.
+  abbrev AreJoined : (d e : CellDart) → Type 0
+  AreJoined d e = (n : ℕ) × Chain (new_faces l x) (dart_number l x d) (dart_number l x e) n
+
+  -- One edge belongs to the corners of a dart and of the one over the dart before it.
+  join : {d e : CellDart} → IsDart l x d → IsAcross l x laid len (prev d) e → AreJoined d e
+  join {d} {e} is a =
+      let ends = across_ends laid len (prev_is l x d is) a in
+      let before = ap (from_of (new_faces l x)) (prev_number l x d) ∙ number_from l x (prev d) (prev_is l x d is) in (
+        suc zero,
+        (
+          dart_number l x d,
+          refl,
+          dart_low l x e a.is_dart,
+          number_from l x d is ∙ ap (vertex_number l x) (ap (dart_start l x) (sym (next_prev d)) ∙ sym ends.0)
+              ∙ sym (number_from l x e a.is_dart),
+          meet_from _ _ _ _ (inr (inl (number_to l x e a.is_dart ∙ ap (vertex_number l x) ends.1 ∙ sym before))),
+        ),
+      )
+
+  joins : IsTurning l x AreJoined
+  joins = record {
+    self = λ d e same. (zero, ap (dart_number l x) same);
+    on = λ d c e a b. chain_join _ _ _ _ a.0 b.0 a.1 b.1;
+    back = λ d e is a. chain_back _ _ _ a.0 (dart_low l x d is) a.1;
+    inner = λ d is i. join is (across_within laid len (prev d) i);
+    over = λ w v o is other less. join (next_is l x (slot_dart l x w o) (at_is l x laid.paved len w o is less))
+        (rw (prev_next (slot_dart l x w o)) (across_border laid len w v o is other less));
+  }
+
+  pub one_fan : HasFans l → (v : ℕ) → HasOneFan (new_faces l x) v
+  one_fan fans v d e d_low e_low d_from e_from =
+      let a = at_number l x laid len d d_low in
+      let b = at_number l x laid len e e_low in
+      let same = sym (number_from l x a.0 a.1) ∙ ap (from_of (new_faces l x)) a.2 ∙ d_from ∙ sym e_from
+      ∙ ap (from_of (new_faces l x)) (sym b.2) ∙ number_from l x b.0 b.1 in
+      let joined = point_related laid len joins (at_nodes laid len joins fans) a.0 b.0 a.1 b.1
+      (number_same l x _ _ (from_is l x laid len a.0 a.1) (from_is l x laid len b.0 b.1) same) in (
+        joined.0,
+        subst (λ (k : ℕ). Chain (new_faces l x) k e joined.0) a.2
+            (subst (λ (k : ℕ). Chain (new_faces l x) (dart_number l x a.0) k joined.0) b.2 joined.1),
+      )
 
 -- Darts that follow each other round a cell inside a patch run along different edges.
-flat_or_steep : (p i j : ℕ) (w : Way) → (inner_course p i j (side_after w)).edge ≢ (inner_course p i j w).edge
+flat_or_steep : (p i j : ℕ) (w : Way) → inner_edge p i j (side_after w) ≢ inner_edge p i j w
 flat_or_steep p i j south e = cc
 flat_or_steep p i j _ e = cc
 
-pub before_after : (w : Way) → side_before (side_after w) ≡ w
-before_after = elim [ south ↦ refl | east ↦ refl | north ↦ refl | west ↦ refl ]
-
 module _ {l : Gluing} {x : Lengths} (laid : IsSurface l) (len : AreLengths l x) where
-  -- Two border darts in a row lie on the last arc of a side and the first of the next one.
-  corner_slots : (d : CellDart) (w v : Slot) (o k : ℕ) → IsOnBorder l x d w o → IsOnBorder l x (next d) v k
-      → (v.at ≡ 0) × (slot_before l v.patch v.side v.at ≡ w)
-  corner_slots d w v o k at_w at_v =
-      let patches : v.patch ≡ w.patch = cc (
-        rim_patch laid.paved len v.patch v.side (reach l x v.patch v.side v.at + k),
-        rim_patch laid.paved len w.patch w.side (reach l x w.patch w.side w.at + o),
-      ) in
-      let sides : v.side ≡ side_after w.side = cc (
-        rim_way laid.paved len v.patch v.side (reach l x v.patch v.side v.at + k),
-        rim_way laid.paved len w.patch w.side (reach l x w.patch w.side w.at + o),
-      ) in
-      let same_rim : slot_dart l x v k ≡ dart_along l x w.patch (side_after w.side) (reach l x v.patch v.side v.at + k)
-      = λ r. dart_along l x (patches r) (sides r) (reach l x v.patch v.side v.at + k) in
-      let columns : (slot_dart l x w o).i
-      ≡ (dart_along l x w.patch (side_after w.side) (reach l x v.patch v.side v.at + k)).i = cc in
-      let rows : (slot_dart l x w o).j
-      ≡ (dart_along l x w.patch (side_after w.side) (reach l x v.patch v.side v.at + k)).j = cc in
-      let v_less : reach l x v.patch v.side v.at + k
-      < size l x w.patch (side_after w.side) = subst (λ (n : ℕ). reach l x v.patch v.side v.at + k < n)
-      (λ r. size l x (patches r) (sides r)) (at_low l x laid.paved len k at_v.is_slot at_v.low) in
-      let both = corner_cell laid.paved len _ _ _ _ at_w.is_slot.patch_low
-      (at_low l x laid.paved len o at_w.is_slot at_w.low) v_less columns rows in
-      let v_first : v.at ≡ 0 = first_is l x laid.paved len v at_v.is_slot (omega arith) in
-      let w_last : w.at ≡ l.many w.patch w.side - 1 = last_is l x laid.paved len w at_w.is_slot (omega arith) in
-      let by_paths : slot_before l v.patch v.side v.at ≡ w = (λ r. slot_before l (patches r) (sides r) (v_first r))
-      ∙ (λ r. slot w.patch (before_after w.side r) (l.many w.patch (before_after w.side r) - 1))
-      ∙ (λ r. slot w.patch w.side (sym w_last r)) in
-      (v_first, by_paths)
-
   module _ (simple : IsSimple l x) where
     pub ends_differ : {d : CellDart} → IsDart l x d → dart_start l x d ≢ dart_end l x d
     ends_differ {d} is same = ends_apart simple (course_of l x d) (course_is l x laid len is)
         (sym (course_from l x laid len d is) ∙ same ∙ course_to l x laid len d is)
 
     pub opposite_differ : {d : CellDart} → IsDart l x d → dart_start l x d ≢ dart_end l x (next d)
-    opposite_differ {d} is same = by_sight (sees l x laid len is) (sees l x laid len is_next)
-      where
-        is_next : IsDart l x (next d)
-        is_next = next_is l x d is
-
-        turned : ((course_of l x (next d)).edge ≡ (course_of l x d).edge)
-            × ((course_of l x (next d)).ahead ≡ not (course_of l x d).ahead)
-        turned = reversed simple (course_of l x d) (course_of l x (next d)) (course_is l x laid len is) (course_is l x
-            laid len is_next) (sym (course_from l x laid len (next d) is_next) ∙ course_to l x laid len d is)
-            (sym (course_to l x laid len (next d) is_next) ∙ sym same ∙ course_from l x laid len d is)
-
-        by_corner : (w v : Slot) (o k : ℕ) → IsOnBorder l x d w o → IsOnBorder l x (next d) v k → ⊥
-        by_corner w v o k at_w at_v =
-            let c : (v.at ≡ 0) × (slot_before l v.patch v.side v.at ≡ w) = corner_slots d w v o k at_w at_v in
-            let e = ap (λ (g : Course). g.edge) (sym (border_is l x laid len at_v)) ∙ turned.0
-            ∙ ap (λ (g : Course). g.edge) (border_is l x laid len at_w) in
-            let arcs : (use_of l v).arc ≡ (use_of l w).arc = cc in
-            let ways = ap (λ (g : Course). g.ahead) (sym (border_is l x laid len at_v)) ∙ turned.1
-            ∙ ap (λ (g : Course). not g.ahead) (border_is l x laid len at_w) in
-            laid.no_fold v at_v.is_slot c.0
-            (rw c.1 (record { arc = arcs; turned = ways }))
-
-        by_sight : IsWithin l x d ⊎ ((w : Slot) × (o : ℕ) × IsOnBorder l x d w o)
-            → IsWithin l x (next d) ⊎ ((w : Slot) × (o : ℕ) × IsOnBorder l x (next d) w o) → ⊥
-        by_sight (inl i) (inl j) = flat_or_steep d.patch d.i d.j d.way
-            (ap (λ (g : Course). g.edge) (sym j.course) ∙ turned.0 ∙ ap (λ (g : Course). g.edge) i.course)
-        by_sight (inl i) (inr b) = false≢true (sym (inner_no_arc l x laid len d.patch d.i d.j d.way)
-            ∙ ap (λ (g : Course). is_arc g.edge) (sym i.course) ∙ ap is_arc (sym turned.0)
-            ∙ ap (λ (g : Course). is_arc g.edge) (border_is l x laid len b.2))
-        by_sight (inr a) (inl j) = false≢true (sym (inner_no_arc l x laid len d.patch d.i d.j (side_after d.way))
-            ∙ ap (λ (g : Course). is_arc g.edge) (sym j.course) ∙ ap is_arc turned.0
-            ∙ ap (λ (g : Course). is_arc g.edge) (border_is l x laid len a.2))
-        by_sight (inr a) (inr b) = by_corner a.0 b.0 a.1 b.1 a.2 b.2
-
-    -- Points apart have numbers apart.
-    numbers_differ : {d e : CellDart} → IsDart l x d → IsDart l x e → dart_start l x d ≢ dart_start l x e
-        → vertex_number l x (dart_start l x d) ≢ vertex_number l x (dart_start l x e)
-    numbers_differ {d} {e} is_d is_e apart same = apart (number_same l x (dart_start l x d) (dart_start l x e)
-        (from_is l x laid len d is_d) (from_is l x laid len e is_e) same)
+    opposite_differ {d} is same =
+        let is_next = next_is l x d is in
+        let turned = reversed simple (course_of l x d) (course_of l x (next d)) (course_is l x laid len is)
+        (course_is l x laid len is_next) (sym (course_from l x laid len (next d) is_next) ∙ course_to l x laid len d is)
+        (sym (course_to l x laid len (next d) is_next) ∙ sym same ∙ course_from l x laid len d is) in
+        elim (sees l x laid.paved len is) [
+          | inl i ↦
+              let here = within_course l x d.patch d.i d.j d.way i in
+              elim (sees l x laid.paved len is_next) [
+                | inl j ↦ flat_or_steep d.patch d.i d.j d.way (ap (λ (g : Course). g.edge)
+                    (sym (within_course l x d.patch d.i d.j (side_after d.way) j) ∙ turned ∙ ap against here))
+                | inr (v, k, b) ↦ not_on_arc d.patch d.i d.j d.way (sym here
+                    ∙ sym (ap against turned ∙ against_twice (course_of l x d)) ∙ ap against (border_is l x laid len b))
+              ]
+          | inr (w, o, a) ↦
+              let here = border_is l x laid len a in
+              elim (sees l x laid.paved len is_next) [
+                | inl j ↦ not_on_arc d.patch d.i d.j (side_after d.way)
+                    (sym (within_course l x d.patch d.i d.j (side_after d.way) j) ∙ turned ∙ ap against here)
+                | inr (v, k, b) ↦
+                    let c = corner_slots laid.paved len d a b in
+                    let there = sym (border_is l x laid len b) ∙ turned ∙ ap against here in
+                    let arcs = ap (λ (g : Course). g.edge) there in
+                    laid.no_fold v b.is_slot c.0
+                    (rw c.1 (record { arc = cc; turned = ap (λ (g : Course). g.ahead) there }))
+              ]
+        ]
 
     corners_differ : (f : ℕ) → f < face_count l x → (i j : ℕ) → i < j → j < 4
         → cell_vertex l x f (way_of i) ≢ cell_vertex l x f (way_of j)
@@ -111,7 +111,8 @@ module _ {l : Gluing} {x : Lengths} (laid : IsSurface l) (len : AreLengths l x) 
 
         side : (w v : Way) → dart_start l x (dart_of l x f w) ≢ dart_start l x (dart_of l x f v)
             → cell_vertex l x f w ≢ cell_vertex l x f v
-        side w v apart = numbers_differ (is w) (is v) apart
+        side w v apart same = apart
+            (number_same l x _ _ (from_is l x laid len _ (is w)) (from_is l x laid len _ (is v)) same)
 
         at : (i j : ℕ) → i < j → j < 4 → cell_vertex l x f (way_of i) ≢ cell_vertex l x f (way_of j)
         at zero (suc zero) less four = side south east (ends_differ (is south))
@@ -131,20 +132,46 @@ module _ {l : Gluing} {x : Lengths} (laid : IsSurface l) (len : AreLengths l x) 
         (sym (corner_is l x f (way_of i) f_low) ∙ ap (corner (new_faces l x) f) i_is ∙ same
         ∙ ap (corner (new_faces l x) f) (sym j_is) ∙ corner_is l x f (way_of j) f_low)
 
+    -- Darts with the same ends are one, and those with exchanged ends lie over each other.
+    starts_same : {d e : CellDart} → IsDart l x d → IsDart l x e → vertex_number l x (dart_start l x d)
+        ≡ vertex_number l x (dart_start l x e) → dart_start l x d ≡ dart_start l x e
+    starts_same {d} {e} is_d is_e = number_same l x _ _ (from_is l x laid len d is_d) (from_is l x laid len e is_e)
+
     pub edges_once : HasEdgesOnce (new_faces l x)
     edges_once d e d_low e_low same =
-        let a = at_number l x laid len d d_low in
-        let b = at_number l x laid len e e_low in
-        let starts = number_same l x (dart_start l x a.0) (dart_start l x b.0) (from_is l x laid len a.0 a.1)
-        (from_is l x laid len b.0 b.1) (sym (number_from l x a.0 a.1) ∙ ap (from_of (new_faces l x)) a.2 ∙ same.0
-        ∙ ap (from_of (new_faces l x)) (sym b.2) ∙ number_from l x b.0 b.1) in
-        let ends = number_same l x (dart_end l x a.0) (dart_end l x b.0) (from_is l x laid len (next a.0)
-        (next_is l x a.0 a.1)) (from_is l x laid len (next b.0) (next_is l x b.0 b.1)) (sym (number_to l x a.0 a.1)
-        ∙ ap (to_of (new_faces l x)) a.2 ∙ same.1 ∙ ap (to_of (new_faces l x)) (sym b.2) ∙ number_to l x b.0 b.1) in
-        let one = one_course simple (course_of l x a.0) (course_of l x b.0) (course_is l x laid len a.1) (course_is l x
-        laid len b.1) (sym (course_from l x laid len a.0 a.1) ∙ starts ∙ course_from l x laid len b.0 b.1)
-        (sym (course_to l x laid len a.0 a.1) ∙ ends ∙ course_to l x laid len b.0 b.1) in
-        sym a.2 ∙ ap (dart_number l x) (course_once l x laid len a.1 b.1 one) ∙ b.2
+        let (a, is_a, a_is) = at_number l x laid len d d_low in
+        let (b, is_b, b_is) = at_number l x laid len e e_low in
+        let starts = starts_same is_a is_b (cc (same.0, number_from l x a is_a, number_from l x b is_b)) in
+        let ends = starts_same (next_is l x a is_a) (next_is l x b is_b)
+        (cc (same.1, number_to l x a is_a, number_to l x b is_b)) in
+        let one = one_course simple (course_of l x a) (course_of l x b) (course_is l x laid len is_a)
+        (course_is l x laid len is_b) (cc (course_from l x laid len a is_a, course_from l x laid len b is_b))
+        (cc (course_to l x laid len a is_a, course_to l x laid len b is_b)) in
+        cc (course_once l x laid len is_a is_b one)
+
+    across_is_twin : (d e : CellDart) → IsDart l x d → IsAcross l x laid len d e
+        → IsTwin (new_faces l x) (dart_number l x d) (dart_number l x e)
+    across_is_twin d e is a =
+        let ends = across_ends laid len is a in (
+          dart_low l x e a.is_dart,
+          cc (number_from l x e a.is_dart, number_to l x d is),
+          cc (number_to l x e a.is_dart, number_from l x d is),
+        )
+
+    pub across_twin : (d e : CellDart) → IsDart l x d → IsAcross l x laid len d e
+        → twin_of (new_faces l x) (dart_number l x d) ≡ Some (dart_number l x e)
+    across_twin d e is a = twin_found _ edges_once _ _ (across_is_twin d e is a)
+
+    pub alone_no_twin : (d : CellDart) (w : Slot) (o : ℕ) → IsDart l x d → IsAlone laid len d w o
+        → twin_of (new_faces l x) (dart_number l x d) ≡ None
+    alone_no_twin d w o is alone = twin_none _ _ (λ n t.
+        let (e, is_e, e_is) = at_number l x laid len n t.0 in
+        let starts = starts_same is_e (next_is l x d is) (cc (t.1, number_from l x e is_e, number_to l x d is)) in
+        let ends = starts_same (next_is l x e is_e) is (cc (t.2, number_to l x e is_e, number_from l x d is)) in
+        let r = reversed simple (course_of l x d) (course_of l x e) (course_is l x laid len is)
+        (course_is l x laid len is_e) (cc (course_from l x laid len e is_e, course_to l x laid len d is))
+        (cc (course_to l x laid len e is_e, course_from l x laid len d is)) in
+        alone_not_across laid len e alone (record { is_dart = is_e; course = r }))
 
     pub manifold : HasFans l → IsManifold (new_faces l x)
     manifold fans = record { repeat_free = repeat_free; edges_once = edges_once; one_fan = one_fan l x laid len fans }

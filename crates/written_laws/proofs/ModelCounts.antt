@@ -1,6 +1,6 @@
 -- How many vertices, edges and faces a model has, and Euler's number.
-use Rattle.std.proofs.Common.{◌≡◌, ◌≢◌, ℕ, zero, suc, ◌+◌, ◌-◌, ◌*◌, ◌<◌, Bool, true, false, not, length, Option, Some}
-use Rattle.std.proofs.Common.{pos, ◌+ℤ◌, ◌-ℤ◌, refl, sym, ap, inl, inr, arith}
+use Rattle.std.proofs.Common.{◌≡◌, ℕ, zero, suc, ◌+◌, ◌-◌, ◌*◌, ◌<◌, true, length, Option, Some}
+use Rattle.std.proofs.Common.{pos, ◌+ℤ◌, ◌-ℤ◌, refl, sym, ◌∙◌, ap, inl, inr, arith}
 use Rattle.std.proofs.{lemmas.Int.ints, lemmas.Bool.cases_order, lemmas.Bool.ltb-true, lemmas.Bool.lt-ltb}
 use Rattle.def_math.specs.Counts.{count_below}
 use Rattle.def_mesh.specs.Darts.{darts, from_of, twin_of}
@@ -10,14 +10,15 @@ use Rattle.def_layout.specs.Lengths.{Lengths, wide, high, AreLengths}
 use Rattle.def_layout.specs.{Gluings.Gluing, Surfaces.IsSurface, Cells.CellDart, Cells.IsDart}
 use Rattle.def_written.specs.{Numbers.vertex_number, Numbers.vertices, NewFaces.dart_start, NewFaces.face_count}
 use Rattle.def_written.specs.Edges.{Edge, IsEdge}
-use Rattle.written_laws.proofs.Tallies.{AreNumbers, numbers_le, passing_all, filter_long}
+use Rattle.written_laws.proofs.Tallies.{AreNumbers, numbers_le, passing_all, count_is}
 use Rattle.written_laws.proofs.NewDarts.{dart_number, dart_low, dart_same, at_number, faces_long}
-use Rattle.written_laws.proofs.Courses.{course, course_of, alike_or_turned, course_is, course_once, IsAcross}
+use Rattle.written_laws.proofs.Courses.{Course, course, course_of, against, against_twice, course_is, course_once}
+use Rattle.written_laws.proofs.{Courses.IsAcross, Fans.alike_or_turned, Fans.not_self}
 use Rattle.written_laws.proofs.EdgeNumbers.{flats, steeps, edge_number, edge_total, edge_low, edge_same, edge_onto}
 use Rattle.written_laws.proofs.EdgeNumbers.{point_onto}
 use Rattle.written_laws.proofs.Models.{IsModel, used_dart, dart_used, point_dart}
 use Rattle.written_laws.proofs.{Numbers.number_low, Numbers.number_same, Grid.wide_some, Grid.high_some}
-use Rattle.written_laws.proofs.{Borders.from_is, Across.across_or_alone, Across.alone_not_across, EdgeDarts.edge_dart}
+use Rattle.written_laws.proofs.{Borders.from_is, Courses.across_or_alone, Courses.alone_not_across, EdgeDarts.edge_dart}
 use Rattle.mesh_laws.proofs.Vertices.{all_below}
 
 -- Counts whose terms have equal sums, but for one.
@@ -31,13 +32,10 @@ module _ (l : Gluing) (x : Lengths) (laid : IsSurface l) (len : AreLengths l x) 
   -- The dart across is across the other way round, and not the dart itself.
   across_back : (d e : CellDart) → IsDart l x d → IsAcross l x laid len d e → IsAcross l x laid len e d
   across_back d e is a =
-      let by_way : (b c : Bool) → c ≡ not b → b ≡ not c =
-      elim [ true ↦ λ c s. ap not (sym s) | false ↦ λ c s. ap not (sym s) ] in
-      record { is_dart = is; edge = sym a.edge; turned = by_way _ _ a.turned }
+      record { is_dart = is; course = sym (ap against a.course ∙ against_twice (course_of l x d)) }
 
   no_self : (d : CellDart) → ¬ IsAcross l x laid len d d
-  no_self d a =
-      let by_way : (b : Bool) → b ≢ not b = elim [ true ↦ λ s. cc | false ↦ λ s. cc ] in by_way _ a.turned
+  no_self d a = not_self (course_of l x d).ahead (ap (λ (c : Course). c.ahead) a.course)
 
   -- The closed sums.
   sums : vertices l x + face_count l x + l.arcs ≡ edge_total l x + l.nodes + l.patches
@@ -53,7 +51,7 @@ module _ (l : Gluing) (x : Lengths) (laid : IsSurface l) (len : AreLengths l x) 
       arc_sum zero low = refl
       arc_sum (suc n) low = omega (arith, arc_sum n (λ a less. low a (omega arith)), len.some n (low n (omega arith)))
 
-      rectangle : (w h : ℕ) → 0 < w → 0 < h → (w - 1) * (h - 1) + w * h ≡ (h - 1) * w + h * (w - 1) + 1
+      rectangle : (w h : ℕ) → 0 < w → 0 < h → (w - 1) * (h - 1) + w * h ≡ w * (h - 1) + (w - 1) * h + 1
       rectangle (suc w) (suc h) w_some h_some =
           let a : suc w - 1 ≡ w = omega arith in
           let b : suc h - 1 ≡ h = omega arith in
@@ -77,14 +75,10 @@ module _ (l : Gluing) (x : Lengths) (laid : IsSurface l) (len : AreLengths l x) 
     }
 
     pub used_is : used_count F ≡ vertices l x
-    used_is = omega (
-      arith,
-      filter_long (is_used F) (vertex_count F),
-      passing_all (vertices l x),
-      numbers_le by_vertex by_point (λ d e is_d is_e same. model.alike d e is_d is_e (number_same l x _
-          _ (from_is l x laid len d is_d) (from_is l x laid len e is_e) same)),
-      numbers_le by_point by_vertex (λ d e is_d is_e same. ap (vertex_number l x) (model.apart d e is_d is_e same)),
-    )
+    used_is = count_is by_vertex by_point
+        (λ d e is_d is_e same. model.alike d e is_d is_e
+        (number_same l x _ _ (from_is l x laid len d is_d) (from_is l x laid len e is_e) same))
+        (λ d e is_d is_e same. ap (vertex_number l x) (model.apart d e is_d is_e same))
 
     -- The lesser dart of an edge, or the only one.
     abbrev IsLesser : (d : CellDart) → Type 0
@@ -100,17 +94,13 @@ module _ (l : Gluing) (x : Lengths) (laid : IsSurface l) (len : AreLengths l x) 
           | inl (c, a) ↦ elim (cases_order (cell d) (cell c)) [
             | inl s ↦ absurd (no_self d (rw (← model.same d c is_d a.is_dart s) at a))
             | inr (inl less) ↦ (d, (is_d, lesser_by _ (model.across d c is_d a) less), edge)
-            | inr (inr more) ↦ (
-              c,
-              (a.is_dart, lesser_by _ (model.across c d a.is_dart (across_back d c is_d a)) more),
-              cc,
-            )
+            | inr (inr more) ↦
+                let lesser = lesser_by _ (model.across c d a.is_dart (across_back d c is_d a)) more in
+                (c, (a.is_dart, lesser), cc)
           ]
-          | inr a ↦ (
-            d,
-            (is_d, ap (is_lesser (cell d)) (model.alone d is_d (λ c. alone_not_across laid len c a.2))),
-            edge,
-          )
+          | inr a ↦
+              let lesser = ap (is_lesser (cell d)) (model.alone d is_d (λ c. alone_not_across laid len c a.2)) in
+              (d, (is_d, lesser), edge)
         ]
       where
         lesser_by : (k : ℕ) {t : Option ℕ} {n : ℕ} → t ≡ Some n → k < n → is_lesser k t ≡ true
@@ -122,7 +112,8 @@ module _ (l : Gluing) (x : Lengths) (laid : IsSurface l) (len : AreLengths l x) 
         elim (alike_or_turned _ _) [
           | inl ways ↦ course_once l x laid len is_d is_e (λ t. course (edges t) (ways t))
           | inr ways ↦
-              let a : IsAcross l x laid len d e = record { is_dart = is_e; edge = sym edges; turned = ways } in
+              let a : IsAcross l x laid len d e =
+              record { is_dart = is_e; course = λ t. course (sym edges t) (ways t) } in
               let one = lesser_less _ (model.across d e is_d a) d_less in
               let other = lesser_less _ (model.across e d is_e (across_back d e is_d a)) e_less in
               absurd (omega arith)
@@ -138,21 +129,15 @@ module _ (l : Gluing) (x : Lengths) (laid : IsSurface l) (len : AreLengths l x) 
     by_edge : AreNumbers IsLesser (λ d. edge_number l x (course_of l x d).edge) (λ k. true) (edge_total l x)
     by_edge = record {
       each = λ d is. (edge_low l x _ (course_is l x laid len is.0), refl);
-      onto = λ n low on. let e = edge_onto l x n low in let d = lesser_dart e.0 e.1 in
-          (d.0, d.1, cc);
+      onto = λ n low on. let e = edge_onto l x n low in let d = lesser_dart e.0 e.1 in (d.0, d.1, cc);
     }
 
     pub edges_are : edge_count F ≡ edge_total l x
-    edges_are = omega (
-      arith,
-      filter_long (λ d. is_lesser d (twin_of F d)) (darts F),
-      passing_all (edge_total l x),
-      numbers_le by_lesser by_edge (λ d e is_d is_e same. ap cell (lesser_once d e is_d is_e (edge_same l x
-          _ _ (course_is l x laid len is_d.0) (course_is l x laid len is_e.0)
-          same))),
-      numbers_le by_edge by_lesser (λ d e is_d is_e same.
-          ap (λ (c : CellDart). edge_number l x (course_of l x c).edge) (model.same d e is_d.0 is_e.0 same)),
-    )
+    edges_are = count_is by_lesser by_edge
+        (λ d e is_d is_e same. ap cell (lesser_once d e is_d is_e
+        (edge_same l x _ _ (course_is l x laid len is_d.0) (course_is l x laid len is_e.0) same)))
+        (λ d e is_d is_e same.
+        ap (λ (c : CellDart). edge_number l x (course_of l x c).edge) (model.same d e is_d.0 is_e.0 same))
 
     -- Faces, by their darts.
     by_cell : AreNumbers (IsDart l x) cell (λ k. true) (darts F)

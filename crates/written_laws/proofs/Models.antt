@@ -1,5 +1,5 @@
 -- Lists of faces whose darts are those of the cells of a gluing: the new faces, and the old ones at the old lengths.
-use Rattle.std.proofs.Common.{◌≡◌, ℕ, ◌+◌, ◌*◌, ◌/◌, ◌%◌, ◌<◌, true, [], length, get_or, Some, None, refl, sym, ◌∙◌, ap}
+use Rattle.std.proofs.Common.{[], ◌≡◌, ℕ, ◌+◌, ◌*◌, ◌/◌, ◌%◌, ◌<◌, true, length, get_or, Some, None, refl, sym, ◌∙◌, ap}
 use Rattle.std.proofs.{Common.inl, Common.inr, Common.arith, lemmas.Bool.eqb-true, lemmas.Bool.eq-eqb}
 use Rattle.std.proofs.{lemmas.List.get_or_default, lemmas.List.Folds.list_any_at, lemmas.List.Folds.Any-from_list_any}
 use Rattle.std.proofs.lemmas.List.FromFn.{get_or-map-range_with_len}
@@ -16,7 +16,7 @@ use Rattle.written_laws.proofs.NewDarts.{dart_number, dart_low, dart_same, at_nu
 use Rattle.written_laws.proofs.NewDarts.{faces_long}
 use Rattle.written_laws.proofs.{Sides.use_begins, Sides.arc_inner, Sides.use_some, Grid.point_inside}
 use Rattle.written_laws.proofs.{Numbers.number_same, Borders.at_is, Borders.at_from, Borders.from_is, Courses.IsAcross}
-use Rattle.written_laws.proofs.{Simple.IsSimple, Across.across_or_alone, Across.across_twin, Across.alone_no_twin}
+use Rattle.written_laws.proofs.{Simple.IsSimple, Courses.across_or_alone, Manifold.across_twin, Manifold.alone_no_twin}
 
 -- Dart `cell d` is that of d. Darts leave one vertex where those of the cells leave one point, and have as twin that of
 -- the dart across.
@@ -37,22 +37,17 @@ pub record IsModel (F : Faces) (l : Gluing) (x : Lengths) (laid : IsSurface l) (
 -- A vertex that is used is left by a dart.
 pub used_dart : (F : Faces) (v : ℕ) → ((f : ℕ) → f < length F → length (face_at F f) ≡ 4) → is_used F v ≡ true
     → (d : ℕ) × (d < darts F) × (from_of F d ≡ v)
-used_dart F v quads used = by_face (Any-from_list_any (λ face. list_any (λ u. u == v) face) F used)
-  where
-    by_corner : (f : ℕ) → f < length F → Any (λ u. (u == v) ≡ true) (get_or F f []) → (d : ℕ) × (d < darts F)
-        × (from_of F d ≡ v)
-    by_corner f low (i, u, m, is, t) =
-        let four = quads f low in
-        let face : (4 * f + i) / 4 ≡ f = omega arith in
-        let place : (4 * f + i) % 4 ≡ i = omega arith in (
-          4 * f + i,
-          omega arith,
-          (λ r. corner F (face r) (place r)) ∙ get_or_default (get_or F f []) i 0 u m ∙ is ∙ eqb-true u v t,
-        )
-
-    by_face : Any (λ face. list_any (λ u. u == v) face ≡ true) F → (d : ℕ) × (d < darts F) × (from_of F d ≡ v)
-    by_face (f, face, low, is, t) =
-        by_corner f low (Any-from_list_any (λ u. u == v) (get_or F f []) (rw (get_or_default F f [] face low ∙ is) t))
+used_dart F v quads used =
+    let (f, face, f_low, is, t) = Any-from_list_any (λ face. list_any (λ u. u == v) face) F used in
+    let (i, u, m, at, s) =
+    Any-from_list_any (λ u. u == v) (get_or F f []) (rw (get_or_default F f [] face f_low ∙ is) t) in
+    let four = quads f f_low in
+    let face_is : (4 * f + i) / 4 ≡ f = omega arith in
+    let place : (4 * f + i) % 4 ≡ i = omega arith in (
+      4 * f + i,
+      omega arith,
+      (λ r. corner F (face_is r) (place r)) ∙ get_or_default (get_or F f []) i 0 u m ∙ at ∙ eqb-true u v s,
+    )
 
 -- A vertex that a dart leaves is used.
 pub dart_used : (F : Faces) (d : ℕ) → ((f : ℕ) → f < length F → length (face_at F f) ≡ 4) → d < darts F
@@ -76,11 +71,9 @@ module _ (l : Gluing) (x : Lengths) (laid : IsSurface l) (len : AreLengths l x) 
   point_dart (along a k) is =
       let f = laid.forward a is.0 in
       let long : x (use_of l f.0).arc ≡ x a = ap (λ (u : SideArc). x u.arc) f.2 in
-      let less : k < x (use_of l f.0).arc = omega arith in (
-        slot_dart l x f.0 k,
-        at_is l x laid.paved len f.0 k f.1 less,
-        cc (at_from l x laid len f.0 k f.1 less, arc_inner l x a k is.1 is.2),
-      )
+      let less : k < x (use_of l f.0).arc = omega arith in
+      let from = at_from l x laid len f.0 k f.1 less in
+      (slot_dart l x f.0 k, at_is l x laid.paved len f.0 k f.1 less, cc (from, arc_inner l x a k is.1 is.2))
   point_dart (inside p i j) is = (
     dart p i j south,
     record { patch_low = is.0; i_low = is.2; j_low = is.4 },

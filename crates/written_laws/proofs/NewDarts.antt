@@ -1,16 +1,15 @@
 -- The darts of the new faces, by number and by cell.
-use Rattle.std.proofs.Common.{◌≡◌, ℕ, zero, suc, ◌+◌, ◌-◌, ◌*◌, ◌/◌, ◌%◌, ◌<◌, [], length, refl, sym, ◌∙◌, ap, arith}
-use Rattle.std.proofs.{Math.Nat.mod-lt, Math.Nat.div-lt_iff_lt-mul, Math.Nat.mul_comm, lemmas.Nat.mul-add-lt}
-use Rattle.std.proofs.{lemmas.Nat.same_from_place, lemmas.Nat.div-add-mod', lemmas.Bool.Decides.nat_tests}
+use Rattle.std.proofs.Common.{[], ◌≡◌, ℕ, zero, suc, ◌+◌, ◌*◌, ◌/◌, ◌%◌, ◌<◌, length, refl, ◌∙◌, ap, arith}
+use Rattle.std.proofs.lemmas.Bool.Decides.{nat_tests}
 use Rattle.std.proofs.lemmas.List.FromFn.{length-map-range_with_len, get_or-map-range_with_len}
 use Rattle.std.specs.Prelude.{slice_index_or}
 use Rattle.def_mesh.specs.{Faces.corner, Darts.darts, Darts.next_of, Darts.prev_of, Darts.from_of, Darts.to_of}
 use Rattle.def_layout.specs.Gluings.{Way, south, east, north, west, side_after, side_before, Gluing}
 use Rattle.def_layout.specs.Cells.{CellDart, IsDart, dart, next, prev}
 use Rattle.def_layout.specs.{Surfaces.IsSurface, Lengths.Lengths, Lengths.wide, Lengths.high, Lengths.AreLengths}
-use Rattle.def_written.specs.NewFaces.{dart_start, dart_end, cells_before, face_count, patch_of, cell_in, dart_of}
+use Rattle.def_written.specs.NewFaces.{dart_start, dart_end, face_count, dart_of}
 use Rattle.def_written.specs.{Numbers.vertex_number, NewFaces.cell_vertex, NewFaces.new_face, NewFaces.new_faces}
-use Rattle.written_laws.proofs.{Runs.run_place, Runs.run_here, Runs.place_low, Grid.wide_some}
+use Rattle.written_laws.proofs.Runs.{IsCell, number_of, number_inside, cell_once, cell_here}
 
 -- The sides of a face by number.
 abbrev pub turn : (side : Way) → ℕ
@@ -35,38 +34,31 @@ turn_way _ low = refl
 pub turn_low : (w : Way) → turn w < 4
 turn_low = elim [ south ↦ omega arith | east ↦ omega arith | north ↦ omega arith | west ↦ omega arith ]
 
-pub next_at : (c : ℕ) (w : Way) → next_of (4 * c + turn w) ≡ 4 * c + turn (side_after w)
-next_at c south = grind (arith, nat_tests)
-next_at c _ = grind (arith, nat_tests)
-
-pub prev_at : (c : ℕ) (w : Way) → prev_of (4 * c + turn w) ≡ 4 * c + turn (side_before w)
-prev_at c south = grind (arith, nat_tests)
-prev_at c _ = grind (arith, nat_tests)
+around : (c : ℕ) (w : Way) → (next_of (4 * c + turn w) ≡ 4 * c + turn (side_after w))
+    × (prev_of (4 * c + turn w) ≡ 4 * c + turn (side_before w))
+around c south = (grind (arith, nat_tests), grind (arith, nat_tests))
+around c _ = (grind (arith, nat_tests), grind (arith, nat_tests))
 
 module _ (l : Gluing) (x : Lengths) where
-  -- How many cells a patch has.
-  abbrev pub cells : (p : ℕ) → ℕ
-  cells p = wide l x p * high l x p
-
   -- The number of a dart's cell.
   abbrev pub cell_number : (d : CellDart) → ℕ
-  cell_number d = cells_before l x d.patch + (d.j * wide l x d.patch + d.i)
+  cell_number d = number_of (wide l x) (high l x) l.patches d.patch d.i d.j
 
   -- The number of a dart.
   abbrev pub dart_number : (d : CellDart) → ℕ
   dart_number d = 4 * cell_number d + turn d.way
 
   pub next_number : (d : CellDart) → next_of (dart_number d) ≡ dart_number (next d)
-  next_number d = next_at _ d.way
+  next_number d = (around _ d.way).0
 
   pub prev_number : (d : CellDart) → prev_of (dart_number d) ≡ dart_number (prev d)
-  prev_number d = prev_at _ d.way
+  prev_number d = (around _ d.way).1
 
-  cell_in_patch : (d : CellDart) → IsDart l x d → d.j * wide l x d.patch + d.i < cells d.patch
-  cell_in_patch d is = mul-add-lt d.j (wide l x d.patch) d.i (high l x d.patch) is.j_low is.i_low
+  cell_of : (d : CellDart) → IsDart l x d → IsCell (wide l x) (high l x) l.patches d.patch d.i d.j
+  cell_of d is = record { low = is.patch_low; column = is.i_low; row = is.j_low }
 
   pub cell_low : (d : CellDart) → IsDart l x d → cell_number d < face_count l x
-  cell_low d is = place_low cells l.patches d.patch (d.j * wide l x d.patch + d.i) is.patch_low (cell_in_patch d is)
+  cell_low d is = number_inside (wide l x) (high l x) l.patches (cell_of d is)
 
   pub faces_long : length (new_faces l x) ≡ face_count l x
   faces_long = length-map-range_with_len (new_face l x) 0 (face_count l x)
@@ -77,28 +69,18 @@ module _ (l : Gluing) (x : Lengths) where
   -- A dart is found by its cell.
   pub dart_at : (d : CellDart) (w : Way) → IsDart l x d → dart_of l x (cell_number d) w ≡ dart d.patch d.i d.j w
   dart_at d w is =
-      let by_patch : (p : ℕ) → CellDart = λ p. dart p ((cell_number d - cells_before l x p) % wide l x p)
-      ((cell_number d - cells_before l x p) / wide l x p) w in
-      let patch_is = run_place cells _ _ _ is.patch_low (cell_in_patch d is)
-      in
-      let o_is : cell_number d - cells_before l x d.patch ≡ d.j * wide l x d.patch + d.i = omega arith in
-      let parts : ((cell_number d - cells_before l x d.patch) / wide l x d.patch ≡ d.j)
-      × ((cell_number d - cells_before l x d.patch) % wide l x d.patch ≡ d.i) = same_from_place ((cell_number d
-      - cells_before l x d.patch) / wide l x d.patch) ((cell_number d - cells_before l x d.patch) % wide l x d.patch)
-      d.j d.i (wide l x d.patch) (mod-lt (cell_number d - cells_before l x d.patch) (omega arith)) is.i_low
-      (div-add-mod' (cell_number d - cells_before l x d.patch) (wide l x d.patch) ∙ o_is) in
-      let by_cell : dart d.patch ((cell_number d - cells_before l x d.patch) % wide l x d.patch)
-      ((cell_number d - cells_before l x d.patch) / wide l x d.patch) w
-      ≡ dart d.patch d.i d.j w = λ t. dart d.patch (parts.1 t) (parts.0 t) w in
-      cc
+      let here = cell_here (wide l x) (high l x) l.patches (cell_number d) (cell_low d is) in
+      let s = cell_once (wide l x) (high l x) l.patches here.0 (cell_of d is) here.1 in
+      λ t. dart (s.0 t) (s.1 t) (s.2 t) w
 
   -- Darts with one number are one.
   pub dart_same : (d e : CellDart) → IsDart l x d → IsDart l x e → dart_number d ≡ dart_number e → d ≡ e
   dart_same d e is_d is_e same =
-      let cell_same : cell_number d ≡ cell_number e = omega (arith, turn_low d.way, turn_low e.way) in
       let turn_same : turn d.way ≡ turn e.way = omega (arith, turn_low d.way, turn_low e.way) in
       let way_same : d.way ≡ e.way = cc (way_turn d.way, way_turn e.way) in
-      sym (dart_at d d.way is_d) ∙ (λ t. dart_of l x (cell_same t) (way_same t)) ∙ dart_at e e.way is_e
+      let s = cell_once (wide l x) (high l x) l.patches (cell_of d is_d) (cell_of e is_e)
+      (omega (arith, turn_low d.way, turn_low e.way)) in
+      λ t. dart (s.0 t) (s.1 t) (s.2 t) (way_same t)
 
   -- The corners of the new faces.
   pub corner_is : (f : ℕ) (w : Way) → f < face_count l x → corner (new_faces l x) f (turn w) ≡ cell_vertex l x f w
@@ -131,20 +113,8 @@ module _ (l : Gluing) (x : Lengths) where
     -- The darts of a new face lie in a patch.
     pub cell_is : (f : ℕ) (w : Way) → f < face_count l x → IsDart l x (dart_of l x f w)
     cell_is f w low =
-        let h = run_here cells _ f low in
-        let some = wide_some l x laid.paved len _ h.low in
-        let less = rw (mul_comm (wide l x (patch_of l x f)) (high l x (patch_of l x f))) at h.inside in
-        record {
-          patch_low = h.low;
-          i_low = mod-lt (cell_in l x f) some;
-          j_low = (div-lt_iff_lt-mul {k = wide l x (patch_of l x f)} {x = cell_in l x f} {y = high l x (patch_of l x f)}
-              some).1 less;
-        }
-
-    pub cell_number_is : (f : ℕ) (w : Way) → f < face_count l x → cell_number (dart_of l x f w) ≡ f
-    cell_number_is f w low =
-        let h = run_here cells l.patches f low in
-        omega (arith, div-add-mod' (cell_in l x f) (wide l x (patch_of l x f)))
+        let c = (cell_here (wide l x) (high l x) l.patches f low).0 in
+        record { patch_low = c.low; i_low = c.column; j_low = c.row }
 
     -- Each dart of the new faces is that of a cell.
     pub at_number : (n : ℕ) → n < darts (new_faces l x) → (d : CellDart) × IsDart l x d × (dart_number d ≡ n)
@@ -152,5 +122,5 @@ module _ (l : Gluing) (x : Lengths) where
         let f_low : n / 4 < face_count l x = omega (arith, faces_long) in (
           dart_of l x (n / 4) (way_of (n % 4)),
           cell_is (n / 4) (way_of (n % 4)) f_low,
-          omega (arith, cell_number_is (n / 4) (way_of (n % 4)) f_low, turn_way (n % 4) (omega arith)),
+          omega (arith, (cell_here (wide l x) (high l x) l.patches (n / 4) f_low).1, turn_way (n % 4) (omega arith)),
         )

@@ -1,161 +1,301 @@
--- The vertex of a node has the same kind and as many faces in each model, whatever the lengths.
-use Rattle.std.proofs.Common.{◌≡◌, ◌⊎◌, ℕ, zero, suc, ◌+◌, ◌-◌, ◌<◌, ◌≤◌, Bool, true, refl, sym, ◌∙◌, ap, inl, inr}
-use Rattle.std.proofs.{Common.arith, lemmas.Bool.cases_eq, lemmas.Bool.eqb-true, lemmas.Bool.eq-eqb}
-use Rattle.std.specs.Prelude.{◌==◌}
-use Rattle.sum_laws.proofs.Tests.{same_test}
-use Rattle.def_mesh.specs.{Faces.Faces, Darts.darts, Darts.from_of, Vertices.faces_at, Kinds.is_inner}
-use Rattle.def_layout.specs.Gluings.{Gluing, Slot, IsSlot, use_of, start_node, end_node}
+-- The points inside patches and along arcs are regular, and the vertex of a node has the same kind and as many faces in
+-- each model, whatever the lengths.
+use Rattle.std.proofs.Common.{◌≡◌, ◌≢◌, ◌⊎◌, ℕ, zero, suc, ◌+◌, ◌-◌, ◌<◌, true, false, not, Some, None, refl, sym, ◌∙◌}
+use Rattle.std.proofs.Common.{ap, subst, inl, inr, arith, ◌≤◌, Bool}
+use Rattle.std.proofs.lemmas.Bool.{cond-false, eq-eqb, false_from_ne_true, cases_eq, eqb-true}
+use Rattle.std.proofs.lemmas.Option.{none-some}
+use Rattle.def_mesh.specs.Darts.{darts, from_of, prev_of, twin_of, to_of}
+use Rattle.def_mesh.specs.HalfEdges.{IsQuadManifold, AreTurned, Turns, half_edges}
+use Rattle.def_mesh.specs.{Faces.Faces, Vertices.faces_at, Kinds.is_inner, Kinds.is_regular}
+use Rattle.def_layout.specs.Gluings.{south, east, north, west, Gluing, Slot, IsSlot, use_of, start_node, end_node}
+use Rattle.def_layout.specs.Cells.{CellDart, IsDart, dart, prev, slot_dart, next}
 use Rattle.def_layout.specs.{declared.tmesh.SideArc.SideArc, Surfaces.IsSurface, Surfaces.IsOtherSlot, Lengths.Lengths}
-use Rattle.def_layout.specs.{Lengths.reach, Lengths.AreLengths, Cells.CellDart, Cells.IsDart}
-use Rattle.def_written.specs.{Points.node, Points.use_point, NewFaces.dart_start}
-use Rattle.written_laws.proofs.Sides.{slot, long_at, use_begins, use_ends, use_inner, use_some}
-use Rattle.written_laws.proofs.Spots.{place_at, spot_dart, at_once, spot_is, spot_at, sort_spot, spot_once}
-use Rattle.written_laws.proofs.Inners.{AreShared, IsVertex, inner_if, inner_only}
-use Rattle.written_laws.proofs.{Runs.count_rises, Tallies.passing, Tallies.passing_le, Tallies.filter_long}
-use Rattle.written_laws.proofs.{Borders.IsAt, Borders.sort_dart, Borders.inner_from, Models.IsModel}
+use Rattle.def_layout.specs.Lengths.{AreLengths, reach}
+use Rattle.def_written.specs.Points.{along, inside, IsPoint, use_point, Point, node}
+use Rattle.def_written.specs.NewFaces.{dart_start}
+use Rattle.face_laws.proofs.Fans.{has_fan, inner_twin, cross_regular}
+use Rattle.written_laws.proofs.Sides.{arc_inner, first_is, use_begins, use_ends, use_inner, use_some, use_sort}
+use Rattle.written_laws.proofs.Borders.{spot_dart, at_is, at_from, place_at, at_to, IsSpot, spot_is, spot_from}
+use Rattle.written_laws.proofs.Courses.{IsAlone, across_within, alone_not_across, rim_turn, spot_back, border_turn}
+use Rattle.written_laws.proofs.{Courses.IsAcross, Courses.across_or_alone, Borders.sort_spot, Borders.inner_from}
+use Rattle.written_laws.proofs.{Grid.point_inside, Rims.dart_is, Rims.next_prev, Spots.rim_slot, Spots.spot_once}
+use Rattle.written_laws.proofs.{NewDarts.prev_is, NewDarts.next_is, Fans.not_self, Fans.not_twice, Models.IsModel}
+use Rattle.written_laws.proofs.{Runs.count_rises, Tallies.AreNumbers, Tallies.numbers_le, Tallies.filter_long}
+use Rattle.std.specs.Prelude.{◌==◌}
+use Rattle.face_laws.proofs.Fans as MeshFans
+
+-- A vertex is regular where two faces lie between two edges with one dart.
+module _ (F : Faces) (laws : IsQuadManifold (half_edges F)) (d a : ℕ) (low : d < darts F)
+    (first : twin_of F (prev_of d) ≡ Some a) (last : twin_of F (prev_of a) ≡ None) (none : twin_of F d ≡ None) where
+  a_low : a < darts F
+  a_low = laws.twin_low _ a (laws.prev_low d low) first
+
+  back : twin_of F a ≡ Some (prev_of d)
+  back = laws.twin_twin _ a (laws.prev_low d low) first
+
+  one_of_two : (n x : ℕ) → Turns (half_edges F) d x n → (x ≡ d) ⊎ (x ≡ a)
+  one_of_two zero x t = inl (sym t)
+  one_of_two (suc n) x t = by_step (one_of_two n t.0 t.1) t.2 t.3
+    where
+      by_step : {y : ℕ} → (y ≡ d) ⊎ (y ≡ a) → x < darts F → AreTurned (half_edges F) y x → (x ≡ d) ⊎ (x ≡ a)
+      by_step (inl e) x_low (inl r) = inr (cc)
+      by_step (inr e) x_low (inl r) = absurd (none-some x (cc))
+      by_step (inl e) x_low (inr r) = absurd (none-some (prev_of x) (cc (laws.twin_twin _ _ (laws.prev_low x x_low) r)))
+      by_step (inr e) x_low (inr r) =
+          let same : prev_of x ≡ prev_of d = cc (laws.twin_twin _ _ (laws.prev_low x x_low) r, back) in
+          inl (cc (laws.next_prev x, laws.next_prev d))
+
+  pub edge_regular : is_regular F (from_of F d) ≡ true
+  edge_regular = eq-eqb _ _ (two ∙ sym (cond-false (is_inner F (from_of F d)) 4 2 boundary))
+    where
+      boundary : is_inner F (from_of F d) ≡ false
+      boundary = false_from_ne_true _ (λ inner.
+          let t = inner_twin F _ inner d low (inl refl) in none-some t.0 (cc (t.1)))
+
+      pick : ℕ → ℕ
+      pick zero = d
+      pick (suc k) = a
+
+      two : faces_at F (from_of F d) ≡ 2
+      two =
+          let fan = has_fan F (from_of F d) in
+          let most = fan.most 2 pick (λ x leaves.
+          let t = laws.one_fan d x low leaves.low (sym leaves.at) in
+          elim (one_of_two t.0 x t.1) [ inl e ↦ (0, omega arith, sym e) | inr e ↦ (1, omega arith, sym e) ]) in
+          let least = fan.least 2 pick
+          (record { each = λ j less. record { low = (by_place j).0; at = (by_place j).1 }; apart = apart }) in
+          omega arith
+        where
+          by_place : (j : ℕ) → (pick j < darts F) × (from_of F (pick j) ≡ from_of F d)
+          by_place zero = (low, refl)
+          by_place (suc j) = (a_low, cc ((laws.twin_ends _ a (laws.prev_low d low) first).0, laws.next_prev d))
+
+          apart : (i j : ℕ) → i < 2 → j < 2 → pick i ≡ pick j → i ≡ j
+          apart zero zero i_low j_low e = refl
+          apart zero (suc j) i_low j_low e = absurd (none-some (prev_of d) (cc (none, back)))
+          apart (suc i) zero i_low j_low e = absurd (none-some (prev_of d) (cc (none, back)))
+          apart (suc i) (suc j) i_low j_low e = omega arith
+
+module _ {l : Gluing} {x : Lengths} {laid : IsSurface l} {len : AreLengths l x} {F : Faces} {cell : CellDart → ℕ}
+    (model : IsModel F l x laid len cell) where
+  -- Where no slot uses an arc the other way round, its darts have no twin.
+  alone_twin : (w : Slot) (o : ℕ) → IsSlot l w → o < x (use_of l w).arc → ((v : Slot) → ¬ IsOtherSlot l w v)
+      → twin_of F (cell (slot_dart l x w o)) ≡ None
+  alone_twin w o is less none =
+      let s : IsAlone laid len (slot_dart l x w o) w o =
+      record { on_border = record { is_slot = is; low = less; dart = refl }; alone = none } in
+      model.alone (slot_dart l x w o) (at_is l x laid.paved len w o is less) (λ e. alone_not_across laid len e s)
+
+module _ {l : Gluing} {x : Lengths} {laid : IsSurface l} {len : AreLengths l x} {F : Faces} {cell : CellDart → ℕ}
+    (model : IsModel F l x laid len cell) (laws : IsQuadManifold (half_edges F)) where
+  prev_cell : {d : CellDart} → IsDart l x d → prev_of (cell d) ≡ cell (prev d)
+  prev_cell {d} is = cc (next_prev d, model.turned (prev d) (prev_is l x d is), laws.prev_next (cell (prev d)))
+
+  turn_twin : {d e : CellDart} → IsDart l x d → IsAcross l x laid len (prev d) e
+      → twin_of F (prev_of (cell d)) ≡ Some (cell e)
+  turn_twin {d} {e} is a = ap (twin_of F) (prev_cell is) ∙ model.across (prev d) e (prev_is l x d is) a
+
+  -- Where four turns lead back, the vertex is regular.
+  cross_at : {d a b c : CellDart} → IsAcross l x laid len (prev d) a → IsAcross l x laid len (prev a) b → IsAcross l x
+      laid len (prev b) c → IsAcross l x laid len (prev c) d → d ≢ b → is_regular F (from_of F (cell d)) ≡ true
+  cross_at {d} {a} {b} {c} i j k m apart = cross_regular F laws (cell d) (model.low d m.is_dart) (
+    cell a,
+    cell b,
+    cell c,
+    record {
+      first = turn_twin m.is_dart i;
+      second = turn_twin i.is_dart j;
+      third = turn_twin j.is_dart k;
+      last = turn_twin k.is_dart m;
+      apart = λ e. apart (model.same d b m.is_dart j.is_dart e);
+    },
+  )
+
+  pub inside_regular : (p i j : ℕ) (e : CellDart) → IsPoint l x (inside p i j) → IsDart l x e
+      → dart_start l x e ≡ inside p i j → is_regular F (from_of F (cell e)) ≡ true
+  inside_regular p i j e (p_low, i_some, i_low, j_some, j_low) is_e leaves =
+      let is : IsDart l x (dart p i j south) = record { patch_low = p_low; i_low = i_low; j_low = j_low } in
+      let same = model.alike e (dart p i j south) is_e is (leaves
+      ∙ sym (point_inside l x laid len p i j i_some i_low j_some j_low)) in
+      rw same (cross_at
+      (across_within laid len (dart p i j west) (p_low, i_some, i_low, j_low))
+      (across_within laid len (dart p (i - 1) j south) (p_low, omega arith, j_some, j_low))
+      (across_within laid len (dart p (i - 1) (j - 1) east) (p_low, omega arith, omega arith, omega arith))
+      (subst (IsAcross l x laid len (dart p (i - 1 + 1) (j - 1) north)) (dart_is p south (omega arith) (omega arith))
+      (across_within laid len (dart p (i - 1 + 1) (j - 1) north) (p_low, omega arith, omega arith, omega arith)))
+      (λ s. let w : south ≡ north = ap (λ (d : CellDart). d.way) s in cc))
+
+  pub along_regular : (a k : ℕ) (e : CellDart) → IsPoint l x (along a k) → IsDart l x e → dart_start l x e ≡ along a k
+      → is_regular F (from_of F (cell e)) ≡ true
+  along_regular a k e (low, some, less) is_e leaves =
+      let (w, is_w, used) = laid.forward a low in
+      let long = ap (λ (u : SideArc). x u.arc) used in
+      let w_less : k < x (use_of l w).arc = omega (arith, long) in
+      let is = at_is l x laid.paved len w k is_w w_less in
+      let same = model.alike e (slot_dart l x w k) is_e is (leaves ∙ sym (at_from l x laid len w k is_w w_less
+      ∙ ap (λ (u : SideArc). use_point l x u k) used ∙ arc_inner l x a k some less)) in
+      let turn = rim_turn laid len w k is_w w_less (omega arith) in
+      rw same (elim (laid.other w is_w) [
+        | inl (u, other) ↦
+            let both = ap x other.1.arc in
+            let u_less : x (use_of l w).arc - k < x (use_of l u).arc = omega arith in
+            cross_at turn (border_turn laid len w u k (x (use_of l w).arc - k) is_w other some w_less refl)
+            (rim_turn laid len u (x (use_of l w).arc - k) other.0 u_less (omega arith))
+            (border_turn laid len u w (x (use_of l w).arc - k) k other.0 (
+              is_w,
+              record { arc = sym other.1.arc; turned = sym (ap not other.1.turned ∙ not_twice (use_of l w).forward) },
+            ) (omega arith) u_less (omega arith))
+            (λ s. not_self (use_of l w).forward
+            (rw (← rim_slot laid.paved len is_w other.0 w_less u_less s) at other.1.turned))
+        | inr none ↦ edge_regular F laws (cell (slot_dart l x w k)) (cell (spot_dart l x w k true)) (model.low _ is)
+            (turn_twin is turn) (ap (twin_of F) (prev_cell turn.is_dart ∙ ap cell (spot_back laid len w k some))
+            ∙ alone_twin model w (k - 1) is_w (omega arith) none) (alone_twin model w k is_w w_less none)
+      ])
+
+-- A dart at node n, by slot, whatever the lengths: the first one on the border of an arc, or the one behind it.
+pub record IsNodeSpot (l : Gluing) (n : ℕ) (w : Slot) (b : Bool) : Type 0 where
+  pub is_slot : IsSlot l w
+  pub start : start_node l (use_of l w) ≡ n
+  pub later : b ≡ true → 0 < w.at
+
+-- Each arc at the node is used by two slots.
+abbrev AreShared : (l : Gluing) (n : ℕ) → Type 0
+AreShared l n = (w : Slot) → IsSlot l w → (start_node l (use_of l w) ≡ n) ⊎ (end_node l (use_of l w) ≡ n)
+    → (v : Slot) × IsOtherSlot l w v
 
 module _ {l : Gluing} {x : Lengths} (laid : IsSurface l) (len : AreLengths l x) where
-  -- A point of an arc that is a node is one of its ends.
-  node_end : (u : SideArc) (o n : ℕ) → o ≤ x u.arc → 0 < x u.arc → use_point l x u o ≡ node n
-      → ((o ≡ 0) × (start_node l u ≡ n)) ⊎ ((o ≡ x u.arc) × (end_node l u ≡ n))
-  node_end u o n le some e = elim (cases_eq o 0) [
-    | inl z ↦
-        let b : use_point l x u o ≡ node (start_node l u) = cc (use_begins l x u some) in
-        let s : start_node l u ≡ n = cc in inl (z, s)
-    | inr more ↦ elim (cases_eq o (x u.arc)) [
-      | inl last ↦
-          let b : use_point l x u o ≡ node (end_node l u) = use_ends l x u o last (omega arith) in
-          let s : end_node l u ≡ n = cc in inr (last, s)
-      | inr less ↦
-          let b = use_inner l x u o (omega arith) (omega arith) in
-          absurd cc
-    ]
-  ]
-
-  -- A dart at a node, by slot.
-  pub record IsAtNode (n : ℕ) (d : CellDart) (w : Slot) (b : Bool) : Type 0 where
-    pub at : IsAt l x laid len d w 0
-    pub start : start_node l (use_of l w) ≡ n
-    pub dart : d ≡ spot_dart l x w 0 b
-    pub later : b ≡ true → 0 < w.at
-
   pub node_sort : (n : ℕ) {d : CellDart} → IsDart l x d → dart_start l x d ≡ node n → (w : Slot) × (b : Bool)
-      × IsAtNode n d w b
-  node_sort n {d} is leaves = elim (sort_dart l x laid len d is) [
+      × IsNodeSpot l n w b × IsSpot l x d w 0 b
+  node_sort n {d} is leaves = elim (sort_spot l x laid.paved len d is) [
     | inl i ↦ let b = inner_from l x laid len d i in absurd cc
-    | inr s ↦ elim (node_end (use_of l s.0) s.1 n (omega (arith, s.2.low))
-        (omega (arith, s.2.low)) (cc (s.2.leaves, leaves))) [
-          | inl e ↦ at_slot s.0 s.1 s.2 e.0 e.1
-          | inr e ↦ absurd (omega (arith, s.2.low, e.0))
+    | inr (w, o, b, s) ↦
+        let at = spot_from l x laid len s in
+        elim (use_sort l x (use_of l w) o s.low) [
+          | inl (z, e) ↦
+              let first : IsSpot l x d w 0 b = rw z at s in (
+                w,
+                b,
+                record {
+                  is_slot = s.is_slot;
+                  start = cc;
+                  later = λ t. elim (cases_eq w.at 0) [
+                    | inl none ↦ absurd (omega (arith, first.behind t, ap (reach l x w.patch w.side) none))
+                    | inr more ↦ omega arith
+                  ];
+                },
+                first,
+              )
+          | inr (some, e) ↦ absurd cc
         ]
   ]
-    where
-      at_slot : (w : Slot) (o : ℕ) → IsAt l x laid len d w o → o ≡ 0 → start_node l (use_of l w) ≡ n → (w : Slot)
-          × (b : Bool) × IsAtNode n d w b
-      at_slot w o at z start =
-          let first : IsAt l x laid len d w 0 = rw z at at in
-          let b = sort_spot laid len d w 0 is first in
-          (w, b.0, record { at = first; start = start; dart = b.1; later = λ e. by_at w.at refl (b.2 e) })
-        where
-          by_at : (m : ℕ) → w.at ≡ m → 0 < place_at l x w 0 → 0 < w.at
-          by_at zero e some = let none : reach l x w.patch w.side w.at ≡ 0 = ap (reach l x w.patch w.side) e in
-              absurd (omega (arith, none, some))
-          by_at (suc m) e some = omega (arith, e)
 
-  -- A dart of a slot that is not first on its side has one behind it.
-  pub later_place : (w : Slot) (b : Bool) → IsSlot l w → (b ≡ true → 0 < w.at) → b ≡ true → 0 < place_at l x w 0
-  later_place w b is later e =
-      let first : IsSlot l (slot w.patch w.side 0) = record { patch_low = is.patch_low; low = omega (arith, is.low) } in
-      let le = count_rises (long_at l x w.patch w.side) 1 w.at (later e) in
-      let some : 0 < long_at l x w.patch w.side 0 = use_some l x laid.paved len (slot w.patch w.side 0) first in
-      omega (arith, le, some)
+  node_spot : {n : ℕ} {w : Slot} {b : Bool} → IsNodeSpot l n w b
+      → IsDart l x (spot_dart l x w 0 b) × IsSpot l x (spot_dart l x w 0 b) w 0 b
+  node_spot {w} {b} s = spot_is l x laid len b s.is_slot (use_some l x laid.paved len w s.is_slot) (λ e.
+      elim (cases_eq (reach l x w.patch w.side w.at) 0) [
+        | inl z ↦ absurd (omega (arith, first_is l x laid.paved len w s.is_slot z, s.later e))
+        | inr some ↦ omega arith
+      ])
 
-module _ {l : Gluing} (laid : IsSurface l) {x y : Lengths} (len : AreLengths l x) (lon : AreLengths l y) where
-  -- Whether arcs at a node are shared has nothing to do with lengths.
-  node_shared : (n : ℕ) → AreShared l x (node n) → AreShared l y (node n)
-  node_shared n shared w o is less = at
-    where
-      some : 0 < x (use_of l w).arc
-      some = use_some l x laid.paved len w is
+module _ {l : Gluing} {x : Lengths} {laid : IsSurface l} {len : AreLengths l x} {F : Faces} {cell : CellDart → ℕ}
+    (model : IsModel F l x laid len cell) where
+  -- Vertex v of the model is point a.
+  pub record IsVertex (a : Point) (v : ℕ) : Type 0 where
+    pub there : (d : CellDart) → IsDart l x d → dart_start l x d ≡ a → from_of F (cell d) ≡ v
+    pub back : (d : CellDart) → IsDart l x d → from_of F (cell d) ≡ v → dart_start l x d ≡ a
 
-      starts : start_node l (use_of l w) ≡ n → (v : Slot) × IsOtherSlot l w v
-      starts e = shared w 0 is some (inl (cc (use_begins l x (use_of l w) some)))
+  pub vertex_from : {d : CellDart} {a : Point} (v : ℕ) → IsDart l x d → dart_start l x d ≡ a → from_of F (cell d) ≡ v
+      → IsVertex a v
+  vertex_from {d} v is leaves vertex = record {
+    there = λ e is_e s. model.alike e d is_e is (cc) ∙ vertex;
+    back = λ e is_e s. model.apart e d is_e is (cc) ∙ leaves;
+  }
 
-      ends : end_node l (use_of l w) ≡ n → (v : Slot) × IsOtherSlot l w v
-      ends e = shared w (x (use_of l w).arc - 1) is (omega arith)
-          (inr (cc (use_ends l x (use_of l w) (x (use_of l w).arc - 1 + 1) (omega (arith, some)) (omega arith))))
-
-      by_end : (m : ℕ) → ((m ≡ 0) × (start_node l (use_of l w) ≡ n))
-          ⊎ ((m ≡ y (use_of l w).arc) × (end_node l (use_of l w) ≡ n)) → (v : Slot) × IsOtherSlot l w v
-      by_end m (inl e) = starts e.1
-      by_end m (inr e) = ends e.1
-
-      at : (use_point l y (use_of l w) o ≡ node n) ⊎ (use_point l y (use_of l w) (o + 1) ≡ node n) → (v : Slot)
-          × IsOtherSlot l w v
-      at (inl e) = by_end o (node_end laid lon _ o n (omega arith) (omega arith) e)
-      at (inr e) = by_end _ (node_end laid lon _ _ n (omega arith) (omega arith) e)
-
-  module _ {F G : Faces} {cell new : CellDart → ℕ} {f : IsModel F l x laid len cell} {g : IsModel G l y laid lon new}
-      (n : ℕ) {u v : ℕ} (is_u : IsVertex f (node n) u) (is_v : IsVertex g (node n) v) where
-    pub inner_to : is_inner F u ≡ true → is_inner G v ≡ true
-    inner_to inner = inner_if g is_v (node_shared n (inner_only f is_u inner))
-
-    pub faces_le : faces_at F u ≤ faces_at G v
-    faces_le = omega (
-      arith,
-      filter_long (λ d. from_of F d == u) (darts F),
-      filter_long (λ d. from_of G d == v) (darts G),
-      most,
-    )
+  module _ {n v : ℕ} (is_v : IsVertex (node n) v) where
+    -- It is inner where each arc at the node has two sides.
+    inner_if : AreShared l n → is_inner F v ≡ true
+    inner_if shared = MeshFans.inner_from F v (λ k low ends.
+        let (d, is_d, same) = model.onto k low in
+        elim (across_or_alone laid len d is_d) [
+          | inl (e, a) ↦ (cell e, cc (model.across d e is_d a))
+          | inr (w, o, s) ↦ absurd (let other = shared w s.on_border.is_slot (by_end d is_d same s ends) in
+              s.alone other.0 other.1)
+        ])
       where
-        sorted : (k : ℕ) (low : k < darts F) → (from_of F k == u) ≡ true → (w : Slot) × (b : Bool)
-            × IsAtNode laid len n (f.onto k low).0 w b
-        sorted k low s = node_sort laid len n (f.onto k low).1
-            (is_u.back (f.onto k low).0 (f.onto k low).1 (ap (from_of F) (f.onto k low).2 ∙ eqb-true (from_of F k) u s))
+        by_end : (d : CellDart) → IsDart l x d → {k : ℕ} → cell d ≡ k → {w : Slot} {o : ℕ} → IsAlone laid len d w o
+            → (from_of F k ≡ v) ⊎ (to_of F k ≡ v) → (start_node l (use_of l w) ≡ n) ⊎ (end_node l (use_of l w) ≡ n)
+        by_end d is same {w} {o} s (inl e) =
+            let leaves = is_v.back d is (cc) in
+            let at = at_from l x laid len w o s.on_border.is_slot s.on_border.low in
+            let dart = s.on_border.dart in
+            elim (use_sort l x (use_of l w) o s.on_border.low) [ inl (z, b) ↦ inl (cc) | inr (some, b) ↦ absurd cc ]
+        by_end d is same {w} {o} s (inr e) =
+            let arrives = is_v.back (next d) (next_is l x d is) (cc (model.turned d is)) in
+            let at = at_to l x laid len w o s.on_border.is_slot s.on_border.low in
+            let dart = s.on_border.dart in
+            elim (cases_eq (o + 1) (x (use_of l w).arc)) [
+              | inl last ↦ let b = use_ends l x (use_of l w) (o + 1) last (omega arith) in inr (cc)
+              | inr less ↦
+                  let b = use_inner l x (use_of l w) (o + 1) (omega arith) (omega (arith, s.on_border.low)) in absurd cc
+            ]
 
-        image : {d : CellDart} {w : Slot} {b : Bool} → IsAtNode laid len n d w b → IsDart l y (spot_dart l y w 0 b)
-            × IsAt l y laid lon (spot_dart l y w 0 b) w 0 × (dart_start l y (spot_dart l y w 0 b) ≡ node n)
-        image {w} {b} s =
-            let some : 0 < y (use_of l w).arc = use_some l y laid.paved lon w s.at.is_slot in
-            let later : b ≡ true → 0 < place_at l y w 0 = later_place laid lon w b s.at.is_slot s.later in
-            let at : IsAt l y laid lon (spot_dart l y w 0 b) w 0 = spot_at laid lon 0 b s.at.is_slot some later in (
-              spot_is laid lon w 0 b s.at.is_slot some later,
-              at,
-              cc (at.leaves, use_begins l y (use_of l w) some, s.start),
-            )
+    inner_only : is_inner F v ≡ true → AreShared l n
+    inner_only inner w is ends = elim (laid.other w is) [
+      | inl u ↦ u
+      | inr none ↦ absurd (elim ends [
+        | inl e ↦ alone 0 some none (λ is_d. inl (is_v.there _ is_d
+            (cc (at_from l x laid len w 0 is some, use_begins l x (use_of l w) some))))
+        | inr e ↦ alone (x (use_of l w).arc - 1) (omega (arith, some)) none (λ is_d. inr (cc (
+          model.turned _ is_d,
+          is_v.there _ (next_is l x _ is_d) (at_to l x laid len w _ is (omega (arith, some))
+              ∙ use_ends l x (use_of l w) _ (omega (arith, some)) (omega arith) ∙ ap node e),
+        )))
+      ])
+    ]
+      where
+        some : 0 < x (use_of l w).arc
+        some = use_some l x laid.paved len w is
 
-        once : {d e : CellDart} (s : (w : Slot) × (b : Bool) × IsAtNode laid len n d w b)
-            (r : (w : Slot) × (b : Bool) × IsAtNode laid len n e w b)
-            → spot_dart l y s.0 0 s.1 ≡ spot_dart l y r.0 0 r.1 → d ≡ e
-        once {d} {e} s r same =
-            let slots : s.0 ≡ r.0 = (at_once laid lon {w = s.0} {o = 0} (rw same at (image s.2).1) (image r.2).1).0 in
-            let ways = spot_once laid lon r.0 0 s.1 r.1 ((λ t. spot_dart l y (sym slots t) 0 s.1) ∙ same) in
-            s.2.dart ∙ (λ t. spot_dart l x (slots t) 0 (ways t)) ∙ sym r.2.dart
+        alone : (o : ℕ) → o < x (use_of l w).arc → ((v : Slot) → ¬ IsOtherSlot l w v) → (IsDart l x (slot_dart l x w o)
+            → (from_of F (cell (slot_dart l x w o)) ≡ v) ⊎ (to_of F (cell (slot_dart l x w o)) ≡ v)) → ⊥
+        alone o less none at =
+            let is_d = at_is l x laid.paved len w o is less in
+            let t = MeshFans.inner_twin F v inner _ (model.low _ is_d) (at is_d) in
+            none-some t.0 (cc (alone_twin model w o is less none))
 
-        to : (k : ℕ) (low : k < darts F) → (from_of F k == u) ≡ true → (m : ℕ) × (m < darts G)
-            × ((from_of G m == v) ≡ true)
-        to k low s =
-            let r : (w : Slot) × (b : Bool) × IsAtNode laid len n (f.onto k low).0 w b = sorted k low s in
-            let i : IsDart l y (spot_dart l y r.0 0 r.1) × IsAt l y laid lon (spot_dart l y r.0 0 r.1) r.0 0
-            × (dart_start l y (spot_dart l y r.0 0 r.1) ≡ node n) = image r.2 in (
-              new (spot_dart l y r.0 0 r.1),
-              g.low (spot_dart l y r.0 0 r.1) i.0,
-              eq-eqb (from_of G (new (spot_dart l y r.0 0 r.1))) v (is_v.there (spot_dart l y r.0 0 r.1) i.0 i.2),
-            )
-
-        most : passing (λ d. from_of F d == u) (darts F) ≤ passing (λ d. from_of G d == v) (darts G)
-        most = passing_le (λ d. from_of F d == u) (λ d. from_of G d == v) (darts F) (darts G) to
-            (λ k m low s less r same. sym (f.onto k low).2
-            ∙ ap cell (once (sorted k low s) (sorted m less r)
-            (g.same (spot_dart l y (sorted k low s).0 0 (sorted k low s).1)
-            (spot_dart l y (sorted m less r).0 0 (sorted m less r).1) (image (sorted k low s).2).0
-            (image (sorted m less r).2).0 same)) ∙ (f.onto m less).2)
+    -- The darts that leave it, by slot.
+    by_spot : AreNumbers (λ (t : Slot × Bool). IsNodeSpot l n t.0 t.1) (λ t. cell (spot_dart l x t.0 0 t.1))
+        (λ d. from_of F d == v) (darts F)
+    by_spot = record {
+      each = λ t s.
+          let i = node_spot laid len s in
+          let leaves : dart_start l x (spot_dart l x t.0 0 t.1) ≡ node n = cc (
+            spot_from l x laid len i.1,
+            use_begins l x (use_of l t.0) (use_some l x laid.paved len t.0 s.is_slot),
+            s.start,
+          ) in
+          (model.low _ i.0, eq-eqb _ _ (is_v.there _ i.0 leaves));
+      onto = λ k low on.
+          let (d, is_d, same) = model.onto k low in
+          let (w, b, s, i) = node_sort laid len n is_d (is_v.back d is_d (cc (eqb-true (from_of F k) v on))) in
+          ((w, b), s, cc (i.dart));
+    }
 
 module _ {l : Gluing} {laid : IsSurface l} {x y : Lengths} {len : AreLengths l x} {lon : AreLengths l y} {F G : Faces}
-    {cell new : CellDart → ℕ} {f : IsModel F l x laid len cell} {g : IsModel G l y laid lon new} (n : ℕ) {u v : ℕ}
+    {cell new : CellDart → ℕ} {f : IsModel F l x laid len cell} {g : IsModel G l y laid lon new} {n : ℕ} {u v : ℕ}
     (is_u : IsVertex f (node n) u) (is_v : IsVertex g (node n) v) where
-  pub node_faces : faces_at F u ≡ faces_at G v
-  node_faces = omega (arith, faces_le laid len lon n is_u is_v, faces_le laid lon len n is_v is_u)
+  -- The vertex of a node has no fewer faces in another model, and is inner there too.
+  pub faces_le : faces_at F u ≤ faces_at G v
+  faces_le = omega (
+    arith,
+    filter_long (λ d. from_of F d == u) (darts F),
+    filter_long (λ d. from_of G d == v) (darts G),
+    numbers_le (by_spot f is_u) (by_spot g is_v) (λ t r s q same.
+        let a = node_spot laid lon s in
+        let b = node_spot laid lon q in
+        let one = spot_once laid.paved lon a.1 (rw (← g.same _ _ a.0 b.0 same) at b.1) in
+        λ k. cell (spot_dart l x (one.0 k) 0 (one.2 k))),
+  )
 
-  pub node_inner : is_inner F u ≡ is_inner G v
-  node_inner = same_test _ _ (inner_to laid len lon n is_u is_v) (inner_to laid lon len n is_v is_u)
+  pub inner_to : is_inner F u ≡ true → is_inner G v ≡ true
+  inner_to inner = inner_if g is_v (inner_only f is_u inner)

@@ -1,14 +1,14 @@
--- The border darts of a patch.
-use Rattle.std.proofs.Common.{◌≡◌, ◌⊎◌, ℕ, ◌+◌, ◌-◌, ◌<◌, ◌≤◌, refl, sym, ◌∙◌, ap, inl, inr, arith}
+-- The border darts of a patch, and the darts inside.
+use Rattle.std.proofs.Common.{◌≡◌, ◌≢◌, ◌⊎◌, ℕ, ◌+◌, ◌-◌, ◌<◌, ◌≤◌, refl, sym, ◌∙◌, ap, inl, inr, arith}
 use Rattle.std.proofs.lemmas.Bool.{cases_eq}
 use Rattle.def_layout.specs.Gluings.{Way, south, east, north, west, side_after, side_before, Gluing}
 use Rattle.def_layout.specs.Surfaces.{HasWholeSides, IsSurface}
 use Rattle.def_layout.specs.Lengths.{Lengths, size, wide, high, AreLengths}
-use Rattle.def_layout.specs.Cells.{CellDart, IsDart, dart, next, dart_along}
+use Rattle.def_layout.specs.Cells.{CellDart, IsDart, dart, next, prev, dart_along}
 use Rattle.def_written.specs.Points.{side_point, point}
 use Rattle.def_written.specs.NewFaces.{column, row, dart_start, dart_end}
+use Rattle.def_written.specs.Edges.{Edge, flat, steep, IsEdge}
 use Rattle.written_laws.proofs.Grid.{wide_some, high_some, point_north, point_west, point_east}
-use Rattle.written_laws.proofs.Turning.{IsTurning, is_dart, grid_related}
 
 -- Where a dart begins in its patch.
 abbrev pub column_of : (d : CellDart) → ℕ
@@ -30,12 +30,50 @@ side_row l x p east t = t
 side_row l x p north t = high l x p
 side_row l x p west t = high l x p - t
 
+-- The sides of a patch go round.
 pub after_before : (s : Way) → side_after (side_before s) ≡ s
 after_before = elim [ south ↦ refl | east ↦ refl | north ↦ refl | west ↦ refl ]
+
+pub before_after : (s : Way) → side_before (side_after s) ≡ s
+before_after = elim [ south ↦ refl | east ↦ refl | north ↦ refl | west ↦ refl ]
+
+pub no_turn : (s : Way) → s ≢ side_after s
+no_turn = elim [ south ↦ λ e. cc | east ↦ λ e. cc | north ↦ λ e. cc | west ↦ λ e. cc ]
+
+pub next_prev : (d : CellDart) → next (prev d) ≡ d
+next_prev d = ap (dart d.patch d.i d.j) (after_before d.way)
+
+pub prev_next : (d : CellDart) → prev (next d) ≡ d
+prev_next d = ap (dart d.patch d.i d.j) (before_after d.way)
 
 -- Darts at one place of a patch are one.
 pub dart_is : (p : ℕ) (w : Way) {i j k n : ℕ} → i ≡ k → j ≡ n → dart p i j w ≡ dart p k n w
 dart_is p w a b = λ t. dart p (a t) (b t) w
+
+-- A cell holds darts of all four ways.
+pub is_dart : {l : Gluing} {x : Lengths} (p i j : ℕ) (w : Way) → p < l.patches → i < wide l x p → j < high l x p
+    → IsDart l x (dart p i j w)
+is_dart p i j w low i_low j_low = record { patch_low = low; i_low = i_low; j_low = j_low }
+
+-- The edge along which a dart inside a patch runs, and the dart on its other side.
+abbrev pub inner_edge : (p i j : ℕ) (w : Way) → Edge
+inner_edge p i j south = flat p i j
+inner_edge p i j east = steep p (i + 1) j
+inner_edge p i j north = flat p i (j + 1)
+inner_edge p i j west = steep p i j
+
+abbrev pub over_at : (p i j : ℕ) (w : Way) → CellDart
+over_at p i j south = dart p i (j - 1) north
+over_at p i j east = dart p (i + 1) j west
+over_at p i j north = dart p i (j + 1) south
+over_at p i j west = dart p (i - 1) j east
+
+abbrev pub over : (d : CellDart) → CellDart
+over d = over_at d.patch d.i d.j d.way
+
+-- A dart does not lie on the border.
+abbrev pub IsWithin : (l : Gluing) (x : Lengths) (d : CellDart) → Type 0
+IsWithin l x d = IsEdge l x (inner_edge d.patch d.i d.j d.way)
 
 module _ {l : Gluing} {x : Lengths} (paved : HasWholeSides l) (len : AreLengths l x) where
   pub rim_is : (p : ℕ) (s : Way) (t : ℕ) → p < l.patches → t < size l x p s → IsDart l x (dart_along l x p s t)
@@ -51,31 +89,16 @@ module _ {l : Gluing} {x : Lengths} (paved : HasWholeSides l) (len : AreLengths 
   rim_patch p = elim [ south ↦ λ t. refl | east ↦ λ t. refl | north ↦ λ t. refl | west ↦ λ t. refl ]
 
   -- A border dart begins at its place of the side, and ends at the next one.
-  pub rim_starts : (p : ℕ) (s : Way) (t : ℕ) → p < l.patches → t < size l x p s
-      → ((dart_along l x p s t).patch ≡ p) × (column_of (dart_along l x p s t) ≡ side_column l x p s t)
-      × (row_of (dart_along l x p s t) ≡ side_row l x p s t)
-  rim_starts p south t low less = (refl, refl, refl)
-  rim_starts p east t low less = (refl, omega (arith, wide_some l x paved len p low), refl)
-  rim_starts p north t low less = (refl, omega (arith, len.across p low), omega (arith, high_some l x paved len p low))
-  rim_starts p west t low less = (refl, refl, omega arith)
-
-  pub rim_ends : (p : ℕ) (s : Way) (t : ℕ) → p < l.patches → t < size l x p s
-      → ((next (dart_along l x p s t)).patch ≡ p)
-      × (column_of (next (dart_along l x p s t)) ≡ side_column l x p s (t + 1))
-      × (row_of (next (dart_along l x p s t)) ≡ side_row l x p s (t + 1))
-  rim_ends p south t low less = (refl, refl, refl)
-  rim_ends p east t low less = (refl, omega (arith, wide_some l x paved len p low), refl)
-  rim_ends p north t low less = (refl, omega (arith, len.across p low), omega (arith, high_some l x paved len p low))
-  rim_ends p west t low less = (refl, refl, omega arith)
-
-  -- A side ends where the next one begins.
-  pub corner_is : (p : ℕ) (s : Way) {t : ℕ} → p < l.patches → t ≡ size l x p s
-      → (side_column l x p s t ≡ side_column l x p (side_after s) 0)
-      × (side_row l x p s t ≡ side_row l x p (side_after s) 0)
-  corner_is p south low e = (e, refl)
-  corner_is p east low e = (omega arith, omega (arith, len.upright p low))
-  corner_is p north low e = (omega (arith, len.across p low), omega arith)
-  corner_is p west low e = (refl, omega arith)
+  rim_grid : (p : ℕ) (s : Way) (t : ℕ) → p < l.patches → t < size l x p s → (column_of (dart_along l x p s t) ≡
+      side_column l x p s t) × (row_of (dart_along l x p s t) ≡ side_row l x p s t) × (column_of (next (dart_along l x p
+      s t)) ≡ side_column l x p s (t + 1)) × (row_of (next (dart_along l x p s t)) ≡ side_row l x p s (t + 1))
+  rim_grid p south t low less = (refl, refl, refl, refl)
+  rim_grid p east t low less = let some = wide_some l x paved len p low in (omega arith, refl, omega arith, refl)
+  rim_grid p north t low less =
+      let some = high_some l x paved len p low in
+      let same = len.across p low in
+      (omega arith, omega arith, omega arith, omega arith)
+  rim_grid p west t low less = (refl, omega arith, refl, omega arith)
 
   -- The border dart next to the last one of a side is the first one of the next side.
   pub corner_next : (p : ℕ) (s : Way) (t : ℕ) → p < l.patches → t + 1 ≡ size l x p s → next (dart_along l x p s t)
@@ -97,93 +120,72 @@ module _ {l : Gluing} {x : Lengths} (paved : HasWholeSides l) (len : AreLengths 
   pub rim_way : (p : ℕ) (s : Way) (t : ℕ) → (dart_along l x p s t).way ≡ s
   rim_way p = elim [ south ↦ λ t. refl | east ↦ λ t. refl | north ↦ λ t. refl | west ↦ λ t. refl ]
 
-  -- A grid point of a patch lies inside, or is where a border dart begins.
+  -- A grid point inside.
   pub record IsInner (p a b : ℕ) : Type 0 where
     pub a_some : 0 < a
     pub a_low : a < wide l x p
     pub b_some : 0 < b
     pub b_low : b < high l x p
 
-  pub record IsBorder (p a b : ℕ) (s : Way) (t : ℕ) : Type 0 where
-    pub low : t < size l x p s
-    pub column : a ≡ side_column l x p s t
-    pub row : b ≡ side_row l x p s t
-
-  pub on_rim : (p a b : ℕ) → p < l.patches → a ≤ wide l x p → b ≤ high l x p
-      → IsInner p a b ⊎ ((s : Way) × (t : ℕ) × IsBorder p a b s t)
-  on_rim p a b low a_le b_le = elim (cases_eq b 0) [
-    | inl bottom ↦ elim (cases_eq a (wide l x p)) [
-      | inl far ↦ inr (
-        east,
-        0,
-        record { low = omega (arith, len.upright p low, high_some l x paved len p low); column = far; row = bottom },
-      )
-      | inr near ↦ inr (south, a, record { low = omega arith; column = refl; row = bottom })
-    ]
-    | inr some ↦ elim (cases_eq b (high l x p)) [
-      | inl up ↦ elim (cases_eq a 0) [
-        | inl first ↦ inr (west, 0, record { low = high_some l x paved len p low; column = first; row = omega arith })
-        | inr later ↦ inr
-            (north, wide l x p - a, record { low = omega (arith, len.across p low); column = omega arith; row = up })
-      ]
-      | inr less ↦ elim (cases_eq a 0) [
-        | inl first ↦ inr (west, high l x p - b, record { low = omega arith; column = first; row = omega arith })
-        | inr later ↦ elim (cases_eq a (wide l x p)) [
-          | inl far ↦ inr (east, b, record { low = omega (arith, len.upright p low); column = far; row = refl })
-          | inr near ↦ inl
-              (record { a_some = omega arith; a_low = omega arith; b_some = omega arith; b_low = omega arith })
-        ]
-      ]
-    ]
+  -- A dart lies inside its patch or on the border.
+  pub on_rim : (p i j : ℕ) (w : Way) → IsDart l x (dart p i j w) → IsEdge l x (inner_edge p i j w)
+      ⊎ ((s : Way) × (t : ℕ) × (t < size l x p s) × (dart p i j w ≡ dart_along l x p s t))
+  on_rim p i j south d = elim (cases_eq j 0) [
+    | inl z ↦ inr (south, i, d.i_low, dart_is p south refl z)
+    | inr some ↦ inl (d.patch_low, d.i_low, omega arith, d.j_low)
+  ]
+  on_rim p i j east d = elim (cases_eq (i + 1) (wide l x p)) [
+    | inl z ↦ inr (east, j, omega (arith, len.upright p d.patch_low), dart_is p east (omega arith) refl)
+    | inr some ↦ inl (d.patch_low, omega arith, omega arith, d.j_low)
+  ]
+  on_rim p i j north d = elim (cases_eq (j + 1) (high l x p)) [
+    | inl z ↦
+        let low = len.across p d.patch_low in
+        inr (north, wide l x p - 1 - i, omega arith, dart_is p north (omega arith) (omega arith))
+    | inr some ↦ inl (d.patch_low, d.i_low, omega arith, omega arith)
+  ]
+  on_rim p i j west d = elim (cases_eq i 0) [
+    | inl z ↦ inr (west, high l x p - 1 - j, omega arith, dart_is p west z (omega arith))
+    | inr some ↦ inl (d.patch_low, omega arith, d.i_low, d.j_low)
   ]
 
-  -- The corner where a dart begins is a grid point of its patch.
-  pub corner_low : (d : CellDart) → IsDart l x d → (column_of d ≤ wide l x d.patch) × (row_of d ≤ high l x d.patch)
-  corner_low d is = by_way d.way
-    where
-      by_way : (w : Way) → (column d.i w ≤ wide l x d.patch) × (row d.j w ≤ high l x d.patch)
-      by_way south = (omega arith, omega arith)
-      by_way _ = (omega arith, omega arith)
+  -- Over a dart inside lies one that runs along the same edge.
+  pub over_dart : (p i j : ℕ) (w : Way) → IsEdge l x (inner_edge p i j w) → IsDart l x (over_at p i j w) × (inner_edge
+      (over_at p i j w).patch (over_at p i j w).i (over_at p i j w).j (over_at p i j w).way ≡ inner_edge p i j w)
+  over_dart p i j south h = (is_dart p i (j - 1) north h.0 h.1 (omega (arith, h.3)), ap (flat p i) (omega (arith, h.2)))
+  over_dart p i j east h = (is_dart p (i + 1) j west h.0 h.2 h.3, refl)
+  over_dart p i j north h = (is_dart p i (j + 1) south h.0 h.1 h.3, refl)
+  over_dart p i j west h =
+      (is_dart p (i - 1) j east h.0 (omega (arith, h.2)) h.3, ap (λ n. steep p n j) (omega (arith, h.1)))
 
-  pub dart_on_rim : (d : CellDart) → IsDart l x d
-      → IsInner d.patch (column_of d) (row_of d) ⊎ ((s : Way) × (t : ℕ) × IsBorder d.patch (column_of d) (row_of d) s t)
-  dart_on_rim d is = on_rim _ _ _ is.patch_low (corner_low d is).0 (corner_low d is).1
+  -- The dart inside that ends at a place of a side, and over it the one next to the border dart before.
+  pub rim_within : (p : ℕ) (s : Way) (t : ℕ) → p < l.patches → 0 < t → t < size l x p s → IsWithin l x (prev (dart_along
+      l x p s t)) × (over (prev (dart_along l x p s t)) ≡ next (dart_along l x p s (t - 1)))
+  rim_within p south t low some less = ((low, some, less, high_some l x paved len p low), refl)
+  rim_within p east t low some less =
+      ((low, omega (arith, wide_some l x paved len p low), some, omega (arith, len.upright p low)), refl)
+  rim_within p north t low some less =
+      let wide_is = len.across p low in
+      let high_more = high_some l x paved len p low in
+      ((low, omega arith, omega arith, omega arith), dart_is p west (omega arith) refl)
+  rim_within p west t low some less =
+      ((low, wide_some l x paved len p low, omega arith, omega arith), dart_is p south refl (omega arith))
 
-  module _ {R : CellDart → CellDart → Type 0} (turning : IsTurning l x R) where
-    -- Darts of a patch that leave one grid point are related.
-    pub darts_related : {d e : CellDart} → IsDart l x d → IsDart l x e → d.patch ≡ e.patch → column_of d ≡ column_of e
-        → row_of d ≡ row_of e → R d e
-    darts_related {d} {e} is_d is_e same c r = turning.on d _ e
-        (turning.self d _ (λ t. dart (same t) d.i d.j d.way))
-        (grid_related turning _ d.i d.j e.i e.j d.way e.way (record {
-          patch_low = is_e.patch_low;
-          i_low = omega (arith, ap (wide l x) same);
-          j_low = omega (arith, ap (high l x) same);
-        })
-        is_e c r)
+  -- Where the dart next to a border dart lies inside, the side goes on.
+  pub rim_ahead : (p : ℕ) (s : Way) (t : ℕ) → p < l.patches → t < size l x p s
+      → IsWithin l x (next (dart_along l x p s t)) → t + 1 < size l x p s
+  rim_ahead p south t low less i = i.2
+  rim_ahead p east t low less i = omega (arith, len.upright p low, i.3)
+  rim_ahead p north t low less i = omega (arith, len.across p low, i.1)
+  rim_ahead p west t low less i = omega (arith, i.2)
 
-    -- The dart after a border dart, and the next border dart.
-    rim_next : (p : ℕ) (s : Way) (t : ℕ) → p < l.patches → t < size l x p s → IsDart l x (next (dart_along l x p s t))
-    rim_next p s t low less =
-        let d = rim_is p s t low less in record { patch_low = d.patch_low; i_low = d.i_low; j_low = d.j_low }
-
-    pub rim_on : (p : ℕ) (s : Way) (t : ℕ) → p < l.patches → t + 1 < size l x p s
-        → R (next (dart_along l x p s t)) (dart_along l x p s (t + 1))
-    rim_on p s t low less =
-        let a = rim_ends p s t low (omega arith) in
-        let b = rim_starts p s (t + 1) low less in
-        darts_related (rim_next p s t low (omega arith)) (rim_is p s (t + 1) low less) (a.0 ∙ sym b.0) (a.1 ∙ sym b.1)
-        (a.2 ∙ sym b.2)
-
-    -- The same at the end of a side.
-    pub rim_round : (p : ℕ) (s : Way) (t : ℕ) → p < l.patches → t + 1 ≡ size l x p s → 0 < size l x p (side_after s)
-        → R (next (dart_along l x p s t)) (dart_along l x p (side_after s) 0)
-    rim_round p s t low e some =
-        let a = rim_ends p s t low (omega arith) in
-        let b = rim_starts p (side_after s) 0 low some in
-        let c = corner_is p s low e in
-        darts_related (rim_next p s t low (omega arith)) (rim_is p (side_after s) 0 low some) (a.0 ∙ sym b.0)
-        (a.1 ∙ c.0 ∙ sym b.1) (a.2 ∙ c.1 ∙ sym b.2)
+  -- Two darts inside in a row meet at a grid point inside.
+  pub inner_at : (p i j : ℕ) (w : Way) → IsEdge l x (inner_edge p i j w) → IsEdge l x (inner_edge p i j (side_before w))
+      → IsInner p (column i w) (row j w)
+  inner_at p i j south h k = record { a_some = k.1; a_low = k.2; b_some = h.2; b_low = h.3 }
+  inner_at p i j east h k = record { a_some = h.1; a_low = h.2; b_some = k.2; b_low = k.3 }
+  inner_at p i j north h k = record { a_some = k.1; a_low = k.2; b_some = h.2; b_low = h.3 }
+  inner_at p i j west h k = record { a_some = h.1; a_low = h.2; b_some = k.2; b_low = k.3 }
 
 module _ (l : Gluing) (x : Lengths) (laid : IsSurface l) (len : AreLengths l x) where
   pub border_point : (p : ℕ) (s : Way) (t : ℕ) → p < l.patches → t ≤ size l x p s
@@ -199,11 +201,11 @@ module _ (l : Gluing) (x : Lengths) (laid : IsSurface l) (len : AreLengths l x) 
   pub rim_from : (p : ℕ) (s : Way) (t : ℕ) → p < l.patches → t < size l x p s
       → dart_start l x (dart_along l x p s t) ≡ side_point l x p s t
   rim_from p s t low less =
-      let r = rim_starts laid.paved len p s t low less in
-      (λ k. point l x (r.0 k) (r.1 k) (r.2 k)) ∙ border_point p s t low (omega arith)
+      let r = rim_grid laid.paved len p s t low less in
+      (λ k. point l x (rim_patch laid.paved len p s t k) (r.0 k) (r.1 k)) ∙ border_point p s t low (omega arith)
 
   pub rim_to : (p : ℕ) (s : Way) (t : ℕ) → p < l.patches → t < size l x p s
       → dart_end l x (dart_along l x p s t) ≡ side_point l x p s (t + 1)
   rim_to p s t low less =
-      let r = rim_ends laid.paved len p s t low less in
-      (λ k. point l x (r.0 k) (r.1 k) (r.2 k)) ∙ border_point p s (t + 1) low (omega arith)
+      let r = rim_grid laid.paved len p s t low less in
+      (λ k. point l x (rim_patch laid.paved len p s t k) (r.2 k) (r.3 k)) ∙ border_point p s (t + 1) low (omega arith)

@@ -1,6 +1,8 @@
 -- Laws of runs laid end to end.
-use Rattle.std.proofs.Common.{◌≡◌, ℕ, zero, suc, ◌+◌, ◌-◌, ◌<◌, ◌≤◌, sym, ◌∙◌, ap, inl, inr, arith}
+use Rattle.std.proofs.Common.{◌≡◌, ℕ, zero, suc, ◌+◌, ◌-◌, ◌*◌, ◌/◌, ◌%◌, ◌<◌, ◌≤◌, sym, ◌∙◌, ap, inl, inr, arith}
 use Rattle.std.proofs.lemmas.Bool.{cases_eq, cond_both, cond-true, cond-false, ltb-true, ltb-false, lt-ltb, le-ltb}
+use Rattle.std.proofs.{Math.Nat.mod-lt, Math.Nat.div-lt_iff_lt-mul, Math.Nat.mul_comm, lemmas.Nat.mul-add-lt}
+use Rattle.std.proofs.{lemmas.Nat.same_from_place, lemmas.Nat.div-add-mod'}
 use Rattle.std.specs.Prelude.{nat_lt}
 use Rattle.def_math.specs.{Counts.count_below, Runs.run_at}
 
@@ -64,11 +66,8 @@ pub run_here : (f : ℕ → ℕ) (n t : ℕ) → t < count_below f n
 run_here f zero t l = absurd (omega arith)
 run_here f (suc n) t l =
     let from = run_from (count_below f) (suc n) t (omega arith) in
-    record {
-      low = run_low (count_below f) (suc n) t (omega arith);
-      inside = omega (arith, from, run_to (count_below f) (suc n) t (omega arith) l);
-      place = omega (arith, from);
-    }
+    let to = run_to (count_below f) (suc n) t (omega arith) l in
+    record { low = run_low (count_below f) (suc n) t (omega arith); inside = omega arith; place = omega arith }
 
 -- Places of runs are below the end.
 pub place_low : (f : ℕ → ℕ) (n k o : ℕ) → k < n → o < f k → count_below f k + o < count_below f n
@@ -81,3 +80,52 @@ pub place_same : (f : ℕ → ℕ) (n a k b o : ℕ) → a < n → b < n → k <
 place_same f n a k b o la lb lk lo same =
     let e : a ≡ b = sym (run_place f n a k la lk) ∙ ap (run_at (count_below f) n) same ∙ run_place f n b o lb lo in
     (e, omega (arith, ap (count_below f) e))
+
+-- A place below rows of so many is one of a row and a column.
+pub in_rows : (w h t : ℕ) → t < h * w → (t % w < w) × (t / w < h) × (t / w * w + t % w ≡ t)
+in_rows w h t low =
+    let some : 0 < w = elim (cases_eq w 0) [
+      | inl z ↦ let none : h * w ≡ 0 = ap (λ n. h * n) z ∙ omega arith in absurd (omega arith)
+      | inr n ↦ omega arith
+    ] in
+    (mod-lt t some, (div-lt_iff_lt-mul {k = w} {x = t} {y = h} some).1 low, div-add-mod' t w)
+
+-- Blocks of rows laid end to end: block p has h p rows of w p places.
+module _ (w h : ℕ → ℕ) (n : ℕ) where
+  abbrev pub cells_of : (p : ℕ) → ℕ
+  cells_of p = w p * h p
+
+  pub record IsCell (p i j : ℕ) : Type 0 where
+    pub low : p < n
+    pub column : i < w p
+    pub row : j < h p
+
+  abbrev pub number_of : (p i j : ℕ) → ℕ
+  number_of p i j = count_below cells_of p + (j * w p + i)
+
+  pub number_inside : {p i j : ℕ} → IsCell p i j → number_of p i j < count_below cells_of n
+  number_inside {p} {i} {j} c = place_low cells_of n p (j * w p + i) c.low (mul-add-lt j (w p) i (h p) c.row c.column)
+
+  pub cell_once : {p i j q c d : ℕ} → IsCell p i j → IsCell q c d → number_of p i j ≡ number_of q c d
+      → (p ≡ q) × (i ≡ c) × (j ≡ d)
+  cell_once {p} {i} {j} {q} {c} {d} a b same =
+      let s = place_same cells_of n p (j * w p + i) q (d * w q + c) a.low b.low
+      (mul-add-lt j (w p) i (h p) a.row a.column) (mul-add-lt d (w q) c (h q) b.row b.column) same in
+      let wide : w q ≡ w p = ap w (sym s.0) in
+      let r = same_from_place j i d c (w p) a.column (omega (arith, b.column)) (s.1 ∙ (λ t. d * wide t + c)) in
+      (s.0, r.1, r.0)
+
+  -- Each number below the end is that of a place.
+  abbrev pub block_at : (t : ℕ) → ℕ
+  block_at t = run_at (count_below cells_of) n t
+
+  abbrev pub rest_at : (t : ℕ) → ℕ
+  rest_at t = t - count_below cells_of (block_at t)
+
+  pub cell_here : (t : ℕ) → t < count_below cells_of n → IsCell (block_at t) (rest_at t % w (block_at t)) (rest_at t / w
+      (block_at t)) × (number_of (block_at t) (rest_at t % w (block_at t)) (rest_at t / w (block_at t)) ≡ t)
+  cell_here t low =
+      let run = run_here cells_of n t low in
+      let r = in_rows (w (block_at t)) (h (block_at t)) (rest_at t)
+      (rw (mul_comm (w (block_at t)) (h (block_at t))) at run.inside) in
+      (record { low = run.low; column = r.0; row = r.1 }, omega (arith, run.place, r.2))

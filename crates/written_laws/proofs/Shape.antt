@@ -1,28 +1,30 @@
 -- The new mesh has the shape of the old one, and the old one doubles no edge.
-use Rattle.std.proofs.Common.{◌≡◌, ℕ, ◌<◌, ◌≤◌, Bool, true, false, cond, not, ◌&&◌, refl, sym, ◌∙◌, ap, arith}
+use Rattle.std.proofs.Common.{◌≡◌, ◌⊎◌, ℕ, ◌<◌, ◌≤◌, Bool, false, cond, not, ◌&&◌, refl, sym, ◌∙◌, ap, inl, inr, arith}
 use Rattle.std.specs.Prelude.{◌==◌}
+use Rattle.sum_laws.proofs.Tests.{same_test}
 use Rattle.def_mesh.specs.declared.Kind.TheVariants.{Regular, Singular, Corner, Reflex}
 use Rattle.def_mesh.specs.{Faces.Faces, Darts.from_of, Manifold.IsManifold, Vertices.faces_at, Vertices.vertex_count}
-use Rattle.def_mesh.specs.{Kinds.is_inner, Kinds.is_regular, Kinds.kind_of, HalfEdges.half_edges, declared.Kind.Kind}
-use Rattle.def_layout.specs.Cells.{CellDart, IsDart, next}
-use Rattle.def_layout.specs.{Gluings.Gluing, Gluings.use_of, Surfaces.HasWholeSides, Surfaces.IsSurface, Fans.HasFans}
-use Rattle.def_layout.specs.{Lengths.Lengths, Lengths.AreLengths, Embeddings.IsEmbedding}
+use Rattle.def_mesh.specs.{Kinds.is_inner, Kinds.is_regular, Kinds.kind_of, HalfEdges.half_edges}
+use Rattle.def_mesh.specs.{HalfEdges.IsQuadManifold, declared.Kind.Kind}
+use Rattle.def_layout.specs.{Cells.CellDart, Cells.IsDart, Cells.next, Gluings.Gluing, Gluings.use_of}
+use Rattle.def_layout.specs.{Surfaces.HasWholeSides, Surfaces.IsSurface, Fans.HasFans, Lengths.Lengths}
+use Rattle.def_layout.specs.{Lengths.AreLengths, Embeddings.IsEmbedding}
 use Rattle.def_written.specs.Points.{Point, node, along, inside, IsPoint}
-use Rattle.def_written.specs.{Numbers.vertex_number, Numbers.vertices, NewFaces.dart_start, NewFaces.dart_end}
-use Rattle.def_written.specs.{NewFaces.new_faces, Edges.Edge, Edges.IsEdge, Edges.edge_start, Edges.edge_end}
-use Rattle.def_written.specs.{Edges.IsUndoubled, Shape.IsKeptNode, Shape.KeepsShape, Laws.LiesInMesh, Laws.LaidLaw}
-use Rattle.def_written.specs.Laws.{NumbersLaw, NewManifoldLaw, KeepsShapeLaw, ThreeLaw, MultipleLaw}
+use Rattle.def_written.specs.Laws.{LiesInMesh, LaidLaw, NumbersLaw, NewManifoldLaw, KeepsShapeLaw, ThreeLaw}
+use Rattle.def_written.specs.{Laws.MultipleLaw, Numbers.vertex_number, Numbers.vertices, NewFaces.dart_start}
+use Rattle.def_written.specs.{NewFaces.new_faces, Edges.IsEdge, Edges.IsUndoubled, Shape.IsKeptNode, Shape.KeepsShape}
 use Rattle.mesh_laws.proofs.{HalfEdges.manifold_law, Vertices.count_least}
-use Rattle.written_laws.proofs.Courses.{course, start_at, end_at, course_of, course_from, course_to}
-use Rattle.written_laws.proofs.{Borders.at_is, Borders.at_from, Borders.from_is, NewDarts.dart_number, NewDarts.next_is}
-use Rattle.written_laws.proofs.{NewDarts.at_number, NewDarts.number_from, Doubling.lengths_scale, Doubling.simple_three}
-use Rattle.written_laws.proofs.{Doubling.simple_multiple, Models.IsModel, Models.used_dart, Models.point_dart}
-use Rattle.written_laws.proofs.{Models.new_model, OldModel.old_laid, OldModel.old_model, OldModel.old_fans}
-use Rattle.written_laws.proofs.{OldModel.twin_is_across, Sides.use_some, Sides.use_begins, Numbers.number_low}
-use Rattle.written_laws.proofs.{Numbers.number_same, Simple.IsSimple, Manifold.manifold, EdgeDarts.edge_dart}
-use Rattle.written_laws.proofs.{EdgeNumbers.point_onto, Undoubled.simple_from, Undoubled.undoubled_from}
-use Rattle.written_laws.proofs.{ModelCounts.euler_is, Inners.IsVertex, Inners.vertex_from, Regulars.inside_regular}
-use Rattle.written_laws.proofs.{Regulars.along_regular, NodeKinds.node_faces, NodeKinds.node_inner, Sided.starts}
+use Rattle.written_laws.proofs.Courses.{Course, course, against, against_twice, against_ends, start_at, end_at}
+use Rattle.written_laws.proofs.Courses.{course_of, course_from, course_to}
+use Rattle.written_laws.proofs.NewDarts.{dart_number, next_is, at_number, number_from}
+use Rattle.written_laws.proofs.Models.{IsModel, used_dart, point_dart, new_model}
+use Rattle.written_laws.proofs.OldModel.{old_laid, old_model, old_fans, twin_is_across}
+use Rattle.written_laws.proofs.NodeKinds.{IsVertex, vertex_from, inside_regular, along_regular, faces_le, inner_to}
+use Rattle.written_laws.proofs.{Fans.alike_or_turned, Borders.at_is, Borders.at_from, Borders.from_is}
+use Rattle.written_laws.proofs.{Doubling.lengths_scale, Doubling.simple_three, Doubling.simple_multiple, Sides.use_some}
+use Rattle.written_laws.proofs.{Sides.use_begins, Numbers.number_low, Numbers.number_same, Simple.IsSimple}
+use Rattle.written_laws.proofs.{Simple.simple_by, Manifold.manifold, EdgeDarts.edge_dart, EdgeNumbers.point_onto}
+use Rattle.written_laws.proofs.{Undoubled.simple_from, Undoubled.undoubled_from, ModelCounts.euler_is, Sided.starts}
 
 module _ {faces : Faces} (man : IsManifold faces) {l : Gluing} {x : Lengths} (paved : HasWholeSides l)
     (len : AreLengths l x) {cell : CellDart → ℕ} {vertex : ℕ → ℕ} {arc_dart : ℕ → ℕ → ℕ}
@@ -31,80 +33,49 @@ module _ {faces : Faces} (man : IsManifold faces) {l : Gluing} {x : Lengths} (pa
   here = old_laid faces man l x paved len cell _ _ s
 
   module _ (model : IsModel faces l x here len cell) where
-    -- A dart that runs along an edge.
-    record IsRunner (e : Edge) (d : CellDart) (a : Bool) : Type 0 where
-      pub is_dart : IsDart l x d
-      pub edge : (course_of l x d).edge ≡ e
-      pub start : dart_start l x d ≡ start_at l x (course e a)
-      pub end : dart_end l x d ≡ end_at l x (course e a)
-
-    runner : (e : Edge) → IsEdge l x e → (d : CellDart) × (a : Bool) × IsRunner e d a
-    runner e is =
-        let (d, is_d, edge) = edge_dart l x here len e is in (
-          d,
-          (course_of l x d).ahead,
-          record {
-            is_dart = is_d;
-            edge = edge;
-            start = cc (course_from l x here len d is_d);
-            end = cc (course_to l x here len d is_d);
-          },
-        )
-
-    -- Runners with the same ends, or with exchanged ones, run along one edge.
-    same_way : {e f : Edge} {d c : CellDart} {a b : Bool} → IsRunner e d a → IsRunner f c b → start_at l x (course e a)
-        ≡ start_at l x (course f b) → end_at l x (course e a) ≡ end_at l x (course f b) → e ≡ f
-    same_way {d} {c} r q starts_same ends_same =
-        let starts = model.alike d c r.is_dart q.is_dart (r.start ∙ starts_same ∙ sym q.start) in
-        let ends = ap (from_of faces) (sym (model.turned d r.is_dart))
-        ∙ model.alike (next d) (next c) (next_is l x d r.is_dart) (next_is l x c q.is_dart)
-        (r.end ∙ ends_same ∙ sym q.end) ∙ ap (from_of faces) (model.turned c q.is_dart) in
-        let one = model.same d c r.is_dart q.is_dart
-        (man.edges_once (cell d) (cell c) (model.low d r.is_dart) (model.low c q.is_dart) (starts, ends)) in
-        sym r.edge ∙ ap (λ (k : CellDart). (course_of l x k).edge) one ∙ q.edge
-
-    other_way : {e f : Edge} {d c : CellDart} {a b : Bool} → IsRunner e d a → IsRunner f c b → start_at l x (course f b)
-        ≡ end_at l x (course e a) → end_at l x (course f b) ≡ start_at l x (course e a) → e ≡ f
-    other_way {d} {c} r q there back =
-        let to = model.alike c (next d) q.is_dart (next_is l x d r.is_dart) (q.start ∙ there ∙ sym r.end) in
-        let from = model.alike (next c) d (next_is l x c q.is_dart) r.is_dart (q.end ∙ back ∙ sym r.start) in
-        let twin = (manifold_law faces man).twin_found (cell d) (cell c) (model.low d r.is_dart) (model.low c q.is_dart)
-        (to ∙ ap (from_of faces) (model.turned d r.is_dart))
-        (ap (from_of faces) (sym (model.turned c q.is_dart)) ∙ from) in
-        let a = twin_is_across faces man l x paved len cell vertex arc_dart s d c r.is_dart q.is_dart twin in
-        sym r.edge ∙ sym a.edge ∙ q.edge
-
-    -- An edge with the ends of another, which may run backwards, is that edge.
-    ends_once : (g : Bool) {e f : Edge} → IsEdge l x e → IsEdge l x f → edge_start l x e ≡ start_at l x (course f g)
-        → edge_end l x e ≡ end_at l x (course f g) → e ≡ f
-    ends_once g {e} {f} is_e is_f lows tops =
-        by_ways (runner e is_e).1 (runner f is_f).1 g (runner e is_e).2 (runner f is_f).2 lows tops
-      where
-        by_ways : {d c : CellDart} (a b g : Bool) → IsRunner e d a → IsRunner f c b
-            → edge_start l x e ≡ start_at l x (course f g) → edge_end l x e ≡ end_at l x (course f g) → e ≡ f
-        by_ways true true true r q lows tops = same_way r q lows tops
-        by_ways true false false r q lows tops = same_way r q lows tops
-        by_ways true _ _ r q lows tops = other_way r q (sym tops) (sym lows)
-        by_ways false true false r q lows tops = same_way r q tops lows
-        by_ways false false true r q lows tops = same_way r q tops lows
-        by_ways false _ _ r q lows tops = other_way r q (sym lows) (sym tops)
+    -- The course of a dart is told by its ends.
+    tell : {d : CellDart} (k : Course) → IsDart l x d → IsEdge l x k.edge
+        → start_at l x (course_of l x d) ≡ start_at l x k → end_at l x (course_of l x d) ≡ end_at l x k
+        → course_of l x d ≡ k
+    tell {d} k is_d is_k starts ends =
+        let (e, is_e, edge) = edge_dart l x here len k.edge is_k in
+        elim (alike_or_turned k.ahead (course_of l x e).ahead) [
+          | inl ways ↦
+              let b : course_of l x e ≡ k = λ t. course (edge t) (sym ways t) in
+              let from = model.alike d e is_d is_e (course_from l x here len d is_d ∙ starts ∙ ap (start_at l x) (sym b)
+              ∙ sym (course_from l x here len e is_e)) in
+              let to = model.alike (next d) (next e) (next_is l x d is_d) (next_is l x e is_e)
+              (course_to l x here len d is_d ∙ ends ∙ ap (end_at l x) (sym b) ∙ sym (course_to l x here len e is_e)) in
+              ap (course_of l x) (model.same d e is_d is_e (man.edges_once (cell d) (cell e) (model.low d is_d)
+              (model.low e is_e) (from, cc (model.turned d is_d, model.turned e is_e)))) ∙ b
+          | inr ways ↦
+              let b : course_of l x e ≡ against k = λ t. course (edge t) (ways t) in
+              let k_ends = against_ends l x k in
+              let to = model.alike e (next d) is_e (next_is l x d is_d) (course_from l x here len e is_e
+              ∙ ap (start_at l x) b ∙ k_ends.0 ∙ sym ends ∙ sym (course_to l x here len d is_d)) in
+              let from = model.alike (next e) d (next_is l x e is_e) is_d (course_to l x here len e is_e
+              ∙ ap (end_at l x) b ∙ k_ends.1 ∙ sym starts ∙ sym (course_from l x here len d is_d)) in
+              let twin = (manifold_law faces man).twin_found (cell d) (cell e) (model.low d is_d) (model.low e is_e)
+              (cc (model.turned d is_d)) (cc (model.turned e is_e)) in
+              let a = twin_is_across faces man l x paved len cell vertex arc_dart s d e is_d is_e twin in
+              sym (against_twice (course_of l x d)) ∙ ap against (sym a.course ∙ b) ∙ against_twice k
+        ]
 
     pub old_simple : IsSimple l x
-    old_simple = record {
-      same = λ e f is_e is_f lows tops. ends_once true is_e is_f lows tops;
-      crossed = λ e f is_e is_f lows tops. ends_once false is_e is_f lows tops;
-      no_loop = λ e is loop. let (d, a, r) = runner e is in
-          ((manifold_law faces man).corners_differ (cell d) (model.low d r.is_dart)).0
-          (cc (
-            model.alike d (next d) r.is_dart (next_is l x d r.is_dart) (by_runner loop a r),
-            model.turned d r.is_dart,
-          ));
-    }
-      where
-        by_runner : {e : Edge} {d : CellDart} → edge_start l x e ≡ edge_end l x e → (a : Bool) → IsRunner e d a
-            → dart_start l x d ≡ dart_end l x d
-        by_runner loop true r = cc
-        by_runner loop false r = cc
+    old_simple = simple_by {l = l} {x = x} (λ c k is_c is_k starts ends.
+        let (d, is_d, edge) = edge_dart l x here len c.edge is_c in
+        elim (alike_or_turned c.ahead (course_of l x d).ahead) [
+          | inl ways ↦
+              let a : course_of l x d ≡ c = λ t. course (edge t) (sym ways t) in
+              sym a ∙ tell k is_d is_k (ap (start_at l x) a ∙ starts) (ap (end_at l x) a ∙ ends)
+          | inr ways ↦
+              let a : course_of l x d ≡ against c = λ t. course (edge t) (ways t) in
+              let c_ends = against_ends l x c in
+              let k_ends = against_ends l x k in
+              let same = tell (against k) is_d is_k (ap (start_at l x) a ∙ c_ends.0 ∙ ends ∙ sym k_ends.0)
+              (ap (end_at l x) a ∙ c_ends.1 ∙ starts ∙ sym k_ends.1) in
+              sym (against_twice c) ∙ ap against (sym a ∙ same) ∙ against_twice k
+        ])
 
 -- The kind of a vertex by what is counted there.
 kind_by : (inner : Bool) (many : ℕ) → Kind
@@ -116,7 +87,7 @@ unfolding kind_by
 kind_is F v = refl
 
 module _ {l : Gluing} {x : Lengths} {laid : IsSurface l} {len : AreLengths l x} {F : Faces} {cell : CellDart → ℕ}
-    (model : IsModel F l x laid len cell) where
+    (model : IsModel F l x laid len cell) (laws : IsQuadManifold (half_edges F)) where
   -- A vertex of a model that is not regular is that of a node.
   irregular_node : (d : CellDart) → IsDart l x d → is_regular F (from_of F (cell d)) ≡ false
       → (n : ℕ) × (n < l.nodes) × (dart_start l x d ≡ node n)
@@ -125,10 +96,8 @@ module _ {l : Gluing} {x : Lengths} {laid : IsSurface l} {len : AreLengths l x} 
       by_point : (a : Point) → dart_start l x d ≡ a → IsPoint l x a → (n : ℕ) × (n < l.nodes)
           × (dart_start l x d ≡ node n)
       by_point (node n) e is_a = (n, is_a, e)
-      by_point (along a k) e is_a = absurd
-          (cc (along_regular laid len model a k is_a (vertex_from model (from_of F (cell d)) is e refl)))
-      by_point (inside p i j) e is_a = absurd
-          (cc (inside_regular laid len model p i j is_a (vertex_from model (from_of F (cell d)) is e refl)))
+      by_point (along a k) e is_a = absurd (cc (along_regular model laws a k d is_a is e))
+      by_point (inside p i j) e is_a = absurd (cc (inside_regular model laws p i j d is_a is e))
 
 module _ {faces : Faces} {l : Gluing} {x : Lengths} {vertex : ℕ → ℕ} (lies : LiesInMesh faces l x vertex) where
   abbrev the_laid : IsSurface l
@@ -155,16 +124,22 @@ module _ {faces : Faces} {l : Gluing} {x : Lengths} {vertex : ℕ → ℕ} (lies
     new_is : IsModel (new_faces l y) l y the_laid lon (dart_number l y)
     new_is = new_model l y the_laid lon (simple_from l y undoubled)
 
+    new_manifold : IsManifold (new_faces l y)
+    new_manifold = manifold the_laid lon (simple_from l y undoubled) the_fans
+
     new_node : (n : ℕ) → n < l.nodes → IsVertex new_is (node n) n
     new_node n low =
         let d = point_dart l y the_laid lon _ low in
         vertex_from new_is n d.1 d.2 (cc (number_from l y d.0 d.1))
 
     same_faces : (n : ℕ) → n < l.nodes → faces_at (new_faces l y) n ≡ faces_at faces (vertex n)
-    same_faces n low = sym (node_faces n (node_vertex n low) (new_node n low))
+    same_faces n low =
+        let no_more = faces_le (node_vertex n low) (new_node n low) in
+        let no_less = faces_le (new_node n low) (node_vertex n low) in omega arith
 
     same_inner : (n : ℕ) → n < l.nodes → is_inner (new_faces l y) n ≡ is_inner faces (vertex n)
-    same_inner n low = sym (node_inner n (node_vertex n low) (new_node n low))
+    same_inner n low = same_test _ _ (inner_to (new_node n low) (node_vertex n low))
+        (inner_to (node_vertex n low) (new_node n low))
 
     kept : (n : ℕ) → n < l.nodes → IsKeptNode faces (new_faces l y) vertex n
     kept n low = record {
@@ -178,7 +153,7 @@ module _ {faces : Faces} {l : Gluing} {x : Lengths} {vertex : ℕ → ℕ} (lies
         let k = used_dart faces v lies.quads (lies.used v low) in
         let d = the_model.onto k.0 k.1 in
         let leaves = ap (from_of faces) d.2 ∙ k.2 in
-        let n = irregular_node the_model d.0 d.1 (cc) in
+        let n = irregular_node the_model (manifold_law faces lies.manifold) d.0 d.1 (cc) in
         (n.0, n.1, cc ((node_vertex n.0 n.1).there d.0 d.1 n.2), kept n.0 n.1)
 
     below : vertex_count (new_faces l y) ≤ vertices l y
@@ -193,7 +168,7 @@ module _ {faces : Faces} {l : Gluing} {x : Lengths} {vertex : ℕ → ℕ} (lies
         let a = point_onto l y v (omega (arith, low, below)) in
         let d = point_dart l y the_laid lon a.0 a.1 in
         let vertex_is = number_from l y d.0 d.1 ∙ ap (vertex_number l y) d.2 ∙ a.2 in
-        let n = irregular_node new_is d.0 d.1 (cc) in
+        let n = irregular_node new_is (manifold_law _ new_manifold) d.0 d.1 (cc) in
         let e = sym (ap (vertex_number l y) n.2) ∙ ap (vertex_number l y) d.2 ∙ a.2 in
         let v_low : v < l.nodes = omega arith in
         (v_low, (λ t. (sym (same_faces v v_low) t) == cond (sym (same_inner v v_low) t) 4 2) ∙ off)
@@ -201,7 +176,7 @@ module _ {faces : Faces} {l : Gluing} {x : Lengths} {vertex : ℕ → ℕ} (lies
     keeps : KeepsShape faces (new_faces l y) l.nodes vertex
     keeps = record {
       old_manifold = lies.manifold;
-      new_manifold = manifold the_laid lon (simple_from l y undoubled) the_fans;
+      new_manifold = new_manifold;
       euler = euler_is l y _ lon _ _ new_is ∙ sym (euler_is l x _ _ faces _ the_model);
       irregular = irregular;
       regular = regular;

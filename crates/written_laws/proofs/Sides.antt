@@ -1,11 +1,12 @@
 -- The points on a side of a patch.
-use Rattle.std.proofs.Common.{◌≡◌, ℕ, suc, ◌+◌, ◌-◌, ◌<◌, ◌≤◌, Bool, true, false, cond, refl, ◌∙◌, ap, inl, inr, arith}
+use Rattle.std.proofs.Common.{◌≡◌, ◌⊎◌, ℕ, zero, suc, ◌+◌, ◌-◌, ◌<◌, ◌≤◌, Bool, true, false, cond, refl, ◌∙◌, ap, inl}
 use Rattle.std.proofs.lemmas.Bool.{cases_eq, cases_lt, cond-true, cond-false, eq-eqb, ne_eqb}
+use Rattle.std.proofs.Common.{inr, arith}
 use Rattle.std.specs.Prelude.{◌==◌}
 use Rattle.def_layout.specs.Gluings.{Way, south, east, north, west, side_after, Gluing, Slot, IsSlot, use_of}
-use Rattle.def_layout.specs.Gluings.{start_node, end_node}
 use Rattle.def_layout.specs.Lengths.{Lengths, reach, size, AreLengths}
-use Rattle.def_layout.specs.{declared.tmesh.SideArc.SideArc, Surfaces.HasWholeSides, Surfaces.IsSurface}
+use Rattle.def_layout.specs.{Gluings.start_node, Gluings.end_node, declared.tmesh.SideArc.SideArc}
+use Rattle.def_layout.specs.Surfaces.{HasWholeSides, IsSurface}
 use Rattle.def_written.specs.Points.{node, along, arc_point, use_point, use_over, offset_at, side_point}
 use Rattle.written_laws.proofs.Runs.{count_rises, run_here, run_last, run_place}
 
@@ -25,28 +26,34 @@ module _ (l : Gluing) (x : Lengths) where
 
   -- An arc in use begins and ends at nodes.
   pub use_begins : (u : SideArc) → 0 < x u.arc → use_point l x u 0 ≡ node (start_node l u)
-  use_begins u some = by_way u.arc _ some
-    where
-      by_way : (a : ℕ) (b : Bool) → 0 < x a
-          → use_point l x (record { arc = a; forward = b }) 0 ≡ node (start_node l (record { arc = a; forward = b }))
-      by_way a = elim [ true ↦ λ pos_a. refl | false ↦ λ pos_a. arc_last a (x a - 0) (omega arith) (omega arith) ]
+  use_begins u some = elim u.forward as (λ b. use_point l x (record { arc = u.arc; forward = b }) 0
+      ≡ node (start_node l (record { arc = u.arc; forward = b }))) [
+        | true ↦ refl
+        | false ↦ arc_last u.arc (x u.arc - 0) (omega arith) (omega arith)
+      ]
 
   pub use_ends : (u : SideArc) (o : ℕ) → o ≡ x u.arc → 0 < o → use_point l x u o ≡ node (end_node l u)
-  use_ends u o e some = by_way u.arc _ e
-    where
-      by_way : (a : ℕ) (b : Bool) → o ≡ x a
-          → use_point l x (record { arc = a; forward = b }) o ≡ node (end_node l (record { arc = a; forward = b }))
-      by_way a true same = arc_last a o same some
-      by_way a false same = let z : x a - o ≡ 0 = omega arith in ap (arc_point l x a) z
+  use_ends u o e some = elim u.forward as (λ b. use_point l x (record { arc = u.arc; forward = b }) o
+      ≡ node (end_node l (record { arc = u.arc; forward = b }))) [
+        | true ↦ arc_last u.arc o e some
+        | false ↦ let z : x u.arc - o ≡ 0 = omega arith in ap (arc_point l x u.arc) z
+      ]
 
   pub use_inner : (u : SideArc) (o : ℕ) → 0 < o → o < x u.arc
       → use_point l x u o ≡ along u.arc (cond u.forward o (x u.arc - o))
-  use_inner u o some less = by_way u.arc _ less
-    where
-      by_way : (a : ℕ) (b : Bool) → o < x a
-          → use_point l x (record { arc = a; forward = b }) o ≡ along a (cond b o (x a - o))
-      by_way a true low = arc_inner a o some low
-      by_way a false low = arc_inner a _ (omega arith) (omega arith)
+  use_inner u o some less = elim u.forward as (λ b. use_point l x (record { arc = u.arc; forward = b }) o
+      ≡ along u.arc (cond b o (x u.arc - o))) [
+        | true ↦ arc_inner u.arc o some less
+        | false ↦ arc_inner u.arc _ (omega arith) (omega arith)
+      ]
+
+  -- A point before the end of an arc in use is the node where it begins, or lies along it.
+  pub use_sort : (u : SideArc) (o : ℕ) → o < x u.arc → ((o ≡ 0) × (use_point l x u o ≡ node (start_node l u)))
+      ⊎ ((0 < o) × (use_point l x u o ≡ along u.arc (cond u.forward o (x u.arc - o))))
+  use_sort u o less = elim (cases_eq o 0) [
+    | inl z ↦ inl (z, ap (use_point l x u) z ∙ use_begins u (omega arith))
+    | inr some ↦ inr (omega arith, use_inner u o (omega arith) less)
+  ]
 
   -- How long the arc at a place of a side is.
   abbrev pub long_at : (patch : ℕ) (side : Way) (at : ℕ) → ℕ
@@ -100,12 +107,6 @@ module _ (l : Gluing) (x : Lengths) where
     pub size_some : (p : ℕ) (s : Way) → p < l.patches → 0 < size l x p s
     size_some p s low = omega (arith, last_reach p s low, use_some (slot p s (l.many p s - 1)) (last_slot p s low))
 
-    pub side_begin : (p : ℕ) (s : Way) → p < l.patches → side_point l x p s 0 ≡ node (start_node l (l.use_at p s 0))
-    side_begin p s low =
-        let some : 0 < x (l.use_at p s 0).arc = use_some (slot p s 0) (first_slot p s low) in
-        let in_side = side_in 0 (first_slot p s low) some in
-        in_side ∙ use_begins (l.use_at p s 0) some
-
     pub side_end : (p : ℕ) (s : Way) (t : ℕ) → p < l.patches → t ≡ size l x p s
         → side_point l x p s t ≡ node (end_node l (l.use_at p s (l.many p s - 1)))
     side_end p s t low e =
@@ -121,11 +122,10 @@ module _ (l : Gluing) (x : Lengths) where
     first_is v is none = elim (cases_eq v.at 0) [
       | inl e ↦ e
       | inr later ↦
-          let first : IsSlot l (slot v.patch v.side 0) =
+          let before : IsSlot l (slot v.patch v.side (v.at - 1)) =
           record { patch_low = is.patch_low; low = omega (arith, is.low) } in
-          let le = count_rises (long_at v.patch v.side) 1 v.at (omega arith) in
-          let some : 0 < long_at v.patch v.side 0 = use_some (slot v.patch v.side 0) first in
-          absurd (omega (arith, le, some, none))
+          let at : suc (v.at - 1) ≡ v.at = omega arith in
+          absurd (omega (arith, use_some _ before, ap (reach l x v.patch v.side) at))
     ]
 
     -- The slot at the end of a side is its last one.
@@ -144,8 +144,11 @@ module _ (l : Gluing) (x : Lengths) where
     -- A side ends where the next one begins.
     pub corner_meets : (p : ℕ) (s : Way) (t : ℕ) → p < l.patches → t ≡ size l x p s
         → side_point l x p s t ≡ side_point l x p (side_after s) 0
-    corner_meets p s t low e = cc
-        (side_end laid.paved len p s t low e, at s, side_begin laid.paved len p (side_after s) low)
+    corner_meets p s t low e =
+        let first = first_slot laid.paved len p (side_after s) low in
+        let some = use_some laid.paved len (slot p (side_after s) 0) first in
+        let begins = use_begins (l.use_at p (side_after s) 0) some in
+        cc (side_end laid.paved len p s t low e, at s, side_in 0 first some, begins)
       where
         at : (s : Way) → end_node l (l.use_at p s (l.many p s - 1)) ≡ start_node l (l.use_at p (side_after s) 0)
         at south = laid.meet _ (first_slot laid.paved len p east low)
@@ -158,32 +161,20 @@ module _ (l : Gluing) (x : Lengths) where
         → side_point l x w.patch w.side t ≡ use_point l x (use_of l w) o
     side_upto w o t is le e = elim (cases_lt o (x (use_of l w).arc)) [
       | inl less ↦ cc (side_in o is less)
-      | inr more ↦ elim (cases_lt (suc w.at) (l.many w.patch w.side)) [
-        | inl another ↦ at_next more (record { patch_low = is.patch_low; low = another })
-        | inr last ↦ at_end more last
-      ]
+      | inr more ↦
+          let ends = use_ends (use_of l w) o (omega arith) (omega (arith, use_some laid.paved len w is)) in
+          elim (cases_lt (suc w.at) (l.many w.patch w.side)) [
+            | inl another ↦
+                let next : IsSlot l (slot w.patch w.side (suc w.at)) =
+                record { patch_low = is.patch_low; low = another } in
+                let same : t ≡ reach l x w.patch w.side (suc w.at) + 0 = omega arith in
+                let some = use_some laid.paved len (slot w.patch w.side (suc w.at)) next in
+                cc (side_in 0 next some, use_begins (l.use_at w.patch w.side (suc w.at)) some, laid.meet _ next, ends)
+            | inr last ↦
+                let m : w.at ≡ l.many w.patch w.side - 1 = omega arith in
+                let long = last_reach laid.paved len w.patch w.side is.patch_low in
+                let r = ap (reach l x w.patch w.side) m in
+                let u = ap (long_at w.patch w.side) m in
+                cc (side_end laid.paved len w.patch w.side t is.patch_low (omega (arith, long, r, u)), ends)
+          ]
     ]
-      where
-        at_next : x (use_of l w).arc ≤ o → IsSlot l (slot w.patch w.side (suc w.at))
-            → side_point l x w.patch w.side t ≡ use_point l x (use_of l w) o
-        at_next more next =
-            let same : t ≡ reach l x w.patch w.side (suc w.at) + 0 = omega arith in
-            let some = use_some laid.paved len (slot w.patch w.side (suc w.at)) next in
-            cc (
-              side_in 0 next some,
-              use_begins (l.use_at w.patch w.side (suc w.at)) some,
-              laid.meet (slot w.patch w.side (suc w.at)) next,
-              use_ends (use_of l w) o (omega arith) (omega (arith, use_some laid.paved len w is)),
-            )
-
-        at_end : x (use_of l w).arc ≤ o → l.many w.patch w.side ≤ suc w.at
-            → side_point l x w.patch w.side t ≡ use_point l x (use_of l w) o
-        at_end more last =
-            let m : w.at ≡ l.many w.patch w.side - 1 = omega arith in
-            let long = last_reach laid.paved len w.patch w.side is.patch_low in
-            let r = ap (reach l x w.patch w.side) m in
-            let u = ap (long_at w.patch w.side) m in
-            cc (
-              side_end laid.paved len w.patch w.side t is.patch_low (omega (arith, long, r, u)),
-              use_ends (use_of l w) o (omega arith) (omega (arith, use_some laid.paved len w is)),
-            )

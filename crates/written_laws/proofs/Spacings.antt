@@ -5,11 +5,11 @@ use Rattle.std.proofs.Math.Nat.{div-lt_iff_lt-mul, le-div_iff_mul-le, mod-lt, mu
 use Rattle.std.proofs.lemmas.Bool.{cases_eq, cond_both, cond-true, cond-false, eq-eqb, eqb-false, eqb-true, ne_eqb}
 use Rattle.std.proofs.lemmas.Nat.{div-mul-add, mul-le}
 use Rattle.std.specs.Prelude.{◌==◌}
+use Rattle.sum_laws.proofs.Counts.{count_below_ones}
 use Rattle.def_math.specs.{Counts.count_below, Runs.run_at}
 use Rattle.def_layout.specs.{Gluings.Gluing, Lengths.Lengths, Lengths.AreLengths}
-use Rattle.def_written.specs.Spacings.{counted, edge_begin, inner_step, shared, shared_parameter, shared_step}
-use Rattle.def_written.specs.Spacings.{step_parameter, IsSpacing, Shares}
-use Rattle.def_written.specs.{Laws.EvenSpacingLaw, Laws.SharedLaw, Places.even, Places.ONE, Places.Step}
+use Rattle.def_written.specs.Spacings.{counted, edge_begin, inner_step, shared_parameter, shared_step, step_parameter}
+use Rattle.def_written.specs.{Spacings.Shares, Laws.EvenSpacingLaw, Laws.SharedLaw, Places.ONE, Places.Step}
 use Rattle.written_laws.proofs.Runs.{count_rises, run_from, run_low, run_to}
 
 -- A quotient is below a number whose product is greater.
@@ -22,34 +22,10 @@ times_less k n m less some =
     let e : (k + 1) * m ≤ n * m = mul-le (k + 1) m n m (omega arith) (omega arith) in omega arith
 
 module _ (l : Gluing) (old new : Lengths) (o_len : AreLengths l old) (n_len : AreLengths l new) where
-  even_none : (a : ℕ) → a < l.arcs → ONE * 0 * old a / new a ≡ 0
-  even_none a low =
-      let less = div_less (ONE * 0 * old a) 1 (new a) (n_len.some a low) (omega (arith, n_len.some a low)) in
-      omega arith
-
-  even_whole : (a : ℕ) → a < l.arcs → ONE * new a * old a / new a ≡ ONE * old a
-  even_whole a low =
-      let by_parts : (n m : ℕ) → ONE * n * m ≡ ONE * m * n + 0 = λ n m. omega (arith, mul_comm n m) in
-      cc (by_parts (new a) (old a), div-mul-add (ONE * old a) (new a) 0 (n_len.some a low))
-
-  even_less : (a k : ℕ) → a < l.arcs → k < new a → ONE * k * old a / new a < ONE * old a
-  even_less a k low less =
-      let by_parts : (n m : ℕ) → k * m < n * m → ONE * k * m < ONE * m * n = λ n m e. omega (arith, mul_comm n m) in
-      div_less _ _ _ (n_len.some a low)
-      (by_parts (new a) (old a) (times_less k _ _ less (o_len.some a low)))
-
+  -- The old edge at a place of equal parts.
   pub even_edge : (a k : ℕ) → a < l.arcs → k < new a → k * old a / new a < old a
   even_edge a k low less = div_less _ _ _ (n_len.some a low)
       (rw (mul_comm (new a) (old a)) at (times_less k _ _ less (o_len.some a low)))
-
-  pub even_is : IsSpacing l old new (even old new)
-  even_is = record {
-    begins = λ a forward low. even_none a low;
-    ends = λ a forward low. even_whole a low;
-    below = λ a forward k low less. even_less a k low less;
-    edges = λ a k low less. even_edge a k low less;
-    parts = λ a k low less. mod-lt (k * old a) (n_len.some a low);
-  }
 
 -- A step that ends before this old edge, in parts of a parameter.
 pub record IsInner (m : ℕ) (step : Step) : Type 0 where
@@ -59,8 +35,7 @@ pub record IsInner (m : ℕ) (step : Step) : Type 0 where
 
 -- So many ones are that many.
 pub count_ones : (n : ℕ) → count_below (λ edge. 1) n ≡ n
-count_ones zero = refl
-count_ones (suc n) = omega (arith, count_ones n)
+count_ones = count_below_ones
 
 -- A number that is not 0 is more.
 positive : (n : ℕ) → (n ≡ 0 → ⊥) → 0 < n
@@ -87,44 +62,33 @@ module _ (share : ℕ → ℕ) (m n k : ℕ) (m_some : 0 < m) (all_some : 0 < co
   abbrev edge : ℕ
   edge = run_at start m before
 
-  edge_low : edge < m
-  edge_low = run_low start m _ m_some
-
-  edge_from : start edge ≤ before
-  edge_from = run_from start m _ (omega arith)
-
   -- The rest is a part of the share of the edge.
   rest_less : before - start edge < n * share edge
   rest_less =
       let to = run_to start m _ m_some (times_less k n _ less all_some) in
       let sum = mul-add n (count_below share edge) (share edge) in
-      omega (arith, to, sum, edge_from)
+      omega (arith, to, sum, run_from start m before (omega arith))
 
   share_some : 0 < n * share edge
   share_some = omega (arith, rest_less)
 
   pub inner_is : IsInner m (inner_step share m n k)
-  inner_is = record { edge = edge_low; part = div_less _ ONE _ share_some (omega (arith, rest_less)); parts = refl }
+  inner_is = let part = div_less _ ONE _ share_some (omega (arith, rest_less)) in
+      record { edge = run_low start m _ m_some; part = part; parts = refl }
 
   -- It does not lie at the beginning of the arc, where no new edge is shorter than the unit of parameters.
   inner_some : 0 < k → n ≤ ONE → 0 < step_parameter (inner_step share m n k)
   inner_some some few = elim (cases_eq edge 0) [
     | inr ne ↦ sum_some edge _ (inl (positive edge ne))
-    | inl first ↦ sum_some edge _ (inr (rest_some first))
+    | inl first ↦
+        let one : count_below share 1 ≤ count_below share m = count_rises share 1 m (omega arith) in
+        let same : share edge ≡ share 0 = ap share first in
+        let none : start edge ≡ n * 0 = ap start first in
+        let all = mul-le 1 (count_below share m) k (count_below share m) some (omega arith) in
+        let le = mul-le n (share edge) ONE (before - start edge) few (omega arith) in
+        sum_some edge _ (inr ((le-div_iff_mul-le {k = n * share edge} {x = 1} {y = ONE * (before - start edge)}
+        share_some).1 (omega arith)))
   ]
-    where
-      share_le : edge ≡ 0 → share edge ≤ before - start edge
-      share_le first =
-          let one : count_below share 1 ≤ count_below share m = count_rises share 1 m (omega arith) in
-          let same : share edge ≡ share 0 = ap share first in
-          let none : start edge ≡ n * 0 = ap start first in
-          let le = mul-le 1 (count_below share m) k (count_below share m) some (omega arith) in
-          omega arith
-
-      rest_some : edge ≡ 0 → 0 < ONE * (before - start edge) / (n * share edge)
-      rest_some first = (le-div_iff_mul-le {k = n * share edge} {x = 1} {y = ONE * (before - start edge)} share_some).1
-          (let le = mul-le n (share edge) ONE (before - start edge) few (share_le first) in
-          omega arith)
 
 module _ (l : Gluing) (old new : Lengths) (shares : Shares) (o_len : AreLengths l old) (n_len : AreLengths l new) where
   -- Place k of an arc before its end.
@@ -135,25 +99,18 @@ module _ (l : Gluing) (old new : Lengths) (shares : Shares) (o_len : AreLengths 
       (λ ne. inner_is _ _ _ k (o_len.some a low) (counted_some _ _ (o_len.some a low)) less))
 
   -- Its end.
-  pub step_end : (a : ℕ) → a < l.arcs → shared_step old new shares a (new a) ≡ edge_begin (old a)
-  step_end a low = cond-false (new a == 0) (edge_begin 0) _ (ne_eqb (new a) 0 (λ e. omega (arith, n_len.some a low)))
-      ∙ cond-true (new a == new a) (edge_begin (old a)) _ (eq-eqb (new a) (new a) refl)
-
   parameter_end : (a : ℕ) → a < l.arcs → step_parameter (shared_step old new shares a (new a)) ≡ ONE * old a
-  parameter_end a low = ap step_parameter (step_end a low) ∙ omega arith
-
-  parameter_less : (a k : ℕ) → a < l.arcs → k < new a → step_parameter (shared_step old new shares a k) < ONE * old a
-  parameter_less a k low less = omega (arith, (step_is a k low less).edge, (step_is a k low less).part)
+  parameter_end a low = ap step_parameter (cond-false (new a == 0) (edge_begin 0) _ (ne_eqb (new a) 0
+      (λ e. omega (arith, n_len.some a low)))
+      ∙ cond-true (new a == new a) (edge_begin (old a)) _ (eq-eqb (new a) (new a) refl)) ∙ omega arith
 
   module _ (few : (a : ℕ) → a < l.arcs → new a ≤ ONE) where
     parameter_some : (a k : ℕ) → a < l.arcs → 0 < k → k ≤ new a → 0 < step_parameter (shared_step old new shares a k)
     parameter_some a k low some le = cond_both (k == 0) (edge_begin 0) _ (λ s. 0 < step_parameter s)
         (λ e. absurd (omega (arith, eqb-true k 0 e))) (λ e. cond_both (k == new a) (edge_begin (old a)) _ (λ s. 0
         < step_parameter s) (λ same. omega (arith, o_len.some a low)) (λ ne. inner_some _ _ _ k (o_len.some a low)
-        (counted_some _ _ (o_len.some a low)) (by_order k _ le (eqb-false k (new a) ne)) some (few a low)))
-      where
-        by_order : (i n : ℕ) → i ≤ n → (i ≡ n → ⊥) → i < n
-        by_order i n i_le ne = elim (cases_eq i n) [ inl e ↦ absurd (ne e) | inr other ↦ omega arith ]
+        (counted_some _ _ (o_len.some a low)) (elim (cases_eq k (new a))
+        [ inl e ↦ absurd (eqb-false k (new a) ne e) | inr other ↦ omega arith ]) some (few a low)))
 
     begins_at : (a : ℕ) (forward : Bool) → a < l.arcs → shared_parameter old new shares a forward 0 ≡ 0
     begins_at a true low = refl
@@ -170,21 +127,31 @@ module _ (l : Gluing) (old new : Lengths) (shares : Shares) (o_len : AreLengths 
 
     below_end : (a : ℕ) (forward : Bool) (k : ℕ) → a < l.arcs → k < new a
         → shared_parameter old new shares a forward k < ONE * old a
-    below_end a true k low less = parameter_less a k low less
+    below_end a true k low less = omega (arith, (step_is a k low less).edge, (step_is a k low less).part)
     below_end a false k low less =
         omega (arith, parameter_some a (new a - k) low (omega (arith, less)) (omega arith), o_len.some a low)
 
-    pub shared_is : IsSpacing l old new (shared old new shares)
-    shared_is = record {
-      begins = begins_at;
-      ends = ends_at;
-      below = below_end;
-      edges = λ a k low less. (step_is a k low less).edge;
-      parts = λ a k low less. omega (arith, (step_is a k low less).part, (step_is a k low less).parts);
-    }
-
 pub even_law : EvenSpacingLaw
-even_law l old new o_len n_len = even_is l old new o_len n_len
+even_law l old new o_len n_len = record {
+  begins = λ a forward low.
+      let less = div_less (ONE * 0 * old a) 1 (new a) (n_len.some a low) (omega (arith, n_len.some a low)) in
+      omega arith;
+  ends = λ a forward low.
+      let by_parts : (n m : ℕ) → ONE * n * m ≡ ONE * m * n + 0 = λ n m. omega (arith, mul_comm n m) in
+      cc (by_parts (new a) (old a), div-mul-add (ONE * old a) (new a) 0 (n_len.some a low));
+  below = λ a forward k low less.
+      let by_parts : (n m : ℕ) → k * m < n * m → ONE * k * m < ONE * m * n = λ n m e. omega (arith, mul_comm n m) in
+      div_less _ _ _ (n_len.some a low) (by_parts (new a) (old a) (times_less k _ _ less (o_len.some a low)));
+  edges = even_edge l old new o_len n_len;
+  parts = λ a k low less. mod-lt (k * old a) (n_len.some a low);
+}
 
 pub shared_law : SharedLaw
-shared_law l old new shares o_len n_len few = shared_is l old new _ o_len n_len few
+shared_law l old new shares o_len n_len few = record {
+  begins = begins_at l old new shares o_len n_len few;
+  ends = ends_at l old new shares o_len n_len few;
+  below = below_end l old new shares o_len n_len few;
+  edges = λ a k low less. (step_is l old new shares o_len n_len a k low less).edge;
+  parts = λ a k low less.
+      let s = step_is l old new shares o_len n_len a k low less in omega (arith, s.part, s.parts);
+}

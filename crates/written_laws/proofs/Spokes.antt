@@ -3,10 +3,9 @@ use Rattle.std.proofs.Common.{◌≡◌, ◌≢◌, ◌⊎◌, ℕ, ◌+◌, ◌
 use Rattle.std.proofs.Common.{inl, inr, arith}
 use Rattle.def_layout.specs.Gluings.{Way, south, east, north, west, Gluing}
 use Rattle.def_layout.specs.{Surfaces.IsSurface, Lengths.Lengths, Lengths.wide, Lengths.high, Lengths.AreLengths}
-use Rattle.def_written.specs.Points.{Point, node, along, inside, arc_point, use_over, offset_at, point}
+use Rattle.def_written.specs.Points.{Point, inside, side_point, point}
 use Rattle.def_written.specs.Edges.{Edge, on_arc, flat, steep, IsEdge, edge_start, edge_end}
-use Rattle.written_laws.proofs.{Sides.IsOn, Sides.place_on, Grid.point_inside, Rims.IsInner, Rims.IsBorder}
-use Rattle.written_laws.proofs.{Rims.border_point, Rims.on_rim, Borders.use_not_inside}
+use Rattle.written_laws.proofs.{Grid.point_inside, Rims.IsInner, Borders.arc_not_inside, Borders.side_not_inside}
 
 -- All lengths are at least 2, no arc of length 2 has equal ends, and no two points of a patch that is 2 wide or high
 -- are the same across it.
@@ -57,44 +56,20 @@ module _ (l : Gluing) (x : Lengths) where
   abbrev pub Joins : (e : Edge) (a b : Point) → Type 0
   Joins e a b = ((edge_start l x e ≡ a) × (edge_end l x e ≡ b)) ⊎ ((edge_start l x e ≡ b) × (edge_end l x e ≡ a))
 
-  pub joins_swap : (e : Edge) (a b : Point) → Joins e a b → Joins e b a
-  joins_swap e a b (inl s) = inr s
-  joins_swap e a b (inr s) = inl s
-
-  pub arc_not_inside : (a k p i j : ℕ) → arc_point l x a k ≢ inside p i j
-  arc_not_inside a k p i j e = by_tests _ _ e
-    where
-      by_tests : (b c : Bool) → cond b (node (l.first a)) (cond c (node (l.last a)) (along a k)) ≢ inside p i j
-      by_tests true c s = cc
-      by_tests false true s = cc
-      by_tests false false s = cc
-
-  -- The point of an arc that lies along it.
-  pub arc_sort : (a k b m : ℕ) → arc_point l x a k ≡ along b m → (a ≡ b) × (k ≡ m)
-  arc_sort a k b m e = by_tests _ _ e
-    where
-      by_tests : (c d : Bool) → cond c (node (l.first a)) (cond d (node (l.last a)) (along a k)) ≡ along b m
-          → (a ≡ b) × (k ≡ m)
-      by_tests false false s = (cc, cc)
-      by_tests _ _ s = absurd cc
-
   module _ (laid : IsSurface l) (len : AreLengths l x) where
     -- The grid point that lies inside.
     pub point_sort : (q k m p i j : ℕ) → q < l.patches → k ≤ wide l x q → m ≤ high l x q
         → point l x q k m ≡ inside p i j → (q ≡ p) × (k ≡ i) × (m ≡ j)
-    point_sort q k m p i j q_low k_le m_le e = elim (on_rim laid.paved len q k m q_low k_le m_le) [
-      | inl n ↦
-          let s = sym (point_inside l x laid len q k m n.a_some n.a_low n.b_some n.b_low) ∙ e in
-          (cc, cc, cc)
-      | inr b ↦ absurd (at_border b.0 b.1 b.2)
-    ]
+    point_sort q k m p i j q_low k_le m_le e = by_tests _ _ _ _ e
       where
-        at_border : (s : Way) (t : ℕ) → IsBorder laid.paved len q k m s t → ⊥
-        at_border s t b =
-            let on : IsOn l x q s t (use_over l x q s t) (offset_at l x q s t) = place_on l x q s t q_low b.low in
-            use_not_inside l x (l.use_at q s (use_over l x q s t)) (offset_at l x q s t) p i j on.inside
-            (sym (border_point l x laid len q s t q_low (omega (arith, b.low)))
-            ∙ (λ r. point l x q (sym b.column r) (sym b.row r)) ∙ e)
+        by_tests : (b c d f : Bool) → cond b (side_point l x q south k) (cond c
+            (side_point l x q north (wide l x q - k)) (cond d (side_point l x q west (high l x q - m))
+            (cond f (side_point l x q east m) (inside q k m)))) ≡ inside p i j → (q ≡ p) × (k ≡ i) × (m ≡ j)
+        by_tests false false false false s = (cc, cc, cc)
+        by_tests false false false true s = absurd (side_not_inside l x q east m p i j s)
+        by_tests false false true f s = absurd (side_not_inside l x q west (high l x q - m) p i j s)
+        by_tests false true d f s = absurd (side_not_inside l x q north (wide l x q - k) p i j s)
+        by_tests true c d f s = absurd (side_not_inside l x q south k p i j s)
 
     abbrev pub Inner : (p i j : ℕ) → Type 0
     Inner p i j = (p < l.patches) × IsInner laid.paved len p i j
@@ -116,8 +91,8 @@ module _ (l : Gluing) (x : Lengths) where
     -- An edge with an end inside a patch is a spoke from there.
     pub hub_edge : (f : Edge) (p i j : ℕ) (t : Point) → IsEdge l x f → Joins f (inside p i j) t
         → (w : Way) × (f ≡ spoke p i j w) × (t ≡ tip p i j w)
-    hub_edge (on_arc a k) p i j t is (inl s) = absurd (arc_not_inside a k p i j s.0)
-    hub_edge (on_arc a k) p i j t is (inr s) = absurd (arc_not_inside a (k + 1) p i j s.1)
+    hub_edge (on_arc a k) p i j t is (inl s) = absurd (arc_not_inside l x a k p i j s.0)
+    hub_edge (on_arc a k) p i j t is (inr s) = absurd (arc_not_inside l x a (k + 1) p i j s.1)
     hub_edge (flat q k m) p i j t is (inl s) =
         let e = point_sort q k m p i j is.0 (omega (arith, is.1)) (omega (arith, is.3)) s.0 in
         (east, (λ r. flat (e.0 r) (e.1 r) (e.2 r)), sym s.1 ∙ (λ r. point l x (e.0 r) (e.1 r + 1) (e.2 r)))
@@ -135,16 +110,16 @@ module _ (l : Gluing) (x : Lengths) where
 
     -- A spoke has no equal ends.
     pub loop_at : (e : Edge) (p i j : ℕ) (w : Way) → Inner p i j → e ≡ spoke p i j w → edge_start l x e ≢ edge_end l x e
-    loop_at e p i j w n is same = elim (spoke_joins p i j w n) [
-      | inl s ↦ at_tip (cc (s.1, equal, s.0))
-      | inr s ↦ at_tip (cc (s.0, equal, s.1))
-    ]
+    loop_at e p i j w n is same =
+        let equal = subst (λ (f : Edge). edge_start l x f ≡ edge_end l x f) is same in
+        elim (spoke_joins p i j w n) [
+          | inl s ↦ at_tip (sym s.1 ∙ sym equal ∙ s.0)
+          | inr s ↦ at_tip (sym s.0 ∙ equal
+              ∙ s.1)
+        ]
       where
-        equal : edge_start l x (spoke p i j w) ≡ edge_end l x (spoke p i j w)
-        equal = subst (λ (f : Edge). edge_start l x f ≡ edge_end l x f) is same
-
         at_tip : tip p i j w ≡ inside p i j → ⊥
         at_tip f =
-            let s =
-            point_sort p (tip_column i w) (tip_row j w) p i j n.0 (tip_low p i j w n).0 (tip_low p i j w n).1 f in
+            let low = tip_low p i j w n in
+            let s = point_sort p (tip_column i w) (tip_row j w) p i j n.0 low.0 low.1 f in
             no_tip_at_hub w n.1.a_some n.1.b_some s.1 s.2

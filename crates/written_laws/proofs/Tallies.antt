@@ -1,5 +1,5 @@
 -- How many numbers below a bound pass a test, compared by one-to-one maps.
-use Rattle.std.proofs.Common.{◌≡◌, ◌≢◌, ℕ, zero, suc, ◌+◌, ◌<◌, ◌≤◌, Bool, true, false, cond, [], ◌∷◌, length, refl}
+use Rattle.std.proofs.Common.{[], ◌≡◌, ◌≢◌, ℕ, zero, suc, ◌+◌, ◌<◌, ◌≤◌, Bool, true, false, cond, ◌∷◌, length, refl}
 use Rattle.std.proofs.Common.{sym, ◌∙◌, ap, inl, inr, arith}
 use Rattle.std.proofs.lemmas.Bool.{cases_eq, cases_Bool, cond-true, cond-false, eq-eqb, ne_eqb}
 use Rattle.std.proofs.lemmas.List.{length-append}
@@ -23,9 +23,6 @@ but p u k = cond (k == u) false (p k)
 but_same : (p : ℕ → Bool) {u k : ℕ} → k ≢ u → but p u k ≡ p k
 but_same p {u} {k} apart = cond-false (k == u) false (p k) (ne_eqb k u apart)
 
-but_none : (p : ℕ → Bool) (u k : ℕ) → k ≡ u → but p u k ≡ false
-but_none p u k same = cond-true (k == u) false (p k) (eq-eqb k u same)
-
 -- One less passes.
 passing_but : (p : ℕ → Bool) (n u : ℕ) → u < n → p u ≡ true → passing p n ≡ suc (passing (but p u) n)
 passing_but p zero u low on = absurd (omega arith)
@@ -34,7 +31,7 @@ passing_but p (suc n) u low on = elim (cases_eq n u) [
       let rest = count_below_same (λ k. one_if (p k)) (λ k. one_if (but p u k)) n
       (λ k l. ap one_if (sym (but_same p {u = u} {k = k} (λ s. omega arith)))) in
       let last : one_if (p n) ≡ 1 = ap one_if (ap p e ∙ on) in
-      let none : one_if (but p u n) ≡ 0 = ap one_if (but_none p u n e) in
+      let none : one_if (but p u n) ≡ 0 = ap one_if (cond-true (n == u) false (p n) (eq-eqb n u e)) in
       omega arith
   | inr apart ↦
       let last : one_if (p n) ≡ one_if (but p u n) = ap one_if (sym (but_same p apart)) in
@@ -91,3 +88,10 @@ filter_long p (suc n) =
     let one_more : suc n ≡ n + 1 = omega arith in
     ap (λ m. length (filter p (range_with_len 0 m))) one_more ∙ ap length (filter_range_more p n)
     ∙ length-append (filter p (range_with_len 0 n)) (cond (p n) (n ∷ []) []) ∙ (λ t. filter_long p n t + last (p n) t)
+
+-- So many things that pass are as many as the same things told by numbers below n.
+pub count_is : {X : Type 0} {P : X → Type 0} {a b : X → ℕ} {p : ℕ → Bool} {m n : ℕ} → AreNumbers P a p m
+    → AreNumbers P b (λ k. true) n → ((d e : X) → P d → P e → b d ≡ b e → a d ≡ a e)
+    → ((d e : X) → P d → P e → a d ≡ a e → b d ≡ b e) → length (filter p (range_with_len 0 m)) ≡ n
+count_is {p} {m} {n} r s there back =
+    omega (arith, filter_long p m, passing_all n, numbers_le r s there, numbers_le s r back)
