@@ -4,7 +4,7 @@ use Rattle.def_mesh.specs.Darts.{darts, next_of, from_of, to_of}
 use Rattle.def_mesh.specs.{HalfEdges.half_edges, Vertices.vertex_count}
 use Rattle.def_cut.specs.Grids.{cell_of, patch_at}
 use Rattle.def_layout.specs.Cells.{CellDart, IsDart, dart, next, slot_dart}
-use Rattle.def_layout.specs.Gluings.{Way, south, east, north, west, Gluing, Slot, IsSlot, use_of}
+use Rattle.def_layout.specs.Gluings.{Way, south, east, north, west, Gluing, use_of}
 use Rattle.def_layout.specs.Lengths.{Lengths, wide, high, AreLengths}
 use Rattle.def_layout.specs.{Arcs.dart_at, Arcs.long_at, Surfaces.IsSurface, Layouts.Layout, Layouts.gluing_of}
 use Rattle.def_layout.specs.{Layouts.vertex_at, Embeddings.IsEmbedding, declared.tmesh.SideArc.SideArc}
@@ -20,10 +20,10 @@ use Rattle.written_laws.proofs.Sides.{use_begins, use_some, arc_inner}
 use Rattle.written_laws.proofs.{Grid.point_inside, NewDarts.next_is, OldModel.old_model, Sided.starts}
 
 module _ (layout : Layout) (is : IsSomeLayout layout) where
-  abbrev l : Gluing
+  abbrev pub l : Gluing
   l = gluing_of layout
 
-  abbrev x : Lengths
+  abbrev pub x : Lengths
   x = long_at layout.arcs
 
   laid : IsSurface (gluing_of layout)
@@ -43,14 +43,6 @@ module _ (layout : Layout) (is : IsSomeLayout layout) where
       (cell_dart (half_edges is.faces) layout)
       (vertex_at layout) (dart_at layout.arcs)
   sided = sides_in_mesh is.faces is.marks layout is.mesh is.quads is.cut is.laid
-
-  next_cell : (d : CellDart) → cell (next d) ≡ next_of (cell d)
-  next_cell d = sided.turned d
-
-  alike : (d e : CellDart) → IsDart l x d → IsDart l x e → dart_start l x d ≡ dart_start l x e
-      → from_of is.faces (cell d) ≡ from_of is.faces (cell e)
-  alike d e is_d is_e same = (old_model is.faces in_mesh.manifold l x in_mesh.paved in_mesh.lengths cell
-      (vertex_at layout) (dart_at layout.arcs) sided in_mesh.quads).alike d e is_d is_e same
 
   -- At each point a dart leaves the old vertex.
   point_vertex : (a : Point) → IsPoint l x a → (d : CellDart) × IsDart l x d × (dart_start l x d ≡ a)
@@ -87,37 +79,33 @@ module _ (layout : Layout) (is : IsSomeLayout layout) where
       subst (λ v. v < vertex_count is.faces) e.3 (all_below is.faces (cell e.0) (sided.low e.0 e.1))
 
   old_from : (d : CellDart) → IsDart l x d → old_vertex is.faces layout (dart_start l x d) ≡ from_of is.faces (cell d)
-  old_from d is_d = by_vertex (point_vertex (dart_start l x d) (from_is l x laid len d is_d))
-    where
-      by_vertex : (e : CellDart) × IsDart l x e × (dart_start l x e ≡ dart_start l x d)
-          × (from_of is.faces (cell e) ≡ old_vertex is.faces layout (dart_start l x d))
-          → old_vertex is.faces layout (dart_start l x d) ≡ from_of is.faces (cell d)
-      by_vertex e = sym e.3 ∙ alike e.0 d e.1 is_d e.2
+  old_from d is_d =
+      let (e, is_e, same, from) = point_vertex (dart_start l x d) (from_is l x laid len d is_d) in
+      sym from ∙ (old_model is.faces in_mesh.manifold l x in_mesh.paved in_mesh.lengths cell (vertex_at layout)
+      (dart_at layout.arcs) sided in_mesh.quads).alike e d is_e is_d same
 
   -- The corners of an old cell.
   pub record AreCorners (p a b d : ℕ) : Type 0 where
     pub low : d < darts is.faces
-    pub south_west : old_vertex is.faces layout (point (gluing_of layout) (long_at layout.arcs) p a b)
-        ≡ from_of is.faces d
-    pub south_east : old_vertex is.faces layout (point (gluing_of layout) (long_at layout.arcs) p (a + 1) b)
-        ≡ from_of is.faces (next_of d)
-    pub north_east : old_vertex is.faces layout (point (gluing_of layout) (long_at layout.arcs) p (a + 1) (b + 1))
-        ≡ from_of is.faces (next_of (next_of d))
-    pub north_west : old_vertex is.faces layout (point (gluing_of layout) (long_at layout.arcs) p a (b + 1))
+    pub south_west : old_vertex is.faces layout (point l x p a b) ≡ from_of is.faces d
+    pub south_east : old_vertex is.faces layout (point l x p (a + 1) b) ≡ from_of is.faces (next_of d)
+    pub north_east : old_vertex is.faces layout (point l x p (a + 1) (b + 1)) ≡ from_of is.faces (next_of (next_of d))
+    pub north_west : old_vertex is.faces layout (point l x p a (b + 1))
         ≡ from_of is.faces (next_of (next_of (next_of d)))
 
-  pub corners : (p a b : ℕ) → p < length layout.patches → a < wide (gluing_of layout) (long_at layout.arcs) p → b
-      < high (gluing_of layout) (long_at layout.arcs) p → AreCorners p a b (cell_of (patch_at layout.patches p) a b)
+  pub corners : (p a b : ℕ) → p < length layout.patches → a < wide l x p → b < high l x p
+      → AreCorners p a b (cell_of (patch_at layout.patches p) a b)
   corners p a b p_low a_low b_low = record {
     low = sided.low (dart p a b south) (at south);
     south_west = old_from (dart p a b south) (at south);
-    south_east = cc (old_from (dart p a b east) (at east), next_cell (dart p a b south));
-    north_east = cc (old_from (dart p a b north) (at north), next_cell (dart p a b east), next_cell (dart p a b south));
+    south_east = cc (old_from (dart p a b east) (at east), sided.turned (dart p a b south));
+    north_east =
+        cc (old_from (dart p a b north) (at north), sided.turned (dart p a b east), sided.turned (dart p a b south));
     north_west = cc (
       old_from (dart p a b west) (at west),
-      next_cell (dart p a b north),
-      next_cell (dart p a b east),
-      next_cell (dart p a b south),
+      sided.turned (dart p a b north),
+      sided.turned (dart p a b east),
+      sided.turned (dart p a b south),
     );
   }
     where
@@ -127,32 +115,24 @@ module _ (layout : Layout) (is : IsSomeLayout layout) where
   -- The ends of a dart of an arc.
   pub record AreEnds (a i d : ℕ) : Type 0 where
     pub low : d < darts is.faces
-    pub first : old_vertex is.faces layout (arc_point (gluing_of layout) (long_at layout.arcs) a i) ≡ from_of is.faces d
-    pub last : old_vertex is.faces layout (arc_point (gluing_of layout) (long_at layout.arcs) a (i + 1))
-        ≡ to_of is.faces d
+    pub first : old_vertex is.faces layout (arc_point l x a i) ≡ from_of is.faces d
+    pub last : old_vertex is.faces layout (arc_point l x a (i + 1)) ≡ to_of is.faces d
 
   pub ends : (a i : ℕ) → a < length layout.arcs → i < long_at layout.arcs a → AreEnds a i (dart_at layout.arcs a i)
-  ends a i a_low i_low = by_slot (laid.forward a a_low)
-    where
-      by_slot : (w : Slot) × IsSlot l w × (use_of l w ≡ record { arc = a; forward = true })
-          → AreEnds a i (dart_at layout.arcs a i)
-      by_slot f = record {
+  ends a i a_low i_low =
+      let (w, slot, same) = laid.forward a a_low in
+      let less : i < x (use_of l w).arc = omega (arith, i_low, ap (λ (u : SideArc). x u.arc) same) in
+      let d = slot_dart l x w i in
+      let is_dart = at_is l x laid.paved len w i slot less in
+      let here : cell (slot_dart l x w i) ≡ dart_at layout.arcs a i =
+      sided.ahead w i slot less (ap (λ (u : SideArc). u.forward) same)
+      ∙ ap (λ (u : SideArc). dart_at layout.arcs u.arc i) same in
+      record {
         low = sided.arc_low a i a_low i_low;
         first = ap (old_vertex is.faces layout)
-            (sym (at_from l x laid len f.0 i f.1 less ∙ ap (λ (u : SideArc). use_point l x u i) f.2))
-            ∙ old_from (slot_dart l x f.0 i) is_dart ∙ ap (from_of is.faces) here;
+            (sym (at_from l x laid len w i slot less ∙ ap (λ (u : SideArc). use_point l x u i) same))
+            ∙ old_from d is_dart ∙ ap (from_of is.faces) here;
         last = ap (old_vertex is.faces layout)
-            (sym (at_to l x laid len f.0 i f.1 less ∙ ap (λ (u : SideArc). use_point l x u (i + 1)) f.2))
-            ∙ old_from (next (slot_dart l x f.0 i)) (next_is l x (slot_dart l x f.0 i) is_dart)
-            ∙ ap (from_of is.faces) (next_cell (slot_dart l x f.0 i) ∙ ap next_of here);
+            (sym (at_to l x laid len w i slot less ∙ ap (λ (u : SideArc). use_point l x u (i + 1)) same))
+            ∙ old_from (next d) (next_is l x d is_dart) ∙ ap (from_of is.faces) (sided.turned d ∙ ap next_of here);
       }
-        where
-          less : i < x (use_of l f.0).arc
-          less = omega (arith, i_low, ap (λ (u : SideArc). x u.arc) f.2)
-
-          is_dart : IsDart l x (slot_dart l x f.0 i)
-          is_dart = at_is l x laid.paved len f.0 i f.1 less
-
-          here : cell (slot_dart l x f.0 i) ≡ dart_at layout.arcs a i
-          here = sided.ahead f.0 i f.1 less (ap (λ (u : SideArc). u.forward) f.2)
-              ∙ ap (λ (u : SideArc). dart_at layout.arcs u.arc i) f.2

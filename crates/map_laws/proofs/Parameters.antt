@@ -43,10 +43,8 @@ module _ (l : Gluing) (old new : Lengths) (spacing : ArcSpacing) (laid : IsSurfa
       let used = l.use_at p s (l.many p s - 1) in
       let rest : size l new p s - reach l new p s (l.many p s - 1) ≡ new used.arc =
       omega (arith, last_reach l new laid.paved n_len p s low) in
-      ap (λ m. ONE * reach l old p s m + spacing.parameter_of (l.use_at p s m).arc (l.use_at p s m).forward
-      (size l new p s - reach l new p s m)) (over_end p s low)
-      ∙ ap (λ o. ONE * reach l old p s (l.many p s - 1) + spacing.parameter_of used.arc used.forward o) rest
-      ∙ omega (arith, spaced.ends used.arc used.forward (last_low p s low), last_reach l old laid.paved o_len p s low)
+      rw (over_end p s low, rest)
+      (omega (arith, spaced.ends used.arc used.forward (last_low p s low), last_reach l old laid.paved o_len p s low))
 
   -- Counted from the end of the side it is 0 there,
   pub back_end : (p : ℕ) (s : Way) → p < l.patches → parameter_back l old new spacing p s (size l new p s) ≡ 0
@@ -56,26 +54,18 @@ module _ (l : Gluing) (old new : Lengths) (spacing : ArcSpacing) (laid : IsSurfa
       omega (arith, last_reach l new laid.paved n_len p s low) in
       let e : l.many p s - 1 + 1 ≡ l.many p s = omega (arith, laid.paved.sides_full p s low) in
       let whole : reach l old p s (l.many p s - 1 + 1) ≡ size l old p s = ap (reach l old p s) e in
-      ap (λ m. ONE * (size l old p s - reach l old p s (m + 1))
-      + spacing.parameter_of (l.use_at p s m).arc (not (l.use_at p s m).forward)
-      (new (l.use_at p s m).arc - (size l new p s - reach l new p s m))) (over_end p s low)
-      ∙ ap (λ o. ONE * (size l old p s - reach l old p s (l.many p s - 1 + 1))
-      + spacing.parameter_of used.arc (not used.forward) o) none
-      ∙ omega (arith, spaced.begins used.arc (not used.forward) (last_low p s low))
+      rw (over_end p s low, none) (omega (arith, spaced.begins used.arc (not used.forward) (last_low p s low)))
 
   -- and the old length at its beginning.
   pub back_begin : (p : ℕ) (s : Way) → p < l.patches → parameter_back l old new spacing p s 0 ≡ ONE * size l old p s
   back_begin p s low =
       let first = first_slot l new laid.paved n_len p s low in
       let used = l.use_at p s 0 in
-      let over = run_place _ _ 0 0 first.low (use_some l new laid.paved n_len (slot p s 0) first) in
+      let over : use_over l new p s 0 ≡ 0 =
+      run_place _ _ 0 0 first.low (use_some l new laid.paved n_len (slot p s 0) first) in
       let upto : reach l old p s 1 ≤ size l old p s = count_rises _ 1 _ (omega arith) in
       let same : new used.arc - (0 - reach l new p s 0) ≡ new used.arc = omega arith in
-      ap (λ m. ONE * (size l old p s - reach l old p s (m + 1))
-      + spacing.parameter_of (l.use_at p s m).arc (not (l.use_at p s m).forward)
-      (new (l.use_at p s m).arc - (0 - reach l new p s m))) over
-      ∙ ap (λ k. ONE * (size l old p s - reach l old p s 1) + spacing.parameter_of used.arc (not used.forward) k) same
-      ∙ omega (arith, spaced.ends used.arc (not used.forward) (laid.paved.arc_low (slot p s 0) first))
+      rw (over, same) (omega (arith, spaced.ends used.arc (not used.forward) (laid.paved.arc_low (slot p s 0) first)))
 
   -- Before the end of a side the parameter is below its old length.
   ahead_less : (p : ℕ) (s : Way) (t : ℕ) → p < l.patches → t < size l new p s
@@ -93,39 +83,38 @@ module _ (l : Gluing) (old new : Lengths) (spacing : ArcSpacing) (laid : IsSurfa
   -- So it is behind its beginning, where it is counted from the end.
   back_less : (p : ℕ) (s : Way) (t : ℕ) → p < l.patches → 0 < t → t < size l new p s
       → parameter_back l old new spacing p s t < ONE * size l old p s
-  back_less p s t low some less = by_offset _ _ (place_on l new p s t low less)
+  back_less p s t low some less =
+      let m = use_over l new p s t in
+      let o = offset_at l new p s t in
+      let on : IsOn l new p s t m o = place_on l new p s t low less in
+      let a : ℕ = (l.use_at p s m).arc in
+      let turned = not (l.use_at p s m).forward in
+      let a_low = laid.paved.arc_low (slot p s m) on.is_slot in
+      let next : reach l old p s (m + 1) ≡ reach l old p s m + old a =
+      (let e : m + 1 ≡ suc m = omega arith in ap (reach l old p s) e) in
+      let upto : reach l old p s (m + 1) ≤ size l old p s = count_rises _ _ _ (omega (arith, on.is_slot.low)) in
+      elim (cases_eq o 0) [
+        | inl e ↦
+            let whole : spacing.parameter_of a turned (new a - o) ≡ ONE * old a =
+            (let same : new a - o ≡ new a = omega arith in
+            cc (spaced.ends a turned a_low)) in
+            let later = later_arc m o e on in
+            let first : 0 < reach l old p s 1 = omega (
+              arith,
+              use_some l old laid.paved o_len (slot p s 0)
+                  (first_slot l old laid.paved o_len p s low),
+            ) in
+            let before : reach l old p s 1 ≤ reach l old p s m = count_rises _ 1 m (omega arith) in
+            omega (arith, next, upto, whole, before, first)
+        | inr ne ↦
+            let part : spacing.parameter_of a turned (new a - o) < ONE * old a =
+            spaced.below a turned _ a_low (omega (arith, on.inside)) in
+            omega (arith, next, upto, part)
+      ]
     where
-      first : 0 < reach l old p s 1
-      first = omega (arith, use_some l old laid.paved o_len (slot p s 0) (first_slot l old laid.paved o_len p s low))
-
-      by_offset : (m o : ℕ) → IsOn l new p s t m o
-          → ONE * (size l old p s - reach l old p s (m + 1))
-          + spacing.parameter_of (l.use_at p s m).arc (not (l.use_at p s m).forward) (new (l.use_at p s m).arc - o)
-          < ONE * size l old p s
-      by_offset m o on =
-          let a : ℕ = (l.use_at p s m).arc in
-          let turned = not (l.use_at p s m).forward in
-          let a_low = laid.paved.arc_low (slot p s m) on.is_slot in
-          let next : reach l old p s (m + 1) ≡ reach l old p s m + old a =
-          (let e : m + 1 ≡ suc m = omega arith in ap (reach l old p s) e) in
-          let upto : reach l old p s (m + 1) ≤ size l old p s = count_rises _ _ _ (omega arith) in
-          elim (cases_eq o 0) [
-            | inl e ↦
-                let whole : spacing.parameter_of a turned (new a - o) ≡ ONE * old a =
-                (let same : new a - o ≡ new a = omega arith in
-                cc (spaced.ends a turned a_low)) in
-                let later = later_arc m o e on in
-                let before : reach l old p s 1 ≤ reach l old p s m = count_rises _ 1 m (omega arith) in
-                omega (arith, next, upto, whole, before, first)
-            | inr ne ↦
-                let part : spacing.parameter_of a turned (new a - o) < ONE * old a =
-                spaced.below a turned _ a_low (omega arith) in
-                omega arith
-          ]
-        where
-          later_arc : (k q : ℕ) → q ≡ 0 → IsOn l new p s t k q → 0 < k
-          later_arc zero q none here = absurd (omega arith)
-          later_arc (suc k) q none here = omega arith
+      later_arc : (k q : ℕ) → q ≡ 0 → IsOn l new p s t k q → 0 < k
+      later_arc zero q none here = absurd (omega arith)
+      later_arc (suc k) q none here = omega arith
 
   -- Parameters are at most the old length.
   ahead_most : (p : ℕ) (s : Way) (t : ℕ) → p < l.patches → t ≤ size l new p s
@@ -149,10 +138,7 @@ module _ (l : Gluing) (old new : Lengths) (spacing : ArcSpacing) (laid : IsSurfa
 
   -- Those of a grid point inside a patch are below the old size of the patch.
   pub u_less : (p i j : ℕ) → IsPoint l new (inside p i j) → parameter_u l old new spacing p i j < ONE * wide l old p
-  u_less p i j is =
-      mean_less (parameter l old new spacing p south i) (parameter_back l old new spacing p north (wide l new p - i))
-      (ONE * wide l old p) (high l new p) j (omega (arith, is.3, is.4)) (omega (arith, is.4))
-      (ahead_less p south i is.0 is.2)
+  u_less p i j is = mean_less _ _ _ _ j (omega arith) (omega arith) (ahead_less p south i is.0 is.2)
       (omega (
         arith,
         o_len.across p is.0,
@@ -169,11 +155,8 @@ module _ (l : Gluing) (old new : Lengths) (spacing : ArcSpacing) (laid : IsSurfa
   pub u_upto : (p i j : ℕ) → p < l.patches → i ≤ wide l new p → j ≤ high l new p
       → parameter_u l old new spacing p i j ≤ ONE * wide l old p
   u_upto p i j low i_le j_le =
-      let less : parameter_u l old new spacing p i j < ONE * wide l old p + 1 =
-      mean_less _ _
-      _ _ j
-      (high_some l new laid.paved n_len p low) j_le (omega (arith, ahead_most p south i low i_le))
-      (omega (
+      let less : parameter_u l old new spacing p i j < ONE * wide l old p + 1 = mean_less _ _ _ _ j (high_some l new
+      laid.paved n_len p low) j_le (omega (arith, ahead_most p south i low i_le)) (omega (
         arith,
         o_len.across p low,
         back_most p north (wide l new p - i) low (omega (arith, n_len.across p low)),

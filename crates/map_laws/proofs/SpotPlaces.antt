@@ -2,7 +2,7 @@
 use Rattle.std.proofs.Common.{subst, ◌≡◌, ℕ, ◌<◌, List, length, Option, refl, sym, arith}
 use Rattle.def_cut.specs.Grids.{cell_of, patch_at}
 use Rattle.def_layout.specs.Lengths.{Lengths, wide, high, AreLengths}
-use Rattle.def_layout.specs.{Arcs.dart_at, Arcs.long_at, Gluings.Gluing, Layouts.Layout, Layouts.gluing_of}
+use Rattle.def_layout.specs.{Arcs.long_at, Gluings.Gluing, Layouts.Layout, Layouts.gluing_of}
 use Rattle.def_layoutnet.specs.MeshLayouts.{IsSomeLayout}
 use Rattle.def_mesh.specs.Faces.{Faces}
 use Rattle.def_text.specs.Types.{Positions}
@@ -12,7 +12,7 @@ use Rattle.def_written.specs.Points.{Point, node, along, inside, IsPoint}
 use Rattle.def_remesh.specs.{NewPoints.point_at, NewSoup.new_coordinate, NewSoup.spaced_place, Spaced.spacing_by}
 use Rattle.def_map.specs.SpotPlaces.{coordinate_at, on_axes, spot_place}
 use Rattle.def_map.specs.{Laws.IsSpot, Laws.SpotLaw, Spots.spot_at, Spots.spot_of}
-use Rattle.map_laws.proofs.OldPoints.{corners, ends, old_low, AreCorners, AreEnds}
+use Rattle.map_laws.proofs.OldPoints.{corners, ends, old_low, AreCorners}
 use Rattle.map_laws.proofs.{Numbered.is_point, Parameters.rest_less, Parameters.u_less, Parameters.v_less}
 use Rattle.embedding_laws.proofs.MeshLayouts.{laid_of, lengths_of}
 use Rattle.written_laws.proofs.Grid.{wide_some, high_some}
@@ -37,53 +37,37 @@ module _ (layout : Layout) (is : IsSomeLayout layout) (shares : Option (List ℕ
   abbrev spacing : ArcSpacing
   spacing = spacing_by layout shares new
 
-  -- A point of an arc.
-  on_dart : (arc k : ℕ) → arc < length layout.arcs → k < new arc → IsSpotOf is.faces layout shares new (along arc k)
-  on_dart arc k low less = record {
-    within = (e.low, spaced.parts arc k low less);
-    place = λ places t. on_axes (λ axis. on_the_way (coordinate_at places (sym e.first t) axis)
-        (coordinate_at places (sym e.last t) axis) (spacing.step arc k).some (spacing.step arc k).parts);
-  }
-    where
-      e : AreEnds layout is arc (spacing.step arc k).edge (dart_at layout.arcs arc (spacing.step arc k).edge)
-      e = ends layout is arc _ low (spaced.edges arc k low less)
-
-  -- A point of a patch.
-  in_cell : (patch i j : ℕ) → IsPoint l new (inside patch i j) → IsSpotOf is.faces layout shares new (inside patch i j)
-  in_cell patch i j inner = record {
-    within = (
-      e.low,
-      rest_less (wide l old patch) (parameter_u l old new spacing patch i j) wide_pos
-          (u_less l old new spacing (laid_of layout is) (lengths_of layout is) len spaced patch i j inner),
-      rest_less (high l old patch) (parameter_v l old new spacing patch i j) high_pos
-          (v_less l old new spacing (laid_of layout is) (lengths_of layout is) len spaced patch i j inner),
-    );
-    place = λ places t. on_axes (λ axis. blend (rest_at (wide l old patch) (parameter_u l old new spacing patch i j))
-        (rest_at (high l old patch) (parameter_v l old new spacing patch i j))
-        (coordinate_at places (sym e.south_west t) axis) (coordinate_at places (sym e.south_east t) axis)
-        (coordinate_at places (sym e.north_west t) axis) (coordinate_at places (sym e.north_east t) axis));
-  }
-    where
-      wide_pos : 0 < wide l old patch
-      wide_pos = wide_some l old (laid_of layout is).paved (lengths_of layout is) patch inner.0
-
-      high_pos : 0 < high l old patch
-      high_pos = high_some l old (laid_of layout is).paved (lengths_of layout is) patch inner.0
-
-      e : AreCorners layout is patch (cell_at (wide l old patch) (parameter_u l old new spacing patch i j))
-          (cell_at (high l old patch) (parameter_v l old new spacing patch i j))
-          (cell_of (patch_at layout.patches patch)
-          (cell_at (wide l old patch) (parameter_u l old new spacing patch i j))
-          (cell_at (high l old patch) (parameter_v l old new spacing patch i j)))
-      e = corners layout is patch (cell_at (wide l old patch) (parameter_u l old new spacing patch i j))
-          (cell_at (high l old patch) (parameter_v l old new spacing patch i j))
-          inner.0 (omega (arith, wide_pos)) (omega (arith, high_pos))
-
-  -- Any point.
   spot_is : (a : Point) → IsPoint l new a → IsSpotOf is.faces layout shares new a
   spot_is (node n) low = record { within = old_low layout is (node n) low; place = λ places. refl }
-  spot_is (along a k) low = on_dart a k low.0 low.2
-  spot_is (inside p i j) low = in_cell p i j low
+  spot_is (along arc k) low =
+      let e = ends layout is arc _ low.0 (spaced.edges arc k low.0 low.2) in
+      record {
+        within = (e.low, spaced.parts arc k low.0 low.2);
+        place = λ places t. on_axes (λ axis. on_the_way (coordinate_at places (sym e.first t) axis)
+            (coordinate_at places (sym e.last t) axis) (spacing.step arc k).some (spacing.step arc k).parts);
+      }
+  spot_is (inside patch i j) inner =
+      let w = wide l old patch in
+      let h = high l old patch in
+      let u = parameter_u l old new spacing patch i j in
+      let v = parameter_v l old new spacing patch i j in
+      let laid = laid_of layout is in
+      let old_len = lengths_of layout is in
+      let wide_pos : 0 < wide l old patch = wide_some l old laid.paved old_len patch inner.0 in
+      let high_pos : 0 < high l old patch = high_some l old laid.paved old_len patch inner.0 in
+      let e : AreCorners layout is patch (cell_at w u) (cell_at h v)
+      (cell_of (patch_at layout.patches patch) (cell_at w u) (cell_at h v)) =
+      corners layout is patch (cell_at w u) (cell_at h v) inner.0 (omega (arith, wide_pos)) (omega (arith, high_pos)) in
+      record {
+        within = (
+          e.low,
+          rest_less w u wide_pos (u_less l old new spacing laid old_len len spaced patch i j inner),
+          rest_less h v high_pos (v_less l old new spacing laid old_len len spaced patch i j inner),
+        );
+        place = λ places t. on_axes (λ axis. blend (rest_at w u) (rest_at h v)
+            (coordinate_at places (sym e.south_west t) axis) (coordinate_at places (sym e.south_east t) axis)
+            (coordinate_at places (sym e.north_west t) axis) (coordinate_at places (sym e.north_east t) axis));
+      }
 
 pub spot_law : SpotLaw
 spot_law faces layout shares new (is, same) len spaced v low =

@@ -3,8 +3,8 @@ use Rattle.std.proofs.Common.{◌≡◌, ◌⊎◌, ℕ, suc, ◌+◌, ◌*◌, 
 use Rattle.std.proofs.Common.{◌++◌, map, length, get_or, replicate, sym, ◌∙◌, ap, refl, inl, inr, length-append}
 use Rattle.std.proofs.Common.{arith}
 use Rattle.std.proofs.lemmas.Bool.{cases_eq, cases_lt, or_cases, or_left, or_right, false≢true}
-use Rattle.std.proofs.lemmas.List.{get_or_append_left, get_or-append-add, get_or-map, length-map, length-replicate}
-use Rattle.std.proofs.lemmas.List.{get_or-replicate}
+use Rattle.std.proofs.lemmas.List.{get_or_append_left, get_or-map, length-map, length-replicate}
+use Rattle.std.proofs.{lemmas.List.get_or-replicate, Math.Seq.get_or-append_seam}
 use Rattle.def_mesh.specs.{Faces.Faces, HalfEdges.HalfEdges, HalfEdges.half_edges}
 use Rattle.def_cut.specs.{FullCut.is_on, Grids.Rectangle, Grids.cell_of, Grids.patch_at, Grids.least_of, Grids.IsPatch}
 use Rattle.def_cut.specs.{Grids.IsSide, Grids.IsPartition, Steps.spin}
@@ -33,22 +33,9 @@ pub record AreFoundSoFar (faces : Faces) (cut : List Bool) (n : ℕ) (seen : Lis
   pub tiles : AreTiles (half_edges faces) (is_on cut) (λ d. d / 4) found
   pub below : (k : ℕ) → k < length found → least_at (λ d. d / 4) found k < n
 
--- The least face of cells that lie in face f and in no lesser one.
-least_face : (cells : List ℕ) (f : ℕ) → lies_in cells f ≡ true → ((g : ℕ) → lies_in cells g ≡ true → f ≤ g)
-    → ((k : ℕ) → k < length cells → lies_in cells (get_or cells k 0 / 4) ≡ true) → least_of (map (λ d. d / 4) cells) ≡ f
-least_face cells f on least each =
-    let entry = λ (k : ℕ) (l : k < length cells). get_or-map (λ d. d / 4) cells k 0 0 l in
-    let long = length-map cells (λ d. d / 4) in
-    let (k, l, e) = lies_at cells f on in
-    let high = least_high (map (λ d. d / 4) cells) k (omega (arith, l, long)) in
-    let low = least_low (map (λ d. d / 4) cells) f (omega (arith, l, long)) (λ j h. let lj : j < length cells =
-    omega (arith, long) in omega (arith, entry j lj, least (get_or cells j 0 / 4) (each j lj))) in
-    omega (arith, high, low, entry k l, e)
-
 -- What stands in a list with one patch more.
 at_end : (found : List Rectangle) (p : Rectangle) → patch_at (found ++ p ∷ []) (length found) ≡ p
-at_end found p = let e : length found ≡ length found + 0 = omega arith in ap (patch_at (found ++ p ∷ [])) e
-    ∙ get_or-append-add found (p ∷ []) 0 (record { w = 0; h = 0; cells = [] })
+at_end found p = get_or-append_seam found p [] (record { w = 0; h = 0; cells = [] })
 
 at_front : (found : List Rectangle) (p : Rectangle) (k : ℕ) → k < length found → patch_at (found ++ p ∷ []) k
     ≡ patch_at found k
@@ -132,7 +119,7 @@ module _ {faces : Faces} {cut : List Bool} (cutting : IsCutting faces cut) where
       (long : length new ≡ length seen) (put : (g : ℕ) → g < length seen → get_or new g false
       ≡ (get_or seen g false || lies_in p.cells g)) where
     patch : IsPatch mesh (is_on cut) p.w p.h (cell_of p)
-    patch = laid_patch cutting head.corner grown head p refl refl cells
+    patch = laid_patch cutting head.corner grown head p.cells cells
 
     sized : length p.cells ≡ p.h * p.w
     sized = ap length cells ∙ grid_long mesh d p.w p.h
@@ -168,10 +155,19 @@ module _ {faces : Faces} {cut : List Bool} (cutting : IsCutting faces cut) where
 
     -- So f is its least face.
     least : least_of (map (λ d. d / 4) p.cells) ≡ f
-    least = least_face p.cells f own (λ g on. elim (cases_lt g f) [
-      | inl l ↦ absurd (fresh g (in_range g on) on (so.done g l (in_range g on)))
-      | inr h ↦ h
-    ]) (λ k l. at_lies p.cells (get_or p.cells k 0 / 4) k l refl)
+    least =
+        let entry = λ (k : ℕ) (l : k < length p.cells). get_or-map (λ d. d / 4) p.cells k 0 0 l in
+        let long = length-map p.cells (λ d. d / 4) in
+        let (k, l, e) = lies_at p.cells f own in
+        let high = least_high (map (λ d. d / 4) p.cells) k (omega (arith, l, long)) in
+        let low = least_low (map (λ d. d / 4) p.cells) f (omega (arith, l, long)) (λ j h.
+        let lj : j < length p.cells = omega (arith, long) in
+        let on = at_lies p.cells (get_or p.cells j 0 / 4) j lj refl in
+        elim (cases_lt (get_or p.cells j 0 / 4) f) [
+          | inl less ↦ absurd (fresh _ (in_range _ on) on (so.done _ less (in_range _ on)))
+          | inr from ↦ omega (arith, entry j lj)
+        ]) in
+        omega (arith, high, low, entry k l, e)
 
     was_or_is : (g : ℕ) → g < length faces → get_or new g false ≡ (get_or seen g false || lies_in p.cells g)
     was_or_is g l = put g (omega (arith, so.long))

@@ -28,11 +28,6 @@ module _ {faces : Faces} {cut : List Bool} (cutting : IsCutting faces cut) where
   pub back : (d e : ℕ) → d < darts faces → AreOfOne faces cut d e → AreOfOne faces cut e d
   back d e l a = linked_back mesh cutting.laws (is_on cut) cutting.full d e l a
 
-  -- Corners of one class lie in faces of one class.
-  firsts : (x d : ℕ) → x < darts faces → AreOfOne faces cut x d → AreOfOne faces cut (4 * (x / 4)) (4 * (d / 4))
-  firsts x d l a = join (4 * (x / 4)) d (4 * (d / 4)) (join (4 * (x / 4)) x d (back x (4 * (x / 4)) l (to_first x)) a)
-      (to_first d)
-
   -- Nothing is to be done.
   pub heads_skip : {d : ℕ} {heads : List ℕ} → AreHeadsSoFar faces cut d heads
       → (IsCorner (half_edges faces) (is_on cut) d → get_or heads (d / 4) 0 ≢ length cut)
@@ -50,35 +45,23 @@ module _ {faces : Faces} {cut : List Bool} (cutting : IsCutting faces cut) where
       (so : AreHeadsSoFar faces cut d heads)
       (none : get_or heads (d / 4) 0 ≡ length cut) (long : length new ≡ length heads) (put : (f : ℕ) → f < length heads
       → get_or new f 0 ≡ cond (lies_in (grid_list (half_edges faces) d w h) f) d (get_or heads f 0)) where
-    lies : ℕ → Bool
+    abbrev lies : (f : ℕ) → Bool
     lies f = lies_in (grid_list mesh d w h) f
 
     put_on : (f : ℕ) → f < length faces → lies f ≡ true → get_or new f 0 ≡ d
-    unfolding lies
     put_on f l on =
         put f (omega (arith, so.long)) ∙ cond-true (lies_in (grid_list mesh d w h) f) d (get_or heads f 0) on
 
     put_off : (f : ℕ) → f < length faces → lies f ≡ false → get_or new f 0 ≡ get_or heads f 0
-    unfolding lies
     put_off f l off =
         put f (omega (arith, so.long)) ∙ cond-false (lies_in (grid_list mesh d w h) f) d (get_or heads f 0) off
 
     linked : (f : ℕ) → lies f ≡ true → AreOfOne faces cut d (4 * f)
-    unfolding lies
     linked f on = lies_linked cutting corner grown f on
 
     there : (f : ℕ) → AreOfOne faces cut d (4 * f) → lies f ≡ true
-    unfolding lies
     there f a = let e : 4 * f / 4 ≡ f = omega arith in
         ap (lies_in (grid_list mesh d w h)) (sym e) ∙ linked_lies cutting corner grown (4 * f) a
-
-    -- Corners of the class are not before d, since the class would have a head.
-    not_before : (x : ℕ) → AreOfOne faces cut d x → IsCorner mesh (is_on cut) x → d ≤ x
-    not_before x a c = elim (cases_lt x d) [
-      | inl l ↦ absurd (so.first x l c (so.alike (d / 4) (x / 4) (omega (arith, corner.0)) (omega (arith, c.0))
-          (firsts d x corner.0 a) ∙ none))
-      | inr g ↦ g
-    ]
 
     same_lies : (f g : ℕ) → f < length faces → AreOfOne faces cut (4 * f) (4 * g) → lies f ≡ lies g
     same_lies f g lf a = elim (cases_Bool (lies f)) [
@@ -94,7 +77,13 @@ module _ {faces : Faces} {cut : List Bool} (cutting : IsCutting faces cut) where
         | inl on ↦ rw (put_on f l on) (record {
           corner = corner;
           linked = back d (4 * f) corner.0 (linked f on);
-          least = λ x a c. not_before x (join d (4 * f) x (linked f on) a) c;
+          -- a corner of the class before d would have given it a head
+          least = λ x a c. elim (cases_lt x d) [
+            | inl l ↦ absurd (so.first x l c (so.alike (d / 4) (x / 4) (omega (arith, corner.0)) (omega (arith, c.0))
+                (join _ x _ (join _ d _ (back d _ corner.0 (to_first d)) (join d (4 * f) x (linked f on) a))
+                (to_first x)) ∙ none))
+            | inr g ↦ g
+          ];
         })
         | inr off ↦ rw (put_off f l off) (so.right f l (λ q. ne (put_off f l off ∙ q)))
       ];

@@ -1,6 +1,6 @@
 -- What has grown from a corner, as a list of cells: a patch, which holds the faces of one class.
 use Rattle.std.proofs.Common.{◌≡◌, ℕ, zero, suc, ◌+◌, ◌*◌, ◌/◌, ◌%◌, ◌<◌, ◌≤◌, Bool, true, eqb, List, [], ◌∷◌, length}
-use Rattle.std.proofs.Common.{get_or, sym, ◌∙◌, ap, subst, refl, inl, inr, length-append, arith}
+use Rattle.std.proofs.Common.{get_or, sym, ◌∙◌, ap, refl, inl, inr, length-append, arith}
 use Rattle.std.proofs.Math.Nat.{mul-le-mul_right, suc-mul, zero-mul}
 use Rattle.std.proofs.lemmas.Bool.{cases_lt, eqb-true, eq-eqb, or_cases, false≢true}
 use Rattle.std.proofs.lemmas.List.{get_or_append_left, get_or-append-add}
@@ -8,7 +8,7 @@ use Rattle.std.proofs.lemmas.List.Folds.{list_any_at}
 use Rattle.std.proofs.lemmas.List.FromFn.{get_or-map-range_with_len, length-map-range_with_len}
 use Rattle.def_mesh.specs.{Faces.Faces, HalfEdges.HalfEdges, HalfEdges.half_edges}
 use Rattle.def_cut.specs.{Cuts.Cut, Cuts.IsCorner, FullCut.is_on, Grids.Cells, Grids.IsGrid, Grids.IsPatch}
-use Rattle.def_cut.specs.{Grids.Rectangle, Grids.cell_of, Steps.easts, Steps.norths, Steps.spin}
+use Rattle.def_cut.specs.{Grids.cell_of, Steps.easts, Steps.norths, Steps.spin}
 use Rattle.cut_laws.specs.Grown.{grown, IsGrown}
 use Rattle.cut_laws.proofs.{Grown.grown_grid, Classes.AtMost, Classes.closed, Classes.linked_cell}
 use Rattle.cut_laws.proofs.{Classes.links_join, Classes.step_spin, Classes.at_most, OneList.place_row}
@@ -20,13 +20,10 @@ use Rattle.qm_grid.specs.{Cells.row_list, Cells.grid_list, Heads.lies_in, Heads.
 use Rattle.qm_grid.specs.Heads.{IsHead}
 
 -- The list of a grid.
-row_long : (mesh : HalfEdges) (s w : ℕ) → length (row_list mesh s w) ≡ w
-row_long mesh s w = length-map-range_with_len (easts mesh s) 0 w
-
 pub grid_long : (mesh : HalfEdges) (d w h : ℕ) → length (grid_list mesh d w h) ≡ h * w
 grid_long mesh d w zero = sym (zero-mul w)
 grid_long mesh d w (suc h) = length-append (grid_list mesh d w h) (row_list mesh (norths mesh d h) w)
-    ∙ (omega (arith, grid_long mesh d w h, row_long mesh (norths mesh d h) w, suc-mul h w))
+    ∙ (omega (arith, grid_long mesh d w h, length-map-range_with_len (easts mesh (norths mesh d h)) 0 w, suc-mul h w))
 
 pub grid_at : (mesh : HalfEdges) (d w h i j : ℕ) → i < w → j < h → get_or (grid_list mesh d w h) (j * w + i) 0
     ≡ grown mesh d i j
@@ -131,27 +128,27 @@ module _ {faces : Faces} {cut : List Bool} (cutting : IsCutting faces cut) {d w 
       ∙ (sym (spin_face k (grown mesh d s.a s.b)) ∙ ap (λ y. y / 4) (sym s.is)))
 
   -- From the least corner grows a patch.
-  pub laid_patch : {f : ℕ} → IsHead faces cut f d → (patch : Rectangle) → patch.w ≡ w → patch.h ≡ h
-      → patch.cells ≡ grid_list (half_edges faces) d w h
-      → IsPatch (half_edges faces) (is_on cut) patch.w patch.h (cell_of patch)
-  laid_patch {f} head patch ew eh ec = subst (λ (n : ℕ). IsPatch mesh (is_on cut) n patch.h (cell_of patch)) (sym ew)
-      (subst (λ (n : ℕ). IsPatch mesh (is_on cut) w n (cell_of patch)) (sym eh) (record {
-        grid = grid;
-        least_east = λ i e. omega (arith, first, most.east i e);
-        least_far = λ i j e z. omega (arith, first, most.far i j e z);
-        least_north = λ j z. omega (arith, first, most.north j z);
-      }))
+  pub laid_patch : {f : ℕ} → IsHead faces cut f d → (patch : List ℕ) → patch ≡ grid_list (half_edges faces) d w h
+      → IsPatch (half_edges faces) (is_on cut) w h (cell_of (record { w = w; h = h; cells = patch }))
+  laid_patch {f} head patch e = record {
+    grid = grid;
+    least_east = λ i e. omega (arith, first, most.east i e);
+    least_far = λ i j e z. omega (arith, first, most.far i j e z);
+    least_north = λ j z. omega (arith, first, most.north j z);
+  }
     where
-      same : (i j : ℕ) → i < w → j < h → cell_of patch i j ≡ grown mesh d i j
-      same i j li lj = ap (λ n. get_or patch.cells (j * n + i) 0) ew
-          ∙ (ap (λ xs. get_or xs (j * w + i) 0) ec ∙ grid_at mesh d w h i j li lj)
+      tile : Cells
+      tile i j = get_or patch (j * w + i) 0
 
-      grid : IsGrid mesh (is_on cut) w h (cell_of patch)
-      grid = grid_same mesh (is_on cut) w h (grown mesh d) (cell_of patch) same whole
+      same : (i j : ℕ) → i < w → j < h → tile i j ≡ grown mesh d i j
+      same i j li lj = ap (λ xs. get_or xs (j * w + i) 0) e ∙ grid_at mesh d w h i j li lj
 
-      first : cell_of patch 0 0 ≡ d
+      grid : IsGrid mesh (is_on cut) w h tile
+      grid = grid_same mesh (is_on cut) w h (grown mesh d) tile same whole
+
+      first : tile 0 0 ≡ d
       first = same 0 0 g.wide g.tall
 
-      most : AtMost mesh w h (cell_of patch) d
-      most = at_most mesh cutting.laws (is_on cut) cutting.full w h (cell_of patch) grid d
+      most : AtMost mesh w h tile d
+      most = at_most mesh cutting.laws (is_on cut) cutting.full w h tile grid d
           (λ x l c. head.least x (links_join mesh cutting.laws (is_on cut) (4 * f) d x head.linked (rw first at l)) c)

@@ -1,13 +1,13 @@
 -- The walk along a row and up a grid, turn by turn.
-use Rattle.std.proofs.Common.{◌≡◌, ℕ, zero, suc, ◌+◌, ◌<◌, ◌≤◌, true, false, List, [], ◌∷◌, ◌++◌, sym, ◌∙◌, ap, subst}
-use Rattle.std.proofs.Common.{refl, inl, inr, true≢false, append_assoc, arith}
+use Rattle.std.proofs.Common.{◌≡◌, ℕ, zero, suc, ◌+◌, ◌-◌, ◌<◌, ◌≤◌, true, false, List, [], ◌∷◌, ◌++◌, sym, ◌∙◌, ap}
+use Rattle.std.proofs.Common.{subst, inl, inr, true≢false, append_assoc, arith}
 use Rattle.std.proofs.lemmas.Bool.{cases_eq, cases_order}
 use Rattle.std.proofs.lemmas.List.FromFn.{map-range_with_len_more}
 use Rattle.def_mesh.specs.HalfEdges.{HalfEdges, IsQuadManifold}
 use Rattle.def_cut.specs.Cuts.{Cut, IsCorner, IsCut}
-use Rattle.def_cut.specs.Steps.{step_east, step_north, easts, norths}
+use Rattle.def_cut.specs.Steps.{step_east, easts, norths}
 use Rattle.cut_laws.specs.Grown.{IsRow, IsGrown}
-use Rattle.cut_laws.proofs.{Rows.endless, Rows.next_row, Rows.west_on, Grown.grow, Grown.endless_north}
+use Rattle.cut_laws.proofs.{Rows.endless, Rows.next_row, Grown.grow}
 use Rattle.qm_grid.specs.Cells.{row_list, grid_list}
 
 -- What holds below a number and at it holds below the next.
@@ -18,9 +18,9 @@ below_next P i before here k l = elim (cases_eq k i) [ inl e ↦ subst P (sym e)
 pub row_at : (mesh : HalfEdges) (s d e i : ℕ) → d ≡ easts mesh s i → e ≡ step_east mesh d → e ≡ easts mesh s (i + 1)
 row_at mesh s d e i at is = let n : suc i ≡ i + 1 = omega arith in is ∙ (ap (step_east mesh) at ∙ ap (easts mesh s) n)
 
-pub row_listed : (mesh : HalfEdges) (s d i : ℕ) (old now new : List ℕ) → d ≡ easts mesh s i
+pub row_listed : (mesh : HalfEdges) (s i : ℕ) (old : List ℕ) {d : ℕ} {now new : List ℕ} → d ≡ easts mesh s i
     → now ≡ old ++ row_list mesh s i → new ≡ now ++ d ∷ [] → new ≡ old ++ row_list mesh s (i + 1)
-row_listed mesh s d i old now new at listed put =
+row_listed mesh s i old {d} at listed put =
     put ∙ (ap (λ xs. xs ++ d ∷ []) listed ∙ (append_assoc old (row_list mesh s i) (d ∷ [])
     ∙ ap (λ xs. old ++ xs) (ap (λ x. row_list mesh s i ++ x ∷ []) at
     ∙ sym (map-range_with_len_more (easts mesh s) 0 i i (omega arith)))))
@@ -30,17 +30,6 @@ module _ (mesh : HalfEdges) (laws : IsQuadManifold mesh) (cut : Cut) (full : IsC
       → cut (mesh.next d) ≡ false → (k : ℕ) → k < i + 1 → cut (mesh.next (easts mesh s k)) ≡ false
   row_inside s d i at before off = below_next (λ k. cut (mesh.next (easts mesh s k)) ≡ false) i before
       (ap (λ x. cut (mesh.next x)) (sym at) ∙ off)
-
-  pub row_done : (s d i : ℕ) → s < mesh.count → d ≡ easts mesh s i
-      → ((k : ℕ) → k < i → cut (mesh.next (easts mesh s k)) ≡ false) → cut (mesh.next d) ≡ true
-      → IsRow mesh cut s (i + 1)
-  row_done s d i low at before on = record {
-    wide = omega arith;
-    low = low;
-    inside = λ k l. before k (omega arith);
-    ends = λ k e. let same : k ≡ i = omega arith in ap (λ x. cut (mesh.next (easts mesh s x))) same
-        ∙ (ap (λ x. cut (mesh.next x)) (sym at) ∙ on);
-  }
 
   pub row_never : (s i : ℕ) → s < mesh.count → cut (mesh.prev s) ≡ true
       → ((k : ℕ) → k < i → cut (mesh.next (easts mesh s k)) ≡ false) → mesh.count + 1 ≤ i → ⊥
@@ -53,12 +42,10 @@ module _ (mesh : HalfEdges) (laws : IsQuadManifold mesh) (cut : Cut) (full : IsC
     | inr o ↦ elim o [ inl l ↦ absurd (shorter w v one two l) | inr l ↦ absurd (shorter v w two one l) ]
   ]
     where
-      at_end : (k w v : ℕ) → suc k ≡ w → IsRow mesh cut s w → IsRow mesh cut s v → w < v → ⊥
-      at_end k w v e one two l = true≢false (sym (one.ends k e) ∙ two.inside k (omega arith))
-
       shorter : (w v : ℕ) → IsRow mesh cut s w → IsRow mesh cut s v → w < v → ⊥
-      shorter zero v one two l = absurd (let wide : 0 < 0 = one.wide in omega arith)
-      shorter (suc k) v one two l = at_end k (suc k) v refl one two l
+      shorter w v one two l =
+          let e : suc (w - 1) ≡ w = omega (arith, one.wide) in
+          true≢false (sym (one.ends (w - 1) e) ∙ two.inside (w - 1) (omega (arith, one.wide)))
 
   -- The rows over a row.
   pub rows_up : (s w h : ℕ) → IsRow mesh cut s w → ((k : ℕ) → k < h → cut (mesh.next (mesh.next (norths mesh s k)))
@@ -67,53 +54,34 @@ module _ (mesh : HalfEdges) (laws : IsQuadManifold mesh) (cut : Cut) (full : IsC
   rows_up s w (suc h) row before = next_row mesh laws cut full (norths mesh s h) w
       (rows_up s w h row (λ k l. before k (omega arith))) (before h (omega arith))
 
-  module _ (s d h v : ℕ) (at : d ≡ norths mesh s h) (row : IsRow mesh cut d v) (before : (k : ℕ) → k < h
-      → cut (mesh.next (mesh.next (norths mesh s k))) ≡ false) where
-    same_width : (w : ℕ) → IsRow mesh cut s w → w ≡ v
-    same_width w first = row_width d w v (subst (λ (x : ℕ). IsRow mesh cut x w) (sym at) (rows_up s w h first before))
-        row
+  -- The row of a grid that comes next is as wide as its first.
+  pub same_width : {s d h v : ℕ} → d ≡ norths mesh s h → IsRow mesh cut d v → ((k : ℕ) → k < h
+      → cut (mesh.next (mesh.next (norths mesh s k))) ≡ false) → (w : ℕ) → IsRow mesh cut s w → w ≡ v
+  same_width {s} {d} {h} {v} at row before w first =
+      row_width d w v (subst (λ (x : ℕ). IsRow mesh cut x w) (sym at) (rows_up s w h first before)) row
 
-    -- One row more of a grid.
-    pub grid_listed : (now new : List ℕ) → ((w : ℕ) → IsRow mesh cut s w → now ≡ grid_list mesh s w h)
-        → new ≡ now ++ row_list mesh d v → (w : ℕ) → IsRow mesh cut s w → new ≡ grid_list mesh s w (h + 1)
-    grid_listed now new listed put w first =
-        let n : suc h ≡ h + 1 = omega arith in
-        put ∙ (ap (λ xs. xs ++ row_list mesh d v) (listed w first)
-        ∙ (ap (λ x. grid_list mesh s w h ++ row_list mesh x v) at
-        ∙ (ap (λ x. grid_list mesh s w h ++ row_list mesh (norths mesh s h) x) (sym (same_width w first))
-        ∙ ap (grid_list mesh s w) n)))
+module _ {mesh : HalfEdges} (laws : IsQuadManifold mesh) {cut : Cut} (full : IsCut mesh cut) {s d h v : ℕ}
+    (at : d ≡ norths mesh s h) (row : IsRow mesh cut d v)
+    (before : (k : ℕ) → k < h → cut (mesh.next (mesh.next (norths mesh s k))) ≡ false) where
+  -- One row more of a grid.
+  pub grid_listed : {now new : List ℕ} → ((w : ℕ) → IsRow mesh cut s w → now ≡ grid_list mesh s w h)
+      → new ≡ now ++ row_list mesh d v → (w : ℕ) → IsRow mesh cut s w → new ≡ grid_list mesh s w (h + 1)
+  grid_listed listed put w first =
+      let n : suc h ≡ h + 1 = omega arith in
+      put ∙ (ap (λ xs. xs ++ row_list mesh d v) (listed w first)
+      ∙ (ap (λ x. grid_list mesh s w h ++ row_list mesh x v) at
+      ∙ (ap (λ x. grid_list mesh s w h ++ row_list mesh (norths mesh s h) x)
+      (sym (same_width mesh laws cut full at row before w first)) ∙ ap (grid_list mesh s w) n)))
 
-    pub first_row : IsCorner mesh cut s → IsRow mesh cut s v
-    first_row corner = let g : (w : ℕ) × (h : ℕ) × IsGrown mesh cut s w h = grow mesh laws cut full s corner in
-        by_row g.0 g.2.row
-      where
-        by_row : (w : ℕ) → IsRow mesh cut s w → IsRow mesh cut s v
-        by_row w first = subst (λ (x : ℕ). IsRow mesh cut s x) (same_width w first) first
-
-    pub grid_done : IsCorner mesh cut s → cut (mesh.next (mesh.next d)) ≡ true → IsGrown mesh cut s v (h + 1)
-    grid_done corner on = record {
-      wide = row.wide;
-      tall = omega arith;
-      row = first_row corner;
-      inside = λ j l. before j (omega arith);
-      ends = λ j e. let same : j ≡ h = omega arith in ap (λ x. cut (mesh.next (mesh.next (norths mesh s x)))) same
-          ∙ (ap (λ x. cut (mesh.next (mesh.next x))) (sym at) ∙ on);
-    }
-
-  pub grid_at : (s d e h : ℕ) → d ≡ norths mesh s h → e ≡ step_north mesh d → e ≡ norths mesh s (h + 1)
-  grid_at s d e h at is = let n : suc h ≡ h + 1 = omega arith in is ∙ (ap (step_north mesh) at ∙ ap (norths mesh s) n)
-
-  pub grid_inside : (s d h : ℕ) → d ≡ norths mesh s h → ((k : ℕ) → k < h → cut (mesh.next (mesh.next (norths mesh s k)))
-      ≡ false) → cut (mesh.next (mesh.next d)) ≡ false → (k : ℕ) → k < h + 1
-      → cut (mesh.next (mesh.next (norths mesh s k))) ≡ false
-  grid_inside s d h at before off = below_next (λ k. cut (mesh.next (mesh.next (norths mesh s k))) ≡ false) h before
-      (ap (λ x. cut (mesh.next (mesh.next x))) (sym at) ∙ off)
-
-  pub grid_west : (d e : ℕ) → d < mesh.count → e ≡ step_north mesh d → cut (mesh.prev d) ≡ true
-      → cut (mesh.next (mesh.next d)) ≡ false → cut (mesh.prev e) ≡ true
-  grid_west d e low is west off = ap (λ x. cut (mesh.prev x)) is ∙ west_on mesh laws cut full d low west off
-
-  pub grid_never : (s h : ℕ) → IsCorner mesh cut s → ((k : ℕ) → k < h → cut (mesh.next (mesh.next (norths mesh s k)))
-      ≡ false) → mesh.count + 1 ≤ h → ⊥
-  grid_never s h corner before far =
-      endless_north mesh laws cut full s corner.0 corner.1 (λ k l. before k (omega arith))
+  -- The last one.
+  pub grid_done : IsCorner mesh cut s → cut (mesh.next (mesh.next d)) ≡ true → IsGrown mesh cut s v (h + 1)
+  grid_done corner on =
+      let (w, up, g) = grow mesh laws cut full s corner in
+      record {
+        wide = row.wide;
+        tall = omega arith;
+        row = subst (λ (x : ℕ). IsRow mesh cut s x) (same_width mesh laws cut full at row before w g.row) g.row;
+        inside = λ j l. before j (omega arith);
+        ends = λ j e. let same : j ≡ h = omega arith in ap (λ x. cut (mesh.next (mesh.next (norths mesh s x)))) same
+            ∙ (ap (λ x. cut (mesh.next (mesh.next x))) (sym at) ∙ on);
+      }

@@ -20,7 +20,7 @@ use Rattle.def_layout.specs.Lengths.{size, AreLengths}
 use Rattle.def_layoutnet.specs.LayoutNet.{node_of, weight_of, AreSettings, IsNetOf}
 use Rattle.def_layoutnet.specs.LayoutNetLaws.{sum_along}
 use Rattle.qm_layoutnet.specs.Ends.{arc_of, open_arc, AreEnds, PatchesBelow}
-use Rattle.qm_layoutnet.proofs.Balance.{balance_law, has_slots, node_low, one_end, two_ends}
+use Rattle.qm_layoutnet.proofs.Balance.{balance_law, by_ends, node_low}
 use Rattle.qm_layoutnet.proofs.{Opposite.size_is, Tangles.tangle_small, Tangles.term_low}
 
 -- A count along a list is one over its places.
@@ -90,15 +90,14 @@ module _ {l : Gluing} {x floor : Lengths} {set : Settings} {net : Network} (laid
       (laid.paved.arc_low (record { patch = p; side = s; at = k }) (record { patch_low = low; low = less }))))
       ∙ sym (size_is l x p s)
 
-  pub even : IsEven net
+  even : IsEven net
   even = record {
     high = λ k low. omega (arith, old_at k low, len.some k (omega (arith, low, is.long)));
     small = omega (
       arith,
-      count_at (λ a. a.old) net.arcs,
-      count_below_same (λ k. (arc_at net.arcs k).old) x (length net.arcs) old_at,
-      ap (count_below x) is.long,
       few,
+      count_at (λ a. a.old) net.arcs ∙ (count_below_same (λ k. (arc_at net.arcs k).old) x
+          (length net.arcs) old_at ∙ ap (count_below x) is.long),
     );
     balanced = (balance_law l x x set floor net laid is (λ k. pos (arc_at net.arcs k).old)).1 (record {
       across = λ p low. along_is p south low ∙ (ap pos (sym (len.across p low)) ∙ sym (along_is p north low));
@@ -107,52 +106,41 @@ module _ {l : Gluing} {x floor : Lengths} {set : Settings} {net : Network} (laid
   }
 
   -- Weights are from 1 on.
-  weight_low : (w : Weight) (n : ℕ) → 1 ≤ n → 1 ≤ weight_of w n
-  weight_low Plain n h = omega arith
-  weight_low Length n h = omega arith
-
-  weight_high : (w : Weight) (n : ℕ) → weight_of w n ≤ MAX_WEIGHT
-  weight_high Plain n = omega arith
-  weight_high Length n = omega arith
+  weight_low : (w : Weight) (n : ℕ) → 1 ≤ n → (1 ≤ weight_of w n) × (weight_of w n ≤ MAX_WEIGHT)
+  weight_low Plain n h = (omega arith, omega arith)
+  weight_low Length n h = (omega arith, omega arith)
 
   ends_low : (k : ℕ) → k < l.arcs → list_all (λ (e : End). nat_lt e.node net.nodes) (ends (arc_at net.arcs k)) ≡ true
-  ends_low k low =
-      let h = has_slots laid k low in
-      let all = λ (es : List End). list_all (λ (e : End). nat_lt e.node net.nodes) es in
-      elim h.right [
-        | inl v ↦ ap all (two_ends is h.ahead_is h.ahead_use v.1 v.2) ∙ rw (at h.ahead h.ahead_is, at v.0 v.1)
-        | inr none ↦ ap all (one_end is low h.ahead_is h.ahead_use none) ∙ rw (at h.ahead h.ahead_is)
-      ]
+  ends_low k low = by_ends is (λ es. list_all (λ (e : End). nat_lt e.node net.nodes) es ≡ true) laid k low
+      (λ w slot e. (λ none. rw (at w slot) refl, λ v slot_v e_v. rw (at w slot, at v slot_v) refl))
     where
       at : (v : Slot) → IsSlot l v → nat_lt (node_of v.patch v.side) net.nodes ≡ true
-      at v slot = lt-ltb _ net.nodes (omega (arith, node_low v.patch v.side l.patches slot.patch_low))
+      at v slot = lt-ltb _ net.nodes (omega (arith, is.nodes, node_low v.patch v.side l.patches slot.patch_low))
 
   bounded : (k : ℕ) → k < length net.arcs → is_bounded net.nodes (arc_at net.arcs k) ≡ true
   bounded k low =
       let k_low : k < l.arcs = omega (arith, is.long) in
       let a = arc_at net.arcs k in
-      let o : a.old ≤ 2 ^ 23 = omega (arith, old_at k low, term_low x l.arcs k k_low, few) in
-      let w1 : 1 ≤ a.weight = omega (arith, is.weights k k_low, weight_low set.weight (x k) (len.some k k_low)) in
-      let w2 : a.weight ≤ MAX_WEIGHT = omega (arith, is.weights k k_low, weight_high set.weight (x k)) in
-      let f1 : 1 ≤ a.floor = omega (arith, is.floors k k_low, (floors k k_low).0) in
-      let f2 : a.floor ≤ MAX_FLOOR = omega (arith, is.floors k k_low, (floors k k_low).1) in
+      let w = weight_low set.weight (x k) (len.some k k_low) in
       rw (
-        le-leb 1 a.weight w1,
-        le-leb a.weight MAX_WEIGHT w2,
-        le-leb a.old MAX_OLD (omega arith),
-        le-leb 1 a.floor f1,
-        le-leb a.floor MAX_FLOOR f2,
+        le-leb 1 a.weight (omega (arith, is.weights k k_low, w.0)),
+        le-leb a.weight MAX_WEIGHT (omega (arith, is.weights k k_low, w.1)),
+        le-leb a.old MAX_OLD (omega (arith, old_at k low, term_low x l.arcs k k_low, few)),
+        le-leb 1 a.floor (omega (arith, is.floors k k_low, (floors k k_low).0)),
+        le-leb a.floor MAX_FLOOR (omega (arith, is.floors k k_low, (floors k k_low).1)),
       ) (ends_low k k_low)
 
-  pub within : IsWithinBounds net
-  within = record {
-    p_low = omega (arith, is.p, in_range.p_low);
-    p_high = omega (arith, is.p, in_range.p_high);
-    q_low = omega (arith, is.q, in_range.q_low);
-    q_high = omega (arith, is.q, in_range.q_high);
-    arcs = all_pass (is_bounded net.nodes) net.arcs bounded;
-    few = omega (arith, is.long, arcs_few);
-  }
-
-  pub small : tangle_number net < 2 ^ 64
-  small = tangle_small net (omega (arith, is.long, arcs_few))
+  -- It is even and within bounds, and its tangle number fits.
+  pub all_is : IsEven net × IsWithinBounds net × (tangle_number net < 2 ^ 64)
+  all_is = (
+    even,
+    record {
+      p_low = omega (arith, is.p, in_range.p_low);
+      p_high = omega (arith, is.p, in_range.p_high);
+      q_low = omega (arith, is.q, in_range.q_low);
+      q_high = omega (arith, is.q, in_range.q_high);
+      arcs = all_pass (is_bounded net.nodes) net.arcs bounded;
+      few = omega (arith, is.long, arcs_few);
+    },
+    tangle_small net (omega (arith, is.long, arcs_few)),
+  )

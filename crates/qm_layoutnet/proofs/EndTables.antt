@@ -1,16 +1,15 @@
 -- The arcs of a network while their ends are put in.
-use Rattle.std.proofs.Common.{◌≡◌, ◌≢◌, ◌⊎◌, ℕ, suc, ◌+◌, ◌<◌, Bool, true, false, cond, not, List, [], ◌∷◌, length}
+use Rattle.std.proofs.Common.{◌≡◌, ◌≢◌, ◌⊎◌, ℕ, suc, ◌+◌, ◌<◌, ◌≤◌, Bool, true, false, cond, List, [], ◌∷◌, length}
 use Rattle.std.proofs.Common.{get_or, Option, Some}
 use Rattle.std.proofs.Common.{refl, sym, ap, ◌∙◌, subst, inl, inr, arith}
 use Rattle.std.proofs.lemmas.Bool.{cases_eq}
 use Rattle.std.proofs.lemmas.List.{get_or-set_same, get_or-set_other, length-set}
-use Rattle.std.specs.List.{All}
 use Rattle.def_flow.specs.{Network.arc_at, declared.net.Arc.Arc, declared.net.End.End, declared.net.Settings.Settings}
 use Rattle.def_layout.specs.{declared.tmesh.SideArc.SideArc, Gluings.Way, Gluings.south, Gluings.east, Gluings.north}
 use Rattle.def_layout.specs.Gluings.{west, Gluing, Slot, IsSlot, use_of}
-use Rattle.def_layout.specs.{Surfaces.IsSurface, Lengths.Lengths, Layouts.way_number}
+use Rattle.def_layout.specs.{Surfaces.IsSurface, Lengths.Lengths}
 use Rattle.def_layoutnet.specs.LayoutNet.{end_at}
-use Rattle.qm_layoutnet.specs.Ends.{with_side, with_end, with_ends, with_four, AreEnds, PatchesBelow, SlotsBelow}
+use Rattle.qm_layoutnet.specs.Ends.{with_side, with_end, with_ends, with_four, AreEnds, PatchesBelow}
 use Rattle.qm_layoutnet.proofs.Hits.{use_of_arc}
 
 -- What a use changes of its arc: the left end where it goes along it, else the right end.
@@ -25,29 +24,23 @@ there_changed : (way : Bool) (end : End) (a : Arc) → end_on way (with_way way 
 there_changed true end a = refl
 there_changed false end a = refl
 
-other_stays : (way : Bool) (end : End) (a : Arc) → end_on way (with_way (not way) end a) ≡ end_on way a
-other_stays true end a = refl
-other_stays false end a = refl
+-- A use in the other direction changes the other end.
+way_or_stays : (way other : Bool) (end : End) (a : Arc) → (other ≡ way)
+    ⊎ (end_on way (with_way other end a) ≡ end_on way a)
+way_or_stays true true end a = inl refl
+way_or_stays true false end a = inr refl
+way_or_stays false true end a = inr refl
+way_or_stays false false end a = inl refl
 
-one_way : (a b : Bool) → (a ≡ b) ⊎ (a ≡ not b)
-one_way true true = inl refl
-one_way true false = inr refl
-one_way false true = inr refl
-one_way false false = inl refl
-
--- Sides with one number are one.
-same_number : (s t : Way) → way_number s ≡ way_number t → s ≡ t
-same_number south south e = refl
-same_number east east e = refl
-same_number north north e = refl
-same_number west west e = refl
-same_number _ _ e = absurd (omega arith)
+-- A slot of side s of patch p from its k-th on.
+abbrev SlotsFrom : (p : ℕ) (s : Way) (k : ℕ) (slot : Slot) → Type 0
+SlotsFrom p s k slot = (slot.patch ≡ p) × (slot.side ≡ s) × (k ≤ slot.at)
 
 module _ (l : Gluing) (old : Lengths) (set : Settings) (laid : IsSurface l) where
   -- The ends are those of the slots that are done, however that is said.
-  same_ends : {done now : Slot → Type 0} {arcs : List Arc} → ((w : Slot) → IsSlot l w → now w → done w)
-      → ((w : Slot) → IsSlot l w → done w → now w) → AreEnds l old set done arcs → AreEnds l old set now arcs
-  same_ends back on are = record {
+  same_ends : {done now : Slot → Type 0} {arcs : List Arc} → ((w : Slot) → IsSlot l w → done w → now w)
+      → ((w : Slot) → IsSlot l w → now w → done w) → AreEnds l old set done arcs → AreEnds l old set now arcs
+  same_ends on back are = record {
     long = are.long;
     olds = are.olds;
     weights = are.weights;
@@ -58,10 +51,9 @@ module _ (l : Gluing) (old : Lengths) (set : Settings) (laid : IsSurface l) wher
   }
 
   -- One slot more is done.
-  end_more : {done now : Slot → Type 0} {arcs : List Arc} (v : Slot) → IsSlot l v
-      → ((w : Slot) → IsSlot l w → now w → done w ⊎ (w ≡ v)) → ((w : Slot) → IsSlot l w → done w → now w) → now v
-      → AreEnds l old set done arcs → AreEnds l old set now (with_end (end_at v.patch v.side) (use_of l v) arcs)
-  end_more {done} {now} {arcs} v is_slot back on here are = record {
+  end_more : {done : Slot → Type 0} {arcs : List Arc} (v : Slot) → IsSlot l v → AreEnds l old set done arcs
+      → AreEnds l old set (λ w. done w ⊎ (w ≡ v)) (with_end (end_at v.patch v.side) (use_of l v) arcs)
+  end_more {done} {arcs} v is_slot are = record {
     long = length-set arcs u.arc _ ∙ are.long;
     olds = λ a low. stays (λ x. x.old) (λ x. refl) (λ x. refl) a ∙ are.olds a low;
     weights = λ a low. stays (λ x. x.weight) (λ x. refl) (λ x. refl) a ∙ are.weights a low;
@@ -69,10 +61,11 @@ module _ (l : Gluing) (old : Lengths) (set : Settings) (laid : IsSurface l) wher
     left = λ w slot n f. let e = ends true w slot n f in cc;
     right = ends false;
     alone = λ a low only.
-        let was = are.alone a low (λ w slot d e. only w slot (on w slot d) e) in
+        let was = are.alone a low (λ w slot d e. only w slot (inl d) e) in
         elim (cases_eq a u.arc) [
           | inl e ↦ ap (λ (x : Arc). x.right) (at_use a e)
-              ∙ (ap (λ (way : Bool). (with_way way end (arc_at arcs a)).right) (only v is_slot here (sym e)) ∙ was)
+              ∙ (ap (λ (way : Bool). (with_way way end (arc_at arcs a)).right) (only v is_slot (inr refl) (sym e))
+              ∙ was)
           | inr ne ↦ ap (λ (x : Arc). x.right) (at_other a ne) ∙ was
         ];
   }
@@ -86,14 +79,11 @@ module _ (l : Gluing) (old : Lengths) (set : Settings) (laid : IsSurface l) wher
       after : List Arc
       after = with_end end u arcs
 
-      at_same : arc_at after u.arc ≡ with_side end u (arc_at arcs u.arc)
-      at_same = get_or-set_same arcs u.arc _ _ (omega arith)
-
       at_other : (a : ℕ) → a ≢ u.arc → arc_at after a ≡ arc_at arcs a
       at_other a ne = get_or-set_other arcs u.arc a _ _ ne
 
       at_use : (a : ℕ) → a ≡ u.arc → arc_at after a ≡ with_side end u (arc_at arcs a)
-      at_use a e = rw e at_same
+      at_use a e = rw e (get_or-set_same arcs u.arc _ _ (omega arith))
 
       stays : (f : Arc → ℕ) → ((x : Arc) → f (record x { left = end }) ≡ f x)
           → ((x : Arc) → f (record x { right = Some end }) ≡ f x) → (a : ℕ) → f (arc_at after a) ≡ f (arc_at arcs a)
@@ -106,80 +96,60 @@ module _ (l : Gluing) (old : Lengths) (set : Settings) (laid : IsSurface l) wher
           by_way true = left _
           by_way false = right _
 
-      at_v : (way : Bool) → u.forward ≡ way → end_on way (arc_at after u.arc) ≡ Some end
-      at_v way f = ap (end_on way) at_same
-          ∙ (ap (λ (b : Bool). end_on way (with_way b end (arc_at arcs u.arc))) f ∙ there_changed way end _)
-
       was : (way : Bool) (w : Slot) → IsSlot l w → done w → (use_of l w).forward ≡ way
           → end_on way (arc_at arcs (use_of l w).arc) ≡ Some (end_at w.patch w.side)
       was true w slot d f = ap Some (are.left w slot d f)
       was false w slot d f = are.right w slot d f
 
-      ends : (way : Bool) (w : Slot) → IsSlot l w → now w → (use_of l w).forward ≡ way
+      ends : (way : Bool) (w : Slot) → IsSlot l w → done w ⊎ (w ≡ v) → (use_of l w).forward ≡ way
           → end_on way (arc_at after (use_of l w).arc) ≡ Some (end_at w.patch w.side)
       ends way w slot n f =
-          let same = λ (e : w ≡ v). subst (λ (x : Slot). end_on way (arc_at after (use_of l x).arc)
-          ≡ Some (end_at x.patch x.side)) (sym e) (at_v way (sym (ap (λ (x : Slot). (use_of l x).forward) e) ∙ f)) in
-          elim (back w slot n) [
+          let at_v : end_on u.forward (arc_at after u.arc) ≡ Some end =
+          ap (end_on u.forward) (at_use u.arc refl) ∙ there_changed u.forward end _ in
+          let same = λ (e : w ≡ v). subst (λ (b : Bool). end_on b (arc_at after (use_of l w).arc)
+          ≡ Some (end_at w.patch w.side)) f (subst (λ (x : Slot). end_on (use_of l x).forward
+          (arc_at after (use_of l x).arc) ≡ Some (end_at x.patch x.side)) (sym e) at_v) in
+          elim n [
             | inr e ↦ same e
             | inl d ↦ elim (cases_eq _ u.arc) [
               | inr ne ↦ ap (end_on way) (at_other _ ne) ∙ was way w slot d f
-              | inl e ↦ elim (one_way u.forward way) [
+              | inl e ↦ elim (way_or_stays way u.forward end (arc_at arcs (use_of l w).arc)) [
                 | inl g ↦ same (laid.once w v slot is_slot (λ i. use_of_arc (e i) ((f ∙ sym g) i)))
-                | inr g ↦ ap (end_on way) (at_use _ e) ∙ (ap (λ (b : Bool). end_on way
-                    (with_way b end (arc_at arcs (use_of l w).arc))) g ∙ (other_stays way end _ ∙ was way w slot d f))
+                | inr g ↦ ap (end_on way) (at_use _ e) ∙ (g ∙ was way w slot d f)
               ]
             ]
           ]
 
   -- Side s of patch p is done from its k-th use on.
-  side_from : (p : ℕ) (s : Way) (us : List SideArc) (k : ℕ) {arcs : List Arc} → p < l.patches
+  side_from : (p : ℕ) (s : Way) (us : List SideArc) (k : ℕ) {done : Slot → Type 0} {arcs : List Arc} → p < l.patches
       → ((j : ℕ) (d : SideArc) → j < length us → get_or us j d ≡ l.use_at p s (k + j)) → k + length us ≡ l.many p s
-      → AreEnds l old set (SlotsBelow p (way_number s) k) arcs
-      → AreEnds l old set (SlotsBelow p (way_number s) (l.many p s)) (with_ends (end_at p s) us arcs)
-  side_from p s [] k {arcs} low same many are =
-      subst (λ (m : ℕ). AreEnds l old set (SlotsBelow p (way_number s) m) arcs) (omega (arith, many)) are
-  side_from p s (u ∷ us) k {arcs} low same many are = side_from p s us _ low (λ j d h. same (suc j) d (omega arith)
-      ∙ ap (l.use_at p s) (let n : k + suc j ≡ k + 1 + j = omega arith in n)) (omega arith) (subst
-      (λ (x : SideArc). AreEnds l old set (SlotsBelow p (way_number s) (k + 1)) (with_end (end_at p s) x arcs)) (sym
-      (same 0 u (omega arith) ∙ ap (l.use_at p s) (omega arith))) (end_more (record { patch = p; side = s; at = k })
-      (record { patch_low = low; low = omega arith }) back on (inr (refl, inr (refl, omega arith))) are))
+      → AreEnds l old set done arcs
+      → AreEnds l old set (λ w. done w ⊎ SlotsFrom p s k w) (with_ends (end_at p s) us arcs)
+  side_from p s [] k {done} low same many are = same_ends (λ w slot d. inl d) back are
     where
-      back : (w : Slot) → IsSlot l w → SlotsBelow p (way_number s) (k + 1) w
-          → SlotsBelow p (way_number s) k w ⊎ (w ≡ record { patch = p; side = s; at = k })
-      back w slot (inl h) = inl (inl h)
-      back w slot (inr (e, inl h)) = inl (inr (e, inl h))
-      back w slot (inr (e, inr (n, h))) = elim (cases_eq w.at k) [
-        | inl at ↦
-            let side = same_number w.side s n in inr (λ i. record { patch = e i; side = side i; at = at i })
-        | inr ne ↦ inl (inr (e, inr (n, omega arith)))
-      ]
-
-      on : (w : Slot) → IsSlot l w → SlotsBelow p (way_number s) k w → SlotsBelow p (way_number s) (k + 1) w
-      on w slot (inl h) = inl h
-      on w slot (inr (e, inl h)) = inr (e, inl h)
-      on w slot (inr (e, inr (n, h))) = inr (e, inr (n, omega arith))
-
-  -- A side that is done whole, and then the next one is begun.
-  next_side : (p : ℕ) (s : Way) (us : List SideArc) {arcs : List Arc} → p < l.patches
-      → ((j : ℕ) (d : SideArc) → j < length us → get_or us j d ≡ l.use_at p s j) → length us ≡ l.many p s
-      → AreEnds l old set (SlotsBelow p (way_number s) 0) arcs
-      → AreEnds l old set (SlotsBelow p (way_number s + 1) 0) (with_ends (end_at p s) us arcs)
-  next_side p s us low same many are = same_ends back on
-      (side_from p s us 0 low (λ j d h. same j d h ∙ ap (l.use_at p s) (omega arith)) (omega (arith, many)) are)
+      back : (w : Slot) → IsSlot l w → done w ⊎ SlotsFrom p s k w → done w
+      back w slot (inl d) = d
+      back w slot (inr (e, f, h)) = let less : w.at < l.many p s = rw (e, f) at slot.low in absurd (omega (arith, many))
+  side_from p s (u ∷ us) k {done} {arcs} low same many are = same_ends on back (side_from p s us (k + 1) low (λ j d h.
+      same (suc j) d (omega arith) ∙ ap (l.use_at p s) (let n : k + suc j ≡ k + 1 + j = omega arith in n)) (omega arith)
+      (subst (λ (x : SideArc). AreEnds l old set (λ w. done w ⊎ (w ≡ v)) (with_end (end_at p s) x arcs)) (sym
+      (same 0 u (omega arith) ∙ ap (l.use_at p s) (omega arith)))
+      (end_more v (record { patch_low = low; low = omega arith }) are)))
     where
-      back : (w : Slot) → IsSlot l w → SlotsBelow p (way_number s + 1) 0 w → SlotsBelow p (way_number s) (l.many p s) w
-      back w slot (inl h) = inl h
-      back w slot (inr (e, inl h)) = elim (cases_eq (way_number w.side) (way_number s)) [
-        | inl n ↦ let side = same_number w.side s n in inr (e, inr (n, rw (e, side) at slot.low))
-        | inr ne ↦ inr (e, inl (omega arith))
-      ]
-      back w slot (inr (e, inr (n, h))) = absurd (omega (arith, h))
+      v : Slot
+      v = record { patch = p; side = s; at = k }
 
-      on : (w : Slot) → IsSlot l w → SlotsBelow p (way_number s) (l.many p s) w → SlotsBelow p (way_number s + 1) 0 w
-      on w slot (inl h) = inl h
-      on w slot (inr (e, inl h)) = inr (e, inl (omega arith))
-      on w slot (inr (e, inr (n, h))) = inr (e, inl (omega arith))
+      on : (w : Slot) → IsSlot l w → (done w ⊎ (w ≡ v)) ⊎ SlotsFrom p s (k + 1) w → done w ⊎ SlotsFrom p s k w
+      on w slot (inl (inl d)) = inl d
+      on w slot (inl (inr e)) = rw e (inr (refl, refl, omega arith))
+      on w slot (inr (e, f, h)) = inr (e, f, omega arith)
+
+      back : (w : Slot) → IsSlot l w → done w ⊎ SlotsFrom p s k w → (done w ⊎ (w ≡ v)) ⊎ SlotsFrom p s (k + 1) w
+      back w slot (inl d) = inl (inl d)
+      back w slot (inr (e, f, h)) = elim (cases_eq w.at k) [
+        | inl at ↦ inl (inr (λ i. record { patch = e i; side = f i; at = at i }))
+        | inr ne ↦ inr (e, f, omega arith)
+      ]
 
   -- A patch is done.
   pub patch_more : (p : ℕ) (side : Way → List SideArc) (arcs : List Arc) → p < l.patches
@@ -187,35 +157,19 @@ module _ (l : Gluing) (old : Lengths) (set : Settings) (laid : IsSurface l) wher
       → ((s : Way) → length (side s) ≡ l.many p s)
       → AreEnds l old set (PatchesBelow p) arcs → AreEnds l old set (PatchesBelow (p + 1)) (with_four p side arcs)
   patch_more p side arcs low same many are =
-      let begun : AreEnds l old set (SlotsBelow p 0 0) arcs = same_ends first_back (λ w slot h. inl h) are in
-      same_ends last_back last_on
-      (next_side p west (side west) low (same west) (many west)
-      (next_side p north (side north) low (same north) (many north)
-      (next_side p east (side east) low (same east) (many east)
-      (next_side p south (side south) low (same south) (many south) begun))))
+      same_ends (λ w slot d. omega (arith, d)) (λ w slot h. elim (cases_eq w.patch p) [
+        | inl e ↦ done w e w.side refl
+        | inr ne ↦ inl (inl (inl (inl (omega arith))))
+      ]) (put west (put north (put east (put south are))))
     where
-      first_back : (w : Slot) → IsSlot l w → SlotsBelow p 0 0 w → w.patch < p
-      first_back w slot (inl h) = h
-      first_back w slot (inr (e, inl h)) = absurd (omega arith)
-      first_back w slot (inr (e, inr (n, h))) = absurd (omega arith)
+      put : (s : Way) {done : Slot → Type 0} {arcs : List Arc} → AreEnds l old set done arcs
+          → AreEnds l old set (λ w. done w ⊎ SlotsFrom p s 0 w) (with_ends (end_at p s) (side s) arcs)
+      put s = side_from p s (side s) 0 low (λ j d h. same s j d h ∙ ap (l.use_at p s) (omega arith))
+          (omega (arith, many s))
 
-      number_low : (s : Way) → way_number s < 4
-      number_low south = omega arith
-      number_low east = omega arith
-      number_low north = omega arith
-      number_low west = omega arith
-
-      last_back : (w : Slot) → IsSlot l w → w.patch < p + 1 → SlotsBelow p 4 0 w
-      last_back w slot h = elim (cases_eq w.patch p) [
-        | inl e ↦ inr (e, inl (number_low w.side))
-        | inr ne ↦ inl (omega arith)
-      ]
-
-      last_on : (w : Slot) → IsSlot l w → SlotsBelow p 4 0 w → w.patch < p + 1
-      last_on w slot (inl h) = omega arith
-      last_on w slot (inr (e, h)) = omega arith
-
--- Uses of arcs that are there, read from a table.
-pub low_among : (us vs : List SideArc) (n m : ℕ) → vs ≡ us → m ≡ n → All (λ (u : SideArc). u.arc < n) us
-    → All (λ (u : SideArc). u.arc < m) vs
-low_among us vs n m e long low = rw (e, long) low
+      done : (w : Slot) → w.patch ≡ p → (s : Way) → w.side ≡ s → (((PatchesBelow p w ⊎ SlotsFrom p south 0 w)
+          ⊎ SlotsFrom p east 0 w) ⊎ SlotsFrom p north 0 w) ⊎ SlotsFrom p west 0 w
+      done w e south f = inl (inl (inl (inr (e, f, omega arith))))
+      done w e east f = inl (inl (inr (e, f, omega arith)))
+      done w e north f = inl (inr (e, f, omega arith))
+      done w e west f = inr (e, f, omega arith)

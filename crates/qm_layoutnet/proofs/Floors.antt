@@ -4,7 +4,7 @@ use Rattle.std.proofs.Common.{List, None, map, refl, subst, leb-true, arith}
 use Rattle.std.proofs.lemmas.Bool.{and_parts, le-leb}
 use Rattle.std.proofs.lemmas.List.{ext_get_or, get_or-map, length-map}
 use Rattle.std.specs.{Prelude.nat_le, Prelude.nat_lt, Prelude.unsigned_abs, List.list_all}
-use Rattle.def_math.specs.Counts.{count, count_below}
+use Rattle.def_math.specs.Counts.{count_below}
 use Rattle.sum_laws.proofs.Counts.{count_below_same}
 use Rattle.def_flow.specs.Admissible.{arc_deviation, deviation, side_sum, IsEven}
 use Rattle.def_flow.specs.Network.{Network, arc_at, ends, is_bounded, tangle_number}
@@ -15,7 +15,7 @@ use Rattle.def_layout.specs.{Gluings.Gluing, Lengths.Lengths, Surfaces.IsSurface
 use Rattle.def_layoutnet.specs.{LayoutNet.IsNetOf, Floors.at_floor, Floors.HasFloors}
 use Rattle.qm_net.proofs.Within.{arc_bounded}
 use Rattle.qm_layoutnet.specs.Floors.{AreFloored}
-use Rattle.qm_layoutnet.proofs.{Built.all_pass, Built.count_at, SameEnds.sums_same, SameEnds.tangle_same}
+use Rattle.qm_layoutnet.proofs.{Built.all_pass, SameEnds.count_same, SameEnds.sums_same, SameEnds.tangle_same}
 
 -- The arc past the last one.
 abbrev no_arc : Arc
@@ -65,15 +65,10 @@ module _ (net : Network) (floor : Lengths) (new : Network) (has : HasFloors net 
   floors_even even = record {
     high = λ k l. (let low : k < length net.arcs = omega (arith, has.long) in
         omega (arith, old_at k low, even.high k low));
-    small = omega (arith, olds, even.small);
+    small = omega (arith, count_same (λ a. a.old) new.arcs net.arcs has.long old_at, even.small);
     balanced = λ v. sums true v ∙ (even.balanced v ∙ sym (sums false v));
   }
     where
-      olds : count (λ (a : Arc). a.old) new.arcs ≡ count (λ (a : Arc). a.old) net.arcs
-      olds = count_at (λ a. a.old) new.arcs ∙ ap (count_below (λ k. (arc_at new.arcs k).old)) has.long
-          ∙ count_below_same (λ k. (arc_at new.arcs k).old) (λ k. (arc_at net.arcs k).old) (length net.arcs) old_at
-          ∙ sym (count_at (λ a. a.old) net.arcs)
-
       sums : (plus : Bool) (v : ℕ) → side_sum new.arcs (λ k. pos (arc_at new.arcs k).old) plus v
           ≡ side_sum net.arcs (λ k. pos (arc_at net.arcs k).old) plus v
       sums plus v = sums_same net new has.nodes has.long same_ends (λ k. pos (arc_at new.arcs k).old)
@@ -101,18 +96,16 @@ module _ (net : Network) (floor : Lengths) (new : Network) (has : HasFloors net 
   }
     where
       bounded : (k : ℕ) → k < length net.arcs → is_bounded new.nodes (arc_at new.arcs k) ≡ true
-      bounded k l = (λ i. is_bounded (has.nodes i) (has.arcs k l i)) ∙ kept
-        where
-          kept : is_bounded net.nodes (at_floor (floor k) (arc_at net.arcs k)) ≡ true
-          kept =
-              let a = arc_at net.arcs k in
-              let all : Bool = list_all (λ (e : End). nat_lt e.node net.nodes) (ends a) in
-              let numbers = nat_le 1 a.weight && nat_le a.weight MAX_WEIGHT && nat_le a.old MAX_OLD in
-              let parts = and_parts (numbers && nat_le 1 a.floor && nat_le a.floor MAX_FLOOR) all
-              (arc_bounded net b k l) in
-              let floors = and_parts (numbers && nat_le 1 a.floor) _ parts.0 in
-              let first = and_parts numbers _ floors.0 in
-              rw (first.0, le-leb 1 (floor k) (within k l).0, le-leb (floor k) MAX_FLOOR (within k l).1) parts.1
+      bounded k l =
+          let a = arc_at net.arcs k in
+          let all : Bool = list_all (λ (e : End). nat_lt e.node net.nodes) (ends a) in
+          let numbers = nat_le 1 a.weight && nat_le a.weight MAX_WEIGHT && nat_le a.old MAX_OLD in
+          let parts = and_parts (numbers && nat_le 1 a.floor && nat_le a.floor MAX_FLOOR) all
+          (arc_bounded net b k l) in
+          let first = and_parts numbers _ (and_parts (numbers && nat_le 1 a.floor) _ parts.0).0 in
+          let kept : is_bounded net.nodes (at_floor (floor k) (arc_at net.arcs k)) ≡ true =
+          rw (first.0, le-leb 1 (floor k) (within k l).0, le-leb (floor k) MAX_FLOOR (within k l).1) parts.1 in
+          (λ i. is_bounded (has.nodes i) (has.arcs k l i)) ∙ kept
 
 -- It is the network of the layout for these floors.
 pub floored : (l : Gluing) (old wish : Lengths) (settings : Settings) (before floor : Lengths) (net new : Network)

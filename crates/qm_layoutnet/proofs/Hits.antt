@@ -28,21 +28,15 @@ hit_of k false = ap (λ (b : Bool). b && true) (eq-eqb k k refl)
 
 same_way : (forward other : Bool) → cond forward other (not other) ≡ true → other ≡ forward
 same_way true true e = refl
-same_way true false e = absurd (false≢true e)
-same_way false true e = absurd (false≢true e)
 same_way false false e = refl
-
--- A hit is such a use.
-pub hit_is : (k : ℕ) (forward : Bool) (used : SideArc) → is_hit k forward used ≡ true → used ≡ use_of_arc k forward
-hit_is k forward used e =
-    let p = and_parts (used.arc == k) _ e in
-    λ i. use_of_arc (eqb-true used.arc k p.0 i) (same_way forward used.forward p.1 i)
+same_way _ _ e = absurd (false≢true e)
 
 -- Any other use of it is none.
 pub no_hit : (k : ℕ) (forward : Bool) (used : SideArc) → (used ≡ use_of_arc k forward → ⊥) → is_hit k forward used
     ≡ false
 no_hit k forward used never = elim (cases_Bool _) [
-  | inl on ↦ absurd (never (hit_is k forward used on))
+  | inl on ↦ let p = and_parts (used.arc == k) _ on in absurd (never (λ i. use_of_arc (eqb-true used.arc k p.0 i)
+      (same_way forward used.forward p.1 i)))
   | inr off ↦ off
 ]
 

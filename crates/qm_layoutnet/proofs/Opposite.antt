@@ -11,23 +11,20 @@ module _ (l : Gluing) (x : Lengths) (p : ℕ) where
   pub size_is : (s : Way) → pos (size l x p s) ≡ sum_along l (λ arc. pos (x arc)) p s
   size_is s = count_below_total (λ k. x (l.use_at p s k).arc) (l.many p s)
 
-  same_sum : (s t : Way) → size l x p s ≡ size l x p t → sum_along l (λ arc. pos (x arc)) p s
-      ≡ sum_along l (λ arc. pos (x arc)) p t
-  same_sum s t same = sym (size_is s) ∙ (ap pos same ∙ size_is t)
-
-  same_size : (s t : Way) → sum_along l (λ arc. pos (x arc)) p s ≡ sum_along l (λ arc. pos (x arc)) p t
-      → size l x p s ≡ size l x p t
-  same_size s t same = omega (arith, ints, size_is s, size_is t, same)
+  same : (s t : Way) → (size l x p s ≡ size l x p t
+      → sum_along l (λ arc. pos (x arc)) p s ≡ sum_along l (λ arc. pos (x arc)) p t) × (sum_along l
+      (λ arc. pos (x arc)) p s ≡ sum_along l (λ arc. pos (x arc)) p t → size l x p s ≡ size l x p t)
+  same s t = (λ e. sym (size_is s) ∙ (ap pos e ∙ size_is t), λ e. omega (arith, ints, size_is s, size_is t, e))
 
 pub opposite_law : OppositeLaw
 opposite_law l x some = (
   λ is. record {
-    across = λ p low. same_sum l x p south north (sym (is.across p low));
-    upright = λ p low. same_sum l x p east west (is.upright p low);
+    across = λ p low. (same l x p south north).0 (sym (is.across p low));
+    upright = λ p low. (same l x p east west).0 (is.upright p low);
   },
   λ is. record {
     some = some;
-    across = λ p low. same_size l x p north south (sym (is.across p low));
-    upright = λ p low. same_size l x p east west (is.upright p low);
+    across = λ p low. (same l x p north south).1 (sym (is.across p low));
+    upright = λ p low. (same l x p east west).1 (is.upright p low);
   },
 )

@@ -2,20 +2,13 @@
 use Rattle.std.proofs.Common.{◌≡◌, ℕ, suc, ◌-◌, ◌<◌, ◌≤◌, List, [], ◌∷◌, length, refl, sym}
 use Rattle.std.proofs.Common.{subst, inl, inr, arith}
 use Rattle.std.proofs.lemmas.Bool.{cases_eq, cond-true, eq-eqb, ne_eqb}
-use Rattle.std.specs.Prelude.{◌==◌, None, true}
+use Rattle.std.specs.Prelude.{◌==◌}
 use Rattle.def_certtext.specs.declared.certs.Rise.{Rise}
-use Rattle.def_flow.specs.{declared.limits.TheConstants.MAX_FLOOR, declared.net.Arc.Arc}
+use Rattle.def_flow.specs.declared.limits.TheConstants.{MAX_FLOOR}
 use Rattle.def_layout.specs.{Gluings.Gluing, Lengths.Lengths}
 use Rattle.def_math.specs.Counts.{count_below}
 use Rattle.def_remesh.specs.Rises.{rise_at, risen_floors, AreNeeded, IsNeeded}
 use Rattle.sum_laws.proofs.Counts.{count_below_lt}
-
--- The arc and the rise past the last one.
-abbrev no_arc : Arc
-no_arc = record { left = record { node = 0; plus = true }; right = None; old = 0; weight = 0; floor = 0 }
-
-abbrev no_rise : Rise
-no_rise = record { arc = 0; floor = 0 }
 
 -- A fact of a floor that stays, and of each floor to which one rises, is one of the floors then.
 risen_is : (P : ℕ → Type 0) (rises : List Rise) (floors : Lengths) (a : ℕ)
@@ -34,27 +27,22 @@ module _ (l : Gluing) (x : Lengths) (rises : List Rise) (are : AreNeeded l x ris
   risen_low a within = risen_is (λ f. (1 ≤ f) × (f ≤ MAX_FLOOR)) rises floors a
       (λ k low same. (omega (arith, (are.each k low).short), (are.each k low).low)) within
 
-  module _ (kept : (a : ℕ) → a < l.arcs → floors a ≤ x a) where
-    -- No floor falls.
-    pub risen_kept : (a : ℕ) → floors a ≤ risen_floors rises floors a
-    risen_kept a = risen_is (λ f. floors a ≤ f) rises floors a (λ k low same.
-        subst (λ (b : ℕ). floors b ≤ (rise_at rises k).floor) same
-        (omega (arith, (are.each k low).short, kept (rise_at rises k).arc (are.each k low).there))) (omega arith)
-
-    -- How far they are below the greatest falls.
-    pub risen_more : count_below (λ a. MAX_FLOOR - risen_floors rises floors a) l.arcs
-        < count_below (λ a. MAX_FLOOR - floors a) l.arcs
-    risen_more = by_first rises are.some (are.each 0 are.some) risen_kept
-      where
-        by_first : (rs : List Rise) → 0 < length rs → IsNeeded l x (rise_at rs 0)
-            → ((a : ℕ) → floors a ≤ risen_floors rs floors a)
-            → count_below (λ a. MAX_FLOOR - risen_floors rs floors a) l.arcs
-            < count_below (λ a. MAX_FLOOR - floors a) l.arcs
-        by_first [] some first higher = absurd (omega arith)
-        by_first (r ∷ rs) some first higher =
-            count_below_lt (λ a. MAX_FLOOR - risen_floors (r ∷ rs) floors a) (λ a. MAX_FLOOR - floors a) l.arcs r.arc
-            first.there (λ a low. omega (arith, higher a)) (omega (
-              arith,
-              kept r.arc first.there,
-              cond-true (r.arc == r.arc) r.floor (risen_floors rs floors r.arc) (eq-eqb r.arc r.arc refl),
-            ))
+  -- No floor falls, so how far they are below the greatest does.
+  pub risen_more : ((a : ℕ) → a < l.arcs → floors a ≤ x a) → count_below (λ a. MAX_FLOOR - risen_floors rises floors a)
+      l.arcs < count_below (λ a. MAX_FLOOR - floors a) l.arcs
+  risen_more kept = by_first rises are.some (are.each 0 are.some) (λ a. risen_is (λ f. floors a ≤ f) rises floors a
+      (λ k low same. subst (λ (b : ℕ). floors b ≤ (rise_at rises k).floor) same
+      (omega (arith, (are.each k low).short, kept (rise_at rises k).arc (are.each k low).there))) (omega arith))
+    where
+      by_first : (rs : List Rise) → 0 < length rs → IsNeeded l x (rise_at rs 0)
+          → ((a : ℕ) → floors a ≤ risen_floors rs floors a)
+          → count_below (λ a. MAX_FLOOR - risen_floors rs floors a) l.arcs
+          < count_below (λ a. MAX_FLOOR - floors a) l.arcs
+      by_first [] some first higher = absurd (omega arith)
+      by_first (r ∷ rs) some first higher =
+          count_below_lt (λ a. MAX_FLOOR - risen_floors (r ∷ rs) floors a) (λ a. MAX_FLOOR - floors a) l.arcs r.arc
+          first.there (λ a low. omega (arith, higher a)) (omega (
+            arith,
+            kept r.arc first.there,
+            cond-true (r.arc == r.arc) r.floor (risen_floors rs floors r.arc) (eq-eqb r.arc r.arc refl),
+          ))

@@ -6,18 +6,17 @@ use Rattle.def_flow.specs.{Admissible.is_on_side, Admissible.side_sum, Network.N
 use Rattle.def_flow.specs.{Network.ends, Network.tangle_number, declared.net.Arc.Arc, declared.net.End.End}
 use Rattle.qm_layoutnet.proofs.Built.{count_at}
 
+-- Lists whose arcs are alike in something count it alike.
+pub count_same : (f : Arc → ℕ) (xs ys : List Arc) → length xs ≡ length ys
+    → ((k : ℕ) → k < length ys → f (arc_at xs k) ≡ f (arc_at ys k)) → count f xs ≡ count f ys
+count_same f xs ys long same = count_at f xs ∙ ap (count_below (λ k. f (arc_at xs k))) long
+    ∙ count_below_same (λ k. f (arc_at xs k)) (λ k. f (arc_at ys k)) (length ys) same ∙ sym (count_at f ys)
+
 module _ (net new : Network) (nodes : new.nodes ≡ net.nodes) (long : length new.arcs ≡ length net.arcs)
     (same : (k : ℕ) → k < length net.arcs → ends (arc_at new.arcs k) ≡ ends (arc_at net.arcs k)) where
   degree_same : (v : ℕ) → degree new.arcs v ≡ degree net.arcs v
-  degree_same v = count_at at_v new.arcs ∙ ap (count_below (λ k. at_v (arc_at new.arcs k))) long ∙ count_below_same
-      (λ k. at_v (arc_at new.arcs k)) (λ k. at_v (arc_at net.arcs k)) (length net.arcs) (λ k l. ap there (same k l))
-      ∙ sym (count_at at_v net.arcs)
-    where
-      there : List End → ℕ
-      there es = count (λ (e : End). cond (e.node == v) 1 0) es
-
-      at_v : Arc → ℕ
-      at_v a = count (λ (e : End). cond (e.node == v) 1 0) (ends a)
+  degree_same v = count_same (λ (a : Arc). count (λ (e : End). cond (e.node == v) 1 0) (ends a)) new.arcs net.arcs long
+      (λ k l. ap (λ (es : List End). count (λ (e : End). cond (e.node == v) 1 0) es) (same k l))
 
   pub tangle_same : tangle_number new ≡ tangle_number net
   tangle_same = ap (count_below (λ v. 16 * (degree new.arcs v * degree new.arcs v))) nodes ∙ count_below_same

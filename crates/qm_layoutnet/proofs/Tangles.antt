@@ -31,42 +31,38 @@ one_below u (suc n) = elim (cases_eq u n) [
       omega (arith, one_below u n, off)
 ]
 
--- The ends at the nodes below a bound, of an arc and of all arcs.
-arc_ends : (a : Arc) (n : ℕ) → count_below (λ v. count (λ e. cond (e.node == v) 1 0) (ends a)) n ≤ 2
-arc_ends a n = by_right a.right
-  where
-    by_right : (right : Option End)
-        → count_below (λ v. cond (a.left.node == v) 1 0 + count (λ (e : End). cond (e.node == v) 1 0)
-        (option_to_list right)) n ≤ 2
-    by_right None =
-        let sum = count_below_sum (λ v. cond (a.left.node == v) 1 0) (λ v. 0) n in
-        omega (arith, one_below a.left.node n, count_below_none (λ v. 0) n (λ v l. refl))
-    by_right (Some r) =
-        let sum = count_below_sum (λ v. cond (a.left.node == v) 1 0) (λ v. cond (r.node == v) 1 0 + 0) n in
-        let more = count_below_sum (λ v. cond (r.node == v) 1 0) (λ v. 0) n in
-        omega (arith, one_below a.left.node n, one_below r.node n, count_below_none (λ v. 0) n (λ v l. refl))
+-- There are as many ends at the nodes below a bound, and at one node, as there are ends, at most.
+ends_few : (es : List End) (n : ℕ) → count_below (λ v. count (λ e. cond (e.node == v) 1 0) es) n ≤ length es
+ends_few [] n = omega (arith, count_below_none (λ v. 0) n (λ v l. refl))
+ends_few (e ∷ es) n = omega (
+  arith,
+  count_below_sum (λ v. cond (e.node == v) 1 0) (λ v. count (λ (e : End). cond (e.node == v) 1 0) es) n,
+  one_below e.node n,
+  ends_few es n,
+)
+
+ends_at : (es : List End) (v : ℕ) → count (λ e. cond (e.node == v) 1 0) es ≤ length es
+ends_at [] v = omega arith
+ends_at (e ∷ es) v = omega (arith, once_at_most (e.node == v), ends_at es v)
+
+-- An arc has one or two.
+right_few : (right : Option End) → length (option_to_list right) ≤ 1
+right_few None = omega arith
+right_few (Some r) = omega arith
 
 degrees_few : (arcs : List Arc) (n : ℕ) → count_below (degree arcs) n ≤ 2 * length arcs
 degrees_few [] n = omega (arith, count_below_none (λ v. 0) n (λ v l. refl))
 degrees_few (a ∷ arcs) n = omega (
   arith,
   count_below_sum (λ v. count (λ e. cond (e.node == v) 1 0) (ends a)) (degree arcs) n,
-  arc_ends a n,
+  ends_few (ends a) n,
+  right_few a.right,
   degrees_few arcs n,
 )
 
--- No node has more than two ends of each arc.
-arc_degree : (a : Arc) (v : ℕ) → count (λ e. cond (e.node == v) 1 0) (ends a) ≤ 2
-arc_degree a v = by_right a.right
-  where
-    by_right : (right : Option End) → cond (a.left.node == v) 1 0 + count (λ (e : End). cond (e.node == v) 1 0)
-        (option_to_list right) ≤ 2
-    by_right None = omega (arith, once_at_most (a.left.node == v))
-    by_right (Some r) = omega (arith, once_at_most (a.left.node == v), once_at_most (r.node == v))
-
 degree_few : (arcs : List Arc) (v : ℕ) → degree arcs v ≤ 2 * length arcs
 degree_few [] v = omega arith
-degree_few (a ∷ arcs) v = omega (arith, arc_degree a v, degree_few arcs v)
+degree_few (a ∷ arcs) v = omega (arith, ends_at (ends a) v, right_few a.right, degree_few arcs v)
 
 pub tangle_small : (net : Network) → length net.arcs ≤ 2 ^ 23 → tangle_number net < 2 ^ 64
 tangle_small net few =

@@ -10,7 +10,7 @@ use Rattle.def_layout.specs.{declared.tmesh.TMesh.TMesh, Nodes.is_node, Nodes.Ar
 use Rattle.def_layout.specs.{Layouts.layout_of}
 use Rattle.def_layoutnet.specs.MeshLayouts.{IsSomeLayout}
 use Rattle.qm_layoutnet.proofs.Tangles.{term_low}
-use Rattle.written_laws.proofs.Runs.{run_here, IsInRun}
+use Rattle.written_laws.proofs.Runs.{run_here}
 use Rattle.cut_laws.proofs.Pigeon.{no_more}
 use Rattle.mesh_laws.proofs.HalfEdges.{manifold_law}
 use Rattle.face_laws.proofs.FullCuts.{full_cut_law}
@@ -27,48 +27,40 @@ module _ (layout : Layout) (is : IsSomeLayout layout) where
   nodes : AreNodes (half_edges is.faces) (is_on is.marks) (is_node is.faces is.marks)
   nodes = are_nodes is.faces laws is.marks cut
 
-  -- The darts of all arcs, one after the other.
-  abbrev run_of : (t : ℕ) → ℕ
-  run_of t = run_at (count_below (long_at layout.arcs)) (length layout.arcs) t
-
-  abbrev place_of : (t : ℕ) → ℕ
-  place_of t = t - count_below (long_at layout.arcs) (run_of t)
-
-  here : (t : ℕ) → t < count_below (long_at layout.arcs) (length layout.arcs)
-      → IsInRun (long_at layout.arcs) (length layout.arcs) t (run_of t) (place_of t)
-  here t l = run_here _ _ t l
-
   -- They are darts of the mesh.
   pub arc_inside : (a k : ℕ) → a < length layout.arcs → k < long_at layout.arcs a
       → dart_at layout.arcs a k < darts is.faces
   arc_inside = dart_low (half_edges is.faces) laws (is_on is.marks) cut (is_node is.faces is.marks) nodes layout.arcs
       is.laid.arcs
 
-  -- They differ, so there are no more than the mesh has.
+  -- The darts of all arcs, one after the other, differ, so there are no more than the mesh has.
   pub lengths_few : count_below (long_at layout.arcs) (length layout.arcs) ≤ darts is.faces
-  lengths_few = no_more (count_below (long_at layout.arcs) (length layout.arcs)) (darts is.faces)
-      (λ t. dart_at layout.arcs (run_of t) (place_of t)) (λ d. d) apart there
-    where
-      apart : (i j : ℕ) → i < count_below (long_at layout.arcs) (length layout.arcs)
-          → j < count_below (long_at layout.arcs) (length layout.arcs)
-          → dart_at layout.arcs (run_of i) (place_of i) ≡ dart_at layout.arcs (run_of j) (place_of j) → i ≡ j
-      apart i j li lj e =
-          let s = same_dart (half_edges is.faces) laws (is_on is.marks) cut (is_node is.faces is.marks) nodes
-          layout.arcs is.laid.arcs (run_of i) (run_of j) (place_of i) (place_of j) (here i li).low (here j lj).low
-          (here i li).inside (here j lj).inside e in
-          omega (arith, (here i li).place, (here j lj).place, ap (count_below (long_at layout.arcs)) s.0, s.1)
-
-      there : (i : ℕ) → i < count_below (long_at layout.arcs) (length layout.arcs) → (j : ℕ) × (j < darts is.faces)
-          × (j ≡ dart_at layout.arcs (run_of i) (place_of i))
-      there i l = (
+  lengths_few = no_more (count_below long (length layout.arcs)) (darts is.faces)
+      (λ t. dart_at layout.arcs (run_of t) (place_of t)) (λ d. d) (λ i j li lj e.
+      let one = run_here long (length layout.arcs) i li in
+      let two = run_here long (length layout.arcs) j lj in
+      let s = same_dart (half_edges is.faces) laws (is_on is.marks) cut (is_node is.faces is.marks) nodes layout.arcs
+      is.laid.arcs (run_of i) (run_of j) (place_of i) (place_of j) one.low two.low one.inside two.inside e in
+      omega (arith, one.place, two.place, ap (count_below long) s.0, s.1))
+      (λ i l. let here = run_here long (length layout.arcs) i l in (
         dart_at layout.arcs (run_of i) (place_of i),
-        arc_inside (run_of i) (place_of i) (here i l).low (here i l).inside,
+        arc_inside (run_of i) (place_of i) here.low here.inside,
         refl,
-      )
+      ))
+    where
+      long : ℕ → ℕ
+      long = long_at layout.arcs
+
+      run_of : (t : ℕ) → ℕ
+      run_of t = run_at (count_below long) (length layout.arcs) t
+
+      place_of : (t : ℕ) → ℕ
+      place_of t = t - count_below long (run_of t)
 
   -- The first cells of patches differ, too.
   pub patches_few : length layout.patches ≤ darts is.faces
-  patches_few = no_more _ _ first (λ d. d) apart (λ p l. (first p, low p l, refl))
+  patches_few = no_more _ _ first (λ d. d) (λ p q lp lq e. (is.laid.patches.once (first p) p 0 0 0 q 0 0 0 lp lq
+      (side p p lp refl) (side q p lq e)).0) (λ p l. (first p, low p l, refl))
     where
       first : (p : ℕ) → ℕ
       first p = cell_of (patch_at layout.patches p) 0 0
@@ -80,23 +72,15 @@ module _ (layout : Layout) (is : IsSomeLayout layout) where
           → IsSide (half_edges is.faces) (patch_at layout.patches p) 0 0 0 (first q)
       side p q l e = let g = (is.laid.patches.patch p l).grid in record { i_low = g.wide; j_low = g.tall; is = e }
 
-      apart : (p q : ℕ) → p < length layout.patches → q < length layout.patches → first p ≡ first q → p ≡ q
-      apart p q lp lq e = (is.laid.patches.once (first p) p 0 0 0 q 0 0 0 lp lq (side p p lp refl) (side q p lq e)).0
-
 -- So each arc is short.
 pub runs_short : (t : TMesh) → IsSomeLayout (layout_of t)
     → All (λ (run : TArc). length run.darts.items < 2 ^ 32) t.arcs.items
 runs_short t is k d l =
-    let low : k < length (layout_of t).arcs = omega (arith, l, length-map t.arcs.items path) in
-    let long : long_at (layout_of t).arcs k ≡ length (get_or t.arcs.items k d).darts.items = ap
-    (λ (p : Path). length p.darts) (get_or-map path t.arcs.items k d (record { first = 0; last = 0; darts = [] }) l) in
-    omega (
-      arith,
-      long,
-      term_low (long_at (layout_of t).arcs) (length (layout_of t).arcs) k low,
-      lengths_few (layout_of t) is,
-      is.mesh.few,
-    )
+    let p = layout_of t in
+    let low : k < length p.arcs = omega (arith, l, length-map t.arcs.items path) in
+    let long : long_at p.arcs k ≡ length (get_or t.arcs.items k d).darts.items = ap (λ (p : Path). length p.darts)
+    (get_or-map path t.arcs.items k d (record { first = 0; last = 0; darts = [] }) l) in
+    omega (arith, long, term_low (long_at p.arcs) (length p.arcs) k low, lengths_few p is, is.mesh.few)
 
 pub few_patches : (t : TMesh) → IsSomeLayout (layout_of t) → length t.patches.items ≤ 2 ^ 23
 few_patches t is = omega (arith, patches_few (layout_of t) is, length-map t.patches.items rectangle)

@@ -1,49 +1,43 @@
-use Rattle.std.proofs.Common.{◌≡◌, ap, sym, ◌∙◌, arith, false}
-use Rattle.def_mesh.specs.Darts.{next_of}
-use Rattle.def_cut.specs.FullCut.{is_on}
-use Rattle.qm_grid.proofs.Walks.{grid_listed, first_row, grid_done, grid_at, grid_inside, grid_west, grid_never}
+use Rattle.std.proofs.Common.{◌≡◌, suc, ◌+◌, ap, sym, ◌∙◌, arith, false}
+use Rattle.def_mesh.specs.{Darts.next_of, Darts.prev_of, HalfEdges.half_edges}
+use Rattle.def_cut.specs.{FullCut.is_on, Steps.norths, Steps.step_north}
+use Rattle.cut_laws.proofs.{Rows.west_on, Grown.endless_north}
+use Rattle.qm_grid.proofs.Walks.{below_next, grid_listed, grid_done}
 use Rattle.qm_grid.proofs.grid.grid.Goals as goal
 
-pub returns-then-is_cut-clause-grown : goal.returns-then-is_cut-clause-grown
-returns-then-is_cut-clause-grown c =
+pub returns-then-is_cut : goal.returns-then-is_cut
+returns-then-is_cut c =
     let i = c.loop-h.invariant in
     let f = c.is_full.ensures in
-    let e : c.next-in-loop-h.result ≡ next_of (next_of c.loop-h.start) = c.next-in-loop-h.ensures.value
-    ∙ ap next_of c.next.ensures.value in
-    grid_done _ f.laws _ f.full c.args.corner c.loop-h.start c.loop-h.h c.in_ok-w.w i.at c.in_ok-w.ensures.row i.inside
-    c.requires.corner (ap (is_on c.args.cut.now.marks) (sym e) ∙ (sym c.is_cut.ensures ∙ c.if-is_cut.true))
-
-pub returns-then-is_cut-clause-cells : goal.returns-then-is_cut-clause-cells
-returns-then-is_cut-clause-cells c =
-    let i = c.loop-h.invariant in
-    let f = c.is_full.ensures in
-    grid_listed _ f.laws _ f.full c.args.corner c.loop-h.start c.loop-h.h c.in_ok-w.w i.at c.in_ok-w.ensures.row
-    i.inside c.loop-h.cells.items c.push_row.new.cells.items i.listed c.in_ok-w.ensures.cells c.in_ok-w.w
-    (first_row _ f.laws _ f.full c.args.corner c.loop-h.start c.loop-h.h c.in_ok-w.w i.at c.in_ok-w.ensures.row i.inside
-    c.requires.corner)
+    let row = c.in_ok-w.ensures.row in
+    let done = grid_done f.laws f.full i.at row i.inside c.requires.corner
+    (cc (c.next.ensures.value, c.next-in-loop-h.ensures.value, c.is_cut.ensures, c.if-is_cut.true)) in
+    record {
+      grown = done;
+      cells = grid_listed f.laws f.full i.at row i.inside i.listed c.in_ok-w.ensures.cells _ done.row;
+    }
 
 pub loop-h-preserved : goal.loop-h-preserved
 loop-h-preserved c =
     let i = c.loop-h.invariant in
     let f = c.is_full.ensures in
-    let e : c.next-in-loop-h.result ≡ next_of (next_of c.loop-h.start) = c.next-in-loop-h.ensures.value
-    ∙ ap next_of c.next.ensures.value in
+    let mesh = half_edges c.args.cut.now.faces in
+    let cut = is_on c.args.cut.now.marks in
     let off : is_on c.args.cut.now.marks (next_of (next_of c.loop-h.start)) ≡ false =
-    ap (is_on c.args.cut.now.marks) (sym e) ∙ (sym c.is_cut.ensures ∙ c.if-is_cut.false) in
+    cc (c.next.ensures.value, c.next-in-loop-h.ensures.value, c.is_cut.ensures, c.if-is_cut.false) in
+    let n : suc c.loop-h.h ≡ c.loop-h.h + 1 = omega arith in
     record {
-      at = grid_at _ f.laws _ f.full c.args.corner c.loop-h.start c.north-start.result c.loop-h.h i.at
-          c.north-start.ensures.value;
+      at = c.north-start.ensures.value ∙ (ap (step_north mesh) i.at ∙ ap (norths mesh c.args.corner) n);
       low = c.north-start.ensures.dart;
-      west = grid_west _ f.laws _ f.full c.loop-h.start c.north-start.result i.low c.north-start.ensures.value i.west
-          off;
-      inside = grid_inside _ f.laws _ f.full c.args.corner c.loop-h.start c.loop-h.h i.at i.inside off;
-      listed = grid_listed _ f.laws _ f.full c.args.corner c.loop-h.start c.loop-h.h c.in_ok-w.w i.at
-          c.in_ok-w.ensures.row i.inside c.loop-h.cells.items c.push_row.new.cells.items i.listed
-          c.in_ok-w.ensures.cells;
+      west = ap (λ x. cut (prev_of x)) c.north-start.ensures.value
+          ∙ west_on mesh f.laws cut f.full c.loop-h.start i.low i.west off;
+      inside = below_next (λ k. cut (next_of (next_of (norths mesh c.args.corner k))) ≡ false) c.loop-h.h i.inside
+          (ap (λ x. cut (next_of (next_of x))) (sym i.at) ∙ off);
+      listed = grid_listed f.laws f.full i.at c.in_ok-w.ensures.row i.inside i.listed c.in_ok-w.ensures.cells;
     }
 
 pub unreachable-requires : goal.unreachable-requires
 unreachable-requires c =
     let f = c.is_full.ensures in
-    grid_never _ f.laws _ f.full c.args.corner c.loop-h.h c.requires.corner c.loop-h.invariant.inside
-    (omega (arith, f.long, c.loop-h-test.false))
+    endless_north _ f.laws _ f.full c.args.corner c.requires.corner.0 c.requires.corner.1
+    (λ k l. c.loop-h.invariant.inside k (omega (arith, f.long, c.loop-h-test.false)))

@@ -22,14 +22,7 @@ pub loop-p-preserved : goal.loop-p-preserved
 loop-p-preserved c =
     let t = c.args.t.now in
     let p_low : c.loop-p.p < length (map rectangle t.patches.items) =
-    omega (
-      arith,
-      c.loop-p-test.true,
-      c.len-p-end.ensures,
-      t.sides.ok.0,
-      c.requires.sided,
-      length-map t.patches.items rectangle,
-    ) in
+    omega (arith, c.len-p-end.ensures, c.requires.sided, length-map t.patches.items rectangle) in
     record {
       done = λ set begin. subst (λ (xs : List Arc). AreEnds (gluing_of (layout_of t)) (long_at (map path t.arcs.items))
           set (PatchesBelow (c.loop-p.p + 1)) xs) (sym c.put_four.ensures) (patch_more (gluing_of (layout_of t))
