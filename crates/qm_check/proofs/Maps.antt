@@ -1,41 +1,26 @@
 -- The map of bytes that have one, and what is said of those that have none.
-use Rattle.std.proofs.Common.{◌≡◌, ◌≤◌, ℕ, take, inr, refl, sym, ◌∙◌, ap, subst, arith}
-use Rattle.std.proofs.lemmas.Bool.{false≢true}
-use Rattle.def_certtext.specs.CertLines.{used}
-use Rattle.def_cut.specs.Traced.{traced_marks}
-use Rattle.def_flow.specs.Network.{network}
-use Rattle.def_io.specs.{Bytes.Bytes, Lines.lines_of, Lines.tail_of}
-use Rattle.def_layout.specs.{Arcs.long_at, Layouts.Layout}
-use Rattle.def_map.specs.MapText.{map_text}
-use Rattle.def_mesh.specs.Manifold.{IsManifold}
-use Rattle.def_remesh.specs.{Certified.IsShown, CutSoups.CutSoup, CutSoups.Regrid, Keeping.IsNetFor}
-use Rattle.def_remesh.specs.{NewPoints.lengths_in, NewPoints.multiple_of, Refined.refined_faces, Refined.refined_text}
-use Rattle.def_remesh.specs.declared.limits.TheConstants.{MAX_NEW_FACES}
-use Rattle.def_run.specs.Check.{head_of}
-use Rattle.def_run.specs.Judging.{IsReason}
-use Rattle.def_run.specs.Map.{asks_of, HasMap, HasOtherText, IsHeadedBy, IsMapOf, IsNotRefined, IsUnfinished, IsUnlike}
-use Rattle.def_run.specs.Map.{WritesMap, WritesNew}
-use Rattle.def_run.specs.MapFails.{IsMapFail}
-use Rattle.def_run.specs.MarkLines.{begins_mark, front_of, HasNoMark, IsLastMark, IsMarkLine}
-use Rattle.def_run.specs.Mesh.{IsMeshText}
-use Rattle.def_run.specs.Refine.{WritesRefined}
-use Rattle.def_run.specs.Remesh.{IsTracedLayout, WritesFinished}
-use Rattle.def_run.specs.declared.answer.Why.{Why}
-use Rattle.def_run.specs.declared.check_fail.CheckFail.{CheckFail}
-use Rattle.def_run.specs.declared.check_fail.CheckFail.TheVariants.{NotAccepted, Old, NotManifold, Marks, Tangled, Far}
-use Rattle.def_run.specs.declared.check_fail.CheckFail.TheVariants.{Memory}
-use Rattle.def_run.specs.declared.command.Command.{Command}
-use Rattle.def_run.specs.declared.command.Command.TheVariants.{Refine, Remesh, Crease, Size, Coarse, Fit}
+use Rattle.std.proofs.Common.{Option, ◌∙◌, sym, inr, take, None, arith, refl, ◌≡◌, ℕ, ap, subst, ◌↔◌, ◌≤◌, Some}
+use Rattle.std.proofs.{lemmas.Option.none-some, lemmas.Bool.false≢true, lemmas.Option.same_Some}
+use Rattle.{def_certtext.specs.CertLines.used, site_laws.proofs.Laws.graph_law, def_cut.specs.Traced.traced_marks}
+use Rattle.{def_map.specs.MapText.map_text, def_text.specs.FaceSet.FaceSet, def_flow.specs.Network.network}
+use Rattle.{def_layout.specs.Arcs.long_at, def_run.specs.Map.IsHeadedBy, def_io.specs.Bytes.Bytes}
+use Rattle.{embedding_laws.proofs.OneLayout.one_layout_law, def_io.specs.Lines.lines_of, def_io.specs.Lines.tail_of}
+use Rattle.def_run.specs.Map.{IsMapOf, HasOtherText, asks_of, HasMap, IsNotRefined, IsUnfinished, IsUnlike, WritesNew}
+use Rattle.def_run.specs.declared.check_fail.CheckFail.TheVariants.{NotAccepted, NotManifold, Tangled, Far, Marks, Old}
+use Rattle.def_run.specs.declared.command.Command.TheVariants.{Fit, Crease, Refine, Coarse, Size, Remesh}
+use Rattle.def_run.specs.MarkLines.{IsMarkLine, IsLastMark, front_of, HasNoMark, begins_mark}
+use Rattle.def_run.specs.{Check.head_of, declared.command.Command.Command, Judging.IsReason, Remesh.IsTracedLayout}
+use Rattle.def_run.specs.{Mesh.IsMeshText, declared.check_fail.CheckFail.CheckFail, MapFails.IsMapFail}
+use Rattle.def_run.specs.{declared.answer.Why.Why, Remesh.WritesFinished, Refine.WritesRefined}
+use Rattle.{def_mesh.specs.Manifold.IsManifold, qm_check.specs.Multiples.HasNoPoints, qm_check.specs.Ready.IsOld}
+use Rattle.qm_check.specs.Making.{IsReadyFor, NeverWrites, IsFound, IsUnmade, HasMapOf, IsGivenTo}
+use Rattle.qm_check.specs.{declared.judging.Finished.Finished, Ready.IsNoOld, declared.ready.Ready.Ready}
+use Rattle.qm_check.specs.{Judged.judged_by, Multiples.IsRefinedBy, Judged.IsTextFail, Checked.IsDifference}
+use Rattle.{def_remesh.specs.CutSoups.Regrid, def_remesh.specs.CutSoups.CutSoup, remesh_laws.proofs.LastLines.one_last}
+use Rattle.def_remesh.specs.{Certified.IsShown, NewPoints.lengths_in, NewPoints.multiple_of, Refined.refined_text}
+use Rattle.def_remesh.specs.{declared.limits.TheConstants.MAX_NEW_FACES, Refined.refined_faces}
+use Rattle.qm_check.proofs.{Points.one_ok, Points.ok_or_err, Verdicts.shape_of, Verdicts.untangled, Tasks.shown_by}
 use Rattle.def_run.specs.declared.answer.Why.TheVariants as why
-use Rattle.def_text.specs.FaceSet.{FaceSet}
-use Rattle.embedding_laws.proofs.OneLayout.{one_layout_law}
-use Rattle.site_laws.proofs.Laws.{graph_law}
-use Rattle.remesh_laws.proofs.LastLines.{one_last}
-use Rattle.qm_check.proofs.{Results.ok_or_err, Results.one_ok, Tasks.shown_by, Verdicts.shape_of, Verdicts.untangled}
-use Rattle.qm_check.specs.{Checked.IsDifference, Judged.judged_by, Judged.Finishes, Judged.IsTextFail, Making.HasMapOf}
-use Rattle.qm_check.specs.Making.{IsFound, IsGivenTo, IsReadyFor, IsUnmade}
-use Rattle.qm_check.specs.{Multiples.HasNoPoints, Multiples.IsRefinedBy, Ready.IsNoOld, Ready.IsOld}
-use Rattle.qm_check.specs.{declared.judging.Finished.Finished, declared.ready.Ready.Ready}
 
 -- Without such a line there is no map.
 pub unmarked_bytes : (bytes : Bytes) → HasNoMark (lines_of bytes) → IsMapFail bytes (NotAccepted why.NoHead)
@@ -49,44 +34,51 @@ new_mesh (Refine by) front text wrote = (wrote.soup, wrote.mesh)
 new_mesh _ front text wrote = (wrote.soup, wrote.mesh)
 
 module _ (bytes : Bytes) (line : ℕ) (last : IsLastMark (lines_of bytes) line) where
-  line_is : (text : Bytes) (wrote : WritesMap bytes text) → wrote.line ≡ line
-  line_is text wrote = one_last begins_mark (lines_of bytes) wrote.line line wrote.divided last
+  line_is : (has : HasMap bytes) → has.1.line ≡ line
+  line_is has = one_last begins_mark (lines_of bytes) has.1.line line has.1.divided last
 
   -- The mesh in front of a map.
   front_mesh : (has : HasMap bytes) → (soup : FaceSet) × IsMeshText (front_of line bytes) soup
-  front_mesh (text, wrote) = subst (λ (n : ℕ). (soup : FaceSet) × IsMeshText (front_of n bytes) soup)
-      (line_is text wrote) (new_mesh wrote.command (front_of wrote.line bytes) (tail_of wrote.line bytes) wrote.written)
+  front_mesh has = rw (← (line_is has))
+      (new_mesh has.1.command (front_of has.1.line bytes) (tail_of has.1.line bytes) has.1.written)
 
   -- The bytes in front have no mesh.
   pub no_front : (fail : CheckFail) → IsNoOld (front_of line bytes) fail → IsMapFail bytes fail
   no_front (Old fail) (other, says) = (
     record { line = line; divided = last; said = says },
     other,
-    λ (has : HasMap bytes). let mesh = front_mesh has in ok_or_err _ mesh.0 fail mesh.1.said says,
+    λ (has : HasMap bytes). ok_or_err (front_mesh has).1.said says,
   )
   no_front (NotManifold place soup) (says, fault, refuted) = (
     record { line = line; divided = last; said = says; fault = fault; refuted = refuted },
     λ (has : HasMap bytes).
-        let mesh = front_mesh has in
-        refuted (subst (λ (s : FaceSet). IsManifold s.faces) (one_ok _ mesh.0 soup mesh.1.said says) mesh.1.manifold),
+        let (other, mesh) = front_mesh has in
+        refuted (subst (λ (s : FaceSet). IsManifold s.faces) (one_ok mesh.said says) mesh.manifold),
   )
-  no_front Memory none = tt
-  no_front _ none = absurd none
+  no_front _ none = search none
 
-  -- The line is that of no command.
-  pub no_command : (old : FaceSet) → IsOld (front_of line bytes) old
-      → ((command : Command) → ¬ IsMarkLine (head_of bytes line) command) → IsMapFail bytes (NotAccepted why.Head)
-  no_command old is none = (
-    record { line = line; soup = old; front = record { divided = last; mesh = is.mesh }; none = none },
-    λ (has : HasMap bytes).
-        none has.1.command (subst (λ (n : ℕ). IsMarkLine (head_of bytes n) has.1.command) (line_is has.0 has.1)
-        has.1.mark),
-  )
+  module _ {old : FaceSet} (is : IsOld (front_of line bytes) old) {head : Bytes} (at : head ≡ head_of bytes line)
+      {read : Option Command} (reads : (command : Command) → (read ≡ Some command) ↔ IsMarkLine head command) where
+    reads_here : (command : Command) → IsMarkLine (head_of bytes line) command → read ≡ Some command
+    reads_here command mark = (reads command).1 (rw at mark)
 
-unlike_of : (command : Command) (bytes : Bytes) (line : ℕ) (why : Why) → IsUnfinished (asks_of command) bytes line why
-    → IsUnlike command bytes line why
-unlike_of (Refine by) bytes line why none = absurd none.mesh.asked
-unlike_of _ bytes line why none = none
+    -- The line is that of no command.
+    pub no_command : read ≡ None → IsMapFail bytes (NotAccepted why.Head)
+    no_command none =
+        let other : (command : Command) → ¬ IsMarkLine (head_of bytes line) command =
+        λ command mark. none-some command (sym none ∙ reads_here command mark) in (
+          record { line = line; soup = old; front = record { divided = last; mesh = is.mesh }; none = other },
+          λ (has : HasMap bytes). other has.1.command (rw (line_is has) at has.1.mark),
+        )
+
+    -- It is that of one.
+    pub given_by : {command : Command} → read ≡ Some command → IsGivenTo bytes line old command
+    given_by {command} some = record {
+      last = last;
+      read = is;
+      is = rw (← at) ((reads command).0 some);
+      alone = λ other mark. same_Some other command (sym (reads_here other mark) ∙ some);
+    }
 
 -- The text of a finished task is that of its command, and has its map.
 written_by : (command : Command) (front text : Bytes) → WritesFinished (asks_of command) front text
@@ -98,13 +90,18 @@ map_is : (command : Command) (front text : Bytes) (wrote : WritesFinished (asks_
     → IsMapOf command front text (written_by command front text wrote) (map_text wrote.soup wrote.shown.finished.layout
     wrote.task.shares (lengths_in (used wrote.shown.finished.certificates).x))
 unfolding written_by
-map_is (Refine by) front text wrote = absurd wrote.asked
 map_is (Remesh settings auto) front text wrote = refl
 map_is (Crease settings) front text wrote = refl
 map_is (Size edge floor) front text wrote = refl
 map_is (Coarse settings) front text wrote = refl
 map_is (Fit fit) front text wrote = refl
 map_is _ front text wrote = absurd wrote.asked
+
+-- What is not as its task is not what its command writes.
+unlike_of : (command : Command) (bytes : Bytes) (line : ℕ) (why : Why) → IsUnfinished (asks_of command) bytes line why
+    → IsUnlike command bytes line why
+unlike_of (Refine by) bytes line why none = absurd none.mesh.asked
+unlike_of _ bytes line why none = none
 
 module _ {bytes : Bytes} {line : ℕ} {old : FaceSet} {command : Command}
     (given : IsGivenTo bytes line old command) where
@@ -115,47 +112,35 @@ module _ {bytes : Bytes} {line : ℕ} {old : FaceSet} {command : Command}
   text = tail_of line bytes
 
   headed : IsHeadedBy bytes line command
-  headed = record {
-    soup = old;
-    front = record { divided = given.last; mesh = given.read.mesh };
-    mark = given.is;
-  }
+  headed = record { soup = old; front = record { divided = given.last; mesh = given.read.mesh }; mark = given.is }
 
   -- Bytes that have a map are written by this command.
   given_writes : HasMap bytes → WritesNew command front text
-  given_writes (map, wrote) = subst (λ (c : Command). WritesNew c front text)
-      (given.alone wrote.command (subst (λ (n : ℕ). IsMarkLine (head_of bytes n) wrote.command) same wrote.mark))
-      (subst (λ (n : ℕ). WritesNew wrote.command (front_of n bytes) (tail_of n bytes)) same wrote.written)
-    where
-      same : wrote.line ≡ line
-      same = line_is bytes line given.last map wrote
+  given_writes has =
+      let same = line_is bytes line given.last has in
+      rw (← (given.alone has.1.command (rw same at has.1.mark)), ← same) has.1.written
+
+  -- Where it never writes there is no map.
+  unmapped : NeverWrites command front → HasMap bytes → ⊥
+  unmapped never has = never text (given_writes has)
 
   -- Nothing is made ready for the command.
   pub unmade_fails : (fail : CheckFail) → IsUnmade command front fail → IsMapFail bytes fail
-  unmade_fails (Tangled count) (why, never) = (
-    inr (record { line = line; command = command; headed = headed; said = why }),
-    λ (has : HasMap bytes). never text (given_writes has),
-  )
-  unmade_fails (Far sum) (why, never) = (
-    inr (record { line = line; command = command; headed = headed; said = why }),
-    λ (has : HasMap bytes). never text (given_writes has),
-  )
-  unmade_fails (Marks fail) (said, other, never) = (
-    record { line = line; command = command; headed = headed; said = said },
-    other,
-    λ (has : HasMap bytes). never text (given_writes has),
-  )
-  unmade_fails Memory none = tt
-  unmade_fails _ none = absurd none
+  unmade_fails (Tangled count) (why, never) =
+      (inr (record { line = line; command = command; headed = headed; said = why }), unmapped never)
+  unmade_fails (Far sum) (why, never) =
+      (inr (record { line = line; command = command; headed = headed; said = why }), unmapped never)
+  unmade_fails (Marks fail) (said, other, never) =
+      (record { line = line; command = command; headed = headed; said = said }, other, unmapped never)
+  unmade_fails _ none = search none
 
   module _ {ready : Ready} (for : IsReadyFor command front ready) (same : ready.cut.soup ≡ old) where
-    ready_mesh : IsMeshText front ready.cut.soup
-    ready_mesh = subst (IsMeshText front) (sym same) given.read.mesh
+    pub ready_mesh : IsMeshText front ready.cut.soup
+    ready_mesh = rw same given.read.mesh
 
     -- The text is not that of the task.
     other : (why : Why) → IsReason (judged_by bytes line ready.cut for.task) why
-        × (¬ IsShown for.task ready.cut.soup text)
-        → HasOtherText bytes why × (¬ HasMap bytes)
+        × (¬ IsShown for.task ready.cut.soup text) → HasOtherText bytes why × (¬ HasMap bytes)
     other why (reason, none) = (
       record {
         line = line;
@@ -180,31 +165,10 @@ module _ {bytes : Bytes} {line : ℕ} {old : FaceSet} {command : Command}
 
     pub text_fails : (fail : CheckFail) → IsTextFail (judged_by bytes line ready.cut for.task) fail
         → IsMapFail bytes fail
-    text_fails (NotAccepted (why.CertLine bad)) both = other (why.CertLine bad) both
-    text_fails (NotAccepted (why.Verdict verdict)) both = other (why.Verdict verdict) both
-    text_fails (NotAccepted (why.TooFine faces)) both = other (why.TooFine faces) both
-    text_fails (NotAccepted (why.Doubled u v)) both = other (why.Doubled u v) both
-    text_fails (NotAccepted (why.Rises round)) both = other (why.Rises round) both
-    text_fails (NotAccepted (why.Byte at)) both = other (why.Byte at) both
-    text_fails Memory none = tt
-    text_fails _ none = absurd none
-
-    -- It is.
-    pub found : {finished : Finished} → Finishes for.task ready text finished → IsFound command front text finished
-    found by = record {
-      written = record {
-        soup = ready.cut.soup;
-        mesh = ready_mesh;
-        task = for.task;
-        asked = for.only.asked;
-        shown = by.shown;
-      };
-      new = by.new;
-      net = network ready.net;
-      of_layout = subst (λ (p : Layout). IsNetFor for.task.wish p for.task.settings (network ready.net))
-          (sym by.layout_is) for.holds.net;
-      deviates = by.deviates;
-    }
+    text_fails (NotAccepted why.NoHead) both = absurd both
+    text_fails (NotAccepted why.Head) both = absurd both
+    text_fails (NotAccepted why) both = other why both
+    text_fails _ none = search none
 
   -- A text that the command wrote has its map.
   pub mapped : {finished : Finished} → IsFound command front text finished → HasMapOf bytes finished.new
@@ -219,63 +183,48 @@ module _ {bytes : Bytes} {line : ℕ} {old : FaceSet} {command : Command}
 
 -- ---- A refined mesh.
 
-module _ {bytes : Bytes} {line : ℕ} {by : ℕ} (cut : CutSoup) (given : IsGivenTo bytes line cut.soup (Refine by))
+module _ {bytes : Bytes} {line : ℕ} {by : ℕ} {cut : CutSoup} (given : IsGivenTo bytes line cut.soup (Refine by))
     (laid : IsTracedLayout cut.soup.faces cut.layout) where
+  -- The text is another one for this reason, where what is written over this layout is not.
   refined_other : (why : Why) → IsNotRefined by cut.soup cut.layout (tail_of line bytes) why
-      → HasOtherText bytes why
-  refined_other why reason = record {
-    line = line;
-    command = Refine by;
-    headed = headed given;
-    unlike = record {
-      layout = cut.layout;
-      mesh = record { soup = cut.soup; mesh = given.read.mesh; cut = laid };
-      reason = reason;
-    };
-  }
-
-  -- What is written for these bytes is written over this layout.
-  one_layout : (wrote : WritesRefined by (front_of line bytes) (tail_of line bytes)) → (wrote.soup ≡ cut.soup)
-      × (wrote.refined.layout ≡ cut.layout)
-  one_layout wrote = (
-    same,
-    one_layout_law cut.soup.faces (traced_marks cut.soup.faces) given.read.mesh.manifold
+      → (refined_faces by cut.layout ≤ MAX_NEW_FACES → tail_of line bytes ≡ refined_text by cut.soup cut.layout → ⊥)
+      → HasOtherText bytes why × (¬ HasMap bytes)
+  refined_other why reason none = (
+    record {
+      line = line;
+      command = Refine by;
+      headed = headed given;
+      unlike = record {
+        layout = cut.layout;
+        mesh = record { soup = cut.soup; mesh = given.read.mesh; cut = laid };
+        reason = reason;
+      };
+    },
+    λ (has : HasMap bytes).
+        let wrote : WritesRefined by (front_of line bytes) (tail_of line bytes) = given_writes given has in
+        let soups = one_ok wrote.mesh.said given.read.mesh.said in
+        let layouts = one_layout_law cut.soup.faces (traced_marks cut.soup.faces) given.read.mesh.manifold
         (graph_law cut.soup.faces given.read.mesh.manifold).1 wrote.refined.layout cut.layout
-        (subst (λ (s : FaceSet). IsTracedLayout s.faces wrote.refined.layout) same wrote.refined.cut) laid,
+        (rw soups at wrote.refined.cut) laid in
+        none (rw layouts at wrote.refined.fits) (wrote.refined.written ∙ (λ i. refined_text by (soups i) (layouts i))),
   )
-    where
-      same : wrote.soup ≡ cut.soup
-      same = one_ok _ wrote.soup cut.soup wrote.mesh.said given.read.mesh.said
 
   -- There are too many faces.
   pub no_points : (fail : CheckFail) → HasNoPoints by cut.layout fail → IsMapFail bytes fail
-  no_points (NotAccepted (why.TooFine faces)) fine = (
-    refined_other (why.TooFine faces) fine,
-    λ (has : HasMap bytes).
-        let wrote = given_writes given has in
-        let few : refined_faces by cut.layout ≤ MAX_NEW_FACES =
-        subst (λ (p : Layout). refined_faces by p ≤ MAX_NEW_FACES) (one_layout wrote).1 wrote.refined.fits in
-        absurd (omega (arith, few, fine.0, fine.1)),
-  )
-  no_points Memory none = tt
-  no_points _ none = absurd none
+  no_points (NotAccepted (why.TooFine faces)) fine =
+      refined_other (why.TooFine faces) fine (λ few written. absurd (omega (arith, few, fine.0, fine.1)))
+  no_points (NotAccepted _) none = absurd none
+  no_points _ none = search none
 
   module _ {new : Regrid} (are : IsRefinedBy by cut new) where
     -- The text is another one.
-    pub other_refined : (fail : CheckFail)
-        → IsDifference (tail_of line bytes) (refined_text by new.soup new.layout)
+    pub other_refined : (fail : CheckFail) → IsDifference (tail_of line bytes) (refined_text by new.soup new.layout)
         fail → IsMapFail bytes fail
     other_refined (NotAccepted (why.Byte at)) differ =
-        let moved = subst (λ (t : Bytes). IsDifference (tail_of line bytes) t (NotAccepted (why.Byte at)))
-        (λ i. refined_text by (are.soup i) (are.layout i)) differ in (
-          refined_other (why.Byte at) (are.few, moved),
-          λ (has : HasMap bytes).
-              let wrote = given_writes given has in
-              let both = one_layout wrote in
-              moved.there (ap (take at) (wrote.refined.written ∙ (λ i. refined_text by (both.0 i) (both.1 i)))),
-        )
-    other_refined Memory differ = tt
-    other_refined _ differ = absurd differ
+        let moved = rw (are.soup, are.layout) at differ in
+        refined_other (why.Byte at) (are.few, moved) (λ few written. moved.there (ap (take at) written))
+    other_refined (NotAccepted _) differ = absurd differ
+    other_refined _ differ = search differ
 
     -- It is that of the refined mesh.
     pub refined_mapped : tail_of line bytes ≡ refined_text by new.soup new.layout → HasMapOf bytes new

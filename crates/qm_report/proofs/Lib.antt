@@ -1,4 +1,3 @@
 mod Texts
 pub mod TableReads
-mod FirstDarts
 mod Layouts

@@ -1,7 +1,6 @@
-use Rattle.std.proofs.Common.{◌≡◌, ◌+◌, ◌-◌, ◌<◌, ◌≤◌, suc, length, drop, sym, ap, ◌∙◌, arith}
-use Rattle.std.specs.Prelude.{slice_get}
+use Rattle.std.proofs.Common.{◌≡◌, ◌+◌, ◌-◌, ◌<◌, ◌≤◌, suc, length, drop, sym, ◌∙◌, arith}
+use Rattle.{std.specs.Prelude.slice_get, qm_blocktext.proofs.Rounds.arc_behind, qm_blocktext.proofs.Rounds.arc_here}
 use Rattle.qm_blocktext.specs.Gridded.{arcs_of}
-use Rattle.qm_blocktext.proofs.Rounds.{arc_behind, arc_here}
 use Rattle.qm_blocktext.proofs.arcs.arc_at.Goals as goal
 
 pub returns-then-left-len : goal.returns-then-left-len
@@ -9,9 +8,8 @@ returns-then-left-len c =
     let side = c.side-item.result in
     let less : c.loop-side.left < length side.arcs.items =
     omega (arith, c.if-left-len.true, c.len.ensures, side.arcs.ok.0) in
-    sym (arc_here c.args.sides.now c.loop-side.side-index c.loop-side.left side c.index.result.now c.loop-side-test.true
-    c.side-item.is less c.index.ensures)
-    ∙ c.loop-side.invariant
+    sym (arc_here c.args.sides.now c.loop-side.side-index c.loop-side.left side c.loop-side-test.true c.side-item.is
+    c.index.result.now less c.index.ensures) ∙ c.loop-side.invariant
 
 pub loop-side-preserved : goal.loop-side-preserved
 loop-side-preserved c =
@@ -23,5 +21,4 @@ loop-side-preserved c =
     let next : i + 1 ≡ suc i = omega arith in
     let many : c.len-left.result ≡ length side.arcs.items = omega (arith, c.len-left.ensures, side.arcs.ok.0) in
     (λ k. slice_get (arcs_of (drop (next k) sides)) (left - many k))
-    ∙ sym (arc_behind sides i left side c.loop-side-test.true c.side-item.is past)
-    ∙ c.loop-side.invariant
+    ∙ sym (arc_behind sides i left side c.loop-side-test.true c.side-item.is past) ∙ c.loop-side.invariant

@@ -1,6 +1,5 @@
-use Rattle.std.proofs.Common.{◌≡◌, drop}
+use Rattle.{std.proofs.Common.◌≡◌, std.proofs.Common.drop, qm_blocktext.specs.Gridded.arcs_of}
 use Rattle.std.specs.Prelude.{slice_get}
-use Rattle.qm_blocktext.specs.Gridded.{arcs_of}
 use Rattle.qm_blocktext.proofs.arcs.arc_at.Given as goal
 
 abbrev pub invariant-loop-side : goal.invariant-loop-side

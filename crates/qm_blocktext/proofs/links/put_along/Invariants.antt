@@ -1,6 +1,4 @@
-use Rattle.std.proofs.Common.{take}
-use Rattle.def_cuttext.specs.GridsText.{arc_link_lines}
-use Rattle.qm_blocktext.specs.Gridded.{arcs_of}
+use Rattle.{std.proofs.Common.take, def_cuttext.specs.GridsText.arc_link_lines, qm_blocktext.specs.Gridded.arcs_of}
 use Rattle.qm_blocktext.proofs.links.put_along.Given as goal
 
 abbrev pub invariant-loop-at : goal.invariant-loop-at

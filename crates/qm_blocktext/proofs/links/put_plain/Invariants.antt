@@ -1,6 +1,4 @@
-use Rattle.std.proofs.Common.{take}
-use Rattle.std.specs.List.{flat_map}
-use Rattle.def_blocks.specs.BlockTexts.{link_line}
+use Rattle.{std.proofs.Common.take, std.specs.List.flat_map, def_blocks.specs.BlockTexts.link_line}
 use Rattle.qm_blocktext.proofs.links.put_plain.Given as goal
 
 abbrev pub invariant-loop-link : goal.invariant-loop-link

@@ -1,7 +1,5 @@
 use Rattle.std.proofs.Common.{◌≡◌, ◌≤◌, ◌∷◌, ◌*◌, take}
-use Rattle.arrayvec.specs.ArrayVec.{array_vec_len}
-use Rattle.std.specs.List.{flat_map}
-use Rattle.def_text.specs.Canonical.{micro_text}
+use Rattle.{arrayvec.specs.ArrayVec.array_vec_len, std.specs.List.flat_map, def_text.specs.Canonical.micro_text}
 use Rattle.qm_blocktext.proofs.points.point_row.Given as goal
 
 abbrev pub invariant-loop-number : goal.invariant-loop-number

@@ -1,6 +1,4 @@
-use Rattle.std.proofs.Common.{◌≡◌, ◌+◌, ℕ, map, subst, arith}
-use Rattle.std.specs.List.{flat_map, range_with_len}
-use Rattle.def_blocks.specs.BlockTexts.{row_text}
+use Rattle.{std.proofs.Common.◌≡◌, std.proofs.Common.◌+◌, std.proofs.Common.arith, def_blocks.specs.BlockTexts.row_text}
 use Rattle.qm_output.proofs.{Prefixes.of_error, Lists.stops_at_number, Lists.takes_number}
 use Rattle.qm_blocktext.specs.Gridded.{height_in, row_in}
 use Rattle.qm_blocktext.proofs.points.put_points.Goals as goal
@@ -13,22 +11,15 @@ returns-in_err-put_row-clause-part g c =
     let laws = g.met.T.Output in
     of_error c.from_residual.result
     (stops_at_number g.T.Output.takes g.T.Output.stops laws.stops_later laws.stops_before row_text
-    (row_in c.args.new.now c.args.block)
-    (height_in c.args.new.now c.args.block + 1) c.loop-j.j _ _ _
-    (omega (arith, c.loop-j-test.true, c.rim-rows.ensures.high)) c.loop-j.invariant
-    c.in_err-put_row.ensures.part)
+    (row_in c.args.new.now c.args.block) (height_in c.args.new.now c.args.block + 1) c.loop-j.j _ _ _
+    (omega (arith, c.loop-j-test.true, c.rim-rows.ensures.high)) c.loop-j.invariant c.in_err-put_row.ensures.part)
 
 pub loop-j-preserved : goal.loop-j-preserved
-loop-j-preserved g c =
-    let laws = g.met.T.Output in
-    takes_number g.T.Output.takes laws.takes_more row_text (row_in c.args.new.now c.args.block) c.loop-j.j _ _ _
-    c.loop-j.invariant
-    c.in_ok-put_row.ensures.whole
+loop-j-preserved g c = takes_number g.T.Output.takes g.met.T.Output.takes_more row_text
+    (row_in c.args.new.now c.args.block) c.loop-j.j _ _ _ c.loop-j.invariant c.in_ok-put_row.ensures.whole
 
 pub returns-clause-whole : goal.returns-clause-whole
 returns-clause-whole g c =
-    let all : c.loop-j.j ≡ height_in c.args.new.now c.args.block + 1 =
+    let all : height_in c.args.new.now c.args.block + 1 ≡ c.loop-j.j =
     omega (arith, c.rim-rows.ensures.high, c.loop-j-test.false, c.loop-j.auto.j-end) in
-    subst (λ (n : ℕ). g.T.Output.takes c.args.out.now c.loop-j.out
-    (flat_map row_text (map (row_in c.args.new.now c.args.block) (range_with_len 0 n))))
-    all c.loop-j.invariant
+    rw all c.loop-j.invariant

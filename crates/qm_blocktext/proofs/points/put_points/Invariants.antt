@@ -1,7 +1,5 @@
-use Rattle.std.proofs.Common.{map}
-use Rattle.std.specs.List.{flat_map, range_with_len}
-use Rattle.def_blocks.specs.BlockTexts.{row_text}
-use Rattle.qm_blocktext.specs.Gridded.{row_in}
+use Rattle.{std.proofs.Common.map, qm_blocktext.specs.Gridded.row_in}
+use Rattle.{std.specs.List.flat_map, std.specs.List.range_with_len, def_blocks.specs.BlockTexts.row_text}
 use Rattle.qm_blocktext.proofs.points.put_points.Given as goal
 
 abbrev pub invariant-loop-j : goal.invariant-loop-j

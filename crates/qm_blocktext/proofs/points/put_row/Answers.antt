@@ -1,10 +1,7 @@
-use Rattle.std.proofs.Common.{◌≡◌, ◌+◌, ℕ, map, ◌∙◌, subst, arith}
-use Rattle.std.specs.List.{flat_map, range_with_len}
+use Rattle.std.proofs.Common.{◌≡◌, ◌+◌, subst, arith}
 use Rattle.def_blocks.specs.BlockTexts.{point_line}
-use Rattle.def_remesh.specs.{NewPoints.lengths_in, NewSoup.spaced_place}
-use Rattle.def_text.specs.Types.{Position}
+use Rattle.{def_text.specs.Types.Position, qm_blocktext.specs.Gridded.place_in, qm_blocktext.specs.Gridded.width_in}
 use Rattle.qm_output.proofs.{Prefixes.of_error, Lists.stops_at_number, Lists.takes_number}
-use Rattle.qm_blocktext.specs.Gridded.{place_in, width_in}
 use Rattle.qm_blocktext.proofs.points.put_row.Goals as goal
 
 pub point-v-requires-clause-column : goal.point-v-requires-clause-column
@@ -14,36 +11,24 @@ pub returns-in_err-put_point-clause-part : goal.returns-in_err-put_point-clause-
 returns-in_err-put_point-clause-part g c =
     let laws = g.met.T.Output in
     let new = c.args.new.now in
-    let here : c.place_near.result ≡ place_in new c.args.block c.args.j c.loop-i.i =
-    c.place_near.ensures.value
-    ∙ (λ i. spaced_place new.soup.faces new.layout new.soup.pos (c.requires.even i) (lengths_in new.lengths)
-    (c.point-v.ensures.number i)) in
+    let here = rw (c.requires.even, c.point-v.ensures.number) at c.place_near.ensures.value in
     of_error c.from_residual.result
     (stops_at_number g.T.Output.takes g.T.Output.stops laws.stops_later laws.stops_before point_line
-    (place_in new c.args.block c.args.j)
-    (width_in new c.args.block + 1) c.loop-i.i _ _ _ (omega (arith, c.loop-i-test.true, c.rim-points.ensures.wide))
-    c.loop-i.invariant
+    (place_in new c.args.block c.args.j) (width_in new c.args.block + 1) c.loop-i.i _ _ _
+    (omega (arith, c.loop-i-test.true, c.rim-points.ensures.wide)) c.loop-i.invariant
     (subst (λ (p : Position). g.T.Output.stops c.loop-i.out c.put_point.new.out (point_line p)) here
     c.in_err-put_point.ensures.part))
 
 pub loop-i-preserved : goal.loop-i-preserved
 loop-i-preserved g c =
-    let laws = g.met.T.Output in
-    let new = c.args.new.now in
-    let here : c.place_near.result ≡ place_in new c.args.block c.args.j c.loop-i.i =
-    c.place_near.ensures.value
-    ∙ (λ i. spaced_place new.soup.faces new.layout new.soup.pos (c.requires.even i) (lengths_in new.lengths)
-    (c.point-v.ensures.number i)) in
-    takes_number g.T.Output.takes laws.takes_more point_line (place_in new c.args.block c.args.j) c.loop-i.i _ _ _
-    c.loop-i.invariant
+    let here = rw (c.requires.even, c.point-v.ensures.number) at c.place_near.ensures.value in
+    takes_number g.T.Output.takes g.met.T.Output.takes_more point_line (place_in c.args.new.now c.args.block c.args.j)
+    c.loop-i.i _ _ _ c.loop-i.invariant
     (subst (λ (p : Position). g.T.Output.takes c.loop-i.out c.put_point.new.out (point_line p)) here
     c.in_ok-put_point.ensures.whole)
 
 pub returns-clause-whole : goal.returns-clause-whole
 returns-clause-whole g c =
-    let all : c.loop-i.i ≡ width_in c.args.new.now c.args.block + 1 =
+    let all : width_in c.args.new.now c.args.block + 1 ≡ c.loop-i.i =
     omega (arith, c.rim-points.ensures.wide, c.loop-i-test.false, c.loop-i.auto.i-end) in
-    subst
-    (λ (n : ℕ). g.T.Output.takes c.args.out.now c.loop-i.out
-    (flat_map point_line (map (place_in c.args.new.now c.args.block c.args.j) (range_with_len 0 n))))
-    all c.loop-i.invariant
+    rw all c.loop-i.invariant

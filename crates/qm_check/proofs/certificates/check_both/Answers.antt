@@ -1,41 +1,22 @@
-use Rattle.std.proofs.Common.{refl, subst}
+use Rattle.{std.proofs.Common.refl, error_laws.proofs.Errors.handed}
 use Rattle.def_certtext.specs.{CertLines.lists_of, CertLines.raised, declared.certs.Certs.TheVariants.Alone}
-use Rattle.def_flow.specs.Network.{network}
-use Rattle.def_remesh.specs.Tasks.{given_floors}
-use Rattle.error_laws.proofs.Errors.{handed}
-use Rattle.qm_check.proofs.Kept.{checked_there, doubling_of, passed_none, unused_there}
-use Rattle.qm_check.specs.Checked.{Gives, IsUnused}
+use Rattle.qm_check.proofs.Kept.{checkable, checked_there, doubling_of, passed_none, unused_there}
 use Rattle.qm_check.proofs.certificates.check_both.Goals as goal
 
 pub check_lengths-requires : goal.check_lengths-requires
-check_lengths-requires c = record {
-  cert = record {
-    wish = c.requires.pair.wish;
-    settings = c.args.terms.settings;
-    floors = given_floors c.args.terms.settings;
-    of_layout = c.requires.pair.of_layout;
-    reach = c.requires.pair.reach.0;
-  };
-}
+check_lengths-requires c = record { cert = checkable c.requires.pair.of_layout c.requires.pair.reach.0 }
 
 pub returns-in_err-numbering-clause-unused : goal.returns-in_err-numbering-clause-unused
 returns-in_err-numbering-clause-unused c wish for =
     let told = raised (lists_of c.args.pair.first) (lists_of c.args.pair.third) in
-    handed (IsUnused wish c.args.cut.now.layout c.args.terms.settings told) c.from_residual.result
-    c.in_err-numbering.field-0.0 c.from_residual.ensures.1
-    (unused_there (passed_none for) told told c.args.pair.first c.in_err-numbering.field-0.0 refl refl
-    c.in_err-numbering.ensures.refused)
+    handed _ _ _ c.from_residual.ensures.1 (unused_there (passed_none for) told c.args.pair.first
+    c.in_err-numbering.field-0.0 refl c.in_err-numbering.ensures.refused)
 
 pub check_third-requires-clause-doubling : goal.check_third-requires-clause-doubling
-check_third-requires-clause-doubling c wish for =
-    doubling_of c.args.pair.first for c.in_ok-numbering.ensures.solved
-    (subst (Gives c.args.cut.now.layout (network c.args.net) c.args.pair.first.x.items) c.in-Doubled.is
-    c.in_ok-numbering.ensures.gives)
+check_third-requires-clause-doubling c wish for = doubling_of c.args.pair.first for c.in_ok-numbering.ensures.solved
+    (rw c.in-Doubled.is at c.in_ok-numbering.ensures.gives)
 
 pub returns-in-Whole-clause-checked : goal.returns-in-Whole-clause-checked
-returns-in-Whole-clause-checked c wish for =
-    let told = raised (lists_of c.args.pair.first) (lists_of c.args.pair.third) in
-    checked_there (passed_none for) c.args.terms.rising told told c.args.pair.first (Alone c.args.pair.first)
-    c.in-Whole.numbering c.in-Whole.deviation refl refl c.requires.pair.reach refl c.in_ok-numbering.ensures.solved
-    (subst (Gives c.args.cut.now.layout (network c.args.net) c.args.pair.first.x.items) c.in-Whole.is
-    c.in_ok-numbering.ensures.gives)
+returns-in-Whole-clause-checked c wish for = checked_there (passed_none for) c.args.terms.rising
+    (raised (lists_of c.args.pair.first) (lists_of c.args.pair.third)) c.args.pair.first (Alone c.args.pair.first) refl
+    c.requires.pair.reach refl c.in_ok-numbering.ensures.solved (rw c.in-Whole.is at c.in_ok-numbering.ensures.gives)

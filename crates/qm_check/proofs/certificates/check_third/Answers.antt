@@ -1,50 +1,57 @@
-use Rattle.std.proofs.Common.{subst, arith}
-use Rattle.def_certtext.specs.CertLines.{lists_of, raised}
-use Rattle.def_flow.specs.Network.{network}
-use Rattle.error_laws.proofs.Errors.{handed}
-use Rattle.qm_check.proofs.Kept.{checked_third, unused_third}
-use Rattle.qm_check.specs.Checked.{Gives, IsUnused}
-use Rattle.qm_layoutnet.proofs.Floors.{floors_at, has_floors}
-use Rattle.remesh_laws.proofs.Keeps.{third_net}
+use Rattle.std.proofs.Common.{arith, inr, refl, ◌∙◌}
+use Rattle.{def_layoutnet.specs.Floors.HasFloors, def_flow.specs.Network.network, def_flow.specs.Admissible.entries}
+use Rattle.{error_laws.proofs.Errors.handed, def_certtext.specs.CertLines.lists_of, def_certtext.specs.CertLines.raised}
+use Rattle.qm_layoutnet.proofs.Floors.{floors_at, has_floors, floors_deviation}
+use Rattle.def_remesh.specs.{Keeping.IsNetFor, Keeping.IsNetWith, Tasks.Wish}
+use Rattle.qm_check.proofs.Kept.{checkable, unused_by, wrong_of}
+use Rattle.qm_check.proofs.certificates.check_third.Goals.{After-with_floor-higher}
+use Rattle.remesh_laws.proofs.Keeps.{third_net, keeps, solved}
 use Rattle.qm_check.proofs.certificates.check_third.Goals as goal
 
+-- The network with floor 3.
+has : (c : After-with_floor-higher) → HasFloors (network c.args.net) (λ a. 3) (network c.with_floor-higher.result)
+has c = has_floors (network c.args.net) 3 (network c.with_floor-higher.result) c.with_floor-higher.ensures
+
+higher : (c : After-with_floor-higher) {wish : Wish}
+    → IsNetFor wish c.args.cut.now.layout c.args.terms.settings (network c.args.net)
+    → IsNetWith wish c.args.cut.now.layout c.args.terms.settings (λ arc. 3) (network c.with_floor-higher.result)
+higher c for = third_net c.args.cut.now.layout c.args.terms.settings (network c.args.net)
+    (network c.with_floor-higher.result) for (has c)
+
 pub check_lengths-requires : goal.check_lengths-requires
-check_lengths-requires c = record {
-  cert = record {
-    wish = c.requires.pair.wish;
-    settings = c.args.terms.settings;
-    floors = λ arc. 3;
-    of_layout = third_net c.args.cut.now.layout c.args.terms.settings (network c.args.net)
-        (network c.with_floor-higher.result) c.requires.pair.of_layout
-        (has_floors (network c.args.net) 3 (network c.with_floor-higher.result) c.with_floor-higher.ensures);
-    reach = c.requires.pair.reach.1;
-  };
-}
+check_lengths-requires c =
+    let net = higher (goal.at.check_lengths-requires c).After-with_floor-higher c.requires.pair.of_layout in
+    record { cert = checkable net c.requires.pair.reach.1 }
 
 pub returns-in_err-numbering-clause-unused : goal.returns-in_err-numbering-clause-unused
 returns-in_err-numbering-clause-unused c wish for =
-    let higher = network c.with_floor-higher.result in
-    handed (IsUnused wish c.args.cut.now.layout c.args.terms.settings
-    (raised (lists_of c.args.pair.first) (lists_of c.args.pair.third))) c.from_residual.result
-    c.in_err-numbering.field-0.0 c.from_residual.ensures.1
-    (unused_third c.args.pair.first c.args.pair.third c.in_err-numbering.field-0.0 (c.requires.doubling wish for)
-    (third_net c.args.cut.now.layout c.args.terms.settings (network c.args.net) higher for
-    (has_floors (network c.args.net) 3 higher c.with_floor-higher.ensures))
+    let net = higher (goal.at.returns-in_err-numbering-clause-unused c).After-with_floor-higher for in
+    handed _ _ _ c.from_residual.ensures.1 (unused_by wish c.args.cut.now.layout (network c.with_floor-higher.result)
+    c.args.terms.settings (raised (lists_of c.args.pair.first) (lists_of c.args.pair.third)) c.args.pair.third
+    c.in_err-numbering.field-0.0
+    (λ why none. inr (c.requires.doubling wish for, wrong_of c.args.pair.third why net none))
     c.in_err-numbering.ensures.refused)
 
 pub returns-clause-checked : goal.returns-clause-checked
 returns-clause-checked c wish for =
-    let higher = network c.with_floor-higher.result in
-    let has = has_floors (network c.args.net) 3 higher c.with_floor-higher.ensures in
-    checked_third c.args.pair.first c.args.pair.third c.requires.pair.reach.2 (c.requires.doubling wish for)
-    (third_net c.args.cut.now.layout c.args.terms.settings (network c.args.net) higher for has) has
-    c.in_ok-numbering.ensures.solved
-    (subst (Gives c.args.cut.now.layout higher c.args.pair.third.x.items) c.in-Whole.is c.in_ok-numbering.ensures.gives)
+    let at = (goal.at.returns-clause-checked c).After-with_floor-higher in
+    let layout = c.args.cut.now.layout in
+    let terms = c.args.terms in
+    let net = network c.with_floor-higher.result in
+    let third = c.args.pair.third in
+    let gives = rw c.in-Whole.is at c.in_ok-numbering.ensures.gives in
+    let cert = solved layout terms.settings net third (higher at for) c.in_ok-numbering.ensures.solved in
+    record {
+      kept = keeps layout terms.settings terms.rising (raised (lists_of c.args.pair.first) (lists_of third))
+          third.x.items c.in-Whole.numbering refl (c.requires.pair.reach.2, c.requires.doubling wish for, cert) gives.0;
+      found = refl;
+      front = refl;
+      deviates = gives.1 ∙ floors_deviation (network c.args.net) (λ a. 3) net (has at) (entries third.x.items);
+    }
 
 pub unreachable-requires : goal.unreachable-requires
 unreachable-requires c =
-    let gives = subst (Gives c.args.cut.now.layout (network c.with_floor-higher.result) c.args.pair.third.x.items)
-    c.in-Doubled.is c.in_ok-numbering.ensures.gives in
-    let has = has_floors (network c.args.net) 3 (network c.with_floor-higher.result) c.with_floor-higher.ensures in
-    gives.2
-    (λ k l. omega (arith, floors_at (network c.args.net) (λ a. 3) (network c.with_floor-higher.result) has k l))
+    let gives = rw c.in-Doubled.is at c.in_ok-numbering.ensures.gives in
+    let higher = network c.with_floor-higher.result in
+    let has = has (goal.at.unreachable-requires c).After-with_floor-higher in
+    gives.2 (λ k l. omega (arith, floors_at (network c.args.net) (λ a. 3) higher has k l))

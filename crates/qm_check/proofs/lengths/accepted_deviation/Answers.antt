@@ -1,10 +1,8 @@
-use Rattle.def_flow.specs.{Accepted.certificate, Accepted.IsAccepted, Network.network}
 use Rattle.qm_check.proofs.lengths.accepted_deviation.Goals as goal
 
 pub returns-in-Yes-clause-solved : goal.returns-in-Yes-clause-solved
 returns-in-Yes-clause-solved c =
-    let accepted : IsAccepted (network c.args.net.now) (certificate c.args.cert.now)
-    = c.in_ok-verdict.ensures.accepted.0 (c.in-Yes.deviation, c.in-Yes.is) in
+    let accepted = c.in_ok-verdict.ensures.accepted.0 (c.in-Yes.deviation, c.in-Yes.is) in
     record {
       accepted = accepted;
       lengths = record { count = accepted.count; small = c.requires.cert.1.reach.short };

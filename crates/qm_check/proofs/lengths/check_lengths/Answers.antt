@@ -1,16 +1,10 @@
-use Rattle.std.proofs.Common.{ℕ, List, subst}
-use Rattle.def_flow.specs.Network.{network}
-use Rattle.error_laws.proofs.Errors.{handed}
-use Rattle.qm_check.specs.Checked.{GivesNone}
+use Rattle.{def_flow.specs.Network.network, error_laws.proofs.Errors.handed}
 use Rattle.remesh_laws.proofs.Keeps.{are_lengths, doubled_first, long_lengths, none_doubled}
-use Rattle.remesh_laws.specs.Keeps.{IsNumbered}
 use Rattle.qm_check.proofs.lengths.check_lengths.Goals as goal
 
 pub returns-in_err-deviation-clause-refused : goal.returns-in_err-deviation-clause-refused
 returns-in_err-deviation-clause-refused c =
-    handed (GivesNone c.args.cut.now.layout (network c.args.net.now) c.args.cert.now) c.from_residual.result
-    c.in_err-deviation.field-0.0
-    c.from_residual.ensures.1 (c.in_err-deviation.ensures.refused c.args.cut.now.layout)
+    handed _ _ _ c.from_residual.ensures.1 (c.in_err-deviation.ensures.refused c.args.cut.now.layout)
 
 pub plan_over-requires-clause-lengths : goal.plan_over-requires-clause-lengths
 plan_over-requires-clause-lengths c =
@@ -19,7 +13,7 @@ plan_over-requires-clause-lengths c =
 
 pub returns-in-Ok-clause-gives : goal.returns-in-Ok-clause-gives
 returns-in-Ok-clause-gives c = (
-  subst (λ (xs : List ℕ). IsNumbered c.args.cut.now.layout xs c.in-Ok.numbering) c.deref.ensures.value (record {
+  rw (← c.deref.ensures.value) (record {
     numbering = c.in-Ok.ensures.numbering;
     lengths = c.in-Ok.ensures.lengths;
     undoubled = c.in-Ok.ensures.undoubled;
@@ -36,8 +30,7 @@ returns-in-Err-Doubled-clause-gives c =
       both.0,
       both.1,
       λ highest. none_doubled layout _ c.args.cert.now.x.items c.plan_over.result c.in-Err-Doubled.field-0 _ _
-          c.deref.ensures.value
-          (long_lengths layout c.requires.cert.settings (network c.args.net.now) c.args.cert.now
-          c.requires.cert.of_layout c.in_ok-deviation.ensures.solved highest)
-          c.plan_over.ensures.safe c.in-Err-Doubled.is c.in-Err-Doubled.field-0-is,
+          c.deref.ensures.value (long_lengths layout c.requires.cert.settings (network c.args.net.now) c.args.cert.now
+          c.requires.cert.of_layout c.in_ok-deviation.ensures.solved highest) c.plan_over.ensures.safe
+          c.in-Err-Doubled.is c.in-Err-Doubled.field-0-is,
     )

@@ -1,7 +1,6 @@
 use Rattle.std.proofs.{Common.◌≡◌, Common.length, Common.ap, Common.◌∙◌, Common.arith, lemmas.List.length-map}
 use Rattle.def_layout.specs.{Arcs.path, Layouts.layout_of, Layouts.Layout}
-use Rattle.def_remesh.specs.CutSoups.{CutSoup}
-use Rattle.qm_check.proofs.pair.told_of.Goals.{After-len}
+use Rattle.{def_remesh.specs.CutSoups.CutSoup, qm_check.proofs.pair.told_of.Goals.After-len}
 use Rattle.qm_check.proofs.pair.told_of.Goals as goal
 
 arcs_are : (c : After-len) → c.len.result ≡ length c.args.finished.now.new.layout.arcs

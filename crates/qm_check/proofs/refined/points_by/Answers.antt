@@ -1,6 +1,4 @@
-use Rattle.std.proofs.Common.{arith, subst}
-use Rattle.def_layout.specs.{Arcs.long_at, Layouts.gluing_of}
-use Rattle.def_remesh.specs.{NewPoints.multiple_of, Stitched.IsUnstitched}
+use Rattle.std.proofs.Common.{arith}
 use Rattle.qm_check.proofs.refined.points_by.Goals as goal
 
 pub returns-in-Ok-clause-refined : goal.returns-in-Ok-clause-refined
@@ -15,7 +13,5 @@ returns-in-Ok-clause-refined c = record {
 
 pub returns-in-Err-TooFine-clause-refused : goal.returns-in-Err-TooFine-clause-refused
 returns-in-Err-TooFine-clause-refused c =
-    let t = c.args.cut.layout in
-    let told = subst (IsUnstitched (gluing_of t) (multiple_of c.args.by (long_at t.arcs))) c.in-Err-TooFine.field-0-is
-    c.in-Err-TooFine.ensures.refused in
+    let told = rw c.in-Err-TooFine.field-0-is at c.in-Err-TooFine.ensures.refused in
     (told.0, omega (arith, told.0, told.1))

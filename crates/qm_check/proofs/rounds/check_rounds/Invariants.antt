@@ -1,8 +1,6 @@
-use Rattle.std.proofs.Common.{◌≡◌, ◌++◌, length}
-use Rattle.std.specs.Vec.Iter.{into_iter_items, into_iter_len}
-use Rattle.def_flow.specs.Network.{network}
+use Rattle.{std.proofs.Common.◌≡◌, std.proofs.Common.◌++◌, std.proofs.Common.length, qm_check.specs.Checked.ArePassed}
+use Rattle.{std.specs.Vec.Iter.into_iter_items, std.specs.Vec.Iter.into_iter_len, def_flow.specs.Network.network}
 use Rattle.def_remesh.specs.{Keeping.IsNetFor, Tasks.Wish}
-use Rattle.qm_check.specs.Checked.{ArePassed}
 use Rattle.qm_check.proofs.rounds.check_rounds.Given as goal
 
 abbrev pub invariant-rounds : goal.invariant-rounds

@@ -1,12 +1,10 @@
 use mir.Syntax.{w64, w128}
-use Rattle.std.proofs.Common.{◌≡◌, ◌≤◌, ◌∷◌, [], length, to_z, of_z, ℤ}
-use Rattle.std.proofs.{Common.Ok, Common.ap, Common.sym, Common.◌∙◌, Common.arith, lemmas.Int.ints}
-use Rattle.std.specs.Prelude.{codes}
-use Rattle.def_io.specs.declared.TheConstants.{LINE_FEED}
+use Rattle.std.specs.{Prelude.decimal, Prelude.codes, Fmt.signed_decimal}
+use Rattle.std.proofs.Common.{◌≡◌, ◌≤◌, ◌∷◌, [], length, to_z, of_z, ℤ, Ok, ap, sym, ◌∙◌, arith}
+use Rattle.{std.proofs.lemmas.Int.ints, def_io.specs.declared.TheConstants.LINE_FEED}
+use Rattle.qm_report.proofs.{TableReads.filter_few, Texts.behind, Texts.nothing_behind, Texts.number_behind}
 use Rattle.def_mesh.specs.Components.{edge_count, euler, is_lesser, used_count}
 use Rattle.def_mesh.specs.{Darts.darts, Darts.twin_of, Vertices.is_used, Vertices.vertex_count}
-use Rattle.qm_report.proofs.TableReads.{filter_few}
-use Rattle.qm_report.proofs.Texts.{behind, nothing_behind, number_behind, signed_behind}
 use Rattle.qm_report.proofs.graph.push_counts.Goals as goal
 
 pub returns : goal.returns
@@ -20,16 +18,13 @@ returns c =
     omega (arith, ints, is, used, edges, c.faces.ensures.mesh.few, c.vertices.ensures.value, c.vertices.type_inv) in
     let passed = ap (λ (z : ℤ). to_z w128 (of_z w128 z)) c.from.ensures ∙ (fits ∙ is) in
     let t = c.args.text.now.items in
-    let t1 = c.push_count.new.text.items in
-    let t2 = c.push_count-2.new.text.items in
-    let t3 = c.push_count-3.new.text.items in
-    let t4 = c.push_named.new.text.items in
-    let t5 = c.push_count-4.new.text.items in
     let vertices = number_behind t [] (codes "vertices ")
-    c.vertices.ensures.value (nothing_behind t) c.in_ok-push_count.ensures in
-    let edges = number_behind t _ (codes " edges ") c.edge_count.ensures vertices c.in_ok-push_count-2.ensures in
+    (ap decimal c.vertices.ensures.value) (nothing_behind t) c.in_ok-push_count.ensures in
+    let edges = number_behind t _ (codes " edges ") (ap decimal c.edge_count.ensures) vertices
+    c.in_ok-push_count-2.ensures in
     let faces = number_behind t _ (codes " faces ")
-    (ap length c.faces.ensures.value) edges c.in_ok-push_count-3.ensures in
-    let euler = signed_behind t _ (codes " euler ") faces c.in_ok-push_named.ensures passed in
-    let components = number_behind t _ (codes " components ") c.requires euler c.in_ok-push_count-4.ensures in
+    (ap (λ fs. decimal (length fs)) c.faces.ensures.value) edges c.in_ok-push_count-3.ensures in
+    let euler = number_behind t _ (codes " euler ") (ap signed_decimal passed) faces c.in_ok-push_named.ensures in
+    let components = number_behind t _ (codes " components ") (ap decimal c.requires) euler
+    c.in_ok-push_count-4.ensures in
     behind t _ (LINE_FEED ∷ []) components c.in_ok-push.ensures.items

@@ -1,6 +1,5 @@
-use Rattle.std.proofs.Common.{◌≡◌, ◌++◌, take}
+use Rattle.{std.proofs.Common.◌≡◌, std.proofs.Common.◌++◌, std.proofs.Common.take, def_report.specs.GraphText.seed_line}
 use Rattle.std.specs.List.{flat_map}
-use Rattle.def_report.specs.GraphText.{seed_line}
 use Rattle.qm_report.proofs.graph.push_seeds.Given as goal
 
 abbrev pub invariant-loop-seed : goal.invariant-loop-seed

@@ -1,5 +1,4 @@
-use Rattle.std.proofs.Common.{◌≡◌, ◌++◌}
-use Rattle.std.specs.List.{flat_map, range_with_len}
+use Rattle.{std.proofs.Common.◌≡◌, std.proofs.Common.◌++◌, std.specs.List.flat_map, std.specs.List.range_with_len}
 use Rattle.def_report.specs.GraphText.{vertex_line}
 use Rattle.qm_report.proofs.graph.push_vertices.Given as goal
 

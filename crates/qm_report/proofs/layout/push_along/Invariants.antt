@@ -1,7 +1,6 @@
 use Rattle.std.proofs.Common.{◌≡◌, ◌+◌, ◌++◌, map, take}
-use Rattle.def_cuttext.specs.LayoutText.{place_in_file}
+use Rattle.{def_cuttext.specs.LayoutText.place_in_file, def_report.specs.GraphText.numbers_text}
 use Rattle.def_mesh.specs.Darts.{from_of}
-use Rattle.def_report.specs.GraphText.{numbers_text}
 use Rattle.qm_report.proofs.layout.push_along.Given as goal
 
 abbrev pub invariant-loop-dart : goal.invariant-loop-dart

@@ -1,72 +1,31 @@
-use Rattle.std.proofs.Common.{◌≡◌, ◌<◌, ◌+◌, ℕ, List, [], ◌∷◌, ◌++◌, length, ap, ◌∙◌, arith, get_or}
-use Rattle.std.proofs.lemmas.List.{get_or_default, length-map}
-use Rattle.std.specs.Prelude.{option_copied}
-use Rattle.def_cuttext.specs.LayoutText.{place_in_file}
-use Rattle.def_layout.specs.{Arcs.path, Arcs.path_at, Layouts.vertex_at, Layouts.Layout}
-use Rattle.def_report.specs.GraphText.{numbers_line}
-use Rattle.qm_report.proofs.Layouts.{along_low, along_numbers, arc_read, arc_written, last_node, line_behind}
+use Rattle.std.proofs.Common.{◌≡◌, ◌+◌, ℕ, List, [], ◌∷◌, ◌++◌, length, ap, ◌∙◌, arith, get_or}
+use Rattle.{std.proofs.lemmas.List.get_or_default, def_layout.specs.Layouts.vertex_at, def_layout.specs.Layouts.Layout}
+use Rattle.{std.specs.Prelude.option_copied, def_report.specs.GraphText.numbers_line}
+use Rattle.{def_cuttext.specs.LayoutText.place_in_file, qm_report.proofs.layout.push_arc.Goals.After-index-arc}
+use Rattle.qm_report.proofs.Layouts.{along_numbers, arc_is, arc_written, line_behind, IsArc}
 use Rattle.qm_report.proofs.layout.push_arc.Goals as goal
 
+-- The arc that is read is that of the layout.
+arc_of : (c : After-index-arc) → IsArc c.args.cut.now.soup.faces c.args.cut.now.layout c.args.a c.index-arc.result.now
+arc_of c = arc_is c.layout-t.result.now c.args.cut.now.soup.faces c.args.a c.layout-t.ensures.layout
+    c.layout-t.ensures.laid c.requires c.index-arc.ensures
+
 pub push_along-requires : goal.push_along-requires
-push_along-requires c =
-    let cut = c.args.cut.now in
-    let t = c.layout-t.result.now in
-    let arc = c.index-arc.result.now in
-    let less : c.args.a < length t.arcs.items =
-    omega (
-      arith,
-      c.requires,
-      ap (λ (p : Layout). length p.arcs) c.layout-t.ensures.layout,
-      length-map t.arcs.items
-          path,
-    ) in
-    let read : path_at cut.layout.arcs c.args.a ≡ path arc =
-    arc_read t c.args.a c.layout-t.ensures.layout c.requires less c.index-arc.ensures in
-    along_low cut.soup.faces cut.layout c.layout-t.ensures.laid c.args.a arc c.requires read c.deref.ensures.value
+push_along-requires c = rw c.deref.ensures.value (arc_of (goal.at.push_along-requires c).After-index-arc).along
 
 pub index-requires : goal.index-requires
 index-requires c =
-    let cut = c.args.cut.now in
-    let t = c.layout-t.result.now in
-    let arc = c.index-arc.result.now in
-    let less : c.args.a < length t.arcs.items =
-    omega (
-      arith,
-      c.requires,
-      ap (λ (p : Layout). length p.arcs) c.layout-t.ensures.layout,
-      length-map t.arcs.items
-          path,
-    ) in
-    let read : path_at cut.layout.arcs c.args.a ≡ path arc =
-    arc_read t c.args.a c.layout-t.ensures.layout c.requires less c.index-arc.ensures in
-    omega (
-      arith,
-      last_node cut.soup.faces cut.layout c.layout-t.ensures.laid c.args.a arc c.requires read,
-      ap (λ (p : Layout). length p.nodes) c.layout-t.ensures.layout,
-      t.nodes.ok.0,
-    )
+    let last = (arc_of (goal.at.index-requires c).After-index-arc).last in
+    omega (arith, last, ap (λ (p : Layout). length p.nodes) c.layout-t.ensures.layout, c.layout-t.result.now.nodes.ok.0)
 
 pub returns : goal.returns
 returns c =
     let cut = c.args.cut.now in
-    let kept = option_copied c.args.kept in
-    let t = c.layout-t.result.now in
     let arc = c.index-arc.result.now in
-    let less : c.args.a < length t.arcs.items =
-    omega (
-      arith,
-      c.requires,
-      ap (λ (p : Layout). length p.arcs) c.layout-t.ensures.layout,
-      length-map t.arcs.items
-          path,
-    ) in
-    let read : path_at cut.layout.arcs c.args.a ≡ path arc =
-    arc_read t c.args.a c.layout-t.ensures.layout c.requires less c.index-arc.ensures in
-    let node : arc.last < length cut.layout.nodes =
-    last_node cut.soup.faces cut.layout c.layout-t.ensures.laid c.args.a arc c.requires read in
+    let is = arc_of (goal.at.returns c).After-index-arc in
     let vertex : c.index.result.now ≡ vertex_at cut.layout arc.last =
     c.index.ensures ∙ ap (λ (p : Layout). get_or p.nodes arc.last c.index.result.now) c.layout-t.ensures.layout
-    ∙ get_or_default cut.layout.nodes arc.last c.index.result.now 0 node in
+    ∙ get_or_default cut.layout.nodes arc.last c.index.result.now 0 is.last in
     let last : c.from.result ≡ place_in_file cut.soup.names (vertex_at cut.layout arc.last) =
     c.from.ensures ∙ c.place_in_file-last.ensures ∙ (λ i. place_in_file (c.names.ensures.value i) (vertex i)) in
     let many : c.len.result ≡ length arc.darts.items = c.len.ensures ∙ arc.darts.ok.0 in
@@ -76,4 +35,4 @@ returns c =
     c.in_ok-push_along.ensures c.in_ok-push_spaced.ensures c.in_ok-push.ensures.items in
     line ∙ (λ i. t0 ++ numbers_line (c.arc_word-word.ensures i)
     ((c.args.a + 1) ∷ many i ∷ (along_numbers cut.soup (c.deref.ensures.value i) ++ (last i + 1) ∷ [])))
-    ∙ ap (λ (xs : List ℕ). t0 ++ xs) (arc_written cut.soup kept cut.layout c.args.a arc read)
+    ∙ ap (λ (xs : List ℕ). t0 ++ xs) (arc_written cut.soup (option_copied c.args.kept) cut.layout c.args.a arc is.read)

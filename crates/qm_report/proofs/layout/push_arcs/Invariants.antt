@@ -1,6 +1,5 @@
-use Rattle.std.proofs.Common.{◌≡◌, ◌++◌}
+use Rattle.{std.proofs.Common.◌≡◌, std.proofs.Common.◌++◌, def_cuttext.specs.LayoutText.whole_arc_line}
 use Rattle.std.specs.{Prelude.option_copied, List.flat_map, List.range_with_len}
-use Rattle.def_cuttext.specs.LayoutText.{whole_arc_line}
 use Rattle.qm_report.proofs.layout.push_arcs.Given as goal
 
 abbrev pub invariant-loop-a : goal.invariant-loop-a

@@ -1,27 +1,18 @@
-use Rattle.std.proofs.Common.{◌≡◌, ◌<◌, ◌+◌, ℕ, Bool, true, false, List, [], ◌∷◌, ◌++◌, Some, length, get_or, codes}
-use Rattle.std.proofs.Common.{sym, ap, ◌∙◌, arith}
-use Rattle.std.proofs.lemmas.List.{length-map}
-use Rattle.std.proofs.lemmas.List.FromFn.{get_or-map-range_with_len, length-range_with_len}
+use Rattle.std.proofs.Common.{◌≡◌, ◌<◌, ◌+◌, ℕ, Bool, true, false, List, [], ◌∷◌, ◌++◌, Some, get_or, codes, sym, ap}
+use Rattle.{std.proofs.Common.◌∙◌, std.proofs.Common.arith, std.proofs.lemmas.List.FromFn.get_or-map-range_with_len}
 use Rattle.def_cuttext.specs.LayoutText.{break_line, place_in_file}
 use Rattle.def_feature.specs.Marks.{is_break}
-use Rattle.def_mesh.specs.{Faces.Faces, Vertices.all_vertices, Vertices.vertex_count}
-use Rattle.def_report.specs.GraphText.{numbers_line}
-use Rattle.qm_report.proofs.Texts.{nothing_behind, piece_behind}
-use Rattle.qm_report.proofs.layout.push_broken.Goals.{then-index+in_ok-push_line, else-index}
+use Rattle.{def_mesh.specs.Faces.Faces, def_mesh.specs.Vertices.vertex_count, def_report.specs.GraphText.numbers_line}
+use Rattle.qm_report.proofs.{TableReads.place_low, Texts.nothing_behind, Texts.piece_behind}
+use Rattle.qm_report.proofs.{layout.push_broken.Goals.then-index+in_ok-push_line, layout.push_broken.Goals.else-index}
 use Rattle.qm_report.proofs.layout.push_broken.Goals as goal
 
 pub index-requires : goal.index-requires
 index-requires c =
     let mesh = c.mesh-mesh.result.now in
-    omega (
-      arith,
-      c.loop-v-test.true,
-      c.vertices-v-end.ensures.value,
-      c.in_ok-broken.broken.ok.0,
-      ap length c.in_ok-broken.ensures,
-      length-map (all_vertices mesh) (is_break mesh c.args.marks.now),
-      length-range_with_len 0 (vertex_count mesh),
-    )
+    let low = place_low (is_break mesh c.args.marks.now) mesh {v = c.loop-v.v} c.in_ok-broken.ensures
+    (omega (arith, c.loop-v-test.true, c.vertices-v-end.ensures.value)) in
+    omega (arith, low, c.in_ok-broken.broken.ok.0)
 
 pub loop-v-preserved : goal.loop-v-preserved
 loop-v-preserved c =
@@ -39,11 +30,10 @@ loop-v-preserved c =
     elim c.if-index.branch [
       | then-index+in_ok-push_line w ↦
           let is : is_break soup.faces marks v ≡ true = sym broken ∙ w.if-index.true in
-          let line : w.push_line.new.text.items ≡ t ++ numbers_line (codes "break") ((place_in_file soup.names v + 1)
-          ∷ []) =
-          w.in_ok-push_line.ensures ∙ ap (λ (n : ℕ). t ++ numbers_line (codes "break") ((n + 1) ∷ []))
-          (w.from.ensures ∙ w.place_in_file.ensures ∙ ap (λ (names : List ℕ). place_in_file names v)
-          c.names-names.ensures.value) in
+          let place = w.from.ensures ∙ w.place_in_file.ensures ∙ ap (λ (names : List ℕ). place_in_file names v)
+          c.names-names.ensures.value in
+          let line = w.in_ok-push_line.ensures
+          ∙ ap (λ (n : ℕ). t ++ numbers_line (codes "break") ((n + 1) ∷ [])) place in
           rw w.text-is (piece_behind (break_line soup (Some marks)) v t0 c.loop-v.invariant (rw is line))
       | else-index w ↦
           let is : is_break soup.faces marks v ≡ false = sym broken ∙ w.if-index.false in

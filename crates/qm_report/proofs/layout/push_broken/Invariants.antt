@@ -1,6 +1,5 @@
 use Rattle.std.proofs.Common.{◌≡◌, ◌++◌, Some}
-use Rattle.std.specs.List.{flat_map, range_with_len}
-use Rattle.def_cuttext.specs.LayoutText.{break_line}
+use Rattle.{std.specs.List.flat_map, std.specs.List.range_with_len, def_cuttext.specs.LayoutText.break_line}
 use Rattle.qm_report.proofs.layout.push_broken.Given as goal
 
 abbrev pub invariant-loop-v : goal.invariant-loop-v

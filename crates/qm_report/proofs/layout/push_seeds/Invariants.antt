@@ -1,7 +1,5 @@
-use Rattle.std.proofs.Common.{◌≡◌, ◌++◌, take}
-use Rattle.std.specs.List.{flat_map}
-use Rattle.def_cuttext.specs.LayoutText.{place_in_file}
-use Rattle.def_report.specs.GraphText.{seed_line}
+use Rattle.{std.proofs.Common.◌≡◌, std.proofs.Common.◌++◌, std.proofs.Common.take, def_report.specs.GraphText.seed_line}
+use Rattle.{std.specs.List.flat_map, def_cuttext.specs.LayoutText.place_in_file}
 use Rattle.qm_report.proofs.layout.push_seeds.Given as goal
 
 abbrev pub invariant-loop-seed : goal.invariant-loop-seed

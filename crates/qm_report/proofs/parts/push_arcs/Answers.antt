@@ -1,6 +1,5 @@
 use Rattle.def_layout.specs.Layouts.{layout_of}
-use Rattle.def_report.specs.GraphText.{arc_line}
-use Rattle.qm_report.proofs.Texts.{piece_behind}
+use Rattle.{def_report.specs.GraphText.arc_line, qm_report.proofs.Texts.piece_behind}
 use Rattle.qm_report.proofs.parts.push_arcs.Goals as goal
 
 pub loop-a-preserved : goal.loop-a-preserved

@@ -1,6 +1,5 @@
-use Rattle.def_layout.specs.Layouts.{layout_of}
+use Rattle.{def_layout.specs.Layouts.layout_of, qm_report.proofs.Texts.behind, qm_report.proofs.Texts.piece_behind}
 use Rattle.def_report.specs.GraphText.{patch_lines, side_lines, size_line}
-use Rattle.qm_report.proofs.Texts.{behind, piece_behind}
 use Rattle.qm_report.proofs.parts.push_patches.Goals as goal
 
 pub loop-p-preserved : goal.loop-p-preserved

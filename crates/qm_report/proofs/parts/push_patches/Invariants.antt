@@ -1,7 +1,5 @@
-use Rattle.std.proofs.Common.{◌≡◌, ◌++◌}
-use Rattle.std.specs.List.{flat_map, range_with_len}
-use Rattle.def_layout.specs.Layouts.{layout_of}
-use Rattle.def_report.specs.GraphText.{patch_lines}
+use Rattle.{std.proofs.Common.◌≡◌, std.proofs.Common.◌++◌, std.specs.List.flat_map, std.specs.List.range_with_len}
+use Rattle.{def_layout.specs.Layouts.layout_of, def_report.specs.GraphText.patch_lines}
 use Rattle.qm_report.proofs.parts.push_patches.Given as goal
 
 abbrev pub invariant-loop-p : goal.invariant-loop-p

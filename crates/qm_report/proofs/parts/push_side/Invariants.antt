@@ -1,6 +1,5 @@
 use Rattle.std.proofs.Common.{◌≡◌, ◌+◌, ◌++◌, take, map}
-use Rattle.def_layout.specs.declared.tmesh.SideArc.{SideArc}
-use Rattle.def_report.specs.GraphText.{numbers_text}
+use Rattle.{def_layout.specs.declared.tmesh.SideArc.SideArc, def_report.specs.GraphText.numbers_text}
 use Rattle.qm_report.proofs.parts.push_side.Given as goal
 
 abbrev pub invariant-loop-used : goal.invariant-loop-used

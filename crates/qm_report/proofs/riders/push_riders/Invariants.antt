@@ -1,5 +1,4 @@
-use Rattle.std.proofs.Common.{◌≡◌, ◌++◌, take}
-use Rattle.std.specs.List.{flat_map}
+use Rattle.{std.proofs.Common.◌≡◌, std.proofs.Common.◌++◌, std.proofs.Common.take, std.specs.List.flat_map}
 use Rattle.def_report.specs.GraphText.{rider_line}
 use Rattle.qm_report.proofs.riders.push_riders.Given as goal
 
