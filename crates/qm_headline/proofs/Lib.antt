@@ -1,4 +1,3 @@
-mod Found
 mod OneLine
 mod Refined
 mod Sizes

@@ -6,10 +6,10 @@ use Rattle.std.proofs.lemmas.Option.{none-some, same_Some}
 use Rattle.std.proofs.lemmas.Slice.Eq.{bytes_eq-Decides}
 use Rattle.def_fit.specs.declared.fit.Fit.{Fit as AnyFit}
 use Rattle.def_flow.specs.declared.net.Settings.{Settings}
-use Rattle.def_run.specs.MarkLines.{IsMarkLine, IsNamedHead}
+use Rattle.def_run.specs.MarkLines.{IsMarkLine}
 use Rattle.def_run.specs.declared.command.Command.{Command}
-use Rattle.def_run.specs.declared.command.Command.TheVariants.{Tidy, Graph, Refine, Remesh, Check, Bench, Crease, Size}
-use Rattle.def_run.specs.declared.command.Command.TheVariants.{Coarse, Blocks, Map, Fit, LayOut, Grids}
+use Rattle.def_run.specs.declared.command.Command.TheVariants.{Refine, Remesh, Crease, Size}
+use Rattle.def_run.specs.declared.command.Command.TheVariants.{Coarse, Fit}
 use Rattle.def_text.specs.Types.{Word}
 use Rattle.qm_certtext.proofs.Texts.{same_asked, same_head}
 use Rattle.qm_fit.proofs.Heads.{one_fit}
@@ -34,42 +34,32 @@ tag_is line (Coarse settings) is = ap (take 13) is.written
 tag_is line (Fit fit) is = ap (take 13) is.written
 tag_is line _ is = absurd is
 
-apart : (x y : Word) → bytes_eq x y ≡ false → x ≡ y → ⊥
-apart x y other same = true≢false (sym ((bytes_eq-Decides x y).1 same) ∙ other)
-
-one_crease : (line : Word) (s t : Settings) → IsNamedHead (codes "crease") line s → IsNamedHead (codes "crease") line t
-    → s ≡ t
-one_crease line s t one two =
-    (same_asked (codes "#quadq 1 crease scale ") line s t false false one.in_range one.written two.in_range
-    two.written).0
-
-one_coarse : (line : Word) (s t : Settings) → IsNamedHead (codes "coarse") line s → IsNamedHead (codes "coarse") line t
-    → s ≡ t
-one_coarse line s t one two =
-    (same_asked (codes "#quadq 1 coarse scale ") line s t false false one.in_range one.written two.in_range
-    two.written).0
+differ : (line : Word) (a b : Command) → IsMarkLine line a → IsMarkLine line b → bytes_eq (tag_of a) (tag_of b) ≡ false
+    → ⊥
+differ line a b one two other =
+    true≢false (sym ((bytes_eq-Decides (tag_of a) (tag_of b)).1 (sym (tag_is line a one) ∙ tag_is line b two)) ∙ other)
 
 one_line : (line : Word) (a b : Command) → IsMarkLine line a → IsMarkLine line b → a ≡ b
 one_line line (Refine m) (Refine n) one two = ap (λ (k : ℕ). Refine k) (one_multiple line m n one two)
 one_line line (Remesh s x) (Remesh t y) one two =
     let both = same_head line s t x y one two in
     λ i. Remesh (both.0 i) (both.1 i)
-one_line line (Crease s) (Crease t) one two = ap (λ (k : Settings). Crease k) (one_crease line s t one two)
+one_line line (Crease s) (Crease t) one two = ap (λ (k : Settings). Crease k) (same_asked
+    (codes "#quadq 1 crease scale ") line s t false false one.in_range one.written two.in_range two.written).0
 one_line line (Size e m) (Size d n) one two =
     let both = one_size line e d m n one two in
     λ i. Size (both.0 i) (both.1 i)
-one_line line (Coarse s) (Coarse t) one two = ap (λ (k : Settings). Coarse k) (one_coarse line s t one two)
+one_line line (Coarse s) (Coarse t) one two = ap (λ (k : Settings). Coarse k) (same_asked
+    (codes "#quadq 1 coarse scale ") line s t false false one.in_range one.written two.in_range two.written).0
 one_line line (Fit f) (Fit g) one two =
     ap (λ (k : AnyFit). Fit k) (one_fit line f g one.in_range one.written two.in_range two.written)
-one_line line Tidy b one two = absurd one
-one_line line Graph b one two = absurd one
-one_line line Check b one two = absurd one
-one_line line (Bench size) b one two = absurd one
-one_line line (Blocks by) b one two = absurd one
-one_line line Map b one two = absurd one
-one_line line (LayOut keep patches) b one two = absurd one
-one_line line (Grids keep patches by) b one two = absurd one
-one_line line a b one two = absurd (apart (tag_of a) (tag_of b) refl (sym (tag_is line a one) ∙ tag_is line b two))
+one_line line (Refine m) b one two = absurd (differ line (Refine m) b one two refl)
+one_line line (Remesh t x) b one two = absurd (differ line (Remesh t x) b one two refl)
+one_line line (Crease t) b one two = absurd (differ line (Crease t) b one two refl)
+one_line line (Size e m) b one two = absurd (differ line (Size e m) b one two refl)
+one_line line (Coarse t) b one two = absurd (differ line (Coarse t) b one two refl)
+one_line line (Fit f) b one two = absurd (differ line (Fit f) b one two refl)
+one_line line _ b one two = absurd one
 
 -- So what an exact reader gives is the command of the line.
 pub read_only : (line : Word) (o : Option Command)

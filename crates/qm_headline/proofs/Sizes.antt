@@ -1,5 +1,5 @@
 -- A head line of `size` is cut into its words in one way, and its length is read as it is written.
-use Rattle.std.proofs.Common.{◌≡◌, ◌≤◌, ◌<◌, ◌⊎◌, ℕ, ℤ, pos, true, false, ◌++◌, codes, length, take}
+use Rattle.std.proofs.Common.{◌≡◌, ◌≤◌, ℕ, ℤ, pos, true, false, ◌++◌, codes, length, take}
 use Rattle.std.proofs.Common.{inl, inr, refl, ap, ap₂, sym, subst, ◌∙◌, arith, append_assoc}
 use Rattle.std.proofs.lemmas.Bool.{cases_lt, lt-ltb, true≢false}
 use Rattle.std.proofs.lemmas.Fmt.{decimal_injective}
@@ -31,13 +31,11 @@ pub read_is : (word : Word) (read edge : ℤ) → IsValue word read → unsigned
 read_is word read edge value near is = value.2 ∙ (value_is word edge near is).1
 
 pub near_read : (word : Word) (read : ℤ) → IsValue word read → unsigned_abs read ≤ 999_999_999_999_999
-near_read word read value = by_order (cases_lt 999_999_999_999_999 (unsigned_abs read))
-  where
-    by_order : (999_999_999_999_999 < unsigned_abs read) ⊎ (unsigned_abs read ≤ 999_999_999_999_999)
-        → unsigned_abs read ≤ 999_999_999_999_999
-    by_order (inl far) =
-        absurd (true≢false (sym (lt-ltb 999_999_999_999_999 (unsigned_abs read) far) ∙ (ap is_far value.2 ∙ value.1)))
-    by_order (inr low) = low
+near_read word read value = elim (cases_lt 999_999_999_999_999 (unsigned_abs read)) [
+  | inl far ↦ absurd (true≢false (sym (lt-ltb 999_999_999_999_999 (unsigned_abs read) far)
+      ∙ (ap is_far value.2 ∙ value.1)))
+  | inr low ↦ low
+]
 
 -- The parts of the line, from the right.
 nested : (edge : ℤ) (floor : ℕ)
@@ -50,7 +48,7 @@ pub no_front : (line : Word) → bytes_eq (take (length size_front) line) size_f
 no_front line other edge floor head = not_stripped size_front line _ other (head.written ∙ nested edge floor)
 
 -- What stands behind the front of such a line.
-module _ (line rest : Word) (is : line ≡ size_front ++ rest) where
+module _ {line : Word} (rest : Word) (is : line ≡ size_front ++ rest) where
   behind : (edge : ℤ) (floor : ℕ) → IsSizeHead line edge floor → rest ≡ micro_text edge ++ (floor_mark ++ decimal floor)
   behind edge floor head = append_cancel_left size_front _ _ (sym is ∙ (head.written ∙ nested edge floor))
 
@@ -89,7 +87,7 @@ module _ (line rest : Word) (is : line ≡ size_front ++ rest) where
 pub one_size : (line : Word) (e d : ℤ) (m n : ℕ) → IsSizeHead line e m → IsSizeHead line d n → (e ≡ d) × (m ≡ n)
 one_size line e d m n one two =
     let same : (micro_text e ≡ micro_text d) × (decimal m ≡ decimal n) =
-    words_are line (micro_text e ++ (floor_mark ++ decimal m)) (one.written ∙ nested e m) (micro_text e) (decimal m)
+    words_are (micro_text e ++ (floor_mark ++ decimal m)) (one.written ∙ nested e m) (micro_text e) (decimal m)
     (micro_bare e one.near) refl d n two in (
       sym (value_is (micro_text e) e one.near refl).1 ∙ (value_is (micro_text e) d two.near same.0).1,
       decimal_injective m n (omega (arith, one.floor_high)) (omega (arith, two.floor_high)) same.1,

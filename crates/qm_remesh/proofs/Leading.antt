@@ -66,8 +66,7 @@ module _ {layout : Layout} {settings : Settings} {first net next : Network} {rou
     (needed : AreNeeded (gluing_of layout) (lengths_in round.cert.x.items) round.rises.items)
     (has : HasFloors net (risen_floors round.rises.items (floor_of net.arcs)) next) where
   pub led_on : (new : Cert) → AreCoarse layout round.cert.x.items → AreDoubled layout round.cert.x.items
-      → IsSolution next (certificate new)
-      → IsLedBy layout settings first (rounds ++ round ∷ []) next new
+      → IsSolution next (certificate new) → IsLedBy layout settings first (rounds ++ round ∷ []) next new
   led_on new coarse doubled solves = record {
     solved = solves;
     even = λ even. floors_even net (risen_floors round.rises.items (floor_of net.arcs)) next has (is.even even);

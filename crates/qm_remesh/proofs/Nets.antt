@@ -12,8 +12,7 @@ use Rattle.def_remesh.specs.{Keeping.IsNetFor, Tasks.old_lengths}
 pub net_for : {layout : Layout} {settings : Settings} {auto : Bool} {net : Network} → IsSomeLayout layout
     → AreInRange settings auto
     → IsNetOf (gluing_of layout) (long_at layout.arcs) (long_at layout.arcs) settings (λ a. settings.floor) net
-    → IsWithinBounds net
-    → tangle_number net ≤ MAX_TANGLE → IsNetFor old_lengths layout settings net
+    → IsWithinBounds net → tangle_number net ≤ MAX_TANGLE → IsNetFor old_lengths layout settings net
 net_for mesh range is bounds small =
     record { mesh = mesh; floor = λ arc. range.floor.low; is = is; bounds = bounds; untangled = small }
 

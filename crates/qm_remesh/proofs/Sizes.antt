@@ -19,16 +19,13 @@ pub no_mesh : (aim : Aim) (wish : Wish) (layout : Layout) (settings : Settings) 
     → IsLayoutFail wish layout settings rising fail → IsFitFail aim wish layout settings rising (sizes.Layout fail)
 no_mesh aim wish layout settings rising (layouts.Tangled count) near why = why
 no_mesh aim wish layout settings rising layouts.Memory near why = tt
-no_mesh aim wish layout settings rising (layouts.TooFine faces kept) near why = (near, why)
-no_mesh aim wish layout settings rising (layouts.Doubled u v cert) near why = (near, why)
+no_mesh aim wish layout settings rising _ near why = (near, why)
 
 -- Wishes that do not scale the old lengths are in thousandths of an edge, and their sum is bounded.
 pub unscaled : {aim : Aim} (wish : Wish) (layout : Layout) → ((p q : ℕ) → aim ≡ Scale p q → ⊥)
-    → AreAimedNear aim wish layout
-    → (numerator aim ≡ 1) × (denominator aim ≡ 1000) × AreNear wish layout
+    → AreAimedNear aim wish layout → (numerator aim ≡ 1) × (denominator aim ≡ 1000) × AreNear wish layout
 unscaled {aim = Scale p q} wish layout other near = absurd (other p q refl)
-unscaled {aim = Edge edge} wish layout other near = (refl, refl, near)
-unscaled {aim = Wishes} wish layout other near = (refl, refl, near)
+unscaled wish layout other near = (refl, refl, near)
 
 -- The greatest floor that an arc may get is no greater than any floor may be.
 pub greatest_high : {fit : Fit} → IsFit fit → greatest_floor fit ≤ MAX_FLOOR

@@ -1,26 +1,18 @@
 -- A mesh whose numbers are those of its types can be written.
 use Rattle.std.specs.{Prelude.nat_lt, Prelude.slice_index_or, List.list_all}
-use Rattle.std.proofs.Common.{◌≡◌, ◌<◌, ◌^◌, ◌≤◌, ℕ, true, List, [], ◌∷◌, refl, length, arith, eq-eqb}
-use Rattle.std.proofs.lemmas.Bool.{and_from, and_parts, lt-ltb, ltb-true}
+use Rattle.std.proofs.Common.{◌≡◌, ◌<◌, ◌^◌, ◌≤◌, ℕ, Bool, true, List, [], length, get_or, arith, eq-eqb}
+use Rattle.std.proofs.lemmas.Bool.{lt-ltb, ltb-true}
 use Rattle.std.proofs.lemmas.List.{get_or_default}
-use Rattle.std.proofs.lemmas.List.Sums.{list_all-from_AllPass}
-use Rattle.def_mesh.specs.{Faces.Faces, Meshes.IsMesh, Vertices.names_below}
+use Rattle.std.proofs.lemmas.List.Sums.{AllPass-from_list_all, list_all-from_AllPass}
+use Rattle.def_mesh.specs.{Meshes.IsMesh, Vertices.names_below}
 use Rattle.def_text.specs.{declared.limits.TheConstants.MAX_V_LINES, FaceSet.FaceSet, Laws.is_position, Laws.is_quad}
 use Rattle.def_remesh.specs.TextLaws.{IsSolid}
 
--- Numbers below a bound are below a greater one.
-below_more : (n m : ℕ) → n ≤ m → (xs : List ℕ) → list_all (λ v. nat_lt v n) xs ≡ true → list_all (λ v. nat_lt v m) xs
-    ≡ true
-below_more n m le [] all = refl
-below_more n m le (x ∷ xs) all =
-    let parts = and_parts (nat_lt x n) (list_all (λ v. nat_lt v n) xs) all in
-    and_from _ _ (lt-ltb x m (omega (arith, le, ltb-true x n parts.0))) (below_more n m le xs parts.1)
-
-names_more : (n m : ℕ) → n ≤ m → (faces : Faces) → names_below n faces ≡ true → names_below m faces ≡ true
-names_more n m le [] all = refl
-names_more n m le (face ∷ faces) all =
-    let parts = and_parts (list_all (λ v. nat_lt v n) face) (names_below n faces) all in
-    and_from _ _ (below_more n m le face parts.0) (names_more n m le faces parts.1)
+-- A list passes a weaker test.
+weaker : {A : Type 0} (p q : A → Bool) → ((x : A) → p x ≡ true → q x ≡ true) → (xs : List A) → list_all p xs ≡ true
+    → list_all q xs ≡ true
+weaker p q more xs all = list_all-from_AllPass q xs
+    (λ i d l. more (get_or xs i d) (AllPass-from_list_all p xs all i d l))
 
 pub solid_of : (soup : FaceSet) → IsMesh soup.faces → list_all is_position soup.pos ≡ true
     → ((f : ℕ) → f < length soup.faces → length (slice_index_or soup.faces f []) ≡ 4)
@@ -31,6 +23,8 @@ solid_of soup mesh near four n few below = record {
     positions = near;
     quads = list_all-from_AllPass is_quad soup.faces (λ f d l. eq-eqb (length (slice_index_or soup.faces f d)) 4
         (cc (get_or_default soup.faces f d [] l, four f l)));
-    corners = names_more n (2 ^ 32) (omega (arith, few)) soup.faces below;
+    corners = weaker (λ face. list_all (λ v. nat_lt v n) face) (λ face. list_all (λ v. nat_lt v (2 ^ 32)) face)
+        (weaker (λ v. nat_lt v n) (λ v. nat_lt v (2 ^ 32))
+        (λ v low. lt-ltb v (2 ^ 32) (omega (arith, few, ltb-true v n low)))) soup.faces below;
   };
 }

@@ -43,20 +43,8 @@ crease_aside settings range = settings_aside (codes "#quadq 1 " ++ codes "crease
 
 pub size_aside : (edge : ℤ) → unsigned_abs edge ≤ 999_999_999_999_999 → (floor : ℕ) → floor < 2 ^ 64
     → IsAside (size_head edge floor ++ 10 ∷ [])
-size_aside edge near floor low = line_aside (size_head edge floor) refl (size_inside edge near floor low) short
-  where
-    front : Bytes
-    front = codes "#quadq 1 size edge " ++ micro_text edge
-
-    short : length (size_head edge floor) ≤ 65536
-    short = omega (
-      arith,
-      length-append (front ++ codes " floor ") (decimal floor),
-      length-append front (codes " floor "),
-      length-append (codes "#quadq 1 size edge ") (micro_text edge),
-      (micro_word edge near).short,
-      number_short floor low,
-    )
+size_aside edge near floor low = line_aside (size_head edge floor) refl (size_inside edge near floor low)
+    (simp length-append (omega (arith, simp length-append at (micro_word edge near).short, number_short floor low)))
 
 keep_short : (keep : Keep) → length (keep_word keep) ≤ 20
 keep_short keeps.Nothing = omega arith
@@ -64,18 +52,12 @@ keep_short keeps.Lines = omega arith
 
 patches_short : (patches : Patches) → length (patches_word patches) ≤ 20
 patches_short Traced = omega arith
-patches_short Merged = omega arith
-patches_short Conforming = omega arith
+patches_short _ = omega arith
 
 aim_short : (aim : Aim) → IsAim aim → length (aim_text aim) ≤ 100
-aim_short (Scale p q) is = omega (
-  arith,
-  length-append (codes "scale:" ++ decimal p) (47 ∷ decimal q),
-  length-append (codes "scale:") (decimal p),
-  number_short p (omega (arith, is.1)),
-  number_short q (omega (arith, is.3)),
-)
-aim_short (Edge edge) is = omega (arith, length-append (codes "edge:") (micro_text edge), (micro_word edge is.1).short)
+aim_short (Scale p q) is = simp length-append
+    (omega (arith, number_short p (omega (arith, is.1)), number_short q (omega (arith, is.3))))
+aim_short (Edge edge) is = simp length-append (omega (arith, simp length-append at (micro_word edge is.1).short))
 aim_short Wishes is = omega arith
 
 weight_short : (weight : Weight) → length (weight_text weight) ≤ 20
@@ -86,32 +68,16 @@ spacing_short : (spacing : Spacing) → length (spacing_word spacing) ≤ 20
 spacing_short Even = omega arith
 spacing_short Wished = omega arith
 
--- A mark and a word behind a text.
-behind : (front mark word : Bytes) (m n k : ℕ) → length front ≤ m → length mark ≤ n → length word ≤ k
-    → length (front ++ mark ++ word) ≤ m + n + k
-behind front mark word m n k one other last =
-    omega (arith, length-append (front ++ mark) word, length-append front mark, one, other, last)
-
 pub fit_aside : (fit : Fit) → IsFit fit → IsAside (fit_head fit ++ 10 ∷ [])
-fit_aside fit is =
-    let kept = codes "#quadq 1 fit keep " ++ keep_word fit.keep in
-    let cut = kept ++ codes " patches " ++ patches_word fit.patches in
-    let aimed = cut ++ codes " aim " ++ aim_text fit.aim in
-    let bounded = aimed ++ codes " floor " ++ floor_text fit.floor fit.auto in
-    let weighed = bounded ++ codes " weight " ++ weight_text fit.weight in
-    line_aside (fit_head fit) refl (fit_inside fit is) (omega (
-      arith,
-      behind weighed (codes " spacing ") (spacing_word fit.spacing) 300 20 20
-          (behind bounded (codes " weight ") (weight_text fit.weight) 260 20 20
-          (behind aimed (codes " floor ") (floor_text fit.floor fit.auto) 220 20 20
-          (behind cut (codes " aim ") (aim_text fit.aim) 100 20 100
-          (behind kept (codes " patches ") (patches_word fit.patches) 60 20 20
-          (behind [] (codes "#quadq 1 fit keep ") (keep_word fit.keep) 0 40 20 (omega arith) (omega arith)
-          (keep_short fit.keep))
-          (omega arith) (patches_short fit.patches)) (omega arith) (aim_short fit.aim is.aim)) (omega arith)
-          (floor_short fit.floor fit.auto is.floor)) (omega arith) (weight_short fit.weight)) (omega arith)
-          (spacing_short fit.spacing),
-    ))
+fit_aside fit is = line_aside (fit_head fit) refl (fit_inside fit is) (simp length-append (omega (
+  arith,
+  keep_short fit.keep,
+  patches_short fit.patches,
+  aim_short fit.aim is.aim,
+  floor_short fit.floor fit.auto is.floor,
+  weight_short fit.weight,
+  spacing_short fit.spacing,
+)))
 
 -- ---- The lines of marked arcs.
 

@@ -1,61 +1,61 @@
--- What `map` keeps: the map of a new mesh is written, or a refusal has its cause.
-use Rattle.std.proofs.Common.{◌≡◌, ◌≢◌, inl, inr}
-use Rattle.def_io.specs.{Bytes.Bytes, Lines.lines_of, Moves.Change}
+-- What `map` and `check` keep: the map of a new mesh or the line that accepts a pair is written, or a refusal has its
+-- cause.
+use Rattle.std.proofs.Common.{◌≡◌, ◌≢◌, take, inl, inr}
+use Rattle.def_io.specs.{Bytes.Bytes, Lines.lines_of, Moves.Change, declared.fails.WriteFail.WriteFail}
 use Rattle.def_marks.specs.declared.fail.MarkFail.{MarkFail}
 use Rattle.def_marks.specs.declared.fail.MarkFail.TheVariants as marks
-use Rattle.def_mesh.specs.declared.Place.{Place}
+use Rattle.def_remesh.specs.Checked.{IsCheckedPair}
 use Rattle.def_remesh.specs.declared.kept.LayoutFail.TheVariants as layouts
 use Rattle.def_run.specs.{Causes.Cause, Causes.Reads, Causes.Refused, Causes.Refuses, Map.HasMap, Map.RefusesNew}
+use Rattle.def_run.specs.{Check.RefusesOldText, Check.RefusesPair, CheckFails.IsCheckFail, CheckFails.IsPairFail}
+use Rattle.def_run.specs.Checking.{HasFitText, IsAcceptedText, RefusesToCheck, WritesAccepted}
 use Rattle.def_run.specs.{Map.RefusesToMap, Map.WritesMap, MapFails.HasLineFail, MapFails.IsMapFail}
 use Rattle.def_run.specs.{MapFails.RefusesFrontMarks, MapFails.RefusesFrontText, MarkLines.front_of}
 use Rattle.def_run.specs.{Messages.HasFrontSoup, Messages.LooksAt, declared.answer.Answer.Answer}
 use Rattle.def_run.specs.{declared.check_fail.CheckFail.CheckFail, declared.command.Command.Command}
-use Rattle.def_run.specs.declared.command.Command.TheVariants.{Crease, Fit}
-use Rattle.def_run.specs.declared.command.Command.TheVariants.{Map}
+use Rattle.def_run.specs.declared.command.Command.TheVariants.{Check, Crease, Fit, Map}
 use Rattle.def_run.specs.declared.answer.Answer.TheVariants as answers
+use Rattle.def_run.specs.declared.answer.Why.TheVariants as why
 use Rattle.def_run.specs.declared.check_fail.CheckFail.TheVariants as check_fail
 use Rattle.def_text.specs.{FaceSet.FaceSet, Input.ReadWhole, declared.limits.TheConstants.MAX_BYTES}
 use Rattle.def_text.specs.{declared.refusal.ObjFail.ObjFail, declared.refusal.Which.TheVariants.Bytes as AllBytes}
 use Rattle.def_text.specs.declared.refusal.ObjFail.TheVariants as obj
 use Rattle.def_text.specs.declared.refusal.SoupFail.TheVariants as soup
-use Rattle.qm_top.proofs.{Creased.marks_refuse, Fits.asides_refuse, NeverBytes.never_bytes, Refusals.obj_place}
-use Rattle.qm_top.proofs.Writers.{IsWriter}
-use Rattle.qm_top.specs.Checking.{IsPlaced}
+use Rattle.qm_check.proofs.Pairs.{headless, old_faulty, old_refused}
+use Rattle.qm_top.proofs.{NeverBytes.never_bytes, Refusals.ended, Refusals.lines_refuse, Refusals.place_ended}
+use Rattle.qm_top.proofs.Refusals.{IsWriter}
+use Rattle.qm_top.specs.Checking.{IsNoPairFor, IsPlaced, IsUnaccepted}
 use Rattle.qm_top.specs.Mapping.{IsNoMapFor}
 use Rattle.qm_top.specs.Refusals.{answer_of_marks, answer_of_obj, Ended}
 use Rattle.qm_top.specs.declared.refusal.Refusal.{Refusal}
 use Rattle.qm_top.specs.declared.refusal.Refusal.TheVariants.{NotAccepted, Soup, NotManifold, Marks, Layout, Far}
 use Rattle.qm_top.specs.declared.refusal.Refusal.TheVariants as refusals
 
--- A place that bytes are refused for is the first fault of their soup.
+-- A place that bytes are refused for is the first fault of their soup, or of their old text.
 pub map_placed : (bytes : Bytes) (fail : CheckFail) → IsMapFail bytes fail → IsPlaced fail
 map_placed bytes (check_fail.NotManifold place soup) is = is.0.fault
 map_placed bytes _ is = tt
 
--- No refusal of `l` lines names a place.
-marks_place : (fail : MarkFail) (p : Place) → answer_of_marks fail ≡ answers.NotManifold p → ⊥
-marks_place marks.Memory p is = cc
-marks_place _ p is = cc
+pub check_placed : (bytes : Bytes) (fail : CheckFail) → IsCheckFail bytes fail → IsPlaced fail
+check_placed bytes fail (inl (fit, is)) = map_placed bytes fail is
+check_placed bytes (check_fail.NotManifold place soup) (inr (other, is)) = is.0.fault
+check_placed bytes _ (inr (other, is)) = tt
 
 -- A command refuses a text whose lines beside its mesh are refused.
-lines_refuse : (command : Command) (front : Bytes) (fail : MarkFail) → fail ≢ marks.Memory
-    → HasLineFail command front fail
-    → RefusesNew command front (answer_of_marks fail)
-lines_refuse (Crease settings) front fail other has = marks_refuse settings front fail other has
-lines_refuse (Fit fit) front fail other has = asides_refuse fit front fail other has
-lines_refuse _ front fail other has = absurd has
+new_refused : (command : Command) (front : Bytes) (fail : MarkFail) → fail ≢ marks.Memory
+    → HasLineFail command front fail → RefusesNew command front (answer_of_marks fail)
+new_refused (Crease settings) front fail other has = lines_refuse (Crease settings) front fail other has
+new_refused (Fit fit) front fail other has = lines_refuse (Fit fit) front fail other has
+new_refused _ front fail other has = absurd has
 
 -- A command that read these bytes refuses them as `map` does, and looks at the mesh in front of the same line.
-pub record RefusesAsMap (command : Command) (input : Change) (bytes : Bytes) : Type 0 where
-  pub whole : Reads command input bytes
-  pub refuses : (answer : Answer) → RefusesToMap bytes answer → Refuses command bytes answer
-  pub looks : (soup : FaceSet) → HasFrontSoup bytes soup → LooksAt command bytes soup
-
-module _ (command : Command) (input out : Change) (bytes : Bytes) (like : RefusesAsMap command input bytes)
+module _ (command : Command) (input out : Change) (bytes : Bytes) (whole : Reads command input bytes)
+    (refuses : (answer : Answer) → RefusesToMap bytes answer → Refuses command bytes answer)
+    (looks : (soup : FaceSet) → HasFrontSoup bytes soup → LooksAt command bytes soup)
     (calm : input.faults_now ≡ input.faults) where
   -- It refuses them with this answer.
   refused : (answer : Answer) → RefusesToMap bytes answer → Refused command input answer
-  refused answer none = record { bytes = bytes; whole = like.whole; said = like.refuses answer none }
+  refused answer none = record { bytes = bytes; whole = whole; said = refuses answer none }
 
   -- The refusal of the text in front has its cause.
   front_cause : (fail : ObjFail) → RefusesFrontText bytes fail → (¬ HasMap bytes)
@@ -75,54 +75,35 @@ module _ (command : Command) (input out : Change) (bytes : Bytes) (like : Refuse
       line = none.line;
       command = none.command;
       headed = none.headed;
-      said = lines_refuse none.command (front_of none.line bytes) fail other none.said;
+      said = new_refused none.command (front_of none.line bytes) fail other none.said;
     }),
     never,
   )
 
   -- Bytes that have no map end the command.
-  pub unmapped_ends : (r : Refusal) → IsNoMapFor bytes r → Ended command input out r
-  unmapped_ends (NotAccepted why) none =
-      record { cause = refused _ none; names = λ p is. cc; calm = λ f m. calm }
-  unmapped_ends (Soup (soup.Obj fail)) none =
-      record {
-        cause = front_cause fail none.0 none.2;
-        names = λ p is. absurd (obj_place fail p is);
-        calm = λ f m. calm;
-      }
+  unmapped_ends : (r : Refusal) → IsNoMapFor bytes r → Ended command input out r
+  unmapped_ends (NotAccepted why) none = ended tt (refused _ none) calm
+  unmapped_ends (Soup (soup.Obj fail)) none = ended tt (front_cause fail none.0 none.2) calm
   unmapped_ends (NotManifold named) none =
-      let fault = none.0.fault in record {
-        cause = refused _ (
-          inl (record {
-            line = fault.line;
-            divided = fault.divided;
-            none = record { soup = none.0.front; said = fault.said; fault = fault.fault; refuted = fault.refuted };
-          }),
-          none.1,
-        );
-        names = λ p is. record {
-          bytes = bytes;
-          whole = like.whole;
-          soup = none.0.front;
-          looks = like.looks none.0.front (fault.line, fault.divided, fault.said);
-          numbers = none.0.numbers;
-        };
-        calm = λ f m. calm;
-      }
-  unmapped_ends (Marks fail) none =
-      record {
-        cause = marks_cause fail none.0 none.1 none.2;
-        names = λ p is. absurd (marks_place fail p is);
-        calm = λ f m. calm;
-      }
-  unmapped_ends (Layout (layouts.Tangled count)) none =
-      record { cause = refused _ none; names = λ p is. cc; calm = λ f m. calm }
-  unmapped_ends (Far sum) none =
-      record { cause = refused _ none; names = λ p is. cc; calm = λ f m. calm }
-  unmapped_ends refusals.Memory none = record { cause = tt; names = λ p is. cc; calm = λ f m. calm }
+      let fault = none.0.fault in
+      let soup = none.0.front in
+      let said : RefusesToMap bytes (answers.NotManifold named.place) = (
+        inl (record {
+          line = fault.line;
+          divided = fault.divided;
+          none = record { soup = soup; said = fault.said; fault = fault.fault; refuted = fault.refuted };
+        }),
+        none.1,
+      ) in
+      place_ended bytes soup whole (refuses _ said) (looks soup (fault.line, fault.divided, fault.said)) none.0.numbers
+      calm
+  unmapped_ends (Marks fail) none = ended tt (marks_cause fail none.0 none.1 none.2) calm
+  unmapped_ends (Layout (layouts.Tangled count)) none = ended tt (refused _ none) calm
+  unmapped_ends (Far sum) none = ended tt (refused _ none) calm
+  unmapped_ends refusals.Memory none = ended tt tt calm
   unmapped_ends _ none = absurd none
 
-module _ (input out : Change) (bytes : Bytes) (whole : ReadWhole MAX_BYTES input.told input.told_now bytes)
+module _ {input : Change} (out : Change) {bytes : Bytes} (whole : ReadWhole MAX_BYTES input.told input.told_now bytes)
     (calm : input.faults_now ≡ input.faults) where
   pub map_writer : IsWriter Map (WritesMap bytes) (IsNoMapFor bytes) input out
   map_writer = record {
@@ -131,6 +112,81 @@ module _ (input out : Change) (bytes : Bytes) (whole : ReadWhole MAX_BYTES input
     calm = calm;
     writes = λ text said. said;
     read = λ text said. tt;
-    ends = unmapped_ends Map input out bytes
-        (record { whole = whole; refuses = λ answer none. none; looks = λ soup has. has }) calm;
+    ends = unmapped_ends Map input out bytes whole (λ answer none. none) (λ soup has. has) calm;
   }
+
+  -- The refusal of the old text has its cause.
+  old_cause : ¬ HasFitText bytes → (fail : ObjFail) → RefusesOldText bytes fail
+      → Cause Check input out (answer_of_obj fail)
+  old_cause other (obj.Limit AllBytes line) none =
+      absurd (never_bytes 1 (take none.line (lines_of bytes)) line none.said)
+  old_cause other obj.Memory none = tt
+  old_cause other _ none = record { bytes = bytes; whole = whole; said = inr (other, none) }
+
+  -- A pair that is not accepted ends the command, and so does a text of `fit` that is not.
+  unpaired_ends : ¬ HasFitText bytes → (r : Refusal) → IsNoPairFor bytes r → Ended Check input out r
+  unpaired_ends other (NotAccepted why) none =
+      ended tt (record { bytes = bytes; whole = whole; said = inr (other, none) }) calm
+  unpaired_ends other (Soup (soup.Obj fail)) none = ended tt (old_cause other fail none.0) calm
+  unpaired_ends other (NotManifold named) none =
+      let fault = none.fault in
+      place_ended bytes none.old whole (inr (
+        other,
+        record {
+          line = fault.line;
+          soup = none.old;
+          old = fault.old;
+          fault = fault.fault;
+          refuted = fault.refuted;
+        },
+      )) (inr (other, (fault.line, fault.old))) none.numbers calm
+  unpaired_ends other (Layout (layouts.Tangled count)) none =
+      ended tt (record { bytes = bytes; whole = whole; said = inr (other, none) }) calm
+  unpaired_ends other refusals.Memory none = ended tt tt calm
+  unpaired_ends other _ none = absurd none
+
+  unaccepted_ends : (r : Refusal) → IsUnaccepted bytes r → Ended Check input out r
+  unaccepted_ends r (inl (fit, none)) = unmapped_ends Check input out bytes whole (λ answer none. inl (fit, none))
+      (λ soup has. inl (fit, has)) calm r none
+  unaccepted_ends r (inr (other, none)) = unpaired_ends other r none
+
+  pub check_writer : IsWriter Check (WritesAccepted bytes) (IsUnaccepted bytes) input out
+  check_writer = record {
+    bytes = bytes;
+    whole = whole;
+    calm = calm;
+    writes = λ text said. said;
+    read = λ text said. tt;
+    ends = unaccepted_ends;
+  }
+
+-- What is said of a refusal, in either way, is said of what is not accepted; it is never a fault of the sink.
+pub unaccepted : {bytes : Bytes} (fail : CheckFail) (refusal : Refusal) → IsCheckFail bytes fail
+    → (IsMapFail bytes fail → IsNoMapFor bytes refusal) → (IsPairFail bytes fail → IsNoPairFor bytes refusal)
+    → IsUnaccepted bytes refusal
+unaccepted fail refusal (inl (fit, is)) mapped pair = inl (fit, mapped is)
+unaccepted fail refusal (inr (other, is)) mapped pair = inr (other, pair is)
+
+pub unwritable : (bytes : Bytes) (fail : WriteFail) → IsUnaccepted bytes (refusals.Write fail) → ⊥
+unwritable bytes fail (inl (fit, none)) = none
+unwritable bytes fail (inr (other, none)) = none
+
+-- A checked pair is not refused.
+pair_not_refused : (bytes : Bytes) (answer : Answer) → IsCheckedPair bytes → RefusesPair bytes answer → ⊥
+pair_not_refused bytes (answers.NotAccepted why.NoHead) pair none = headless bytes none pair
+pair_not_refused bytes (answers.NotAccepted _) pair none = none.refuted pair
+pair_not_refused bytes (answers.Syntax line) pair none = old_refused bytes (obj.Syntax line) none pair
+pair_not_refused bytes (answers.NotQuad line corners) pair none = old_refused bytes (obj.NotQuad line corners) none pair
+pair_not_refused bytes (answers.Range line) pair none = old_refused bytes (obj.Range line) none pair
+pair_not_refused bytes (answers.Limit which line) pair none = old_refused bytes (obj.Limit which line) none pair
+pair_not_refused bytes (answers.NotManifold place) pair none =
+    old_faulty bytes none.line none.soup none.old none.refuted pair
+pair_not_refused bytes (answers.Tangled count) pair none = none.refuted pair
+pair_not_refused bytes _ pair none = absurd none
+
+-- Nor is anything that is accepted.
+pub accepted_not_refused : (bytes : Bytes) (answer : Answer) → IsAcceptedText bytes → RefusesToCheck bytes answer → ⊥
+accepted_not_refused bytes answer (inl (fit, has)) (inl (still, none)) = none.1 has
+accepted_not_refused bytes answer (inl (fit, has)) (inr (other, none)) = other fit
+accepted_not_refused bytes answer (inr (other, pair)) (inl (fit, none)) = other fit
+accepted_not_refused bytes answer (inr (other, pair)) (inr (still, none)) = pair_not_refused bytes answer pair none

@@ -68,11 +68,8 @@ fine_readings before (line ∷ lines) =
     (fine_readings (before ++ line ∷ []) lines)
 
 fine_late : (n : ℕ) (r : Reading) → list_all is_fine (late_in n r) ≡ true
-fine_late n (Face line corners) = by_test (list_any (λ corner. nat_lt n corner) corners)
-  where
-    by_test : (t : Bool) → list_all is_fine (if t then Range line ∷ [] else []) ≡ true
-    by_test true = refl
-    by_test false = refl
+fine_late n (Face line corners) = elim (list_any (λ corner. nat_lt n corner) corners) as
+    (λ t. list_all is_fine (if t then Range line ∷ [] else []) ≡ true) [ true ↦ refl | false ↦ refl ]
 fine_late n _ = refl
 
 fine_lates : (n : ℕ) (said : List Reading) → list_all is_fine (flat_map (late_in n) said) ≡ true

@@ -1,35 +1,106 @@
--- Refusals of the steps of a run as answers with their causes.
-use Rattle.std.specs.Prelude.{IsErrAnd}
-use Rattle.def_flow.specs.declared.net.Settings.{Settings}
-use Rattle.std.proofs.Common.{inl, inr, Bool, ◌≡◌, ℕ, ℤ, List, [], Result, Ok, Err, sym, ◌∙◌, subst, refl}
-use Rattle.def_io.specs.{Bytes.Bytes, Faults.Rose, Moves.Change, Moves.IsStill, Moves.Stream, Moves.GaveMore}
-use Rattle.def_io.specs.Lines.{lines_of}
-use Rattle.def_mesh.specs.declared.Place.{Place}
-use Rattle.def_text.specs.{FaceSet.FaceSet, Input.ReadRefused, Input.ReadWhole, Text.soup_in, Types.Words}
+-- Refusals of the steps of a run as answers with their causes, and what a command keeps that writes a text.
+use Rattle.std.proofs.Common.{Err, List, Ok, Result, [], ap, arith, inl, inr, length, refl, subst, sym, ℕ, ◌++◌, ◌-◌}
+use Rattle.std.proofs.Common.{◌∙◌, ◌∷◌, ◌≡◌, ◌≢◌}
+use Rattle.std.proofs.lemmas.List.{take_all}
+use Rattle.std.specs.Prelude.{IfErr, IfOk, IsErrAnd, IsErrOf, OnOk, slice_range}
+use Rattle.def_certtext.specs.{CertLines.certificates_of, CertLines.used, declared.certs.Terms.Terms}
+use Rattle.def_io.specs.Moves.{Change, GaveMore, IsStill, Stream, TookPrefix, took}
+use Rattle.def_io.specs.{Bytes.Bytes, Bytes.Lines, Faults.Rose, Lines.lines_of, declared.fails.WriteFail.WriteFail}
+use Rattle.def_layout.specs.{FaceLayouts.IsCutLayout, Layouts.Layout}
+use Rattle.def_marks.specs.declared.fail.MarkFail.{MarkFail}
+use Rattle.def_mesh.specs.{Manifold.IsManifold, declared.Place.Place}
+use Rattle.def_remesh.specs.{Keeping.IsKept, NewPoints.lengths_in, Placings.IsMeshLayout, Tasks.Task, Tasks.Wish}
+use Rattle.def_remesh.specs.{declared.kept.LayoutFail.LayoutFail}
+use Rattle.def_run.specs.Causes.{Cause, FailsToRead, Reads, ReadsTooMany, Refuses, Writes}
+use Rattle.def_run.specs.Messages.{AreNames, LooksAt, Said, SaidWhy}
+use Rattle.def_run.specs.declared.command.Command.TheVariants.{Bench, Check, Coarse, Crease, Fit, Grids, LayOut, Map}
+use Rattle.def_run.specs.declared.command.Command.TheVariants.{Remesh, Size}
+use Rattle.def_run.specs.{CommandLines.IsCommand, Crease.HasMarkFail, ErrorLines.error_line, Fit.HasAsideFail}
+use Rattle.def_run.specs.{LayOut.HasKeptFail, Mesh.IsMeshText, Mesh.IsNoMesh, Reread.Rereads}
+use Rattle.def_run.specs.{declared.answer.Answer.Answer, declared.command.Command.Command}
+use Rattle.def_run.specs.{declared.words.WordsFail.WordsFail}
+use Rattle.def_text.specs.{FaceSet.FaceSet, Fails.of_obj, Input.ReadRefused, Input.ReadWhole, Text.soup_in, Types.Words}
 use Rattle.def_text.specs.{declared.limits.TheConstants.MAX_BYTES, declared.refusal.ObjFail.ObjFail}
 use Rattle.def_text.specs.{declared.refusal.Which.TheVariants.Bytes as AllBytes}
+use Rattle.qm_top.proofs.NeverBytes.{never_bytes}
+use Rattle.qm_top.specs.Refusals.{Ended, IsInputRefusal, IsNoMeshOf, answer_of, answer_of_layout, answer_of_marks}
+use Rattle.qm_top.specs.Refusals.{answer_of_obj, answer_of_words, names_of}
+use Rattle.qm_top.specs.Writing.{BrokeText, IsOfLayout, IsUnwritten, WroteText, refusal_of_put}
+use Rattle.qm_top.specs.declared.refusal.Refusal.TheVariants.{Marks, NotManifold, Soup, Write}
+use Rattle.qm_top.specs.{Meshless.IsMeshless, Runs.HasRun, declared.named.NamedPlace.NamedPlace}
+use Rattle.qm_top.specs.{declared.refusal.Refusal.Refusal}
+use Rattle.qm_write.proofs.Framing.{text_is}
+use Rattle.qm_write.specs.{Framing.framed_text, declared.remesh.Remesh.Remesh as NewMesh, declared.text.Framed.Framed}
+use Rattle.qm_write.specs.{declared.text.PutFail.PutFail}
+use Rattle.remesh_laws.proofs.Keeps.{shown}
+use Rattle.remesh_laws.specs.Keeps.{ShowsTask}
+use Rattle.def_marks.specs.declared.fail.MarkFail.TheVariants as marks
+use Rattle.def_remesh.specs.declared.kept.LayoutFail.TheVariants as layouts
+use Rattle.def_run.specs.declared.answer.Answer.TheVariants as answers
+use Rattle.def_run.specs.declared.words.WordsFail.TheVariants as words
 use Rattle.def_text.specs.declared.refusal.ObjFail.TheVariants as obj
 use Rattle.def_text.specs.declared.refusal.SoupFail.TheVariants as soup
-use Rattle.def_run.specs.Causes.{Cause, FailsToRead, Reads, ReadsTooMany, Refuses}
-use Rattle.def_run.specs.{CommandLines.IsCommand, Mesh.IsNoMesh, declared.answer.Answer.Answer}
-use Rattle.def_run.specs.{declared.command.Command.Command, declared.command.Command.TheVariants.Tidy}
-use Rattle.def_run.specs.declared.command.Command.TheVariants.{Graph, Refine}
-use Rattle.def_run.specs.declared.command.Command.TheVariants.{Remesh, Crease}
-use Rattle.def_run.specs.declared.command.Command.TheVariants.{Size, Coarse}
-use Rattle.def_run.specs.declared.command.Command.TheVariants.{Blocks, LayOut}
-use Rattle.def_run.specs.{declared.command.Command.TheVariants.Grids, ErrorLines.error_line, Messages.AreNames}
-use Rattle.def_run.specs.{Messages.LooksAt, Messages.Said, Messages.SaidWhy, declared.words.WordsFail.WordsFail}
-use Rattle.def_run.specs.declared.answer.Answer.TheVariants as answers
-use Rattle.def_patches.specs.{declared.Keep.Keep, declared.Patches.Patches}
-use Rattle.qm_top.specs.declared.refusal.Refusal.{Refusal}
-use Rattle.qm_top.specs.declared.refusal.Refusal.TheVariants.{Soup, NotManifold}
-use Rattle.qm_top.specs.Runs.{HasRun}
-use Rattle.qm_top.specs.Refusals.{answer_of, answer_of_obj, answer_of_words, names_of, Ended, IsInputRefusal}
 use Rattle.qm_top.specs.declared.refusal.Refusal.TheVariants as refusals
-use Rattle.def_run.specs.declared.words.WordsFail.TheVariants as words
-use Rattle.qm_top.proofs.NeverBytes.{never_bytes}
+use Rattle.qm_write.specs.declared.text.PutFail.TheVariants as puts
 
--- A command that reads its input whole, and refuses what has no mesh.
+-- ---- Refusals that name no place, and those that do.
+
+abbrev pub IsNameless : (r : Refusal) → Type 0
+IsNameless (NotManifold named) = ⊥
+IsNameless _ = Unit {0}
+
+nameless : (r : Refusal) (place : Place) → IsNameless r → answer_of r ≡ answers.NotManifold place → ⊥
+nameless (NotManifold named) place other is = other
+nameless (Soup (soup.Obj obj.Memory)) place other is = cc
+nameless (Marks marks.Memory) place other is = cc
+nameless (refusals.Layout layouts.Memory) place other is = cc
+nameless _ place other is = cc
+
+-- A refusal that names no place ends a command whose source has no new fault.
+pub ended : {command : Command} {input out : Change} {r : Refusal} → IsNameless r
+    → Cause command input out (answer_of r) → input.faults_now ≡ input.faults → Ended command input out r
+ended {r = r} other cause calm =
+    record { cause = cause; names = λ place is. absurd (nameless r place other is); calm = λ f m. calm }
+
+-- So does a place where the mesh that the command looks at is no manifold.
+pub place_ended : {command : Command} {input out : Change} {named : NamedPlace} (bytes : Bytes) (soup : FaceSet)
+    → Reads command input bytes → Refuses command bytes (answers.NotManifold named.place) → LooksAt command bytes soup
+    → named.names.items ≡ soup.names → input.faults_now ≡ input.faults → Ended command input out (NotManifold named)
+place_ended bytes soup whole said looks numbers calm = record {
+  cause = record { bytes = bytes; whole = whole; said = said };
+  names = λ p is. record { bytes = bytes; whole = whole; soup = soup; looks = looks; numbers = numbers };
+  calm = λ f m. calm;
+}
+
+-- So does want of memory.
+pub memory_ended : {command : Command} {input out : Change} → Ended command input out refusals.Memory
+memory_ended = record { cause = tt; names = λ p is. cc; calm = λ f m. absurd (m refl) }
+
+-- ---- Commands that read their input whole, and refuse what has no mesh.
+
+abbrev pub TakesMesh : (command : Command) → Type 0
+TakesMesh Check = ⊥
+TakesMesh (Bench size) = ⊥
+TakesMesh Map = ⊥
+TakesMesh _ = Unit {0}
+
+no_mesh : (command : Command) (bytes : Bytes) (answer : Answer) → TakesMesh command → IsNoMesh bytes answer
+    → Refuses command bytes answer
+no_mesh Check bytes answer takes none = absurd takes
+no_mesh (Bench size) bytes answer takes none = absurd takes
+no_mesh Map bytes answer takes none = absurd takes
+no_mesh _ bytes (answers.TooFine faces kept) takes none = absurd none
+no_mesh _ bytes (answers.Far sum) takes none = absurd none
+no_mesh _ bytes (answers.Tangled count) takes none = absurd none
+no_mesh (Crease settings) bytes _ takes none = inr (inl none)
+no_mesh (Fit fit) bytes _ takes none = inr (inl none)
+no_mesh (Remesh settings auto) bytes _ takes none = inl none
+no_mesh (Size edge floor) bytes _ takes none = inl none
+no_mesh (Coarse settings) bytes _ takes none = inl none
+no_mesh (LayOut keep patches) bytes _ takes none = inl none
+no_mesh (Grids keep patches by) bytes _ takes none = inl none
+no_mesh _ bytes _ takes none = none
+
 pub record NeedsMesh (command : Command) : Type 0 where
   pub refuses : (bytes : Bytes) (answer : Answer) → IsNoMesh bytes answer → Refuses command bytes answer
   pub reads : (input : Change) (bytes : Bytes) → ReadWhole MAX_BYTES input.told input.told_now bytes
@@ -38,212 +109,311 @@ pub record NeedsMesh (command : Command) : Type 0 where
   pub too_many : (input : Change) → GaveMore MAX_BYTES input.told input.told_now → ReadsTooMany command input
   pub fails : (input : Change) → Rose input.faults input.faults_now → FailsToRead command input
 
-pub tidy_needs : NeedsMesh Tidy
-tidy_needs = record {
-  refuses = λ bytes answer none. none;
+pub needs : (command : Command) → TakesMesh command → NeedsMesh command
+needs Check takes = absurd takes
+needs (Bench size) takes = absurd takes
+needs Map takes = absurd takes
+needs command takes = record {
+  refuses = λ bytes answer. no_mesh command bytes answer tt;
   reads = λ input bytes whole. whole;
   looks = λ bytes soup said. said;
   too_many = λ input more. more;
   fails = λ input rose. rose;
 }
 
-pub graph_needs : NeedsMesh Graph
-graph_needs = record {
-  refuses = λ bytes answer none. none;
-  reads = λ input bytes whole. whole;
-  looks = λ bytes soup said. said;
-  too_many = λ input more. more;
-  fails = λ input rose. rose;
-}
+-- A line beside the mesh is refused.
+abbrev pub HasLineFailOf : (command : Command) (bytes : Bytes) (fail : MarkFail) → Type 0
+HasLineFailOf (Crease settings) bytes fail = HasMarkFail bytes fail
+HasLineFailOf (Fit fit) bytes fail = HasAsideFail fit bytes fail
+HasLineFailOf (LayOut keep patches) bytes fail = HasKeptFail keep bytes fail
+HasLineFailOf (Grids keep patches by) bytes fail = HasKeptFail keep bytes fail
+HasLineFailOf _ bytes fail = ⊥
 
-pub refine_needs : (by : ℕ) → NeedsMesh (Refine by)
-refine_needs by = record {
-  refuses = no_mesh;
-  reads = λ input bytes whole. whole;
-  looks = λ bytes soup said. said;
-  too_many = λ input more. more;
-  fails = λ input rose. rose;
-}
-  where
-    no_mesh : (bytes : Bytes) (answer : Answer) → IsNoMesh bytes answer → Refuses (Refine by) bytes answer
-    no_mesh bytes (answers.TooFine faces kept) none = absurd none
-    no_mesh bytes _ none = none
+pub lines_refuse : (command : Command) (bytes : Bytes) (fail : MarkFail) → fail ≢ marks.Memory
+    → HasLineFailOf command bytes fail → Refuses command bytes (answer_of_marks fail)
+lines_refuse command bytes marks.Memory other has = absurd (other refl)
+lines_refuse (Crease settings) bytes _ other has = inl has
+lines_refuse (Fit fit) bytes _ other has = inl has
+lines_refuse (LayOut keep patches) bytes _ other has = inr has
+lines_refuse (Grids keep patches by) bytes _ other has = inr has
+lines_refuse _ bytes _ other has = absurd has
 
-pub remesh_needs : (settings : Settings) (auto : Bool) → NeedsMesh (Remesh settings auto)
-remesh_needs settings auto = record {
-  refuses = λ bytes answer none. inl none;
-  reads = λ input bytes whole. whole;
-  looks = λ bytes soup said. said;
-  too_many = λ input more. more;
-  fails = λ input rose. rose;
-}
+module _ (command : Command) (takes : TakesMesh command) (input out : Change) where
+  -- The refusal of a text has its cause.
+  text_cause : (fail : ObjFail) → ReadRefused MAX_BYTES input.told input.told_now fail
+      → Cause command input out (answer_of_obj fail)
+  text_cause (obj.Limit AllBytes line) read = absurd (never_bytes 1 (lines_of read.bytes) line read.said)
+  text_cause obj.Memory read = tt
+  text_cause fail read = record {
+    bytes = read.bytes;
+    whole = (needs command takes).reads input read.bytes read.whole;
+    said = (needs command takes).refuses read.bytes (answer_of_obj fail) read.said;
+  }
 
-pub crease_needs : (settings : Settings) → NeedsMesh (Crease settings)
-crease_needs settings = record {
-  refuses = λ bytes answer none. inr (inl none);
-  reads = λ input bytes whole. whole;
-  looks = λ bytes soup said. said;
-  too_many = λ input more. more;
-  fails = λ input rose. rose;
-}
+  -- A refusal of the input ends such a command.
+  input_ended : (r : Refusal) → IsInputRefusal input r → Ended command input out r
+  input_ended (Soup soup.Fault) why =
+      record { cause = (needs command takes).fails input why; names = λ p is. cc; calm = λ f m. absurd (f refl) }
+  input_ended (Soup soup.TooLong) why = ended tt (refl, (needs command takes).too_many input why.0) why.1
+  input_ended (Soup (soup.Obj fail)) why = ended tt (text_cause fail why.0) why.2
+  input_ended (Soup soup.Memory) why = record { cause = tt; names = λ p is. cc; calm = λ f m. absurd (m refl) }
+  input_ended (NotManifold named) why =
+      let bytes = why.read.bytes in
+      place_ended bytes why.soup ((needs command takes).reads input bytes why.read.whole)
+      ((needs command takes).refuses bytes (answers.NotManifold named.place) (record {
+        soup = why.soup;
+        said = why.read.said;
+        fault = why.fault;
+        refuted = why.refuted;
+      })) ((needs command takes).looks bytes why.soup why.read.said) why.named why.calm
+  input_ended refusals.Memory why = memory_ended
+  input_ended _ why = absurd why
 
-pub size_needs : (edge : ℤ) (floor : ℕ) → NeedsMesh (Size edge floor)
-size_needs edge floor = record {
-  refuses = no_mesh;
-  reads = λ input bytes whole. whole;
-  looks = λ bytes soup said. said;
-  too_many = λ input more. more;
-  fails = λ input rose. rose;
-}
-  where
-    no_mesh : (bytes : Bytes) (answer : Answer) → IsNoMesh bytes answer → Refuses (Size edge floor) bytes answer
-    no_mesh bytes (answers.Far sum) none = absurd none
-    no_mesh bytes (answers.Tangled count) none = absurd none
-    no_mesh bytes _ none = inl none
-
-pub coarse_needs : (settings : Settings) → NeedsMesh (Coarse settings)
-coarse_needs settings = record {
-  refuses = λ bytes answer none. inl none;
-  reads = λ input bytes whole. whole;
-  looks = λ bytes soup said. said;
-  too_many = λ input more. more;
-  fails = λ input rose. rose;
-}
-
-pub blocks_needs : (by : ℕ) → NeedsMesh (Blocks by)
-blocks_needs by = record {
-  refuses = (refine_needs by).refuses;
-  reads = λ input bytes whole. whole;
-  looks = λ bytes soup said. said;
-  too_many = λ input more. more;
-  fails = λ input rose. rose;
-}
-
-pub layout_needs : (keep : Keep) (patches : Patches) → NeedsMesh (LayOut keep patches)
-layout_needs keep patches = record {
-  refuses = λ bytes answer none. inl none;
-  reads = λ input bytes whole. whole;
-  looks = λ bytes soup said. said;
-  too_many = λ input more. more;
-  fails = λ input rose. rose;
-}
-
-pub grids_needs : (keep : Keep) (patches : Patches) (by : ℕ) → NeedsMesh (Grids keep patches by)
-grids_needs keep patches by = record {
-  refuses = no_mesh;
-  reads = λ input bytes whole. whole;
-  looks = λ bytes soup said. said;
-  too_many = λ input more. more;
-  fails = λ input rose. rose;
-}
-  where
-    no_mesh : (bytes : Bytes) (answer : Answer) → IsNoMesh bytes answer → Refuses (Grids keep patches by) bytes answer
-    no_mesh bytes (answers.TooFine faces kept) none = absurd none
-    no_mesh bytes _ none = inl none
-
--- The refusal of a text has its cause.
-text_cause : (command : Command) (input out : Change) (fail : ObjFail) → NeedsMesh command
-    → ReadRefused MAX_BYTES input.told input.told_now fail → Cause command input out (answer_of_obj fail)
-text_cause command input out (obj.Limit AllBytes line) needs read =
-    absurd (never_bytes 1 (lines_of read.bytes) line read.said)
-text_cause command input out obj.Memory needs read = tt
-text_cause command input out fail needs read = record {
-  bytes = read.bytes;
-  whole = needs.reads input read.bytes read.whole;
-  said = needs.refuses read.bytes (answer_of_obj fail) read.said;
-}
-
--- No refusal of a text names a place.
-pub obj_place : (fail : ObjFail) (p : Place) → answer_of_obj fail ≡ answers.NotManifold p → ⊥
-obj_place obj.Memory p is = cc
-obj_place _ p is = cc
-
--- A refusal of the input ends a command that needs a mesh.
-pub input_ended : (command : Command) (input out : Change) (r : Refusal) → NeedsMesh command → IsInputRefusal input r
-    → Ended command input out r
-input_ended command input out (Soup soup.Fault) needs why = record {
-  cause = needs.fails input why;
-  names = λ p is. cc;
-  calm = λ f m. absurd (f refl);
-}
-input_ended command input out (Soup soup.TooLong) needs why =
-    record { cause = (refl, needs.too_many input why.0); names = λ p is. cc; calm = λ f m. why.1 }
-input_ended command input out (Soup (soup.Obj fail)) needs why = record {
-  cause = text_cause command input out fail needs why.0;
-  names = λ p is. absurd (obj_place fail p is);
-  calm = λ f m. why.2;
-}
-input_ended command input out (Soup soup.Memory) needs why = record {
-  cause = tt;
-  names = λ p is. cc;
-  calm = λ f m. absurd (m refl);
-}
-input_ended command input out (NotManifold named) needs why = record {
-  cause = record {
-    bytes = why.read.bytes;
-    whole = needs.reads input why.read.bytes why.read.whole;
-    said = needs.refuses why.read.bytes (answers.NotManifold named.place) (record {
+  module _ {bytes : Bytes} (whole : ReadWhole MAX_BYTES input.told input.told_now bytes)
+      (calm : input.faults_now ≡ input.faults) where
+    -- So does that of a text that was read.
+    meshless_ended : (r : Refusal) → IsMeshless bytes r → Ended command input out r
+    meshless_ended (Soup soup.Memory) why = input_ended (Soup soup.Memory) tt
+    meshless_ended (Soup (soup.Obj fail)) why =
+        input_ended (Soup (soup.Obj fail)) (record { bytes = bytes; whole = whole; said = why.0 }, why.1, calm)
+    meshless_ended (NotManifold named) why = input_ended (NotManifold named) (record {
       soup = why.soup;
-      said = why.read.said;
-      fault = why.fault;
-      refuted = why.refuted;
-    });
-  };
-  names = λ p is. record {
-    bytes = why.read.bytes;
-    whole = needs.reads input why.read.bytes why.read.whole;
-    soup = why.soup;
-    looks = needs.looks why.read.bytes why.soup why.read.said;
-    numbers = why.named;
-  };
-  calm = λ f m. why.calm;
-}
-input_ended command input out refusals.Memory needs why = record {
-  cause = tt;
-  names = λ p is. cc;
-  calm = λ f m. absurd (m refl);
-}
-input_ended command input out _ needs why = absurd why
+      read = record { bytes = bytes; whole = whole; said = why.said };
+      fault = why.why.0;
+      refuted = why.why.1;
+      named = why.why.2;
+      calm = calm;
+    })
+    meshless_ended refusals.Memory why = memory_ended
+    meshless_ended _ why = absurd why
 
--- So does want of memory.
-pub memory_ended : (command : Command) (input out : Change) → Ended command input out refusals.Memory
-memory_ended command input out = record { cause = tt; names = λ p is. cc; calm = λ f m. absurd (m refl) }
+    -- A line beside its mesh is refused.
+    marks_ended : (fail : MarkFail) → (fail ≢ marks.Memory → HasLineFailOf command bytes fail)
+        → Ended command input out (Marks fail)
+    marks_ended marks.Memory why = record { cause = tt; names = λ p is. cc; calm = λ f m. absurd (m refl) }
+    marks_ended fail why = ended tt (record {
+      bytes = bytes;
+      whole = (needs command takes).reads input bytes whole;
+      said = lines_refuse command bytes fail (λ e. cc) (why (λ e. cc));
+    }) calm
+
+module _ {O : Type 0} {command : Command} {input : Change} {out : Stream O} {result : Result (Unit {0}) Refusal} where
+  -- A refusal that is handed on ends the command as it was, where nothing was written.
+  pub handed_run : (r : Refusal) → IsErrAnd result (λ e. e ≡ r) → Ended command input out.change r → IsStill out
+      → HasRun command input out result
+  handed_run = by_result result
+    where
+      by_result : (result : Result (Unit {0}) Refusal) (r : Refusal) → IsErrAnd result (λ e. e ≡ r)
+          → Ended command input out.change r → IsStill out → HasRun command input out result
+      by_result (Ok x) r is ended same = absurd is
+      by_result (Err e) r is ended same =
+          record { done = tt; refused = subst (Ended command input out.change) (sym is) ended; untouched = λ _. same }
+
+  -- The input has no mesh.
+  pub halts : (r : Refusal) → TakesMesh command → IsErrAnd result (λ e. e ≡ r) → IsInputRefusal input r → IsStill out
+      → HasRun command input out result
+  halts r takes is why same = handed_run r is (input_ended command takes input out.change r why) same
+
+  module _ {bytes : Bytes} (takes : TakesMesh command) (whole : ReadWhole MAX_BYTES input.told input.told_now bytes)
+      (calm : input.faults_now ≡ input.faults) where
+    -- Nor has the text that was read.
+    pub meshless_run : (r : Refusal) → IsErrAnd result (λ e. e ≡ r) → IsMeshless bytes r → IsStill out
+        → HasRun command input out result
+    meshless_run r is why same = handed_run r is (meshless_ended command takes input out.change whole calm r why) same
+
+    -- A line beside its mesh is refused.
+    pub marks_run : (fail : MarkFail) → IsErrAnd result (λ e. e ≡ Marks fail)
+        → (fail ≢ marks.Memory → HasLineFailOf command bytes fail) → IsStill out → HasRun command input out result
+    marks_run fail is why same =
+        handed_run (Marks fail) is (marks_ended command takes input out.change whole calm fail why) same
+
+-- ---- What is told of a refusal.
 
 -- The line that was said has the answer of the refusal and the numbers that it keeps.
-pub says_why : (words : Words) (command : Command) (input err : Change) (r : Refusal) (answer : Answer) (names : List ℕ)
-    (line : Bytes)
-    → IsCommand words command → answer ≡ answer_of r → names ≡ names_of r
-    → AreNames command input (answer_of r) (names_of r)
-    → line ≡ error_line names answer → Said line err → SaidWhy words input err answer
-says_why words command input err r answer names line accepted is named of_file says said = record {
+pub says_why : {words : Words} {command : Command} {input err : Change} (r : Refusal) (answer : Answer)
+    (names : List ℕ) (line : Bytes) → IsCommand words command → answer ≡ answer_of r → names ≡ names_of r
+    → AreNames command input (answer_of r) (names_of r) → line ≡ error_line names answer → Said line err
+    → SaidWhy words input err answer
+says_why {command = command} {err = err} r answer names line accepted is named of_file says said = record {
   names = names;
-  of_the_file = λ place told. record {
-    command = command;
-    line = accepted;
-    numbered = subst (λ (a : Answer). AreNames command input a names) (sym is)
-        (subst (λ (ns : List ℕ). AreNames command input (answer_of r) ns) (sym named) of_file);
-  };
+  of_the_file = λ place told. record { command = command; line = accepted; numbered = rw (is, named) of_file };
   said = subst (λ (l : Bytes). Said l err) says said;
 }
 
--- A refusal that is handed on ends the command as it was, where nothing was written.
-pub handed_run : {O : Type 0} (command : Command) (input : Change) (out : Stream O) (result : Result (Unit {0}) Refusal)
-    (r : Refusal)
-    → IsErrAnd result (λ e. e ≡ r) → Ended command input out.change r → IsStill out → HasRun command input out result
-handed_run command input out (Ok x) r is ended same = absurd is
-handed_run command input out (Err e) r is ended same =
-    record { done = tt; refused = subst (Ended command input out.change) (sym is) ended; untouched = λ _. same }
-
--- No answer to words names a place.
-words_place : (fail : WordsFail) (p : Place) → answer_of_words fail ≡ answers.NotManifold p → ⊥
-words_place words.Usage p is = cc
-words_place words.Memory p is = cc
-
--- The line that was said of words has their answer.
-pub says_words : (words : Words) (input err : Change) (fail : WordsFail) (answer : Answer) (line : Bytes)
+-- The line that was said of words has their answer, which names no place.
+pub says_words : {words : Words} {input err : Change} (fail : WordsFail) (answer : Answer) (line : Bytes)
     → answer ≡ answer_of_words fail → line ≡ error_line [] answer → Said line err → SaidWhy words input err answer
-says_words words input err fail answer line is says said = record {
+says_words {err = err} fail answer line is says said = record {
   names = [];
   of_the_file = λ p named. absurd (words_place fail p (sym is ∙ named));
   said = subst (λ (l : Bytes). Said l err) says said;
 }
+  where
+    words_place : (fail : WordsFail) (p : Place) → answer_of_words fail ≡ answers.NotManifold p → ⊥
+    words_place words.Usage p is = cc
+    words_place words.Memory p is = cc
+
+-- ---- The mesh of a text.
+
+-- All lines are those from the first on.
+pub whole_range : (xs : Lines) (n : ℕ) → n ≡ length xs → slice_range xs 0 n ≡ xs
+whole_range xs n is = let e : n - 0 ≡ n = omega arith in rw e (take_all n xs (omega (arith, is)))
+
+-- A text that has no soup has no mesh.
+pub soupless : (bytes : Bytes) (fail : ObjFail) → (fail ≢ obj.Memory → soup_in bytes ≡ Err fail)
+    → IsMeshless bytes (Soup (of_obj fail))
+soupless bytes obj.Memory said = tt
+soupless bytes (obj.Syntax line) said = (said (λ e. cc), λ e. cc)
+soupless bytes (obj.NotQuad line corners) said = (said (λ e. cc), λ e. cc)
+soupless bytes (obj.Range line) said = (said (λ e. cc), λ e. cc)
+soupless bytes (obj.Limit which line) said = (said (λ e. cc), λ e. cc)
+
+-- Nor has one whose soup is no mesh.
+pub no_mesh_of : (bytes : Bytes) (soup : FaceSet) (r : Refusal) → soup_in bytes ≡ Ok soup → IsNoMeshOf soup r
+    → IsMeshless bytes r
+no_mesh_of bytes soup (NotManifold named) said why = record { soup = soup; said = said; why = why }
+no_mesh_of bytes soup refusals.Memory said why = tt
+no_mesh_of bytes soup _ said why = absurd why
+
+-- A text with this soup, whose faces are a manifold.
+pub text_meshed : (bytes : Bytes) (soup : FaceSet) (result : Result FaceSet Refusal) → soup_in bytes ≡ Ok soup
+    → IfOk result (λ read. read ≡ soup) → OnOk result (IsManifold soup.faces)
+    → IfOk result (λ read. IsMeshText bytes read)
+text_meshed bytes soup (Ok read) said same manifold =
+    record {
+      said = said ∙ ap Ok (sym same);
+      manifold = subst (λ (s : FaceSet). IsManifold s.faces) (sym same) manifold;
+    }
+text_meshed bytes soup (Err r) said same manifold = tt
+
+-- A text that was written whole, and one that was not.
+pub wrote : {says : Bytes → Type 0} {out : Change} (text : Bytes) → says text → out.told_now ≡ took out.told text
+    → WroteText says out
+wrote text said written = record { text = text; said = said; written = written }
+
+pub broke : {says : Bytes → Type 0} {out : Change} (text : Bytes) → says text → TookPrefix out.told out.told_now text
+    → Rose out.faults out.faults_now → BrokeText says out
+broke text said prefix fault = record { text = text; said = said; prefix = prefix; fault = fault }
+
+-- What is known of a command that has read its bytes: what it writes for them, and how a refusal ends it.
+pub record IsWriter (command : Command) (says : Bytes → Type 0) (why : Refusal → Type 0) (input out : Change) : Type
+    0 where
+  pub bytes : Bytes
+  pub whole : Reads command input bytes
+  pub calm : input.faults_now ≡ input.faults
+  pub writes : (text : Bytes) → says text → Writes command bytes text
+  pub read : (text : Bytes) (said : says text) → Rereads command bytes text (writes text said)
+  pub ends : (r : Refusal) → why r → Ended command input out r
+
+module _ {O : Type 0} {command : Command} {says : Bytes → Type 0} {why : Refusal → Type 0} {input : Change}
+    (out : Stream O) (is : IsWriter command says why input out.change) where
+  -- A text that was not written whole ends the command.
+  unwritten_ends : (r : Refusal) → IsUnwritten says why out r → Ended command input out.change r
+  unwritten_ends (Write fail) broke = ended tt (record {
+    bytes = is.bytes;
+    whole = is.whole;
+    text = broke.text;
+    said = is.writes broke.text broke.said;
+    prefix = broke.prefix;
+    fault = broke.fault;
+  }) is.calm
+  unwritten_ends r none = is.ends r none.1
+
+  -- The sink is as it was, unless the write failed.
+  same_sink : (r : Refusal) → IsUnwritten says why out r → answer_of r ≢ answers.WriteFault → out.now ≡ out.before
+  same_sink (Write fail) broke other = absurd (other refl)
+  same_sink _ none other = none.0
+
+  pub writer_runs : (result : Result (Unit {0}) Refusal) → OnOk result (WroteText says out.change)
+      → IfErr result (IsUnwritten says why out) → HasRun command input out result
+  writer_runs (Ok x) wrote none = record {
+    done = record {
+      wrote = record {
+        bytes = is.bytes;
+        whole = is.whole;
+        text = wrote.text;
+        said = is.writes wrote.text wrote.said;
+        written = wrote.written;
+      };
+      read = is.read wrote.text wrote.said;
+      calm = is.calm;
+    };
+    refused = tt;
+    untouched = tt;
+  }
+  writer_runs (Err r) wrote none = record { done = tt; refused = unwritten_ends r none; untouched = same_sink r none }
+
+-- A layout that is refused, or want of memory, ends a command that refuses such layouts.
+pub layout_ends : {command : Command} {fails : LayoutFail → Type 0} {input out : Change}
+    → input.faults_now ≡ input.faults
+    → ((fail : LayoutFail) → fails fail → Cause command input out (answer_of_layout fail))
+    → (r : Refusal) → IsOfLayout fails r → Ended command input out r
+layout_ends calm refuses (refusals.Layout fail) why = ended tt (refuses fail why) calm
+layout_ends calm refuses refusals.Memory why = ended tt tt calm
+layout_ends calm refuses _ why = absurd why
+
+-- Where no text is begun the sink is as it was.
+pub not_begun : {O : Type 0} (says : Bytes → Type 0) (why : Refusal → Type 0) (out : Stream O)
+    → ((fail : WriteFail) → why (Write fail) → ⊥)
+    → out.now ≡ out.before → (r : Refusal) → why r → IsUnwritten says why out r
+not_begun says why out never same (Write fail) none = absurd (never fail none)
+not_begun says why out never same r none = (same, none)
+
+-- Two facts of a value are one.
+pub on_ok_both : {T E : Type 0} (P Q : Type 0) (result : Result T E) → OnOk result P → OnOk result Q
+    → OnOk result (P × Q)
+on_ok_both P Q (Ok value) p q = (p, q)
+on_ok_both P Q (Err error) p q = tt
+
+-- A text that was not put whole was not written whole.
+pub put_refused : {O : Type 0} (says : Bytes → Type 0) (why : Refusal → Type 0) (out : Stream O) (text : Bytes)
+    (fail : PutFail)
+    → says text → why refusals.Memory → (IsErrOf {T = Unit {0}} (Err fail) puts.Stopped
+    → TookPrefix out.change.told out.change.told_now text)
+    → (IsErrOf {T = Unit {0}} (Err fail) puts.Stopped → Rose out.change.faults out.change.faults_now)
+    → (IsErrOf {T = Unit {0}} (Err fail) puts.Memory → IsStill out) → IsUnwritten says why out (refusal_of_put fail)
+put_refused says why out text puts.Stopped said memory prefix rose same =
+    record { text = text; said = said; prefix = prefix refl; fault = rose refl }
+put_refused says why out text puts.Memory said memory prefix rose same = (same refl, memory)
+
+-- A text that was not written is not, whatever it says besides, and whatever layouts are refused besides.
+pub unwritten_weaker : {O : Type 0} (says more : Bytes → Type 0) (fails others : LayoutFail → Type 0) (out : Stream O)
+    → ((text : Bytes) → says text → more text) → ((fail : LayoutFail) → fails fail → others fail) → (r : Refusal)
+    → IsUnwritten says (IsOfLayout fails) out r → IsUnwritten more (IsOfLayout others) out r
+unwritten_weaker says more fails others out weaker besides (refusals.Layout fail) none = (none.0, besides fail none.1)
+unwritten_weaker says more fails others out weaker besides (Write fail) broke =
+    record { text = broke.text; said = weaker broke.text broke.said; prefix = broke.prefix; fault = broke.fault }
+unwritten_weaker says more fails others out weaker besides refusals.Memory same = same
+unwritten_weaker says more fails others out weaker besides _ none = absurd none.1
+
+-- What is kept for what was asked is kept for what it tells.
+pub kept_for : {wish : Wish} {layout : Layout} (remesh : NewMesh) {terms : Terms} → remesh.terms ≡ terms
+    → IsKept wish layout terms.settings terms.rising (certificates_of remesh.certs) remesh.numbering
+    → (w : Wish) × IsKept w layout remesh.terms.settings remesh.terms.rising (certificates_of remesh.certs)
+    remesh.numbering
+kept_for {wish} {layout} remesh same kept = (
+  wish,
+  subst (λ (t : Terms). IsKept wish layout t.settings t.rising (certificates_of remesh.certs) remesh.numbering)
+      (sym same) kept,
+)
+
+-- The text of a remesh in its frame is that of the task for which it is kept.
+pub framed_shown : (task : Task) (framed : Framed) (soup : FaceSet) (layout : Layout) → IsMeshLayout soup.faces layout
+    → IsCutLayout soup.faces task.marks layout
+    → framed.remesh.terms ≡ record { settings = task.settings; rising = task.rising }
+    → IsKept task.wish layout task.settings task.rising (certificates_of framed.remesh.certs) framed.remesh.numbering
+    → framed.head.items ≡ task.head ++ 10 ∷ []
+    → framed.between.items ≡ task.between layout (lengths_in (used (certificates_of framed.remesh.certs)).x)
+    → framed.shares ≡ task.shares → ShowsTask task soup (framed_text framed soup layout)
+framed_shown task framed soup layout laid on same kept head between shares =
+    subst (ShowsTask task soup)
+    (sym (text_is task framed soup layout (record {
+      cut = on;
+      settings = ap (λ (t : Terms). t.settings) same;
+      rising = ap (λ (t : Terms). t.rising) same;
+      kept = kept;
+      head = head;
+      between = between;
+      shares = shares;
+    })))
+    (shown task soup layout (certificates_of framed.remesh.certs) framed.remesh.numbering laid on kept)

@@ -1,33 +1,54 @@
--- What a command keeps that remeshes.
-use Rattle.std.specs.Prelude.{IfErr, OnOk}
-use Rattle.std.proofs.Common.{◌≡◌, [], ◌∷◌, ◌++◌, codes, true, false, Bool, Result, inr, ap, subst, sym}
-use Rattle.std.proofs.lemmas.Result.{IfErr-weaker, on_ok_weaker}
-use Rattle.def_certtext.specs.{CertLines.used, HeadLine.head_line, Risings.may_rise, Risings.third_if}
+-- What a command keeps that remeshes, and one that wishes for lengths which may be too great: `fit`, and `size`.
+use Rattle.std.proofs.Common.{Bool, List, None, Ok, Option, Result, Some, [], ap, arith, codes, false, inr, refl, subst}
+use Rattle.std.proofs.Common.{sym, true, ℕ, ℤ, ◌++◌, ◌<◌, ◌^◌, ◌∙◌, ◌∷◌, ◌≡◌, ◌≢◌, ◌≤◌}
+use Rattle.std.proofs.{lemmas.Result.IfErr-weaker, lemmas.Result.on_ok_weaker}
+use Rattle.std.specs.Prelude.{IfErr, OnOk, unsigned_abs}
+use Rattle.def_certtext.specs.{CertLines.certificates_of, CertLines.used, Risings.may_rise, Risings.third_if}
 use Rattle.def_certtext.specs.{Settings.AreInRange, declared.certs.Rising.Rising}
-use Rattle.def_certtext.specs.declared.certs.Rising.TheVariants.{Rounds}
-use Rattle.def_cut.specs.Traced.{traced_marks}
+use Rattle.def_certtext.specs.{declared.certs.Rising.TheVariants.Never, declared.certs.Rising.TheVariants.Rounds}
+use Rattle.def_cut.specs.{FullCut.IsFullCut, Traced.traced_marks}
+use Rattle.def_feature.specs.Marked.{marked_cut}
+use Rattle.def_fit.specs.Aims.{AreAimedNear, IsFit, IsFitFail}
+use Rattle.def_fit.specs.FitTasks.{Asides, asides_in, fit_task, kept_text}
+use Rattle.def_fit.specs.{declared.fit.Aim.Aim, declared.fit.Aim.TheVariants.Edge, declared.fit.Fit.Fit as AnyFit}
 use Rattle.def_flow.specs.declared.net.Settings.{Settings}
-use Rattle.def_io.specs.{Bytes.Bytes, Moves.Change, Moves.Stream}
-use Rattle.def_mesh.specs.{Faces.Faces, Manifold.IsManifold}
-use Rattle.def_remesh.specs.{declared.kept.LayoutFail.LayoutFail, NewPoints.lengths_in, ReadAgain.lines_between}
-use Rattle.def_remesh.specs.Tasks.{remesh_task, Task}
-use Rattle.def_remesh.specs.declared.kept.LayoutFail.TheVariants as layouts
+use Rattle.def_io.specs.Moves.{Change, IsStill, Stream}
+use Rattle.def_io.specs.Bytes.{Bytes}
+use Rattle.def_layout.specs.{FaceLayouts.IsCutLayout, Layouts.Layout, Lengths.Lengths}
+use Rattle.def_marks.specs.{Lines.marks_in, MarkedText.marked_text}
+use Rattle.def_mesh.specs.Manifold.{IsManifold}
+use Rattle.def_metric.specs.Fails.{AreNear, IsFar, IsSizeFail}
+use Rattle.def_metric.specs.{Targets.edge_settings, declared.fail.SizeFail.SizeFail}
+use Rattle.def_patches.specs.{Chosen.AreKeptMarks, Chosen.IsChosenLayout, declared.Patches.TheVariants.Traced}
+use Rattle.def_remesh.specs.Tasks.{Task, Wish, old_lengths, remesh_task}
+use Rattle.def_remesh.specs.{CutSoups.CutSoup, Keeping.IsKept, NewPoints.lengths_in, Placings.IsMeshLayout}
+use Rattle.def_remesh.specs.{ReadAgain.lines_between, Refusals.IsLayoutFail, declared.kept.LayoutFail.LayoutFail}
+use Rattle.def_run.specs.Causes.{Cause, Refused, Refuses, Writes}
+use Rattle.def_run.specs.Remesh.{Asks, AsksToRemesh, IsSettled, IsTracedLayout, RefusesTask, WritesFinished}
+use Rattle.def_run.specs.Reread.{HasShortLines, Rereads, RereadsTask}
+use Rattle.def_run.specs.Size.{AsksForNearSize, AsksForSize, size_task, soup_targets}
+use Rattle.def_run.specs.{Coarse.AsksToMerge, Crease.AsksToCrease, Crease.creased_task, Fit.AsksForNearFit}
+use Rattle.def_run.specs.{Fit.AsksToFit, Heads.named_head, Heads.named_task, Mesh.IsMeshText}
+use Rattle.def_run.specs.{declared.answer.Answer.Answer, declared.command.Command.Command}
+use Rattle.def_run.specs.{declared.command.Command.TheVariants.Fit, declared.command.Command.TheVariants.Size}
 use Rattle.def_text.specs.{FaceSet.FaceSet, Input.ReadSoup, declared.limits.TheConstants.MAX_BYTES}
-use Rattle.qm_top.proofs.{Writers.layout_ends, Writers.IsWriter, Asides.coarse_aside, Asides.crease_aside}
-use Rattle.qm_top.proofs.{Asides.marked_aside, Framed.unwritten_weaker, Refusals.NeedsMesh}
-use Rattle.qm_top.specs.{Refusals.answer_of_layout, Finishing.headed_task, Writing.FailsAsked, Writing.FailsTask}
-use Rattle.qm_top.specs.Writing.{IsOfLayout, IsUnwritten, ShowsAsked, WroteText}
-use Rattle.qm_top.specs.declared.refusal.Refusal.{Refusal}
-use Rattle.def_layout.specs.{FaceLayouts.IsCutLayout, Layouts.Layout}
-use Rattle.def_run.specs.{Causes.Cause, Causes.Refused, Causes.Refuses, Causes.Writes, Coarse.AsksToMerge}
-use Rattle.def_run.specs.{Crease.creased_task, Crease.AsksToCrease, Heads.named_task, Mesh.IsMeshText, Remesh.Asks}
-use Rattle.def_run.specs.Remesh.{AsksToRemesh, RefusesLayout, RefusesTask, WritesFinished}
-use Rattle.def_run.specs.{Reread.HasShortLines, Reread.Rereads, Reread.RereadsTask, declared.answer.Answer.Answer}
-use Rattle.def_run.specs.declared.command.Command.{Command}
-use Rattle.def_run.specs.declared.answer.Answer.TheVariants as answers
-use Rattle.def_run.specs.declared.command.Command.TheVariants as commands
-use Rattle.remesh_laws.proofs.Asides.{head_aside, none_aside}
+use Rattle.embedding_laws.proofs.OneLayout.{one_layout_law}
+use Rattle.patch_laws.proofs.Chosen.{chosen_cut_law}
+use Rattle.qm_top.proofs.Asides.{coarse_aside, crease_aside, fit_aside, marked_aside, size_aside}
+use Rattle.qm_top.proofs.Refusals.{TakesMesh, ended, needs}
+use Rattle.qm_top.proofs.Refusals.{IsWriter, framed_shown, layout_ends, unwritten_weaker}
+use Rattle.qm_top.specs.Fitting.{FailsNear, IsFarTask, IsOfWishes}
+use Rattle.qm_top.specs.Refusals.{Ended, answer_of_layout, refusal_of_size}
+use Rattle.qm_top.specs.Writing.{FailsAsked, FailsTask, IsOfLayout, IsUnwritten, ShowsAsked, WroteText}
+use Rattle.qm_top.specs.{declared.refusal.Refusal.Refusal, declared.refusal.Refusal.TheVariants.Far}
+use Rattle.qm_write.specs.{Framing.framed_text, declared.text.Framed.Framed}
+use Rattle.remesh_laws.proofs.{Asides.head_aside, Asides.none_aside}
 use Rattle.remesh_laws.specs.{Asides.IsAside, Keeps.ShowsTask}
+use Rattle.site_laws.proofs.Laws.{graph_law}
+use Rattle.def_remesh.specs.declared.kept.LayoutFail.TheVariants as layouts
+use Rattle.def_run.specs.declared.command.Command.TheVariants as commands
+use Rattle.def_metric.specs.declared.fail.SizeFail.TheVariants as sizes
+use Rattle.def_run.specs.declared.answer.Answer.TheVariants as answers
 
 -- Where a reader passes over the lines around the new mesh, it is read again.
 abbrev pub IsReadAside : (asks : Asks) (bytes text : Bytes) (said : WritesFinished asks bytes text) → Type 0
@@ -36,15 +57,22 @@ IsReadAside asks bytes text said = IsAside (said.task.head ++ 10 ∷ [])
     → RereadsTask asks bytes text said
 
 -- It does where the lines of the task that was asked are such.
-pub task_reread : (asks : Asks) (bytes text : Bytes) (said : WritesFinished asks bytes text) (task : Task)
+pub task_reread : {asks : Asks} {bytes text : Bytes} (said : WritesFinished asks bytes text) (task : Task)
     → said.task ≡ task → IsAside (task.head ++ 10 ∷ [])
     → IsAside (task.between said.shown.finished.layout (lengths_in (used said.shown.finished.certificates).x))
     → IsReadAside asks bytes text said → RereadsTask asks bytes text said
-task_reread asks bytes text said task is head between read =
+task_reread said task is head between read =
     read (subst (λ (t : Task). IsAside (t.head ++ 10 ∷ [])) (sym is) head)
     (subst (λ (t : Task). IsAside
     (t.between said.shown.finished.layout (lengths_in (used said.shown.finished.certificates).x))) (sym is)
     between)
+
+-- A task that fails is refused for its layout.
+pub asked_refuses : (asks : Asks) {bytes : Bytes} {soup : FaceSet} (fail : LayoutFail) → fail ≢ layouts.Memory
+    → IsMeshText bytes soup → FailsAsked asks bytes soup fail → RefusesTask asks bytes (answer_of_layout fail)
+asked_refuses asks layouts.Memory other mesh why = absurd (other refl)
+asked_refuses asks {soup = soup} _ other mesh (task, asked, (layout, cut, why)) =
+    inr (task, layout, record { soup = soup; mesh = mesh; asked = asked; cut = cut }, why)
 
 -- What a command does that asks for a task: it writes it finished, so that it is read again, or refuses it.
 pub record IsTasked (command : Command) (asks : Asks) : Type 0 where
@@ -53,81 +81,61 @@ pub record IsTasked (command : Command) (asks : Asks) : Type 0 where
       → Rereads command bytes text (writes bytes text said)
   pub refuses : (bytes : Bytes) (answer : Answer) → RefusesTask asks bytes answer → Refuses command bytes answer
 
+-- A shown task is written.
+abbrev pub finished_of : {asks : Asks} {bytes text : Bytes} {soup : FaceSet} → IsMeshText bytes soup
+    → ShowsAsked asks bytes soup text → WritesFinished asks bytes text
+finished_of {soup = soup} mesh shows =
+    record { soup = soup; mesh = mesh; task = shows.0; asked = shows.1; shown = shows.2.shown }
+
 -- What such a command keeps that has read a mesh.
-pub task_writer : (command : Command) (asks : Asks) (input out : Change) (soup : FaceSet) → NeedsMesh command
-    → IsTasked command asks
-    → IsManifold soup.faces → (read : ReadSoup MAX_BYTES input.told input.told_now soup)
+pub task_writer : {command : Command} {asks : Asks} {input out : Change} {soup : FaceSet} → TakesMesh command
+    → IsTasked command asks → IsManifold soup.faces → (read : ReadSoup MAX_BYTES input.told input.told_now soup)
     → input.faults_now ≡ input.faults
     → IsWriter command (ShowsAsked asks read.bytes soup) (IsOfLayout (FailsAsked asks read.bytes soup)) input out
-task_writer command asks input out soup needs tasked manifold read calm = record {
+task_writer {command} {asks} {input} {out} {soup} takes tasked manifold read calm = record {
   bytes = read.bytes;
-  whole = needs.reads input read.bytes read.whole;
+  whole = (needs command takes).reads input read.bytes read.whole;
   calm = calm;
-  writes = λ text shows. tasked.writes read.bytes text
-      (record { soup = soup; mesh = mesh; task = shows.0; asked = shows.1; shown = shows.2.shown });
-  read = λ text shows. tasked.read read.bytes text
-      (record { soup = soup; mesh = mesh; task = shows.0; asked = shows.1; shown = shows.2.shown }) shows.2.read;
-  ends = layout_ends command (FailsAsked asks read.bytes soup) input out calm refuses;
+  writes = λ text shows. tasked.writes read.bytes text (finished_of mesh shows);
+  read = λ text shows. tasked.read read.bytes text (finished_of mesh shows) shows.2.read;
+  ends = layout_ends calm refuses;
 }
   where
     mesh : IsMeshText read.bytes soup
     mesh = record { said = read.said; manifold = manifold }
 
-    refused : (answer : Answer) (task : Task) (layout : Layout) → asks read.bytes soup task
-        → IsCutLayout soup.faces task.marks layout
-        → RefusesLayout task.wish layout task.settings task.rising answer → Refused command input answer
-    refused answer task layout asked cut why = record {
-      bytes = read.bytes;
-      whole = needs.reads input read.bytes read.whole;
-      said = tasked.refuses read.bytes answer
-          (inr (task, layout, record { soup = soup; mesh = mesh; asked = asked; cut = cut }, why));
-    }
-
     refuses : (fail : LayoutFail) → FailsAsked asks read.bytes soup fail
         → Cause command input out (answer_of_layout fail)
     refuses layouts.Memory why = tt
-    refuses (layouts.Tangled count) (task, asked, (layout, cut, why)) =
-        refused (answers.Tangled count) task layout asked cut why
-    refuses (layouts.TooFine faces kept) (task, asked, (layout, cut, why)) =
-        refused (answers.TooFine faces kept) task layout asked cut why
-    refuses (layouts.Doubled u v cert) (task, asked, (layout, cut, why)) =
-        refused (answers.Doubled u v cert) task layout asked cut why
+    refuses fail why = record {
+      bytes = read.bytes;
+      whole = (needs command takes).reads input read.bytes read.whole;
+      said = tasked.refuses read.bytes (answer_of_layout fail) (asked_refuses asks fail (λ e. cc) mesh why);
+    }
 
--- The commands that do so.
--- A remesh has no rounds.
-pub third_known : {rising : Rising} (auto : Bool) → rising ≡ third_if auto → rising ≡ Rounds → ⊥
-third_known true is rounds = absurd cc
-third_known false is rounds = absurd cc
+-- ---- The commands that do so.
 
--- Its settings may be asked for as floors rise in it.
-pub third_range : {rising : Rising} (settings : Settings) (auto : Bool) → rising ≡ third_if auto
-    → AreInRange settings auto → AreInRange settings (may_rise rising)
-third_range settings true is range = subst (λ (r : Rising). AreInRange settings (may_rise r)) (sym is) range
-third_range settings false is range = subst (λ (r : Rising). AreInRange settings (may_rise r)) (sym is) range
+-- A remesh has no rounds, and its settings may be asked for as floors rise in it.
+pub third_kept : {rising : Rising} (settings : Settings) (auto : Bool) → rising ≡ third_if auto
+    → AreInRange settings auto → (rising ≢ Rounds) × AreInRange settings (may_rise rising)
+third_kept settings true is range = (λ rounds. cc, rw is range)
+third_kept settings false is range = (λ rounds. cc, rw is range)
 
--- Its task is that of a mesh with its head line.
-pub headed_asked : {rising : Rising} (settings : Settings) (auto : Bool) (faces : Faces) → rising ≡ third_if auto
-    → headed_task (record { settings = settings; rising = rising }) (traced_marks faces) (head_line settings auto)
-    ≡ remesh_task settings auto faces
-headed_asked settings auto faces is =
-    ap (λ (r : Rising). headed_task (record { settings = settings; rising = r }) (traced_marks faces)
-    (head_line settings auto)) is
-
-pub remesh_tasked : (settings : Settings) (auto : Bool) → AreInRange settings auto
+pub remesh_tasked : {settings : Settings} {auto : Bool} → AreInRange settings auto
     → IsTasked (commands.Remesh settings auto) (AsksToRemesh settings auto)
-remesh_tasked settings auto range = record {
+remesh_tasked {settings} {auto} range = record {
   writes = λ bytes text said. said;
-  read = λ bytes text said read. task_reread (AsksToRemesh settings auto) bytes text said
+  read = λ bytes text said read. task_reread {asks = AsksToRemesh settings auto} said
       (remesh_task settings auto said.soup.faces) said.asked (head_aside settings auto range) none_aside read;
   refuses = λ bytes answer why. why;
 }
 
-pub crease_tasked : (settings : Settings) → AreInRange settings false
+pub crease_tasked : {settings : Settings} → AreInRange settings false
     → IsTasked (commands.Crease settings) (AsksToCrease settings)
-crease_tasked settings range = record {
+crease_tasked {settings} range = record {
   writes = λ bytes text said. said;
   read = λ bytes text said read short.
-      task_reread (AsksToCrease settings) bytes text said (creased_task settings said.soup.faces said.asked.0)
+      task_reread {asks = AsksToCrease settings} said (creased_task settings said.soup.faces said.asked.0)
       said.asked.2 (crease_aside settings range)
       (marked_aside said.asked.0 said.shown.finished.layout (lengths_in (used said.shown.finished.certificates).x)
       (subst (λ (t : Task). HasShortLines
@@ -137,36 +145,303 @@ crease_tasked settings range = record {
   refuses = λ bytes answer why. inr why;
 }
 
-pub coarse_tasked : (settings : Settings) → AreInRange settings false
+pub coarse_tasked : {settings : Settings} → AreInRange settings false
     → IsTasked (commands.Coarse settings) (AsksToMerge settings)
-coarse_tasked settings range = record {
+coarse_tasked {settings} range = record {
   writes = λ bytes text said. said;
-  read = λ bytes text said read. task_reread (AsksToMerge settings) bytes text said
-      (named_task (codes "coarse") settings said.asked.0) said.asked.2 (coarse_aside settings range) none_aside read;
+  read = λ bytes text said read. task_reread {asks = AsksToMerge settings} said
+      (named_task (codes "coarse") settings said.asked.0) said.asked.2 (coarse_aside settings range)
+      none_aside read;
   refuses = λ bytes answer why. why;
 }
 
-module _ (asks : Asks) (bytes : Bytes) (soup read : FaceSet) (same : soup ≡ read) (task : Task)
-    (asked : asks bytes soup task) (result : Result (Unit {0}) Refusal) where
-  -- What is done for a task is done for whoever asks for it.
-  pub asked_done : (out : Change) → OnOk result (WroteText (ShowsTask task soup) out)
-      → OnOk result (WroteText (ShowsAsked asks bytes read) out)
-  asked_done out done = subst (λ (s : FaceSet). OnOk result (WroteText (ShowsAsked asks bytes s) out)) same
-      (on_ok_weaker result (λ (wrote : WroteText (ShowsTask task soup) out). record {
-        text = wrote.text;
-        said = (task, asked, wrote.said);
-        written = wrote.written;
-      }) done)
+-- What is done and what is refused for a task is so for whoever asks for it.
+pub asked_ends : {O : Type 0} (asks : Asks) {soup read : FaceSet} → soup ≡ read → (task : Task)
+    → ((bytes : Bytes) → asks bytes soup task) → (result : Result (Unit {0}) Refusal) (out : Stream O)
+    → OnOk result (WroteText (ShowsTask task soup) out.change)
+    → IfErr result (IsUnwritten (ShowsTask task soup) (IsOfLayout (FailsTask task soup)) out)
+    → record {
+      done : (bytes : Bytes) → OnOk result (WroteText (ShowsAsked asks bytes read) out.change);
+      refused : (bytes : Bytes)
+          → IfErr result (IsUnwritten (ShowsAsked asks bytes read) (IsOfLayout (FailsAsked asks bytes read)) out);
+    }
+asked_ends asks {soup} same task asked result out done refused = record {
+  done = λ bytes. subst (λ (s : FaceSet). OnOk result (WroteText (ShowsAsked asks bytes s) out.change)) same
+      (on_ok_weaker result (λ (wrote : WroteText (ShowsTask task soup) out.change).
+      record { text = wrote.text; said = (task, asked bytes, wrote.said); written = wrote.written }) done);
+  refused = λ bytes. subst (λ (s : FaceSet). IfErr result (IsUnwritten (ShowsAsked asks bytes s)
+      (IsOfLayout (FailsAsked asks bytes s)) out)) same
+      (IfErr-weaker result _ _ (unwritten_weaker (ShowsTask task soup) (ShowsAsked asks bytes soup)
+      (FailsTask task soup) (FailsAsked asks bytes soup) out (λ text shown. (task, asked bytes, shown))
+      (λ fail fails. (task, asked bytes, fails))) refused);
+}
 
-  -- So is what is refused.
-  pub asked_refused : {O : Type 0} (out : Stream O)
-      → IfErr result (IsUnwritten (ShowsTask task soup) (IsOfLayout (FailsTask task soup)) out)
-      → IfErr result (IsUnwritten (ShowsAsked asks bytes read) (IsOfLayout (FailsAsked asks bytes read)) out)
-  asked_refused out refused =
-      subst (λ (s : FaceSet). IfErr result (IsUnwritten (ShowsAsked asks bytes s) (IsOfLayout (FailsAsked asks bytes s))
-      out)) same
-      (IfErr-weaker result _ _
-      (unwritten_weaker (ShowsTask task soup) (ShowsAsked asks bytes soup) (FailsTask task soup)
-      (FailsAsked asks bytes soup) out
-      (λ text shown. (task, asked, shown)) (λ fail fails. (task, asked, fails)))
-      refused)
+-- ---- The task of a mesh with marks.
+
+module _ (bytes : Bytes) (cut : CutSoup) {read : FaceSet} {marks given : List Bool} (copied : marks ≡ given)
+    (said : marks_in bytes read ≡ Ok given) (same : cut.soup ≡ read)
+    (chosen : IsChosenLayout cut.soup.faces (Some marks) Traced cut.layout) where
+  asked_so : (settings : Settings) → AsksToCrease settings bytes cut.soup (creased_task settings cut.soup.faces marks)
+  asked_so settings = (
+    marks,
+    subst (λ (s : FaceSet). marks_in bytes s ≡ Ok marks) (sym same) (said ∙ ap Ok (sym copied)),
+    refl,
+  )
+
+  marked_on : IsCutLayout cut.soup.faces (marked_cut cut.soup.faces marks) cut.layout
+  marked_on = subst (λ (edges : List Bool). IsCutLayout cut.soup.faces edges cut.layout) chosen.1 chosen.2
+
+  -- What is kept of it is written for its task.
+  pub creased_shown : (settings : Settings) (framed : Framed) → IsMeshLayout cut.soup.faces cut.layout
+      → framed.remesh.terms ≡ record { settings = settings; rising = Never }
+      → IsKept old_lengths cut.layout settings Never (certificates_of framed.remesh.certs) framed.remesh.numbering
+      → framed.head.items ≡ named_head (codes "crease") settings ++ 10 ∷ []
+      → framed.between.items ≡ marked_text marks cut.layout (lengths_in (used (certificates_of framed.remesh.certs)).x)
+      → framed.shares ≡ None
+      → ShowsAsked (AsksToCrease settings) bytes read (framed_text framed cut.soup cut.layout)
+  creased_shown settings framed laid is kept head between even =
+      rw (← same) (
+        creased_task settings cut.soup.faces marks,
+        asked_so settings,
+        framed_shown (creased_task settings cut.soup.faces marks) framed cut.soup cut.layout laid marked_on is kept head
+            between even,
+      )
+
+  -- Where its layout is refused its task fails.
+  pub creased_fails : (settings : Settings) (fail : LayoutFail)
+      → IsLayoutFail old_lengths cut.layout settings Never fail → FailsAsked (AsksToCrease settings) bytes read fail
+  creased_fails settings fail why = subst (λ (s : FaceSet). FailsAsked (AsksToCrease settings) bytes s fail) same
+      (creased_task settings cut.soup.faces marks, asked_so settings, (cut.layout, marked_on, why))
+
+-- What a command does that asks for a task where its wishes are not too great: it writes it finished, so that it is
+-- read again, or refuses it; a network that is too tangled comes before wishes that are too great.
+pub record IsAimed (command : Command) (aim : Aim) (asks near : Asks) : Type 0 where
+  pub writes : (bytes text : Bytes) → WritesFinished near bytes text → Writes command bytes text
+  pub read : (bytes text : Bytes) (said : WritesFinished near bytes text) → IsReadAside near bytes text said
+      → Rereads command bytes text (writes bytes text said)
+  pub tangled : (bytes : Bytes) (count : ℕ) → RefusesTask asks bytes (answers.Tangled count)
+      → Refuses command bytes (answers.Tangled count)
+  pub far : (bytes : Bytes) (soup : FaceSet) (sum : ℕ) → IsMeshText bytes soup → IsFarTask aim asks bytes soup sum
+      → Refuses command bytes (answers.Far sum)
+  pub refuses : (bytes : Bytes) (answer : Answer) → IsSettled answer → RefusesTask near bytes answer
+      → Refuses command bytes answer
+
+-- What such a command keeps that has read a mesh.
+pub aimed_writer : {command : Command} {aim : Aim} {asks near : Asks} {input out : Change} {soup : FaceSet}
+    → TakesMesh command → IsAimed command aim asks near → IsManifold soup.faces
+    → (read : ReadSoup MAX_BYTES input.told input.told_now soup) → input.faults_now ≡ input.faults
+    → IsWriter command (ShowsAsked near read.bytes soup)
+    (IsOfWishes (FailsNear asks near read.bytes soup) (IsFarTask aim asks read.bytes soup)) input out
+aimed_writer {command} {aim} {asks} {near} {input} {out} {soup} takes aimed manifold read calm = record {
+  bytes = read.bytes;
+  whole = (needs command takes).reads input read.bytes read.whole;
+  calm = calm;
+  writes = λ text shows. aimed.writes read.bytes text (finished_of mesh shows);
+  read = λ text shows. aimed.read read.bytes text (finished_of mesh shows) shows.2.read;
+  ends = ends;
+}
+  where
+    mesh : IsMeshText read.bytes soup
+    mesh = record { said = read.said; manifold = manifold }
+
+    refused : (answer : Answer) → Refuses command read.bytes answer → Refused command input answer
+    refused answer said =
+        record { bytes = read.bytes; whole = (needs command takes).reads input read.bytes read.whole; said = said }
+
+    refuses : (fail : LayoutFail) → FailsNear asks near read.bytes soup fail
+        → Cause command input out (answer_of_layout fail)
+    refuses layouts.Memory why = tt
+    refuses (layouts.Tangled count) why = refused (answers.Tangled count)
+        (aimed.tangled read.bytes count (asked_refuses asks (layouts.Tangled count) (λ e. cc) mesh why))
+    refuses fail why = refused (answer_of_layout fail)
+        (aimed.refuses read.bytes (answer_of_layout fail) tt (asked_refuses near fail (λ e. cc) mesh why))
+
+    ends : (r : Refusal) → IsOfWishes (FailsNear asks near read.bytes soup) (IsFarTask aim asks read.bytes soup) r
+        → Ended command input out r
+    ends (Far sum) far = ended tt (refused (answers.Far sum) (aimed.far read.bytes soup sum mesh far)) calm
+    ends r why = layout_ends {fails = FailsNear asks near read.bytes soup} calm refuses r why
+
+-- A task that is asked for of a cut mesh, and asked for as it is where its wishes are not too great.
+pub record IsAimedAt (aim : Aim) (asks near : Asks) (bytes : Bytes) (cut : CutSoup) (task : Task) : Type 0 where
+  pub asked : asks bytes cut.soup task
+  pub on : IsCutLayout cut.soup.faces task.marks cut.layout
+  pub nearly : AreAimedNear aim task.wish cut.layout → near bytes cut.soup task
+
+module _ {aim : Aim} {asks near : Asks} {bytes : Bytes} {cut : CutSoup} {task : Task} {read : FaceSet}
+    (is : IsAimedAt aim asks near bytes cut task) (same : cut.soup ≡ read) where
+  -- What is kept of a layout is written for it.
+  pub aimed_shown : (framed : Framed) → IsMeshLayout cut.soup.faces cut.layout → AreAimedNear aim task.wish cut.layout
+      → framed.remesh.terms ≡ record { settings = task.settings; rising = task.rising }
+      → IsKept task.wish cut.layout task.settings task.rising (certificates_of framed.remesh.certs)
+      framed.remesh.numbering
+      → framed.head.items ≡ task.head ++ 10 ∷ []
+      → framed.between.items ≡ task.between cut.layout (lengths_in (used (certificates_of framed.remesh.certs)).x)
+      → framed.shares ≡ task.shares
+      → ShowsAsked near bytes read (framed_text framed cut.soup cut.layout)
+  aimed_shown framed laid close terms kept head between shares =
+      rw (← same) (
+        task,
+        is.nearly close,
+        framed_shown task framed cut.soup cut.layout laid is.on terms kept head between shares,
+      )
+
+  fails_for : {O : Type 0} (says : Bytes → Type 0) (out : Stream O) → IsStill out → (fail : SizeFail)
+      → IsFitFail aim task.wish cut.layout task.settings task.rising fail
+      → IsUnwritten says (IsOfWishes (FailsNear asks near bytes cut.soup) (IsFarTask aim asks bytes cut.soup)) out
+      (refusal_of_size fail)
+  fails_for says out still (sizes.Far sum) why = (
+    still,
+    record {
+      task = task;
+      asked = is.asked;
+      layout = cut.layout;
+      cut = is.on;
+      unbounded = why.0;
+      far = why.1;
+    },
+  )
+  fails_for says out still (sizes.Layout (layouts.Tangled count)) why =
+      (still, (task, is.asked, (cut.layout, is.on, why)))
+  fails_for says out still (sizes.Layout layouts.Memory) why = (still, tt)
+  fails_for says out still (sizes.Layout _) (close, why) = (still, (task, is.nearly close, (cut.layout, is.on, why)))
+
+  -- It is not written where a layout has no least lengths for its wishes, or none that give a new mesh.
+  pub aimed_fails : {O : Type 0} (says : Bytes → Type 0) (out : Stream O) → IsStill out → (fail : SizeFail)
+      → IsFitFail aim task.wish cut.layout task.settings task.rising fail
+      → IsUnwritten says (IsOfWishes (FailsNear asks near bytes read) (IsFarTask aim asks bytes read)) out
+      (refusal_of_size fail)
+  aimed_fails says out still fail why =
+      subst (λ (s : FaceSet). IsUnwritten says (IsOfWishes (FailsNear asks near bytes s) (IsFarTask aim asks bytes s))
+      out (refusal_of_size fail)) same (fails_for says out still fail why)
+
+-- The cut of a cut mesh is that of a manifold; wishes that are not too great for its layout are so for each layout of
+-- it, as there is one.
+manifold_of : (cut : CutSoup) → IsMeshLayout cut.soup.faces cut.layout → IsManifold cut.soup.faces
+manifold_of cut laid = subst IsManifold laid.1 laid.0.mesh.manifold
+
+near_on : (aim : Aim) (wish : Wish) (cut : CutSoup) (edges : List Bool) → IsMeshLayout cut.soup.faces cut.layout
+    → IsFullCut cut.soup.faces edges → IsCutLayout cut.soup.faces edges cut.layout → AreAimedNear aim wish cut.layout
+    → (other : Layout) → IsCutLayout cut.soup.faces edges other → AreAimedNear aim wish other
+near_on aim wish cut edges laid full on near other also = subst (AreAimedNear aim wish)
+    (one_layout_law cut.soup.faces edges (manifold_of cut laid) full cut.layout other on also) near
+
+-- ---- `fit`.
+
+pub fit_aimed : {fit : AnyFit} → IsFit fit → IsAimed (Fit fit) fit.aim (AsksToFit fit) (AsksForNearFit fit)
+fit_aimed {fit} is = record {
+  writes = λ bytes text said. said;
+  read = λ bytes text said read short.
+      let asked = said.asked.0 in
+      let new = lengths_in (used said.shown.finished.certificates).x in
+      task_reread {asks = AsksForNearFit fit} said (fit_task fit said.soup asked.0 asked.1) asked.4
+      (fit_aside fit is)
+      (kept_aside asked.0.kept said.shown.finished.layout new
+      (subst (λ (t : Task). HasShortLines (t.between said.shown.finished.layout new)) asked.4 short))
+      read;
+  tangled = λ bytes count why. why;
+  far = λ bytes soup sum mesh far. record {
+    task = far.task;
+    layout = far.layout;
+    asked = record { soup = soup; mesh = mesh; asked = far.asked; cut = far.cut };
+    unbounded = far.unbounded;
+    far = far.far;
+  };
+  refuses = refuses;
+}
+  where
+    -- The lines behind the new mesh are passed over.
+    kept_aside : (kept : Option (List Bool)) (layout : Layout) (new : Lengths)
+        → HasShortLines (kept_text kept layout new) → IsAside (kept_text kept layout new)
+    kept_aside None layout new short = none_aside
+    kept_aside (Some marks) layout new short = marked_aside marks layout new short
+
+    refuses : (bytes : Bytes) (answer : Answer) → IsSettled answer → RefusesTask (AsksForNearFit fit) bytes answer
+        → Refuses (Fit fit) bytes answer
+    refuses bytes (answers.Far sum) settled why = absurd settled
+    refuses bytes (answers.Tangled count) settled why = absurd settled
+    refuses bytes _ settled why = inr why
+
+-- The task that it asks for over a chosen cut, where this was read beside the mesh.
+module _ (fit : AnyFit) (bytes : Bytes) (cut : CutSoup) (asides : Asides) {read : FaceSet} {given : Asides}
+    (kept : asides.kept ≡ given.kept) (wishes : asides.wishes ≡ given.wishes)
+    (said : asides_in fit bytes read ≡ Ok given) (each : AreKeptMarks read.faces given.kept) (same : cut.soup ≡ read)
+    (laid : IsMeshLayout cut.soup.faces cut.layout)
+    (chosen : IsChosenLayout cut.soup.faces asides.kept fit.patches cut.layout) where
+  parts : asides ≡ given
+  parts i = record { kept = kept i; wishes = wishes i }
+
+  full : IsFullCut cut.soup.faces chosen.0
+  full = chosen_cut_law cut.soup.faces asides.kept fit.patches chosen.0 (manifold_of cut laid)
+      (rw (same, kept) each) chosen.1
+
+  pub fit_at : IsFullCut cut.soup.faces chosen.0 × IsAimedAt fit.aim (AsksToFit fit) (AsksForNearFit fit) bytes cut
+      (fit_task fit cut.soup asides chosen.0)
+  fit_at = (
+    full,
+    record {
+      asked = asked;
+      on = chosen.2;
+      nearly = λ near. (
+        asked,
+        near_on fit.aim (fit_task fit cut.soup asides chosen.0).wish cut chosen.0 laid full
+            chosen.2 near,
+      );
+    },
+  )
+    where
+      asked : AsksToFit fit bytes cut.soup (fit_task fit cut.soup asides chosen.0)
+      asked = (
+        asides,
+        chosen.0,
+        subst (λ (s : FaceSet). asides_in fit bytes s ≡ Ok asides) (sym same) (said ∙ ap Ok (sym parts)),
+        chosen.1,
+        refl,
+      )
+
+-- ---- `size`.
+
+-- Why a layout is not remeshed with edges of a given length, as the failure of an aim.
+pub size_fail_as : (edge : ℤ) (wish : Wish) (layout : Layout) (floor : ℕ) (fail : SizeFail)
+    → IsSizeFail wish layout floor fail → IsFitFail (Edge edge) wish layout (edge_settings floor) Never fail
+size_fail_as edge wish layout floor (sizes.Far sum) far =
+    (λ (near : AreNear wish layout). absurd (omega (arith, near, far.told, far.high)), far)
+size_fail_as edge wish layout floor (sizes.Layout layouts.Memory) why = tt
+size_fail_as edge wish layout floor (sizes.Layout _) why = why
+
+pub size_aimed : {edge : ℤ} {floor : ℕ} → unsigned_abs edge ≤ 999_999_999_999_999 → floor < 2 ^ 64
+    → IsAimed (Size edge floor) (Edge edge) (AsksForSize edge floor) (AsksForNearSize edge floor)
+size_aimed {edge} {floor} near few = record {
+  writes = λ bytes text said. said;
+  read = λ bytes text said read. task_reread {asks = AsksForNearSize edge floor} said
+      (size_task edge floor said.soup) said.asked.0 (size_aside edge near floor few) none_aside read;
+  tangled = λ bytes count why. why;
+  far = λ bytes soup sum mesh far. record {
+    soup = soup;
+    mesh = mesh;
+    layout = far.layout;
+    cut = subst (λ (t : Task). IsCutLayout soup.faces t.marks far.layout) far.asked far.cut;
+    far = subst (λ (t : Task). IsFar t.wish far.layout t.settings sum) far.asked far.far;
+  };
+  refuses = refuses;
+}
+  where
+    refuses : (bytes : Bytes) (answer : Answer) → IsSettled answer
+        → RefusesTask (AsksForNearSize edge floor) bytes answer → Refuses (Size edge floor) bytes answer
+    refuses bytes (answers.Far sum) settled why = absurd settled
+    refuses bytes (answers.Tangled count) settled why = absurd settled
+    refuses bytes _ settled why = why
+
+-- Its task is asked for: the motorcycle graph has one layout.
+pub size_at : (edge : ℤ) (floor : ℕ) (bytes : Bytes) (cut : CutSoup) → IsMeshLayout cut.soup.faces cut.layout
+    → IsTracedLayout cut.soup.faces cut.layout
+    → IsAimedAt (Edge edge) (AsksForSize edge floor) (AsksForNearSize edge floor) bytes cut
+    (size_task edge floor cut.soup)
+size_at edge floor bytes cut laid traced = record {
+  asked = refl;
+  on = traced;
+  nearly = λ near. (
+    refl,
+    near_on (Edge edge) (soup_targets edge cut.soup) cut (traced_marks cut.soup.faces) laid
+        (graph_law cut.soup.faces (manifold_of cut laid)).1 traced near,
+  );
+}

@@ -1,27 +1,313 @@
--- What a run keeps, by how far it came.
-use Rattle.std.proofs.Common.{◌≡◌, ◌≢◌, ◌⊎◌, ℕ, List, [], Result, Ok, Err, sym, ◌∙◌, subst, refl, inl, inr}
-use Rattle.def_io.specs.{Bytes.Bytes, Moves.Change, Moves.IsStill, Moves.Stream}
-use Rattle.def_text.specs.Types.{Words}
-use Rattle.def_run.specs.{Causes.Cause, CommandLines.IsCommand, ErrorLines.error_line, Exits.RunsTo, Messages.Said}
-use Rattle.def_run.specs.{declared.answer.Answer.Answer, declared.command.Command.Command}
-use Rattle.def_run.specs.{declared.command.Command.TheVariants.Bench, declared.words.WordsFail.WordsFail}
+-- What a run keeps: bytes that a command takes are not refused, and one that solves finds least lengths.
+use Rattle.std.proofs.Common.{Err, List, None, Ok, Result, Some, [], ap, arith, inl, inr, length, length-append, refl}
+use Rattle.std.proofs.Common.{subst, sym, ℕ, ℤ, ◌++◌, ◌∙◌, ◌≡◌, ◌≢◌, ◌≤◌, ◌⊎◌}
+use Rattle.std.proofs.lemmas.List.{append-nil}
+use Rattle.def_certtext.specs.{declared.certs.Rising.Rising, declared.certs.Rising.TheVariants.Never}
+use Rattle.def_fit.specs.{FitTasks.asides_in, FitTasks.kept_in, declared.fit.Fit.Fit as AnyFit}
+use Rattle.def_flow.specs.declared.net.Settings.{Settings}
+use Rattle.def_io.specs.Moves.{Change, GaveMore, IsEmptied, IsStill, Stream, gave}
+use Rattle.def_io.specs.{Bytes.Bytes, Bytes.Told, Faults.Rose}
+use Rattle.def_layout.specs.Layouts.{Layout}
+use Rattle.def_marks.specs.{Lines.marks_in, declared.fail.MarkFail.MarkFail}
+use Rattle.def_mesh.specs.Manifold.{IsManifold}
+use Rattle.def_patches.specs.declared.Keep.{Keep}
+use Rattle.def_remesh.specs.Tasks.{Task, Wish, old_lengths}
+use Rattle.def_remesh.specs.{Refusals.IsRemeshable, Refusals.IsTangledAt}
+use Rattle.def_run.specs.Bench.{RefusesToBench, bench_faces, bench_settings}
+use Rattle.def_run.specs.Causes.{Cause, FailsToRead, IsGood, Reads, ReadsTooMany, Refuses, SourceHolds, Takes}
+use Rattle.def_run.specs.Crease.{HasMarkFail, HasMarks, RefusesMarks}
+use Rattle.def_run.specs.Fit.{AsksForNearFit, AsksToFit, HasAsideFail, HasNearAsides, HasNearWishes, RefusesFit}
+use Rattle.def_run.specs.LayOut.{HasKept, HasKeptFail, RefusesToLayOut}
+use Rattle.def_run.specs.Remesh.{Asks, HasFinished, HasTask, HoldsUntangled, IsSettled, IsTracedLayout, RefusesLayout}
+use Rattle.def_run.specs.Remesh.{RefusesTask}
+use Rattle.def_run.specs.Size.{AsksForNearSize, AsksForSize, HasNearTargets, RefusesSize}
+use Rattle.def_run.specs.declared.answer.Answer.TheVariants.{Done, Doubled, Far, Limit, Memory, NotEdge, NotManifold}
+use Rattle.def_run.specs.declared.answer.Answer.TheVariants.{NotQuad, Range, ReadFault, Syntax, Tangled, TooFine, Usage}
+use Rattle.def_run.specs.declared.answer.Answer.TheVariants.{WriteFault}
+use Rattle.def_run.specs.declared.command.Command.TheVariants.{Bench, Blocks, Check, Coarse, Crease, Fit, Graph, Grids}
+use Rattle.def_run.specs.declared.command.Command.TheVariants.{LayOut, Map, Refine, Remesh, Size, Tidy}
+use Rattle.def_run.specs.{CommandLines.IsCommand, ErrorLines.error_line, Exits.RunsTo, Exits.WasShort, Mesh.IsMeshText}
+use Rattle.def_run.specs.{Mesh.IsNoMesh, Messages.Said, Solving.IsUntangled, declared.answer.Answer.Answer}
+use Rattle.def_run.specs.{declared.command.Command.Command, declared.words.WordsFail.WordsFail}
+use Rattle.def_text.specs.{FaceSet.FaceSet, Types.Words, declared.limits.TheConstants.MAX_BYTES}
+use Rattle.def_text.specs.{declared.refusal.ObjFail.ObjFail, declared.refusal.Which.TheVariants.Bytes as AllBytes}
+use Rattle.qm_top.proofs.{Mapped.accepted_not_refused, Refusals.says_why, Refusals.says_words}
+use Rattle.qm_top.specs.Refusals.{Ended, Finished, answer_of, answer_of_words, names_of}
+use Rattle.qm_top.specs.declared.refusal.Refusal.{Refusal}
+use Rattle.remesh_laws.proofs.{Fits.fits_not_doubled, Fits.fits_not_fine}
+use Rattle.def_marks.specs.declared.fail.MarkFail.TheVariants as marks
 use Rattle.def_run.specs.declared.answer.Answer.TheVariants as answers
 use Rattle.def_run.specs.declared.words.WordsFail.TheVariants as words_fail
-use Rattle.qm_top.specs.Refusals.{answer_of, answer_of_words, names_of, Ended, Finished}
-use Rattle.qm_top.specs.declared.refusal.Refusal.{Refusal}
-use Rattle.qm_top.proofs.Complete.{completes_as, not_accepted, not_read, same_command}
-use Rattle.qm_top.proofs.{Refusals.says_why, Refusals.says_words, Settled.settles_as}
+
+-- ---- What is refused of a mesh.
+
+-- Bytes have one soup.
+one_soup : {bytes : Bytes} {a b : FaceSet} → IsMeshText bytes a → IsMeshText bytes b → a ≡ b
+one_soup {a = a} {b = b} one two =
+    let both : ◌≡◌ {A = Result FaceSet ObjFail} (Ok a) (Ok b) = sym one.said ∙ two.said in cc
+
+-- Bytes that have a mesh have no refusal of one.
+mesh_not_refused : {bytes : Bytes} {soup : FaceSet} (answer : Answer) → IsMeshText bytes soup → IsNoMesh bytes answer
+    → ⊥
+mesh_not_refused (Syntax line) mesh none = cc (mesh.said, none)
+mesh_not_refused (NotQuad line corners) mesh none = cc (mesh.said, none)
+mesh_not_refused (Range line) mesh none = cc (mesh.said, none)
+mesh_not_refused (Limit which line) mesh none = cc (mesh.said, none)
+mesh_not_refused {soup = soup} (NotManifold place) mesh none =
+    let both : ◌≡◌ {A = Result FaceSet ObjFail} (Ok soup) (Ok none.soup) = sym mesh.said ∙ none.said in
+    let same : soup ≡ none.soup = cc in
+    none.refuted (subst (λ (s : FaceSet). IsManifold s.faces) same mesh.manifold)
+mesh_not_refused _ mesh none = absurd none
+
+-- A line beside a mesh is refused for a fail of this kind.
+abbrev ByLine : (fails : MarkFail → Type 0) (answer : Answer) → Type 0
+ByLine fails (Syntax line) = fails (marks.Syntax line)
+ByLine fails (Range line) = fails (marks.Range line)
+ByLine fails (NotEdge line) = fails (marks.NotEdge line)
+ByLine fails _ = ⊥
+
+by_line : (fails : MarkFail → Type 0) (answer : Answer) → ((fail : MarkFail) → fails fail → ⊥) → ByLine fails answer → ⊥
+by_line fails (Syntax line) never none = never (marks.Syntax line) none
+by_line fails (Range line) never none = never (marks.Range line) none
+by_line fails (NotEdge line) never none = never (marks.NotEdge line) none
+by_line fails _ never none = absurd none
+
+-- Lines that are read are not refused.
+read_lines : {A : Type 0} {bytes : Bytes} {a b : FaceSet} {read : A} {fail : MarkFail}
+    (lines : FaceSet → Result A MarkFail) → IsMeshText bytes a → IsMeshText bytes b → lines a ≡ Ok read
+    → lines b ≡ Err fail → ⊥
+read_lines lines one two said none = cc (ap lines (one_soup one two), said, none)
+
+marks_not_refused : {bytes : Bytes} (answer : Answer) → HasMarks bytes → RefusesMarks bytes answer → ⊥
+marks_not_refused {bytes} answer has =
+    by_line (HasMarkFail bytes) answer (λ fail none. read_lines (marks_in bytes) has.mesh none.mesh has.said none.said)
+
+lay_out_not_refused : {keep : Keep} {bytes : Bytes} (answer : Answer) → HasKept keep bytes
+    → RefusesToLayOut keep bytes answer → ⊥
+lay_out_not_refused answer has (inl none) = mesh_not_refused answer has.mesh none
+lay_out_not_refused {keep} {bytes} answer has (inr why) = by_line (HasKeptFail keep bytes) answer
+    (λ fail none. read_lines (kept_in keep bytes) has.mesh none.mesh has.said none.said) why
+
+-- ---- What a refusal of a task says of the answer, where its layouts say so.
+
+task_says : {asks : Asks} {bytes : Bytes} {soup : FaceSet} (Says : Answer → Type 0) (answer : Answer)
+    → IsMeshText bytes soup → ((task : Task) (layout : Layout) → HasTask asks bytes task layout
+    → RefusesLayout task.wish layout task.settings task.rising answer → Says answer) → RefusesTask asks bytes answer
+    → Says answer
+task_says Says answer mesh each (inl none) = absurd (mesh_not_refused answer mesh none)
+task_says Says answer mesh each (inr (task, layout, has, why)) = each task layout has why
+
+-- A layout that is remeshed whatever least lists are kept is not refused.
+layout_not_refused : (wish : Wish) (settings : Settings) (rising : Rising) (layout : Layout) (answer : Answer)
+    → IsRemeshable wish layout settings rising → RefusesLayout wish layout settings rising answer → ⊥
+layout_not_refused wish settings rising layout (Tangled count) fits why = fits.untangled count why
+layout_not_refused wish settings rising layout (TooFine faces kept) fits why =
+    fits_not_fine wish layout settings rising faces kept fits why
+layout_not_refused wish settings rising layout (Doubled u v cert) fits why =
+    fits_not_doubled wish layout settings rising u v cert fits why
+layout_not_refused wish settings rising layout _ fits why = absurd why
+
+-- One that is not too tangled is refused for its least lengths alone.
+layout_settles : (wish : Wish) (settings : Settings) (rising : Rising) (layout : Layout) (answer : Answer)
+    → ((count : ℕ) → ¬ IsTangledAt wish layout settings count)
+    → RefusesLayout wish layout settings rising answer → IsSettled answer
+layout_settles wish settings rising layout (Tangled count) fits why = absurd (fits count why)
+layout_settles wish settings rising layout (TooFine faces kept) fits why = tt
+layout_settles wish settings rising layout (Doubled u v cert) fits why = tt
+layout_settles wish settings rising layout _ fits why = absurd why
+
+task_not_refused : {asks : Asks} {bytes : Bytes} (answer : Answer) → HasFinished asks bytes
+    → RefusesTask asks bytes answer → ⊥
+task_not_refused {asks} answer takes = task_says {asks = asks} (λ a. ⊥) answer takes.mesh (λ task layout has.
+    layout_not_refused task.wish task.settings task.rising layout answer (takes.fits task layout has))
+
+task_settles : {asks : Asks} {left : Told} (held : HoldsUntangled asks left) (answer : Answer)
+    → RefusesTask asks held.bytes answer → IsSettled answer
+task_settles {asks} held answer = task_says {asks = asks} IsSettled answer held.mesh (λ task layout has.
+    layout_settles task.wish task.settings task.rising layout answer (held.untangled task layout has))
+
+-- What is refused of what is asked for under a condition is refused of all that is asked for.
+near_refused : {bytes : Bytes} (asks near : Asks) (answer : Answer)
+    → ((soup : FaceSet) (task : Task) → near bytes soup task → asks bytes soup task) → RefusesTask near bytes answer
+    → RefusesTask asks bytes answer
+near_refused asks near answer more (inl none) = inl none
+near_refused asks near answer more (inr (task, layout, has, why)) = inr (
+  task,
+  layout,
+  record { soup = has.soup; mesh = has.mesh; asked = more has.soup task has.asked; cut = has.cut },
+  why,
+)
+
+-- Targets that are not too great are refused for what is asked of them alone.
+size_says : (Says : Answer → Type 0) (edge : ℤ) (floor : ℕ) {bytes : Bytes} {soup : FaceSet} (answer : Answer)
+    → IsMeshText bytes soup → HasNearTargets edge soup
+    → (RefusesTask (AsksForSize edge floor) bytes answer → Says answer) → RefusesSize edge floor bytes answer
+    → Says answer
+size_says Says edge floor (Far sum) mesh near says is =
+    let here : HasNearTargets edge is.soup = subst (HasNearTargets edge) (one_soup mesh is.mesh) near in
+    absurd (omega (arith, here is.layout is.cut, is.far.told, is.far.high))
+size_says Says edge floor (Tangled count) mesh near says why = says why
+size_says Says edge floor answer mesh near says why =
+    says (near_refused (AsksForSize edge floor) (AsksForNearSize edge floor) answer (λ soup task near. near.0) why)
+
+-- So are wishes that are not too great, with lines beside the mesh that are not refused.
+fit_says : (Says : Answer → Type 0) {fit : AnyFit} {bytes : Bytes} (answer : Answer) → HasNearAsides fit bytes
+    → (RefusesTask (AsksToFit fit) bytes answer → Says answer) → RefusesFit fit bytes answer → Says answer
+fit_says Says {fit} {bytes} (Far sum) has says is =
+    let same = one_soup has.mesh is.asked.mesh in
+    let near : (task : Task) → AsksToFit fit bytes is.asked.soup task → HasNearWishes fit.aim is.asked.soup task =
+    subst (λ (s : FaceSet). (task : Task) → AsksToFit fit bytes s task → HasNearWishes fit.aim s task) same has.near in
+    absurd (is.unbounded (near is.task is.asked.asked is.layout is.asked.cut))
+fit_says Says (Tangled count) has says why = says why
+fit_says Says {fit} {bytes} answer has says why = elim why [
+  | inl lines ↦ absurd (by_line (HasAsideFail fit bytes) answer
+      (λ fail none. read_lines (asides_in fit bytes) has.mesh none.mesh has.said none.said) lines)
+  | inr task ↦ says (near_refused (AsksToFit fit) (AsksForNearFit fit) answer (λ soup task near. near.0) task)
+]
+
+-- A mesh of a size that is a manifold is refused for its layouts alone.
+bench_says : (Says : Answer → Type 0) (size : ℕ) (answer : Answer) → IsManifold (bench_faces size)
+    → ((layout : Layout) → IsTracedLayout (bench_faces size) layout
+    → RefusesLayout old_lengths layout bench_settings Never answer → Says answer) → RefusesToBench size answer
+    → Says answer
+bench_says Says size (NotManifold place) manifold each why = absurd (why.1 manifold)
+bench_says Says size _ manifold each (layout, cut, why) = each layout cut why
+
+-- ---- How a command ends.
+
+-- No command both takes bytes and refuses them.
+not_both : (command : Command) (bytes : Bytes) (answer : Answer) → Takes command bytes → Refuses command bytes answer
+    → ⊥
+not_both Tidy bytes answer takes why = mesh_not_refused answer takes.mesh why
+not_both Graph bytes answer takes why = mesh_not_refused answer takes.mesh why
+not_both (Refine by) bytes (TooFine faces kept) takes (layout, cut, fine) =
+    absurd (omega (arith, fine.counted, fine.many, takes.fits layout cut))
+not_both (Refine by) bytes answer takes why = mesh_not_refused answer takes.mesh why
+not_both (Remesh settings auto) bytes answer takes why = task_not_refused answer takes why
+not_both Check bytes answer takes why = accepted_not_refused bytes answer takes why
+not_both (Bench size) bytes answer takes why = bench_says (λ a. ⊥) size answer takes.manifold
+    (λ layout cut. layout_not_refused old_lengths bench_settings Never layout answer (takes.fits layout cut)) why
+not_both (Crease settings) bytes answer takes (inl none) = marks_not_refused answer takes.marks none
+not_both (Crease settings) bytes answer takes (inr why) = task_not_refused answer takes.finished why
+not_both (Size edge floor) bytes answer takes why =
+    size_says (λ a. ⊥) edge floor answer takes.finished.mesh takes.near (task_not_refused answer takes.finished) why
+not_both (Coarse settings) bytes answer takes why = task_not_refused answer takes why
+not_both (Blocks by) bytes (TooFine faces kept) takes (layout, cut, fine) =
+    absurd (omega (arith, fine.counted, fine.many, takes.fits layout cut))
+not_both (Blocks by) bytes answer takes why = mesh_not_refused answer takes.mesh why
+not_both Map bytes answer takes why = why.1 takes
+not_both (Fit fit) bytes answer takes why =
+    fit_says (λ a. ⊥) answer takes.asides (task_not_refused answer takes.finished) why
+not_both (LayOut keep patches) bytes answer takes why = lay_out_not_refused answer takes why
+not_both (Grids keep patches by) bytes (TooFine faces kept) takes (layout, laid_out, fine) =
+    absurd (omega (arith, fine.counted, fine.many, takes.fits layout laid_out))
+not_both (Grids keep patches by) bytes answer takes why = lay_out_not_refused answer takes.has why
+
+-- What a source holds that is not too tangled is refused for its least lengths alone.
+solved : (command : Command) (left : Told) → IsUntangled command left → (bytes : Bytes)
+    × SourceHolds command left bytes × ((answer : Answer) → Refuses command bytes answer → IsSettled answer)
+solved (Remesh settings auto) left held = (held.bytes, (held.held, held.within), task_settles held)
+solved (Bench size) left held = (
+  [],
+  refl,
+  λ answer. bench_says IsSettled size answer held.manifold
+      (λ layout cut. layout_settles old_lengths bench_settings Never layout answer (held.untangled layout cut)),
+)
+solved (Crease settings) left held = (
+  held.holds.bytes,
+  (held.holds.held, held.holds.within),
+  λ answer. elim [
+    | inl none ↦ absurd (marks_not_refused answer held.marks none)
+    | inr why ↦ task_settles held.holds answer why
+  ],
+)
+solved (Size edge floor) left held = (
+  held.held.bytes,
+  (held.held.held, held.held.within),
+  λ answer. size_says IsSettled edge floor answer held.held.mesh held.near (task_settles held.held answer),
+)
+solved (Coarse settings) left held = (held.bytes, (held.held, held.within), task_settles held)
+solved (Fit fit) left held = (
+  held.held.bytes,
+  (held.held.held, held.held.within),
+  λ answer. fit_says IsSettled answer held.asides (task_settles held.held answer),
+)
+solved _ left held = absurd held
+
+-- What a source gave whole is what it held.
+same_bytes : (before now : Told) (bytes held : Bytes) → before ≡ Some held → before ≡ gave bytes now → IsEmptied now
+    → bytes ≡ held
+same_bytes before None bytes held told given end = let never : Some held ≡ None = sym told ∙ given in cc
+same_bytes before (Some rest) bytes held told given end =
+    let joined : Some (bytes ++ rest) ≡ Some held = sym given ∙ told in
+    let same : bytes ++ rest ≡ held = cc in
+    sym (append-nil bytes) ∙ ap (λ (xs : List ℕ). bytes ++ xs) (sym end) ∙ same
+
+same_read : (command : Command) (input : Change) (bytes held : Bytes) → Reads command input bytes
+    → SourceHolds command input.told held → bytes ≡ held
+same_read (Bench size) input bytes held read holds = read.1 ∙ sym holds
+same_read _ input bytes held read holds = same_bytes input.told input.told_now bytes held holds.0 read.given read.ended
+
+-- It did not give too many.
+not_too_long : (before now : Told) (held : Bytes) → before ≡ Some held → length held ≤ MAX_BYTES
+    → (more : GaveMore MAX_BYTES before now) → before ≡ gave more.piece now → ⊥
+not_too_long before None held told few more given = let never : Some held ≡ None = sym told ∙ given in cc
+not_too_long before (Some rest) held told few more given =
+    let joined : Some (more.piece ++ rest) ≡ Some held = sym given ∙ told in
+    let same : more.piece ++ rest ≡ held = cc in
+    absurd (omega (arith, ap length same, length-append more.piece rest, more.many, few))
+
+not_too_many : (command : Command) (input : Change) (held : Bytes) → SourceHolds command input.told held
+    → ReadsTooMany command input → ⊥
+not_too_many (Bench size) input held holds more = absurd more
+not_too_many _ input held holds more = not_too_long _ _ held holds.0 holds.1 more more.moved
+
+-- A fault of reading is one of the source.
+rose_if : (command : Command) (input : Change) → FailsToRead command input → Rose input.faults input.faults_now
+rose_if (Bench size) input fault = absurd fault
+rose_if _ input fault = fault
+
+-- A command ends as its refusals of what the source holds say, or memory is wanting or a stream failed.
+ends_so : (Says : Answer → Type 0) (command : Command) (input out : Change) (answer : Answer) (held : Bytes)
+    → SourceHolds command input.told held → Says Done
+    → ((refusal : Answer) → Refuses command held refusal → Says refusal) → Cause command input out answer
+    → Says answer ⊎ WasShort input out answer
+ends_so Says command input out Done held holds done says why = inl done
+ends_so Says command input out Usage held holds done says why = absurd why
+ends_so Says command input out (Limit AllBytes line) held holds done says why =
+    absurd (not_too_many command input held holds why.1)
+ends_so Says command input out ReadFault held holds done says why = inr (inr (inl (rose_if command input why)))
+ends_so Says command input out WriteFault held holds done says why = inr (inr (inr why.fault))
+ends_so Says command input out Memory held holds done says why = inr (inl refl)
+ends_so Says command input out answer held holds done says why =
+    inl (says answer (subst (λ (xs : Bytes). Refuses command xs answer)
+    (same_read command input why.bytes held why.whole holds) why.said))
+
+-- Good bytes are done.
+pub completes : (command : Command) (input out : Change) (answer : Answer) → Cause command input out answer
+    → IsGood command input.told → (answer ≡ Done) ⊎ WasShort input out answer
+completes command input out answer why good =
+    ends_so (λ a. a ≡ Done) command input out answer good.bytes good.held refl
+    (λ refusal bad. absurd (not_both command good.bytes refusal good.taken bad)) why
+
+-- A network that is not too tangled gets least lengths.
+pub settles : (command : Command) (input out : Change) (answer : Answer) → Cause command input out answer
+    → IsUntangled command input.told → IsSettled answer ⊎ WasShort input out answer
+settles command input out answer why held =
+    let found = solved command input.told held in
+    ends_so IsSettled command input out answer found.0 found.1 tt found.2 why
+
+-- What was read is what was said.
+same_command : (read other : Command) → (◌≡◌ {A = Result Command WordsFail} (Ok read) (Ok other))
+    ⊎ (Ok read ≡ Err words_fail.Memory) → other ≡ read
+same_command read other (inl is) = cc
+same_command read other (inr none) = absurd cc
 
 -- The answer to words is one of two.
-words_only : (fail : WordsFail) (answer : Answer) → answer ≡ answer_of_words fail → answer ≢ answers.Usage
-    → answer ≢ answers.Memory → ⊥
-words_only words_fail.Usage answer is usage memory = usage is
-words_only words_fail.Memory answer is usage memory = memory is
-
-not_done : (fail : WordsFail) (answer : Answer) → answer ≡ answer_of_words fail → answer ≡ answers.Done → ⊥
-not_done words_fail.Usage answer is done = let never : ◌≡◌ {A = Answer} answers.Done answers.Usage = sym done ∙ is in cc
-not_done words_fail.Memory answer is done = let never : ◌≡◌ {A = Answer} answers.Done answers.Memory = sym done ∙ is in
-    cc
+words_end : (fail : WordsFail) (answer : Answer) → answer ≡ answer_of_words fail
+    → ((answer ≡ answers.Usage) × (fail ≡ words_fail.Usage)) ⊎ (answer ≡ answers.Memory)
+words_end words_fail.Usage answer is = inl (is, refl)
+words_end words_fail.Memory answer is = inr is
 
 module _ {S O E : Type 0} (words : Words) (input : Stream S) (out : Stream O) (err : Stream E) where
   -- The words are no command's, or there was no memory to read them.
@@ -30,18 +316,30 @@ module _ {S O E : Type 0} (words : Words) (input : Stream S) (out : Stream O) (e
       → Said line err.change
       → IsStill input → IsStill out → input.change.faults_now ≡ input.change.faults → RunsTo words input out err answer
   words_run fail answer line is refuses text said unread untouched calm = record {
-    usage = not_accepted words fail answer is refuses;
-    ran = λ usage memory. absurd (words_only fail answer is usage memory);
-    reread = λ done. absurd (not_done fail answer is done);
-    told = λ refused. says_words words input.change err.change fail answer line is text said;
-    complete = λ command spoken good. inr (inl (not_read words command fail answer is spoken refuses));
-    settled = λ command spoken held. inr (inl (not_read words command fail answer is spoken refuses));
+    usage = λ usage. elim end [
+      | inl none ↦ λ accepted. refuses none.1 accepted.command accepted.line
+      | inr memory ↦ absurd (cc (usage, memory))
+    ];
+    ran = λ usage memory. absurd (elim end [ inl none ↦ usage none.0 | inr wants ↦ memory wants ]);
+    reread = λ done. absurd (not_done done);
+    told = λ refused. says_words fail answer line is text said;
+    complete = λ command spoken good. inr (inl (short command spoken));
+    settled = λ command spoken held. inr (inl (short command spoken));
     untouched = λ _ _. untouched;
-    quiet = λ done. absurd (not_done fail answer is done);
+    quiet = λ done. absurd (not_done done);
     unread = λ _. unread;
     unasked = λ _ _. unread;
     calm = λ _ _. calm;
   }
+    where
+      end : ((answer ≡ answers.Usage) × (fail ≡ words_fail.Usage)) ⊎ (answer ≡ answers.Memory)
+      end = words_end fail answer is
+
+      not_done : answer ≡ answers.Done → ⊥
+      not_done done = elim end [ inl none ↦ cc (done, none.0) | inr memory ↦ cc (done, memory) ]
+
+      short : (command : Command) → IsCommand words command → answer ≡ answers.Memory
+      short command spoken = elim end [ inl none ↦ absurd (refuses none.1 command spoken) | inr memory ↦ memory ]
 
   module _ (read : Command) (spoken : IsCommand words read) (accepts : (k : Command) → IsCommand words k
       → (◌≡◌ {A = Result Command WordsFail} (Ok read) (Ok k)) ⊎ (Ok read ≡ Err words_fail.Memory))
@@ -64,26 +362,26 @@ module _ {S O E : Type 0} (words : Words) (input : Stream S) (out : Stream O) (e
 
     -- It is refused.
     pub refused_run : (r : Refusal) (answer : Answer) (names : List ℕ) (line : Bytes) → answer ≡ answer_of r
-        → names ≡ names_of r
-        → answer ≢ answers.Done → answer ≢ answers.Usage → Ended read input.change out.change r
+        → names ≡ names_of r → answer ≢ answers.Done → answer ≢ answers.Usage → Ended read input.change out.change r
         → (answer_of r ≢ answers.WriteFault → IsStill out) → line ≡ error_line names answer → Said line err.change
         → RunsTo words input out err answer
     refused_run r answer names line is named refused accepted ended untouched text said = record {
       usage = λ usage. absurd (accepted usage);
-      ran = λ usage memory. record {
-        command = read;
-        line = spoken;
-        cause = subst (Cause read input.change out.change) (sym is) ended.cause;
-      };
+      ran = λ usage memory. record { command = read; line = spoken; cause = cause };
       reread = λ done. absurd (refused done);
-      told = λ _. says_why words read input.change err.change r answer names line spoken is named ended.names text said;
-      complete = λ command other good. completes_as read command input.change out.change answer (answer_of r) is
-          (same_command read command (accepts command other)) ended.cause good;
-      settled = λ command other held. settles_as read command input.change out.change answer (answer_of r) is
-          (same_command read command (accepts command other)) ended.cause held;
+      told = λ _. says_why r answer names line spoken is named ended.names text said;
+      complete = λ command other good. completes read input.change out.change answer cause
+          (subst (λ (k : Command). IsGood k input.change.told)
+          (same_command read command (accepts command other)) good);
+      settled = λ command other held. settles read input.change out.change answer cause
+          (subst (λ (k : Command). IsUntangled k input.change.told)
+          (same_command read command (accepts command other)) held);
       untouched = λ _ other. untouched (λ fault. other (is ∙ fault));
       quiet = λ done. absurd (refused done);
       unread = λ usage. absurd (accepted usage);
       unasked = λ size other. unasked size (same_command read (Bench size) (accepts (Bench size) other));
       calm = λ fault memory. ended.calm (λ e. fault (is ∙ e)) (λ e. memory (is ∙ e));
     }
+      where
+        cause : Cause read input.change out.change answer
+        cause = subst (Cause read input.change out.change) (sym is) ended.cause

@@ -5,30 +5,22 @@ use Rattle.qm_output.proofs.Prefixes.{of_error}
 use Rattle.qm_map.proofs.cells.put_cell.Goals as goal
 
 pub returns-in_err-put_front-clause-part : goal.returns-in_err-put_front-clause-part
-returns-in_err-put_front-clause-part g c =
-    let laws = g.met.T.Output in
-    of_error c.from_residual.result (laws.stops_before _ _ (cell_front c.args.home.now.dart) _
-    c.in_err-put_front.ensures.part)
+returns-in_err-put_front-clause-part g c = of_error c.from_residual.result
+    (g.met.T.Output.stops_before _ _ (cell_front c.args.home.now.dart) _ c.in_err-put_front.ensures.part)
 
 pub returns-in_err-put_corners-clause-part : goal.returns-in_err-put_corners-clause-part
-returns-in_err-put_corners-clause-part g c =
-    let laws = g.met.T.Output in
-    of_error c.from_residual-in_err-put_corners.result
-    (laws.stops_later _ _ _ (cell_front c.args.home.now.dart) _ c.in_ok-put_front.ensures.whole
-    (laws.stops_before _ _ (flat_map seen_text c.args.home.now.corners) _ c.in_err-put_corners.ensures.part))
+returns-in_err-put_corners-clause-part g c = of_error c.from_residual-in_err-put_corners.result
+    (g.met.T.Output.stops_later _ _ _ (cell_front c.args.home.now.dart) _ c.in_ok-put_front.ensures.whole
+    (g.met.T.Output.stops_before _ _ (flat_map seen_text c.args.home.now.corners) _ c.in_err-put_corners.ensures.part))
 
-pub returns-clause-whole : goal.returns-clause-whole
-returns-clause-whole g c =
+pub returns : goal.returns
+returns g c =
     let laws = g.met.T.Output in
-    on_ok_weaker c.put.result
-    (λ last. laws.takes_more _ _ _ (cell_front c.args.home.now.dart) _ c.in_ok-put_front.ensures.whole
-    (laws.takes_more _ _ _ (flat_map seen_text c.args.home.now.corners) _ c.in_ok-put_corners.ensures.whole last))
-    c.put.ensures.whole
-
-pub returns-clause-part : goal.returns-clause-part
-returns-clause-part g c =
-    let laws = g.met.T.Output in
-    on_err_weaker c.put.result
-    (λ last. laws.stops_later _ _ _ (cell_front c.args.home.now.dart) _ c.in_ok-put_front.ensures.whole
-    (laws.stops_later _ _ _ (flat_map seen_text c.args.home.now.corners) _ c.in_ok-put_corners.ensures.whole last))
-    c.put.ensures.part
+    let front = cell_front c.args.home.now.dart in
+    let corners = flat_map seen_text c.args.home.now.corners in
+    record {
+      whole = on_ok_weaker c.put.result (λ last. laws.takes_more _ _ _ front _ c.in_ok-put_front.ensures.whole
+          (laws.takes_more _ _ _ corners _ c.in_ok-put_corners.ensures.whole last)) c.put.ensures.whole;
+      part = on_err_weaker c.put.result (λ last. laws.stops_later _ _ _ front _ c.in_ok-put_front.ensures.whole
+          (laws.stops_later _ _ _ corners _ c.in_ok-put_corners.ensures.whole last)) c.put.ensures.part;
+    }

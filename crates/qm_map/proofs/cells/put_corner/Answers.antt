@@ -1,15 +1,5 @@
-use Rattle.std.proofs.Common.{◌≡◌, ◌∙◌}
-use Rattle.def_map.specs.MapText.{seen_text}
+use Rattle.std.proofs.Common.{◌∙◌}
 use Rattle.qm_map.proofs.cells.put_corner.Goals as goal
 
-pub returns-clause-whole : goal.returns-clause-whole
-returns-clause-whole g c =
-    let line : c.as_bytes.result.now ≡ seen_text c.args.seen = c.as_bytes.ensures.value ∙ c.as_str.ensures.value
-    ∙ c.seen_text.ensures in
-    rw (← line) c.put.ensures.whole
-
-pub returns-clause-part : goal.returns-clause-part
-returns-clause-part g c =
-    let line : c.as_bytes.result.now ≡ seen_text c.args.seen = c.as_bytes.ensures.value ∙ c.as_str.ensures.value
-    ∙ c.seen_text.ensures in
-    rw (← line) c.put.ensures.part
+pub returns : goal.returns
+returns g c = rw (← (c.as_bytes.ensures.value ∙ c.as_str.ensures.value ∙ c.seen_text.ensures)) c.put.ensures

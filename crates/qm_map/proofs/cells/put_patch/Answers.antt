@@ -1,11 +1,11 @@
-use Rattle.std.proofs.Common.{◌≡◌, ℕ, ◌*◌, ◌/◌, ◌%◌, ◌<◌, map, ◌∙◌, subst, arith}
-use Rattle.std.specs.List.{flat_map, range_with_len}
+use Rattle.std.proofs.Common.{◌≡◌, ◌*◌, ◌/◌, ◌%◌, ◌∙◌, arith}
 use Rattle.def_layout.specs.{Lengths.wide, Lengths.high, Layouts.gluing_of}
-use Rattle.def_map.specs.{Homes.home_of, MapText.cell_line, declared.home.Home.Home}
+use Rattle.def_map.specs.{Homes.home_of, MapText.cell_line}
 use Rattle.def_remesh.specs.NewPoints.{lengths_in}
 use Rattle.qm_map.specs.PatchLines.{home_in}
 use Rattle.qm_map.proofs.PatchCells.{in_grid}
 use Rattle.qm_output.proofs.{Prefixes.of_error, Lists.stops_at_number, Lists.takes_number}
+use Rattle.qm_map.proofs.cells.put_patch.Goals.{After-home}
 use Rattle.qm_map.proofs.cells.put_patch.Goals as goal
 
 pub overflow_mul-k-end : goal.overflow_mul-k-end
@@ -17,64 +17,47 @@ nonzero_rem-k g c = (in_grid c.rim-rim.result.wide c.rim-rim.result.high c.loop-
 pub nonzero_div-k : goal.nonzero_div-k
 nonzero_div-k g c = (in_grid c.rim-rim.result.wide c.rim-rim.result.high c.loop-k.k c.loop-k-test.true).2
 
-pub home-requires-clause-column : goal.home-requires-clause-column
-home-requires-clause-column g c =
-    omega (
-      arith,
-      (in_grid c.rim-rim.result.wide c.rim-rim.result.high c.loop-k.k c.loop-k-test.true).0,
-      c.rim-rim.ensures.wide,
-    )
+pub home-requires : goal.home-requires
+home-requires g c =
+    let in_it = in_grid c.rim-rim.result.wide c.rim-rim.result.high c.loop-k.k c.loop-k-test.true in
+    record {
+      patch = c.requires;
+      column = omega (arith, in_it.0, c.rim-rim.ensures.wide);
+      row = omega (arith, in_it.1, c.rim-rim.ensures.high);
+    }
 
-pub home-requires-clause-row : goal.home-requires-clause-row
-home-requires-clause-row g c =
-    omega (
-      arith,
-      (in_grid c.rim-rim.result.wide c.rim-rim.result.high c.loop-k.k c.loop-k-test.true).1,
-      c.rim-rim.ensures.high,
-    )
+-- The cell lies where it should.
+here : (g : _) (c : After-home g) → c.home.result ≡ home_in c.args.new.now.layout c.args.new.now.shares
+    (lengths_in c.args.new.now.lengths) c.args.patch c.loop-k.k
+here g c = c.home.ensures ∙ (λ k. home_of c.args.new.now.layout c.args.new.now.shares
+    (lengths_in c.args.new.now.lengths) c.args.patch (c.loop-k.k % c.rim-rim.ensures.wide k)
+    (c.loop-k.k / c.rim-rim.ensures.wide k))
 
 pub returns-in_err-put_cell-clause-part : goal.returns-in_err-put_cell-clause-part
 returns-in_err-put_cell-clause-part g c =
     let laws = g.met.T.Output in
     let t = c.args.new.now.layout in
-    let shares = c.args.new.now.shares in
     let x = lengths_in c.args.new.now.lengths in
-    let low : c.loop-k.k < wide (gluing_of t) x c.args.patch * high (gluing_of t) x c.args.patch =
-    subst (λ (n : ℕ). c.loop-k.k < n) (λ k. c.rim-rim.ensures.wide k * c.rim-rim.ensures.high k) c.loop-k-test.true in
-    let here : c.home.result ≡ home_in t shares x c.args.patch c.loop-k.k =
-    c.home.ensures ∙ (λ k. home_of t shares x c.args.patch (c.loop-k.k % c.rim-rim.ensures.wide k)
-    (c.loop-k.k / c.rim-rim.ensures.wide k)) in
+    let low = rw (c.rim-rim.ensures.wide, c.rim-rim.ensures.high) at c.loop-k-test.true in
     of_error c.from_residual.result
     (stops_at_number g.T.Output.takes g.T.Output.stops laws.stops_later laws.stops_before cell_line
-    (home_in t shares x c.args.patch)
+    (home_in t c.args.new.now.shares x c.args.patch)
     (wide (gluing_of t) x c.args.patch * high (gluing_of t) x c.args.patch) c.loop-k.k _ _ _ low c.loop-k.invariant
-    (subst (λ (h : Home). g.T.Output.stops c.loop-k.out c.put_cell.new.out (cell_line h)) here
-    c.in_err-put_cell.ensures.part))
+    (rw (here g (goal.at.returns-in_err-put_cell-clause-part g c).After-home) at c.in_err-put_cell.ensures.part))
 
 pub loop-k-preserved : goal.loop-k-preserved
 loop-k-preserved g c =
-    let laws = g.met.T.Output in
-    let t = c.args.new.now.layout in
-    let shares = c.args.new.now.shares in
-    let x = lengths_in c.args.new.now.lengths in
-    let here : c.home.result ≡ home_in t shares x c.args.patch c.loop-k.k =
-    c.home.ensures ∙ (λ k. home_of t shares x c.args.patch (c.loop-k.k % c.rim-rim.ensures.wide k)
-    (c.loop-k.k / c.rim-rim.ensures.wide k)) in
-    takes_number g.T.Output.takes laws.takes_more cell_line (home_in t shares x c.args.patch) c.loop-k.k _ _ _
-    c.loop-k.invariant
-    (subst (λ (h : Home). g.T.Output.takes c.loop-k.out c.put_cell.new.out (cell_line h)) here
-    c.in_ok-put_cell.ensures.whole)
+    let new = c.args.new.now in
+    takes_number g.T.Output.takes g.met.T.Output.takes_more cell_line
+    (home_in new.layout new.shares (lengths_in new.lengths) c.args.patch) c.loop-k.k _ _ _ c.loop-k.invariant
+    (rw (here g (goal.at.loop-k-preserved g c).After-home) at c.in_ok-put_cell.ensures.whole)
 
 pub returns-clause-whole : goal.returns-clause-whole
 returns-clause-whole g c =
-    let t = c.args.new.now.layout in
-    let shares = c.args.new.now.shares in
+    let t = gluing_of c.args.new.now.layout in
     let x = lengths_in c.args.new.now.lengths in
-    let product : c.rim-rim.result.wide * c.rim-rim.result.high ≡ wide (gluing_of t) x c.args.patch * high (gluing_of t)
-    x c.args.patch =
+    let product : c.rim-rim.result.wide * c.rim-rim.result.high ≡ wide t x c.args.patch * high t x c.args.patch =
     λ k. c.rim-rim.ensures.wide k * c.rim-rim.ensures.high k in
-    let all : c.loop-k.k ≡ wide (gluing_of t) x c.args.patch * high (gluing_of t) x c.args.patch =
+    let all : c.loop-k.k ≡ wide t x c.args.patch * high t x c.args.patch =
     omega (arith, product, c.loop-k-test.false, c.loop-k.auto.k-end) in
-    subst (λ (n : ℕ). g.T.Output.takes c.args.out.now c.loop-k.out
-    (flat_map cell_line (map (home_in t shares x c.args.patch) (range_with_len 0 n))))
-    all c.loop-k.invariant
+    rw (← all) c.loop-k.invariant

@@ -16,29 +16,22 @@ abbrev spots_of : (new : Regrid) → Bytes
 spots_of new = vertex_lines new.soup.faces new.soup.names new.layout new.shares (lengths_in new.lengths)
 
 pub returns-in_err-put_head-clause-part : goal.returns-in_err-put_head-clause-part
-returns-in_err-put_head-clause-part g c =
-    let laws = g.met.T.Output in
-    of_error c.from_residual.result (laws.stops_before _ _ (head_of c.args.new.now) _ c.in_err-put_head.ensures.part)
+returns-in_err-put_head-clause-part g c = of_error c.from_residual.result
+    (g.met.T.Output.stops_before _ _ (head_of c.args.new.now) _ c.in_err-put_head.ensures.part)
 
 pub returns-in_err-put_vertices-clause-part : goal.returns-in_err-put_vertices-clause-part
-returns-in_err-put_vertices-clause-part g c =
-    let laws = g.met.T.Output in
-    of_error c.from_residual-in_err-put_vertices.result
-    (laws.stops_later _ _ _ (head_of c.args.new.now) _ c.in_ok-put_head.ensures.whole
-    (laws.stops_before _ _ (spots_of c.args.new.now) _ c.in_err-put_vertices.ensures.part))
+returns-in_err-put_vertices-clause-part g c = of_error c.from_residual-in_err-put_vertices.result
+    (g.met.T.Output.stops_later _ _ _ (head_of c.args.new.now) _ c.in_ok-put_head.ensures.whole
+    (g.met.T.Output.stops_before _ _ (spots_of c.args.new.now) _ c.in_err-put_vertices.ensures.part))
 
-pub returns-clause-whole : goal.returns-clause-whole
-returns-clause-whole g c =
+pub returns : goal.returns
+returns g c =
     let laws = g.met.T.Output in
-    on_ok_weaker c.put_cells.result
-    (λ last. laws.takes_more _ _ _ (head_of c.args.new.now) _ c.in_ok-put_head.ensures.whole
-    (laws.takes_more _ _ _ (spots_of c.args.new.now) _ c.in_ok-put_vertices.ensures.whole last))
-    c.put_cells.ensures.whole
-
-pub returns-clause-part : goal.returns-clause-part
-returns-clause-part g c =
-    let laws = g.met.T.Output in
-    on_err_weaker c.put_cells.result
-    (λ last. laws.stops_later _ _ _ (head_of c.args.new.now) _ c.in_ok-put_head.ensures.whole
-    (laws.stops_later _ _ _ (spots_of c.args.new.now) _ c.in_ok-put_vertices.ensures.whole last))
-    c.put_cells.ensures.part
+    let head = head_of c.args.new.now in
+    let spots = spots_of c.args.new.now in
+    record {
+      whole = on_ok_weaker c.put_cells.result (λ last. laws.takes_more _ _ _ head _ c.in_ok-put_head.ensures.whole
+          (laws.takes_more _ _ _ spots _ c.in_ok-put_vertices.ensures.whole last)) c.put_cells.ensures.whole;
+      part = on_err_weaker c.put_cells.result (λ last. laws.stops_later _ _ _ head _ c.in_ok-put_head.ensures.whole
+          (laws.stops_later _ _ _ spots _ c.in_ok-put_vertices.ensures.whole last)) c.put_cells.ensures.part;
+    }

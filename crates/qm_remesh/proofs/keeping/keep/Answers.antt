@@ -1,23 +1,14 @@
-use Rattle.std.proofs.Common.{sym, subst, ℕ}
 use Rattle.def_flow.specs.Network.{network}
-use Rattle.def_layout.specs.{Layouts.layout_of, Arcs.long_at, Layouts.gluing_of, Layouts.Layout}
-use Rattle.def_layoutnet.specs.{MeshLayouts.IsSomeLayout, LayoutNet.HasNoNet}
-use Rattle.def_remesh.specs.{Keeping.IsNetFor, Tasks.old_lengths, Refusals.IsTangledAt}
+use Rattle.def_remesh.specs.{Keeping.IsNetFor, Tasks.old_lengths}
 use Rattle.qm_remesh.proofs.{Nets.net_for, keeping.keep.Goals.In-Ok}
 use Rattle.qm_remesh.proofs.keeping.keep.Goals as goal
 
 pub net_of-requires-clause-layout : goal.net_of-requires-clause-layout
-net_of-requires-clause-layout c = subst IsSomeLayout (sym c.layout.ensures.layout) c.layout.ensures.laid.0
+net_of-requires-clause-layout c = rw c.layout.ensures.layout c.layout.ensures.laid.0
 
 pub returns-in-Err-Tangled-clause-refused : goal.returns-in-Err-Tangled-clause-refused
-returns-in-Err-Tangled-clause-refused c =
-    let layout = layout_of c.layout.result.now in
-    subst (λ (n : ℕ). IsTangledAt old_lengths c.args.cut.now.layout c.args.terms.settings n)
-    (sym c.in-Err-Tangled.count-is)
-    (subst (λ (p : Layout). IsTangledAt old_lengths p c.args.terms.settings c.in-Err-Tangled.count)
-    c.layout.ensures.layout
-    (subst (HasNoNet (gluing_of layout) (long_at layout.arcs) (long_at layout.arcs) c.args.terms.settings)
-    c.in-Err-Tangled.field-0-is c.in-Err-Tangled.ensures.tangled))
+returns-in-Err-Tangled-clause-refused c = rw (c.in-Err-Tangled.count-is, ← c.layout.ensures.layout)
+    (rw c.in-Err-Tangled.field-0-is at c.in-Err-Tangled.ensures.tangled)
 
 net : (c : In-Ok) → IsNetFor old_lengths c.args.cut.now.layout c.args.terms.settings (network c.in-Ok.net)
 net c = net_for c.layout.ensures.laid.0 c.requires.settings (rw (← c.layout.ensures.layout) c.in-Ok.ensures.net)

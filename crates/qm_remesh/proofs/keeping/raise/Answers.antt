@@ -9,16 +9,11 @@ use Rattle.remesh_laws.proofs.Keeps.{too_fine}
 use Rattle.qm_remesh.proofs.keeping.raise.Goals.{In_ok-cert}
 use Rattle.qm_remesh.proofs.keeping.raise.Goals as goal
 
-pub solve-requires-clause-bounds : goal.solve-requires-clause-bounds
-solve-requires-clause-bounds c =
-    (third_net _ _ _ _ c.requires.net.1 (has_floors _ 3 _ c.with_floor-raised.ensures)).bounds
-
-pub solve-requires-clause-tangle : goal.solve-requires-clause-tangle
-solve-requires-clause-tangle c =
-    (third_net _ _ _ _ c.requires.net.1 (has_floors _ 3 _ c.with_floor-raised.ensures)).untangled
-
-pub solve-requires-clause-even : goal.solve-requires-clause-even
-solve-requires-clause-even c = floors_even _ _ _ (has_floors _ 3 _ c.with_floor-raised.ensures) c.requires.even
+pub solve-requires : goal.solve-requires
+solve-requires c =
+    let has = has_floors _ 3 _ c.with_floor-raised.ensures in
+    let net = third_net _ _ _ _ c.requires.net.1 has in
+    record { bounds = net.bounds; even = floors_even _ _ _ has c.requires.even; tangle = net.untangled }
 
 pub plan_over-requires-clause-lengths : goal.plan_over-requires-clause-lengths
 plan_over-requires-clause-lengths c =

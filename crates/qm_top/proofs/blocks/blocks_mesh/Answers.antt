@@ -1,7 +1,6 @@
 use Rattle.std.proofs.Common.{refl}
 use Rattle.error_laws.proofs.Errors.{handed}
-use Rattle.qm_top.specs.Blocking.{told_text}
-use Rattle.qm_top.proofs.Blocked.{is_blocked}
+use Rattle.qm_top.proofs.{Refined.is_blocked, Refusals.broke, Refusals.wrote}
 use Rattle.qm_top.proofs.blocks.blocks_mesh.Goals as goal
 
 pub returns-in_err-blocks-clause-refused : goal.returns-in_err-blocks-clause-refused
@@ -9,16 +8,10 @@ returns-in_err-blocks-clause-refused g c =
     handed _ _ _ c.from_residual.ensures.1 (refl, c.in_err-blocks.ensures.refused)
 
 pub returns-in_err-write_blocks-clause-refused : goal.returns-in_err-write_blocks-clause-refused
-returns-in_err-write_blocks-clause-refused g c = handed _ _ _ c.from_residual-in_err-write_blocks.ensures.1 (record {
-  text = told_text c.in_ok-blocks.blocks;
-  said = is_blocked c.args.by c.args.read c.in_ok-blocks.blocks c.requires.some c.in_ok-blocks.ensures.blocks;
-  prefix = c.in_err-write_blocks.ensures.prefix;
-  fault = c.in_err-write_blocks.ensures.fault;
-})
+returns-in_err-write_blocks-clause-refused g c = handed _ _ _ c.from_residual-in_err-write_blocks.ensures.1
+    (broke _ (is_blocked c.requires.some c.in_ok-blocks.ensures.blocks) c.in_err-write_blocks.ensures.prefix
+    c.in_err-write_blocks.ensures.fault)
 
 pub returns-clause-done : goal.returns-clause-done
-returns-clause-done g c = record {
-  text = told_text c.in_ok-blocks.blocks;
-  said = is_blocked c.args.by c.args.read c.in_ok-blocks.blocks c.requires.some c.in_ok-blocks.ensures.blocks;
-  written = c.in_ok-write_blocks.ensures.whole;
-}
+returns-clause-done g c =
+    wrote _ (is_blocked c.requires.some c.in_ok-blocks.ensures.blocks) c.in_ok-write_blocks.ensures.whole

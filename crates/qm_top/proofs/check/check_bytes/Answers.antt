@@ -3,16 +3,13 @@ use Rattle.def_io.specs.Moves.{stream}
 use Rattle.def_run.specs.Checking.{WritesAccepted}
 use Rattle.error_laws.proofs.Errors.{handed}
 use Rattle.qm_top.specs.Checking.{IsUnaccepted}
-use Rattle.qm_top.proofs.{Checked.check_placed, Checked.unaccepted, Checked.unwritable, Writers.not_begun}
+use Rattle.qm_top.proofs.{Mapped.check_placed, Mapped.unaccepted, Mapped.unwritable, Refusals.broke, Refusals.not_begun}
 use Rattle.qm_top.proofs.check.check_bytes.Goals as goal
 
 pub returns-in_err-write_all-in-Ok-clause-refused : goal.returns-in_err-write_all-in-Ok-clause-refused
-returns-in_err-write_all-in-Ok-clause-refused g c = handed _ _ _ c.from_residual.ensures.1 (record {
-  text = c.as_bytes.result.now;
-  said = search rules;
-  prefix = c.in_err-write_all-in-Ok.ensures.prefix;
-  fault = c.in_err-write_all-in-Ok.ensures.cause.failed;
-})
+returns-in_err-write_all-in-Ok-clause-refused g c = handed _ _ _ c.from_residual.ensures.1
+    (broke c.as_bytes.result.now (search rules) c.in_err-write_all-in-Ok.ensures.prefix
+    c.in_err-write_all-in-Ok.ensures.cause.failed)
 
 pub judged_refusal-requires : goal.judged_refusal-requires
 judged_refusal-requires g c = check_placed c.args.bytes.now _ c.in-Err.ensures.refused
@@ -21,5 +18,5 @@ pub returns-in-Err-clause-refused : goal.returns-in-Err-clause-refused
 returns-in-Err-clause-refused g c =
     not_begun (WritesAccepted c.args.bytes.now) (IsUnaccepted c.args.bytes.now)
     (stream g.O.Sink.state c.args.out.now c.args.out.now) (unwritable c.args.bytes.now) refl c.judged_refusal.result
-    (unaccepted c.args.bytes.now _ c.judged_refusal.result c.in-Err.ensures.refused
+    (unaccepted _ c.judged_refusal.result c.in-Err.ensures.refused
     (c.judged_refusal.ensures.mapped c.args.bytes.now) (c.judged_refusal.ensures.pair c.args.bytes.now))

@@ -1,5 +1,5 @@
-use Rattle.std.proofs.{Common.◌≡◌, Common.Bool, Common.List, Common.subst, lemmas.Result.IfOk-weaker}
-use Rattle.def_layout.specs.{FaceLayouts.IsCutLayout, Layouts.layout_of}
+use Rattle.std.proofs.{Common.◌≡◌, lemmas.Result.IfOk-weaker}
+use Rattle.def_layout.specs.Layouts.{layout_of}
 use Rattle.def_report.specs.GraphText.{graph_text}
 use Rattle.def_run.specs.Graph.{IsGraphText}
 use Rattle.qm_top.proofs.graph.text_of.Goals as goal
@@ -15,8 +15,7 @@ returns c =
       riders = graph.riders.items;
       rode = c.in_ok-graph.ensures.graph.riders;
       layout = layout;
-      laid = subst (λ (marks : List Bool). IsCutLayout faces marks layout) c.in_ok-graph.ensures.graph.covered
-          c.in_ok-layout.ensures;
+      laid = rw c.in_ok-graph.ensures.graph.covered at c.in_ok-layout.ensures;
       said = said;
     })
     c.graph_text.ensures

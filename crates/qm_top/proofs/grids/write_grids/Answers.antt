@@ -1,7 +1,6 @@
 use Rattle.std.proofs.Common.{refl}
 use Rattle.error_laws.proofs.Errors.{handed}
-use Rattle.qm_top.specs.Blocking.{told_text}
-use Rattle.qm_top.proofs.LaidOut.{is_gridded}
+use Rattle.qm_top.proofs.{Refined.is_gridded, Refusals.broke, Refusals.wrote}
 use Rattle.qm_top.proofs.grids.write_grids.Goals as goal
 
 pub returns-in_err-blocks-clause-refused : goal.returns-in_err-blocks-clause-refused
@@ -9,18 +8,10 @@ returns-in_err-blocks-clause-refused g c =
     handed _ _ _ c.from_residual.ensures.1 (refl, c.in_err-blocks.ensures.refused)
 
 pub returns-in_err-write_blocks-clause-refused : goal.returns-in_err-write_blocks-clause-refused
-returns-in_err-write_blocks-clause-refused g c = handed _ _ _ c.from_residual-in_err-write_blocks.ensures.1 (record {
-  text = told_text c.in_ok-blocks.blocks;
-  said = is_gridded c.args.chosen c.args.by c.args.cut c.in_ok-blocks.blocks c.requires.some c.requires.laid
-      c.in_ok-blocks.ensures.blocks;
-  prefix = c.in_err-write_blocks.ensures.prefix;
-  fault = c.in_err-write_blocks.ensures.fault;
-})
+returns-in_err-write_blocks-clause-refused g c = handed _ _ _ c.from_residual-in_err-write_blocks.ensures.1
+    (broke _ (is_gridded c.requires.some c.requires.laid c.in_ok-blocks.ensures.blocks)
+    c.in_err-write_blocks.ensures.prefix c.in_err-write_blocks.ensures.fault)
 
 pub returns-clause-done : goal.returns-clause-done
-returns-clause-done g c = record {
-  text = told_text c.in_ok-blocks.blocks;
-  said = is_gridded c.args.chosen c.args.by c.args.cut c.in_ok-blocks.blocks c.requires.some c.requires.laid
-      c.in_ok-blocks.ensures.blocks;
-  written = c.in_ok-write_blocks.ensures.whole;
-}
+returns-clause-done g c = wrote _ (is_gridded c.requires.some c.requires.laid c.in_ok-blocks.ensures.blocks)
+    c.in_ok-write_blocks.ensures.whole

@@ -1,29 +1,32 @@
-use Rattle.std.proofs.Common.{ap, sym, ◌∙◌}
+use Rattle.std.proofs.{Common.◌≡◌, Common.Ok, Common.ap, Common.sym, Common.◌∙◌, Common.◌≤◌, Common.length}
+use Rattle.std.proofs.{Common.subst, lemmas.Result.IfErr-weaker, lemmas.Result.IfOk-weaker}
 use Rattle.def_io.specs.Lines.{lines_of}
-use Rattle.def_text.specs.Text.{text_soup}
-use Rattle.qm_top.proofs.Meshless.{read_refused, text_few, text_meshed, text_meshless, whole_range}
+use Rattle.def_text.specs.{FaceSet.FaceSet, Text.soup_in, Text.text_soup}
+use Rattle.def_text.specs.declared.limits.TheConstants.{MAX_V_LINES}
+use Rattle.error_laws.proofs.Errors.{handed}
+use Rattle.qm_top.specs.{Meshless.IsMeshless, Refusals.IsNoMeshOf}
+use Rattle.qm_top.proofs.Refusals.{no_mesh_of, soupless, text_meshed, whole_range}
+use Rattle.qm_top.proofs.input.text_mesh.Goals.{In_ok-soup}
 use Rattle.qm_top.proofs.input.text_mesh.Goals as goal
 
 pub returns-in_err-soup-clause-refused : goal.returns-in_err-soup-clause-refused
 returns-in_err-soup-clause-refused c =
-    read_refused c.args.lines.now _ _ c.from_residual.ensures.1
-    (λ other. ap (text_soup 1) (sym
-    (whole_range (lines_of c.args.lines.now) c.count-after.result c.count-after.ensures))
-    ∙ c.in_err-soup.ensures.refused other)
+    let all = whole_range (lines_of c.args.lines.now) c.count-after.result c.count-after.ensures in
+    handed (IsMeshless c.args.lines.now) _ _ c.from_residual.ensures.1
+    (soupless c.args.lines.now _ (λ other. ap (text_soup 1) (sym all) ∙ c.in_err-soup.ensures.refused other))
 
-pub returns-clause-mesh : goal.returns-clause-mesh
-returns-clause-mesh c =
-    text_meshed c.args.lines.now c.in_ok-soup.soup c.mesh_of.result
-    (ap (text_soup 1) (sym (whole_range (lines_of c.args.lines.now) c.count-after.result c.count-after.ensures))
-    ∙ c.in_ok-soup.ensures.soup)
-    c.mesh_of.ensures.soup c.mesh_of.ensures.manifold
-
-pub returns-clause-refused : goal.returns-clause-refused
-returns-clause-refused c =
-    text_meshless c.args.lines.now c.in_ok-soup.soup c.mesh_of.result
-    (ap (text_soup 1) (sym (whole_range (lines_of c.args.lines.now) c.count-after.result c.count-after.ensures))
-    ∙ c.in_ok-soup.ensures.soup)
-    c.mesh_of.ensures.refused
-
-pub returns-clause-few : goal.returns-clause-few
-returns-clause-few c = text_few c.in_ok-soup.soup c.mesh_of.result c.in_ok-soup.ensures.few.0 c.mesh_of.ensures.soup
+pub returns : goal.returns
+returns c =
+    let bytes = c.args.lines.now in
+    let soup = c.in_ok-soup.soup in
+    let said : soup_in bytes ≡ Ok soup =
+    ap (text_soup 1) (sym (whole_range (lines_of bytes) c.count-after.result c.count-after.ensures))
+    ∙ c.in_ok-soup.ensures.soup in
+    record {
+      mesh = text_meshed bytes soup c.mesh_of.result said c.mesh_of.ensures.soup c.mesh_of.ensures.manifold;
+      few = IfOk-weaker c.mesh_of.result (λ read. read ≡ soup) (λ read. length read.pos ≤ MAX_V_LINES)
+          (λ read same. subst (λ (s : FaceSet). length s.pos ≤ MAX_V_LINES) (sym same) c.in_ok-soup.ensures.few.0)
+          c.mesh_of.ensures.soup;
+      refused = IfErr-weaker c.mesh_of.result (IsNoMeshOf soup) (IsMeshless bytes)
+          (λ r why. no_mesh_of bytes soup r said why) c.mesh_of.ensures.refused;
+    }

@@ -3,25 +3,17 @@ use Rattle.def_io.specs.Moves.{stream}
 use Rattle.def_run.specs.Map.{WritesMap}
 use Rattle.error_laws.proofs.Errors.{handed}
 use Rattle.qm_top.specs.Mapping.{mapped_text, IsNoMapFor}
-use Rattle.qm_top.proofs.{Mapped.map_placed, Writers.not_begun}
+use Rattle.qm_top.proofs.{Mapped.map_placed, Refusals.broke, Refusals.not_begun, Refusals.wrote}
 use Rattle.qm_top.proofs.map.map_bytes.Goals as goal
 
 pub returns-in_err-write_map-in-Ok-clause-refused : goal.returns-in_err-write_map-in-Ok-clause-refused
 returns-in_err-write_map-in-Ok-clause-refused g c = handed _ _ _ c.from_residual-in_err-write_map-in-Ok.ensures.1
-    (record {
-      text = mapped_text c.in-Ok.new;
-      said = c.in-Ok.ensures.map;
-      prefix = c.in_err-write_map-in-Ok.ensures.prefix;
-      fault = c.in_err-write_map-in-Ok.ensures.fault;
-    })
+    (broke (mapped_text c.in-Ok.new) c.in-Ok.ensures.map c.in_err-write_map-in-Ok.ensures.prefix
+    c.in_err-write_map-in-Ok.ensures.fault)
 
 pub returns-in_ok-write_map-in-Ok-clause-done : goal.returns-in_ok-write_map-in-Ok-clause-done
 returns-in_ok-write_map-in-Ok-clause-done g c =
-    record {
-      text = mapped_text c.in-Ok.new;
-      said = c.in-Ok.ensures.map;
-      written = c.in_ok-write_map-in-Ok.ensures.whole;
-    }
+    wrote (mapped_text c.in-Ok.new) c.in-Ok.ensures.map c.in_ok-write_map-in-Ok.ensures.whole
 
 pub judged_refusal-requires : goal.judged_refusal-requires
 judged_refusal-requires g c = map_placed c.args.bytes.now _ c.in-Err.ensures.refused

@@ -10,7 +10,7 @@ invariant_of-result c =
     let inside : FaceSet =
     record { pos = c.soup.inside.pos.items; faces = c.soup.inside.faces.items; names = c.soup.inside.names.items } in
     record {
-      named = named_where inside c.args.place c.soup.invariant
-          (subst AreQuads c.deref.ensures.value c.are_quads.ensures)
+      named = named_where inside c.soup.invariant (subst AreQuads c.deref.ensures.value c.are_quads.ensures)
+          c.args.place
           (subst (λ (s : FaceSet). IsFirstFault s.faces c.args.place) (sym c.soup.view_is) c.requires.fault);
     }

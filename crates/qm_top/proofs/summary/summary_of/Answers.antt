@@ -3,28 +3,24 @@ use Rattle.std.proofs.Common.{◌≡◌, ap, arith, length, subst, to_z, of_z}
 use Rattle.std.proofs.{Common.◌∙◌, lemmas.Int.ints, lemmas.List.length-map}
 use Rattle.error_laws.proofs.Errors.{handed}
 use Rattle.def_cut.specs.Grids.{rectangle}
-use Rattle.def_layout.specs.{Arcs.path, Layouts.layout_of, Layouts.Layout}
+use Rattle.def_layout.specs.{Arcs.path, Layouts.Layout}
 use Rattle.def_mesh.specs.Components.{edge_count, is_start, seeds, start_darts}
 use Rattle.def_mesh.specs.{Darts.darts, Faces.Faces, Manifold.IsManifold, Vertices.vertex_count}
-use Rattle.def_remesh.specs.Placings.{IsMeshLayout}
+use Rattle.def_report.specs.BenchLine.{bench_line}
 use Rattle.def_run.specs.Bench.{bench_faces, IsBenchFail}
 use Rattle.def_text.specs.FaceSet.{FaceSet}
 use Rattle.qm_report.proofs.TableReads.{filter_few}
-use Rattle.qm_top.proofs.BenchLines.{same_line, size_fails, traced_in}
+use Rattle.qm_top.proofs.Benched.{size_fails, traced_in}
 use Rattle.qm_top.proofs.summary.summary_of.Goals as goal
 
 pub new-cut-requires : goal.new-cut-requires
-new-cut-requires c = subst (λ (fs : Faces). IsMeshLayout fs (layout_of c.in_ok-layout.layout)) c.mesh-mesh.ensures
-    c.in_ok-layout.ensures.mesh
+new-cut-requires c = rw (← c.mesh-mesh.ensures) c.in_ok-layout.ensures.mesh
 
 pub returns-in_err-deviation-clause-refused : goal.returns-in_err-deviation-clause-refused
 returns-in_err-deviation-clause-refused c =
     handed (IsBenchFail c.args.size) _ _ c.from_residual-in_err-deviation.ensures.1
     (size_fails c.args.size c.new-cut.result.layout c.in_err-deviation.field-0.0
-    (traced_in c.args.size c.args.meshed c.mesh-mesh.result.now (layout_of c.in_ok-layout.layout) c.new-cut.result
-    c.requires
-    c.mesh-mesh.ensures c.new-cut.ensures
-    c.in_ok-layout.ensures.traced)
+    (traced_in c.args.size c.requires c.mesh-mesh.ensures c.new-cut.ensures c.in_ok-layout.ensures.traced)
     c.in_err-deviation.ensures.refused)
 
 pub overflow_cast-counts : goal.overflow_cast-counts
@@ -75,22 +71,18 @@ returns-clause-text c =
     record {
       manifold = subst IsManifold same c.faces.ensures.mesh.manifold;
       layout = on;
-      cut = traced_in c.args.size c.args.meshed c.mesh-mesh.result.now (layout_of c.in_ok-layout.layout)
-          c.new-cut.result
-          c.requires c.mesh-mesh.ensures c.new-cut.ensures c.in_ok-layout.ensures.traced;
+      cut = traced_in c.args.size c.requires c.mesh-mesh.ensures c.new-cut.ensures c.in_ok-layout.ensures.traced;
       cert = kept.cert;
       certified = kept.certified;
       coarse = kept.coarse;
       undoubled = kept.undoubled;
-      said = c.in_ok-summary_text.ensures ∙ same_line c.args.size (record {
-        vertices = c.vertices-vertices.result;
-        edges = c.edge_count-edges.result;
-        faces = length c.faces.result.now;
-        riders = c.len.result;
-        patches = c.len-2.result;
-        arcs = c.len-3.result;
-        deviation = to_z w128 (of_z w128 c.in_ok-deviation.deviation);
-      }) (bench_faces c.args.size) on _ (c.vertices-vertices.ensures.value ∙ ap vertex_count same)
-          (c.edge_count-edges.ensures ∙ ap edge_count same) (ap length (c.faces.ensures.value ∙ same)) riders patches
-          arcs (fits ∙ kept.is);
+      said = c.in_ok-summary_text.ensures ∙ (λ k. bench_line c.args.size (record {
+        vertices = (c.vertices-vertices.ensures.value ∙ ap vertex_count same) k;
+        edges = (c.edge_count-edges.ensures ∙ ap edge_count same) k;
+        faces = length ((c.faces.ensures.value ∙ same) k);
+        riders = riders k;
+        patches = patches k;
+        arcs = arcs k;
+        deviation = (fits ∙ kept.is) k;
+      }));
     }

@@ -1,20 +1,15 @@
 use Rattle.std.proofs.Common.{sym, ◌∙◌, length, ap}
-use Rattle.std.proofs.lemmas.List.{length-map}
-use Rattle.def_layout.specs.{Arcs.path, Layouts.layout_of, Layouts.Layout}
+use Rattle.qm_stages.proofs.Positions.{arcs_long}
 use Rattle.qm_stages.proofs.regridded.Regridded.new.Goals as goal
 
-pub placer-requires-clause-layout : goal.placer-requires-clause-layout
-placer-requires-clause-layout c = rw (c.mesh.ensures, c.layout.ensures.layout) c.layout.ensures.laid
-
-pub placer-requires-clause-long : goal.placer-requires-clause-long
-placer-requires-clause-long c = ap length (sym c.requires.lengths) ∙ c.requires.numbering.long ∙ ap
-    (λ (p : Layout). length p.arcs) (sym c.layout.ensures.layout) ∙ length-map c.layout.result.now.arcs.items path
-
-pub placer-requires-clause-lengths : goal.placer-requires-clause-lengths
-placer-requires-clause-lengths c = rw (c.requires.lengths, ← c.layout.ensures.layout) at c.requires.numbering.lengths
-
-pub placer-requires-clause-few : goal.placer-requires-clause-few
-placer-requires-clause-few c = rw (c.requires.lengths, ← c.layout.ensures.layout) at c.requires.numbering.few
+pub placer-requires : goal.placer-requires
+placer-requires c = record {
+  layout = rw (c.mesh.ensures, c.layout.ensures.layout) c.layout.ensures.laid;
+  long = arcs_long c.layout.result.now c.layout.ensures.layout
+      (ap length (sym c.requires.lengths) ∙ c.requires.numbering.long);
+  lengths = rw (c.requires.lengths, ← c.layout.ensures.layout) at c.requires.numbering.lengths;
+  few = rw (c.requires.lengths, ← c.layout.ensures.layout) at c.requires.numbering.few;
+}
 
 pub invariant_of-result : goal.invariant_of-result
 invariant_of-result c = (
