@@ -101,6 +101,7 @@ fn read_negative(digits: &[u8]) -> Option<i64>
 }
 
 /// A whole number up to the greatest, without a leading zero.
+#[tactic(auto, using(crate::proofs::Counts::count_read))]
 pub(crate) fn read_count(word: &[u8], greatest: u64) -> Option<u64>
     requires { greatest < NUMBER_LIMIT }
     ensures { MatchOption result

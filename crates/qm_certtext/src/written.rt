@@ -20,6 +20,7 @@ use std::alloc::Global;
 
 /// Reads the head line `first`, from 0, and all later lines that begin with `#`. Lengths and numbers stand in the order
 /// of their lines; `up` has those of all vertices and then those of all sets. Linear.
+#[tactic(auto, using(crate::proofs::Tails::few_lines, crate::proofs::Tails::tail_fails))]
 pub fn read_written(alloc: Global, lines: &Lines, first: u32) -> Result<Written, CertFail>
     requires { first < length (lines_of lines.now) }
     ensures reads { IfOk result (λ written. TellHow (slice_index_or (lines_of lines.now) first [])
@@ -73,6 +74,7 @@ pub fn read_certs(
 }
 
 /// What the lines of a text say. The first is line `from` of a whole, from 0.
+#[tactic(auto, using(qm_io::proofs::Cuts::cut_ended, std::proofs::lemmas::List::take_all))]
 fn read_behind(alloc: Global, text: &[u8], from: u32, rising: Rising) -> Result<Found, CertFail>
     requires { from + length (lines_of text.now) < 2 ^ 32 }
     ensures reads { IfOk result (ReadSome rising (lines_of text.now)) }

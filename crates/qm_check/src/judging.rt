@@ -55,6 +55,7 @@ pub(crate) fn judge_text(alloc: Global, text: &Divided, ready: Ready) -> Result<
 }
 
 /// The certificates that the lines behind a head line say.
+#[tactic(auto, using(qm_io::proofs::Cuts::lines_few))]
 fn read_certificates(alloc: Global, text: &Divided, rising: Rising) -> Result<Certs, CheckFail>
     ensures told { IfOk result (λ certs.
         TellCerts rising (drop (text.now.head.line + 1) (lines_of text.now.bytes.now)) (certificates_of certs)) }

@@ -25,6 +25,7 @@ use std::alloc::Global;
 
 /// What the text of a command with this head line is judged by, behind the text of a mesh: the cut, the head line and
 /// the network of its task.
+#[tactic(auto, using(crate::proofs::Points::point_of))]
 pub(crate) fn ready_for(
     alloc: Global,
     text: &SmallText,

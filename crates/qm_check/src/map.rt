@@ -25,6 +25,7 @@ use std::alloc::Global;
 
 /// Judges a text. The last line that begins with `#quadq 1 ` divides it into an old text and one that the command of
 /// this line is to write for it: its certificates are checked, and it is compared with the text as it is made anew.
+#[tactic(auto, using(crate::proofs::Maps::unmarked_bytes))]
 pub fn judge(alloc: Global, bytes: &[u8]) -> Result<Regridded, CheckFail>
     requires { length bytes.now ≤ MAX_BYTES }
     ensures map { IfOk result (λ new. WritesMap bytes.now
@@ -51,6 +52,7 @@ fn judge_parts(alloc: Global, text: &Divided) -> Result<Regridded, CheckFail>
 }
 
 /// Judges what a command is to have written.
+#[tactic(auto, using(error_laws::proofs::Errors::handed, crate::proofs::Maps::mapped))]
 fn judge_command(
     alloc: Global,
     text: &Divided,

@@ -94,6 +94,7 @@ fn check_remesh(alloc: Global, text: &SmallText) -> Result<Accepted, CheckFail>
 }
 
 /// Checks the two parts that its last head line of a remesh divides.
+#[tactic(auto, using(error_laws::proofs::Errors::handed, crate::proofs::Pairs::no_old))]
 fn check_parts(alloc: Global, text: &Divided) -> Result<Accepted, CheckFail>
     requires last { IsLastHead (lines_of text.now.bytes.now) text.now.head.line }
     ensures accepted { IfOk result (λ told. IsCountedPair text.now.bytes.now told.arcs told.faces told.deviation) }

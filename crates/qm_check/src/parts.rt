@@ -45,6 +45,7 @@ impl Divided<'_> {
     }
 
     /// The head line.
+    #[tactic(auto, using(qm_io::proofs::Cuts::cut_is))]
     pub(crate) fn head_line(&self) -> &[u8]
         ensures { result.now ≡ head_of self.now.bytes.now self.now.head.line }
     {
@@ -56,6 +57,7 @@ impl Divided<'_> {
     }
 
     /// What stands behind the head line.
+    #[tactic(auto, using(remesh_laws::proofs::Tails::tail_behind))]
     pub(crate) fn text_behind(&self) -> &[u8]
         ensures { lines_of result.now ≡ drop (self.now.head.line + 1) (lines_of self.now.bytes.now) }
     {

@@ -81,6 +81,7 @@ fn plain_graph(
 }
 
 /// The graph of the chosen cut that keeps these marks.
+#[tactic(auto, using(feature_laws::proofs::Arcs::traced_beside))]
 fn keeping_graph(
     alloc: Global,
     mesh: &Mesh,

@@ -16,6 +16,7 @@ pub(crate) fn split_exponent(body: &[u8]) -> (&[u8], &[u8])
     body.split_at(mark_place(body))
 }
 
+#[tactic(auto, using(std::proofs::lemmas::List::Sums::position_or_len_is))]
 fn mark_place(body: &[u8]) -> usize
     ensures exact { result ≡ position_or_len is_mark body.now }
     ensures within { result ≤ length body.now }
@@ -44,6 +45,7 @@ pub(crate) fn split_point(mantissa: &[u8]) -> (&[u8], &[u8])
 }
 
 /// Whether two runs of digits together are a number.
+#[tactic(auto, using(std::proofs::lemmas::Bool::and_left, crate::proofs::Digits::number_both))]
 pub(crate) fn are_number(whole: &[u8], fraction: &[u8]) -> bool
     requires { length whole.now + length fraction.now ≤ 64 }
     ensures { result ≡ is_number (whole.now ++ fraction.now) }

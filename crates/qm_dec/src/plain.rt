@@ -47,6 +47,7 @@ fn with_fraction(whole: u64, fraction: &[u8]) -> Option<u64>
 }
 
 /// The number that the first digits of a text make of one, and how many they are.
+#[tactic(auto, using(crate::proofs::FewDigits::after_room))]
 fn add_digits(value: u64, text: &[u8]) -> (u64, usize)
     requires small { value < 10 ^ 9 }
     requires short { length text.now ≤ 9 }

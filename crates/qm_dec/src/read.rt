@@ -45,6 +45,7 @@ fn signed(word: &[u8], size: u64) -> Micro
     }
 }
 
+#[tactic(auto, using(crate::proofs::Digits::exponent_is, crate::proofs::Digits::some_from))]
 fn size_in_millionths(whole: &[u8], fraction: &[u8], exponent: &[u8]) -> u64
     requires number { IsTrue (is_number (whole.now ++ fraction.now)) }
     requires exponent { IsTrue (is_exponent exponent.now) }

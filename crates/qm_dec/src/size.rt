@@ -39,6 +39,7 @@ pub(crate) fn number_after(value: u64, digits: &[u8]) -> u64
 }
 
 /// A number times a power of ten.
+#[tactic(auto, using(crate::proofs::Digits::ten_power))]
 fn times_power(value: u64, power: u32) -> u64
     requires { value ≤ 10 ^ 15 }
     ensures { result ≡ clamped (value * 10 ^ power) }
@@ -75,6 +76,7 @@ fn round_at(whole: &[u8], fraction: &[u8], last: u32) -> u64
 }
 
 /// The number that the first digits of the two runs make.
+#[tactic(auto, using(crate::proofs::Digits::digits_split))]
 fn first_digits(whole: &[u8], fraction: &[u8], kept: usize) -> u64
     requires whole { IsTrue (list_all is_ascii_digit whole.now) }
     requires fraction { IsTrue (list_all is_ascii_digit fraction.now) }

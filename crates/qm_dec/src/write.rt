@@ -8,6 +8,7 @@ use itoa::Buffer;
 use qm_scan::behind_first;
 
 /// Writes the text at the front of `out` and tells its length, at most 17.
+#[tactic(auto, using(crate::proofs::Trims::whole_short, crate::proofs::Trims::fraction_short))]
 pub fn write_micro(out: &mut [u8; 24], m: Micro) -> usize
     ensures short { result ≤ 17 }
     ensures text { take result out.new ≡ micro_text m }

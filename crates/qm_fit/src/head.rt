@@ -94,6 +94,7 @@ fn push_aim(text: &mut Vec<u8>, aim: &Aim) -> Result<(), Memory>
 }
 
 /// Puts the least length of an arc and the weights at the end of a text, as they stand in the head line of a remesh.
+#[tactic(auto, using(crate::proofs::Heads::least_cut))]
 fn push_least(alloc: Global, text: &mut Vec<u8>, fit: &Fit) -> Result<(), Memory>
     ensures { OnOk result (text.new.items ≡ text.old.items
         ++ codes " floor " ++ floor_text fit.now.floor fit.now.auto ++ codes " weight " ++ weight_text fit.now.weight) }

@@ -13,6 +13,7 @@ use def_fit::{Aim, Fit};
 use qm_certtext::cut_word;
 
 /// The fit whose head line this is. Linear.
+#[tactic(auto, using(crate::proofs::Heads::head_of))]
 pub fn read_fit_head(line: &[u8]) -> Option<Fit>
     ensures { MatchOption result ((fit : AnyFit) → IsFit fit → ¬ (line.now ≡ fit_head fit))
         (λ fit. (line.now ≡ fit_head fit) × IsFit fit) }

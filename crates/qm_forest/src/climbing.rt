@@ -36,6 +36,7 @@ impl Forest {
     }
 
     /// The outermost blossom that a dart reaches.
+    #[tactic(auto, using(crate::proofs::OnWays::twin_dart, forest_laws::proofs::Graphs::are_darts))]
     pub fn far_blossom(&self, g: &SmallGraph, d: u32) -> u32
         requires { IsDartOf g.now.graph self.now d }
         ensures value { result ≡ (forest_of self.now).out (far (darts_of g.now.graph) d) }
@@ -45,6 +46,7 @@ impl Forest {
     }
 
     /// The next blossom towards the root, seen from a blossom of the tree that is not the root.
+    #[tactic(auto, using(crate::proofs::Increases::rise_dart))]
     pub(crate) fn above(&self, g: &SmallGraph, b: u32) -> u32
         requires { Hangs g.now.graph self.now b }
         ensures value { result ≡ above_of (darts_of g.now.graph) (forest_of self.now) b }

@@ -16,6 +16,7 @@ use crate::tables::{Handles, Lists, Rings};
 use qm_pool::{Node, Pool};
 
 /// A blossom of a ring that has the most vertices.
+#[tactic(auto, using(crate::proofs::RenamedRows::row_place))]
 fn largest(after: &[u32], rank: &[u32], front: u32, many: u32) -> u32
     requires row { IsRow (length after.now) after.now front many }
     requires ranks { length rank.now ≡ length after.now }
@@ -60,6 +61,7 @@ pub(crate) fn rename(handles: &mut Handles, lists: &Lists, x: u32, handle: u32, 
 }
 
 /// The vertices of a blossom get the handle of another. Their potentials stay.
+#[tactic(auto, using(crate::proofs::RenamedRows::kept_handle))]
 fn rename_to(handles: &mut Handles, lists: &Lists, x: u32, big: u32)
     requires lists { HasListAt handles.old lists.now x }
     requires leaders { HasLeaders handles.old lists.now x big }

@@ -48,6 +48,7 @@ impl Forest {
     }
 
     /// The load between two vertices of one outermost blossom.
+    #[tactic(auto, using(crate::proofs::Meeting::met_load))]
     fn load_within(&self, g: &SmallGraph, u: u32, v: u32) -> i128
         requires ends { AreVertices g.now.graph self.now u v }
         requires same { (forest_of self.now).out u ≡ (forest_of self.now).out v }

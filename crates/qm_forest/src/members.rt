@@ -53,6 +53,7 @@ impl Forest {
     }
 
     /// Lists the vertices of a blossom, in any order, in place of what was in the list. Linear in them.
+    #[tactic(auto, using(forest_laws::proofs::Walks::listed_place))]
     pub fn members(&self, b: u32, list: &mut Vec<u32>)
         requires used { IsUsed self.now b }
         requires room { length self.now.hand ≤ vec_capacity list.old }

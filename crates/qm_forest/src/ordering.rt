@@ -43,6 +43,7 @@ impl Forest {
 }
 
 /// Sorts pairs.
+#[tactic(auto, using(crate::proofs::Waitings::firsts_rise))]
 fn sort(sets: &mut Vec<(u32, u32)>)
     ensures moved { IsPermutation sets.old.items sets.new.items }
     ensures increasing { IsNonDecreasingBy (λ (set : ℕ × ℕ). set.0) sets.new.items }

@@ -35,6 +35,7 @@ impl Forest {
     }
 
     /// The blossoms of a ring leave the tree, and are gathered into one outer blossom.
+    #[tactic(auto, using(forest_laws::proofs::Walks::listed_at))]
     fn close_ring(&mut self, top: u32, many: u32, mate: Option<u32>)
         requires tops { (k : ℕ) → k < many → IsOutermostIn self.old (walk (slice_index self.old.after) top k) }
         requires free { (left : ForestTables) → forest_of left ≡ left_alone (forest_of self.old) top many

@@ -99,6 +99,7 @@ fn dart_starts(alloc: Global, g: &SmallGraph) -> Result<Vec<u32>, Memory>
 }
 
 /// The greatest cost, up or down.
+#[tactic(auto, using(crate::proofs::Fresh::one_more_cost))]
 pub fn greatest_cost(g: &SmallGraph) -> u64
     requires costs { (e : ℕ) → e < length g.now.graph.edges → unsigned_abs (edge_at g.now.graph e).cost ≤ 2 ^ 60 }
     ensures above { (e : ℕ) → e < length g.now.graph.edges → unsigned_abs (edge_at g.now.graph e).cost ≤ result }

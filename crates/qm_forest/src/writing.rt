@@ -88,6 +88,7 @@ impl Forest {
 
     /// Lists what is around the vertices and the sets, in a table of the forest. The table of the darts' starts, which
     /// is not needed any more, is handed out with it.
+    #[tactic(auto, using(crate::proofs::Waitings::distinct))]
     fn list_entries(self, sets: &[(u32, u32)]) -> (Vec<u32>, Vec<u32>)
         requires order { AreInOrder self sets.now }
         ensures room { length self.near ≤ vec_capacity result.0 }

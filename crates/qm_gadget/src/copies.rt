@@ -26,6 +26,7 @@ impl Copies {
 }
 
 /// The first copy of each node, and past the last node the number of all copies.
+#[tactic(auto, using(table_laws::proofs::Ranges::part_low))]
 fn first_copies(alloc: Global, counts: &[u32]) -> Result<Vec<u32>, AllocError>
     requires { count_below (copies_in counts.now) (length counts.now) < 2 ^ 26 }
     ensures { IfOk result (λ firsts. AreFirsts counts.now firsts.items) }

@@ -30,7 +30,7 @@ pub(crate) fn push_link(edges: &mut Vec<WEdge>, u: u32, v: u32, cost: i64) -> Re
 }
 
 /// Adds edges from `u` to so many vertices, from the first on.
-#[tactic(auto, using(crate::proofs::Fans::fan_more))]
+#[tactic(auto, using(crate::proofs::Fans::fan_more, crate::proofs::Fans::two_parts))]
 fn push_fan(
     edges: &mut Vec<WEdge>,
     u: u32,

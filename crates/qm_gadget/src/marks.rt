@@ -52,6 +52,7 @@ pub(crate) fn push_mark(m: &mut Vec<u32>, k: u32, mark: bool) -> Result<(), Allo
 }
 
 /// Adds the number of the edge at place `i` of `n` edges from `k` on, if there is one to choose.
+#[tactic(auto, using(crate::proofs::Numbers::choice_places))]
 fn push_choice(m: &mut Vec<u32>, k: u32, some: bool, i: u32, n: u32) -> Result<(), AllocError>
     requires { k + n < 2 ^ 32 }
     ensures { OnOk result (m.new.items ≡ m.old.items ++ places k (choice some i n)) }
@@ -88,6 +89,7 @@ fn push_end_marks(
 }
 
 /// Adds the chosen edges of the second end of a unit, and of the edge inside it if the signs are alike.
+#[tactic(auto, using(gadget_laws::proofs::Pick::choice_length, crate::proofs::Numbers::places_two))]
 fn push_right_marks(
     m: &mut Vec<u32>,
     k: u32,

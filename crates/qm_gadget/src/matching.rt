@@ -47,6 +47,7 @@ pub fn matching_of(
 }
 
 /// The same, by the lows and caps of the gadget.
+#[tactic(auto, using(crate::proofs::OfList::ups_length))]
 fn matching_by(alloc: Global, boxes: &Boxes, x2: &[u64]) -> Result<Vec<u32>, AllocError>
     requires inside { IsInBox boxes.now.step boxes.now.lows.now boxes.now.caps.now x2.now }
     requires short { length (marks_over (network boxes.now.net.whole.now) boxes.now.step boxes.now.lows.now

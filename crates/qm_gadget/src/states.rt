@@ -38,6 +38,7 @@ pub(crate) fn states_of(alloc: Global, caps: &[u32], ups: &[u32]) -> Result<Vec<
 }
 
 /// Adds the states of so many units, of which the first `up` are on.
+#[tactic(auto, using(crate::proofs::Fans::run_suc, crate::proofs::Fans::two_parts))]
 fn push_run(ons: &mut Vec<bool>, up: u32, cap: u32) -> Result<(), AllocError>
     ensures { OnOk result (ons.new.items ≡ ons.old.items ++ run up cap) }
 {

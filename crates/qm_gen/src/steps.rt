@@ -16,6 +16,7 @@ use qm_obj::soup_of;
 use std::alloc::Global;
 
 /// The soup of so many blocks. Linear.
+#[tactic(auto, using(crate::proofs::Grid::few_points))]
 pub fn steps_mesh(alloc: Global, n: u32) -> Result<Soup, Memory>
     requires some { 1 ≤ n }
     requires few { n ≤ MAX_BLOCKS }
@@ -53,6 +54,7 @@ fn next_state(state: u64) -> u64
 }
 
 /// All points of the grid, row by row.
+#[tactic(auto, using(crate::proofs::Ranges::flat_more))]
 fn grid_points(alloc: Global, n: u32) -> Result<Vec<[Micro; 3]>, Memory>
     requires { n ≤ MAX_BLOCKS }
     ensures { IfOk result (λ points. points.items ≡ grid_points n) }
@@ -64,6 +66,7 @@ fn grid_points(alloc: Global, n: u32) -> Result<Vec<[Micro; 3]>, Memory>
     Ok(points)
 }
 
+#[tactic(auto, using(crate::proofs::Ranges::pushed_more))]
 fn push_points(points: &mut Vec<[Micro; 3]>, n: u32, y: u32) -> Result<(), Memory>
     requires few { n ≤ MAX_BLOCKS }
     requires low { y ≤ GREATEST_HEIGHT }
@@ -86,6 +89,7 @@ fn units(x: u32) -> Micro
 }
 
 /// The cells of all rows, over the numbers of the grid's points.
+#[tactic(auto, using(crate::proofs::Ranges::flat_more))]
 fn all_cells(alloc: Global, n: u32, heights: &[u32]) -> Result<Vec<[u32; 4]>, Memory>
     requires few { n ≤ MAX_BLOCKS }
     requires heights { heights.now ≡ map (block_height n) (range_with_len 0 n) }

@@ -19,6 +19,7 @@ pub(crate) struct EdgeAndFloor {
 }
 
 /// The length and the floor in a head line of `size`.
+#[tactic(auto, using(crate::proofs::Sizes::no_front))]
 pub(crate) fn read_size(line: &[u8]) -> Option<EdgeAndFloor>
     ensures { MatchOption result ((edge : ℤ) (floor : ℕ) → ¬ IsSizeHead line.now edge floor)
         (λ asked. IsSizeHead line.now asked.edge asked.floor) }
@@ -39,6 +40,7 @@ pub(crate) fn read_size(line: &[u8]) -> Option<EdgeAndFloor>
 }
 
 /// The length whose canonical text a word is, where that is at least a millionth.
+#[tactic(auto, using(crate::proofs::Sizes::near_read))]
 fn read_written(word: &[u8]) -> Option<Micro>
     ensures { MatchOption result
         ((edge : ℤ) → pos 1 ≤ℤ edge → unsigned_abs edge ≤ MAX_MICRO → ¬ (word.now ≡ micro_text edge))

@@ -48,6 +48,7 @@ pub extern "C" fn quadq_run(
 }
 
 /// Runs the words that stand in the lines of a text, and answers the exit status.
+#[tactic(auto, using(crate::proofs::Told::gave_up))]
 fn run_over(alloc: Global, words: &[u8], input: &[u8], out: &mut MemSink, err: &mut MemSink) -> u8
     requires new_out { (out.old.taken ≡ []) × (out.old.faults ≡ 0) }
     requires new_err { (err.old.taken ≡ []) × (err.old.faults ≡ 0) }

@@ -17,6 +17,7 @@ pub(crate) struct Said {
 }
 
 /// What words say that are divided by one blank each.
+#[tactic(auto, using(crate::proofs::Pieces::none_of, crate::proofs::Pieces::three_said))]
 pub(crate) fn read_said(text: &[u8]) -> Option<Said>
     ensures { MatchOption result (wished_by (pieces_of text.now) ≡ None) (IsSaid (pieces_of text.now)) }
 {
@@ -42,6 +43,7 @@ pub(crate) fn read_said(text: &[u8]) -> Option<Said>
 }
 
 /// What stands before the first blank, and behind it.
+#[tactic(auto, using(crate::proofs::Pieces::one_piece, crate::proofs::Pieces::first_piece))]
 fn cut_blank(text: &[u8]) -> Option<(&[u8], &[u8])>
     ensures { MatchOption result (pieces_of text.now ≡ text.now ∷ [])
         (λ cut. pieces_of text.now ≡ cut.0.now ∷ pieces_of cut.1.now) }

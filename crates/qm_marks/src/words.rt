@@ -7,6 +7,7 @@ ghost use Rattle.def_text.specs.Words.{is_blank, words};
 use def_text::{SPACE, TAB};
 
 /// The first word of a line, and what follows it. The word is empty where there is none.
+#[tactic(auto, using(crate::proofs::FirstWords::first_word))]
 pub(crate) fn first_word(text: &[u8]) -> (&[u8], &[u8])
     ensures { words text.now ≡ (if length result.0.now == 0 then [] else result.0.now ∷ words result.1.now) }
 {
@@ -15,6 +16,7 @@ pub(crate) fn first_word(text: &[u8]) -> (&[u8], &[u8])
 }
 
 /// Where the first word ends, which begins the line.
+#[tactic(auto, using(std::proofs::lemmas::List::Sums::position_or_len_is))]
 fn word_end(text: &[u8]) -> usize
     ensures exact { result ≡ position_or_len is_blank text.now }
     ensures within { result ≤ length text.now }

@@ -96,6 +96,7 @@ impl Matcher {
 
     /// Finds a least perfect matching, in increasing order, and a dual that shows it to be least. One perfect matching
     /// is known: its edges that are tight from the start are matched first. It takes no memory and cannot fail.
+    #[tactic(auto, using(crate::proofs::Outcomes::increasing_low))]
     pub fn run(self, g: &SmallGraph, known: &[u32]) -> (Vec<u32>, Dual)
         requires cheap { IsCheap g.now.graph }
         requires made { IsMadeFor g.now.graph self }

@@ -61,6 +61,7 @@ fn is_tight(g: &SmallGraph, y: &[i64], e: u32) -> bool {
 }
 
 /// The cost of a matching. Linear in its edges.
+#[tactic(auto, using(crate::proofs::Outcomes::increasing_low))]
 pub fn cost_of(g: &SmallGraph, matching: &[u32]) -> i128
     requires increasing { IsIncreasing 0 (length g.now.graph.edges) matching.now }
     ensures value { result ≡ matching_cost g.now.graph matching.now }

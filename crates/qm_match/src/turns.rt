@@ -137,6 +137,7 @@ impl Search {
         }
     }
     /// The matching and the dual, where all searches are done.
+    #[tactic(auto, using(crate::proofs::Outcomes::bounded_dual))]
     pub(crate) fn into_parts(self, g: &SmallGraph) -> (Vec<u32>, Dual)
         requires { IsDone g.now.graph self }
         ensures perfect { IsPerfect g.now.graph result.0.items }

@@ -62,6 +62,7 @@ fn room_at(y: &[i64], g: &SmallGraph, fans: &Fans, v: u32, most: u64) -> i64
 }
 
 /// What the far end of a dart leaves to the vertex where it begins.
+#[tactic(auto, using(crate::proofs::Raised::cost_small))]
 fn left_by(y: &[i64], g: &SmallGraph, d: u32) -> i64
     requires ready { (most : ℕ) × MayRise g.now.graph most y.now }
     requires dart { d < 2 * length g.now.graph.edges }

@@ -28,6 +28,7 @@ use std::alloc::{AllocError, Global};
 
 /// Merges the patches of a full cut across whole sides, beside no marked line. The riders stay. The time is that of
 /// [`merge_beside`].
+#[tactic(auto, using(merge_laws::proofs::NoLines::none_merged))]
 pub fn merge(alloc: Global, mesh: &Mesh, graph: &Graph) -> Result<Graph, AllocError>
     requires cut { IsFullCut mesh.now graph.now.covered.items }
     ensures merged { IfOk result (λ g. IsMergedCut mesh.now graph.now.covered.items g.covered.items) }
@@ -70,6 +71,7 @@ pub fn merge_beside(
     Ok(Graph { covered, riders })
 }
 
+#[tactic(auto, using(merge_laws::proofs::Beside::beside_reached, face_laws::proofs::FullCuts::from_cut))]
 fn merge_all(
     alloc: Global,
     mesh: &Mesh,
@@ -103,6 +105,7 @@ fn merge_all(
 }
 
 /// The joinable arc from the start of this name, if that is its name. Linear in it.
+#[tactic(auto, using(crate::proofs::Linked::read_at))]
 fn place_of(linked: &Linked, name: u32) -> Option<Place>
     requires { name < darts linked.now.cut.now.faces }
     ensures found { IfSome result (λ place.
@@ -126,6 +129,7 @@ fn place_of(linked: &Linked, name: u32) -> Option<Place>
 }
 
 /// Takes a joinable arc out of the cut, and notes what is joinable then and was not.
+#[tactic(auto, using(crate::proofs::Dropped::cutting_after))]
 fn drop_first(
     mesh: &Mesh,
     cut: &mut [bool],

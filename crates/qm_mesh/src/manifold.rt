@@ -18,6 +18,7 @@ use def_mesh::MAX_FACES;
 use std::alloc::Global;
 
 /// The mesh of these faces. Linear in faces and vertices, however many faces there are at one vertex.
+#[tactic(auto, using(crate::proofs::Corners::refused_result))]
 pub fn build(alloc: Global, vertices: u32, faces: &[[u32; 4]]) -> Result<Mesh, MeshFail>
     requires few { length faces.now ≤ MAX_FACES }
     requires within { IsTrue (names_below vertices faces.now) }

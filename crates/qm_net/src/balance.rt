@@ -58,6 +58,7 @@ fn are_balanced(lengths: &Lengths) -> bool
 }
 
 /// Whether both sides of each node of a block have equal sums.
+#[tactic(auto, using(crate::proofs::Balances::balances_more))]
 fn is_block_balanced(lengths: &Lengths, first: usize) -> bool
     ensures { IsTrue result
         ↔ IsBlockBalanced lengths.now.net.whole.now.arcs.items lengths.now.x.now first (first + 2048) }

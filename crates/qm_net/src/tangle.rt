@@ -52,6 +52,7 @@ fn count_arc(arc: &Arc, degrees: &mut [u64])
 }
 
 /// Counts an end.
+#[tactic(auto, using(table_laws::proofs::Tallies::raised_at))]
 fn count_end(end: &End, degrees: &mut [u64])
     requires small { (v : ℕ) → slice_index degrees.old v ≤ 2 ^ 33 + 1 }
     requires at { end.now.node < length degrees.old }

@@ -34,6 +34,7 @@ fn named_line(k: u64, all: u32) -> Index
 
 /// The `v` line that a corner names after `before` others, from 1: 0 where it names none that can come, and
 /// `u32::MAX` where its number is greater.
+#[tactic(auto, using(crate::proofs::CornerLemmas::plain_corner))]
 pub(crate) fn read_corner(word: &[u8], before: u32) -> Option<u32>
     ensures { result ≡ (if is_corner_word word.now then Some (corner_of before word.now) else None) }
 {

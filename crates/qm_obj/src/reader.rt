@@ -66,6 +66,7 @@ impl Reader {
     }
 
     /// The soup of all lines that were taken, or the refusal of the first face that names no position.
+    #[tactic(auto, using(crate::proofs::SoupLemmas::none_late))]
     pub(crate) fn finish(self, alloc: Global) -> Result<Soup, ObjFail>
         ensures soup { IfOk result (λ soup.
             (first_late (length self.positions.items) self.faces.items self.lines.items ≡ None)

@@ -15,6 +15,7 @@ pub(crate) fn next_word(text: &[u8]) -> (&[u8], &[u8])
     rest.split_at(word_end(rest))
 }
 
+#[tactic(auto, using(std::proofs::lemmas::List::Sums::position_or_len_is))]
 fn word_end(text: &[u8]) -> usize
     ensures exact { result ≡ position_or_len is_end text.now }
     ensures within { result ≤ length text.now }

@@ -14,6 +14,7 @@ use def_mesh::MAX_FACES;
 use def_remesh::Spaced;
 
 /// The parameter of place k of an arc, counted from its beginning, forward, or from its end.
+#[tactic(auto, using(crate::proofs::ArcPoints::read_short))]
 pub(crate) fn parameter_of(places: &ArcPlaces, used: SideArc, k: u32) -> u64
     requires arc { used.arc < length places.now.t.now.arcs.items }
     requires place { k ≤ lengths_in places.now.lengths.now used.arc }
@@ -36,6 +37,7 @@ pub(crate) fn parameter_of(places: &ArcPlaces, used: SideArc, k: u32) -> u64
 }
 
 /// The parameter of place k of an arc, from its beginning, by shares.
+#[tactic(auto, using(crate::proofs::ArcPoints::read_short))]
 fn shared_part(places: &ArcPlaces, spaced: &Spaced, arc: usize, k: u32) -> u64
     requires spaced { places.now.spaced.now ≡ Some spaced.now }
     requires arc { arc < length places.now.t.now.arcs.items }
@@ -53,6 +55,7 @@ fn shared_part(places: &ArcPlaces, spaced: &Spaced, arc: usize, k: u32) -> u64
 }
 
 /// The parameter of place k of an arc, from the end from which k counts, evenly.
+#[tactic(auto, using(crate::proofs::Pushes::part_most))]
 fn part_of_arc(k: u32, old: u64, new: u32) -> u64
     requires place { (k ≤ new) × (0 < new) }
     requires short { old ≤ MAX_FACES }

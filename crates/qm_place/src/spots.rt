@@ -32,6 +32,7 @@ pub(crate) fn along_spot(placed: &Placed, arc: usize, place: u32) -> EdgeSpot
 }
 
 /// Place k of so many equal parts of an arc.
+#[tactic(auto, using(crate::proofs::Entries::arc_read, crate::proofs::Entries::dart_read))]
 fn even_spot(placed: &Placed, arc: usize, k: u32, parts: u32) -> EdgeSpot
     requires arc { arc < length placed.now.t.now.arcs.items }
     requires place { (k < parts) × (parts ≤ 2 ^ 24) }
@@ -70,6 +71,7 @@ fn shared_spot(placed: &Placed, arc: usize, parameter: u64) -> EdgeSpot
 }
 
 /// An inner point of the patches, counted from the first one, which lies in this patch.
+#[tactic(auto, using(crate::proofs::Entries::offset_read))]
 pub(crate) fn inside_spot(placed: &Placed, patch: usize, place: u32) -> FaceSpot
     requires inside { IsInside (layout_in placed.now) (lengths_by placed.now) patch place }
     ensures { result ≡ face_spot (layout_in placed.now) (lengths_by placed.now) (spacing_at placed.now) patch
@@ -84,6 +86,7 @@ pub(crate) fn inside_spot(placed: &Placed, patch: usize, place: u32) -> FaceSpot
 }
 
 /// Grid point (i, j) of a patch, in the old cell where it lies.
+#[tactic(auto, using(crate::proofs::Entries::patch_read))]
 fn cell_spot(placed: &Placed, patch: usize, i: u32, j: u32) -> FaceSpot
     requires patch { patch < length placed.now.t.now.patches.items }
     requires grid { IsOnGrid (rim_at placed.now.tables.now.rims.items patch) i j }

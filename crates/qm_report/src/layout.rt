@@ -76,6 +76,7 @@ fn place_in_file(names: &[u32], vertex: u32) -> u32
 }
 
 /// The irregular vertices, with how many faces there are at each.
+#[tactic(auto, using(crate::proofs::TableReads::place_low))]
 fn push_named(text: &mut Vec<u8>, cut: &CutMesh, kinds: &[Kind]) -> Result<(), Memory>
     requires { kinds.now ≡ map (kind_of cut.now.soup.faces) (all_vertices cut.now.soup.faces) }
     ensures { OnOk result (text.new.items
@@ -119,6 +120,7 @@ fn push_breaks(
 }
 
 /// The vertices where the lines of these marks break.
+#[tactic(auto, using(crate::proofs::TableReads::place_low))]
 fn push_broken(
     alloc: Global,
     text: &mut Vec<u8>,
@@ -141,6 +143,7 @@ fn push_broken(
 }
 
 /// The arcs, with their lengths and all their vertices.
+#[tactic(auto, using(crate::proofs::Texts::piece_behind))]
 fn push_arcs(text: &mut Vec<u8>, cut: &CutMesh, kept: Option<&[bool]>) -> Result<(), Memory>
     ensures { OnOk result (text.new.items ≡ text.old.items
         ++ flat_map (whole_arc_line cut.now.soup (option_copied kept.entry) cut.now.layout)

@@ -14,6 +14,7 @@ use def_layout::{SideArc, TMesh};
 use qm_print::push_spaced;
 
 /// Puts the lines of all arcs of a layout at the end of a text.
+#[tactic(auto, using(crate::proofs::Texts::piece_behind))]
 pub(crate) fn push_arcs(text: &mut Vec<u8>, t: &TMesh) -> Result<(), Memory>
     requires first { (arc : ℕ) → arc < length (layout_of t.now).arcs
         → (path_at (layout_of t.now).arcs arc).first < length t.now.nodes.items }

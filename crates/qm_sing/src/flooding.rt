@@ -20,6 +20,7 @@ use std::alloc::Global;
 pub(crate) const NONE: u32 = u32::MAX;
 
 /// The number of each face's component, and how many components there are. Linear in the faces.
+#[tactic(auto, using(crate::proofs::Numberings::numbering_low))]
 pub fn components(alloc: Global, mesh: &Mesh) -> Result<(Vec<u32>, u32), Memory>
     ensures numbers { IfOk result (λ r. r.0.items ≡ component_numbers mesh.now) }
     ensures many { IfOk result (λ r. r.1 ≡ length (least_faces mesh.now)) }

@@ -20,6 +20,7 @@ pub(crate) struct Line {
 }
 
 /// The runs of a mesh. Linear in the darts.
+#[tactic(auto, using(crate::proofs::Longest::none_found))]
 pub fn runs(alloc: Global, mesh: &Mesh) -> Result<RunTable, Memory>
     ensures { IfOk result (AreRuns mesh.now) }
 {

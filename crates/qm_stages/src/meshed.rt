@@ -37,6 +37,7 @@ impl Model for Meshed {
 
 impl Meshed {
     /// The mesh of the soup's faces, or the first place where they are no manifold. Linear.
+    #[tactic(auto, using(crate::proofs::Solids::solid_of))]
     pub fn new(alloc: Global, soup: Soup) -> Result<Meshed, NoMesh>
         requires few { (length soup.pos ≤ MAX_V_LINES) × (length soup.faces ≤ MAX_F_LINES) }
         ensures soup { IfOk result (λ meshed. meshed ≡ soup) }

@@ -80,6 +80,7 @@ fn border_number(numbered: &Numbered, patch: usize, side: usize, place: u32) -> 
 impl Numbered<'_> {
     /// The number of grid point (i, j) of a patch. In constant time inside the patch, and logarithmic in the arcs of a
     /// side on that.
+    #[tactic(auto, using(crate::proofs::Grids::starts_end))]
     pub fn point(&self, patch: usize, i: u32, j: u32) -> u32
         requires patch { patch < length self.now.t.now.patches.items }
         requires column { i ≤ wide (gluing_of (layout_of self.now.t.now))

@@ -115,6 +115,7 @@ fn push_side(
 }
 
 /// Puts the remedies by the edges of a line behind the others.
+#[tactic(auto, using(crate::proofs::TightEdges::line_some))]
 fn push_line(
     found: &mut Vec<Remedy>,
     priced: &Priced,

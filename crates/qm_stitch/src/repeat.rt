@@ -50,6 +50,7 @@ pub(crate) fn sort(keys: &mut Vec<u64>)
 }
 
 /// The first key with two equal vertices, or of two edges, of keys that rise.
+#[tactic(auto, using(crate::proofs::Repeats::first_is))]
 fn first_repeat(keys: &[u64]) -> Option<u64>
     requires { IsNonDecreasing keys.now }
     ensures some { IfSome result (IsLeastRepeat keys.now) }

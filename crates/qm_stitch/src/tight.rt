@@ -127,6 +127,7 @@ fn is_doubled_in(keyed: &Keyed, patch: usize, upright: bool) -> bool
 }
 
 /// Whether a line has a doubled edge: its first or its last one.
+#[tactic(auto, using(crate::proofs::TightEdges::line_some))]
 fn is_line_doubled(keyed: &Keyed, line: Line) -> bool
     requires line { IsLine (gluing_in keyed.now.numbered) (lengths_by keyed.now.numbered) line }
     ensures { IsTrue result ↔ IsLineDoubled (gluing_in keyed.now.numbered) (lengths_by keyed.now.numbered)

@@ -31,6 +31,7 @@ pub(crate) fn starts(
 }
 
 /// The name of the arc, if a run that begins with s names it.
+#[tactic(auto, using(crate::proofs::Walks::run_darts))]
 fn named_run(
     alloc: Global,
     mesh: &Mesh,

@@ -114,6 +114,7 @@ impl Meeting<'_> {
     }
 
     /// How many darts that leave it are cut.
+    #[tactic(auto, using(crate::proofs::Walks::fan_low))]
     fn leaving(&self) -> usize
         ensures value { result ≡ length (filter (is_on self.now.cut.now) self.now.fan.now) }
         ensures bound { result ≤ length self.now.fan.now }
@@ -128,6 +129,7 @@ impl Meeting<'_> {
     }
 
     /// How many of the darts before those are cut and have no twin.
+    #[tactic(auto, using(crate::proofs::Walks::fan_low))]
     fn arriving(&self) -> usize
         ensures value { result ≡ length (filter (is_lone_before self.now.mesh.now self.now.cut.now) self.now.fan.now) }
         ensures bound { result ≤ length self.now.fan.now }

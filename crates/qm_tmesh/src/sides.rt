@@ -64,6 +64,7 @@ pub(crate) fn side(alloc: Global, runs: &Runs, line: &[u32]) -> Result<Side, All
 }
 
 /// The side that begins with a dart at a corner of a patch.
+#[tactic(auto, using(crate::proofs::Splits::from_low, crate::proofs::Splits::from_some))]
 pub(crate) fn side_from(
     alloc: Global,
     mesh: &Mesh,

@@ -53,6 +53,7 @@ impl Model for Tour {
 
 impl Tour {
     /// A tournament of so many leaves without a key.
+    #[tactic(auto, using(crate::proofs::Mended::blank))]
     pub fn new(alloc: Global, room: usize) -> Result<Tour, Memory>
         requires some { 1 ≤ room }
         requires few { room ≤ 2 ^ 32 }
@@ -69,6 +70,7 @@ impl Tour {
 
     /// A leaf whose key is the least. Which of several is left to the coin: a search that takes equal keys in a fixed
     /// order runs over a whole plateau of equal costs before it turns to an edge that is near.
+    #[tactic(auto, using(crate::proofs::Roots::leaf_least))]
     pub fn least_leaf(&self) -> usize
         ensures low { result < length self.now }
         ensures least { All (λ key. slice_index self.now result ≤ key) self.now }

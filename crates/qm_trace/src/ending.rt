@@ -11,6 +11,7 @@ use def_cut::{Moving, Rider};
 use qm_mesh::Mesh;
 
 /// The marks of the graph, by those of the covered darts. Linear in the darts.
+#[tactic(auto, using(crate::proofs::Ends::marks_are, std::proofs::lemmas::List::with_items_is))]
 pub(crate) fn close(mesh: &Mesh, mut covered: Vec<bool>) -> Vec<bool>
     requires { length covered.items ≡ darts mesh.now }
     ensures { result.items ≡ map (is_closed_at mesh.now covered.items) (all_darts mesh.now) }

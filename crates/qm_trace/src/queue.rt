@@ -64,6 +64,7 @@ fn runs(rider: &Moving) -> bool
 }
 
 /// All riders, by number.
+#[tactic(auto, using(list_laws::proofs::Filters::range_more))]
 pub(crate) fn everyone(alloc: Global, riders: u32) -> Result<Vec<u32>, Memory>
     ensures { IfOk result (λ q. q.items ≡ range_with_len 0 riders) }
 {
@@ -122,6 +123,7 @@ impl Seen<'_> {
     }
 
     /// Moves the riders of the queue.
+    #[tactic(auto, using(motion_laws::proofs::Marks::among_at, crate::proofs::Marking::rode_more))]
     fn ride_each(&self, queue: &[u32], riders: &mut [Moving])
         requires { CanRide self.now.mesh.now riders.old queue.now }
         ensures { AreRode self.now.mesh.now self.now.sight.now.stood.items self.now.sight.now.taken.items

@@ -5,7 +5,3 @@ use Rattle.qm_lib.proofs.run_over.Goals as goal
 pub returns-in-Ok : goal.returns-in-Ok
 returns-in-Ok c = ran_over (λ s. s.left.now) c.args.words.now c.args.input.now _ _ c.args.out.now _ c.args.err.now _ _ _
     c.run_process.ensures.ends (ap Some c.in-Ok.ensures) c.new-source.ensures c.requires.new_out c.requires.new_err
-
-pub returns-in-Err : goal.returns-in-Err
-returns-in-Err c = gave_up c.args.words.now c.args.input.now c.args.out.now c.args.err.now c.status.result
-    c.status.ensures c.requires.new_out c.requires.new_err

@@ -3,14 +3,6 @@ use Rattle.{std.specs.Prelude.slice_get, qm_blocktext.proofs.Rounds.arc_behind, 
 use Rattle.qm_blocktext.specs.Gridded.{arcs_of}
 use Rattle.qm_blocktext.proofs.arcs.arc_at.Goals as goal
 
-pub returns-then-left-len : goal.returns-then-left-len
-returns-then-left-len c =
-    let side = c.side-item.result in
-    let less : c.loop-side.left < length side.arcs.items =
-    omega (arith, c.if-left-len.true, c.len.ensures, side.arcs.ok.0) in
-    sym (arc_here c.args.sides.now c.loop-side.side-index c.loop-side.left side c.loop-side-test.true c.side-item.is
-    c.index.result.now less c.index.ensures) ∙ c.loop-side.invariant
-
 pub loop-side-preserved : goal.loop-side-preserved
 loop-side-preserved c =
     let side = c.side-item.result in

@@ -6,13 +6,6 @@ pub returns-then-has_leading_zero : goal.returns-then-has_leading_zero
 returns-then-has_leading_zero c n low is = count_lead c.args.word.now c.args.greatest n c.requires low
     (sym c.if-has_leading_zero.ensures) is
 
-pub returns-in-Some : goal.returns-in-Some
-returns-in-Some c = (
-  c.if-n-greatest.true,
-  count_read c.args.word.now c.args.greatest c.in-Some.n c.requires c.if-n-greatest.true
-      (sym c.if-has_leading_zero.ensures) c.in-Some.ensures,
-)
-
 pub returns-in_default : goal.returns-in_default
 returns-in_default c n low is = count_other c.args.word.now c.args.greatest c.in-Some.n n c.requires
     c.if-n-greatest.false low is c.in-Some.ensures

@@ -48,9 +48,3 @@ lines-preserved c =
       read = rw next (read_next c.args.rising (lines_of text) k line c.lines.found there is c.take_text.new.found
           c.lines.invariant.read c.in_ok-take_text.ensures.taken);
     }
-
-pub returns-clause-reads : goal.returns-clause-reads
-returns-clause-reads c =
-    let k = c.lines.i - c.args.from in
-    rw (← take_all k (lines_of c.args.text.now) (cut_ended c.args.text.now c.lines.rest.now k c.lines.invariant.rest
-    c.in_default.ensures.line)) c.lines.invariant.read

@@ -3,13 +3,6 @@ use Rattle.def_certtext.specs.Reading.{made_of}
 use Rattle.qm_certtext.proofs.Tails.{few_lines, tail_fails, tail_tells}
 use Rattle.qm_certtext.proofs.written.read_written.Goals as goal
 
-pub read_tail-requires : goal.read_tail-requires
-read_tail-requires c = few_lines c.args.lines.now c.tail.result.now c.args.first c.tail.ensures c.requires (omega arith)
-
 pub returns-clause-reads : goal.returns-clause-reads
 returns-clause-reads c = IfOk-weaker c.read_tail.result _ _ (λ written tells. tail_tells c.args.lines.now
     c.tail.result.now c.args.first c.tail.ensures (made_of written) tells) c.read_tail.ensures.reads
-
-pub returns-clause-fails : goal.returns-clause-fails
-returns-clause-fails c = IfErr-weaker c.read_tail.result _ _ (λ fail why. tail_fails c.args.lines.now c.tail.result.now
-    c.args.first c.tail.ensures fail why) c.read_tail.ensures.fails

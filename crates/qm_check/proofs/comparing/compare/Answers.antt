@@ -14,9 +14,3 @@ returns-in-Err-Stopped-clause-other c =
     stopped_differ c.args.given.now.bytes.now (framed_text c.args.framed c.args.cut.soup c.args.cut.layout)
     c.new-comparison.ensures c.at-in-Err-Stopped.ensures c.other_from-in-Err-Stopped.ensures
     (c.in-Err-Stopped.ensures.part (ap Err c.in-Err-Stopped.field-0-is))
-
-pub other_from-requires-in-Err-Stopped : goal.other_from-requires-in-Err-Stopped
-other_from-requires-in-Err-Stopped c =
-    let within = stopped_within c.args.given.now.bytes.now (framed_text c.args.framed c.args.cut.soup c.args.cut.layout)
-    c.new-comparison.ensures (c.in-Err-Stopped.ensures.part (ap Err c.in-Err-Stopped.field-0-is)) in
-    omega (arith, c.at-in-Err-Stopped.ensures, within, c.args.given.now.few)

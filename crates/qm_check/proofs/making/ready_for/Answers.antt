@@ -24,9 +24,6 @@ pub returns-in_err-asides-clause-unmade : goal.returns-in_err-asides-clause-unma
 returns-in_err-asides-clause-unmade c command is = handed _ _ _ c.from_residual.ensures.1
     (aside_unmade (point_of is) c.requires.old.mesh c.in_err-asides.field-0.0 c.in_err-asides.ensures.refused)
 
-pub net_near-requires-clause-fit : goal.net_near-requires-clause-fit
-net_near-requires-clause-fit c = (point_of c.requires.line.1).fit
-
 pub new-cut-requires : goal.new-cut-requires
 new-cut-requires c = (c.in_ok-layout.ensures.mesh.0, c.in_ok-layout.ensures.mesh.1 ∙ c.mesh.ensures)
 

@@ -8,10 +8,3 @@ judge_least-requires c = record {
 
 pub judge_refined-requires : goal.judge_refined-requires
 judge_refined-requires c = record { given = rw c.in-Refine.is at c.requires.given }
-
-pub returns-in_err-finished-clause-refused : goal.returns-in_err-finished-clause-refused
-returns-in_err-finished-clause-refused c = handed _ _ _ c.from_residual.ensures.1 c.in_err-finished.ensures.refused
-
-pub returns-in-Some-clause-mapped : goal.returns-in-Some-clause-mapped
-returns-in-Some-clause-mapped c = mapped c.requires.given
-    (c.in_ok-finished.ensures.found c.args.command c.requires.given (sym c.least_of.ensures ∙ c.in-Some.is))

@@ -14,11 +14,6 @@ asked c = record {
   head = rw c.head_line-line.ensures at c.in-Some.ensures;
 }
 
-pub returns-in_err-old-clause-refused : goal.returns-in_err-old-clause-refused
-returns-in_err-old-clause-refused c = handed _ _ _ c.from_residual.ensures.1 (no_old c.args.text.now.bytes.now
-    c.old_text-front.result.bytes.now c.args.text.now.head.line c.requires.last c.old_text-front.ensures.lines
-    c.in_err-old.field-0.0 c.in_err-old.ensures.refused)
-
 pub returns-in_default-clause-refused : goal.returns-in_default-clause-refused
 returns-in_default-clause-refused c =
     no_head c.args.text.now.bytes.now c.old_text-front.result.bytes.now c.args.text.now.head.line c.requires.last

@@ -3,9 +3,6 @@ use Rattle.def_remesh.specs.Refined.{refined_text}
 use Rattle.qm_check.proofs.Differences.{longer_differ, stopped_differ}
 use Rattle.qm_check.proofs.refined.compare_refined.Goals as goal
 
-pub put_refined-requires-clause-lengths : goal.put_refined-requires-clause-lengths
-put_refined-requires-clause-lengths c = rw c.requires.refined.1.layout c.requires.refined.1.lengths
-
 pub returns-in-Ok-2-clause-other : goal.returns-in-Ok-2-clause-other
 returns-in-Ok-2-clause-other c =
     longer_differ c.args.given.now.bytes.now (refined_text c.args.by c.args.new.now.soup c.args.new.now.layout)

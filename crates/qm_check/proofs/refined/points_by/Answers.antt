@@ -10,8 +10,3 @@ returns-in-Ok-clause-refined c = record {
   shape = c.in-Ok.ensures.shape;
   few = c.in-Ok.ensures.few;
 }
-
-pub returns-in-Err-TooFine-clause-refused : goal.returns-in-Err-TooFine-clause-refused
-returns-in-Err-TooFine-clause-refused c =
-    let told = rw c.in-Err-TooFine.field-0-is at c.in-Err-TooFine.ensures.refused in
-    (told.0, omega (arith, told.0, told.1))

@@ -7,8 +7,3 @@ graph_layout-requires c = record {
   cut = chosen_cut_law c.args.mesh.now (option_copied c.args.kept) c.args.patches c.in_ok-graph.graph.covered.items
       c.faces-known.ensures.mesh.manifold c.requires c.in_ok-graph.ensures;
 }
-
-pub returns-clause-chosen : goal.returns-clause-chosen
-returns-clause-chosen c =
-    IfOk-weaker c.graph_layout.result _ _
-    (λ t laid. (c.in_ok-graph.graph.covered.items, c.in_ok-graph.ensures, laid)) c.graph_layout.ensures.laid

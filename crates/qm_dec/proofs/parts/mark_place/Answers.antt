@@ -2,11 +2,6 @@ use Rattle.std.proofs.{Common.length, Common.arith, Common.sym, lemmas.List.Sums
 use Rattle.def_text.specs.Decimal.{is_mark}
 use Rattle.qm_dec.proofs.parts.mark_place.Goals as goal
 
-pub returns-then-is_mark-clause-exact : goal.returns-then-is_mark-clause-exact
-returns-then-is_mark-clause-exact c =
-    sym (position_or_len_is is_mark c.args.body.now c.loop-i.i 0 (omega arith) c.loop-i.invariant
-    (λ _. sym c.if-is_mark.ensures))
-
 pub returns-clause-exact : goal.returns-clause-exact
 returns-clause-exact c =
     sym (position_or_len_is is_mark c.args.body.now (length c.args.body.now) 0 (omega arith)

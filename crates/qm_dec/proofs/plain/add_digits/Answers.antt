@@ -4,18 +4,6 @@ use Rattle.std.specs.Char.{is_ascii_digit}
 use Rattle.qm_dec.proofs.{Digits.after_more, FewDigits.after_room}
 use Rattle.qm_dec.proofs.plain.add_digits.Goals as goal
 
-pub overflow_mul-value : goal.overflow_mul-value
-overflow_mul-value c =
-    let room = after_room c.args.value c.args.text.now c.loop-i.i c.requires.small c.loop-i.invariant.digits
-    c.requires.short in
-    omega (arith, c.loop-i.invariant.so_far)
-
-pub overflow_add-value : goal.overflow_add-value
-overflow_add-value c =
-    let room = after_room c.args.value c.args.text.now c.loop-i.i c.requires.small c.loop-i.invariant.digits
-    c.requires.short in
-    omega (arith, c.loop-i.invariant.so_far, c.from.ensures)
-
 pub loop-i-preserved : goal.loop-i-preserved
 loop-i-preserved c = record {
   digits = list_all_more is_ascii_digit c.args.text.now c.loop-i.i 0 (omega arith)

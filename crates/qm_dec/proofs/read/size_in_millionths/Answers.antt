@@ -21,10 +21,6 @@ size_of-requires-else-is_negative c =
     let parts = number_parts c.args.whole.now c.args.fraction.now c.requires.number in
     record { whole = parts.0; fraction = parts.1; short = omega (arith, c.requires.short) }
 
-pub small_power-power-requires : goal.small_power-power-requires
-small_power-power-requires c = ap is_number (c.unsigned.ensures ∙ ap unsigned c.behind_first-rest.ensures) ∙ sym
-    (exponent_is c.args.exponent.now (some_from _ c.if-is_empty.ensures)) ∙ c.requires.exponent
-
 -- The power, cut off at a bound.
 bounded : (c : After-small_power-power)
     → c.small_power-power.result ≡ min (number_written (unsigned (drop 1 c.args.exponent.now))) 1000

@@ -5,12 +5,6 @@ use Rattle.qm_dec.specs.Sizes.{clamped}
 use Rattle.qm_dec.proofs.Digits.{digits_split, two_parts}
 use Rattle.qm_dec.proofs.size.first_digits.Goals as goal
 
-pub number_after-requires-clause-digits : goal.number_after-requires-clause-digits
-number_after-requires-clause-digits c = (digits_split c.args.whole.now c.args.kept c.requires.whole).0
-
-pub number_after-requires-3-clause-digits : goal.number_after-requires-3-clause-digits
-number_after-requires-3-clause-digits c = (digits_split c.args.fraction.now _ c.requires.fraction).0
-
 pub returns : goal.returns
 returns c =
     two_parts c.args.whole.now _ c.number_after-2.result c.number_after-3.result c.number_after-2.ensures

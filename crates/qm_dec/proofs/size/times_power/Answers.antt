@@ -10,8 +10,3 @@ loop-power-preserved c = record {
       ∙ grown_more c.loop-power.value c.loop-power.power c.loop-power-test.true ∙ c.loop-power.invariant.whole;
   small = omega (arith, c.min-value.ensures);
 }
-
-pub returns-else-value-lt-FAR : goal.returns-else-value-lt-FAR
-returns-else-value-lt-FAR c =
-    let most = mul-le-mul_left c.loop-power.value (ten_power c.loop-power.power) in
-    omega (arith, c.loop-power.invariant.whole)

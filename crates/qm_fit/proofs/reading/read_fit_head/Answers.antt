@@ -10,14 +10,6 @@ pub returns-in_default-read_fit : goal.returns-in_default-read_fit
 returns-in_default-read_fit c fit is head =
     c.in_default-read_fit.ensures fit (words_of c.args.line.now _ _ _ _ _ _ c.in-Some.ensures fit is head).0
 
-pub returns-then-is_aim_text : goal.returns-then-is_aim_text
-returns-then-is_aim_text c =
-    let read = c.in-Some-read_fit in (
-      head_of c.args.line.now _ _ _ _ _ _ c.in-Some.ensures read.fit read.ensures
-          (c.is_aim_text.ensures.0 c.if-is_aim_text.true),
-      read.ensures.in_range,
-    )
-
 pub returns-else-is_aim_text : goal.returns-else-is_aim_text
 returns-else-is_aim_text c fit is head =
     let read = c.in-Some-read_fit in

@@ -2,9 +2,6 @@ use Rattle.std.proofs.Common.{add-one, arith}
 use Rattle.qm_forest.proofs.RenamedRows.{row_place, row_larger, row_most}
 use Rattle.qm_forest.proofs.gathering.largest.Goals as goal
 
-pub bounds-after-x : goal.bounds-after-x
-bounds-after-x c = row_place _ c.requires.row c.loop-test.true c.loop.invariant.here
-
 pub loop-preserved : goal.loop-preserved
 loop-preserved c =
     record {

@@ -12,6 +12,3 @@ returns-then-x-big c =
     let off_big = ap (λ h. get_or c.args.handles.now.off.items h (pos 0)) big_is in
     renamed_as _ c.rename.ensures big_is
     (omega (arith, ints, c.off_at.ensures, c.off_at-then-x-big.ensures, c.requires.leaders))
-
-pub returns-else-x-big : goal.returns-else-x-big
-returns-else-x-big c = kept_handle _ _ c.if-x-big.false (c.requires.leaders.same c.if-x-big.false)

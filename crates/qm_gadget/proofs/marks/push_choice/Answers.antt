@@ -5,13 +5,6 @@ use Rattle.std.specs.Prelude.{nat_lt}
 use Rattle.qm_gadget.proofs.Numbers.{choice_places}
 use Rattle.qm_gadget.proofs.marks.push_choice.Goals as goal
 
-pub returns-in_ok-push : goal.returns-in_ok-push
-returns-in_ok-push c =
-    let on : (c.args.some && nat_lt c.args.i c.args.n) ≡ true = grind (arith, nat_tests) in
-    c.in_ok-push.ensures.items
-    ∙ ap (λ l. c.args.m.now.items ++ l) (sym (choice_places c.args.k c.args.some c.args.i c.args.n
-    ∙ ap (λ b. cond b ((c.args.k + c.args.i) ∷ []) []) on))
-
 pub returns-else-some : goal.returns-else-some
 returns-else-some c =
     let off : (c.args.some && nat_lt c.args.i c.args.n) ≡ false = grind (arith, nat_tests) in

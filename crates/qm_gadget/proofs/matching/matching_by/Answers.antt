@@ -5,13 +5,6 @@ use Rattle.qm_gadget.proofs.{Fans.states_long, OfList.plan_at, OfList.ups_length
 use Rattle.qm_gadget.proofs.matching.matching_by.Goals.{After-deref-4}
 use Rattle.qm_gadget.proofs.matching.matching_by.Goals as goal
 
-pub states_of-requires : goal.states_of-requires
-states_of-requires c =
-    let boxes = c.args.boxes.now in
-    let long = ups_length boxes.step boxes.lows.now c.args.x2.now (sym c.requires.inside.count) in
-    let read = ap length (c.deref.ensures.value ∙ c.in_ok-raised.ensures) in
-    omega (arith, long, read, boxes.ready.boxes.lows_count, boxes.ready.boxes.caps_count)
-
 pub invariant_of-stated : goal.invariant_of-stated
 invariant_of-stated c =
     let boxes = c.args.boxes.now in

@@ -6,9 +6,6 @@ pub invariant_of-boxes-clause-ready : goal.invariant_of-boxes-clause-ready
 invariant_of-boxes-clause-ready c = rw (c.deref.ensures.value, c.deref-2.ensures.value)
     (gadget_ready c.args.net.now.bounds c.requires.gadget)
 
-pub matching_by-requires-clause-inside : goal.matching_by-requires-clause-inside
-matching_by-requires-clause-inside c = rw (c.deref.ensures.value, c.deref-2.ensures.value) c.requires.inside
-
 pub matching_by-requires-clause-short : goal.matching_by-requires-clause-short
 matching_by-requires-clause-short c = rw (c.deref.ensures.value, c.deref-2.ensures.value)
     (gadget_short c.args.net.now.bounds c.requires.gadget c.args.x2.now c.requires.inside)

@@ -13,6 +13,3 @@ invariant_of-stated-clause-each c =
     ∙ (states_long (network boxes.net.whole.now) boxes.step boxes.net.whole.now.arcs.items boxes.lows.now boxes.caps.now
     c.deref.result.now boxes.ready.boxes.lows_count boxes.ready.boxes.caps_count downs
     ∙ sym (ap length (c.deref-3.ensures.value ∙ c.in_ok-ons.ensures)))
-
-pub invariant_of-stated-clause-at : goal.invariant_of-stated-clause-at
-invariant_of-stated-clause-at c = rw (c.deref-2.ensures.value, c.in_ok-units.ensures) c.args.boxes.now.ready.at

@@ -3,9 +3,6 @@ use Rattle.def_text.specs.{FaceSet.IsSoup, Text.numbers_to}
 use Rattle.qm_gen.proofs.Grid.{are_known, few_faces, few_points, few_used, with_numbers}
 use Rattle.qm_gen.proofs.steps.steps_mesh.Goals as goal
 
-pub soup_of-requires-clause-few : goal.soup_of-requires-clause-few
-soup_of-requires-clause-few c = omega (arith, ap length c.in_ok-points.ensures, few_points c.args.n c.requires.few)
-
 pub soup_of-requires-clause-known : goal.soup_of-requires-clause-known
 soup_of-requires-clause-known c = are_known c.args.n c.requires.few c.in_ok-points.points.items
     c.in_ok-cells.cells.items c.in_ok-points.ensures c.in_ok-cells.ensures

@@ -14,10 +14,3 @@ returns-then-asked c settings range is =
     c.in-Some.ensures.1 range is in
     let chosen = c.if-asked.true in
     true≢false (sym chosen ∙ both.1)
-
-pub returns : goal.returns
-returns c =
-    let asked = c.in-Some.asked in
-    subst (λ (auto : Bool). AreInRange asked.settings auto
-    × (c.args.line.now ≡ asked_line c.args.prefix.now asked.settings auto)) c.if-asked.false
-    c.in-Some.ensures

@@ -2,9 +2,6 @@ use Rattle.qm_certtext.proofs.Cutting.{stripped}
 use Rattle.qm_headline.proofs.Sizes.{has_size, no_edge, no_floor, no_front, no_words, size_front}
 use Rattle.qm_headline.proofs.size.read_size.Goals as goal
 
-pub returns-in_default : goal.returns-in_default
-returns-in_default c = no_front c.args.line.now c.in_default.ensures.cases
-
 pub returns-in_default-cut_word : goal.returns-in_default-cut_word
 returns-in_default-cut_word c = no_words c.in-Some.rest.now
     (stripped size_front c.args.line.now c.in-Some.rest.now c.in-Some.ensures.cases.0 c.in-Some.ensures.cases.1)

@@ -9,13 +9,6 @@ pub returns-in_default : goal.returns-in_default
 returns-in_default c edge low near is = c.in_default.ensures.none refl edge
     (subst (λ (w : Word). IsEdgeLength w edge) (sym is) (written_edge edge low near))
 
-pub returns-then-is_micro_text : goal.returns-then-is_micro_text
-returns-then-is_micro_text c = (
-  c.if-is_micro_text.ensures.0 refl,
-  c.in-Some.ensures.value.low,
-  near_read c.args.word.now c.in-Some.edge c.in-Some.ensures.value.value,
-)
-
 pub returns-else-is_micro_text : goal.returns-else-is_micro_text
 returns-else-is_micro_text c edge low near is =
     let same = read_is c.args.word.now c.in-Some.edge edge c.in-Some.ensures.value.value near is in

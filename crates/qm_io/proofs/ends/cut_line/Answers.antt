@@ -14,11 +14,6 @@ module _ (bs : List ℕ) {piece rest : List ℕ} (n : ℕ) (front : piece ≡ ta
   is_rest : rest ≡ tail_of 1 bs
   is_rest = sym (flat-pieces rest) ∙ ap (λ (ps : List (List ℕ)). flat_map (λ p. p) (drop 1 ps)) (sym is_cut)
 
-pub returns-clause-line : goal.returns-clause-line
-returns-clause-line c =
-    ap (map line_of) (is_cut c.args.bytes.now c.end_of_piece.result c.split_at.ensures.front c.split_at.ensures.back
-    c.end_of_piece.ensures.first) ∙ rw c.line_of.ensures refl
-
 pub returns-clause-rest : goal.returns-clause-rest
 returns-clause-rest c = is_rest c.args.bytes.now c.end_of_piece.result c.split_at.ensures.front c.split_at.ensures.back
     c.end_of_piece.ensures.first

@@ -8,11 +8,6 @@ returns-in-Some-clause-first c =
     let same : c.in-Some.at + 1 - 1 ≡ c.in-Some.at = omega arith in
     rw same (none_in_front c.args.bytes.now c.in-Some.at (λ j m. c.in-Some.ensures.0.before j (omega arith) m))
 
-pub returns-in-Some-clause-feed : goal.returns-in-Some-clause-feed
-returns-in-Some-clause-feed c =
-    let same : c.in-Some.at + 1 - 1 ≡ c.in-Some.at = omega arith in
-    rw same (eqb-true _ _ c.in-Some.ensures.1)
-
 pub returns-in-None-clause-none : goal.returns-in-None-clause-none
 returns-in-None-clause-none c =
     subst (λ (bs : List ℕ). list_any (λ b. b == 10) bs ≡ false) (take-length c.args.bytes.now)

@@ -29,12 +29,6 @@ returns-in_err-take-clause-refused c = handed _ _ _ c.from_residual-in_err-take.
     (first_logical (c.args.i + 1) (slice_range (lines_of c.args.given.now.lines.now) c.args.i c.args.given.now.after))
     _ (joined_text (goal.at.returns-in_err-take-clause-refused c).After-deref)) ∙ c.in_err-take.ensures.refused other)
 
-pub returns-then-may_go_on-clause-next : goal.returns-then-may_go_on-clause-next
-returns-then-may_go_on-clause-next c =
-    let given = c.args.given.now in
-    c.in_ok-joined.ensures.next
-    ∙ ap (λ n. c.args.i + n) (group_span (slice_range (lines_of given.lines.now) c.args.i given.after))
-
 pub returns-then-may_go_on-clause-took : goal.returns-then-may_go_on-clause-took
 returns-then-may_go_on-clause-took c =
     took_line _ (joined_text (goal.at.returns-then-may_go_on-clause-took c).After-deref) c.in_ok-take.ensures.took
@@ -48,12 +42,6 @@ returns-in_err-take-2-clause-refused c = handed _ _ _ c.from_residual-in_err-tak
     (first_logical (c.args.i + 1) (slice_range (lines_of c.args.given.now.lines.now) c.args.i c.args.given.now.after))
     _ (line_text (goal.at.returns-in_err-take-2-clause-refused c).After-before_comment))
     ∙ c.in_err-take-2.ensures.refused other)
-
-pub returns-clause-next : goal.returns-clause-next
-returns-clause-next c =
-    let given = c.args.given.now in
-    ap (λ n. c.args.i + n) (single_span (lines_of given.lines.now) c.args.i given.after c.requires.begins given.within
-    c.line-line.result.now c.line-line.ensures (c.may_go_on.ensures c.if-may_go_on.false))
 
 pub returns-clause-took : goal.returns-clause-took
 returns-clause-took c =

@@ -8,11 +8,3 @@ returns-then-is_some c =
     too_many c.args.text.now c.in-Some.behind.now c.in-Some-cut_blank.last.now cut.0.1.now c.in-Some.u.now
     c.in-Some-cut_blank.v.now cut.0.0.now
     c.in-Some.ensures c.in-Some-cut_blank.ensures cut.1
-
-pub returns-in-Some-read_whole : goal.returns-in-Some-read_whole
-returns-in-Some-read_whole c = three_said c.args.text.now c.in-Some.behind.now c.in-Some-cut_blank.last.now
-    c.in-Some.u.now c.in-Some-cut_blank.v.now
-    (record { u = c.in-Some-read_counting.u; v = c.in-Some-read_counting-2.v; wish = c.in-Some-read_whole.wish })
-    c.in-Some.ensures c.in-Some-cut_blank.ensures (none_of c.cut_blank-3.result _ _ c.cut_blank-3.ensures
-    (sym c.is_some.ensures ∙ c.if-is_some.false)) (sym c.read_counting.ensures ∙ c.in-Some-read_counting.is)
-    (sym c.read_counting-2.ensures ∙ c.in-Some-read_counting-2.is) (sym c.read_whole.ensures ∙ c.in-Some-read_whole.is)

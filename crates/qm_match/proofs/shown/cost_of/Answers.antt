@@ -6,10 +6,6 @@ use Rattle.def_matching.specs.{declared.weighted.WEdge.WEdge}
 use Rattle.qm_match.proofs.{Costs.increasing_few, Costs.cost_take, Outcomes.increasing_low}
 use Rattle.qm_match.proofs.shown.cost_of.Goals as goal
 
-pub edge-requires : goal.edge-requires
-edge-requires c = increasing_low 0 (length c.args.g.now.graph.edges) c.args.matching.now
-    c.requires.increasing c.loop-edge.edge-index c.loop-edge-test.true
-
 pub loop-edge-preserved : goal.loop-edge-preserved
 loop-edge-preserved c =
     let k = slice_index c.args.matching.now c.loop-edge.edge-index in

@@ -4,9 +4,6 @@ use Rattle.qm_match.specs.Weights.{left_to}
 use Rattle.qm_match.proofs.Raised.{chain_room, chain_end}
 use Rattle.qm_match.proofs.weights.room_at.Goals as goal
 
-pub left_by-left-requires-clause-ready : goal.left_by-left-requires-clause-ready
-left_by-left-requires-clause-ready c = (c.args.most, c.requires.ready)
-
 pub loop-entry-smaller : goal.loop-entry-smaller
 loop-entry-smaller c =
     let low : c.loop-entry.entry - 1 < length c.args.fans.now.next.items =

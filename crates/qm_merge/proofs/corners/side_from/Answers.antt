@@ -4,13 +4,6 @@ use Rattle.qm_grid.proofs.Walks.{row_at, row_inside, row_never}
 use Rattle.qm_merge.proofs.SideWalks.{near_done}
 use Rattle.qm_merge.proofs.corners.side_from.Goals as goal
 
-pub returns-then-is_cut-clause-whole : goal.returns-then-is_cut-clause-whole
-returns-then-is_cut-clause-whole c =
-    let i = c.loop-n.invariant in
-    let f = c.is_full.ensures in
-    near_done f.laws f.full c.requires.corner i.at i.inside
-    (cc (c.next-after.ensures.value, c.is_cut.ensures, c.if-is_cut.true))
-
 pub returns-then-is_cut-clause-next : goal.returns-then-is_cut-clause-next
 returns-then-is_cut-clause-next c =
     let place : c.loop-n.n ≡ c.loop-n.n + 1 - 1 = omega arith in

@@ -8,26 +8,12 @@ returns-then-marks-place c = (
   λ y. absurd (false≢true (sym (may_then c.requires.beside c.requires.seam.joinable y).0 ∙ c.if-marks-place.true)),
 )
 
-pub is_end_free-requires-clause-long : goal.is_end_free-requires-clause-long
-is_end_free-requires-clause-long c = breaks_long c.requires.beside
-
-pub is_end_free-requires-clause-crossed : goal.is_end_free-requires-clause-crossed
-is_end_free-requires-clause-crossed c = crossed_there c.requires.beside c.args.place.start
-    c.requires.seam.joinable.glued.near.corner.0
-
 pub returns-then-not-is_end_free : goal.returns-then-not-is_end_free
 returns-then-not-is_end_free c = (
   λ y. absurd (false≢true y),
   λ y. absurd (false≢true (sym c.if-not-is_end_free.true ∙ c.is_end_free.ensures.1 (may_then
       c.requires.beside c.requires.seam.joinable y).1)),
 )
-
-pub is_end_free-requires-2-clause-long : goal.is_end_free-requires-2-clause-long
-is_end_free-requires-2-clause-long c = breaks_long c.requires.beside
-
-pub is_end_free-requires-2-clause-crossed : goal.is_end_free-requires-2-clause-crossed
-is_end_free-requires-2-clause-crossed c = crossed_there c.requires.beside c.args.place.seam.far
-    c.requires.seam.joinable.glued.far.corner.0
 
 pub returns : goal.returns
 returns c = (

@@ -8,21 +8,11 @@ use Rattle.qm_merge.proofs.merged.drop_first.Goals as goal
 pub invariant_of-linked : goal.invariant_of-linked
 invariant_of-linked c = record { tied = rw c.new-before.ensures c.requires.tied }
 
-pub round_from-near-requires : goal.round_from-near-requires
-round_from-near-requires c = rw c.new-before.ensures c.requires.seam.joinable.glued.near.corner
-
-pub round_from-far-requires : goal.round_from-far-requires
-round_from-far-requires c = rw c.new-before.ensures c.requires.seam.joinable.glued.far.corner
-
 pub join_rounds-requires : goal.join_rounds-requires
 join_rounds-requires c = let f = c.requires.cutting in
     has_room f.laws f.full c.args.links.now c.requires.tied.linked
     (rw c.new-before.ensures at c.round_from-near.ensures) (rw c.new-before.ensures at c.round_from-far.ensures)
     (2 ^ 32) (omega (arith, f.few))
-
-pub new-after-requires : goal.new-after-requires
-new-after-requires c = cutting_after c.drop_seam.new.cut c.requires.cutting c.args.place c.requires.seam
-    c.drop_seam.ensures.long c.drop_seam.ensures.without
 
 pub note_from-requires-clause-tied : goal.note_from-requires-clause-tied
 note_from-requires-clause-tied c = let f = c.requires.cutting in
@@ -39,25 +29,11 @@ note_from-requires-clause-dart c =
     let near = rw c.new-before.ensures at c.round_from-near.ensures in
     rw c.new-after.ensures (next_is_corner f.laws f.full near.fourth).0
 
-pub returns-in_err-note_from-clause-cutting : goal.returns-in_err-note_from-clause-cutting
-returns-in_err-note_from-clause-cutting c = cutting_after c.drop_seam.new.cut c.requires.cutting c.args.place
-    c.requires.seam c.drop_seam.ensures.long c.drop_seam.ensures.without
-
-pub returns-in_err-note_from-clause-tied : goal.returns-in_err-note_from-clause-tied
-returns-in_err-note_from-clause-tied c = rw c.new-after.ensures at c.note_from.ensures.tied
-
-pub returns-clause-tied : goal.returns-clause-tied
-returns-clause-tied c = rw c.new-after.ensures at c.note_from-2.ensures.tied
-
 pub note_from-requires-2-clause-dart : goal.note_from-requires-2-clause-dart
 note_from-requires-2-clause-dart c =
     let f = c.requires.cutting in
     let far = rw c.new-before.ensures at c.round_from-far.ensures in
     rw c.new-after.ensures (next_is_corner f.laws f.full far.fourth).0
-
-pub returns-clause-cutting : goal.returns-clause-cutting
-returns-clause-cutting c = cutting_after c.drop_seam.new.cut c.requires.cutting
-    c.args.place c.requires.seam c.drop_seam.ensures.long c.drop_seam.ensures.without
 
 pub returns-clause-waiting : goal.returns-clause-waiting
 returns-clause-waiting c =

@@ -19,10 +19,3 @@ merge_beside-requires-clause-breaks c =
 pub merge_beside-requires-clause-beside : goal.merge_beside-requires-clause-beside
 merge_beside-requires-clause-beside c =
     rw (marks_are c) (none_beside c.args.mesh.now c.args.graph.now.covered.items c.requires.cut)
-
-pub returns-clause-merged : goal.returns-clause-merged
-returns-clause-merged c =
-    let items : c.in_ok-marks.marks.items ≡ replicate (darts c.args.mesh.now) false = search rules in
-    IfOk-weaker c.merge_beside.result _ _
-    (λ g merged. none_merged c.args.mesh.now c.args.graph.now.covered.items g.covered.items
-    (rw (← c.deref.ensures.value ∙ items) merged)) c.merge_beside.ensures.merged

@@ -26,22 +26,6 @@ loop-name-init c = let all = rw c.new-whole.ensures at c.in_ok-names.ensures.all
 pub invariant_of-linked : goal.invariant_of-linked
 invariant_of-linked c = record { tied = rw c.new-now.ensures c.loop-name.invariant.tied }
 
-pub place_of-requires : goal.place_of-requires
-place_of-requires c = rw c.new-now.ensures (c.loop-name.invariant.below c.in-Some.name c.in-Some.ensures.member)
-
-pub may_leave-requires-clause-beside : goal.may_leave-requires-clause-beside
-may_leave-requires-clause-beside c = let b = c.requires.beside in
-    rw c.new-now.ensures (record {
-      manifold = b.manifold;
-      lines = b.lines;
-      broken = b.broken;
-      keeps = beside_reached c.args.mesh.now c.args.marks.now c.args.cut.now c.loop-name.cut
-          c.loop-name.invariant.reached.0 b.manifold b.keeps c.loop-name.invariant.reached.1;
-    })
-
-pub drop_first-requires-clause-seam : goal.drop_first-requires-clause-seam
-drop_first-requires-clause-seam c = rw c.new-now.ensures at c.in-Some-place_of.ensures.found
-
 pub drop_first-requires-clause-below : goal.drop_first-requires-clause-below
 drop_first-requires-clause-below c = taken_below c.loop-name.names c.pop_first.new.self c.in-Some.name
     c.in-Some.ensures.updates (darts c.args.mesh.now) c.loop-name.invariant.below
@@ -141,15 +125,6 @@ returns-clause-merged c =
           let m = name_there (half_edges c.args.mesh.now) s t n arc.glued.near.some in
           none_waits c.loop-name.names m.0 none (c.loop-name.invariant.waiting s t n m.0 arc free m.1).0;
     }
-
-pub returns-clause-keeps : goal.returns-clause-keeps
-returns-clause-keeps c = let b = c.requires.beside in
-    beside_reached c.args.mesh.now c.args.marks.now c.args.cut.now c.loop-name.cut c.loop-name.invariant.reached.0
-    b.manifold b.keeps c.loop-name.invariant.reached.1
-
-pub returns-clause-full : goal.returns-clause-full
-returns-clause-full c = let f =
-    c.loop-name.invariant.cutting in from_cut c.args.mesh.now f.laws c.loop-name.cut f.long f.full
 
 pub returns-clause-part : goal.returns-clause-part
 returns-clause-part c = let f = c.requires.cutting in

@@ -7,14 +7,6 @@ pub loop-k-init : goal.loop-k-init
 loop-k-init c =
     balances_none c.args.lengths.now.net.whole.now.arcs.items c.args.lengths.now.x.now c.args.first _ refl
 
-pub loop-k-preserved : goal.loop-k-preserved
-loop-k-preserved c =
-    let lengths = c.args.lengths.now in
-    let inner : slice_index lengths.x.now c.loop-k.k ≤ 10 ^ 12 =
-    lengths.all.small c.loop-k.k (omega (arith, lengths.all.count)) in
-    rw (c.weigh_arc.ensures, c.arc.ensures.value) (balances_more lengths.net.whole.now.arcs.items lengths.x.now
-    c.args.first c.loop-k.k c.loop-k.balances inner c.loop-k.invariant)
-
 pub returns : goal.returns
 returns c =
     let lengths = c.args.lengths.now in

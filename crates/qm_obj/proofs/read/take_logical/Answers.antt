@@ -5,12 +5,6 @@ use Rattle.{def_io.specs.Lines.lines_of, error_laws.proofs.Errors.handed, std.sp
 use Rattle.{qm_obj.specs.Lines.line_as}
 use Rattle.qm_obj.proofs.read.take_logical.Goals as goal
 
-pub returns-clause-next : goal.returns-clause-next
-returns-clause-next c =
-    let rest = c.args.rest.now in
-    ap (λ n. rest.first + n) (single_span (lines_of rest.lines.now) rest.first rest.after rest.some rest.within
-    c.line-line.result.now c.line-line.ensures (sym c.goes_on.ensures ∙ c.if-goes_on.false))
-
 -- The line that is read is the first logical one.
 same : (c : After-goes_on) → c.goes_on.result ≡ false → let rest = c.args.rest.now in
     line_as (rest.first + 1) (length c.line-line.result.now) c.line-line.result.now

@@ -28,14 +28,6 @@ index c =
     start_read c.args.places.now.begun low c.index-2.ensures in
     ap (λ n. n + c.args.k - 1) begin
 
-pub overflow_mul-result : goal.overflow_mul-result
-overflow_mul-result c =
-    omega (
-      arith,
-      c.len.ensures ∙ c.index.result.now.darts.ok.0,
-      read_short c.args.places.now.t.now c.args.places.now.fine c.requires.arc c.index.ensures,
-    )
-
 pub overflow_add-index : goal.overflow_add-index
 overflow_add-index c =
     let at = (goal.at.overflow_add-index c).Else-k-places in

@@ -7,16 +7,6 @@ use Rattle.qm_place.specs.{Lengthened.spacing_at, declared.spots.GridPoint.GridP
 use Rattle.qm_place.proofs.Entries.{cell_low, cell_read, patch_read}
 use Rattle.qm_place.proofs.spots.cell_spot.Goals as goal
 
-pub cell_at-a-requires : goal.cell_at-a-requires
-cell_at-a-requires c =
-    let old = patch_read c.args.placed.now.t.now c.args.placed.now.placed c.requires.patch c.index-old.ensures in
-    old.some
-
-pub cell_at-b-requires : goal.cell_at-b-requires
-cell_at-b-requires c =
-    let old = patch_read c.args.placed.now.t.now c.args.placed.now.placed c.requires.patch c.index-old.ensures in
-    old.tall
-
 pub index-requires : goal.index-requires
 index-requires c =
     let old = patch_read c.args.placed.now.t.now c.args.placed.now.placed c.requires.patch c.index-old.ensures in

@@ -7,16 +7,6 @@ use Rattle.qm_place.specs.Lengthened.{spacing_at}
 use Rattle.qm_place.proofs.Entries.{offset_read}
 use Rattle.qm_place.proofs.spots.inside_spot.Goals as goal
 
-pub overflow_add-offset-2 : goal.overflow_add-offset-2
-overflow_add-offset-2 c =
-    let are = c.args.placed.now.placed in
-    let x = lengths_in c.args.placed.now.tables.now.lengths.items in
-    let l = gluing_of (layout_of c.args.placed.now.t.now) in
-    let at = offset_read are c.requires.inside.low c.index.ensures c.index-2.ensures in
-    let row : (c.args.place - c.index.result.now) / (c.index-2.result.now.wide - 1) ≡ (c.args.place - before_patch l x
-    c.args.patch) / (wide l x c.args.patch - 1) = λ k. (c.args.place - at.begin_is k) / (at.columns_are k - 1) in
-    omega arith
-
 pub cell_spot-requires-clause-grid : goal.cell_spot-requires-clause-grid
 cell_spot-requires-clause-grid c =
     let are = c.args.placed.now.placed in

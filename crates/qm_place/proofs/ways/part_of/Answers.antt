@@ -5,9 +5,6 @@ use Rattle.std.proofs.lemmas.Int.{ints}
 use Rattle.qm_place.proofs.Casts.{part_is}
 use Rattle.qm_place.proofs.ways.part_of.Goals as goal
 
-pub weigh-twice-requires-clause-weights : goal.weigh-twice-requires-clause-weights
-weigh-twice-requires-clause-weights c = (omega (arith, c.requires.some.0, c.requires.some.1), omega arith)
-
 here : (c : goal.After-div_euclid-part) → (to_z w64 (of_z w64 (to_z w128 (of_z w128 c.div_euclid-part.result)))
     ≡ int_div_euclid ((pos (2 * c.args.some) *ℤ c.args.way) +ℤ pos c.args.parts) (pos (2 * c.args.parts)))
     × (unsigned_abs c.div_euclid-part.result ≤ 2 ^ 52)

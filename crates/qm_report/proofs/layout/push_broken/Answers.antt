@@ -7,13 +7,6 @@ use Rattle.qm_report.proofs.{TableReads.place_low, Texts.nothing_behind, Texts.p
 use Rattle.qm_report.proofs.{layout.push_broken.Goals.then-index+in_ok-push_line, layout.push_broken.Goals.else-index}
 use Rattle.qm_report.proofs.layout.push_broken.Goals as goal
 
-pub index-requires : goal.index-requires
-index-requires c =
-    let mesh = c.mesh-mesh.result.now in
-    let low = place_low (is_break mesh c.args.marks.now) mesh {v = c.loop-v.v} c.in_ok-broken.ensures
-    (omega (arith, c.loop-v-test.true, c.vertices-v-end.ensures.value)) in
-    omega (arith, low, c.in_ok-broken.broken.ok.0)
-
 pub loop-v-preserved : goal.loop-v-preserved
 loop-v-preserved c =
     let soup = c.args.cut.now.soup in

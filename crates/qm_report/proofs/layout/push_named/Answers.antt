@@ -5,12 +5,6 @@ use Rattle.{def_report.specs.GraphText.kind_line, qm_sing.proofs.KindReads.kind_
 use Rattle.qm_report.proofs.{TableReads.place_low, Texts.piece_behind}
 use Rattle.qm_report.proofs.layout.push_named.Goals as goal
 
-pub bounds-kinds-v : goal.bounds-kinds-v
-bounds-kinds-v c =
-    let faces = c.args.cut.now.soup.faces in
-    place_low (kind_of faces) faces c.requires
-    (omega (arith, c.loop-v-test.true, c.vertices-v-end.ensures.value, ap vertex_count c.mesh-mesh.ensures))
-
 pub loop-v-preserved : goal.loop-v-preserved
 loop-v-preserved c =
     let soup = c.args.cut.now.soup in

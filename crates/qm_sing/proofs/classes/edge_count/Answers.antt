@@ -4,11 +4,6 @@ use Rattle.qm_sing.proofs.Edges.{filter_few, one_more}
 use Rattle.qm_sing.proofs.classes.edge_count.Goals.{then-is_lesser_dart, else-is_lesser_dart}
 use Rattle.qm_sing.proofs.classes.edge_count.Goals as goal
 
-pub overflow_add-edges : goal.overflow_add-edges
-overflow_add-edges c =
-    let few = filter_few (λ d. is_lesser d (twin_of c.args.mesh.now d)) c.loop-d.d in
-    omega (arith, c.loop-d.invariant, few, c.faces.ensures.mesh.few, ap length c.faces.ensures.value)
-
 pub loop-d-preserved : goal.loop-d-preserved
 loop-d-preserved c =
     let more = one_more (λ d. is_lesser d (twin_of c.args.mesh.now d)) c.loop-d.d in

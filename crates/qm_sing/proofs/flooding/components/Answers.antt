@@ -16,12 +16,6 @@ loop-f-init c =
       empty = ap length c.new-waiting.ensures.items;
     }
 
-pub flood-requires-clause-number : goal.flood-requires-clause-number
-flood-requires-clause-number c =
-    let low : c.loop-f.f < length c.args.mesh.now = omega (arith, ap length c.faces-faces.ensures.value) in
-    let below = numbering_low c.loop-f.invariant.numbering (omega arith) in
-    omega (arith, c.faces-faces.ensures.mesh.few, below)
-
 pub flood-requires-clause-closed : goal.flood-requires-clause-closed
 flood-requires-clause-closed c = rw c.deref_mut.ensures.value (numbering_closed c.loop-f.invariant.numbering)
 

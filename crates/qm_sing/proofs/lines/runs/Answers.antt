@@ -7,13 +7,6 @@ use Rattle.qm_sing.proofs.Longest.{none_found, one_more, passed_by}
 use Rattle.qm_sing.proofs.lines.runs.Goals.{then-index+in_ok-push+in_ok-push-2, else-index}
 use Rattle.qm_sing.proofs.lines.runs.Goals as goal
 
-pub loop-d-init : goal.loop-d-init
-loop-d-init c =
-    let run : c.in_ok-vec.field-0.items ≡ replicate (darts c.args.mesh.now) NONE = search rules in
-    let at : c.in_ok-vec-2.field-0.items ≡ replicate (darts c.args.mesh.now) 0 = search rules in
-    rw (c.new.ensures.items, c.new-2.ensures.items) (none_found c.args.mesh.now c.in_ok-vec.field-0.items
-    c.in_ok-vec-2.field-0.items run at)
-
 pub loop-d-preserved : goal.loop-d-preserved
 loop-d-preserved c =
     let low : c.loop-d.d < darts c.args.mesh.now = omega (arith, c.loop-d-test.true, ap length c.faces.ensures.value) in

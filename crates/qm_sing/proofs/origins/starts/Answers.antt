@@ -6,10 +6,6 @@ use Rattle.qm_sing.proofs.Tables.{kinds_long}
 use Rattle.qm_sing.proofs.origins.starts.Goals.{then-may_start+in_ok-push, else-may_start}
 use Rattle.qm_sing.proofs.origins.starts.Goals as goal
 
-pub bounds-classed-v : goal.bounds-classed-v
-bounds-classed-v c = let s = c.args.classed.now in
-    omega (arith, c.from-v.ensures.vertex, kinds_long s.mesh.now s.classes)
-
 pub loop-d-preserved : goal.loop-d-preserved
 loop-d-preserved c = let s = c.args.classed.now in
     let ld : c.loop-d.d < darts s.mesh.now = omega (arith, c.loop-d-test.true, ap length c.faces.ensures.value) in

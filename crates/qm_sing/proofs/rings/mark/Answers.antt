@@ -7,19 +7,6 @@ use Rattle.qm_sing.proofs.Tables.{number_there, numbers_long}
 use Rattle.qm_sing.proofs.rings.mark.Goals.{then-is_least, else-is_least}
 use Rattle.qm_sing.proofs.rings.mark.Goals as goal
 
-pub bounds-classed-d : goal.bounds-classed-d
-bounds-classed-d c = omega (arith, numbers_long _ c.args.classed.now.numbers, ap length c.faces.ensures.value)
-
-pub is_least-requires-clause-regular : goal.is_least-requires-clause-regular
-is_least-requires-clause-regular c = let s = c.args.classed.now in
-    let ld : c.loop-d.d < darts s.mesh.now = omega (arith, c.loop-d-test.true, ap length c.faces.ensures.value) in
-    omega (arith, number_there s.mesh.now c.faces.ensures.mesh.manifold s.numbers ld, c.requires.rings.regular_long)
-
-pub is_least-requires-clause-least : goal.is_least-requires-clause-least
-is_least-requires-clause-least c = let s = c.args.classed.now in
-    let ld : c.loop-d.d < darts s.mesh.now = omega (arith, c.loop-d-test.true, ap length c.faces.ensures.value) in
-    omega (arith, number_there s.mesh.now c.faces.ensures.mesh.manifold s.numbers ld, c.requires.rings.least_long)
-
 pub loop-d-preserved : goal.loop-d-preserved
 loop-d-preserved c = let s = c.args.classed.now in
     let ld : c.loop-d.d < darts s.mesh.now = omega (arith, c.loop-d-test.true, ap length c.faces.ensures.value) in

@@ -8,6 +8,3 @@ are_needed-requires c = record {
   lengths = rw (← c.layout.ensures.layout) at c.requires.lengths;
   coarse = rw (← c.layout.ensures.layout) at c.requires.coarse;
 }
-
-pub returns : goal.returns
-returns c = rw (← c.layout.ensures.layout) c.are_needed.ensures

@@ -11,6 +11,3 @@ needed_rises-requires c = record {
   doubled = rw (← c.layout.ensures.layout) at c.requires.doubled;
   prices = c.requires.prices;
 }
-
-pub returns : goal.returns
-returns c = rw (← c.layout.ensures.layout) c.needed_rises.ensures

@@ -7,17 +7,6 @@ use Rattle.qm_stitch.specs.{Remedies.IsRunIn}
 use Rattle.qm_stitch.specs.declared.remedy.Run.TheVariants.{Side}
 use Rattle.qm_stitch.proofs.cheapest.mark_run.Goals as goal
 
-pub mark_side-requires-clause-patch : goal.mark_side-requires-clause-patch
-mark_side-requires-clause-patch c =
-    omega (
-      arith,
-      (subst (IsRunIn (layout_of c.args.numbered.now.t.now)) c.in-Side.is c.requires.run).0,
-      length-map c.args.numbered.now.t.now.patches.items rectangle,
-    )
-
-pub mark_side-requires-clause-side : goal.mark_side-requires-clause-side
-mark_side-requires-clause-side c = (subst (IsRunIn (layout_of c.args.numbered.now.t.now)) c.in-Side.is c.requires.run).1
-
 pub returns-in-Side : goal.returns-in-Side
 returns-in-Side c =
     let there : IsRunIn (layout_of c.args.numbered.now.t.now) (Side c.in-Side.patch c.in-Side.side) =

@@ -8,15 +8,6 @@ use Rattle.qm_stitch.proofs.doubled.check_edges.Goals as goal
 pub invariant_of-numbered : goal.invariant_of-numbered
 invariant_of-numbered c = record { numbers = tables_are c.requires }
 
-pub returns-in-Some-clause-refused : goal.returns-in-Some-clause-refused
-returns-in-Some-clause-refused c =
-    let are = tables_are c.requires in (
-      c.requires.few,
-      rw (c.lesser.ensures, c.greater.ensures) (first_doubled (gluing_of (layout_of c.args.t.now))
-          (lengths_in c.args.tables.now.lengths.items) are.whole.paved are.laid c.requires.lengths are.few c.in-Some.key
-          (rw c.in_ok-rim_keys.ensures at c.in-Some.ensures.some)),
-    )
-
 pub returns-in-None-clause-undoubled : goal.returns-in-None-clause-undoubled
 returns-in-None-clause-undoubled c =
     let are = tables_are c.requires in

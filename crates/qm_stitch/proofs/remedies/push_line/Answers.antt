@@ -4,23 +4,6 @@ use Rattle.qm_stitch.specs.{Lengthened.gluing_in, Lengthened.lengths_by, Rims.al
 use Rattle.qm_stitch.proofs.{Adding.told_more, Lines.line_both, TightEdges.line_some}
 use Rattle.qm_stitch.proofs.remedies.push_line.Goals as goal
 
-pub overflow_sub-last : goal.overflow_sub-last
-overflow_sub-last c = omega (
-  arith,
-  line_some c.args.priced.now.keyed c.requires.line,
-  c.size_at-last.ensures (along_lines c.args.line.upright) c.side_along.ensures.side,
-)
-
-pub key_at-first-requires-clause-low : goal.key_at-first-requires-clause-low
-key_at-first-requires-clause-low c = line_some c.args.priced.now.keyed c.requires.line
-
-pub key_at-end-requires-clause-low : goal.key_at-end-requires-clause-low
-key_at-end-requires-clause-low c = omega (
-  arith,
-  line_some c.args.priced.now.keyed c.requires.line,
-  c.size_at-last.ensures (along_lines c.args.line.upright) c.side_along.ensures.side,
-)
-
 pub returns : goal.returns
 returns c r =
     let numbered = c.args.priced.now.keyed.numbered in

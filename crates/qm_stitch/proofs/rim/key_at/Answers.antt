@@ -11,9 +11,6 @@ key_is : (l : Gluing) (x : Lengths) (u : Bool) (p n k : ℕ)
 key_is l x false p n k = refl
 key_is l x true p n k = refl
 
-pub overflow_add-at : goal.overflow_add-at
-overflow_add-at c = omega arith
-
 pub returns : goal.returns
 returns c = c.key_for.ensures ∙ (λ i. pair_key (c.line_point-from.ensures i) (c.line_point-to.ensures i)) ∙ key_is
     (gluing_in c.args.numbered.now) (lengths_by c.args.numbered.now) c.args.line.upright c.args.line.patch

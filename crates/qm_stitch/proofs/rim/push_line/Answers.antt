@@ -13,9 +13,6 @@ key_at-requires-clause-low c =
     size_some _ _ numbered.numbers.whole.paved numbered.numbers.lengths
     _ _ c.requires.line.patch
 
-pub key_at-requires-then-long-gt1-clause-low : goal.key_at-requires-then-long-gt1-clause-low
-key_at-requires-then-long-gt1-clause-low c = omega arith
-
 pub returns-in_ok-push-2 : goal.returns-in_ok-push-2
 returns-in_ok-push-2 c =
     let line = c.args.line in
@@ -27,13 +24,3 @@ returns-in_ok-push-2 c =
     first_next key (edge 0) (edge (long - 1)) (nat_lt 1 long) c.args.keys.now.items (lt-ltb 1 long (omega arith))
     c.in_ok-push.ensures.items c.key_at.ensures c.in_ok-push-2.ensures.items
     (c.key_at-then-long-gt1.ensures ∙ ap (λ (n : ℕ). key (edge (n - 1))) long_is)
-
-pub returns-else-long-gt1 : goal.returns-else-long-gt1
-returns-else-long-gt1 c =
-    let line = c.args.line in
-    let edge = line_edge line.upright line.patch line.number in
-    let long = size (gluing_in c.args.numbered.now) (lengths_by c.args.numbered.now) line.patch
-    (along_lines line.upright) in
-    let long_is = c.size_at-long.ensures (along_lines line.upright) c.side_along.ensures.side in
-    first_alone (key_of (gluing_in c.args.numbered.now) (lengths_by c.args.numbered.now)) (edge 0) (edge (long - 1))
-    (nat_lt 1 long) c.args.keys.now.items (le-ltb 1 long (omega arith)) c.in_ok-push.ensures.items c.key_at.ensures

@@ -45,9 +45,3 @@ loop-number-preserved c =
           (size l x c.args.patch (along_lines c.args.upright))) 1 (c.loop-number.number - 1) c.loop-number.number
           c.args.keys.now.items (omega arith) c.loop-number.invariant.items c.in_ok-push_line.ensures);
     }
-
-pub returns : goal.returns
-returns c =
-    let end : c.loop-number.number ≡ size (gluing_in c.args.numbered.now) (lengths_by c.args.numbered.now) c.args.patch
-    (along_lines (not c.args.upright)) = omega arith in
-    rw end at c.loop-number.invariant.items

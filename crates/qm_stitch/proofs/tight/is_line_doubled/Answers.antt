@@ -6,23 +6,6 @@ use Rattle.qm_stitch.proofs.TightEdges.{line_some, line_tells}
 use Rattle.qm_stitch.proofs.tight.is_line_doubled.Goals.{After-size_at-last}
 use Rattle.qm_stitch.proofs.tight.is_line_doubled.Goals as goal
 
-pub overflow_sub-last : goal.overflow_sub-last
-overflow_sub-last c = omega (
-  arith,
-  line_some c.args.keyed.now c.requires.line,
-  c.size_at-last.ensures (along_lines c.args.line.upright) c.side_along.ensures.side,
-)
-
-pub key_at-requires-clause-low : goal.key_at-requires-clause-low
-key_at-requires-clause-low c = line_some c.args.keyed.now c.requires.line
-
-pub key_at-requires-else-is_repeat-clause-low : goal.key_at-requires-else-is_repeat-clause-low
-key_at-requires-else-is_repeat-clause-low c = omega (
-  arith,
-  line_some c.args.keyed.now c.requires.line,
-  c.size_at-last.ensures (along_lines c.args.line.upright) c.side_along.ensures.side,
-)
-
 pub returns-then-is_repeat : goal.returns-then-is_repeat
 returns-then-is_repeat c = (
   λ on. (line_tells c.args.keyed.now c.requires.line).0 (inl (rw c.key_at.ensures at (c.is_repeat.ensures.0 on))),

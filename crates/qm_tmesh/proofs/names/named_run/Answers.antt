@@ -23,10 +23,6 @@ invariant_of-start c = record {
       ∙ (ap (is_on c.args.nodes.now) (sym c.from.ensures.value) ∙ c.if-not-nodes-from.false);
 }
 
-pub is_least-requires : goal.is_least-requires
-is_least-requires c = subst (λ (xs : List ℕ). (k : ℕ) → k < length xs → get_or xs k 0 < darts c.args.mesh.now)
-    (sym c.deref-2.ensures.value) (run_darts c.requires.marked c.in_ok-darts.ensures.run c.in_ok-darts.ensures.darts)
-
 pub returns-then-is_least : goal.returns-then-is_least
 returns-then-is_least c =
     let name : c.least-name.result ≡ least_of c.in_ok-darts.darts.items = c.least-name.ensures

@@ -2,12 +2,6 @@ use Rattle.std.proofs.Common.{◌∙◌}
 use Rattle.qm_tmesh.proofs.Splits.{from_straight, from_split, from_low, from_some}
 use Rattle.qm_tmesh.proofs.sides.side_from.Goals as goal
 
-pub line-requires-clause-dart : goal.line-requires-clause-dart
-line-requires-clause-dart c = from_low c.requires
-
-pub line-requires-clause-some : goal.line-requires-clause-some
-line-requires-clause-some c = from_some c.requires
-
 pub line-requires-clause-straight : goal.line-requires-clause-straight
 line-requires-clause-straight c = from_straight c.requires
 

@@ -10,10 +10,6 @@ use Rattle.qm_trace.proofs.Beginnings.{first_queue, marked_few}
 use Rattle.qm_trace.proofs.tracing.last_tables.Goals.{else-instants-test, then-instants-test+then-is_empty}
 use Rattle.qm_trace.proofs.tracing.last_tables.Goals as goal
 
-pub overflow_cast-course : goal.overflow_cast-course
-overflow_cast-course c =
-    omega (arith, ap length c.args.course.now.beside, marked_few c.args.course.now.mesh.now c.args.course.now.marks.now)
-
 pub instants-init : goal.instants-init
 instants-init c = record {
   ground = c.in_ok-tables.ensures.ground;

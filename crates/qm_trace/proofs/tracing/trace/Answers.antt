@@ -6,12 +6,6 @@ use Rattle.def_feature.specs.Marked.{IsMarkedGraph, marked_starts}
 use Rattle.feature_laws.proofs.NoMarks.{same_graph, same_starts}
 use Rattle.qm_trace.proofs.tracing.trace.Goals as goal
 
-pub graph_from-requires-clause-starts : goal.graph_from-requires-clause-starts
-graph_from-requires-clause-starts c =
-    let items : c.in_ok-marks.marks.items ≡ replicate (darts c.args.mesh.now) false = search rules in
-    c.deref.ensures.value ∙ (c.requires.starts
-    ∙ sym (ap (marked_starts c.args.mesh.now) (c.deref-2.ensures.value ∙ items) ∙ same_starts c.args.mesh.now))
-
 pub returns-clause-graph : goal.returns-clause-graph
 returns-clause-graph c =
     let items : c.in_ok-marks.marks.items ≡ replicate (darts c.args.mesh.now) false = search rules in

@@ -4,7 +4,3 @@ use Rattle.qm_check.proofs.parts.Divided.text_behind.Goals as goal
 pub returns-in-Some : goal.returns-in-Some
 returns-in-Some c = rw (← (tail_behind c.args.self.now.head.line c.args.self.now.bytes.now))
     (rw (← c.written_text-written.ensures, c.in-Some.ensures.line) refl)
-
-pub returns-in-None : goal.returns-in-None
-returns-in-None c = rw (← (tail_behind c.args.self.now.head.line c.args.self.now.bytes.now))
-    (rw (← c.written_text-written.ensures, c.in-None.ensures.line) refl)

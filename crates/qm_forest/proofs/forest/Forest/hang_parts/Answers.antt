@@ -21,8 +21,3 @@ loop-k-preserved c =
           c.loop-k.invariant.back (add-one c.loop-k.k);
       same = same_nest c.loop-k.invariant.same (same_nest c.set_label.ensures.same c.set_link.ensures.same);
     }
-
-pub returns-clause-seen : goal.returns-clause-seen
-returns-clause-seen c =
-    let all : c.loop-k.k ≡ c.args.course.many = omega (arith, c.loop-k-test.false, c.loop-k.auto.k-end) in
-    c.loop-k.invariant.seen ∙ ap (λ m. hung (forest_of c.args.self.now) c.args.course.front m c.args.course.forward) all

@@ -3,9 +3,6 @@ use Rattle.def_forest.specs.Tables.{ForestTables}
 use Rattle.qm_forest.proofs.Waitings.{distinct, list_made}
 use Rattle.qm_forest.proofs.forest.Forest.list_entries.Goals as goal
 
-pub name_sets-requires-clause-distinct : goal.name_sets-requires-clause-distinct
-name_sets-requires-clause-distinct c = distinct c.requires.order
-
 pub returns-clause-entries : goal.returns-clause-entries
 returns-clause-entries c =
     let up : c.self.inside.rings.up.items ≡ c.args.self.up = ap (λ (t : ForestTables). t.up) c.self.view_is in (

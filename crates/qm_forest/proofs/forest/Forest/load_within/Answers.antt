@@ -2,9 +2,6 @@ use Rattle.std.proofs.{Common.arith, lemmas.Int.ints}
 use Rattle.qm_forest.proofs.Meeting.{turn_meets, turn_nearer, met_load}
 use Rattle.qm_forest.proofs.forest.Forest.load_within.Goals as goal
 
-pub overflow_add-load : goal.overflow_add-load
-overflow_add-load c = omega (arith, ints, c.loop-x.invariant.small, c.base_at-load.ensures.bound)
-
 pub loop-x-smaller : goal.loop-x-smaller
 loop-x-smaller c = turn_nearer c.requires.ends.valid c.base_at-load.ensures.climb c.base_at-load.ensures.few
     c.base_at-load.ensures.small c.loop-x.invariant c.loop-x-test.true c.by_rank-low.result.0 c.by_rank-low.result.1
@@ -15,6 +12,3 @@ loop-x-preserved c = turn_meets c.requires.ends.valid c.base_at-load.ensures.cli
     c.base_at-load.ensures.small c.loop-x.invariant c.loop-x-test.true _ _ _
     c.by_rank-low.ensures.either c.by_rank-low.ensures.order c.up_at-x.ensures.value c.up_at-x.ensures.low
     (omega (arith, ints, c.loop-x.invariant.small, c.base_at-load.ensures.bound, c.base_at-load.ensures.value))
-
-pub returns-clause-value : goal.returns-clause-value
-returns-clause-value c = met_load c.loop-x.invariant c.loop-x-test.false

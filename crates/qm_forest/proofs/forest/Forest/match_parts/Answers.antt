@@ -4,10 +4,6 @@ use Rattle.qm_forest.specs.{Parts.paired, Ties.mated}
 use Rattle.qm_forest.proofs.{Leavings.next_place, Leavings.paired_more, Leavings.place_low, OnWays.same_nest}
 use Rattle.qm_forest.proofs.forest.Forest.match_parts.Goals as goal
 
-pub set_mate-requires : goal.set_mate-requires
-set_mate-requires c = place_low c.loop-k.x _ c.loop-k.invariant.same
-    c.loop-k.invariant.here (c.requires.low _ (omega (arith, c.loop-k-test.true)))
-
 pub loop-k-preserved : goal.loop-k-preserved
 loop-k-preserved c =
     let back : c.loop-k.k ≡ c.loop-k.k + 1 - 1 = omega arith in
@@ -19,9 +15,6 @@ loop-k-preserved c =
           c.loop-k.invariant.here c.loop-k.invariant.back (add-one c.loop-k.k);
       same = same_nest c.loop-k.invariant.same c.set_mate.ensures.same;
     }
-
-pub set_mate-requires-2 : goal.set_mate-requires-2
-set_mate-requires-2 c = place_low c.args.first _ c.loop-k.invariant.same refl (c.requires.low 0 (omega arith))
 
 pub returns : goal.returns
 returns c =

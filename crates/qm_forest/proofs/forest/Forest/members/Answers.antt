@@ -11,13 +11,3 @@ list_members-requires-clause-lists c =
     let many = rw (← sizes.following) at (list_few list) in
     let below = rw (← sizes.following) at list.low in
     assumption (rw (← sizes.first) at low, rw (← sizes.rank) at low)
-
-pub returns-clause-all : goal.returns-clause-all
-returns-clause-all c = rw (← c.self.view_is) (λ v l held. (
-    let list = c.self.invariant.nest.members c.args.b (rw (← c.self.view_is) at c.requires.used.low)
-    (rw (← c.self.view_is) at c.requires.used.used) in
-    let lists = c.self.inside.lists in
-    let p = listed_place (λ i. get_or lists.following.items i 0) (get_or lists.first.items c.args.b 0)
-    (get_or lists.rank.items c.args.b 0) v (list.all v l ∙ held) in
-    let made = c.list_members.ensures in
-    (p.0, omega (arith, p.1, made.count), made.each p.0 p.1 ∙ p.2)))

@@ -2,10 +2,6 @@ use Rattle.std.proofs.Common.{true, ◌/◌, ◌∙◌, ap, length, length-set, 
 use Rattle.qm_forest.proofs.Pairings.{entered_size}
 use Rattle.qm_forest.proofs.forest.Forest.pair.Goals as goal
 
-pub enter-requires-2 : goal.enter-requires-2
-enter-requires-2 c =
-    omega (arith, c.requires.pairing.low_y, c.requires.room.left_out, ap length c.enter.ensures.left_out, entered_size)
-
 pub returns-clause-room : goal.returns-clause-room
 returns-clause-room c = record {
   laminar = c.requires.room.laminar;

@@ -8,10 +8,6 @@ pub match_tight-requires-clause-idle : goal.match_tight-requires-clause-idle
 match_tight-requires-clause-idle c = ready_idle c.args.g.now.small c.requires.cheap (c.args.known.now, c.requires.known)
     c.self.invariant (subst (λ (t : ForestTables). IsMadeFor c.args.g.now.graph t) (sym c.self.view_is) c.requires.made)
 
-pub match_tight-requires-clause-known : goal.match_tight-requires-clause-known
-match_tight-requires-clause-known c = increasing_low 0 (length c.args.g.now.graph.edges) c.args.known.now
-    c.requires.known.increasing
-
 pub returns-clause-bounded : goal.returns-clause-bounded
 returns-clause-bounded c = λ first most each costs. run_bounded c.args.g.now.graph c.match_all.new.self c.self.invariant
     (c.match_all.ensures.first ∙ c.match_tight.ensures.first) first most (subst (λ (t : ForestTables). (b : ℕ) →

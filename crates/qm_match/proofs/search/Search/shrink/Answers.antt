@@ -23,9 +23,6 @@ refreshed : (c : After-mend_parts) → c.outermost-set.result ≡ c.shrink.ensur
 refreshed c is made = unmarked c.shrink.new.self c.requires.way c.shrink.ensures.changed is _ made
     c.mend_parts.ensures.same c.mend_parts.ensures.room c.mend_parts.ensures.mended refl refl
 
-pub outermost-set-requires : goal.outermost-set-requires
-outermost-set-requires c = subst (λ n. c.edge.result.u < n) (sym c.shrink.ensures.valid.vertices) c.edge.ensures.ends.0
-
 pub mend_parts-requires : goal.mend_parts-requires
 mend_parts-requires c =
     let at = (goal.at.mend_parts-requires c).After-outermost-set in

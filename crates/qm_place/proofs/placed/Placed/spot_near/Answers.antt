@@ -9,17 +9,6 @@ use Rattle.qm_place.proofs.Found.{found_at, found_in, found_on, in_patch, on_arc
 use Rattle.qm_place.proofs.Entries.{some_runs}
 use Rattle.qm_place.proofs.placed.Placed.spot_near.Goals as goal
 
-pub overflow_cast-nodes : goal.overflow_cast-nodes
-overflow_cast-nodes c = omega arith
-
-pub returns-then-v-nodes : goal.returns-then-v-nodes
-returns-then-v-nodes c =
-    let low : c.args.v < length c.args.self.now.t.now.nodes.items =
-    omega (arith, c.if-v-nodes.true, c.len-nodes.ensures, c.args.self.now.t.now.nodes.ok.0) in
-    found_at (layout_of c.args.self.now.t.now) (shares_by c.args.self.now)
-    (lengths_in c.args.self.now.tables.now.lengths.items) low
-    (get_or_read c.args.self.now.t.now.nodes.items c.args.v c.index.result.now low c.index.ensures 0)
-
 pub along_spot-requires : goal.along_spot-requires
 along_spot-requires c =
     let are = c.args.self.now.placed in

@@ -7,6 +7,3 @@ home-requires c = record {
   column = rw (← c.placed.ensures.layout, ← c.placed.ensures.lengths) at c.requires.column;
   row = rw (← c.placed.ensures.layout, ← c.placed.ensures.lengths) at c.requires.row;
 }
-
-pub returns : goal.returns
-returns c = cc (c.home.ensures, c.placed.ensures.layout, c.placed.ensures.shares, c.placed.ensures.lengths)

@@ -11,13 +11,6 @@ placer-requires c = record {
   few = rw (c.requires.lengths, ← c.layout.ensures.layout) at c.requires.numbering.few;
 }
 
-pub invariant_of-result : goal.invariant_of-result
-invariant_of-result c = (
-  c.requires.numbering,
-  rw (← c.mesh.ensures, ← c.layout.ensures.layout) c.in_ok-places.ensures.places,
-  c.in_ok-places.ensures.lengths ∙ sym c.requires.lengths,
-)
-
 pub returns : goal.returns
 returns c = λ i. record {
   soup = c.args.cut.soup;

@@ -1,8 +1,5 @@
 use Rattle.qm_stages.proofs.regridded.Regridded.numbered.Goals as goal
 
-pub on-requires : goal.on-requires
-on-requires c = rw c.layout.ensures.layout c.self.invariant.0
-
 pub returns : goal.returns
 returns c = rw (← c.self.view_is) (record {
   layout = cc (c.on.ensures.layout, c.layout.ensures.layout);

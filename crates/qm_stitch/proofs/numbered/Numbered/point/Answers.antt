@@ -16,9 +16,6 @@ border_number-requires-clause-upto c =
     let less = low c.args.self.now.t.now c.args.patch c.requires.patch in
     omega (arith, long_is c.args.self.now.numbers c.args.patch south less)
 
-pub overflow_sub-wide : goal.overflow_sub-wide
-overflow_sub-wide c = omega arith
-
 pub border_number-requires-then-j-high-clause-upto : goal.border_number-requires-then-j-high-clause-upto
 border_number-requires-then-j-high-clause-upto c =
     let numbers = c.args.self.now.numbers in
@@ -38,9 +35,6 @@ returns-then-j-high c =
     (ap (λ n. side_point l x c.args.patch north (n - c.args.i)) (c.size_at-wide.ensures south refl)
     ∙ sym (on_north l x _ _ _ c.if-j-eq0.false
     (c.if-j-high.true ∙ c.size_at-high.ensures west refl)))
-
-pub overflow_sub-high : goal.overflow_sub-high
-overflow_sub-high c = omega arith
 
 pub border_number-requires-then-i-eq0-clause-upto : goal.border_number-requires-then-i-eq0-clause-upto
 border_number-requires-then-i-eq0-clause-upto c =
@@ -72,11 +66,6 @@ returns-then-i-wide c =
     (λ top. c.if-j-high.false (top ∙ sym (c.size_at-high.ensures west refl))) c.if-i-eq0.false
     (c.if-i-wide.true ∙ c.size_at-wide.ensures south refl)))
 
-pub overflow_add-nodes : goal.overflow_add-nodes
-overflow_add-nodes c =
-    let numbers = c.args.self.now.numbers in
-    omega (arith, starts_end numbers.along c.deref.ensures.value c.last_of.ensures)
-
 -- An inner point of the patch.
 here : (c : goal.After-row_known-1)
     → (c.args.self.now.tables.now.nodes + c.last_of.result + c.index.result.now
@@ -97,9 +86,6 @@ here c =
 
 pub overflow_add-result : goal.overflow_add-result
 overflow_add-result c = omega (arith, (here c).1)
-
-pub overflow_sub-result-2 : goal.overflow_sub-result-2
-overflow_sub-result-2 c = omega arith
 
 pub overflow_mul-result : goal.overflow_mul-result
 overflow_mul-result c = omega (arith, (here c).1)

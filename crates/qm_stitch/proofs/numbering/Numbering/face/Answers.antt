@@ -4,10 +4,6 @@ use Rattle.def_written.specs.NewFaces.{face_count, new_face}
 use Rattle.def_remesh.specs.NewPoints.{lengths_in}
 use Rattle.qm_stitch.proofs.numbering.Numbering.face.Goals as goal
 
-pub face-requires : goal.face-requires
-face-requires c = subst (λ n. c.args.f < n) (λ i. face_count (gluing_of (layout_of (sym c.on.ensures.layout i)))
-    (lengths_in (sym c.on.ensures.tables i).lengths.items)) c.requires.face
-
 pub returns : goal.returns
 returns c = c.face.ensures ∙ (λ i. new_face (gluing_of (layout_of (c.on.ensures.layout i)))
     (lengths_in (c.on.ensures.tables i).lengths.items) c.args.f)

@@ -14,14 +14,6 @@ invariant_of-trail c = record {
       (sym (ap (is_among d) (c.deref-2.ensures.value ∙ c.requires.starts)) ∙ n);
 }
 
-pub overflow_cast-riders : goal.overflow_cast-riders
-overflow_cast-riders c =
-    omega (arith, ap length c.requires.starts, starts_few c.args.mesh.now c.faces.ensures.mesh.manifold)
-
-pub overflow_cast-result : goal.overflow_cast-result
-overflow_cast-result c =
-    omega (arith, ap length c.requires.starts, starts_few c.args.mesh.now c.faces.ensures.mesh.manifold)
-
 pub invariant_of-result : goal.invariant_of-result
 invariant_of-result c =
     let many : c.len-many.result ≡ length c.args.src.now.starts.items =

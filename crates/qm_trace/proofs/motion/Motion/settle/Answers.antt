@@ -7,16 +7,6 @@ use Rattle.qm_trace.proofs.Calls.{settling, settles, event_on, counted_again, ma
 use Rattle.qm_trace.proofs.Settled.{can_tell, ends_now, noted_low_at, settle_low, settled_state, still_wait}
 use Rattle.qm_trace.proofs.motion.Motion.settle.Goals as goal
 
-pub index-requires : goal.index-requires
-index-requires c =
-    let k = settles c.faces-known.ensures.mesh.manifold c.self.view_is c.requires.motion c.args.v c.requires.possible in
-    omega (arith, settle_low k, k.now.shown.stood_long, c.self.inside.stood.ok.0)
-
-pub site_at-site-requires : goal.site_at-site-requires
-site_at-site-requires c =
-    let k = settles c.faces-known.ensures.mesh.manifold c.self.view_is c.requires.motion c.args.v c.requires.possible in
-    settle_low k
-
 pub tell_all-requires : goal.tell_all-requires
 tell_all-requires c =
     let k = settles c.faces-known.ensures.mesh.manifold c.self.view_is c.requires.motion c.args.v c.requires.possible in
@@ -28,16 +18,6 @@ tell_all-requires c =
       can = can_tell at c.self.inside.riders refl;
       counted = c.self.invariant.counted;
     }
-
-pub index_mut-requires : goal.index_mut-requires
-index_mut-requires c =
-    let k = settles c.faces-known.ensures.mesh.manifold c.self.view_is c.requires.motion c.args.v c.requires.possible in
-    omega (arith, settle_low k, k.now.shown.stood_long, c.self.inside.stood.ok.0)
-
-pub index_mut-requires-2 : goal.index_mut-requires-2
-index_mut-requires-2 c =
-    let k = settles c.faces-known.ensures.mesh.manifold c.self.view_is c.requires.motion c.args.v c.requires.possible in
-    omega (arith, settle_low k, k.now.shown.settled_long, c.self.inside.settled.ok.0)
 
 pub clear-requires : goal.clear-requires
 clear-requires c =

@@ -20,10 +20,3 @@ pub bounds-riders-r : goal.bounds-riders-r
 bounds-riders-r c =
     let m = among_at c.args.queue.now c.loop-r.r-index c.loop-r-test.true in
     omega (arith, c.requires.low _ m, c.loop-r.auto.riders)
-
-pub loop-r-preserved : goal.loop-r-preserved
-loop-r-preserved c =
-    let s = c.args.self.now in
-    let m = among_at c.args.queue.now c.loop-r.r-index c.loop-r-test.true in
-    rode_more s.mesh.now s.sight.now.stood.items s.sight.now.taken.items _ _ _ _ c.requires.apart
-    c.loop-r-test.true (c.requires.low _ m) c.loop-r.invariant c.loop-r.auto.riders c.ride_one.ensures
