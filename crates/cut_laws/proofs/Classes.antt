@@ -1,12 +1,12 @@
 -- Classes of faces that are joined over edges that are not cut: each is one grid, and has one patch.
 use Rattle.std.proofs.Common.{◌≡◌, ℕ, zero, suc, ◌-◌, ◌<◌, ◌≤◌, true, false, Some, sym, ◌∙◌, ap, refl, inl, inr}
-use Rattle.std.proofs.{Common.true≢false, Common.arith, lemmas.Bool.cases_eq}
+use Rattle.std.proofs.Common.{true≢false, arith, List, [], ◌∷◌, length, get_or}
+use Rattle.std.proofs.lemmas.Bool.{cases_eq, cases_lt}
 use Rattle.def_mesh.specs.HalfEdges.{HalfEdges, IsQuadManifold}
-use Rattle.def_cut.specs.Cuts.{Cut, Links, IsCorner, IsCut}
-use Rattle.def_cut.specs.{Grids.Cells, Grids.IsGrid, Grids.IsPatch, Steps.spin}
-use Rattle.cut_laws.proofs.Darts.{prev_three, prev_twice, prev_same}
-use Rattle.cut_laws.proofs.Increasing.{same_if}
-use Rattle.cut_laws.proofs.Folds.{At, one_more, cross_to, west_open, south_open}
+use Rattle.def_cut.specs.{Cuts.Cut, Cuts.Links, Cuts.IsCorner, Cuts.IsCut, Grids.Cells, Grids.IsGrid, Grids.IsPatch}
+use Rattle.def_cut.specs.{Grids.least_of, Steps.spin}
+use Rattle.cut_laws.proofs.Folds.{prev_three, prev_twice, prev_same, At, one_more, cross_to, west_open, south_open}
+use Rattle.cut_laws.proofs.Pigeon.{same_if}
 
 -- x is a side of a cell of the grid.
 abbrev pub In : (mesh : HalfEdges) (w h : ℕ) (cell : Cells) (x : ℕ) → Type 0
@@ -237,3 +237,29 @@ module _ (mesh : HalfEdges) (laws : IsQuadManifold mesh) (cut : Cut) (full : IsC
       there {w} {h} {v} {g} {cell} {tile} a b i j =
           let back = linked_back _ x (a.low 0 0 a.wide a.tall) (linked_in w h cell a x i) in
           closed v g tile b x _ _ back.1 j
+
+-- The least of a list.
+
+-- It is at most each of the numbers, and at least what all of them are.
+pub least_high : (xs : List ℕ) (k : ℕ) → k < length xs → least_of xs ≤ get_or xs k 0
+least_high (x ∷ []) zero l = omega arith
+least_high (x ∷ y ∷ xs) zero l = omega arith
+least_high (x ∷ y ∷ xs) (suc k) l = omega (arith, least_high (y ∷ xs) k (omega arith))
+least_high _ _ l = absurd (omega arith)
+
+pub least_low : (xs : List ℕ) (f : ℕ) → 0 < length xs → ((k : ℕ) → k < length xs → f ≤ get_or xs k 0) → f ≤ least_of xs
+least_low [] f some each = absurd (omega arith)
+least_low (x ∷ []) f some each = each 0 (omega arith)
+least_low (x ∷ y ∷ xs) f some each =
+    omega (arith, each 0 (omega arith), least_low (y ∷ xs) f (omega arith) (λ k l. each (suc k) (omega arith)))
+
+-- It is one of them.
+pub least_there : (xs : List ℕ) → 0 < length xs → (k : ℕ) × (k < length xs) × (get_or xs k 0 ≡ least_of xs)
+least_there [] some = absurd (omega arith)
+least_there (x ∷ []) some = (0, omega arith, refl)
+least_there (x ∷ y ∷ xs) some =
+    let r = least_there (y ∷ xs) (omega arith) in
+    elim (cases_lt (least_of (y ∷ xs)) x) [
+      | inl l ↦ (suc r.0, omega (arith, r.1), r.2 ∙ omega arith)
+      | inr g ↦ (0, omega arith, omega arith)
+    ]

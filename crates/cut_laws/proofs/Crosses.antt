@@ -3,7 +3,7 @@ use Rattle.std.proofs.Common.{◌≡◌, ◌⊎◌, ℕ, zero, suc, ◌<◌, ◌
 use Rattle.std.proofs.{lemmas.Bool.cases_eq, lemmas.Option.same_Some}
 use Rattle.def_mesh.specs.HalfEdges.{HalfEdges, AreTurned, Turns, IsQuadManifold}
 use Rattle.def_cut.specs.{Cuts.IsCross, Cuts.HasCross, Steps.or_zero}
-use Rattle.cut_laws.proofs.{Darts.prev_three, Darts.turn_from, Darts.turn_low, Darts.turn_same, Increasing.apart_if}
+use Rattle.cut_laws.proofs.{Folds.prev_three, Folds.turn_from, Folds.turn_low, Folds.turn_same, Pigeon.apart_if}
 
 -- Each edge at which a dart arrives at v has two darts.
 abbrev pub IsRound : (mesh : HalfEdges) (v : ℕ) → Type 0

@@ -1,12 +1,7 @@
-pub mod Darts
 pub mod Folds
 pub mod Pigeon
 pub mod Rows
-pub mod Grown
-pub mod Increasing
 pub mod Classes
 pub mod OneList
 pub mod Corners
 pub mod Crosses
-pub mod Spins
-pub mod Leasts

@@ -1,11 +1,11 @@
 -- At most one list of patches holds each face once.
-use Rattle.std.proofs.Common.{◌≡◌, ℕ, suc, ◌+◌, ◌*◌, ◌/◌, ◌%◌, ◌<◌, List, [], map, length, get_or, ap, refl}
-use Rattle.std.proofs.{Common.arith, Math.Nat.div-lt_iff_lt-mul, lemmas.List.ext_get_or}
+use Rattle.std.proofs.Common.{◌≡◌, ℕ, suc, ◌+◌, ◌*◌, ◌/◌, ◌%◌, ◌<◌, List, [], map, length, get_or, ap, refl, arith}
+use Rattle.std.proofs.{Math.Nat.div-lt_iff_lt-mul, lemmas.List.ext_get_or}
 use Rattle.def_mesh.specs.HalfEdges.{HalfEdges, IsQuadManifold}
 use Rattle.def_cut.specs.Grids.{IsPatch, Rectangle, cell_of, patch_at, least_of, IsSide, IsPartition}
 use Rattle.def_cut.specs.{Cuts.Cut, Cuts.IsCut, Laws.OneListLaw}
-use Rattle.cut_laws.proofs.{Spins.spun, Folds.no_fold, Classes.In, Classes.AreOne, Classes.one_patch}
-use Rattle.cut_laws.proofs.Increasing.{increasing_place, same_many, same_values}
+use Rattle.cut_laws.proofs.{Corners.spun, Folds.no_fold, Classes.In, Classes.AreOne, Classes.one_patch}
+use Rattle.cut_laws.proofs.{Pigeon.increasing_place, Pigeon.same_many, Pigeon.same_values}
 
 -- A place among h rows of w.
 pub place_row : (k w h : ℕ) → 0 < w → k < h * w → k / w < h

@@ -1,12 +1,12 @@
 -- A dart of the cut lies on one arc, at one place of it, in one direction.
-use Rattle.std.proofs.Common.{◌≡◌, ℕ, zero, suc, ◌+◌, ◌-◌, ◌<◌, Bool, true, false, List, length, Some, refl, sym, ◌∙◌}
-use Rattle.std.proofs.{Common.ap, Common.inl, Common.inr, Common.arith, lemmas.Bool.cases_eq, lemmas.Bool.cases_order}
+use Rattle.std.proofs.Common.{◌≡◌, ℕ, suc, ◌+◌, ◌-◌, ◌<◌, Bool, true, false, List, length, Some, refl, sym, ◌∙◌, ap}
+use Rattle.std.proofs.Common.{arith}
 use Rattle.def_mesh.specs.HalfEdges.{HalfEdges, IsQuadManifold}
 use Rattle.def_cut.specs.{Cuts.Cut, Cuts.IsCut, Steps.easts}
 use Rattle.def_layout.specs.Arcs.{LiesAt, Path, path_at, dart_at, long_at, name_at, AreArcs}
 use Rattle.def_layout.specs.Nodes.{AreNodes}
-use Rattle.cut_laws.proofs.{Leasts.least_high, Leasts.least_there, Increasing.increasing_place}
-use Rattle.layout_laws.proofs.Runs.{IsBack, run_low, same_place, same_length, back_run}
+use Rattle.cut_laws.proofs.{Classes.least_high, Classes.least_there, Pigeon.increasing_place}
+use Rattle.layout_laws.proofs.Runs.{run_low, same_place, same_length, back_run}
 
 module _ (m : HalfEdges) (laws : IsQuadManifold m) (cut : Cut) (full : IsCut m cut) (node : ℕ → Bool)
     (nodes : AreNodes m cut node) (arcs : List Path) (are : AreArcs m cut node arcs) where

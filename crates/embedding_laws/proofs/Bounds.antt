@@ -1,20 +1,32 @@
--- How large the numbers of a new mesh are.
+-- What is known of the layout of a mesh.
 use Rattle.std.proofs.Common.{◌≡◌, ℕ, suc, ◌*◌, ◌^◌, ◌<◌, ◌≤◌, true, refl, sym, ◌∙◌, ap, arith}
 use Rattle.std.proofs.lemmas.Nat.{mul-le}
-use Rattle.def_math.specs.Counts.{count_below}
-use Rattle.def_layout.specs.{Arcs.long_at, Cells.CellDart, Cells.IsDart, Surfaces.IsSurface, Gluings.Way, Gluings.south}
-use Rattle.def_layout.specs.{Gluings.east, Gluings.north, Gluings.west, Gluings.Gluing, Lengths.Lengths, Lengths.size}
-use Rattle.def_layout.specs.{Lengths.wide, Lengths.high, Lengths.AreLengths, Layouts.Layout, Layouts.gluing_of}
-use Rattle.def_layout.specs.Layouts.{vertex_at}
-use Rattle.def_layoutnet.specs.MeshLayouts.{IsSomeLayout}
-use Rattle.def_written.specs.{Points.Point, Points.IsPoint, Numbers.vertex_number, Numbers.vertices}
-use Rattle.def_written.specs.NewFaces.{dart_start, cells_before, face_count}
-use Rattle.sum_laws.proofs.Counts.{count_below_le, count_below_times}
-use Rattle.written_laws.proofs.{Runs.count_rises, Tallies.passing, Tallies.passing_le, Tallies.passing_all}
-use Rattle.written_laws.proofs.{Grid.wide_some, Grid.high_some, EdgeNumbers.point_onto, Models.point_dart}
-use Rattle.written_laws.proofs.{ModelCounts.faces_are, NewDarts.dart_number, NewDarts.dart_low, NewDarts.dart_same}
-use Rattle.written_laws.proofs.{NewDarts.faces_long, OldModel.old_model}
-use Rattle.embedding_laws.proofs.MeshLayouts.{lies}
+use Rattle.def_layout.specs.{Arcs.long_at, Surfaces.IsSurface, Lengths.AreLengths, Lengths.Lengths, Lengths.size}
+use Rattle.def_layout.specs.{Lengths.wide, Lengths.high, Layouts.Layout, Layouts.gluing_of, Layouts.vertex_at}
+use Rattle.def_layout.specs.{Cells.CellDart, Cells.IsDart, Gluings.Way, Gluings.south, Gluings.east, Gluings.north}
+use Rattle.def_layout.specs.{Gluings.west, Gluings.Gluing}
+use Rattle.def_written.specs.{Laws.LiesInMesh, Points.Point, Points.IsPoint, Numbers.vertex_number, Numbers.vertices}
+use Rattle.def_written.specs.{NewFaces.dart_start, NewFaces.cells_before, NewFaces.face_count}
+use Rattle.embedding_laws.proofs.OneLayout.{embedding_law}
+use Rattle.written_laws.proofs.{Shape.laid_law, Spacings.count_rises, Spacings.passing, Spacings.passing_le}
+use Rattle.written_laws.proofs.{Spacings.passing_all, Rims.wide_some, Rims.high_some, EdgeNumbers.point_onto}
+use Rattle.written_laws.proofs.{ModelCounts.point_dart, ModelCounts.faces_are, NewDarts.dart_number, NewDarts.dart_low}
+use Rattle.written_laws.proofs.{NewDarts.dart_same, NewDarts.faces_long, OldModel.old_model}
+use Rattle.sum_laws.proofs.Sums.{count_below_le, count_below_times}
+use Rattle.{def_layoutnet.specs.MeshLayouts.IsSomeLayout, def_math.specs.Counts.count_below}
+
+module _ (layout : Layout) (is : IsSomeLayout layout) where
+  -- It lies in the mesh, at its old lengths.
+  pub lies : LiesInMesh is.faces (gluing_of layout) (long_at layout.arcs) (vertex_at layout)
+  lies = embedding_law is.faces is.marks layout is.mesh is.quads is.cut is.laid
+
+  pub laid_of : IsSurface (gluing_of layout)
+  laid_of = (laid_law is.faces (gluing_of layout) (long_at layout.arcs) (vertex_at layout) lies).0
+
+  pub lengths_of : AreLengths (gluing_of layout) (long_at layout.arcs)
+  lengths_of = lies.lengths
+
+-- How large the numbers of a new mesh are.
 
 module _ (l : Gluing) (x : Lengths) (laid : IsSurface l) (len : AreLengths l x) where
   -- Each point is left by a dart, so that there are no more points than darts.

@@ -1,20 +1,19 @@
 -- The layout of a full cut lies in the mesh.
 use Rattle.std.proofs.Common.{◌≡◌, ◌≢◌, ℕ, zero, suc, ◌<◌, refl, sym, ap, ◌⊎◌, ◌+◌, ◌-◌, Bool, true, false, length}
-use Rattle.std.proofs.Common.{Option, Some, None, ◌∙◌, subst, inl, inr, arith}
-use Rattle.std.proofs.lemmas.Bool.{cases_Bool, cases_eq, cases_lt, cases_order, false≢true}
+use Rattle.std.proofs.Common.{Some, None, ◌∙◌, subst, inl, inr, arith}
+use Rattle.std.proofs.lemmas.Bool.{cases_Bool, cases_eq, cases_lt, false≢true}
 use Rattle.std.proofs.lemmas.Option.{none-some}
 use Rattle.def_mesh.specs.HalfEdges.{HalfEdges, IsQuadManifold}
-use Rattle.def_cut.specs.Grids.{cell_of, patch_at, IsGrid, IsSide}
-use Rattle.def_cut.specs.{Steps.spin, Cuts.Cut, Cuts.IsCut}
+use Rattle.def_cut.specs.{Grids.cell_of, Grids.patch_at, Grids.IsGrid, Grids.IsSide, Steps.spin, Cuts.Cut, Cuts.IsCut}
 use Rattle.def_layout.specs.Gluings.{Way, south, east, north, west, side_after, Gluing, Slot, IsSlot, use_of}
+use Rattle.def_layout.specs.Gluings.{start_node}
 use Rattle.def_layout.specs.Layouts.{way_number, Layout, vertex_at, gluing_of, IsDartLayout}
-use Rattle.def_layout.specs.Lengths.{reach, size, wide, high, AreLengths}
-use Rattle.def_layout.specs.Cells.{CellDart, IsDart, dart, dart_along, slot_dart}
-use Rattle.def_layout.specs.Arcs.{end_vertex, IsRun, LiesAt, path_at, dart_at, long_at}
-use Rattle.def_layout.specs.{Gluings.start_node, declared.tmesh.SideArc.SideArc, Surfaces.HasWholeSides}
-use Rattle.def_layout.specs.{Surfaces.IsOtherSlot, Embeddings.IsEmbedding, Borders.side_size, Borders.border_dart}
-use Rattle.def_layout.specs.Nodes.{AreNodes}
-use Rattle.cut_laws.proofs.Increasing.{increasing_place}
+use Rattle.def_layout.specs.{Lengths.reach, Lengths.size, Lengths.wide, Lengths.high, Lengths.AreLengths}
+use Rattle.def_layout.specs.{Cells.CellDart, Cells.IsDart, Cells.dart, Cells.dart_along, Cells.slot_dart}
+use Rattle.def_layout.specs.{Arcs.end_vertex, Arcs.IsRun, Arcs.LiesAt, Arcs.path_at, Arcs.dart_at, Arcs.long_at}
+use Rattle.def_layout.specs.{declared.tmesh.SideArc.SideArc, Surfaces.HasWholeSides, Surfaces.IsOtherSlot}
+use Rattle.def_layout.specs.{Embeddings.IsEmbedding, Borders.side_size, Borders.border_dart, Nodes.AreNodes}
+use Rattle.cut_laws.proofs.Pigeon.{increasing_place}
 use Rattle.list_laws.proofs.Filters.{IsKept, kept_at, rises}
 use Rattle.layout_laws.proofs.{Runs.none_or, Runs.run_inner, Borders.line, Borders.on_side, Borders.line_from}
 use Rattle.written_laws.proofs.Sides.{slot, IsOn, place_on}

@@ -1,24 +1,25 @@
 -- A mesh with a full cut has arcs, in order of their names, and uses of them.
 use Rattle.std.proofs.Common.{◌≡◌, ◌⊎◌, ℕ, zero, suc, ◌+◌, ◌-◌, ◌/◌, ◌<◌, ◌≤◌, Bool, true, false, List, [], ◌∷◌, ◌++◌}
 use Rattle.std.proofs.Common.{length, get_or, set, replicate, Option, Some, None, sym, ◌∙◌, ap, subst, refl, inl, inr}
-use Rattle.std.proofs.Common.{arith}
-use Rattle.std.proofs.lemmas.Bool.{cases_Bool, cases_eq, false≢true}
-use Rattle.std.proofs.lemmas.List.{length-replicate}
-use Rattle.std.specs.List.{filter, range_with_len}
-use Rattle.def_cut.specs.{FullCut.is_on, Grids.IsPartition, Grids.Rectangle, Steps.easts}
+use Rattle.std.proofs.Common.{arith, length-append}
+use Rattle.std.proofs.lemmas.Bool.{cases_Bool, cases_eq, false≢true, cases_lt}
+use Rattle.std.proofs.lemmas.List.{length-replicate, get_or_append_left, get_or-append-add}
+use Rattle.def_cut.specs.{FullCut.is_on, Grids.IsPartition, Grids.Rectangle, Grids.patch_at, Steps.easts}
 use Rattle.def_layout.specs.{Arcs.long_at, Arcs.path_at, Arcs.IsRun, Arcs.Path, Nodes.is_node}
-use Rattle.def_layout.specs.declared.tmesh.SideArc.{SideArc}
+use Rattle.def_layout.specs.{declared.tmesh.SideArc.SideArc, Borders.border_dart, Borders.side_size, Gluings.east}
+use Rattle.def_layout.specs.{Gluings.north, Gluings.south, Gluings.west, Gluings.Way, Layouts.way_number}
 use Rattle.def_mesh.specs.{Darts.darts, Darts.from_of, Darts.next_of, Darts.to_of, Darts.twin_of, Faces.Faces}
 use Rattle.def_mesh.specs.{HalfEdges.HalfEdges, HalfEdges.half_edges, Vertices.vertex_count}
-use Rattle.layout_laws.specs.Named.{run_list, run_name}
-use Rattle.layout_laws.proofs.{Borders.each_in_run, Runs.run_low, Runs.same_length, Runs.same_place}
-use Rattle.layout_laws.proofs.Uses.{named_or_back, run_long}
-use Rattle.list_laws.proofs.Filters.{place_of}
-use Rattle.mesh_laws.proofs.Vertices.{all_below}
+use Rattle.layout_laws.proofs.{Borders.each_in_run, Runs.run_low, Runs.same_length, Runs.same_place, Uses.named_or_back}
+use Rattle.layout_laws.proofs.{Uses.run_long}
 use Rattle.qm_tmesh.specs.{Arcs.AreArcsBelow, Arcs.IsArcFrom, Tables.IsMarked, Tables.IsNamedRun, Uses.AreNamed}
-use Rattle.qm_tmesh.specs.Uses.{HasUsesBelow}
-use Rattle.qm_tmesh.proofs.{ArcReads.named_low, ArcReads.named_some, ArcTables.arcs_more, ArcTables.arcs_none}
-use Rattle.qm_tmesh.proofs.{ArcTables.arcs_skip, UseTables.clash, UseTables.uses_more, Walks.name_dart}
+use Rattle.qm_tmesh.specs.{Uses.HasUsesBelow, Uses.use_in, Four.AreAllFour, Four.AreFour, Four.AreRuns}
+use Rattle.qm_tmesh.specs.{Four.HavePatches, Four.IsPatchOf, Sides.IsSideOf, Sides.IsSideSoFar, Sides.IsSplit}
+use Rattle.qm_tmesh.proofs.ArcTables.{named_low, named_some, arcs_more, arcs_none, arcs_skip}
+use Rattle.qm_tmesh.proofs.{UseTables.clash, UseTables.uses_more, UseTables.side_more, Walks.name_dart}
+use Rattle.qm_tmesh.proofs.{Splits.side_split}
+use Rattle.{std.specs.List.filter, std.specs.List.range_with_len, layout_laws.specs.Named.run_list}
+use Rattle.{layout_laws.specs.Named.run_name, list_laws.proofs.Filters.place_of, mesh_laws.proofs.Flood.all_below}
 
 module _ {faces : Faces} {cut marks : List Bool} (marked : IsMarked faces cut marks) where
   abbrev mesh : HalfEdges
@@ -159,3 +160,97 @@ module _ {faces : Faces} {cut marks : List Bool} (marked : IsMarked faces cut ma
 
     pub uses_exist : (uses : List SideArc) × HasUsesBelow faces arcs (length arcs) uses
     uses_exist = uses_below (length arcs) (omega arith)
+
+-- Lists of what there is for each number, and least numbers.
+
+-- Where there is something for each number below n, a list has it.
+pub chosen : {X : Type 0} (d : X) (P : ℕ → X → Type 0) (n : ℕ) → ((k : ℕ) → k < n → (x : X) × P k x)
+    → (xs : List X) × (length xs ≡ n) × ((k : ℕ) → k < n → P k (get_or xs k d))
+chosen d P zero each = ([], refl, λ k l. absurd (omega arith))
+chosen d P (suc n) each =
+    let (xs, long, all) = chosen d P n (λ k l. each k (omega arith)) in
+    let (x, here) = each n (omega arith) in (
+      xs ++ x ∷ [],
+      length-append xs (x ∷ []) ∙ omega (arith, long),
+      λ k l. elim (cases_eq k n) [
+        | inl s ↦ let e : n ≡ length xs + 0 = omega (arith, long) in
+            rw (s, ap (λ (i : ℕ). get_or (xs ++ x ∷ []) i d) e ∙ get_or-append-add xs (x ∷ []) 0 d) here
+        | inr ne ↦ rw (get_or_append_left xs (x ∷ []) d k (omega (arith, l, ne, long))) (all k (omega (arith, l, ne)))
+      ],
+    )
+
+-- The least number that passes a test, where some number does.
+pub least_passing : (p : ℕ → Bool) (e : ℕ) → p e ≡ true → (d : ℕ) × (p d ≡ true) × ((x : ℕ) → p x ≡ true → d ≤ x)
+least_passing p e on = search e 0 (omega arith) (λ x l. absurd (omega arith))
+  where
+    found : (k : ℕ) → ((x : ℕ) → x < k → p x ≡ false) → p k ≡ true → (d : ℕ) × (p d ≡ true)
+        × ((x : ℕ) → p x ≡ true → d ≤ x)
+    found k before here = (
+      k,
+      here,
+      λ x also. elim (cases_lt x k) [ inl l ↦ absurd (false≢true (sym (before x l) ∙ also)) | inr h ↦ h ],
+    )
+
+    search : (left k : ℕ) → k + left ≡ e → ((x : ℕ) → x < k → p x ≡ false) → (d : ℕ) × (p d ≡ true)
+        × ((x : ℕ) → p x ≡ true → d ≤ x)
+    search zero k sum before = let same : k ≡ e = omega arith in found k before (rw same on)
+    search (suc left) k sum before = elim (cases_Bool (p k)) [
+      | inl here ↦ found k before here
+      | inr off ↦ search left (suc k) (omega arith)
+          (λ x l. elim (cases_eq x k) [ inl s ↦ rw s off | inr ne ↦ before x (omega arith) ])
+    ]
+
+-- The sides of patches are made up of uses of arcs.
+
+-- A line that is split has a side.
+module _ {arcs : List Path} {uses : List SideArc} {line : List ℕ} {starts : ℕ → Bool}
+    (split : IsSplit arcs uses line starts) where
+  grown : (fuel t : ℕ) (used : List SideArc) → length line ≤ t + fuel → IsSideSoFar arcs uses line starts t used
+      → (us : List SideArc) × IsSideOf arcs uses line us
+  grown zero t used far so = (used, record { total = so.at ∙ omega (arith, far, so.high); each = so.each })
+  grown (suc fuel) t used far so = elim (cases_lt t (length line)) [
+    | inl low ↦
+        let next = use_in uses (get_or line t 0) in
+        let here = split.step t low (so.next low) in
+        grown fuel (t + long_at arcs next.arc) (used ++ next ∷ []) (omega (arith, far, here.some))
+        (side_more split so low refl refl)
+    | inr end ↦ (used, record { total = so.at ∙ omega (arith, end, so.high); each = so.each })
+  ]
+
+  side : (us : List SideArc) × IsSideOf arcs uses line us
+  side = grown (length line) 0 [] (omega arith) (record {
+    at = refl;
+    high = omega arith;
+    next = split.first;
+    each = λ k l. absurd (omega arith);
+  })
+
+module _ {faces : Faces} {arcs : List Path} {uses : List SideArc} (runs : AreRuns faces arcs uses) (patch : Rectangle)
+    (is : IsPatchOf faces runs.cut patch) where
+  on : (way : Way) → (us : List SideArc)
+      × IsSideOf arcs uses (run_list (half_edges faces) (border_dart (half_edges faces) patch way 0)
+      (side_size patch way)) us
+  on way = side (side_split runs is way)
+
+  four : (four : List (List SideArc)) × AreFour faces arcs uses patch four
+  four = (
+    (on south).0 ∷ (on east).0 ∷ (on north).0 ∷ (on west).0 ∷ [],
+    record { count = refl; each = each },
+  )
+    where
+      each : (way : Way) → IsSideOf arcs uses
+          (run_list (half_edges faces) (border_dart (half_edges faces) patch way 0) (side_size patch way))
+          (get_or ((on south).0 ∷ (on east).0 ∷ (on north).0 ∷ (on west).0 ∷ []) (way_number way) [])
+      each south = (on south).1
+      each east = (on east).1
+      each north = (on north).1
+      each west = (on west).1
+
+-- All patches have their sides.
+pub sides_exist : {faces : Faces} {arcs : List Path} {uses : List SideArc} {patches : List Rectangle}
+    → HavePatches faces arcs uses patches
+    → (sides : List (List (List SideArc))) × AreAllFour faces arcs uses patches sides
+sides_exist {faces} {arcs} {uses} {patches} (runs, placed) =
+    let (sides, count, each) = chosen [] (λ p four. AreFour faces arcs uses (patch_at patches p) four)
+    (length patches) (λ p l. four runs (patch_at patches p) (placed p l)) in
+    (sides, record { count = count; each = each })

@@ -1,5 +1,3 @@
 mod Arcs
-mod Choices
 pub mod Layouts
 mod Patches
-mod Sides

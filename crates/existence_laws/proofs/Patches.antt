@@ -1,18 +1,16 @@
 -- A full cut of a mesh has patches: from the least corner of each class of faces grows a grid.
-use Rattle.std.proofs.Common.{◌≡◌, ℕ, zero, suc, ◌+◌, ◌*◌, ◌/◌, ◌<◌, ◌≤◌, Bool, true, false, ◌||◌, List, [], ◌∷◌}
-use Rattle.std.proofs.Common.{◌++◌, length, map, get_or, replicate, refl, inl, inr, arith}
+use Rattle.std.proofs.Common.{◌≡◌, ℕ, zero, suc, ◌+◌, ◌*◌, ◌/◌, ◌<◌, ◌≤◌, Bool, true, false, ◌||◌, List, [], ◌∷◌, ◌++◌}
+use Rattle.std.proofs.Common.{length, map, get_or, replicate, refl, inl, inr, arith}
 use Rattle.std.proofs.lemmas.Bool.{and_from, and_parts, cases_Bool, lt-ltb, ltb-true}
 use Rattle.std.proofs.lemmas.List.FromFn.{get_or-map-range_with_len, length-map-range_with_len}
 use Rattle.std.specs.{Prelude.◌&&◌, Prelude.nat_lt, List.range_with_len}
 use Rattle.def_cut.specs.{Cuts.IsCorner, FullCut.is_on, Grids.IsPartition, Grids.Rectangle}
 use Rattle.def_mesh.specs.{Darts.darts, Darts.prev_of, Faces.Faces, HalfEdges.HalfEdges, HalfEdges.half_edges}
-use Rattle.cut_laws.specs.Grown.{IsGrown}
-use Rattle.cut_laws.proofs.Grown.{grow}
-use Rattle.def_known.specs.Cutting.{IsCutting}
 use Rattle.qm_grid.specs.{Cells.grid_list, Heads.lies_in, Heads.AreOfOne, Heads.IsHead}
 use Rattle.qm_grid.proofs.Found.{found_done, found_more, found_none, found_skip, AreFoundSoFar}
 use Rattle.qm_grid.proofs.{HeadTables.back, HeadTables.join, HeadTables.to_first, Laid.lies_linked, Laid.linked_lies}
-use Rattle.existence_laws.proofs.Choices.{least_passing}
+use Rattle.existence_laws.proofs.Arcs.{least_passing}
+use Rattle.{cut_laws.specs.Grown.IsGrown, cut_laws.proofs.Rows.grow, def_known.specs.Cutting.IsCutting}
 
 module _ {faces : Faces} {cut : List Bool} (cutting : IsCutting faces cut) where
   abbrev mesh : HalfEdges

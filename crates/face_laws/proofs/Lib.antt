@@ -1,2 +1,1 @@
-pub mod Fans
 pub mod FullCuts

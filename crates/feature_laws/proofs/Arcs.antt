@@ -1,25 +1,20 @@
 -- Each arc of the cut is marked in all its edges or in none.
-use Rattle.std.proofs.Common.{◌≡◌, ℕ, zero, suc, ◌<◌, Bool, true, false, ◌&&◌, List, Some}
-use Rattle.std.proofs.Common.{sym, ap, ◌∙◌, refl, inl, inr, arith}
-use Rattle.std.proofs.lemmas.Bool.{and_parts, false≢true}
-use Rattle.std.proofs.lemmas.Option.{same_Some}
-use Rattle.sum_laws.proofs.Tests.{same_test}
+use Rattle.std.proofs.Common.{◌≡◌, ℕ, zero, suc, ◌<◌, Bool, true, false, ◌&&◌, List, Some, sym, ap, ◌∙◌, refl, inl, inr}
+use Rattle.std.proofs.Common.{arith}
+use Rattle.std.proofs.{lemmas.Bool.and_parts, lemmas.Bool.false≢true, lemmas.Option.same_Some}
 use Rattle.def_mesh.specs.{Faces.Faces, Darts.darts, Darts.from_of, Darts.to_of, Darts.next_of, Darts.prev_of}
-use Rattle.def_mesh.specs.{Darts.twin_of, Manifold.IsManifold}
-use Rattle.def_mesh.specs.HalfEdges.{HalfEdges, IsQuadManifold, half_edges}
-use Rattle.def_mesh.specs.Vertices.{fan_of}
+use Rattle.def_mesh.specs.{Darts.twin_of, Manifold.IsManifold, HalfEdges.HalfEdges, HalfEdges.IsQuadManifold}
+use Rattle.def_mesh.specs.{HalfEdges.half_edges, Vertices.fan_of}
 use Rattle.def_cut.specs.{Cuts.IsCross, Cuts.IsCut, FullCut.is_on, Steps.step_east, Steps.easts}
 use Rattle.def_layout.specs.{Arcs.IsRun, Nodes.is_node, Nodes.AreNodes}
-use Rattle.def_feature.specs.{Laws.MarkedArcLaw, Beside.IsCutBeside}
-use Rattle.def_feature.specs.{Beside.BesideArcLaw, Marks.AreMarks, Marked.marked_cut}
+use Rattle.def_feature.specs.{Laws.MarkedArcLaw, Beside.IsCutBeside, Beside.BesideArcLaw, Marks.AreMarks}
+use Rattle.def_feature.specs.{Marked.marked_cut}
 use Rattle.cut_laws.proofs.Crosses.{at_c, low_b, low_c}
 use Rattle.face_laws.proofs.FullCuts.{full_cut_law}
 use Rattle.layout_laws.proofs.{FaceNodes.are_nodes, Runs.GoesStraight, Runs.run_low, Runs.run_goes}
-use Rattle.mesh_laws.proofs.HalfEdges.{manifold_law}
-use Rattle.feature_laws.proofs.Breaks.{break_turns, from_fan, twin_on, two_ways}
-use Rattle.feature_laws.proofs.Laws.{marked_law, soon_cut}
-use Rattle.feature_laws.proofs.First.{origin_soon}
-use Rattle.motion_laws.proofs.Among.{any_where}
+use Rattle.feature_laws.proofs.{Breaks.break_turns, Breaks.from_fan, Breaks.twin_on, Breaks.two_ways}
+use Rattle.feature_laws.proofs.{Conforming.marked_law, Conforming.soon_cut, First.origin_soon}
+use Rattle.{sum_laws.proofs.Tests.same_test, mesh_laws.proofs.Chains.manifold_law, motion_laws.proofs.Among.any_where}
 
 module _ (faces : Faces) (m : IsManifold faces) (marks : List Bool) (marked : AreMarks faces marks)
     (cut_marks : List Bool) (kept : IsCutBeside faces marks cut_marks) where

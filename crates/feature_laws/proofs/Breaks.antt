@@ -5,27 +5,21 @@ use Rattle.std.proofs.lemmas.Bool.{cases_Bool, cond-true, eq-eqb, eqb-true, lt-l
 use Rattle.std.proofs.lemmas.Bool.{and_parts, not_from_false, false≢true, false_from_ne_true, cases_lt, cases_eq}
 use Rattle.std.proofs.lemmas.Bool.{le-ltb}
 use Rattle.std.proofs.lemmas.Option.{same_Some}
-use Rattle.std.specs.Prelude.{option_map}
-use Rattle.def_mesh.specs.{Faces.Faces, Manifold.IsManifold}
 use Rattle.def_mesh.specs.Darts.{darts, all_darts, from_of, to_of, next_of, prev_of, twin_of, straight_of}
-use Rattle.def_mesh.specs.Vertices.{faces_at, fan_of}
-use Rattle.def_mesh.specs.Kinds.{is_inner, is_regular}
-use Rattle.def_mesh.specs.Components.{seeds, is_start}
-use Rattle.def_mesh.specs.HalfEdges.{HalfEdges, IsQuadManifold, half_edges}
+use Rattle.def_mesh.specs.{Faces.Faces, Manifold.IsManifold, Vertices.faces_at, Vertices.fan_of, Kinds.is_inner}
+use Rattle.def_mesh.specs.{Kinds.is_regular, Components.seeds, Components.is_start, HalfEdges.HalfEdges}
+use Rattle.def_mesh.specs.{HalfEdges.IsQuadManifold, HalfEdges.half_edges}
 use Rattle.def_runs.specs.Runs.{is_passed, follower}
-use Rattle.def_cut.specs.Cuts.{IsCross, HasCross}
-use Rattle.def_cut.specs.{FullCut.is_on, Motion.is_among, Steps.or_zero}
-use Rattle.def_cut.specs.Trails.{IsStraight, Trail}
+use Rattle.def_cut.specs.{Cuts.IsCross, Cuts.HasCross, FullCut.is_on, Motion.is_among, Steps.or_zero, Trails.IsStraight}
+use Rattle.def_cut.specs.{Trails.Trail}
 use Rattle.def_feature.specs.Marks.{AreMarks, is_found_on, goes_through, is_crossed, is_break, goes_round, is_touched}
 use Rattle.def_feature.specs.{Beside.is_turn, Marked.is_origin}
 use Rattle.cut_laws.proofs.Crosses.{at_a, both_twins, low_a, low_b, low_c, one_of_four}
-use Rattle.cut_laws.proofs.Darts.{turn_from, turn_low}
-use Rattle.face_laws.proofs.Fans.{regular_cross, cross_inner, cross_regular}
-use Rattle.mesh_laws.proofs.HalfEdges.{manifold_law}
+use Rattle.cut_laws.proofs.{Folds.turn_from, Folds.turn_low, Pigeon.comes_back}
+use Rattle.face_laws.proofs.FullCuts.{regular_cross, cross_inner, cross_regular}
 use Rattle.motion_laws.proofs.Among.{cases_Option, any_at, any_where, in_filter, from_filter, among_range, range_among}
 use Rattle.motion_laws.proofs.Bits.{rotated}
-use Rattle.site_laws.proofs.Sources.{three_faces}
-use Rattle.cut_laws.proofs.Pigeon.{comes_back}
+use Rattle.{std.specs.Prelude.option_map, mesh_laws.proofs.Chains.manifold_law, site_laws.proofs.Sources.three_faces}
 
 -- What stands in the fan of a vertex.
 pub in_fan : (faces : Faces) (v d : ℕ) → d < darts faces → from_of faces d ≡ v → is_among d (fan_of faces v) ≡ true

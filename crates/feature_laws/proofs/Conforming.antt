@@ -1,37 +1,29 @@
 -- The conforming cut is a full cut that keeps marked lines: it is what a motion leaves in which nobody rides any more.
-use Rattle.std.proofs.Common.{◌≡◌, ℕ, zero, suc, ◌<◌, Bool, true, not, eqb, ◌&&◌}
-use Rattle.std.proofs.Common.{List, [], ◌∷◌, length, Option, Some, None, is_some, sym, ap, ◌∙◌, refl, inl}
-use Rattle.std.proofs.Common.{inr, arith}
-use Rattle.std.proofs.lemmas.Bool.{cond-true, eq-eqb, eqb-true, or_left, or_right, or_cases, and_from}
-use Rattle.std.proofs.lemmas.Bool.{and_parts, false≢true}
-use Rattle.std.proofs.lemmas.Option.{same_Some}
-use Rattle.std.specs.{Prelude.option_map, List.list_any}
-use Rattle.sum_laws.proofs.Tests.{same_test}
-use Rattle.def_mesh.specs.{Faces.Faces, Darts.darts, Darts.all_darts, Darts.from_of, Darts.to_of, Darts.next_of}
-use Rattle.def_mesh.specs.{Darts.prev_of, Darts.twin_of, Darts.straight_of, Manifold.IsManifold, Kinds.is_end}
-use Rattle.def_mesh.specs.{Kinds.is_inner, Kinds.is_regular, Kinds.is_singular, Components.seeds}
-use Rattle.def_mesh.specs.{Components.is_start, HalfEdges.HalfEdges, HalfEdges.IsQuadManifold}
-use Rattle.def_mesh.specs.HalfEdges.{half_edges}
-use Rattle.def_runs.specs.Runs.{is_passed, follower}
-use Rattle.def_cut.specs.{Cuts.IsCross, FullCut.is_on, Motion.State}
-use Rattle.def_cut.specs.{Trails.IsStraight, Trails.Trail}
-use Rattle.def_cut.specs.Traced.{terrain_of, is_cut}
-use Rattle.def_feature.specs.Beside.{IsCutBeside}
+use Rattle.std.proofs.Common.{◌≡◌, ℕ, zero, suc, ◌<◌, Bool, true, not, eqb, ◌&&◌, List, [], ◌∷◌, length, Option, Some}
+use Rattle.std.proofs.Common.{None, is_some, sym, ap, ◌∙◌, refl, inl, inr, arith, false}
+use Rattle.std.proofs.lemmas.Bool.{cond-true, eq-eqb, eqb-true, or_left, or_right, or_cases, and_from, and_parts}
+use Rattle.std.proofs.lemmas.Bool.{false≢true, cases_Bool}
+use Rattle.std.proofs.{lemmas.Option.same_Some, lemmas.List.length-map, lemmas.List.FromFn.length-range_with_len}
+use Rattle.std.proofs.{lemmas.List.FromFn.get_or-map-range_with_len}
+use Rattle.def_mesh.specs.Darts.{darts, all_darts, from_of, to_of, next_of, prev_of, twin_of, straight_of}
+use Rattle.def_mesh.specs.{Faces.Faces, Manifold.IsManifold, Kinds.is_end, Kinds.is_inner, Kinds.is_regular}
+use Rattle.def_mesh.specs.{Kinds.is_singular, Components.seeds, Components.is_start, HalfEdges.HalfEdges}
+use Rattle.def_mesh.specs.{HalfEdges.IsQuadManifold, HalfEdges.half_edges, Vertices.vertex_count}
+use Rattle.def_cut.specs.{Cuts.IsCross, Cuts.IsCut, FullCut.is_on, Motion.State, Motion.ridden, Motion.is_among}
+use Rattle.def_cut.specs.{Trails.IsStraight, Trails.Trail, Traced.terrain_of, Traced.is_cut}
 use Rattle.def_feature.specs.Conforming.{is_source, Line, IsLed, IsLined, IsConforming, ConformingLaw, StraightLaw}
-use Rattle.def_feature.specs.Marks.{AreMarks}
-use Rattle.def_feature.specs.Marked.{is_origin, marked_first}
+use Rattle.def_feature.specs.{Beside.IsCutBeside, Marks.AreMarks, Marked.is_origin, Marked.marked_first}
+use Rattle.def_feature.specs.{Marked.marked_last, Marked.marked_cut, Laws.KeepsMarks, Laws.MarkedLaw}
 use Rattle.cut_laws.proofs.Crosses.{low_b, low_c, at_b, at_c, both_twins}
-use Rattle.face_laws.proofs.Fans.{inner_twin, regular_cross}
-use Rattle.face_laws.proofs.FullCuts.{full_cut_law}
-use Rattle.mesh_laws.proofs.HalfEdges.{manifold_law}
-use Rattle.motion_laws.proofs.{Among.any_at, Among.any_where, Among.among_range, Among.range_among, Onward.full_cut}
-use Rattle.motion_laws.proofs.Steps.{trail_more}
-use Rattle.motion_laws.proofs.Terrains.{IsCrossedAt, IsReachedFrom, crossed_at}
-use Rattle.site_laws.proofs.{Laws.same_cut, Sites.terrain}
+use Rattle.face_laws.proofs.FullCuts.{inner_twin, regular_cross, full_cut_law}
+use Rattle.motion_laws.proofs.{Among.any_at, Among.any_where, Among.among_range, Among.range_among, Among.cases_Option}
+use Rattle.motion_laws.proofs.{Onward.full_cut, Onward.nobody_runs, Onward.end_reached, Steps.trail_more}
+use Rattle.motion_laws.proofs.{Bits.IsCrossedAt, Bits.IsReachedFrom, Bits.crossed_at, Bits.IsSoon}
 use Rattle.feature_laws.proofs.Breaks.{begins, break_turns, cross_passed, twin_on, marked_trail}
 use Rattle.feature_laws.proofs.First.{all_origins, is_first, origin_of, marked_begin}
-use Rattle.motion_laws.proofs.Among.{cases_Option}
-use Rattle.std.proofs.lemmas.Bool.{cases_Bool}
+use Rattle.{std.specs.Prelude.option_map, std.specs.List.list_any, sum_laws.proofs.Tests.same_test}
+use Rattle.{def_runs.specs.Runs.is_passed, def_runs.specs.Runs.follower, mesh_laws.proofs.Chains.manifold_law}
+use Rattle.{mesh_laws.proofs.Flood.all_below, site_laws.proofs.Laws.same_cut, site_laws.proofs.Sites.terrain}
 
 -- What is marked is there.
 pub mark_low : (marks : List Bool) (d : ℕ) → is_on marks d ≡ true → d < length marks
@@ -265,3 +257,51 @@ conforming_law faces marks cut m marked conform = conforms faces m marks marked 
 
 pub straight_law : StraightLaw
 straight_law faces marks cut m marked conform x a b c l k on = straight faces m marks marked cut conform x a b c l k on
+
+-- The motion beside marks ends in a full cut that has every marked edge.
+
+-- A mark of the cut.
+pub mark_is : (faces : Faces) (marks : List Bool) (d : ℕ) → d < darts faces
+    → is_on (marked_cut faces marks) d ≡ is_cut (terrain_of faces) (marked_last faces marks) d
+mark_is faces marks d l = get_or-map-range_with_len (is_cut (terrain_of faces) (marked_last faces marks)) 0
+    (darts faces) d d false l (omega arith)
+
+module _ (faces : Faces) (m : IsManifold faces) (marks : List Bool) (marked : AreMarks faces marks) where
+  none : ridden (marked_last faces marks).riders ≡ []
+  none = nobody_runs (terrain_of faces) (terrain faces m) (begins faces marks) (marked_first faces marks)
+      (marked_begin faces m marks marked) (vertex_count faces) (all_below faces)
+
+  last : IsReachedFrom (terrain_of faces) (begins faces marks) (marked_first faces marks) (marked_last faces marks)
+  last = end_reached (terrain_of faces) (terrain faces m) (begins faces marks) (marked_first faces marks)
+      (marked_begin faces m marks marked) (vertex_count faces) (all_below faces)
+
+  cut : IsCut (half_edges faces) (is_cut (terrain_of faces) (marked_last faces marks))
+  cut = full_cut (terrain_of faces) (terrain faces m) (begins faces marks) (marked_first faces marks)
+      (marked_begin faces m marks marked) (marked_last faces marks) last none
+
+  long : length (marked_cut faces marks) ≡ darts faces
+  long = length-map (all_darts faces) (is_cut (terrain_of faces) (marked_last faces marks))
+      ∙ length-range_with_len 0 (darts faces)
+
+  covered : (d : ℕ) → IsSoon (marked_last faces marks) d → (marked_last faces marks).covered d ≡ true
+  covered d (inl c) = c
+  covered d (inr n) = absurd (false≢true (sym (ap (is_among d) none) ∙ n))
+
+  -- What is covered or ridden first is in the cut, so each origin is.
+  pub soon_cut : (d : ℕ) → d < darts faces → IsSoon (marked_first faces marks) d
+      → is_on (marked_cut faces marks) d ≡ true
+  soon_cut d l k = mark_is faces marks d l ∙ or_left _ _ (covered d (last.kept d k))
+
+  pub keeps_marks : KeepsMarks faces marks
+  keeps_marks = record {
+    rests = none;
+    full = (full_cut_law faces (marked_cut faces marks) m).1 (
+      long,
+      same_cut (half_edges faces) (manifold_law faces m) (is_cut (terrain_of faces) (marked_last faces marks))
+          (is_on (marked_cut faces marks)) (mark_is faces marks) cut,
+    );
+    kept = λ d l on. soon_cut d l (inl on);
+  }
+
+pub marked_law : MarkedLaw
+marked_law faces marks m marked = keeps_marks faces m marks marked

@@ -1,23 +1,167 @@
--- There is one conforming cut.
-use Rattle.std.proofs.Common.{◌≡◌, ℕ, zero, suc, ◌+◌, ◌<◌, ◌≤◌, Bool, true, false, cond, List, length, set}
-use Rattle.std.proofs.Common.{map, replicate, Some, None, sym, ◌∙◌, ap, refl, inl, inr, arith}
-use Rattle.std.proofs.lemmas.Bool.{cases_Bool, cases_eq, cases_lt, false≢true, false_from_ne_true}
-use Rattle.std.proofs.lemmas.List.{ext_get_or, length-map, length-replicate, get_or-set_same, get_or-set_other}
-use Rattle.std.proofs.lemmas.List.FromFn.{length-range_with_len, get_or-map-range_with_len}
-use Rattle.std.proofs.lemmas.Option.{same_Some}
-use Rattle.def_math.specs.Counts.{count_below}
-use Rattle.sum_laws.proofs.{Counts.count_below_lt, Tests.same_test}
-use Rattle.def_mesh.specs.{Faces.Faces, Darts.all_darts, Darts.darts, Darts.twin_of, Manifold.IsManifold}
+-- A line is led dart by dart.
+use Rattle.std.proofs.Common.{◌≡◌, ◌⊎◌, ℕ, suc, ◌+◌, ◌<◌, Bool, true, false, List, length, set, Some, sym, ◌∙◌, ap}
+use Rattle.std.proofs.Common.{refl, inl, inr, arith, zero, cond, map, None, ◌≤◌, replicate}
+use Rattle.std.proofs.lemmas.Bool.{cases_eq, false≢true, cases_Bool, or_left, or_right, or_cases, cases_lt}
+use Rattle.std.proofs.lemmas.Bool.{false_from_ne_true}
+use Rattle.std.proofs.lemmas.List.{get_or-set_same, get_or-set_other, length-set, length-map, ext_get_or}
+use Rattle.std.proofs.lemmas.List.{length-replicate}
+use Rattle.std.proofs.{lemmas.Option.same_Some, lemmas.List.FromFn.length-range_with_len}
+use Rattle.std.proofs.{lemmas.List.FromFn.get_or-map-range_with_len}
+use Rattle.def_mesh.specs.{Faces.Faces, Darts.darts, Darts.all_darts, Darts.twin_of, Manifold.IsManifold}
 use Rattle.def_cut.specs.{FullCut.is_on, Motion.is_among}
-use Rattle.def_runs.specs.Runs.{follower}
-use Rattle.def_feature.specs.{Conforming.IsConforming, Marked.marked_starts, Marks.AreMarks}
-use Rattle.mesh_laws.proofs.HalfEdges.{manifold_law}
-use Rattle.motion_laws.proofs.Marks.{none_on}
-use Rattle.feature_laws.proofs.{First.origin_of, Conforming.follows, Conforming.mark_low, Led.conforms}
-use Rattle.feature_laws.proofs.Leading.{lead_begins, lead_more, led_more, set_kept, set_there}
-use Rattle.feature_laws.specs.Leads.{IsLedFrom, IsLeading, IsNext, AreLed, is_led_edge}
-use Rattle.motion_laws.proofs.Among.{cases_Option}
-use Rattle.motion_laws.proofs.Onward.{no_more_at}
+use Rattle.feature_laws.specs.Leads.{From, IsClosed, IsLedFrom, IsLeading, IsNext, AreLed, is_led_edge}
+use Rattle.def_feature.specs.{Conforming.is_source, Conforming.Line, Conforming.IsConforming, Marked.is_origin}
+use Rattle.def_feature.specs.{Marked.marked_starts, Marks.AreMarks}
+use Rattle.feature_laws.proofs.{First.origin_in, First.origin_of, Conforming.follows, Conforming.mark_low}
+use Rattle.motion_laws.proofs.{Among.cases_Option, Marks.none_on, Onward.no_more_at}
+use Rattle.sum_laws.proofs.{Sums.count_below_lt, Tests.same_test}
+use Rattle.{def_runs.specs.Runs.follower, mesh_laws.proofs.Chains.manifold_law, def_math.specs.Counts.count_below}
+
+-- One mark more.
+pub set_there : (xs : List Bool) (k : ℕ) → k < length xs → is_on (set xs k true) k ≡ true
+set_there xs k l = get_or-set_same xs k true false l
+
+pub set_kept : (xs : List Bool) (k d : ℕ) → k < length xs → is_on xs d ≡ true → is_on (set xs k true) d ≡ true
+set_kept xs k d l on = elim (cases_eq d k)
+    [ inl e ↦ ap (is_on (set xs k true)) e ∙ set_there xs k l | inr ne ↦ get_or-set_other xs k d true false ne ∙ on ]
+
+set_from : (xs : List Bool) (k d : ℕ) → is_on (set xs k true) d ≡ true → (d ≡ k) ⊎ (is_on xs d ≡ true)
+set_from xs k d on = elim (cases_eq d k)
+    [ inl e ↦ inl e | inr ne ↦ inr (sym (get_or-set_other xs k d true false ne) ∙ on) ]
+
+module _ (faces : Faces) (s : ℕ) (old : List Bool) where
+  pub lead_begins : length old ≡ darts faces → s < darts faces → IsClosed faces old
+      → IsLeading faces s old (set old s true) s
+  lead_begins long low closed = record {
+    long = length-set old s true;
+    low = low;
+    closed = λ x e on f. elim (set_from old s x on)
+        [ inl is ↦ inr is | inr was ↦ inl (set_kept old s e l (closed x e was f)) ];
+    kept = λ d on. set_kept old s d l on;
+    there = set_there old s l;
+    sound = λ d on. elim (set_from old s d on) [ inl is ↦ inr (0, sym is) | inr was ↦ inl was ];
+    from = (0, refl);
+  }
+    where
+      l : s < length old
+      l = omega arith
+
+  pub lead_more : (now : List Bool) (at next : ℕ) → length old ≡ darts faces → IsLeading faces s old now at
+      → IsNext faces now at (Some next) → IsLeading faces s old (set now next true) next
+  lead_more now at next long is (f, low, off) = record {
+    long = length-set now next true ∙ is.long;
+    low = low;
+    closed = λ x e on g. by_mark x e g (set_from now next x on);
+    kept = λ d on. set_kept now next d l (is.kept d on);
+    there = set_kept now next s l is.there;
+    sound = λ d on. elim (set_from now next d on) [ inl e ↦ inr (rw e step) | inr was ↦ is.sound d was ];
+    from = step;
+  }
+    where
+      l : next < length now
+      l = omega arith
+
+      step : (n : ℕ) × From faces s next n
+      step = (suc is.from.0, (at, is.from.1, is.low, f))
+
+      by_mark : (x e : ℕ) → follower faces x ≡ Some e → (x ≡ next) ⊎ (is_on now x ≡ true)
+          → (is_on (set now next true) e ≡ true) ⊎ (x ≡ next)
+      by_mark x e g (inl same) = inr same
+      by_mark x e g (inr on) = elim (is.closed x e on g) [
+        | inl y ↦ inl (set_kept now next e l y)
+        | inr same ↦ let ahead : e ≡ next = same_Some e next (sym g ∙ (ap (follower faces) same ∙ f)) in inl
+            (ap (is_on (set now next true)) ahead ∙ set_there now next l)
+      ]
+
+-- One source more.
+pub led_more : (faces : Faces) (sources old new : List Bool) (d : ℕ) (test : Bool) → d < darts faces
+    → test ≡ is_on sources d → AreLed faces sources old d → (test ≡ true → IsLedFrom faces d old new)
+    → (test ≡ false → new ≡ old) → AreLed faces sources new (d + 1)
+led_more faces sources old new d false low is led on off =
+    rw (off refl) (record {
+      long = led.long;
+      closed = led.closed;
+      there = λ x l y. elim (cases_eq x d) [
+        | inl e ↦ absurd (false≢true (is ∙ (ap (is_on sources) (sym e) ∙ y)))
+        | inr ne ↦ led.there x (omega arith) y
+      ];
+      sound = led.sound;
+    })
+led_more faces sources old new d true low is led on off =
+    let line = on refl in
+    record {
+      long = line.long ∙ led.long;
+      closed = line.closed;
+      there = λ x l y. elim (cases_eq x d)
+          [ inl e ↦ ap (is_on new) e ∙ line.there | inr ne ↦ line.kept x (led.there x (omega arith) y) ];
+      sound = λ x y. elim (line.sound x y) [ inl was ↦ led.sound x was | inr path ↦ (d, low, sym is, path.0, path.1) ];
+    }
+
+-- What is led from the sources is the conforming cut.
+
+module _ (faces : Faces) (m : IsManifold faces) (marks : List Bool) (starts : List ℕ) (sources led cut : List Bool)
+    (started : starts ≡ marked_starts faces marks) (told : (d : ℕ) → is_on sources d
+    ≡ cond (is_among d starts) true (is_on marks d)) (are : AreLed faces sources led (darts faces))
+    (is : cut ≡ map (λ d. is_led_edge led d (twin_of faces d)) (all_darts faces)) where
+  source_from : (d : ℕ) → is_on sources d ≡ true → is_source faces marks d ≡ true
+  source_from d y = elim (cases_Bool (is_among d starts)) [
+    | inl n ↦ or_left _ _ (origin_of faces marks d (sym (ap (is_among d) started) ∙ n)).1
+    | inr off ↦ or_right (is_origin faces marks d) _ (sym (ap (λ b. cond b true (is_on marks d)) off)
+        ∙ (sym (told d) ∙ y))
+  ]
+
+  source_to : (d : ℕ) → d < darts faces → is_source faces marks d ≡ true → is_on sources d ≡ true
+  source_to d l y = told d ∙ by_tests (is_among d starts) refl (cases_Bool (is_on marks d))
+    where
+      by_tests : (b : Bool) → is_among d starts ≡ b → (is_on marks d ≡ true) ⊎ (is_on marks d ≡ false)
+          → cond b true (is_on marks d) ≡ true
+      by_tests true n k = refl
+      by_tests false n (inl on) = on
+      by_tests false n (inr off) = elim (or_cases _ _ y) [
+        | inl o ↦ absurd (false≢true (sym n ∙ (ap (is_among d) started ∙ origin_in faces marks d l o off)))
+        | inr on ↦ on
+      ]
+
+  line_from : (s d n : ℕ) → is_source faces marks s ≡ true → From faces s d n → Line faces marks d n
+  line_from s d zero y path = rw (← path) y
+  line_from s d (suc n) y (c, path, l, f) = (c, line_from s c n y path, l, f)
+
+  line_led : (d n : ℕ) → d < darts faces → Line faces marks d n → is_on led d ≡ true
+  line_led d zero l y = are.there d l (source_to d l y)
+  line_led d (suc n) l (c, line, lc, f) = are.closed c d (line_led c n lc line) f
+
+  led_line : (d : ℕ) → is_on led d ≡ true → (n : ℕ) × Line faces marks d n
+  led_line d y = let s = are.sound d y in (s.3, line_from s.0 d s.3 (source_from s.0 s.2) s.4)
+
+  value : (d : ℕ) → d < darts faces → is_on cut d ≡ is_led_edge led d (twin_of faces d)
+  value d l = ap (λ xs. is_on xs d) is ∙ get_or-map-range_with_len (λ x. is_led_edge led x (twin_of faces x)) 0
+      (darts faces) d d false l (omega arith)
+
+  pub conforms : IsConforming faces marks cut
+  conforms = record {
+    long = ap length is ∙ (length-map (all_darts faces) (λ d. is_led_edge led d (twin_of faces d))
+        ∙ length-range_with_len 0 (darts faces));
+    lined = λ d l. (
+      λ y. elim (cases_Option (twin_of faces d)) [
+        | inl w ↦ inl w
+        | inr (t, w) ↦ elim (or_cases _ _ (rw (value d l, w) at y))
+            [ inl a ↦ inr (inl (led_line d a)) | inr b ↦ inr (inr (t, w, led_line t b)) ]
+      ],
+      λ y. elim (cases_Option (twin_of faces d)) [
+        | inl w ↦ rw (value d l, w) refl
+        | inr (t, w) ↦ rw (value d l, w) (elim y [
+          | inl none ↦ let clash : None ≡ Some t = sym none ∙ w in absurd cc
+          | inr (inl line) ↦ or_left _ _ (line_led d line.0 l line.1)
+          | inr (inr (u, v, line)) ↦
+              let same : u ≡ t = same_Some u t (sym v ∙ w) in
+              or_right (is_on led d) _ (ap (is_on led) (sym same)
+              ∙ line_led u line.0 ((manifold_law faces m).twin_low d u l v) line.1)
+        ])
+      ],
+    );
+  }
+
+-- There is one conforming cut.
 
 pub one_conforming : (faces : Faces) (marks one other : List Bool) → IsConforming faces marks one
     → IsConforming faces marks other → one ≡ other

@@ -1,9 +1,5 @@
 pub mod Breaks
 pub mod First
-pub mod Laws
 pub mod Arcs
-pub mod NoMarks
 pub mod Conforming
-pub mod Leading
-pub mod Led
 pub mod Exists

@@ -1,16 +1,43 @@
--- The dual of a valid forest bounds each perfect matching.
-use Rattle.std.proofs.Common.{◌≡◌, ℕ, ◌+◌, ◌*◌, ◌<◌, ◌≤◌, Bool, true, not, cond, eqb, List, [], ◌∷◌, map}
+-- The darts of a graph are darts: they come in pairs and begin at vertices.
+use Rattle.std.proofs.Common.{◌≡◌, ◌≢◌, ℕ, ◌+◌, ◌-◌, ◌*◌, ◌/◌, ◌%◌, eqb, refl, ◌∙◌, ap, arith, ◌<◌, ◌≤◌, Bool, true}
+use Rattle.std.proofs.Common.{not, cond, List, [], ◌∷◌, map, length, ℤ, pos, ◌+ℤ◌, ◌*ℤ◌, ◌≤ℤ◌, sym, inl, inr}
+use Rattle.std.proofs.lemmas.Bool.{cond-true, cond-false, eq-eqb, ne_eqb, cases_eq, cases_lt, eqb-true}
 use Rattle.std.proofs.lemmas.Int.{ints}
-use Rattle.std.proofs.lemmas.Bool.{cases_eq, cases_lt, eqb-true}
-use Rattle.std.proofs.Common.{length, ℤ, pos, ◌+ℤ◌, ◌*ℤ◌, ◌≤ℤ◌, refl, sym, ◌∙◌, inl, inr, arith}
+use Rattle.def_matching.specs.Matching.{WeightedGraph, IsGraph, edge_at, ends_at, IsPerfect, matching_cost}
+use Rattle.def_matching.specs.{Dual.crosses, declared.weighted.WEdge.WEdge}
+use Rattle.def_forest.specs.{Darts.AreDarts, Darts.darts_of, Darts.other_dart, Darts.far, Forests.Forest}
+use Rattle.def_forest.specs.{Forests.weight_between, Forests.dual_sum_of, Valid.IsNested, Valid.IsFeasible}
 use Rattle.def_math.specs.{Counts.count, Increasing.IsIncreasing, Sums.total}
-use Rattle.sum_laws.proofs.Sums.{total_below_le, two_orders}
-use Rattle.def_matching.specs.Matching.{WeightedGraph, IsGraph, edge_at, ends_at}
-use Rattle.def_matching.specs.{Matching.IsPerfect, Matching.matching_cost, Dual.crosses, declared.weighted.WEdge.WEdge}
 use Rattle.qm_dual.proofs.Weak.{at_least_once, odd_leaves, chosen_below}
-use Rattle.def_forest.specs.{Darts.darts_of, Forests.Forest, Forests.weight_between, Forests.dual_sum_of}
-use Rattle.def_forest.specs.Valid.{IsNested, IsFeasible}
-use Rattle.forest_laws.proofs.{Graphs.are_darts, Graphs.dart_near, Graphs.dart_far, Graphs.dart_cost, Odds.odd_blossom}
+use Rattle.{sum_laws.proofs.Sums.total_below_le, sum_laws.proofs.Sums.two_orders, forest_laws.proofs.Odds.odd_blossom}
+
+-- The twin of a dart by its last bit.
+pub twin_even : (d : ℕ) → d % 2 ≡ 0 → other_dart d ≡ d + 1
+twin_even d e = cond-true (eqb (d % 2) 0) (d + 1) (d - 1) (eq-eqb (d % 2) 0 e)
+
+pub twin_odd : (d : ℕ) → d % 2 ≢ 0 → other_dart d ≡ d - 1
+twin_odd d ne = cond-false (eqb (d % 2) 0) (d + 1) (d - 1) (ne_eqb (d % 2) 0 ne)
+
+pub near_even : (g : WeightedGraph) (d k : ℕ) → d ≡ 2 * k → (darts_of g).near d ≡ (edge_at g k).u
+near_even g d k e = grind arith
+
+pub near_odd : (g : WeightedGraph) (d k : ℕ) → d ≡ 2 * k + 1 → (darts_of g).near d ≡ (edge_at g k).v
+near_odd g d k e = grind arith
+
+-- An edge's first dart goes from its one end to the other.
+pub dart_near : (g : WeightedGraph) (k : ℕ) → (darts_of g).near (2 * k) ≡ (edge_at g k).u
+dart_near g k = near_even g (2 * k) k refl
+
+pub dart_far : (g : WeightedGraph) (k : ℕ) → far (darts_of g) (2 * k) ≡ (edge_at g k).v
+dart_far g k = ap (darts_of g).near (twin_even (2 * k) (omega arith)) ∙ near_odd g (2 * k + 1) k refl
+
+pub dart_cost : (g : WeightedGraph) (k : ℕ) → (darts_of g).cost (2 * k) ≡ (edge_at g k).cost
+dart_cost g k = let half : (2 * k) / 2 ≡ k = omega arith in ap (λ j. (edge_at g j).cost) half
+
+pub are_darts : {g : WeightedGraph} → IsGraph g → AreDarts (darts_of g)
+are_darts is = grind (arith, is.left, is.right)
+
+-- The dual of a valid forest bounds each perfect matching.
 
 -- A test of two numbers, in either order.
 pub eqb_order : (a b : ℕ) → eqb a b ≡ eqb b a

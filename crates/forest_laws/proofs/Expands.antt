@@ -1,20 +1,18 @@
 -- An expansion keeps a forest valid: an inner set of weight 0 is opened.
-use Rattle.std.proofs.Common.{◌≡◌, ◌≢◌, ℕ, zero, suc, ◌+◌, ◌*◌, ◌-◌, ◌/◌, ◌%◌, ◌<◌, ◌≤◌, Bool, true, cond}
-use Rattle.std.proofs.Common.{eqb, Some, ◌⊎◌, refl, sym, ◌∙◌, ap, inl, inr, arith, rules}
-use Rattle.std.proofs.Math.Nat.{mul-le-mul_left}
+use Rattle.std.proofs.Common.{◌≡◌, ◌≢◌, ℕ, zero, suc, ◌+◌, ◌*◌, ◌-◌, ◌/◌, ◌%◌, ◌<◌, ◌≤◌, Bool, true, cond, eqb, Some}
+use Rattle.std.proofs.Common.{◌⊎◌, refl, sym, ◌∙◌, ap, inl, inr, arith, rules}
 use Rattle.std.proofs.lemmas.Bool.{cases_eq, cases_lt, cond-true, cond-false, false_from_ne_true, eq-eqb, ne_eqb}
-use Rattle.def_math.specs.Searches.{least}
-use Rattle.qm_dual.proofs.Searches.{least_some}
-use Rattle.def_forest.specs.{Darts.Darts, Darts.AreDarts, Darts.far, Ways.dart_or}
+use Rattle.std.proofs.Math.Nat.{mul-le-mul_left}
 use Rattle.def_forest.specs.Forests.{Forest, IsTight, IsOutermost, bool_number, walk, ring_sum}
-use Rattle.def_forest.specs.Opened.{Opening, IsOpening, IsOpened}
-use Rattle.def_forest.specs.Valid.{AreOutermost, IsInner, IsJoint, IsMatched, IsMate, IsNested, IsRing, IsTree}
-use Rattle.def_forest.specs.Valid.{IsValid, KeepsOutside}
+use Rattle.def_forest.specs.Valid.{AreOutermost, IsInner, IsJoint, IsMatched, IsMate, IsNested, IsRing, IsTree, IsValid}
+use Rattle.def_forest.specs.Valid.{KeepsOutside}
 use Rattle.def_forest.specs.declared.kinds.Label.TheVariants.{Outer, Inner, Outside}
-use Rattle.forest_laws.proofs.{Writes.some_is, Facts.far_low, Facts.far_twin, Facts.tight_twin}
-use Rattle.forest_laws.proofs.Facts.{tree_valid}
-use Rattle.forest_laws.proofs.Beside.{ChangesOnly, same_feasible, same_joint, same_nested, same_ring}
-use Rattle.forest_laws.proofs.Beside.{same_tight as tight_stays}
+use Rattle.def_forest.specs.{Darts.Darts, Darts.AreDarts, Darts.far, Ways.dart_or, Opened.Opening, Opened.IsOpening}
+use Rattle.def_forest.specs.{Opened.IsOpened}
+use Rattle.forest_laws.proofs.Shifts.{ChangesOnly, same_feasible, same_joint, same_nested, same_ring}
+use Rattle.forest_laws.proofs.Shifts.{same_tight as tight_stays}
+use Rattle.forest_laws.proofs.Grows.{some_is, far_low, far_twin, tight_twin, tree_valid}
+use Rattle.{def_math.specs.Searches.least, qm_dual.proofs.Gathered.least_some}
 
 -- A number is even or odd.
 pub halves : (j : ℕ) → ((i : ℕ) × (j ≡ 2 * i)) ⊎ ((i : ℕ) × (j ≡ 2 * i + 1))

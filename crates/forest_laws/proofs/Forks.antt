@@ -1,18 +1,17 @@
 -- Two climbers from two blossoms of the tree, the lower of whom waits, meet where the ways first meet; and from there
 -- the ring that an edge between two outer blossoms closes is read off.
-use Rattle.std.proofs.Common.{◌≡◌, ◌≢◌, ℕ, zero, suc, ◌+◌, ◌-◌, ◌*◌, ◌/◌, ◌<◌, ◌≤◌, Bool, true, Some, ◌⊎◌}
-use Rattle.std.proofs.Common.{refl, sym, ◌∙◌, ap, subst, inl, inr, arith}
+use Rattle.std.proofs.Common.{◌≡◌, ◌≢◌, ℕ, zero, suc, ◌+◌, ◌-◌, ◌*◌, ◌/◌, ◌<◌, ◌≤◌, Bool, true, Some, ◌⊎◌, refl, sym}
+use Rattle.std.proofs.Common.{◌∙◌, ap, subst, inl, inr, arith}
 use Rattle.std.proofs.lemmas.Bool.{cases_eq, cases_lt, cond-true, cond-false, eq-eqb, ne_eqb, lt-ltb, le-ltb}
+use Rattle.def_forest.specs.declared.kinds.Label.TheVariants.{Outer, Inner, Outside}
 use Rattle.def_forest.specs.{Darts.Darts, Darts.AreDarts, Darts.far, Forests.Forest, Forests.IsTight, Forests.walk}
 use Rattle.def_forest.specs.{Shrunk.IsCycle, Shrunk.IsClosedRow, Valid.IsValid, Valid.IsTree, Ways.dart_or}
-use Rattle.def_forest.specs.{declared.kinds.Label.TheVariants.Outer}
-use Rattle.def_forest.specs.declared.kinds.Label.TheVariants.{Inner, Outside}
 use Rattle.forest_laws.specs.Climbing.{rise_of, above_of, level_of, way_of, IsClimbing, ring_at, ring_dart}
 use Rattle.forest_laws.specs.Walks.{listed}
-use Rattle.forest_laws.proofs.{Facts.far_twin, Facts.tight_twin, Writes.outer_named}
-use Rattle.forest_laws.proofs.Levels.{tree_cases, level_zero, root_level, on_way, way_step, way_depth}
-use Rattle.forest_laws.proofs.Levels.{way_differs, come_from, outer_even, outer_above}
+use Rattle.forest_laws.proofs.Levels.{tree_cases, level_zero, root_level, on_way, way_step, way_depth, way_differs}
+use Rattle.forest_laws.proofs.Levels.{come_from, outer_even, outer_above}
 use Rattle.forest_laws.proofs.Walks.{walk_sum, listed_place, listed_off, listed_closed, listed_sum}
+use Rattle.forest_laws.proofs.Grows.{far_twin, tight_twin, outer_named}
 
 -- The two climbers may change places.
 pub swapped : {g : Darts} {f : Forest} {a c x y i j : ℕ} → IsClimbing g f a c x y i j → IsClimbing g f c a y x j i

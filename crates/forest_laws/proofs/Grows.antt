@@ -1,15 +1,195 @@
+-- A function with another value at one place; cases on labels; tests as terms of sums.
+use Rattle.std.proofs.Common.{◌∙◌, sym, ◌≡◌, ◌≢◌, ℕ, Bool, true, false, not, cond, eqb, Option, Some, None, ℤ, pos}
+use Rattle.std.proofs.Common.{◌+ℤ◌, ◌⊎◌, refl, inl, inr, arith, ◌<◌, ap, suc, ◌≤◌, rules}
+use Rattle.std.proofs.lemmas.Bool.{cond-true, cond-false, eq-eqb, ne_eqb, cases_eq}
+use Rattle.std.proofs.lemmas.Int.{ints}
+use Rattle.def_forest.specs.Forests.{set_at, Forest, weight_between, splits, IsTight, IsOutermost}
+use Rattle.def_forest.specs.declared.kinds.Label.TheVariants.{Outer, Inner, Outside}
+use Rattle.def_forest.specs.Valid.{AreOutermost, IsFeasible, IsMatched, IsNested, IsTree, IsValid, KeepsOutside}
+use Rattle.def_forest.specs.Valid.{IsJoint, IsMate, IsInner}
+use Rattle.def_forest.specs.{declared.kinds.Label.Label, Steps.weight_change, Steps.shifted, Steps.rooted, Steps.grown}
+use Rattle.def_forest.specs.{Darts.Darts, Darts.AreDarts, Darts.far, Ways.Reaches}
+use Rattle.def_math.specs.Sums.{total_below}
+use Rattle.sum_laws.proofs.Sums.{total_below_same, total_below_sum, total_below_none, total_below_one}
+
+-- At the place.
+pub set_here : {X : Type 0} (f : ℕ → X) (k : ℕ) (x : X) → set_at f k x k ≡ x
+set_here f k x = cond-true (eqb k k) x (f k) (eq-eqb k k refl)
+
+-- At any other place.
+pub set_there : {X : Type 0} (f : ℕ → X) (k j : ℕ) (x : X) → j ≢ k → set_at f k x j ≡ f j
+set_there f k j x ne = cond-false (eqb j k) x (f j) (ne_eqb j k ne)
+
+-- What stands in two options that are equal is equal.
+pub some_is : (a b : ℕ) → Some a ≡ Some b → a ≡ b
+some_is a b e = cc
+
+pub option_cases : (o : Option ℕ) → (o ≡ None) ⊎ ((d : ℕ) × (o ≡ Some d))
+option_cases None = inl refl
+option_cases (Some d) = inr (d, refl)
+
+-- A blossom is outside the tree or not.
+pub label_cases : (l : Label) → (l ≡ Outside) ⊎ (l ≢ Outside)
+label_cases Outside = inl refl
+label_cases Outer = inr (λ e. cc e)
+label_cases Inner = inr (λ e. cc e)
+
+pub label_is : (l : Label) → (l ≡ Outer) ⊎ ((l ≡ Inner) ⊎ (l ≡ Outside))
+label_is Outer = inl refl
+label_is Inner = inr (inl refl)
+label_is Outside = inr (inr refl)
+
+-- The labels differ.
+pub outer_named : {l : Label} → l ≡ Outer → l ≢ Outside
+outer_named e off = cc
+
+pub inner_named : {l : Label} → l ≡ Inner → l ≢ Outside
+inner_named e off = cc
+
+-- Two sets that have nothing in common: what lies in just one of them.
+pub by_two : (p q : Bool) (x : ℤ) → (p ≡ true → q ≡ true → ⊥) → cond (cond p (not q) q) x (pos 0)
+    ≡ cond p x (pos 0) +ℤ cond q x (pos 0)
+by_two p q x off = grind (arith, ints)
+
+-- Nothing lies in just one of two equal sets.
+pub by_same : (p q : Bool) (x : ℤ) → p ≡ q → cond (cond p (not q) q) x (pos 0) ≡ pos 0
+by_same p q x e = grind (arith, ints)
+
+-- A test with nothing on either side.
+pub by_none : (p : Bool) → cond p (pos 0) (pos 0) ≡ pos 0
+by_none p = grind arith
+
+-- Exactly one of two, in either order.
+pub by_order : (p q : Bool) → cond p (not q) q ≡ cond q (not p) p
+by_order p q = grind arith
+
+-- True is not false.
+pub true_false : {b : Bool} → b ≡ true → b ≡ false → ⊥
+true_false on off = let h : true ≡ false = sym on ∙ off in cc
+
+-- How a shift changes loads, and that a load across two outermost blossoms is a sum of two potentials.
+
+-- A load is the same in both directions.
+pub load_order : (f : Forest) (u v : ℕ) → weight_between f u v ≡ weight_between f v u
+load_order f u v = total_below_same _ _ f.size
+    (λ b l. grind arith)
+
+-- A load with more weight.
+pub load_sum : (f : Forest) (more : ℕ → ℤ) (u v : ℕ) → weight_between (record f { weight = λ b. f.weight b +ℤ more b })
+    u v ≡ weight_between f u v +ℤ total_below (λ b. cond (splits (f.holds b) u v) (more b) (pos 0)) f.size
+load_sum f more u v = total_below_same _ _ f.size (λ b l. grind (arith, ints))
+    ∙ total_below_sum (λ b. cond (splits (f.holds b) u v) (f.weight b) (pos 0))
+    (λ b. cond (splits (f.holds b) u v) (more b) (pos 0)) f.size
+
+-- The sum of the weights of the blossoms around a vertex.
+abbrev pub potential : (f : Forest) (v : ℕ) → ℤ
+potential f v = total_below (λ b. cond (f.holds b v) (f.weight b) (pos 0)) f.size
+
+module _ {n : ℕ} {f : Forest} (top : AreOutermost n f) where
+  -- A blossom with a place in the tree holds the vertices whose outermost blossom it is.
+  pub named_holds : (b v : ℕ) → v < n → f.label b ≢ Outside → f.holds b v ≡ eqb (f.out v) b
+  named_holds b v low named = let w = top.named b named in rw w.2 at (top.held w.0 v w.1 low)
+
+  -- A shift changes no load inside an outermost blossom.
+  pub load_within : (t : ℤ) (u v : ℕ) → u < n → v < n → f.out u ≡ f.out v → weight_between (shifted f t) u v
+      ≡ weight_between f u v
+  load_within t u v lu lv same =
+      let none = total_below_none (λ b. cond (splits (f.holds b) u v) (weight_change (f.label b) t) (pos 0)) f.size
+      (λ b l. grind (arith, named_holds b u lu, named_holds b v lv)) in
+      omega (arith, ints, load_sum f (λ b. weight_change (f.label b) t) u v)
+
+  -- The load across two outermost blossoms is the sum of the potentials of both ends.
+  pub load_across : (u v : ℕ) → u < n → v < n → f.out u ≢ f.out v → weight_between f u v
+      ≡ potential f u +ℤ potential f v
+  load_across u v lu lv ne = total_below_same _ _ f.size (λ b l. by_two (f.holds b u) (f.holds b v) (f.weight b)
+      (λ p q. ne (top.together b u v lu lv p q)))
+      ∙ total_below_sum (λ b. cond (f.holds b u) (f.weight b) (pos 0)) (λ b. cond (f.holds b v) (f.weight b) (pos 0))
+      f.size
+
+  -- A shift changes the potential of a vertex as it changes the weight of its outermost blossom.
+  pub potential_shifted : (t : ℤ) (v : ℕ) → v < n → potential (shifted f t) v
+      ≡ potential f v +ℤ weight_change (f.label (f.out v)) t
+  potential_shifted t v l =
+      let around = λ (b : ℕ). cond (f.holds b v) (f.weight b) (pos 0) in
+      let change = λ (b : ℕ). cond (f.holds b v) (weight_change (f.label b) t) (pos 0) in
+      let both = total_below_same (λ b. cond (f.holds b v) (f.weight b +ℤ weight_change (f.label b) t) (pos 0))
+      (λ b. around b +ℤ change b) f.size (λ b lb. grind (arith, ints)) in
+      let own = total_below_one change f.size (f.out v) (top.out_low v l) (λ b lb ne.
+      grind (arith, named_holds b v l)) in
+      let here : change (f.out v) ≡ weight_change (f.label (f.out v)) t =
+      cond-true _ _ _ (top.held v v l l ∙ eq-eqb (f.out v) (f.out v) refl) in
+      let sum = total_below_sum around change f.size in
+      omega (arith, ints)
+
+-- A shift changes the load across two outermost blossoms by what it changes of both.
+pub load_apart : {n : ℕ} {f : Forest} → AreOutermost n f → (t : ℤ) (u v : ℕ) → u < n → v < n → f.out u ≢ f.out v
+    → weight_between (shifted f t) u v
+    ≡ weight_between f u v +ℤ (weight_change (f.label (f.out u)) t +ℤ weight_change (f.label (f.out v)) t)
+load_apart {n} {f} top t u v lu lv ne =
+    let there : AreOutermost n (shifted f t) = assumption in
+    omega (
+      arith,
+      ints,
+      load_across there u v lu lv ne,
+      load_across top u v lu lv ne,
+      potential_shifted top t u lu,
+      potential_shifted top t v lv,
+    )
+
+-- What follows at once from a forest's validity.
+
+-- Where a dart ends there is a vertex.
+pub far_low : (g : Darts) → AreDarts g → (d : ℕ) → d < g.count → far g d < g.n
+far_low g are d low = are.near_low (g.twin d) (are.twin_low d low)
+
+-- The twin of a dart ends where the dart begins.
+pub far_twin : {g : Darts} → AreDarts g → (d : ℕ) → far g (g.twin d) ≡ g.near d
+far_twin {g} are d = ap g.near (are.twin_twin d)
+
+-- The twin of a tight dart is tight.
+pub tight_twin : {g : Darts} → AreDarts g → {f : Forest} {d : ℕ} → IsTight g f d → IsTight g f (g.twin d)
+tight_twin {g} are {f} {d} tight = record {
+  low = are.twin_low d tight.low;
+  exact = ap (weight_between f (far g d)) (far_twin are d)
+      ∙ (load_order f (far g d) (g.near d) ∙ (tight.exact ∙ sym (ap (λ x. x +ℤ x) (are.cost_twin d))));
+}
+
+-- A forest with a tree is valid where all its parts are in order.
+pub tree_valid : {g : Darts} {f : Forest} {r : ℕ} → AreOutermost g.n f → IsNested g f → IsFeasible g f → IsMatched g f
+    → IsTree g f r → KeepsOutside g f → IsValid g f (Some r)
+tree_valid {g} {f} {r} outermost nested feasible matched tree outside =
+    let trees : (x : ℕ) → ◌≡◌ {A = Option ℕ} (Some r) (Some x) → IsTree g f x =
+    λ x e. rw (← some_is r x e) tree in
+    let none : ◌≡◌ {A = Option ℕ} (Some r) None → (b : ℕ) → f.label b ≡ Outside = λ e. absurd cc in
+    assumption
+
+module _ {g : Darts} (are : AreDarts g) {f : Forest} {root : Option ℕ} (valid : IsValid g f root) where
+  -- Where a blossom has a place in the tree there is one.
+  pub tree_of : (b : ℕ) → f.label b ≢ Outside → (r : ℕ) × (root ≡ Some r) × IsTree g f r
+  tree_of b named = elim (option_cases root) [
+    | inl e ↦ absurd (named (valid.no_tree e b))
+    | inr w ↦ (w.0, w.1, valid.tree w.0 w.1)
+  ]
+
+  pub named_low : {b : ℕ} → f.label b ≢ Outside → b < f.size
+  named_low {b} named = let w = valid.outermost.named b named in rw w.2 at (valid.outermost.out_low w.0 w.1)
+
+  -- The mate of an inner blossom is outer.
+  pub inner_mate : (b d : ℕ) → f.label b ≡ Inner → f.mate b ≡ Some d → f.label (f.out (far g d)) ≡ Outer
+  inner_mate b d label mate =
+      let w = tree_of b (λ off. cc) in
+      let is = w.2.inner b label in
+      rw (some_is d is.dart (sym mate ∙ is.mate)) is.child
+
+  -- The mate of an outer blossom is inner.
+  pub outer_mate : (b d : ℕ) → f.label b ≡ Outer → f.mate b ≡ Some d → f.label (f.out (far g d)) ≡ Inner
+  outer_mate b d label mate = let w = tree_of b (λ off. cc) in
+      elim (w.2.outer b label) [
+        | inl e ↦ absurd (cc w.2.root_free)
+        | inr is ↦ rw (some_is d is.0 (sym mate ∙ is.1)) is.2
+      ]
+
 -- A tree that begins, and a tree that grows, keep a forest valid.
-use Rattle.std.proofs.Common.{◌≡◌, ◌≢◌, ℕ, suc, ◌≤◌, ℤ, pos, Option, Some, None, refl, sym, ◌∙◌, ap, inl, inr}
-use Rattle.std.proofs.Common.{arith, rules}
-use Rattle.std.proofs.lemmas.Bool.{cases_eq}
-use Rattle.def_forest.specs.{Darts.Darts, Darts.AreDarts, Darts.far, Forests.Forest, Forests.IsTight}
-use Rattle.def_forest.specs.{Forests.IsOutermost, Forests.set_at, Steps.rooted, Steps.grown, Ways.Reaches}
-use Rattle.def_forest.specs.Valid.{AreOutermost, IsNested, IsJoint, IsFeasible}
-use Rattle.def_forest.specs.Valid.{IsMatched, IsMate, IsTree, IsInner, IsValid}
-use Rattle.def_forest.specs.{Valid.KeepsOutside, declared.kinds.Label.Label, declared.kinds.Label.TheVariants.Outer}
-use Rattle.def_forest.specs.declared.kinds.Label.TheVariants.{Inner, Outside}
-use Rattle.forest_laws.proofs.Writes.{set_here, set_there, inner_named, outer_named}
-use Rattle.forest_laws.proofs.Facts.{far_low, far_twin, tight_twin, tree_valid}
 
 -- Only weights, labels, mates and links differ.
 abbrev pub replaced : (f : Forest) (weight : ℕ → ℤ) (label : ℕ → Label) (mate : ℕ → Option ℕ) (link : ℕ → ℕ) → Forest

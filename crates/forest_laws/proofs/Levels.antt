@@ -1,18 +1,15 @@
 -- Climbing the tree one blossom at a time: each step brings one a level nearer to the root, and so climbing ends.
-use Rattle.std.proofs.Common.{◌≡◌, ◌≢◌, ℕ, zero, suc, ◌+◌, ◌-◌, ◌*◌, ◌<◌, ◌≤◌, Some, None, ◌⊎◌, refl, sym, ◌∙◌}
-use Rattle.std.proofs.Common.{ap, subst, inl, inr, arith}
+use Rattle.std.proofs.Common.{◌≡◌, ◌≢◌, ℕ, zero, suc, ◌+◌, ◌-◌, ◌*◌, ◌<◌, ◌≤◌, Some, None, ◌⊎◌, refl, sym, ◌∙◌, ap}
+use Rattle.std.proofs.Common.{subst, inl, inr, arith}
 use Rattle.std.proofs.lemmas.Bool.{lt-ltb, le-ltb}
-use Rattle.std.specs.Prelude.{nat_lt}
-use Rattle.def_math.specs.Counts.{count_below}
-use Rattle.sum_laws.proofs.{Counts.count_below_le, Counts.count_below_lt, Counts.count_below_ones}
-use Rattle.sum_laws.proofs.Tests.{once_at_most}
-use Rattle.def_forest.specs.{Darts.Darts, Darts.AreDarts, Darts.far, Forests.Forest, Forests.IsTight, Valid.IsValid}
-use Rattle.def_forest.specs.{Forests.bool_number, Valid.IsInner, Valid.IsTree, Ways.dart_or, Ways.inner_of}
-use Rattle.def_forest.specs.{Ways.parent_of, Ways.steps_by, Ways.steps, declared.kinds.Label.Label}
+use Rattle.sum_laws.proofs.{Sums.count_below_le, Sums.count_below_lt, Sums.count_below_ones, Tests.once_at_most}
 use Rattle.def_forest.specs.declared.kinds.Label.TheVariants.{Outer, Inner, Outside}
+use Rattle.def_forest.specs.{Darts.Darts, Darts.AreDarts, Darts.far, Forests.Forest, Forests.IsTight}
+use Rattle.def_forest.specs.{Forests.bool_number, Valid.IsValid, Valid.IsInner, Valid.IsTree, Ways.dart_or}
+use Rattle.def_forest.specs.{Ways.inner_of, Ways.parent_of, Ways.steps_by, Ways.steps, declared.kinds.Label.Label}
 use Rattle.forest_laws.specs.Climbing.{rise_of, above_of, level_of, way_of}
-use Rattle.forest_laws.proofs.{Writes.some_is, Writes.option_cases}
-use Rattle.forest_laws.proofs.{Writes.outer_named, Facts.far_twin, Facts.named_low, Facts.outer_mate}
+use Rattle.forest_laws.proofs.Grows.{some_is, option_cases, outer_named, far_twin, named_low, outer_mate}
+use Rattle.{std.specs.Prelude.nat_lt, def_math.specs.Counts.count_below}
 
 -- A blossom of the tree is outer or inner.
 pub tree_cases : (l : Label) → l ≢ Outside → (l ≡ Outer) ⊎ (l ≡ Inner)

@@ -1,16 +1,10 @@
 pub mod Bounds
 pub mod Expands
-pub mod Facts
-pub mod Graphs
 pub mod Grows
-pub mod Loads
 pub mod Odds
-pub mod Parities
-pub mod Beside
 pub mod Shifts
 pub mod Shrinks
 pub mod WayLaws
-pub mod Writes
 pub mod Levels
 pub mod Walks
 pub mod Forks

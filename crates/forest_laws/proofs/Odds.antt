@@ -1,15 +1,13 @@
 -- Each blossom holds an odd number of vertices, and there are fewer than half as many sets as vertices: each set has
 -- three parts at least.
-use Rattle.std.proofs.Common.{◌≡◌, ◌≢◌, ℕ, zero, suc, ◌+◌, ◌*◌, ◌%◌, ◌<◌, ◌≤◌, ◌⊎◌, true, cond, eqb, refl, sym, ◌∙◌}
-use Rattle.std.proofs.Common.{ap, inl, inr, arith}
+use Rattle.std.proofs.Common.{◌≡◌, ◌≢◌, ℕ, zero, suc, ◌+◌, ◌*◌, ◌%◌, ◌<◌, ◌≤◌, ◌⊎◌, true, cond, eqb, refl, sym, ◌∙◌, ap}
+use Rattle.std.proofs.Common.{inl, inr, arith}
 use Rattle.std.proofs.lemmas.Bool.{cases_eq, cases_lt, eq-eqb, ne_eqb, lt-ltb, le-ltb}
-use Rattle.std.specs.Prelude.{nat_lt}
-use Rattle.def_math.specs.Counts.{count_below}
-use Rattle.sum_laws.proofs.Counts.{count_below_same, count_below_le, count_below_sum, count_below_none, count_below_one}
-use Rattle.sum_laws.proofs.Counts.{count_below_ones, count_below_times}
-use Rattle.def_forest.specs.{Darts.Darts, Darts.AreDarts, Valid.AreOutermost, Valid.IsNested}
-use Rattle.def_forest.specs.Valid.{IsRing}
+use Rattle.sum_laws.proofs.Sums.{count_below_same, count_below_le, count_below_sum, count_below_none, count_below_one}
+use Rattle.sum_laws.proofs.Sums.{count_below_ones, count_below_times}
 use Rattle.def_forest.specs.Forests.{Forest, blossom_size, bool_number, live_at, ring_sum, sets_of, walk}
+use Rattle.def_forest.specs.{Darts.Darts, Darts.AreDarts, Valid.AreOutermost, Valid.IsNested, Valid.IsRing}
+use Rattle.{std.specs.Prelude.nat_lt, def_math.specs.Counts.count_below}
 
 -- A count of sums along a ring.
 pub counts_exchanged : (next : ℕ → ℕ) (f : ℕ → ℕ → ℕ) (front n k : ℕ)

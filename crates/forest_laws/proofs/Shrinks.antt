@@ -1,18 +1,17 @@
 -- A shrink keeps a forest valid: a cycle of tight darts in its tree becomes one outer blossom.
-use Rattle.std.proofs.Common.{◌≡◌, ◌≢◌, ℕ, suc, ◌<◌, ◌≤◌, Bool, true, false, cond, eqb, Some, None, refl, sym, ◌∙◌}
-use Rattle.std.proofs.Common.{ap, inl, inr, arith}
+use Rattle.std.proofs.Common.{◌≡◌, ◌≢◌, ℕ, suc, ◌<◌, ◌≤◌, Bool, true, false, cond, eqb, Some, None, refl, sym, ◌∙◌, ap}
+use Rattle.std.proofs.Common.{inl, inr, arith}
 use Rattle.std.proofs.lemmas.Bool.{cases_eq, cases_Bool, cond_both, false_from_ne_true, eq-eqb, ne_eqb}
-use Rattle.def_forest.specs.Darts.{Darts, AreDarts, far}
 use Rattle.def_forest.specs.Forests.{Forest, IsTight, IsOutermost, bool_number, set_at, walk}
-use Rattle.def_forest.specs.Opened.{KeepsParts}
-use Rattle.def_forest.specs.Shrunk.{IsUnused, IsCycle, IsClosedRow, IsShrunk}
 use Rattle.def_forest.specs.Valid.{AreOutermost, IsInner, IsJoint, IsMatched, IsNested, IsRing, IsTree, IsValid}
 use Rattle.def_forest.specs.Valid.{KeepsOutside}
-use Rattle.def_forest.specs.declared.kinds.Label.TheVariants.{Outer, Outside}
-use Rattle.forest_laws.proofs.{Writes.set_here, Writes.set_there, Writes.true_false, Facts.far_low}
-use Rattle.forest_laws.proofs.{Facts.far_twin, Facts.tree_valid, WayLaws.some_none, Beside.same_feasible}
-use Rattle.forest_laws.proofs.Beside.{ChangesOnly, same_joint, same_nested, same_ring, ring_sum_same}
-use Rattle.forest_laws.proofs.Beside.{same_tight as tight_stays}
+use Rattle.def_forest.specs.{Darts.Darts, Darts.AreDarts, Darts.far, Opened.KeepsParts, Shrunk.IsUnused, Shrunk.IsCycle}
+use Rattle.def_forest.specs.{Shrunk.IsClosedRow, Shrunk.IsShrunk, declared.kinds.Label.TheVariants.Outer}
+use Rattle.def_forest.specs.{declared.kinds.Label.TheVariants.Outside}
+use Rattle.forest_laws.proofs.Grows.{set_here, set_there, true_false, far_low, far_twin, tree_valid}
+use Rattle.forest_laws.proofs.Shifts.{same_feasible, ChangesOnly, same_joint, same_nested, same_ring, ring_sum_same}
+use Rattle.forest_laws.proofs.Shifts.{same_tight as tight_stays}
+use Rattle.forest_laws.proofs.WayLaws.{some_none}
 
 -- A cycle of a valid forest's tree that becomes one blossom.
 pub record Shrink (g : Darts) (f : Forest) (r : ℕ) (new : Forest) (inside : ℕ → Bool) (top b front many : ℕ)

@@ -1,14 +1,12 @@
 -- Changing the matching along the way to the root: how it begins, goes on and ends, and why it ends.
-use Rattle.std.proofs.Common.{◌≡◌, ◌≢◌, ℕ, ◌<◌, ◌≤◌, Option, Some, None, refl, sym, ◌∙◌, ap, inl, inr}
-use Rattle.std.proofs.Common.{arith}
+use Rattle.std.proofs.Common.{◌≡◌, ◌≢◌, ℕ, ◌<◌, ◌≤◌, Option, Some, None, refl, sym, ◌∙◌, ap, inl, inr, arith}
 use Rattle.std.proofs.lemmas.Bool.{cases_eq}
 use Rattle.def_forest.specs.{Darts.Darts, Darts.AreDarts, Darts.far, Forests.Forest, Forests.set_at, Steps.with_mates}
 use Rattle.def_forest.specs.{Steps.IsAugmented, Valid.IsMate, Valid.IsTree, Valid.IsInner, Valid.IsValid}
-use Rattle.def_forest.specs.declared.kinds.Label.TheVariants.{Inner}
-use Rattle.def_forest.specs.{declared.kinds.Label.TheVariants.Outside, Ways.Reaches, Ways.IsHalf, Ways.IsAlmost}
-use Rattle.forest_laws.proofs.{Writes.some_is, Writes.set_here, Writes.set_there, Facts.far_twin, Facts.tight_twin}
-use Rattle.forest_laws.proofs.{Facts.outer_mate, Writes.inner_named, Writes.outer_named}
-use Rattle.forest_laws.proofs.Grows.{same_outermost, same_nested, same_feasible}
+use Rattle.def_forest.specs.{declared.kinds.Label.TheVariants.Inner, declared.kinds.Label.TheVariants.Outside}
+use Rattle.def_forest.specs.{Ways.Reaches, Ways.IsHalf, Ways.IsAlmost}
+use Rattle.forest_laws.proofs.Grows.{some_is, set_here, set_there, far_twin, tight_twin, outer_mate, inner_named}
+use Rattle.forest_laws.proofs.Grows.{outer_named, same_outermost, same_nested, same_feasible}
 
 -- An option with something in it is not empty.
 pub some_none : (o : Option ℕ) (d : ℕ) → o ≡ Some d → o ≢ None

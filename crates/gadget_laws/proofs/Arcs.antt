@@ -1,27 +1,153 @@
--- Any states of the units tell a list of the box: the cost of the units that are on is at least its deviation.
-use Rattle.std.proofs.Common.{◌≡◌, ℕ, zero, suc, ◌+◌, ◌*◌, ◌%◌, ◌<◌, ◌≤◌, Bool, true, false, ◌==◌, List, []}
-use Rattle.std.proofs.Common.{◌∷◌, length, take, drop, Option, ℤ, pos, ◌+ℤ◌, ◌-ℤ◌, ◌≤ℤ◌, refl, sym, ◌∙◌, ap}
-use Rattle.std.proofs.Common.{inl, inr, add-mul, one-mul, zero-mul, zero-add, add-zero}
-use Rattle.std.proofs.Common.{arith}
-use Rattle.std.proofs.lemmas.Bool.{cases_lt}
-use Rattle.sum_laws.proofs.Sums.{integers}
-use Rattle.def_flow.specs.Network.{EndsBelow, Network, IsWithinBounds, arc_at}
-use Rattle.def_flow.specs.Admissible.{IsAdmissible, arc_deviation}
-use Rattle.def_flow.specs.{Admissible.deviation, Admissible.entries, Units.arcwise, Units.down, Units.low, Units.cap}
-use Rattle.def_flow.specs.Units.{units_from, units, states_at, active, rim_active}
-use Rattle.def_flow.specs.{Units.cost_on, MatchingGraph.matching_graph, declared.net.Arc.Arc, declared.net.End.End}
-use Rattle.def_flow.specs.{declared.units.ArcUnit.ArcUnit, Gadget.IsInBox, Gadget.lows, Gadget.caps}
+-- Soundness: the list of an accepted certificate is least.
+use Rattle.std.proofs.Common.{◌≡◌, ℕ, zero, suc, ◌-◌, ◌/◌, ◌<◌, ◌≤◌, min, true, false, List, [], ◌∷◌, length, ℤ, pos}
+use Rattle.std.proofs.Common.{◌-ℤ◌, ◌≤ℤ◌, unsigned_abs, sym, ◌∙◌, ap, inl, inr, arith, ◌+◌, ◌*◌, mul_comm, ◌%◌, Bool}
+use Rattle.std.proofs.Common.{◌==◌, take, drop, Option, ◌+ℤ◌, refl, add-mul, one-mul, zero-mul, zero-add, add-zero}
+use Rattle.std.proofs.{lemmas.Bool.cases_lt, Math.Nat.mul-div_cancel_left}
+use Rattle.sum_laws.proofs.Sums.{integers, count_below_same}
+use Rattle.def_flow.specs.Admissible.{IsAdmissible, IsLeast, arc_deviation, deviation, entries}
+use Rattle.def_flow.specs.Units.{arcwise, down, low, cap, units_from, units, states_at, active, rim_active, cost_on}
+use Rattle.def_flow.specs.{Network.Network, Network.IsWithinBounds, Network.arc_at, Network.EndsBelow}
+use Rattle.def_flow.specs.{declared.net.Arc.Arc, MatchingGraph.matching_graph, Accepted.Certificate}
+use Rattle.def_flow.specs.{Accepted.IsAccepted, Gadget.IsStepUp, Gadget.IsInBox, Gadget.lows, Gadget.caps}
+use Rattle.def_flow.specs.{declared.net.End.End, declared.units.ArcUnit.ArcUnit}
+use Rattle.network_laws.proofs.Part.{same_sides, lift_law, arc_convex}
+use Rattle.gadget_laws.specs.{Box.IsRaised, Box.matching_told, Box.ups, Marks.trues, Told.marks_from, Told.states_told}
+use Rattle.gadget_laws.specs.{Told.steps_told, Told.lengths_on, Told.lengths_told}
+use Rattle.gadget_laws.proofs.Box.{own_box, arcwise_length, box_length, down_fits, weighted_ends, units_length}
+use Rattle.gadget_laws.proofs.Box.{box_active, box_sides, told_active, cost_split, first_length, side_list}
+use Rattle.gadget_laws.proofs.Box.{balanced_list, deviations, deviation_list, graph_law, box_deviation, matching_law}
+use Rattle.gadget_laws.proofs.Box.{units_at}
+use Rattle.gadget_laws.proofs.{Units.ends_active, Units.UnitsAt, Perfect.told_length, Perfect.told_fills}
+use Rattle.gadget_laws.proofs.{Perfect.told_cost}
 use Rattle.def_matching.specs.Matching.{IsPerfect, matching_cost}
-use Rattle.network_laws.proofs.Lift.{arc_convex}
-use Rattle.gadget_laws.specs.{Marks.trues, Box.IsRaised, Told.marks_from, Told.states_told, Told.steps_told}
-use Rattle.gadget_laws.specs.Told.{lengths_on, lengths_told}
-use Rattle.gadget_laws.proofs.{Units.ends_active, Units.UnitsAt, Box.own_box, Box.arcwise_length, Box.box_length}
-use Rattle.gadget_laws.proofs.Box.{down_fits}
-use Rattle.gadget_laws.proofs.Box.{weighted_ends, units_length, box_active, box_sides, told_active, cost_split}
-use Rattle.gadget_laws.proofs.Box.{first_length}
-use Rattle.gadget_laws.proofs.{Box.side_list, Box.balanced_list, Box.deviations, Box.deviation_list}
-use Rattle.gadget_laws.proofs.{Law.units_at, Steps.raised_in_box, Perfect.told_length, Perfect.told_fills}
-use Rattle.gadget_laws.proofs.Perfect.{told_cost}
+use Rattle.{std.specs.Prelude.slice_index, qm_dual.proofs.Weak.weak_duality}
+
+-- A list of whole numbers near xs as a list, and how many units it has on.
+abbrev listed : (ℕ → ℤ) → List ℕ → List ℕ
+listed f [] = []
+listed f (x ∷ xs) = unsigned_abs (f 0) ∷ listed (λ k. f (suc k)) xs
+
+abbrev units_on : List Arc → (ℕ → ℤ) → List ℕ → List ℕ
+units_on (a ∷ arcs) f (x ∷ xs) = (unsigned_abs (f 0) - low 1 a x) ∷ units_on arcs (λ k. f (suc k)) xs
+units_on _ f _ = []
+
+-- What is not negative is listed as it is.
+listed_entries : (f : ℕ → ℤ) (xs : List ℕ) → ((k : ℕ) → k < length xs → pos 0 ≤ℤ f k) → (k : ℕ) → k < length xs
+    → entries (listed f xs) k ≡ f k
+listed_entries f [] high k l = absurd (omega arith)
+listed_entries f (x ∷ xs) high zero l = omega (integers, high 0 (omega arith))
+listed_entries f (x ∷ xs) high (suc k) l =
+    listed_entries (λ j. f (suc j)) xs (λ j lj. high (suc j) (omega arith)) k (omega arith)
+
+-- Each entry is high enough and within 2 of the one of xs.
+abbrev IsNear : (ℕ → ℕ) → (ℕ → ℤ) → List ℕ → Type 0
+IsNear floors f xs = (k : ℕ) → k < length xs → (pos (floors k) ≤ℤ f k) × (pos (floors k) ≤ℤ entries xs k)
+    × (unsigned_abs (f k -ℤ entries xs k) ≤ 2)
+
+-- A near list is in the box.
+near_box : (arcs : List Arc) (f : ℕ → ℤ) (xs : List ℕ) → length xs ≡ length arcs
+    → IsNear (λ k. (arc_at arcs k).floor) f xs → IsRaised 1 arcs xs (units_on arcs f xs) (listed f xs)
+near_box [] f [] l near = tt
+near_box (a ∷ arcs) f (x ∷ xs) l near =
+    let first : (pos a.floor ≤ℤ f 0) × (pos a.floor ≤ℤ pos x) × (unsigned_abs (f 0 -ℤ pos x) ≤ 2) =
+    near 0 (omega arith) in
+    let whole : (x - a.floor) / 1 ≡ x - a.floor = omega arith in
+    let steps : down 1 a x ≡ min 2 (x - a.floor) = ap (min 2) whole in (
+      omega (integers, first, steps),
+      omega (integers, first, steps),
+      near_box arcs (λ k. f (suc k)) xs (omega arith) (λ k lk. near (suc k) (omega arith)),
+    )
+near_box _ f _ l near = absurd (omega arith)
+
+-- No list near that of an accepted certificate is better.
+near_not_better : (net : Network) (c : Certificate) → IsWithinBounds net → IsAccepted net c → (f : ℕ → ℤ)
+    → IsAdmissible net f → ((k : ℕ) → k < length net.arcs → unsigned_abs (f k -ℤ entries c.x k) ≤ 2)
+    → deviation net (entries c.x) ≤ deviation net f
+near_not_better net c bounds accepted f af near =
+    let ys : List ℕ = listed f c.x in
+    let js : List ℕ = units_on net.arcs f c.x in
+    let is_near : IsNear (λ k. (arc_at net.arcs k).floor) f c.x = λ k l.
+    (let lk : k < length net.arcs = omega (arith, accepted.count) in
+    (af.high k lk, accepted.admissible.high k lk, near k lk)) in
+    let same : (k : ℕ) → k < length net.arcs → entries ys k ≡ f k = λ k l.
+    listed_entries f c.x (λ j lj. omega (integers, (is_near j lj).0)) k (omega (arith, accepted.count)) in
+    let fits : IsAdmissible net (entries ys) = record {
+      high = λ k l. (let e : entries ys k ≡ f k = same k l in omega (integers, e, af.high k l));
+      balanced = λ v. same_sides net.arcs (entries ys) f same true v
+          ∙ (af.balanced v ∙ sym (same_sides net.arcs (entries ys) f same false v));
+    } in
+    let told = matching_law net 1 c.x js ys bounds (omega arith) accepted.count accepted.admissible
+    fits (near_box net.arcs f c.x accepted.count is_near) in
+    omega (
+      integers,
+      accepted.sums,
+      weak_duality (matching_graph net 1 c.x) c.dual (graph_law net 1 c.x bounds) accepted.yes
+          (matching_told net 1 c.x js) told.0,
+      told.1,
+      box_deviation net 1 c.x (arcwise (down 1) net.arcs c.x) c.x accepted.count
+          (own_box 1 net.arcs c.x accepted.count),
+      count_below_same (λ k. arc_deviation net (arc_at net.arcs k) (entries ys k)) (λ k. arc_deviation net
+          (arc_at net.arcs k) (f k)) (length net.arcs) (λ k l. ap (arc_deviation net (arc_at net.arcs k)) (same k l)),
+    )
+
+-- The list of an accepted certificate is least.
+pub sound : (net : Network) (c : Certificate) → IsWithinBounds net → IsAccepted net c → IsLeast net (entries c.x)
+sound net c bounds accepted = record {
+  admissible = accepted.admissible;
+  least = λ other ao. elim (cases_lt (deviation net other) (deviation net (entries c.x))) [
+    | inr le ↦ le
+    | inl better ↦
+        let (near, a, close, less) = lift_law net (entries c.x) other accepted.admissible ao better in
+        absurd (omega (arith, near_not_better net c bounds accepted near a close, less))
+  ];
+}
+
+-- Lists in a box, and the steps that their entries are above the lows.
+
+step_up : (j step l y : ℕ) → 1 ≤ step → y ≡ l + j * step → (y - l) / step ≡ j
+step_up j step l y some is =
+    let there : y - l ≡ step * j = omega (arith, mul_comm j step) in
+    ap (λ n. n / step) there ∙ mul-div_cancel_left j some
+
+-- The list is in the box of the list that the lows and caps are of.
+pub in_box : (step : ℕ) (arcs : List Arc) (xs ys : List ℕ) → 1 ≤ step
+    → length xs ≡ length arcs → IsInBox step (arcwise (low step) arcs xs) (arcwise (cap step) arcs xs) ys
+    → IsRaised step arcs xs (ups step (arcwise (low step) arcs xs) ys) ys
+in_box step [] [] [] some l are = tt
+in_box step (a ∷ arcs) (x ∷ xs) (y ∷ ys) some l are =
+    let e = are.each 0 (omega arith) in
+    let up : (y - low step a x) / step ≡ e.up = step_up e.up step (low step a x) y some e.is in
+    let high : (y - low step a x) / step ≤ cap step a x = omega (arith, up, e.few) in
+    let place = e.is ∙ ap (λ j. low step a x + j * step) (sym up) in
+    let count : suc (length ys) ≡ suc (length (arcwise (low step) arcs xs)) = are.count in (
+      high,
+      place,
+      in_box step arcs xs ys some (omega arith) (record {
+        count = omega arith;
+        each = λ k lk. are.each (suc k) (omega arith);
+      }),
+    )
+in_box step arcs xs ys some l are =
+    let count : length ys ≡ length (arcwise (low step) arcs xs) = are.count in absurd (omega (arith, l, count))
+
+-- The other way round.
+raised_each : (step : ℕ) (arcs : List Arc) (xs js ys : List ℕ) → IsRaised step arcs xs js ys → (k : ℕ) → k < length ys
+    → IsStepUp (slice_index (arcwise (low step) arcs xs) k) (slice_index (arcwise (cap step) arcs xs) k) step
+    (slice_index ys k)
+raised_each step [] [] [] [] raised k l = absurd (omega arith)
+raised_each step (a ∷ arcs) (x ∷ xs) (j ∷ js) (y ∷ ys) raised zero l = record { up = j; few = raised.0; is = raised.1 }
+raised_each step (a ∷ arcs) (x ∷ xs) (j ∷ js) (y ∷ ys) raised (suc k) l =
+    raised_each step arcs xs js ys raised.2 k (omega arith)
+raised_each step _ _ _ _ raised k l = absurd raised
+
+pub raised_in_box : (step : ℕ) (arcs : List Arc) (xs js ys : List ℕ) → length xs ≡ length arcs
+    → IsRaised step arcs xs js ys → IsInBox step (arcwise (low step) arcs xs) (arcwise (cap step) arcs xs) ys
+raised_in_box step arcs xs js ys l raised = record {
+  count = box_length step arcs xs js ys raised ∙ sym (arcwise_length (low step) arcs xs l);
+  each = raised_each step arcs xs js ys raised;
+}
+
+-- Any states of the units tell a list of the box: the cost of the units that are on is at least its deviation.
 
 -- The deviation of an arc with so many steps above its low.
 abbrev at_step : Network → ℕ → Arc → ℕ → ℕ → ℕ

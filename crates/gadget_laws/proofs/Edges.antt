@@ -1,19 +1,15 @@
 -- The edges of the matching graph: what holds of its vertices and of the units' costs, holds of their ends and costs.
 use Rattle.std.proofs.Common.{◌≡◌, ◌≢◌, ℕ, zero, suc, ◌+◌, ◌<◌, ◌≤◌, Bool, true, false, cond, List, [], ◌∷◌, ◌++◌}
 use Rattle.std.proofs.Common.{length, Option, Some, None, ℤ, pos, refl, inl, inr, ap, arith}
-use Rattle.std.proofs.lemmas.{Bool.cases_eq, Bool.cond_both, List.Elements.All-from_recursion}
-use Rattle.std.specs.List.{All, AllByRecursion}
-use Rattle.sum_laws.proofs.Sums.{integers}
+use Rattle.std.proofs.{lemmas.Bool.cases_eq, lemmas.Bool.cond_both, lemmas.List.Elements.All-from_recursion}
 use Rattle.def_math.specs.Counts.{count, count_below}
 use Rattle.def_matching.specs.{Matching.IsGraph, declared.weighted.WEdge.WEdge}
-use Rattle.def_flow.specs.Network.{EndsBelow}
 use Rattle.def_flow.specs.MatchingGraph.{fan, to_copies, inner_link, are_alike, links_by, size_by, unit_links}
-use Rattle.def_flow.specs.MatchingGraph.{unit_size}
-use Rattle.def_flow.specs.MatchingGraph.{units_links, with_rim, rim, link_from, rung, rim_links, first_fresh}
-use Rattle.def_flow.specs.MatchingGraph.{lone_vertex}
-use Rattle.def_flow.specs.MatchingGraph.{graph_by}
-use Rattle.def_flow.specs.{declared.net.End.End, declared.units.ArcUnit.ArcUnit}
+use Rattle.def_flow.specs.MatchingGraph.{unit_size, units_links, with_rim, rim, link_from, rung, rim_links, first_fresh}
+use Rattle.def_flow.specs.MatchingGraph.{lone_vertex, graph_by}
+use Rattle.def_flow.specs.{Network.EndsBelow, declared.net.End.End, declared.units.ArcUnit.ArcUnit}
 use Rattle.gadget_laws.proofs.{Pick.picked, Pick.at_ends, Pick.pairs, Units.UnitsAt}
+use Rattle.{std.specs.List.All, std.specs.List.AllByRecursion, sum_laws.proofs.Sums.integers}
 
 -- An edge between two different vertices that V holds of, with a cost that Q holds of.
 abbrev pub IsEdge : (V : ℕ → Type 0) (Q : ℤ → Type 0) (e : WEdge) → Type 0

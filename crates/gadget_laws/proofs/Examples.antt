@@ -1,9 +1,8 @@
 -- Rows: matchings and lists tell each other, at matchings of least cost that another program found.
 use Rattle.std.proofs.Common.{◌≡◌, ℕ, List, [], ◌∷◌, ℤ, negsuc, refl}
-use Rattle.def_matching.specs.Matching.{matching_cost}
-use Rattle.def_flow.specs.MatchingGraph.{matching_graph}
 use Rattle.def_flow.proofs.NetworkExamples.{five_shapes}
 use Rattle.gadget_laws.specs.{Box.matching_told, Told.lengths_told}
+use Rattle.{def_matching.specs.Matching.matching_cost, def_flow.specs.MatchingGraph.matching_graph}
 
 -- At the list xs the matching m tells the list ys, at this cost, and ys, with so many units on, tells a matching, which
 -- tells ys again.

@@ -1,31 +1,26 @@
 -- A perfect matching tells states of the units that fill the copies, at its own cost.
-use Rattle.std.proofs.Common.{◌≡◌, ◌≢◌, ℕ, zero, suc, ◌+◌, ◌*◌, ◌<◌, ◌≤◌, min, Bool, cond, not, ◌&&◌, ◌==◌}
-use Rattle.std.proofs.Common.{nat_lt, List, [], ◌∷◌, length, map, drop, Option, Some, None, option_to_list, ℤ}
-use Rattle.std.proofs.Common.{pos}
-use Rattle.std.proofs.Common.{◌+ℤ◌, ◌-ℤ◌, ◌*ℤ◌, refl, subst, sym, ◌∙◌, ap, inl, inr, ◌⊎◌, zero-add, eq-eqb, ne_eqb}
-use Rattle.std.proofs.Common.{lt-ltb, le-ltb}
+use Rattle.std.proofs.Common.{◌≡◌, ◌≢◌, ℕ, zero, suc, ◌+◌, ◌*◌, ◌<◌, ◌≤◌, min, Bool, cond, not, ◌&&◌, ◌==◌, nat_lt}
+use Rattle.std.proofs.Common.{List, [], ◌∷◌, length, map, drop, Option, Some, None, option_to_list, ℤ, pos, ◌+ℤ◌, ◌-ℤ◌}
+use Rattle.std.proofs.Common.{◌*ℤ◌, refl, subst, sym, ◌∙◌, ap, inl, inr, ◌⊎◌, zero-add, eq-eqb, ne_eqb, lt-ltb, le-ltb}
 use Rattle.std.proofs.Common.{arith}
-use Rattle.std.proofs.lemmas.{Bool.cases_eq, Bool.cases_lt, Bool.cases_Bool, Bool.cond_both}
-use Rattle.std.specs.List.{AllByRecursion}
+use Rattle.std.proofs.lemmas.Bool.{cases_eq, cases_lt, cases_Bool, cond_both}
 use Rattle.def_math.specs.{Sums.total, Sums.total_below, Counts.count, Counts.count_below, Increasing.IsIncreasing}
 use Rattle.sum_laws.proofs.Sums.{total_below_minus, integers}
-use Rattle.qm_dual.proofs.{Ends.ends_once, Weak.chosen_below}
-use Rattle.def_matching.specs.Matching.{WeightedGraph, IsPerfect, edge_at, matching_cost}
-use Rattle.def_matching.specs.declared.weighted.WEdge.{WEdge}
-use Rattle.def_flow.specs.{Network.EndsBelow, Units.is_active, Units.active, Units.cost_on}
+use Rattle.def_matching.specs.{Matching.WeightedGraph, Matching.IsPerfect, Matching.edge_at, Matching.matching_cost}
+use Rattle.def_matching.specs.{declared.weighted.WEdge.WEdge}
 use Rattle.def_flow.specs.MatchingGraph.{are_alike, links_by, size_by, unit_links, unit_size, units_links, rim}
-use Rattle.def_flow.specs.MatchingGraph.{rim_links}
-use Rattle.def_flow.specs.MatchingGraph.{first_fresh, lone_vertex, graph_by}
-use Rattle.def_flow.specs.{declared.net.End.End, declared.units.ArcUnit.ArcUnit}
-use Rattle.gadget_laws.specs.Marks.{places}
-use Rattle.gadget_laws.specs.Told.{past, marks_from, width_by, state_told, states_told}
-use Rattle.gadget_laws.proofs.{Pick.picked, Pick.chosen_sum, Pick.at_ends, Units.ends_active, Units.alike_active}
-use Rattle.gadget_laws.proofs.{Units.unlike_active, Units.UnitsAt, Whole.only, Whole.only_here, Whole.only_there}
-use Rattle.gadget_laws.proofs.{Whole.only_total, Edges.copies_below, Edges.size_low, Edges.with_each, Edges.rim_each}
-use Rattle.gadget_laws.proofs.{Edges.picked_zero, Edges.picked_free, Edges.unit_edges, Edges.units_edges}
-use Rattle.gadget_laws.proofs.{Edges.rest_edges, Edges.rest_free, Edges.graph_lawful, Facts.pick_split}
-use Rattle.gadget_laws.proofs.{Facts.pick_units}
-use Rattle.gadget_laws.proofs.Facts.{no_pick, left_marks, right_marks, inner_mark, right_worth, unit_pick}
+use Rattle.def_flow.specs.MatchingGraph.{rim_links, first_fresh, lone_vertex, graph_by}
+use Rattle.def_flow.specs.{Network.EndsBelow, Units.is_active, Units.active, Units.cost_on, declared.net.End.End}
+use Rattle.def_flow.specs.{declared.units.ArcUnit.ArcUnit}
+use Rattle.gadget_laws.specs.{Marks.places, Told.past, Told.marks_from, Told.width_by, Told.state_told}
+use Rattle.gadget_laws.specs.{Told.states_told}
+use Rattle.gadget_laws.proofs.Pick.{picked, chosen_sum, at_ends, pick_split, pick_units, no_pick, left_marks}
+use Rattle.gadget_laws.proofs.Pick.{right_marks, inner_mark, right_worth, unit_pick}
+use Rattle.gadget_laws.proofs.Edges.{copies_below, size_low, with_each, rim_each, picked_zero, picked_free, unit_edges}
+use Rattle.gadget_laws.proofs.Edges.{units_edges, rest_edges, rest_free, graph_lawful}
+use Rattle.gadget_laws.proofs.{Units.ends_active, Units.alike_active, Units.unlike_active, Units.UnitsAt, Whole.only}
+use Rattle.gadget_laws.proofs.{Whole.only_here, Whole.only_there, Whole.only_total}
+use Rattle.{std.specs.List.AllByRecursion, qm_dual.proofs.Gathered.ends_once, qm_dual.proofs.Weak.chosen_below}
 
 -- Whether the inner edge is marked of a unit in this state.
 abbrev inner_told : (on : Bool) (left : End) (right : Option End) → Bool

@@ -1,29 +1,22 @@
 -- The matching graph has at most 9/16 of the tangle number of vertices, and at most 9/8 of it of edges.
 use Rattle.std.proofs.Common.{◌≡◌, ◌≢◌, ℕ, zero, suc, ◌+◌, ◌-◌, ◌*◌, ◌%◌, ◌<◌, ◌≤◌, Bool, true, false, cond, ◌&&◌, ◌==◌}
-use Rattle.std.proofs.Common.{List, [], ◌∷◌, length, Option, Some, None, option_to_list, pos, ◌≤ℤ◌, refl, sym, ◌∙◌}
-use Rattle.std.proofs.Common.{ap, inl, inr, add-mul, mul-add, mul_left_comm, mul-zero, zero-mul}
-use Rattle.std.proofs.Common.{mul-le-mul_left}
+use Rattle.std.proofs.Common.{List, [], ◌∷◌, length, Option, Some, None, option_to_list, pos, ◌≤ℤ◌, refl, sym, ◌∙◌, ap}
+use Rattle.std.proofs.Common.{inl, inr, add-mul, mul-add, mul_left_comm, mul-zero, zero-mul, mul-le-mul_left}
 use Rattle.std.proofs.Common.{mul-le-mul_right, length-append, eq-eqb, ne_eqb, arith}
-use Rattle.std.proofs.lemmas.Bool.{cases_eq}
-use Rattle.std.specs.List.{AllByRecursion}
-use Rattle.std.proofs.lemmas.List.Elements.{All-from_recursion}
-use Rattle.sum_laws.proofs.Sums.{integers}
-use Rattle.def_math.specs.Counts.{count, count_below}
-use Rattle.sum_laws.proofs.Counts.{count_append, count_below_sum, count_below_le, count_below_same}
-use Rattle.sum_laws.proofs.Counts.{count_below_one, count_below_none, count_below_times}
+use Rattle.std.proofs.{lemmas.Bool.cases_eq, lemmas.List.Elements.All-from_recursion}
+use Rattle.sum_laws.proofs.Sums.{integers, count_append, count_below_sum, count_below_le, count_below_same}
+use Rattle.sum_laws.proofs.Sums.{count_below_one, count_below_none, count_below_times}
 use Rattle.sum_laws.proofs.Tests.{once_at_most}
+use Rattle.def_math.specs.Counts.{count, count_below}
 use Rattle.def_flow.specs.Network.{EndsBelow, Network, IsWithinBounds, arc_at, ends, degree, tangle_number}
-use Rattle.def_flow.specs.Admissible.{IsAdmissible, entries}
-use Rattle.def_flow.specs.Units.{arcwise, down, low, cap, units_from, units, states_at, is_active, active}
-use Rattle.def_flow.specs.Units.{rim_active}
-use Rattle.def_flow.specs.MatchingGraph.{link_from, rim_links, rim, size_by, unit_size, units_links}
-use Rattle.def_flow.specs.MatchingGraph.{first_fresh, lone_vertex, matching_graph}
-use Rattle.def_flow.specs.declared.net.Arc.{Arc}
-use Rattle.def_flow.specs.declared.net.End.{End}
-use Rattle.def_flow.specs.declared.units.ArcUnit.{ArcUnit}
-use Rattle.gadget_laws.specs.Told.{width_by}
-use Rattle.gadget_laws.proofs.Box.{own_box, arc_active, weighted_ends, box_active, balanced_list}
-use Rattle.gadget_laws.proofs.{Law.IsFit, Law.arcs_fit, Facts.links_width}
+use Rattle.def_flow.specs.Units.{arcwise, down, low, cap, units_from, units, states_at, is_active, active, rim_active}
+use Rattle.def_flow.specs.MatchingGraph.{link_from, rim_links, rim, size_by, unit_size, units_links, first_fresh}
+use Rattle.def_flow.specs.MatchingGraph.{lone_vertex, matching_graph}
+use Rattle.def_flow.specs.{Admissible.IsAdmissible, Admissible.entries, declared.net.Arc.Arc, declared.net.End.End}
+use Rattle.def_flow.specs.{declared.units.ArcUnit.ArcUnit}
+use Rattle.gadget_laws.proofs.Box.{own_box, arc_active, weighted_ends, box_active, balanced_list, IsFit, arcs_fit}
+use Rattle.gadget_laws.proofs.Pick.{links_width}
+use Rattle.{std.specs.List.AllByRecursion, gadget_laws.specs.Told.width_by}
 
 -- The ends at a node on one side.
 abbrev ends_on : ℕ → Bool → List Arc → ℕ

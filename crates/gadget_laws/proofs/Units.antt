@@ -1,19 +1,18 @@
 -- What is picked at units: the edges of their own vertices, and copies that they take.
 use Rattle.std.proofs.Common.{◌≡◌, ℕ, ◌+◌, ◌<◌, ◌≤◌, Bool, true, false, cond, not, ◌&&◌, ◌==◌, [], ◌∷◌, ◌++◌, length}
-use Rattle.std.proofs.Common.{Option, Some, None, option_to_list, ℤ, pos, ◌+ℤ◌, refl, sym, ◌∙◌, ap, eq-eqb}
-use Rattle.std.proofs.Common.{List, ne_eqb, inl, inr, length-append, arith}
+use Rattle.std.proofs.Common.{Option, Some, None, option_to_list, ℤ, pos, ◌+ℤ◌, refl, sym, ◌∙◌, ap, eq-eqb, List}
+use Rattle.std.proofs.Common.{ne_eqb, inl, inr, length-append, arith}
+use Rattle.std.proofs.lemmas.Bool.{cases_Bool}
 use Rattle.sum_laws.proofs.Sums.{total_below_same, total_below_sum, total_below_one, span_sum, integers}
-use Rattle.def_flow.specs.Units.{is_active, active, active_at, rim_active, cost_on}
-use Rattle.def_flow.specs.MatchingGraph.{to_copies, inner_link, are_alike, links_by, size_by, unit_size}
-use Rattle.def_flow.specs.MatchingGraph.{unit_links, units_links, with_rim, rim}
+use Rattle.def_flow.specs.MatchingGraph.{to_copies, inner_link, are_alike, links_by, size_by, unit_size, unit_links}
+use Rattle.def_flow.specs.MatchingGraph.{units_links, with_rim, rim}
+use Rattle.def_flow.specs.{Units.is_active, Units.active, Units.active_at, Units.rim_active, Units.cost_on}
+use Rattle.def_flow.specs.{Network.EndsBelow, declared.net.End.End, declared.units.ArcUnit.ArcUnit}
 use Rattle.gadget_laws.specs.Marks.{take_end, end_marks, marks_by, trues, units_marks, with_state, rim_states}
 use Rattle.gadget_laws.proofs.Pick.{picked, pick_append, end_value, pick_end, end_length, choice_length, fan_length}
-use Rattle.std.proofs.lemmas.Bool.{cases_Bool}
-use Rattle.def_math.specs.{Sums.total_below, Sums.span, Counts.count, Counts.count_below}
-use Rattle.def_flow.specs.{Network.EndsBelow, declared.net.End.End, declared.units.ArcUnit.ArcUnit}
-use Rattle.def_matching.specs.declared.weighted.WEdge.{WEdge}
 use Rattle.gadget_laws.proofs.Pick.{at_ends}
-use Rattle.std.specs.List.{AllByRecursion}
+use Rattle.def_math.specs.{Sums.total_below, Sums.span, Counts.count, Counts.count_below}
+use Rattle.{def_matching.specs.declared.weighted.WEdge.WEdge, std.specs.List.AllByRecursion}
 
 -- What the copies in use weigh.
 abbrev pub held : ℕ → (ℕ → ℕ) → (ℕ → ℤ) → (ℕ → ℕ) → ℤ

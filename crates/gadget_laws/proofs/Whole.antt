@@ -1,21 +1,19 @@
 -- The whole matching of states: each vertex gets one mate, and the cost is that of the units that are on.
 use Rattle.std.proofs.Common.{◌≡◌, ℕ, zero, suc, ◌+◌, ◌*◌, ◌%◌, ◌<◌, Bool, true, false, cond, ◌==◌, List, [], ◌∷◌}
-use Rattle.std.proofs.Common.{length, map, Option, Some, None, ℤ, pos, ◌+ℤ◌, refl, ◌∙◌, zero-add, add-zero}
-use Rattle.std.proofs.Common.{◌≢◌, length-append, eq-eqb, ne_eqb, mul-zero, mul-add, arith}
+use Rattle.std.proofs.Common.{length, map, Option, Some, None, ℤ, pos, ◌+ℤ◌, refl, ◌∙◌, zero-add, add-zero, ◌≢◌}
+use Rattle.std.proofs.Common.{length-append, eq-eqb, ne_eqb, mul-zero, mul-add, arith}
 use Rattle.def_math.specs.{Sums.total, Sums.total_below, Sums.span, Counts.count, Counts.count_below}
-use Rattle.sum_laws.proofs.Sums.{total_below_none, total_below_one, total_below_span, total_same, integers}
-use Rattle.sum_laws.proofs.Counts.{count_total}
+use Rattle.sum_laws.proofs.Sums.{total_below_none, total_below_one, total_below_span, total_same, integers, count_total}
 use Rattle.def_matching.specs.Matching.{WeightedGraph, IsPerfect, edge_at, ends_at, matching_cost}
 use Rattle.def_matching.specs.declared.weighted.WEdge.{WEdge}
-use Rattle.def_flow.specs.Units.{active, rim_active, cost_on}
 use Rattle.def_flow.specs.MatchingGraph.{unit_size, units_links, rim, rim_links, first_fresh, lone_vertex, graph_by}
-use Rattle.def_flow.specs.declared.units.ArcUnit.{ArcUnit}
+use Rattle.def_flow.specs.{Units.active, Units.rim_active, Units.cost_on, declared.units.ArcUnit.ArcUnit}
 use Rattle.gadget_laws.specs.Marks.{trues, places, units_marks, rim_marks, rim_states, states_marks}
-use Rattle.gadget_laws.proofs.Pick.{picked, pick_append, chosen_sum, places_rise}
-use Rattle.gadget_laws.proofs.Pick.{at_ends, pairs, IsThere, waiting, chain_sum, rim_length}
+use Rattle.gadget_laws.proofs.Pick.{picked, pick_append, chosen_sum, places_rise, at_ends, pairs, IsThere, waiting}
+use Rattle.gadget_laws.proofs.Pick.{chain_sum, rim_length}
+use Rattle.gadget_laws.proofs.Units.{held, held_same, UnitsAt, units_weight, units_cost, units_length, states_length}
+use Rattle.gadget_laws.proofs.Units.{rim_trues}
 use Rattle.gadget_laws.proofs.Edges.{picked_free, rest_free}
-use Rattle.gadget_laws.proofs.Units.{held, held_same}
-use Rattle.gadget_laws.proofs.Units.{UnitsAt, units_weight, units_cost, units_length, states_length, rim_trues}
 
 -- States fit a graph: one for each unit, as many active ends at each node as it has copies, and an even number at
 -- the rim with the lone vertex.

@@ -1,15 +1,14 @@
 -- The borders of patches: each side is a straight line of cut darts from node to node, and each cut dart lies on a
 -- side.
-use Rattle.std.proofs.Common.{◌≡◌, ℕ, zero, suc, ◌+◌, ◌-◌, ◌<◌, ◌≤◌, Bool, true, false, List, Some, sym, ◌∙◌, ap, refl}
-use Rattle.std.proofs.Common.{inl, inr, true≢false, arith}
+use Rattle.std.proofs.Common.{◌≡◌, ℕ, zero, suc, ◌+◌, ◌-◌, ◌<◌, ◌≤◌, Bool, true, false, List, Some, sym, ◌∙◌, ap, inl}
+use Rattle.std.proofs.Common.{inr, true≢false, arith}
 use Rattle.std.proofs.lemmas.Bool.{cases_Bool, cases_eq, cases_lt, false≢true}
 use Rattle.def_mesh.specs.HalfEdges.{HalfEdges, IsQuadManifold}
-use Rattle.def_cut.specs.Grids.{Cells, IsGrid, Rectangle, cell_of, patch_at, IsPartition}
-use Rattle.def_cut.specs.{Cuts.Cut, Cuts.IsCut, Steps.spin, Steps.easts, Steps.step_east as go}
-use Rattle.def_layout.specs.Gluings.{Way, south, east, north, west}
-use Rattle.def_layout.specs.{Arcs.end_vertex, Arcs.IsRun, Borders.side_size, Borders.border_dart, Nodes.AreNodes}
-use Rattle.cut_laws.proofs.Darts.{prev_three, prev_twice}
-use Rattle.cut_laws.proofs.Folds.{west_open, south_open, west as west_link, south as south_link}
+use Rattle.def_cut.specs.{Grids.IsGrid, Grids.Rectangle, Grids.cell_of, Grids.patch_at, Grids.IsPartition, Cuts.Cut}
+use Rattle.def_cut.specs.{Cuts.IsCut, Steps.spin, Steps.easts, Steps.step_east as go}
+use Rattle.def_layout.specs.{Gluings.Way, Gluings.south, Gluings.east, Gluings.north, Gluings.west, Arcs.end_vertex}
+use Rattle.def_layout.specs.{Arcs.IsRun, Borders.side_size, Borders.border_dart, Nodes.AreNodes}
+use Rattle.cut_laws.proofs.Folds.{prev_three, prev_twice, west_open, south_open, west as west_link, south as south_link}
 use Rattle.layout_laws.proofs.Runs.{walk_done}
 
 -- A line of L cut darts, each straight on from the one before, from a corner to a corner.

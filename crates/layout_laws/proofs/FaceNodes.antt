@@ -1,19 +1,17 @@
 -- The nodes of a cut of faces are what the laws of layouts need of nodes.
-use Rattle.std.proofs.Common.{◌≡◌, ◌⊎◌, ℕ, zero, suc, ◌<◌, ◌≤◌, Bool, true, false, not, cond, List, [], ◌∷◌, length}
-use Rattle.std.proofs.Common.{get_or, Option, Some, None, is_some, sym, ◌∙◌, ap, refl, inl, inr, arith}
+use Rattle.std.proofs.Common.{◌≡◌, ◌⊎◌, ℕ, zero, suc, ◌<◌, ◌≤◌, Bool, true, false, not, List, [], ◌∷◌, length, get_or}
+use Rattle.std.proofs.Common.{Some, None, is_some, sym, ◌∙◌, ap, refl, inl, inr, arith}
 use Rattle.std.proofs.lemmas.Bool.{cases_Bool, cases_eq, eqb-true, cond-false, or_parts, not-false, ltb-false, and_from}
 use Rattle.std.proofs.lemmas.Bool.{true_from_ne_false}
-use Rattle.std.specs.List.{filter}
-use Rattle.def_mesh.specs.Darts.{darts, from_of, to_of, next_of, prev_of, twin_of}
-use Rattle.def_mesh.specs.HalfEdges.{half_edges, Turns, IsQuadManifold}
-use Rattle.def_mesh.specs.{Faces.Faces, Vertices.fan_of, Kinds.is_inner, Kinds.is_regular}
+use Rattle.def_mesh.specs.{Darts.darts, Darts.from_of, Darts.to_of, Darts.next_of, Darts.prev_of, Darts.twin_of}
+use Rattle.def_mesh.specs.{HalfEdges.half_edges, HalfEdges.Turns, HalfEdges.IsQuadManifold, Faces.Faces}
+use Rattle.def_mesh.specs.{Vertices.fan_of, Kinds.is_inner, Kinds.is_regular}
 use Rattle.def_cut.specs.{Cuts.IsCross, Cuts.HasCross, Cuts.IsCut, FullCut.is_on}
 use Rattle.def_layout.specs.Nodes.{is_lone_before, cut_degree, is_node, AreNodes}
-use Rattle.mesh_laws.proofs.Fans.{is_fan}
 use Rattle.cut_laws.proofs.Crosses.{Leaves, HasFan, of_four, no_fix, low_a, low_b, low_c, at_a, at_b, at_c, four_apart}
-use Rattle.cut_laws.proofs.{Pigeon.no_more, Darts.turn_from, Darts.turn_low, Darts.two_darts, Darts.next_same}
-use Rattle.layout_laws.proofs.Runs.{none_or}
-use Rattle.face_laws.proofs.Fans.{has_fan, inner_from, inner_twin, regular_cross}
+use Rattle.cut_laws.proofs.{Pigeon.no_more, Folds.turn_from, Folds.turn_low, Folds.two_darts, Folds.next_same}
+use Rattle.face_laws.proofs.FullCuts.{has_fan, inner_from, inner_twin, regular_cross}
+use Rattle.{std.specs.List.filter, mesh_laws.proofs.Chains.is_fan, layout_laws.proofs.Runs.none_or}
 
 -- What passes a test keeps its place in the filtered list.
 filter_place : (p : ℕ → Bool) (xs : List ℕ) (i : ℕ) → i < length xs → p (get_or xs i 0) ≡ true

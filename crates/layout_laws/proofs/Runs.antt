@@ -3,9 +3,9 @@ use Rattle.std.proofs.Common.{◌≡◌, ◌⊎◌, ℕ, zero, suc, ◌+◌, ◌
 use Rattle.std.proofs.Common.{◌∙◌, ap, refl, inl, inr, arith}
 use Rattle.std.proofs.lemmas.Bool.{cases_eq, cases_lt, cases_order, false≢true}
 use Rattle.def_mesh.specs.HalfEdges.{HalfEdges, IsQuadManifold}
-use Rattle.def_cut.specs.{Cuts.Cut, Cuts.GoesOn, Cuts.IsCut, Steps.or_zero, Steps.step_east, Steps.easts}
+use Rattle.def_cut.specs.{Cuts.Cut, Cuts.IsCut, Steps.or_zero, Steps.step_east, Steps.easts}
 use Rattle.def_layout.specs.{Arcs.end_vertex, Arcs.IsRun, Nodes.AreNodes}
-use Rattle.cut_laws.proofs.{Darts.next_same, Darts.twin_same, Darts.turn_low, Darts.no_self, Pigeon.comes_back}
+use Rattle.cut_laws.proofs.{Folds.next_same, Folds.twin_same, Folds.turn_low, Folds.no_self, Pigeon.comes_back}
 
 -- There is no value, or some.
 pub none_or : (o : Option ℕ) → (o ≡ None) ⊎ ((t : ℕ) × (o ≡ Some t))

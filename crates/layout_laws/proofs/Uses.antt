@@ -1,14 +1,30 @@
--- The arcs of a cut and their uses.
-use Rattle.std.proofs.Common.{◌≡◌, ◌⊎◌, ℕ, zero, suc, ◌+◌, ◌-◌, ◌<◌, ◌≤◌, Bool, true, false, List, length, get_or}
-use Rattle.std.proofs.Common.{Option, Some, None, sym, ◌∙◌, ap, refl, inl, inr, arith}
-use Rattle.std.proofs.lemmas.Bool.{cases_eq, cases_lt}
+-- What is read of the sides of a layout.
+use Rattle.std.proofs.Common.{◌≡◌, ℕ, ◌<◌, List, [], map, length, get_or, ap, arith, ◌⊎◌, zero, suc, ◌+◌, ◌-◌, ◌≤◌}
+use Rattle.std.proofs.Common.{Bool, true, false, Some, sym, ◌∙◌, inl, inr}
 use Rattle.std.proofs.lemmas.List.FromFn.{get_or-map-range_with_len, length-map-range_with_len}
+use Rattle.std.proofs.{lemmas.List.get_or-map, lemmas.List.length-map, lemmas.Bool.cases_eq, lemmas.Bool.cases_lt}
+use Rattle.def_layout.specs.{declared.tmesh.Side.Side, declared.tmesh.SideArc.SideArc, Arcs.IsRun, Arcs.IsArc}
+use Rattle.def_layout.specs.{Arcs.LiesAt, Nodes.AreNodes}
 use Rattle.def_mesh.specs.HalfEdges.{HalfEdges, IsQuadManifold}
 use Rattle.def_cut.specs.{Cuts.Cut, Cuts.IsCut, Steps.easts}
-use Rattle.def_layout.specs.{Arcs.IsRun, Arcs.IsArc, Arcs.LiesAt, Nodes.AreNodes}
 use Rattle.layout_laws.specs.Named.{run_list, run_name, IsNamed}
-use Rattle.cut_laws.proofs.Leasts.{least_high, least_there}
+use Rattle.cut_laws.proofs.Classes.{least_high, least_there}
 use Rattle.layout_laws.proofs.Runs.{none_or, IsBack, run_low, same_place, same_length, back_run, no_mirror}
+
+-- The arcs of a side.
+abbrev pub arcs_of : (side : Side) → List SideArc
+arcs_of side = side.arcs.items
+
+-- The side that was read.
+pub read_side : (sides : List (List Side)) (p k : ℕ) (four : List Side) (side : Side)
+    → p < length sides → four ≡ get_or sides p four → length (get_or (map (map arcs_of) sides) p []) ≡ 4 → k < 4
+    → get_or (get_or (map (map arcs_of) sides) p []) k [] ≡ (get_or four k side).arcs.items
+read_side sides p k four side l is many lk =
+    let found : get_or (map (map arcs_of) sides) p [] ≡ map arcs_of four =
+    cc (get_or-map (map arcs_of) sides p four [] l) in
+    cc (get_or-map arcs_of four k side [] (omega (arith, many, lk, ap length found, length-map four arcs_of)))
+
+-- The arcs of a cut and their uses.
 
 pub run_long : (mesh : HalfEdges) (s n : ℕ) → length (run_list mesh s n) ≡ n
 run_long mesh s n = length-map-range_with_len (easts mesh s) 0 n

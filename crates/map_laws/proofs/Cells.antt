@@ -1,13 +1,16 @@
 -- The new faces patch by patch: those of a patch stand one after the other, row by row.
 use Rattle.std.proofs.Common.{◌≡◌, ℕ, zero, suc, ◌+◌, ◌*◌, ◌/◌, ◌%◌, ◌<◌, List, [], ◌∷◌, ◌++◌, map, refl, sym, ◌∙◌, ap}
-use Rattle.std.proofs.Common.{ap₂, append_assoc, append-nil, arith}
-use Rattle.std.proofs.{lemmas.Grind.flat_map-append, lemmas.List.FromFn.map-range_with_len_more}
-use Rattle.std.specs.List.{flat_map, range_with_len}
-use Rattle.def_layout.specs.Lengths.{Lengths, wide, high}
-use Rattle.def_layout.specs.{Cells.CellDart, Cells.dart, Gluings.south, Gluings.Gluing}
-use Rattle.def_written.specs.NewFaces.{cell_in, cells_before, dart_of, patch_of}
-use Rattle.list_laws.proofs.Filters.{map_range_same}
-use Rattle.written_laws.proofs.Runs.{run_place}
+use Rattle.std.proofs.Common.{ap₂, append_assoc, append-nil, arith, ◌-◌, ◌≤◌, subst, inl, inr}
+use Rattle.std.proofs.lemmas.Bool.{cases_lt, cond-true, cond-false, le-ltb, lt-ltb}
+use Rattle.std.proofs.{lemmas.Grind.flat_map-append, lemmas.List.FromFn.map-range_with_len_more, Math.Nat.mul_comm}
+use Rattle.std.specs.{List.flat_map, List.range_with_len, Prelude.nat_lt}
+use Rattle.def_layout.specs.{Lengths.Lengths, Lengths.wide, Lengths.high, Cells.CellDart, Cells.dart, Gluings.south}
+use Rattle.def_layout.specs.{Gluings.Gluing}
+use Rattle.def_written.specs.{NewFaces.cell_in, NewFaces.cells_before, NewFaces.dart_of, NewFaces.patch_of}
+use Rattle.def_written.specs.{Numbers.before_arc, Numbers.before_patch, Numbers.vertices, Points.node, Points.IsPoint}
+use Rattle.written_laws.proofs.{Spacings.run_place, Spacings.run_here, Spacings.IsInRun, EdgeNumbers.in_rows}
+use Rattle.def_remesh.specs.NewPoints.{along_arcs, inside_patches, point_at}
+use Rattle.{list_laws.proofs.Filters.map_range_same, def_math.specs.Runs.run_at}
 
 -- Numbers up to a sum are those up to its first term, and as many behind them as the other.
 range_join : {X : Type 0} (item : ℕ → X) (a n : ℕ) → map item (range_with_len 0 (a + n))
@@ -69,3 +72,44 @@ module _ (l : Gluing) (x : Lengths) where
           ≡ map (λ k. item (dart_of l x (cells_before l x n + k) south)) (range_with_len 0 (wide l x n * high l x n))
       here n_low = map_range_same (λ k. item (cell_dart n k)) (λ k. item (dart_of l x (cells_before l x n + k) south)) 0
           (wide l x n * high l x n) (λ k from less. ap item (sym (cell_is n k n_low (omega (arith, less)))))
+
+-- The point with a number.
+
+module _ (l : Gluing) (new : Lengths) where
+  -- It is a node, or lies on an arc, or inside a patch.
+  pub at_node : (v : ℕ) → v < l.nodes → point_at l new v ≡ node v
+  at_node v low = cond-true (nat_lt v l.nodes) _ _ (lt-ltb _ _ low)
+
+  pub at_arc : (v : ℕ) → l.nodes ≤ v → v < l.nodes + before_arc new l.arcs
+      → point_at l new v ≡ along_arcs l new (v - l.nodes)
+  at_arc v from low = cond-false (nat_lt v l.nodes) _ _ (le-ltb _ _ from) ∙ cond-true
+      (nat_lt v (l.nodes + before_arc new l.arcs)) _ _ (lt-ltb _ _ low)
+
+  pub at_patch : (v : ℕ) → l.nodes + before_arc new l.arcs ≤ v
+      → point_at l new v ≡ inside_patches l new (v - (l.nodes + before_arc new l.arcs))
+  at_patch v from = cond-false (nat_lt v l.nodes) _ _ (le-ltb _ _ (omega arith)) ∙ cond-false
+      (nat_lt v (l.nodes + before_arc new l.arcs)) _ _ (le-ltb _ _ from)
+
+  along_is : (t : ℕ) → t < before_arc new l.arcs → IsPoint l new (along_arcs l new t)
+  along_is t low =
+      let here = run_here (λ b. new b - 1) _ t low in (here.low, omega arith, omega arith)
+
+  inside_is : (t : ℕ) → t < before_patch l new l.patches → IsPoint l new (inside_patches l new t)
+  inside_is t low =
+      let p = run_at (before_patch l new) l.patches t in
+      let here : IsInRun (λ q. (wide l new q - 1) * (high l new q - 1)) l.patches t p (t - before_patch l new p) =
+      run_here (λ q. (wide l new q - 1) * (high l new q - 1)) _ t low in
+      let less : t - before_patch l new p < (high l new p - 1) * (wide l new p - 1) =
+      subst (λ n. t - before_patch l new p < n) (mul_comm (wide l new p - 1) (high l new p - 1)) here.inside in
+      let at = in_rows _ _ _ less in
+      (here.low, omega arith, omega arith, omega arith, omega arith)
+
+  -- Each number below that of the vertices is that of a point.
+  pub is_point : (v : ℕ) → v < vertices l new → IsPoint l new (point_at l new v)
+  is_point v low = elim (cases_lt v l.nodes) [
+    | inl less ↦ subst (IsPoint l new) (sym (at_node v less)) less
+    | inr le ↦ elim (cases_lt v (l.nodes + before_arc new l.arcs)) [
+      | inl less ↦ subst (IsPoint l new) (sym (at_arc v le less)) (along_is _ (omega arith))
+      | inr past ↦ subst (IsPoint l new) (sym (at_patch v past)) (inside_is _ (omega arith))
+    ]
+  ]

@@ -1,23 +1,25 @@
 -- The old vertices at the points of a layout are those that the darts of the mesh leave there.
-use Rattle.std.proofs.Common.{◌≡◌, ℕ, ◌+◌, ◌<◌, true, length, refl, sym, ◌∙◌, ap, subst, arith}
-use Rattle.def_mesh.specs.Darts.{darts, next_of, from_of, to_of}
-use Rattle.def_mesh.specs.{HalfEdges.half_edges, Vertices.vertex_count}
-use Rattle.def_cut.specs.Grids.{cell_of, patch_at}
-use Rattle.def_layout.specs.Cells.{CellDart, IsDart, dart, next, slot_dart}
+use Rattle.std.proofs.Common.{◌≡◌, ℕ, ◌+◌, ◌<◌, length, refl, sym, ◌∙◌, ap, subst, arith, suc, ◌-◌, ◌≤◌, List, Option}
+use Rattle.std.proofs.Common.{None, Some}
+use Rattle.def_mesh.specs.{Darts.darts, Darts.next_of, Darts.from_of, Darts.to_of, HalfEdges.half_edges}
+use Rattle.def_mesh.specs.{Vertices.vertex_count}
 use Rattle.def_layout.specs.Gluings.{Way, south, east, north, west, Gluing, use_of}
-use Rattle.def_layout.specs.Lengths.{Lengths, wide, high, AreLengths}
-use Rattle.def_layout.specs.{Arcs.dart_at, Arcs.long_at, Surfaces.IsSurface, Layouts.Layout, Layouts.gluing_of}
-use Rattle.def_layout.specs.{Layouts.vertex_at, Embeddings.IsEmbedding, declared.tmesh.SideArc.SideArc}
-use Rattle.def_layoutnet.specs.MeshLayouts.{IsSomeLayout}
+use Rattle.def_layout.specs.{Cells.CellDart, Cells.IsDart, Cells.dart, Cells.next, Cells.slot_dart, Lengths.Lengths}
+use Rattle.def_layout.specs.{Lengths.wide, Lengths.high, Lengths.AreLengths, Arcs.dart_at, Arcs.long_at}
+use Rattle.def_layout.specs.{Surfaces.IsSurface, Layouts.Layout, Layouts.gluing_of, Layouts.vertex_at}
+use Rattle.def_layout.specs.{Embeddings.IsEmbedding, declared.tmesh.SideArc.SideArc}
 use Rattle.def_written.specs.Points.{Point, node, along, inside, IsPoint, arc_point, use_point, point}
-use Rattle.def_written.specs.{Laws.LiesInMesh, NewFaces.dart_start}
-use Rattle.def_remesh.specs.NewPoints.{old_vertex}
-use Rattle.mesh_laws.proofs.{HalfEdges.manifold_law, Vertices.all_below}
-use Rattle.embedding_laws.proofs.MeshLayouts.{lies, laid_of, lengths_of}
-use Rattle.embedding_laws.proofs.{Lies.cell_dart, LayoutLies.in_mesh as sides_in_mesh}
-use Rattle.written_laws.proofs.Borders.{at_is, at_from, at_to, from_is}
-use Rattle.written_laws.proofs.Sides.{use_begins, use_some, arc_inner}
-use Rattle.written_laws.proofs.{Grid.point_inside, NewDarts.next_is, OldModel.old_model, Sided.starts}
+use Rattle.def_written.specs.{Laws.LiesInMesh, NewFaces.dart_start, NewFaces.face_count, Places.ONE, Spacings.IsSpacing}
+use Rattle.def_remesh.specs.{NewPoints.old_vertex, Spaced.shares_along, Spaced.spacing_by}
+use Rattle.def_remesh.specs.{declared.limits.TheConstants.MAX_NEW_FACES}
+use Rattle.mesh_laws.proofs.{Chains.manifold_law, Flood.all_below}
+use Rattle.embedding_laws.proofs.{Bounds.lies, Bounds.laid_of, Bounds.lengths_of, Bounds.vertices_few, Lies.cell_dart}
+use Rattle.embedding_laws.proofs.{OneLayout.in_mesh as sides_in_mesh}
+use Rattle.written_laws.proofs.{Borders.at_is, Borders.at_from, Borders.at_to, Borders.from_is, Sides.use_begins}
+use Rattle.written_laws.proofs.{Sides.use_some, Sides.arc_inner, Rims.point_inside, NewDarts.next_is}
+use Rattle.written_laws.proofs.{OldModel.old_model, OldModel.starts, Spacings.count_rises, Spacings.even_law}
+use Rattle.written_laws.proofs.{Spacings.shared_law}
+use Rattle.{def_cut.specs.Grids.cell_of, def_cut.specs.Grids.patch_at, def_layoutnet.specs.MeshLayouts.IsSomeLayout}
 
 module _ (layout : Layout) (is : IsSomeLayout layout) where
   abbrev pub l : Gluing
@@ -136,3 +138,22 @@ module _ (layout : Layout) (is : IsSomeLayout layout) where
             (sym (at_to l x laid len w i slot less ∙ ap (λ (u : SideArc). use_point l x u (i + 1)) same))
             ∙ old_from (next d) (next_is l x d is_dart) ∙ ap (from_of is.faces) (sided.turned d ∙ ap next_of here);
       }
+
+-- The points of a new mesh are spaced, evenly or by any shares.
+
+module _ (layout : Layout) (is : IsSomeLayout layout) (new : Lengths) (len : AreLengths (gluing_of layout) new)
+    (few : face_count (gluing_of layout) new ≤ MAX_NEW_FACES) where
+  -- No arc is longer than a parameter has parts.
+  short : (arc : ℕ) → arc < length layout.arcs → new arc ≤ ONE
+  short arc low = omega (
+    arith,
+    vertices_few (gluing_of layout) new (laid_of layout is) len,
+    count_rises
+        (λ a. new a - 1) (suc arc) (length layout.arcs) (omega (arith, low)),
+  )
+
+  pub spacing_is : (shares : Option (List ℕ))
+      → IsSpacing (gluing_of layout) (long_at layout.arcs) new (spacing_by layout shares new)
+  spacing_is None = even_law (gluing_of layout) (long_at layout.arcs) new (lengths_of layout is) len
+  spacing_is (Some shares) = shared_law (gluing_of layout) (long_at layout.arcs) new (shares_along layout shares)
+      (lengths_of layout is) len short

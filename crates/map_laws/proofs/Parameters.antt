@@ -1,14 +1,14 @@
 -- The parameters of the places of sides and of grid points: at the ends of sides, and how large they are.
-use Rattle.std.proofs.Common.{◌≡◌, ℕ, zero, suc, ◌+◌, ◌-◌, ◌*◌, ◌/◌, ◌<◌, ◌≤◌, not, ◌∙◌, ap, inl, inr, arith}
+use Rattle.std.proofs.Common.{◌≡◌, ℕ, zero, suc, ◌+◌, ◌-◌, ◌*◌, ◌/◌, ◌<◌, ◌≤◌, not, ap, inl, inr, arith}
 use Rattle.std.proofs.{lemmas.Bool.cases_eq, lemmas.Bool.cases_lt, lemmas.Nat.mul-le}
-use Rattle.def_layout.specs.Gluings.{Way, south, east, north, west, Gluing}
 use Rattle.def_layout.specs.Lengths.{Lengths, reach, size, wide, high, AreLengths}
+use Rattle.def_layout.specs.{Gluings.Way, Gluings.south, Gluings.east, Gluings.north, Gluings.west, Gluings.Gluing}
 use Rattle.def_layout.specs.{Surfaces.IsSurface, declared.tmesh.SideArc.SideArc}
 use Rattle.def_written.specs.Places.{ONE, parameter, parameter_back, parameter_u, parameter_v, rest_at, ArcSpacing}
 use Rattle.def_written.specs.{Spacings.IsSpacing, Points.inside, Points.offset_at, Points.use_over, Points.IsPoint}
-use Rattle.written_laws.proofs.Runs.{count_rises, run_last, run_place}
 use Rattle.written_laws.proofs.Sides.{first_slot, last_reach, long_at, place_on, slot, use_some, IsOn}
-use Rattle.written_laws.proofs.{Grid.high_some, Grid.wide_some, Spacings.div_less}
+use Rattle.written_laws.proofs.{Spacings.count_rises, Spacings.run_last, Spacings.run_place, Spacings.div_less}
+use Rattle.written_laws.proofs.{Rims.high_some, Rims.wide_some}
 
 -- What is left of a parameter in an old column or row.
 pub rest_less : (n u : ℕ) → 0 < n → u < ONE * n → rest_at n u < ONE

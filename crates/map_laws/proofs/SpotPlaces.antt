@@ -1,21 +1,19 @@
 -- New vertices lie in the old mesh, and have the places that are computed from there.
-use Rattle.std.proofs.Common.{subst, ◌≡◌, ℕ, ◌<◌, List, length, Option, refl, sym, arith}
+use Rattle.std.proofs.Common.{subst, ◌≡◌, ℕ, ◌<◌, List, Option, refl, sym, arith}
 use Rattle.def_cut.specs.Grids.{cell_of, patch_at}
-use Rattle.def_layout.specs.Lengths.{Lengths, wide, high, AreLengths}
-use Rattle.def_layout.specs.{Arcs.long_at, Gluings.Gluing, Layouts.Layout, Layouts.gluing_of}
-use Rattle.def_layoutnet.specs.MeshLayouts.{IsSomeLayout}
-use Rattle.def_mesh.specs.Faces.{Faces}
-use Rattle.def_text.specs.Types.{Positions}
+use Rattle.def_layout.specs.{Lengths.Lengths, Lengths.wide, Lengths.high, Lengths.AreLengths, Arcs.long_at}
+use Rattle.def_layout.specs.{Gluings.Gluing, Layouts.Layout, Layouts.gluing_of}
 use Rattle.def_written.specs.Places.{blend, cell_at, on_the_way, parameter_u, parameter_v, rest_at, ArcSpacing}
-use Rattle.def_written.specs.Spacings.{IsSpacing}
-use Rattle.def_written.specs.Points.{Point, node, along, inside, IsPoint}
-use Rattle.def_remesh.specs.{NewPoints.point_at, NewSoup.new_coordinate, NewSoup.spaced_place, Spaced.spacing_by}
-use Rattle.def_map.specs.SpotPlaces.{coordinate_at, on_axes, spot_place}
-use Rattle.def_map.specs.{Laws.IsSpot, Laws.SpotLaw, Spots.spot_at, Spots.spot_of}
-use Rattle.map_laws.proofs.OldPoints.{corners, ends, old_low, AreCorners}
-use Rattle.map_laws.proofs.{Numbered.is_point, Parameters.rest_less, Parameters.u_less, Parameters.v_less}
-use Rattle.embedding_laws.proofs.MeshLayouts.{laid_of, lengths_of}
-use Rattle.written_laws.proofs.Grid.{wide_some, high_some}
+use Rattle.def_written.specs.{Spacings.IsSpacing, Points.Point, Points.node, Points.along, Points.inside}
+use Rattle.def_written.specs.{Points.IsPoint}
+use Rattle.def_remesh.specs.{NewPoints.point_at, NewSoup.new_coordinate, Spaced.spacing_by}
+use Rattle.def_map.specs.{SpotPlaces.coordinate_at, SpotPlaces.on_axes, SpotPlaces.spot_place, Laws.IsSpot}
+use Rattle.def_map.specs.{Laws.SpotLaw, Spots.spot_of}
+use Rattle.map_laws.proofs.{OldPoints.corners, OldPoints.ends, OldPoints.old_low, OldPoints.AreCorners, Cells.is_point}
+use Rattle.map_laws.proofs.{Parameters.rest_less, Parameters.u_less, Parameters.v_less}
+use Rattle.embedding_laws.proofs.Bounds.{laid_of, lengths_of}
+use Rattle.written_laws.proofs.Rims.{wide_some, high_some}
+use Rattle.{def_layoutnet.specs.MeshLayouts.IsSomeLayout, def_mesh.specs.Faces.Faces, def_text.specs.Types.Positions}
 
 -- The spot of a point lies in the mesh, and the place that is computed from it is that of the point.
 pub record IsSpotOf (faces : Faces) (layout : Layout) (shares : Option (List ℕ)) (new : Lengths) (point : Point) : Type

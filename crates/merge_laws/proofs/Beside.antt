@@ -1,21 +1,132 @@
--- What is merged beside marked lines keeps them.
-use Rattle.std.proofs.Common.{◌≡◌, ℕ, zero, suc, ◌<◌, Bool, true, false, not, eqb, ◌&&◌, ◌||◌, List}
-use Rattle.std.proofs.Common.{length, sym, ◌∙◌, ap, refl, inl, inr, arith}
-use Rattle.std.proofs.lemmas.Bool.{cases_Bool, or_left, or_right, or_cases, and_from, and_parts, eq-eqb, eqb-true}
-use Rattle.std.proofs.lemmas.Bool.{false≢true, false_from_ne_true}
-use Rattle.std.proofs.lemmas.List.{ext_get_or, length-map}
-use Rattle.std.proofs.lemmas.List.FromFn.{length-range_with_len, get_or-map-range_with_len}
+-- A full cut has at most one merged cut: each step is told by the cut before it.
+use Rattle.std.proofs.Common.{◌≡◌, ℕ, zero, suc, ◌<◌, Bool, true, false, List, length, sym, ◌∙◌, ap, subst, inl, inr}
+use Rattle.std.proofs.Common.{arith, not, eqb, ◌&&◌, ◌||◌, refl, map, replicate}
+use Rattle.std.proofs.lemmas.Bool.{cases_eq, cases_order, cases_Bool, or_left, or_right, or_cases, and_from, and_parts}
+use Rattle.std.proofs.lemmas.Bool.{eq-eqb, eqb-true, false≢true, false_from_ne_true}
+use Rattle.std.proofs.{lemmas.List.ext_get_or, lemmas.List.length-map, lemmas.List.length-replicate}
+use Rattle.std.proofs.{lemmas.List.FromFn.length-range_with_len, lemmas.List.FromFn.get_or-map-range_with_len}
 use Rattle.std.specs.List.{list_all, range_with_len}
-use Rattle.def_mesh.specs.{Faces.Faces, Darts.darts, Darts.all_darts, Darts.from_of, HalfEdges.HalfEdges}
-use Rattle.def_mesh.specs.{HalfEdges.IsQuadManifold, HalfEdges.half_edges, Manifold.IsManifold}
-use Rattle.def_cut.specs.{FullCut.is_on, Motion.is_among, Steps.easts}
+use Rattle.def_mesh.specs.{Faces.Faces, Darts.darts, Darts.all_darts, Darts.from_of, Darts.prev_of, HalfEdges.HalfEdges}
+use Rattle.def_mesh.specs.{HalfEdges.IsQuadManifold, HalfEdges.half_edges, Manifold.IsManifold, Vertices.fan_of}
+use Rattle.def_mesh.specs.{Vertices.all_vertices, Vertices.vertex_count}
+use Rattle.def_cut.specs.{Cuts.IsCut, FullCut.is_on, FullCut.IsFullCut, Motion.is_among, Steps.easts}
+use Rattle.mesh_laws.proofs.Chains.{manifold_law, prev_of_low}
+use Rattle.merge_laws.proofs.{Joins.on_or_not, Joins.other_way, Joins.less, Joins.join_law, Decided.AreOneArc}
+use Rattle.merge_laws.proofs.{Decided.one_arc}
+use Rattle.def_merge.specs.Merged.{IsStep, Steps, IsMerged, IsMergedBy, MayLeave, all_may, IsMergedCut}
+use Rattle.def_merge.specs.Beside.{is_on_arc, without, may_beside, MergedBesideLaw, HeldLaw}
+use Rattle.def_merge.specs.{Joins.IsOnArc, Laws.OneMergedLaw}
 use Rattle.def_feature.specs.{Beside.is_turn, Beside.IsCutBeside, Beside.is_kept, Beside.keeps_lines, Marks.is_break}
-use Rattle.def_merge.specs.{Beside.is_on_arc, Beside.without, Beside.may_beside, Beside.MergedBesideLaw, Joins.IsOnArc}
-use Rattle.def_merge.specs.Merged.{IsStep, Steps}
-use Rattle.mesh_laws.proofs.HalfEdges.{manifold_law}
-use Rattle.face_laws.proofs.FullCuts.{full_cut_law}
 use Rattle.motion_laws.proofs.Among.{any_at, any_where, all_at, not_all, among_range, range_among}
-use Rattle.merge_laws.proofs.{ArcDarts.on_or_not, OneMerged.IsCutOf, OneMerged.cut_reached}
+use Rattle.motion_laws.proofs.Marks.{none_on}
+use Rattle.feature_laws.proofs.{Breaks.in_fan, Breaks.from_fan, First.no_break, First.off}
+use Rattle.{face_laws.proofs.FullCuts.full_cut_law, sum_laws.proofs.Tests.same_test}
+
+-- An arc has the same darts from both sides.
+pub same_darts : (mesh : HalfEdges) (s t : ℕ) {n : ℕ} (r u : ℕ) {m : ℕ} (d : ℕ) → AreOneArc s t r u → n ≡ m
+    → IsOnArc mesh s t n d → IsOnArc mesh r u m d
+same_darts mesh s t r u {m} d (inl p) e o = rw (← p.0) (rw (← p.1) (rw e at o))
+same_darts mesh s t r u {m} d (inr p) e o =
+    other_way mesh u r m d (rw p.0 at (subst (λ (x : ℕ). IsOnArc mesh s x m d) p.1 (rw e at o)))
+
+-- A cut of these faces, as steps keep it.
+pub record IsCutOf (faces : Faces) (marks : List Bool) : Type 0 where
+  pub long : length marks ≡ darts faces
+  pub full : IsCut (half_edges faces) (is_on marks)
+
+module _ (faces : Faces) (may : MayLeave) (laws : IsQuadManifold (half_edges faces)) where
+  abbrev mesh : HalfEdges
+  mesh = half_edges faces
+
+  pub cut_after : {marks rest : List Bool} → IsCutOf faces marks → IsStep faces may marks rest → IsCutOf faces rest
+  cut_after {marks} {rest} cut step = record {
+    long = step.long ∙ cut.long;
+    full = join_law mesh (is_on marks) (is_on rest) step.near step.far step.size laws cut.full step.first.joinable
+        step.without;
+  }
+
+  one_step : (marks a b : List Bool) → IsCutOf faces marks → IsStep faces may marks a → IsStep faces may marks b → a ≡ b
+  one_step marks a b cut one two =
+      let a_first = one.first in
+      let b_first = two.first in
+      let one_least =
+      a_first.first two.near two.far two.size b_first.name b_first.joinable b_first.free b_first.named.on in
+      let two_least =
+      b_first.first one.near one.far one.size a_first.name a_first.joinable a_first.free a_first.named.on in
+      let names : one.first.name ≡ two.first.name = omega (arith, one_least, two_least) in
+      let arcs = one_arc mesh laws (is_on marks) cut.full one.near one.far one.size two.near two.far two.size
+      a_first.name a_first.joinable.glued b_first.joinable.glued a_first.named.on (rw names b_first.named.on) in
+      let back : AreOneArc two.near two.far one.near one.far =
+      elim arcs.0 [ inl p ↦ inl (sym p.0, sym p.1) | inr p ↦ inr (sym p.1, sym p.0) ] in
+      ext_get_or false a b (one.long ∙ sym two.long) (λ d h.
+      let l : d < darts faces = omega (arith, h, one.long, cut.long) in
+      elim (on_or_not mesh one.near one.far one.size d) [
+        | inl o ↦ one.without.gone d o ∙ sym (two.without.gone d
+            (same_darts mesh one.near one.far two.near two.far d arcs.0 arcs.1 o))
+        | inr none ↦ one.without.kept d l none ∙ sym (two.without.kept d l
+            (λ o. none (same_darts mesh two.near two.far one.near one.far d back (sym arcs.1) o)))
+      ])
+
+  pub cut_reached : {marks : List Bool} (a : List Bool) (i : ℕ) → IsCutOf faces marks → Steps faces may marks a i
+      → IsCutOf faces a
+  cut_reached a zero cut steps = rw (← steps) cut
+  cut_reached {marks} a (suc i) cut steps = cut_after (cut_reached steps.0 i cut steps.1) steps.2
+
+  -- What is left is a part of the cut.
+  pub part_reached : (marks a : List Bool) (i : ℕ) → IsCutOf faces marks → Steps faces may marks a i → (d : ℕ)
+      → d < darts faces → is_on a d ≡ true → is_on marks d ≡ true
+  part_reached marks a zero cut steps d l on = ap (λ (x : List Bool). is_on x d) steps ∙ on
+  part_reached marks a (suc i) cut steps d l on = part_reached marks steps.0 i cut steps.1 d l
+      (less mesh laws (is_on steps.0) (is_on a) steps.2.near steps.2.far steps.2.size steps.2.without d l on)
+
+  -- So many steps lead to one cut.
+  same_reached : {marks : List Bool} (a b : List Bool) (i : ℕ) → IsCutOf faces marks → Steps faces may marks a i
+      → Steps faces may marks b i → a ≡ b
+  same_reached a b zero cut one two = sym one ∙ two
+  same_reached {marks} a b (suc i) cut one two =
+      let same = same_reached two.0 one.0 i cut two.1 one.1 in
+      one_step one.0 a b (cut_reached one.0 i cut one.1) one.2 (rw same at two.2)
+
+  -- Fewer steps lead to a cut from which one more is taken.
+  NextAt : (marks : List Bool) (i : ℕ) → Type 0
+  NextAt marks i = (a : List Bool) × (c : List Bool) × Steps faces may marks a i × IsStep faces may a c
+
+  on_the_way : (marks b : List Bool) (j i : ℕ) → Steps faces may marks b j → i < j → NextAt marks i
+  unfolding NextAt
+  on_the_way marks b zero i steps l = absurd (omega arith)
+  on_the_way marks b (suc j) i steps l =
+      let rest : (i < j → NextAt marks i) = λ h. on_the_way marks steps.0 j i steps.1 h in
+      elim (cases_eq i j) [ inl e ↦ (steps.0, b, rw e steps.1, steps.2) | inr ne ↦ rest (omega arith) ]
+
+  no_more : (marks a b : List Bool) (i j : ℕ) → IsCutOf faces marks → Steps faces may marks a i → IsMerged faces may a
+      → Steps faces may marks b j → i < j → ⊥
+  unfolding NextAt
+  no_more marks a b i j cut one merged two l =
+      let n = on_the_way marks b j i two l in
+      let here = rw (same_reached n.0 a i cut n.2 one) at n.3 in
+      merged here.near here.far here.size here.first.joinable here.first.free
+
+  pub one_merged : (marks rest other : List Bool) → IsCutOf faces marks → IsMergedBy faces may marks rest
+      → IsMergedBy faces may marks other → rest ≡ other
+  one_merged marks rest other cut one two = elim (cases_order one.steps two.steps) [
+    | inl e ↦ same_reached rest other one.steps cut one.reached (rw e two.reached)
+    | inr o ↦ elim o [
+      | inl l ↦ absurd (no_more marks rest other one.steps two.steps cut one.reached one.merged two.reached l)
+      | inr l ↦ absurd (no_more marks other rest two.steps one.steps cut two.reached two.merged one.reached l)
+    ]
+  ]
+
+pub one_merged_law : OneMergedLaw
+one_merged_law faces may marks rest other manifold full one two =
+    let laws = manifold_law faces manifold in
+    let cut : IsCutOf faces marks =
+    record { long = full.long; full = ((full_cut_law faces marks manifold).0 full).1 } in
+    let after = cut_reached faces may laws rest one.steps cut one.reached in (
+      one_merged faces may laws marks rest other cut one two,
+      (full_cut_law faces rest manifold).1 (after.long, after.full),
+    )
+
+-- What is merged beside marked lines keeps them.
 
 -- The test of an arc's darts is what it says.
 pub on_arc : (mesh : HalfEdges) (s t n d : ℕ) → IsOnArc mesh s t n d → is_on_arc mesh s t n d ≡ true
@@ -131,3 +242,118 @@ beside_reached faces marks cut rest steps manifold beside reached =
 pub merged_beside_law : MergedBesideLaw
 merged_beside_law faces marks cut rest manifold beside merged =
     beside_reached faces marks cut rest merged.steps manifold beside merged.reached
+
+-- An arc that may not leave a cut beside marked lines may not leave a part of it, nor from its other side.
+
+-- A corner at v.
+abbrev pub Turn : (faces : Faces) (cut : List Bool) (v : ℕ) → Type 0
+Turn faces cut v = (e : ℕ) × (e < darts faces) × (from_of faces e ≡ v) × (is_on cut e ≡ true)
+    × (is_on cut (prev_of e) ≡ true)
+
+pub turn_there : (faces : Faces) (cut : List Bool) (v : ℕ) → is_turn faces cut v ≡ true → Turn faces cut v
+turn_there faces cut v y =
+    let found = any_where (λ d. is_on cut d && is_on cut (prev_of d)) (fan_of faces v) y in
+    let f = from_fan faces v found.0 found.1 in
+    let p = and_parts (is_on cut found.0) (is_on cut (prev_of found.0)) found.2 in
+    (found.0, f.0, f.1, p.0, p.1)
+
+pub turn_from : (faces : Faces) (cut : List Bool) (v : ℕ) → Turn faces cut v → is_turn faces cut v ≡ true
+turn_from faces cut v (d, l, at, on, before) = any_at (λ x. is_on cut x && is_on cut (prev_of x)) d (fan_of faces v)
+    (in_fan faces v d l at) (and_from _ _ on before)
+
+-- An arc that may not leave may not leave a part of the cut.
+pub held_law : HeldLaw
+held_law faces marks cut rest s t n more free = keeps_from faces marks (without faces cut s t n)
+    (λ d l on. grows d l (kept_from faces marks (without faces rest s t n) free d l on))
+    (λ d l y. turn_from faces (without faces cut s t n) (from_of faces d)
+    (turn_grows (from_of faces d) (turn_there faces (without faces rest s t n) (from_of faces d)
+    (turned_from faces marks (without faces rest s t n) free d l y))))
+  where
+    grows : (d : ℕ) → d < darts faces → is_on (without faces rest s t n) d ≡ true
+        → is_on (without faces cut s t n) d ≡ true
+    grows d l on =
+        let p = and_parts _ _ (sym (without_is faces rest s t n d l) ∙ on) in
+        without_is faces cut s t n d l ∙ and_from _ _ (more d p.0) p.1
+
+    turn_grows : (v : ℕ) → Turn faces (without faces rest s t n) v → Turn faces (without faces cut s t n) v
+    turn_grows v (e, l, at, on, before) = (e, l, at, grows e l on, grows (prev_of e) (prev_of_low faces e l) before)
+
+-- From its other side an arc may leave as well.
+pub turned_may : (faces : Faces) (marks cut : List Bool) (s t n : ℕ) → may_beside faces marks cut s t n ≡ true
+    → may_beside faces marks cut t s n ≡ true
+turned_may faces marks cut s t n y =
+    let mesh = half_edges faces in
+    let over : (s t d : ℕ) → is_on_arc (half_edges faces) s t n d ≡ true → is_on_arc (half_edges faces) t s n d ≡ true =
+    λ s t d o. on_arc mesh t s n d (other_way mesh s t n d (of_arc mesh s t n d o)) in
+    let same = ext_get_or false (without faces cut s t n) (without faces cut t s n)
+    (without_long faces cut s t n ∙ sym (without_long faces cut t s n)) (λ d h.
+    let l : d < darts faces = omega (arith, h, without_long faces cut s t n) in
+    without_is faces cut s t n d l ∙ (ap (λ b. is_on cut d && not b) (same_test _ _ (over s t d) (over t s d))
+    ∙ sym (without_is faces cut t s n d l))) in
+    ap (keeps_lines faces marks) (sym same) ∙ y
+
+-- Beside no marked edge all joinable arcs may leave.
+
+-- Where the same arcs may leave the same cuts are merged.
+module _ (faces : Faces) (may other : MayLeave)
+    (same : (cut : List Bool) (s t n : ℕ) → may cut s t n ≡ other cut s t n) where
+  step_alike : {cut rest : List Bool} → IsStep faces may cut rest → IsStep faces other cut rest
+  step_alike {cut} step = record {
+    near = step.near;
+    far = step.far;
+    size = step.size;
+    first = record {
+      joinable = step.first.joinable;
+      free = sym (same cut step.near step.far step.size) ∙ step.first.free;
+      name = step.first.name;
+      named = step.first.named;
+      first = λ r u m d arc free on. step.first.first r u m d arc (same cut r u m ∙ free) on;
+    };
+    long = step.long;
+    without = step.without;
+  }
+
+  steps_alike : (cut rest : List Bool) (n : ℕ) → Steps faces may cut rest n → Steps faces other cut rest n
+  steps_alike cut rest zero is = is
+  steps_alike cut rest (suc n) (between, before, step) = (between, steps_alike cut between n before, step_alike step)
+
+  pub merged_alike : (cut rest : List Bool) → IsMergedBy faces may cut rest → IsMergedBy faces other cut rest
+  merged_alike cut rest is = record {
+    steps = is.steps;
+    reached = steps_alike cut rest is.steps is.reached;
+    merged = λ s t n arc free. is.merged s t n arc (same rest s t n ∙ free);
+  }
+
+module _ (faces : Faces) where
+  abbrev no_marks : List Bool
+  no_marks = replicate (darts faces) false
+
+  pub none_held : (cut : List Bool) (s t n : ℕ) → may_beside faces (replicate (darts faces) false) cut s t n ≡ true
+  none_held cut s t n = keeps_from faces no_marks (without faces cut s t n) (λ d l on. absurd
+      (false≢true (sym (off faces d) ∙ on))) (λ d l y. absurd (false≢true (sym (no_break faces (from_of faces d)) ∙ y)))
+
+  -- A full cut keeps no marks.
+  pub none_beside : (cut : List Bool) → IsFullCut faces cut → IsCutBeside faces (replicate (darts faces) false) cut
+  none_beside cut full = record {
+    full = full;
+    kept = λ d l on. absurd (false≢true (sym (off faces d) ∙ on));
+    turned = λ d l y. absurd (false≢true (sym (no_break faces (from_of faces d)) ∙ y));
+  }
+
+  pub none_broken : replicate (vertex_count faces) false
+      ≡ map (is_break faces (replicate (darts faces) false)) (all_vertices faces)
+  none_broken =
+      let n = vertex_count faces in
+      ext_get_or false (replicate n false) (map (is_break faces no_marks) (all_vertices faces))
+      (length-replicate n false ∙ sym (length-map (all_vertices faces) (is_break faces no_marks)
+      ∙ length-range_with_len 0 n)) (λ v l. none_on n v ∙ sym (get_or-map-range_with_len (is_break faces no_marks) 0
+      n v v false (omega (arith, l, length-replicate n false)) (omega arith) ∙ no_break faces v))
+
+  -- What is merged beside no marks is merged, and the other way round.
+  pub none_merged : (cut rest : List Bool)
+      → IsMergedBy faces (may_beside faces (replicate (darts faces) false)) cut rest → IsMergedCut faces cut rest
+  none_merged = merged_alike faces (may_beside faces no_marks) all_may none_held
+
+  pub merged_none : (cut rest : List Bool) → IsMergedCut faces cut rest
+      → IsMergedBy faces (may_beside faces (replicate (darts faces) false)) cut rest
+  merged_none = merged_alike faces all_may (may_beside faces no_marks) (λ cut s t n. sym (none_held cut s t n))

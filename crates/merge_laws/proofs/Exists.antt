@@ -1,20 +1,15 @@
 -- Each full cut has a merged cut: each step leaves fewer darts.
-use Rattle.std.proofs.Common.{◌≡◌, ◌⊎◌, ℕ, zero, suc, ◌<◌, ◌≤◌, Bool, true, false, cond}
-use Rattle.std.proofs.Common.{List, sym, ◌∙◌, ap, refl, inl, inr, arith}
+use Rattle.std.proofs.Common.{◌≡◌, ◌⊎◌, ℕ, zero, suc, ◌<◌, ◌≤◌, Bool, true, cond, List, sym, ◌∙◌, ap, refl, inl, inr}
+use Rattle.std.proofs.Common.{arith}
 use Rattle.std.proofs.lemmas.Bool.{cases_lt}
-use Rattle.def_math.specs.Counts.{count_below}
-use Rattle.sum_laws.proofs.Counts.{count_below_lt}
 use Rattle.def_mesh.specs.{Faces.Faces, Darts.darts, HalfEdges.HalfEdges, HalfEdges.IsQuadManifold}
-use Rattle.def_mesh.specs.HalfEdges.{half_edges}
-use Rattle.def_cut.specs.FullCut.{is_on}
-use Rattle.mesh_laws.proofs.HalfEdges.{manifold_law}
-use Rattle.face_laws.proofs.FullCuts.{full_cut_law}
+use Rattle.def_mesh.specs.{HalfEdges.half_edges}
 use Rattle.def_merge.specs.{Joins.IsJoinable, Joins.IsOnArc, Laws.MergedLaw, Merged.IsMergedBy, Merged.IsStep}
-use Rattle.def_merge.specs.Merged.{Steps, MayLeave}
-use Rattle.def_merge.specs.Beside.{without}
-use Rattle.merge_laws.proofs.Beside.{left_at, without_long}
-use Rattle.merge_laws.proofs.{ArcDarts.on_cut, ArcDarts.on_low, ArcDarts.on_or_not, OneMerged.IsCutOf}
-use Rattle.merge_laws.proofs.{OneMerged.cut_after, Decided.Over, Decided.least_or_none}
+use Rattle.def_merge.specs.{Merged.Steps, Merged.MayLeave, Beside.without}
+use Rattle.merge_laws.proofs.{Beside.left_at, Beside.without_long, Beside.IsCutOf, Beside.cut_after, Joins.on_cut}
+use Rattle.merge_laws.proofs.{Joins.on_low, Joins.on_or_not, Decided.Over, Decided.least_or_none}
+use Rattle.{def_math.specs.Counts.count_below, sum_laws.proofs.Sums.count_below_lt, def_cut.specs.FullCut.is_on}
+use Rattle.{mesh_laws.proofs.Chains.manifold_law, face_laws.proofs.FullCuts.full_cut_law}
 
 module _ (faces : Faces) (may : MayLeave) (laws : IsQuadManifold (half_edges faces)) where
   abbrev mesh : HalfEdges

@@ -1,20 +1,18 @@
 -- Without a joinable arc there is one patch less.
 use Rattle.std.proofs.Common.{◌≡◌, ◌≢◌, ◌⊎◌, ℕ, zero, suc, ◌+◌, ◌-◌, ◌<◌, ◌≤◌, ◌==◌, Bool, true, false, not, List}
-use Rattle.std.proofs.Common.{length, Some, sym, ◌∙◌, ap, refl, inl, inr, true≢false, arith}
-use Rattle.std.proofs.lemmas.Bool.{cases_eq, eq-eqb, ne_eqb}
-use Rattle.std.proofs.lemmas.Option.{same_Some}
-use Rattle.def_math.specs.Counts.{count_below}
-use Rattle.sum_laws.proofs.Counts.{count_below_one, count_below_ones, count_below_same, count_below_sum}
-use Rattle.written_laws.proofs.Tallies.{one_if, passing, passing_all, passing_le}
+use Rattle.std.proofs.Common.{length, sym, ◌∙◌, ap, refl, inl, inr, true≢false, arith}
+use Rattle.std.proofs.{lemmas.Bool.cases_eq, lemmas.Bool.eq-eqb, lemmas.Bool.ne_eqb, lemmas.Option.same_Some}
+use Rattle.sum_laws.proofs.Sums.{count_below_one, count_below_ones, count_below_same, count_below_sum}
+use Rattle.written_laws.proofs.Spacings.{one_if, passing, passing_all, passing_le}
 use Rattle.def_mesh.specs.HalfEdges.{HalfEdges, IsQuadManifold}
-use Rattle.def_cut.specs.{Cuts.Cut, Cuts.Links, Cuts.IsCut, Grids.IsGrid, Grids.IsPartition}
-use Rattle.def_cut.specs.{Grids.Rectangle, Grids.cell_of, Grids.patch_at, Steps.easts}
-use Rattle.cut_laws.specs.Grown.{grown}
+use Rattle.def_cut.specs.{Cuts.Cut, Cuts.Links, Cuts.IsCut, Grids.IsGrid, Grids.IsPartition, Grids.Rectangle}
+use Rattle.def_cut.specs.{Grids.cell_of, Grids.patch_at, Steps.easts}
 use Rattle.cut_laws.proofs.Classes.{links_join, links_low, linked_back, linked_in, step_next, step_over}
 use Rattle.def_merge.specs.{Joins.AreInOne, Joins.IsJoinable, Joins.IsOnArc, Joins.IsWholeSide, Joins.IsWithout}
-use Rattle.def_merge.specs.Laws.{FewerLaw}
-use Rattle.merge_laws.proofs.{Classes.IsIn, Classes.one_place_of, ArcDarts.links_less, ArcDarts.on_low}
-use Rattle.merge_laws.proofs.{ArcDarts.on_or_not, ArcDarts.on_twin, Joins.join_law, Sides.grid_on}
+use Rattle.def_merge.specs.{Laws.FewerLaw}
+use Rattle.merge_laws.proofs.Joins.{IsIn, one_place_of, links_less, on_low, on_or_not, on_twin, join_law}
+use Rattle.merge_laws.proofs.Sides.{grid_on}
+use Rattle.{def_math.specs.Counts.count_below, cut_laws.specs.Grown.grown}
 
 -- All numbers below a bound but one.
 one_less : (u m : ℕ) → u < m → suc (passing (λ k. not (k == u)) m) ≡ m

@@ -1,20 +1,18 @@
 -- What is joinable in a layout is joinable in its cut.
-use Rattle.std.proofs.Common.{◌≡◌, ℕ, suc, ◌+◌, ◌-◌, ◌<◌, Bool, true, false, not, Some, sym, ◌∙◌, ap, refl}
-use Rattle.std.proofs.Common.{arith}
-use Rattle.def_mesh.specs.{HalfEdges.HalfEdges, HalfEdges.IsQuadManifold}
-use Rattle.def_cut.specs.{Cuts.Cut, Cuts.IsCut, Grids.IsGrid, Grids.Rectangle, Grids.cell_of}
-use Rattle.def_cut.specs.{Grids.patch_at, Steps.easts}
-use Rattle.cut_laws.proofs.{Darts.prev_three, Classes.In, Classes.in_low}
+use Rattle.std.proofs.Common.{◌≡◌, ℕ, suc, ◌+◌, ◌-◌, ◌<◌, Bool, true, false, not, Some, sym, ◌∙◌, ap, refl, arith}
+use Rattle.def_mesh.specs.HalfEdges.{HalfEdges, IsQuadManifold}
+use Rattle.def_cut.specs.{Cuts.Cut, Cuts.IsCut, Grids.IsGrid, Grids.Rectangle, Grids.cell_of, Grids.patch_at}
+use Rattle.def_cut.specs.{Steps.easts}
+use Rattle.cut_laws.proofs.{Folds.prev_three, Classes.In, Classes.in_low}
+use Rattle.def_layout.specs.Gluings.{Way, south, east, north, west, Gluing, Slot, IsSlot, use_of}
 use Rattle.def_layout.specs.{Arcs.path_at, Arcs.long_at, Arcs.dart_at, Arcs.LiesAt, Borders.side_size}
-use Rattle.def_layout.specs.{Borders.border_dart, Gluings.Way, Gluings.south, Gluings.east, Gluings.north, Gluings.west}
-use Rattle.def_layout.specs.Gluings.{Gluing}
-use Rattle.def_layout.specs.{Gluings.Slot, Gluings.IsSlot, Gluings.use_of, Lengths.reach, Layouts.Layout}
-use Rattle.def_layout.specs.Layouts.{gluing_of, IsDartLayout}
-use Rattle.mesh_laws.proofs.HalfEdges.{manifold_law}
-use Rattle.face_laws.proofs.FullCuts.{full_cut_law}
-use Rattle.merge_laws.proofs.Sides.{south_side, east_side, north_side, west_side, along_south}
-use Rattle.merge_laws.proofs.{Sides.along_east, Sides.along_north, Sides.along_west, Classes.one_place_of}
+use Rattle.def_layout.specs.{Borders.border_dart, Lengths.reach, Layouts.Layout, Layouts.gluing_of}
+use Rattle.def_layout.specs.{Layouts.IsDartLayout}
+use Rattle.merge_laws.proofs.Sides.{south_side, east_side, north_side, west_side, along_south, along_east, along_north}
+use Rattle.merge_laws.proofs.Sides.{along_west}
+use Rattle.merge_laws.proofs.Joins.{one_place_of}
 use Rattle.def_merge.specs.{Joins.IsWholeSide, Joins.AreInOne, Joins.IsJoinable, Layouts.IsJoinableAt, Laws.JoinableLaw}
+use Rattle.{mesh_laws.proofs.Chains.manifold_law, face_laws.proofs.FullCuts.full_cut_law}
 
 -- A side of a patch: the whole of it, dart by dart.
 pub record IsBorder (mesh : HalfEdges) (cut : Cut) (p : Rectangle) (side : Way) : Type 0 where

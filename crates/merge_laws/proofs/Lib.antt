@@ -1,14 +1,8 @@
 pub mod Sides
-pub mod ArcDarts
 pub mod Joins
-pub mod Arcs
-pub mod Classes
 pub mod Layouts
-pub mod OneMerged
 pub mod Fewer
 pub mod Decided
 pub mod Exists
 pub mod Beside
-pub mod Held
 pub mod Spared
-pub mod NoLines

@@ -1,16 +1,14 @@
 -- Whole sides of patches: each cut dart lies on one, at one place, and the four of a patch follow each other.
-use Rattle.std.proofs.Common.{◌≡◌, ◌⊎◌, ℕ, zero, suc, ◌+◌, ◌-◌, ◌<◌, true, false, Some, sym, ◌∙◌, ap, refl, inl}
-use Rattle.std.proofs.Common.{inr, true≢false, arith}
+use Rattle.std.proofs.Common.{◌≡◌, ◌⊎◌, ℕ, zero, suc, ◌+◌, ◌-◌, ◌<◌, true, false, Some, sym, ◌∙◌, ap, refl, inl, inr}
+use Rattle.std.proofs.Common.{true≢false, arith}
 use Rattle.std.proofs.lemmas.Bool.{cases_eq}
 use Rattle.def_mesh.specs.HalfEdges.{HalfEdges, IsQuadManifold}
-use Rattle.def_cut.specs.{Cuts.Cut, Cuts.IsCorner, Cuts.IsCut, Grids.Cells, Grids.IsGrid, Steps.spin}
-use Rattle.def_cut.specs.Steps.{or_zero, step_east, easts}
-use Rattle.cut_laws.specs.Grown.{grown, IsRow}
-use Rattle.cut_laws.proofs.{Darts.prev_three, Darts.next_same, Darts.twin_same, Rows.east_twin, Rows.west_off}
-use Rattle.cut_laws.proofs.{Rows.row_low, Rows.row_south, Folds.west, Folds.south, Folds.west_open, Folds.south_open}
-use Rattle.cut_laws.proofs.Classes.{In, linked_back, closed, first_in}
-use Rattle.cut_laws.proofs.{Grown.grow, Grown.grown_grid, Increasing.same_if}
-use Rattle.def_merge.specs.Joins.{IsWholeSide}
+use Rattle.def_cut.specs.{Cuts.Cut, Cuts.IsCorner, Cuts.IsCut, Grids.Cells, Grids.IsGrid, Steps.spin, Steps.or_zero}
+use Rattle.def_cut.specs.{Steps.step_east, Steps.easts}
+use Rattle.cut_laws.proofs.Folds.{prev_three, next_same, twin_same, west, south, west_open, south_open}
+use Rattle.cut_laws.proofs.{Rows.east_twin, Rows.west_off, Rows.row_low, Rows.row_south, Rows.grow, Rows.grown_grid}
+use Rattle.cut_laws.proofs.{Classes.In, Classes.linked_back, Classes.closed, Classes.first_in, Pigeon.same_if}
+use Rattle.{cut_laws.specs.Grown.grown, cut_laws.specs.Grown.IsRow, def_merge.specs.Joins.IsWholeSide}
 
 -- One step on, and then straight on.
 pub easts_front : (mesh : HalfEdges) (d i : ℕ) → easts mesh (step_east mesh d) i ≡ easts mesh d (suc i)

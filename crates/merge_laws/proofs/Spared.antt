@@ -1,23 +1,19 @@
 -- Whether an arc may leave beside marked lines is told at its darts and its two ends.
-use Rattle.std.proofs.Common.{◌≡◌, ◌⊎◌, ℕ, zero, suc, ◌+◌, ◌-◌, ◌<◌, Bool, true, false, List}
-use Rattle.std.proofs.Common.{Some, sym, ◌∙◌, ap, subst, refl, inl, inr, arith}
-use Rattle.std.proofs.lemmas.Bool.{false≢true, false_from_ne_true}
-use Rattle.std.proofs.lemmas.Option.{same_Some}
+use Rattle.std.proofs.Common.{◌≡◌, ◌⊎◌, ℕ, zero, suc, ◌+◌, ◌-◌, ◌<◌, Bool, true, false, List, Some, sym, ◌∙◌, ap, subst}
+use Rattle.std.proofs.Common.{refl, inl, inr, arith}
+use Rattle.std.proofs.{lemmas.Bool.false≢true, lemmas.Bool.false_from_ne_true, lemmas.Option.same_Some}
 use Rattle.def_mesh.specs.{Faces.Faces, Darts.darts, Darts.from_of, Darts.next_of, Darts.prev_of, Darts.twin_of}
 use Rattle.def_mesh.specs.{HalfEdges.HalfEdges, HalfEdges.IsQuadManifold, HalfEdges.half_edges, Manifold.IsManifold}
 use Rattle.def_cut.specs.{Cuts.IsCorner, Cuts.IsCut, FullCut.is_on, Steps.easts}
 use Rattle.def_feature.specs.{Beside.IsCutBeside, Beside.keeps_lines, Marks.AreMarks, Marks.is_break}
-use Rattle.def_merge.specs.Beside.{without, IsEndFree, IsSpared, SparedLaw}
-use Rattle.def_merge.specs.Joins.{AreGlued, IsJoinable, IsOnArc, IsWithout}
+use Rattle.def_merge.specs.{Beside.without, Beside.IsEndFree, Beside.IsSpared, Beside.SparedLaw, Joins.AreGlued}
+use Rattle.def_merge.specs.{Joins.IsJoinable, Joins.IsOnArc, Joins.IsWithout}
 use Rattle.cut_laws.proofs.Crosses.{one_of_four, low_a, low_b, low_c, at_a, at_b}
-use Rattle.mesh_laws.proofs.HalfEdges.{manifold_law}
-use Rattle.face_laws.proofs.FullCuts.{full_cut_law}
 use Rattle.feature_laws.proofs.Breaks.{break_cross, two_ways}
-use Rattle.merge_laws.proofs.Beside.{keeps_from, kept_from, left_at, turned_from}
-use Rattle.merge_laws.proofs.ArcDarts.{less, on_or_not, on_low, on_twin, still, turned_glued}
-use Rattle.merge_laws.proofs.Joins.{join_law, crossed_at}
+use Rattle.merge_laws.proofs.Beside.{keeps_from, kept_from, left_at, turned_from, Turn, turn_there, turn_from}
+use Rattle.merge_laws.proofs.Joins.{less, on_or_not, on_low, on_twin, still, turned_glued, join_law, crossed_at}
 use Rattle.merge_laws.proofs.Sides.{side_low, side_link, side_before}
-use Rattle.merge_laws.proofs.Held.{Turn, turn_there, turn_from}
+use Rattle.{mesh_laws.proofs.Chains.manifold_law, face_laws.proofs.FullCuts.full_cut_law}
 
 module _ (faces : Faces) (m : IsManifold faces) (marks : List Bool) (marked : AreMarks faces marks) (cut : List Bool)
     (beside : IsCutBeside faces marks cut) where

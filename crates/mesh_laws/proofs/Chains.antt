@@ -1,11 +1,54 @@
--- Chains of neighbours round a vertex: their steps, their ends, one after another, and back.
-use Rattle.std.proofs.Common.{◌≡◌, ◌≢◌, ◌⊎◌, ℕ, zero, suc, ◌+◌, ◌/◌, ◌%◌, ◌<◌, Bool, true, false, not, [], ◌∷◌, sym}
-use Rattle.std.proofs.Common.{subst, ap, ◌∙◌, refl, inl, inr, arith}
-use Rattle.std.proofs.{lemmas.Bool.cases_lt, lemmas.Bool.Decides.nat_tests}
-use Rattle.def_mesh.specs.Faces.{Faces, corner}
-use Rattle.def_mesh.specs.Darts.{darts, from_of, to_of, next_of, prev_of, IsTwin}
+-- The steps round a face.
+use Rattle.std.proofs.Common.{◌≡◌, ℕ, ◌+◌, ◌/◌, ◌%◌, ◌-◌, ◌<◌, ◌≤◌, ap, ◌∙◌, arith, ◌≢◌, ◌⊎◌, zero, suc, Bool, true}
+use Rattle.std.proofs.Common.{false, not, [], ◌∷◌, sym, subst, refl, inl, inr, eqb, List, length, get_or, Some, None}
+use Rattle.std.proofs.lemmas.Bool.{cases_lt, cases_eq, eq-eqb, eqb-true, and_parts, and_from, false_from_ne_true}
+use Rattle.std.proofs.lemmas.Bool.Decides.{nat_tests}
+use Rattle.def_mesh.specs.Darts.{darts, next_of, prev_of, from_of, to_of, IsTwin, is_reverse, twin_of}
 use Rattle.def_mesh.specs.Manifold.{IsRepeatFree, HasEdgesOnce, AreNeighbours, Chain, meet}
-use Rattle.mesh_laws.proofs.Darts.{prev_of_low, next_of-prev_of, next_face, next_place, next_first}
+use Rattle.def_mesh.specs.{Faces.Faces, Faces.corner, Vertices.fan_of, HalfEdges.AreTurned, HalfEdges.Turns}
+use Rattle.def_mesh.specs.{HalfEdges.half_edges, HalfEdges.ManifoldLaw}
+use Rattle.list_laws.proofs.Filters.{kept_at, place_of, rises, find_none, find_one, find_passes}
+
+-- The dart after a dart is a dart, and so is the one before.
+pub next_of_low : (faces : Faces) (d : ℕ) → d < darts faces → next_of d < darts faces
+next_of_low faces d l = grind (arith, nat_tests)
+
+pub prev_of_low : (faces : Faces) (d : ℕ) → d < darts faces → prev_of d < darts faces
+prev_of_low faces d l = grind (arith, nat_tests)
+
+-- Each undoes the other.
+pub prev_of-next_of : (d : ℕ) → prev_of (next_of d) ≡ d
+prev_of-next_of d = grind (arith, nat_tests)
+
+pub next_of-prev_of : (d : ℕ) → next_of (prev_of d) ≡ d
+next_of-prev_of d = grind (arith, nat_tests)
+
+-- The next dart belongs to the same face, and begins at its next corner.
+pub next_face : (d : ℕ) → next_of d / 4 ≡ d / 4
+next_face d = grind (arith, nat_tests)
+
+pub next_place : (d : ℕ) → d % 4 < 3 → next_of d % 4 ≡ d % 4 + 1
+next_place d l = grind (arith, nat_tests)
+
+pub next_first : (d : ℕ) → d % 4 ≡ 3 → next_of d % 4 ≡ 0
+next_first d e = grind (arith, nat_tests)
+
+pub two_on : (d : ℕ) → (d % 4 < 2 → next_of (next_of d) % 4 ≡ d % 4 + 2)
+    × (2 ≤ d % 4 → next_of (next_of d) % 4 ≡ d % 4 - 2)
+two_on d = (λ l. grind (arith, nat_tests), λ l. grind (arith, nat_tests))
+
+-- Four steps lead back.
+pub four_steps : (d : ℕ) → next_of (next_of (next_of (next_of d))) ≡ d
+four_steps d = grind (arith, nat_tests)
+
+-- The dart before one that leaves v arrives there.
+pub before_ends : (faces : Faces) (v d e : ℕ) → e ≡ prev_of d → from_of faces d ≡ v → to_of faces e ≡ v
+before_ends faces v d e is leaves = ap (to_of faces) is ∙ ap (from_of faces) (next_of-prev_of d) ∙ leaves
+
+pub before_low : (faces : Faces) (d e : ℕ) → e ≡ prev_of d → d < darts faces → e < darts faces
+before_low faces d e is l = omega (arith, is, prev_of_low faces d l)
+
+-- Chains of neighbours round a vertex: their steps, their ends, one after another, and back.
 
 -- The ends of a dart differ.
 pub ends_differ : (faces : Faces) → IsRepeatFree faces → (d : ℕ) → d < darts faces → from_of faces d ≢ to_of faces d
@@ -102,3 +145,109 @@ pub step_once : (faces : Faces) → HasEdgesOnce faces → (left : Bool) (d e k 
 step_once faces once true d e k l m h s t = once e k m h (s.1 ∙ sym t.1, s.2 ∙ sym t.2)
 step_once faces once false d e k l m h s t = sym (next_of-prev_of e) ∙ ap next_of (once (prev_of e) (prev_of k)
     (prev_of_low faces e m) (prev_of_low faces k h) (sym s.2 ∙ t.2, sym s.1 ∙ t.1)) ∙ next_of-prev_of k
+
+-- The fan of a vertex by places.
+
+-- The fan of v by places: its entries are the darts that leave v, each at one place, increasing.
+pub record IsFan (faces : Faces) (v : ℕ) (fan : List ℕ) : Type 0 where
+  pub dart : (t : ℕ) → t < length fan → get_or fan t 0 < darts faces
+  pub leaves : (t : ℕ) → t < length fan → from_of faces (get_or fan t 0) ≡ v
+  pub place : (d : ℕ) → d < darts faces → from_of faces d ≡ v → (t : ℕ) × (t < length fan) × (get_or fan t 0 ≡ d)
+  pub increasing : (s t : ℕ) → s < t → t < length fan → get_or fan s 0 < get_or fan t 0
+
+pub fan_of_is : (faces : Faces) (v : ℕ) → IsFan faces v (fan_of faces v)
+fan_of_is faces v =
+    let leaves = λ (d : ℕ). eqb (from_of faces d) v in
+    let kept = kept_at leaves 0 (darts faces) in
+    record {
+      dart = λ t l. omega (arith, (kept t l).high);
+      leaves = λ t l. eqb-true _ v (kept t l).passes;
+      place = λ d l e. place_of leaves 0 (darts faces) d
+          (record { low = omega arith; high = omega arith; passes = eq-eqb _ v e });
+      increasing = rises leaves 0 (darts faces);
+    }
+
+pub is_fan : (faces : Faces) (v : ℕ) (fan : List ℕ) → fan ≡ fan_of faces v → IsFan faces v fan
+is_fan faces v fan e = subst (λ (xs : List ℕ). IsFan faces v xs) (sym e) (fan_of_is faces v)
+
+-- A dart that leaves v and is less than that at place i has an earlier place.
+pub earlier_place : (faces : Faces) (v : ℕ) (fan : List ℕ) → IsFan faces v fan → (i j : ℕ) → i < length fan
+    → j < get_or fan i 0 → from_of faces j ≡ v → (t : ℕ) × (t < i) × (get_or fan t 0 ≡ j)
+earlier_place faces v fan h i j l m e =
+    let (t, low, s) = h.place j (omega (arith, h.dart i l)) e in
+    elim (cases_lt t i) [
+      | inl b ↦ (t, b, s)
+      | inr b ↦ absurd (elim (cases_eq i t) [
+        | inl q ↦ omega (arith, ap (λ x. get_or fan x 0) q)
+        | inr ne ↦ omega (arith, h.increasing i t (omega arith) low)
+      ])
+    ]
+
+-- The twin that a search finds is the dart with the ends exchanged.
+
+pub reverse_twin : (faces : Faces) (d e : ℕ) → e < darts faces → is_reverse faces d e ≡ true → IsTwin faces d e
+reverse_twin faces d e l r = (l, eqb-true _ _ (and_parts _ _ r).0, eqb-true _ _ (and_parts _ _ r).1)
+
+pub twin_reverse : (faces : Faces) (d e : ℕ) → IsTwin faces d e → is_reverse faces d e ≡ true
+twin_reverse faces d e is = and_from _ _ (eq-eqb _ _ is.1) (eq-eqb _ _ is.2)
+
+-- With each edge once, the twin is that dart that has the ends exchanged.
+pub twin_found : (faces : Faces) → HasEdgesOnce faces → (d e : ℕ) → IsTwin faces d e → twin_of faces d ≡ Some e
+twin_found faces once d e is = find_one (is_reverse faces d) 0 (darts faces) e (omega arith) (omega (arith, is.0))
+    (twin_reverse faces d e is) (λ y l h r. let t : IsTwin faces d y = reverse_twin faces d y (omega arith) r in
+    once y e t.0 is.0 (t.1 ∙ sym is.1, t.2 ∙ sym is.2))
+
+pub twin_none : (faces : Faces) (d : ℕ) → ((e : ℕ) → ¬ IsTwin faces d e) → twin_of faces d ≡ None
+twin_none faces d none = find_none (is_reverse faces d) 0 (darts faces)
+    (λ x l h. false_from_ne_true (is_reverse faces d x) (λ r. none x (reverse_twin faces d x (omega arith) r)))
+
+-- What is told to be the twin has the ends exchanged.
+pub twin_is : (faces : Faces) (d e : ℕ) → twin_of faces d ≡ Some e → IsTwin faces d e
+twin_is faces d e t = let f = find_passes (is_reverse faces d) 0 (darts faces) e t in
+    reverse_twin faces d e (omega (arith, f.1)) f.0
+
+-- The half edges of a manifold list are those of a manifold of quads.
+
+-- Opposite corners of a face differ.
+opposite_differ : (faces : Faces) → IsRepeatFree faces → (d : ℕ) → d < darts faces
+    → from_of faces d ≢ from_of faces (next_of (next_of d))
+opposite_differ faces free d l same =
+    let over = λ (i : ℕ) (e : next_of (next_of d) % 4 ≡ i). ap (λ f. corner faces f (next_of (next_of d) % 4))
+    (next_face (next_of d) ∙ next_face d) ∙ ap (corner faces (d / 4)) e in
+    elim (cases_lt (d % 4) 2) [
+      | inl b ↦ free (d / 4) (d % 4) (d % 4 + 2) (omega arith) (omega arith) (omega arith)
+          (same ∙ over (d % 4 + 2) ((two_on d).0 b))
+      | inr b ↦ free (d / 4) (d % 4 - 2) (d % 4) (omega arith) (omega arith) (omega arith)
+          (sym (over (d % 4 - 2) ((two_on d).1 b)) ∙ sym same)
+    ]
+
+-- A chain of neighbours is made of turns.
+chain_turns : (faces : Faces) → HasEdgesOnce faces → (d e n : ℕ) → d < darts faces → Chain faces d e n
+    → (k : ℕ) × Turns (half_edges faces) d e k
+chain_turns faces once d e zero l c = (0, c)
+chain_turns faces once d e (suc n) l c =
+    let t = chain_turns faces once d c.0 n l c.1 in
+    elim (neighbour_step faces once c.0 e (chain_low faces d c.0 n l c.1) c.2 c.3 c.4) [
+      | inl q ↦ (t.0, subst (λ (x : ℕ). Turns (half_edges faces) d x t.0) q t.1)
+      | inr s ↦ (suc t.0, (c.0, t.1, c.2, turned c.0 s.0 s.1))
+    ]
+  where
+    turned : (b : ℕ) (left : Bool) → Step faces left b e → AreTurned (half_edges faces) b e
+    turned b true s = inl (twin_found faces once (prev_of b) e s)
+    turned b false s = inr (twin_found faces once (prev_of e) b s)
+
+pub manifold_law : ManifoldLaw
+manifold_law faces m = record {
+  next_low = next_of_low faces;
+  prev_low = prev_of_low faces;
+  prev_next = prev_of-next_of;
+  next_prev = next_of-prev_of;
+  four_sides = four_steps;
+  corners_differ = λ d l. (ends_differ faces m.repeat_free d l, opposite_differ faces m.repeat_free d l);
+  twin_low = λ d e l t. (twin_is faces d e t).0;
+  twin_twin = λ d e l t. let s = twin_is faces d e t in twin_found faces m.edges_once e d (l, sym s.2, sym s.1);
+  twin_ends = λ d e l t. let s = twin_is faces d e t in (s.1, s.2);
+  twin_found = λ d e l h a b. twin_found faces m.edges_once d e (h, a, b);
+  one_fan = λ d e l h s. let c = m.one_fan (from_of faces d) d e l h refl (sym s) in
+      chain_turns faces m.edges_once d e c.0 l c.1;
+}

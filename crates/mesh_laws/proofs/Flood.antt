@@ -1,18 +1,19 @@
 -- The flood of a component is exact: it marks just the faces to which chains of shared edges lead.
 use Rattle.std.proofs.Common.{◌≡◌, ◌⊎◌, ℕ, zero, suc, ◌*◌, ◌<◌, ◌≤◌, Bool, true, false, not, cond, eqb, ◌&&◌, ◌||◌, map}
-use Rattle.std.proofs.Common.{length, sym, subst, ap, ◌∙◌, refl, inl, inr, arith}
+use Rattle.std.proofs.Common.{length, sym, subst, ap, ◌∙◌, refl, inl, inr, arith, List, [], ◌∷◌, get_or}
 use Rattle.std.proofs.lemmas.Bool.{not-true, eq-eqb, eqb-true, cases_Bool, cases_lt, or_left, or_right, or_cases}
 use Rattle.std.proofs.lemmas.Bool.{and_parts, and_from, false≢true, not_from_false}
-use Rattle.std.proofs.lemmas.List.{length-map}
-use Rattle.std.proofs.lemmas.List.FromFn.{length-range_with_len, get_or-map-range_with_len}
-use Rattle.std.proofs.lemmas.List.Sums.{passes_at_first, fails_before_first}
+use Rattle.std.proofs.{lemmas.List.length-map, lemmas.List.FromFn.length-range_with_len}
+use Rattle.std.proofs.{lemmas.List.FromFn.get_or-map-range_with_len, lemmas.List.Sums.passes_at_first}
+use Rattle.std.proofs.{lemmas.List.Sums.fails_before_first, lemmas.List.Filters.length-filter_both}
 use Rattle.std.specs.List.{list_any, range_with_len, position_or_len}
-use Rattle.sum_laws.proofs.Tests.{once_at_most, same_test}
-use Rattle.sum_laws.proofs.Counts.{count_below_lt, count_below_le, count_below_none, count_below_ones}
+use Rattle.sum_laws.proofs.{Sums.count_below_lt, Sums.count_below_le, Sums.count_below_none, Sums.count_below_ones}
+use Rattle.sum_laws.proofs.{Tests.once_at_most, Tests.same_test}
 use Rattle.def_math.specs.Counts.{count_below}
 use Rattle.list_laws.proofs.Filters.{any_in_range, range_any, map_range_same}
 use Rattle.def_mesh.specs.Components.{share_edge, is_marked, within, component_of, least_face}
-use Rattle.def_mesh.specs.{Faces.Faces, Faces.all_faces, Darts.from_of, Darts.to_of, Darts.is_reverse}
+use Rattle.def_mesh.specs.{Faces.Faces, Faces.all_faces, Darts.from_of, Darts.to_of, Darts.is_reverse, Darts.darts}
+use Rattle.def_mesh.specs.{Darts.all_darts, Vertices.above_all, Vertices.vertex_count, Vertices.faces_at}
 
 -- So many shared edges lead from face f to face g.
 abbrev pub Shares : (faces : Faces) (f g edges : ℕ) → Type 0
@@ -196,3 +197,40 @@ module _ (faces : Faces) where
 
   pub least_again : (f : ℕ) → f < length faces → least_face faces (least_face faces f) ≡ least_face faces f
   least_again f l = least_same f (least_face faces f) l (least_low f l) (least_marked f l)
+
+-- The number of vertices, and the length of a fan.
+
+-- Each number of a list is below the bound, which is the least.
+pub below_bound : (xs : List ℕ) (i : ℕ) → i < length xs → get_or xs i 0 < above_all xs
+below_bound [] i l = absurd (omega arith)
+below_bound (x ∷ xs) zero l = omega arith
+below_bound (x ∷ xs) (suc i) l = omega (arith, below_bound xs i (omega arith))
+
+pub least_bound : (xs : List ℕ) (n : ℕ) → ((i : ℕ) → i < length xs → get_or xs i 0 < n) → above_all xs ≤ n
+least_bound [] n below = omega arith
+least_bound (x ∷ xs) n below =
+    omega (arith, below 0 (omega arith), least_bound xs n (λ i l. below (suc i) (omega arith)))
+
+pub from_at : (faces : Faces) (d : ℕ) → d < darts faces → get_or (map (from_of faces) (all_darts faces)) d 0
+    ≡ from_of faces d
+from_at faces d l = get_or-map-range_with_len (from_of faces) 0 (darts faces) d d 0 l (omega arith)
+
+pub from_count : (faces : Faces) → length (map (from_of faces) (all_darts faces)) ≡ darts faces
+from_count faces = length-map (all_darts faces) (from_of faces) ∙ length-range_with_len 0 (darts faces)
+
+-- Each corner is a vertex.
+pub all_below : (faces : Faces) → (d : ℕ) → d < darts faces → from_of faces d < vertex_count faces
+all_below faces d l =
+    let low = below_bound (map (from_of faces) (all_darts faces)) d (omega (arith, from_count faces)) in
+    omega (arith, from_at faces d l)
+
+pub count_least : (faces : Faces) (n : ℕ) → ((d : ℕ) → d < darts faces → from_of faces d < n) → vertex_count faces ≤ n
+count_least faces n within = least_bound (map (from_of faces) (all_darts faces)) n (λ i l.
+    let low : i < darts faces = omega (arith, from_count faces) in omega (arith, from_at faces i low, within i low))
+
+-- A fan has at most all darts.
+pub fan_short : (faces : Faces) (v : ℕ) → faces_at faces v ≤ darts faces
+fan_short faces v =
+    let both = length-filter_both (λ d. eqb (from_of faces d) v) (λ d. not (eqb (from_of faces d) v)) (λ d. refl)
+    (all_darts faces) in
+    omega (arith, length-range_with_len 0 (darts faces))

@@ -1,10 +1,7 @@
 pub mod Among
-pub mod Terrains
 pub mod Bits
-pub mod Next
 pub mod Steps
 pub mod Onward
-pub mod Traced
 pub mod Marks
 pub mod Shown
 pub mod Order

@@ -1,18 +1,15 @@
 -- Lists of marks and of riders by index, and lists of darts that differ.
-use Rattle.std.proofs.Common.{◌≡◌, ◌⊎◌, ℕ, zero, suc, ◌<◌, ◌≤◌, Bool, true, false, eqb, ◌||◌, List, [], ◌∷◌}
-use Rattle.std.proofs.Common.{◌++◌, length, get_or, set, replicate, Option, Some, None, sym, ap, ◌∙◌, refl, inl, inr}
-use Rattle.std.proofs.Common.{arith}
-use Rattle.std.proofs.Math.Bool.{or-false, or_assoc, or_comm}
+use Rattle.std.proofs.Common.{◌≡◌, ◌⊎◌, ℕ, zero, suc, ◌<◌, ◌≤◌, Bool, true, false, eqb, ◌||◌, List, [], ◌∷◌, ◌++◌}
+use Rattle.std.proofs.Common.{length, get_or, set, replicate, Option, Some, None, sym, ap, ◌∙◌, refl, inl, inr, arith}
 use Rattle.std.proofs.lemmas.Bool.{or_right, eq-eqb, eqb-true, ne_eqb, cases_eq, false≢true, false_from_ne_true}
-use Rattle.std.proofs.lemmas.List.{get_or-set_same, get_or-set_other, length-set}
-use Rattle.std.proofs.lemmas.Option.{none-some, same_Some}
-use Rattle.std.specs.List.{list_any}
-use Rattle.sum_laws.proofs.Tests.{same_test}
+use Rattle.std.proofs.{Math.Bool.or-false, Math.Bool.or_assoc, Math.Bool.or_comm, lemmas.List.get_or-set_same}
+use Rattle.std.proofs.{lemmas.List.get_or-set_other, lemmas.List.length-set, lemmas.Option.none-some}
+use Rattle.std.proofs.{lemmas.Option.same_Some}
 use Rattle.def_mesh.specs.HalfEdges.{HalfEdges, IsQuadManifold}
 use Rattle.def_cut.specs.{FullCut.is_on, Motion.Terrain, Motion.is_among, Motion.is_found, Events.mark_twin}
-use Rattle.def_cut.specs.Events.{marked_from, darts_in, note_at}
-use Rattle.cut_laws.proofs.Pigeon.{no_more}
+use Rattle.def_cut.specs.{Events.marked_from, Events.darts_in, Events.note_at}
 use Rattle.motion_laws.proofs.Among.{AreApart, among_cases, among_here, among_later, found_where}
+use Rattle.{std.specs.List.list_any, sum_laws.proofs.Tests.same_test, cut_laws.proofs.Pigeon.no_more}
 
 -- A mark more.
 pub mark_is : (marks : List Bool) (k d : ℕ) → k < length marks → is_on (set marks k true) d ≡ (is_on marks d || eqb d k)

@@ -1,19 +1,17 @@
 -- The states that the motion reaches from a first state, its end, and that what it traces is a full cut.
-use Rattle.std.proofs.Common.{◌≡◌, ◌⊎◌, ℕ, zero, suc, ◌+◌, ◌<◌, ◌≤◌, Bool, true, false, not, cond, ◌||◌, List, []}
-use Rattle.std.proofs.Common.{◌∷◌, map, length, Option, Some, None, is_some, sym, subst, ap, ◌∙◌, refl, inl, inr, arith}
-use Rattle.std.proofs.lemmas.Bool.{false_from_ne_true, false≢true, cases_Bool, cases_eq, or_left, or_right}
-use Rattle.std.proofs.lemmas.Bool.{or_cases}
-use Rattle.def_math.specs.Counts.{count_below}
-use Rattle.sum_laws.proofs.Counts.{count_below_lt, count_below_ones}
-use Rattle.def_cut.specs.{Cuts.GoesOn as CutGoesOn, Cuts.IsCut, Trails.Trail}
-use Rattle.def_cut.specs.{Trails.IsTraced, declared.graph.Stop.Stop, declared.moving.Moving.Moving}
-use Rattle.def_cut.specs.Motion.{Terrain, State, end_of, with_next, ridden, is_among}
-use Rattle.def_cut.specs.{Motion.ride, Motion.ride_on, Motion.step, Motion.later, Traced.finish, Traced.is_cut}
-use Rattle.cut_laws.proofs.{Corners.corner_law, Crosses.one_of_four, Crosses.low_b}
-use Rattle.motion_laws.proofs.Among.{among_here, cases_List, cases_Option}
-use Rattle.motion_laws.proofs.Terrains.{IsTerrain, IsReachedFrom, IsFirst, IsSoon, IsShut, IsCrossedAt}
-use Rattle.motion_laws.proofs.Steps.{trail_more, next_is, step_keeps, back, stands}
+use Rattle.std.proofs.Common.{◌≡◌, ◌⊎◌, ℕ, zero, suc, ◌+◌, ◌<◌, ◌≤◌, Bool, true, false, not, cond, ◌||◌, List, [], ◌∷◌}
+use Rattle.std.proofs.Common.{map, length, Option, Some, None, is_some, sym, subst, ap, ◌∙◌, refl, inl, inr, arith}
+use Rattle.std.proofs.lemmas.Bool.{false_from_ne_true, false≢true, cases_Bool, cases_eq, or_left, or_right, or_cases}
 use Rattle.std.proofs.lemmas.List.{length-map}
+use Rattle.def_math.specs.Counts.{count_below}
+use Rattle.sum_laws.proofs.Sums.{count_below_lt, count_below_ones}
+use Rattle.def_cut.specs.Motion.{Terrain, State, end_of, with_next, ridden, is_among, ride, ride_on, step, later}
+use Rattle.def_cut.specs.{Cuts.GoesOn as CutGoesOn, Cuts.IsCut, Trails.Trail, Trails.IsTraced, declared.graph.Stop.Stop}
+use Rattle.def_cut.specs.{declared.moving.Moving.Moving, Traced.finish, Traced.is_cut}
+use Rattle.cut_laws.proofs.{Corners.corner_law, Crosses.one_of_four, Crosses.low_b}
+use Rattle.motion_laws.proofs.Bits.{IsTerrain, IsReachedFrom, IsFirst, IsSoon, IsShut, IsCrossedAt}
+use Rattle.motion_laws.proofs.{Among.among_here, Among.cases_List, Among.cases_Option, Steps.trail_more, Steps.next_is}
+use Rattle.motion_laws.proofs.{Steps.step_keeps, Steps.back, Steps.stands}
 
 -- Where nobody rides, a step changes no rider.
 pub still_riders : (g : Terrain) (stood : ℕ → Bool) (ds : List ℕ) (rs : List Moving) → ridden rs ≡ []

@@ -1,33 +1,28 @@
 -- Events keep what event states show, so every order of events has one end.
-use Rattle.std.proofs.Common.{◌≡◌, ℕ, zero, suc, ◌+◌, ◌-◌, ◌<◌, ◌≤◌, Bool, true, false, cond, eqb, ◌&&◌}
-use Rattle.std.proofs.Common.{◌||◌, List, [], ◌∷◌, ◌++◌, map, length, set, replicate, Option, Some, None, sym}
-use Rattle.std.proofs.Common.{ap, ◌∙◌, refl, inl, inr, arith}
-use Rattle.std.proofs.Math.Bool.{or-false}
+use Rattle.std.proofs.Common.{◌≡◌, ℕ, zero, suc, ◌+◌, ◌-◌, ◌<◌, ◌≤◌, Bool, true, false, cond, eqb, ◌&&◌, ◌||◌, List, []}
+use Rattle.std.proofs.Common.{◌∷◌, ◌++◌, map, length, set, replicate, Option, Some, None, sym, ap, ◌∙◌, refl, inl, inr}
+use Rattle.std.proofs.Common.{arith}
 use Rattle.std.proofs.lemmas.Bool.{eq-eqb, eqb-true, false≢true, cases_Bool, cases_eq, cases_lt, or_right, and_parts}
 use Rattle.std.proofs.lemmas.Bool.{and_from, not_from_false, not-true, false_from_ne_true}
 use Rattle.std.proofs.lemmas.List.{get_or-set_same, get_or-set_other, length-set, length-replicate, length-map}
 use Rattle.std.proofs.lemmas.List.{length-append}
-use Rattle.std.proofs.lemmas.Option.{none-some}
+use Rattle.std.proofs.{Math.Bool.or-false, lemmas.Option.none-some}
 use Rattle.std.specs.List.{list_any}
-use Rattle.def_cut.specs.{FullCut.is_on, declared.graph.Stop.Stop, declared.moving.Moving.Moving, Motion.Terrain}
-use Rattle.def_cut.specs.Motion.{State, end_of, with_next, ridden, is_among}
-use Rattle.def_cut.specs.Motion.{is_met, arrives_at, ride, begun}
-use Rattle.def_cut.specs.{Motion.step, Motion.start, Motion.after_steps, Traced.end_state}
-use Rattle.def_cut.specs.Events.{EventState, waiting, darts_in, rider_at, note_at}
-use Rattle.def_cut.specs.Events.{may_ride, mark_twin, after_ride_of, leads_to, may_settle}
-use Rattle.def_cut.specs.Events.{decided_at, are_ends_settled, closed}
-use Rattle.def_cut.specs.Events.{after_settling, first_state, Event, May, Leads}
-use Rattle.def_cut.specs.{Events.rides_in, Events.NobodyRuns, Events.Event.Ride, Events.Event.Settle}
-use Rattle.motion_laws.proofs.Among.{any_at, any_where, all_at, not_all, AreApart}
+use Rattle.def_cut.specs.Motion.{Terrain, State, end_of, with_next, ridden, is_among, is_met, arrives_at, ride, begun}
+use Rattle.def_cut.specs.Motion.{step, start, after_steps}
+use Rattle.def_cut.specs.Events.{EventState, waiting, darts_in, rider_at, note_at, may_ride, mark_twin, after_ride_of}
+use Rattle.def_cut.specs.Events.{leads_to, may_settle, decided_at, are_ends_settled, closed, after_settling}
+use Rattle.def_cut.specs.Events.{first_state, Event, May, Leads, rides_in, NobodyRuns}
+use Rattle.def_cut.specs.{FullCut.is_on, declared.graph.Stop.Stop, declared.moving.Moving.Moving, Traced.end_state}
+use Rattle.def_cut.specs.{Events.Event.Ride, Events.Event.Settle}
 use Rattle.motion_laws.proofs.Marks.{none_on, none_found, no_darts, cover_more, from_marks, marked_long, noted_more}
 use Rattle.motion_laws.proofs.Marks.{noted_longer, apart_few, among_append, apart_append}
-use Rattle.motion_laws.proofs.Next.{runs_ridden}
+use Rattle.motion_laws.proofs.Shown.{runs_ridden, IsShown, AreShown, all_noted, darts_of, noted_rides, notes_of, bare}
+use Rattle.motion_laws.proofs.Shown.{ride_shown, waits_runs, somebody, as_was, still_runs, closed_is, none_shown}
+use Rattle.motion_laws.proofs.Shown.{told_shown}
 use Rattle.motion_laws.proofs.Onward.{ends, later_reached, rides_once, runs_out, still_riders}
-use Rattle.motion_laws.proofs.Shown.{IsShown, AreShown, all_noted, darts_of, noted_rides, notes_of}
-use Rattle.motion_laws.proofs.Shown.{bare, ride_shown, waits_runs, somebody, as_was, still_runs}
-use Rattle.motion_laws.proofs.Shown.{closed_is, none_shown, told_shown}
-use Rattle.motion_laws.proofs.Terrains.{IsTerrain, IsStarted, IsReached}
-use Rattle.motion_laws.proofs.Traced.{first}
+use Rattle.motion_laws.proofs.{Among.any_at, Among.any_where, Among.all_at, Among.not_all, Among.AreApart}
+use Rattle.motion_laws.proofs.{Bits.IsTerrain, Bits.IsStarted, Bits.IsReached, Steps.first}
 
 -- Where nobody runs, nobody rides.
 nobody_rides : (rs : List Moving) → ((r : ℕ) → r < length rs → (rider_at rs r).stop ≡ None → ⊥) → ridden rs ≡ []

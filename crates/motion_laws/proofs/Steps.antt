@@ -1,22 +1,20 @@
 -- Each step keeps what reached states know.
-use Rattle.std.proofs.Common.{◌≡◌, ◌⊎◌, ℕ, zero, suc, ◌<◌, Bool, true, false, not, cond, ◌&&◌, List}
-use Rattle.std.proofs.Common.{Some, None, sym, ap, ◌∙◌, refl, inl, inr}
-use Rattle.std.proofs.lemmas.Option.{same_Some}
+use Rattle.std.proofs.Common.{◌≡◌, ◌⊎◌, ℕ, zero, suc, ◌<◌, Bool, true, false, not, cond, ◌&&◌, List, Some, None, sym}
+use Rattle.std.proofs.Common.{ap, ◌∙◌, refl, inl, inr, eqb, [], ◌∷◌, map, subst}
 use Rattle.std.proofs.lemmas.Bool.{eq-eqb, eqb-true, false≢true, false_from_ne_true, cases_Bool, or_left, or_right}
 use Rattle.std.proofs.lemmas.Bool.{or_cases, and_from, and_parts, not_from_false}
-use Rattle.std.specs.List.{list_any}
-use Rattle.sum_laws.proofs.Tests.{same_test}
-use Rattle.def_mesh.specs.HalfEdges.{HalfEdges}
-use Rattle.def_cut.specs.{Cuts.IsCross, Cuts.HasCross, Trails.IsStraight, Trails.Trail}
-use Rattle.def_cut.specs.{declared.graph.Stop.Stop, Motion.Terrain, Motion.State, Motion.end_of, Motion.straight}
-use Rattle.def_cut.specs.Motion.{ridden, is_among, is_found, is_met, arrives_at}
-use Rattle.def_cut.specs.Motion.{arrivals, goes_on, stop_of, or_else, step}
-use Rattle.cut_laws.proofs.Crosses.{low_a, low_c, at_a, at_b, at_c}
-use Rattle.cut_laws.proofs.Darts.{next_same, twin_same}
+use Rattle.std.proofs.lemmas.Option.{same_Some}
+use Rattle.def_cut.specs.Motion.{Terrain, State, end_of, straight, ridden, is_among, is_found, is_met, arrives_at}
+use Rattle.def_cut.specs.Motion.{arrivals, goes_on, stop_of, or_else, step, begun, start}
+use Rattle.def_cut.specs.{Cuts.IsCross, Cuts.HasCross, Trails.IsStraight, Trails.Trail, declared.graph.Stop.Stop}
+use Rattle.cut_laws.proofs.{Crosses.low_a, Crosses.low_c, Crosses.at_a, Crosses.at_b, Crosses.at_c, Crosses.low_b}
+use Rattle.cut_laws.proofs.{Folds.next_same, Folds.twin_same, Folds.turn_from, Folds.turn_low}
 use Rattle.motion_laws.proofs.Among.{AreApart, any_at, any_where, apart_filter, found_where, from_filter, in_filter}
-use Rattle.motion_laws.proofs.Terrains.{IsTerrain, IsReachedFrom, IsKnown, IsSoon, IsCrossedAt, crossed_at}
-use Rattle.motion_laws.proofs.Bits.{rotated, round_of, of_round, two_bits_of}
-use Rattle.motion_laws.proofs.Next.{next_from, next_to, next_apart}
+use Rattle.motion_laws.proofs.Among.{cases_Option}
+use Rattle.motion_laws.proofs.Bits.{IsTerrain, IsReachedFrom, IsKnown, IsSoon, IsCrossedAt, crossed_at, IsStarted}
+use Rattle.motion_laws.proofs.Bits.{IsFirst, IsShut, rotated, round_of, of_round, two_bits_of}
+use Rattle.motion_laws.proofs.Shown.{next_from, next_to, next_apart}
+use Rattle.{sum_laws.proofs.Tests.same_test, def_mesh.specs.HalfEdges.HalfEdges}
 
 -- Trails stay where more is covered.
 pub trail_more : (m : HalfEdges) (begin cut more : ℕ → Bool) → ((d : ℕ) → cut d ≡ true → more d ≡ true) → (d k : ℕ)
@@ -284,3 +282,77 @@ module _ (g : Terrain) (t : IsTerrain g) where
         ]
       ];
     }
+
+-- The motion that starts with riders at given darts: its states, and its end.
+
+-- All riders ride at first.
+pub ridden_begun : (starts : List ℕ) → ridden (map begun starts) ≡ starts
+ridden_begun [] = refl
+ridden_begun (d ∷ ds) = ap (λ xs. d ∷ xs) (ridden_begun ds)
+
+-- Where each dart with a twin that leaves the vertex of d is covered or ridden first, all edges there are shut.
+module _ (g : Terrain) (t : IsTerrain g) (first : State) (d : ℕ) (low : d < g.half.count) (all : (e x : ℕ)
+    → e < g.half.count → g.half.from e ≡ g.half.from d → g.half.twin e ≡ Some x → IsSoon first e) where
+  pub shut_at : (e : ℕ) → e < g.half.count → g.half.from e ≡ g.half.from d → IsShut g first e
+  shut_at e l at = elim (cases_Option (g.half.twin e)) [ inl w ↦ inr (inl w) | inr (x, w) ↦ inl (all e x l at w) ]
+
+  pub shut_before : IsShut g first (g.half.prev d)
+  shut_before = elim (cases_Option (g.half.twin (g.half.prev d))) [
+    | inl w ↦ inr (inl w)
+    | inr (a, w) ↦ inr (inr (
+      a,
+      w,
+      all a (g.half.prev d) (turn_low g.half t.half d a low w)
+          (turn_from g.half t.half d a low w) (back g t (g.half.prev d) a (t.half.prev_low d low) w),
+    ))
+  ]
+
+  pub shut_beside : (e : ℕ) → g.half.twin d ≡ Some e → IsShut g first (g.half.next e)
+  shut_beside e w = shut_at (g.half.next e) (t.half.next_low e (t.half.twin_low d e low w))
+      (t.half.twin_ends d e low w).1
+
+module _ (g : Terrain) (t : IsTerrain g) (starts : List ℕ) (begin : IsStarted g starts) where
+  rides_next : (d : ℕ) → is_among d starts ≡ true → is_among d (ridden (map begun starts)) ≡ true
+  rides_next d m = ap (is_among d) (ridden_begun starts) ∙ m
+
+  is_start : (d : ℕ) → is_among d (ridden (map begun starts)) ≡ true → is_among d starts ≡ true
+  is_start d m = sym (ap (is_among d) (ridden_begun starts)) ∙ m
+
+  spread : (d : ℕ) → d < g.half.count → is_among d starts ≡ true → (e x : ℕ) → e < g.half.count
+      → g.half.from e ≡ g.half.from d → g.half.twin e ≡ Some x → IsSoon (start g starts) e
+  spread d low m e x l at w = inr (rides_next e (begin.all d e x low l m at w))
+
+  pub first : IsFirst g (λ e. is_among e starts) (start g starts)
+  first = record {
+    reached = record {
+      apart = subst AreApart (sym (ridden_begun starts)) begin.apart;
+      low = λ d m. begin.low d (is_start d m);
+      left = λ d m. any_at (λ e. eqb (g.half.from e) (g.half.from d)) d starts (is_start d m) (eq-eqb _ _ refl);
+      alike = λ d e low w. refl;
+      ends = λ d low c. absurd (false≢true c);
+      kept = λ d k. k;
+      trails = λ d m. (0, is_start d m);
+      tracked = λ d low c. absurd (false≢true c);
+      -- Where one start is at a vertex with four faces, the opposite one is a start too.
+      through = λ d low k inner regular.
+          let (x, m, e) = any_where (λ e. eqb (g.half.from e) (g.half.from d)) starts k in
+          let at : g.half.from x ≡ g.half.from d = eqb-true _ _ e in
+          let x_low = begin.low x m in
+          let (a, b, c, f) = t.crossed x x_low (ap g.boundary at ∙ inner) (ap g.singular at ∙ regular) in
+          let a_low = low_a g.half t.half x a b c x_low f in
+          let b_low = low_b g.half t.half x a b c x_low f in
+          let b_twin = t.half.twin_twin (g.half.prev a) b (t.half.prev_low a a_low) f.second in
+          crossed_at x_low at f (inr (rides_next x m)) (inr (rides_next b (begin.all x b (g.half.prev a) x_low b_low m
+          (at_b g.half t.half x a b c x_low f) b_twin)));
+    };
+    found = begin.found;
+    begun = λ d low m. inr (rides_next d m);
+    before = λ d low m. shut_before g t (start g starts) d low (spread d low m);
+    beside = λ d e low m. shut_beside g t (start g starts) d low (spread d low m) e;
+    singular = λ d low y. inl (inr (rides_next d (begin.singular d low y)));
+    sided = λ d low y. elim (begin.sided d low y) [
+      | inl m ↦ inl (inl (inr (rides_next (g.half.next d) m)))
+      | inr (inl w) ↦ inl (inr (inl w))
+      | inr (inr k) ↦ inr k
+    ];
+  }

@@ -1,4 +1,3 @@
-pub mod Lift
 pub mod Part
 pub mod Ports
 pub mod Walk

@@ -1,11 +1,11 @@
 -- A walk through copies of arcs: it goes on from each port by an unused copy, until a port comes again.
 use Rattle.std.proofs.Common.{◌≡◌, ◌≢◌, ℕ, zero, suc, ◌+◌, ◌-◌, ◌<◌, ◌≤◌, Bool, true, false, cond, not, ◌==◌, List, []}
-use Rattle.std.proofs.Common.{◌∷◌, Option, Some, None, ℤ, pos, ◌+ℤ◌, ◌-ℤ◌, ◌<ℤ◌, refl, sym, ◌∙◌, ap, inl, inr}
-use Rattle.std.proofs.Common.{◌⊎◌, true≢false, arith, eq-eqb, ne_eqb}
-use Rattle.std.proofs.lemmas.Bool.{cases_eq, cases_lt, cases_Bool}
+use Rattle.std.proofs.Common.{◌∷◌, Option, Some, None, ℤ, pos, ◌+ℤ◌, ◌-ℤ◌, ◌<ℤ◌, refl, sym, ◌∙◌, ap, inl, inr, ◌⊎◌}
+use Rattle.std.proofs.Common.{true≢false, arith, eq-eqb, ne_eqb}
+use Rattle.std.proofs.lemmas.Bool.{cases_eq, cases_Bool}
 use Rattle.def_math.specs.{Sums.total, Sums.total_below, Counts.count, Counts.count_below}
 use Rattle.sum_laws.proofs.Sums.{total_below_sum, total_below_same, total_below_none, total_below_one, integers}
-use Rattle.sum_laws.proofs.{Sums.cases_neg, Sums.some_below, Counts.count_below_lt}
+use Rattle.sum_laws.proofs.Sums.{cases_neg, some_below, count_below_lt}
 use Rattle.network_laws.proofs.Ports.{Port, opposite, weigh, is_same, same_is, is_same_self, weigh_opposite, weigh_sum}
 use Rattle.network_laws.proofs.Ports.{weigh_none, weigh_self, weigh_other, weigh_low}
 

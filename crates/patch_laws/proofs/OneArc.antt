@@ -3,26 +3,23 @@ use Rattle.std.proofs.Common.{◌≡◌, ◌⊎◌, ℕ, zero, suc, ◌+◌, ◌
 use Rattle.std.proofs.Common.{[], ◌∷◌, length, Some, is_some, sym, ◌∙◌, ap, subst, refl, inl, inr, arith}
 use Rattle.std.proofs.lemmas.Bool.{cases_Bool, cases_eq, cases_lt, or_left, or_right, or_cases, and_from, and_parts}
 use Rattle.std.proofs.lemmas.Bool.{eq-eqb, not-true, not_from_false, lt-ltb, ltb-true, false≢true, false_from_ne_true}
-use Rattle.std.specs.List.{filter}
-use Rattle.def_math.specs.Counts.{count_below}
-use Rattle.def_mesh.specs.Darts.{darts, from_of, next_of, prev_of, twin_of}
-use Rattle.def_mesh.specs.HalfEdges.{HalfEdges, IsQuadManifold, half_edges}
-use Rattle.def_mesh.specs.{Faces.Faces, Kinds.is_inner, Kinds.is_regular, Components.seeds, Components.is_start}
-use Rattle.def_mesh.specs.{Manifold.IsManifold, Vertices.fan_of, Vertices.faces_at}
+use Rattle.def_mesh.specs.{Darts.darts, Darts.from_of, Darts.next_of, Darts.prev_of, Darts.twin_of, HalfEdges.HalfEdges}
+use Rattle.def_mesh.specs.{HalfEdges.IsQuadManifold, HalfEdges.half_edges, Faces.Faces, Kinds.is_inner}
+use Rattle.def_mesh.specs.{Kinds.is_regular, Components.seeds, Components.is_start, Manifold.IsManifold}
+use Rattle.def_mesh.specs.{Vertices.fan_of, Vertices.faces_at}
 use Rattle.def_cut.specs.{Cuts.HasCross, Cuts.IsCut, FullCut.is_on, Grids.patch_at, Motion.is_among, Steps.easts}
-use Rattle.def_feature.specs.{Conforming.IsConforming, Marks.AreMarks}
 use Rattle.def_layout.specs.{Arcs.IsArc, Arcs.path_at, Arcs.long_at, Borders.side_size, Borders.border_dart}
 use Rattle.def_layout.specs.{FaceLayouts.IsCutLayout, Gluings.Way, Lengths.reach, Nodes.is_lone_before}
 use Rattle.def_layout.specs.{Nodes.cut_degree, Nodes.is_node, Layouts.Layout, Layouts.gluing_of}
-use Rattle.def_merge.specs.Joins.{IsWholeSide}
 use Rattle.cut_laws.proofs.Crosses.{Leaves, of_four, one_of_four, both_twins, no_fix, low_a, low_b}
-use Rattle.face_laws.proofs.{Fans.has_fan, Fans.regular_cross, FullCuts.full_cut_law}
+use Rattle.face_laws.proofs.FullCuts.{has_fan, regular_cross, full_cut_law}
 use Rattle.feature_laws.proofs.{Breaks.from_fan, Conforming.conforming_law, Conforming.straight_law}
-use Rattle.layout_laws.proofs.{FaceNodes.are_nodes, Uses.use_run}
-use Rattle.mesh_laws.proofs.HalfEdges.{manifold_law}
 use Rattle.motion_laws.proofs.Among.{AreApart, among_here, among_later, apart_filter, from_filter, range_apart}
 use Rattle.motion_laws.proofs.Bits.{rotated}
 use Rattle.merge_laws.proofs.{Layouts.IsBorder, Layouts.border, Sides.side_low, Sides.side_link, Sides.side_from}
+use Rattle.{std.specs.List.filter, def_math.specs.Counts.count_below, def_feature.specs.Conforming.IsConforming}
+use Rattle.{def_feature.specs.Marks.AreMarks, def_merge.specs.Joins.IsWholeSide, layout_laws.proofs.FaceNodes.are_nodes}
+use Rattle.{layout_laws.proofs.Uses.use_run, mesh_laws.proofs.Chains.manifold_law}
 
 -- Different numbers of which each is this one are at most one,
 at_most_one : (y : ℕ) (xs : List ℕ) → AreApart xs → ((d : ℕ) → is_among d xs ≡ true → d ≡ y) → length xs ≤ 1

@@ -1,5 +1,3 @@
-pub mod Joined
-mod Lists
 mod Measures
 pub mod Mutual
 mod Tables

@@ -2,17 +2,14 @@
 use Rattle.std.proofs.Common.{◌≡◌, ℕ, zero, suc, ◌^◌, ◌<◌, ◌≤◌, List, length, arith}
 use Rattle.std.proofs.{lemmas.List.length-map, lemmas.Nat.mul-le}
 use Rattle.def_flow.specs.declared.limits.TheConstants.{MAX_LENGTH}
-use Rattle.def_layout.specs.Layouts.{Layout, gluing_of, layout_of, side_at}
-use Rattle.def_layout.specs.{Arcs.long_at, Gluings.Way, Lengths.high, Lengths.wide, declared.tmesh.SideArc.SideArc}
-use Rattle.def_cut.specs.Grids.{rectangle}
-use Rattle.def_layoutnet.specs.MeshLayouts.{IsSomeLayout}
-use Rattle.def_written.specs.NewFaces.{cells_before}
-use Rattle.def_remesh.specs.NewPoints.{lengths_in}
-use Rattle.embedding_laws.proofs.Bounds.{old_faces, side_few, side_most}
-use Rattle.embedding_laws.proofs.MeshLayouts.{laid_of, lengths_of}
-use Rattle.written_laws.proofs.Grid.{high_some, wide_some}
+use Rattle.def_layout.specs.{Layouts.Layout, Layouts.gluing_of, Layouts.layout_of, Layouts.side_at, Arcs.long_at}
+use Rattle.def_layout.specs.{Gluings.Way, Lengths.high, Lengths.wide, declared.tmesh.SideArc.SideArc}
+use Rattle.embedding_laws.proofs.Bounds.{old_faces, side_few, side_most, laid_of, lengths_of}
+use Rattle.written_laws.proofs.Rims.{high_some, wide_some}
 use Rattle.qm_offsets.proofs.Whole.{arcs_low, side_long, sides_of}
 use Rattle.qm_blocks.specs.{Spots.IsMeasured, Spots.IsSummed, declared.measured.Measured.Measured}
+use Rattle.{def_cut.specs.Grids.rectangle, def_layoutnet.specs.MeshLayouts.IsSomeLayout}
+use Rattle.{def_written.specs.NewFaces.cells_before, def_remesh.specs.NewPoints.lengths_in}
 
 -- A layout has no more patches than its mesh may have faces.
 pub patches_few : (layout : Layout) → IsSomeLayout layout → length layout.patches ≤ 2 ^ 21

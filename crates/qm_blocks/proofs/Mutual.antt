@@ -1,14 +1,17 @@
 -- A link of a block leads to another link, which leads back.
 use Rattle.std.proofs.Common.{◌≡◌, ℕ, ◌+◌, ◌-◌, ◌<◌, List, [], length, slice_get, slice_index_or, Some, refl, sym, ◌∙◌}
-use Rattle.std.proofs.Common.{ap, subst, inl, inr, arith, ◌≢◌, ◌⊎◌, Bool, not}
-use Rattle.std.proofs.lemmas.Bool.Decides.{leb_tells}
+use Rattle.std.proofs.Common.{ap, subst, inl, inr, arith, ◌≢◌, ◌⊎◌, Bool, not, ◌≤◌}
 use Rattle.std.proofs.lemmas.Option.{get_or_from_slice_get, none-some, same_Some, slice_get-get_or, slice_get_within}
-use Rattle.def_layout.specs.Gluings.{Way, south, east, north, west, Gluing, Slot, IsSlot, use_of, AreReverse}
-use Rattle.def_layout.specs.{Surfaces.IsSurface, Surfaces.IsOtherSlot, Lengths.Lengths, declared.tmesh.SideArc.SideArc}
+use Rattle.std.proofs.lemmas.Bool.Decides.{leb_tells}
 use Rattle.std.specs.List.{Contains}
-use Rattle.def_blocks.specs.Laws.{HasLink, MutualLaw, SymmetricLaw, TwoLinksLaw}
+use Rattle.def_layout.specs.Gluings.{Way, south, east, north, west, Gluing, Slot, IsSlot, use_of, AreReverse}
+use Rattle.def_layout.specs.{Surfaces.IsSurface, Surfaces.IsOtherSlot, Lengths.Lengths, Lengths.size}
+use Rattle.def_layout.specs.{Lengths.AreLengths, declared.tmesh.SideArc.SideArc}
 use Rattle.def_blocks.specs.Links.{arcs_before, first_point, place_in, side_name, AreLinks, IsLinkOf}
-use Rattle.def_blocks.specs.{declared.link.Link.Link, declared.link.SideName.SideName}
+use Rattle.def_blocks.specs.{Laws.HasLink, Laws.MutualLaw, Laws.SymmetricLaw, Laws.TwoLinksLaw, Laws.LinkedPointsLaw}
+use Rattle.def_blocks.specs.{declared.link.Link.Link, declared.link.SideName.SideName, SidePoints.side_vertex}
+use Rattle.def_written.specs.{Numbers.vertex_number, Points.side_point, Points.use_point}
+use Rattle.written_laws.proofs.{Borders.use_back, Rims.border_point, Sides.reach_low, Sides.side_upto}
 
 -- An arc that is used the other way round.
 pub turned_back : (one other : SideArc) → AreReverse one other → AreReverse other one
@@ -148,3 +151,46 @@ lead_back l x laid links are one other low low' side side' from from' len = (
   forth l x laid links are one other low side side' from from' len,
   forth l x laid links are other one low' side' side from' from len,
 )
+
+-- Linked points are one vertex.
+
+module _ (l : Gluing) (x : Lengths) (laid : IsSurface l) (len : AreLengths l x) where
+  -- The vertex at a point of a side is that of the arc that lies there.
+  vertex_on : (p : ℕ) (s : Way) (t : ℕ) → p < l.patches → t ≤ size l x p s
+      → side_vertex l x p (side_name s) t ≡ vertex_number l x (side_point l x p s t)
+  vertex_on p south t low upto = ap (vertex_number l x) (border_point l x laid len p south t low upto)
+  vertex_on p s t low upto = ap (vertex_number l x) (border_point l x laid len p s t low upto)
+
+  -- So is that at a point of a slot.
+  slot_vertex : (w : Slot) (k : ℕ) → IsSlot l w → k ≤ x (use_of l w).arc
+      → side_vertex l x w.patch (side_name w.side) (first_point l x w + k)
+      ≡ vertex_number l x (use_point l x (use_of l w) k)
+  slot_vertex w k is le =
+      vertex_on w.patch w.side (first_point l x w + k) is.patch_low (omega (arith, reach_low l x w is, le))
+      ∙ ap (vertex_number l x) (side_upto l x laid len w k (first_point l x w + k) is le refl)
+
+  one_vertex : (w v : Slot) (k : ℕ) → IsSlot l w → IsOtherSlot l w v → k ≤ x (use_of l w).arc
+      → side_vertex l x w.patch (side_name w.side) (first_point l x w + k)
+      ≡ side_vertex l x v.patch (side_name v.side) (first_point l x v + (x (use_of l w).arc - k))
+  one_vertex w v k is across le =
+      let long : x (use_of l v).arc ≡ x (use_of l w).arc = ap x across.1.arc in
+      let e : x (use_of l w).arc - (x (use_of l w).arc - k) ≡ k = omega (arith, le) in
+      slot_vertex w k is le ∙ ap (λ o. vertex_number l x (use_point l x (use_of l w) o)) (sym e)
+      ∙ ap (vertex_number l x)
+      (sym (use_back l x (use_of l w) (use_of l v) across.1 (x (use_of l w).arc - k) (omega arith)))
+      ∙ sym (slot_vertex v (x (use_of l w).arc - k) across.0 (omega (arith, long)))
+
+pub linked_points : LinkedPointsLaw
+linked_points l x laid len links are one other low side side' from from' n has k le =
+    let (w, is, at, is_link) =
+    slot_of_link l x laid links are one has.0 (link_to side from n other side' from') low has.1 has.2 in
+    elim (laid.other w is) [
+      | inr wall ↦ absurd (none-some _ (sym (is_link.wall wall)))
+      | inl next ↦
+          let v = next.0 in
+          let told = sym (same_Some (other, side', from') (v.patch, side_name v.side, first_point l x v)
+          (is_link.linked v next.1)) in
+          (λ t. side_vertex l x ((sym at) t) (is_link.side t) (is_link.from t + k))
+          ∙ one_vertex l x laid len w v k is next.1 (omega (arith, le, is_link.len))
+          ∙ (λ t. side_vertex l x ((told t).0) ((told t).1) ((told t).2 + ((sym is_link.len) t - k)))
+    ]

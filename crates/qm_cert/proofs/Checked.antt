@@ -1,25 +1,31 @@
 -- The verdict yes is that the certificate is accepted.
-use Rattle.std.proofs.Common.{◌≡◌, ◌≢◌, ℕ, ℤ, ◌==◌, nat_lt, not, length, List, Option, Some, None}
-use Rattle.std.proofs.Common.{Err, IfOk, refl, sym, ◌∙◌, ap, inl, inr, ltb-false, le-ltb, eq-eqb, eqb-true, arith}
-use Rattle.std.proofs.lemmas.Int.{ints}
-use Rattle.std.proofs.lemmas.Bool.{cases_lt, not-false}
-use Rattle.std.proofs.lemmas.Bool.Decides.{Decides-int_eq}
-use Rattle.std.proofs.Common.{option_map, pos, ◌-ℤ◌, ◌*ℤ◌, true, false, cond, Bool, ◌↔◌, Result, Ok}
+use Rattle.std.proofs.Common.{◌≡◌, ℕ, ℤ, ◌==◌, nat_lt, not, length, List, Option, Some, None, Err, IfOk, refl, sym, ◌∙◌}
+use Rattle.std.proofs.Common.{ap, inl, inr, ltb-false, le-ltb, eq-eqb, eqb-true, arith, option_map, pos, ◌-ℤ◌, ◌*ℤ◌}
+use Rattle.std.proofs.Common.{true, false, cond, Bool, ◌↔◌, Result, Ok, ◌*◌, ◌^◌, ◌<◌, ◌≤◌, unsigned_abs, mul-le-mul}
+use Rattle.std.proofs.Common.{zero, suc, ◌+◌, add-one}
+use Rattle.std.proofs.{lemmas.Int.ints, lemmas.Bool.cases_lt, lemmas.Bool.not-false, lemmas.Bool.Decides.Decides-int_eq}
 use Rattle.std.specs.{Prelude.slice_index, Prelude.if◌then◌else◌, Ordering.int_eq}
-use Rattle.qm_dual.proofs.{Searches.least_none, Searches.none_below, Verdicts.yes_says, Verdicts.says_yes}
-use Rattle.def_flow.specs.{Gadget.lows, Network.Network, Network.IsWithinBounds, Network.arc_at}
-use Rattle.def_flow.specs.Admissible.{IsAdmissible, IsLeast, deviation, entries}
-use Rattle.def_flow.specs.{Admissible.side_sum, Units.arcwise, Units.down, Units.on_cost, MatchingGraph.matching_graph}
-use Rattle.def_flow.specs.Accepted.{Certificate, IsAccepted, below_fault, unequal_fault}
-use Rattle.def_flow.specs.Accepted.{refuse_dual, sums_verdict, cert_verdict, unequal_at}
-use Rattle.def_flow.specs.{declared.cert.CertVerdict.CertVerdict, declared.cert.CertVerdict.TheVariants.Count}
-use Rattle.def_flow.specs.declared.cert.CertVerdict.TheVariants.{Below, Sums}
-use Rattle.def_flow.specs.{declared.cert.CertVerdict.TheVariants.Yes as Accepted}
+use Rattle.qm_dual.proofs.{Gathered.least_none, Gathered.none_below, Gathered.least_low, Gathered.least_same}
+use Rattle.qm_dual.proofs.{Verdicts.yes_says, Verdicts.says_yes}
+use Rattle.def_flow.specs.Admissible.{IsAdmissible, IsLeast, deviation, entries, side_sum, arc_deviation, AreNetLengths}
+use Rattle.def_flow.specs.Admissible.{is_on_side}
+use Rattle.def_flow.specs.Accepted.{Certificate, IsAccepted, below_fault, unequal_fault, refuse_dual, sums_verdict}
+use Rattle.def_flow.specs.Accepted.{cert_verdict, unequal_at}
+use Rattle.def_flow.specs.declared.cert.CertVerdict.TheVariants.{Count, Below, Sums, Yes as Accepted, Unequal}
+use Rattle.def_flow.specs.{Gadget.lows, Network.Network, Network.IsWithinBounds, Network.arc_at, Network.ends}
+use Rattle.def_flow.specs.{Units.arcwise, Units.down, Units.on_cost, Units.low, MatchingGraph.matching_graph}
+use Rattle.def_flow.specs.{declared.cert.CertVerdict.CertVerdict, declared.net.Arc.Arc, declared.net.End.End}
 use Rattle.def_matching.specs.{Dual.dual_sum, Dual.refuse, Dual.verdict, declared.weighted.Verdict.Verdict}
-use Rattle.def_matching.specs.declared.weighted.Verdict.TheVariants.{Yes}
-use Rattle.qm_net.proofs.Balances.{no_side_past}
-use Rattle.gadget_laws.proofs.{Box.own_box, Law.box_deviation, Sound.sound}
-use Rattle.qm_cert.specs.Faults.{first_of_two, or_else, below_verdict, unequal_verdict, list_verdict}
+use Rattle.def_matching.specs.{declared.weighted.Verdict.TheVariants.Yes}
+use Rattle.qm_net.proofs.{Balances.no_side_past, Within.arc_within}
+use Rattle.gadget_laws.proofs.{Box.own_box, Box.arcwise_length, Box.box_deviation, Arcs.sound}
+use Rattle.qm_cert.specs.Faults.{first_of_two, or_else, below_verdict, unequal_verdict, list_verdict, compared_verdict}
+use Rattle.qm_cert.specs.Sides.{end_put, arc_put, side_count, AreSides}
+use Rattle.sum_laws.proofs.Sums.{count_below_le, count_below_ones, count_below_times, count_total, count_below_total}
+use Rattle.sum_laws.proofs.Sums.{total_same, total_below_same}
+use Rattle.sum_laws.proofs.Tests.{same_test}
+use Rattle.table_laws.proofs.Tallies.{tally_low, tally_more}
+use Rattle.{qm_gadget.proofs.OfList.arcwise_at, def_math.specs.Tables.IsRaised, def_math.specs.Searches.least}
 
 -- The verdict on the sum, by its three numbers.
 abbrev pub checked : ℤ → ℤ → ℤ → CertVerdict
@@ -153,3 +159,131 @@ pub faultless : {E : Type 0} (net : Network) (c : Certificate) (r : Result CertV
     → IfOk r (λ v. v ≡ cert_verdict net c)
 faultless net c (Ok v) none exact = exact ∙ rw (by_list net c, none) refl
 faultless net c (Err e) none exact = tt
+
+-- Deviations are far from the ends of their type.
+
+-- The deviation of an arc of a network within bounds.
+arc_small : (net : Network) (k y : ℕ) → IsWithinBounds net → k < length net.arcs → y ≤ 10 ^ 12
+    → arc_deviation net (arc_at net.arcs k) (pos y) ≤ 10 ^ 19
+arc_small net k y bounds l short =
+    let a = arc_at net.arcs k in
+    let within = arc_within bounds l in
+    let scaled : net.q * y ≤ 1000 * 10 ^ 12 = mul-le-mul bounds.q_high short in
+    let wanted : net.p * a.old ≤ 1000 * 4000000000 = mul-le-mul bounds.p_high within.old in
+    let apart : unsigned_abs (pos net.q *ℤ pos y -ℤ pos (net.p * a.old)) ≤ 2 * 10 ^ 15 =
+    omega (arith, ints, scaled, wanted) in
+    omega (arith, mul-le-mul within.weight_high apart)
+
+-- The deviation of a list of lengths.
+pub deviation_small : (net : Network) (xs : List ℕ) → IsWithinBounds net → AreNetLengths net.arcs xs
+    → deviation net (entries xs) ≤ 2 ^ 120
+deviation_small net xs bounds are = omega (
+  arith,
+  count_below_le (λ k. arc_deviation net (arc_at net.arcs k) (entries xs k)) (λ k. 10 ^ 19 * 1) (length net.arcs)
+      (λ k l. omega (arith, arc_small net k (slice_index xs k) bounds l (are.small k (omega (arith, are.count))))),
+  count_below_times (10 ^ 19) (λ k. 1) (length net.arcs),
+  count_below_ones (length net.arcs),
+  bounds.few,
+)
+
+-- The lows are lengths too.
+pub lows_lengths : (net : Network) (xs : List ℕ) → AreNetLengths net.arcs xs → AreNetLengths net.arcs (lows net 1 xs)
+lows_lengths net xs are = record {
+  count = arcwise_length (low 1) net.arcs xs are.count;
+  small = λ k l.
+      let lk : k < length net.arcs = omega (arith, arcwise_length (low 1) net.arcs xs are.count) in
+      omega (arith, arcwise_at (low 1) net.arcs xs k are.count lk, are.small k (omega (arith, are.count, lk)));
+}
+
+-- Sums on one side of the nodes, one arc at a time.
+
+-- An end puts its length at most, and an arc twice its length.
+pub end_low : (plus : Bool) (e : End) (x v : ℕ) → end_put plus e x v ≤ x
+end_low plus e x v = grind (arith)
+
+arc_low : (plus : Bool) (a : Arc) (x v : ℕ) → arc_put plus a x v ≤ 2 * x
+arc_low plus a x v = grind (arith, end_low plus a.left x v)
+
+side_low : (arcs : List Arc) (xs : List ℕ) (plus : Bool) (k v : ℕ) → ((i : ℕ) → i < k → slice_index xs i ≤ 10 ^ 12)
+    → side_count arcs xs plus k v ≤ k * (2 * 10 ^ 12)
+side_low arcs xs plus zero v short = omega arith
+side_low arcs xs plus (suc k) v short = omega (
+  arith,
+  side_low arcs xs plus k v (λ i l. short i (omega arith)),
+  short k (omega arith),
+  arc_low plus (arc_at arcs k) (slice_index xs k) v,
+)
+
+-- The sums of the first arcs are small.
+pub sides_low : (nodes : ℕ) (arcs : List Arc) (xs : List ℕ) (plus : Bool) (k : ℕ) (sums : List ℕ)
+    → AreNetLengths arcs xs → k ≤ length arcs → AreSides nodes arcs xs plus k sums → (v : ℕ)
+    → slice_index sums v ≤ k * (2 * 10 ^ 12)
+sides_low nodes arcs xs plus k sums lengths le are = tally_low (side_count arcs xs plus k) nodes (k * (2 * 10 ^ 12))
+    sums are (λ v l. side_low arcs xs plus k v (λ i li. lengths.small i (omega (arith, lengths.count))))
+
+-- One arc more.
+pub sides_more : (nodes : ℕ) (arcs : List Arc) (xs : List ℕ) (plus : Bool) (k : ℕ) (old new : List ℕ)
+    → AreSides nodes arcs xs plus k old → IsRaised (arc_put plus (arc_at arcs k) (slice_index xs k)) old new
+    → AreSides nodes arcs xs plus (k + 1) new
+sides_more nodes arcs xs plus k old new are raised =
+    tally_more (side_count arcs xs plus k) (side_count arcs xs plus (k + 1))
+    (arc_put plus (arc_at arcs k) (slice_index xs k)) nodes old new (λ v l. rw (add-one k) refl) are raised
+
+-- Such a sum as a whole number.
+pub side_is : (arcs : List Arc) (xs : List ℕ) (plus : Bool) (v : ℕ) → pos (side_count arcs xs plus (length arcs) v)
+    ≡ side_sum arcs (entries xs) plus v
+side_is arcs xs plus v = count_below_total (λ i. arc_put plus (arc_at arcs i) (slice_index xs i) v) (length arcs)
+    ∙ total_below_same _ _ (length arcs) (λ i l.
+    count_total (λ (e : End). end_put plus e (slice_index xs i) v) (ends (arc_at arcs i))
+    ∙ total_same _ _ (ends (arc_at arcs i)) (λ e. by_test (slice_index xs i) (is_on_side v plus e)))
+  where
+    by_test : (x : ℕ) (b : Bool) → pos (cond b x 0) ≡ cond b (pos x) (pos 0)
+    by_test x true = refl
+    by_test x false = refl
+
+-- The verdict on a list by tables of sums.
+
+-- Equal answers at what was found.
+map_same : (f g : ℕ → CertVerdict) (o : Option ℕ) → ((k : ℕ) → o ≡ Some k → f k ≡ g k) → option_map f o ≡ option_map g o
+map_same f g None same = refl
+map_same f g (Some k) same = ap Some (same k refl)
+
+-- The tables tell the least node with unequal sums, and these.
+pub compared_is : (net : Network) (xs : List ℕ) (plus minus : List ℕ)
+    → AreSides net.nodes net.arcs xs true (length net.arcs) plus
+    → AreSides net.nodes net.arcs xs false (length net.arcs) minus → compared_verdict plus minus
+    ≡ unequal_verdict net xs
+compared_is net xs plus minus p m =
+    ap (option_map (λ v. Unequal v (slice_index plus v) (slice_index minus v))) found
+    ∙ map_same (λ v. Unequal v (slice_index plus v) (slice_index minus v))
+    (λ v. Unequal v (unsigned_abs (side true v)) (unsigned_abs (side false v))) (unequal_fault net xs)
+    (λ v e. same v (least_low (λ u. not (int_eq (side true u) (side false u))) net.nodes v e))
+  where
+    side : Bool → ℕ → ℤ
+    side s v = side_sum net.arcs (entries xs) s v
+
+    plus_is : (v : ℕ) → v < net.nodes → pos (slice_index plus v) ≡ side true v
+    plus_is v l = ap pos (p.each v l) ∙ side_is net.arcs xs true v
+
+    minus_is : (v : ℕ) → v < net.nodes → pos (slice_index minus v) ≡ side false v
+    minus_is v l = ap pos (m.each v l) ∙ side_is net.arcs xs false v
+
+    test : (v : ℕ) → v < net.nodes → not (slice_index plus v == slice_index minus v)
+        ≡ not (int_eq (side true v) (side false v))
+    test v l =
+        let a = slice_index plus v in
+        let b = slice_index minus v in
+        ap not (same_test (a == b) (int_eq (pos a) (pos b))
+        (λ on. (Decides-int_eq (pos a) (pos b)).1 (ap pos (eqb-true a b on)))
+        (λ on. eq-eqb a b (omega (arith, ints, (Decides-int_eq (pos a) (pos b)).0 on))))
+        ∙ (ap (λ z. not (int_eq z (pos (slice_index minus v)))) (plus_is v l) ∙ ap (λ z. not (int_eq (side true v) z))
+        (minus_is v l))
+
+    found : least (λ v. not (slice_index plus v == slice_index minus v)) (length plus) ≡ unequal_fault net xs
+    found = ap (least (λ v. not (slice_index plus v == slice_index minus v))) p.count
+        ∙ least_same _ (λ u. not (int_eq (side true u) (side false u))) net.nodes test
+
+    same : (v : ℕ) → v < net.nodes → Unequal v (slice_index plus v) (slice_index minus v)
+        ≡ Unequal v (unsigned_abs (side true v)) (unsigned_abs (side false v))
+    same v l = ap (λ z. Unequal v (unsigned_abs z) (slice_index minus v)) (plus_is v l)
+        ∙ ap (λ z. Unequal v (unsigned_abs (side true v)) (unsigned_abs z)) (minus_is v l)

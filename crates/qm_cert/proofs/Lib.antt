@@ -1,4 +1,1 @@
 pub mod Checked
-pub mod Range
-pub mod SideSums
-pub mod Verdicts

@@ -1,17 +1,234 @@
+-- The lists of one line more, and those before and behind the first `#f 3`.
+use Rattle.std.proofs.Common.{Bool, List, None, OnOk, Option, Result, Some, append-nil, arith, false, is_some, ℕ, Err}
+use Rattle.std.proofs.Common.{Ok, drop, inl, inr, not, refl, suc, sym, take, true, ◌&&◌, ◌++◌, ◌+◌, ◌∙◌, [], ap, ◌∷◌}
+use Rattle.std.proofs.Common.{◌≡◌, eqb, length, map, ◌<◌, append_assoc, ap₂}
+use Rattle.std.proofs.lemmas.Bool.{cases_Bool, false≢true, or_parts, ne_eqb, not-true, and_from, and_parts, or_from}
+use Rattle.std.proofs.lemmas.List.Folds.{list_any-append, list_all-append, list_all-map}
+use Rattle.std.proofs.lemmas.List.Concat.{flat_map-append}
+use Rattle.std.specs.List.{after_first, before_first, flat_map, list_any, position_or_len, list_all}
+use Rattle.def_certtext.specs.Reading.{is_third, length_in, set_in, set_up_in, vertex_in, vertex_up_in, certificates_by}
+use Rattle.def_certtext.specs.Reading.{lists_in, certificates_in, may_stand}
+use Rattle.def_certtext.specs.declared.certs.Rising.TheVariants.{Never, Rounds, Third}
+use Rattle.def_certtext.specs.CertLines.{Certificates, alone, lists_of, risen, risen_by, Lists, raised, said_by}
+use Rattle.def_certtext.specs.declared.CertLine.TheVariants.{Rise as rise_line, Floor, Length}
+use Rattle.def_certtext.specs.{declared.certs.Rising.Rising, declared.CertLine.CertLine, declared.certs.Round.Round}
+use Rattle.def_certtext.specs.{Rounds.parts_of, Rounds.Part, Rounds.put_line, Rounds.put_rise, declared.certs.Rise.Rise}
+use Rattle.def_certtext.specs.{Laws.AreWritable, Laws.certificate_lines, Laws.chosen_lines}
+use Rattle.qm_certtext.specs.Parts.{HoldBoth, TakesLine, Holds, begins_plain, is_rise, EndsRound, HoldRounds}
+use Rattle.qm_certtext.specs.Parts.{lists_in_parts}
+use Rattle.qm_certtext.specs.{declared.parts.Found.Found, declared.parts.Parts.Parts}
+use Rattle.qm_certtext.proofs.Telling.{lists_back, no_third, no_rise}
+
+-- Before and behind the first that passes, where it is not the front.
+module _ {X : Type 0} (p : X → Bool) where
+  before_step : (x : X) (xs : List X) → p x ≡ false → before_first p (x ∷ xs) ≡ x ∷ before_first p xs
+  before_step x xs other =
+      let next : 1 + position_or_len p xs ≡ suc (position_or_len p xs) = omega arith in
+      rw other (ap (λ (k : ℕ). take k (x ∷ xs)) next)
+
+  after_step : (x : X) (xs : List X) → p x ≡ false → after_first p (x ∷ xs) ≡ after_first p xs
+  after_step x xs other =
+      let next : 1 + position_or_len p xs + 1 ≡ suc (position_or_len p xs + 1) = omega arith in
+      rw other (ap (λ (k : ℕ). drop k (x ∷ xs)) next)
+
+  before_here : (x : X) (xs : List X) → p x ≡ true → before_first p (x ∷ xs) ≡ []
+  before_here x xs is = rw is refl
+
+  after_here : (x : X) (xs : List X) → p x ≡ true → after_first p (x ∷ xs) ≡ xs
+  after_here x xs is = rw is refl
+
+  -- Behind one that passes more may stand.
+  pub before_there : (xs ys : List X) → list_any p xs ≡ true → before_first p (xs ++ ys) ≡ before_first p xs
+  before_there [] ys some = absurd (false≢true some)
+  before_there (x ∷ xs) ys some = elim (cases_Bool (p x)) [
+    | inl is ↦ before_here x (xs ++ ys) is ∙ sym (before_here x xs is)
+    | inr other ↦ before_step x (xs ++ ys) other
+        ∙ ap (λ (zs : List X). x ∷ zs) (before_there xs ys (rw other at some)) ∙ sym (before_step x xs other)
+  ]
+
+  pub after_there : (xs ys : List X) → list_any p xs ≡ true → after_first p (xs ++ ys) ≡ after_first p xs ++ ys
+  after_there [] ys some = absurd (false≢true some)
+  after_there (x ∷ xs) ys some = elim (cases_Bool (p x)) [
+    | inl is ↦ rw (after_here x (xs ++ ys) is, after_here x xs is) refl
+    | inr other ↦ after_step x (xs ++ ys) other ∙ after_there xs ys (rw other at some)
+        ∙ ap (λ (zs : List X). zs ++ ys) (sym (after_step x xs other))
+  ]
+
+  -- Where none passes before it.
+  pub before_first_one : (xs : List X) (y : X) (ys : List X) → list_any p xs ≡ false → p y ≡ true
+      → before_first p (xs ++ y ∷ ys) ≡ xs
+  before_first_one [] y ys none is = before_here y ys is
+  before_first_one (x ∷ xs) y ys none is =
+      let parts = or_parts (p x) _ none in
+      before_step x (xs ++ y ∷ ys) parts.0 ∙ ap (λ (zs : List X). x ∷ zs) (before_first_one xs y ys parts.1 is)
+
+  pub after_first_one : (xs : List X) (y : X) (ys : List X) → list_any p xs ≡ false → p y ≡ true
+      → after_first p (xs ++ y ∷ ys) ≡ ys
+  after_first_one [] y ys none is = after_here y ys is
+  after_first_one (x ∷ xs) y ys none is =
+      let parts = or_parts (p x) _ none in after_step x (xs ++ y ∷ ys) parts.0 ∙ after_first_one xs y ys parts.1 is
+
+-- One line more.
+more : {Y : Type 0} (f : CertLine → List Y) (old new : List Y) (said : List CertLine) (line : CertLine) → old
+    ≡ flat_map f said → new ≡ old ++ f line → new ≡ flat_map f (said ++ line ∷ [])
+more f old new said line is grown = rw (grown, is, flat_map-append f said (line ∷ []), append-nil (f line)) refl
+
+-- What a line adds to lists.
+pub record Adds (old new : Parts) (line : CertLine) : Type 0 where
+  pub lengths : new.lengths.items ≡ old.lengths.items ++ length_in line
+  pub vertices : new.vertices.items ≡ old.vertices.items ++ vertex_in line
+  pub vertex_ups : new.vertex_ups.items ≡ old.vertex_ups.items ++ vertex_up_in line
+  pub sets : new.sets.items ≡ old.sets.items ++ set_in line
+  pub set_ups : new.set_ups.items ≡ old.set_ups.items ++ set_up_in line
+
+-- So the lists are those of one line more.
+pub holds_more : (old new : Parts) (said : List CertLine) (line : CertLine) → Adds old new line → Holds old said
+    → Holds new (said ++ line ∷ [])
+holds_more old new said line adds holds = record {
+  lengths = more length_in _ _ said line holds.lengths adds.lengths;
+  vertices = more vertex_in _ _ said line holds.vertices adds.vertices;
+  vertex_ups = more vertex_up_in _ _ said line holds.vertex_ups adds.vertex_ups;
+  sets = more set_in _ _ said line holds.sets adds.sets;
+  set_ups = more set_up_in _ _ said line holds.set_ups adds.set_ups;
+}
+
+-- Parts with nothing in them hold the lists of no line.
+pub holds_none : {parts : Parts} → parts.lengths.items ≡ [] → (parts.vertices.items ≡ [])
+    × (parts.vertex_ups.items ≡ []) → (parts.sets.items ≡ []) × (parts.set_ups.items ≡ []) → Holds parts []
+holds_none x y z = record { lengths = x; vertices = y.0; vertex_ups = y.1; sets = z.0; set_ups = z.1 }
+
+-- One line more, where floors do not rise in rounds.
+abbrev pub TakesBoth : (old new : Found) (line : CertLine) → Type 0
+TakesBoth old new line =
+    (said : List CertLine) → HoldBoth old.first old.last said → HoldBoth new.first new.last (said ++ line ∷ [])
+
+pub takes_both : (rising : Rising) (old new : Found) (line : CertLine) → (rising ≡ Rounds → ⊥)
+    → TakesBoth old new line → TakesLine rising old new line
+takes_both Never old new line other takes = takes
+takes_both Third old new line other takes = takes
+takes_both Rounds old new line other takes = absurd (other refl)
+
+-- The lines before the first `#f 3` stay, and the next are those of another certificate.
+pub takes_third : (old new : Found) (line : CertLine) → old.first ≡ None → is_third line ≡ true
+    → new.first ≡ Some old.last → Holds new.last [] → TakesBoth old new line
+takes_third old new line none third first empty said holds =
+    let before : (list_any is_third said ≡ false) × Holds old.last said = rw none at holds in
+    rw first (
+      list_any-append is_third said (line ∷ []) ∙ rw (before.0, third) refl,
+      rw (before_first_one is_third said line [] before.0 third) before.1,
+      rw (after_first_one is_third said line [] before.0 third) empty,
+    )
+
+-- Any other line is one of the last certificate.
+pub takes_other : (old new : Found) (line : CertLine) → (old.first ≡ None → is_third line ≡ false)
+    → new.first ≡ old.first → Adds old.last new.last line → TakesBoth old new line
+takes_other old new line other first adds said holds = by_first old.first refl holds
+  where
+    by_first : (o : Option Parts) → old.first ≡ o → HoldBoth o old.last said
+        → HoldBoth new.first new.last (said ++ line ∷ [])
+    by_first None is none = rw (first ∙ is) (
+      list_any-append is_third said (line ∷ []) ∙ rw (none.0, other is) refl,
+      holds_more old.last new.last said line adds none.1,
+    )
+    by_first (Some prefix) is both = rw (first ∙ is) (
+      list_any-append is_third said (line ∷ []) ∙ rw both.0 refl,
+      rw (before_there is_third said (line ∷ []) both.0) both.1,
+      rw (after_there is_third said (line ∷ []) both.0)
+          (holds_more old.last new.last (after_first is_third said) line adds both.2),
+    )
+
+-- Whether a line starts the certificate for floor 3.
+pub starts : (first : Option Parts) (line : CertLine) → (not (is_some first) && is_third line) ≡ true → (first ≡ None)
+    × (is_third line ≡ true)
+starts None line is = (refl, is)
+starts (Some prefix) line is = absurd (false≢true is)
+
+pub starts_not : (first : Option Parts) (line : CertLine) → (not (is_some first) && is_third line) ≡ false
+    → first ≡ None → is_third line ≡ false
+starts_not None line is none = is
+starts_not (Some prefix) line is none = absurd cc
+
+-- Where memory was found for the line.
+pub added_ok : {T E : Type 0} {P : Type 0} (r : Result T E) (old new : Parts) (line : CertLine)
+    → OnOk r (new.lengths.items ≡ old.lengths.items ++ length_in line)
+    → OnOk r (new.vertices.items ≡ old.vertices.items ++ vertex_in line)
+    → OnOk r (new.vertex_ups.items ≡ old.vertex_ups.items ++ vertex_up_in line)
+    → OnOk r (new.sets.items ≡ old.sets.items ++ set_in line)
+    → OnOk r (new.set_ups.items ≡ old.set_ups.items ++ set_up_in line) → (Adds old new line → P) → OnOk r P
+added_ok (Ok x) old new line a b c d e takes =
+    takes (record { lengths = a; vertices = b; vertex_ups = c; sets = d; set_ups = e })
+added_ok (Err e) old new line a b c d f takes = tt
+
+-- The certificates of the lines of rounds.
+
+-- A list with a first element is not empty.
+not_none : {X : Type 0} (x : X) (xs : List X) → eqb (length (x ∷ xs)) 0 ≡ false
+not_none x xs = ne_eqb (length (x ∷ xs)) 0 (λ none. absurd (omega arith))
+
+-- A line that raises no floor joins the part behind it.
+joins : (line : CertLine) (said : List CertLine) → is_rise line ≡ false
+    → parts_of (line ∷ said) ≡ put_line line (parts_of said)
+joins (rise_line r) said plain = absurd cc
+joins _ said plain = refl
+
+-- A rise in front of such lines is a part of its own.
+alone_in_front : (rise : Rise) (more : List CertLine) → begins_plain more ≡ true
+    → put_rise rise (parts_of more) ≡ record { said = []; rises = rise ∷ [] } ∷ parts_of more
+alone_in_front rise [] plain = refl
+alone_in_front rise (line ∷ more) plain =
+    rw (joins line more (not-true (is_rise line) plain)) (by_parts (parts_of more))
+  where
+    by_parts : (parts : List Part) → put_rise rise (put_line line parts)
+        ≡ record { said = []; rises = rise ∷ [] } ∷ put_line line parts
+    by_parts [] = refl
+    by_parts (part ∷ parts) = rw (not_none line part.said) refl
+
+-- So are rises one behind another.
+rises_part : (rise : Rise) (rises : List Rise) (more : List CertLine) → begins_plain more ≡ true
+    → parts_of (map rise_line (rise ∷ rises) ++ more) ≡ record { said = []; rises = rise ∷ rises } ∷ parts_of more
+rises_part rise [] more plain = alone_in_front rise more plain
+rises_part rise (next ∷ rises) more plain = ap (put_rise rise) (rises_part next rises more plain)
+
+-- With the lines in front of them they are a part.
+whole_part : (lines : List CertLine) (rise : Rise) (rises : List Rise) (more : List CertLine) → list_any is_rise lines
+    ≡ false → begins_plain more ≡ true → parts_of (lines ++ (map rise_line (rise ∷ rises) ++ more))
+    ≡ record { said = lines; rises = rise ∷ rises } ∷ parts_of more
+whole_part [] rise rises more none plain = rises_part rise rises more plain
+whole_part (line ∷ lines) rise rises more none plain =
+    let parts = or_parts (is_rise line) (list_any is_rise lines) none in
+    joins line (lines ++ (map rise_line (rise ∷ rises) ++ more)) parts.0
+    ∙ ap (put_line line) (whole_part lines rise rises more parts.1 plain)
+
+-- Lines and the floors that rise behind them are a round of what is behind.
+pub round_first : (lines : List CertLine) (rises : List Rise) (more : List CertLine) → list_any is_rise lines ≡ false
+    → 0 < length rises → begins_plain more ≡ true → certificates_by (parts_of (lines ++ (map rise_line rises ++ more)))
+    ≡ risen (lists_in lines) rises (certificates_by (parts_of more))
+round_first lines [] more none some plain = absurd (omega arith)
+round_first lines (rise ∷ rises) more none some plain =
+    ap certificates_by (whole_part lines rise rises more none plain) ∙ rw (not_none rise rises) refl
+
+-- Lines without a rise are one part.
+last_part : (line : CertLine) (lines : List CertLine) → list_any is_rise (line ∷ lines) ≡ false
+    → parts_of (line ∷ lines) ≡ record { said = line ∷ lines; rises = [] } ∷ []
+last_part line [] none = joins line [] (or_parts (is_rise line) false none).0
+last_part line (next ∷ lines) none =
+    let parts = or_parts (is_rise line) (list_any is_rise (next ∷ lines)) none in
+    joins line (next ∷ lines) parts.0 ∙ ap (put_line line) (last_part next lines parts.1)
+
+-- They are a certificate alone.
+pub last_alone : (lines : List CertLine) → list_any is_rise lines ≡ false
+    → certificates_by (parts_of lines) ≡ alone (lists_in lines)
+last_alone [] none = refl
+last_alone (line ∷ lines) none = ap certificates_by (last_part line lines none)
+
+-- One round more.
+pub risen_more : (rounds : List Round) (round : Round) (after : Certificates)
+    → risen_by (rounds ++ round ∷ []) after ≡ risen_by rounds (risen (lists_of round.cert) round.rises.items after)
+risen_more [] round after = refl
+risen_more (first ∷ rounds) round after =
+    ap (λ (c : Certificates). risen (lists_of first.cert) first.rises.items c) (risen_more rounds round after)
+
 -- The lines of certificates say these certificates.
-use Rattle.def_certtext.specs.CertLines.{Certificates, Lists, alone, raised, risen, said_by}
-use Rattle.def_certtext.specs.Reading.{certificates_by, certificates_in, is_third, lists_in, may_stand}
-use Rattle.def_certtext.specs.declared.CertLine.TheVariants.{Floor, Length, Rise as rise_line}
-use Rattle.def_certtext.specs.declared.certs.Rising.{Rising, TheVariants.Never, TheVariants.Rounds, TheVariants.Third}
-use Rattle.def_certtext.specs.{Laws.AreWritable, Laws.certificate_lines, Laws.chosen_lines, declared.CertLine.CertLine}
-use Rattle.qm_certtext.proofs.{Holding.after_first_one, Holding.before_first_one, Rounds.last_alone, Rounds.round_first}
-use Rattle.qm_certtext.{proofs.Telling.lists_back, proofs.Telling.no_third, specs.Parts.begins_plain}
-use Rattle.std.proofs.Common.{List, append_assoc, arith, false, length, map, not, refl, sym, true, ◌++◌, ◌<◌, ◌∙◌, ◌∷◌}
-use Rattle.std.proofs.lemmas.List.{Folds.list_all-append, Folds.list_all-map, Folds.list_any-append}
-use Rattle.std.proofs.lemmas.{Bool.and_from, Bool.and_parts, Bool.false≢true, Bool.or_from, Bool.or_parts}
-use Rattle.std.specs.{List.list_all, List.list_any}
-use Rattle.std.{proofs.Common.[], proofs.Common.ap, proofs.Common.ℕ, proofs.Common.◌≡◌}
-use Rattle.{def_certtext.specs.Rounds.parts_of, qm_certtext.proofs.Telling.no_rise, qm_certtext.specs.Parts.is_rise}
 
 -- The lines of certificates begin with no rise.
 lengths_first : (xs : List ℕ) (a b c : List CertLine) → 0 < length xs
@@ -96,3 +313,70 @@ chosen_allowed Third (raised first cert) able =
     ∙ and_from _ _ (all_more Third (said_by first) able.1.allowed) (all_more Third (said_by cert) able.2.allowed)
 chosen_allowed Rounds certificates able = rounds_allowed certificates able
 chosen_allowed _ _ able = absurd (cc able.0)
+
+-- Rounds in the making: one rise more, the end of a round, and one line of the next.
+
+-- The lists of lines are those of the parts that hold them.
+held : (parts : Parts) (lines : List CertLine) → Holds parts lines → lists_in lines ≡ lists_in_parts parts
+held parts lines holds = λ i. record {
+  x = sym holds.lengths i;
+  y = sym holds.vertices i;
+  z = sym holds.sets i;
+  up = sym holds.vertex_ups i ++ sym holds.set_ups i;
+}
+
+-- Where some rose, the round is one more, and what is behind begins another certificate.
+pub ends_some : (old new : Found) (round : Round) → 0 < length old.rises.items
+    → new.rounds.items ≡ old.rounds.items ++ round ∷ [] → new.rises.items ≡ [] → Holds new.last []
+    → lists_of round.cert ≡ lists_in_parts old.last → round.rises.items ≡ old.rises.items → EndsRound old new
+ends_some old new round some rounds none empty cert rises said hold = record {
+  lines = [];
+  plain = refl;
+  holds = empty;
+  none = none;
+  same = λ more plain.
+      let lists : lists_in hold.lines ≡ lists_of round.cert = held old.last hold.lines hold.holds ∙ sym cert in
+      hold.same more
+      ∙ ap (risen_by old.rounds.items) (round_first hold.lines old.rises.items more hold.plain some plain
+      ∙ (λ i. risen (lists i) (sym rises i) (certificates_by (parts_of more))))
+      ∙ sym (risen_more old.rounds.items round (certificates_by (parts_of more)))
+      ∙ ap (λ (rs : List Round). risen_by rs (certificates_by (parts_of more))) (sym rounds);
+}
+
+-- A line that is none of a rise raises no floor.
+pub no_rise_line : (line : CertLine) → ((rise : Rise) → line ≡ rise_line rise → ⊥) → is_rise line ≡ false
+no_rise_line (rise_line r) other = absurd (other r refl)
+no_rise_line _ other = refl
+
+-- One line of the last certificate more.
+pub takes_plain : (old ended new : Found) (line : CertLine) → is_rise line ≡ false → EndsRound old ended
+    → new.rounds.items ≡ ended.rounds.items → new.rises.items ≡ ended.rises.items → Adds ended.last new.last line
+    → TakesLine Rounds old new line
+takes_plain old ended new line plain ends rounds rises adds said hold =
+    let end = ends said hold in
+    record {
+      lines = end.lines ++ line ∷ [];
+      plain = list_any-append is_rise end.lines (line ∷ []) ∙ or_from _ _ end.plain (or_from _ _ plain refl);
+      holds = holds_more ended.last new.last end.lines line adds end.holds;
+      same = λ more.
+          let behind : (end.lines ++ line ∷ []) ++ (map rise_line new.rises.items ++ more) ≡ end.lines ++ (line ∷ more)
+          = ap (λ (rs : List Rise). (end.lines ++ line ∷ []) ++ (map rise_line rs ++ more)) (rises ∙ end.none)
+          ∙ append_assoc end.lines (line ∷ []) more in
+          ap (λ (ls : List CertLine). certificates_by (parts_of ls)) (append_assoc said (line ∷ []) more)
+          ∙ end.same (line ∷ more) (rw plain refl)
+          ∙ ap₂ (λ (rs : List Round) (ls : List CertLine). risen_by rs (certificates_by (parts_of ls))) (sym rounds)
+          (sym behind);
+    }
+
+-- At the end of all lines the certificates are those of the rounds and the last.
+pub rounds_are : (old ended : Found) (last : Lists) → EndsRound old ended → last ≡ lists_in_parts ended.last
+    → (said : List CertLine) → HoldRounds old said
+    → risen_by ended.rounds.items (alone last) ≡ certificates_in Rounds said
+rounds_are old ended last ends is said hold =
+    let end = ends said hold in
+    let lists : last ≡ lists_in end.lines = is ∙ sym (held ended.last end.lines end.holds) in
+    let all : certificates_by (parts_of said) ≡ risen_by ended.rounds.items (certificates_by (parts_of end.lines)) =
+    ap (λ (ls : List CertLine). certificates_by (parts_of ls)) (sym (append-nil said)) ∙ end.same [] refl
+    ∙ ap (λ (ls : List CertLine). risen_by ended.rounds.items (certificates_by (parts_of ls))) (append-nil end.lines) in
+    ap (λ (l : Lists). risen_by ended.rounds.items (alone l)) lists
+    ∙ sym (ap (risen_by ended.rounds.items) (last_alone end.lines end.plain)) ∙ sym all

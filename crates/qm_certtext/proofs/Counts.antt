@@ -1,20 +1,54 @@
--- Numbers as certificate lines have them.
-use Rattle.def_certtext.specs.{Reading.is_small, declared.certs.Rise.Rise, declared.certs.Rising.TheVariants.Rounds}
-use Rattle.def_text.{specs.Digits.is_number, specs.Digits.number_written, specs.Types.Word}
-use Rattle.qm_dec.proofs.Texts.{decimal_digits, decimal_number, digit_other, digits_fail, first_at}
-use Rattle.std.proofs.Common.{Bool, List, None, Option, Some, arith, cond, drop, false, get_or, length, negsuc}
-use Rattle.std.proofs.Common.{ap₂, eqb, inl, inr, ltb, map, min, not, pos, refl, suc, sym, take, true, zero, ◌&&◌, ◌++◌}
-use Rattle.std.proofs.Common.{[], ap, ℕ, ℤ, ◌+◌, ◌-◌, ◌<◌, ◌^◌, ◌∙◌, ◌∷◌, ◌≡◌, ◌≤◌}
-use Rattle.std.proofs.lemmas.Bool.{and_cases, and_parts, and_right, cases_Bool, false≢true, not_from_false, true≢false}
-use Rattle.std.proofs.lemmas.Bool.{and_from, eq-eqb, eqb-false, eqb-true, le-leb, lt-ltb, ltb-false, ltb-true, not-true}
+-- A line of one kind is none of another.
+use Rattle.std.proofs.Common.{arith, drop, eqb, get_or, inl, inr, leb, ltb, pos, true, ℕ, ◌+◌, ◌<◌, ◌^◌, ◌∷◌, ◌≡◌, ap}
+use Rattle.std.proofs.Common.{◌≤◌, Bool, List, None, Option, Some, cond, false, length, negsuc, ap₂, map, min, not}
+use Rattle.std.proofs.Common.{refl, suc, sym, take, zero, ◌&&◌, ◌++◌, [], ℤ, ◌-◌, ◌∙◌}
+use Rattle.std.proofs.lemmas.Bool.{and_from, and_parts, eqb-true, false≢true, leb-true, lt-ltb, ltb-true, or_cases}
+use Rattle.std.proofs.lemmas.Bool.{and_cases, and_right, cases_Bool, not_from_false, true≢false, eq-eqb, eqb-false}
+use Rattle.std.proofs.lemmas.Bool.{le-leb, ltb-false, not-true, ne_eqb}
 use Rattle.std.proofs.lemmas.Fmt.{decimal-digits_value, decimal_injective, decimal_nonempty, first_decimal}
-use Rattle.std.proofs.lemmas.Str.{Parse.IsDigitsTest, Parse.IsNumeralModel, Parse.numerals_by_fold}
-use Rattle.std.proofs.lemmas.{Bool.ne_eqb, List.drop_at, List.take-append-drop, List.take_at}
-use Rattle.std.specs.{Int.Digits.number_from_digits_after, List.position_or_len, Prelude.decimal, Prelude.unsigned_abs}
-use Rattle.std.specs.{Char.is_ascii_digit, Fmt.digits, Fmt.signed_decimal, List.list_all}
-use Rattle.{def_certtext.specs.Reading.may_tell, qm_certtext.proofs.Letters.rise_small}
-use Rattle.{qm_certtext.proofs.Letters.rise_low, qm_dec.proofs.Ratios.first_passes, qm_scan.proofs.Numbers.digit_small}
-use Rattle.{qm_scan.proofs.Numbers.number_all}
+use Rattle.std.proofs.lemmas.Str.Parse.{IsDigitsTest, IsNumeralModel, numerals_by_fold}
+use Rattle.std.proofs.lemmas.List.{drop_at, take-append-drop, take_at}
+use Rattle.std.specs.{Prelude.decimal, Prelude.unsigned_abs, Int.Digits.number_from_digits_after, List.position_or_len}
+use Rattle.std.specs.{List.list_all, Char.is_ascii_digit, Fmt.digits, Fmt.signed_decimal}
+use Rattle.def_certtext.specs.declared.certs.Rising.TheVariants.{Never, Rounds, Third}
+use Rattle.def_certtext.specs.{declared.certs.Rising.Rising, declared.CertLine.CertLine}
+use Rattle.def_certtext.specs.{declared.CertLine.TheVariants.Floor, Reading.is_small, Reading.may_name}
+use Rattle.def_certtext.specs.{Reading.may_tell, Reading.Says, declared.certs.Rise.Rise}
+use Rattle.def_text.specs.{Types.Word, Digits.is_number, Digits.number_written}
+use Rattle.qm_dec.proofs.ReadBack.{decimal_digits, decimal_number, digit_other, digits_fail, first_at, first_passes}
+use Rattle.qm_scan.proofs.Numbers.{digit_small, number_all}
+
+-- A floor that a line may name is small.
+pub floor_low : (rising : Rising) (floor : ℕ) → may_name rising floor ≡ true → floor ≤ 3
+floor_low Never floor may = absurd (false≢true may)
+floor_low Third floor may = elim (or_cases (eqb floor 1) (eqb floor 3) may) [
+  | inl one ↦ omega (arith, eqb-true floor 1 one)
+  | inr three ↦ omega (arith, eqb-true floor 3 three)
+]
+floor_low Rounds floor may = omega (arith, eqb-true floor 1 may)
+
+-- So are the numbers of a rise, which a line may tell in rounds alone.
+pub rise_low : (rising : Rising) (rise : Rise) → may_tell rising rise ≡ true → (rise.arc < 2 ^ 32) × (rise.floor ≤ 3)
+rise_low Never rise may = absurd (false≢true may)
+rise_low Third rise may = absurd (false≢true may)
+rise_low Rounds rise may =
+    let parts = and_parts (ltb rise.arc (2 ^ 32)) (leb rise.floor 3) may in
+    (ltb-true _ _ parts.0, leb-true _ _ parts.1)
+
+-- As a number and its `up` they are small.
+pub rise_small : (rising : Rising) (rise : Rise) → may_tell rising rise ≡ true
+    → is_small (pos (rise.arc + 1)) rise.floor ≡ true
+rise_small rising rise may =
+    let low = rise_low rising rise may in
+    and_from _ _ (lt-ltb (rise.arc + 1) (10 ^ 18) (omega arith))
+    (lt-ltb rise.floor (2 ^ 32) (omega arith))
+
+pub not_floor : (rising : Rising) (rest : Word) → ((n : ℕ) → may_name rising n ≡ true → rest ≡ decimal n → ⊥)
+    → (said : CertLine) → Says rising (35 ∷ 102 ∷ 32 ∷ rest) said → ⊥
+not_floor rising rest none (Floor floor) says = none floor says.allowed (ap (drop 3) says.written)
+not_floor rising rest none _ says = omega (arith, ap (λ (w : Word). get_or w 1 0) says.written)
+
+-- Numbers as certificate lines have them.
 
 -- Digits, and the number that they write.
 abbrev AreDigits : (word : Word) → Type 0

@@ -1,17 +1,18 @@
 -- The lines of a certificate are read back, each in one way.
-use Rattle.def_certtext.specs.CertLines.{HasUps, Lists, dual_lines, line_text, said_by}
-use Rattle.def_certtext.specs.Reading.{is_hash_line, is_small, length_in, may_stand, set_up_in, vertex_in, vertex_up_in}
-use Rattle.def_certtext.specs.declared.CertLine.TheVariants.{Floor, Length, Rise as rise_line, Set, Vertex}
-use Rattle.def_certtext.specs.{Reading.is_third, declared.CertLine.CertLine, declared.certs.Rising.Rising}
-use Rattle.qm_certtext.proofs.{Counts.small_parts, Counts.split_once, Letters.floor_low, Letters.rise_small}
 use Rattle.std.proofs.Common.{append-nil, arith, false, filter, get_or, length, negsuc, take-append-drop, unsigned_abs}
 use Rattle.std.proofs.Common.{Bool, List, [], ap₂, drop, map, pos, refl, take, true, ◌++◌, ◌+◌, ◌<◌, ◌^◌, ◌∙◌, ◌∷◌, ◌≡◌}
-use Rattle.std.proofs.lemmas.List.{Concat.flat_map-append, Folds.list_any-append, length-drop, length-take-le}
-use Rattle.std.proofs.lemmas.{Bool.and_parts, Bool.leb-true, Fmt.decimal_injective, Fmt.signed_decimal_injective}
-use Rattle.std.proofs.{Common.ap, Common.ℕ, Common.ℤ, lemmas.Bool.or_from}
+use Rattle.std.proofs.Common.{ap, ℕ, ℤ}
+use Rattle.std.proofs.{lemmas.List.Concat.flat_map-append, lemmas.List.Folds.list_any-append, lemmas.List.length-drop}
+use Rattle.std.proofs.{lemmas.List.length-take-le, lemmas.Bool.and_parts, lemmas.Bool.leb-true, lemmas.Bool.or_from}
+use Rattle.std.proofs.{lemmas.Fmt.decimal_injective, lemmas.Fmt.signed_decimal_injective}
 use Rattle.std.specs.{Fmt.signed_decimal, List.flat_map, List.list_all, List.list_any, Prelude.decimal}
-use Rattle.{def_certtext.specs.Reading.lists_in, def_certtext.specs.Reading.set_in, qm_certtext.specs.Parts.is_rise}
-use Rattle.{def_text.specs.Types.Word}
+use Rattle.def_certtext.specs.CertLines.{HasUps, Lists, dual_lines, line_text, said_by}
+use Rattle.def_certtext.specs.Reading.{is_hash_line, is_small, length_in, may_stand, set_up_in, vertex_in, vertex_up_in}
+use Rattle.def_certtext.specs.Reading.{is_third, lists_in, set_in}
+use Rattle.def_certtext.specs.declared.CertLine.TheVariants.{Floor, Length, Rise as rise_line, Set, Vertex}
+use Rattle.def_certtext.specs.{declared.CertLine.CertLine, declared.certs.Rising.Rising}
+use Rattle.qm_certtext.proofs.Counts.{small_parts, split_once, floor_low, rise_small}
+use Rattle.{qm_certtext.specs.Parts.is_rise, def_text.specs.Types.Word}
 
 one_number : (y z : ℤ) → unsigned_abs y < 10 ^ 18 → unsigned_abs z < 10 ^ 18 → signed_decimal y ≡ signed_decimal z
     → y ≡ z

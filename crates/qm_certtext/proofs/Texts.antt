@@ -1,26 +1,33 @@
 -- The lines of a written text, and what they tell.
+use Rattle.std.proofs.Common.{Bool, List, append_assoc, ap₂, arith, codes, false, filter, get_or, length, negsuc, subst}
+use Rattle.std.proofs.Common.{ltb, map, not, pos, refl, suc, sym, true, zero, ◌++◌, ◌+◌, ◌<◌, ◌^◌, ◌↔◌, ◌∙◌, ◌∷◌, ◌≡◌}
+use Rattle.std.proofs.Common.{[], ap, ℕ, ℤ}
+use Rattle.std.proofs.lemmas.Bool.{and_from, and_parts, eqb-true, leb-true, ltb-true}
+use Rattle.std.proofs.{lemmas.List.Concat.flat_map-append, lemmas.List.Folds.flat_map-map}
+use Rattle.std.proofs.{lemmas.List.Folds.list_all-append, lemmas.List.length-map}
+use Rattle.std.specs.{Char.is_ascii_digit, Fmt.signed_decimal, List.flat_map, List.list_all, List.All, Prelude.decimal}
+use Rattle.std.specs.{Prelude.unsigned_abs}
 use Rattle.def_certtext.specs.Reading.{IsHead, Made, TellCerts, TellHow, certificates_in, is_hash_line, may_stand}
 use Rattle.def_certtext.specs.Settings.{AreInRange, IsFloor, floor_text, scale_text, weight_text}
 use Rattle.def_certtext.specs.declared.CertLine.TheVariants.{Floor, Length, Rise as rise_line, Set, Vertex}
-use Rattle.def_certtext.specs.{CertLines.Certificates, declared.CertLine.CertLine, declared.certs.Rising.Rising}
-use Rattle.def_certtext.specs.{CertLines.line_text, CertLines.text_of, HeadLine.head_line, Laws.certificate_lines}
-use Rattle.def_certtext.specs.{Laws.AreWritable, Laws.IsPrintable, Laws.WrittenLaw, Risings.third_if}
-use Rattle.def_flow.specs.declared.net.Weight.{TheVariants.Length as ByLength, TheVariants.Plain, Weight}
+use Rattle.def_certtext.specs.CertLines.{Certificates, line_text, text_of, HasUps, lists_of, raised, risen_by, said_by}
+use Rattle.def_certtext.specs.CertLines.{alone, risen, used}
+use Rattle.def_certtext.specs.Laws.{certificate_lines, AreWritable, IsPrintable, WrittenLaw, chosen_lines}
+use Rattle.def_certtext.specs.{declared.CertLine.CertLine, declared.certs.Rising.Rising, HeadLine.head_line}
+use Rattle.def_certtext.specs.{Risings.third_if, declared.certs.Round.Round}
+use Rattle.def_flow.specs.declared.net.Weight.TheVariants.{Length as ByLength, Plain}
+use Rattle.def_flow.specs.{declared.net.Weight.Weight, declared.net.Settings.Settings}
 use Rattle.def_text.specs.{Canonical.canonical_text, FaceSet.FaceSet, Laws.is_position, Laws.is_quad, Types.Word}
-use Rattle.qm_certtext.proofs.{Chosen.chosen_allowed, Chosen.chosen_certs, Cutting.asked_words, Unique.same_settings}
-use Rattle.qm_certtext.proofs.{Counts.small_parts, Cutting.asked_cut, Marks.filter_append, Telling.all_marked}
-use Rattle.qm_certtext.{proofs.Letters.floor_low, proofs.Letters.rise_low, proofs.Telling.one_list}
+use Rattle.qm_certtext.proofs.{Chosen.chosen_allowed, Chosen.chosen_certs, Cutting.asked_words, Cutting.asked_cut}
+use Rattle.qm_certtext.proofs.{Cutting.same_settings, Counts.small_parts, Counts.floor_low, Counts.rise_low}
+use Rattle.qm_certtext.proofs.{Found.filter_append, Telling.all_marked, Telling.one_list}
 use Rattle.qm_obj.proofs.LawSoup.{canonical_lines, each_both, position_line, position_line_is, text_lines, vertex_word}
+use Rattle.qm_obj.proofs.LawSoup.{each_map, face_line}
 use Rattle.qm_obj.proofs.LawText.{IsLine, IsWord, decimal_word, is_inside, line_tame, lines_back, tame_inside}
-use Rattle.qm_obj.{proofs.LawSoup.each_map, proofs.LawSoup.face_line, proofs.ListLemmas.passes_at}
-use Rattle.std.proofs.Common.{Bool, List, append_assoc, ap₂, arith, codes, false, filter, get_or, length, negsuc, subst}
-use Rattle.std.proofs.Common.{ltb, map, not, pos, refl, suc, sym, true, zero, ◌++◌, ◌+◌, ◌<◌, ◌^◌, ◌↔◌, ◌∙◌, ◌∷◌, ◌≡◌}
-use Rattle.std.proofs.lemmas.List.{Concat.flat_map-append, Folds.flat_map-map, Folds.list_all-append, length-map}
-use Rattle.std.proofs.lemmas.{Bool.and_from, Bool.and_parts, Bool.eqb-true, Bool.leb-true, Bool.ltb-true}
-use Rattle.std.specs.{Char.is_ascii_digit, Fmt.signed_decimal, List.flat_map, Prelude.decimal, Prelude.unsigned_abs}
-use Rattle.std.{proofs.Common.[], proofs.Common.ap, proofs.Common.ℕ, proofs.Common.ℤ, specs.List.list_all}
-use Rattle.{def_flow.specs.declared.net.Settings.Settings, def_io.specs.Bytes.Lines, qm_dec.proofs.Texts.decimal_digits}
-use Rattle.{def_io.specs.Lines.lines_of, qm_certtext.specs.Cuts.asked_line, qm_dec.proofs.Texts.digit_other}
+use Rattle.qm_obj.proofs.TailLemmas.{passes_at}
+use Rattle.def_io.specs.{Bytes.Lines, Lines.lines_of}
+use Rattle.qm_dec.proofs.ReadBack.{decimal_digits, digit_other}
+use Rattle.qm_certtext.specs.{Cuts.asked_line, RoundLines.round_lines, RoundLines.HaveUps}
 
 -- Digits end no line.
 digits_inside : (digits : Word) → list_all is_ascii_digit digits ≡ true → list_all is_inside digits ≡ true
@@ -234,3 +241,40 @@ written_law settings auto soup certificates range printable able other =
         let both : other.certificates ≡ certificates = (tells other.certificates).0 (subst (λ (b : Bool). TellCerts
         (third_if b) (canonical_lines soup ++ map line_text said) other.certificates) (sym same.1) tell.certificates) in
         λ i. record { settings = sym same.0 i; auto = sym same.1 i; certificates = both i }
+
+-- What the lines of certificates are written from.
+
+-- Behind rounds the certificate that is used is that behind them.
+pub used_risen : (rounds : List Round) (after : Certificates) → used (risen_by rounds after) ≡ used after
+used_risen [] after = refl
+used_risen (round ∷ rounds) after = used_risen rounds after
+
+-- What can be written has its `up`.
+pub have_ups : (rising : Rising) (certificates : Certificates) → AreWritable rising certificates → HaveUps certificates
+have_ups rising (alone cert) able = able.ups
+have_ups rising (raised first cert) able = (able.1.ups, able.2.ups)
+have_ups rising (risen first rises after) able = (able.1.ups, have_ups rising after able.5)
+
+pub ups_used : (certificates : Certificates) → HaveUps certificates → HasUps (used certificates)
+ups_used (alone cert) have = have
+ups_used (raised first cert) have = have.1
+ups_used (risen first rises after) have = ups_used after have.1
+
+pub ups_rounds : (rounds : List Round) (after : Certificates) → HaveUps (risen_by rounds after)
+    → All (λ round. HasUps (lists_of round.cert)) rounds
+ups_rounds [] after have k d low = absurd (omega arith)
+ups_rounds (round ∷ rounds) after have zero d low = have.0
+ups_rounds (round ∷ rounds) after have (suc k) d low = ups_rounds rounds after have.1 k d (omega arith)
+
+-- Texts of lines and of more lines.
+pub text_both : (a b : List CertLine) → text_of (a ++ b) ≡ text_of a ++ text_of b
+text_both a b = flat_map-append (λ line. line_text line ++ 10 ∷ []) a b
+
+-- The lines of rounds, and those of the certificates behind them.
+pub round_lines_are : (rounds : List Round) (after : Certificates)
+    → round_lines rounds ++ chosen_lines after ≡ chosen_lines (risen_by rounds after)
+round_lines_are [] after = refl
+round_lines_are (round ∷ rounds) after = append_assoc (said_by (lists_of round.cert)) (map rise_line round.rises.items
+    ++ round_lines rounds) (chosen_lines after) ∙ ap (λ (ls : List CertLine). said_by (lists_of round.cert) ++ ls)
+    (append_assoc (map rise_line round.rises.items) (round_lines rounds) (chosen_lines after)
+    ∙ ap (λ (ls : List CertLine). map rise_line round.rises.items ++ ls) (round_lines_are rounds after))

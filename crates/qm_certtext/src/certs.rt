@@ -13,7 +13,7 @@ use def_flow::Cert;
 use std::alloc::Global;
 
 /// The certificate whose lengths are used.
-#[tactic(auto, using(crate::proofs::Writing::used_risen))]
+#[tactic(auto, using(crate::proofs::Texts::used_risen))]
 pub fn used_cert(certs: &Certs) -> &Cert
     ensures { lists_of result.now ≡ used (certificates_of certs.now) }
 {
@@ -25,7 +25,7 @@ pub fn used_cert(certs: &Certs) -> &Cert
 }
 
 /// The lines of the certificates of a remesh. Where floors rise, they begin with the floor of the first. Linear.
-#[tactic(auto, using(crate::proofs::Writing::have_ups, crate::proofs::Writing::ups_used))]
+#[tactic(auto, using(crate::proofs::Texts::have_ups, crate::proofs::Texts::ups_used))]
 pub fn certs_text(alloc: Global, rising: Rising, certs: &Certs) -> Result<Vec<u8>, Memory>
     requires { AreWritable rising (certificates_of certs.now) }
     ensures { IfOk result (λ text. text.items ≡ text_of (certificate_lines rising (certificates_of certs.now))) }

@@ -20,7 +20,7 @@ use std::alloc::Global;
 
 /// Reads the head line `first`, from 0, and all later lines that begin with `#`. Lengths and numbers stand in the order
 /// of their lines; `up` has those of all vertices and then those of all sets. Linear.
-#[tactic(auto, using(crate::proofs::Tails::few_lines, crate::proofs::Tails::tail_fails))]
+#[tactic(auto, using(crate::proofs::Found::few_lines, crate::proofs::Found::tail_fails))]
 pub fn read_written(alloc: Global, lines: &Lines, first: u32) -> Result<Written, CertFail>
     requires { first < length (lines_of lines.now) }
     ensures reads { IfOk result (λ written. TellHow (slice_index_or (lines_of lines.now) first [])

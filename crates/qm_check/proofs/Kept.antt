@@ -1,23 +1,26 @@
 -- What is kept by certificates that are checked, and why none is.
 use Rattle.std.proofs.Common.{ap, ◌+◌, refl, ◌++◌, subst, [], ℕ, ◌∷◌, inl, arith, length, List, ◌∙◌, ◌≡◌, inr, sym}
-use Rattle.{std.proofs.lemmas.List.get_or_default, def_layout.specs.Layouts.Layout, def_layout.specs.Layouts.gluing_of}
-use Rattle.def_run.specs.Judging.{AreWrong, AreFront, first_of, IsWrong}
-use Rattle.{def_run.specs.declared.check_fail.CheckFail.CheckFail, qm_layoutnet.proofs.Floors.floors_deviation}
+use Rattle.std.proofs.lemmas.List.{get_or_default}
+use Rattle.def_layout.specs.{Layouts.Layout, Layouts.gluing_of, Lengths.Lengths, Gluings.Gluing}
+use Rattle.def_run.specs.{Judging.AreWrong, Judging.AreFront, Judging.first_of, Judging.IsWrong}
+use Rattle.def_run.specs.{declared.check_fail.CheckFail.CheckFail}
 use Rattle.def_run.specs.{declared.check_fail.CheckFail.TheVariants.NotAccepted, declared.answer.Why.Why}
 use Rattle.def_certtext.specs.CertLines.{lists_of, used, alone, risen_by, risen, Lists, Certificates, certificates_of}
-use Rattle.{def_certtext.specs.declared.certs.Rising.Rising, std.specs.Prelude.◌<◌, std.specs.Prelude.slice_index_or}
-use Rattle.def_certtext.specs.{declared.certs.Certs.Certs, declared.certs.Rise.Rise, declared.certs.Round.Round}
-use Rattle.{remesh_laws.specs.Keeps.AreLed, remesh_laws.specs.Keeps.floors_behind, def_layout.specs.Lengths.Lengths}
+use Rattle.def_certtext.specs.{declared.certs.Rising.Rising, declared.certs.Certs.Certs, declared.certs.Rise.Rise}
+use Rattle.def_certtext.specs.{declared.certs.Round.Round}
+use Rattle.remesh_laws.specs.Keeps.{AreLed, floors_behind}
 use Rattle.def_flow.specs.{Accepted.certificate, declared.cert.Cert.Cert, declared.net.Settings.Settings}
 use Rattle.def_flow.specs.{Network.Network, Descent.IsSolution, Admissible.entries, Admissible.deviation}
-use Rattle.{def_layout.specs.Gluings.Gluing, remesh_laws.proofs.Rounds.net_risen, remesh_laws.proofs.Rounds.behind_more}
-use Rattle.{def_layoutnet.specs.Floors.floor_of, def_layoutnet.specs.Floors.HasFloors, qm_check.specs.Checked.GivesNone}
-use Rattle.qm_check.specs.Checked.{IsChecked, ArePassed, IsInReach, Gives, IsUnused, IsCheckable, AreInReach, IsNoRise}
+use Rattle.remesh_laws.proofs.{ReadAgain.net_risen, ReadAgain.behind_more, ReadAgain.led_more, ReadAgain.used_behind}
+use Rattle.remesh_laws.proofs.{Keeps.solved, Keeps.doubled_some, Keeps.keeps}
+use Rattle.def_layoutnet.specs.Floors.{floor_of, HasFloors}
+use Rattle.qm_check.specs.Checked.{GivesNone, IsChecked, ArePassed, IsInReach, Gives, IsUnused, IsCheckable, AreInReach}
+use Rattle.qm_check.specs.Checked.{IsNoRise}
 use Rattle.qm_check.specs.declared.lengths.Lengths.TheVariants.{Doubled, Whole}
-use Rattle.def_remesh.specs.{Keeping.IsNetWith, Certified.IsDoubling, Remeshed.AreKeptBy, Certified.IsCertified}
-use Rattle.def_remesh.specs.{NewPoints.lengths_in, Rises.AreNeeded, declared.tables.Tables.Tables, Keeping.IsNetFor}
-use Rattle.def_remesh.specs.{Rises.risen_floors, Tasks.given_floors, Tasks.Wish}
-use Rattle.remesh_laws.proofs.{Rounds.led_more, Keeps.solved, Rounds.used_behind, Keeps.doubled_some, Keeps.keeps}
+use Rattle.def_remesh.specs.{Keeping.IsNetWith, Keeping.IsNetFor, Certified.IsDoubling, Certified.IsCertified}
+use Rattle.def_remesh.specs.{Remeshed.AreKeptBy, NewPoints.lengths_in, Rises.AreNeeded, Rises.risen_floors}
+use Rattle.def_remesh.specs.{declared.tables.Tables.Tables, Tasks.given_floors, Tasks.Wish}
+use Rattle.{std.specs.Prelude.◌<◌, std.specs.Prelude.slice_index_or, qm_layoutnet.proofs.Floors.floors_deviation}
 use Rattle.def_run.specs.declared.answer.Why.TheVariants as why
 
 -- ---- Rounds in front of certificates.

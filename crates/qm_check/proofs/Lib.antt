@@ -1,4 +1,3 @@
-mod Differences
 pub mod Heads
 mod Kept
 mod Maps

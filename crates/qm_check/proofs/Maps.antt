@@ -1,25 +1,27 @@
 -- The map of bytes that have one, and what is said of those that have none.
 use Rattle.std.proofs.Common.{Option, ◌∙◌, sym, inr, take, None, arith, refl, ◌≡◌, ℕ, ap, subst, ◌↔◌, ◌≤◌, Some}
-use Rattle.std.proofs.{lemmas.Option.none-some, lemmas.Bool.false≢true, lemmas.Option.same_Some}
-use Rattle.{def_certtext.specs.CertLines.used, site_laws.proofs.Laws.graph_law, def_cut.specs.Traced.traced_marks}
-use Rattle.{def_map.specs.MapText.map_text, def_text.specs.FaceSet.FaceSet, def_flow.specs.Network.network}
-use Rattle.{def_layout.specs.Arcs.long_at, def_run.specs.Map.IsHeadedBy, def_io.specs.Bytes.Bytes}
-use Rattle.{embedding_laws.proofs.OneLayout.one_layout_law, def_io.specs.Lines.lines_of, def_io.specs.Lines.tail_of}
-use Rattle.def_run.specs.Map.{IsMapOf, HasOtherText, asks_of, HasMap, IsNotRefined, IsUnfinished, IsUnlike, WritesNew}
+use Rattle.std.proofs.{lemmas.Option.none-some, lemmas.Option.same_Some, lemmas.Bool.false≢true}
+use Rattle.def_run.specs.Map.{IsHeadedBy, IsMapOf, HasOtherText, asks_of, HasMap, IsNotRefined, IsUnfinished, IsUnlike}
+use Rattle.def_run.specs.Map.{WritesNew}
 use Rattle.def_run.specs.declared.check_fail.CheckFail.TheVariants.{NotAccepted, NotManifold, Tangled, Far, Marks, Old}
 use Rattle.def_run.specs.declared.command.Command.TheVariants.{Fit, Crease, Refine, Coarse, Size, Remesh}
 use Rattle.def_run.specs.MarkLines.{IsMarkLine, IsLastMark, front_of, HasNoMark, begins_mark}
 use Rattle.def_run.specs.{Check.head_of, declared.command.Command.Command, Judging.IsReason, Remesh.IsTracedLayout}
-use Rattle.def_run.specs.{Mesh.IsMeshText, declared.check_fail.CheckFail.CheckFail, MapFails.IsMapFail}
-use Rattle.def_run.specs.{declared.answer.Why.Why, Remesh.WritesFinished, Refine.WritesRefined}
-use Rattle.{def_mesh.specs.Manifold.IsManifold, qm_check.specs.Multiples.HasNoPoints, qm_check.specs.Ready.IsOld}
+use Rattle.def_run.specs.{Remesh.WritesFinished, Mesh.IsMeshText, declared.check_fail.CheckFail.CheckFail}
+use Rattle.def_run.specs.{MapFails.IsMapFail, declared.answer.Why.Why, Refine.WritesRefined}
+use Rattle.def_io.specs.{Bytes.Bytes, Lines.lines_of, Lines.tail_of}
+use Rattle.embedding_laws.proofs.OneLayout.{one_layout_law}
 use Rattle.qm_check.specs.Making.{IsReadyFor, NeverWrites, IsFound, IsUnmade, HasMapOf, IsGivenTo}
-use Rattle.qm_check.specs.{declared.judging.Finished.Finished, Ready.IsNoOld, declared.ready.Ready.Ready}
-use Rattle.qm_check.specs.{Judged.judged_by, Multiples.IsRefinedBy, Judged.IsTextFail, Checked.IsDifference}
-use Rattle.{def_remesh.specs.CutSoups.Regrid, def_remesh.specs.CutSoups.CutSoup, remesh_laws.proofs.LastLines.one_last}
-use Rattle.def_remesh.specs.{Certified.IsShown, NewPoints.lengths_in, NewPoints.multiple_of, Refined.refined_text}
-use Rattle.def_remesh.specs.{declared.limits.TheConstants.MAX_NEW_FACES, Refined.refined_faces}
+use Rattle.qm_check.specs.{Multiples.HasNoPoints, Multiples.IsRefinedBy, Ready.IsOld, Ready.IsNoOld}
+use Rattle.qm_check.specs.{declared.judging.Finished.Finished, declared.ready.Ready.Ready, Judged.judged_by}
+use Rattle.qm_check.specs.{Judged.IsTextFail, Checked.IsDifference}
+use Rattle.def_remesh.specs.{CutSoups.Regrid, CutSoups.CutSoup, Certified.IsShown, NewPoints.lengths_in}
+use Rattle.def_remesh.specs.{NewPoints.multiple_of, Refined.refined_text, Refined.refined_faces}
+use Rattle.def_remesh.specs.{declared.limits.TheConstants.MAX_NEW_FACES}
 use Rattle.qm_check.proofs.{Points.one_ok, Points.ok_or_err, Verdicts.shape_of, Verdicts.untangled, Tasks.shown_by}
+use Rattle.{def_certtext.specs.CertLines.used, site_laws.proofs.Laws.graph_law, def_cut.specs.Traced.traced_marks}
+use Rattle.{def_map.specs.MapText.map_text, def_text.specs.FaceSet.FaceSet, def_flow.specs.Network.network}
+use Rattle.{def_layout.specs.Arcs.long_at, def_mesh.specs.Manifold.IsManifold, remesh_laws.proofs.Asides.one_last}
 use Rattle.def_run.specs.declared.answer.Why.TheVariants as why
 
 -- Without such a line there is no map.

@@ -2,33 +2,35 @@
 use Rattle.std.proofs.Common.{Vec, List, Global, ◌↔◌, None, subst, sym, ℕ, Some, arith, drop, ap, inr, ◌≡◌, pos, ◌+◌}
 use Rattle.std.proofs.Common.{inl, Bool, ◌∙◌, take, refl}
 use Rattle.def_certtext.specs.CertLines.{raised, Lists, risen, used, certificates_of, alone, Certificates}
-use Rattle.{def_certtext.specs.Reading.HasBadLine, def_certtext.specs.Reading.TellCerts, def_text.specs.FaceSet.FaceSet}
-use Rattle.def_certtext.specs.{declared.certs.Rising.Rising, declared.certs.Terms.Terms, declared.certs.Rise.Rise}
-use Rattle.{def_cut.specs.FullCut.IsFullCut, def_fit.specs.FitTasks.kept_text}
-use Rattle.def_flow.specs.{Network.network, Admissible.entries, Admissible.deviation, Network.Network}
-use Rattle.def_flow.specs.{Network.tangle_number, declared.net.Settings.Settings, Accepted.cert_verdict}
-use Rattle.def_io.specs.{Bytes.Lines, Lines.tail_of, Bytes.Bytes, Lines.lines_of}
-use Rattle.def_layout.specs.Layouts.{vertex_at, Layout, gluing_of}
-use Rattle.{def_layout.specs.FaceLayouts.IsCutLayout, def_layout.specs.Lengths.Lengths, qm_write.proofs.Framing.text_is}
-use Rattle.def_remesh.specs.Tasks.{given_floors, old_lengths, Wish, Task}
-use Rattle.def_remesh.specs.Certified.{IsShown, IsCertified, AreKept, certificate_of}
-use Rattle.def_remesh.specs.{Keeping.IsKept, Rises.risen_floors, Keeping.IsNetFor, Remeshed.AreKeptBy}
-use Rattle.def_remesh.specs.{Refusals.IsTangledAt, Stitched.KeepsShapes, TextLaws.IsSolid, NewPoints.lengths_in}
-use Rattle.def_remesh.specs.{Remeshed.AreCoarse, CutSoups.Regrid, CutSoups.CutSoup, Remeshed.finished_text}
+use Rattle.def_certtext.specs.{Reading.HasBadLine, Reading.TellCerts, declared.certs.Rising.Rising}
+use Rattle.def_certtext.specs.{declared.certs.Terms.Terms, declared.certs.Rise.Rise}
+use Rattle.def_flow.specs.{Network.network, Network.Network, Network.tangle_number, Admissible.entries}
+use Rattle.def_flow.specs.{Admissible.deviation, declared.net.Settings.Settings, Accepted.cert_verdict}
+use Rattle.def_io.specs.{Bytes.Lines, Bytes.Bytes, Lines.tail_of, Lines.lines_of}
+use Rattle.def_layout.specs.{Layouts.vertex_at, Layouts.Layout, Layouts.gluing_of, FaceLayouts.IsCutLayout}
+use Rattle.def_layout.specs.{Lengths.Lengths}
+use Rattle.def_remesh.specs.{Tasks.given_floors, Tasks.old_lengths, Tasks.Wish, Tasks.Task, Certified.IsShown}
+use Rattle.def_remesh.specs.{Certified.IsCertified, Certified.AreKept, Certified.certificate_of, Keeping.IsKept}
+use Rattle.def_remesh.specs.{Keeping.IsNetFor, Rises.risen_floors, Remeshed.AreKeptBy, Remeshed.AreCoarse}
+use Rattle.def_remesh.specs.{Remeshed.finished_text, Refusals.IsTangledAt, Stitched.KeepsShapes, TextLaws.IsSolid}
+use Rattle.def_remesh.specs.{NewPoints.lengths_in, CutSoups.Regrid, CutSoups.CutSoup}
 use Rattle.def_run.specs.Judging.{text_in, Judged, IsLoneDoubled, AreFront, first_of, DifferFrom, AreUnneeded, IsWrong}
 use Rattle.def_run.specs.Judging.{IsWrongText, AreWrong, TellsOtherText, behind_in}
-use Rattle.{def_run.specs.declared.check_fail.CheckFail.CheckFail, embedding_laws.proofs.OneLayout.one_layout_law}
+use Rattle.def_run.specs.{declared.check_fail.CheckFail.CheckFail}
 use Rattle.def_run.specs.{declared.check_fail.CheckFail.TheVariants.NotAccepted, declared.answer.Why.Why}
-use Rattle.{qm_layoutnet.proofs.OneNet.one_net_law, embedding_laws.proofs.MeshLayouts.laid_of}
+use Rattle.embedding_laws.proofs.{OneLayout.one_layout_law, Bounds.laid_of}
 use Rattle.def_written.specs.{NewFaces.new_faces, Shape.KeepsShape, Edges.IsUndoubled}
-use Rattle.qm_check.specs.{Ready.IsLaidOut, declared.certificates.Checked.Checked, Ready.IsReady, Ready.TellsNothing}
-use Rattle.qm_check.specs.{Checked.IsDifference, Checked.IsChecked, Judged.judged_by, Judged.IsTextFail, Ready.marks_of}
-use Rattle.qm_check.specs.{declared.ready.Frame.Frame, Judged.Finishes, Checked.IsUnused, declared.ready.Ready.Ready}
+use Rattle.qm_check.specs.{Ready.IsLaidOut, Ready.IsReady, Ready.TellsNothing, Ready.marks_of}
+use Rattle.qm_check.specs.{declared.certificates.Checked.Checked, Checked.IsDifference, Checked.IsChecked}
+use Rattle.qm_check.specs.{Checked.IsUnused, Judged.judged_by, Judged.IsTextFail, Judged.Finishes}
+use Rattle.qm_check.specs.{declared.ready.Frame.Frame, declared.ready.Ready.Ready}
 use Rattle.qm_write.specs.{declared.text.Framed.Framed, Framing.framed_text}
-use Rattle.remesh_laws.proofs.{Keeps.least_of, TaskTexts.task_told, TaskTexts.none_silent, Tails.tail_behind}
+use Rattle.remesh_laws.proofs.{Keeps.least_of, ReadAgain.task_told, ReadAgain.none_silent, Tails.tail_behind}
 use Rattle.remesh_laws.proofs.{Printable.cut_layout, Printable.quads_of, MarkedLines.marked_silent}
 use Rattle.def_layoutnet.specs.{LayoutNet.IsNetOf, MeshLayouts.IsSomeLayout}
-use Rattle.{qm_cert.proofs.Checked.accepted_yes, qm_certtext.proofs.Marks.said_at, remesh_laws.specs.Asides.IsSilent}
+use Rattle.{def_text.specs.FaceSet.FaceSet, def_cut.specs.FullCut.IsFullCut, def_fit.specs.FitTasks.kept_text}
+use Rattle.{qm_write.proofs.Framing.text_is, qm_layoutnet.proofs.Balance.one_net_law}
+use Rattle.{qm_cert.proofs.Checked.accepted_yes, qm_certtext.proofs.Found.said_at, remesh_laws.specs.Asides.IsSilent}
 use Rattle.def_run.specs.declared.answer.Why.TheVariants as why
 
 -- ---- Certificates that are kept.

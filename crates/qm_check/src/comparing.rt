@@ -17,7 +17,7 @@ use std::alloc::Global;
 
 /// Compares the bytes with the text of a remesh in its frame, which is made piece by piece and not kept. It gives back
 /// the new mesh.
-#[tactic(auto, using(crate::proofs::Differences::stopped_within))]
+#[tactic(auto, using(crate::proofs::Pairs::stopped_within))]
 pub(crate) fn compare(
     alloc: Global,
     given: &SmallText,

@@ -6,10 +6,9 @@ use Rattle.std.proofs.Math.Nat.{mul-le-mul_left, mul-le-mul_right, mul_assoc, po
 use Rattle.std.proofs.{lemmas.Nat.pow-add, Math.Seq.drop-cons}
 use Rattle.std.specs.{Char.is_ascii_digit, Int.Digits.number_from_digits_after, List.list_all}
 use Rattle.def_text.specs.Digits.{number_written, unsigned}
-use Rattle.qm_dec.specs.Sizes.{IsSize}
-use Rattle.qm_dec.proofs.Digits.{ten_power, after_is, number_append}
 use Rattle.qm_dec.proofs.ReadBack.{HasParts, parts_form, parts_size, plain_parts, pointed_parts}
-use Rattle.qm_scan.proofs.Numbers.{number_small, values}
+use Rattle.qm_dec.proofs.Digits.{ten_power, after_is, number_append}
+use Rattle.{qm_dec.specs.Sizes.IsSize, qm_scan.proofs.Numbers.number_small, qm_scan.proofs.Numbers.values}
 
 ten_most : (i j : ℕ) → i ≤ j → 10 ^ i ≤ 10 ^ j
 ten_most i j le = pow-le-pow_right {n = 10} (omega arith) {i = i} {j = j} le

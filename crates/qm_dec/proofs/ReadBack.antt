@@ -1,23 +1,145 @@
--- The canonical text of a number reads back as the number.
-use Rattle.std.proofs.Common.{◌≡◌, ℕ, zero, suc, ◌+◌, ◌-◌, ◌*◌, ◌/◌, ◌%◌, ◌^◌, ◌<◌, ◌≤◌, ℤ, pos, negsuc, ◌+ℤ◌, ◌-ℤ◌}
-use Rattle.std.proofs.Common.{neg_ℤ, true, false, not, cond, eqb, List, [], ◌∷◌, ◌++◌, length, take, drop, get_or, sym}
-use Rattle.std.proofs.Common.{ap, ◌∙◌, refl, inl, inr, arith, length-append, ap₂}
-use Rattle.std.proofs.lemmas.Bool.{and_from, and_parts, or_from, le-leb, le-ltb, cases_eq, eqb-true, ne_eqb, cond-true}
-use Rattle.std.proofs.lemmas.Bool.{cond-false, cases_Bool}
-use Rattle.std.proofs.lemmas.Fmt.{decimal_digit, decimal_step, decimal_nonempty}
-use Rattle.std.proofs.lemmas.List.{take_all, take_at, drop_all, take_more, length-map, length-take, append-nil}
-use Rattle.std.proofs.{lemmas.Int.ints, lemmas.List.Folds.list_all-append, lemmas.Nat.pow-add, Math.Nat.pow-suc}
-use Rattle.std.proofs.{Math.Seq.drop-append-add}
-use Rattle.std.specs.{Prelude.decimal, Char.is_ascii_digit, List.list_all, List.position_or_len, List.before_first}
-use Rattle.def_text.specs.Canonical.{fraction_text, micro_text, six_digits, without_zeros}
+-- Numbers as they are printed: their digits, their value, their length, and where other bytes stand among them.
+use Rattle.std.proofs.Common.{◌≡◌, ℕ, ◌+◌, ◌%◌, ◌^◌, ◌<◌, Bool, true, false, not, cond, eqb, List, [], ◌∷◌, ◌++◌}
+use Rattle.std.proofs.Common.{length, ap, ◌∙◌, refl, arith, get_or, ◌≤◌, take, drop, sym, ap₂, ◌-◌, ◌/◌, set, zero, suc}
+use Rattle.std.proofs.Common.{◌*◌, ℤ, pos, negsuc, ◌+ℤ◌, ◌-ℤ◌, neg_ℤ, inl, inr, length-append}
+use Rattle.std.proofs.lemmas.Bool.{not-true, and_parts, and_from, le-leb, not_from_true, not_from_false, ne_eqb}
+use Rattle.std.proofs.lemmas.Bool.{false≢true, eqb-true, or_from, le-ltb, cases_eq, cond-true, cond-false, cases_Bool}
+use Rattle.std.proofs.lemmas.List.Sums.{list_all-from_AllPass, AllPass-from_list_all, position_or_len_is}
+use Rattle.std.proofs.lemmas.List.Sums.{passes_at_first, suffix_len-le-length}
+use Rattle.std.proofs.lemmas.Fmt.{decimal_by_steps, length-decimal-le, decimal_digit, decimal_step, decimal_nonempty}
+use Rattle.std.proofs.lemmas.List.{get_or-drop, length-drop, take_at, drop_at, take-append-drop, reverse-append}
+use Rattle.std.proofs.lemmas.List.{take-append-le, take_all, length_push, length-take, drop_all, take_more, length-map}
+use Rattle.std.proofs.lemmas.List.{append-nil}
+use Rattle.std.proofs.{lemmas.List.Folds.list_all-append, Math.Seq.drop-cons, Math.Seq.drop-append-add, lemmas.Int.ints}
+use Rattle.std.proofs.{lemmas.Nat.pow-add, Math.Nat.pow-suc}
+use Rattle.std.specs.{Prelude.decimal, Char.is_ascii_digit, List.list_all, List.position_or_len, List.prefix_len}
+use Rattle.std.specs.{List.suffix_len, List.before_first}
+use Rattle.def_text.specs.Canonical.{fraction_text, six_digits, without_zeros, micro_text}
 use Rattle.def_text.specs.Decimal.{all_digits, exponent, fraction_digits, is_decimal, is_exponent, is_mark, is_point}
 use Rattle.def_text.specs.Decimal.{mantissa, power, rounded_size, scaled}
-use Rattle.def_text.specs.Laws.{CanonicalLaw}
-use Rattle.def_text.specs.Digits.{is_negative, is_number, number_written, unsigned}
-use Rattle.qm_dec.proofs.Digits.{after_is, digits_split, number_append, number_both}
-use Rattle.qm_dec.proofs.Texts.{decimal_digits, decimal_number, digit_other, digits_fail, first_at, none_first}
-use Rattle.qm_dec.proofs.Trims.{fraction_short, whole_short, without_zeros-other, without_zeros-zero}
+use Rattle.def_text.specs.{Digits.number_written, Digits.is_negative, Digits.is_number, Digits.unsigned}
+use Rattle.def_text.specs.{Corner.is_slash, Ratio.IsRatio, Laws.CanonicalLaw}
+use Rattle.qm_dec.proofs.Digits.{number_append, after_is, digits_split, number_both}
 use Rattle.qm_scan.proofs.Numbers.{digit_small, values}
+
+glyph : (d : ℕ) → d < 10 → is_ascii_digit (48 + d) ≡ true
+glyph d l = and_from _ _ (le-leb 48 (48 + d) (omega arith)) (le-leb (48 + d) 57 (omega arith))
+
+-- a printed number has digits alone, and its value
+pub decimal_digits : (n : ℕ) → n < 2 ^ 64 → list_all is_ascii_digit (decimal n) ≡ true
+decimal_digits n l = decimal_by_steps (λ m ds. list_all is_ascii_digit ds ≡ true) (λ m s. and_from _ _ (glyph m s) refl)
+    (λ m ds s all. list_all-append is_ascii_digit ds ((48 + m % 10) ∷ [])
+    ∙ and_from _ _ all (and_from _ _ (glyph (m % 10) (omega arith)) refl)) n l
+
+pub decimal_number : (n : ℕ) → n < 2 ^ 64 → number_written (decimal n) ≡ n
+decimal_number n l = decimal_by_steps (λ m ds. number_written ds ≡ m) (λ m s. omega arith)
+    (λ m ds s e. number_append ds ((48 + m % 10) ∷ []) ∙ omega arith) n l
+
+-- the first byte that passes a test, behind bytes that do not
+pub none_first : (b : ℕ → Bool) (xs : List ℕ) → list_all (λ x. not (b x)) xs ≡ true → position_or_len b xs ≡ length xs
+none_first b xs all = position_or_len_is b xs (length xs) 0 (omega arith) (λ k low. not-true (b (get_or xs k 0))
+    (AllPass-from_list_all (λ x. not (b x)) xs all k 0 low)) (λ low. absurd (omega arith))
+
+pub first_at : (b : ℕ → Bool) (xs : List ℕ) (y : ℕ) (ys : List ℕ) → list_all (λ x. not (b x)) xs ≡ true → b y ≡ true
+    → position_or_len b (xs ++ y ∷ ys) ≡ length xs
+first_at b [] y ys all is = ap (λ t. cond t (1 + prefix_len (λ x. not (b x)) ys) 0) (not_from_true (b y) is)
+first_at b (x ∷ xs) y ys all is = let p = and_parts (not (b x)) (list_all (λ x. not (b x)) xs) all in
+    ap (λ t. cond t (1 + prefix_len (λ z. not (b z)) (xs ++ y ∷ ys)) 0) p.0 ∙ omega (arith, first_at b xs y ys p.1 is)
+
+-- no digit passes a test that passes none
+pub digits_fail : (b : ℕ → Bool) → ((d : ℕ) → is_ascii_digit d ≡ true → b d ≡ false) → (xs : List ℕ)
+    → list_all is_ascii_digit xs ≡ true → list_all (λ x. not (b x)) xs ≡ true
+digits_fail b other xs all = list_all-from_AllPass (λ x. not (b x)) xs (λ i d low.
+    not_from_false (b (get_or xs i d)) (other (get_or xs i d) (AllPass-from_list_all is_ascii_digit xs all i d low)))
+
+-- no digit is this byte, below the digits
+pub digit_other : (c : ℕ) → c < 48 → (d : ℕ) → is_ascii_digit d ≡ true → eqb d c ≡ false
+digit_other c l d is = ne_eqb d c (λ e. absurd (omega (arith, (digit_small d is).0)))
+
+-- The parts of a ratio's word.
+
+-- what is not digits is no printed number
+pub not_printed : (word : List ℕ) → false ≡ list_all is_ascii_digit word → (n : ℕ) → n ≤ 10000 → word ≡ decimal n → ⊥
+not_printed word e n l is = false≢true (e ∙ ap (list_all is_ascii_digit) is ∙ decimal_digits n (omega arith))
+
+-- what stands before the slash of a ratio, and behind it
+pub sides : (word : List ℕ) (p q : ℕ) → IsRatio word p q → (take (position_or_len is_slash word) word ≡ decimal p)
+    × (drop (position_or_len is_slash word) word ≡ 47 ∷ decimal q)
+sides word p q r =
+    let place : position_or_len is_slash word ≡ length (decimal p) =
+    ap (position_or_len is_slash) r.written ∙ first_at is_slash (decimal p) 47 (decimal q)
+    (digits_fail is_slash (digit_other 47 (omega arith)) (decimal p) (decimal_digits p
+    (omega (arith, r.p_high)))) refl in
+    rw (place, r.written) (take_at (decimal p) (47 ∷ decimal q) _ refl, drop_at (decimal p) (47 ∷ decimal q) _ refl)
+
+pub above_is : (word : List ℕ) (p q : ℕ) → IsRatio word p q → take (position_or_len (λ b. eqb b 47) word) word
+    ≡ decimal p
+above_is word p q r = (sides word p q r).0
+
+pub below_is : (word : List ℕ) (p q : ℕ) → IsRatio word p q → drop (position_or_len (λ b. eqb b 47) word) word
+    ≡ 47 ∷ decimal q
+below_is word p q r = (sides word p q r).1
+
+-- what stands at the first byte that passes does pass
+pub first_passes : (b : ℕ → Bool) (xs : List ℕ) → 0 < length (drop (position_or_len b xs) xs)
+    → b (get_or (drop (position_or_len b xs) xs) 0 0) ≡ true
+first_passes b xs l =
+    let n = position_or_len b xs in
+    let at : get_or (drop n xs) 0 0 ≡ get_or xs n 0 = get_or-drop n xs 0 0 ∙ ap (λ k. get_or xs k 0) (omega arith) in
+    ap b at ∙ passes_at_first b xs 0 (omega (arith, length-drop n xs))
+
+-- two printed numbers with the first slash between them are a ratio's word
+pub joined : (word : List ℕ) (p q : ℕ) → 0 < length (drop (position_or_len is_slash word) word)
+    → take (position_or_len is_slash word) word ≡ decimal p
+    → drop 1 (drop (position_or_len is_slash word) word) ≡ decimal q → word ≡ decimal p ++ 47 ∷ decimal q
+joined word p q l above below =
+    sym (take-append-drop (position_or_len is_slash word) word)
+    ∙ ap₂ (λ (xs ys : List ℕ). xs ++ ys) above (drop-cons _ 0 0 l
+    ∙ ap₂ (λ y (ys : List ℕ). y ∷ ys) (eqb-true _ _ (first_passes is_slash word l)) below)
+
+-- The canonical text of a number: zeros at the end of digits, and lengths.
+
+-- The zeros at the end of digits with one more.
+suffix_push : (xs : List ℕ) (x : ℕ) → suffix_len (λ d. eqb d 48) (xs ++ x ∷ [])
+    ≡ cond (eqb x 48) (1 + suffix_len (λ d. eqb d 48) xs) 0
+suffix_push xs x = ap (prefix_len (λ d. eqb d 48)) (reverse-append xs (x ∷ []))
+
+-- A zero at the end goes.
+pub without_zeros-zero : (xs : List ℕ) → without_zeros (xs ++ 48 ∷ []) ≡ without_zeros xs
+without_zeros-zero xs =
+    let most : suffix_len (λ d. eqb d 48) xs ≤ length xs = suffix_len-le-length (λ d. eqb d 48) xs in
+    let s : suffix_len (λ d. eqb d 48) (xs ++ 48 ∷ []) ≡ 1 + suffix_len (λ d. eqb d 48) xs = suffix_push xs 48 in
+    let n : length (xs ++ 48 ∷ []) - suffix_len (λ d. eqb d 48) (xs ++ 48 ∷ []) ≡ length xs - suffix_len (λ d. eqb d 48)
+    xs = omega (arith, length_push xs 48) in
+    rw n (take-append-le _ xs _ (omega arith))
+
+-- Another digit at the end stays.
+pub without_zeros-other : (xs : List ℕ) (x : ℕ) → (x ≡ 48 → ⊥) → without_zeros (xs ++ x ∷ []) ≡ xs ++ x ∷ []
+without_zeros-other xs x ne =
+    let s : suffix_len (λ d. eqb d 48) (xs ++ x ∷ []) ≡ 0 = suffix_push xs x ∙ rw (ne_eqb x 48 ne) refl in
+    take_all _ _ (omega arith)
+
+pub ruleset trims = (without_zeros-zero, without_zeros-other)
+
+-- the text behind the point is short
+pub trimmed_short : (r : ℕ) → r < 10 ^ 6 → length (without_zeros (six_digits r)) ≤ 6
+trimmed_short r l =
+    let kept = length-take (length (six_digits r) - suffix_len (λ d. eqb d 48) (six_digits r)) (six_digits r) in
+    let seven = length-decimal-le 7 (10 ^ 6 + r) (omega arith) (omega arith) (omega arith) in
+    omega (arith, length-drop 1 (decimal (10 ^ 6 + r)))
+
+pub fraction_short : (r : ℕ) → r < 10 ^ 6 → length (fraction_text r) ≤ 7
+fraction_short r l = grind (arith, trimmed_short r l)
+
+-- the digits before the point
+pub whole_short : (n : ℕ) → n ≤ 999_999_999_999_999 → length (decimal (n / 10 ^ 6)) ≤ 9
+whole_short n l = length-decimal-le 9 (n / 10 ^ 6) (omega arith) (omega arith) (omega arith)
+
+pub first_of_write : (out : List ℕ) (b : ℕ) → 1 ≤ length out → take 1 (set out 0 b) ≡ b ∷ []
+first_of_write [] b l = absurd (omega arith)
+first_of_write (x ∷ xs) b l = refl
+
+-- The canonical text of a number reads back as the number.
 
 -- The six digits of a number below a million are six, and write it: before them is a 1.
 six : (r : ℕ) → r < 10 ^ 6 → (length (six_digits r) ≡ 6) × (number_written (six_digits r) ≡ r)

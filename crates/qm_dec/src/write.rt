@@ -8,7 +8,7 @@ use itoa::Buffer;
 use qm_scan::behind_first;
 
 /// Writes the text at the front of `out` and tells its length, at most 17.
-#[tactic(auto, using(crate::proofs::Trims::whole_short, crate::proofs::Trims::fraction_short))]
+#[tactic(auto, using(crate::proofs::ReadBack::whole_short, crate::proofs::ReadBack::fraction_short))]
 pub fn write_micro(out: &mut [u8; 24], m: Micro) -> usize
     ensures short { result ≤ 17 }
     ensures text { take result out.new ≡ micro_text m }
@@ -20,7 +20,7 @@ pub fn write_micro(out: &mut [u8; 24], m: Micro) -> usize
     write_fraction(out, whole, size % 1_000_000)
 }
 
-#[tactic(auto, using(crate::proofs::Trims::first_of_write))]
+#[tactic(auto, using(crate::proofs::ReadBack::first_of_write))]
 fn write_sign(out: &mut [u8], m: Micro) -> usize
     requires { 1 ≤ length out.old }
     ensures short { result ≤ 1 }
@@ -66,7 +66,7 @@ fn put(out: &mut [u8], at: usize, piece: &[u8]) -> usize
     end
 }
 
-#[tactic(auto, using(crate::proofs::Trims::trims))]
+#[tactic(auto, using(crate::proofs::ReadBack::trims))]
 fn strip_zeros(digits: &[u8]) -> &[u8]
     ensures { result.now ≡ without_zeros digits.now }
 {

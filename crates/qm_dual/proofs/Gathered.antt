@@ -1,16 +1,98 @@
--- The load of an edge, by the sets around each of its ends and around both.
-use Rattle.std.proofs.Common.{◌≡◌, ℕ, zero, suc, ◌+◌, ◌*◌, ◌^◌, ◌<◌, ◌≤◌, ◌≢◌, ◌==◌, ◌||◌, true, false, not, cond, List}
-use Rattle.std.proofs.Common.{length, ℤ, pos, ◌+ℤ◌, ◌-ℤ◌, refl, sym, ◌∙◌, ap, inl, inr, ◌⊎◌, arith}
-use Rattle.std.proofs.lemmas.Int.{ints}
-use Rattle.std.proofs.lemmas.Bool.{cases_eq, eq-eqb, ne_eqb, false_from_ne_true}
+-- Climbing through nested sets, one set at a time.
+use Rattle.std.proofs.Common.{◌≡◌, ℕ, zero, suc, ◌+◌, ◌<◌, ◌≤◌, ◌≢◌, ◌==◌, ◌||◌, Bool, true, false, List, refl, sym}
+use Rattle.std.proofs.Common.{◌∙◌, ap, inl, inr, ◌⊎◌, arith, ◌*◌, ◌^◌, not, cond, length, ℤ, pos, ◌+ℤ◌, ◌-ℤ◌, eqb, []}
+use Rattle.std.proofs.Common.{◌∷◌, ◌*ℤ◌, Option, Some, None}
+use Rattle.std.proofs.lemmas.Bool.{or_left, or_right, cases_eq, cases_lt, eq-eqb, ne_eqb, false_from_ne_true}
+use Rattle.std.proofs.{lemmas.Bool.Decides.nat_tests, lemmas.List.get_or_past, lemmas.Int.ints, Math.IntN.*ℤ_comm}
 use Rattle.std.specs.Prelude.{slice_index, unsigned_abs}
+use Rattle.def_matching.specs.Dual.{AreNestedSets, is_up, DualLists, AreSmall, IsSmallDual, z_at}
+use Rattle.qm_dual.specs.Nest.{climbs, around, apart, named_sum, AreSums, IsMeeting}
 use mir.Syntax.{w128}
 use mir.Val.{to_z, of_z}
-use Rattle.def_math.specs.Sums.{total_below}
-use Rattle.sum_laws.proofs.Sums.{total_below_same, total_below_sum, total_below_none, total_below_one}
-use Rattle.def_matching.specs.Dual.{DualLists, AreNestedSets, AreSmall, IsSmallDual, z_at}
-use Rattle.qm_dual.specs.Nest.{climbs, around, apart, named_sum, AreSums, IsMeeting}
-use Rattle.qm_dual.proofs.Climbs.{set_later, climb_on, climb_none, passed_later}
+use Rattle.def_math.specs.{Sums.total_below, Sums.total, Counts.count, Searches.least, Searches.or_this}
+use Rattle.sum_laws.proofs.Sums.{total_below_same, total_below_sum, total_below_none, total_below_one, times_sum}
+
+-- An entry of a lawful `up` is 0, or names a set at a later place.
+entry_later : (n m i entry : ℕ) → is_up n m i entry ≡ true → (entry ≡ 0) ⊎ ((i + 1 < n + entry) × (entry ≤ m))
+entry_later n m i entry on = grind (arith, nat_tests)
+
+-- No set: nothing is passed.
+pub climb_none : (n : ℕ) (up : List ℕ) (steps k : ℕ) → climbs n up steps k 0 ≡ false
+climb_none n up steps k = grind (arith)
+
+-- A set that is passed: it is the first, or passed from the set around that.
+pub passed_on : (j k : ℕ) (rest : Bool) → ((j == k) || rest) ≡ true → (j ≡ k) ⊎ (rest ≡ true)
+passed_on j k rest on = elim (cases_eq j k) [ inl e ↦ inl e | inr ne ↦ inr (rw (ne_eqb j k ne) at on) ]
+
+module _ {n m : ℕ} {up : List ℕ} (nested : AreNestedSets n m up) where
+  -- A vertex's entry names one of the sets, or none.
+  pub entry_low : (v : ℕ) → v < n → slice_index up v ≤ m
+  entry_low v l = omega (arith, entry_later n m v (slice_index up v) (nested.later v (omega arith)))
+
+  -- The set around a set is none, or a later one.
+  pub set_later : (j : ℕ) → (slice_index up (n + j) ≡ 0)
+      ⊎ ((j + 1 < slice_index up (n + j)) × (slice_index up (n + j) ≤ m))
+  set_later j = elim (cases_lt j m) [
+    | inl l ↦ elim (entry_later n m (n + j) (slice_index up (n + j)) (nested.later (n + j) (omega arith)))
+        [ inl e ↦ inl e | inr h ↦ inr (omega arith, h.1) ]
+    | inr h ↦ inl (get_or_past up (n + j) 0 (omega (arith, nested.entries)))
+  ]
+
+  -- The same, where there is a set around it.
+  pub around_later : (j q : ℕ) → slice_index up (n + j) ≡ suc q → (j < q) × (q < m)
+  around_later j q is = let p = set_later j in (omega arith, omega arith)
+
+  -- A step more changes nothing, where the steps suffice.
+  more_steps : (steps k entry : ℕ) → entry ≤ m → (entry ≢ 0 → m < steps + entry)
+      → climbs n up (suc steps) k entry ≡ climbs n up steps k entry
+  more_steps zero k zero low enough = refl
+  more_steps (suc steps) k zero low enough = refl
+  more_steps zero k (suc j) low enough = absurd (omega (arith, enough (λ e. omega arith)))
+  more_steps (suc steps) k (suc j) low enough =
+      let room = enough (λ e. omega arith) in
+      let p = set_later j in
+      ap (λ b. (j == k) || b) (more_steps steps k (slice_index up (n + j)) (omega arith) (λ ne. omega arith))
+
+  -- One set up.
+  pub climb_on : (k j : ℕ) → j < m
+      → climbs n up m k (suc j) ≡ ((j == k) || climbs n up m k (slice_index up (n + j)))
+  climb_on k j l =
+      let p = set_later j in
+      sym (more_steps m k (suc j) (omega arith) (λ ne. omega arith))
+
+  -- A climb from a set passes it, and what is passed from the set around it.
+  pub climbs_itself : (k : ℕ) → k < m → climbs n up m k (suc k) ≡ true
+  climbs_itself k l = climb_on k k l ∙ or_left (k == k) _ (eq-eqb k k refl)
+
+  pub climb_over : (k j : ℕ) → j < m → climbs n up m k (slice_index up (n + j)) ≡ true → climbs n up m k (suc j) ≡ true
+  climb_over k j l on = climb_on k j l ∙ or_right (j == k) _ on
+
+  -- Only later sets are passed, and no climb is from none.
+  pub passed_later : (steps k entry : ℕ) → entry ≤ m → climbs n up steps k entry ≡ true
+      → (0 < entry) × (entry ≤ suc k) × (k < m)
+  passed_later (suc steps) k (suc j) low on =
+      elim (passed_on j k (climbs n up steps k (slice_index up (n + j))) on) [
+        | inl e ↦ (omega arith, omega arith, omega arith)
+        | inr there ↦ (let p = set_later j in
+            let rest = passed_later steps k (slice_index up (n + j)) (omega arith) there in
+            (omega arith, omega arith, omega arith))
+      ]
+  passed_later (suc steps) k zero low on = absurd cc
+  passed_later zero k entry low on = absurd cc
+
+  -- Where climbing from a set passes another, what the other passes is passed.
+  pub passed_further : (steps b k entry : ℕ) → entry ≤ m → climbs n up steps b entry ≡ true
+      → climbs n up m k (suc b) ≡ true → climbs n up m k entry ≡ true
+  passed_further (suc steps) b k (suc j) low on further =
+      elim (passed_on j b (climbs n up steps b (slice_index up (n + j))) on) [
+        | inl e ↦ ap (λ i. climbs n up m k (suc i)) e ∙ further
+        | inr there ↦ (let p = set_later j in climb_over k j (omega arith)
+            (passed_further steps b k (slice_index up (n + j)) (omega arith) there further))
+      ]
+  passed_further (suc steps) b k zero low on further = absurd cc
+  passed_further zero b k entry low on further = absurd cc
+
+-- The load of an edge, by the sets around each of its ends and around both.
 
 -- A sum of small terms is small.
 pub total_below_small : (f : ℕ → ℤ) (c n : ℕ) → ((k : ℕ) → k < n → unsigned_abs (f k) ≤ c)
@@ -106,3 +188,112 @@ plain_difference x y z (lx, ly, lz) =
     let cc' : to_z w128 (of_z w128 (z +ℤ z)) ≡ z +ℤ z = omega (arith, ints) in
     let all : to_z w128 (of_z w128 ((x +ℤ y) -ℤ (z +ℤ z))) ≡ (x +ℤ y) -ℤ (z +ℤ z) = omega (arith, ints) in
     (rw (a, b, c, ab, cc', all) refl, omega (arith, ints))
+
+-- A sum over the ends of edges is a sum over the vertices.
+
+-- 1 where the two numbers are equal.
+abbrev pub hit : ℕ → ℕ → ℕ
+hit u k = cond (u == k) 1 0
+
+-- The ends of each are below a bound.
+abbrev pub EndsBelow : {X : Type 0} → (X → ℕ) → (X → ℕ) → ℕ → List X → Type 0
+EndsBelow u v n [] = Unit {0}
+EndsBelow u v n (x ∷ xs) = (u x < n) × (v x < n) × EndsBelow u v n xs
+
+-- A sum as a factor.
+pub plus_times : (a b : ℕ) (c : ℤ) → pos (a + b) *ℤ c ≡ pos a *ℤ c +ℤ pos b *ℤ c
+plus_times a b c = omega (
+  arith,
+  ints,
+  *ℤ_comm (pos (a + b)) c,
+  times_sum c (pos a) (pos b),
+  *ℤ_comm (pos a) c,
+  *ℤ_comm (pos b) c,
+)
+
+-- The number of one vertex, as a sum in which it alone counts.
+pub one_end : (f : ℕ → ℤ) (n u : ℕ) → u < n → total_below (λ k. pos (hit u k) *ℤ f k) n ≡ f u
+one_end f n u l = total_below_one (λ k. pos (hit u k) *ℤ f k) n u l other ∙ here
+  where
+    other : (k : ℕ) → k < n → (k ≡ u → ⊥) → pos (hit u k) *ℤ f k ≡ pos 0
+    other k lk ne = let off : eqb u k ≡ false = ne_eqb u k (λ e. ne (sym e)) in rw off (omega (arith, ints))
+
+    here : pos (hit u u) *ℤ f u ≡ f u
+    here = let on : eqb u u ≡ true = eq-eqb u u refl in rw on (omega (arith, ints))
+
+-- Each vertex counts as often as it is an end.
+pub ends_sum : {X : Type 0} (u v : X → ℕ) (f : ℕ → ℤ) (n : ℕ) (xs : List X) → EndsBelow u v n xs
+    → total (λ x. f (u x) +ℤ f (v x)) xs ≡ total_below (λ k. pos (count (λ x. hit (u x) k + hit (v x) k) xs) *ℤ f k) n
+ends_sum u v f n [] below = sym (total_below_none (λ k. pos 0 *ℤ f k) n (λ k l. omega (arith, ints)))
+ends_sum {X} u v f n (x ∷ xs) below =
+    let rest : ℕ → ℤ = λ (k : ℕ). pos (count (λ (e : X). hit (u e) k + hit (v e) k) xs) *ℤ f k in
+    let left : ℕ → ℤ = λ (k : ℕ). pos (hit (u x) k) *ℤ f k in
+    let right : ℕ → ℤ = λ (k : ℕ). pos (hit (v x) k) *ℤ f k in
+    let parts : total_below (λ k. pos (hit (u x) k + hit (v x) k + count (λ (e : X). hit (u e) k + hit (v e) k) xs) *ℤ f
+    k) n ≡ total_below (λ k. (left k +ℤ right k) +ℤ rest k) n =
+    total_below_same _ _ n (λ k l. omega (
+      arith,
+      ints,
+      plus_times (hit (u x) k + hit (v x) k) (count (λ (e : X). hit (u e) k + hit (v e) k) xs) (f k),
+      plus_times (hit (u x) k) (hit (v x) k) (f k),
+    )) in
+    omega (
+      arith,
+      ints,
+      parts,
+      total_below_sum (λ k. left k +ℤ right k) rest n,
+      total_below_sum left right n,
+      one_end f n (u x) below.0,
+      one_end f n (v x) below.1,
+      ends_sum u v f n xs below.2,
+    )
+
+-- Where each vertex is an end just once, each counts once.
+pub ends_once : {X : Type 0} (u v : X → ℕ) (f : ℕ → ℤ) (n : ℕ) (xs : List X) → EndsBelow u v n xs
+    → ((k : ℕ) → k < n → count (λ x. hit (u x) k + hit (v x) k) xs ≡ 1)
+    → total (λ x. f (u x) +ℤ f (v x)) xs ≡ total_below f n
+ends_once u v f n xs below once = ends_sum u v f n xs below
+    ∙ total_below_same _ f n (λ k l. rw (once k l) (omega (arith, ints)))
+
+-- Laws of the least number that passes a test.
+
+-- Where none passes, none is found.
+pub least_none : (p : ℕ → Bool) (n : ℕ) → ((k : ℕ) → k < n → p k ≡ false) → least p n ≡ None
+least_none p zero off = refl
+least_none p (suc n) off = rw (least_none p n (λ k l. off k (omega arith)), off n (omega arith)) refl
+
+-- The first that passes is found.
+pub least_some : (p : ℕ → Bool) (n j : ℕ) → j < n → ((k : ℕ) → k < j → p k ≡ false) → p j ≡ true → least p n ≡ Some j
+least_some p zero j l off on = absurd (omega arith)
+least_some p (suc n) j l off on = elim (cases_eq j n) [
+  | inl e ↦ rw (least_none p n (λ k lk. off k (omega arith)), ap p (sym e) ∙ on) (ap Some (sym e))
+  | inr ne ↦ rw (least_some p n j (omega arith) off on) refl
+]
+
+-- What was not found does not pass.
+not_this : (o : Option ℕ) (n : ℕ) (b : Bool) → or_this o n b ≡ None → (o ≡ None) × (b ≡ false)
+not_this None n false none = (refl, refl)
+not_this _ _ _ none = absurd cc
+
+-- Where none is found, none passes.
+pub none_below : (p : ℕ → Bool) (n : ℕ) → least p n ≡ None → (k : ℕ) → k < n → p k ≡ false
+none_below p zero none k l = absurd (omega arith)
+none_below p (suc n) none k l =
+    let (before, here) = not_this (least p n) n (p n) none in
+    elim (cases_eq k n) [ inl e ↦ ap p e ∙ here | inr ne ↦ none_below p n before k (omega arith) ]
+
+-- Tests that agree below the bound have the same least number.
+pub least_same : (p q : ℕ → Bool) (n : ℕ) → ((k : ℕ) → k < n → p k ≡ q k) → least p n ≡ least q n
+least_same p q zero same = refl
+least_same p q (suc n) same = rw (least_same p q n (λ k l. same k (omega arith)), same n (omega arith)) refl
+
+-- What is found is below the bound.
+pub least_low : (p : ℕ → Bool) (n j : ℕ) → least p n ≡ Some j → j < n
+least_low p zero j found = absurd cc
+least_low p (suc n) j found = by_before (least p n) (p n) refl found (least_low p n)
+  where
+    by_before : (o : Option ℕ) (b : Bool) → least p n ≡ o → or_this o n b ≡ Some j
+        → ((i : ℕ) → least p n ≡ Some i → i < n) → j < suc n
+    by_before (Some i) b was is low = let same : i ≡ j = cc in omega (arith, low i was, same)
+    by_before None true was is low = let same : n ≡ j = cc in omega (arith, same)
+    by_before None false was is low = absurd cc

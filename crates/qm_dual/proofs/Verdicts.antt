@@ -1,19 +1,16 @@
 -- The verdict yes is that the dual says yes.
-use Rattle.std.proofs.Common.{◌≡◌, ℕ, ◌+◌, ◌<◌, ◌==◌, Bool, true, false, not, cond, List, length, ℤ, pos, ◌*ℤ◌}
-use Rattle.std.proofs.Common.{◌≤ℤ◌, ◌^◌, ◌≤◌, Option, Some, None, IfNone}
-use Rattle.std.proofs.Common.{Result, Ok, Err, IfOk, refl, sym, ◌∙◌}
-use Rattle.std.proofs.{Common.ap, Common.arith, lemmas.Int.ints, lemmas.Bool.eq-eqb, lemmas.Bool.not-false}
-use Rattle.std.proofs.lemmas.Bool.Decides.{nat_tests}
+use Rattle.std.proofs.Common.{◌≡◌, ℕ, ◌+◌, ◌<◌, ◌==◌, Bool, true, false, not, cond, List, length, ℤ, pos, ◌*ℤ◌, ◌≤ℤ◌}
+use Rattle.std.proofs.Common.{◌^◌, ◌≤◌, Option, Some, None, IfNone, Result, Ok, Err, IfOk, refl, sym, ◌∙◌, ap, arith}
+use Rattle.std.proofs.{lemmas.Int.ints, lemmas.Bool.eq-eqb, lemmas.Bool.not-false, lemmas.Bool.Decides.nat_tests}
 use Rattle.std.specs.Prelude.{int_lt, slice_index, slice_index_or}
-use Rattle.def_math.specs.Searches.{least}
-use Rattle.qm_dual.proofs.Searches.{least_none, least_some, least_same, none_below}
-use Rattle.qm_dual.proofs.Weak.{weak_duality}
-use Rattle.def_matching.specs.declared.weighted.Verdict.{Verdict}
+use Rattle.qm_dual.proofs.{Gathered.least_none, Gathered.least_some, Gathered.least_same, Gathered.none_below}
+use Rattle.qm_dual.proofs.{Weak.weak_duality}
 use Rattle.def_matching.specs.declared.weighted.Verdict.TheVariants.{Yes, Shape, Even, Negative, Short}
 use Rattle.def_matching.specs.Matching.{WeightedGraph, IsGraph, edge_at, IsPerfect, matching_cost}
 use Rattle.def_matching.specs.Dual.{DualLists, AreNestedSets, SaysYes, set_size, is_odd_size, is_up, load, z_at}
 use Rattle.def_matching.specs.Dual.{dual_sum, shape_fault, even_fault, negative_fault, short_fault, refuse, verdict}
-use Rattle.qm_dual.specs.Nest.{AreSizes, IsNest}
+use Rattle.def_matching.specs.declared.weighted.Verdict.{Verdict}
+use Rattle.{def_math.specs.Searches.least, qm_dual.specs.Nest.AreSizes, qm_dual.specs.Nest.IsNest}
 
 -- The load of an edge is above twice its cost.
 abbrev pub is_short : WeightedGraph → DualLists → ℕ → Bool

@@ -1,17 +1,14 @@
 -- Weak duality: where a dual says yes, each perfect matching has twice its cost at least the dual's sum.
-use Rattle.std.proofs.Common.{inl, inr, ◌≡◌, ℕ, ◌+◌, ◌*◌, ◌%◌, ◌<◌, ◌≤◌, Bool, true, cond, List, [], ◌∷◌, map}
-use Rattle.std.proofs.Common.{length, ℤ}
-use Rattle.std.proofs.lemmas.Bool.{cases_Bool}
-use Rattle.std.proofs.lemmas.Int.{ints}
-use Rattle.std.proofs.lemmas.Bool.Decides.{nat_tests}
-use Rattle.std.proofs.Common.{pos, ◌+ℤ◌, ◌*ℤ◌, ◌≤ℤ◌, refl, arith}
+use Rattle.std.proofs.Common.{inl, inr, ◌≡◌, ℕ, ◌+◌, ◌*◌, ◌%◌, ◌<◌, ◌≤◌, Bool, true, cond, List, [], ◌∷◌, map, length}
+use Rattle.std.proofs.Common.{ℤ, pos, ◌+ℤ◌, ◌*ℤ◌, ◌≤ℤ◌, refl, arith}
+use Rattle.std.proofs.{lemmas.Bool.cases_Bool, lemmas.Int.ints, lemmas.Bool.Decides.nat_tests}
 use Rattle.def_math.specs.{Counts.count, Counts.count_below, Sums.total, Sums.total_below, Increasing.IsIncreasing}
-use Rattle.sum_laws.proofs.{Counts.count_below_total, Sums.total_sum, Sums.total_below_le, Sums.two_orders}
-use Rattle.qm_dual.proofs.{Ends.EndsBelow, Ends.ends_once, Entries.total_entries}
-use Rattle.def_matching.specs.declared.weighted.WEdge.{WEdge}
+use Rattle.sum_laws.proofs.Sums.{count_below_total, total_sum, total_below_le, two_orders}
+use Rattle.qm_dual.proofs.{Gathered.EndsBelow, Gathered.ends_once, Tallies.total_entries}
 use Rattle.def_matching.specs.Matching.{WeightedGraph, IsGraph, edge_at, ends_at, IsPerfect, matching_cost}
 use Rattle.def_matching.specs.Dual.{DualLists, SaysYes, holds, set_size, is_odd_size, crosses, load, y_at, z_at}
 use Rattle.def_matching.specs.Dual.{dual_sum}
+use Rattle.def_matching.specs.declared.weighted.WEdge.{WEdge}
 
 -- The edges of increasing numbers have their ends among the vertices.
 pub chosen_below : (g : WeightedGraph) → IsGraph g → (low : ℕ) (m : List ℕ) → IsIncreasing low (length g.edges) m

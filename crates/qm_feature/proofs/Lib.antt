@@ -1,4 +1,2 @@
 mod Rings
-mod Tables
-mod Homes
 mod Origins

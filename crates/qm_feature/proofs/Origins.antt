@@ -1,18 +1,13 @@
 -- Riders start beside marks where the tables say so.
 use Rattle.std.proofs.Common.{◌≡◌, ℕ, ◌+◌, ◌<◌, Bool, true, false, cond, not, ◌&&◌, ◌||◌, List, [], ◌∷◌, ◌++◌, map}
 use Rattle.std.proofs.Common.{replicate, is_some, ap, ◌∙◌, refl, arith}
-use Rattle.std.proofs.lemmas.List.{append-nil}
-use Rattle.std.proofs.lemmas.List.FromFn.{get_or-map-range_with_len}
-use Rattle.std.specs.List.{filter, range_with_len}
-use Rattle.list_laws.proofs.Filters.{filter_range_more}
-use Rattle.sum_laws.proofs.Tests.{same_test}
+use Rattle.std.proofs.{lemmas.List.append-nil, lemmas.List.FromFn.get_or-map-range_with_len}
 use Rattle.def_mesh.specs.{Faces.Faces, Components.is_start, Components.seeds, Components.start_darts, Darts.darts}
 use Rattle.def_mesh.specs.{Darts.from_of, Darts.twin_of, Vertices.all_vertices, Vertices.vertex_count}
-use Rattle.def_cut.specs.{FullCut.is_on, Motion.is_among}
-use Rattle.def_feature.specs.{Marks.is_break, Marked.is_origin}
-use Rattle.mesh_laws.proofs.Vertices.{all_below}
-use Rattle.motion_laws.proofs.Marks.{none_on}
-use Rattle.site_laws.proofs.Sources.{start_in, start_of}
+use Rattle.{std.specs.List.filter, std.specs.List.range_with_len, list_laws.proofs.Filters.filter_range_more}
+use Rattle.{sum_laws.proofs.Tests.same_test, def_cut.specs.FullCut.is_on, def_cut.specs.Motion.is_among}
+use Rattle.{def_feature.specs.Marks.is_break, def_feature.specs.Marked.is_origin, mesh_laws.proofs.Flood.all_below}
+use Rattle.{motion_laws.proofs.Marks.none_on, site_laws.proofs.Sources.start_in, site_laws.proofs.Sources.start_of}
 
 -- A rider starts at a dart where the tables say so.
 pub starts_told : (faces : Faces) (starts : List ℕ) (marks none begun breaks : List Bool) (d : ℕ)

@@ -1,23 +1,25 @@
 -- Closed runs whose edges are all marked, told by the runs of a mesh: a walk straight on that is as long as there are
 -- darts goes all round.
-use Rattle.std.proofs.Common.{◌≡◌, ℕ, zero, suc, ◌+◌, ◌-◌, ◌<◌, ◌≤◌, Bool, true, false, not}
-use Rattle.std.proofs.Common.{List, length, get_or, Option, Some, None, sym, subst, ap, ◌∙◌, refl, inl, inr, arith}
+use Rattle.std.proofs.Common.{◌≡◌, ℕ, zero, suc, ◌+◌, ◌-◌, ◌<◌, ◌≤◌, Bool, true, false, not, List, length, get_or}
+use Rattle.std.proofs.Common.{Option, Some, None, sym, subst, ap, ◌∙◌, refl, inl, inr, arith, cond, eqb, ◌&&◌, ◌||◌, []}
+use Rattle.std.proofs.Common.{◌⊎◌, min, set}
 use Rattle.std.proofs.lemmas.Bool.{cases_lt, cases_order, eq-eqb, eqb-true, le-ltb, lt-ltb, and_from, and_parts}
-use Rattle.std.proofs.lemmas.Bool.{not_from_false, false≢true}
+use Rattle.std.proofs.lemmas.Bool.{not_from_false, false≢true, true_from_ne_false, cases_eq}
+use Rattle.std.proofs.lemmas.List.{get_or-map, length-map, get_or-set_same, get_or-set_other, length-set}
 use Rattle.std.proofs.lemmas.Option.{none-some, same_Some}
-use Rattle.std.specs.Prelude.{option_map}
 use Rattle.def_mesh.specs.{Faces.Faces, Darts.darts, Darts.from_of, Darts.to_of, Darts.next_of, Darts.twin_of}
-use Rattle.def_mesh.specs.{Manifold.IsManifold, HalfEdges.half_edges}
+use Rattle.def_mesh.specs.{Darts.all_darts, Manifold.IsManifold, HalfEdges.half_edges, Vertices.fan_of}
+use Rattle.def_mesh.specs.{Vertices.vertex_count}
+use Rattle.def_runs.specs.Runs.{AreRuns, HasDart, IsLongestRun, first_dart, follower, is_closed, is_dart, is_passed}
+use Rattle.def_runs.specs.Runs.{last_dart, nth_run}
 use Rattle.def_runs.specs.declared.RunTable.{RunTable}
-use Rattle.def_runs.specs.Runs.{AreRuns, HasDart, IsLongestRun, first_dart, follower, is_closed, is_dart}
-use Rattle.def_runs.specs.Runs.{is_passed, last_dart, nth_run}
 use Rattle.def_cut.specs.{FullCut.is_on, Trails.IsStraight, Traced.terrain_of}
-use Rattle.def_feature.specs.Marks.{goes_round}
-use Rattle.cut_laws.proofs.Pigeon.{no_more}
-use Rattle.motion_laws.proofs.Steps.{straight_same}
-use Rattle.site_laws.proofs.Sites.{terrain}
-use Rattle.std.proofs.Common.{cond}
-use Rattle.qm_feature.specs.Rings.{run_at}
+use Rattle.def_feature.specs.Marks.{goes_round, is_least_in_ring}
+use Rattle.motion_laws.proofs.{Steps.straight_same, Among.among_range, Among.any_at, Among.any_where, Among.range_among}
+use Rattle.qm_feature.specs.Rings.{run_at, AreLeast, AreWhole, is_home, least_at}
+use Rattle.feature_laws.proofs.Breaks.{from_fan, in_fan}
+use Rattle.{std.specs.Prelude.option_map, std.specs.List.list_any, cut_laws.proofs.Pigeon.no_more}
+use Rattle.{site_laws.proofs.Sites.terrain, sum_laws.proofs.Tests.same_test, mesh_laws.proofs.Flood.all_below}
 
 -- The run is closed, all its darts are marked, and none leaves a vertex below v.
 pub record IsRing (faces : Faces) (runs run : List ℕ) (marks : List Bool) (v r : ℕ) : Type 0 where
@@ -230,3 +232,131 @@ module _ {faces : Faces} (m : IsManifold faces) where
           on = λ d low e. (of_dart d low e).0;
           above = λ d low e. (of_dart d low e).1;
         }
+
+-- The tables of runs tell the least vertices of closed runs whose edges are all marked.
+
+module _ {faces : Faces} (m : IsManifold faces) {table : RunTable} (are : AreRuns faces table) {marks whole : List Bool}
+    {least : List ℕ} {none : ℕ} (wholes : AreWhole marks table.run.items table.closed.items whole (darts faces))
+    (leasts : AreLeast faces table.run.items least none (darts faces)) (long : length least ≡ length table.closed.items)
+    (far : vertex_count faces ≤ none) where
+  many : length table.closed.items ≡ length are.lists
+  many = ap length are.closes ∙ length-map are.lists (is_closed faces)
+
+  closed_is : (r : ℕ) → r < length are.lists → is_on table.closed.items r ≡ is_closed faces (nth_run are.lists r)
+  closed_is r l = ap (λ (xs : List Bool). is_on xs r) are.closes ∙ get_or-map (is_closed faces) are.lists r [] false l
+
+  abbrev its_run : (d : ℕ) → ℕ
+  its_run d = run_at table.run.items d
+
+  -- The run of d is a ring, and d leaves its least vertex.
+  abbrev IsRingOf : (d : ℕ) → Type 0
+  IsRingOf d = IsRing faces table.run.items (nth_run are.lists (its_run d)) marks (from_of faces d) (its_run d)
+
+  abbrev home : (d : ℕ) → Bool
+  home d = is_home faces table.run.items whole least d
+
+  -- A home is the least vertex of a ring,
+  ring_of : (d : ℕ) → d < darts faces → home d ≡ true → IsRingOf d
+  ring_of d l h =
+      let p = and_parts (is_on whole (its_run d)) (eqb (least_at least (its_run d)) (from_of faces d)) h in
+      record {
+        closed = sym (closed_is (its_run d) (are.run_low d l)) ∙ wholes.kept (its_run d) p.0;
+        on = λ e le er. true_from_ne_false (is_on marks e)
+            (λ off. false≢true (sym (wholes.off e le off) ∙ (ap (is_on whole) er ∙ p.0)));
+        above = λ e le er. omega (arith, leasts.below e le, ap (least_at least) er, eqb-true _ _ p.1);
+      }
+
+  -- and the other way round.
+  home_of : (d : ℕ) → d < darts faces → IsRingOf d → home d ≡ true
+  home_of d l ring = and_from _ _
+      (wholes.on (its_run d) (closed_is (its_run d) (are.run_low d l) ∙ ring.closed) (λ e le er. ring.on e le er))
+      (eq-eqb _ _ (elim (leasts.there (its_run d) (omega (arith, are.run_low d l, many, long))) [
+        | inl e ↦ absurd (omega (arith, e, leasts.below d l, all_below faces d l, far))
+        | inr (e, le, er, fe) ↦ omega (arith, fe, ring.above e le er, leasts.below d l)
+      ]))
+
+  pub rings_are : (v : ℕ) → list_any (λ d. eqb (from_of faces d) v && is_home faces table.run.items whole least d)
+      (all_darts faces) ≡ is_least_in_ring faces marks v
+  rings_are v = same_test _ _
+      (λ y. let (d, n, h) = any_where (λ d. eqb (from_of faces d) v && home d) (all_darts faces) y in
+      let r = range_among 0 (darts faces) d n in
+      let l : d < darts faces = omega (arith, r.1) in
+      let p = and_parts (eqb (from_of faces d) v) (home d) h in
+      let at = eqb-true (from_of faces d) v p.0 in
+      let g = round_all m are marks (from_of faces d) (its_run d) (are.run_low d l) (ring_of d l p.1) (darts faces)
+      (get_or table.at.items d 0) (are.at_low d l) in
+      any_at (goes_round faces marks v (darts faces)) d (fan_of faces v) (in_fan faces v d l at)
+      (ap (λ u. goes_round faces marks u (darts faces) d) (sym at)
+      ∙ (ap (goes_round faces marks (from_of faces d) (darts faces)) (sym (are.stands d l)) ∙ g)))
+      (λ y. let (d, n, g) = any_where (goes_round faces marks v (darts faces)) (fan_of faces v) y in
+      let (l, at) = from_fan faces v d n in
+      let ring = all_round m are marks v (its_run d) (are.run_low d l) (get_or table.at.items d 0) (are.at_low d l)
+      (ap (goes_round faces marks v (darts faces)) (are.stands d l) ∙ g) in
+      any_at (λ x. eqb (from_of faces x) v && home x) d (all_darts faces)
+      (among_range 0 (darts faces) d (omega arith) (omega (arith, l)))
+      (and_from _ _ (eq-eqb _ _ at) (home_of d l (subst (λ (u : ℕ). IsRing faces table.run.items
+      (nth_run are.lists (its_run d)) marks u (its_run d)) (sym at) ring))))
+
+-- The same of the tables as the calls hand them on.
+pub rings_told : {faces : Faces} (m : IsManifold faces) {table : RunTable} (are : AreRuns faces table)
+    {marks : List Bool} {run1 run2 run3 : List ℕ} {old whole1 whole : List Bool} {least1 least : List ℕ}
+    (rings1 rings : List Bool) {none : ℕ} (v : ℕ)
+    → run1 ≡ table.run.items → run2 ≡ table.run.items → run3 ≡ table.run.items → old ≡ table.closed.items
+    → AreWhole marks run1 old whole1 (length run1) → whole ≡ whole1
+    → AreLeast faces run2 least1 none (length run2) → least ≡ least1 → length least1 ≡ length table.closed.items
+    → vertex_count faces ≤ none → is_on rings1 v ≡ false
+    → is_on rings v ≡ (is_on rings1 v || list_any (λ d. eqb (from_of faces d) v && is_home faces run3 whole least d)
+    (all_darts faces)) → is_on rings v ≡ is_least_in_ring faces marks v
+rings_told {faces} m {table} are rings1 rings v r1 r2 r3 o wholes w leasts e long far off is =
+    is ∙ rw (off, r3, w, e) (rings_are m are (rw (r1, o, are.run_long) at wholes) (rw (r2, are.run_long) at leasts) long
+    far v)
+
+-- One dart more in the tables of runs.
+
+pub least_more : {faces : Faces} {run least new : List ℕ} {none n : ℕ} → AreLeast faces run least none n
+    → run_at run n < length least → from_of faces n ≤ none
+    → new ≡ set least (run_at run n) (min (least_at least (run_at run n)) (from_of faces n))
+    → AreLeast faces run new none (n + 1)
+least_more {faces} {run} {least} {new} {none} {n} a low less is = rw is (record { below = below; there = there })
+  where
+    here : least_at (set least (run_at run n) (min (least_at least (run_at run n)) (from_of faces n))) (run_at run n)
+        ≡ min (least_at least (run_at run n)) (from_of faces n)
+    here = get_or-set_same least (run_at run n) (min (least_at least (run_at run n)) (from_of faces n)) 0 low
+
+    other : (r : ℕ) → (r ≡ run_at run n → ⊥)
+        → least_at (set least (run_at run n) (min (least_at least (run_at run n)) (from_of faces n))) r ≡ least_at least
+        r
+    other r ne = get_or-set_other least (run_at run n) r (min (least_at least (run_at run n)) (from_of faces n)) 0 ne
+
+    below : (d : ℕ) → d < n + 1 → least_at
+        (set least (run_at run n) (min (least_at least (run_at run n)) (from_of faces n))) (run_at run d) ≤ from_of
+        faces d
+    below d l = elim (cases_eq d n) [
+      | inl e ↦ rw (e, here) (omega arith)
+      | inr ne ↦ elim (cases_eq (run_at run d) (run_at run n)) [
+        | inl e ↦ rw (e, here) (omega (arith, a.below d (omega arith), ap (least_at least) e))
+        | inr far ↦ rw (other (run_at run d) far) (a.below d (omega arith))
+      ]
+    ]
+
+    there : (r : ℕ) → r < length (set least (run_at run n) (min (least_at least (run_at run n)) (from_of faces n)))
+        → (least_at (set least (run_at run n) (min (least_at least (run_at run n)) (from_of faces n))) r ≡ none)
+        ⊎ ((d : ℕ) × (d < n + 1) × (run_at run d ≡ r)
+        × (from_of faces d ≡ least_at (set least (run_at run n) (min (least_at least (run_at run n)) (from_of faces n)))
+        r))
+    there r l =
+        let old = a.there r
+        (omega (arith, l, length-set least (run_at run n) (min (least_at least (run_at run n)) (from_of faces n)))) in
+        elim (cases_eq r (run_at run n)) [
+          | inl e ↦ rw (e, here) (elim (rw e at old) [
+            | inl far ↦ inr (n, omega arith, refl, omega (arith, far, less))
+            | inr (d, h, at, from) ↦ elim (cases_lt (from_of faces n) (least_at least (run_at run n))) [
+              | inl lower ↦ inr (n, omega arith, refl, omega (arith, lower))
+              | inr more ↦ inr (d, omega arith, at, omega (arith, from, more))
+            ]
+          ])
+          | inr ne ↦ rw (other r ne) (elim old [
+            | inl e ↦ inl e
+            | inr (d, h, at, from) ↦ inr (d, omega arith, at, from)
+          ])
+        ]

@@ -1,3 +1,1 @@
-pub mod Edges
 pub mod Heads
-pub mod OneFit

@@ -4,20 +4,18 @@ use Rattle.std.proofs.Common.{◌≡◌, ℕ, suc, ◌+◌, ◌*◌, ◌<◌, �
 use Rattle.std.proofs.Common.{length, get_or, replicate, Option, None, Result, Ok, Err, IfOk, refl, sym, ◌∙◌, ap, inl}
 use Rattle.std.proofs.Common.{inr, arith, ◌≢◌, ℤ, pos, ◌*ℤ◌, add-one}
 use Rattle.std.proofs.{lemmas.Grind.common_steps, lemmas.Option.none-some, lemmas.Int.ints, lemmas.Bool.cases_eq}
-use Rattle.std.proofs.{lemmas.Bool.cases_lt}
+use Rattle.std.proofs.{lemmas.Bool.cases_lt, lemmas.List.get_or_append_left, lemmas.List.get_or_push}
 use Rattle.def_math.specs.{Counts.count, Counts.count_below, Increasing.IsIncreasing, Sums.total}
-use Rattle.sum_laws.proofs.Counts.{count_append, count_below_none, count_below_same}
-use Rattle.sum_laws.proofs.{Sums.total_below_same, Sums.two_orders}
+use Rattle.sum_laws.proofs.Sums.{count_append, count_below_none, count_below_same, total_below_same, two_orders}
 use Rattle.def_matching.specs.Matching.{WeightedGraph, edge_at, ends_at, IsPerfect, matching_cost}
 use Rattle.def_matching.specs.{Dual.crosses, declared.weighted.WEdge.WEdge}
-use Rattle.def_forest.specs.Forests.{bool_number, splits, Forest, IsTight, dual_sum_of, weight_between}
-use Rattle.def_forest.specs.Tables.{ForestTables, forest_of, MatchesBut}
-use Rattle.def_forest.specs.Darts.{darts_of}
-use Rattle.forest_laws.proofs.Graphs.{dart_near, near_odd, dart_far, dart_cost}
-use Rattle.forest_laws.proofs.{Bounds.leaves_vertex, Bounds.just_once, Writes.true_false}
+use Rattle.def_forest.specs.Forests.{bool_number, splits, Forest, IsTight, dual_sum_of, weight_between, walk}
+use Rattle.def_forest.specs.{Tables.ForestTables, Tables.forest_of, Tables.MatchesBut, Darts.darts_of}
+use Rattle.forest_laws.proofs.Bounds.{dart_near, near_odd, dart_far, dart_cost, leaves_vertex, just_once}
+use Rattle.forest_laws.proofs.Grows.{true_false}
 use Rattle.qm_forest.specs.Rounds.{IsSoundFor, AreMarked, IsLaminar, IsRound, leaving, waiting, waits_but, waits_for}
 use Rattle.qm_forest.specs.Rounds.{matched_by}
-use Rattle.qm_forest.proofs.{Fresh.same_everywhere, Laminars.alone, Laminars.another, MateRounds.due_one}
+use Rattle.qm_forest.proofs.{Fresh.same_everywhere, Withins.alone, Withins.another, MateRounds.due_one}
 use Rattle.qm_forest.proofs.{MateRounds.due_same}
 
 -- An increasing list with one number more at its end.
@@ -177,3 +175,12 @@ module _ {t : ForestTables} (known : IsLaminar t) {g : WeightedGraph} (valid : I
           record { increasing = increasing; once = once },
           sum ∙ (sym (two_orders adds f.size es) ∙ loads_exact g f list (λ k l. round.tight g valid _ (are.each k l))),
         )
+
+-- The list that the vertices of a blossom are copied to.
+
+-- One vertex more.
+pub copied_more : (list : List ℕ) {pushed : List ℕ} (next : ℕ → ℕ) (from : ℕ) {k v : ℕ} → pushed ≡ list ++ v ∷ []
+    → length list ≡ k → v ≡ walk next from k → ((j : ℕ) → j < k → get_or list j 0 ≡ walk next from j) → (j : ℕ)
+    → j < k + 1 → get_or pushed j 0 ≡ walk next from j
+copied_more list next from {v = v} is size here each j l = (let read = ap (λ xs. get_or xs j 0) is in
+    grind (arith, get_or_append_left list (v ∷ []) 0 j, get_or_push list v 0 j, each j))

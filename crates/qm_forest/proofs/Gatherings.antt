@@ -6,29 +6,24 @@ use Rattle.std.proofs.Common.{get_or-set_other, arith, zero}
 use Rattle.std.proofs.lemmas.Bool.{cases_eq, cases_Bool, cond-true, cond-false, eq-eqb, eqb-true}
 use Rattle.std.proofs.{Math.ListN.set, lemmas.Int.ints, lemmas.List.get_or_past, lemmas.List.get_or_read}
 use Rattle.std.proofs.{lemmas.Option.slice_get_within, lemmas.Grind.common_steps}
-use Rattle.std.specs.Prelude.{unsigned_abs}
-use Rattle.def_forest.specs.Forests.{walk, ring_sum, set_at}
 use Rattle.def_forest.specs.Tables.{ForestTables, forest_of, climbs, label_at, out_of, up_at}
-use Rattle.def_forest.specs.declared.kinds.Label.TheVariants.{Outside}
-use Rattle.forest_laws.specs.{Walks.listed, Walks.writes}
+use Rattle.def_forest.specs.{Forests.walk, Forests.ring_sum, Forests.set_at, declared.kinds.Label.TheVariants.Outside}
+use Rattle.forest_laws.specs.Walks.{listed, writes}
 use Rattle.forest_laws.proofs.Walks.{listed_at, listed_off, listed_place, writes_all, writes_at, writes_off}
-use Rattle.forest_laws.proofs.Writes.{label_cases}
-use Rattle.qm_pool.specs.declared.pool.Node.{Node}
+use Rattle.forest_laws.proofs.Grows.{label_cases}
 use Rattle.qm_forest.specs.Gathers.{AreEnclosed, AreJoinable, AreJoined, HasListAt, HasListsOf, HasRenamedRow}
 use Rattle.qm_forest.specs.Gathers.{IsFreeRing, IsGathered, TookSet, root_around, IsRow}
-use Rattle.qm_forest.specs.Ties.{AreTied, HiddenTables, IsInUse, IsLaidOut, IsListed}
+use Rattle.qm_forest.specs.{Ties.AreTied, Ties.HiddenTables, Ties.IsInUse, Ties.IsLaidOut, Ties.IsListed}
 use Rattle.qm_forest.specs.{Views.tables_of, Views.hidden_of, declared.forest.Forest.TheInside.Inside}
 use Rattle.qm_forest.specs.{declared.tables.Handles.Handles, declared.tables.Lists.Lists, declared.tables.Rings.Rings}
-use Rattle.qm_forest.proofs.Enclosed.{Enclosing, climb_enclosed, holds_new, holds_same}
+use Rattle.qm_forest.proofs.Enclosed.{Enclosing, climb_enclosed, holds_new, holds_same, came_past, held_out, last_free}
+use Rattle.qm_forest.proofs.Enclosed.{leader_low, leader_out, out_used, rank_few, rank_passed, rank_some, reached_used}
 use Rattle.qm_forest.proofs.JoinedLists.{list_agrees, list_few, list_has_last, list_member, list_renamed, row_few}
 use Rattle.qm_forest.proofs.JoinedLists.{row_joined, walk_agrees}
-use Rattle.qm_forest.proofs.KeptTies.{numbers_kept, tied_as, trail_kept}
-use Rattle.qm_forest.proofs.Nests.{came_past, held_out, last_free, leader_low, leader_out, out_used, rank_few}
-use Rattle.qm_forest.proofs.Nests.{rank_passed, rank_some, reached_used}
-use Rattle.qm_forest.proofs.Ranges.{added_small, change_small, delta_small, outermost_low, read_nat, told_small}
-use Rattle.qm_forest.proofs.{Insides.seen_in, Insides.hidden_in, Pooled.pool_changed, TiedWrites.entry_set}
-use Rattle.qm_forest.proofs.{RenamedRows.row_place}
-use Rattle.sum_laws.proofs.Tests.{same_test}
+use Rattle.qm_forest.proofs.TiedWrites.{numbers_kept, tied_as, trail_kept, added_small, change_small, delta_small}
+use Rattle.qm_forest.proofs.TiedWrites.{outermost_low, read_nat, told_small, entry_set}
+use Rattle.qm_forest.proofs.{Shrinkings.seen_in, Shrinkings.hidden_in, Waitings.pool_changed, RenamedRows.row_place}
+use Rattle.{std.specs.Prelude.unsigned_abs, qm_pool.specs.declared.pool.Node.Node, sum_laws.proofs.Tests.same_test}
 
 -- A sum over fewer places is no greater.
 pub ring_sum_below : (next f : ℕ → ℕ) (from k n : ℕ) → k ≤ n → ring_sum next f from k ≤ ring_sum next f from n

@@ -1,20 +1,22 @@
 -- The ways to the root in the tables of a valid forest, and such ways while they are laid.
 use Rattle.std.proofs.Common.{◌≡◌, ◌≢◌, ℕ, suc, ◌+◌, ◌-◌, ◌*◌, ◌<◌, ◌≤◌, true, false, length, min, Option, Some, None}
-use Rattle.std.proofs.Common.{refl, sym, ◌∙◌, ap, add-one, arith}
-use Rattle.std.proofs.Math.ListN.{set}
+use Rattle.std.proofs.Common.{refl, sym, ◌∙◌, ap, add-one, arith, ◌/◌, get_or}
+use Rattle.std.proofs.{Math.ListN.set, lemmas.Grind.get_or_default_zero, lemmas.List.get_or_past}
+use Rattle.std.proofs.{lemmas.List.length-replicate}
 use Rattle.std.specs.Prelude.{is_some}
-use Rattle.def_matching.specs.{Matching.WeightedGraph, Matching.IsSmallGraph}
-use Rattle.def_forest.specs.Darts.{Darts, AreDarts, darts_of, far}
-use Rattle.def_forest.specs.Tables.{ForestTables, forest_of, IsValidFor}
-use Rattle.def_forest.specs.{Forests.Forest, Forests.set_at, Valid.IsValid, Valid.IsTree, Ways.dart_or}
-use Rattle.def_forest.specs.{declared.kinds.Label.TheVariants.Outside, Needs.IsDartOf}
+use Rattle.def_matching.specs.Matching.{WeightedGraph, IsSmallGraph}
+use Rattle.def_forest.specs.Tables.{ForestTables, forest_of, IsValidFor, GraphSize, size_of, up_at}
+use Rattle.def_forest.specs.{Darts.Darts, Darts.AreDarts, Darts.darts_of, Darts.far, Forests.Forest, Forests.set_at}
+use Rattle.def_forest.specs.{Valid.IsValid, Valid.IsTree, Ways.dart_or, declared.kinds.Label.TheVariants.Outside}
+use Rattle.def_forest.specs.{Needs.IsDartOf}
 use Rattle.forest_laws.specs.Climbing.{rise_of, above_of, level_of, way_of, IsClimbing}
 use Rattle.forest_laws.proofs.Levels.{level_some, level_zero, on_way, step_up, at_root, way_step}
-use Rattle.forest_laws.proofs.{Facts.tree_of, Graphs.are_darts, Forks.can_climb, Forks.climb_on, Walks.walk_sum}
+use Rattle.forest_laws.proofs.{Grows.tree_of, Bounds.are_darts, Forks.can_climb, Forks.climb_on, Walks.walk_sum}
 use Rattle.forest_laws.proofs.{WayLaws.some_none}
 use Rattle.qm_forest.specs.Rings.{AreOnBoth, HasClimbed, ringed, IsRingedAlike, MayClimb, laid_down, laid_up, laid_ring}
-use Rattle.qm_forest.specs.{Needs.Hangs, Ties.AreTied, Ties.HiddenTables}
-use Rattle.qm_forest.proofs.TiedWrites.{entry_set}
+use Rattle.qm_forest.specs.{Needs.Hangs, Ties.AreTied, Ties.HiddenTables, Outlines.IsBlank, Rounds.HasRoom}
+use Rattle.qm_forest.specs.{Rounds.IsLaminar, Rounds.IsRound, Rounds.IsSoundFor, declared.rounds.Round.Round}
+use Rattle.qm_forest.proofs.{TiedWrites.entry_set, Chosens.round_begins, Withins.laminar}
 
 module _ {g : WeightedGraph} (is : IsSmallGraph g) {s : ForestTables} (valid : IsValidFor g s) where
   abbrev darts : Darts
@@ -205,3 +207,44 @@ laid_whole g f0 {f1} {f2} start left right a_is c_is e1 e2 e3 =
     (set_at (laid_down g f0 (f0.out (g.near start)) left).nest.joint (f0.out (g.near start)) start) =
     e2 ∙ rw (down, a_is, c_is) in
     e3 ∙ (ap (λ x. laid_up g f2 x right) c_is ∙ ap (λ (f : Forest). laid_up g f (f0.out (far g start)) right) over)
+
+-- Tied tables with another room, and room that is blank.
+
+-- What tied tables say of the way out.
+pub record IsPlaced (t : ForestTables) : Type 0 where
+  pub known : IsLaminar t
+  pub whole : length t.up ≡ length t.hand + length t.hand / 2
+  pub around : (x : ℕ) → up_at t.up x ≢ x → (length t.hand ≤ up_at t.up x) × (up_at t.up x < length t.up)
+      × (get_or t.parts (up_at t.up x) 0 ≢ 0)
+  pub inner : (x : ℕ) → up_at t.up x ≢ x → x < length t.up
+  pub live : (x : ℕ) → up_at t.up x ≢ x → length t.hand ≤ x → get_or t.parts x 0 ≢ 0
+
+pub placed : {t : ForestTables} {hid : HiddenTables} → AreTied t hid → IsPlaced t
+placed {t} tied = grind (
+  arith,
+  laminar tied,
+  tied.nest.around,
+  tied.nest.ups,
+  tied.nest.idle,
+  get_or_past,
+  get_or_default_zero t.up,
+)
+
+-- The room of a forest is as large as what it comes to.
+module _ {t : ForestTables} (it : IsPlaced t) {g : WeightedGraph} (valid : IsSoundFor g t) {n : ℕ} {round : Round}
+    {sets y z : ℕ} (blank : IsBlank n round sets y z) {s : GraphSize} (view_is : ◌≡◌ {A = GraphSize}
+    (record { vertices = n; edges = length round.marks.items }) s) (room : s ≡ size_of g) where
+  n_is : n ≡ length t.hand
+  n_is = ap (λ (r : GraphSize). r.vertices) (view_is ∙ room) ∙ sym valid.vertices
+
+  pub has_room : HasRoom t round
+  has_room = record {
+    laminar = it.known;
+    sound = (g, valid);
+    marks = omega (arith, ap (λ (r : GraphSize). r.edges) (view_is ∙ room));
+    left_out = ap length blank.left_out
+        ∙ (length-replicate (n + n / 2) None ∙ omega (arith, n_is, ap (λ k. k / 2) n_is, it.whole));
+  }
+
+  pub room_begun : IsRound t round.marks.items round.left_out.items (λ b. 0) (λ b. 0)
+  room_begun = round_begins t _ _ (λ b. 0) blank.marks blank.left_out (λ v l. omega arith)

@@ -1,18 +1,14 @@
 -- Steps of the tree in the tables: growing, and changing the matching along the way to the root.
-use Rattle.std.proofs.Common.{◌≡◌, ◌≢◌, ℕ, ◌+◌, ◌*◌, ◌<◌, List, length, get_or, Option, Some, None, true}
-use Rattle.std.proofs.Common.{is_some, sym, ◌∙◌, ap, arith}
+use Rattle.std.proofs.Common.{◌≡◌, ◌≢◌, ℕ, ◌+◌, ◌*◌, ◌<◌, List, length, get_or, Option, Some, None, true, is_some, sym}
+use Rattle.std.proofs.Common.{◌∙◌, ap, arith}
 use Rattle.def_matching.specs.Matching.{IsSmallGraph, WeightedGraph}
-use Rattle.def_forest.specs.{Darts.Darts, Darts.AreDarts, Darts.darts_of, Darts.far, Forests.Forest}
-use Rattle.def_forest.specs.{Forests.set_at}
-use Rattle.def_forest.specs.{Steps.grown, Steps.with_mates, Steps.IsAugmented}
-use Rattle.def_forest.specs.{Tables.ForestTables, Tables.forest_of, Tables.IsValidFor, Valid.IsValid}
-use Rattle.def_forest.specs.{declared.kinds.Label.Label}
-use Rattle.def_forest.specs.{declared.kinds.Label.TheVariants.Outside, Ways.Reaches, Ways.steps}
-use Rattle.def_forest.specs.Ways.{parent_of}
-use Rattle.forest_laws.proofs.{Facts.tree_of, Facts.outer_mate, Graphs.are_darts, Levels.fewer_steps, Levels.inner_is}
-use Rattle.forest_laws.proofs.{Grows.grown_valid, WayLaws.begin, WayLaws.turn, WayLaws.end_valid, WayLaws.end_augmented}
-use Rattle.forest_laws.proofs.{Writes.outer_named}
-use Rattle.forest_laws.proofs.Writes.{some_is}
+use Rattle.def_forest.specs.{Darts.Darts, Darts.AreDarts, Darts.darts_of, Darts.far, Forests.Forest, Forests.set_at}
+use Rattle.def_forest.specs.{Steps.grown, Steps.with_mates, Steps.IsAugmented, Tables.ForestTables, Tables.forest_of}
+use Rattle.def_forest.specs.{Tables.IsValidFor, Valid.IsValid, declared.kinds.Label.Label}
+use Rattle.def_forest.specs.{declared.kinds.Label.TheVariants.Outside, Ways.Reaches, Ways.steps, Ways.parent_of}
+use Rattle.forest_laws.proofs.{Grows.tree_of, Grows.outer_mate, Grows.grown_valid, Grows.outer_named, Grows.some_is}
+use Rattle.forest_laws.proofs.{Bounds.are_darts, Levels.fewer_steps, Levels.inner_is, WayLaws.begin, WayLaws.turn}
+use Rattle.forest_laws.proofs.{WayLaws.end_valid, WayLaws.end_augmented}
 use Rattle.qm_forest.specs.Ties.{fixed_of, IsOnWay, HasSameNest, mated, remated, labelled, relabelled}
 
 -- A mate is a dart of the graph.

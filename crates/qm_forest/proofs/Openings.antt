@@ -1,26 +1,24 @@
 -- An inner set that is opened: the ring of the set before, and labels, mates and links of its parts after, along the
 -- ring and against it.
-use Rattle.std.proofs.Common.{◌≡◌, ◌≢◌, ℕ, suc, ◌+◌, ◌-◌, ◌*◌, ◌/◌, ◌%◌, ◌<◌, ◌≤◌, Bool, true, false, cond, eqb}
-use Rattle.std.proofs.Common.{length, ℤ, pos, Option, Some, None, refl, sym, ◌∙◌, ap, inl, inr, arith}
+use Rattle.std.proofs.Common.{◌≡◌, ◌≢◌, ℕ, suc, ◌+◌, ◌-◌, ◌*◌, ◌/◌, ◌%◌, ◌<◌, ◌≤◌, Bool, true, false, cond, eqb, length}
+use Rattle.std.proofs.Common.{ℤ, pos, Option, Some, None, refl, sym, ◌∙◌, ap, inl, inr, arith}
 use Rattle.std.proofs.lemmas.Bool.{cases_Bool, cases_eq, cases_lt, cond-true, cond-false, eq-eqb, eqb-true, ne_eqb}
 use Rattle.std.proofs.lemmas.Bool.{false_from_ne_true, true_from_ne_false}
 use Rattle.def_matching.specs.Matching.{WeightedGraph, IsSmallGraph}
-use Rattle.def_forest.specs.{Darts.AreDarts, Darts.Darts, Darts.darts_of, Darts.far, Forests.Forest}
-use Rattle.def_forest.specs.{Forests.IsOutermost, Forests.IsTight, Forests.walk, Opened.Opening, Opened.IsOpening}
-use Rattle.def_forest.specs.Opened.{IsExpanding, IsOpened, KeepsParts, StaysAt}
-use Rattle.def_forest.specs.Tables.{ForestTables, forest_of, IsOutermostIn, IsValidFor}
-use Rattle.def_forest.specs.Valid.{IsInner, IsJoint, IsMate, IsRing, IsTree}
-use Rattle.def_forest.specs.declared.kinds.Label.{Label}
+use Rattle.def_forest.specs.Opened.{Opening, IsOpening, IsExpanding, IsOpened, KeepsParts, StaysAt}
 use Rattle.def_forest.specs.declared.kinds.Label.TheVariants.{Outer, Inner, Outside}
-use Rattle.forest_laws.specs.Walks.{listed}
-use Rattle.forest_laws.proofs.{Walks.IsCircle, Walks.circle_from, Expands.holds_up, Facts.far_low, Facts.tree_of}
-use Rattle.forest_laws.proofs.{Facts.far_twin, Facts.tight_twin, Walks.walk_sum, Walks.writes_at, Walks.writes_off}
-use Rattle.forest_laws.proofs.{Graphs.are_darts, Walks.listed_at, Walks.listed_closed, Walks.listed_place}
-use Rattle.forest_laws.proofs.Writes.{inner_named, label_cases, set_here, set_there, true_false}
-use Rattle.qm_forest.specs.{Parts.IsPartable, Parts.IsParted, Ties.HasSameNest, Ties.labelled, Ties.linked, Ties.mated}
-use Rattle.qm_forest.specs.Parts.{IsCourse, hung, paired, side_dart, turn_label}
-use Rattle.qm_forest.specs.declared.expanding.Course.{Course}
-use Rattle.qm_forest.proofs.Increases.{named_low}
+use Rattle.def_forest.specs.{Darts.AreDarts, Darts.Darts, Darts.darts_of, Darts.far, Forests.Forest}
+use Rattle.def_forest.specs.{Forests.IsOutermost, Forests.IsTight, Forests.walk, Tables.ForestTables, Tables.forest_of}
+use Rattle.def_forest.specs.{Tables.IsOutermostIn, Tables.IsValidFor, Valid.IsInner, Valid.IsJoint, Valid.IsMate}
+use Rattle.def_forest.specs.{Valid.IsRing, Valid.IsTree, declared.kinds.Label.Label}
+use Rattle.forest_laws.proofs.Walks.{IsCircle, circle_from, walk_sum, writes_at, writes_off, listed_at, listed_closed}
+use Rattle.forest_laws.proofs.Walks.{listed_place}
+use Rattle.forest_laws.proofs.Grows.{far_low, tree_of, far_twin, tight_twin, inner_named, label_cases, set_here}
+use Rattle.forest_laws.proofs.Grows.{set_there, true_false}
+use Rattle.forest_laws.proofs.{Expands.holds_up, Bounds.are_darts}
+use Rattle.qm_forest.specs.Parts.{IsPartable, IsParted, IsCourse, hung, paired, side_dart, turn_label}
+use Rattle.qm_forest.specs.{Ties.HasSameNest, Ties.labelled, Ties.linked, Ties.mated, declared.expanding.Course.Course}
+use Rattle.{forest_laws.specs.Walks.listed, qm_forest.proofs.Increases.named_low}
 
 even_is : (k i : ℕ) → k ≡ 2 * i → turn_label k ≡ Inner
 even_is k i e = cond-true _ _ _ (eq-eqb (k % 2) 0 (omega arith))

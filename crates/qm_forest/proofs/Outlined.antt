@@ -1,29 +1,25 @@
 -- A forest that is written down as a dual: the sets hold what they held, and the dual says yes.
-use Rattle.std.proofs.Common.{◌≡◌, ◌≢◌, ℕ, zero, suc, ◌+◌, ◌-◌, ◌*◌, ◌<◌, ◌≤◌, Bool, true, false, cond, eqb}
-use Rattle.std.proofs.Common.{subst, inl, inr, arith}
-use Rattle.std.proofs.Math.Bool.{or-false}
-use Rattle.std.proofs.lemmas.Int.{ints}
+use Rattle.std.proofs.Common.{◌≡◌, ◌≢◌, ℕ, zero, suc, ◌+◌, ◌-◌, ◌*◌, ◌<◌, ◌≤◌, Bool, true, false, cond, eqb, subst, inl}
+use Rattle.std.proofs.Common.{inr, arith, ◌||◌, List, length, get_or, pos, ◌+ℤ◌, ◌*ℤ◌, ◌≤ℤ◌, ◌⊎◌, refl, sym, ◌∙◌, ap}
 use Rattle.std.proofs.lemmas.Bool.{cases_eq, cases_lt, cond-false, cond-true, eq-eqb, eqb-true, le-leb, le-ltb, lt-ltb}
 use Rattle.std.proofs.lemmas.Bool.{and_from, ne_eqb}
-use Rattle.std.proofs.Common.{◌||◌, List, length, get_or, pos, ◌+ℤ◌, ◌*ℤ◌, ◌≤ℤ◌, ◌⊎◌, refl, sym, ◌∙◌, ap}
-use Rattle.std.specs.{Prelude.nat_lt, List.list_any}
+use Rattle.std.proofs.{Math.Bool.or-false, lemmas.Int.ints}
 use Rattle.def_math.specs.Sums.{total, total_below}
-use Rattle.sum_laws.proofs.{Counts.count_below_same, Sums.total_below_one, Sums.total_below_same, Sums.total_below_sum}
-use Rattle.sum_laws.proofs.Tests.{same_test}
-use Rattle.qm_dual.proofs.Entries.{total_entries}
-use Rattle.def_matching.specs.Matching.{WeightedGraph, edge_at}
+use Rattle.sum_laws.proofs.{Sums.count_below_same, Sums.total_below_one, Sums.total_below_same, Sums.total_below_sum}
+use Rattle.sum_laws.proofs.{Tests.same_test}
 use Rattle.def_matching.specs.Dual.{DualLists, SaysYes, AreNestedSets, crosses, dual_sum, holds, is_odd_size, is_up}
 use Rattle.def_matching.specs.Dual.{load as dual_load, set_size, sets_from, y_at, z_at}
-use Rattle.def_forest.specs.Darts.{AreDarts, darts_of}
+use Rattle.def_matching.specs.Matching.{WeightedGraph, edge_at}
 use Rattle.def_forest.specs.Forests.{Forest, dual_sum_of, weight_between, bool_number, splits, blossom_size}
-use Rattle.def_forest.specs.Tables.{ForestTables, forest_of, climbs, up_at}
-use Rattle.def_forest.specs.Written.{IsDualOf}
-use Rattle.forest_laws.proofs.{Graphs.are_darts, Graphs.dart_cost, Graphs.dart_far, Graphs.dart_near, Odds.large_set}
-use Rattle.forest_laws.proofs.{Odds.odd_blossom, Writes.by_none, Writes.by_two}
+use Rattle.def_forest.specs.{Darts.AreDarts, Darts.darts_of, Tables.ForestTables, Tables.forest_of, Tables.climbs}
+use Rattle.def_forest.specs.{Tables.up_at, Written.IsDualOf}
+use Rattle.forest_laws.proofs.{Bounds.are_darts, Bounds.dart_cost, Bounds.dart_far, Bounds.dart_near, Odds.large_set}
+use Rattle.forest_laws.proofs.{Odds.odd_blossom, Grows.by_none, Grows.by_two}
 use Rattle.qm_forest.specs.{Outlines.IsOutline, Outlines.entry_of, Outlines.set_in, Rounds.IsLaminar, Rounds.IsSoundFor}
-use Rattle.qm_forest.proofs.{Fresh.climbs_self, Laminars.alone, Laminars.rising, Nests.climbs_place}
-use Rattle.qm_forest.proofs.{Waitings.place_of, Waitings.set_low, Waitings.sized}
-use Rattle.qm_forest.proofs.{Waitings.sum_parts, Withins.IsRising, Withins.in_where}
+use Rattle.qm_forest.proofs.{Fresh.climbs_self, Withins.alone, Withins.rising, Withins.IsRising, Withins.in_where}
+use Rattle.qm_forest.proofs.{Enclosed.climbs_place, Waitings.place_of, Waitings.set_low, Waitings.sized}
+use Rattle.qm_forest.proofs.{Waitings.sum_parts}
+use Rattle.{std.specs.Prelude.nat_lt, std.specs.List.list_any, qm_dual.proofs.Tallies.total_entries}
 
 -- A lawful entry.
 entry_lawful : (n m i entry : ℕ) → (entry ≡ 0) ⊎ ((i + 1 < n + entry) × (entry ≤ m)) → is_up n m i entry ≡ true

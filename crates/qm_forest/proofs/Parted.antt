@@ -1,30 +1,25 @@
 -- Parting a set into the blossoms of its ring: climbing once the ring is open, what the loops need, and the tie and the
 -- forest after all of them.
 use Rattle.std.proofs.Common.{◌≡◌, ◌≢◌, ℕ, zero, suc, ◌+◌, ◌-◌, ◌<◌, ◌≤◌, Bool, true, false, cond, List, length, get_or}
-use Rattle.std.proofs.Common.{ℤ, pos, Option, Some, None, ◌⊎◌, refl, sym, ◌∙◌, ap, inl}
-use Rattle.std.proofs.Common.{inr, arith, length-set, get_or-set_same, get_or-set_other}
-use Rattle.std.proofs.Math.{ListN.set}
-use Rattle.std.proofs.lemmas.Bool.{cases_eq, cases_Bool, false_from_ne_true}
-use Rattle.std.specs.Prelude.{slice_get}
-use Rattle.def_forest.specs.Forests.{Forest, walk}
+use Rattle.std.proofs.Common.{ℤ, pos, Option, Some, None, ◌⊎◌, refl, sym, ◌∙◌, ap, inl, inr, arith, length-set}
+use Rattle.std.proofs.Common.{get_or-set_same, get_or-set_other}
+use Rattle.std.proofs.{Math.ListN.set, lemmas.Bool.cases_eq, lemmas.Bool.cases_Bool, lemmas.Bool.false_from_ne_true}
 use Rattle.def_forest.specs.Tables.{ForestTables, forest_of, climbs, label_at, out_of, up_at}
-use Rattle.def_forest.specs.declared.kinds.Label.TheVariants.{Outside}
+use Rattle.def_forest.specs.{Forests.Forest, Forests.walk, declared.kinds.Label.TheVariants.Outside}
 use Rattle.forest_laws.specs.Walks.{listed, writes}
-use Rattle.forest_laws.proofs.Walks.{listed_at, listed_off, listed_place, writes_at, writes_off}
-use Rattle.forest_laws.proofs.Writes.{label_cases, set_here, set_there, true_false}
-use Rattle.qm_pool.specs.declared.pool.Node.{Node}
-use Rattle.qm_forest.specs.Gathers.{lists_at}
+use Rattle.forest_laws.proofs.{Walks.listed_at, Walks.listed_off, Walks.listed_place, Walks.writes_at, Walks.writes_off}
+use Rattle.forest_laws.proofs.{Grows.label_cases, Grows.set_here, Grows.set_there, Grows.true_false}
 use Rattle.qm_forest.specs.Parts.{AreOpened, HasHandedRow, HasPartLists, IsPartable, IsParted}
 use Rattle.qm_forest.specs.Ties.{AreTied, HiddenTables, HasSizes, HasNumbers, IsClimb, IsInUse, IsLaidOut, IsListed}
 use Rattle.qm_forest.specs.Ties.{IsPooled, IsTrailed}
-use Rattle.qm_forest.specs.{declared.tables.Handles.Handles, declared.tables.Rings.Rings}
-use Rattle.qm_forest.specs.declared.forest.Forest.TheInside.{Inside}
-use Rattle.qm_forest.proofs.Apart.{comes_out, fixed_top, rank_low}
-use Rattle.qm_forest.proofs.Enclosed.{Enclosing, climb_enclosed, holds_same, not_new}
-use Rattle.qm_forest.proofs.{Gatherings.list_read, Insides.seen_in, Insides.hidden_in, JoinedLists.list_renamed}
-use Rattle.qm_forest.proofs.{KeptTies.numbers_kept, KeptTies.tied_as, KeptTies.trail_kept, Pooled.pool_changed}
-use Rattle.qm_forest.proofs.{Nests.came_past, Nests.climbs_place, Nests.leader_out, Nests.rank_few, Nests.rank_some}
-use Rattle.qm_forest.proofs.{Ranges.read_nat, TiedWrites.entry_set}
+use Rattle.qm_forest.specs.{Gathers.lists_at, declared.tables.Handles.Handles, declared.tables.Rings.Rings}
+use Rattle.qm_forest.specs.{declared.forest.Forest.TheInside.Inside}
+use Rattle.qm_forest.proofs.Enclosed.{Enclosing, climb_enclosed, holds_same, not_new, came_past, climbs_place}
+use Rattle.qm_forest.proofs.Enclosed.{leader_out, rank_few, rank_some}
+use Rattle.qm_forest.proofs.TiedWrites.{numbers_kept, tied_as, trail_kept, read_nat, entry_set}
+use Rattle.qm_forest.proofs.{Fresh.comes_out, Fresh.fixed_top, Fresh.rank_low, Gatherings.list_read, Shrinkings.seen_in}
+use Rattle.qm_forest.proofs.{Shrinkings.hidden_in, JoinedLists.list_renamed, Waitings.pool_changed}
+use Rattle.{std.specs.Prelude.slice_get, qm_pool.specs.declared.pool.Node.Node}
 
 -- A table in which each place of a walk is written with itself.
 writes_self : (f next : ℕ → ℕ) (from many x : ℕ) → writes f (walk next from) (walk next from) many x

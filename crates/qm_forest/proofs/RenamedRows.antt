@@ -1,20 +1,15 @@
 -- One vertex of a list, or one blossom of a row, more.
-use Rattle.std.proofs.Common.{◌≡◌, ◌≢◌, ℕ, suc, ◌+◌, ◌<◌, ◌≤◌, ◌^◌, Bool, true, false, cond, eqb, List, length}
-use Rattle.std.proofs.Common.{get_or, ℤ, pos, ◌+ℤ◌, ◌-ℤ◌, ◌⊎◌, sym, ◌∙◌, ap, subst, inl, inr, arith}
-use Rattle.std.proofs.Common.{get_or-set_same, get_or-set_other}
-use Rattle.std.proofs.Math.ListN.{set}
-use Rattle.std.proofs.lemmas.Int.{ints}
+use Rattle.std.proofs.Common.{◌≡◌, ◌≢◌, ℕ, suc, ◌+◌, ◌<◌, ◌≤◌, ◌^◌, Bool, true, false, cond, eqb, List, length, get_or}
+use Rattle.std.proofs.Common.{ℤ, pos, ◌+ℤ◌, ◌-ℤ◌, ◌⊎◌, sym, ◌∙◌, ap, subst, inl, inr, arith, get_or-set_same}
+use Rattle.std.proofs.Common.{get_or-set_other}
 use Rattle.std.proofs.lemmas.Bool.{cases_eq, cases_lt, cond-false, eq-eqb, ne_eqb, eqb-true}
-use Rattle.std.proofs.Math.Bool.{or-false, or-true}
-use Rattle.std.proofs.lemmas.List.{get_or_past}
-use Rattle.std.specs.Prelude.{unsigned_abs}
+use Rattle.std.proofs.{Math.ListN.set, lemmas.Int.ints, Math.Bool.or-false, Math.Bool.or-true, lemmas.List.get_or_past}
 use Rattle.def_forest.specs.{Forests.walk, Tables.out_of}
-use Rattle.forest_laws.specs.Walks.{listed}
 use Rattle.forest_laws.proofs.{Bounds.eqb_order, Walks.listed_off, Walks.listed_place}
 use Rattle.qm_forest.specs.Gathers.{lists_at, differ_by, in_row, HasListAt, HasListsOf, HasLeaders, HasRenamed, IsRow}
 use Rattle.qm_forest.specs.Gathers.{HasRenamedRow}
-use Rattle.qm_forest.specs.declared.tables.Handles.{Handles}
-use Rattle.qm_forest.specs.declared.tables.Lists.{Lists}
+use Rattle.qm_forest.specs.{declared.tables.Handles.Handles, declared.tables.Lists.Lists}
+use Rattle.{std.specs.Prelude.unsigned_abs, forest_laws.specs.Walks.listed}
 
 -- A table that is written at one more place of a walk, each place with its value: what is listed has it.
 one_more : {X : Type 0} (xs : List X) (d : X) (next : ℕ → ℕ) (from k : ℕ) (new old : ℕ → X)

@@ -1,28 +1,34 @@
--- Shrinking, step by step: the ring that is laid is a cycle of the tree, and what comes of it is one blossom.
-use Rattle.std.proofs.Common.{◌≡◌, ◌≢◌, ℕ, suc, ◌+◌, ◌-◌, ◌*◌, ◌<◌, ◌≤◌, Bool, true, false, cond, length, get_or}
-use Rattle.std.proofs.Common.{ℤ, Option, Some, None, refl, sym, ◌∙◌, ap, subst, inl, inr, arith}
+-- The tables of a forest that is open, those that contracts see and those that they do not.
+use Rattle.std.proofs.Common.{◌≡◌, ◌≢◌, ℕ, suc, ◌+◌, ◌-◌, ◌*◌, ◌<◌, ◌≤◌, Bool, true, false, cond, length, get_or, ℤ}
+use Rattle.std.proofs.Common.{Option, Some, None, refl, sym, ◌∙◌, ap, subst, inl, inr, arith}
 use Rattle.std.proofs.lemmas.Bool.{cases_eq, cases_lt, cond-true, eq-eqb}
-use Rattle.def_matching.specs.Matching.{WeightedGraph, IsSmallGraph}
+use Rattle.def_forest.specs.Tables.{ForestTables, forest_of, label_at, IsOutermostIn, IsValidFor}
 use Rattle.def_forest.specs.{Darts.Darts, Darts.AreDarts, Darts.darts_of, Darts.far, Forests.Forest, Forests.IsTight}
-use Rattle.def_forest.specs.{Forests.IsOutermost, Forests.set_at, Forests.walk, Shrunk.IsClosedRow}
-use Rattle.def_forest.specs.{Shrunk.IsCycle, Shrunk.IsShrunk, Shrunk.IsShrinking, Shrunk.IsUnused, Tables.ForestTables}
-use Rattle.def_forest.specs.{Tables.forest_of, Tables.label_at, Tables.IsOutermostIn, Tables.IsValidFor}
-use Rattle.def_forest.specs.{Valid.IsValid, Valid.IsTree, Ways.dart_or, declared.kinds.Label.Label}
-use Rattle.def_forest.specs.declared.kinds.Label.TheVariants.{Outer, Outside}
+use Rattle.def_forest.specs.{Forests.IsOutermost, Forests.set_at, Forests.walk, Shrunk.IsClosedRow, Shrunk.IsCycle}
+use Rattle.def_forest.specs.{Shrunk.IsShrunk, Shrunk.IsShrinking, Shrunk.IsUnused, Valid.IsValid, Valid.IsTree}
+use Rattle.def_forest.specs.{Ways.dart_or, declared.kinds.Label.Label, declared.kinds.Label.TheVariants.Outer}
+use Rattle.def_forest.specs.{declared.kinds.Label.TheVariants.Outside}
+use Rattle.qm_forest.specs.Ties.{HiddenTables, fixed_of, HasSameNest, labelled, mated, left_alone}
+use Rattle.qm_forest.specs.{Views.tables_of, Views.hidden_of, declared.forest.Forest.TheInside.Inside}
+use Rattle.qm_forest.specs.{Gathers.IsFreeRing, Gathers.IsGathered, Gathers.live_sets, Rings.IsRingedAlike}
+use Rattle.qm_forest.specs.{Rings.laid_ring}
+use Rattle.def_matching.specs.Matching.{WeightedGraph, IsSmallGraph}
 use Rattle.forest_laws.specs.Climbing.{rise_of, way_of, IsClimbing, ring_at, ring_dart}
 use Rattle.forest_laws.specs.Walks.{listed, writes}
 use Rattle.forest_laws.proofs.Forks.{Fork, at_left, at_right, at_named, dart_left, dart_over, dart_right, closed_row}
 use Rattle.forest_laws.proofs.Forks.{left_differs, right_differs, ring_cycle, walks, ways_differ}
-use Rattle.forest_laws.proofs.{Graphs.are_darts, Shrinks.Shrink, Shrinks.shrunk_valid}
-use Rattle.forest_laws.proofs.Odds.{IsBlossom, holder_used, sets_few}
-use Rattle.forest_laws.proofs.{Walks.listed_at, Walks.writes_all, Walks.writes_at, Walks.writes_off}
-use Rattle.forest_laws.proofs.Writes.{label_cases, option_cases}
-use Rattle.forest_laws.proofs.Writes.{outer_named, set_here, set_there, true_false}
-use Rattle.qm_forest.specs.Gathers.{IsFreeRing, IsGathered, live_sets}
-use Rattle.qm_forest.specs.Rings.{IsRingedAlike, laid_ring}
-use Rattle.qm_forest.specs.Ties.{fixed_of, HasSameNest, labelled, mated, left_alone}
-use Rattle.qm_forest.proofs.OnWays.{valid_as}
-use Rattle.qm_forest.proofs.Increases.{the_tree, named_low}
+use Rattle.forest_laws.proofs.Grows.{label_cases, option_cases, outer_named, set_here, set_there, true_false}
+use Rattle.forest_laws.proofs.{Bounds.are_darts, Shrinks.Shrink, Shrinks.shrunk_valid, Odds.IsBlossom, Odds.holder_used}
+use Rattle.forest_laws.proofs.{Odds.sets_few, Walks.listed_at, Walks.writes_all, Walks.writes_at, Walks.writes_off}
+use Rattle.qm_forest.proofs.{OnWays.valid_as, Increases.the_tree, Increases.named_low}
+
+abbrev pub seen_in : Inside → ForestTables
+seen_in s = tables_of s.handles s.lists s.rings s.trail s.weights s.tree s.room
+
+abbrev pub hidden_in : Inside → HiddenTables
+hidden_in s = hidden_of s.handles s.lists s.trail s.pool
+
+-- Shrinking, step by step: the ring that is laid is a cycle of the tree, and what comes of it is one blossom.
 
 -- Two functions that differ at most where both are written are one once they are.
 set_same : {X : Type 0} (f h : ℕ → X) (b : ℕ) (x : X) → ((y : ℕ) → y ≢ b → f y ≡ h y) → (y : ℕ) → set_at f b x y

@@ -1,15 +1,162 @@
+-- What stays of the tie where the nest changes, and no blossom has another weight.
+use Rattle.std.proofs.Common.{◌≡◌, ◌≢◌, ℕ, ◌<◌, cond, List, length, ℤ, pos, Option, None, sym, ◌∙◌, ap, inl, inr, Bool}
+use Rattle.std.proofs.Common.{◌≤ℤ◌, arith, zero, suc, ◌*◌, ◌≤◌, ◌^◌, true, false, get_or, ◌+ℤ◌, ◌+◌, [], ◌∷◌, ◌++◌}
+use Rattle.std.proofs.Common.{count_by, ◌-ℤ◌, refl, length-set, get_or-set_same, get_or-set_other}
+use Rattle.std.proofs.{lemmas.Int.ints, lemmas.Bool.cases_eq, lemmas.Option.slice_get-get_or, Math.ListN.set}
+use Rattle.std.proofs.{Math.Path.fun_ext, lemmas.List.get_or_append_left, lemmas.List.get_or_push}
+use Rattle.std.proofs.{lemmas.List.length_push, lemmas.List.Sums.count_by-le-length, lemmas.List.Sums.sum_by-set}
+use Rattle.sum_laws.proofs.Sums.{total_below_same}
+use Rattle.def_forest.specs.Tables.{ForestTables, climbs, label_at, out_of, up_at, weight_at, forest_of, IsOutermostIn}
+use Rattle.def_forest.specs.{declared.kinds.Label.Label, declared.kinds.Label.TheVariants.Outside, Forests.dual_sum_of}
+use Rattle.def_forest.specs.{Forests.set_at, Steps.weight_change}
+use Rattle.qm_forest.specs.Ties.{AreTied, HiddenTables, HasSizes, HasNumbers, IsLaidOut, IsPooled, IsTrailed, added}
+use Rattle.qm_forest.specs.Ties.{told, potential, IsOnTrail, labelled, mated, linked}
+use mir.Syntax.{w128}
+use mir.Val.{to_z, of_z}
+use Rattle.{std.specs.Prelude.unsigned_abs, def_math.specs.Sums.total_below, forest_laws.proofs.Grows.by_none}
+
+-- The tie, from what is said of so many vertices and numbers of blossoms.
+pub tied_as : {t : ForestTables} {hid : HiddenTables} {n size : ℕ} → length t.hand ≡ n → length t.up ≡ size
+    → HasSizes t hid → IsLaidOut n size t.hand t.top t.up t.rank t.parts hid.leader hid.first hid.last hid.following
+    → HasNumbers t.hand t.top t.up t.base t.label t.delta t.root hid.q hid.off
+    → IsTrailed n t.hand t.top t.label t.trail hid.touched → IsPooled n size t.parts hid.pool → AreTied t hid
+tied_as hands ups sizes nest numbers trail pool =
+    assumption (rw (← hands, ← ups) at nest, rw (← hands) at trail, rw (← hands, ← ups) at pool)
+
+-- The numbers, where one climbs past the same blossoms but for one without weight, as much is told of each vertex, and
+-- each handle adds what some handle added.
+pub numbers_kept : {t : ForestTables} {hid : HiddenTables} (tied : AreTied t hid) {b : ℕ} → weight_at t.base t.label
+    t.delta b ≡ pos 0 → {hand top up : List ℕ} → length hand ≡ length t.hand → length up ≡ length t.up → ((x v : ℕ) → x
+    ≢ b → v < length t.hand → climbs (up_at up) (length t.hand) x v ≡ climbs (up_at t.up) (length t.hand) x v)
+    → {root : Option ℕ} → (root ≡ None → t.root ≡ None) → {q off : List ℤ} → ((v : ℕ) → v < length t.hand → told q hand
+    top off t.label t.delta v ≡ told hid.q t.hand t.top hid.off t.label t.delta v) → ((v : ℕ) → v < length t.hand
+    → (u : ℕ) × (u < length t.hand) × (added hand top off t.label t.delta v ≡ added t.hand t.top hid.off t.label t.delta
+    u)) → HasNumbers hand top up t.base t.label t.delta root q off
+numbers_kept {t} tied {b} weightless {hand} {up} hand_size up_size past root_is told_same moved = record {
+  potentials = λ v l. (let lv : v < length t.hand = omega arith in
+      rw (hand_size, up_size) (total_below_same _ _ (length t.up) (λ x lx. elim (cases_eq x b) [
+        | inl e ↦ rw (e, weightless) (by_none _ ∙ sym (by_none _))
+        | inr ne ↦ ap (λ (s : Bool). cond s (weight_at t.base t.label t.delta x) (pos 0)) (past x v ne lv)
+      ])) ∙ (tied.numbers.potentials v lv ∙ sym (told_same v lv)));
+  small = tied.numbers.small;
+  start = tied.numbers.start;
+  small_start = tied.numbers.small_start;
+  moved = λ v l. (let m = moved v (omega arith) in rw (up_size, m.2) (tied.numbers.moved m.0 m.1));
+  risen = (tied.numbers.risen.0, rw up_size tied.numbers.risen.1);
+  still = λ none. tied.numbers.still (root_is none);
+}
+
+-- The numbers, where no blossom has another weight and no handle adds another number.
+pub numbers_as : {hand top up : List ℕ} {base : List ℤ} {label : List Label} {delta : ℤ} {root : Option ℕ}
+    {q off : List ℤ} → HasNumbers hand top up base label delta root q off → {base2 : List ℤ} {label2 : List Label}
+    {delta2 : ℤ} {root2 : Option ℕ} {off2 : List ℤ} → weight_at base2 label2 delta2 ≡ weight_at base label delta
+    → ((v : ℕ) → v < length hand → added hand top off2 label2 delta2 v ≡ added hand top off label delta v)
+    → (pos 0 ≤ℤ delta2) × (delta2 ≤ℤ delta) → (root2 ≡ None → delta2 ≡ pos 0)
+    → HasNumbers hand top up base2 label2 delta2 root2 q off2
+numbers_as {hand} {up = up} numbers same more risen still =
+    let sum = ap (λ (w : ℕ → ℤ). total_below w (length up)) same in
+    record {
+      potentials = λ v l. (let around = ap (λ (w : ℕ → ℤ). total_below (λ b. cond (climbs (up_at up) (length hand) b v)
+          (w b) (pos 0)) (length up)) same in
+          omega (arith, ints, more v l, numbers.potentials v l));
+      small = λ b. omega (arith, ints, ap (λ (w : ℕ → ℤ). w b) same, numbers.small b);
+      start = numbers.start;
+      small_start = numbers.small_start;
+      moved = λ v l. omega (arith, ints, more v l, sum, numbers.moved v l);
+      risen = (risen.0, omega (arith, ints, sum, risen.1, numbers.risen.1));
+      still = still;
+    }
+
+-- The trail, where each vertex of a blossom with a place in the tree has the outermost blossom that it had.
+pub trail_kept : {n : ℕ} {hand top : List ℕ} {label : List Label} {trail : List ℕ} {touched : List Bool} → IsTrailed n
+    hand top label trail touched → {hand2 top2 : List ℕ} → ((v : ℕ) → v < n → label_at label (out_of hand top v)
+    ≢ Outside → out_of hand2 top2 v ≡ out_of hand top v) → IsTrailed n hand2 top2 label trail touched
+trail_kept {hand} {top} {label} {trail} is same = record {
+  low = is.low;
+  counted = is.counted;
+  marked = is.marked;
+  named = λ x named. (let w = is.named x named in
+      (w.0, w.1, same _ (is.low w.0 w.1) (λ e. named (ap (label_at label) (sym w.2) ∙ e)) ∙ w.2));
+}
+
+-- The numbers of a forest stay small.
+
+-- A sum of small numbers.
+pub sum_small : (f : ℕ → ℤ) (n : ℕ) → ((k : ℕ) → k < n → unsigned_abs (f k) ≤ 2 ^ 62) → unsigned_abs (total_below f n)
+    ≤ n * 2 ^ 62
+sum_small f zero each = omega arith
+sum_small f (suc n) each = omega (arith, ints, each n (omega arith), sum_small f n (λ k l. each k (omega arith)))
+
+pub change_small : (l : Label) (d : ℤ) → unsigned_abs (weight_change l d) ≤ unsigned_abs d
+change_small l d = grind (arith, ints)
+
+module _ {t : ForestTables} {hid : HiddenTables} (tied : AreTied t hid) where
+  pub sum_is_small : unsigned_abs (dual_sum_of (forest_of t)) ≤ 2 ^ 88
+  sum_is_small = omega (arith, sum_small (forest_of t).weight (length t.up) (λ k l. tied.numbers.small k))
+
+  pub delta_small : unsigned_abs t.delta ≤ 2 ^ 92
+  delta_small = omega (arith, ints, sum_is_small, tied.numbers.small_start, tied.numbers.risen.0, tied.numbers.risen.1)
+
+  pub added_small : (v : ℕ) → v < length t.hand → unsigned_abs (added t.hand t.top hid.off t.label t.delta v) ≤ 2 ^ 92
+  added_small v l = omega (arith, ints, sum_is_small, tied.numbers.small_start, tied.numbers.moved v l)
+
+  pub potential_small : (v : ℕ) → unsigned_abs (potential (forest_of t) v) ≤ 2 ^ 88
+  potential_small v =
+      let sum = sum_small (λ b. cond ((forest_of t).holds b v) ((forest_of t).weight b) (pos 0)) (length t.up)
+      (λ b l. elim ((forest_of t).holds b v) as (λ s. unsigned_abs (cond s ((forest_of t).weight b) (pos 0)) ≤ 2 ^ 62)
+      [ true ↦ tied.numbers.small b | false ↦ omega (arith, ints) ]) in
+      omega arith
+
+  pub told_small : (v : ℕ) → v < length t.hand → unsigned_abs (told hid.q t.hand t.top hid.off t.label t.delta v)
+      ≤ 2 ^ 88
+  told_small v l = rw (tied.numbers.potentials v l) at (potential_small v)
+
+  -- An outermost blossom has a number below the size.
+  pub outermost_low : (b : ℕ) → IsOutermostIn t b → b < length t.up
+  outermost_low b w = rw w.2 at (tied.nest.outs _ (tied.nest.hands w.0 w.1))
+
+  -- The vertices of an outermost blossom have one handle.
+  pub one_hand : (u v : ℕ) → u < length t.hand → v < length t.hand → out_of t.hand t.top u ≡ out_of t.hand t.top v
+      → get_or t.hand u 0 ≡ get_or t.hand v 0
+  one_hand u v lu lv e = tied.nest.led u lu ∙ (ap (λ b. get_or hid.leader b 0) e ∙ sym (tied.nest.led v lv))
+
+-- A small number that is kept in its bits.
+pub kept_in_bits : (z : ℤ) → unsigned_abs z ≤ 2 ^ 100 → to_z w128 (of_z w128 z) ≡ z
+kept_in_bits z small = omega (arith, ints)
+
+-- What the tables at hand add to a potential.
+pub added_bound : {t : ForestTables} {hid : HiddenTables} → AreTied t hid → (v : ℕ) → v < length t.hand
+    → {xs : List ℤ} (h : ℕ) (l : Label) {d : ℤ}
+    → xs ≡ hid.off → h ≡ get_or t.hand v 0 → l ≡ label_at t.label (out_of t.hand t.top v) → d ≡ t.delta
+    → get_or xs h (pos 0) +ℤ weight_change l d ≡ added t.hand t.top hid.off t.label t.delta v
+added_bound tied v low h l e1 e2 e3 e4 = rw (e1, e2, e3, e4)
+
+-- What the tables at hand tell of a potential.
+pub told_bound : {t : ForestTables} {hid : HiddenTables} → AreTied t hid → (v : ℕ) → v < length t.hand
+    → {qs : List ℤ} {more : ℤ} → qs ≡ hid.q → more ≡ added t.hand t.top hid.off t.label t.delta v
+    → get_or qs v (pos 0) +ℤ more ≡ potential (forest_of t) v
+told_bound tied v low e1 e2 = rw (e1, e2) (sym (tied.numbers.potentials v low))
+
+-- A weight as it is kept is small.
+pub base_small : {t : ForestTables} {hid : HiddenTables} → AreTied t hid → (b : ℕ)
+    → unsigned_abs (get_or t.base b (pos 0)) ≤ 2 ^ 93
+base_small {t} tied b =
+    let change = change_small (label_at t.label b) t.delta in
+    omega (arith, ints, tied.numbers.small b, delta_small tied)
+
+pub read_nat : (xs : List ℕ) (b r d : ℕ) → b < length xs → get_or xs b r ≡ get_or xs b d
+read_nat xs b r d low = cc (slice_get-get_or xs b r low, slice_get-get_or xs b d low)
+
+-- A weight, read from the tables at hand.
+pub weight_read : {r : ℤ} {xs base : List ℤ} {ls label : List Label} {d delta : ℤ} (b : ℕ) → r ≡ weight_at xs ls d b
+    → xs ≡ base → ls ≡ label → d ≡ delta → r ≡ weight_at base label delta b
+weight_read b e e1 e2 e3 = rw (e, e1, e2, e3)
+
+-- A mark that is read, whatever would stand past the end.
+pub mark_read : (xs : List Bool) (v : ℕ) {r : Bool} (d : Bool) → v < length xs → r ≡ get_or xs v r → get_or xs v d ≡ r
+mark_read xs v {r} d low e = cc (slice_get-get_or xs v r low, slice_get-get_or xs v d low)
+
 -- One write to a table, or a vertex more on the trail, and what it leaves of the tie.
-use Rattle.std.proofs.Common.{◌≡◌, ◌≢◌, ℕ, ◌+◌, ◌<◌, ◌≤◌, Bool, true, false, cond, List, [], ◌∷◌, ◌++◌, length}
-use Rattle.std.proofs.Common.{count_by, get_or, ℤ, pos, ◌+ℤ◌, ◌-ℤ◌, Option, None, refl, sym, ◌∙◌, ap, inl, inr, arith}
-use Rattle.std.proofs.Common.{length-set, get_or-set_same, get_or-set_other}
-use Rattle.std.proofs.{Math.ListN.set, Math.Path.fun_ext, lemmas.Int.ints, lemmas.Bool.cases_eq}
-use Rattle.std.proofs.lemmas.List.{get_or_append_left, get_or_push, length_push}
-use Rattle.std.proofs.lemmas.List.Sums.{count_by-le-length, sum_by-set}
-use Rattle.def_forest.specs.{Forests.set_at, Steps.weight_change, Tables.ForestTables}
-use Rattle.def_forest.specs.Tables.{forest_of, label_at, weight_at, out_of}
-use Rattle.def_forest.specs.{declared.kinds.Label.Label, declared.kinds.Label.TheVariants.Outside}
-use Rattle.qm_forest.specs.Ties.{AreTied, HasSizes, HiddenTables, IsOnTrail, added, labelled, mated, linked}
-use Rattle.qm_forest.proofs.{KeptTies.numbers_as, Ranges.one_hand}
 
 -- A table with one entry written, as a function.
 pub entry_set : {X : Type 0} (xs : List X) (k : ℕ) (x d : X) → k < length xs → (λ j. get_or (set xs k x) j d)

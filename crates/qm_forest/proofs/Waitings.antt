@@ -1,28 +1,104 @@
--- Sets that wait, from the one with the most vertices on, and the sets in order: each stands there once, and a sum over
--- them is a sum over all blossoms.
-use Rattle.std.proofs.Common.{◌≡◌, ◌≢◌, ℕ, zero, suc, ◌+◌, ◌*◌, ◌<◌, ◌≤◌, Bool, false, sum_by, List, ◌∷◌, []}
-use Rattle.std.proofs.Common.{cond, eqb, ◌++◌, length, get_or, Option, Some, None, ◌⊎◌, ℤ, pos, ◌+ℤ◌, ◌≤ℤ◌}
-use Rattle.std.proofs.Common.{refl, sym, ◌∙◌, ap, inl, inr, arith, length-set, get_or-set_same, get_or-set_other}
-use Rattle.std.proofs.Math.ListN.{set}
-use Rattle.std.proofs.lemmas.Int.{ints}
-use Rattle.std.proofs.lemmas.Bool.{cases_eq, cases_lt, cond-false, cond-true, eq-eqb, le-ltb, lt-ltb, ne_eqb}
-use Rattle.std.proofs.lemmas.Bool.Decides.{nat_tests}
+-- The pool after the number of one of its sets was taken, or given back.
+use Rattle.std.proofs.Common.{◌≡◌, ◌≢◌, ℕ, ◌+◌, ◌<◌, ◌≤◌, cond, eqb, List, length, get_or, count_by, is_some, ◌⊎◌}
+use Rattle.std.proofs.Common.{Option, Some, None, refl, ◌∙◌, ap, inl, inr, arith, length-set, get_or-set_same}
+use Rattle.std.proofs.Common.{get_or-set_other, zero, suc, ◌*◌, Bool, false, sum_by, ◌∷◌, [], ◌++◌, ℤ, pos, ◌+ℤ◌, ◌≤ℤ◌}
+use Rattle.std.proofs.Common.{sym}
+use Rattle.std.proofs.lemmas.Bool.{cases_eq, cond-false, le-ltb, cases_lt, cond-true, eq-eqb, lt-ltb, ne_eqb}
+use Rattle.std.proofs.lemmas.Option.{slice_get-get_or, slice_get_past, slice_get_within, get_or_from_slice_get}
 use Rattle.std.proofs.lemmas.List.{get_or_append_left, get_or-append_right, get_or_past, get_or_read, length-append}
 use Rattle.std.proofs.lemmas.List.Elements.{All-push, Contains-push, Contains-append_left}
-use Rattle.std.proofs.lemmas.List.Sums.{sum_by-cons}
 use Rattle.std.proofs.lemmas.List.Sorted.{sum_by-IsPermutation, All-permutation, Contains-permutation}
 use Rattle.std.proofs.lemmas.List.Sorted.{IsNonDecreasingBy-from_all_adjacent}
-use Rattle.std.specs.{List.Sorted.IsNonDecreasingBy, List.Sorted.IsPermutation, List.Sorted.IsSorted}
-use Rattle.std.specs.{Ordering.is_lt, Ordering.nat_cmp, Ordering.ordering_then, Prelude.nat_lt, Prelude.unsigned_abs}
-use Rattle.def_math.specs.{Counts.count, Counts.count_below, Sums.total_below}
-use Rattle.sum_laws.proofs.Counts.{count_append, count_below_none, count_below_one, count_below_total, count_total}
-use Rattle.sum_laws.proofs.Sums.{total_below_none, total_below_same}
-use Rattle.qm_dual.proofs.Entries.{total_entries}
+use Rattle.std.proofs.{Math.ListN.set, lemmas.List.Sums.sum_by-set, lemmas.List.Sums.sum_by-cons, lemmas.Int.ints}
+use Rattle.std.proofs.{lemmas.Bool.Decides.nat_tests}
+use Rattle.std.specs.{Prelude.slice_get, Prelude.nat_lt, Prelude.unsigned_abs, List.Sorted.IsNonDecreasingBy}
+use Rattle.std.specs.{List.Sorted.IsPermutation, List.Sorted.IsSorted, Ordering.is_lt, Ordering.nat_cmp}
+use Rattle.std.specs.{Ordering.ordering_then}
+use Rattle.def_math.specs.{Counts.count_below, Counts.count, Sums.total_below}
 use Rattle.def_forest.specs.{Forests.live_at, Forests.bool_number, Tables.ForestTables, Tables.up_at}
 use Rattle.qm_forest.specs.Outlines.{AreDistinct, AreEntries, AreWeights, IsListOf, set_in}
 use Rattle.qm_forest.specs.Rounds.{AreInOrder, HasSets, IsEntry, IsRound, IsSized, WaitWithin, waiting, waits_but}
 use Rattle.qm_forest.specs.Rounds.{waits_for}
-use Rattle.qm_forest.proofs.Pairings.{count_more}
+use Rattle.qm_forest.specs.Ties.{IsPooled}
+use Rattle.qm_forest.proofs.RingRounds.{count_changed, count_more}
+use Rattle.sum_laws.proofs.Sums.{count_append, count_below_none, count_below_one, count_below_total, count_total}
+use Rattle.sum_laws.proofs.Sums.{total_below_none, total_below_same}
+use Rattle.{qm_pool.specs.declared.pool.Node.Node, qm_dual.proofs.Tallies.total_entries}
+
+-- An entry of the pool has a node where its number has parts.
+abbrev pub IsFit : (entry : Option Node) (many : ℕ) → Type 0
+IsFit entry many = ((entry ≡ None) × (many ≡ 0)) ⊎ ((node : Node) × (entry ≡ Some node) × (many ≢ 0))
+
+fit_count : {entry : Option Node} {many : ℕ} → IsFit entry many → ◌≡◌ {A = ℕ} (cond (is_some entry) 1 0)
+    (cond (eqb many 0) 0 1)
+fit_count fit = grind arith
+
+-- One entry has changed, and with it whether its number has parts.
+module _ {n size : ℕ} {parts : List ℕ} {pool : List (Option Node)} (pooled : IsPooled n size parts pool) {b : ℕ}
+    (id : ℕ) (high : n ≤ b) (low : b < size) (wide : length parts ≡ size) (id_is : b ≡ n + id) {was : Option Node}
+    (was_is : slice_get pool id ≡ Some was) (old_fit : IsFit was (get_or parts b 0)) (new : Option Node) (many : ℕ)
+    (new_fit : IsFit new many) where
+  abbrev parts2 : List ℕ
+  parts2 = set parts b many
+
+  abbrev pool2 : List (Option Node)
+  pool2 = set pool id new
+
+  id_low : id < length pool
+  id_low = slice_get_within pool id was was_is
+
+  pool_size : length pool2 ≡ length pool
+  pool_size = length-set pool id new
+
+  at_b : get_or parts2 b 0 ≡ many
+  at_b = get_or-set_same parts b many 0 (rw wide low)
+
+  at_old : (x : ℕ) → x ≢ b → get_or parts2 x 0 ≡ get_or parts x 0
+  at_old x ne = get_or-set_other parts b x many 0 ne
+
+  here : slice_get pool2 id ≡ Some new
+  here = cc (slice_get-get_or pool2 id None (rw pool_size id_low), get_or-set_same pool id new None id_low)
+
+  there : (k : ℕ) → k ≢ id → slice_get pool2 k ≡ slice_get pool k
+  there k ne = grind (arith, slice_get-get_or, slice_get_past, get_or-set_other pool id k new None ne, pool_size)
+
+  set_at : (k : ℕ) → k ≡ id → get_or parts2 (n + k) 0 ≡ many
+  set_at k e = ap (λ x. get_or parts2 x 0) (let at : n + k ≡ b = omega arith in at) ∙ at_b
+
+  old_at : (k : ℕ) → k ≢ id → get_or parts2 (n + k) 0 ≡ get_or parts (n + k) 0
+  old_at k ne = at_old (n + k) (λ e. ne (omega arith))
+
+  -- The number is counted before and after as the pool counts its entry.
+  live_b : (parts' : List ℕ) {m : ℕ} → get_or parts' b 0 ≡ m → live_at n (λ i. get_or parts' i 0) b ≡ cond (eqb m 0) 0 1
+  live_b parts' is = cond-false _ _ _ (le-ltb b n high) ∙ ap (λ k. cond (eqb k 0) 0 1) is
+
+  counted : count_by is_some pool2 ≡ count_below (live_at n (λ i. get_or parts2 i 0)) size
+  counted =
+      let sum = sum_by-set (λ (o : Option Node). cond (is_some o) 1 0) pool id new None id_low in
+      let entry = ap {B = ℕ} (λ (o : Option Node). cond (is_some o) 1 0) (get_or_from_slice_get pool id was None was_is)
+      in
+      let count = count_changed (live_at n (λ i. get_or parts i 0)) (live_at n (λ i. get_or parts2 i 0)) size b low
+      (λ x lx ne. ap (λ m. cond (nat_lt x n) 0 (cond (eqb m 0) 0 1)) (at_old x ne)) in
+      omega (arith, live_b parts refl, live_b parts2 at_b, fit_count old_fit, fit_count new_fit)
+
+  pub pool_changed : IsPooled n size (set parts b many) (set pool id new)
+  pool_changed = record {
+    room = ap (λ m. n + m) pool_size ∙ pooled.room;
+    half = pool_size ∙ pooled.half;
+    free = λ k is. grind (arith, here, there k, set_at k, old_at k, pooled.free k, new_fit);
+    live = λ k some. elim (cases_eq k id) [
+      | inl e ↦ elim new_fit [
+        | inl w ↦ absurd (some (set_at k e ∙ w.1))
+        | inr w ↦ (w.0, ap (slice_get pool2) e ∙ (here ∙ ap (λ (o : Option Node). Some o) w.1))
+      ]
+      | inr ne ↦ (let w = pooled.live k (λ none. some (old_at k ne ∙ none)) in (w.0, there k ne ∙ w.1))
+    ];
+    vertices = λ v l. at_old v (λ e. absurd (omega arith)) ∙ pooled.vertices v l;
+    counted = counted;
+  }
+
+-- Sets that wait, from the one with the most vertices on, and the sets in order: each stands there once, and a sum over
+-- them is a sum over all blossoms.
 
 -- What is counted at one place, and at two.
 one_place : {X : Type 0} (f : X → ℕ) (xs : List X) (k : ℕ) (d : X) → k < length xs → f (get_or xs k d) ≤ count f xs

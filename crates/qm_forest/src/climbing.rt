@@ -36,7 +36,7 @@ impl Forest {
     }
 
     /// The outermost blossom that a dart reaches.
-    #[tactic(auto, using(crate::proofs::OnWays::twin_dart, forest_laws::proofs::Graphs::are_darts))]
+    #[tactic(auto, using(crate::proofs::OnWays::twin_dart, forest_laws::proofs::Bounds::are_darts))]
     pub fn far_blossom(&self, g: &SmallGraph, d: u32) -> u32
         requires { IsDartOf g.now.graph self.now d }
         ensures value { result ≡ (forest_of self.now).out (far (darts_of g.now.graph) d) }

@@ -72,7 +72,7 @@ impl Forest {
     }
 
     /// Matches the blossoms of a ring in pairs, from the second on, and the first one by a dart of its own.
-    #[tactic(auto, using(crate::proofs::Leavings::place_low))]
+    #[tactic(auto, using(crate::proofs::Expandings::place_low))]
     fn match_parts(&mut self, first: u32, many: u32, mate: u32)
         requires some { 1 ≤ many }
         requires low { (k : ℕ) → k < many → walk (slice_index self.old.after) first k < length self.old.up }

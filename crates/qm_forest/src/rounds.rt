@@ -24,7 +24,7 @@ pub(crate) struct Round {
 
 impl Forest {
     /// Matches two blossoms by a dart from the one to the other. Of a set all vertices but the dart's end wait then.
-    #[tactic(auto, using(crate::proofs::Pairings::entered_size))]
+    #[tactic(auto, using(crate::proofs::RingRounds::entered_size))]
     pub(crate) fn pair(&self, x: u32, y: u32, d: u32, round: &mut Round)
         requires room { HasRoom self.now round.old }
         requires pairing { IsPairing self.now x y d }

@@ -1,12 +1,11 @@
 -- Parts of lists joined one after the other: of edges, and of units and states by lows and caps.
 use Rattle.std.proofs.Common.{◌≡◌, ℕ, zero, suc, ◌+◌, List, [], ◌∷◌, ◌++◌, ℤ, refl, ◌∙◌, ap, append_assoc, add-one}
 use Rattle.std.proofs.Common.{add-zero, arith, ◌-◌, true, false, length, map, sym}
+use Rattle.std.proofs.{lemmas.Bool.Decides.nat_tests, lemmas.List.length-append}
 use Rattle.def_flow.specs.Units.{arcwise, down, cap, run, units_from, states, states_at, unit_at, units_over}
 use Rattle.def_flow.specs.Units.{states_over}
 use Rattle.def_flow.specs.{MatchingGraph.link, MatchingGraph.fan, Network.Network, declared.net.Arc.Arc, Gadget.caps}
-use Rattle.std.proofs.{lemmas.Bool.Decides.nat_tests, lemmas.List.length-append}
-use Rattle.std.specs.Prelude.{nat_lt}
-use Rattle.gadget_laws.proofs.{Box.units_length, Box.run_length}
+use Rattle.{std.specs.Prelude.nat_lt, gadget_laws.proofs.Box.units_length, gadget_laws.proofs.Box.run_length}
 
 fan_suc : (u : ℕ) (c : ℤ) (a n : ℕ) → fan u c a (suc n) ≡ fan u c a n ++ link u (a + n) c ∷ []
 fan_suc u c a zero = rw (add-zero a) refl

@@ -1,7 +1,5 @@
-pub mod Arcwise
 mod Fans
 mod Numbers
-mod OfList
-mod Reading
+pub mod OfList
 mod NodeCounts
 mod Told

@@ -1,16 +1,11 @@
 -- Counts of active ends, one unit at a time.
-use Rattle.std.proofs.Common.{◌≡◌, ℕ, zero, suc, ◌+◌, ◌*◌, ◌%◌, ◌<◌, ◌≤◌, ◌==◌, Bool, false, not, ◌&&◌, cond}
-use Rattle.std.proofs.Common.{List, ◌∷◌, length, take, drop, None, pos, refl, inl, inr, arith}
-use Rattle.std.proofs.lemmas.Bool.{cases_lt}
-use Rattle.std.proofs.lemmas.List.{drop_more, get_or_past}
-use Rattle.std.specs.Prelude.{slice_index, slice_index_or}
+use Rattle.std.proofs.Common.{◌≡◌, ℕ, zero, suc, ◌+◌, ◌*◌, ◌%◌, ◌<◌, ◌≤◌, ◌==◌, Bool, false, not, ◌&&◌, cond, List, ◌∷◌}
+use Rattle.std.proofs.Common.{length, take, drop, None, pos, refl, inl, inr, arith}
+use Rattle.std.proofs.{lemmas.Bool.cases_lt, lemmas.List.drop_more, lemmas.List.get_or_past}
 use mathlib.Core.Bool.{beq}
-use Rattle.def_math.specs.{Tables.IsRaised}
-use Rattle.def_flow.specs.{Units.is_active, Units.active_at, Units.active}
-use Rattle.def_flow.specs.{declared.units.ArcUnit.ArcUnit}
-use Rattle.gadget_laws.proofs.Arcs.{ends_past}
-use Rattle.qm_gadget.specs.Layout.{IsAtNodes}
-use Rattle.sum_laws.proofs.Tests.{once_at_most}
+use Rattle.def_flow.specs.{Units.is_active, Units.active_at, Units.active, declared.units.ArcUnit.ArcUnit}
+use Rattle.{std.specs.Prelude.slice_index, std.specs.Prelude.slice_index_or, def_math.specs.Tables.IsRaised}
+use Rattle.{gadget_laws.proofs.Arcs.ends_past, qm_gadget.specs.Layout.IsAtNodes, sum_laws.proofs.Tests.once_at_most}
 
 -- Past the last unit stands this one.
 abbrev pub no_unit : ArcUnit

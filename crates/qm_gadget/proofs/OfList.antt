@@ -1,25 +1,51 @@
--- The lows and caps of an admissible list are ready for a plan, and its plan gives its matching graph.
-use Rattle.std.proofs.Common.{◌≡◌, ℕ, suc, ◌+◌, ◌-◌, ◌*◌, ◌^◌, ◌<◌, ◌≤◌, List, [], ◌∷◌, length, refl, sym}
-use Rattle.std.proofs.Common.{◌∙◌, ap, inl, inr, arith, ◌%◌, ◌==◌, Bool, true, false}
-use Rattle.def_flow.specs.Network.{EndsBelow, Network, IsWithinBounds, tangle_number}
-use Rattle.def_flow.specs.Units.{low, cap, units, active, units_over, states_over, states, rim_active}
+-- What is made of each arc and its entry, at one place.
+use Rattle.std.proofs.Common.{◌≡◌, ℕ, zero, suc, ◌+◌, ◌<◌, List, [], ◌∷◌, ◌++◌, length, take, get_or, refl, sym, ◌∙◌}
+use Rattle.std.proofs.Common.{ap, arith, ◌-◌, ◌*◌, ◌^◌, ◌≤◌, inl, inr, ◌%◌, ◌==◌, Bool, true, false}
+use Rattle.std.proofs.{lemmas.List.get_or_default, lemmas.List.get_or_past, Math.Nat.mul-le-mul, lemmas.Bool.cases_lt}
+use Rattle.std.proofs.{lemmas.List.Elements.All-from_recursion, lemmas.List.Elements.recursion_from_All}
+use Rattle.std.specs.Prelude.{unsigned_abs, slice_index}
+use Rattle.def_flow.specs.Network.{arc_at, EndsBelow, Network, IsWithinBounds, tangle_number}
+use Rattle.def_flow.specs.Units.{arcwise, low, cap, units, active, units_over, states_over, states, rim_active}
 use Rattle.def_flow.specs.MatchingGraph.{graph_by, graph_of_units, matching_graph, first_fresh, unit_size, rim}
+use Rattle.def_flow.specs.MatchingGraph.{lone_vertex}
+use Rattle.def_flow.specs.{declared.net.Arc.Arc, Admissible.IsAdmissible, Admissible.entries, Admissible.AreNetLengths}
+use Rattle.def_flow.specs.{declared.units.ArcUnit.ArcUnit, Gadget.caps, Gadget.lows}
 use Rattle.def_matching.specs.Matching.{WeightedGraph, IsCheap, IsSmallGraph, edge_at}
 use Rattle.qm_gadget.specs.Ready.{graph_by_lows, IsReady, IsPlan, own_states as states_of_caps, marks_over}
-use Rattle.gadget_laws.specs.Marks.{places, states_marks, rim_marks, rim_states}
-use Rattle.std.proofs.{Math.Nat.mul-le-mul, lemmas.Bool.cases_lt, lemmas.List.get_or_past}
-use Rattle.std.proofs.{lemmas.List.Elements.All-from_recursion, lemmas.List.Elements.recursion_from_All}
-use Rattle.std.specs.{Prelude.unsigned_abs, Prelude.slice_index}
-use Rattle.def_math.specs.{Counts.count, Counts.count_below}
-use Rattle.def_flow.specs.{Admissible.IsAdmissible, Admissible.entries, Admissible.AreNetLengths}
-use Rattle.def_flow.specs.{MatchingGraph.lone_vertex}
-use Rattle.def_flow.specs.{declared.units.ArcUnit.ArcUnit, Gadget.caps, Gadget.lows}
-use Rattle.gadget_laws.proofs.{Arcs.active_past, Edges.size_low, Box.arcwise_length, Law.costs, Law.units_at}
-use Rattle.gadget_laws.proofs.{Law.graph_law, Size.size_law}
 use Rattle.qm_gadget.specs.{Layout.copies_in, Layout.AreAtNodes, declared.plan.Plan.Plan, Marked.rim_by}
-use Rattle.qm_gadget.proofs.{Arcwise.arcwise_at, Fans.own_states, NodeCounts.same_everywhere, NodeCounts.active_low}
-use Rattle.qm_gadget.proofs.Numbers.{rim_is}
-use Rattle.gadget_laws.specs.{Box.ups, Box.matching_told}
+use Rattle.gadget_laws.specs.{Marks.places, Marks.states_marks, Marks.rim_marks, Marks.rim_states, Box.ups}
+use Rattle.gadget_laws.specs.{Box.matching_told}
+use Rattle.def_math.specs.Counts.{count, count_below}
+use Rattle.gadget_laws.proofs.{Arcs.active_past, Edges.size_low, Box.arcwise_length, Box.costs, Box.units_at}
+use Rattle.gadget_laws.proofs.{Box.graph_law, Size.size_law}
+use Rattle.qm_gadget.proofs.{Fans.own_states, NodeCounts.same_everywhere, NodeCounts.active_low, Numbers.rim_is}
+
+-- At an arc of the list.
+pub arcwise_at : (f : Arc → ℕ → ℕ) (arcs : List Arc) (xs : List ℕ) (k : ℕ) → length xs ≡ length arcs → k < length arcs
+    → get_or (arcwise f arcs xs) k 0 ≡ f (arc_at arcs k) (get_or xs k 0)
+arcwise_at f (a ∷ arcs) (x ∷ xs) zero same l = refl
+arcwise_at f (a ∷ arcs) (x ∷ xs) (suc k) same l = arcwise_at f arcs xs k (omega arith) (omega arith)
+arcwise_at f _ _ k same l = absurd (omega arith)
+
+-- One arc more of the first ones.
+pub arcwise_more : (f : Arc → ℕ → ℕ) (arcs : List Arc) (xs : List ℕ) (k : ℕ) → length xs ≡ length arcs → k < length xs
+    → arcwise f (take (k + 1) arcs) (take (k + 1) xs) ≡ arcwise f (take k arcs) (take k xs) ++ f (arc_at arcs k)
+    (get_or xs k 0) ∷ []
+arcwise_more f (a ∷ arcs) (x ∷ xs) zero same l = refl
+arcwise_more f (a ∷ arcs) (x ∷ xs) (suc k) same l =
+    let past : suc k + 1 ≡ suc (k + 1) = omega arith in
+    rw past (ap (λ ys. f a x ∷ ys) (arcwise_more f arcs xs k (omega arith) (omega arith)))
+arcwise_more f _ _ k same l = absurd (omega arith)
+
+-- One entry more, read at an arc of the list.
+pub arcwise_next : (f : Arc → ℕ → ℕ) (arcs : List Arc) (xs : List ℕ) (k : ℕ) {out new : List ℕ} {y : ℕ} {a : Arc}
+    → length xs ≡ length arcs → k < length xs → out ≡ arcwise f (take k arcs) (take k xs) → new ≡ out ++ y ∷ []
+    → y ≡ f a (get_or xs k 0) → a ≡ get_or arcs k a → new ≡ arcwise f (take (k + 1) arcs) (take (k + 1) xs)
+arcwise_next f arcs xs k {a = a} same low outs news entry at =
+    let arc : a ≡ arc_at arcs k = at ∙ get_or_default arcs k _ _ (omega arith) in
+    news ∙ rw (outs, entry, arc) (sym (arcwise_more f arcs xs k same low))
+
+-- The lows and caps of an admissible list are ready for a plan, and its plan gives its matching graph.
 
 -- There are no more units than vertices of units.
 units_few : (us : List ArcUnit) → length us ≤ count unit_size us

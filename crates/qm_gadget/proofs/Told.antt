@@ -1,21 +1,18 @@
 -- What a gadget's matchings and lists tell of each other.
-use Rattle.std.proofs.Common.{◌≡◌, ℕ, ◌%◌, ◌^◌, ◌≤◌, ◌==◌, Bool, List, length, pos, ◌-ℤ◌, ◌≤ℤ◌, sym, ◌∙◌}
-use Rattle.std.proofs.Common.{ap, arith}
-use Rattle.def_flow.specs.{Network.Network, Network.IsWithinBounds, Admissible.IsAdmissible}
-use Rattle.def_flow.specs.{Admissible.deviation, Admissible.entries, Units.units, Units.states_at}
-use Rattle.def_flow.specs.{Units.active, Units.rim_active, MatchingGraph.graph_by, MatchingGraph.matching_graph}
+use Rattle.std.proofs.Common.{◌≡◌, ℕ, ◌%◌, ◌^◌, ◌≤◌, ◌==◌, Bool, List, length, pos, ◌-ℤ◌, ◌≤ℤ◌, sym, ◌∙◌, ap, arith}
+use Rattle.def_flow.specs.Units.{units, states_at, active, rim_active, units_over, states_over}
+use Rattle.def_flow.specs.{Network.Network, Network.IsWithinBounds, Admissible.IsAdmissible, Admissible.deviation}
+use Rattle.def_flow.specs.{Admissible.entries, MatchingGraph.graph_by, MatchingGraph.matching_graph}
 use Rattle.def_flow.specs.{declared.units.ArcUnit.ArcUnit, Gadget.IsGadgetOf, Gadget.IsInBox, Gadget.lows, Gadget.caps}
-use Rattle.def_flow.specs.{declared.gadget.Gadget.Gadget, Units.units_over, Units.states_over}
+use Rattle.def_flow.specs.{declared.gadget.Gadget.Gadget}
 use Rattle.def_matching.specs.Matching.{WeightedGraph, graph, matching_cost, IsPerfect}
 use Rattle.gadget_laws.specs.{Box.ups, Box.matching_told, Marks.places, Told.marks_from, Told.states_told}
-use Rattle.gadget_laws.specs.Told.{lengths_told}
-use Rattle.gadget_laws.proofs.Whole.{marks_length}
-use Rattle.gadget_laws.proofs.{Steps.in_box, Law.matching_law, Size.size_law, Arcs.lengths_law}
+use Rattle.gadget_laws.specs.{Told.lengths_told}
+use Rattle.gadget_laws.proofs.{Whole.marks_length, Arcs.in_box, Arcs.lengths_law, Box.matching_law, Size.size_law}
 use Rattle.qm_gadget.specs.{Ready.IsReady, Ready.marks_over, Ready.own_states as states_of_caps, Read.lengths_by}
-use Rattle.qm_gadget.specs.Read.{lengths_read, widths_over}
-use Rattle.qm_gadget.proofs.{Fans.states_long, Fans.own_states, OfList.list_ready, OfList.graph_over}
-use Rattle.qm_gadget.proofs.{Reading.widths_low, Reading.lengths_is, OfList.ups_length}
-use Rattle.qm_gadget.proofs.OfList.{marks_over_is}
+use Rattle.qm_gadget.specs.{Read.lengths_read, Read.widths_over}
+use Rattle.qm_gadget.proofs.{Fans.states_long, Fans.own_states, OfList.list_ready, OfList.graph_over, OfList.ups_length}
+use Rattle.qm_gadget.proofs.{OfList.marks_over_is, Numbers.widths_low, Numbers.lengths_is}
 
 module _ {net : Network} {g : Gadget} (bounds : IsWithinBounds net) (of : IsGadgetOf net g) where
   -- The lows and caps of a gadget are ready for a plan.

@@ -1,11 +1,9 @@
 -- The cells name points of the grid.
-use Rattle.std.proofs.Common.{◌≡◌, ◌<◌, ◌≤◌, ◌+◌, ◌*◌, ◌^◌, ◌&&◌, ℕ, zero, suc, ℤ, Bool, true, false, IsTrue, List, []}
-use Rattle.std.proofs.Common.{◌∷◌, length, map, filter, cond, refl, ap, ap₂, sym, ◌∙◌, subst, arith, length-append}
-use Rattle.std.proofs.lemmas.Bool.{and_from, le-leb, lt-ltb}
-use Rattle.std.proofs.lemmas.List.{length-map}
-use Rattle.std.proofs.lemmas.List.Folds.{list_all-append}
-use Rattle.std.proofs.lemmas.List.FromFn.{length-map-range_with_len, length-range_with_len}
-use Rattle.std.proofs.Math.Nat.{mul-le-mul_right, suc-mul}
+use Rattle.std.proofs.Common.{◌≡◌, ◌<◌, ◌≤◌, ◌+◌, ◌*◌, ◌^◌, ◌&&◌, ℕ, zero, suc, Bool, true, false, IsTrue, List, []}
+use Rattle.std.proofs.Common.{◌∷◌, length, map, filter, cond, refl, ap, sym, ◌∙◌, subst, arith, length-append}
+use Rattle.std.proofs.{lemmas.Bool.and_from, lemmas.Bool.le-leb, lemmas.Bool.lt-ltb, lemmas.List.length-map}
+use Rattle.std.proofs.{lemmas.List.Folds.list_all-append, lemmas.List.FromFn.length-map-range_with_len}
+use Rattle.std.proofs.{lemmas.List.FromFn.length-range_with_len, Math.Nat.mul-le-mul_right, Math.Nat.suc-mul}
 use Rattle.std.specs.{Prelude.nat_le, Prelude.nat_lt, List.flat_map, List.list_all, List.range_with_len}
 use Rattle.def_gen.specs.Steps.{cell, cells, column_height, grid_points, whole_point, point_number, row_cells}
 use Rattle.def_gen.specs.Steps.{row_points}

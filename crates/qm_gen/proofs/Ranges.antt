@@ -1,13 +1,10 @@
 -- One number more of a range.
 use Rattle.std.proofs.Common.{◌≡◌, ◌+◌, ◌*◌, ◌/◌, ◌%◌, ℕ, suc, Bool, true, false, List, [], ◌∷◌, ◌++◌, map, filter}
 use Rattle.std.proofs.Common.{refl, ap, ap₂, sym, ◌∙◌, arith, append-nil, append_assoc}
-use Rattle.std.proofs.lemmas.List.{map-append}
-use Rattle.std.proofs.lemmas.List.Concat.{flat_map-append}
-use Rattle.std.proofs.lemmas.List.Elements.{filter-append}
-use Rattle.std.specs.List.{flat_map, range_with_len}
-use Rattle.def_gen.specs.Steps.{block_height, state_after}
+use Rattle.std.proofs.{lemmas.List.map-append, lemmas.List.Concat.flat_map-append, lemmas.List.Elements.filter-append}
 use Rattle.def_gen.specs.declared.TheConstants.{ADDEND, FACTOR, HEIGHTS, LOW_STATES, STATES}
-use Rattle.list_laws.proofs.Filters.{range_more}
+use Rattle.def_gen.specs.Steps.{block_height, state_after}
+use Rattle.{std.specs.List.flat_map, std.specs.List.range_with_len, list_laws.proofs.Filters.range_more}
 
 pub map_more : {X : Type 0} (f : ℕ → X) (n : ℕ) → map f (range_with_len 0 (n + 1)) ≡ map f (range_with_len 0 n)
     ++ f n ∷ []

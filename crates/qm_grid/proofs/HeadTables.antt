@@ -1,17 +1,14 @@
 -- The table of heads as corners are met in increasing order.
-use Rattle.std.proofs.Common.{◌≡◌, ◌≢◌, ℕ, ◌+◌, ◌*◌, ◌/◌, ◌<◌, ◌≤◌, Bool, true, false, cond, List, length, get_or}
-use Rattle.std.proofs.Common.{sym, ◌∙◌, ap, refl, inl, inr, arith}
+use Rattle.std.proofs.Common.{◌≡◌, ◌≢◌, ℕ, ◌+◌, ◌*◌, ◌/◌, ◌<◌, ◌≤◌, Bool, true, false, cond, List, length, get_or, sym}
+use Rattle.std.proofs.Common.{◌∙◌, ap, refl, inl, inr, arith}
 use Rattle.std.proofs.lemmas.Bool.{cases_Bool, cases_eq, cases_lt, cond-true, cond-false, false≢true}
 use Rattle.std.proofs.lemmas.Bool.{false_from_ne_true}
 use Rattle.def_mesh.specs.{Faces.Faces, Darts.darts, HalfEdges.HalfEdges, HalfEdges.half_edges}
 use Rattle.def_cut.specs.{Cuts.IsCorner, FullCut.is_on}
-use Rattle.cut_laws.specs.Grown.{IsGrown}
 use Rattle.cut_laws.proofs.Classes.{links_join, linked_back, step_spin}
-use Rattle.face_laws.proofs.Fans.{same_face}
-use Rattle.def_known.specs.Cutting.{IsCutting}
-use Rattle.qm_grid.specs.{Cells.grid_list, Heads.lies_in, Heads.AreOfOne, Heads.IsHead}
-use Rattle.qm_grid.specs.Heads.{AreHeadsSoFar}
+use Rattle.qm_grid.specs.{Cells.grid_list, Heads.lies_in, Heads.AreOfOne, Heads.IsHead, Heads.AreHeadsSoFar}
 use Rattle.qm_grid.proofs.Laid.{lies_linked, linked_lies}
+use Rattle.{cut_laws.specs.Grown.IsGrown, face_laws.proofs.FullCuts.same_face, def_known.specs.Cutting.IsCutting}
 
 module _ {faces : Faces} {cut : List Bool} (cutting : IsCutting faces cut) where
   abbrev mesh : HalfEdges

@@ -1,23 +1,29 @@
--- What has grown from a corner, as a list of cells: a patch, which holds the faces of one class.
-use Rattle.std.proofs.Common.{◌≡◌, ℕ, zero, suc, ◌+◌, ◌*◌, ◌/◌, ◌%◌, ◌<◌, ◌≤◌, Bool, true, eqb, List, [], ◌∷◌, length}
+-- A mesh and a full cut of its faces are what the loops need.
+use Rattle.std.proofs.Common.{Bool, List, ◌≡◌, ℕ, zero, suc, ◌+◌, ◌*◌, ◌/◌, ◌%◌, ◌<◌, ◌≤◌, true, eqb, [], ◌∷◌, length}
 use Rattle.std.proofs.Common.{get_or, sym, ◌∙◌, ap, refl, inl, inr, length-append, arith}
-use Rattle.std.proofs.Math.Nat.{mul-le-mul_right, suc-mul, zero-mul}
 use Rattle.std.proofs.lemmas.Bool.{cases_lt, eqb-true, eq-eqb, or_cases, false≢true}
-use Rattle.std.proofs.lemmas.List.{get_or_append_left, get_or-append-add}
-use Rattle.std.proofs.lemmas.List.Folds.{list_any_at}
 use Rattle.std.proofs.lemmas.List.FromFn.{get_or-map-range_with_len, length-map-range_with_len}
-use Rattle.def_mesh.specs.{Faces.Faces, HalfEdges.HalfEdges, HalfEdges.half_edges}
-use Rattle.def_cut.specs.{Cuts.Cut, Cuts.IsCorner, FullCut.is_on, Grids.Cells, Grids.IsGrid, Grids.IsPatch}
-use Rattle.def_cut.specs.{Grids.cell_of, Steps.easts, Steps.norths, Steps.spin}
-use Rattle.cut_laws.specs.Grown.{grown, IsGrown}
-use Rattle.cut_laws.proofs.{Grown.grown_grid, Classes.AtMost, Classes.closed, Classes.linked_cell}
-use Rattle.cut_laws.proofs.{Classes.links_join, Classes.step_spin, Classes.at_most, OneList.place_row}
-use Rattle.cut_laws.proofs.OneList.{place_is}
-use Rattle.face_laws.proofs.Fans.{same_face}
-use Rattle.mesh_laws.proofs.Darts.{next_face}
-use Rattle.def_known.specs.Cutting.{IsCutting}
-use Rattle.qm_grid.specs.{Cells.row_list, Cells.grid_list, Heads.lies_in, Heads.AreOfOne}
-use Rattle.qm_grid.specs.Heads.{IsHead}
+use Rattle.std.proofs.{Math.Nat.mul-le-mul_right, Math.Nat.suc-mul, Math.Nat.zero-mul, lemmas.List.get_or_append_left}
+use Rattle.std.proofs.{lemmas.List.get_or-append-add, lemmas.List.Folds.list_any_at}
+use Rattle.def_mesh.specs.{Faces.Faces, Meshes.IsMesh, HalfEdges.HalfEdges, HalfEdges.half_edges}
+use Rattle.def_cut.specs.{FullCut.IsFullCut, FullCut.is_on, Cuts.Cut, Cuts.IsCorner, Grids.Cells, Grids.IsGrid}
+use Rattle.def_cut.specs.{Grids.IsPatch, Grids.cell_of, Steps.easts, Steps.norths, Steps.spin}
+use Rattle.mesh_laws.proofs.Chains.{manifold_law, next_face}
+use Rattle.face_laws.proofs.FullCuts.{full_cut_law, same_face}
+use Rattle.cut_laws.proofs.Classes.{AtMost, closed, linked_cell, links_join, step_spin, at_most}
+use Rattle.cut_laws.proofs.{Rows.grown_grid, OneList.place_row, OneList.place_is}
+use Rattle.qm_grid.specs.{Cells.row_list, Cells.grid_list, Heads.lies_in, Heads.AreOfOne, Heads.IsHead}
+use Rattle.{def_known.specs.Cutting.IsCutting, cut_laws.specs.Grown.grown, cut_laws.specs.Grown.IsGrown}
+
+pub to_cutting : (faces : Faces) (cut : List Bool) → IsMesh faces → IsFullCut faces cut → IsCutting faces cut
+to_cutting faces cut mesh full = record {
+  few = mesh.few;
+  long = full.long;
+  laws = manifold_law faces mesh.manifold;
+  full = ((full_cut_law faces cut mesh.manifold).0 full).1;
+}
+
+-- What has grown from a corner, as a list of cells: a patch, which holds the faces of one class.
 
 -- The list of a grid.
 pub grid_long : (mesh : HalfEdges) (d w h : ℕ) → length (grid_list mesh d w h) ≡ h * w

@@ -1,3 +1,1 @@
-mod OneLine
-mod Refined
 mod Sizes

@@ -15,7 +15,7 @@ use qm_dec::read_count;
 use qm_fit::read_fit_head;
 
 /// The command whose head line this is, of those that write a new mesh. Linear.
-#[tactic(auto, using(crate::proofs::OneLine::read_only))]
+#[tactic(auto, using(crate::proofs::Sizes::read_only))]
 pub fn read_mark(line: &[u8]) -> Option<Command>
     ensures { (command : AnyCommand) → (result ≡ Some command) ↔ IsMarkLine line.now command }
 {

@@ -1,15 +1,14 @@
 -- What lowering one vertex does to the numbers.
 use Rattle.std.proofs.Common.{◌≡◌, ◌≢◌, ◌⊎◌, ℕ, ◌+◌, ◌*◌, ◌<◌, ◌≤◌, ◌^◌, Bool, true, false, cond, ltb, List, length}
-use Rattle.std.proofs.Common.{◌∙◌, refl, inl, inr, arith}
-use Rattle.std.proofs.lemmas.Bool.{cases_eq}
-use Rattle.std.proofs.lemmas.Int.{ints}
-use Rattle.std.proofs.lemmas.List.{get_or-set_same, get_or-set_other, length-set}
-use Rattle.std.proofs.Common.{get_or, set, ℤ, pos, neg_ℤ, ◌+ℤ◌, ◌-ℤ◌, ◌*ℤ◌, ◌≤ℤ◌, int_lt, unsigned_abs, sym, subst, ap}
+use Rattle.std.proofs.Common.{◌∙◌, refl, inl, inr, arith, get_or, set, ℤ, pos, neg_ℤ, ◌+ℤ◌, ◌-ℤ◌, ◌*ℤ◌, ◌≤ℤ◌, int_lt}
+use Rattle.std.proofs.Common.{unsigned_abs, sym, subst, ap}
+use Rattle.std.proofs.{lemmas.Bool.cases_eq, lemmas.Int.ints, lemmas.List.get_or-set_same, lemmas.List.get_or-set_other}
+use Rattle.std.proofs.{lemmas.List.length-set}
 use Rattle.list_laws.proofs.Filters.{last_or}
-use Rattle.def_matching.specs.declared.weighted.WEdge.{WEdge}
 use Rattle.def_matching.specs.Matching.{WeightedGraph, EdgeNumber, Vertex, edge_at, IsGraph}
-use Rattle.qm_initial.specs.declared.initial.TheConstants.{MAX_WISH}
-use Rattle.qm_initial.specs.Lowered.{with_room, with_room_on, AreFeasible, AreWished}
+use Rattle.def_matching.specs.declared.weighted.WEdge.{WEdge}
+use Rattle.qm_initial.specs.{declared.initial.TheConstants.MAX_WISH, Lowered.with_room, Lowered.with_room_on}
+use Rattle.qm_initial.specs.{Lowered.AreFeasible, Lowered.AreWished}
 
 -- The two ends of an edge, in one order or the other.
 abbrev pub AreEnds : (g : WeightedGraph) (k : EdgeNumber) (a b : Vertex) → Type 0

@@ -1,4 +1,1 @@
 pub mod Cuts
-pub mod Moved
-mod Pieces
-mod WordLists

@@ -1,21 +1,17 @@
 -- Balance at the nodes of the network of a layout is that opposite sides have equal sums.
-use Rattle.std.proofs.Common.{◌≡◌, ◌⊎◌, ℕ, ◌+◌, ◌*◌, ◌/◌, ◌%◌, ◌<◌, ◌≤◌, Bool, true, false, cond, not, ◌&&◌, ◌==◌}
-use Rattle.std.proofs.Common.{ℤ, pos, ◌+ℤ◌}
-use Rattle.std.proofs.Common.{List, [], ◌∷◌}
-use Rattle.std.proofs.Common.{length, Some, None, refl, sym, ap, ◌∙◌, subst, inl, inr, arith}
+use Rattle.std.proofs.Common.{◌≡◌, ◌⊎◌, ℕ, ◌+◌, ◌*◌, ◌/◌, ◌%◌, ◌<◌, ◌≤◌, Bool, true, false, cond, not, ◌&&◌, ◌==◌, ℤ}
+use Rattle.std.proofs.Common.{pos, ◌+ℤ◌, List, [], ◌∷◌, length, Some, None, refl, sym, ap, ◌∙◌, subst, inl, inr, arith}
 use Rattle.std.proofs.lemmas.Bool.{and_parts, cases_Bool, cases_eq, cases_lt, eq-eqb, eqb-true, ne_eqb, false≢true}
-use Rattle.std.proofs.lemmas.Int.{ints}
-use Rattle.std.specs.Prelude.{option_to_list}
-use Rattle.def_math.specs.Sums.{total, total_below}
+use Rattle.std.proofs.{lemmas.Int.ints, lemmas.List.ext_get_or}
 use Rattle.sum_laws.proofs.Sums.{total_below_none, total_below_one, total_below_same}
 use Rattle.def_flow.specs.{Admissible.is_on_side, Admissible.side_sum, Admissible.IsBalanced, Network.Network}
 use Rattle.def_flow.specs.{Network.arc_at, Network.ends, declared.net.End.End, declared.net.Settings.Settings}
-use Rattle.def_layout.specs.{declared.tmesh.SideArc.SideArc, Gluings.Way, Gluings.south, Gluings.east, Gluings.north}
-use Rattle.def_layout.specs.Gluings.{west, Gluing, Slot, IsSlot}
-use Rattle.def_layout.specs.{Gluings.use_of, Surfaces.IsSurface, Lengths.Lengths}
+use Rattle.def_layout.specs.Gluings.{Way, south, east, north, west, Gluing, Slot, IsSlot, use_of}
+use Rattle.def_layout.specs.{declared.tmesh.SideArc.SideArc, Surfaces.IsSurface, Lengths.Lengths}
+use Rattle.def_layoutnet.specs.LayoutNetLaws.{sum_along, AreOpposite, BalanceLaw, OneNetLaw}
 use Rattle.def_layoutnet.specs.LayoutNet.{node_of, is_plus, end_at, IsNetOf}
-use Rattle.def_layoutnet.specs.LayoutNetLaws.{sum_along, AreOpposite, BalanceLaw}
-use Rattle.qm_layoutnet.proofs.Hits.{is_hit, use_of_arc, hit_of, no_hit, along_is}
+use Rattle.qm_layoutnet.proofs.EndTables.{is_hit, use_of_arc, hit_of, no_hit, along_is}
+use Rattle.{std.specs.Prelude.option_to_list, def_math.specs.Sums.total, def_math.specs.Sums.total_below}
 
 -- A side is on its own side of its own node, and no other side of any patch is there.
 on_itself : (p : ℕ) (s : Way) → is_on_side (node_of p s) (is_plus s) (end_at p s) ≡ true
@@ -216,3 +212,33 @@ balance_law l old wish set floor net laid is x =
       },
       balanced l old wish set floor net laid is x,
     )
+
+-- A layout has one network.
+
+pub one_net_law : OneNetLaw
+one_net_law l old wish set floor laid one other is also = λ i. record {
+  nodes = (is.nodes ∙ sym also.nodes) i;
+  arcs = arcs i;
+  p = (is.p ∙ sym also.p) i;
+  q = (is.q ∙ sym also.q) i;
+}
+  where
+    arc : (a : ℕ) → a < length one.arcs → arc_at one.arcs a ≡ arc_at other.arcs a
+    arc a low_here =
+        let low : a < l.arcs = omega (arith, is.long) in
+        let h = has_slots laid a low in
+        let right : (arc_at one.arcs a).right ≡ (arc_at other.arcs a).right = elim h.right [
+          | inl w ↦ right_at is w.1 w.2 ∙ sym (right_at also w.1 w.2)
+          | inr never ↦ alone_at is a low never ∙ sym (alone_at also a low never)
+        ] in
+        λ i. record {
+          left = (left_at is h.ahead_is h.ahead_use ∙ sym (left_at also h.ahead_is h.ahead_use)) i;
+          right = right i;
+          old = (is.olds a low ∙ sym (also.olds a low)) i;
+          weight = (is.weights a low ∙ sym (also.weights a low)) i;
+          floor = (is.floors a low ∙ sym (also.floors a low)) i;
+        }
+
+    arcs : one.arcs ≡ other.arcs
+    arcs = ext_get_or (record { left = record { node = 0; plus = true }; right = None; old = 0; weight = 0; floor = 0 })
+        one.arcs other.arcs (is.long ∙ sym also.long) arc

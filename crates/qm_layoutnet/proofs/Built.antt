@@ -1,27 +1,119 @@
--- The network of a layout is even and within bounds.
-use Rattle.std.proofs.Common.{◌≡◌, ℕ, zero, suc, ◌*◌, ◌^◌, ◌<◌, ◌≤◌, Bool, true, List, [], ◌∷◌, length, map}
-use Rattle.std.proofs.Common.{pos}
-use Rattle.std.proofs.Common.{refl, sym, ap, ◌∙◌, inl, inr, arith, ◌&&◌}
-use Rattle.std.proofs.lemmas.{Bool.le-leb, Bool.lt-ltb, List.length-map}
-use Rattle.std.specs.{Prelude.nat_lt, List.list_all}
-use Rattle.def_math.specs.Counts.{count, count_below}
-use Rattle.sum_laws.proofs.Counts.{count_below_prefix, count_below_le, count_below_ones, count_below_same}
+-- Lengths are equal on opposite sides exactly where their whole numbers are.
+use Rattle.std.proofs.Common.{◌≡◌, ℕ, pos, sym, ap, ◌∙◌, arith, zero, suc, ◌*◌, ◌^◌, ◌<◌, ◌≤◌, Bool, cond, ◌==◌, List}
+use Rattle.std.proofs.Common.{[], ◌∷◌, length, Option, Some, None, refl, inl, inr, true, map, ◌&&◌, ℤ}
+use Rattle.std.proofs.lemmas.Bool.{cases_eq, eq-eqb, ne_eqb, le-leb, lt-ltb}
+use Rattle.std.proofs.{lemmas.Int.ints, Math.Nat.mul-le-mul_right, lemmas.List.length-map}
+use Rattle.std.specs.{Prelude.option_to_list, Prelude.nat_lt, List.list_all}
+use Rattle.sum_laws.proofs.Sums.{count_below_total, count_below_le, count_below_none, count_below_sum}
+use Rattle.sum_laws.proofs.Sums.{count_below_times, count_below_prefix, count_below_ones, count_below_same}
 use Rattle.sum_laws.proofs.Sums.{total_below_same}
-use Rattle.def_flow.specs.{Admissible.IsEven, Network.Network, Network.arc_at, Network.ends, Network.is_bounded}
-use Rattle.def_flow.specs.{Network.tangle_number, Network.IsWithinBounds, declared.limits.TheConstants.MAX_FLOOR}
-use Rattle.def_flow.specs.declared.limits.TheConstants.{MAX_OLD, MAX_WEIGHT}
-use Rattle.def_flow.specs.{declared.net.Arc.Arc, declared.net.End.End, declared.net.Settings.Settings}
-use Rattle.def_flow.specs.{declared.net.Weight.Weight, declared.net.Weight.TheVariants.Plain}
-use Rattle.def_flow.specs.declared.net.Weight.TheVariants.{Length}
-use Rattle.def_layout.specs.{declared.tmesh.TArc.TArc, Arcs.path, Arcs.long_at}
-use Rattle.def_layout.specs.Gluings.{Way, south, east, north, west, Gluing}
-use Rattle.def_layout.specs.{Gluings.Slot, Gluings.IsSlot, Surfaces.IsSurface, Lengths.Lengths}
-use Rattle.def_layout.specs.Lengths.{size, AreLengths}
-use Rattle.def_layoutnet.specs.LayoutNet.{node_of, weight_of, AreSettings, IsNetOf}
-use Rattle.def_layoutnet.specs.LayoutNetLaws.{sum_along}
+use Rattle.sum_laws.proofs.Tests.{once_at_most}
+use Rattle.def_layout.specs.Gluings.{Way, south, east, north, west, Gluing, Slot, IsSlot}
+use Rattle.def_layout.specs.{Lengths.size, Lengths.Lengths, Lengths.AreLengths, declared.tmesh.TArc.TArc, Arcs.path}
+use Rattle.def_layout.specs.{Arcs.long_at, Surfaces.IsSurface}
+use Rattle.def_layoutnet.specs.{LayoutNetLaws.sum_along, LayoutNetLaws.OppositeLaw, LayoutNet.node_of}
+use Rattle.def_layoutnet.specs.{LayoutNet.weight_of, LayoutNet.AreSettings, LayoutNet.IsNetOf}
+use Rattle.def_math.specs.{Counts.count, Counts.count_below, Sums.total, Sums.total_below}
+use Rattle.def_flow.specs.Network.{degree, ends, tangle_number, Network, arc_at, is_bounded, IsWithinBounds}
+use Rattle.def_flow.specs.declared.limits.TheConstants.{MAX_FLOOR, MAX_OLD, MAX_WEIGHT}
+use Rattle.def_flow.specs.{declared.net.Arc.Arc, declared.net.End.End, Admissible.IsEven, Admissible.is_on_side}
+use Rattle.def_flow.specs.{Admissible.side_sum, declared.net.Settings.Settings, declared.net.Weight.Weight}
+use Rattle.def_flow.specs.{declared.net.Weight.TheVariants.Plain, declared.net.Weight.TheVariants.Length}
 use Rattle.qm_layoutnet.specs.Ends.{arc_of, open_arc, AreEnds, PatchesBelow}
 use Rattle.qm_layoutnet.proofs.Balance.{balance_law, by_ends, node_low}
-use Rattle.qm_layoutnet.proofs.{Opposite.size_is, Tangles.tangle_small, Tangles.term_low}
+
+module _ (l : Gluing) (x : Lengths) (p : ℕ) where
+  -- The size of a side is the sum of its whole numbers.
+  pub size_is : (s : Way) → pos (size l x p s) ≡ sum_along l (λ arc. pos (x arc)) p s
+  size_is s = count_below_total (λ k. x (l.use_at p s k).arc) (l.many p s)
+
+  same : (s t : Way) → (size l x p s ≡ size l x p t
+      → sum_along l (λ arc. pos (x arc)) p s ≡ sum_along l (λ arc. pos (x arc)) p t) × (sum_along l
+      (λ arc. pos (x arc)) p s ≡ sum_along l (λ arc. pos (x arc)) p t → size l x p s ≡ size l x p t)
+  same s t = (λ e. sym (size_is s) ∙ (ap pos e ∙ size_is t), λ e. omega (arith, ints, size_is s, size_is t, e))
+
+pub opposite_law : OppositeLaw
+opposite_law l x some = (
+  λ is. record {
+    across = λ p low. (same l x p south north).0 (sym (is.across p low));
+    upright = λ p low. (same l x p east west).0 (is.upright p low);
+  },
+  λ is. record {
+    some = some;
+    across = λ p low. (same l x p north south).1 (sym (is.across p low));
+    upright = λ p low. (same l x p east west).1 (is.upright p low);
+  },
+)
+
+-- The tangle number of few arcs is below 2^64.
+
+-- A term is at most the sum.
+pub term_low : (f : ℕ → ℕ) (n k : ℕ) → k < n → f k ≤ count_below f n
+term_low f zero k l = absurd (omega arith)
+term_low f (suc n) k l = elim (cases_eq k n) [
+  | inl e ↦ omega (arith, ap f e)
+  | inr ne ↦ omega (arith, term_low f n k (omega arith))
+]
+
+-- A number below a bound is one of them at most.
+one_below : (u n : ℕ) → count_below (λ v. cond (u == v) 1 0) n ≤ 1
+one_below u zero = omega arith
+one_below u (suc n) = elim (cases_eq u n) [
+  | inl e ↦
+      let none : count_below (λ v. cond (u == v) 1 0) n ≡ 0 = count_below_none (λ v. cond (u == v) 1 0) n
+      (λ v l. ap (λ (b : Bool). cond b 1 0) (ne_eqb u v (λ s. omega (arith, s, e)))) in
+      let here : ◌≡◌ {A = ℕ} (cond (u == n) 1 0) 1 = ap (λ (b : Bool). cond b 1 0) (eq-eqb u n e) in
+      omega (arith, none, here)
+  | inr ne ↦ let off : ◌≡◌ {A = ℕ} (cond (u == n) 1 0) 0 = ap (λ (b : Bool). cond b 1 0) (ne_eqb u n ne) in
+      omega (arith, one_below u n, off)
+]
+
+-- There are as many ends at the nodes below a bound, and at one node, as there are ends, at most.
+ends_few : (es : List End) (n : ℕ) → count_below (λ v. count (λ e. cond (e.node == v) 1 0) es) n ≤ length es
+ends_few [] n = omega (arith, count_below_none (λ v. 0) n (λ v l. refl))
+ends_few (e ∷ es) n = omega (
+  arith,
+  count_below_sum (λ v. cond (e.node == v) 1 0) (λ v. count (λ (e : End). cond (e.node == v) 1 0) es) n,
+  one_below e.node n,
+  ends_few es n,
+)
+
+ends_at : (es : List End) (v : ℕ) → count (λ e. cond (e.node == v) 1 0) es ≤ length es
+ends_at [] v = omega arith
+ends_at (e ∷ es) v = omega (arith, once_at_most (e.node == v), ends_at es v)
+
+-- An arc has one or two.
+right_few : (right : Option End) → length (option_to_list right) ≤ 1
+right_few None = omega arith
+right_few (Some r) = omega arith
+
+degrees_few : (arcs : List Arc) (n : ℕ) → count_below (degree arcs) n ≤ 2 * length arcs
+degrees_few [] n = omega (arith, count_below_none (λ v. 0) n (λ v l. refl))
+degrees_few (a ∷ arcs) n = omega (
+  arith,
+  count_below_sum (λ v. count (λ e. cond (e.node == v) 1 0) (ends a)) (degree arcs) n,
+  ends_few (ends a) n,
+  right_few a.right,
+  degrees_few arcs n,
+)
+
+degree_few : (arcs : List Arc) (v : ℕ) → degree arcs v ≤ 2 * length arcs
+degree_few [] v = omega arith
+degree_few (a ∷ arcs) v = omega (arith, ends_at (ends a) v, right_few a.right, degree_few arcs v)
+
+pub tangle_small : (net : Network) → length net.arcs ≤ 2 ^ 23 → tangle_number net < 2 ^ 64
+tangle_small net few =
+    let d = degree net.arcs in
+    omega (
+      arith,
+      count_below_le (λ v. 16 * (d v * d v)) (λ v. 2 ^ 28 * d v) net.nodes
+          (λ v l. let low : d v ≤ 2 ^ 24 = omega (arith, degree_few net.arcs v) in
+          omega (arith, mul-le-mul_right {m = d v} {n = 2 ^ 24} (d v) low)),
+      count_below_times (2 ^ 28) d net.nodes,
+      degrees_few net.arcs net.nodes,
+    )
+
+-- The network of a layout is even and within bounds.
 
 -- A count along a list is one over its places.
 pub count_at : (f : Arc → ℕ) (xs : List Arc) → count f xs ≡ count_below (λ k. f (arc_at xs k)) (length xs)
@@ -144,3 +236,32 @@ module _ {l : Gluing} {x floor : Lengths} {set : Settings} {net : Network} (laid
     },
     tangle_small net (omega (arith, is.long, arcs_few)),
   )
+
+-- Two networks whose arcs have the same ends have the same sums at their nodes, and are equally tangled.
+
+-- Lists whose arcs are alike in something count it alike.
+pub count_same : (f : Arc → ℕ) (xs ys : List Arc) → length xs ≡ length ys
+    → ((k : ℕ) → k < length ys → f (arc_at xs k) ≡ f (arc_at ys k)) → count f xs ≡ count f ys
+count_same f xs ys long same = count_at f xs ∙ ap (count_below (λ k. f (arc_at xs k))) long
+    ∙ count_below_same (λ k. f (arc_at xs k)) (λ k. f (arc_at ys k)) (length ys) same ∙ sym (count_at f ys)
+
+module _ (net new : Network) (nodes : new.nodes ≡ net.nodes) (long : length new.arcs ≡ length net.arcs)
+    (same : (k : ℕ) → k < length net.arcs → ends (arc_at new.arcs k) ≡ ends (arc_at net.arcs k)) where
+  degree_same : (v : ℕ) → degree new.arcs v ≡ degree net.arcs v
+  degree_same v = count_same (λ (a : Arc). count (λ (e : End). cond (e.node == v) 1 0) (ends a)) new.arcs net.arcs long
+      (λ k l. ap (λ (es : List End). count (λ (e : End). cond (e.node == v) 1 0) es) (same k l))
+
+  pub tangle_same : tangle_number new ≡ tangle_number net
+  tangle_same = ap (count_below (λ v. 16 * (degree new.arcs v * degree new.arcs v))) nodes ∙ count_below_same
+      (λ v. 16 * (degree new.arcs v * degree new.arcs v)) (λ v. 16 * (degree net.arcs v * degree net.arcs v)) net.nodes
+      (λ v l. ap (λ (d : ℕ). 16 * (d * d)) (degree_same v))
+
+  -- Equal entries have equal sums.
+  pub sums_same : (x y : ℕ → ℤ) (plus : Bool) (v : ℕ) → ((k : ℕ) → k < length net.arcs → x k ≡ y k)
+      → side_sum new.arcs x plus v ≡ side_sum net.arcs y plus v
+  sums_same x y plus v equal = ap (total_below (λ k. put (x k) (ends (arc_at new.arcs k)))) long ∙ total_below_same
+      (λ k. put (x k) (ends (arc_at new.arcs k))) (λ k. put (y k) (ends (arc_at net.arcs k))) (length net.arcs)
+      (λ k l. ap (λ z. put z (ends (arc_at new.arcs k))) (equal k l) ∙ ap (put (y k)) (same k l))
+    where
+      put : (z : ℤ) (es : List End) → ℤ
+      put z es = total (λ (e : End). cond (is_on_side v plus e) z (pos 0)) es

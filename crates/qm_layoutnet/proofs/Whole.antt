@@ -4,18 +4,13 @@ use Rattle.std.proofs.lemmas.List.{get_or-map, length-map}
 use Rattle.def_math.specs.{Counts.count_below, Runs.run_at}
 use Rattle.def_mesh.specs.{Darts.darts, HalfEdges.half_edges, HalfEdges.IsQuadManifold}
 use Rattle.def_cut.specs.{Cuts.IsCut, FullCut.is_on, Grids.cell_of, Grids.patch_at, Grids.rectangle, Grids.IsSide}
-use Rattle.std.specs.List.{All}
 use Rattle.def_layout.specs.{Arcs.dart_at, Arcs.long_at, Arcs.path, Arcs.Path, declared.tmesh.TArc.TArc}
 use Rattle.def_layout.specs.{declared.tmesh.TMesh.TMesh, Nodes.is_node, Nodes.AreNodes, Layouts.Layout}
 use Rattle.def_layout.specs.{Layouts.layout_of}
-use Rattle.def_layoutnet.specs.MeshLayouts.{IsSomeLayout}
-use Rattle.qm_layoutnet.proofs.Tangles.{term_low}
-use Rattle.written_laws.proofs.Runs.{run_here}
-use Rattle.cut_laws.proofs.Pigeon.{no_more}
-use Rattle.mesh_laws.proofs.HalfEdges.{manifold_law}
-use Rattle.face_laws.proofs.FullCuts.{full_cut_law}
-use Rattle.layout_laws.proofs.FaceNodes.{are_nodes}
 use Rattle.embedding_laws.proofs.ArcUses.{dart_low, same_dart}
+use Rattle.{std.specs.List.All, def_layoutnet.specs.MeshLayouts.IsSomeLayout, qm_layoutnet.proofs.Built.term_low}
+use Rattle.{written_laws.proofs.Spacings.run_here, cut_laws.proofs.Pigeon.no_more, mesh_laws.proofs.Chains.manifold_law}
+use Rattle.{face_laws.proofs.FullCuts.full_cut_law, layout_laws.proofs.FaceNodes.are_nodes}
 
 module _ (layout : Layout) (is : IsSomeLayout layout) where
   laws : IsQuadManifold (half_edges is.faces)

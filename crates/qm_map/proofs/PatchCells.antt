@@ -1,12 +1,10 @@
 -- The cells of a patch, and the lines of all patches.
 use Rattle.std.proofs.Common.{◌≡◌, ℕ, ◌*◌, ◌/◌, ◌%◌, ◌<◌, List, Option, length, map, arith}
 use Rattle.std.proofs.Math.Nat.{mul_comm}
-use Rattle.std.specs.List.{flat_map, range_with_len}
 use Rattle.def_layout.specs.{Lengths.Lengths, Layouts.Layout, Layouts.gluing_of}
 use Rattle.def_map.specs.{Homes.dart_home, MapText.cell_line, MapText.cell_lines}
-use Rattle.map_laws.proofs.Cells.{by_patches}
-use Rattle.qm_map.specs.PatchLines.{patch_lines}
-use Rattle.written_laws.proofs.EdgeNumbers.{in_rows}
+use Rattle.{std.specs.List.flat_map, std.specs.List.range_with_len, map_laws.proofs.Cells.by_patches}
+use Rattle.{qm_map.specs.PatchLines.patch_lines, written_laws.proofs.EdgeNumbers.in_rows}
 
 -- The lines of all patches are those of all cells.
 pub all_lines : (layout : Layout) (shares : Option (List ℕ)) (new : Lengths)

@@ -1,16 +1,68 @@
--- One edge more is marked, and one chain of edges.
-use Rattle.def_marks.{specs.Chains.is_edge, specs.Chains.link_at, specs.Chains.runs_between}
-use Rattle.def_mesh.specs.{Darts.IsTwin, Darts.darts, Darts.from_of, Darts.to_of, Darts.twin_of, Manifold.IsManifold}
-use Rattle.std.proofs.Common.{Bool, List, None, Some, [], arith, false, get_or, is_some, length, refl, true, ◌&&◌, ◌||◌}
-use Rattle.std.proofs.Common.{ap, eqb, inl, inr, set, sym, ℕ, ◌+◌, ◌<◌, ◌∙◌, ◌∷◌, ◌≡◌, ◌≢◌, ◌⊎◌}
+-- The marks along chains of edges are those of inner edges, equal at twins.
+use Rattle.std.proofs.Common.{Bool, List, Option, Some, arith, eqb, false, is_some, sym, ◌&&◌, ◌+◌, ◌<◌, ◌||◌, ◌∙◌, ◌≡◌}
+use Rattle.std.proofs.Common.{ap, ℕ, None, [], get_or, length, refl, true, inl, inr, set, ◌∷◌, ◌≢◌, ◌⊎◌, map, ◌%◌, ◌*◌}
+use Rattle.std.proofs.Common.{◌++◌, ◌-◌, ◌/◌, ◌^◌, ◌≤◌}
+use Rattle.std.proofs.lemmas.List.FromFn.{get_or-map-range_with_len, length-range_with_len, get_or-range_with_len}
+use Rattle.std.proofs.lemmas.List.{length-map, get_or-set_other, get_or-set_same, length-set, append-nil, get_or-map}
+use Rattle.std.proofs.lemmas.List.{map-append}
 use Rattle.std.proofs.lemmas.Bool.{and_from, and_parts, cases_eq, eqb-true, false_from_ne_true, false≢true, or_cases}
-use Rattle.std.proofs.lemmas.List.{Folds.list_all-append, FromFn.get_or-range_with_len, FromFn.length-range_with_len}
-use Rattle.std.proofs.lemmas.List.{Folds.list_all_at, Folds.list_any-append, get_or-set_other, get_or-set_same}
-use Rattle.std.proofs.lemmas.{Bool.eq-eqb, Bool.or_left, Bool.or_right, List.length-set, Option.none-some}
-use Rattle.std.{proofs.Math.Bool.and-true, proofs.Math.Bool.or-false, specs.List.list_all, specs.List.range_with_len}
-use Rattle.{list_laws.proofs.Filters.range_any, list_laws.proofs.Filters.range_more, mesh_laws.proofs.Twins.twin_found}
-use Rattle.{mesh_laws.proofs.Twins.twin_is, qm_marks.specs.Keys.IsNoneBetween, std.proofs.Math.Bool.or_comm}
-use Rattle.{def_cut.specs.FullCut.is_on, def_mesh.specs.Faces.Faces, std.specs.List.list_any}
+use Rattle.std.proofs.lemmas.Bool.{eq-eqb, or_left, or_right}
+use Rattle.std.proofs.lemmas.List.Folds.{list_all-append, list_all_at, list_any-append}
+use Rattle.std.proofs.{lemmas.Option.none-some, Math.Bool.and-true, Math.Bool.or-false, Math.Bool.or_comm}
+use Rattle.std.proofs.{lemmas.List.Elements.Contains-get_or, lemmas.List.Elements.at_from_Contains}
+use Rattle.std.proofs.{lemmas.List.Sorted.Contains-permutation, lemmas.List.Sorted.IsPermutation-sym}
+use Rattle.std.proofs.{lemmas.Nat.div-mul-add, lemmas.Nat.mod-mul-add}
+use Rattle.std.specs.{List.list_any, List.list_all, List.range_with_len, List.Contains, List.Sorted.IsNonDecreasing}
+use Rattle.std.specs.{List.Sorted.IsPermutation, Prelude.filter}
+use Rattle.def_marks.specs.Chains.{is_along_chains, link_at, marks_along, runs_along, runs_between, step_places}
+use Rattle.def_marks.specs.Chains.{is_edge}
+use Rattle.def_mesh.specs.Darts.{IsTwin, all_darts, from_of, twin_of, darts, to_of, next_of}
+use Rattle.def_mesh.specs.{Manifold.IsManifold, Faces.Faces, Vertices.vertex_count}
+use Rattle.mesh_laws.proofs.{Chains.twin_found, Chains.twin_is, Chains.next_of_low, Flood.all_below}
+use Rattle.list_laws.proofs.Filters.{range_any, range_more, filter_range_more, kept_at, place_of}
+use Rattle.qm_marks.specs.Keys.{IsNoneBetween, AreEnds, IsBetween, IsLeastPlace, dart_key, is_busy, key_of}
+use Rattle.{def_feature.specs.Marks.AreMarks, def_cut.specs.FullCut.is_on}
+
+-- The mark of a dart.
+pub mark_along : (faces : Faces) (chains : List (List ℕ)) (d : ℕ) → d < darts faces → is_on (marks_along faces chains) d
+    ≡ is_along_chains faces chains d
+mark_along faces chains d l = get_or-map-range_with_len (is_along_chains faces chains) 0 (darts faces) d d false l
+    (omega arith)
+
+turned : (a b c e : Bool) → ((e && c) || (b && a)) ≡ ((a && b) || (c && e))
+turned a b c e = grind (arith)
+
+module _ (faces : Faces) (d e : ℕ) (twin : twin_of faces d ≡ Some e) where
+  is : IsTwin faces d e
+  is = twin_is faces d e twin
+
+  -- Twins run between the same vertices, and along the same chains.
+  between_twins : (u v : ℕ) → runs_between faces u v e ≡ runs_between faces u v d
+  between_twins u v = ap (λ x. (eqb x u && eqb (to_of faces e) v) || (eqb x v && eqb (to_of faces e) u)) is.1
+      ∙ (ap (λ y. (eqb (to_of faces d) u && eqb y v) || (eqb (to_of faces d) v && eqb y u)) is.2
+      ∙ turned (eqb (from_of faces d) u) (eqb (to_of faces d) v) (eqb (from_of faces d) v) (eqb (to_of faces d) u))
+
+  along_twins : (chain : List ℕ) → runs_along faces chain e ≡ runs_along faces chain d
+  along_twins chain = λ i. list_any (λ k. between_twins (link_at chain k) (link_at chain (k + 1)) i) (step_places chain)
+
+  marked_twins : (chains : List (List ℕ)) → IsManifold faces → d < darts faces → is_along_chains faces chains e
+      ≡ is_along_chains faces chains d
+  marked_twins chains m l =
+      let back = twin_found faces m.edges_once e d (l, sym is.2, sym is.1) in
+      ap (λ (o : Option ℕ). is_some o && list_any (λ chain. runs_along faces chain e) chains) back
+      ∙ ((λ i. list_any (λ chain. along_twins chain i) chains)
+      ∙ sym (ap (λ (o : Option ℕ). is_some o && list_any (λ chain. runs_along faces chain d) chains) twin))
+
+pub marks_are : (faces : Faces) (chains : List (List ℕ)) → IsManifold faces → AreMarks faces (marks_along faces chains)
+marks_are faces chains m = record {
+  long = length-map (all_darts faces) (is_along_chains faces chains) ∙ length-range_with_len 0 (darts faces);
+  alike = λ d e l t. mark_along faces chains e (twin_is faces d e t).0
+      ∙ (marked_twins faces d e t chains m l ∙ sym (mark_along faces chains d l));
+  inner = λ d l t. mark_along faces chains d l
+      ∙ ap (λ (o : Option ℕ). is_some o && list_any (λ chain. runs_along faces chain d) chains) t;
+}
+
+-- One edge more is marked, and one chain of edges.
 
 module _ (faces : Faces) (m : IsManifold faces) where
   -- What runs between the ends of a dart is that dart or its twin.
@@ -134,3 +186,92 @@ pub all_not : (p : ℕ → Bool) (n k : ℕ) → k < n → p k ≡ false → lis
 all_not p n k low off =
     let e : get_or (range_with_len 0 n) k 0 ≡ k = get_or-range_with_len 0 n k 0 low ∙ omega arith in
     list_all_at p (range_with_len 0 n) k 0 (omega (arith, length-range_with_len 0 n)) (ap p e ∙ off)
+
+-- Darts in a table of keys by their ends.
+
+-- The keys of the busy darts, in any order that rises, are a table of ends.
+pub sorted_are : (faces : Faces) (few : ℕ) (old keys : List ℕ)
+    → old ≡ map (dart_key faces) (filter (is_busy faces few) (all_darts faces))
+    → IsPermutation old keys → IsNonDecreasing keys → AreEnds faces few keys
+sorted_are faces few old keys are moved rising = record { rising = rising; each = each; has = has }
+  where
+    busy : List ℕ
+    busy = filter (is_busy faces few) (all_darts faces)
+
+    each : (k : ℕ) → k < length keys → (d : ℕ) × (d < darts faces) × (get_or keys k 0 ≡ dart_key faces d)
+    each k l =
+        let c = Contains-permutation keys old (get_or keys k 0) (IsPermutation-sym old keys moved)
+        (Contains-get_or keys k 0 l) in
+        let at = at_from_Contains (map (dart_key faces) busy) (get_or keys k 0) (rw are at c) in
+        let m : at.0 < length busy = omega (arith, length-map busy (dart_key faces)) in (
+          get_or busy at.0 0,
+          omega (arith, (kept_at (is_busy faces few) 0 (darts faces) at.0 m).high),
+          sym (at.2 0) ∙ get_or-map (dart_key faces) busy at.0 0 0 m,
+        )
+
+    has : (d : ℕ) → d < darts faces → is_busy faces few d ≡ true → (k : ℕ) × (k < length keys)
+        × (get_or keys k 0 ≡ dart_key faces d)
+    has d l on =
+        let place = place_of (is_busy faces few) 0 (darts faces) d
+        (record { low = omega arith; high = omega arith; passes = on }) in
+        let here = get_or-map (dart_key faces) busy place.0 0 0 place.1 ∙ ap (dart_key faces) place.2 in
+        let c : Contains old (dart_key faces d) = rw (are, ← here) (Contains-get_or (map (dart_key faces) busy) place.0
+        0 (omega (arith, length-map busy (dart_key faces)))) in
+        let at = at_from_Contains keys (dart_key faces d) (Contains-permutation old keys (dart_key faces d) moved c) in
+        (at.0, at.1, at.2 0)
+
+-- The ends in a key.
+pub key_ends : (u v d : ℕ) → d < 2 ^ 32 → key_of u v d / 2 ^ 32 ≡ u * 2 ^ 32 + v
+key_ends u v d l = div-mul-add (u * 2 ^ 32 + v) (2 ^ 32) d l
+
+pub same_ends : (u v f t : ℕ) → v < 2 ^ 32 → t < 2 ^ 32 → f * 2 ^ 32 + t ≡ u * 2 ^ 32 + v → (f ≡ u) × (t ≡ v)
+same_ends u v f t lv lt e =
+    let q : f ≡ u = sym (div-mul-add f (2 ^ 32) t lt) ∙ (ap (λ x. x / 2 ^ 32) e ∙ div-mul-add u (2 ^ 32) v lv) in
+    (q, omega arith)
+
+-- What lies between two multiples.
+pub between : (a x : ℕ) → a * 2 ^ 32 ≤ x → x < a * 2 ^ 32 + 2 ^ 32 → x / 2 ^ 32 ≡ a
+between a x l h =
+    let e : x ≡ a * 2 ^ 32 + (x - a * 2 ^ 32) = omega arith in
+    ap (λ y. y / 2 ^ 32) e ∙ div-mul-add a (2 ^ 32) (x - a * 2 ^ 32) (omega arith)
+
+module _ (faces : Faces) (few : ℕ) (keys : List ℕ) (are : AreEnds faces few keys) (small : vertex_count faces < 2 ^ 32)
+    (short : darts faces < 2 ^ 32) (u v : ℕ) (low : v < 2 ^ 32) (place : ℕ) where
+  -- A key with these ends is that of a dart between them.
+  pub in_table : place < length keys → get_or keys place 0 / 2 ^ 32 ≡ key_of u v 0 / 2 ^ 32
+      → IsBetween faces u v (get_or keys place 0 % 2 ^ 32)
+  in_table l same =
+      let at = are.each place l in
+      let f = from_of faces at.0 in
+      let t = to_of faces at.0 in
+      let to_low : t < 2 ^ 32 = omega (arith, all_below faces (next_of at.0) (next_of_low faces at.0 at.1)) in
+      let ends = same_ends u v f t low to_low (sym (key_ends f t at.0 (omega arith))
+      ∙ (sym (ap (λ x. x / 2 ^ 32) at.2) ∙ (same ∙ key_ends u v 0 (omega arith)))) in
+      let dart : get_or keys place 0 % 2 ^ 32 ≡ at.0 = ap (λ x. x % 2 ^ 32) at.2
+      ∙ mod-mul-add (f * 2 ^ 32 + t) (2 ^ 32) at.0 (omega arith) in
+      rw dart (record { low = at.1; from = ends.0; to = ends.1 })
+
+  -- Where none of these ends is at the least place, no busy dart runs between them.
+  pub not_in_table : IsLeastPlace keys (key_of u v 0) place
+      → ((l : place < length keys) → get_or keys place 0 / 2 ^ 32 ≢ key_of u v 0 / 2 ^ 32)
+      → ((d : ℕ) → d < darts faces → from_of faces d ≡ u → is_busy faces few d ≡ true) → IsNoneBetween faces u v
+  not_in_table least other busy d ld f t =
+      let has = are.has d ld (busy d ld f) in
+      let key : get_or keys has.0 0 ≡ (u * 2 ^ 32 + v) * 2 ^ 32 + d =
+      has.2 ∙ (λ i. (f i * 2 ^ 32 + t i) * 2 ^ 32 + d) in
+      let at = least has.0 has.1 (omega arith) in
+      other at.0 (between (u * 2 ^ 32 + v) (get_or keys place 0) (omega arith)
+      (omega arith) ∙ sym (key_ends u v 0 (omega arith)))
+
+-- One dart more is busy, or is not.
+pub keys_on : (faces : Faces) (few d key : ℕ) → is_busy faces few d ≡ true → key ≡ dart_key faces d
+    → map (dart_key faces) (filter (is_busy faces few) (range_with_len 0 (d + 1)))
+    ≡ map (dart_key faces) (filter (is_busy faces few) (range_with_len 0 d)) ++ key ∷ []
+keys_on faces few d key on is = rw (filter_range_more (is_busy faces few) d, on, is)
+    (map-append (dart_key faces) (filter (is_busy faces few) (range_with_len 0 d)) (d ∷ []))
+
+pub keys_off : (faces : Faces) (few d : ℕ) → is_busy faces few d ≡ false
+    → map (dart_key faces) (filter (is_busy faces few) (range_with_len 0 (d + 1)))
+    ≡ map (dart_key faces) (filter (is_busy faces few) (range_with_len 0 d))
+keys_off faces few d off =
+    rw (filter_range_more (is_busy faces few) d, off, append-nil (filter (is_busy faces few) (range_with_len 0 d))) refl

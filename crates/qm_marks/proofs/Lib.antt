@@ -1,11 +1,5 @@
 mod AllWishes
-mod AlongChains
-mod CornerFails
-mod CornerWords
 mod EdgeMarks
-mod EndKeys
-mod FirstWords
 mod LineMarks
-mod NamePlaces
 mod OneWish
 mod Pieces

@@ -1,18 +1,21 @@
 -- Marks line by line: what is known after some lines of a text.
-use Rattle.def_marks.specs.Lines.{Placed, line_chain, line_fails, marks_of, placed_lines, text_lines, vertex_lines_in}
-use Rattle.def_marks.specs.{Chains.is_along_chains, Chains.marks_along, declared.fail.MarkFail.MarkFail}
-use Rattle.def_mesh.specs.{Darts.all_darts, Darts.darts, Darts.twin_of, Faces.Faces, Manifold.IsManifold}
-use Rattle.def_text.specs.{Logical.logical_lines, Reading.is_vertex_line, declared.limits.TheConstants.MAX_V_LINES}
-use Rattle.qm_marks.specs.Reading.{IsBegun, IsReading, TookLine, line_at, placed_at}
-use Rattle.qm_marks.{proofs.AlongChains.mark_along, proofs.EdgeMarks.merged, specs.declared.lines.MarkReader.MarkReader}
-use Rattle.qm_obj.{proofs.Ranges.next_lines, proofs.Ranges.span_within, specs.Ahead.span, specs.Lines.first_logical}
 use Rattle.std.proofs.Common.{Bool, Err, List, Ok, arith, cond, false, is_some, length, map, refl, sym, ◌&&◌, ◌+◌, ◌||◌}
 use Rattle.std.proofs.Common.{[], ap, ℕ, ◌<◌, ◌∙◌, ◌∷◌, ◌≡◌, ◌≤◌}
-use Rattle.std.proofs.lemmas.List.{FromFn.length-range_with_len, Sums.sum_by-cons, get_or_default, length-map}
+use Rattle.std.proofs.{lemmas.List.FromFn.length-range_with_len, lemmas.List.Sums.sum_by-cons}
+use Rattle.std.proofs.{lemmas.List.get_or_default, lemmas.List.length-map, lemmas.List.same_lists}
 use Rattle.std.specs.{List.count_by, List.flat_map, List.list_any, Prelude.slice_range}
-use Rattle.{def_marks.specs.Chains.runs_along, qm_marks.proofs.AlongChains.marks_are, std.proofs.lemmas.List.same_lists}
-use Rattle.{def_feature.specs.Marks.AreMarks, def_text.specs.FaceSet.FaceSet, qm_obj.proofs.Ranges.range_none}
-use Rattle.{def_cut.specs.FullCut.is_on, def_io.specs.Bytes.Lines, def_text.specs.Logical.Logical}
+use Rattle.def_marks.specs.Lines.{Placed, line_chain, line_fails, marks_of, placed_lines, text_lines, vertex_lines_in}
+use Rattle.def_marks.specs.{Chains.is_along_chains, Chains.marks_along, Chains.runs_along}
+use Rattle.def_marks.specs.{declared.fail.MarkFail.MarkFail}
+use Rattle.def_mesh.specs.{Darts.all_darts, Darts.darts, Darts.twin_of, Faces.Faces, Manifold.IsManifold}
+use Rattle.def_text.specs.{Logical.logical_lines, Logical.Logical, Reading.is_vertex_line}
+use Rattle.def_text.specs.{declared.limits.TheConstants.MAX_V_LINES, FaceSet.FaceSet}
+use Rattle.qm_marks.specs.{Reading.IsBegun, Reading.IsReading, Reading.TookLine, Reading.line_at, Reading.placed_at}
+use Rattle.qm_marks.specs.{declared.lines.MarkReader.MarkReader}
+use Rattle.qm_marks.proofs.EdgeMarks.{mark_along, merged, marks_are}
+use Rattle.qm_obj.proofs.Groups.{next_lines, span_within, range_none}
+use Rattle.qm_obj.specs.{Ahead.span, Lines.first_logical}
+use Rattle.{def_feature.specs.Marks.AreMarks, def_cut.specs.FullCut.is_on, def_io.specs.Bytes.Lines}
 
 -- Whether dart d runs along the chain of some line.
 abbrev pub is_said : (soup : FaceSet) (placed : List Placed) (d : ℕ) → Bool

@@ -1,16 +1,50 @@
--- What one line wishes, and the wishes at the darts of one edge.
+-- The places of numbers in a list that rises.
+use Rattle.std.proofs.Common.{List, ap, arith, eqb, get_or, inl, inr, length, suc, zero, ◌+◌, ◌-◌, ◌<◌, ◌≡◌, ◌≢◌, ℕ}
+use Rattle.std.proofs.Common.{◌≤◌, Bool, None, Some, cond, false, refl, true, ◌||◌, [], set, sym, ◌^◌, ◌∙◌, ◌∷◌}
+use Rattle.std.proofs.lemmas.Bool.{cases_eq, eq-eqb, ne_eqb, and_from, false_from_ne_true, ltb-false, or_right, or_left}
+use Rattle.std.proofs.{lemmas.List.Sums.position_or_len_is, lemmas.Bool.Decides.nat_tests, lemmas.List.get_or-set_other}
+use Rattle.std.proofs.{lemmas.List.get_or-set_same, lemmas.List.length-set, lemmas.Option.none-some}
+use Rattle.std.specs.{List.Sorted.IsStrictlyIncreasing, List.position_or_len, Prelude.min, Prelude.nat_lt}
 use Rattle.def_fit.specs.WishLines.{is_out_of_range, said_fails, vertex_named, wished_by}
-use Rattle.def_marks.specs.declared.fail.{MarkFail.TheVariants.NotEdge}
+use Rattle.def_fit.specs.declared.fit.TheConstants.{MAX_WISH}
+use Rattle.def_marks.specs.{declared.fail.MarkFail.TheVariants.NotEdge, Chains.runs_between, Chains.is_edge}
 use Rattle.def_mesh.specs.{Darts.darts, Darts.from_of, Darts.to_of, Darts.twin_of, Faces.Faces, Manifold.IsManifold}
-use Rattle.qm_marks.{proofs.EdgeMarks.on_edge, specs.Wishing.TakesWish, specs.declared.said.Said.Said}
-use Rattle.std.proofs.Common.{Bool, List, None, Some, arith, cond, false, get_or, inl, inr, length, refl, true, ℕ, ◌||◌}
-use Rattle.std.proofs.Common.{[], ap, set, sym, ◌-◌, ◌<◌, ◌^◌, ◌∙◌, ◌∷◌, ◌≡◌, ◌≤◌}
-use Rattle.std.proofs.lemmas.Bool.{Decides.nat_tests, and_from, cases_eq, false_from_ne_true, ltb-false, or_right}
-use Rattle.std.proofs.lemmas.{List.get_or-set_other, List.get_or-set_same, List.length-set, Option.none-some}
-use Rattle.std.{proofs.lemmas.Bool.eq-eqb, proofs.lemmas.Bool.or_left, specs.Prelude.min, specs.Prelude.nat_lt}
-use Rattle.{def_fit.specs.declared.fit.TheConstants.MAX_WISH, def_marks.specs.Chains.runs_between}
-use Rattle.{def_marks.specs.Chains.is_edge, def_text.specs.FaceSet.FaceSet, mesh_laws.proofs.Twins.twin_found}
-use Rattle.{def_text.specs.Types.Words, mesh_laws.proofs.Twins.twin_is, qm_marks.specs.Wishing.IsSaid}
+use Rattle.qm_marks.specs.{Wishing.TakesWish, Wishing.IsSaid, declared.said.Said.Said}
+use Rattle.mesh_laws.proofs.Chains.{twin_found, twin_is}
+use Rattle.{qm_marks.proofs.EdgeMarks.on_edge, def_text.specs.FaceSet.FaceSet, def_text.specs.Types.Words}
+
+module _ (xs : List ℕ) (up : IsStrictlyIncreasing xs) where
+  far : (i n : ℕ) → i + suc n < length xs → get_or xs i 0 < get_or xs (i + suc n) 0
+  far i zero l = up i l
+  far i (suc n) l =
+      let e : i + suc n + 1 ≡ i + suc (suc n) = omega arith in
+      omega (arith, far i n (omega arith), up (i + suc n) (omega arith), ap (λ k. get_or xs k 0) e)
+
+  pub less : (i j : ℕ) → i < j → j < length xs → get_or xs i 0 < get_or xs j 0
+  less i j m l =
+      let e : i + suc (j - suc i) ≡ j = omega arith in
+      rw (← e) (far i (j - suc i) (omega arith))
+
+  pub rising : (i j : ℕ) → i ≤ j → j < length xs → get_or xs i 0 ≤ get_or xs j 0
+  rising i j m l = elim (cases_eq i j) [
+    | inl e ↦ omega (arith, ap (λ k. get_or xs k 0) e)
+    | inr ne ↦ omega (arith, less i j (omega arith) l)
+  ]
+
+  -- A number that stands in the list has one place,
+  pub place_found : (k i : ℕ) → i < length xs → get_or xs i 0 ≡ k → position_or_len (λ name. eqb name k) xs ≡ i
+  place_found k i l at = position_or_len_is (λ name. eqb name k) xs i 0 (omega arith)
+      (λ j m. ne_eqb (get_or xs j 0) k (λ (e : get_or xs j 0 ≡ k). let h = e in
+      omega (arith, less j i m l)))
+      (λ _. eq-eqb (get_or xs i 0) k at)
+
+-- and any other has none.
+pub place_missing : (xs : List ℕ) (k : ℕ) → ((j : ℕ) → j < length xs → get_or xs j 0 ≢ k)
+    → position_or_len (λ name. eqb name k) xs ≡ length xs
+place_missing xs k none = position_or_len_is (λ name. eqb name k) xs (length xs) 0 (omega arith)
+    (λ j m. ne_eqb (get_or xs j 0) k (none j m)) (λ l. absurd (omega arith))
+
+-- What one line wishes, and the wishes at the darts of one edge.
 
 -- A number that is cut off at a bound is above what is far below the bound where the number is.
 clamped_lt : (a b : ℕ) → a < 2 ^ 64 - 1 → nat_lt a (min b (2 ^ 64 - 1)) ≡ nat_lt a b

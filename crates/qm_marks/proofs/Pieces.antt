@@ -1,13 +1,83 @@
--- Pieces of a text that are divided by one blank each, and the numbers that they write.
-use Rattle.def_fit.{specs.WishLines.is_counting, specs.WishLines.is_whole, specs.WishLines.wished_by}
-use Rattle.def_text.{specs.Digits.number_written, specs.Types.Word, specs.Types.Words}
-use Rattle.qm_marks.{specs.Wishing.IsSaid, specs.Wishing.pieces_of, specs.declared.said.Said.Said}
-use Rattle.std.proofs.Common.{MatchOption, None, Option, Some, arith, cond, drop, false, is_some, length, length-drop}
-use Rattle.std.proofs.Common.{[], ap, eqb, refl, sym, take, true, ℕ, ◌+◌, ◌-◌, ◌<◌, ◌^◌, ◌∙◌, ◌∷◌, ◌≡◌, ◌≤◌}
+-- The corners of a line, word by word.
+use Rattle.std.proofs.Common.{Bool, List, Some, cond, drop, eqb, false, length, map, sym, take, true, ◌&&◌, ◌++◌, ◌+◌}
+use Rattle.std.proofs.Common.{[], ◌∙◌, ◌∷◌, ◌≡◌, ap, ℕ, arith, get_or, refl, suc, ◌<◌, MatchOption, None, Option}
+use Rattle.std.proofs.Common.{is_some, length-drop, ◌-◌, ◌^◌, ◌≤◌}
 use Rattle.std.proofs.lemmas.List.Splits.{length-slice_split, slice_split_first, slice_split_none}
-use Rattle.std.proofs.lemmas.{Bool.true≢false, List.Sums.fails_before_first, List.drop-drop, List.take_all}
-use Rattle.{def_io.specs.Bytes.Bytes, qm_obj.proofs.WordLemmas.some_from, std.specs.List.position_or_len}
-use Rattle.{std.specs.Prelude.min}
+use Rattle.std.proofs.{lemmas.List.append_assoc, lemmas.List.drop-drop, lemmas.List.take_all, lemmas.Bool.cond-false}
+use Rattle.std.proofs.{lemmas.Bool.ne_eqb, lemmas.Bool.true≢false, lemmas.List.Sums.fails_before_first}
+use Rattle.std.specs.{List.after_first, List.list_all, List.position_or_len, Prelude.min}
+use Rattle.def_text.specs.{Corner.is_optional, Corner.used_index, Corner.is_slash, Digits.is_signed}
+use Rattle.def_text.specs.{Digits.number_written, declared.index.Index.Index, Types.Word, Types.Words, Words.words}
+use Rattle.def_text.specs.{Words.is_blank}
+use Rattle.def_marks.specs.Lines.{corner_index, is_line_corner}
+use Rattle.def_fit.specs.WishLines.{is_counting, is_whole, wished_by}
+use Rattle.qm_marks.specs.{Wishing.IsSaid, Wishing.pieces_of, declared.said.Said.Said}
+use Rattle.{qm_obj.proofs.WordLemmas.words_word, qm_obj.proofs.WordLemmas.some_from, def_io.specs.Bytes.Bytes}
+
+-- Some words of a line are read, and the rest is left.
+pub record IsReadTo (all before : ℕ) (text rest : List ℕ) (indices : List Index) : Type 0 where
+  pub passed : list_all is_line_corner (words rest) ≡ list_all is_line_corner (words text)
+  pub items : indices ++ map (corner_index all before) (words rest) ≡ map (corner_index all before) (words text)
+
+-- The next word, where there is one.
+pub next_word : (rest after : List ℕ) (word : Word) → words rest ≡ cond (eqb (length word) 0) [] (word ∷ words after)
+    → eqb (length word) 0 ≡ false → words rest ≡ word ∷ words after
+next_word rest after word first some = first ∙ ap (λ (b : Bool). cond b [] (word ∷ words after)) some
+
+module _ (all before : ℕ) (text rest after : List ℕ) (word : Word) (indices : List Index)
+    (to : IsReadTo all before text rest indices) where
+  module _ (next : words rest ≡ word ∷ words after) where
+    -- One corner more.
+    pub read_more : (index : Index) → (is_line_corner word ≡ true) × (index ≡ corner_index all before word)
+        → IsReadTo all before text after (indices ++ index ∷ [])
+    read_more index is = record {
+      passed = sym (ap (list_all is_line_corner) next ∙ ap (λ b. b && list_all is_line_corner (words after)) is.0)
+          ∙ to.passed;
+      items = append_assoc indices (index ∷ []) (map (corner_index all before) (words after))
+          ∙ (ap (λ i. indices ++ i ∷ map (corner_index all before) (words after)) is.1
+          ∙ (ap (λ ws. indices ++ map (corner_index all before) ws) (sym next) ∙ to.items));
+    }
+
+    -- A word that is none.
+    pub read_bad : is_line_corner word ≡ false → false ≡ list_all is_line_corner (words text)
+    read_bad off = sym (ap (list_all is_line_corner) next ∙ ap (λ b. b && list_all is_line_corner (words after)) off)
+        ∙ to.passed
+
+-- The parts of a word before and behind its first slash.
+pub behind_slash : (p : ℕ → Bool) (word : Word) → drop 1 (drop (position_or_len p word) word) ≡ after_first p word
+behind_slash p word = drop-drop 1 (position_or_len p word) word
+
+-- A word by these parts.
+pub corner_found : (word first tail : List ℕ) (p : ℕ) → p ≡ position_or_len is_slash word → first ≡ take p word → tail
+    ≡ drop p word → (is_line_corner word ≡ (is_signed first && is_optional (drop 1 tail))) × (used_index word ≡ first)
+corner_found word first tail p at front back =
+    let head : used_index word ≡ first = sym (front ∙ ap (λ n. take n word) at) in
+    let rest : drop 1 tail ≡ after_first is_slash word = ap (drop 1) (back ∙ ap (λ n. drop n word) at)
+    ∙ behind_slash is_slash word in (
+      ap (λ xs. is_signed xs && is_optional (after_first is_slash word)) head
+          ∙ ap (λ xs. is_signed first && is_optional xs) (sym rest),
+      head,
+    )
+
+-- The first word of a line.
+
+some_bytes : (k : ℕ) → eqb (suc k) 0 ≡ false
+some_bytes k = ne_eqb (suc k) 0 (λ (z : suc k ≡ 0). omega arith)
+
+-- A text that is empty or begins with no blank, by its first word.
+pub first_word : (rest : List ℕ) → (0 < length rest → is_blank (get_or rest 0 0) ≡ false)
+    → words rest ≡ cond (eqb (length (take (position_or_len is_blank rest) rest)) 0) []
+    (take (position_or_len is_blank rest) rest ∷ words (drop (position_or_len is_blank rest) rest))
+first_word [] at_word = refl
+first_word (b ∷ bs) at_word =
+    let off : is_blank b ≡ false = at_word (omega arith) in
+    let end : position_or_len is_blank (b ∷ bs) ≡ suc (position_or_len is_blank bs) = rw off (omega arith) in
+    let n = suc (position_or_len is_blank bs) in
+    rw end (words_word b bs off
+    ∙ sym (cond-false (eqb (length (take n (b ∷ bs))) 0) [] (take n (b ∷ bs) ∷ words (drop n (b ∷ bs)))
+    (some_bytes (length (take (position_or_len is_blank bs) bs)))))
+
+-- Pieces of a text that are divided by one blank each, and the numbers that they write.
 
 module _ (text front behind : Bytes) (i : ℕ) (at : i ≡ position_or_len (λ b. eqb b 32) text) (before : front
     ≡ take i text) (back : behind ≡ drop i text) where

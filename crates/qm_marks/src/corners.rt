@@ -60,7 +60,7 @@ pub(crate) fn read_corners(
 }
 
 /// The index that a corner uses.
-#[tactic(auto, using(crate::proofs::CornerWords::corner_found))]
+#[tactic(auto, using(crate::proofs::Pieces::corner_found))]
 fn read_corner(word: &[u8], place: Place) -> Option<Index>
     ensures { result
         ≡ (if is_line_corner word.now then Some (corner_index place.all place.before word.now) else None) }

@@ -74,7 +74,7 @@ struct Given<'a> {
 }
 
 /// Takes the logical line that begins with physical line `i`, and answers the first that is not joined to it.
-#[tactic(auto, using(qm_obj::proofs::Groups::group_span, qm_obj::proofs::Ranges::single_span))]
+#[tactic(auto, using(qm_obj::proofs::Groups::group_span, qm_obj::proofs::Groups::single_span))]
 fn take_logical(
     alloc: Global,
     reader: &mut MarkReader,

@@ -7,7 +7,7 @@ ghost use Rattle.def_text.specs.Words.{is_blank, words};
 use def_text::{SPACE, TAB};
 
 /// The first word of a line, and what follows it. The word is empty where there is none.
-#[tactic(auto, using(crate::proofs::FirstWords::first_word))]
+#[tactic(auto, using(crate::proofs::Pieces::first_word))]
 pub(crate) fn first_word(text: &[u8]) -> (&[u8], &[u8])
     ensures { words text.now ≡ (if length result.0.now == 0 then [] else result.0.now ∷ words result.1.now) }
 {

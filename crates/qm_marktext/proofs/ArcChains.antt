@@ -1,24 +1,21 @@
 -- The vertices along an arc, and the line that names them.
 use Rattle.std.proofs.Common.{◌≡◌, ℕ, zero, suc, ◌+◌, ◌-◌, ◌<◌, ◌≤◌, ◌^◌, Bool, true, false, cond, eqb, List, [], ◌∷◌}
 use Rattle.std.proofs.Common.{◌++◌, length, map, get_or, refl, sym, ap, ◌∙◌, arith}
-use Rattle.std.proofs.lemmas.Bool.{cond-false, cond-true, eq-eqb, ne_eqb}
 use Rattle.std.proofs.lemmas.List.{append_assoc, append-nil, get_or-map, length-map, map-append, same_lists}
-use Rattle.std.proofs.lemmas.List.Concat.{flat_map-append}
-use Rattle.std.proofs.lemmas.List.FromFn.{get_or-map-range_with_len, length-range_with_len}
+use Rattle.std.proofs.{lemmas.Bool.cond-false, lemmas.Bool.cond-true, lemmas.Bool.eq-eqb, lemmas.Bool.ne_eqb}
+use Rattle.std.proofs.{lemmas.List.Concat.flat_map-append, lemmas.List.FromFn.get_or-map-range_with_len}
+use Rattle.std.proofs.{lemmas.List.FromFn.length-range_with_len}
 use Rattle.std.specs.{Prelude.decimal, Prelude.slice_index, List.flat_map, List.range_with_len}
-use Rattle.list_laws.proofs.Filters.{range_more}
-use Rattle.def_math.specs.Counts.{count_below}
-use Rattle.def_cut.specs.FullCut.{is_on}
 use Rattle.def_layout.specs.{Arcs.Path, Arcs.path, Arcs.path_at, Gluings.Gluing, Lengths.Lengths, Layouts.gluing_of}
 use Rattle.def_layout.specs.{Layouts.Layout, Layouts.layout_of, declared.tmesh.TArc.TArc, declared.tmesh.TMesh.TMesh}
-use Rattle.def_remesh.specs.NewPoints.{lengths_in}
 use Rattle.def_io.specs.{Bytes.Bytes, declared.TheConstants.LINE_FEED}
-use Rattle.def_marks.specs.declared.fail.TheConstants.{LINE}
-use Rattle.def_marks.specs.MarkedText.{arc_chain, arc_text, chain_text}
+use Rattle.def_marks.specs.{declared.fail.TheConstants.LINE, MarkedText.arc_chain, MarkedText.arc_text}
+use Rattle.def_marks.specs.{MarkedText.chain_text}
 use Rattle.def_text.specs.declared.letters.TheConstants.{SPACE}
-use Rattle.def_written.specs.Numbers.{before_arc, vertex_number, vertices}
-use Rattle.def_written.specs.Points.{along, arc_point, node}
-use Rattle.qm_marktext.specs.Chains.{chain_from}
+use Rattle.def_written.specs.{Numbers.before_arc, Numbers.vertex_number, Numbers.vertices, Points.along}
+use Rattle.def_written.specs.{Points.arc_point, Points.node}
+use Rattle.{list_laws.proofs.Filters.range_more, def_math.specs.Counts.count_below, def_cut.specs.FullCut.is_on}
+use Rattle.{def_remesh.specs.NewPoints.lengths_in, qm_marktext.specs.Chains.chain_from}
 
 -- Sums below a bound grow with it.
 grows : (f : ℕ → ℕ) (a n : ℕ) → count_below f a ≤ count_below f (a + n)

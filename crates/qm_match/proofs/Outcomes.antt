@@ -1,22 +1,69 @@
--- What a match begins with, and what has come of it.
-use Rattle.std.proofs.Common.{◌≡◌, ℕ, zero, suc, ◌+◌, ◌*◌, ◌/◌, ◌<◌}
-use Rattle.std.proofs.Common.{◌≤◌, ◌^◌, List, [], ◌∷◌, length, get_or}
-use Rattle.std.proofs.{Common.None, Common.ℤ, lemmas.Int.ints, lemmas.Bool.cases_lt, lemmas.List.get_or_past}
-use Rattle.std.proofs.Common.{pos, ◌+ℤ◌, ◌*ℤ◌, ◌≤ℤ◌, sym, ◌∙◌, ap, subst, inl, inr, arith}
-use Rattle.std.specs.Int.RustNames.{unsigned_abs}
-use Rattle.def_math.specs.Increasing.{IsIncreasing}
-use Rattle.def_matching.specs.Matching.{WeightedGraph, IsCheap, IsGraph, IsSmallGraph}
-use Rattle.def_matching.specs.{Matching.edge_at, Dual.AreSmall, Dual.DualLists, Dual.IsSmallDual, Dual.SaysYes}
-use Rattle.def_matching.specs.{Dual.dual_sum, Dual.verdict, declared.limits.TheConstants.MAX_PRODUCT}
-use Rattle.def_matching.specs.{declared.weighted.WEdge.WEdge, declared.weighted.Verdict.TheVariants.Yes}
+-- The cost of a matching, one edge at a time.
+use Rattle.std.proofs.Common.{◌≡◌, ℕ, ◌+◌, ◌-◌, ◌<◌, ◌≤◌, List, [], ◌∷◌, length, take, ◌+ℤ◌, refl, arith, ◌++◌, map}
+use Rattle.std.proofs.Common.{get_or, sym, ◌∙◌, ap, subst, zero, suc, ◌*◌, ◌/◌, ◌^◌, None, ℤ, pos, ◌*ℤ◌, ◌≤ℤ◌, inl, inr}
+use Rattle.std.proofs.{lemmas.Int.ints, lemmas.List.map-append, lemmas.List.take_more, lemmas.List.get_or_past}
+use Rattle.std.proofs.{lemmas.Bool.cases_lt}
+use Rattle.def_math.specs.{Increasing.IsIncreasing, Sums.total, Counts.count}
+use Rattle.qm_dual.proofs.{Tallies.total_take, Verdicts.says_yes}
+use Rattle.def_matching.specs.Matching.{WeightedGraph, edge_at, matching_cost, ends_at, IsCheap, IsGraph, IsSmallGraph}
+use Rattle.def_matching.specs.Dual.{AreSmall, DualLists, IsSmallDual, SaysYes, dual_sum, verdict}
+use Rattle.def_matching.specs.{declared.limits.TheConstants.MAX_PRODUCT, declared.weighted.WEdge.WEdge}
+use Rattle.def_matching.specs.{declared.weighted.Verdict.TheVariants.Yes}
 use Rattle.def_forest.specs.{Tables.ForestTables, Tables.forest_of, Tables.IsValidFor, Written.IsDualOf, Made.AreAtMost}
-use Rattle.def_forest.specs.Made.{AreCostsBelow, AreFirst, IsMadeFor, MAX_FIRST}
-use Rattle.qm_dual.proofs.Verdicts.{says_yes}
-use Rattle.qm_initial.specs.declared.initial.TheConstants.{MAX_WISH}
+use Rattle.def_forest.specs.{Made.AreCostsBelow, Made.AreFirst, Made.IsMadeFor, Made.MAX_FIRST, Needs.AreFeasible}
 use Rattle.search_laws.proofs.Risen.{greatest, small_weights, weights_most}
-use Rattle.def_forest.specs.Needs.{AreFeasible}
 use Rattle.qm_match.specs.{States.IsIdle, States.IsReady, Weights.HaveRoom, Weights.HasRoom}
-use Rattle.qm_match.specs.declared.search.Search.{Search}
+use Rattle.qm_match.specs.{declared.search.Search.Search}
+use Rattle.{std.specs.Prelude.slice_index, std.specs.Int.RustNames.unsigned_abs, sum_laws.proofs.Sums.count_append}
+use Rattle.{qm_forest.proofs.Chosens.increasing_more, qm_initial.specs.declared.initial.TheConstants.MAX_WISH}
+
+-- There are no more increasing numbers than numbers in between.
+pub increasing_few : (low high : ℕ) (m : List ℕ) → IsIncreasing low high m → length m ≤ high - low
+increasing_few low high [] increasing = omega arith
+increasing_few low high (k ∷ ks) increasing =
+    omega (arith, increasing.0, increasing.1, increasing_few (k + 1) high ks increasing.2)
+
+-- A sum along a list that is mapped.
+total_map : (g : WeightedGraph) (m : List ℕ) → matching_cost g m ≡ total (λ k. (edge_at g k).cost) m
+total_map g [] = refl
+total_map g (k ∷ ks) = omega (arith, ints, total_map g ks)
+
+-- One edge more.
+pub cost_take : (g : WeightedGraph) (m : List ℕ) (i : ℕ) → i < length m → matching_cost g (take (i + 1) m)
+    ≡ matching_cost g (take i m) +ℤ (edge_at g (slice_index m i)).cost
+cost_take g m i l = omega (
+  arith,
+  ints,
+  total_map g (take (i + 1) m),
+  total_map g (take i m),
+  total_take (λ k. (edge_at g k).cost) 0 m i l,
+)
+
+-- Edges that are looked at one after another.
+
+-- An increasing list has any greater bound.
+pub increasing_to : (low a b : ℕ) (xs : List ℕ) → a ≤ b → IsIncreasing low a xs → IsIncreasing low b xs
+increasing_to low a b [] le increasing = tt
+increasing_to low a b (x ∷ xs) le increasing =
+    (increasing.0, omega (arith, increasing.1, le), increasing_to (x + 1) a b xs le increasing.2)
+
+module _ (g : WeightedGraph) (xs : List ℕ) (k : ℕ) (low : k < length xs) where
+  -- One edge more, which comes after those before.
+  pub increasing_on : (next : ℕ) → next ≤ get_or xs k 0 → IsIncreasing 0 next (take k xs)
+      → IsIncreasing 0 (get_or xs k 0 + 1) (take (k + 1) xs)
+  increasing_on next le increasing = subst (λ ys. IsIncreasing 0 (get_or xs k 0 + 1) ys) (sym (take_more xs k 0 low))
+      (increasing_more 0 (get_or xs k 0) (take k xs) (omega arith) (increasing_to 0 next (get_or xs k 0) (take k xs) le
+      increasing))
+
+  pub counts_on : (v : ℕ) → count (ends_at v) (map (edge_at g) (take (k + 1) xs))
+      ≡ count (ends_at v) (map (edge_at g) (take k xs)) + ends_at v (edge_at g (get_or xs k 0))
+  counts_on v =
+      let more : map (edge_at g) (take (k + 1) xs) ≡ map (edge_at g) (take k xs) ++ edge_at g (get_or xs k 0) ∷ [] =
+      ap (map (edge_at g)) (take_more xs k 0 low) ∙ map-append (edge_at g) (take k xs) (get_or xs k 0 ∷ []) in
+      let sum = count_append (ends_at v) (map (edge_at g) (take k xs)) (edge_at g (get_or xs k 0) ∷ []) in
+      ap (count (ends_at v)) more ∙ omega (arith, sum)
+
+-- What a match begins with, and what has come of it.
 
 -- The numbers of an increasing list are below its bound.
 pub increasing_low : (low bound : ℕ) (xs : List ℕ) → IsIncreasing low bound xs → (k : ℕ) → k < length xs

@@ -1,16 +1,14 @@
 -- What raising the number of one vertex does.
-use Rattle.std.proofs.Common.{◌≡◌, ◌≢◌, ℕ, suc, ◌+◌, ◌-◌, ◌*◌, ◌/◌}
-use Rattle.std.proofs.Common.{◌<◌, ◌≤◌, ◌^◌, List, length, get_or, ℤ}
-use Rattle.std.proofs.{Common.pos, Common.◌+ℤ◌, Math.ListN.set, lemmas.Int.ints, lemmas.Bool.cases_eq}
-use Rattle.std.proofs.lemmas.List.{length-set, get_or-set_same, get_or-set_other}
+use Rattle.std.proofs.Common.{◌≡◌, ◌≢◌, ℕ, suc, ◌+◌, ◌-◌, ◌*◌, ◌/◌, ◌<◌, ◌≤◌, ◌^◌, List, length, get_or, ℤ, pos, ◌+ℤ◌}
 use Rattle.std.proofs.Common.{◌-ℤ◌, ◌*ℤ◌, ◌≤ℤ◌, ◌⊎◌, refl, sym, ◌∙◌, ap, subst, inl, inr, arith}
-use Rattle.std.specs.Int.RustNames.{unsigned_abs}
-use Rattle.def_matching.specs.Matching.{WeightedGraph, IsGraph, edge_at}
-use Rattle.def_matching.specs.declared.weighted.WEdge.{WEdge}
+use Rattle.std.proofs.{Math.ListN.set, lemmas.Int.ints, lemmas.Bool.cases_eq, lemmas.List.length-set}
+use Rattle.std.proofs.{lemmas.List.get_or-set_same, lemmas.List.get_or-set_other}
+use Rattle.def_matching.specs.{Matching.WeightedGraph, Matching.IsGraph, Matching.edge_at}
+use Rattle.def_matching.specs.{declared.weighted.WEdge.WEdge}
 use Rattle.def_forest.specs.{Darts.darts_of, Darts.far, Made.AreCostsBelow}
-use Rattle.forest_laws.proofs.Graphs.{dart_near, dart_far, near_even, near_odd, twin_odd}
+use Rattle.forest_laws.proofs.Bounds.{dart_near, dart_far, near_even, near_odd, twin_odd}
 use Rattle.qm_match.specs.{Fans.AreFans, Fans.IsOn, Weights.left_to, Weights.HaveRoom, Weights.IsRoom}
-use Rattle.qm_match.proofs.Chains.{on_none, on_rest}
+use Rattle.{std.specs.Int.RustNames.unsigned_abs, qm_match.proofs.Chains.on_none, qm_match.proofs.Chains.on_rest}
 
 -- A dart of a chain is passed, and what its edge leaves taken.
 pub chain_room : (next : List ℕ) (left : ℕ → ℤ) (old new : ℤ) (entry d from : ℕ) {rest : ℕ} → entry ≡ suc d → rest

@@ -1,22 +1,18 @@
 -- Searches that are about to begin, and edges that are matched before.
-use Rattle.std.proofs.Common.{◌≡◌, ℕ, inl, inr, ◌≤◌, ◌*◌, ◌/◌, ◌<◌, ◌≤◌, List, length, get_or}
-use Rattle.std.proofs.Common.{Option, Some, None, Bool, false, ℤ, pos, refl, sym, ◌∙◌, ap, subst, arith}
-use Rattle.std.proofs.lemmas.Int.{ints}
-use Rattle.std.proofs.lemmas.Bool.{cases_lt, cond-false}
-use Rattle.std.specs.Prelude.{int_lt}
+use Rattle.std.proofs.Common.{◌≡◌, ℕ, inl, inr, ◌≤◌, ◌*◌, ◌/◌, ◌<◌, List, length, get_or, Option, Some, None, Bool}
+use Rattle.std.proofs.Common.{false, ℤ, pos, refl, sym, ◌∙◌, ap, subst, arith}
+use Rattle.std.proofs.{lemmas.Int.ints, lemmas.Bool.cases_lt, lemmas.Bool.cond-false}
 use Rattle.def_matching.specs.Matching.{WeightedGraph, IsCheap, IsSmallGraph, edge_at}
+use Rattle.def_forest.specs.Tables.{ForestTables, forest_of, kind_by, edge_kind, slack_of, IsValidFor}
 use Rattle.def_forest.specs.{Darts.darts_of, Forests.Forest, Made.IsMadeFor, Steps.rooted, Steps.IsAugmented}
-use Rattle.def_forest.specs.Tables.{ForestTables, forest_of, kind_by, edge_kind, slack_of}
-use Rattle.def_forest.specs.{Tables.IsValidFor, Valid.IsValid, declared.kinds.EdgeKind.TheVariants.Augment}
+use Rattle.def_forest.specs.{Valid.IsValid, declared.kinds.EdgeKind.TheVariants.Augment}
 use Rattle.def_forest.specs.{declared.kinds.EdgeKind.TheVariants.Loose, declared.kinds.Label.Label}
-use Rattle.def_forest.specs.declared.kinds.Label.TheVariants.{Outer}
-use Rattle.def_forest.specs.declared.kinds.Label.TheVariants.{Outside}
-use Rattle.forest_laws.proofs.Writes.{set_here, set_there}
-use Rattle.search_laws.specs.Searches.{first_limit}
+use Rattle.def_forest.specs.{declared.kinds.Label.TheVariants.Outer, declared.kinds.Label.TheVariants.Outside}
 use Rattle.search_laws.proofs.{Risen.range_begun, Stepped.range_same}
 use Rattle.qm_match.specs.{Fans.AreFans, Fans.IsOn, States.HasPerfect, States.IsFreeEdge, States.IsIdle, States.IsReady}
-use Rattle.qm_match.specs.declared.search.Search.{Search}
-use Rattle.qm_match.proofs.{Outcomes.one_of, Taken.made_after}
+use Rattle.qm_match.specs.{declared.search.Search.Search}
+use Rattle.{std.specs.Prelude.int_lt, forest_laws.proofs.Grows.set_here, forest_laws.proofs.Grows.set_there}
+use Rattle.{search_laws.specs.Searches.first_limit, qm_match.proofs.Outcomes.one_of, qm_match.proofs.Taken.made_after}
 
 -- The tables that are ready fit the graph for which the matcher is made.
 pub ready_idle : {g : WeightedGraph} {s : Search} → IsSmallGraph g → IsCheap g → HasPerfect g → IsReady s

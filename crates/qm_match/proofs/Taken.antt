@@ -1,32 +1,28 @@
 -- A step that is taken, and the keys that are mended after it.
 use Rattle.std.proofs.Common.{rules, ◌≡◌, ◌≢◌, ℕ, zero, suc, ◌*◌, ◌<◌, ◌≤◌, true, false, cond, List, length, get_or}
 use Rattle.std.proofs.Common.{Option, Some, None, ◌⊎◌, refl, sym, ◌∙◌, ap, subst, inl, inr, arith}
-use Rattle.std.proofs.Math.ListN.{set}
-use Rattle.std.proofs.lemmas.Bool.{cond_both, cases_eq, cases_lt}
-use Rattle.std.proofs.lemmas.List.{length-set, get_or-set_other}
-use Rattle.std.specs.Vec.{vec_capacity}
+use Rattle.std.proofs.{Math.ListN.set, lemmas.Bool.cond_both, lemmas.Bool.cases_eq, lemmas.Bool.cases_lt}
+use Rattle.std.proofs.{lemmas.List.length-set, lemmas.List.get_or-set_other}
 use Rattle.def_matching.specs.Matching.{WeightedGraph, IsGraph, IsSmallGraph, edge_at}
-use Rattle.def_forest.specs.{Darts.darts_of, Darts.far, Forests.Forest, Forests.set_at}
-use Rattle.def_forest.specs.Forests.{walk, bool_number, ring_sum, blossom_size}
-use Rattle.def_forest.specs.{Opened.IsExpanding, Shrunk.IsShrinking, Steps.grown, Steps.rooted, Steps.IsAugmented}
-use Rattle.def_forest.specs.Tables.{ForestTables, forest_of, edge_kind, outer_dart}
-use Rattle.def_forest.specs.{Tables.IsValidFor, Ways.Reaches, declared.kinds.EdgeKind.TheVariants.Grow}
-use Rattle.def_forest.specs.{Valid.IsRing, Valid.IsTree, Valid.IsValid, declared.kinds.Label.TheVariants.Outer}
-use Rattle.def_forest.specs.declared.kinds.Label.TheVariants.{Inner, Outside}
-use Rattle.sum_laws.proofs.Counts.{count_below_le, count_below_ones, count_below_same}
-use Rattle.forest_laws.proofs.{Graphs.are_darts, Graphs.dart_near, Odds.IsBlossom, Odds.counts_exchanged}
-use Rattle.forest_laws.proofs.{Odds.odd_blossom, Odds.part_used, Facts.far_low, Facts.tree_of, Writes.set_here}
-use Rattle.forest_laws.proofs.Writes.{set_there, inner_named, true_false}
-use Rattle.search_laws.specs.Keys.{leaf_of, true_key, AreLow, AreRightAt, IsMended}
-use Rattle.search_laws.specs.Searches.{AreMatchedBefore, IsInRange, IsSeeking, steps_left}
-use Rattle.search_laws.proofs.Counted.{grown_fewer, shrunk_fewer, opened_fewer}
+use Rattle.def_forest.specs.Forests.{Forest, set_at, walk, bool_number, ring_sum, blossom_size}
+use Rattle.def_forest.specs.Tables.{ForestTables, forest_of, edge_kind, outer_dart, IsValidFor}
+use Rattle.def_forest.specs.declared.kinds.Label.TheVariants.{Outer, Inner, Outside}
+use Rattle.def_forest.specs.{Darts.darts_of, Darts.far, Opened.IsExpanding, Shrunk.IsShrinking, Steps.grown}
+use Rattle.def_forest.specs.{Steps.rooted, Steps.IsAugmented, Ways.Reaches, declared.kinds.EdgeKind.TheVariants.Grow}
+use Rattle.def_forest.specs.{Valid.IsRing, Valid.IsTree, Valid.IsValid}
+use Rattle.sum_laws.proofs.Sums.{count_below_le, count_below_ones, count_below_same}
+use Rattle.forest_laws.proofs.Grows.{far_low, tree_of, set_here, set_there, inner_named, true_false}
+use Rattle.forest_laws.proofs.{Bounds.are_darts, Bounds.dart_near, Odds.IsBlossom, Odds.counts_exchanged}
+use Rattle.forest_laws.proofs.{Odds.odd_blossom, Odds.part_used}
+use Rattle.search_laws.specs.{Keys.leaf_of, Keys.true_key, Keys.AreLow, Keys.AreRightAt, Keys.IsMended}
+use Rattle.search_laws.specs.{Searches.AreMatchedBefore, Searches.IsInRange, Searches.IsSeeking, Searches.steps_left}
 use Rattle.search_laws.proofs.Kept.{IsTurned, stay_low, idle_low, true_key_low, held_out, rooted_turned, grown_turned}
 use Rattle.search_laws.proofs.Kept.{shrunk_turned, opened_turned, shrunk_on, shrunk_set, shrunk_inner, opened_inner}
 use Rattle.search_laws.proofs.Stepped.{range_same, seeking_begun, seeking_shrunk, seeking_opened, matched_more}
-use Rattle.qm_forest.proofs.EdgeKinds.{grows}
+use Rattle.search_laws.proofs.Counted.{grown_fewer, shrunk_fewer, opened_fewer}
 use Rattle.qm_match.specs.States.{IsMade, IsIdle, IsUnderWay, IsRefreshed, IsFreshAt, MayRefresh, GoesOn, HasEnded}
 use Rattle.qm_match.specs.declared.search.Search.{Search}
-use Rattle.qm_match.proofs.Refreshed.{made_like}
+use Rattle.{std.specs.Vec.vec_capacity, qm_forest.proofs.MateRounds.grows, qm_match.proofs.Chains.made_like}
 
 -- After a step of the forest, and when keys and marks are made right, the search goes on.
 pub step_taken : {g : WeightedGraph} {old : Search} {t : ForestTables} {new : Search} → IsMade g old

@@ -1,9 +1,4 @@
 pub mod Rounds
-pub mod SideWalks
 pub mod Rejoined
-pub mod Across
 pub mod Linked
-pub mod Leaving
 pub mod Names
-pub mod Dropped
-pub mod Spared

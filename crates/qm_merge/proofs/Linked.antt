@@ -1,18 +1,137 @@
--- Tables of linked corners: how they are filled, and how they follow an arc that leaves.
-use Rattle.std.proofs.Common.{◌≡◌, ◌⊎◌, ℕ, ◌+◌, ◌-◌, ◌*◌, ◌<◌, ◌≤◌, List, length, get_or, set, sym, ◌∙◌, ap, inl, subst}
-use Rattle.std.proofs.Common.{inr}
-use Rattle.std.proofs.Common.{arith}
-use Rattle.std.proofs.lemmas.Bool.{cases_eq, cases_lt}
+-- What lies across the side of a corner, where that is the whole of a side too.
+use Rattle.std.proofs.Common.{◌≡◌, ◌↔◌, ℕ, suc, ◌-◌, Bool, true, false, not, Some, None, sym, ◌∙◌, ap, arith, Option}
+use Rattle.std.proofs.Common.{refl, true≢false, ◌≢◌, ◌⊎◌, zero, ◌+◌, ◌<◌, ◌≤◌, inl, inr, ◌*◌, List, length, get_or, set}
+use Rattle.std.proofs.Common.{subst}
 use Rattle.std.proofs.lemmas.List.{get_or_default, get_or-set_other, get_or-set_same, length-set}
+use Rattle.std.proofs.{lemmas.Bool.false≢true, lemmas.Bool.cases_eq, lemmas.Bool.cases_lt, lemmas.Option.same_Some}
 use Rattle.def_mesh.specs.HalfEdges.{HalfEdges, IsQuadManifold}
-use Rattle.def_cut.specs.{Cuts.Cut, Cuts.IsCorner, Cuts.IsCut, Steps.easts}
-use Rattle.cut_laws.proofs.Rows.{endless}
-use Rattle.def_merge.specs.Joins.{IsJoinable, IsWholeSide, IsWithout}
-use Rattle.merge_laws.proofs.ArcDarts.{other_without, turned_arc}
-use Rattle.qm_merge.specs.Links.{AreLinks, AreSides, AreStarts, HasRoom, IsJoined, IsRound, at}
+use Rattle.def_cut.specs.{Cuts.Cut, Cuts.IsCorner, Cuts.IsCut, Steps.easts, Steps.step_east}
+use Rattle.def_merge.specs.Joins.{AreGlued, IsOnArc, IsWithout, IsJoinable, IsWholeSide}
+use Rattle.merge_laws.proofs.{Sides.one_size, Sides.side_low, Sides.side_link, Joins.other_without, Joins.turned_arc}
+use Rattle.qm_merge.specs.Links.{AreLinks, IsRound, at, AreSides, AreStarts, HasRoom, IsJoined}
 use Rattle.qm_merge.specs.{Walks.IsNextCorner, declared.links.Links.Links, declared.links.Round.Round}
 use Rattle.qm_merge.proofs.Rejoined.{corner_was, fourths_differ, near_closes, near_corner, near_side, side_stays}
-use Rattle.qm_merge.proofs.Rounds.{next_is_corner, one_before}
+use Rattle.qm_merge.proofs.Rounds.{closes, next_is_corner, one_before}
+use Rattle.{std.specs.Prelude.IfNone, cut_laws.proofs.Rows.endless}
+
+-- A test of the contrary.
+pub contrary : {P : Type 0} (b : Bool) → ((b ≡ true) ↔ P) → (not b ≡ true) ↔ (P → ⊥)
+contrary true is = (λ y p. true≢false (sym y), λ none. absurd (none (is.0 refl)))
+contrary false is = (λ y p. false≢true (is.1 p), λ none. refl)
+
+module _ {mesh : HalfEdges} (laws : IsQuadManifold mesh) {cut : Cut} (full : IsCut mesh cut) {s t n : ℕ}
+    (glued : AreGlued mesh cut s t n) where
+  place : n ≡ suc (n - 1)
+  place = omega (arith, glued.near.some)
+
+  over : mesh.twin s ≡ Some (easts mesh t (n - 1))
+  over = glued.across 0 (n - 1) (omega (arith, glued.near.some))
+
+  pub has_twin : mesh.twin s ≡ None → ⊥
+  has_twin is = let clash : None ≡ Some (easts mesh t (n - 1)) = sym is ∙ over in absurd cc
+
+  module _ {u : ℕ} (twin : mesh.twin s ≡ Some u) where
+    -- The far side ends behind the twin.
+    far_end : IsNextCorner mesh cut t (mesh.next u)
+    far_end = (
+      n - 1,
+      rw (← place) glued.far,
+      cc (same_Some u (easts mesh t (n - 1)) (sym twin ∙ over)),
+    )
+
+    pub far_corner : IsCorner mesh cut (mesh.next u)
+    far_corner = next_is_corner laws full far_end
+
+    module _ {round : Round} (is : IsRound mesh cut (mesh.next u) round) where
+      -- It begins at the corner before.
+      pub far_is : round.fourth ≡ t
+      far_is = one_before laws full (closes laws full is.second is.third is.fourth) far_end
+
+      pub same_size : (links : Links) → AreLinks mesh cut links
+          → at links.long.items round.fourth ≡ at links.long.items s
+      same_size links are = ap (at links.long.items) far_is ∙ (one_size mesh laws cut full t (at links.long.items t) n
+          (are.side t glued.far.corner.0 glued.far.corner) glued.far ∙ one_size mesh laws cut full s n
+          (at links.long.items s) glued.near (are.side s glued.near.corner.0 glued.near.corner))
+
+-- A fact for want of a value.
+pub none_then : {X P Q : Type 0} (r : Option X) → IfNone r P → (P → Q) → IfNone r Q
+none_then None h f = f h
+none_then (Some x) h f = tt
+
+-- An arc leaves dart by dart.
+
+-- The first k of n edges have left: those are off, and others are as before.
+pub record HaveLeft (mesh : HalfEdges) (cut rest : Cut) (s t n k : ℕ) : Type 0 where
+  pub near : (i : ℕ) → i < k → rest (easts mesh s i) ≡ false
+  pub far : (i j : ℕ) → i < k → i + suc j ≡ n → rest (easts mesh t j) ≡ false
+  pub kept : (d : ℕ) → ¬ IsOnArc mesh s t n d → rest d ≡ cut d
+
+-- What one edge less is: d and its twin are off, and others are as before.
+pub record IsLess (mesh : HalfEdges) (rest less : Cut) (d : ℕ) : Type 0 where
+  pub gone : less d ≡ false
+  pub twin : (e : ℕ) → mesh.twin d ≡ Some e → less e ≡ false
+  pub off : (e : ℕ) → rest e ≡ false → less e ≡ false
+  pub kept : (e : ℕ) → e ≢ d → mesh.twin d ≢ Some e → less e ≡ rest e
+
+-- The walk along the arc.
+pub stood : (mesh : HalfEdges) (s : ℕ) {d e : ℕ} (k : ℕ) → d ≡ easts mesh s (k - 1) → 0 < k → e ≡ step_east mesh d
+    → e ≡ easts mesh s k
+stood mesh s zero at some is = absurd (omega arith)
+stood mesh s (suc k) at some is = let before : suc k - 1 ≡ k = omega arith in cc (is, at, before)
+
+pub first_still : (mesh : HalfEdges) (s k : ℕ) → k ≤ 0 → easts mesh s (k - 1) ≡ easts mesh s k
+first_still mesh s k none = let same : k - 1 ≡ k = omega arith in cc same
+
+pub all_left : {mesh : HalfEdges} {cut rest : Cut} {s t n : ℕ} → HaveLeft mesh cut rest s t n n
+    → IsWithout mesh cut rest s t n
+all_left {mesh} {rest} {s} {t} {n} left =
+    record { gone = λ d o. gone d o.0 o.1 o.2; kept = λ d l none. left.kept d none }
+  where
+    gone : (d k : ℕ) → k < n → (d ≡ easts mesh s k) ⊎ (d ≡ easts mesh t k) → rest d ≡ false
+    gone d k l (inl e) = ap rest e ∙ left.near k l
+    gone d k l (inr e) = ap rest e ∙ left.far (n - suc k) k (omega arith) (omega arith)
+
+module _ {mesh : HalfEdges} (laws : IsQuadManifold mesh) {cut : Cut} (full : IsCut mesh cut) {s t n : ℕ}
+    (glued : AreGlued mesh cut s t n) where
+  pub left_more : {rest less : Cut} {d k : ℕ} → k < n → d ≡ easts mesh s k → HaveLeft mesh cut rest s t n k
+      → IsLess mesh rest less d → HaveLeft mesh cut less s t n (k + 1)
+  left_more {less} {d} {k} l at left is = record { near = near; far = far; kept = kept }
+    where
+      across : (j : ℕ) → k + suc j ≡ n → mesh.twin d ≡ Some (easts mesh t j)
+      across j e = cc (at, glued.across k j e)
+
+      near : (i : ℕ) → i < k + 1 → less (easts mesh s i) ≡ false
+      near i li = elim (cases_eq i k) [
+        | inl e ↦ cc (e, at, is.gone)
+        | inr ne ↦ is.off (easts mesh s i) (left.near i (omega arith))
+      ]
+
+      far : (i j : ℕ) → i < k + 1 → i + suc j ≡ n → less (easts mesh t j) ≡ false
+      far i j li sum = elim (cases_eq i k) [
+        | inl e ↦ is.twin (easts mesh t j) (across j (omega arith))
+        | inr ne ↦ is.off (easts mesh t j) (left.far i j (omega arith) sum)
+      ]
+
+      kept : (e : ℕ) → ¬ IsOnArc mesh s t n e → less e ≡ cut e
+      kept e none = is.kept e (λ same. none (k, l, inl (same ∙ at)))
+          (λ tw. none (n - suc k, omega arith, inr (back (n - suc k) (omega arith) tw))) ∙ left.kept e none
+        where
+          back : (j : ℕ) → k + suc j ≡ n → mesh.twin d ≡ Some e → e ≡ easts mesh t j
+          back j sum tw = same_Some e (easts mesh t j) (sym tw ∙ across j sum)
+
+  pub edge_there : {d k : ℕ} → k < n → d ≡ easts mesh s k → d < mesh.count
+  edge_there {k} l at = rw at (side_low mesh laws cut full s n glued.near k l)
+
+  pub edge_twin : {d k : ℕ} → k < n → d ≡ easts mesh s k → (e : ℕ) × (mesh.twin d ≡ Some e)
+  edge_twin {k} l at = (easts mesh t (n - suc k), cc (at, glued.across k (n - suc k) (omega arith)))
+
+  pub leads_to : {d k : ℕ} → suc k < n → d ≡ easts mesh s k → (e : ℕ) × (mesh.twin (mesh.next d) ≡ Some e)
+  leads_to {k} l at = (
+    mesh.prev (easts mesh s (suc k)),
+    cc (at, side_link mesh laws cut full s n glued.near k l),
+  )
+
+-- Tables of linked corners: how they are filled, and how they follow an arc that leaves.
 
 -- What is read at a place of a table.
 pub read_at : (xs : List ℕ) (d : ℕ) {r : ℕ} → r ≡ get_or xs d r → d < length xs → r ≡ at xs d

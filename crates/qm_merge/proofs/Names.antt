@@ -1,19 +1,18 @@
 -- The set of names: one put in, one taken out, and which ones are put in.
-use Rattle.std.proofs.Common.{◌≡◌, ◌≢◌, ◌⊎◌, ℕ, zero, suc, ◌+◌, ◌<◌, ◌≤◌, Bool, true, false, cond, eqb, ltb, List}
-use Rattle.std.proofs.Common.{[], ◌∷◌, length, set, sym, ◌∙◌, ap, subst, refl, inl, inr, true≢false, arith}
-use Rattle.std.proofs.lemmas.Bool.{cases_eq, ne_eqb, false≢true}
-use Rattle.std.proofs.lemmas.List.{get_or-set_other, get_or-set_same}
-use Rattle.std.specs.{Ordering.nat_cmp, Ordering.is_eq, declared.cmp.Ordering.TheVariants.Less}
-use Rattle.std.specs.declared.cmp.Ordering.TheVariants.{Equal, Greater}
-use Rattle.std.specs.{BTreeSet.BTreeSet, BTreeMap.is_at}
-use Rattle.std.specs.BTreeSet as sorted
+use Rattle.std.proofs.Common.{◌≡◌, ◌≢◌, ◌⊎◌, ℕ, zero, suc, ◌+◌, ◌<◌, ◌≤◌, Bool, true, false, cond, eqb, ltb, List, []}
+use Rattle.std.proofs.Common.{◌∷◌, length, set, sym, ◌∙◌, ap, refl, inl, inr, arith}
+use Rattle.std.proofs.{lemmas.Bool.cases_eq, lemmas.Bool.ne_eqb, lemmas.Bool.false≢true, lemmas.List.get_or-set_other}
+use Rattle.std.proofs.{lemmas.List.get_or-set_same}
+use Rattle.std.specs.declared.cmp.Ordering.TheVariants.{Less, Equal, Greater}
+use Rattle.std.specs.{Ordering.nat_cmp, Ordering.is_eq, BTreeSet.BTreeSet, BTreeMap.is_at}
 use Rattle.def_mesh.specs.HalfEdges.{HalfEdges, IsQuadManifold}
 use Rattle.def_cut.specs.{Cuts.Cut, Cuts.IsCut, FullCut.is_on, Steps.easts}
-use Rattle.merge_laws.proofs.{Sides.StandsOn, Sides.one_place, ArcDarts.turned_arc, Arcs.AreOneArc, Arcs.one_arc}
-use Rattle.merge_laws.proofs.Arcs.{one_far, one_name, name_other}
+use Rattle.merge_laws.proofs.{Decided.one_arc, Decided.one_far, Decided.one_name, Decided.name_other, Sides.StandsOn}
+use Rattle.merge_laws.proofs.{Sides.one_place, Joins.turned_arc}
 use Rattle.def_merge.specs.Joins.{IsWholeSide, IsJoinable, IsOnArc, IsNameOf, Leave}
 use Rattle.qm_merge.specs.{Seams.IsSeam, Links.at, Waiting.AreBelow, Waiting.IsNoted, Waiting.Waits, Waiting.mark_count}
-use Rattle.qm_merge.specs.declared.seams.Seam.{Seam}
+use Rattle.qm_merge.specs.{declared.seams.Seam.Seam}
+use Rattle.std.specs.BTreeSet as sorted
 
 -- A set that grew by a number that was new or not.
 pub few_more : (b : Bool) (old new : ℕ) → new ≡ old + cond b 1 0 → new ≤ old + 1

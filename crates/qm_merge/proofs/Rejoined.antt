@@ -1,15 +1,26 @@
 -- The sides of patches when an arc leaves: those before its ends go on along those behind it, and the others stay.
-use Rattle.std.proofs.Common.{◌≡◌, ◌⊎◌, ℕ, zero, suc, ◌+◌, ◌-◌, ◌<◌, true, false, sym, ◌∙◌, ap, refl, subst}
-use Rattle.std.proofs.Common.{inl, inr, true≢false, arith}
-use Rattle.std.proofs.lemmas.Bool.{cases_eq, cases_order}
-use Rattle.def_mesh.specs.HalfEdges.{HalfEdges, IsQuadManifold}
-use Rattle.def_cut.specs.{Cuts.Cut, Cuts.IsCorner, Cuts.IsCut, Steps.easts}
+use Rattle.std.proofs.Common.{◌≡◌, ◌⊎◌, ℕ, zero, suc, ◌+◌, ◌-◌, ◌<◌, true, false, sym, ◌∙◌, ap, refl, subst, inl, inr}
+use Rattle.std.proofs.Common.{true≢false, arith, ◌≢◌, ◌≤◌, Bool, List, length}
+use Rattle.std.proofs.{lemmas.Bool.cases_eq, lemmas.Bool.cases_order, lemmas.List.length-map}
+use Rattle.std.proofs.{lemmas.List.FromFn.length-range_with_len, lemmas.List.FromFn.get_or-map-range_with_len}
+use Rattle.std.specs.{BTreeSet.BTreeSet, Prelude.OnOk, declared.result.Result.Result}
+use Rattle.std.specs.{declared.result.Result.TheVariants.Ok, declared.result.Result.TheVariants.Err}
+use Rattle.def_mesh.specs.{HalfEdges.HalfEdges, HalfEdges.IsQuadManifold, HalfEdges.half_edges, Faces.Faces}
+use Rattle.def_mesh.specs.{Darts.darts, Darts.from_of, Vertices.all_vertices, Vertices.vertex_count}
+use Rattle.def_cut.specs.{Cuts.Cut, Cuts.IsCorner, Cuts.IsCut, Cuts.HasCross, Steps.easts, FullCut.is_on}
 use Rattle.cut_laws.proofs.Classes.{linked_back, links_join}
-use Rattle.def_merge.specs.Joins.{AreInOne, IsJoinable, IsOnArc, IsWholeSide, IsWithout}
-use Rattle.merge_laws.proofs.ArcDarts.{less, opened, still}
-use Rattle.merge_laws.proofs.Sides.{StandsOn, first_place, one_size, side_low}
-use Rattle.qm_merge.specs.{Walks.IsNextCorner, Links.IsRound, declared.links.Round.Round}
-use Rattle.qm_merge.proofs.Rounds.{around, closes, next_is_corner, one_next, opposite}
+use Rattle.def_merge.specs.Joins.{AreInOne, IsJoinable, IsOnArc, IsWholeSide, IsWithout, IsNameOf}
+use Rattle.def_merge.specs.{Merged.IsStep, Merged.MayLeave, Beside.may_beside, Beside.IsEndFree, Beside.IsSpared}
+use Rattle.merge_laws.proofs.Joins.{less, opened, still, on_cut, other_without, turned_arc, join_law}
+use Rattle.merge_laws.proofs.{Sides.StandsOn, Sides.first_place, Sides.one_size, Sides.side_low, Decided.name_there}
+use Rattle.merge_laws.proofs.{Decided.grown_law, Spared.spared_law, Spared.unmarked_from}
+use Rattle.qm_merge.specs.{Walks.IsNextCorner, Links.IsRound, declared.links.Round.Round, Seams.IsSeam, Waiting.IsNoted}
+use Rattle.qm_merge.specs.{Waiting.WaitStill, Waiting.mark_count, declared.seams.Place.Place, Beside.IsBeside}
+use Rattle.qm_merge.specs.{Beside.IsEndOpen}
+use Rattle.qm_merge.proofs.{Rounds.around, Rounds.closes, Rounds.next_is_corner, Rounds.one_next, Rounds.opposite}
+use Rattle.qm_merge.proofs.{Names.fewer_marks, Names.noted_over}
+use Rattle.feature_laws.proofs.{Conforming.mark_low, Breaks.break_cross}
+use Rattle.{def_known.specs.Cutting.IsCutting, def_feature.specs.Marks.is_break, mesh_laws.proofs.Flood.all_below}
 
 module _ {mesh : HalfEdges} (laws : IsQuadManifold mesh) {cut rest : Cut} (full : IsCut mesh cut) {s t n : ℕ}
     (arc : IsJoinable mesh cut s t n) (without : IsWithout mesh cut rest s t n) where
@@ -201,3 +212,133 @@ module _ {mesh : HalfEdges} (laws : IsQuadManifold mesh) {cut rest : Cut} (full 
         at = cc (laws.prev_next (easts mesh near.fourth near_closes.0), near_closes.2);
       },
     )
+
+-- What one arc less leaves joinable.
+
+-- Two facts where a call went well.
+pub both_ok : {T E P Q R : Type 0} (r : Result T E) → (P → Q → R) → OnOk r P → OnOk r Q → OnOk r R
+both_ok (Ok x) f p q = f p q
+both_ok (Err e) f p q = p
+
+module _ {faces : Faces} {marks : List Bool} (rest : List Bool) (cutting : IsCutting faces marks) (place : Place)
+    (is : IsSeam (half_edges faces) (is_on marks) place.start place.seam) (long : length rest ≡ length marks)
+    (without : IsWithout (half_edges faces) (is_on marks) (is_on rest) place.start place.seam.far place.seam.long) where
+  abbrev mesh : HalfEdges
+  mesh = half_edges faces
+
+  pub cutting_after : IsCutting faces rest
+  cutting_after = record {
+    few = cutting.few;
+    long = long ∙ cutting.long;
+    laws = cutting.laws;
+    full = join_law mesh (is_on marks) (is_on rest) place.start place.seam.far place.seam.long
+        cutting.laws cutting.full is.joinable without;
+  }
+
+  -- What is left was there.
+  pub less_on : (d : ℕ) → is_on rest d ≡ true → is_on marks d ≡ true
+  less_on d on = less mesh cutting.laws (is_on marks) (is_on rest) place.start place.seam.far
+      place.seam.long without d (omega (arith, mark_low rest d on, long, cutting.long)) on
+
+  -- The step that the first of the arcs makes that may leave.
+  pub step_taken : (may : MayLeave) → may marks place.start place.seam.far place.seam.long ≡ true
+      → ((r u m name : ℕ) → IsJoinable mesh (is_on marks) r u m → may marks r u m ≡ true
+      → IsNameOf mesh r u m name → place.seam.name ≤ name) → IsStep faces may marks rest
+  step_taken may free least = record {
+    near = place.start;
+    far = place.seam.far;
+    size = place.seam.long;
+    first = record {
+      joinable = is.joinable;
+      free = free;
+      name = place.seam.name;
+      named = is.named;
+      first = λ r u m d arc y on.
+          let n = name_there mesh r u m arc.glued.near.some in
+          omega (arith, least r u m n.0 arc y n.1, n.1.least d on);
+    };
+    long = long;
+    without = without;
+  }
+
+  -- No arc has its name any more.
+  pub name_gone : {s t n name : ℕ} → IsJoinable mesh (is_on rest) s t n
+      → IsNameOf mesh s t n name → name ≢ place.seam.name
+  name_gone {s} {t} {n} {name} arc named e = true≢false (sym (on_cut mesh cutting.laws (is_on rest) cutting_after.full s
+      t n arc.glued name named.on) ∙ (ap (is_on rest) e ∙ without.gone place.seam.name is.named.on))
+
+  pub marks_fewer : mark_count rest + 1 ≤ mark_count marks
+  marks_fewer = fewer_marks marks rest long less_on place.seam.name
+      (on_cut mesh cutting.laws (is_on marks) cutting.full place.start place.seam.far place.seam.long
+      is.joinable.glued place.seam.name is.named.on) (without.gone place.seam.name is.named.on)
+
+  -- What is joinable then was joinable before, or is noted anew.
+  module _ {near far : Round} (ones : IsRound mesh (is_on marks) place.start near)
+      (others : IsRound mesh (is_on marks) place.seam.far far) where
+    near_end : (m : ℕ) × (k : ℕ) × StandsOn mesh (is_on rest) near.fourth m k (mesh.prev place.start)
+    near_end = near_over cutting.laws cutting.full is.joinable without ones others
+
+    far_end : (m : ℕ) × (k : ℕ) × StandsOn mesh (is_on rest) far.fourth m k (mesh.prev place.seam.far)
+    far_end = near_over cutting.laws cutting.full
+        (turned_arc mesh cutting.laws (is_on marks) cutting.full place.start place.seam.far place.seam.long is.joinable)
+        (other_without mesh (is_on marks) (is_on rest) place.start place.seam.far place.seam.long without) others ones
+
+    module _ (old between new : BTreeSet ℕ) (starts one_starts new_starts : List ℕ) where
+      abbrev IsNotedFrom : (c : ℕ) (names : BTreeSet ℕ) (table : List ℕ) → Type 0
+      IsNotedFrom c names table = (t n name : ℕ) → IsJoinable mesh (is_on rest) c t n
+          → IsNameOf mesh c t n name → IsNoted names table c t name
+
+      abbrev AreKeptNotes : (names more : BTreeSet ℕ) (table next : List ℕ) → Type 0
+      AreKeptNotes names more table next = (r u m name : ℕ) → IsJoinable mesh (is_on rest) r u m
+          → IsNameOf mesh r u m name → IsNoted names table r u name → IsNoted more next r u name
+
+      pub wait_still : IsNotedFrom near.fourth between one_starts → AreKeptNotes old between starts one_starts
+          → IsNotedFrom far.fourth new new_starts → AreKeptNotes between new one_starts new_starts
+          → WaitStill mesh (is_on marks) (is_on rest) old new starts new_starts
+      wait_still near_noted kept far_noted still s t n name arc named was =
+          elim (grown_law mesh (is_on marks) (is_on rest) place.start place.seam.far place.seam.long s t n cutting.laws
+          cutting.full is.joinable without arc) [
+            | inl before ↦ still s t n name arc named (kept s t n name arc named (was before))
+            | inr (inl o) ↦ still s t n name arc named
+                (noted_over cutting.laws cutting_after.full near_end.2 between one_starts near_noted arc o named)
+            | inr (inr o) ↦ noted_over cutting.laws cutting_after.full far_end.2 new new_starts far_noted arc o named
+          ]
+
+-- Whether an arc may leave, as the code tells it.
+
+module _ {faces : Faces} {marks breaks cut : List Bool} (is : IsBeside faces marks breaks cut) where
+  pub breaks_long : length breaks ≡ vertex_count faces
+  breaks_long = ap length is.broken
+      ∙ (length-map (all_vertices faces) (is_break faces marks) ∙ length-range_with_len 0 (vertex_count faces))
+
+  told : (d : ℕ) → d < darts faces → is_on breaks (from_of faces d) ≡ is_break faces marks (from_of faces d)
+  told d l = ap (λ xs. is_on xs (from_of faces d)) is.broken ∙ get_or-map-range_with_len (is_break faces marks) 0
+      (vertex_count faces) (from_of faces d) (from_of faces d) false (all_below faces d l) (omega arith)
+
+  pub crossed_there : (d : ℕ) → d < darts faces → is_on breaks (from_of faces d) ≡ true → HasCross (half_edges faces) d
+  crossed_there d l y = break_cross faces is.manifold marks is.lines d l (sym (told d l) ∙ y)
+
+  module _ {s t n : ℕ} (arc : IsJoinable (half_edges faces) (is_on cut) s t n) where
+    open_free : (r u : ℕ) → r < darts faces → IsEndOpen faces breaks cut r u → IsEndFree faces marks cut r u
+    open_free r u l o y a b first second = o (told r l ∙ y) a b first second
+
+    free_open : (r u : ℕ) → r < darts faces → IsEndFree faces marks cut r u → IsEndOpen faces breaks cut r u
+    free_open r u l o y a b first second = o (sym (told r l) ∙ y) a b first second
+
+    pub may_from : is_on marks s ≡ false → IsEndOpen faces breaks cut s t → IsEndOpen faces breaks cut t s
+        → may_beside faces marks cut s t n ≡ true
+    may_from off near far = (spared_law faces marks cut s t n is.manifold is.lines is.keeps arc).1 (record {
+      unmarked = unmarked_from faces is.manifold marks is.lines cut is.keeps s t n arc off;
+      near = open_free s t arc.glued.near.corner.0 near;
+      far = open_free t s arc.glued.far.corner.0 far;
+    })
+
+    pub may_then : may_beside faces marks cut s t n ≡ true → (is_on marks s ≡ false) × IsEndOpen faces breaks cut s t
+        × IsEndOpen faces breaks cut t s
+    may_then y =
+        let spared : IsSpared faces marks cut s t n =
+        (spared_law faces marks cut s t n is.manifold is.lines is.keeps arc).0 y in (
+          spared.unmarked 0 arc.glued.near.some,
+          free_open s t arc.glued.near.corner.0 spared.near,
+          free_open t s arc.glued.far.corner.0 spared.far,
+        )

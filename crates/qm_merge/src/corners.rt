@@ -18,7 +18,7 @@ pub(crate) struct Side {
 }
 
 /// The side from a corner. Linear in it.
-#[tactic(auto, using(crate::proofs::SideWalks::near_done))]
+#[tactic(auto, using(crate::proofs::Rounds::near_done))]
 pub(crate) fn side_from(cut: &Cutting, corner: u32) -> Side
     requires corner { IsCorner (half_edges cut.now.faces) (is_on cut.now.marks) corner }
     ensures whole { IsWholeSide (half_edges cut.now.faces) (is_on cut.now.marks) corner result.long }

@@ -14,7 +14,7 @@ use crate::seams::Place;
 use qm_grid::Cutting;
 
 /// Whether the joinable arc there may leave: it is not marked, and where lines break at its ends a corner stays.
-#[tactic(auto, using(crate::proofs::Spared::breaks_long, crate::proofs::Spared::crossed_there))]
+#[tactic(auto, using(crate::proofs::Rejoined::breaks_long, crate::proofs::Rejoined::crossed_there))]
 pub(crate) fn may_leave(cut: &Cutting, marks: &[bool], breaks: &[bool], place: Place) -> bool
     requires beside { IsBeside cut.now.faces marks.now breaks.now cut.now.marks }
     requires seam { IsSeam (half_edges cut.now.faces) (is_on cut.now.marks) place.start place.seam }

@@ -28,7 +28,7 @@ use std::alloc::{AllocError, Global};
 
 /// Merges the patches of a full cut across whole sides, beside no marked line. The riders stay. The time is that of
 /// [`merge_beside`].
-#[tactic(auto, using(merge_laws::proofs::NoLines::none_merged))]
+#[tactic(auto, using(merge_laws::proofs::Beside::none_merged))]
 pub fn merge(alloc: Global, mesh: &Mesh, graph: &Graph) -> Result<Graph, AllocError>
     requires cut { IsFullCut mesh.now graph.now.covered.items }
     ensures merged { IfOk result (λ g. IsMergedCut mesh.now graph.now.covered.items g.covered.items) }
@@ -129,7 +129,7 @@ fn place_of(linked: &Linked, name: u32) -> Option<Place>
 }
 
 /// Takes a joinable arc out of the cut, and notes what is joinable then and was not.
-#[tactic(auto, using(crate::proofs::Dropped::cutting_after))]
+#[tactic(auto, using(crate::proofs::Rejoined::cutting_after))]
 fn drop_first(
     mesh: &Mesh,
     cut: &mut [bool],

@@ -1,6 +1,4 @@
 pub mod Corners
 pub mod Marks
-pub mod Walks
 pub mod OneFan
 pub mod Vertices
-pub mod Inner

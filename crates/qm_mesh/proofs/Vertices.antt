@@ -5,13 +5,12 @@ use Rattle.std.proofs.lemmas.List.{get_or-map, get_or_default, append-nil, lengt
 use Rattle.std.proofs.lemmas.List.{get_or-set_other}
 use Rattle.std.proofs.lemmas.Bool.{ltb-true, eqb-true, cases_eq, eq-eqb, ne_eqb}
 use Rattle.std.proofs.{lemmas.List.Sums.AllPass-from_list_all, lemmas.List.Folds.Any-from_list_any}
-use Rattle.std.specs.List.{list_all, list_any, Any, filter, range_with_len}
+use Rattle.std.specs.List.{list_all, list_any, filter, range_with_len}
 use Rattle.def_mesh.specs.{Faces.Faces, Faces.corner, Darts.darts, Darts.next_of, Darts.to_of, Darts.from_of}
 use Rattle.def_mesh.specs.{Vertices.vertex_count, Vertices.fan_of, Vertices.names_below, Vertices.UsesEach}
 use Rattle.qm_mesh.specs.Tables.{NamesBelow, HasCorners, fan_lists, fan_at, HoldDarts, AreFans}
-use Rattle.mesh_laws.proofs.{Darts.next_of_low, Fans.IsFan, Fans.is_fan, Vertices.all_below, Vertices.count_least}
-use Rattle.smallvec.specs.SmallVec.{SmallVec}
-use Rattle.list_laws.proofs.Filters.{filter_range_more}
+use Rattle.mesh_laws.proofs.{Chains.next_of_low, Chains.IsFan, Chains.is_fan, Flood.all_below, Flood.count_least}
+use Rattle.{smallvec.specs.SmallVec.SmallVec, list_laws.proofs.Filters.filter_range_more}
 
 -- Where a dart ends is a vertex.
 pub end_low : (faces : Faces) (n d : ℕ) → NamesBelow n faces → d < darts faces → to_of faces d < n

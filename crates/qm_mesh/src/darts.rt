@@ -26,7 +26,7 @@ pub(crate) fn from(faces: &[[u32; 4]], d: u32) -> u32
 }
 
 /// The vertex where d ends.
-#[tactic(auto, using(mesh_laws::proofs::Darts::next_of_low))]
+#[tactic(auto, using(mesh_laws::proofs::Chains::next_of_low))]
 pub(crate) fn to(faces: &[[u32; 4]], d: u32) -> u32
     requires { d < darts faces.now }
     ensures { result ≡ to_of faces.now d }

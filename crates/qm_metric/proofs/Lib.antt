@@ -1,7 +1,3 @@
-mod RootLaws
-mod Reading
-mod Wished
 mod Nets
-mod EdgeLengths
 mod CutTables
 pub mod StartLaws

@@ -1,25 +1,58 @@
--- The old lengths, as many times as no floor is above, start the descent whatever lengths are wished for.
-use Rattle.std.proofs.Common.{◌≡◌, ℕ, ◌+◌, ◌*◌, ◌^◌, ◌<◌, ◌≤◌, List, [], length, pos, ◌-ℤ◌, ◌*ℤ◌, ◌≤ℤ◌, sym, ap, ◌∙◌}
-use Rattle.std.proofs.{Common.mul-one, Common.arith, Math.Nat.mul-le-mul_left, Math.Nat.mul-le-mul_right}
-use Rattle.std.proofs.{lemmas.Nat.mul-le, lemmas.Int.ints, lemmas.List.get_or-map, lemmas.List.length-map}
-use Rattle.std.specs.Prelude.{unsigned_abs}
-use Rattle.def_math.specs.Counts.{count_below}
-use Rattle.def_flow.specs.Admissible.{arc_deviation, deviation, entries}
-use Rattle.def_flow.specs.{Descent.IsStartOf, Network.Network, Network.arc_at, declared.limits.TheConstants.MAX_FLOOR}
+-- Whole square roots: there is one, and it is computed digit by digit.
+use Rattle.std.proofs.Common.{ℕ, zero, suc, ◌+◌, ◌*◌, ◌/◌, ◌^◌, ◌<◌, ◌≤◌, subst, inl, inr, arith, ◌≡◌, List, [], length}
+use Rattle.std.proofs.Common.{pos, ◌-ℤ◌, ◌*ℤ◌, sym, ap, ◌∙◌, mul-one}
+use Rattle.std.proofs.{lemmas.Nat.mul-le, Math.Nat.pow-succ', Math.Nat.mul-le-mul_left, Math.Nat.mul-le-mul_right}
+use Rattle.std.proofs.{lemmas.Bool.Decides.leb_tells, lemmas.Int.ints, lemmas.List.get_or-map, lemmas.List.length-map}
+use Rattle.def_metric.specs.{Roots.doubled_root, Roots.root_of, Roots.root_within, Roots.IsRoot, Roots.WholeRootLaw}
+use Rattle.def_metric.specs.{Fails.AreNear, Starts.times_long, Starts.StartLaw, Targets.wish_sum}
+use Rattle.def_metric.specs.{declared.limits.TheConstants.MAX_TARGETS}
+use Rattle.def_flow.specs.{Admissible.arc_deviation, Admissible.deviation, Admissible.entries, Descent.IsStartOf}
+use Rattle.def_flow.specs.{Network.Network, Network.arc_at, declared.limits.TheConstants.MAX_FLOOR}
 use Rattle.def_flow.specs.{declared.net.Settings.Settings, declared.net.Weight.Weight}
-use Rattle.def_flow.specs.declared.net.Weight.TheVariants.{Plain, Length}
+use Rattle.def_flow.specs.{declared.net.Weight.TheVariants.Plain, declared.net.Weight.TheVariants.Length}
 use Rattle.def_layout.specs.{Arcs.Path, Arcs.long_at, Surfaces.IsSurface, Gluings.Way, Gluings.south, Gluings.east}
-use Rattle.def_layout.specs.{Gluings.north, Gluings.west, Gluings.Gluing, Lengths.Lengths, Lengths.size}
-use Rattle.def_layout.specs.{Lengths.AreLengths, Layouts.Layout, Layouts.gluing_of}
+use Rattle.def_layout.specs.{Gluings.north, Gluings.west, Gluings.Gluing, Lengths.Lengths, Lengths.size, Layouts.Layout}
+use Rattle.def_layout.specs.{Layouts.gluing_of}
 use Rattle.def_layoutnet.specs.{LayoutNet.weight_of, LayoutNetLaws.sum_along}
 use Rattle.def_remesh.specs.{Keeping.IsNetWith, Tasks.given_floors, Tasks.Wish}
-use Rattle.def_metric.specs.{Fails.AreNear, Starts.times_long, Starts.StartLaw, Targets.wish_sum}
-use Rattle.def_metric.specs.declared.limits.TheConstants.{MAX_TARGETS}
-use Rattle.sum_laws.proofs.Counts.{count_below_le, count_below_sum, count_below_times, count_below_total}
+use Rattle.sum_laws.proofs.Sums.{count_below_le, count_below_sum, count_below_times, count_below_total}
 use Rattle.sum_laws.proofs.Sums.{total_below_same}
-use Rattle.table_laws.proofs.Ranges.{part_low}
-use Rattle.embedding_laws.proofs.MeshLayouts.{laid_of, lengths_of}
+use Rattle.embedding_laws.proofs.Bounds.{laid_of, lengths_of}
 use Rattle.qm_layoutnet.proofs.{Balance.balance_law, Floors.floor_high, Whole.lengths_few}
+use Rattle.{std.specs.Prelude.unsigned_abs, def_math.specs.Counts.count_below, table_laws.proofs.Ranges.part_low}
+
+-- A number whose square is at most n is at most each root.
+upto : (n r s : ℕ) → r * r ≤ n → n < (s + 1) * (s + 1) → r ≤ s
+upto n r s low high = elim (leb_tells r s) [
+  | inl le ↦ le.1
+  | inr more ↦ absurd (omega (arith, mul-le (s + 1) (s + 1) r r (omega (arith, more.1)) (omega (arith, more.1))))
+]
+
+-- One more digit.
+more : (n r : ℕ) → IsRoot (n / 4) r → IsRoot n (doubled_root n r)
+more n r is = elim (leb_tells ((2 * r + 1) * (2 * r + 1)) n) [
+  | inl le ↦ rw le.0 (record { low = le.1; high = omega (arith, is.high) })
+  | inr gt ↦ rw gt.0 (record { low = omega (arith, is.low); high = gt.1 })
+]
+
+within : (digits n : ℕ) → n < 4 ^ digits → IsRoot n (root_within digits n)
+within zero n low = record { low = omega arith; high = omega arith }
+within (suc digits) n low =
+    let less : n < 4 * 4 ^ digits = subst (λ m. n < m) (pow-succ' 4 digits) low in
+    more n (root_within digits (n / 4)) (within digits (n / 4) (omega arith))
+
+pub root_law : WholeRootLaw
+root_law n low = let found = within 64 n low in
+    (found, λ r is. omega (arith, upto n r (root_of n) is.low found.high, upto n (root_of n) r found.low is.high))
+
+-- The root of a number below 2 ^ 124.
+pub root_small : (n r : ℕ) → IsRoot n r → n < 2 ^ 124 → r < 2 ^ 62
+root_small n r is low = elim (leb_tells (2 ^ 62) r) [
+  | inl le ↦ absurd (omega (arith, mul-le (2 ^ 62) (2 ^ 62) r r le.1 le.1, is.low, low))
+  | inr less ↦ less.1
+]
+
+-- The old lengths, as many times as no floor is above, start the descent whatever lengths are wished for.
 
 -- No weight is above 1000.
 weight_low : (weight : Weight) (old : ℕ) → weight_of weight old ≤ 1000

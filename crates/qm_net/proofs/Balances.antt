@@ -1,22 +1,19 @@
 -- Balances of the nodes of a block, one arc at a time.
 use Rattle.std.proofs.Common.{◌≡◌, ℕ, ◌+◌, ◌-◌, ◌*◌, ◌^◌, ◌<◌, ◌≤◌, ◌==◌, Bool, true, false, not, ◌&&◌, cond, nat_le}
-use Rattle.std.proofs.Common.{List, [], ◌∷◌, length, get_or, replicate, Option, Some, None, ℤ, pos, ◌+ℤ◌, ◌-ℤ◌}
-use Rattle.std.proofs.Common.{refl, sym, ◌∙◌, ap, inl, inr, ◌⊎◌, add-one, arith}
-use Rattle.std.proofs.lemmas.List.Sums.{AllPass-from_list_all, list_all-from_AllPass}
-use Rattle.std.proofs.lemmas.Int.{ints}
+use Rattle.std.proofs.Common.{List, [], ◌∷◌, length, get_or, replicate, Option, Some, None, ℤ, pos, ◌+ℤ◌, ◌-ℤ◌, refl}
+use Rattle.std.proofs.Common.{sym, ◌∙◌, ap, inl, inr, ◌⊎◌, add-one, arith}
 use Rattle.std.proofs.lemmas.Bool.{cases_eq, cases_lt, cases_Bool, eq-eqb, ne_eqb, and_parts}
-use Rattle.std.proofs.lemmas.Bool.Decides.{nat_tests, Decides-int_eq}
 use Rattle.std.proofs.lemmas.List.{get_or_past, get_or_default, length-set, get_or-set_same, get_or-set_other}
 use Rattle.std.proofs.lemmas.List.{length-replicate, get_or-replicate}
-use Rattle.std.specs.Prelude.{slice_index, slice_index_or, slice_set, unsigned_abs}
-use Rattle.std.specs.{Prelude.nat_lt, Prelude.option_to_list, List.list_all, Ordering.int_eq}
-use Rattle.def_math.specs.Sums.{total}
-use Rattle.sum_laws.proofs.Sums.{total_below_none}
+use Rattle.std.proofs.{lemmas.List.Sums.AllPass-from_list_all, lemmas.List.Sums.list_all-from_AllPass, lemmas.Int.ints}
+use Rattle.std.proofs.{lemmas.Bool.Decides.nat_tests, lemmas.Bool.Decides.Decides-int_eq}
+use Rattle.std.specs.Prelude.{slice_index, slice_index_or, slice_set, unsigned_abs, nat_lt, option_to_list}
+use Rattle.std.specs.{List.list_all, Ordering.int_eq}
 use Rattle.def_flow.specs.{Network.Network, Network.IsWithinBounds, Network.arc_at, Network.ends, Admissible.entries}
 use Rattle.def_flow.specs.{Admissible.is_on_side, Admissible.side_sum, Admissible.IsBalanced, declared.net.Arc.Arc}
-use Rattle.def_flow.specs.declared.net.End.{End}
+use Rattle.def_flow.specs.{declared.net.End.End}
 use Rattle.qm_net.specs.Balance.{signed, weighed, weighed_right, weighed_arc, side_so_far, AreBalances, IsBlockBalanced}
-use Rattle.qm_net.proofs.Within.{arc_within}
+use Rattle.{def_math.specs.Sums.total, sum_laws.proofs.Sums.total_below_none, qm_net.proofs.Within.arc_within}
 
 -- What an end puts on the plus side of a node, less what it puts on the minus side.
 abbrev pub effect : ℕ → ℕ → End → ℤ

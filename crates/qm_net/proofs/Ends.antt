@@ -4,10 +4,9 @@ use Rattle.std.proofs.Common.{None, ◌∙◌, ap, arith}
 use Rattle.std.proofs.lemmas.List.{length-take-le}
 use Rattle.std.specs.Prelude.{slice_index, slice_index_or, option_to_list}
 use Rattle.def_math.specs.{Counts.count, Counts.count_below, Tables.at_place, Tables.IsRaised, Tables.IsTally}
-use Rattle.sum_laws.proofs.{Counts.count_below_same, Tests.once_at_most}
 use Rattle.def_flow.specs.{Network.degree, declared.net.Arc.Arc, declared.net.End.End}
 use Rattle.table_laws.proofs.{Ranges.count_take, Tallies.raised_as, Tallies.tally_low, Tallies.tally_more}
-use Rattle.qm_net.specs.Degrees.{ends_at}
+use Rattle.{sum_laws.proofs.Sums.count_below_same, sum_laws.proofs.Tests.once_at_most, qm_net.specs.Degrees.ends_at}
 
 -- Where one end after the other is counted, all ends of an arc are.
 pub one_end : (a : Arc) (old new : List ℕ) → a.right ≡ None → IsRaised (at_place a.left.node 1) old new

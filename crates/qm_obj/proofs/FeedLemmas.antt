@@ -1,23 +1,30 @@
 -- Lines and pieces that are taken one by one, and what is then kept.
+use Rattle.std.proofs.Common.{Err, List, None, Option, Result, Some, arith, eqb, false, length, map, refl, true, ◌++◌}
+use Rattle.std.proofs.Common.{Ok, [], ap, sym, ℕ, ◌+◌, ◌-◌, ◌<◌, ◌∙◌, ◌∷◌, ◌≡◌, ◌≢◌, ◌≤◌, cond, leb, take, ◌&&◌, ℤ, ◌^◌}
+use Rattle.std.proofs.lemmas.Bool.{eqb-true, false≢true, lt-ltb, or_from, lt-leb, or_parts}
+use Rattle.std.proofs.{lemmas.List.Folds.list_any-append, lemmas.List.append-nil, lemmas.List.append_assoc}
+use Rattle.std.proofs.{lemmas.List.length-append, lemmas.Result.IfErr-weaker, lemmas.Bool.Decides.nat_tests}
+use Rattle.std.specs.{List.list_any, List.list_all, Prelude.IfErr, Prelude.OnErr, Prelude.OnOk, Prelude.is_some}
 use Rattle.def_feed.specs.Kept.{KeptText, face_readings, kept_readings, logical_behind, soup_with, soup_with_lines}
-use Rattle.def_io.{specs.Bytes.Bytes, specs.Bytes.Lines, specs.Lines.line_of, specs.Lines.lines_of}
+use Rattle.def_feed.specs.Feed.{StandsFor, is_line_feed, Fed}
+use Rattle.def_io.specs.{Bytes.Bytes, Bytes.Lines, Bytes.Told, Lines.line_of, Lines.lines_of, Moves.Change}
+use Rattle.def_io.specs.{Moves.GaveMore, Moves.IsEmptied}
 use Rattle.def_text.specs.Logical.{Logical, continues, is_hash, logical_lines, with_space}
-use Rattle.def_text.specs.declared.reading.{Reading.TheVariants.Position, Reading.TheVariants.Refused}
-use Rattle.def_text.specs.declared.refusal.{ObjFail.ObjFail, ObjFail.TheVariants.Limit, ObjFail.TheVariants.Memory}
-use Rattle.def_text.specs.{FaceSet.FaceSet, Text.soup_in, Types.Positions, declared.refusal.Which.TheVariants.Line}
+use Rattle.def_text.specs.declared.reading.Reading.TheVariants.{Position, Refused, Face}
+use Rattle.def_text.specs.declared.refusal.ObjFail.TheVariants.{Limit, Memory, NotQuad, Range, Syntax}
+use Rattle.def_text.specs.{declared.refusal.ObjFail.ObjFail, FaceSet.FaceSet, Text.soup_in, Text.soup_of}
+use Rattle.def_text.specs.{Types.Positions, Types.Words, declared.refusal.Which.TheVariants.Line, Fails.of_obj}
+use Rattle.def_text.specs.{Input.IsSoupFail, Input.ReadWhole, Corner.is_corner_word, Corner.resolved, Corner.used_index}
+use Rattle.def_text.specs.{Corner.is_out, Decimal.is_decimal, Decimal.is_far, Decimal.rounded}
+use Rattle.def_text.specs.{Reading.is_position_count, Reading.vertex_reading, Reading.face_reading}
 use Rattle.qm_obj.proofs.PrefixLemmas.{BeginsWith, bare_more, begins_behind, behind_held, behind_nothing}
 use Rattle.qm_obj.proofs.TailLemmas.{FirstLine, count_append, count_none, first_line, lines_fed, lines_open}
 use Rattle.qm_obj.proofs.{JoinLemmas.length-with_space, KeptLemmas.line_taken, KeptLemmas.stops_at}
-use Rattle.qm_obj.specs.Feeding.{RefusesLine, RefusesPiece, TookLine, TookPiece, number_by}
-use Rattle.qm_obj.specs.{Lines.next_said, declared.joiner.Joiner.Joiner, declared.progress.Progress.Progress}
-use Rattle.qm_obj.specs.{Lines.Fits, Lines.Took, Lines.line_as, Views.kept_at, Views.kept_of}
-use Rattle.std.proofs.Common.{Err, List, None, Option, Result, Some, arith, eqb, false, length, map, refl, true, ◌++◌}
-use Rattle.std.proofs.Common.{Ok, [], ap, sym, ℕ, ◌+◌, ◌-◌, ◌<◌, ◌∙◌, ◌∷◌, ◌≡◌, ◌≢◌, ◌≤◌}
-use Rattle.std.proofs.lemmas.List.{Folds.list_any-append, append-nil, append_assoc, length-append}
-use Rattle.std.proofs.lemmas.{Bool.eqb-true, Bool.false≢true, Bool.lt-ltb, Bool.or_from, Result.IfErr-weaker}
-use Rattle.std.specs.{List.list_any, Prelude.IfErr, Prelude.OnErr, Prelude.OnOk, Prelude.is_some}
-use Rattle.{def_feed.specs.Feed.StandsFor, def_feed.specs.Feed.is_line_feed, def_text.specs.Text.soup_of}
-use Rattle.{def_mesh.specs.Faces.Faces}
+use Rattle.qm_obj.specs.Feeding.{RefusesLine, RefusesPiece, TookLine, TookPiece, number_by, FedPiece, FedTo, FedWhole}
+use Rattle.qm_obj.specs.{Lines.next_said, Lines.Fits, Lines.Took, Lines.line_as, declared.joiner.Joiner.Joiner}
+use Rattle.qm_obj.specs.{declared.progress.Progress.Progress, Views.kept_at, Views.kept_of, Indices.corner_of}
+use Rattle.qm_obj.specs.{Indices.with_clamped, Indices.clamped, Positions.all_near, Positions.coordinate}
+use Rattle.{def_mesh.specs.Faces.Faces, qm_io.proofs.Cuts.gave_more}
 
 -- Whether bytes are empty, by their number.
 pub is_nothing : {xs : Bytes} {n : ℕ} → true ≡ eqb n 0 → n ≡ length xs → xs ≡ []
@@ -237,3 +244,124 @@ pub stands_stopped : {kept : KeptText} {refused : Option ObjFail} {text : Bytes}
 stands_stopped {refused = None} is stands = absurd (cc is)
 stands_stopped {refused = Some other} {text = text} is stands =
     ap soup_in (sym (append-nil text)) ∙ sym (stands.answers []) ∙ (let same : other ≡ _ = cc is in ap Err same)
+
+-- Texts that were read whole, their soups and their refusals.
+
+-- A refusal of the text is one of its soup.
+pub refused : (limit : ℕ) (source : Change) (bytes : Bytes) (fail : ObjFail)
+    → ReadWhole limit source.told source.told_now bytes → source.faults_now ≡ source.faults
+    → (fail ≢ Memory → soup_in bytes ≡ Err fail) → IsSoupFail limit source (of_obj fail)
+refused limit source bytes Memory whole calm said = tt
+refused limit source bytes _ whole calm said = (
+  record { bytes = bytes; whole = whole; said = said (λ e. cc) },
+  λ e. cc,
+  calm,
+)
+
+-- A source gave one piece more to a feed.
+pub fed_more : {before mid now : Told} {old new : Fed} {count more : ℕ} → FedTo before mid count old
+    → FedPiece mid now old new more → FedTo before now (count + more) new
+fed_more {before} {mid} {now} fed piece = record {
+  text = fed.text ++ piece.piece;
+  given = gave_more before mid now fed.text piece.piece (fed.text ++ piece.piece) refl fed.given piece.moved;
+  many = omega (arith, length-append fed.text piece.piece);
+  stands = piece.stands fed.text fed.stands;
+}
+
+-- It gave its last piece.
+pub fed_whole : {limit count : ℕ} {before now : Told} {fed : Fed} → FedTo before now count fed → count ≤ limit
+    → IsEmptied now → FedWhole limit before now fed
+fed_whole to few ended =
+    record { text = to.text; whole = record { given = to.given; ended = ended; few = omega arith }; stands = to.stands }
+
+-- It gave more than it may.
+pub gave_beyond : {limit room : ℕ} {before mid now : Told} {fed : Fed} → FedTo before mid (limit - room) fed
+    → room ≤ limit → GaveMore room mid now → GaveMore limit before now
+gave_beyond {before = before} {mid} {now} to few more = record {
+  piece = to.text ++ more.piece;
+  many = omega (arith, length-append to.text more.piece);
+  moved = gave_more before mid now to.text more.piece (to.text ++ more.piece) refl to.given more.moved;
+}
+
+-- What `v` lines and `f` lines say, refusal by refusal.
+
+all_coordinates : (ws : Words) → all_near (map coordinate ws) ≡ cond (list_any (λ w. is_far (rounded w)) ws) None
+    (Some (map rounded ws))
+all_coordinates [] = refl
+all_coordinates (w ∷ ws) = grind (arith, all_coordinates ws)
+
+module _ (line vertices : ℕ) (ws : Words) (few : vertices < 2 ^ 21) where
+  room : leb (2 ^ 21) vertices ≡ false
+  room = lt-leb _ _ few
+
+  -- A `v` line with another number of words, or a word that is no decimal.
+  pub vertex_syntax : (is_position_count (length ws) && list_all is_decimal ws) ≡ false
+      → Refused (Syntax line) ≡ vertex_reading line vertices ws
+  vertex_syntax bad = rw (room, bad) refl
+
+  module _ (right : (is_position_count (length ws) && list_all is_decimal ws) ≡ true) where
+    -- A `v` line of the right form.
+    pub vertex_rest : vertex_reading line vertices ws ≡ cond (list_any (λ w. is_far (rounded w)) (take 3 ws))
+        (Refused (Range line)) (Position (map rounded (take 3 ws)))
+    vertex_rest = rw (room, right) refl
+
+    pub vertex_position : {position : List ℤ} → all_near (map coordinate (take 3 ws)) ≡ Some position
+        → Position position ≡ vertex_reading line vertices ws
+    vertex_position is = grind (arith, sym (all_coordinates (take 3 ws)) ∙ is) ∙ sym vertex_rest
+
+    pub vertex_far : all_near (map coordinate (take 3 ws)) ≡ None → Refused (Range line)
+        ≡ vertex_reading line vertices ws
+    vertex_far is = grind (arith, sym (all_coordinates (take 3 ws)) ∙ is) ∙ sym vertex_rest
+
+-- A corner that is out is kept as 0, and no other.
+out_zero : (vertices : ℕ) (word : List ℕ) → eqb (corner_of vertices word) 0 ≡ is_out vertices (used_index word)
+out_zero vertices word = grind (arith, nat_tests)
+
+in_clamped : (vertices : ℕ) (word : List ℕ) → is_out vertices (used_index word) ≡ false → corner_of vertices word
+    ≡ clamped (resolved vertices (used_index word))
+in_clamped vertices word inside = rw inside (omega arith)
+
+any_out : (vertices : ℕ) (ws : Words) → list_any (λ corner. eqb corner 0) (map (corner_of vertices) ws)
+    ≡ list_any (λ w. is_out vertices (used_index w)) ws
+any_out vertices [] = refl
+any_out vertices (w ∷ ws) = rw (out_zero vertices w, any_out vertices ws) refl
+
+all_in : (vertices : ℕ) (ws : Words) → list_any (λ w. is_out vertices (used_index w)) ws ≡ false
+    → map (corner_of vertices) ws ≡ map clamped (map (λ w. resolved vertices (used_index w)) ws)
+all_in vertices [] inside = refl
+all_in vertices (w ∷ ws) inside =
+    let parts = or_parts (is_out vertices (used_index w)) _ inside in
+    rw (in_clamped vertices w parts.0, all_in vertices ws parts.1) refl
+
+module _ (line vertices faces : ℕ) (ws : Words) (few : faces < 2 ^ 20) where
+  place : leb (2 ^ 20) faces ≡ false
+  place = lt-leb _ _ few
+
+  -- An `f` line with a word that is no corner, and one with another number of corners.
+  pub face_syntax : list_all is_corner_word ws ≡ false
+      → Refused (Syntax line) ≡ with_clamped (face_reading line vertices faces ws)
+  face_syntax bad = rw (place, bad) refl
+
+  pub face_count : list_all is_corner_word ws ≡ true → eqb (length ws) 4 ≡ false
+      → Refused (NotQuad line (length ws)) ≡ with_clamped (face_reading line vertices faces ws)
+  face_count corners other = rw (place, corners, other) refl
+
+  -- An `f` line of four corners.
+  module _ (corners : list_all is_corner_word ws ≡ true) (four : eqb (length ws) 4 ≡ true) where
+    pub face_rest : face_reading line vertices faces ws ≡ cond (list_any (λ w. is_out vertices (used_index w)) ws)
+        (Refused (Range line)) (Face line (map (λ w. resolved vertices (used_index w)) ws))
+    face_rest = rw (place, corners, four) refl
+
+    pub face_out : list_any (λ corner. eqb corner 0) (map (corner_of vertices) ws) ≡ true
+        → Refused (Range line) ≡ with_clamped (face_reading line vertices faces ws)
+    face_out out = rw (face_rest, sym (any_out vertices ws) ∙ out) refl
+
+    pub face_in : list_any (λ corner. eqb corner 0) (map (corner_of vertices) ws) ≡ false
+        → Face line (map (corner_of vertices) ws) ≡ with_clamped (face_reading line vertices faces ws)
+    face_in inside =
+        let none : list_any (λ w. is_out vertices (used_index w)) ws ≡ false = sym (any_out vertices ws) ∙ inside in
+        rw (face_rest, none, all_in vertices ws none) refl
+
+-- A position has at least three numbers.
+pub position_words : (n : ℕ) → is_position_count n ≡ true → 3 ≤ n
+position_words n right = grind (arith, nat_tests)

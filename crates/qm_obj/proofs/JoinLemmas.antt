@@ -1,15 +1,16 @@
 -- Physical lines text_ahead to logical lines.
-use Rattle.def_text.specs.declared.{reading.Reading.TheVariants.Refused, refusal.ObjFail.ObjFail}
-use Rattle.def_text.specs.{Logical.Logical, Logical.continues, Logical.is_hash, Logical.with_space, Types.Positions}
-use Rattle.qm_obj.proofs.{Ranges.here, Ranges.range_cons, WordLemmas.uncommented_is, WordLemmas.uncommented_none}
-use Rattle.qm_obj.specs.{Ahead.size_ahead, Ahead.text_ahead, Lines.first_logical, Lines.next_said, Lines.uncommented}
 use Rattle.std.proofs.Common.{List, arith, eqb, false, get_or, inl, inr, length, not, refl, suc, take, true, zero, ◌++◌}
 use Rattle.std.proofs.Common.{[], ap, sym, ℕ, ◌+◌, ◌-◌, ◌<◌, ◌∙◌, ◌∷◌, ◌≡◌, ◌≤◌}
-use Rattle.std.proofs.lemmas.Bool.{Decides.nat_tests, and_parts, cases_Bool, false≢true, not-true, or_from, or_parts}
-use Rattle.std.proofs.lemmas.List.{Folds.list_any-append, append_assoc, length-append, length-take}
+use Rattle.std.proofs.lemmas.Bool.{and_parts, cases_Bool, false≢true, not-true, or_from, or_parts}
+use Rattle.std.proofs.{lemmas.Bool.Decides.nat_tests, lemmas.List.Folds.list_any-append, lemmas.List.append_assoc}
+use Rattle.std.proofs.{lemmas.List.length-append, lemmas.List.length-take}
 use Rattle.std.specs.{List.before_first, List.list_any, List.position_or_len, Prelude.slice_range}
-use Rattle.{def_io.specs.Bytes.Lines, def_mesh.specs.Faces.Faces, qm_obj.specs.Ahead.span, qm_obj.specs.Lines.line_as}
-use Rattle.{qm_obj.specs.Lines.Took}
+use Rattle.def_text.specs.{declared.reading.Reading.TheVariants.Refused, declared.refusal.ObjFail.ObjFail}
+use Rattle.def_text.specs.{Logical.Logical, Logical.continues, Logical.is_hash, Logical.with_space, Types.Positions}
+use Rattle.qm_obj.proofs.{Groups.here, Groups.range_cons, WordLemmas.uncommented_is, WordLemmas.uncommented_none}
+use Rattle.qm_obj.specs.{Ahead.size_ahead, Ahead.text_ahead, Ahead.span, Lines.first_logical, Lines.next_said}
+use Rattle.qm_obj.specs.{Lines.uncommented, Lines.line_as, Lines.Took}
+use Rattle.{def_io.specs.Bytes.Lines, def_mesh.specs.Faces.Faces}
 
 -- A comment is found before the end exactly where there is one.
 pub no_hash : (line : List ℕ) → eqb (position_or_len is_hash line) (length line) ≡ not (list_any is_hash line)

@@ -1,29 +1,33 @@
 -- What the lines of a canonical text say, and the soup that they have.
+use Rattle.std.proofs.Common.{Bool, List, Ok, add-one, arith, cond, false, get_or, length, refl, true, zero, ◌&&◌, ◌++◌}
+use Rattle.std.proofs.Common.{[], ap, eqb, ltb, map, not, pos, suc, sym, ℕ, ℤ, ◌+◌, ◌-◌, ◌<◌, ◌^◌, ◌∙◌, ◌∷◌, ◌≡◌, ◌≤◌}
+use Rattle.std.proofs.lemmas.Bool.{and_from, and_parts, cond-false, eqb-true, ltb-false, ltb-true, not-true, or_from}
+use Rattle.std.proofs.lemmas.Bool.{le-ltb, ne_eqb}
+use Rattle.std.proofs.lemmas.List.{append-nil, append_assoc, get_or-map, get_or_default, length-map, same_lists}
+use Rattle.std.proofs.lemmas.List.{take_all}
+use Rattle.std.proofs.{lemmas.List.Concat.flat_map-append, lemmas.List.Elements.filter-append}
+use Rattle.std.proofs.{lemmas.List.Folds.flat_map-map, lemmas.List.Sums.sum_by_push, lemmas.Fmt.decimal_nonempty}
+use Rattle.std.specs.{Char.is_ascii_digit, List.count_by, List.flat_map, List.list_all, List.filter, List.list_any}
+use Rattle.std.specs.{Prelude.decimal, Prelude.unsigned_abs}
 use Rattle.def_text.specs.Canonical.{canonical_text, face_text, micro_text, position_text}
 use Rattle.def_text.specs.Corner.{are_indices, is_corner_word, is_out, resolved, used_index}
 use Rattle.def_text.specs.Reading.{begins_with, is_face_line, is_position_count, is_vertex_line, reading, words_reading}
 use Rattle.def_text.specs.Text.{face_set, line_vertex, numbers_to, position_in, position_of, refusal_in, text_soup}
-use Rattle.def_text.specs.declared.reading.Reading.{Reading, TheVariants.Face, TheVariants.Position}
-use Rattle.def_text.specs.{Decimal.is_decimal, Digits.is_number, Digits.is_signed, Digits.number_written, Text.readings}
-use Rattle.def_text.specs.{Decimal.rounded, Digits.unsigned, FaceSet.FaceSet, Laws.is_position, Logical.Logical}
-use Rattle.def_text.specs.{Decimal.is_far, FaceSet.IsSoup, Laws.ReadsBack, Laws.is_quad, Text.face_in, Types.Positions}
-use Rattle.def_text.specs.{Text.faces, Text.late_in, Text.soup_of, Text.used_to, Words.words}
-use Rattle.qm_dec.proofs.{ReadBack.canonical_law, Texts.decimal_digits, Texts.decimal_number}
+use Rattle.def_text.specs.Text.{readings, face_in, faces, late_in, soup_of, used_to}
+use Rattle.def_text.specs.{declared.reading.Reading.Reading, declared.reading.Reading.TheVariants.Face}
+use Rattle.def_text.specs.{declared.reading.Reading.TheVariants.Position, Decimal.is_decimal, Decimal.rounded}
+use Rattle.def_text.specs.{Decimal.is_far, Digits.is_number, Digits.is_signed, Digits.number_written, Digits.unsigned}
+use Rattle.def_text.specs.{FaceSet.FaceSet, FaceSet.IsSoup, Laws.is_position, Laws.ReadsBack, Laws.is_quad}
+use Rattle.def_text.specs.{Logical.Logical, Types.Positions, Words.words}
+use Rattle.qm_dec.proofs.ReadBack.{canonical_law, decimal_digits, decimal_number}
 use Rattle.qm_obj.proofs.CornerLemmas.{behind_none, digits_index, no_slash, whole_word}
 use Rattle.qm_obj.proofs.LawText.{IsLine, decimal_word, line_words, lines_split, logical_plain, micro_word, plain_lines}
+use Rattle.qm_obj.proofs.LawText.{line_tame, IsWord, line_text}
 use Rattle.qm_obj.proofs.SoupLemmas.{are_below, length-numbers_to, numbers_at, same_soups, used_renumbered}
-use Rattle.qm_obj.proofs.{KeptLemmas.positions_said, KeptLemmas.positions_silent, ReadLemmas.readings_append}
-use Rattle.qm_obj.proofs.{LawText.line_tame, LineLemmas.face_rest, LineLemmas.vertex_rest, ListLemmas.passes_at}
-use Rattle.std.proofs.Common.{Bool, List, Ok, add-one, arith, cond, false, get_or, length, refl, true, zero, ◌&&◌, ◌++◌}
-use Rattle.std.proofs.Common.{[], ap, eqb, ltb, map, not, pos, suc, sym, ℕ, ℤ, ◌+◌, ◌-◌, ◌<◌, ◌^◌, ◌∙◌, ◌∷◌, ◌≡◌, ◌≤◌}
-use Rattle.std.proofs.lemmas.Bool.{and_from, and_parts, cond-false, eqb-true, ltb-false, ltb-true, not-true, or_from}
-use Rattle.std.proofs.lemmas.List.{Concat.flat_map-append, Elements.filter-append, Folds.flat_map-map, Sums.sum_by_push}
-use Rattle.std.proofs.lemmas.List.{append-nil, append_assoc, get_or-map, get_or_default, length-map, same_lists}
-use Rattle.std.proofs.lemmas.{Bool.le-ltb, Bool.ne_eqb, Fmt.decimal_nonempty, List.take_all}
-use Rattle.std.specs.{Char.is_ascii_digit, List.count_by, List.flat_map, Prelude.decimal, Prelude.unsigned_abs}
-use Rattle.{def_mesh.specs.Vertices.is_used, qm_obj.proofs.LawText.IsWord, qm_obj.proofs.LawText.line_text}
-use Rattle.{def_io.specs.Bytes.Lines, def_io.specs.Lines.lines_of, def_mesh.specs.Faces.Faces, std.specs.List.list_all}
-use Rattle.{std.specs.List.filter, std.specs.List.list_any}
+use Rattle.qm_obj.proofs.{KeptLemmas.positions_said, KeptLemmas.positions_silent, KeptLemmas.readings_append}
+use Rattle.qm_obj.proofs.{FeedLemmas.face_rest, FeedLemmas.vertex_rest, TailLemmas.passes_at}
+use Rattle.def_mesh.specs.{Vertices.is_used, Faces.Faces}
+use Rattle.def_io.specs.{Bytes.Lines, Lines.lines_of}
 
 -- What holds at each position of two lists holds at each position of both together, and of a map what holds of each
 -- image.

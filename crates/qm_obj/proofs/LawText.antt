@@ -1,17 +1,19 @@
 -- The lines and the words of a canonical text.
+use Rattle.std.proofs.Common.{Bool, List, arith, cond, drop, eqb, false, get_or, length, refl, take, true, ◌&&◌, ◌++◌}
+use Rattle.std.proofs.Common.{[], ap, leb, map, not, suc, sym, ℕ, ◌%◌, ◌*◌, ◌+◌, ◌-◌, ◌/◌, ◌<◌, ◌^◌, ◌∙◌, ◌∷◌, ◌≡◌, ◌≤◌}
+use Rattle.std.proofs.Common.{ℤ}
+use Rattle.std.proofs.lemmas.List.{append_assoc, length-append, length-drop, take-append-drop, length-take, get_or_at}
+use Rattle.std.proofs.lemmas.List.{take_at, take_all}
+use Rattle.std.proofs.{lemmas.List.Folds.list_all-append, lemmas.Bool.Decides.nat_tests, lemmas.Fmt.decimal_nonempty}
+use Rattle.std.proofs.{lemmas.Fmt.length-decimal-le, lemmas.Bool.and_from, lemmas.Bool.and_parts, lemmas.Bool.not-true}
+use Rattle.std.specs.{List.before_first, List.flat_map, List.list_all, List.position_or_len, List.suffix_len}
+use Rattle.std.specs.{Char.is_ascii_digit, Prelude.decimal, Prelude.int_lt, Prelude.pos, Prelude.unsigned_abs}
 use Rattle.def_io.specs.{Bytes.Lines, Lines.line_of, Lines.lines_of, Lines.pieces, Lines.without_last}
 use Rattle.def_text.specs.Canonical.{fraction_text, micro_text, minus_text, six_digits, without_zeros}
 use Rattle.def_text.specs.{Logical.Logical, Logical.continues, Logical.is_hash, Logical.logical_lines, Words.ends_word}
-use Rattle.std.proofs.Common.{Bool, List, arith, cond, drop, eqb, false, get_or, length, refl, take, true, ◌&&◌, ◌++◌}
-use Rattle.std.proofs.Common.{[], ap, leb, map, not, suc, sym, ℕ, ◌%◌, ◌*◌, ◌+◌, ◌-◌, ◌/◌, ◌<◌, ◌^◌, ◌∙◌, ◌∷◌, ◌≡◌, ◌≤◌}
-use Rattle.std.proofs.lemmas.List.{Folds.list_all-append, append_assoc, length-append, length-drop, take-append-drop}
-use Rattle.std.proofs.lemmas.{Bool.Decides.nat_tests, Fmt.decimal_nonempty, Fmt.length-decimal-le, List.length-take}
-use Rattle.std.proofs.lemmas.{Bool.and_from, Bool.and_parts, Bool.not-true, List.get_or_at, List.take_at}
-use Rattle.std.specs.List.{before_first, flat_map, list_all, position_or_len, suffix_len}
-use Rattle.std.specs.{Char.is_ascii_digit, Prelude.decimal, Prelude.int_lt, Prelude.pos, Prelude.unsigned_abs}
-use Rattle.{qm_dec.proofs.Texts.decimal_digits, qm_obj.proofs.Groups.logical_step, qm_obj.proofs.ListLemmas.passes_at}
-use Rattle.{def_text.specs.Types.Words, def_text.specs.Words.is_blank, std.proofs.lemmas.List.take_all}
-use Rattle.{def_text.specs.Words.words, std.proofs.Common.ℤ}
+use Rattle.def_text.specs.{Words.is_blank, Words.words, Types.Words}
+use Rattle.qm_dec.proofs.ReadBack.{decimal_digits}
+use Rattle.qm_obj.proofs.{Groups.logical_step, TailLemmas.passes_at}
 
 -- The bytes of words: from the minus to the digits.
 abbrev pub is_plain : ℕ → Bool

@@ -38,7 +38,7 @@ pub fn read_obj(alloc: Global, lines: &Lines, first: u32, after: u32) -> Result<
 }
 
 /// Takes the next logical line, and answers the first physical line that is not joined to it.
-#[tactic(auto, using(crate::proofs::Ranges::single_span))]
+#[tactic(auto, using(crate::proofs::Groups::single_span))]
 fn take_logical(alloc: Global, reader: &mut Reader, rest: &Rest) -> Result<u32, ObjFail>
     ensures next { let ahead = slice_range (lines_of rest.now.lines.now) rest.now.first rest.now.after in
         IfOk result (λ next. next ≡ rest.now.first + span ahead) }

@@ -12,7 +12,7 @@ use def_text::{MAX_V_LINES, Micro, Soup};
 use std::alloc::Global;
 
 /// The line of the first face that names a `v` line above the last.
-#[tactic(auto, using(crate::proofs::UsedLemmas::late_more))]
+#[tactic(auto, using(crate::proofs::SoupLemmas::late_more))]
 pub(crate) fn late_line(vertices: u32, faces: &[[u32; 4]], lines: &[u32]) -> Option<u32>
     requires { length lines.now ≡ length faces.now }
     ensures { result ≡ first_late vertices faces.now lines.now }

@@ -1,11 +1,9 @@
 -- Searches in tables of starts.
 use Rattle.std.proofs.Common.{◌≡◌, ◌⊎◌, ℕ, zero, suc, ◌+◌, ◌-◌, ◌<◌, ◌≤◌, List, length, ◌∙◌, ap, inl, inr, arith}
 use Rattle.std.proofs.lemmas.Bool.{cases_eq, cases_lt, cond-true, lt-ltb}
-use Rattle.std.specs.Prelude.{nat_lt, slice_index}
-use Rattle.def_math.specs.{Counts.count_below, Runs.run_at}
-use Rattle.def_remesh.specs.Numberings.{AreRunStarts}
-use Rattle.sum_laws.proofs.Counts.{count_below_same}
-use Rattle.written_laws.proofs.Runs.{count_rises, run_from, run_to, run_last}
+use Rattle.written_laws.proofs.Spacings.{count_rises, run_from, run_to, run_last}
+use Rattle.{std.specs.Prelude.nat_lt, std.specs.Prelude.slice_index, def_math.specs.Counts.count_below}
+use Rattle.{def_math.specs.Runs.run_at, def_remesh.specs.Numberings.AreRunStarts, sum_laws.proofs.Sums.count_below_same}
 
 -- The run that begins at or before a place, and ends behind it, holds it.
 pub spot_between : (f : ℕ → ℕ) (n t k : ℕ) → k < n → (k ≡ 0) ⊎ (count_below f k ≤ t) → (k + 1 ≡ n)

@@ -1,16 +1,13 @@
 -- What the layout of a mesh gives.
 use Rattle.std.proofs.Common.{◌≡◌, ℕ, zero, suc, ◌<◌, true, false, List, length, get_or, refl, sym, ap, subst, arith}
 use Rattle.std.proofs.lemmas.List.{get_or_default}
-use Rattle.std.specs.List.{All}
-use Rattle.def_math.specs.Counts.{count_below}
 use Rattle.def_layout.specs.{Surfaces.HasWholeSides, Gluings.Way, Gluings.south, Gluings.east, Gluings.north}
 use Rattle.def_layout.specs.{Gluings.west, Lengths.Lengths, Lengths.size, Layouts.Layout, Layouts.gluing_of}
-use Rattle.def_layout.specs.{Layouts.way_number}
-use Rattle.def_layout.specs.{Layouts.side_at, declared.tmesh.SideArc.SideArc}
+use Rattle.def_layout.specs.{Layouts.way_number, Layouts.side_at, declared.tmesh.SideArc.SideArc}
 use Rattle.def_remesh.specs.Numberings.{sizes_on, used_at}
 use Rattle.def_layoutnet.specs.MeshLayouts.{IsSomeLayout}
-use Rattle.def_known.specs.Sides.{AreSides}
-pub use Rattle.embedding_laws.proofs.MeshLayouts.{laid_of, lengths_of, lies}
+use Rattle.{std.specs.List.All, def_math.specs.Counts.count_below, def_known.specs.Sides.AreSides}
+pub use Rattle.embedding_laws.proofs.Bounds.{laid_of, lengths_of, lies}
 
 -- The arcs that sides use.
 pub arcs_low : (layout : Layout) → HasWholeSides (gluing_of layout)

@@ -1,11 +1,111 @@
--- A sink that failed and took a prefix.
-use Rattle.std.proofs.Common.{◌≡◌, ℕ, [], ◌++◌, Result, Ok, Err, length, take, drop, sym, ap, ◌∙◌, subst}
-use Rattle.std.proofs.Math.Seq.{take-append_seam}
-use Rattle.std.proofs.lemmas.List.{append-nil, take-append-drop}
-use Rattle.std.specs.Prelude.{OnErr}
+-- A text that is put item by item and stops at one of them.
+use Rattle.std.proofs.Common.{◌≡◌, ℕ, suc, ◌+◌, ◌<◌, map, arith, List, [], ◌∷◌, ◌++◌, length, take, drop, get_or, sym}
+use Rattle.std.proofs.Common.{◌∙◌, ap, subst, append_assoc, ◌-◌, ◌≤◌, ◌⊎◌, true, slice_index, eqb, inl, inr}
+use Rattle.std.proofs.Common.{length-drop, length-take, Result, Ok, Err}
+use Rattle.std.proofs.lemmas.List.{append-nil, take-append-drop, drop-drop, drop_all}
+use Rattle.std.proofs.lemmas.List.FromFn.{get_or-map-range_with_len, length-map-range_with_len, map-range_with_len_more}
+use Rattle.std.proofs.lemmas.List.FromFn.{take-map-range_with_len}
+use Rattle.std.proofs.{Math.Seq.drop-cons, Math.Seq.take-append_seam, lemmas.Grind.flat_map-append}
+use Rattle.std.proofs.{lemmas.List.Concat.flat_map-cons, lemmas.Bool.cases_lt, lemmas.Bool.eq-eqb, lemmas.Bool.eqb-true}
+use Rattle.std.specs.{List.flat_map, List.range_with_len, Prelude.OnErr}
 use Rattle.def_io.specs.{Bytes.Bytes, Bytes.Told, Faults.Rose, Moves.took, Moves.TookPrefix}
-use Rattle.def_output.specs.Buffered.{buffered, Buffered, BrokeOff, PassedOn}
+use Rattle.def_output.specs.{Compared.Differs, Compared.LacksFirst, Buffered.buffered, Buffered.Buffered}
+use Rattle.def_output.specs.{Buffered.BrokeOff, Buffered.PassedOn}
 use Rattle.qm_output.specs.Laws.{broke_later, passed_more}
+
+-- The texts of items are those up to one, that one's, and those behind it.
+items_apart : {X : Type 0} (f : X → List ℕ) (xs : List X) (i : ℕ) (d : X) → i < length xs
+    → (flat_map f (take i xs) ++ f (get_or xs i d)) ++ flat_map f (drop (suc i) xs) ≡ flat_map f xs
+items_apart f xs i d low = append_assoc (flat_map f (take i xs)) (f (get_or xs i d)) (flat_map f (drop (suc i) xs)) ∙ ap
+    (λ (ys : List ℕ). flat_map f (take i xs) ++ ys) (sym (flat_map-cons f (get_or xs i d) (drop (suc i) xs))) ∙ sym
+    (flat_map-append f (take i xs) (get_or xs i d ∷ drop (suc i) xs)) ∙ ap (λ ys. flat_map f (take i xs ++ ys))
+    (sym (drop-cons xs i d low)) ∙ ap (flat_map f) (take-append-drop i xs)
+
+-- What stops at one item stops within the text of all.
+pub stops_at_item : {T X : Type 0} (takes stops : T → T → List ℕ → Type 0)
+    → ((a b c : T) (s t : List ℕ) → takes a b s → stops b c t → stops a c (s ++ t))
+    → ((a b : T) (s t : List ℕ) → stops a b s → stops a b (s ++ t))
+    → (f : X → List ℕ) (xs : List X) (i : ℕ) (d : X) (a b c : T) → i < length xs
+    → takes a b (flat_map f (take i xs)) → stops b c (f (get_or xs i d)) → stops a c (flat_map f xs)
+stops_at_item takes stops later before f xs i d a b c low took stopped = subst (stops a c) (items_apart f xs i d low)
+    (before a c _ (flat_map f (drop (suc i) xs)) (later a b c _ _ took stopped))
+
+-- The same of items that are told by their numbers.
+pub stops_at_number : {T X : Type 0} (takes stops : T → T → List ℕ → Type 0)
+    → ((a b c : T) (s t : List ℕ) → takes a b s → stops b c t → stops a c (s ++ t))
+    → ((a b : T) (s t : List ℕ) → stops a b s → stops a b (s ++ t))
+    → (f : X → List ℕ) (item : ℕ → X) (n i : ℕ) (a b c : T) → i < n
+    → takes a b (flat_map f (map item (range_with_len 0 i))) → stops b c (f (item i))
+    → stops a c (flat_map f (map item (range_with_len 0 n)))
+stops_at_number takes stops later before f item n i a b c low took stopped =
+    stops_at_item takes stops later before f (map item (range_with_len 0 n)) i (item i) a b c
+    (subst (λ (m : ℕ). i < m) (sym (length-map-range_with_len item 0 n)) low)
+    (subst (λ xs. takes a b (flat_map f xs)) (sym (take-map-range_with_len item 0 n i (omega (arith, low)))) took)
+    (subst (λ x. stops b c (f x)) (sym (get_or-map-range_with_len item 0 n i i (item i) low (omega arith))) stopped)
+
+-- One more of them is put.
+pub takes_number : {T X : Type 0} (takes : T → T → List ℕ → Type 0)
+    → ((a b c : T) (s t : List ℕ) → takes a b s → takes b c t → takes a c (s ++ t))
+    → (f : X → List ℕ) (item : ℕ → X) (i : ℕ) (a b c : T)
+    → takes a b (flat_map f (map item (range_with_len 0 i))) → takes b c (f (item i))
+    → takes a c (flat_map f (map item (range_with_len 0 (i + 1))))
+takes_number takes more f item i a b c took next = subst (takes a c) (sym grown) (more a b c _ _ took next)
+  where
+    grown : flat_map f (map item (range_with_len 0 (i + 1))) ≡ flat_map f (map item (range_with_len 0 i)) ++ f (item i)
+    grown =
+        ap (flat_map f) (map-range_with_len_more item 0 i i (omega arith))
+        ∙ flat_map-append f (map item (range_with_len 0 i)) (item i ∷ [])
+        ∙ ap (λ (xs : List ℕ). flat_map f (map item (range_with_len 0 i)) ++ xs) (append-nil (f (item i)))
+
+-- Places at which texts differ.
+
+-- Nothing is left exactly at the end.
+pub nothing_left : (given : Bytes) (at : ℕ) → at ≤ length given
+    → (eqb at (length given) ≡ true → drop at given ≡ []) × (drop at given ≡ [] → eqb at (length given) ≡ true)
+nothing_left given at within = (
+  λ met. let e : at ≡ length given = eqb-true at (length given) met in drop_all at given (omega (arith, e)),
+  λ none. let e : length (drop at given) ≡ 0 = ap length none in
+      eq-eqb at (length given) (omega (arith, e, length-drop at given, within)),
+)
+
+-- A text that is alike up to a place, at which the given bytes end or have another byte.
+differs_at : (given piece : Bytes) (at n : ℕ) → n ≤ length (drop at given) → take n (drop at given) ≡ take n piece
+    → (n < length (drop at given) → n < length piece → ¬ (slice_index (drop at given) n ≡ slice_index piece n))
+    → n < length piece
+    → Differs (record { at = at; rest = drop at given }) (record { at = at + n; rest = drop (at + n) given }) piece
+differs_at given piece at n fits same most inside = record {
+  prefix = take n piece;
+  byte = get_or piece n 0;
+  more = drop (suc n) piece;
+  said = sym (take-append-drop n piece) ∙ ap (λ (xs : Bytes). take n piece ++ xs) (drop-cons piece n 0 inside);
+  alike = sym (take-append-drop n (drop at given)) ∙ ap (λ (xs : Bytes). xs ++ drop n (drop at given)) same ∙ ap
+      (λ (xs : Bytes). take n piece ++ xs) (drop-drop n at given);
+  lacks = subst (LacksFirst (get_or piece n 0)) (drop-drop n at given) (by_end (cases_lt n (length (drop at given))));
+  counted = let e : length (take n piece) ≡ n = length_take in omega (arith, e);
+}
+  where
+    length_take : length (take n piece) ≡ n
+    length_take = omega (arith, length-take n piece, inside)
+
+    by_end : (n < length (drop at given)) ⊎ (length (drop at given) ≤ n)
+        → LacksFirst (get_or piece n 0) (drop n (drop at given))
+    by_end (inl more) = subst (LacksFirst (get_or piece n 0)) (sym (drop-cons (drop at given) n 0 more))
+        (λ same. most more inside (sym same))
+    by_end (inr over) = subst (LacksFirst (get_or piece n 0)) (sym (drop_all n (drop at given) over)) tt
+
+-- The same of the rest by another name.
+pub differs_behind : (given piece rest : Bytes) (at n : ℕ) → rest ≡ drop at given → n ≤ length rest
+    → take n rest ≡ take n piece
+    → (n < length rest → n < length piece → ¬ (slice_index rest n ≡ slice_index piece n)) → n < length piece
+    → Differs (record { at = at; rest = drop at given }) (record { at = at + n; rest = drop (at + n) given }) piece
+differs_behind given piece rest at n is fits same most inside =
+    differs_at given piece at n
+    (subst (λ (xs : Bytes). n ≤ length xs) is fits)
+    (subst (λ (xs : Bytes). take n xs ≡ take n piece) is same)
+    (subst (λ (xs : Bytes). n < length xs → n < length piece → ¬ (slice_index xs n ≡ slice_index piece n)) is most)
+    inside
+
+-- A sink that failed and took a prefix.
 
 -- What holds anyway holds of an error.
 pub of_error : {T E P : Type 0} (result : Result T E) → P → OnErr result P

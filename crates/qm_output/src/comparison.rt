@@ -43,7 +43,7 @@ impl<'a> Comparison<'a> {
     }
 
     /// Whether all given bytes were met.
-    #[tactic(auto, using(crate::proofs::Places::nothing_left))]
+    #[tactic(auto, using(crate::proofs::Prefixes::nothing_left))]
     pub fn is_over(&self) -> bool
         ensures { result ≡ true ↔ self.now.rest ≡ [] }
     {
@@ -74,7 +74,7 @@ impl Output for Comparison<'_> {
 
     ghost stops = { Differs };
 
-    #[tactic(auto, using(crate::proofs::Places::differs_behind, std::proofs::lemmas::List::take_rest))]
+    #[tactic(auto, using(crate::proofs::Prefixes::differs_behind, std::proofs::lemmas::List::take_rest))]
     fn put(&mut self, piece: &[u8]) -> Result<(), Stopped> {
         let rest = &self.given[self.at..];
         let count = count_alike(rest, piece);

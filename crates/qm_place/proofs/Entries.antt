@@ -1,21 +1,16 @@
 -- What is read of the tables and of the layout.
 use Rattle.std.proofs.Common.{◌≡◌, ℕ, zero, suc, ◌+◌, ◌-◌, ◌*◌, ◌<◌, ◌≤◌, List, [], length, get_or, sym, ◌∙◌, ap, arith}
 use Rattle.std.proofs.Common.{◌^◌}
-use Rattle.std.proofs.lemmas.List.{get_or_read, get_or-map, length-map}
-use Rattle.std.proofs.lemmas.Nat.{mul-le}
-use Rattle.std.specs.Prelude.{slice_index}
+use Rattle.std.proofs.{lemmas.List.get_or_read, lemmas.List.get_or-map, lemmas.List.length-map, lemmas.Nat.mul-le}
 use Rattle.def_cut.specs.{Grids.Rectangle, Grids.cell_of, Grids.patch_at, Grids.rectangle, declared.patch.Patch.Patch}
-use Rattle.def_layout.specs.Arcs.{Path, dart_at, long_at, path}
-use Rattle.def_layout.specs.{Layouts.Layout, Layouts.gluing_of, Layouts.layout_of, Gluings.west, Lengths.wide}
-use Rattle.def_layout.specs.{Lengths.high}
-use Rattle.def_layout.specs.{declared.tmesh.TArc.TArc, declared.tmesh.TMesh.TMesh}
-use Rattle.def_written.specs.Numbers.{before_patch}
+use Rattle.def_layout.specs.{Arcs.Path, Arcs.dart_at, Arcs.long_at, Arcs.path, Layouts.Layout, Layouts.gluing_of}
+use Rattle.def_layout.specs.{Layouts.layout_of, Gluings.west, Lengths.wide, Lengths.high, declared.tmesh.TArc.TArc}
+use Rattle.def_layout.specs.{declared.tmesh.TMesh.TMesh}
 use Rattle.def_remesh.specs.{Placings.rim_at, Placings.spacing_in, Placings.IsRim, NewPoints.lengths_in}
 use Rattle.def_remesh.specs.{Numberings.AreRunStarts, declared.places.PlaceTables.PlaceTables, declared.places.Rim.Rim}
-use Rattle.def_math.specs.Counts.{count_below}
-use Rattle.qm_offsets.proofs.Spots.{last_is}
-use Rattle.qm_place.proofs.Rims.{old_read}
 use Rattle.qm_place.specs.{Placed.ArePlaced, Spots.HasRoom}
+use Rattle.{std.specs.Prelude.slice_index, def_written.specs.Numbers.before_patch, def_math.specs.Counts.count_below}
+use Rattle.{qm_offsets.proofs.Spots.last_is, qm_place.proofs.Rims.old_read}
 
 -- Where a run begins.
 pub start_read : {f : ℕ → ℕ} {n : ℕ} {k v : ℕ} {starts : List ℕ} → AreRunStarts f n starts → k < n → v

@@ -1,9 +1,4 @@
-mod ArcPoints
-mod Betweens
-mod Built
 mod Casts
 mod Entries
-mod Found
-mod Paths
 mod Pushes
 mod Rims

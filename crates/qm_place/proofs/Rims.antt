@@ -1,26 +1,144 @@
--- The parameters of all sides, as they are put one after the other.
-use Rattle.std.proofs.Common.{◌≡◌, ℕ, ◌+◌, ◌-◌, ◌^◌, ◌<◌, ◌≤◌, Bool, true, false, cond, List, [], length, get_or, refl}
-use Rattle.std.proofs.Common.{sym, ◌∙◌, ap, arith}
-use Rattle.std.proofs.lemmas.List.{get_or_default, get_or-map, length-map}
-use Rattle.std.specs.Prelude.{nat_le}
-use Rattle.def_cut.specs.Grids.{rectangle}
-use Rattle.def_layout.specs.Gluings.{Way, south, east, north, west, Gluing, IsSlot}
+-- New vertices lie between the old ones.
+use Rattle.std.proofs.Common.{◌≡◌, ℕ, zero, suc, ◌<◌, List, length, Option, refl, sym, ap, subst, arith, ◌+◌, ◌-◌, ◌*◌}
+use Rattle.std.proofs.Common.{◌/◌, ◌≤◌, false, ◌∙◌, inl, inr, mul-add, ◌^◌, Bool, true, cond, [], get_or, ◌%◌, Some}
+use Rattle.std.proofs.lemmas.Bool.{cases_eq, cond-true, cond-false, lt-ltb, le-ltb, ne_eqb, cond_both}
+use Rattle.std.proofs.lemmas.List.{get_or_default, get_or-map, length-map, get_or_read}
+use Rattle.std.proofs.lemmas.Nat.{mul-le}
+use Rattle.std.specs.Prelude.{◌≤ℤ◌, nat_lt, ◌==◌, nat_le, slice_index}
+use Rattle.def_mesh.specs.{Faces.Faces, Vertices.vertex_count}
 use Rattle.def_layout.specs.Layouts.{Layout, gluing_of, way_number, layout_of, side_at}
-use Rattle.def_layout.specs.{Arcs.Path, Arcs.long_at, Arcs.path, Lengths.Lengths, Lengths.reach, Lengths.size}
-use Rattle.def_layout.specs.Lengths.{AreLengths}
-use Rattle.def_layout.specs.{declared.tmesh.SideArc.SideArc, declared.tmesh.TArc.TArc, declared.tmesh.TMesh.TMesh}
-use Rattle.def_layoutnet.specs.MeshLayouts.{IsSomeLayout}
-use Rattle.def_written.specs.{NewFaces.face_count, Places.ArcSpacing}
-use Rattle.def_remesh.specs.Placings.{parameters_from, side_parameter, AreParameters, IsRim}
-use Rattle.def_remesh.specs.{NewPoints.lengths_in, declared.limits.TheConstants.MAX_NEW_FACES}
-use Rattle.def_remesh.specs.declared.places.Rim.{Rim}
+use Rattle.def_layout.specs.Gluings.{Way, south, east, north, west, Gluing, IsSlot}
+use Rattle.def_layout.specs.{Arcs.long_at, Arcs.path_at, Arcs.Path, Arcs.path, Arcs.dart_at, Lengths.Lengths}
+use Rattle.def_layout.specs.{Lengths.AreLengths, Lengths.reach, Lengths.size, declared.tmesh.SideArc.SideArc}
+use Rattle.def_layout.specs.{declared.tmesh.TArc.TArc, declared.tmesh.TMesh.TMesh}
+use Rattle.def_written.specs.Spacings.{IsSpacing, counted, inner_step, shared_step, step_parameter, Shares}
+use Rattle.def_written.specs.{Numbers.vertices, Numbers.before_arc, Places.ONE, Places.ArcSpacing, Places.Step}
+use Rattle.def_written.specs.{NewFaces.face_count}
+use Rattle.def_remesh.specs.Placings.{coordinate_in, IsMeshLayout, LiesBetween, parameters_from, side_parameter}
+use Rattle.def_remesh.specs.Placings.{AreParameters, IsRim, shares_in, IsSpaced}
+use Rattle.def_remesh.specs.{NewSoup.coordinate, NewSoup.new_coordinate, NewSoup.spaced_place, NewPoints.point_at}
+use Rattle.def_remesh.specs.{NewPoints.lengths_in, Spaced.spacing_by, Spaced.shares_along}
+use Rattle.def_remesh.specs.{declared.limits.TheConstants.MAX_NEW_FACES, declared.places.Rim.Rim}
+use Rattle.def_remesh.specs.{declared.places.Spaced.Spaced}
+use Rattle.map_laws.proofs.{Cells.is_point, OldPoints.old_low, OldPoints.spacing_is}
+use Rattle.qm_offsets.proofs.{Whole.laid_of, Whole.lengths_of, Whole.sides_of, Spots.count_step}
+use Rattle.written_laws.proofs.{Between.between_law, Spacings.count_rises, Spacings.run_to, Spacings.place_low}
+use Rattle.written_laws.proofs.{Spacings.div_less, Sides.reach_low, Sides.slot}
+use Rattle.def_math.specs.{Counts.count_below, Runs.run_at}
+use Rattle.qm_place.specs.{Paths.share_by, Pushed.on_arc, Pushed.ArePushed, Pushed.IsKept, ArcTables.AreFine}
 use Rattle.embedding_laws.proofs.Bounds.{old_faces, side_few, vertices_few}
-use Rattle.map_laws.proofs.Spaced.{spacing_is}
-use Rattle.qm_offsets.proofs.{Spots.count_step, Whole.laid_of, Whole.lengths_of, Whole.sides_of}
-use Rattle.written_laws.proofs.Sides.{reach_low, slot}
-use Rattle.qm_place.specs.{Pushed.on_arc, Pushed.ArePushed, Pushed.IsKept, ArcTables.AreFine}
 use Rattle.qm_place.proofs.Pushes.{is_back, kept_on, parameters_in, parameters_kept, pushed_join, pushed_kept}
 use Rattle.qm_place.proofs.Pushes.{slot_parameter, start_by}
+use Rattle.def_map.specs.{Spots.edge_spot, declared.spot.EdgeSpot.EdgeSpot}
+use Rattle.{def_text.specs.Types.Positions, def_cut.specs.Grids.rectangle, def_layoutnet.specs.MeshLayouts.IsSomeLayout}
+
+-- One of the three coordinates of a new vertex.
+axis_of : (faces : Faces) (layout : Layout) (places : Positions) (shares : Option (List ℕ)) (new : ℕ → ℕ) (v axis : ℕ)
+    → axis < 3 → coordinate_in (spaced_place faces layout places shares new v) axis
+    ≡ new_coordinate faces layout places shares new (point_at (gluing_of layout) new v) axis
+axis_of faces layout places shares new v zero low = refl
+axis_of faces layout places shares new v (suc zero) low = refl
+axis_of faces layout places shares new v (suc (suc zero)) low = refl
+axis_of faces layout places shares new v (suc (suc (suc axis))) low = absurd (omega arith)
+
+module _ (faces : Faces) (layout : Layout) (shares : Option (List ℕ)) (new : Lengths)
+    (laid_out : IsMeshLayout faces layout) (lengths : AreLengths (gluing_of layout) new)
+    (spaced : IsSpacing (gluing_of layout) (long_at layout.arcs) new (spacing_by layout shares new)) where
+  pub lies_between : (places : Positions) {v : ℕ} → length places ≡ vertex_count faces
+      → v < vertices (gluing_of layout) new → LiesBetween places (spaced_place faces layout places shares new v)
+  lies_between places {v} all low axis axis_low least greatest bound = subst (λ z. (least ≤ℤ z) × (z ≤ℤ greatest))
+      (sym (axis_of faces layout places shares new v axis axis_low)) (subst
+      (λ (F : Faces). (least ≤ℤ new_coordinate F layout places shares new (point_at (gluing_of layout) new v) axis)
+      × (new_coordinate F layout places shares new (point_at (gluing_of layout) new v) axis ≤ℤ greatest)) laid_out.1
+      (between_law (gluing_of layout) (long_at layout.arcs) new (spacing_by layout shares new)
+      (coordinate laid_out.0.faces layout places axis) least greatest (laid_of layout laid_out.0)
+      (lengths_of layout laid_out.0) lengths spaced
+      (λ a is. bound _ (omega (arith, old_low layout laid_out.0 a is, all, ap vertex_count laid_out.1)))
+      (point_at (gluing_of layout) new v) (is_point (gluing_of layout) new v low)))
+
+-- Walks along the old edges of an arc, and the parameters that they give.
+
+-- The run that begins at or before a place, and ends after it, is the one that is found.
+run_is : (start : ℕ → ℕ) (n t e : ℕ) → ((a b : ℕ) → a ≤ b → start a ≤ start b) → e < n → start e ≤ t
+    → t < start (suc e) → run_at start n t ≡ e
+run_is start zero t e rises low from to = absurd (omega arith)
+run_is start (suc n) t e rises low from to = elim (cases_eq e n) [
+  | inl same ↦
+      cond-false (nat_lt t (start n)) _ _ (le-ltb t (start n) (subst (λ (k : ℕ). start k ≤ t) same from)) ∙ sym same
+  | inr ne ↦ cond-true (nat_lt t (start n)) _ _ (lt-ltb t (start n)
+      (omega (arith, to, rises (suc e) n (omega arith)))) ∙ run_is start n t e rises (omega arith) from to
+]
+
+module _ (share : ℕ → ℕ) (m n k : ℕ) (all : ℕ) (whole : all ≡ count_below share m) (some : 0 < all) (less : k < n)
+    (e before : ℕ) (low : e < m) (before_is : before ≡ count_below share e) where
+  -- The shares up to the end of an old edge.
+  pub next_is : before + share e ≡ count_below share (e + 1)
+  next_is = let one : e + 1 ≡ suc e = omega arith in omega (arith, ap (count_below share) one)
+
+  -- A walk does not go on behind the last edge.
+  pub next_low : n * (before + share e) ≤ k * all → e + 1 < m
+  next_low le = elim (cases_eq (e + 1) m) [
+    | inr ne ↦ omega (arith, ne, low)
+    | inl last ↦
+        let same : before + share e ≡ all = next_is ∙ ap (count_below share) last ∙ sym whole in
+        let product : n * (before + share e) ≡ n * all = ap (λ z. n * z) same in
+        let more : (k + 1) * all ≤ n * all = mul-le (k + 1) all n all (omega arith) (omega arith) in
+        absurd (omega (arith, product, more, le, some))
+  ]
+
+  -- Where it stops is the edge of the place.
+  pub edge_is : n * before ≤ k * all → k * all < n * (before + share e) → e ≡ (inner_step share m n k).edge
+  edge_is from to = sym (run_is (λ i. n * count_below share i) m (k * count_below share m) e
+      (λ a b le. mul-le n (count_below share a) n (count_below share b) (omega arith) (count_rises share a b le)) low
+      (subst (λ z. n * z ≤ k * count_below share m) before_is (subst (λ z. n * before ≤ k * z) whole from))
+      (subst (λ z. k * count_below share m < n * z) next (subst (λ z. k * z < n * (before + share e)) whole to)))
+    where
+      next : before + share e ≡ count_below share (suc e)
+      next = omega (arith, before_is)
+
+  -- The rest of a place in its edge is less than its share.
+  pub rest_low : n * before ≤ k * all → e ≡ (inner_step share m n k).edge → k * all - n * before < n * share e
+  rest_low from same = omega (arith, to, sum, from)
+    where
+      start : ℕ → ℕ
+      start i = n * count_below share i
+
+      less_all : k * count_below share m < n * count_below share m
+      less_all =
+          let more : (k + 1) * count_below share m ≤ n * count_below share m =
+          mul-le _ _ n _ (omega arith) (omega arith) in
+          omega arith
+
+      to : k * all < n * count_below share (suc e)
+      to = subst (λ i. k * all < n * count_below share (suc i)) (sym same)
+          (subst (λ z. k * z < n * count_below share (suc (inner_step share m n k).edge)) (sym whole)
+          (run_to (λ i. n * count_below share i) m _ (omega arith) less_all))
+
+      sum : n * count_below share (suc e) ≡ n * before + n * share e
+      sum = mul-add n _ (share e) ∙ ap (λ z. n * z + n * share e) (sym before_is)
+
+  -- As a part of its share it is a part of a parameter.
+  pub part_low : n * before ≤ k * all → e ≡ (inner_step share m n k).edge
+      → ONE * (k * all - n * before) / (n * share e) < ONE
+  part_low from same = div_less (ONE * (k * all - n * before)) ONE (n * share e) (omega (arith, rest_low from same))
+      (omega (arith, rest_low from same))
+
+-- The parameter of an inner point of an arc of a layout is that of the path of its darts.
+pub arc_parameter : (layout : Layout) (new : Lengths) (shares : List ℕ) (arc : ℕ) {k : ℕ} {darts : List ℕ}
+    → darts ≡ (path_at layout.arcs arc).darts → 0 < k → k < new arc
+    → step_parameter (inner_step (counted (share_by darts shares false) (length darts)) (length darts) (new arc)
+    (k - 1 + 1)) ≡ step_parameter (shared_step (long_at layout.arcs) new (shares_along layout shares) arc k)
+arc_parameter layout new shares arc {k} same some less =
+    let place : k - 1 + 1 ≡ k = omega arith in
+    (λ i. step_parameter (inner_step (counted (share_by (same i) shares false) (length (same i))) (length (same i))
+    (new arc) (place i))) ∙ ap step_parameter (sym inside)
+  where
+    inside : shared_step (long_at layout.arcs) new (shares_along layout shares) arc k ≡ inner_step
+        (counted (shares_along layout shares arc) (long_at layout.arcs arc)) (long_at layout.arcs arc) (new arc) k
+    inside = cond-false (k == 0) _ _ (ne_eqb k 0 (λ e. omega arith)) ∙ cond-false (k == new arc)
+        _ _ (ne_eqb k (new arc) (λ e. omega arith))
+
+-- The parameters of all sides, as they are put one after the other.
 
 -- Sides are short.
 pub old_few : {layout : Layout} → IsSomeLayout layout → {p : ℕ} (s : Way) → p < length layout.patches
@@ -188,3 +306,80 @@ pub rim_kept : {layout : Layout} {new : Lengths} {spacing : ArcSpacing} {p : ℕ
     → IsKept a b → IsRim layout new spacing p rim a → IsRim layout new spacing p rim b
 rim_kept {layout} {new} {spacing} {p} {a} {b} kept is =
     record { wide = is.wide; high = is.high; sides = λ s. parameters_kept kept (is.sides s) }
+
+-- The points of arcs by shares, as their table tells them.
+
+-- An arc that is read is short.
+pub read_short : (t : TMesh) {list : List ℕ} {a : ℕ} {arc : TArc} → AreFine (layout_of t) list
+    → a < length t.arcs.items → arc ≡ get_or t.arcs.items a arc → length arc.darts.items ≤ 2 ^ 21
+read_short t {a = a} fine low read =
+    omega (arith, old_read t low read, fine.old_short a (omega (arith, low, length-map t.arcs.items path)))
+
+-- Inner points of arcs are few.
+pub points_few : {layout : Layout} {list : List ℕ} → AreFine layout list → {arc place : ℕ} → arc < length layout.arcs
+    → place < lengths_in list arc - 1 → before_arc (lengths_in list) arc + place < 2 ^ 23
+points_few {layout} {list} fine {arc} {place} low less =
+    omega (arith, place_low (λ b. lengths_in list b - 1) (length layout.arcs) arc place low less)
+
+module _ (layout : Layout) (new : Lengths) (o : Option Spaced) (told : IsSpaced layout new o) (spaced : Spaced)
+    (is : o ≡ Some spaced) (arc k : ℕ) (low : arc < length layout.arcs) (some : 0 < k) (less : k < new arc) where
+  pub inner_low : before_arc new arc + k - 1 < length spaced.parameters.items
+  inner_low = omega (
+    arith,
+    (told spaced is).long,
+    place_low (λ b. new b - 1) (length layout.arcs) arc (k - 1) low (omega (arith, some, less)),
+  )
+
+  inner_value : slice_index spaced.parameters.items (before_arc new arc + k - 1)
+      ≡ (spacing_by layout (shares_in o) new).parameter_of arc true k
+  inner_value = (told spaced is).each arc k low some less
+      ∙ ap (λ (p : Option Spaced). (spacing_by layout (shares_in p) new).parameter_of arc true k) (sym is)
+
+  -- What is read there.
+  pub read_inner : {index read : ℕ} → index ≡ before_arc new arc + k - 1 → read
+      ≡ get_or spaced.parameters.items index read → read ≡ (spacing_by layout (shares_in o) new).parameter_of arc true k
+  read_inner {index} {read} place same = get_or_read _ index read
+      (omega (arith, place, inner_low)) same 0 ∙ ap (slice_index spaced.parameters.items) place ∙ inner_value
+
+-- The parts of a step by shares are those of a parameter.
+parts_are : (old new : Lengths) (shares : Shares) (arc k : ℕ) → (shared_step old new shares arc k).parts ≡ ONE
+parts_are old new shares arc k = cond_both (k == 0) _ _ (λ (s : Step). s.parts ≡ ONE) (λ e. refl)
+    (λ e. cond_both (k == new arc) _ _ (λ (s : Step). s.parts ≡ ONE) (λ f. refl) (λ f. refl))
+
+-- A parameter tells its step.
+edge_told : (step : Step) → step.some < ONE → step_parameter step / ONE ≡ step.edge
+edge_told step less = omega arith
+
+some_told : (step : Step) → step.some < ONE → step_parameter step % ONE ≡ step.some
+some_told step less = omega arith
+
+-- Where a point of an arc lies, by its parameter.
+pub spot_told : (layout : Layout) {new : Lengths} {o : Option Spaced} (spaced : Spaced) → o ≡ Some spaced
+    → IsSpacing (gluing_of layout) (long_at layout.arcs) new (spacing_by layout (shares_in o) new)
+    → {arc k parameter : ℕ} → arc < length layout.arcs → k < new arc → parameter
+    ≡ (spacing_by layout (shares_in o) new).parameter_of arc true k → {spot : EdgeSpot} → spot
+    ≡ record { dart = dart_at layout.arcs arc (parameter / ONE); some = parameter % ONE; parts = ONE } → spot
+    ≡ edge_spot layout (spacing_by layout (shares_in o) new) arc k
+spot_told layout {new} spaced is spacing {arc} {k} {parameter} low less told spot_is =
+    spot_is ∙ (λ i. record {
+      dart = dart_at layout.arcs arc ((ap (λ n. n / ONE) here ∙ edge_told step some) i);
+      some = (ap (λ n. n % ONE) here ∙ some_told step some) i;
+      parts = sym parts i;
+    })
+    ∙ ap (λ (p : Option Spaced). edge_spot layout (spacing_by layout (shares_in p) new) arc k) (sym is)
+  where
+    step : Step
+    step = shared_step (long_at layout.arcs) new (shares_along layout spaced.shares) arc k
+
+    parts : (shared_step (long_at layout.arcs) new (shares_along layout spaced.shares) arc k).parts ≡ ONE
+    parts = parts_are (long_at layout.arcs) new (shares_along layout spaced.shares) arc k
+
+    spacing_here : IsSpacing (gluing_of layout) (long_at layout.arcs) new (spacing_by layout (Some spaced.shares) new)
+    spacing_here = subst (λ (p : Option Spaced). IsSpacing (gluing_of layout) (long_at layout.arcs) new
+        (spacing_by layout (shares_in p) new)) is spacing
+
+    some : (shared_step (long_at layout.arcs) new (shares_along layout spaced.shares) arc k).some < ONE
+    some = omega (arith, spacing_here.parts arc k low less, parts)
+
+    here : parameter ≡ step_parameter (shared_step (long_at layout.arcs) new (shares_along layout spaced.shares) arc k)
+    here = told ∙ ap (λ (p : Option Spaced). (spacing_by layout (shares_in p) new).parameter_of arc true k) is

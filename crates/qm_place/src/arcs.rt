@@ -14,7 +14,7 @@ use def_mesh::MAX_FACES;
 use def_remesh::Spaced;
 
 /// The parameter of place k of an arc, counted from its beginning, forward, or from its end.
-#[tactic(auto, using(crate::proofs::ArcPoints::read_short))]
+#[tactic(auto, using(crate::proofs::Rims::read_short))]
 pub(crate) fn parameter_of(places: &ArcPlaces, used: SideArc, k: u32) -> u64
     requires arc { used.arc < length places.now.t.now.arcs.items }
     requires place { k ≤ lengths_in places.now.lengths.now used.arc }
@@ -37,7 +37,7 @@ pub(crate) fn parameter_of(places: &ArcPlaces, used: SideArc, k: u32) -> u64
 }
 
 /// The parameter of place k of an arc, from its beginning, by shares.
-#[tactic(auto, using(crate::proofs::ArcPoints::read_short))]
+#[tactic(auto, using(crate::proofs::Rims::read_short))]
 fn shared_part(places: &ArcPlaces, spaced: &Spaced, arc: usize, k: u32) -> u64
     requires spaced { places.now.spaced.now ≡ Some spaced.now }
     requires arc { arc < length places.now.t.now.arcs.items }

@@ -29,7 +29,7 @@ impl Near {
 
 impl Placed<'_> {
     /// Where the new vertex v lies in the old mesh. In constant time where it is near the last one, else logarithmic.
-    #[tactic(auto, using(crate::proofs::Found::found_at, std::proofs::lemmas::List::get_or_read))]
+    #[tactic(auto, using(crate::proofs::Casts::found_at, std::proofs::lemmas::List::get_or_read))]
     pub fn spot_near(&self, v: u32, near: &mut Near) -> Spot
         requires vertex { v < vertices (gluing_of (layout_of self.now.t.now))
             (lengths_in self.now.tables.now.lengths.items) }

@@ -1,14 +1,11 @@
 -- What taking, giving and writing a node do to the identities that are not live.
-use Rattle.std.proofs.Common.{◌≡◌, ◌≢◌, ℕ, ◌+◌, ◌-◌, ◌*◌, ◌<◌, ◌≤◌}
-use Rattle.std.proofs.Common.{◌^◌, ◌⊎◌, List, length, get_or, cond, count_by}
-use Rattle.std.proofs.Common.{is_some, Option, Some, None, sym, ◌∙◌, ap}
-use Rattle.std.proofs.Common.{subst, inl, inr, replicate, length-set}
-use Rattle.std.proofs.{Common.get_or-set_same, Common.get_or-set_other, Common.arith, Math.ListN.set}
-use Rattle.std.proofs.{lemmas.Bool.cases_eq, lemmas.List.get_or-replicate, lemmas.List.length-replicate}
-use Rattle.std.proofs.{lemmas.List.Sums.sum_by-set, lemmas.List.Folds.sum_by-replicate, lemmas.Option.slice_get_within}
-use Rattle.std.proofs.lemmas.Option.{get_or_from_slice_get, slice_get-get_or}
-use Rattle.std.specs.Prelude.{slice_get}
-use Rattle.qm_pool.specs.{Free.AreFree, declared.pool.Node.Node}
+use Rattle.std.proofs.Common.{◌≡◌, ◌≢◌, ℕ, ◌+◌, ◌-◌, ◌*◌, ◌<◌, ◌≤◌, ◌^◌, ◌⊎◌, List, length, get_or, cond, count_by}
+use Rattle.std.proofs.Common.{is_some, Option, Some, None, sym, ◌∙◌, ap, subst, inl, inr, replicate, length-set}
+use Rattle.std.proofs.Common.{get_or-set_same, get_or-set_other, arith}
+use Rattle.std.proofs.lemmas.Option.{slice_get_within, get_or_from_slice_get, slice_get-get_or}
+use Rattle.std.proofs.{Math.ListN.set, lemmas.Bool.cases_eq, lemmas.List.get_or-replicate, lemmas.List.length-replicate}
+use Rattle.std.proofs.{lemmas.List.Sums.sum_by-set, lemmas.List.Folds.sum_by-replicate}
+use Rattle.{std.specs.Prelude.slice_get, qm_pool.specs.Free.AreFree, qm_pool.specs.declared.pool.Node.Node}
 
 -- 1 for a node, 0 for none.
 abbrev number_of : Option Node → ℕ

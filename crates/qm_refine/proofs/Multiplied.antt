@@ -1,25 +1,20 @@
 -- Multiples of the old lengths as lengths of a layout.
-use Rattle.std.proofs.Common.{◌≡◌, ℕ, ◌*◌, ◌^◌, ◌<◌, ◌≤◌, ◌⊎◌, List}
-use Rattle.std.proofs.Common.{[], ◌∷◌, length, map, get_or, inl, inr}
-use Rattle.std.proofs.{Common.refl, Common.ap, Common.◌∙◌, Common.arith, lemmas.Bool.cases_lt}
-use Rattle.std.proofs.{Math.ListN.get_or-eq_default, Math.ListN.get_or-map, Math.Nat.mul-le-mul_right}
-use Rattle.std.specs.List.{All}
-use Rattle.std.proofs.lemmas.List as lists
-use Rattle.def_cut.specs.{Cuts.IsCut, FullCut.is_on}
+use Rattle.std.proofs.Common.{◌≡◌, ℕ, ◌*◌, ◌^◌, ◌<◌, ◌≤◌, ◌⊎◌, List, [], ◌∷◌, length, map, get_or, inl, inr, refl, ap}
+use Rattle.std.proofs.Common.{◌∙◌, arith}
+use Rattle.std.proofs.{lemmas.Bool.cases_lt, Math.ListN.get_or-eq_default, Math.ListN.get_or-map}
+use Rattle.std.proofs.{Math.Nat.mul-le-mul_right}
 use Rattle.def_layout.specs.{Arcs.dart_at, Arcs.long_at, Arcs.path, Arcs.Path, Lengths.AreLengths, Nodes.is_node}
 use Rattle.def_layout.specs.{Nodes.AreNodes, Layouts.Layout, Layouts.gluing_of, Layouts.layout_of, Layouts.vertex_at}
 use Rattle.def_layout.specs.{declared.tmesh.TArc.TArc, declared.tmesh.TMesh.TMesh}
-use Rattle.def_layoutnet.specs.MeshLayouts.{IsSomeLayout}
 use Rattle.def_mesh.specs.{Darts.darts, HalfEdges.half_edges, HalfEdges.IsQuadManifold}
 use Rattle.def_remesh.specs.NewPoints.{lengths_in, multiple_of}
-use Rattle.def_flow.specs.declared.limits.TheConstants.{MAX_LENGTH}
-use Rattle.def_run.specs.declared.command.TheConstants.{MAX_MULTIPLE}
-use Rattle.cut_laws.proofs.Pigeon.{no_more}
-use Rattle.mesh_laws.proofs.HalfEdges.{manifold_law}
-use Rattle.face_laws.proofs.FullCuts.{full_cut_law}
-use Rattle.layout_laws.proofs.FaceNodes.{are_nodes}
-use Rattle.embedding_laws.proofs.{ArcUses.dart_low, ArcUses.same_dart, LayoutLies.embedding_law}
-use Rattle.written_laws.proofs.Shape.{multiple_law}
+use Rattle.embedding_laws.proofs.{ArcUses.dart_low, ArcUses.same_dart, OneLayout.embedding_law}
+use Rattle.{std.specs.List.All, def_cut.specs.Cuts.IsCut, def_cut.specs.FullCut.is_on}
+use Rattle.{def_layoutnet.specs.MeshLayouts.IsSomeLayout, def_flow.specs.declared.limits.TheConstants.MAX_LENGTH}
+use Rattle.{def_run.specs.declared.command.TheConstants.MAX_MULTIPLE, cut_laws.proofs.Pigeon.no_more}
+use Rattle.{mesh_laws.proofs.Chains.manifold_law, face_laws.proofs.FullCuts.full_cut_law}
+use Rattle.{layout_laws.proofs.FaceNodes.are_nodes, written_laws.proofs.Shape.multiple_law}
+use Rattle.std.proofs.lemmas.List as lists
 
 -- The lengths of the arcs of a layout, times a number.
 abbrev pub multiples_of : (by : ℕ) (arcs : List Path) → List ℕ

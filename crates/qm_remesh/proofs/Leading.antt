@@ -1,27 +1,32 @@
 -- What rounds of a layout give: lengths of the layout, certificates that are kept, and one round more.
-use Rattle.std.proofs.Common.{◌≡◌, ℕ, ◌-◌, ◌<◌, ◌≤◌, List, [], ◌∷◌, ◌++◌, length, sym, ◌∙◌, ap, subst, arith}
-use Rattle.std.proofs.lemmas.Int.{ints}
-use Rattle.std.proofs.lemmas.List.{get_or_default}
-use Rattle.std.specs.List.{All}
-use Rattle.def_certtext.specs.CertLines.{alone, lists_of, risen_by, used}
-use Rattle.def_certtext.specs.{declared.certs.Rise.Rise, declared.certs.Rising.TheVariants.Rounds}
-use Rattle.def_certtext.specs.declared.certs.Round.{Round}
-use Rattle.def_fit.specs.{Aims.fit_settings, declared.fit.Fit.Fit}
-use Rattle.def_flow.specs.{Accepted.certificate, Descent.IsSolution, Network.Network, declared.cert.Cert.Cert}
-use Rattle.def_flow.specs.{declared.limits.TheConstants.MAX_FLOOR, declared.net.Settings.Settings}
-use Rattle.def_layout.specs.{Lengths.AreLengths as AreArcLengths, Layouts.Layout, Layouts.gluing_of}
-use Rattle.def_layoutnet.specs.Floors.{floor_of, HasFloors}
-use Rattle.def_math.specs.Counts.{count_below}
+use Rattle.std.proofs.Common.{◌≡◌, ℕ, ◌-◌, ◌<◌, ◌≤◌, List, [], ◌∷◌, ◌++◌, length, sym, ◌∙◌, ap, subst, arith, Bool}
+use Rattle.std.proofs.Common.{refl, true, false}
+use Rattle.std.proofs.{lemmas.Int.ints, lemmas.List.get_or_default}
+use Rattle.std.specs.{List.All, Prelude.if◌then◌else◌}
+use Rattle.def_certtext.specs.declared.certs.Rising.TheVariants.{Rounds, Never, Third}
+use Rattle.def_certtext.specs.{CertLines.alone, CertLines.lists_of, CertLines.risen_by, CertLines.used}
+use Rattle.def_certtext.specs.{declared.certs.Rise.Rise, declared.certs.Round.Round, Settings.AreInRange}
+use Rattle.def_certtext.specs.{declared.certs.Rising.Rising}
+use Rattle.def_fit.specs.Aims.{fit_settings, denominator, numerator, AreAimedNear, IsFit, IsFitFail}
+use Rattle.def_fit.specs.{declared.fit.Aim.TheVariants.Scale, declared.fit.Fit.Fit, declared.fit.Aim.Aim}
+use Rattle.def_flow.specs.{Accepted.certificate, Descent.IsSolution, Network.Network, Network.tangle_number}
+use Rattle.def_flow.specs.{Network.IsWithinBounds, declared.cert.Cert.Cert, declared.limits.TheConstants.MAX_FLOOR}
+use Rattle.def_flow.specs.{declared.limits.TheConstants.MAX_TANGLE, declared.net.Settings.Settings}
+use Rattle.def_layout.specs.{Lengths.AreLengths as AreArcLengths, Layouts.Layout, Layouts.gluing_of, Arcs.long_at}
+use Rattle.def_layoutnet.specs.{Floors.floor_of, Floors.HasFloors, LayoutNet.IsNetOf, MeshLayouts.IsSomeLayout}
 use Rattle.def_remesh.specs.{Certified.AreKept, Certified.IsCertified, Keeping.IsKept, Keeping.IsNetFor}
-use Rattle.def_remesh.specs.{Keeping.IsNetWith, NewPoints.lengths_in, Refusals.AreTooFine, Remeshed.AreCoarse}
-use Rattle.def_remesh.specs.{Remeshed.AreDoubled, Rises.risen_floors, Rises.AreNeeded, Tasks.given_floors, Tasks.Wish}
-use Rattle.def_remesh.specs.declared.tables.Tables.{Tables}
-use Rattle.qm_layoutnet.proofs.{Floors.floors_even, Risen.risen_more}
+use Rattle.def_remesh.specs.{Keeping.IsNetWith, NewPoints.lengths_in, Refusals.AreTooFine, Refusals.IsLayoutFail}
+use Rattle.def_remesh.specs.{Remeshed.AreCoarse, Remeshed.AreDoubled, Rises.risen_floors, Rises.AreNeeded}
+use Rattle.def_remesh.specs.{Tasks.given_floors, Tasks.Wish, Tasks.old_lengths, declared.tables.Tables.Tables}
+use Rattle.def_remesh.specs.{declared.kept.LayoutFail.LayoutFail}
+use Rattle.qm_layoutnet.proofs.Floors.{floors_even, risen_more}
+use Rattle.remesh_laws.proofs.ReadAgain.{behind_more, led_kept, led_more, net_risen, used_behind}
 use Rattle.remesh_laws.proofs.Keeps.{are_lengths, keeps, solved}
-use Rattle.remesh_laws.proofs.Rounds.{behind_more, led_kept, led_more, net_risen, used_behind}
 use Rattle.remesh_laws.specs.Keeps.{floors_behind, IsNumbered}
-use Rattle.sum_laws.proofs.Counts.{count_below_same}
-use Rattle.qm_remesh.specs.Rounds.{room_of, IsFitNet, IsLedBy}
+use Rattle.qm_remesh.specs.Rounds.{room_of, IsFitNet, IsLedBy, greatest_floor}
+use Rattle.{def_math.specs.Counts.count_below, sum_laws.proofs.Sums.count_below_same, def_metric.specs.Fails.AreNear}
+use Rattle.def_remesh.specs.declared.kept.LayoutFail.TheVariants as layouts
+use Rattle.def_metric.specs.declared.fail.SizeFail.TheVariants as sizes
 
 module _ {fit : Fit} {layout : Layout} {first net : Network} {rounds : List Round} {cert : Cert}
     (fits : IsFitNet fit layout first) (is : IsLedBy layout (fit_settings fit) first rounds net cert) where
@@ -107,3 +112,42 @@ module _ {layout : Layout} {settings : Settings} {first net next : Network} {rou
           ∙ count_below_same (λ a. MAX_FLOOR - floor_of next.arcs a)
           (λ a. MAX_FLOOR - risen_floors round.rises.items (floor_of net.arcs) a) (length layout.arcs)
           (λ a low. cc (has.arcs a (omega (arith, low, long))))
+
+-- The network of a layout is one that certificates are checked by; and how floors rise.
+
+pub net_for : {layout : Layout} {settings : Settings} {auto : Bool} {net : Network} → IsSomeLayout layout
+    → AreInRange settings auto
+    → IsNetOf (gluing_of layout) (long_at layout.arcs) (long_at layout.arcs) settings (λ a. settings.floor) net
+    → IsWithinBounds net → tangle_number net ≤ MAX_TANGLE → IsNetFor old_lengths layout settings net
+net_for mesh range is bounds small =
+    record { mesh = mesh; floor = λ arc. range.floor.low; is = is; bounds = bounds; untangled = small }
+
+-- They rise at once, in rounds or never.
+pub never_rises : (rising : Rising) → (rising ≡ Third → ⊥) → (rising ≡ Rounds → ⊥) → rising ≡ Never
+never_rises Never third rounds = refl
+never_rises Third third rounds = absurd (third refl)
+never_rises Rounds third rounds = absurd (rounds refl)
+
+-- Why a layout is not remeshed with what is wished of it.
+
+-- Its least lengths give no new mesh.
+pub no_mesh : (aim : Aim) (wish : Wish) (layout : Layout) (settings : Settings) (rising : Rising) (fail : LayoutFail)
+    → AreAimedNear aim wish layout
+    → IsLayoutFail wish layout settings rising fail → IsFitFail aim wish layout settings rising (sizes.Layout fail)
+no_mesh aim wish layout settings rising (layouts.Tangled count) near why = why
+no_mesh aim wish layout settings rising layouts.Memory near why = tt
+no_mesh aim wish layout settings rising _ near why = (near, why)
+
+-- Wishes that do not scale the old lengths are in thousandths of an edge, and their sum is bounded.
+pub unscaled : {aim : Aim} (wish : Wish) (layout : Layout) → ((p q : ℕ) → aim ≡ Scale p q → ⊥)
+    → AreAimedNear aim wish layout → (numerator aim ≡ 1) × (denominator aim ≡ 1000) × AreNear wish layout
+unscaled {aim = Scale p q} wish layout other near = absurd (other p q refl)
+unscaled wish layout other near = (refl, refl, near)
+
+-- The greatest floor that an arc may get is no greater than any floor may be.
+pub greatest_high : {fit : Fit} → IsFit fit → greatest_floor fit ≤ MAX_FLOOR
+greatest_high {fit} is = by_test fit.auto
+  where
+    by_test : (auto : Bool) → (if auto then MAX_FLOOR else fit.floor) ≤ MAX_FLOOR
+    by_test true = omega arith
+    by_test false = is.floor.high

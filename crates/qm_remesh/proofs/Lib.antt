@@ -1,3 +1,1 @@
 mod Leading
-mod Nets
-mod Sizes

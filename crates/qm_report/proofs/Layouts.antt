@@ -1,16 +1,18 @@
 -- The lines of the layout of a chosen cut.
 use Rattle.std.proofs.Common.{append-nil, ℕ, subst, arith, append_assoc, Option, ◌+◌, [], None, Bool, length, get_or}
-use Rattle.std.proofs.Common.{◌++◌, ap, List, map, ◌≡◌, ◌∙◌, ◌∷◌, ◌<◌, sym, Some, refl}
-use Rattle.std.proofs.lemmas.List.{length-map, get_or_default, get_or-map}
-use Rattle.{std.proofs.lemmas.Grind.flat_map-append, def_remesh.specs.Placings.IsMeshLayout}
-use Rattle.{qm_report.proofs.Texts.behind, qm_report.specs.Words.word_of, def_text.specs.FaceSet.FaceSet}
-use Rattle.{std.specs.Prelude.decimal, std.specs.Prelude.slice_index, def_io.specs.declared.TheConstants.LINE_FEED}
-use Rattle.{std.specs.List.flat_map, def_report.specs.GraphText.numbers_line, def_report.specs.GraphText.numbers_text}
+use Rattle.std.proofs.Common.{◌++◌, ap, List, map, ◌≡◌, ◌∙◌, ◌∷◌, ◌<◌, sym, Some, refl, ◌≤◌, filter}
+use Rattle.std.proofs.{lemmas.List.length-map, lemmas.List.get_or_default, lemmas.List.get_or-map}
+use Rattle.std.proofs.{lemmas.Grind.flat_map-append, lemmas.List.Sums.length-filter}
+use Rattle.std.proofs.{lemmas.List.Sums.count_by-le-length, lemmas.List.FromFn.length-range_with_len}
+use Rattle.std.specs.{Prelude.decimal, Prelude.slice_index, List.flat_map, List.range_with_len}
+use Rattle.def_text.specs.{FaceSet.FaceSet, declared.letters.TheConstants.SPACE}
+use Rattle.def_report.specs.GraphText.{numbers_line, numbers_text}
 use Rattle.def_cuttext.specs.LayoutText.{break_line, place_in_file, whole_arc_line}
-use Rattle.{embedding_laws.proofs.LayoutLies.in_mesh, def_text.specs.declared.letters.TheConstants.SPACE}
-use Rattle.def_layout.specs.{Layouts.layout_of, Arcs.path, Layouts.Layout, Arcs.Path, Layouts.vertex_at, Arcs.path_at}
+use Rattle.def_layout.specs.{Layouts.layout_of, Layouts.Layout, Layouts.vertex_at, Arcs.path, Arcs.Path, Arcs.path_at}
 use Rattle.def_layout.specs.{declared.tmesh.TMesh.TMesh, declared.tmesh.TArc.TArc}
-use Rattle.def_mesh.specs.{Darts.from_of, Faces.Faces, Darts.darts}
+use Rattle.def_mesh.specs.{Darts.from_of, Darts.darts, Faces.Faces, Vertices.vertex_count, Vertices.all_vertices}
+use Rattle.{def_remesh.specs.Placings.IsMeshLayout, qm_report.proofs.Texts.behind, qm_report.specs.Words.word_of}
+use Rattle.{def_io.specs.declared.TheConstants.LINE_FEED, embedding_laws.proofs.OneLayout.in_mesh}
 
 -- Where no marks are kept no lines break.
 pub none_breaks : (soup : FaceSet) (vs : List ℕ) → flat_map (break_line soup None) vs ≡ []
@@ -71,3 +73,18 @@ pub arc_written : (soup : FaceSet) (kept : Option (List Bool)) (here : Layout) (
 arc_written soup None here a arc read = rw (along_names soup arc.darts.items (vertex_at here arc.last), read) refl
 arc_written soup (Some marks) here a arc read =
     rw (along_names soup arc.darts.items (vertex_at here arc.last), read) refl
+
+-- What is read of a layout, and how many pass a filter.
+
+-- A table over all vertices has a place for each.
+pub place_low : {X : Type 0} (f : ℕ → X) (faces : Faces) {xs : List X} {v : ℕ} → xs ≡ map f (all_vertices faces)
+    → v < vertex_count faces → v < length xs
+place_low f faces is low =
+    let all = length-range_with_len 0 (vertex_count faces) in
+    omega (arith, ap length is, length-map (all_vertices faces) f)
+
+-- A filter of the first numbers leaves at most all of them.
+pub filter_few : (p : ℕ → Bool) (n : ℕ) → length (filter p (range_with_len 0 n)) ≤ n
+filter_few p n =
+    let few = count_by-le-length p (range_with_len 0 n) in
+    omega (arith, length-filter p (range_with_len 0 n), length-range_with_len 0 n)

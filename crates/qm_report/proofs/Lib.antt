@@ -1,3 +1,2 @@
 mod Texts
-pub mod TableReads
-mod Layouts
+pub mod Layouts

@@ -76,7 +76,7 @@ fn place_in_file(names: &[u32], vertex: u32) -> u32
 }
 
 /// The irregular vertices, with how many faces there are at each.
-#[tactic(auto, using(crate::proofs::TableReads::place_low))]
+#[tactic(auto, using(crate::proofs::Layouts::place_low))]
 fn push_named(text: &mut Vec<u8>, cut: &CutMesh, kinds: &[Kind]) -> Result<(), Memory>
     requires { kinds.now ≡ map (kind_of cut.now.soup.faces) (all_vertices cut.now.soup.faces) }
     ensures { OnOk result (text.new.items
@@ -120,7 +120,7 @@ fn push_breaks(
 }
 
 /// The vertices where the lines of these marks break.
-#[tactic(auto, using(crate::proofs::TableReads::place_low))]
+#[tactic(auto, using(crate::proofs::Layouts::place_low))]
 fn push_broken(
     alloc: Global,
     text: &mut Vec<u8>,

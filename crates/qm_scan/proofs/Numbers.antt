@@ -1,14 +1,11 @@
 -- Numbers read digit by digit.
-use Rattle.std.proofs.Common.{◌≡◌, ℕ, suc, leb, ◌+◌, ◌-◌, ◌*◌, ◌^◌}
-use Rattle.std.proofs.Common.{◌<◌, ◌≤◌, min, Bool, true, false, cond}
-use Rattle.std.proofs.Common.{not, ◌&&◌, eqb, List, [], ◌∷◌, length}
-use Rattle.std.proofs.Common.{take, map, get_or, refl, ap, ◌∙◌, arith}
-use Rattle.std.proofs.Common.{subst, Some, None, inl, inr, ◌⊎◌}
-use Rattle.std.proofs.{lemmas.Int.Digits.number_push, lemmas.List.take_more, lemmas.List.map_push, lemmas.Bool.cases_lt}
-use Rattle.std.proofs.{lemmas.Bool.false≢true, lemmas.Bool.ne_eqb, lemmas.List.length-take-le}
-use Rattle.std.proofs.{Math.Nat.pow-le-pow_right, lemmas.Int.Digits.number_lt, lemmas.List.length-map}
-use Rattle.std.proofs.lemmas.Bool.{and_parts, leb-true}
-use Rattle.std.specs.{Char.is_ascii_digit, Int.Digits.number_from_digits, List.list_all, Int.Digits.AllBelowBase}
+use Rattle.std.proofs.Common.{◌≡◌, ℕ, suc, leb, ◌+◌, ◌-◌, ◌*◌, ◌^◌, ◌<◌, ◌≤◌, min, Bool, true, false, cond, not, ◌&&◌}
+use Rattle.std.proofs.Common.{eqb, List, [], ◌∷◌, length, take, map, get_or, refl, ap, ◌∙◌, arith, subst, Some, None}
+use Rattle.std.proofs.Common.{inl, inr, ◌⊎◌}
+use Rattle.std.proofs.lemmas.List.{take_more, map_push, length-take-le, length-map}
+use Rattle.std.proofs.lemmas.Bool.{cases_lt, false≢true, ne_eqb, and_parts, leb-true}
+use Rattle.std.proofs.{lemmas.Int.Digits.number_push, lemmas.Int.Digits.number_lt, Math.Nat.pow-le-pow_right}
+use Rattle.std.specs.{Char.is_ascii_digit, Int.Digits.number_from_digits, Int.Digits.AllBelowBase, List.list_all}
 use Rattle.def_text.specs.Digits.{is_number, number_written}
 
 -- The values of digits.

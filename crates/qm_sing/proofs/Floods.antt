@@ -1,21 +1,71 @@
--- A flood, face by face.
-use Rattle.std.proofs.Common.{◌≡◌, ◌≢◌, ◌⊎◌, ℕ, zero, suc, ◌+◌, ◌*◌, ◌/◌, ◌<◌, ◌≤◌, Bool, true, false, cond, eqb, List}
-use Rattle.std.proofs.Common.{[], ◌∷◌, ◌++◌, length, get_or, set, Option, Some, None, sym, ap, ◌∙◌, refl, inl}
-use Rattle.std.proofs.Common.{inr, arith, ◌||◌}
-use Rattle.std.proofs.lemmas.Option.{none-some, same_Some}
+-- Counting along a range.
+use Rattle.std.proofs.Common.{◌≡◌, ℕ, zero, suc, ◌+◌, ◌<◌, ◌≤◌, Bool, true, false, cond, [], ◌∷◌, ◌++◌, length, map, ap}
+use Rattle.std.proofs.Common.{◌∙◌, refl, arith, ◌≢◌, ◌⊎◌, ◌*◌, ◌/◌, eqb, List, get_or, set, Option, Some, None, sym}
+use Rattle.std.proofs.Common.{inl, inr, ◌||◌}
+use Rattle.std.proofs.lemmas.List.{length-append, append-nil, get_or-set_same, get_or-set_other, length-set}
+use Rattle.std.proofs.lemmas.List.Sums.{length-filter, count_by-le-length, sum_by-set}
 use Rattle.std.proofs.lemmas.Bool.{cases_Bool, cases_eq, cases_lt, eq-eqb, ne_eqb, eqb-true, eqb-false, or_left}
 use Rattle.std.proofs.lemmas.Bool.{false≢true, or_right, or_cases}
-use Rattle.std.proofs.lemmas.List.{get_or-set_same, get_or-set_other, length-set, length-append}
-use Rattle.std.proofs.lemmas.List.Sums.{sum_by-set}
-use Rattle.std.proofs.lemmas.List.Folds.{list_any-append}
-use Rattle.std.specs.List.{list_any, count_by, range_with_len}
-use Rattle.def_mesh.specs.{Faces.Faces, Darts.is_reverse, Darts.twin_of, Manifold.IsManifold, Components.share_edge}
-use Rattle.def_mesh.specs.Components.{is_marked, component_of}
-use Rattle.list_laws.proofs.Filters.{any_in_range, range_any}
-use Rattle.mesh_laws.proofs.Flood.{Shares, sound, closed, own_mark, share_back}
-use Rattle.mesh_laws.proofs.Twins.{reverse_twin, twin_reverse, twin_found, twin_is}
+use Rattle.std.proofs.{lemmas.List.FromFn.length-range_with_len, lemmas.List.FromFn.map-range_with_len_more}
+use Rattle.std.proofs.{lemmas.Option.none-some, lemmas.Option.same_Some, lemmas.List.Folds.list_any-append}
+use Rattle.std.specs.List.{filter, range_with_len, list_any, count_by}
+use Rattle.def_mesh.specs.Components.{used_count, share_edge, is_marked, component_of}
+use Rattle.def_mesh.specs.{Faces.Faces, Meshes.IsMesh, Vertices.is_used, Vertices.vertex_count, Darts.is_reverse}
+use Rattle.def_mesh.specs.{Darts.twin_of, Manifold.IsManifold}
+use Rattle.list_laws.proofs.Filters.{filter_range_more, any_in_range, range_any}
+use Rattle.mesh_laws.proofs.{Flood.Shares, Flood.sound, Flood.closed, Flood.own_mark, Flood.share_back}
+use Rattle.mesh_laws.proofs.{Chains.reverse_twin, Chains.twin_reverse, Chains.twin_found, Chains.twin_is}
 use Rattle.qm_sing.specs.Floods.{IsNumbered, Waits, IsClosed, numbers_with, waiting_with, IsSpread, IsFlood, IsFlooded}
 use Rattle.qm_sing.specs.declared.flooding.TheConstants.{NONE}
+
+-- At most all.
+pub filter_few : (p : ℕ → Bool) (n : ℕ) → length (filter p (range_with_len 0 n)) ≤ n
+filter_few p n = omega (
+  arith,
+  length-filter p (range_with_len 0 n),
+  count_by-le-length p (range_with_len 0 n),
+  length-range_with_len 0 n,
+)
+
+-- One number more.
+pub one_more : (p : ℕ → Bool) (n : ℕ) → length (filter p (range_with_len 0 (n + 1)))
+    ≡ length (filter p (range_with_len 0 n)) + cond (p n) 1 0
+one_more p n = ap length (filter_range_more p n)
+    ∙ (length-append (filter p (range_with_len 0 n)) (cond (p n) (n ∷ []) [])
+    ∙ ap (λ k. length (filter p (range_with_len 0 n)) + k) (at (p n)))
+  where
+    at : (b : Bool) → length (cond b (n ∷ []) []) ≡ cond b 1 0
+    at true = refl
+    at false = refl
+
+-- All of a range.
+pub filter_all : (p : ℕ → Bool) (a n : ℕ) → ((x : ℕ) → a ≤ x → x < a + n → p x ≡ true) → filter p (range_with_len a n)
+    ≡ range_with_len a n
+filter_all p a zero all = refl
+filter_all p a (suc n) all =
+    rw (all a (omega arith) (omega arith))
+    (ap (λ xs. a ∷ xs) (filter_all p (a + 1) n (λ x l h. all x (omega arith) (omega arith))))
+
+-- All vertices of a mesh are used.
+pub used_is : (faces : Faces) → IsMesh faces → used_count faces ≡ vertex_count faces
+used_is faces m = ap length (filter_all (is_used faces) 0 (vertex_count faces) (λ x l h. m.used x (omega arith)))
+    ∙ length-range_with_len 0 (vertex_count faces)
+
+-- One value more along a range, and one number more of a filter.
+pub map_more : {X : Type 0} (f : ℕ → X) (n : ℕ) → map f (range_with_len 0 (n + 1)) ≡ map f (range_with_len 0 n)
+    ++ f n ∷ []
+map_more f n = map-range_with_len_more f 0 n n (omega arith)
+
+pub filter_on : (p : ℕ → Bool) (n : ℕ) → p n ≡ true → filter p (range_with_len 0 (n + 1))
+    ≡ filter p (range_with_len 0 n) ++ n ∷ []
+filter_on p n is = filter_range_more p n ∙ ap (λ (b : Bool). filter p (range_with_len 0 n) ++ cond b (n ∷ []) []) is
+
+pub filter_off : (p : ℕ → Bool) (n : ℕ) → p n ≡ false → filter p (range_with_len 0 (n + 1))
+    ≡ filter p (range_with_len 0 n)
+filter_off p n is = filter_range_more p n ∙ (ap (λ (b : Bool). filter p (range_with_len 0 n) ++ cond b (n ∷ []) []) is
+    ∙ append-nil (filter p (range_with_len 0 n)))
+
+-- A flood, face by face.
 
 -- Who waits after one more came.
 one_came : (xs : List ℕ) (y g : ℕ) → list_any (λ f. eqb f g) (xs ++ y ∷ [])

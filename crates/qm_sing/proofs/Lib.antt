@@ -1,8 +1,5 @@
 mod Floods
-mod Numberings
-mod Edges
-pub mod KindReads
+pub mod Numberings
 mod Seeds
-mod Tables
 mod Walking
 mod Longest

@@ -1,19 +1,20 @@
 -- A walk onward from the end of a walk back is a longest run, and with it the runs of one dart more are found.
-use Rattle.std.proofs.Common.{◌≡◌, ◌≢◌, ℕ, zero, suc, ◌+◌, ◌-◌, ◌<◌, ◌≤◌, Bool, true, false, Some}
-use Rattle.std.proofs.Common.{List, [], ◌∷◌, ◌++◌, length, replicate, get_or, sym, ap, ◌∙◌, refl, inl, inr}
-use Rattle.std.proofs.Common.{arith}
-use Rattle.std.proofs.lemmas.Option.{none-some, same_Some}
-use Rattle.std.proofs.lemmas.Bool.{cases_Bool, cases_eq, cases_lt, eq-eqb}
+use Rattle.std.proofs.Common.{◌≡◌, ◌≢◌, ℕ, zero, suc, ◌+◌, ◌-◌, ◌<◌, ◌≤◌, Bool, true, false, Some, List, [], ◌∷◌, ◌++◌}
+use Rattle.std.proofs.Common.{length, replicate, get_or, sym, ap, ◌∙◌, refl, inl, inr, arith, ◌/◌, map}
 use Rattle.std.proofs.lemmas.List.{length-append, length-replicate, map-append, get_or_append_left, get_or-append-add}
-use Rattle.std.proofs.lemmas.List.{get_or-replicate}
-use Rattle.def_mesh.specs.{Faces.Faces, Darts.darts, Manifold.IsManifold}
-use Rattle.def_runs.specs.Runs.{HasDart, IsBefore, IsLongestRun, first_dart, follower, is_closed, last_dart}
-use Rattle.def_runs.specs.Runs.{nth_run}
+use Rattle.std.proofs.lemmas.List.{get_or-replicate, length-map}
+use Rattle.std.proofs.{lemmas.Option.none-some, lemmas.Option.same_Some, lemmas.Bool.cases_Bool, lemmas.Bool.cases_eq}
+use Rattle.std.proofs.{lemmas.Bool.cases_lt, lemmas.Bool.eq-eqb, lemmas.List.FromFn.length-range_with_len}
+use Rattle.def_mesh.specs.Components.{component_numbers, least_face, least_faces, place_among}
+use Rattle.def_mesh.specs.{Faces.Faces, Faces.all_faces, Darts.darts, Manifold.IsManifold, Kinds.kind_of}
+use Rattle.def_mesh.specs.{Vertices.all_vertices, Vertices.vertex_count, declared.Kind.Kind}
+use Rattle.def_runs.specs.Runs.{HasDart, IsBefore, IsLongestRun, first_dart, follower, is_closed, last_dart, nth_run}
 use Rattle.cut_laws.proofs.Pigeon.{sent_or_not}
-use Rattle.qm_sing.specs.{declared.flooding.TheConstants.NONE, declared.lines.Line.Line, Walks.AreRunsBelow}
-use Rattle.qm_sing.specs.Walks.{AreRunsSoFar, IsBack, IsLine, leader, walked}
+use Rattle.qm_sing.specs.Walks.{AreRunsBelow, AreRunsSoFar, IsBack, IsLine, leader, walked}
+use Rattle.qm_sing.specs.{declared.flooding.TheConstants.NONE, declared.lines.Line.Line}
 use Rattle.qm_sing.proofs.Walking.{back_of, follows, leads, on_from, places_differ, walk_low, walk_list, walk_long}
 use Rattle.qm_sing.proofs.Walking.{walk_at, holds_at}
+use Rattle.qm_sing.proofs.Seeds.{number_low, number_read}
 
 -- A walk onward from the end of a walk back is a longest run.
 module _ {faces : Faces} (m : IsManifold faces) {d first r : ℕ} {line : Line} {run_old run at_old at : List ℕ}
@@ -349,3 +350,29 @@ none_found faces run at is_run is_at = record {
   lengths = refl;
   closes = refl;
 }
+
+-- Tables that have an entry for each face or vertex.
+
+module _ (faces : Faces) where
+  pub numbers_long : {numbers : List ℕ} → numbers ≡ component_numbers faces → length numbers ≡ length faces
+  numbers_long are = omega (
+    arith,
+    ap length are,
+    length-map (all_faces faces) (λ f. place_among (least_faces faces) (least_face faces f)),
+    length-range_with_len 0 (length faces),
+  )
+
+  pub kinds_long : {kinds : List Kind} → kinds ≡ map (kind_of faces) (all_vertices faces)
+      → length kinds ≡ vertex_count faces
+  kinds_long are = omega (
+    arith,
+    ap length are,
+    length-map (all_vertices faces) (kind_of faces),
+    length-range_with_len 0 (vertex_count faces),
+  )
+
+  -- The number of a dart's component is one of them.
+  pub number_there : IsManifold faces → {numbers : List ℕ} → numbers ≡ component_numbers faces → {d : ℕ}
+      → d < darts faces → get_or numbers (d / 4) 0 < length (least_faces faces)
+  number_there manifold {numbers} are {d} low =
+      omega (arith, number_read faces numbers d are, number_low manifold d low)

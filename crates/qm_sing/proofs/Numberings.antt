@@ -1,17 +1,66 @@
--- Components are numbered by their least faces.
-use Rattle.std.proofs.Common.{◌≡◌, ◌≢◌, ℕ, zero, suc, ◌+◌, ◌<◌, ◌≤◌, Bool, cond, eqb, ltb, List}
-use Rattle.std.proofs.Common.{length, get_or, replicate, sym, ap, ◌∙◌, refl, inl, inr, arith}
-use Rattle.std.proofs.lemmas.Bool.{cases_Bool, cases_eq, cases_lt, eq-eqb, ne_eqb, lt-ltb, le-ltb}
+-- What kinds say of vertices, and the kind that a table has.
+use Rattle.std.proofs.Common.{◌≡◌, ℕ, ◌<◌, Bool, true, false, cond, not, eqb, ltb, ◌&&◌, List, get_or, map, ap, ◌∙◌}
+use Rattle.std.proofs.Common.{refl, inl, inr, arith, ◌≢◌, zero, suc, ◌+◌, ◌≤◌, length, replicate, sym}
+use Rattle.std.proofs.lemmas.Bool.{cases_eq, eq-eqb, ne_eqb, lt-ltb, le-ltb, cases_Bool, cases_lt}
 use Rattle.std.proofs.lemmas.List.{length-replicate, get_or-replicate, length-map, ext_get_or}
-use Rattle.std.proofs.lemmas.List.FromFn.{length-range_with_len, get_or-map-range_with_len}
-use Rattle.std.specs.List.{filter, range_with_len}
-use Rattle.def_mesh.specs.Faces.{Faces, all_faces}
+use Rattle.std.proofs.lemmas.List.FromFn.{get_or-map-range_with_len, length-range_with_len}
+use Rattle.def_mesh.specs.Kinds.{is_inner, is_corner, is_singular, is_reflex, is_regular, kind_of}
+use Rattle.def_mesh.specs.declared.Kind.TheVariants.{Regular, Singular, Corner, Reflex}
 use Rattle.def_mesh.specs.Components.{is_marked, least_face, least_faces, place_among, component_numbers}
+use Rattle.def_mesh.specs.{Faces.Faces, Faces.all_faces, Vertices.vertex_count, Vertices.all_vertices}
+use Rattle.def_mesh.specs.{Vertices.faces_at, declared.Kind.Kind}
+use Rattle.qm_sing.specs.{Rings.is_regular_kind, Rings.is_singular_kind, Rings.is_reflex_kind, Floods.IsNumbered}
+use Rattle.qm_sing.specs.{Floods.IsClosed, Floods.IsFlooded, Floods.IsNumbering, declared.flooding.TheConstants.NONE}
 use Rattle.mesh_laws.proofs.Flood.{closed, own_mark, same_component, least_most, least_low, least_marked, least_same}
 use Rattle.mesh_laws.proofs.Flood.{least_again}
-use Rattle.qm_sing.specs.Floods.{IsNumbered, IsClosed, IsFlooded, IsNumbering}
-use Rattle.qm_sing.specs.declared.flooding.TheConstants.{NONE}
-use Rattle.sum_laws.proofs.Tests.{once_at_most}
+use Rattle.{std.specs.List.filter, std.specs.List.range_with_len, sum_laws.proofs.Tests.once_at_most}
+
+-- The tests of a kind are those of its vertex.
+pub regular_is : (faces : Faces) (v : ℕ) → is_regular_kind (kind_of faces v) ≡ is_regular faces v
+regular_is faces v = at (is_regular faces v) (is_inner faces v) (is_corner faces v)
+  where
+    at : (a b e : Bool) → is_regular_kind (cond a Regular (cond b Singular (cond e Corner Reflex))) ≡ a
+    at true b e = refl
+    at false true e = refl
+    at false false true = refl
+    at false false false = refl
+
+pub singular_is : (faces : Faces) (v : ℕ) → is_singular_kind (kind_of faces v) ≡ is_singular faces v
+singular_is faces v = at (is_regular faces v) (is_inner faces v) (is_corner faces v)
+  where
+    at : (a b e : Bool) → is_singular_kind (cond a Regular (cond b Singular (cond e Corner Reflex))) ≡ (b && not a)
+    at true true e = refl
+    at true false e = refl
+    at false true e = refl
+    at false false true = refl
+    at false false false = refl
+
+pub reflex_is : (faces : Faces) (v : ℕ) → 0 < faces_at faces v → is_reflex_kind (kind_of faces v) ≡ is_reflex faces v
+reflex_is faces v used = at (is_inner faces v) (faces_at faces v) used
+  where
+    by_test : (b : Bool) → is_reflex_kind (cond b Regular Singular) ≡ false
+    by_test true = refl
+    by_test false = refl
+
+    at : (inner : Bool) (n : ℕ) → 0 < n
+        → is_reflex_kind (cond (eqb n (cond inner 4 2)) Regular
+        (cond inner Singular (cond (not inner && eqb n 1) Corner Reflex))) ≡ (not inner && ltb 2 n)
+    at true n l = by_test (eqb n 4)
+    at false n l = elim (cases_eq n 2) [
+      | inl e ↦ rw (eq-eqb n 2 e, le-ltb 2 n (omega arith)) refl
+      | inr two ↦ elim (cases_eq n 1) [
+        | inl e ↦ rw (ne_eqb n 2 two, eq-eqb n 1 e, le-ltb 2 n (omega arith)) refl
+        | inr one ↦ rw (ne_eqb n 2 two, ne_eqb n 1 one, lt-ltb 2 n (omega arith)) refl
+      ]
+    ]
+
+-- The kind that was read.
+pub kind_read : (faces : Faces) (kinds : List Kind) (v : ℕ) (k : Kind) → v < vertex_count faces
+    → kinds ≡ map (kind_of faces) (all_vertices faces) → get_or kinds v k ≡ kind_of faces v
+kind_read faces kinds v k l e = ap (λ (xs : List Kind). get_or xs v k) e ∙ get_or-map-range_with_len (kind_of faces) 0
+    (vertex_count faces) v v k l (omega arith)
+
+-- Components are numbered by their least faces.
 
 -- How many of the n numbers from a on that pass are less than f.
 abbrev before : (p : ℕ → Bool) (f a n : ℕ) → ℕ

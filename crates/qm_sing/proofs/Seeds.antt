@@ -1,31 +1,28 @@
 -- Components by number, and which vertices are seeds.
 use Rattle.std.proofs.Common.{◌≡◌, ◌⊎◌, ℕ, zero, suc, ◌+◌, ◌-◌, ◌/◌, ◌<◌, ◌≤◌, Bool, true, false, cond, eqb, ltb, ◌&&◌}
-use Rattle.std.proofs.Common.{◌||◌, List, ◌∷◌, length, get_or, set, Some, is_some, sym, ap, ◌∙◌, refl, inl, inr}
-use Rattle.std.proofs.Common.{arith}
+use Rattle.std.proofs.Common.{◌||◌, List, ◌∷◌, length, get_or, set, Some, is_some, sym, ap, ◌∙◌, refl, inl, inr, arith}
+use Rattle.std.proofs.Common.{not, []}
 use Rattle.std.proofs.lemmas.Bool.{cases_Bool, cases_eq, cases_lt, cases_order, eq-eqb, eqb-true, ltb-true, ltb-false}
-use Rattle.std.proofs.lemmas.Bool.{and_parts, and_from, false≢true, false_from_ne_true}
-use Rattle.std.proofs.lemmas.List.{get_or-set_same, get_or-set_other, length-set}
-use Rattle.std.proofs.lemmas.List.FromFn.{get_or-map-range_with_len}
+use Rattle.std.proofs.lemmas.Bool.{and_parts, and_from, false≢true, false_from_ne_true, true_from_ne_false}
+use Rattle.std.proofs.{lemmas.List.get_or-set_same, lemmas.List.get_or-set_other, lemmas.List.length-set}
+use Rattle.std.proofs.{lemmas.List.FromFn.get_or-map-range_with_len}
 use Rattle.std.specs.List.{filter, list_any, list_all, range_with_len}
 use Rattle.sum_laws.proofs.Tests.{same_test}
+use Rattle.def_mesh.specs.Components.{is_marked, component_of, least_face, least_faces, place_among, component_numbers}
+use Rattle.def_mesh.specs.Components.{vertices_in, is_ring, is_first, is_seed_in, seeds, is_start}
 use Rattle.def_mesh.specs.{Faces.Faces, Darts.darts, Darts.all_darts, Darts.from_of, Darts.prev_of, Darts.twin_of}
 use Rattle.def_mesh.specs.{Manifold.IsManifold, Vertices.vertex_count, Vertices.fan_of, Vertices.faces_at}
-use Rattle.def_mesh.specs.{Kinds.is_regular, Kinds.kind_of, declared.Kind.Kind}
-use Rattle.def_mesh.specs.Components.{is_marked, component_of, least_face, least_faces}
-use Rattle.def_mesh.specs.Components.{place_among, component_numbers, vertices_in}
-use Rattle.def_mesh.specs.Components.{is_ring, is_first, is_seed_in, seeds}
-use Rattle.def_mesh.specs.{Components.is_start, HalfEdges.Turns, HalfEdges.IsQuadManifold}
-use Rattle.def_mesh.specs.HalfEdges.{half_edges}
+use Rattle.def_mesh.specs.{Kinds.is_regular, Kinds.kind_of, declared.Kind.Kind, HalfEdges.Turns}
+use Rattle.def_mesh.specs.{HalfEdges.IsQuadManifold, HalfEdges.half_edges}
 use Rattle.list_laws.proofs.Filters.{any_in_range, range_any, last_or}
-use Rattle.std.proofs.Common.{not, []}
-use Rattle.std.proofs.lemmas.Bool.{true_from_ne_false}
-use Rattle.mesh_laws.proofs.{Darts.next_face, Fans.is_fan, Flood.closed, Flood.own_mark, Flood.same_component}
-use Rattle.mesh_laws.proofs.Flood.{least_low, least_marked, least_same, least_again}
-use Rattle.mesh_laws.proofs.{HalfEdges.manifold_law, Vertices.all_below}
-use Rattle.qm_sing.proofs.{Floods.shared_by, KindReads.regular_is, KindReads.singular_is, KindReads.reflex_is}
-use Rattle.qm_sing.proofs.Numberings.{place_next, place_all}
-use Rattle.qm_sing.specs.Rings.{number_of, is_seed, is_regular_kind, is_singular_kind}
-use Rattle.qm_sing.specs.{Rings.is_reflex_kind, Rings.AreRings, Rings.AreSeedMarks, declared.flooding.TheConstants.NONE}
+use Rattle.mesh_laws.proofs.Flood.{closed, own_mark, same_component, least_low, least_marked, least_same, least_again}
+use Rattle.mesh_laws.proofs.Flood.{all_below}
+use Rattle.mesh_laws.proofs.Chains.{next_face, is_fan, manifold_law}
+use Rattle.qm_sing.proofs.Numberings.{regular_is, singular_is, reflex_is, place_next, place_all}
+use Rattle.qm_sing.proofs.Floods.{shared_by}
+use Rattle.qm_sing.specs.Rings.{number_of, is_seed, is_regular_kind, is_singular_kind, is_reflex_kind, AreRings}
+use Rattle.qm_sing.specs.Rings.{AreSeedMarks}
+use Rattle.qm_sing.specs.declared.flooding.TheConstants.{NONE}
 
 -- The first of a filtered range.
 first_from : (q : ℕ → Bool) (v a n : ℕ) → is_first v (filter q (range_with_len a n)) ≡ true → (v < a + n)

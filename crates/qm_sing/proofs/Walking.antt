@@ -1,19 +1,14 @@
 -- Walks along runs: the step back undoes the step onward, and a walk ends or comes back to its start.
 use Rattle.std.proofs.Common.{◌≡◌, ◌≢◌, ℕ, zero, suc, ◌<◌, ◌≤◌, Bool, true, false, cond, Option, Some, None, option_map}
 use Rattle.std.proofs.Common.{List, map, length, get_or, set, sym, ap, ◌∙◌, refl, inl, inr, arith}
-use Rattle.std.proofs.lemmas.Option.{none-some, same_Some}
-use Rattle.std.proofs.lemmas.Bool.{cases_eq}
-use Rattle.std.proofs.lemmas.List.{get_or-set_same, get_or-set_other}
-use Rattle.std.proofs.lemmas.List.{length-map}
-use Rattle.std.proofs.lemmas.List.FromFn.{length-range_with_len, get_or-map-range_with_len}
-use Rattle.std.specs.List.{range_with_len}
-use Rattle.def_mesh.specs.{Faces.Faces, Darts.darts, Darts.from_of, Darts.next_of, Darts.prev_of, Darts.to_of}
-use Rattle.def_mesh.specs.{Darts.twin_of, Darts.straight_of, Manifold.IsManifold, HalfEdges.IsQuadManifold}
-use Rattle.def_mesh.specs.HalfEdges.{half_edges}
+use Rattle.std.proofs.{lemmas.Option.none-some, lemmas.Option.same_Some, lemmas.Bool.cases_eq}
+use Rattle.std.proofs.{lemmas.List.get_or-set_same, lemmas.List.get_or-set_other, lemmas.List.length-map}
+use Rattle.std.proofs.{lemmas.List.FromFn.length-range_with_len, lemmas.List.FromFn.get_or-map-range_with_len}
+use Rattle.def_mesh.specs.Darts.{darts, from_of, next_of, prev_of, to_of, twin_of, straight_of}
+use Rattle.def_mesh.specs.{Faces.Faces, Manifold.IsManifold, HalfEdges.IsQuadManifold, HalfEdges.half_edges}
 use Rattle.def_runs.specs.Runs.{HasDart, follower, is_passed}
-use Rattle.cut_laws.proofs.Pigeon.{comes_back}
-use Rattle.mesh_laws.proofs.HalfEdges.{manifold_law}
 use Rattle.qm_sing.specs.Walks.{AreTold, Goes, StaysAway, leader, or_stay, walked}
+use Rattle.{std.specs.List.range_with_len, cut_laws.proofs.Pigeon.comes_back, mesh_laws.proofs.Chains.manifold_law}
 
 -- A step that leads from at most one number below n to each, and to numbers below n.
 pub record IsStep (step : ℕ → Option ℕ) (n : ℕ) : Type 0 where

@@ -39,7 +39,7 @@ pub fn euler(_alloc: Global, mesh: &Mesh) -> Result<i64, Memory>
 }
 
 /// How many edges there are. Linear in the darts.
-#[tactic(auto, using(crate::proofs::Edges::filter_few))]
+#[tactic(auto, using(crate::proofs::Floods::filter_few))]
 pub fn edge_count(mesh: &Mesh) -> u32
     ensures { result ≡ edge_count mesh.now }
 {

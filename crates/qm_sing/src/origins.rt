@@ -41,7 +41,7 @@ pub fn sources(alloc: Global, mesh: &Mesh) -> Result<Starts, Memory>
 }
 
 /// The kind of each vertex.
-#[tactic(auto, using(crate::proofs::Edges::map_more))]
+#[tactic(auto, using(crate::proofs::Floods::map_more))]
 fn kinds(alloc: Global, mesh: &Mesh) -> Result<Vec<Kind>, Memory>
     ensures { IfOk result (λ kinds. kinds.items ≡ map (kind_of mesh.now) (all_vertices mesh.now)) }
 {
@@ -68,7 +68,7 @@ fn seeds(alloc: Global, mesh: &Mesh, marks: &[bool]) -> Result<Vec<u32>, Memory>
 }
 
 /// The darts along which riders start.
-#[tactic(auto, using(crate::proofs::Tables::kinds_long))]
+#[tactic(auto, using(crate::proofs::Longest::kinds_long))]
 fn starts(alloc: Global, classed: &Classed, marks: &[bool]) -> Result<Vec<u32>, Memory>
     requires { AreSeedMarks classed.now.mesh.now
         (vertex_count classed.now.mesh.now) (darts classed.now.mesh.now) marks.now }

@@ -79,7 +79,7 @@ fn is_regular(kind: Kind) -> bool
 }
 
 /// Marks the seeds.
-#[tactic(auto, using(crate::proofs::Tables::numbers_long, crate::proofs::Tables::number_there))]
+#[tactic(auto, using(crate::proofs::Longest::numbers_long, crate::proofs::Longest::number_there))]
 fn mark(classed: &Classed, regular: &[bool], least: &[u32], marks: &mut [bool])
     requires rings { AreRings classed.now.mesh.now (darts classed.now.mesh.now) regular.now least.now }
     requires none { AreSeedMarks classed.now.mesh.now (vertex_count classed.now.mesh.now) 0 marks.old }

@@ -1,4 +1,2 @@
-mod Named
-pub mod Near
 pub mod Rounds
 pub mod Starts

@@ -1,17 +1,39 @@
--- What the costs of two matchings tell of the list.
-use Rattle.std.proofs.Common.{◌≡◌, ℕ, ◌≤◌, List, length, ℤ, pos, ◌-ℤ◌, ◌*ℤ◌, ◌≤ℤ◌, ◌<ℤ◌, refl, sym, ◌∙◌, ap, subst}
-use Rattle.std.proofs.{Common.arith, lemmas.Int.ints}
-use Rattle.def_matching.specs.Matching.{WeightedGraph, IsGraph, IsPerfect, matching_cost}
-use Rattle.def_matching.specs.Dual.{DualLists, IsSmallDual, SaysYes, dual_sum, verdict}
-use Rattle.def_matching.specs.declared.weighted.Verdict.TheVariants.{Yes}
+-- The entries of a dual that says yes name its sets.
+use Rattle.std.proofs.Common.{◌≡◌, ◌⊎◌, ℕ, ◌+◌, ◌≤◌, true, eqb, ltb, leb, ◌&&◌, List, length, get_or, ℤ, inl, inr}
+use Rattle.std.proofs.Common.{arith, pos, ◌-ℤ◌, ◌*ℤ◌, ◌≤ℤ◌, ◌<ℤ◌, refl, sym, ◌∙◌, ap, subst}
+use Rattle.std.proofs.{lemmas.Bool.or_cases, lemmas.Bool.and_parts, lemmas.Bool.eqb-true, lemmas.Bool.leb-true}
+use Rattle.std.proofs.{lemmas.Int.ints}
+use Rattle.def_matching.specs.{Matching.WeightedGraph, Matching.IsGraph, Matching.IsPerfect, Matching.matching_cost}
+use Rattle.def_matching.specs.{Dual.DualLists, Dual.is_up, Dual.verdict, Dual.IsSmallDual, Dual.SaysYes, Dual.dual_sum}
+use Rattle.def_matching.specs.{declared.weighted.Verdict.TheVariants.Yes}
+use Rattle.qm_dual.proofs.Verdicts.{yes_says, yes_bounds}
 use Rattle.def_flow.specs.{Network.Network, Network.IsWithinBounds, Admissible.IsAdmissible, Admissible.deviation}
 use Rattle.def_flow.specs.{Admissible.entries, Accepted.Certificate, Accepted.IsAccepted, MatchingGraph.matching_graph}
 use Rattle.def_flow.specs.{Units.arcwise, Units.down, Units.on_cost, Descent.IsSolution, Descent.IsStartOf}
-use Rattle.def_flow.specs.Gadget.{IsInBox, lows, caps}
-use Rattle.qm_dual.proofs.Verdicts.{yes_says, yes_bounds}
-use Rattle.gadget_laws.proofs.{Box.own_box, Law.box_deviation, Steps.raised_in_box}
-use Rattle.qm_solve.specs.Rounds.{IsBetter}
-use Rattle.qm_solve.proofs.Near.{start_lengths}
+use Rattle.def_flow.specs.{Gadget.IsInBox, Gadget.lows, Gadget.caps}
+use Rattle.gadget_laws.proofs.{Box.own_box, Box.box_deviation, Arcs.raised_in_box}
+use Rattle.{qm_solve.specs.Idle.AreNamed, qm_solve.specs.Rounds.IsBetter, qm_solve.proofs.Starts.start_lengths}
+
+-- An entry that is lawful at its place.
+named_at : (n m i entry : ℕ) → is_up n m i entry ≡ true → entry ≤ m
+named_at n m i entry up = by_test (or_cases (eqb entry 0) _ up)
+  where
+    by_test : (eqb entry 0 ≡ true) ⊎ ((ltb (i + 1) (n + entry) && leb entry m) ≡ true) → entry ≤ m
+    by_test (inl none) = omega (arith, eqb-true entry 0 none)
+    by_test (inr later) = leb-true entry m (and_parts _ _ later).1
+
+pub named_sets : (g : WeightedGraph) (d : DualLists) (sum : ℤ) → verdict g d ≡ Yes sum → AreNamed (length d.z) d.up
+named_sets g d sum said i low =
+    let says = (yes_says g d sum said).0 in
+    named_at g.n (length d.z) i (get_or d.up i 0) (says.nested.later i (omega (arith, low, says.nested.entries)))
+
+-- The same of the entries as they were read, and of as many sets.
+pub named_read : (g : WeightedGraph) (d : DualLists) (sum : ℤ) (sets : ℕ) (up : List ℕ) → verdict g d ≡ Yes sum
+    → sets ≡ length d.z → up ≡ d.up
+    → AreNamed sets up
+named_read g d sum sets up said many same = rw (many, same) (named_sets g d sum said)
+
+-- What the costs of two matchings tell of the list.
 
 -- A list is in its own box.
 pub own_inside : (net : Network) (step s : ℕ) (xs ls cs : List ℕ) → length xs ≡ length net.arcs → s ≡ step

@@ -1,12 +1,12 @@
 -- Grid points are points.
 use Rattle.std.proofs.Common.{◌≡◌, ℕ, ◌+◌, ◌-◌, ◌<◌, ◌≤◌, inl, inr, subst, arith}
 use Rattle.std.proofs.lemmas.Bool.{cases_eq}
-use Rattle.def_layout.specs.{Cells.dart, Cells.CellDart, Surfaces.IsSurface, Gluings.south, Gluings.east}
-use Rattle.def_layout.specs.Gluings.{north, west}
-use Rattle.def_layout.specs.{Gluings.Gluing, Lengths.Lengths, Lengths.wide, Lengths.high, Lengths.AreLengths}
+use Rattle.def_layout.specs.{Cells.dart, Cells.CellDart, Surfaces.IsSurface, Gluings.south, Gluings.east, Gluings.north}
+use Rattle.def_layout.specs.{Gluings.west, Gluings.Gluing, Lengths.Lengths, Lengths.wide, Lengths.high}
+use Rattle.def_layout.specs.{Lengths.AreLengths}
 use Rattle.def_written.specs.{NewFaces.dart_start, Numbers.vertex_number, Numbers.vertices, Points.point}
-use Rattle.def_written.specs.Points.{IsPoint}
-use Rattle.written_laws.proofs.{Borders.from_is, Grid.high_some, Grid.wide_some, Numbers.number_low}
+use Rattle.def_written.specs.{Points.IsPoint}
+use Rattle.written_laws.proofs.{Borders.from_is, Rims.high_some, Rims.wide_some, EdgeNumbers.number_low}
 
 module _ (l : Gluing) (x : Lengths) (laid : IsSurface l) (len : AreLengths l x) where
   -- A grid point is where a dart of a cell begins.

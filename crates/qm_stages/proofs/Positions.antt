@@ -1,13 +1,10 @@
 -- Each vertex of a mesh has a place in its soup, and a mesh that is cut has the arcs and patches of its layout.
 use Rattle.std.proofs.Common.{◌≡◌, ◌<◌, ℕ, length, sym, ◌∙◌, ap, subst, arith}
 use Rattle.std.proofs.lemmas.List.{length-map}
-use Rattle.def_cut.specs.Grids.{rectangle}
 use Rattle.def_layout.specs.{Arcs.path, Layouts.layout_of, Layouts.Layout, declared.tmesh.TMesh.TMesh}
-use Rattle.def_mesh.specs.Vertices.{vertex_count}
-use Rattle.def_remesh.specs.Placings.{IsMeshLayout}
-use Rattle.def_text.specs.FaceSet.{FaceSet, IsSoup}
-use Rattle.def_written.specs.Laws.{AreQuads}
 use Rattle.qm_mesh.proofs.Vertices.{below_from, corners_from, count_is}
+use Rattle.{def_cut.specs.Grids.rectangle, def_mesh.specs.Vertices.vertex_count, def_remesh.specs.Placings.IsMeshLayout}
+use Rattle.{def_text.specs.FaceSet.FaceSet, def_text.specs.FaceSet.IsSoup, def_written.specs.Laws.AreQuads}
 
 pub all_placed : {soup : FaceSet} {layout : Layout} → IsMeshLayout soup.faces layout → IsSoup soup
     → length soup.pos ≡ vertex_count soup.faces

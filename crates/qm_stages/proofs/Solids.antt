@@ -1,12 +1,10 @@
 -- A mesh whose numbers are those of its types can be written.
 use Rattle.std.specs.{Prelude.nat_lt, Prelude.slice_index_or, List.list_all}
 use Rattle.std.proofs.Common.{◌≡◌, ◌<◌, ◌^◌, ◌≤◌, ℕ, Bool, true, List, [], length, get_or, arith, eq-eqb}
-use Rattle.std.proofs.lemmas.Bool.{lt-ltb, ltb-true}
-use Rattle.std.proofs.lemmas.List.{get_or_default}
-use Rattle.std.proofs.lemmas.List.Sums.{AllPass-from_list_all, list_all-from_AllPass}
-use Rattle.def_mesh.specs.{Meshes.IsMesh, Vertices.names_below}
+use Rattle.std.proofs.{lemmas.Bool.lt-ltb, lemmas.Bool.ltb-true, lemmas.List.get_or_default}
+use Rattle.std.proofs.{lemmas.List.Sums.AllPass-from_list_all, lemmas.List.Sums.list_all-from_AllPass}
 use Rattle.def_text.specs.{declared.limits.TheConstants.MAX_V_LINES, FaceSet.FaceSet, Laws.is_position, Laws.is_quad}
-use Rattle.def_remesh.specs.TextLaws.{IsSolid}
+use Rattle.{def_mesh.specs.Meshes.IsMesh, def_mesh.specs.Vertices.names_below, def_remesh.specs.TextLaws.IsSolid}
 
 -- A list passes a weaker test.
 weaker : {A : Type 0} (p q : A → Bool) → ((x : A) → p x ≡ true → q x ≡ true) → (xs : List A) → list_all p xs ≡ true

@@ -1,23 +1,62 @@
--- What repeats among the keys of the listed edges are the doubled pairs.
-use Rattle.std.proofs.Common.{◌≡◌, ◌≢◌, ◌⊎◌, ℕ, ◌+◌, ◌*◌, ◌/◌, ◌%◌, ◌^◌, ◌<◌, ◌≤◌, List, length, get_or, refl, sym, ◌∙◌}
-use Rattle.std.proofs.Common.{ap, subst, inl, inr, arith}
-use Rattle.std.proofs.lemmas.Bool.{cases_lt, cases_order}
-use Rattle.std.proofs.lemmas.List.{get_or-map, get_or_default, length-map}
+-- What is told is what was told before, and more.
+use Rattle.std.proofs.Common.{◌⊎◌, ◌↔◌, ℕ, ◌+◌, ◌<◌, inl, inr, subst, arith, ◌≡◌, ◌≢◌, ◌*◌, ◌/◌, ◌%◌, ◌^◌, ◌≤◌, List}
+use Rattle.std.proofs.Common.{length, get_or, refl, sym, ◌∙◌, ap}
+use Rattle.std.proofs.{lemmas.Bool.cases_eq, lemmas.Bool.cases_lt, lemmas.Bool.cases_order, lemmas.List.get_or-map}
+use Rattle.std.proofs.{lemmas.List.get_or_default, lemmas.List.length-map}
 use Rattle.std.specs.{Prelude.min, Prelude.max, List.Contains, Coded.×_prop, Coded.le_prop}
 use mathlib.Core.HLevel.{⊥_prop}
 use mathlib.Core.Logic.{∥∥₁_elim}
 use Rattle.def_layout.specs.{Gluings.Way, Gluings.east, Gluings.north, Gluings.Gluing, Surfaces.HasWholeSides}
-use Rattle.def_layout.specs.Surfaces.{IsSurface}
-use Rattle.def_layout.specs.Lengths.{Lengths, AreLengths}
-use Rattle.def_written.specs.{Points.inside, Numbers.vertex_number, Numbers.vertices, Edges.Edge, Edges.on_arc}
-use Rattle.def_written.specs.Edges.{flat, steep, IsEdge, edge_start, edge_end, HasEnds}
-use Rattle.def_written.specs.Edges.{IsDoubledAt, IsUndoubled, IsFirstDoubled}
-use Rattle.written_laws.proofs.{Grid.point_inside, Numbers.number_low, Numbers.number_same, EdgeDarts.edge_points}
-use Rattle.written_laws.proofs.Spokes.{spoke, tip, tip_column, tip_row, tip_low}
-use Rattle.written_laws.proofs.Spokes.{one_way, hub_edge, loop_at, point_sort, spoke_joins}
-use Rattle.written_laws.proofs.Spokes.{Inner, Joins}
+use Rattle.def_layout.specs.{Surfaces.IsSurface, Lengths.Lengths, Lengths.AreLengths}
+use Rattle.def_written.specs.Edges.{Edge, on_arc, flat, steep, IsEdge, edge_start, edge_end, HasEnds, IsDoubledAt}
+use Rattle.def_written.specs.Edges.{IsUndoubled, IsFirstDoubled}
+use Rattle.def_written.specs.{Points.inside, Numbers.vertex_number, Numbers.vertices}
+use Rattle.written_laws.proofs.Borders.{spoke, tip, tip_column, tip_row, tip_low, one_way, hub_edge, loop_at}
+use Rattle.written_laws.proofs.Borders.{point_sort, spoke_joins, Inner, Joins}
+use Rattle.written_laws.proofs.{Rims.point_inside, EdgeNumbers.number_low, EdgeNumbers.number_same, Courses.edge_points}
 use Rattle.qm_stitch.specs.Rims.{key_of, keys_of, pair_key, rim_edges, IsLeastRepeat, IsRepeat}
 use Rattle.qm_stitch.proofs.RimEdges.{all_edges, deep_or_listed, fresh_rim, IsDeep}
+
+-- No more is.
+pub told_none : {A P : Type 0} → ¬ P → A ↔ (A ⊎ P)
+told_none none = (λ a. inl a, elim [ inl a ↦ a | inr p ↦ absurd (none p) ])
+
+-- There was none before.
+pub told_all : {A B P : Type 0} → ¬ A → B ↔ (A ⊎ P) → B ↔ P
+told_all none told = (λ b. elim (told.0 b) [ inl a ↦ absurd (none a) | inr p ↦ p ], λ p. told.1 (inr p))
+
+-- The same is said in other words.
+pub told_so : {A B P Q : Type 0} → B ↔ (A ⊎ P) → P ↔ Q → B ↔ (A ⊎ Q)
+told_so told so = (
+  λ b. elim (told.0 b) [ inl a ↦ inl a | inr p ↦ inr (so.0 p) ],
+  elim [ inl a ↦ told.1 (inl a) | inr q ↦ told.1 (inr (so.1 q)) ],
+)
+
+-- More is told, and more again.
+pub told_more : {A B C P Q R : Type 0} → B ↔ (A ⊎ P) → C ↔ (B ⊎ Q) → (P ⊎ Q) ↔ R → C ↔ (A ⊎ R)
+told_more first second both = (
+  λ c. elim (second.0 c) [
+    | inl b ↦ elim (first.0 b) [ inl a ↦ inl a | inr p ↦ inr (both.0 (inl p)) ]
+    | inr q ↦ inr (both.0 (inr q))
+  ],
+  elim [
+    | inl a ↦ second.1 (inl (first.1 (inl a)))
+    | inr r ↦ elim (both.1 r) [ inl p ↦ second.1 (inl (first.1 (inr p))) | inr q ↦ second.1 (inr q) ]
+  ],
+)
+
+-- What a turn more adds.
+pub told_next : {A B C : Type 0} {P : ℕ → Type 0} (n : ℕ) → B ↔ (A ⊎ ((k : ℕ) × (k < n) × P k)) → C ↔ (B ⊎ P n)
+    → C ↔ (A ⊎ ((k : ℕ) × (k < n + 1) × P k))
+told_next {P = P} n first second = told_more first second (
+  elim [ inl before ↦ (before.0, omega arith, before.2) | inr is ↦ (n, omega arith, is) ],
+  λ has. elim (cases_eq has.0 n) [
+    | inl same ↦ inr (subst P same has.2)
+    | inr other ↦ inl (has.0, omega arith, has.2)
+  ],
+)
+
+-- What repeats among the keys of the listed edges are the doubled pairs.
 
 -- The two vertices of a key.
 split_key : (a b key : ℕ) → a < 2 ^ 32 → b < 2 ^ 32 → key ≡ pair_key a b → (key / 2 ^ 32 ≤ key % 2 ^ 32)

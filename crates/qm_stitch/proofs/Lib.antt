@@ -1,15 +1,9 @@
-mod Adding
 mod Built
-mod Chosen
 mod DoubledPairs
-mod Firsts
 mod Grids
 mod Lines
-mod Marks
 mod Repeats
 mod RimEdges
-mod RimLists
 mod RiseLists
-mod Runs
 mod SafeLengths
 mod TightEdges

@@ -2,14 +2,21 @@
 use Rattle.std.proofs.Common.{◌≡◌, ◌⊎◌, ◌↔◌, ℕ, zero, suc, ◌+◌, ◌<◌, ◌≤◌, Bool, true, false, List, [], ◌∷◌, ◌++◌}
 use Rattle.std.proofs.Common.{Option, None, Some, length, get_or, refl, sym, ◌∙◌, ap, subst, inl, inr, arith}
 use Rattle.std.proofs.Common.{length-append}
-use Rattle.std.proofs.lemmas.Bool.{cases_eq, cases_lt, false≢true}
-use Rattle.std.proofs.lemmas.List.{get_or_append_left, get_or_push}
-use Rattle.def_certtext.specs.declared.certs.Rise.{Rise}
-use Rattle.def_flow.specs.declared.limits.TheConstants.{MAX_FLOOR}
-use Rattle.def_layout.specs.Gluings.{Gluing}
-use Rattle.def_remesh.specs.NewPoints.{lengths_in}
-use Rattle.def_remesh.specs.Rises.{rise_at, AreNeeded, AreTightLong, IsNeeded, IsTightArc}
+use Rattle.std.proofs.{lemmas.Bool.cases_eq, lemmas.Bool.cases_lt, lemmas.Bool.false≢true}
+use Rattle.std.proofs.{lemmas.List.get_or_append_left, lemmas.List.get_or_push, lemmas.List.Elements.Contains-get_or}
+use Rattle.std.specs.{Prelude.ℤ, Prelude.pos, List.Contains}
+use Rattle.def_layout.specs.{Gluings.Gluing, Lengths.Lengths, Layouts.gluing_of, Layouts.side_at, Layouts.way_number}
+use Rattle.def_layout.specs.{Layouts.Layout, Surfaces.HasWholeSides, declared.tmesh.SideArc.SideArc}
+use Rattle.def_remesh.specs.Rises.{rise_at, AreNeeded, AreTightLong, IsNeeded, IsTightArc, RunsAlong}
+use Rattle.def_remesh.specs.{NewPoints.lengths_in, Numberings.used_at}
 use Rattle.qm_stitch.specs.Raised.{AreFloors, AreOrdered, AreRisesUpto, IsFloorOf, IsShortTight}
+use Rattle.qm_stitch.specs.Remedies.{price_of, IsArcOf, IsRemedy, IsRunIn, IsRunOf, IsShortRun, IsSomeShort, AreMarksOf}
+use Rattle.qm_stitch.specs.Remedies.{FollowCheapest, IsCheapest, IsCheapestIn}
+use Rattle.qm_stitch.specs.{Rims.key_of, declared.remedy.Remedy.Remedy, declared.remedy.Run.Run}
+use Rattle.qm_stitch.specs.{declared.remedy.Run.TheVariants.Arc, declared.remedy.Run.TheVariants.Side}
+use Rattle.def_written.specs.Edges.{Edge, on_arc, flat, steep, IsEdge}
+use Rattle.{def_certtext.specs.declared.certs.Rise.Rise, def_flow.specs.declared.limits.TheConstants.MAX_FLOOR}
+use Rattle.{qm_offsets.proofs.Whole.arcs_low, qm_offsets.proofs.Whole.way_for, qm_offsets.specs.Fours.arcs_on}
 
 -- The rise past the last one.
 abbrev no_rise : Rise
@@ -165,4 +172,152 @@ module _ (l : Gluing) (xs : List ℕ) (chosen : List Bool) (long : length xs ≡
     ordered = are.ordered;
     each = λ k k_low. floor_needed l xs chosen long false (rise_at rises k) (λ on. absurd cc) (λ off. tight_long)
         (are.floors k k_low).0 (are.floors k k_low).1;
+  }
+
+-- Arcs along edges: which arcs are tight by them, which of them are short, and which edges they lie along.
+
+-- An edge runs along the arcs of its runs, and along no others.
+along : (layout : Layout) (e : Edge) (run : Run) (arc : ℕ) → IsRunOf e run → IsArcOf layout run arc
+    → RunsAlong (gluing_of layout) e arc
+along layout (on_arc a k) run arc is has = subst (λ (r : Run). IsArcOf layout r arc) is has
+along layout (flat p i j) run arc (inl is) has = inl (subst (λ (r : Run). IsArcOf layout r arc) is has)
+along layout (flat p i j) run arc (inr is) has = inr (subst (λ (r : Run). IsArcOf layout r arc) is has)
+along layout (steep p i j) run arc (inl is) has = inl (subst (λ (r : Run). IsArcOf layout r arc) is has)
+along layout (steep p i j) run arc (inr is) has = inr (subst (λ (r : Run). IsArcOf layout r arc) is has)
+
+run_along : (layout : Layout) (e : Edge) (arc : ℕ) → RunsAlong (gluing_of layout) e arc
+    → (run : Run) × IsRunOf e run × IsArcOf layout run arc
+run_along layout (on_arc a k) arc has = (Arc a, refl, has)
+run_along layout (flat p i j) arc (inl has) = (Side p 0, inl refl, has)
+run_along layout (flat p i j) arc (inr has) = (Side p 2, inr refl, has)
+run_along layout (steep p i j) arc (inl has) = (Side p 1, inl refl, has)
+run_along layout (steep p i j) arc (inr has) = (Side p 3, inr refl, has)
+
+-- There are these arcs.
+run_in : (layout : Layout) (x : Lengths) (e : Edge) (run : Run) → IsEdge (gluing_of layout) x e → IsRunOf e run
+    → IsRunIn layout run
+run_in layout x (on_arc a k) run is same = subst (IsRunIn layout) (sym same) is.0
+run_in layout x (flat p i j) run is (inl same) = subst (IsRunIn layout) (sym same) (is.0, omega arith)
+run_in layout x (flat p i j) run is (inr same) = subst (IsRunIn layout) (sym same) (is.0, omega arith)
+run_in layout x (steep p i j) run is (inl same) = subst (IsRunIn layout) (sym same) (is.0, omega arith)
+run_in layout x (steep p i j) run is (inr same) = subst (IsRunIn layout) (sym same) (is.0, omega arith)
+
+module _ (layout : Layout) (x : Lengths) (prices : List ℤ) where
+  pub remedy_in : (r : Remedy) → IsRemedy layout x prices r → IsRunIn layout r.run
+  remedy_in r (e, is) = run_in layout x e r.run is.doubled.is is.run
+
+  -- The arcs of a remedy are tight.
+  pub remedy_tight : (r : Remedy) (arc : ℕ) → IsRemedy layout x prices r → IsArcOf layout r.run arc
+      → IsTightArc (gluing_of layout) x arc
+  remedy_tight r arc (e, is) has = record {
+    edge = e;
+    u = is.doubled.u;
+    v = is.doubled.v;
+    is = is.doubled.is;
+    ends = is.doubled.ends;
+    doubled = is.doubled.doubled;
+    along = along layout e r.run arc is.run has;
+  }
+
+  -- Where a tight arc is short, there is a remedy.
+  pub none_short : ((r : Remedy) → ¬ IsRemedy layout x prices r) → AreTightLong (gluing_of layout) x
+  none_short none arc low t = elim (cases_lt (x arc) MAX_FLOOR) [
+    | inl short ↦
+        let run = run_along layout t.edge arc t.along in
+        let price = price_of layout x prices run.0 in
+        absurd (none (record { key = key_of (gluing_of layout) x t.edge; price = price; run = run.0 }) (
+          t.edge,
+          record {
+            doubled = record { is = t.is; u = t.u; v = t.v; ends = t.ends; doubled = t.doubled };
+            key = refl;
+            run = run.1;
+            short = (arc, run.2, short);
+            price = refl;
+          },
+        ))
+    | inr high ↦ high
+  ]
+
+-- Short arcs in use are short arcs of a side.
+pub uses_short : (layout : Layout) (x : Lengths) (p s : ℕ) (uses : List SideArc) → uses ≡ arcs_on layout p s
+    → IsSomeShort x uses → IsShortRun layout x (Side p s)
+uses_short layout x p s uses same some =
+    let on = subst (IsSomeShort x) same some in
+    ((used_at (arcs_on layout p s) on.0).arc, (on.0, on.1, refl), on.2)
+
+pub short_uses : (layout : Layout) (x : Lengths) (p s : ℕ) (uses : List SideArc) → uses ≡ arcs_on layout p s
+    → IsShortRun layout x (Side p s) → IsSomeShort x uses
+short_uses layout x p s uses same (arc, (at, low, is), short) = rw same (at, low, rw is short)
+
+-- What the arcs of a run are numbers of.
+pub arc_low : (layout : Layout) (run : Run) (arc : ℕ) → HasWholeSides (gluing_of layout) → IsRunIn layout run
+    → IsArcOf layout run arc → arc < length layout.arcs
+arc_low layout (Arc a) arc paved there same = omega arith
+arc_low layout (Side p s) arc paved there has =
+    let w = way_for s there.1 in
+    let on : IsArcOf layout (Side p (way_number w.0)) arc = rw w.1 has in
+    rw (← on.2)
+    (arcs_low layout paved p w.0 (length layout.arcs) (side_at layout p w.0) there.0 refl refl on.0 _ on.1)
+
+-- The rises of marked arcs of cheapest remedies are needed, and they follow the rule.
+
+module _ {layout : Layout} {xs : List ℕ} (prices : List ℤ) {rs : List Remedy} {marks : List Bool} {rises : List Rise}
+    (paved : HasWholeSides (gluing_of layout)) (long : length xs ≡ length layout.arcs) (found : (r : Remedy) → Contains
+    rs r ↔ IsRemedy layout (lengths_in xs) prices r) (are : AreMarksOf layout rs marks) {some : Bool} (on : some ≡ true
+    → 0 < length rs) (off : some ≡ false → length rs ≡ 0) (risen : AreRisesUpto some marks xs (length xs) rises) where
+  abbrev x : Lengths
+  x = lengths_in xs
+
+  cheapest : (r : Remedy) → IsCheapestIn rs r → IsCheapest layout x prices r
+  cheapest r is = record {
+    is = (found r).0 is.has;
+    least = λ other is_other same. is.least other ((found other).1 is_other) same;
+  }
+
+  low : (r : Remedy) (arc : ℕ) → IsRemedy layout x prices r → IsArcOf layout r.run arc → arc < length layout.arcs
+  low r arc is of = arc_low layout r.run arc paved (remedy_in layout x prices r is) of
+
+  marked : (arc : ℕ) → arc < length layout.arcs → get_or marks arc false ≡ true → IsTightArc (gluing_of layout) x arc
+  marked arc less mark =
+      let c = are.only arc less mark in remedy_tight layout x prices c.0 arc ((found c.0).0 c.1.has) c.2
+
+  some_short : 0 < length rs → (arc : ℕ) × (arc < length xs) × IsShortTight marks xs arc
+  some_short has =
+      let c = are.each _ (Contains-get_or rs 0 (record { key = 0; price = pos 0; run = Arc 0 }) has) in
+      let remedy = (found c.0).0 c.1.has in
+      let short = remedy.1.short in
+      let less = low c.0 short.0 remedy short.1 in
+      (short.0, omega arith, (c.3 short.0 less short.1, short.2))
+
+  pub choice_needed : ¬ ((arc : ℕ) → arc < length xs → MAX_FLOOR ≤ x arc) → AreNeeded (gluing_of layout) x rises
+  choice_needed not_long = by_some some refl
+    where
+      by_some : (b : Bool) → some ≡ b → AreNeeded (gluing_of layout) x rises
+      by_some true is =
+          chosen_needed (gluing_of layout) xs marks long rises marked (rw is at risen) (some_short (on is))
+      by_some false is = all_needed (gluing_of layout) xs marks long rises (none_short layout x prices
+          (λ r remedy. let has = (found r).1 remedy in omega (arith, off is))) (rw is at risen) not_long
+
+  by_marks : (r : Remedy) → IsRemedy layout x prices r → AreRisesUpto true marks xs (length xs) rises
+  by_marks r remedy = by_some some refl
+    where
+      by_some : (b : Bool) → some ≡ b → AreRisesUpto true marks xs (length xs) rises
+      by_some true is = rw is at risen
+      by_some false is = let has = (found r).1 remedy in absurd (omega arith)
+
+  pub choice_follows : FollowCheapest layout x prices rises
+  choice_follows = record {
+    each = λ r remedy.
+        let c = are.each r ((found r).1 remedy) in (
+          c.0,
+          cheapest c.0 c.1,
+          c.2,
+          λ arc of short.
+              let less = low c.0 arc ((found c.0).0 c.1.has) of in
+              (by_marks r remedy).each arc (x arc + 1) (omega arith) (short, c.3 arc less of, refl),
+        );
+    only = λ r remedy arc has.
+        let floor = (by_marks r remedy).floors has.0 has.1 in
+        let c = are.only _ (omega arith) floor.1.1 in
+        (c.0, cheapest c.0 c.1, subst (IsArcOf layout c.0.run) has.2 c.2);
   }

@@ -1,16 +1,14 @@
 -- Safe lengths double no edge, and lengths that double none keep the shape.
-use Rattle.std.proofs.Common.{◌≡◌, ℕ, ◌*◌, ◌/◌, ◌<◌, Bool}
-use Rattle.std.proofs.Common.{List, length, sym, ◌∙◌, ap, subst, inl}
-use Rattle.std.proofs.{Common.inr, Common.arith, lemmas.Bool.cases_lt, lemmas.List.get_or_past, lemmas.Nat.div-mul-add}
+use Rattle.std.proofs.Common.{◌≡◌, ℕ, ◌*◌, ◌/◌, ◌<◌, Bool, List, length, sym, ◌∙◌, ap, subst, inl, inr, arith}
+use Rattle.std.proofs.{lemmas.Bool.cases_lt, lemmas.List.get_or_past, lemmas.Nat.div-mul-add}
 use Rattle.std.specs.Prelude.{◌↔◌, IsTrue}
 use Rattle.def_layout.specs.{Arcs.long_at, Arcs.Path, Lengths.Lengths, Lengths.AreLengths, Layouts.Layout}
 use Rattle.def_layout.specs.{Layouts.gluing_of}
-use Rattle.def_layoutnet.specs.MeshLayouts.{IsSomeLayout}
-use Rattle.def_written.specs.Edges.{IsUndoubled}
-use Rattle.def_remesh.specs.NewPoints.{lengths_in, multiple_of}
-use Rattle.def_remesh.specs.Stitched.{AreMultiples, AreSafe, KeepsShapes}
-use Rattle.embedding_laws.proofs.{MeshLayouts.laid_of, MeshLayouts.lies, LayoutLies.embedding_law}
+use Rattle.def_remesh.specs.{NewPoints.lengths_in, NewPoints.multiple_of, Stitched.AreMultiples, Stitched.AreSafe}
+use Rattle.def_remesh.specs.{Stitched.KeepsShapes}
+use Rattle.embedding_laws.proofs.{Bounds.laid_of, Bounds.lies, OneLayout.embedding_law}
 use Rattle.written_laws.proofs.Shape.{keeps_shape_law, multiple_law, three_law}
+use Rattle.{def_layoutnet.specs.MeshLayouts.IsSomeLayout, def_written.specs.Edges.IsUndoubled}
 
 module _ (layout : Layout) (list : List ℕ) (long : length list ≡ length layout.arcs) where
   -- Beyond the arcs, lengths are 0.

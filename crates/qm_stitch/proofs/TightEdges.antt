@@ -1,22 +1,18 @@
 -- Which edges are doubled: the keys tell, and none between two inner points of a patch is.
-use Rattle.std.proofs.Common.{◌≡◌, ◌⊎◌, ◌↔◌, ℕ, ◌+◌, ◌-◌, ◌/◌, ◌%◌, ◌^◌, ◌<◌, Bool, true, false, not, List}
-use Rattle.std.proofs.Common.{length, get_or, refl, sym, ◌∙◌, subst, inl, inr, arith}
-use Rattle.std.proofs.lemmas.Bool.{cases_eq, cases_lt}
-use Rattle.std.proofs.lemmas.List.{get_or_default, length-map}
+use Rattle.std.proofs.Common.{◌≡◌, ◌⊎◌, ◌↔◌, ℕ, ◌+◌, ◌-◌, ◌/◌, ◌%◌, ◌^◌, ◌<◌, Bool, true, false, not, List, length}
+use Rattle.std.proofs.Common.{get_or, refl, sym, ◌∙◌, subst, inl, inr, arith}
+use Rattle.std.proofs.{lemmas.Bool.cases_eq, lemmas.Bool.cases_lt, lemmas.List.get_or_default, lemmas.List.length-map}
 use mathlib.Core.HLevel.{⊥_prop}
 use mathlib.Core.Logic.{∥∥₁_elim}
-use Rattle.def_layout.specs.{Arcs.path, Gluings.Gluing, Lengths.Lengths, Lengths.size}
-use Rattle.def_layout.specs.Layouts.{layout_of}
-use Rattle.def_remesh.specs.Rises.{IsTightArc, RunsAlong}
+use Rattle.def_layout.specs.{Arcs.path, Gluings.Gluing, Lengths.Lengths, Lengths.size, Layouts.layout_of}
 use Rattle.def_written.specs.Edges.{Edge, on_arc, flat, steep, IsEdge, HasEnds}
-use Rattle.written_laws.proofs.Sides.{size_some}
-use Rattle.qm_stitch.specs.{Lengthened.gluing_in, Lengthened.lengths_by, Numbered.AreTables}
 use Rattle.qm_stitch.specs.Rims.{along_lines, key_of, keys_of, line_edge, rim_edges, IsLine, IsRepeat}
 use Rattle.qm_stitch.specs.Tight.{AddsMarks, IsDoubled, IsDoubledOn, IsLineDoubled, IsTightUpto}
-use Rattle.qm_stitch.specs.declared.{keyed.Keyed.Keyed, numbered.Numbered.Numbered, rim.Line.Line}
+use Rattle.qm_stitch.specs.{Lengthened.gluing_in, Lengthened.lengths_by, Numbered.AreTables, declared.keyed.Keyed.Keyed}
+use Rattle.qm_stitch.specs.{declared.numbered.Numbered.Numbered, declared.rim.Line.Line}
 use Rattle.qm_stitch.proofs.DoubledPairs.{deep_alone, deep_apart, doubled_repeats, ends_key, key_ends, repeat_doubled}
-use Rattle.qm_stitch.proofs.Repeats.{repeat_moved}
-use Rattle.qm_stitch.proofs.RimEdges.{IsDeep}
+use Rattle.qm_stitch.proofs.{Repeats.repeat_moved, RimEdges.IsDeep}
+use Rattle.{def_remesh.specs.Rises.IsTightArc, def_remesh.specs.Rises.RunsAlong, written_laws.proofs.Sides.size_some}
 
 -- An edge of a line is one of the layout exactly where its numbers are.
 pub line_is : (l : Gluing) (x : Lengths) (u : Bool) (p n k : ℕ) → p < l.patches → 0 < n

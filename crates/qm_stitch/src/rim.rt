@@ -29,7 +29,7 @@ pub(crate) fn rim_keys(alloc: Global, numbered: &Numbered) -> Result<Vec<u64>, A
 }
 
 /// Puts the keys of the edges of all arcs behind the others.
-#[tactic(auto, using(crate::proofs::RimLists::parts_next))]
+#[tactic(auto, using(crate::proofs::RimEdges::parts_next))]
 fn push_arcs(keys: &mut Vec<u64>, numbered: &Numbered) -> Result<(), AllocError>
     ensures { OnOk result (keys.new.items ≡ keys.old.items
         ++ keys_of (gluing_in numbered.now) (lengths_by numbered.now)
@@ -42,7 +42,7 @@ fn push_arcs(keys: &mut Vec<u64>, numbered: &Numbered) -> Result<(), AllocError>
 }
 
 /// Puts the keys of the edges of an arc behind the others.
-#[tactic(auto, using(crate::proofs::RimLists::item_next))]
+#[tactic(auto, using(crate::proofs::RimEdges::item_next))]
 fn push_arc(keys: &mut Vec<u64>, numbered: &Numbered, arc: usize) -> Result<(), AllocError>
     requires arc { arc < length numbered.now.t.now.arcs.items }
     ensures { OnOk result (keys.new.items ≡ keys.old.items
@@ -67,7 +67,7 @@ pub(crate) fn arc_key(numbered: &Numbered, arc: usize, k: u32) -> u64
 }
 
 /// Puts the keys of the edges of all patches that have an end on a side behind the others.
-#[tactic(auto, using(crate::proofs::RimLists::both_next, crate::proofs::RimLists::parts_next))]
+#[tactic(auto, using(crate::proofs::RimEdges::both_next, crate::proofs::RimEdges::parts_next))]
 fn push_patches(keys: &mut Vec<u64>, numbered: &Numbered) -> Result<(), AllocError>
     ensures { OnOk result (keys.new.items ≡ keys.old.items
         ++ keys_of (gluing_in numbered.now) (lengths_by numbered.now)
@@ -112,7 +112,7 @@ fn push_lines(
 }
 
 /// Puts the keys of the first and the last edge of a line behind the others, which may be one edge.
-#[tactic(auto, using(crate::proofs::RimLists::first_alone))]
+#[tactic(auto, using(crate::proofs::RimEdges::first_alone))]
 fn push_line(keys: &mut Vec<u64>, numbered: &Numbered, line: Line) -> Result<(), AllocError>
     requires line { IsLine (gluing_in numbered.now) (lengths_by numbered.now) line }
     ensures { OnOk result (keys.new.items ≡ keys.old.items

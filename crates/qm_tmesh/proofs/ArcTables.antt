@@ -1,15 +1,66 @@
--- The list of arcs, arc by arc.
-use Rattle.std.proofs.Common.{◌≡◌, ◌⊎◌, ℕ, suc, ◌+◌, ◌<◌, Bool, true, List, [], ◌∷◌, ◌++◌, length, get_or, sym, ◌∙◌, ap}
-use Rattle.std.proofs.Common.{inl, inr, length-append, arith}
-use Rattle.std.proofs.lemmas.Bool.{cases_eq, cases_lt}
-use Rattle.std.proofs.lemmas.List.{get_or_append_left, get_or-append-add}
-use Rattle.def_mesh.specs.{Faces.Faces, Darts.darts, Vertices.vertex_count, HalfEdges.HalfEdges, HalfEdges.half_edges}
-use Rattle.def_cut.specs.{FullCut.is_on, Grids.least_of}
-use Rattle.def_layout.specs.{Arcs.Path, Arcs.path_at, Nodes.is_node}
+-- What is read of the arcs in a slice.
+use Rattle.std.proofs.Common.{◌≡◌, ℕ, ◌<◌, Bool, List, [], map, length, get_or, sym, ◌∙◌, ap, arith, ◌⊎◌, suc, ◌+◌}
+use Rattle.std.proofs.Common.{true, ◌∷◌, ◌++◌, inl, inr, length-append}
+use Rattle.std.proofs.lemmas.List.{get_or-map, length-map, get_or_append_left, get_or-append-add}
+use Rattle.std.proofs.{lemmas.Grind.get_or_default_zero, lemmas.Bool.cases_eq, lemmas.Bool.cases_lt}
+use Rattle.def_mesh.specs.{Faces.Faces, Darts.darts, HalfEdges.half_edges, HalfEdges.HalfEdges, Vertices.vertex_count}
+use Rattle.def_cut.specs.{FullCut.is_on, Grids.rectangle, Grids.patch_at, Grids.least_of, declared.patch.Patch.Patch}
+use Rattle.def_layout.specs.{Arcs.Path, Arcs.path, Arcs.path_at, Arcs.long_at, Nodes.is_node, declared.tmesh.TArc.TArc}
+use Rattle.layout_laws.proofs.{Runs.run_low, Runs.same_length, Uses.run_entry, Uses.same_named}
+use Rattle.qm_tmesh.specs.{Tables.IsMarked, Tables.IsNamedRun, Tables.AreStarts, Tables.ArePlaces, Uses.AreNamed}
+use Rattle.qm_tmesh.specs.{Arcs.IsArcFrom, Arcs.AreArcsBelow}
 use Rattle.layout_laws.specs.Named.{run_list, run_name}
-use Rattle.layout_laws.proofs.{Runs.same_length, Uses.same_named}
-use Rattle.qm_tmesh.specs.Tables.{IsMarked, IsNamedRun, AreStarts, ArePlaces}
-use Rattle.qm_tmesh.specs.Arcs.{IsArcFrom, AreArcsBelow}
+
+-- The arc that was read.
+pub read_arc : (arcs : List TArc) (a : ℕ) (x : TArc) → a < length arcs → x ≡ get_or arcs a x → path_at (map path arcs) a
+    ≡ path x
+read_arc arcs a x l is = get_or-map path arcs a x (record { first = 0; last = 0; darts = [] }) l ∙ ap path (sym is)
+
+module _ {faces : Faces} {cut marks : List Bool} (marked : IsMarked faces cut marks) {arcs : List Path}
+    (named : AreNamed faces cut arcs) where
+  pub named_some : (a : ℕ) → a < length arcs → 0 < long_at arcs a
+  named_some a l = (named.each a l).1.run.some
+
+  pub named_low : (a k : ℕ) → a < length arcs → k < long_at arcs a → get_or (path_at arcs a).darts k 0 < darts faces
+  named_low a k l lk =
+      let (s, run, is) = named.each a l in
+      rw (ap (λ (xs : List ℕ). get_or xs k 0) is ∙ run_entry (half_edges faces) s (long_at arcs a) k lk)
+      (run_low (half_edges faces) marked.laws (is_on cut) marked.full (is_node faces cut) marked.stand s
+      (long_at arcs a) run.run k lk)
+
+-- A named arc that was read has darts, which are darts of the mesh.
+pub record IsArcRead (faces : Faces) (arcs : List TArc) (a : ℕ) (arc : TArc) : Type 0 where
+  pub same : path_at (map path arcs) a ≡ path arc
+  pub low : a < length (map path arcs)
+  pub some : 0 < length arc.darts.items
+  pub below : (k : ℕ) → k < length arc.darts.items → get_or arc.darts.items k 0 < darts faces
+
+pub arc_read : {faces : Faces} {cut marks : List Bool} → IsMarked faces cut marks → (arcs : List TArc)
+    → AreNamed faces cut (map path arcs) → {a : ℕ} {arc : TArc} → a < length arcs → arc ≡ get_or arcs a arc
+    → IsArcRead faces arcs a arc
+arc_read {faces} {cut} marked arcs named {a} {arc} l is =
+    let same = read_arc arcs a arc l is in
+    let low : a < length (map path arcs) = omega (arith, length-map arcs path) in
+    record {
+      same = same;
+      low = low;
+      some = rw same at (named_some marked named a low);
+      below = rw same at (λ (k : ℕ). named_low marked named a k low);
+    }
+
+-- A number at place k of a list, where it was read at an equal place.
+pub read_at : (items : List ℕ) (k : ℕ) {place d : ℕ} → d ≡ get_or items place d → place ≡ k → k < length items
+    → d ≡ get_or items k 0
+read_at items k {place} {d} e same low =
+    e ∙ (get_or_default_zero items place d (omega (arith, same, low)) ∙ ap (λ x. get_or items x 0) same)
+
+-- The patch that was read.
+pub read_patch : (patches : List Patch) (p : ℕ) (x : Patch) → p < length patches → x ≡ get_or patches p x
+    → patch_at (map rectangle patches) p ≡ rectangle x
+read_patch patches p x l is = get_or-map rectangle patches p x (record { w = 0; h = 0; cells = [] }) l
+    ∙ ap rectangle (sym is)
+
+-- The list of arcs, arc by arc.
 
 arc_end : (arcs : List Path) (p : Path) → path_at (arcs ++ p ∷ []) (length arcs) ≡ p
 arc_end arcs p = let e : length arcs ≡ length arcs + 0 = omega arith in ap (path_at (arcs ++ p ∷ [])) e

@@ -1,30 +1,25 @@
 -- What was found is the layout.
 use Rattle.std.proofs.Common.{◌≡◌, ℕ, zero, suc, ◌+◌, ◌-◌, ◌<◌, ◌≤◌, Bool, true, false, cond, List, [], ◌∷◌, ◌++◌, map}
-use Rattle.std.proofs.Common.{length, get_or, Some, sym, ◌∙◌, ap, subst, refl, inl, inr, arith}
-use Rattle.std.proofs.lemmas.List.{length-map}
+use Rattle.std.proofs.Common.{length, get_or, Some, sym, ◌∙◌, ap, subst, refl, inl, inr, arith, ◌*◌}
 use Rattle.std.proofs.lemmas.List.FromFn.{get_or-map-range_with_len, length-map-range_with_len}
+use Rattle.std.proofs.{lemmas.List.length-map, Math.Nat.suc-mul, lemmas.Grind.get_or_default_zero}
 use Rattle.std.specs.List.{filter, range_with_len}
-use Rattle.list_laws.proofs.Filters.{filter_range_more}
 use Rattle.def_mesh.specs.{Faces.Faces, Meshes.IsMesh, Darts.darts, Darts.from_of, Darts.to_of, Darts.twin_of}
 use Rattle.def_mesh.specs.{Vertices.vertex_count, HalfEdges.HalfEdges, HalfEdges.half_edges}
 use Rattle.def_cut.specs.{FullCut.is_on, FullCut.IsFullCut, Grids.Rectangle, Grids.patch_at, Grids.IsPartition}
-use Rattle.def_cut.specs.Steps.{easts}
-use Rattle.def_layout.specs.Arcs.{Path, path, path_at, dart_at, long_at, IsArc}
-use Rattle.def_layout.specs.{Arcs.LiesAt, Borders.side_size, Borders.border_dart, Gluings.Way, Nodes.is_node}
-use Rattle.def_layout.specs.{Layouts.way_number, Layouts.IsDartLayout, declared.tmesh.SideArc.SideArc}
-use Rattle.def_layout.specs.declared.tmesh.TArc.{TArc}
-use Rattle.mesh_laws.proofs.HalfEdges.{manifold_law}
-use Rattle.face_laws.proofs.FullCuts.{full_cut_law}
-use Rattle.layout_laws.specs.Named.{run_list}
-use Rattle.layout_laws.proofs.Borders.{IsLine, line_easts, each_in_run}
-use Rattle.layout_laws.proofs.{FaceNodes.are_nodes, Runs.run_low, Uses.run_long, Uses.run_entry}
-use Rattle.layout_laws.proofs.Uses.{named_arc, named_or_back}
+use Rattle.def_cut.specs.{Grids.cell_of, Steps.easts}
+use Rattle.def_layout.specs.{Arcs.Path, Arcs.path, Arcs.path_at, Arcs.dart_at, Arcs.long_at, Arcs.IsArc, Arcs.LiesAt}
+use Rattle.def_layout.specs.{Borders.side_size, Borders.border_dart, Gluings.Way, Nodes.is_node, Layouts.way_number}
+use Rattle.def_layout.specs.{Layouts.IsDartLayout, declared.tmesh.SideArc.SideArc, declared.tmesh.TArc.TArc}
+use Rattle.layout_laws.proofs.{Borders.IsLine, Borders.line_easts, Borders.each_in_run, FaceNodes.are_nodes}
+use Rattle.layout_laws.proofs.{Runs.run_low, Uses.run_long, Uses.run_entry, Uses.named_arc, Uses.named_or_back}
 use Rattle.qm_tmesh.specs.{Arcs.IsArcFrom, Arcs.AreArcsBelow, Four.AreRuns, Four.IsPatchOf, Four.HavePatches}
-use Rattle.qm_tmesh.specs.{Four.AreAllFour, Sides.reach_in, Sides.IsSplit, Sides.IsSideOf}
-use Rattle.qm_tmesh.specs.{Tables.IsMarked, Uses.use_in, Uses.HasUsesBelow}
+use Rattle.qm_tmesh.specs.{Four.AreAllFour, Sides.reach_in, Sides.IsSplit, Sides.IsSideOf, Tables.IsMarked, Uses.use_in}
+use Rattle.qm_tmesh.specs.{Uses.HasUsesBelow}
 use Rattle.qm_tmesh.proofs.{Splits.arc_use, Splits.begins, Splits.side_split, Splits.entry, Splits.is_line}
-use Rattle.qm_tmesh.proofs.UseTables.{to_named}
-use Rattle.qm_tmesh.proofs.{UseTables.uses_done, UseTables.arc_of}
+use Rattle.qm_tmesh.proofs.{UseTables.to_named, UseTables.uses_done, UseTables.arc_of}
+use Rattle.{list_laws.proofs.Filters.filter_range_more, mesh_laws.proofs.Chains.manifold_law}
+use Rattle.{face_laws.proofs.FullCuts.full_cut_law, layout_laws.specs.Named.run_list}
 
 -- Tests that agree below n filter the numbers below n alike.
 filter_same : (p q : ℕ → Bool) (n : ℕ) → ((v : ℕ) → v < n → p v ≡ q v) → filter p (range_with_len 0 n)
@@ -213,3 +208,50 @@ module _ {faces : Faces} {cut marks : List Bool} (marked : IsMarked faces cut ma
       uses = λ slot is. (slot_begun slot.patch slot.side slot.at is.patch_low is.low).0;
       used = λ slot offset is lo. slot_lies slot.patch slot.side slot.at is.patch_low is.low offset lo;
     }
+
+-- The four corners of a patch, where they were read in its list of cells.
+
+module _ {faces : Faces} {cut : List Bool} {p : Rectangle} (is : IsPatchOf faces cut p) where
+  wide : 0 < p.w
+  wide = is.placed.grid.wide
+
+  tall : 0 < p.h
+  tall = is.placed.grid.tall
+
+  top : (g : ℕ) → suc g ≡ p.h → length p.cells ≡ g * p.w + p.w
+  top g e = is.sized ∙ (ap (λ x. x * p.w) (sym e) ∙ suc-mul g p.w)
+
+  above : suc (p.h - 1) ≡ p.h
+  above = omega (arith, tall)
+
+  pub room : p.w ≤ length p.cells
+  room = omega (arith, top (p.h - 1) above)
+
+  pub some_cell : 0 < length p.cells
+  some_cell = omega (arith, room, wide)
+
+  -- What was read at a place that is equal to another.
+  at : {cell : ℕ} (place other : ℕ) → cell ≡ get_or p.cells place cell → place ≡ other → other < length p.cells
+      → cell ≡ get_or p.cells other 0
+  at {cell} place other e same low =
+      e ∙ (get_or_default_zero p.cells place cell (omega (arith, same, low)) ∙ ap (λ x. get_or p.cells x 0) same)
+
+  pub south_west : {cell : ℕ} → cell ≡ get_or p.cells 0 cell → cell ≡ cell_of p 0 0
+  south_west e = at 0 (0 * p.w + 0) e (omega arith) (omega (arith, some_cell))
+
+  pub south_east : {cell : ℕ} → cell ≡ get_or p.cells (p.w - 1) cell → cell ≡ cell_of p (p.w - 1) 0
+  south_east e = at (p.w - 1) (0 * p.w + (p.w - 1)) e (omega arith) (omega (arith, room, wide))
+
+  pub north_east : {cell place : ℕ} → cell ≡ get_or p.cells place cell → place ≡ length p.cells - 1
+      → cell ≡ cell_of p (p.w - 1 - 0) (p.h - 1)
+  north_east {cell} {place} e there =
+      let low = top (p.h - 1) above in
+      at place ((p.h - 1) * p.w + (p.w - 1 - 0)) e (omega (arith, there, low, wide)) (omega (arith, low, wide))
+
+  pub north_west : {cell place : ℕ} → cell ≡ get_or p.cells place cell → place ≡ length p.cells - p.w
+      → cell ≡ cell_of p 0 (p.h - 1 - 0)
+  north_west {cell} {place} e there =
+      let low = top (p.h - 1) above in
+      let row : p.h - 1 ≡ p.h - 1 - 0 = omega arith in
+      at place ((p.h - 1) * p.w + 0) e (omega (arith, there, low)) (omega (arith, low, wide))
+      ∙ ap (λ x. get_or p.cells (x * p.w + 0) 0) row

@@ -1,16 +1,15 @@
 -- The sides of patches are split into uses of arcs.
-use Rattle.std.proofs.Common.{◌≡◌, ℕ, suc, ◌+◌, ◌<◌, Bool, List, length, get_or, Some, option_map, sym, ◌∙◌}
-use Rattle.std.proofs.Common.{ap, subst, arith}
-use Rattle.def_mesh.specs.Darts.{darts, from_of, next_of, straight_of}
-use Rattle.def_mesh.specs.{Faces.Faces, HalfEdges.HalfEdges, HalfEdges.half_edges}
+use Rattle.std.proofs.Common.{◌≡◌, ℕ, suc, ◌+◌, ◌<◌, Bool, List, length, get_or, Some, option_map, sym, ◌∙◌, ap, subst}
+use Rattle.std.proofs.Common.{arith}
+use Rattle.def_mesh.specs.{Darts.darts, Darts.from_of, Darts.next_of, Darts.straight_of, Faces.Faces}
+use Rattle.def_mesh.specs.{HalfEdges.HalfEdges, HalfEdges.half_edges}
 use Rattle.def_cut.specs.{FullCut.is_on, Grids.Rectangle, Steps.easts}
 use Rattle.def_layout.specs.{Arcs.Path, Arcs.path_at, Arcs.long_at, Arcs.LiesAt, Arcs.IsArc, Borders.side_size}
 use Rattle.def_layout.specs.{Borders.border_dart, Gluings.Way, Nodes.is_node, declared.tmesh.SideArc.SideArc}
 use Rattle.layout_laws.specs.Named.{run_list}
 use Rattle.layout_laws.proofs.Borders.{IsLine, line, line_easts, line_begins, run_fits, next_begins}
 use Rattle.layout_laws.proofs.Uses.{IsUse, run_long, run_entry, named_arc, use_run}
-use Rattle.qm_tmesh.specs.Four.{AreRuns, IsPatchOf, HasSide}
-use Rattle.qm_tmesh.specs.{Sides.IsSplit, Uses.use_in}
+use Rattle.qm_tmesh.specs.{Four.AreRuns, Four.IsPatchOf, Four.HasSide, Sides.IsSplit, Uses.use_in}
 
 module _ {faces : Faces} {arcs : List Path} {uses : List SideArc} (runs : AreRuns faces arcs uses) where
   abbrev mesh : HalfEdges

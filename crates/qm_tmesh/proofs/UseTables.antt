@@ -1,22 +1,63 @@
--- The table of uses.
-use Rattle.std.proofs.Common.{◌≡◌, ℕ, zero, suc, ◌+◌, ◌-◌, ◌<◌, ◌≤◌, Bool, true, false, List, length, get_or, set}
-use Rattle.std.proofs.Common.{Option, Some, None, sym, ◌∙◌, ap, refl, inl, inr, arith}
-use Rattle.std.proofs.lemmas.Bool.{cases_lt, false≢true}
-use Rattle.std.proofs.lemmas.Option.{none-some, same_Some}
-use Rattle.std.proofs.lemmas.List.{get_or-set_same, get_or-set_other, length-set}
+-- A side as it grows, use by use.
+use Rattle.std.proofs.Common.{◌≡◌, ℕ, suc, ◌+◌, ◌<◌, ◌≤◌, Bool, true, List, [], ◌∷◌, ◌++◌, length, get_or, ◌∙◌, ap, inl}
+use Rattle.std.proofs.Common.{inr, length-append, arith, zero, ◌-◌, false, set, Option, Some, None, sym, refl}
+use Rattle.std.proofs.lemmas.List.{get_or_append_left, get_or-append-add, get_or-set_same, get_or-set_other, length-set}
+use Rattle.std.proofs.{lemmas.Bool.cases_lt, lemmas.Bool.false≢true, lemmas.Option.none-some, lemmas.Option.same_Some}
+use Rattle.def_layout.specs.{Arcs.Path, Arcs.long_at, Arcs.IsRun, Arcs.path_at, Arcs.name_at, Arcs.LiesAt}
+use Rattle.def_layout.specs.{declared.tmesh.SideArc.SideArc, Nodes.is_node}
+use Rattle.qm_tmesh.specs.{Uses.use_in, Uses.AreNamed, Uses.HasUsesBelow, Uses.HasUses, Sides.reach_in, Sides.IsSplit}
+use Rattle.qm_tmesh.specs.{Sides.IsSideSoFar, Tables.IsMarked, Tables.IsNamedRun, Arcs.AreArcsBelow}
 use Rattle.def_mesh.specs.{Faces.Faces, Darts.darts, Darts.from_of, Darts.twin_of, HalfEdges.HalfEdges}
-use Rattle.def_mesh.specs.HalfEdges.{half_edges}
+use Rattle.def_mesh.specs.{HalfEdges.half_edges}
 use Rattle.def_cut.specs.{FullCut.is_on, Grids.Rectangle, Grids.least_of, Grids.IsPartition, Steps.easts}
-use Rattle.def_layout.specs.Arcs.{IsRun, Path, path_at, long_at, name_at, LiesAt}
-use Rattle.def_layout.specs.{Nodes.is_node, declared.tmesh.SideArc.SideArc}
-use Rattle.cut_laws.proofs.{Darts.twin_same, Increasing.increasing_place}
+use Rattle.cut_laws.proofs.{Folds.twin_same, Pigeon.increasing_place}
 use Rattle.layout_laws.specs.Named.{run_list, run_name}
-use Rattle.layout_laws.proofs.{Borders.each_in_run, Runs.run_low, Runs.run_inner, Runs.same_place}
-use Rattle.layout_laws.proofs.{Runs.same_length, Runs.back_run, Uses.run_long, Uses.run_entry, Uses.named_or_back}
-use Rattle.qm_tmesh.specs.{Tables.IsMarked, Tables.IsNamedRun, Arcs.AreArcsBelow, Uses.use_in}
-use Rattle.qm_tmesh.specs.Uses.{AreNamed, HasUsesBelow, HasUses}
-use Rattle.list_laws.proofs.Filters.{last_or}
-use Rattle.qm_tmesh.proofs.{ArcReads.named_low, Walks.name_dart, Walks.name_low}
+use Rattle.layout_laws.proofs.{Borders.each_in_run, Runs.run_low, Runs.run_inner, Runs.same_place, Runs.same_length}
+use Rattle.layout_laws.proofs.{Runs.back_run, Uses.run_long, Uses.run_entry, Uses.named_or_back}
+use Rattle.qm_tmesh.proofs.{ArcTables.named_low, Walks.name_dart, Walks.name_low}
+use Rattle.{sum_laws.proofs.Sums.count_below_same, list_laws.proofs.Filters.last_or}
+
+use_front : (used : List SideArc) (u : SideArc) (k : ℕ) → k < length used → use_in (used ++ u ∷ []) k ≡ use_in used k
+use_front used u k l = get_or_append_left used (u ∷ []) (record { arc = 0; forward = true }) k l
+
+use_end : (used : List SideArc) (u : SideArc) → use_in (used ++ u ∷ []) (length used) ≡ u
+use_end used u = let e : length used ≡ length used + 0 = omega arith in ap (use_in (used ++ u ∷ [])) e
+    ∙ get_or-append-add used (u ∷ []) 0 (record { arc = 0; forward = true })
+
+reach_front : (arcs : List Path) (used : List SideArc) (u : SideArc) (k : ℕ) → k ≤ length used
+    → reach_in arcs (used ++ u ∷ []) k ≡ reach_in arcs used k
+reach_front arcs used u k h = count_below_same (λ i. long_at arcs (use_in (used ++ u ∷ []) i).arc)
+    (λ i. long_at arcs (use_in used i).arc) k (λ i l. ap (λ (x : SideArc). long_at arcs x.arc)
+    (use_front used u i (omega arith)))
+
+reach_end : (arcs : List Path) (used : List SideArc) (u : SideArc)
+    → reach_in arcs (used ++ u ∷ []) (length (used ++ u ∷ [])) ≡ reach_in arcs used (length used) + long_at arcs u.arc
+reach_end arcs used u =
+    let n : length (used ++ u ∷ []) ≡ suc (length used) = length-append used (u ∷ []) ∙ omega arith in
+    let last : long_at arcs (use_in (used ++ u ∷ []) (length used)).arc ≡ long_at arcs u.arc =
+    ap (λ (x : SideArc). long_at arcs x.arc) (use_end used u) in
+    ap (reach_in arcs (used ++ u ∷ [])) n ∙ omega (arith, last, reach_front arcs used u (length used) (omega arith))
+
+pub side_more : {arcs : List Path} {uses : List SideArc} {line : List ℕ} {begins : ℕ → Bool} {t next : ℕ}
+    {used : List SideArc} {u : SideArc} → IsSplit arcs uses line begins → IsSideSoFar arcs uses line begins t used
+    → t < length line → u ≡ use_in uses (get_or line t 0) → next ≡ t + long_at arcs u.arc
+    → IsSideSoFar arcs uses line begins next (used ++ u ∷ [])
+side_more {arcs} {uses} {line} {begins} {t} {next} {used} {u} split so l is on =
+    let at = split.step t l (so.next l) in
+    let long = ap (λ (x : SideArc). long_at arcs x.arc) is in
+    record {
+      at = reach_end arcs used u ∙ omega (arith, so.at);
+      high = omega (arith, long, at.fits);
+      next = λ h. ap begins (on ∙ ap (λ x. t + x) long) ∙ at.next (omega (arith, long));
+      each = λ k lk. elim (cases_lt k (length used)) [
+        | inl b ↦ rw (reach_front arcs used u k (omega arith), use_front used u k b) (so.each k b)
+        | inr g ↦
+            let same : k ≡ length used = omega (arith, length-append used (u ∷ [])) in
+            rw (same, reach_front arcs used u (length used) (omega arith), so.at, use_end used u) (l, is)
+      ];
+    }
+
+-- The table of uses.
 
 module _ {faces : Faces} {cut marks : List Bool} (marked : IsMarked faces cut marks) where
   abbrev mesh : HalfEdges

@@ -1,23 +1,20 @@
 -- The loops over fans, runs and names, turn by turn.
-use Rattle.std.proofs.Common.{◌≡◌, ℕ, suc, ◌+◌, ◌<◌, ◌≤◌, Bool, true, false, cond, List, [], ◌∷◌, ◌++◌}
-use Rattle.std.proofs.Common.{length, get_or, set, Some, option_map, sym, ◌∙◌, ap, subst, inl, inr, length-append}
-use Rattle.std.proofs.Common.{arith}
-use Rattle.std.proofs.lemmas.Bool.{cases_eq, false≢true}
+use Rattle.std.proofs.Common.{◌≡◌, ℕ, suc, ◌+◌, ◌<◌, ◌≤◌, Bool, true, false, cond, List, [], ◌∷◌, ◌++◌, length, get_or}
+use Rattle.std.proofs.Common.{set, Some, option_map, sym, ◌∙◌, ap, subst, inl, inr, length-append, arith}
 use Rattle.std.proofs.lemmas.List.{get_or-set_same, get_or-set_other, length-set, get_or_append_left, get_or-append-add}
 use Rattle.std.proofs.lemmas.List.{append-nil}
-use Rattle.std.proofs.lemmas.List.FromFn.{map-range_with_len_more}
-use Rattle.std.specs.List.{filter, range_with_len}
-use Rattle.def_mesh.specs.Darts.{darts, from_of, next_of, twin_of, straight_of}
-use Rattle.def_mesh.specs.{Faces.Faces, Vertices.fan_of, HalfEdges.HalfEdges, HalfEdges.half_edges}
+use Rattle.std.proofs.{lemmas.Bool.cases_eq, lemmas.Bool.false≢true, lemmas.List.FromFn.map-range_with_len_more}
+use Rattle.def_mesh.specs.{Darts.darts, Darts.from_of, Darts.next_of, Darts.twin_of, Darts.straight_of, Faces.Faces}
+use Rattle.def_mesh.specs.{Vertices.fan_of, HalfEdges.HalfEdges, HalfEdges.half_edges}
 use Rattle.def_cut.specs.{FullCut.is_on, Grids.least_of, Steps.step_east, Steps.easts}
 use Rattle.def_layout.specs.{Arcs.end_vertex, Arcs.IsRun, Nodes.is_node}
 use Rattle.list_laws.proofs.Filters.{filter_range_more, last_or}
-use Rattle.mesh_laws.proofs.{Fans.is_fan, Vertices.all_below}
-use Rattle.cut_laws.proofs.Leasts.{least_high, least_low, least_there}
-use Rattle.layout_laws.specs.Named.{run_list, run_name}
+use Rattle.cut_laws.proofs.Classes.{least_high, least_low, least_there}
 use Rattle.layout_laws.proofs.Runs.{on_from, walk_done, walk_never, walked, run_low, same_length}
 use Rattle.layout_laws.proofs.Uses.{run_long, run_entry, same_named}
 use Rattle.qm_tmesh.specs.Tables.{IsMarked, IsNamedRun, AreStarts}
+use Rattle.{std.specs.List.filter, std.specs.List.range_with_len, mesh_laws.proofs.Chains.is_fan}
+use Rattle.{mesh_laws.proofs.Flood.all_below, layout_laws.specs.Named.run_list, layout_laws.specs.Named.run_name}
 
 -- What holds below a number and at it holds below the next.
 pub below_next : (P : ℕ → Type 0) (i : ℕ) → ((k : ℕ) → k < i → P k) → P i → (k : ℕ) → k < i + 1 → P k

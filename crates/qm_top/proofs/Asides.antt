@@ -1,33 +1,27 @@
 -- The lines that commands write around a mesh are passed over by a reader of meshes.
 use Rattle.std.proofs.Common.{◌≡◌, ◌+◌, ◌^◌, ◌<◌, ◌≤◌, not, ℕ, zero, suc, ℤ, Bool, true, false, List, [], ◌∷◌, ◌++◌}
 use Rattle.std.proofs.Common.{codes, length, take, map, get_or, sym, ◌∙◌, ap, subst, refl, arith, length-append}
-use Rattle.std.proofs.Math.Seq.{take-length}
-use Rattle.std.proofs.lemmas.Bool.{and_from, and_parts}
-use Rattle.std.specs.List.{before_first, list_all}
-use Rattle.std.specs.Prelude.{◌==◌, ◌&&◌, decimal, if◌then◌else◌, unsigned_abs}
-use Rattle.def_certtext.specs.Settings.{floor_text, weight_text, AreInRange}
-use Rattle.def_fit.specs.{Aims.IsAim, Aims.IsFit, FitWords.aim_text, FitWords.fit_head, FitWords.keep_word}
-use Rattle.def_fit.specs.{FitWords.patches_word, FitWords.spacing_word, declared.fit.Aim.Aim}
-use Rattle.def_fit.specs.declared.fit.Aim.TheVariants.{Scale, Edge}
-use Rattle.def_fit.specs.{declared.fit.Aim.TheVariants.Wishes, declared.fit.Fit.Fit, declared.fit.Spacing.Spacing}
-use Rattle.def_fit.specs.declared.fit.Spacing.TheVariants.{Even, Wished}
+use Rattle.std.proofs.{Math.Seq.take-length, lemmas.Bool.and_from, lemmas.Bool.and_parts}
+use Rattle.std.specs.{List.before_first, List.list_all, Prelude.◌==◌, Prelude.◌&&◌, Prelude.if◌then◌else◌}
+use Rattle.std.specs.{Prelude.unsigned_abs}
+use Rattle.def_fit.specs.FitWords.{aim_text, fit_head, keep_word, patches_word, spacing_word}
+use Rattle.def_fit.specs.declared.fit.Aim.TheVariants.{Scale, Edge, Wishes}
+use Rattle.def_fit.specs.{Aims.IsAim, Aims.IsFit, declared.fit.Aim.Aim, declared.fit.Fit.Fit}
+use Rattle.def_fit.specs.{declared.fit.Spacing.Spacing, declared.fit.Spacing.TheVariants.Even}
+use Rattle.def_fit.specs.{declared.fit.Spacing.TheVariants.Wished}
 use Rattle.def_flow.specs.{declared.net.Settings.Settings, declared.net.Weight.Weight}
-use Rattle.def_flow.specs.declared.net.Weight.TheVariants as weights
-use Rattle.def_io.specs.Bytes.{Bytes, Lines}
-use Rattle.def_layout.specs.{Lengths.Lengths, Layouts.Layout}
-use Rattle.def_marks.specs.MarkedText.{marked_text}
-use Rattle.def_patches.specs.{declared.Keep.Keep, declared.Patches.Patches, declared.Patches.TheVariants.Traced}
-use Rattle.def_patches.specs.declared.Patches.TheVariants.{Merged, Conforming}
-use Rattle.def_patches.specs.declared.Keep.TheVariants as keeps
+use Rattle.def_patches.specs.{declared.Patches.TheVariants.Traced, declared.Keep.Keep, declared.Patches.Patches}
 use Rattle.def_run.specs.{Heads.named_head, Reread.HasShortLines, Size.size_head}
-use Rattle.def_text.specs.{Canonical.micro_text, Logical.is_hash, Logical.part_of, Logical.with_space}
-use Rattle.def_text.specs.{Reading.begins_with, Words.words}
-use Rattle.qm_dec.proofs.Texts.{none_first}
+use Rattle.def_text.specs.{Logical.is_hash, Logical.part_of, Logical.with_space, Reading.begins_with, Words.words}
 use Rattle.qm_obj.proofs.LawText.{is_tame, micro_word, no_continuation}
-use Rattle.qm_check.proofs.Heads.{fit_inside, size_inside}
-use Rattle.remesh_laws.proofs.Asides.{floor_short, line_aside, number_short, settings_aside}
 use Rattle.remesh_laws.proofs.MarkedLines.{chain_line, chain_tame, marked_chains, marked_ended, marked_lines}
-use Rattle.remesh_laws.specs.Asides.{IsAside, IsPassedOver}
+use Rattle.remesh_laws.proofs.Asides.{floor_short, line_aside, number_short, settings_aside}
+use Rattle.{def_certtext.specs.Settings.weight_text, def_certtext.specs.Settings.AreInRange, def_io.specs.Bytes.Bytes}
+use Rattle.{def_io.specs.Bytes.Lines, def_layout.specs.Lengths.Lengths, def_layout.specs.Layouts.Layout}
+use Rattle.{def_marks.specs.MarkedText.marked_text, qm_dec.proofs.ReadBack.none_first, qm_check.proofs.Heads.fit_inside}
+use Rattle.{qm_check.proofs.Heads.size_inside, remesh_laws.specs.Asides.IsAside, remesh_laws.specs.Asides.IsPassedOver}
+use Rattle.def_flow.specs.declared.net.Weight.TheVariants as weights
+use Rattle.def_patches.specs.declared.Keep.TheVariants as keeps
 
 -- ---- Head lines.
 

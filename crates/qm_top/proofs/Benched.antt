@@ -3,27 +3,22 @@ use Rattle.std.proofs.Common.{◌≡◌, ℕ, ℤ, pos, [], sym, ◌∙◌, ap, 
 use Rattle.def_certtext.specs.CertLines.{alone, raised, risen, used, Certificates}
 use Rattle.def_certtext.specs.declared.certs.Rising.TheVariants.{Never}
 use Rattle.def_flow.specs.{Admissible.deviation, Admissible.entries, Admissible.AreNetLengths, Network.Network}
-use Rattle.def_flow.specs.declared.net.Settings.{Settings}
-use Rattle.def_gen.specs.Steps.{steps_soup}
-use Rattle.def_io.specs.Moves.{Change}
+use Rattle.def_flow.specs.{declared.net.Settings.Settings}
 use Rattle.def_layout.specs.{Arcs.long_at, Layouts.Layout, Layouts.gluing_of}
 use Rattle.def_layoutnet.specs.{LayoutNet.IsNetOf, MeshLayouts.IsSomeLayout}
-use Rattle.def_mesh.specs.Faces.{Faces}
 use Rattle.def_remesh.specs.{CutSoups.CutSoup, Keeping.IsKept, Refusals.IsLayoutFail, declared.tables.Tables.Tables}
 use Rattle.def_remesh.specs.{Tasks.old_lengths, declared.kept.LayoutFail.LayoutFail}
+use Rattle.def_run.specs.{Bench.bench_faces, Bench.bench_settings, Bench.IsBenchFail, Bench.WritesBench, Causes.Cause}
+use Rattle.def_run.specs.{Causes.IsUnread, Remesh.IsTracedLayout, declared.command.Command.TheVariants.Bench}
+use Rattle.qm_top.specs.{Deviation.IsKeptDeviation, Writing.IsOfLayout, Refusals.answer_of_layout, Refusals.Ended}
+use Rattle.qm_top.specs.{Refusals.IsNoMeshOf, declared.refusal.Refusal.Refusal}
+use Rattle.qm_top.specs.{declared.refusal.Refusal.TheVariants.NotManifold}
+use Rattle.qm_top.proofs.Refusals.{memory_ended, place_ended, layout_ends, IsWriter}
+use Rattle.{def_gen.specs.Steps.steps_soup, def_io.specs.Moves.Change, def_mesh.specs.Faces.Faces}
+use Rattle.{def_text.specs.FaceSet.FaceSet, embedding_laws.proofs.Bounds.laid_of}
+use Rattle.{qm_layoutnet.proofs.Balance.one_net_law, remesh_laws.proofs.Solved.writable_short}
 use Rattle.def_remesh.specs.declared.kept.LayoutFail.TheVariants as layouts
-use Rattle.def_run.specs.Bench.{bench_faces, bench_settings, IsBenchFail, WritesBench}
-use Rattle.def_run.specs.{Causes.Cause, Causes.IsUnread, Remesh.IsTracedLayout}
-use Rattle.def_run.specs.declared.command.Command.TheVariants.{Bench}
-use Rattle.def_text.specs.FaceSet.{FaceSet}
-use Rattle.embedding_laws.proofs.MeshLayouts.{laid_of}
-use Rattle.qm_layoutnet.proofs.OneNet.{one_net_law}
-use Rattle.qm_top.specs.{Deviation.IsKeptDeviation, Writing.IsOfLayout}
-use Rattle.qm_top.specs.Refusals.{answer_of_layout, Ended, IsNoMeshOf}
-use Rattle.qm_top.specs.{declared.refusal.Refusal.Refusal, declared.refusal.Refusal.TheVariants.NotManifold}
 use Rattle.qm_top.specs.declared.refusal.Refusal.TheVariants as refusals
-use Rattle.qm_top.proofs.{Refusals.memory_ended, Refusals.place_ended, Refusals.layout_ends, Refusals.IsWriter}
-use Rattle.remesh_laws.proofs.Solved.{writable_short}
 
 -- ---- What is kept.
 

@@ -2,33 +2,31 @@
 -- cause.
 use Rattle.std.proofs.Common.{◌≡◌, ◌≢◌, take, inl, inr}
 use Rattle.def_io.specs.{Bytes.Bytes, Lines.lines_of, Moves.Change, declared.fails.WriteFail.WriteFail}
-use Rattle.def_marks.specs.declared.fail.MarkFail.{MarkFail}
-use Rattle.def_marks.specs.declared.fail.MarkFail.TheVariants as marks
-use Rattle.def_remesh.specs.Checked.{IsCheckedPair}
-use Rattle.def_remesh.specs.declared.kept.LayoutFail.TheVariants as layouts
-use Rattle.def_run.specs.{Causes.Cause, Causes.Reads, Causes.Refused, Causes.Refuses, Map.HasMap, Map.RefusesNew}
-use Rattle.def_run.specs.{Check.RefusesOldText, Check.RefusesPair, CheckFails.IsCheckFail, CheckFails.IsPairFail}
 use Rattle.def_run.specs.Checking.{HasFitText, IsAcceptedText, RefusesToCheck, WritesAccepted}
-use Rattle.def_run.specs.{Map.RefusesToMap, Map.WritesMap, MapFails.HasLineFail, MapFails.IsMapFail}
-use Rattle.def_run.specs.{MapFails.RefusesFrontMarks, MapFails.RefusesFrontText, MarkLines.front_of}
-use Rattle.def_run.specs.{Messages.HasFrontSoup, Messages.LooksAt, declared.answer.Answer.Answer}
-use Rattle.def_run.specs.{declared.check_fail.CheckFail.CheckFail, declared.command.Command.Command}
+use Rattle.def_run.specs.MapFails.{HasLineFail, IsMapFail, RefusesFrontMarks, RefusesFrontText}
 use Rattle.def_run.specs.declared.command.Command.TheVariants.{Check, Crease, Fit, Map}
+use Rattle.def_run.specs.{Causes.Cause, Causes.Reads, Causes.Refused, Causes.Refuses, Map.HasMap, Map.RefusesNew}
+use Rattle.def_run.specs.{Map.RefusesToMap, Map.WritesMap, Check.RefusesOldText, Check.RefusesPair}
+use Rattle.def_run.specs.{CheckFails.IsCheckFail, CheckFails.IsPairFail, MarkLines.front_of, Messages.HasFrontSoup}
+use Rattle.def_run.specs.{Messages.LooksAt, declared.answer.Answer.Answer, declared.check_fail.CheckFail.CheckFail}
+use Rattle.def_run.specs.{declared.command.Command.Command}
+use Rattle.def_text.specs.{FaceSet.FaceSet, Input.ReadWhole, declared.limits.TheConstants.MAX_BYTES}
+use Rattle.def_text.specs.{declared.refusal.ObjFail.ObjFail, declared.refusal.Which.TheVariants.Bytes as AllBytes}
+use Rattle.qm_check.proofs.Pairs.{headless, old_faulty, old_refused}
+use Rattle.qm_top.proofs.{NeverBytes.never_bytes, Refusals.ended, Refusals.lines_refuse, Refusals.place_ended}
+use Rattle.qm_top.proofs.{Refusals.IsWriter}
+use Rattle.qm_top.specs.declared.refusal.Refusal.TheVariants.{NotAccepted, Soup, NotManifold, Marks, Layout, Far}
+use Rattle.qm_top.specs.{Checking.IsNoPairFor, Checking.IsPlaced, Checking.IsUnaccepted, Mapping.IsNoMapFor}
+use Rattle.qm_top.specs.{Refusals.answer_of_marks, Refusals.answer_of_obj, Refusals.Ended}
+use Rattle.qm_top.specs.{declared.refusal.Refusal.Refusal}
+use Rattle.{def_marks.specs.declared.fail.MarkFail.MarkFail, def_remesh.specs.Checked.IsCheckedPair}
+use Rattle.def_marks.specs.declared.fail.MarkFail.TheVariants as marks
+use Rattle.def_remesh.specs.declared.kept.LayoutFail.TheVariants as layouts
 use Rattle.def_run.specs.declared.answer.Answer.TheVariants as answers
 use Rattle.def_run.specs.declared.answer.Why.TheVariants as why
 use Rattle.def_run.specs.declared.check_fail.CheckFail.TheVariants as check_fail
-use Rattle.def_text.specs.{FaceSet.FaceSet, Input.ReadWhole, declared.limits.TheConstants.MAX_BYTES}
-use Rattle.def_text.specs.{declared.refusal.ObjFail.ObjFail, declared.refusal.Which.TheVariants.Bytes as AllBytes}
 use Rattle.def_text.specs.declared.refusal.ObjFail.TheVariants as obj
 use Rattle.def_text.specs.declared.refusal.SoupFail.TheVariants as soup
-use Rattle.qm_check.proofs.Pairs.{headless, old_faulty, old_refused}
-use Rattle.qm_top.proofs.{NeverBytes.never_bytes, Refusals.ended, Refusals.lines_refuse, Refusals.place_ended}
-use Rattle.qm_top.proofs.Refusals.{IsWriter}
-use Rattle.qm_top.specs.Checking.{IsNoPairFor, IsPlaced, IsUnaccepted}
-use Rattle.qm_top.specs.Mapping.{IsNoMapFor}
-use Rattle.qm_top.specs.Refusals.{answer_of_marks, answer_of_obj, Ended}
-use Rattle.qm_top.specs.declared.refusal.Refusal.{Refusal}
-use Rattle.qm_top.specs.declared.refusal.Refusal.TheVariants.{NotAccepted, Soup, NotManifold, Marks, Layout, Far}
 use Rattle.qm_top.specs.declared.refusal.Refusal.TheVariants as refusals
 
 -- A place that bytes are refused for is the first fault of their soup, or of their old text.

@@ -1,18 +1,17 @@
 -- No line of a text is refused for the number of all bytes.
 use Rattle.std.proofs.Common.{◌≡◌, ℕ, ◌^◌, ◌==◌, ◌&&◌, nat_le, nat_lt, not, Bool, true, false, if◌then◌else◌, Result}
 use Rattle.std.proofs.Common.{Err, List, [], ◌∷◌, ◌++◌, length, take, refl, sym, ◌∙◌, ap}
-use Rattle.std.proofs.lemmas.Bool.{and_parts, false≢true}
-use Rattle.std.proofs.lemmas.List.Folds.{list_all-append}
+use Rattle.std.proofs.{lemmas.Bool.and_parts, lemmas.Bool.false≢true, lemmas.List.Folds.list_all-append}
 use Rattle.std.specs.List.{count_by, flat_map, list_all, list_any}
+use Rattle.def_text.specs.Reading.{face_reading, is_face_line, is_letter, is_position_count, is_vertex_line, reading}
+use Rattle.def_text.specs.Reading.{vertex_reading, words_reading}
+use Rattle.def_text.specs.Text.{first_refusal, late_in, positions, readings, refusal_in, refusals, text_soup}
 use Rattle.def_text.specs.{FaceSet.FaceSet, Corner.is_corner_word, Corner.is_out, Corner.used_index, Decimal.is_decimal}
-use Rattle.def_text.specs.{Decimal.is_far, Decimal.rounded, Logical.Logical, Logical.logical_lines}
-use Rattle.def_text.specs.Reading.{face_reading, is_face_line, is_letter, is_position_count}
-use Rattle.def_text.specs.Reading.{is_vertex_line, reading, vertex_reading, words_reading}
-use Rattle.def_text.specs.Text.{first_refusal, late_in, positions, readings, refusal_in}
-use Rattle.def_text.specs.{Text.refusals, Text.text_soup, Words.words, declared.reading.Reading.Reading}
-use Rattle.def_text.specs.{declared.reading.Reading.TheVariants.Face, declared.refusal.ObjFail.ObjFail}
-use Rattle.def_text.specs.declared.refusal.ObjFail.TheVariants.{Range, Limit}
-use Rattle.def_text.specs.{declared.refusal.Which.Which, declared.refusal.Which.TheVariants.Bytes, Types.Words}
+use Rattle.def_text.specs.{Decimal.is_far, Decimal.rounded, Logical.Logical, Logical.logical_lines, Words.words}
+use Rattle.def_text.specs.{declared.reading.Reading.Reading, declared.reading.Reading.TheVariants.Face}
+use Rattle.def_text.specs.{declared.refusal.ObjFail.ObjFail, declared.refusal.ObjFail.TheVariants.Range}
+use Rattle.def_text.specs.{declared.refusal.ObjFail.TheVariants.Limit, declared.refusal.Which.Which}
+use Rattle.def_text.specs.{declared.refusal.Which.TheVariants.Bytes, Types.Words}
 use Rattle.def_io.specs.Bytes.{Lines}
 
 -- Another limit than the one on all bytes.

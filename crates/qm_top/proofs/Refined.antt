@@ -1,35 +1,30 @@
 -- What `refine`, `blocks`, `layout` and `grids` keep.
-use Rattle.std.specs.Prelude.{IfOk, OnOk}
 use Rattle.std.proofs.Common.{◌≡◌, ℕ, ◌<◌, ◌≤◌, Bool, List, Option, None, Result, Ok, Err, sym, ap, ◌∙◌, subst, refl}
 use Rattle.std.proofs.Common.{arith}
 use Rattle.def_cuttext.specs.{LayoutText.layout_text, GridsText.chosen_text, declared.chosen.Chosen.Chosen}
-use Rattle.def_fit.specs.FitTasks.{kept_in}
-use Rattle.def_io.specs.{Bytes.Bytes, Moves.Change}
 use Rattle.def_layout.specs.{Arcs.long_at, Layouts.gluing_of, Layouts.vertex_at}
-use Rattle.def_mesh.specs.{Faces.Faces, Manifold.IsManifold}
 use Rattle.def_patches.specs.{Chosen.IsChosenLayout, declared.Keep.Keep, declared.Patches.Patches}
 use Rattle.def_remesh.specs.{CutSoups.CutSoup, CutSoups.Regrid, NewPoints.lengths_in, NewPoints.multiple_of}
 use Rattle.def_remesh.specs.{Placings.IsMeshLayout, Refined.refined_faces, Refined.refined_text, Stitched.KeepsShapes}
 use Rattle.def_remesh.specs.{declared.kept.LayoutFail.LayoutFail, declared.limits.TheConstants.MAX_NEW_FACES}
-use Rattle.def_remesh.specs.declared.kept.LayoutFail.TheVariants as layouts
+use Rattle.def_run.specs.declared.command.Command.TheVariants.{Grids, LayOut, Refine}
 use Rattle.def_run.specs.{Blocks.IsBlocked, Causes.Cause, Causes.Reads, Causes.Refuses, LayOut.HasChosenLayout}
-use Rattle.def_run.specs.{Mesh.IsMeshText, Refine.RefusesToRefine, Remesh.IsTracedLayout}
-use Rattle.def_run.specs.{declared.answer.Answer.Answer, declared.command.Command.Command}
-use Rattle.def_run.specs.{declared.command.Command.TheVariants.Grids, declared.command.TheConstants.MAX_MULTIPLE}
-use Rattle.def_run.specs.declared.command.Command.TheVariants.{LayOut, Refine}
-use Rattle.def_run.specs.declared.command.Command.TheVariants as commands
-use Rattle.def_run.specs.declared.answer.Answer.TheVariants as answers
+use Rattle.def_run.specs.{Mesh.IsMeshText, Refine.RefusesToRefine, Remesh.IsTracedLayout, declared.answer.Answer.Answer}
+use Rattle.def_run.specs.{declared.command.Command.Command, declared.command.TheConstants.MAX_MULTIPLE}
 use Rattle.def_text.specs.{FaceSet.FaceSet, Input.ReadSoup, Input.ReadWhole, declared.limits.TheConstants.MAX_BYTES}
 use Rattle.def_written.specs.{NewFaces.new_faces, Shape.KeepsShape}
-use Rattle.embedding_laws.proofs.MeshLayouts.{laid_of}
-use Rattle.qm_blocks.proofs.{Joined.linked_points, Mutual.lead_back}
-use Rattle.qm_blocktext.specs.declared.blocks.Blocks.{Blocks}
-use Rattle.qm_refine.proofs.Multiplied.{are_multiples}
+use Rattle.qm_blocks.proofs.Mutual.{linked_points, lead_back}
 use Rattle.qm_top.specs.Blocking.{links_in, told_text, AreBlocksBy, AreGridsBy, IsGridded}
 use Rattle.qm_top.specs.{LayingOut.FailsNever, Refining.FailsBy, Refining.FailsToRefine, Refining.IsRefinedMesh}
 use Rattle.qm_top.specs.{Refining.ShowsRefined, Refusals.answer_of_layout, Writing.IsOfLayout}
 use Rattle.qm_top.proofs.Refusals.{layout_ends, IsWriter}
-use Rattle.remesh_laws.proofs.ReadAgain.{refined_read}
+use Rattle.{std.specs.Prelude.IfOk, std.specs.Prelude.OnOk, def_fit.specs.FitTasks.kept_in, def_io.specs.Bytes.Bytes}
+use Rattle.{def_io.specs.Moves.Change, def_mesh.specs.Faces.Faces, def_mesh.specs.Manifold.IsManifold}
+use Rattle.{embedding_laws.proofs.Bounds.laid_of, qm_blocktext.specs.declared.blocks.Blocks.Blocks}
+use Rattle.{qm_refine.proofs.Multiplied.are_multiples, remesh_laws.proofs.ReadAgain.refined_read}
+use Rattle.def_remesh.specs.declared.kept.LayoutFail.TheVariants as layouts
+use Rattle.def_run.specs.declared.command.Command.TheVariants as commands
+use Rattle.def_run.specs.declared.answer.Answer.TheVariants as answers
 
 -- ---- The mesh of `refine`.
 

@@ -4,36 +4,32 @@ use Rattle.std.proofs.Common.{◌∙◌, ◌∷◌, ◌≡◌, ◌≢◌}
 use Rattle.std.proofs.lemmas.List.{take_all}
 use Rattle.std.specs.Prelude.{IfErr, IfOk, IsErrAnd, IsErrOf, OnOk, slice_range}
 use Rattle.def_certtext.specs.{CertLines.certificates_of, CertLines.used, declared.certs.Terms.Terms}
-use Rattle.def_io.specs.Moves.{Change, GaveMore, IsStill, Stream, TookPrefix, took}
+use Rattle.def_io.specs.{Moves.Change, Moves.GaveMore, Moves.IsStill, Moves.Stream, Moves.TookPrefix, Moves.took}
 use Rattle.def_io.specs.{Bytes.Bytes, Bytes.Lines, Faults.Rose, Lines.lines_of, declared.fails.WriteFail.WriteFail}
 use Rattle.def_layout.specs.{FaceLayouts.IsCutLayout, Layouts.Layout}
-use Rattle.def_marks.specs.declared.fail.MarkFail.{MarkFail}
 use Rattle.def_mesh.specs.{Manifold.IsManifold, declared.Place.Place}
 use Rattle.def_remesh.specs.{Keeping.IsKept, NewPoints.lengths_in, Placings.IsMeshLayout, Tasks.Task, Tasks.Wish}
 use Rattle.def_remesh.specs.{declared.kept.LayoutFail.LayoutFail}
 use Rattle.def_run.specs.Causes.{Cause, FailsToRead, Reads, ReadsTooMany, Refuses, Writes}
-use Rattle.def_run.specs.Messages.{AreNames, LooksAt, Said, SaidWhy}
 use Rattle.def_run.specs.declared.command.Command.TheVariants.{Bench, Check, Coarse, Crease, Fit, Grids, LayOut, Map}
 use Rattle.def_run.specs.declared.command.Command.TheVariants.{Remesh, Size}
-use Rattle.def_run.specs.{CommandLines.IsCommand, Crease.HasMarkFail, ErrorLines.error_line, Fit.HasAsideFail}
-use Rattle.def_run.specs.{LayOut.HasKeptFail, Mesh.IsMeshText, Mesh.IsNoMesh, Reread.Rereads}
-use Rattle.def_run.specs.{declared.answer.Answer.Answer, declared.command.Command.Command}
-use Rattle.def_run.specs.{declared.words.WordsFail.WordsFail}
+use Rattle.def_run.specs.{Messages.AreNames, Messages.LooksAt, Messages.Said, Messages.SaidWhy, CommandLines.IsCommand}
+use Rattle.def_run.specs.{Crease.HasMarkFail, ErrorLines.error_line, Fit.HasAsideFail, LayOut.HasKeptFail}
+use Rattle.def_run.specs.{Mesh.IsMeshText, Mesh.IsNoMesh, Reread.Rereads, declared.answer.Answer.Answer}
+use Rattle.def_run.specs.{declared.command.Command.Command, declared.words.WordsFail.WordsFail}
 use Rattle.def_text.specs.{FaceSet.FaceSet, Fails.of_obj, Input.ReadRefused, Input.ReadWhole, Text.soup_in, Types.Words}
 use Rattle.def_text.specs.{declared.limits.TheConstants.MAX_BYTES, declared.refusal.ObjFail.ObjFail}
 use Rattle.def_text.specs.{declared.refusal.Which.TheVariants.Bytes as AllBytes}
-use Rattle.qm_top.proofs.NeverBytes.{never_bytes}
 use Rattle.qm_top.specs.Refusals.{Ended, IsInputRefusal, IsNoMeshOf, answer_of, answer_of_layout, answer_of_marks}
 use Rattle.qm_top.specs.Refusals.{answer_of_obj, answer_of_words, names_of}
 use Rattle.qm_top.specs.Writing.{BrokeText, IsOfLayout, IsUnwritten, WroteText, refusal_of_put}
 use Rattle.qm_top.specs.declared.refusal.Refusal.TheVariants.{Marks, NotManifold, Soup, Write}
 use Rattle.qm_top.specs.{Meshless.IsMeshless, Runs.HasRun, declared.named.NamedPlace.NamedPlace}
 use Rattle.qm_top.specs.{declared.refusal.Refusal.Refusal}
-use Rattle.qm_write.proofs.Framing.{text_is}
 use Rattle.qm_write.specs.{Framing.framed_text, declared.remesh.Remesh.Remesh as NewMesh, declared.text.Framed.Framed}
 use Rattle.qm_write.specs.{declared.text.PutFail.PutFail}
-use Rattle.remesh_laws.proofs.Keeps.{shown}
-use Rattle.remesh_laws.specs.Keeps.{ShowsTask}
+use Rattle.{def_marks.specs.declared.fail.MarkFail.MarkFail, qm_top.proofs.NeverBytes.never_bytes}
+use Rattle.{qm_write.proofs.Framing.text_is, remesh_laws.proofs.Keeps.shown, remesh_laws.specs.Keeps.ShowsTask}
 use Rattle.def_marks.specs.declared.fail.MarkFail.TheVariants as marks
 use Rattle.def_remesh.specs.declared.kept.LayoutFail.TheVariants as layouts
 use Rattle.def_run.specs.declared.answer.Answer.TheVariants as answers

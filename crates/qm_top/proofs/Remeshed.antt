@@ -1,50 +1,43 @@
 -- What a command keeps that remeshes, and one that wishes for lengths which may be too great: `fit`, and `size`.
 use Rattle.std.proofs.Common.{Bool, List, None, Ok, Option, Result, Some, [], ap, arith, codes, false, inr, refl, subst}
 use Rattle.std.proofs.Common.{sym, true, ℕ, ℤ, ◌++◌, ◌<◌, ◌^◌, ◌∙◌, ◌∷◌, ◌≡◌, ◌≢◌, ◌≤◌}
-use Rattle.std.proofs.{lemmas.Result.IfErr-weaker, lemmas.Result.on_ok_weaker}
+use Rattle.std.proofs.lemmas.Result.{IfErr-weaker, on_ok_weaker}
 use Rattle.std.specs.Prelude.{IfErr, OnOk, unsigned_abs}
 use Rattle.def_certtext.specs.{CertLines.certificates_of, CertLines.used, Risings.may_rise, Risings.third_if}
 use Rattle.def_certtext.specs.{Settings.AreInRange, declared.certs.Rising.Rising}
 use Rattle.def_certtext.specs.{declared.certs.Rising.TheVariants.Never, declared.certs.Rising.TheVariants.Rounds}
-use Rattle.def_cut.specs.{FullCut.IsFullCut, Traced.traced_marks}
-use Rattle.def_feature.specs.Marked.{marked_cut}
-use Rattle.def_fit.specs.Aims.{AreAimedNear, IsFit, IsFitFail}
-use Rattle.def_fit.specs.FitTasks.{Asides, asides_in, fit_task, kept_text}
-use Rattle.def_fit.specs.{declared.fit.Aim.Aim, declared.fit.Aim.TheVariants.Edge, declared.fit.Fit.Fit as AnyFit}
-use Rattle.def_flow.specs.declared.net.Settings.{Settings}
-use Rattle.def_io.specs.Moves.{Change, IsStill, Stream}
-use Rattle.def_io.specs.Bytes.{Bytes}
+use Rattle.def_fit.specs.{Aims.AreAimedNear, Aims.IsFit, Aims.IsFitFail, FitTasks.Asides, FitTasks.asides_in}
+use Rattle.def_fit.specs.{FitTasks.fit_task, FitTasks.kept_text, declared.fit.Aim.Aim}
+use Rattle.def_fit.specs.{declared.fit.Aim.TheVariants.Edge, declared.fit.Fit.Fit as AnyFit}
+use Rattle.def_io.specs.{Moves.Change, Moves.IsStill, Moves.Stream, Bytes.Bytes}
 use Rattle.def_layout.specs.{FaceLayouts.IsCutLayout, Layouts.Layout, Lengths.Lengths}
 use Rattle.def_marks.specs.{Lines.marks_in, MarkedText.marked_text}
-use Rattle.def_mesh.specs.Manifold.{IsManifold}
-use Rattle.def_metric.specs.Fails.{AreNear, IsFar, IsSizeFail}
-use Rattle.def_metric.specs.{Targets.edge_settings, declared.fail.SizeFail.SizeFail}
+use Rattle.def_metric.specs.{Fails.AreNear, Fails.IsFar, Fails.IsSizeFail, Targets.edge_settings}
+use Rattle.def_metric.specs.{declared.fail.SizeFail.SizeFail}
 use Rattle.def_patches.specs.{Chosen.AreKeptMarks, Chosen.IsChosenLayout, declared.Patches.TheVariants.Traced}
-use Rattle.def_remesh.specs.Tasks.{Task, Wish, old_lengths, remesh_task}
-use Rattle.def_remesh.specs.{CutSoups.CutSoup, Keeping.IsKept, NewPoints.lengths_in, Placings.IsMeshLayout}
-use Rattle.def_remesh.specs.{ReadAgain.lines_between, Refusals.IsLayoutFail, declared.kept.LayoutFail.LayoutFail}
-use Rattle.def_run.specs.Causes.{Cause, Refused, Refuses, Writes}
+use Rattle.def_remesh.specs.{Tasks.Task, Tasks.Wish, Tasks.old_lengths, Tasks.remesh_task, CutSoups.CutSoup}
+use Rattle.def_remesh.specs.{Keeping.IsKept, NewPoints.lengths_in, Placings.IsMeshLayout, ReadAgain.lines_between}
+use Rattle.def_remesh.specs.{Refusals.IsLayoutFail, declared.kept.LayoutFail.LayoutFail}
 use Rattle.def_run.specs.Remesh.{Asks, AsksToRemesh, IsSettled, IsTracedLayout, RefusesTask, WritesFinished}
-use Rattle.def_run.specs.Reread.{HasShortLines, Rereads, RereadsTask}
-use Rattle.def_run.specs.Size.{AsksForNearSize, AsksForSize, size_task, soup_targets}
-use Rattle.def_run.specs.{Coarse.AsksToMerge, Crease.AsksToCrease, Crease.creased_task, Fit.AsksForNearFit}
-use Rattle.def_run.specs.{Fit.AsksToFit, Heads.named_head, Heads.named_task, Mesh.IsMeshText}
+use Rattle.def_run.specs.{Causes.Cause, Causes.Refused, Causes.Refuses, Causes.Writes, Reread.HasShortLines}
+use Rattle.def_run.specs.{Reread.Rereads, Reread.RereadsTask, Size.AsksForNearSize, Size.AsksForSize, Size.size_task}
+use Rattle.def_run.specs.{Size.soup_targets, Coarse.AsksToMerge, Crease.AsksToCrease, Crease.creased_task}
+use Rattle.def_run.specs.{Fit.AsksForNearFit, Fit.AsksToFit, Heads.named_head, Heads.named_task, Mesh.IsMeshText}
 use Rattle.def_run.specs.{declared.answer.Answer.Answer, declared.command.Command.Command}
 use Rattle.def_run.specs.{declared.command.Command.TheVariants.Fit, declared.command.Command.TheVariants.Size}
 use Rattle.def_text.specs.{FaceSet.FaceSet, Input.ReadSoup, declared.limits.TheConstants.MAX_BYTES}
-use Rattle.embedding_laws.proofs.OneLayout.{one_layout_law}
-use Rattle.patch_laws.proofs.Chosen.{chosen_cut_law}
 use Rattle.qm_top.proofs.Asides.{coarse_aside, crease_aside, fit_aside, marked_aside, size_aside}
-use Rattle.qm_top.proofs.Refusals.{TakesMesh, ended, needs}
-use Rattle.qm_top.proofs.Refusals.{IsWriter, framed_shown, layout_ends, unwritten_weaker}
-use Rattle.qm_top.specs.Fitting.{FailsNear, IsFarTask, IsOfWishes}
-use Rattle.qm_top.specs.Refusals.{Ended, answer_of_layout, refusal_of_size}
+use Rattle.qm_top.proofs.Refusals.{TakesMesh, ended, needs, IsWriter, framed_shown, layout_ends, unwritten_weaker}
 use Rattle.qm_top.specs.Writing.{FailsAsked, FailsTask, IsOfLayout, IsUnwritten, ShowsAsked, WroteText}
-use Rattle.qm_top.specs.{declared.refusal.Refusal.Refusal, declared.refusal.Refusal.TheVariants.Far}
+use Rattle.qm_top.specs.{Fitting.FailsNear, Fitting.IsFarTask, Fitting.IsOfWishes, Refusals.Ended}
+use Rattle.qm_top.specs.{Refusals.answer_of_layout, Refusals.refusal_of_size, declared.refusal.Refusal.Refusal}
+use Rattle.qm_top.specs.{declared.refusal.Refusal.TheVariants.Far}
 use Rattle.qm_write.specs.{Framing.framed_text, declared.text.Framed.Framed}
-use Rattle.remesh_laws.proofs.{Asides.head_aside, Asides.none_aside}
-use Rattle.remesh_laws.specs.{Asides.IsAside, Keeps.ShowsTask}
-use Rattle.site_laws.proofs.Laws.{graph_law}
+use Rattle.remesh_laws.proofs.Asides.{head_aside, none_aside}
+use Rattle.{def_cut.specs.FullCut.IsFullCut, def_cut.specs.Traced.traced_marks, def_feature.specs.Marked.marked_cut}
+use Rattle.{def_flow.specs.declared.net.Settings.Settings, def_mesh.specs.Manifold.IsManifold}
+use Rattle.{embedding_laws.proofs.OneLayout.one_layout_law, patch_laws.proofs.Chosen.chosen_cut_law}
+use Rattle.{remesh_laws.specs.Asides.IsAside, remesh_laws.specs.Keeps.ShowsTask, site_laws.proofs.Laws.graph_law}
 use Rattle.def_remesh.specs.declared.kept.LayoutFail.TheVariants as layouts
 use Rattle.def_run.specs.declared.command.Command.TheVariants as commands
 use Rattle.def_metric.specs.declared.fail.SizeFail.TheVariants as sizes

@@ -5,36 +5,33 @@ use Rattle.std.proofs.lemmas.List.{append-nil}
 use Rattle.def_certtext.specs.{declared.certs.Rising.Rising, declared.certs.Rising.TheVariants.Never}
 use Rattle.def_fit.specs.{FitTasks.asides_in, FitTasks.kept_in, declared.fit.Fit.Fit as AnyFit}
 use Rattle.def_flow.specs.declared.net.Settings.{Settings}
-use Rattle.def_io.specs.Moves.{Change, GaveMore, IsEmptied, IsStill, Stream, gave}
+use Rattle.def_io.specs.{Moves.Change, Moves.GaveMore, Moves.IsEmptied, Moves.IsStill, Moves.Stream, Moves.gave}
 use Rattle.def_io.specs.{Bytes.Bytes, Bytes.Told, Faults.Rose}
-use Rattle.def_layout.specs.Layouts.{Layout}
 use Rattle.def_marks.specs.{Lines.marks_in, declared.fail.MarkFail.MarkFail}
-use Rattle.def_mesh.specs.Manifold.{IsManifold}
-use Rattle.def_patches.specs.declared.Keep.{Keep}
-use Rattle.def_remesh.specs.Tasks.{Task, Wish, old_lengths}
-use Rattle.def_remesh.specs.{Refusals.IsRemeshable, Refusals.IsTangledAt}
-use Rattle.def_run.specs.Bench.{RefusesToBench, bench_faces, bench_settings}
+use Rattle.def_remesh.specs.{Tasks.Task, Tasks.Wish, Tasks.old_lengths, Refusals.IsRemeshable, Refusals.IsTangledAt}
 use Rattle.def_run.specs.Causes.{Cause, FailsToRead, IsGood, Reads, ReadsTooMany, Refuses, SourceHolds, Takes}
-use Rattle.def_run.specs.Crease.{HasMarkFail, HasMarks, RefusesMarks}
 use Rattle.def_run.specs.Fit.{AsksForNearFit, AsksToFit, HasAsideFail, HasNearAsides, HasNearWishes, RefusesFit}
-use Rattle.def_run.specs.LayOut.{HasKept, HasKeptFail, RefusesToLayOut}
 use Rattle.def_run.specs.Remesh.{Asks, HasFinished, HasTask, HoldsUntangled, IsSettled, IsTracedLayout, RefusesLayout}
 use Rattle.def_run.specs.Remesh.{RefusesTask}
-use Rattle.def_run.specs.Size.{AsksForNearSize, AsksForSize, HasNearTargets, RefusesSize}
 use Rattle.def_run.specs.declared.answer.Answer.TheVariants.{Done, Doubled, Far, Limit, Memory, NotEdge, NotManifold}
 use Rattle.def_run.specs.declared.answer.Answer.TheVariants.{NotQuad, Range, ReadFault, Syntax, Tangled, TooFine, Usage}
 use Rattle.def_run.specs.declared.answer.Answer.TheVariants.{WriteFault}
 use Rattle.def_run.specs.declared.command.Command.TheVariants.{Bench, Blocks, Check, Coarse, Crease, Fit, Graph, Grids}
 use Rattle.def_run.specs.declared.command.Command.TheVariants.{LayOut, Map, Refine, Remesh, Size, Tidy}
-use Rattle.def_run.specs.{CommandLines.IsCommand, ErrorLines.error_line, Exits.RunsTo, Exits.WasShort, Mesh.IsMeshText}
-use Rattle.def_run.specs.{Mesh.IsNoMesh, Messages.Said, Solving.IsUntangled, declared.answer.Answer.Answer}
-use Rattle.def_run.specs.{declared.command.Command.Command, declared.words.WordsFail.WordsFail}
+use Rattle.def_run.specs.{Bench.RefusesToBench, Bench.bench_faces, Bench.bench_settings, Crease.HasMarkFail}
+use Rattle.def_run.specs.{Crease.HasMarks, Crease.RefusesMarks, LayOut.HasKept, LayOut.HasKeptFail}
+use Rattle.def_run.specs.{LayOut.RefusesToLayOut, Size.AsksForNearSize, Size.AsksForSize, Size.HasNearTargets}
+use Rattle.def_run.specs.{Size.RefusesSize, CommandLines.IsCommand, ErrorLines.error_line, Exits.RunsTo, Exits.WasShort}
+use Rattle.def_run.specs.{Mesh.IsMeshText, Mesh.IsNoMesh, Messages.Said, Solving.IsUntangled}
+use Rattle.def_run.specs.{declared.answer.Answer.Answer, declared.command.Command.Command}
+use Rattle.def_run.specs.{declared.words.WordsFail.WordsFail}
 use Rattle.def_text.specs.{FaceSet.FaceSet, Types.Words, declared.limits.TheConstants.MAX_BYTES}
 use Rattle.def_text.specs.{declared.refusal.ObjFail.ObjFail, declared.refusal.Which.TheVariants.Bytes as AllBytes}
 use Rattle.qm_top.proofs.{Mapped.accepted_not_refused, Refusals.says_why, Refusals.says_words}
 use Rattle.qm_top.specs.Refusals.{Ended, Finished, answer_of, answer_of_words, names_of}
 use Rattle.qm_top.specs.declared.refusal.Refusal.{Refusal}
-use Rattle.remesh_laws.proofs.{Fits.fits_not_doubled, Fits.fits_not_fine}
+use Rattle.remesh_laws.proofs.Keeps.{fits_not_doubled, fits_not_fine}
+use Rattle.{def_layout.specs.Layouts.Layout, def_mesh.specs.Manifold.IsManifold, def_patches.specs.declared.Keep.Keep}
 use Rattle.def_marks.specs.declared.fail.MarkFail.TheVariants as marks
 use Rattle.def_run.specs.declared.answer.Answer.TheVariants as answers
 use Rattle.def_run.specs.declared.words.WordsFail.TheVariants as words_fail

@@ -70,7 +70,7 @@ impl Tour {
 
     /// A leaf whose key is the least. Which of several is left to the coin: a search that takes equal keys in a fixed
     /// order runs over a whole plateau of equal costs before it turns to an edge that is near.
-    #[tactic(auto, using(crate::proofs::Roots::leaf_least))]
+    #[tactic(auto, using(crate::proofs::Mended::leaf_least))]
     pub fn least_leaf(&self) -> usize
         ensures low { result < length self.now }
         ensures least { All (λ key. slice_index self.now result ≤ key) self.now }

@@ -1,26 +1,79 @@
+-- The tables and the queue before the first instant.
+use Rattle.std.proofs.Common.{◌≡◌, ℕ, ◌≤◌, Bool, false, not, ◌&&◌, List, [], ◌∷◌, length, map, ap, ◌∙◌, arith, ◌+◌}
+use Rattle.std.proofs.Common.{◌++◌, zero, suc, ◌-◌, ◌<◌, true, eqb, is_some, Option, Some, None, sym, refl, ◌||◌, inl}
+use Rattle.std.proofs.Common.{inr}
+use Rattle.std.proofs.lemmas.List.FromFn.{length-range_with_len, get_or-map-range_with_len, map-range_with_len_more}
+use Rattle.std.proofs.{lemmas.List.get_or-map, lemmas.List.length-map, lemmas.List.ext_get_or, lemmas.Bool.false≢true}
+use Rattle.def_mesh.specs.{Faces.Faces, Manifold.IsManifold, Vertices.vertex_count, Components.start_darts, Darts.darts}
+use Rattle.def_mesh.specs.{Darts.all_darts, Darts.twin_of, Kinds.is_inner, Kinds.is_singular}
+use Rattle.def_cut.specs.Motion.{begun, Terrain, State, ridden, is_among, ride_on, ride}
+use Rattle.def_cut.specs.{FullCut.is_on, Events.rider_at, declared.moving.Moving.Moving, Traced.AreRiders}
+use Rattle.def_cut.specs.{Traced.IsRiderOf, Traced.finish, Traced.is_cut, Traced.terrain_of, declared.graph.Rider.Rider}
+use Rattle.def_cut.specs.{declared.graph.Stop.Stop}
+use Rattle.def_feature.specs.{Marked.is_origin, Marked.marked_starts, Marked.marked_first, Marked.marked_last}
+use Rattle.def_feature.specs.{Marks.AreMarks}
+use Rattle.feature_laws.proofs.{First.origin_of, First.marked_begin, Breaks.begins}
+use Rattle.motion_laws.proofs.Among.{AreApart, apart_filter, among_range, range_among, range_apart, among_here}
+use Rattle.motion_laws.proofs.Among.{cases_List, cases_Option, from_filter, in_filter}
+use Rattle.motion_laws.proofs.Onward.{at_rest, last_rests, runs_on, finish_later, later_long}
+use Rattle.motion_laws.proofs.{Marks.apart_few, Shown.runs_ridden}
+use Rattle.qm_trace.specs.Tables.{AreEachOnce, IsQueue, IsGround, HaveStopped, IsEnd, IsOnItsWay, IsTableAt, is_running}
+use Rattle.qm_trace.specs.Tables.{is_closed_at, state_at}
+use Rattle.{std.specs.List.range_with_len, std.specs.List.filter, site_laws.proofs.Sites.started}
+use Rattle.{site_laws.proofs.Sites.terrain, mesh_laws.proofs.Flood.all_below, qm_trace.proofs.Counting.ridden_where}
+
+-- Numbers that are apart stand there once each.
+pub each_once : (ns : List ℕ) → AreApart ns → AreEachOnce ns
+each_once [] a = tt
+each_once (n ∷ ns) a = (a.0, each_once ns a.1)
+
+pub all_apart : (ns : List ℕ) → AreEachOnce ns → AreApart ns
+all_apart [] a = tt
+all_apart (n ∷ ns) a = (a.0, all_apart ns a.1)
+
+-- The riders start along darts, at most one along each.
+pub starts_few : (faces : Faces) → IsManifold faces → length (start_darts faces) ≤ darts faces
+starts_few faces m = apart_few (darts faces) (start_darts faces) (started faces m).apart (started faces m).low
+
+-- So they do beside marks.
+pub marked_few : (faces : Faces) (marks : List Bool) → length (marked_starts faces marks) ≤ darts faces
+marked_few faces marks =
+    apart_few (darts faces) (marked_starts faces marks) (apart_filter (λ d. is_origin faces marks d && not
+    (is_on marks d)) (all_darts faces) (range_apart 0 (darts faces))) (λ d n. (origin_of faces marks d n).0)
+
+-- At first everybody runs.
+pub first_queue : (starts : List ℕ) (riders : List Moving) → riders ≡ map begun starts
+    → IsQueue riders (range_with_len 0 (length starts))
+first_queue starts riders is = record {
+  runs = λ r m. let p = range_among 0 (length starts) r m in (
+    omega (arith, p.1, ap length is, length-map starts begun),
+    ap (λ (rs : List Moving). (rider_at rs r).stop) is
+        ∙ ap (λ (x : Moving). x.stop) (get_or-map begun starts r 0 (begun 0) (omega (arith, p.1))),
+  );
+  all = λ r l e. among_range 0 (length starts) r (omega arith)
+      (omega (arith, l, ap length is, length-map starts begun));
+  apart = each_once (range_with_len 0 (length starts)) (range_apart 0 (length starts));
+}
+
+-- The ground, vertex by vertex.
+pub ground_is : (faces : Faces) (boundary singular : List Bool)
+    → boundary ≡ map (λ v. not (is_inner faces v)) (range_with_len 0 (vertex_count faces))
+    → singular ≡ map (is_singular faces) (range_with_len 0 (vertex_count faces)) → IsGround faces boundary singular
+ground_is faces boundary singular e f = rw (e, f) (record {
+  boundary_long = length-map (range_with_len 0 (vertex_count faces)) (λ v. not (is_inner faces v))
+      ∙ length-range_with_len 0 (vertex_count faces);
+  singular_long = length-map (range_with_len 0 (vertex_count faces)) (is_singular faces)
+      ∙ length-range_with_len 0 (vertex_count faces);
+  at_boundary = λ v l. get_or-map-range_with_len (λ u. not (is_inner faces u)) 0 (vertex_count faces) v v false l
+      (omega arith);
+  at_singular = λ v l. get_or-map-range_with_len (is_singular faces) 0 (vertex_count faces) v v false l (omega arith);
+})
+
+pub map_more : {X : Type 0} (f : ℕ → X) (n : ℕ) → map f (range_with_len 0 (n + 1)) ≡ map f (range_with_len 0 n)
+    ++ f n ∷ []
+map_more f n = map-range_with_len_more f 0 n n (omega arith)
+
 -- The queue of the next instant, and the end of the motion.
-use Rattle.std.proofs.Common.{◌≡◌, ℕ, zero, suc, ◌+◌, ◌-◌, ◌<◌, ◌≤◌, Bool, true, false, not, eqb, is_some, List, ◌∷◌}
-use Rattle.std.proofs.Common.{◌++◌, length, map, Option, Some, None, sym, ap, ◌∙◌, refl, arith, [], ◌||◌, inl, inr}
-use Rattle.std.proofs.lemmas.Bool.{false≢true}
-use Rattle.std.proofs.lemmas.List.{ext_get_or, get_or-map, length-map}
-use Rattle.std.proofs.lemmas.List.FromFn.{length-range_with_len, get_or-map-range_with_len}
-use Rattle.std.specs.List.{filter}
-use Rattle.def_mesh.specs.Darts.{darts, all_darts, twin_of}
-use Rattle.def_mesh.specs.{Faces.Faces, Manifold.IsManifold, Vertices.vertex_count}
-use Rattle.def_cut.specs.Motion.{Terrain, State, ridden, is_among, ride_on, ride, begun}
-use Rattle.def_cut.specs.Traced.{AreRiders, IsRiderOf, finish, is_cut, terrain_of}
-use Rattle.def_cut.specs.{FullCut.is_on, declared.graph.Rider.Rider, declared.graph.Stop.Stop}
-use Rattle.def_cut.specs.{declared.moving.Moving.Moving, Events.rider_at}
-use Rattle.def_feature.specs.{Marked.marked_starts, Marked.marked_first, Marked.marked_last, Marks.AreMarks}
-use Rattle.mesh_laws.proofs.Vertices.{all_below}
-use Rattle.motion_laws.proofs.Among.{among_here, apart_filter, cases_List, cases_Option, from_filter, in_filter}
-use Rattle.motion_laws.proofs.{Next.runs_ridden, Onward.at_rest, Onward.last_rests, Onward.runs_on}
-use Rattle.site_laws.proofs.Sites.{terrain}
-use Rattle.feature_laws.proofs.{Breaks.begins, First.marked_begin}
-use Rattle.qm_trace.specs.Tables.{HaveStopped, IsEnd, IsOnItsWay, IsQueue, IsTableAt, is_running, is_closed_at}
-use Rattle.qm_trace.specs.Tables.{state_at}
-use Rattle.qm_trace.proofs.{Beginnings.all_apart, Beginnings.each_once, Steps.ridden_where}
-use Rattle.motion_laws.proofs.Onward.{finish_later, later_long}
 
 runs_by : (o : Option Stop) → is_running o ≡ true → o ≡ None
 runs_by None e = refl

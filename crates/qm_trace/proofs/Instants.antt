@@ -1,21 +1,18 @@
 -- By the marks of an instant riders ride as the motion says.
-use Rattle.std.proofs.Common.{◌≡◌, ℕ, suc, ◌<◌, Bool, true, false, cond, not, ◌&&◌, List, length, map, Option}
-use Rattle.std.proofs.Common.{Some, None, sym, ap, ◌∙◌, refl, arith, ◌||◌, inl, inr}
-use Rattle.std.proofs.lemmas.Bool.{false≢true}
-use Rattle.std.proofs.lemmas.List.{ext_get_or, get_or-map, length-map}
-use Rattle.def_mesh.specs.Darts.{next_of, prev_of, twin_of, to_of}
-use Rattle.def_mesh.specs.{Faces.Faces, Manifold.IsManifold, Kinds.is_inner, Kinds.is_singular}
-use Rattle.def_cut.specs.Motion.{end_of, ridden, is_among, is_found, is_met, stop_of, after_ride}
-use Rattle.def_cut.specs.Motion.{ride_on, ride, begun, State, Terrain}
+use Rattle.std.proofs.Common.{◌≡◌, ℕ, suc, ◌<◌, Bool, true, false, cond, not, ◌&&◌, List, length, map, Option, Some}
+use Rattle.std.proofs.Common.{None, sym, ap, ◌∙◌, refl, arith, ◌||◌, inl, inr}
+use Rattle.std.proofs.{lemmas.Bool.false≢true, lemmas.List.ext_get_or, lemmas.List.get_or-map, lemmas.List.length-map}
+use Rattle.def_mesh.specs.{Darts.next_of, Darts.prev_of, Darts.twin_of, Darts.to_of, Faces.Faces, Manifold.IsManifold}
+use Rattle.def_mesh.specs.{Kinds.is_inner, Kinds.is_singular}
+use Rattle.def_cut.specs.Motion.{end_of, ridden, is_among, is_found, is_met, stop_of, after_ride, ride_on, ride, begun}
+use Rattle.def_cut.specs.Motion.{State, Terrain}
 use Rattle.def_cut.specs.{FullCut.is_on, declared.graph.Stop.Stop, declared.graph.Stop.TheVariants.Tie}
 use Rattle.def_cut.specs.{declared.moving.Moving.Moving, Traced.terrain_of, Events.rider_at}
-use Rattle.mesh_laws.proofs.Vertices.{all_below}
-use Rattle.motion_laws.proofs.Among.{cases_Option}
-use Rattle.motion_laws.proofs.{Next.runs_ridden, Steps.two_bits, Onward.later_reached, Terrains.IsReachedFrom}
-use Rattle.site_laws.proofs.Sites.{terrain}
-use Rattle.def_feature.specs.Marked.{marked_first}
+use Rattle.motion_laws.proofs.{Among.cases_Option, Shown.runs_ridden, Steps.two_bits, Onward.later_reached}
+use Rattle.motion_laws.proofs.{Bits.IsReachedFrom}
 use Rattle.feature_laws.proofs.{Breaks.begins, First.marked_begin}
 use Rattle.qm_trace.specs.Tables.{IsInstant, AreRode, rode, stop_by, is_met_now, is_crowded, is_faced, state_at}
+use Rattle.{mesh_laws.proofs.Flood.all_below, site_laws.proofs.Sites.terrain, def_feature.specs.Marked.marked_first}
 
 -- Tests in a row, where the last answers need only agree if all tests fail.
 in_a_row : (a b c e : Bool) (w x y z u v : Option Stop) → (a ≡ false → b ≡ false → c ≡ false → e ≡ false → u ≡ v)

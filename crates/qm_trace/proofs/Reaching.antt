@@ -1,18 +1,16 @@
 -- The states that events reach on a mesh: what is noted, and how riders stand.
-use Rattle.std.proofs.Common.{◌≡◌, ℕ, zero, suc, ◌<◌, true, false, List, [], ◌∷◌, ◌++◌, length, None, sym}
-use Rattle.std.proofs.Common.{ap, ◌∙◌, refl, arith}
-use Rattle.std.proofs.lemmas.Option.{none-some}
-use Rattle.std.proofs.lemmas.Bool.{false≢true, false_from_ne_true}
+use Rattle.std.proofs.Common.{◌≡◌, ℕ, zero, suc, ◌<◌, true, false, List, [], ◌∷◌, ◌++◌, length, None, sym, ap, ◌∙◌}
+use Rattle.std.proofs.Common.{refl, arith}
+use Rattle.std.proofs.{lemmas.Option.none-some, lemmas.Bool.false≢true, lemmas.Bool.false_from_ne_true}
 use Rattle.def_mesh.specs.{Faces.Faces, Darts.darts, Manifold.IsManifold, Vertices.vertex_count, Components.start_darts}
-use Rattle.def_cut.specs.Motion.{Terrain, ridden, is_among, start}
-use Rattle.def_cut.specs.Events.{EventState, darts_in, rider_at, note_at, may_ride, after_event}
-use Rattle.def_cut.specs.Events.{Event, May, Leads, first_event_state, rides_in, IsMotionOf}
-use Rattle.def_cut.specs.{declared.moving.Moving.Moving, Traced.terrain_of}
-use Rattle.motion_laws.proofs.{Among.AreApart, Marks.noted_where, Next.apart_later, Next.runs_ridden}
+use Rattle.def_cut.specs.Events.{EventState, darts_in, rider_at, note_at, may_ride, after_event, Event, May, Leads}
+use Rattle.def_cut.specs.Events.{first_event_state, rides_in, IsMotionOf}
+use Rattle.def_cut.specs.{Motion.Terrain, Motion.ridden, Motion.is_among, Motion.start, declared.moving.Moving.Moving}
+use Rattle.def_cut.specs.{Traced.terrain_of}
 use Rattle.motion_laws.proofs.Order.{IsWithin, noted_low, reached, rode, since, steps_few, within}
-use Rattle.motion_laws.proofs.Shown.{bare, waits_runs}
-use Rattle.site_laws.proofs.Sites.{course}
-use Rattle.qm_trace.proofs.Steps.{begun_low, rides_low}
+use Rattle.motion_laws.proofs.{Among.AreApart, Marks.noted_where, Shown.apart_later, Shown.runs_ridden, Shown.bare}
+use Rattle.motion_laws.proofs.{Shown.waits_runs}
+use Rattle.{site_laws.proofs.Sites.course, qm_trace.proofs.Counting.begun_low, qm_trace.proofs.Counting.rides_low}
 
 -- One event more.
 pub leads_more : (g : Terrain) (a x : EventState) (es : List Event) (e : Event) → Leads g a es x → May g x e

@@ -78,7 +78,7 @@ impl Model for Motion {
 
 impl Motion {
     /// The motion before its first event, for what `sources` gives of the mesh. Linear in the darts.
-    #[tactic(auto, using(crate::proofs::Beginnings::starts_few))]
+    #[tactic(auto, using(crate::proofs::Ends::starts_few))]
     pub fn new(alloc: Global, mesh: &Mesh, src: &Starts) -> Result<Motion, Memory>
         requires { AreSources mesh.now src.now }
         ensures first { IfOk result (λ m. m.state ≡ first_event_state mesh.now) }
@@ -159,7 +159,7 @@ impl Motion {
 
     /// Settles vertex v: each rider that ended there stops or goes on. Where it is the last of the instant, the next
     /// one begins. Linear in the faces at v, and at the end of an instant in the rides made in it.
-    #[tactic(auto, using(crate::proofs::Settled::settle_low, crate::proofs::Calls::settles))]
+    #[tactic(auto, using(crate::proofs::Noting::settle_low, crate::proofs::Fewer::settles))]
     pub fn settle(&mut self, mesh: &Mesh, v: u32)
         requires motion { IsMotionOn mesh.now self.old }
         requires possible { settles_now (terrain_of mesh.now) self.old.state v ≡ true }

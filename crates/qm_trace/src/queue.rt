@@ -123,7 +123,7 @@ impl Seen<'_> {
     }
 
     /// Moves the riders of the queue.
-    #[tactic(auto, using(motion_laws::proofs::Marks::among_at, crate::proofs::Marking::rode_more))]
+    #[tactic(auto, using(motion_laws::proofs::Marks::among_at, crate::proofs::Tellings::rode_more))]
     fn ride_each(&self, queue: &[u32], riders: &mut [Moving])
         requires { CanRide self.now.mesh.now riders.old queue.now }
         ensures { AreRode self.now.mesh.now self.now.sight.now.stood.items self.now.sight.now.taken.items

@@ -30,7 +30,7 @@ pub(crate) struct Course<'a> {
 
 impl Course<'_> {
     /// These marks with those of the ends of marked edges.
-    #[tactic(auto, using(crate::proofs::Marking::any_range_more, crate::proofs::Marking::or_shift))]
+    #[tactic(auto, using(crate::proofs::Tellings::any_range_more, crate::proofs::Tellings::or_shift))]
     fn stand_marked(&self, mut stood: Vec<bool>) -> Vec<bool>
         requires { length stood.items ≡ vertex_count self.now.mesh.now }
         ensures long { length result.items ≡ length stood.items }

@@ -19,7 +19,7 @@ use qm_mesh::Mesh;
 use std::alloc::Global;
 
 /// The graph that riders trace, for what `sources` gives of the mesh. It is a full cut. Linear in the darts.
-#[tactic(auto, using(feature_laws::proofs::NoMarks::same_starts))]
+#[tactic(auto, using(feature_laws::proofs::First::same_starts))]
 pub fn trace(alloc: Global, mesh: &Mesh, src: &Starts) -> Result<Graph, Memory>
     requires { AreSources mesh.now src.now }
     ensures graph { IfOk result (IsGraphOf mesh.now) }
@@ -56,7 +56,7 @@ pub fn graph_from(
 }
 
 /// The tables when no rider runs any more. Linear in the darts.
-#[tactic(auto, using(crate::proofs::Beginnings::marked_few))]
+#[tactic(auto, using(crate::proofs::Ends::marked_few))]
 fn last_tables(alloc: Global, course: &Course) -> Result<Tables, Memory>
     ensures { IfOk result (λ t. IsEnd course.now.mesh.now course.now.marks.now t.riders.items t.covered.items) }
 {

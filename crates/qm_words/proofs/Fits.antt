@@ -1,18 +1,19 @@
 -- clap takes words that are uses of the options, where each value may stand in a word of its own.
-use Rattle.clap.specs.Walk.{Row, Walk, idle, option, settled_rows, used, walked}
-use Rattle.def_run.specs.Options.{Use, Uses, attached, dashed, is_equals, separate, use_in_front, uses_of}
-use Rattle.qm_words.proofs.Steps.{flag_fault, flag_walk, pair_fault, pair_walk, settle, stands, value_fault, value_walk}
-use Rattle.qm_words.proofs.Uses.{count_fresh, fresh_quiet, good_back, good_prefix, last_fresh, same_name, used_fresh}
-use Rattle.qm_words.proofs.Walks.{Passes, end_rows, passes_first, quiet_both, rests, waits}
-use Rattle.qm_words.proofs.Words.{attached_dashed, before_all, cut_from, plain_view, uses_flag, uses_pair, with_hyphens}
-use Rattle.qm_words.proofs.{Rules.by_long, Rules.full_rule, Uses.IsKnown, Uses.pending, Uses.rows_of, Uses.settles}
-use Rattle.qm_words.{proofs.Rules.by_id, proofs.Rules.rules, specs.Parsing.is_known, specs.Parsing.is_plain}
 use Rattle.std.proofs.Common.{Bool, List, None, Option, Some, append-nil, append_assoc, false, refl, subst, true, ◌++◌}
 use Rattle.std.proofs.Common.{[], ap, inl, inr, map, sym, ℕ, ◌∙◌, ◌∷◌, ◌≡◌}
-use Rattle.std.proofs.lemmas.{Bool.and_parts, Bool.cases_Bool, Bool.false≢true, Bool.true≢false}
+use Rattle.std.proofs.lemmas.Bool.{and_parts, cases_Bool, false≢true, true≢false}
 use Rattle.std.specs.{List.after_first, List.before_first, List.list_all, List.list_any, Str.bytes_eq}
-use Rattle.{clap.specs.Faults.use_fault, clap.specs.Faults.walk_fault, qm_words.proofs.Uses.all_of}
-use Rattle.{clap.specs.Lexer.long_of, def_text.specs.Types.Word, def_text.specs.Types.Words, qm_words.proofs.Uses.Good}
+use Rattle.clap.specs.{Walk.Row, Walk.Walk, Walk.idle, Walk.option, Walk.settled_rows, Walk.used, Walk.walked}
+use Rattle.clap.specs.{Faults.use_fault, Faults.walk_fault, Lexer.long_of}
+use Rattle.def_run.specs.Options.{Use, Uses, attached, dashed, is_equals, separate, use_in_front, uses_of}
+use Rattle.qm_words.proofs.Words.{flag_fault, flag_walk, pair_fault, pair_walk, settle, stands, value_fault, value_walk}
+use Rattle.qm_words.proofs.Words.{attached_dashed, before_all, cut_from, plain_view, uses_flag, uses_pair, with_hyphens}
+use Rattle.qm_words.proofs.Words.{by_long, full_rule, by_id, rules}
+use Rattle.qm_words.proofs.Uses.{count_fresh, fresh_quiet, good_back, good_prefix, last_fresh, same_name, used_fresh}
+use Rattle.qm_words.proofs.Uses.{IsKnown, pending, rows_of, settles, all_of, Good}
+use Rattle.qm_words.proofs.Plain.{Passes, end_rows, passes_first, quiet_both, rests, waits}
+use Rattle.qm_words.specs.Parsing.{is_known, is_plain}
+use Rattle.def_text.specs.Types.{Word, Words}
 
 -- From this state the words pass, and all uses are read.
 pub record Fit (names words : Words) (all : Uses) (from : Walk) : Type 0 where

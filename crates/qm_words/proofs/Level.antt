@@ -1,22 +1,25 @@
 -- What clap's contracts say of the words.
-use Rattle.clap.specs.Faults.{built_fault, default_fault, defaults_fault, fault_of, settle_fault, walk_fault}
-use Rattle.clap.specs.Walk.{Row, Rule, first_of, has_row, nothing_held, rows_after, with_default}
-use Rattle.clap.specs.declared.{error.kind.ErrorKind.TheVariants.MissingRequiredArgument, parser.matches.Found.Found}
-use Rattle.clap.specs.{Kinds.Kinds, Kinds.or_else, Simple.App, Simple.matches_of, Takes.is_given}
-use Rattle.def_run.specs.Options.{AreOptions, are_once, attached, count_of, dashed, is_equals, is_of, separate, uses_of}
-use Rattle.qm_words.proofs.Uses.{count, count_given, count_hyphens, either_way, first_value_of, given_count, rows_of}
-use Rattle.qm_words.proofs.Walks.{Passes, both_quiet, end, end_rows, quiet_both, rests}
-use Rattle.qm_words.proofs.{Rules.full_rule, Words.plain_view, Words.uses_flag, Words.uses_pair, Words.with_hyphens}
-use Rattle.qm_words.proofs.{Fits.pair_long, Fits.prefix_is, Rules.built_is, Rules.rules, Rules.shape, Sound.sound}
-use Rattle.qm_words.specs.Parsing.{Reads, is_end, is_known, is_plain, options_app}
 use Rattle.std.proofs.Common.{Bool, List, None, Some, ap₂, arith, cond, false, fold, inl, refl, true, ◌&&◌, ◌==◌, ◌||◌}
 use Rattle.std.proofs.Common.{[], ap, inr, map, not, sym, ◌∙◌, ◌∷◌, ◌≡◌, ◌≤◌}
 use Rattle.std.proofs.lemmas.Bool.{and_parts, cases_Bool, eq-eqb, false_from_ne_true, false≢true, not-false, true≢false}
-use Rattle.std.proofs.lemmas.{Bool.and_from, Bool.eqb-true, Bool.or_parts, Bool.or_right, Slice.Eq.bytes_eq-Decides}
-use Rattle.std.{proofs.lemmas.Bool.or_from, specs.List.list_all, specs.List.list_any, specs.Str.bytes_eq}
-use Rattle.{clap.proofs.FaultLemmas.leaf_fault, clap.proofs.WalkLemmas.first_value-rows, def_run.specs.Options.Uses}
-use Rattle.{def_run.specs.Options.Use, def_text.specs.Types.Word, def_text.specs.Types.Words, qm_words.proofs.Fits.fits}
-use Rattle.{qm_words.proofs.Uses.Good}
+use Rattle.std.proofs.lemmas.Bool.{and_from, eqb-true, or_parts, or_right, or_from}
+use Rattle.std.proofs.lemmas.Slice.Eq.{bytes_eq-Decides}
+use Rattle.std.specs.{List.list_all, List.list_any, Str.bytes_eq}
+use Rattle.clap.specs.Faults.{built_fault, default_fault, defaults_fault, fault_of, settle_fault, walk_fault}
+use Rattle.clap.specs.Walk.{Row, Rule, first_of, has_row, nothing_held, rows_after, with_default}
+use Rattle.clap.specs.{declared.error.kind.ErrorKind.TheVariants.MissingRequiredArgument}
+use Rattle.clap.specs.{declared.parser.matches.Found.Found, Kinds.Kinds, Kinds.or_else, Simple.App, Simple.matches_of}
+use Rattle.clap.specs.{Takes.is_given}
+use Rattle.def_run.specs.Options.{AreOptions, are_once, attached, count_of, dashed, is_equals, is_of, separate, uses_of}
+use Rattle.def_run.specs.Options.{Uses, Use}
+use Rattle.qm_words.proofs.Uses.{count, count_given, count_hyphens, either_way, first_value_of, given_count, rows_of}
+use Rattle.qm_words.proofs.Uses.{Good}
+use Rattle.qm_words.proofs.Words.{full_rule, plain_view, uses_flag, uses_pair, with_hyphens, built_is, rules, shape}
+use Rattle.qm_words.proofs.{Plain.Passes, Plain.both_quiet, Plain.end, Plain.end_rows, Plain.quiet_both, Plain.rests}
+use Rattle.qm_words.proofs.{Fits.pair_long, Fits.prefix_is, Fits.fits, Sound.sound}
+use Rattle.qm_words.specs.Parsing.{Reads, is_end, is_known, is_plain, options_app}
+use Rattle.clap.proofs.{FaultLemmas.leaf_fault, WalkLemmas.first_value-rows}
+use Rattle.def_text.specs.Types.{Word, Words}
 use Rattle.clap.specs.Walk as clap
 
 -- No option has a default.

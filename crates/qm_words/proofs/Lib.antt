@@ -2,10 +2,7 @@ mod Fits
 mod Level
 mod Parses
 mod Plain
-mod Rules
 mod Sound
-mod Steps
 mod Unique
 mod Uses
-mod Walks
 mod Words

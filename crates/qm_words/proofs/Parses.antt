@@ -1,14 +1,15 @@
 -- The command that the loop makes, and clap's answers to it.
-use Rattle.clap.specs.declared.{error.kind.ErrorKind.TheVariants.OutOfMemory, parser.matches.ArgMatches.ArgMatches}
-use Rattle.clap.specs.{Faults.is_simple_and_free, Matches.found_of, Simple.HasMatchesOf, declared.error.Error.Error}
-use Rattle.clap.specs.{Faults.fault_of, Kinds.HasKind, Kinds.Kinds, Simple.App, Simple.with_rule, Values.kind_of}
-use Rattle.def_run.specs.declared.words.WordsFail.{TheVariants.Memory, TheVariants.Usage, WordsFail}
-use Rattle.qm_words.proofs.{Level.line_taken, Level.taken, Rules.simple, Rules.simple_free}
-use Rattle.qm_words.specs.Parsing.{Reads, Refuses, is_end, is_known, option_rule, options_app}
 use Rattle.std.proofs.Common.{List, arith, false, length, refl, slice_index_or, subst, take, take_all, true, zero, ◌++◌}
 use Rattle.std.proofs.Common.{[], ap, inl, inr, map, suc, sym, ℕ, ◌+◌, ◌<◌, ◌∙◌, ◌∷◌, ◌≡◌, ◌≤◌}
-use Rattle.{clap.specs.Walk.Rule, def_text.specs.Types.Word, def_text.specs.Types.Words, std.specs.List.list_any}
-use Rattle.{std.specs.Borrow.Bor}
+use Rattle.clap.specs.{declared.error.kind.ErrorKind.TheVariants.OutOfMemory}
+use Rattle.clap.specs.{declared.parser.matches.ArgMatches.ArgMatches, Faults.is_simple_and_free, Faults.fault_of}
+use Rattle.clap.specs.{Matches.found_of, Simple.HasMatchesOf, Simple.App, Simple.with_rule, declared.error.Error.Error}
+use Rattle.clap.specs.{Kinds.HasKind, Kinds.Kinds, Values.kind_of, Walk.Rule}
+use Rattle.def_run.specs.{declared.words.WordsFail.TheVariants.Memory, declared.words.WordsFail.TheVariants.Usage}
+use Rattle.def_run.specs.{declared.words.WordsFail.WordsFail}
+use Rattle.qm_words.proofs.{Level.line_taken, Level.taken, Words.simple, Words.simple_free}
+use Rattle.qm_words.specs.Parsing.{Reads, Refuses, is_end, is_known, option_rule, options_app}
+use Rattle.{std.specs.List.list_any, std.specs.Borrow.Bor, def_text.specs.Types.Word, def_text.specs.Types.Words}
 
 abbrev pub texts : (names : List (Bor Word)) → Words
 texts names = map (λ name. name.now) names

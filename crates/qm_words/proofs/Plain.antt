@@ -1,23 +1,30 @@
 -- The values of a line begin with no hyphen.
-use Rattle.def_certtext.{specs.Settings.IsFloor, specs.Settings.floor_text, specs.Settings.weight_text}
+use Rattle.std.proofs.Common.{Bool, arith, codes, false, inl, inr, not, refl, true, ◌++◌, ◌+◌, ◌<◌, ◌==◌, ◌^◌, ◌∙◌, ◌∷◌}
+use Rattle.std.proofs.Common.{[], ◌≡◌, ◌≤◌, ap, ℕ, List, Option, Some, fold, sym}
+use Rattle.std.proofs.lemmas.Bool.{and_from, and_parts, cases_Bool, eqb-true, false≢true, or_left, or_right}
+use Rattle.std.proofs.{lemmas.Int.ints, lemmas.List.append-nil, lemmas.Slice.Eq.bytes_eq-Decides}
+use Rattle.std.specs.Prelude.{decimal, if◌then◌else◌, neg_ℤ, pos, ℤ, ◌≤ℤ◌}
+use Rattle.std.specs.{Char.is_ascii_digit, List.list_all, List.list_any, Str.bytes_eq}
+use Rattle.def_certtext.specs.Settings.{IsFloor, floor_text, weight_text}
 use Rattle.def_fit.specs.FitWords.{IsAimWord, IsEdgeLength, keep_word, patches_word, spacing_word}
-use Rattle.def_fit.specs.declared.fit.Aim.{Aim, TheVariants.Edge, TheVariants.Scale, TheVariants.Wishes}
-use Rattle.def_fit.specs.declared.fit.{Fit.Fit, Spacing.Spacing, Spacing.TheVariants.Even, Spacing.TheVariants.Wished}
-use Rattle.def_flow.specs.declared.net.{Settings.Settings, Weight.TheVariants.Length, Weight.TheVariants.Plain}
-use Rattle.def_patches.specs.declared.Patches.{Patches, TheVariants.Conforming, TheVariants.Merged, TheVariants.Traced}
-use Rattle.def_patches.specs.declared.{Keep.Keep, Keep.TheVariants.Lines, Keep.TheVariants.Nothing}
+use Rattle.def_fit.specs.declared.fit.Aim.TheVariants.{Edge, Scale, Wishes}
+use Rattle.def_fit.specs.{declared.fit.Aim.Aim, declared.fit.Fit.Fit, declared.fit.Spacing.Spacing}
+use Rattle.def_fit.specs.{declared.fit.Spacing.TheVariants.Even, declared.fit.Spacing.TheVariants.Wished}
+use Rattle.def_flow.specs.{declared.net.Settings.Settings, declared.net.Weight.TheVariants.Length}
+use Rattle.def_flow.specs.{declared.net.Weight.TheVariants.Plain, declared.net.Weight.Weight}
+use Rattle.def_patches.specs.declared.Patches.TheVariants.{Conforming, Merged, Traced}
+use Rattle.def_patches.specs.{declared.Patches.Patches, declared.Keep.Keep, declared.Keep.TheVariants.Lines}
+use Rattle.def_patches.specs.{declared.Keep.TheVariants.Nothing}
 use Rattle.def_run.specs.CommandLines.{HasCutOptions, HasFitOptions, HasGridsOptions, layout_options, remesh_options}
 use Rattle.def_run.specs.CommandLines.{HasCount, HasEdge, HasSettings, fit_options, grids_options, size_options}
 use Rattle.def_run.specs.Options.{AreOptions, Use, Uses, count_of, is_of, value_of}
-use Rattle.def_text.{specs.Decimal.rounded_size, specs.Types.Word, specs.Types.Words}
-use Rattle.qm_words.{proofs.Uses.same_name, specs.Parsing.Refuses, specs.Parsing.is_known, specs.Parsing.is_plain}
-use Rattle.std.proofs.Common.{Bool, arith, codes, false, inl, inr, not, refl, true, ◌++◌, ◌+◌, ◌<◌, ◌==◌, ◌^◌, ◌∙◌, ◌∷◌}
-use Rattle.std.proofs.lemmas.Bool.{and_from, and_parts, cases_Bool, eqb-true, false≢true, or_left, or_right}
-use Rattle.std.proofs.{Common.[], Common.◌≡◌, lemmas.Int.ints, lemmas.List.append-nil, lemmas.Slice.Eq.bytes_eq-Decides}
-use Rattle.std.specs.Prelude.{decimal, if◌then◌else◌, neg_ℤ, pos, ℤ, ◌≤ℤ◌}
-use Rattle.std.specs.{Char.is_ascii_digit, List.list_all, List.list_any, Str.bytes_eq}
-use Rattle.{def_flow.specs.declared.net.Weight.Weight, qm_dec.proofs.Texts.decimal_digits, std.proofs.Common.◌≤◌}
-use Rattle.{qm_dec.proofs.Texts.digit_other, std.proofs.Common.ap, std.proofs.Common.ℕ}
+use Rattle.def_text.specs.{Decimal.rounded_size, Types.Word, Types.Words}
+use Rattle.qm_words.proofs.{Uses.same_name, Uses.pending, Uses.rows_of, Words.rules, Words.shape, Words.fault_at}
+use Rattle.qm_words.proofs.{Words.stands}
+use Rattle.qm_words.specs.Parsing.{Refuses, is_known, is_plain}
+use Rattle.qm_dec.proofs.ReadBack.{decimal_digits, digit_other}
+use Rattle.clap.specs.{Faults.settle_fault, Faults.turn_fault, Faults.walk_fault, Kinds.or_else, Kinds.Kinds, Walk.idle}
+use Rattle.clap.specs.{Walk.option, Walk.settled_rows, Walk.walked, Walk.Held, Walk.Row, Walk.Walk}
 
 -- The option of a use.
 name_in : (names : Words) (one : Use) → list_any (λ name. is_of name one) names ≡ true → (name : Word)
@@ -171,3 +178,55 @@ no_grids words keep patches by refuses has =
     (and_from _ _ (ap is_plain has.kept ∙ keep_plain keep)
     (and_from _ _ (ap is_plain has.cut ∙ patches_plain patches)
     (and_from _ _ (ap is_plain has.count.written ∙ number_plain by (omega arith)) refl))))
+
+-- clap's walk over words: where it passes, and its first step.
+
+-- What is held behind the words.
+abbrev pub end : (names : Words) (from : Walk) (words : Words) → Held
+end names from words = (fold (walked (rules names) []) from words).held
+
+-- The rows there, with what is pending.
+abbrev pub end_rows : (names : Words) (from : Walk) (words : Words) → List Row
+end_rows names from words = settled_rows (rules names) (end names from words).pending (end names from words).rows
+
+-- No word has a fault, and what is pending at the end has none.
+pub record Passes (names words : Words) (from : Walk) : Type 0 where
+  pub walked : walk_fault (shape names) [] from words ≡ []
+  pub settled : settle_fault (rules names) false (end names from words) ≡ []
+
+-- Between two words: some uses were read and one is pending.
+abbrev pub rests : (uses : Uses) (last : Option Use) → Walk
+rests uses last = stands (rows_of uses) (pending last) idle
+
+-- Behind the name of an option, before its value.
+abbrev pub waits : (uses : Uses) (id : Word) → Walk
+waits uses id = stands (rows_of uses) (Some (id, [])) (option id)
+
+-- Both parts pass where the whole does.
+pub both_quiet : (a b : Kinds) → or_else a b ≡ [] → (a ≡ []) × (b ≡ [])
+both_quiet [] b quiet = (refl, quiet)
+both_quiet (k ∷ ks) b quiet = absurd cc
+
+pub quiet_both : (a b : Kinds) → a ≡ [] → b ≡ [] → or_else a b ≡ []
+quiet_both a b one two = ap (λ (k : Kinds). or_else k b) one ∙ two
+
+-- The first word passes, and then the others.
+pub first_passes : (names : Words) (word : Word) (words : Words) (from : Walk) → Passes names (word ∷ words) from
+    → (fault_at names from word ≡ []) × Passes names words (walked (rules names) [] from word)
+unfolding walk_fault
+first_passes names word words from passes =
+    let both = both_quiet (turn_fault (shape names) [] from word) _ passes.walked in
+    (both.0, record { walked = both.1; settled = passes.settled })
+
+pub passes_first : (names : Words) (word : Word) (words : Words) (from : Walk) → fault_at names from word ≡ []
+    → Passes names words (walked (rules names) [] from word) → Passes names (word ∷ words) from
+unfolding walk_fault
+passes_first names word words from first passes = record {
+  walked = quiet_both (turn_fault (shape names) [] from word) _ first passes.walked;
+  settled = passes.settled;
+}
+
+-- A word with a fault does not pass.
+pub stops : (names : Words) (word : Word) (words : Words) (from : Walk) (kinds : Kinds)
+    → Passes names (word ∷ words) from → fault_at names from word ≡ kinds → kinds ≡ []
+stops names word words from kinds passes is = sym is ∙ (first_passes names word words from passes).0

@@ -1,16 +1,18 @@
 -- A line has one command.
+use Rattle.std.proofs.Common.{Bool, Err, IfErr, IfOk, Result, Some, arith, false, inl, inr, refl, subst, sym, true, ◌∙◌}
+use Rattle.std.proofs.Common.{Ok, ap, ℕ, ◌∷◌, ◌≡◌, ◌≤◌, ◌⊎◌}
+use Rattle.std.proofs.{lemmas.Bool.true≢false, lemmas.Fmt.decimal_injective, lemmas.Slice.Eq.bytes_eq-Decides}
 use Rattle.def_run.specs.CommandLines.{HasCount, HasFitOptions, HasOptions, HasSettings, IsCommand, name_of}
 use Rattle.def_run.specs.declared.command.Command.TheVariants.{Bench, Blocks, Coarse, Crease, LayOut, Refine, Remesh}
 use Rattle.def_run.specs.declared.command.Command.TheVariants.{Check, Fit, Graph, Grids, Map, Size, Tidy}
-use Rattle.def_run.specs.declared.words.WordsFail.{TheVariants.Memory, TheVariants.Usage, WordsFail}
-use Rattle.def_run.specs.{Options.Uses, Options.uses_of, Options.value_of, declared.command.Command.Command}
-use Rattle.qm_fit.{proofs.OneFit.same_fit, proofs.OneFit.same_keep, proofs.OneFit.same_patches}
-use Rattle.std.proofs.Common.{Bool, Err, IfErr, IfOk, Result, Some, arith, false, inl, inr, refl, subst, sym, true, ◌∙◌}
-use Rattle.std.proofs.lemmas.{Bool.true≢false, Fmt.decimal_injective, Slice.Eq.bytes_eq-Decides}
-use Rattle.std.proofs.{Common.Ok, Common.ap, Common.ℕ, Common.◌∷◌, Common.◌≡◌, Common.◌≤◌, Common.◌⊎◌}
-use Rattle.{def_fit.specs.declared.fit.Fit.Fit as AnyFit, def_flow.specs.declared.net.Settings.Settings}
-use Rattle.{def_certtext.specs.Settings.AreWordsOf, def_text.specs.Types.Words, qm_certtext.proofs.Unique.same_settings}
-use Rattle.{def_text.specs.Decimal.rounded, def_text.specs.Types.Word, std.specs.Prelude.codes}
+use Rattle.def_run.specs.{declared.words.WordsFail.TheVariants.Memory, declared.words.WordsFail.TheVariants.Usage}
+use Rattle.def_run.specs.{declared.words.WordsFail.WordsFail, Options.Uses, Options.uses_of, Options.value_of}
+use Rattle.def_run.specs.{declared.command.Command.Command}
+use Rattle.qm_fit.proofs.Heads.{same_fit, same_keep, same_patches}
+use Rattle.def_flow.specs.declared.net.Settings.{Settings}
+use Rattle.def_text.specs.{Types.Words, Types.Word, Decimal.rounded}
+use Rattle.{std.specs.Prelude.codes, def_fit.specs.declared.fit.Fit.Fit as AnyFit}
+use Rattle.{def_certtext.specs.Settings.AreWordsOf, qm_certtext.proofs.Cutting.same_settings}
 
 same_uses : (words : Words) (one two : Uses) → uses_of words ≡ Some one → uses_of words ≡ Some two → one ≡ two
 same_uses words one two first second = cc

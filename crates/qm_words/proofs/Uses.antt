@@ -1,14 +1,15 @@
 -- Uses counted, and the rows that clap keeps of them.
-use Rattle.clap.specs.Walk.{Row, at_row, first_of, has_row, more_values, settled_rows, used}
-use Rattle.clap.specs.{Faults.use_fault, Takes.is_given, declared.builder.value_parser.Reading.TheVariants.AsWritten}
-use Rattle.def_run.{specs.Options.Use, specs.Options.Uses, specs.Options.count_of, specs.Options.value_of}
-use Rattle.qm_words.proofs.{Rules.by_id, Rules.full_rule, Rules.rules, Steps.Pending, Steps.settle, Words.with_hyphens}
 use Rattle.std.proofs.Common.{List, None, Option, Some, append-nil, arith, cond, false, inl, inr, map, refl, true, ◌++◌}
 use Rattle.std.proofs.Common.{[], ap, sym, ℕ, ◌+◌, ◌∙◌, ◌∷◌, ◌≡◌, ◌≤◌}
 use Rattle.std.proofs.lemmas.Bool.{and_parts, cases_Bool, false_from_ne_true, false≢true, or_parts, true≢false}
-use Rattle.std.proofs.lemmas.{List.Folds.list_all-append, List.map-append, Slice.Eq.bytes_eq-Decides}
-use Rattle.{clap.specs.declared.parser.matches.ValueSource.TheVariants.CommandLine, qm_words.specs.Parsing.is_known}
-use Rattle.{def_text.specs.Types.Word, def_text.specs.Types.Words, std.specs.List.list_all, std.specs.Str.bytes_eq}
+use Rattle.std.proofs.{lemmas.List.Folds.list_all-append, lemmas.List.map-append, lemmas.Slice.Eq.bytes_eq-Decides}
+use Rattle.clap.specs.Walk.{Row, at_row, first_of, has_row, more_values, settled_rows, used}
+use Rattle.clap.specs.{Faults.use_fault, Takes.is_given, declared.builder.value_parser.Reading.TheVariants.AsWritten}
+use Rattle.clap.specs.{declared.parser.matches.ValueSource.TheVariants.CommandLine}
+use Rattle.def_run.specs.Options.{Use, Uses, count_of, value_of}
+use Rattle.qm_words.proofs.Words.{by_id, full_rule, rules, Pending, settle, with_hyphens}
+use Rattle.def_text.specs.Types.{Word, Words}
+use Rattle.{std.specs.List.list_all, std.specs.Str.bytes_eq, qm_words.specs.Parsing.is_known}
 
 -- The row of a use without hyphens.
 abbrev pub row_of : (one : Use) → Row

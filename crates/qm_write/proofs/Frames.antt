@@ -1,11 +1,10 @@
 -- The text of a remesh is its head line, the text of the new mesh and the lines of the certificates.
 use Rattle.std.proofs.Common.{◌≡◌, ℕ, List, Option, ◌++◌, ◌∙◌, ap, ap₂}
 use Rattle.def_certtext.specs.{CertLines.text_of, CertLines.used, CertLines.Certificates, Laws.certificate_lines}
-use Rattle.def_certtext.specs.declared.certs.Rising.{Rising}
-use Rattle.def_io.specs.Bytes.{Bytes}
-use Rattle.def_layout.specs.Layouts.{Layout}
+use Rattle.def_certtext.specs.{declared.certs.Rising.Rising}
 use Rattle.def_remesh.specs.{CutSoups.Regrid, NewPoints.lengths_in, NewSoup.spaced_soup, Remeshed.text_behind_head}
 use Rattle.def_text.specs.{Canonical.canonical_text, FaceSet.FaceSet}
+use Rattle.{def_io.specs.Bytes.Bytes, def_layout.specs.Layouts.Layout}
 
 -- The pieces that are put are the text.
 pub pieces_are : (rising : Rising) (soup : FaceSet) (layout : Layout) (shares : Option (List ℕ))

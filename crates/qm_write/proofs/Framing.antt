@@ -1,10 +1,9 @@
 -- A remesh in the frame of its text has the text of its task.
 use Rattle.std.proofs.Common.{◌≡◌, [], ◌∷◌, ◌++◌, append_assoc, ◌∙◌}
 use Rattle.def_certtext.specs.CertLines.{certificates_of, used}
-use Rattle.def_layout.specs.Layouts.{Layout}
 use Rattle.def_remesh.specs.{NewPoints.lengths_in, Remeshed.finished_text, Remeshed.text_behind_head, Tasks.Task}
-use Rattle.def_text.specs.FaceSet.{FaceSet}
 use Rattle.qm_write.specs.{Framing.framed_text, Framing.IsFramed, declared.text.Framed.Framed}
+use Rattle.{def_layout.specs.Layouts.Layout, def_text.specs.FaceSet.FaceSet}
 
 module _ (task : Task) (framed : Framed) (soup : FaceSet) (layout : Layout) (is : IsFramed task framed soup layout)
   where

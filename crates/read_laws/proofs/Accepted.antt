@@ -4,18 +4,16 @@ use Rattle.std.proofs.Common.{get_or, sym, ◌∙◌, ap, refl, arith, length-ap
 use Rattle.std.proofs.lemmas.Bool.{and_parts, eq-eqb, and_from, cases_Bool, not-true, not_from_false, eqb-true}
 use Rattle.std.proofs.lemmas.Bool.{false_from_ne_true, false≢true}
 use Rattle.std.proofs.{Math.Seq.take-append_seam, lemmas.Grind.get_or_after_one, lemmas.List.get_or-append-add}
-use Rattle.qm_obj.proofs.ListLemmas.{passes_at}
 use Rattle.std.specs.{List.filter, List.list_all, List.starts_with, Prelude.codes, Prelude.nat_eq}
-use Rattle.def_certtext.specs.HeadLine.{begins_head, head_line, IsLastLine}
-use Rattle.def_certtext.specs.{CertLines.line_text, Reading.is_hash_line, Reading.TellHow, Settings.AreInRange}
-use Rattle.def_certtext.specs.{declared.CertLine.CertLine, declared.CertLine.TheVariants.Length}
-use Rattle.def_flow.specs.declared.net.Settings.{Settings}
-use Rattle.def_io.specs.{Bytes.Bytes, Bytes.Lines, Lines.lines_of}
-use Rattle.def_recheck.specs.Accepting.{AcceptsLaw}
-use Rattle.def_remesh.specs.TextLaws.{IsSolid, made_by}
-use Rattle.def_remesh.specs.{Certified.IsShown, ReadAgain.ends_line, Tasks.remesh_task}
+use Rattle.def_certtext.specs.{HeadLine.begins_head, HeadLine.head_line, HeadLine.IsLastLine, CertLines.line_text}
+use Rattle.def_certtext.specs.{Reading.is_hash_line, Reading.TellHow, Settings.AreInRange, declared.CertLine.CertLine}
+use Rattle.def_certtext.specs.{declared.CertLine.TheVariants.Length}
+use Rattle.def_remesh.specs.{TextLaws.IsSolid, TextLaws.made_by, Certified.IsShown, ReadAgain.ends_line}
+use Rattle.def_remesh.specs.{Tasks.remesh_task}
 use Rattle.def_text.specs.{FaceSet.FaceSet, Text.text_soup, declared.letters.TheConstants.HASH}
-use Rattle.remesh_laws.proofs.{Joined.lines_append, Joined.tail_append, Told.told_law}
+use Rattle.remesh_laws.proofs.{Tails.lines_append, Tails.tail_append, ReadAgain.told_law}
+use Rattle.{qm_obj.proofs.TailLemmas.passes_at, def_flow.specs.declared.net.Settings.Settings, def_io.specs.Bytes.Bytes}
+use Rattle.{def_io.specs.Bytes.Lines, def_io.specs.Lines.lines_of, def_recheck.specs.Accepting.AcceptsLaw}
 
 -- A test of lines that the head line of a remesh passes, and no line of a certificate or without a mark does.
 pub record IsHeadTest (begins_so : Bytes → Bool) : Type 0 where

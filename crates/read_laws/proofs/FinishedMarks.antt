@@ -1,28 +1,26 @@
 -- The `l` lines that a command wrote are read again as the marks along the chains of its marked arcs.
 use Rattle.std.proofs.Common.{◌≡◌, ◌+◌, ◌-◌, ◌<◌, ◌++◌, ℕ, zero, suc, Bool, true, List, [], ◌∷◌, length, map, filter}
 use Rattle.std.proofs.Common.{get_or, Option, inl, inr, refl, sym, ap, subst, ◌∙◌, arith}
-use Rattle.std.proofs.lemmas.Bool.{and_from, cases_lt, cases_Bool}
 use Rattle.std.proofs.lemmas.List.FromFn.{get_or-range_with_len, length-map-range_with_len, length-range_with_len}
-use Rattle.std.proofs.{lemmas.List.append_assoc, lemmas.List.Folds.flat_map-map}
+use Rattle.std.proofs.{lemmas.Bool.and_from, lemmas.Bool.cases_lt, lemmas.Bool.cases_Bool, lemmas.List.append_assoc}
+use Rattle.std.proofs.{lemmas.List.Folds.flat_map-map}
 use Rattle.std.specs.List.{flat_map, list_all, range_with_len}
 use Rattle.def_certtext.specs.{CertLines.line_text, CertLines.text_of, CertLines.used, Laws.certificate_lines}
 use Rattle.def_certtext.specs.{Reading.is_hash_line, Reading.may_stand, declared.CertLine.CertLine}
 use Rattle.def_certtext.specs.{declared.CertLine.TheVariants.Length, declared.certs.Rising.Rising}
 use Rattle.def_io.specs.{Bytes.Bytes, Lines.lines_of}
 use Rattle.def_layout.specs.{Layouts.gluing_of, Layouts.Layout, Lengths.AreLengths, Lengths.Lengths}
-use Rattle.def_layoutnet.specs.MeshLayouts.{IsSomeLayout}
 use Rattle.def_marks.specs.{Lines.marks_in, MarkedText.arc_chain, MarkedText.chain_text, MarkedText.is_marked_arc}
 use Rattle.def_readlaws.specs.ReadChains.{AreHashLines, FinishedMarksLaw, IsChainOf, marked_arc_chains}
 use Rattle.def_remesh.specs.{NewPoints.lengths_in, NewSoup.spaced_place, NewSoup.spaced_soup, ReadAgain.ends_line}
 use Rattle.def_text.specs.{Canonical.canonical_text, FaceSet.FaceSet, Text.numbers_to}
 use Rattle.def_written.specs.{Edges.on_arc, Numbers.vertex_number, Numbers.vertices, Points.arc_point, Points.IsPoint}
-use Rattle.embedding_laws.proofs.MeshLayouts.{laid_of}
-use Rattle.qm_certtext.proofs.Texts.{lines_inside}
-use Rattle.qm_obj.proofs.LawText.{lines_back}
 use Rattle.remesh_laws.proofs.{Asides.ends_lines, MarkedLines.marked_is, ReadAgain.kept_allowed}
-use Rattle.written_laws.proofs.{EdgeDarts.edge_points, Shape.numbers_law}
+use Rattle.written_laws.proofs.{Courses.edge_points, Shape.numbers_law}
 use Rattle.read_laws.proofs.{LayoutsRead.finished_layout, LayoutsRead.finished_lengths, MarksAgain.marks_again_law}
 use Rattle.read_laws.proofs.{NewChains.at_link, NewChains.chain_is, Soups.soup_in_law}
+use Rattle.{def_layoutnet.specs.MeshLayouts.IsSomeLayout, embedding_laws.proofs.Bounds.laid_of}
+use Rattle.{qm_certtext.proofs.Texts.lines_inside, qm_obj.proofs.LawText.lines_back}
 
 -- The lines of certificates begin with `#`.
 cert_hash : (line : CertLine) → is_hash_line (line_text line) ≡ true

@@ -1,22 +1,17 @@
 -- The layouts of bytes that are read.
 use Rattle.std.proofs.Common.{◌≡◌, sym, ◌∙◌, refl, Ok, Some, None, ◌≤◌}
-use Rattle.def_cut.specs.FullCut.{IsFullCut}
-use Rattle.def_feature.specs.Marked.{marked_cut}
-use Rattle.def_io.specs.Bytes.{Bytes}
-use Rattle.def_certtext.specs.CertLines.{used}
 use Rattle.def_layout.specs.{Layouts.gluing_of, Lengths.AreLengths}
-use Rattle.def_layoutnet.specs.MeshLayouts.{IsSomeLayout}
 use Rattle.def_remesh.specs.{NewPoints.lengths_in, Tasks.Task}
 use Rattle.def_run.specs.declared.command.Command.TheVariants.{Coarse, Crease, Fit, Remesh, Size}
 use Rattle.def_run.specs.{Map.asks_of, Mesh.IsMeshText, Remesh.WritesFinished, declared.command.Command.Command}
-use Rattle.remesh_laws.proofs.Certified.{used_lengths}
 use Rattle.def_patches.specs.declared.Patches.TheVariants.{Merged, Traced}
 use Rattle.def_readlaws.specs.ReadLayouts.{OneChosenLaw, OneTracedLaw, TaskLayoutLaw}
-use Rattle.def_text.specs.FaceSet.{FaceSet}
 use Rattle.existence_laws.proofs.Layouts.{layout_law, traced_layout_law}
 use Rattle.patch_laws.proofs.Chosen.{chosen_cut_law, one_cut_law}
-use Rattle.site_laws.proofs.Laws.{graph_law}
 use Rattle.read_laws.proofs.{MarksRead.asides_in_law, MarksRead.marks_in_law, Soups.mesh_text_law}
+use Rattle.{def_cut.specs.FullCut.IsFullCut, def_feature.specs.Marked.marked_cut, def_io.specs.Bytes.Bytes}
+use Rattle.{def_certtext.specs.CertLines.used, def_layoutnet.specs.MeshLayouts.IsSomeLayout}
+use Rattle.{remesh_laws.proofs.ReadAgain.used_lengths, def_text.specs.FaceSet.FaceSet, site_laws.proofs.Laws.graph_law}
 
 -- Bytes have at most one soup.
 one_soup : (bytes : Bytes) (soup other : FaceSet) → IsMeshText bytes soup → IsMeshText bytes other → other ≡ soup

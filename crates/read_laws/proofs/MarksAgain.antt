@@ -1,30 +1,29 @@
 -- The lines of chains behind a canonical text are read again as the marks along these chains.
-use Rattle.std.proofs.Common.{◌≡◌, ◌+◌, ◌<◌, ◌≤◌, ◌&&◌, ◌||◌, ◌^◌, ℕ, pos, suc, true, false, cond, not, List, []}
-use Rattle.std.proofs.Common.{◌∷◌, ◌++◌, length, map, get_or, refl, sym, ap, ◌∙◌, arith, subst, eqb, ltb, is_some, Ok}
+use Rattle.std.proofs.Common.{◌≡◌, ◌+◌, ◌<◌, ◌≤◌, ◌&&◌, ◌||◌, ◌^◌, ℕ, pos, suc, true, false, cond, not, List, [], ◌∷◌}
+use Rattle.std.proofs.Common.{◌++◌, length, map, get_or, refl, sym, ap, ◌∙◌, arith, subst, eqb, ltb, is_some, Ok}
 use Rattle.std.proofs.lemmas.Bool.{and_parts, and_right, eqb-true, ltb-false, ltb-true, not-true}
-use Rattle.std.proofs.lemmas.List.{append-nil, append_assoc, take_all, Folds.flat_map-map, Sums.sum_by-cons}
+use Rattle.std.proofs.{lemmas.List.append-nil, lemmas.List.append_assoc, lemmas.List.take_all}
+use Rattle.std.proofs.{lemmas.List.Folds.flat_map-map, lemmas.List.Sums.sum_by-cons}
 use Rattle.std.specs.List.{before_first, count_by, flat_map, list_all, list_any}
-use Rattle.def_certtext.specs.Reading.{is_hash_line}
 use Rattle.def_io.specs.{Bytes.Bytes, Bytes.Lines, Lines.lines_of}
-use Rattle.def_marks.specs.{Chains.marks_along, Chains.runs_along, Lines.corner_fails, Lines.corners_of}
-use Rattle.def_marks.specs.Lines.{first_fail, line_chain, line_fails, marks_in, marks_of, named_chain, Placed}
-use Rattle.def_marks.specs.{Lines.placed_lines, Lines.text_lines, Lines.vertex_lines_in, MarkedText.chain_text}
-use Rattle.def_mesh.specs.Darts.{all_darts, twin_of}
+use Rattle.def_marks.specs.Lines.{corner_fails, corners_of, first_fail, line_chain, line_fails, marks_of, named_chain}
+use Rattle.def_marks.specs.Lines.{Placed, placed_lines, text_lines, vertex_lines_in}
+use Rattle.def_marks.specs.{Chains.marks_along, Chains.runs_along, MarkedText.chain_text}
 use Rattle.def_readlaws.specs.ReadChains.{AreHashLines, IsChainOf, MarksAgainLaw}
-use Rattle.def_remesh.specs.ReadAgain.{ends_line}
 use Rattle.def_text.specs.{Canonical.canonical_text, Canonical.micro_text, Decimal.is_far, FaceSet.FaceSet}
-use Rattle.def_text.specs.{Laws.is_position, Laws.is_quad, Laws.IsWritableSoup, Logical.continues, Logical.is_hash}
-use Rattle.def_text.specs.{Logical.Logical, Logical.logical_lines, Reading.begins_with, Reading.is_vertex_line}
-use Rattle.def_text.specs.{Text.numbers_to, Types.Position, Types.Positions, Types.Words, Words.is_blank, Words.words}
-use Rattle.qm_obj.proofs.Groups.{logical_step}
-use Rattle.qm_obj.proofs.LawSoup.{canonical_lines, each_both, each_map, face_line}
-use Rattle.qm_obj.proofs.LawSoup.{face_line_is, position_line, position_line_is, text_lines as lines_text, vertex_word}
+use Rattle.def_text.specs.{Laws.is_position, Laws.is_quad, Logical.continues, Logical.is_hash, Logical.Logical}
+use Rattle.def_text.specs.{Logical.logical_lines, Reading.begins_with, Reading.is_vertex_line, Text.numbers_to}
+use Rattle.def_text.specs.{Types.Position, Types.Positions, Types.Words, Words.is_blank, Words.words}
+use Rattle.qm_obj.proofs.LawSoup.{canonical_lines, each_both, each_map, face_line, face_line_is, position_line}
+use Rattle.qm_obj.proofs.LawSoup.{position_line_is, text_lines as lines_text, vertex_word}
 use Rattle.qm_obj.proofs.LawText.{decimal_word, is_tame, IsLine, IsWord, line_text, line_words, lines_back, lines_split}
-use Rattle.qm_obj.proofs.{LawText.micro_word, LawText.no_continuation, ListLemmas.passes_at, SoupLemmas.are_below}
-use Rattle.remesh_laws.proofs.{Asides.canonical_ends, Asides.ends_lines, Asides.lines_are, Joined.lines_append}
-use Rattle.remesh_laws.proofs.MarkedLines.{chain_line, chain_tame, chains_inside}
+use Rattle.qm_obj.proofs.LawText.{micro_word, no_continuation}
+use Rattle.qm_obj.proofs.{Groups.logical_step, TailLemmas.passes_at, SoupLemmas.are_below}
+use Rattle.remesh_laws.proofs.{Asides.canonical_ends, Asides.ends_lines, Asides.lines_are, Tails.lines_append}
+use Rattle.remesh_laws.proofs.{MarkedLines.chain_line, MarkedLines.chain_tame, MarkedLines.chains_inside}
 use Rattle.read_laws.proofs.{SaidChains.chain_said_law, SaidChains.line_is, Soups.all_weaker}
-use Rattle.qm_dec.proofs.Texts.{none_first}
+use Rattle.{def_certtext.specs.Reading.is_hash_line, def_mesh.specs.Darts.all_darts, def_mesh.specs.Darts.twin_of}
+use Rattle.{def_remesh.specs.ReadAgain.ends_line, qm_dec.proofs.ReadBack.none_first}
 
 -- Tame bytes have no comment.
 tame_whole : (line : Bytes) → list_all is_tame line ≡ true → before_first is_hash line ≡ line

@@ -1,22 +1,20 @@
 -- The marks that the text of a mesh says are marks of the mesh.
-use Rattle.std.proofs.Common.{◌≡◌, ℕ, ◌+◌, ◌<◌, Bool, false, eqb, ◌&&◌, ◌||◌, List, []}
-use Rattle.std.proofs.Common.{◌∷◌, Option, Some, None, is_some, sym, subst, ap, ◌∙◌, arith, map, refl, Ok, Err, Result}
-use Rattle.std.proofs.lemmas.List.{length-map, FromFn.length-range_with_len, FromFn.get_or-map-range_with_len}
+use Rattle.std.proofs.Common.{◌≡◌, ℕ, ◌+◌, ◌<◌, Bool, false, eqb, ◌&&◌, ◌||◌, List, [], ◌∷◌, Option, Some, None}
+use Rattle.std.proofs.Common.{is_some, sym, subst, ap, ◌∙◌, arith, map, refl, Ok, Err, Result}
+use Rattle.std.proofs.{lemmas.List.length-map, lemmas.List.FromFn.length-range_with_len}
+use Rattle.std.proofs.{lemmas.List.FromFn.get_or-map-range_with_len}
 use Rattle.std.specs.{List.flat_map, List.list_any, Result.result_map_both}
-use Rattle.def_cut.specs.FullCut.{is_on}
-use Rattle.def_feature.specs.Marks.{AreMarks}
 use Rattle.def_fit.specs.FitTasks.{asides_by, Asides, kept_in, wished_in}
-use Rattle.def_io.specs.{Bytes.Bytes, Lines.lines_of}
 use Rattle.def_marks.specs.Chains.{is_along_chains, link_at, marks_along, runs_along, runs_between, step_places}
-use Rattle.def_marks.specs.Lines.{first_fail, line_chain, line_fails, marks_in, text_lines}
-use Rattle.def_marks.specs.declared.fail.MarkFail.{MarkFail}
-use Rattle.def_mesh.specs.Darts.{all_darts, darts, from_of, IsTwin, to_of, twin_of}
-use Rattle.def_mesh.specs.{Faces.Faces, Manifold.IsManifold}
+use Rattle.def_marks.specs.{Lines.first_fail, Lines.line_chain, Lines.line_fails, Lines.marks_in, Lines.text_lines}
+use Rattle.def_marks.specs.{declared.fail.MarkFail.MarkFail}
+use Rattle.def_mesh.specs.{Darts.all_darts, Darts.darts, Darts.from_of, Darts.IsTwin, Darts.to_of, Faces.Faces}
+use Rattle.def_mesh.specs.{Manifold.IsManifold}
 use Rattle.def_patches.specs.{Chosen.AreKeptMarks, declared.Keep.Keep}
 use Rattle.def_readlaws.specs.ReadMarks.{AsidesInLaw, MarksInLaw}
-use Rattle.def_run.specs.Mesh.{IsMeshText}
-use Rattle.def_text.specs.{FaceSet.FaceSet, Logical.logical_lines}
-use Rattle.mesh_laws.proofs.Twins.{twin_found, twin_is}
+use Rattle.{def_cut.specs.FullCut.is_on, def_feature.specs.Marks.AreMarks, def_io.specs.Bytes.Bytes}
+use Rattle.{def_io.specs.Lines.lines_of, def_run.specs.Mesh.IsMeshText, def_text.specs.FaceSet.FaceSet}
+use Rattle.{def_text.specs.Logical.logical_lines, mesh_laws.proofs.Chains.twin_found, mesh_laws.proofs.Chains.twin_is}
 use Rattle.def_patches.specs.declared.Keep.TheVariants as keeps
 
 -- Tests of the two ends of an edge do not tell its direction.

@@ -5,24 +5,22 @@ use Rattle.std.proofs.lemmas.Bool.{and_from, and_parts, eq-eqb, eqb-true, or_cas
 use Rattle.std.proofs.lemmas.List.FromFn.{get_or-map-range_with_len, get_or-range_with_len, length-map-range_with_len}
 use Rattle.std.proofs.lemmas.List.FromFn.{length-range_with_len}
 use Rattle.std.proofs.{lemmas.List.Folds.list_any_at, lemmas.List.Sums.list_all-from_AllPass}
-use Rattle.std.specs.List.{range_with_len}
-use Rattle.def_certtext.specs.CertLines.{used}
-use Rattle.def_layout.specs.Layouts.{gluing_of, Layout, vertex_at}
-use Rattle.def_layout.specs.{Arcs.long_at, Gluings.Gluing, Lengths.AreLengths, Lengths.Lengths, Surfaces.IsSurface}
+use Rattle.def_layout.specs.{Layouts.gluing_of, Layouts.Layout, Layouts.vertex_at, Arcs.long_at, Gluings.Gluing}
+use Rattle.def_layout.specs.{Lengths.AreLengths, Lengths.Lengths, Surfaces.IsSurface}
 use Rattle.def_layoutnet.specs.MeshLayouts.{IsSomeLayout}
-use Rattle.def_marks.specs.Chains.{is_chain, is_edge, link_at, runs_between, step_places}
-use Rattle.def_marks.specs.MarkedText.{arc_chain}
+use Rattle.def_marks.specs.{Chains.is_chain, Chains.is_edge, Chains.link_at, Chains.runs_between, Chains.step_places}
+use Rattle.def_marks.specs.{MarkedText.arc_chain}
 use Rattle.def_mesh.specs.{Darts.darts, Darts.from_of, Darts.to_of, Faces.Faces}
 use Rattle.def_readlaws.specs.ReadChains.{AreNewChains, FinishedChainsLaw}
-use Rattle.def_remesh.specs.NewPoints.{lengths_in}
-use Rattle.def_written.specs.Edges.{Edge, IsEdge, IsUndoubled, on_arc}
-use Rattle.def_written.specs.{NewFaces.new_faces, Numbers.vertex_number, Points.arc_point}
-use Rattle.embedding_laws.proofs.MeshLayouts.{laid_of, lies}
-use Rattle.written_laws.proofs.Courses.{course, course_from, course_of, course_to, end_at, start_at}
-use Rattle.written_laws.proofs.NewDarts.{dart_low, dart_number, number_from, number_to}
-use Rattle.written_laws.proofs.{EdgeDarts.edge_dart, EdgeDarts.edge_points, Numbers.number_same, Shape.laid_law}
-use Rattle.written_laws.proofs.{Shape.new_manifold_law, Undoubled.simple_from}
+use Rattle.def_written.specs.{Edges.Edge, Edges.IsEdge, Edges.IsUndoubled, Edges.on_arc, NewFaces.new_faces}
+use Rattle.def_written.specs.{Numbers.vertex_number, Points.arc_point}
+use Rattle.embedding_laws.proofs.Bounds.{laid_of, lies}
+use Rattle.written_laws.proofs.Courses.{course, course_from, course_of, course_to, end_at, start_at, edge_dart}
+use Rattle.written_laws.proofs.Courses.{edge_points}
+use Rattle.written_laws.proofs.{NewDarts.dart_low, NewDarts.dart_number, NewDarts.number_from, NewDarts.number_to}
+use Rattle.written_laws.proofs.{EdgeNumbers.number_same, Shape.laid_law, Shape.new_manifold_law, Between.simple_from}
 use Rattle.read_laws.proofs.{LayoutsRead.finished_layout, LayoutsRead.finished_lengths, MarksRead.chain_marks}
+use Rattle.{std.specs.List.range_with_len, def_certtext.specs.CertLines.used, def_remesh.specs.NewPoints.lengths_in}
 
 -- The ends of a dart that runs between two vertices.
 abbrev HasEnds : (faces : Faces) (u v d : ℕ) → Type 0

@@ -13,8 +13,8 @@ use Rattle.def_text.specs.Corner.{index_of, is_optional, is_out, is_slash, resol
 use Rattle.def_text.specs.Digits.{is_negative, is_number, is_signed, number_written, unsigned}
 use Rattle.def_text.specs.{Reading.begins_with, Text.numbers_to, Types.Words, Words.words}
 use Rattle.def_text.specs.{declared.index.Index.TheVariants.Vertex}
-use Rattle.qm_dec.proofs.Texts.{decimal_digits, decimal_number, digit_other, digits_fail, none_first}
-use Rattle.qm_obj.proofs.LawText.{decimal_word, IsWord, line_words, lines_back}
+use Rattle.qm_dec.proofs.ReadBack.{decimal_digits, decimal_number, digit_other, digits_fail, none_first}
+use Rattle.qm_obj.proofs.{LawText.decimal_word, LawText.IsWord, LawText.line_words, LawText.lines_back}
 use Rattle.qm_obj.proofs.{LawSoup.each_map, LawSoup.vertex_word, SoupLemmas.length-numbers_to, SoupLemmas.numbers_at}
 use Rattle.remesh_laws.proofs.MarkedLines.{chain_line, chains_inside}
 

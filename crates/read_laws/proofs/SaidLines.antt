@@ -2,19 +2,18 @@
 use Rattle.std.proofs.Common.{◌≡◌, ℕ, ◌+◌, ◌^◌, ◌≤◌, Bool, true, false, cond, not, ◌&&◌, List, [], ◌∷◌, length, take}
 use Rattle.std.proofs.Common.{map, refl, sym, ap, ◌∙◌, arith, ltb, leb, eqb, ◌++◌, Some, None, inl, inr}
 use Rattle.std.proofs.lemmas.Bool.{and_from, eqb-true, false≢true, leb-false, ne_eqb, or_parts, and_parts, cases_Bool}
-use Rattle.std.proofs.lemmas.List.{length-map, length-append}
-use Rattle.std.proofs.{lemmas.Bool.Decides.nat_tests, lemmas.List.Folds.list_all-append, lemmas.List.Sums.sum_by_push}
+use Rattle.std.proofs.{lemmas.List.length-map, lemmas.List.length-append, lemmas.Bool.Decides.nat_tests}
+use Rattle.std.proofs.{lemmas.List.Folds.list_all-append, lemmas.List.Sums.sum_by_push}
 use Rattle.std.specs.List.{list_all, list_any, count_by, flat_map}
-use Rattle.def_text.specs.Corner.{is_out, resolved, used_index}
 use Rattle.def_text.specs.Reading.{begins_with, face_reading, is_face_line, is_letter, is_position_count}
 use Rattle.def_text.specs.Reading.{is_vertex_line, reading, vertex_reading, words_reading}
 use Rattle.def_text.specs.Text.{face_in, position_in, refusal_in, faces, late_in, positions, readings}
 use Rattle.def_text.specs.declared.reading.Reading.TheVariants.{Passed, Position, Face, Refused}
 use Rattle.def_text.specs.declared.refusal.ObjFail.TheVariants.{Limit, NotQuad, Range, Syntax}
-use Rattle.def_text.specs.{Decimal.is_far, Decimal.rounded, Laws.is_position, Laws.is_quad, Logical.Logical}
-use Rattle.def_text.specs.{Types.Words, Words.words, declared.reading.Reading.Reading, declared.refusal.ObjFail.ObjFail}
-use Rattle.qm_obj.specs.Kept.{are_numbers}
-use Rattle.qm_obj.proofs.{ListLemmas.parts_none, SoupLemmas.none_late}
+use Rattle.def_text.specs.{Corner.is_out, Corner.resolved, Corner.used_index, Decimal.is_far, Decimal.rounded}
+use Rattle.def_text.specs.{Laws.is_position, Laws.is_quad, Logical.Logical, Types.Words, Words.words}
+use Rattle.def_text.specs.{declared.reading.Reading.Reading, declared.refusal.ObjFail.ObjFail}
+use Rattle.{qm_obj.specs.Kept.are_numbers, qm_obj.proofs.TailLemmas.parts_none, qm_obj.proofs.SoupLemmas.none_late}
 use Rattle.def_text.specs.declared.refusal.Which.TheVariants as limits
 
 -- What a line says that is not refused, behind so many `v` and `f` lines: its position can be written, its face is a

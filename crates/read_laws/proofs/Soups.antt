@@ -1,23 +1,22 @@
 -- The soup of a text that is read can be written, and a mesh of it is what all laws of meshes ask for.
-use Rattle.std.proofs.Common.{◌≡◌, ℕ, zero, suc, ◌-◌, ◌^◌, ◌≤◌, Bool, true}
-use Rattle.std.proofs.Common.{List, [], ◌∷◌, ◌++◌, length, map, refl, sym, ap, ◌∙◌, arith, subst, ltb, eqb, Ok}
-use Rattle.std.proofs.lemmas.Bool.{and_from, and_parts, cond_both, lt-ltb, ltb-true}
-use Rattle.std.proofs.lemmas.List.{append-nil, length-map, map-append, Folds.list_all-append, Folds.list_all-map}
-use Rattle.std.proofs.lemmas.List.{Sums.AllPass-from_list_all}
-use Rattle.std.proofs.{Common.get_or, lemmas.List.Sums.list_all-from_AllPass}
+use Rattle.std.proofs.Common.{◌≡◌, ℕ, zero, suc, ◌-◌, ◌^◌, ◌≤◌, Bool, true, List, [], ◌∷◌, ◌++◌, length, map, refl, sym}
+use Rattle.std.proofs.Common.{ap, ◌∙◌, arith, subst, ltb, eqb, Ok, get_or}
+use Rattle.std.proofs.{lemmas.Bool.and_from, lemmas.Bool.cond_both, lemmas.Bool.lt-ltb, lemmas.Bool.ltb-true}
+use Rattle.std.proofs.{lemmas.List.append-nil, lemmas.List.length-map, lemmas.List.map-append}
+use Rattle.std.proofs.{lemmas.List.Folds.list_all-append, lemmas.List.Folds.list_all-map}
+use Rattle.std.proofs.{lemmas.List.Sums.AllPass-from_list_all, lemmas.List.Sums.list_all-from_AllPass}
 use Rattle.std.specs.List.{flat_map, list_all}
-use Rattle.def_io.specs.Lines.{lines_of}
 use Rattle.def_mesh.specs.{Faces.Faces, Meshes.IsMesh, Vertices.is_used, Vertices.UsesEach}
 use Rattle.def_readlaws.specs.ReadMeshes.{MeshTextLaw, SoupInLaw}
-use Rattle.def_text.specs.{FaceSet.FaceSet, Laws.is_position, Laws.is_quad, Laws.IsWritableSoup, Logical.logical_lines}
 use Rattle.def_text.specs.Text.{face_set, faces, first_refusal, late_in, line_vertex, position_of, positions, readings}
-use Rattle.def_text.specs.{Text.refusal_in, Text.used_to, Types.Positions}
-use Rattle.def_text.specs.declared.{reading.Reading.Reading, refusal.ObjFail.ObjFail}
+use Rattle.def_text.specs.Text.{refusal_in, used_to}
+use Rattle.def_text.specs.{FaceSet.FaceSet, Laws.is_position, Laws.is_quad, Laws.IsWritableSoup, Logical.logical_lines}
+use Rattle.def_text.specs.{Types.Positions, declared.refusal.ObjFail.ObjFail}
 use Rattle.qm_mesh.proofs.Vertices.{below_from, corners_from, count_is}
-use Rattle.qm_obj.proofs.ListLemmas.{parts_none, passes_at}
 use Rattle.qm_obj.proofs.SoupLemmas.{face_set_is_soup, few_pos, same_faces, used_more}
-use Rattle.remesh_laws.proofs.Printable.{quads_of}
-use Rattle.read_laws.proofs.SaidLines.{are_known, are_said, AreSaid}
+use Rattle.qm_obj.proofs.TailLemmas.{parts_none, passes_at}
+use Rattle.read_laws.proofs.SaidLines.{are_known, are_said}
+use Rattle.{def_io.specs.Lines.lines_of, remesh_laws.proofs.Printable.quads_of}
 
 -- The used positions of a list can be written where all can.
 used_near : (ps : Positions) (fs : Faces) (n : ℕ) → n ≤ length ps → list_all is_position ps ≡ true

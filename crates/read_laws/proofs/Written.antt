@@ -1,30 +1,26 @@
 -- What is written for bytes that are read: it is accepted behind them, and its vertices lie where they are said to.
-use Rattle.std.specs.Prelude.{codes}
 use Rattle.std.proofs.Common.{◌++◌, false, [], None, length, inr, sym, ap, ◌∙◌, arith, refl}
 use Rattle.std.proofs.{lemmas.Bool.false≢true, lemmas.List.FromFn.get_or-map-range_with_len}
 use Rattle.read_laws.proofs.Accepted.{accepts_law, head_there, last_line, plain_begins, IsHeadTest}
-use Rattle.read_laws.proofs.LayoutsRead.{finished_layout, finished_lengths, task_layout_law}
-use Rattle.read_laws.proofs.Soups.{mesh_text_law}
-use Rattle.def_certtext.specs.CertLines.{alone, Certificates, used}
-use Rattle.def_certtext.specs.{Risings.third_if, declared.CertLine.TheVariants.Length, declared.certs.Rising.Rising}
+use Rattle.read_laws.proofs.{LayoutsRead.finished_layout, LayoutsRead.finished_lengths, LayoutsRead.task_layout_law}
+use Rattle.read_laws.proofs.{Soups.mesh_text_law}
+use Rattle.def_certtext.specs.{CertLines.alone, CertLines.Certificates, CertLines.used, Risings.third_if}
+use Rattle.def_certtext.specs.{declared.CertLine.TheVariants.Length, declared.certs.Rising.Rising}
 use Rattle.def_flow.specs.{Admissible.deviation, Admissible.entries, Network.Network, declared.net.Settings.Settings}
 use Rattle.def_io.specs.{Bytes.Bytes, Lines.lines_of}
 use Rattle.def_layout.specs.{Arcs.long_at, Layouts.gluing_of, Layouts.Layout, Layouts.vertex_at}
-use Rattle.def_cut.specs.Traced.{traced_marks}
-use Rattle.def_layoutnet.specs.LayoutNet.{IsNetOf}
-use Rattle.def_readlaws.specs.ReadPairs.{AcceptsTextLaw}
-use Rattle.def_readlaws.specs.ReadSpots.{FinishedSpotsLaw, RefinedSpotsLaw, SpotTextLaw}
-use Rattle.def_remesh.specs.Tasks.{given_floors, old_lengths, remesh_task}
-use Rattle.def_remesh.specs.{Certified.IsShown, Checked.accepted_line, Checked.IsCheckedPair, NewPoints.lengths_in}
-use Rattle.def_remesh.specs.{NewPoints.multiple_of, NewSoup.spaced_place, Remeshed.AreKeptBy, Remeshed.HasLeastLengths}
-use Rattle.def_run.specs.Checking.{begins_fit, HasFitText, WritesAccepted}
-use Rattle.def_run.specs.{Check.head_of, MarkLines.begins_mark}
-use Rattle.def_written.specs.Numbers.{vertices}
-use Rattle.map_laws.proofs.{Spaced.spacing_is, SpotPlaces.spot_law}
-use Rattle.embedding_laws.proofs.LayoutLies.{embedding_law}
-use Rattle.remesh_laws.proofs.LastLines.{one_last}
-use Rattle.site_laws.proofs.Laws.{graph_law}
+use Rattle.def_readlaws.specs.{ReadPairs.AcceptsTextLaw, ReadSpots.FinishedSpotsLaw, ReadSpots.RefinedSpotsLaw}
+use Rattle.def_readlaws.specs.{ReadSpots.SpotTextLaw}
+use Rattle.def_remesh.specs.{Tasks.given_floors, Tasks.old_lengths, Tasks.remesh_task, Certified.IsShown}
+use Rattle.def_remesh.specs.{Checked.accepted_line, Checked.IsCheckedPair, NewPoints.lengths_in, NewPoints.multiple_of}
+use Rattle.def_remesh.specs.{NewSoup.spaced_place, Remeshed.AreKeptBy, Remeshed.HasLeastLengths}
+use Rattle.def_run.specs.{Checking.begins_fit, Checking.HasFitText, Checking.WritesAccepted, Check.head_of}
+use Rattle.def_run.specs.{MarkLines.begins_mark}
+use Rattle.map_laws.proofs.{OldPoints.spacing_is, SpotPlaces.spot_law}
+use Rattle.embedding_laws.proofs.OneLayout.{embedding_law}
 use Rattle.written_laws.proofs.{Shape.multiple_law, Spacings.even_law}
+use Rattle.{std.specs.Prelude.codes, def_cut.specs.Traced.traced_marks, def_layoutnet.specs.LayoutNet.IsNetOf}
+use Rattle.{def_written.specs.Numbers.vertices, remesh_laws.proofs.Asides.one_last, site_laws.proofs.Laws.graph_law}
 
 -- Kept certificates have the network of their layout.
 net_of : (layout : Layout) (settings : Settings) (rising : Rising) (certificates : Certificates)

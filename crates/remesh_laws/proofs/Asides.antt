@@ -1,28 +1,28 @@
 -- The lines of a text around its mesh: whole lines, and those that begin with `#` are passed over.
-use Rattle.std.proofs.Common.{◌≡◌, ◌<◌, ◌≤◌, ◌^◌, ℕ, zero, suc, ℤ, pos, negsuc, Bool, true, false, List, []}
-use Rattle.std.proofs.Common.{◌∷◌, ◌++◌, codes, length, map, get_or, refl, sym, ◌∙◌, ap, subst, arith, length-append}
-use Rattle.std.proofs.lemmas.Bool.{and_parts, leb-true}
-use Rattle.std.proofs.lemmas.{Fmt.length-decimal-le, List.append-nil, List.Folds.flat_map-map}
-use Rattle.std.specs.{Fmt.signed_decimal, List.before_first, List.flat_map, List.list_all}
+use Rattle.std.proofs.Common.{◌≡◌, ◌<◌, ◌≤◌, ◌^◌, ℕ, zero, suc, ℤ, pos, negsuc, Bool, true, false, List, [], ◌∷◌, ◌++◌}
+use Rattle.std.proofs.Common.{codes, length, map, get_or, refl, sym, ◌∙◌, ap, subst, arith, length-append, inl, inr}
+use Rattle.std.proofs.lemmas.Bool.{and_parts, leb-true, cases_eq, cases_lt, false≢true}
+use Rattle.std.proofs.{lemmas.Fmt.length-decimal-le, lemmas.List.append-nil, lemmas.List.Folds.flat_map-map}
 use Rattle.std.specs.Prelude.{◌&&◌, ◌==◌, ◌+◌, ◌-◌, if◌then◌else◌, decimal, slice_index, unsigned_abs}
-use Rattle.def_certtext.specs.{CertLines.dual_line, CertLines.line_text, CertLines.text_of, HeadLine.head_line}
-use Rattle.def_certtext.specs.{Reading.is_small, Reading.may_stand, Settings.floor_text, Settings.scale_text}
-use Rattle.def_certtext.specs.{Settings.weight_text, Settings.AreInRange, Settings.IsFloor, declared.CertLine.CertLine}
+use Rattle.std.specs.{Fmt.signed_decimal, List.before_first, List.flat_map, List.list_all}
+use Rattle.def_certtext.specs.Settings.{floor_text, scale_text, weight_text, AreInRange, IsFloor}
 use Rattle.def_certtext.specs.declared.CertLine.TheVariants.{Floor, Length, Set, Vertex, Rise as RiseLine}
-use Rattle.def_certtext.specs.declared.certs.{Rising.Rising}
-use Rattle.def_flow.specs.declared.{net.Settings.Settings, net.Weight.Weight}
+use Rattle.def_certtext.specs.{CertLines.dual_line, CertLines.line_text, CertLines.text_of, HeadLine.head_line}
+use Rattle.def_certtext.specs.{HeadLine.IsLastLine, Reading.is_small, Reading.may_stand, declared.CertLine.CertLine}
+use Rattle.def_certtext.specs.{declared.certs.Rising.Rising}
 use Rattle.def_flow.specs.declared.net.Weight.TheVariants.{Plain, Length as ByLength}
+use Rattle.def_flow.specs.{declared.net.Settings.Settings, declared.net.Weight.Weight}
 use Rattle.def_io.specs.{Bytes.Bytes, Bytes.Lines, Lines.lines_of}
-use Rattle.def_text.specs.{Canonical.canonical_text, FaceSet.FaceSet}
-use Rattle.def_text.specs.Laws.{is_position, is_quad, IsWritableSoup}
-use Rattle.def_text.specs.{Logical.continues, Logical.is_hash, Logical.with_space, Reading.begins_with, Words.words}
+use Rattle.def_text.specs.{Canonical.canonical_text, FaceSet.FaceSet, Laws.is_position, Laws.is_quad}
+use Rattle.def_text.specs.{Laws.IsWritableSoup, Logical.continues, Logical.is_hash, Logical.with_space}
+use Rattle.def_text.specs.{Reading.begins_with, Words.words}
 use Rattle.def_remesh.specs.{ReadAgain.ends_line, Refined.refine_head}
-use Rattle.qm_certtext.proofs.{Counts.small_parts, Letters.floor_low, Letters.rise_low}
 use Rattle.qm_certtext.proofs.Texts.{both_inside, lines_inside, number_inside, settings_inside, settings_line}
-use Rattle.qm_obj.proofs.LawSoup.{canonical_lines, each_both}
-use Rattle.qm_obj.proofs.LawSoup.{each_map, face_line, face_line_is, position_line, position_line_is, text_lines}
+use Rattle.qm_certtext.proofs.Counts.{small_parts, floor_low, rise_low}
+use Rattle.qm_obj.proofs.LawSoup.{canonical_lines, each_both, each_map, face_line, face_line_is, position_line}
+use Rattle.qm_obj.proofs.LawSoup.{position_line_is, text_lines}
 use Rattle.qm_obj.proofs.LawText.{is_inside, lines_back, lines_split, no_continuation, IsLine}
-use Rattle.qm_obj.proofs.{ListLemmas.passes_at, SoupLemmas.are_below}
+use Rattle.qm_obj.proofs.{TailLemmas.passes_at, SoupLemmas.are_below}
 use Rattle.remesh_laws.specs.Asides.{IsAside, IsPassedOver}
 
 -- Lines that are passed over.
@@ -205,3 +205,16 @@ refine_aside by low =
     let short : length (codes "#quadq 1 refine by " ++ decimal by)
     ≤ 65536 = omega (arith, length-append (codes "#quadq 1 refine by ") (decimal by), number_short by low) in
     line_aside (codes "#quadq 1 refine by " ++ decimal by) refl inside short
+
+-- The last line that begins in some way.
+
+-- One line is the last that begins in some way.
+pub one_last : (begins_so : Bytes → Bool) (lines : Lines) (i k : ℕ) → IsLastLine begins_so lines i
+    → IsLastLine begins_so lines k → i ≡ k
+one_last begins_so lines i k one two = elim (cases_eq i k) [
+  | inl e ↦ e
+  | inr ne ↦ elim (cases_lt i k) [
+    | inl lt ↦ absurd (false≢true (sym (one.last k lt two.there) ∙ two.begins))
+    | inr ge ↦ absurd (false≢true (sym (two.last i (omega (arith, ge, ne)) one.there) ∙ one.begins))
+  ]
+]

@@ -1,28 +1,58 @@
--- What least lengths and the numbers of their new mesh make, together, of a layout that is remeshed.
-use Rattle.std.proofs.Common.{◌≡◌, ◌≤◌, ◌<◌, inl, inr, ℕ, List, length, ◌∙◌, ap, subst, refl, arith}
-use Rattle.std.proofs.lemmas.{Bool.cases_lt, Int.ints, List.get_or_past}
+-- A layout that is remeshed whatever least lists are kept is refused for no certificate.
+use Rattle.std.proofs.Common.{ℕ, ◌∙◌, arith, ◌≡◌, ◌≤◌, ◌<◌, inl, inr, List, length, ap, subst, refl}
+use Rattle.std.proofs.{lemmas.Bool.cases_lt, lemmas.Int.ints, lemmas.List.get_or_past}
 use Rattle.std.specs.Prelude.{IsErrOf, Result, Err}
-use Rattle.def_certtext.specs.CertLines.{alone, lists_of, raised, used, Certificates}
-use Rattle.def_certtext.specs.declared.certs.Rising.{Rising, TheVariants.Third}
-use Rattle.def_flow.specs.{Accepted.certificate, Descent.IsSolution, Network.arc_at, Network.Network}
-use Rattle.def_flow.specs.declared.{cert.Cert.Cert, limits.TheConstants.MAX_FLOOR}
-use Rattle.def_flow.specs.declared.{limits.TheConstants.MAX_LENGTH, net.Settings.Settings}
-use Rattle.def_layout.specs.{FaceLayouts.IsCutLayout, Layouts.Layout, Layouts.gluing_of, Layouts.vertex_at}
-use Rattle.def_layout.specs.Lengths.{AreLengths as AreArcLengths, Lengths}
-use Rattle.def_mesh.specs.Faces.{Faces}
-use Rattle.def_remesh.specs.{Certified.AreKept, Certified.IsCertified, Keeping.IsKept}
-use Rattle.def_remesh.specs.{Keeping.IsNetWith, NewPoints.lengths_in, Placings.IsMeshLayout, Refusals.AreTooFine}
+use Rattle.def_certtext.specs.CertLines.{certificates_of, lists_of, Lists, alone, raised, used, Certificates}
+use Rattle.def_certtext.specs.{declared.certs.Rising.Rising, declared.certs.Rising.TheVariants.Third}
+use Rattle.def_flow.specs.{declared.cert.Cert.Cert, declared.net.Settings.Settings, Accepted.certificate}
+use Rattle.def_flow.specs.{Descent.IsSolution, Network.arc_at, Network.Network, declared.limits.TheConstants.MAX_FLOOR}
+use Rattle.def_flow.specs.{declared.limits.TheConstants.MAX_LENGTH}
+use Rattle.def_layout.specs.{Lengths.Lengths, Lengths.AreLengths as AreArcLengths, Layouts.Layout, Layouts.gluing_of}
+use Rattle.def_layout.specs.{Layouts.vertex_at, FaceLayouts.IsCutLayout}
+use Rattle.def_remesh.specs.Refusals.{IsDoubledBy, IsFineBy, IsLeastFor, IsRemeshable, AreTooFine}
 use Rattle.def_remesh.specs.Remeshed.{AreKeptBy, HasLeastLengths, AreCoarse, AreDoubled, finished_text}
-use Rattle.def_remesh.specs.Stitched.{AreLong, AreSafe, IsUnstitched, KeepsShapes}
-use Rattle.def_remesh.specs.Tasks.{given_floors, Task, Wish}
-use Rattle.def_remesh.specs.declared.{fail.StitchFail.StitchFail, tables.Tables.Tables}
-use Rattle.def_text.specs.FaceSet.{FaceSet}
+use Rattle.def_remesh.specs.{Certified.IsCertified, Certified.AreKept, Tasks.given_floors, Tasks.Wish, Tasks.Task}
+use Rattle.def_remesh.specs.{declared.kept.Kept.Kept, declared.kept.Kept.TheVariants.Multiple}
+use Rattle.def_remesh.specs.{declared.kept.Kept.TheVariants.Least, Keeping.IsKept, Keeping.IsNetWith}
+use Rattle.def_remesh.specs.{NewPoints.lengths_in, Placings.IsMeshLayout, Stitched.AreLong, Stitched.AreSafe}
+use Rattle.def_remesh.specs.{Stitched.IsUnstitched, Stitched.KeepsShapes, declared.fail.StitchFail.StitchFail}
+use Rattle.def_remesh.specs.{declared.tables.Tables.Tables}
+use Rattle.remesh_laws.proofs.ReadAgain.{kept_by, raised_net, certified_lengths, task_read}
+use Rattle.remesh_laws.proofs.Solved.{certified}
 use Rattle.def_written.specs.{Edges.IsFirstDoubled, NewFaces.new_faces, Shape.KeepsShape}
 use Rattle.remesh_laws.specs.Keeps.{IsNumbered, ShowsTask}
-use Rattle.def_layoutnet.specs.Floors.{HasFloors}
-use Rattle.remesh_laws.proofs.Certified.{certified_lengths}
-use Rattle.remesh_laws.proofs.{ReadAgain.task_read, Rounds.kept_by, Rounds.raised_net, Solved.certified}
+use Rattle.{def_mesh.specs.Faces.Faces, def_text.specs.FaceSet.FaceSet, def_layoutnet.specs.Floors.HasFloors}
 use Rattle.def_remesh.specs.declared.fail.StitchFail.TheVariants as fails
+
+-- Certified lengths are a least list.
+least_for : {wish : Wish} (layout : Layout) (settings : Settings) (floors : Lengths) (cert : Lists)
+    → IsCertified wish layout settings floors cert → IsLeastFor wish layout settings floors cert.x
+least_for layout settings floors cert is =
+    record {
+      net = is.lengths.net;
+      of_layout = is.lengths.of_layout;
+      count = is.lengths.count ∙ is.lengths.of_layout.long;
+      least = is.lengths.least;
+    }
+
+-- So the lengths that are used give too many faces only where those of some least lists do.
+pub fits_not_fine : (wish : Wish) (layout : Layout) (settings : Settings) (rising : Rising) (faces : ℕ) (kept : Kept)
+    → IsRemeshable wish layout settings rising → IsFineBy wish layout settings rising faces kept → ⊥
+fits_not_fine wish layout settings rising faces (Multiple by) fits fine = absurd fine
+fits_not_fine wish layout settings rising faces (Least certs) fits fine = absurd (omega (
+  arith,
+  fine.1.0,
+  fine.1.1,
+  fits.coarse (certificates_of certs)
+      (kept_by layout (given_floors settings) rising (certificates_of certs) (least_for layout settings) fine.0),
+))
+
+pub fits_not_doubled : (wish : Wish) (layout : Layout) (settings : Settings) (rising : Rising) (u v : ℕ) (cert : Cert)
+    → IsRemeshable wish layout settings rising → IsDoubledBy wish layout settings rising u v cert → ⊥
+fits_not_doubled wish layout settings rising u v cert fits by = fits.undoubled by.given by.low cert.x.items
+    (least_for layout settings (given_floors settings) (lists_of cert) by.certified) u v by.pair.doubled
+
+-- What least lengths and the numbers of their new mesh make, together, of a layout that is remeshed.
 
 -- Its solution is certified.
 pub solved : {wish : Wish} {floors : Lengths} (layout : Layout) (settings : Settings) (net : Network) (cert : Cert)

@@ -1,17 +1,19 @@
 -- The lines of marked arcs: whole lines, of which none begins with `#`.
-use Rattle.std.proofs.Common.{◌≡◌, ◌+◌, ◌/◌, ◌%◌, ◌<◌, ◌≤◌, ℕ, zero, suc, Bool, true, false, List}
-use Rattle.std.proofs.Common.{[], ◌∷◌, ◌++◌, length, map, filter, get_or, ◌∙◌, ap, refl, arith, inl, inr, sym}
-use Rattle.std.proofs.lemmas.Bool.{and_from, cases_Bool, cond-true, cond_both, lt-ltb, Decides.nat_tests}
-use Rattle.std.proofs.lemmas.List.Folds.{flat_map-map, list_all-append}
+use Rattle.std.proofs.Common.{◌≡◌, ◌+◌, ◌/◌, ◌%◌, ◌<◌, ◌≤◌, ℕ, zero, suc, Bool, true, false, List, [], ◌∷◌, ◌++◌}
+use Rattle.std.proofs.Common.{length, map, filter, get_or, ◌∙◌, ap, refl, arith, inl, inr, sym, ◌↔◌, drop}
+use Rattle.std.proofs.Common.{slice_index_or}
+use Rattle.std.proofs.lemmas.Bool.{and_from, cases_Bool, cond-true, cond_both, lt-ltb}
+use Rattle.std.proofs.{lemmas.Bool.Decides.nat_tests, lemmas.List.Folds.flat_map-map, lemmas.List.Folds.list_all-append}
 use Rattle.std.specs.{Fmt.digit_glyph, Fmt.digits, Fmt.digits_onto, List.flat_map, List.list_all, List.range_with_len}
-use Rattle.std.specs.Prelude.{◌==◌, decimal, nat_lt}
-use Rattle.def_certtext.specs.Reading.{is_hash_line}
-use Rattle.def_io.specs.{Bytes.Bytes, Lines.lines_of}
+use Rattle.std.specs.{Prelude.◌==◌, Prelude.decimal, Prelude.nat_lt}
+use Rattle.def_certtext.specs.{Reading.is_hash_line, Reading.Made, Reading.TellHow, Laws.TellsOnly}
+use Rattle.def_io.specs.{Bytes.Bytes, Bytes.Lines, Lines.lines_of, Lines.tail_of}
 use Rattle.def_layout.specs.{Layouts.gluing_of, Layouts.Layout, Lengths.Lengths}
 use Rattle.def_marks.specs.MarkedText.{arc_chain, arc_text, chain_text, is_marked_arc, marked_text}
-use Rattle.def_remesh.specs.ReadAgain.{ends_line}
+use Rattle.def_remesh.specs.{ReadAgain.ends_line, TextLaws.made_by, TextLaws.PairLaw}
 use Rattle.qm_obj.proofs.LawText.{is_inside, is_tame, lines_back, tame_inside}
-use Rattle.remesh_laws.proofs.Asides.{ends_lines}
+use Rattle.remesh_laws.proofs.{Asides.ends_lines, Tails.first-drop, Tails.lines-tail, Tails.tail_behind}
+use Rattle.remesh_laws.proofs.{ReadAgain.told_law}
 use Rattle.remesh_laws.specs.Asides.{IsSilent}
 
 -- The digits of a number neither end nor cut a line.
@@ -83,3 +85,19 @@ module _ (marks : List Bool) (layout : Layout) (new : Lengths) where
   pub marked_silent : IsSilent (marked_text marks layout new)
   marked_silent =
       record { ended = marked_ended; plain = ap (filter is_hash_line) marked_lines ∙ chains_plain marked_chains }
+
+-- A text is a checked pair in one way: its lines from the head line on tell how the remesh was made, and no other way.
+
+-- What a tail tells is what the last lines tell.
+pub tail_told : (bytes : Bytes) (line : ℕ) (by : Made) → TellsOnly (tail_of line bytes) by → (made : Made)
+    → TellHow (slice_index_or (lines_of bytes) line []) (drop (line + 1) (lines_of bytes)) made ↔ (made ≡ by)
+tail_told bytes line by only made =
+    let head : slice_index_or (lines_of (tail_of line bytes)) 0 [] ≡ slice_index_or (lines_of bytes) line [] = ap
+    (λ (ls : Lines). slice_index_or ls 0 []) (lines-tail line bytes) ∙ first-drop line (lines_of bytes) in
+    let behind = tail_behind line bytes in
+    rw (← head)
+    (rw (← behind) (only made))
+
+pub pair_law : PairLaw
+pair_law bytes pair solid made = tail_told bytes pair.line (made_by pair.settings pair.auto pair.remeshed.certificates)
+    (told_law pair.settings pair.auto pair.soup (tail_of pair.line bytes) pair.in_range solid pair.remeshed) made

@@ -1,26 +1,24 @@
 -- Lines that a reader of meshes passes over, before and behind the lines of a mesh, change nothing that is read.
-use Rattle.std.proofs.Common.{◌≡◌, ◌<◌, ◌+◌, ℕ, zero, suc, Bool, true, false, cond, not, if◌then◌else◌}
-use Rattle.std.proofs.Common.{List, [], ◌∷◌, ◌++◌, length, take, get_or, Ok, refl, sym, ◌∙◌, ap, ap₂, arith, ltb}
-use Rattle.std.proofs.lemmas.{Bool.le-ltb, List.append-nil, List.Concat.flat_map-append, List.Sums.sum_by_push}
-use Rattle.std.specs.List.{count_by, flat_map, list_all, list_any}
-use Rattle.std.specs.Prelude.{nat_le, ◌&&◌, ◌==◌}
-use Rattle.def_io.specs.Bytes.{Bytes, Lines}
-use Rattle.def_mesh.specs.Faces.{Face}
-use Rattle.def_text.specs.{Corner.is_corner_word, Corner.is_out, Corner.used_index, Decimal.is_decimal}
-use Rattle.def_text.specs.{Decimal.is_far, Decimal.rounded, FaceSet.FaceSet, Logical.continues, Logical.groups_of}
-use Rattle.def_text.specs.Logical.{joined, logical, logical_lines, numbered_groups, part_of, with_line, Logical}
-use Rattle.def_text.specs.Reading.{begins_with, is_face_line}
-use Rattle.def_text.specs.Reading.{is_letter, is_position_count, is_vertex_line, reading, words_reading}
-use Rattle.def_text.specs.Text.{face_in, face_set, faces, first_refusal}
-use Rattle.def_text.specs.Text.{late_in, position_in, positions, readings, refusal_in, refusals, soup_of, text_soup}
-use Rattle.def_text.specs.{Types.Position as Place, Types.Words, Words.words}
+use Rattle.std.proofs.Common.{◌≡◌, ◌<◌, ◌+◌, ℕ, zero, suc, Bool, true, false, cond, not, if◌then◌else◌, List, [], ◌∷◌}
+use Rattle.std.proofs.Common.{◌++◌, length, take, get_or, Ok, refl, sym, ◌∙◌, ap, ap₂, arith, ltb}
+use Rattle.std.proofs.{lemmas.Bool.le-ltb, lemmas.List.append-nil, lemmas.List.Concat.flat_map-append}
+use Rattle.std.proofs.{lemmas.List.Sums.sum_by_push}
+use Rattle.def_text.specs.Logical.{continues, groups_of, joined, logical, logical_lines, numbered_groups, part_of}
+use Rattle.def_text.specs.Logical.{with_line, Logical}
+use Rattle.def_text.specs.Reading.{begins_with, is_face_line, is_letter, is_position_count, is_vertex_line, reading}
+use Rattle.def_text.specs.Reading.{words_reading}
+use Rattle.def_text.specs.Text.{face_in, face_set, faces, first_refusal, late_in, position_in, positions, readings}
+use Rattle.def_text.specs.Text.{refusal_in, refusals, soup_of, text_soup}
 use Rattle.def_text.specs.declared.limits.TheConstants.{MAX_F_LINES, MAX_LINE, MAX_V_LINES}
-use Rattle.def_text.specs.declared.reading.Reading.{Reading}
 use Rattle.def_text.specs.declared.reading.Reading.TheVariants.{Face as Said, Passed, Refused}
-use Rattle.def_text.specs.declared.refusal.ObjFail.{ObjFail, TheVariants.Range}
-use Rattle.qm_obj.proofs.ListLemmas.{parts_none}
-use Rattle.remesh_laws.proofs.Asides.{ArePassed}
-use Rattle.remesh_laws.specs.Asides.{IsPassedOver}
+use Rattle.def_text.specs.{Corner.is_corner_word, Corner.is_out, Corner.used_index, Decimal.is_decimal, Decimal.is_far}
+use Rattle.def_text.specs.{Decimal.rounded, FaceSet.FaceSet, Types.Position as Place, Types.Words, Words.words}
+use Rattle.def_text.specs.{declared.reading.Reading.Reading, declared.refusal.ObjFail.ObjFail}
+use Rattle.def_text.specs.{declared.refusal.ObjFail.TheVariants.Range}
+use Rattle.{std.specs.List.count_by, std.specs.List.flat_map, std.specs.List.list_all, std.specs.List.list_any}
+use Rattle.{std.specs.Prelude.nat_le, std.specs.Prelude.◌&&◌, std.specs.Prelude.◌==◌, def_io.specs.Bytes.Bytes}
+use Rattle.{def_io.specs.Bytes.Lines, def_mesh.specs.Faces.Face, qm_obj.proofs.TailLemmas.parts_none}
+use Rattle.{remesh_laws.proofs.Asides.ArePassed, remesh_laws.specs.Asides.IsPassedOver}
 
 -- ---- One line under two numbers.
 

@@ -1,38 +1,31 @@
 -- The soup of a new mesh can be written: its coordinates are in range, its faces are quads over few vertices, and
 -- within the limits of the reader it is one that a text can have.
-use Rattle.std.proofs.Common.{◌≡◌, ℕ, zero, suc, ◌+◌, ◌-◌, ◌*◌, ◌^◌, ◌<◌, ◌≤◌, Bool, true, not, List, [], ◌∷◌, Option}
-use Rattle.std.proofs.Common.{length, refl, sym, ◌∙◌, ap, subst, inl, inr, arith, pos, negsuc, neg_ℤ, ℤ, ◌≤ℤ◌}
-use Rattle.std.proofs.lemmas.Bool.{and_from, and_parts, cases_lt, cond-false, cond-true, le-ltb, lt-ltb, ltb-false}
+use Rattle.std.proofs.Common.{◌≡◌, ℕ, zero, suc, ◌-◌, ◌^◌, ◌<◌, ◌≤◌, Bool, true, not, List, [], ◌∷◌, Option, length}
+use Rattle.std.proofs.Common.{refl, sym, ◌∙◌, ap, arith, pos, negsuc, neg_ℤ, ℤ, ◌≤ℤ◌}
+use Rattle.std.proofs.lemmas.Bool.{and_from, and_parts, le-ltb, lt-ltb, ltb-false, not-true}
 use Rattle.std.proofs.lemmas.List.FromFn.{get_or-range_with_len, length-range_with_len, length-map-range_with_len}
-use Rattle.std.proofs.{lemmas.Bool.not-true, lemmas.Bool.Decides.Decides-eqb, lemmas.Int.ints}
-use Rattle.std.proofs.{lemmas.List.Folds.list_all-map, lemmas.List.Sums.list_all-from_AllPass}
+use Rattle.std.proofs.{lemmas.Bool.Decides.Decides-eqb, lemmas.Int.ints, lemmas.List.Folds.list_all-map}
+use Rattle.std.proofs.{lemmas.List.Sums.list_all-from_AllPass}
 use Rattle.std.specs.{List.list_all, List.range_with_len, Prelude.nat_lt, Prelude.unsigned_abs, Prelude.slice_index_or}
-use Rattle.written_laws.proofs.NewDarts.{cell_is, dart_low, dart_number, number_from}
-use Rattle.written_laws.proofs.{Between.between_law, Borders.from_is, EdgeNumbers.in_rows, EdgeNumbers.point_onto}
-use Rattle.written_laws.proofs.{Numbers.number_low, Runs.run_here, Runs.IsInRun, Models.dart_used, Models.new_quads}
-use Rattle.written_laws.proofs.Models.{point_dart}
-use Rattle.def_math.specs.Runs.{run_at}
-use Rattle.def_mesh.specs.{Faces.Faces, Vertices.is_used}
+use Rattle.written_laws.proofs.{NewDarts.cell_is, NewDarts.dart_low, NewDarts.dart_number, NewDarts.number_from}
+use Rattle.written_laws.proofs.{Between.between_law, Borders.from_is, EdgeNumbers.point_onto, EdgeNumbers.number_low}
+use Rattle.written_laws.proofs.{ModelCounts.dart_used, ModelCounts.new_quads, ModelCounts.point_dart}
 use Rattle.def_text.specs.{Decimal.is_far, FaceSet.FaceSet, Laws.is_position, Laws.is_quad, Laws.IsWritableSoup}
 use Rattle.def_text.specs.{Types.Positions, declared.limits.TheConstants.MAX_MICRO, Text.numbers_to}
-use Rattle.def_certtext.specs.Laws.{IsPrintable}
-use Rattle.def_layout.specs.Gluings.{Gluing, Way, south, east, north, west}
-use Rattle.def_layout.specs.Lengths.{Lengths, wide, high, AreLengths}
-use Rattle.def_layout.specs.{Arcs.long_at, FaceLayouts.IsCutLayout, Layouts.Layout, Layouts.gluing_of}
-use Rattle.def_layout.specs.Surfaces.{IsSurface}
+use Rattle.def_layout.specs.{Gluings.Gluing, Gluings.Way, Gluings.south, Gluings.east, Gluings.north, Gluings.west}
+use Rattle.def_layout.specs.{Lengths.Lengths, Lengths.high, Lengths.AreLengths, Arcs.long_at, FaceLayouts.IsCutLayout}
+use Rattle.def_layout.specs.{Layouts.Layout, Layouts.gluing_of, Surfaces.IsSurface}
 use Rattle.def_written.specs.NewFaces.{face_count, dart_start, new_face, new_faces, dart_of, cell_vertex}
-use Rattle.def_written.specs.Numbers.{before_arc, before_patch, vertices, vertex_number}
-use Rattle.def_written.specs.{Laws.AreQuads, Points.IsPoint}
+use Rattle.def_written.specs.{Numbers.vertices, Numbers.vertex_number, Laws.AreQuads}
 use Rattle.def_cut.specs.{FullCut.IsFullCut, Traced.traced_marks}
-use Rattle.def_layoutnet.specs.MeshLayouts.{IsSomeLayout}
-use Rattle.def_remesh.specs.NewPoints.{along_arcs, inside_patches, old_vertex, point_at}
-use Rattle.def_remesh.specs.NewSoup.{coordinate, new_coordinate, spaced_place, spaced_soup}
-use Rattle.def_remesh.specs.{Spaced.spacing_by, TextLaws.IsSolid, declared.limits.TheConstants.MAX_NEW_FACES}
-use Rattle.def_remesh.specs.ReadAgain.{IsReadable}
-use Rattle.map_laws.proofs.{Numbered.is_point, Spaced.spacing_is}
-use Rattle.embedding_laws.proofs.{Bounds.vertices_few, MeshLayouts.laid_of, MeshLayouts.lengths_of}
-use Rattle.site_laws.proofs.Laws.{graph_law}
+use Rattle.def_remesh.specs.{NewPoints.old_vertex, NewPoints.point_at, NewSoup.coordinate, NewSoup.new_coordinate}
+use Rattle.def_remesh.specs.{NewSoup.spaced_place, NewSoup.spaced_soup, Spaced.spacing_by, TextLaws.IsSolid}
+use Rattle.def_remesh.specs.{declared.limits.TheConstants.MAX_NEW_FACES, ReadAgain.IsReadable}
+use Rattle.map_laws.proofs.{Cells.is_point, OldPoints.spacing_is}
+use Rattle.embedding_laws.proofs.Bounds.{vertices_few, laid_of, lengths_of}
 use Rattle.qm_obj.proofs.SoupLemmas.{length-numbers_to, numbers_rise}
+use Rattle.{def_mesh.specs.Faces.Faces, def_mesh.specs.Vertices.is_used, def_certtext.specs.Laws.IsPrintable}
+use Rattle.{def_layoutnet.specs.MeshLayouts.IsSomeLayout, site_laws.proofs.Laws.graph_law}
 
 -- What holds at each number of a range passes.
 pub passes_range : (p : ℕ → Bool) (n : ℕ) → ((k : ℕ) → k < n → p k ≡ true) → list_all p (range_with_len 0 n) ≡ true

@@ -1,22 +1,20 @@
 -- An accepted certificate of the network of a layout certifies its lengths, and can be written.
-use Rattle.std.proofs.Common.{◌≡◌, ℕ, zero, suc, ◌^◌, ◌<◌, ◌≤◌, Bool, true, ◌&&◌}
-use Rattle.std.proofs.Common.{List, [], ◌∷◌, ◌++◌, length, map, take, drop, refl, sym, ◌∙◌, arith, ℤ, ap}
-use Rattle.std.proofs.lemmas.Bool.{and_from, and_parts, le-leb, leb-true, lt-ltb, Decides.nat_tests}
-use Rattle.std.proofs.lemmas.List.{take-append-drop, Folds.list_all-append, Folds.list_all-map}
+use Rattle.std.proofs.Common.{◌≡◌, ℕ, zero, suc, ◌^◌, ◌<◌, ◌≤◌, Bool, true, ◌&&◌, List, [], ◌∷◌, ◌++◌, length, map}
+use Rattle.std.proofs.Common.{take, drop, refl, sym, ◌∙◌, arith, ℤ, ap}
+use Rattle.std.proofs.lemmas.Bool.{and_from, and_parts, le-leb, leb-true, lt-ltb}
+use Rattle.std.proofs.{lemmas.Bool.Decides.nat_tests, lemmas.List.take-append-drop, lemmas.List.Folds.list_all-append}
+use Rattle.std.proofs.{lemmas.List.Folds.list_all-map}
 use Rattle.std.specs.{List.list_all, Prelude.nat_lt, Prelude.slice_index}
-use Rattle.def_certtext.specs.CertLines.{dual_lines, HasUps, Lists}
-use Rattle.def_certtext.specs.{Laws.IsWritableCert, Reading.is_small, Reading.may_stand}
-use Rattle.def_certtext.specs.declared.{CertLine.CertLine, certs.Rising.TheVariants.Never}
-use Rattle.def_flow.specs.{Admissible.entries, Descent.IsSolution, Network.Network}
-use Rattle.def_flow.specs.{Network.tangle_number, Network.IsWithinBounds, declared.limits.TheConstants.MAX_LENGTH}
-use Rattle.def_flow.specs.declared.{limits.TheConstants.MAX_TANGLE, net.Settings.Settings}
+use Rattle.def_certtext.specs.{CertLines.dual_lines, CertLines.Lists, Laws.IsWritableCert, Reading.is_small}
+use Rattle.def_certtext.specs.{Reading.may_stand, declared.CertLine.CertLine, declared.certs.Rising.TheVariants.Never}
+use Rattle.def_flow.specs.{Admissible.entries, Descent.IsSolution, Network.Network, Network.tangle_number}
+use Rattle.def_flow.specs.{Network.IsWithinBounds, declared.limits.TheConstants.MAX_LENGTH}
+use Rattle.def_flow.specs.{declared.limits.TheConstants.MAX_TANGLE, declared.net.Settings.Settings}
 use Rattle.def_layout.specs.{Layouts.Layout, Layouts.gluing_of, Lengths.Lengths}
 use Rattle.def_layoutnet.specs.{LayoutNet.IsNetOf, MeshLayouts.IsSomeLayout}
-use Rattle.def_matching.specs.Dual.{is_up, AreSmall}
 use Rattle.def_remesh.specs.{Certified.certificate_of, Certified.IsCertified, Tasks.old_lengths, Tasks.Wish}
-use Rattle.qm_layoutnet.proofs.Balance.{balance_law}
-use Rattle.embedding_laws.proofs.MeshLayouts.{laid_of}
-use Rattle.gadget_laws.proofs.Sound.{sound}
+use Rattle.{def_matching.specs.Dual.is_up, def_matching.specs.Dual.AreSmall, qm_layoutnet.proofs.Balance.balance_law}
+use Rattle.{embedding_laws.proofs.Bounds.laid_of, gadget_laws.proofs.Arcs.sound}
 use Rattle.def_certtext.specs.declared.CertLine.TheVariants as lines
 
 -- What passes in a list passes in each front and in each tail of it.

@@ -1,21 +1,20 @@
 -- Each step lessens what is left of a search.
-use Rattle.std.proofs.Common.{◌≡◌, ◌≢◌, ℕ, ◌+◌, ◌*◌, ◌<◌, ◌≤◌, true, List, length}
-use Rattle.std.proofs.Common.{mul-le-mul_right, get_or, Option, Some, refl, sym, ◌∙◌, ap, inl, inr, arith}
-use Rattle.std.proofs.Math.ListN.{set}
-use Rattle.std.proofs.lemmas.List.{length-set, get_or-set_same, get_or-set_other}
+use Rattle.std.proofs.Common.{◌≡◌, ◌≢◌, ℕ, ◌+◌, ◌*◌, ◌<◌, ◌≤◌, true, List, length, mul-le-mul_right, get_or, Option}
+use Rattle.std.proofs.Common.{Some, refl, sym, ◌∙◌, ap, inl, inr, arith}
 use Rattle.std.proofs.lemmas.Bool.{cases_eq, cases_Bool, cond-true, cond-false, eq-eqb, ne_eqb}
+use Rattle.std.proofs.{Math.ListN.set, lemmas.List.length-set, lemmas.List.get_or-set_same}
+use Rattle.std.proofs.{lemmas.List.get_or-set_other}
 use Rattle.def_math.specs.Counts.{count_below}
-use Rattle.sum_laws.proofs.Counts.{count_below_le, count_below_lt, count_below_ones}
+use Rattle.sum_laws.proofs.Sums.{count_below_le, count_below_lt, count_below_ones}
 use Rattle.def_matching.specs.Matching.{WeightedGraph, IsGraph}
-use Rattle.def_forest.specs.{Darts.darts_of, Darts.far, Forests.Forest, Forests.live_at}
-use Rattle.def_forest.specs.{Forests.set_at, Forests.sets_of, Forests.walk, Opened.Opening, Opened.IsOpening}
-use Rattle.def_forest.specs.{Opened.IsOpened, Shrunk.IsShrinking, Steps.grown}
-use Rattle.def_forest.specs.{Valid.IsValid, declared.kinds.Label.Label, declared.kinds.Label.TheVariants.Outer}
-use Rattle.def_forest.specs.declared.kinds.Label.TheVariants.{Inner, Outside}
-use Rattle.forest_laws.proofs.{Facts.far_low, Facts.named_low, Graphs.are_darts, Odds.live_none, Odds.live_some}
-use Rattle.forest_laws.proofs.{Writes.inner_named}
-use Rattle.search_laws.specs.Keys.{is_stale, true_key}
-use Rattle.search_laws.specs.Searches.{not_outer, vertices_left, steps_left, turns_left}
+use Rattle.def_forest.specs.declared.kinds.Label.TheVariants.{Outer, Inner, Outside}
+use Rattle.def_forest.specs.{Darts.darts_of, Darts.far, Forests.Forest, Forests.live_at, Forests.set_at}
+use Rattle.def_forest.specs.{Forests.sets_of, Forests.walk, Opened.Opening, Opened.IsOpening, Opened.IsOpened}
+use Rattle.def_forest.specs.{Shrunk.IsShrinking, Steps.grown, Valid.IsValid, declared.kinds.Label.Label}
+use Rattle.forest_laws.proofs.{Grows.far_low, Grows.named_low, Grows.inner_named, Bounds.are_darts, Odds.live_none}
+use Rattle.forest_laws.proofs.{Odds.live_some}
+use Rattle.search_laws.specs.{Keys.is_stale, Keys.true_key, Searches.not_outer, Searches.vertices_left}
+use Rattle.search_laws.specs.{Searches.steps_left, Searches.turns_left}
 use Rattle.search_laws.proofs.Kept.{on_cycle, opened_old, opened_label, shrunk_on, shrunk_off, shrunk_set, shrunk_label}
 
 not_outer_low : (l : Label) → not_outer l ≤ 1

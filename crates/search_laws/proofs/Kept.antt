@@ -1,21 +1,20 @@
 -- Keys stay low through each step, where the edges at new outer blossoms and the new inner sets get theirs anew.
 use Rattle.std.proofs.Common.{◌≡◌, ◌≢◌, ℕ, ◌*◌, ◌<◌, ◌≤◌, Bool, true, false, cond, eqb, List, length, get_or, Option}
-use Rattle.std.proofs.lemmas.Bool.{cases_eq, cases_lt, cases_Bool, eq-eqb, ne_eqb, eqb-true}
 use Rattle.std.proofs.Common.{Some, None, ℤ, pos, ◌-ℤ◌, ◌*ℤ◌, ◌⊎◌, refl, sym, ◌∙◌, ap, inl, inr, arith}
+use Rattle.std.proofs.lemmas.Bool.{cases_eq, cases_lt, cases_Bool, eq-eqb, ne_eqb, eqb-true}
 use Rattle.std.specs.Int.RustNames.{unsigned_abs}
 use Rattle.def_matching.specs.Matching.{WeightedGraph, IsGraph, edge_at}
-use Rattle.def_forest.specs.{Darts.darts_of, Darts.far, Forests.Forest, Forests.set_at}
-use Rattle.def_forest.specs.{Opened.Opening, Opened.IsOpening, Opened.IsOpened, Shrunk.IsShrinking, Steps.grown}
-use Rattle.def_forest.specs.{Steps.rooted, Tables.slack_of, Valid.IsValid, declared.kinds.Label.Label}
-use Rattle.def_forest.specs.declared.kinds.Label.TheVariants.{Outer, Inner}
-use Rattle.def_forest.specs.declared.kinds.Label.TheVariants.{Outside}
-use Rattle.forest_laws.proofs.{Graphs.are_darts, Levels.tree_cases, Writes.set_here, Writes.set_there}
-use Rattle.forest_laws.proofs.{Beside.same_load, Expands.Expansion, Shrinks.Shrink}
+use Rattle.def_forest.specs.declared.kinds.Label.TheVariants.{Outer, Inner, Outside}
+use Rattle.def_forest.specs.{Darts.darts_of, Darts.far, Forests.Forest, Forests.set_at, Opened.Opening}
+use Rattle.def_forest.specs.{Opened.IsOpening, Opened.IsOpened, Shrunk.IsShrinking, Steps.grown, Steps.rooted}
+use Rattle.def_forest.specs.{Tables.slack_of, Valid.IsValid, declared.kinds.Label.Label}
+use Rattle.forest_laws.proofs.{Bounds.are_darts, Levels.tree_cases, Grows.set_here, Grows.set_there, Shifts.same_load}
+use Rattle.forest_laws.proofs.{Expands.Expansion, Shrinks.Shrink}
+use Rattle.search_laws.specs.Keys.{no_key, edge_key_by, set_key_by, set_of, leaf_of, true_key, AreLow, IsMended}
+use Rattle.search_laws.specs.Keys.{AreRightAt}
+use Rattle.search_laws.proofs.Keys.{at_edge, at_set}
 use Rattle.forest_laws.proofs.Shrinks as shrinks
 use Rattle.forest_laws.proofs.Expands as expands
-use Rattle.search_laws.specs.Keys.{no_key, edge_key_by, set_key_by, set_of, leaf_of, true_key, AreLow}
-use Rattle.search_laws.specs.Keys.{IsMended, AreRightAt}
-use Rattle.search_laws.proofs.Keys.{at_edge, at_set}
 
 -- An end of an edge has the label that it had, or is inner now.
 abbrev pub IsQuiet : (f new : Forest) (w : ℕ) → Type 0

@@ -1,17 +1,15 @@
 -- Keys do not change with a shift, and what they say is lawful.
-use Rattle.std.proofs.Common.{◌≡◌, ℕ, ◌+◌, ◌-◌, ◌*◌, ◌/◌, ◌%◌, ◌<◌, ◌≤◌, Bool, true, false, eqb, length, ℤ, pos}
-use Rattle.std.proofs.lemmas.Int.{ints}
+use Rattle.std.proofs.Common.{◌≡◌, ℕ, ◌+◌, ◌-◌, ◌*◌, ◌/◌, ◌%◌, ◌<◌, ◌≤◌, Bool, true, false, eqb, length, ℤ, pos, ◌+ℤ◌}
+use Rattle.std.proofs.Common.{◌-ℤ◌, ◌*ℤ◌, ◌≤ℤ◌, sym, ◌∙◌, ap, inl, inr, arith}
 use Rattle.std.proofs.lemmas.Bool.{cases_eq, cases_lt, cond-true, cond-false, eq-eqb, eqb-true, lt-ltb, le-ltb}
-use Rattle.std.proofs.Common.{◌+ℤ◌, ◌-ℤ◌, ◌*ℤ◌, ◌≤ℤ◌, sym, ◌∙◌, ap, inl, inr, arith}
-use Rattle.std.specs.{Int.RustNames.unsigned_abs}
+use Rattle.std.proofs.lemmas.Int.{ints}
+use Rattle.std.specs.Int.RustNames.{unsigned_abs}
 use Rattle.def_matching.specs.Matching.{WeightedGraph, IsGraph, edge_at}
-use Rattle.def_forest.specs.{Darts.darts_of, Darts.far, Forests.Forest, Forests.weight_between}
-use Rattle.def_forest.specs.{Steps.weight_change, Steps.shifted, Tables.slack_of, Valid.AreOutermost, Valid.IsFeasible}
-use Rattle.def_forest.specs.{declared.kinds.Label.Label}
-use Rattle.def_forest.specs.declared.kinds.Label.TheVariants.{Outside}
-use Rattle.forest_laws.proofs.Graphs.{dart_near, dart_far, dart_cost, near_even, near_odd, twin_even, twin_odd}
-use Rattle.forest_laws.proofs.Loads.{load_apart, load_order, load_within}
-use Rattle.forest_laws.proofs.Writes.{label_cases, true_false}
+use Rattle.def_forest.specs.{Darts.darts_of, Darts.far, Forests.Forest, Forests.weight_between, Steps.weight_change}
+use Rattle.def_forest.specs.{Steps.shifted, Tables.slack_of, Valid.AreOutermost, Valid.IsFeasible}
+use Rattle.def_forest.specs.{declared.kinds.Label.Label, declared.kinds.Label.TheVariants.Outside}
+use Rattle.forest_laws.proofs.Bounds.{dart_near, dart_far, dart_cost, near_even, near_odd, twin_even, twin_odd}
+use Rattle.forest_laws.proofs.Grows.{load_apart, load_order, load_within, label_cases, true_false}
 use Rattle.search_laws.specs.Keys.{edge_key_by, edge_key, set_key_by, set_key, set_of, leaf_of, true_key}
 
 -- The key of an edge, and that of a set.

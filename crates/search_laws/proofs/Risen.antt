@@ -1,19 +1,17 @@
 -- How far the sum of the weights rises, and so how large keys and weights are.
-use Rattle.std.proofs.Common.{◌≡◌, ℕ, zero, suc, ◌+◌, ◌-◌, ◌*◌, ◌/◌}
-use Rattle.std.proofs.Common.{ap, ◌∙◌, ◌<◌, ◌≤◌}
-use Rattle.std.proofs.{Common.List, Common.[], Common.◌∷◌, Common.arith, lemmas.Int.ints, lemmas.Bool.cases_lt}
-use Rattle.std.proofs.Common.{length, map, Option, Some, ℤ, pos, ◌+ℤ◌, ◌*ℤ◌, ◌≤ℤ◌, refl, inl, inr}
+use Rattle.std.proofs.Common.{◌≡◌, ℕ, zero, suc, ◌+◌, ◌-◌, ◌*◌, ◌/◌, ap, ◌∙◌, ◌<◌, ◌≤◌, List, [], ◌∷◌, arith, length}
+use Rattle.std.proofs.Common.{map, Option, Some, ℤ, pos, ◌+ℤ◌, ◌*ℤ◌, ◌≤ℤ◌, refl, inl, inr}
+use Rattle.std.proofs.{lemmas.Int.ints, lemmas.Bool.cases_lt}
 use Rattle.std.specs.Int.RustNames.{unsigned_abs}
 use Rattle.def_math.specs.{Increasing.IsIncreasing, Sums.total, Sums.total_below}
-use Rattle.qm_dual.proofs.{Ends.ends_once, Gathered.total_below_small, Weak.chosen_below}
+use Rattle.qm_dual.proofs.{Gathered.ends_once, Gathered.total_below_small, Weak.chosen_below}
 use Rattle.def_matching.specs.Matching.{WeightedGraph, IsGraph, IsCheap, IsPerfect, edge_at, matching_cost}
-use Rattle.def_matching.specs.declared.limits.TheConstants.{MAX_PRODUCT}
-use Rattle.def_matching.specs.declared.weighted.WEdge.{WEdge}
+use Rattle.def_matching.specs.{declared.limits.TheConstants.MAX_PRODUCT, declared.weighted.WEdge.WEdge}
 use Rattle.def_forest.specs.{Darts.darts_of, Forests.Forest, Forests.dual_sum_of, Steps.weight_change, Steps.shifted}
 use Rattle.def_forest.specs.{Valid.IsFeasible, Valid.IsValid, declared.kinds.Label.Label}
-use Rattle.forest_laws.proofs.{Bounds.sum_bounds, Graphs.are_darts, Shifts.shift_valid, Shifts.sum_rises}
-use Rattle.search_laws.specs.Keys.{no_key, true_key}
-use Rattle.search_laws.specs.Searches.{IsInRange, first_limit, risen_limit}
+use Rattle.forest_laws.proofs.{Bounds.sum_bounds, Bounds.are_darts, Shifts.shift_valid, Shifts.sum_rises}
+use Rattle.search_laws.specs.{Keys.no_key, Keys.true_key, Searches.IsInRange, Searches.first_limit}
+use Rattle.search_laws.specs.{Searches.risen_limit}
 use Rattle.search_laws.proofs.Keys.{lawful}
 
 -- The greatest of some numbers, where the product of each with another is small.

@@ -1,26 +1,23 @@
 -- What each step leaves of a search, and which step a key names.
-use Rattle.std.proofs.Common.{◌≡◌, ◌≢◌, ℕ, ◌+◌, ◌-◌, ◌*◌, ◌/◌, ◌<◌, ◌≤◌, Bool, false, cond, eqb, length, Option}
-use Rattle.std.proofs.Common.{Some, None, ℤ, pos, ◌⊎◌, refl, sym, ◌∙◌, ap, inl, inr, arith}
-use Rattle.std.proofs.lemmas.Int.{ints}
-use Rattle.std.proofs.lemmas.Bool.{cases_eq, cases_lt, cases_Bool}
+use Rattle.std.proofs.Common.{◌≡◌, ◌≢◌, ℕ, ◌+◌, ◌-◌, ◌*◌, ◌/◌, ◌<◌, ◌≤◌, Bool, false, cond, eqb, length, Option, Some}
+use Rattle.std.proofs.Common.{None, ℤ, pos, ◌⊎◌, refl, sym, ◌∙◌, ap, inl, inr, arith}
+use Rattle.std.proofs.{lemmas.Int.ints, lemmas.Bool.cases_eq, lemmas.Bool.cases_lt, lemmas.Bool.cases_Bool}
 use Rattle.std.specs.{Int.RustNames.unsigned_abs, Prelude.int_lt}
 use Rattle.def_matching.specs.Matching.{WeightedGraph, IsGraph, edge_at}
+use Rattle.def_forest.specs.declared.kinds.EdgeKind.TheVariants.{Augment, Grow, Shrink}
 use Rattle.def_forest.specs.{Darts.darts_of, Forests.Forest, Forests.dual_sum_of, Opened.Opening, Opened.IsOpening}
 use Rattle.def_forest.specs.{Opened.IsOpened, Shrunk.IsShrinking, Steps.rooted, Steps.IsAugmented, Tables.kind_by}
-use Rattle.def_forest.specs.{Tables.edge_kind, Tables.slack_of, Valid.IsValid}
-use Rattle.def_forest.specs.{declared.kinds.EdgeKind.EdgeKind}
-use Rattle.def_forest.specs.declared.kinds.EdgeKind.TheVariants.{Augment, Grow}
-use Rattle.def_forest.specs.{declared.kinds.EdgeKind.TheVariants.Shrink, declared.kinds.Label.Label}
-use Rattle.def_forest.specs.declared.kinds.Label.TheVariants.{Outer, Inner}
+use Rattle.def_forest.specs.{Tables.edge_kind, Tables.slack_of, Valid.IsValid, declared.kinds.EdgeKind.EdgeKind}
+use Rattle.def_forest.specs.{declared.kinds.Label.Label, declared.kinds.Label.TheVariants.Outer}
+use Rattle.def_forest.specs.{declared.kinds.Label.TheVariants.Inner}
 use Rattle.sum_laws.proofs.Sums.{total_below_same}
-use Rattle.forest_laws.proofs.{Expands.Expansion, Expands.halves, Parities.slack_even}
-use Rattle.forest_laws.proofs.{Writes.some_is}
+use Rattle.forest_laws.proofs.{Expands.Expansion, Expands.halves, Walks.slack_even, Grows.some_is}
+use Rattle.search_laws.specs.{Keys.no_key, Keys.edge_key_by, Keys.set_key_by, Keys.set_of, Keys.true_key}
+use Rattle.search_laws.specs.{Searches.IsSeeking, Searches.AreMatchedBefore, Searches.IsInRange}
+use Rattle.search_laws.proofs.{Keys.at_edge, Keys.at_set, Keys.slack_high, Kept.expansion as the_expansion, Kept.shrink}
+use Rattle.search_laws.proofs.{Kept.shrunk_on, Kept.shrunk_off}
 use Rattle.forest_laws.proofs.Expands as expands
 use Rattle.forest_laws.proofs.Shrinks as shrinks
-use Rattle.search_laws.specs.Keys.{no_key, edge_key_by, set_key_by, set_of, true_key}
-use Rattle.search_laws.specs.Searches.{IsSeeking, AreMatchedBefore, IsInRange}
-use Rattle.search_laws.proofs.Keys.{at_edge, at_set, slack_high}
-use Rattle.search_laws.proofs.Kept.{expansion as the_expansion, shrink, shrunk_on, shrunk_off}
 
 -- Where the weights and their sum are the same they stay in range.
 pub range_same : {n first : ℕ} {f : Forest} (new : Forest) {risen : ℕ} → new.size ≡ f.size

@@ -1,23 +1,19 @@
 -- The laws of the motion on a mesh.
-use Rattle.std.proofs.Common.{◌≡◌, ℕ, zero, suc, ◌<◌, Bool, false, length, get_or, sym}
-use Rattle.std.proofs.Common.{◌∙◌, inl, inr, arith}
-use Rattle.std.proofs.lemmas.List.{length-map}
-use Rattle.std.proofs.lemmas.List.FromFn.{length-range_with_len, get_or-map-range_with_len}
-use Rattle.std.proofs.lemmas.Bool.{not-true}
-use Rattle.def_mesh.specs.{Darts.darts, Darts.all_darts, Darts.from_of, Vertices.vertex_count, Components.start_darts}
-use Rattle.def_mesh.specs.HalfEdges.{HalfEdges, IsQuadManifold, half_edges}
-use Rattle.def_cut.specs.{Cuts.Links, Cuts.IsCut, FullCut.is_on, Motion.ridden}
-use Rattle.def_cut.specs.{Motion.is_among, Motion.start, Motion.after_steps, Traced.terrain_of, Traced.last_state}
-use Rattle.def_cut.specs.{Traced.is_traced, Traced.traced_marks, MotionLaws.IsKnown}
-use Rattle.def_cut.specs.MotionLaws.{StateLaw, TracedGraphLaw, OrderLaw}
-use Rattle.cut_laws.proofs.Classes.{links_low}
-use Rattle.face_laws.proofs.FullCuts.{full_cut_law}
-use Rattle.mesh_laws.proofs.{HalfEdges.manifold_law, Vertices.all_below}
-use Rattle.motion_laws.proofs.{Marks.among_at, Marks.places_apart, Terrains.IsKnown as Known, Traced.first}
-use Rattle.motion_laws.proofs.Order.{bounded, one_end, possible, reached_at, within}
-use Rattle.motion_laws.proofs.Onward.{end_reached, full_cut, nobody_runs}
-use Rattle.def_mesh.specs.Darts.{to_of}
+use Rattle.std.proofs.Common.{◌≡◌, ℕ, zero, suc, ◌<◌, Bool, false, length, get_or, sym, ◌∙◌, inl, inr, arith}
+use Rattle.std.proofs.{lemmas.List.length-map, lemmas.List.FromFn.length-range_with_len}
+use Rattle.std.proofs.{lemmas.List.FromFn.get_or-map-range_with_len, lemmas.Bool.not-true}
+use Rattle.def_mesh.specs.{Darts.darts, Darts.all_darts, Darts.from_of, Darts.to_of, Vertices.vertex_count}
+use Rattle.def_mesh.specs.{Components.start_darts, HalfEdges.HalfEdges, HalfEdges.IsQuadManifold, HalfEdges.half_edges}
+use Rattle.def_cut.specs.{Cuts.Links, Cuts.IsCut, FullCut.is_on, Motion.ridden, Motion.is_among, Motion.start}
+use Rattle.def_cut.specs.{Motion.after_steps, Traced.terrain_of, Traced.last_state, Traced.is_traced}
+use Rattle.def_cut.specs.{Traced.traced_marks, MotionLaws.IsKnown, MotionLaws.StateLaw, MotionLaws.TracedGraphLaw}
+use Rattle.def_cut.specs.{MotionLaws.OrderLaw}
+use Rattle.mesh_laws.proofs.{Chains.manifold_law, Flood.all_below}
+use Rattle.motion_laws.proofs.{Marks.among_at, Marks.places_apart, Bits.IsKnown as Known, Steps.first, Order.bounded}
+use Rattle.motion_laws.proofs.{Order.one_end, Order.possible, Order.reached_at, Order.within, Onward.end_reached}
+use Rattle.motion_laws.proofs.{Onward.full_cut, Onward.nobody_runs}
 use Rattle.site_laws.proofs.Sites.{course, started, terrain}
+use Rattle.{cut_laws.proofs.Classes.links_low, face_laws.proofs.FullCuts.full_cut_law}
 
 pub state_law : StateLaw
 state_law faces m n =

@@ -1,21 +1,19 @@
 -- A manifold list of faces is a terrain, and its start darts are starts.
-use Rattle.std.proofs.Common.{◌≡◌, ◌⊎◌, ℕ, ◌<◌, true, false, not, eqb, ◌&&◌, ◌||◌, Some}
-use Rattle.std.proofs.Common.{None, is_some, sym, ap, ◌∙◌, refl, inl, inr, arith}
-use Rattle.std.proofs.lemmas.Option.{none-some}
+use Rattle.std.proofs.Common.{◌≡◌, ◌⊎◌, ℕ, ◌<◌, true, false, not, eqb, ◌&&◌, ◌||◌, Some, None, is_some, sym, ap, ◌∙◌}
+use Rattle.std.proofs.Common.{refl, inl, inr, arith}
 use Rattle.std.proofs.lemmas.Bool.{eqb-true, lt-ltb, or_left, or_right, or_cases, or_parts, and_from, and_parts}
 use Rattle.std.proofs.lemmas.Bool.{not_from_false, false≢true, false_from_ne_true, not-false, not-true}
-use Rattle.std.specs.List.{list_any}
-use Rattle.def_mesh.specs.{Faces.Faces, Darts.darts, Darts.all_darts, Darts.from_of, Darts.to_of, Darts.next_of}
-use Rattle.def_mesh.specs.{Darts.prev_of, Darts.twin_of, Manifold.IsManifold, Vertices.faces_at, Vertices.vertex_count}
-use Rattle.def_mesh.specs.{Kinds.is_end, Kinds.is_inner, Kinds.is_regular, Kinds.is_singular, Kinds.is_reflex}
-use Rattle.def_mesh.specs.{Components.seeds, Components.is_start, Components.start_darts}
-use Rattle.def_mesh.specs.HalfEdges.{IsQuadManifold, half_edges}
-use Rattle.def_cut.specs.{Motion.is_among, Traced.terrain_of}
-use Rattle.mesh_laws.proofs.{HalfEdges.manifold_law, Vertices.all_below}
-use Rattle.face_laws.proofs.Fans.{inner_twin, regular_cross}
+use Rattle.std.proofs.lemmas.Option.{none-some}
+use Rattle.def_mesh.specs.Darts.{darts, all_darts, from_of, to_of, next_of, prev_of, twin_of}
+use Rattle.def_mesh.specs.{Faces.Faces, Manifold.IsManifold, Vertices.faces_at, Vertices.vertex_count, Kinds.is_end}
+use Rattle.def_mesh.specs.{Kinds.is_inner, Kinds.is_regular, Kinds.is_singular, Kinds.is_reflex, Components.seeds}
+use Rattle.def_mesh.specs.{Components.is_start, Components.start_darts, HalfEdges.IsQuadManifold, HalfEdges.half_edges}
+use Rattle.mesh_laws.proofs.{Chains.manifold_law, Flood.all_below}
+use Rattle.face_laws.proofs.FullCuts.{inner_twin, regular_cross}
 use Rattle.motion_laws.proofs.Among.{cases_Option, not_all, range_among, range_apart, apart_filter}
-use Rattle.motion_laws.proofs.{Order.IsCourse, Terrains.IsTerrain, Terrains.IsStarted}
+use Rattle.motion_laws.proofs.{Order.IsCourse, Bits.IsTerrain, Bits.IsStarted}
 use Rattle.site_laws.proofs.Sources.{three_faces, start_in, start_of, found}
+use Rattle.{std.specs.List.list_any, def_cut.specs.Motion.is_among, def_cut.specs.Traced.terrain_of}
 
 module _ (faces : Faces) (m : IsManifold faces) where
   abbrev laws : IsQuadManifold (half_edges faces)

@@ -5,27 +5,24 @@ use Rattle.std.proofs.Common.{List, [], ◌∷◌, length, is_some, sym, subst, 
 use Rattle.std.proofs.Common.{get_or, Some, None}
 use Rattle.std.proofs.lemmas.Bool.{cases_Bool, cases_lt, eq-eqb, eqb-true, eqb-false, lt-ltb, or_left, or_right}
 use Rattle.std.proofs.lemmas.Bool.{and_from, and_parts, not_from_false, false≢true, cases_eq}
+use Rattle.std.proofs.lemmas.Option.{same_Some}
 use Rattle.std.specs.List.{list_any, range_with_len}
-use Rattle.def_mesh.specs.Faces.{Faces, all_faces}
 use Rattle.def_mesh.specs.Darts.{darts, all_darts, from_of, is_reverse, next_of, prev_of, twin_of}
-use Rattle.def_mesh.specs.Manifold.{IsManifold}
-use Rattle.def_mesh.specs.Vertices.{faces_at, vertex_count, all_vertices, fan_of}
-use Rattle.def_mesh.specs.Kinds.{is_inner, is_regular, is_singular, is_reflex}
 use Rattle.def_mesh.specs.Components.{share_edge, is_marked, component_of, least_face, least_faces, vertices_in}
 use Rattle.def_mesh.specs.Components.{is_ring, is_first, is_seed_in, seeds, is_start, start_darts}
-use Rattle.def_mesh.specs.HalfEdges.{HalfEdges, IsQuadManifold, half_edges, Turns}
-use Rattle.def_cut.specs.{Motion.is_among, Steps.spin}
-use Rattle.def_cut.specs.Trails.{Joins, IsSource}
+use Rattle.def_mesh.specs.{Faces.Faces, Faces.all_faces, Manifold.IsManifold, Vertices.faces_at, Vertices.vertex_count}
+use Rattle.def_mesh.specs.{Vertices.all_vertices, Vertices.fan_of, Kinds.is_inner, Kinds.is_regular, Kinds.is_singular}
+use Rattle.def_mesh.specs.{Kinds.is_reflex, HalfEdges.HalfEdges, HalfEdges.IsQuadManifold, HalfEdges.half_edges}
+use Rattle.def_mesh.specs.{HalfEdges.Turns}
+use Rattle.def_cut.specs.{Motion.is_among, Steps.spin, Trails.Joins, Trails.IsSource}
 use Rattle.list_laws.proofs.Filters.{any_in_range, range_any}
-use Rattle.mesh_laws.proofs.{HalfEdges.manifold_law, Vertices.all_below, Fans.is_fan}
-use Rattle.mesh_laws.proofs.Flood.{Shares, sound, own_mark, same_component, least_low, least_marked, least_again}
-use Rattle.mesh_laws.proofs.Twins.{reverse_twin, twin_found}
-use Rattle.face_laws.proofs.Fans.{same_face, has_fan, inner_from}
+use Rattle.mesh_laws.proofs.Flood.{all_below, Shares, sound, own_mark, same_component, least_low, least_marked}
+use Rattle.mesh_laws.proofs.Flood.{least_again}
+use Rattle.mesh_laws.proofs.Chains.{manifold_law, is_fan, reverse_twin, twin_found}
+use Rattle.face_laws.proofs.FullCuts.{same_face, has_fan, inner_from}
 use Rattle.motion_laws.proofs.Among.{all_at, among_here, among_range, any_at, cases_Option, from_filter, in_filter}
 use Rattle.motion_laws.proofs.Among.{not_all, range_among}
-use Rattle.std.proofs.lemmas.Option.{same_Some}
-use Rattle.cut_laws.proofs.Darts.{prev_three, turn_from, turn_low}
-use Rattle.cut_laws.proofs.Crosses.{Leaves, no_fix}
+use Rattle.cut_laws.proofs.{Folds.prev_three, Folds.turn_from, Folds.turn_low, Crosses.Leaves, Crosses.no_fix}
 
 -- Chains of joined darts, one after another, and back.
 pub joins_join : (m : HalfEdges) (d e f i j : ℕ) → Joins m d e i → Joins m e f j → (k : ℕ) × Joins m d f k

@@ -1,9 +1,8 @@
 -- Prefix sums, and counts along the first part of a list.
-use Rattle.std.proofs.Common.{◌≡◌, ℕ, zero, suc, ◌+◌, ◌<◌, ◌≤◌, List}
-use Rattle.std.proofs.Common.{[], ◌∷◌, length, get_or, take, ◌∙◌, ap}
-use Rattle.std.proofs.{Common.inl, Common.inr, Common.arith, lemmas.Bool.cases_eq, lemmas.List.take_more}
-use Rattle.def_math.specs.Counts.{count, count_below}
-use Rattle.sum_laws.proofs.Counts.{count_append}
+use Rattle.std.proofs.Common.{◌≡◌, ℕ, zero, suc, ◌+◌, ◌<◌, ◌≤◌, List, [], ◌∷◌, length, get_or, take, ◌∙◌, ap, inl, inr}
+use Rattle.std.proofs.Common.{arith}
+use Rattle.std.proofs.{lemmas.Bool.cases_eq, lemmas.List.take_more}
+use Rattle.{def_math.specs.Counts.count, def_math.specs.Counts.count_below, sum_laws.proofs.Sums.count_append}
 
 -- A sum below a greater bound is no smaller.
 pub count_below_up : (f : ℕ → ℕ) (v n : ℕ) → v ≤ n → count_below f v ≤ count_below f n

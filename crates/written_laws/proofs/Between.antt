@@ -1,19 +1,21 @@
 -- New points lie between the least and the greatest of the old coordinates.
 use Rattle.std.proofs.Common.{◌≡◌, ℕ, zero, suc, ◌+◌, ◌-◌, ◌*◌, ◌/◌, ◌%◌, ◌^◌, ◌<◌, ◌≤◌, ℤ, pos, negsuc, ◌+ℤ◌, ◌-ℤ◌}
-use Rattle.std.proofs.Common.{◌*ℤ◌, Bool, not, sym, ◌∙◌, ap, inl, inr, arith}
-use Rattle.std.proofs.Math.Nat.{mod-lt, div-add-mod, div-lt_iff_lt-mul}
-use Rattle.std.proofs.{lemmas.Bool.cases_eq, lemmas.Int.ints, lemmas.Int.by_lt_z, lemmas.Nat.mul-le}
-use Rattle.sum_laws.proofs.Sums.{times_sum}
+use Rattle.std.proofs.Common.{◌*ℤ◌, Bool, not, sym, ◌∙◌, ap, inl, inr, arith, ◌≢◌, refl}
+use Rattle.std.proofs.{Math.Nat.mod-lt, Math.Nat.div-add-mod, Math.Nat.div-lt_iff_lt-mul, lemmas.Bool.cases_eq}
+use Rattle.std.proofs.{lemmas.Bool.cases_lt, lemmas.Int.ints, lemmas.Int.by_lt_z, lemmas.Nat.mul-le}
 use Rattle.std.specs.{Prelude.◌≤ℤ◌, Prelude.◌<ℤ◌, Int.int_div_euclid}
-use Rattle.def_layout.specs.Gluings.{Way, south, east, north, west, Gluing}
+use Rattle.sum_laws.proofs.Sums.{times_sum}
 use Rattle.def_layout.specs.Lengths.{Lengths, reach, size, wide, high, AreLengths}
+use Rattle.def_layout.specs.{Gluings.Way, Gluings.south, Gluings.east, Gluings.north, Gluings.west, Gluings.Gluing}
 use Rattle.def_layout.specs.{declared.tmesh.SideArc.SideArc, Surfaces.IsSurface, Cells.dart}
 use Rattle.def_written.specs.Points.{Point, node, along, inside, IsPoint, arc_point, use_over, offset_at, point}
-use Rattle.def_written.specs.Places.{Coordinate, on_the_way, ONE, parameter, parameter_back, parameter_u}
-use Rattle.def_written.specs.Places.{parameter_v, cell_at, rest_at, blend, place_of, ArcSpacing, Step}
-use Rattle.def_written.specs.{Edges.on_arc, NewFaces.dart_start, Spacings.IsSpacing, Laws.BetweenLaw}
-use Rattle.written_laws.proofs.{Runs.count_rises, Sides.IsOn, Sides.place_on, Sides.long_at, Grid.wide_some}
-use Rattle.written_laws.proofs.{Grid.high_some, Borders.from_is, EdgeDarts.edge_points}
+use Rattle.def_written.specs.Places.{Coordinate, on_the_way, ONE, parameter, parameter_back, parameter_u, parameter_v}
+use Rattle.def_written.specs.Places.{cell_at, rest_at, blend, place_of, ArcSpacing, Step}
+use Rattle.def_written.specs.Edges.{on_arc, Edge, IsEdge, edge_start, edge_end, HasEnds, IsUndoubled}
+use Rattle.def_written.specs.{NewFaces.dart_start, Spacings.IsSpacing, Laws.BetweenLaw, Numbers.vertex_number}
+use Rattle.written_laws.proofs.{Spacings.count_rises, Sides.IsOn, Sides.place_on, Sides.long_at, Rims.wide_some}
+use Rattle.written_laws.proofs.{Rims.high_some, Borders.from_is, Courses.edge_points, EdgeNumbers.number_same}
+use Rattle.written_laws.proofs.{EdgeNumbers.edge_number, EdgeNumbers.edge_same, Manifold.IsSimple}
 
 -- Products with a natural number, term by term.
 times_le : (k : ℕ) (a b : ℤ) → a ≤ℤ b → (pos k *ℤ a) ≤ℤ (pos k *ℤ b)
@@ -178,3 +180,60 @@ module _ {l : Gluing} {old new : Lengths} {spacing : ArcSpacing} (laid : IsSurfa
 pub between_law : BetweenLaw
 between_law l old new spacing at least greatest laid o_len n_len spaced =
     place_within laid o_len n_len spaced at least greatest
+
+-- No edge is doubled exactly where edges are told by their ends.
+
+module _ (l : Gluing) (x : Lengths) where
+  pub simple_from : IsUndoubled l x → IsSimple l x
+  simple_from undoubled = record {
+    same = λ e f is_e is_f s t. one e f is_e is_f
+        (inl (ap (vertex_number l x) (sym s), ap (vertex_number l x) (sym t)));
+    crossed = λ e f is_e is_f s t. one e f is_e is_f
+        (inr (ap (vertex_number l x) (sym t), ap (vertex_number l x) (sym s)));
+    no_loop = λ e is s. undoubled (vertex_number l x (edge_start l x e)) (vertex_number l x (edge_start l x e))
+        (omega arith, inl (refl, (e, is, inl (refl, ap (vertex_number l x) (sym s)))));
+  }
+    where
+      one : (e f : Edge) → IsEdge l x e → IsEdge l x f
+          → HasEnds l x f (vertex_number l x (edge_start l x e)) (vertex_number l x (edge_end l x e)) → e ≡ f
+      one e f is_e is_f ends = elim (cases_eq (edge_number l x e) (edge_number l x f)) [
+        | inl s ↦ edge_same l x e f is_e is_f s
+        | inr apart ↦
+            let differ : e ≢ f = λ s. apart (ap (edge_number l x) s) in
+            elim (cases_lt (vertex_number l x (edge_end l x e)) (vertex_number l x (edge_start l x e))) [
+              | inl less ↦ absurd (undoubled _ _ (
+                omega arith,
+                inr (e, f, is_e, is_f, differ, inr (refl, refl), elim ends [ inl s ↦ inr s | inr s ↦ inl s ]),
+              ))
+              | inr le ↦ absurd (undoubled _ _ (le, inr (e, f, is_e, is_f, differ, inl (refl, refl), ends)))
+            ]
+      ]
+
+  module _ (laid : IsSurface l) (len : AreLengths l x) where
+    pub undoubled_from : IsSimple l x → IsUndoubled l x
+    undoubled_from simple u v doubled = elim doubled.1 [
+      | inl h ↦ looped h.1.0 h.1.1 h.1.2
+      | inr h ↦ h.4
+          (paired h.0 h.1 (edge_points l x laid len h.0 h.2) (edge_points l x laid len h.1 h.3) h.2 h.3 h.5 h.6)
+    ]
+      where
+        same : {a b : Point} {k : ℕ} → IsPoint l x a → IsPoint l x b → vertex_number l x a ≡ k → vertex_number l x b ≡ k
+            → a ≡ b
+        same is_a is_b s t = number_same l x _ _ is_a is_b (s ∙ sym t)
+
+        looped : (e : Edge) → IsEdge l x e → HasEnds l x e u u → ⊥
+        looped e is ends =
+            let p = edge_points l x laid len e is in
+            simple.no_loop e is (elim ends [ inl s ↦ same p.0 p.1 s.0 s.1 | inr s ↦ same p.0 p.1 s.0 s.1 ])
+
+        paired : (e f : Edge) → IsPoint l x (edge_start l x e) × IsPoint l x (edge_end l x e)
+            → IsPoint l x (edge_start l x f) × IsPoint l x (edge_end l x f) → IsEdge l x e → IsEdge l x f
+            → HasEnds l x e u v → HasEnds l x f u v → e ≡ f
+        paired e f p q is_e is_f (inl s) (inl t) =
+            simple.same e f is_e is_f (same p.0 q.0 s.0 t.0) (same p.1 q.1 s.1 t.1)
+        paired e f p q is_e is_f (inl s) (inr t) =
+            simple.crossed e f is_e is_f (same p.0 q.1 s.0 t.1) (same p.1 q.0 s.1 t.0)
+        paired e f p q is_e is_f (inr s) (inl t) =
+            simple.crossed e f is_e is_f (same p.0 q.1 s.0 t.1) (same p.1 q.0 s.1 t.0)
+        paired e f p q is_e is_f (inr s) (inr t) =
+            simple.same e f is_e is_f (same p.0 q.0 s.0 t.0) (same p.1 q.1 s.1 t.1)

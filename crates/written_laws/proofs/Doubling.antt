@@ -2,23 +2,23 @@
 use Rattle.std.proofs.Common.{◌≡◌, ◌≢◌, ◌⊎◌, ℕ, ◌+◌, ◌-◌, ◌<◌, ◌≤◌, Bool, true, false, refl, sym, ◌∙◌, ap, inl, inr}
 use Rattle.std.proofs.Common.{arith, zero, suc, ◌*◌, ◌/◌, ◌%◌, cond, subst}
 use Rattle.std.proofs.{lemmas.Bool.cases_eq, lemmas.Bool.cond-true, lemmas.Bool.eq-eqb, Math.Nat.mul-le-mul_left}
-use Rattle.std.proofs.lemmas.Bool.Decides.{nat_tests}
+use Rattle.std.proofs.{lemmas.Bool.Decides.nat_tests}
 use Rattle.def_layout.specs.Gluings.{Way, south, east, north, west, side_after, Gluing, Slot, use_of}
 use Rattle.def_layout.specs.Lengths.{Lengths, reach, size, wide, high, AreLengths}
 use Rattle.def_layout.specs.{Surfaces.IsSurface, Cells.CellDart, Cells.IsDart, Cells.dart}
-use Rattle.def_layout.specs.declared.tmesh.SideArc.{SideArc}
+use Rattle.def_layout.specs.{declared.tmesh.SideArc.SideArc}
 use Rattle.def_written.specs.Points.{inside, arc_point, side_point, point, Point, node, along, use_point, use_over}
+use Rattle.def_written.specs.Points.{offset_at}
 use Rattle.def_written.specs.Edges.{Edge, on_arc, flat, steep, IsEdge, edge_start, edge_end}
-use Rattle.def_written.specs.{Points.offset_at, NewFaces.dart_start, NewFaces.dart_end}
+use Rattle.def_written.specs.NewFaces.{dart_start, dart_end}
 use Rattle.written_laws.proofs.Sides.{slot, arc_last, arc_inner, use_inner, side_in, reach_low, first_slot, last_slot}
-use Rattle.written_laws.proofs.Spokes.{IsOpen, spoke, tip_column, tip_row, one_way, tip, Joins, point_sort, Inner, hub}
-use Rattle.written_laws.proofs.Spokes.{tip_low, spoke_joins, hub_edge, loop_at}
+use Rattle.written_laws.proofs.Sides.{last_reach, place_on}
+use Rattle.written_laws.proofs.Borders.{IsOpen, spoke, tip_column, tip_row, one_way, tip, Joins, point_sort, Inner, hub}
+use Rattle.written_laws.proofs.Borders.{tip_low, spoke_joins, hub_edge, loop_at, arc_sort}
 use Rattle.written_laws.proofs.Courses.{is_arc, course_of, border_course, course_once, across_ends}
-use Rattle.written_laws.proofs.{Sides.last_reach, Sides.place_on, Grid.point_north, Grid.point_west, Grid.point_east}
-use Rattle.written_laws.proofs.{Fans.alike_or_turned, Simple.IsSimple, Rims.before_after, Rims.no_turn}
-use Rattle.written_laws.proofs.{Borders.arc_sort, Manifold.ends_differ}
-use Rattle.std.specs.Prelude.{◌==◌}
-use Rattle.sum_laws.proofs.Counts.{count_below_times}
+use Rattle.written_laws.proofs.{Rims.point_north, Rims.point_west, Rims.point_east, Rims.before_after, Rims.no_turn}
+use Rattle.written_laws.proofs.{Fans.alike_or_turned, Manifold.IsSimple, Manifold.ends_differ}
+use Rattle.{std.specs.Prelude.◌==◌, sum_laws.proofs.Sums.count_below_times}
 
 module _ {l : Gluing} {x : Lengths} (laid : IsSurface l) (len : AreLengths l x) (open_l : IsOpen l x) where
   side_two : (p : ℕ) (s : Way) → p < l.patches → 2 ≤ size l x p s

@@ -1,22 +1,66 @@
--- Where no edge is doubled, the new faces are a manifold, in which twins run the other way along an edge.
-use Rattle.std.proofs.Common.{ℕ, zero, suc, refl, sym, ◌∙◌, ap, subst, inl, inr, ◌≡◌, ◌≢◌, ◌<◌, Some, None, arith}
-use Rattle.def_mesh.specs.Manifold.{Chain, HasOneFan, IsManifold, IsRepeatFree, HasEdgesOnce}
-use Rattle.def_mesh.specs.{Darts.from_of, Darts.twin_of, Darts.IsTwin, Faces.corner}
+-- Meshes in which no edge is doubled, and what two points then tell of an edge between them.
+use Rattle.std.proofs.Common.{◌≡◌, ◌≢◌, Bool, true, false, sym, ◌∙◌, ap, ℕ, zero, suc, refl, subst, inl, inr, ◌<◌, Some}
+use Rattle.std.proofs.Common.{None, arith}
 use Rattle.def_layout.specs.Gluings.{Gluing, Way, south, east, north, west, side_after, Slot}
-use Rattle.def_layout.specs.Cells.{CellDart, IsDart, prev, slot_dart, next}
-use Rattle.def_layout.specs.{Surfaces.IsSurface, Fans.HasFans, Lengths.Lengths, Lengths.AreLengths}
+use Rattle.def_layout.specs.{Lengths.Lengths, Lengths.AreLengths, Cells.CellDart, Cells.IsDart, Cells.prev}
+use Rattle.def_layout.specs.{Cells.slot_dart, Cells.next, Surfaces.IsSurface, Fans.HasFans}
 use Rattle.def_written.specs.NewFaces.{dart_start, new_faces, dart_end, face_count, dart_of, cell_vertex}
-use Rattle.def_written.specs.Numbers.{vertex_number}
-use Rattle.mesh_laws.proofs.{Chains.meet_from, Chains.chain_join, Chains.chain_back, Twins.twin_found, Twins.twin_none}
-use Rattle.written_laws.proofs.Courses.{across_ends, across_within, across_border, IsAlone, alone_not_across}
+use Rattle.def_written.specs.{Edges.Edge, Edges.IsEdge, Edges.edge_start, Edges.edge_end, Numbers.vertex_number}
+use Rattle.written_laws.proofs.Courses.{Course, course, against, start_at, end_at, against_ends, across_ends}
+use Rattle.written_laws.proofs.Courses.{across_within, across_border, IsAlone, alone_not_across, IsAcross, course_of}
+use Rattle.written_laws.proofs.Courses.{course_is, course_from, course_to, course_once, against_twice, not_on_arc}
+use Rattle.written_laws.proofs.Courses.{within_course, border_is}
 use Rattle.written_laws.proofs.NewDarts.{dart_number, dart_low, number_from, number_to, prev_number, prev_is, next_is}
 use Rattle.written_laws.proofs.NewDarts.{at_number, turn, way_of, turn_way, corner_is, cell_is, faces_long}
-use Rattle.written_laws.proofs.Courses.{IsAcross, Course, against, course_of, course_is, course_from, course_to}
-use Rattle.written_laws.proofs.Courses.{course_once, against_twice, not_on_arc, within_course, border_is}
-use Rattle.written_laws.proofs.Simple.{IsSimple, one_course, reversed, ends_apart}
+use Rattle.written_laws.proofs.{Fans.not_self, Fans.IsTurning, Fans.at_nodes, Fans.point_related, Fans.corner_slots}
 use Rattle.written_laws.proofs.{Borders.at_is, Borders.from_is, Borders.sees, Rims.prev_next, Rims.next_prev}
-use Rattle.written_laws.proofs.{Rims.inner_edge, Numbers.number_same, Fans.IsTurning, Fans.at_nodes, Fans.point_related}
-use Rattle.written_laws.proofs.Spots.{corner_slots}
+use Rattle.written_laws.proofs.{Rims.inner_edge, EdgeNumbers.number_same}
+use Rattle.def_mesh.specs.Manifold.{Chain, HasOneFan, IsManifold, IsRepeatFree, HasEdgesOnce}
+use Rattle.def_mesh.specs.{Darts.from_of, Darts.twin_of, Darts.IsTwin, Faces.corner}
+use Rattle.mesh_laws.proofs.Chains.{meet_from, chain_join, chain_back, twin_found, twin_none}
+
+-- No two edges have the same ends, and no edge has equal ends.
+pub record IsSimple (l : Gluing) (x : Lengths) : Type 0 where
+  pub same : (e f : Edge) → IsEdge l x e → IsEdge l x f → edge_start l x e ≡ edge_start l x f
+      → edge_end l x e ≡ edge_end l x f → e ≡ f
+  pub crossed : (e f : Edge) → IsEdge l x e → IsEdge l x f → edge_start l x e ≡ edge_end l x f
+      → edge_end l x e ≡ edge_start l x f → e ≡ f
+  pub no_loop : (e : Edge) → IsEdge l x e → edge_start l x e ≢ edge_end l x e
+
+-- That is to say that a course is told by its ends.
+abbrev pub TellCourses : (l : Gluing) (x : Lengths) → Type 0
+TellCourses l x = (c k : Course) → IsEdge l x c.edge → IsEdge l x k.edge
+    → start_at l x c ≡ start_at l x k → end_at l x c ≡ end_at l x k → c ≡ k
+
+pub simple_by : {l : Gluing} {x : Lengths} → TellCourses l x → IsSimple l x
+simple_by one = record {
+  same = λ e f is_e is_f s t. ap (λ (c : Course). c.edge) (one (course e true) (course f true) is_e is_f s t);
+  crossed = λ e f is_e is_f s t. ap (λ (c : Course). c.edge) (one (course e true) (course f false) is_e is_f s t);
+  no_loop = λ e is s.
+      not_self true (ap (λ (c : Course). c.ahead) (one (course e true) (course e false) is is s (sym s)));
+}
+
+module _ {l : Gluing} {x : Lengths} (simple : IsSimple l x) where
+  pub one_course : TellCourses l x
+  one_course c k is_c is_k starts ends = by_ways _ _ starts ends
+    where
+      by_ways : (a b : Bool) → start_at l x (course c.edge a) ≡ start_at l x (course k.edge b)
+          → end_at l x (course c.edge a) ≡ end_at l x (course k.edge b) → course c.edge a ≡ course k.edge b
+      by_ways true true s t = ap (λ (f : Edge). course f true) (simple.same _ _ is_c is_k s t)
+      by_ways false false s t = ap (λ (f : Edge). course f false) (simple.same _ _ is_c is_k t s)
+      by_ways true false s t = absurd (simple.no_loop c.edge is_c (cc (simple.crossed _ _ is_c is_k s t)))
+      by_ways false true s t = absurd (simple.no_loop c.edge is_c (cc (simple.crossed _ _ is_c is_k t s)))
+
+  -- A course from the end to the start of another runs against it.
+  pub reversed : (c k : Course) → IsEdge l x c.edge → IsEdge l x k.edge → start_at l x k ≡ end_at l x c
+      → end_at l x k ≡ start_at l x c → k ≡ against c
+  reversed c k is_c is_k starts ends =
+      let a = against_ends l x c in one_course k (against c) is_k is_c (starts ∙ sym a.0) (ends ∙ sym a.1)
+
+  pub ends_apart : (c : Course) → IsEdge l x c.edge → start_at l x c ≢ end_at l x c
+  ends_apart c is same = not_self c.ahead (ap (λ (k : Course). k.ahead) (reversed c c is is same (sym same)))
+
+-- Where no edge is doubled, the new faces are a manifold, in which twins run the other way along an edge.
 
 module _ (l : Gluing) (x : Lengths) (laid : IsSurface l) (len : AreLengths l x) where
   -- A chain of new darts leads from d to e.

@@ -1,25 +1,120 @@
--- How many vertices, edges and faces a model has, and Euler's number.
-use Rattle.std.proofs.Common.{◌≡◌, ℕ, zero, suc, ◌+◌, ◌-◌, ◌*◌, ◌<◌, true, length, Option, Some}
-use Rattle.std.proofs.Common.{pos, ◌+ℤ◌, ◌-ℤ◌, refl, sym, ◌∙◌, ap, inl, inr, arith}
-use Rattle.std.proofs.{lemmas.Int.ints, lemmas.Bool.cases_order, lemmas.Bool.ltb-true, lemmas.Bool.lt-ltb}
-use Rattle.def_math.specs.Counts.{count_below}
-use Rattle.def_mesh.specs.Darts.{darts, from_of, twin_of}
-use Rattle.def_mesh.specs.Components.{is_lesser, edge_count, used_count, euler}
-use Rattle.def_mesh.specs.{Faces.Faces, Vertices.is_used, Vertices.vertex_count}
-use Rattle.def_layout.specs.Lengths.{Lengths, wide, high, AreLengths}
-use Rattle.def_layout.specs.{Gluings.Gluing, Surfaces.IsSurface, Cells.CellDart, Cells.IsDart}
-use Rattle.def_written.specs.{Numbers.vertex_number, Numbers.vertices, NewFaces.dart_start, NewFaces.face_count}
-use Rattle.def_written.specs.Edges.{Edge, IsEdge}
-use Rattle.written_laws.proofs.Tallies.{AreNumbers, numbers_le, passing_all, count_is}
-use Rattle.written_laws.proofs.NewDarts.{dart_number, dart_low, dart_same, at_number, faces_long}
-use Rattle.written_laws.proofs.Courses.{Course, course, course_of, against, against_twice, course_is, course_once}
-use Rattle.written_laws.proofs.{Courses.IsAcross, Fans.alike_or_turned, Fans.not_self}
+-- Lists of faces whose darts are those of the cells of a gluing: the new faces, and the old ones at the old lengths.
+use Rattle.std.proofs.Common.{[], ◌≡◌, ℕ, ◌+◌, ◌*◌, ◌/◌, ◌%◌, ◌<◌, true, length, get_or, Some, None, refl, sym, ◌∙◌, ap}
+use Rattle.std.proofs.Common.{inl, inr, arith, zero, suc, ◌-◌, Option, pos, ◌+ℤ◌, ◌-ℤ◌}
+use Rattle.std.proofs.lemmas.Bool.{eqb-true, eq-eqb, cases_order, ltb-true, lt-ltb}
+use Rattle.std.proofs.{lemmas.List.get_or_default, lemmas.List.Folds.list_any_at, lemmas.List.Folds.Any-from_list_any}
+use Rattle.std.proofs.{lemmas.List.FromFn.get_or-map-range_with_len, lemmas.Int.ints}
+use Rattle.std.specs.{Prelude.◌==◌, List.list_any}
+use Rattle.def_mesh.specs.{Faces.Face, Faces.Faces, Faces.face_at, Faces.corner, Darts.darts, Darts.next_of}
+use Rattle.def_mesh.specs.{Darts.from_of, Darts.twin_of, Vertices.is_used, Vertices.vertex_count, Components.is_lesser}
+use Rattle.def_mesh.specs.{Components.edge_count, Components.used_count, Components.euler}
+use Rattle.def_layout.specs.{Gluings.south, Gluings.Gluing, Gluings.use_of, Cells.CellDart, Cells.IsDart, Cells.dart}
+use Rattle.def_layout.specs.{Cells.next, Cells.slot_dart, declared.tmesh.SideArc.SideArc, Surfaces.IsSurface}
+use Rattle.def_layout.specs.{Lengths.Lengths, Lengths.AreLengths, Lengths.wide, Lengths.high}
+use Rattle.def_written.specs.{Points.Point, Points.node, Points.along, Points.inside, Points.IsPoint}
+use Rattle.def_written.specs.{Numbers.vertex_number, Numbers.vertices, NewFaces.dart_start, NewFaces.new_face}
+use Rattle.def_written.specs.{NewFaces.face_count, NewFaces.new_faces, Edges.Edge, Edges.IsEdge}
+use Rattle.written_laws.proofs.NewDarts.{dart_number, dart_low, dart_same, at_number, next_number, number_from}
+use Rattle.written_laws.proofs.NewDarts.{faces_long}
+use Rattle.written_laws.proofs.Courses.{IsAcross, across_or_alone, Course, course, course_of, against, against_twice}
+use Rattle.written_laws.proofs.Courses.{course_is, course_once, alone_not_across, edge_dart}
 use Rattle.written_laws.proofs.EdgeNumbers.{flats, steeps, edge_number, edge_total, edge_low, edge_same, edge_onto}
-use Rattle.written_laws.proofs.EdgeNumbers.{point_onto}
-use Rattle.written_laws.proofs.Models.{IsModel, used_dart, dart_used, point_dart}
-use Rattle.written_laws.proofs.{Numbers.number_low, Numbers.number_same, Grid.wide_some, Grid.high_some}
-use Rattle.written_laws.proofs.{Borders.from_is, Courses.across_or_alone, Courses.alone_not_across, EdgeDarts.edge_dart}
-use Rattle.mesh_laws.proofs.Vertices.{all_below}
+use Rattle.written_laws.proofs.EdgeNumbers.{point_onto, number_same, number_low}
+use Rattle.written_laws.proofs.{Sides.use_begins, Sides.arc_inner, Sides.use_some, Rims.point_inside, Rims.wide_some}
+use Rattle.written_laws.proofs.{Rims.high_some, Borders.at_is, Borders.at_from, Borders.from_is, Manifold.IsSimple}
+use Rattle.written_laws.proofs.{Manifold.across_twin, Manifold.alone_no_twin, Spacings.AreNumbers, Spacings.numbers_le}
+use Rattle.written_laws.proofs.{Spacings.passing_all, Spacings.count_is, Fans.alike_or_turned, Fans.not_self}
+use Rattle.{def_math.specs.Counts.count_below, mesh_laws.proofs.Flood.all_below}
+
+-- Dart `cell d` is that of d. Darts leave one vertex where those of the cells leave one point, and have as twin that of
+-- the dart across.
+pub record IsModel (F : Faces) (l : Gluing) (x : Lengths) (laid : IsSurface l) (len : AreLengths l x) (cell : CellDart
+    → ℕ) : Type 0 where
+  pub quads : (f : ℕ) → f < length F → length (face_at F f) ≡ 4
+  pub low : (d : CellDart) → IsDart l x d → cell d < darts F
+  pub same : (d e : CellDart) → IsDart l x d → IsDart l x e → cell d ≡ cell e → d ≡ e
+  pub onto : (k : ℕ) → k < darts F → (d : CellDart) × IsDart l x d × (cell d ≡ k)
+  pub turned : (d : CellDart) → IsDart l x d → cell (next d) ≡ next_of (cell d)
+  pub alike : (d e : CellDart) → IsDart l x d → IsDart l x e → dart_start l x d ≡ dart_start l x e → from_of F (cell d)
+      ≡ from_of F (cell e)
+  pub apart : (d e : CellDart) → IsDart l x d → IsDart l x e → from_of F (cell d) ≡ from_of F (cell e)
+      → dart_start l x d ≡ dart_start l x e
+  pub across : (d e : CellDart) → IsDart l x d → IsAcross l x laid len d e → twin_of F (cell d) ≡ Some (cell e)
+  pub alone : (d : CellDart) → IsDart l x d → ((e : CellDart) → ¬ IsAcross l x laid len d e) → twin_of F (cell d) ≡ None
+
+-- A vertex that is used is left by a dart.
+pub used_dart : (F : Faces) (v : ℕ) → ((f : ℕ) → f < length F → length (face_at F f) ≡ 4) → is_used F v ≡ true
+    → (d : ℕ) × (d < darts F) × (from_of F d ≡ v)
+used_dart F v quads used =
+    let (f, face, f_low, is, t) = Any-from_list_any (λ face. list_any (λ u. u == v) face) F used in
+    let (i, u, m, at, s) =
+    Any-from_list_any (λ u. u == v) (get_or F f []) (rw (get_or_default F f [] face f_low ∙ is) t) in
+    let four = quads f f_low in
+    let face_is : (4 * f + i) / 4 ≡ f = omega arith in
+    let place : (4 * f + i) % 4 ≡ i = omega arith in (
+      4 * f + i,
+      omega arith,
+      (λ r. corner F (face_is r) (place r)) ∙ get_or_default (get_or F f []) i 0 u m ∙ at ∙ eqb-true u v s,
+    )
+
+-- A vertex that a dart leaves is used.
+pub dart_used : (F : Faces) (d : ℕ) → ((f : ℕ) → f < length F → length (face_at F f) ≡ 4) → d < darts F
+    → is_used F (from_of F d) ≡ true
+dart_used F d quads low =
+    let f_low : d / 4 < length F = omega arith in
+    list_any_at (λ face. list_any (λ u. u == from_of F d) face) F (d / 4) [] f_low
+    (list_any_at (λ u. u == from_of F d) (face_at F (d / 4)) (d % 4) 0 (omega (arith, quads (d / 4) f_low))
+    (eq-eqb (from_of F d) (from_of F d) refl))
+
+module _ (l : Gluing) (x : Lengths) (laid : IsSurface l) (len : AreLengths l x) where
+  -- Each point is left by a dart.
+  pub point_dart : (a : Point) → IsPoint l x a → (d : CellDart) × IsDart l x d × (dart_start l x d ≡ a)
+  point_dart (node n) is =
+      let r = laid.reached n is in
+      let some = use_some l x laid.paved len r.0 r.1 in (
+        slot_dart l x r.0 0,
+        at_is l x laid.paved len r.0 0 r.1 some,
+        cc (at_from l x laid len r.0 0 r.1 some, use_begins l x (use_of l r.0) some),
+      )
+  point_dart (along a k) is =
+      let f = laid.forward a is.0 in
+      let long : x (use_of l f.0).arc ≡ x a = ap (λ (u : SideArc). x u.arc) f.2 in
+      let less : k < x (use_of l f.0).arc = omega arith in
+      let from = at_from l x laid len f.0 k f.1 less in
+      (slot_dart l x f.0 k, at_is l x laid.paved len f.0 k f.1 less, cc (from, arc_inner l x a k is.1 is.2))
+  point_dart (inside p i j) is = (
+    dart p i j south,
+    record { patch_low = is.0; i_low = is.2; j_low = is.4 },
+    point_inside l x laid len p i j is.1 is.2 is.3 is.4,
+  )
+
+  -- The new faces are a model.
+  pub new_quads : (f : ℕ) → f < length (new_faces l x) → length (face_at (new_faces l x) f) ≡ 4
+  new_quads f low = ap (λ (face : Face). length face)
+      (get_or-map-range_with_len (new_face l x) 0 (face_count l x) f f [] (omega (arith, faces_long l x)) (omega arith))
+
+  pub new_model : IsSimple l x → IsModel (new_faces l x) l x laid len (dart_number l x)
+  new_model simple = record {
+    quads = new_quads;
+    low = dart_low l x;
+    same = dart_same l x;
+    onto = at_number l x laid len;
+    turned = λ d is. sym (next_number l x d);
+    alike = λ d e is_d is_e s. number_from l x d is_d ∙ ap (vertex_number l x) s ∙ sym (number_from l x e is_e);
+    apart = λ d e is_d is_e s. number_same l x (dart_start l x d) (dart_start l x e) (from_is l x laid len d is_d)
+        (from_is l x laid len e is_e) (sym (number_from l x d is_d) ∙ s ∙ number_from l x e is_e);
+    across = across_twin laid len simple;
+    alone = alone;
+  }
+    where
+      alone : (d : CellDart) → IsDart l x d → ((e : CellDart) → ¬ IsAcross l x laid len d e)
+          → twin_of (new_faces l x) (dart_number l x d) ≡ None
+      alone d is none = elim (across_or_alone laid len d is) [
+        | inl a ↦ absurd (none a.0 a.1)
+        | inr a ↦ alone_no_twin laid len simple d a.0 a.1 is a.2
+      ]
+
+-- How many vertices, edges and faces a model has, and Euler's number.
 
 -- Counts whose terms have equal sums, but for one.
 count_sums : (f g h k : ℕ → ℕ) (n : ℕ) → ((p : ℕ) → p < n → f p + g p ≡ h p + k p + 1)

@@ -1,15 +1,15 @@
 -- The darts of the new faces, by number and by cell.
 use Rattle.std.proofs.Common.{[], ◌≡◌, ℕ, zero, suc, ◌+◌, ◌*◌, ◌/◌, ◌%◌, ◌<◌, length, refl, ◌∙◌, ap, arith}
-use Rattle.std.proofs.lemmas.Bool.Decides.{nat_tests}
 use Rattle.std.proofs.lemmas.List.FromFn.{length-map-range_with_len, get_or-map-range_with_len}
+use Rattle.std.proofs.lemmas.Bool.Decides.{nat_tests}
 use Rattle.std.specs.Prelude.{slice_index_or}
 use Rattle.def_mesh.specs.{Faces.corner, Darts.darts, Darts.next_of, Darts.prev_of, Darts.from_of, Darts.to_of}
 use Rattle.def_layout.specs.Gluings.{Way, south, east, north, west, side_after, side_before, Gluing}
-use Rattle.def_layout.specs.Cells.{CellDart, IsDart, dart, next, prev}
-use Rattle.def_layout.specs.{Surfaces.IsSurface, Lengths.Lengths, Lengths.wide, Lengths.high, Lengths.AreLengths}
-use Rattle.def_written.specs.NewFaces.{dart_start, dart_end, face_count, dart_of}
-use Rattle.def_written.specs.{Numbers.vertex_number, NewFaces.cell_vertex, NewFaces.new_face, NewFaces.new_faces}
-use Rattle.written_laws.proofs.Runs.{IsCell, number_of, number_inside, cell_once, cell_here}
+use Rattle.def_layout.specs.{Cells.CellDart, Cells.IsDart, Cells.dart, Cells.next, Cells.prev, Surfaces.IsSurface}
+use Rattle.def_layout.specs.{Lengths.Lengths, Lengths.wide, Lengths.high, Lengths.AreLengths}
+use Rattle.def_written.specs.NewFaces.{dart_start, dart_end, face_count, dart_of, cell_vertex, new_face, new_faces}
+use Rattle.def_written.specs.Numbers.{vertex_number}
+use Rattle.written_laws.proofs.Spacings.{IsCell, number_of, number_inside, cell_once, cell_here}
 
 -- The sides of a face by number.
 abbrev pub turn : (side : Way) → ℕ

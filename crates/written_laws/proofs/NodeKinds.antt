@@ -4,25 +4,26 @@ use Rattle.std.proofs.Common.{◌≡◌, ◌≢◌, ◌⊎◌, ℕ, zero, suc, �
 use Rattle.std.proofs.Common.{ap, subst, inl, inr, arith, ◌≤◌, Bool}
 use Rattle.std.proofs.lemmas.Bool.{cond-false, eq-eqb, false_from_ne_true, cases_eq, eqb-true}
 use Rattle.std.proofs.lemmas.Option.{none-some}
-use Rattle.def_mesh.specs.Darts.{darts, from_of, prev_of, twin_of, to_of}
-use Rattle.def_mesh.specs.HalfEdges.{IsQuadManifold, AreTurned, Turns, half_edges}
+use Rattle.std.specs.Prelude.{◌==◌}
+use Rattle.def_mesh.specs.{Darts.darts, Darts.from_of, Darts.prev_of, Darts.twin_of, Darts.to_of}
+use Rattle.def_mesh.specs.{HalfEdges.IsQuadManifold, HalfEdges.AreTurned, HalfEdges.Turns, HalfEdges.half_edges}
 use Rattle.def_mesh.specs.{Faces.Faces, Vertices.faces_at, Kinds.is_inner, Kinds.is_regular}
 use Rattle.def_layout.specs.Gluings.{south, east, north, west, Gluing, Slot, IsSlot, use_of, start_node, end_node}
-use Rattle.def_layout.specs.Cells.{CellDart, IsDart, dart, prev, slot_dart, next}
+use Rattle.def_layout.specs.{Cells.CellDart, Cells.IsDart, Cells.dart, Cells.prev, Cells.slot_dart, Cells.next}
 use Rattle.def_layout.specs.{declared.tmesh.SideArc.SideArc, Surfaces.IsSurface, Surfaces.IsOtherSlot, Lengths.Lengths}
-use Rattle.def_layout.specs.Lengths.{AreLengths, reach}
-use Rattle.def_written.specs.Points.{along, inside, IsPoint, use_point, Point, node}
-use Rattle.def_written.specs.NewFaces.{dart_start}
-use Rattle.face_laws.proofs.Fans.{has_fan, inner_twin, cross_regular}
+use Rattle.def_layout.specs.{Lengths.AreLengths, Lengths.reach}
+use Rattle.def_written.specs.{Points.along, Points.inside, Points.IsPoint, Points.use_point, Points.Point, Points.node}
+use Rattle.def_written.specs.{NewFaces.dart_start}
+use Rattle.face_laws.proofs.FullCuts.{has_fan, inner_twin, cross_regular}
 use Rattle.written_laws.proofs.Sides.{arc_inner, first_is, use_begins, use_ends, use_inner, use_some, use_sort}
-use Rattle.written_laws.proofs.Borders.{spot_dart, at_is, at_from, place_at, at_to, IsSpot, spot_is, spot_from}
+use Rattle.written_laws.proofs.Borders.{spot_dart, at_is, at_from, at_to, IsSpot, spot_is, spot_from, sort_spot}
+use Rattle.written_laws.proofs.Borders.{inner_from}
 use Rattle.written_laws.proofs.Courses.{IsAlone, across_within, alone_not_across, rim_turn, spot_back, border_turn}
-use Rattle.written_laws.proofs.{Courses.IsAcross, Courses.across_or_alone, Borders.sort_spot, Borders.inner_from}
-use Rattle.written_laws.proofs.{Grid.point_inside, Rims.dart_is, Rims.next_prev, Spots.rim_slot, Spots.spot_once}
-use Rattle.written_laws.proofs.{NewDarts.prev_is, NewDarts.next_is, Fans.not_self, Fans.not_twice, Models.IsModel}
-use Rattle.written_laws.proofs.{Runs.count_rises, Tallies.AreNumbers, Tallies.numbers_le, Tallies.filter_long}
-use Rattle.std.specs.Prelude.{◌==◌}
-use Rattle.face_laws.proofs.Fans as MeshFans
+use Rattle.written_laws.proofs.Courses.{IsAcross, across_or_alone}
+use Rattle.written_laws.proofs.{Rims.point_inside, Rims.dart_is, Rims.next_prev, Fans.rim_slot, Fans.spot_once}
+use Rattle.written_laws.proofs.{Fans.not_self, Fans.not_twice, NewDarts.prev_is, NewDarts.next_is, ModelCounts.IsModel}
+use Rattle.written_laws.proofs.{Spacings.AreNumbers, Spacings.numbers_le, Spacings.filter_long}
+use Rattle.face_laws.proofs.FullCuts as MeshFans
 
 -- A vertex is regular where two faces lie between two edges with one dart.
 module _ (F : Faces) (laws : IsQuadManifold (half_edges F)) (d a : ℕ) (low : d < darts F)

@@ -1,7 +1,5 @@
 -- The new mesh has the shape of the old one, and the old one doubles no edge.
-use Rattle.std.proofs.Common.{◌≡◌, ◌⊎◌, ℕ, ◌<◌, ◌≤◌, Bool, false, cond, not, ◌&&◌, refl, sym, ◌∙◌, ap, inl, inr, arith}
-use Rattle.std.specs.Prelude.{◌==◌}
-use Rattle.sum_laws.proofs.Tests.{same_test}
+use Rattle.std.proofs.Common.{◌≡◌, ℕ, ◌<◌, ◌≤◌, Bool, false, cond, not, ◌&&◌, refl, sym, ◌∙◌, ap, inl, inr, arith}
 use Rattle.def_mesh.specs.declared.Kind.TheVariants.{Regular, Singular, Corner, Reflex}
 use Rattle.def_mesh.specs.{Faces.Faces, Darts.from_of, Manifold.IsManifold, Vertices.faces_at, Vertices.vertex_count}
 use Rattle.def_mesh.specs.{Kinds.is_inner, Kinds.is_regular, Kinds.kind_of, HalfEdges.half_edges}
@@ -9,22 +7,24 @@ use Rattle.def_mesh.specs.{HalfEdges.IsQuadManifold, declared.Kind.Kind}
 use Rattle.def_layout.specs.{Cells.CellDart, Cells.IsDart, Cells.next, Gluings.Gluing, Gluings.use_of}
 use Rattle.def_layout.specs.{Surfaces.HasWholeSides, Surfaces.IsSurface, Fans.HasFans, Lengths.Lengths}
 use Rattle.def_layout.specs.{Lengths.AreLengths, Embeddings.IsEmbedding}
-use Rattle.def_written.specs.Points.{Point, node, along, inside, IsPoint}
 use Rattle.def_written.specs.Laws.{LiesInMesh, LaidLaw, NumbersLaw, NewManifoldLaw, KeepsShapeLaw, ThreeLaw}
-use Rattle.def_written.specs.{Laws.MultipleLaw, Numbers.vertex_number, Numbers.vertices, NewFaces.dart_start}
-use Rattle.def_written.specs.{NewFaces.new_faces, Edges.IsEdge, Edges.IsUndoubled, Shape.IsKeptNode, Shape.KeepsShape}
-use Rattle.mesh_laws.proofs.{HalfEdges.manifold_law, Vertices.count_least}
+use Rattle.def_written.specs.Laws.{MultipleLaw}
+use Rattle.def_written.specs.{Points.Point, Points.node, Points.along, Points.inside, Points.IsPoint}
+use Rattle.def_written.specs.{Numbers.vertex_number, Numbers.vertices, NewFaces.dart_start, NewFaces.new_faces}
+use Rattle.def_written.specs.{Edges.IsEdge, Edges.IsUndoubled, Shape.IsKeptNode, Shape.KeepsShape}
+use Rattle.mesh_laws.proofs.{Chains.manifold_law, Flood.count_least}
 use Rattle.written_laws.proofs.Courses.{Course, course, against, against_twice, against_ends, start_at, end_at}
-use Rattle.written_laws.proofs.Courses.{course_of, course_from, course_to}
-use Rattle.written_laws.proofs.NewDarts.{dart_number, next_is, at_number, number_from}
-use Rattle.written_laws.proofs.Models.{IsModel, used_dart, point_dart, new_model}
-use Rattle.written_laws.proofs.OldModel.{old_laid, old_model, old_fans, twin_is_across}
+use Rattle.written_laws.proofs.Courses.{course_of, course_from, course_to, edge_dart}
+use Rattle.written_laws.proofs.ModelCounts.{IsModel, used_dart, point_dart, new_model, euler_is}
+use Rattle.written_laws.proofs.OldModel.{old_laid, old_model, old_fans, twin_is_across, starts}
 use Rattle.written_laws.proofs.NodeKinds.{IsVertex, vertex_from, inside_regular, along_regular, faces_le, inner_to}
+use Rattle.written_laws.proofs.{NewDarts.dart_number, NewDarts.next_is, NewDarts.at_number, NewDarts.number_from}
 use Rattle.written_laws.proofs.{Fans.alike_or_turned, Borders.at_is, Borders.at_from, Borders.from_is}
 use Rattle.written_laws.proofs.{Doubling.lengths_scale, Doubling.simple_three, Doubling.simple_multiple, Sides.use_some}
-use Rattle.written_laws.proofs.{Sides.use_begins, Numbers.number_low, Numbers.number_same, Simple.IsSimple}
-use Rattle.written_laws.proofs.{Simple.simple_by, Manifold.manifold, EdgeDarts.edge_dart, EdgeNumbers.point_onto}
-use Rattle.written_laws.proofs.{Undoubled.simple_from, Undoubled.undoubled_from, ModelCounts.euler_is, Sided.starts}
+use Rattle.written_laws.proofs.{Sides.use_begins, EdgeNumbers.number_low, EdgeNumbers.number_same}
+use Rattle.written_laws.proofs.{EdgeNumbers.point_onto, Manifold.IsSimple, Manifold.simple_by, Manifold.manifold}
+use Rattle.written_laws.proofs.{Between.simple_from, Between.undoubled_from}
+use Rattle.{std.specs.Prelude.◌==◌, sum_laws.proofs.Tests.same_test}
 
 module _ {faces : Faces} (man : IsManifold faces) {l : Gluing} {x : Lengths} (paved : HasWholeSides l)
     (len : AreLengths l x) {cell : CellDart → ℕ} {vertex : ℕ → ℕ} {arc_dart : ℕ → ℕ → ℕ}

@@ -1,14 +1,13 @@
 -- The points on a side of a patch.
-use Rattle.std.proofs.Common.{◌≡◌, ◌⊎◌, ℕ, zero, suc, ◌+◌, ◌-◌, ◌<◌, ◌≤◌, Bool, true, false, cond, refl, ◌∙◌, ap, inl}
+use Rattle.std.proofs.Common.{◌≡◌, ◌⊎◌, ℕ, suc, ◌+◌, ◌-◌, ◌<◌, ◌≤◌, true, false, cond, refl, ◌∙◌, ap, inl, inr, arith}
 use Rattle.std.proofs.lemmas.Bool.{cases_eq, cases_lt, cond-true, cond-false, eq-eqb, ne_eqb}
-use Rattle.std.proofs.Common.{inr, arith}
 use Rattle.std.specs.Prelude.{◌==◌}
 use Rattle.def_layout.specs.Gluings.{Way, south, east, north, west, side_after, Gluing, Slot, IsSlot, use_of}
-use Rattle.def_layout.specs.Lengths.{Lengths, reach, size, AreLengths}
-use Rattle.def_layout.specs.{Gluings.start_node, Gluings.end_node, declared.tmesh.SideArc.SideArc}
-use Rattle.def_layout.specs.Surfaces.{HasWholeSides, IsSurface}
+use Rattle.def_layout.specs.Gluings.{start_node, end_node}
+use Rattle.def_layout.specs.{Lengths.Lengths, Lengths.reach, Lengths.size, Lengths.AreLengths}
+use Rattle.def_layout.specs.{declared.tmesh.SideArc.SideArc, Surfaces.HasWholeSides, Surfaces.IsSurface}
 use Rattle.def_written.specs.Points.{node, along, arc_point, use_point, use_over, offset_at, side_point}
-use Rattle.written_laws.proofs.Runs.{count_rises, run_here, run_last, run_place}
+use Rattle.written_laws.proofs.Spacings.{count_rises, run_here, run_last, run_place}
 
 -- The slot with these parts.
 abbrev pub slot : (patch : ℕ) (side : Way) (at : ℕ) → Slot

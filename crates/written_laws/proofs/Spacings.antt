@@ -1,16 +1,144 @@
--- Equal parts of the old lengths are a spacing, and equal parts of shares of the old edges.
-use Rattle.std.proofs.Common.{◌≡◌, ℕ, zero, suc, ◌+◌, ◌-◌, ◌*◌, ◌/◌, ◌<◌, ◌≤◌, Bool, true, false, refl, ◌⊎◌, ◌∙◌, ap}
-use Rattle.std.proofs.Common.{inl, inr, mul-add, arith}
-use Rattle.std.proofs.Math.Nat.{div-lt_iff_lt-mul, le-div_iff_mul-le, mod-lt, mul_comm}
-use Rattle.std.proofs.lemmas.Bool.{cases_eq, cond_both, cond-true, cond-false, eq-eqb, eqb-false, eqb-true, ne_eqb}
-use Rattle.std.proofs.lemmas.Nat.{div-mul-add, mul-le}
-use Rattle.std.specs.Prelude.{◌==◌}
-use Rattle.sum_laws.proofs.Counts.{count_below_ones}
-use Rattle.def_math.specs.{Counts.count_below, Runs.run_at}
+-- Laws of runs laid end to end.
+use Rattle.std.proofs.Common.{◌≡◌, ℕ, zero, suc, ◌+◌, ◌-◌, ◌*◌, ◌/◌, ◌%◌, ◌<◌, ◌≤◌, sym, ◌∙◌, ap, inl, inr, arith, Bool}
+use Rattle.std.proofs.Common.{true, false, refl, ◌⊎◌, mul-add, [], ◌≢◌, cond, ◌∷◌, length}
+use Rattle.std.proofs.lemmas.Bool.{cases_eq, cond_both, cond-true, cond-false, ltb-true, ltb-false, lt-ltb, le-ltb}
+use Rattle.std.proofs.lemmas.Bool.{eq-eqb, eqb-false, eqb-true, ne_eqb, cases_Bool}
+use Rattle.std.proofs.Math.Nat.{mod-lt, div-lt_iff_lt-mul, mul_comm, le-div_iff_mul-le}
+use Rattle.std.proofs.lemmas.Nat.{mul-add-lt, same_from_place, div-add-mod', div-mul-add, mul-le}
+use Rattle.std.proofs.lemmas.List.{length-append}
+use Rattle.std.specs.{Prelude.nat_lt, Prelude.◌==◌, List.filter, List.range_with_len}
+use Rattle.sum_laws.proofs.Sums.{count_below_ones, count_below_same}
 use Rattle.def_layout.specs.{Gluings.Gluing, Lengths.Lengths, Lengths.AreLengths}
 use Rattle.def_written.specs.Spacings.{counted, edge_begin, inner_step, shared_parameter, shared_step, step_parameter}
-use Rattle.def_written.specs.{Spacings.Shares, Laws.EvenSpacingLaw, Laws.SharedLaw, Places.ONE, Places.Step}
-use Rattle.written_laws.proofs.Runs.{count_rises, run_from, run_low, run_to}
+use Rattle.def_written.specs.Spacings.{Shares}
+use Rattle.def_written.specs.{Laws.EvenSpacingLaw, Laws.SharedLaw, Places.ONE, Places.Step}
+use Rattle.{def_math.specs.Counts.count_below, def_math.specs.Runs.run_at, list_laws.proofs.Filters.filter_range_more}
+
+-- Counts rise with the bound.
+pub count_rises : (f : ℕ → ℕ) (a b : ℕ) → a ≤ b → count_below f a ≤ count_below f b
+count_rises f a zero le = let e : a ≡ zero = omega arith in omega (arith, ap (count_below f) e)
+count_rises f a (suc b) le = elim (cases_eq a (suc b)) [
+  | inl e ↦ omega (arith, ap (count_below f) e)
+  | inr ne ↦ omega (arith, count_rises f a b (omega arith))
+]
+
+-- Where there are runs, one of them is found.
+pub run_low : (start : ℕ → ℕ) (n t : ℕ) → 0 < n → run_at start n t < n
+run_low start zero t l = absurd (omega arith)
+run_low start (suc zero) t l = cond_both (nat_lt t (start zero)) (run_at start zero t) zero (λ k. k < suc zero)
+    (λ e. omega arith) (λ e. omega arith)
+run_low start (suc (suc n)) t l = cond_both (nat_lt t (start (suc n))) (run_at start (suc n) t) (suc n)
+    (λ k. k < suc (suc n)) (λ e. omega (arith, run_low start (suc n) t (omega arith))) (λ e. omega arith)
+
+-- It begins at or before the place.
+pub run_from : (start : ℕ → ℕ) (n t : ℕ) → start 0 ≤ t → start (run_at start n t) ≤ t
+run_from start zero t l = l
+run_from start (suc n) t l = cond_both (nat_lt t (start n)) (run_at start n t) n (λ k. start k ≤ t)
+    (λ e. run_from start n t l) (λ e. ltb-false t (start n) e)
+
+-- The next one begins after it.
+pub run_to : (start : ℕ → ℕ) (n t : ℕ) → 0 < n → t < start n → t < start (suc (run_at start n t))
+run_to start zero t some l = absurd (omega arith)
+run_to start (suc zero) t some l =
+    cond_both (nat_lt t (start zero)) (run_at start zero t) zero (λ k. t < start (suc k)) (λ e. l) (λ e. l)
+run_to start (suc (suc n)) t some l = cond_both (nat_lt t (start (suc n))) (run_at start (suc n) t) (suc n)
+    (λ k. t < start (suc k)) (λ e. run_to start _ t (omega arith) (ltb-true t (start (suc n)) e)) (λ e. l)
+
+-- From the beginning of the last one on it is found.
+pub run_last : (start : ℕ → ℕ) (n t : ℕ) → 0 < n → start (n - 1) ≤ t → run_at start n t ≡ n - 1
+run_last start zero t some l = absurd (omega arith)
+run_last start (suc n) t some l =
+    let same : suc n - 1 ≡ n = omega arith in
+    let le : start n ≤ t = rw same at l in
+    cc (cond-false (nat_lt t (start n)) (run_at start n t) n (le-ltb t (start n) le))
+
+-- Place o of run k lies in run k.
+pub run_place : (f : ℕ → ℕ) (n k o : ℕ) → k < n → o < f k → run_at (count_below f) n (count_below f k + o) ≡ k
+run_place f zero k o l in_run = absurd (omega arith)
+run_place f (suc n) k o l in_run = elim (cases_eq k n) [
+  | inl e ↦ cond-false (nat_lt (count_below f k + o) (count_below f n)) _ _
+      (le-ltb _ _ (omega (arith, ap (count_below f) e))) ∙ sym e
+  | inr ne ↦ cond-true (nat_lt (count_below f k + o) (count_below f n)) _ _
+      (lt-ltb _ _ (omega (arith, count_rises f (suc k) n (omega arith)))) ∙ run_place f n k o (omega arith) in_run
+]
+
+-- Place t lies o after the beginning of run k.
+pub record IsInRun (f : ℕ → ℕ) (n t k o : ℕ) : Type 0 where
+  pub low : k < n
+  pub inside : o < f k
+  pub place : t ≡ count_below f k + o
+
+-- Each place lies in a run.
+pub run_here : (f : ℕ → ℕ) (n t : ℕ) → t < count_below f n
+    → IsInRun f n t (run_at (count_below f) n t) (t - count_below f (run_at (count_below f) n t))
+run_here f zero t l = absurd (omega arith)
+run_here f (suc n) t l =
+    let from = run_from (count_below f) (suc n) t (omega arith) in
+    let to = run_to (count_below f) (suc n) t (omega arith) l in
+    record { low = run_low (count_below f) (suc n) t (omega arith); inside = omega arith; place = omega arith }
+
+-- Places of runs are below the end.
+pub place_low : (f : ℕ → ℕ) (n k o : ℕ) → k < n → o < f k → count_below f k + o < count_below f n
+place_low f n k o l in_run =
+    let le : count_below f (suc k) ≤ count_below f n = count_rises f (suc k) n (omega arith) in omega arith
+
+-- A place lies in one run, and there at one place.
+pub place_same : (f : ℕ → ℕ) (n a k b o : ℕ) → a < n → b < n → k < f a → o < f b
+    → count_below f a + k ≡ count_below f b + o → (a ≡ b) × (k ≡ o)
+place_same f n a k b o la lb lk lo same =
+    let e : a ≡ b = sym (run_place f n a k la lk) ∙ ap (run_at (count_below f) n) same ∙ run_place f n b o lb lo in
+    (e, omega (arith, ap (count_below f) e))
+
+-- A place below rows of so many is one of a row and a column.
+pub in_rows : (w h t : ℕ) → t < h * w → (t % w < w) × (t / w < h) × (t / w * w + t % w ≡ t)
+in_rows w h t low =
+    let some : 0 < w = elim (cases_eq w 0) [
+      | inl z ↦ let none : h * w ≡ 0 = ap (λ n. h * n) z ∙ omega arith in absurd (omega arith)
+      | inr n ↦ omega arith
+    ] in
+    (mod-lt t some, (div-lt_iff_lt-mul {k = w} {x = t} {y = h} some).1 low, div-add-mod' t w)
+
+-- Blocks of rows laid end to end: block p has h p rows of w p places.
+module _ (w h : ℕ → ℕ) (n : ℕ) where
+  abbrev pub cells_of : (p : ℕ) → ℕ
+  cells_of p = w p * h p
+
+  pub record IsCell (p i j : ℕ) : Type 0 where
+    pub low : p < n
+    pub column : i < w p
+    pub row : j < h p
+
+  abbrev pub number_of : (p i j : ℕ) → ℕ
+  number_of p i j = count_below cells_of p + (j * w p + i)
+
+  pub number_inside : {p i j : ℕ} → IsCell p i j → number_of p i j < count_below cells_of n
+  number_inside {p} {i} {j} c = place_low cells_of n p (j * w p + i) c.low (mul-add-lt j (w p) i (h p) c.row c.column)
+
+  pub cell_once : {p i j q c d : ℕ} → IsCell p i j → IsCell q c d → number_of p i j ≡ number_of q c d
+      → (p ≡ q) × (i ≡ c) × (j ≡ d)
+  cell_once {p} {i} {j} {q} {c} {d} a b same =
+      let s = place_same cells_of n p (j * w p + i) q (d * w q + c) a.low b.low
+      (mul-add-lt j (w p) i (h p) a.row a.column) (mul-add-lt d (w q) c (h q) b.row b.column) same in
+      let wide : w q ≡ w p = ap w (sym s.0) in
+      let r = same_from_place j i d c (w p) a.column (omega (arith, b.column)) (s.1 ∙ (λ t. d * wide t + c)) in
+      (s.0, r.1, r.0)
+
+  -- Each number below the end is that of a place.
+  abbrev pub block_at : (t : ℕ) → ℕ
+  block_at t = run_at (count_below cells_of) n t
+
+  abbrev pub rest_at : (t : ℕ) → ℕ
+  rest_at t = t - count_below cells_of (block_at t)
+
+  pub cell_here : (t : ℕ) → t < count_below cells_of n → IsCell (block_at t) (rest_at t % w (block_at t)) (rest_at t / w
+      (block_at t)) × (number_of (block_at t) (rest_at t % w (block_at t)) (rest_at t / w (block_at t)) ≡ t)
+  cell_here t low =
+      let run = run_here cells_of n t low in
+      let r = in_rows (w (block_at t)) (h (block_at t)) (rest_at t)
+      (rw (mul_comm (w (block_at t)) (h (block_at t))) at run.inside) in
+      (record { low = run.low; column = r.0; row = r.1 }, omega (arith, run.place, r.2))
+
+-- Equal parts of the old lengths are a spacing, and equal parts of shares of the old edges.
 
 -- A quotient is below a number whose product is greater.
 pub div_less : (n k d : ℕ) → 0 < d → n < k * d → n / d < k
@@ -155,3 +283,93 @@ shared_law l old new shares o_len n_len few = record {
   parts = λ a k low less.
       let s = step_is l old new shares o_len n_len a k low less in omega (arith, s.part, s.parts);
 }
+
+-- How many numbers below a bound pass a test, compared by one-to-one maps.
+
+-- One for a test that passes.
+abbrev pub one_if : (b : Bool) → ℕ
+one_if b = cond b 1 0
+
+-- How many numbers below n pass.
+abbrev pub passing : (p : ℕ → Bool) (n : ℕ) → ℕ
+passing p n = count_below (λ k. one_if (p k)) n
+
+-- The test without u.
+abbrev but : (p : ℕ → Bool) (u : ℕ) → ℕ → Bool
+but p u k = cond (k == u) false (p k)
+
+but_same : (p : ℕ → Bool) {u k : ℕ} → k ≢ u → but p u k ≡ p k
+but_same p {u} {k} apart = cond-false (k == u) false (p k) (ne_eqb k u apart)
+
+-- One less passes.
+passing_but : (p : ℕ → Bool) (n u : ℕ) → u < n → p u ≡ true → passing p n ≡ suc (passing (but p u) n)
+passing_but p zero u low on = absurd (omega arith)
+passing_but p (suc n) u low on = elim (cases_eq n u) [
+  | inl e ↦
+      let rest = count_below_same (λ k. one_if (p k)) (λ k. one_if (but p u k)) n
+      (λ k l. ap one_if (sym (but_same p {u = u} {k = k} (λ s. omega arith)))) in
+      let last : one_if (p n) ≡ 1 = ap one_if (ap p e ∙ on) in
+      let none : one_if (but p u n) ≡ 0 = ap one_if (cond-true (n == u) false (p n) (eq-eqb n u e)) in
+      omega arith
+  | inr apart ↦
+      let last : one_if (p n) ≡ one_if (but p u n) = ap one_if (sym (but_same p apart)) in
+      omega (arith, passing_but p n u (omega arith) on)
+]
+
+-- Where what passes p below m is mapped one to one to what passes q below n, there is no more of it.
+pub passing_le : (p q : ℕ → Bool) (m n : ℕ) → (to : (i : ℕ) → i < m → p i ≡ true → (k : ℕ) × (k < n) × (q k ≡ true))
+    → ((i j : ℕ) (a : i < m) (b : p i ≡ true) (c : j < m) (d : p j ≡ true) → (to i a b).0 ≡ (to j c d).0 → i ≡ j)
+    → passing p m ≤ passing q n
+passing_le p q zero n to once = omega arith
+passing_le p q (suc m) n to once = elim (cases_Bool (p m)) [
+  | inl on ↦
+      let (u, u_low, u_on) = to m last on in
+      let apart : (i : ℕ) (l : i < m) (s : p i ≡ true) → (to i (up i l) s).0 ≢ (to m last on).0 =
+      λ i l s e. let same = once i m (up i l) s last on e in omega arith in
+      let less = passing_le p (but q (to m last on).0) m n (λ i l s. let k = to i (up i l) s in
+      (k.0, k.1, but_same q (apart i l s) ∙ k.2)) (λ i j a b c d e. once i j (up i a) b (up j c) d e) in
+      let one : one_if (p m) ≡ 1 = ap one_if on in
+      omega (arith, less, one, passing_but q n (to m last on).0 u_low u_on)
+  | inr off ↦
+      let none : one_if (p m) ≡ 0 = ap one_if off in
+      let rest = passing_le p q m n (λ i l s. to i (up i l) s) (λ i j a b c d e. once i j (up i a) b (up j c) d e) in
+      omega (arith, none, rest)
+]
+  where
+    last : m < suc m
+    last = omega arith
+
+    up : (i : ℕ) → i < m → i < suc m
+    up i l = omega arith
+
+-- All numbers below n.
+pub passing_all : (n : ℕ) → passing (λ k. true) n ≡ n
+passing_all n = count_below_ones n
+
+-- What passes p below m are the numbers a of the things P.
+pub record AreNumbers {X : Type 0} (P : X → Type 0) (a : X → ℕ) (p : ℕ → Bool) (m : ℕ) : Type 0 where
+  pub each : (d : X) → P d → (a d < m) × (p (a d) ≡ true)
+  pub onto : (k : ℕ) → k < m → p k ≡ true → (d : X) × P d × (a d ≡ k)
+
+-- Things with two numbers, of which one tells the other, have no more of the former.
+pub numbers_le : {X : Type 0} {P : X → Type 0} {a b : X → ℕ} {p q : ℕ → Bool} {m n : ℕ} → AreNumbers P a p m
+    → AreNumbers P b q n → ((d e : X) → P d → P e → b d ≡ b e → a d ≡ a e) → passing p m ≤ passing q n
+numbers_le {b} {p} {q} {m} {n} r s tells = passing_le p q m n (λ k low on. let d = r.onto k low on in let e = s.each d.0
+    d.1 in (b d.0, e.0, e.1)) (λ k j low on less too same. let d = r.onto k low on in let e = r.onto j less too in
+    cc (tells d.0 e.0 d.1 e.1 same))
+
+-- A filter keeps what passes.
+pub filter_long : (p : ℕ → Bool) (n : ℕ) → length (filter p (range_with_len 0 n)) ≡ passing p n
+filter_long p zero = refl
+filter_long p (suc n) =
+    let last : (b : Bool) → length (cond b (n ∷ []) []) ≡ one_if b = λ b. grind (arith) in
+    let one_more : suc n ≡ n + 1 = omega arith in
+    ap (λ m. length (filter p (range_with_len 0 m))) one_more ∙ ap length (filter_range_more p n)
+    ∙ length-append (filter p (range_with_len 0 n)) (cond (p n) (n ∷ []) []) ∙ (λ t. filter_long p n t + last (p n) t)
+
+-- So many things that pass are as many as the same things told by numbers below n.
+pub count_is : {X : Type 0} {P : X → Type 0} {a b : X → ℕ} {p : ℕ → Bool} {m n : ℕ} → AreNumbers P a p m
+    → AreNumbers P b (λ k. true) n → ((d e : X) → P d → P e → b d ≡ b e → a d ≡ a e)
+    → ((d e : X) → P d → P e → a d ≡ a e → b d ≡ b e) → length (filter p (range_with_len 0 m)) ≡ n
+count_is {p} {m} {n} r s there back =
+    omega (arith, filter_long p m, passing_all n, numbers_le r s there, numbers_le s r back)

@@ -1,5 +1,4 @@
 use Rattle.cut_laws.proofs.Corners.{corner_law}
-use Rattle.cut_laws.proofs.corner_law.Goals as goal
 
-pub returns : goal.returns
+pub returns : Rattle.cut_laws.proofs.corner_law.Goals.returns
 returns c = corner_law

@@ -1,5 +1,4 @@
-use Rattle.cut_laws.proofs.Grown.{grid_law}
-use Rattle.cut_laws.proofs.grid_law.Goals as goal
+use Rattle.cut_laws.proofs.Rows.{grid_law}
 
-pub returns : goal.returns
+pub returns : Rattle.cut_laws.proofs.grid_law.Goals.returns
 returns c = grid_law

@@ -1,5 +1,4 @@
 use Rattle.cut_laws.proofs.Folds.{no_fold_law}
-use Rattle.cut_laws.proofs.no_fold_law.Goals as goal
 
-pub returns : goal.returns
+pub returns : Rattle.cut_laws.proofs.no_fold_law.Goals.returns
 returns c = no_fold_law

@@ -1,5 +1,4 @@
 use Rattle.cut_laws.proofs.OneList.{one_list_law}
-use Rattle.cut_laws.proofs.one_list_law.Goals as goal
 
-pub returns : goal.returns
+pub returns : Rattle.cut_laws.proofs.one_list_law.Goals.returns
 returns c = one_list_law

@@ -1,5 +1,4 @@
-use Rattle.embedding_laws.proofs.LayoutLies.{embedding_law}
-use Rattle.embedding_laws.proofs.embedding_law.Goals as goal
+use Rattle.embedding_laws.proofs.OneLayout.{embedding_law}
 
-pub returns : goal.returns
+pub returns : Rattle.embedding_laws.proofs.embedding_law.Goals.returns
 returns c = embedding_law

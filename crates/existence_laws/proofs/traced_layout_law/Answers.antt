@@ -1,5 +1,4 @@
 use Rattle.existence_laws.proofs.Layouts.{traced_layout_law}
-use Rattle.existence_laws.proofs.traced_layout_law.Goals as goal
 
-pub returns : goal.returns
+pub returns : Rattle.existence_laws.proofs.traced_layout_law.Goals.returns
 returns c = traced_layout_law

@@ -1,5 +1,4 @@
 use Rattle.feature_laws.proofs.Arcs.{beside_arc_law}
-use Rattle.feature_laws.proofs.beside_arc_law.Goals as goal
 
-pub returns : goal.returns
+pub returns : Rattle.feature_laws.proofs.beside_arc_law.Goals.returns
 returns c = beside_arc_law

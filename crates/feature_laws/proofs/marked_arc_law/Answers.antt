@@ -1,5 +1,4 @@
 use Rattle.feature_laws.proofs.Arcs.{marked_arc_law}
-use Rattle.feature_laws.proofs.marked_arc_law.Goals as goal
 
-pub returns : goal.returns
+pub returns : Rattle.feature_laws.proofs.marked_arc_law.Goals.returns
 returns c = marked_arc_law

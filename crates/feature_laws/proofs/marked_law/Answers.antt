@@ -1,5 +1,4 @@
-use Rattle.feature_laws.proofs.Laws.{marked_law}
-use Rattle.feature_laws.proofs.marked_law.Goals as goal
+use Rattle.feature_laws.proofs.Conforming.{marked_law}
 
-pub returns : goal.returns
+pub returns : Rattle.feature_laws.proofs.marked_law.Goals.returns
 returns c = marked_law

@@ -1,5 +1,4 @@
 use Rattle.feature_laws.proofs.Conforming.{straight_law}
-use Rattle.feature_laws.proofs.straight_law.Goals as goal
 
-pub returns : goal.returns
+pub returns : Rattle.feature_laws.proofs.straight_law.Goals.returns
 returns c = straight_law

@@ -1,5 +1,4 @@
-use Rattle.gadget_laws.proofs.Law.{costs}
-use Rattle.gadget_laws.proofs.cost_law.Goals as goal
+use Rattle.gadget_laws.proofs.Box.{costs}
 
-pub returns : goal.returns
+pub returns : Rattle.gadget_laws.proofs.cost_law.Goals.returns
 returns c = costs

@@ -1,5 +1,4 @@
-use Rattle.gadget_laws.proofs.Law.{graph_law}
-use Rattle.gadget_laws.proofs.graph_law.Goals as goal
+use Rattle.gadget_laws.proofs.Box.{graph_law}
 
-pub returns : goal.returns
+pub returns : Rattle.gadget_laws.proofs.graph_law.Goals.returns
 returns c = graph_law

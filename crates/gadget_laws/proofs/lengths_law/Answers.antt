@@ -1,8 +1,6 @@
-use Rattle.gadget_laws.specs.Told.{lengths_told}
-use Rattle.gadget_laws.proofs.Arcs.{lengths_law}
-use Rattle.gadget_laws.proofs.lengths_law.Goals as goal
+use Rattle.{gadget_laws.specs.Told.lengths_told, gadget_laws.proofs.Arcs.lengths_law}
 
-pub returns : goal.returns
+pub returns : Rattle.gadget_laws.proofs.lengths_law.Goals.returns
 returns c = λ net step xs m start perfect.
     let law = lengths_law net step xs m start.bounds start.positive start.count start.admissible perfect in record {
       ys = lengths_told net step xs m;

@@ -1,10 +1,7 @@
-use Rattle.std.proofs.Common.{ℕ, List}
-use Rattle.def_flow.specs.Gadget.{lows}
-use Rattle.gadget_laws.specs.Box.{ups, matching_told}
-use Rattle.gadget_laws.proofs.{Law.matching_law, Steps.in_box}
-use Rattle.gadget_laws.proofs.matching_law.Goals as goal
+use Rattle.{std.proofs.Common.ℕ, std.proofs.Common.List, def_flow.specs.Gadget.lows, gadget_laws.specs.Box.ups}
+use Rattle.{gadget_laws.specs.Box.matching_told, gadget_laws.proofs.Box.matching_law, gadget_laws.proofs.Arcs.in_box}
 
-pub returns : goal.returns
+pub returns : Rattle.gadget_laws.proofs.matching_law.Goals.returns
 returns c = λ net step xs ys start admissible inside.
     let js : List ℕ = ups step (lows net step xs) ys in
     let law = matching_law net step xs js ys start.bounds start.positive start.count start.admissible admissible

@@ -1,5 +1,4 @@
 use Rattle.gadget_laws.proofs.Size.{size_law}
-use Rattle.gadget_laws.proofs.size_law.Goals as goal
 
-pub returns : goal.returns
+pub returns : Rattle.gadget_laws.proofs.size_law.Goals.returns
 returns c = size_law

@@ -1,5 +1,4 @@
-use Rattle.gadget_laws.proofs.Sound.{sound}
-use Rattle.gadget_laws.proofs.soundness_law.Goals as goal
+use Rattle.gadget_laws.proofs.Arcs.{sound}
 
-pub returns : goal.returns
+pub returns : Rattle.gadget_laws.proofs.soundness_law.Goals.returns
 returns c = sound

@@ -1,8 +1,6 @@
-use Rattle.mesh_laws.proofs.HalfEdges.{manifold_law}
-use Rattle.face_laws.proofs.FullCuts.{full_cut_law}
 use Rattle.layout_laws.proofs.FaceNodes.{are_nodes}
-use Rattle.layout_laws.proofs.nodes_law.Goals as goal
+use Rattle.{mesh_laws.proofs.Chains.manifold_law, face_laws.proofs.FullCuts.full_cut_law}
 
-pub returns : goal.returns
+pub returns : Rattle.layout_laws.proofs.nodes_law.Goals.returns
 returns c faces marks manifold full =
     are_nodes faces (manifold_law faces manifold) marks ((full_cut_law faces marks manifold).0 full).1

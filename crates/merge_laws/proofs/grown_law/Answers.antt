@@ -1,5 +1,4 @@
-use Rattle.merge_laws.proofs.Arcs.{grown_law}
-use Rattle.merge_laws.proofs.grown_law.Goals as goal
+use Rattle.merge_laws.proofs.Decided.{grown_law}
 
-pub returns : goal.returns
+pub returns : Rattle.merge_laws.proofs.grown_law.Goals.returns
 returns c = grown_law

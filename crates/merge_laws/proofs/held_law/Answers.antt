@@ -1,5 +1,4 @@
-use Rattle.merge_laws.proofs.Held.{held_law}
-use Rattle.merge_laws.proofs.held_law.Goals as goal
+use Rattle.merge_laws.proofs.Beside.{held_law}
 
-pub returns : goal.returns
+pub returns : Rattle.merge_laws.proofs.held_law.Goals.returns
 returns c = held_law

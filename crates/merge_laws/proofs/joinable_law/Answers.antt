@@ -1,5 +1,4 @@
 use Rattle.merge_laws.proofs.Layouts.{joinable_law}
-use Rattle.merge_laws.proofs.joinable_law.Goals as goal
 
-pub returns : goal.returns
+pub returns : Rattle.merge_laws.proofs.joinable_law.Goals.returns
 returns c = joinable_law

@@ -1,5 +1,4 @@
 use Rattle.merge_laws.proofs.Exists.{merged_law}
-use Rattle.merge_laws.proofs.merged_law.Goals as goal
 
-pub returns : goal.returns
+pub returns : Rattle.merge_laws.proofs.merged_law.Goals.returns
 returns c = merged_law

@@ -1,5 +1,4 @@
-use Rattle.merge_laws.proofs.OneMerged.{one_merged_law}
-use Rattle.merge_laws.proofs.one_merged_law.Goals as goal
+use Rattle.merge_laws.proofs.Beside.{one_merged_law}
 
-pub returns : goal.returns
+pub returns : Rattle.merge_laws.proofs.one_merged_law.Goals.returns
 returns c = one_merged_law

@@ -1,5 +1,4 @@
 use Rattle.merge_laws.proofs.Spared.{spared_law}
-use Rattle.merge_laws.proofs.spared_law.Goals as goal
 
-pub returns : goal.returns
+pub returns : Rattle.merge_laws.proofs.spared_law.Goals.returns
 returns c = spared_law

@@ -1,2 +1,2 @@
 pub returns : Rattle.mesh_laws.proofs.manifold_law.Goals.returns
-returns c = Rattle.mesh_laws.proofs.HalfEdges.manifold_law
+returns c = Rattle.mesh_laws.proofs.Chains.manifold_law

@@ -1,5 +1,4 @@
-use Rattle.network_laws.proofs.Lift.{lift_law}
-use Rattle.network_laws.proofs.lift_law.Goals as goal
+use Rattle.network_laws.proofs.Part.{lift_law}
 
-pub returns : goal.returns
+pub returns : Rattle.network_laws.proofs.lift_law.Goals.returns
 returns c = lift_law

@@ -1,5 +1,4 @@
 use Rattle.network_laws.proofs.Part.{walk_law}
-use Rattle.network_laws.proofs.walk_law.Goals as goal
 
-pub returns : goal.returns
+pub returns : Rattle.network_laws.proofs.walk_law.Goals.returns
 returns c = walk_law

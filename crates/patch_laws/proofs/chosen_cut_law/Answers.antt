@@ -1,5 +1,4 @@
 use Rattle.patch_laws.proofs.Chosen.{chosen_cut_law}
-use Rattle.patch_laws.proofs.chosen_cut_law.Goals as goal
 
-pub returns : goal.returns
+pub returns : Rattle.patch_laws.proofs.chosen_cut_law.Goals.returns
 returns c = chosen_cut_law

@@ -1,5 +1,4 @@
 use Rattle.patch_laws.proofs.Chosen.{lines_law}
-use Rattle.patch_laws.proofs.lines_law.Goals as goal
 
-pub returns : goal.returns
+pub returns : Rattle.patch_laws.proofs.lines_law.Goals.returns
 returns c = lines_law

@@ -1,5 +1,4 @@
-use Rattle.remesh_laws.proofs.Pairs.{pair_law}
-use Rattle.remesh_laws.proofs.pair_law.Goals as goal
+use Rattle.remesh_laws.proofs.MarkedLines.{pair_law}
 
-pub returns : goal.returns
+pub returns : Rattle.remesh_laws.proofs.pair_law.Goals.returns
 returns c = pair_law

@@ -1,5 +1,4 @@
-use Rattle.remesh_laws.proofs.Told.{told_law}
-use Rattle.remesh_laws.proofs.told_law.Goals as goal
+use Rattle.remesh_laws.proofs.ReadAgain.{told_law}
 
-pub returns : goal.returns
+pub returns : Rattle.remesh_laws.proofs.told_law.Goals.returns
 returns c = told_law

@@ -1,5 +1,4 @@
 use Rattle.site_laws.proofs.Laws.{graph_law}
-use Rattle.site_laws.proofs.graph_law.Goals as goal
 
-pub returns : goal.returns
+pub returns : Rattle.site_laws.proofs.graph_law.Goals.returns
 returns c = graph_law

@@ -1,5 +1,4 @@
 use Rattle.site_laws.proofs.Laws.{order_law}
-use Rattle.site_laws.proofs.order_law.Goals as goal
 
-pub returns : goal.returns
+pub returns : Rattle.site_laws.proofs.order_law.Goals.returns
 returns c = order_law

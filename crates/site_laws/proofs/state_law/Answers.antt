@@ -1,5 +1,4 @@
 use Rattle.site_laws.proofs.Laws.{state_law}
-use Rattle.site_laws.proofs.state_law.Goals as goal
 
-pub returns : goal.returns
+pub returns : Rattle.site_laws.proofs.state_law.Goals.returns
 returns c = state_law

@@ -1,5 +1,4 @@
 use Rattle.written_laws.proofs.Between.{between_law}
-use Rattle.written_laws.proofs.between_law.Goals as goal
 
-pub returns : goal.returns
+pub returns : Rattle.written_laws.proofs.between_law.Goals.returns
 returns c = between_law

@@ -1,5 +1,4 @@
 use Rattle.written_laws.proofs.Spacings.{even_law}
-use Rattle.written_laws.proofs.even_law.Goals as goal
 
-pub returns : goal.returns
+pub returns : Rattle.written_laws.proofs.even_law.Goals.returns
 returns c = even_law

@@ -1,5 +1,4 @@
 use Rattle.written_laws.proofs.Shape.{keeps_shape_law}
-use Rattle.written_laws.proofs.keeps_shape_law.Goals as goal
 
-pub returns : goal.returns
+pub returns : Rattle.written_laws.proofs.keeps_shape_law.Goals.returns
 returns c = keeps_shape_law

@@ -1,5 +1,4 @@
 use Rattle.written_laws.proofs.Shape.{laid_law}
-use Rattle.written_laws.proofs.laid_law.Goals as goal
 
-pub returns : goal.returns
+pub returns : Rattle.written_laws.proofs.laid_law.Goals.returns
 returns c = laid_law

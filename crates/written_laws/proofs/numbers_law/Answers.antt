@@ -1,5 +1,4 @@
 use Rattle.written_laws.proofs.Shape.{numbers_law}
-use Rattle.written_laws.proofs.numbers_law.Goals as goal
 
-pub returns : goal.returns
+pub returns : Rattle.written_laws.proofs.numbers_law.Goals.returns
 returns c = numbers_law

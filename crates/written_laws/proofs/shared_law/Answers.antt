@@ -1,5 +1,4 @@
 use Rattle.written_laws.proofs.Spacings.{shared_law}
-use Rattle.written_laws.proofs.shared_law.Goals as goal
 
-pub returns : goal.returns
+pub returns : Rattle.written_laws.proofs.shared_law.Goals.returns
 returns c = shared_law

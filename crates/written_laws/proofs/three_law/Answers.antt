@@ -1,5 +1,4 @@
 use Rattle.written_laws.proofs.Shape.{three_law}
-use Rattle.written_laws.proofs.three_law.Goals as goal
 
-pub returns : goal.returns
+pub returns : Rattle.written_laws.proofs.three_law.Goals.returns
 returns c = three_law

@@ -1,5 +1,4 @@
-use Rattle.forest_laws.proofs.Parities.{slack_even}
-use Rattle.forest_laws.proofs.ends.even_law.Goals as goal
+use Rattle.forest_laws.proofs.Walks.{slack_even}
 
-pub returns : goal.returns
+pub returns : Rattle.forest_laws.proofs.ends.even_law.Goals.returns
 returns c = slack_even

@@ -1,5 +1,4 @@
 use Rattle.forest_laws.proofs.Odds.{large_set}
-use Rattle.forest_laws.proofs.ends.large_law.Goals as goal
 
-pub returns : goal.returns
+pub returns : Rattle.forest_laws.proofs.ends.large_law.Goals.returns
 returns c = λ g f b are nested high used. large_set are nested b high used

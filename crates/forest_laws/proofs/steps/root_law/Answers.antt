@@ -1,5 +1,4 @@
 use Rattle.forest_laws.proofs.Grows.{rooted_valid}
-use Rattle.forest_laws.proofs.steps.root_law.Goals as goal
 
-pub returns : goal.returns
+pub returns : Rattle.forest_laws.proofs.steps.root_law.Goals.returns
 returns c = λ g f b are valid outermost free. rooted_valid are valid b outermost free

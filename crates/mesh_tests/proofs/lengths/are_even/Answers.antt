@@ -1,9 +1,7 @@
-use Rattle.std.proofs.Common.{◌≡◌, ℕ, length, ap, subst, inl, inr}
-use Rattle.std.proofs.{Common.arith, lemmas.Bool.cases_lt, lemmas.List.length-map}
-use Rattle.def_cut.specs.Grids.{rectangle}
+use Rattle.std.proofs.{Common.◌≡◌, Common.length, Common.ap, Common.subst, Common.inl, Common.inr, Common.arith}
+use Rattle.std.proofs.{lemmas.Bool.cases_lt, lemmas.List.length-map}
 use Rattle.def_layout.specs.Layouts.{gluing_of, Layout}
-use Rattle.def_remesh.specs.NewPoints.{lengths_in}
-use Rattle.mesh_tests.specs.Fits.{AreEven}
+use Rattle.{def_cut.specs.Grids.rectangle, def_remesh.specs.NewPoints.lengths_in, mesh_tests.specs.Fits.AreEven}
 use Rattle.mesh_tests.proofs.lengths.are_even.Goals as goal
 
 pub is_even-requires-clause-patch : goal.is_even-requires-clause-patch

@@ -1,9 +1,8 @@
-use Rattle.std.proofs.Common.{length, sym, ◌∙◌, ap, subst, arith}
-use Rattle.std.proofs.lemmas.List.{length-map}
-use Rattle.def_cut.specs.Grids.{rectangle}
+use Rattle.std.proofs.{Common.length, Common.sym, Common.◌∙◌, Common.ap, Common.subst, Common.arith}
+use Rattle.std.proofs.{lemmas.List.length-map}
 use Rattle.def_layout.specs.{Arcs.path, Lengths.size, Layouts.gluing_of, Layouts.Layout}
 use Rattle.def_layoutnet.specs.MeshLayouts.{IsSomeLayout}
-use Rattle.def_remesh.specs.NewPoints.{lengths_in}
+use Rattle.{def_cut.specs.Grids.rectangle, def_remesh.specs.NewPoints.lengths_in}
 use Rattle.mesh_tests.proofs.lengths.sum_on.Goals as goal
 
 pub size_on-requires-clause-layout : goal.size_on-requires-clause-layout

@@ -1,7 +1,6 @@
 use Rattle.std.proofs.{Common.length, Common.sym, Common.◌∙◌, Common.ap, Common.subst, lemmas.List.length-map}
 use Rattle.def_layout.specs.{Arcs.path, Lengths.AreLengths, Layouts.gluing_of, Layouts.Layout}
-use Rattle.def_layoutnet.specs.MeshLayouts.{IsSomeLayout}
-use Rattle.def_remesh.specs.NewPoints.{lengths_in}
+use Rattle.{def_layoutnet.specs.MeshLayouts.IsSomeLayout, def_remesh.specs.NewPoints.lengths_in}
 use Rattle.mesh_tests.proofs.stitched.stitched_text.Goals as goal
 
 pub stitch-requires-clause-layout : goal.stitch-requires-clause-layout

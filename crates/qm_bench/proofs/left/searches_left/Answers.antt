@@ -1,6 +1,5 @@
-use Rattle.std.proofs.Common.{ap, ◌∙◌}
-use Rattle.def_flow.specs.{Gadget.lows, Gadget.caps, Network.network}
-use Rattle.qm_solve.proofs.{Near.start_lengths, Rounds.own_inside}
+use Rattle.{std.proofs.Common.ap, std.proofs.Common.◌∙◌, def_flow.specs.Gadget.lows, def_flow.specs.Gadget.caps}
+use Rattle.{def_flow.specs.Network.network, qm_solve.proofs.Starts.start_lengths, qm_solve.proofs.Rounds.own_inside}
 use Rattle.qm_bench.proofs.left.searches_left.Goals as goal
 
 pub graph_of-requires-clause-lengths : goal.graph_of-requires-clause-lengths

@@ -1,2 +1,2 @@
 pub returns : Rattle.qm_blocks.proofs.law.linked_points_law.Goals.returns
-returns c = Rattle.qm_blocks.proofs.Joined.linked_points
+returns c = Rattle.qm_blocks.proofs.Mutual.linked_points

@@ -1,8 +1,7 @@
 use Rattle.std.proofs.Common.{◌≡◌, ◌++◌, [], refl, ◌∙◌, rules}
 use Rattle.def_layout.specs.{Gluings.south, Gluings.east, Gluings.north, Gluings.west, Layouts.layout_of}
-use Rattle.def_remesh.specs.NewPoints.{lengths_in}
-use Rattle.qm_blocks.specs.Spots.{links_on}
 use Rattle.qm_blocks.proofs.Measures.{side_summed}
+use Rattle.{def_remesh.specs.NewPoints.lengths_in, qm_blocks.specs.Spots.links_on}
 use Rattle.qm_blocks.proofs.linking.block_links.Goals as goal
 
 pub push_links-requires : goal.push_links-requires

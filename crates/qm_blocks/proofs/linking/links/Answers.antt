@@ -1,13 +1,10 @@
 use Rattle.std.proofs.Common.{◌≡◌, [], ◌∷◌, length, map, ap, sym, ◌∙◌, subst, arith}
 use Rattle.std.proofs.lemmas.List.{length-map, map-append}
-use Rattle.std.specs.List.{range_with_len}
-use Rattle.def_cut.specs.Grids.{rectangle}
 use Rattle.def_layout.specs.{Arcs.path, Gluings.IsSlot, Layouts.gluing_of, Layouts.layout_of}
-use Rattle.def_remesh.specs.NewPoints.{lengths_in}
-use Rattle.def_blocks.specs.Links.{AreLinks}
-use Rattle.embedding_laws.proofs.MeshLayouts.{laid_of}
 use Rattle.qm_blocks.specs.Spots.{block_links, HasSpots}
-use Rattle.qm_blocks.proofs.{Lists.are_links, Lists.list_more, Measures.measured_of}
+use Rattle.qm_blocks.proofs.{Tables.are_links, Tables.list_more, Measures.measured_of}
+use Rattle.{std.specs.List.range_with_len, def_cut.specs.Grids.rectangle, def_remesh.specs.NewPoints.lengths_in}
+use Rattle.{def_blocks.specs.Links.AreLinks, embedding_laws.proofs.Bounds.laid_of}
 use Rattle.qm_blocks.proofs.linking.links.Goals as goal
 
 pub invariant_of-measured : goal.invariant_of-measured

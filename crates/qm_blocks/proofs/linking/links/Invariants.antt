@@ -1,8 +1,6 @@
 use Rattle.std.proofs.Common.{◌≡◌, map}
-use Rattle.std.specs.List.{range_with_len}
-use Rattle.def_layout.specs.Layouts.{layout_of}
 use Rattle.def_remesh.specs.NewPoints.{lengths_in}
-use Rattle.qm_blocks.specs.Spots.{block_links}
+use Rattle.{std.specs.List.range_with_len, def_layout.specs.Layouts.layout_of, qm_blocks.specs.Spots.block_links}
 
 abbrev pub invariant-loop-block : Rattle.qm_blocks.proofs.linking.links.Given.invariant-loop-block
 invariant-loop-block l =

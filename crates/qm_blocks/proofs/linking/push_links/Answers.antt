@@ -1,9 +1,8 @@
 use Rattle.std.proofs.Common.{◌≡◌, length, ap, sym, ◌∙◌, arith}
 use Rattle.def_remesh.specs.{NewPoints.lengths_in, Numberings.sizes_on}
-use Rattle.def_blocks.specs.declared.link.Link.{Link}
 use Rattle.qm_offsets.proofs.{Spots.count_step, Spots.term_room, Whole.read_size, Whole.read_used}
 use Rattle.qm_blocks.specs.Spots.{link_from, link_on}
-use Rattle.qm_blocks.proofs.Lists.{list_more}
+use Rattle.{def_blocks.specs.declared.link.Link.Link, qm_blocks.proofs.Tables.list_more}
 use Rattle.qm_blocks.proofs.linking.push_links.Goals as goal
 
 pub overflow_add-from : goal.overflow_add-from

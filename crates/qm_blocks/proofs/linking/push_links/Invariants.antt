@@ -1,8 +1,6 @@
 use Rattle.std.proofs.Common.{◌≡◌, ◌++◌, map}
-use Rattle.std.specs.List.{range_with_len}
-use Rattle.def_math.specs.Counts.{count_below}
 use Rattle.def_remesh.specs.{NewPoints.lengths_in, Numberings.sizes_on}
-use Rattle.qm_blocks.specs.Spots.{link_on}
+use Rattle.{std.specs.List.range_with_len, def_math.specs.Counts.count_below, qm_blocks.specs.Spots.link_on}
 
 abbrev pub invariant-loop-used : Rattle.qm_blocks.proofs.linking.push_links.Given.invariant-loop-used
 invariant-loop-used l = record {

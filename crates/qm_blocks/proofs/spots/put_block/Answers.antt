@@ -1,8 +1,6 @@
-use Rattle.std.proofs.Common.{refl}
 use Rattle.def_layout.specs.{Gluings.south, Gluings.east, Gluings.north, Gluings.west, Layouts.gluing_of}
 use Rattle.def_layout.specs.{Layouts.layout_of}
-use Rattle.def_remesh.specs.NewPoints.{lengths_in}
-use Rattle.qm_blocks.proofs.Tables.{block_put}
+use Rattle.{std.proofs.Common.refl, def_remesh.specs.NewPoints.lengths_in, qm_blocks.proofs.Tables.block_put}
 
 pub returns : Rattle.qm_blocks.proofs.spots.put_block.Goals.returns
 returns c =

@@ -1,10 +1,7 @@
 use Rattle.std.proofs.{Common.◌≡◌, Common.◌∙◌, Common.ap, Common.sym, Common.arith, lemmas.List.length-map}
-use Rattle.def_cut.specs.Grids.{rectangle}
 use Rattle.def_layout.specs.{Gluings.Way, Layouts.layout_of, Layouts.way_number}
-use Rattle.def_remesh.specs.NewPoints.{lengths_in}
-use Rattle.qm_offsets.specs.Fours.{arcs_on}
-use Rattle.qm_offsets.proofs.Whole.{way_for}
-use Rattle.qm_blocks.proofs.{Measures.side_summed, Tables.side_put}
+use Rattle.{def_cut.specs.Grids.rectangle, def_remesh.specs.NewPoints.lengths_in, qm_offsets.specs.Fours.arcs_on}
+use Rattle.{qm_offsets.proofs.Whole.way_for, qm_blocks.proofs.Measures.side_summed, qm_blocks.proofs.Tables.side_put}
 use Rattle.qm_blocks.proofs.spots.put_side.Goals as goal
 
 pub put_uses-requires-clause-summed : goal.put_uses-requires-clause-summed

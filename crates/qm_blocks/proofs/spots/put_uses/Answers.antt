@@ -1,9 +1,8 @@
-use Rattle.std.proofs.Common.{◌≡◌, ◌+◌, ◌<◌, true, Some, length, ap, sym, ◌∙◌, subst, arith}
-use Rattle.std.specs.Prelude.{slice_set}
+use Rattle.std.proofs.Common.{◌+◌, ◌<◌, true, Some, length, ap, sym, ◌∙◌, subst, arith}
 use Rattle.def_remesh.specs.{NewPoints.lengths_in, Numberings.sizes_on, Numberings.used_at}
 use Rattle.qm_offsets.proofs.{Spots.count_step, Spots.term_room, Whole.read_size, Whole.read_used}
-use Rattle.qm_blocks.specs.Spots.{key_of, HasUses}
 use Rattle.qm_blocks.proofs.Tables.{key_low, use_more}
+use Rattle.{std.specs.Prelude.slice_set, qm_blocks.specs.Spots.key_of, qm_blocks.specs.Spots.HasUses}
 use Rattle.qm_blocks.proofs.spots.put_uses.Goals as goal
 
 pub overflow_add-from : goal.overflow_add-from

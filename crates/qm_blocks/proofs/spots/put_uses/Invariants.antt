@@ -1,7 +1,5 @@
-use Rattle.std.proofs.Common.{◌≡◌}
-use Rattle.def_math.specs.Counts.{count_below}
 use Rattle.def_remesh.specs.{NewPoints.lengths_in, Numberings.sizes_on}
-use Rattle.qm_blocks.specs.Spots.{HasUses}
+use Rattle.{std.proofs.Common.◌≡◌, def_math.specs.Counts.count_below, qm_blocks.specs.Spots.HasUses}
 
 abbrev pub invariant-loop-used : Rattle.qm_blocks.proofs.spots.put_uses.Given.invariant-loop-used
 invariant-loop-used l = record {

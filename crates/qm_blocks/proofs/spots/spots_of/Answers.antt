@@ -1,8 +1,7 @@
 use Rattle.std.proofs.{Common.◌+◌, Common.sym, Common.◌∙◌, Common.subst, lemmas.List.with_items_is}
 use Rattle.def_layout.specs.Layouts.{gluing_of, layout_of}
-use Rattle.def_remesh.specs.NewPoints.{lengths_in}
 use Rattle.qm_blocks.specs.Spots.{HasSpots, HavePut, IsBefore, IsOnBlock}
-use Rattle.qm_blocks.proofs.Tables.{spots_more}
+use Rattle.{def_remesh.specs.NewPoints.lengths_in, qm_blocks.proofs.Tables.spots_more}
 
 pub loop-block-preserved : Rattle.qm_blocks.proofs.spots.spots_of.Goals.loop-block-preserved
 loop-block-preserved c =

@@ -1,9 +1,7 @@
-use Rattle.std.proofs.Common.{◌≡◌, ◌+◌, ◌-◌, ◌<◌, ◌≤◌, suc, length, drop, sym, ◌∙◌, arith}
-use Rattle.{std.specs.Prelude.slice_get, qm_blocktext.proofs.Rounds.arc_behind, qm_blocktext.proofs.Rounds.arc_here}
-use Rattle.qm_blocktext.specs.Gridded.{arcs_of}
-use Rattle.qm_blocktext.proofs.arcs.arc_at.Goals as goal
+use Rattle.std.proofs.Common.{◌≡◌, ◌+◌, ◌-◌, ◌≤◌, suc, length, drop, sym, ◌∙◌, arith}
+use Rattle.{std.specs.Prelude.slice_get, qm_blocktext.proofs.Rounds.arc_behind, qm_blocktext.specs.Gridded.arcs_of}
 
-pub loop-side-preserved : goal.loop-side-preserved
+pub loop-side-preserved : Rattle.qm_blocktext.proofs.arcs.arc_at.Goals.loop-side-preserved
 loop-side-preserved c =
     let side = c.side-item.result in
     let i = c.loop-side.side-index in

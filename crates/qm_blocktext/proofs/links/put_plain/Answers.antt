@@ -1,5 +1,5 @@
 use Rattle.def_blocks.specs.BlockTexts.{link_line}
-use Rattle.qm_output.proofs.{Prefixes.of_error, Lists.stops_at_item}
+use Rattle.qm_output.proofs.Prefixes.{of_error, stops_at_item}
 use Rattle.qm_blocktext.proofs.links.put_plain.Goals as goal
 
 pub returns-in_err-put_line-clause-part : goal.returns-in_err-put_line-clause-part

@@ -1,6 +1,6 @@
+use Rattle.qm_output.proofs.Prefixes.{of_error, stops_at_number, takes_number}
 use Rattle.{std.proofs.Common.◌≡◌, std.proofs.Common.◌+◌, std.proofs.Common.arith, def_blocks.specs.BlockTexts.row_text}
-use Rattle.qm_output.proofs.{Prefixes.of_error, Lists.stops_at_number, Lists.takes_number}
-use Rattle.qm_blocktext.specs.Gridded.{height_in, row_in}
+use Rattle.{qm_blocktext.specs.Gridded.height_in, qm_blocktext.specs.Gridded.row_in}
 use Rattle.qm_blocktext.proofs.points.put_points.Goals as goal
 
 pub put_row-requires-clause-row : goal.put_row-requires-clause-row

@@ -1,7 +1,7 @@
 use Rattle.std.proofs.Common.{◌≡◌, ◌+◌, subst, arith}
-use Rattle.def_blocks.specs.BlockTexts.{point_line}
-use Rattle.{def_text.specs.Types.Position, qm_blocktext.specs.Gridded.place_in, qm_blocktext.specs.Gridded.width_in}
-use Rattle.qm_output.proofs.{Prefixes.of_error, Lists.stops_at_number, Lists.takes_number}
+use Rattle.qm_blocktext.specs.Gridded.{place_in, width_in}
+use Rattle.qm_output.proofs.Prefixes.{of_error, stops_at_number, takes_number}
+use Rattle.{def_blocks.specs.BlockTexts.point_line, def_text.specs.Types.Position}
 use Rattle.qm_blocktext.proofs.points.put_row.Goals as goal
 
 pub point-v-requires-clause-column : goal.point-v-requires-clause-column

@@ -1,6 +1,6 @@
 use Rattle.std.proofs.Common.{◌≡◌, ◌<◌, length, map-id, arith}
+use Rattle.qm_output.proofs.Prefixes.{of_error, stops_at_number, takes_number}
 use Rattle.{std.specs.List.range_with_len, qm_blocktext.specs.Gridded.lines_at}
-use Rattle.qm_output.proofs.{Prefixes.of_error, Lists.stops_at_number, Lists.takes_number}
 use Rattle.qm_blocktext.proofs.text.put_each.Goals as goal
 
 pub returns-in_err-put_block-clause-part : goal.returns-in_err-put_block-clause-part

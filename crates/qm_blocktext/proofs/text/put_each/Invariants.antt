@@ -1,7 +1,6 @@
-use Rattle.std.proofs.Common.{map}
-use Rattle.{std.specs.List.flat_map, std.specs.List.range_with_len, qm_blocktext.specs.Gridded.lines_at}
-use Rattle.qm_blocktext.proofs.text.put_each.Given as goal
+use Rattle.std.specs.List.{flat_map, range_with_len}
+use Rattle.{std.proofs.Common.map, qm_blocktext.specs.Gridded.lines_at}
 
-abbrev pub invariant-loop-block : goal.invariant-loop-block
+abbrev pub invariant-loop-block : Rattle.qm_blocktext.proofs.text.put_each.Given.invariant-loop-block
 invariant-loop-block g l =
     g.T.Output.takes l.initial.out l.out (flat_map (lines_at l.blocks) (map (λ b. b) (range_with_len 0 l.block)))

@@ -1,8 +1,7 @@
 use Rattle.std.proofs.Common.{◌≡◌, List, ℕ, Option, sym, ◌∙◌, ap}
-use Rattle.def_flow.specs.{Network.Network, Network.network, Accepted.certificate}
-use Rattle.def_flow.specs.declared.cert.CertVerdict.{CertVerdict}
-use Rattle.qm_cert.specs.Faults.{list_verdict}
 use Rattle.qm_cert.proofs.Checked.{no_fault, exact_accepted, accepted_where_exact, least_where_exact, faulty, faultless}
+use Rattle.{def_flow.specs.Network.Network, def_flow.specs.Network.network, def_flow.specs.Accepted.certificate}
+use Rattle.{def_flow.specs.declared.cert.CertVerdict.CertVerdict, qm_cert.specs.Faults.list_verdict}
 use Rattle.qm_cert.proofs.accept.accepts.Goals as goal
 
 -- The list has the fault that was found in its copy.

@@ -1,7 +1,5 @@
 use Rattle.std.proofs.Common.{ap, length, ◌∙◌, arith}
-use Rattle.def_flow.specs.Network.{network}
-use Rattle.qm_cert.specs.Faults.{compared_verdict}
-use Rattle.qm_cert.proofs.Verdicts.{compared_is}
+use Rattle.{def_flow.specs.Network.network, qm_cert.specs.Faults.compared_verdict, qm_cert.proofs.Checked.compared_is}
 use Rattle.qm_cert.proofs.list.unequal_sides.Goals as goal
 
 pub invariant_of-sides-clause-few : goal.invariant_of-sides-clause-few

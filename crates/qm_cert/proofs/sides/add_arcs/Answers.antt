@@ -1,5 +1,4 @@
-use Rattle.std.proofs.Common.{arith}
-use Rattle.qm_cert.proofs.SideSums.{sides_low, sides_more}
+use Rattle.{std.proofs.Common.arith, qm_cert.proofs.Checked.sides_low, qm_cert.proofs.Checked.sides_more}
 use Rattle.qm_cert.proofs.sides.add_arcs.Goals as goal
 
 pub add_arc-requires-clause-small : goal.add_arc-requires-clause-small

@@ -1,6 +1,6 @@
 use Rattle.std.proofs.Common.{◌≡◌, ℕ, ◌<◌, List, true, sym, length, slice_index, nat_lt, lt-ltb, ◌∙◌, ap, arith}
 use Rattle.std.proofs.lemmas.List.{get_or_default}
-use Rattle.qm_dual.proofs.Searches.{least_none, least_some}
+use Rattle.qm_dual.proofs.Gathered.{least_none, least_some}
 use Rattle.def_flow.specs.{Network.arc_at, declared.net.Arc.Arc}
 use Rattle.qm_cert.proofs.sides.first_below.Goals as goal
 

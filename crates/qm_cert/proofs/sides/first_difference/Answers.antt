@@ -1,5 +1,5 @@
 use Rattle.std.proofs.Common.{◌≡◌, ◌==◌, ℕ, List, not, true, sym, ap, length, slice_index, ne_eqb, arith}
-use Rattle.qm_dual.proofs.Searches.{least_none, least_some}
+use Rattle.qm_dual.proofs.Gathered.{least_none, least_some}
 use Rattle.qm_cert.proofs.sides.first_difference.Goals as goal
 
 pub returns-then-sum-sides-clause-least : goal.returns-then-sum-sides-clause-least

@@ -4,8 +4,8 @@ use lib.Signed.{mag}
 use mir.Syntax.{w128}
 use mir.Val.{to_z, of_z}
 use Rattle.def_flow.specs.{Network.Network, Network.network, Admissible.deviation, Admissible.entries, Units.on_cost}
-use Rattle.def_flow.specs.Gadget.{lows}
-use Rattle.qm_cert.proofs.{Checked.cost_is, Checked.checked_same, Range.deviation_small, Range.lows_lengths}
+use Rattle.def_flow.specs.{Gadget.lows}
+use Rattle.qm_cert.proofs.Checked.{cost_is, checked_same, deviation_small, lows_lengths}
 use Rattle.qm_cert.proofs.sum.sum_verdict.Goals as goal
 
 -- A number of the type, written and read back.

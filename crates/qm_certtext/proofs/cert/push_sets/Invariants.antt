@@ -1,7 +1,6 @@
 use Rattle.std.proofs.Common.{◌≡◌, ◌++◌, drop}
 use Rattle.def_certtext.specs.{CertLines.dual_lines, CertLines.text_of, declared.CertLine.TheVariants.Set}
-use Rattle.qm_certtext.proofs.cert.push_sets.Given as goal
 
-abbrev pub invariant-loop-i : goal.invariant-loop-i
+abbrev pub invariant-loop-i : Rattle.qm_certtext.proofs.cert.push_sets.Given.invariant-loop-i
 invariant-loop-i l = l.text.items ++ text_of (dual_lines Set (drop l.i l.numbers) (drop l.i l.ups)) ≡ l.fn.text.items ++
     text_of (dual_lines Set l.numbers l.ups)

@@ -1,10 +1,10 @@
-use Rattle.def_certtext.specs.CertLines.{HasUps, cert_lines, certificates_of, lists_of, risen_by, said_by, text_of}
-use Rattle.def_certtext.specs.{Laws.chosen_lines, declared.certs.Certs.Certs, declared.certs.Round.Round}
-use Rattle.qm_certtext.proofs.Writing.{round_lines_are, text_both, ups_rounds, ups_used, used_risen}
 use Rattle.std.proofs.Common.{List, ap, append_assoc, subst, sym, ◌++◌, ◌∙◌, ◌≡◌}
-use Rattle.{def_io.specs.Bytes.Bytes, qm_certtext.specs.RoundLines.round_lines, std.proofs.lemmas.Result.on_ok_weaker}
-use Rattle.{def_certtext.specs.CertLines.Lists, qm_certtext.specs.RoundLines.HaveUps}
-use Rattle.{def_certtext.specs.CertLines.alone}
+use Rattle.std.proofs.lemmas.Result.{on_ok_weaker}
+use Rattle.def_certtext.specs.CertLines.{HasUps, cert_lines, certificates_of, lists_of, risen_by, said_by, text_of}
+use Rattle.def_certtext.specs.CertLines.{Lists, alone}
+use Rattle.def_certtext.specs.{Laws.chosen_lines, declared.certs.Certs.Certs, declared.certs.Round.Round}
+use Rattle.qm_certtext.proofs.Texts.{round_lines_are, text_both, ups_rounds, ups_used, used_risen}
+use Rattle.{def_io.specs.Bytes.Bytes, qm_certtext.specs.RoundLines.round_lines, qm_certtext.specs.RoundLines.HaveUps}
 use Rattle.qm_certtext.proofs.certs.push_chosen.Goals as goal
 
 pub push_rounds-requires : goal.push_rounds-requires

@@ -1,5 +1,4 @@
 use Rattle.qm_certtext.proofs.Cutting.{head_read}
-use Rattle.qm_certtext.proofs.head.read_head.Goals as goal
 
-pub returns : goal.returns
+pub returns : Rattle.qm_certtext.proofs.head.read_head.Goals.returns
 returns c = head_read c.args.line.now c.read_asked.result c.read_asked.ensures

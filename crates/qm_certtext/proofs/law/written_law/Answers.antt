@@ -1,5 +1,4 @@
 use Rattle.qm_certtext.proofs.Texts.{written_law}
-use Rattle.qm_certtext.proofs.law.written_law.Goals as goal
 
-pub returns : goal.returns
+pub returns : Rattle.qm_certtext.proofs.law.written_law.Goals.returns
 returns c = written_law

@@ -1,5 +1,5 @@
 use Rattle.std.proofs.Common.{sym}
-use Rattle.qm_certtext.proofs.Counts.{count_lead, count_none, count_other, count_read}
+use Rattle.qm_certtext.proofs.Counts.{count_lead, count_none, count_other}
 use Rattle.qm_certtext.proofs.numbers.read_count.Goals as goal
 
 pub returns-then-has_leading_zero : goal.returns-then-has_leading_zero

@@ -1,6 +1,6 @@
-use Rattle.qm_certtext.proofs.{Holding.holds_none, Marks.behind_fail, Marks.read_next, Marks.read_none}
-use Rattle.qm_io.proofs.{Cuts.cut_behind, Cuts.cut_ended, Cuts.cut_is, Cuts.cut_there, Cuts.whole_tail}
-use Rattle.std.proofs.{Common.arith, Common.◌+◌, Common.◌-◌, Common.◌≡◌, lemmas.List.take_all}
+use Rattle.std.proofs.Common.{arith, ◌+◌, ◌-◌, ◌≡◌}
+use Rattle.qm_certtext.proofs.{Chosen.holds_none, Found.behind_fail, Found.read_next, Found.read_none}
+use Rattle.qm_io.proofs.Cuts.{cut_behind, cut_is, cut_there, whole_tail}
 use Rattle.{def_io.specs.Lines.lines_of, error_laws.proofs.Errors.handed}
 use Rattle.qm_certtext.proofs.written.read_behind.Goals as goal
 

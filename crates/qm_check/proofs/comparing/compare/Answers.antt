@@ -1,5 +1,5 @@
-use Rattle.std.proofs.{Common.ap, Common.Err, Common.sym, Common.◌∙◌, Common.arith, lemmas.Bool.false≢true}
-use Rattle.qm_check.proofs.Differences.{longer_differ, stopped_differ, stopped_within}
+use Rattle.std.proofs.{Common.ap, Common.Err, Common.sym, Common.◌∙◌, lemmas.Bool.false≢true}
+use Rattle.qm_check.proofs.Pairs.{longer_differ, stopped_differ}
 use Rattle.qm_write.specs.Framing.{framed_text}
 use Rattle.qm_check.proofs.comparing.compare.Goals as goal
 

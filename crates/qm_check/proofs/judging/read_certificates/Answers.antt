@@ -1,8 +1,7 @@
-use Rattle.std.proofs.{Common.◌≡◌, Common.◌+◌, Common.length, Common.ap, Common.arith, lemmas.List.length-drop}
+use Rattle.std.proofs.{Common.◌+◌, Common.length, Common.ap, Common.arith, lemmas.List.length-drop}
 use Rattle.{def_io.specs.Lines.lines_of, qm_io.proofs.Cuts.lines_few}
-use Rattle.qm_check.proofs.judging.read_certificates.Goals as goal
 
-pub read_certs-requires : goal.read_certs-requires
+pub read_certs-requires : Rattle.qm_check.proofs.judging.read_certificates.Goals.read_certs-requires
 read_certs-requires c =
     let text = c.args.text.now in
     let many = length-drop (text.head.line + 1) (lines_of text.bytes.now) in

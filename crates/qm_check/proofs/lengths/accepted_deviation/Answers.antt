@@ -1,6 +1,4 @@
-use Rattle.qm_check.proofs.lengths.accepted_deviation.Goals as goal
-
-pub returns-in-Yes-clause-solved : goal.returns-in-Yes-clause-solved
+pub returns-in-Yes-clause-solved : Rattle.qm_check.proofs.lengths.accepted_deviation.Goals.returns-in-Yes-clause-solved
 returns-in-Yes-clause-solved c =
     let accepted = c.in_ok-verdict.ensures.accepted.0 (c.in-Yes.deviation, c.in-Yes.is) in
     record {

@@ -1,4 +1,4 @@
-use Rattle.{std.proofs.Common.sym, std.proofs.Common.◌∙◌, error_laws.proofs.Errors.handed, qm_check.proofs.Maps.mapped}
+use Rattle.std.proofs.Common.{sym, ◌∙◌}
 use Rattle.qm_check.proofs.map.judge_command.Goals as goal
 
 pub judge_least-requires : goal.judge_least-requires

@@ -1,5 +1,5 @@
 use Rattle.error_laws.proofs.Errors.{handed}
-use Rattle.qm_check.proofs.Pairs.{counted, no_head, no_old, remesh_found, text_fails, unmade_fails, IsAskedAt}
+use Rattle.qm_check.proofs.Pairs.{counted, no_head, remesh_found, text_fails, unmade_fails, IsAskedAt}
 use Rattle.qm_check.proofs.{Points.remesh_line, Tasks.few_found, pair.check_parts.Goals.In-Some}
 use Rattle.qm_check.proofs.pair.check_parts.Goals as goal
 

@@ -1,6 +1,6 @@
 use Rattle.std.proofs.{Common.sym, Common.◌∙◌, lemmas.Bool.false≢true}
 use Rattle.def_remesh.specs.Refined.{refined_text}
-use Rattle.qm_check.proofs.Differences.{longer_differ, stopped_differ}
+use Rattle.qm_check.proofs.Pairs.{longer_differ, stopped_differ}
 use Rattle.qm_check.proofs.refined.compare_refined.Goals as goal
 
 pub returns-in-Ok-2-clause-other : goal.returns-in-Ok-2-clause-other

@@ -1,7 +1,4 @@
-use Rattle.std.proofs.Common.{arith}
-use Rattle.qm_check.proofs.refined.points_by.Goals as goal
-
-pub returns-in-Ok-clause-refined : goal.returns-in-Ok-clause-refined
+pub returns-in-Ok-clause-refined : Rattle.qm_check.proofs.refined.points_by.Goals.returns-in-Ok-clause-refined
 returns-in-Ok-clause-refined c = record {
   soup = c.in-Ok.ensures.new.0;
   layout = c.in-Ok.ensures.new.1;

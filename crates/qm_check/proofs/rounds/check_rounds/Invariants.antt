@@ -1,9 +1,8 @@
-use Rattle.{std.proofs.Common.◌≡◌, std.proofs.Common.◌++◌, std.proofs.Common.length, qm_check.specs.Checked.ArePassed}
-use Rattle.{std.specs.Vec.Iter.into_iter_items, std.specs.Vec.Iter.into_iter_len, def_flow.specs.Network.network}
-use Rattle.def_remesh.specs.{Keeping.IsNetFor, Tasks.Wish}
-use Rattle.qm_check.proofs.rounds.check_rounds.Given as goal
+use Rattle.std.proofs.Common.{◌≡◌, ◌++◌, length}
+use Rattle.{qm_check.specs.Checked.ArePassed, std.specs.Vec.Iter.into_iter_items, std.specs.Vec.Iter.into_iter_len}
+use Rattle.{def_flow.specs.Network.network, def_remesh.specs.Keeping.IsNetFor, def_remesh.specs.Tasks.Wish}
 
-abbrev pub invariant-rounds : goal.invariant-rounds
+abbrev pub invariant-rounds : Rattle.qm_check.proofs.rounds.check_rounds.Given.invariant-rounds
 invariant-rounds l = record {
   left : l.passed.items ++ into_iter_items l.round-iterator ≡ l.fn.run.rounds.items;
   many : into_iter_len l.round-iterator ≡ length (into_iter_items l.round-iterator);

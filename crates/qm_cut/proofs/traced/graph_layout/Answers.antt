@@ -1,10 +1,8 @@
 use Rattle.std.proofs.{Common.◌≡◌, Common.refl, Common.subst, lemmas.Result.IfOk-weaker}
 use Rattle.def_layout.specs.{FaceLayouts.IsCutLayout, Layouts.layout_of}
-use Rattle.def_written.specs.Laws.{AreQuads}
-use Rattle.def_layoutnet.specs.MeshLayouts.{IsSomeLayout}
-use Rattle.qm_cut.proofs.traced.graph_layout.Goals as goal
+use Rattle.{def_written.specs.Laws.AreQuads, def_layoutnet.specs.MeshLayouts.IsSomeLayout}
 
-pub returns-clause-mesh : goal.returns-clause-mesh
+pub returns-clause-mesh : Rattle.qm_cut.proofs.traced.graph_layout.Goals.returns-clause-mesh
 returns-clause-mesh c =
     let faces = c.args.mesh.now in
     let marks = c.args.graph.now.covered.items in

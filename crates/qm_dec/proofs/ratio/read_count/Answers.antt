@@ -1,8 +1,7 @@
 use Rattle.std.proofs.Common.{◌≡◌, ap, sym, ◌∙◌, arith, min, ℕ, ◌≤◌}
 use Rattle.std.proofs.lemmas.Bool.{false≢true}
-use Rattle.std.specs.Prelude.{decimal}
-use Rattle.def_text.specs.Digits.{number_written}
-use Rattle.qm_dec.proofs.{Ratios.not_printed, Texts.decimal_number, ratio.read_count.Goals.After-min-n}
+use Rattle.qm_dec.proofs.{ReadBack.not_printed, ReadBack.decimal_number, ratio.read_count.Goals.After-min-n}
+use Rattle.{std.specs.Prelude.decimal, def_text.specs.Digits.number_written}
 use Rattle.qm_dec.proofs.ratio.read_count.Goals as goal
 
 pub returns-then-not-are_digits : goal.returns-then-not-are_digits

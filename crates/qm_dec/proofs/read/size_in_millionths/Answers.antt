@@ -1,9 +1,9 @@
 use Rattle.std.proofs.Common.{◌≡◌, min, pos, neg_ℤ, true, ◌++◌, drop, length, length-append, ap, sym, ◌∙◌, arith}
 use Rattle.std.proofs.lemmas.Bool.{cond-false, cond-true}
 use Rattle.std.specs.{Char.is_ascii_digit, List.list_all}
-use Rattle.def_text.specs.{Decimal.power, Digits.is_negative, Digits.is_number, Digits.number_written, Digits.unsigned}
-use Rattle.qm_dec.proofs.Digits.{exponent_is, number_parts, power_is, some_from}
-use Rattle.qm_dec.proofs.{Scaling.power_up, Scaling.power_down, read.size_in_millionths.Goals.After-small_power-power}
+use Rattle.def_text.specs.{Decimal.power, Digits.is_negative, Digits.number_written, Digits.unsigned}
+use Rattle.qm_dec.proofs.Digits.{number_parts, power_is, some_from, power_up, power_down}
+use Rattle.qm_dec.proofs.read.size_in_millionths.Goals.{After-small_power-power}
 use Rattle.qm_dec.proofs.read.size_in_millionths.Goals as goal
 
 pub size_of-requires : goal.size_of-requires

@@ -1,11 +1,8 @@
 use Rattle.std.proofs.Common.{ap, length, sym, take, ◌++◌, ◌-◌, ◌∙◌, arith}
 use Rattle.std.proofs.Math.Seq.{take-append-add}
-use Rattle.def_text.specs.Digits.{number_written}
-use Rattle.qm_dec.specs.Sizes.{clamped}
-use Rattle.qm_dec.proofs.Digits.{digits_split, two_parts}
-use Rattle.qm_dec.proofs.size.first_digits.Goals as goal
+use Rattle.{def_text.specs.Digits.number_written, qm_dec.specs.Sizes.clamped, qm_dec.proofs.Digits.two_parts}
 
-pub returns : goal.returns
+pub returns : Rattle.qm_dec.proofs.size.first_digits.Goals.returns
 returns c =
     two_parts c.args.whole.now _ c.number_after-2.result c.number_after-3.result c.number_after-2.ensures
     c.number_after-3.ensures ∙ ap (λ ds. clamped (number_written ds))

@@ -1,8 +1,6 @@
 use Rattle.std.proofs.Common.{ap, get_or, sym, take, ◌+◌, ◌-◌, ◌*◌, ◌∙◌, arith}
-use Rattle.std.specs.Int.Digits.{number_from_digits_after}
-use Rattle.qm_dec.specs.Sizes.{clamped}
-use Rattle.qm_dec.proofs.{Digits.clamp_linear, Digits.after_more}
-use Rattle.qm_scan.proofs.Numbers.{values}
+use Rattle.qm_dec.proofs.Digits.{clamp_linear, after_more}
+use Rattle.{std.specs.Int.Digits.number_from_digits_after, qm_dec.specs.Sizes.clamped, qm_scan.proofs.Numbers.values}
 
 pub loop-digit-preserved : Rattle.qm_dec.proofs.size.number_after.Goals.loop-digit-preserved
 loop-digit-preserved c =

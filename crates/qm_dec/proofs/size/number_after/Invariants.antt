@@ -1,6 +1,5 @@
 use Rattle.std.proofs.Common.{◌≡◌, ◌-◌, map, take}
-use Rattle.std.specs.Int.Digits.{number_from_digits_after}
-use Rattle.qm_dec.specs.Sizes.{clamped}
+use Rattle.{std.specs.Int.Digits.number_from_digits_after, qm_dec.specs.Sizes.clamped}
 
 -- the digits so far
 abbrev pub invariant-loop-digit : Rattle.qm_dec.proofs.size.number_after.Given.invariant-loop-digit

@@ -1,7 +1,7 @@
 use Rattle.std.proofs.Common.{ap, sym, ◌+◌, ◌-◌, ◌++◌, length, length-append, arith}
 use Rattle.std.proofs.lemmas.Bool.{le-ltb, lt-ltb}
 use Rattle.qm_dec.specs.Sizes.{clamped}
-use Rattle.qm_dec.proofs.{Digits.digits_both, Scaling.cut_is, Scaling.cut_zero}
+use Rattle.qm_dec.proofs.Digits.{digits_both, cut_is, cut_zero}
 use Rattle.qm_dec.proofs.size.round_at.Goals as goal
 
 pub returns-then-last-count : goal.returns-then-last-count

@@ -1,8 +1,7 @@
 use Rattle.std.proofs.Common.{ℤ, pos, ◌-ℤ◌, ◌≡◌, arith, ap, sym, ◌∙◌, ◌*◌, ◌-◌, ◌^◌, ◌++◌}
 use Rattle.std.proofs.lemmas.Int.{ints}
-use Rattle.def_text.specs.{Decimal.scaled, Digits.number_written}
-use Rattle.qm_dec.specs.Sizes.{clamped}
-use Rattle.qm_dec.proofs.{Digits.clamp_scaled, Digits.ten_power, Digits.two_parts}
+use Rattle.qm_dec.proofs.Digits.{clamp_scaled, ten_power, two_parts}
+use Rattle.{def_text.specs.Decimal.scaled, def_text.specs.Digits.number_written, qm_dec.specs.Sizes.clamped}
 
 pub returns-then-down-up : Rattle.qm_dec.proofs.size.size_of.Goals.returns-then-down-up
 returns-then-down-up c =

@@ -1,5 +1,4 @@
-use Rattle.std.proofs.Common.{◌≡◌, length}
-use Rattle.def_text.specs.Canonical.{without_zeros}
+use Rattle.{std.proofs.Common.◌≡◌, std.proofs.Common.length, def_text.specs.Canonical.without_zeros}
 use Rattle.qm_dec.proofs.write.strip_zeros.Given as goal
 
 abbrev pub invariant-loop-left : goal.invariant-loop-left

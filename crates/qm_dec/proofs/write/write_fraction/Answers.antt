@@ -1,6 +1,6 @@
 use Rattle.std.proofs.Common.{length, ap, ◌∙◌, arith}
 use Rattle.def_text.specs.Canonical.{six_digits, without_zeros}
-use Rattle.qm_dec.proofs.Trims.{trimmed_short}
+use Rattle.qm_dec.proofs.ReadBack.{trimmed_short}
 
 pub put-requires : Rattle.qm_dec.proofs.write.write_fraction.Goals.put-requires
 put-requires c =

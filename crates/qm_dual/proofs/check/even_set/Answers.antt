@@ -1,9 +1,8 @@
 use Rattle.std.proofs.Common.{◌≡◌, ℕ, ◌%◌, ◌<◌, not, true, sym, length, slice_index, arith}
 use Rattle.std.proofs.lemmas.Bool.Decides.{nat_tests}
-use Rattle.qm_dual.proofs.Searches.{least_none, least_some}
-use Rattle.qm_dual.proofs.check.even_set.Goals.{then-size-ne1-via-then-size-ne1}
-use Rattle.qm_dual.proofs.check.even_set.Goals.{then-size-ne1-via-else-size-ne1+then-size-lt3}
-use Rattle.def_matching.specs.Dual.{is_odd_size}
+use Rattle.{qm_dual.proofs.check.even_set.Goals.then-size-ne1-via-then-size-ne1}
+use Rattle.{qm_dual.proofs.check.even_set.Goals.then-size-ne1-via-else-size-ne1+then-size-lt3}
+use Rattle.{qm_dual.proofs.Gathered.least_none, qm_dual.proofs.Gathered.least_some, def_matching.specs.Dual.is_odd_size}
 use Rattle.qm_dual.proofs.check.even_set.Goals as goal
 
 even : (size : ℕ) → (size % 2 ≡ 1 → ⊥) → not (is_odd_size size) ≡ true

@@ -1,7 +1,7 @@
 use Rattle.std.proofs.Common.{◌≡◌, pos, true, sym, length, slice_index_or, int_lt, FitsSigned, arith, rules}
 use Rattle.std.proofs.lemmas.Int.{ints}
 use mir.Syntax.{w64}
-use Rattle.qm_dual.proofs.Searches.{least_none, least_some}
+use Rattle.qm_dual.proofs.Gathered.{least_none, least_some}
 use Rattle.qm_dual.proofs.check.negative_set.Goals as goal
 
 pub returns-then-number-lt0 : goal.returns-then-number-lt0

@@ -1,6 +1,5 @@
 use Rattle.std.proofs.Common.{◌≡◌, ◌+◌, not, true, sym, ◌∙◌, ap, arith, slice_index}
-use Rattle.qm_dual.proofs.Searches.{least_none, least_some}
-use Rattle.def_matching.specs.Dual.{is_up}
+use Rattle.{qm_dual.proofs.Gathered.least_none, qm_dual.proofs.Gathered.least_some, def_matching.specs.Dual.is_up}
 use Rattle.qm_dual.proofs.check.place_fault_of.Goals as goal
 
 pub returns-then-not-may_stand : goal.returns-then-not-may_stand

@@ -1,12 +1,11 @@
-use Rattle.std.proofs.Common.{◌≡◌, ◌^◌, ◌<◌, ℤ, pos, ◌*ℤ◌, ◌∙◌, ap, FitsSigned, below_more}
-use Rattle.std.proofs.{Common.rules, Common.arith, lemmas.Int.ints, lemmas.Int.to_z-of_z}
+use Rattle.std.proofs.Common.{◌≡◌, ◌^◌, ◌<◌, ℤ, pos, ◌*ℤ◌, ◌∙◌, ap, FitsSigned, below_more, rules, arith}
+use Rattle.std.proofs.lemmas.Int.{ints, to_z-of_z}
 use mir.Syntax.{w64, w128}
 use mir.Val.{to_z, of_z}
 use lib.Signed.{mag}
-use Rattle.def_matching.specs.{declared.weighted.WEdge.WEdge, Matching.WeightedGraph, Matching.edge_at}
-use Rattle.def_matching.specs.Dual.{DualLists, dual, load}
-use Rattle.qm_dual.proofs.Verdicts.{short_found, none_short}
-use Rattle.qm_dual.proofs.loads.check_loads.Goals.{After-from-cost}
+use Rattle.def_matching.specs.{declared.weighted.WEdge.WEdge, Matching.WeightedGraph, Matching.edge_at, Dual.DualLists}
+use Rattle.def_matching.specs.{Dual.dual, Dual.load}
+use Rattle.qm_dual.proofs.{Verdicts.short_found, Verdicts.none_short, loads.check_loads.Goals.After-from-cost}
 use Rattle.qm_dual.proofs.loads.check_loads.Goals as goal
 
 plain : (z : ℤ) → mag z < 2 ^ 127 → to_z w128 (of_z w128 z) ≡ z

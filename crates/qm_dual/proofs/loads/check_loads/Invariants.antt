@@ -1,8 +1,7 @@
 use Rattle.std.proofs.Common.{◌≡◌, ℕ, ◌<◌, false, pos, ◌*ℤ◌, int_lt}
 use Rattle.def_matching.specs.{Matching.edge_at, Dual.dual, Dual.load}
-use Rattle.qm_dual.proofs.loads.check_loads.Given as goal
 
-abbrev pub invariant-loop-k : goal.invariant-loop-k
+abbrev pub invariant-loop-k : Rattle.qm_dual.proofs.loads.check_loads.Given.invariant-loop-k
 invariant-loop-k l =
     let g = l.judged.g.now.graph in
     (j : ℕ) → j < l.k

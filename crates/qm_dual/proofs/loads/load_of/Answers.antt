@@ -1,11 +1,8 @@
 use Rattle.std.proofs.Common.{◌≡◌, ℕ, ◌<◌, pos, length, slice_index, ◌∙◌, ap, arith}
-use Rattle.std.proofs.lemmas.Int.{ints}
-use Rattle.std.proofs.lemmas.List.{get_or_read}
-use Rattle.def_matching.specs.Dual.{DualLists, dual}
-use Rattle.qm_dual.specs.Nest.{apart}
-use Rattle.qm_dual.proofs.loads.load_of.Goals as goal
+use Rattle.std.proofs.{lemmas.Int.ints, lemmas.List.get_or_read}
+use Rattle.{def_matching.specs.Dual.DualLists, def_matching.specs.Dual.dual, qm_dual.specs.Nest.apart}
 
-pub returns : goal.returns
+pub returns : Rattle.qm_dual.proofs.loads.load_of.Goals.returns
 returns c =
     let n : ℕ = c.args.d.now.n in
     let d : DualLists = dual c.args.d.now.whole.now in

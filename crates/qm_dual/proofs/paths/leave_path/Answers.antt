@@ -1,5 +1,5 @@
 use Rattle.std.proofs.Common.{◌-◌, arith}
-use Rattle.qm_dual.proofs.OnPaths.{leave_path, leave_path_back}
+use Rattle.qm_dual.proofs.Tallies.{leave_path, leave_path_back}
 use Rattle.qm_dual.proofs.paths.leave_path.Goals as goal
 
 pub returns-then-heads-a-clause-same : goal.returns-then-heads-a-clause-same

@@ -1,7 +1,7 @@
 use Rattle.std.proofs.Common.{◌≡◌, ◌⊎◌, ◌-◌, length, slice_index, ◌∙◌, sym, arith}
-use Rattle.qm_dual.proofs.OnPaths.{meeting_found, meeting_none}
 use Rattle.qm_dual.proofs.paths.meeting.Goals.{then-loop-first-test+then-second-ne0+else-heads-first}
 use Rattle.qm_dual.proofs.paths.meeting.Goals.{then-loop-first-test+else-second-ne0, else-loop-first-test}
+use Rattle.qm_dual.proofs.Tallies.{meeting_found, meeting_none}
 use Rattle.qm_dual.proofs.paths.meeting.Goals as goal
 
 pub returns-else-second-eq0-clause-least : goal.returns-else-second-eq0-clause-least

@@ -1,6 +1,4 @@
-use Rattle.std.proofs.Common.{◌-◌, arith}
-use Rattle.qm_dual.proofs.Tallies.{tallies_low}
-use Rattle.qm_dual.proofs.sizes.count_direct.Goals as goal
+use Rattle.{std.proofs.Common.◌-◌, std.proofs.Common.arith, qm_dual.proofs.Tallies.tallies_low}
 
-pub tally-requires-clause-fits : goal.tally-requires-clause-fits
+pub tally-requires-clause-fits : Rattle.qm_dual.proofs.sizes.count_direct.Goals.tally-requires-clause-fits
 tally-requires-clause-fits c = omega (arith, tallies_low c.loop-v.invariant (c.set_around_vertex.result - 1))

@@ -1,6 +1,4 @@
-use Rattle.std.proofs.Common.{length}
-use Rattle.qm_dual.specs.Nest.{AreTallies}
-use Rattle.qm_dual.proofs.sizes.count_direct.Given as goal
+use Rattle.{std.proofs.Common.length, qm_dual.specs.Nest.AreTallies}
 
-abbrev pub invariant-loop-v : goal.invariant-loop-v
+abbrev pub invariant-loop-v : Rattle.qm_dual.proofs.sizes.count_direct.Given.invariant-loop-v
 invariant-loop-v l = AreTallies l.d.n (length l.d.whole.now.z.items) l.d.whole.now.up.items l.v (λ k. 0) l.sizes

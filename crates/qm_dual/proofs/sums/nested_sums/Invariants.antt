@@ -1,6 +1,4 @@
-use Rattle.std.proofs.Common.{◌≤◌, length}
-use Rattle.def_matching.specs.Dual.{dual}
-use Rattle.qm_dual.specs.Nest.{AreSums}
+use Rattle.{std.proofs.Common.◌≤◌, std.proofs.Common.length, def_matching.specs.Dual.dual, qm_dual.specs.Nest.AreSums}
 use Rattle.qm_dual.proofs.sums.nested_sums.Given as goal
 
 abbrev pub invariant-loop-k : goal.invariant-loop-k

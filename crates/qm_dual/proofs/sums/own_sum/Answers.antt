@@ -1,9 +1,8 @@
 use Rattle.std.proofs.Common.{◌≡◌, ℕ, ◌+◌, pos, ◌+ℤ◌, slice_index, ◌∙◌, ap, add-one, arith}
 use Rattle.std.proofs.{lemmas.Int.ints, lemmas.List.get_or_read}
-use Rattle.def_matching.specs.Dual.{DualLists, dual, z_at}
-use Rattle.qm_dual.specs.Nest.{around}
-use Rattle.qm_dual.proofs.Gathered.{around_small, around_step, named_around}
-use Rattle.qm_dual.proofs.sums.own_sum.Goals.{After-sum_of}
+use Rattle.{def_matching.specs.Dual.DualLists, def_matching.specs.Dual.dual, def_matching.specs.Dual.z_at}
+use Rattle.{qm_dual.specs.Nest.around, qm_dual.proofs.Gathered.around_small, qm_dual.proofs.Gathered.around_step}
+use Rattle.{qm_dual.proofs.Gathered.named_around, qm_dual.proofs.sums.own_sum.Goals.After-sum_of}
 use Rattle.qm_dual.proofs.sums.own_sum.Goals as goal
 
 -- What the sets around the set gather.

@@ -1,10 +1,8 @@
 use Rattle.std.proofs.Common.{◌≡◌, ℕ, ◌+◌, ◌^◌, ◌<◌, List, ℤ, pos, ◌+ℤ◌, unsigned_abs, take, get_or, arith}
 use Rattle.std.proofs.lemmas.Int.{ints}
-use Rattle.def_math.specs.Sums.{total}
-use Rattle.qm_dual.proofs.Entries.{total_take}
-use Rattle.qm_dual.proofs.sums.sum.Goals as goal
+use Rattle.{def_math.specs.Sums.total, qm_dual.proofs.Tallies.total_take}
 
-pub loop-number-preserved : goal.loop-number-preserved
+pub loop-number-preserved : Rattle.qm_dual.proofs.sums.sum.Goals.loop-number-preserved
 loop-number-preserved c =
     let all : List ℤ = c.args.numbers.now.all.now in
     let k : ℕ = c.loop-number.number-index in

@@ -1,8 +1,7 @@
 use Rattle.std.proofs.{Common.sym, Common.◌∙◌, Common.arith, lemmas.List.FromFn.map-range_with_len_more}
 use Rattle.def_feature.specs.Marks.{is_break}
-use Rattle.qm_feature.proofs.breaking.breaks.Goals as goal
 
-pub loop-v-preserved : goal.loop-v-preserved
+pub loop-v-preserved : Rattle.qm_feature.proofs.breaking.breaks.Goals.loop-v-preserved
 loop-v-preserved c = c.in_ok-push.ensures.items
     ∙ (rw (c.loop-v.invariant, c.is_break.ensures)
     (sym (map-range_with_len_more (is_break c.args.mesh.now c.args.marks.now) 0 c.loop-v.v c.loop-v.v (omega arith))))

@@ -1,5 +1,4 @@
 use Rattle.qm_feature.specs.Rings.{AreWhole}
-use Rattle.qm_feature.proofs.closed.drop_unmarked.Given as goal
 
-abbrev pub invariant-loop-d : goal.invariant-loop-d
+abbrev pub invariant-loop-d : Rattle.qm_feature.proofs.closed.drop_unmarked.Given.invariant-loop-d
 invariant-loop-d l = AreWhole l.marks l.run l.initial.whole l.whole l.d

@@ -1,13 +1,9 @@
 use Rattle.std.proofs.Common.{rules, ◌≡◌, Bool, false, List, length, replicate, ap, ◌∙◌, arith}
 use Rattle.std.proofs.lemmas.List.{length-replicate, with_items_is}
-use Rattle.def_mesh.specs.Vertices.{vertex_count}
-use Rattle.def_cut.specs.FullCut.{is_on}
-use Rattle.motion_laws.proofs.Marks.{none_on}
-use Rattle.qm_feature.specs.declared.closed.TheConstants.{NONE}
-use Rattle.qm_feature.proofs.Homes.{rings_told}
-use Rattle.qm_feature.proofs.closed.ring_vertices.Goals as goal
+use Rattle.{def_mesh.specs.Vertices.vertex_count, def_cut.specs.FullCut.is_on, motion_laws.proofs.Marks.none_on}
+use Rattle.{qm_feature.specs.declared.closed.TheConstants.NONE, qm_feature.proofs.Rings.rings_told}
 
-pub returns-clause-each : goal.returns-clause-each
+pub returns-clause-each : Rattle.qm_feature.proofs.closed.ring_vertices.Goals.returns-clause-each
 returns-clause-each c v l =
     let least : c.in_ok-least.least.items ≡ replicate (length c.in_ok-table.table.closed.items) NONE = search rules in
     let rings : c.in_ok-rings.rings.items ≡ replicate (vertex_count c.args.mesh.now) false = search rules in

@@ -1,11 +1,8 @@
 use Rattle.std.proofs.Common.{rules, ◌≡◌, ℕ, Bool, List, true, cond, length, subst, sym, ap, ◌∙◌, arith}
-use Rattle.std.proofs.lemmas.List.{with_items_is}
-use Rattle.std.proofs.lemmas.Result.{IfOk-weaker}
-use Rattle.def_mesh.specs.Darts.{darts}
+use Rattle.std.proofs.{lemmas.List.with_items_is, lemmas.Result.IfOk-weaker}
 use Rattle.def_cut.specs.{FullCut.is_on, Motion.is_among}
-use Rattle.def_feature.specs.Marked.{marked_starts}
-use Rattle.feature_laws.proofs.{First.origin_of, Led.conforms}
-use Rattle.feature_laws.specs.Leads.{AreLed}
+use Rattle.feature_laws.proofs.{First.origin_of, Exists.conforms}
+use Rattle.{def_mesh.specs.Darts.darts, def_feature.specs.Marked.marked_starts, feature_laws.specs.Leads.AreLed}
 use Rattle.qm_feature.proofs.straightening.conforming.Goals as goal
 
 pub mark_starts-requires : goal.mark_starts-requires

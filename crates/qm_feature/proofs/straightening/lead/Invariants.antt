@@ -1,6 +1,4 @@
-use Rattle.std.proofs.Common.{not}
-use Rattle.std.specs.List.{count_by}
-use Rattle.feature_laws.specs.Leads.{IsLeading}
+use Rattle.{std.proofs.Common.not, std.specs.List.count_by, feature_laws.specs.Leads.IsLeading}
 use Rattle.qm_feature.proofs.straightening.lead.Given as goal
 
 abbrev pub invariant-loop-next : goal.invariant-loop-next

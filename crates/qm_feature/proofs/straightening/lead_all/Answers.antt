@@ -1,10 +1,7 @@
 use Rattle.std.proofs.Common.{◌<◌, ap, length, refl, arith}
-use Rattle.def_mesh.specs.Darts.{darts}
-use Rattle.def_cut.specs.FullCut.{is_on}
-use Rattle.feature_laws.proofs.Leading.{led_more}
-use Rattle.qm_feature.proofs.straightening.lead_all.Goals as goal
+use Rattle.{def_mesh.specs.Darts.darts, def_cut.specs.FullCut.is_on, feature_laws.proofs.Exists.led_more}
 
-pub loop-d-preserved : goal.loop-d-preserved
+pub loop-d-preserved : Rattle.qm_feature.proofs.straightening.lead_all.Goals.loop-d-preserved
 loop-d-preserved c =
     let low : c.loop-d.d < darts c.args.mesh.now = omega (arith, c.loop-d-test.true, ap length c.faces.ensures.value) in
     led_more c.args.mesh.now c.args.sources.now c.loop-d.led c.lead_if.new.led c.loop-d.d

@@ -1,6 +1,5 @@
 use Rattle.std.proofs.Common.{get_or, true, arith}
-use Rattle.motion_laws.proofs.Marks.{among_at}
-use Rattle.qm_trace.proofs.Marking.{marks_more}
+use Rattle.{motion_laws.proofs.Marks.among_at, qm_trace.proofs.Tellings.marks_more}
 use Rattle.qm_feature.proofs.tracing.mark_starts.Goals as goal
 
 pub bounds-begun-d : goal.bounds-begun-d

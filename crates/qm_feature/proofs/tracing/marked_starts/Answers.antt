@@ -2,12 +2,11 @@ use Rattle.std.proofs.Common.{rules, ◌≡◌, ◌<◌, Bool, List, false, not,
 use Rattle.std.proofs.Common.{sym, ap, ◌∙◌, refl, arith}
 use Rattle.std.proofs.lemmas.List.{get_or_default, length-map, length-replicate, with_items_is}
 use Rattle.std.proofs.lemmas.List.FromFn.{length-range_with_len}
-use Rattle.def_cut.specs.{FullCut.is_on, Motion.is_among}
 use Rattle.def_feature.specs.{Marked.is_origin, Marks.is_break}
 use Rattle.def_mesh.specs.{Darts.darts, Vertices.all_vertices, Vertices.vertex_count}
-use Rattle.site_laws.proofs.Sites.{started}
-use Rattle.qm_feature.proofs.Origins.{filter_off, filter_on, starts_told}
 use Rattle.qm_feature.proofs.tracing.marked_starts.Goals.{then-starts_at+in_ok-push, else-starts_at}
+use Rattle.qm_feature.proofs.Origins.{filter_off, filter_on, starts_told}
+use Rattle.{def_cut.specs.FullCut.is_on, def_cut.specs.Motion.is_among, site_laws.proofs.Sites.started}
 use Rattle.qm_feature.proofs.tracing.marked_starts.Goals as goal
 
 pub mark_starts-requires : goal.mark_starts-requires

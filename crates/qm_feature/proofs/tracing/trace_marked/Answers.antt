@@ -1,12 +1,9 @@
 use Rattle.std.proofs.Common.{◌≡◌, ◌<◌, ℕ, Bool, List, true, ap, ◌∙◌}
 use Rattle.std.proofs.lemmas.Result.{IfOk-weaker}
-use Rattle.def_mesh.specs.Darts.{darts}
-use Rattle.def_cut.specs.{FullCut.is_on, declared.graph.Graph.Graph}
-use Rattle.def_feature.specs.Marked.{IsMarkedGraph}
-use Rattle.feature_laws.proofs.Laws.{marked_law}
-use Rattle.qm_feature.proofs.tracing.trace_marked.Goals as goal
+use Rattle.{def_mesh.specs.Darts.darts, def_cut.specs.FullCut.is_on, def_cut.specs.declared.graph.Graph.Graph}
+use Rattle.{def_feature.specs.Marked.IsMarkedGraph, feature_laws.proofs.Conforming.marked_law}
 
-pub returns-clause-kept : goal.returns-clause-kept
+pub returns-clause-kept : Rattle.qm_feature.proofs.tracing.trace_marked.Goals.returns-clause-kept
 returns-clause-kept c = IfOk-weaker c.graph_from.result (IsMarkedGraph c.args.mesh.now c.args.marks.now)
     (λ (graph : Graph). (d : ℕ) → d < darts c.args.mesh.now → is_on c.args.marks.now d ≡ true
     → is_on graph.covered.items d ≡ true)

@@ -1,10 +1,8 @@
 use Rattle.std.proofs.Common.{◌++◌, ◌∷◌, [], codes, ap, ◌∙◌}
 use Rattle.def_certtext.specs.Settings.{floor_text, weight_text}
-use Rattle.def_fit.specs.FitWords.{aim_text, spacing_word}
-use Rattle.def_text.specs.Types.{Word}
-use Rattle.qm_fit.proofs.head.fit_head.Goals as goal
+use Rattle.{def_fit.specs.FitWords.aim_text, def_fit.specs.FitWords.spacing_word, def_text.specs.Types.Word}
 
-pub returns : goal.returns
+pub returns : Rattle.qm_fit.proofs.head.fit_head.Goals.returns
 returns c =
     let fit = c.args.fit.now in
     let first = c.in_ok-extend_from_slice.ensures.items ∙ ap (λ (t : Word). t ++ codes "#quadq 1 fit keep ")

@@ -1,7 +1,6 @@
-use Rattle.std.proofs.Common.{◌≡◌, ◌++◌}
-use Rattle.qm_certtext.proofs.Cutting.{stripped}
 use Rattle.qm_fit.proofs.Heads.{cut_whole, fit_front, no_aim, no_floor, no_patches, no_weight}
 use Rattle.qm_fit.proofs.reading.cut_head.Goals.{In-Some-cut_word}
+use Rattle.{std.proofs.Common.◌≡◌, std.proofs.Common.◌++◌, qm_certtext.proofs.Cutting.stripped}
 use Rattle.qm_fit.proofs.reading.cut_head.Goals as goal
 
 -- The line behind its front.

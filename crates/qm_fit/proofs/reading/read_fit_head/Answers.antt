@@ -1,6 +1,6 @@
 use Rattle.std.proofs.{Common.ap, Common.sym, Common.◌∙◌, lemmas.Bool.true≢false}
 use Rattle.def_fit.specs.FitWords.{aim_text}
-use Rattle.qm_fit.proofs.{Heads.head_of, Heads.line_cut, Heads.words_of, OneFit.same_aim}
+use Rattle.qm_fit.proofs.Heads.{line_cut, words_of, same_aim}
 use Rattle.qm_fit.proofs.reading.read_fit_head.Goals as goal
 
 pub returns-in_default : goal.returns-in_default

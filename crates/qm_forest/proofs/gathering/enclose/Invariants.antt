@@ -1,9 +1,7 @@
 use Rattle.std.proofs.Common.{◌≡◌, get_or, length}
-use Rattle.def_forest.specs.{Forests.walk, Tables.up_at}
-use Rattle.forest_laws.specs.Walks.{writes}
-use Rattle.qm_forest.proofs.gathering.enclose.Given as goal
+use Rattle.{def_forest.specs.Forests.walk, def_forest.specs.Tables.up_at, forest_laws.specs.Walks.writes}
 
-abbrev pub invariant-loop : goal.invariant-loop
+abbrev pub invariant-loop : Rattle.qm_forest.proofs.gathering.enclose.Given.invariant-loop
 invariant-loop l = record {
   here : l.x ≡ walk (λ k. get_or l.fn.rings.after.items k 0) l.front l.counter;
   up : up_at l.rings.up.items ≡ writes (up_at l.fn.rings.up.items) (walk (λ k. get_or l.fn.rings.after.items k 0)

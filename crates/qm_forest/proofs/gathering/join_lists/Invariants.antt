@@ -1,9 +1,7 @@
 use Rattle.std.proofs.Common.{◌≡◌, suc, get_or, length}
-use Rattle.def_forest.specs.Forests.{walk, ring_sum}
-use Rattle.forest_laws.specs.Walks.{writes}
-use Rattle.qm_forest.proofs.gathering.join_lists.Given as goal
+use Rattle.{def_forest.specs.Forests.walk, def_forest.specs.Forests.ring_sum, forest_laws.specs.Walks.writes}
 
-abbrev pub invariant-loop : goal.invariant-loop
+abbrev pub invariant-loop : Rattle.qm_forest.proofs.gathering.join_lists.Given.invariant-loop
 invariant-loop l = record {
   here : l.x ≡ walk (λ k. get_or l.fn.after k 0) l.front l.counter;
   total : l.total ≡ ring_sum (λ k. get_or l.fn.after k 0) (λ k. get_or l.fn.lists.rank.items k 0) l.front

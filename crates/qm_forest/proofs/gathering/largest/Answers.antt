@@ -1,5 +1,5 @@
 use Rattle.std.proofs.Common.{add-one, arith}
-use Rattle.qm_forest.proofs.RenamedRows.{row_place, row_larger, row_most}
+use Rattle.qm_forest.proofs.RenamedRows.{row_larger, row_most}
 use Rattle.qm_forest.proofs.gathering.largest.Goals as goal
 
 pub loop-preserved : goal.loop-preserved

@@ -1,9 +1,7 @@
 use Rattle.std.proofs.Common.{◌≡◌, ℕ, get_or, cond, length, pos, ◌+ℤ◌}
-use Rattle.def_forest.specs.Forests.{walk}
-use Rattle.forest_laws.specs.Walks.{listed}
-use Rattle.qm_forest.proofs.gathering.rename.Given as goal
+use Rattle.{def_forest.specs.Forests.walk, forest_laws.specs.Walks.listed}
 
-abbrev pub invariant-loop : goal.invariant-loop
+abbrev pub invariant-loop : Rattle.qm_forest.proofs.gathering.rename.Given.invariant-loop
 invariant-loop l = record {
   here : l.v ≡ walk (λ k. get_or l.fn.lists.following.items k 0) (get_or l.fn.lists.first.items l.x 0) l.counter;
   hand : (v : ℕ) → get_or l.handles.hand.items v 0 ≡ cond (listed (λ k. get_or l.fn.lists.following.items k 0)

@@ -1,9 +1,7 @@
-use Rattle.std.proofs.Common.{pos, ap, get_or, arith}
-use Rattle.std.proofs.{lemmas.Int.ints, lemmas.List.get_or_read}
-use Rattle.qm_forest.proofs.{RenamedRows.kept_handle, RenamedRows.renamed_as}
-use Rattle.qm_forest.proofs.gathering.rename_to.Goals as goal
+use Rattle.std.proofs.{Common.pos, Common.ap, Common.get_or, Common.arith, lemmas.Int.ints, lemmas.List.get_or_read}
+use Rattle.qm_forest.proofs.RenamedRows.{renamed_as}
 
-pub returns-then-x-big : goal.returns-then-x-big
+pub returns-then-x-big : Rattle.qm_forest.proofs.gathering.rename_to.Goals.returns-then-x-big
 returns-then-x-big c =
     let big_is = get_or_read c.args.lists.now.leader.items c.args.big _ c.requires.leaders.low_big
     c.index-handle.ensures 0 in

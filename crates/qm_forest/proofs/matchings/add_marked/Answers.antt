@@ -1,5 +1,4 @@
-use Rattle.std.proofs.Common.{◌≡◌, ◌∷◌, [], ◌++◌, arith}
-use Rattle.std.proofs.lemmas.Grind.{common_steps}
+use Rattle.std.proofs.{Common.◌≡◌, Common.◌∷◌, Common.[], Common.◌++◌, Common.arith, lemmas.Grind.common_steps}
 use Rattle.qm_forest.proofs.Chosens.{marked_more, marked_same}
 use Rattle.qm_forest.proofs.matchings.add_marked.Goals as goal
 

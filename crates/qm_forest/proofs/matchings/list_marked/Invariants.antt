@@ -1,9 +1,7 @@
 use Rattle.std.proofs.Common.{◌≤◌, length}
-use Rattle.std.specs.Vec.{vec_capacity}
-use Rattle.qm_forest.specs.Rounds.{AreMarked}
-use Rattle.qm_forest.proofs.matchings.list_marked.Given as goal
+use Rattle.{std.specs.Vec.vec_capacity, qm_forest.specs.Rounds.AreMarked}
 
-abbrev pub invariant-loop-e : goal.invariant-loop-e
+abbrev pub invariant-loop-e : Rattle.qm_forest.proofs.matchings.list_marked.Given.invariant-loop-e
 invariant-loop-e l = record {
   marked : AreMarked l.marks l.e l.list.items;
   count : length l.list.items ≤ l.e;

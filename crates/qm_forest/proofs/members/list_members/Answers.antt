@@ -1,9 +1,8 @@
 use Rattle.std.proofs.Common.{add-one, ◌≡◌, ◌+◌, ◌<◌, ◌++◌, ◌∙◌, [], ◌∷◌, length, ap, arith}
 use Rattle.std.proofs.{lemmas.Grind.common_steps, lemmas.List.get_or_read, lemmas.List.length_push}
-use Rattle.qm_forest.proofs.Copied.{copied_more}
-use Rattle.qm_forest.proofs.members.list_members.Goals as goal
+use Rattle.qm_forest.proofs.Chosens.{copied_more}
 
-pub loop-preserved : goal.loop-preserved
+pub loop-preserved : Rattle.qm_forest.proofs.members.list_members.Goals.loop-preserved
 loop-preserved c =
     let end = get_or_read c.args.lists.now.rank.items c.args.x _ c.requires.lists.rank c.index-end.ensures 0 in
     let low : c.loop.v < length c.args.lists.now.following.items =

@@ -1,5 +1,4 @@
-use Rattle.std.proofs.Common.{add-one}
-use Rattle.qm_forest.proofs.Handings.{part_needs, row_more}
+use Rattle.{std.proofs.Common.add-one, qm_forest.proofs.JoinedLists.part_needs, qm_forest.proofs.JoinedLists.row_more}
 use Rattle.qm_forest.proofs.parting.hand_over_row.Goals as goal
 
 pub hand_over-requires : goal.hand_over-requires

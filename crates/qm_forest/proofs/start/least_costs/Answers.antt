@@ -1,9 +1,7 @@
 use Rattle.std.proofs.{Common.ap, Common.arith, lemmas.Int.ints}
-use Rattle.def_matching.specs.declared.weighted.WEdge.{WEdge}
-use Rattle.qm_forest.proofs.Fresh.{one_more_edge}
-use Rattle.qm_forest.proofs.start.least_costs.Goals as goal
+use Rattle.{def_matching.specs.declared.weighted.WEdge.WEdge, qm_forest.proofs.Fresh.one_more_edge}
 
-pub loop-e-preserved : goal.loop-e-preserved
+pub loop-e-preserved : Rattle.qm_forest.proofs.start.least_costs.Goals.loop-e-preserved
 loop-e-preserved c =
     let bound = c.requires.costs c.loop-e.e (omega (arith, c.loop-e-test.true, c.edge_count-e-end.ensures.value)) in
     let cost = ap (λ (x : WEdge). x.cost) c.edge-edge.ensures.value in

@@ -1,7 +1,6 @@
 use Rattle.std.proofs.Common.{◌≡◌, ◌≤◌, ℕ, length, get_or, pos}
-use Rattle.qm_forest.proofs.start.pad.Given as goal
 
-abbrev pub invariant-loop : goal.invariant-loop
+abbrev pub invariant-loop : Rattle.qm_forest.proofs.start.pad.Given.invariant-loop
 invariant-loop l = record {
   size : length l.all.items ≡ l.counter;
   long : length l.numbers ≤ l.counter;

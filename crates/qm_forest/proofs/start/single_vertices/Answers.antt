@@ -1,8 +1,7 @@
 use Rattle.std.proofs.Common.{◌≡◌, ℕ, ◌+◌, ◌≤◌, ◌^◌, ◌/◌, sym, ◌∙◌, ap, arith, get_or, pos, List, ℤ, Option, None, Some}
-use Rattle.def_forest.specs.Tables.{GraphSize}
-use Rattle.qm_forest.specs.{Ties.IsFresh, Views.hidden_of, Views.tables_of}
-use Rattle.qm_forest.proofs.Fresh.{fresh_tied, fresh_valid, weight_is}
-use Rattle.qm_forest.proofs.start.single_vertices.Goals.{After-new}
+use Rattle.{def_forest.specs.Tables.GraphSize, qm_forest.specs.Ties.IsFresh, qm_forest.specs.Views.hidden_of}
+use Rattle.{qm_forest.specs.Views.tables_of, qm_forest.proofs.Fresh.fresh_tied, qm_forest.proofs.Fresh.fresh_valid}
+use Rattle.{qm_forest.proofs.Fresh.weight_is, qm_forest.proofs.start.single_vertices.Goals.After-new}
 use Rattle.qm_forest.proofs.start.single_vertices.Goals as goal
 
 fresh : (c : After-new) (room : Option GraphSize) → IsFresh c.n-n.result (c.n-n.result + c.n-n.result / 2)

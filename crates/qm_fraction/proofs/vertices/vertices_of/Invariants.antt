@@ -1,5 +1,4 @@
 use Rattle.std.proofs.Common.{◌≡◌, length}
-use Rattle.qm_fraction.proofs.vertices.vertices_of.Given as goal
 
-abbrev pub invariant-loop-number : goal.invariant-loop-number
+abbrev pub invariant-loop-number : Rattle.qm_fraction.proofs.vertices.vertices_of.Given.invariant-loop-number
 invariant-loop-number l = length l.all.items ≡ l.number-index

@@ -1,10 +1,9 @@
 use Rattle.std.proofs.Common.{◌≡◌, length, refl, ◌∙◌, ap, subst, sym, arith}
 use Rattle.def_flow.specs.{Network.network, MatchingGraph.matching_graph}
 use Rattle.def_matching.specs.Matching.{WeightedGraph, IsCheap}
-use Rattle.gadget_laws.proofs.Size.{size_law}
-use Rattle.qm_gadget.specs.Ready.{graph_by_lows}
 use Rattle.qm_gadget.proofs.OfList.{list_ready, graph_small, graph_lawful, graph_cheap, graph_over}
 use Rattle.qm_gadget.proofs.build.graph_of.Goals.{After-deref-2}
+use Rattle.{gadget_laws.proofs.Size.size_law, qm_gadget.specs.Ready.graph_by_lows}
 use Rattle.qm_gadget.proofs.build.graph_of.Goals as goal
 
 -- The graph of the lists that are read is the matching graph.

@@ -1,9 +1,7 @@
 use Rattle.std.proofs.{Common.◌≡◌, Common.slice_index, Common.length, Common.arith, lemmas.List.get_or_read}
-use Rattle.table_laws.proofs.Ranges.{part_low}
-use Rattle.qm_gadget.specs.Layout.{copies_in}
-use Rattle.qm_gadget.proofs.edges.push_to_copies.Goals as goal
+use Rattle.{table_laws.proofs.Ranges.part_low, qm_gadget.specs.Layout.copies_in}
 
-pub push_fan-requires : goal.push_fan-requires
+pub push_fan-requires : Rattle.qm_gadget.proofs.edges.push_to_copies.Goals.push_fan-requires
 push_fan-requires c =
     let first : c.index.result.now ≡ slice_index c.args.copies.now.firsts.items c.args.end.now.node =
     get_or_read c.args.copies.now.firsts.items c.args.end.now.node c.index.result.now

@@ -1,10 +1,8 @@
 use Rattle.std.proofs.Common.{◌≡◌, ◌+◌, ◌++◌, drop}
-use Rattle.def_math.specs.Counts.{count}
 use Rattle.def_flow.specs.MatchingGraph.{units_links, unit_size}
-use Rattle.qm_gadget.specs.Layout.{copies_in}
-use Rattle.qm_gadget.proofs.layout.push_units.Given as goal
+use Rattle.{def_math.specs.Counts.count, qm_gadget.specs.Layout.copies_in}
 
-abbrev pub invariant-loop-unit : goal.invariant-loop-unit
+abbrev pub invariant-loop-unit : Rattle.qm_gadget.proofs.layout.push_units.Given.invariant-loop-unit
 invariant-loop-unit l = record {
   edges : l.edges.items
       ++ units_links (copies_in l.covered.copies.now.counts.items) l.b (drop l.unit-index l.covered.units.now)

@@ -1,6 +1,5 @@
 use Rattle.std.proofs.Common.{◌≡◌, ◌+◌, ◌≤◌, drop}
 use Rattle.gadget_laws.specs.Marks.{trues}
-use Rattle.qm_gadget.proofs.lengths.count_on.Given as goal
 
-abbrev pub invariant-loop-on : goal.invariant-loop-on
+abbrev pub invariant-loop-on : Rattle.qm_gadget.proofs.lengths.count_on.Given.invariant-loop-on
 invariant-loop-on l = record { value : l.all + trues (drop l.on-index l.ons) ≡ trues l.ons; small : l.all ≤ l.on-index }

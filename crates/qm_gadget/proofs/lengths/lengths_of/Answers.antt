@@ -1,7 +1,6 @@
 use Rattle.std.proofs.{Common.ℕ, Common.Vec, Common.Global, Common.arith, lemmas.Result.IfOk-weaker}
-use Rattle.std.specs.Prelude.{IfOk}
-use Rattle.def_flow.specs.Network.{network}
 use Rattle.qm_gadget.proofs.Told.{gadget_ready, gadget_edges, gadget_wide, gadget_lengths, AreTold}
+use Rattle.{std.specs.Prelude.IfOk, def_flow.specs.Network.network}
 use Rattle.qm_gadget.proofs.lengths.lengths_of.Goals as goal
 
 pub overflow_cast-len : goal.overflow_cast-len

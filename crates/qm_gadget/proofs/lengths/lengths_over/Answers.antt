@@ -1,5 +1,4 @@
-use Rattle.std.proofs.Common.{◌∙◌}
-use Rattle.qm_gadget.proofs.{OfList.plan_counts, OfList.plan_few}
+use Rattle.{std.proofs.Common.◌∙◌, qm_gadget.proofs.OfList.plan_counts, qm_gadget.proofs.OfList.plan_few}
 use Rattle.qm_gadget.proofs.lengths.lengths_over.Goals as goal
 
 pub invariant_of-spread-clause-few : goal.invariant_of-spread-clause-few

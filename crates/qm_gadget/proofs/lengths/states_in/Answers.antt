@@ -1,14 +1,10 @@
-use Rattle.std.proofs.Common.{◌≡◌, ℕ, ◌+◌, ◌-◌, ◌≤◌, List, drop}
-use Rattle.std.proofs.Common.{slice_index_or, ap, append_assoc, arith}
+use Rattle.std.proofs.Common.{◌≡◌, ℕ, ◌+◌, ◌-◌, ◌≤◌, List, drop, slice_index_or, ap, append_assoc, arith}
 use Rattle.std.proofs.lemmas.List.{drop_more}
-use Rattle.def_math.specs.Counts.{count}
-use Rattle.def_flow.specs.declared.units.ArcUnit.{ArcUnit}
 use Rattle.qm_gadget.specs.{Layout.copies_in, Read.width_of_unit}
-use Rattle.qm_gadget.proofs.NodeCounts.{no_unit}
-use Rattle.qm_gadget.proofs.Reading.{increasing_skip, states_read, count_in_width}
-use Rattle.qm_gadget.proofs.lengths.states_in.Goals as goal
+use Rattle.qm_gadget.proofs.{NodeCounts.no_unit, Numbers.increasing_skip, Numbers.states_read, Numbers.count_in_width}
+use Rattle.{def_math.specs.Counts.count, def_flow.specs.declared.units.ArcUnit.ArcUnit}
 
-pub loop-unit-preserved : goal.loop-unit-preserved
+pub loop-unit-preserved : Rattle.qm_gadget.proofs.lengths.states_in.Goals.loop-unit-preserved
 loop-unit-preserved c =
     let copies : ℕ → ℕ = copies_in c.args.spread.now.counts.now in
     let units : List ArcUnit = c.args.spread.now.units.now in

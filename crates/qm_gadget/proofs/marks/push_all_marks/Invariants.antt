@@ -1,9 +1,7 @@
 use Rattle.std.proofs.Common.{◌≡◌, ℕ, ◌+◌, ◌*◌, ◌≤◌, ◌++◌, length, drop, slice_index}
-use Rattle.gadget_laws.specs.Marks.{places, units_marks}
-use Rattle.qm_gadget.specs.Layout.{copies_in}
-use Rattle.qm_gadget.proofs.marks.push_all_marks.Given as goal
+use Rattle.{gadget_laws.specs.Marks.places, gadget_laws.specs.Marks.units_marks, qm_gadget.specs.Layout.copies_in}
 
-abbrev pub invariant-loop-i : goal.invariant-loop-i
+abbrev pub invariant-loop-i : Rattle.qm_gadget.proofs.marks.push_all_marks.Given.invariant-loop-i
 invariant-loop-i l = record {
   marks : l.m.items ++ places l.k (units_marks (copies_in l.laid.counts.now) (copies_in l.used)
       (drop l.i l.laid.stated.units.now) (drop l.i l.laid.stated.ons.now)) ≡ l.initial.m.items

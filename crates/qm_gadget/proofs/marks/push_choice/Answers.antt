@@ -1,11 +1,8 @@
-use Rattle.std.proofs.Common.{◌≡◌, ◌+◌, true, false, ◌&&◌, cond, [], ◌∷◌, ◌++◌, sym, ◌∙◌, ap, arith}
-use Rattle.std.proofs.lemmas.Bool.Decides.{nat_tests}
-use Rattle.std.proofs.lemmas.List.{append-nil}
-use Rattle.std.specs.Prelude.{nat_lt}
-use Rattle.qm_gadget.proofs.Numbers.{choice_places}
-use Rattle.qm_gadget.proofs.marks.push_choice.Goals as goal
+use Rattle.std.proofs.Common.{◌≡◌, ◌+◌, false, ◌&&◌, cond, [], ◌∷◌, ◌++◌, sym, ◌∙◌, ap, arith}
+use Rattle.std.proofs.{lemmas.Bool.Decides.nat_tests, lemmas.List.append-nil}
+use Rattle.{std.specs.Prelude.nat_lt, qm_gadget.proofs.Numbers.choice_places}
 
-pub returns-else-some : goal.returns-else-some
+pub returns-else-some : Rattle.qm_gadget.proofs.marks.push_choice.Goals.returns-else-some
 returns-else-some c =
     let off : (c.args.some && nat_lt c.args.i c.args.n) ≡ false = grind (arith, nat_tests) in
     sym (ap (λ l. c.args.m.now.items ++ l) (choice_places c.args.k c.args.some c.args.i c.args.n

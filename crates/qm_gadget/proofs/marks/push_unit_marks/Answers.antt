@@ -1,11 +1,8 @@
 use Rattle.std.proofs.Common.{ℕ, ◌+◌, ◌++◌, [], ◌∷◌, ◌<◌, not, length, slice_index, ◌∙◌, ap, arith}
 use Rattle.std.proofs.lemmas.Result.{on_ok_weaker}
-use Rattle.def_flow.specs.{declared.units.ArcUnit.ArcUnit}
-use Rattle.def_flow.specs.Units.{is_active}
-use Rattle.gadget_laws.specs.Marks.{places}
-use Rattle.gadget_laws.proofs.Pick.{choice_length}
-use Rattle.qm_gadget.specs.Layout.{copies_in}
-use Rattle.qm_gadget.proofs.{Numbers.places_two, Numbers.unit_two}
+use Rattle.def_flow.specs.{declared.units.ArcUnit.ArcUnit, Units.is_active}
+use Rattle.qm_gadget.proofs.Numbers.{places_two, unit_two}
+use Rattle.{gadget_laws.specs.Marks.places, gadget_laws.proofs.Pick.choice_length, qm_gadget.specs.Layout.copies_in}
 use Rattle.qm_gadget.proofs.marks.push_unit_marks.Goals as goal
 
 pub returns-in-None-clause-marks : goal.returns-in-None-clause-marks

@@ -1,8 +1,7 @@
 use Rattle.std.proofs.Common.{◌≡◌, ℕ, ◌+◌, Bool, List, length, refl, ◌∙◌, ap, length-append, arith}
-use Rattle.def_flow.specs.MatchingGraph.{lone_vertex, first_fresh}
-use Rattle.def_flow.specs.declared.units.ArcUnit.{ArcUnit}
+use Rattle.def_flow.specs.{MatchingGraph.lone_vertex, MatchingGraph.first_fresh, declared.units.ArcUnit.ArcUnit}
 use Rattle.gadget_laws.specs.Marks.{units_marks, rim_marks, rim_states}
-use Rattle.qm_gadget.specs.{Layout.copies_in}
+use Rattle.qm_gadget.specs.Layout.{copies_in}
 use Rattle.qm_gadget.proofs.{Numbers.places_append, OfList.rim_states_few, OfList.rim_from_lone}
 use Rattle.qm_gadget.proofs.matching.marks_told.Goals as goal
 

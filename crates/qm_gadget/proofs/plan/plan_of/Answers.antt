@@ -1,9 +1,7 @@
 use Rattle.std.proofs.{Common.◌≡◌, Common.◌-◌, Common.length, Common.◌∙◌, Common.sym, Common.ap, lemmas.List.length-map}
-use Rattle.def_flow.specs.Network.{network}
-use Rattle.qm_gadget.proofs.Fans.{states_long}
-use Rattle.qm_gadget.proofs.plan.plan_of.Goals as goal
+use Rattle.{def_flow.specs.Network.network, qm_gadget.proofs.Fans.states_long}
 
-pub invariant_of-stated-clause-each : goal.invariant_of-stated-clause-each
+pub invariant_of-stated-clause-each : Rattle.qm_gadget.proofs.plan.plan_of.Goals.invariant_of-stated-clause-each
 invariant_of-stated-clause-each c =
     let boxes = c.args.boxes.now in
     let downs : length c.deref.result.now ≡ length boxes.net.whole.now.arcs.items =

@@ -1,11 +1,9 @@
 use Rattle.std.proofs.Common.{◌≡◌, ◌+◌, ◌==◌, ◌++◌, Bool, true, false, List, length, drop, slice_index_or, refl, sym}
 use Rattle.std.proofs.Common.{◌∙◌, ap, arith}
-use Rattle.gadget_laws.specs.Marks.{places}
-use Rattle.qm_gadget.specs.Marked.{rim_by, turn_marks}
 use Rattle.qm_gadget.proofs.Numbers.{marks_step, rim_step, turn_low}
-use Rattle.qm_gadget.proofs.rim_marks.push_rim_marks.Goals as goal
+use Rattle.{gadget_laws.specs.Marks.places, qm_gadget.specs.Marked.rim_by, qm_gadget.specs.Marked.turn_marks}
 
-pub loop-i-preserved : goal.loop-i-preserved
+pub loop-i-preserved : Rattle.qm_gadget.proofs.rim_marks.push_rim_marks.Goals.loop-i-preserved
 loop-i-preserved c =
     let o : Bool = slice_index_or c.args.states.now c.loop-i.i false in
     let part : List Bool = turn_marks c.loop-i.there c.loop-i.waits o (c.loop-i.i + 1 == length c.args.states.now) in

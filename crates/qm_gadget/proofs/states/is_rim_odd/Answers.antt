@@ -1,9 +1,8 @@
 use Rattle.std.proofs.Common.{◌+◌, false, drop, arith}
 use Rattle.def_flow.specs.Units.{rim_active}
 use Rattle.qm_gadget.proofs.NodeCounts.{no_unit, step_of, differ_parity}
-use Rattle.qm_gadget.proofs.states.is_rim_odd.Goals as goal
 
-pub loop-k-preserved : goal.loop-k-preserved
+pub loop-k-preserved : Rattle.qm_gadget.proofs.states.is_rim_odd.Goals.loop-k-preserved
 loop-k-preserved c = omega (
   arith,
   c.loop-k.invariant,

@@ -1,9 +1,8 @@
 use Rattle.std.proofs.Common.{◌++◌, [], ◌∷◌, ◌∙◌, ap, slice_index, add-one, zero-add}
-use Rattle.def_flow.specs.{Network.arc_at, Network.network}
-use Rattle.qm_gadget.proofs.{Fans.from_suc, Fans.two_parts}
-use Rattle.qm_gadget.proofs.units.push_units_of.Goals as goal
+use Rattle.def_flow.specs.Network.{arc_at, network}
+use Rattle.qm_gadget.proofs.Fans.{from_suc, two_parts}
 
-pub loop-j-preserved : goal.loop-j-preserved
+pub loop-j-preserved : Rattle.qm_gadget.proofs.units.push_units_of.Goals.loop-j-preserved
 loop-j-preserved c =
     let boxes = c.args.boxes.now in
     rw (

@@ -1,7 +1,6 @@
 use Rattle.qm_gen.proofs.Ranges.{height_more, state_more}
-use Rattle.qm_gen.proofs.steps.block_heights.Goals as goal
 
-pub loop-preserved : goal.loop-preserved
+pub loop-preserved : Rattle.qm_gen.proofs.steps.block_heights.Goals.loop-preserved
 loop-preserved c = record {
   heights = height_more c.args.n c.loop.counter c.loop.state c.next_state-state.result c.loop.heights.items
       c.push.new.self.items c.loop.invariant.heights c.loop.invariant.state

@@ -1,7 +1,5 @@
-use Rattle.std.proofs.Common.{◌≡◌}
 use Rattle.std.specs.List.{flat_map, range_with_len}
-use Rattle.def_gen.specs.Steps.{row_points}
-use Rattle.qm_gen.proofs.steps.grid_points.Given as goal
+use Rattle.{std.proofs.Common.◌≡◌, def_gen.specs.Steps.row_points}
 
-abbrev pub invariant-loop-y : goal.invariant-loop-y
+abbrev pub invariant-loop-y : Rattle.qm_gen.proofs.steps.grid_points.Given.invariant-loop-y
 invariant-loop-y l = l.points.items ≡ flat_map (row_points l.n) (range_with_len 0 l.y)

@@ -1,13 +1,11 @@
 use Rattle.std.proofs.Common.{◌<◌, ◌≤◌, ◌++◌, ◌∷◌, [], ℕ, ap, subst, ◌∙◌}
 use Rattle.std.proofs.lemmas.Bool.{le-ltb, lt-ltb}
-use Rattle.std.specs.Prelude.{nat_lt}
 use Rattle.def_gen.specs.Steps.{cell, column_height}
-use Rattle.def_mesh.specs.Faces.{Face}
-use Rattle.qm_gen.proofs.Ranges.{left_push, taken_push}
 use Rattle.qm_gen.proofs.steps.push_cells.Goals.{then-row-column_height+in_ok-push, else-row-column_height}
-use Rattle.qm_gen.proofs.steps.push_cells.Goals as goal
+use Rattle.qm_gen.proofs.Ranges.{left_push, taken_push}
+use Rattle.{std.specs.Prelude.nat_lt, def_mesh.specs.Faces.Face}
 
-pub loop-column-preserved : goal.loop-column-preserved
+pub loop-column-preserved : Rattle.qm_gen.proofs.steps.push_cells.Goals.loop-column-preserved
 loop-column-preserved c = elim c.if-row-column_height.branch [
   | then-row-column_height+in_ok-push w ↦
       taken_push (λ column. cell c.args.n column c.args.row)

@@ -1,6 +1,6 @@
 use Rattle.std.proofs.Common.{◌≡◌, ℕ, List, length, arith, ap, subst, sym, ◌∙◌}
 use Rattle.def_text.specs.{FaceSet.IsSoup, Text.numbers_to}
-use Rattle.qm_gen.proofs.Grid.{are_known, few_faces, few_points, few_used, with_numbers}
+use Rattle.qm_gen.proofs.Grid.{are_known, few_faces, few_used, with_numbers}
 use Rattle.qm_gen.proofs.steps.steps_mesh.Goals as goal
 
 pub soup_of-requires-clause-known : goal.soup_of-requires-clause-known

@@ -1,8 +1,8 @@
 use Rattle.std.proofs.Common.{◌≡◌, suc, ◌+◌, ap, sym, ◌∙◌, arith, false}
 use Rattle.def_mesh.specs.{Darts.next_of, Darts.prev_of, HalfEdges.half_edges}
 use Rattle.def_cut.specs.{FullCut.is_on, Steps.norths, Steps.step_north}
-use Rattle.cut_laws.proofs.{Rows.west_on, Grown.endless_north}
-use Rattle.qm_grid.proofs.Walks.{below_next, grid_listed, grid_done}
+use Rattle.cut_laws.proofs.Rows.{west_on, endless_north}
+use Rattle.qm_grid.proofs.Found.{below_next, grid_listed, grid_done}
 use Rattle.qm_grid.proofs.grid.grid.Goals as goal
 
 pub returns-then-is_cut : goal.returns-then-is_cut

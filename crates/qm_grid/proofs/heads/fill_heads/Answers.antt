@@ -1,8 +1,6 @@
-use Rattle.std.proofs.Common.{arith}
-use Rattle.qm_grid.proofs.HeadTables.{heads_done}
-use Rattle.qm_grid.proofs.heads.fill_heads.Goals as goal
+use Rattle.{std.proofs.Common.arith, qm_grid.proofs.HeadTables.heads_done}
 
-pub returns : goal.returns
+pub returns : Rattle.qm_grid.proofs.heads.fill_heads.Goals.returns
 returns c = record {
   heads = heads_done c.is_full.ensures c.loop-d.invariant (omega (arith, c.is_full.ensures.long, c.loop-d-test.false));
 }

@@ -1,7 +1,7 @@
 use Rattle.std.proofs.Common.{◌≡◌, ap, sym, ◌∙◌, arith}
 use Rattle.def_mesh.specs.{Darts.next_of, HalfEdges.half_edges}
 use Rattle.def_cut.specs.{FullCut.is_on, Steps.easts}
-use Rattle.qm_grid.proofs.Walks.{row_at, row_listed, row_inside, row_never}
+use Rattle.qm_grid.proofs.Found.{row_at, row_listed, row_inside, row_never}
 use Rattle.qm_grid.proofs.row.push_row.Goals as goal
 
 pub returns-then-is_cut : goal.returns-then-is_cut

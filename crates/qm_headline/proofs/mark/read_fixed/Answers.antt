@@ -1,7 +1,5 @@
-use Rattle.std.proofs.{Common.◌≡◌, Common.Bool, Common.sym, Common.◌∙◌, Common.subst, lemmas.Bool.true≢false}
-use Rattle.def_certtext.specs.Settings.{AreInRange}
+use Rattle.std.proofs.{Common.sym, Common.◌∙◌, lemmas.Bool.true≢false}
 use Rattle.qm_certtext.proofs.Texts.{same_asked}
-use Rattle.qm_certtext.specs.Cuts.{asked_line}
 use Rattle.qm_headline.proofs.mark.read_fixed.Goals as goal
 
 pub returns-in_default : goal.returns-in_default

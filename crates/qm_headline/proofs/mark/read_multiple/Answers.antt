@@ -1,5 +1,5 @@
 use Rattle.qm_certtext.proofs.Cutting.{not_stripped, stripped}
-use Rattle.qm_headline.proofs.Refined.{multiple_read, refine_front}
+use Rattle.qm_headline.proofs.Sizes.{multiple_read, refine_front}
 use Rattle.qm_headline.proofs.mark.read_multiple.Goals as goal
 
 pub returns-in-Some : goal.returns-in-Some

@@ -1,5 +1,5 @@
 use Rattle.qm_certtext.proofs.Cutting.{stripped}
-use Rattle.qm_headline.proofs.Sizes.{has_size, no_edge, no_floor, no_front, no_words, size_front}
+use Rattle.qm_headline.proofs.Sizes.{has_size, no_edge, no_floor, no_words, size_front}
 use Rattle.qm_headline.proofs.size.read_size.Goals as goal
 
 pub returns-in_default-cut_word : goal.returns-in_default-cut_word

@@ -1,8 +1,6 @@
 use Rattle.std.proofs.{Common.refl, Common.ap, Common.sym, Common.subst, Common.◌∙◌, lemmas.Bool.false≢true}
-use Rattle.def_fit.specs.FitWords.{IsEdgeLength}
 use Rattle.def_text.specs.{Canonical.micro_text, Types.Word}
-use Rattle.qm_fit.proofs.Edges.{written_edge}
-use Rattle.qm_headline.proofs.Sizes.{near_read, read_is}
+use Rattle.{def_fit.specs.FitWords.IsEdgeLength, qm_fit.proofs.Heads.written_edge, qm_headline.proofs.Sizes.read_is}
 use Rattle.qm_headline.proofs.size.read_written.Goals as goal
 
 pub returns-in_default : goal.returns-in_default

@@ -1,11 +1,9 @@
 use Rattle.std.proofs.Common.{◌≡◌, ◌∙◌, ◌++◌, ◌+◌, ◌*◌, ◌≤◌, ap, ℤ, pos, List, drop, get_or, length, take, unsigned_abs}
 use Rattle.std.proofs.Common.{subst, sym, arith}
-use Rattle.std.proofs.lemmas.Int.{ints}
-use Rattle.std.proofs.Math.Seq.{take-append_seam}
+use Rattle.std.proofs.{lemmas.Int.ints, Math.Seq.take-append_seam}
 use Rattle.qm_initial.specs.declared.initial.TheConstants.{MAX_WISH}
-use Rattle.qm_initial.proofs.initial.initial_dual.Goals as goal
 
-pub returns-clause-small : goal.returns-clause-small
+pub returns-clause-small : Rattle.qm_initial.proofs.initial.initial_dual.Goals.returns-clause-small
 returns-clause-small c =
     let len : c.in_ok-y.y.len ≡ length c.lower_all.new.y = omega (
       arith,

@@ -1,7 +1,6 @@
-use Rattle.std.proofs.Common.{List, ap, arith, drop, map, refl, sym, take, ◌-◌, ◌∙◌, ◌∷◌, ◌≡◌}
-use Rattle.{def_io.specs.Lines.line_of, def_io.specs.Lines.tail_of, qm_io.proofs.Pieces.flat-pieces}
-use Rattle.{def_io.specs.Lines.pieces, std.proofs.Common.ℕ, std.specs.List.flat_map}
-use Rattle.qm_io.proofs.ends.cut_line.Goals as goal
+use Rattle.std.proofs.Common.{List, ap, arith, drop, sym, take, ◌-◌, ◌∙◌, ◌∷◌, ◌≡◌, ℕ}
+use Rattle.def_io.specs.Lines.{tail_of, pieces}
+use Rattle.{std.specs.List.flat_map, qm_io.proofs.Cuts.flat-pieces}
 
 -- The two parts of a text are its first piece and the rest.
 module _ (bs : List ℕ) {piece rest : List ℕ} (n : ℕ) (front : piece ≡ take n bs) (back : rest ≡ drop n bs)
@@ -14,6 +13,6 @@ module _ (bs : List ℕ) {piece rest : List ℕ} (n : ℕ) (front : piece ≡ ta
   is_rest : rest ≡ tail_of 1 bs
   is_rest = sym (flat-pieces rest) ∙ ap (λ (ps : List (List ℕ)). flat_map (λ p. p) (drop 1 ps)) (sym is_cut)
 
-pub returns-clause-rest : goal.returns-clause-rest
+pub returns-clause-rest : Rattle.qm_io.proofs.ends.cut_line.Goals.returns-clause-rest
 returns-clause-rest c = is_rest c.args.bytes.now c.end_of_piece.result c.split_at.ensures.front c.split_at.ensures.back
     c.end_of_piece.ensures.first

@@ -1,7 +1,7 @@
-use Rattle.memchr.{specs.Find.NoneBefore, specs.Find.Nowhere, specs.Find.Passes, specs.Find.is_byte}
 use Rattle.std.proofs.Common.{List, ap, arith, drop, length, length-drop, refl, suc, take, ℕ, ◌+◌, ◌-◌, ◌<◌, ◌∷◌, ◌≡◌}
 use Rattle.std.proofs.{Math.Seq.drop-length, lemmas.List.drop-drop, lemmas.List.take_rest}
-use Rattle.{def_io.specs.Lines.pieces, qm_io.proofs.Pieces.pieces-first, qm_io.proofs.Pieces.pieces-none}
+use Rattle.memchr.specs.Find.{NoneBefore, Nowhere, Passes, is_byte}
+use Rattle.{def_io.specs.Lines.pieces, qm_io.proofs.Cuts.pieces-first, qm_io.proofs.Cuts.pieces-none}
 use Rattle.qm_io.proofs.ends.end_of_piece.Goals as goal
 
 -- The piece ends behind the LF that was found.

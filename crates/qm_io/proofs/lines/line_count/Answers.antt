@@ -1,6 +1,6 @@
 use Rattle.std.proofs.{Common.length, Common.sym, Common.ap, Common.◌∙◌, Common.arith, lemmas.List.length-map}
 use Rattle.def_io.specs.Lines.{pieces, line_of}
-use Rattle.qm_io.proofs.Pieces.{length-pieces, length-ends_from}
+use Rattle.qm_io.proofs.Cuts.{length-pieces, length-ends_from}
 use Rattle.qm_io.proofs.lines.line_count.Goals as goal
 
 pub overflow_cast-result : goal.overflow_cast-result

@@ -1,6 +1,6 @@
-use Rattle.qm_io.proofs.Pieces.{begin, end-begin, end-there, end-within, piece-cut, piece-there}
 use Rattle.std.proofs.Common.{List, arith, drop, length, refl, slice_index, slice_index_or, take, ℕ, ◌+◌, ◌-◌, ◌<◌, ◌∙◌}
-use Rattle.std.proofs.{Common.[], Common.ap, Common.◌∷◌, Common.◌≡◌, Common.◌≤◌}
+use Rattle.std.proofs.Common.{[], ap, ◌∷◌, ◌≡◌, ◌≤◌}
+use Rattle.qm_io.proofs.Cuts.{begin, end-begin, end-there, end-within, piece-cut, piece-there}
 use Rattle.{def_io.specs.Lines.lines_of, def_io.specs.Lines.pieces, qm_io.specs.Ends.ends_from}
 use Rattle.qm_io.proofs.lines.piece_at.Goals as goal
 

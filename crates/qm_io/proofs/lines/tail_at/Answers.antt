@@ -1,7 +1,8 @@
-use Rattle.qm_io.proofs.{Pieces.begin-within, Pieces.end-there, Pieces.piece-there, Pieces.tail-cut}
 use Rattle.std.proofs.Common.{List, ap, arith, drop, length, slice_index, take, ℕ, ◌-◌, ◌<◌, ◌∙◌, ◌∷◌, ◌≡◌, ◌≤◌}
-use Rattle.{def_io.specs.Lines.lines_of, def_io.specs.Lines.tail_of, std.proofs.lemmas.List.take_rest}
-use Rattle.{def_io.specs.Lines.pieces, qm_io.specs.Ends.ends_from}
+use Rattle.std.proofs.lemmas.List.{take_rest}
+use Rattle.qm_io.proofs.Cuts.{begin-within, end-there, piece-there, tail-cut}
+use Rattle.def_io.specs.Lines.{lines_of, tail_of, pieces}
+use Rattle.qm_io.specs.Ends.{ends_from}
 use Rattle.qm_io.proofs.lines.tail_at.Goals as goal
 
 module _ (bs : List ℕ) {es : List ℕ} {i start : ℕ} (cut : es ≡ ends_from 0 (pieces bs))

@@ -1,4 +1,4 @@
-use Rattle.{qm_io.proofs.Moved.gave_more, std.proofs.Common.arith, std.proofs.Common.◌∙◌}
+use Rattle.{std.proofs.Common.arith, std.proofs.Common.◌∙◌, qm_io.proofs.Cuts.gave_more}
 use Rattle.qm_io.proofs.reading.read_bytes.Goals as goal
 
 pub returns-then-len-limit-clause-too_long : goal.returns-then-len-limit-clause-too_long

@@ -1,5 +1,5 @@
 use Rattle.std.proofs.Common.{◌≤◌, length, take, arith, length-take}
-use Rattle.qm_io.proofs.WordLists.{word_read}
+use Rattle.qm_io.proofs.Cuts.{word_read}
 use Rattle.qm_io.proofs.words.word_of.Goals as goal
 
 pub returns-in_ok-text_of-in-Ok-clause-word : goal.returns-in_ok-text_of-in-Ok-clause-word

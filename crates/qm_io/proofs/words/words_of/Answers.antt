@@ -1,8 +1,7 @@
-use Rattle.std.proofs.{Common.length, Common.map, Common.string_bytes, Common.subst, Common.sym, Common.◌+◌}
-use Rattle.{qm_io.proofs.WordLists.reads_pushed, qm_io.specs.WordLists.ReadsSome}
-use Rattle.qm_io.proofs.words.words_of.Goals as goal
+use Rattle.std.proofs.Common.{length, map, string_bytes, subst, sym, ◌+◌}
+use Rattle.{qm_io.proofs.Cuts.reads_pushed, qm_io.specs.WordLists.ReadsSome}
 
-pub words-preserved : goal.words-preserved
+pub words-preserved : Rattle.qm_io.proofs.words.words_of.Goals.words-preserved
 words-preserved g c =
     let given = g.W.CommandLine.given c.args.line.now in
     record {

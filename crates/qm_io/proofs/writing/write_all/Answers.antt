@@ -1,7 +1,6 @@
-use Rattle.{qm_io.proofs.Moved.prefix_more, qm_io.proofs.Moved.rest_more, std.proofs.Common.◌∙◌}
-use Rattle.qm_io.proofs.writing.write_all.Goals as goal
+use Rattle.{std.proofs.Common.◌∙◌, qm_io.proofs.Cuts.prefix_more, qm_io.proofs.Cuts.rest_more}
 
-pub loop-rest-preserved : goal.loop-rest-preserved
+pub loop-rest-preserved : Rattle.qm_io.proofs.writing.write_all.Goals.loop-rest-preserved
 loop-rest-preserved g c =
     let was = c.loop-rest.invariant in
     let took_more = c.in_ok-count.ensures in

@@ -1,5 +1,4 @@
-use Rattle.std.proofs.Common.{arith}
-use Rattle.def_flow.specs.Network.{network}
+use Rattle.{std.proofs.Common.arith, def_flow.specs.Network.network}
 use Rattle.qm_layoutnet.proofs.build.net_of.Goals as goal
 
 pub returns-then-tangle-from-clause-tangled : goal.returns-then-tangle-from-clause-tangled

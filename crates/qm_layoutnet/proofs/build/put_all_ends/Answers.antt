@@ -1,11 +1,9 @@
 use Rattle.std.proofs.Common.{◌≡◌, ◌+◌, ◌<◌, true, List, map, length, sym, ap, refl, subst, arith}
 use Rattle.std.proofs.lemmas.List.{get_or_default, length-map}
-use Rattle.def_flow.specs.declared.net.Arc.{Arc}
 use Rattle.def_layout.specs.{declared.tmesh.SideArc.SideArc, Arcs.path, Arcs.long_at, Gluings.Slot, Layouts.gluing_of}
-use Rattle.def_layout.specs.Layouts.{layout_of, side_at}
-use Rattle.def_cut.specs.Grids.{rectangle}
-use Rattle.qm_layoutnet.specs.Ends.{AreEnds, PatchesBelow}
-use Rattle.qm_layoutnet.proofs.EndTables.{patch_more}
+use Rattle.def_layout.specs.{Layouts.layout_of, Layouts.side_at}
+use Rattle.{def_flow.specs.declared.net.Arc.Arc, def_cut.specs.Grids.rectangle, qm_layoutnet.specs.Ends.AreEnds}
+use Rattle.{qm_layoutnet.specs.Ends.PatchesBelow, qm_layoutnet.proofs.EndTables.patch_more}
 use Rattle.qm_layoutnet.proofs.build.put_all_ends.Goals as goal
 
 pub put_four-requires-clause-uses : goal.put_four-requires-clause-uses

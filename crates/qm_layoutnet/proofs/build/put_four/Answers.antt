@@ -1,10 +1,8 @@
 use Rattle.std.proofs.Common.{◌≡◌, ◌<◌, List, length, get_or, refl, sym, ◌∙◌, arith}
-use Rattle.std.specs.List.{All}
-use Rattle.def_flow.specs.declared.net.Arc.{Arc}
-use Rattle.def_layout.specs.{declared.tmesh.Side.Side, declared.tmesh.SideArc.SideArc}
-use Rattle.def_layout.specs.{Gluings.Way, Gluings.south, Gluings.east, Gluings.north, Gluings.west, Layouts.way_number}
-use Rattle.layout_laws.proofs.SideReads.{read_side}
+use Rattle.def_layout.specs.{declared.tmesh.Side.Side, declared.tmesh.SideArc.SideArc, Gluings.Way, Gluings.south}
+use Rattle.def_layout.specs.{Gluings.east, Gluings.north, Gluings.west, Layouts.way_number}
 use Rattle.qm_layoutnet.proofs.build.put_four.Goals.{After-index-four}
+use Rattle.{std.specs.List.All, def_flow.specs.declared.net.Arc.Arc, layout_laws.proofs.Uses.read_side}
 use Rattle.qm_layoutnet.proofs.build.put_four.Goals as goal
 
 -- The uses that are read of a side are of arcs that are there.

@@ -1,7 +1,6 @@
 use Rattle.std.proofs.Common.{◌≤◌, length, drop}
-use Rattle.def_remesh.specs.Rises.{risen_floors}
-use Rattle.def_layoutnet.specs.Floors.{floor_of}
 use Rattle.qm_layoutnet.specs.Floors.{AreArcsAt}
+use Rattle.{def_remesh.specs.Rises.risen_floors, def_layoutnet.specs.Floors.floor_of}
 use Rattle.qm_layoutnet.proofs.floor.put_rises.Given as goal
 
 abbrev pub invariant-loop-k : goal.invariant-loop-k

@@ -1,5 +1,4 @@
 use Rattle.qm_layoutnet.proofs.Balance.{balance_law}
-use Rattle.qm_layoutnet.proofs.law.balance_law.Goals as goal
 
-pub returns : goal.returns
+pub returns : Rattle.qm_layoutnet.proofs.law.balance_law.Goals.returns
 returns c = balance_law

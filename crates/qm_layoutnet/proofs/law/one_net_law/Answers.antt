@@ -1,5 +1,4 @@
-use Rattle.qm_layoutnet.proofs.OneNet.{one_net_law}
-use Rattle.qm_layoutnet.proofs.law.one_net_law.Goals as goal
+use Rattle.qm_layoutnet.proofs.Balance.{one_net_law}
 
-pub returns : goal.returns
+pub returns : Rattle.qm_layoutnet.proofs.law.one_net_law.Goals.returns
 returns c = one_net_law

@@ -1,5 +1,4 @@
-use Rattle.qm_layoutnet.proofs.Opposite.{opposite_law}
-use Rattle.qm_layoutnet.proofs.law.opposite_law.Goals as goal
+use Rattle.qm_layoutnet.proofs.Built.{opposite_law}
 
-pub returns : goal.returns
+pub returns : Rattle.qm_layoutnet.proofs.law.opposite_law.Goals.returns
 returns c = opposite_law

@@ -1,7 +1,5 @@
-use Rattle.std.proofs.lemmas.Result.{on_err_weaker, on_ok_weaker}
-use Rattle.std.specs.List.{flat_map}
-use Rattle.def_map.specs.MapText.{cell_front, seen_text}
-use Rattle.qm_output.proofs.Prefixes.{of_error}
+use Rattle.{std.proofs.lemmas.Result.on_err_weaker, std.proofs.lemmas.Result.on_ok_weaker, std.specs.List.flat_map}
+use Rattle.{def_map.specs.MapText.cell_front, def_map.specs.MapText.seen_text, qm_output.proofs.Prefixes.of_error}
 use Rattle.qm_map.proofs.cells.put_cell.Goals as goal
 
 pub returns-in_err-put_front-clause-part : goal.returns-in_err-put_front-clause-part

@@ -1,12 +1,8 @@
-use Rattle.std.proofs.Common.{◌≡◌, ◌<◌, length, arith, ap}
-use Rattle.def_layout.specs.Layouts.{Layout}
-use Rattle.std.proofs.lemmas.List.{length-map}
-use Rattle.def_cut.specs.Grids.{rectangle}
+use Rattle.std.proofs.{Common.◌≡◌, Common.length, Common.arith, Common.ap, lemmas.List.length-map}
 use Rattle.def_remesh.specs.{NewPoints.lengths_in, CutSoups.CutSoup}
-use Rattle.qm_map.specs.PatchLines.{patch_lines}
-use Rattle.qm_map.proofs.PatchCells.{all_lines}
-use Rattle.qm_output.proofs.{Prefixes.of_error, Lists.stops_at_number, Lists.takes_number}
-use Rattle.qm_map.proofs.cells.put_cells.Goals.{After-len-patch-end}
+use Rattle.qm_map.proofs.{PatchCells.all_lines, cells.put_cells.Goals.After-len-patch-end}
+use Rattle.qm_output.proofs.Prefixes.{of_error, stops_at_number, takes_number}
+use Rattle.{def_layout.specs.Layouts.Layout, def_cut.specs.Grids.rectangle, qm_map.specs.PatchLines.patch_lines}
 use Rattle.qm_map.proofs.cells.put_cells.Goals as goal
 
 -- There are as many patches as the layout has.

@@ -1,6 +1,6 @@
 use Rattle.std.proofs.Common.{◌≡◌, length, arith, rules}
 use Rattle.def_map.specs.MapText.{seen_text}
-use Rattle.qm_output.proofs.{Prefixes.of_error, Lists.stops_at_item}
+use Rattle.qm_output.proofs.Prefixes.{of_error, stops_at_item}
 use Rattle.qm_map.proofs.cells.put_corners.Goals as goal
 
 pub returns-in_err-put_corner-clause-part : goal.returns-in_err-put_corner-clause-part

@@ -1,11 +1,9 @@
 use Rattle.std.proofs.Common.{◌≡◌, ◌*◌, ◌/◌, ◌%◌, ◌∙◌, arith}
 use Rattle.def_layout.specs.{Lengths.wide, Lengths.high, Layouts.gluing_of}
 use Rattle.def_map.specs.{Homes.home_of, MapText.cell_line}
-use Rattle.def_remesh.specs.NewPoints.{lengths_in}
-use Rattle.qm_map.specs.PatchLines.{home_in}
-use Rattle.qm_map.proofs.PatchCells.{in_grid}
-use Rattle.qm_output.proofs.{Prefixes.of_error, Lists.stops_at_number, Lists.takes_number}
-use Rattle.qm_map.proofs.cells.put_patch.Goals.{After-home}
+use Rattle.qm_map.proofs.{PatchCells.in_grid, cells.put_patch.Goals.After-home}
+use Rattle.qm_output.proofs.Prefixes.{of_error, stops_at_number, takes_number}
+use Rattle.{def_remesh.specs.NewPoints.lengths_in, qm_map.specs.PatchLines.home_in}
 use Rattle.qm_map.proofs.cells.put_patch.Goals as goal
 
 pub overflow_mul-k-end : goal.overflow_mul-k-end

@@ -1,7 +1,6 @@
 use Rattle.std.proofs.Common.{◌∙◌}
-use Rattle.qm_map.proofs.map.put_head.Goals as goal
 
-pub returns : goal.returns
+pub returns : Rattle.qm_map.proofs.map.put_head.Goals.returns
 returns g c = rw (
   ← c.vertices.ensures,
   ← c.faces.ensures,

@@ -1,10 +1,8 @@
 use Rattle.std.proofs.lemmas.Result.{on_err_weaker, on_ok_weaker}
-use Rattle.def_io.specs.Bytes.{Bytes}
-use Rattle.def_layout.specs.Layouts.{gluing_of}
 use Rattle.def_map.specs.MapText.{map_head, vertex_lines}
 use Rattle.def_remesh.specs.{NewPoints.lengths_in, CutSoups.Regrid}
 use Rattle.def_written.specs.{NewFaces.face_count, Numbers.vertices}
-use Rattle.qm_output.proofs.Prefixes.{of_error}
+use Rattle.{def_io.specs.Bytes.Bytes, def_layout.specs.Layouts.gluing_of, qm_output.proofs.Prefixes.of_error}
 use Rattle.qm_map.proofs.map.put_map.Goals as goal
 
 -- The first two lines, and those of the vertices.

@@ -1,10 +1,7 @@
-use Rattle.std.proofs.Common.{◌≡◌, arith}
-use Rattle.def_layout.specs.Layouts.{gluing_of}
-use Rattle.def_map.specs.{MapText.spot_line, Spots.spot_at}
-use Rattle.def_remesh.specs.{NewPoints.lengths_in}
-use Rattle.def_written.specs.Numbers.{vertices}
-use Rattle.qm_output.proofs.{Prefixes.of_error, Lists.stops_at_number, Lists.takes_number}
-use Rattle.qm_map.proofs.vertices.put_vertices.Goals.{After-cut}
+use Rattle.qm_output.proofs.Prefixes.{of_error, stops_at_number, takes_number}
+use Rattle.{std.proofs.Common.◌≡◌, std.proofs.Common.arith, def_layout.specs.Layouts.gluing_of}
+use Rattle.{def_map.specs.MapText.spot_line, def_map.specs.Spots.spot_at, def_remesh.specs.NewPoints.lengths_in}
+use Rattle.{def_written.specs.Numbers.vertices, qm_map.proofs.vertices.put_vertices.Goals.After-cut}
 use Rattle.qm_map.proofs.vertices.put_vertices.Goals as goal
 
 pub spot_near-spot-requires : goal.spot_near-spot-requires

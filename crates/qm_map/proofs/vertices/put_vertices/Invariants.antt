@@ -1,10 +1,7 @@
-use Rattle.std.proofs.Common.{map}
-use Rattle.std.specs.List.{flat_map, range_with_len}
-use Rattle.def_map.specs.{MapText.spot_line, Spots.spot_at}
-use Rattle.def_remesh.specs.NewPoints.{lengths_in}
-use Rattle.qm_map.proofs.vertices.put_vertices.Given as goal
+use Rattle.{std.proofs.Common.map, std.specs.List.flat_map, std.specs.List.range_with_len}
+use Rattle.{def_map.specs.MapText.spot_line, def_map.specs.Spots.spot_at, def_remesh.specs.NewPoints.lengths_in}
 
-abbrev pub invariant-loop-v : goal.invariant-loop-v
+abbrev pub invariant-loop-v : Rattle.qm_map.proofs.vertices.put_vertices.Given.invariant-loop-v
 invariant-loop-v g l =
     g.T.Output.takes l.initial.out l.out
     (flat_map (spot_line l.new.soup.faces l.new.soup.names)

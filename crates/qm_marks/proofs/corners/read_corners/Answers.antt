@@ -1,9 +1,8 @@
-use Rattle.std.{proofs.Common.sym, proofs.Common.◌∙◌, proofs.Common.◌∷◌, proofs.Common.◌≡◌}
-use Rattle.{def_text.specs.Words.words, qm_marks.proofs.CornerWords.next_word, qm_marks.proofs.CornerWords.read_more}
-use Rattle.{qm_obj.proofs.WordLemmas.some_from}
-use Rattle.qm_marks.proofs.corners.read_corners.Goals as goal
+use Rattle.std.proofs.Common.{sym, ◌∙◌, ◌∷◌, ◌≡◌}
+use Rattle.qm_marks.proofs.Pieces.{next_word, read_more}
+use Rattle.{def_text.specs.Words.words, qm_obj.proofs.WordLemmas.some_from}
 
-pub words-preserved : goal.words-preserved
+pub words-preserved : Rattle.qm_marks.proofs.corners.read_corners.Goals.words-preserved
 words-preserved c =
     let next : words c.words.rest.now ≡ c.first_word.result.0.now ∷ words c.first_word.result.1.now =
     next_word c.words.rest.now c.first_word.result.1.now c.first_word.result.0.now c.first_word.ensures

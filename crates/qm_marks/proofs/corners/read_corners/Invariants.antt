@@ -1,4 +1,4 @@
-use Rattle.{def_text.specs.Words.words, qm_marks.proofs.CornerWords.IsReadTo, std.proofs.Common.length}
+use Rattle.{std.proofs.Common.length, def_text.specs.Words.words, qm_marks.proofs.Pieces.IsReadTo}
 use Rattle.qm_marks.proofs.corners.read_corners.Given as goal
 
 abbrev pub invariant-words : goal.invariant-words

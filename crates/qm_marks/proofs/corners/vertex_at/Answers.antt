@@ -1,7 +1,7 @@
-use Rattle.std.proofs.Common.{◌-◌, ℕ, Ok, Err, Result, sym, subst, inl}
-use Rattle.std.proofs.{Common.inr, Common.arith, lemmas.Bool.cases_lt, lemmas.List.Sorted.searched}
+use Rattle.std.proofs.Common.{◌-◌, ℕ, Ok, Err, Result, sym, subst, inl, inr, arith}
+use Rattle.std.proofs.{lemmas.Bool.cases_lt, lemmas.List.Sorted.searched}
 use Rattle.std.specs.{Ordering.nat_cmp, List.Sorted.IsBinarySearchResult}
-use Rattle.qm_marks.proofs.NamePlaces.{place_found, place_missing, rising}
+use Rattle.qm_marks.proofs.OneWish.{place_found, place_missing, rising}
 use Rattle.qm_marks.proofs.corners.vertex_at.Goals as goal
 
 pub returns-then-is_in_place : goal.returns-then-is_in_place

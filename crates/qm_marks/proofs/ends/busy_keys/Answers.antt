@@ -1,10 +1,9 @@
 use Rattle.std.proofs.Common.{sym, ap, ◌∙◌, ◌++◌, ◌∷◌, []}
 use Rattle.qm_marks.specs.{declared.ends.TheConstants.FEW, Keys.key_of}
-use Rattle.qm_marks.proofs.EndKeys.{keys_off, keys_on}
-use Rattle.qm_marks.proofs.ends.busy_keys.Goals.{then-is_busy+in_ok-push, else-is_busy}
-use Rattle.qm_marks.proofs.ends.busy_keys.Goals as goal
+use Rattle.qm_marks.proofs.{EdgeMarks.keys_off, EdgeMarks.keys_on, ends.busy_keys.Goals.then-is_busy+in_ok-push}
+use Rattle.qm_marks.proofs.{ends.busy_keys.Goals.else-is_busy}
 
-pub loop-d-preserved : goal.loop-d-preserved
+pub loop-d-preserved : Rattle.qm_marks.proofs.ends.busy_keys.Goals.loop-d-preserved
 loop-d-preserved c = elim c.if-is_busy.branch [
   | then-is_busy+in_ok-push w ↦ rw (w.keys-is, w.in_ok-push.ensures.items)
       (ap (λ xs. xs ++ w.key_for.result ∷ []) c.loop-d.invariant

@@ -1,4 +1,4 @@
-use Rattle.{mesh_laws.proofs.Vertices.all_below, std.proofs.Common.arith}
+use Rattle.{std.proofs.Common.arith, mesh_laws.proofs.Flood.all_below}
 use Rattle.qm_marks.proofs.ends.dart_between.Goals as goal
 
 pub returns-then-u-vertices-clause-none : goal.returns-then-u-vertices-clause-none

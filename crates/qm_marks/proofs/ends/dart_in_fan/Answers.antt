@@ -1,5 +1,5 @@
-use Rattle.std.proofs.{Common.ap, Common.arith, Common.length, Common.sym, Common.◌∙◌}
-use Rattle.{def_mesh.specs.Darts.to_of, mesh_laws.proofs.Fans.fan_of_is, mesh_laws.proofs.Fans.is_fan}
+use Rattle.std.proofs.Common.{ap, arith, length, sym, ◌∙◌}
+use Rattle.{def_mesh.specs.Darts.to_of, mesh_laws.proofs.Chains.fan_of_is, mesh_laws.proofs.Chains.is_fan}
 use Rattle.qm_marks.proofs.ends.dart_in_fan.Goals as goal
 
 pub to-requires : goal.to-requires

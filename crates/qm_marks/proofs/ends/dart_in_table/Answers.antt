@@ -1,9 +1,10 @@
 use Rattle.std.proofs.Common.{◌≡◌, ◌/◌, ◌^◌, ◌<◌, ltb, length, get_or, sym, ap, ◌∙◌, arith}
 use Rattle.def_mesh.specs.{Darts.darts, Vertices.faces_at, Vertices.vertex_count}
 use Rattle.qm_marks.specs.{Keys.key_of, declared.ends.TheConstants.FEW}
-use Rattle.qm_marks.proofs.{EndKeys.in_table, EndKeys.not_in_table, ends.dart_in_table.Goals.After-place_of-place}
+use Rattle.qm_marks.proofs.ends.dart_in_table.Goals.{After-place_of-place}
 use Rattle.qm_marks.proofs.ends.dart_in_table.Goals.{else-place-keys-via-then-place-keys+else-keys-place}
 use Rattle.qm_marks.proofs.ends.dart_in_table.Goals.{else-place-keys-via-else-place-keys}
+use Rattle.qm_marks.proofs.EdgeMarks.{in_table, not_in_table}
 use Rattle.qm_marks.proofs.ends.dart_in_table.Goals as goal
 
 small : (c : After-place_of-place) → (vertex_count c.args.mesh.now < 2 ^ 32) × (darts c.args.mesh.now < 2 ^ 32)

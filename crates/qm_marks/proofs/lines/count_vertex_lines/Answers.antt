@@ -1,9 +1,8 @@
+use Rattle.std.proofs.Common.{ap, arith, cond, ◌+◌, ◌∙◌, ◌≡◌}
 use Rattle.qm_marks.proofs.{LineMarks.counted_next, lines.count_vertex_lines.Goals.After-drop-joined}
-use Rattle.qm_obj.proofs.{Groups.group_span, Ranges.single_span, Ranges.single_text, Ranges.span_within}
-use Rattle.qm_obj.{proofs.Groups.group_text, specs.Ahead.span, specs.Ahead.text_ahead}
-use Rattle.std.proofs.{Common.ap, Common.arith, Common.cond, Common.◌+◌, Common.◌∙◌, Common.◌≡◌}
-use Rattle.{def_io.specs.Lines.lines_of, def_text.specs.Reading.begins_with, std.specs.Prelude.slice_range}
-use Rattle.{def_text.specs.Words.words}
+use Rattle.qm_obj.proofs.Groups.{group_span, single_span, single_text, span_within, group_text}
+use Rattle.{std.specs.Prelude.slice_range, qm_obj.specs.Ahead.span, qm_obj.specs.Ahead.text_ahead}
+use Rattle.{def_io.specs.Lines.lines_of, def_text.specs.Reading.begins_with, def_text.specs.Words.words}
 use Rattle.qm_marks.proofs.lines.count_vertex_lines.Goals as goal
 
 next : (c : After-drop-joined) → c.in_ok-joined.joined.next

@@ -1,6 +1,6 @@
 use Rattle.qm_marks.proofs.LineMarks.{at_end, at_inner, at_next, at_refused, at_room}
-use Rattle.{def_io.specs.Lines.lines_of, error_laws.proofs.Errors.handed, qm_obj.proofs.Ranges.span_within}
-use Rattle.{std.proofs.Common.arith}
+use Rattle.qm_obj.proofs.Groups.{span_within}
+use Rattle.{std.proofs.Common.arith, def_io.specs.Lines.lines_of, error_laws.proofs.Errors.handed}
 use Rattle.qm_marks.proofs.lines.read_marks.Goals as goal
 
 pub take_logical-requires-clause-room : goal.take_logical-requires-clause-room

@@ -1,9 +1,9 @@
-use Rattle.qm_marks.proofs.lines.{take_logical.Goals.After-before_comment, take_logical.Goals.After-deref}
-use Rattle.qm_obj.proofs.{Groups.group_span, Groups.group_text, Ranges.single_span, Ranges.single_text}
-use Rattle.std.proofs.{Common.ap, Common.sym, Common.◌+◌, Common.◌∙◌, Common.◌≡◌}
-use Rattle.{error_laws.proofs.Errors.handed, qm_marks.proofs.LineMarks.fails_line, qm_marks.proofs.LineMarks.took_line}
-use Rattle.{def_io.specs.Lines.lines_of, qm_obj.specs.Ahead.text_ahead, std.specs.Prelude.slice_range}
-use Rattle.qm_obj.specs.Lines.{first_logical}
+use Rattle.std.proofs.Common.{sym, ◌+◌, ◌∙◌, ◌≡◌}
+use Rattle.qm_marks.proofs.{lines.take_logical.Goals.After-before_comment, lines.take_logical.Goals.After-deref}
+use Rattle.qm_marks.proofs.{LineMarks.fails_line, LineMarks.took_line}
+use Rattle.qm_obj.proofs.Groups.{group_text, single_text}
+use Rattle.qm_obj.specs.{Ahead.text_ahead, Lines.first_logical}
+use Rattle.{std.specs.Prelude.slice_range, error_laws.proofs.Errors.handed, def_io.specs.Lines.lines_of}
 use Rattle.qm_marks.proofs.lines.take_logical.Goals as goal
 
 -- The text of several physical lines, and that of one.

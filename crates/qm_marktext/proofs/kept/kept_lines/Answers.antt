@@ -1,12 +1,9 @@
 use Rattle.std.proofs.Common.{◌≡◌, ◌<◌, ◌^◌, ℕ, List, length, sym, subst, ap, ◌∙◌, arith}
 use Rattle.std.proofs.lemmas.List.{length-map}
-use Rattle.std.specs.Prelude.{IfOk}
 use Rattle.def_certtext.specs.CertLines.{certificates_of, used, Lists}
 use Rattle.def_layout.specs.{Arcs.path, Layouts.gluing_of, Layouts.layout_of, Layouts.Layout}
-use Rattle.def_marks.specs.MarkedText.{marked_text}
-use Rattle.def_remesh.specs.NewPoints.{lengths_in}
-use Rattle.def_written.specs.Numbers.{vertices}
-use Rattle.qm_marktext.proofs.kept.kept_lines.Goals.{After-deref}
+use Rattle.{std.specs.Prelude.IfOk, def_marks.specs.MarkedText.marked_text, def_remesh.specs.NewPoints.lengths_in}
+use Rattle.{def_written.specs.Numbers.vertices, qm_marktext.proofs.kept.kept_lines.Goals.After-deref}
 use Rattle.qm_marktext.proofs.kept.kept_lines.Goals as goal
 
 -- The lengths are those of the certificate that is used, and those that are numbered.

@@ -1,13 +1,11 @@
 use Rattle.std.proofs.Common.{◌≡◌, ◌<◌, ◌+◌, suc, ◌++◌, length, sym, ap, ◌∙◌, arith}
 use Rattle.std.proofs.lemmas.List.{append-nil, get_or_default, length-map}
-use Rattle.std.specs.List.{flat_map, range_with_len}
 use Rattle.def_layout.specs.{Arcs.path, Layouts.gluing_of, Layouts.layout_of}
 use Rattle.def_marks.specs.MarkedText.{arc_text, chain_text}
-use Rattle.def_remesh.specs.NewPoints.{lengths_in}
-use Rattle.def_written.specs.Numbers.{before_arc}
-use Rattle.qm_marktext.specs.Chains.{chain_from}
-use Rattle.qm_marktext.proofs.ArcChains.{arc_few, text_more, text_off, text_on}
 use Rattle.qm_marktext.proofs.lines.marked_lines.Goals.{then-is_marked+in_ok-push_arc, else-is_marked}
+use Rattle.qm_marktext.proofs.ArcChains.{arc_few, text_more, text_off, text_on}
+use Rattle.{std.specs.List.flat_map, std.specs.List.range_with_len, def_remesh.specs.NewPoints.lengths_in}
+use Rattle.{def_written.specs.Numbers.before_arc, qm_marktext.specs.Chains.chain_from}
 use Rattle.qm_marktext.proofs.lines.marked_lines.Goals as goal
 
 pub push_arc-requires-clause-few : goal.push_arc-requires-clause-few

@@ -1,10 +1,9 @@
 use Rattle.std.proofs.Common.{◌≡◌, ◌+◌, ◌-◌, List, ℕ, ◌∷◌, [], ◌++◌, map, sym, ap, ◌∙◌, arith}
 use Rattle.std.proofs.lemmas.List.{append_assoc}
 use Rattle.std.specs.{Prelude.decimal, List.flat_map, List.range_with_len}
-use Rattle.def_marks.specs.declared.fail.TheConstants.{LINE}
-use Rattle.def_io.specs.declared.TheConstants.{LINE_FEED}
 use Rattle.def_text.specs.declared.letters.TheConstants.{SPACE}
 use Rattle.qm_marktext.proofs.ArcChains.{inner_more, line_is, vertex_text}
+use Rattle.{def_marks.specs.declared.fail.TheConstants.LINE, def_io.specs.declared.TheConstants.LINE_FEED}
 use Rattle.qm_marktext.proofs.lines.push_arc.Goals as goal
 
 pub loop-k-preserved : goal.loop-k-preserved

@@ -1,11 +1,8 @@
 use Rattle.std.proofs.Common.{◌≡◌, ◌+◌, ◌*◌, ◌<◌, ◌∙◌, length, refl, sym, ap, subst, arith}
-use Rattle.def_matching.specs.{declared.weighted.WEdge.WEdge}
-use Rattle.forest_laws.proofs.Graphs.{dart_near, near_odd}
-use Rattle.qm_match.specs.Fans.{AreFansOf}
-use Rattle.qm_match.proofs.Chains.{put_more}
-use Rattle.qm_match.proofs.fans.fans_of.Goals as goal
+use Rattle.{def_matching.specs.declared.weighted.WEdge.WEdge, forest_laws.proofs.Bounds.dart_near}
+use Rattle.{forest_laws.proofs.Bounds.near_odd, qm_match.specs.Fans.AreFansOf, qm_match.proofs.Chains.put_more}
 
-pub loop-e-preserved : goal.loop-e-preserved
+pub loop-e-preserved : Rattle.qm_match.proofs.fans.fans_of.Goals.loop-e-preserved
 loop-e-preserved c =
     let low : c.loop-e.e < length c.args.g.now.graph.edges =
     omega (arith, c.loop-e-test.true, c.loop-e.auto.e-end, c.edge_count-e-end.ensures.value) in

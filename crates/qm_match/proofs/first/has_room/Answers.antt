@@ -1,9 +1,8 @@
 use Rattle.std.proofs.Common.{◌≡◌, ◌≤ℤ◌, ◌+ℤ◌, ◌*ℤ◌, pos, get_or, refl, arith, rules}
-use Rattle.std.proofs.{lemmas.Int.ints}
+use Rattle.std.proofs.lemmas.Int.{ints}
 use Rattle.qm_match.proofs.Outcomes.{room_read}
-use Rattle.qm_match.proofs.first.has_room.Goals as goal
 
-pub returns : goal.returns
+pub returns : Rattle.qm_match.proofs.first.has_room.Goals.returns
 returns c = λ yes.
     let sum : c.sum_of.result ≡ (get_or c.args.numbers.now c.edge-u.result.u (pos 0) +ℤ get_or c.args.numbers.now
     c.edge-u.result.v (pos 0)) = search rules in

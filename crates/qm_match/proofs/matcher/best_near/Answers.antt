@@ -1,5 +1,4 @@
-use Rattle.std.proofs.Common.{refl}
-use Rattle.qm_match.proofs.Outcomes.{wished_first, wished_small}
+use Rattle.{std.proofs.Common.refl, qm_match.proofs.Outcomes.wished_first, qm_match.proofs.Outcomes.wished_small}
 use Rattle.qm_match.proofs.matcher.best_near.Goals as goal
 
 pub shown_by-requires-clause-small : goal.shown_by-requires-clause-small

@@ -1,6 +1,6 @@
 use Rattle.std.proofs.{Common.◌∙◌, Common.length, Common.subst, Common.take, Common.arith, lemmas.List.take_all}
 use Rattle.def_math.specs.Increasing.{IsIncreasing}
-use Rattle.qm_match.proofs.Edges.{counts_on, increasing_on, increasing_to}
+use Rattle.qm_match.proofs.Outcomes.{counts_on, increasing_on, increasing_to}
 use Rattle.qm_match.proofs.perfect.meet.Goals as goal
 
 pub loop-e-preserved : goal.loop-e-preserved

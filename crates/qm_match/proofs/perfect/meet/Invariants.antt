@@ -1,10 +1,8 @@
 use Rattle.std.proofs.Common.{◌≡◌, ℕ, ◌<◌, ◌≤◌, false, get_or, length, map, take}
-use Rattle.def_math.specs.{Counts.count, Increasing.IsIncreasing}
 use Rattle.def_matching.specs.Matching.{edge_at, ends_at}
-use Rattle.def_forest.specs.Forests.{bool_number}
-use Rattle.qm_match.proofs.perfect.meet.Given as goal
+use Rattle.{def_math.specs.Counts.count, def_math.specs.Increasing.IsIncreasing, def_forest.specs.Forests.bool_number}
 
-abbrev pub invariant-loop-e : goal.invariant-loop-e
+abbrev pub invariant-loop-e : Rattle.qm_match.proofs.perfect.meet.Given.invariant-loop-e
 invariant-loop-e l = record {
   size : length l.seen.items ≡ l.g.graph.n;
   low : l.next ≤ length l.g.graph.edges;

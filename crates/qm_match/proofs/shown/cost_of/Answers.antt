@@ -1,9 +1,8 @@
-use Rattle.std.proofs.Common.{◌≤◌, length, slice_index}
-use Rattle.std.proofs.{Common.ap, Common.rules, Common.arith, lemmas.Int.ints}
-use Rattle.std.proofs.{Common.FitsSigned}
+use Rattle.std.proofs.Common.{◌≤◌, length, slice_index, ap, rules, arith, FitsSigned}
+use Rattle.std.proofs.lemmas.Int.{ints}
 use mir.Syntax.{w64}
-use Rattle.def_matching.specs.{declared.weighted.WEdge.WEdge}
-use Rattle.qm_match.proofs.{Costs.increasing_few, Costs.cost_take, Outcomes.increasing_low}
+use Rattle.def_matching.specs.declared.weighted.WEdge.{WEdge}
+use Rattle.qm_match.proofs.Outcomes.{increasing_few, cost_take, increasing_low}
 use Rattle.qm_match.proofs.shown.cost_of.Goals as goal
 
 pub loop-edge-preserved : goal.loop-edge-preserved

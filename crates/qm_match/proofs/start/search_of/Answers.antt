@@ -1,11 +1,8 @@
 use Rattle.std.proofs.Common.{◌≡◌, ◌+◌, ◌-◌, ◌/◌, ◌^◌, ◌≤◌, ◌∙◌, length, get_or, refl, sym, subst, ap, arith}
-use Rattle.std.proofs.lemmas.Grind.{get_or_default_zero}
-use Rattle.std.proofs.lemmas.List.{length-replicate}
-use Rattle.qm_forest.proofs.Fresh.{same_everywhere}
-use Rattle.qm_match.proofs.Ready.{chains_ready}
-use Rattle.qm_match.proofs.start.search_of.Goals as goal
+use Rattle.std.proofs.{lemmas.Grind.get_or_default_zero, lemmas.List.length-replicate}
+use Rattle.{qm_forest.proofs.Fresh.same_everywhere, qm_match.proofs.Ready.chains_ready}
 
-pub returns-clause-ready : goal.returns-clause-ready
+pub returns-clause-ready : Rattle.qm_match.proofs.start.search_of.Goals.returns-clause-ready
 returns-clause-ready c =
     let size : length c.in_ok-new.field-0 ≡ c.edge_count.result + (c.n-n.result / 2 + 1) = ap length c.in_ok-new.ensures
     ∙ length-replicate (c.edge_count.result + (c.n-n.result / 2 + 1)) (2 ^ 64 - 1) in

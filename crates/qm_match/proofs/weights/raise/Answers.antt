@@ -1,12 +1,10 @@
-use Rattle.std.proofs.Common.{◌≡◌, ℤ, refl, subst, sym, arith}
-use Rattle.std.proofs.lemmas.Int.{ints, to_z-of_z}
-use Rattle.qm_match.specs.Weights.{IsRoom}
-use Rattle.qm_match.proofs.Raised.{raised_room}
-use Rattle.qm_match.proofs.weights.raise.Goals as goal
+use Rattle.std.proofs.{Common.◌≡◌, Common.ℤ, Common.refl, Common.subst, Common.sym, Common.arith, lemmas.Int.ints}
+use Rattle.std.proofs.{lemmas.Int.to_z-of_z}
 use mir.Val.{to_z, of_z}
 use mir.Syntax.{w64}
+use Rattle.{qm_match.specs.Weights.IsRoom, qm_match.proofs.Raised.raised_room}
 
-pub returns-then-y-v : goal.returns-then-y-v
+pub returns-then-y-v : Rattle.qm_match.proofs.weights.raise.Goals.returns-then-y-v
 returns-then-y-v c =
     let kept : to_z w64 (of_z w64 c.room_at-room.result) ≡ c.room_at-room.result =
     to_z-of_z w64 c.room_at-room.result (record { sfits = c.room_at-room.type_inv }) in

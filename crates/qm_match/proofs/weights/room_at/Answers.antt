@@ -1,7 +1,6 @@
 use Rattle.std.proofs.{Common.◌≡◌, Common.◌-◌, Common.◌<◌, Common.length, Common.get_or, Common.arith, lemmas.Int.ints}
-use Rattle.std.proofs.lemmas.List.{get_or_read}
-use Rattle.qm_match.specs.Weights.{left_to}
-use Rattle.qm_match.proofs.Raised.{chain_room, chain_end}
+use Rattle.std.proofs.{lemmas.List.get_or_read}
+use Rattle.{qm_match.specs.Weights.left_to, qm_match.proofs.Raised.chain_room, qm_match.proofs.Raised.chain_end}
 use Rattle.qm_match.proofs.weights.room_at.Goals as goal
 
 pub loop-entry-smaller : goal.loop-entry-smaller

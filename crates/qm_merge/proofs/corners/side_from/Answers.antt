@@ -1,7 +1,6 @@
 use Rattle.std.proofs.Common.{◌≡◌, ◌+◌, ◌-◌, arith}
-use Rattle.def_mesh.specs.{HalfEdges.half_edges}
-use Rattle.qm_grid.proofs.Walks.{row_at, row_inside, row_never}
-use Rattle.qm_merge.proofs.SideWalks.{near_done}
+use Rattle.def_mesh.specs.HalfEdges.{half_edges}
+use Rattle.qm_grid.proofs.Found.{row_at, row_inside, row_never}
 use Rattle.qm_merge.proofs.corners.side_from.Goals as goal
 
 pub returns-then-is_cut-clause-next : goal.returns-then-is_cut-clause-next

@@ -1,10 +1,9 @@
 use Rattle.std.proofs.Common.{◌≡◌, ◌<◌, ℕ, false}
 use Rattle.def_mesh.specs.{Darts.darts, Darts.next_of, HalfEdges.half_edges}
 use Rattle.def_cut.specs.{FullCut.is_on, Steps.easts}
-use Rattle.qm_merge.proofs.corners.side_from.Given as goal
 
 -- the walk stands at its next dart, and has not met the end
-abbrev pub invariant-loop-n : goal.invariant-loop-n
+abbrev pub invariant-loop-n : Rattle.qm_merge.proofs.corners.side_from.Given.invariant-loop-n
 invariant-loop-n l = record {
   at : l.d ≡ easts (half_edges l.cut.faces) l.corner l.n;
   low : l.d < darts l.cut.faces;

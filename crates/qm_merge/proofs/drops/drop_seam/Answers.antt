@@ -1,9 +1,7 @@
 use Rattle.std.proofs.Common.{◌≡◌, ◌+◌, ◌-◌, ap, ◌∙◌, arith}
-use Rattle.std.specs.Prelude.{is_some}
-use Rattle.def_mesh.specs.{HalfEdges.half_edges}
-use Rattle.def_cut.specs.{Steps.easts}
-use Rattle.qm_merge.proofs.Leaving.{left_more, all_left, stood, first_still, edge_there, edge_twin, leads_to}
+use Rattle.qm_merge.proofs.Linked.{left_more, all_left, stood, first_still, edge_there, edge_twin, leads_to}
 use Rattle.qm_merge.proofs.drops.drop_seam.Goals.{then-k-gt0, else-k-gt0}
+use Rattle.{std.specs.Prelude.is_some, def_mesh.specs.HalfEdges.half_edges, def_cut.specs.Steps.easts}
 use Rattle.qm_merge.proofs.drops.drop_seam.Goals as goal
 
 pub east-d-requires-clause-dart : goal.east-d-requires-clause-dart

@@ -1,5 +1,5 @@
 use Rattle.std.proofs.{Common.sym, Common.◌∙◌, lemmas.Bool.false≢true}
-use Rattle.qm_merge.proofs.Spared.{breaks_long, crossed_there, may_from, may_then}
+use Rattle.qm_merge.proofs.Rejoined.{may_from, may_then}
 use Rattle.qm_merge.proofs.held.may_leave.Goals as goal
 
 pub returns-then-marks-place : goal.returns-then-marks-place

@@ -1,10 +1,8 @@
 use Rattle.std.proofs.Common.{◌≡◌, ℕ, subst, arith}
 use Rattle.def_mesh.specs.{Darts.darts, HalfEdges.half_edges}
-use Rattle.def_cut.specs.FullCut.{is_on}
-use Rattle.qm_merge.specs.Links.{AreSides}
-use Rattle.qm_merge.proofs.links.all_links.Goals as goal
+use Rattle.{def_cut.specs.FullCut.is_on, qm_merge.specs.Links.AreSides}
 
-pub returns : goal.returns
+pub returns : Rattle.qm_merge.proofs.links.all_links.Goals.returns
 returns c =
     let all : c.loop-c.c ≡ darts c.args.cut.now.faces =
     omega (arith, c.loop-c-test.false, c.loop-c.auto.c-end, c.darts-darts.ensures, c.is_full.ensures.long) in

@@ -1,8 +1,7 @@
-use Rattle.std.proofs.Common.{◌+◌, ◌≤◌, ◌^◌, arith}
-use Rattle.std.proofs.lemmas.Result.{on_ok_weaker}
+use Rattle.std.proofs.{Common.◌+◌, Common.◌≤◌, Common.◌^◌, Common.arith, lemmas.Result.on_ok_weaker}
 use Rattle.std.specs.BTreeSet.{btree_set_len}
-use Rattle.qm_merge.proofs.Dropped.{both_ok, cutting_after, marks_fewer, wait_still}
-use Rattle.qm_merge.proofs.{Linked.has_room, Linked.links_after, Rounds.next_is_corner}
+use Rattle.qm_merge.proofs.{Rejoined.both_ok, Rejoined.marks_fewer, Rejoined.wait_still, Linked.has_room}
+use Rattle.qm_merge.proofs.{Linked.links_after, Rounds.next_is_corner}
 use Rattle.qm_merge.proofs.merged.drop_first.Goals as goal
 
 pub invariant_of-linked : goal.invariant_of-linked

@@ -1,9 +1,7 @@
 use Rattle.std.proofs.Common.{rules, ◌≡◌, replicate, false, ◌∙◌}
-use Rattle.std.proofs.lemmas.Result.{IfOk-weaker}
-use Rattle.def_mesh.specs.{Darts.darts, Vertices.vertex_count}
-use Rattle.merge_laws.proofs.NoLines.{none_beside, none_broken, none_merged}
+use Rattle.{def_mesh.specs.Darts.darts, def_mesh.specs.Vertices.vertex_count, merge_laws.proofs.Beside.none_beside}
+use Rattle.{merge_laws.proofs.Beside.none_broken, qm_merge.proofs.merged.merge.Goals.After-deref-2}
 use Rattle.qm_merge.proofs.merged.merge.Goals as goal
-use Rattle.qm_merge.proofs.merged.merge.Goals.{After-deref-2}
 
 -- No mark is set.
 marks_are : (c : After-deref-2) → c.deref.result.now ≡ replicate (darts c.args.mesh.now) false

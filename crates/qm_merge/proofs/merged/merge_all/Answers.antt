@@ -1,16 +1,10 @@
-use Rattle.std.proofs.Common.{true, refl, ◌≡◌, ◌⊎◌, ℕ, suc, length, sym, ◌∙◌, inl, inr, arith}
-use Rattle.std.proofs.lemmas.Bool.{cases_lt, false≢true}
-use Rattle.std.proofs.lemmas.Map.Keys.{le_from_not_gt}
+use Rattle.std.proofs.Common.{true, refl, ◌≡◌, ◌⊎◌, suc, length, sym, ◌∙◌, inl, inr, arith}
+use Rattle.std.proofs.{lemmas.Bool.cases_lt, lemmas.Bool.false≢true, lemmas.Map.Keys.le_from_not_gt}
 use Rattle.def_mesh.specs.{Darts.darts, HalfEdges.half_edges}
-use Rattle.def_cut.specs.FullCut.{is_on}
-use Rattle.def_merge.specs.{Joins.IsJoinable, Joins.IsNameOf, Beside.may_beside}
-use Rattle.feature_laws.proofs.Conforming.{mark_low}
-use Rattle.merge_laws.proofs.{Beside.beside_reached, Arcs.name_there, OneMerged.part_reached, Held.held_law}
-use Rattle.merge_laws.proofs.Held.{turned_may}
-use Rattle.face_laws.proofs.FullCuts.{from_cut}
-use Rattle.qm_merge.specs.Links.{at}
-use Rattle.qm_merge.proofs.Dropped.{less_on, name_gone, step_taken}
-use Rattle.qm_merge.proofs.Names.{none_named, none_waits, seam_free, taken_below, taken_kept}
+use Rattle.merge_laws.proofs.{Beside.part_reached, Beside.held_law, Beside.turned_may, Decided.name_there}
+use Rattle.qm_merge.proofs.{Rejoined.less_on, Rejoined.name_gone, Rejoined.step_taken, Names.none_named}
+use Rattle.qm_merge.proofs.{Names.none_waits, Names.seam_free, Names.taken_below, Names.taken_kept}
+use Rattle.{def_merge.specs.Beside.may_beside, feature_laws.proofs.Conforming.mark_low, qm_merge.specs.Links.at}
 use Rattle.qm_merge.proofs.merged.merge_all.Goals as goal
 
 pub loop-name-init : goal.loop-name-init

@@ -1,9 +1,7 @@
-use Rattle.std.proofs.Common.{ℕ}
 use Rattle.def_mesh.specs.{Darts.darts, HalfEdges.half_edges}
-use Rattle.def_cut.specs.FullCut.{is_on}
 use Rattle.def_merge.specs.{Merged.Steps, Beside.may_beside}
-use Rattle.def_known.specs.Cutting.{IsCutting}
 use Rattle.qm_merge.specs.{Links.AreTied, Waiting.AreBelow, Waiting.FreeWait, Waiting.left_over}
+use Rattle.{std.proofs.Common.ℕ, def_cut.specs.FullCut.is_on, def_known.specs.Cutting.IsCutting}
 use Rattle.qm_merge.proofs.merged.merge_all.Given as goal
 
 abbrev pub decreases-loop-name : goal.decreases-loop-name

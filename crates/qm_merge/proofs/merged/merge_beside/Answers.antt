@@ -1,8 +1,6 @@
-use Rattle.std.proofs.Common.{rules, ◌≡◌}
-use Rattle.qm_grid.proofs.Cuttings.{to_cutting}
-use Rattle.qm_merge.proofs.merged.merge_beside.Goals as goal
+use Rattle.{std.proofs.Common.rules, std.proofs.Common.◌≡◌, qm_grid.proofs.Laid.to_cutting}
 
-pub merge_all-requires : goal.merge_all-requires
+pub merge_all-requires : Rattle.qm_merge.proofs.merged.merge_beside.Goals.merge_all-requires
 merge_all-requires c =
     let same : c.deref_mut.result.now ≡ c.args.graph.now.covered.items = search rules in
     record {

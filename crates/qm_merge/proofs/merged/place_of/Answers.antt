@@ -1,5 +1,4 @@
-use Rattle.std.proofs.Common.{arith}
-use Rattle.qm_merge.proofs.{Linked.read_at, Names.seam_name}
+use Rattle.{std.proofs.Common.arith, qm_merge.proofs.Linked.read_at, qm_merge.proofs.Names.seam_name}
 use Rattle.qm_merge.proofs.merged.place_of.Goals as goal
 
 pub returns-in_default-clause-none : goal.returns-in_default-clause-none

@@ -1,7 +1,6 @@
 use Rattle.std.proofs.{Common.ℕ, Common.subst, Common.inl, Common.inr, Common.arith, lemmas.Bool.cases_eq}
-use Rattle.def_mesh.specs.HalfEdges.{half_edges}
-use Rattle.def_cut.specs.FullCut.{is_on}
 use Rattle.def_merge.specs.Joins.{IsJoinable, IsNameOf}
+use Rattle.{def_mesh.specs.HalfEdges.half_edges, def_cut.specs.FullCut.is_on}
 use Rattle.qm_merge.proofs.waiting.all_names.Goals as goal
 
 pub loop-d-preserved : goal.loop-d-preserved

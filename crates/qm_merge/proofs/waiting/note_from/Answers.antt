@@ -1,7 +1,6 @@
 use Rattle.std.proofs.Common.{◌≡◌, ◌<◌, length, arith}
-use Rattle.def_mesh.specs.Darts.{darts}
-use Rattle.merge_laws.proofs.ArcDarts.{on_low}
 use Rattle.qm_merge.proofs.{Linked.starts_set, Names.few_more, Names.noted_new, Names.noted_still, Names.put_below}
+use Rattle.{def_mesh.specs.Darts.darts, merge_laws.proofs.Joins.on_low}
 use Rattle.qm_merge.proofs.waiting.note_from.Goals as goal
 
 pub index_mut-requires : goal.index_mut-requires

@@ -1,8 +1,6 @@
 use Rattle.std.proofs.Common.{ℕ, ◌<◌, List, length, ap, set, ◌++◌, ◌∷◌, [], arith}
 use Rattle.std.proofs.lemmas.List.{map-set, length-map}
-use Rattle.smallvec.specs.SmallVec.{SmallVec}
-use Rattle.qm_mesh.specs.Tables.{fan_lists}
-use Rattle.qm_mesh.proofs.Vertices.{fan_read}
+use Rattle.{smallvec.specs.SmallVec.SmallVec, qm_mesh.specs.Tables.fan_lists, qm_mesh.proofs.Vertices.fan_read}
 
 pub returns : Rattle.qm_mesh.proofs.fans.add.Goals.returns
 returns c =

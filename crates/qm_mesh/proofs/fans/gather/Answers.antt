@@ -1,5 +1,4 @@
-use Rattle.std.proofs.Common.{◌<◌, arith}
-use Rattle.qm_mesh.proofs.Vertices.{hold_more}
+use Rattle.{std.proofs.Common.◌<◌, std.proofs.Common.arith, qm_mesh.proofs.Vertices.hold_more}
 
 pub loop-d-preserved : Rattle.qm_mesh.proofs.fans.gather.Goals.loop-d-preserved
 loop-d-preserved c =

@@ -1,5 +1,5 @@
 use Rattle.std.proofs.Common.{arith}
-use Rattle.qm_mesh.proofs.{Corners.refused_result, Corners.refused_place, Vertices.below_from, Vertices.corners_from}
+use Rattle.qm_mesh.proofs.{Corners.refused_place, Vertices.below_from, Vertices.corners_from}
 use Rattle.qm_mesh.proofs.manifold.build.Goals as goal
 
 pub returns-clause-place : goal.returns-clause-place

@@ -1,6 +1,5 @@
 use Rattle.std.proofs.{Common.◌≡◌, Common.ℕ, Common.length, Common.ap, Common.arith, lemmas.List.length-map}
-use Rattle.smallvec.specs.SmallVec.{SmallVec}
-use Rattle.qm_mesh.proofs.Vertices.{count_is}
+use Rattle.{smallvec.specs.SmallVec.SmallVec, qm_mesh.proofs.Vertices.count_is}
 use Rattle.qm_mesh.proofs.manifold.checked_mesh.Goals as goal
 
 pub from_tables-requires : goal.from_tables-requires

@@ -1,5 +1,4 @@
-use Rattle.std.proofs.Common.{ℕ, ◌<◌, get_or}
-use Rattle.qm_mesh.specs.Turns.{IsSeen}
+use Rattle.{std.proofs.Common.ℕ, std.proofs.Common.◌<◌, std.proofs.Common.get_or, qm_mesh.specs.Turns.IsSeen}
 
 -- The darts so far are marked.
 abbrev pub invariant-loop-d : Rattle.qm_mesh.proofs.one_fan.are_seen.Given.invariant-loop-d

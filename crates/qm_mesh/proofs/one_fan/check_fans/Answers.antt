@@ -1,9 +1,8 @@
 use Rattle.std.proofs.Common.{◌≡◌, length, ◌<◌, ap, ◌∙◌, arith}
-use Rattle.def_mesh.specs.Vertices.{fan_of}
-use Rattle.qm_mesh.proofs.Vertices.{fan_found}
 use Rattle.qm_mesh.proofs.OneFan.{IsVisited, not_seen, checked_more, two_fans_first, one_fan_all}
-use Rattle.qm_mesh.proofs.one_fan.check_fans.Goals.{After-as_slice, After-is_one_fan}
-use Rattle.mesh_laws.proofs.Fans.{IsFan, is_fan}
+use Rattle.qm_mesh.proofs.{Vertices.fan_found, one_fan.check_fans.Goals.After-as_slice}
+use Rattle.qm_mesh.proofs.{one_fan.check_fans.Goals.After-is_one_fan}
+use Rattle.{def_mesh.specs.Vertices.fan_of, mesh_laws.proofs.Chains.IsFan, mesh_laws.proofs.Chains.is_fan}
 use Rattle.qm_mesh.proofs.one_fan.check_fans.Goals as goal
 
 -- The darts are those of the vertex, and there is one.

@@ -1,5 +1,4 @@
-use Rattle.std.proofs.Common.{◌≡◌}
-use Rattle.qm_mesh.proofs.OneFan.{AreChecked}
+use Rattle.{std.proofs.Common.◌≡◌, qm_mesh.proofs.OneFan.AreChecked}
 
 -- The vertices before v have one fan each, and only their corners are marked.
 abbrev pub invariant-loop-v : Rattle.qm_mesh.proofs.one_fan.check_fans.Given.invariant-loop-v

@@ -1,5 +1,4 @@
-use Rattle.std.proofs.Common.{arith}
-use Rattle.qm_mesh.proofs.Corners.{repeat_free_from}
+use Rattle.{std.proofs.Common.arith, qm_mesh.proofs.Corners.repeat_free_from}
 
 pub returns-clause-ok : Rattle.qm_mesh.proofs.repeats.check_repeats.Goals.returns-clause-ok
 returns-clause-ok c =

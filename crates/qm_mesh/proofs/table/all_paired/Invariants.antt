@@ -1,6 +1,5 @@
 use Rattle.std.proofs.Common.{ℕ, ◌<◌, get_or}
-use Rattle.def_mesh.specs.Darts.{prev_of}
-use Rattle.qm_mesh.specs.Pairs.{IsPaired}
+use Rattle.{def_mesh.specs.Darts.prev_of, qm_mesh.specs.Pairs.IsPaired}
 
 -- The corners so far have both twins.
 abbrev pub invariant-loop-d : Rattle.qm_mesh.proofs.table.all_paired.Given.invariant-loop-d

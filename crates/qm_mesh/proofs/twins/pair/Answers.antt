@@ -1,7 +1,6 @@
 use Rattle.std.proofs.Common.{ℕ, List, arith, ◌≡◌, ◌++◌, take, drop, length, sym, subst, inl, inr, refl}
 use Rattle.std.proofs.{Math.Seq.take-append_seam, lemmas.Bool.cases_order}
-use Rattle.qm_mesh.proofs.Vertices.{end_low}
-use Rattle.qm_mesh.specs.Pairs.{ArePartners}
+use Rattle.{qm_mesh.proofs.Vertices.end_low, qm_mesh.specs.Pairs.ArePartners}
 use Rattle.qm_mesh.proofs.twins.pair.Goals as goal
 
 -- What was lent whole comes back whole.

@@ -1,7 +1,5 @@
 use Rattle.std.proofs.Common.{◌∙◌, arith, inl, inr}
-use Rattle.def_mesh.specs.Darts.{to_of}
-use Rattle.list_laws.proofs.Filters.{last_or}
-use Rattle.qm_mesh.proofs.Marks.{lesser_first}
+use Rattle.{def_mesh.specs.Darts.to_of, list_laws.proofs.Filters.last_or, qm_mesh.proofs.Marks.lesser_first}
 
 pub loop-v-preserved : Rattle.qm_mesh.proofs.twins.pair_all.Goals.loop-v-preserved
 loop-v-preserved c =

@@ -1,5 +1,4 @@
-use Rattle.std.proofs.Common.{◌≡◌}
-use Rattle.qm_mesh.specs.Pairs.{IsPairing}
+use Rattle.{std.proofs.Common.◌≡◌, qm_mesh.specs.Pairs.IsPairing}
 
 -- All vertices below v have been taken.
 abbrev pub invariant-loop-v : Rattle.qm_mesh.proofs.twins.pair_all.Given.invariant-loop-v

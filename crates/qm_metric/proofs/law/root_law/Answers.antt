@@ -1,2 +1,2 @@
 pub returns : Rattle.qm_metric.proofs.law.root_law.Goals.returns
-returns c = Rattle.qm_metric.proofs.RootLaws.root_law
+returns c = Rattle.qm_metric.proofs.StartLaws.root_law

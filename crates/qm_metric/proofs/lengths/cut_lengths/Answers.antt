@@ -1,12 +1,10 @@
 use Rattle.std.proofs.Common.{◌≡◌, ◌<◌, ℕ, List, replicate, sym, ap, ◌∙◌, subst}
 use Rattle.std.proofs.lemmas.List.{with_items_is}
-use Rattle.std.specs.List.{All}
 use Rattle.def_layout.specs.{Arcs.AreArcs, Layouts.Layout, declared.tmesh.TArc.TArc, Nodes.is_node}
-use Rattle.def_cut.specs.FullCut.{is_on}
 use Rattle.def_mesh.specs.{Darts.darts, Faces.Faces, HalfEdges.half_edges, Manifold.IsManifold}
-use Rattle.mesh_laws.proofs.HalfEdges.{manifold_law}
-use Rattle.qm_metric.specs.Lengths.{with_arcs}
-use Rattle.qm_metric.proofs.{CutTables.filled_is, Reading.runs_inside, lengths.cut_lengths.Goals.After-deref}
+use Rattle.mesh_laws.proofs.Chains.{manifold_law}
+use Rattle.qm_metric.proofs.{CutTables.filled_is, Nets.runs_inside, lengths.cut_lengths.Goals.After-deref}
+use Rattle.{std.specs.List.All, def_cut.specs.FullCut.is_on, qm_metric.specs.Lengths.with_arcs}
 use Rattle.qm_metric.proofs.lengths.cut_lengths.Goals as goal
 
 -- The darts of the arcs are darts of the mesh.

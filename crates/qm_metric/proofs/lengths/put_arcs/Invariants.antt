@@ -1,7 +1,5 @@
 use Rattle.std.proofs.Common.{◌≡◌, ◌<◌, ◌^◌, length, take}
-use Rattle.std.specs.List.{All}
-use Rattle.def_mesh.specs.Darts.{darts}
-use Rattle.qm_metric.specs.Lengths.{with_arcs}
+use Rattle.{std.specs.List.All, def_mesh.specs.Darts.darts, qm_metric.specs.Lengths.with_arcs}
 
 abbrev pub invariant-loop-arc : Rattle.qm_metric.proofs.lengths.put_arcs.Given.invariant-loop-arc
 invariant-loop-arc l = record {

@@ -1,7 +1,5 @@
 use Rattle.std.proofs.Common.{◌≡◌, ◌<◌, ◌^◌, length, take}
-use Rattle.std.specs.List.{All}
-use Rattle.def_mesh.specs.Darts.{darts}
-use Rattle.qm_metric.specs.Lengths.{with_path}
+use Rattle.{std.specs.List.All, def_mesh.specs.Darts.darts, qm_metric.specs.Lengths.with_path}
 
 abbrev pub invariant-loop-dart : Rattle.qm_metric.proofs.lengths.put_path.Given.invariant-loop-dart
 invariant-loop-dart l = record {

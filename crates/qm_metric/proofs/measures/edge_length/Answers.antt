@@ -1,6 +1,5 @@
 use Rattle.std.proofs.Common.{◌∙◌, ap}
-use Rattle.def_metric.specs.Roots.{root_of}
-use Rattle.qm_metric.proofs.RootLaws.{root_small}
+use Rattle.{def_metric.specs.Roots.root_of, qm_metric.proofs.StartLaws.root_small}
 use Rattle.qm_metric.proofs.measures.edge_length.Goals as goal
 
 pub returns-clause-value : goal.returns-clause-value

@@ -1,6 +1,4 @@
-use Rattle.std.proofs.Common.{arith}
-use Rattle.def_metric.specs.Targets.{edge_length}
-use Rattle.table_laws.proofs.Ranges.{count_take}
+use Rattle.{std.proofs.Common.arith, def_metric.specs.Targets.edge_length, table_laws.proofs.Ranges.count_take}
 
 pub loop-dart-preserved : Rattle.qm_metric.proofs.measures.measure_of.Goals.loop-dart-preserved
 loop-dart-preserved c =

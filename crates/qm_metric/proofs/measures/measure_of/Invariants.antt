@@ -1,6 +1,5 @@
 use Rattle.std.proofs.Common.{◌≡◌, ◌*◌, ◌^◌, ◌≤◌, take}
-use Rattle.def_math.specs.Counts.{count}
-use Rattle.def_metric.specs.Targets.{edge_length}
+use Rattle.{def_math.specs.Counts.count, def_metric.specs.Targets.edge_length}
 
 abbrev pub invariant-loop-dart : Rattle.qm_metric.proofs.measures.measure_of.Given.invariant-loop-dart
 invariant-loop-dart l = record {

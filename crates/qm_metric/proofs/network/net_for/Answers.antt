@@ -1,14 +1,11 @@
 use Rattle.std.proofs.Common.{length, sym, ap, subst, arith}
-use Rattle.def_certtext.specs.Risings.{rounds_if}
 use Rattle.def_fit.specs.Aims.{aimed, fit_settings, IsFitFail}
-use Rattle.def_flow.specs.Network.{network}
-use Rattle.def_layout.specs.Layouts.{layout_of, Layout}
-use Rattle.def_layoutnet.specs.MeshLayouts.{IsSomeLayout}
 use Rattle.def_metric.specs.Fails.{metric_fail_of, size_fail_of}
-use Rattle.error_laws.proofs.Errors.{handed}
-use Rattle.qm_layoutnet.proofs.Whole.{runs_short}
-use Rattle.qm_metric.proofs.Nets.{are_found, few_arcs, no_net, settings_fit, AreFound}
-use Rattle.qm_metric.proofs.{Reading.runs_inside, network.net_for.Goals.After-deref, network.net_for.Goals.In_ok-sums}
+use Rattle.qm_metric.proofs.Nets.{are_found, few_arcs, no_net, settings_fit, AreFound, runs_inside}
+use Rattle.qm_metric.proofs.network.net_for.Goals.{After-deref, In_ok-sums}
+use Rattle.{def_certtext.specs.Risings.rounds_if, def_flow.specs.Network.network, def_layout.specs.Layouts.layout_of}
+use Rattle.{def_layout.specs.Layouts.Layout, def_layoutnet.specs.MeshLayouts.IsSomeLayout}
+use Rattle.{error_laws.proofs.Errors.handed, qm_layoutnet.proofs.Whole.runs_short}
 use Rattle.qm_metric.proofs.network.net_for.Goals as goal
 
 pub net_of-requires-clause-layout : goal.net_of-requires-clause-layout

@@ -1,5 +1,5 @@
 -- The root is the one that is computed digit by digit.
-use Rattle.qm_metric.proofs.RootLaws.{root_law}
+use Rattle.qm_metric.proofs.StartLaws.{root_law}
 use Rattle.qm_metric.proofs.roots.root.Goals as goal
 
 pub returns-in-Some-clause-value : goal.returns-in-Some-clause-value

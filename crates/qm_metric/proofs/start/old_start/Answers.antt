@@ -1,9 +1,7 @@
 use Rattle.std.proofs.Common.{◌<◌, ◌*◌, ◌^◌, List, length, map, sym, ◌∙◌, ap, subst}
 use Rattle.std.proofs.lemmas.Result.{IfOk-weaker}
-use Rattle.std.specs.List.{All}
 use Rattle.def_layout.specs.declared.tmesh.TArc.{TArc}
-use Rattle.qm_layoutnet.proofs.Whole.{runs_short}
-use Rattle.qm_metric.proofs.Reading.{times_same}
+use Rattle.{std.specs.List.All, qm_layoutnet.proofs.Whole.runs_short, qm_metric.proofs.Nets.times_same}
 use Rattle.qm_metric.proofs.start.old_start.Goals as goal
 
 pub times_long-requires : goal.times_long-requires

@@ -1,9 +1,6 @@
 use Rattle.std.proofs.Common.{◌≡◌, ◌-◌, ◌^◌, ℕ, get_or, ap, ◌∙◌, arith}
-use Rattle.std.specs.Prelude.{min}
-use Rattle.def_layout.specs.declared.tmesh.TArc.{TArc}
-use Rattle.qm_metric.specs.Wishes.{wish_along}
-use Rattle.table_laws.proofs.Ranges.{count_take}
-use Rattle.qm_metric.proofs.Reading.{entry_more}
+use Rattle.{std.specs.Prelude.min, def_layout.specs.declared.tmesh.TArc.TArc, qm_metric.specs.Wishes.wish_along}
+use Rattle.{table_laws.proofs.Ranges.count_take, qm_metric.proofs.Nets.entry_more}
 
 pub loop-run-preserved : Rattle.qm_metric.proofs.sums.sums_of.Goals.loop-run-preserved
 loop-run-preserved c =

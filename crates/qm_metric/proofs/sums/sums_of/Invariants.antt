@@ -1,8 +1,6 @@
 use Rattle.std.proofs.Common.{◌≡◌, ◌-◌, ◌*◌, ◌^◌, ◌≤◌, map, take}
-use Rattle.std.specs.Prelude.{min}
-use Rattle.def_math.specs.Counts.{count}
 use Rattle.def_layout.specs.declared.tmesh.TArc.{TArc}
-use Rattle.qm_metric.specs.Wishes.{wish_along}
+use Rattle.{std.specs.Prelude.min, def_math.specs.Counts.count, qm_metric.specs.Wishes.wish_along}
 
 abbrev pub invariant-loop-run : Rattle.qm_metric.proofs.sums.sums_of.Given.invariant-loop-run
 invariant-loop-run l = record {

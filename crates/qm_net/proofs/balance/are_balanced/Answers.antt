@@ -1,9 +1,6 @@
-use Rattle.std.proofs.Common.{refl}
-use Rattle.def_flow.specs.Network.{network}
-use Rattle.qm_net.proofs.Balances.{balanced_everywhere}
-use Rattle.qm_net.proofs.balance.are_balanced.Goals as goal
+use Rattle.{std.proofs.Common.refl, def_flow.specs.Network.network, qm_net.proofs.Balances.balanced_everywhere}
 
-pub returns : goal.returns
+pub returns : Rattle.qm_net.proofs.balance.are_balanced.Goals.returns
 returns c =
     let lengths = c.args.lengths.now in (
       λ on. balanced_everywhere (network lengths.net.whole.now) lengths.net.bounds lengths.x.now c.loop-first.first

@@ -1,6 +1,6 @@
-use Rattle.std.proofs.Common.{◌≡◌, ◌≤◌, ◌^◌, length, slice_index, refl, sym, ◌∙◌, arith}
+use Rattle.std.proofs.Common.{◌≡◌, length, refl, sym, ◌∙◌, arith}
 use Rattle.qm_net.specs.Balance.{AreBalances}
-use Rattle.qm_net.proofs.Balances.{balanced_by_zeros, balances_more, balances_none, zeros_by_balanced}
+use Rattle.qm_net.proofs.Balances.{balanced_by_zeros, balances_none, zeros_by_balanced}
 use Rattle.qm_net.proofs.balance.is_block_balanced.Goals as goal
 
 pub loop-k-init : goal.loop-k-init

@@ -1,6 +1,5 @@
 use Rattle.std.proofs.Common.{false, None, arith}
-use Rattle.def_flow.specs.declared.net.Arc.{Arc}
-use Rattle.qm_net.proofs.Ends.{degrees_few, degrees_more}
+use Rattle.{def_flow.specs.declared.net.Arc.Arc, qm_net.proofs.Ends.degrees_few, qm_net.proofs.Ends.degrees_more}
 use Rattle.qm_net.proofs.tangle.count_ends.Goals as goal
 
 abbrev no_arc : Arc

@@ -1,8 +1,6 @@
 use Rattle.std.proofs.Common.{◌≡◌, ◌*◌, List, ℕ, length, refl, ◌∙◌, ap, arith}
-use Rattle.std.specs.Prelude.{slice_index}
-use Rattle.def_math.specs.Counts.{count_below}
-use Rattle.def_flow.specs.Network.{Network, network}
-use Rattle.qm_net.proofs.Ends.{degrees_low, squares}
+use Rattle.{std.specs.Prelude.slice_index, def_math.specs.Counts.count_below, def_flow.specs.Network.Network}
+use Rattle.{def_flow.specs.Network.network, qm_net.proofs.Ends.degrees_low, qm_net.proofs.Ends.squares}
 use Rattle.qm_net.proofs.tangle.sum_of_squares.Goals as goal
 
 pub loop-degree-init : goal.loop-degree-init

@@ -1,8 +1,7 @@
 use Rattle.std.proofs.Common.{ℕ, ◌≡◌, ◌*◌, ◌^◌, ◌≤◌, slice_index}
 use Rattle.def_math.specs.Counts.{count_below}
-use Rattle.qm_net.proofs.tangle.sum_of_squares.Given as goal
 
-abbrev pub invariant-loop-degree : goal.invariant-loop-degree
+abbrev pub invariant-loop-degree : Rattle.qm_net.proofs.tangle.sum_of_squares.Given.invariant-loop-degree
 invariant-loop-degree l =
     let degrees = l.degrees.at.items in
     record {

@@ -1,10 +1,11 @@
-use Rattle.def_text.specs.declared.reading.{Reading.TheVariants.Face, Reading.TheVariants.Refused}
+use Rattle.std.proofs.{Common.arith, Common.true, Common.ap, Common.map, Common.sym, Common.◌∙◌, Common.◌≡◌}
+use Rattle.std.proofs.{lemmas.Bool.eq-eqb, lemmas.Bool.ne_eqb, lemmas.List.take_all}
+use Rattle.def_text.specs.{declared.reading.Reading.TheVariants.Face, declared.reading.Reading.TheVariants.Refused}
 use Rattle.def_text.specs.{Corner.is_corner_word, Words.words, declared.refusal.ObjFail.TheVariants.NotQuad}
-use Rattle.qm_obj.proofs.LineLemmas.{face_count, face_in, face_out, face_syntax}
 use Rattle.qm_obj.proofs.WordLemmas.{AreRead, all_read, fewer_left, next_read, read_bad, read_more, words_short}
-use Rattle.qm_obj.{proofs.line.read_face.Goals.After-is_empty, specs.Indices.corner_of, specs.Lines.uncommented}
-use Rattle.std.proofs.{Common.arith, Common.true, lemmas.Bool.eq-eqb, lemmas.Bool.ne_eqb, lemmas.List.take_all}
-use Rattle.std.proofs.{Common.ap, Common.map, Common.sym, Common.◌∙◌, Common.◌≡◌}
+use Rattle.qm_obj.proofs.{FeedLemmas.face_count, FeedLemmas.face_in, FeedLemmas.face_out, FeedLemmas.face_syntax}
+use Rattle.qm_obj.proofs.{line.read_face.Goals.After-is_empty}
+use Rattle.qm_obj.specs.{Indices.corner_of, Lines.uncommented}
 use Rattle.qm_obj.proofs.line.read_face.Goals as goal
 
 pub words-smaller : goal.words-smaller

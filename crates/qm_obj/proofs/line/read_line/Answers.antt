@@ -1,9 +1,9 @@
 use Rattle.std.proofs.Common.{arith, false, ltb, refl, sym, true, ◌∙◌, ◌≡◌}
-use Rattle.{def_text.specs.Reading.is_letter, qm_obj.proofs.WordLemmas.by_first_word, qm_obj.specs.Lines.uncommented}
-use Rattle.{def_text.specs.Words.words, std.proofs.lemmas.Bool.le-ltb}
-use Rattle.qm_obj.proofs.line.read_line.Goals as goal
+use Rattle.std.proofs.lemmas.Bool.{le-ltb}
+use Rattle.def_text.specs.{Reading.is_letter, Words.words}
+use Rattle.{qm_obj.proofs.WordLemmas.by_first_word, qm_obj.specs.Lines.uncommented}
 
-pub returns-then-is_one : goal.returns-then-is_one
+pub returns-then-is_one : Rattle.qm_obj.proofs.line.read_line.Goals.returns-then-is_one
 returns-then-is_one c =
     let fits : ltb 65536 c.args.size ≡ false = le-ltb _ _ (omega arith) in
     let vertex : is_letter 118 c.next_word.result.0.now ≡ true = sym c.is_one.ensures ∙ c.if-is_one.true in

@@ -1,10 +1,11 @@
-use Rattle.def_text.{specs.Decimal.is_decimal, specs.Reading.is_position_count, specs.Words.words}
-use Rattle.qm_obj.proofs.LineLemmas.{position_words, vertex_far, vertex_position, vertex_syntax}
-use Rattle.qm_obj.proofs.WordLemmas.{AreRead, all_read, fewer_left, next_read, read_bad, read_more, words_short}
-use Rattle.qm_obj.{proofs.line.read_vertex.Goals.After-is_empty, specs.Positions.all_near, specs.Positions.coordinate}
 use Rattle.std.proofs.Common.{ap, arith, length, map, sym, take, true, ◌&&◌, ◌∙◌, ◌≡◌}
-use Rattle.std.proofs.{lemmas.Bool.and_from, lemmas.Bool.and_left, lemmas.Bool.and_right}
-use Rattle.{qm_obj.specs.Lines.uncommented, std.specs.List.list_all}
+use Rattle.std.proofs.lemmas.Bool.{and_from, and_left, and_right}
+use Rattle.std.specs.List.{list_all}
+use Rattle.def_text.specs.{Decimal.is_decimal, Reading.is_position_count, Words.words}
+use Rattle.qm_obj.proofs.FeedLemmas.{position_words, vertex_far, vertex_position, vertex_syntax}
+use Rattle.qm_obj.proofs.WordLemmas.{AreRead, all_read, fewer_left, next_read, read_bad, read_more, words_short}
+use Rattle.qm_obj.proofs.line.read_vertex.Goals.{After-is_empty}
+use Rattle.qm_obj.specs.{Positions.all_near, Positions.coordinate, Lines.uncommented}
 use Rattle.qm_obj.proofs.line.read_vertex.Goals as goal
 
 pub words-smaller : goal.words-smaller

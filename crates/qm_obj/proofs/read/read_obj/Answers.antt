@@ -1,5 +1,5 @@
-use Rattle.qm_obj.proofs.{KeptLemmas.finished_few, KeptLemmas.finished_refused, KeptLemmas.finished_soup}
-use Rattle.qm_obj.proofs.{RangeLemmas.at_end, RangeLemmas.at_next, RangeLemmas.at_refused, RangeLemmas.at_start}
+use Rattle.qm_obj.proofs.{KeptLemmas.finished_few, KeptLemmas.finished_refused, KeptLemmas.finished_soup, Groups.at_end}
+use Rattle.qm_obj.proofs.{Groups.at_next, Groups.at_refused, Groups.at_start}
 use Rattle.{def_io.specs.Lines.lines_of, error_laws.proofs.Errors.handed}
 use Rattle.qm_obj.proofs.read.read_obj.Goals as goal
 

@@ -1,4 +1,4 @@
-use Rattle.{def_io.specs.Lines.lines_of, qm_obj.proofs.RangeLemmas.IsAt, std.proofs.Common.◌-◌}
+use Rattle.{std.proofs.Common.◌-◌, def_io.specs.Lines.lines_of, qm_obj.proofs.Groups.IsAt}
 use Rattle.qm_obj.proofs.read.read_obj.Given as goal
 
 abbrev pub invariant-loop-i : goal.invariant-loop-i

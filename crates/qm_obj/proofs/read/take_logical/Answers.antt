@@ -1,8 +1,8 @@
-use Rattle.qm_obj.proofs.{JoinLemmas.same_refused, JoinLemmas.single_logical, read.take_logical.Goals.After-goes_on}
-use Rattle.qm_obj.{proofs.JoinLemmas.same_took, proofs.Ranges.single_span, specs.Lines.first_logical}
-use Rattle.std.proofs.Common.{ap, false, length, sym, ◌+◌, ◌∙◌, ◌≡◌}
-use Rattle.{def_io.specs.Lines.lines_of, error_laws.proofs.Errors.handed, std.specs.Prelude.slice_range}
-use Rattle.{qm_obj.specs.Lines.line_as}
+use Rattle.std.proofs.Common.{false, length, sym, ◌+◌, ◌∙◌, ◌≡◌}
+use Rattle.qm_obj.proofs.{JoinLemmas.same_refused, JoinLemmas.single_logical, JoinLemmas.same_took}
+use Rattle.qm_obj.proofs.{read.take_logical.Goals.After-goes_on}
+use Rattle.qm_obj.specs.Lines.{first_logical, line_as}
+use Rattle.{std.specs.Prelude.slice_range, def_io.specs.Lines.lines_of, error_laws.proofs.Errors.handed}
 use Rattle.qm_obj.proofs.read.take_logical.Goals as goal
 
 -- The line that is read is the first logical one.

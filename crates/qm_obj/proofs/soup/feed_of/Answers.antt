@@ -1,6 +1,6 @@
-use Rattle.qm_obj.proofs.{InputLemmas.fed_more, InputLemmas.fed_whole, InputLemmas.gave_beyond}
-use Rattle.std.proofs.{Common.Err, Common.ap, Common.arith, Common.◌+◌, Common.◌-◌, Common.◌∙◌, Common.◌≡◌}
-use Rattle.{error_laws.proofs.Errors.same_error, std.specs.List.length_refill}
+use Rattle.std.proofs.Common.{Err, ap, arith, ◌+◌, ◌-◌, ◌∙◌, ◌≡◌}
+use Rattle.qm_obj.proofs.FeedLemmas.{fed_more, fed_whole, gave_beyond}
+use Rattle.{std.specs.List.length_refill, error_laws.proofs.Errors.same_error}
 use Rattle.qm_obj.proofs.soup.feed_of.Goals as goal
 
 pub returns-in_err-count-clause-too_long : goal.returns-in_err-count-clause-too_long

@@ -1,4 +1,4 @@
-use Rattle.{def_text.specs.Input.IsSoupFail, error_laws.proofs.Errors.handed, qm_obj.proofs.InputLemmas.refused}
+use Rattle.{def_text.specs.Input.IsSoupFail, error_laws.proofs.Errors.handed, qm_obj.proofs.FeedLemmas.refused}
 use Rattle.qm_obj.proofs.soup.read_soup.Goals as goal
 
 pub returns-clause-soup : goal.returns-clause-soup

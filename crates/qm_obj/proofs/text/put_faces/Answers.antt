@@ -1,8 +1,7 @@
 use Rattle.def_text.specs.Canonical.{face_text}
-use Rattle.qm_output.proofs.{Prefixes.of_error, Lists.stops_at_item}
-use Rattle.qm_obj.proofs.text.put_faces.Goals as goal
+use Rattle.qm_output.proofs.Prefixes.{of_error, stops_at_item}
 
-pub returns-in_err-put_face-clause-part : goal.returns-in_err-put_face-clause-part
+pub returns-in_err-put_face-clause-part : Rattle.qm_obj.proofs.text.put_faces.Goals.returns-in_err-put_face-clause-part
 returns-in_err-put_face-clause-part g c =
     let laws = g.met.T.Output in
     of_error c.from_residual.result

@@ -1,5 +1,5 @@
-use Rattle.def_text.specs.{Canonical.position_text}
-use Rattle.qm_output.proofs.{Prefixes.of_error, Lists.stops_at_item}
+use Rattle.def_text.specs.Canonical.{position_text}
+use Rattle.qm_output.proofs.Prefixes.{of_error, stops_at_item}
 use Rattle.qm_obj.proofs.text.put_positions.Goals as goal
 
 pub returns-in_err-put_position-clause-part : goal.returns-in_err-put_position-clause-part

@@ -1,10 +1,11 @@
-use Rattle.qm_obj.proofs.used.keep_marked.{Goals.else-marks-k, Goals.then-marks-k+in_ok-keep_position}
-use Rattle.qm_obj.{proofs.UsedLemmas.kept_mark, proofs.UsedLemmas.kept_skip, specs.Kept.chosen}
 use Rattle.std.proofs.Common.{[], ap, arith, below_more, get_or, length, ◌++◌, ◌+◌, ◌∙◌, ◌∷◌, ◌≡◌}
-use Rattle.std.proofs.lemmas.{Grind.common_steps, List.get_or_append_left, List.get_or_push, List.length_push}
-use Rattle.qm_obj.proofs.used.keep_marked.Goals as goal
+use Rattle.std.proofs.{lemmas.Grind.common_steps, lemmas.List.get_or_append_left, lemmas.List.get_or_push}
+use Rattle.std.proofs.{lemmas.List.length_push}
+use Rattle.qm_obj.proofs.used.keep_marked.Goals.{else-marks-k, then-marks-k+in_ok-keep_position}
+use Rattle.qm_obj.proofs.SoupLemmas.{kept_mark, kept_skip}
+use Rattle.qm_obj.specs.Kept.{chosen}
 
-pub loop-k-preserved : goal.loop-k-preserved
+pub loop-k-preserved : Rattle.qm_obj.proofs.used.keep_marked.Goals.loop-k-preserved
 loop-k-preserved c =
     let pushed : c.push.new.self.items ≡ c.loop-k.vertices.items ++ length c.loop-k.names.items ∷ [] =
     grind (arith, common_steps) in

@@ -1,8 +1,7 @@
 use Rattle.std.proofs.Common.{◌≡◌, ◌<◌, ℕ, length, get_or}
 use Rattle.qm_obj.specs.Kept.{chosen, IsKept}
-use Rattle.qm_obj.proofs.used.keep_marked.Given as goal
 
-abbrev pub invariant-loop-k : goal.invariant-loop-k
+abbrev pub invariant-loop-k : Rattle.qm_obj.proofs.used.keep_marked.Given.invariant-loop-k
 invariant-loop-k l = record {
   kept : IsKept l.marks l.initial.positions.items l.positions.items l.names.items l.k;
   count : length l.vertices.items ≡ l.k;

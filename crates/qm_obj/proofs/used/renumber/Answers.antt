@@ -1,7 +1,8 @@
-use Rattle.qm_obj.proofs.ListLemmas.{at_back, back_more, mapped_more, passes_at}
 use Rattle.std.proofs.Common.{ap, arith, get_or, length, map, ◌-◌, ◌<◌, ◌∙◌, ◌≡◌}
-use Rattle.{qm_obj.proofs.used.renumber.Goals.After-index, std.proofs.lemmas.List.length-set}
-use Rattle.{qm_obj.specs.Kept.are_numbers}
+use Rattle.std.proofs.lemmas.List.{length-set}
+use Rattle.qm_obj.proofs.{TailLemmas.at_back, TailLemmas.back_more, TailLemmas.mapped_more, TailLemmas.passes_at}
+use Rattle.qm_obj.proofs.{used.renumber.Goals.After-index}
+use Rattle.qm_obj.specs.Kept.{are_numbers}
 use Rattle.qm_obj.proofs.used.renumber.Goals as goal
 
 -- The face is still the one that it was.

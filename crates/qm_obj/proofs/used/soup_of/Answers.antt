@@ -1,5 +1,5 @@
-use Rattle.qm_obj.proofs.{SoupLemmas.face_set_is_soup, UsedLemmas.made_of, used.soup_of.Goals.After-renumber}
-use Rattle.{def_text.specs.Text.face_set, qm_obj.specs.Kept.IsMarked, std.proofs.Common.length, std.proofs.Common.◌≡◌}
+use Rattle.qm_obj.proofs.{SoupLemmas.face_set_is_soup, SoupLemmas.made_of, used.soup_of.Goals.After-renumber}
+use Rattle.{std.proofs.Common.length, std.proofs.Common.◌≡◌, def_text.specs.Text.face_set, qm_obj.specs.Kept.IsMarked}
 use Rattle.qm_obj.proofs.used.soup_of.Goals as goal
 
 -- What is kept and renumbered is the soup.

@@ -1,7 +1,5 @@
 use Rattle.std.proofs.Common.{◌≡◌, ◌-◌, length, get_or, refl, arith}
-use Rattle.std.specs.Prelude.{slice_index}
-use Rattle.def_remesh.specs.NewPoints.{lengths_in}
-use Rattle.qm_offsets.proofs.Spots.{next_room}
+use Rattle.{std.specs.Prelude.slice_index, def_remesh.specs.NewPoints.lengths_in, qm_offsets.proofs.Spots.next_room}
 use Rattle.qm_offsets.proofs.lengths.inner_points.Goals as goal
 
 pub push_start-requires-clause-small : goal.push_start-requires-clause-small

@@ -1,5 +1,4 @@
 use Rattle.std.proofs.Common.{◌≡◌, take}
-use Rattle.qm_offsets.proofs.lengths.short_lengths.Given as goal
 
-abbrev pub invariant-loop-length : goal.invariant-loop-length
+abbrev pub invariant-loop-length : Rattle.qm_offsets.proofs.lengths.short_lengths.Given.invariant-loop-length
 invariant-loop-length l = l.short.items ≡ take l.length-index l.lengths

@@ -1,10 +1,8 @@
 use Rattle.std.proofs.Common.{◌≡◌, suc, ◌^◌, ◌∙◌, ◌+◌, ◌-◌, ◌<◌, ◌≤◌, ℕ, true, false, List, length, get_or, ap, arith}
 use Rattle.std.proofs.lemmas.List.{get_or_default}
-use Rattle.std.specs.Prelude.{slice_index}
-use Rattle.def_math.specs.Counts.{count_below}
 use Rattle.def_layout.specs.declared.tmesh.SideArc.{SideArc}
 use Rattle.def_remesh.specs.{NewPoints.lengths_in, Numberings.sizes_on, Numberings.AreRunStarts}
-use Rattle.written_laws.proofs.Runs.{count_rises}
+use Rattle.{std.specs.Prelude.slice_index, def_math.specs.Counts.count_below, written_laws.proofs.Spacings.count_rises}
 use Rattle.qm_offsets.proofs.sides.side_starts.Goals as goal
 
 -- The length of the arc at hand.

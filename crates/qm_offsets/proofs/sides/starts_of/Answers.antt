@@ -1,10 +1,8 @@
-use Rattle.std.proofs.Common.{◌≡◌, length, ◌∙◌, ap, sym, arith}
-use Rattle.std.proofs.lemmas.List.{length-map}
-use Rattle.def_cut.specs.Grids.{rectangle}
+use Rattle.std.proofs.{Common.◌≡◌, Common.length, Common.◌∙◌, Common.ap, Common.sym, Common.arith}
+use Rattle.std.proofs.{lemmas.List.length-map}
 use Rattle.def_layout.specs.{Arcs.path, Gluings.Way, Layouts.layout_of, Layouts.way_number}
-use Rattle.def_remesh.specs.NewPoints.{lengths_in}
-use Rattle.qm_offsets.specs.Fours.{arcs_on}
 use Rattle.qm_offsets.proofs.Whole.{arcs_low, side_long, way_for}
+use Rattle.{def_cut.specs.Grids.rectangle, def_remesh.specs.NewPoints.lengths_in, qm_offsets.specs.Fours.arcs_on}
 use Rattle.qm_offsets.proofs.sides.starts_of.Goals as goal
 
 same : (c : goal.After-side_starts-arg-1) (way : Way) → way_number way ≡ c.args.side → c.side_of-arcs.result.now

@@ -1,14 +1,11 @@
 use Rattle.std.proofs.Common.{◌≡◌, ℕ, ◌^◌, ◌<◌, ◌≤◌, length, ◌∙◌, ap, sym, arith}
 use Rattle.std.proofs.lemmas.List.{length-map}
-use Rattle.def_cut.specs.Grids.{rectangle}
 use Rattle.def_layout.specs.{Arcs.long_at, Arcs.path, Gluings.Way, Lengths.size, Layouts.gluing_of, Layouts.way_number}
 use Rattle.def_layout.specs.{Layouts.layout_of, declared.tmesh.TMesh.TMesh}
 use Rattle.def_layoutnet.specs.MeshLayouts.{IsSomeLayout}
-use Rattle.def_remesh.specs.NewPoints.{lengths_in}
-use Rattle.embedding_laws.proofs.MeshLayouts.{laid_of, lengths_of}
-use Rattle.embedding_laws.proofs.Bounds.{old_faces, side_few, side_most}
-use Rattle.qm_offsets.specs.Fours.{arcs_on}
+use Rattle.embedding_laws.proofs.Bounds.{laid_of, lengths_of, old_faces, side_few, side_most}
 use Rattle.qm_offsets.proofs.Whole.{side_long, sides_of, uses_low, way_for}
+use Rattle.{def_cut.specs.Grids.rectangle, def_remesh.specs.NewPoints.lengths_in, qm_offsets.specs.Fours.arcs_on}
 use Rattle.qm_offsets.proofs.sizes.size_on.Goals as goal
 
 -- Sides are short enough for 64 bits.

@@ -1,9 +1,7 @@
 use Rattle.std.proofs.Common.{◌≡◌, ◌⊎◌, ◌+◌, ◌<◌, ◌≤◌, length, get_or, ap, sym, inl, inr, arith}
-use Rattle.def_math.specs.Counts.{count_below}
-use Rattle.qm_offsets.proofs.Spots.{spot_between}
-use Rattle.qm_offsets.proofs.spot.spot_in.Goals as goal
+use Rattle.{def_math.specs.Counts.count_below, qm_offsets.proofs.Spots.spot_between}
 
-pub returns-clause-run : goal.returns-clause-run
+pub returns-clause-run : Rattle.qm_offsets.proofs.spot.spot_in.Goals.returns-clause-run
 returns-clause-run c sizes runs are =
     let i = c.halves.invariant in
     let next : c.halves.high ≡ c.halves.low + 1 = omega (arith, i.apart, c.halves-test.false) in

@@ -1,8 +1,6 @@
 use Rattle.std.proofs.Common.{◌≡◌, ◌+◌, ◌<◌, ◌≤◌, ℕ, List, length, sym, inr, arith}
-use Rattle.std.specs.Prelude.{slice_index}
-use Rattle.def_math.specs.{Counts.count_below, Runs.run_at}
-use Rattle.def_remesh.specs.Numberings.{AreRunStarts}
-use Rattle.qm_offsets.proofs.Spots.{spot_between}
+use Rattle.{std.specs.Prelude.slice_index, def_math.specs.Counts.count_below, def_math.specs.Runs.run_at}
+use Rattle.{def_remesh.specs.Numberings.AreRunStarts, qm_offsets.proofs.Spots.spot_between}
 use Rattle.qm_offsets.proofs.spot.spot_near.Goals as goal
 
 -- A run that holds a place is the run there.

@@ -1,11 +1,9 @@
-use Rattle.std.proofs.Common.{◌≡◌, ◌+◌, ◌-◌, ◌<◌, true, length, ◌∙◌, ap, arith}
+use Rattle.std.proofs.Common.{◌≡◌, ◌+◌, ◌-◌, ◌<◌, true, length, ap, arith}
 use Rattle.std.proofs.lemmas.List.{length-map}
-use Rattle.def_layout.specs.{Arcs.path, Layouts.layout_of}
 use Rattle.def_remesh.specs.{NewPoints.lengths_in, Placings.shares_in}
-use Rattle.def_written.specs.Numbers.{before_arc}
-use Rattle.qm_place.proofs.ArcPoints.{inner_low, points_few, read_inner, read_short}
-use Rattle.qm_place.proofs.Entries.{start_read}
-use Rattle.qm_place.proofs.arcs.shared_part.Goals.{Else-k-places, After-index-2}
+use Rattle.qm_place.proofs.{Rims.inner_low, Rims.points_few, Rims.read_inner, Entries.start_read}
+use Rattle.qm_place.proofs.{arcs.shared_part.Goals.Else-k-places, arcs.shared_part.Goals.After-index-2}
+use Rattle.{def_layout.specs.Arcs.path, def_layout.specs.Layouts.layout_of, def_written.specs.Numbers.before_arc}
 use Rattle.qm_place.proofs.arcs.shared_part.Goals as goal
 
 -- The arc is one of the layout, and the place is inside.

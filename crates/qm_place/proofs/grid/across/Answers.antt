@@ -2,9 +2,8 @@ use Rattle.std.proofs.Common.{◌≡◌, ◌+◌, ◌-◌, ◌*◌, ◌/◌, sym
 use Rattle.std.proofs.lemmas.Bool.{cases_lt}
 use Rattle.def_layout.specs.{Arcs.long_at, Gluings.south, Gluings.north, Lengths.wide, Layouts.gluing_of}
 use Rattle.def_written.specs.Places.{ONE, parameter, parameter_back}
-use Rattle.qm_place.proofs.grid.across.Goals as goal
 
-pub returns : goal.returns
+pub returns : Rattle.qm_place.proofs.grid.across.Goals.returns
 returns c layout new spacing p low len is ends columns =
     let rim = c.args.at.now.rim in
     let i = c.args.at.now.i in

@@ -1,8 +1,6 @@
-use Rattle.std.proofs.Common.{sym, arith}
-use Rattle.written_laws.proofs.Spacings.{count_ones}
-use Rattle.qm_place.proofs.path.path_of.Goals as goal
+use Rattle.{std.proofs.Common.sym, std.proofs.Common.arith, written_laws.proofs.Spacings.count_ones}
 
-pub invariant_of-result : goal.invariant_of-result
+pub invariant_of-result : Rattle.qm_place.proofs.path.path_of.Goals.invariant_of-result
 invariant_of-result c = record {
   long = omega arith;
   whole = sym (count_ones _);

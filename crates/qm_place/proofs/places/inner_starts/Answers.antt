@@ -1,6 +1,5 @@
-use Rattle.std.proofs.Common.{length, arith}
 use Rattle.qm_offsets.proofs.Spots.{next_room, term_room}
-use Rattle.qm_place.specs.Spots.{inner_of}
+use Rattle.{std.proofs.Common.length, std.proofs.Common.arith, qm_place.specs.Spots.inner_of}
 use Rattle.qm_place.proofs.places.inner_starts.Goals as goal
 
 pub overflow_mul-rim : goal.overflow_mul-rim

@@ -1,14 +1,12 @@
 use Rattle.std.proofs.Common.{◌≡◌, ◌≤◌, ℕ, List, length, sym, ◌∙◌, arith}
 use Rattle.std.proofs.lemmas.List.{length-map}
-use Rattle.def_cut.specs.Grids.{rectangle}
 use Rattle.def_layout.specs.{Arcs.path, Lengths.AreLengths, Layouts.gluing_of, Layouts.layout_of}
 use Rattle.def_layout.specs.{declared.tmesh.TMesh.TMesh}
 use Rattle.def_remesh.specs.{NewPoints.lengths_in, declared.limits.TheConstants.MAX_NEW_FACES}
-use Rattle.def_written.specs.NewFaces.{face_count}
 use Rattle.def_layoutnet.specs.MeshLayouts.{IsSomeLayout}
-use Rattle.qm_place.specs.ArcTables.{AreFine}
-use Rattle.qm_place.proofs.Built.{inner_short, inner_starts, lengths_short, points_short, rims_some}
+use Rattle.qm_place.proofs.Pushes.{inner_short, inner_starts, lengths_short, points_short, rims_some}
 use Rattle.qm_place.proofs.Rims.{fine_of}
+use Rattle.{def_cut.specs.Grids.rectangle, def_written.specs.NewFaces.face_count, qm_place.specs.ArcTables.AreFine}
 use Rattle.qm_place.proofs.places.placer.Goals as goal
 
 -- What is asked of the lengths.

@@ -1,13 +1,10 @@
 use Rattle.std.proofs.Common.{◌≡◌, ◌+◌, ◌-◌, ◌*◌, cond, not, sym, ◌∙◌}
 use Rattle.std.proofs.lemmas.Bool.{cond-true, cond-false}
-use Rattle.def_remesh.specs.NewPoints.{lengths_in}
-use Rattle.def_written.specs.Places.{ONE}
-use Rattle.qm_place.specs.OnArcs.{spacing_on}
-use Rattle.qm_place.proofs.Pushes.{pushed_more}
 use Rattle.qm_place.proofs.sides.push_arc.Goals.{then-back, else-back, then-back-2, else-back-2}
-use Rattle.qm_place.proofs.sides.push_arc.Goals as goal
+use Rattle.qm_place.proofs.Pushes.{pushed_more}
+use Rattle.{def_remesh.specs.NewPoints.lengths_in, def_written.specs.Places.ONE, qm_place.specs.OnArcs.spacing_on}
 
-pub loop-offset-preserved : goal.loop-offset-preserved
+pub loop-offset-preserved : Rattle.qm_place.proofs.sides.push_arc.Goals.loop-offset-preserved
 loop-offset-preserved c =
     let new = lengths_in c.args.places.now.lengths.now c.args.used.arc in
     let forward : c.if-back.forward ≡ cond c.args.back (not c.args.used.forward) c.args.used.forward =

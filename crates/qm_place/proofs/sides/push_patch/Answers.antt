@@ -1,9 +1,7 @@
-use Rattle.std.proofs.Common.{◌-◌, refl, ◌∙◌, ap, arith}
-use Rattle.std.proofs.lemmas.List.{length-map}
-use Rattle.def_cut.specs.Grids.{rectangle}
+use Rattle.std.proofs.{Common.◌-◌, Common.refl, Common.◌∙◌, Common.ap, Common.arith, lemmas.List.length-map}
 use Rattle.def_layout.specs.Gluings.{south, east, north, west}
-use Rattle.qm_place.specs.OnArcs.{spacing_on}
 use Rattle.qm_place.proofs.{Pushes.kept_on, Pushes.pushed_kept, Rims.rim_built}
+use Rattle.{def_cut.specs.Grids.rectangle, qm_place.specs.OnArcs.spacing_on}
 use Rattle.qm_place.proofs.sides.push_patch.Goals as goal
 
 pub overflow_sub-wide : goal.overflow_sub-wide

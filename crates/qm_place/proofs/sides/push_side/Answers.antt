@@ -1,11 +1,9 @@
 use Rattle.std.proofs.Common.{◌≡◌, ◌+◌, ◌-◌, ◌^◌, ◌≤◌, false, cond, get_or, ◌∙◌, ap, arith}
-use Rattle.std.specs.Prelude.{nat_le}
-use Rattle.def_layout.specs.Layouts.{gluing_of, way_number, layout_of}
-use Rattle.def_layout.specs.{Arcs.long_at, declared.tmesh.SideArc.SideArc, Gluings.Way}
-use Rattle.qm_offsets.proofs.Whole.{way_for}
-use Rattle.qm_place.specs.OnArcs.{spacing_on}
-use Rattle.qm_place.proofs.Rims.{back_by, old_read, read, side_more, start_few, IsRead}
-use Rattle.qm_place.proofs.Pushes.{start_by}
+use Rattle.def_layout.specs.{Layouts.gluing_of, Layouts.way_number, Layouts.layout_of, Arcs.long_at}
+use Rattle.def_layout.specs.{declared.tmesh.SideArc.SideArc, Gluings.Way}
+use Rattle.qm_place.proofs.{Rims.back_by, Rims.old_read, Rims.read, Rims.side_more, Rims.start_few, Rims.IsRead}
+use Rattle.qm_place.proofs.{Pushes.start_by}
+use Rattle.{std.specs.Prelude.nat_le, qm_offsets.proofs.Whole.way_for, qm_place.specs.OnArcs.spacing_on}
 use Rattle.qm_place.proofs.sides.push_side.Goals as goal
 
 pub index-requires : goal.index-requires

@@ -1,11 +1,9 @@
-use Rattle.std.proofs.Common.{◌≡◌}
 use Rattle.def_layout.specs.{Layouts.gluing_of, Layouts.way_number, Layouts.layout_of, Arcs.long_at, Gluings.Way}
 use Rattle.def_layout.specs.{Lengths.reach}
 use Rattle.def_remesh.specs.{NewPoints.lengths_in, Placings.side_parameter}
-use Rattle.qm_place.specs.{OnArcs.spacing_on, Pushed.ArePushed}
-use Rattle.qm_place.proofs.sides.push_side.Given as goal
+use Rattle.{std.proofs.Common.◌≡◌, qm_place.specs.OnArcs.spacing_on, qm_place.specs.Pushed.ArePushed}
 
-abbrev pub invariant-loop-used : goal.invariant-loop-used
+abbrev pub invariant-loop-used : Rattle.qm_place.proofs.sides.push_side.Given.invariant-loop-used
 invariant-loop-used l = record {
   pushed : (way : Way) → way_number way ≡ l.fn.side → ArePushed l.fn.parameters.items l.parameters.items
       (reach (gluing_of (layout_of l.places.t.now)) (lengths_in l.places.lengths.now) l.patch way l.used-index)

@@ -1,11 +1,8 @@
 use Rattle.std.proofs.Common.{◌≡◌, ℕ, List, [], ◌∷◌, ◌++◌, length, ◌∙◌, ap, inl, inr, length-append, arith}
-use Rattle.std.proofs.lemmas.Bool.{cases_lt}
-use Rattle.std.proofs.lemmas.List.{get_or_append_left, get_or_push}
-use Rattle.def_remesh.specs.{Placings.rim_at, declared.places.Rim.Rim}
-use Rattle.qm_place.proofs.Rims.{rim_kept}
-use Rattle.qm_place.proofs.sides.sides_of.Goals as goal
+use Rattle.std.proofs.{lemmas.Bool.cases_lt, lemmas.List.get_or_append_left, lemmas.List.get_or_push}
+use Rattle.{def_remesh.specs.Placings.rim_at, def_remesh.specs.declared.places.Rim.Rim, qm_place.proofs.Rims.rim_kept}
 
-pub loop-patch-preserved : goal.loop-patch-preserved
+pub loop-patch-preserved : Rattle.qm_place.proofs.sides.sides_of.Goals.loop-patch-preserved
 loop-patch-preserved c = record {
   count = ap length c.in_ok-push.ensures.items ∙ length-append c.loop-patch.rims.items (c.in_ok-rim.rim ∷ [])
       ∙ omega (arith, count);

@@ -1,10 +1,8 @@
 use Rattle.std.proofs.Common.{◌≡◌, ◌<◌, ℕ, length}
-use Rattle.def_layout.specs.Layouts.{layout_of}
 use Rattle.def_remesh.specs.{NewPoints.lengths_in, Placings.rim_at, Placings.IsRim}
-use Rattle.qm_place.specs.OnArcs.{spacing_on}
-use Rattle.qm_place.proofs.sides.sides_of.Given as goal
+use Rattle.{def_layout.specs.Layouts.layout_of, qm_place.specs.OnArcs.spacing_on}
 
-abbrev pub invariant-loop-patch : goal.invariant-loop-patch
+abbrev pub invariant-loop-patch : Rattle.qm_place.proofs.sides.sides_of.Given.invariant-loop-patch
 invariant-loop-patch l = record {
   count : length l.rims.items ≡ l.patch;
   each : (p : ℕ) → p < l.patch

@@ -1,14 +1,11 @@
 use Rattle.std.proofs.Common.{◌≡◌, ◌+◌, ◌-◌, ◌<◌, ℕ, suc, List, [], length, sym, ◌∙◌, ap, subst, inl, inr, arith}
-use Rattle.std.proofs.lemmas.Bool.{cases_lt}
-use Rattle.std.proofs.lemmas.List.{get_or-map, length-map}
-use Rattle.std.specs.Prelude.{slice_index}
+use Rattle.std.proofs.{lemmas.Bool.cases_lt, lemmas.List.get_or-map, lemmas.List.length-map}
 use Rattle.def_layout.specs.{Arcs.long_at, Arcs.path, Arcs.path_at, Arcs.Path, Layouts.layout_of}
 use Rattle.def_layout.specs.{declared.tmesh.TArc.TArc}
 use Rattle.def_remesh.specs.{NewPoints.lengths_in, Spaced.shares_along}
 use Rattle.def_written.specs.{Numbers.before_arc, Spacings.shared_step, Spacings.step_parameter}
-use Rattle.written_laws.proofs.Runs.{place_low}
-use Rattle.qm_place.proofs.{ArcPoints.read_short, Paths.arc_parameter}
-use Rattle.qm_place.proofs.spacing.shared_parameters.Goals.{After-deref}
+use Rattle.qm_place.proofs.{Rims.read_short, Rims.arc_parameter, spacing.shared_parameters.Goals.After-deref}
+use Rattle.{std.specs.Prelude.slice_index, written_laws.proofs.Spacings.place_low}
 use Rattle.qm_place.proofs.spacing.shared_parameters.Goals as goal
 
 -- The arc is one of the layout, and the darts are its own.

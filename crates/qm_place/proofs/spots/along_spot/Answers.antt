@@ -1,12 +1,11 @@
 use Rattle.std.proofs.Common.{◌≡◌, ◌+◌, ◌-◌, ◌*◌, ◌/◌, ◌%◌, ◌<◌, true, length, Option, sym, ◌∙◌, ap, arith}
 use Rattle.std.proofs.lemmas.List.{get_or_read}
 use Rattle.def_layout.specs.Arcs.{dart_at, long_at}
-use Rattle.def_map.specs.Spots.{edge_spot}
-use Rattle.def_written.specs.Numbers.{before_arc}
 use Rattle.def_remesh.specs.{Placings.shares_in, Spaced.spacing_by, declared.places.Spaced.Spaced}
 use Rattle.qm_place.specs.Lengthened.{lengths_by, layout_in, spacing_at}
-use Rattle.qm_place.proofs.{ArcPoints.inner_low, ArcPoints.read_inner, ArcPoints.spot_told, Entries.start_read}
 use Rattle.qm_place.proofs.spots.along_spot.Goals.{In-Some, After-index, After-index-in-None, After-index-in-None-2}
+use Rattle.qm_place.proofs.{Rims.inner_low, Rims.read_inner, Rims.spot_told, Entries.start_read}
+use Rattle.{def_map.specs.Spots.edge_spot, def_written.specs.Numbers.before_arc}
 use Rattle.qm_place.proofs.spots.along_spot.Goals as goal
 
 -- The place in the table of the point.

@@ -1,10 +1,9 @@
 use Rattle.std.proofs.Common.{◌≡◌, ◌-◌, ◌*◌, ◌∙◌, ap, arith}
-use Rattle.def_cut.specs.Grids.{cell_of, patch_at}
 use Rattle.def_layout.specs.{Arcs.long_at, Lengths.wide, Lengths.high, Layouts.gluing_of, Layouts.layout_of}
 use Rattle.def_written.specs.Places.{ONE, cell_at, parameter_u, parameter_v}
-use Rattle.def_remesh.specs.NewPoints.{lengths_in}
 use Rattle.qm_place.specs.{Lengthened.spacing_at, declared.spots.GridPoint.GridPoint}
 use Rattle.qm_place.proofs.Entries.{cell_low, cell_read, patch_read}
+use Rattle.{def_cut.specs.Grids.cell_of, def_cut.specs.Grids.patch_at, def_remesh.specs.NewPoints.lengths_in}
 use Rattle.qm_place.proofs.spots.cell_spot.Goals as goal
 
 pub index-requires : goal.index-requires

@@ -1,7 +1,5 @@
-use Rattle.std.proofs.Common.{◌≡◌, ◌*◌, ◌/◌, ◌%◌, ◌^◌, ◌<◌, length, ◌∙◌, arith}
-use Rattle.std.proofs.lemmas.Nat.{mul-le}
-use Rattle.def_layout.specs.{Arcs.long_at, Layouts.layout_of}
-use Rattle.qm_place.proofs.Entries.{arc_read, dart_read}
+use Rattle.std.proofs.{Common.◌*◌, Common.◌%◌, Common.◌^◌, Common.◌∙◌, Common.arith, lemmas.Nat.mul-le}
+use Rattle.qm_place.proofs.Entries.{arc_read}
 use Rattle.qm_place.proofs.spots.even_spot.Goals as goal
 
 pub overflow_mul-way : goal.overflow_mul-way

@@ -1,9 +1,8 @@
 use Rattle.std.proofs.Common.{◌≡◌, arith}
 use Rattle.def_layout.specs.{Arcs.long_at, Layouts.gluing_of, Layouts.layout_of}
-use Rattle.def_remesh.specs.{NewPoints.lengths_in}
 use Rattle.def_written.specs.Places.{parameter_u, parameter_v}
-use Rattle.qm_place.specs.Lengthened.{spacing_at}
 use Rattle.qm_place.proofs.Entries.{patch_read, rim_here, rim_room}
+use Rattle.{def_remesh.specs.NewPoints.lengths_in, qm_place.specs.Lengthened.spacing_at}
 use Rattle.qm_place.proofs.spots.grid_point.Goals as goal
 
 pub invariant_of-at : goal.invariant_of-at

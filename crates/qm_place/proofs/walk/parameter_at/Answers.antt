@@ -1,9 +1,7 @@
 use Rattle.std.proofs.Common.{◌≡◌, ◌-◌, ◌*◌, ◌/◌, ◌^◌, ◌<◌, ◌≤◌, length, ◌∙◌, arith}
 use Rattle.std.proofs.lemmas.Nat.{mul-le}
-use Rattle.def_written.specs.Places.{ONE}
-use Rattle.qm_place.specs.Walks.{share_in}
-use Rattle.qm_place.proofs.Paths.{part_low, rest_low}
-use Rattle.qm_place.proofs.walk.parameter_at.Goals.{After-from-5}
+use Rattle.qm_place.proofs.{Rims.part_low, Rims.rest_low, walk.parameter_at.Goals.After-from-5}
+use Rattle.{def_written.specs.Places.ONE, qm_place.specs.Walks.share_in}
 use Rattle.qm_place.proofs.walk.parameter_at.Goals as goal
 
 -- The rest of the place, and the share of the edge, as they are computed.

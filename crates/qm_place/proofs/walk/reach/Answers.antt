@@ -1,9 +1,7 @@
 use Rattle.std.proofs.Common.{◌≡◌, ◌+◌, ◌*◌, ◌^◌, ◌≤◌, length, ◌∙◌, ap, arith}
 use Rattle.std.proofs.lemmas.Nat.{mul-le}
-use Rattle.written_laws.proofs.Runs.{count_rises}
-use Rattle.qm_place.specs.Walks.{share_in}
-use Rattle.qm_place.proofs.Paths.{edge_is, next_is, next_low}
-use Rattle.qm_place.proofs.walk.reach.Goals.{After-from-in-edges-2}
+use Rattle.qm_place.proofs.{Rims.edge_is, Rims.next_is, Rims.next_low, walk.reach.Goals.After-from-in-edges-2}
+use Rattle.{written_laws.proofs.Spacings.count_rises, qm_place.specs.Walks.share_in}
 use Rattle.qm_place.proofs.walk.reach.Goals as goal
 
 -- No more shares lie before the edge than in all.

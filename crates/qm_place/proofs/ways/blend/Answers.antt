@@ -1,10 +1,7 @@
 use Rattle.std.proofs.Common.{rules, ◌≡◌, ◌≤◌, ◌^◌, ℤ, pos, ◌+ℤ◌, FitsSigned, length, to_z, of_z, ◌∙◌, ap, arith}
-use Rattle.std.proofs.lemmas.Int.{ints}
-use Rattle.std.proofs.lemmas.List.{get_or_default}
-use Rattle.std.specs.Prelude.{unsigned_abs}
-use Rattle.std.specs.Int.{w128}
-use Rattle.def_written.specs.Places.{blend}
+use Rattle.std.proofs.{lemmas.Int.ints, lemmas.List.get_or_default}
 use Rattle.qm_place.proofs.Casts.{blend_micro, sum_is, sum_fits, mean_is, cast_micro}
+use Rattle.{std.specs.Prelude.unsigned_abs, std.specs.Int.w128, def_written.specs.Places.blend}
 use Rattle.qm_place.proofs.ways.blend.Goals as goal
 
 sum : (c : goal.After-weigh-4) → to_z w128 (of_z w128 (to_z w128

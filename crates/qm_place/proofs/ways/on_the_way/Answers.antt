@@ -1,8 +1,6 @@
 use Rattle.std.proofs.Common.{◌≡◌, ◌+ℤ◌, to_z, of_z, ◌∙◌, ap, arith}
-use Rattle.std.specs.Prelude.{unsigned_abs}
-use Rattle.std.specs.Int.{w64}
-use Rattle.def_written.specs.Places.{on_the_way}
 use Rattle.qm_place.proofs.Casts.{way_micro, way_is}
+use Rattle.{std.specs.Prelude.unsigned_abs, std.specs.Int.w64, def_written.specs.Places.on_the_way}
 use Rattle.qm_place.proofs.ways.on_the_way.Goals as goal
 
 here : (c : goal.After-struct_told-3-1)

@@ -1,7 +1,6 @@
 use Rattle.std.proofs.Common.{◌≡◌, ◌≤◌, ◌^◌, ◌*◌, pos, ◌+ℤ◌, ◌*ℤ◌, to_z, of_z, arith}
-use Rattle.std.specs.Prelude.{unsigned_abs}
-use Rattle.std.specs.Int.{int_div_euclid, w64, w128}
 use Rattle.std.proofs.lemmas.Int.{ints}
+use Rattle.std.specs.{Prelude.unsigned_abs, Int.int_div_euclid, Int.w64, Int.w128}
 use Rattle.qm_place.proofs.Casts.{part_is}
 use Rattle.qm_place.proofs.ways.part_of.Goals as goal
 

@@ -1,7 +1,5 @@
 use Rattle.std.proofs.Common.{◌≡◌, ◌≤◌, ◌^◌, ◌*◌, pos, ◌*ℤ◌, to_z, of_z, ap, arith}
-use Rattle.std.specs.Prelude.{unsigned_abs}
-use Rattle.std.specs.Int.{w128}
-use Rattle.qm_place.proofs.Casts.{weighed_is}
+use Rattle.{std.specs.Prelude.unsigned_abs, std.specs.Int.w128, qm_place.proofs.Casts.weighed_is}
 use Rattle.qm_place.proofs.ways.weigh.Goals as goal
 
 here : (c : goal.After-from-3)

@@ -1,14 +1,11 @@
 use Rattle.std.proofs.Common.{◌≡◌, ◌≤◌, ◌<◌, ◌*◌, ◌^◌, ℕ, length, get_or, map, sym, ap, ◌∙◌, subst, arith}
-use Rattle.std.proofs.lemmas.List.{take_all}
-use Rattle.std.proofs.lemmas.Nat.{mul-le}
-use Rattle.def_flow.specs.declared.limits.TheConstants.{MAX_LENGTH}
+use Rattle.std.proofs.{lemmas.List.take_all, lemmas.Nat.mul-le}
 use Rattle.def_layout.specs.{Arcs.long_at, Lengths.Lengths, Lengths.AreLengths, Layouts.gluing_of, Layouts.layout_of}
-use Rattle.def_layout.specs.{Layouts.Layout}
-use Rattle.def_layout.specs.declared.tmesh.TArc.{TArc}
-use Rattle.def_layoutnet.specs.MeshLayouts.{IsSomeLayout}
+use Rattle.def_layout.specs.{Layouts.Layout, declared.tmesh.TArc.TArc}
 use Rattle.def_remesh.specs.NewPoints.{lengths_in, multiple_of}
 use Rattle.qm_refine.proofs.Multiplied.{are_multiples, arcs_short, multiple_few, multiple_is, multiples_of}
 use Rattle.qm_refine.proofs.Multiplied.{multiples_told}
+use Rattle.{def_flow.specs.declared.limits.TheConstants.MAX_LENGTH, def_layoutnet.specs.MeshLayouts.IsSomeLayout}
 use Rattle.qm_refine.proofs.lengths.multiples.Goals as goal
 
 pub overflow_mul-from : goal.overflow_mul-from

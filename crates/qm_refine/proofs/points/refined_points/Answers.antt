@@ -1,11 +1,10 @@
-use Rattle.std.specs.Prelude.{IfErr, OnOk}
-use Rattle.std.proofs.Common.{◌≡◌, ◌≤◌, inr, ap, ◌∙◌, subst}
-use Rattle.std.proofs.lemmas.Result.{IfOk-weaker}
+use Rattle.std.proofs.{Common.◌≡◌, Common.◌≤◌, Common.inr, Common.ap, Common.◌∙◌, Common.subst}
+use Rattle.std.proofs.{lemmas.Result.IfOk-weaker}
 use Rattle.def_layout.specs.{Arcs.long_at, Lengths.Lengths, Layouts.gluing_of}
 use Rattle.def_remesh.specs.{CutSoups.Regrid, NewPoints.lengths_in, NewPoints.multiple_of, Stitched.IsUnstitched}
 use Rattle.def_remesh.specs.{Stitched.KeepsShapes, declared.limits.TheConstants.MAX_NEW_FACES}
-use Rattle.def_written.specs.NewFaces.{face_count}
 use Rattle.qm_refine.proofs.points.refined_points.Goals.{After-deref}
+use Rattle.{std.specs.Prelude.IfErr, std.specs.Prelude.OnOk, def_written.specs.NewFaces.face_count}
 use Rattle.qm_refine.proofs.points.refined_points.Goals as goal
 
 -- The lengths are those multiples.

@@ -1,7 +1,6 @@
 use Rattle.std.specs.Prelude.{OnErr, OnOk}
 use Rattle.std.proofs.Common.{◌≡◌, ap, ◌∙◌, subst}
-use Rattle.def_io.specs.Bytes.{Bytes}
-use Rattle.def_remesh.specs.Refined.{refine_head}
+use Rattle.{def_io.specs.Bytes.Bytes, def_remesh.specs.Refined.refine_head}
 use Rattle.qm_refine.proofs.text.put_head.Goals as goal
 
 pub returns-clause-whole : goal.returns-clause-whole

@@ -1,12 +1,9 @@
-use Rattle.std.specs.Prelude.{OnErr, OnOk}
-use Rattle.std.proofs.Common.{◌≡◌, ℕ, None, subst}
-use Rattle.std.proofs.lemmas.Result.{on_err_weaker, on_ok_weaker}
-use Rattle.def_io.specs.Bytes.{Bytes}
-use Rattle.def_layout.specs.Arcs.{long_at}
+use Rattle.std.proofs.{Common.◌≡◌, Common.ℕ, Common.None, Common.subst, lemmas.Result.on_err_weaker}
+use Rattle.std.proofs.{lemmas.Result.on_ok_weaker}
 use Rattle.def_remesh.specs.{CutSoups.Regrid, NewPoints.lengths_in, NewPoints.multiple_of, NewSoup.new_soup}
 use Rattle.def_remesh.specs.{NewSoup.spaced_soup, Refined.refine_head}
-use Rattle.def_text.specs.Canonical.{canonical_text}
-use Rattle.qm_output.proofs.Prefixes.{of_error}
+use Rattle.{std.specs.Prelude.OnErr, std.specs.Prelude.OnOk, def_io.specs.Bytes.Bytes, def_layout.specs.Arcs.long_at}
+use Rattle.{def_text.specs.Canonical.canonical_text, qm_output.proofs.Prefixes.of_error}
 use Rattle.qm_refine.proofs.text.put_refined.Goals as goal
 
 -- The text of the new mesh is that of the refined one.

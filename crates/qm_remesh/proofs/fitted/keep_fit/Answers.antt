@@ -1,8 +1,6 @@
-use Rattle.error_laws.proofs.Errors.{handed}
-use Rattle.def_certtext.specs.{Risings.rounds_if}
 use Rattle.def_fit.specs.Aims.{aimed, fit_settings}
 use Rattle.def_metric.specs.declared.fail.SizeFail.TheVariants.{Layout}
-use Rattle.qm_remesh.proofs.{Sizes.no_mesh}
+use Rattle.{error_laws.proofs.Errors.handed, def_certtext.specs.Risings.rounds_if, qm_remesh.proofs.Leading.no_mesh}
 use Rattle.qm_remesh.proofs.fitted.keep_fit.Goals as goal
 
 -- Where floors rise.

@@ -1,9 +1,7 @@
 use Rattle.std.proofs.Common.{List, ℕ, ap, sym, subst, ◌∙◌}
-use Rattle.def_metric.specs.Starts.{times_long}
-use Rattle.def_flow.specs.{Descent.IsStartOf, Network.network}
-use Rattle.qm_metric.proofs.StartLaws.{start_at}
-use Rattle.qm_remesh.specs.Rounds.{greatest_floor}
-use Rattle.qm_remesh.proofs.Sizes.{greatest_high, unscaled}
+use Rattle.qm_remesh.proofs.Leading.{greatest_high, unscaled}
+use Rattle.{def_metric.specs.Starts.times_long, def_flow.specs.Descent.IsStartOf, def_flow.specs.Network.network}
+use Rattle.{qm_metric.proofs.StartLaws.start_at, qm_remesh.specs.Rounds.greatest_floor}
 use Rattle.qm_remesh.proofs.fitted.solve_fit.Goals as goal
 
 pub invariant_of-loose : goal.invariant_of-loose

@@ -1,6 +1,5 @@
-use Rattle.def_flow.specs.Network.{network}
-use Rattle.def_remesh.specs.{Keeping.IsNetFor, Tasks.old_lengths}
-use Rattle.qm_remesh.proofs.{Nets.net_for, keeping.keep.Goals.In-Ok}
+use Rattle.qm_remesh.proofs.{Leading.net_for, keeping.keep.Goals.In-Ok}
+use Rattle.{def_flow.specs.Network.network, def_remesh.specs.Keeping.IsNetFor, def_remesh.specs.Tasks.old_lengths}
 use Rattle.qm_remesh.proofs.keeping.keep.Goals as goal
 
 pub net_of-requires-clause-layout : goal.net_of-requires-clause-layout

@@ -1,5 +1,5 @@
 use Rattle.remesh_laws.proofs.Keeps.{are_lengths, doubled_first, doubled_some, keeps_first, low_floor, solved, too_fine}
-use Rattle.qm_remesh.proofs.Nets.{never_rises}
+use Rattle.qm_remesh.proofs.Leading.{never_rises}
 use Rattle.qm_remesh.proofs.keeping.keep_solved.Goals as goal
 
 pub plan_over-requires-clause-lengths : goal.plan_over-requires-clause-lengths

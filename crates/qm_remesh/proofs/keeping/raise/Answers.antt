@@ -1,12 +1,10 @@
-use Rattle.def_certtext.specs.CertLines.{lists_of, raised}
-use Rattle.def_certtext.specs.declared.certs.Rising.TheVariants.{Third}
-use Rattle.def_flow.specs.Network.{network}
 use Rattle.std.proofs.Common.{refl, arith}
+use Rattle.def_certtext.specs.{CertLines.lists_of, CertLines.raised, declared.certs.Rising.TheVariants.Third}
 use Rattle.def_remesh.specs.{Certified.AreKept, Keeping.IsNetFor, Tasks.Wish}
 use Rattle.qm_layoutnet.proofs.Floors.{floors_at, floors_even, has_floors}
 use Rattle.remesh_laws.proofs.Keeps.{are_lengths, bounded, keeps_third, long_lengths, none_doubled, solved, third_net}
 use Rattle.remesh_laws.proofs.Keeps.{too_fine}
-use Rattle.qm_remesh.proofs.keeping.raise.Goals.{In_ok-cert}
+use Rattle.{def_flow.specs.Network.network, qm_remesh.proofs.keeping.raise.Goals.In_ok-cert}
 use Rattle.qm_remesh.proofs.keeping.raise.Goals as goal
 
 pub solve-requires : goal.solve-requires

@@ -1,11 +1,9 @@
-use Rattle.std.proofs.Common.{◌≡◌, ◌+◌, ◌∷◌, ◌++◌, [], ℕ, List, below_more, ◌∙◌, ap, arith}
-use Rattle.std.proofs.Common.{pos, rules, w64}
-use Rattle.std.proofs.lemmas.Int.{to_z-of_z}
-use Rattle.std.proofs.lemmas.List.{get_or_append_left, get_or_push, length_push}
+use Rattle.std.proofs.Common.{◌≡◌, ◌+◌, ◌∷◌, ◌++◌, [], ℕ, List, below_more, ◌∙◌, arith, pos, rules, w64}
+use Rattle.std.proofs.{lemmas.Int.to_z-of_z, lemmas.List.get_or_append_left, lemmas.List.get_or_push}
+use Rattle.std.proofs.{lemmas.List.length_push}
 use Rattle.std.specs.Prelude.{slice_index, slice_index_or, ℤ}
-use Rattle.def_flow.specs.{Network.arc_at, Network.network, Network.Network}
+use Rattle.def_flow.specs.Network.{arc_at, network, Network}
 use Rattle.qm_remesh.specs.Rounds.{price_at, ArePrices}
-use Rattle.qm_remesh.proofs.prices.prices_of.Goals as goal
 
 -- One price more.
 prices_more : (net : Network) (xs : List ℕ) (n : ℕ) (prices : List ℤ) (one : ℤ) → ArePrices net xs n prices
@@ -18,7 +16,7 @@ prices_more net xs n prices one are is = record {
       (get_or_push prices one (pos 0) n are.long ∙ is);
 }
 
-pub loop-k-preserved : goal.loop-k-preserved
+pub loop-k-preserved : Rattle.qm_remesh.proofs.prices.prices_of.Goals.loop-k-preserved
 loop-k-preserved c =
     rw c.in_ok-push.ensures.items
     (prices_more (network c.args.net.now.whole.now) c.args.x.now c.loop-k.k c.loop-k.prices.items _ c.loop-k.invariant

@@ -1,6 +1,5 @@
-use Rattle.def_fit.specs.Aims.{fit_settings}
-use Rattle.def_flow.specs.Network.{network}
 use Rattle.qm_remesh.specs.Rounds.{room_of, IsLedBy}
+use Rattle.{def_fit.specs.Aims.fit_settings, def_flow.specs.Network.network}
 use Rattle.qm_remesh.proofs.rounds.keep_rounds.Given as goal
 
 abbrev pub invariant-rounds : goal.invariant-rounds

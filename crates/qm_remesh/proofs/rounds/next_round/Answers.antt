@@ -1,10 +1,9 @@
 use Rattle.std.proofs.Common.{◌≡◌, length, sym, subst, arith}
-use Rattle.def_certtext.specs.declared.certs.Round.{Round}
-use Rattle.def_layout.specs.Layouts.{gluing_of}
 use Rattle.def_remesh.specs.{NewPoints.lengths_in, Rises.AreNeeded}
 use Rattle.qm_layoutnet.proofs.Floors.{floor_high, floors_even}
-use Rattle.remesh_laws.proofs.{Rounds.net_risen, Writable.arcs_few}
+use Rattle.remesh_laws.proofs.ReadAgain.{net_risen, arcs_few}
 use Rattle.qm_remesh.proofs.Leading.{all_there, led_lengths, led_long, led_on, net_behind, room_less}
+use Rattle.{def_certtext.specs.declared.certs.Round.Round, def_layout.specs.Layouts.gluing_of}
 use Rattle.qm_remesh.proofs.rounds.next_round.Goals as goal
 
 pub invariant_of-bounded : goal.invariant_of-bounded

@@ -1,13 +1,13 @@
-use mir.Syntax.{w64, w128}
 use Rattle.std.specs.{Prelude.decimal, Prelude.codes, Fmt.signed_decimal}
 use Rattle.std.proofs.Common.{◌≡◌, ◌≤◌, ◌∷◌, [], length, to_z, of_z, ℤ, Ok, ap, sym, ◌∙◌, arith}
-use Rattle.{std.proofs.lemmas.Int.ints, def_io.specs.declared.TheConstants.LINE_FEED}
-use Rattle.qm_report.proofs.{TableReads.filter_few, Texts.behind, Texts.nothing_behind, Texts.number_behind}
-use Rattle.def_mesh.specs.Components.{edge_count, euler, is_lesser, used_count}
+use Rattle.std.proofs.lemmas.Int.{ints}
+use mir.Syntax.{w64, w128}
+use Rattle.def_io.specs.declared.TheConstants.{LINE_FEED}
+use Rattle.qm_report.proofs.{Layouts.filter_few, Texts.behind, Texts.nothing_behind, Texts.number_behind}
+use Rattle.def_mesh.specs.{Components.edge_count, Components.euler, Components.is_lesser, Components.used_count}
 use Rattle.def_mesh.specs.{Darts.darts, Darts.twin_of, Vertices.is_used, Vertices.vertex_count}
-use Rattle.qm_report.proofs.graph.push_counts.Goals as goal
 
-pub returns : goal.returns
+pub returns : Rattle.qm_report.proofs.graph.push_counts.Goals.returns
 returns c =
     let mesh = c.args.mesh.now in
     let said : Ok c.in_ok-euler.field-0 ≡ Ok (euler mesh) = sym c.in_ok-euler.was ∙ c.euler.ensures in

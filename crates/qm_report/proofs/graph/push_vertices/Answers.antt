@@ -1,7 +1,7 @@
-use Rattle.{std.proofs.Common.◌<◌, std.proofs.Common.arith, def_report.specs.GraphText.vertex_line}
+use Rattle.std.proofs.Common.{◌<◌, arith}
 use Rattle.def_mesh.specs.{Kinds.kind_of, Vertices.vertex_count, declared.Kind.TheVariants.Regular}
-use Rattle.qm_sing.proofs.KindReads.{kind_read}
-use Rattle.qm_report.proofs.{TableReads.place_low, Texts.piece_behind}
+use Rattle.qm_report.proofs.{Layouts.place_low, Texts.piece_behind}
+use Rattle.{def_report.specs.GraphText.vertex_line, qm_sing.proofs.Numberings.kind_read}
 use Rattle.qm_report.proofs.graph.push_vertices.Goals as goal
 
 pub bounds-kinds-v : goal.bounds-kinds-v

@@ -1,6 +1,5 @@
-use Rattle.{std.proofs.Common.◌≡◌, std.proofs.Common.◌++◌, std.specs.List.flat_map, std.specs.List.range_with_len}
-use Rattle.def_report.specs.GraphText.{vertex_line}
-use Rattle.qm_report.proofs.graph.push_vertices.Given as goal
+use Rattle.std.specs.List.{flat_map, range_with_len}
+use Rattle.{std.proofs.Common.◌≡◌, std.proofs.Common.◌++◌, def_report.specs.GraphText.vertex_line}
 
-abbrev pub invariant-loop-v : goal.invariant-loop-v
+abbrev pub invariant-loop-v : Rattle.qm_report.proofs.graph.push_vertices.Given.invariant-loop-v
 invariant-loop-v l = l.text.items ≡ l.fn.text.items ++ flat_map (vertex_line l.mesh) (range_with_len 0 l.v)

@@ -3,9 +3,8 @@ use Rattle.std.specs.{Prelude.option_copied, List.flat_map, List.range_with_len}
 use Rattle.def_cuttext.specs.LayoutText.{break_line, layout_head, named_line, place_in_file, whole_arc_line}
 use Rattle.def_mesh.specs.{Components.seeds as seeds_of, Vertices.all_vertices}
 use Rattle.def_report.specs.GraphText.{counts_line, patch_lines, seed_line}
-use Rattle.qm_report.proofs.layout.layout_text.Goals as goal
 
-pub returns : goal.returns
+pub returns : Rattle.qm_report.proofs.layout.layout_text.Goals.returns
 returns c =
     let soup = c.args.cut.now.soup in
     let here = c.args.cut.now.layout in

@@ -1,9 +1,8 @@
 use Rattle.std.proofs.Common.{◌++◌, List, ℕ, sym, ap, ◌∙◌, append-nil}
 use Rattle.{std.specs.Prelude.option_copied, std.specs.List.flat_map, def_cuttext.specs.LayoutText.break_line}
 use Rattle.{def_mesh.specs.Vertices.all_vertices, qm_report.proofs.Layouts.none_breaks}
-use Rattle.qm_report.proofs.layout.push_breaks.Goals as goal
 
-pub returns-in-None : goal.returns-in-None
+pub returns-in-None : Rattle.qm_report.proofs.layout.push_breaks.Goals.returns-in-None
 returns-in-None c =
     let t = c.args.text.now.items in
     let soup = c.args.cut.now.soup in

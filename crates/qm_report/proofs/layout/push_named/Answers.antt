@@ -1,11 +1,10 @@
 use Rattle.std.proofs.Common.{◌≡◌, ◌<◌, ◌++◌, ap, ◌∙◌, arith}
 use Rattle.def_cuttext.specs.LayoutText.{named_line, place_in_file}
-use Rattle.def_mesh.specs.{Kinds.kind_of, Vertices.faces_at, Vertices.vertex_count, declared.Kind.TheVariants.Regular}
-use Rattle.{def_report.specs.GraphText.kind_line, qm_sing.proofs.KindReads.kind_read}
-use Rattle.qm_report.proofs.{TableReads.place_low, Texts.piece_behind}
-use Rattle.qm_report.proofs.layout.push_named.Goals as goal
+use Rattle.def_mesh.specs.{Vertices.faces_at, Vertices.vertex_count, declared.Kind.TheVariants.Regular}
+use Rattle.def_report.specs.GraphText.{kind_line}
+use Rattle.{qm_sing.proofs.Numberings.kind_read, qm_report.proofs.Texts.piece_behind}
 
-pub loop-v-preserved : goal.loop-v-preserved
+pub loop-v-preserved : Rattle.qm_report.proofs.layout.push_named.Goals.loop-v-preserved
 loop-v-preserved c =
     let soup = c.args.cut.now.soup in
     let faces = soup.faces in

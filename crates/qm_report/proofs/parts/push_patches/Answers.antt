@@ -1,8 +1,7 @@
-use Rattle.{def_layout.specs.Layouts.layout_of, qm_report.proofs.Texts.behind, qm_report.proofs.Texts.piece_behind}
 use Rattle.def_report.specs.GraphText.{patch_lines, side_lines, size_line}
-use Rattle.qm_report.proofs.parts.push_patches.Goals as goal
+use Rattle.{def_layout.specs.Layouts.layout_of, qm_report.proofs.Texts.behind, qm_report.proofs.Texts.piece_behind}
 
-pub loop-p-preserved : goal.loop-p-preserved
+pub loop-p-preserved : Rattle.qm_report.proofs.parts.push_patches.Goals.loop-p-preserved
 loop-p-preserved c =
     let layout = layout_of c.args.t.now in
     let t = c.loop-p.text.items in

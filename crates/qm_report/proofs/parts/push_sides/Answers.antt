@@ -1,8 +1,7 @@
 use Rattle.std.proofs.Common.{◌≡◌, ℕ, ◌<◌, ◌+◌, ◌++◌, List, [], map, length, get_or, ap, sym, ◌∙◌, arith}
-use Rattle.{std.specs.Prelude.codes, def_report.specs.GraphText.numbers_line}
-use Rattle.{layout_laws.proofs.SideReads.arcs_of, layout_laws.proofs.SideReads.read_side, qm_report.proofs.Texts.behind}
+use Rattle.layout_laws.proofs.Uses.{arcs_of, read_side}
 use Rattle.def_layout.specs.{declared.tmesh.Side.Side, declared.tmesh.SideArc.SideArc}
-use Rattle.qm_report.proofs.parts.push_sides.Goals as goal
+use Rattle.{std.specs.Prelude.codes, def_report.specs.GraphText.numbers_line, qm_report.proofs.Texts.behind}
 
 -- Text b is text t with the line of the arcs behind it that were read.
 side_behind : (sides : List (List Side)) (p k : ℕ) {four : List Side} (side : Side)
@@ -14,7 +13,7 @@ side_behind sides p k {four} side l is many lk word t read e =
     e ∙ ap (λ (xs : List SideArc). t ++ numbers_line word (map (λ (used : SideArc). used.arc + 1) xs))
     (read ∙ sym (read_side sides p k four side l is many lk))
 
-pub returns : goal.returns
+pub returns : Rattle.qm_report.proofs.parts.push_sides.Goals.returns
 returns c =
     let sides = c.args.t.now.sides.items in
     let p : ℕ = c.args.p in

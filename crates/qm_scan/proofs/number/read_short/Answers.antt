@@ -1,7 +1,6 @@
-use Rattle.std.proofs.Common.{◌+◌, ◌*◌, arith, sym, ◌∙◌, ap}
+use Rattle.std.proofs.{Common.◌+◌, Common.◌*◌, Common.arith, Common.sym, Common.◌∙◌, Common.ap}
 use Rattle.std.proofs.{lemmas.List.Folds.list_all_more, lemmas.Bool.and_from}
-use Rattle.std.specs.Char.{is_ascii_digit}
-use Rattle.qm_scan.proofs.Numbers.{number_more, taken_small}
+use Rattle.{std.specs.Char.is_ascii_digit, qm_scan.proofs.Numbers.number_more, qm_scan.proofs.Numbers.taken_small}
 use Rattle.qm_scan.proofs.number.read_short.Goals as goal
 
 pub overflow_mul-n : goal.overflow_mul-n

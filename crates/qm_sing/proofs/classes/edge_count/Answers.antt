@@ -1,10 +1,9 @@
-use Rattle.std.proofs.Common.{length, ℕ, cond, Bool, ap, arith}
+use Rattle.std.proofs.Common.{ℕ, cond, Bool, ap, arith}
 use Rattle.def_mesh.specs.{Darts.twin_of, Components.is_lesser}
-use Rattle.qm_sing.proofs.Edges.{filter_few, one_more}
 use Rattle.qm_sing.proofs.classes.edge_count.Goals.{then-is_lesser_dart, else-is_lesser_dart}
-use Rattle.qm_sing.proofs.classes.edge_count.Goals as goal
+use Rattle.qm_sing.proofs.Floods.{one_more}
 
-pub loop-d-preserved : goal.loop-d-preserved
+pub loop-d-preserved : Rattle.qm_sing.proofs.classes.edge_count.Goals.loop-d-preserved
 loop-d-preserved c =
     let more = one_more (λ d. is_lesser d (twin_of c.args.mesh.now d)) c.loop-d.d in
     elim c.if-is_lesser_dart.branch [

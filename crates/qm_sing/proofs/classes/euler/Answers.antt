@@ -1,8 +1,7 @@
 use Rattle.std.proofs.{Common.length, Common.Ok, Common.ap, Common.arith, lemmas.Int.ints}
-use Rattle.qm_sing.proofs.Edges.{used_is}
-use Rattle.qm_sing.proofs.classes.euler.Goals as goal
+use Rattle.qm_sing.proofs.Floods.{used_is}
 
-pub returns : goal.returns
+pub returns : Rattle.qm_sing.proofs.classes.euler.Goals.returns
 returns c = ap Ok (omega (
   arith,
   ints,

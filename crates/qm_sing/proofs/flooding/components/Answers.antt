@@ -1,6 +1,5 @@
 use Rattle.std.proofs.Common.{◌≡◌, ℕ, ◌<◌, List, replicate, length, rules, get_or, ap, sym, ◌∙◌, arith}
-use Rattle.std.proofs.lemmas.List.{with_items_is}
-use Rattle.std.proofs.lemmas.Grind.{get_or_default_zero}
+use Rattle.std.proofs.{lemmas.List.with_items_is, lemmas.Grind.get_or_default_zero}
 use Rattle.qm_sing.specs.declared.flooding.TheConstants.{NONE}
 use Rattle.qm_sing.proofs.Numberings.{numbering_none, numbering_closed, numbering_low, numbering_skip, numbering_more}
 use Rattle.qm_sing.proofs.Numberings.{numbers_are, count_is}

@@ -1,10 +1,8 @@
-use Rattle.std.proofs.Common.{◌≡◌, ◌<◌}
-use Rattle.def_mesh.specs.Darts.{darts}
 use Rattle.qm_sing.specs.Walks.{Goes, StaysAway, leader, walked}
-use Rattle.qm_sing.proofs.lines.first_of.Given as goal
+use Rattle.{std.proofs.Common.◌≡◌, std.proofs.Common.◌<◌, def_mesh.specs.Darts.darts}
 
 -- The walk stands as many steps back, and has not met d again.
-abbrev pub invariant-back : goal.invariant-back
+abbrev pub invariant-back : Rattle.qm_sing.proofs.lines.first_of.Given.invariant-back
 invariant-back l = record {
   at : l.first ≡ walked (leader l.mesh) l.d l.counter;
   low : l.first < darts l.mesh;

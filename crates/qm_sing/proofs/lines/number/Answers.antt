@@ -1,9 +1,8 @@
 use Rattle.std.proofs.Common.{◌≡◌, ◌+◌, Some, suc, length, sym, subst, ap, ◌∙◌, arith}
 use Rattle.std.proofs.lemmas.Bool.{false≢true}
-use Rattle.def_mesh.specs.Darts.{darts}
-use Rattle.def_runs.specs.Runs.{follower}
 use Rattle.qm_sing.specs.Walks.{Goes, StaysAway, walked}
 use Rattle.qm_sing.proofs.Walking.{away_more, follows, goes_more, not_endless, told_here, walked_on}
+use Rattle.{def_mesh.specs.Darts.darts, def_runs.specs.Runs.follower}
 use Rattle.qm_sing.proofs.lines.number.Goals as goal
 
 pub returns-in-None : goal.returns-in-None

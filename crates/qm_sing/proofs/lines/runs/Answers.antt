@@ -1,13 +1,10 @@
-use Rattle.std.proofs.Common.{rules, ◌≡◌, ◌<◌, length, get_or, replicate, sym, ap, ◌∙◌, arith}
+use Rattle.std.proofs.Common.{◌≡◌, ◌<◌, length, get_or, sym, ap, ◌∙◌, arith}
 use Rattle.std.proofs.lemmas.List.{get_or_default, length-map, with_items_is}
-use Rattle.std.specs.Vec.{with_items}
-use Rattle.def_mesh.specs.Darts.{darts}
-use Rattle.qm_sing.specs.{declared.flooding.TheConstants.NONE, Walks.IsLine}
-use Rattle.qm_sing.proofs.Longest.{none_found, one_more, passed_by}
-use Rattle.qm_sing.proofs.lines.runs.Goals.{then-index+in_ok-push+in_ok-push-2, else-index}
-use Rattle.qm_sing.proofs.lines.runs.Goals as goal
+use Rattle.qm_sing.proofs.{Longest.one_more, Longest.passed_by, lines.runs.Goals.then-index+in_ok-push+in_ok-push-2}
+use Rattle.qm_sing.proofs.{lines.runs.Goals.else-index}
+use Rattle.{std.specs.Vec.with_items, def_mesh.specs.Darts.darts, qm_sing.specs.Walks.IsLine}
 
-pub loop-d-preserved : goal.loop-d-preserved
+pub loop-d-preserved : Rattle.qm_sing.proofs.lines.runs.Goals.loop-d-preserved
 loop-d-preserved c =
     let low : c.loop-d.d < darts c.args.mesh.now = omega (arith, c.loop-d-test.true, ap length c.faces.ensures.value) in
     let read : c.index.result.now ≡ get_or c.loop-d.table.run.items c.loop-d.d 0 = c.index.ensures ∙ get_or_default

@@ -1,10 +1,9 @@
 use Rattle.std.proofs.Common.{◌≡◌, get_or, false, ◌++◌, ◌∷◌, [], ap, ◌∙◌, sym}
 use Rattle.qm_sing.specs.Rings.{is_seed}
-use Rattle.qm_sing.proofs.{Edges.filter_on, Edges.filter_off, Seeds.mark_test}
-use Rattle.qm_sing.proofs.origins.seeds.Goals.{then-marks-v+in_ok-push, else-marks-v}
-use Rattle.qm_sing.proofs.origins.seeds.Goals as goal
+use Rattle.qm_sing.proofs.{Floods.filter_on, Floods.filter_off, Seeds.mark_test}
+use Rattle.qm_sing.proofs.{origins.seeds.Goals.then-marks-v+in_ok-push, origins.seeds.Goals.else-marks-v}
 
-pub loop-v-preserved : goal.loop-v-preserved
+pub loop-v-preserved : Rattle.qm_sing.proofs.origins.seeds.Goals.loop-v-preserved
 loop-v-preserved c =
     let t : get_or c.args.marks.now c.loop-v.v false ≡ is_seed c.args.mesh.now c.loop-v.v =
     mark_test c.vertices-v-end.ensures.mesh.manifold c.args.marks.now c.loop-v.v c.requires in

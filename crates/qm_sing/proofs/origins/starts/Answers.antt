@@ -1,12 +1,9 @@
 use Rattle.std.proofs.Common.{◌≡◌, ◌<◌, is_some, ◌++◌, ◌∷◌, [], length, ap, ◌∙◌, sym, arith}
-use Rattle.def_mesh.specs.{Darts.darts}
-use Rattle.def_mesh.specs.{Components.is_start, Components.seeds, declared.Kind.TheVariants.Regular}
-use Rattle.qm_sing.proofs.{Edges.filter_on, Edges.filter_off, KindReads.kind_read, Seeds.mark_test, Seeds.start_told}
-use Rattle.qm_sing.proofs.Tables.{kinds_long}
-use Rattle.qm_sing.proofs.origins.starts.Goals.{then-may_start+in_ok-push, else-may_start}
-use Rattle.qm_sing.proofs.origins.starts.Goals as goal
+use Rattle.def_mesh.specs.{Darts.darts, Components.is_start, Components.seeds, declared.Kind.TheVariants.Regular}
+use Rattle.qm_sing.proofs.{Floods.filter_on, Floods.filter_off, Numberings.kind_read, Seeds.mark_test, Seeds.start_told}
+use Rattle.qm_sing.proofs.{origins.starts.Goals.then-may_start+in_ok-push, origins.starts.Goals.else-may_start}
 
-pub loop-d-preserved : goal.loop-d-preserved
+pub loop-d-preserved : Rattle.qm_sing.proofs.origins.starts.Goals.loop-d-preserved
 loop-d-preserved c = let s = c.args.classed.now in
     let ld : c.loop-d.d < darts s.mesh.now = omega (arith, c.loop-d-test.true, ap length c.faces.ensures.value) in
     let t : c.may_start.result ≡ is_start s.mesh.now (seeds s.mesh.now) c.loop-d.d =

@@ -1,7 +1,7 @@
 use Rattle.std.proofs.Common.{◌≡◌, ◌<◌, length, ap, arith}
 use Rattle.def_mesh.specs.{Darts.darts, declared.Kind.TheVariants.Regular}
-use Rattle.qm_sing.proofs.{KindReads.kind_read, Seeds.gathered, Seeds.number_read}
-use Rattle.qm_sing.proofs.Tables.{kinds_long, number_there, numbers_long}
+use Rattle.qm_sing.proofs.{Numberings.kind_read, Seeds.gathered, Seeds.number_read, Longest.kinds_long}
+use Rattle.qm_sing.proofs.{Longest.number_there, Longest.numbers_long}
 use Rattle.qm_sing.proofs.rings.gather.Goals as goal
 
 pub bounds-classed-d : goal.bounds-classed-d

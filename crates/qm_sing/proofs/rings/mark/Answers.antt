@@ -1,13 +1,10 @@
-use Rattle.std.proofs.Common.{◌≡◌, ◌<◌, length, ap, sym}
-use Rattle.std.proofs.{Common.◌∙◌, Common.arith}
+use Rattle.std.proofs.Common.{◌≡◌, ◌<◌, length, ap, sym, ◌∙◌, arith}
 use Rattle.def_mesh.specs.{Darts.darts, Darts.from_of, Vertices.vertex_count}
 use Rattle.qm_sing.specs.Rings.{is_seed}
-use Rattle.qm_sing.proofs.Seeds.{number_read, least_told, marks_on, marks_off}
-use Rattle.qm_sing.proofs.Tables.{number_there, numbers_long}
-use Rattle.qm_sing.proofs.rings.mark.Goals.{then-is_least, else-is_least}
-use Rattle.qm_sing.proofs.rings.mark.Goals as goal
+use Rattle.qm_sing.proofs.{Seeds.number_read, Seeds.least_told, Seeds.marks_on, Seeds.marks_off}
+use Rattle.qm_sing.proofs.{rings.mark.Goals.then-is_least, rings.mark.Goals.else-is_least}
 
-pub loop-d-preserved : goal.loop-d-preserved
+pub loop-d-preserved : Rattle.qm_sing.proofs.rings.mark.Goals.loop-d-preserved
 loop-d-preserved c = let s = c.args.classed.now in
     let ld : c.loop-d.d < darts s.mesh.now = omega (arith, c.loop-d-test.true, ap length c.faces.ensures.value) in
     let t : c.is_least.result ≡ is_seed s.mesh.now (from_of s.mesh.now c.loop-d.d) =

@@ -1,8 +1,5 @@
-use Rattle.std.proofs.Common.{subst}
-use Rattle.def_matching.specs.Dual.{dual}
-use Rattle.def_flow.specs.Network.{network}
-use Rattle.qm_solve.specs.{Rounds.IsRound, declared.round.Round.Round}
-use Rattle.qm_solve.proofs.Rounds.{solved}
+use Rattle.{std.proofs.Common.subst, def_matching.specs.Dual.dual, def_flow.specs.Network.network}
+use Rattle.{qm_solve.specs.Rounds.IsRound, qm_solve.specs.declared.round.Round.Round, qm_solve.proofs.Rounds.solved}
 use Rattle.qm_solve.proofs.descent.turn.Goals as goal
 
 pub returns-then-descent-eq1-clause-done : goal.returns-then-descent-eq1-clause-done

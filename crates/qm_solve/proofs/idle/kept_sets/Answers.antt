@@ -1,6 +1,5 @@
 use Rattle.std.proofs.Common.{length, ap}
-use Rattle.def_matching.specs.Dual.{dual}
-use Rattle.qm_solve.proofs.Named.{named_read}
+use Rattle.{def_matching.specs.Dual.dual, qm_solve.proofs.Rounds.named_read}
 use Rattle.qm_solve.proofs.idle.kept_sets.Goals as goal
 
 pub invariant_of-sets-clause-low : goal.invariant_of-sets-clause-low

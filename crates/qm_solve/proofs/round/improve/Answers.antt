@@ -1,9 +1,9 @@
 use Rattle.std.proofs.Common.{◌≡◌, ℕ, List, ℤ, pos, ◌-ℤ◌, ◌<ℤ◌, ◌≤ℤ◌, ap, ◌∙◌, arith}
 use Rattle.std.proofs.lemmas.Int.{ints}
 use Rattle.def_matching.specs.{Matching.graph, Matching.matching_cost, Dual.dual}
-use Rattle.def_flow.specs.{Network.Network, Network.network, Admissible.deviation, Admissible.entries}
-use Rattle.def_flow.specs.{Gadget.lows, Gadget.caps, MatchingGraph.matching_graph}
-use Rattle.qm_solve.proofs.{Near.start_lengths, Rounds.own_inside, Rounds.better, Rounds.sums_meet}
+use Rattle.def_flow.specs.{Network.Network, Network.network, Admissible.deviation, Admissible.entries, Gadget.lows}
+use Rattle.def_flow.specs.{Gadget.caps, MatchingGraph.matching_graph}
+use Rattle.qm_solve.proofs.{Starts.start_lengths, Rounds.own_inside, Rounds.better, Rounds.sums_meet}
 use Rattle.qm_solve.proofs.round.improve.Goals as goal
 
 pub graph_of-requires-clause-lengths : goal.graph_of-requires-clause-lengths

@@ -1,15 +1,14 @@
-use Rattle.std.proofs.{lemmas.Int.to_z-of_z, Common.◌≡◌, Common.◌<◌, Common.◌^◌, Common.ℤ, Common.sym, Common.◌∙◌}
-use Rattle.std.proofs.{Common.ap, Common.true≢false, lemmas.Bool.false≢true}
+use Rattle.std.proofs.Common.{◌≡◌, ◌<◌, ◌^◌, ℤ, sym, ◌∙◌, ap, true≢false}
+use Rattle.std.proofs.{lemmas.Int.to_z-of_z, lemmas.Bool.false≢true}
 use mir.Syntax.{w128}
 use mir.Val.{to_z, of_z}
 use lib.Signed.{mag}
-use Rattle.std.specs.{Prelude.pos, List.list_all}
-use Rattle.def_flow.specs.Network.{network}
 use Rattle.def_flow.specs.Admissible.{AreNetLengths, IsAdmissible, deviation, entries}
-use Rattle.qm_solve.specs.Rounds.{is_near_arc}
-use Rattle.qm_solve.proofs.Near.{near_is, start_lengths}
+use Rattle.def_flow.specs.Network.{network}
 use Rattle.qm_solve.proofs.start.is_start.Goals.{then-not-are_lengths-via-then-not-are_lengths}
 use Rattle.qm_solve.proofs.start.is_start.Goals.{then-not-are_lengths-via-else-not-are_lengths+then-not-admissible}
+use Rattle.qm_solve.proofs.Starts.{near_is, start_lengths}
+use Rattle.{std.specs.Prelude.pos, std.specs.List.list_all, qm_solve.specs.Rounds.is_near_arc}
 use Rattle.qm_solve.proofs.start.is_start.Goals as goal
 
 plain : (z : ℤ) → mag z < 2 ^ 127 → to_z w128 (of_z w128 z) ≡ z

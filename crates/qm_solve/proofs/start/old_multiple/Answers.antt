@@ -1,10 +1,8 @@
 use Rattle.std.proofs.Common.{◌≡◌, ℕ, ◌+◌, ◌*◌, ◌/◌, ◌%◌, ◌≤◌, ap, arith}
 use Rattle.std.proofs.Math.Nat.{mul-le-mul_right}
-use Rattle.def_flow.specs.Descent.{greatest_floor}
-use Rattle.qm_solve.proofs.Starts.{greatest_low}
-use Rattle.qm_solve.proofs.start.old_multiple.Goals as goal
+use Rattle.{def_flow.specs.Descent.greatest_floor, qm_solve.proofs.Starts.greatest_low}
 
-pub multiple-requires : goal.multiple-requires
+pub multiple-requires : Rattle.qm_solve.proofs.start.old_multiple.Goals.multiple-requires
 multiple-requires c =
     let p : ℕ = c.args.net.now.whole.now.p in
     let q : ℕ = c.args.net.now.whole.now.q in

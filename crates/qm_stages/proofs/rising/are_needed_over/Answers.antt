@@ -1,7 +1,6 @@
 use Rattle.qm_stages.proofs.Positions.{arcs_long}
-use Rattle.qm_stages.proofs.rising.are_needed_over.Goals as goal
 
-pub are_needed-requires : goal.are_needed-requires
+pub are_needed-requires : Rattle.qm_stages.proofs.rising.are_needed_over.Goals.are_needed-requires
 are_needed-requires c = record {
   layout = rw c.layout.ensures.layout c.layout.ensures.laid.0;
   long = arcs_long c.layout.result.now c.layout.ensures.layout c.requires.long;

@@ -1,7 +1,6 @@
 use Rattle.qm_stages.proofs.Positions.{arcs_long}
-use Rattle.qm_stages.proofs.rising.rises_over.Goals as goal
 
-pub needed_rises-requires : goal.needed_rises-requires
+pub needed_rises-requires : Rattle.qm_stages.proofs.rising.rises_over.Goals.needed_rises-requires
 needed_rises-requires c = record {
   layout = rw c.layout.ensures.layout c.layout.ensures.laid.0;
   long = arcs_long c.layout.result.now c.layout.ensures.layout c.requires.long;

@@ -1,11 +1,8 @@
 use Rattle.std.proofs.Common.{◌≡◌, ℕ, ◌-◌, ◌*◌, List, length, sym, ◌∙◌, ap, arith}
 use Rattle.std.proofs.lemmas.List.{length-map}
-use Rattle.std.specs.Prelude.{slice_index}
-use Rattle.def_remesh.specs.Numberings.{tables_of}
-use Rattle.qm_offsets.specs.Fours.{begins_of}
 use Rattle.qm_offsets.proofs.Spots.{next_room, term_room}
-use Rattle.qm_stitch.specs.Sizes.{product_by}
-use Rattle.qm_stitch.proofs.build.patch_starts.Goals.{After-last_of-in-loop-patch}
+use Rattle.{std.specs.Prelude.slice_index, def_remesh.specs.Numberings.tables_of, qm_offsets.specs.Fours.begins_of}
+use Rattle.{qm_stitch.specs.Sizes.product_by, qm_stitch.proofs.build.patch_starts.Goals.After-last_of-in-loop-patch}
 use Rattle.qm_stitch.proofs.build.patch_starts.Goals as goal
 
 abbrev end_of : (starts : List ℕ) → ℕ

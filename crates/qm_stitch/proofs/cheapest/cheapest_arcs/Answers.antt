@@ -1,11 +1,9 @@
 use Rattle.std.proofs.Common.{◌≡◌, Bool, List, false, length, get_or, replicate, rules, sym, ◌∙◌, ap, subst, arith}
 use Rattle.std.proofs.lemmas.List.{get_or-replicate, length-map, length-replicate, with_items_is}
 use Rattle.std.proofs.lemmas.List.Sorted.{All-permutation}
-use Rattle.std.specs.{List.All, List.Sorted.IsPermutation}
 use Rattle.def_layout.specs.{Arcs.path, Layouts.layout_of}
-use Rattle.qm_stitch.specs.Remedies.{AreInOrder, AreMarksOf, IsRunIn}
-use Rattle.qm_stitch.specs.declared.remedy.Remedy.{Remedy}
-use Rattle.qm_stitch.proofs.Firsts.{marks_of}
+use Rattle.qm_stitch.specs.{Remedies.AreInOrder, Remedies.AreMarksOf, Remedies.IsRunIn, declared.remedy.Remedy.Remedy}
+use Rattle.{std.specs.List.All, std.specs.List.Sorted.IsPermutation, qm_stitch.proofs.Grids.marks_of}
 use Rattle.qm_stitch.proofs.cheapest.cheapest_arcs.Goals as goal
 
 pub mark_firsts-requires-clause-runs : goal.mark_firsts-requires-clause-runs

@@ -1,5 +1,4 @@
-use Rattle.std.proofs.Common.{arith}
-use Rattle.qm_stitch.proofs.Adding.{told_next, told_none}
+use Rattle.{std.proofs.Common.arith, qm_stitch.proofs.DoubledPairs.told_next, qm_stitch.proofs.DoubledPairs.told_none}
 use Rattle.qm_stitch.proofs.cheapest.mark_firsts.Goals as goal
 
 pub loop-k-init : goal.loop-k-init

@@ -1,13 +1,7 @@
-use Rattle.std.proofs.Common.{subst, arith}
-use Rattle.std.proofs.lemmas.List.{length-map}
-use Rattle.def_cut.specs.Grids.{rectangle}
-use Rattle.def_layout.specs.Layouts.{layout_of}
-use Rattle.qm_offsets.proofs.Whole.{way_for}
-use Rattle.qm_stitch.specs.{Remedies.IsRunIn}
-use Rattle.qm_stitch.specs.declared.remedy.Run.TheVariants.{Side}
-use Rattle.qm_stitch.proofs.cheapest.mark_run.Goals as goal
+use Rattle.qm_stitch.specs.{Remedies.IsRunIn, declared.remedy.Run.TheVariants.Side}
+use Rattle.{std.proofs.Common.subst, def_layout.specs.Layouts.layout_of, qm_offsets.proofs.Whole.way_for}
 
-pub returns-in-Side : goal.returns-in-Side
+pub returns-in-Side : Rattle.qm_stitch.proofs.cheapest.mark_run.Goals.returns-in-Side
 returns-in-Side c =
     let there : IsRunIn (layout_of c.args.numbered.now.t.now) (Side c.in-Side.patch c.in-Side.side) =
     subst (IsRunIn (layout_of c.args.numbered.now.t.now)) c.in-Side.is c.requires.run in

@@ -1,14 +1,12 @@
 use Rattle.std.proofs.Common.{◌≡◌, ℕ, suc, ◌+◌, ◌*◌, ◌^◌, ◌<◌, ◌≤◌, length, refl, ◌∙◌, arith}
 use Rattle.std.proofs.lemmas.List.{length-map}
-use Rattle.def_cut.specs.Grids.{rectangle}
 use Rattle.def_layout.specs.{Arcs.long_at, Gluings.south, Gluings.west, Lengths.wide, Lengths.high, Layouts.gluing_of}
 use Rattle.def_layout.specs.{Layouts.layout_of, declared.tmesh.TMesh.TMesh}
 use Rattle.def_layoutnet.specs.MeshLayouts.{IsSomeLayout}
 use Rattle.def_written.specs.NewFaces.{cells_before, face_count}
-use Rattle.def_remesh.specs.NewPoints.{lengths_in}
-use Rattle.embedding_laws.proofs.{MeshLayouts.laid_of, MeshLayouts.lengths_of, Bounds.cells_most, Bounds.old_faces}
-use Rattle.written_laws.proofs.Runs.{count_rises}
-use Rattle.qm_offsets.proofs.Spots.{count_step}
+use Rattle.embedding_laws.proofs.Bounds.{laid_of, lengths_of, cells_most, old_faces}
+use Rattle.written_laws.proofs.Spacings.{count_rises}
+use Rattle.{def_cut.specs.Grids.rectangle, def_remesh.specs.NewPoints.lengths_in, qm_offsets.proofs.Spots.count_step}
 use Rattle.qm_stitch.proofs.count.count_faces.Goals as goal
 
 -- All faces are few enough for 128 bits.

@@ -1,8 +1,7 @@
 use Rattle.std.proofs.Common.{ℕ, List, refl, subst}
 use Rattle.def_layout.specs.Layouts.{gluing_of, layout_of}
-use Rattle.def_remesh.specs.{NewPoints.lengths_in}
-use Rattle.qm_stitch.specs.{Rims.IsRepeat}
-use Rattle.qm_stitch.proofs.{DoubledPairs.first_doubled, DoubledPairs.none_doubled, Grids.tables_are}
+use Rattle.qm_stitch.proofs.{DoubledPairs.none_doubled, Grids.tables_are}
+use Rattle.{def_remesh.specs.NewPoints.lengths_in, qm_stitch.specs.Rims.IsRepeat}
 use Rattle.qm_stitch.proofs.doubled.check_edges.Goals as goal
 
 pub invariant_of-numbered : goal.invariant_of-numbered

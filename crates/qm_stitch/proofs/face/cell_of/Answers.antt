@@ -1,11 +1,9 @@
 use Rattle.std.proofs.Common.{◌≡◌, ℕ, ◌<◌, ◌-◌, ◌/◌, ◌%◌, List, length, refl, sym, ◌∙◌, ap, subst, arith}
-use Rattle.def_math.specs.{Counts.count_below, Runs.run_at}
 use Rattle.def_layout.specs.{Gluings.south, Layouts.layout_of, Lengths.wide}
 use Rattle.def_written.specs.NewFaces.{cells_before, patch_of}
-use Rattle.def_remesh.specs.Numberings.{AreRunStarts}
-use Rattle.qm_stitch.specs.Lengthened.{gluing_in, lengths_by}
-use Rattle.qm_stitch.specs.declared.numbered.Numbered.{Numbered}
+use Rattle.qm_stitch.specs.{Lengthened.gluing_in, Lengthened.lengths_by, declared.numbered.Numbered.Numbered}
 use Rattle.qm_stitch.proofs.Grids.{cell_is, face_low, starts_at, IsFaceAt}
+use Rattle.{def_math.specs.Counts.count_below, def_math.specs.Runs.run_at, def_remesh.specs.Numberings.AreRunStarts}
 use Rattle.qm_stitch.proofs.face.cell_of.Goals as goal
 
 -- The patch that is found.

@@ -1,8 +1,7 @@
 use Rattle.std.proofs.{Common.arith, lemmas.List.length-map}
 use Rattle.def_layout.specs.{Arcs.path, Layouts.gluing_of, Layouts.layout_of}
-use Rattle.def_written.specs.Edges.{IsUndoubled}
-use Rattle.def_remesh.specs.{NewPoints.lengths_in}
 use Rattle.qm_stitch.proofs.SafeLengths.{safe_undoubled, shapes_kept}
+use Rattle.{def_written.specs.Edges.IsUndoubled, def_remesh.specs.NewPoints.lengths_in}
 use Rattle.qm_stitch.proofs.planning.plan.Goals as goal
 
 pub returns-then-are_safe-clause-undoubled : goal.returns-then-are_safe-clause-undoubled

@@ -1,8 +1,7 @@
 use Rattle.std.proofs.{Common.◌≡◌, Common.◌+◌, Common.◌-◌, Common.◌^◌, Common.◌<◌, Common.arith, lemmas.List.length-map}
-use Rattle.def_layout.specs.Arcs.{path}
 use Rattle.def_written.specs.{Numbers.vertex_number, Points.arc_point}
-use Rattle.qm_stitch.proofs.Grids.{arc_here}
 use Rattle.qm_stitch.specs.Lengthened.{gluing_in, lengths_by}
+use Rattle.{def_layout.specs.Arcs.path, qm_stitch.proofs.Grids.arc_here}
 use Rattle.qm_stitch.proofs.point.arc_number.Goals as goal
 
 here : (c : goal.After-row_known-2-1) → (c.args.numbered.now.tables.now.nodes + c.index-3.result.now + (c.args.k - 1)

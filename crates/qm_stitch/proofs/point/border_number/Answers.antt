@@ -1,12 +1,9 @@
-use Rattle.std.proofs.Common.{List, ◌∙◌, ap, arith}
-use Rattle.std.proofs.lemmas.List.{length-map}
-use Rattle.def_cut.specs.Grids.{rectangle}
+use Rattle.std.proofs.{Common.List, Common.◌∙◌, Common.ap, Common.arith, lemmas.List.length-map}
 use Rattle.def_layout.specs.{Arcs.path, declared.tmesh.SideArc.SideArc}
-use Rattle.def_written.specs.Numbers.{vertex_number}
 use Rattle.def_remesh.specs.{Numberings.tables_of, declared.tables.RunStarts.RunStarts}
 use Rattle.qm_stitch.specs.{Sizes.point_on, Sizes.table_in, Lengthened.gluing_in, Lengthened.lengths_by}
-use Rattle.qm_stitch.proofs.Grids.{border, IsBorder}
-use Rattle.qm_stitch.proofs.point.border_number.Goals.{After-side_of}
+use Rattle.qm_stitch.proofs.{Grids.border, Grids.IsBorder, point.border_number.Goals.After-side_of}
+use Rattle.{def_cut.specs.Grids.rectangle, def_written.specs.Numbers.vertex_number}
 use Rattle.qm_stitch.proofs.point.border_number.Goals as goal
 
 there : (c : After-side_of) → IsBorder c.args.numbered.now.numbers c.args.patch c.args.side c.side_of.result.now

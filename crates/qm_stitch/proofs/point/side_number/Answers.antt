@@ -1,9 +1,7 @@
 use Rattle.std.proofs.Common.{length, ◌∙◌, ap}
-use Rattle.def_written.specs.Numbers.{vertex_number}
-use Rattle.def_remesh.specs.Numberings.{sizes_on}
-use Rattle.qm_stitch.proofs.Grids.{there, IsThere}
+use Rattle.qm_stitch.proofs.{Grids.there, Grids.IsThere, point.side_number.Goals.After-spot_in-at}
 use Rattle.qm_stitch.specs.Lengthened.{gluing_in, lengths_by}
-use Rattle.qm_stitch.proofs.point.side_number.Goals.{After-spot_in-at}
+use Rattle.{def_written.specs.Numbers.vertex_number, def_remesh.specs.Numberings.sizes_on}
 use Rattle.qm_stitch.proofs.point.side_number.Goals as goal
 
 here : (c : After-spot_in-at) → IsThere c.args.side.now.numbered.numbers c.args.side.now.arcs.now

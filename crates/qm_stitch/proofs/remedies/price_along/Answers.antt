@@ -1,12 +1,9 @@
-use Rattle.std.proofs.Common.{◌≡◌, ◌+◌, ◌<◌, ℕ, List, take, get_or, length, false, ◌∙◌, ap, arith, pos, ◌+ℤ◌}
-use Rattle.std.proofs.Common.{rules, w64, to_z, of_z}
-use Rattle.std.proofs.lemmas.Int.{ints, to_z-of_z}
-use Rattle.std.proofs.lemmas.List.{take_more}
-use Rattle.std.specs.Prelude.{ℤ}
+use Rattle.std.proofs.Common.{◌≡◌, ◌+◌, ◌<◌, ℕ, List, take, get_or, length, false, ◌∙◌, ap, arith, pos, ◌+ℤ◌, rules}
+use Rattle.std.proofs.Common.{w64, to_z, of_z}
+use Rattle.std.proofs.{lemmas.Int.ints, lemmas.Int.to_z-of_z, lemmas.List.take_more}
 use Rattle.def_layout.specs.{Lengths.Lengths, declared.tmesh.SideArc.SideArc}
-use Rattle.sum_laws.proofs.Sums.{total_append}
 use Rattle.qm_stitch.specs.{Lengthened.lengths_by, Remedies.price_along, Remedies.short_price}
-use Rattle.qm_stitch.proofs.remedies.price_along.Goals as goal
+use Rattle.{std.specs.Prelude.ℤ, sum_laws.proofs.Sums.total_append}
 
 more : (x : Lengths) (prices : List ℤ) (uses : List SideArc) (i : ℕ) (d : SideArc) → i < length uses
     → price_along x prices (take (i + 1) uses)
@@ -14,7 +11,7 @@ more : (x : Lengths) (prices : List ℤ) (uses : List SideArc) (i : ℕ) (d : Si
 more x prices uses i d low = ap (price_along x prices) (take_more uses i d low) ∙ total_append
     (λ (u : SideArc). short_price x prices u.arc) _ _
 
-pub loop-used-preserved : goal.loop-used-preserved
+pub loop-used-preserved : Rattle.qm_stitch.proofs.remedies.price_along.Goals.loop-used-preserved
 loop-used-preserved c =
     let x = lengths_by c.args.priced.now.keyed.numbered in
     let e = more x c.args.priced.now.prices.now c.args.uses.now c.loop-used.used-index

@@ -1,16 +1,10 @@
-use Rattle.std.proofs.Common.{◌<◌, ℕ, sym, ◌∙◌, subst, arith}
-use Rattle.std.proofs.Common.{rules, w64}
-use Rattle.std.proofs.lemmas.Bool.{false≢true}
-use Rattle.std.proofs.lemmas.Int.{to_z-of_z}
+use Rattle.std.proofs.Common.{◌<◌, ℕ, sym, ◌∙◌, subst, arith, rules, w64}
+use Rattle.std.proofs.{lemmas.Bool.false≢true, lemmas.Int.to_z-of_z, lemmas.List.length-map}
 use mir.Syntax.{w128}
-use Rattle.std.proofs.lemmas.List.{length-map}
-use Rattle.def_flow.specs.declared.limits.TheConstants.{MAX_FLOOR}
-use Rattle.def_layout.specs.Arcs.{path}
-use Rattle.qm_stitch.specs.Lengthened.{lengths_by}
-use Rattle.qm_stitch.specs.declared.remedy.Run.TheVariants.{Arc}
-use Rattle.qm_stitch.proofs.Adding.{told_next, told_none, told_so}
-use Rattle.qm_stitch.proofs.Lines.{arc_both, none_along}
-use Rattle.qm_stitch.proofs.TightEdges.{end_is}
+use Rattle.qm_stitch.specs.{Lengthened.lengths_by, declared.remedy.Run.TheVariants.Arc}
+use Rattle.qm_stitch.proofs.{DoubledPairs.told_next, DoubledPairs.told_none, DoubledPairs.told_so, Lines.arc_both}
+use Rattle.qm_stitch.proofs.{Lines.none_along, TightEdges.end_is}
+use Rattle.{def_flow.specs.declared.limits.TheConstants.MAX_FLOOR, def_layout.specs.Arcs.path}
 use Rattle.qm_stitch.proofs.remedies.push_arc.Goals as goal
 
 pub returns-then-not-is_short_arc : goal.returns-then-not-is_short_arc

@@ -1,10 +1,8 @@
-use Rattle.std.proofs.Common.{◌-◌, ℕ, ◌∙◌, ap, arith}
-use Rattle.std.proofs.lemmas.Int.{to_z-of_z}
+use Rattle.std.proofs.{Common.◌-◌, Common.ℕ, Common.◌∙◌, Common.ap, lemmas.Int.to_z-of_z}
 use Rattle.qm_stitch.specs.{Lengthened.gluing_in, Lengthened.lengths_by, Rims.along_lines, Rims.key_of, Rims.line_edge}
-use Rattle.qm_stitch.proofs.{Adding.told_more, Lines.line_both, TightEdges.line_some}
-use Rattle.qm_stitch.proofs.remedies.push_line.Goals as goal
+use Rattle.qm_stitch.proofs.{DoubledPairs.told_more, Lines.line_both}
 
-pub returns : goal.returns
+pub returns : Rattle.qm_stitch.proofs.remedies.push_line.Goals.returns
 returns c r =
     let numbered = c.args.priced.now.keyed.numbered in
     let line = c.args.line in

@@ -1,5 +1,5 @@
 use Rattle.std.proofs.Common.{◌≡◌, length, arith}
-use Rattle.qm_stitch.proofs.Adding.{told_next, told_none}
+use Rattle.qm_stitch.proofs.DoubledPairs.{told_next, told_none}
 use Rattle.qm_stitch.proofs.remedies.push_patches.Goals as goal
 
 pub loop-patch-init : goal.loop-patch-init

@@ -1,8 +1,7 @@
-use Rattle.std.proofs.Common.{[], ◌∷◌, sym, inl, inr}
 use Rattle.std.proofs.lemmas.List.Elements.{Contains-append_left, Contains-push, Contains-push_cases}
-use Rattle.qm_stitch.proofs.remedies.push_remedy.Goals as goal
+use Rattle.std.proofs.Common.{[], ◌∷◌, sym, inl, inr}
 
-pub returns : goal.returns
+pub returns : Rattle.qm_stitch.proofs.remedies.push_remedy.Goals.returns
 returns c r =
     let old = c.args.found.now.items in
     let new = c.args.remedy in

@@ -1,21 +1,14 @@
-use Rattle.std.proofs.Common.{◌<◌, length, sym, ◌∙◌, ap, arith}
-use Rattle.std.proofs.Common.{rules}
-use Rattle.std.proofs.lemmas.Bool.{false≢true}
-use Rattle.std.proofs.lemmas.Int.{to_z-of_z}
+use Rattle.std.proofs.{Common.◌<◌, Common.length, Common.sym, Common.◌∙◌, Common.ap, Common.arith, Common.rules}
+use Rattle.std.proofs.{lemmas.Bool.false≢true, lemmas.Int.to_z-of_z, lemmas.List.length-map}
 use mir.Syntax.{w128}
-use Rattle.std.proofs.lemmas.List.{length-map}
-use Rattle.std.specs.{List.All}
-use Rattle.def_cut.specs.Grids.{rectangle}
 use Rattle.def_layout.specs.{Arcs.path, Layouts.layout_of, declared.tmesh.SideArc.SideArc}
-use Rattle.written_laws.proofs.Sides.{size_some}
-use Rattle.qm_offsets.specs.Fours.{arcs_on}
-use Rattle.qm_offsets.proofs.Whole.{arcs_low, way_for}
 use Rattle.qm_stitch.specs.{Lengthened.lengths_by, Remedies.price_along}
-use Rattle.qm_stitch.specs.declared.remedy.Run.TheVariants.{Side as side_run}
-use Rattle.qm_stitch.proofs.Adding.{told_next, told_none, told_so}
-use Rattle.qm_stitch.proofs.Lines.{none_along, side_both}
-use Rattle.qm_stitch.proofs.Runs.{short_uses, uses_short}
-use Rattle.qm_stitch.proofs.remedies.push_side.Goals.{After-side_of-uses}
+use Rattle.qm_stitch.specs.{declared.remedy.Run.TheVariants.Side as side_run}
+use Rattle.qm_stitch.proofs.{DoubledPairs.told_next, DoubledPairs.told_none, DoubledPairs.told_so, Lines.none_along}
+use Rattle.qm_stitch.proofs.{Lines.side_both, RiseLists.short_uses, RiseLists.uses_short}
+use Rattle.qm_stitch.proofs.{remedies.push_side.Goals.After-side_of-uses}
+use Rattle.{std.specs.List.All, def_cut.specs.Grids.rectangle, written_laws.proofs.Sides.size_some}
+use Rattle.{qm_offsets.specs.Fours.arcs_on, qm_offsets.proofs.Whole.arcs_low, qm_offsets.proofs.Whole.way_for}
 use Rattle.qm_stitch.proofs.remedies.push_side.Goals as goal
 
 low : (c : After-side_of-uses) → c.args.patch < length (layout_of c.args.priced.now.keyed.numbered.t.now).patches

@@ -1,10 +1,8 @@
 use Rattle.std.proofs.Common.{◌≤◌, ◌<◌, ℕ, not}
-use Rattle.def_layout.specs.Lengths.{size}
 use Rattle.qm_stitch.specs.{Lengthened.gluing_in, Lengthened.lengths_by, Remedies.AddsRemedies, Rims.along_lines}
-use Rattle.qm_stitch.proofs.Lines.{IsInLine}
-use Rattle.qm_stitch.proofs.remedies.push_side.Given as goal
+use Rattle.{def_layout.specs.Lengths.size, qm_stitch.proofs.Lines.IsInLine}
 
-abbrev pub invariant-loop-number : goal.invariant-loop-number
+abbrev pub invariant-loop-number : Rattle.qm_stitch.proofs.remedies.push_side.Given.invariant-loop-number
 invariant-loop-number l = record {
   some : 1 ≤ l.number;
   upto : l.number ≤ size (gluing_in l.priced.keyed.numbered) (lengths_by l.priced.keyed.numbered) l.patch

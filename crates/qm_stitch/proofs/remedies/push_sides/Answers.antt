@@ -1,5 +1,5 @@
 use Rattle.std.proofs.Common.{◌≡◌, arith}
-use Rattle.qm_stitch.proofs.Adding.{told_next, told_none}
+use Rattle.qm_stitch.proofs.DoubledPairs.{told_next, told_none}
 use Rattle.qm_stitch.proofs.remedies.push_sides.Goals as goal
 
 pub loop-side-init : goal.loop-side-init

@@ -1,11 +1,9 @@
-use Rattle.std.proofs.Common.{◌≡◌, rules, [], length, ap, sym, arith}
-use Rattle.std.proofs.lemmas.List.{length-map}
-use Rattle.def_cut.specs.Grids.{rectangle}
-use Rattle.def_layout.specs.Arcs.{path}
-use Rattle.qm_stitch.proofs.{Adding.told_all, Adding.told_more, Lines.all_both}
-use Rattle.qm_stitch.proofs.remedies.remedies.Goals as goal
+use Rattle.std.proofs.{Common.◌≡◌, Common.rules, Common.[], Common.length, Common.ap, Common.sym, Common.arith}
+use Rattle.std.proofs.{lemmas.List.length-map}
+use Rattle.qm_stitch.proofs.{DoubledPairs.told_all, DoubledPairs.told_more, Lines.all_both}
+use Rattle.{def_cut.specs.Grids.rectangle, def_layout.specs.Arcs.path}
 
-pub returns : goal.returns
+pub returns : Rattle.qm_stitch.proofs.remedies.remedies.Goals.returns
 returns c r =
     let t = c.args.priced.now.keyed.numbered.t.now in
     let none : c.new-found.result.items ≡ [] = search rules in

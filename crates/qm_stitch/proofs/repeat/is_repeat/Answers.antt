@@ -1,11 +1,9 @@
 use Rattle.std.proofs.Common.{◌≡◌, ◌<◌, ◌-◌, ℕ, Ok, Result, length, get_or, sym, ◌∙◌, subst, inl, inr}
-use Rattle.std.proofs.lemmas.Bool.{eq-eqb, eqb-true, false≢true}
-use Rattle.std.proofs.lemmas.List.Sorted.{searched}
+use Rattle.std.proofs.{lemmas.Bool.eq-eqb, lemmas.Bool.eqb-true, lemmas.Bool.false≢true, lemmas.List.Sorted.searched}
 use Rattle.std.specs.{Ordering.nat_cmp, List.Sorted.IsBinarySearchResult}
 use Rattle.qm_stitch.proofs.Repeats.{before_repeats, beside}
-use Rattle.qm_stitch.proofs.repeat.is_repeat.Goals as goal
 
-pub returns-then-place-gt0 : goal.returns-then-place-gt0
+pub returns-then-place-gt0 : Rattle.qm_stitch.proofs.repeat.is_repeat.Goals.returns-then-place-gt0
 returns-then-place-gt0 c =
     let keys = c.args.keyed.now.keys.now in
     let rises = c.args.keyed.now.rim.increasing in

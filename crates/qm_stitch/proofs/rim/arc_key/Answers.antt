@@ -1,11 +1,8 @@
 use Rattle.std.proofs.{Common.inl, Common.inr, Common.arith, lemmas.Bool.cases_eq, lemmas.List.length-map}
-use Rattle.def_layout.specs.Arcs.{path}
-use Rattle.def_written.specs.Points.{along}
 use Rattle.qm_stitch.specs.Lengthened.{gluing_in, lengths_by}
-use Rattle.written_laws.proofs.Numbers.{number_low}
-use Rattle.qm_stitch.proofs.rim.arc_key.Goals as goal
+use Rattle.{def_layout.specs.Arcs.path, def_written.specs.Points.along, written_laws.proofs.EdgeNumbers.number_low}
 
-pub overflow_add-k : goal.overflow_add-k
+pub overflow_add-k : Rattle.qm_stitch.proofs.rim.arc_key.Goals.overflow_add-k
 overflow_add-k c = elim (cases_eq c.args.k 0) [
   | inl first ↦ omega (arith, first)
   | inr later ↦ omega (

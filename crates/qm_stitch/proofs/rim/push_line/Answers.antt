@@ -1,10 +1,7 @@
-use Rattle.std.proofs.Common.{◌-◌, ℕ, ◌∙◌, ap, arith}
-use Rattle.std.proofs.lemmas.Bool.{le-ltb, lt-ltb}
-use Rattle.std.specs.Prelude.{nat_lt}
-use Rattle.def_layout.specs.Lengths.{size}
-use Rattle.written_laws.proofs.Sides.{size_some}
+use Rattle.std.proofs.{Common.◌-◌, Common.ℕ, Common.◌∙◌, Common.ap, Common.arith, lemmas.Bool.lt-ltb}
 use Rattle.qm_stitch.specs.{Rims.along_lines, Rims.key_of, Rims.line_edge, Lengthened.gluing_in, Lengthened.lengths_by}
-use Rattle.qm_stitch.proofs.RimLists.{first_alone, first_next}
+use Rattle.qm_stitch.proofs.RimEdges.{first_next}
+use Rattle.{std.specs.Prelude.nat_lt, def_layout.specs.Lengths.size, written_laws.proofs.Sides.size_some}
 use Rattle.qm_stitch.proofs.rim.push_line.Goals as goal
 
 pub key_at-requires-clause-low : goal.key_at-requires-clause-low

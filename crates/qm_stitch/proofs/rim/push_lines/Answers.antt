@@ -1,11 +1,8 @@
 use Rattle.std.proofs.Common.{◌≡◌, ◌<◌, ◌-◌, ◌+◌, ℕ, not, length, sym, arith}
 use Rattle.std.proofs.lemmas.List.{append-nil, length-map}
-use Rattle.def_cut.specs.Grids.{rectangle}
 use Rattle.def_layout.specs.{Lengths.size, Layouts.layout_of, declared.tmesh.TMesh.TMesh}
-use Rattle.qm_stitch.specs.Rims.{along_lines, key_of, line_ends}
-use Rattle.qm_stitch.specs.Lengthened.{gluing_in, lengths_by}
-use Rattle.qm_stitch.proofs.RimLists.{parts_next}
-use Rattle.written_laws.proofs.Sides.{size_some}
+use Rattle.qm_stitch.specs.{Rims.along_lines, Rims.key_of, Rims.line_ends, Lengthened.gluing_in, Lengthened.lengths_by}
+use Rattle.{def_cut.specs.Grids.rectangle, qm_stitch.proofs.RimEdges.parts_next, written_laws.proofs.Sides.size_some}
 use Rattle.qm_stitch.proofs.rim.push_lines.Goals as goal
 
 low : (t : TMesh) (patch : ℕ) → patch < length t.patches.items → patch < length (layout_of t).patches

@@ -1,10 +1,9 @@
 use Rattle.std.proofs.Common.{◌≡◌, ◌≤◌, ◌-◌, ◌++◌, not}
 use Rattle.def_layout.specs.Lengths.{size}
-use Rattle.qm_stitch.specs.Rims.{along_lines, keys_of, lines_upto}
-use Rattle.qm_stitch.specs.Lengthened.{gluing_in, lengths_by}
-use Rattle.qm_stitch.proofs.rim.push_lines.Given as goal
+use Rattle.qm_stitch.specs.{Rims.along_lines, Rims.keys_of, Rims.lines_upto, Lengthened.gluing_in}
+use Rattle.qm_stitch.specs.{Lengthened.lengths_by}
 
-abbrev pub invariant-loop-number : goal.invariant-loop-number
+abbrev pub invariant-loop-number : Rattle.qm_stitch.proofs.rim.push_lines.Given.invariant-loop-number
 invariant-loop-number l = record {
   some : 1 ≤ l.number;
   upto : l.number ≤ size (gluing_in l.numbered) (lengths_by l.numbered) l.patch (along_lines (not l.upright));

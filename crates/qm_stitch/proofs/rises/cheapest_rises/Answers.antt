@@ -1,14 +1,10 @@
 use Rattle.std.proofs.Common.{◌≡◌, ◌↔◌, ◌<◌, true, false, length, sym, ◌∙◌, ap, subst, inl, inr, arith}
-use Rattle.std.proofs.lemmas.Bool.{cases_eq, false≢true}
-use Rattle.std.proofs.lemmas.List.Elements.{Contains-get_or}
-use Rattle.std.proofs.lemmas.Result.{IfOk-weaker}
-use Rattle.std.specs.List.{Contains}
-use Rattle.def_layout.specs.Layouts.{layout_of}
-use Rattle.def_remesh.specs.NewPoints.{lengths_in}
-use Rattle.qm_stitch.specs.Remedies.{AreMarksOf, IsRemedy}
-use Rattle.qm_stitch.specs.declared.remedy.Remedy.{Remedy}
-use Rattle.qm_stitch.proofs.{Chosen.choice_follows, Chosen.choice_needed, Runs.remedy_in}
-use Rattle.qm_stitch.proofs.rises.cheapest_rises.Goals.{After-is_any-some, In_ok-remedies}
+use Rattle.std.proofs.{lemmas.Bool.cases_eq, lemmas.Bool.false≢true, lemmas.List.Elements.Contains-get_or}
+use Rattle.std.proofs.{lemmas.Result.IfOk-weaker}
+use Rattle.qm_stitch.specs.{Remedies.AreMarksOf, Remedies.IsRemedy, declared.remedy.Remedy.Remedy}
+use Rattle.qm_stitch.proofs.{RiseLists.choice_follows, RiseLists.choice_needed, RiseLists.remedy_in}
+use Rattle.qm_stitch.proofs.{rises.cheapest_rises.Goals.In_ok-remedies}
+use Rattle.{std.specs.List.Contains, def_layout.specs.Layouts.layout_of, def_remesh.specs.NewPoints.lengths_in}
 use Rattle.qm_stitch.proofs.rises.cheapest_rises.Goals as goal
 
 -- The remedies are those at these lengths.

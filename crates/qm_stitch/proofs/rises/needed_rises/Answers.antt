@@ -1,5 +1,4 @@
-use Rattle.std.proofs.Common.{sym, ◌∙◌, inl, arith}
-use Rattle.std.proofs.lemmas.List.{length-map}
+use Rattle.std.proofs.{Common.sym, Common.◌∙◌, Common.inl, Common.arith, lemmas.List.length-map}
 use Rattle.def_layout.specs.{Arcs.path, Layouts.layout_of}
 use Rattle.qm_stitch.proofs.{Grids.tables_are, SafeLengths.safe_undoubled}
 use Rattle.qm_stitch.proofs.rises.needed_rises.Goals as goal

@@ -1,9 +1,8 @@
 use Rattle.std.proofs.Common.{refl, sym, ◌∙◌}
-use Rattle.qm_stitch.proofs.RiseLists.{none_some, rises_too, stays}
-use Rattle.qm_stitch.proofs.rises.rises_by.Goals.{in-Some+in_ok-push, in_default}
-use Rattle.qm_stitch.proofs.rises.rises_by.Goals as goal
+use Rattle.qm_stitch.proofs.{RiseLists.none_some, RiseLists.rises_too, RiseLists.stays}
+use Rattle.qm_stitch.proofs.{rises.rises_by.Goals.in-Some+in_ok-push, rises.rises_by.Goals.in_default}
 
-pub loop-arc-preserved : goal.loop-arc-preserved
+pub loop-arc-preserved : Rattle.qm_stitch.proofs.rises.rises_by.Goals.loop-arc-preserved
 loop-arc-preserved c = elim c.match-floor_of.branch [
   | in-Some+in_ok-push w ↦ rw (w.rises-is, w.in_ok-push.ensures.items)
       (rises_too c.args.some c.args.marked.now.tight.now c.args.marked.now.lengths.now c.loop-arc.arc

@@ -1,6 +1,4 @@
-use Rattle.std.proofs.Common.{◌<◌, ◌≤◌, ℕ}
-use Rattle.def_remesh.specs.NewPoints.{lengths_in}
-use Rattle.qm_stitch.proofs.safe.are_long.Given as goal
+use Rattle.{std.proofs.Common.◌<◌, std.proofs.Common.◌≤◌, std.proofs.Common.ℕ, def_remesh.specs.NewPoints.lengths_in}
 
-abbrev pub invariant-loop-length : goal.invariant-loop-length
+abbrev pub invariant-loop-length : Rattle.qm_stitch.proofs.safe.are_long.Given.invariant-loop-length
 invariant-loop-length l = (arc : ℕ) → arc < l.length-index → 3 ≤ lengths_in l.lengths arc

@@ -1,10 +1,8 @@
-use Rattle.std.proofs.Common.{◌<◌, ℕ, length, ◌∙◌, ap, sym, arith}
-use Rattle.std.proofs.lemmas.List.{length-map}
-use Rattle.def_cut.specs.Grids.{rectangle}
+use Rattle.std.proofs.{Common.◌<◌, Common.ℕ, Common.length, Common.◌∙◌, Common.ap, Common.sym, Common.arith}
+use Rattle.std.proofs.{lemmas.List.length-map}
 use Rattle.def_layout.specs.{Layouts.layout_of, declared.tmesh.TMesh.TMesh}
-use Rattle.def_remesh.specs.Numberings.{tables_of}
-use Rattle.qm_stitch.specs.Sizes.{table_in}
 use Rattle.qm_stitch.proofs.Grids.{size_read, table_full}
+use Rattle.{def_cut.specs.Grids.rectangle, def_remesh.specs.Numberings.tables_of, qm_stitch.specs.Sizes.table_in}
 use Rattle.qm_stitch.proofs.size.size_at.Goals as goal
 
 low : (t : TMesh) (patch : ℕ) → patch < length t.patches.items → patch < length (layout_of t).patches

@@ -1,9 +1,8 @@
 use Rattle.std.proofs.Common.{◌≡◌, ◌++◌, [], ◌∷◌, map, ◌∙◌, ap, sym, arith}
 use Rattle.std.proofs.lemmas.List.FromFn.{map-range_with_len_more}
-use Rattle.std.specs.List.{range_with_len}
-use Rattle.def_written.specs.NewFaces.{face_count, new_face}
 use Rattle.qm_stitch.specs.Lengthened.{gluing_in, lengths_by}
 use Rattle.qm_stitch.proofs.{Grids.starts_end, stitching.all_faces.Goals.After-last_of-count}
+use Rattle.{std.specs.List.range_with_len, def_written.specs.NewFaces.face_count, def_written.specs.NewFaces.new_face}
 use Rattle.qm_stitch.proofs.stitching.all_faces.Goals as goal
 
 all : (c : After-last_of-count) → c.last_of-count.result ≡ face_count (gluing_in c.args.numbered.now)

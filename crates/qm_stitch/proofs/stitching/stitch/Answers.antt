@@ -2,9 +2,8 @@ use Rattle.std.proofs.Common.{ℕ, List, ◌∙◌, ap}
 use Rattle.def_layout.specs.Layouts.{gluing_of, layout_of}
 use Rattle.def_written.specs.{NewFaces.new_faces, Numbers.vertices}
 use Rattle.def_remesh.specs.NewPoints.{lengths_in}
-use Rattle.qm_stitch.proofs.stitching.stitch.Goals as goal
 
-pub returns-clause-mesh : goal.returns-clause-mesh
+pub returns-clause-mesh : Rattle.qm_stitch.proofs.stitching.stitch.Goals.returns-clause-mesh
 returns-clause-mesh c = record {
   count = c.vertices.ensures _ c.in_ok-numbering.ensures.numbering ∙ ap (λ (list : List ℕ).
       vertices (gluing_of (layout_of c.args.t.now)) (lengths_in list)) c.in_ok-numbering.ensures.lengths;

@@ -1,10 +1,8 @@
-use Rattle.std.proofs.Common.{◌≡◌, ◌↔◌, ◌+◌, ◌∷◌, ◌++◌, [], ℕ, true, false, get_or, below_more}
-use Rattle.std.proofs.Common.{ap, ◌∙◌, arith}
+use Rattle.std.proofs.Common.{◌≡◌, ◌↔◌, ◌+◌, ◌∷◌, ◌++◌, [], ℕ, true, false, get_or, below_more, ap, ◌∙◌, arith}
 use Rattle.std.proofs.lemmas.List.{get_or_append_left, get_or_push, length_push}
 use Rattle.qm_stitch.specs.{Lengthened.gluing_in, Lengthened.lengths_by, Tight.IsDoubledOn}
-use Rattle.qm_stitch.proofs.tight.doubled_arcs.Goals as goal
 
-pub loop-arc-preserved : goal.loop-arc-preserved
+pub loop-arc-preserved : Rattle.qm_stitch.proofs.tight.doubled_arcs.Goals.loop-arc-preserved
 loop-arc-preserved c = rw c.in_ok-push.ensures.items (record {
   long = length_push c.loop-arc.on.items c.is_doubled_on.result ∙ ap (λ (n : ℕ). n + 1) c.loop-arc.invariant.long;
   each = below_more (λ (a : ℕ). (get_or (c.loop-arc.on.items ++ c.is_doubled_on.result ∷ []) a false ≡ true) ↔

@@ -1,8 +1,7 @@
 use Rattle.std.proofs.Common.{◌≡◌, ◌↔◌, ◌<◌, ℕ, true, false, length, get_or}
 use Rattle.qm_stitch.specs.{Lengthened.gluing_in, Lengthened.lengths_by, Tight.IsDoubledOn}
-use Rattle.qm_stitch.proofs.tight.doubled_arcs.Given as goal
 
-abbrev pub invariant-loop-arc : goal.invariant-loop-arc
+abbrev pub invariant-loop-arc : Rattle.qm_stitch.proofs.tight.doubled_arcs.Given.invariant-loop-arc
 invariant-loop-arc l = record {
   long : length l.on.items ≡ l.arc;
   each : (a : ℕ) → a < l.arc

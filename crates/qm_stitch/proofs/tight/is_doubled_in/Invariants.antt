@@ -1,8 +1,7 @@
 use Rattle.std.proofs.Common.{◌<◌, ℕ}
 use Rattle.qm_stitch.specs.{Lengthened.gluing_in, Lengthened.lengths_by, Tight.IsLineDoubled}
-use Rattle.qm_stitch.proofs.tight.is_doubled_in.Given as goal
 
-abbrev pub invariant-loop-number : goal.invariant-loop-number
+abbrev pub invariant-loop-number : Rattle.qm_stitch.proofs.tight.is_doubled_in.Given.invariant-loop-number
 invariant-loop-number l = record {
   some : 0 < l.number;
   none : (n : ℕ) → 0 < n → n < l.number

@@ -1,11 +1,8 @@
 use Rattle.std.proofs.Common.{◌≡◌, ◌↔◌, ℕ, refl, sym, subst, below_more, ◌∙◌, true, arith}
-use Rattle.std.proofs.lemmas.Bool.{false≢true}
-use Rattle.std.proofs.lemmas.List.{length-map}
-use Rattle.def_layout.specs.Arcs.{path}
-use Rattle.def_written.specs.Edges.{on_arc}
-use Rattle.qm_stitch.specs.{Lengthened.gluing_in, Lengthened.lengths_by}
-use Rattle.qm_stitch.specs.{Rims.IsRepeat, Tight.IsDoubled}
+use Rattle.std.proofs.{lemmas.Bool.false≢true, lemmas.List.length-map}
+use Rattle.qm_stitch.specs.{Lengthened.gluing_in, Lengthened.lengths_by, Rims.IsRepeat, Tight.IsDoubled}
 use Rattle.qm_stitch.proofs.{TightEdges.end_is, TightEdges.key_tells, tight.is_doubled_on.Goals.After-is_repeat}
+use Rattle.{def_layout.specs.Arcs.path, def_written.specs.Edges.on_arc}
 use Rattle.qm_stitch.proofs.tight.is_doubled_on.Goals as goal
 
 told : (c : After-is_repeat) → (c.is_repeat.result ≡ true)

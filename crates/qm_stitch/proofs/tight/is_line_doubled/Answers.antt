@@ -1,9 +1,8 @@
-use Rattle.std.proofs.Common.{◌-◌, ℕ, sym, ◌∙◌, ap, subst, inl, inr, arith}
+use Rattle.std.proofs.Common.{◌-◌, ℕ, sym, ◌∙◌, ap, subst, inl, inr}
 use Rattle.std.proofs.lemmas.Bool.{false≢true}
 use Rattle.qm_stitch.specs.{Lengthened.gluing_in, Lengthened.lengths_by, Rims.along_lines, Rims.key_of, Rims.line_edge}
 use Rattle.qm_stitch.specs.{Rims.IsRepeat}
-use Rattle.qm_stitch.proofs.TightEdges.{line_some, line_tells}
-use Rattle.qm_stitch.proofs.tight.is_line_doubled.Goals.{After-size_at-last}
+use Rattle.qm_stitch.proofs.TightEdges.{line_tells}
 use Rattle.qm_stitch.proofs.tight.is_line_doubled.Goals as goal
 
 pub returns-then-is_repeat : goal.returns-then-is_repeat

@@ -1,14 +1,12 @@
 use Rattle.std.proofs.Common.{◌≡◌, ◌+◌, ◌%◌, ℕ, Bool, true, false, refl, ◌∙◌, ap, arith}
-use Rattle.def_layout.specs.Layouts.{way_number}
-use Rattle.qm_stitch.specs.{Rims.along_lines}
-use Rattle.qm_stitch.proofs.{Adding.told_more, Marks.across, Marks.lines_both}
-use Rattle.qm_stitch.proofs.tight.mark_lines.Goals as goal
+use Rattle.qm_stitch.proofs.{DoubledPairs.told_more, Built.across, Built.lines_both}
+use Rattle.{def_layout.specs.Layouts.way_number, qm_stitch.specs.Rims.along_lines}
 
 opposite : (u : Bool) → way_number (across u) ≡ (way_number (along_lines u) + 2) % 4
 opposite false = refl
 opposite true = refl
 
-pub returns-then-is_doubled_in : goal.returns-then-is_doubled_in
+pub returns-then-is_doubled_in : Rattle.qm_stitch.proofs.tight.mark_lines.Goals.returns-then-is_doubled_in
 returns-then-is_doubled_in c arc low =
     let upright = c.args.upright in
     told_more (c.mark_side.ensures _ c.side_along-side.ensures.side arc low)

@@ -1,10 +1,8 @@
-use Rattle.std.proofs.Common.{◌≡◌, length, ◌∙◌, ap, sym, arith}
-use Rattle.std.proofs.lemmas.List.{length-map}
-use Rattle.def_cut.specs.Grids.{rectangle}
-use Rattle.def_layout.specs.{Arcs.path, Layouts.layout_of}
-use Rattle.qm_offsets.specs.Fours.{arcs_on}
-use Rattle.qm_offsets.proofs.Whole.{arcs_low, way_for}
-use Rattle.qm_stitch.proofs.{Marks.adds_side, tight.mark_side.Goals.After-side_of}
+use Rattle.std.proofs.{Common.◌≡◌, Common.length, Common.◌∙◌, Common.ap, Common.sym, Common.arith}
+use Rattle.std.proofs.{lemmas.List.length-map}
+use Rattle.qm_stitch.proofs.{Built.adds_side, tight.mark_side.Goals.After-side_of}
+use Rattle.{def_cut.specs.Grids.rectangle, def_layout.specs.Arcs.path, def_layout.specs.Layouts.layout_of}
+use Rattle.{qm_offsets.specs.Fours.arcs_on, qm_offsets.proofs.Whole.arcs_low, qm_offsets.proofs.Whole.way_for}
 use Rattle.qm_stitch.proofs.tight.mark_side.Goals as goal
 
 read : (c : After-side_of)

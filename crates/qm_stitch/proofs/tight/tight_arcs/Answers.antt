@@ -1,11 +1,7 @@
-use Rattle.std.proofs.Common.{sym, ◌∙◌, arith}
-use Rattle.std.proofs.lemmas.List.{length-map, with_items_is}
-use Rattle.def_cut.specs.Grids.{rectangle}
-use Rattle.def_layout.specs.{Arcs.path}
-use Rattle.qm_stitch.proofs.TightEdges.{tight_told}
-use Rattle.qm_stitch.proofs.tight.tight_arcs.Goals as goal
+use Rattle.std.proofs.{Common.sym, Common.◌∙◌, Common.arith, lemmas.List.length-map, lemmas.List.with_items_is}
+use Rattle.{def_cut.specs.Grids.rectangle, def_layout.specs.Arcs.path, qm_stitch.proofs.TightEdges.tight_told}
 
-pub returns-clause-each : goal.returns-clause-each
+pub returns-clause-each : Rattle.qm_stitch.proofs.tight.tight_arcs.Goals.returns-clause-each
 returns-clause-each c arc low =
     let numbered = c.args.keyed.now.numbered in
     let arcs = length-map _ path in

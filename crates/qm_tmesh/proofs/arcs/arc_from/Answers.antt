@@ -1,10 +1,8 @@
 use Rattle.std.proofs.Common.{◌≡◌, ℕ, ◌-◌, true, List, length, get_or, ap, ◌∙◌, arith}
 use Rattle.std.proofs.lemmas.Grind.{get_or_default_zero}
 use Rattle.def_mesh.specs.{Darts.to_of, HalfEdges.half_edges}
-use Rattle.def_cut.specs.Steps.{easts}
-use Rattle.def_layout.specs.Nodes.{is_node}
-use Rattle.layout_laws.proofs.Uses.{run_entry}
-use Rattle.qm_tmesh.proofs.{Walks.run_darts, ArcTables.node_place, ArcReads.read_at}
+use Rattle.qm_tmesh.proofs.{Walks.run_darts, ArcTables.node_place, ArcTables.read_at}
+use Rattle.{def_cut.specs.Steps.easts, def_layout.specs.Nodes.is_node, layout_laws.proofs.Uses.run_entry}
 use Rattle.qm_tmesh.proofs.arcs.arc_from.Goals as goal
 
 pub to-requires : goal.to-requires

@@ -1,8 +1,7 @@
-use Rattle.std.proofs.Common.{[], ◌∷◌, map, ap, ◌∙◌}
-use Rattle.std.proofs.lemmas.List.{map-append}
+use Rattle.std.proofs.{Common.[], Common.◌∷◌, Common.map, Common.ap, Common.◌∙◌, lemmas.List.map-append}
 use Rattle.def_layout.specs.Arcs.{path}
-use Rattle.qm_tmesh.proofs.ArcTables.{table_skip, arcs_more}
-use Rattle.qm_tmesh.proofs.arcs.arcs.Goals.{then-start-cut+in_ok-arc+in_ok-push, else-start-cut}
+use Rattle.qm_tmesh.proofs.{ArcTables.table_skip, ArcTables.arcs_more}
+use Rattle.qm_tmesh.proofs.{arcs.arcs.Goals.then-start-cut+in_ok-arc+in_ok-push, arcs.arcs.Goals.else-start-cut}
 use Rattle.qm_tmesh.proofs.arcs.arcs.Goals as goal
 
 pub invariant_of-begin : goal.invariant_of-begin

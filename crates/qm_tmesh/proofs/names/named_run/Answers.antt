@@ -1,10 +1,8 @@
-use Rattle.std.proofs.Common.{◌≡◌, ℕ, ◌<◌, List, length, get_or, ap, sym, subst, ◌∙◌}
-use Rattle.std.proofs.lemmas.Bool.{false≢true}
-use Rattle.def_mesh.specs.Darts.{darts}
-use Rattle.def_cut.specs.{FullCut.is_on, Grids.least_of}
-use Rattle.qm_tmesh.proofs.Walks.{node_from, run_named, run_unnamed, run_darts}
+use Rattle.std.proofs.{Common.◌≡◌, Common.length, Common.ap, Common.sym, Common.◌∙◌, lemmas.Bool.false≢true}
 use Rattle.qm_tmesh.proofs.names.named_run.Goals.{then-not-cut-s-via-then-not-cut-s}
 use Rattle.qm_tmesh.proofs.names.named_run.Goals.{then-not-cut-s-via-else-not-cut-s+then-not-nodes-from}
+use Rattle.qm_tmesh.proofs.Walks.{node_from, run_named, run_unnamed}
+use Rattle.{def_mesh.specs.Darts.darts, def_cut.specs.FullCut.is_on, def_cut.specs.Grids.least_of}
 use Rattle.qm_tmesh.proofs.names.named_run.Goals as goal
 
 pub returns-then-not-cut-s : goal.returns-then-not-cut-s

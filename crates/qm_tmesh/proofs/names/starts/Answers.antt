@@ -1,7 +1,6 @@
-use Rattle.std.proofs.Common.{◌<◌, arith}
-use Rattle.def_mesh.specs.Darts.{darts}
-use Rattle.qm_tmesh.proofs.Walks.{name_low, starts_skip, starts_more}
-use Rattle.qm_tmesh.proofs.names.starts.Goals.{in-Some, in_default}
+use Rattle.qm_tmesh.proofs.{Walks.name_low, Walks.starts_skip, Walks.starts_more, names.starts.Goals.in-Some}
+use Rattle.qm_tmesh.proofs.{names.starts.Goals.in_default}
+use Rattle.{std.proofs.Common.◌<◌, std.proofs.Common.arith, def_mesh.specs.Darts.darts}
 use Rattle.qm_tmesh.proofs.names.starts.Goals as goal
 
 pub index_mut-requires : goal.index_mut-requires

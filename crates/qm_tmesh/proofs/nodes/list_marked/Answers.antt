@@ -1,10 +1,9 @@
 use Rattle.std.proofs.Common.{◌≡◌, ◌+◌, length, [], ◌∷◌, ◌++◌, ap, ◌∙◌, length-append, arith}
 use Rattle.def_cut.specs.FullCut.{is_on}
-use Rattle.qm_tmesh.proofs.Walks.{list_on, list_off}
-use Rattle.qm_tmesh.proofs.nodes.list_marked.Goals.{then-on+in_ok-push-2, else-on}
-use Rattle.qm_tmesh.proofs.nodes.list_marked.Goals as goal
+use Rattle.qm_tmesh.proofs.{Walks.list_on, Walks.list_off, nodes.list_marked.Goals.then-on+in_ok-push-2}
+use Rattle.qm_tmesh.proofs.{nodes.list_marked.Goals.else-on}
 
-pub loop-v-preserved : goal.loop-v-preserved
+pub loop-v-preserved : Rattle.qm_tmesh.proofs.nodes.list_marked.Goals.loop-v-preserved
 loop-v-preserved c =
     let i = c.loop-v.invariant in
     let put : c.push.new.self.items ≡ c.loop-v.places.items ++ length c.loop-v.list.items ∷ [] =

@@ -1,10 +1,8 @@
 use Rattle.std.proofs.Common.{◌≡◌, ℕ, ◌<◌, ◌≤◌, true, length, get_or}
-use Rattle.std.specs.List.{filter, range_with_len}
-use Rattle.def_cut.specs.FullCut.{is_on}
-use Rattle.qm_tmesh.proofs.nodes.list_marked.Given as goal
+use Rattle.{std.specs.List.filter, std.specs.List.range_with_len, def_cut.specs.FullCut.is_on}
 
 -- the marked vertices before v are listed, and each vertex before v has its place
-abbrev pub invariant-loop-v : goal.invariant-loop-v
+abbrev pub invariant-loop-v : Rattle.qm_tmesh.proofs.nodes.list_marked.Given.invariant-loop-v
 invariant-loop-v l = record {
   listed : l.list.items ≡ filter (is_on l.marks) (range_with_len 0 l.v);
   few : length l.list.items ≤ l.v;

@@ -1,7 +1,6 @@
 use Rattle.std.proofs.Common.{◌≡◌, length, [], ◌∷◌, ◌++◌, ap, sym, ◌∙◌, arith, map}
 use Rattle.std.proofs.lemmas.List.FromFn.{map-range_with_len_more, length-map-range_with_len}
-use Rattle.std.specs.List.{range_with_len}
-use Rattle.def_layout.specs.Nodes.{is_node}
+use Rattle.{std.specs.List.range_with_len, def_layout.specs.Nodes.is_node}
 use Rattle.qm_tmesh.proofs.nodes.node_marks.Goals as goal
 
 pub loop-v-preserved : goal.loop-v-preserved

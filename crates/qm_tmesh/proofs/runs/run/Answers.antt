@@ -1,11 +1,9 @@
 use Rattle.std.proofs.Common.{rules, ◌≡◌, ◌+◌, true, false, is_some, length, ap, sym, ◌∙◌, refl, arith}
 use Rattle.std.proofs.lemmas.Option.{same_Some}
-use Rattle.def_mesh.specs.HalfEdges.{half_edges}
 use Rattle.def_cut.specs.{Steps.step_east, FullCut.is_on}
 use Rattle.def_layout.specs.{Arcs.end_vertex, Nodes.is_node}
-use Rattle.layout_laws.specs.Named.{run_list}
-use Rattle.layout_laws.proofs.Uses.{run_long}
 use Rattle.qm_tmesh.proofs.Walks.{walk_straight, walk_inner, walk_run, walk_listed, walk_at, walk_end}
+use Rattle.{def_mesh.specs.HalfEdges.half_edges, layout_laws.specs.Named.run_list, layout_laws.proofs.Uses.run_long}
 use Rattle.qm_tmesh.proofs.runs.run.Goals as goal
 
 pub steps-init : goal.steps-init

@@ -1,11 +1,8 @@
-use Rattle.std.proofs.Common.{◌≡◌, ◌<◌}
-use Rattle.def_mesh.specs.{Darts.darts, HalfEdges.half_edges}
-use Rattle.layout_laws.specs.Named.{run_list}
-use Rattle.qm_tmesh.proofs.Walks.{IsWalk}
-use Rattle.qm_tmesh.proofs.runs.run.Given as goal
+use Rattle.{std.proofs.Common.◌≡◌, std.proofs.Common.◌<◌, def_mesh.specs.Darts.darts}
+use Rattle.{def_mesh.specs.HalfEdges.half_edges, layout_laws.specs.Named.run_list, qm_tmesh.proofs.Walks.IsWalk}
 
 -- The walk has met no node, and has listed the darts before.
-abbrev pub invariant-steps : goal.invariant-steps
+abbrev pub invariant-steps : Rattle.qm_tmesh.proofs.runs.run.Given.invariant-steps
 invariant-steps l = record {
   walk : IsWalk l.start.mesh.now l.start.cut.now l.start.dart l.d l.counter;
   low : l.d < darts l.start.mesh.now;

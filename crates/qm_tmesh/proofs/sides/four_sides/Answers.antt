@@ -1,11 +1,10 @@
 use Rattle.std.proofs.Common.{◌-◌, [], ◌∷◌, map, get_or, ap, ◌∙◌, refl, arith}
 use Rattle.def_mesh.specs.{Darts.next_of, Darts.prev_of, HalfEdges.half_edges}
-use Rattle.def_cut.specs.Grids.{rectangle}
-use Rattle.def_layout.specs.Gluings.{Way, south, east, north, west}
-use Rattle.def_layout.specs.{Arcs.path, Borders.side_size, Borders.border_dart, Layouts.way_number}
-use Rattle.layout_laws.specs.Named.{run_list}
+use Rattle.def_layout.specs.{Gluings.Way, Gluings.south, Gluings.east, Gluings.north, Gluings.west, Arcs.path}
+use Rattle.def_layout.specs.{Borders.side_size, Borders.border_dart, Layouts.way_number}
 use Rattle.qm_tmesh.specs.{Sides.IsSideOf, Four.four_of}
-use Rattle.qm_tmesh.proofs.Corners.{north_east, north_west, room, south_east, south_west}
+use Rattle.qm_tmesh.proofs.Built.{north_east, north_west, room, south_east, south_west}
+use Rattle.{def_cut.specs.Grids.rectangle, layout_laws.specs.Named.run_list}
 use Rattle.qm_tmesh.proofs.sides.four_sides.Goals as goal
 
 pub next-south_east-requires : goal.next-south_east-requires

@@ -1,9 +1,7 @@
 use Rattle.std.proofs.Common.{◌≡◌, ◌+◌, ◌-◌, Some, is_some, [], ◌∷◌, ◌++◌, ap, sym, ◌∙◌, arith}
-use Rattle.std.proofs.lemmas.Option.{same_Some}
-use Rattle.std.proofs.lemmas.List.FromFn.{map-range_with_len_more}
+use Rattle.std.proofs.{lemmas.Option.same_Some, lemmas.List.FromFn.map-range_with_len_more}
 use Rattle.def_mesh.specs.{Darts.straight_of, HalfEdges.half_edges}
-use Rattle.def_cut.specs.Steps.{easts}
-use Rattle.layout_laws.specs.Named.{run_list}
+use Rattle.{def_cut.specs.Steps.easts, layout_laws.specs.Named.run_list}
 use Rattle.qm_tmesh.proofs.sides.line.Goals as goal
 
 pub unwrap-d-requires : goal.unwrap-d-requires

@@ -1,12 +1,9 @@
-use Rattle.std.proofs.Common.{◌≡◌, ◌<◌, true, map, length, get_or, ap}
-use Rattle.std.proofs.Common.{◌∙◌, arith}
+use Rattle.std.proofs.Common.{◌≡◌, ◌<◌, true, map, length, get_or, ap, ◌∙◌, arith}
 use Rattle.std.proofs.lemmas.List.{get_or_default, length-map}
-use Rattle.def_layout.specs.{Arcs.Path, Arcs.path}
-use Rattle.qm_tmesh.specs.{Uses.use_in}
-use Rattle.qm_tmesh.proofs.{ArcReads.read_arc, SideTables.side_more}
-use Rattle.qm_tmesh.proofs.sides.side.Goals as goal
+use Rattle.qm_tmesh.proofs.{ArcTables.read_arc, UseTables.side_more}
+use Rattle.{def_layout.specs.Arcs.Path, def_layout.specs.Arcs.path, qm_tmesh.specs.Uses.use_in}
 
-pub loop-t-preserved : goal.loop-t-preserved
+pub loop-t-preserved : Rattle.qm_tmesh.proofs.sides.side.Goals.loop-t-preserved
 loop-t-preserved c =
     let runs = c.args.runs.now in
     let arcs = map path runs.arcs.items in

@@ -1,6 +1,5 @@
 use Rattle.std.proofs.Common.{◌-◌, ℕ, Bool, map, length}
-use Rattle.def_layout.specs.Arcs.{path}
-use Rattle.qm_tmesh.specs.Sides.{IsSplit, IsSideSoFar}
+use Rattle.{def_layout.specs.Arcs.path, qm_tmesh.specs.Sides.IsSplit, qm_tmesh.specs.Sides.IsSideSoFar}
 use Rattle.qm_tmesh.proofs.sides.side.Given as goal
 
 -- the uses so far end at t, where the next one begins

@@ -1,5 +1,4 @@
-use Rattle.std.proofs.Common.{◌∙◌}
-use Rattle.qm_tmesh.proofs.Splits.{from_straight, from_split, from_low, from_some}
+use Rattle.{std.proofs.Common.◌∙◌, qm_tmesh.proofs.Splits.from_straight, qm_tmesh.proofs.Splits.from_split}
 use Rattle.qm_tmesh.proofs.sides.side_from.Goals as goal
 
 pub line-requires-clause-straight : goal.line-requires-clause-straight

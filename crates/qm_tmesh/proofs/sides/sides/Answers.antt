@@ -1,9 +1,8 @@
 use Rattle.std.proofs.Common.{◌≡◌, ◌+◌, List, [], ◌∷◌, ◌++◌, map, length, get_or, ap, ◌∙◌, length-append, arith}
 use Rattle.std.proofs.lemmas.List.{map-append, length-map, get_or_append_left, get_or-append-add}
-use Rattle.def_cut.specs.Grids.{rectangle, patch_at}
 use Rattle.def_layout.specs.{Arcs.path, declared.tmesh.SideArc.SideArc}
-use Rattle.qm_tmesh.specs.Four.{AreFour, four_of}
-use Rattle.qm_tmesh.proofs.{ArcReads.read_patch, Walks.below_next}
+use Rattle.{def_cut.specs.Grids.rectangle, def_cut.specs.Grids.patch_at, qm_tmesh.specs.Four.AreFour}
+use Rattle.{qm_tmesh.specs.Four.four_of, qm_tmesh.proofs.ArcTables.read_patch, qm_tmesh.proofs.Walks.below_next}
 use Rattle.qm_tmesh.proofs.sides.sides.Goals as goal
 
 pub four_sides-requires : goal.four_sides-requires

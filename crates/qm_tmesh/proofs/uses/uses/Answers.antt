@@ -2,8 +2,8 @@ use Rattle.std.proofs.Common.{◌≡◌, ◌-◌, ◌<◌, true, false, map, len
 use Rattle.std.proofs.lemmas.Option.{none-some, same_Some}
 use Rattle.def_mesh.specs.Darts.{darts, twin_of}
 use Rattle.def_layout.specs.Arcs.{path, path_at, long_at}
-use Rattle.qm_tmesh.proofs.{ArcReads.arc_read, ArcReads.read_at, UseTables.uses_more}
-use Rattle.qm_tmesh.proofs.uses.uses.Goals.{in-Some, in_default}
+use Rattle.qm_tmesh.proofs.{ArcTables.arc_read, ArcTables.read_at, UseTables.uses_more, uses.uses.Goals.in-Some}
+use Rattle.qm_tmesh.proofs.{uses.uses.Goals.in_default}
 use Rattle.qm_tmesh.proofs.uses.uses.Goals as goal
 
 pub index-first-requires : goal.index-first-requires

@@ -1,6 +1,5 @@
-use Rattle.std.proofs.Common.{refl}
-use Rattle.error_laws.proofs.Errors.{handed}
 use Rattle.qm_top.proofs.{Refined.is_blocked, Refusals.broke, Refusals.wrote}
+use Rattle.{std.proofs.Common.refl, error_laws.proofs.Errors.handed}
 use Rattle.qm_top.proofs.blocks.blocks_mesh.Goals as goal
 
 pub returns-in_err-blocks-clause-refused : goal.returns-in_err-blocks-clause-refused

@@ -1,7 +1,6 @@
 use Rattle.qm_top.proofs.{Mapped.check_writer, Refusals.writer_runs}
-use Rattle.qm_top.proofs.check.check.Goals as goal
 
-pub returns : goal.returns
+pub returns : Rattle.qm_top.proofs.check.check.Goals.returns
 returns g c =
     let read = c.in_ok-bytes.ensures in
     writer_runs _ (check_writer _ {bytes = c.deref.result.now} (rw c.deref.ensures.value

@@ -1,9 +1,6 @@
-use Rattle.std.proofs.Common.{rules, refl}
-use Rattle.def_io.specs.Moves.{stream}
-use Rattle.def_run.specs.Checking.{WritesAccepted}
-use Rattle.error_laws.proofs.Errors.{handed}
-use Rattle.qm_top.specs.Checking.{IsUnaccepted}
 use Rattle.qm_top.proofs.{Mapped.check_placed, Mapped.unaccepted, Mapped.unwritable, Refusals.broke, Refusals.not_begun}
+use Rattle.{std.proofs.Common.rules, std.proofs.Common.refl, def_io.specs.Moves.stream}
+use Rattle.{def_run.specs.Checking.WritesAccepted, error_laws.proofs.Errors.handed, qm_top.specs.Checking.IsUnaccepted}
 use Rattle.qm_top.proofs.check.check_bytes.Goals as goal
 
 pub returns-in_err-write_all-in-Ok-clause-refused : goal.returns-in_err-write_all-in-Ok-clause-refused

@@ -1,9 +1,7 @@
-use Rattle.std.proofs.Common.{codes, refl}
 use Rattle.def_run.specs.{Coarse.AsksToMerge, Heads.named_head, Heads.named_task}
-use Rattle.qm_top.proofs.Remeshed.{asked_ends}
-use Rattle.qm_top.proofs.coarse.coarse_mesh.Goals as goal
+use Rattle.{std.proofs.Common.codes, std.proofs.Common.refl, qm_top.proofs.Remeshed.asked_ends}
 
-pub returns : goal.returns
+pub returns : Rattle.qm_top.proofs.coarse.coarse_mesh.Goals.returns
 returns g c =
     let is = c.in_ok-cut.ensures.chosen in
     let head = named_head (codes "coarse") c.args.settings in

@@ -1,6 +1,5 @@
-use Rattle.std.proofs.Common.{refl}
-use Rattle.qm_top.proofs.{Remeshed.crease_tasked, Remeshed.task_writer, Refusals.marks_run, Refusals.meshless_run}
-use Rattle.qm_top.proofs.Refusals.{writer_runs}
+use Rattle.{std.proofs.Common.refl, qm_top.proofs.Remeshed.crease_tasked, qm_top.proofs.Remeshed.task_writer}
+use Rattle.{qm_top.proofs.Refusals.marks_run, qm_top.proofs.Refusals.meshless_run, qm_top.proofs.Refusals.writer_runs}
 use Rattle.qm_top.proofs.crease.crease.Goals as goal
 
 pub returns-in_err-read : goal.returns-in_err-read

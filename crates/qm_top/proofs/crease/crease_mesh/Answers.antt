@@ -1,13 +1,10 @@
 use Rattle.std.proofs.Common.{◌≡◌, None, Ok, refl}
-use Rattle.error_laws.proofs.Errors.{handed}
-use Rattle.def_io.specs.Bytes.{Bytes}
-use Rattle.def_marks.specs.Lines.{marks_in}
 use Rattle.def_run.specs.Crease.{AsksToCrease}
 use Rattle.qm_write.specs.{Framing.framed_text, declared.text.Framed.Framed}
-use Rattle.qm_top.proofs.{Remeshed.creased_fails, Remeshed.creased_shown, Refusals.kept_for}
-use Rattle.qm_top.proofs.Refusals.{put_refused, wrote}
+use Rattle.qm_top.proofs.{Remeshed.creased_fails, Remeshed.creased_shown, Refusals.kept_for, Refusals.put_refused}
+use Rattle.qm_top.proofs.{Refusals.wrote, crease.crease_mesh.Goals.In_ok-between}
 use Rattle.qm_top.specs.Writing.{refusal_of_put, FailsAsked, IsOfLayout, ShowsAsked}
-use Rattle.qm_top.proofs.crease.crease_mesh.Goals.{In_ok-between}
+use Rattle.{error_laws.proofs.Errors.handed, def_io.specs.Bytes.Bytes, def_marks.specs.Lines.marks_in}
 use Rattle.qm_top.proofs.crease.crease_mesh.Goals as goal
 
 -- What is written is the text of the task.

@@ -1,10 +1,9 @@
 use Rattle.std.proofs.Common.{None, refl}
-use Rattle.error_laws.proofs.Errors.{handed}
 use Rattle.qm_write.specs.{Framing.framed_text, declared.text.Framed.Framed}
-use Rattle.remesh_laws.specs.Keeps.{ShowsTask}
-use Rattle.qm_top.proofs.Refusals.{framed_shown, kept_for, put_refused, wrote}
+use Rattle.qm_top.proofs.{Refusals.framed_shown, Refusals.kept_for, Refusals.put_refused, Refusals.wrote}
+use Rattle.qm_top.proofs.{finishing.finish.Goals.After-new}
 use Rattle.qm_top.specs.{Finishing.headed_task, Writing.refusal_of_put, Writing.FailsTask, Writing.IsOfLayout}
-use Rattle.qm_top.proofs.finishing.finish.Goals.{After-new}
+use Rattle.{error_laws.proofs.Errors.handed, remesh_laws.specs.Keeps.ShowsTask}
 use Rattle.qm_top.proofs.finishing.finish.Goals as goal
 
 abbrev framed : (g : _) → After-new g → Framed

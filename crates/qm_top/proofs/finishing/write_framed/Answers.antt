@@ -1,6 +1,5 @@
-use Rattle.std.proofs.Common.{Err, ap, rules}
 use Rattle.qm_output.proofs.Prefixes.{rest_prefix, text_prefix, text_whole}
-use Rattle.error_laws.proofs.Errors.{same_error}
+use Rattle.{std.proofs.Common.Err, std.proofs.Common.ap, std.proofs.Common.rules, error_laws.proofs.Errors.same_error}
 use Rattle.qm_top.proofs.finishing.write_framed.Goals as goal
 
 pub returns-in_err-put_framed-clause-prefix : goal.returns-in_err-put_framed-clause-prefix

@@ -1,16 +1,12 @@
 use Rattle.std.proofs.Common.{◌≡◌, Ok, ap, sym, ◌∙◌, refl}
-use Rattle.std.specs.Prelude.{option_copied}
-use Rattle.error_laws.proofs.Errors.{handed}
 use Rattle.def_fit.specs.{FitTasks.asides_in, FitTasks.Asides, Shares.shares_of}
-use Rattle.def_io.specs.Bytes.{Bytes}
-use Rattle.def_run.specs.Fit.{AsksForNearFit, AsksToFit}
 use Rattle.qm_write.specs.{Framing.framed_text, declared.text.Framed.Framed}
-use Rattle.qm_asides.specs.Beside.{asides_of}
-use Rattle.qm_top.proofs.{Remeshed.aimed_fails, Remeshed.aimed_shown, Remeshed.fit_at}
-use Rattle.qm_top.proofs.{Refusals.kept_for, Refusals.put_refused, Refusals.wrote}
+use Rattle.qm_top.proofs.{Remeshed.aimed_fails, Remeshed.aimed_shown, Remeshed.fit_at, Refusals.kept_for}
+use Rattle.qm_top.proofs.{Refusals.put_refused, Refusals.wrote, fit.fit_mesh.Goals.In_ok-between}
 use Rattle.qm_top.specs.{Fitting.FailsNear, Fitting.IsFarTask, Fitting.IsOfWishes, Refusals.refusal_of_size}
-use Rattle.qm_top.specs.Writing.{refusal_of_put, ShowsAsked}
-use Rattle.qm_top.proofs.fit.fit_mesh.Goals.{In_ok-between}
+use Rattle.qm_top.specs.{Writing.refusal_of_put, Writing.ShowsAsked}
+use Rattle.{std.specs.Prelude.option_copied, error_laws.proofs.Errors.handed, def_io.specs.Bytes.Bytes}
+use Rattle.{def_run.specs.Fit.AsksForNearFit, def_run.specs.Fit.AsksToFit, qm_asides.specs.Beside.asides_of}
 use Rattle.qm_top.proofs.fit.fit_mesh.Goals as goal
 
 -- What is written is the text of the task.

@@ -1,10 +1,7 @@
 use Rattle.std.proofs.{Common.◌≡◌, lemmas.Result.IfOk-weaker}
-use Rattle.def_layout.specs.Layouts.{layout_of}
-use Rattle.def_report.specs.GraphText.{graph_text}
-use Rattle.def_run.specs.Graph.{IsGraphText}
-use Rattle.qm_top.proofs.graph.text_of.Goals as goal
+use Rattle.{def_layout.specs.Layouts.layout_of, def_report.specs.GraphText.graph_text, def_run.specs.Graph.IsGraphText}
 
-pub returns : goal.returns
+pub returns : Rattle.qm_top.proofs.graph.text_of.Goals.returns
 returns c =
     let faces = c.args.mesh.now in
     let graph = c.in_ok-graph.graph in

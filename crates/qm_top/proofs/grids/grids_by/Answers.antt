@@ -1,6 +1,4 @@
-use Rattle.qm_top.proofs.grids.grids_by.Goals as goal
-
-pub returns-clause-blocks : goal.returns-clause-blocks
+pub returns-clause-blocks : Rattle.qm_top.proofs.grids.grids_by.Goals.returns-clause-blocks
 returns-clause-blocks c =
     let of = c.in_ok-blocks.ensures in
     let made = c.in_ok-points.ensures in

@@ -1,5 +1,4 @@
-use Rattle.std.proofs.Common.{Err, ap, ◌∙◌}
-use Rattle.def_text.specs.FaceSet.{FaceSet}
+use Rattle.{std.proofs.Common.Err, std.proofs.Common.ap, std.proofs.Common.◌∙◌, def_text.specs.FaceSet.FaceSet}
 use Rattle.qm_top.proofs.input.mesh_of.Goals as goal
 
 pub named_place-requires : goal.named_place-requires

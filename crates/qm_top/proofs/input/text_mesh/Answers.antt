@@ -1,12 +1,9 @@
-use Rattle.std.proofs.{Common.◌≡◌, Common.Ok, Common.ap, Common.sym, Common.◌∙◌, Common.◌≤◌, Common.length}
-use Rattle.std.proofs.{Common.subst, lemmas.Result.IfErr-weaker, lemmas.Result.IfOk-weaker}
-use Rattle.def_io.specs.Lines.{lines_of}
-use Rattle.def_text.specs.{FaceSet.FaceSet, Text.soup_in, Text.text_soup}
-use Rattle.def_text.specs.declared.limits.TheConstants.{MAX_V_LINES}
-use Rattle.error_laws.proofs.Errors.{handed}
+use Rattle.std.proofs.Common.{◌≡◌, Ok, ap, sym, ◌∙◌, ◌≤◌, length, subst}
+use Rattle.std.proofs.lemmas.Result.{IfErr-weaker, IfOk-weaker}
+use Rattle.def_text.specs.{FaceSet.FaceSet, Text.soup_in, Text.text_soup, declared.limits.TheConstants.MAX_V_LINES}
 use Rattle.qm_top.specs.{Meshless.IsMeshless, Refusals.IsNoMeshOf}
 use Rattle.qm_top.proofs.Refusals.{no_mesh_of, soupless, text_meshed, whole_range}
-use Rattle.qm_top.proofs.input.text_mesh.Goals.{In_ok-soup}
+use Rattle.{def_io.specs.Lines.lines_of, error_laws.proofs.Errors.handed}
 use Rattle.qm_top.proofs.input.text_mesh.Goals as goal
 
 pub returns-in_err-soup-clause-refused : goal.returns-in_err-soup-clause-refused

@@ -1,6 +1,5 @@
-use Rattle.std.proofs.Common.{refl, sym, ◌∙◌}
-use Rattle.error_laws.proofs.Errors.{handed}
 use Rattle.qm_top.proofs.Refusals.{broke, wrote}
+use Rattle.{std.proofs.Common.refl, std.proofs.Common.◌∙◌, error_laws.proofs.Errors.handed}
 use Rattle.qm_top.proofs.layout.write_layout.Goals as goal
 
 pub returns-in_err-text-clause-refused : goal.returns-in_err-text-clause-refused

@@ -1,7 +1,6 @@
 use Rattle.qm_top.proofs.{Mapped.map_writer, Refusals.writer_runs}
-use Rattle.qm_top.proofs.map.map.Goals as goal
 
-pub returns : goal.returns
+pub returns : Rattle.qm_top.proofs.map.map.Goals.returns
 returns g c =
     let read = c.in_ok-bytes.ensures in
     writer_runs _ (map_writer _ {bytes = c.deref.result.now} (rw c.deref.ensures.value

@@ -1,9 +1,6 @@
-use Rattle.std.proofs.Common.{refl}
-use Rattle.def_io.specs.Moves.{stream}
-use Rattle.def_run.specs.Map.{WritesMap}
-use Rattle.error_laws.proofs.Errors.{handed}
-use Rattle.qm_top.specs.Mapping.{mapped_text, IsNoMapFor}
 use Rattle.qm_top.proofs.{Mapped.map_placed, Refusals.broke, Refusals.not_begun, Refusals.wrote}
+use Rattle.{std.proofs.Common.refl, def_io.specs.Moves.stream, def_run.specs.Map.WritesMap}
+use Rattle.{error_laws.proofs.Errors.handed, qm_top.specs.Mapping.mapped_text, qm_top.specs.Mapping.IsNoMapFor}
 use Rattle.qm_top.proofs.map.map_bytes.Goals as goal
 
 pub returns-in_err-write_map-in-Ok-clause-refused : goal.returns-in_err-write_map-in-Ok-clause-refused

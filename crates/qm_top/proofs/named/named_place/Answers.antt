@@ -1,11 +1,7 @@
-use Rattle.std.proofs.Common.{sym, subst}
-use Rattle.def_mesh.specs.Faults.{IsFirstFault}
-use Rattle.def_text.specs.FaceSet.{FaceSet}
-use Rattle.def_written.specs.Laws.{AreQuads}
-use Rattle.qm_top.proofs.Naming.{named_where}
-use Rattle.qm_top.proofs.named.named_place.Goals as goal
+use Rattle.{std.proofs.Common.sym, std.proofs.Common.subst, def_mesh.specs.Faults.IsFirstFault}
+use Rattle.{def_text.specs.FaceSet.FaceSet, def_written.specs.Laws.AreQuads, qm_top.proofs.Naming.named_where}
 
-pub invariant_of-result : goal.invariant_of-result
+pub invariant_of-result : Rattle.qm_top.proofs.named.named_place.Goals.invariant_of-result
 invariant_of-result c =
     let inside : FaceSet =
     record { pos = c.soup.inside.pos.items; faces = c.soup.inside.faces.items; names = c.soup.inside.names.items } in

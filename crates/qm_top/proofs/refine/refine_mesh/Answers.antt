@@ -1,6 +1,5 @@
-use Rattle.std.proofs.Common.{refl}
-use Rattle.error_laws.proofs.Errors.{handed}
 use Rattle.qm_top.proofs.{Refined.is_refined, Refusals.broke, Refusals.wrote}
+use Rattle.{std.proofs.Common.refl, error_laws.proofs.Errors.handed}
 use Rattle.qm_top.proofs.refine.refine_mesh.Goals as goal
 
 pub returns-in_err-new-clause-refused : goal.returns-in_err-new-clause-refused

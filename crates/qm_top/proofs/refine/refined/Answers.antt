@@ -1,6 +1,5 @@
-use Rattle.std.proofs.lemmas.Result.{IfErr-weaker}
 use Rattle.qm_top.proofs.Refined.{all_refined, refine_fails}
-use Rattle.qm_top.specs.Refining.{FailsBy, FailsToRefine}
+use Rattle.{std.proofs.lemmas.Result.IfErr-weaker, qm_top.specs.Refining.FailsBy, qm_top.specs.Refining.FailsToRefine}
 use Rattle.qm_top.proofs.refine.refined.Goals as goal
 
 pub returns-clause-new : goal.returns-clause-new

@@ -1,10 +1,6 @@
-use Rattle.def_certtext.specs.HeadLine.{head_line}
-use Rattle.std.proofs.Common.{ap}
-use Rattle.def_certtext.specs.declared.certs.Rising.{Rising}
-use Rattle.def_cut.specs.Traced.{traced_marks}
-use Rattle.def_run.specs.Remesh.{AsksToRemesh}
-use Rattle.qm_top.proofs.Remeshed.{asked_ends, third_kept}
-use Rattle.qm_top.specs.Finishing.{headed_task}
+use Rattle.def_certtext.specs.{HeadLine.head_line, declared.certs.Rising.Rising}
+use Rattle.{std.proofs.Common.ap, def_cut.specs.Traced.traced_marks, def_run.specs.Remesh.AsksToRemesh}
+use Rattle.{qm_top.proofs.Remeshed.asked_ends, qm_top.proofs.Remeshed.third_kept, qm_top.specs.Finishing.headed_task}
 use Rattle.qm_top.proofs.remesh.remesh_mesh.Goals as goal
 
 pub finish-requires : goal.finish-requires

@@ -1,14 +1,11 @@
 use Rattle.std.proofs.Common.{None, refl}
-use Rattle.error_laws.proofs.Errors.{handed}
-use Rattle.def_fit.specs.declared.fit.Aim.TheVariants.{Edge}
-use Rattle.def_io.specs.Bytes.{Bytes}
 use Rattle.def_run.specs.Size.{soup_targets, AsksForNearSize, AsksForSize}
 use Rattle.qm_write.specs.{Framing.framed_text, declared.text.Framed.Framed}
 use Rattle.qm_top.proofs.{Remeshed.aimed_fails, Remeshed.aimed_shown, Remeshed.size_at, Remeshed.size_fail_as}
-use Rattle.qm_top.proofs.{Refusals.kept_for, Refusals.put_refused, Refusals.wrote}
+use Rattle.qm_top.proofs.{Refusals.kept_for, Refusals.put_refused, Refusals.wrote, size.size_mesh.Goals.After-new}
 use Rattle.qm_top.specs.{Fitting.FailsNear, Fitting.IsFarTask, Fitting.IsOfWishes, Refusals.refusal_of_size}
-use Rattle.qm_top.specs.Writing.{refusal_of_put, ShowsAsked}
-use Rattle.qm_top.proofs.size.size_mesh.Goals.{After-new}
+use Rattle.qm_top.specs.{Writing.refusal_of_put, Writing.ShowsAsked}
+use Rattle.{error_laws.proofs.Errors.handed, def_fit.specs.declared.fit.Aim.TheVariants.Edge, def_io.specs.Bytes.Bytes}
 use Rattle.qm_top.proofs.size.size_mesh.Goals as goal
 
 -- What is written is the text of the task.

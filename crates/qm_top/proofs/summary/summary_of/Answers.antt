@@ -1,16 +1,12 @@
+use Rattle.std.proofs.Common.{◌≡◌, ap, arith, length, subst, to_z, of_z, ◌∙◌}
+use Rattle.std.proofs.{lemmas.Int.ints, lemmas.List.length-map}
 use mir.Syntax.{w128}
-use Rattle.std.proofs.Common.{◌≡◌, ap, arith, length, subst, to_z, of_z}
-use Rattle.std.proofs.{Common.◌∙◌, lemmas.Int.ints, lemmas.List.length-map}
-use Rattle.error_laws.proofs.Errors.{handed}
-use Rattle.def_cut.specs.Grids.{rectangle}
-use Rattle.def_layout.specs.{Arcs.path, Layouts.Layout}
-use Rattle.def_mesh.specs.Components.{edge_count, is_start, seeds, start_darts}
+use Rattle.def_mesh.specs.{Components.edge_count, Components.is_start, Components.seeds, Components.start_darts}
 use Rattle.def_mesh.specs.{Darts.darts, Faces.Faces, Manifold.IsManifold, Vertices.vertex_count}
-use Rattle.def_report.specs.BenchLine.{bench_line}
-use Rattle.def_run.specs.Bench.{bench_faces, IsBenchFail}
-use Rattle.def_text.specs.FaceSet.{FaceSet}
-use Rattle.qm_report.proofs.TableReads.{filter_few}
 use Rattle.qm_top.proofs.Benched.{size_fails, traced_in}
+use Rattle.{error_laws.proofs.Errors.handed, def_cut.specs.Grids.rectangle, def_layout.specs.Arcs.path}
+use Rattle.{def_layout.specs.Layouts.Layout, def_report.specs.BenchLine.bench_line, def_run.specs.Bench.bench_faces}
+use Rattle.{def_run.specs.Bench.IsBenchFail, def_text.specs.FaceSet.FaceSet, qm_report.proofs.Layouts.filter_few}
 use Rattle.qm_top.proofs.summary.summary_of.Goals as goal
 
 pub new-cut-requires : goal.new-cut-requires

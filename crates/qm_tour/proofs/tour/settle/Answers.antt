@@ -1,6 +1,5 @@
-use Rattle.std.proofs.Common.{arith, subst, sym}
-use Rattle.qm_tour.specs.Trees.{IsLeastBelow}
 use Rattle.qm_tour.proofs.Mended.{leaves_kept, node_mended, whole}
+use Rattle.{std.proofs.Common.arith, std.proofs.Common.subst, std.proofs.Common.sym, qm_tour.specs.Trees.IsLeastBelow}
 use Rattle.qm_tour.proofs.tour.settle.Goals as goal
 
 pub returns-then-keys-node-clause-tree : goal.returns-then-keys-node-clause-tree

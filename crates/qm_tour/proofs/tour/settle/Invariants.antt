@@ -1,5 +1,4 @@
-use Rattle.std.proofs.Common.{◌<◌}
-use Rattle.qm_tour.specs.Trees.{IsTreeBut, HasSameLeaves}
+use Rattle.{std.proofs.Common.◌<◌, qm_tour.specs.Trees.IsTreeBut, qm_tour.specs.Trees.HasSameLeaves}
 use Rattle.qm_tour.proofs.tour.settle.Given as goal
 
 abbrev pub invariant-loop-node : goal.invariant-loop-node

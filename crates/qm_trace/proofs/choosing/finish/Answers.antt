@@ -1,6 +1,5 @@
 use Rattle.std.proofs.Common.{Some, ap, refl}
-use Rattle.qm_trace.proofs.{Calls.rides, Calls.settles}
-use Rattle.qm_trace.proofs.Fewer.{ride_less, settle_less}
+use Rattle.qm_trace.proofs.Fewer.{rides, settles, ride_less, settle_less}
 use Rattle.qm_trace.proofs.choosing.finish.Goals as goal
 
 pub events-smaller-in-Ride : goal.events-smaller-in-Ride

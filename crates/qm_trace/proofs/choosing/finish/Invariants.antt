@@ -1,5 +1,4 @@
-use Rattle.def_cut.specs.Views.{IsMotionOn}
-use Rattle.qm_trace.specs.Left.{left_of}
+use Rattle.{def_cut.specs.Views.IsMotionOn, qm_trace.specs.Left.left_of}
 use Rattle.qm_trace.proofs.choosing.finish.Given as goal
 
 abbrev pub invariant-events : goal.invariant-events

@@ -1,11 +1,8 @@
-use Rattle.std.proofs.Common.{◌<◌, length, ap, arith}
-use Rattle.std.proofs.lemmas.List.{length_push, take_more}
-use Rattle.std.specs.Vec.{vec_capacity, vec_len}
-use Rattle.def_cut.specs.Motion.{begun}
-use Rattle.qm_trace.proofs.Ends.{riders_more}
-use Rattle.qm_trace.proofs.ending.tell_riders.Goals as goal
+use Rattle.{std.proofs.Common.◌<◌, std.proofs.Common.length, std.proofs.Common.ap, std.proofs.Common.arith}
+use Rattle.{std.proofs.lemmas.List.length_push, std.proofs.lemmas.List.take_more, std.specs.Vec.vec_capacity}
+use Rattle.{std.specs.Vec.vec_len, def_cut.specs.Motion.begun, qm_trace.proofs.Ends.riders_more}
 
-pub loop-r-preserved : goal.loop-r-preserved
+pub loop-r-preserved : Rattle.qm_trace.proofs.ending.tell_riders.Goals.loop-r-preserved
 loop-r-preserved c =
     let low : c.loop-r.r < length c.args.riders.now = omega (arith, c.loop-r-test.true, c.requires.each) in
     let few : vec_len c.loop-r.told < vec_capacity c.loop-r.told =

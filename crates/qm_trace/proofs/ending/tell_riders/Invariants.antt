@@ -1,9 +1,7 @@
 use Rattle.std.proofs.Common.{◌≡◌, ◌≤◌, length, take}
-use Rattle.std.specs.Vec.{vec_capacity}
-use Rattle.def_cut.specs.Traced.{AreRiders}
-use Rattle.qm_trace.proofs.ending.tell_riders.Given as goal
+use Rattle.{std.specs.Vec.vec_capacity, def_cut.specs.Traced.AreRiders}
 
-abbrev pub invariant-loop-r : goal.invariant-loop-r
+abbrev pub invariant-loop-r : Rattle.qm_trace.proofs.ending.tell_riders.Given.invariant-loop-r
 invariant-loop-r l = record {
   told : AreRiders (take l.r l.riders) (take l.r l.starts) l.told.items;
   many : length l.told.items ≡ l.r;

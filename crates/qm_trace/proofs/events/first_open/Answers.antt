@@ -1,12 +1,10 @@
 use Rattle.std.proofs.Common.{◌≡◌, ◌<◌, ◌+◌, ℕ, true, get_or, take, Some, is_some, sym, subst, ap, ◌∙◌, inl, inr}
-use Rattle.std.proofs.lemmas.Bool.{eq-eqb, eqb-true, or_cases}
-use Rattle.std.proofs.lemmas.List.{take_all}
-use Rattle.std.proofs.lemmas.Option.{same_Some}
+use Rattle.std.proofs.{lemmas.Bool.eq-eqb, lemmas.Bool.eqb-true, lemmas.Bool.or_cases, lemmas.List.take_all}
+use Rattle.std.proofs.{lemmas.Option.same_Some}
 use Rattle.def_cut.specs.{Events.darts_in, Events.leads_to, Events.note_at, FullCut.is_on, Motion.end_of}
 use Rattle.def_cut.specs.{Motion.is_among, Traced.terrain_of}
-use Rattle.def_mesh.specs.Darts.{darts, to_of}
 use Rattle.motion_laws.proofs.{Among.any_at, Marks.among_at, Marks.noted_among, Marks.noted_short}
-use Rattle.qm_trace.proofs.Marking.{among_more}
+use Rattle.{def_mesh.specs.Darts.darts, def_mesh.specs.Darts.to_of, qm_trace.proofs.Tellings.among_more}
 use Rattle.qm_trace.proofs.events.first_open.Goals as goal
 
 pub bounds-noted-r : goal.bounds-noted-r

@@ -1,6 +1,6 @@
 use Rattle.std.proofs.Common.{◌≡◌, not, ◌∙◌, sym, arith}
 use Rattle.def_mesh.specs.{Kinds.is_inner, Kinds.is_singular, Vertices.vertex_count}
-use Rattle.qm_trace.proofs.Beginnings.{map_more, ground_is}
+use Rattle.qm_trace.proofs.Ends.{map_more, ground_is}
 use Rattle.qm_trace.proofs.ground.ground_of.Goals as goal
 
 pub loop-v-preserved : goal.loop-v-preserved

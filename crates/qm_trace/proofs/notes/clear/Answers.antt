@@ -1,10 +1,8 @@
 use Rattle.std.proofs.Common.{◌≡◌, ◌<◌, false, ℕ, Some, None, length, sym, ap, ◌∙◌, refl, replicate, arith}
-use Rattle.std.proofs.lemmas.Bool.{false_from_ne_true}
-use Rattle.std.proofs.lemmas.Option.{none-some}
+use Rattle.std.proofs.{lemmas.Bool.false_from_ne_true, lemmas.Option.none-some}
 use Rattle.def_cut.specs.{Motion.is_among, Events.note_at}
-use Rattle.qm_trace.proofs.Noting.{all_same, are_none, cleared}
+use Rattle.qm_trace.proofs.{Noting.all_same, Noting.are_none, Noting.cleared, notes.clear.Goals.After-clear_each}
 use Rattle.motion_laws.proofs.Marks.{noted_among, noted_where}
-use Rattle.qm_trace.proofs.notes.clear.Goals.{After-clear_each}
 use Rattle.qm_trace.proofs.notes.clear.Goals as goal
 
 pub clear_each-requires-clause-notes : goal.clear_each-requires-clause-notes

@@ -1,10 +1,9 @@
 use Rattle.std.proofs.Common.{◌≡◌, ℕ, true, cond, length, take, Some, None}
 use Rattle.def_mesh.specs.Darts.{to_of}
 use Rattle.def_cut.specs.{FullCut.is_on, Motion.is_among, Events.note_at}
-use Rattle.qm_trace.proofs.notes.clear_each.Given as goal
 
 -- What is marked still belongs to a note, and the riders before this one have none.
-abbrev pub invariant-loop-r : goal.invariant-loop-r
+abbrev pub invariant-loop-r : Rattle.qm_trace.proofs.notes.clear_each.Given.invariant-loop-r
 invariant-loop-r l = record {
   long : length l.noted.items ≡ length l.initial.noted.items;
   taken_long : length l.taken.items ≡ length l.initial.taken.items;

@@ -1,11 +1,8 @@
 use Rattle.std.proofs.Common.{rules, ◌≡◌, false, None, Bool, List, length, replicate, sym, ap, ◌∙◌, arith}
 use Rattle.std.proofs.lemmas.List.{length-replicate}
-use Rattle.def_cut.specs.FullCut.{is_on}
-use Rattle.motion_laws.proofs.Marks.{none_on}
-use Rattle.qm_trace.proofs.Noting.{are_none}
-use Rattle.qm_trace.proofs.notes.no_notes.Goals as goal
+use Rattle.{def_cut.specs.FullCut.is_on, motion_laws.proofs.Marks.none_on, qm_trace.proofs.Noting.are_none}
 
-pub returns-clause-notes : goal.returns-clause-notes
+pub returns-clause-notes : Rattle.qm_trace.proofs.notes.no_notes.Goals.returns-clause-notes
 returns-clause-notes c =
     let noted : c.in_ok-noted.noted.items ≡ replicate c.args.riders None = search rules in
     let taken : c.in_ok-taken.taken.items ≡ replicate c.args.darts false = search rules in

@@ -1,7 +1,6 @@
 use Rattle.std.proofs.Common.{◌<◌, ◌++◌, ◌∷◌, [], cond, Bool, ap, ◌∙◌, refl, arith}
 use Rattle.std.specs.Vec.{vec_capacity, vec_len}
-use Rattle.qm_trace.proofs.Noting.{has_room, one_note}
-use Rattle.qm_trace.proofs.notes.note.Goals.{After-push}
+use Rattle.qm_trace.proofs.{Noting.has_room, Noting.one_note, notes.note.Goals.After-push}
 use Rattle.qm_trace.proofs.notes.note.Goals as goal
 
 few : (c : After-push) → vec_len c.args.notes.now.queue < vec_capacity c.args.notes.now.queue

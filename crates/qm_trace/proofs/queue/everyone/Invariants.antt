@@ -1,6 +1,4 @@
-use Rattle.std.proofs.Common.{◌≡◌}
-use Rattle.std.specs.List.{range_with_len}
-use Rattle.qm_trace.proofs.queue.everyone.Given as goal
+use Rattle.{std.proofs.Common.◌≡◌, std.specs.List.range_with_len}
 
-abbrev pub invariant-loop-r : goal.invariant-loop-r
+abbrev pub invariant-loop-r : Rattle.qm_trace.proofs.queue.everyone.Given.invariant-loop-r
 invariant-loop-r l = l.queue.items ≡ range_with_len 0 l.r

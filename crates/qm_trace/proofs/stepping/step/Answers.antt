@@ -1,5 +1,5 @@
 use Rattle.std.proofs.Common.{◌∙◌}
-use Rattle.qm_trace.proofs.Steps.{are_darts, can_ride, instant, stepped}
+use Rattle.qm_trace.proofs.Counting.{are_darts, can_ride, instant, stepped}
 use Rattle.qm_trace.proofs.stepping.step.Goals as goal
 
 pub invariant_of-trail : goal.invariant_of-trail

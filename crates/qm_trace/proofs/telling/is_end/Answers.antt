@@ -1,6 +1,5 @@
-use Rattle.mesh_laws.proofs.Fans.{is_fan}
-use Rattle.qm_trace.proofs.telling.is_end.Goals as goal
+use Rattle.mesh_laws.proofs.Chains.{is_fan}
 
-pub prev-requires : goal.prev-requires
+pub prev-requires : Rattle.qm_trace.proofs.telling.is_end.Goals.prev-requires
 prev-requires c = (is_fan c.args.mesh.now c.args.v c.fan-e-items.result.now c.fan-e-items.ensures).dart c.loop-e.e-index
     c.loop-e-test.true

@@ -1,11 +1,9 @@
 use Rattle.std.proofs.Common.{◌≡◌, ◌<◌, false, length, sym, ap, ◌∙◌, arith}
 use Rattle.std.proofs.lemmas.List.{get_or_default, length-set, take_all}
-use Rattle.mesh_laws.proofs.Fans.{is_fan}
-use Rattle.def_mesh.specs.Vertices.{fan_of}
-use Rattle.def_cut.specs.FullCut.{is_on}
-use Rattle.def_cut.specs.Events.{rider_at}
+use Rattle.def_cut.specs.{FullCut.is_on, Events.rider_at}
 use Rattle.qm_trace.proofs.Tellings.{none_here, noted_here, one_here, told_all_along, Turn, may_tell}
 use Rattle.qm_trace.proofs.telling.tell_all.Goals.{After-index, then-index, else-index}
+use Rattle.{mesh_laws.proofs.Chains.is_fan, def_mesh.specs.Vertices.fan_of}
 use Rattle.qm_trace.proofs.telling.tell_all.Goals as goal
 
 pub prev-d-requires : goal.prev-d-requires

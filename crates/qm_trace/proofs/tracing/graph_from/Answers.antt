@@ -1,9 +1,7 @@
 use Rattle.std.proofs.Common.{length, sym, ap, ◌∙◌, arith}
-use Rattle.def_cut.specs.Motion.{ridden}
-use Rattle.def_feature.specs.Marked.{marked_last}
-use Rattle.feature_laws.proofs.Laws.{marked_law}
-use Rattle.qm_trace.proofs.Ends.{cut_is, have_stopped, last_long}
-use Rattle.qm_trace.proofs.Beginnings.{marked_few}
+use Rattle.feature_laws.proofs.Conforming.{marked_law}
+use Rattle.qm_trace.proofs.Ends.{cut_is, have_stopped, last_long, marked_few}
+use Rattle.{def_cut.specs.Motion.ridden, def_feature.specs.Marked.marked_last}
 use Rattle.qm_trace.proofs.tracing.graph_from.Goals as goal
 
 pub tell_riders-requires-clause-few : goal.tell_riders-requires-clause-few

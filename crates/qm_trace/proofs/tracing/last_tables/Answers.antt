@@ -1,13 +1,10 @@
-use Rattle.std.proofs.Common.{◌≡◌, length, sym, subst, ap, ◌∙◌, arith, ◌+◌}
-use Rattle.std.proofs.Common.{suc}
+use Rattle.std.proofs.Common.{◌≡◌, length, sym, subst, ap, ◌∙◌, arith, ◌+◌, suc}
 use Rattle.std.proofs.lemmas.Bool.{eqb-true}
-use Rattle.std.specs.Vec.{vec_len}
-use Rattle.def_mesh.specs.Vertices.{vertex_count}
-use Rattle.def_feature.specs.Marked.{marked_starts}
 use Rattle.qm_trace.specs.Tables.{IsQueue, state_at}
 use Rattle.qm_trace.proofs.Ends.{all_over, end_at, first_on, next_on, next_queue, none_ride, queue_low, some_wait}
-use Rattle.qm_trace.proofs.Beginnings.{first_queue, marked_few}
+use Rattle.qm_trace.proofs.Ends.{first_queue}
 use Rattle.qm_trace.proofs.tracing.last_tables.Goals.{else-instants-test, then-instants-test+then-is_empty}
+use Rattle.{std.specs.Vec.vec_len, def_mesh.specs.Vertices.vertex_count, def_feature.specs.Marked.marked_starts}
 use Rattle.qm_trace.proofs.tracing.last_tables.Goals as goal
 
 pub instants-init : goal.instants-init

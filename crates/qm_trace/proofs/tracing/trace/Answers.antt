@@ -1,12 +1,8 @@
-use Rattle.std.proofs.Common.{rules, ◌≡◌, false, replicate, sym, ap, ◌∙◌}
-use Rattle.std.proofs.lemmas.Result.{IfOk-weaker}
-use Rattle.def_cut.specs.Traced.{IsGraphOf}
-use Rattle.def_mesh.specs.Darts.{darts}
-use Rattle.def_feature.specs.Marked.{IsMarkedGraph, marked_starts}
-use Rattle.feature_laws.proofs.NoMarks.{same_graph, same_starts}
-use Rattle.qm_trace.proofs.tracing.trace.Goals as goal
+use Rattle.std.proofs.{Common.rules, Common.◌≡◌, Common.false, Common.replicate, Common.◌∙◌, lemmas.Result.IfOk-weaker}
+use Rattle.def_feature.specs.Marked.{IsMarkedGraph}
+use Rattle.{def_cut.specs.Traced.IsGraphOf, def_mesh.specs.Darts.darts, feature_laws.proofs.First.same_graph}
 
-pub returns-clause-graph : goal.returns-clause-graph
+pub returns-clause-graph : Rattle.qm_trace.proofs.tracing.trace.Goals.returns-clause-graph
 returns-clause-graph c =
     let items : c.in_ok-marks.marks.items ≡ replicate (darts c.args.mesh.now) false = search rules in
     IfOk-weaker c.graph_from.result (IsMarkedGraph c.args.mesh.now c.deref-2.result.now) (IsGraphOf c.args.mesh.now)

@@ -1,8 +1,7 @@
 use Rattle.std.proofs.Common.{◌≡◌, ◌<◌, ◌≤◌, length, slice_index_or, true, false}
 use Rattle.qm_warmstart.specs.Tables.{AreChains}
-use Rattle.qm_warmstart.proofs.chains.chains_of.Given as goal
 
-abbrev pub invariant-loop-arc : goal.invariant-loop-arc
+abbrev pub invariant-loop-arc : Rattle.qm_warmstart.proofs.chains.chains_of.Given.invariant-loop-arc
 invariant-loop-arc l = (length l.taken.items ≡ length l.net.whole.now.arcs.items)
     × (length l.all.items ≤ l.arc)
     × AreChains (length l.net.whole.now.arcs.items) l.all.items

@@ -1,5 +1,4 @@
-use Rattle.std.proofs.Common.{◌≡◌, ◌*◌, length}
-use Rattle.qm_warmstart.specs.Tables.{AreBelow}
+use Rattle.{std.proofs.Common.◌≡◌, std.proofs.Common.◌*◌, std.proofs.Common.length, qm_warmstart.specs.Tables.AreBelow}
 use Rattle.qm_warmstart.proofs.chains.joined_ends.Given as goal
 
 abbrev pub invariant-loop-end : goal.invariant-loop-end

@@ -1,11 +1,8 @@
 use Rattle.std.proofs.Common.{◌≡◌, ℕ, ◌<◌, map, subst, arith}
-use Rattle.std.specs.List.{flat_map, range_with_len}
-use Rattle.def_layout.specs.Layouts.{gluing_of}
-use Rattle.def_mesh.specs.Faces.{Face}
-use Rattle.def_remesh.specs.NewPoints.{lengths_in}
-use Rattle.def_text.specs.Canonical.{face_text}
 use Rattle.def_written.specs.NewFaces.{face_count, new_face}
-use Rattle.qm_output.proofs.{Prefixes.of_error, Lists.stops_at_number, Lists.takes_number}
+use Rattle.qm_output.proofs.Prefixes.{of_error, stops_at_number, takes_number}
+use Rattle.{std.specs.List.flat_map, std.specs.List.range_with_len, def_layout.specs.Layouts.gluing_of}
+use Rattle.{def_mesh.specs.Faces.Face, def_remesh.specs.NewPoints.lengths_in, def_text.specs.Canonical.face_text}
 use Rattle.qm_write.proofs.faces.put_faces.Goals as goal
 
 pub returns-in_err-put_face-clause-part : goal.returns-in_err-put_face-clause-part

@@ -1,8 +1,7 @@
 use Rattle.std.proofs.Common.{◌≡◌, sym, ◌∙◌, ap, subst}
 use Rattle.def_certtext.specs.CertLines.{certificates_of, used, Lists}
-use Rattle.def_remesh.specs.Tasks.{given_floors}
-use Rattle.remesh_laws.proofs.{Rounds.kept_by, Writable.kept_writable}
-use Rattle.qm_write.proofs.Frames.{pieces_are, with_lengths}
+use Rattle.remesh_laws.proofs.ReadAgain.{kept_by, kept_writable}
+use Rattle.{def_remesh.specs.Tasks.given_floors, qm_write.proofs.Frames.pieces_are, qm_write.proofs.Frames.with_lengths}
 use Rattle.qm_write.proofs.text.put_framed.Goals as goal
 
 pub certs_text-requires : goal.certs_text-requires

@@ -1,10 +1,8 @@
 use Rattle.std.proofs.Common.{◌≡◌, ℕ, ◌<◌, map, subst, arith}
-use Rattle.std.specs.List.{flat_map, range_with_len}
-use Rattle.def_layout.specs.Layouts.{gluing_of}
 use Rattle.def_remesh.specs.{NewPoints.lengths_in, NewSoup.spaced_place}
-use Rattle.def_text.specs.{Canonical.position_text, Types.Position}
-use Rattle.def_written.specs.Numbers.{vertices}
-use Rattle.qm_output.proofs.{Prefixes.of_error, Lists.stops_at_number, Lists.takes_number}
+use Rattle.qm_output.proofs.Prefixes.{of_error, stops_at_number, takes_number}
+use Rattle.{std.specs.List.flat_map, std.specs.List.range_with_len, def_layout.specs.Layouts.gluing_of}
+use Rattle.{def_text.specs.Canonical.position_text, def_text.specs.Types.Position, def_written.specs.Numbers.vertices}
 use Rattle.qm_write.proofs.vertices.put_vertices.Goals as goal
 
 pub returns-in_err-put_position-clause-part : goal.returns-in_err-put_position-clause-part

@@ -1,10 +1,8 @@
-use Rattle.std.proofs.Common.{map}
 use Rattle.std.specs.List.{flat_map, range_with_len}
 use Rattle.def_remesh.specs.{NewPoints.lengths_in, NewSoup.spaced_place}
-use Rattle.def_text.specs.Canonical.{position_text}
-use Rattle.qm_write.proofs.vertices.put_vertices.Given as goal
+use Rattle.{std.proofs.Common.map, def_text.specs.Canonical.position_text}
 
-abbrev pub invariant-loop-v : goal.invariant-loop-v
+abbrev pub invariant-loop-v : Rattle.qm_write.proofs.vertices.put_vertices.Given.invariant-loop-v
 invariant-loop-v g l =
     g.T.Output.takes l.initial.out l.out
     (flat_map position_text (map (spaced_place l.new.soup.faces l.new.layout l.new.soup.pos l.new.shares

@@ -1,10 +1,10 @@
+use Rattle.std.proofs.{Common.ap, Common.arith, Common.length, Common.sym, Common.◌<◌, Common.◌∙◌}
+use Rattle.std.proofs.{lemmas.Bool.eqb-false}
 use Rattle.qm_certtext.specs.{Parts.lists_in_parts, declared.parts.Found.Found}
-use Rattle.std.proofs.Common.{ap, arith, length, sym, ◌<◌, ◌∙◌}
-use Rattle.{def_certtext.specs.declared.certs.Round.Round, qm_certtext.proofs.Holding.holds_none, std.specs.Vec.vec_len}
-use Rattle.{qm_certtext.proofs.Ending.ends_some, std.proofs.lemmas.Bool.eqb-false}
-use Rattle.qm_certtext.proofs.parts.Found.end_round.Goals as goal
+use Rattle.qm_certtext.proofs.Chosen.{holds_none, ends_some}
+use Rattle.{std.specs.Vec.vec_len, def_certtext.specs.declared.certs.Round.Round}
 
-pub returns : goal.returns
+pub returns : Rattle.qm_certtext.proofs.parts.Found.end_round.Goals.returns
 returns c =
     let new : Found = record {
       first = c.args.self.now.first;

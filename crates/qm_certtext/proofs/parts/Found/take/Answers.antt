@@ -1,7 +1,7 @@
-use Rattle.qm_certtext.proofs.Holding.{added_ok, holds_none, starts, starts_not, takes_both, takes_other, takes_third}
+use Rattle.std.proofs.{Common.Some, Common.refl, Common.sym, Common.◌≡◌, Common.ap, lemmas.Bool.false≢true}
+use Rattle.qm_certtext.proofs.Chosen.{added_ok, holds_none, starts, starts_not, takes_both, takes_other, takes_third}
 use Rattle.qm_certtext.specs.{declared.parts.Found.Found, declared.parts.Parts.Parts}
-use Rattle.std.proofs.{Common.Some, Common.refl, Common.sym, Common.◌≡◌, lemmas.Bool.false≢true}
-use Rattle.{def_certtext.specs.declared.certs.Rising.TheVariants.Rounds, std.proofs.Common.ap}
+use Rattle.def_certtext.specs.declared.certs.Rising.TheVariants.{Rounds}
 use Rattle.qm_certtext.proofs.parts.Found.take.Goals as goal
 
 pub returns-then-starts_third : goal.returns-then-starts_third

@@ -1,8 +1,7 @@
-use Rattle.qm_certtext.{proofs.Ending.no_rise_line, proofs.Ending.takes_plain, specs.declared.parts.Found.Found}
-use Rattle.{qm_certtext.proofs.Holding.added_ok, std.proofs.Common.refl}
-use Rattle.qm_certtext.proofs.parts.Found.take_in_round.Goals as goal
+use Rattle.qm_certtext.proofs.Chosen.{no_rise_line, takes_plain, added_ok}
+use Rattle.{std.proofs.Common.refl, qm_certtext.specs.declared.parts.Found.Found}
 
-pub returns : goal.returns
+pub returns : Rattle.qm_certtext.proofs.parts.Found.take_in_round.Goals.returns
 returns c =
     let ended = c.end_round.new.self in
     let new : Found = record {

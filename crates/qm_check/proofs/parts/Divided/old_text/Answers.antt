@@ -1,11 +1,10 @@
 use Rattle.std.proofs.Common.{rules, ◌≡◌, ◌++◌, length, take, drop, sym, ◌∙◌, ap, arith, length-append, length-drop}
 use Rattle.std.proofs.{Math.Seq.take-append_seam, lemmas.List.take-append-drop, lemmas.List.Concat.flat_map-append}
-use Rattle.{std.specs.List.flat_map, def_io.specs.Bytes.Bytes, def_io.specs.Lines.pieces, def_io.specs.Lines.tail_of}
-use Rattle.{def_run.specs.MarkLines.front_of, remesh_laws.proofs.Tails.flat-pieces}
-use Rattle.qm_check.proofs.parts.Divided.old_text.Goals as goal
+use Rattle.def_io.specs.{Bytes.Bytes, Lines.pieces, Lines.tail_of}
+use Rattle.{std.specs.List.flat_map, def_run.specs.MarkLines.front_of, remesh_laws.proofs.Tails.flat-pieces}
 
 -- The bytes in front of a line are all but those from it on.
-pub returns-clause-front : goal.returns-clause-front
+pub returns-clause-front : Rattle.qm_check.proofs.parts.Divided.old_text.Goals.returns-clause-front
 returns-clause-front c =
     let text = c.args.self.now in
     let line = text.head.line in

@@ -1,12 +1,9 @@
 use Rattle.std.proofs.Common.{◌&&◌, ◌||◌, eqb, sym, ap, ◌∙◌, ℕ, Bool}
 use Rattle.std.specs.List.{list_any, range_with_len}
-use Rattle.def_mesh.specs.Darts.{from_of}
-use Rattle.def_cut.specs.FullCut.{is_on}
-use Rattle.qm_feature.specs.Rings.{is_home}
-use Rattle.qm_trace.proofs.Marking.{any_range_more, or_shift}
-use Rattle.qm_feature.proofs.closed.Homes.mark_rings.Goals as goal
+use Rattle.qm_trace.proofs.Tellings.{any_range_more, or_shift}
+use Rattle.{def_mesh.specs.Darts.from_of, def_cut.specs.FullCut.is_on, qm_feature.specs.Rings.is_home}
 
-pub loop-d-preserved : goal.loop-d-preserved
+pub loop-d-preserved : Rattle.qm_feature.proofs.closed.Homes.mark_rings.Goals.loop-d-preserved
 loop-d-preserved c v =
     let s = c.args.self.now in
     let home : ℕ → Bool = λ d. eqb (from_of s.mesh.now d) v

@@ -1,5 +1,5 @@
-use Rattle.std.proofs.{Common.◌∙◌, Common.false}
-use Rattle.qm_forest.proofs.{EdgeKinds.reaches, Increases.none_of, OnWays.augmented}
+use Rattle.std.proofs.Common.{◌∙◌, false}
+use Rattle.qm_forest.proofs.{MateRounds.reaches, Increases.none_of, OnWays.augmented}
 use Rattle.qm_forest.proofs.forest.Forest.augment.Goals as goal
 
 pub rematch-requires : goal.rematch-requires

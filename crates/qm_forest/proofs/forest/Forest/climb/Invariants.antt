@@ -1,7 +1,5 @@
-use Rattle.std.proofs.Common.{◌≤◌}
 use Rattle.def_forest.specs.{Darts.darts_of, Tables.forest_of}
-use Rattle.forest_laws.specs.Climbing.{level_of}
-use Rattle.qm_forest.specs.Rings.{HasClimbed}
+use Rattle.{std.proofs.Common.◌≤◌, forest_laws.specs.Climbing.level_of, qm_forest.specs.Rings.HasClimbed}
 use Rattle.qm_forest.proofs.forest.Forest.climb.Given as goal
 
 abbrev pub invariant-loop-d : goal.invariant-loop-d

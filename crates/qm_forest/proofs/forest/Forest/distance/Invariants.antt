@@ -1,8 +1,7 @@
 use Rattle.std.proofs.Common.{◌≡◌, ◌≢◌, ℕ, ◌<◌, get_or}
 use Rattle.def_forest.specs.Forests.{walk}
-use Rattle.qm_forest.proofs.forest.Forest.distance.Given as goal
 
-abbrev pub invariant-loop-k : goal.invariant-loop-k
+abbrev pub invariant-loop-k : Rattle.qm_forest.proofs.forest.Forest.distance.Given.invariant-loop-k
 invariant-loop-k l = record {
   here : l.x ≡ walk (λ i. get_or l.self.after i 0) l.first l.k;
   missed : (j : ℕ) → j < l.k → walk (λ i. get_or l.self.after i 0) l.first j ≢ l.last;

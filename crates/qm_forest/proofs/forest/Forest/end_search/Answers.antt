@@ -2,9 +2,8 @@ use Rattle.std.proofs.Common.{◌∙◌, ap, refl, get_or}
 use Rattle.def_forest.specs.{Forests.Forest, Tables.forest_of, declared.kinds.Label.TheVariants.Outside}
 use Rattle.qm_forest.specs.Ties.{labelled}
 use Rattle.qm_forest.proofs.OnWays.{labels_own, one_more_outside, same_nest}
-use Rattle.qm_forest.proofs.forest.Forest.end_search.Goals as goal
 
-pub loop-k-preserved : goal.loop-k-preserved
+pub loop-k-preserved : Rattle.qm_forest.proofs.forest.Forest.end_search.Goals.loop-k-preserved
 loop-k-preserved c = record {
   seen = labels_own c.args.self.now c.set_label.new.self _ (c.set_label.ensures.seen
       ∙ ap (λ (f : Forest). labelled f (f.out c.trail_at-v.result) Outside) c.loop-k.invariant.seen);

@@ -1,9 +1,8 @@
-use Rattle.std.proofs.Common.{length, ◌∙◌, ap}
-use Rattle.def_forest.specs.Tables.{forest_of}
 use Rattle.qm_forest.proofs.Expandings.{Expanding, matched, mate_low, link_low, vertex_low, places_low, reached3, tops3}
 use Rattle.qm_forest.proofs.Expandings.{expanded}
-use Rattle.qm_forest.proofs.{Openings.CanOpen, Openings.partable, forest.Forest.expand.Goals.After-parts-many}
-use Rattle.qm_forest.proofs.{forest.Forest.expand.Goals.After-outermost-last}
+use Rattle.qm_forest.proofs.forest.Forest.expand.Goals.{After-parts-many, After-outermost-last}
+use Rattle.qm_forest.proofs.Openings.{CanOpen, partable}
+use Rattle.{std.proofs.Common.length, std.proofs.Common.◌∙◌, std.proofs.Common.ap, def_forest.specs.Tables.forest_of}
 use Rattle.qm_forest.proofs.forest.Forest.expand.Goals as goal
 
 ready : (c : After-parts-many) → CanOpen c.args.g.now.graph c.args.self.now c.args.b

@@ -1,6 +1,5 @@
-use Rattle.std.proofs.Common.{ap, length, arith}
-use Rattle.std.specs.Vec.{vec_capacity}
 use Rattle.qm_forest.proofs.Fresh.{tied_forgotten, seen_forgotten}
+use Rattle.{std.proofs.Common.ap, std.proofs.Common.length, std.proofs.Common.arith, std.specs.Vec.vec_capacity}
 use Rattle.qm_forest.proofs.forest.Forest.forget_tree.Goals as goal
 
 pub invariant_of-self : goal.invariant_of-self

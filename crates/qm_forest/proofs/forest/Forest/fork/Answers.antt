@@ -1,9 +1,8 @@
 use Rattle.std.proofs.Common.{◌+◌, ◌≤◌, sym, arith}
 use Rattle.def_forest.specs.{Darts.darts_of, Tables.forest_of}
-use Rattle.forest_laws.specs.Climbing.{IsClimbing}
-use Rattle.forest_laws.proofs.Forks.{swapped}
-use Rattle.qm_forest.proofs.Increases.{both_hangs, both_turn, both_swapped}
-use Rattle.qm_forest.proofs.forest.Forest.fork.Goals.{After-above-x}
+use Rattle.qm_forest.proofs.{Increases.both_hangs, Increases.both_turn, Increases.both_swapped}
+use Rattle.qm_forest.proofs.{forest.Forest.fork.Goals.After-above-x}
+use Rattle.{forest_laws.specs.Climbing.IsClimbing, forest_laws.proofs.Forks.swapped}
 use Rattle.qm_forest.proofs.forest.Forest.fork.Goals as goal
 
 -- The first climber goes on.

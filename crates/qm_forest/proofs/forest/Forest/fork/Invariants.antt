@@ -1,6 +1,5 @@
-use Rattle.std.proofs.Common.{◌+◌, ◌-◌}
 use Rattle.def_forest.specs.{Darts.darts_of, Tables.forest_of}
-use Rattle.forest_laws.specs.Climbing.{IsClimbing}
+use Rattle.{std.proofs.Common.◌+◌, std.proofs.Common.◌-◌, forest_laws.specs.Climbing.IsClimbing}
 use Rattle.qm_forest.proofs.forest.Forest.fork.Given as goal
 
 abbrev pub invariant-loop-x : goal.invariant-loop-x

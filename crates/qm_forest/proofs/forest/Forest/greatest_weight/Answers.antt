@@ -1,10 +1,7 @@
-use Rattle.std.proofs.Common.{◌≡◌, inl, inr, arith}
-use Rattle.std.proofs.lemmas.Bool.{cases_lt}
-use Rattle.std.specs.Prelude.{unsigned_abs}
-use Rattle.def_forest.specs.Tables.{forest_of}
-use Rattle.qm_forest.proofs.forest.Forest.greatest_weight.Goals as goal
+use Rattle.std.proofs.{Common.◌≡◌, Common.inl, Common.inr, Common.arith, lemmas.Bool.cases_lt}
+use Rattle.{std.specs.Prelude.unsigned_abs, def_forest.specs.Tables.forest_of}
 
-pub loop-b-preserved : goal.loop-b-preserved
+pub loop-b-preserved : Rattle.qm_forest.proofs.forest.Forest.greatest_weight.Goals.loop-b-preserved
 loop-b-preserved c =
     record {
       above = λ b l. grind arith;

@@ -1,6 +1,6 @@
 use Rattle.qm_forest.specs.Needs.{ReachesMatched}
-use Rattle.qm_forest.proofs.{EdgeKinds.grows, OnWays.valid_grown, OnWays.is_some_ne}
-use Rattle.qm_forest.proofs.forest.Forest.grow.Goals.{After-outer_dart-d}
+use Rattle.qm_forest.proofs.{MateRounds.grows, OnWays.valid_grown, OnWays.is_some_ne}
+use Rattle.qm_forest.proofs.{forest.Forest.grow.Goals.After-outer_dart-d}
 use Rattle.qm_forest.proofs.forest.Forest.grow.Goals as goal
 
 -- The dart reaches a matched blossom.

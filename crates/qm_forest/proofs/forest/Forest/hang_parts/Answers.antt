@@ -1,8 +1,5 @@
-use Rattle.std.proofs.Common.{add-one, ◌≡◌, ◌+◌, ◌-◌, ◌∙◌, ap, arith}
-use Rattle.def_forest.specs.Tables.{forest_of}
-use Rattle.qm_forest.specs.Parts.{hung}
-use Rattle.qm_forest.proofs.Leavings.{hung_more, next_place, outermost_kept}
-use Rattle.qm_forest.proofs.OnWays.{same_nest}
+use Rattle.std.proofs.Common.{add-one, ◌≡◌, ◌+◌, ◌-◌, ◌∙◌, arith}
+use Rattle.qm_forest.proofs.{Expandings.hung_more, Expandings.next_place, Expandings.outermost_kept, OnWays.same_nest}
 use Rattle.qm_forest.proofs.forest.Forest.hang_parts.Goals as goal
 
 pub leader-v-requires : goal.leader-v-requires

@@ -1,9 +1,7 @@
-use Rattle.std.proofs.Common.{◌≡◌, ◌-◌, get_or}
-use Rattle.def_forest.specs.{Forests.walk, Tables.forest_of}
-use Rattle.qm_forest.specs.{Parts.hung, Ties.HasSameNest}
-use Rattle.qm_forest.proofs.forest.Forest.hang_parts.Given as goal
+use Rattle.{std.proofs.Common.◌≡◌, std.proofs.Common.◌-◌, std.proofs.Common.get_or, def_forest.specs.Forests.walk}
+use Rattle.{def_forest.specs.Tables.forest_of, qm_forest.specs.Parts.hung, qm_forest.specs.Ties.HasSameNest}
 
-abbrev pub invariant-loop-k : goal.invariant-loop-k
+abbrev pub invariant-loop-k : Rattle.qm_forest.proofs.forest.Forest.hang_parts.Given.invariant-loop-k
 invariant-loop-k l = record {
   here : l.x ≡ walk (λ i. get_or l.fn.self.after i 0) l.course.front l.k;
   back : l.before ≡ walk (λ i. get_or l.fn.self.after i 0) l.course.front (l.k - 1);

@@ -1,6 +1,5 @@
-use Rattle.std.proofs.Common.{◌∙◌, ap}
-use Rattle.def_forest.specs.{Darts.darts_of, Tables.forest_of}
-use Rattle.qm_forest.proofs.{Increases.laid_whole, OnWays.near_in}
+use Rattle.{std.proofs.Common.◌∙◌, std.proofs.Common.ap, def_forest.specs.Darts.darts_of}
+use Rattle.{def_forest.specs.Tables.forest_of, qm_forest.proofs.Increases.laid_whole, qm_forest.proofs.OnWays.near_in}
 use Rattle.qm_forest.proofs.forest.Forest.lay_ring.Goals as goal
 
 pub outermost-a-requires : goal.outermost-a-requires

@@ -1,7 +1,6 @@
-use Rattle.std.proofs.Common.{add-one, ◌≡◌, suc, ◌+◌, None, ◌∙◌, ap, sym, get_or, arith}
-use Rattle.def_forest.specs.{Forests.Forest, Forests.walk}
-use Rattle.qm_forest.specs.Ties.{mated}
-use Rattle.qm_forest.proofs.{Leavings.outermost_kept, Leavings.left_more, Leavings.next_place, OnWays.same_nest}
+use Rattle.std.proofs.Common.{add-one, None, ◌∙◌, ap, arith}
+use Rattle.qm_forest.proofs.{Expandings.outermost_kept, Expandings.left_more, Expandings.next_place, OnWays.same_nest}
+use Rattle.{def_forest.specs.Forests.Forest, qm_forest.specs.Ties.mated}
 use Rattle.qm_forest.proofs.forest.Forest.leave.Goals as goal
 
 pub leader-v-requires : goal.leader-v-requires

@@ -1,9 +1,7 @@
 use Rattle.std.proofs.Common.{◌≡◌, ◌∙◌, ap}
-use Rattle.def_forest.specs.Tables.{ForestTables}
-use Rattle.qm_forest.proofs.Waitings.{distinct, list_made}
-use Rattle.qm_forest.proofs.forest.Forest.list_entries.Goals as goal
+use Rattle.{def_forest.specs.Tables.ForestTables, qm_forest.proofs.Waitings.list_made}
 
-pub returns-clause-entries : goal.returns-clause-entries
+pub returns-clause-entries : Rattle.qm_forest.proofs.forest.Forest.list_entries.Goals.returns-clause-entries
 returns-clause-entries c =
     let up : c.self.inside.rings.up.items ≡ c.args.self.up = ap (λ (t : ForestTables). t.up) c.self.view_is in (
       c.name_sets.new.names.items,

@@ -1,10 +1,8 @@
-use Rattle.std.proofs.Common.{◌≡◌, ◌∷◌, [], ◌++◌, ◌∙◌, ap, arith}
-use Rattle.std.proofs.lemmas.Grind.{common_steps}
-use Rattle.def_forest.specs.Tables.{forest_of}
-use Rattle.qm_forest.proofs.Waitings.{weights_more}
-use Rattle.qm_forest.proofs.forest.Forest.list_set_weights.Goals as goal
+use Rattle.std.proofs.{Common.◌≡◌, Common.◌∷◌, Common.[], Common.◌++◌, Common.◌∙◌, Common.ap, Common.arith}
+use Rattle.std.proofs.{lemmas.Grind.common_steps}
+use Rattle.{def_forest.specs.Tables.forest_of, qm_forest.proofs.Waitings.weights_more}
 
-pub loop-k-preserved : goal.loop-k-preserved
+pub loop-k-preserved : Rattle.qm_forest.proofs.forest.Forest.list_set_weights.Goals.loop-k-preserved
 loop-k-preserved c =
     let pushed : c.push.new.self.items ≡ c.loop-k.numbers.items ++ c.weight.result ∷ [] = grind (arith, common_steps) in
     record {

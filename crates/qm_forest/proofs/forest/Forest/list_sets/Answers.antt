@@ -1,7 +1,6 @@
-use Rattle.std.proofs.Common.{◌≡◌, length, ap, arith}
-use Rattle.std.proofs.lemmas.List.Sorted.{length_permutation}
+use Rattle.std.proofs.{Common.◌≡◌, Common.length, Common.ap, Common.arith, lemmas.List.Sorted.length_permutation}
 use Rattle.def_forest.specs.Tables.{ForestTables}
-use Rattle.qm_forest.proofs.{Waitings.sets_moved, Waitings.sets_none}
+use Rattle.qm_forest.proofs.Waitings.{sets_moved, sets_none}
 use Rattle.qm_forest.proofs.forest.Forest.list_sets.Goals as goal
 
 pub loop-b-init : goal.loop-b-init

@@ -1,5 +1,5 @@
 use Rattle.std.proofs.{Common.arith, lemmas.Int.ints}
-use Rattle.qm_forest.proofs.Meeting.{turn_meets, turn_nearer, met_load}
+use Rattle.qm_forest.proofs.Meeting.{turn_meets, turn_nearer}
 use Rattle.qm_forest.proofs.forest.Forest.load_within.Goals as goal
 
 pub loop-x-smaller : goal.loop-x-smaller

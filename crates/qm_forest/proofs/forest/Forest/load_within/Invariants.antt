@@ -1,6 +1,5 @@
 use Rattle.std.proofs.Common.{◌+◌, ◌-◌, get_or}
-use Rattle.def_forest.specs.Tables.{forest_of}
-use Rattle.qm_forest.specs.Ties.{IsMeeting}
+use Rattle.{def_forest.specs.Tables.forest_of, qm_forest.specs.Ties.IsMeeting}
 use Rattle.qm_forest.proofs.forest.Forest.load_within.Given as goal
 
 abbrev pub invariant-loop-x : goal.invariant-loop-x

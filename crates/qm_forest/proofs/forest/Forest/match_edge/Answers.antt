@@ -1,9 +1,8 @@
 use Rattle.std.proofs.Common.{◌≡◌, ◌+◌, ◌*◌, true, false, refl, sym, ◌∙◌, ap}
-use Rattle.def_forest.specs.Tables.{forest_of}
-use Rattle.forest_laws.proofs.Writes.{true_false}
 use Rattle.qm_forest.specs.Rounds.{is_dart, matches, near_at}
-use Rattle.qm_forest.proofs.MateRounds.{dart_is, edge_more, edge_same, matches_is}
 use Rattle.qm_forest.proofs.forest.Forest.match_edge.Goals.{After-is_mate-matched, After-outermost-b}
+use Rattle.qm_forest.proofs.MateRounds.{dart_is, edge_more, edge_same, matches_is}
+use Rattle.{def_forest.specs.Tables.forest_of, forest_laws.proofs.Grows.true_false}
 use Rattle.qm_forest.proofs.forest.Forest.match_edge.Goals as goal
 
 a_is : (c : After-is_mate-matched) → c.outermost-a.result

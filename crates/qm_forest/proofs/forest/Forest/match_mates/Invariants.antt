@@ -1,8 +1,7 @@
 use Rattle.std.proofs.Common.{◌≡◌, length}
 use Rattle.qm_forest.specs.Rounds.{HasRoom, IsRound, matched_by}
-use Rattle.qm_forest.proofs.forest.Forest.match_mates.Given as goal
 
-abbrev pub invariant-loop-e : goal.invariant-loop-e
+abbrev pub invariant-loop-e : Rattle.qm_forest.proofs.forest.Forest.match_mates.Given.invariant-loop-e
 invariant-loop-e l = record {
   room : HasRoom l.self l.round;
   edges : length l.round.marks.items ≡ length l.fn.round.marks.items;

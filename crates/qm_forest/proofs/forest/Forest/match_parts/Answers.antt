@@ -1,7 +1,7 @@
-use Rattle.std.proofs.Common.{add-one, ◌≡◌, ◌+◌, ◌-◌, suc, Some, get_or, refl, ◌∙◌, ap, sym, arith}
-use Rattle.def_forest.specs.{Forests.Forest, Forests.walk, Tables.forest_of}
+use Rattle.std.proofs.Common.{add-one, ◌≡◌, ◌+◌, ◌-◌, Some, ◌∙◌, ap, arith}
+use Rattle.def_forest.specs.{Forests.Forest, Tables.forest_of}
 use Rattle.qm_forest.specs.{Parts.paired, Ties.mated}
-use Rattle.qm_forest.proofs.{Leavings.next_place, Leavings.paired_more, Leavings.place_low, OnWays.same_nest}
+use Rattle.qm_forest.proofs.{Expandings.next_place, Expandings.paired_more, OnWays.same_nest}
 use Rattle.qm_forest.proofs.forest.Forest.match_parts.Goals as goal
 
 pub loop-k-preserved : goal.loop-k-preserved

@@ -1,9 +1,7 @@
 use Rattle.std.proofs.Common.{◌≡◌, suc, ◌+◌, ◌*◌, ◌/◌, ◌<◌, get_or, refl, ◌∙◌, ap, inl, inr, arith}
-use Rattle.def_forest.specs.{Forests.walk, Tables.up_at}
-use Rattle.qm_forest.specs.Rounds.{IsPairing}
 use Rattle.qm_forest.proofs.RingRounds.{ring_begun, ring_ended, ring_turn, turn_entries, turn_pairing}
-use Rattle.qm_forest.proofs.{forest.Forest.match_ring.Goals.After-joint-d}
-use Rattle.qm_forest.proofs.{forest.Forest.match_ring.Goals.After-parts-end}
+use Rattle.qm_forest.proofs.forest.Forest.match_ring.Goals.{After-joint-d, After-parts-end}
+use Rattle.{def_forest.specs.Forests.walk, def_forest.specs.Tables.up_at, qm_forest.specs.Rounds.IsPairing}
 use Rattle.qm_forest.proofs.forest.Forest.match_ring.Goals as goal
 
 parts_is : (c : After-parts-end) → c.parts-end.result

@@ -1,9 +1,8 @@
 use Rattle.std.proofs.Common.{◌≡◌, ℕ, ◌+◌, ◌-◌, ◌*◌, ◌<◌, ◌⊎◌, get_or, Some, None}
 use Rattle.def_forest.specs.{Forests.bool_number, Forests.ring_sum, Forests.walk, Tables.up_at}
 use Rattle.qm_forest.specs.Rounds.{HasRoom, IsRound, within}
-use Rattle.qm_forest.proofs.forest.Forest.match_ring.Given as goal
 
-abbrev pub invariant-loop : goal.invariant-loop
+abbrev pub invariant-loop : Rattle.qm_forest.proofs.forest.Forest.match_ring.Given.invariant-loop
 invariant-loop l = record {
   here : l.x ≡ walk (λ k. get_or l.self.after k 0) (get_or l.self.after l.p 0) (2 * l.counter);
   room : HasRoom l.self l.round;

@@ -1,9 +1,8 @@
 use Rattle.std.proofs.Common.{get_or, ◌∙◌, ap, inl, inr, arith, length}
-use Rattle.def_forest.specs.Tables.{up_at}
-use Rattle.qm_forest.specs.Rounds.{within}
-use Rattle.qm_forest.proofs.{Enclosed.climbs_here, Nests.climbs_place, RingRounds.above_more, RingRounds.climb_begins}
-use Rattle.qm_forest.proofs.RingRounds.{climb_ends, climbs_on, held_more, next_rank}
+use Rattle.qm_forest.proofs.RingRounds.{above_more, climb_begins, climb_ends, climbs_on, held_more, next_rank}
 use Rattle.qm_forest.proofs.RingRounds.{ring_climb, rises_here, top_rank}
+use Rattle.qm_forest.proofs.Enclosed.{climbs_here, climbs_place}
+use Rattle.{def_forest.specs.Tables.up_at, qm_forest.specs.Rounds.within}
 use Rattle.qm_forest.proofs.forest.Forest.match_up.Goals as goal
 
 pub loop-p-init : goal.loop-p-init

@@ -1,7 +1,6 @@
 use Rattle.std.proofs.Common.{ℕ, ◌+◌, ◌≤◌, arith}
-use Rattle.def_forest.specs.Tables.{ForestTables}
-use Rattle.qm_forest.specs.{Rounds.IsRound, Rounds.waits_but}
-use Rattle.qm_forest.proofs.{Laminars.sound, Chosens.matches_but, forest.Forest.matching_missing.Goals.After-match_up}
+use Rattle.qm_forest.proofs.{Withins.sound, Chosens.matches_but, forest.Forest.matching_missing.Goals.After-match_up}
+use Rattle.{def_forest.specs.Tables.ForestTables, qm_forest.specs.Rounds.IsRound, qm_forest.specs.Rounds.waits_but}
 use Rattle.qm_forest.proofs.forest.Forest.matching_missing.Goals as goal
 
 -- A blossom waits in a set once at most.

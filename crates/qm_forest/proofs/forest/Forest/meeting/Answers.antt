@@ -1,9 +1,7 @@
 use Rattle.std.proofs.Common.{◌≡◌, ◌∙◌, ap, sym, arith}
-use Rattle.std.specs.Prelude.{is_some}
 use Rattle.def_forest.specs.{Darts.darts_of, Tables.forest_of}
-use Rattle.forest_laws.specs.Climbing.{level_of}
-use Rattle.forest_laws.proofs.Levels.{level_few}
 use Rattle.qm_forest.proofs.Increases.{climbed, climbed_nearer, climbed_on, none_of, root_on_both, some_of}
+use Rattle.{std.specs.Prelude.is_some, forest_laws.specs.Climbing.level_of, forest_laws.proofs.Levels.level_few}
 use Rattle.qm_forest.proofs.forest.Forest.meeting.Goals as goal
 
 pub returns-in-Some-clause-both : goal.returns-in-Some-clause-both

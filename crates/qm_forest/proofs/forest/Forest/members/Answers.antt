@@ -1,5 +1,3 @@
-use Rattle.std.proofs.Common.{◌∙◌, get_or, arith}
-use Rattle.forest_laws.proofs.Walks.{listed_place}
 use Rattle.qm_forest.proofs.JoinedLists.{list_few}
 use Rattle.qm_forest.proofs.forest.Forest.members.Goals as goal
 

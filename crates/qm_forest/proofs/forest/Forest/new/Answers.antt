@@ -1,8 +1,7 @@
-use Rattle.std.proofs.Common.{◌∙◌, List, get_or, pos, ap, arith, ℤ}
-use Rattle.std.proofs.lemmas.Result.{IfOk-weaker}
-use Rattle.qm_forest.proofs.forest.Forest.new.Goals as goal
+use Rattle.std.proofs.{Common.◌∙◌, Common.List, Common.get_or, Common.pos, Common.ap, Common.arith, Common.ℤ}
+use Rattle.std.proofs.{lemmas.Result.IfOk-weaker}
 
-pub returns-clause-small : goal.returns-clause-small
+pub returns-clause-small : Rattle.qm_forest.proofs.forest.Forest.new.Goals.returns-clause-small
 returns-clause-small c = IfOk-weaker c.new_from.result _ _ (λ f weights most above b.
     let least = c.greatest_cost-most.ensures.least most above in
     let small = c.in_ok-lows.ensures.small b in

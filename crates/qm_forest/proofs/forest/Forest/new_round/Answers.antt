@@ -1,7 +1,7 @@
 use Rattle.std.proofs.Common.{◌/◌, ◌∙◌, false, None, length, ap, arith}
 use Rattle.std.proofs.lemmas.List.{length-replicate}
 use Rattle.def_forest.specs.Tables.{ForestTables}
-use Rattle.qm_forest.proofs.{Chosens.if_both, Chosens.round_begins, Laminars.laminar, Laminars.sound}
+use Rattle.qm_forest.proofs.{Chosens.if_both, Chosens.round_begins, Withins.laminar, Withins.sound}
 use Rattle.qm_forest.proofs.forest.Forest.new_round.Goals as goal
 
 pub returns-clause-room : goal.returns-clause-room

@@ -1,5 +1,4 @@
 use Rattle.std.proofs.Common.{rules, sym}
-use Rattle.qm_forest.proofs.forest.Forest.outermost.Goals as goal
 
-pub returns-clause-outermost : goal.returns-clause-outermost
+pub returns-clause-outermost : Rattle.qm_forest.proofs.forest.Forest.outermost.Goals.returns-clause-outermost
 returns-clause-outermost c = (c.args.v, c.requires, sym (search rules))

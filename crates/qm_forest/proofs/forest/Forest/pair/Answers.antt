@@ -1,8 +1,7 @@
 use Rattle.std.proofs.Common.{true, ◌/◌, ◌∙◌, ap, length, length-set, arith}
-use Rattle.qm_forest.proofs.Pairings.{entered_size}
-use Rattle.qm_forest.proofs.forest.Forest.pair.Goals as goal
+use Rattle.qm_forest.proofs.RingRounds.{entered_size}
 
-pub returns-clause-room : goal.returns-clause-room
+pub returns-clause-room : Rattle.qm_forest.proofs.forest.Forest.pair.Goals.returns-clause-room
 returns-clause-room c = record {
   laminar = c.requires.room.laminar;
   sound = c.requires.room.sound;

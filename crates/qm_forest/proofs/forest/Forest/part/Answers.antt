@@ -1,9 +1,8 @@
-use Rattle.std.proofs.{Common.◌≡◌, Common.length, Common.get_or, Common.arith}
-use Rattle.std.proofs.lemmas.List.{get_or_read}
+use Rattle.std.proofs.{Common.◌≡◌, Common.length, Common.get_or, Common.arith, lemmas.List.get_or_read}
 use Rattle.qm_forest.specs.Parts.{IsPartable}
-use Rattle.qm_forest.proofs.Insides.{seen_in}
 use Rattle.qm_forest.proofs.Parted.{Opened, Parting, set_live, part_lists, parted_as, parted_is, tied_parted}
-use Rattle.qm_forest.proofs.forest.Forest.part.Goals.{After-give_set, After-open_ring}
+use Rattle.qm_forest.proofs.{Shrinkings.seen_in, forest.Forest.part.Goals.After-give_set}
+use Rattle.qm_forest.proofs.{forest.Forest.part.Goals.After-open_ring}
 use Rattle.qm_forest.proofs.forest.Forest.part.Goals as goal
 
 ready : (c : After-open_ring) → IsPartable (seen_in c.self.inside) c.args.b

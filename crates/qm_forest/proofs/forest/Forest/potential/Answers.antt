@@ -2,10 +2,10 @@ use Rattle.std.proofs.Common.{◌<◌, ◌≡◌, length, arith, ap, get_or, pos
 use Rattle.std.proofs.lemmas.Int.{ints}
 use mir.Syntax.{w128}
 use mir.Val.{to_z, of_z}
-use Rattle.def_forest.specs.{Tables.ForestTables, Tables.forest_of}
-use Rattle.qm_forest.specs.Ties.{potential}
-use Rattle.qm_forest.proofs.Ranges.{delta_small, added_small, added_bound, told_bound, potential_small, kept_in_bits}
-use Rattle.qm_forest.proofs.{Insides.seen_in, forest.Forest.potential.Goals.After-deref-6}
+use Rattle.qm_forest.proofs.TiedWrites.{delta_small, added_small, added_bound, told_bound, potential_small}
+use Rattle.qm_forest.proofs.TiedWrites.{kept_in_bits}
+use Rattle.qm_forest.proofs.{Shrinkings.seen_in, forest.Forest.potential.Goals.After-deref-6}
+use Rattle.{def_forest.specs.Tables.ForestTables, def_forest.specs.Tables.forest_of, qm_forest.specs.Ties.potential}
 use Rattle.qm_forest.proofs.forest.Forest.potential.Goals as goal
 
 -- What the handle of the vertex adds, and its number: the potential.

@@ -1,8 +1,7 @@
 use Rattle.std.proofs.Common.{◌∙◌, ap, Some, ℕ}
-use Rattle.qm_forest.proofs.Shifted.{valid_rooted}
-use Rattle.qm_forest.proofs.forest.Forest.root.Goals as goal
+use Rattle.qm_forest.proofs.Meeting.{valid_rooted}
 
-pub returns-clause-valid : goal.returns-clause-valid
+pub returns-clause-valid : Rattle.qm_forest.proofs.forest.Forest.root.Goals.returns-clause-valid
 returns-clause-valid c = λ g is valid. valid_rooted _ is valid _ c.requires.vertex c.requires.none
     c.requires.free (c.set_root.ensures.seen ∙ c.set_label.ensures.seen)
     (c.set_root.ensures.hand ∙ c.set_label.ensures.same.hand) (c.set_root.ensures.root

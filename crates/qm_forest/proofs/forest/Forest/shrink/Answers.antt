@@ -1,8 +1,8 @@
 use Rattle.std.proofs.Common.{◌+◌, ◌*◌, ◌≤◌, ◌^◌, arith}
 use Rattle.def_forest.specs.{Darts.darts_of, Tables.forest_of}
-use Rattle.forest_laws.proofs.{Levels.level_few, Writes.outer_named}
-use Rattle.qm_forest.proofs.Shrinkings.{Closing, tops_laid, free_ring, shrunk_tables}
-use Rattle.qm_forest.proofs.{EdgeKinds.shrinks, forest.Forest.shrink.Goals.After-fork-fork}
+use Rattle.forest_laws.proofs.{Levels.level_few, Grows.outer_named}
+use Rattle.qm_forest.proofs.{Shrinkings.Closing, Shrinkings.tops_laid, Shrinkings.free_ring, Shrinkings.shrunk_tables}
+use Rattle.qm_forest.proofs.{MateRounds.shrinks, forest.Forest.shrink.Goals.After-fork-fork}
 use Rattle.qm_forest.proofs.forest.Forest.shrink.Goals as goal
 
 -- The edge closes a cycle.

@@ -1,6 +1,5 @@
 use Rattle.def_forest.specs.{Darts.darts_of, Tables.forest_of}
-use Rattle.forest_laws.specs.Climbing.{level_of}
-use Rattle.qm_forest.specs.Rings.{HasClimbed}
+use Rattle.{forest_laws.specs.Climbing.level_of, qm_forest.specs.Rings.HasClimbed}
 use Rattle.qm_forest.proofs.forest.Forest.steps_to.Given as goal
 
 abbrev pub invariant-loop-at : goal.invariant-loop-at

@@ -1,7 +1,7 @@
 use Rattle.std.proofs.Common.{◌≡◌, ◌<◌, length, ◌∙◌, false, get_or, arith}
 use Rattle.std.proofs.lemmas.Grind.{common_steps}
-use Rattle.qm_forest.proofs.{Ranges.mark_read, TiedWrites.trail_room, TiedWrites.tied_touched}
-use Rattle.qm_forest.proofs.forest.Forest.touch.Goals.{After-index}
+use Rattle.qm_forest.proofs.{TiedWrites.mark_read, TiedWrites.trail_room, TiedWrites.tied_touched}
+use Rattle.qm_forest.proofs.{forest.Forest.touch.Goals.After-index}
 use Rattle.qm_forest.proofs.forest.Forest.touch.Goals as goal
 
 low : (c : After-index) → c.args.v < length c.self.inside.handles.hand.items

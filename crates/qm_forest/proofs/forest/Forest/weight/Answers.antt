@@ -1,7 +1,7 @@
 use Rattle.std.proofs.{Common.◌≡◌, Common.ap, Common.arith, lemmas.Int.ints}
 use Rattle.def_forest.specs.Tables.{ForestTables, weight_at}
-use Rattle.qm_forest.proofs.Ranges.{delta_small, kept_in_bits, weight_read}
-use Rattle.qm_forest.proofs.forest.Forest.weight.Goals.{After-weight_from}
+use Rattle.qm_forest.proofs.{TiedWrites.delta_small, TiedWrites.kept_in_bits, TiedWrites.weight_read}
+use Rattle.qm_forest.proofs.{forest.Forest.weight.Goals.After-weight_from}
 use Rattle.qm_forest.proofs.forest.Forest.weight.Goals as goal
 
 is : (c : After-weight_from) → c.weight_from.result ≡ weight_at c.self.inside.weights.base.items

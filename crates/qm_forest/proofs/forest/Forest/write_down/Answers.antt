@@ -1,5 +1,5 @@
 use Rattle.std.proofs.Common.{subst}
-use Rattle.qm_forest.proofs.{Rooms.IsPlaced, Rooms.has_room, Rooms.placed, Rooms.room_begun}
+use Rattle.qm_forest.proofs.Increases.{IsPlaced, has_room, placed, room_begun}
 use Rattle.qm_forest.proofs.forest.Forest.write_down.Goals as goal
 
 pub choose-requires-clause-room : goal.choose-requires-clause-room

@@ -1,6 +1,5 @@
 use Rattle.std.proofs.Common.{◌≡◌}
-use Rattle.qm_fraction.proofs.search.Search.move_numbers.Given as goal
 
-abbrev pub invariant-loop-k : goal.invariant-loop-k
+abbrev pub invariant-loop-k : Rattle.qm_fraction.proofs.search.Search.move_numbers.Given.invariant-loop-k
 invariant-loop-k l = (l.self.vertices.g ≡ l.initial.self.vertices.g) × (l.self.exits ≡ l.initial.self.exits) ×
     (l.self.near ≡ l.initial.self.near)

@@ -1,6 +1,5 @@
 use Rattle.std.proofs.{lemmas.List.Elements.All-head, lemmas.List.Sorted.All-permutation}
-use Rattle.qm_fraction.specs.Known.{IsKey}
-use Rattle.qm_fraction.proofs.Popped.{keys_left}
+use Rattle.{qm_fraction.specs.Known.IsKey, qm_fraction.proofs.Popped.keys_left}
 use Rattle.qm_fraction.proofs.search.Search.pop.Goals as goal
 
 pub invariant_of-self : goal.invariant_of-self

@@ -1,5 +1,4 @@
 use Rattle.std.proofs.Common.{◌≡◌}
-use Rattle.qm_fraction.proofs.vertices.Vertices.break_cycle.Given as goal
 
-abbrev pub invariant-loop : goal.invariant-loop
+abbrev pub invariant-loop : Rattle.qm_fraction.proofs.vertices.Vertices.break_cycle.Given.invariant-loop
 invariant-loop l = l.self.g ≡ l.initial.self.g

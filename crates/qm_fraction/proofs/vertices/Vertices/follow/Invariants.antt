@@ -1,5 +1,4 @@
 use Rattle.std.proofs.Common.{◌≡◌, ◌<◌, length}
-use Rattle.qm_fraction.proofs.vertices.Vertices.follow.Given as goal
 
-abbrev pub invariant-loop : goal.invariant-loop
+abbrev pub invariant-loop : Rattle.qm_fraction.proofs.vertices.Vertices.follow.Given.invariant-loop
 invariant-loop l = (length l.taken ≡ l.self.g.now.graph.n) × (l.at < l.self.g.now.graph.n)

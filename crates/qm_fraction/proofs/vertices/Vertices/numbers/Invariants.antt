@@ -1,5 +1,4 @@
 use Rattle.std.proofs.Common.{◌≡◌, length}
-use Rattle.qm_fraction.proofs.vertices.Vertices.numbers.Given as goal
 
-abbrev pub invariant-loop-vertex : goal.invariant-loop-vertex
+abbrev pub invariant-loop-vertex : Rattle.qm_fraction.proofs.vertices.Vertices.numbers.Given.invariant-loop-vertex
 invariant-loop-vertex l = length l.numbers.items ≡ l.vertex-index

@@ -1,4 +1,2 @@
-use Rattle.qm_grid.proofs.cutting.Cutting.is_full.Goals as goal
-
-pub returns : goal.returns
+pub returns : Rattle.qm_grid.proofs.cutting.Cutting.is_full.Goals.returns
 returns c = rw (← c.self.view_is) c.self.invariant

@@ -1,7 +1,7 @@
 use Rattle.std.proofs.Common.{List, Some, ap, arith, drop, length, min, sym, take, ℕ, ◌++◌, ◌+◌, ◌-◌, ◌∙◌, ◌≡◌}
-use Rattle.std.proofs.lemmas.{List.drop-drop, List.length-take-le, List.take-append-drop, List.take_rest}
-use Rattle.{def_io.specs.Memory.Feed, std.proofs.Math.Seq.take-append_seam}
-use Rattle.qm_io.proofs.memory.MemSourceSource.read.Goals as goal
+use Rattle.std.proofs.lemmas.List.{drop-drop, length-take-le, take-append-drop, take_rest}
+use Rattle.std.proofs.Math.Seq.{take-append_seam}
+use Rattle.def_io.specs.Memory.{Feed}
 
 -- What was copied to the front of the buffer, and the rest behind it, are what was left.
 given : (bytes rest copied buf : List ℕ) (at n m : ℕ) → rest ≡ drop at bytes → n ≡ min m (length rest)
@@ -12,7 +12,7 @@ given bytes rest copied buf at n m is few copy =
     ap (λ (k : ℕ). take k (copied ++ drop n buf)) (sym long) ∙ take-append_seam copied (drop n buf) in
     cc (is, take-append-drop n rest, prefix, copy, drop-drop n at bytes)
 
-pub returns-clause-gives : goal.returns-clause-gives
+pub returns-clause-gives : Rattle.qm_io.proofs.memory.MemSourceSource.read.Goals.returns-clause-gives
 returns-clause-gives c =
     let held = c.deref-2.ensures.value in
     let rest : take (length c.deref-2.result.now - c.self.inside.at) (drop c.self.inside.at c.deref-2.result.now)

@@ -1,11 +1,13 @@
-use Rattle.def_marks.specs.Lines.{corner_index, is_malformed, is_nothing, named_chain, named_vertex}
-use Rattle.qm_marks.proofs.CornerFails.{fails_edge, fails_none, fails_range, indices_are, malformed_is, nothing_is}
-use Rattle.qm_marks.proofs.lines.MarkReader.take_corners.{Goals.After-mark_chain, Goals.After-names_nothing}
 use Rattle.std.proofs.Common.{Bool, List, Ok, arith, false, is_some, length, ltb, map, not, refl, sym, true, ◌&&◌, ◌||◌}
-use Rattle.std.proofs.{Common.ap, Common.◌∙◌, Common.◌≡◌, lemmas.List.with_items_is}
-use Rattle.{def_marks.specs.Chains.is_chain, def_marks.specs.Chains.runs_along, qm_marks.proofs.CornerFails.chain_is}
-use Rattle.{def_cut.specs.FullCut.is_on, def_mesh.specs.Darts.twin_of, def_text.specs.FaceSet.FaceSet}
-use Rattle.{def_mesh.specs.Darts.darts, def_text.specs.Words.words, std.specs.List.list_any}
+use Rattle.std.proofs.Common.{ap, ◌∙◌, ◌≡◌}
+use Rattle.std.proofs.lemmas.List.{with_items_is}
+use Rattle.def_marks.specs.Lines.{corner_index, is_malformed, is_nothing, named_chain, named_vertex}
+use Rattle.def_marks.specs.Chains.{is_chain, runs_along}
+use Rattle.qm_marks.proofs.AllWishes.{fails_edge, fails_none, fails_range, indices_are, malformed_is, nothing_is}
+use Rattle.qm_marks.proofs.AllWishes.{chain_is}
+use Rattle.qm_marks.proofs.lines.MarkReader.take_corners.Goals.{After-mark_chain, After-names_nothing}
+use Rattle.{std.specs.List.list_any, def_cut.specs.FullCut.is_on, def_mesh.specs.Darts.twin_of}
+use Rattle.{def_mesh.specs.Darts.darts, def_text.specs.FaceSet.FaceSet, def_text.specs.Words.words}
 use Rattle.qm_marks.proofs.lines.MarkReader.take_corners.Goals as goal
 
 -- What is known of the corners once they are read.

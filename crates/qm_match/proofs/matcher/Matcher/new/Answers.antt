@@ -1,6 +1,5 @@
 use Rattle.std.proofs.Common.{◌^◌, List, ℤ, subst, sym}
-use Rattle.qm_match.specs.Weights.{HaveRoom}
-use Rattle.qm_match.proofs.Outcomes.{made_raised}
+use Rattle.{qm_match.specs.Weights.HaveRoom, qm_match.proofs.Outcomes.made_raised}
 use Rattle.qm_match.proofs.matcher.Matcher.new.Goals as goal
 
 pub new_from-requires : goal.new_from-requires

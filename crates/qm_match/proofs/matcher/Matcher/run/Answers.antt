@@ -1,7 +1,6 @@
-use Rattle.std.proofs.Common.{ℕ, ◌≤◌, ◌∙◌, length, subst, sym}
-use Rattle.std.specs.Prelude.{unsigned_abs}
+use Rattle.std.proofs.Common.{ℕ, ◌≤◌, ◌∙◌, subst, sym}
 use Rattle.def_forest.specs.{Tables.ForestTables, Tables.forest_of, Made.IsMadeFor}
-use Rattle.qm_match.proofs.{Outcomes.increasing_low, Outcomes.run_bounded, Ready.ready_idle}
+use Rattle.{std.specs.Prelude.unsigned_abs, qm_match.proofs.Outcomes.run_bounded, qm_match.proofs.Ready.ready_idle}
 use Rattle.qm_match.proofs.matcher.Matcher.run.Goals as goal
 
 pub match_tight-requires-clause-idle : goal.match_tight-requires-clause-idle

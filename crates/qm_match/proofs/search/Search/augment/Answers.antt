@@ -1,6 +1,5 @@
-use Rattle.std.proofs.Common.{ap}
-use Rattle.def_forest.specs.Forests.{Forest}
 use Rattle.qm_match.proofs.Taken.{augmented_idle, made_after}
+use Rattle.{std.proofs.Common.ap, def_forest.specs.Forests.Forest}
 use Rattle.qm_match.proofs.search.Search.augment.Goals as goal
 
 pub returns-clause-idle : goal.returns-clause-idle

@@ -1,8 +1,7 @@
 use Rattle.std.proofs.Common.{◌∙◌, sym, subst, ap}
-use Rattle.def_forest.specs.{Forests.Forest, Tables.IsValidFor}
-use Rattle.qm_match.specs.States.{IsFreshAt}
-use Rattle.qm_match.proofs.Taken.{begun_seeking, begun_way, made_after, may_vertex, right_in}
-use Rattle.qm_match.proofs.search.Search.begin.Goals.{After-root}
+use Rattle.qm_match.proofs.{Taken.begun_seeking, Taken.begun_way, Taken.made_after, Taken.may_vertex, Taken.right_in}
+use Rattle.qm_match.proofs.{search.Search.begin.Goals.After-root}
+use Rattle.{def_forest.specs.Forests.Forest, def_forest.specs.Tables.IsValidFor, qm_match.specs.States.IsFreshAt}
 use Rattle.qm_match.proofs.search.Search.begin.Goals as goal
 
 valid : (c : After-root) → IsValidFor c.args.g.now.graph c.root.new.self

@@ -1,8 +1,7 @@
 use Rattle.std.proofs.Common.{◌≡◌, ◌<◌, ◌∙◌, get_or, refl, sym, subst, ap}
 use Rattle.def_forest.specs.Tables.{ForestTables, forest_of}
 use Rattle.search_laws.specs.Searches.{steps_left}
-use Rattle.qm_match.specs.States.{IsUnderWay, GoesOn, MayRefresh}
-use Rattle.qm_match.specs.declared.search.Search.{Search}
+use Rattle.qm_match.specs.{States.IsUnderWay, States.GoesOn, States.MayRefresh, declared.search.Search.Search}
 use Rattle.qm_match.proofs.Taken.{expanded_less, expanded_on, expanded_way, inner_live, made_after, opened_may}
 use Rattle.qm_match.proofs.Taken.{opened_place, part_of, right_in, way_with_parts}
 use Rattle.qm_match.proofs.search.Search.expand.Goals.{After-list_parts}

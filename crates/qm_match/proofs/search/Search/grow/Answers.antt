@@ -1,9 +1,9 @@
 use Rattle.std.proofs.Common.{◌≡◌, ◌∙◌, sym, subst, ap}
 use Rattle.def_forest.specs.{Darts.darts_of, Darts.far, Forests.Forest, Tables.forest_of, Tables.outer_dart}
 use Rattle.qm_match.specs.States.{IsFreshAt, IsMade}
-use Rattle.qm_match.proofs.Refreshed.{may_later, refreshed_on, stays_fresh}
 use Rattle.qm_match.proofs.Taken.{Growth, growth_of, grown_less, grown_on, grown_way, made_after, may_vertex, right_in}
-use Rattle.qm_match.proofs.search.Search.grow.Goals.{After-grow}
+use Rattle.qm_match.proofs.{Chains.may_later, Chains.refreshed_on, Chains.stays_fresh}
+use Rattle.qm_match.proofs.{search.Search.grow.Goals.After-grow}
 use Rattle.qm_match.proofs.search.Search.grow.Goals as goal
 
 growth : (c : After-grow) → Growth c.args.g.now.graph (forest_of c.args.self.now.forest)

@@ -1,4 +1,4 @@
-use Rattle.qm_match.proofs.Outcomes.{bounded_dual, met_verdict, small_dual}
+use Rattle.qm_match.proofs.Outcomes.{met_verdict, small_dual}
 use Rattle.qm_match.proofs.search.Search.into_parts.Goals as goal
 
 pub returns-clause-dual : goal.returns-clause-dual

@@ -1,9 +1,7 @@
 use Rattle.std.proofs.Common.{◌≡◌, suc, ◌+◌, ◌++◌, ◌∙◌, [], ◌∷◌, length, get_or, ap, arith}
-use Rattle.std.proofs.lemmas.Grind.{common_steps}
-use Rattle.std.proofs.lemmas.List.{length_push}
-use Rattle.qm_forest.proofs.Copied.{copied_more}
-use Rattle.qm_match.specs.declared.search.Search.{Search}
+use Rattle.std.proofs.{lemmas.Grind.common_steps, lemmas.List.length_push}
 use Rattle.qm_match.proofs.Taken.{part_of, parts_few}
+use Rattle.{qm_forest.proofs.Chosens.copied_more, qm_match.specs.declared.search.Search.Search}
 use Rattle.qm_match.proofs.search.Search.list_parts.Goals as goal
 
 pub unwrap-requires : goal.unwrap-requires

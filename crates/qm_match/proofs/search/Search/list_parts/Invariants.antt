@@ -1,9 +1,7 @@
 use Rattle.std.proofs.Common.{◌≡◌, ℕ, ◌<◌, ◌≤◌, get_or, length}
-use Rattle.std.specs.Vec.{vec_capacity}
-use Rattle.qm_match.proofs.Taken.{part_of}
-use Rattle.qm_match.proofs.search.Search.list_parts.Given as goal
+use Rattle.{std.specs.Vec.vec_capacity, qm_match.proofs.Taken.part_of}
 
-abbrev pub invariant-loop : goal.invariant-loop
+abbrev pub invariant-loop : Rattle.qm_match.proofs.search.Search.list_parts.Given.invariant-loop
 invariant-loop l = record {
   same : l.self ≡ record l.fn.self { parts = l.self.parts };
   room : l.g.graph.n ≤ vec_capacity l.self.parts;

@@ -1,5 +1,4 @@
-use Rattle.std.proofs.Common.{◌≡◌}
-use Rattle.qm_match.specs.States.{IsIdle}
+use Rattle.{std.proofs.Common.◌≡◌, qm_match.specs.States.IsIdle}
 use Rattle.qm_match.proofs.search.Search.match_tight.Given as goal
 
 abbrev pub invariant-loop-e : goal.invariant-loop-e

@@ -1,11 +1,8 @@
 use Rattle.std.proofs.Common.{◌≡◌, ℕ, ◌<◌, ◌⊎◌, true, length, get_or, sym, inl, inr, subst}
 use Rattle.std.proofs.lemmas.Bool.{eq-eqb}
-use Rattle.def_matching.specs.Matching.{edge_at}
-use Rattle.def_forest.specs.Tables.{forest_of}
-use Rattle.search_laws.specs.Keys.{true_key}
-use Rattle.qm_match.proofs.search.Search.mend_blossom.Goals as goal
+use Rattle.{def_matching.specs.Matching.edge_at, def_forest.specs.Tables.forest_of, search_laws.specs.Keys.true_key}
 
-pub returns-clause-right : goal.returns-clause-right
+pub returns-clause-right : Rattle.qm_match.proofs.search.Search.mend_blossom.Goals.returns-clause-right
 returns-clause-right c = λ e l at. by_end e l at
   where
     by_end : (e : ℕ) → e < length c.args.g.now.graph.edges → ((forest_of c.args.self.now.forest).holds c.args.b

@@ -1,10 +1,8 @@
 use Rattle.std.proofs.Common.{◌≡◌, ℕ, ◌<◌, ◌∙◌, List, eqb, length, get_or, ap, subst, inl, inr, arith}
-use Rattle.std.proofs.lemmas.Bool.{cases_lt}
-use Rattle.std.proofs.lemmas.List.{get_or_read}
-use Rattle.def_forest.specs.Tables.{forest_of}
-use Rattle.search_laws.specs.Keys.{AreRightAt}
+use Rattle.std.proofs.{lemmas.Bool.cases_lt, lemmas.List.get_or_read}
 use Rattle.qm_match.specs.declared.search.Search.{Search}
-use Rattle.qm_match.proofs.Mended.{keys_twice, mended_on, stay_right}
+use Rattle.qm_match.proofs.Chains.{keys_twice, mended_on, stay_right}
+use Rattle.{def_forest.specs.Tables.forest_of, search_laws.specs.Keys.AreRightAt}
 use Rattle.qm_match.proofs.search.Search.mend_members.Goals as goal
 
 pub loop-k-preserved : goal.loop-k-preserved

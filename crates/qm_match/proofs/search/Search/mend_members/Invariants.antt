@@ -1,9 +1,7 @@
 use Rattle.std.proofs.Common.{◌≡◌, ℕ, ◌<◌, eqb, get_or}
-use Rattle.def_forest.specs.Tables.{forest_of}
-use Rattle.search_laws.specs.Keys.{AreRightAt, IsMended}
-use Rattle.qm_match.proofs.search.Search.mend_members.Given as goal
+use Rattle.{def_forest.specs.Tables.forest_of, search_laws.specs.Keys.AreRightAt, search_laws.specs.Keys.IsMended}
 
-abbrev pub invariant-loop-k : goal.invariant-loop-k
+abbrev pub invariant-loop-k : Rattle.qm_match.proofs.search.Search.mend_members.Given.invariant-loop-k
 invariant-loop-k l = record {
   same : l.self ≡ record l.fn.self { tour = l.self.tour };
   mended : IsMended l.g.graph (forest_of l.fn.self.forest) l.fn.self.risen l.fn.self.tour l.self.tour;

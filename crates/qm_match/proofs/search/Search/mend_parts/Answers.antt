@@ -1,10 +1,9 @@
 use Rattle.std.proofs.Common.{◌≡◌, suc, ◌+◌, ◌∙◌, get_or, true, false, inl, inr, subst, ap, arith}
 use Rattle.std.proofs.lemmas.Bool.{cases_lt}
-use Rattle.def_forest.specs.Tables.{forest_of}
-use Rattle.search_laws.specs.Keys.{AreRightAt}
-use Rattle.qm_match.specs.{declared.search.Search.Search}
-use Rattle.qm_match.proofs.{Mended.mended_on, Mended.stay_right, Refreshed.made_members, Refreshed.members_twice}
-use Rattle.qm_match.proofs.Taken.{may_part_in, part_of}
+use Rattle.qm_match.specs.declared.search.Search.{Search}
+use Rattle.qm_match.proofs.{Chains.mended_on, Chains.stay_right, Chains.made_members, Chains.members_twice}
+use Rattle.qm_match.proofs.{Taken.may_part_in, Taken.part_of}
+use Rattle.{def_forest.specs.Tables.forest_of, search_laws.specs.Keys.AreRightAt}
 use Rattle.qm_match.proofs.search.Search.mend_parts.Goals as goal
 
 pub mend_marked-requires : goal.mend_marked-requires

@@ -1,11 +1,8 @@
 use Rattle.std.proofs.Common.{◌≡◌, ℕ, ◌<◌, ◌≤◌, get_or, true, false}
-use Rattle.std.specs.Vec.{vec_capacity}
-use Rattle.def_forest.specs.Tables.{forest_of}
 use Rattle.search_laws.specs.Keys.{AreRightAt, IsMended}
-use Rattle.qm_match.proofs.Taken.{part_of}
-use Rattle.qm_match.proofs.search.Search.mend_parts.Given as goal
+use Rattle.{std.specs.Vec.vec_capacity, def_forest.specs.Tables.forest_of, qm_match.proofs.Taken.part_of}
 
-abbrev pub invariant-loop : goal.invariant-loop
+abbrev pub invariant-loop : Rattle.qm_match.proofs.search.Search.mend_parts.Given.invariant-loop
 invariant-loop l = record {
   same : l.self ≡ record l.fn.self { tour = l.self.tour; members = l.self.members };
   room : l.g.graph.n ≤ vec_capacity l.self.members;

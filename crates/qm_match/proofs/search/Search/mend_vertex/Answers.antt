@@ -1,11 +1,9 @@
 use Rattle.std.proofs.Common.{◌≡◌, ℕ, ◌-◌, ◌/◌, ◌<◌, ◌∙◌, List, length, get_or, sym, ap, subst, arith}
-use Rattle.std.proofs.Math.ListN.{set}
-use Rattle.std.proofs.lemmas.List.{get_or_read}
-use Rattle.def_forest.specs.Tables.{forest_of}
-use Rattle.search_laws.specs.Keys.{true_key}
-use Rattle.qm_match.specs.{declared.search.Search.Search}
-use Rattle.qm_match.proofs.Mended.{chain_mended, keys_twice, made_with, mended_on, mended_one, vertex_right}
+use Rattle.std.proofs.{Math.ListN.set, lemmas.List.get_or_read}
+use Rattle.qm_match.specs.declared.search.Search.{Search}
+use Rattle.qm_match.proofs.Chains.{chain_mended, keys_twice, made_with, mended_on, mended_one, vertex_right}
 use Rattle.qm_match.proofs.search.Search.mend_vertex.Goals.{After-index-entry-in-loop-entry, After-mend}
+use Rattle.{def_forest.specs.Tables.forest_of, search_laws.specs.Keys.true_key}
 use Rattle.qm_match.proofs.search.Search.mend_vertex.Goals as goal
 
 fans_is : (c : After-mend) → c.mend.new.self.fans.next.items ≡ c.args.self.now.fans.next.items

@@ -1,7 +1,6 @@
 use Rattle.std.proofs.Common.{◌≡◌, ℕ, ◌*◌, ◌/◌, ◌≤◌, ◌⊎◌, length, get_or}
-use Rattle.def_forest.specs.Tables.{forest_of}
 use Rattle.search_laws.specs.Keys.{true_key, IsMended}
-use Rattle.qm_match.specs.Fans.{IsOn}
+use Rattle.{def_forest.specs.Tables.forest_of, qm_match.specs.Fans.IsOn}
 use Rattle.qm_match.proofs.search.Search.mend_vertex.Given as goal
 
 abbrev pub invariant-loop-entry : goal.invariant-loop-entry

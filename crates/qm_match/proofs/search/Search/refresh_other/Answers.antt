@@ -1,10 +1,8 @@
 use Rattle.std.proofs.Common.{◌≡◌, ◌∙◌, sym, ap, subst}
 use Rattle.def_forest.specs.Tables.{ForestTables, forest_of}
-use Rattle.search_laws.specs.Keys.{AreRightAt}
-use Rattle.qm_match.specs.declared.search.Search.{Search}
-use Rattle.qm_match.proofs.search.Search.refresh_other.Goals as goal
+use Rattle.{search_laws.specs.Keys.AreRightAt, qm_match.specs.declared.search.Search.Search}
 
-pub returns-clause-here : goal.returns-clause-here
+pub returns-clause-here : Rattle.qm_match.proofs.search.Search.refresh_other.Goals.returns-clause-here
 returns-clause-here c =
     let forest_is : c.mend_blossom.new.self.forest ≡ c.args.self.now.forest =
     ap (λ (s : Search). s.forest) c.mend_blossom.ensures.same in

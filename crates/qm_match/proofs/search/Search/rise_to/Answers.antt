@@ -1,10 +1,8 @@
-use Rattle.std.proofs.Common.{◌≡◌, ◌+◌, ◌-◌, ◌<◌, ◌≤◌, ◌∙◌, ℕ, length, pos, refl, sym, subst, ap, arith}
-use Rattle.std.proofs.Common.{to_z, w64}
+use Rattle.std.proofs.Common.{◌≡◌, ◌+◌, ◌-◌, ◌<◌, ◌≤◌, ◌∙◌, ℕ, length, pos, refl, sym, subst, ap, arith, to_z, w64}
 use Rattle.std.proofs.lemmas.Int.{ints, to_z_pos}
-use Rattle.def_forest.specs.{Forests.Forest, Steps.shifted, Tables.forest_of}
+use Rattle.def_forest.specs.{Forests.Forest, Steps.shifted, Tables.forest_of, Needs.MayShift}
 use Rattle.search_laws.specs.{Keys.true_key, Searches.risen_limit, Searches.steps_left}
-use Rattle.def_forest.specs.Needs.{MayShift}
-use Rattle.qm_match.proofs.Turned.{shift_feasible, shift_keys, shift_small, shifted_on, shifted_way, soon}
+use Rattle.qm_match.proofs.Chains.{shift_feasible, shift_keys, shift_small, shifted_on, shifted_way, soon}
 use Rattle.qm_match.proofs.search.Search.rise_to.Goals.{Start}
 use Rattle.qm_match.proofs.search.Search.rise_to.Goals as goal
 

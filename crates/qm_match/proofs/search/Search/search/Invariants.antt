@@ -1,7 +1,6 @@
 use Rattle.std.proofs.Common.{◌≡◌, ◌+◌, true, false, cond}
-use Rattle.def_forest.specs.Tables.{forest_of}
-use Rattle.search_laws.specs.Searches.{turns_left}
 use Rattle.qm_match.specs.States.{GoesOn, HasEnded, IsIdle, IsUnderWay}
+use Rattle.{def_forest.specs.Tables.forest_of, search_laws.specs.Searches.turns_left}
 use Rattle.qm_match.proofs.search.Search.search.Given as goal
 
 abbrev pub invariant-loop-ended : goal.invariant-loop-ended

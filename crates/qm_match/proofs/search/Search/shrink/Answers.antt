@@ -1,11 +1,9 @@
-use Rattle.std.proofs.Common.{◌≡◌, ◌<◌, refl, sym, subst, ap}
-use Rattle.std.proofs.{Common.false}
-use Rattle.std.specs.Vec.{with_item}
-use Rattle.def_matching.specs.{declared.weighted.WEdge.WEdge}
+use Rattle.std.proofs.Common.{◌≡◌, refl, ap, false}
 use Rattle.qm_match.specs.States.{IsMade, IsRefreshed}
 use Rattle.qm_match.proofs.Taken.{closed_high, closed_live, closed_right, closed_set, made_after, shrunk_goes_on}
 use Rattle.qm_match.proofs.Taken.{shrunk_less, shrunk_way, unmarked}
 use Rattle.qm_match.proofs.search.Search.shrink.Goals.{After-mend_parts, After-outermost-set}
+use Rattle.{std.specs.Vec.with_item, def_matching.specs.declared.weighted.WEdge.WEdge}
 use Rattle.qm_match.proofs.search.Search.shrink.Goals as goal
 
 set_is : (c : After-outermost-set) → c.outermost-set.result ≡ c.shrink.ensures.changed.set

@@ -1,7 +1,6 @@
 use Rattle.std.proofs.Common.{◌<◌, length, arith}
-use Rattle.def_forest.specs.Tables.{forest_of}
 use Rattle.search_laws.proofs.Stepped.{edge_step, set_step}
-use Rattle.qm_match.proofs.Turned.{not_idle, not_loose}
+use Rattle.{def_forest.specs.Tables.forest_of, qm_match.proofs.Chains.not_idle, qm_match.proofs.Chains.not_loose}
 use Rattle.qm_match.proofs.search.Search.step.Goals as goal
 
 pub step_along-requires : goal.step_along-requires

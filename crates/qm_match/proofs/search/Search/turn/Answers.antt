@@ -1,8 +1,7 @@
 use Rattle.std.proofs.{Common.◌≡◌, Common.◌<◌, Common.◌∙◌, Common.sym, Common.subst, Common.arith, Math.ListN.set}
-use Rattle.def_forest.specs.Tables.{forest_of}
-use Rattle.search_laws.specs.Searches.{steps_left}
 use Rattle.search_laws.proofs.{Counted.fewer_turns, Risen.key_high}
-use Rattle.qm_match.proofs.Turned.{mended_fewer, mended_way, risen_few}
+use Rattle.qm_match.proofs.Chains.{mended_fewer, mended_way, risen_few}
+use Rattle.{def_forest.specs.Tables.forest_of, search_laws.specs.Searches.steps_left}
 use Rattle.qm_match.proofs.search.Search.turn.Goals as goal
 
 pub returns-then-key-clause-way : goal.returns-then-key-clause-way

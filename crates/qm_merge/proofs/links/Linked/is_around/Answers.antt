@@ -1,8 +1,7 @@
 use Rattle.std.proofs.Common.{sym, ◌∙◌}
 use Rattle.qm_merge.proofs.Rounds.{around, is_one_of, among_four, is_among_four}
-use Rattle.qm_merge.proofs.links.Linked.is_around.Goals as goal
 
-pub returns : goal.returns
+pub returns : Rattle.qm_merge.proofs.links.Linked.is_around.Goals.returns
 returns c =
     let f = c.is_full.ensures in
     let r = c.round_from-round.result in

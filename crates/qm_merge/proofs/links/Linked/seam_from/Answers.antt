@@ -1,5 +1,5 @@
 use Rattle.std.proofs.{Common.sym, Common.◌∙◌, lemmas.Bool.false≢true, lemmas.Option.IfSome_then}
-use Rattle.qm_merge.proofs.Across.{none_then}
+use Rattle.qm_merge.proofs.Linked.{none_then}
 use Rattle.qm_merge.proofs.links.Linked.seam_from.Goals as goal
 
 pub may_join-requires : goal.may_join-requires

@@ -1,10 +1,8 @@
 use Rattle.std.proofs.Common.{◌≡◌, ℕ, ◌<◌, List, length, get_or, ap, ◌∙◌, arith}
 use Rattle.std.proofs.lemmas.List.{length-map}
-use Rattle.smallvec.specs.SmallVec.{SmallVec}
 use Rattle.def_mesh.specs.{Faces.Faces, Vertices.faces_at, Vertices.vertex_count}
-use Rattle.qm_mesh.specs.Tables.{IsMeshOf}
 use Rattle.qm_mesh.proofs.Vertices.{fan_found}
-use Rattle.mesh_laws.proofs.Vertices.{fan_short}
+use Rattle.{smallvec.specs.SmallVec.SmallVec, qm_mesh.specs.Tables.IsMeshOf, mesh_laws.proofs.Flood.fan_short}
 use Rattle.qm_mesh.proofs.mesh.Mesh.faces_at.Goals as goal
 
 count : {faces : Faces} {twins : List ℕ} {fans : List (SmallVec ℕ)} (v : ℕ) (fan : SmallVec ℕ)

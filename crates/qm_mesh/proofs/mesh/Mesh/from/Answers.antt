@@ -1,6 +1,5 @@
 use Rattle.std.proofs.Common.{ap, ◌∙◌, arith}
-use Rattle.def_mesh.specs.Darts.{from_of}
-use Rattle.mesh_laws.proofs.Vertices.{all_below}
+use Rattle.{def_mesh.specs.Darts.from_of, mesh_laws.proofs.Flood.all_below}
 
 pub returns-clause-vertex : Rattle.qm_mesh.proofs.mesh.Mesh.from.Goals.returns-clause-vertex
 returns-clause-vertex c =

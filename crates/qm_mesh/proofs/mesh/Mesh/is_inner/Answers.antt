@@ -1,6 +1,5 @@
 use Rattle.std.proofs.Common.{length, ap, arith}
-use Rattle.mesh_laws.proofs.{Fans.is_fan, Darts.prev_of_low}
-use Rattle.qm_mesh.proofs.Inner.{inner_is}
+use Rattle.{mesh_laws.proofs.Chains.is_fan, mesh_laws.proofs.Chains.prev_of_low, qm_mesh.proofs.OneFan.inner_is}
 use Rattle.qm_mesh.proofs.mesh.Mesh.is_inner.Goals as goal
 
 pub all_paired-requires : goal.all_paired-requires

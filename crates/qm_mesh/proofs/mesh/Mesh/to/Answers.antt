@@ -1,7 +1,5 @@
 use Rattle.std.proofs.Common.{◌≡◌, arith}
-use Rattle.def_mesh.specs.{Darts.to_of}
-use Rattle.qm_mesh.proofs.Vertices.{end_low}
-use Rattle.mesh_laws.proofs.Vertices.{all_below}
+use Rattle.{def_mesh.specs.Darts.to_of, qm_mesh.proofs.Vertices.end_low, mesh_laws.proofs.Flood.all_below}
 
 pub returns-clause-vertex : Rattle.qm_mesh.proofs.mesh.Mesh.to.Goals.returns-clause-vertex
 returns-clause-vertex c =

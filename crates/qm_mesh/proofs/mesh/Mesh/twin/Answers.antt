@@ -1,5 +1,4 @@
-use Rattle.std.proofs.Common.{sym}
-use Rattle.qm_mesh.proofs.Inner.{partner_is}
+use Rattle.{std.proofs.Common.sym, qm_mesh.proofs.OneFan.partner_is}
 
 pub returns-clause-value : Rattle.qm_mesh.proofs.mesh.Mesh.twin.Goals.returns-clause-value
 returns-clause-value c =

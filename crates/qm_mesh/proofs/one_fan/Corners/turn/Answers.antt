@@ -1,5 +1,5 @@
 use Rattle.std.proofs.{Common.arith, Common.inl, Common.inr, lemmas.Bool.cases_eq}
-use Rattle.qm_mesh.proofs.Walks.{walk_more}
+use Rattle.qm_mesh.proofs.Marks.{walk_more}
 use Rattle.qm_mesh.proofs.one_fan.Corners.turn.Goals as goal
 
 pub loop-next-preserved : goal.loop-next-preserved

@@ -1,6 +1,4 @@
-use Rattle.std.proofs.Common.{◌≡◌, not}
-use Rattle.std.specs.List.{count_by}
-use Rattle.qm_mesh.proofs.Walks.{IsWalkSoFar}
+use Rattle.{std.proofs.Common.◌≡◌, std.proofs.Common.not, std.specs.List.count_by, qm_mesh.proofs.Marks.IsWalkSoFar}
 use Rattle.qm_mesh.proofs.one_fan.Corners.turn.Given as goal
 
 abbrev pub invariant-loop-next : goal.invariant-loop-next

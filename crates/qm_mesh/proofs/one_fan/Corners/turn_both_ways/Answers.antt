@@ -1,5 +1,4 @@
-use Rattle.std.proofs.Common.{arith}
-use Rattle.qm_mesh.proofs.Walks.{visit_both}
+use Rattle.{std.proofs.Common.arith, qm_mesh.proofs.Marks.visit_both}
 
 pub returns-clause-visit : Rattle.qm_mesh.proofs.one_fan.Corners.turn_both_ways.Goals.returns-clause-visit
 returns-clause-visit c =

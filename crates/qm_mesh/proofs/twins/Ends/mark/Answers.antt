@@ -1,6 +1,5 @@
-use Rattle.std.proofs.Common.{◌∙◌, arith}
 use Rattle.qm_mesh.proofs.{Vertices.end_low, Marks.mark_more, Marks.first_of_all}
-use Rattle.mesh_laws.proofs.Fans.{is_fan}
+use Rattle.{std.proofs.Common.◌∙◌, std.proofs.Common.arith, mesh_laws.proofs.Chains.is_fan}
 use Rattle.qm_mesh.proofs.twins.Ends.mark.Goals as goal
 
 pub mark_one-found-requires : goal.mark_one-found-requires

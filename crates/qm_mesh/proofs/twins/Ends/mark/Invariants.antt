@@ -1,5 +1,4 @@
-use Rattle.std.proofs.Common.{◌≡◌}
-use Rattle.qm_mesh.proofs.Marks.{AreMarkedBefore}
+use Rattle.{std.proofs.Common.◌≡◌, qm_mesh.proofs.Marks.AreMarkedBefore}
 
 -- The darts before this one have been taken.
 abbrev pub invariant-loop-d : Rattle.qm_mesh.proofs.twins.Ends.mark.Given.invariant-loop-d

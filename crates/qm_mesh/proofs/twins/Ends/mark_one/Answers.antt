@@ -1,5 +1,4 @@
-use Rattle.std.proofs.{Common.◌∙◌, lemmas.List.length-set}
-use Rattle.qm_mesh.proofs.Marks.{put_darts}
+use Rattle.{std.proofs.Common.◌∙◌, std.proofs.lemmas.List.length-set, qm_mesh.proofs.Marks.put_darts}
 
 pub invariant_of-self : Rattle.qm_mesh.proofs.twins.Ends.mark_one.Goals.invariant_of-self
 invariant_of-self c =

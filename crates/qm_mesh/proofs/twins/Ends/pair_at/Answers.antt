@@ -1,6 +1,6 @@
 use Rattle.std.proofs.Common.{◌≡◌, ◌<◌, arith}
 use Rattle.def_mesh.specs.Darts.{darts, next_of, to_of}
-use Rattle.mesh_laws.proofs.{Darts.before_ends, Darts.before_low, Darts.next_of_low, Darts.prev_of-next_of, Fans.is_fan}
+use Rattle.mesh_laws.proofs.Chains.{before_ends, before_low, next_of_low, prev_of-next_of, is_fan}
 use Rattle.qm_mesh.proofs.{Marks.pair_more, twins.Ends.pair_at.Goals.After-prev-e}
 use Rattle.qm_mesh.proofs.twins.Ends.pair_at.Goals as goal
 

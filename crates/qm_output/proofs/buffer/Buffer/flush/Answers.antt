@@ -1,5 +1,4 @@
 use Rattle.qm_output.proofs.Prefixes.{held_broke}
-use Rattle.qm_output.proofs.buffer.Buffer.flush.Goals as goal
 
-pub returns-in-Err-clause-part : goal.returns-in-Err-clause-part
+pub returns-in-Err-clause-part : Rattle.qm_output.proofs.buffer.Buffer.flush.Goals.returns-in-Err-clause-part
 returns-in-Err-clause-part g c = held_broke _ _ _ _ _ _ c.in-Err.ensures.prefix c.in-Err.ensures.cause.failed

@@ -1,6 +1,5 @@
 use Rattle.qm_output.proofs.Prefixes.{text_broke}
-use Rattle.qm_output.proofs.buffer.Buffer.pass.Goals as goal
 
-pub returns-in-Err-clause-part : goal.returns-in-Err-clause-part
+pub returns-in-Err-clause-part : Rattle.qm_output.proofs.buffer.Buffer.pass.Goals.returns-in-Err-clause-part
 returns-in-Err-clause-part g c =
     text_broke _ _ _ _ _ _ _ c.requires.empty c.in-Err.ensures.prefix c.in-Err.ensures.cause.failed

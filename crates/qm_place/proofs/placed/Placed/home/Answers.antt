@@ -1,9 +1,8 @@
 use Rattle.std.proofs.Common.{◌≡◌, ℕ, ◌+◌, ◌/◌, ◌^◌, ◌<◌, ◌≤◌, length, get_or, [], ◌∷◌, ◌∙◌, arith}
 use Rattle.std.proofs.lemmas.List.{length-map}
 use Rattle.def_cut.specs.{Grids.cell_of, Grids.patch_at, Grids.rectangle, declared.patch.Patch.Patch}
-use Rattle.def_layout.specs.Gluings.{south, east, north, west}
-use Rattle.def_layout.specs.{Lengths.wide, Lengths.high, Layouts.gluing_of, Layouts.layout_of}
-use Rattle.def_layout.specs.{declared.tmesh.TMesh.TMesh}
+use Rattle.def_layout.specs.{Gluings.south, Gluings.east, Gluings.north, Gluings.west, Lengths.wide, Lengths.high}
+use Rattle.def_layout.specs.{Layouts.gluing_of, Layouts.layout_of, declared.tmesh.TMesh.TMesh}
 use Rattle.def_map.specs.Homes.{corner_u, corner_v, home_column, home_row, mean_corner, seen_corner}
 use Rattle.def_remesh.specs.{NewPoints.lengths_in, Placings.rim_at, declared.places.PlaceTables.PlaceTables}
 use Rattle.def_written.specs.Places.{cell_at}

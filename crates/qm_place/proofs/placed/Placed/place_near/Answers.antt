@@ -1,9 +1,8 @@
 use Rattle.std.proofs.Common.{◌≡◌, sym, ◌∙◌, ap, subst}
-use Rattle.def_map.specs.{Laws.IsSpot, SpotPlaces.spot_place}
 use Rattle.def_remesh.specs.{NewSoup.spaced_place, Placings.LiesBetween}
-use Rattle.map_laws.proofs.SpotPlaces.{spot_law}
 use Rattle.qm_place.specs.{Lengthened.lengths_by, Lengthened.layout_in, Lengthened.shares_by, Spots.IsShort}
-use Rattle.qm_place.proofs.{Betweens.lies_between, Found.short_spot}
+use Rattle.qm_place.proofs.{Rims.lies_between, Casts.short_spot}
+use Rattle.{def_map.specs.Laws.IsSpot, def_map.specs.SpotPlaces.spot_place, map_laws.proofs.SpotPlaces.spot_law}
 use Rattle.qm_place.proofs.placed.Placed.place_near.Goals as goal
 
 pub place_there-requires-clause-spot : goal.place_there-requires-clause-spot

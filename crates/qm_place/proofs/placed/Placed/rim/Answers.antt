@@ -1,9 +1,7 @@
 use Rattle.std.proofs.Common.{◌≡◌, ◌*◌, length, arith}
 use Rattle.def_layout.specs.{Lengths.wide, Lengths.high, Layouts.gluing_of, Layouts.layout_of}
-use Rattle.def_remesh.specs.NewPoints.{lengths_in}
-use Rattle.qm_offsets.proofs.Spots.{term_room}
-use Rattle.qm_place.proofs.Entries.{rim_here, IsRimRead}
-use Rattle.qm_place.proofs.placed.Placed.rim.Goals.{After-index}
+use Rattle.qm_place.proofs.{Entries.rim_here, Entries.IsRimRead, placed.Placed.rim.Goals.After-index}
+use Rattle.{def_remesh.specs.NewPoints.lengths_in, qm_offsets.proofs.Spots.term_room}
 use Rattle.qm_place.proofs.placed.Placed.rim.Goals as goal
 
 read : (c : After-index) → IsRimRead c.args.self.now.t.now c.args.self.now.tables.now c.args.patch c.index.result.now

@@ -1,12 +1,8 @@
 use Rattle.std.proofs.Common.{◌≡◌, ◌-◌, ◌*◌, ◌<◌, ℕ, List, length, ◌∙◌, ap, arith}
-use Rattle.std.proofs.lemmas.List.{get_or_read}
-use Rattle.def_math.specs.Runs.{run_at}
 use Rattle.def_layout.specs.{Lengths.wide, Lengths.high, Layouts.gluing_of, Layouts.layout_of}
 use Rattle.def_written.specs.Numbers.{before_arc, before_patch}
-use Rattle.def_remesh.specs.NewPoints.{lengths_in}
-use Rattle.qm_place.specs.Lengthened.{shares_by}
-use Rattle.qm_place.proofs.Found.{found_at, found_in, found_on, in_patch, on_arc}
-use Rattle.qm_place.proofs.Entries.{some_runs}
+use Rattle.qm_place.proofs.{Casts.found_in, Casts.found_on, Casts.in_patch, Casts.on_arc, Entries.some_runs}
+use Rattle.{def_math.specs.Runs.run_at, def_remesh.specs.NewPoints.lengths_in, qm_place.specs.Lengthened.shares_by}
 use Rattle.qm_place.proofs.placed.Placed.spot_near.Goals as goal
 
 pub along_spot-requires : goal.along_spot-requires

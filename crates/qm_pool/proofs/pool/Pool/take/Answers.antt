@@ -1,8 +1,7 @@
 use Rattle.std.proofs.Common.{◌≡◌, ◌-◌, ◌<◌, ◌∙◌, None, get_or, ap, subst, slice_set, List, Option, Some, arith}
 use Rattle.std.proofs.lemmas.Grind.{get_or_default_zero}
-use Rattle.std.specs.Prelude.{slice_get}
 use Rattle.qm_pool.proofs.Places.{taken_free, taken_empty}
-use Rattle.qm_pool.specs.declared.pool.Node.{Node}
+use Rattle.{std.specs.Prelude.slice_get, qm_pool.specs.declared.pool.Node.Node}
 use Rattle.qm_pool.proofs.pool.Pool.take.Goals as goal
 
 pub invariant_of-self : goal.invariant_of-self

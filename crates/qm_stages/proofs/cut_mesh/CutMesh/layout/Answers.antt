@@ -1,4 +1,2 @@
-use Rattle.qm_stages.proofs.cut_mesh.CutMesh.layout.Goals as goal
-
-pub returns-clause-laid : goal.returns-clause-laid
+pub returns-clause-laid : Rattle.qm_stages.proofs.cut_mesh.CutMesh.layout.Goals.returns-clause-laid
 returns-clause-laid c = rw (← c.self.view_is) c.self.invariant

@@ -1,9 +1,7 @@
 use Rattle.std.proofs.Common.{length, ◌∙◌, ap, subst}
-use Rattle.def_text.specs.FaceSet.{FaceSet, IsSoup}
-use Rattle.qm_stages.proofs.Positions.{all_placed}
-use Rattle.qm_stages.proofs.cut_mesh.CutMesh.names.Goals as goal
+use Rattle.{def_text.specs.FaceSet.FaceSet, def_text.specs.FaceSet.IsSoup, qm_stages.proofs.Positions.all_placed}
 
-pub returns-clause-each : goal.returns-clause-each
+pub returns-clause-each : Rattle.qm_stages.proofs.cut_mesh.CutMesh.names.Goals.returns-clause-each
 returns-clause-each c =
     let same = c.soup.view_is ∙ c.soup-soup.ensures in
     let sound = subst IsSoup same c.soup.invariant in

@@ -1,7 +1,6 @@
 use Rattle.qm_stages.proofs.Positions.{patch_low}
-use Rattle.qm_stages.proofs.regridded.Regridded.home.Goals as goal
 
-pub home-requires : goal.home-requires
+pub home-requires : Rattle.qm_stages.proofs.regridded.Regridded.home.Goals.home-requires
 home-requires c = record {
   patch = patch_low c.placed.result.t.now c.placed.ensures.layout c.requires.patch;
   column = rw (← c.placed.ensures.layout, ← c.placed.ensures.lengths) at c.requires.column;

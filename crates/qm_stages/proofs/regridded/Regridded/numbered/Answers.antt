@@ -1,6 +1,4 @@
-use Rattle.qm_stages.proofs.regridded.Regridded.numbered.Goals as goal
-
-pub returns : goal.returns
+pub returns : Rattle.qm_stages.proofs.regridded.Regridded.numbered.Goals.returns
 returns c = rw (← c.self.view_is) (record {
   layout = cc (c.on.ensures.layout, c.layout.ensures.layout);
   lengths = cc c.on.ensures.tables;

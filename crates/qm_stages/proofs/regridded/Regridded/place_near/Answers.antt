@@ -1,5 +1,4 @@
-use Rattle.std.proofs.Common.{◌∙◌, ap}
-use Rattle.def_remesh.specs.{CutSoups.Regrid}
+use Rattle.{std.proofs.Common.◌∙◌, std.proofs.Common.ap, def_remesh.specs.CutSoups.Regrid}
 use Rattle.qm_stages.proofs.regridded.Regridded.place_near.Goals as goal
 
 pub place_near-requires : goal.place_near-requires

@@ -1,9 +1,6 @@
-use Rattle.std.proofs.Common.{◌≡◌}
-use Rattle.def_layout.specs.Layouts.{gluing_of}
-use Rattle.def_written.specs.{Numbers.vertex_number, Points.point}
-use Rattle.def_remesh.specs.NewPoints.{lengths_in}
-use Rattle.embedding_laws.proofs.MeshLayouts.{laid_of}
 use Rattle.qm_stages.proofs.{GridPoints.grid_low, Positions.patch_low}
+use Rattle.{std.proofs.Common.◌≡◌, def_layout.specs.Layouts.gluing_of, def_written.specs.Numbers.vertex_number}
+use Rattle.{def_written.specs.Points.point, def_remesh.specs.NewPoints.lengths_in, embedding_laws.proofs.Bounds.laid_of}
 use Rattle.qm_stages.proofs.regridded.Regridded.point.Goals as goal
 
 pub point-requires : goal.point-requires

@@ -1,7 +1,5 @@
-use Rattle.std.proofs.Common.{◌≡◌}
-use Rattle.def_map.specs.{Spots.spot_at}
-use Rattle.def_remesh.specs.NewPoints.{lengths_in}
-use Rattle.map_laws.proofs.{Spaced.spacing_is, SpotPlaces.spot_law}
+use Rattle.map_laws.proofs.{OldPoints.spacing_is, SpotPlaces.spot_law}
+use Rattle.{std.proofs.Common.◌≡◌, def_map.specs.Spots.spot_at, def_remesh.specs.NewPoints.lengths_in}
 use Rattle.qm_stages.proofs.regridded.Regridded.spot_near.Goals as goal
 
 pub spot_near-requires : goal.spot_near-requires

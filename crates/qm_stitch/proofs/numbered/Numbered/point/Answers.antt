@@ -1,11 +1,10 @@
 use Rattle.std.proofs.Common.{◌≡◌, ℕ, ◌+◌, ◌-◌, ◌*◌, ◌^◌, ◌<◌, length, refl, sym, ◌∙◌, ap, arith}
 use Rattle.std.proofs.lemmas.List.{length-map}
-use Rattle.def_cut.specs.Grids.{rectangle}
-use Rattle.def_layout.specs.{Gluings.south, Gluings.east, Gluings.north, Gluings.west}
-use Rattle.def_layout.specs.{Layouts.layout_of, declared.tmesh.TMesh.TMesh}
+use Rattle.def_layout.specs.{Gluings.south, Gluings.east, Gluings.north, Gluings.west, Layouts.layout_of}
+use Rattle.def_layout.specs.{declared.tmesh.TMesh.TMesh}
 use Rattle.def_written.specs.{Numbers.vertex_number, Points.point, Points.side_point}
 use Rattle.qm_stitch.proofs.Grids.{inside_here, long_is, on_north, on_west, on_east, starts_at, starts_end}
-use Rattle.qm_stitch.specs.Lengthened.{gluing_in, lengths_by}
+use Rattle.{def_cut.specs.Grids.rectangle, qm_stitch.specs.Lengthened.gluing_in, qm_stitch.specs.Lengthened.lengths_by}
 use Rattle.qm_stitch.proofs.numbered.Numbered.point.Goals as goal
 
 low : (t : TMesh) (patch : ℕ) → patch < length t.patches.items → patch < length (layout_of t).patches

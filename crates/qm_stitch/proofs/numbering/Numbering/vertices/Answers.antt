@@ -1,5 +1,4 @@
-use Rattle.std.proofs.Common.{arith}
-use Rattle.qm_stitch.proofs.Grids.{starts_end, tables_are}
+use Rattle.{std.proofs.Common.arith, qm_stitch.proofs.Grids.starts_end, qm_stitch.proofs.Grids.tables_are}
 use Rattle.qm_stitch.proofs.numbering.Numbering.vertices.Goals as goal
 
 pub overflow_add-result : goal.overflow_add-result

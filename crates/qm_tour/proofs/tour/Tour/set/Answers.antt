@@ -1,8 +1,7 @@
 use Rattle.std.proofs.Common.{◌∙◌, ◌+◌, ℕ, List, ap, arith, drop, set, subst, sym}
 use Rattle.std.proofs.lemmas.List.{with_items_is}
-use Rattle.std.specs.Vec.{with_item}
 use Rattle.qm_tour.specs.Trees.{IsTreeBut, HasSameLeaves, parent}
-use Rattle.qm_tour.proofs.Mended.{leaf_changed, leaf_set}
+use Rattle.{std.specs.Vec.with_item, qm_tour.proofs.Mended.leaf_changed, qm_tour.proofs.Mended.leaf_set}
 use Rattle.qm_tour.proofs.tour.Tour.set.Goals as goal
 
 pub settle-requires-clause-tree : goal.settle-requires-clause-tree

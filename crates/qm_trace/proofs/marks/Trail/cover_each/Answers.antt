@@ -1,9 +1,6 @@
 use Rattle.std.proofs.Common.{◌+◌, get_or, take, ◌∙◌}
-use Rattle.def_cut.specs.FullCut.{is_on}
-use Rattle.def_mesh.specs.HalfEdges.{half_edges}
-use Rattle.mesh_laws.proofs.HalfEdges.{manifold_law}
-use Rattle.motion_laws.proofs.Marks.{among_at, cover_more}
-use Rattle.qm_trace.proofs.Marking.{among_more}
+use Rattle.{def_cut.specs.FullCut.is_on, def_mesh.specs.HalfEdges.half_edges, mesh_laws.proofs.Chains.manifold_law}
+use Rattle.{motion_laws.proofs.Marks.among_at, motion_laws.proofs.Marks.cover_more, qm_trace.proofs.Tellings.among_more}
 use Rattle.qm_trace.proofs.marks.Trail.cover_each.Goals as goal
 
 pub cover_edge-requires-clause-dart : goal.cover_edge-requires-clause-dart

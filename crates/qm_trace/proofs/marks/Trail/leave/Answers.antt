@@ -1,5 +1,4 @@
 use Rattle.motion_laws.proofs.Marks.{among_at}
-use Rattle.qm_trace.proofs.marks.Trail.leave.Goals as goal
 
-pub from-requires : goal.from-requires
+pub from-requires : Rattle.qm_trace.proofs.marks.Trail.leave.Goals.from-requires
 from-requires c = c.args.self.now.low _ (among_at c.args.self.now.darts.now c.loop-d.d-index c.loop-d-test.true)

@@ -1,7 +1,5 @@
-use Rattle.std.proofs.Common.{◌∙◌, arith}
-use Rattle.std.proofs.lemmas.List.{length-set}
-use Rattle.motion_laws.proofs.Marks.{among_at}
-use Rattle.qm_trace.proofs.Marking.{marks_more}
+use Rattle.std.proofs.{Common.◌∙◌, Common.arith, lemmas.List.length-set}
+use Rattle.{motion_laws.proofs.Marks.among_at, qm_trace.proofs.Tellings.marks_more}
 use Rattle.qm_trace.proofs.marks.Trail.set.Goals as goal
 
 pub index_mut-requires : goal.index_mut-requires

@@ -1,10 +1,7 @@
 use Rattle.std.proofs.Common.{length, ap, ◌∙◌, arith}
-use Rattle.def_cut.specs.Motion.{ridden}
-use Rattle.site_laws.proofs.Laws.{graph_law}
-use Rattle.def_cut.specs.Traced.{last_state}
-use Rattle.motion_laws.proofs.Order.{one_end}
-use Rattle.qm_trace.proofs.{Beginnings.starts_few, Calls.reached_now, Fewer.riders_long}
-use Rattle.qm_trace.proofs.Ends.{cut_is, have_stopped}
+use Rattle.def_cut.specs.{Motion.ridden, Traced.last_state}
+use Rattle.qm_trace.proofs.{Ends.starts_few, Ends.cut_is, Ends.have_stopped, Fewer.reached_now, Fewer.riders_long}
+use Rattle.{site_laws.proofs.Laws.graph_law, motion_laws.proofs.Order.one_end}
 use Rattle.qm_trace.proofs.motion.Motion.into_graph.Goals as goal
 
 pub tell_riders-requires : goal.tell_riders-requires

@@ -1,8 +1,7 @@
-use Rattle.std.proofs.Common.{refl, false, length, ap, ◌∙◌, arith}
-use Rattle.std.proofs.lemmas.List.{get_or_default}
+use Rattle.std.proofs.{Common.refl, Common.false, Common.length, Common.ap, Common.◌∙◌, Common.arith}
+use Rattle.std.proofs.{lemmas.List.get_or_default}
 use Rattle.def_cut.specs.Events.{darts_in}
-use Rattle.qm_trace.proofs.Settled.{end_is, noted_low_at}
-use Rattle.qm_trace.proofs.Calls.{reached_now}
+use Rattle.qm_trace.proofs.{Noting.end_is, Noting.noted_low_at, Fewer.reached_now}
 use Rattle.qm_trace.proofs.motion.Motion.may_settle.Goals as goal
 
 pub is_end-ends-requires-clause-taken : goal.is_end-ends-requires-clause-taken

@@ -1,11 +1,8 @@
-use Rattle.std.proofs.Common.{rules, ◌≡◌, false, List, ℕ, length, replicate, sym, ap, ◌∙◌, refl, arith, [], None}
-use Rattle.std.proofs.Common.{map}
+use Rattle.std.proofs.Common.{rules, ◌≡◌, false, List, ℕ, length, replicate, sym, ap, ◌∙◌, refl, arith, [], None, map}
 use Rattle.std.proofs.lemmas.List.{length-map, length-replicate}
 use Rattle.def_mesh.specs.{Darts.darts, Vertices.vertex_count, Components.start_darts}
-use Rattle.def_cut.specs.Motion.{begun, is_among}
-use Rattle.qm_trace.proofs.Calls.{first_counted, first_stood, first_waits}
-use Rattle.qm_trace.proofs.Beginnings.{starts_few}
-use Rattle.site_laws.proofs.Sites.{started}
+use Rattle.qm_trace.proofs.Fewer.{first_counted, first_stood, first_waits}
+use Rattle.{def_cut.specs.Motion.begun, def_cut.specs.Motion.is_among, site_laws.proofs.Sites.started}
 use Rattle.qm_trace.proofs.motion.Motion.new.Goals as goal
 
 pub invariant_of-trail : goal.invariant_of-trail

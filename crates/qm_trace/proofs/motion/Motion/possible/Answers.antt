@@ -1,10 +1,9 @@
 use Rattle.std.proofs.Common.{◌≡◌, ℕ, true, length, refl, sym, ap, ◌∙◌, arith}
 use Rattle.std.proofs.lemmas.Option.{none-some}
-use Rattle.def_mesh.specs.Darts.{to_of}
 use Rattle.def_cut.specs.{Events.darts_in, FullCut.is_on, Motion.is_among}
-use Rattle.motion_laws.proofs.Marks.{noted_among, noted_where}
-use Rattle.qm_trace.proofs.{Reaching.reached_by, Beginnings.starts_few, Settled.noted_low_at, Calls.reached_now}
-use Rattle.qm_trace.proofs.Fewer.{over_where, settle_may, settle_not_over, riders_long}
+use Rattle.qm_trace.proofs.Fewer.{reached_now, over_where, settle_may, settle_not_over, riders_long}
+use Rattle.qm_trace.proofs.{Reaching.reached_by, Ends.starts_few, Noting.noted_low_at}
+use Rattle.{def_mesh.specs.Darts.to_of, motion_laws.proofs.Marks.noted_among, motion_laws.proofs.Marks.noted_where}
 use Rattle.qm_trace.proofs.motion.Motion.possible.Goals as goal
 
 pub first_waiting-requires-clause-few : goal.first_waiting-requires-clause-few

@@ -1,11 +1,10 @@
-use Rattle.def_cut.specs.Events.Event.{Ride}
 use Rattle.std.proofs.Common.{length, sym, subst, ap, ◌∙◌, refl, arith}
 use Rattle.std.proofs.lemmas.List.{length-set, with_items_is}
-use Rattle.def_cut.specs.{declared.moving.Moving.Moving, Views.IsMotionOn, Views.MotionView}
+use Rattle.def_cut.specs.{Events.Event.Ride, declared.moving.Moving.Moving, Views.IsMotionOn, Views.MotionView}
 use Rattle.qm_trace.specs.Motions.{is_untold}
-use Rattle.qm_trace.proofs.Calls.{made, ride_state, rode_counted, rode_waits, rides, as_read, event_on}
+use Rattle.qm_trace.proofs.Fewer.{made, ride_state, rode_counted, rode_waits, rides, as_read, event_on}
 use Rattle.qm_trace.proofs.Reaching.{ride_alone, ride_dart, ride_few, ride_fresh, ride_noted}
-use Rattle.qm_trace.proofs.{Beginnings.starts_few, Counting.tally_few}
+use Rattle.qm_trace.proofs.{Ends.starts_few, Counting.tally_few}
 use Rattle.qm_trace.proofs.motion.Motion.ride.Goals as goal
 
 pub overflow_add-rider : goal.overflow_add-rider

@@ -1,10 +1,8 @@
-use Rattle.std.proofs.lemmas.Bool.{eq-eqb, ne_eqb}
-use Rattle.def_cut.specs.Events.Event.{Settle}
 use Rattle.std.proofs.Common.{true, false, sym, subst, ap, ◌∙◌, refl, arith}
-use Rattle.std.proofs.lemmas.List.{length-set}
-use Rattle.def_cut.specs.Views.{IsMotionOn}
-use Rattle.qm_trace.proofs.Calls.{settling, settles, event_on, counted_again, made, waits_again}
-use Rattle.qm_trace.proofs.Settled.{can_tell, ends_now, noted_low_at, settle_low, settled_state, still_wait}
+use Rattle.std.proofs.{lemmas.Bool.eq-eqb, lemmas.Bool.ne_eqb, lemmas.List.length-set}
+use Rattle.def_cut.specs.{Events.Event.Settle, Views.IsMotionOn}
+use Rattle.qm_trace.proofs.Fewer.{settling, settles, event_on, counted_again, made, waits_again}
+use Rattle.qm_trace.proofs.Noting.{can_tell, ends_now, noted_low_at, settle_low, settled_state, still_wait}
 use Rattle.qm_trace.proofs.motion.Motion.settle.Goals as goal
 
 pub tell_all-requires : goal.tell_all-requires

@@ -1,10 +1,8 @@
-use Rattle.std.proofs.Common.{◌++◌, ◌∷◌, sym, ap, ◌∙◌, get_or, []}
-use Rattle.std.proofs.lemmas.List.{append-nil}
-use Rattle.def_cut.specs.Events.{rider_at}
-use Rattle.motion_laws.proofs.Marks.{among_at}
-use Rattle.qm_trace.specs.Tables.{is_running}
-use Rattle.qm_trace.proofs.Marking.{running_more}
+use Rattle.std.proofs.{Common.◌++◌, Common.◌∷◌, Common.sym, Common.ap, Common.◌∙◌, Common.get_or, Common.[]}
+use Rattle.std.proofs.{lemmas.List.append-nil}
 use Rattle.qm_trace.proofs.queue.Queued.still_running.Goals.{then-runs+in_ok-push, else-runs}
+use Rattle.qm_trace.proofs.Tellings.{running_more}
+use Rattle.{def_cut.specs.Events.rider_at, motion_laws.proofs.Marks.among_at, qm_trace.specs.Tables.is_running}
 use Rattle.qm_trace.proofs.queue.Queued.still_running.Goals as goal
 
 pub bounds-self-r : goal.bounds-self-r

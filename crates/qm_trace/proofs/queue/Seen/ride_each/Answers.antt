@@ -1,6 +1,4 @@
-use Rattle.std.proofs.Common.{arith}
-use Rattle.motion_laws.proofs.Marks.{among_at}
-use Rattle.qm_trace.proofs.Marking.{unmoved, rode_more}
+use Rattle.{std.proofs.Common.arith, motion_laws.proofs.Marks.among_at, qm_trace.proofs.Tellings.unmoved}
 use Rattle.qm_trace.proofs.queue.Seen.ride_each.Goals as goal
 
 pub slice_copy_out-rider : goal.slice_copy_out-rider

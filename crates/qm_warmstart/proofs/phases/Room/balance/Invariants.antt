@@ -1,5 +1,4 @@
 use Rattle.std.proofs.Common.{◌≡◌}
-use Rattle.qm_warmstart.proofs.phases.Room.balance.Given as goal
 
-abbrev pub invariant-loop : goal.invariant-loop
+abbrev pub invariant-loop : Rattle.qm_warmstart.proofs.phases.Room.balance.Given.invariant-loop
 invariant-loop l = l.self.search.flow.cover.now ≡ l.initial.self.search.flow.cover.now

@@ -1,5 +1,4 @@
 use Rattle.std.proofs.Common.{◌≡◌}
-use Rattle.qm_warmstart.proofs.phases.Room.find_sources.Given as goal
 
-abbrev pub invariant-loop-node : goal.invariant-loop-node
+abbrev pub invariant-loop-node : Rattle.qm_warmstart.proofs.phases.Room.find_sources.Given.invariant-loop-node
 invariant-loop-node l = l.self.search ≡ l.initial.self.search

@@ -1,5 +1,4 @@
 use Rattle.std.proofs.Common.{◌≡◌}
-use Rattle.qm_warmstart.proofs.phases.Room.revive.Given as goal
 
-abbrev pub invariant-loop-k : goal.invariant-loop-k
+abbrev pub invariant-loop-k : Rattle.qm_warmstart.proofs.phases.Room.revive.Given.invariant-loop-k
 invariant-loop-k l = l.self.search ≡ l.initial.self.search

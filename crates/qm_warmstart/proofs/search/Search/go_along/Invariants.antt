@@ -1,5 +1,4 @@
 use Rattle.std.proofs.Common.{◌≡◌, ◌<◌}
-use Rattle.qm_warmstart.proofs.search.Search.go_along.Given as goal
 
-abbrev pub invariant-loop : goal.invariant-loop
+abbrev pub invariant-loop : Rattle.qm_warmstart.proofs.search.Search.go_along.Given.invariant-loop
 invariant-loop l = (l.self.flow.cover.now ≡ l.initial.self.flow.cover.now) × (l.node < l.self.flow.cover.now.nodes)

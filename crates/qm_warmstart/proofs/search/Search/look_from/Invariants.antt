@@ -1,5 +1,4 @@
 use Rattle.std.proofs.Common.{◌≡◌}
-use Rattle.qm_warmstart.proofs.search.Search.look_from.Given as goal
 
-abbrev pub invariant-loop-place : goal.invariant-loop-place
+abbrev pub invariant-loop-place : Rattle.qm_warmstart.proofs.search.Search.look_from.Given.invariant-loop-place
 invariant-loop-place l = l.self.flow ≡ l.initial.self.flow

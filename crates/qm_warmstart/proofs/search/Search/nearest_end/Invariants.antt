@@ -1,5 +1,4 @@
 use Rattle.std.proofs.Common.{◌≡◌}
-use Rattle.qm_warmstart.proofs.search.Search.nearest_end.Given as goal
 
-abbrev pub invariant-loop : goal.invariant-loop
+abbrev pub invariant-loop : Rattle.qm_warmstart.proofs.search.Search.nearest_end.Given.invariant-loop
 invariant-loop l = l.self.flow ≡ l.initial.self.flow
