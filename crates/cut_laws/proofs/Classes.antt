@@ -1,12 +1,20 @@
 -- Classes of faces that are joined over edges that are not cut: each is one grid, and has one patch.
 use Rattle.std.proofs.Common.{◌≡◌, ℕ, zero, suc, ◌-◌, ◌<◌, ◌≤◌, true, false, Some, sym, ◌∙◌, ap, refl, inl, inr}
-use Rattle.std.proofs.Common.{true≢false, arith, List, [], ◌∷◌, length, get_or}
-use Rattle.std.proofs.lemmas.Bool.{cases_eq, cases_lt}
+use Rattle.std.proofs.Common.{arith, List, [], ◌∷◌, length, get_or}
+use Rattle.std.proofs.{lemmas.Bool.cases_lt, lemmas.Option.same_Some}
 use Rattle.def_mesh.specs.HalfEdges.{HalfEdges, IsQuadManifold}
 use Rattle.def_cut.specs.{Cuts.Cut, Cuts.Links, Cuts.IsCorner, Cuts.IsCut, Grids.Cells, Grids.IsGrid, Grids.IsPatch}
 use Rattle.def_cut.specs.{Grids.least_of, Steps.spin}
-use Rattle.cut_laws.proofs.Folds.{prev_three, prev_twice, prev_same, At, one_more, cross_to, west_open, south_open}
-use Rattle.cut_laws.proofs.Pigeon.{same_if}
+use Rattle.cut_laws.proofs.Folds.{prev_three, prev_twice, spin_next, west_open, south, south_open, quarter, AreOne}
+use Rattle.cut_laws.proofs.Folds.{quarter_grid, one_grid}
+
+-- x is the k-th side of a cell of a grid, where k may be any number.
+pub record At (mesh : HalfEdges) (w h : ℕ) (cell : Cells) (k x : ℕ) : Type 0 where
+  pub a : ℕ
+  pub b : ℕ
+  pub a_low : a < w
+  pub b_low : b < h
+  pub is : x ≡ spin mesh k (cell a b)
 
 -- x is a side of a cell of the grid.
 abbrev pub In : (mesh : HalfEdges) (w h : ℕ) (cell : Cells) (x : ℕ) → Type 0
@@ -23,13 +31,7 @@ pub record AtMost (mesh : HalfEdges) (w h : ℕ) (cell : Cells) (b : ℕ) : Type
   pub far : (i j : ℕ) → suc i ≡ w → suc j ≡ h → b ≤ mesh.next (mesh.next (cell i j))
   pub north : (j : ℕ) → suc j ≡ h → b ≤ mesh.prev (cell 0 j)
 
--- Two grids are one.
-pub record AreOne (w h v g : ℕ) (cell tile : Cells) : Type 0 where
-  pub wide : w ≡ v
-  pub tall : h ≡ g
-  pub cells : (i j : ℕ) → i < w → j < h → cell i j ≡ tile i j
-
-module _ (mesh : HalfEdges) (laws : IsQuadManifold mesh) (cut : Cut) where
+module _ {mesh : HalfEdges} (laws : IsQuadManifold mesh) (cut : Cut) where
   pub links_join : (d e f : ℕ) → AreLinked mesh cut d e → AreLinked mesh cut e f → AreLinked mesh cut d f
   links_join d e f a b = along b.0 f b.1
     where
@@ -44,7 +46,7 @@ module _ (mesh : HalfEdges) (laws : IsQuadManifold mesh) (cut : Cut) where
   step_over d e t a off is = (suc a.0, (e, a.1, inr (off, is)))
 
   pub step_prev : (d e : ℕ) → AreLinked mesh cut d e → AreLinked mesh cut d (mesh.prev e)
-  step_prev d e a = rw (prev_three mesh laws e) (step_next d _ (step_next d _ (step_next d e a)))
+  step_prev d e a = rw (prev_three laws e) (step_next d _ (step_next d _ (step_next d e a)))
 
   pub step_spin : (d e k : ℕ) → AreLinked mesh cut d e → AreLinked mesh cut d (spin mesh k e)
   step_spin d e zero a = a
@@ -56,16 +58,20 @@ module _ (mesh : HalfEdges) (laws : IsQuadManifold mesh) (cut : Cut) where
       let low = links_low d a.0 n l a.1 in
       elim a.2 [ inl s ↦ rw s (laws.next_low a.0 low) | inr o ↦ laws.twin_low a.0 e low o.1 ]
 
-module _ (mesh : HalfEdges) (laws : IsQuadManifold mesh) (cut : Cut) (full : IsCut mesh cut) where
+-- The side x of a grid has a twin, which is a side of a grid too.
+abbrev HasOther : (mesh : HalfEdges) (w h : ℕ) (cell : Cells) (k x : ℕ) → Type 0
+HasOther mesh w h cell k x = (t : ℕ) × (mesh.twin x ≡ Some t) × At mesh w h cell (suc (suc k)) t
+
+module _ {mesh : HalfEdges} (laws : IsQuadManifold mesh) {cut : Cut} (full : IsCut mesh cut) where
   pub links_back : (d e n : ℕ) → d < mesh.count → Links mesh cut d e n → AreLinked mesh cut e d
   links_back d e zero l a = (0, sym a)
   links_back d e (suc n) l a =
       let c = a.0 in
-      let lc = links_low mesh laws cut d c n l a.1 in
+      let lc = links_low laws cut d c n l a.1 in
       let back = links_back d c n l a.1 in
-      links_join mesh laws cut e c d (elim a.2 [
-        | inl s ↦ rw (ap mesh.prev s ∙ laws.prev_next a.0) at (step_prev mesh laws cut e e (0, refl))
-        | inr o ↦ step_over mesh laws cut e e a.0 (0, refl) (full.alike a.0 e lc o.1 ∙ o.0)
+      links_join laws cut e c d (elim a.2 [
+        | inl s ↦ rw (ap mesh.prev s ∙ laws.prev_next a.0) at (step_prev laws cut e e (0, refl))
+        | inr o ↦ step_over laws cut e e a.0 (0, refl) (full.alike a.0 e lc o.1 ∙ o.0)
             (laws.twin_twin a.0 e lc o.1)
       ]) back
 
@@ -76,7 +82,60 @@ module _ (mesh : HalfEdges) (laws : IsQuadManifold mesh) (cut : Cut) (full : IsC
   pub first_corner : {w h : ℕ} {cell : Cells} → IsGrid mesh cut w h cell → IsCorner mesh cut (cell 0 0)
   first_corner grid = (grid.low 0 0 grid.wide grid.tall, grid.south_shut 0 grid.wide, grid.west_shut 0 grid.tall)
 
-  module _ (w h : ℕ) (cell : Cells) (grid : IsGrid mesh cut w h cell) where
+  -- Over an edge of a cell that is not cut lies another cell. A side of a cell is the side before it of the grid that
+  -- is turned by a quarter.
+  over : (k : ℕ) {w h : ℕ} {cell : Cells} → IsGrid mesh cut w h cell → (a b x : ℕ) → a < w → b < h
+      → x ≡ spin mesh k (cell a b) → cut x ≡ false → HasOther mesh w h cell k x
+  over zero grid a zero x la lb e off = absurd (cc (grid.south_shut a la))
+  over zero {cell} grid a (suc b) x la lb e off = (
+    mesh.next (mesh.next (cell a b)),
+    cc (south laws full grid a b la lb),
+    record { a = a; b = b; a_low = la; b_low = omega arith; is = refl },
+  )
+  over (suc k) {w} {h} {cell} grid a b x la lb e off =
+      let same : w - suc (w - suc a) ≡ a = omega arith in
+      let o = over k (quarter_grid laws full grid) b (w - suc a) x lb (omega arith)
+      (cc (same, spin_next laws k (cell a b))) off in
+      (o.0, o.1, turn_back {t = o.0} o.2)
+    where
+      turn_back : {t : ℕ} → At mesh h w (quarter mesh w cell) (suc (suc k)) t → At mesh w h cell (suc (suc (suc k))) t
+      turn_back at = record {
+        a = w - suc at.b;
+        b = at.a;
+        a_low = omega arith;
+        b_low = at.a_low;
+        is = at.is ∙ spin_next laws (suc (suc k)) (cell (w - suc at.b) at.a);
+      }
+
+  -- b is at most the corner darts of a grid turned by a quarter, which are the same.
+  quarter_most : {w h m : ℕ} {cell : Cells} → IsGrid mesh cut w h cell → AtMost mesh w h cell m
+      → AtMost mesh h w (quarter mesh w cell) m
+  quarter_most {w} {h} {m} {cell} grid least = record {
+    first = least.east (w - 1) (omega (arith, grid.wide));
+    east = λ i e. least.far (w - 1) i (omega (arith, grid.wide)) e;
+    far = λ i j e z.
+        let last : w - suc j ≡ 0 = omega arith in
+        let same : mesh.prev (cell 0 i) ≡ mesh.next (mesh.next (mesh.next (cell (w - suc j) i))) =
+        cc (last, prev_three laws (cell 0 i)) in
+        omega (arith, least.north i e);
+    north = λ j z.
+        let last : w - suc j ≡ 0 = omega arith in
+        let same : mesh.prev (mesh.next (cell (w - suc j) 0)) ≡ cell 0 0 = cc (last, laws.prev_next (cell 0 0)) in
+        omega (arith, least.first);
+  }
+
+  -- Each corner of the class is one of the four of the grid.
+  least_corner : (k : ℕ) {w h m : ℕ} {cell : Cells} → IsGrid mesh cut w h cell → AtMost mesh w h cell m → (a b : ℕ)
+      {x : ℕ} → a < w → b < h → x ≡ spin mesh k (cell a b) → cut x ≡ true → cut (mesh.prev x) ≡ true → m ≤ x
+  least_corner zero grid least zero zero la lb e on before = rw e least.first
+  least_corner zero grid least (suc a) b la lb e on before = absurd (cc (west_open laws full grid a b la lb))
+  least_corner zero grid least zero (suc b) la lb e on before = absurd (cc (south_open laws full grid 0 b la lb))
+  least_corner (suc k) {w} {h} {m} {cell} grid least a b la lb e on before =
+      let same : w - suc (w - suc a) ≡ a = omega arith in
+      least_corner k (quarter_grid laws full grid) (quarter_most grid least) b (w - suc a) lb (omega arith)
+      (cc (same, spin_next laws k (cell a b))) on before
+
+  module _ {w h : ℕ} {cell : Cells} (grid : IsGrid mesh cut w h cell) where
     pub in_low : (x : ℕ) → In mesh w h cell x → x < mesh.count
     in_low x i = rw i.1.is (spun i.0)
       where
@@ -88,93 +147,61 @@ module _ (mesh : HalfEdges) (laws : IsQuadManifold mesh) (cut : Cut) (full : IsC
     pub closed : (d e n : ℕ) → Links mesh cut d e n → In mesh w h cell d → In mesh w h cell e
     closed d e zero l i = rw (← l) i
     closed d e (suc n) l i =
-        let at = closed d l.0 n l.1 i in
+        let (k, at) = closed d l.0 n l.1 i in
         elim l.2 [
-          | inl s ↦ rw s (suc at.0, one_more at.1)
-          | inr o ↦ (suc (suc at.0), cross_to mesh laws cut full w h cell grid at.1 o.0 o.1)
+          | inl s ↦ (suc k, record { a = at.a; b = at.b; a_low = at.a_low; b_low = at.b_low; is = cc (s, at.is) })
+          | inr o ↦ (
+            suc (suc k),
+            (let r = over k grid at.a at.b l.0 at.a_low at.b_low at.is o.0 in
+                rw (same_Some r.0 e (sym r.1 ∙ o.1)) at r.2),
+          )
         ]
 
     -- The whole grid is of one class.
     linked_east : (i : ℕ) → i < w → AreLinked mesh cut (cell 0 0) (cell i 0)
     linked_east zero l = (0, refl)
     linked_east (suc i) l =
-        let over = step_over mesh laws cut _ _ _ (step_next mesh laws cut _ _ (linked_east i (omega arith)))
+        let over = step_over laws cut _ _ _ (step_next laws cut _ _ (linked_east i (omega arith)))
         (grid.east_open i 0 l grid.tall) (grid.east i 0 l grid.tall) in
-        rw (laws.next_prev _) at (step_next mesh laws cut _ _ over)
+        rw (laws.next_prev _) at (step_next laws cut _ _ over)
 
     pub linked_cell : (i j : ℕ) → i < w → j < h → AreLinked mesh cut (cell 0 0) (cell i j)
     linked_cell i zero li lj = linked_east i li
-    linked_cell i (suc j) li lj = step_over mesh laws cut _ _ _ (step_next mesh laws cut _ _ (step_next mesh laws cut _
+    linked_cell i (suc j) li lj = step_over laws cut _ _ _ (step_next laws cut _ _ (step_next laws cut _
         _ (linked_cell i j li (omega arith)))) (grid.north_open i j li lj) (grid.north i j li lj)
 
     pub linked_in : (x : ℕ) → In mesh w h cell x → AreLinked mesh cut (cell 0 0) x
-    linked_in x i = rw i.1.is (step_spin mesh laws cut _ _ i.0 (linked_cell i.1.a i.1.b i.1.a_low i.1.b_low))
+    linked_in x i = rw i.1.is (step_spin laws cut _ _ i.0 (linked_cell i.1.a i.1.b i.1.a_low i.1.b_low))
 
     pub first_in : In mesh w h cell (cell 0 0)
     first_in = (0, record { a = 0; b = 0; a_low = grid.wide; b_low = grid.tall; is = refl })
 
-    -- Each corner of the class is one of the four of the grid.
-    pub least_corner : {m : ℕ} → AtMost mesh w h cell m → (k a b : ℕ) {x : ℕ} → a < w → b < h
-        → x ≡ spin mesh k (cell a b) → cut x ≡ true → cut (mesh.prev x) ≡ true → m ≤ x
-    least_corner {m} least zero zero zero la lb e on before = rw e least.first
-    least_corner least zero (suc a) b la lb e on before = absurd
-        (cc (west_open mesh laws cut full w h cell grid a b la lb))
-    least_corner least zero zero (suc b) la lb e on before =
-        absurd (cc (south_open mesh laws cut full w h cell grid 0 b la lb))
-    least_corner least (suc zero) a zero la lb e on before = elim (cases_eq (suc a) w) [
-      | inl z ↦ rw e (least.east a z)
-      | inr ne ↦ absurd (cc (grid.east_open a 0 (omega arith) lb))
-    ]
-    least_corner least (suc zero) a (suc b) la lb e on before =
-        absurd (true≢false (sym before ∙ (ap (λ y. cut (mesh.prev y)) e
-        ∙ (ap cut (laws.prev_next (cell a (suc b))) ∙ south_open mesh laws cut full w h cell grid a b la lb))))
-    least_corner least (suc (suc zero)) a b la lb e on before = elim (cases_eq (suc a) w) [
-      | inl z ↦ elim (cases_eq (suc b) h) [
-        | inl y ↦ rw e (least.far a b z y)
-        | inr ne ↦ absurd (true≢false (sym on ∙ (ap cut e ∙ grid.north_open a b la (omega arith))))
-      ]
-      | inr ne ↦ absurd (true≢false (sym before
-          ∙ (ap (λ y. cut (mesh.prev y)) e ∙ (ap cut (laws.prev_next (mesh.next (cell a b)))
-          ∙ grid.east_open a b (omega arith) lb))))
-    ]
-    least_corner least (suc (suc (suc zero))) zero b la lb e on before = elim (cases_eq (suc b) h) [
-      | inl z ↦ rw (prev_three mesh laws (cell 0 b) ∙ sym e) at (least.north b z)
-      | inr ne ↦ absurd (true≢false (sym before
-          ∙ (ap (λ y. cut (mesh.prev y)) e ∙ (ap cut (laws.prev_next (mesh.next (mesh.next (cell 0 b))))
-          ∙ grid.north_open 0 b la (omega arith)))))
-    ]
-    least_corner least (suc (suc (suc zero))) (suc a) b la lb e on before =
-        absurd (true≢false (sym on ∙ (ap cut (e ∙ sym (prev_three mesh laws (cell (suc a) b)))
-        ∙ west_open mesh laws cut full w h cell grid a b la lb)))
-    least_corner {m} least (suc (suc (suc (suc k)))) a b {x} la lb e on before =
-        least_corner least k a b la lb (e ∙ laws.four_sides (spin mesh k (cell a b))) on before
-
     pub least_in : {m : ℕ} (x : ℕ) → AtMost mesh w h cell m → In mesh w h cell x → IsCorner mesh cut x → m ≤ x
-    least_in {m} x least i corner = least_corner least i.0 i.1.a i.1.b i.1.a_low i.1.b_low i.1.is corner.1 corner.2
+    least_in x least i corner = least_corner i.0 grid least i.1.a i.1.b i.1.a_low i.1.b_low i.1.is corner.1 corner.2
 
     -- The four are corners of the class.
     pub at_most : (m : ℕ) → ((x : ℕ) → AreLinked mesh cut (cell 0 0) x → IsCorner mesh cut x → m ≤ x)
         → AtMost mesh w h cell m
     at_most m least = record {
       first = least (cell 0 0) (0, refl) (first_corner grid);
-      east = λ i e. least (mesh.next (cell i 0)) (step_next mesh laws cut _ _
+      east = λ i e. least (mesh.next (cell i 0)) (step_next laws cut _ _
           (linked_cell i 0 (omega arith) grid.tall)) (
             laws.next_low _ (grid.low i 0 (omega arith) grid.tall),
             grid.east_shut i 0 e grid.tall,
             ap cut (laws.prev_next _) ∙ grid.south_shut i (omega arith),
           );
       far = λ i j e z. let l : cell i j < mesh.count = grid.low i j (omega arith) (omega arith) in
-          least (mesh.next (mesh.next (cell i j))) (step_next mesh laws cut _ _
-          (step_next mesh laws cut _ _ (linked_cell i j (omega arith) (omega arith)))) (
+          least (mesh.next (mesh.next (cell i j))) (step_next laws cut _ _
+          (step_next laws cut _ _ (linked_cell i j (omega arith) (omega arith)))) (
             laws.next_low _ (laws.next_low _ l),
             grid.north_shut i j (omega arith) z,
             ap cut (laws.prev_next _) ∙ grid.east_shut i j e (omega arith),
           );
-      north = λ j z. least (mesh.prev (cell 0 j)) (step_prev mesh laws cut _ _
+      north = λ j z. least (mesh.prev (cell 0 j)) (step_prev laws cut _ _
           (linked_cell 0 j grid.wide (omega arith))) (
             laws.prev_low _ (grid.low 0 j grid.wide (omega arith)),
             grid.west_shut j (omega arith),
-            ap cut (prev_twice mesh laws _) ∙ grid.north_shut 0 j grid.wide z,
+            ap cut (prev_twice laws _) ∙ grid.north_shut 0 j grid.wide z,
           );
     }
 
@@ -182,61 +209,19 @@ module _ (mesh : HalfEdges) (laws : IsQuadManifold mesh) (cut : Cut) (full : IsC
   pub least_first : {w h : ℕ} {cell : Cells} → IsPatch mesh cut w h cell → AtMost mesh w h cell (cell 0 0)
   least_first p = record { first = omega arith; east = p.least_east; far = p.least_far; north = p.least_north }
 
-  module _ {w h v g : ℕ} {cell tile : Cells} (one : IsGrid mesh cut w h cell) (two : IsGrid mesh cut v g tile) where
-    -- Grids with one first cell have the same cells.
-    cells_east : (cell 0 0 ≡ tile 0 0) → (i : ℕ) → i < w → i < v → cell i 0 ≡ tile i 0
-    cells_east e zero lw lv = e
-    cells_east e (suc i) lw lv = prev_same mesh laws _ _
-        (cc (one.east i 0 lw one.tall, cells_east e i (omega arith) (omega arith), two.east i 0 lv two.tall))
-
-    cells_north : (i j : ℕ) → i < w → i < v → cell i 0 ≡ tile i 0 → j < h → j < g → cell i j ≡ tile i j
-    cells_north i zero lw lv e lh lg = e
-    cells_north i (suc j) lw lv e lh lg = cc
-        (one.north i j lw lh, cells_north i j lw lv e (omega arith) (omega arith), two.north i j lv lg)
-
-    not_wider : cell 0 0 ≡ tile 0 0 → (i : ℕ) → suc i ≡ w → suc i < v → ⊥
-    not_wider e i z l = cc
-        (one.east_shut i 0 z one.tall, cells_east e i (omega arith) (omega arith), two.east_open i 0 l two.tall)
-
-    not_taller : cell 0 0 ≡ tile 0 0 → (j : ℕ) → suc j ≡ h → suc j < g → ⊥
-    not_taller e j z l = cc (
-      one.north_shut 0 j one.wide z,
-      cells_north 0 j one.wide two.wide e (omega arith) (omega arith),
-      two.north_open 0 j two.wide l,
-    )
-
-  pub one_grid : {w h v g : ℕ} {cell tile : Cells} → IsGrid mesh cut w h cell → IsGrid mesh cut v g tile
-      → cell 0 0 ≡ tile 0 0 → AreOne w h v g cell tile
-  one_grid {w} {h} {v} {g} one two e = record {
-    wide = same_wide;
-    tall = same_tall;
-    cells = λ i j li lj. let lv : i < v = omega (arith, same_wide) in
-        cells_north one two i j li lv (cells_east one two e i li lv) lj (omega (arith, same_tall));
-  }
-    where
-      same_wide : w ≡ v
-      same_wide = same_if (λ l. not_wider one two e (w - 1) (omega (arith, one.wide)) (omega (arith, one.wide)))
-          (λ l. not_wider two one (sym e) (v - 1) (omega (arith, two.wide)) (omega (arith, two.wide)))
-
-      same_tall : h ≡ g
-      same_tall = same_if (λ l. not_taller one two e (h - 1) (omega (arith, one.tall)) (omega (arith, one.tall)))
-          (λ l. not_taller two one (sym e) (g - 1) (omega (arith, two.tall)) (omega (arith, two.tall)))
-
   -- Patches with a dart in common are one.
   pub one_patch : {w h v g : ℕ} {cell tile : Cells} → IsPatch mesh cut w h cell → IsPatch mesh cut v g tile → (x : ℕ)
       → In mesh w h cell x → In mesh v g tile x → AreOne w h v g cell tile
-  one_patch {w} {h} {v} {g} {cell} {tile} one two x ix iy =
-      let below = least_in v g tile two.grid _ (least_first two) (there one.grid two.grid ix iy)
-      (first_corner one.grid) in
-      let above = least_in w h cell one.grid _ (least_first one) (there two.grid one.grid iy ix)
-      (first_corner two.grid) in
-      one_grid one.grid two.grid (omega arith)
+  one_patch one two x ix iy =
+      let below = least_in two.grid _ (least_first two) (there one.grid two.grid ix iy) (first_corner one.grid) in
+      let above = least_in one.grid _ (least_first one) (there two.grid one.grid iy ix) (first_corner two.grid) in
+      one_grid laws full one.grid two.grid (omega arith)
     where
       there : {w h v g : ℕ} {cell tile : Cells} → IsGrid mesh cut w h cell → IsGrid mesh cut v g tile
           → In mesh w h cell x → In mesh v g tile x → In mesh v g tile (cell 0 0)
-      there {w} {h} {v} {g} {cell} {tile} a b i j =
-          let back = linked_back _ x (a.low 0 0 a.wide a.tall) (linked_in w h cell a x i) in
-          closed v g tile b x _ _ back.1 j
+      there a b i j =
+          let back = linked_back _ x (a.low 0 0 a.wide a.tall) (linked_in a x i) in
+          closed b x _ _ back.1 j
 
 -- The least of a list.
 

@@ -1,11 +1,10 @@
 -- Each class of faces of a traced cut has a corner: it lies at the start of a trail, or where another trail ends on it.
 use Rattle.std.proofs.Common.{◌≡◌, ◌⊎◌, ℕ, zero, suc, ◌<◌, Bool, true, false, Some, sym, ◌∙◌, ap, refl, inl, inr}
-use Rattle.std.proofs.lemmas.Bool.{cases_Bool}
+use Rattle.{std.proofs.lemmas.Bool.cases_Bool, cut_laws.proofs.Folds.spin_next, cut_laws.proofs.Folds.turn_low}
 use Rattle.def_mesh.specs.HalfEdges.{HalfEdges, IsQuadManifold}
 use Rattle.def_cut.specs.{Trails.IsStraight, Trails.Trail, Trails.Joins, Trails.HasSources, Trails.IsTraced, Cuts.Cut}
 use Rattle.def_cut.specs.{Cuts.IsCross, Cuts.Links, Cuts.IsCorner, Laws.CornerLaw, Steps.spin}
 use Rattle.cut_laws.proofs.Classes.{AreLinked, links_join, step_next, step_over, step_prev, links_low}
-use Rattle.cut_laws.proofs.Folds.{turn_low}
 
 -- The class of d has a corner.
 abbrev pub CornerOf : (mesh : HalfEdges) (cut : Cut) (d : ℕ) → Type 0
@@ -17,7 +16,7 @@ module _ {mesh : HalfEdges} (laws : IsQuadManifold mesh) {start cut : ℕ → Bo
   corner_at d e l corner = (e, l.0, l.1, corner)
 
   from_class : (d e : ℕ) → AreLinked mesh cut d e → CornerOf mesh cut e → CornerOf mesh cut d
-  from_class d e l c = corner_at d c.0 (links_join mesh laws cut d e c.0 l (c.1, c.2)) c.3
+  from_class d e l c = corner_at d c.0 (links_join laws cut d e c.0 l (c.1, c.2)) c.3
 
   start_corner : (d : ℕ) → d < mesh.count → start d ≡ true → IsCorner mesh cut d
   start_corner d ld on = (ld, traced.started d ld on, traced.before d ld on)
@@ -32,14 +31,14 @@ module _ {mesh : HalfEdges} (laws : IsQuadManifold mesh) {start cut : ℕ → Bo
         | inr off ↦
             let back = ap mesh.twin (cc (laws.prev_next trail.4.0))
             ∙ laws.twin_twin _ _ (laws.next_low _ trail.2) trail.4.1 in
-            let over = step_over mesh laws cut d _ _ (step_prev mesh laws cut d d (0, refl)) off back in
-            from_class d _ (rw (laws.prev_next _) at (step_prev mesh laws cut d _ over))
+            let over = step_over laws cut d _ _ (step_prev laws cut d d (0, refl)) off back in
+            from_class d _ (rw (laws.prev_next _) at (step_prev laws cut d _ over))
             rest
       ]
 
   -- and back along it on the other side.
   next_corner : (d : ℕ) → d < mesh.count → cut d ≡ true → cut (mesh.next d) ≡ true → CornerOf mesh cut d
-  next_corner d ld on next = corner_at d _ (step_next mesh laws cut d d (0, refl))
+  next_corner d ld on next = corner_at d _ (step_next laws cut d d (0, refl))
       (laws.next_low d ld, next, cc (laws.prev_next d))
 
   across : (k d t : ℕ) → d < mesh.count → cut d ≡ true → mesh.twin d ≡ Some t → Trail mesh start cut t k
@@ -60,13 +59,13 @@ module _ {mesh : HalfEdges} (laws : IsQuadManifold mesh) {start cut : ℕ → Bo
           ≡ mesh.next c = cc (laws.prev_next s.0, laws.twin_twin (mesh.next c) s.0 (laws.next_low c lc) s.1) in
           let second : mesh.twin c ≡ Some b = cc (laws.prev_next c) in
           let lb = laws.twin_low c b lc second in
-          let le = turn_low mesh laws b e lb is.third in
+          let le = turn_low laws b e lb is.third in
           let last : mesh.prev e
           ≡ d = cc (laws.twin_twin (mesh.prev e) t (laws.prev_low e le) is.last, laws.twin_twin d t ld tw) in
           let right : e ≡ mesh.next d = cc (laws.next_prev e) in
           let over = ap mesh.twin (sym right) ∙ laws.twin_twin _ e (laws.prev_low b lb) is.third in
-          let linked = step_over mesh laws cut d _ _ (step_next mesh laws cut d d (0, refl)) off over in
-          let there = rw (laws.next_prev b) at (step_next mesh laws cut d _ linked) in
+          let linked = step_over laws cut d _ _ (step_next laws cut d d (0, refl)) off over in
+          let there = rw (laws.next_prev b) at (step_next laws cut d _ linked) in
           from_class d b there (rest b lb (traced.alike c b lc second ∙ onc) (laws.twin_twin c b lc second))
 
   -- A walk through the component stays in the class, or meets a cut edge with two darts.
@@ -75,10 +74,10 @@ module _ {mesh : HalfEdges} (laws : IsQuadManifold mesh) {start cut : ℕ → Bo
   along d (suc n) e ld j = elim (along d n j.0 ld j.1) [
     | inr found ↦ inr found
     | inl l ↦ elim j.2 [
-      | inl s ↦ inl (rw s (step_next mesh laws cut d j.0 l))
+      | inl s ↦ inl (rw s (step_next laws cut d j.0 l))
       | inr tw ↦ elim (cases_Bool (cut j.0)) [
-        | inl on ↦ inr (from_class d j.0 l (tracked j.0 (links_low mesh laws cut d j.0 l.0 ld l.1) tw on))
-        | inr off ↦ inl (step_over mesh laws cut d j.0 e l off tw)
+        | inl on ↦ inr (from_class d j.0 l (tracked j.0 (links_low laws cut d j.0 l.0 ld l.1) tw on))
+        | inr off ↦ inl (step_over laws cut d j.0 e l off tw)
       ]
     ]
   ]
@@ -94,7 +93,7 @@ module _ {mesh : HalfEdges} (laws : IsQuadManifold mesh) {start cut : ℕ → Bo
       elim (along d s.1 s.0 ld s.2) [
         | inr found ↦ found
         | inl l ↦
-            let le = links_low mesh laws cut d s.0 l.0 ld l.1 in
+            let le = links_low laws cut d s.0 l.0 ld l.1 in
             corner_at d s.0 l (elim s.3 [
               | inl on ↦ start_corner s.0 le on
               | inr alone ↦ (le, traced.boundary s.0 le alone.0, traced.boundary _ (laws.prev_low s.0 le) alone.1)
@@ -106,11 +105,7 @@ corner_law mesh start cut laws sources traced d ld = corner_of laws sources trac
 
 -- Steps round a face undo each other and follow each other.
 
-module _ (mesh : HalfEdges) (laws : IsQuadManifold mesh) where
-  spin_next : (m x : ℕ) → spin mesh m (mesh.next x) ≡ mesh.next (spin mesh m x)
-  spin_next zero x = refl
-  spin_next (suc m) x = ap mesh.next (spin_next m x)
-
+module _ {mesh : HalfEdges} (laws : IsQuadManifold mesh) where
   pub spin_back : (k x : ℕ) → (m : ℕ) × (x ≡ spin mesh m (spin mesh k x))
   spin_back zero x = (0, refl)
   spin_back (suc k) x =
@@ -120,9 +115,9 @@ module _ (mesh : HalfEdges) (laws : IsQuadManifold mesh) where
       home : (m y : ℕ) → spin mesh m y ≡ spin mesh (suc (suc (suc m))) (mesh.next y)
       home m y = cc (
         laws.four_sides y,
-        spin_next m (mesh.next (mesh.next (mesh.next y))),
-        spin_next m (mesh.next (mesh.next y)),
-        spin_next m (mesh.next y),
+        spin_next laws m (mesh.next (mesh.next (mesh.next y))),
+        spin_next laws m (mesh.next (mesh.next y)),
+        spin_next laws m (mesh.next y),
       )
 
   pub spin_join : (m l y : ℕ) → (n : ℕ) × (spin mesh m (spin mesh l y) ≡ spin mesh n y)

@@ -1,7 +1,7 @@
 -- Four faces round a vertex, told by turns and by counting the darts that leave it.
 use Rattle.std.proofs.Common.{◌≡◌, ◌⊎◌, ℕ, zero, suc, ◌<◌, ◌≤◌, Some, sym, ◌∙◌, ap, refl, inl, inr, arith}
-use Rattle.std.proofs.{lemmas.Bool.cases_eq, lemmas.Option.same_Some}
-use Rattle.def_mesh.specs.HalfEdges.{HalfEdges, AreTurned, Turns, IsQuadManifold}
+use Rattle.std.proofs.{lemmas.Bool.cases_eq, lemmas.Bool.cases_lt}
+use Rattle.def_mesh.specs.HalfEdges.{HalfEdges, Turns, IsQuadManifold}
 use Rattle.def_cut.specs.{Cuts.IsCross, Cuts.HasCross, Steps.or_zero}
 use Rattle.cut_laws.proofs.{Folds.prev_three, Folds.turn_from, Folds.turn_low, Folds.turn_same, Pigeon.apart_if}
 
@@ -32,208 +32,184 @@ abbrev pub turned : (mesh : HalfEdges) (d n : ℕ) → ℕ
 turned mesh d zero = d
 turned mesh d (suc n) = or_zero (mesh.twin (mesh.prev (turned mesh d n)))
 
--- The four of a cross.
+-- The four of a cross, again and again.
 abbrev pub of_four : (a b c d k : ℕ) → ℕ
 of_four a b c d zero = a
 of_four a b c d (suc zero) = b
 of_four a b c d (suc (suc zero)) = c
-of_four a b c d (suc (suc (suc k))) = d
+of_four a b c d (suc (suc (suc zero))) = d
+of_four a b c d (suc (suc (suc (suc k)))) = of_four a b c d k
 
-module _ (mesh : HalfEdges) (laws : IsQuadManifold mesh) where
+module _ {mesh : HalfEdges} (laws : IsQuadManifold mesh) where
   -- A turn leads to another dart.
   pub no_fix : (d : ℕ) → d < mesh.count → mesh.twin (mesh.prev d) ≡ Some d → ⊥
   no_fix d l t =
       let ends = laws.twin_ends _ d (laws.prev_low d l) t in
-      (laws.corners_differ _ (laws.next_low d l)).1 (cc (prev_three mesh laws d))
+      (laws.corners_differ _ (laws.next_low d l)).1 (cc (prev_three laws d))
 
-  module _ (v : ℕ) (round : IsRound mesh v) (d : ℕ) (leaves : Leaves mesh v d) where
-    turned_leaves : (n : ℕ) → Leaves mesh v (turned mesh d n)
-    turned_leaves zero = leaves
-    turned_leaves (suc n) =
-        let x = turned mesh d n in
-        let l = turned_leaves n in
-        let t = round x l.low l.at in
-        let is : Leaves mesh v t.0 =
-        record { low = turn_low mesh laws x t.0 l.low t.1; at = turn_from mesh laws x t.0 l.low t.1 ∙ l.at } in
-        rw (← ap or_zero (sym t.1)) is
+  turn_leaves : {v x y : ℕ} → Leaves mesh v x → mesh.twin (mesh.prev x) ≡ Some y → Leaves mesh v y
+  turn_leaves {v} {x} {y} l is = record { low = turn_low laws x y l.low is; at = turn_from laws x y l.low is ∙ l.at }
 
-    turned_is : (n : ℕ) → mesh.twin (mesh.prev (turned mesh d n)) ≡ Some (turned mesh d (suc n))
-    turned_is n = let l = turned_leaves n in let t = round (turned mesh d n) l.low l.at in
-        t.1 ∙ ap Some (ap or_zero (sym t.1))
-
-    turned_same : (i j : ℕ) → turned mesh d (suc i) ≡ turned mesh d (suc j) → turned mesh d i ≡ turned mesh d j
-    turned_same i j e = turn_same mesh laws (turned mesh d i) (turned mesh d j)
-        (turned_leaves i).low (turned_leaves j).low (turned_is i) (turned_is j ∙ ap Some (sym e))
+  -- Darts round v, each the one before turned by one face.
+  module _ {v : ℕ} {g : ℕ → ℕ} (first : Leaves mesh v (g 0))
+      (is : (n : ℕ) → mesh.twin (mesh.prev (g n)) ≡ Some (g (suc n))) where
+    all_leave : (n : ℕ) → Leaves mesh v (g n)
+    all_leave zero = first
+    all_leave (suc n) = turn_leaves (all_leave n) (is n)
 
     -- Where p + 1 turns lead back, all darts that leave v are among them.
-    among : (p : ℕ) → turned mesh d (suc p) ≡ d → (n x : ℕ) → Turns mesh d x n → (i : ℕ) × (i < suc p)
-        × (turned mesh d i ≡ x)
+    among : (p : ℕ) → g (suc p) ≡ g 0 → (n x : ℕ) → Turns mesh (g 0) x n → (i : ℕ) × (i < suc p) × (g i ≡ x)
     among p back zero x t = (0, omega arith, t)
     among p back (suc n) x t =
         let (i, l, e) = among p back n t.0 t.1 in
         elim t.3 [
           | inl r ↦
-              let is : turned mesh d (suc i) ≡ x =
-              same_Some (turned mesh d (suc i)) x (sym (turned_is i) ∙ (ap (λ z. mesh.twin (mesh.prev z)) e ∙ r)) in
+              let here : g (suc i) ≡ x = cc (is i, r) in
               elim (cases_eq i p) [
-                | inl s ↦ (0, omega arith, sym back ∙ (ap (λ k. turned mesh d (suc k)) (sym s) ∙ is))
-                | inr ne ↦ (suc i, omega arith, is)
+                | inl s ↦ (0, omega arith, sym back ∙ (ap (λ k. g (suc k)) (sym s) ∙ here))
+                | inr ne ↦ (suc i, omega arith, here)
               ]
           | inr r ↦ back_to i l t.2 (r ∙ ap Some (sym e))
         ]
       where
-        to_it : (i : ℕ) → x < mesh.count → mesh.twin (mesh.prev x) ≡ Some (turned mesh d (suc i)) → turned mesh d i ≡ x
-        to_it i lx r = turn_same mesh laws _ x (turned_leaves i).low lx (turned_is i) r
+        back_to : (i : ℕ) → i < suc p → x < mesh.count → mesh.twin (mesh.prev x) ≡ Some (g i)
+            → (i : ℕ) × (i < suc p) × (g i ≡ x)
+        back_to zero l lx r =
+            (p, omega arith, turn_same laws (g p) x (all_leave p).low lx (is p) (r ∙ ap Some (sym back)))
+        back_to (suc i) l lx r = (i, omega arith, turn_same laws (g i) x (all_leave i).low lx (is i) r)
 
-        back_to : (i : ℕ) → i < suc p → x < mesh.count → mesh.twin (mesh.prev x) ≡ Some (turned mesh d i)
-            → (i : ℕ) × (i < suc p) × (turned mesh d i ≡ x)
-        back_to zero l lx r = (p, omega arith, to_it p lx (cc))
-        back_to (suc i) l lx r = (i, omega arith, to_it i lx r)
+    all_among : (p : ℕ) → g (suc p) ≡ g 0 → AreAll mesh v (suc p) g
+    all_among p back x l =
+        let t = laws.one_fan (g 0) x first.low l.low (first.at ∙ sym l.at) in
+        among p back t.0 x t.1
 
-    all_turned : (p : ℕ) → turned mesh d (suc p) ≡ d → AreAll mesh v (suc p) (turned mesh d)
-    all_turned p back x l = let t : (n : ℕ) × Turns mesh d x n =
-        laws.one_fan d x leaves.low l.low (cc) in among p back t.0 x t.1
+    -- Two of them that are equal lead back.
+    down : (i j : ℕ) → i < j → g i ≡ g j → (k : ℕ) × (g (suc k) ≡ g 0) × (suc k ≤ j)
+    down zero (suc j) l e = (j, sym e, omega arith)
+    down (suc i) (suc j) l e =
+        let r = down i j (omega arith)
+        (turn_same laws (g i) (g j) (all_leave i).low (all_leave j).low (is i) (is j ∙ ap Some (sym e))) in
+        (r.0, r.1, omega arith)
+    down _ zero l e = absurd (omega arith)
+
+  module _ (v : ℕ) (round : IsRound mesh v) (d : ℕ) (leaves : Leaves mesh v d) where
+    turn_is : {x : ℕ} → Leaves mesh v x → mesh.twin (mesh.prev x) ≡ Some (or_zero (mesh.twin (mesh.prev x)))
+    turn_is {x} l = let t = round x l.low l.at in t.1 ∙ ap Some (ap or_zero (sym t.1))
+
+    turned_leaves : (n : ℕ) → Leaves mesh v (turned mesh d n)
+    turned_leaves zero = leaves
+    turned_leaves (suc n) = let l = turned_leaves n in turn_leaves l (turn_is l)
+
+    turned_is : (n : ℕ) → mesh.twin (mesh.prev (turned mesh d n)) ≡ Some (turned mesh d (suc n))
+    turned_is n = turn_is (turned_leaves n)
 
     -- With four faces all round, the fourth turn is the first that leads back.
     pub four_cross : HasFan mesh v 4 → HasCross mesh d
-    four_cross fan = elim (cases_eq (turned mesh d 2) d) [
-      | inl two ↦ absurd (let h = fan.most 2 _ (all_turned 1 two) in omega arith)
-      | inr two ↦ elim (cases_eq (turned mesh d 3) d) [
-        | inl three ↦ absurd (let h = fan.most 3 _ (all_turned 2 three) in omega arith)
-        | inr three ↦ elim (cases_eq (turned mesh d 4) d) [
-          | inl four ↦ (
-            turned mesh d 1,
-            turned mesh d 2,
-            turned mesh d 3,
-            record {
-              first = turned_is 0;
-              second = turned_is 1;
-              third = turned_is 2;
-              last = cc (turned_is 3);
-              apart = λ e. two (sym e);
-            },
-          )
-          | inr four ↦ absurd (let h = fan.least 5 _ (record {
+    four_cross fan = (
+      turned mesh d 1,
+      turned mesh d 2,
+      turned mesh d 3,
+      record {
+        first = turned_is 0;
+        second = turned_is 1;
+        third = turned_is 2;
+        last = turned_is 3 ∙ ap Some four;
+        apart = λ e. later 1 (omega arith) (sym e);
+      },
+    )
+      where
+        later : (p : ℕ) → p < 3 → turned mesh d (suc p) ≡ d → ⊥
+        later p l e = let h = fan.most (suc p) _ (all_among {g = turned mesh d} leaves turned_is p e) in omega arith
+
+        back : (k : ℕ) → turned mesh d (suc k) ≡ d → suc k ≤ 4 → turned mesh d 4 ≡ d
+        back k e l = elim (cases_lt k 3) [
+          | inl low ↦ absurd (later k low e)
+          | inr high ↦ let three : k ≡ 3 = omega arith in rw three at e
+        ]
+
+        four : turned mesh d 4 ≡ d
+        four = elim (cases_eq (turned mesh d 4) d) [
+          | inl e ↦ e
+          | inr ne ↦ absurd (let h = fan.least 5 _ (record {
             each = λ j l. turned_leaves j;
-            apart = apart_if 5 _
-                (λ i j l lj e. let r = down i j l e in early two three four r.0 r.1 (omega (arith, r.2)));
+            apart = apart_if 5 _ (λ i j l lj e. let r = down {g = turned mesh d} leaves turned_is i j l e in
+                ne (back r.0 r.1 (omega arith)));
           }) in omega arith)
         ]
-      ]
-    ]
-      where
-        down : (i j : ℕ) → i < j → turned mesh d i ≡ turned mesh d j → (k : ℕ) × (turned mesh d (suc k) ≡ d)
-            × (suc k ≤ j)
-        down zero (suc j) l e = (j, sym e, omega arith)
-        down (suc i) (suc j) l e = let r : (k : ℕ) × (turned mesh d (suc k) ≡ d) × (suc k ≤ j) =
-            down i j (omega arith) (turned_same i j e) in (r.0, r.1, omega arith)
-        down _ zero l e = absurd (omega arith)
-
-        early : (turned mesh d 2 ≡ d → ⊥) → (turned mesh d 3 ≡ d → ⊥) → (turned mesh d 4 ≡ d → ⊥) → (k : ℕ)
-            → turned mesh d (suc k) ≡ d → suc k ≤ 4 → ⊥
-        early two three four zero e l = no_fix d leaves.low (cc (turned_is 0))
-        early two three four (suc zero) e l = two e
-        early two three four (suc (suc zero)) e l = three e
-        early two three four (suc (suc (suc zero))) e l = four e
-        early two three four (suc (suc (suc (suc k)))) e l = omega arith
 
   -- And the other way round: a cross has four darts, all with twins on both sides.
   module _ (d a b c : ℕ) (low : d < mesh.count) (cross : IsCross mesh d a b c) where
+    cross_is : (n : ℕ) → mesh.twin (mesh.prev (of_four d a b c n)) ≡ Some (of_four d a b c (suc n))
+    cross_is zero = cross.first
+    cross_is (suc zero) = cross.second
+    cross_is (suc (suc zero)) = cross.third
+    cross_is (suc (suc (suc zero))) = cross.last
+    cross_is (suc (suc (suc (suc n)))) = cross_is n
+
+    first_leaves : Leaves mesh (mesh.from d) (of_four d a b c 0)
+    first_leaves = record { low = low; at = refl }
+
+    leave : (n : ℕ) → Leaves mesh (mesh.from d) (of_four d a b c n)
+    leave = all_leave {g = of_four d a b c} first_leaves cross_is
+
     pub low_a : a < mesh.count
-    low_a = turn_low mesh laws d a low cross.first
+    low_a = (leave 1).low
 
     pub low_b : b < mesh.count
-    low_b = turn_low mesh laws a b low_a cross.second
+    low_b = (leave 2).low
 
     pub low_c : c < mesh.count
-    low_c = turn_low mesh laws b c low_b cross.third
+    low_c = (leave 3).low
 
     pub at_a : mesh.from a ≡ mesh.from d
-    at_a = turn_from mesh laws d a low cross.first
+    at_a = (leave 1).at
 
     pub at_b : mesh.from b ≡ mesh.from d
-    at_b = turn_from mesh laws a b low_a cross.second ∙ at_a
+    at_b = (leave 2).at
 
     pub at_c : mesh.from c ≡ mesh.from d
-    at_c = turn_from mesh laws b c low_b cross.third ∙ at_b
+    at_c = (leave 3).at
 
     -- Each dart of the vertex is one of the four.
-    pub one_of_four : (x : ℕ) → Leaves mesh (mesh.from d) x → (x ≡ d) ⊎ ((x ≡ a) ⊎ ((x ≡ b) ⊎ (x ≡ c)))
-    one_of_four x l = let t = laws.one_fan d x low l.low (sym l.at) in along t.0 x t.1
-      where
-        along : (n x : ℕ) → Turns mesh d x n → (x ≡ d) ⊎ ((x ≡ a) ⊎ ((x ≡ b) ⊎ (x ≡ c)))
-        along zero x t = inl (sym t)
-        along (suc n) x t = by_step t.0 t.2 (along n t.0 t.1) t.3
-          where
-            to : {y z : ℕ} → mesh.twin (mesh.prev y) ≡ Some z → {s : ℕ} → s ≡ y → mesh.twin (mesh.prev s) ≡ Some x
-                → x ≡ z
-            to {z} is e r = cc
-
-            of : (y z : ℕ) → y < mesh.count → x < mesh.count → mesh.twin (mesh.prev y) ≡ Some z → (s : ℕ) → s ≡ z
-                → mesh.twin (mesh.prev x) ≡ Some s → x ≡ y
-            of y z ly lx is s e r = turn_same mesh laws x y lx ly (cc) is
-
-            by_step : (y : ℕ) → x < mesh.count → (y ≡ d) ⊎ ((y ≡ a) ⊎ ((y ≡ b) ⊎ (y ≡ c))) → AreTurned mesh y x
-                → (x ≡ d) ⊎ ((x ≡ a) ⊎ ((x ≡ b) ⊎ (x ≡ c)))
-            by_step y lx (inl e) (inl r) = inr (inl (to cross.first e r))
-            by_step y lx (inr (inl e)) (inl r) = inr (inr (inl (to cross.second e r)))
-            by_step y lx (inr (inr (inl e))) (inl r) = inr (inr (inr (to cross.third e r)))
-            by_step y lx (inr (inr (inr e))) (inl r) = inl (to cross.last e r)
-            by_step y lx (inl e) (inr r) = inr (inr (inr (of c d low_c lx cross.last y e r)))
-            by_step y lx (inr (inl e)) (inr r) = inl (of d a low lx cross.first y e r)
-            by_step y lx (inr (inr (inl e))) (inr r) = inr (inl (of a b low_a lx cross.second y e r))
-            by_step y lx (inr (inr (inr e))) (inr r) = inr (inr (inl (of b c low_b lx cross.third y e r)))
-
     pub four_all : AreAll mesh (mesh.from d) 4 (of_four d a b c)
-    four_all x l = elim (one_of_four x l) [
-      | inl e ↦ (0, omega arith, sym e)
-      | inr (inl e) ↦ (1, omega arith, sym e)
-      | inr (inr (inl e)) ↦ (2, omega arith, sym e)
-      | inr (inr (inr e)) ↦ (3, omega arith, sym e)
-    ]
+    four_all = all_among {g = of_four d a b c} first_leaves cross_is 3 refl
+
+    pub one_of_four : (x : ℕ) → Leaves mesh (mesh.from d) x → (x ≡ d) ⊎ ((x ≡ a) ⊎ ((x ≡ b) ⊎ (x ≡ c)))
+    one_of_four x l = let (j, lj, e) = four_all x l in by_place j lj e
+      where
+        by_place : (j : ℕ) → j < 4 → of_four d a b c j ≡ x → (x ≡ d) ⊎ ((x ≡ a) ⊎ ((x ≡ b) ⊎ (x ≡ c)))
+        by_place zero l e = inl (sym e)
+        by_place (suc zero) l e = inr (inl (sym e))
+        by_place (suc (suc zero)) l e = inr (inr (inl (sym e)))
+        by_place (suc (suc (suc zero))) l e = inr (inr (inr (sym e)))
+        by_place (suc (suc (suc (suc j)))) l e = absurd (omega arith)
 
     -- They differ.
-    step_apart : {x y : ℕ} → x < mesh.count → mesh.twin (mesh.prev x) ≡ Some y → x ≡ y → ⊥
-    step_apart {x} l is e = no_fix x l (cc)
+    pub four_apart : (i j : ℕ) → i < 4 → j < 4 → of_four d a b c i ≡ of_four d a b c j → i ≡ j
+    four_apart = apart_if 4 (of_four d a b c) (λ i j l lj e.
+        let r = down {g = of_four d a b c} first_leaves cross_is i j l e in
+        back r.0 r.1 (omega arith))
+      where
+        back : (k : ℕ) → of_four d a b c (suc k) ≡ d → suc k < 4 → ⊥
+        back zero e l = no_fix d low (cross.first ∙ ap Some e)
+        back (suc zero) e l = cross.apart (sym e)
+        back (suc (suc zero)) e l = no_fix c low_c (cross.last ∙ ap Some (sym e))
+        back (suc (suc (suc k))) e l = omega arith
 
     pub a_c : a ≡ c → ⊥
-    a_c e = cross.apart (turn_same mesh laws d b low low_b cross.first (cc))
-
-    pub four_apart : (i j : ℕ) → i < 4 → j < 4 → of_four d a b c i ≡ of_four d a b c j → i ≡ j
-    four_apart = apart_if 4 (of_four d a b c) later
-      where
-        later : (i j : ℕ) → i < j → j < 4 → of_four d a b c i ≡ of_four d a b c j → ⊥
-        later zero (suc zero) l lj e = step_apart low cross.first e
-        later zero (suc (suc zero)) l lj e = cross.apart e
-        later zero (suc (suc (suc zero))) l lj e = step_apart low_c cross.last (sym e)
-        later (suc zero) (suc (suc zero)) l lj e = step_apart low_a cross.second e
-        later (suc zero) (suc (suc (suc zero))) l lj e = a_c e
-        later (suc (suc zero)) (suc (suc (suc zero))) l lj e = step_apart low_b cross.third e
-        later _ _ l lj e = omega arith
+    a_c e = let same = four_apart 1 3 (omega arith) (omega arith) e in omega arith
 
     pub four_some : AreSome mesh (mesh.from d) 4 (of_four d a b c)
-    four_some = record { each = each; apart = four_apart }
-      where
-        each : (j : ℕ) → j < 4 → Leaves mesh (mesh.from d) (of_four d a b c j)
-        each zero l = record { low = low; at = refl }
-        each (suc zero) l = record { low = low_a; at = at_a }
-        each (suc (suc zero)) l = record { low = low_b; at = at_b }
-        each (suc (suc (suc j))) l = record { low = low_c; at = at_c }
+    four_some = record { each = λ j l. leave j; apart = four_apart }
 
     -- So each edge at the vertex has two darts.
     pub both_twins : (x : ℕ) → Leaves mesh (mesh.from d) x → ((t : ℕ) × (mesh.twin (mesh.prev x) ≡ Some t))
         × ((t : ℕ) × (mesh.twin x ≡ Some t))
     both_twins x l =
-        elim (one_of_four x l) [
-          | inl e ↦ of d a c low_c cross.last cross.first e
-          | inr (inl e) ↦ of a b d low cross.first cross.second e
-          | inr (inr (inl e)) ↦ of b c a low_a cross.second cross.third e
-          | inr (inr (inr e)) ↦ of c d b low_b cross.third cross.last e
-        ]
-      where
-        of : (y z w : ℕ) → w < mesh.count → mesh.twin (mesh.prev w) ≡ Some y → mesh.twin (mesh.prev y) ≡ Some z → x ≡ y
-            → ((t : ℕ) × (mesh.twin (mesh.prev x) ≡ Some t)) × ((t : ℕ) × (mesh.twin x ≡ Some t))
-        of y z w lw came is e = (
-          (z, ap (λ k. mesh.twin (mesh.prev k)) e ∙ is),
-          (mesh.prev w, ap mesh.twin e ∙ laws.twin_twin (mesh.prev w) y (laws.prev_low w lw) came),
+        let (j, lj, e) = four_all x l in
+        let before = of_four d a b c (suc (suc (suc j))) in
+        let back = laws.twin_twin (mesh.prev before) _ (laws.prev_low _ (leave (suc (suc (suc j)))).low)
+        (cross_is (suc (suc (suc j)))) in (
+          (of_four d a b c (suc j), ap (λ y. mesh.twin (mesh.prev y)) (sym e) ∙ cross_is j),
+          (mesh.prev before, ap mesh.twin (sym e) ∙ back),
         )

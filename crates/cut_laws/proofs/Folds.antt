@@ -1,12 +1,10 @@
 -- Small facts on the half edges of a manifold.
-use Rattle.std.proofs.Common.{◌≡◌, ℕ, ◌<◌, Some, sym, ◌⊎◌, zero, suc, inl, inr, ◌+◌, ◌*◌, ◌-◌, ◌/◌, ◌≤◌, false, ◌∙◌, ap}
-use Rattle.std.proofs.Common.{refl, true≢false, arith}
-use Rattle.std.proofs.{lemmas.Bool.cases_eq, lemmas.Option.same_Some}
+use Rattle.std.proofs.Common.{◌≡◌, ℕ, ◌<◌, Some, sym, ◌⊎◌, zero, suc, inl, inr, ◌-◌, ◌/◌, false, ◌∙◌, ap, refl, arith}
+use Rattle.{std.proofs.lemmas.Bool.cases_eq, cut_laws.proofs.Pigeon.same_if}
 use Rattle.def_mesh.specs.HalfEdges.{HalfEdges, AreTurned, Turns, IsQuadManifold}
 use Rattle.def_cut.specs.{Cuts.Cut, Cuts.IsUncut, Cuts.IsCut, Grids.Cells, Grids.IsGrid, Steps.spin, Laws.NoFoldLaw}
-use Rattle.cut_laws.proofs.Pigeon.{same_if}
 
-module _ (mesh : HalfEdges) (laws : IsQuadManifold mesh) where
+module _ {mesh : HalfEdges} (laws : IsQuadManifold mesh) where
   -- The dart before d is the third after it.
   pub prev_three : (d : ℕ) → mesh.prev d ≡ mesh.next (mesh.next (mesh.next d))
   prev_three d = cc (laws.four_sides (mesh.prev d), laws.next_prev d)
@@ -42,6 +40,11 @@ module _ (mesh : HalfEdges) (laws : IsQuadManifold mesh) where
       → mesh.twin (mesh.prev e) ≡ Some t → d ≡ e
   turn_same d e {t} ld le a b = prev_same d e (twin_same _ _ t (laws.prev_low d ld) (laws.prev_low e le) a b)
 
+  -- A step after others round a face is a step before them.
+  pub spin_next : (k x : ℕ) → spin mesh k (mesh.next x) ≡ mesh.next (spin mesh k x)
+  spin_next zero x = refl
+  spin_next (suc k) x = ap mesh.next (spin_next k x)
+
   -- Where two turns lead back, the fan has two darts.
   pub two_darts : (d e : ℕ) → d < mesh.count → e < mesh.count → mesh.twin (mesh.prev d) ≡ Some e
       → mesh.twin (mesh.prev e) ≡ Some d → (n x : ℕ) → Turns mesh d x n → (x ≡ d) ⊎ (x ≡ e)
@@ -54,280 +57,202 @@ module _ (mesh : HalfEdges) (laws : IsQuadManifold mesh) where
       by_before y lx (inr s) (inl r) = inl (cc)
       by_before y lx (inr s) (inr r) = inl (turn_same x d lx ld (cc) one)
 
--- No grid of a full cut is folded onto itself: such a fold has a centre, which would be a face, an edge or a vertex
--- at which no four faces meet.
+-- Two grids are one.
+pub record AreOne (w h v g : ℕ) (cell tile : Cells) : Type 0 where
+  pub wide : w ≡ v
+  pub tall : h ≡ g
+  pub cells : (i j : ℕ) → i < w → j < h → cell i j ≡ tile i j
 
--- x is the k-th side of a cell of a grid, where k may be any number.
-pub record At (mesh : HalfEdges) (w h : ℕ) (cell : Cells) (k x : ℕ) : Type 0 where
-  pub a : ℕ
-  pub b : ℕ
-  pub a_low : a < w
-  pub b_low : b < h
-  pub is : x ≡ spin mesh k (cell a b)
+-- A grid, turned by a quarter and as it is.
 
--- The side x of a grid has a twin, which is a side of a grid too.
-abbrev pub HasOther : (mesh : HalfEdges) (w h : ℕ) (cell : Cells) (k x : ℕ) → Type 0
-HasOther mesh w h cell k x = (t : ℕ) × (mesh.twin x ≡ Some t) × At mesh w h cell (suc (suc k)) t
+-- The cells of a grid turned by a quarter: what was its east side is its south side.
+abbrev pub quarter : (mesh : HalfEdges) (w : ℕ) (cell : Cells) → Cells
+quarter mesh w cell i j = mesh.next (cell (w - suc j) i)
 
-module _ {mesh : HalfEdges} {w h : ℕ} {cell : Cells} where
-  -- A side of a cell is that of another number too, where both lead to one dart.
-  as_side : {k m x y : ℕ} (at : At mesh w h cell k x) → y ≡ spin mesh m (cell at.a at.b) → At mesh w h cell m y
-  as_side at is = record { a = at.a; b = at.b; a_low = at.a_low; b_low = at.b_low; is = is }
+module _ {mesh : HalfEdges} (laws : IsQuadManifold mesh) {cut : Cut} (full : IsCut mesh cut) where
+  module _ {w h : ℕ} {cell : Cells} (grid : IsGrid mesh cut w h cell) where
+    -- The links from the other side.
+    pub west : (i j : ℕ) → suc i < w → j < h → mesh.twin (mesh.prev (cell (suc i) j)) ≡ Some (mesh.next (cell i j))
+    west i j li lj = laws.twin_twin _ _ (laws.next_low _ (grid.low i j (omega arith) lj)) (grid.east i j li lj)
 
-  pub one_more : {k x : ℕ} → At mesh w h cell k x → At mesh w h cell (suc k) (mesh.next x)
-  one_more at = as_side at (ap mesh.next at.is)
+    pub north_low : (i j : ℕ) → i < w → j < h → mesh.next (mesh.next (cell i j)) < mesh.count
+    north_low i j li lj = laws.next_low _ (laws.next_low _ (grid.low i j li lj))
 
-  pub four_less : IsQuadManifold mesh → {k x : ℕ} → At mesh w h cell (suc (suc (suc (suc k)))) x → At mesh w h cell k x
-  four_less laws {k} at = as_side at (at.is ∙ laws.four_sides _)
+    pub south : (i j : ℕ) → i < w → suc j < h → mesh.twin (cell i (suc j)) ≡ Some (mesh.next (mesh.next (cell i j)))
+    south i j li lj = laws.twin_twin _ _ (north_low i j li (omega arith)) (grid.north i j li lj)
 
-  four_more : IsQuadManifold mesh → {k x : ℕ} → At mesh w h cell k x → At mesh w h cell (suc (suc (suc (suc k)))) x
-  four_more laws {k} at = as_side at (cc (laws.four_sides _))
+    pub west_open : (i j : ℕ) → suc i < w → j < h → cut (mesh.prev (cell (suc i) j)) ≡ false
+    west_open i j li lj = full.alike _ _
+        (laws.next_low _ (grid.low i j (omega arith) lj)) (grid.east i j li lj) ∙ grid.east_open i j li lj
 
-  moved : {k x y : ℕ} → x ≡ y → At mesh w h cell k x → At mesh w h cell k y
-  moved e at = rw e at at
+    pub south_open : (i j : ℕ) → i < w → suc j < h → cut (cell i (suc j)) ≡ false
+    south_open i j li lj = full.alike _ _ (north_low i j li (omega arith))
+        (grid.north i j li lj) ∙ grid.north_open i j li lj
 
-module _ (mesh : HalfEdges) (laws : IsQuadManifold mesh) (cut : Cut) (full : IsCut mesh cut) (w h : ℕ) (cell : Cells)
-    (grid : IsGrid mesh cut w h cell) where
-  -- The links from the other side.
-  pub west : (i j : ℕ) → suc i < w → j < h → mesh.twin (mesh.prev (cell (suc i) j)) ≡ Some (mesh.next (cell i j))
-  west i j li lj = laws.twin_twin _ _ (laws.next_low _ (grid.low i j (omega arith) lj)) (grid.east i j li lj)
+    -- A grid turned by a quarter is a grid.
+    pub quarter_grid : IsGrid mesh cut h w (quarter mesh w cell)
+    quarter_grid = record {
+      wide = grid.tall;
+      tall = grid.wide;
+      low = λ i j li lj. laws.next_low _ (grid.low (w - suc j) i (omega arith) li);
+      east = λ i j li lj. rw laws.prev_next (grid.north (w - suc j) i (omega arith) li);
+      north = λ i j li lj. let e : w - suc j ≡ suc (w - suc (suc j)) = omega arith in
+          cc (e, prev_three laws (cell (w - suc j) i), west (w - suc (suc j)) i (omega arith) li);
+      east_open = λ i j li lj. grid.north_open (w - suc j) i (omega arith) li;
+      north_open = λ i j li lj. let e : w - suc j ≡ suc (w - suc (suc j)) = omega arith in
+          cc (e, prev_three laws (cell (w - suc j) i), west_open (w - suc (suc j)) i (omega arith) li);
+      south_shut = λ i li. grid.east_shut (w - 1) i (omega (arith, grid.wide)) li;
+      west_shut = λ j lj. rw laws.prev_next (grid.south_shut (w - suc j) (omega arith));
+      east_shut = λ i j e lj. grid.north_shut (w - suc j) i (omega arith) e;
+      north_shut = λ i j li e. let z : w - suc j ≡ 0 = omega arith in
+          cc (z, prev_three laws (cell 0 i), grid.west_shut i li);
+    }
 
-  pub north_low : (i j : ℕ) → i < w → j < h → mesh.next (mesh.next (cell i j)) < mesh.count
-  north_low i j li lj = laws.next_low _ (laws.next_low _ (grid.low i j li lj))
+  -- A cell that two grids have in common stands at one place in both, and both begin with one cell.
+  common_west : {w h v g : ℕ} {cell tile : Cells} → IsGrid mesh cut w h cell → IsGrid mesh cut v g tile
+      → (i a : ℕ) {j b : ℕ} → i < w → a < v → j < h → b < g → cell i j ≡ tile a b
+      → (i ≡ a) × (cell 0 j ≡ tile 0 b)
+  common_west one two zero zero li la lj lb e = (refl, e)
+  common_west one two (suc i) (suc a) {j} {b} li la lj lb e =
+      let r = common_west one two i a (omega arith) (omega arith) lj lb
+      (next_same laws _ _ (cc (west one i j li lj, west two a b la lb))) in
+      (ap suc r.0, r.1)
+  common_west one two zero (suc a) {j} {b} li la lj lb e =
+      absurd (cc (one.west_shut j lj, west_open two a b la lb))
+  common_west one two (suc i) zero {j} {b} li la lj lb e =
+      absurd (cc (two.west_shut b lb, west_open one i j li lj))
 
-  pub south : (i j : ℕ) → i < w → suc j < h → mesh.twin (cell i (suc j)) ≡ Some (mesh.next (mesh.next (cell i j)))
-  south i j li lj = laws.twin_twin _ _ (north_low i j li (omega arith)) (grid.north i j li lj)
+  module _ {w h v g : ℕ} {cell tile : Cells} (one : IsGrid mesh cut w h cell) (two : IsGrid mesh cut v g tile) where
+    common_south : {i a : ℕ} (j b : ℕ) → i < w → a < v → j < h → b < g → cell i j ≡ tile a b
+        → (j ≡ b) × (cell i 0 ≡ tile a 0)
+    common_south {i} {a} j b li la lj lb e =
+        let x : w - suc (w - suc i) ≡ i = omega arith in
+        let y : v - suc (v - suc a) ≡ a = omega arith in
+        let r = common_west (quarter_grid one) (quarter_grid two) j b {j = w - suc i} {b = v - suc a} lj lb
+        (omega arith) (omega arith) (cc (x, y)) in
+        (r.0, next_same laws _ _ (cc (x, y, r.1)))
 
-  pub west_open : (i j : ℕ) → suc i < w → j < h → cut (mesh.prev (cell (suc i) j)) ≡ false
-  west_open i j li lj = full.alike _ _
-      (laws.next_low _ (grid.low i j (omega arith) lj)) (grid.east i j li lj) ∙ grid.east_open i j li lj
+    common : {i a j b : ℕ} → i < w → a < v → j < h → b < g → cell i j ≡ tile a b
+        → (i ≡ a) × (j ≡ b) × (cell 0 0 ≡ tile 0 0)
+    common {i} {a} {j} {b} li la lj lb e =
+        let x = common_west one two i a li la lj lb e in
+        let y = common_south j b one.wide two.wide lj lb x.1 in
+        (x.0, y.0, y.1)
 
-  pub south_open : (i j : ℕ) → i < w → suc j < h → cut (cell i (suc j)) ≡ false
-  south_open i j li lj = full.alike _ _ (north_low i j li (omega arith))
-      (grid.north i j li lj) ∙ grid.north_open i j li lj
+    -- Grids with one first cell have the same cells.
+    cells_east : (cell 0 0 ≡ tile 0 0) → (i : ℕ) → i < w → i < v → cell i 0 ≡ tile i 0
+    cells_east e zero lw lv = e
+    cells_east e (suc i) lw lv = prev_same laws _ _
+        (cc (one.east i 0 lw one.tall, cells_east e i (omega arith) (omega arith), two.east i 0 lv two.tall))
 
-  -- Over an edge of a cell that is not cut lies another cell.
-  over : (k a b x : ℕ) → a < w → b < h → x ≡ spin mesh k (cell a b) → cut x ≡ false → HasOther mesh w h cell k x
-  over zero a zero x la lb e off = absurd (cc (grid.south_shut a la))
-  over zero a (suc b) x la lb e off = (
-    mesh.next (mesh.next (cell a b)),
-    cc (south a b la lb),
-    record { a = a; b = b; a_low = la; b_low = omega arith; is = refl },
-  )
-  over (suc zero) a b x la lb e off = elim (cases_eq (suc a) w) [
-    | inl z ↦ absurd (cc (grid.east_shut a b z lb))
-    | inr ne ↦ let l : suc a < w = omega arith in (
-      mesh.prev (cell (suc a) b),
-      ap mesh.twin e ∙ grid.east a b l lb,
-      record { a = suc a; b = b; a_low = l; b_low = lb; is = prev_three mesh laws (cell (suc a) b) },
-    )
-  ]
-  over (suc (suc zero)) a b x la lb e off = elim (cases_eq (suc b) h) [
-    | inl z ↦ absurd (cc (grid.north_shut a b la z))
-    | inr ne ↦ let l : suc b < h = omega arith in (
-      cell a (suc b),
-      ap mesh.twin e ∙ grid.north a b la l,
-      record { a = a; b = suc b; a_low = la; b_low = l; is = sym (laws.four_sides (cell a (suc b))) },
-    )
-  ]
-  over (suc (suc (suc zero))) zero b x la lb e off = absurd (cc (prev_three mesh laws (cell 0 b), grid.west_shut b lb))
-  over (suc (suc (suc zero))) (suc a) b x la lb e off = (
-    mesh.next (cell a b),
-    ap mesh.twin (e ∙ sym (prev_three mesh laws (cell (suc a) b))) ∙ west a b la lb,
-    record { a = a; b = b; a_low = omega arith; b_low = lb; is = sym (laws.four_sides (mesh.next (cell a b))) },
-  )
-  over (suc (suc (suc (suc k)))) a b x la lb e off =
-      let o = over k a b x la lb (e ∙ laws.four_sides (spin mesh k (cell a b))) off in
-      (o.0, o.1, four_more laws o.2)
+    cells_north : (i j : ℕ) → i < w → i < v → cell i 0 ≡ tile i 0 → j < h → j < g → cell i j ≡ tile i j
+    cells_north i zero lw lv e lh lg = e
+    cells_north i (suc j) lw lv e lh lg = cc
+        (one.north i j lw lh, cells_north i j lw lv e (omega arith) (omega arith), two.north i j lv lg)
 
-  -- The twin that is known is the one that was found.
-  pub cross_to : {k x t : ℕ} → At mesh w h cell k x → cut x ≡ false → mesh.twin x ≡ Some t
-      → At mesh w h cell (suc (suc k)) t
-  cross_to {k} {x} {t} at off is =
-      let o = over k at.a at.b x at.a_low at.b_low at.is off in
-      moved (same_Some o.0 t (sym o.1 ∙ is)) o.2
+    not_wider : cell 0 0 ≡ tile 0 0 → w < v → ⊥
+    not_wider e l =
+        let low : w - 1 < w = omega (arith, one.wide) in
+        cc (
+          one.east_shut (w - 1) 0 (omega arith) one.tall,
+          cells_east e (w - 1) low (omega arith),
+          two.east_open (w - 1) 0 (omega arith) two.tall,
+        )
 
-  -- What stands over one cell stands over its neighbours.
-  at_east : (k i j : ℕ) → suc i < w → j < h → At mesh w h cell k (cell i j) → At mesh w h cell k (cell (suc i) j)
-  at_east k i j li lj at =
-      let there = cross_to (one_more at) (grid.east_open i j li lj) (grid.east i j li lj) in
-      four_less laws (moved (laws.next_prev (cell (suc i) j)) (one_more there))
+  same_wide : {w h v g : ℕ} {cell tile : Cells} → IsGrid mesh cut w h cell → IsGrid mesh cut v g tile
+      → cell 0 0 ≡ tile 0 0 → w ≡ v
+  same_wide one two e = same_if (not_wider one two e) (not_wider two one (sym e))
 
-  at_north : (k i j : ℕ) → i < w → suc j < h → At mesh w h cell k (cell i j) → At mesh w h cell k (cell i (suc j))
-  at_north k i j li lj at =
-      four_less laws (cross_to (one_more (one_more at)) (grid.north_open i j li lj) (grid.north i j li lj))
+  -- They are one.
+  pub one_grid : {w h v g : ℕ} {cell tile : Cells} → IsGrid mesh cut w h cell → IsGrid mesh cut v g tile
+      → cell 0 0 ≡ tile 0 0 → AreOne w h v g cell tile
+  one_grid {w} {h} {v} {g} {cell} {tile} one two e =
+      let wide = same_wide one two e in
+      let last = cells_east one two e (w - 1) (omega (arith, one.wide)) (omega (arith, one.wide, wide)) in
+      let tall = same_wide (quarter_grid one) (quarter_grid two) (cc) in
+      record {
+        wide = wide;
+        tall = tall;
+        cells = λ i j li lj. let lv : i < v = omega (arith, wide) in
+            cells_north one two i j li lv (cells_east one two e i li lv) lj (omega (arith, tall));
+      }
 
-  at_west : (k i j : ℕ) → suc i < w → j < h → At mesh w h cell k (cell (suc i) j) → At mesh w h cell k (cell i j)
-  at_west k i j li lj at =
-      let here = moved (sym (prev_three mesh laws (cell (suc i) j))) (one_more (one_more (one_more at))) in
-      let there = four_less laws {k = suc k} (cross_to here (west_open i j li lj) (west i j li lj)) in
-      four_less laws (moved (laws.four_sides (cell i j)) (one_more (one_more (one_more there))))
+  module _ {w h : ℕ} {cell : Cells} (grid : IsGrid mesh cut w h cell) where
+    two_turns : (d e : ℕ) → d < mesh.count → mesh.twin (mesh.prev d) ≡ Some e → mesh.twin (mesh.prev e) ≡ Some d
+        → cut d ≡ false → cut (mesh.prev d) ≡ false → cut e ≡ false → cut (mesh.prev e) ≡ false → ⊥
+    two_turns d e ld one two off_d off_pd off_e off_pe =
+        let c = full.crossed d ld uncut in
+        let same : c.0 ≡ e = cc c.3.first in
+        c.3.apart (cc c.3.second)
+      where
+        off : (x : ℕ) → (x ≡ d) ⊎ (x ≡ e) → (cut x ≡ false) × (cut (mesh.prev x) ≡ false)
+        off x (inl s) = rw s (off_d, off_pd)
+        off x (inr s) = rw s (off_e, off_pe)
 
-  at_south : (k i j : ℕ) → i < w → suc j < h → At mesh w h cell k (cell i (suc j)) → At mesh w h cell k (cell i j)
-  at_south k i j li lj at =
-      let there = cross_to at (south_open i j li lj) (south i j li lj) in
-      four_less laws (moved (laws.four_sides (cell i j)) (one_more (one_more there)))
+        uncut : IsUncut mesh cut (mesh.from d)
+        uncut x lx s = let t = laws.one_fan d x ld lx (sym s) in
+            off x (two_darts laws d e ld (turn_low laws d e ld one) one two t.0 x t.1)
 
-  -- So it stands over each cell.
-  slide : (P : ℕ → Type 0) (n : ℕ) → ((i : ℕ) → suc i < n → (P i → P (suc i)) × (P (suc i) → P i)) → (i a : ℕ) → i < n
-      → a < n → P i → P a
-  slide P n step zero zero li la p = p
-  slide P n step zero (suc a) li la p = (step a la).0 (slide P n step zero a li (omega arith) p)
-  slide P n step (suc i) a li la p = slide P n step i a (omega arith) la ((step i li).1 p)
+    at_vertex : (i j : ℕ) → suc i < w → suc j < h → cell i j ≡ mesh.next (mesh.next (cell (suc i) (suc j))) → ⊥
+    at_vertex i j li lj e =
+        let d = cell (suc i) (suc j) in
+        let f = mesh.prev (cell (suc i) j) in
+        let before : mesh.prev d ≡ mesh.next (cell i j) = cc (prev_three laws d) in
+        let above = prev_three laws f ∙ ap (λ x. mesh.next (mesh.next x)) (laws.next_prev _) in
+        two_turns d f (grid.low _ _ li lj) (cc (grid.east i j li (omega arith))) (cc (grid.north _ j li lj))
+        (south_open grid _ j li lj) (cc (grid.east_open i j li (omega arith)))
+        (west_open grid i j li (omega arith)) (cc (grid.north_open _ j li lj))
 
-  pub carry : (k i j a b : ℕ) → i < w → j < h → a < w → b < h → At mesh w h cell k (cell i j)
-      → At mesh w h cell k (cell a b)
-  carry k i j a b li lj la lb at =
-      slide (λ y. At mesh w h cell k (cell a y)) h (λ y l. (at_north k a y la l, at_south k a y la l)) j b lj lb
-      (slide (λ x. At mesh w h cell k (cell x j)) w (λ x l. (at_east k x j l lj, at_west k x j l lj)) i a li la at)
-
-  -- Equal cells stand in one column and in one row.
-  column_less : (n i j a b : ℕ) → a + suc n ≡ w → i < a → j < h → b < h → cell i j ≡ cell a b → ⊥
-  column_less zero i j a b far l lj lb e = true≢false (sym (grid.east_shut a b (omega arith) lb)
-      ∙ (ap (λ x. cut (mesh.next x)) (sym e) ∙ grid.east_open i j (omega arith) lj))
-  column_less (suc n) i j a b far l lj lb e =
-      let la : suc a < w = omega arith in
-      let li : suc i < w = omega arith in
-      let same =
-      same_Some _ _ (sym (grid.east i j li lj) ∙ (ap (λ x. mesh.twin (mesh.next x)) e ∙ grid.east a b la lb)) in
-      column_less n (suc i) j (suc a) b (omega arith) (omega arith) lj lb
-      (prev_same mesh laws (cell (suc i) j) (cell (suc a) b) same)
-
-  pub same_column : (i j a b : ℕ) → i < w → j < h → a < w → b < h → cell i j ≡ cell a b → i ≡ a
-  same_column i j a b li lj la lb e = same_if (λ l. column_less (w - suc a) i j a b (omega arith) l lj lb e)
-      (λ l. column_less (w - suc i) a b i j (omega arith) l lb lj (sym e))
-
-  row_less : (n i j a b : ℕ) → b + suc n ≡ h → j < b → i < w → a < w → cell i j ≡ cell a b → ⊥
-  row_less zero i j a b far l li la e = true≢false (sym (grid.north_shut a b la (omega arith))
-      ∙ (ap (λ x. cut (mesh.next (mesh.next x))) (sym e) ∙ grid.north_open i j li (omega arith)))
-  row_less (suc n) i j a b far l li la e =
-      let lb : suc b < h = omega arith in
-      let lj : suc j < h = omega arith in
-      let same = same_Some _ _ (sym (grid.north i j li lj)
-      ∙ (ap (λ x. mesh.twin (mesh.next (mesh.next x))) e ∙ grid.north a b la lb)) in
-      row_less n i (suc j) a (suc b) (omega arith) (omega arith) li la same
-
-  pub same_row : (i j a b : ℕ) → i < w → j < h → a < w → b < h → cell i j ≡ cell a b → j ≡ b
-  same_row i j a b li lj la lb e = same_if (λ l. row_less (h - suc b) i j a b (omega arith) l li la e)
-      (λ l. row_less (h - suc j) a b i j (omega arith) l la li (sym e))
-
-  -- A half turn exchanges east and west, and north and south.
-  turned_column : (n i j a b : ℕ) → i + suc n ≡ w → j < h → a < w → b < h → cell i j ≡ mesh.next (mesh.next (cell a b))
-      → a ≡ n
-  turned_column zero i j zero b far lj la lb e = refl
-  turned_column zero i j (suc a) b far lj la lb e = absurd (true≢false (sym (grid.east_shut i j (omega arith) lj)
-      ∙ (ap (λ x. cut (mesh.next x)) e ∙ (ap cut (sym (prev_three mesh laws (cell (suc a) b))) ∙ west_open a b la lb))))
-  turned_column (suc n) i j zero b far lj la lb e =
-      absurd (true≢false (sym (grid.west_shut b lb) ∙ (ap cut (prev_three mesh laws (cell 0 b))
-      ∙ (ap (λ x. cut (mesh.next x)) (sym e) ∙ grid.east_open i j (omega arith) lj))))
-  turned_column (suc n) i j (suc a) b far lj la lb e =
-      let li : suc i < w = omega arith in
-      let across = ap mesh.next e ∙ sym (prev_three mesh laws (cell (suc a) b)) in
-      let same = same_Some _ _ (sym (grid.east i j li lj) ∙ (ap mesh.twin across ∙ west a b la lb)) in
-      let on = sym (laws.next_prev (cell (suc i) j)) ∙ ap mesh.next same in
-      ap suc (turned_column n (suc i) j a b (omega arith) lj (omega arith) lb on)
-
-  turned_row : (n i j a b : ℕ) → j + suc n ≡ h → i < w → a < w → b < h → cell i j ≡ mesh.next (mesh.next (cell a b))
-      → b ≡ n
-  turned_row zero i j a zero far li la lb e = refl
-  turned_row zero i j a (suc b) far li la lb e = absurd (true≢false (sym (grid.north_shut i j li (omega arith)) ∙
-      (ap (λ x. cut (mesh.next (mesh.next x))) e ∙ (ap cut (laws.four_sides (cell a (suc b))) ∙ south_open a b la lb))))
-  turned_row (suc n) i j a zero far li la lb e =
-      absurd (true≢false (sym (grid.south_shut a la) ∙ (ap cut (sym (laws.four_sides (cell a 0)))
-      ∙ (ap (λ x. cut (mesh.next (mesh.next x))) (sym e) ∙ grid.north_open i j li (omega arith)))))
-  turned_row (suc n) i j a (suc b) far li la lb e =
-      let lj : suc j < h = omega arith in
-      let across = ap (λ x. mesh.next (mesh.next x)) e ∙ laws.four_sides (cell a (suc b)) in
-      let same = same_Some _ _ (sym (grid.north i j li lj) ∙ (ap mesh.twin across ∙ south a b la lb)) in
-      ap suc (turned_row n i (suc j) a b (omega arith) li la (omega arith) same)
-
-  -- The centre of a half turn as a face, as an edge, and as a vertex.
-  at_face : (i j : ℕ) → i < w → j < h → cell i j ≡ mesh.next (mesh.next (cell i j)) → ⊥
-  at_face i j li lj e = (laws.corners_differ (cell i j) (grid.low i j li lj)).1 (ap mesh.from e)
-
-  at_east_edge : (i j : ℕ) → suc i < w → j < h → cell i j ≡ mesh.next (mesh.next (cell (suc i) j)) → ⊥
-  at_east_edge i j li lj e =
-      let self = ap mesh.next e ∙ sym (prev_three mesh laws (cell (suc i) j)) in
-      no_self mesh laws (mesh.next (cell i j)) (laws.next_low (cell i j) (grid.low i j (omega arith) lj))
-      (grid.east i j li lj ∙ ap Some (sym self))
-
-  at_north_edge : (i j : ℕ) → i < w → suc j < h → cell i j ≡ mesh.next (mesh.next (cell i (suc j))) → ⊥
-  at_north_edge i j li lj e =
-      let self = ap (λ x. mesh.next (mesh.next x)) e ∙ laws.four_sides (cell i (suc j)) in
-      no_self mesh laws (mesh.next (mesh.next (cell i j))) (north_low i j li (omega arith)) (grid.north i j li lj
-      ∙ ap Some (sym self))
-
-  two_turns : (d e : ℕ) → d < mesh.count → mesh.twin (mesh.prev d) ≡ Some e → mesh.twin (mesh.prev e) ≡ Some d
-      → cut d ≡ false → cut (mesh.prev d) ≡ false → cut e ≡ false → cut (mesh.prev e) ≡ false → ⊥
-  two_turns d e ld one two off_d off_pd off_e off_pe =
-      let c = full.crossed d ld uncut in
-      let same : c.0 ≡ e = same_Some c.0 e (sym c.3.first ∙ one) in
-      c.3.apart (same_Some d c.1 (sym two ∙ (ap (λ z. mesh.twin (mesh.prev z)) (sym same) ∙ c.3.second)))
-    where
-      off : (x : ℕ) → (x ≡ d) ⊎ (x ≡ e) → (cut x ≡ false) × (cut (mesh.prev x) ≡ false)
-      off x (inl s) = (ap cut s ∙ off_d, ap (λ z. cut (mesh.prev z)) s ∙ off_pd)
-      off x (inr s) = (ap cut s ∙ off_e, ap (λ z. cut (mesh.prev z)) s ∙ off_pe)
-
-      uncut : IsUncut mesh cut (mesh.from d)
-      uncut x lx s = let t = laws.one_fan d x ld lx (sym s) in
-          off x (two_darts mesh laws d e ld (turn_low mesh laws d e ld one) one two t.0 x t.1)
-
-  at_vertex : (i j : ℕ) → suc i < w → suc j < h → cell i j ≡ mesh.next (mesh.next (cell (suc i) (suc j))) → ⊥
-  at_vertex i j li lj e =
-      let d = cell (suc i) (suc j) in
-      let f = mesh.prev (cell (suc i) j) in
-      let before : mesh.prev d ≡ mesh.next (cell i j) = cc (prev_three mesh laws d) in
-      let above = prev_three mesh laws f ∙ ap (λ x. mesh.next (mesh.next x)) (laws.next_prev _) in
-      two_turns d f (grid.low _ _ li lj) (cc (grid.east i j li (omega arith))) (cc (grid.north _ j li lj))
-      (south_open _ j li lj) (cc (grid.east_open i j li (omega arith)))
-      (west_open i j li (omega arith)) (cc (grid.north_open _ j li lj))
-
-  -- No half turn: at a cell in the middle it leads to the cell itself, or to one beside it.
-  pub no_half_turn : (i j : ℕ) → i < w → j < h → At mesh w h cell 2 (cell i j) → ⊥
-  no_half_turn i j li lj at = by_middle ((w - 1) / 2) ((h - 1) / 2) (omega arith) (omega arith) (omega arith)
-      (omega arith)
-    where
-      by_middle : (x y : ℕ) → 2 * x < w → w ≤ 2 * x + 2 → 2 * y < h → h ≤ 2 * y + 2 → ⊥
-      by_middle x y xl xh yl yh =
-          let c = carry 2 i j x y li lj (omega arith) (omega arith) at in
-          let column = turned_column (w - suc x) x y c.a c.b (omega arith) (omega arith) c.a_low c.b_low c.is in
-          let row = turned_row (h - suc y) x y c.a c.b (omega arith) (omega arith) c.a_low c.b_low c.is in
-          let on : (c.a ≡ x → ⊥) → c.a ≡ suc x = λ p. omega (arith, p, column, c.a_low) in
-          let up : (c.b ≡ y → ⊥) → c.b ≡ suc y = λ q. omega (arith, q, row, c.b_low) in
-          elim (cases_eq c.a x) [
-            | inl p ↦ elim (cases_eq c.b y) [
-              | inl q ↦ at_face x y (omega arith) (omega arith) (cc (c.is, p, q))
-              | inr q ↦ at_north_edge x y (omega arith) (omega (arith, up q, c.b_low)) (cc (c.is, p, up q))
-            ]
-            | inr p ↦ elim (cases_eq c.b y) [
-              | inl q ↦ at_east_edge x y (omega (arith, on p, c.a_low)) (omega arith) (cc (c.is, on p, q))
-              | inr q ↦ at_vertex x y (omega (arith, on p, c.a_low)) (omega (arith, up q, c.b_low))
-                  (cc (c.is, on p, up q))
-            ]
+    -- A grid is not itself turned by a half: in its middle there would be a face, an edge or a vertex that is turned.
+    not_half : ((x y : ℕ) → x < w → y < h → cell x y ≡ mesh.next (mesh.next (cell (w - suc x) (h - suc y)))) → ⊥
+    not_half half =
+        let x = (w - 1) / 2 in
+        let y = (h - 1) / 2 in
+        let lx : x < w = omega (arith, grid.wide) in
+        let ly : y < h = omega (arith, grid.tall) in
+        let e = half x y lx ly in
+        elim (cases_eq (w - suc x) x) [
+          | inl p ↦ elim (cases_eq (h - suc y) y) [
+            | inl q ↦ (laws.corners_differ (cell x y) (grid.low x y lx ly)).1 (ap mesh.from (cc (e, p, q)))
+            | inr nq ↦ let q : h - suc y ≡ suc y = omega arith in
+                no_self laws _ (north_low grid x y lx ly)
+                (cc (e, p, q, grid.north x y lx (omega arith), laws.four_sides (cell x (suc y))))
           ]
+          | inr np ↦ let p : w - suc x ≡ suc x = omega arith in elim (cases_eq (h - suc y) y) [
+            | inl q ↦ no_self laws _ (laws.next_low _ (grid.low x y lx ly))
+                (cc (e, p, q, grid.east x y (omega arith) ly, prev_three laws (cell (suc x) y)))
+            | inr nq ↦ let q : h - suc y ≡ suc y = omega arith in
+                at_vertex x y (omega arith) (omega arith) (cc (e, p, q))
+          ]
+        ]
 
-  -- No quarter turn either: done twice it is a half turn.
-  no_quarter : (i j : ℕ) → i < w → j < h → At mesh w h cell 1 (cell i j) → ⊥
-  no_quarter i j li lj at =
-      let two = carry 1 i j at.a at.b li lj at.a_low at.b_low at in
-      no_half_turn i j li lj (as_side two (cc))
+    no_half_turn : (i j a b : ℕ) → i < w → j < h → a < w → b < h → cell i j ≡ mesh.next (mesh.next (cell a b)) → ⊥
+    no_half_turn i j a b li lj la lb e =
+        let x : w - suc (w - suc a) ≡ a = omega arith in
+        let y : h - suc (h - suc b) ≡ b = omega arith in
+        let turned = quarter_grid (quarter_grid grid) in
+        let c = common grid turned {a = w - suc a} {b = h - suc b} li (omega arith) lj (omega arith) (cc (e, x, y)) in
+        not_half (one_grid grid turned c.2).cells
 
-  no_three : (i j : ℕ) → i < w → j < h → At mesh w h cell 3 (cell i j) → ⊥
-  no_three i j li lj at =
-      let two = carry 3 i j at.a at.b li lj at.a_low at.b_low at in
-      no_half_turn i j li lj (four_less laws {k = 2} (as_side two (cc)))
+    -- No quarter turn either: done twice it is a half turn.
+    no_quarter : (i j a b : ℕ) → i < w → j < h → a < w → b < h → cell i j ≡ mesh.next (cell a b) → ⊥
+    no_quarter i j a b li lj la lb e =
+        let x : w - suc (w - suc a) ≡ a = omega arith in
+        let turned = quarter_grid grid in
+        let c = common grid turned {a = b} {b = w - suc a} li lb lj (omega arith) (cc (e, x)) in
+        let one = one_grid grid turned c.2 in
+        let wide : w ≡ h = one.wide in
+        not_half (λ x y lx ly. cc (one.cells x y lx ly, one.cells (w - suc y) x (omega arith) (omega arith)))
 
-  -- A cell with a side in common with another is that cell.
-  pub no_fold : (k i j a b : ℕ) → i < w → j < h → a < w → b < h → cell i j ≡ spin mesh k (cell a b) → (i ≡ a) × (j ≡ b)
-  no_fold zero i j a b li lj la lb e = (same_column i j a b li lj la lb e, same_row i j a b li lj la lb e)
-  no_fold (suc zero) i j a b li lj la lb e =
-      absurd (no_quarter i j li lj (record { a = a; b = b; a_low = la; b_low = lb; is = e }))
-  no_fold (suc (suc zero)) i j a b li lj la lb e =
-      absurd (no_half_turn i j li lj (record { a = a; b = b; a_low = la; b_low = lb; is = e }))
-  no_fold (suc (suc (suc zero))) i j a b li lj la lb e =
-      absurd (no_three i j li lj (record { a = a; b = b; a_low = la; b_low = lb; is = e }))
-  no_fold (suc (suc (suc (suc k)))) i j a b li lj la lb e = no_fold k i j a b li lj la lb (e ∙ laws.four_sides _)
+    -- A cell with a side in common with another is that cell.
+    pub no_fold : (k i j a b : ℕ) → i < w → j < h → a < w → b < h → cell i j ≡ spin mesh k (cell a b)
+        → (i ≡ a) × (j ≡ b)
+    no_fold zero i j a b li lj la lb e = let c = common grid grid li la lj lb e in (c.0, c.1)
+    no_fold (suc zero) i j a b li lj la lb e = absurd (no_quarter i j a b li lj la lb e)
+    no_fold (suc (suc zero)) i j a b li lj la lb e = absurd (no_half_turn i j a b li lj la lb e)
+    no_fold (suc (suc (suc zero))) i j a b li lj la lb e =
+        absurd (no_quarter a b i j la lb li lj (cc (laws.four_sides (cell a b))))
+    no_fold (suc (suc (suc (suc k)))) i j a b li lj la lb e = no_fold k i j a b li lj la lb (e ∙ laws.four_sides _)
 
 pub no_fold_law : NoFoldLaw
-no_fold_law mesh cut w h cell laws full grid i j a b k li lj la lb e =
-    no_fold mesh laws cut full w h cell grid k i j a b li lj la lb e
+no_fold_law mesh cut w h cell laws full grid i j a b k li lj la lb e = no_fold laws full grid k i j a b li lj la lb e

@@ -4,7 +4,7 @@ use Rattle.std.proofs.{Math.Nat.div-lt_iff_lt-mul, lemmas.List.ext_get_or}
 use Rattle.def_mesh.specs.HalfEdges.{HalfEdges, IsQuadManifold}
 use Rattle.def_cut.specs.Grids.{IsPatch, Rectangle, cell_of, patch_at, least_of, IsSide, IsPartition}
 use Rattle.def_cut.specs.{Cuts.Cut, Cuts.IsCut, Laws.OneListLaw}
-use Rattle.cut_laws.proofs.{Corners.spun, Folds.no_fold, Classes.In, Classes.AreOne, Classes.one_patch}
+use Rattle.cut_laws.proofs.{Corners.spun, Folds.no_fold, Folds.AreOne, Classes.In, Classes.one_patch}
 use Rattle.cut_laws.proofs.{Pigeon.increasing_place, Pigeon.same_many, Pigeon.same_values}
 
 -- A place among h rows of w.
@@ -45,13 +45,13 @@ pub record AreTiles (mesh : HalfEdges) (cut : Cut) (face : ℕ → ℕ) (ps : Li
 abbrev pub LiesInPatch : (mesh : HalfEdges) (patch : Rectangle) (x : ℕ) → Type 0
 LiesInPatch mesh patch x = In mesh patch.w patch.h (cell_of patch) x
 
-module _ (mesh : HalfEdges) (laws : IsQuadManifold mesh) (cut : Cut) (full : IsCut mesh cut) (face : ℕ → ℕ) where
+module _ {mesh : HalfEdges} (laws : IsQuadManifold mesh) {cut : Cut} (full : IsCut mesh cut) (face : ℕ → ℕ) where
   -- Patches of lists that have a dart in common are equal.
   pub shared : (ps qs : List Rectangle) → AreTiles mesh cut face ps → AreTiles mesh cut face qs → (p q x : ℕ)
       → p < length ps → q < length qs → LiesInPatch mesh (patch_at ps p) x → LiesInPatch mesh (patch_at qs q) x
       → patch_at ps p ≡ patch_at qs q
   shared ps qs a b p q x lp lq ip iq = same_rectangle _ _ (a.patch p lp).grid.wide
-      (a.sized p lp) (b.sized q lq) (one_patch mesh laws cut full (a.patch p lp) (b.patch q lq) x ip iq)
+      (a.sized p lp) (b.sized q lq) (one_patch laws full (a.patch p lp) (b.patch q lq) x ip iq)
 
   -- So in one list they stand at one place,
   pub same_place : (ps : List Rectangle) → AreTiles mesh cut face ps → (p q x : ℕ) → p < length ps → q < length ps
@@ -68,8 +68,8 @@ module _ (mesh : HalfEdges) (laws : IsQuadManifold mesh) (cut : Cut) (full : IsC
       let same = same_place ps t p q d lp lq (inside p i j k one) (inside q a b l two) in
       let s : IsSide mesh (patch_at ps p) a b l d = rw same two in
       let cell = cell_of (patch_at ps p) in
-      let r = spun mesh laws k l _ _ (cc) in
-      let f = no_fold mesh laws cut full _ _ cell (t.patch p lp).grid r.0 i j a b
+      let r = spun laws k l _ _ (cc) in
+      let f = no_fold laws full (t.patch p lp).grid r.0 i j a b
       one.i_low one.j_low s.i_low s.j_low r.1 in
       (same, f.0, f.1)
 
@@ -112,4 +112,4 @@ module _ (mesh : HalfEdges) (laws : IsQuadManifold mesh) (cut : Cut) (full : IsC
           cc (f.2, place)
 
 pub one_list_law : OneListLaw
-one_list_law mesh cut face laws full ps qs a b = one_list mesh laws cut full face ps qs a b
+one_list_law mesh cut face laws full ps qs a b = one_list laws full face ps qs a b

@@ -6,15 +6,34 @@ use Rattle.std.proofs.lemmas.Option.{same_Some}
 use Rattle.def_mesh.specs.HalfEdges.{HalfEdges, Turns, IsQuadManifold}
 use Rattle.def_cut.specs.{Cuts.Cut, Cuts.HasCross, Cuts.GoesOn, Cuts.IsCut, Cuts.IsCorner, Steps.or_zero}
 use Rattle.def_cut.specs.{Steps.step_east, Steps.step_north, Steps.easts, Steps.norths, Grids.IsGrid, Laws.GridLaw}
-use Rattle.cut_laws.specs.Grown.{IsRow, grown, IsGrown}
+use Rattle.cut_laws.{specs.Grown.IsRow, specs.Grown.grown, specs.Grown.IsGrown, proofs.Pigeon.comes_back}
 use Rattle.cut_laws.proofs.Folds.{prev_three, prev_twice, turn_from, turn_low, turn_same, next_same, twin_same}
-use Rattle.cut_laws.proofs.Pigeon.{comes_back}
 
 -- The edges of d and of the dart before it are not cut.
 abbrev pub IsOpen : (mesh : HalfEdges) (cut : Cut) (d : ℕ) → Type 0
 IsOpen mesh cut d = (cut d ≡ false) × (cut (mesh.prev d) ≡ false)
 
-module _ (mesh : HalfEdges) (laws : IsQuadManifold mesh) (cut : Cut) (full : IsCut mesh cut) where
+-- The first number up to a bound that passes a test.
+pub record IsFirst (p : ℕ → Bool) (k : ℕ) : Type 0 where
+  pub on : p k ≡ true
+  pub before : (i : ℕ) → i < k → p i ≡ false
+
+pub first_or_none : (p : ℕ → Bool) (n : ℕ) → ((k : ℕ) × (k < n) × IsFirst p k) ⊎ ((i : ℕ) → i < n → p i ≡ false)
+first_or_none p zero = inr (λ i l. absurd (omega arith))
+first_or_none p (suc n) = elim (first_or_none p n) [
+  | inl found ↦ inl (found.0, omega (arith, found.1), found.2)
+  | inr none ↦ elim (cases_Bool (p n)) [
+    | inl on ↦ inl (n, omega arith, record { on = on; before = none })
+    | inr off ↦ inr (λ i l. elim (cases_eq i n) [ inl e ↦ cc | inr ne ↦ none i (omega arith) ])
+  ]
+]
+
+-- A column is a row of the mesh turned by a quarter.
+pub norths_turned : (mesh : HalfEdges) (d j : ℕ) → mesh.next (norths mesh d j) ≡ easts mesh (mesh.next d) j
+norths_turned mesh d zero = refl
+norths_turned mesh d (suc j) = ap (step_east mesh) (norths_turned mesh d j)
+
+module _ {mesh : HalfEdges} (laws : IsQuadManifold mesh) {cut : Cut} (full : IsCut mesh cut) where
   -- Where the edge is not cut it has two darts.
   pub twin_there : (d : ℕ) → d < mesh.count → cut d ≡ false → (t : ℕ) × (mesh.twin d ≡ Some t)
   twin_there d l off = by_twin _ refl
@@ -52,7 +71,7 @@ module _ (mesh : HalfEdges) (laws : IsQuadManifold mesh) (cut : Cut) (full : IsC
   open_turn {d} {e} l free t = (
     here,
     false_from_ne_true (cut (mesh.prev e))
-        (λ on. by_gap (full.gaps _ (laws.prev_low e (turn_low mesh laws d e l t)) on)),
+        (λ on. by_gap (full.gaps _ (laws.prev_low e (turn_low laws d e l t)) on)),
   )
     where
       here : cut e ≡ false
@@ -88,17 +107,17 @@ module _ (mesh : HalfEdges) (laws : IsQuadManifold mesh) (cut : Cut) (full : IsC
       let o = turns_open l free n in
       let is = turn_is o.0 o.1 in
       let free = open_turn o.0 o.1 is in
-      (turn_low mesh laws x _ o.0 is, free)
+      (turn_low laws x _ o.0 is, free)
 
   open_back : (d e : ℕ) → d < mesh.count → e < mesh.count → IsOpen mesh cut d → mesh.twin (mesh.prev e) ≡ Some d
       → IsOpen mesh cut e
   unfolding turns
   open_back d e ld le free t =
-      let apart : (i j : ℕ) → turns d (suc i) ≡ turns d (suc j) → turns d i ≡ turns d j = λ i j s. turn_same mesh laws _
+      let apart : (i j : ℕ) → turns d (suc i) ≡ turns d (suc j) → turns d i ≡ turns d j = λ i j s. turn_same laws _
       _ (turns_open ld free i).0 (turns_open ld free j).0 (is i) (cc (is j)) in
       let r = comes_back _ _ (λ k l. (turns_open ld free k).0) (λ i j li lj. apart i j) in
       let o = turns_open ld free r.0 in
-      let same : turns d r.0 ≡ e = turn_same mesh laws _ e o.0 le (cc (is r.0)) t in
+      let same : turns d r.0 ≡ e = turn_same laws _ e o.0 le (cc (is r.0)) t in
       rw same at o.1
     where
       is : (k : ℕ) → mesh.twin (mesh.prev (turns d k)) ≡ Some (turns d (suc k))
@@ -140,7 +159,7 @@ module _ (mesh : HalfEdges) (laws : IsQuadManifold mesh) (cut : Cut) (full : IsC
   west_on d l on off =
       let meets : mesh.from (mesh.prev d)
       ≡ mesh.from (step_north mesh d) = cc (
-        prev_three mesh laws d,
+        prev_three laws d,
         (laws.twin_ends (mesh.next (mesh.next d))
             (step_north mesh d) (laws.next_low (mesh.next d) (laws.next_low d l)) (north_twin d l off)).0,
       ) in
@@ -155,17 +174,23 @@ module _ (mesh : HalfEdges) (laws : IsQuadManifold mesh) (cut : Cut) (full : IsC
   pub north_off : (d : ℕ) → d < mesh.count → cut (mesh.next d) ≡ false → cut (mesh.next (mesh.next d)) ≡ false
       → cut (mesh.next (mesh.next (step_east mesh d))) ≡ false
   north_off d l off up =
-      let lx = laws.next_low _ (laws.next_low d l) in
       let free : IsOpen mesh cut (mesh.next (mesh.next d)) = (up, cc (laws.prev_next _)) in
-      let o = no_cut _ lx free _ (laws.prev_low _ (east_low d l off)) (corner_east d l off) in
-      cc (prev_twice mesh laws _)
+      let o = no_cut _ (laws.next_low _ (laws.next_low d l)) free _
+      (laws.prev_low _ (east_low d l off)) (corner_east d l off) in
+      cc (prev_twice laws _)
 
-  pub north_on : (d : ℕ) → d < mesh.count → cut (mesh.next d) ≡ false → cut (mesh.next (mesh.next d)) ≡ true
-      → cut (mesh.next (mesh.next (step_east mesh d))) ≡ true
-  north_on d l off up = true_from_ne_false (cut (mesh.next (mesh.next (step_east mesh d))))
-      (λ c. false≢true (sym (no_cut _ (laws.prev_low _ (east_low d l off))
-      (west_off d l off, cc (prev_twice mesh laws _)) _
-      (laws.next_low _ (laws.next_low d l)) (sym (corner_east d l off))).0 ∙ up))
+  pub north_alike : (d : ℕ) → d < mesh.count → cut (mesh.next d) ≡ false
+      → cut (mesh.next (mesh.next (step_east mesh d))) ≡ cut (mesh.next (mesh.next d))
+  north_alike d l off = elim (cases_Bool (cut (mesh.next (mesh.next (step_east mesh d))))) [
+    | inl on ↦ elim (cases_Bool (cut (mesh.next (mesh.next d)))) [
+      | inl up ↦ cc
+      | inr up ↦ cc (north_off d l off up)
+    ]
+    | inr free ↦
+        let o = no_cut _ (laws.prev_low _ (east_low d l off)) (west_off d l off, cc (prev_twice laws _)) _
+        (laws.next_low _ (laws.next_low d l)) (sym (corner_east d l off)) in
+        cc o.0
+  ]
 
   -- East and north of a cell without a cut edge there: the edge between the two cells above is not cut, and both ways
   -- lead to one cell.
@@ -179,17 +204,17 @@ module _ (mesh : HalfEdges) (laws : IsQuadManifold mesh) (cut : Cut) (full : IsC
       let x : ℕ = mesh.next (mesh.next d) in
       let first = same_Some a (mesh.prev (step_east mesh d))
       (sym is.first ∙ (ap mesh.twin (laws.prev_next (mesh.next d)) ∙ east_twin d l off)) in
-      let la : a < mesh.count = turn_low mesh laws x a lx is.first in
-      let lb : b < mesh.count = turn_low mesh laws a b la is.second in
-      let lc : c < mesh.count = turn_low mesh laws b c lb is.third in
-      let above = ap (λ y. or_zero (mesh.twin y)) (sym (ap mesh.prev first ∙ prev_twice mesh laws (step_east mesh d)))
+      let la : a < mesh.count = turn_low laws x a lx is.first in
+      let lb : b < mesh.count = turn_low laws a b la is.second in
+      let lc : c < mesh.count = turn_low laws b c lb is.third in
+      let above = ap (λ y. or_zero (mesh.twin y)) (sym (ap mesh.prev first ∙ prev_twice laws (step_east mesh d)))
       ∙ ap or_zero is.second in
       let last = same_Some (mesh.prev c) (step_north mesh d)
       (sym (laws.twin_twin (mesh.prev c) x (laws.prev_low c lc) is.last) ∙ north_twin d l up) in
       let right : c ≡ mesh.next (step_north mesh d) = sym (laws.next_prev c) ∙ ap mesh.next last in
       let back = ap mesh.twin (sym right) ∙ laws.twin_twin (mesh.prev b) c (laws.prev_low b lb) is.third in
-      let at = turn_from mesh laws b c lb is.third
-      ∙ (turn_from mesh laws a b la is.second ∙ turn_from mesh laws x a lx is.first) in
+      let at = turn_from laws b c lb is.third
+      ∙ (turn_from laws a b la is.second ∙ turn_from laws x a lx is.first) in
       let o : IsOpen mesh cut c = no_cut x lx free c lc at in
       (ap cut (sym right) ∙ o.0, ap (λ y. mesh.next (or_zero y)) back ∙ (laws.next_prev b ∙ sym above))
 
@@ -205,17 +230,11 @@ module _ (mesh : HalfEdges) (laws : IsQuadManifold mesh) (cut : Cut) (full : IsC
       (row_south s w row on i (omega arith)) (row.inside i l)
 
   -- Its north edges are cut or not together.
-  pub row_north_on : {s w : ℕ} → IsRow mesh cut s w → cut (mesh.next (mesh.next s)) ≡ true → (i : ℕ) → i < w
-      → cut (mesh.next (mesh.next (easts mesh s i))) ≡ true
-  row_north_on row on zero l = on
-  row_north_on {s} {w} row on (suc i) l = north_on _ (row_low s w row i (omega arith)) (row.inside i l)
-      (row_north_on row on i (omega arith))
-
-  pub row_north_off : {s w : ℕ} → IsRow mesh cut s w → cut (mesh.next (mesh.next s)) ≡ false → (i : ℕ) → i < w
-      → cut (mesh.next (mesh.next (easts mesh s i))) ≡ false
-  row_north_off row off zero l = off
-  row_north_off {s} {w} row off (suc i) l = north_off _ (row_low s w row i (omega arith))
-      (row.inside i l) (row_north_off row off i (omega arith))
+  pub row_north : {s w : ℕ} → IsRow mesh cut s w → (i : ℕ) → i < w
+      → cut (mesh.next (mesh.next (easts mesh s i))) ≡ cut (mesh.next (mesh.next s))
+  row_north row zero l = refl
+  row_north {s} {w} row (suc i) l =
+      north_alike _ (row_low s w row i (omega arith)) (row.inside i l) ∙ row_north row i (omega arith)
 
   -- The cells over a row are a row of the same width.
   pub row_above : {s w : ℕ} → IsRow mesh cut s w → cut (mesh.next (mesh.next s)) ≡ false → (i : ℕ) → i < w
@@ -223,7 +242,7 @@ module _ (mesh : HalfEdges) (laws : IsQuadManifold mesh) (cut : Cut) (full : IsC
   row_above row off zero l = refl
   row_above {s} {w} row off (suc i) l = cc (
     row_above row off i (omega arith),
-    (square _ (row_low s w row i (omega arith)) (row.inside i l) (row_north_off row off i (omega arith))).1,
+    (square _ (row_low s w row i (omega arith)) (row.inside i l) (row_north row i (omega arith) ∙ off)).1,
   )
 
   pub next_row : (s w : ℕ) → IsRow mesh cut s w → cut (mesh.next (mesh.next s)) ≡ false
@@ -232,15 +251,15 @@ module _ (mesh : HalfEdges) (laws : IsQuadManifold mesh) (cut : Cut) (full : IsC
     wide = row.wide;
     low = north_low s row.low off;
     inside = λ i l. ap (λ x. cut (mesh.next x)) (row_above row off i (omega arith)) ∙ (square _
-        (row_low s w row i (omega arith)) (row.inside i l) (row_north_off row off i (omega arith))).0;
+        (row_low s w row i (omega arith)) (row.inside i l) (row_north row i (omega arith) ∙ off)).0;
     ends = λ i e. ap (λ x. cut (mesh.next x)) (row_above row off i (omega arith)) ∙ east_on _
-        (row_low s w row i (omega arith)) (row.ends i e) (row_north_off row off i (omega arith));
+        (row_low s w row i (omega arith)) (row.ends i e) (row_north row i (omega arith) ∙ off);
   }
 
   -- A row whose west edge is cut ends.
   east_same : (d e : ℕ) → d < mesh.count → e < mesh.count → cut (mesh.next d) ≡ false → cut (mesh.next e) ≡ false
       → step_east mesh d ≡ step_east mesh e → d ≡ e
-  east_same d e ld le offd offe s = next_same mesh laws d e (twin_same mesh laws _ _ _ (laws.next_low d ld)
+  east_same d e ld le offd offe s = next_same laws d e (twin_same laws _ _ _ (laws.next_low d ld)
       (laws.next_low e le) (east_twin d ld offd) (cc (east_twin e le offe)))
 
   pub endless : (d : ℕ) → d < mesh.count → cut (mesh.prev d) ≡ true
@@ -254,79 +273,54 @@ module _ (mesh : HalfEdges) (laws : IsQuadManifold mesh) (cut : Cut) (full : IsC
       low zero h = l
       low (suc i) h = east_low _ (low i (omega arith)) (off i (omega arith))
 
--- From each corner grows a grid: rows of one width stand over each other until a cut edge lies to the north.
-
--- The first number up to a bound that passes a test.
-pub record IsFirst (p : ℕ → Bool) (k : ℕ) : Type 0 where
-  pub on : p k ≡ true
-  pub before : (i : ℕ) → i < k → p i ≡ false
-
-pub first_or_none : (p : ℕ → Bool) (n : ℕ) → ((k : ℕ) × (k < n) × IsFirst p k) ⊎ ((i : ℕ) → i < n → p i ≡ false)
-first_or_none p zero = inr (λ i l. absurd (omega arith))
-first_or_none p (suc n) = elim (first_or_none p n) [
-  | inl found ↦ inl (found.0, omega (arith, found.1), found.2)
-  | inr none ↦ elim (cases_Bool (p n)) [
-    | inl on ↦ inl (n, omega arith, record { on = on; before = none })
-    | inr off ↦ inr (λ i l. elim (cases_eq i n) [ inl e ↦ cc | inr ne ↦ none i (omega arith) ])
-  ]
-]
-
--- A column is a row of the mesh turned by a quarter.
-pub norths_turned : (mesh : HalfEdges) (d j : ℕ) → mesh.next (norths mesh d j) ≡ easts mesh (mesh.next d) j
-norths_turned mesh d zero = refl
-norths_turned mesh d (suc j) = ap (step_east mesh) (norths_turned mesh d j)
-
-module _ (mesh : HalfEdges) (laws : IsQuadManifold mesh) (cut : Cut) (full : IsCut mesh cut) where
-  row_there : (d : ℕ) → IsCorner mesh cut d → (w : ℕ) × IsRow mesh cut d w
-  row_there d corner = elim (first_or_none (λ i. cut (mesh.next (easts mesh d i))) (suc mesh.count)) [
-    | inl (k, low, first) ↦ (
+  -- From each corner grows a grid: rows of one width stand over each other until a cut edge lies to the north.
+  row_there : (d : ℕ) → d < mesh.count → cut (mesh.prev d) ≡ true → (w : ℕ) × IsRow mesh cut d w
+  row_there d low west = elim (first_or_none (λ i. cut (mesh.next (easts mesh d i))) (suc mesh.count)) [
+    | inl (k, k_low, first) ↦ (
       suc k,
       record {
         wide = omega arith;
-        low = corner.0;
+        low = low;
         inside = λ i l. first.before i (omega arith);
         ends = λ i e. let same : i ≡ k = omega arith in
             cc (same, first.on);
       },
     )
-    | inr none ↦ absurd (endless mesh laws cut full d corner.0 corner.2 (λ i l. none i (omega arith)))
+    | inr none ↦ absurd (endless d low west (λ i l. none i (omega arith)))
   ]
 
   -- A column whose south edge is cut ends.
   pub endless_north : (d : ℕ) → d < mesh.count → cut d ≡ true
       → ((j : ℕ) → j ≤ mesh.count → cut (mesh.next (mesh.next (norths mesh d j))) ≡ false) → ⊥
-  endless_north d l on off = endless mesh laws cut full (mesh.next d) (laws.next_low d l) (ap cut (laws.prev_next d)
+  endless_north d l on off = endless (mesh.next d) (laws.next_low d l) (ap cut (laws.prev_next d)
       ∙ on) (λ j h. ap (λ x. cut (mesh.next x)) (sym (norths_turned mesh d j)) ∙ off j h)
 
+  -- The rows that stand over each other are a row of the mesh turned by a quarter.
   pub grow : (d : ℕ) → IsCorner mesh cut d → (w : ℕ) × (h : ℕ) × IsGrown mesh cut d w h
   grow d corner =
-      let (w, row) = row_there d corner in
-      elim (first_or_none (λ j. cut (mesh.next (mesh.next (norths mesh d j)))) (suc mesh.count)) [
-        | inl (k, low, first) ↦ (
-          w,
-          suc k,
-          record {
-            wide = row.wide;
-            tall = omega arith;
-            row = row;
-            inside = λ j l. first.before j (omega arith);
-            ends = λ j e. let same : j ≡ k = omega arith in
-                ap (λ x. cut (mesh.next (mesh.next (norths mesh d x)))) same ∙ first.on;
-          },
-        )
-        | inr none ↦ absurd (endless_north d corner.0 corner.1 (λ j l. none j (omega arith)))
-      ]
+      let (w, row) = row_there d corner.0 corner.2 in
+      let (h, column) = row_there (mesh.next d) (laws.next_low d corner.0) (rw laws.prev_next corner.1) in (
+        w,
+        h,
+        record {
+          wide = row.wide;
+          tall = column.wide;
+          row = row;
+          inside = λ j l. rw norths_turned (column.inside j l);
+          ends = λ j e. rw norths_turned (column.ends j e);
+        },
+      )
 
   -- The rows of what has grown.
   pub row_at : {d w h : ℕ} → IsGrown mesh cut d w h → (j : ℕ) → j < h → IsRow mesh cut (norths mesh d j) w
   row_at g zero l = g.row
-  row_at {d} {w} {h} g (suc j) l = next_row mesh laws cut full (norths mesh d j) w (row_at g j (omega arith))
+  row_at {d} {w} {h} g (suc j) l = next_row (norths mesh d j) w (row_at g j (omega arith))
       (g.inside j l)
 
   west_at : {d w h : ℕ} → IsGrown mesh cut d w h → cut (mesh.prev d) ≡ true → (j : ℕ) → j < h
       → cut (mesh.prev (norths mesh d j)) ≡ true
   west_at g on zero l = on
-  west_at {d} {w} {h} g on (suc j) l = west_on mesh laws cut full (norths mesh d j) (row_at g j (omega arith)).low
+  west_at {d} {w} {h} g on (suc j) l = west_on (norths mesh d j) (row_at g j (omega arith)).low
       (west_at g on j (omega arith)) (g.inside j l)
 
   -- What has grown from a corner is a grid.
@@ -334,22 +328,22 @@ module _ (mesh : HalfEdges) (laws : IsQuadManifold mesh) (cut : Cut) (full : IsC
   grown_grid d w h corner g = record {
     wide = g.wide;
     tall = g.tall;
-    low = λ i j li lj. row_low mesh laws cut full (norths mesh d j) w (row_at g j lj) i li;
-    east = λ i j li lj. east_twin mesh laws cut full (grown mesh d i j) (row_low mesh laws cut full (norths mesh d j) w
+    low = λ i j li lj. row_low (norths mesh d j) w (row_at g j lj) i li;
+    east = λ i j li lj. east_twin (grown mesh d i j) (row_low (norths mesh d j) w
         (row_at g j lj) i (omega arith)) ((row_at g j lj).inside i li);
-    north = λ i j li lj. north_twin mesh laws cut full (grown mesh d i j) (row_low mesh laws cut full (norths mesh d j)
+    north = λ i j li lj. north_twin (grown mesh d i j) (row_low (norths mesh d j)
         w (row_at g j (omega arith)) i li)
-        (row_north_off mesh laws cut full (row_at g j (omega arith)) (g.inside j lj) i li)
-        ∙ ap Some (sym (row_above mesh laws cut full (row_at g j (omega arith)) (g.inside j lj) i li));
+        (row_north (row_at g j (omega arith)) i li ∙ g.inside j lj)
+        ∙ ap Some (sym (row_above (row_at g j (omega arith)) (g.inside j lj) i li));
     east_open = λ i j li lj. (row_at g j lj).inside i li;
-    north_open = λ i j li lj. row_north_off mesh laws cut full (row_at g j (omega arith)) (g.inside j lj) i li;
-    south_shut = λ i li. row_south mesh laws cut full d w g.row corner.1 i li;
+    north_open = λ i j li lj. row_north (row_at g j (omega arith)) i li ∙ g.inside j lj;
+    south_shut = λ i li. row_south d w g.row corner.1 i li;
     west_shut = λ j lj. west_at g corner.2 j lj;
     east_shut = λ i j e lj. (row_at g j lj).ends i e;
-    north_shut = λ i j li e. row_north_on mesh laws cut full (row_at g j (omega arith)) (g.ends j e) i li;
+    north_shut = λ i j li e. row_north (row_at g j (omega arith)) i li ∙ g.ends j e;
   }
 
 pub grid_law : GridLaw
 grid_law mesh cut laws full d corner =
-    let g = grow mesh laws cut full d corner in
-    (g.0, g.1, grown mesh d, refl, grown_grid mesh laws cut full d g.0 g.1 corner g.2)
+    let g = grow laws full d corner in
+    (g.0, g.1, grown mesh d, refl, grown_grid laws full d g.0 g.1 corner g.2)

@@ -1,5 +1,5 @@
 -- A dart of the cut lies on one arc, at one place of it, in one direction.
-use Rattle.std.proofs.Common.{◌≡◌, ℕ, suc, ◌+◌, ◌-◌, ◌<◌, Bool, true, false, List, length, Some, refl, sym, ◌∙◌, ap}
+use Rattle.std.proofs.Common.{rules, ◌≡◌, ℕ, suc, ◌+◌, ◌-◌, ◌<◌, Bool, true, false, List, length, Some, sym, ◌∙◌, ap}
 use Rattle.std.proofs.Common.{arith}
 use Rattle.def_mesh.specs.HalfEdges.{HalfEdges, IsQuadManifold}
 use Rattle.def_cut.specs.{Cuts.Cut, Cuts.IsCut, Steps.easts}
@@ -32,13 +32,7 @@ module _ {m : HalfEdges} (laws : IsQuadManifold m) {cut : Cut} (full : IsCut m c
       0) (long_at others b) (are.each a a_low).run (them.each b b_low).run k j k_low j_low
       (cc ((are.each a a_low).each k k_low, (them.each b b_low).each j j_low)) in
       let long = same_length m laws cut full node nodes (dart_at others b 0) (long_at arcs a) (long_at others b)
-      (rw first at (are.each a a_low).run) (them.each b b_low).run in
-      record {
-        place = place;
-        long = long;
-        each = λ i less.
-            cc ((are.each a a_low).each i less, first, (them.each b b_low).each i (omega (arith, long)));
-      }
+      (rw first at (are.each a a_low).run) (them.each b b_low).run in search rules
 
   -- Then they have one name.
   pub one_name_both : (a b k j : ℕ) → a < length arcs → b < length others → IsSameArc a b k j
@@ -105,19 +99,10 @@ module _ (m : HalfEdges) (laws : IsQuadManifold m) (cut : Cut) (full : IsCut m c
   pub same_use : (a b : ℕ) (f g : Bool) (o k d : ℕ) → a < length arcs → b < length arcs → o < long_at arcs a
       → k < long_at arcs b
       → LiesAt m (path_at arcs a).darts f o d → LiesAt m (path_at arcs b).darts g k d → (a ≡ b) × (f ≡ g) × (o ≡ k)
-  same_use a b true true o k d a_low b_low o_low k_low at also =
-      let s : (a ≡ b) × (o ≡ k) = same_dart a b o k a_low b_low o_low k_low (cc (at, also)) in (s.0, refl, s.1)
-  same_use a b true false o k d a_low b_low o_low k_low at also = absurd
-      (clash laws full nodes are are a b o (long_at arcs b - 1 - k) a_low b_low o_low (omega arith) (cc (also, at)))
-  same_use a b false true o k d a_low b_low o_low k_low at also = absurd
-      (clash laws full nodes are are b a k (long_at arcs a - 1 - o) b_low a_low k_low (omega arith) (at ∙ ap Some also))
+  same_use a b true true o k d a_low b_low o_low k_low at also = search (rules, same_dart)
+  same_use a b true false o k d a_low b_low o_low k_low at also = search (rules, clash)
+  same_use a b false true o k d a_low b_low o_low k_low at also = search (rules, clash)
   same_use a b false false o k d a_low b_low o_low k_low at also =
       let one : m.twin d ≡ Some (dart_at arcs a (long_at arcs a - 1 - o)) = laws.twin_twin (dart_at arcs a (long_at arcs
       a - 1 - o)) d (dart_low m laws cut full node nodes arcs are a (long_at arcs a - 1 - o) a_low (omega arith)) at in
-      let other : m.twin d ≡ Some (dart_at arcs b (long_at arcs b - 1 - k)) =
-      laws.twin_twin (dart_at arcs b (long_at arcs b - 1 - k)) d (dart_low m laws cut full node nodes arcs are b
-      (long_at arcs b - 1 - k) b_low (omega arith)) also in
-      let s : (a ≡ b) × (long_at arcs a - 1 - o ≡ long_at arcs b - 1 - k) = same_dart a b (long_at arcs a - 1 - o)
-      (long_at arcs b - 1 - k) a_low b_low (omega arith) (omega arith) (cc (one, other)) in
-      let long : long_at arcs a ≡ long_at arcs b = ap (long_at arcs) s.0 in
-      (s.0, refl, omega (arith, s.1, long))
+      search (rules, dart_low, same_dart)

@@ -1,13 +1,11 @@
 -- What is known of the layout of a mesh.
-use Rattle.std.proofs.Common.{◌≡◌, ℕ, suc, ◌*◌, ◌^◌, ◌<◌, ◌≤◌, true, refl, sym, ◌∙◌, ap, arith}
-use Rattle.std.proofs.lemmas.Nat.{mul-le}
+use Rattle.std.proofs.Common.{rules, ◌≡◌, ℕ, suc, ◌*◌, ◌^◌, ◌<◌, ◌≤◌, true, refl, sym, ◌∙◌, ap, arith}
+use Rattle.{std.proofs.lemmas.Nat.mul-le, embedding_laws.proofs.OneLayout.embedding_law}
 use Rattle.def_layout.specs.{Arcs.long_at, Surfaces.IsSurface, Lengths.AreLengths, Lengths.Lengths, Lengths.size}
 use Rattle.def_layout.specs.{Lengths.wide, Lengths.high, Layouts.Layout, Layouts.gluing_of, Layouts.vertex_at}
-use Rattle.def_layout.specs.{Cells.CellDart, Cells.IsDart, Gluings.Way, Gluings.south, Gluings.east, Gluings.north}
-use Rattle.def_layout.specs.{Gluings.west, Gluings.Gluing}
+use Rattle.def_layout.specs.{Cells.CellDart, Cells.IsDart, Gluings.Way, Gluings.south, Gluings.west, Gluings.Gluing}
 use Rattle.def_written.specs.{Laws.LiesInMesh, Points.Point, Points.IsPoint, Numbers.vertex_number, Numbers.vertices}
 use Rattle.def_written.specs.{NewFaces.dart_start, NewFaces.cells_before, NewFaces.face_count}
-use Rattle.embedding_laws.proofs.OneLayout.{embedding_law}
 use Rattle.written_laws.proofs.{Shape.laid_law, Spacings.count_rises, Spacings.passing, Spacings.passing_le}
 use Rattle.written_laws.proofs.{Spacings.passing_all, Rims.wide_some, Rims.high_some, EdgeNumbers.point_onto}
 use Rattle.written_laws.proofs.{ModelCounts.point_dart, ModelCounts.faces_are, NewDarts.dart_number, NewDarts.dart_low}
@@ -49,8 +47,7 @@ module _ (l : Gluing) (x : Lengths) (laid : IsSurface l) (len : AreLengths l x) 
       dart : (v : ℕ) → v < vertices l x → (d : CellDart) × IsDart l x d × (vertex_number l x (dart_start l x d) ≡ v)
       dart v low =
           let a : (a : Point) × IsPoint l x a × (vertex_number l x a ≡ v) = point_onto l x v low in
-          let d : (d : CellDart) × IsDart l x d × (dart_start l x d ≡ a.0) = point_dart l x laid len a.0 a.1 in
-          (d.0, d.1, ap (vertex_number l x) d.2 ∙ a.2)
+          search (rules, point_dart)
 
   -- A patch has no more cells than there are.
   patch_few : (p : ℕ) → p < l.patches → wide l x p * high l x p ≤ face_count l x
@@ -62,17 +59,10 @@ module _ (l : Gluing) (x : Lengths) (laid : IsSurface l) (len : AreLengths l x) 
   both_few : (p : ℕ) → p < l.patches → (wide l x p ≤ face_count l x) × (high l x p ≤ face_count l x)
   both_few p low =
       let few = patch_few p low in
-      let w_some = wide_some l x laid.paved len p low in
-      let h_some = high_some l x laid.paved len p low in
-      let w = mul-le (wide l x p) 1 (wide l x p) (high l x p) (omega arith) h_some in
-      let h = mul-le 1 (high l x p) (wide l x p) (high l x p) w_some (omega arith) in
-      (omega arith, omega arith)
+      let w_some = wide_some l x laid.paved len p low in search (rules, high_some)
 
   pub side_few : (p : ℕ) (s : Way) → p < l.patches → size l x p s ≤ face_count l x
-  side_few p south low = (both_few p low).0
-  side_few p east low = omega (arith, len.upright p low, both_few p low)
-  side_few p north low = omega (arith, len.across p low, both_few p low)
-  side_few p west low = (both_few p low).1
+  side_few p s h1 = search (rules, both_few)
 
 -- Lengths of at most k make a layout no larger than k times the old lengths do.
 module _ (l : Gluing) (old x : Lengths) (k : ℕ) (laid : IsSurface l) (len : AreLengths l old) (most : (a : ℕ)

@@ -1,19 +1,17 @@
 -- The layout of a full cut lies in the mesh.
-use Rattle.std.proofs.Common.{◌≡◌, ◌≢◌, ℕ, zero, suc, ◌<◌, refl, sym, ap, ◌⊎◌, ◌+◌, ◌-◌, Bool, true, false, length}
-use Rattle.std.proofs.Common.{Some, None, ◌∙◌, subst, inl, inr, arith}
-use Rattle.std.proofs.lemmas.Bool.{cases_Bool, cases_eq, cases_lt, false≢true}
-use Rattle.std.proofs.lemmas.Option.{none-some}
+use Rattle.std.proofs.Common.{rules, ◌≡◌, ◌≢◌, ℕ, zero, suc, ◌<◌, refl, sym, ap, ◌⊎◌, ◌+◌, ◌-◌, Bool, true, false}
+use Rattle.std.proofs.Common.{length, Some, None, ◌∙◌, subst, inl, inr, arith}
+use Rattle.std.proofs.lemmas.{Bool.cases_Bool, Bool.cases_eq, Bool.cases_lt, Bool.false≢true}
 use Rattle.def_mesh.specs.HalfEdges.{HalfEdges, IsQuadManifold}
 use Rattle.def_cut.specs.{Grids.cell_of, Grids.patch_at, Grids.IsGrid, Grids.IsSide, Steps.spin, Cuts.Cut, Cuts.IsCut}
 use Rattle.def_layout.specs.Gluings.{Way, south, east, north, west, side_after, Gluing, Slot, IsSlot, use_of}
 use Rattle.def_layout.specs.Gluings.{start_node}
 use Rattle.def_layout.specs.Layouts.{way_number, Layout, vertex_at, gluing_of, IsDartLayout}
-use Rattle.def_layout.specs.{Lengths.reach, Lengths.size, Lengths.wide, Lengths.high, Lengths.AreLengths}
-use Rattle.def_layout.specs.{Cells.CellDart, Cells.IsDart, Cells.dart, Cells.dart_along, Cells.slot_dart}
-use Rattle.def_layout.specs.{Arcs.end_vertex, Arcs.IsRun, Arcs.LiesAt, Arcs.path_at, Arcs.dart_at, Arcs.long_at}
-use Rattle.def_layout.specs.{declared.tmesh.SideArc.SideArc, Surfaces.HasWholeSides, Surfaces.IsOtherSlot}
-use Rattle.def_layout.specs.{Embeddings.IsEmbedding, Borders.side_size, Borders.border_dart, Nodes.AreNodes}
-use Rattle.cut_laws.proofs.Pigeon.{increasing_place}
+use Rattle.def_layout.specs.{Lengths.reach, Lengths.wide, Lengths.high, Lengths.AreLengths, Cells.CellDart}
+use Rattle.def_layout.specs.{Cells.IsDart, Cells.dart, Cells.dart_along, Cells.slot_dart, Arcs.end_vertex, Arcs.IsRun}
+use Rattle.def_layout.specs.{Arcs.LiesAt, Arcs.path_at, Arcs.dart_at, Arcs.long_at, declared.tmesh.SideArc.SideArc}
+use Rattle.def_layout.specs.{Surfaces.HasWholeSides, Surfaces.IsOtherSlot, Embeddings.IsEmbedding, Borders.side_size}
+use Rattle.def_layout.specs.{Borders.border_dart, Nodes.AreNodes}
 use Rattle.list_laws.proofs.Filters.{IsKept, kept_at, rises}
 use Rattle.layout_laws.proofs.{Runs.none_or, Runs.run_inner, Borders.line, Borders.on_side, Borders.line_from}
 use Rattle.written_laws.proofs.Sides.{slot, IsOn, place_on}
@@ -30,33 +28,13 @@ module _ (m : HalfEdges) (laws : IsQuadManifold m) where
 
   pub spin_way : (k c : ℕ) → (w : Way) × (spin m k c ≡ spin m (way_number w) c)
   spin_way zero c = (south, refl)
-  spin_way (suc k) c =
-      let w = spin_way k c in
-      (side_after w.0, cc (spin_after w.0 c))
-
-  one_on : (d : ℕ) → d < m.count → d ≢ m.next d
-  one_on d low e = (laws.corners_differ d low).0 (ap m.from e)
+  spin_way (suc k) c = search (rules, spin_way k c)
 
   two_on : (d : ℕ) → d < m.count → d ≢ m.next (m.next d)
   two_on d low e = (laws.corners_differ d low).1 (ap m.from e)
 
-  three_on : (d : ℕ) → d < m.count → d ≢ m.next (m.next (m.next d))
-  three_on d low e = one_on d low (sym (cc (laws.four_sides d)))
-
   pub spin_once : (c : ℕ) (w v : Way) → c < m.count → spin m (way_number w) c ≡ spin m (way_number v) c → w ≡ v
-  spin_once c south east low e = absurd (one_on c low e)
-  spin_once c south north low e = absurd (two_on c low e)
-  spin_once c south west low e = absurd (three_on c low e)
-  spin_once c east south low e = absurd (one_on c low (sym e))
-  spin_once c east north low e = absurd (one_on (m.next c) (spin_low 1 c low) e)
-  spin_once c east west low e = absurd (two_on (m.next c) (spin_low 1 c low) e)
-  spin_once c north south low e = absurd (two_on c low (sym e))
-  spin_once c north east low e = absurd (one_on (m.next c) (spin_low 1 c low) (sym e))
-  spin_once c north west low e = absurd (one_on (m.next (m.next c)) (spin_low 2 c low) e)
-  spin_once c west south low e = absurd (three_on c low (sym e))
-  spin_once c west east low e = absurd (two_on (m.next c) (spin_low 1 c low) (sym e))
-  spin_once c west north low e = absurd (one_on (m.next (m.next c)) (spin_low 2 c low) (sym e))
-  spin_once c _ _ low e = refl
+  spin_once c w v h1 h2 = search (rules, spin_low)
 
   pub prev_is : (c : ℕ) → m.next (m.next (m.next c)) ≡ m.prev c
   prev_is c = cc (laws.next_prev c, laws.four_sides (m.prev c))
@@ -77,19 +55,7 @@ module _ {m : HalfEdges} (laws : IsQuadManifold m) {cut : Cut} (full : IsCut m c
   arc_run a low = (lay.arcs.each a low).run
 
   pub paved : HasWholeSides l
-  paved = record { sides_full = full_sides; arc_low = lay.uses; first_low = lay.first_low; last_low = lay.last_low }
-    where
-      some : (p : ℕ) (s : Way) → p < length t.patches → 0 < side_size (patch_at t.patches p) s
-      some p east low = (lay.patches.patch p low).grid.tall
-      some p west low = (lay.patches.patch p low).grid.tall
-      some p _ low = (lay.patches.patch p low).grid.wide
-
-      full_sides : (p : ℕ) (s : Way) → p < length t.patches → 0 < l.many p s
-      full_sides p s low = elim (cases_eq (l.many p s) 0) [
-        | inl e ↦ let none : size l x p s ≡ 0 = ap (reach l x p s) e in
-            absurd (omega (arith, lay.sizes p s low, some p s low))
-        | inr ne ↦ omega arith
-      ]
+  paved = search rules
 
   pub lengths : AreLengths l x
   lengths = record {
@@ -104,11 +70,7 @@ module _ {m : HalfEdges} (laws : IsQuadManifold m) {cut : Cut} (full : IsCut m c
 
   cell_side : (d : CellDart) → IsDart l x d → IsSide m (patch_at t.patches d.patch) d.i d.j (way_number d.way)
       (cell_dart m t d)
-  cell_side d is = record {
-    i_low = omega (arith, lay.sizes d.patch south is.patch_low);
-    j_low = omega (arith, lay.sizes d.patch west is.patch_low);
-    is = refl;
-  }
+  cell_side d is = search rules
 
   corner_low : (d : CellDart) → IsDart l x d → cell_of (patch_at t.patches d.patch) d.i d.j < m.count
   corner_low d is = (grid _ is.patch_low).low d.i d.j (cell_side d is).i_low (cell_side d is).j_low
@@ -118,9 +80,7 @@ module _ {m : HalfEdges} (laws : IsQuadManifold m) {cut : Cut} (full : IsCut m c
       let s : (d.patch ≡ e.patch) × (d.i ≡ e.i)
       × (d.j ≡ e.j) = lay.patches.once _ _ d.i d.j _ _ e.i e.j _ is_d.patch_low is_e.patch_low (cell_side d is_d) (subst
       (λ (k : ℕ). IsSide m (patch_at t.patches e.patch) e.i e.j (way_number e.way) k) (sym equal) (cell_side e is_e)) in
-      let ways : d.way ≡ e.way = spin_once m laws _ d.way e.way (corner_low e is_e)
-      ((λ r. spin m (way_number d.way) (cell_of (patch_at t.patches (sym s.0 r)) (sym s.1 r) (sym s.2 r))) ∙ equal) in
-      λ r. dart (s.0 r) (s.1 r) (s.2 r) (ways r)
+      search (rules, spin_once, corner_low)
 
   onto : (k : ℕ) → k < m.count → (d : CellDart) × IsDart l x d × (cell_dart m t d ≡ k)
   onto k low =
@@ -140,8 +100,7 @@ module _ {m : HalfEdges} (laws : IsQuadManifold m) {cut : Cut} (full : IsCut m c
   node_kept n low = rw lay.nodes (kept_at node 0 v_count n (rw (← lay.nodes) low))
 
   pub vertex_same : (i j : ℕ) → i < length t.nodes → j < length t.nodes → vertex_at t i ≡ vertex_at t j → i ≡ j
-  vertex_same = increasing_place (vertex_at t) (length t.nodes)
-      (record { step = λ k low. rw lay.nodes (rises node 0 v_count k (suc k) (omega arith) (rw (← lay.nodes) low)) })
+  vertex_same = search (rules, rises)
 
   -- Border darts by side and place.
   rim_dart : (p : ℕ) (s : Way) (k : ℕ) → p < length t.patches → cell_dart m t (dart_along l x p s k)
@@ -177,8 +136,7 @@ module _ {m : HalfEdges} (laws : IsQuadManifold m) {cut : Cut} (full : IsCut m c
   -- What lies on an arc has one slot's use.
   one_use : (a : ℕ) (f : Bool) (k d : ℕ) (w : Slot) (o : ℕ) → a < length t.arcs → k < long_at t.arcs a → LiesAt m
       (path_at t.arcs a).darts f k d → StandsAt d w o → ((use_of l w).arc ≡ a) × ((use_of l w).forward ≡ f) × (o ≡ k)
-  one_use a f k d w o a_low k_low at s = same_use m laws cut full node nodes t.arcs lay.arcs (use_of l w).arc a
-      (use_of l w).forward f o k d (lay.uses w s.is_slot) a_low s.low k_low s.lies at
+  one_use a f k d w o a_low k_low at s = search (rules, same_use)
 
   arc_dart_low : (a k : ℕ) → a < length t.arcs → k < long_at t.arcs a → dart_at t.arcs a k < m.count
   arc_dart_low a k low less = dart_low m laws cut full node nodes t.arcs lay.arcs a k low less
@@ -224,9 +182,7 @@ module _ {m : HalfEdges} (laws : IsQuadManifold m) {cut : Cut} (full : IsCut m c
       | inr e ↦ backward w is refl e none
     ])
     | inr (u, twin) ↦ inl (elim (cases_Bool (use_of l w).forward) [
-      | inl e ↦
-          let (v, is_v, arc, way) = twin_slot (use_of l w).arc 0 u a_low (arc_run (use_of l w).arc a_low).some twin in
-          (v, (is_v, record { arc = arc; turned = cc }))
+      | inl e ↦ search (rules, twin_slot)
       | inr e ↦
           let (v, is_v, used) = forward (use_of l w).arc a_low in
           (v, (is_v, record { arc = ap (λ (z : SideArc). z.arc) used; turned = cc }))
@@ -243,8 +199,7 @@ module _ {m : HalfEdges} (laws : IsQuadManifold m) {cut : Cut} (full : IsCut m c
           let low : long_at t.arcs (use_of l v).arc - 1 < long_at t.arcs (use_of l v).arc =
           omega (arith, (arc_run (use_of l v).arc (lay.uses v is_v)).some) in
           let zero_is : long_at t.arcs (use_of l v).arc - 1 - (long_at t.arcs (use_of l v).arc - 1) ≡ 0 = omega arith in
-          none-some _ (sym none ∙ ap (λ a. m.twin (dart_at t.arcs a 0)) (sym arc)
-          ∙ ap (λ k. m.twin (dart_at t.arcs (use_of l v).arc k)) (sym zero_is) ∙ behind_is v _ is_v low way)
+          search (rules, behind_is)
 
   alone : (a k : ℕ) → a < l.arcs → k < x a → ((w : Slot) → IsSlot l w → (use_of l w).arc ≡ a → (use_of l w).forward
       ≡ true) → m.twin (dart_at t.arcs a k) ≡ None
@@ -351,7 +306,5 @@ module _ {m : HalfEdges} (laws : IsQuadManifold m) {cut : Cut} (full : IsCut m c
           let (e, e_low, on, ends) = met n low in
           elim ends [
             | inl leaves ↦ node_starts n e low e_low on leaves
-            | inr arrives ↦
-                let f = goes_on e e_low on in
-                node_starts n f.0 low f.1 f.2 (cc)
+            | inr arrives ↦ search (rules, goes_on, node_starts)
           ]

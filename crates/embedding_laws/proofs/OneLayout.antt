@@ -1,9 +1,8 @@
 -- The layout of a mesh and a full cut lies in the mesh: at each node an edge of the cut ends.
-use Rattle.std.proofs.Common.{◌≡◌, ◌⊎◌, ℕ, zero, suc, ◌<◌, Bool, true, false, not, List, [], ◌∷◌, length, get_or, ◌∙◌}
-use Rattle.std.proofs.Common.{inl, inr, arith, ◌+◌, ◌-◌, ◌≤◌, sym, ap, subst}
-use Rattle.std.proofs.lemmas.Bool.{cases_Bool, cases_lt, or_cases, and_parts, not-true, ltb-true, cases_eq, cases_order}
-use Rattle.std.proofs.lemmas.List.{ext_get_or}
-use Rattle.std.specs.{Prelude.nat_lt, Prelude.is_some, List.filter}
+use Rattle.std.proofs.Common.{rules, ◌≡◌, ◌⊎◌, ℕ, zero, suc, ◌<◌, Bool, true, false, not, List, [], ◌∷◌, length, get_or}
+use Rattle.std.proofs.Common.{◌∙◌, inl, inr, arith, ◌+◌, ◌-◌, ◌≤◌, sym, ap, subst}
+use Rattle.std.proofs.lemmas.Bool.{cases_Bool, cases_lt, or_cases, and_parts, not-true, ltb-true, cases_order}
+use Rattle.std.{proofs.lemmas.List.ext_get_or, specs.Prelude.nat_lt, specs.Prelude.is_some, specs.List.filter}
 use Rattle.def_mesh.specs.{Darts.darts, Darts.prev_of, Darts.from_of, Darts.to_of, Darts.twin_of, Faces.Faces}
 use Rattle.def_mesh.specs.{Vertices.fan_of, Vertices.vertex_count, Kinds.is_regular, Meshes.IsMesh}
 use Rattle.def_mesh.specs.{HalfEdges.IsQuadManifold, HalfEdges.half_edges, HalfEdges.HalfEdges}
@@ -18,7 +17,7 @@ use Rattle.def_written.specs.{Laws.AreQuads, Laws.LiesInMesh, EmbeddingLaws.Embe
 use Rattle.layout_laws.proofs.FaceNodes.{are_nodes}
 use Rattle.written_laws.proofs.{ModelCounts.used_dart, Spacings.count_rises}
 use Rattle.embedding_laws.proofs.ArcUses.{dart_low, same_arc, one_name_both, clash, same_use}
-use Rattle.embedding_laws.proofs.Lies.{cell_dart, paved, lengths, node_kept, sided, vertex_same}
+use Rattle.embedding_laws.proofs.Lies.{cell_dart, lengths, node_kept, sided, vertex_same}
 use Rattle.cut_laws.proofs.{Pigeon.AreIncreasing, Pigeon.increasing_place, Pigeon.same_many, Pigeon.same_values}
 use Rattle.cut_laws.proofs.{OneList.one_list_law}
 use Rattle.{face_laws.proofs.FullCuts.full_cut_law, sum_laws.proofs.Sums.count_below_same}
@@ -84,16 +83,7 @@ module _ (faces : Faces) (marks : List Bool) (layout : Layout) (mesh : IsMesh fa
     in_mesh = sided laws cut nodes lay met
 
     lies : LiesInMesh faces (gluing_of layout) (long_at layout.arcs) (vertex_at layout)
-    lies = record {
-      manifold = mesh.manifold;
-      quads = quads;
-      used = mesh.used;
-      paved = paved laws cut nodes lay;
-      lengths = lengths laws cut nodes lay;
-      cell = cell_dart (half_edges faces) layout;
-      arc_dart = dart_at layout.arcs;
-      sided = in_mesh;
-    }
+    lies = search (rules, laws, cut, nodes, lengths, in_mesh)
 
 pub embedding_law : EmbeddingLaw
 embedding_law faces marks layout mesh quads full lay = lies faces marks layout mesh quads full lay
@@ -125,8 +115,7 @@ module _ (m : HalfEdges) (laws : IsQuadManifold m) (cut : Cut) (full : IsCut m c
               long = s.long;
               each = s.each;
             }
-        | false ↦ λ at. absurd (clash laws full nodes are them a b 0 (long_at others b - 1 - o) low b_low
-            (are.each a low).run.some (omega arith) at)
+        | false ↦ search (rules, clash)
       ]) lies
 
   increasing : (arcs : List Path) → AreArcs m cut node arcs → AreIncreasing (name_at arcs) (length arcs)
@@ -226,11 +215,7 @@ module _ (m : HalfEdges) (laws : IsQuadManifold m) (cut : Cut) (full : IsCut m c
           → (i : ℕ) → i < k → here p s i ≡ there p s i
       agree p s zero low one other i l = absurd (omega arith)
       agree p s (suc k) low one other i l =
-          let before = agree p s k low (omega arith) (omega arith) in
-          elim (cases_eq i k) [
-            | inl e ↦ rw e (one_more p s k low (omega arith) (omega arith) before)
-            | inr ne ↦ before i (omega arith)
-          ]
+          let before = agree p s k low (omega arith) (omega arith) in search (rules, one_more)
 
       -- They have as many uses, since both are as long as the side of the patch.
       fewer : (p : ℕ) (s : Way) → p < length t.patches → (gluing_of t).many p s < (gluing_of u).many p s → ⊥
@@ -278,14 +263,10 @@ module _ (m : HalfEdges) (laws : IsQuadManifold m) (cut : Cut) (full : IsCut m c
         let nodes_same : t.nodes ≡ u.nodes = cc (lt.nodes, lu.nodes) in
         let arcs_same = same_paths t u lt lu nodes_same in
         let patches_same = one_list_law m cut face laws full t.patches u.patches lt.patches lu.patches in
-        let moved : IsDartLayout m cut node face v (record t { sides = u.sides }) =
-        rw (nodes_same, arcs_same, patches_same) lu in
-        let sides_same = same_sides t u.sides lt moved in
-        λ i. record { nodes = nodes_same i; arcs = arcs_same i; patches = patches_same i; sides = sides_same i }
+        search (rules, same_sides)
 
 pub one_layout_law : OneLayoutLaw
 one_layout_law faces marks manifold full one other is also =
     let laws = manifold_law faces manifold in
     let cut : IsCut (half_edges faces) (is_on marks) = ((full_cut_law faces marks manifold).0 full).1 in
-    one_layout _ laws _ cut _ (are_nodes faces laws marks cut) face_of
-    _ one other is also
+    search (rules, one_layout, are_nodes)

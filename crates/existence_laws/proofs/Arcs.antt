@@ -1,7 +1,7 @@
 -- A mesh with a full cut has arcs, in order of their names, and uses of them.
-use Rattle.std.proofs.Common.{◌≡◌, ◌⊎◌, ℕ, zero, suc, ◌+◌, ◌-◌, ◌/◌, ◌<◌, ◌≤◌, Bool, true, false, List, [], ◌∷◌, ◌++◌}
-use Rattle.std.proofs.Common.{length, get_or, set, replicate, Option, Some, None, sym, ◌∙◌, ap, subst, refl, inl, inr}
-use Rattle.std.proofs.Common.{arith, length-append}
+use Rattle.std.proofs.Common.{rules, ◌≡◌, ◌⊎◌, ℕ, zero, suc, ◌+◌, ◌-◌, ◌/◌, ◌<◌, ◌≤◌, Bool, true, false, List, [], ◌∷◌}
+use Rattle.std.proofs.Common.{◌++◌, length, get_or, set, replicate, Option, Some, None, sym, ◌∙◌, ap, subst, refl, inl}
+use Rattle.std.proofs.Common.{inr, arith, length-append}
 use Rattle.std.proofs.lemmas.Bool.{cases_Bool, cases_eq, false≢true, cases_lt}
 use Rattle.std.proofs.lemmas.List.{length-replicate, get_or_append_left, get_or-append-add}
 use Rattle.def_cut.specs.{FullCut.is_on, Grids.IsPartition, Grids.Rectangle, Grids.patch_at, Steps.easts}
@@ -31,12 +31,7 @@ module _ {faces : Faces} {cut marks : List Bool} (marked : IsMarked faces cut ma
 
   place : (v : ℕ) → v < vertex_count faces → is_node faces cut v ≡ true → (k : ℕ) × (k < length node_list)
       × (get_or node_list k 0 ≡ v)
-  place v low on =
-      place_of (is_on marks) 0 (length marks) v (record {
-        low = omega arith;
-        high = omega (arith, low, marked.many);
-        passes = marked.told v low ∙ on;
-      })
+  place v low on = search (rules, place_of)
 
   -- The arc of a run.
   arc_from : (s n : ℕ) → IsRun mesh (is_on cut) (is_node faces cut) s n → (p : Path) × IsArcFrom faces cut node_list s p
@@ -185,11 +180,7 @@ least_passing p e on = search e 0 (omega arith) (λ x l. absurd (omega arith))
   where
     found : (k : ℕ) → ((x : ℕ) → x < k → p x ≡ false) → p k ≡ true → (d : ℕ) × (p d ≡ true)
         × ((x : ℕ) → p x ≡ true → d ≤ x)
-    found k before here = (
-      k,
-      here,
-      λ x also. elim (cases_lt x k) [ inl l ↦ absurd (false≢true (sym (before x l) ∙ also)) | inr h ↦ h ],
-    )
+    found k before here = search rules
 
     search : (left k : ℕ) → k + left ≡ e → ((x : ℕ) → x < k → p x ≡ false) → (d : ℕ) × (p d ≡ true)
         × ((x : ℕ) → p x ≡ true → d ≤ x)

@@ -1,9 +1,8 @@
 -- A full cut of a mesh has patches: from the least corner of each class of faces grows a grid.
-use Rattle.std.proofs.Common.{◌≡◌, ℕ, zero, suc, ◌+◌, ◌*◌, ◌/◌, ◌<◌, ◌≤◌, Bool, true, false, ◌||◌, List, [], ◌∷◌, ◌++◌}
-use Rattle.std.proofs.Common.{length, map, get_or, replicate, refl, inl, inr, arith}
-use Rattle.std.proofs.lemmas.Bool.{and_from, and_parts, cases_Bool, lt-ltb, ltb-true}
+use Rattle.std.proofs.Common.{rules, ◌≡◌, ℕ, zero, suc, ◌+◌, ◌*◌, ◌/◌, ◌<◌, ◌≤◌, Bool, true, false, ◌||◌, List, [], ◌∷◌}
+use Rattle.std.proofs.Common.{◌++◌, length, map, get_or, replicate, refl, inl, inr, arith}
+use Rattle.std.{proofs.lemmas.Bool.cases_Bool, specs.Prelude.◌&&◌, specs.Prelude.nat_lt, specs.List.range_with_len}
 use Rattle.std.proofs.lemmas.List.FromFn.{get_or-map-range_with_len, length-map-range_with_len}
-use Rattle.std.specs.{Prelude.◌&&◌, Prelude.nat_lt, List.range_with_len}
 use Rattle.def_cut.specs.{Cuts.IsCorner, FullCut.is_on, Grids.IsPartition, Grids.Rectangle}
 use Rattle.def_mesh.specs.{Darts.darts, Darts.prev_of, Faces.Faces, HalfEdges.HalfEdges, HalfEdges.half_edges}
 use Rattle.qm_grid.specs.{Cells.grid_list, Heads.lies_in, Heads.AreOfOne, Heads.IsHead}
@@ -20,7 +19,7 @@ module _ {faces : Faces} {cut : List Bool} (cutting : IsCutting faces cut) where
   head : (f : ℕ) → f < length faces → (d : ℕ) × IsHead faces cut f d
   head f low =
       let (e, n, links, corner) = cutting.full.corner (4 * f) (omega arith) in
-      let (w, h, grown) = grow mesh cutting.laws (is_on cut) cutting.full e corner in
+      let (w, h, grown) = grow cutting.laws cutting.full e corner in
       by_grid e w h (n, links) corner grown
     where
       by_grid : (e w h : ℕ) → AreOfOne faces cut (4 * f) e → IsCorner mesh (is_on cut) e
@@ -44,16 +43,11 @@ module _ {faces : Faces} {cut : List Bool} (cutting : IsCutting faces cut) where
               && lies_in (grid_list mesh e w h) (x / 4)))
 
           passes : (x : ℕ) → AreOfOne faces cut e x → IsCorner mesh (is_on cut) x → is_corner x ≡ true
-          passes x of_one at = and_from _ _ (lt-ltb x (darts faces) at.0)
-              (and_from _ _ at.1 (and_from _ _ at.2 (linked_lies cutting corner grown x of_one)))
+          passes x of_one at = search (rules, linked_lies)
 
           parts : (x : ℕ) → is_corner x ≡ true → IsCorner mesh (is_on cut) x
               × (lies_in (grid_list mesh e w h) (x / 4) ≡ true)
-          parts x is =
-              let low = and_parts (nat_lt x (darts faces)) _ is in
-              let on = and_parts (is_on cut x) _ low.1 in
-              let behind = and_parts (is_on cut (prev_of x)) (lies_in (grid_list mesh e w h) (x / 4)) on.1 in
-              ((ltb-true x (darts faces) low.0, on.0, behind.0), behind.1)
+          parts x is = search rules
 
   -- The patches of the faces below n.
   found : (n : ℕ) → n ≤ length faces → (seen : List Bool) × (ps : List Rectangle) × AreFoundSoFar faces cut n seen ps
@@ -65,7 +59,7 @@ module _ {faces : Faces} {cut : List Bool} (cutting : IsCutting faces cut) where
         | inl on ↦ (seen, ps, found_skip cutting so on)
         | inr off ↦
             let (d, is) = head n (omega arith) in
-            let (w, h, grown) = grow mesh cutting.laws (is_on cut) cutting.full d is.corner in
+            let (w, h, grown) = grow cutting.laws cutting.full d is.corner in
             let cells = grid_list mesh d w h in
             let marked = λ (g : ℕ). get_or seen g false || lies_in (grid_list mesh d w h) g in (
               map marked (range_with_len 0 (length seen)),

@@ -69,16 +69,16 @@ module _ (faces : Faces) (laws : IsQuadManifold (half_edges faces)) where
   regular_cross d l inner regular =
       let v = from_of faces d in
       let many : faces_at faces v ≡ 4 = eqb-true _ _ regular ∙ cond-true (is_inner faces v) 4 2 inner in
-      four_cross (half_edges faces) laws v (λ x lx at. inner_twin faces v inner (prev_of x) (laws.prev_low x lx)
+      four_cross laws v (λ x lx at. inner_twin faces v inner (prev_of x) (laws.prev_low x lx)
       (inr (ap (from_of faces) (laws.next_prev x) ∙ at))) d (record { low = l; at = refl })
       (subst (λ (n : ℕ). HasFan (half_edges faces) v n) many (has_fan faces v))
 
   -- and a vertex with a cross is inner and regular.
   pub cross_inner : (d : ℕ) → d < darts faces → HasCross (half_edges faces) d → is_inner faces (from_of faces d) ≡ true
   cross_inner d l c = inner_from faces (from_of faces d) (λ x lx at. elim at [
-    | inl at ↦ (both_twins (half_edges faces) laws d c.0 c.1 c.2 l c.3 x (record { low = lx; at = at })).1
+    | inl at ↦ (both_twins laws d c.0 c.1 c.2 l c.3 x (record { low = lx; at = at })).1
     | inr at ↦
-        let t = (both_twins (half_edges faces) laws d c.0 c.1 c.2 l c.3 (next_of x)
+        let t = (both_twins laws d c.0 c.1 c.2 l c.3 (next_of x)
         (record { low = laws.next_low x lx; at = at })).0 in
         (t.0, ap (twin_of faces) (sym (laws.prev_next x)) ∙ t.1)
   ])
@@ -87,8 +87,8 @@ module _ (faces : Faces) (laws : IsQuadManifold (half_edges faces)) where
       ≡ true
   cross_regular d l c =
       let fan = has_fan faces (from_of faces d) in
-      let most = fan.most 4 (of_four d c.0 c.1 c.2) (four_all (half_edges faces) laws d c.0 c.1 c.2 l c.3) in
-      let least = fan.least 4 (of_four d c.0 c.1 c.2) (four_some (half_edges faces) laws d c.0 c.1 c.2 l c.3) in
+      let most = fan.most 4 (of_four d c.0 c.1 c.2) (four_all laws d c.0 c.1 c.2 l c.3) in
+      let least = fan.least 4 (of_four d c.0 c.1 c.2) (four_some laws d c.0 c.1 c.2 l c.3) in
       let four : faces_at faces (from_of faces d) ≡ 4 = omega arith in
       eq-eqb _ _ (four ∙ sym (cond-true (is_inner faces (from_of faces d)) 4 2 (cross_inner d l c)))
 
@@ -106,9 +106,9 @@ module _ (faces : Faces) (laws : IsQuadManifold (half_edges faces)) where
       omega arith ∙ from_first (x / 4) (x % 4) (omega arith) in
       let last : y ≡ spin (half_edges faces) (y % 4) (4 * (x / 4)) =
       omega arith ∙ from_first (x / 4) (y % 4) (omega arith) in
-      let back = spin_back (half_edges faces) laws (x % 4) (4 * (x / 4)) in
+      let back = spin_back laws (x % 4) (4 * (x / 4)) in
       let home = back.1 ∙ ap (spin (half_edges faces) back.0) (sym first) in
-      let join = spin_join (half_edges faces) laws (y % 4) back.0 x in
+      let join = spin_join laws (y % 4) back.0 x in
       (join.0, last ∙ (ap (spin (half_edges faces) (y % 4)) home ∙ join.1))
 
 -- A full cut of a list of faces and a full cut of its half edges are one.
@@ -147,12 +147,12 @@ module _ (faces : Faces) (laws : IsQuadManifold (half_edges faces)) (marks : Lis
     chain_links : (f g n : ℕ) → IsChain faces marks f g n → (x y : ℕ) → x / 4 ≡ f → y / 4 ≡ g → AreLinked mesh cut x y
     chain_links f g zero c x y ex ey =
         let s = same_face faces laws x y (ex ∙ (c ∙ sym ey)) in
-        rw s.1 (step_spin mesh laws cut x x s.0 (0, refl))
+        rw s.1 (step_spin laws cut x x s.0 (0, refl))
     chain_links f g (suc n) c x y ex ey =
         let before = chain_links f (c.0 / 4) n c.2 x c.0 ex refl in
-        let over = step_over mesh laws cut x c.0 c.1 before c.4 c.5 in
+        let over = step_over laws cut x c.0 c.1 before c.4 c.5 in
         let s = same_face faces laws c.1 y (sym c.6 ∙ sym ey) in
-        rw s.1 (step_spin mesh laws cut x c.1 s.0 over)
+        rw s.1 (step_spin laws cut x c.1 s.0 over)
 
     corner : (d : ℕ) → d < darts faces → (e : ℕ) × (n : ℕ) × Links mesh cut d e n × IsCorner mesh cut e
     corner d l =
@@ -219,7 +219,7 @@ module _ (faces : Faces) (laws : IsQuadManifold (half_edges faces)) (marks : Lis
         let r = links_chain d c n l a.1 in
         elim a.2 [
           | inl s ↦ (r.0, rw (s, next_face c) r.1)
-          | inr o ↦ (suc r.0, (c, e, r.1, links_low mesh laws cut d c n l a.1, o.0, o.1, refl))
+          | inr o ↦ (suc r.0, (c, e, r.1, links_low laws cut d c n l a.1, o.0, o.1, refl))
         ]
 
     corners : (f : ℕ) → f < length faces → (d : ℕ) × (n : ℕ) × IsChain faces marks f (d / 4) n × (d < darts faces)

@@ -1,6 +1,6 @@
 -- Each arc of the cut is marked in all its edges or in none.
-use Rattle.std.proofs.Common.{◌≡◌, ℕ, zero, suc, ◌<◌, Bool, true, false, ◌&&◌, List, Some, sym, ap, ◌∙◌, refl, inl, inr}
-use Rattle.std.proofs.Common.{arith}
+use Rattle.std.proofs.Common.{rules, ◌≡◌, ℕ, zero, suc, ◌<◌, Bool, true, false, ◌&&◌, List, Some, sym, ap, ◌∙◌, refl}
+use Rattle.std.proofs.Common.{inl, inr, arith}
 use Rattle.std.proofs.{lemmas.Bool.and_parts, lemmas.Bool.false≢true, lemmas.Option.same_Some}
 use Rattle.def_mesh.specs.{Faces.Faces, Darts.darts, Darts.from_of, Darts.to_of, Darts.next_of, Darts.prev_of}
 use Rattle.def_mesh.specs.{Darts.twin_of, Manifold.IsManifold, HalfEdges.HalfEdges, HalfEdges.IsQuadManifold}
@@ -37,12 +37,12 @@ module _ (faces : Faces) (m : IsManifold faces) (marks : List Bool) (marked : Ar
   opposite : (x a b c : ℕ) → x < darts faces → IsCross mesh x a b c → is_node faces cut_marks (from_of faces x) ≡ false
       → is_on marks x ≡ true → is_on marks b ≡ true
   opposite x a b c l k inner on =
-      let lc = low_c mesh laws x a b c l k in
+      let lc = low_c laws x a b c l k in
       elim (two_ways faces m marks marked x a b c l on k) [
         | inl yb ↦ yb
         -- The cut would turn from x to the edge on its left.
         | inr (inl sides) ↦ absurd (false≢true (sym inner ∙ (ap (is_node faces cut_marks)
-            (sym (at_c mesh laws x a b c l k)) ∙ nodes.corner c lc (kept.kept c lc sides.1) (cut.alike x (prev_of c) l
+            (sym (at_c laws x a b c l k)) ∙ nodes.corner c lc (kept.kept c lc sides.1) (cut.alike x (prev_of c) l
             (laws.twin_twin (prev_of c) x (laws.prev_low c lc) k.last) ∙ kept.kept x l on))))
         | inr (inr y) ↦
             let found = any_where (λ e. is_on cut_marks e && is_on cut_marks (prev_of e))
@@ -65,9 +65,9 @@ module _ (faces : Faces) (m : IsManifold faces) (marks : List Bool) (marked : Ar
       ap (is_node faces cut_marks) (laws.twin_ends e t l w).0 ∙ inner in
       let (a, b, c, k) = nodes.through t e lt (kept.kept t lt t_on) t_twin there in
       let left : next_of e ≡ c = ap next_of (same_Some e (prev_of c) (sym t_twin ∙ laws.twin_twin (prev_of c) t
-      (laws.prev_low c (low_c mesh laws t a b c lt k)) k.last)) ∙ laws.next_prev c in
+      (laws.prev_low c (low_c laws t a b c lt k)) k.last)) ∙ laws.next_prev c in
       let is : b ≡ step_east (half_edges faces) e = sym (laws.next_prev b) ∙ (ap next_of (same_Some (prev_of b)
-      (prev_of (east e)) (sym (laws.twin_twin (prev_of b) c (laws.prev_low b (low_b mesh laws t a b c lt k)) k.third) ∙
+      (prev_of (east e)) (sym (laws.twin_twin (prev_of b) c (laws.prev_low b (low_b laws t a b c lt k)) k.third) ∙
       (ap (twin_of faces) (sym left) ∙ g.over))) ∙ laws.next_prev (east e)) in
       ap (is_on marks) (sym is) ∙ opposite t a b c lt k there t_on
 
@@ -113,5 +113,4 @@ traced_beside faces m marks marked =
     }
 
 pub marked_arc_law : MarkedArcLaw
-marked_arc_law faces marks m marked s n run k l =
-    along faces m marks marked (marked_cut faces marks) (traced_beside faces m marks marked) s n run k l
+marked_arc_law faces marks m marked s n run k l = search (rules, along, traced_beside)

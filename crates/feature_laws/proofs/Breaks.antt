@@ -1,38 +1,30 @@
 -- Marked edges at a vertex: a line goes straight on there, or it begins. A trail leads to each marked dart.
-use Rattle.std.proofs.Common.{◌≡◌, ◌⊎◌, ℕ, ◌<◌, ◌≤◌, Bool, true, false, not, eqb, ◌&&◌, ◌||◌, List, Option, Some, None}
-use Rattle.std.proofs.Common.{is_some, sym, ap, ◌∙◌, refl, inl, inr, arith, zero, suc, ltb}
-use Rattle.std.proofs.lemmas.Bool.{cases_Bool, cond-true, eq-eqb, eqb-true, lt-ltb, or_left, or_right, and_from}
-use Rattle.std.proofs.lemmas.Bool.{and_parts, not_from_false, false≢true, false_from_ne_true, cases_lt, cases_eq}
-use Rattle.std.proofs.lemmas.Bool.{le-ltb}
-use Rattle.std.proofs.lemmas.Option.{same_Some}
-use Rattle.def_mesh.specs.Darts.{darts, all_darts, from_of, to_of, next_of, prev_of, twin_of, straight_of}
+use Rattle.std.proofs.Common.{rules, ◌≡◌, ◌⊎◌, ℕ, ◌<◌, ◌≤◌, Bool, true, false, not, ◌&&◌, ◌||◌, List, Option, Some}
+use Rattle.std.proofs.Common.{None, is_some, sym, ap, ◌∙◌, refl, inl, inr, arith, zero, suc, ltb}
+use Rattle.std.proofs.lemmas.Bool.{cases_Bool, cond-true, or_left, or_right, and_from, and_parts, not_from_false}
+use Rattle.std.proofs.lemmas.Bool.{false≢true, false_from_ne_true, cases_lt, cases_eq, le-ltb}
+use Rattle.{std.proofs.lemmas.Option.same_Some, def_runs.specs.Runs.is_passed, def_runs.specs.Runs.follower}
+use Rattle.def_mesh.specs.Darts.{darts, from_of, to_of, next_of, prev_of, twin_of, straight_of}
 use Rattle.def_mesh.specs.{Faces.Faces, Manifold.IsManifold, Vertices.faces_at, Vertices.fan_of, Kinds.is_inner}
 use Rattle.def_mesh.specs.{Kinds.is_regular, Components.seeds, Components.is_start, HalfEdges.HalfEdges}
 use Rattle.def_mesh.specs.{HalfEdges.IsQuadManifold, HalfEdges.half_edges}
-use Rattle.def_runs.specs.Runs.{is_passed, follower}
 use Rattle.def_cut.specs.{Cuts.IsCross, Cuts.HasCross, FullCut.is_on, Motion.is_among, Steps.or_zero, Trails.IsStraight}
 use Rattle.def_cut.specs.{Trails.Trail}
 use Rattle.def_feature.specs.Marks.{AreMarks, is_found_on, goes_through, is_crossed, is_break, goes_round, is_touched}
-use Rattle.def_feature.specs.{Beside.is_turn, Marked.is_origin}
+use Rattle.{def_feature.specs.Beside.is_turn, def_feature.specs.Marked.is_origin, motion_laws.proofs.Bits.rotated}
 use Rattle.cut_laws.proofs.Crosses.{at_a, both_twins, low_a, low_b, low_c, one_of_four}
 use Rattle.cut_laws.proofs.{Folds.turn_from, Folds.turn_low, Pigeon.comes_back}
 use Rattle.face_laws.proofs.FullCuts.{regular_cross, cross_inner, cross_regular}
-use Rattle.motion_laws.proofs.Among.{cases_Option, any_at, any_where, in_filter, from_filter, among_range, range_among}
-use Rattle.motion_laws.proofs.Bits.{rotated}
+use Rattle.motion_laws.proofs.Among.{any_at, any_where, in_filter, from_filter, among_range, range_among}
 use Rattle.{std.specs.Prelude.option_map, mesh_laws.proofs.Chains.manifold_law, site_laws.proofs.Sources.three_faces}
 
 -- What stands in the fan of a vertex.
 pub in_fan : (faces : Faces) (v d : ℕ) → d < darts faces → from_of faces d ≡ v → is_among d (fan_of faces v) ≡ true
-in_fan faces v d l at = in_filter (λ e. eqb (from_of faces e) v) d (all_darts faces)
-    (among_range 0 (darts faces) d (omega arith) (omega arith)) (eq-eqb _ _ at)
+in_fan faces v d l at = search (rules, in_filter, among_range)
 
 pub from_fan : (faces : Faces) (v d : ℕ) → is_among d (fan_of faces v) ≡ true → (d < darts faces)
     × (from_of faces d ≡ v)
-from_fan faces v d m =
-    let f : (is_among d (all_darts faces) ≡ true) × (eqb (from_of faces d) v ≡ true) =
-    from_filter (λ e. eqb (from_of faces e) v) d (all_darts faces) m in
-    let r = range_among 0 (darts faces) d f.0 in
-    (omega arith, eqb-true _ _ f.1)
+from_fan faces v d m = search (rules, from_filter, range_among)
 
 -- The edge of a dart is marked or has one dart: a line that comes there begins or ends.
 abbrev pub is_held : (faces : Faces) (marks : List Bool) (d : ℕ) → Bool
@@ -69,8 +61,7 @@ module _ (faces : Faces) (m : IsManifold faces) (marks : List Bool) (marked : Ar
 
   -- A marked dart has a twin.
   pub twin_on : (d : ℕ) → d < darts faces → is_on marks d ≡ true → (t : ℕ) × (twin_of faces d ≡ Some t)
-  twin_on d l on = elim (cases_Option (twin_of faces d))
-      [ inl w ↦ absurd (false≢true (sym (marked.inner d l w) ∙ on)) | inr w ↦ w ]
+  twin_on d l on = search rules
 
   -- A cross lies at a passed vertex.
   pub cross_passed : (d : ℕ) → d < darts faces → HasCross (half_edges faces) d
@@ -89,10 +80,10 @@ module _ (faces : Faces) (m : IsManifold faces) (marks : List Bool) (marked : Ar
   through_is : (x a b c : ℕ) → x < darts faces → IsCross mesh x a b c
       → goes_through faces marks (twin_of faces x) ≡ (is_on marks x && is_on marks b)
   through_is x a b c l k =
-      let over = laws.twin_twin (prev_of c) x (laws.prev_low c (low_c mesh laws x a b c l k)) k.last in
+      let over = laws.twin_twin (prev_of c) x (laws.prev_low c (low_c laws x a b c l k)) k.last in
       let ahead : straight_of faces (prev_of c) ≡ Some b = ap (λ y. option_map next_of (twin_of faces y))
       (laws.next_prev c) ∙ (ap (option_map next_of) (laws.twin_twin (prev_of b) c
-      (laws.prev_low b (low_b mesh laws x a b c l k)) k.third) ∙ ap Some (laws.next_prev b)) in
+      (laws.prev_low b (low_b laws x a b c l k)) k.third) ∙ ap Some (laws.next_prev b)) in
       ap (goes_through faces marks) over ∙ (ap (λ o. is_on marks (prev_of c) && is_found_on o marks) ahead
       ∙ ap (λ q. q && is_on marks b) (marked.alike x (prev_of c) l over))
 
@@ -102,8 +93,8 @@ module _ (faces : Faces) (m : IsManifold faces) (marks : List Bool) (marked : Ar
       ⊎ (is_break faces marks (from_of faces d) ≡ true))
   two_ways d a b c l on k =
       let v = from_of faces d in
-      let la = low_a mesh laws d a b c l k in
-      let lb = low_b mesh laws d a b c l k in
+      let la = low_a laws d a b c l k in
+      let lb = low_b laws d a b c l k in
       let k1 = rotated mesh laws d a b c l k in
       let k2 = rotated mesh laws a b c d la k1 in
       let k3 = rotated mesh laws b c d a lb k2 in
@@ -119,7 +110,7 @@ module _ (faces : Faces) (m : IsManifold faces) (marks : List Bool) (marked : Ar
             false≢true (sym side ∙ and_from _ _ p.0 p.1)
         | inr (inr (inl s)) ↦ false≢true (sym off ∙ (through e b d s (through_is b c d a lb k2) y).0)
         | inr (inr (inr s)) ↦
-            let p = through e c a s (through_is c d a b (low_c mesh laws d a b c l k) k3) y in
+            let p = through e c a s (through_is c d a b (low_c laws d a b c l k) k3) y in
             false≢true (sym side ∙ and_from _ _ p.1 p.0)
       ] in
       let touched = any_at (is_on marks) d (fan_of faces v) (in_fan faces v d l refl) on in
@@ -131,7 +122,7 @@ module _ (faces : Faces) (m : IsManifold faces) (marks : List Bool) (marked : Ar
               let none : is_crossed faces marks (from_of faces d) ≡ false = false_from_ne_true _ (λ y.
               let found = any_where (λ e. goes_through faces marks (twin_of faces e)) (fan_of faces v) y in
               let f = from_fan faces v found.0 found.1 in
-              not_through off side found.0 (one_of_four mesh laws d a b c l k found.0
+              not_through off side found.0 (one_of_four laws d a b c l k found.0
               (record { low = f.0; at = f.1 })) found.2) in
               inr (inr (and_from _ _ (cross_passed d l (a, b, c, k))
               (or_left _ _ (and_from _ _ touched (not_from_false _ none)))))
@@ -149,11 +140,11 @@ module _ (faces : Faces) (m : IsManifold faces) (marks : List Bool) (marked : Ar
       → d < darts faces → is_break faces marks (from_of faces d) ≡ true → is_turn faces cut (from_of faces d) ≡ true
   break_turns cut alike on d l y =
       let (a, b, c, k) = break_cross d l y in
-      let t = (both_twins mesh laws d a b c l k d (record { low = l; at = refl })).1 in
+      let t = (both_twins laws d a b c l k d (record { low = l; at = refl })).1 in
       let back = laws.prev_low d l in
-      let la = low_a mesh laws d a b c l k in
+      let la = low_a laws d a b c l k in
       let on_a = on a la (break_origin a (prev_of d) (laws.twin_twin (prev_of d) a back k.first)
-      (ap (is_break faces marks) (at_a mesh laws d a b c l k) ∙ y)) in
+      (ap (is_break faces marks) (at_a laws d a b c l k) ∙ y)) in
       any_at (λ e. is_on cut e && is_on cut (prev_of e)) d (fan_of faces (from_of faces d))
       (in_fan faces (from_of faces d) d l refl) (and_from _ _ (on d l (break_origin d t.0 t.1 y))
       (sym (alike (prev_of d) a back k.first) ∙ on_a))
@@ -161,8 +152,7 @@ module _ (faces : Faces) (m : IsManifold faces) (marks : List Bool) (marked : Ar
   -- At a boundary vertex with more than two faces so is each dart with a twin, and at a singular one.
   reflex_origin : (d t : ℕ) → twin_of faces d ≡ Some t → is_inner faces (from_of faces d) ≡ false
       → 3 ≤ faces_at faces (from_of faces d) → is_origin faces marks d ≡ true
-  reflex_origin d t w out three = or_left _ _ (or_right _ _ (and_from _ _ (ap is_some w)
-      (or_left _ _ (and_from _ _ (not_from_false _ out) (lt-ltb 2 (faces_at faces (from_of faces d)) (omega arith))))))
+  reflex_origin d t w out three = search rules
 
   pub held_alone : (d : ℕ) → twin_of faces d ≡ None → is_held faces marks d ≡ true
   held_alone d w = or_right _ _ (ap (λ o. not (is_some o)) w)
@@ -174,19 +164,18 @@ module _ (faces : Faces) (m : IsManifold faces) (marks : List Bool) (marked : Ar
     where
       beside : (t : ℕ) → twin_of faces d ≡ Some t → is_held faces marks (prev_of d) ≡ true
           → is_held faces marks (next_of t) ≡ true → begins faces marks d ≡ true
-      beside t w before after = or_right _ _
-          (and_from _ _ on (and_from _ _ before (ap (is_held_after faces marks) w ∙ after)))
+      beside t w before after = search rules
 
       goes_back : (a b c : ℕ) → IsCross mesh d a b c → is_on marks b ≡ true → GoesBack faces marks d
       goes_back a b c k yb =
-          let a_low = low_a mesh laws d a b c l k in
+          let a_low = low_a laws d a b c l k in
           let is : back faces d ≡ prev_of a = ap (λ o. prev_of (or_zero o)) k.first in
           let a_twin = laws.twin_twin (prev_of d) a (laws.prev_low d l) k.first in
           let ahead : straight_of faces (prev_of a) ≡ Some d = ap (λ x. option_map next_of (twin_of faces x))
           (laws.next_prev a) ∙ (ap (option_map next_of) a_twin ∙ ap Some (laws.next_prev d)) in
           let passed = cross_passed d l (a, b, c, k) in
           let passed_there : is_passed faces (to_of faces (prev_of a)) ≡ true = ap (λ x. is_passed faces
-          (from_of faces x)) (laws.next_prev a) ∙ (ap (is_passed faces) (at_a mesh laws d a b c l k) ∙ passed) in
+          (from_of faces x)) (laws.next_prev a) ∙ (ap (is_passed faces) (at_a laws d a b c l k) ∙ passed) in
           record {
             low = rw is (laws.prev_low a a_low);
             on = ap (is_on marks) is ∙ (sym (marked.alike (prev_of a) b (laws.prev_low a a_low) k.second) ∙ yb);
@@ -206,7 +195,7 @@ module _ (faces : Faces) (m : IsManifold faces) (marks : List Bool) (marked : Ar
       by_cross t w a b c k = elim (two_ways d a b c l on k) [
         | inl yb ↦ inr (goes_back a b c k yb)
         | inr (inl both) ↦
-            let over = laws.twin_twin (prev_of c) d (laws.prev_low c (low_c mesh laws d a b c l k)) k.last in
+            let over = laws.twin_twin (prev_of c) d (laws.prev_low c (low_c laws d a b c l k)) k.last in
             let after : next_of t ≡ c = ap next_of (same_Some t (prev_of c) (sym w ∙ over)) ∙ laws.next_prev c in
             inl (beside t w (or_left _ _ (sym (marked.alike (prev_of d) a (laws.prev_low d l) k.first) ∙ both.0))
             (or_left _ _ (ap (is_on marks) after ∙ both.1)))
@@ -218,9 +207,9 @@ module _ (faces : Faces) (m : IsManifold faces) (marks : List Bool) (marked : Ar
           → twin_of faces (prev_of d) ≡ o → twin_of faces (next_of t) ≡ p → begins faces marks d ≡ true
       on_rim t w out None None before after = beside t w (held_alone (prev_of d) before) (held_alone (next_of t) after)
       on_rim t w out (Some a) p before after =
-          let at = turn_from mesh laws d a l before in
+          let at = turn_from laws d a l before in
           or_left _ _ (reflex_origin d t w out (rw (← at) (three_faces faces laws a (prev_of d) t
-          (turn_low mesh laws d a l before) (laws.twin_twin (prev_of d) a (laws.prev_low d l) before)
+          (turn_low laws d a l before) (laws.twin_twin (prev_of d) a (laws.prev_low d l) before)
           (ap (twin_of faces) (laws.next_prev d) ∙ w) (ap (is_inner faces) at ∙ out))))
       on_rim t w out None (Some u) before after =
           or_left _ _ (reflex_origin d t w out (three_faces faces laws d t u l w after out))

@@ -1,14 +1,14 @@
 -- The conforming cut is a full cut that keeps marked lines: it is what a motion leaves in which nobody rides any more.
-use Rattle.std.proofs.Common.{◌≡◌, ℕ, zero, suc, ◌<◌, Bool, true, not, eqb, ◌&&◌, List, [], ◌∷◌, length, Option, Some}
-use Rattle.std.proofs.Common.{None, is_some, sym, ap, ◌∙◌, refl, inl, inr, arith, false}
+use Rattle.std.proofs.Common.{rules, ◌≡◌, ℕ, zero, suc, ◌<◌, Bool, true, not, eqb, ◌&&◌, List, [], ◌∷◌, length, Option}
+use Rattle.std.proofs.Common.{Some, None, is_some, sym, ap, ◌∙◌, refl, inl, inr, arith}
 use Rattle.std.proofs.lemmas.Bool.{cond-true, eq-eqb, eqb-true, or_left, or_right, or_cases, and_from, and_parts}
 use Rattle.std.proofs.lemmas.Bool.{false≢true, cases_Bool}
 use Rattle.std.proofs.{lemmas.Option.same_Some, lemmas.List.length-map, lemmas.List.FromFn.length-range_with_len}
 use Rattle.std.proofs.{lemmas.List.FromFn.get_or-map-range_with_len}
 use Rattle.def_mesh.specs.Darts.{darts, all_darts, from_of, to_of, next_of, prev_of, twin_of, straight_of}
 use Rattle.def_mesh.specs.{Faces.Faces, Manifold.IsManifold, Kinds.is_end, Kinds.is_inner, Kinds.is_regular}
-use Rattle.def_mesh.specs.{Kinds.is_singular, Components.seeds, Components.is_start, HalfEdges.HalfEdges}
-use Rattle.def_mesh.specs.{HalfEdges.IsQuadManifold, HalfEdges.half_edges, Vertices.vertex_count}
+use Rattle.def_mesh.specs.{Kinds.is_singular, HalfEdges.HalfEdges, HalfEdges.IsQuadManifold, HalfEdges.half_edges}
+use Rattle.def_mesh.specs.{Vertices.vertex_count}
 use Rattle.def_cut.specs.{Cuts.IsCross, Cuts.IsCut, FullCut.is_on, Motion.State, Motion.ridden, Motion.is_among}
 use Rattle.def_cut.specs.{Trails.IsStraight, Trails.Trail, Traced.terrain_of, Traced.is_cut}
 use Rattle.def_feature.specs.Conforming.{is_source, Line, IsLed, IsLined, IsConforming, ConformingLaw, StraightLaw}
@@ -64,13 +64,7 @@ module _ (faces : Faces) (m : IsManifold faces) (marks : List Bool) (marked : Ar
 
   -- An origin has a twin.
   origin_twin : (d : ℕ) → d < darts faces → is_origin faces marks d ≡ true → HasTwin d
-  origin_twin d l y = elim (or_cases (is_start faces (seeds faces) d) _ y) [
-    | inl s ↦ elim (or_cases (is_singular faces (from_of faces d)) _ s) [
-      | inl s ↦ inner_twin faces (from_of faces d) (and_parts _ _ s).0 d l (inl refl)
-      | inr s ↦ some_there (twin_of faces d) (and_parts _ _ s).0
-    ]
-    | inr b ↦ some_there (twin_of faces d) (and_parts _ _ b).0
-  ]
+  origin_twin d l y = search (rules, inner_twin)
 
   alike : (d t : ℕ) → d < darts faces → twin_of faces d ≡ Some t → is_on cut t ≡ is_on cut d
   alike d t l w =
@@ -89,10 +83,10 @@ module _ (faces : Faces) (m : IsManifold faces) (marks : List Bool) (marked : Ar
   straight x a b c lx k on = by_line ((conform.lined x lx).0 on)
     where
       lb : b < darts faces
-      lb = low_b mesh laws x a b c lx k
+      lb = low_b laws x a b c lx k
 
       lc : c < darts faces
-      lc = low_c mesh laws x a b c lx k
+      lc = low_c laws x a b c lx k
 
       over : twin_of faces x ≡ Some (prev_of c)
       over = laws.twin_twin (prev_of c) x (laws.prev_low c lc) k.last
@@ -101,7 +95,7 @@ module _ (faces : Faces) (m : IsManifold faces) (marks : List Bool) (marked : Ar
       ahead : follower faces (prev_of c) ≡ Some b
       ahead = cond-true (is_passed faces (to_of faces (prev_of c))) (straight_of faces (prev_of c)) None
           (ap (λ y. is_passed faces (from_of faces y)) (laws.next_prev c)
-          ∙ (ap (is_passed faces) (at_c mesh laws x a b c lx k) ∙ cross_passed faces m marks marked x lx (a, b, c, k)))
+          ∙ (ap (is_passed faces) (at_c laws x a b c lx k) ∙ cross_passed faces m marks marked x lx (a, b, c, k)))
           ∙ (ap (λ y. option_map next_of (twin_of faces y)) (laws.next_prev c) ∙ (ap (option_map next_of)
           (laws.twin_twin (prev_of b) c (laws.prev_low b lb) k.third) ∙ ap Some (laws.next_prev b)))
 
@@ -112,8 +106,8 @@ module _ (faces : Faces) (m : IsManifold faces) (marks : List Bool) (marked : Ar
       by_line (inl none) = let clash : None ≡ Some (prev_of c) = sym none ∙ over in absurd cc
       by_line (inr (inl (zero, y))) = elim (or_cases (is_origin faces marks x) _ y) [
         | inl y ↦
-            let at = at_b mesh laws x a b c lx k in
-            let t = (both_twins mesh laws x a b c lx k b (record { low = lb; at = at })).1 in
+            let at = at_b laws x a b c lx k in
+            let t = (both_twins laws x a b c lx k b (record { low = lb; at = at })).1 in
             to_cut b lb (inr (inl (0, or_left _ _ (all_origins faces m marks marked x b t.0 lx lb y at t.1))))
         | inr y ↦ on_from (0, or_right (is_origin faces marks (prev_of c)) _ (marked.alike x (prev_of c) lx over ∙ y))
       ]
@@ -217,8 +211,8 @@ module _ (faces : Faces) (m : IsManifold faces) (marks : List Bool) (marked : Ar
         → IsCrossedAt (terrain_of faces) ended (from_of faces d) = λ x lx on at.
         let k = (terrain faces m).crossed x lx (ap (λ v. not (is_inner faces v)) at ∙ inner)
         (ap (is_singular faces) at ∙ regular) in
-        let t = (both_twins mesh laws x k.0 k.1 k.2 lx k.3 k.1
-        (record { low = low_b mesh laws x k.0 k.1 k.2 lx k.3; at = at_b mesh laws x k.0 k.1 k.2 lx k.3 })).1 in
+        let t = (both_twins laws x k.0 k.1 k.2 lx k.3 k.1
+        (record { low = low_b laws x k.0 k.1 k.2 lx k.3; at = at_b laws x k.0 k.1 k.2 lx k.3 })).1 in
         crossed_at lx at k.3 (inl on)
         (inl (and_from _ _ (straight x k.0 k.1 k.2 lx k.3 (and_parts _ _ on).0) (ap is_some t.1))) in
         let (x, n, there) = any_where (λ x. covers x && is_end faces (from_of faces d) x) (all_darts faces) y in
@@ -234,10 +228,7 @@ module _ (faces : Faces) (m : IsManifold faces) (marks : List Bool) (marked : Ar
   }
 
   same : (d : ℕ) → d < darts faces → is_on cut d ≡ is_cut (terrain_of faces) ended d
-  same d l = elim (cases_Option (twin_of faces d)) [
-    | inl w ↦ rw (w, to_cut d l (inl w)) refl
-    | inr (t, w) ↦ elim (cases_Bool (is_on cut d)) [ inl on ↦ rw (w, on) refl | inr off ↦ rw (w, off) refl ]
-  ]
+  same d l = search rules
 
   conforms : IsCutBeside faces marks cut
   conforms = record {
@@ -263,8 +254,7 @@ straight_law faces marks cut m marked conform x a b c l k on = straight faces m 
 -- A mark of the cut.
 pub mark_is : (faces : Faces) (marks : List Bool) (d : ℕ) → d < darts faces
     → is_on (marked_cut faces marks) d ≡ is_cut (terrain_of faces) (marked_last faces marks) d
-mark_is faces marks d l = get_or-map-range_with_len (is_cut (terrain_of faces) (marked_last faces marks)) 0
-    (darts faces) d d false l (omega arith)
+mark_is faces marks d l = search (rules, get_or-map-range_with_len)
 
 module _ (faces : Faces) (m : IsManifold faces) (marks : List Bool) (marked : AreMarks faces marks) where
   none : ridden (marked_last faces marks).riders ≡ []
@@ -272,8 +262,7 @@ module _ (faces : Faces) (m : IsManifold faces) (marks : List Bool) (marked : Ar
       (marked_begin faces m marks marked) (vertex_count faces) (all_below faces)
 
   last : IsReachedFrom (terrain_of faces) (begins faces marks) (marked_first faces marks) (marked_last faces marks)
-  last = end_reached (terrain_of faces) (terrain faces m) (begins faces marks) (marked_first faces marks)
-      (marked_begin faces m marks marked) (vertex_count faces) (all_below faces)
+  last = search (rules, end_reached, terrain, marked_begin, all_below)
 
   cut : IsCut (half_edges faces) (is_cut (terrain_of faces) (marked_last faces marks))
   cut = full_cut (terrain_of faces) (terrain faces m) (begins faces marks) (marked_first faces marks)

@@ -1,17 +1,16 @@
 -- A line is led dart by dart.
-use Rattle.std.proofs.Common.{◌≡◌, ◌⊎◌, ℕ, suc, ◌+◌, ◌<◌, Bool, true, false, List, length, set, Some, sym, ◌∙◌, ap}
-use Rattle.std.proofs.Common.{refl, inl, inr, arith, zero, cond, map, None, ◌≤◌, replicate}
+use Rattle.std.proofs.Common.{rules, ◌≡◌, ◌⊎◌, ℕ, suc, ◌+◌, ◌<◌, Bool, true, false, List, length, set, Some, sym, ◌∙◌}
+use Rattle.std.proofs.Common.{ap, refl, inl, inr, arith, zero, cond, map, None, ◌≤◌, replicate}
 use Rattle.std.proofs.lemmas.Bool.{cases_eq, false≢true, cases_Bool, or_left, or_right, or_cases, cases_lt}
 use Rattle.std.proofs.lemmas.Bool.{false_from_ne_true}
-use Rattle.std.proofs.lemmas.List.{get_or-set_same, get_or-set_other, length-set, length-map, ext_get_or}
-use Rattle.std.proofs.lemmas.List.{length-replicate}
+use Rattle.std.proofs.lemmas.List.{get_or-set_same, length-set, length-map, ext_get_or, length-replicate}
 use Rattle.std.proofs.{lemmas.Option.same_Some, lemmas.List.FromFn.length-range_with_len}
 use Rattle.std.proofs.{lemmas.List.FromFn.get_or-map-range_with_len}
 use Rattle.def_mesh.specs.{Faces.Faces, Darts.darts, Darts.all_darts, Darts.twin_of, Manifold.IsManifold}
 use Rattle.def_cut.specs.{FullCut.is_on, Motion.is_among}
 use Rattle.feature_laws.specs.Leads.{From, IsClosed, IsLedFrom, IsLeading, IsNext, AreLed, is_led_edge}
-use Rattle.def_feature.specs.{Conforming.is_source, Conforming.Line, Conforming.IsConforming, Marked.is_origin}
-use Rattle.def_feature.specs.{Marked.marked_starts, Marks.AreMarks}
+use Rattle.def_feature.specs.{Conforming.is_source, Conforming.Line, Conforming.IsConforming, Marked.marked_starts}
+use Rattle.def_feature.specs.{Marks.AreMarks}
 use Rattle.feature_laws.proofs.{First.origin_in, First.origin_of, Conforming.follows, Conforming.mark_low}
 use Rattle.motion_laws.proofs.{Among.cases_Option, Marks.none_on, Onward.no_more_at}
 use Rattle.sum_laws.proofs.{Sums.count_below_lt, Tests.same_test}
@@ -22,29 +21,15 @@ pub set_there : (xs : List Bool) (k : ℕ) → k < length xs → is_on (set xs k
 set_there xs k l = get_or-set_same xs k true false l
 
 pub set_kept : (xs : List Bool) (k d : ℕ) → k < length xs → is_on xs d ≡ true → is_on (set xs k true) d ≡ true
-set_kept xs k d l on = elim (cases_eq d k)
-    [ inl e ↦ ap (is_on (set xs k true)) e ∙ set_there xs k l | inr ne ↦ get_or-set_other xs k d true false ne ∙ on ]
+set_kept xs k d l on = search rules
 
 set_from : (xs : List Bool) (k d : ℕ) → is_on (set xs k true) d ≡ true → (d ≡ k) ⊎ (is_on xs d ≡ true)
-set_from xs k d on = elim (cases_eq d k)
-    [ inl e ↦ inl e | inr ne ↦ inr (sym (get_or-set_other xs k d true false ne) ∙ on) ]
+set_from xs k d on = search rules
 
 module _ (faces : Faces) (s : ℕ) (old : List Bool) where
   pub lead_begins : length old ≡ darts faces → s < darts faces → IsClosed faces old
       → IsLeading faces s old (set old s true) s
-  lead_begins long low closed = record {
-    long = length-set old s true;
-    low = low;
-    closed = λ x e on f. elim (set_from old s x on)
-        [ inl is ↦ inr is | inr was ↦ inl (set_kept old s e l (closed x e was f)) ];
-    kept = λ d on. set_kept old s d l on;
-    there = set_there old s l;
-    sound = λ d on. elim (set_from old s d on) [ inl is ↦ inr (0, sym is) | inr was ↦ inl was ];
-    from = (0, refl);
-  }
-    where
-      l : s < length old
-      l = omega arith
+  lead_begins long low closed = search (rules, set_from, set_kept)
 
   pub lead_more : (now : List Bool) (at next : ℕ) → length old ≡ darts faces → IsLeading faces s old now at
       → IsNext faces now at (Some next) → IsLeading faces s old (set now next true) next
@@ -77,16 +62,7 @@ module _ (faces : Faces) (s : ℕ) (old : List Bool) where
 pub led_more : (faces : Faces) (sources old new : List Bool) (d : ℕ) (test : Bool) → d < darts faces
     → test ≡ is_on sources d → AreLed faces sources old d → (test ≡ true → IsLedFrom faces d old new)
     → (test ≡ false → new ≡ old) → AreLed faces sources new (d + 1)
-led_more faces sources old new d false low is led on off =
-    rw (off refl) (record {
-      long = led.long;
-      closed = led.closed;
-      there = λ x l y. elim (cases_eq x d) [
-        | inl e ↦ absurd (false≢true (is ∙ (ap (is_on sources) (sym e) ∙ y)))
-        | inr ne ↦ led.there x (omega arith) y
-      ];
-      sound = led.sound;
-    })
+led_more faces sources old new d false low is led on off = search rules
 led_more faces sources old new d true low is led on off =
     let line = on refl in
     record {
@@ -104,11 +80,7 @@ module _ (faces : Faces) (m : IsManifold faces) (marks : List Bool) (starts : Li
     ≡ cond (is_among d starts) true (is_on marks d)) (are : AreLed faces sources led (darts faces))
     (is : cut ≡ map (λ d. is_led_edge led d (twin_of faces d)) (all_darts faces)) where
   source_from : (d : ℕ) → is_on sources d ≡ true → is_source faces marks d ≡ true
-  source_from d y = elim (cases_Bool (is_among d starts)) [
-    | inl n ↦ or_left _ _ (origin_of faces marks d (sym (ap (is_among d) started) ∙ n)).1
-    | inr off ↦ or_right (is_origin faces marks d) _ (sym (ap (λ b. cond b true (is_on marks d)) off)
-        ∙ (sym (told d) ∙ y))
-  ]
+  source_from d y = search (rules, origin_of)
 
   source_to : (d : ℕ) → d < darts faces → is_source faces marks d ≡ true → is_on sources d ≡ true
   source_to d l y = told d ∙ by_tests (is_among d starts) refl (cases_Bool (is_on marks d))
@@ -117,10 +89,7 @@ module _ (faces : Faces) (m : IsManifold faces) (marks : List Bool) (starts : Li
           → cond b true (is_on marks d) ≡ true
       by_tests true n k = refl
       by_tests false n (inl on) = on
-      by_tests false n (inr off) = elim (or_cases _ _ y) [
-        | inl o ↦ absurd (false≢true (sym n ∙ (ap (is_among d) started ∙ origin_in faces marks d l o off)))
-        | inr on ↦ on
-      ]
+      by_tests false n (inr off) = search (rules, origin_in)
 
   line_from : (s d n : ℕ) → is_source faces marks s ≡ true → From faces s d n → Line faces marks d n
   line_from s d zero y path = rw (← path) y
@@ -134,8 +103,7 @@ module _ (faces : Faces) (m : IsManifold faces) (marks : List Bool) (starts : Li
   led_line d y = let s = are.sound d y in (s.3, line_from s.0 d s.3 (source_from s.0 s.2) s.4)
 
   value : (d : ℕ) → d < darts faces → is_on cut d ≡ is_led_edge led d (twin_of faces d)
-  value d l = ap (λ xs. is_on xs d) is ∙ get_or-map-range_with_len (λ x. is_led_edge led x (twin_of faces x)) 0
-      (darts faces) d d false l (omega arith)
+  value d l = search (rules, get_or-map-range_with_len)
 
   pub conforms : IsConforming faces marks cut
   conforms = record {

@@ -1,42 +1,36 @@
 -- The first state of the motion beside marks is one from which it comes to a full cut.
-use Rattle.std.proofs.Common.{◌≡◌, ℕ, ◌<◌, Bool, true, false, not, eqb, ◌&&◌, List, map, Some, is_some, sym, subst, ap}
-use Rattle.std.proofs.Common.{◌∙◌, refl, inl, inr, arith, zero, suc, ◌||◌, replicate}
+use Rattle.std.proofs.Common.{rules, ◌≡◌, ℕ, ◌<◌, Bool, true, false, not, eqb, ◌&&◌, List, map, Some, is_some, sym}
+use Rattle.std.proofs.Common.{subst, ap, ◌∙◌, refl, inl, inr, arith, zero, suc, ◌||◌, replicate}
 use Rattle.std.proofs.lemmas.Bool.{cases_Bool, eq-eqb, eqb-true, or_left, or_right, or_cases, and_from, and_parts}
-use Rattle.std.proofs.lemmas.Bool.{not_from_false, false≢true, false_from_ne_true}
-use Rattle.std.proofs.{Math.Bool.or-false, lemmas.List.length-replicate}
-use Rattle.std.specs.List.{list_any, filter}
+use Rattle.std.proofs.lemmas.Bool.{false≢true, false_from_ne_true}
+use Rattle.std.{proofs.lemmas.List.length-replicate, specs.List.list_any, specs.List.filter}
 use Rattle.def_mesh.specs.Darts.{darts, all_darts, from_of, to_of, next_of, prev_of, twin_of}
 use Rattle.def_mesh.specs.{Faces.Faces, Manifold.IsManifold, Kinds.is_end, Kinds.is_inner, Kinds.is_singular}
 use Rattle.def_mesh.specs.{Components.seeds, Components.is_start, Components.start_darts, HalfEdges.HalfEdges}
-use Rattle.def_mesh.specs.{HalfEdges.IsQuadManifold, HalfEdges.half_edges, Vertices.vertex_count, Vertices.fan_of}
-use Rattle.def_cut.specs.Traced.{terrain_of, AreRiders, IsGraphOf, finish, is_cut, last_state, traced_marks}
+use Rattle.def_mesh.specs.{HalfEdges.IsQuadManifold, HalfEdges.half_edges, Vertices.vertex_count}
+use Rattle.def_cut.specs.Traced.{terrain_of, IsGraphOf, finish, is_cut, last_state, traced_marks}
 use Rattle.def_cut.specs.{Cuts.HasCross, FullCut.is_on, Motion.ridden, Motion.is_among, Motion.begun, Motion.State}
-use Rattle.def_cut.specs.{Motion.start, declared.graph.Graph.Graph, declared.moving.Moving.Moving}
-use Rattle.def_feature.specs.Marks.{AreMarks, is_break, is_touched, is_crossed, goes_round, is_least_in_ring}
+use Rattle.def_cut.specs.{Motion.start, declared.graph.Graph.Graph}
+use Rattle.def_feature.specs.Marks.{AreMarks, is_break, goes_round}
 use Rattle.def_feature.specs.Marked.{is_origin, marked_starts, marked_first, IsMarkedGraph, marked_last, marked_cut}
 use Rattle.cut_laws.proofs.Crosses.{low_a, low_b, at_a, at_b, both_twins}
 use Rattle.motion_laws.proofs.Among.{AreApart, any_at, any_where, in_filter, from_filter, apart_filter, among_range}
-use Rattle.motion_laws.proofs.Among.{range_among, range_apart, cases_Option}
+use Rattle.motion_laws.proofs.Among.{range_among, range_apart}
 use Rattle.motion_laws.proofs.{Bits.IsFirst, Bits.IsSoon, Bits.IsShut, Bits.IsCrossedAt, Bits.crossed_at, Bits.rotated}
 use Rattle.motion_laws.proofs.{Steps.ridden_begun, Steps.shut_before, Steps.shut_beside, Marks.none_on}
 use Rattle.site_laws.proofs.{Sites.terrain, Sites.started, Sites.all_start, Sources.start_in, Sources.start_of}
 use Rattle.site_laws.proofs.{Sources.found}
-use Rattle.feature_laws.proofs.Breaks.{begins, is_held, is_held_after, twin_on, two_ways, marked_trail, from_fan}
-use Rattle.{mesh_laws.proofs.Chains.manifold_law, def_runs.specs.Runs.is_passed}
+use Rattle.feature_laws.proofs.Breaks.{begins, is_held, is_held_after, twin_on, two_ways, marked_trail}
+use Rattle.{mesh_laws.proofs.Chains.manifold_law}
 
 -- Among the starts.
 pub origin_in : (faces : Faces) (marks : List Bool) (d : ℕ) → d < darts faces → is_origin faces marks d ≡ true
     → is_on marks d ≡ false → is_among d (marked_starts faces marks) ≡ true
-origin_in faces marks d l y off = in_filter (λ e. is_origin faces marks e && not (is_on marks e)) d (all_darts faces)
-    (among_range 0 (darts faces) d (omega arith) (omega arith)) (and_from _ _ y (not_from_false _ off))
+origin_in faces marks d l y off = search (rules, in_filter, among_range)
 
 pub origin_of : (faces : Faces) (marks : List Bool) (d : ℕ) → is_among d (marked_starts faces marks) ≡ true
     → (d < darts faces) × (is_origin faces marks d ≡ true)
-origin_of faces marks d n =
-    let f : (is_among d (all_darts faces) ≡ true) × ((is_origin faces marks d && not (is_on marks d)) ≡ true) =
-    from_filter (λ e. is_origin faces marks e && not (is_on marks e)) d (all_darts faces) n in
-    let r = range_among 0 (darts faces) d f.0 in
-    (omega arith, (and_parts _ _ f.1).0)
+origin_of faces marks d n = search (rules, from_filter, range_among)
 
 module _ (faces : Faces) (m : IsManifold faces) (marks : List Bool) (marked : AreMarks faces marks) where
   abbrev mesh : HalfEdges
@@ -81,19 +75,15 @@ module _ (faces : Faces) (m : IsManifold faces) (marks : List Bool) (marked : Ar
 
   -- What is held is shut.
   held_shut : (d : ℕ) → is_held faces marks d ≡ true → IsShutFirst d
-  held_shut d h = elim (or_cases (is_on marks d) _ h) [
-    | inl on ↦ inl (inl on)
-    | inr n ↦ elim (cases_Option (twin_of faces d))
-        [ inl w ↦ inr (inl w) | inr (t, w) ↦ absurd (false≢true (rw w at n)) ]
-  ]
+  held_shut d h = search rules
 
   -- At a cross where some dart is an origin, all are soon.
   by_origin : (v x : ℕ) → x < darts faces → from_of faces x ≡ v → HasCross mesh x → is_origin faces marks x ≡ true
       → IsCrossedFirst v
   by_origin v x l at (a, b, c, k) y =
-      let lb = low_b mesh laws x a b c l k in
-      let b_at = at_b mesh laws x a b c l k in
-      let t = (both_twins mesh laws x a b c l k b (record { low = lb; at = b_at })).1 in
+      let lb = low_b laws x a b c l k in
+      let b_at = at_b laws x a b c l k in
+      let t = (both_twins laws x a b c l k b (record { low = lb; at = b_at })).1 in
       crossed_at l at k (origin_soon x l y) (origin_soon b lb (all_origins x b t.0 l lb y b_at t.1))
 
   -- At a cross where some dart is marked, two opposite edges are soon.
@@ -101,7 +91,7 @@ module _ (faces : Faces) (m : IsManifold faces) (marks : List Bool) (marked : Ar
       → IsCrossedFirst v
   by_mark v x l at (a, b, c, k) on = elim (two_ways faces m marks marked x a b c l on k) [
     | inl yb ↦ crossed_at l at k (inl on) (inl yb)
-    | inr (inl both) ↦ crossed_at (low_a mesh laws x a b c l k) (at_a mesh laws x a b c l k ∙ at)
+    | inr (inl both) ↦ crossed_at (low_a laws x a b c l k) (at_a laws x a b c l k ∙ at)
         (rotated mesh laws x a b c l k) (inl both.0) (inl both.1)
     | inr (inr y) ↦ by_origin v x l at (a, b, c, k) (or_right (is_start faces (seeds faces) x) _
         (and_from _ _ (ap is_some (twin_on faces m marks marked x l on).1) y))
@@ -195,34 +185,17 @@ module _ (faces : Faces) where
   off d = none_on (darts faces) d
 
   pub are_none : AreMarks faces no_marks
-  are_none = record {
-    long = length-replicate (darts faces) false;
-    alike = λ d e l w. off e ∙ sym (off d);
-    inner = λ d l w. off d;
-  }
+  are_none = search (rules, length-replicate, off)
 
   no_round : (v n d : ℕ) → 0 < n → goes_round faces no_marks v n d ≡ false
   no_round v zero d l = absurd (omega arith)
   no_round v (suc n) d l = rw (off d) refl
 
   pub no_break : (v : ℕ) → is_break faces no_marks v ≡ false
-  no_break v = at (is_passed faces v) (is_touched faces no_marks v) (not (is_crossed faces no_marks v))
-      (is_least_in_ring faces no_marks v) (none_pass (is_on no_marks) (fan_of faces v) (λ d n. off d))
-      (none_pass (goes_round faces no_marks v (darts faces)) (fan_of faces v)
-      (λ d n. no_round v (darts faces) d (omega (arith, (from_fan faces v d n).0))))
-    where
-      at : (p t c r : Bool) → t ≡ false → r ≡ false → (p && ((t && c) || r)) ≡ false
-      at true t c r e f = rw (e, f) refl
-      at false t c r e f = refl
+  no_break v = search (rules, none_pass, off, no_round)
 
   same_test_at : (d : ℕ) → (is_origin faces no_marks d && not (is_on no_marks d)) ≡ is_start faces (seeds faces) d
-  same_test_at d = at (is_start faces (seeds faces) d) (is_some (twin_of faces d))
-      (is_break faces no_marks (from_of faces d)) (is_on no_marks d) (no_break (from_of faces d)) (off d)
-    where
-      at : (s t b o : Bool) → b ≡ false → o ≡ false → ((s || (t && b)) && not o) ≡ s
-      at true t b o e f = rw f refl
-      at false true b o e f = rw e refl
-      at false false b o e f = refl
+  same_test_at d = search (rules, no_break, off)
 
   pub same_starts : marked_starts faces no_marks ≡ start_darts faces
   same_starts = λ i. filter (λ d. same_test_at d i) (all_darts faces)
@@ -230,11 +203,7 @@ module _ (faces : Faces) where
   same_stood : (v : ℕ) → (list_any (λ d. eqb (from_of faces d) v) (marked_starts faces no_marks)
       || list_any (λ d. is_on no_marks d && is_end faces v d) (all_darts faces)) ≡ list_any
       (λ d. eqb (from_of faces d) v) (start_darts faces)
-  same_stood v = ap (λ b. list_any (λ d. eqb (from_of faces d) v) (marked_starts faces no_marks)
-      || b) (none_pass (λ d. is_on no_marks d && is_end faces v d) (all_darts faces)
-      (λ d n. rw (off d) refl))
-      ∙ (or-false (list_any (λ d. eqb (from_of faces d) v) (marked_starts faces no_marks))
-      ∙ ap (list_any (λ d. eqb (from_of faces d) v)) same_starts)
+  same_stood v = search (rules, none_pass, off, same_starts)
 
   pub same_first : marked_first faces no_marks ≡ start (terrain_of faces) (start_darts faces)
   same_first = λ i. record { riders = map begun (same_starts i); stood = λ v. same_stood v i; covered = λ d. off d i }
@@ -246,9 +215,4 @@ module _ (faces : Faces) where
   same_cut = ap (λ (s : State). map (is_cut (terrain_of faces) s) (all_darts faces)) same_last
 
   pub same_graph : (graph : Graph) → IsMarkedGraph faces no_marks graph → IsGraphOf faces graph
-  same_graph graph g = record {
-    covered = g.covered ∙ same_cut;
-    riders = subst (λ (ds : List ℕ). AreRiders (last_state faces).riders ds graph.riders.items) same_starts
-        (subst (λ (ms : List Moving). AreRiders ms (marked_starts faces no_marks)
-        graph.riders.items) (ap (λ (s : State). s.riders) same_last) g.riders);
-  }
+  same_graph graph g = search (rules, same_starts, same_last)

@@ -1,7 +1,7 @@
 -- The borders of patches: each side is a straight line of cut darts from node to node, and each cut dart lies on a
 -- side.
-use Rattle.std.proofs.Common.{◌≡◌, ℕ, zero, suc, ◌+◌, ◌-◌, ◌<◌, ◌≤◌, Bool, true, false, List, Some, sym, ◌∙◌, ap, inl}
-use Rattle.std.proofs.Common.{inr, true≢false, arith}
+use Rattle.std.proofs.Common.{rules, ◌≡◌, ℕ, zero, suc, ◌+◌, ◌-◌, ◌<◌, ◌≤◌, Bool, true, false, List, Some, sym, ◌∙◌, ap}
+use Rattle.std.proofs.Common.{inl, inr, true≢false, arith}
 use Rattle.std.proofs.lemmas.Bool.{cases_Bool, cases_eq, cases_lt, false≢true}
 use Rattle.def_mesh.specs.HalfEdges.{HalfEdges, IsQuadManifold}
 use Rattle.def_cut.specs.{Grids.IsGrid, Grids.Rectangle, Grids.cell_of, Grids.patch_at, Grids.IsPartition, Cuts.Cut}
@@ -40,16 +40,16 @@ module _ (mesh : HalfEdges) (laws : IsQuadManifold mesh) (cut : Cut) (full : IsC
     over north t l =
         let e : p.w - 1 - t ≡ suc (p.w - 1 - suc t) = omega arith in
         cc (
-          west_link mesh laws cut full p.w p.h (cell_of p) grid (p.w - 1 - suc t) (p.h - 1) (omega arith) (omega arith),
-          prev_three mesh laws (cell_of p (suc (p.w - 1 - suc t)) (p.h - 1)),
+          west_link laws full grid (p.w - 1 - suc t) (p.h - 1) (omega arith) (omega arith),
+          prev_three laws (cell_of p (suc (p.w - 1 - suc t)) (p.h - 1)),
           laws.prev_next (mesh.next (cell_of p (p.w - 1 - suc t) (p.h - 1))),
         )
     over west t l =
         let e : p.h - 1 - t ≡ suc (p.h - 1 - suc t) = omega arith in
         cc (
-          south_link mesh laws cut full p.w p.h (cell_of p) grid 0 (p.h - 1 - suc t) grid.wide (omega arith),
+          south_link laws full grid 0 (p.h - 1 - suc t) grid.wide (omega arith),
           laws.next_prev (cell_of p 0 (suc (p.h - 1 - suc t))),
-          prev_twice mesh laws (cell_of p 0 (p.h - 1 - suc t)),
+          prev_twice laws (cell_of p 0 (p.h - 1 - suc t)),
         )
 
     -- Each side is a line.
@@ -63,15 +63,7 @@ module _ (mesh : HalfEdges) (laws : IsQuadManifold mesh) (cut : Cut) (full : IsC
       first = grid.west_shut 0 grid.tall;
       last = λ t e. grid.east_shut t 0 e grid.tall;
     }
-    line east = record {
-      some = grid.tall;
-      low = λ t l. laws.next_low (cell_of p (p.w - 1) t) (grid.low (p.w - 1) t (omega arith) l);
-      on = λ t l. grid.east_shut (p.w - 1) t (omega arith) l;
-      next = λ t l. from_over (border_dart mesh p east t) (border_dart mesh p east (suc t)) (over east t l);
-      over = over east;
-      first = ap cut (laws.prev_next (cell_of p (p.w - 1) 0)) ∙ grid.south_shut (p.w - 1) (omega arith);
-      last = λ t e. grid.north_shut (p.w - 1) t (omega arith) e;
-    }
+    line east = search rules
     line north = record {
       some = grid.wide;
       low = λ t l. laws.next_low (mesh.next (cell_of p (p.w - 1 - t) (p.h - 1))) (laws.next_low
@@ -83,7 +75,7 @@ module _ (mesh : HalfEdges) (laws : IsQuadManifold mesh) (cut : Cut) (full : IsC
           ∙ grid.east_shut (p.w - 1 - 0) (p.h - 1) (omega arith) (omega arith);
       last = λ t e. let zero_is : p.w - 1 - t ≡ 0 = omega arith in
           ap (λ x. cut (mesh.next (mesh.next (mesh.next (cell_of p x (p.h - 1)))))) zero_is
-          ∙ (ap cut (sym (prev_three mesh laws (cell_of p 0 (p.h - 1))))
+          ∙ (ap cut (sym (prev_three laws (cell_of p 0 (p.h - 1))))
           ∙ grid.west_shut (p.h - 1) (omega arith));
     }
     line west = record {
@@ -92,7 +84,7 @@ module _ (mesh : HalfEdges) (laws : IsQuadManifold mesh) (cut : Cut) (full : IsC
       on = λ t l. grid.west_shut (p.h - 1 - t) (omega arith);
       next = λ t l. from_over (border_dart mesh p west t) (border_dart mesh p west (suc t)) (over west t l);
       over = over west;
-      first = ap cut (prev_twice mesh laws (cell_of p 0 (p.h - 1 - 0))) ∙ grid.north_shut 0 (p.h - 1 - 0) grid.wide
+      first = ap cut (prev_twice laws (cell_of p 0 (p.h - 1 - 0))) ∙ grid.north_shut 0 (p.h - 1 - 0) grid.wide
           (omega arith);
       last = λ t e. let zero_is : p.h - 1 - t ≡ 0 = omega arith in ap cut (laws.next_prev (cell_of p 0 (p.h - 1 - t)))
           ∙ (ap (λ x. cut (cell_of p 0 x)) zero_is ∙ grid.south_shut 0 grid.wide);
@@ -102,7 +94,7 @@ module _ (mesh : HalfEdges) (laws : IsQuadManifold mesh) (cut : Cut) (full : IsC
     pub on_side : (k i j d : ℕ) → i < p.w → j < p.h → d ≡ spin mesh k (cell_of p i j) → cut d ≡ true → (side : Way)
         × (t : ℕ) × (t < side_size p side) × (border_dart mesh p side t ≡ d)
     on_side zero i zero d li lj e on = (south, i, li, sym e)
-    on_side zero i (suc j) d li lj e on = absurd (cc (south_open mesh laws cut full p.w p.h (cell_of p) grid i j li lj))
+    on_side zero i (suc j) d li lj e on = absurd (cc (south_open laws full grid i j li lj))
     on_side (suc zero) i j d li lj e on = elim (cases_eq (suc i) p.w) [
       | inl z ↦ let same : p.w - 1 ≡ i = omega arith in (east, j, lj, cc)
       | inr ne ↦ absurd (cc (grid.east_open i j (omega arith) lj))
@@ -121,10 +113,11 @@ module _ (mesh : HalfEdges) (laws : IsQuadManifold mesh) (cut : Cut) (full : IsC
       west,
       p.h - 1 - j,
       omega arith,
-      ap (λ x. mesh.prev (cell_of p 0 x)) row ∙ (prev_three mesh laws (cell_of p 0 j) ∙ sym e),
+      ap (λ x. mesh.prev (cell_of p 0 x)) row ∙ (prev_three laws (cell_of p 0 j) ∙ sym e),
     )
-    on_side (suc (suc (suc zero))) (suc i) j d li lj e on = absurd (true≢false (sym on ∙ (ap cut (e ∙ sym (prev_three
-        mesh laws (cell_of p (suc i) j))) ∙ west_open mesh laws cut full p.w p.h (cell_of p) grid i j li lj)))
+    on_side (suc (suc (suc zero))) (suc i) j d li lj e on =
+        absurd (true≢false (sym on ∙ (ap cut (e ∙ sym (prev_three laws (cell_of p (suc i) j)))
+        ∙ west_open laws full grid i j li lj)))
     on_side (suc (suc (suc (suc k)))) i j d li lj e on =
         on_side k i j d li lj (e ∙ laws.four_sides (spin mesh k (cell_of p i j))) on
 
@@ -146,8 +139,7 @@ module _ (mesh : HalfEdges) (laws : IsQuadManifold mesh) (cut : Cut) (full : IsC
     line_begins = nodes.corner (b 0) (line.low 0 line.some) (line.on 0 line.some) line.first
 
     pub line_ends : (t : ℕ) → suc t ≡ size → node (end_vertex mesh (b t)) ≡ true
-    line_ends t e = nodes.corner _ (laws.next_low (b t) (line.low t (omega arith))) (line.last t e)
-        (ap cut (laws.prev_next (b t)) ∙ line.on t (omega arith))
+    line_ends t e = search rules
 
     -- From each node on the line runs a run, which stays on it.
     pub runs_from : (u : ℕ) → u < size → node (mesh.from (b u)) ≡ true → (n : ℕ) × RunsOn mesh cut node b size u n
@@ -155,13 +147,7 @@ module _ (mesh : HalfEdges) (laws : IsQuadManifold mesh) (cut : Cut) (full : IsC
       where
         done : (k : ℕ) → u + k < size → ((i : ℕ) → i < k → node (end_vertex mesh (easts mesh (b u) i)) ≡ false)
             → node (end_vertex mesh (easts mesh (b u) k)) ≡ true → (n : ℕ) × RunsOn mesh cut node b size u n
-        done k h before on = (
-          k + 1,
-          record {
-            run = walk_done mesh laws cut full node nodes (b u) k (line.low u l) (line.on u l) begins before on;
-            fits = omega arith;
-          },
-        )
+        done k h before on = search (rules, walk_done)
 
         search : (left k : ℕ) → u + k + suc left ≡ size → ((i : ℕ) → i < k → node (end_vertex mesh (easts mesh (b u) i))
             ≡ false) → (n : ℕ) × RunsOn mesh cut node b size u n
@@ -177,8 +163,7 @@ module _ (mesh : HalfEdges) (laws : IsQuadManifold mesh) (cut : Cut) (full : IsC
 
     -- Each dart of the line lies on such a run.
     pub runs_over : (t : ℕ) → t < size → (u : ℕ) × (n : ℕ) × RunsOn mesh cut node b size u n × (u ≤ t) × (t < u + n)
-    runs_over zero l = let r = runs_from 0 l line_begins in
-        (0, r.0, r.1, omega arith, omega arith)
+    runs_over zero l = search (rules, runs_from, line_begins)
     runs_over (suc t) l =
         let (u, n, on, low, high) = runs_over t (omega arith) in
         elim (cases_eq (suc t) (u + n)) [

@@ -1,8 +1,7 @@
 -- The nodes of a cut of faces are what the laws of layouts need of nodes.
-use Rattle.std.proofs.Common.{◌≡◌, ◌⊎◌, ℕ, zero, suc, ◌<◌, ◌≤◌, Bool, true, false, not, List, [], ◌∷◌, length, get_or}
-use Rattle.std.proofs.Common.{Some, None, is_some, sym, ◌∙◌, ap, refl, inl, inr, arith}
-use Rattle.std.proofs.lemmas.Bool.{cases_Bool, cases_eq, eqb-true, cond-false, or_parts, not-false, ltb-false, and_from}
-use Rattle.std.proofs.lemmas.Bool.{true_from_ne_false}
+use Rattle.std.proofs.Common.{rules, ◌≡◌, ◌⊎◌, ℕ, zero, suc, ◌<◌, ◌≤◌, Bool, true, false, not, List, [], ◌∷◌, length}
+use Rattle.std.proofs.Common.{get_or, Some, None, is_some, sym, ◌∙◌, ap, refl, inl, inr, arith}
+use Rattle.std.proofs.lemmas.Bool.{cases_Bool, cases_eq, or_parts, not-false, ltb-false, and_from, true_from_ne_false}
 use Rattle.def_mesh.specs.{Darts.darts, Darts.from_of, Darts.to_of, Darts.next_of, Darts.prev_of, Darts.twin_of}
 use Rattle.def_mesh.specs.{HalfEdges.half_edges, HalfEdges.Turns, HalfEdges.IsQuadManifold, Faces.Faces}
 use Rattle.def_mesh.specs.{Vertices.fan_of, Kinds.is_inner, Kinds.is_regular}
@@ -44,10 +43,7 @@ two_each P a b zero = a
 two_each P a b (suc j) = b
 
 two_apart : (x y : ℕ) → (x ≡ y → ⊥) → (i j : ℕ) → i < 2 → j < 2 → of_two x y i ≡ of_two x y j → i ≡ j
-two_apart x y ne zero zero li lj e = refl
-two_apart x y ne zero (suc j) li lj e = absurd (ne e)
-two_apart x y ne (suc i) zero li lj e = absurd (ne (sym e))
-two_apart x y ne (suc i) (suc j) li lj e = omega arith
+two_apart x y h1 i j h2 h3 h4 = search rules
 
 abbrev of_three : (x y z k : ℕ) → ℕ
 of_three x y z zero = x
@@ -59,12 +55,7 @@ three_each P a b c (suc j) = two_each P b c j
 
 three_apart : (x y z : ℕ) → (x ≡ y → ⊥) → (x ≡ z → ⊥) → (y ≡ z → ⊥) → (i j : ℕ) → i < 3 → j < 3
     → of_three x y z i ≡ of_three x y z j → i ≡ j
-three_apart x y z xy xz yz zero zero li lj e = refl
-three_apart x y z xy xz yz zero (suc zero) li lj e = absurd (xy e)
-three_apart x y z xy xz yz zero (suc (suc j)) li lj e = absurd (xz e)
-three_apart x y z xy xz yz (suc zero) zero li lj e = absurd (xy (sym e))
-three_apart x y z xy xz yz (suc (suc i)) zero li lj e = absurd (xz (sym e))
-three_apart x y z xy xz yz (suc i) (suc j) li lj e = ap suc (two_apart y z yz i j (omega arith) (omega arith) e)
+three_apart x y z h1 h2 h3 i j h4 h5 h6 = search rules
 
 module _ (faces : Faces) (laws : IsQuadManifold (half_edges faces)) (marks : List Bool)
     (full : IsCut (half_edges faces) (is_on marks)) where
@@ -130,7 +121,7 @@ module _ (faces : Faces) (laws : IsQuadManifold (half_edges faces)) (marks : Lis
               absurd (no_third v x _ _ fan (record { low = lx; at = at }) (record { low = ly; at = ay })
               (record { low = laws.next_low s ls; at = (laws.twin_ends _ s ly some).1 ∙ ay }) x_y
               (λ e. cc (laws.prev_next s))
-              (λ e. x_y (cc (next_same _ laws t s e, laws.twin_twin x t lx is))))
+              (λ e. x_y (cc (next_same laws t s e, laws.twin_twin x t lx is))))
         ]
   ]
     where
@@ -155,9 +146,9 @@ module _ (faces : Faces) (laws : IsQuadManifold (half_edges faces)) (marks : Lis
   first_or_second d ld outer fan = elim (none_or (twin_of faces (prev_of d))) [
     | inl is ↦ inl is
     | inr (a, is) ↦
-        let la = turn_low (half_edges faces) laws d a ld is in
-        let aa = turn_from (half_edges faces) laws d a ld is in
-        let d_a : d ≡ a → ⊥ = λ e. no_fix (half_edges faces) laws d ld (cc) in
+        let la = turn_low laws d a ld is in
+        let aa = turn_from laws d a ld is in
+        let d_a : d ≡ a → ⊥ = λ e. no_fix laws d ld (cc) in
         let back = laws.twin_twin (prev_of d) a (laws.prev_low d ld) is in
         elim (none_or (twin_of faces (prev_of a))) [
           | inl none ↦
@@ -166,8 +157,8 @@ module _ (faces : Faces) (laws : IsQuadManifold (half_edges faces)) (marks : Lis
           | inr (b, some) ↦ elim (cases_eq b d) [
             | inl e ↦ absurd (cc (closed a la is back (some ∙ ap Some e)))
             | inr ne ↦ absurd (no_third _ d a b fan (record { low = ld; at = refl }) (record { low = la; at = aa })
-                (record { low = turn_low _ laws a b la some; at = turn_from _ laws a b la some ∙ aa }) d_a
-                (λ e. ne (sym e)) (λ e. no_fix _ laws a la (cc)))
+                (record { low = turn_low laws a b la some; at = turn_from laws a b la some ∙ aa }) d_a
+                (λ e. ne (sym e)) (λ e. no_fix laws a la (cc)))
           ]
         ]
   ]
@@ -184,7 +175,7 @@ module _ (faces : Faces) (laws : IsQuadManifold (half_edges faces)) (marks : Lis
               → ((t : ℕ) × (twin_of faces x ≡ Some t)) × ((t : ℕ) × (twin_of faces (prev_of x) ≡ Some t))
           of x lx s =
               let t = laws.one_fan d x ld lx (sym s) in
-              elim (two_darts _ laws d a ld la is home t.0 x t.1) [
+              elim (two_darts laws d a ld la is home t.0 x t.1) [
                 | inl s ↦
                     let over = laws.twin_twin _ d (laws.prev_low a la) home in
                     ((prev_of a, cc), (a, cc))
@@ -193,8 +184,7 @@ module _ (faces : Faces) (laws : IsQuadManifold (half_edges faces)) (marks : Lis
 
   -- The number of faces at a regular boundary vertex.
   boundary_fan : (v : ℕ) → is_regular faces v ≡ true → is_inner faces v ≡ false → HasFan (half_edges faces) v 2
-  boundary_fan v regular outer =
-      rw (eqb-true _ _ regular ∙ cond-false (is_inner faces v) 4 2 outer) at (has_fan faces v)
+  boundary_fan v regular outer = search (rules, has_fan)
 
   -- At the first dart of a boundary vertex that is no node the cut does not lie.
   no_first : (d : ℕ) → d < darts faces → is_on marks d ≡ true → HasFan (half_edges faces) (from_of faces d) 2
@@ -207,15 +197,7 @@ module _ (faces : Faces) (laws : IsQuadManifold (half_edges faces)) (marks : Lis
 
   through : (d t : ℕ) → d < darts faces → is_on marks d ≡ true → twin_of faces d ≡ Some t
       → is_node faces marks (from_of faces d) ≡ false → HasCross (half_edges faces) d
-  through d t ld on tw off = elim (cases_Bool (is_inner faces (from_of faces d))) [
-    | inl inner ↦ regular_cross faces laws d ld inner (regular_at _ off)
-    | inr outer ↦
-        let fan = boundary_fan _ (regular_at _ off) outer in
-        elim (first_or_second d ld outer fan) [
-          | inl lone ↦ absurd (no_first d ld on fan lone off)
-          | inr (a, second) ↦ absurd (cc second.end)
-        ]
-  ]
+  through d t ld on tw off = search (rules, regular_cross, boundary_fan, first_or_second, no_first)
 
   along : (d : ℕ) → d < darts faces → twin_of faces d ≡ None → is_node faces marks (from_of faces (next_of d)) ≡ false
       → (t : ℕ) × (twin_of faces (next_of d) ≡ Some t) × (twin_of faces (next_of t) ≡ None)
@@ -237,8 +219,8 @@ module _ (faces : Faces) (laws : IsQuadManifold (half_edges faces)) (marks : Lis
             elim (first_or_second d ld outer fan) [
               | inl lone ↦ no_first d ld on fan lone off
               | inr (a, second) ↦
-                  let la = turn_low _ laws d a ld second.turn in
-                  let aa = turn_from _ laws d a ld second.turn in
+                  let la = turn_low laws d a ld second.turn in
+                  let aa = turn_from laws d a ld second.turn in
                   let on_a = full.alike _ a (laws.prev_low d ld) second.turn ∙ before in
                   two_and_one _ d a a (ld, refl, on) (la, aa, on_a) la aa second.apart second.lone off
             ]
@@ -248,30 +230,30 @@ module _ (faces : Faces) (laws : IsQuadManifold (half_edges faces)) (marks : Lis
       by_cross : is_node faces marks (from_of faces d) ≡ false → (a b c : ℕ) → IsCross (half_edges faces) d a b c → ⊥
       by_cross off a b c is = elim (full.gaps _ (laws.prev_low c lc)
           (cc (full.alike (prev_of c) d (laws.prev_low c lc) is.last))) [
-            | inl c_on ↦ third c (lc, at_c (half_edges faces) laws d a b c ld is, cc (laws.next_prev c, c_on))
+            | inl c_on ↦ third c (lc, at_c laws d a b c ld is, cc (laws.next_prev c, c_on))
                 (differ 0 3 (omega arith) (omega arith) (λ e. omega arith))
                 (differ 1 3 (omega arith) (omega arith) (λ e. omega arith))
             | inr g ↦
                 let same : g.0
                 ≡ prev_of b = cc (g.1, laws.next_prev c, laws.twin_twin _ c (laws.prev_low b lb) is.third) in
-                third b (lb, at_b (half_edges faces) laws d a b c ld is, cc (same, laws.next_prev b, g.2))
+                third b (lb, at_b laws d a b c ld is, cc (same, laws.next_prev b, g.2))
                 (differ 0 2 (omega arith) (omega arith) (λ e. omega arith))
                 (differ 1 2 (omega arith) (omega arith) (λ e. omega arith))
           ]
         where
           lb : b < darts faces
-          lb = low_b (half_edges faces) laws d a b c ld is
+          lb = low_b laws d a b c ld is
 
           lc : c < darts faces
-          lc = low_c (half_edges faces) laws d a b c ld is
+          lc = low_c laws d a b c ld is
 
           differ : (i j : ℕ) → i < 4 → j < 4 → (i ≡ j → ⊥) → of_four d a b c i ≡ of_four d a b c j → ⊥
-          differ i j li lj ne e = ne (four_apart (half_edges faces) laws d a b c ld is i j li lj e)
+          differ i j li lj ne e = ne (four_apart laws d a b c ld is i j li lj e)
 
           third : (z : ℕ) → IsOn (from_of faces d) z → (d ≡ z → ⊥) → (a ≡ z → ⊥) → ⊥
           third z at_z d_z a_z = three_leave _ d a z (ld, refl, on) (
-            low_a (half_edges faces) laws d a b c ld is,
-            at_a (half_edges faces) laws d a b c ld is,
+            low_a laws d a b c ld is,
+            at_a laws d a b c ld is,
             full.alike _ a (laws.prev_low d ld) is.first ∙ before,
           ) at_z (differ 0 1 (omega arith) (omega arith) (λ e. omega arith)) d_z a_z off
 

@@ -1,11 +1,11 @@
 -- Straight runs of a cut from node to node.
-use Rattle.std.proofs.Common.{◌≡◌, ◌⊎◌, ℕ, zero, suc, ◌+◌, ◌-◌, ◌<◌, ◌≤◌, Bool, true, false, Option, Some, None, sym}
-use Rattle.std.proofs.Common.{◌∙◌, ap, refl, inl, inr, arith}
+use Rattle.std.proofs.Common.{rules, ◌≡◌, ◌⊎◌, ℕ, zero, suc, ◌+◌, ◌-◌, ◌<◌, ◌≤◌, Bool, true, false, Option, Some, None}
+use Rattle.std.proofs.Common.{sym, ◌∙◌, ap, refl, inl, inr, arith}
 use Rattle.std.proofs.lemmas.Bool.{cases_eq, cases_lt, cases_order, false≢true}
 use Rattle.def_mesh.specs.HalfEdges.{HalfEdges, IsQuadManifold}
 use Rattle.def_cut.specs.{Cuts.Cut, Cuts.IsCut, Steps.or_zero, Steps.step_east, Steps.easts}
 use Rattle.def_layout.specs.{Arcs.end_vertex, Arcs.IsRun, Nodes.AreNodes}
-use Rattle.cut_laws.proofs.{Folds.next_same, Folds.twin_same, Folds.turn_low, Folds.no_self, Pigeon.comes_back}
+use Rattle.cut_laws.proofs.{Folds.twin_same, Folds.turn_low, Folds.no_self, Pigeon.comes_back}
 
 -- There is no value, or some.
 pub none_or : (o : Option ℕ) → (o ≡ None) ⊎ ((t : ℕ) × (o ≡ Some t))
@@ -55,29 +55,18 @@ module _ (mesh : HalfEdges) (laws : IsQuadManifold mesh) (cut : Cut) (full : IsC
   pub east_same : (d e : ℕ) → d < mesh.count → e < mesh.count → mesh.twin (mesh.next d)
       ≡ Some (mesh.prev (step_east mesh d)) → mesh.twin (mesh.next e) ≡ Some (mesh.prev (step_east mesh e))
       → step_east mesh d ≡ step_east mesh e → d ≡ e
-  east_same d e ld le a b s = next_same mesh laws d e
-      (twin_same mesh laws _ _ _ (laws.next_low d ld) (laws.next_low e le) a (cc))
+  east_same d e ld le a b s = search (rules, twin_same)
 
   -- A walk over inner vertices.
   pub walked : (s i : ℕ) → s < mesh.count → cut s ≡ true → ((k : ℕ) → k < i → node (end_vertex mesh (easts mesh s k))
       ≡ false) → (k : ℕ) → k ≤ i → (easts mesh s k < mesh.count) × (cut (easts mesh s k) ≡ true)
   walked s i l on inner zero h = (l, on)
-  walked s i l on inner (suc k) h =
-      let w = walked s i l on inner k (omega arith) in
-      let g = on_from _ w.0 w.1 (inner k (omega arith)) in
-      (g.low, g.on)
+  walked s i l on inner (suc k) h = search (rules, on_from, walked s i l on inner k (omega arith))
 
   pub walk_done : (s i : ℕ) → s < mesh.count → cut s ≡ true → node (mesh.from s) ≡ true
       → ((k : ℕ) → k < i → node (end_vertex mesh (easts mesh s k)) ≡ false) → node (end_vertex mesh (easts mesh s i))
       ≡ true → IsRun mesh cut node s (i + 1)
-  walk_done s i l on begins inner ends = record {
-    some = omega arith;
-    low = l;
-    begins = begins;
-    on = λ k h. (walked s i l on inner k (omega arith)).1;
-    inside = λ k h. inner k (omega arith);
-    ends = λ k e. let same : k ≡ i = omega arith in cc;
-  }
+  walk_done s i l on begins inner ends = search (rules, walked)
 
   pub walk_never : (s i : ℕ) → s < mesh.count → cut s ≡ true → node (mesh.from s) ≡ true
       → ((k : ℕ) → k < i → node (end_vertex mesh (easts mesh s k)) ≡ false) → mesh.count ≤ i → ⊥
@@ -94,8 +83,7 @@ module _ (mesh : HalfEdges) (laws : IsQuadManifold mesh) (cut : Cut) (full : IsC
   -- A run.
   pub run_low : (s n : ℕ) → IsRun mesh cut node s n → (k : ℕ) → k < n → easts mesh s k < mesh.count
   run_low s n run zero l = run.low
-  run_low s n run (suc k) l =
-      (on_from _ (run_low s n run k (omega arith)) (run.on k (omega arith)) (run.inside k l)).low
+  run_low s n run (suc k) l = search (rules, run_low s n run k (omega arith))
 
   pub run_goes : (s n : ℕ) → IsRun mesh cut node s n → (k : ℕ) → suc k < n → GoesStraight mesh cut (easts mesh s k)
   run_goes s n run k l = on_from _ (run_low s n run k (omega arith)) (run.on k (omega arith)) (run.inside k l)
@@ -143,9 +131,9 @@ module _ (mesh : HalfEdges) (laws : IsQuadManifold mesh) (cut : Cut) (full : IsC
       let back = laws.twin_twin d u l tw in
       let (a, b, c, is) =
       nodes.through u d lu (full.alike d u l tw ∙ on) back (cc ((laws.twin_ends d u l tw).0, inner)) in
-      let la = turn_low mesh laws u a lu is.first in
-      let lb = turn_low mesh laws a b la is.second in
-      let lc = turn_low mesh laws b c lb is.third in
+      let la = turn_low laws u a lu is.first in
+      let lb = turn_low laws a b la is.second in
+      let lc = turn_low laws b c lb is.third in
       let last : mesh.prev c ≡ d = cc (laws.twin_twin (mesh.prev c) u (laws.prev_low c lc) is.last, back) in
       let right : c ≡ mesh.next d = cc (laws.next_prev c, last) in
       let over = ap mesh.twin (sym right) ∙ laws.twin_twin (mesh.prev b) c (laws.prev_low b lb) is.third in
@@ -164,17 +152,12 @@ module _ (mesh : HalfEdges) (laws : IsQuadManifold mesh) (cut : Cut) (full : IsC
 
   twin_before : (d e : ℕ) → d < mesh.count → GoesStraight mesh cut d → node (end_vertex mesh d) ≡ false
       → mesh.twin (step_east mesh d) ≡ Some e → (u : ℕ) × (mesh.twin d ≡ Some u)
-  twin_before d e l goes inner tw =
-      let (a, b, c, is) = nodes.through (step_east mesh d) e goes.low goes.on tw (ap node goes.from ∙ inner) in
-      let first : a ≡ mesh.next d =
-      cc (is.first, laws.twin_twin (mesh.next d) (mesh.prev (step_east mesh d)) (laws.next_low d l) goes.over) in
-      (b, cc (laws.prev_next d, first, is.second))
+  twin_before d e l goes inner tw = search rules
 
   -- Where one dart of a run has a twin, each has.
   twins_after : (s n : ℕ) → IsRun mesh cut node s n → (k : ℕ) → (u : ℕ) × (mesh.twin (easts mesh s k) ≡ Some u)
       → (j : ℕ) → k ≤ j → j < n → (u : ℕ) × (mesh.twin (easts mesh s j) ≡ Some u)
-  twins_after s n run k u zero h l = let e : k ≡ 0 = omega arith in
-      (u.0, ap (λ x. mesh.twin (easts mesh s x)) (sym e) ∙ u.1)
+  twins_after s n run k u zero h l = search rules
   twins_after s n run k u (suc j) h l = elim (cases_eq k (suc j)) [
     | inl e ↦ (u.0, ap (λ x. mesh.twin (easts mesh s x)) (sym e) ∙ u.1)
     | inr ne ↦
@@ -244,7 +227,7 @@ module _ (mesh : HalfEdges) (laws : IsQuadManifold mesh) (cut : Cut) (full : IsC
   mirror : (g s n i j : ℕ) → IsRun mesh cut node s n → j ≡ i + g → j < n → mesh.twin (easts mesh s i)
       ≡ Some (easts mesh s j) → ⊥
   mirror zero s n i j run e l tw = let same : j ≡ i = omega arith in
-      no_self mesh laws (easts mesh s i) (run_low s n run i (omega arith)) (cc)
+      no_self laws (easts mesh s i) (run_low s n run i (omega arith)) (cc)
   mirror (suc zero) s n i j run e l tw = let same : j ≡ suc i = omega arith in
       (doubled _ _ (run_low s n run i (omega arith)) (run.on i (omega arith))
       (run.inside i (omega arith)) tw).apart (ap (easts mesh s) same)

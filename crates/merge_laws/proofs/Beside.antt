@@ -5,7 +5,7 @@ use Rattle.std.proofs.lemmas.Bool.{cases_eq, cases_order, cases_Bool, or_left, o
 use Rattle.std.proofs.lemmas.Bool.{eq-eqb, eqb-true, false≢true, false_from_ne_true}
 use Rattle.std.proofs.{lemmas.List.ext_get_or, lemmas.List.length-map, lemmas.List.length-replicate}
 use Rattle.std.proofs.{lemmas.List.FromFn.length-range_with_len, lemmas.List.FromFn.get_or-map-range_with_len}
-use Rattle.std.specs.List.{list_all, range_with_len}
+use Rattle.{std.specs.List.list_all, std.specs.List.range_with_len, motion_laws.proofs.Marks.none_on}
 use Rattle.def_mesh.specs.{Faces.Faces, Darts.darts, Darts.all_darts, Darts.from_of, Darts.prev_of, HalfEdges.HalfEdges}
 use Rattle.def_mesh.specs.{HalfEdges.IsQuadManifold, HalfEdges.half_edges, Manifold.IsManifold, Vertices.fan_of}
 use Rattle.def_mesh.specs.{Vertices.all_vertices, Vertices.vertex_count}
@@ -18,7 +18,6 @@ use Rattle.def_merge.specs.Beside.{is_on_arc, without, may_beside, MergedBesideL
 use Rattle.def_merge.specs.{Joins.IsOnArc, Laws.OneMergedLaw}
 use Rattle.def_feature.specs.{Beside.is_turn, Beside.IsCutBeside, Beside.is_kept, Beside.keeps_lines, Marks.is_break}
 use Rattle.motion_laws.proofs.Among.{any_at, any_where, all_at, not_all, among_range, range_among}
-use Rattle.motion_laws.proofs.Marks.{none_on}
 use Rattle.feature_laws.proofs.{Breaks.in_fan, Breaks.from_fan, First.no_break, First.off}
 use Rattle.{face_laws.proofs.FullCuts.full_cut_law, sum_laws.proofs.Tests.same_test}
 
@@ -54,7 +53,7 @@ module _ (faces : Faces) (may : MayLeave) (laws : IsQuadManifold (half_edges fac
       let two_least =
       b_first.first one.near one.far one.size a_first.name a_first.joinable a_first.free a_first.named.on in
       let names : one.first.name ≡ two.first.name = omega (arith, one_least, two_least) in
-      let arcs = one_arc mesh laws (is_on marks) cut.full one.near one.far one.size two.near two.far two.size
+      let arcs = one_arc laws cut.full
       a_first.name a_first.joinable.glued b_first.joinable.glued a_first.named.on (rw names b_first.named.on) in
       let back : AreOneArc two.near two.far one.near one.far =
       elim arcs.0 [ inl p ↦ inl (sym p.0, sym p.1) | inr p ↦ inr (sym p.1, sym p.0) ] in
@@ -77,7 +76,7 @@ module _ (faces : Faces) (may : MayLeave) (laws : IsQuadManifold (half_edges fac
       → d < darts faces → is_on a d ≡ true → is_on marks d ≡ true
   part_reached marks a zero cut steps d l on = ap (λ (x : List Bool). is_on x d) steps ∙ on
   part_reached marks a (suc i) cut steps d l on = part_reached marks steps.0 i cut steps.1 d l
-      (less mesh laws (is_on steps.0) (is_on a) steps.2.near steps.2.far steps.2.size steps.2.without d l on)
+      (less laws steps.2.without d l on)
 
   -- So many steps lead to one cut.
   same_reached : {marks : List Bool} (a b : List Bool) (i : ℕ) → IsCutOf faces marks → Steps faces may marks a i

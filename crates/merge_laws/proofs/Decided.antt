@@ -1,7 +1,7 @@
 -- Joinable arcs: those with a dart in common are one, each has a name, and those that come up are told by where they
 -- run.
-use Rattle.std.proofs.Common.{◌≡◌, ◌⊎◌, ℕ, zero, suc, ◌-◌, ◌<◌, ◌≤◌, true, false, sym, ◌∙◌, ap, refl, inl, inr}
-use Rattle.std.proofs.Common.{true≢false, arith, ◌+◌, Option, Some, None}
+use Rattle.std.proofs.Common.{◌≡◌, ◌⊎◌, ℕ, zero, suc, ◌-◌, ◌<◌, ◌≤◌, true, sym, ◌∙◌, ap, refl, inl, inr, true≢false}
+use Rattle.std.proofs.Common.{arith, ◌+◌, Option, Some, None}
 use Rattle.std.proofs.{lemmas.Bool.cases_eq, lemmas.Bool.cases_lt, lemmas.Bool.cases_Bool, lemmas.Option.same_Some}
 use Rattle.def_cut.specs.{Cuts.Cut, Cuts.IsCut, Cuts.IsCorner, Steps.easts, Steps.spin}
 use Rattle.cut_laws.proofs.{Rows.first_or_none, Rows.grow, Classes.closed, Classes.first_in, Classes.linked_in}
@@ -56,34 +56,31 @@ pub name_other : (mesh : HalfEdges) (s t n a : ℕ) → IsNameOf mesh s t n a �
 name_other mesh s t n a is =
     record { on = other_way mesh s t n a is.on; least = λ d o. is.least d (other_way mesh t s n d o) }
 
-module _ (mesh : HalfEdges) (laws : IsQuadManifold mesh) (cut : Cut) (full : IsCut mesh cut) where
+module _ {mesh : HalfEdges} (laws : IsQuadManifold mesh) {cut : Cut} (full : IsCut mesh cut) where
   -- The other side is told by the first.
-  pub one_far : (s t u n m : ℕ) → AreGlued mesh cut s t n → AreGlued mesh cut s u m → (t ≡ u) × (n ≡ m)
-  one_far s t u n m one two =
-      let same = one_size mesh laws cut full s n m one.near two.near in
-      let far : t ≡ u = same_Some t u (sym (one.across (n - 1) 0 (omega arith))
-      ∙ (ap (λ x. mesh.twin (easts mesh s (x - 1))) same ∙ two.across (m - 1) 0 (omega arith))) in
-      (far, same)
+  pub one_far : {s t u n m : ℕ} → AreGlued mesh cut s t n → AreGlued mesh cut s u m → (t ≡ u) × (n ≡ m)
+  one_far {s} {t} {u} {n} {m} one two =
+      let same = one_size laws full one.near two.near in
+      (cc (one.across (n - 1) 0 (omega arith), two.across (m - 1) 0 (omega arith)), same)
 
   one_near : {s t n r u m : ℕ} (k j : ℕ) → AreGlued mesh cut s t n → AreGlued mesh cut r u m → k < n → j < m
       → easts mesh s k ≡ easts mesh r j → (s ≡ r) × (t ≡ u) × (n ≡ m)
   one_near {s} {t} {n} {r} {u} {m} k j one two lk lj e =
-      let start : s ≡ r = (one_place mesh laws cut full s n r m k j one.near two.near lk lj e).0 in
-      let f : (t ≡ u) × (n ≡ m) = one_far s t u n m one (rw start two) in
-      (start, f.0, f.1)
+      let start : s ≡ r = (one_place laws full k j one.near two.near lk lj e).0 in
+      let far : (t ≡ u) × (n ≡ m) = one_far one (rw start two) in
+      (start, far.0, far.1)
 
   -- Arcs with a dart in common are one.
-  pub one_arc : (s t n r u m d : ℕ) → AreGlued mesh cut s t n → AreGlued mesh cut r u m → IsOnArc mesh s t n d
+  pub one_arc : {s t n r u m : ℕ} (d : ℕ) → AreGlued mesh cut s t n → AreGlued mesh cut r u m → IsOnArc mesh s t n d
       → IsOnArc mesh r u m d → AreOneArc s t r u × (n ≡ m)
-  one_arc s t n r u m d one two (k, lk, inl e) (j, lj, inl f) =
+  one_arc d one two (k, lk, inl e) (j, lj, inl f) =
       let p = one_near k j one two lk lj (sym e ∙ f) in (inl (p.0, p.1), p.2)
-  one_arc s t n r u m d one two (k, lk, inl e) (j, lj, inr f) =
-      let p = one_near k j one (turned_glued mesh laws cut full two) lk lj (sym e ∙ f) in (inr (p.0, p.1), p.2)
-  one_arc s t n r u m d one two (k, lk, inr e) (j, lj, inl f) =
-      let p = one_near k j (turned_glued mesh laws cut full one) two lk lj (sym e ∙ f) in (inr (p.1, p.0), p.2)
-  one_arc s t n r u m d one two (k, lk, inr e) (j, lj, inr f) =
-      let turned_two = turned_glued mesh laws cut full two in
-      let p = one_near k j (turned_glued mesh laws cut full one) turned_two lk lj (sym e ∙ f) in
+  one_arc d one two (k, lk, inl e) (j, lj, inr f) =
+      let p = one_near k j one (turned_glued laws full two) lk lj (sym e ∙ f) in (inr (p.0, p.1), p.2)
+  one_arc d one two (k, lk, inr e) (j, lj, inl f) =
+      let p = one_near k j (turned_glued laws full one) two lk lj (sym e ∙ f) in (inr (p.1, p.0), p.2)
+  one_arc d one two (k, lk, inr e) (j, lj, inr f) =
+      let p = one_near k j (turned_glued laws full one) (turned_glued laws full two) lk lj (sym e ∙ f) in
       (inl (p.1, p.0), p.2)
 
   module _ {rest : Cut} {s t n : ℕ} (arc : IsJoinable mesh cut s t n) (without : IsWithout mesh cut rest s t n) where
@@ -95,10 +92,10 @@ module _ (mesh : HalfEdges) (laws : IsQuadManifold mesh) (cut : Cut) (full : IsC
         ⊎ (d ≡ mesh.prev t)
     over_end d l on o =
         let was : cut (mesh.prev (mesh.next d)) ≡ true =
-        ap cut (laws.prev_next d) ∙ less mesh laws cut rest s t n without d l on in
+        ap cut (laws.prev_next d) ∙ less laws without d l on in
         let start : (c k : ℕ) → IsWholeSide mesh cut c n → k < n → mesh.next d ≡ easts mesh c k → d ≡ mesh.prev c =
         λ c k side lk e.
-        let first = first_place mesh laws cut full c n side k lk (ap (λ x. cut (mesh.prev x)) (sym e) ∙ was) in
+        let first = first_place laws full side k lk (ap (λ x. cut (mesh.prev x)) (sym e) ∙ was) in
         sym (laws.prev_next d) ∙ ap mesh.prev (e ∙ ap (easts mesh c) first) in
         elim o.2 [
           | inl e ↦ inl (start s o.0 arc.glued.near o.1 e)
@@ -106,15 +103,15 @@ module _ (mesh : HalfEdges) (laws : IsQuadManifold mesh) (cut : Cut) (full : IsC
         ]
 
     -- A whole side was one before, or it goes on over an end of the arc.
-    side_before_or_over : (r m : ℕ) → IsWholeSide mesh rest r m → IsWholeSide mesh cut r m
+    side_before_or_over : {r m : ℕ} → IsWholeSide mesh rest r m → IsWholeSide mesh cut r m
         ⊎ ((k : ℕ) × (k < m) × ((mesh.prev s ≡ easts mesh r k) ⊎ (mesh.prev t ≡ easts mesh r k)))
     unfolding full_rest
-    side_before_or_over r m side = elim (first_or_none (λ k. cut (mesh.next (easts mesh r k))) (m - 1)) [
+    side_before_or_over {r} {m} side = elim (first_or_none (λ k. cut (mesh.next (easts mesh r k))) (m - 1)) [
       | inl f ↦ elim (on_or_not mesh s t n (mesh.next (easts mesh r f.0))) [
         | inl o ↦ inr (
           f.0,
           omega arith,
-          elim (over_end (easts mesh r f.0) (low f.0 (omega arith)) (side_on mesh laws rest full_rest r m side f.0
+          elim (over_end (easts mesh r f.0) (low f.0 (omega arith)) (side_on laws full_rest side f.0
               (omega arith)) o) [ inl e ↦ inl (sym e) | inr e ↦ inr (sym e) ],
         )
         | inr none ↦ absurd (true≢false (sym f.2.on ∙ (sym (without.kept (mesh.next (easts mesh r f.0))
@@ -124,25 +121,25 @@ module _ (mesh : HalfEdges) (laws : IsQuadManifold mesh) (cut : Cut) (full : IsC
         some = side.some;
         corner = (
           side.corner.0,
-          less mesh laws cut rest s t n without r side.corner.0 side.corner.1,
-          less mesh laws cut rest s t n without (mesh.prev r) (laws.prev_low r side.corner.0) side.corner.2,
+          less laws without r side.corner.0 side.corner.1,
+          less laws without (mesh.prev r) (laws.prev_low r side.corner.0) side.corner.2,
         );
         inside = λ k l. none k (omega arith);
-        ends = λ k e. less mesh laws cut rest s t n without (mesh.next (easts mesh r k))
+        ends = λ k e. less laws without (mesh.next (easts mesh r k))
             (laws.next_low (easts mesh r k) (low k (omega arith))) (side.ends k e);
       })
     ]
       where
         low : (k : ℕ) → k < m → easts mesh r k < mesh.count
-        low k l = side_low mesh laws rest full_rest r m side k l
+        low k l = side_low laws full_rest side k l
 
-    grown_arc : (r u m : ℕ) → IsJoinable mesh rest r u m → IsJoinable mesh cut r u m
+    grown_arc : {r u m : ℕ} → IsJoinable mesh rest r u m → IsJoinable mesh cut r u m
         ⊎ (IsOnArc mesh r u m (mesh.prev s) ⊎ IsOnArc mesh r u m (mesh.prev t))
-    grown_arc r u m new = elim (side_before_or_over r m new.glued.near) [
-      | inl a ↦ elim (side_before_or_over u m new.glued.far) [
+    grown_arc {r} {u} {m} new = elim (side_before_or_over new.glued.near) [
+      | inl a ↦ elim (side_before_or_over new.glued.far) [
         | inl b ↦ inl (record {
           glued = record { near = a; far = b; across = new.glued.across };
-          apart = λ k. new.apart (k.0, links_less mesh laws cut rest s t n without r u k.0 new.glued.near.corner.0 k.1);
+          apart = λ k. new.apart (k.0, links_less laws without r u k.0 new.glued.near.corner.0 k.1);
         })
         | inr o ↦ inr (elim o.2 [ inl e ↦ inl (o.0, o.1, inr e) | inr e ↦ inr (o.0, o.1, inr e) ])
       ]
@@ -150,7 +147,7 @@ module _ (mesh : HalfEdges) (laws : IsQuadManifold mesh) (cut : Cut) (full : IsC
     ]
 
 pub grown_law : GrownLaw
-grown_law mesh cut rest s t n r u m laws full arc without new = grown_arc mesh laws cut full arc without r u m new
+grown_law mesh cut rest s t n r u m laws full arc without new = grown_arc laws full arc without new
 
 -- Whether an arc is joinable is decided.
 
@@ -180,11 +177,10 @@ module _ {mesh : HalfEdges} (laws : IsQuadManifold mesh) {cut : Cut} (full : IsC
   -- Whether a corner lies in the patch of a side.
   in_one_or_not : (s n t : ℕ) → IsWholeSide mesh cut s n → IsCorner mesh cut t → OrNot (AreInOne mesh cut s t)
   in_one_or_not s n t side corner =
-      let (h, grid) = grid_on mesh laws cut full s n side in
+      let (h, grid) = grid_on laws full side in
       let cell = grown mesh s in
       let linked : (k a b : ℕ) → a < n → b < h → t ≡ spin mesh k (grown mesh s a b) → AreInOne mesh cut s t =
-      λ k a b la lb is. linked_in mesh laws cut full n h cell grid t
-      (k, record { a = a; b = b; a_low = la; b_low = lb; is = is }) in
+      λ k a b la lb is. linked_in laws full grid t (k, record { a = a; b = b; a_low = la; b_low = lb; is = is }) in
       let first : OrNot (IsFirstDart mesh n h (grown mesh s) t) = either (cases_eq t (cell 0 0)) (either
       (cases_eq t (mesh.next (cell (n - 1) 0))) (either (cases_eq t (mesh.next (mesh.next (cell (n - 1) (h - 1)))))
       (cases_eq t (mesh.next (mesh.next (mesh.next (cell 0 (h - 1)))))))) in
@@ -195,8 +191,8 @@ module _ {mesh : HalfEdges} (laws : IsQuadManifold mesh) {cut : Cut} (full : IsC
           | inr (inr (inl e)) ↦ linked 2 (n - 1) (h - 1) (omega arith) (omega arith) e
           | inr (inr (inr e)) ↦ linked 3 0 (h - 1) grid.wide (omega arith) e
         ])
-        | inr none ↦ inr (λ a. none (corner_in mesh laws cut full n h cell grid t (closed mesh laws cut full n h cell
-            grid s t a.0 a.1 (first_in mesh laws cut full n h cell grid)) corner))
+        | inr none ↦ inr (λ a. none (corner_in laws full grid t
+            (closed laws full grid s t a.0 a.1 (first_in laws full grid)) corner))
       ]
 
   -- Whether two whole sides are one arc.
@@ -231,12 +227,12 @@ module _ {mesh : HalfEdges} (laws : IsQuadManifold mesh) {cut : Cut} (full : IsC
 
       by_far : (t : ℕ) → mesh.twin (easts mesh s (n - 1)) ≡ Some t → IsCorner mesh cut t → OrNot (From s n)
       by_far t is there =
-          let g = grow mesh laws cut full t there in
+          let g = grow laws full t there in
           let far : IsWholeSide mesh cut t g.0 =
           record { some = g.2.wide; corner = there; inside = g.2.row.inside; ends = g.2.row.ends } in
           let at_t : From s n → IsJoinable mesh cut s t n = λ f. rw (← same_Some f.0 t (sym (far_is f) ∙ is)) f.1 in
           elim (cases_eq g.0 n) [
-            | inr never ↦ inr (λ f. never (one_size mesh laws cut full t g.0 n far (at_t f).glued.far))
+            | inr never ↦ inr (λ f. never (one_size laws full far (at_t f).glued.far))
             | inl e ↦ elim (across_or_not s t n n (omega arith)) [
               | inr never ↦ inr (λ f. never (at_t f).glued.across)
               | inl across ↦ elim (in_one_or_not s n t side there) [
@@ -256,11 +252,11 @@ module _ {mesh : HalfEdges} (laws : IsQuadManifold mesh) {cut : Cut} (full : IsC
       by_twin None is = inr (λ f. let both : None ≡ Some f.0 = sym is ∙ far_is f in cc)
       by_twin (Some t) is =
           let x = easts mesh s (n - 1) in
-          let low = side_low mesh laws cut full s n side (n - 1) (omega arith) in
+          let low = side_low laws full side (n - 1) (omega arith) in
           elim (cases_Bool (cut (mesh.prev t))) [
             | inl on ↦ by_far t is (
               laws.twin_low x t low is,
-              full.alike x t low is ∙ side_on mesh laws cut full s n side (n - 1) (omega arith),
+              full.alike x t low is ∙ side_on laws full side (n - 1) (omega arith),
               on,
             )
             | inr off ↦ inr (λ f.
@@ -271,8 +267,8 @@ module _ {mesh : HalfEdges} (laws : IsQuadManifold mesh) {cut : Cut} (full : IsC
   -- Whether one that may leave goes over d.
   over_or_not : (d : ℕ) → d < mesh.count → OrNot (Over d)
   over_or_not d low = elim (cases_Bool (cut d)) [
-    | inr off ↦ inr (λ o. true≢false (sym (on_cut mesh laws cut full o.0 o.1 o.2 o.3.glued d o.5) ∙ off))
-    | inl on ↦ let st = stands mesh laws cut full d low on in by_side st.0 st.1 st.2 st.3
+    | inr off ↦ inr (λ o. true≢false (sym (on_cut laws full o.3.glued d o.5) ∙ off))
+    | inl on ↦ let st = stands laws full d low on in by_side st.0 st.1 st.2 st.3
   ]
     where
       by_side : (c n k : ℕ) → StandsOn mesh cut c n k d → OrNot (Over d)
@@ -285,7 +281,7 @@ module _ {mesh : HalfEdges} (laws : IsQuadManifold mesh) {cut : Cut} (full : IsC
               f.0,
               c,
               n,
-              turned_arc mesh laws cut full c f.0 n f.1,
+              turned_arc laws full f.1,
               free,
               (k, stand.low, inr (sym stand.at)),
             )
@@ -303,9 +299,8 @@ module _ {mesh : HalfEdges} (laws : IsQuadManifold mesh) {cut : Cut} (full : IsC
         where
           begins : {r u m : ℕ} → IsJoinable mesh cut r u m → (j : ℕ) → j < m → d ≡ easts mesh r j → (r ≡ c) × (m ≡ n)
           begins {r} {m} arc j l e =
-              let same = one_place mesh laws cut full r m c n j k arc.glued.near stand.side l stand.low
-              (sym e ∙ sym stand.at) in
-              (same.0, one_size mesh laws cut full c m n (rw same.0 at arc.glued.near) stand.side)
+              let same = one_place laws full j k arc.glued.near stand.side l stand.low (sym e ∙ sym stand.at) in
+              (same.0, one_size laws full (rw same.0 at arc.glued.near) stand.side)
 
           -- What goes over d begins at c, from one side or the other.
           from_c : Over d → (u : ℕ) × IsJoinable mesh cut c u n × ((may c u n ≡ true) ⊎ (may u c n ≡ true))
@@ -313,7 +308,7 @@ module _ {mesh : HalfEdges} (laws : IsQuadManifold mesh) {cut : Cut} (full : IsC
               let same = begins arc j l e in
               (t, rw same.1 at (rw same.0 at arc), inl (rw same.1 at (rw same.0 at free)))
           from_c (s, t, m, arc, free, (j, l, inr e)) =
-              let turned = turned_arc mesh laws cut full s t m arc in
+              let turned = turned_arc laws full arc in
               let same = begins turned j l e in
               (s, rw same.1 at (rw same.0 at turned), inr (rw same.1 at (rw same.0 at free)))
 

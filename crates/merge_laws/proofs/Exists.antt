@@ -1,15 +1,14 @@
 -- Each full cut has a merged cut: each step leaves fewer darts.
 use Rattle.std.proofs.Common.{◌≡◌, ◌⊎◌, ℕ, zero, suc, ◌<◌, ◌≤◌, Bool, true, cond, List, sym, ◌∙◌, ap, refl, inl, inr}
 use Rattle.std.proofs.Common.{arith}
-use Rattle.std.proofs.lemmas.Bool.{cases_lt}
+use Rattle.{std.proofs.lemmas.Bool.cases_lt, def_math.specs.Counts.count_below, sum_laws.proofs.Sums.count_below_lt}
+use Rattle.{def_cut.specs.FullCut.is_on, mesh_laws.proofs.Chains.manifold_law, face_laws.proofs.FullCuts.full_cut_law}
 use Rattle.def_mesh.specs.{Faces.Faces, Darts.darts, HalfEdges.HalfEdges, HalfEdges.IsQuadManifold}
 use Rattle.def_mesh.specs.{HalfEdges.half_edges}
 use Rattle.def_merge.specs.{Joins.IsJoinable, Joins.IsOnArc, Laws.MergedLaw, Merged.IsMergedBy, Merged.IsStep}
 use Rattle.def_merge.specs.{Merged.Steps, Merged.MayLeave, Beside.without}
 use Rattle.merge_laws.proofs.{Beside.left_at, Beside.without_long, Beside.IsCutOf, Beside.cut_after, Joins.on_cut}
 use Rattle.merge_laws.proofs.{Joins.on_low, Joins.on_or_not, Decided.Over, Decided.least_or_none}
-use Rattle.{def_math.specs.Counts.count_below, sum_laws.proofs.Sums.count_below_lt, def_cut.specs.FullCut.is_on}
-use Rattle.{mesh_laws.proofs.Chains.manifold_law, face_laws.proofs.FullCuts.full_cut_law}
 
 module _ (faces : Faces) (may : MayLeave) (laws : IsQuadManifold (half_edges faces)) where
   abbrev mesh : HalfEdges
@@ -53,15 +52,14 @@ module _ (faces : Faces) (may : MayLeave) (laws : IsQuadManifold (half_edges fac
             };
             long = without_long faces marks s t n ∙ sym cut.long;
             without = record {
-              gone = λ x o.
-                  (left_at faces marks s t n x (on_low mesh laws (is_on marks) cut.full s t n arc.glued x o)).0 o;
+              gone = λ x o. (left_at faces marks s t n x (on_low laws cut.full arc.glued x o)).0 o;
               kept = λ x l. (left_at faces marks s t n x l).1;
             };
           }
 
           fewer : marked (without faces marks s t n) < marked marks
           fewer =
-              let was = on_cut mesh laws (is_on marks) cut.full s t n arc.glued d on in
+              let was = on_cut laws cut.full arc.glued d on in
               let zero_now = ap (λ (b : Bool). cond {A = ℕ} b 1 0) ((left_at faces marks s t n d low).0 on) in
               let one_before = ap (λ (b : Bool). cond {A = ℕ} b 1 0) was in
               count_below_lt (λ x. cond (is_on (without faces marks s t n) x) 1 0) (λ x. cond (is_on marks x) 1 0)

@@ -11,8 +11,7 @@ use Rattle.cut_laws.proofs.Classes.{links_join, links_low, linked_back, linked_i
 use Rattle.def_merge.specs.{Joins.AreInOne, Joins.IsJoinable, Joins.IsOnArc, Joins.IsWholeSide, Joins.IsWithout}
 use Rattle.def_merge.specs.{Laws.FewerLaw}
 use Rattle.merge_laws.proofs.Joins.{IsIn, one_place_of, links_less, on_low, on_or_not, on_twin, join_law}
-use Rattle.merge_laws.proofs.Sides.{grid_on}
-use Rattle.{def_math.specs.Counts.count_below, cut_laws.specs.Grown.grown}
+use Rattle.{merge_laws.proofs.Sides.grid_on, def_math.specs.Counts.count_below}
 
 -- All numbers below a bound but one.
 one_less : (u m : ℕ) → u < m → suc (passing (λ k. not (k == u)) m) ≡ m
@@ -33,18 +32,17 @@ module _ {mesh : HalfEdges} (laws : IsQuadManifold mesh) {cut rest : Cut} (full 
   Beside x = AreInOne mesh cut s x ⊎ AreInOne mesh cut t x
 
   beside_more : (x y : ℕ) → Beside x → AreInOne mesh cut x y → Beside y
-  beside_more x y (inl a) b = inl (links_join mesh laws cut s x y a b)
-  beside_more x y (inr a) b = inr (links_join mesh laws cut t x y a b)
+  beside_more x y (inl a) b = inl (links_join laws cut s x y a b)
+  beside_more x y (inr a) b = inr (links_join laws cut t x y a b)
 
   -- What was linked is linked.
   joined_less : (x y : ℕ) → x < mesh.count → AreInOne mesh cut x y → AreInOne mesh rest x y
-  joined_less x y l a = (a.0, links_less mesh laws cut rest s t n without x y a.0 l a.1)
+  joined_less x y l a = (a.0, links_less laws without x y a.0 l a.1)
 
   along : {c : ℕ} → IsWholeSide mesh cut c n → (k : ℕ) → k < n → AreInOne mesh cut c (easts mesh c k)
   along {c} side k l =
-      let g = grid_on mesh laws cut full c n side in
-      linked_in mesh laws cut full n g.0 (grown mesh c) g.1 (easts mesh c k)
-      (0, record { a = k; b = 0; a_low = l; b_low = g.1.tall; is = refl })
+      let g = grid_on laws full side in
+      linked_in laws full g.1 (easts mesh c k) (0, record { a = k; b = 0; a_low = l; b_low = g.1.tall; is = refl })
 
   beside_on : (x : ℕ) → IsOnArc mesh s t n x → Beside x
   beside_on x (k, l, inl e) = inl (rw e (along arc.glued.near k l))
@@ -57,30 +55,29 @@ module _ {mesh : HalfEdges} (laws : IsQuadManifold mesh) {cut rest : Cut} (full 
       let across = arc.glued.across 0 (n - 1) (omega arith) in
       let gone = without.gone s (0, arc.glued.near.some, inl refl) in
       let back =
-      linked_back mesh laws cut full t (easts mesh t (n - 1)) arc.glued.far.corner.0
-      (along arc.glued.far (n - 1) last) in
-      links_join mesh laws rest s (easts mesh t (n - 1)) t
-      (step_over mesh laws rest s s (easts mesh t (n - 1)) (0, refl) gone across) (joined_less (easts mesh t (n - 1)) t
-      (on_low mesh laws cut full s t n arc.glued (easts mesh t (n - 1)) (n - 1, last, inr refl)) back)
+      linked_back laws full t (easts mesh t (n - 1)) arc.glued.far.corner.0 (along arc.glued.far (n - 1) last) in
+      links_join laws rest s (easts mesh t (n - 1)) t
+      (step_over laws rest s s (easts mesh t (n - 1)) (0, refl) gone across) (joined_less (easts mesh t (n - 1)) t
+      (on_low laws full arc.glued (easts mesh t (n - 1)) (n - 1, last, inr refl)) back)
 
   -- What is linked then was linked, or lies beside the arc.
   linked_or : (x y m : ℕ) → x < mesh.count → Links mesh rest x y m → AreInOne mesh cut x y ⊎ (Beside x × Beside y)
   linked_or x y zero l a = inl (0, a)
   linked_or x y (suc m) l a =
       let c = a.0 in
-      let lc = links_low mesh laws rest x a.0 m l a.1 in
+      let lc = links_low laws rest x a.0 m l a.1 in
       let was = linked_or x a.0 m l a.1 in
       let more : AreInOne mesh cut a.0 y → AreInOne mesh cut x y ⊎ (Beside x × Beside y) = λ b. elim was
-      [ inl z ↦ inl (links_join mesh laws cut x c y z b) | inr p ↦ inr (p.0, beside_more c y p.1 b) ] in
+      [ inl z ↦ inl (links_join laws cut x c y z b) | inr p ↦ inr (p.0, beside_more c y p.1 b) ] in
       elim a.2 [
-        | inl e ↦ more (rw e (step_next mesh laws cut c c (0, refl)))
+        | inl e ↦ more (rw e (step_next laws cut c c (0, refl)))
         | inr p ↦ elim (on_or_not mesh s t n c) [
           | inl o ↦
-              let q = on_twin mesh laws cut full arc.glued c o in
+              let q = on_twin laws full arc.glued c o in
               let beside_x : Beside x = elim was
-              [ inl z ↦ beside_more c x (beside_on c o) (linked_back mesh laws cut full x c l z) | inr b ↦ b.0 ] in
+              [ inl z ↦ beside_more c x (beside_on c o) (linked_back laws full x c l z) | inr b ↦ b.0 ] in
               inr (beside_x, beside_on y (rw (same_Some q.0 y (sym q.1 ∙ p.1)) at q.2))
-          | inr none ↦ more (step_over mesh laws cut c c y (0, refl) (sym (without.kept c lc none) ∙ p.0) p.1)
+          | inr none ↦ more (step_over laws cut c c y (0, refl) (sym (without.kept c lc none) ∙ p.0) p.1)
         ]
       ]
 
@@ -109,10 +106,9 @@ module _ {mesh : HalfEdges} (laws : IsQuadManifold mesh) {cut : Cut} (full : IsC
   -- Darts in one patch are linked.
   one_patch : (p x y : ℕ) → p < length ps → IsIn mesh ps p x → IsIn mesh ps p y → AreInOne mesh cut x y
   one_patch p x y l i j =
-      let linked = linked_in mesh laws cut full (patch_at ps p).w (patch_at ps p).h (cell_of (patch_at ps p))
-      (grid_of p l) in
-      links_join mesh laws cut x (first_dart p) y
-      (linked_back mesh laws cut full (first_dart p) x (first_low p l) (linked x i)) (linked y j)
+      let linked = linked_in laws full (grid_of p l) in
+      links_join laws cut x (first_dart p) y
+      (linked_back laws full (first_dart p) x (first_low p l) (linked x i)) (linked y j)
 
 module _ {mesh : HalfEdges} (laws : IsQuadManifold mesh) {cut rest : Cut} (full : IsCut mesh cut)
     (after : IsCut mesh rest) {face : ℕ → ℕ} {s t n : ℕ} (arc : IsJoinable mesh cut s t n)
@@ -165,8 +161,8 @@ module _ {mesh : HalfEdges} (laws : IsQuadManifold mesh) {cut rest : Cut} (full 
           near.0,
           near.1,
           λ same. arc.apart (one_patch laws full parts near.0 s t near.1 near.2 (rw same far.2)),
-          links_join mesh laws rest (old near.0) s (new q) (linked near.0 s near.1 near.2)
-              (links_join mesh laws rest s t (new q) (both laws full arc without)
+          links_join laws rest (old near.0) s (new q) (linked near.0 s near.1 near.2)
+              (links_join laws rest s t (new q) (both laws full arc without)
               (joined_less laws full arc without t (new q) arc.glued.far.corner.0
               (one_patch laws full parts far.0 t (new q) far.1 far.2 (rw e at p.2)))),
         )
@@ -176,10 +172,9 @@ module _ {mesh : HalfEdges} (laws : IsQuadManifold mesh) {cut rest : Cut} (full 
   old_once : (q r : ℕ) (lq : q < length qs) (lr : r < length qs) → (old_of q lq).0 ≡ (old_of r lr).0 → q ≡ r
   old_once q r lq lr same =
       let p = old_of q lq in
-      let back = linked_back mesh laws rest after (old p.0) (new q) (first_low laws full parts p.0 p.1) p.3 in
+      let back = linked_back laws after (old p.0) (new q) (first_low laws full parts p.0 p.1) p.3 in
       one_place_of laws after whole q r (new q) (new r) lq lr (first_in laws after whole q lq)
-      (first_in laws after whole r lr)
-      (links_join mesh laws rest (new q) (old p.0) (new r) back (rw same (old_of r lr).3))
+      (first_in laws after whole r lr) (links_join laws rest (new q) (old p.0) (new r) back (rw same (old_of r lr).3))
 
   -- So there is one less.
   fewer : length ps ≡ suc (length qs)

@@ -1,7 +1,7 @@
 -- The darts of arcs, and what is left of a cut without one.
 use Rattle.std.proofs.Common.{◌≡◌, ◌⊎◌, ℕ, zero, suc, ◌-◌, ◌<◌, true, false, Some, sym, ◌∙◌, ap, refl, inl, inr}
 use Rattle.std.proofs.Common.{true≢false, arith, None, List, length}
-use Rattle.std.proofs.{lemmas.Bool.cases_Bool, lemmas.Bool.cases_eq, lemmas.Bool.false≢true, lemmas.Option.same_Some}
+use Rattle.std.proofs.{lemmas.Bool.cases_Bool, lemmas.Bool.cases_eq, lemmas.Option.same_Some}
 use Rattle.def_mesh.specs.HalfEdges.{HalfEdges, IsQuadManifold}
 use Rattle.def_cut.specs.Cuts.{Cut, IsCross, HasCross, Links, IsCut, IsUncut, IsCorner, GoesOn}
 use Rattle.def_cut.specs.Grids.{Cells, IsGrid, Rectangle, cell_of, patch_at, IsPartition, IsSide}
@@ -26,53 +26,53 @@ on_or_not mesh s t n d = elim (sent_or_not (easts mesh s) d n) [
 pub other_way : (mesh : HalfEdges) (s t n d : ℕ) → IsOnArc mesh s t n d → IsOnArc mesh t s n d
 other_way mesh s t n d o = (o.0, o.1, elim o.2 [ inl e ↦ inr e | inr e ↦ inl e ])
 
-pub other_without : (mesh : HalfEdges) (cut rest : Cut) (s t n : ℕ) → IsWithout mesh cut rest s t n
+pub other_without : {mesh : HalfEdges} {cut rest : Cut} {s t n : ℕ} → IsWithout mesh cut rest s t n
     → IsWithout mesh cut rest t s n
-other_without mesh cut rest s t n without = record {
+other_without {mesh} {s} {t} {n} without = record {
   gone = λ d o. without.gone d (other_way mesh t s n d o);
   kept = λ d l none. without.kept d l (λ o. none (other_way mesh s t n d o));
 }
 
 -- Four faces go round a vertex, from wherever they are counted.
-pub cross_from : (mesh : HalfEdges) → IsQuadManifold mesh → (x d : ℕ) → x < mesh.count → d < mesh.count
+pub cross_from : {mesh : HalfEdges} → IsQuadManifold mesh → (x d : ℕ) → x < mesh.count → d < mesh.count
     → mesh.from d ≡ mesh.from x → HasCross mesh x → HasCross mesh d
-cross_from mesh laws x d lx ld at cross = by_cross cross.3
+cross_from {mesh} laws x d lx ld at cross = by_cross cross.3
   where
     by_cross : {a b c : ℕ} → IsCross mesh x a b c → HasCross mesh d
     by_cross {a} {b} {c} is =
         let second = rotated mesh laws x a b c lx is in
-        let third = rotated mesh laws a b c x (low_a mesh laws x a b c lx is) second in
-        let fourth = rotated mesh laws b c x a (low_b mesh laws x a b c lx is) third in
-        elim (one_of_four mesh laws x a b c lx is d (record { low = ld; at = at })) [
+        let third = rotated mesh laws a b c x (low_a laws x a b c lx is) second in
+        let fourth = rotated mesh laws b c x a (low_b laws x a b c lx is) third in
+        elim (one_of_four laws x a b c lx is d (record { low = ld; at = at })) [
           | inl e ↦ rw e (a, b, c, is)
           | inr (inl e) ↦ rw e (b, c, x, second)
           | inr (inr (inl e)) ↦ rw e (c, x, a, third)
           | inr (inr (inr e)) ↦ rw e (x, a, b, fourth)
         ]
 
-module _ (mesh : HalfEdges) (laws : IsQuadManifold mesh) (cut : Cut) (full : IsCut mesh cut) where
+module _ {mesh : HalfEdges} (laws : IsQuadManifold mesh) {cut : Cut} (full : IsCut mesh cut) where
   -- A joinable arc seen from its other side.
   pub turned_glued : {s t n : ℕ} → AreGlued mesh cut s t n → AreGlued mesh cut t s n
   turned_glued {s} {t} {n} g = record {
     near = g.far;
     far = g.near;
     across = λ k j e. laws.twin_twin (easts mesh s j) (easts mesh t k)
-        (side_low mesh laws cut full s n g.near j (omega arith)) (g.across j k (omega arith));
+        (side_low laws full g.near j (omega arith)) (g.across j k (omega arith));
   }
 
-  pub turned_arc : (s t n : ℕ) → IsJoinable mesh cut s t n → IsJoinable mesh cut t s n
-  turned_arc s t n arc = record {
+  pub turned_arc : {s t n : ℕ} → IsJoinable mesh cut s t n → IsJoinable mesh cut t s n
+  turned_arc {s} {t} arc = record {
     glued = turned_glued arc.glued;
-    apart = λ a. arc.apart (linked_back mesh laws cut full t s arc.glued.far.corner.0 a);
+    apart = λ a. arc.apart (linked_back laws full t s arc.glued.far.corner.0 a);
   }
 
-  pub on_low : (s t n : ℕ) → AreGlued mesh cut s t n → (d : ℕ) → IsOnArc mesh s t n d → d < mesh.count
-  on_low s t n g d (k, l, inl e) = rw e (side_low mesh laws cut full s n g.near k l)
-  on_low s t n g d (k, l, inr e) = rw e (side_low mesh laws cut full t n g.far k l)
+  pub on_low : {s t n : ℕ} → AreGlued mesh cut s t n → (d : ℕ) → IsOnArc mesh s t n d → d < mesh.count
+  on_low g d (k, l, inl e) = rw e (side_low laws full g.near k l)
+  on_low g d (k, l, inr e) = rw e (side_low laws full g.far k l)
 
-  pub on_cut : (s t n : ℕ) → AreGlued mesh cut s t n → (d : ℕ) → IsOnArc mesh s t n d → cut d ≡ true
-  on_cut s t n g d (k, l, inl e) = ap cut e ∙ side_on mesh laws cut full s n g.near k l
-  on_cut s t n g d (k, l, inr e) = ap cut e ∙ side_on mesh laws cut full t n g.far k l
+  pub on_cut : {s t n : ℕ} → AreGlued mesh cut s t n → (d : ℕ) → IsOnArc mesh s t n d → cut d ≡ true
+  on_cut g d (k, l, inl e) = ap cut e ∙ side_on laws full g.near k l
+  on_cut g d (k, l, inr e) = ap cut e ∙ side_on laws full g.far k l
 
   -- Its darts are paired.
   pub on_twin : {s t n : ℕ} → AreGlued mesh cut s t n → (d : ℕ) → IsOnArc mesh s t n d → (e : ℕ)
@@ -85,16 +85,12 @@ module _ (mesh : HalfEdges) (laws : IsQuadManifold mesh) (cut : Cut) (full : IsC
       (easts mesh s j, ap mesh.twin e ∙ (turned_glued g).across k j (omega arith), (j, omega arith, inl refl))
 
   -- No other side of a cell is a south side of its grid.
-  pub never_south : (w h : ℕ) (cell : Cells) → IsGrid mesh cut w h cell → (q i a b : ℕ) → 0 < q → q < 4 → i < w → a < w
+  pub never_south : {w h : ℕ} {cell : Cells} → IsGrid mesh cut w h cell → (q i a b : ℕ) → 0 < q → q < 4 → i < w → a < w
       → b < h → cell i 0 ≡ spin mesh q (cell a b) → ⊥
-  never_south w h cell grid q i a b some low li la lb e = by_turn q some low (same ∙ e)
+  never_south {cell} grid q i a b some low li la lb e =
+      let place = no_fold laws full grid q i 0 a b li grid.tall la lb e in
+      by_turn q some low (cc (place.0, place.1))
     where
-      place : (i ≡ a) × (◌≡◌ {A = ℕ} 0 b)
-      place = no_fold mesh laws cut full w h cell grid q i 0 a b li grid.tall la lb e
-
-      same : cell a b ≡ cell i 0
-      same = ap (λ x. cell x b) (sym place.0) ∙ ap (cell i) (sym place.1)
-
       lc : cell a b < mesh.count
       lc = grid.low a b la lb
 
@@ -102,11 +98,11 @@ module _ (mesh : HalfEdges) (laws : IsQuadManifold mesh) (cut : Cut) (full : IsC
       by_turn (suc zero) some low e = (laws.corners_differ (cell a b) lc).0 (ap mesh.from e)
       by_turn (suc (suc zero)) some low e = (laws.corners_differ (cell a b) lc).1 (ap mesh.from e)
       by_turn (suc (suc (suc zero))) some low e =
-          (laws.corners_differ (cell a b) lc).0 (sym (ap mesh.from (ap mesh.next e ∙ laws.four_sides (cell a b))))
+          (laws.corners_differ (cell a b) lc).0 (cc (e, laws.four_sides (cell a b)))
       by_turn _ some low e = omega arith
 
 -- What is left of the cut without an arc.
-module _ (mesh : HalfEdges) (laws : IsQuadManifold mesh) (cut rest : Cut) (s t n : ℕ)
+module _ {mesh : HalfEdges} (laws : IsQuadManifold mesh) {cut rest : Cut} {s t n : ℕ}
     (without : IsWithout mesh cut rest s t n) where
   pub less : (d : ℕ) → d < mesh.count → rest d ≡ true → cut d ≡ true
   less d l on = elim (on_or_not mesh s t n d) [
@@ -128,7 +124,7 @@ module _ (mesh : HalfEdges) (laws : IsQuadManifold mesh) (cut rest : Cut) (s t n
   links_less d e (suc m) l a = (
     a.0,
     links_less d a.0 m l a.1,
-    elim a.2 [ inl r ↦ inl r | inr o ↦ inr (opened a.0 (links_low mesh laws cut d a.0 m l a.1) o.0, o.1) ],
+    elim a.2 [ inl r ↦ inl r | inr o ↦ inr (opened a.0 (links_low laws cut d a.0 m l a.1) o.0, o.1) ],
   )
 
 -- Without a joinable arc a full cut is a full cut.
@@ -137,25 +133,23 @@ module _ (mesh : HalfEdges) (laws : IsQuadManifold mesh) (cut rest : Cut) (s t n
 module _ {mesh : HalfEdges} (laws : IsQuadManifold mesh) {cut : Cut} (full : IsCut mesh cut) {s t n : ℕ}
     (arc : IsJoinable mesh cut s t n) where
   grid : (h : ℕ) × IsGrid mesh cut n h (grown mesh s)
-  grid = grid_on mesh laws cut full s n arc.glued.near
+  grid = grid_on laws full arc.glued.near
 
   other : (g : ℕ) × IsGrid mesh cut n g (grown mesh t)
-  other = grid_on mesh laws cut full t n arc.glued.far
+  other = grid_on laws full arc.glued.far
 
   abbrev near_low : (k : ℕ) → k < n → easts mesh s k < mesh.count
-  near_low k l = side_low mesh laws cut full s n arc.glued.near k l
+  near_low k l = side_low laws full arc.glued.near k l
 
   -- The grids have no dart in common.
   foreign : (x : ℕ) → In mesh n grid.0 (grown mesh s) x → In mesh n other.0 (grown mesh t) x → ⊥
-  foreign x i j = arc.apart (links_join mesh laws cut s x t
-      (linked_in mesh laws cut full n grid.0 (grown mesh s) grid.1 x i)
-      (linked_back mesh laws cut full t x arc.glued.far.corner.0
-      (linked_in mesh laws cut full n other.0 (grown mesh t) other.1 x j)))
+  foreign x i j = arc.apart (links_join laws cut s x t (linked_in laws full grid.1 x i)
+      (linked_back laws full t x arc.glued.far.corner.0 (linked_in laws full other.1 x j)))
 
   -- No other side of a cell on the near side lies on the arc.
   clear : (q a b : ℕ) → 0 < q → q < 4 → a < n → b < grid.0 → IsOnArc mesh s t n (spin mesh q (grown mesh s a b)) → ⊥
   clear q a b some low la lb (k, l, inl e) =
-      never_south mesh laws cut full n grid.0 (grown mesh s) grid.1 q k a b some low l la lb (sym e)
+      never_south laws full grid.1 q k a b some low l la lb (sym e)
   clear q a b some low la lb (k, l, inr e) =
       foreign (spin mesh q (grown mesh s a b)) (q, record { a = a; b = b; a_low = la; b_low = lb; is = refl })
       (0, record { a = k; b = 0; a_low = l; b_low = other.1.tall; is = e })
@@ -166,18 +160,17 @@ module _ {mesh : HalfEdges} (laws : IsQuadManifold mesh) {cut : Cut} (full : IsC
       let i = n - suc (suc k) in
       let a = easts mesh s k in
       let b = easts mesh t i in
-      let lb = side_low mesh laws cut full t n arc.glued.far i (omega arith) in (
+      let lb = side_low laws full arc.glued.far i (omega arith) in (
         mesh.next a,
         easts mesh t (suc i),
         mesh.next b,
         record {
           first = laws.twin_twin (mesh.next a) (mesh.prev (easts mesh s (suc k)))
-              (laws.next_low a (near_low k (omega arith))) (side_link mesh laws cut full s n arc.glued.near k l);
+              (laws.next_low a (near_low k (omega arith))) (side_link laws full arc.glued.near k l);
           second = ap mesh.twin (laws.prev_next a) ∙ arc.glued.across k (suc i) (omega arith);
           third = laws.twin_twin (mesh.next b) (mesh.prev (easts mesh t (suc i))) (laws.next_low b lb)
-              (side_link mesh laws cut full t n arc.glued.far i (omega arith));
-          last = ap mesh.twin (laws.prev_next b)
-              ∙ (turned_glued mesh laws cut full arc.glued).across i (suc k) (omega arith);
+              (side_link laws full arc.glued.far i (omega arith));
+          last = ap mesh.twin (laws.prev_next b) ∙ (turned_glued laws full arc.glued).across i (suc k) (omega arith);
           apart = λ same. foreign (easts mesh s (suc k))
               (0, record { a = suc k; b = 0; a_low = l; b_low = grid.1.tall; is = refl })
               (0, record { a = suc i; b = 0; a_low = omega arith; b_low = other.1.tall; is = same });
@@ -188,24 +181,24 @@ module _ {mesh : HalfEdges} (laws : IsQuadManifold mesh) {cut : Cut} (full : IsC
   cross_before : (d : ℕ) → d < mesh.count → cut d ≡ false → (k : ℕ) → k < n → mesh.prev d ≡ easts mesh s k
       → HasCross mesh d
   cross_before d ld off k l e =
-      let is : d ≡ mesh.next (easts mesh s k) = sym (laws.next_prev d) ∙ ap mesh.next e in
+      let is : d ≡ mesh.next (easts mesh s k) = cc (laws.next_prev d) in
       elim (cases_eq (suc k) n) [
-        | inl z ↦ absurd (true≢false (sym (arc.glued.near.ends k z) ∙ (ap cut (sym is) ∙ off)))
+        | inl z ↦ absurd (cc (arc.glued.near.ends k z))
         | inr ne ↦
             let lk : suc k < n = omega arith in
-            cross_from mesh laws (easts mesh s (suc k)) d (near_low (suc k) lk) ld
-            (ap mesh.from is ∙ sym (side_from mesh laws cut full s n arc.glued.near k lk)) (crossed_at k lk)
+            cross_from laws (easts mesh s (suc k)) d (near_low (suc k) lk) ld
+            (ap mesh.from is ∙ sym (side_from laws full arc.glued.near k lk)) (crossed_at k lk)
       ]
 
   module _ {rest : Cut} (without : IsWithout mesh cut rest s t n) where
     abbrev stays : (d : ℕ) → d < mesh.count → (IsOnArc mesh s t n d → ⊥) → cut d ≡ true → rest d ≡ true
-    stays d l none on = still mesh laws cut rest s t n without d l none on
+    stays = still laws without
 
     -- Where the cut came along the face to the arc, it goes straight on over its end.
     gap_over : (d : ℕ) → d < mesh.count → cut d ≡ true → (k : ℕ) → k < n → mesh.next d ≡ easts mesh s k
         → (rest_end : rest (mesh.next (easts mesh t (n - 1))) ≡ true) → GoesOn mesh rest d
     gap_over d ld on k l e rest_end =
-        let start = first_place mesh laws cut full s n arc.glued.near k l
+        let start = first_place laws full arc.glued.near k l
         (ap (λ x. cut (mesh.prev x)) (sym e) ∙ (ap cut (laws.prev_next d) ∙ on)) in
         let is : mesh.next d ≡ s = e ∙ ap (easts mesh s) start in
         inr (easts mesh t (n - 1), ap mesh.twin is ∙ arc.glued.across 0 (n - 1) (omega arith), rest_end)
@@ -213,15 +206,14 @@ module _ {mesh : HalfEdges} (laws : IsQuadManifold mesh) {cut : Cut} (full : IsC
     -- Where it came straight on to the arc, it came along the arc.
     gap_on : (d e : ℕ) → d < mesh.count → cut (mesh.next d) ≡ false → mesh.twin (mesh.next d) ≡ Some e → (k : ℕ)
         → k < n → mesh.next e ≡ easts mesh s k → rest d ≡ false
-    gap_on d e ld off tw zero l is = absurd (true≢false
-        (sym arc.glued.near.corner.2 ∙ (ap (λ x. cut (mesh.prev x)) (sym is)
-        ∙ (ap cut (laws.prev_next e) ∙ (full.alike (mesh.next d) e (laws.next_low d ld) tw ∙ off)))))
+    gap_on d e ld off tw zero l is =
+        absurd (cc (arc.glued.near.corner.2, laws.prev_next e, full.alike (mesh.next d) e (laws.next_low d ld) tw))
     gap_on d e ld off tw (suc k) l is =
         let x = easts mesh s k in
-        let before : e ≡ mesh.prev (easts mesh s (suc k)) = sym (laws.prev_next e) ∙ ap mesh.prev is in
-        let same = twin_same mesh laws (mesh.next d) (mesh.next x) e (laws.next_low d ld) (laws.next_low x (near_low k
-        (omega arith))) tw (side_link mesh laws cut full s n arc.glued.near k l ∙ ap Some (sym before)) in
-        without.gone d (k, omega arith, inl (next_same mesh laws d x same))
+        let link = side_link laws full arc.glued.near k l in
+        let same = twin_same laws (mesh.next d) (mesh.next x) e (laws.next_low d ld)
+        (laws.next_low x (near_low k (omega arith))) tw (cc (link, laws.prev_next e)) in
+        without.gone d (k, omega arith, inl (next_same laws d x same))
 
     -- The end of the arc on the near side is followed by an edge that stays.
     end_stays : rest (mesh.next (easts mesh s (n - 1))) ≡ true
@@ -233,11 +225,10 @@ module _ {mesh : HalfEdges} (laws : IsQuadManifold mesh) {cut : Cut} (full : IsC
     -- An open vertex with a dart on the near side: the edge before the start of the arc stays.
     cross_on : (d : ℕ) → rest (mesh.prev d) ≡ false → (k : ℕ) → k < n → d ≡ easts mesh s k → HasCross mesh d
     cross_on d off zero l e =
-        let three = prev_three mesh laws s in
-        let start : rest (mesh.prev s) ≡ true = ap rest three
-        ∙ stays (spin mesh 3 s) (rw three at (laws.prev_low s arc.glued.near.corner.0)) (clear 3 0 0 (omega arith)
-        (omega arith) arc.glued.near.some grid.1.tall) (ap cut (sym three) ∙ arc.glued.near.corner.2) in
-        absurd (false≢true (sym off ∙ (ap (λ x. rest (mesh.prev x)) e ∙ start)))
+        let three = prev_three laws s in
+        let start = stays (spin mesh 3 s) (rw three at (laws.prev_low s arc.glued.near.corner.0)) (clear 3 0 0
+        (omega arith) (omega arith) arc.glued.near.some grid.1.tall) (cc (three, arc.glued.near.corner.2)) in
+        absurd (cc (three, start))
     cross_on d off (suc k) l e = rw e (crossed_at k l)
 
     -- The near grid keeps its far corner.
@@ -258,11 +249,11 @@ module _ {mesh : HalfEdges} (laws : IsQuadManifold mesh) {cut : Cut} (full : IsC
           ap rest (laws.prev_next (mesh.next cell)) ∙ stays (mesh.next cell) low (clear 1 (n - 1) (h - 1) (omega arith)
               (omega arith) last top) (g.east_shut (n - 1) (h - 1) (omega arith) top),
         ) in
-        let near = linked_in mesh laws cut full n h (grown mesh s) g in
-        let l = links_join mesh laws cut d e far a (links_join mesh laws cut e s far (linked_back mesh laws cut full s e
+        let near = linked_in laws full g in
+        let l = links_join laws cut d e far a (links_join laws cut e s far (linked_back laws full s e
         arc.glued.near.corner.0 (near e (q, record { a = k; b = 0; a_low = lk; b_low = g.tall; is = at })))
         (near far (2, record { a = n - 1; b = h - 1; a_low = last; b_low = top; is = refl }))) in
-        (far, l.0, links_less mesh laws cut rest s t n without d far l.0 ld l.1, corner)
+        (far, l.0, links_less laws without d far l.0 ld l.1, corner)
 
 module _ {mesh : HalfEdges} (laws : IsQuadManifold mesh) {cut : Cut} (full : IsCut mesh cut) {s t n : ℕ}
     (arc : IsJoinable mesh cut s t n) {rest : Cut} (without : IsWithout mesh cut rest s t n) where
@@ -271,19 +262,19 @@ module _ {mesh : HalfEdges} (laws : IsQuadManifold mesh) {cut : Cut} (full : IsC
       → d ≡ easts mesh s k → P) → IsOnArc mesh s t n d → P
   seen from (k, l, inl e) = from s t arc without k l e
   seen from (k, l, inr e) =
-      from t s (turned_arc mesh laws cut full s t n arc) (other_without mesh cut rest s t n without) k l e
+      from t s (turned_arc laws full arc) (other_without without) k l e
 
   keeps : (d : ℕ) → d < mesh.count → (IsOnArc mesh s t n d → ⊥) → cut d ≡ true → rest d ≡ true
-  keeps d l none on = still mesh laws cut rest s t n without d l none on
+  keeps = still laws without
 
   gaps : (d : ℕ) → d < mesh.count → rest d ≡ true → GoesOn mesh rest d
   gaps d l on =
       let next = mesh.next d in
-      let was = less mesh laws cut rest s t n without d l on in
+      let was = less laws without d l on in
       elim (cases_Bool (cut next)) [
         | inl c ↦ elim (on_or_not mesh s t n next) [
           | inl o ↦ seen (λ s t arc without k lk e. gap_over laws full arc without d l was k lk e (end_stays laws full
-              (turned_arc mesh laws cut full s t n arc) (other_without mesh cut rest s t n without))) o
+              (turned_arc laws full arc) (other_without without))) o
           | inr none ↦ inl (keeps next (laws.next_low d l) none c)
         ]
         | inr off ↦ elim (full.gaps d l was) [
@@ -308,7 +299,7 @@ module _ {mesh : HalfEdges} (laws : IsQuadManifold mesh) {cut : Cut} (full : IsC
         | inr c ↦ elim (cases_Bool (cut (mesh.prev d))) [
           | inl b ↦ seen (λ s t arc without. cross_before laws full arc d l c)
               (on_arc (mesh.prev d) (laws.prev_low d l) b off.1)
-          | inr b ↦ cross_at mesh laws cut full d l (c, b)
+          | inr b ↦ cross_at laws full d l (c, b)
         ]
       ]
 
@@ -323,7 +314,7 @@ module _ {mesh : HalfEdges} (laws : IsQuadManifold mesh) {cut : Cut} (full : IsC
           | inr clear ↦ (
             e,
             m,
-            links_less mesh laws cut rest s t n without d e m l there,
+            links_less laws without d e m l there,
             (is.0, keeps e is.0 none is.1, keeps (mesh.prev e) (laws.prev_low e is.0) clear is.2),
           )
         ]
@@ -332,7 +323,7 @@ module _ {mesh : HalfEdges} (laws : IsQuadManifold mesh) {cut : Cut} (full : IsC
   full_rest : IsCut mesh rest
   full_rest =
       let paired : (x y : ℕ) → mesh.twin x ≡ Some y → IsOnArc mesh s t n x → IsOnArc mesh s t n y = λ x y is o.
-      let p = on_twin mesh laws cut full arc.glued x o in
+      let p = on_twin laws full arc.glued x o in
       rw (← same_Some p.0 y (sym p.1 ∙ is)) p.2 in
       record {
         alike = λ d e l tw. elim (on_or_not mesh s t n d) [
@@ -341,7 +332,7 @@ module _ {mesh : HalfEdges} (laws : IsQuadManifold mesh) {cut : Cut} (full : IsC
               ∙ (full.alike d e l tw ∙ sym (without.kept d l none))
         ];
         boundary = λ d l is. keeps d l (λ o.
-            let p = on_twin mesh laws cut full arc.glued d o in
+            let p = on_twin laws full arc.glued d o in
             let clash : None ≡ Some p.0 = sym is ∙ p.1 in
             absurd cc) (full.boundary d l is);
         gaps = gaps;
@@ -370,6 +361,6 @@ module _ {mesh : HalfEdges} (laws : IsQuadManifold mesh) {cut : Cut} (full : IsC
   pub one_place_of : (p q x y : ℕ) → p < length ps → q < length ps → IsIn mesh ps p x → IsIn mesh ps q y
       → AreLinked mesh cut x y → p ≡ q
   one_place_of p q x y lp lq i j a =
-      let here = closed mesh laws cut full (patch_at ps p).w (patch_at ps p).h (cell_of (patch_at ps p)) (grid_at p lp)
+      let here = closed laws full (grid_at p lp)
       x y a.0 a.1 i in
       (parts.once y p here.1.a here.1.b here.0 q j.1.a j.1.b j.0 lp lq (side_of p y here) (side_of q y j)).0

@@ -8,9 +8,8 @@ use Rattle.def_layout.specs.Gluings.{Way, south, east, north, west, Gluing, Slot
 use Rattle.def_layout.specs.{Arcs.path_at, Arcs.long_at, Arcs.dart_at, Arcs.LiesAt, Borders.side_size}
 use Rattle.def_layout.specs.{Borders.border_dart, Lengths.reach, Layouts.Layout, Layouts.gluing_of}
 use Rattle.def_layout.specs.{Layouts.IsDartLayout}
-use Rattle.merge_laws.proofs.Sides.{south_side, east_side, north_side, west_side, along_south, along_east, along_north}
-use Rattle.merge_laws.proofs.Sides.{along_west}
-use Rattle.merge_laws.proofs.Joins.{one_place_of}
+use Rattle.merge_laws.proofs.{Sides.south_side, Sides.east_side, Sides.north_side, Sides.west_side, Sides.along_south}
+use Rattle.merge_laws.proofs.{Sides.along_east, Sides.along_north, Sides.along_west, Joins.one_place_of}
 use Rattle.def_merge.specs.{Joins.IsWholeSide, Joins.AreInOne, Joins.IsJoinable, Layouts.IsJoinableAt, Laws.JoinableLaw}
 use Rattle.{mesh_laws.proofs.Chains.manifold_law, face_laws.proofs.FullCuts.full_cut_law}
 
@@ -28,31 +27,31 @@ module _ (mesh : HalfEdges) (laws : IsQuadManifold mesh) (cut : Cut) (full : IsC
 
   west_start : mesh.next (mesh.next (mesh.next (cell_of p 0 (p.h - 1)))) ≡ border_dart mesh p west 0
   west_start = let same : p.h - 1 ≡ p.h - 1 - 0 = omega arith in
-      sym (prev_three mesh laws (cell_of p 0 (p.h - 1))) ∙ ap (λ x. mesh.prev (cell_of p 0 x)) same
+      sym (prev_three laws (cell_of p 0 (p.h - 1))) ∙ ap (λ x. mesh.prev (cell_of p 0 x)) same
 
   pub border : (side : Way) → IsBorder mesh cut p side
   border south = record {
-    whole = south_side mesh laws cut full p.w p.h (cell_of p) grid;
-    along = along_south mesh laws cut full p.w p.h (cell_of p) grid;
+    whole = south_side laws full grid;
+    along = along_south laws full grid;
     inside = λ k l. (0, record { a = k; b = 0; a_low = l; b_low = grid.tall; is = refl });
   }
   border east = record {
-    whole = east_side mesh laws cut full p.w p.h (cell_of p) grid;
-    along = along_east mesh laws cut full p.w p.h (cell_of p) grid;
+    whole = east_side laws full grid;
+    along = along_east laws full grid;
     inside = λ k l. (1, record { a = p.w - 1; b = k; a_low = omega arith; b_low = l; is = refl });
   }
   border north = record {
-    whole = rw north_start at (north_side mesh laws cut full p.w p.h (cell_of p) grid);
+    whole = rw north_start at (north_side laws full grid);
     along = λ k l. ap (λ x. easts mesh x k) (sym north_start)
-        ∙ along_north mesh laws cut full p.w p.h (cell_of p) grid k (p.w - 1 - k) (omega arith);
+        ∙ along_north laws full grid k (p.w - 1 - k) (omega arith);
     inside = λ k l. (2, record { a = p.w - 1 - k; b = p.h - 1; a_low = omega arith; b_low = omega arith; is = refl });
   }
   border west = record {
-    whole = rw west_start at (west_side mesh laws cut full p.w p.h (cell_of p) grid);
-    along = λ k l. ap (λ x. easts mesh x k) (sym west_start) ∙ (along_west mesh laws cut full p.w p.h (cell_of p) grid k
-        (p.h - 1 - k) (omega arith) ∙ sym (prev_three mesh laws (cell_of p 0 (p.h - 1 - k))));
+    whole = rw west_start at (west_side laws full grid);
+    along = λ k l. ap (λ x. easts mesh x k) (sym west_start) ∙ (along_west laws full grid k
+        (p.h - 1 - k) (omega arith) ∙ sym (prev_three laws (cell_of p 0 (p.h - 1 - k))));
     inside = λ k l. let at = p.h - 1 - k in
-        let is = prev_three mesh laws (cell_of p 0 at) in
+        let is = prev_three laws (cell_of p 0 at) in
         (3, record { a = 0; b = at; a_low = grid.wide; b_low = omega arith; is = is });
   }
 
@@ -135,8 +134,7 @@ module _ {mesh : HalfEdges} (laws : IsQuadManifold mesh) {cut : Cut} (full : IsC
             ≡ Some (easts mesh (dart other 0) j)
         across k j sum =
             let lj : j < side_size (patch other) other.side = omega (arith, far_long) in
-            let low = in_low mesh laws cut full (patch other).w (patch_at layout.patches other.patch).h
-            (cell_of (patch other)) (grid_of are.across.0) (dart other j) (far.inside j lj) in
+            let low = in_low laws full (grid_of are.across.0) (dart other j) (far.inside j lj) in
             ap mesh.twin (near.along k (omega (arith, near_long))) ∙ (paired (use_of gluing one).forward k j
             (dart one k) (dart other j) low sum (lies one are.slot are.alone k (omega arith)) (far_lies j (omega arith))
             ∙ ap Some (sym (far.along j lj)))

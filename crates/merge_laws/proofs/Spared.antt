@@ -41,7 +41,7 @@ module _ (faces : Faces) (m : IsManifold faces) (marks : List Bool) (marked : Ar
 
     left : IsWithout mesh (is_on cut) (is_on rest) s t n
     left = record {
-      gone = λ d o. (left_at faces cut s t n d (on_low mesh laws (is_on cut) full s t n arc.glued d o)).0 o;
+      gone = λ d o. (left_at faces cut s t n d (on_low laws full arc.glued d o)).0 o;
       kept = λ d l. (left_at faces cut s t n d l).1;
     }
 
@@ -49,7 +49,7 @@ module _ (faces : Faces) (m : IsManifold faces) (marks : List Bool) (marked : Ar
     full_left = join_law mesh (is_on cut) (is_on rest) s t n laws full arc left
 
     near_low : (k : ℕ) → k < n → easts mesh s k < darts faces
-    near_low k l = side_low mesh laws (is_on cut) full s n arc.glued.near k l
+    near_low k l = side_low laws full arc.glued.near k l
 
     -- Inside a side no patch has a corner.
     no_turn : (r u : ℕ) → AreGlued mesh (is_on cut) r u n → (k d : ℕ) → suc k < n → d ≡ easts mesh r (suc k) → IsBreak d
@@ -58,23 +58,24 @@ module _ (faces : Faces) (m : IsManifold faces) (marks : List Bool) (marked : Ar
         let x = easts mesh r (suc k) in
         let y = ap (λ z. is_break faces marks (from_of faces z)) (sym is_x) ∙ broken in
         let at = v ∙ ap (from_of faces) is_x in
-        let lx = side_low mesh laws (is_on cut) full r n glued.near (suc k) l in
-        let west = side_before mesh laws (is_on cut) full glued.near k l in
+        let lx = side_low laws full glued.near (suc k) l in
+        let west = side_before laws full glued.near k l in
         let (a, b, c, is) = break_cross faces m marks marked x lx y in
-        let lc = low_c mesh laws x a b c lx is in
+        let lc = low_c laws x a b c lx is in
         let off_a : is_on cut a ≡ false = full.alike (prev_of x) a (laws.prev_low x lx) is.first ∙ west in
-        let far : (j : ℕ) → suc k + suc j ≡ n → is_on cut c ≡ false = λ j sum.
-        let same = same_Some _ _ (sym (glued.across (suc k) j sum)
-        ∙ laws.twin_twin (prev_of c) x (laws.prev_low c lc) is.last) in
-        sym (ap (is_on cut) (ap next_of same ∙ laws.next_prev c)) ∙ glued.far.inside j (omega arith) in
+        let far : (j : ℕ) → suc k + suc j ≡ n → is_on cut c ≡ false = λ j sum. cc (
+          glued.across (suc k) j sum,
+          laws.twin_twin (prev_of c) x (laws.prev_low c lc) is.last,
+          laws.next_prev c,
+          glued.far.inside j (omega arith),
+        ) in
         let off_c = far (n - suc (suc k)) (omega arith) in
-        elim (one_of_four mesh laws x a b c lx is e (record { low = le; at = at })) [
-          | inl same ↦ false≢true (sym west ∙ (ap (λ z. is_on cut (prev_of z)) (sym same) ∙ before))
-          | inr (inl same) ↦ false≢true (sym off_a ∙ (ap (is_on cut) (sym same) ∙ on))
-          | inr (inr (inl same)) ↦ false≢true
-              (sym off_c ∙ (full.alike (prev_of b) c (laws.prev_low b (low_b mesh laws x a b c lx is)) is.third
-              ∙ (ap (λ z. is_on cut (prev_of z)) (sym same) ∙ before)))
-          | inr (inr (inr same)) ↦ false≢true (sym off_c ∙ (ap (is_on cut) (sym same) ∙ on))
+        elim (one_of_four laws x a b c lx is e (record { low = le; at = at })) [
+          | inl same ↦ cc (west, before)
+          | inr (inl same) ↦ cc (off_a, on)
+          | inr (inr (inl same)) ↦
+              cc (off_c, full.alike (prev_of b) c (laws.prev_low b (low_b laws x a b c lx is)) is.third, before)
+          | inr (inr (inr same)) ↦ cc (off_c, on)
         ]
 
     -- So of the darts that leave a corner of a patch where lines break only the first ones lie on the arc.
@@ -82,7 +83,7 @@ module _ (faces : Faces) (m : IsManifold faces) (marks : List Bool) (marked : Ar
     first_at d (zero, l, e) y turn = e
     first_at d (suc k, l, inl e) y turn = absurd (no_turn s t arc.glued k d l e y turn)
     first_at d (suc k, l, inr e) y turn =
-        absurd (no_turn t s (turned_glued mesh laws (is_on cut) full arc.glued) k d l e y turn)
+        absurd (no_turn t s (turned_glued laws full arc.glued) k d l e y turn)
 
     -- Where the edge opposite to an end stays, a corner stays.
     module _ (r u : ℕ) (corner : IsCorner mesh (is_on cut) r) (on : OnArc r)
@@ -93,48 +94,52 @@ module _ (faces : Faces) (m : IsManifold faces) (marks : List Bool) (marked : Ar
       stays : IsBreak r → IsEndFree faces marks cut r u → TurnsAt rest r
       stays y free =
           let (a, b, c, is) = break_cross faces m marks marked r lr y in
-          let la = low_a mesh laws r a b c lr is in
-          let lb = low_b mesh laws r a b c lr is in
+          let la = low_a laws r a b c lr is in
+          let lb = low_b laws r a b c lr is in
           let opposite = free y a b is.first is.second in
-          let at = at_b mesh laws r a b c lr is in
+          let at = at_b laws r a b c lr is in
           let clear : IsOnArc (half_edges faces) s t n b → ⊥ = λ o.
           elim (other b (first_at b o (ap (is_break faces marks) at ∙ y) (r, lr, sym at, corner.1, corner.2))) [
             | inl e ↦ is.apart (sym e)
             | inr e ↦ opposite.1 e
           ] in
-          let on_b = still mesh laws (is_on cut) (is_on rest) s t n left b lb clear opposite.0 in
+          let on_b = still laws left b lb clear opposite.0 in
           let before : is_on rest (prev_of a) ≡ true =
           sym (full_left.alike (prev_of a) b (laws.prev_low a la) is.second) ∙ on_b in
           let on_a : is_on rest a ≡ true = elim (full_left.gaps (prev_of a) (laws.prev_low a la) before) [
-            | inl y ↦ ap (is_on rest) (sym (laws.next_prev a)) ∙ y
-            | inr w ↦
-                let same = same_Some w.0 (prev_of r) (sym w.1 ∙ (ap (twin_of faces) (laws.next_prev a)
-                ∙ laws.twin_twin (prev_of r) a (laws.prev_low r lr) is.first)) in
-                absurd (false≢true (sym (left.gone r on)
-                ∙ (ap (is_on rest) (sym (ap next_of same ∙ laws.next_prev r)) ∙ w.2)))
+            | inl y ↦ cc (y, laws.next_prev a)
+            | inr w ↦ absurd (cc (
+              left.gone r on,
+              w.1,
+              w.2,
+              laws.next_prev a,
+              laws.next_prev r,
+              laws.twin_twin (prev_of r) a (laws.prev_low r lr) is.first,
+            ))
           ] in
-          (a, la, at_a mesh laws r a b c lr is, on_a, before)
+          (a, la, at_a laws r a b c lr is, on_a, before)
 
       -- And where a corner stays, the opposite edge does.
       free : OnArc u → (IsBreak r → TurnsAt rest r) → IsEndFree faces marks cut r u
       free on_u turn y a b first second =
           let (x, z, w, is) = break_cross faces m marks marked r lr y in
-          let same_a = same_Some x a (sym is.first ∙ first) in
-          let same_b = same_Some z b (sym is.second ∙ (ap (λ x. twin_of faces (prev_of x)) same_a ∙ second)) in
+          let same_a : x ≡ a = cc (is.first, first) in
+          let same_b : z ≡ b = cc (is.second, second, same_a) in
           let (e, le, at, on_e, before) = turn y in
           let on_b : is_on rest z ≡ true =
-          elim (one_of_four mesh laws r x z w lr is e (record { low = le; at = at })) [
-            | inl same ↦ absurd (false≢true (sym (left.gone r on) ∙ (ap (is_on rest) (sym same) ∙ on_e)))
-            | inr (inl same) ↦ full_left.alike (prev_of x) z (laws.prev_low x (low_a mesh laws r x z w lr is)) is.second
-                ∙ (ap (λ z. is_on rest (prev_of z)) (sym same) ∙ before)
-            | inr (inr (inl same)) ↦ ap (is_on rest) (sym same) ∙ on_e
-            | inr (inr (inr same)) ↦ absurd (false≢true (sym (left.gone r on)
-                ∙ (full_left.alike (prev_of w) r (laws.prev_low w (low_c mesh laws r x z w lr is)) is.last
-                ∙ (ap (λ z. is_on rest (prev_of z)) (sym same) ∙ before))))
+          elim (one_of_four laws r x z w lr is e (record { low = le; at = at })) [
+            | inl same ↦ absurd (cc (left.gone r on, on_e))
+            | inr (inl same) ↦ cc
+                (full_left.alike (prev_of x) z (laws.prev_low x (low_a laws r x z w lr is)) is.second, before)
+            | inr (inr (inl same)) ↦ cc on_e
+            | inr (inr (inr same)) ↦ absurd (cc (
+              left.gone r on,
+              before,
+              full_left.alike (prev_of w) r (laws.prev_low w (low_c laws r x z w lr is)) is.last,
+            ))
           ] in (
-            ap (is_on cut) (sym same_b) ∙ less mesh laws (is_on cut) (is_on rest) s t n left z
-                (low_b mesh laws r x z w lr is) on_b,
-            λ e. false≢true (sym (left.gone u on_u) ∙ (ap (is_on rest) (sym (same_b ∙ e)) ∙ on_b)),
+            ap (is_on cut) (sym same_b) ∙ less laws left z (low_b laws r x z w lr is) on_b,
+            λ e. cc (left.gone u on_u, same_b, e, on_b),
           )
 
     -- An arc that begins unmarked is not marked.
@@ -149,13 +154,13 @@ module _ (faces : Faces) (m : IsManifold faces) (marks : List Bool) (marked : Ar
         false_from_ne_true _ (λ on.
         let (a, b, c, is) = crossed_at laws full arc k l in
         let right = same_Some a (next_of y) (sym is.first ∙ laws.twin_twin (next_of y) (prev_of x) (laws.next_low y ly)
-        (side_link mesh laws (is_on cut) full s n arc.glued.near k l)) in
+        (side_link laws full arc.glued.near k l)) in
         let across : twin_of faces (easts mesh s k) ≡ Some b =
         ap (twin_of faces) (sym (ap prev_of right ∙ laws.prev_next y)) ∙ is.second in
         elim (two_ways faces m marks marked x a b c lx on is) [
           | inl on ↦ false≢true (sym before ∙ (sym (marked.alike y b ly across) ∙ on))
           | inr (inl both) ↦ false≢true (sym (arc.glued.near.inside k l) ∙ (ap (is_on cut) (sym right)
-              ∙ beside.kept a (low_a mesh laws x a b c lx is) both.0))
+              ∙ beside.kept a (low_a laws x a b c lx is) both.0))
           | inr (inr broken) ↦ no_turn s t arc.glued k x l refl broken
               (turn_there faces cut (from_of faces x) (beside.turned x lx broken))
         ])
@@ -181,7 +186,7 @@ module _ (faces : Faces) (m : IsManifold faces) (marks : List Bool) (marked : Ar
     }
 
     from_spared : IsSpared faces marks cut s t n → keeps_lines faces marks rest ≡ true
-    from_spared spared = keeps_from faces marks rest (λ d l y. still mesh laws (is_on cut) (is_on rest) s t n left d l
+    from_spared spared = keeps_from faces marks rest (λ d l y. still laws left d l
         (λ o. unmarked d o y) (beside.kept d l y)) (λ d l y. turn_from faces rest (from_of faces d)
         (turned d y (turn_there faces cut (from_of faces d) (beside.turned d l y))))
       where
@@ -211,15 +216,15 @@ module _ (faces : Faces) (m : IsManifold faces) (marks : List Bool) (marked : Ar
               | inl o ↦ leaves e o at
               | inr none ↦ elim (on_or_not mesh s t n (prev_of e)) [
                 | inl o ↦
-                    let z = on_twin mesh laws (is_on cut) full arc.glued (prev_of e) o in
+                    let z = on_twin laws full arc.glued (prev_of e) o in
                     leaves z.0 z.2 ((laws.twin_ends (prev_of e) z.0 (laws.prev_low e le) z.1).0
                     ∙ (ap (from_of faces) (laws.next_prev e) ∙ at))
                 | inr clear ↦ (
                   e,
                   le,
                   at,
-                  still mesh laws (is_on cut) (is_on rest) s t n left e le none on,
-                  still mesh laws (is_on cut) (is_on rest) s t n left (prev_of e) (laws.prev_low e le) clear before,
+                  still laws left e le none on,
+                  still laws left (prev_of e) (laws.prev_low e le) clear before,
                 )
               ]
             ]

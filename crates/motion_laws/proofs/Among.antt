@@ -1,8 +1,7 @@
 -- Lists of darts: what stands among them, filters, and lists without repeats.
-use Rattle.std.proofs.Common.{◌≡◌, ◌⊎◌, ℕ, zero, suc, Bool, true, false, cond, eqb, ◌&&◌, ◌+◌, ◌<◌, ◌≤◌, List, []}
-use Rattle.std.proofs.Common.{◌∷◌, Option, Some, None, arith, sym, ap, ◌∙◌, refl, inl, inr}
+use Rattle.std.proofs.Common.{rules, ◌≡◌, ◌⊎◌, ℕ, zero, suc, Bool, true, false, cond, eqb, ◌&&◌, ◌+◌, ◌<◌, ◌≤◌, List}
+use Rattle.std.proofs.Common.{[], ◌∷◌, Option, Some, None, sym, ap, ◌∙◌, refl, inl, inr}
 use Rattle.std.proofs.lemmas.Bool.{or_left, or_right, or_cases, eq-eqb, eqb-true, and_parts, false≢true}
-use Rattle.std.proofs.lemmas.Bool.{false_from_ne_true}
 use Rattle.std.specs.List.{filter, list_any, list_all, range_with_len}
 use Rattle.list_laws.proofs.Filters.{any_in_range, range_any}
 use Rattle.def_cut.specs.Motion.{is_among, is_found}
@@ -80,8 +79,7 @@ from_filter p d (e ∷ ds) m = at (p e) refl m (from_filter p d ds)
   where
     at : (b : Bool) → p e ≡ b → is_among d (cond b (e ∷ filter p ds) (filter p ds)) ≡ true → (is_among d (filter p ds)
         ≡ true → (is_among d ds ≡ true) × (p d ≡ true)) → (is_among d (e ∷ ds) ≡ true) × (p d ≡ true)
-    at true k m rest = elim (among_cases d e (filter p ds) m)
-        [ inl s ↦ (among_here d e ds s, ap p s ∙ k) | inr r ↦ (among_later d e ds (rest r).0, (rest r).1) ]
+    at true k m rest = search rules
     at false k m rest = (among_later d e ds (rest m).0, (rest m).1)
 
 -- No dart stands there twice.
@@ -91,22 +89,15 @@ AreApart (d ∷ ds) = (is_among d ds ≡ false) × AreApart ds
 
 pub apart_filter : (p : ℕ → Bool) (ds : List ℕ) → AreApart ds → AreApart (filter p ds)
 apart_filter p [] a = tt
-apart_filter p (e ∷ ds) a = at (p e) (apart_filter p ds a.1)
-  where
-    at : (b : Bool) → AreApart (filter p ds) → AreApart (cond b (e ∷ filter p ds) (filter p ds))
-    at true rest = (false_from_ne_true _ (λ m. false≢true (sym a.0 ∙ (from_filter p e ds m).0)), rest)
-    at false rest = rest
+apart_filter p (e ∷ ds) a = search (rules, from_filter, apart_filter p ds a.1)
 
 -- What stands among a range.
 pub among_range : (a n d : ℕ) → a ≤ d → d < a + n → is_among d (range_with_len a n) ≡ true
 among_range a n d l h = any_in_range (λ e. eqb d e) a n d l h (eq-eqb d d refl)
 
 pub range_among : (a n d : ℕ) → is_among d (range_with_len a n) ≡ true → (a ≤ d) × (d < a + n)
-range_among a n d m =
-    let r = range_any (λ e. eqb d e) a n m in
-    (omega (arith, eqb-true d r.0 r.3, r.1), omega (arith, eqb-true d r.0 r.3, r.2))
+range_among a n d m = search (rules, range_any)
 
 pub range_apart : (a : ℕ) (n : ℕ) → AreApart (range_with_len a n)
 range_apart a zero = tt
-range_apart a (suc n) =
-    (false_from_ne_true _ (λ m. absurd (omega (arith, (range_among (a + 1) n a m).0))), range_apart (a + 1) n)
+range_apart a (suc n) = search (rules, range_among, range_apart (a + 1) n)

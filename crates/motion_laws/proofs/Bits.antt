@@ -1,13 +1,12 @@
 -- Who goes on at a vertex with four faces, told by two bits: the rider by d, where neither the rider to whom it gives
 -- way arrives nor the one from the opposite side.
-use Rattle.std.proofs.Common.{◌≡◌, ◌≢◌, ◌⊎◌, ℕ, suc, ◌+◌, ◌<◌, true, false, not, eqb, ◌&&◌, ◌||◌, List, [], ◌∷◌, sym}
-use Rattle.std.proofs.Common.{ap, ◌∙◌, refl, inl, inr, arith, Bool, Some, None}
-use Rattle.std.proofs.{Math.Bool.or-false, lemmas.Bool.cases_Bool, lemmas.Bool.eq-eqb, lemmas.Bool.false≢true}
-use Rattle.std.proofs.{lemmas.Bool.ne_eqb}
+use Rattle.std.proofs.Common.{rules, ◌≡◌, ◌≢◌, ◌⊎◌, ℕ, ◌<◌, true, false, not, eqb, ◌&&◌, ◌||◌, List, [], ◌∷◌, sym, ap}
+use Rattle.std.proofs.Common.{◌∙◌, refl, inl, inr, Bool, Some, None}
+use Rattle.std.proofs.{lemmas.Bool.cases_Bool, lemmas.Bool.false≢true, lemmas.Bool.ne_eqb}
 use Rattle.def_mesh.specs.HalfEdges.{HalfEdges, IsQuadManifold}
-use Rattle.def_cut.specs.Motion.{Terrain, end_of, is_among, is_twin, gives_way, goes_on, State, ridden, start}
+use Rattle.def_cut.specs.Motion.{Terrain, end_of, is_among, gives_way, goes_on, State, ridden, start}
 use Rattle.def_cut.specs.{Cuts.IsCross, Cuts.HasCross, Trails.Trail, Trails.IsTracked, Trails.HasSources}
-use Rattle.cut_laws.proofs.Crosses.{of_four, one_of_four, four_apart, a_c}
+use Rattle.cut_laws.proofs.Crosses.{one_of_four}
 use Rattle.motion_laws.proofs.Among.{among_here, among_later, among_cases, AreApart}
 
 -- The darts that arrive at a vertex with four faces, going round: d gives way to p, p to q, q to r, and r to d.
@@ -29,17 +28,12 @@ IsOfFour d p q r x = (x ≡ d) ⊎ ((x ≡ p) ⊎ ((x ≡ q) ⊎ (x ≡ r)))
 -- A cross seen from the next dart.
 pub rotated : (mesh : HalfEdges) → IsQuadManifold mesh → (d a b c : ℕ) → d < mesh.count → IsCross mesh d a b c
     → IsCross mesh a b c d
-rotated mesh laws d a b c low x =
-    record { first = x.second; second = x.third; third = x.last; last = x.first; apart = a_c mesh laws d a b c low x }
+rotated mesh laws d a b c low x = search rules
 
 module _ (g : Terrain) (d p q r : ℕ) (round : AreRound g d p q r) where
   -- Who else arrives beside d alone decides.
   other : (y : ℕ) → (y ≡ p) ⊎ ((y ≡ q) ⊎ (y ≡ r)) → gives_way g y d ≡ (not (eqb p y || false) && not (eqb q y || false))
-  other y (inl e) = rw (eq-eqb p y (sym e)) (ap (λ k. gives_way g k d) e ∙ round.p_d)
-  other y (inr (inl e)) = rw (ne_eqb p y (λ k. round.p_q (k ∙ e)), eq-eqb q y (sym e)) (ap (λ k. gives_way g k d) e
-      ∙ round.q_d)
-  other y (inr (inr e)) = rw (ne_eqb p y (λ k. round.p_r (k ∙ e)), ne_eqb q y (λ k. round.q_r (k ∙ e)))
-      (ap (λ k. gives_way g k d) e ∙ round.r_d)
+  other y h1 = search rules
 
   not_d : (y : ℕ) → d ≢ y → IsOfFour d p q r y → (y ≡ p) ⊎ ((y ≡ q) ⊎ (y ≡ r))
   not_d y ne (inl e) = absurd (ne (sym e))
@@ -47,30 +41,15 @@ module _ (g : Terrain) (d p q r : ℕ) (round : AreRound g d p q r) where
 
   first_of_two : (y : ℕ) → d ≢ y → IsOfFour d p q r y → goes_on g (d ∷ y ∷ []) d
       ≡ (not (is_among p (d ∷ y ∷ [])) && not (is_among q (d ∷ y ∷ [])))
-  first_of_two y ne o = rw (
-    ne_eqb d y ne,
-    eq-eqb d d refl,
-    ne_eqb p d (λ k. round.d_p (sym k)),
-    ne_eqb q d (λ k. round.d_q (sym k)),
-  ) (other y (not_d y ne o))
+  first_of_two y ne o = search rules
 
   second_of_two : (y : ℕ) → d ≢ y → IsOfFour d p q r y → goes_on g (y ∷ d ∷ []) d
       ≡ (not (is_among p (y ∷ d ∷ [])) && not (is_among q (y ∷ d ∷ [])))
-  second_of_two y ne o = rw (
-    ne_eqb d y ne,
-    eq-eqb d d refl,
-    ne_eqb p d (λ k. round.d_p (sym k)),
-    ne_eqb q d (λ k. round.d_q (sym k)),
-  ) (or-false (gives_way g y d) ∙ other y (not_d y ne o))
+  second_of_two y ne o = search rules
 
   -- Of three that are d or r two are the same.
   two_same : (x y z : ℕ) → (x ≡ d) ⊎ (x ≡ r) → (y ≡ d) ⊎ (y ≡ r) → (z ≡ d) ⊎ (z ≡ r) → (x ≡ y) ⊎ ((x ≡ z) ⊎ (y ≡ z))
-  two_same x y z (inl a) (inl b) c = inl (a ∙ sym b)
-  two_same x y z (inr a) (inr b) c = inl (a ∙ sym b)
-  two_same x y z (inl a) (inr b) (inl c) = inr (inl (a ∙ sym c))
-  two_same x y z (inl a) (inr b) (inr c) = inr (inr (b ∙ sym c))
-  two_same x y z (inr a) (inl b) (inl c) = inr (inr (b ∙ sym c))
-  two_same x y z (inr a) (inl b) (inr c) = inr (inl (a ∙ sym c))
+  two_same x y z h1 h2 h3 = search rules
 
   differ : (x y : ℕ) (ds : List ℕ) → is_among x ds ≡ false → is_among y ds ≡ true → x ≢ y
   differ x y ds off on e = false≢true (sym off ∙ (ap (λ k. is_among k ds) e ∙ on))
@@ -120,34 +99,14 @@ module _ (g : Terrain) (laws : IsQuadManifold g.half) where
   -- The darts before those of a cross are such a round.
   pub round_of : (d a b c : ℕ) → d < g.half.count → IsCross g.half (g.half.next d) a b c
       → AreRound g d (g.half.prev a) (g.half.prev b) (g.half.prev c)
-  round_of d a b c low x = record {
-    d_p = λ e. ne 0 0 (omega arith) (ap g.half.next e ∙ laws.next_prev a);
-    d_q = λ e. ne 0 1 (omega arith) (ap g.half.next e ∙ laws.next_prev b);
-    d_r = λ e. ne 0 2 (omega arith) (ap g.half.next e ∙ laws.next_prev c);
-    p_q = λ e. ne 1 0 (omega arith) (over a b e);
-    p_r = λ e. ne 1 1 (omega arith) (over a c e);
-    q_r = λ e. ne 2 0 (omega arith) (over b c e);
-    p_d = ap (λ t. is_twin t (g.half.next d)) x.second ∙ ne_eqb b (g.half.next d) (λ e. ne 0 1 (omega arith) (sym e));
-    q_d = ap (λ t. is_twin t (g.half.next d)) x.third ∙ ne_eqb c (g.half.next d) (λ e. ne 0 2 (omega arith) (sym e));
-    r_d = ap (λ t. is_twin t (g.half.next d)) x.last ∙ eq-eqb (g.half.next d) (g.half.next d) refl;
-  }
-    where
-      ne : (i k : ℕ) → suc (i + k) < 4 → of_four (g.half.next d) a b c i ≡ of_four (g.half.next d) a b c (suc (i + k))
-          → ⊥
-      ne i k l e =
-          let s = four_apart g.half laws (g.half.next d) a b c (laws.next_low d low) x i (suc (i + k)) (omega arith) l
-          e in
-          omega (arith, s)
-
-      over : (x y : ℕ) → g.half.prev x ≡ g.half.prev y → x ≡ y
-      over x y e = sym (laws.next_prev x) ∙ (ap g.half.next e ∙ laws.next_prev y)
+  round_of d a b c low x = search rules
 
   -- Each dart that arrives there is one of the four.
   pub of_round : (d a b c : ℕ) → d < g.half.count → IsCross g.half (g.half.next d) a b c → (e : ℕ) → e < g.half.count
       → end_of g e ≡ end_of g d → IsOfFour d (g.half.prev a) (g.half.prev b) (g.half.prev c) e
   of_round d a b c low x e l s =
       let back : (y : ℕ) → g.half.next e ≡ y → e ≡ g.half.prev y = λ y k. sym (laws.prev_next e) ∙ ap g.half.prev k in
-      elim (one_of_four g.half laws (g.half.next d) a b c (laws.next_low d low) x (g.half.next e)
+      elim (one_of_four laws (g.half.next d) a b c (laws.next_low d low) x (g.half.next e)
       (record { low = laws.next_low e l; at = s })) [
         | inl k ↦ inl (back (g.half.next d) k ∙ laws.prev_next d)
         | inr (inl k) ↦ inr (inl (back a k))

@@ -1,26 +1,21 @@
 -- Lists of marks and of riders by index, and lists of darts that differ.
-use Rattle.std.proofs.Common.{◌≡◌, ◌⊎◌, ℕ, zero, suc, ◌<◌, ◌≤◌, Bool, true, false, eqb, ◌||◌, List, [], ◌∷◌, ◌++◌}
-use Rattle.std.proofs.Common.{length, get_or, set, replicate, Option, Some, None, sym, ap, ◌∙◌, refl, inl, inr, arith}
-use Rattle.std.proofs.lemmas.Bool.{or_right, eq-eqb, eqb-true, ne_eqb, cases_eq, false≢true, false_from_ne_true}
-use Rattle.std.proofs.{Math.Bool.or-false, Math.Bool.or_assoc, Math.Bool.or_comm, lemmas.List.get_or-set_same}
-use Rattle.std.proofs.{lemmas.List.get_or-set_other, lemmas.List.length-set, lemmas.Option.none-some}
-use Rattle.std.proofs.{lemmas.Option.same_Some}
+use Rattle.std.proofs.Common.{rules, ◌≡◌, ◌⊎◌, ℕ, zero, suc, ◌<◌, ◌≤◌, Bool, true, false, eqb, ◌||◌, List, [], ◌∷◌}
+use Rattle.std.proofs.Common.{◌++◌, length, get_or, set, replicate, Option, Some, None, sym, ap, ◌∙◌, refl, inl, inr}
+use Rattle.std.proofs.Common.{arith}
+use Rattle.std.proofs.{lemmas.Bool.false≢true, Math.Bool.or-false, Math.Bool.or_assoc, Math.Bool.or_comm}
+use Rattle.std.proofs.{lemmas.List.length-set, lemmas.Option.none-some, lemmas.Option.same_Some}
 use Rattle.def_mesh.specs.HalfEdges.{HalfEdges, IsQuadManifold}
 use Rattle.def_cut.specs.{FullCut.is_on, Motion.Terrain, Motion.is_among, Motion.is_found, Events.mark_twin}
 use Rattle.def_cut.specs.{Events.marked_from, Events.darts_in, Events.note_at}
-use Rattle.motion_laws.proofs.Among.{AreApart, among_cases, among_here, among_later, found_where}
+use Rattle.motion_laws.proofs.Among.{AreApart, among_cases, among_here, among_later}
 use Rattle.{std.specs.List.list_any, sum_laws.proofs.Tests.same_test, cut_laws.proofs.Pigeon.no_more}
 
 -- A mark more.
 pub mark_is : (marks : List Bool) (k d : ℕ) → k < length marks → is_on (set marks k true) d ≡ (is_on marks d || eqb d k)
-mark_is marks k d l = elim (cases_eq d k) [
-  | inl e ↦ rw (eq-eqb d k e, e) (get_or-set_same marks k true false l ∙ sym (or_right (is_on marks k) true refl))
-  | inr ne ↦ rw (ne_eqb d k ne) (get_or-set_other marks k d true false ne ∙ sym (or-false (is_on marks d)))
-]
+mark_is marks k d l = search rules
 
 eqb_swap : (a b : ℕ) → eqb a b ≡ eqb b a
-eqb_swap a b = elim (cases_eq a b)
-    [ inl s ↦ eq-eqb a b s ∙ sym (eq-eqb b a (sym s)) | inr ne ↦ ne_eqb a b ne ∙ sym (ne_eqb b a (λ s. ne (sym s))) ]
+eqb_swap a b = search rules
 
 -- In no darts none is found.
 pub none_found : (o : Option ℕ) → is_found o [] ≡ false
@@ -47,18 +42,14 @@ cover_more m laws marks x low long ds es more old d l before =
     (eqb d x) (is_found (m.twin d) (x ∷ [])))
   where
     one_way : (d e : ℕ) → d < m.count → is_found (m.twin d) (e ∷ []) ≡ true → is_found (m.twin e) (d ∷ []) ≡ true
-    one_way d e ld f =
-        let (u, w, n) = found_where (m.twin d) (e ∷ []) f in
-        let same : u ≡ e = eqb-true u e (sym (or-false (eqb u e)) ∙ n) in
-        rw (laws.twin_twin d e ld (w ∙ ap Some same)) (among_here d d [] refl)
+    one_way d e ld f = search rules
 
     turned : is_found (m.twin x) (d ∷ []) ≡ is_found (m.twin d) (x ∷ [])
     turned = same_test _ _ (one_way x d low) (one_way d x l)
 
     at : (o : Option ℕ) → m.twin x ≡ o
         → is_on (mark_twin o (set marks x true)) d ≡ (is_on marks d || (eqb d x || is_found (m.twin d) (x ∷ [])))
-    at None is = mark_is marks x d (omega (arith, low, long)) ∙ ap (λ b. is_on marks d || b) (sym (or-false (eqb d x))
-        ∙ ap (λ b. eqb d x || b) (ap (λ o. is_found o (d ∷ [])) (sym is) ∙ turned))
+    at None is = search rules
     at (Some t) is = mark_is (set marks x true) t d (omega (arith, laws.twin_low x t low is, length-set marks x true))
         ∙ (ap (λ b. b || eqb d t) (mark_is marks x d (omega (arith, low, long))) ∙ (or_assoc (is_on marks d) (eqb d x)
         (eqb d t) ∙ ap (λ b. is_on marks d || (eqb d x || b)) (eqb_swap d t ∙ (sym (or-false (eqb t d))
@@ -84,12 +75,8 @@ pub from_marks : (g : Terrain) (ds : List ℕ) (marks : List Bool) (v : ℕ)
     → ((d : ℕ) → is_among d ds ≡ true → g.half.from d < length marks) → is_on (marked_from g ds marks) v
     ≡ (list_any (λ d. eqb (g.half.from d) v) ds || is_on marks v)
 from_marks g [] marks v low = refl
-from_marks g (d ∷ ds) marks v low = mark_is (marked_from g ds marks) (g.half.from d) v
-    (omega (arith, low d (among_here d d ds refl), marked_long g ds marks)) ∙ (ap (λ b. b || eqb v (g.half.from d))
-    (from_marks g ds marks v (λ e m. low e (among_later e d ds m)))
-    ∙ (ap (λ b. (list_any (λ e. eqb (g.half.from e) v) ds || is_on marks v) || b) (eqb_swap v (g.half.from d))
-    ∙ (or_comm (list_any (λ e. eqb (g.half.from e) v) ds || is_on marks v) (eqb (g.half.from d) v)
-    ∙ sym (or_assoc (eqb (g.half.from d) v) (list_any (λ e. eqb (g.half.from e) v) ds) (is_on marks v)))))
+from_marks g (d ∷ ds) marks v low =
+    search (rules, mark_is, marked_long, from_marks g ds marks v (λ e m. low e (among_later e d ds m)))
 
 -- The darts of some riders with one note more.
 pub noted_more : (ns : List (Option ℕ)) (r d e : ℕ) → r < length ns → note_at ns r ≡ None
@@ -97,8 +84,7 @@ pub noted_more : (ns : List (Option ℕ)) (r d e : ℕ) → r < length ns → no
 noted_more [] r d e l none = absurd (omega arith)
 noted_more (n ∷ ns) zero d e l none = rw none (or_comm (eqb e d) (is_among e (darts_in ns)))
 noted_more (None ∷ ns) (suc r) d e l none = noted_more ns r d e (omega arith) none
-noted_more (Some x ∷ ns) (suc r) d e l none = ap (λ b. eqb e x || b) (noted_more ns r d e (omega arith) none)
-    ∙ sym (or_assoc (eqb e x) (is_among e (darts_in ns)) (eqb e d))
+noted_more (Some x ∷ ns) (suc r) d e l none = search (rules, noted_more ns r d e (omega arith) none)
 
 pub noted_longer : (ns : List (Option ℕ)) (r d : ℕ) → r < length ns → note_at ns r ≡ None
     → length (darts_in (set ns r (Some d))) ≡ suc (length (darts_in ns))
@@ -138,10 +124,8 @@ pub places_apart : (xs : List ℕ) → AreApart xs → (i j : ℕ) → i < lengt
     → get_or xs i 0 ≡ get_or xs j 0 → i ≡ j
 places_apart [] a i j li lj e = absurd (omega arith)
 places_apart (x ∷ xs) a zero zero li lj e = refl
-places_apart (x ∷ xs) a zero (suc j) li lj e =
-    absurd (false≢true (sym a.0 ∙ (ap (λ k. is_among k xs) e ∙ among_at xs j (omega arith))))
-places_apart (x ∷ xs) a (suc i) zero li lj e =
-    absurd (false≢true (sym a.0 ∙ (ap (λ k. is_among k xs) (sym e) ∙ among_at xs i (omega arith))))
+places_apart (x ∷ xs) a zero (suc j) li lj e = search (rules, among_at)
+places_apart (x ∷ xs) a (suc i) zero li lj e = search (rules, among_at)
 places_apart (x ∷ xs) a (suc i) (suc j) li lj e = ap suc (places_apart xs a.1 i j (omega arith) (omega arith) e)
 
 pub apart_few : (n : ℕ) (xs : List ℕ) → AreApart xs → ((d : ℕ) → is_among d xs ≡ true → d < n) → length xs ≤ n
@@ -160,8 +144,5 @@ among_append d (x ∷ xs) ys m = elim (among_cases d x (xs ++ ys) m) [
 pub apart_append : (xs ys : List ℕ) → AreApart xs → AreApart ys → ((d : ℕ) → is_among d xs ≡ true → is_among d ys ≡ true
     → ⊥) → AreApart (xs ++ ys)
 apart_append [] ys a b disjoint = b
-apart_append (x ∷ xs) ys a b disjoint = (
-  false_from_ne_true _ (λ m. elim (among_append x xs ys m)
-      [ inl m ↦ false≢true (sym a.0 ∙ m) | inr m ↦ disjoint x (among_here x x xs refl) m ]),
-  apart_append xs ys a.1 b (λ d m k. disjoint d (among_later d x xs m) k),
-)
+apart_append (x ∷ xs) ys a b disjoint =
+    search (rules, among_append, apart_append xs ys a.1 b (λ d m k. disjoint d (among_later d x xs m) k))

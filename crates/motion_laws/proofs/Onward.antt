@@ -1,17 +1,16 @@
 -- The states that the motion reaches from a first state, its end, and that what it traces is a full cut.
-use Rattle.std.proofs.Common.{◌≡◌, ◌⊎◌, ℕ, zero, suc, ◌+◌, ◌<◌, ◌≤◌, Bool, true, false, not, cond, ◌||◌, List, [], ◌∷◌}
+use Rattle.std.proofs.Common.{rules, ◌≡◌, ◌⊎◌, ℕ, zero, suc, ◌+◌, ◌<◌, ◌≤◌, Bool, true, false, not, cond, List, [], ◌∷◌}
 use Rattle.std.proofs.Common.{map, length, Option, Some, None, is_some, sym, subst, ap, ◌∙◌, refl, inl, inr, arith}
-use Rattle.std.proofs.lemmas.Bool.{false_from_ne_true, false≢true, cases_Bool, cases_eq, or_left, or_right, or_cases}
-use Rattle.std.proofs.lemmas.List.{length-map}
-use Rattle.def_math.specs.Counts.{count_below}
+use Rattle.std.proofs.lemmas.Bool.{false_from_ne_true, false≢true, cases_Bool, cases_eq, or_left, or_right}
+use Rattle.{std.proofs.lemmas.List.length-map, def_math.specs.Counts.count_below}
 use Rattle.sum_laws.proofs.Sums.{count_below_lt, count_below_ones}
 use Rattle.def_cut.specs.Motion.{Terrain, State, end_of, with_next, ridden, is_among, ride, ride_on, step, later}
 use Rattle.def_cut.specs.{Cuts.GoesOn as CutGoesOn, Cuts.IsCut, Trails.Trail, Trails.IsTraced, declared.graph.Stop.Stop}
 use Rattle.def_cut.specs.{declared.moving.Moving.Moving, Traced.finish, Traced.is_cut}
 use Rattle.cut_laws.proofs.{Corners.corner_law, Crosses.one_of_four, Crosses.low_b}
 use Rattle.motion_laws.proofs.Bits.{IsTerrain, IsReachedFrom, IsFirst, IsSoon, IsShut, IsCrossedAt}
-use Rattle.motion_laws.proofs.{Among.among_here, Among.cases_List, Among.cases_Option, Steps.trail_more, Steps.next_is}
-use Rattle.motion_laws.proofs.{Steps.step_keeps, Steps.back, Steps.stands}
+use Rattle.motion_laws.proofs.{Among.among_here, Among.cases_List, Steps.trail_more, Steps.next_is, Steps.step_keeps}
+use Rattle.motion_laws.proofs.{Steps.back, Steps.stands}
 
 -- Where nobody rides, a step changes no rider.
 pub still_riders : (g : Terrain) (stood : ℕ → Bool) (ds : List ℕ) (rs : List Moving) → ridden rs ≡ []
@@ -31,16 +30,11 @@ at_rest g (suc k) s none = rw (none, finish)
 
 pub runs_on : (g : Terrain) (k d : ℕ) (ds : List ℕ) (s : State) → ridden s.riders ≡ d ∷ ds → finish g (suc k) s
     ≡ finish g k (step g s)
-runs_on g k d ds s is = at (ridden s.riders) is
-  where
-    at : (xs : List ℕ) → xs ≡ d ∷ ds → elim xs as (λ x. State) [ [] ↦ s | e ∷ es ↦ finish g k (step g s) ]
-        ≡ finish g k (step g s)
-    at xs e = rw e
+runs_on g k d ds s is = search rules
 
 pub rests_on : (g : Terrain) (first : State) (k : ℕ) → ridden (later g first k).riders ≡ []
     → ridden (later g first (suc k)).riders ≡ []
-rests_on g first k none =
-    let s = later g first k in ap ridden (still_riders g s.stood (ridden s.riders) s.riders none) ∙ none
+rests_on g first k none = search (rules, still_riders)
 
 -- Steps keep the number of riders.
 pub later_long : (g : Terrain) (s : State) (k : ℕ) → length (later g s k).riders ≡ length s.riders
@@ -65,9 +59,7 @@ finish_later g first (suc k) i =
 
 -- What is counted where marks are off is no more where more are on.
 pub no_more_at : (b c : Bool) → (b ≡ true → c ≡ true) → cond c 0 1 ≤ cond b 0 1
-no_more_at b true f = omega arith
-no_more_at false false f = omega arith
-no_more_at true false f = absurd (false≢true (f refl))
+no_more_at b c h1 = search rules
 
 module _ (g : Terrain) (t : IsTerrain g) (begins : ℕ → Bool) (first : State) (begin : IsFirst g begins first) where
   pub later_reached : (n : ℕ) → IsReachedFrom g begins first (later g first n)
@@ -169,12 +161,10 @@ module _ (g : Terrain) (t : IsTerrain g) (begins : ℕ → Bool) (first : State)
     alone_cut d w = or_right _ _ (ap (λ o. not (is_some o)) w)
 
     covered_there : (d e : ℕ) → g.half.twin d ≡ Some e → cut d ≡ true → s.covered d ≡ true
-    covered_there d e w c = elim (or_cases _ _ c)
-        [ inl y ↦ y | inr n ↦ absurd (false≢true (sym (ap (λ o. not (is_some o)) w) ∙ n)) ]
+    covered_there d e w c = search rules
 
     cut_alike : (d e : ℕ) → d < g.half.count → g.half.twin d ≡ Some e → cut e ≡ cut d
-    cut_alike d e low w = ap (λ b. b || not (is_some (g.half.twin e))) (r.alike d e low w) ∙ (ap
-        (λ o. s.covered d || not (is_some o)) (back g t d e low w) ∙ sym (ap (λ o. s.covered d || not (is_some o)) w))
+    cut_alike d e low w = search rules
 
     -- What was shut first is cut.
     shut_cut : (d : ℕ) → d < g.half.count → IsShut g first d → cut d ≡ true
@@ -197,11 +187,7 @@ module _ (g : Terrain) (t : IsTerrain g) (begins : ℕ → Bool) (first : State)
         ]
       where
         stood_there : g.boundary (end_of g d) ≡ false → s.stood (end_of g d) ≡ true
-        stood_there inner = elim (cases_Option (g.half.twin d)) [
-          | inl w ↦ absurd (false≢true (sym inner ∙ (t.edged d low w).1))
-          | inr (e, w) ↦ elim (r.ends d low (covered_there d e w c)).1
-              [ inl y ↦ y | inr b ↦ absurd (false≢true (sym inner ∙ b)) ]
-        ]
+        stood_there inner = search rules
 
         by_cross : IsCrossedAt g s (end_of g d) → CutGoesOn g.half cut d
         by_cross c =
@@ -209,7 +195,7 @@ module _ (g : Terrain) (t : IsTerrain g) (begins : ℕ → Bool) (first : State)
             let b = c.b in
             let on_x = soon_cut x c.soon in
             let on_b = soon_cut b c.facing in
-            elim (one_of_four g.half t.half x c.a b c.c c.low c.cross (g.half.next d)
+            elim (one_of_four t.half x c.a b c.c c.low c.cross (g.half.next d)
             (record { low = t.half.next_low d low; at = sym c.at })) [
               | inl e ↦ inl (ap cut e ∙ on_x)
               | inr (inl e) ↦ inr (
@@ -221,7 +207,7 @@ module _ (g : Terrain) (t : IsTerrain g) (begins : ℕ → Bool) (first : State)
               | inr (inr (inr e)) ↦ inr (
                 g.half.prev b,
                 ap g.half.twin e ∙ back g t (g.half.prev b) c.c
-                    (t.half.prev_low b (low_b g.half t.half x c.a b c.c c.low c.cross)) c.cross.third,
+                    (t.half.prev_low b (low_b t.half x c.a b c.c c.low c.cross)) c.cross.third,
                 ap cut (t.half.next_prev b) ∙ on_b,
               )
             ]

@@ -1,13 +1,12 @@
 -- Events keep what event states show, so every order of events has one end.
-use Rattle.std.proofs.Common.{◌≡◌, ℕ, zero, suc, ◌+◌, ◌-◌, ◌<◌, ◌≤◌, Bool, true, false, cond, eqb, ◌&&◌, ◌||◌, List, []}
-use Rattle.std.proofs.Common.{◌∷◌, ◌++◌, map, length, set, replicate, Option, Some, None, sym, ap, ◌∙◌, refl, inl, inr}
-use Rattle.std.proofs.Common.{arith}
+use Rattle.std.proofs.Common.{rules, ◌≡◌, ℕ, zero, suc, ◌+◌, ◌-◌, ◌<◌, ◌≤◌, Bool, true, false, cond, eqb, ◌&&◌, ◌||◌}
+use Rattle.std.proofs.Common.{List, [], ◌∷◌, ◌++◌, map, length, set, replicate, Option, Some, None, sym, ap, ◌∙◌, refl}
+use Rattle.std.proofs.Common.{inl, inr, arith}
 use Rattle.std.proofs.lemmas.Bool.{eq-eqb, eqb-true, false≢true, cases_Bool, cases_eq, cases_lt, or_right, and_parts}
-use Rattle.std.proofs.lemmas.Bool.{and_from, not_from_false, not-true, false_from_ne_true}
+use Rattle.std.proofs.lemmas.Bool.{and_from, not_from_false, false_from_ne_true}
 use Rattle.std.proofs.lemmas.List.{get_or-set_same, get_or-set_other, length-set, length-replicate, length-map}
 use Rattle.std.proofs.lemmas.List.{length-append}
-use Rattle.std.proofs.{Math.Bool.or-false, lemmas.Option.none-some}
-use Rattle.std.specs.List.{list_any}
+use Rattle.std.{proofs.Math.Bool.or-false, specs.List.list_any}
 use Rattle.def_cut.specs.Motion.{Terrain, State, end_of, with_next, ridden, is_among, is_met, arrives_at, ride, begun}
 use Rattle.def_cut.specs.Motion.{step, start, after_steps}
 use Rattle.def_cut.specs.Events.{EventState, waiting, darts_in, rider_at, note_at, may_ride, mark_twin, after_ride_of}
@@ -17,9 +16,8 @@ use Rattle.def_cut.specs.{FullCut.is_on, declared.graph.Stop.Stop, declared.movi
 use Rattle.def_cut.specs.{Events.Event.Ride, Events.Event.Settle}
 use Rattle.motion_laws.proofs.Marks.{none_on, none_found, no_darts, cover_more, from_marks, marked_long, noted_more}
 use Rattle.motion_laws.proofs.Marks.{noted_longer, apart_few, among_append, apart_append}
-use Rattle.motion_laws.proofs.Shown.{runs_ridden, IsShown, AreShown, all_noted, darts_of, noted_rides, notes_of, bare}
-use Rattle.motion_laws.proofs.Shown.{ride_shown, waits_runs, somebody, as_was, still_runs, closed_is, none_shown}
-use Rattle.motion_laws.proofs.Shown.{told_shown}
+use Rattle.motion_laws.proofs.Shown.{runs_ridden, IsShown, AreShown, all_noted, darts_of, noted_rides, notes_of}
+use Rattle.motion_laws.proofs.Shown.{ride_shown, somebody, as_was, still_runs, closed_is, none_shown, told_shown}
 use Rattle.motion_laws.proofs.Onward.{ends, later_reached, rides_once, runs_out, still_riders}
 use Rattle.motion_laws.proofs.{Among.any_at, Among.any_where, Among.all_at, Among.not_all, Among.AreApart}
 use Rattle.motion_laws.proofs.{Bits.IsTerrain, Bits.IsStarted, Bits.IsReached, Steps.first}
@@ -139,22 +137,13 @@ module _ {g : Terrain} {starts : List ℕ} {n : ℕ} {x : EventState} {c : ℕ} 
 
     pub rode : (note_at x.noted r ≡ None)
         × (is_among (rider_at x.riders r).dart (ridden (after_steps g starts w.instant).riders) ≡ true)
-    rode =
-        let (runs, none) = waits_runs (rider_at x.riders r).stop (note_at x.noted r) may in
-        let same = bare riders r none in
-        (none, rw same (runs_ridden since.riders r (omega (arith, low, riders.riders_long)) (rw same at runs)))
+    rode = search (rules, runs_ridden)
 
     pub noted_low : r < length x.noted
     noted_low = omega (arith, low, riders.riders_long, riders.notes_long)
 
     none_settled : (v : ℕ) → is_on x.settled v ≡ false
-    none_settled v = elim shown.phase [
-      | inl all ↦
-          let runs = (waits_runs (rider_at x.riders r).stop (note_at x.noted r) may).0 in
-          absurd (none-some _ (sym rode.0 ∙ all r (omega (arith, low, riders.riders_long)) (rw (bare riders r rode.0) at
-          runs)))
-      | inr none ↦ none v
-    ]
+    none_settled v = search rules
 
     pub ride_keeps : IsWithin g starts n (after_ride_of g x r) (suc c)
     ride_keeps =
@@ -205,10 +194,7 @@ module _ {g : Terrain} {starts : List ℕ} {n : ℕ} {x : EventState} {c : ℕ} 
 
     pub parts : (waiting x.riders x.noted ≡ 0) × (list_any (leads_to g v) (darts_in x.noted) ≡ true)
         × (is_on x.settled v ≡ false)
-    parts =
-        let a = and_parts _ _ may in
-        let b = and_parts _ _ a.1 in
-        (eqb-true _ _ a.0, b.0, not-true (is_on x.settled v) b.1)
+    parts = search rules
 
     -- A noted dart ends there.
     pub some_end : (d : ℕ) × (is_among d (darts_in x.noted) ≡ true) × (end_of g d ≡ v)

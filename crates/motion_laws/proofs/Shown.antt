@@ -1,15 +1,14 @@
 -- The riders after a step: which darts they ride next, and that these differ.
-use Rattle.std.proofs.Common.{◌≡◌, ◌⊎◌, ℕ, zero, suc, ◌<◌, Bool, true, List, [], ◌∷◌, map, length, Option, Some, None}
-use Rattle.std.proofs.Common.{sym, ap, ◌∙◌, refl, inl, inr, arith, ◌≢◌, false, cond, ◌&&◌, ◌||◌, set, replicate}
+use Rattle.std.proofs.Common.{rules, ◌≡◌, ◌⊎◌, ℕ, zero, suc, ◌<◌, Bool, true, List, [], ◌∷◌, map, length, Option, Some}
+use Rattle.std.proofs.Common.{None, sym, ap, ◌∙◌, refl, inl, inr, arith, ◌≢◌, false, cond, ◌&&◌, ◌||◌, set, replicate}
 use Rattle.std.proofs.lemmas.Bool.{false≢true, false_from_ne_true, ne_eqb, eq-eqb, cases_Bool, cases_eq}
 use Rattle.std.proofs.lemmas.List.{ext_get_or, get_or-map, get_or-set_same, get_or-set_other, length-map, length-set}
 use Rattle.std.proofs.lemmas.List.{length-replicate}
-use Rattle.std.proofs.lemmas.Option.{none-some, same_Some}
-use Rattle.std.specs.List.{list_any}
+use Rattle.std.{proofs.lemmas.Option.none-some, proofs.lemmas.Option.same_Some, specs.List.list_any}
 use Rattle.def_cut.specs.Motion.{Terrain, straight, with_next, ridden, is_among, stop_of, or_else, ride_on, ride, State}
 use Rattle.def_cut.specs.Motion.{end_of, is_met, arrives_at, begun, after_ride}
-use Rattle.def_cut.specs.Events.{rider_at, EventState, is_waiting, more_if, waiting, with_note, darts_in, note_at}
-use Rattle.def_cut.specs.Events.{ridden_once_more, told, told_at, all_told}
+use Rattle.def_cut.specs.Events.{rider_at, EventState, is_waiting, waiting, with_note, darts_in, note_at}
+use Rattle.def_cut.specs.Events.{ridden_once_more, told_at, all_told}
 use Rattle.def_cut.specs.{declared.graph.Stop.Stop, declared.moving.Moving.Moving, FullCut.is_on}
 use Rattle.motion_laws.proofs.Among.{among_here, among_later, among_cases, AreApart, cases_Option}
 use Rattle.motion_laws.proofs.Marks.{noted_where, noted_among}
@@ -30,8 +29,7 @@ pub runs_ridden : (rs : List Moving) (r : ℕ) → r < length rs → (rider_at r
     → is_among (rider_at rs r).dart (ridden rs) ≡ true
 runs_ridden [] r l runs = absurd (omega arith)
 runs_ridden (q ∷ rs) zero l runs = rw runs (among_here q.dart q.dart (ridden rs) refl)
-runs_ridden (q ∷ rs) (suc r) l runs =
-    with_later q.stop q.dart (rider_at rs r).dart (ridden rs) (runs_ridden rs r (omega arith) runs)
+runs_ridden (q ∷ rs) (suc r) l runs = search (rules, runs_ridden rs r (omega arith) runs)
 
 -- Darts of riders that differ still do without the first rider's.
 pub apart_later : (o : Option Stop) (d : ℕ) (later : List ℕ) → AreApart (with_next o d later) → AreApart later
@@ -50,10 +48,7 @@ module _ (g : Terrain) (stood : ℕ → Bool) (ds : List ℕ) where
   from_rider : (r : Moving) (o q : Option Stop) (later : List ℕ) (e : ℕ) → r.stop ≡ o → stop_of g stood ds r.dart ≡ q
       → is_among e (with_next (ride_on g stood ds r o).stop (ride_on g stood ds r o).dart later) ≡ true
       → ((o ≡ None) × (stop_of g stood ds r.dart ≡ None) × (e ≡ next_dart r.dart)) ⊎ (is_among e later ≡ true)
-  from_rider r None None later e is at m = elim (among_cases e (next_dart r.dart) later (rw at at m))
-      [ inl s ↦ inl (refl, at, s) | inr k ↦ inr k ]
-  from_rider r None (Some q) later e is at m = inr (rw at at m)
-  from_rider r (Some s) q later e is at m = inr (rw is at m)
+  from_rider r o q h1 h2 h3 = search rules
 
   -- What is ridden next comes from a rider that goes on.
   pub next_from : (rs : List Moving) (e : ℕ) → is_among e (riding rs) ≡ true
@@ -152,12 +147,7 @@ waits_runs _ _ w = absurd (false≢true w)
 waits_counted : (rs : List Moving) (ns : List (Option ℕ)) (r : ℕ) → r < length rs → r < length ns
     → is_waiting (rider_at rs r).stop (note_at ns r) ≡ true → 0 < waiting rs ns
 waits_counted (q ∷ rs) (n ∷ ns) zero l h w = rw w (omega arith)
-waits_counted (q ∷ rs) (n ∷ ns) (suc r) l h w =
-    more (is_waiting q.stop n) (waits_counted rs ns r (omega arith) (omega arith) w)
-  where
-    more : (t : Bool) → 0 < waiting rs ns → 0 < more_if t (waiting rs ns)
-    more true l = omega arith
-    more false l = l
+waits_counted (q ∷ rs) (n ∷ ns) (suc r) l h w = search (rules, waits_counted rs ns r (omega arith) (omega arith) w)
 waits_counted _ _ r l h w = absurd (omega arith)
 
 pub somebody : (rs : List Moving) (ns : List (Option ℕ)) → (waiting rs ns ≡ 0)
@@ -188,10 +178,7 @@ darts_of _ _ l noted all = absurd (omega arith)
 -- Noted darts are ridden, each once.
 notes_ridden : (bs : List Moving) (ns : List (Option ℕ)) (d : ℕ) → length ns ≡ length bs → AreNoted bs ns
     → is_among d (darts_in ns) ≡ true → is_among d (ridden bs) ≡ true
-notes_ridden bs ns d same noted m =
-    let (r, l, e) = noted_where ns d m in
-    let (runs, is) = noted r d e in
-    rw is (runs_ridden bs r (omega arith) runs)
+notes_ridden bs ns d same noted m = search (rules, noted_where, runs_ridden)
 
 pub notes_of : (bs : List Moving) (ns : List (Option ℕ)) → length ns ≡ length bs → AreNoted bs ns → AreApart (ridden bs)
     → AreApart (darts_in ns)
@@ -209,11 +196,6 @@ notes_of (b ∷ bs) (n ∷ ns) l noted p = at n refl
           rest,
         )
 notes_of _ _ l noted p = absurd (omega arith)
-
--- A stop looks at the end of its dart alone.
-pub stop_alike : (g : Terrain) (one other : ℕ → Bool) (ds : List ℕ) (d : ℕ) → one (end_of g d) ≡ other (end_of g d)
-    → stop_of g one ds d ≡ stop_of g other ds d
-stop_alike g one other ds d same = rw same
 
 -- All riders told, rider by rider.
 pub told_place : (g : Terrain) (stood : ℕ → Bool) (ds : List ℕ) (v : ℕ) (rs : List Moving) (ns : List (Option ℕ))
@@ -289,9 +271,7 @@ module _ {g : Terrain} {stood : ℕ → Bool} {ds : List ℕ} {V : ℕ → Bool}
   -- A rider whose noted dart ends where nothing is settled still runs.
   pub still_runs : (d : ℕ) → is_among d (darts_in ns) ≡ true → V (end_of g d) ≡ false
       → (r : ℕ) × (r < length rs) × ((rider_at rs r).stop ≡ None)
-  still_runs d m off =
-      let (r, l, e) = noted_where ns d m in
-      (r, omega (arith, l, a.riders_long, a.notes_long), rw (a.shows r, e, off) (a.noted r d e).0)
+  still_runs d m off = search (rules, noted_where)
 
   -- All ends settled: the riders are those after the step.
   pub closed_is : AllNoted bs ns → ((d : ℕ) → is_among d (darts_in ns) ≡ true → V (end_of g d) ≡ true)
@@ -303,39 +283,13 @@ module _ {g : Terrain} {stood : ℕ → Bool} {ds : List ℕ} {V : ℕ → Bool}
     where
       at : (r : ℕ) → r < length bs → (o : Option Stop) → (rider_at bs r).stop ≡ o
           → shown_by g stood ds V (rider_at bs r) (note_at ns r) ≡ ride_on g stood ds (rider_at bs r) o
-      at r l None is =
-          let n : note_at ns r ≡ Some (rider_at bs r).dart = all r l is in
-          rw (n, on (rider_at bs r).dart (noted_among ns r (rider_at bs r).dart n)) refl
-      at r l (Some s) is = elim (cases_Option (note_at ns r))
-          [ inl e ↦ rw e refl | inr (d, e) ↦ absurd (none-some s (sym (a.noted r d e).0 ∙ is)) ]
+      at r l None is = search (rules, noted_among)
+      at r l (Some s) is = search rules
 
   -- A settling of v tells the riders that come there, by where somebody had stood when the instant began.
   pub told_shown : (W : ℕ → Bool) (v : ℕ) (now : ℕ → Bool) → ((u : ℕ) → u ≢ v → W u ≡ V u) → W v ≡ true → V v ≡ false
       → now v ≡ stood v → AreShown g stood ds W bs (all_told g now ds v rs ns) ns
-  told_shown W v now kept on off same =
-      let long : length ns ≡ length rs = a.notes_long ∙ sym a.riders_long in
-      record {
-        riders_long = told_long g now ds v rs ns long ∙ a.riders_long;
-        notes_long = a.notes_long;
-        noted = a.noted;
-        shows = λ r. told_place g now ds v rs ns r long ∙ at r (note_at ns r) (a.shows r);
-      }
-    where
-      told_is : (d : ℕ) (b : Moving) (o : Option Stop) → told g d (ridden_once_more b) o ≡ after_ride g d b.rides o
-      told_is d b (Some s) = refl
-      told_is d b None = refl
-
-      at : (r : ℕ) (n : Option ℕ) → rider_at rs r ≡ shown_by g stood ds V (rider_at bs r) n
-          → told_at g now ds v (rider_at rs r) n ≡ shown_by g stood ds W (rider_at bs r) n
-      at r None s = s
-      at r (Some d) s = elim (cases_eq (end_of g d) v) [
-        | inl e ↦
-            let was : V (end_of g d) ≡ false = ap V e ∙ off in
-            let w_on : W (end_of g d) ≡ true = ap W e ∙ on in
-            rw (eq-eqb (end_of g d) v e, w_on, s, was) (told_is d (rider_at bs r) (stop_of g now ds d) ∙ ap
-            (after_ride g d (rider_at bs r).rides) (stop_alike g now stood ds d (ap now e ∙ (same ∙ ap stood (sym e)))))
-        | inr ne ↦ rw (ne_eqb (end_of g d) v ne, kept (end_of g d) ne) s
-      ]
+  told_shown W v now kept on off same = search (rules, told_long, told_place, eq-eqb, ne_eqb)
 
 -- A new instant.
 pub none_shown : (g : Terrain) (stood : ℕ → Bool) (ds : List ℕ) (V : ℕ → Bool) (bs : List Moving) (k : ℕ)

@@ -1,37 +1,30 @@
 -- Each step keeps what reached states know.
-use Rattle.std.proofs.Common.{◌≡◌, ◌⊎◌, ℕ, zero, suc, ◌<◌, Bool, true, false, not, cond, ◌&&◌, List, Some, None, sym}
+use Rattle.std.proofs.Common.{rules, ◌≡◌, ◌⊎◌, ℕ, zero, suc, ◌<◌, Bool, true, false, not, ◌&&◌, List, Some, None, sym}
 use Rattle.std.proofs.Common.{ap, ◌∙◌, refl, inl, inr, eqb, [], ◌∷◌, map, subst}
 use Rattle.std.proofs.lemmas.Bool.{eq-eqb, eqb-true, false≢true, false_from_ne_true, cases_Bool, or_left, or_right}
 use Rattle.std.proofs.lemmas.Bool.{or_cases, and_from, and_parts, not_from_false}
-use Rattle.std.proofs.lemmas.Option.{same_Some}
+use Rattle.{std.proofs.lemmas.Option.same_Some, sum_laws.proofs.Tests.same_test, def_mesh.specs.HalfEdges.HalfEdges}
 use Rattle.def_cut.specs.Motion.{Terrain, State, end_of, straight, ridden, is_among, is_found, is_met, arrives_at}
 use Rattle.def_cut.specs.Motion.{arrivals, goes_on, stop_of, or_else, step, begun, start}
-use Rattle.def_cut.specs.{Cuts.IsCross, Cuts.HasCross, Trails.IsStraight, Trails.Trail, declared.graph.Stop.Stop}
+use Rattle.def_cut.specs.{Cuts.IsCross, Cuts.HasCross, Trails.IsStraight, Trails.Trail}
 use Rattle.cut_laws.proofs.{Crosses.low_a, Crosses.low_c, Crosses.at_a, Crosses.at_b, Crosses.at_c, Crosses.low_b}
-use Rattle.cut_laws.proofs.{Folds.next_same, Folds.twin_same, Folds.turn_from, Folds.turn_low}
+use Rattle.cut_laws.proofs.{Folds.twin_same, Folds.turn_from, Folds.turn_low}
 use Rattle.motion_laws.proofs.Among.{AreApart, any_at, any_where, apart_filter, found_where, from_filter, in_filter}
 use Rattle.motion_laws.proofs.Among.{cases_Option}
 use Rattle.motion_laws.proofs.Bits.{IsTerrain, IsReachedFrom, IsKnown, IsSoon, IsCrossedAt, crossed_at, IsStarted}
 use Rattle.motion_laws.proofs.Bits.{IsFirst, IsShut, rotated, round_of, of_round, two_bits_of}
 use Rattle.motion_laws.proofs.Shown.{next_from, next_to, next_apart}
-use Rattle.{sum_laws.proofs.Tests.same_test, def_mesh.specs.HalfEdges.HalfEdges}
 
 -- Trails stay where more is covered.
 pub trail_more : (m : HalfEdges) (begin cut more : ℕ → Bool) → ((d : ℕ) → cut d ≡ true → more d ≡ true) → (d k : ℕ)
     → Trail m begin cut d k → Trail m begin more d k
 trail_more m begin cut more grown d zero t = t
-trail_more m begin cut more grown d (suc k) t =
-    (t.0, trail_more m begin cut more grown t.0 k t.1, t.2, grown t.0 t.3, t.4, t.5)
+trail_more m begin cut more grown d (suc k) t = search (rules, trail_more m begin cut more grown t.0 k t.1)
 
 -- Where a rider goes on.
 goes_from : (g : Terrain) (stood : ℕ → Bool) (ds : List ℕ) (d : ℕ) → stop_of g stood ds d ≡ None
     → (g.boundary (end_of g d) ≡ false) × (g.singular (end_of g d) ≡ false) × (stood (end_of g d) ≡ false)
-goes_from g stood ds d e = by_tests _ _ _ _ _ _ _ _ _ _ e
-  where
-    by_tests : (a b c f h : Bool) (w x y z u : Stop) → cond a (Some w) (cond b (Some x) (cond c (Some y)
-        (cond f (Some z) (cond h None (Some u))))) ≡ None → (b ≡ false) × (c ≡ false) × (f ≡ false)
-    by_tests false false false false h w x y z u e = (refl, refl, refl)
-    by_tests _ _ _ _ h w x y z u e = absurd cc
+goes_from g stood ds d e = search rules
 
 module _ (g : Terrain) (t : IsTerrain g) where
   -- The edge of d is that of its twin.
@@ -51,8 +44,7 @@ module _ (g : Terrain) (t : IsTerrain g) where
 
     -- So those who arrive are all who come.
     pub all_arrive : (x v : ℕ) → end_of g x ≡ v → stood v ≡ false → is_among x (arrivals g ds v) ≡ is_among x ds
-    all_arrive x v at off = same_test _ _ (λ m. (from_filter (arrives_at g ds v) x ds m).0)
-        (λ m. in_filter (arrives_at g ds v) x ds m (arrives x v m at off))
+    all_arrive x v at off = search (rules, from_filter, in_filter, arrives)
 
     -- Who goes on, by two bits.
     pub two_bits : (d a b c : ℕ) → is_among d ds ≡ true → stood (end_of g d) ≡ false
@@ -71,10 +63,10 @@ module _ (g : Terrain) (t : IsTerrain g) where
         next_low = t.half.next_low d (low d m)
 
         end_a : end_of g (g.half.prev a) ≡ end_of g d
-        end_a = ap g.half.from (t.half.next_prev a) ∙ at_a g.half t.half (g.half.next d) a b c next_low x
+        end_a = ap g.half.from (t.half.next_prev a) ∙ at_a t.half (g.half.next d) a b c next_low x
 
         end_b : end_of g (g.half.prev b) ≡ end_of g d
-        end_b = ap g.half.from (t.half.next_prev b) ∙ at_b g.half t.half (g.half.next d) a b c next_low x
+        end_b = ap g.half.from (t.half.next_prev b) ∙ at_b t.half (g.half.next d) a b c next_low x
 
   -- A rider that goes on leaves the vertex by the edge opposite to that by which it came.
   pub goes_straight : (d a b c : ℕ) → d < g.half.count → IsCross g.half (g.half.next d) a b c → IsStraight g.half d c
@@ -85,8 +77,7 @@ module _ (g : Terrain) (t : IsTerrain g) where
   )
     where
       over : g.half.twin (g.half.next d) ≡ Some (g.half.prev c)
-      over = t.half.twin_twin (g.half.prev c) (g.half.next d)
-          (t.half.prev_low c (low_c g.half t.half (g.half.next d) a b c (t.half.next_low d low) x)) x.last
+      over = search rules
 
   -- The next dart of a rider that goes on.
   pub record IsNext (stood : ℕ → Bool) (ds : List ℕ) (d e : ℕ) : Type 0 where
@@ -102,8 +93,8 @@ module _ (g : Terrain) (t : IsTerrain g) where
       let o = goes_from g stood ds d on in
       let next_low = t.half.next_low d low in
       let (a, b, c, x) = t.crossed (g.half.next d) next_low o.0 o.1 in
-      let c_low = low_c g.half t.half (g.half.next d) a b c next_low x in
-      let c_at = at_c g.half t.half (g.half.next d) a b c next_low x in
+      let c_low = low_c t.half (g.half.next d) a b c next_low x in
+      let c_at = at_c t.half (g.half.next d) a b c next_low x in
       let s = goes_straight d a b c low x in
       let same : e ≡ c = is ∙ ap (λ k. or_else k d) s.1 in
       rw same (record {
@@ -117,10 +108,7 @@ module _ (g : Terrain) (t : IsTerrain g) where
   -- Straight on from different darts lead different darts.
   pub straight_same : (d e x : ℕ) → d < g.half.count → e < g.half.count → IsStraight g.half d x → IsStraight g.half e x
       → d ≡ e
-  straight_same d e x ld le (a, ta, ia) (b, tb, ib) =
-      let s = next_same g.half t.half a b (sym ia ∙ ib) in
-      next_same g.half t.half d e (twin_same g.half t.half (g.half.next d) (g.half.next e) a (t.half.next_low d ld)
-      (t.half.next_low e le) ta (tb ∙ ap Some (sym s)))
+  straight_same d e x ld le (a, ta, ia) (b, tb, ib) = search (rules, twin_same)
 
   module _ (begins : ℕ → Bool) (first s : State) (r : IsReachedFrom g begins first s) where
     abbrev now : List ℕ
@@ -147,10 +135,7 @@ module _ (g : Terrain) (t : IsTerrain g) where
     -- What is covered after the step was so before, or was ridden, or its twin was.
     why : (d : ℕ) → (step g s).covered d ≡ true → (s.covered d ≡ true) ⊎ ((is_among d (ridden s.riders) ≡ true) ⊎
         ((e : ℕ) × (g.half.twin d ≡ Some e) × (is_among e (ridden s.riders) ≡ true)))
-    why d c = elim (or_cases _ _ c) [
-      | inl a ↦ inl a
-      | inr b ↦ elim (or_cases _ _ b) [ inl m ↦ inr (inl m) | inr n ↦ inr (inr (found_where (g.half.twin d) now n)) ]
-    ]
+    why d c = search rules
 
     pub soon_then : (d : ℕ) → IsSoon s d → (step g s).covered d ≡ true
     soon_then d k = elim k [ inl c ↦ covered_old d c | inr m ↦ covered_rode d m ]
@@ -179,7 +164,7 @@ module _ (g : Terrain) (t : IsTerrain g) where
         → IsCrossedAt g next (end_of g f)
     opposite f a b c m x soon =
         let next_low = t.half.next_low f (r.low f m) in
-        crossed_at (low_a g.half t.half (g.half.next f) a b c next_low x) (at_a g.half t.half
+        crossed_at (low_a t.half (g.half.next f) a b c next_low x) (at_a t.half
         (g.half.next f) a b c next_low x) (rotated g.half t.half (g.half.next f) a b c next_low x) (inl
         (covered_twin a f (back f a (r.low f m) (sym (ap g.half.twin (t.half.prev_next f)) ∙ x.first)) m)) soon
 
@@ -210,7 +195,7 @@ module _ (g : Terrain) (t : IsTerrain g) where
         let next_low = t.half.next_low f (r.low f m) in
         let pa = g.half.prev a in
         let end_a : end_of g (g.half.prev a) ≡ end_of g f =
-        ap g.half.from (t.half.next_prev a) ∙ at_a g.half t.half (g.half.next f) a b c next_low x in
+        ap g.half.from (t.half.next_prev a) ∙ at_a t.half (g.half.next f) a b c next_low x in
         let turned : IsCross g.half (g.half.next (g.half.prev a)) b c (g.half.next f) =
         rw (t.half.next_prev a) (rotated g.half t.half (g.half.next f) a b c next_low x) in
         elim (cases_Bool (is_among (g.half.prev b) now)) [
@@ -302,8 +287,8 @@ module _ (g : Terrain) (t : IsTerrain g) (first : State) (d : ℕ) (low : d < g.
     | inr (a, w) ↦ inr (inr (
       a,
       w,
-      all a (g.half.prev d) (turn_low g.half t.half d a low w)
-          (turn_from g.half t.half d a low w) (back g t (g.half.prev d) a (t.half.prev_low d low) w),
+      all a (g.half.prev d) (turn_low t.half d a low w)
+          (turn_from t.half d a low w) (back g t (g.half.prev d) a (t.half.prev_low d low) w),
     ))
   ]
 
@@ -339,11 +324,11 @@ module _ (g : Terrain) (t : IsTerrain g) (starts : List ℕ) (begin : IsStarted 
           let at : g.half.from x ≡ g.half.from d = eqb-true _ _ e in
           let x_low = begin.low x m in
           let (a, b, c, f) = t.crossed x x_low (ap g.boundary at ∙ inner) (ap g.singular at ∙ regular) in
-          let a_low = low_a g.half t.half x a b c x_low f in
-          let b_low = low_b g.half t.half x a b c x_low f in
+          let a_low = low_a t.half x a b c x_low f in
+          let b_low = low_b t.half x a b c x_low f in
           let b_twin = t.half.twin_twin (g.half.prev a) b (t.half.prev_low a a_low) f.second in
           crossed_at x_low at f (inr (rides_next x m)) (inr (rides_next b (begin.all x b (g.half.prev a) x_low b_low m
-          (at_b g.half t.half x a b c x_low f) b_twin)));
+          (at_b t.half x a b c x_low f) b_twin)));
     };
     found = begin.found;
     begun = λ d low m. inr (rides_next d m);

@@ -1,5 +1,5 @@
 -- The cut that is chosen: there is one, it is full, and it keeps lines.
-use Rattle.std.proofs.Common.{◌≡◌, Bool, false, List, replicate, Some, None, refl, sym, ◌∙◌}
+use Rattle.std.proofs.Common.{rules, ◌≡◌, Bool, false, List, replicate, Some, None, refl, sym, ◌∙◌}
 use Rattle.std.proofs.lemmas.List.{ext_get_or, length-replicate}
 use Rattle.def_mesh.specs.{Darts.darts, Faces.Faces, Manifold.IsManifold}
 use Rattle.def_feature.specs.{Beside.IsCutBeside, Marked.marked_cut, Marks.AreMarks}
@@ -19,15 +19,11 @@ module _ (faces : Faces) where
 
   pub to_plain : (patches : Patches) (cut : List Bool) → IsKeepingCut faces (replicate (darts faces) false) patches cut
       → IsPlainCut faces patches cut
-  to_plain Traced cut is = is ∙ same_cut faces
-  to_plain Merged cut is = rw (← same_cut faces) (none_merged faces _ cut is)
-  to_plain Conforming cut is = is
+  to_plain patches cut h1 = search (rules, same_cut, none_merged)
 
   pub from_plain : (patches : Patches) (cut : List Bool) → IsPlainCut faces patches cut
       → IsKeepingCut faces (replicate (darts faces) false) patches cut
-  from_plain Traced cut is = cc (same_cut faces)
-  from_plain Merged cut is = merged_none faces (marked_cut faces none) cut (rw (same_cut faces) is)
-  from_plain Conforming cut is = is
+  from_plain patches cut h1 = search (rules, same_cut, merged_none)
 
 module _ (faces : Faces) (m : IsManifold faces) (marks : List Bool) (marked : AreMarks faces marks) where
   traced : IsCutBeside faces marks (marked_cut faces marks)
@@ -87,7 +83,5 @@ no_marks_law faces marks patches cut m marked unmarked = (
         (cc (length-replicate (darts faces) false)) (λ d l. unmarked d ∙ sym (off faces d))
 
 pub one_arc_law : OneArcLaw
-one_arc_law faces (Some marks) layout m marked (cut, is, laid) patch side low =
-    one_arc faces m marks marked cut is layout laid patch side low
-one_arc_law faces None layout m kept (cut, is, laid) patch side low =
-    one_arc faces m (replicate (darts faces) false) (are_none faces) cut is layout laid patch side low
+one_arc_law faces (Some marks) layout m marked (cut, is, laid) patch side low = search (rules, one_arc)
+one_arc_law faces None layout m kept (cut, is, laid) patch side low = search (rules, one_arc, are_none)

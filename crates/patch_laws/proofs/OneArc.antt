@@ -1,8 +1,7 @@
 -- Each side of each patch of the conforming cut is one arc: inside it lies no node.
-use Rattle.std.proofs.Common.{◌≡◌, ◌⊎◌, ℕ, zero, suc, ◌+◌, ◌-◌, ◌<◌, ◌≤◌, Bool, true, false, not, cond, eqb, ltb, List}
-use Rattle.std.proofs.Common.{[], ◌∷◌, length, Some, is_some, sym, ◌∙◌, ap, subst, refl, inl, inr, arith}
-use Rattle.std.proofs.lemmas.Bool.{cases_Bool, cases_eq, cases_lt, or_left, or_right, or_cases, and_from, and_parts}
-use Rattle.std.proofs.lemmas.Bool.{eq-eqb, not-true, not_from_false, lt-ltb, ltb-true, false≢true, false_from_ne_true}
+use Rattle.std.proofs.Common.{rules, ◌≡◌, ◌⊎◌, ℕ, zero, suc, ◌+◌, ◌-◌, ◌<◌, ◌≤◌, Bool, true, false, not, eqb, List, []}
+use Rattle.std.proofs.Common.{◌∷◌, length, Some, is_some, sym, ◌∙◌, ap, subst, refl, inl, inr, arith}
+use Rattle.std.proofs.lemmas.Bool.{cases_eq, cases_lt, or_left, and_parts, false≢true, false_from_ne_true}
 use Rattle.def_mesh.specs.{Darts.darts, Darts.from_of, Darts.next_of, Darts.prev_of, Darts.twin_of, HalfEdges.HalfEdges}
 use Rattle.def_mesh.specs.{HalfEdges.IsQuadManifold, HalfEdges.half_edges, Faces.Faces, Kinds.is_inner}
 use Rattle.def_mesh.specs.{Kinds.is_regular, Components.seeds, Components.is_start, Manifold.IsManifold}
@@ -25,8 +24,7 @@ use Rattle.{layout_laws.proofs.Uses.use_run, mesh_laws.proofs.Chains.manifold_la
 at_most_one : (y : ℕ) (xs : List ℕ) → AreApart xs → ((d : ℕ) → is_among d xs ≡ true → d ≡ y) → length xs ≤ 1
 at_most_one y [] a each = omega arith
 at_most_one y (d ∷ []) a each = omega arith
-at_most_one y (d ∷ e ∷ xs) a each = absurd (cc (among_here d e xs
-    (each d (among_here d d (e ∷ xs) refl) ∙ sym (each e (among_later e d (e ∷ xs) (among_here e e xs refl))))))
+at_most_one y (d ∷ e ∷ xs) a each = search rules
 
 -- and those of which each is one of two are at most two.
 at_most_two : (y z : ℕ) (xs : List ℕ) → AreApart xs → ((d : ℕ) → is_among d xs ≡ true → (d ≡ y) ⊎ (d ≡ z))
@@ -69,10 +67,7 @@ module _ (faces : Faces) (m : IsManifold faces) (marks : List Bool) (marked : Ar
 
   fan_there : (p : ℕ → Bool) (v d : ℕ) → is_among d (filter p (fan_of faces v)) ≡ true → (d < darts faces)
       × (from_of faces d ≡ v) × (p d ≡ true)
-  fan_there p v d n =
-      let f = from_filter p d _ n in
-      let g = from_fan faces v d f.0 in
-      (g.0, g.1, f.1)
+  fan_there p v d n = search (rules, from_filter, from_fan)
 
   -- An edge that is not cut, with both neighbours at a vertex: no node.
   module _ (p x : ℕ) (lp : p < darts faces) (lx : x < darts faces) (over : twin_of faces p ≡ Some (prev_of x))
@@ -87,7 +82,7 @@ module _ (faces : Faces) (m : IsManifold faces) (marks : List Bool) (marked : Ar
     starts y = cc (off, (conform.lined p lp).1 (inr (inl (0, or_left _ _ (or_left _ _ y)))))
 
     two : (p ≡ x → ⊥)
-    two e = no_fix mesh laws p lp (laws.twin_twin p (prev_of p) lp (cc (over, e)))
+    two e = no_fix laws p lp (laws.twin_twin p (prev_of p) lp (cc (over, e)))
 
     many : 2 ≤ faces_at faces v
     many = (has_fan faces v).least 2 (of_four p x x x) (record { each = each; apart = apart })
@@ -105,16 +100,10 @@ module _ (faces : Faces) (m : IsManifold faces) (marks : List Bool) (marked : Ar
         apart _ _ li lj e = absurd (omega arith)
 
     inner_regular : is_inner faces v ≡ true → is_regular faces v ≡ true
-    inner_regular inner = elim (cases_Bool (is_regular faces v))
-        [ inl y ↦ y | inr n ↦ absurd (starts (or_left _ _ (and_from _ _ inner (not_from_false _ n)))) ]
+    inner_regular inner = search rules
 
     outer_two : is_inner faces v ≡ false → faces_at faces v ≡ 2
-    outer_two out = elim (cases_lt 2 (faces_at faces v)) [
-      | inl more
-          ↦ absurd (starts (or_right _ _ (and_from _ _ (ap is_some over)
-          (or_left _ _ (and_from _ _ (not_from_false _ out) (lt-ltb 2 (faces_at faces v) more))))))
-      | inr few ↦ omega (arith, few, many)
-    ]
+    outer_two out = search (rules, many)
 
     few_inner : is_inner faces v ≡ true → cut_degree faces cut v ≤ 2
     few_inner inner = by_cross (regular_cross faces laws p lp inner (inner_regular inner))
@@ -129,10 +118,10 @@ module _ (faces : Faces) (m : IsManifold faces) (marks : List Bool) (marked : Ar
             omega (arith, some, lone)
           where
             la : a < darts faces
-            la = low_a mesh laws p a b c lp k
+            la = low_a laws p a b c lp k
 
             lb : b < darts faces
-            lb = low_b mesh laws p a b c lp k
+            lb = low_b laws p a b c lp k
 
             off_b : is_on cut b ≡ false
             off_b =
@@ -141,7 +130,7 @@ module _ (faces : Faces) (m : IsManifold faces) (marks : List Bool) (marked : Ar
                 (rotated mesh laws a b c p la (rotated mesh laws p a b c lp k)) y))
 
             each : (d : ℕ) → (d < darts faces) × (from_of faces d ≡ v) × (is_on cut d ≡ true) → (d ≡ a) ⊎ (d ≡ c)
-            each d (ld, e, on) = elim (one_of_four mesh laws p a b c lp k d (record { low = ld; at = e })) [
+            each d (ld, e, on) = elim (one_of_four laws p a b c lp k d (record { low = ld; at = e })) [
               | inl s ↦ absurd (cc (off, s, on))
               | inr (inl s) ↦ inl s
               | inr (inr (inl s)) ↦ absurd (false≢true (sym off_b ∙ (ap (is_on cut) (sym s) ∙ on)))
@@ -151,7 +140,7 @@ module _ (faces : Faces) (m : IsManifold faces) (marks : List Bool) (marked : Ar
             alone : (d : ℕ) → (d < darts faces) × (from_of faces d ≡ v) × (is_lone_before faces cut d ≡ true) → ⊥
             alone d (ld, e, on) =
                 let t : (t : ℕ) × (twin_of faces (prev_of d) ≡ Some t) =
-                (both_twins mesh laws p a b c lp k d (record { low = ld; at = e })).0 in
+                (both_twins laws p a b c lp k d (record { low = ld; at = e })).0 in
                 let none : not (is_some (twin_of faces (prev_of d))) ≡ true =
                 (and_parts (is_on cut (prev_of d)) _ on).1 in
                 cc (t.1, none)
@@ -209,31 +198,16 @@ module _ (faces : Faces) (m : IsManifold faces) (marks : List Bool) (marked : Ar
         ]
 
     no_node : is_node faces cut v ≡ false
-    no_node = false_from_ne_true _ (λ y. by_why (or_cases _ _ y))
-      where
-        few : cut_degree faces cut v ≤ 2
-        few = elim (cases_Bool (is_inner faces v)) [ inl inner ↦ few_inner inner | inr out ↦ few_outer out ]
-
-        regular : is_regular faces v ≡ true
-        regular = elim (cases_Bool (is_inner faces v)) [
-          | inl inner ↦ inner_regular inner
-          | inr out ↦ eq-eqb (faces_at faces v) (cond (is_inner faces v) 4 2) (cc (outer_two out, out))
-        ]
-
-        by_why : (not (is_regular faces v) ≡ true) ⊎ (ltb 2 (cut_degree faces cut v) ≡ true) → ⊥
-        by_why (inl n) = false≢true (sym (not-true _ n) ∙ regular)
-        by_why (inr more) = let l : 2 < cut_degree faces cut v =
-            ltb-true 2 (cut_degree faces cut v) more in omega (arith, few, l)
+    no_node = search (rules, few_inner, few_outer, outer_two)
 
   -- Inside a side lies no node.
   no_node_inside : (s n : ℕ) → IsWholeSide (half_edges faces) (is_on cut) s n → (k : ℕ) → suc k < n
       → is_node faces cut (from_of faces (easts (half_edges faces) s (suc k))) ≡ false
   no_node_inside s n side k l = cc (
-    side_from mesh laws (is_on cut) full s n side k l,
+    side_from laws full side k l,
     no_node (next_of (easts (half_edges faces) s k)) (easts (half_edges faces) s (suc k))
-        (laws.next_low (easts (half_edges faces) s k) (side_low mesh laws (is_on cut) full s n side k (omega arith)))
-        (side_low mesh laws
-        (is_on cut) full s n side (suc k) l) (side_link mesh laws (is_on cut) full s n side k l) (side.inside k l),
+        (laws.next_low (easts (half_edges faces) s k) (side_low laws full side k (omega arith)))
+        (side_low laws full side (suc k) l) (side_link laws full side k l) (side.inside k l),
   )
 
   module _ (layout : Layout) (lay : IsCutLayout faces cut layout) (patch : ℕ) (side : Way)
@@ -299,8 +273,5 @@ module _ (faces : Faces) (m : IsManifold faces) (marks : List Bool) (marked : Ar
 
           by_size : (1 < sides) ⊎ (sides ≤ 1) → (sides ≡ 0) ⊎ (sides ≡ 0 → ⊥) → sides ≡ 1
           by_size (inl l) e = absurd (two_arcs l)
-          by_size (inr l) (inl e) =
-              let none : count_below lengths sides ≡ 0 = ap (count_below lengths) e in
-              let some : 0 < side_size (patch_at layout.patches patch) side = lined_up.whole.some in
-              absurd (omega (arith, none, sized, some))
+          by_size (inr l) (inl e) = search rules
           by_size (inr l) (inr ne) = omega (arith, l, ne)

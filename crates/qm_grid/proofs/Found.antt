@@ -1,7 +1,7 @@
 -- The list of patches as it grows, face by face.
-use Rattle.std.proofs.Common.{◌≡◌, ◌⊎◌, ℕ, suc, ◌+◌, ◌*◌, ◌/◌, ◌%◌, ◌<◌, ◌≤◌, Bool, true, false, ◌||◌, List, [], ◌∷◌}
-use Rattle.std.proofs.Common.{◌++◌, map, length, get_or, replicate, sym, ◌∙◌, ap, refl, inl, inr, length-append, arith}
-use Rattle.std.proofs.Common.{zero, ◌-◌, subst, true≢false, append_assoc}
+use Rattle.std.proofs.Common.{rules, ◌≡◌, ◌⊎◌, ℕ, suc, ◌+◌, ◌*◌, ◌/◌, ◌%◌, ◌<◌, ◌≤◌, Bool, true, false, ◌||◌, List, []}
+use Rattle.std.proofs.Common.{◌∷◌, ◌++◌, map, length, get_or, replicate, sym, ◌∙◌, ap, refl, inl, inr, length-append}
+use Rattle.std.proofs.Common.{arith, zero, ◌-◌, subst, true≢false, append_assoc}
 use Rattle.std.proofs.lemmas.Bool.{cases_eq, cases_lt, or_cases, or_left, or_right, false≢true, cases_order}
 use Rattle.std.proofs.lemmas.List.{get_or_append_left, get_or-map, length-map, length-replicate, get_or-replicate}
 use Rattle.std.proofs.{Math.Seq.get_or-append_seam, lemmas.List.FromFn.map-range_with_len_more}
@@ -9,10 +9,9 @@ use Rattle.def_mesh.specs.{Faces.Faces, HalfEdges.HalfEdges, HalfEdges.half_edge
 use Rattle.def_cut.specs.Grids.{Rectangle, cell_of, patch_at, least_of, IsPatch, IsSide, IsPartition}
 use Rattle.def_cut.specs.{FullCut.is_on, Steps.spin, Steps.step_east, Steps.easts, Steps.norths, Cuts.Cut}
 use Rattle.def_cut.specs.{Cuts.IsCorner, Cuts.IsCut}
-use Rattle.cut_laws.specs.Grown.{IsGrown, IsRow}
+use Rattle.cut_laws.{specs.Grown.IsGrown, specs.Grown.IsRow, proofs.Classes.linked_back, proofs.Classes.least_high}
+use Rattle.cut_laws.{proofs.Classes.least_low, proofs.Rows.endless, proofs.Rows.next_row, proofs.Rows.grow}
 use Rattle.cut_laws.proofs.OneList.{AreTiles, LiesInPatch, least_at, place_row, place_is, shared, once}
-use Rattle.cut_laws.proofs.{Classes.linked_back, Classes.least_high, Classes.least_low, Rows.endless, Rows.next_row}
-use Rattle.cut_laws.proofs.{Rows.grow}
 use Rattle.qm_grid.specs.{Cells.grid_list, Cells.row_list, Heads.lies_in, Heads.IsHead}
 use Rattle.qm_grid.proofs.Laid.{grid_long, cells_low, lies_at, at_lies, linked_lies, laid_patch}
 use Rattle.{face_laws.proofs.FullCuts.same_face, def_known.specs.Cutting.IsCutting}
@@ -46,10 +45,7 @@ one_more found p = length-append found (p ∷ [])
 
 front_or_end : (found : List Rectangle) (p : Rectangle) (k : ℕ) → k < length (found ++ p ∷ []) → (k < length found)
     ⊎ (k ≡ length found)
-front_or_end found p k l = elim (cases_lt k (length found)) [
-  | inl b ↦ inl b
-  | inr g ↦ inr (omega (arith, one_more found p))
-]
+front_or_end found p k l = search (rules, one_more)
 
 -- A fact of each patch goes over to the longer list.
 each_more : (P : Rectangle → Type 0) (found : List Rectangle) (p : Rectangle)
@@ -103,14 +99,7 @@ module _ {faces : Faces} {cut : List Bool} (cutting : IsCutting faces cut) where
 
   pub found_skip : {n : ℕ} {seen : List Bool} {found : List Rectangle} → AreFoundSoFar faces cut n seen found
       → get_or seen n false ≡ true → AreFoundSoFar faces cut (n + 1) seen found
-  found_skip {n} so on = record {
-    long = so.long;
-    done = λ g l h. elim (cases_eq g n) [ inl e ↦ rw e on | inr ne ↦ so.done g (omega arith) h ];
-    listed = so.listed;
-    back = so.back;
-    tiles = so.tiles;
-    below = λ k l. omega (arith, so.below k l);
-  }
+  found_skip {n} so on = search rules
 
   module _ {f d : ℕ} (p : Rectangle) (low : f < length faces) (head : IsHead faces cut f d)
       (grown : IsGrown (half_edges faces) (is_on cut) d p.w p.h)
@@ -125,16 +114,12 @@ module _ {faces : Faces} {cut : List Bool} (cutting : IsCutting faces cut) where
     sized = ap length cells ∙ grid_long mesh d p.w p.h
 
     lone : AreTiles mesh (is_on cut) (λ d. d / 4) (p ∷ [])
-    lone = record {
-      patch = λ k l. let e : k ≡ 0 = omega arith in rw e patch;
-      sized = λ k l. let e : k ≡ 0 = omega arith in rw e sized;
-      ordered = λ k l. absurd (omega arith);
-    }
+    lone = search (rules, patch, sized)
 
     own : lies_in p.cells f ≡ true
     own =
         let e : 4 * f / 4 ≡ f = omega arith in
-        let back = linked_back mesh cutting.laws (is_on cut) cutting.full (4 * f) d (omega arith) head.linked in
+        let back = linked_back cutting.laws cutting.full (4 * f) d (omega arith) head.linked in
         rw cells (rw e at (linked_lies cutting head.corner grown (4 * f) back))
 
     -- No face of the patch was seen.
@@ -143,15 +128,12 @@ module _ {faces : Faces} {cut : List Bool} (cutting : IsCutting faces cut) where
         let (k, lk, there) = so.listed g lg was in
         let one = lies_inside (patch_at found k) (so.tiles.patch k lk).grid.wide (so.tiles.sized k lk) g there in
         let two = lies_inside p grown.wide sized g on in
-        let same = shared mesh cutting.laws (is_on cut) cutting.full (λ d. d / 4) found (p ∷ []) so.tiles lone k 0
+        let same = shared cutting.laws cutting.full (λ d. d / 4) found (p ∷ []) so.tiles lone k 0
         (4 * g) lk (omega arith) one two in
         false≢true (sym unseen ∙ so.back k f lk low (ap (λ (r : Rectangle). lies_in r.cells f) same ∙ own))
 
     in_range : (g : ℕ) → lies_in p.cells g ≡ true → g < length faces
-    in_range g on =
-        let (k, l, e) = lies_at p.cells g on in
-        let below = cells_low cutting head.corner grown k (omega (arith, l, ap length cells)) in
-        omega (arith, below, e, ap (λ (xs : List ℕ). get_or xs k 0) cells)
+    in_range g on = search (rules, lies_at, cells_low)
 
     -- So f is its least face.
     least : least_of (map (λ d. d / 4) p.cells) ≡ f
@@ -212,7 +194,7 @@ module _ {faces : Faces} {cut : List Bool} (cutting : IsCutting faces cut) where
         let (p, lp, there) = so.listed (d / 4) (omega arith) (so.done (d / 4) (omega arith) (omega arith)) in
         let (i, j, k, s) = lies_side (patch_at found p) (so.tiles.patch p lp).grid.wide (so.tiles.sized p lp) d there in
         (p, i, j, k, lp, s);
-    once = once mesh cutting.laws (is_on cut) cutting.full (λ d. d / 4) found so.tiles;
+    once = once cutting.laws cutting.full (λ d. d / 4) found so.tiles;
     ordered = so.tiles.ordered;
   }
 
@@ -236,12 +218,11 @@ row_listed mesh s i old {d} at listed put =
 module _ (mesh : HalfEdges) (laws : IsQuadManifold mesh) (cut : Cut) (full : IsCut mesh cut) where
   pub row_inside : (s d i : ℕ) → d ≡ easts mesh s i → ((k : ℕ) → k < i → cut (mesh.next (easts mesh s k)) ≡ false)
       → cut (mesh.next d) ≡ false → (k : ℕ) → k < i + 1 → cut (mesh.next (easts mesh s k)) ≡ false
-  row_inside s d i at before off = below_next (λ k. cut (mesh.next (easts mesh s k)) ≡ false) i before
-      (ap (λ x. cut (mesh.next x)) (sym at) ∙ off)
+  row_inside s d i at before off = search rules
 
   pub row_never : (s i : ℕ) → s < mesh.count → cut (mesh.prev s) ≡ true
       → ((k : ℕ) → k < i → cut (mesh.next (easts mesh s k)) ≡ false) → mesh.count + 1 ≤ i → ⊥
-  row_never s i low west before far = endless mesh laws cut full s low west (λ k l. before k (omega arith))
+  row_never s i low west before far = endless laws full s low west (λ k l. before k (omega arith))
 
   -- Rows from one dart have one width.
   pub row_width : (s w v : ℕ) → IsRow mesh cut s w → IsRow mesh cut s v → w ≡ v
@@ -259,8 +240,7 @@ module _ (mesh : HalfEdges) (laws : IsQuadManifold mesh) (cut : Cut) (full : IsC
   pub rows_up : (s w h : ℕ) → IsRow mesh cut s w → ((k : ℕ) → k < h → cut (mesh.next (mesh.next (norths mesh s k)))
       ≡ false) → IsRow mesh cut (norths mesh s h) w
   rows_up s w zero row before = row
-  rows_up s w (suc h) row before = next_row mesh laws cut full (norths mesh s h) w
-      (rows_up s w h row (λ k l. before k (omega arith))) (before h (omega arith))
+  rows_up s w (suc h) row before = search (rules, next_row, rows_up s w h row (λ k l. before k (omega arith)))
 
   -- The row of a grid that comes next is as wide as its first.
   pub same_width : {s d h v : ℕ} → d ≡ norths mesh s h → IsRow mesh cut d v → ((k : ℕ) → k < h
@@ -284,7 +264,7 @@ module _ {mesh : HalfEdges} (laws : IsQuadManifold mesh) {cut : Cut} (full : IsC
   -- The last one.
   pub grid_done : IsCorner mesh cut s → cut (mesh.next (mesh.next d)) ≡ true → IsGrown mesh cut s v (h + 1)
   grid_done corner on =
-      let (w, up, g) = grow mesh laws cut full s corner in
+      let (w, up, g) = grow laws full s corner in
       record {
         wide = row.wide;
         tall = omega arith;

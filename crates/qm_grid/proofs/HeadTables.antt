@@ -1,8 +1,7 @@
 -- The table of heads as corners are met in increasing order.
-use Rattle.std.proofs.Common.{◌≡◌, ◌≢◌, ℕ, ◌+◌, ◌*◌, ◌/◌, ◌<◌, ◌≤◌, Bool, true, false, cond, List, length, get_or, sym}
-use Rattle.std.proofs.Common.{◌∙◌, ap, refl, inl, inr, arith}
-use Rattle.std.proofs.lemmas.Bool.{cases_Bool, cases_eq, cases_lt, cond-true, cond-false, false≢true}
-use Rattle.std.proofs.lemmas.Bool.{false_from_ne_true}
+use Rattle.std.proofs.Common.{rules, ◌≡◌, ◌≢◌, ℕ, ◌+◌, ◌*◌, ◌/◌, ◌<◌, ◌≤◌, Bool, true, false, cond, List, length}
+use Rattle.std.proofs.Common.{get_or, sym, ◌∙◌, ap, refl, inl, inr, arith}
+use Rattle.std.proofs.lemmas.Bool.{cases_Bool, cases_eq, cases_lt, false≢true, false_from_ne_true}
 use Rattle.def_mesh.specs.{Faces.Faces, Darts.darts, HalfEdges.HalfEdges, HalfEdges.half_edges}
 use Rattle.def_cut.specs.{Cuts.IsCorner, FullCut.is_on}
 use Rattle.cut_laws.proofs.Classes.{links_join, linked_back, step_spin}
@@ -17,13 +16,13 @@ module _ {faces : Faces} {cut : List Bool} (cutting : IsCutting faces cut) where
   -- A dart and the first one of its face are of one class.
   pub to_first : (x : ℕ) → AreOfOne faces cut x (4 * (x / 4))
   to_first x = let (k, is) = same_face faces cutting.laws x (4 * (x / 4)) (omega arith) in
-      rw is (step_spin mesh cutting.laws (is_on cut) x x k (0, refl))
+      rw is (step_spin cutting.laws (is_on cut) x x k (0, refl))
 
   pub join : (d e f : ℕ) → AreOfOne faces cut d e → AreOfOne faces cut e f → AreOfOne faces cut d f
-  join d e f = links_join mesh cutting.laws (is_on cut) d e f
+  join d e f = links_join cutting.laws (is_on cut) d e f
 
   pub back : (d e : ℕ) → d < darts faces → AreOfOne faces cut d e → AreOfOne faces cut e d
-  back d e l a = linked_back mesh cutting.laws (is_on cut) cutting.full d e l a
+  back d e l a = linked_back cutting.laws cutting.full d e l a
 
   -- Nothing is to be done.
   pub heads_skip : {d : ℕ} {heads : List ℕ} → AreHeadsSoFar faces cut d heads
@@ -46,12 +45,10 @@ module _ {faces : Faces} {cut : List Bool} (cutting : IsCutting faces cut) where
     lies f = lies_in (grid_list mesh d w h) f
 
     put_on : (f : ℕ) → f < length faces → lies f ≡ true → get_or new f 0 ≡ d
-    put_on f l on =
-        put f (omega (arith, so.long)) ∙ cond-true (lies_in (grid_list mesh d w h) f) d (get_or heads f 0) on
+    put_on f l on = search rules
 
     put_off : (f : ℕ) → f < length faces → lies f ≡ false → get_or new f 0 ≡ get_or heads f 0
-    put_off f l off =
-        put f (omega (arith, so.long)) ∙ cond-false (lies_in (grid_list mesh d w h) f) d (get_or heads f 0) off
+    put_off f l off = search rules
 
     linked : (f : ℕ) → lies f ≡ true → AreOfOne faces cut d (4 * f)
     linked f on = lies_linked cutting corner grown f on

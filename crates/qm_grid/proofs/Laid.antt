@@ -1,6 +1,6 @@
 -- A mesh and a full cut of its faces are what the loops need.
-use Rattle.std.proofs.Common.{Bool, List, ◌≡◌, ℕ, zero, suc, ◌+◌, ◌*◌, ◌/◌, ◌%◌, ◌<◌, ◌≤◌, true, eqb, [], ◌∷◌, length}
-use Rattle.std.proofs.Common.{get_or, sym, ◌∙◌, ap, refl, inl, inr, length-append, arith}
+use Rattle.std.proofs.Common.{rules, Bool, List, ◌≡◌, ℕ, zero, suc, ◌+◌, ◌*◌, ◌/◌, ◌%◌, ◌<◌, ◌≤◌, true, eqb, [], ◌∷◌}
+use Rattle.std.proofs.Common.{length, get_or, sym, ◌∙◌, ap, refl, inl, inr, length-append, arith}
 use Rattle.std.proofs.lemmas.Bool.{cases_lt, eqb-true, eq-eqb, or_cases, false≢true}
 use Rattle.std.proofs.lemmas.List.FromFn.{get_or-map-range_with_len, length-map-range_with_len}
 use Rattle.std.proofs.{Math.Nat.mul-le-mul_right, Math.Nat.suc-mul, Math.Nat.zero-mul, lemmas.List.get_or_append_left}
@@ -28,8 +28,7 @@ to_cutting faces cut mesh full = record {
 -- The list of a grid.
 pub grid_long : (mesh : HalfEdges) (d w h : ℕ) → length (grid_list mesh d w h) ≡ h * w
 grid_long mesh d w zero = sym (zero-mul w)
-grid_long mesh d w (suc h) = length-append (grid_list mesh d w h) (row_list mesh (norths mesh d h) w)
-    ∙ (omega (arith, grid_long mesh d w h, length-map-range_with_len (easts mesh (norths mesh d h)) 0 w, suc-mul h w))
+grid_long mesh d w (suc h) = search (rules, length-append, length-map-range_with_len, grid_long mesh d w h)
 
 pub grid_at : (mesh : HalfEdges) (d w h i j : ℕ) → i < w → j < h → get_or (grid_list mesh d w h) (j * w + i) 0
     ≡ grown mesh d i j
@@ -67,19 +66,7 @@ at_lies cells f k l e = list_any_at (λ c. eqb (c / 4) f) cells k 0 l (eq-eqb (g
 -- A grid told by other cells that are the same.
 pub grid_same : (mesh : HalfEdges) (cut : Cut) (w h : ℕ) (cell tile : Cells)
     → ((i j : ℕ) → i < w → j < h → tile i j ≡ cell i j) → IsGrid mesh cut w h cell → IsGrid mesh cut w h tile
-grid_same mesh cut w h cell tile same g = record {
-  wide = g.wide;
-  tall = g.tall;
-  low = λ i j li lj. rw (same i j li lj) (g.low i j li lj);
-  east = λ i j li lj. rw (same i j (omega arith) lj, same (suc i) j li lj) (g.east i j li lj);
-  north = λ i j li lj. rw (same i j li (omega arith), same i (suc j) li lj) (g.north i j li lj);
-  east_open = λ i j li lj. rw (same i j (omega arith) lj) (g.east_open i j li lj);
-  north_open = λ i j li lj. rw (same i j li (omega arith)) (g.north_open i j li lj);
-  south_shut = λ i li. rw (same i 0 li g.tall) (g.south_shut i li);
-  west_shut = λ j lj. rw (same 0 j g.wide lj) (g.west_shut j lj);
-  east_shut = λ i j e lj. rw (same i j (omega arith) lj) (g.east_shut i j e lj);
-  north_shut = λ i j li e. rw (same i j li (omega arith)) (g.north_shut i j li e);
-}
+grid_same mesh cut w h cell tile same g = search rules
 
 module _ {faces : Faces} {cut : List Bool} (cutting : IsCutting faces cut) {d w h : ℕ}
     (corner : IsCorner (half_edges faces) (is_on cut) d) (g : IsGrown (half_edges faces) (is_on cut) d w h) where
@@ -90,7 +77,7 @@ module _ {faces : Faces} {cut : List Bool} (cutting : IsCutting faces cut) {d w 
   cells = grid_list mesh d w h
 
   whole : IsGrid mesh (is_on cut) w h (grown mesh d)
-  whole = grown_grid mesh cutting.laws (is_on cut) cutting.full d w h corner g
+  whole = grown_grid cutting.laws cutting.full d w h corner g
 
   cell_is : (k : ℕ) → k < length cells → (k / w < h) × (get_or cells k 0 ≡ grown mesh d (k % w) (k / w))
   cell_is k l =
@@ -115,8 +102,8 @@ module _ {faces : Faces} {cut : List Bool} (cutting : IsCutting faces cut) {d w 
       let (row, here) = cell_is k lk in
       let (n, is) = same_face faces cutting.laws (grown mesh d (k % w) (k / w)) (4 * f)
       (ap (λ x. x / 4) (sym here) ∙ (e ∙ omega arith)) in
-      rw is (step_spin mesh cutting.laws (is_on cut) d (grown mesh d (k % w) (k / w)) n
-      (linked_cell mesh cutting.laws (is_on cut) cutting.full w h (grown mesh d) whole (k % w) (k / w)
+      rw is (step_spin cutting.laws (is_on cut) d (grown mesh d (k % w) (k / w)) n
+      (linked_cell cutting.laws cutting.full whole (k % w) (k / w)
       (omega (arith, g.wide)) row))
 
   spin_face : (k x : ℕ) → spin mesh k x / 4 ≡ x / 4
@@ -126,7 +113,7 @@ module _ {faces : Faces} {cut : List Bool} (cutting : IsCutting faces cut) {d w 
   -- and a dart of the class lies in the face of a cell.
   pub linked_lies : (x : ℕ) → AreOfOne faces cut d x → lies_in (grid_list (half_edges faces) d w h) (x / 4) ≡ true
   linked_lies x l =
-      let (k, s) = closed mesh cutting.laws (is_on cut) cutting.full w h (grown mesh d) whole d x l.0 l.1
+      let (k, s) = closed cutting.laws cutting.full whole d x l.0 l.1
       (0, record { a = 0; b = 0; a_low = g.wide; b_low = g.tall; is = refl }) in
       let m = mul-le-mul_right w s.b_low in
       at_lies cells (x / 4) (s.b * w + s.a) (omega (arith, m, grid_long mesh d w h, suc-mul s.b w, s.a_low))
@@ -156,5 +143,5 @@ module _ {faces : Faces} {cut : List Bool} (cutting : IsCutting faces cut) {d w 
       first = same 0 0 g.wide g.tall
 
       most : AtMost mesh w h tile d
-      most = at_most mesh cutting.laws (is_on cut) cutting.full w h tile grid d
-          (λ x l c. head.least x (links_join mesh cutting.laws (is_on cut) (4 * f) d x head.linked (rw first at l)) c)
+      most = at_most cutting.laws cutting.full grid d
+          (λ x l c. head.least x (links_join cutting.laws (is_on cut) (4 * f) d x head.linked (rw first at l)) c)

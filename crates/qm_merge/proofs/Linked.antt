@@ -49,9 +49,9 @@ module _ {mesh : HalfEdges} (laws : IsQuadManifold mesh) {cut : Cut} (full : IsC
 
       pub same_size : (links : Links) → AreLinks mesh cut links
           → at links.long.items round.fourth ≡ at links.long.items s
-      same_size links are = ap (at links.long.items) far_is ∙ (one_size mesh laws cut full t (at links.long.items t) n
-          (are.side t glued.far.corner.0 glued.far.corner) glued.far ∙ one_size mesh laws cut full s n
-          (at links.long.items s) glued.near (are.side s glued.near.corner.0 glued.near.corner))
+      same_size links are = ap (at links.long.items) far_is ∙ (one_size laws full
+          (are.side t glued.far.corner.0 glued.far.corner) glued.far
+          ∙ one_size laws full glued.near (are.side s glued.near.corner.0 glued.near.corner))
 
 -- A fact for want of a value.
 pub none_then : {X P Q : Type 0} (r : Option X) → IfNone r P → (P → Q) → IfNone r Q
@@ -120,7 +120,7 @@ module _ {mesh : HalfEdges} (laws : IsQuadManifold mesh) {cut : Cut} (full : IsC
           back j sum tw = same_Some e (easts mesh t j) (sym tw ∙ across j sum)
 
   pub edge_there : {d k : ℕ} → k < n → d ≡ easts mesh s k → d < mesh.count
-  edge_there {k} l at = rw at (side_low mesh laws cut full s n glued.near k l)
+  edge_there {k} l at = rw at (side_low laws full glued.near k l)
 
   pub edge_twin : {d k : ℕ} → k < n → d ≡ easts mesh s k → (e : ℕ) × (mesh.twin d ≡ Some e)
   edge_twin {k} l at = (easts mesh t (n - suc k), cc (at, glued.across k (n - suc k) (omega arith)))
@@ -128,7 +128,7 @@ module _ {mesh : HalfEdges} (laws : IsQuadManifold mesh) {cut : Cut} (full : IsC
   pub leads_to : {d k : ℕ} → suc k < n → d ≡ easts mesh s k → (e : ℕ) × (mesh.twin (mesh.next d) ≡ Some e)
   leads_to {k} l at = (
     mesh.prev (easts mesh s (suc k)),
-    cc (at, side_link mesh laws cut full s n glued.near k l),
+    cc (at, side_link laws full glued.near k l),
   )
 
 -- Tables of linked corners: how they are filled, and how they follow an arc that leaves.
@@ -187,8 +187,7 @@ module _ {mesh : HalfEdges} (laws : IsQuadManifold mesh) {cut : Cut} (full : IsC
   -- No side is much longer than there are darts.
   pub side_few : {c n : ℕ} → IsWholeSide mesh cut c n → n ≤ mesh.count + 1
   side_few {c} {n} side = elim (cases_lt (mesh.count + 1) n) [
-    | inl l ↦ absurd (endless mesh laws cut full c side.corner.0 side.corner.2
-        (λ k h. side.inside k (omega (arith, h, l))))
+    | inl l ↦ absurd (endless laws full c side.corner.0 side.corner.2 (λ k h. side.inside k (omega (arith, h, l))))
     | inr h ↦ h
   ]
 
@@ -222,16 +221,26 @@ module _ {mesh : HalfEdges} (laws : IsQuadManifold mesh) {cut : Cut} (full : IsC
           far_sum = omega (arith, few, few_at far.fourth far_fourth, few_at near.second near_second);
         }
 
+-- What stands in a table in which two places were set.
+two_set : (xs : List ℕ) {ys : List ℕ} {a b x y : ℕ} → ys ≡ set (set xs a x) b y → (a ≡ b → ⊥) → a < length xs
+    → b < length xs
+    → (at ys a ≡ x) × (at ys b ≡ y) × ((c : ℕ) → (c ≡ a → ⊥) → (c ≡ b → ⊥) → at ys c ≡ at xs c)
+two_set xs {a = a} {b} {x} {y} is ne la lb = rw is (
+  get_or-set_other (set xs a x) b a y 0 ne ∙ get_or-set_same xs a x 0 la,
+  get_or-set_same (set xs a x) b y 0 (omega (arith, length-set xs a x)),
+  λ c na nb. get_or-set_other (set xs a x) b c y 0 nb ∙ get_or-set_other xs a c x 0 na,
+)
+
 -- When an arc leaves, its patches become one.
 module _ {mesh : HalfEdges} (laws : IsQuadManifold mesh) {cut rest : Cut} (full : IsCut mesh cut) {s t n : ℕ}
     (arc : IsJoinable mesh cut s t n) (without : IsWithout mesh cut rest s t n) {near far : Round}
     (ones : IsRound mesh cut s near) (others : IsRound mesh cut t far) {old new : Links}
     (are : AreLinks mesh cut old) (joined : IsJoined old new near far) where
   abbrev back : IsJoinable mesh cut t s n
-  back = turned_arc mesh laws cut full s t n arc
+  back = turned_arc laws full arc
 
   abbrev back_without : IsWithout mesh cut rest t s n
-  back_without = other_without mesh cut rest s t n without
+  back_without = other_without without
 
   abbrev nexts : List ℕ
   nexts = old.next.items
@@ -268,22 +277,6 @@ module _ {mesh : HalfEdges} (laws : IsQuadManifold mesh) {cut rest : Cut} (full 
       near_side laws full back back_without others ones (at longs far.fourth) (at longs near.second)
       (are.side far.fourth corner_far.0 corner_far) (are.side near.second second.0 second)
 
-  -- What stands in a table in which two places were set.
-  at_near : (xs ys : List ℕ) (x y : ℕ) → ys ≡ set (set xs near.fourth x) far.fourth y → length xs ≡ mesh.count
-      → at ys near.fourth ≡ x
-  at_near xs ys x y is long = ap (λ zs. at zs near.fourth) is ∙ (get_or-set_other (set xs near.fourth x) far.fourth
-      near.fourth y 0 differ ∙ get_or-set_same xs near.fourth x 0 (omega (arith, long, corner_near.0)))
-
-  at_far : (xs ys : List ℕ) (x y : ℕ) → ys ≡ set (set xs near.fourth x) far.fourth y → length xs ≡ mesh.count
-      → at ys far.fourth ≡ y
-  at_far xs ys x y is long = ap (λ zs. at zs far.fourth) is ∙ get_or-set_same (set xs near.fourth x) far.fourth y 0
-      (omega (arith, length-set xs near.fourth x, long, corner_far.0))
-
-  at_other : (xs ys : List ℕ) (x y c : ℕ) → ys ≡ set (set xs near.fourth x) far.fourth y → (c ≡ near.fourth → ⊥)
-      → (c ≡ far.fourth → ⊥) → at ys c ≡ at xs c
-  at_other xs ys x y c is a b = ap (λ zs. at zs c) is ∙ (get_or-set_other (set xs near.fourth x) far.fourth c y 0 b
-      ∙ get_or-set_other xs near.fourth c x 0 a)
-
   -- The side from c as the new tables have it.
   IsThere : (c : ℕ) → Type 0
   IsThere c = IsWholeSide mesh rest c (at new.long.items c)
@@ -292,28 +285,28 @@ module _ {mesh : HalfEdges} (laws : IsQuadManifold mesh) {cut rest : Cut} (full 
   told : (c m x : ℕ) → at new.long.items c ≡ m → at new.next.items c ≡ x → IsWholeSide mesh rest c m
       → x ≡ mesh.next (easts mesh c (m - 1)) → IsThere c
   unfolding IsThere
-  told c m x long_is next_is side end = (
-    rw long_is side,
-    cc (next_is, end, long_is),
-  )
+  told c m x long_is next_is side end = (rw long_is side, cc (next_is, end, long_is))
 
   there : (c : ℕ) → IsCorner mesh rest c → IsThere c
   unfolding IsThere
-  there c corner = elim (cases_eq c near.fourth) [
-    | inl e ↦ rw e (told near.fourth near_sum far.third (at_near longs new.long.items near_sum far_sum joined.long
-        are.longs) (at_near nexts new.next.items far.third near.third joined.next are.nexts) grown_near.0 grown_near.1)
-    | inr a ↦ elim (cases_eq c far.fourth) [
-      | inl e ↦ rw e (told far.fourth far_sum near.third (at_far longs new.long.items near_sum far_sum joined.long
-          are.longs) (at_far nexts new.next.items far.third near.third joined.next are.nexts) grown_far.0 grown_far.1)
-      | inr b ↦
-          let was = corner_was laws full arc without c corner in
-          told c (at longs c) (at nexts c) (at_other longs new.long.items near_sum far_sum c joined.long a b)
-          (at_other nexts new.next.items far.third near.third c joined.next a b)
-          (side_stays laws full arc without c (at longs c) corner (are.side c was.0 was)
-          (λ next. a (one_before laws full next (near_closes laws full arc without ones others))) (λ next. b
-          (one_before laws full next (near_closes laws full back back_without others ones)))) (are.after c was.0 was)
-    ]
-  ]
+  there c corner =
+      let long = two_set _ joined.long differ (omega (arith, are.longs, corner_near.0))
+      (omega (arith, are.longs, corner_far.0)) in
+      let next = two_set _ joined.next differ (omega (arith, are.nexts, corner_near.0))
+      (omega (arith, are.nexts, corner_far.0)) in
+      elim (cases_eq c near.fourth) [
+        | inl e ↦ rw e (told near.fourth near_sum far.third long.0 next.0 grown_near.0 grown_near.1)
+        | inr a ↦ elim (cases_eq c far.fourth) [
+          | inl e ↦ rw e (told far.fourth far_sum near.third long.1 next.1 grown_far.0 grown_far.1)
+          | inr b ↦
+              let was = corner_was laws full arc without c corner in
+              told c (at longs c) (at nexts c) (long.2 c a b) (next.2 c a b)
+              (side_stays laws full arc without c (at longs c) corner (are.side c was.0 was)
+              (λ next. a (one_before laws full next (near_closes laws full arc without ones others))) (λ next. b
+              (one_before laws full next (near_closes laws full back back_without others ones))))
+              (are.after c was.0 was)
+        ]
+      ]
 
   pub links_after : AreLinks mesh rest new
   unfolding IsThere

@@ -16,13 +16,11 @@ use Rattle.std.specs.BTreeSet as sorted
 
 -- A set that grew by a number that was new or not.
 pub few_more : (b : Bool) (old new : ℕ) → new ≡ old + cond b 1 0 → new ≤ old + 1
-few_more true old new e = omega (arith, e)
-few_more false old new e = omega (arith, e)
+few_more b old new e = grind arith
 
 -- Another number is not at a number's place.
 at_bits : (a b : Bool) → b ≡ false → is_eq (cond a Less (cond b Equal Greater)) ≡ false
-at_bits true b e = refl
-at_bits false b e = cc e
+at_bits a b e = grind arith
 
 pub apart_at : (k q : ℕ) → (k ≡ q → ⊥) → is_at (nat_cmp k) q ≡ false
 apart_at k q ne = at_bits (ltb k q) (eqb k q) (ne_eqb k q ne)
@@ -68,7 +66,7 @@ module _ {mesh : HalfEdges} (laws : IsQuadManifold mesh) {cut : Cut} (full : IsC
   pub seam_name : {s : ℕ} {seam : Seam} → IsSeam mesh cut s seam → {t n name : ℕ} → IsJoinable mesh cut s t n
       → IsNameOf mesh s t n name → seam.name ≡ name
   seam_name {s} {seam} is {t} {n} {name} arc named =
-      let far = one_far mesh laws cut full s seam.far t seam.long n is.joinable.glued arc.glued in
+      let far = one_far laws full is.joinable.glued arc.glued in
       one_name mesh s t n seam.name name (rw (← far.1, ← far.0) is.named) named
 
   -- A seam may leave where each joinable arc may that begins there on one side.
@@ -79,18 +77,18 @@ module _ {mesh : HalfEdges} (laws : IsQuadManifold mesh) {cut : Cut} (full : IsC
       let from : (c b : ℕ) → start ≡ c → IsJoinable mesh cut c b n → may c b n ≡ true
       → may start seam.far seam.long ≡ true = λ c b e joined y.
       let here : IsJoinable mesh cut start b n = rw e joined in
-      let far = one_far mesh laws cut full start seam.far b seam.long n is.joinable.glued here.glued in
+      let far = one_far laws full is.joinable.glued here.glued in
       rw (far.1, far.0, e) y in
       elim side [
         | inl e ↦ from s t e arc free
-        | inr e ↦ from t s e (turned_arc mesh laws cut full s t n arc) (turn s t n free)
+        | inr e ↦ from t s e (turned_arc laws full arc) (turn s t n free)
       ]
 
   -- No joinable arc has a name that none has which begins at its start.
   pub none_named : (start : ℕ) {name : ℕ} → ((t n : ℕ) → IsJoinable mesh cut start t n → IsNameOf mesh start t n name
       → ⊥) → {s t n : ℕ} → IsJoinable mesh cut s t n → IsNameOf mesh s t n name → (start ≡ s) ⊎ (start ≡ t) → ⊥
   none_named start none {t} {n} arc named (inl e) = none t n (rw e arc) (rw e named)
-  none_named start {name} none {s} {t} {n} arc named (inr e) = none s n (rw e (turned_arc mesh laws cut full s t n arc))
+  none_named start {name} none {s} {t} {n} arc named (inr e) = none s n (rw e (turned_arc laws full arc))
       (rw e (name_other mesh s t n name named))
 
   -- A joinable arc over d begins, on one side, where the side of d does: it is noted where that start is.
@@ -100,7 +98,7 @@ module _ {mesh : HalfEdges} (laws : IsQuadManifold mesh) {cut : Cut} (full : IsC
       → IsNameOf mesh s t n name → IsNoted names starts s t name
   noted_over {start} {m} {k} {d} on names starts noted {s} {t} {n} {name} arc o named =
       let is : (c j : ℕ) → IsWholeSide mesh cut c n → j < n → d ≡ easts mesh c j → c ≡ start = λ c j side l e.
-      sym (one_place mesh laws cut full start m c n k j on.side side on.low l (on.at ∙ e)).0 in
+      sym (one_place laws full k j on.side side on.low l (on.at ∙ e)).0 in
       elim o.2 [
         | inl e ↦
             let same = is s o.0 arc.glued.near o.1 e in
@@ -108,7 +106,7 @@ module _ {mesh : HalfEdges} (laws : IsQuadManifold mesh) {cut : Cut} (full : IsC
         | inr e ↦
             let same = is t o.0 arc.glued.far o.1 e in
             other_noted names starts t s name (rw same (noted s n name
-            (rw same at (turned_arc mesh laws cut full s t n arc)) (rw same at (name_other mesh s t n name named))))
+            (rw same at (turned_arc laws full arc)) (rw same at (name_other mesh s t n name named))))
       ]
 
   -- One arc more is noted.
@@ -127,7 +125,7 @@ module _ {mesh : HalfEdges} (laws : IsQuadManifold mesh) {cut : Cut} (full : IsC
       elim (cases_eq name seam.name) [
         | inl e ↦
             let here : at (set starts seam.name s) name ≡ s = rw e (get_or-set_same starts seam.name s 0 low) in
-            elim (one_arc mesh laws cut full s seam.far seam.long r u m name is.joinable.glued arc.glued
+            elim (one_arc laws full name is.joinable.glued arc.glued
             (rw e is.named.on) named.on).0 [ inl p ↦ inl (here ∙ p.0) | inr p ↦ inr (here ∙ p.0) ]
         | inr ne ↦
             let kept = get_or-set_other starts seam.name name s 0 ne in
@@ -137,25 +135,21 @@ module _ {mesh : HalfEdges} (laws : IsQuadManifold mesh) {cut : Cut} (full : IsC
 
 -- Marks that go leave fewer.
 one_less : (a b : Bool) → (b ≡ true → a ≡ true) → cond b 1 0 ≤ cond a 1 0
-one_less true true l = omega arith
-one_less true false l = omega arith
-one_less false true l = absurd (false≢true (l refl))
-one_less false false l = omega arith
+one_less a b l = grind arith
 
 fewer_or_same : (old new : List Bool) → length new ≡ length old → ((d : ℕ) → is_on new d ≡ true → is_on old d ≡ true)
     → mark_count new ≤ mark_count old
 fewer_or_same [] [] e less = omega arith
 fewer_or_same (a ∷ old) (b ∷ new) e less =
-    omega (arith, one_less a b (less 0), fewer_or_same old new (omega arith) (λ d on. less (suc d) on))
-fewer_or_same [] (b ∷ new) e less = absurd (omega arith)
-fewer_or_same (a ∷ old) [] e less = absurd (omega arith)
+    omega (arith, one_less a b (less 0), fewer_or_same old new (omega arith) (λ d. less (suc d)))
+fewer_or_same _ _ e less = absurd (omega arith)
 
 pub fewer_marks : (old new : List Bool) → length new ≡ length old → ((d : ℕ) → is_on new d ≡ true → is_on old d ≡ true)
     → (d : ℕ) → is_on old d ≡ true → is_on new d ≡ false → mark_count new + 1 ≤ mark_count old
-fewer_marks [] new e less d on off = absurd (false≢true on)
-fewer_marks (a ∷ old) [] e less d on off = absurd (omega arith)
 fewer_marks (a ∷ old) (b ∷ new) e less zero on off =
-    let rest = fewer_or_same old new (omega arith) (λ d on. less (suc d) on) in
+    let rest = fewer_or_same old new (omega arith) (λ d. less (suc d)) in
     rw (on, off) (omega (arith, rest))
 fewer_marks (a ∷ old) (b ∷ new) e less (suc d) on off =
-    omega (arith, one_less a b (less 0), fewer_marks old new (omega arith) (λ d on. less (suc d) on) d on off)
+    omega (arith, one_less a b (less 0), fewer_marks old new (omega arith) (λ d. less (suc d)) d on off)
+fewer_marks [] new e less d on off = absurd (false≢true on)
+fewer_marks (a ∷ old) [] e less d on off = absurd (omega arith)

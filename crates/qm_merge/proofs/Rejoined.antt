@@ -28,7 +28,7 @@ module _ {mesh : HalfEdges} (laws : IsQuadManifold mesh) {cut rest : Cut} (full 
   on_start : (c : ℕ) → IsCorner mesh cut c → IsOnArc mesh s t n c → (c ≡ s) ⊎ (c ≡ t)
   on_start c corner o =
       let start : (b k : ℕ) → IsWholeSide mesh cut b n → k < n → c ≡ easts mesh b k → c ≡ b = λ b k side l e.
-      let first = first_place mesh laws cut full b n side k l (cc (e, corner.2)) in
+      let first = first_place laws full side k l (cc (e, corner.2)) in
       cc (e, first) in
       elim o.2 [
         | inl e ↦ inl (start s o.0 arc.glued.near o.1 e)
@@ -56,17 +56,16 @@ module _ {mesh : HalfEdges} (laws : IsQuadManifold mesh) {cut rest : Cut} (full 
       → (IsNextCorner mesh cut t c → ⊥) → IsCorner mesh rest c
   corner_stays c corner not_s not_t after_s after_t = (
     corner.0,
-    still mesh laws cut rest s t n without c corner.0
-        (λ o. elim (on_start c corner o) [ inl e ↦ not_s e | inr e ↦ not_t e ]) corner.1,
-    still mesh laws cut rest s t n without (mesh.prev c) (laws.prev_low c corner.0)
+    still laws without c corner.0 (λ o. elim (on_start c corner o) [ inl e ↦ not_s e | inr e ↦ not_t e ]) corner.1,
+    still laws without (mesh.prev c) (laws.prev_low c corner.0)
         (λ o. elim (on_end c corner o) [ inl e ↦ after_s e | inr e ↦ after_t e ]) corner.2,
   )
 
   pub corner_was : (c : ℕ) → IsCorner mesh rest c → IsCorner mesh cut c
   corner_was c corner = (
     corner.0,
-    less mesh laws cut rest s t n without c corner.0 corner.1,
-    less mesh laws cut rest s t n without (mesh.prev c) (laws.prev_low c corner.0) corner.2,
+    less laws without c corner.0 corner.1,
+    less laws without (mesh.prev c) (laws.prev_low c corner.0) corner.2,
   )
 
   -- A side stays that does not end where the arc begins.
@@ -75,14 +74,12 @@ module _ {mesh : HalfEdges} (laws : IsQuadManifold mesh) {cut rest : Cut} (full 
   side_stays c m corner side not_s not_t = record {
     some = side.some;
     corner = corner;
-    inside = λ k l. opened mesh laws cut rest s t n without (mesh.next (easts mesh c k)) (low k (omega (arith, l)))
-        (side.inside k l);
-    ends = λ k e. still mesh laws cut rest s t n without (mesh.next (easts mesh c k)) (low k (omega (arith, e)))
-        (off k e) (side.ends k e);
+    inside = λ k l. opened laws without (mesh.next (easts mesh c k)) (low k (omega (arith, l))) (side.inside k l);
+    ends = λ k e. still laws without (mesh.next (easts mesh c k)) (low k (omega (arith, e))) (off k e) (side.ends k e);
   }
     where
       low : (k : ℕ) → k < m → mesh.next (easts mesh c k) < mesh.count
-      low k l = laws.next_low (easts mesh c k) (side_low mesh laws cut full c m side k l)
+      low k l = laws.next_low (easts mesh c k) (side_low laws full side k l)
 
       next : (k : ℕ) → suc k ≡ m → IsNextCorner mesh cut c (mesh.next (easts mesh c k))
       next k e = (k, rw e side, refl)
@@ -100,7 +97,7 @@ module _ {mesh : HalfEdges} (laws : IsQuadManifold mesh) {cut rest : Cut} (full 
       (turn : IsNextCorner mesh cut t q) (corner : IsCorner mesh rest p) (other : IsOnArc mesh s t n x → ⊥) where
     over : easts mesh p (suc a) ≡ q
     over =
-        let size = one_size mesh laws cut full t (suc turn.0) n turn.1 arc.glued.far in
+        let size = one_size laws full turn.1 arc.glued.far in
         cc (meets, arc.glued.across 0 turn.0 (omega (arith, size)), turn.2)
 
     along : (i j : ℕ) → i ≡ suc a + j → easts mesh p i ≡ easts mesh q j
@@ -111,8 +108,8 @@ module _ {mesh : HalfEdges} (laws : IsQuadManifold mesh) {cut rest : Cut} (full 
     inside : (k : ℕ) → suc k < suc a + suc b → rest (mesh.next (easts mesh p k)) ≡ false
     inside k l =
         let open_at : (c m i : ℕ) → IsWholeSide mesh cut c m → suc i < m → rest (mesh.next (easts mesh c i)) ≡ false =
-        λ c m i side h. opened mesh laws cut rest s t n without (mesh.next (easts mesh c i)) (laws.next_low
-        (easts mesh c i) (side_low mesh laws cut full c m side i (omega (arith, h)))) (side.inside i h) in
+        λ c m i side h. opened laws without (mesh.next (easts mesh c i)) (laws.next_low
+        (easts mesh c i) (side_low laws full side i (omega (arith, h)))) (side.inside i h) in
         elim (cases_order k a) [
           | inl e ↦ cc (e, meets, without.gone s (0, arc.glued.near.some, inl refl))
           | inr (inl less) ↦ open_at p (suc a) k before (omega (arith, less))
@@ -124,8 +121,8 @@ module _ {mesh : HalfEdges} (laws : IsQuadManifold mesh) {cut rest : Cut} (full 
     last k e = cc (along k b (omega (arith, e)), ends)
 
     shut : rest x ≡ true
-    shut = still mesh laws cut rest s t n without x (rw ends (laws.next_low (easts mesh q b)
-        (side_low mesh laws cut full q (suc b) behind b (omega arith)))) other (ap cut ends ∙ behind.ends b refl)
+    shut = still laws without x (rw ends (laws.next_low (easts mesh q b)
+        (side_low laws full behind b (omega arith)))) other (ap cut ends ∙ behind.ends b refl)
 
     pub grown_side : IsWholeSide mesh rest p (suc a + suc b)
     grown_side = record {
@@ -149,7 +146,7 @@ module _ {mesh : HalfEdges} (laws : IsQuadManifold mesh) {cut rest : Cut} (full 
     -- Those of the near patch are none of the far one.
     foreign : (x : ℕ) → AreInOne mesh cut s x → AreInOne mesh cut t x → ⊥
     foreign x a b =
-        arc.apart (links_join mesh laws cut s x t a (linked_back mesh laws cut full t x arc.glued.far.corner.0 b))
+        arc.apart (links_join laws cut s x t a (linked_back laws full t x arc.glued.far.corner.0 b))
 
     near_in : (x : ℕ) → (x ≡ s) ⊎ ((x ≡ near.second) ⊎ ((x ≡ near.third) ⊎ (x ≡ near.fourth))) → AreInOne mesh cut s x
     near_in x is = around laws full ones.second ones.third ones.fourth x is
@@ -190,8 +187,8 @@ module _ {mesh : HalfEdges} (laws : IsQuadManifold mesh) {cut rest : Cut} (full 
     near_side a b one two =
         let i = near_closes.0 in
         let j = others.third.0 in
-        let left = one_size mesh laws cut full near.fourth (suc i) a near_closes.1 one in
-        let right = one_size mesh laws cut full far.second (suc j) b others.third.1 two in
+        let left = one_size laws full near_closes.1 one in
+        let right = one_size laws full others.third.1 two in
         let sum : suc i + suc j ≡ a + b = omega (arith, left, right) in
         rw (← sum) (
           grown_side near_closes.1 near_closes.2 others.third.1 others.third.2 others.second near_stays
@@ -237,8 +234,7 @@ module _ {faces : Faces} {marks : List Bool} (rest : List Bool) (cutting : IsCut
 
   -- What is left was there.
   pub less_on : (d : ℕ) → is_on rest d ≡ true → is_on marks d ≡ true
-  less_on d on = less mesh cutting.laws (is_on marks) (is_on rest) place.start place.seam.far
-      place.seam.long without d (omega (arith, mark_low rest d on, long, cutting.long)) on
+  less_on d on = less cutting.laws without d (omega (arith, mark_low rest d on, long, cutting.long)) on
 
   -- The step that the first of the arcs makes that may leave.
   pub step_taken : (may : MayLeave) → may marks place.start place.seam.far place.seam.long ≡ true
@@ -264,12 +260,12 @@ module _ {faces : Faces} {marks : List Bool} (rest : List Bool) (cutting : IsCut
   -- No arc has its name any more.
   pub name_gone : {s t n name : ℕ} → IsJoinable mesh (is_on rest) s t n
       → IsNameOf mesh s t n name → name ≢ place.seam.name
-  name_gone {s} {t} {n} {name} arc named e = true≢false (sym (on_cut mesh cutting.laws (is_on rest) cutting_after.full s
-      t n arc.glued name named.on) ∙ (ap (is_on rest) e ∙ without.gone place.seam.name is.named.on))
+  name_gone {s} {t} {n} {name} arc named e = true≢false
+      (sym (on_cut cutting.laws cutting_after.full arc.glued name named.on)
+      ∙ (ap (is_on rest) e ∙ without.gone place.seam.name is.named.on))
 
   pub marks_fewer : mark_count rest + 1 ≤ mark_count marks
-  marks_fewer = fewer_marks marks rest long less_on place.seam.name
-      (on_cut mesh cutting.laws (is_on marks) cutting.full place.start place.seam.far place.seam.long
+  marks_fewer = fewer_marks marks rest long less_on place.seam.name (on_cut cutting.laws cutting.full
       is.joinable.glued place.seam.name is.named.on) (without.gone place.seam.name is.named.on)
 
   -- What is joinable then was joinable before, or is noted anew.
@@ -279,9 +275,8 @@ module _ {faces : Faces} {marks : List Bool} (rest : List Bool) (cutting : IsCut
     near_end = near_over cutting.laws cutting.full is.joinable without ones others
 
     far_end : (m : ℕ) × (k : ℕ) × StandsOn mesh (is_on rest) far.fourth m k (mesh.prev place.seam.far)
-    far_end = near_over cutting.laws cutting.full
-        (turned_arc mesh cutting.laws (is_on marks) cutting.full place.start place.seam.far place.seam.long is.joinable)
-        (other_without mesh (is_on marks) (is_on rest) place.start place.seam.far place.seam.long without) others ones
+    far_end = near_over cutting.laws cutting.full (turned_arc cutting.laws cutting.full is.joinable)
+        (other_without without) others ones
 
     module _ (old between new : BTreeSet ℕ) (starts one_starts new_starts : List ℕ) where
       abbrev IsNotedFrom : (c : ℕ) (names : BTreeSet ℕ) (table : List ℕ) → Type 0

@@ -1,5 +1,5 @@
 -- The laws of the motion on a mesh.
-use Rattle.std.proofs.Common.{◌≡◌, ℕ, zero, suc, ◌<◌, Bool, false, length, get_or, sym, ◌∙◌, inl, inr, arith}
+use Rattle.std.proofs.Common.{rules, ◌≡◌, ℕ, zero, suc, ◌<◌, Bool, false, length, get_or, sym, ◌∙◌, inl, inr, arith}
 use Rattle.std.proofs.{lemmas.List.length-map, lemmas.List.FromFn.length-range_with_len}
 use Rattle.std.proofs.{lemmas.List.FromFn.get_or-map-range_with_len, lemmas.Bool.not-true}
 use Rattle.def_mesh.specs.{Darts.darts, Darts.all_darts, Darts.from_of, Darts.to_of, Vertices.vertex_count}
@@ -34,12 +34,7 @@ module _ (mesh : HalfEdges) (laws : IsQuadManifold mesh) (cut other : ℕ → Bo
     → other d ≡ cut d) where
   pub same_links : (d e n : ℕ) → d < mesh.count → Links mesh cut d e n → Links mesh other d e n
   same_links d e zero l s = s
-  same_links d e (suc n) l s = (
-    s.0,
-    same_links d s.0 n l s.1,
-    elim s.2
-        [ inl a ↦ inl a | inr w ↦ inr (same s.0 (links_low mesh laws cut d s.0 n l s.1) ∙ w.0, w.1) ],
-  )
+  same_links d e (suc n) l s = search (rules, links_low, same_links d s.0 n l s.1)
 
   pub same_cut : IsCut mesh cut → IsCut mesh other
   same_cut c = record {

@@ -1,14 +1,13 @@
 -- A manifold list of faces is a terrain, and its start darts are starts.
-use Rattle.std.proofs.Common.{◌≡◌, ◌⊎◌, ℕ, ◌<◌, true, false, not, eqb, ◌&&◌, ◌||◌, Some, None, is_some, sym, ap, ◌∙◌}
-use Rattle.std.proofs.Common.{refl, inl, inr, arith}
-use Rattle.std.proofs.lemmas.Bool.{eqb-true, lt-ltb, or_left, or_right, or_cases, or_parts, and_from, and_parts}
-use Rattle.std.proofs.lemmas.Bool.{not_from_false, false≢true, false_from_ne_true, not-false, not-true}
-use Rattle.std.proofs.lemmas.Option.{none-some}
+use Rattle.std.proofs.Common.{rules, ◌≡◌, ◌⊎◌, ℕ, ◌<◌, true, false, not, eqb, ◌&&◌, ◌||◌, Some, None, is_some, sym, ap}
+use Rattle.std.proofs.Common.{◌∙◌, refl, inl, inr, arith}
+use Rattle.std.proofs.lemmas.Bool.{lt-ltb, or_left, or_right, or_cases, and_from, and_parts, not_from_false}
+use Rattle.std.proofs.lemmas.Bool.{false_from_ne_true, not-false, not-true}
+use Rattle.{std.proofs.lemmas.Option.none-some, mesh_laws.proofs.Chains.manifold_law, mesh_laws.proofs.Flood.all_below}
 use Rattle.def_mesh.specs.Darts.{darts, all_darts, from_of, to_of, next_of, prev_of, twin_of}
-use Rattle.def_mesh.specs.{Faces.Faces, Manifold.IsManifold, Vertices.faces_at, Vertices.vertex_count, Kinds.is_end}
-use Rattle.def_mesh.specs.{Kinds.is_inner, Kinds.is_regular, Kinds.is_singular, Kinds.is_reflex, Components.seeds}
-use Rattle.def_mesh.specs.{Components.is_start, Components.start_darts, HalfEdges.IsQuadManifold, HalfEdges.half_edges}
-use Rattle.mesh_laws.proofs.{Chains.manifold_law, Flood.all_below}
+use Rattle.def_mesh.specs.{Faces.Faces, Manifold.IsManifold, Vertices.faces_at, Vertices.vertex_count, Kinds.is_inner}
+use Rattle.def_mesh.specs.{Kinds.is_regular, Kinds.is_singular, Kinds.is_reflex, Components.seeds, Components.is_start}
+use Rattle.def_mesh.specs.{Components.start_darts, HalfEdges.IsQuadManifold, HalfEdges.half_edges}
 use Rattle.face_laws.proofs.FullCuts.{inner_twin, regular_cross}
 use Rattle.motion_laws.proofs.Among.{cases_Option, not_all, range_among, range_apart, apart_filter}
 use Rattle.motion_laws.proofs.{Order.IsCourse, Bits.IsTerrain, Bits.IsStarted}
@@ -29,16 +28,7 @@ module _ (faces : Faces) (m : IsManifold faces) where
   -- And a boundary vertex has one.
   rim : (v : ℕ) → is_inner faces v ≡ false → (e : ℕ) × (e < darts faces) × (from_of faces e ≡ v)
       × ((twin_of faces e ≡ None) ⊎ (twin_of faces (prev_of e) ≡ None))
-  rim v off =
-      let (d, n, f) = not_all (λ d. not (is_end faces v d) || is_some (twin_of faces d)) (all_darts faces) off in
-      let p = or_parts (not (is_end faces v d)) (is_some (twin_of faces d)) f in
-      let low : d < darts faces = omega (arith, (range_among 0 (darts faces) d n).1) in
-      let alone : twin_of faces d ≡ None = elim (cases_Option (twin_of faces d))
-      [ inl w ↦ w | inr (t, w) ↦ absurd (false≢true (sym (rw w at p.1))) ] in
-      elim (or_cases (eqb (from_of faces d) v) _ (not-false (is_end faces v d) p.0)) [
-        | inl e ↦ (d, low, eqb-true _ _ e, inl alone)
-        | inr e ↦ (next_of d, laws.next_low d low, eqb-true _ _ e, inr (ap (twin_of faces) (laws.prev_next d) ∙ alone))
-      ]
+  rim v off = search (rules, not_all, range_among)
 
   pub terrain : IsTerrain (terrain_of faces)
   terrain = record {

@@ -1,12 +1,11 @@
 -- The darts round a vertex, and that each component of a manifold list has a source: a start dart, or a vertex with one
 -- face.
-use Rattle.std.proofs.Common.{◌≡◌, ℕ, zero, suc, ◌+◌, ◌*◌, ◌/◌, ◌<◌, ◌≤◌, Bool, true, false, cond, eqb, ◌&&◌, ◌||◌}
+use Rattle.std.proofs.Common.{rules, ◌≡◌, ℕ, zero, suc, ◌*◌, ◌/◌, ◌<◌, ◌≤◌, Bool, true, false, cond, eqb, ◌&&◌, ◌||◌}
 use Rattle.std.proofs.Common.{List, [], ◌∷◌, length, is_some, sym, subst, ap, ◌∙◌, refl, inl, inr, arith, ◌≢◌, ◌⊎◌}
 use Rattle.std.proofs.Common.{get_or, Some, None}
-use Rattle.std.proofs.lemmas.Bool.{cases_Bool, cases_lt, eq-eqb, eqb-true, eqb-false, lt-ltb, or_left, or_right}
-use Rattle.std.proofs.lemmas.Bool.{and_from, and_parts, not_from_false, false≢true, cases_eq}
-use Rattle.std.proofs.lemmas.Option.{same_Some}
-use Rattle.std.specs.List.{list_any, range_with_len}
+use Rattle.std.proofs.lemmas.Bool.{cases_Bool, cases_lt, eq-eqb, eqb-false, lt-ltb, or_left, or_right, and_from}
+use Rattle.std.proofs.lemmas.Bool.{not_from_false, false≢true, cases_eq}
+use Rattle.std.{proofs.lemmas.Option.same_Some, specs.List.list_any, specs.List.range_with_len}
 use Rattle.def_mesh.specs.Darts.{darts, all_darts, from_of, is_reverse, next_of, prev_of, twin_of}
 use Rattle.def_mesh.specs.Components.{share_edge, is_marked, component_of, least_face, least_faces, vertices_in}
 use Rattle.def_mesh.specs.Components.{is_ring, is_first, is_seed_in, seeds, is_start, start_darts}
@@ -45,7 +44,7 @@ module _ (mesh : HalfEdges) (laws : IsQuadManifold mesh) where
   joins_turns d e (suc n) l t =
       let c = t.0 in
       let j = joins_turns d c n l t.1 in
-      let last : Joins mesh c (mesh.prev c) 3 = rw (prev_three mesh laws c)
+      let last : Joins mesh c (mesh.prev c) 3 = rw (prev_three laws c)
       (mesh.next (mesh.next c), (mesh.next c, (c, refl, inl refl), inl refl), inl refl) in
       elim t.3 [
         | inl w ↦
@@ -72,7 +71,7 @@ module _ (mesh : HalfEdges) (laws : IsQuadManifold mesh) where
                 e,
                 mesh.prev c,
                 t.2,
-                turn_from mesh laws c e low w ∙ ap mesh.from (sym same),
+                turn_from laws c e low w ∙ ap mesh.from (sym same),
                 laws.twin_twin (mesh.prev c) e (laws.prev_low c low) w,
               )
               | inr w ↦
@@ -87,7 +86,7 @@ module _ (faces : Faces) (laws : IsQuadManifold (half_edges faces)) where
   over d t l w = (
     laws.next_low t (laws.twin_low d t l w),
     (laws.twin_ends d t l w).1,
-    λ e. no_fix (half_edges faces) laws d l (ap (twin_of faces) (sym (ap prev_of e) ∙ laws.prev_next t)
+    λ e. no_fix laws d l (ap (twin_of faces) (sym (ap prev_of e) ∙ laws.prev_next t)
         ∙ laws.twin_twin d t l w),
   )
 
@@ -99,8 +98,8 @@ module _ (faces : Faces) (laws : IsQuadManifold (half_edges faces)) where
         [ inl w ↦ w | inr (t, w) ↦ let o = over d t l w in absurd (two (next_of t) o.0 o.1 o.2) ],
     elim (cases_Option (twin_of faces (prev_of d))) [
       | inl w ↦ w
-      | inr (y, w) ↦ absurd (two y (turn_low (half_edges faces) laws d y l w)
-          (turn_from (half_edges faces) laws d y l w) (λ e. no_fix (half_edges faces) laws d l (w ∙ ap Some e)))
+      | inr (y, w) ↦ absurd (two y (turn_low laws d y l w)
+          (turn_from laws d y l w) (λ e. no_fix laws d l (w ∙ ap Some e)))
     ],
   )
     where
@@ -213,16 +212,11 @@ joins_spin mesh (suc k) x = (spin mesh k x, joins_spin mesh k x, inl refl)
 -- Among the starts.
 pub start_in : (faces : Faces) (e : ℕ) → e < darts faces → is_start faces (seeds faces) e ≡ true
     → is_among e (start_darts faces) ≡ true
-start_in faces e l s = in_filter (is_start faces (seeds faces)) e (all_darts faces)
-    (among_range 0 (darts faces) e (omega arith) (omega arith)) s
+start_in faces e l s = search (rules, in_filter, among_range)
 
 pub start_of : (faces : Faces) (e : ℕ) → is_among e (start_darts faces) ≡ true → (e < darts faces)
     × (is_start faces (seeds faces) e ≡ true)
-start_of faces e m =
-    let f : (is_among e (all_darts faces) ≡ true) × (is_start faces (seeds faces) e ≡ true) =
-    from_filter (is_start faces (seeds faces)) e (all_darts faces) m in
-    let r : (0 ≤ e) × (e < 0 + darts faces) = range_among 0 (darts faces) e f.0 in
-    (omega (arith, r.1), f.1)
+start_of faces e m = search (rules, from_filter, range_among)
 
 module _ (faces : Faces) (m : IsManifold faces) where
   abbrev mesh : HalfEdges
@@ -292,19 +286,14 @@ module _ (faces : Faces) (m : IsManifold faces) where
     marks = component_of faces (least_face faces (d / 4))
 
     marks_are : component_of faces (least_face faces (d / 4)) ≡ component_of faces (d / 4)
-    marks_are = same_component faces (d / 4) least f_low (least_low faces (d / 4) f_low)
-        (least_marked faces (d / 4) f_low)
+    marks_are = search (rules, same_component, f_low, least_low, least_marked)
 
     abbrev is_own : (v e : ℕ) → Bool
     is_own v e = eqb (from_of faces e) v && is_marked marks (e / 4)
 
     at_vertex : (v : ℕ) → is_among v (vertices_in faces marks) ≡ true → (e : ℕ) × (e < darts faces)
         × (from_of faces e ≡ v) × (is_marked marks (e / 4) ≡ true)
-    at_vertex v k =
-        let t = from_filter (λ u. list_any (is_own u) (all_darts faces)) v (all_vertices faces) k in
-        let r = range_any (is_own v) 0 (darts faces) t.1 in
-        let p = and_parts (eqb (from_of faces r.0) v) (is_marked marks (r.0 / 4)) r.3 in
-        (r.0, omega (arith, r.2), eqb-true _ _ p.0, p.1)
+    at_vertex v k = search (rules, from_filter, range_any)
 
     own_vertex : is_among (from_of faces d) (vertices_in faces marks) ≡ true
     own_vertex = in_filter (λ u. list_any (is_own u) (all_darts faces)) (from_of faces d) (all_vertices faces)
@@ -338,12 +327,7 @@ module _ (faces : Faces) (m : IsManifold faces) where
     -- A regular vertex that is a seed.
     seeded : (e : ℕ) → e < darts faces → is_regular faces (from_of faces e) ≡ true
         → is_among (from_of faces e) (seeds faces) ≡ true → HasSource e
-    seeded e le regular k =
-        let at : (b : Bool) → faces_at faces (from_of faces e) ≡ cond b 4 2 → 2 ≤ faces_at faces (from_of faces e) =
-        elim [ true ↦ λ s. omega arith | false ↦ λ s. omega arith ] in
-        source_at e le (at (is_inner faces (from_of faces e)) (eqb-true _ _ regular))
-        (or_right (is_reflex faces (from_of faces e)) _ (any_at (λ v. eqb v (from_of faces e)) (from_of faces e)
-        (seeds faces) k (eq-eqb _ _ refl)))
+    seeded e le regular k = search (rules, source_at)
 
     ring : is_ring faces marks ≡ true → HasSource d
     ring all = at (vertices_in faces marks) refl

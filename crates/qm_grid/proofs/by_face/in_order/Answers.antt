@@ -1,14 +1,8 @@
 use Rattle.std.proofs.Common.{ℕ, ◌<◌, ◌||◌, false, List, [], ◌∷◌, map, length, get_or, ap, ◌∙◌, arith}
-use Rattle.std.proofs.lemmas.List.{map-append}
+use Rattle.{std.proofs.lemmas.List.map-append, def_cut.specs.Grids.rectangle, qm_grid.specs.Heads.lies_in}
 use Rattle.qm_grid.proofs.by_face.in_order.Goals.{then-not-seen-f+in_ok-patch+in_ok-push, else-not-seen-f}
 use Rattle.qm_grid.proofs.{Laid.cells_low, Found.found_skip, Found.found_more, Found.found_done}
-use Rattle.{def_cut.specs.Grids.rectangle, qm_grid.specs.Heads.lies_in}
 use Rattle.qm_grid.proofs.by_face.in_order.Goals as goal
-
-pub grid-requires : goal.grid-requires
-grid-requires c = record {
-  corner = (c.requires.heads c.loop-f.f (omega (arith, c.loop-f-test.true, c.requires.long))).corner;
-}
 
 pub mark-requires : goal.mark-requires
 mark-requires c =

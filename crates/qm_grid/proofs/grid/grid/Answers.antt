@@ -30,7 +30,7 @@ loop-h-preserved c =
       at = c.north-start.ensures.value ∙ (ap (step_north mesh) i.at ∙ ap (norths mesh c.args.corner) n);
       low = c.north-start.ensures.dart;
       west = ap (λ x. cut (prev_of x)) c.north-start.ensures.value
-          ∙ west_on mesh f.laws cut f.full c.loop-h.start i.low i.west off;
+          ∙ west_on f.laws f.full c.loop-h.start i.low i.west off;
       inside = below_next (λ k. cut (next_of (next_of (norths mesh c.args.corner k))) ≡ false) c.loop-h.h i.inside
           (ap (λ x. cut (next_of (next_of x))) (sym i.at) ∙ off);
       listed = grid_listed f.laws f.full i.at c.in_ok-w.ensures.row i.inside i.listed c.in_ok-w.ensures.cells;
@@ -39,5 +39,5 @@ loop-h-preserved c =
 pub unreachable-requires : goal.unreachable-requires
 unreachable-requires c =
     let f = c.is_full.ensures in
-    endless_north _ f.laws _ f.full c.args.corner c.requires.corner.0 c.requires.corner.1
+    endless_north f.laws f.full c.args.corner c.requires.corner.0 c.requires.corner.1
     (λ k l. c.loop-h.invariant.inside k (omega (arith, f.long, c.loop-h-test.false)))

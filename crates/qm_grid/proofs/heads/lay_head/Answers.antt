@@ -1,9 +1,8 @@
-use Rattle.std.proofs.Common.{ℕ, get_or, ap, sym, ◌∙◌, arith, cond, List}
+use Rattle.std.proofs.Common.{rules, ℕ, get_or, ap, sym, ◌∙◌, cond, List}
 use Rattle.std.proofs.lemmas.Bool.{false≢true}
-use Rattle.qm_grid.specs.{Heads.lies_in}
+use Rattle.qm_grid.{specs.Heads.lies_in, proofs.heads.lay_head.Goals.then-not-is_corner-via-then-not-is_corner}
+use Rattle.qm_grid.{proofs.heads.lay_head.Goals.then-not-is_corner-via-else-not-is_corner+then-heads-d}
 use Rattle.qm_grid.proofs.{Laid.cells_low, HeadTables.heads_skip, HeadTables.heads_more}
-use Rattle.qm_grid.proofs.heads.lay_head.Goals.{then-not-is_corner-via-then-not-is_corner}
-use Rattle.qm_grid.proofs.heads.lay_head.Goals.{then-not-is_corner-via-else-not-is_corner+then-heads-d}
 use Rattle.qm_grid.proofs.heads.lay_head.Goals as goal
 
 pub returns-then-not-is_corner : goal.returns-then-not-is_corner
@@ -17,10 +16,7 @@ returns-then-not-is_corner c = record {
 }
 
 pub set_heads-requires : goal.set_heads-requires
-set_heads-requires c =
-    let low = rw (← (c.deref.ensures.value ∙ c.in_ok-patch.ensures.cells)) at
-    (cells_low c.is_full.ensures (c.is_corner.ensures.0 c.if-not-is_corner.false) c.in_ok-patch.ensures.grown) in
-    λ k l. omega (arith, low k l, c.requires.so_far.long)
+set_heads-requires c = search (rules, cells_low)
 
 pub returns : goal.returns
 returns c =

@@ -8,7 +8,7 @@ index_mut-requires c =
     let f = c.is_full.ensures in
     let seam = c.in-Some.ensures.found in
     let low : c.in-Some.seam.name < darts c.args.cut.now.faces =
-    on_low _ f.laws _ f.full _ _ _ seam.joinable.glued _ seam.named.on in
+    on_low f.laws f.full seam.joinable.glued _ seam.named.on in
     let room : length c.args.links.now.starts.items ≡ darts c.args.cut.now.faces = c.requires.tied.starts.0 in
     search (low, room, arith)
 
@@ -19,7 +19,7 @@ returns-in_ok-insert-clause-tied c =
     record {
       linked = c.requires.tied.linked;
       starts = starts_set c.args.links.now.starts.items (darts c.args.cut.now.faces) c.in-Some.seam.name c.args.s
-          c.requires.tied.starts (on_low _ f.laws _ f.full _ _ _ seam.joinable.glued _ seam.named.on) c.requires.dart;
+          c.requires.tied.starts (on_low f.laws f.full seam.joinable.glued _ seam.named.on) c.requires.dart;
     }
 
 pub returns-in_ok-insert-clause-few : goal.returns-in_ok-insert-clause-few
@@ -31,7 +31,7 @@ returns-in_ok-insert-clause-noted c =
     let seam = c.in-Some.ensures.found in
     noted_new f.laws f.full seam c.args.names.now c.insert.new.self c.args.links.now.starts.items
     c.in_ok-insert.ensures.updates
-    (omega (arith, c.requires.tied.starts.0, on_low _ f.laws _ f.full _ _ _ seam.joinable.glued _ seam.named.on))
+    (omega (arith, c.requires.tied.starts.0, on_low f.laws f.full seam.joinable.glued _ seam.named.on))
 
 pub returns-in_ok-insert-clause-kept : goal.returns-in_ok-insert-clause-kept
 returns-in_ok-insert-clause-kept c =
@@ -39,14 +39,14 @@ returns-in_ok-insert-clause-kept c =
     let seam = c.in-Some.ensures.found in
     noted_still f.laws f.full seam c.args.names.now c.insert.new.self c.args.links.now.starts.items
     c.in_ok-insert.ensures.updates
-    (omega (arith, c.requires.tied.starts.0, on_low _ f.laws _ f.full _ _ _ seam.joinable.glued _ seam.named.on))
+    (omega (arith, c.requires.tied.starts.0, on_low f.laws f.full seam.joinable.glued _ seam.named.on))
 
 pub returns-in_ok-insert-clause-below : goal.returns-in_ok-insert-clause-below
 returns-in_ok-insert-clause-below c =
     let f = c.is_full.ensures in
     let seam = c.in-Some.ensures.found in
     put_below c.args.names.now c.insert.new.self c.in-Some.seam.name c.in_ok-insert.ensures.updates _
-    (on_low _ f.laws _ f.full _ _ _ seam.joinable.glued _ seam.named.on)
+    (on_low f.laws f.full seam.joinable.glued _ seam.named.on)
 
 pub returns-in_default-clause-noted : goal.returns-in_default-clause-noted
 returns-in_default-clause-noted c = λ t n name arc named. absurd (c.in_default.ensures.none t n arc)
