@@ -1,7 +1,7 @@
 -- The darts of a graph are darts: they come in pairs and begin at vertices.
-use Rattle.std.proofs.Common.{◌≡◌, ◌≢◌, ℕ, ◌+◌, ◌-◌, ◌*◌, ◌/◌, ◌%◌, eqb, refl, ◌∙◌, ap, arith, ◌<◌, ◌≤◌, Bool, true}
-use Rattle.std.proofs.Common.{not, cond, List, [], ◌∷◌, map, length, ℤ, pos, ◌+ℤ◌, ◌*ℤ◌, ◌≤ℤ◌, sym, inl, inr}
-use Rattle.std.proofs.lemmas.Bool.{cond-true, cond-false, eq-eqb, ne_eqb, cases_eq, cases_lt, eqb-true}
+use Rattle.std.proofs.Common.{rules, ◌≡◌, ◌≢◌, ℕ, ◌+◌, ◌-◌, ◌*◌, ◌/◌, ◌%◌, eqb, refl, ◌∙◌, ap, arith, ◌<◌, ◌≤◌, Bool}
+use Rattle.std.proofs.Common.{true, not, cond, List, [], ◌∷◌, map, length, ℤ, pos, ◌+ℤ◌, ◌*ℤ◌, ◌≤ℤ◌, inl, inr}
+use Rattle.std.proofs.lemmas.Bool.{cond-true, cond-false, eq-eqb, ne_eqb, cases_eq, cases_lt}
 use Rattle.std.proofs.lemmas.Int.{ints}
 use Rattle.def_matching.specs.Matching.{WeightedGraph, IsGraph, edge_at, ends_at, IsPerfect, matching_cost}
 use Rattle.def_matching.specs.{Dual.crosses, declared.weighted.WEdge.WEdge}
@@ -63,11 +63,7 @@ module _ {g : WeightedGraph} (is : IsGraph g) {f : Forest} (vertices : g.n ≤ f
   -- An edge that leaves a vertex ends there.
   pub leaves_vertex : (v k : ℕ) → v < g.n → k < length g.edges
       → ◌≡◌ {A = ℕ} (cond (crosses (f.holds v) (edge_at g k)) 1 0) (ends_at v (edge_at g k))
-  leaves_vertex v k lv lk =
-      let u = (edge_at g k).u in
-      let w = (edge_at g k).v in
-      rw (nested.alone v u lv (is.left k lk), nested.alone v w lv (is.right k lk), eqb_order v u, eqb_order v w)
-      (one_of (eqb u v) (eqb w v) (λ p q. is.apart k lk (eqb-true u v p ∙ sym (eqb-true w v q))))
+  leaves_vertex v k lv lk = search rules
 
   pub counts_vertex : (v low : ℕ) (m : List ℕ) → v < g.n → IsIncreasing low (length g.edges) m
       → count (λ (e : WEdge). cond (crosses (f.holds v) e) 1 0) (map (edge_at g) m)

@@ -1,17 +1,16 @@
 -- Two climbers from two blossoms of the tree, the lower of whom waits, meet where the ways first meet; and from there
 -- the ring that an edge between two outer blossoms closes is read off.
-use Rattle.std.proofs.Common.{◌≡◌, ◌≢◌, ℕ, zero, suc, ◌+◌, ◌-◌, ◌*◌, ◌/◌, ◌<◌, ◌≤◌, Bool, true, Some, ◌⊎◌, refl, sym}
-use Rattle.std.proofs.Common.{◌∙◌, ap, subst, inl, inr, arith}
+use Rattle.std.proofs.Common.{rules, ◌≡◌, ◌≢◌, ℕ, zero, suc, ◌+◌, ◌-◌, ◌*◌, ◌/◌, ◌<◌, ◌≤◌, Bool, true, Some, ◌⊎◌, refl}
+use Rattle.std.proofs.Common.{sym, ◌∙◌, ap, subst, inl, inr, arith}
 use Rattle.std.proofs.lemmas.Bool.{cases_eq, cases_lt, cond-true, cond-false, eq-eqb, ne_eqb, lt-ltb, le-ltb}
 use Rattle.def_forest.specs.declared.kinds.Label.TheVariants.{Outer, Inner, Outside}
 use Rattle.def_forest.specs.{Darts.Darts, Darts.AreDarts, Darts.far, Forests.Forest, Forests.IsTight, Forests.walk}
 use Rattle.def_forest.specs.{Shrunk.IsCycle, Shrunk.IsClosedRow, Valid.IsValid, Valid.IsTree, Ways.dart_or}
 use Rattle.forest_laws.specs.Climbing.{rise_of, above_of, level_of, way_of, IsClimbing, ring_at, ring_dart}
-use Rattle.forest_laws.specs.Walks.{listed}
+use Rattle.forest_laws.{specs.Walks.listed, proofs.Grows.far_twin, proofs.Grows.tight_twin, proofs.Grows.outer_named}
 use Rattle.forest_laws.proofs.Levels.{tree_cases, level_zero, root_level, on_way, way_step, way_depth, way_differs}
 use Rattle.forest_laws.proofs.Levels.{come_from, outer_even, outer_above}
 use Rattle.forest_laws.proofs.Walks.{walk_sum, listed_place, listed_off, listed_closed, listed_sum}
-use Rattle.forest_laws.proofs.Grows.{far_twin, tight_twin, outer_named}
 
 -- The two climbers may change places.
 pub swapped : {g : Darts} {f : Forest} {a c x y i j : ℕ} → IsClimbing g f a c x y i j → IsClimbing g f c a y x j i
@@ -86,13 +85,8 @@ module _ {g : Darts} {f : Forest} {r start top left right : ℕ} (fork : Fork g 
   below : (b i n : ℕ) → f.label b ≡ Outer → i ≤ n → n ≤ level b → top ≡ way b n → IsBelow (way b i)
   below b i n outer li ln e =
       let here = on b i outer (omega arith) in
-      let more : i + (n - i) ≡ n = omega arith in
-      let last = sym (walk_sum (above_of g f) b i (n - i)) ∙ ap (way b) more ∙ sym e in
-      record {
-        named = here.0;
-        level = omega (arith, here.1, (on b n outer ln).1, ap level e);
-        depth = rw last at (way_depth are valid tree (way b i) (n - i) here.0 (omega (arith, here.1)));
-      }
+      let last = walk_sum (above_of g f) b i (n - i) in
+      search (rules, on b n outer ln, way_depth are valid tree (way b i) (n - i))
 
   on_left : (i : ℕ) → i ≤ left → IsBelow (way a i)
   on_left i l = below a i left outer_a l met.x_low met.x_is
@@ -106,7 +100,7 @@ module _ {g : Darts} {f : Forest} {r start top left right : ℕ} (fork : Fork g 
     | inl outer ↦ outer
     | inr inner ↦ (let i = from a left outer_a met.x_low met.x_is inner in
         let j = from c right outer_c met.y_low met.y_is inner in
-        absurd (omega (arith, i.1, met.left i.0 j.0 (omega (arith, i.1)) (omega (arith, j.1)) (sym i.2 ∙ j.2))))
+        search (rules, i, j, met.left))
   ]
     where
       from : (b n : ℕ) → f.label b ≡ Outer → n ≤ level b → top ≡ way b n → (inner : f.label top ≡ Inner)
@@ -140,8 +134,7 @@ module _ {g : Darts} {f : Forest} {r start top left right : ℕ} (fork : Fork g 
 
   -- The two ways differ but for where they meet, and each goes past different places.
   pub ways_differ : (i m : ℕ) → i ≤ left → m < right → way c m ≢ way a i
-  ways_differ i m li lm e = (let h = met.right i m (omega (arith, met.x_low)) (omega (arith, met.y_low)) (sym e) in
-      omega arith)
+  ways_differ i m li lm e = search rules
 
   pub left_differs : (i j : ℕ) → i < j → j ≤ left → way a i ≢ way a j
   left_differs i j lij lj e = (let same = way_differs are valid tree a i j (outer_named outer_a)
@@ -188,16 +181,7 @@ module _ {g : Darts} {f : Forest} {r start top left right : ℕ} (fork : Fork g 
 
   -- The places are different.
   at_distinct : (i j : ℕ) → i < j → j < many → at i ≢ at j
-  at_distinct i j lij lj e = by_sides (side i) (side j)
-    where
-      by_sides : Side i → Side j → ⊥
-      by_sides (down m em) (down n en) =
-          left_differs n m (omega arith) (omega arith) (sym (at_down j n en) ∙ sym e ∙ at_down i m em)
-      by_sides (down m em) (up n en) =
-          ways_differ m n (omega arith) (omega arith) (sym (at_right j n en) ∙ sym e ∙ at_down i m em)
-      by_sides (up m em) (down n en) = omega arith
-      by_sides (up m em) (up n en) =
-          right_differs m n (omega arith) (omega arith) (sym (at_right i m em) ∙ e ∙ at_right j n en)
+  at_distinct i j lij lj e = search (rules, left_differs, ways_differ, right_differs)
 
   -- The darts between them.
   abbrev dart : ℕ → ℕ
@@ -226,18 +210,13 @@ module _ {g : Darts} {f : Forest} {r start top left right : ℕ} (fork : Fork g 
     | down zero e ↦ rw (dart_over {k = k} (omega arith))
         (tight, sym (at_down k 0 (omega arith)), sym (at_right (suc k) 0 (omega arith)))
     | down (suc m) e ↦ (let step = way_step are valid tree a m (outer_named outer_a) (omega (arith, met.x_low)) in
-        let back = ap f.out (far_twin are (dart_or (rise_of f (way a m)))) in
-        rw (dart_down k m e) (
-          tight_twin are step.tight,
-          step.there ∙ sym (at_down k (suc m) e),
-          back ∙ step.here ∙ sym (at_down (suc k) m (omega arith)),
-        ))
+        let twin = tight_twin are step.tight in let here = at_down k (suc m) e in
+        let next = at_down (suc k) m (omega arith) in
+        rw (dart_down k m e) (search (rules, far_twin)))
     | up m e ↦ (let step = way_step are valid tree c m (outer_named outer_c) (omega (arith, met.y_low)) in
-        rw (dart_right m e) (
-          step.tight,
-          step.here ∙ sym (at_right k m e),
-          step.there ∙ sym (at_right (suc k) (suc m) (omega arith)),
-        ))
+        let dart = dart_right m e in let here = at_right k m e in
+        let next = at_right (suc k) (suc m) (omega arith) in
+        search rules)
   ]
 
   -- Tables that have the ring.
@@ -255,8 +234,7 @@ module _ {g : Darts} {f : Forest} {r start top left right : ℕ} (fork : Fork g 
 
     -- What is marked stands at a place.
     marked_at : (x : ℕ) → inside x ≡ true → (k : ℕ) × (k < many) × (at k ≡ x)
-    marked_at x on = let w = listed_place after top many x on in
-        (w.0, w.1, sym (walks w.0 (omega (arith, w.1))) ∙ w.2)
+    marked_at x on = search (rules, listed_place, walks)
 
     at_marked : (k : ℕ) → k ≤ many → inside (at k) ≡ true
     at_marked k l = subst (λ x. inside x ≡ true) (walks k l) (listed_closed after many (omega arith) closed k)
@@ -266,8 +244,7 @@ module _ {g : Darts} {f : Forest} {r start top left right : ℕ} (fork : Fork g 
         rw (← w.2, joints w.0 w.1, afters w.0 w.1) (ring_joins w.0 w.1)
 
     walk_distinct : (i j : ℕ) → i < j → j < many → walk after top i ≢ walk after top j
-    walk_distinct i j lij lj e =
-        at_distinct i j lij lj (sym (walks i (omega (arith, lij, lj))) ∙ e ∙ walks j (omega (arith, lj)))
+    walk_distinct i j lij lj e = search (rules, at_distinct, walks)
 
     pub closed_row : IsClosedRow g f after joint inside top (left + right + 1)
     closed_row = record {
@@ -304,10 +281,8 @@ module _ {g : Darts} {f : Forest} {r start top left right : ℕ} (fork : Fork g 
       mate_inside : x ≢ top → (k : ℕ) × (k < many) × (at k ≡ x) → inside (f.out (far g d)) ≡ true
       mate_inside not_top (k, l, e) = elim (side k) [
         | down i s ↦ mate_on_way a left i outer_a met.x_low (λ i l. ap inside (sym (at_down (left - i) i
-            (omega (arith, l)))) ∙ at_marked (left - i) (omega arith)) (elim (cases_eq k 0) [
-              | inl z ↦ absurd (not_top (sym e ∙ ap at z ∙ at_first))
-              | inr nz ↦ omega arith
-            ]) (sym (at_down k i s) ∙ e)
+            (omega (arith, l)))) ∙ at_marked (left - i) (omega arith)) (search (rules, cases_eq k 0, at_first))
+            (sym (at_down k i s) ∙ e)
         | up m s ↦ mate_on_way c right m outer_c met.y_low
             (λ i l. ap inside (sym (at_right (left + 1 + i) i refl)) ∙ at_marked (left + 1 + i) (omega (arith, l)))
             (omega arith) (sym (at_right k m s) ∙ e)

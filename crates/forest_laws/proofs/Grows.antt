@@ -1,12 +1,11 @@
 -- A function with another value at one place; cases on labels; tests as terms of sums.
 use Rattle.std.proofs.Common.{◌∙◌, sym, ◌≡◌, ◌≢◌, ℕ, Bool, true, false, not, cond, eqb, Option, Some, None, ℤ, pos}
 use Rattle.std.proofs.Common.{◌+ℤ◌, ◌⊎◌, refl, inl, inr, arith, ◌<◌, ap, suc, ◌≤◌, rules}
-use Rattle.std.proofs.lemmas.Bool.{cond-true, cond-false, eq-eqb, ne_eqb, cases_eq}
-use Rattle.std.proofs.lemmas.Int.{ints}
+use Rattle.std.proofs.lemmas.{Bool.cond-true, Bool.cond-false, Bool.eq-eqb, Bool.ne_eqb, Bool.cases_eq, Int.ints}
 use Rattle.def_forest.specs.Forests.{set_at, Forest, weight_between, splits, IsTight, IsOutermost}
 use Rattle.def_forest.specs.declared.kinds.Label.TheVariants.{Outer, Inner, Outside}
 use Rattle.def_forest.specs.Valid.{AreOutermost, IsFeasible, IsMatched, IsNested, IsTree, IsValid, KeepsOutside}
-use Rattle.def_forest.specs.Valid.{IsJoint, IsMate, IsInner}
+use Rattle.def_forest.specs.Valid.{IsJoint, IsMate, IsInner, IsOuter}
 use Rattle.def_forest.specs.{declared.kinds.Label.Label, Steps.weight_change, Steps.shifted, Steps.rooted, Steps.grown}
 use Rattle.def_forest.specs.{Darts.Darts, Darts.AreDarts, Darts.far, Ways.Reaches}
 use Rattle.def_math.specs.Sums.{total_below}
@@ -30,14 +29,10 @@ option_cases (Some d) = inr (d, refl)
 
 -- A blossom is outside the tree or not.
 pub label_cases : (l : Label) → (l ≡ Outside) ⊎ (l ≢ Outside)
-label_cases Outside = inl refl
-label_cases Outer = inr (λ e. cc e)
-label_cases Inner = inr (λ e. cc e)
+label_cases l = search rules
 
 pub label_is : (l : Label) → (l ≡ Outer) ⊎ ((l ≡ Inner) ⊎ (l ≡ Outside))
-label_is Outer = inl refl
-label_is Inner = inr (inl refl)
-label_is Outside = inr (inr refl)
+label_is l = search rules
 
 -- The labels differ.
 pub outer_named : {l : Label} → l ≡ Outer → l ≢ Outside
@@ -71,8 +66,7 @@ true_false on off = let h : true ≡ false = sym on ∙ off in cc
 
 -- A load is the same in both directions.
 pub load_order : (f : Forest) (u v : ℕ) → weight_between f u v ≡ weight_between f v u
-load_order f u v = total_below_same _ _ f.size
-    (λ b l. grind arith)
+load_order f u v = search rules
 
 -- A load with more weight.
 pub load_sum : (f : Forest) (more : ℕ → ℤ) (u v : ℕ) → weight_between (record f { weight = λ b. f.weight b +ℤ more b })
@@ -127,14 +121,8 @@ pub load_apart : {n : ℕ} {f : Forest} → AreOutermost n f → (t : ℤ) (u v 
     ≡ weight_between f u v +ℤ (weight_change (f.label (f.out u)) t +ℤ weight_change (f.label (f.out v)) t)
 load_apart {n} {f} top t u v lu lv ne =
     let there : AreOutermost n (shifted f t) = assumption in
-    omega (
-      arith,
-      ints,
-      load_across there u v lu lv ne,
-      load_across top u v lu lv ne,
-      potential_shifted top t u lu,
-      potential_shifted top t v lv,
-    )
+    let before = load_across top u v lu lv ne in
+    omega (arith, ints, load_across there u v lu lv ne, potential_shifted top t u lu, potential_shifted top t v lv)
 
 -- What follows at once from a forest's validity.
 
@@ -148,46 +136,45 @@ far_twin {g} are d = ap g.near (are.twin_twin d)
 
 -- The twin of a tight dart is tight.
 pub tight_twin : {g : Darts} → AreDarts g → {f : Forest} {d : ℕ} → IsTight g f d → IsTight g f (g.twin d)
-tight_twin {g} are {f} {d} tight = record {
-  low = are.twin_low d tight.low;
-  exact = ap (weight_between f (far g d)) (far_twin are d)
-      ∙ (load_order f (far g d) (g.near d) ∙ (tight.exact ∙ sym (ap (λ x. x +ℤ x) (are.cost_twin d))));
-}
+tight_twin {g} are {f} {d} tight = search rules
 
--- A forest with a tree is valid where all its parts are in order.
-pub tree_valid : {g : Darts} {f : Forest} {r : ℕ} → AreOutermost g.n f → IsNested g f → IsFeasible g f → IsMatched g f
-    → IsTree g f r → KeepsOutside g f → IsValid g f (Some r)
-tree_valid {g} {f} {r} outermost nested feasible matched tree outside =
-    let trees : (x : ℕ) → ◌≡◌ {A = Option ℕ} (Some r) (Some x) → IsTree g f x =
-    λ x e. rw (← some_is r x e) tree in
-    let none : ◌≡◌ {A = Option ℕ} (Some r) None → (b : ℕ) → f.label b ≡ Outside = λ e. absurd cc in
-    assumption
+-- What is in order at each blossom of a valid forest with a tree: its mate, and where it stands.
+pub record IsInOrder (g : Darts) (f : Forest) (r : ℕ) (depth : ℕ → ℕ) (b : ℕ) : Type 0 where
+  pub matched : (d : ℕ) → f.mate b ≡ Some d → IsMate g f b d
+  pub inner : f.label b ≡ Inner → IsInner g f depth b
+  pub outer : f.label b ≡ Outer → IsOuter g f r b
+  pub outside : (d : ℕ) → f.label b ≡ Outside → f.mate b ≡ Some d → f.label (f.out (far g d)) ≡ Outside
+
+-- A forest with a tree is valid where its root is free and each blossom is in order.
+pub tree_valid : {g : Darts} {f : Forest} {r : ℕ} (depth : ℕ → ℕ) → AreOutermost g.n f → IsNested g f → IsFeasible g f
+    → f.label r ≡ Outer → f.mate r ≡ None → ((b : ℕ) → IsInOrder g f r depth b) → IsValid g f (Some r)
+tree_valid {g} {f} {r} depth outermost nested feasible root_outer root_free order =
+    let tree : IsTree g f r = record {
+      depth = depth;
+      root_outer = root_outer;
+      root_free = root_free;
+      inner = λ b. (order b).inner;
+      outer = λ b. (order b).outer;
+    } in
+    let matched : IsMatched g f = λ b. (order b).matched in
+    let outside : KeepsOutside g f = λ b. (order b).outside in
+    search rules
 
 module _ {g : Darts} (are : AreDarts g) {f : Forest} {root : Option ℕ} (valid : IsValid g f root) where
   -- Where a blossom has a place in the tree there is one.
   pub tree_of : (b : ℕ) → f.label b ≢ Outside → (r : ℕ) × (root ≡ Some r) × IsTree g f r
-  tree_of b named = elim (option_cases root) [
-    | inl e ↦ absurd (named (valid.no_tree e b))
-    | inr w ↦ (w.0, w.1, valid.tree w.0 w.1)
-  ]
+  tree_of b named = search rules
 
   pub named_low : {b : ℕ} → f.label b ≢ Outside → b < f.size
   named_low {b} named = let w = valid.outermost.named b named in rw w.2 at (valid.outermost.out_low w.0 w.1)
 
   -- The mate of an inner blossom is outer.
   pub inner_mate : (b d : ℕ) → f.label b ≡ Inner → f.mate b ≡ Some d → f.label (f.out (far g d)) ≡ Outer
-  inner_mate b d label mate =
-      let w = tree_of b (λ off. cc) in
-      let is = w.2.inner b label in
-      rw (some_is d is.dart (sym mate ∙ is.mate)) is.child
+  inner_mate b d label mate = search (rules, tree_of)
 
   -- The mate of an outer blossom is inner.
   pub outer_mate : (b d : ℕ) → f.label b ≡ Outer → f.mate b ≡ Some d → f.label (f.out (far g d)) ≡ Inner
-  outer_mate b d label mate = let w = tree_of b (λ off. cc) in
-      elim (w.2.outer b label) [
-        | inl e ↦ absurd (cc w.2.root_free)
-        | inr is ↦ rw (some_is d is.0 (sym mate ∙ is.1)) is.2
-      ]
+  outer_mate b d label mate = search (rules, tree_of)
 
 -- A tree that begins, and a tree that grows, keep a forest valid.
 
@@ -200,15 +187,7 @@ module _ {g : Darts} {f : Forest} {weight : ℕ → ℤ} {label : ℕ → Label}
   pub nest_stays : IsNested g f → ((b : ℕ) → g.n ≤ b → f.nest.parts b ≡ 0 → weight b ≡ pos 0)
       → ((p : ℕ) → IsJoint g f p → IsTight g (replaced f weight label mate link) (f.nest.joint p))
       → IsNested g (replaced f weight label mate link)
-  nest_stays nested weightless tight = record {
-    alone = nested.alone;
-    rings = λ b high live. (let is = nested.rings b high live in search rules);
-    empty = nested.empty;
-    weightless = weightless;
-    live = nested.live;
-    joints = λ p inside. (let is = nested.joints p inside in
-        record { tight = tight p is; begins = is.begins; ends = is.ends; same = is.same });
-  }
+  nest_stays nested weightless tight = search rules
 
 pub same_outermost : {n : ℕ} {f : Forest} {weight : ℕ → ℤ} {label : ℕ → Label} {mate : ℕ → Option ℕ} {link : ℕ → ℕ}
     → AreOutermost n f → ((b : ℕ) → label b ≢ Outside → IsOutermost n f b)
@@ -234,22 +213,17 @@ own_matched matched b d is = let x = matched b d is in
 
 module _ {g : Darts} (are : AreDarts g) {f : Forest} (valid : IsValid g f None) (b : ℕ)
     (outermost : IsOutermost g.n f b) (free : f.mate b ≡ None) where
-  rooted_tree : IsTree g (rooted f b) b
-  rooted_tree = record {
-    depth = λ x. 0;
-    root_outer = set_here f.label b Outer;
-    root_free = free;
-    inner = λ x l. absurd (grind (arith, valid.no_tree refl x));
-    outer = λ x l. inl (grind (arith, valid.no_tree refl x));
-  }
-
   -- Where no tree stands, a blossom that is not matched may become the root.
   pub rooted_valid : IsValid g (rooted f b) (Some b)
-  rooted_valid = tree_valid (same_outermost valid.outermost (λ x some. elim (cases_eq x b) [
+  rooted_valid = tree_valid (λ x. 0) (same_outermost valid.outermost (λ x some. elim (cases_eq x b) [
     | inl e ↦ rw e outermost
     | inr ne ↦ absurd (some (set_there f.label b x Outer ne ∙ valid.no_tree refl x))
-  ])) (same_nested valid.nested) (same_feasible valid.feasible) (own_matched valid.matched) rooted_tree
-      (λ x d _ mate. grind (arith, (valid.matched x d mate).back, valid.no_tree refl (f.out (far g d))))
+  ])) (same_nested valid.nested) (same_feasible valid.feasible) (set_here f.label b Outer) free (λ x. record {
+    matched = own_matched valid.matched x;
+    inner = λ l. absurd (grind (arith, valid.no_tree refl x));
+    outer = λ l. inl (grind (arith, valid.no_tree refl x));
+    outside = λ d _ mate. grind (arith, (valid.matched x d mate).back, valid.no_tree refl (f.out (far g d)));
+  })
 
 module _ (g : Darts) (are : AreDarts g) (f : Forest) (r : ℕ) (valid : IsValid g f (Some r)) (d m : ℕ)
     (reach : Reaches g f d) (mate : f.mate (f.out (far g d)) ≡ Some m) where
@@ -299,19 +273,10 @@ module _ (g : Darts) (are : AreDarts g) (f : Forest) (r : ℕ) (valid : IsValid 
     is_other : x ≢ inn → x ≢ outer → labels x ≡ f.label x → Place x
 
   place : (x : ℕ) → Place x
-  place x = elim (cases_eq x outer) [
-    | inl e ↦ is_outer e (ap labels e ∙ renewed_outer f.label Inner Outer)
-    | inr nu ↦ elim (cases_eq x inn) [
-      | inl e ↦ is_inner e (ap labels e ∙ renewed_inner f.label Inner Outer)
-      | inr ni ↦ is_other ni nu (renewed_other f.label Inner Outer x ni nu)
-    ]
-  ]
-
-  outside : KeepsOutside g (grown g f d m)
-  outside x e l is = (let here = place x in
-      let there = place (f.out (far g e)) in
-      let mine = valid.matched x e is in
-      grind (arith, pair.here, pair.back, mate, are.twin_twin e, are.twin_twin m, valid.outside x e))
+  place x =
+      let at_outer = renewed_outer f.label Inner Outer in
+      let at_inner = renewed_inner f.label Inner Outer in
+      search (rules, cases_eq x outer, cases_eq x inn, at_outer, at_inner, renewed_other f.label Inner Outer x)
 
   module _ (tree : IsTree g f r) where
     abbrev deeper : ℕ
@@ -342,32 +307,17 @@ module _ (g : Darts) (are : AreDarts g) (f : Forest) (r : ℕ) (valid : IsValid 
         }
 
     old_inner : {x : ℕ} → f.label x ≡ Inner → IsInner g f tree.depth x → IsInner g (grown g f d m) depths x
-    old_inner {x} l is =
-        let link = set_there f.link inn x (g.twin d) (λ e. inner_named l (ap f.label e ∙ reach.off)) in
-        let up = depth_named (outer_named is.above) in
-        let own = depth_named (inner_named l) in
-        record {
-          tight = rw link (same_tight is.tight);
-          here = rw link is.here;
-          above = rw link (label_named (outer_named refl) is.above);
-          nearer = omega (arith, ap (λ y. depths (f.out (far g y))) link, up, own, is.nearer);
-          dart = is.dart;
-          mate = is.mate;
-          child = label_named (outer_named refl) is.child;
-          same = depth_named (outer_named is.child) ∙ is.same ∙ sym own;
-        }
+    old_inner {x} l is = search (rules, set_there, inner_named, depth_named, outer_named, same_tight, label_named, far)
 
-    grown_tree : IsTree g (grown g f d m) r
-    grown_tree = record {
-      depth = depths;
-      root_outer = label_named (outer_named refl) tree.root_outer;
-      root_free = tree.root_free;
-      inner = λ x l. elim (place x) [
+    in_order : (x : ℕ) → IsInOrder g (grown g f d m) r depths x
+    in_order x = record {
+      matched = own_matched valid.matched x;
+      inner = λ l. elim (place x) [
         | is_outer at label ↦ absurd cc
         | is_inner at label ↦ rw at new_inner
         | is_other _ _ same ↦ old_inner (sym same ∙ l) (tree.inner x (sym same ∙ l))
       ];
-      outer = λ x l. elim (place x) [
+      outer = λ l. elim (place x) [
         | is_outer at label ↦ (let inner = renewed_inner f.label Inner Outer in
             inr (g.twin m, ap f.mate at ∙ pair.back, ap labels (ap f.out (far_twin are m) ∙ pair.here) ∙ inner))
         | is_inner at label ↦ absurd cc
@@ -376,13 +326,18 @@ module _ (g : Darts) (are : AreDarts g) (f : Forest) (r : ℕ) (valid : IsValid 
           | inr is ↦ inr (is.0, is.1, label_named (inner_named refl) is.2)
         ]
       ];
+      outside = λ e l is. (let here = place x in
+          let there = place (f.out (far g e)) in
+          let mine = valid.matched x e is in
+          grind (arith, pair.here, pair.back, mate, are.twin_twin e, are.twin_twin m, valid.outside x e));
     }
 
   -- A tree that grows along a tight dart to a matched blossom outside keeps the forest valid.
   pub grown_valid : IsValid g (grown g f d m) (Some r)
-  grown_valid = tree_valid (same_outermost valid.outermost (λ x is. elim (place x) [
-    | is_outer e _ ↦ (far g m, far_low g are m pair.tight.low, sym e)
-    | is_inner e _ ↦ (far g d, far_low g are d reach.tight.low, sym e)
-    | is_other _ _ same ↦ valid.outermost.named x (λ off. is (same ∙ off))
-  ])) (same_nested valid.nested) (same_feasible valid.feasible) (own_matched valid.matched)
-      (grown_tree (valid.tree r refl)) outside
+  grown_valid =
+      let tree = valid.tree r refl in
+      let up = far_low g are m pair.tight.low in
+      let down = far_low g are d reach.tight.low in
+      tree_valid (depths tree) (same_outermost valid.outermost (λ x is. (let here = place x in
+      let old = valid.outermost.named x in search rules))) (same_nested valid.nested) (same_feasible valid.feasible)
+      (label_named (outer_named refl) tree.root_outer) tree.root_free (in_order tree)

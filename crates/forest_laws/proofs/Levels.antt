@@ -1,6 +1,6 @@
 -- Climbing the tree one blossom at a time: each step brings one a level nearer to the root, and so climbing ends.
-use Rattle.std.proofs.Common.{◌≡◌, ◌≢◌, ℕ, zero, suc, ◌+◌, ◌-◌, ◌*◌, ◌<◌, ◌≤◌, Some, None, ◌⊎◌, refl, sym, ◌∙◌, ap}
-use Rattle.std.proofs.Common.{subst, inl, inr, arith}
+use Rattle.std.proofs.Common.{rules, ◌≡◌, ◌≢◌, ℕ, zero, suc, ◌+◌, ◌-◌, ◌*◌, ◌<◌, ◌≤◌, Some, None, ◌⊎◌, sym, ◌∙◌, ap}
+use Rattle.std.proofs.Common.{inl, inr, arith}
 use Rattle.std.proofs.lemmas.Bool.{lt-ltb, le-ltb}
 use Rattle.sum_laws.proofs.{Sums.count_below_le, Sums.count_below_lt, Sums.count_below_ones, Tests.once_at_most}
 use Rattle.def_forest.specs.declared.kinds.Label.TheVariants.{Outer, Inner, Outside}
@@ -13,9 +13,7 @@ use Rattle.{std.specs.Prelude.nat_lt, def_math.specs.Counts.count_below}
 
 -- A blossom of the tree is outer or inner.
 pub tree_cases : (l : Label) → l ≢ Outside → (l ≡ Outer) ⊎ (l ≡ Inner)
-tree_cases Outer named = inl refl
-tree_cases Inner named = inr refl
-tree_cases Outside named = absurd (named refl)
+tree_cases l h1 = search rules
 
 -- What is less than a number is less than a greater one.
 less_more : (x : ℕ) {p a : ℕ} → p < a → bool_number (nat_lt x p) ≤ bool_number (nat_lt x a)
@@ -34,7 +32,7 @@ module _ {g : Darts} (are : AreDarts g) {f : Forest} {r : ℕ} (valid : IsValid 
     inner_tree = tree.inner (inner_of g f a) inner_label
 
     inner_back : f.mate (inner_of g f a) ≡ Some (g.twin d)
-    inner_back = ap f.mate inner_is ∙ (valid.matched a d mate).back
+    inner_back = search (rules, inner_is)
 
     inner_depth : tree.depth (inner_of g f a) ≡ tree.depth a
     inner_depth =
@@ -144,10 +142,7 @@ module _ {g : Darts} (are : AreDarts g) {f : Forest} {r : ℕ} (valid : IsValid 
 
   -- Where there is none one is at the root.
   pub at_root : (b : ℕ) → f.label b ≢ Outside → rise_of f b ≡ None → (b ≡ r) × (level b ≡ 0)
-  at_root b named rise =
-      let one : f.size + 1 ≡ suc f.size = omega arith in
-      let kind = tree_cases (f.label b) named in
-      grind (arith, at_outer b, at_inner b, tree.outer b)
+  at_root b named rise = search rules
 
   pub level_zero : (b : ℕ) → f.label b ≢ Outside → level b ≡ 0 → b ≡ r
   level_zero b named e = elim (option_cases (rise_of f b)) [
@@ -156,10 +151,7 @@ module _ {g : Darts} (are : AreDarts g) {f : Forest} {r : ℕ} (valid : IsValid 
   ]
 
   pub level_some : (b : ℕ) → f.label b ≢ Outside → 1 ≤ level b → (d : ℕ) × (rise_of f b ≡ Some d)
-  level_some b named some = elim (option_cases (rise_of f b)) [
-    | inl off ↦ absurd (omega (arith, some, (at_root b named off).1))
-    | inr w ↦ w
-  ]
+  level_some b named some = search (rules, at_root)
 
   pub root_level : level r ≡ 0
   root_level = (at_root r (outer_named tree.root_outer) ((at_outer r tree.root_outer).0 ∙ tree.root_free)).1
@@ -179,7 +171,7 @@ module _ {g : Darts} (are : AreDarts g) {f : Forest} {r : ℕ} (valid : IsValid 
   way_step a m named l =
       let was = on_way a m named (omega arith) in
       let d = level_some (way a m) was.0 (omega arith) in
-      subst (λ x. IsStep (way a m) x) (sym (ap dart_or d.1)) (step_up (way a m) d.0 was.0 d.1)
+      rw d.1 (step_up (way a m) d.0 was.0 d.1)
 
   -- A way leads to no deeper blossoms.
   pub way_depth : (a m : ℕ) → f.label a ≢ Outside → m ≤ level a → tree.depth (way a m) ≤ tree.depth a
@@ -197,8 +189,7 @@ module _ {g : Darts} (are : AreDarts g) {f : Forest} {r : ℕ} (valid : IsValid 
     | inr low ↦ absurd (cc (above_is b (f.link b) (at_inner b low).0, (tree.inner b low).above))
     | inl outer ↦ (let d = level_some b named some in
         let pair = valid.matched b d.0 (sym (at_outer b outer).0 ∙ d.1) in
-        let back = ap f.mate (above_is b d.0 d.1) ∙ pair.back in
-        ap (λ x. f.out (far g x)) (some_is e (g.twin d.0) (sym mate ∙ back)) ∙ ap f.out (far_twin are d.0) ∙ pair.here)
+        cc (above_is b d.0 d.1, mate, pair.back, far_twin are d.0, pair.here))
   ]
 
   -- Levels of outer blossoms are even.

@@ -1,7 +1,7 @@
 -- Each blossom holds an odd number of vertices, and there are fewer than half as many sets as vertices: each set has
 -- three parts at least.
-use Rattle.std.proofs.Common.{◌≡◌, ◌≢◌, ℕ, zero, suc, ◌+◌, ◌*◌, ◌%◌, ◌<◌, ◌≤◌, ◌⊎◌, true, cond, eqb, refl, sym, ◌∙◌, ap}
-use Rattle.std.proofs.Common.{inl, inr, arith}
+use Rattle.std.proofs.Common.{rules, ◌≡◌, ◌≢◌, ℕ, zero, suc, ◌+◌, ◌*◌, ◌%◌, ◌<◌, ◌≤◌, ◌⊎◌, true, cond, eqb, refl, sym}
+use Rattle.std.proofs.Common.{◌∙◌, ap, inl, inr, arith}
 use Rattle.std.proofs.lemmas.Bool.{cases_eq, cases_lt, eq-eqb, ne_eqb, lt-ltb, le-ltb}
 use Rattle.sum_laws.proofs.Sums.{count_below_same, count_below_le, count_below_sum, count_below_none, count_below_one}
 use Rattle.sum_laws.proofs.Sums.{count_below_ones, count_below_times}
@@ -33,11 +33,7 @@ module _ {g : Darts} (are : AreDarts g) {f : Forest} (nested : IsNested g f) whe
   holder_used {p} {v} l on = grind (arith, nested.empty p v)
 
   pub part_used : {b : ℕ} → IsRing g f b → (k : ℕ) → IsBlossom g f (walk f.nest.after (f.nest.head b) k)
-  part_used {b} ring k =
-      let p = walk f.nest.after (f.nest.head b) k in
-      let joint = nested.joints p
-      (λ e. absurd (omega (arith, ring.lower k, ap f.nest.rank (sym (ring.inside k) ∙ e)))) in
-      holder_used (are.near_low (f.nest.joint p) joint.tight.low) joint.begins
+  part_used {b} ring k = search rules
 
   -- A set has the vertices of its parts.
   set_sum : {b : ℕ} → IsRing g f b → blossom_size g.n f b ≡ ring_sum f.nest.after (blossom_size g.n f) (f.nest.head b)
@@ -94,12 +90,8 @@ three_count at m low =
     let one = count_below_sum (λ k. bool_number (eqb k (at 0)))
     (λ k. bool_number (eqb k (at 1)) + bool_number (eqb k (at 2))) m in
     let two = count_below_sum (λ k. bool_number (eqb k (at 1))) (λ k. bool_number (eqb k (at 2))) m in
-    omega (
-      arith,
-      one_at (at 0) m (low 0 (omega arith)),
-      one_at (at 1) m (low 1 (omega arith)),
-      one_at (at 2) m (low 2 (omega arith)),
-    )
+    let each = λ (k : ℕ) (l : k < 3). one_at (at k) m (low k l) in
+    omega (arith, each 0, each 1, each 2)
 
 -- What is less than a function at each of the three, and never greater, is no greater with how many of them there are.
 three_low : (less more at : ℕ → ℕ) → ((i j : ℕ) → i < j → j < 3 → at i ≢ at j)
@@ -193,12 +185,7 @@ module _ (g : Darts) (are : AreDarts g) (f : Forest) (nested : IsNested g f) (ve
       omega (arith, count_low g.n f.size vertices)
 
   inner_low : (p : ℕ) → inner p ≤ used p
-  inner_low p = elim (cases_eq (f.nest.up p) p) [
-    | inl top ↦ omega (arith, is_top top)
-    | inr ne ↦ (let joint = nested.joints p ne in
-        let low = are.near_low (f.nest.joint p) joint.tight.low in
-        omega (arith, is_inner ne, is_used p (holder_used are nested low joint.begins)))
-  ]
+  inner_low p = search rules
 
   -- Where there is no vertex there is no set.
   pub no_sets : g.n ≡ 0 → sets_of g.n f ≡ 0
@@ -209,10 +196,10 @@ module _ (g : Darts) (are : AreDarts g) (f : Forest) (nested : IsNested g f) (ve
   few_sets outermost some =
       let top = f.out 0 in
       let top_used = holder_used are nested some (outermost.held 0 0 some some ∙ eq-eqb top top refl) in
-      let few = sets_beside (λ p. bool_number (eqb p top)) (λ p l. elim (cases_eq p top) [
-        | inr ne ↦ rw (ne_eqb p top ne) (omega (arith, inner_low p))
-        | inl e ↦ rw (e, eq-eqb top top refl) (omega (arith, is_top (outermost.tops 0 some), is_used top top_used))
-      ]) in
+      let at_top = is_top (outermost.tops 0 some) in
+      let used_top = is_used top top_used in
+      let few = sets_beside (λ p. bool_number (eqb p top))
+      (λ p l. search (rules, cases_eq p top, ne_eqb p top, inner_low p, at_top, used_top)) in
       omega (arith, one_at top f.size (outermost.out_low 0 some))
 
   -- Where three outermost blossoms are in use, there is room for a set more.

@@ -1,8 +1,7 @@
 -- What stays where only a set of weight 0 holds other vertices and has other parts than before.
 use Rattle.std.proofs.Common.{◌≡◌, ◌≢◌, ℕ, zero, suc, ◌<◌, ◌≤◌, false, cond, ℤ, pos, refl, sym, ◌∙◌, ap, subst, inl}
 use Rattle.std.proofs.Common.{inr, arith, Bool, true, eqb, Option, Some, ◌+ℤ◌, ◌-ℤ◌, rules}
-use Rattle.std.proofs.lemmas.Bool.{cases_eq, cond-true, cond-false, eq-eqb, ne_eqb}
-use Rattle.std.proofs.lemmas.Int.{ints}
+use Rattle.std.proofs.lemmas.{Bool.cases_eq, Bool.cond-true, Bool.cond-false, Bool.eq-eqb, Bool.ne_eqb, Int.ints}
 use Rattle.sum_laws.proofs.Sums.{total_below_same, total_below_sum, total_below_minus, total_below_none}
 use Rattle.sum_laws.proofs.Sums.{total_below_one}
 use Rattle.def_forest.specs.Forests.{Forest, weight_between, splits, IsTight, bool_number, walk, ring_sum, dual_sum_of}
@@ -10,9 +9,8 @@ use Rattle.def_forest.specs.Valid.{IsFeasible, IsNested, IsRing, IsJoint, IsTree
 use Rattle.def_forest.specs.declared.kinds.Label.TheVariants.{Outer, Inner, Outside}
 use Rattle.def_forest.specs.{Darts.Darts, Darts.AreDarts, Darts.far, Opened.KeepsParts, Steps.weight_change}
 use Rattle.def_forest.specs.{Steps.shifted, Ways.inner_of, Ways.dart_or, declared.kinds.Label.Label}
-use Rattle.forest_laws.proofs.Grows.{inner_named, label_cases, label_is, outer_named, true_false, far_low, far_twin}
-use Rattle.forest_laws.proofs.Grows.{inner_mate, named_low, outer_mate, load_apart, load_within, nest_stays}
-use Rattle.forest_laws.proofs.Grows.{same_outermost}
+use Rattle.forest_laws.proofs.Grows.{inner_named, label_cases, label_is, outer_named, far_low, far_twin, inner_mate}
+use Rattle.forest_laws.proofs.Grows.{named_low, outer_mate, load_apart, load_within, nest_stays, same_outermost}
 use Rattle.def_math.specs.Sums.{total_below}
 
 -- Walks and sums along a ring that two tables have in common.
@@ -23,9 +21,7 @@ walk_same f h a same (suc k) = ap h (walk_same f h a same k) ∙ same k
 pub ring_sum_same : (f h : ℕ → ℕ) (p q : ℕ → ℕ) (a b : ℕ) (n : ℕ) → ((k : ℕ) → walk h b k ≡ walk f a k)
     → ((k : ℕ) → p (walk f a k) ≡ q (walk f a k)) → ring_sum f p a n ≡ ring_sum h q b n
 ring_sum_same f h p q a b zero walks terms = refl
-ring_sum_same f h p q a b (suc n) walks terms =
-    let t : p (walk f a n) ≡ q (walk h b n) = terms n ∙ ap q (sym (walks n)) in
-    omega (arith, ring_sum_same f h p q a b n walks terms)
+ring_sum_same f h p q a b (suc n) walks terms = search rules
 
 -- Only set b, of weight 0, holds other vertices and has other parts than before.
 pub record ChangesOnly (n : ℕ) (f new : Forest) (b : ℕ) : Type 0 where
@@ -47,17 +43,10 @@ module _ {g : Darts} (are : AreDarts g) {f new : Forest} {b : ℕ} (changed : Ch
       (λ x l. grind (arith, weight x, changed.weightless, holds x u, holds x v))
 
   pub same_tight : {d : ℕ} → IsTight g f d → IsTight g new d
-  same_tight {d} tight = record {
-    low = tight.low;
-    exact = same_load (g.near d) (far g d) (are.near_low d tight.low) (far_low g are d tight.low) ∙ tight.exact;
-  }
+  same_tight {d} tight = search rules
 
   pub same_feasible : IsFeasible g f → IsFeasible g new
-  same_feasible feasible = record {
-    sets = λ x high low. rw (weight x) (feasible.sets x high (subst (λ s. x < s) size low));
-    darts = λ d low. rw (same_load (g.near d) (far g d) (are.near_low d low) (far_low g are d low))
-        (feasible.darts d low);
-  }
+  same_feasible feasible = search (rules, same_load)
 
   -- A part of another set lies where it lay.
   pub record StaysOn (p : ℕ) : Type 0 where
@@ -103,13 +92,7 @@ module _ {g : Darts} (are : AreDarts g) {f new : Forest} {b : ℕ} (changed : Ch
   pub same_joint : {p : ℕ} → p ≢ b → f.nest.after p ≢ b → new.nest.after p ≡ f.nest.after p
       → new.nest.joint p ≡ f.nest.joint p → new.out (g.near (f.nest.joint p)) ≡ new.out (far g (f.nest.joint p))
       → IsJoint g f p → IsJoint g new p
-  same_joint {p} ne next after joint same old = record {
-    tight = rw joint (same_tight old.tight);
-    begins = rw joint (holds p (g.near (f.nest.joint p)) ne (are.near_low (f.nest.joint p) old.tight.low) ∙ old.begins);
-    ends = rw (joint, after) (holds (f.nest.after p) (far g (f.nest.joint p)) next
-        (far_low g are (f.nest.joint p) old.tight.low) ∙ old.ends);
-    same = rw joint same;
-  }
+  same_joint {p} ne next after joint same old = search rules
 
   -- The nest stays in order, where set b and the parts are in order.
   pub same_nested : IsNested g f → (new.nest.parts b ≢ 0 → IsRing g new b)
@@ -168,8 +151,7 @@ module _ {g : Darts} (are : AreDarts g) {f : Forest} {root : Option ℕ} (valid 
   shifted_nest = nest_stays valid.nested (λ b high none. elim (label_cases (f.label b)) [
     | inl off ↦ rw off (omega (arith, ints, valid.nested.weightless b high none))
     | inr named ↦ (let w = valid.outermost.named b named in
-        let on = rw w.2 at (valid.outermost.held w.0 w.0 w.1 w.1) in
-        absurd (true_false (on ∙ eq-eqb b b refl) (valid.nested.empty b w.0 high w.1 none)))
+        search (rules, valid.outermost.held w.0 w.0, valid.nested.empty b w.0))
   ]) (λ p is. still_tight is.tight (λ ne. absurd (ne is.same)))
 
   -- A shift whose end is feasible keeps the forest valid.
@@ -179,9 +161,9 @@ module _ {g : Darts} (are : AreDarts g) {f : Forest} {root : Option ℕ} (valid 
     nested = shifted_nest;
     feasible = feasible;
     matched = λ b d mate. (let is = valid.matched b d mate in
-        let tight = still_tight is.tight (λ ne. rw is.here (opposite t (f.label b) (f.label (f.out (far g d)))
-        (λ e. outer_mate are valid b d e mate) (λ e. inner_mate are valid b d e mate)
-        (λ e. valid.outside b d e mate))) in
+        let outer = outer_mate are valid b d in
+        let inner = inner_mate are valid b d in
+        let tight = still_tight is.tight (λ ne. search (rules, opposite, outer, inner, valid.outside b d)) in
         assumption);
     tree = λ r e. shifted_tree (valid.tree r e);
     no_tree = valid.no_tree;

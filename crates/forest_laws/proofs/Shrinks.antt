@@ -1,17 +1,15 @@
 -- A shrink keeps a forest valid: a cycle of tight darts in its tree becomes one outer blossom.
-use Rattle.std.proofs.Common.{◌≡◌, ◌≢◌, ℕ, suc, ◌<◌, ◌≤◌, Bool, true, false, cond, eqb, Some, None, refl, sym, ◌∙◌, ap}
-use Rattle.std.proofs.Common.{inl, inr, arith}
+use Rattle.std.proofs.Common.{rules, ◌≡◌, ◌≢◌, ℕ, suc, ◌<◌, ◌≤◌, Bool, true, false, cond, eqb, Some, None, refl, sym}
+use Rattle.std.proofs.Common.{◌∙◌, ap, inl, inr, arith}
 use Rattle.std.proofs.lemmas.Bool.{cases_eq, cases_Bool, cond_both, false_from_ne_true, eq-eqb, ne_eqb}
 use Rattle.def_forest.specs.Forests.{Forest, IsTight, IsOutermost, bool_number, set_at, walk}
-use Rattle.def_forest.specs.Valid.{AreOutermost, IsInner, IsJoint, IsMatched, IsNested, IsRing, IsTree, IsValid}
-use Rattle.def_forest.specs.Valid.{KeepsOutside}
-use Rattle.def_forest.specs.{Darts.Darts, Darts.AreDarts, Darts.far, Opened.KeepsParts, Shrunk.IsUnused, Shrunk.IsCycle}
-use Rattle.def_forest.specs.{Shrunk.IsClosedRow, Shrunk.IsShrunk, declared.kinds.Label.TheVariants.Outer}
-use Rattle.def_forest.specs.{declared.kinds.Label.TheVariants.Outside}
-use Rattle.forest_laws.proofs.Grows.{set_here, set_there, true_false, far_low, far_twin, tree_valid}
+use Rattle.def_forest.specs.{Valid.AreOutermost, Valid.IsInner, Valid.IsJoint, Valid.IsNested, Valid.IsRing}
+use Rattle.def_forest.specs.{Valid.IsTree, Valid.IsValid, Darts.Darts, Darts.AreDarts, Darts.far, Shrunk.IsUnused}
+use Rattle.def_forest.specs.{Shrunk.IsCycle, Shrunk.IsClosedRow, Shrunk.IsShrunk}
+use Rattle.def_forest.specs.{declared.kinds.Label.TheVariants.Outer, declared.kinds.Label.TheVariants.Outside}
+use Rattle.forest_laws.proofs.Grows.{set_here, set_there, true_false, far_low, far_twin, tree_valid, IsInOrder}
 use Rattle.forest_laws.proofs.Shifts.{same_feasible, ChangesOnly, same_joint, same_nested, same_ring, ring_sum_same}
 use Rattle.forest_laws.proofs.Shifts.{same_tight as tight_stays}
-use Rattle.forest_laws.proofs.WayLaws.{some_none}
 
 -- A cycle of a valid forest's tree that becomes one blossom.
 pub record Shrink (g : Darts) (f : Forest) (r : ℕ) (new : Forest) (inside : ℕ → Bool) (top b front many : ℕ)
@@ -35,10 +33,7 @@ module _ {g : Darts} {f : Forest} {r : ℕ} {new : Forest} {inside : ℕ → Boo
     beside : x ≢ b → inside x ≡ false → Place x
 
   pub place : (x : ℕ) → Place x
-  place x = elim (cases_eq x b) [
-    | inl e ↦ is_new e
-    | inr ne ↦ elim (cases_Bool (inside x)) [ inl on ↦ on_cycle on | inr off ↦ beside ne off ]
-  ]
+  place x = search rules
 
   marked_old : (x : ℕ) → inside x ≡ true → x ≢ b
   marked_old x on e = cycle.in_tree x on (ap f.label e ∙ unused.outside)
@@ -93,9 +88,7 @@ module _ {g : Darts} {f : Forest} {r : ℕ} {new : Forest} {inside : ℕ → Boo
       is.holds_old x v (marked_old x on) l ∙ rw w.2 at (valid.outermost.held w.0 v w.1 l)
 
   pub changes : ChangesOnly g.n f new b
-  changes =
-      let sets : (x : ℕ) → x ≢ b → KeepsParts f new x = λ x ne. grind (arith, is.head x, is.parts x, is.rank x ne) in
-      assumption
+  changes = search rules
 
   pub same_tight : {d : ℕ} → IsTight g f d → IsTight g new d
   same_tight = tight_stays are changes
@@ -108,8 +101,7 @@ module _ {g : Darts} {f : Forest} {r : ℕ} {new : Forest} {inside : ℕ → Boo
     held = λ u v lu lv. (let was = valid.outermost.held u v lu lv in
         let none = unused.no_out v lv in
         grind (arith, is.out u lu, is.out v lv, is.holds_new v lv, is.holds_old (f.out u) v, unused.no_out u lu));
-    tops = λ v l. out_cases (λ x. new.nest.up x ≡ x) v l (λ on. up_b)
-        (λ off. up_off (f.out v) (unused.no_out v l) off ∙ valid.outermost.tops v l);
+    tops = λ v l. grind (arith, is.out v l, up_b, up_off (f.out v) (unused.no_out v l), valid.outermost.tops v l);
     together = λ x u v lu lv hu hv. (let was = valid.outermost.together x u v lu lv in
         let new_u = is.holds_new u lu in
         let new_v = is.holds_new v lv in
@@ -129,7 +121,7 @@ module _ {g : Darts} {f : Forest} {r : ℕ} {new : Forest} {inside : ℕ → Boo
       (λ p up inner. (let other : p ≢ b = λ e. ne (sym up ∙ ap f.nest.up e ∙ unused.alone) in
       let off = false_from_ne_true (inside p) (λ on. (let w = marked_out p on in
       inner (sym (rw w.2 at (valid.outermost.tops w.0 w.1)) ∙ up))) in
-      record { other = other; up = up_off p other off; after = is.after p off }))
+      search (rules, up_off, is.after)))
       (λ p up inner. grind (arith, place p, up_b, up_on p, up_off p))
 
   ring_new : IsRing g new b
@@ -164,13 +156,8 @@ module _ {g : Darts} {f : Forest} {r : ℕ} {new : Forest} {inside : ℕ → Boo
       let far_is_low = far_low g are joint tight.low in
       let w = row.all p on in
       let next : inside (new.nest.after p) ≡ true = rw (← w.2) (row.marked (suc w.0)) in
-      record {
-        tight = same_tight tight;
-        begins = marked_holds p (g.near joint) near_low on ∙ eq-eqb _ _ (row.begins p on);
-        ends = marked_holds (new.nest.after p) (far g joint) far_is_low next ∙ eq-eqb _ _ (row.ends p on);
-        same = out_on (g.near joint) near_low (ap inside (row.begins p on) ∙ on)
-            ∙ sym (out_on (far g joint) far_is_low (ap inside (row.ends p on) ∙ next));
-      }
+      let begins = row.begins p on in let ends = row.ends p on in
+      search (rules, same_tight, marked_holds, out_on)
 
   joint_old : (p : ℕ) → p ≢ b → inside p ≡ false → f.nest.up p ≢ p → IsJoint g new p
   joint_old p ne off inner =
@@ -184,16 +171,8 @@ module _ {g : Darts} {f : Forest} {r : ℕ} {new : Forest} {inside : ℕ → Boo
 
   pub new_nested : IsNested g new
   new_nested = same_nested are changes valid.nested (λ some. ring_new) (λ v l none. absurd (some_parts none))
-      (λ c ne. ring_old ne) (λ p inner. elim (place p) [
-        | is_new e ↦ absurd (inner (ap new.nest.up e ∙ up_b ∙ sym e))
-        | on_cycle on ↦ rw (up_on p on) (unused.high, some_parts)
-        | beside ne off ↦ rw (up_off p ne off, (changes.sets (f.nest.up p) (unused.around_none p ne)).many)
-            (valid.nested.live p (λ e. inner (up_off p ne off ∙ e)))
-      ]) (λ p inner. elim (place p) [
-        | is_new e ↦ absurd (inner (ap new.nest.up e ∙ up_b ∙ sym e))
-        | on_cycle on ↦ joint_new p on
-        | beside ne off ↦ joint_old p ne off (λ e. inner (up_off p ne off ∙ e))
-      ])
+      (λ c ne. ring_old ne) (λ p inner. search (rules, place p, up_b, up_on, up_off, some_parts))
+      (λ p inner. search (rules, place p, up_b, up_off, joint_new, joint_old))
     where
       some_parts : new.nest.parts b ≢ 0
       some_parts none = absurd (omega (arith, sym parts_b ∙ none, row.odd))
@@ -225,29 +204,6 @@ module _ {g : Darts} {f : Forest} {r : ℕ} {new : Forest} {inside : ℕ → Boo
     beyond_mate : inside (f.out (far g d)) ≡ false → new.mate (new.out (far g d)) ≡ f.mate (f.out (far g d))
     beyond_mate off = ap new.mate (beyond_off off) ∙ mate_off (f.out (far g d)) beyond_other off
 
-  pub new_matched : IsMatched g new
-  new_matched c d mate = elim (place c) [
-    | is_new e ↦ (let was = sym mate_b ∙ ap new.mate (sym e) ∙ mate in
-        let pair = valid.matched top d was in
-        let off = cycle.top_mate d was in
-        record {
-          tight = same_tight pair.tight;
-          here = out_on (g.near d) (are.near_low d pair.tight.low) (ap inside pair.here ∙ cycle.top_in) ∙ sym e;
-          other = λ x. beyond_other pair.tight (sym (beyond_off pair.tight off) ∙ x ∙ e);
-          back = beyond_mate pair.tight off ∙ pair.back;
-        })
-    | on_cycle on ↦ absurd (some_none (new.mate c) d mate (mate_on c on))
-    | beside ne off ↦ (let was = sym (mate_off c ne off) ∙ mate in
-        let pair = valid.matched c d was in
-        let tight = same_tight pair.tight in
-        let here = near_off pair.tight pair.here off in
-        let on = beyond_on pair.tight in
-        let away = beyond_off pair.tight in
-        let partner = beyond_mate pair.tight in
-        let top_is = only_top c d off was in
-        grind (arith, cases_Bool (inside (f.out (far g d))), mate_b))
-  ]
-
   -- The tree: the new blossom is as deep as the top was.
   abbrev depths : ℕ → ℕ
   depths = set_at tree.depth b (tree.depth top)
@@ -261,77 +217,75 @@ module _ {g : Darts} {f : Forest} {r : ℕ} {new : Forest} {inside : ℕ → Boo
   -- Where a dart leads beside the cycle, nothing is deeper.
   beyond_depth : {d : ℕ} → IsTight g f d → inside (f.out (far g d)) ≡ false → depths (new.out (far g d))
       ≡ tree.depth (f.out (far g d))
-  beyond_depth {d} tight off =
-      ap depths (beyond_off tight off) ∙ depth_old (f.out (far g d)) (beyond_other tight)
+  beyond_depth {d} tight off = search (rules, beyond_off)
 
   -- Where a dart leads to an outer blossom, it leads to an outer one that is no deeper.
   outer_after : {d : ℕ} → IsTight g f d → f.label (f.out (far g d)) ≡ Outer → (new.label (new.out (far g d)) ≡ Outer)
       × (depths (new.out (far g d)) ≤ tree.depth (f.out (far g d)))
-  outer_after {d} tight outer =
-      let over = cycle.above (f.out (far g d)) in
-      grind (arith, place (f.out (far g d)), beyond_on tight, beyond_label tight, label_b, depth_b, beyond_depth tight)
+  outer_after {d} tight outer = search (rules, beyond_on, beyond_label, beyond_depth)
 
   new_inner : {c : ℕ} → c ≢ b → inside c ≡ false → IsInner g f tree.depth c → IsInner g new depths c
   new_inner {c} ne off old =
       let parent = outer_after old.tight old.above in
       let down = (valid.matched c old.dart old.mate).tight in
       let own = depth_old c ne in
-      record {
-        tight = rw (is.link c) (same_tight old.tight);
-        here = rw (is.link c) (near_off old.tight old.here off);
-        above = rw (is.link c) parent.0;
-        nearer = rw (is.link c) (omega (arith, own, old.nearer, parent.1));
-        dart = old.dart;
-        mate = mate_off c ne off ∙ old.mate;
-        child = (outer_after down old.child).0;
-        same = (let top_is = only_top c old.dart off old.mate in
-            grind (arith, cases_Bool (inside (f.out (far g old.dart))), beyond_on down, depth_b, beyond_depth down));
-      }
+      let link = is.link c in let tight = same_tight old.tight in let here = near_off old.tight old.here off in
+      let mate = mate_off c ne off in let child = outer_after down old.child in
+      let same : depths (new.out (far g old.dart)) ≡ depths c = (let top_is = only_top c old.dart off old.mate in
+      grind (arith, cases_Bool (inside (f.out (far g old.dart))), beyond_on down, depth_b, beyond_depth down)) in
+      search rules
 
-  new_tree : IsTree g new (cond (inside r) b r)
-  new_tree =
-      let r_old : r ≢ b = λ e. cc (tree.root_outer, unused.outside) in
-      record {
-        depth = depths;
-        root_outer = grind (arith, cases_Bool (inside r), label_b, label_off r r_old, tree.root_outer);
-        root_free = grind (arith, cases_Bool (inside r), mate_b, cycle.root_top, mate_off r r_old, tree.root_free);
-        inner = λ c l. elim (place c) [
-          | is_new e ↦ absurd (cc (label_b))
-          | on_cycle on ↦ absurd (cc (label_on c on))
-          | beside ne off ↦ new_inner ne off (tree.inner c (sym (label_off c ne off) ∙ l))
-        ];
-        outer = λ c l. elim (place c) [
-          | is_new e ↦ rw e (elim (tree.outer top cycle.top_outer) [
-            | inl at ↦ inl (rw (ap inside (sym at) ∙ cycle.top_in) refl)
-            | inr w ↦ (let pair = valid.matched top w.0 w.1 in inr (
-              w.0,
-              mate_b ∙ w.1,
-              beyond_label pair.tight (cycle.top_mate w.0 w.1) ∙ w.2,
-            ))
-          ])
-          | on_cycle on ↦ absurd (cc (label_on c on))
-          | beside ne off ↦ elim (tree.outer c (sym (label_off c ne off) ∙ l)) [
-            | inl at ↦ inl (rw (ap inside (sym at) ∙ off) at)
-            | inr w ↦ (let pair = valid.matched c w.0 w.1 in
-                -- The mate of an outer blossom beside the cycle is inner, so not the top.
-                let too = false_from_ne_true (inside (f.out (far g w.0)))
-                (λ on. cc (only_top c w.0 off w.1 on, cycle.top_outer, w.2)) in
-                inr (w.0, mate_off c ne off ∙ w.1, beyond_label pair.tight too ∙ w.2))
-          ]
-        ];
-      }
+  -- The new blossom, and one beside the cycle.
+  order_new : IsInOrder g new (cond (inside r) b r) depths b
+  order_new = record {
+    matched = λ d mate. (let was = sym mate_b ∙ mate in
+        let pair = valid.matched top d was in
+        let off = cycle.top_mate d was in
+        let tight = same_tight pair.tight in
+        let here = out_on (g.near d) (are.near_low d pair.tight.low) in
+        let away = beyond_off pair.tight off in
+        let other = beyond_other pair.tight in
+        let partner = beyond_mate pair.tight off in
+        grind (arith, cycle.top_in));
+    inner = λ l. absurd (cc label_b);
+    outer = λ l. elim (tree.outer top cycle.top_outer) [
+      | inl at ↦ inl (rw (ap inside (sym at) ∙ cycle.top_in) refl)
+      | inr w ↦ (let tight = (valid.matched top w.0 w.1).tight in
+          inr (w.0, mate_b ∙ w.1, beyond_label tight (cycle.top_mate w.0 w.1) ∙ w.2))
+    ];
+    outside = λ d l. absurd (cc label_b);
+  }
 
-  new_outside : KeepsOutside g new
-  new_outside c d l mate = elim (place c) [
-    | is_new e ↦ absurd (cc (label_b))
-    | on_cycle on ↦ absurd (cc (mate_on c on))
-    | beside ne off ↦ (let was = sym (mate_off c ne off) ∙ mate in
-        let gone = valid.outside c d (sym (label_off c ne off) ∙ l) was in
-        beyond_label (valid.matched c d was).tight
-        (false_from_ne_true (inside (f.out (far g d))) (λ on. cycle.in_tree (f.out (far g d)) on gone)) ∙ gone)
+  order_old : (c : ℕ) → c ≢ b → inside c ≡ false → IsInOrder g new (cond (inside r) b r) depths c
+  order_old c ne off = let label = label_off c ne off in let mated = mate_off c ne off in record {
+    matched = λ d mate. (let was = sym mated ∙ mate in
+        let pair = valid.matched c d was in
+        let tight = same_tight pair.tight in let here = near_off pair.tight pair.here off in
+        let on = beyond_on pair.tight in let away = beyond_off pair.tight in let partner = beyond_mate pair.tight in
+        let top_is = only_top c d off was in grind (arith, cases_Bool (inside (f.out (far g d))), mate_b));
+    inner = λ l. new_inner ne off (tree.inner c (sym label ∙ l));
+    outer = λ l. elim (tree.outer c (sym label ∙ l)) [
+      | inl at ↦ inl (rw (ap inside (sym at) ∙ off) at)
+      | inr w ↦ (let label = beyond_label (valid.matched c w.0 w.1).tight in
+          -- The mate of an outer blossom beside the cycle is inner, so not the top.
+          let too = only_top c w.0 off w.1 in
+          inr (w.0, mated ∙ w.1, grind (arith, cases_Bool (inside (f.out (far g w.0))), cycle.top_outer)))
+    ];
+    outside = λ d l mate. (let pair = valid.matched c d (sym mated ∙ mate) in
+        search (rules, beyond_label pair.tight, valid.outside c d, cycle.in_tree (f.out (far g d))));
+  }
+
+  in_order : (c : ℕ) → IsInOrder g new (cond (inside r) b r) depths c
+  in_order c = elim (place c) [
+    | is_new e ↦ rw e order_new
+    | on_cycle on ↦ (let label = label_on c on in let mate = mate_on c on in search rules)
+    | beside ne off ↦ order_old c ne off
   ]
 
   -- A cycle of tight darts in the tree may become one outer blossom.
   pub shrunk_valid : IsValid g new (Some (cond (inside r) b r))
   shrunk_valid =
-      tree_valid new_outermost new_nested (same_feasible are changes valid.feasible) new_matched new_tree new_outside
+      let r_old : r ≢ b = λ e. cc (tree.root_outer, unused.outside) in
+      tree_valid depths new_outermost new_nested (same_feasible are changes valid.feasible)
+      (grind (arith, cases_Bool (inside r), label_b, label_off r r_old, tree.root_outer))
+      (grind (arith, cases_Bool (inside r), mate_b, cycle.root_top, mate_off r r_old, tree.root_free)) in_order

@@ -1,15 +1,14 @@
 -- The potentials of the vertices of one blossom have one parity, and so have those of all vertices in the tree.
-use Rattle.std.proofs.Common.{◌≡◌, ℕ, zero, suc, ◌<◌, ◌≤◌, Bool, true, not, cond, length, Option, ℤ, pos, ◌+ℤ◌, ◌-ℤ◌}
-use Rattle.std.proofs.Common.{refl, sym, ◌∙◌, ap, inl, inr, arith, ◌≢◌, ◌+◌, false, ◌||◌, eqb, ◌-◌, subst}
-use Rattle.std.proofs.lemmas.Bool.{cases_lt, eq-eqb, eqb-true, ne_eqb, or_cases, or_from}
-use Rattle.std.proofs.{lemmas.Int.ints, Math.Bool.or-false}
+use Rattle.std.proofs.Common.{rules, ◌≡◌, ℕ, zero, suc, ◌<◌, ◌≤◌, Bool, true, not, cond, length, Option, ℤ, pos, ◌+ℤ◌}
+use Rattle.std.proofs.Common.{◌-ℤ◌, refl, sym, ◌∙◌, ap, inl, inr, arith, ◌≢◌, ◌+◌, false, ◌||◌, eqb, ◌-◌, subst}
+use Rattle.std.proofs.lemmas.Bool.{cases_lt, eq-eqb, eqb-true, or_cases}
+use Rattle.{std.proofs.lemmas.Int.ints, forest_laws.proofs.Expands.number_true, forest_laws.proofs.Bounds.are_darts}
 use Rattle.def_matching.specs.Matching.{WeightedGraph, IsGraph, edge_at}
 use Rattle.def_forest.specs.Forests.{Forest, splits, IsTight, bool_number, walk, ring_sum}
 use Rattle.def_forest.specs.{Darts.Darts, Darts.AreDarts, Darts.darts_of, Darts.far, Tables.slack_of, Valid.IsNested}
 use Rattle.def_forest.specs.{Valid.IsRing, Valid.IsJoint, Valid.IsTree, Valid.IsValid}
 use Rattle.def_forest.specs.{declared.kinds.Label.TheVariants.Outer}
-use Rattle.forest_laws.proofs.Grows.{far_low, tree_of, potential, outer_named, true_false, set_there}
-use Rattle.forest_laws.proofs.{Expands.number_true, Bounds.are_darts}
+use Rattle.forest_laws.proofs.Grows.{far_low, tree_of, potential, outer_named, true_false}
 use Rattle.{def_math.specs.Sums.total_below, forest_laws.specs.Walks.listed, forest_laws.specs.Walks.writes}
 
 -- Two numbers have one parity.
@@ -45,10 +44,7 @@ sums_both f u v (suc m) = omega (arith, ints, sums_both f u v m, by_both (f.hold
 ring_found : (next f : ℕ → ℕ) (front n : ℕ) → 1 ≤ ring_sum next f front n → (k : ℕ) × (k < n)
     × (1 ≤ f (walk next front k))
 ring_found next f front zero l = absurd (omega arith)
-ring_found next f front (suc n) l = elim (cases_lt 0 (f (walk next front n))) [
-  | inl h ↦ (n, omega arith, omega arith)
-  | inr h ↦ (let w = ring_found next f front n (omega arith) in (w.0, omega (arith, w.1), w.2))
-]
+ring_found next f front (suc n) l = search (rules, cases_lt 0 (f (walk next front n)), ring_found next f front n)
 
 module _ {g : Darts} (are : AreDarts g) (f : Forest) where
   -- The ends of a tight dart.
@@ -72,8 +68,7 @@ module _ {g : Darts} (are : AreDarts g) (f : Forest) where
 
     module _ {b : ℕ} (ring : IsRing g f b) (more : (k : ℕ) → Within (part b k)) where
       joint : (k : ℕ) → IsJoint g f (part b k)
-      joint k = nested.joints (part b k)
-          (λ e. omega (arith, ring.lower k, ap f.nest.rank (sym (ring.inside k) ∙ e)))
+      joint k = search rules
 
       start_low : (k : ℕ) → start b k < g.n
       start_low k = are.near_low (f.nest.joint (part b k)) (joint k).tight.low
@@ -98,9 +93,7 @@ module _ {g : Darts} (are : AreDarts g) (f : Forest) where
     within : (fuel b : ℕ) → f.nest.rank b < fuel → Within b
     within zero b l u v lu lv hu hv = absurd (omega arith)
     within (suc fuel) b l u v lu lv hu hv = elim (cases_lt b g.n) [
-      | inl low ↦ (let bu = eqb-true b u (sym (nested.alone b u low lu) ∙ hu) in
-          let bv = eqb-true b v (sym (nested.alone b v low lv) ∙ hv) in
-          rw (← bu, ← bv) (alike_self (potential f b)))
+      | inl low ↦ search (rules, eqb-true b u, eqb-true b v, alike_self)
       | inr high ↦ (let ring = nested.rings b high (λ none. true_false hu (nested.empty b u high lu none)) in
           ring_alike ring (λ k. within fuel (part b k) (omega (arith, ring.lower k))) u v lu lv hu hv)
     ]
@@ -167,16 +160,14 @@ listed_at next from (suc many) k l = grind (arith, listed_at next from many k)
 pub listed_place : (next : ℕ → ℕ) (from many x : ℕ) → listed next from many x ≡ true → (k : ℕ) × (k < many)
     × (walk next from k ≡ x)
 listed_place next from zero x on = absurd (cc on)
-listed_place next from (suc many) x on = elim (or_cases (listed next from many x) (eqb (walk next from many) x) on) [
-  | inl e ↦ (let w = listed_place next from many x e in (w.0, omega arith, w.2))
-  | inr e ↦ (many, omega arith, eqb-true (walk next from many) x e)
-]
+listed_place next from (suc many) x on =
+    let cases = or_cases (listed next from many x) (eqb (walk next from many) x) on in
+    search (rules, cases, listed_place next from many x)
 
 pub listed_off : (next : ℕ → ℕ) (from many x : ℕ) → ((k : ℕ) → k < many → walk next from k ≢ x)
     → listed next from many x ≡ false
 listed_off next from zero x off = refl
-listed_off next from (suc many) x off = or_from (listed next from many x) (eqb (walk next from many) x)
-    (listed_off next from many x (λ k l. off k (omega arith))) (ne_eqb (walk next from many) x (off many (omega arith)))
+listed_off next from (suc many) x off = search (rules, listed_off next from many x (λ k l. off k (omega arith)))
 
 -- A walk that is closed stays among its places.
 pub listed_closed : (next : ℕ → ℕ) {from : ℕ} (many : ℕ) → 1 ≤ many → walk next from many ≡ from → (k : ℕ)
@@ -198,8 +189,7 @@ pub listed_sum : (next : ℕ → ℕ) (from many y : ℕ) → ((i j : ℕ) → i
 listed_sum next from zero y distinct = refl
 listed_sum next from (suc many) y distinct =
     let more = listed_sum next from many y (λ i j lij lj. distinct i j lij (omega arith)) in
-    let off = λ (e : y ≡ walk next from many). listed_off next from many y
-    (λ k l w. distinct k many l (omega arith) (w ∙ e)) in
+    let off = listed_off next from many (walk next from many) (λ k l. distinct k many l (omega arith)) in
     grind arith
 
 -- What is written at one of different places stands there, and elsewhere nothing is changed.
@@ -213,8 +203,7 @@ writes_at f place value (suc many) k l distinct =
 pub writes_off : {X : Type 0} (f : ℕ → X) (place : ℕ → ℕ) (value : ℕ → X) (many x : ℕ)
     → ((k : ℕ) → k < many → place k ≢ x) → writes f place value many x ≡ f x
 writes_off f place value zero x off = refl
-writes_off f place value (suc many) x off = set_there (writes f place value many) (place many) x (value many)
-    (λ e. off many (omega arith) (sym e)) ∙ writes_off f place value many x (λ k l. off k (omega arith))
+writes_off f place value (suc many) x off = search (rules, writes_off f place value many x (λ k l. off k (omega arith)))
 
 -- A walk from the next place, and one from where one stays.
 pub walk_front : (f : ℕ → ℕ) (a k : ℕ) → walk f a (suc k) ≡ walk f (f a) k
@@ -228,8 +217,7 @@ walk_fixed f (suc k) e = ap f (walk_fixed f k e) ∙ e
 -- What one comes past in two parts of a walk.
 pub listed_parts : (next : ℕ → ℕ) (from m k x : ℕ) → listed next from (m + k) x
     ≡ (listed next from m x || listed next (walk next from m) k x)
-listed_parts next from m zero x = (let e : m + 0 ≡ m = omega arith in ap (λ j. listed next from j x) e)
-    ∙ sym (or-false (listed next from m x))
+listed_parts next from m zero x = search rules
 listed_parts next from m (suc k) x =
     let e : m + suc k ≡ suc (m + k) = omega arith in
     grind (arith, listed_parts next from m k x, walk_sum next from m k)
@@ -279,19 +267,10 @@ module _ (next : ℕ → ℕ) (front many : ℕ) (inside : ℕ → Bool) (circle
               × (walk next (walk next front s) k ≡ y)
           found y w =
               elim (cases_lt w.0 s) [
-                | inl l ↦ (
-                  w.0 + many - s,
-                  omega arith,
-                  shifted s (w.0 + many - s)
-                      ∙ ((let e : s + (w.0 + many - s) ≡ many + w.0 = omega arith in ap (walk next front) e)
-                      ∙ (round w.0 ∙ w.2)),
-                )
-                | inr h ↦ (
-                  w.0 - s,
-                  omega arith,
-                  shifted s (w.0 - s)
-                      ∙ ((let e : s + (w.0 - s) ≡ w.0 = omega arith in ap (walk next front) e) ∙ w.2),
-                )
+                | inl l ↦ (let e : s + (w.0 + many - s) ≡ many + w.0 = omega arith in
+                    (w.0 + many - s, omega arith, shifted s (w.0 + many - s) ∙ rw e (round w.0 ∙ w.2)))
+                | inr h ↦ (let e : s + (w.0 - s) ≡ w.0 = omega arith in
+                    (w.0 - s, omega arith, shifted s (w.0 - s) ∙ rw e w.2))
               ]
 
       by_place : (k : ℕ) × (k < many) × (walk next front k ≡ x) → IsCircle next x many inside

@@ -1,5 +1,5 @@
 -- Changing the matching along the way to the root: how it begins, goes on and ends, and why it ends.
-use Rattle.std.proofs.Common.{◌≡◌, ◌≢◌, ℕ, ◌<◌, ◌≤◌, Option, Some, None, refl, sym, ◌∙◌, ap, inl, inr, arith}
+use Rattle.std.proofs.Common.{rules, ◌≡◌, ◌≢◌, ℕ, ◌<◌, ◌≤◌, Option, Some, None, refl, sym, ◌∙◌, ap, inl, inr, arith}
 use Rattle.std.proofs.lemmas.Bool.{cases_eq}
 use Rattle.def_forest.specs.{Darts.Darts, Darts.AreDarts, Darts.far, Forests.Forest, Forests.set_at, Steps.with_mates}
 use Rattle.def_forest.specs.{Steps.IsAugmented, Valid.IsMate, Valid.IsTree, Valid.IsInner, Valid.IsValid}
@@ -39,10 +39,7 @@ module _ {g : Darts} (are : AreDarts g) {f : Forest} {r : ℕ} (valid : IsValid 
   module _ {mate : ℕ → Option ℕ} {a e : ℕ} (almost : IsAlmost g f tree.depth start mate a e) where
     -- The dart that is to match a leads to a blossom of the tree that is deeper, or out of the tree.
     reaches_deeper : {x : ℕ} → f.label x ≢ Outside → tree.depth x ≤ tree.depth a → f.out (far g e) ≢ x
-    reaches_deeper named low at = elim almost.above [
-      | inl off ↦ named (ap f.label (sym at) ∙ off)
-      | inr less ↦ omega (arith, ap tree.depth at)
-    ]
+    reaches_deeper named low at = search rules
 
     named_a : f.label a ≢ Outside
     named_a = outer_named almost.outer
@@ -80,9 +77,7 @@ module _ {g : Darts} (are : AreDarts g) {f : Forest} {r : ℕ} (valid : IsValid 
     -- What has come of it.
     pub end_augmented : f.mate a ≡ None → IsAugmented g f (with_mates f (set_at mate a (Some e))) r start
     end_augmented free =
-        let root_is : r ≡ a = elim (tree.outer a almost.outer) [ inl at ↦ sym at | inr is ↦ absurd (cc (is.1, free)) ]
-        in
-        grind (arith, here, root_is, almost.begun, almost.more)
+        grind (arith, here, tree.outer a almost.outer, almost.begun, almost.more)
 
     module _ (old : ℕ) (was : f.mate a ≡ Some old) where
       abbrev inn : ℕ
@@ -124,13 +119,7 @@ module _ {g : Darts} (are : AreDarts g) {f : Forest} {r : ℕ} (valid : IsValid 
         is_other : x ≢ inn → x ≢ a → turned x ≡ mate x → Place x
 
       place : (x : ℕ) → Place x
-      place x = elim (cases_eq x inn) [
-        | inl at ↦ is_inn at (ap turned at ∙ at_inn)
-        | inr ni ↦ elim (cases_eq x a) [
-          | inl at ↦ is_a at (ap turned at ∙ at_a)
-          | inr na ↦ is_other ni na (set_there mates inn x (Some up) ni ∙ elsewhere x na)
-        ]
-      ]
+      place x = search (rules, cases_eq, inl, at_inn, inr, at_a, set_there, elsewhere)
 
       -- What leads to a blossom that is turned is turned with it: only the old partner is matched to what it was.
       by_old : {b x : ℕ} → b ≢ inn → b ≢ a → IsHalf g f mate a e b x → turned (f.out (far g x)) ≡ Some (g.twin x)

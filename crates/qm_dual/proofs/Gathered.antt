@@ -1,16 +1,15 @@
 -- Climbing through nested sets, one set at a time.
-use Rattle.std.proofs.Common.{◌≡◌, ℕ, zero, suc, ◌+◌, ◌<◌, ◌≤◌, ◌≢◌, ◌==◌, ◌||◌, Bool, true, false, List, refl, sym}
-use Rattle.std.proofs.Common.{◌∙◌, ap, inl, inr, ◌⊎◌, arith, ◌*◌, ◌^◌, not, cond, length, ℤ, pos, ◌+ℤ◌, ◌-ℤ◌, eqb, []}
-use Rattle.std.proofs.Common.{◌∷◌, ◌*ℤ◌, Option, Some, None}
-use Rattle.std.proofs.lemmas.Bool.{or_left, or_right, cases_eq, cases_lt, eq-eqb, ne_eqb, false_from_ne_true}
-use Rattle.std.proofs.{lemmas.Bool.Decides.nat_tests, lemmas.List.get_or_past, lemmas.Int.ints, Math.IntN.*ℤ_comm}
+use Rattle.std.proofs.Common.{rules, ◌≡◌, ℕ, zero, suc, ◌+◌, ◌<◌, ◌≤◌, ◌≢◌, ◌==◌, ◌||◌, Bool, true, false, List, refl}
+use Rattle.std.proofs.Common.{sym, ◌∙◌, ap, inl, inr, ◌⊎◌, arith, ◌*◌, ◌^◌, not, cond, length, ℤ, pos, ◌+ℤ◌, ◌-ℤ◌, eqb}
+use Rattle.std.proofs.Common.{[], ◌∷◌, ◌*ℤ◌, Option, Some, None}
+use Rattle.std.proofs.lemmas.Bool.{or_left, or_right, cases_eq, eq-eqb, ne_eqb, false_from_ne_true}
+use Rattle.std.proofs.{lemmas.Bool.Decides.nat_tests, lemmas.List.get_or_past, lemmas.Int.ints}
 use Rattle.std.specs.Prelude.{slice_index, unsigned_abs}
 use Rattle.def_matching.specs.Dual.{AreNestedSets, is_up, DualLists, AreSmall, IsSmallDual, z_at}
 use Rattle.qm_dual.specs.Nest.{climbs, around, apart, named_sum, AreSums, IsMeeting}
-use mir.Syntax.{w128}
-use mir.Val.{to_z, of_z}
+use mir.{Syntax.w128, Val.to_z, Val.of_z}
 use Rattle.def_math.specs.{Sums.total_below, Sums.total, Counts.count, Searches.least, Searches.or_this}
-use Rattle.sum_laws.proofs.Sums.{total_below_same, total_below_sum, total_below_none, total_below_one, times_sum}
+use Rattle.sum_laws.proofs.Sums.{total_below_same, total_below_sum, total_below_none, total_below_one}
 
 -- An entry of a lawful `up` is 0, or names a set at a later place.
 entry_later : (n m i entry : ℕ) → is_up n m i entry ≡ true → (entry ≡ 0) ⊎ ((i + 1 < n + entry) × (entry ≤ m))
@@ -32,11 +31,7 @@ module _ {n m : ℕ} {up : List ℕ} (nested : AreNestedSets n m up) where
   -- The set around a set is none, or a later one.
   pub set_later : (j : ℕ) → (slice_index up (n + j) ≡ 0)
       ⊎ ((j + 1 < slice_index up (n + j)) × (slice_index up (n + j) ≤ m))
-  set_later j = elim (cases_lt j m) [
-    | inl l ↦ elim (entry_later n m (n + j) (slice_index up (n + j)) (nested.later (n + j) (omega arith)))
-        [ inl e ↦ inl e | inr h ↦ inr (omega arith, h.1) ]
-    | inr h ↦ inl (get_or_past up (n + j) 0 (omega (arith, nested.entries)))
-  ]
+  set_later j = search (rules, get_or_past)
 
   -- The same, where there is a set around it.
   pub around_later : (j q : ℕ) → slice_index up (n + j) ≡ suc q → (j < q) × (q < m)
@@ -108,8 +103,7 @@ around_small n d small entry = total_below_small _ (10 ^ 18) (length d.z) (λ k 
 
 -- From no set nothing is gathered.
 around_none : (n : ℕ) (d : DualLists) → around n d 0 ≡ pos 0
-around_none n d = total_below_none _ (length d.z)
-    (λ k l. ap (λ b. cond b (z_at d k) (pos 0)) (climb_none n d.up (length d.z) k))
+around_none n d = search (rules, total_below_none)
 
 -- A set gathers its own number, and what the set around it gathers.
 pub around_step : (n : ℕ) (d : DualLists) → AreNestedSets n (length d.z) d.up → (j : ℕ) → j < length d.z
@@ -139,19 +133,12 @@ around_step n d nested j l =
 -- A set's sum is what a climb gathers from its entry, where the sums of the sets from k on are known.
 pub named_around : (n : ℕ) (d : DualLists) {k : ℕ} (sums : List ℤ) → AreSums n d k sums → (entry : ℕ)
     → entry ≤ length d.z → (entry ≢ 0 → k < entry) → named_sum sums entry ≡ around n d entry
-named_around n d sums are zero low past = sym (around_none n d)
-named_around n d sums are (suc j) low past =
-    are.each j (omega (arith, past (λ e. omega arith))) (omega arith)
+named_around n d h1 entry h2 h3 = search (rules, around_none)
 
 -- The sum of a named set is small.
 pub named_small : (n : ℕ) (d : DualLists) (sums : List ℤ) → AreSums n d 0 sums → IsSmallDual d → (entry : ℕ)
     → entry ≤ length d.z → (x : ℤ) → x ≡ named_sum sums entry → unsigned_abs x ≤ 2 ^ 30 * 10 ^ 18
-named_small n d sums are small entry low x is = omega (
-  arith,
-  small.sets,
-  around_small n d small.small_z entry,
-  ap unsigned_abs (is ∙ named_around n d sums are entry low (λ ne. omega arith)),
-)
+named_small n d sums are small entry low x is = search (rules, around_small)
 
 -- The sets around exactly one of two entries, by the sums of the sets that the two name and of the least around both.
 pub apart_sums : (n : ℕ) (d : DualLists) (sums : List ℤ) → AreSums n d 0 sums → (a b entry : ℕ) → a ≤ length d.z
@@ -202,14 +189,7 @@ EndsBelow u v n (x ∷ xs) = (u x < n) × (v x < n) × EndsBelow u v n xs
 
 -- A sum as a factor.
 pub plus_times : (a b : ℕ) (c : ℤ) → pos (a + b) *ℤ c ≡ pos a *ℤ c +ℤ pos b *ℤ c
-plus_times a b c = omega (
-  arith,
-  ints,
-  *ℤ_comm (pos (a + b)) c,
-  times_sum c (pos a) (pos b),
-  *ℤ_comm (pos a) c,
-  *ℤ_comm (pos b) c,
-)
+plus_times a b c = search (rules, ints)
 
 -- The number of one vertex, as a sum in which it alone counts.
 pub one_end : (f : ℕ → ℤ) (n u : ℕ) → u < n → total_below (λ k. pos (hit u k) *ℤ f k) n ≡ f u

@@ -1,11 +1,10 @@
 -- Sums along a list as sums over its places.
-use Rattle.std.proofs.Common.{◌≡◌, ℕ, zero, suc, ◌+◌, ◌<◌, List, [], ◌∷◌, length, get_or, take, ℤ, ◌+ℤ◌, refl, ◌∙◌, ap}
-use Rattle.std.proofs.Common.{arith, ◌-◌, ◌≤◌, ◌≢◌, ◌==◌, ◌&&◌, Bool, true, false, max, sym, subst, inl, inr, ◌⊎◌, ◌||◌}
-use Rattle.std.proofs.Common.{cond, min}
-use Rattle.std.proofs.lemmas.List.{take_more, get_or_past, length-set, get_or-set_same, get_or-set_other}
-use Rattle.std.proofs.lemmas.Bool.{cases_eq, cases_lt, and_parts, and_from, eq-eqb, ne_eqb, cond-true, cond-false}
-use Rattle.std.proofs.{lemmas.Int.ints, lemmas.Bool.Decides.nat_tests}
-use Rattle.std.specs.Prelude.{slice_index, slice_set}
+use Rattle.std.proofs.Common.{rules, ◌≡◌, ℕ, zero, suc, ◌+◌, ◌<◌, List, [], ◌∷◌, length, get_or, take, ℤ, ◌+ℤ◌, refl}
+use Rattle.std.proofs.Common.{◌∙◌, ap, arith, ◌-◌, ◌≤◌, ◌≢◌, ◌==◌, ◌&&◌, Bool, true, false, max, sym, subst, inl, inr}
+use Rattle.std.proofs.Common.{◌⊎◌, cond, min}
+use Rattle.std.proofs.lemmas.List.{take_more, get_or_past, length-set}
+use Rattle.std.proofs.lemmas.Bool.{cases_eq, cases_lt, and_parts, and_from, eq-eqb, ne_eqb, cond-false}
+use Rattle.std.{proofs.lemmas.Int.ints, proofs.lemmas.Bool.Decides.nat_tests, specs.Prelude.slice_index}
 use Rattle.def_math.specs.{Sums.total, Sums.total_below, Counts.count_below}
 use Rattle.sum_laws.proofs.{Sums.total_append, Sums.count_below_none, Sums.count_below_same, Sums.count_below_sum}
 use Rattle.sum_laws.proofs.{Tests.same_test, Tests.once_at_most}
@@ -13,7 +12,7 @@ use Rattle.def_matching.specs.Dual.{AreNestedSets, DualLists}
 use Rattle.qm_dual.specs.Nest.{climbs, AreHeads, IsMeeting, HaveSameSets, stand_of, tally, tally_with, AreTallies}
 use Rattle.qm_dual.specs.Nest.{AreSizes}
 use Rattle.qm_dual.proofs.Gathered.{set_later, around_later, climb_none, climbs_itself, climb_over, passed_on}
-use Rattle.qm_dual.proofs.Gathered.{passed_later, passed_further, entry_low, climb_on}
+use Rattle.qm_dual.proofs.Gathered.{passed_later, passed_further, climb_on}
 
 -- The first term of a sum below a bound.
 pub total_below_prefix : (f : ℕ → ℤ) (n : ℕ) → total_below f (suc n) ≡ f 0 +ℤ total_below (λ k. f (suc k)) n
@@ -24,12 +23,7 @@ total_below_prefix f (suc n) = omega (arith, ints, total_below_prefix f n)
 pub total_entries : {X : Type 0} (f : X → ℤ) (d : X) (xs : List X)
     → total f xs ≡ total_below (λ k. f (get_or xs k d)) (length xs)
 total_entries f d [] = refl
-total_entries f d (x ∷ xs) = omega (
-  arith,
-  ints,
-  total_below_prefix (λ k. f (get_or (x ∷ xs) k d)) (length xs),
-  total_entries f d xs,
-)
+total_entries f d (x ∷ xs) = search (rules, total_below_prefix, total_entries f d xs)
 
 -- One entry more.
 pub total_take : {X : Type 0} (f : X → ℤ) (d : X) (xs : List X) (i : ℕ) → i < length xs → total f (take (i + 1) xs)
@@ -187,12 +181,7 @@ module _ {n m : ℕ} {up heads : List ℕ} (nested : AreNestedSets n m up) (are 
 
   pub meeting_found : (a b i j r : ℕ) → r ≡ max a b → a ≡ suc i → b ≡ suc j → a ≤ m → b ≤ m
       → slice_index heads i ≡ slice_index heads j → IsMeeting n m up a b r
-  meeting_found a b i j r is ai bj la lb same k = elim (cases_lt i j) [
-    | inl l ↦ (let e : r ≡ suc j = omega arith in rw (e, ai, bj) (one_path i j (omega arith) (omega arith) same k))
-    | inr h ↦ (let e : r ≡ suc i = omega arith in
-        rw (e, ai, bj) (one_path j i h (omega arith) (sym same) k
-        ∙ swapped (climbs n up m k (suc j)) (climbs n up m k (suc i))))
-  ]
+  meeting_found a b i j r is ai bj la lb same k = search (rules, one_path, swapped)
 
 -- The sizes of nested sets, as the sets pass on what they hold in their order.
 
@@ -201,41 +190,18 @@ tests_low : (p : ℕ → Bool) (n : ℕ) → count_below (λ v. cond (p v) 1 0) 
 tests_low p zero = omega arith
 tests_low p (suc n) = omega (arith, once_at_most (p n), tests_low p n)
 
--- Where a climb stands when one more set has passed on.
-stand_on : (n : ℕ) (up : List ℕ) (t entry : ℕ)
-    → ((stand_of n up t entry ≡ suc t) × (stand_of n up (suc t) entry ≡ slice_index up (n + t)))
-    ⊎ ((stand_of n up t entry ≢ suc t) × (stand_of n up (suc t) entry ≡ stand_of n up t entry))
-stand_on n up t entry = elim (cases_eq (stand_of n up t entry) (suc t)) [
-  | inl e ↦ inl (e, cond-true _ _ _ (eq-eqb (stand_of n up t entry) (suc t) e))
-  | inr ne ↦ inr (ne, cond-false _ _ _ (ne_eqb (stand_of n up t entry) (suc t) ne))
-]
-
 module _ {n m : ℕ} {up : List ℕ} (nested : AreNestedSets n m up) where
   -- A climb stands at no set below the ones that passed on, and at one of the sets.
   stands_later : (t entry : ℕ) → entry ≤ m
       → ((stand_of n up t entry ≡ 0) ⊎ (t < stand_of n up t entry)) × (stand_of n up t entry ≤ m)
   stands_later zero entry low = (grind arith, low)
-  stands_later (suc t) entry low =
-      let before = stands_later t entry low in
-      elim (stand_on n up t entry) [
-        | inl e ↦ elim (set_later nested t)
-            [ inl z ↦ (inl (e.1 ∙ z), omega arith) | inr h ↦ (inr (omega arith), omega arith) ]
-        | inr ne ↦ elim before.0
-            [ inl z ↦ (inl (ne.1 ∙ z), omega arith) | inr h ↦ (inr (omega (arith, ne.0)), omega arith) ]
-      ]
+  stands_later (suc t) entry low = search (rules, stands_later t entry low)
 
   -- Passing on changes nothing for the later sets.
   climb_from_stand : (t k entry : ℕ) → t ≤ k → k < m
       → climbs n up m k (stand_of n up t entry) ≡ climbs n up m k entry
   climb_from_stand zero k entry le l = refl
-  climb_from_stand (suc t) k entry le l =
-      let rest = climb_from_stand t k entry (omega arith) l in
-      elim (stand_on n up t entry) [
-        | inl e ↦ (let on = climb_on nested k t (omega arith)
-            ∙ ap (λ x. x || climbs n up m k (slice_index up (n + t))) (ne_eqb t k (λ same. omega arith)) in
-            ap (climbs n up m k) e.1 ∙ sym on ∙ ap (climbs n up m k) (sym e.0) ∙ rest)
-        | inr ne ↦ ap (climbs n up m k) ne.1 ∙ rest
-      ]
+  climb_from_stand (suc t) k entry le l = search (rules, climb_on, climb_from_stand t k entry (omega arith) l)
 
   -- A climb passes a set exactly if it stands there when the sets below it have passed on.
   climb_stands : (k entry : ℕ) → entry ≤ m → k < m → (stand_of n up k entry == suc k) ≡ climbs n up m k entry
@@ -252,13 +218,7 @@ module _ {n m : ℕ} {up : List ℕ} (nested : AreNestedSets n m up) where
 stand_step : (n : ℕ) (up : List ℕ) (k j entry : ℕ) → j ≢ k → cond (stand_of n up (suc k) entry == suc j) 1 0
     ≡ cond (stand_of n up k entry == suc j) 1 0 + cond (slice_index up (n + k) == suc j)
     (cond (stand_of n up k entry == suc k) 1 0) 0
-stand_step n up k j entry other = elim (cases_eq (stand_of n up k entry) (suc k)) [
-  | inl e ↦ rw (
-    eq-eqb (stand_of n up k entry) (suc k) e,
-    ne_eqb (stand_of n up k entry) (suc j) (λ same. other (omega arith)),
-  ) (grind (arith))
-  | inr ne ↦ rw (ne_eqb (stand_of n up k entry) (suc k) ne) (grind (arith))
-]
+stand_step n up k j entry other = search rules
 
 -- A tally when one more set has passed on.
 tally_step : (n : ℕ) (up : List ℕ) (vertices k j : ℕ) → j ≢ k → tally n up vertices (suc k) j
@@ -290,21 +250,7 @@ length_with sizes (suc q) more = length-set sizes q (slice_index sizes q + more)
 -- A number, where the one that an entry names has grown.
 number_with : (sizes : List ℕ) (entry more j a b : ℕ) → j < length sizes → slice_index sizes j ≡ a → more ≡ b
     → slice_index (tally_with sizes entry more) j ≡ a + cond (entry == suc j) b 0
-number_with sizes zero more j a b l is same =
-    let off = cond-false (0 == suc j) b 0 (ne_eqb 0 (suc j) (λ e. omega arith)) in
-    let none : a ≡ a + cond (0 == suc j) b 0 = omega arith in
-    is ∙ none
-number_with sizes (suc q) more j a b l is same = elim (cases_eq q j) [
-  | inl e ↦ (let here = ap (slice_index sizes) e ∙ is in
-      let on = cond-true (suc q == suc q) b 0 (eq-eqb (suc q) (suc q) refl) in
-      let set = get_or-set_same sizes q (slice_index sizes q + more) 0 (omega arith) in
-      let grown : slice_index (slice_set sizes q (slice_index sizes q + more)) q ≡ a + cond (suc q == suc q) b 0 =
-      omega arith in
-      rw (← e) grown)
-  | inr ne ↦ (let off = cond-false (suc q == suc j) b 0 (ne_eqb (suc q) (suc j) (λ e. ne (omega arith))) in
-      let none : a ≡ a + cond (suc q == suc j) b 0 = omega arith in
-      get_or-set_other sizes q j (slice_index sizes q + more) 0 (λ e. ne (sym e)) ∙ is ∙ none)
-]
+number_with sizes entry more j a b h1 h2 h3 = search rules
 
 -- One set more has passed on what it holds.
 pub tallies_pass : {n m : ℕ} {up : List ℕ} → AreNestedSets n m up → (k : ℕ) (sizes : List ℕ) → k < m
@@ -336,10 +282,4 @@ tallies_pass {n} {m} {up} nested k sizes lk are =
 -- When all sets have passed on, the tallies are the sizes.
 pub tallies_end : {n : ℕ} {d : DualLists} → AreNestedSets n (length d.z) d.up → (t : ℕ) (sizes : List ℕ)
     → length d.z ≤ t → AreTallies n (length d.z) d.up n (λ j. min j t) sizes → AreSizes n d sizes
-tallies_end {n} {d} nested t sizes high are = record {
-  count = are.count;
-  each = λ k l. let is : min k t ≡ k = omega arith in
-      are.each k l ∙ (ap (λ i. tally n d.up n i k) is
-      ∙ count_below_same _ _ n (λ v lv. ap (λ b. cond b 1 0)
-      (climb_stands nested k (slice_index d.up v) (entry_low nested v lv) l)));
-}
+tallies_end {n} {d} nested t sizes high are = search (rules, count_below_same, climb_stands)

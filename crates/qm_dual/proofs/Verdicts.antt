@@ -1,7 +1,8 @@
 -- The verdict yes is that the dual says yes.
-use Rattle.std.proofs.Common.{◌≡◌, ℕ, ◌+◌, ◌<◌, ◌==◌, Bool, true, false, not, cond, List, length, ℤ, pos, ◌*ℤ◌, ◌≤ℤ◌}
-use Rattle.std.proofs.Common.{◌^◌, ◌≤◌, Option, Some, None, IfNone, Result, Ok, Err, IfOk, refl, sym, ◌∙◌, ap, arith}
-use Rattle.std.proofs.{lemmas.Int.ints, lemmas.Bool.eq-eqb, lemmas.Bool.not-false, lemmas.Bool.Decides.nat_tests}
+use Rattle.std.proofs.Common.{rules, ◌≡◌, ℕ, ◌+◌, ◌<◌, ◌==◌, Bool, true, false, not, cond, List, length, ℤ, pos, ◌*ℤ◌}
+use Rattle.std.proofs.Common.{◌≤ℤ◌, ◌^◌, ◌≤◌, Option, Some, None, IfNone, Result, Ok, Err, IfOk, refl, sym, ◌∙◌, ap}
+use Rattle.std.proofs.Common.{arith}
+use Rattle.std.proofs.{lemmas.Int.ints, lemmas.Bool.not-false}
 use Rattle.std.specs.Prelude.{int_lt, slice_index, slice_index_or}
 use Rattle.qm_dual.proofs.{Gathered.least_none, Gathered.least_some, Gathered.least_same, Gathered.none_below}
 use Rattle.qm_dual.proofs.{Weak.weak_duality}
@@ -38,17 +39,12 @@ shaped n d none = by_tests (length d.y == n) (length d.up == n + length d.z) ref
         → cond (not a) (Some n) (cond (not b) (Some (n + 1))
         (least (λ i. not (is_up n (length d.z) i (slice_index d.up i))) (n + length d.z))) ≡ None
         → (length d.y ≡ n) × AreNestedSets n (length d.z) d.up
-    by_tests true true ny nu off =
-        (grind (arith, nat_tests), placed n (length d.z) d.up (grind (arith, nat_tests)) off)
+    by_tests true true ny nu off = search (rules, placed)
     by_tests _ _ ny nu off = absurd cc
 
 -- A well shaped dual has no fault of the shape.
 no_shape_fault : (n : ℕ) (d : DualLists) → length d.y ≡ n → AreNestedSets n (length d.z) d.up → shape_fault n d ≡ None
-no_shape_fault n d ny nested =
-    let first : (length d.y == n) ≡ true = eq-eqb (length d.y) n ny in
-    let second : (length d.up == n + length d.z) ≡ true = eq-eqb (length d.up) (n + length d.z) nested.entries in
-    rw (first, second) (least_none (λ i. not (is_up n (length d.z) i (slice_index d.up i))) (n + length d.z)
-    (λ i l. ap not (nested.later i l)))
+no_shape_fault n d ny nested = search (rules, least_none)
 
 pub yes_says : (g : WeightedGraph) (d : DualLists) (s : ℤ) → verdict g d ≡ Yes s → SaysYes g d × (s ≡ dual_sum d)
 yes_says g d s is = by_faults (shape_fault g.n d) (even_fault g.n d) (negative_fault d) (short_fault g d)
@@ -77,13 +73,7 @@ yes_says g d s is = by_faults (shape_fault g.n d) (even_fault g.n d) (negative_f
     by_faults _ _ _ _ a b c e same = absurd cc
 
 pub says_yes : (g : WeightedGraph) (d : DualLists) → SaysYes g d → verdict g d ≡ Yes (dual_sum d)
-says_yes g d says =
-    let shape = no_shape_fault g.n d says.numbers says.nested in
-    let even = least_none (λ k. not (is_odd_size (set_size g.n d k))) (length d.z) (λ k l. ap not (says.odd k l)) in
-    let negative = least_none (λ k. int_lt (z_at d k) (pos 0)) (length d.z)
-    (λ k l. grind (arith, ints, says.positive k l)) in
-    let short = least_none (is_short g d) (length g.edges) (λ k l. grind (arith, ints, says.loaded k l)) in
-    rw (shape, even, negative, short) refl
+says_yes g d says = search (rules, least_none, ints)
 
 -- After yes each perfect matching has twice its cost at least the sum.
 pub yes_bounds : (g : WeightedGraph) (d : DualLists) (v : Verdict) → IsGraph g → v ≡ verdict g d → (s : ℤ) → v ≡ Yes s

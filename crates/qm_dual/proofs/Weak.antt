@@ -1,21 +1,19 @@
 -- Weak duality: where a dual says yes, each perfect matching has twice its cost at least the dual's sum.
-use Rattle.std.proofs.Common.{inl, inr, ◌≡◌, ℕ, ◌+◌, ◌*◌, ◌%◌, ◌<◌, ◌≤◌, Bool, true, cond, List, [], ◌∷◌, map, length}
-use Rattle.std.proofs.Common.{ℤ, pos, ◌+ℤ◌, ◌*ℤ◌, ◌≤ℤ◌, refl, arith}
+use Rattle.std.proofs.Common.{rules, inl, inr, ◌≡◌, ℕ, ◌+◌, ◌*◌, ◌%◌, ◌<◌, ◌≤◌, Bool, true, cond, List, [], ◌∷◌, map}
+use Rattle.std.proofs.Common.{length, ℤ, pos, ◌+ℤ◌, ◌*ℤ◌, ◌≤ℤ◌, refl, arith}
 use Rattle.std.proofs.{lemmas.Bool.cases_Bool, lemmas.Int.ints, lemmas.Bool.Decides.nat_tests}
 use Rattle.def_math.specs.{Counts.count, Counts.count_below, Sums.total, Sums.total_below, Increasing.IsIncreasing}
 use Rattle.sum_laws.proofs.Sums.{count_below_total, total_sum, total_below_le, two_orders}
 use Rattle.qm_dual.proofs.{Gathered.EndsBelow, Gathered.ends_once, Tallies.total_entries}
 use Rattle.def_matching.specs.Matching.{WeightedGraph, IsGraph, edge_at, ends_at, IsPerfect, matching_cost}
-use Rattle.def_matching.specs.Dual.{DualLists, SaysYes, holds, set_size, is_odd_size, crosses, load, y_at, z_at}
-use Rattle.def_matching.specs.Dual.{dual_sum}
-use Rattle.def_matching.specs.declared.weighted.WEdge.{WEdge}
+use Rattle.def_matching.specs.{Dual.DualLists, Dual.SaysYes, Dual.holds, Dual.set_size, Dual.is_odd_size, Dual.crosses}
+use Rattle.def_matching.specs.{Dual.load, Dual.y_at, Dual.z_at, Dual.dual_sum, declared.weighted.WEdge.WEdge}
 
 -- The edges of increasing numbers have their ends among the vertices.
 pub chosen_below : (g : WeightedGraph) → IsGraph g → (low : ℕ) (m : List ℕ) → IsIncreasing low (length g.edges) m
     → EndsBelow (λ (e : WEdge). e.u) (λ (e : WEdge). e.v) g.n (map (edge_at g) m)
 chosen_below g is low [] increasing = tt
-chosen_below g is low (k ∷ ks) increasing =
-    (is.left k increasing.1, is.right k increasing.1, chosen_below g is (k + 1) ks increasing.2)
+chosen_below g is low (k ∷ ks) increasing = search (rules, chosen_below g is (k + 1) ks increasing.2)
 
 -- No load of the chosen edges is above twice the cost, and so their sum is not.
 pub loads_low : (g : WeightedGraph) (d : DualLists) → SaysYes g d → (low : ℕ) (m : List ℕ)

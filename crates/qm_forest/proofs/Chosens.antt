@@ -1,20 +1,18 @@
 -- The edges that are chosen in the end, as a list. Where all blossoms are matched, they are a perfect matching, and
 -- twice its cost is the sum.
-use Rattle.std.proofs.Common.{◌≡◌, ℕ, suc, ◌+◌, ◌*◌, ◌<◌, ◌≤◌, Bool, true, false, cond, ◌&&◌, List, [], ◌∷◌, ◌++◌, map}
-use Rattle.std.proofs.Common.{length, get_or, replicate, Option, None, Result, Ok, Err, IfOk, refl, sym, ◌∙◌, ap, inl}
-use Rattle.std.proofs.Common.{inr, arith, ◌≢◌, ℤ, pos, ◌*ℤ◌, add-one}
-use Rattle.std.proofs.{lemmas.Grind.common_steps, lemmas.Option.none-some, lemmas.Int.ints, lemmas.Bool.cases_eq}
-use Rattle.std.proofs.{lemmas.Bool.cases_lt, lemmas.List.get_or_append_left, lemmas.List.get_or_push}
+use Rattle.std.proofs.Common.{rules, ◌≡◌, ℕ, suc, ◌+◌, ◌*◌, ◌<◌, ◌≤◌, Bool, true, false, cond, ◌&&◌, List, [], ◌∷◌}
+use Rattle.std.proofs.Common.{◌++◌, map, length, get_or, replicate, Option, None, Result, Ok, Err, IfOk, refl, sym, ◌∙◌}
+use Rattle.std.proofs.Common.{ap, inl, inr, arith, ◌≢◌, ℤ, pos, ◌*ℤ◌, add-one}
+use Rattle.std.proofs.{lemmas.Grind.common_steps, lemmas.Int.ints, lemmas.Bool.cases_eq, lemmas.Bool.cases_lt}
+use Rattle.std.proofs.{lemmas.List.get_or_append_left, lemmas.List.get_or_push}
 use Rattle.def_math.specs.{Counts.count, Counts.count_below, Increasing.IsIncreasing, Sums.total}
 use Rattle.sum_laws.proofs.Sums.{count_append, count_below_none, count_below_same, total_below_same, two_orders}
 use Rattle.def_matching.specs.Matching.{WeightedGraph, edge_at, ends_at, IsPerfect, matching_cost}
 use Rattle.def_matching.specs.{Dual.crosses, declared.weighted.WEdge.WEdge}
 use Rattle.def_forest.specs.Forests.{bool_number, splits, Forest, IsTight, dual_sum_of, weight_between, walk}
 use Rattle.def_forest.specs.{Tables.ForestTables, Tables.forest_of, Tables.MatchesBut, Darts.darts_of}
-use Rattle.forest_laws.proofs.Bounds.{dart_near, near_odd, dart_far, dart_cost, leaves_vertex, just_once}
-use Rattle.forest_laws.proofs.Grows.{true_false}
-use Rattle.qm_forest.specs.Rounds.{IsSoundFor, AreMarked, IsLaminar, IsRound, leaving, waiting, waits_but, waits_for}
-use Rattle.qm_forest.specs.Rounds.{matched_by}
+use Rattle.forest_laws.proofs.Bounds.{dart_near, near_odd, dart_far, dart_cost, just_once}
+use Rattle.qm_forest.specs.Rounds.{IsSoundFor, AreMarked, IsLaminar, IsRound, leaving, waits_but, matched_by}
 use Rattle.qm_forest.proofs.{Fresh.same_everywhere, Withins.alone, Withins.another, MateRounds.due_one}
 use Rattle.qm_forest.proofs.{MateRounds.due_same}
 
@@ -27,8 +25,7 @@ increasing_more low bound (x ∷ xs) le increasing =
 
 pub increasing_higher : (low bound : ℕ) (xs : List ℕ) → IsIncreasing low bound xs → IsIncreasing low (bound + 1) xs
 increasing_higher low bound [] increasing = tt
-increasing_higher low bound (x ∷ xs) increasing =
-    (increasing.0, omega arith, increasing_higher (x + 1) bound xs increasing.2)
+increasing_higher low bound (x ∷ xs) increasing = search (rules, increasing_higher (x + 1) bound xs increasing.2)
 
 -- One place more, with a mark or without.
 pub marked_more : {marks : List Bool} {e : ℕ} {xs : List ℕ} → get_or marks e false ≡ true → AreMarked marks e xs
@@ -52,15 +49,7 @@ marked_same {marks} {e} {xs} off are = record {
 pub round_begins : (t : ForestTables) {marks : List Bool} {left : List (Option ℕ)} (m size : ℕ) (rest : ℕ → ℕ)
     → marks ≡ replicate m false → left ≡ replicate size None → ((v : ℕ) → v < length t.hand → rest v ≤ 1)
     → IsRound t marks left rest rest
-round_begins t {marks} {left} m size rest marks_is left_is once = record {
-  each = λ b l. (let none : leaving t marks b ≡ 0 = count_below_none _ _
-      (λ e le. rw (same_everywhere m false marks_is e)) in
-      let calm : waiting t left b ≡ 0 = count_below_none _ _ (λ c lc. rw (same_everywhere size None left_is c)) in
-      omega arith);
-  entry = λ c v is. absurd (none-some v (sym (same_everywhere size None left_is c) ∙ is));
-  once = once;
-  tight = λ g valid e on. absurd (true_false on (same_everywhere m false marks_is e));
-}
+round_begins t {marks} {left} m size rest marks_is left_is once = search (rules, count_below_none, same_everywhere)
 
 -- What follows for what was made from two things that hold of it.
 pub if_both : {X E : Type 0} {P Q R : X → Type 0} (r : Result X E) → IfOk r P → IfOk r Q → ((x : X) → P x → Q x → R x)
@@ -71,10 +60,7 @@ if_both (Err e) p q both = tt
 -- Where nothing waits, each blossom is left as often as is due.
 pub round_ends : {t : ForestTables} {marks : List Bool} {left : List (Option ℕ)} {due : ℕ → ℕ} → IsRound t marks left
     (λ b. 0) due → ((c : ℕ) → get_or left c None ≡ None) → (b : ℕ) → b < length t.up → leaving t marks b ≡ due b
-round_ends {t} {left} round ended b l =
-    let calm = count_below_none (λ c. waits_for t b c (get_or left c None)) (length left)
-    (λ c lc. ap (waits_for t b c) (ended c)) in
-    omega (arith, round.each b l)
+round_ends {t} {left} round ended b l = search (rules, count_below_none)
 
 pub count_map : {X : Type 0} (f : X → ℕ) (h : ℕ → X) (xs : List ℕ) → count f (map h xs) ≡ count (λ k. f (h k)) xs
 count_map f h [] = refl
@@ -127,10 +113,7 @@ module _ {t : ForestTables} (known : IsLaminar t) {g : WeightedGraph} (valid : I
       counted : (low : ℕ) (xs : List ℕ) → IsIncreasing low (length g.edges) xs
           → count (leaves w) xs ≡ count (λ e. ends_at w (edge_at g e)) xs
       counted low [] r = refl
-      counted low (x ∷ xs) r =
-          let here : leaves w x ≡ ends_at w (edge_at g x) = leaves_vertex valid.small.lawful
-          (rw valid.vertices at known.vertices) valid.valid.nested w x (rw valid.vertices at lw) r.1 in
-          omega (arith, counted (x + 1) xs r.2)
+      counted low (x ∷ xs) r = search (rules, counted (x + 1) xs r.2)
 
   -- The edges match all vertices of a blossom but one.
   pub matches_but : {left : List (Option ℕ)} (b v : ℕ) → v < length t.hand → IsRound t marks left (λ c. 0)

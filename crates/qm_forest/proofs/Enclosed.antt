@@ -1,7 +1,7 @@
 -- Climbing after a row of outermost blossoms got a set around them.
-use Rattle.std.proofs.Common.{◌≡◌, ◌≢◌, ℕ, zero, suc, ◌+◌, ◌<◌, ◌≤◌, Bool, true, false, cond, eqb, ◌||◌, refl, ◌∙◌, ap}
-use Rattle.std.proofs.Common.{subst, inl, inr, arith, List, get_or, sym}
-use Rattle.std.proofs.lemmas.Bool.{cases_eq, cases_Bool, eq-eqb, ne_eqb, eqb-true, or_cases, or_right}
+use Rattle.std.proofs.Common.{rules, ◌≡◌, ◌≢◌, ℕ, zero, suc, ◌+◌, ◌<◌, ◌≤◌, Bool, true, false, cond, eqb, ◌||◌, refl}
+use Rattle.std.proofs.Common.{◌∙◌, ap, subst, inl, inr, arith, List, get_or, sym}
+use Rattle.std.proofs.lemmas.Bool.{cases_eq, cases_Bool, eq-eqb, ne_eqb, eqb-true, or_cases}
 use Rattle.def_forest.specs.{Forests.walk, Tables.climbs, Tables.out_of, Tables.up_at}
 use Rattle.forest_laws.proofs.Walks.{walk_front, walk_fixed}
 use Rattle.qm_forest.specs.Ties.{IsClimb, IsInUse, IsLaidOut, IsListed}
@@ -184,5 +184,4 @@ module _ {n size : ℕ} {hand top up rank parts leader first last following : Li
 -- One comes past where one comes to.
 pub came_past : (up : ℕ → ℕ) (k v x : ℕ) → walk up v k ≡ x → climbs up k x v ≡ true
 came_past up zero v x e = eq-eqb v x e
-came_past up (suc k) v x e =
-    or_right (eqb v x) (climbs up k x (up v)) (came_past up k (up v) x (sym (walk_front up v k) ∙ e))
+came_past up (suc k) v x e = search (rules, came_past up k (up v) x (sym (walk_front up v k) ∙ e))

@@ -1,15 +1,14 @@
 -- Blossoms of a ring that leave the tree, and the set that is closed of them; or that are matched, or hung into it.
-use Rattle.std.proofs.Common.{◌≡◌, ℕ, suc, ◌+◌, ◌-◌, ◌%◌, ◌<◌, Bool, List, add-one, eqb, length, get_or, Some, None}
-use Rattle.std.proofs.Common.{◌∙◌, ◌≢◌, ◌*◌, ◌≤◌, true, refl, sym, ap, subst, inl, inr}
-use Rattle.std.proofs.lemmas.List.{get_or_read}
+use Rattle.std.proofs.Common.{rules, ◌≡◌, ℕ, suc, ◌+◌, ◌-◌, ◌%◌, ◌<◌, Bool, List, add-one, eqb, length, get_or, Some}
+use Rattle.std.proofs.Common.{None, ◌∙◌, ◌≢◌, ◌*◌, ◌≤◌, true, refl, sym, ap, subst, inl, inr}
+use Rattle.{std.proofs.lemmas.List.get_or_read, qm_forest.specs.declared.expanding.Course.Course}
 use Rattle.def_forest.specs.Tables.{ForestTables, out_of, IsOutermostIn, forest_of, IsValidFor}
 use Rattle.def_forest.specs.{Forests.Forest, Forests.walk, declared.kinds.Label.TheVariants.Outside}
 use Rattle.def_forest.specs.{declared.kinds.Label.Label, Darts.Darts, Darts.darts_of, Opened.IsExpanding, Ways.dart_or}
 use Rattle.qm_forest.specs.Parts.{hung, paired, side_dart, turn_label, HasOpened, IsCourse, IsParted}
 use Rattle.qm_forest.specs.Ties.{AreTied, HiddenTables, HasSameNest, labelled, linked, mated, left_alone, fixed_of}
-use Rattle.qm_forest.specs.declared.expanding.Course.{Course}
 use Rattle.qm_forest.proofs.Openings.{CanOpen, are, inside as the_inside, in_tree, joined, mate_is, part_low, ring_from}
-use Rattle.qm_forest.proofs.Openings.{first_in, last_in, tree_is, expanding, laid}
+use Rattle.qm_forest.proofs.{Openings.first_in, Openings.last_in, Openings.tree_is, Routes.expanding, Routes.laid}
 use Rattle.qm_forest.proofs.{Enclosed.leader_out, TiedWrites.outermost_low, OnWays.valid_as}
 use Rattle.forest_laws.proofs.{Walks.IsCircle, Expands.opened_valid}
 use Rattle.{def_matching.specs.Matching.WeightedGraph, forest_laws.specs.Walks.listed}
@@ -42,8 +41,7 @@ pub hung_more : (f0 : Forest) {f1 f2 f3 : Forest} (front k : ℕ) {j before x : 
     (s : Bool) → f1 ≡ hung f0 front k s → f2 ≡ labelled f1 (f1.out v) l → f3 ≡ linked f2 x dart → f1.out v ≡ x
     → l ≡ turn_label k → dart ≡ side_dart f2 before x s → x ≡ walk f0.nest.after front k
     → before ≡ walk f0.nest.after front (k - 1) → j ≡ suc k → f3 ≡ hung f0 front j s
-hung_more f0 front k v s e1 e2 e3 v_is l_is dart_is x_is before_is j_is =
-    e3 ∙ rw (dart_is, e2, v_is, l_is, x_is, before_is, e1, j_is)
+hung_more f0 front k v s e1 e2 e3 v_is l_is dart_is x_is before_is j_is = search rules
 
 -- The leader of an outermost blossom is a vertex of it.
 pub leader_of : {t : ForestTables} {hid : HiddenTables} → AreTied t hid → (b : ℕ) {v : ℕ} {u : ForestTables} → t ≡ u

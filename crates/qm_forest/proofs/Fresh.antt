@@ -1,8 +1,8 @@
 -- Climbing from two vertices of one blossom until one meets: what is passed on the way is what lies around just one.
-use Rattle.std.proofs.Common.{◌≡◌, ◌≢◌, ℕ, zero, suc, ◌+◌, ◌*◌, ◌<◌, ◌≤◌, ◌^◌, Bool, true, false, not, cond, eqb, ◌||◌}
-use Rattle.std.proofs.Common.{ℤ, pos, ◌+ℤ◌, refl, sym, ◌∙◌, ap, arith, count_by, is_some, ◌-◌, ◌/◌, ◌%◌, ◌⊎◌, Option}
-use Rattle.std.proofs.Common.{Some, None, inl, inr, max, List, length, get_or, replicate, ◌*ℤ◌, ◌≤ℤ◌, [], ◌∷◌}
-use Rattle.std.proofs.lemmas.Bool.{cond-true, eq-eqb, eqb-true, cases_eq, ne_eqb, false_from_ne_true}
+use Rattle.std.proofs.Common.{rules, ◌≡◌, ◌≢◌, ℕ, zero, suc, ◌+◌, ◌*◌, ◌<◌, ◌≤◌, ◌^◌, Bool, true, false, not, cond, eqb}
+use Rattle.std.proofs.Common.{◌||◌, ℤ, pos, ◌+ℤ◌, refl, sym, ◌∙◌, ap, arith, count_by, is_some, ◌-◌, ◌/◌, ◌%◌, ◌⊎◌}
+use Rattle.std.proofs.Common.{Option, Some, None, inl, inr, max, List, length, get_or, replicate, ◌*ℤ◌, ◌≤ℤ◌, [], ◌∷◌}
+use Rattle.std.proofs.lemmas.Bool.{cond-true, eq-eqb, eqb-true, cases_eq, ne_eqb}
 use Rattle.std.proofs.{lemmas.Int.ints, lemmas.List.get_or-replicate, lemmas.List.length-replicate}
 use Rattle.std.proofs.{lemmas.List.get_or_past, lemmas.List.Folds.sum_by-replicate, lemmas.List.Sums.sum_by-cons}
 use Rattle.sum_laws.proofs.Sums.{total_below_same, total_below_sum, total_below_one, total_below_none, count_below_none}
@@ -11,8 +11,8 @@ use Rattle.def_forest.specs.Tables.{climbs, size_of, ForestTables, forest_of, up
 use Rattle.def_forest.specs.{Darts.darts_of, Steps.weight_change, Valid.AreOutermost, declared.kinds.Label.Label}
 use Rattle.def_forest.specs.{declared.kinds.Label.TheVariants.Outside, Needs.AreFeasible}
 use Rattle.forest_laws.proofs.{Walks.walk_fixed, Walks.walk_front, Walks.walk_sum, Grows.by_same, Grows.true_false}
-use Rattle.forest_laws.proofs.{Grows.label_cases, Grows.load_across, Bounds.eqb_order, Bounds.near_even}
-use Rattle.forest_laws.proofs.{Bounds.near_odd, Bounds.twin_even, Bounds.twin_odd}
+use Rattle.forest_laws.proofs.{Grows.load_across, Bounds.eqb_order, Bounds.near_even, Bounds.near_odd, Bounds.twin_even}
+use Rattle.forest_laws.proofs.{Bounds.twin_odd}
 use Rattle.qm_forest.specs.Ties.{IsClimb, apart, AreTied, HiddenTables, IsFresh, AreStarts, HasLowCosts, IsGreatestTo}
 use Rattle.qm_forest.specs.Ties.{IsLowered, potential, added, relabelled}
 use Rattle.qm_forest.proofs.TiedWrites.{sum_small, read_nat, tied_as, numbers_as, sizes_kept}
@@ -72,9 +72,7 @@ module _ {n : ℕ} {up : ℕ → ℕ} (rank : ℕ → ℕ) {out : ℕ → ℕ} (
   -- Of two blossoms on the ways, the lower can climb.
   pub can_climb : (u v x y : ℕ) → u < n → v < n → out u ≡ out v → OnWayFrom u x → OnWayFrom v y → x ≢ y
       → rank x ≤ rank y → up x ≢ x
-  can_climb u v x y lu lv same wx wy ne le fixed =
-      let top = rank_low v (up y) lv (goes_on v y wy) in
-      grind (arith, fixed_top u lu wx fixed, fixed_top v lv wy, rises y)
+  can_climb u v x y lu lv same wx wy ne le fixed = search (rules, rank_low, goes_on, fixed_top)
 
   -- What is passed from a blossom: itself, and what is passed from the one around it.
   climbs_step : (v x b : ℕ) → v < n → OnWayFrom v x → climbs up n b x ≡ (eqb x b || climbs up n b (up x))
@@ -141,19 +139,14 @@ module _ {t : ForestTables} {hid : HiddenTables} (tied : AreTied t hid)
     ≡ false) (trail : List ℕ) (empty : length trail ≡ 0) (room : ℕ) (more : hid.room ≤ room) where
   -- All blossoms are outside: those that are not outermost have no place in the tree.
   all_outside : (b : ℕ) → label_at t.label b ≡ Outside
-  all_outside b = elim (label_cases _) [
-    | inl off' ↦ off'
-    | inr named ↦ (let w =
-        tied.trail.named b named in absurd (named (ap (label_at t.label) (sym w.2) ∙ outside w.0 w.1)))
-  ]
+  all_outside b = search rules
 
   abbrev pub forgotten : ForestTables
   forgotten = record t { root = None; delta = pos 0; trail = trail }
 
   -- No mark is left.
   none_marked : (v : ℕ) → get_or marks v false ≡ false
-  none_marked v = false_from_ne_true _ (λ on. (let w = tied.trail.marked v (old v on) in
-      true_false on (rw w.2 at (gone w.0 w.1))))
+  none_marked v = search rules
 
   unmoved : (b : ℕ) (d : ℤ) → weight_change (label_at t.label b) d ≡ pos 0
   unmoved b d = ap (λ (l : Label). weight_change l d) (all_outside b)
@@ -181,8 +174,7 @@ module _ {t : ForestTables} {hid : HiddenTables} (tied : AreTied t hid)
 
 -- A list of one value has it everywhere, if it stands past the end too.
 pub same_everywhere : {X : Type 0} {xs : List X} (n : ℕ) (x : X) → xs ≡ replicate n x → (k : ℕ) → get_or xs k x ≡ x
-same_everywhere n x e k = ap (λ ys. get_or ys k x) e
-    ∙ grind (arith, get_or-replicate n k x x, get_or_past (replicate n x) k x, length-replicate n x)
+same_everywhere n x e k = search (rules, get_or-replicate, get_or_past, length-replicate)
 
 -- And is as long as it has the value.
 long_as : {X : Type 0} {xs : List X} (n : ℕ) (x : X) → xs ≡ replicate n x → length xs ≡ n
@@ -218,9 +210,7 @@ module _ {n size : ℕ} {lows : List ℤ} {t : ForestTables} {hid : HiddenTables
       ∙ grind (arith, holds_is v v, weight_is v)
 
   added_is : (v : ℕ) → added t.hand t.top hid.off t.label t.delta v ≡ pos 0
-  added_is v =
-      let off = same_everywhere n (pos 0) fresh.offs (get_or t.hand v 0) in
-      omega (arith, ints, change_none (out_of t.hand t.top v) t.delta)
+  added_is v = search (rules, same_everywhere)
 
   used_low : (x : ℕ) → (x < n) ⊎ (get_or t.parts x 0 ≢ 0) → x < n
   used_low x used = grind (arith, same_everywhere size 0 fresh.parts x)
@@ -286,15 +276,7 @@ module _ {n size : ℕ} {lows : List ℤ} {t : ForestTables} {hid : HiddenTables
     weightless b high = weight_is b ∙ get_or_past lows b (pos 0) (rw (fresh.size_lows ∙ n_is) high)
 
     outermost : AreOutermost g.n (forest_of t)
-    outermost = record {
-      vertices = omega arith;
-      out_low = λ v l. rw (outs v l) (omega arith);
-      held = λ u v lu lv. holds_is ((forest_of t).out u) v ∙ ap (λ k. eqb k ((forest_of t).out u)) (sym (outs v lv));
-      tops = λ v l. up_self _;
-      together = λ b u v lu lv hu hv. outs u lu
-          ∙ (eqb-true u b (sym (holds_is b u) ∙ hu) ∙ (sym (eqb-true v b (sym (holds_is b v) ∙ hv)) ∙ sym (outs v lv)));
-      named = λ b named. absurd (named (label_is b));
-    }
+    outermost = search (rules, holds_is, label_is)
 
     -- No load between two vertices is above twice the cost of an edge between them.
     feasible_dart : (u v : ℕ) (c : ℤ) → u < g.n → v < g.n → u ≢ v → (get_or lows u (pos 0) +ℤ get_or lows v (pos 0)) ≤ℤ

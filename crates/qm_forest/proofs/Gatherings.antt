@@ -1,62 +1,28 @@
 -- A ring of outermost blossoms is gathered into a set: what its blossoms, their lists and their handles are before,
 -- what each loop needs, and the tie and the forest after all of them.
-use Rattle.std.proofs.Common.{◌≡◌, ◌≢◌, ℕ, suc, ◌-◌, ◌<◌, ◌≤◌, ◌^◌, Bool, true, false, cond, eqb, List, length, get_or}
-use Rattle.std.proofs.Common.{pos, Option, Some, None, refl, sym, ◌∙◌, ap, subst, inl, inr, length-set, get_or-set_same}
-use Rattle.std.proofs.Common.{get_or-set_other, arith, zero}
+use Rattle.std.proofs.Common.{rules, ◌≡◌, ◌≢◌, ℕ, suc, ◌-◌, ◌<◌, ◌≤◌, ◌^◌, Bool, true, false, cond, eqb, List, length}
+use Rattle.std.proofs.Common.{get_or, pos, Option, Some, None, refl, sym, ◌∙◌, ap, subst, inl, inr, length-set}
+use Rattle.std.proofs.Common.{get_or-set_same, get_or-set_other, arith}
 use Rattle.std.proofs.lemmas.Bool.{cases_eq, cases_Bool, cond-true, cond-false, eq-eqb, eqb-true}
-use Rattle.std.proofs.{Math.ListN.set, lemmas.Int.ints, lemmas.List.get_or_past, lemmas.List.get_or_read}
-use Rattle.std.proofs.{lemmas.Option.slice_get_within, lemmas.Grind.common_steps}
+use Rattle.std.proofs.{Math.ListN.set, lemmas.Int.ints, lemmas.List.get_or_past, lemmas.Option.slice_get_within}
+use Rattle.std.proofs.{lemmas.Grind.common_steps}
 use Rattle.def_forest.specs.Tables.{ForestTables, forest_of, climbs, label_at, out_of, up_at}
 use Rattle.def_forest.specs.{Forests.walk, Forests.ring_sum, Forests.set_at, declared.kinds.Label.TheVariants.Outside}
-use Rattle.forest_laws.specs.Walks.{listed, writes}
+use Rattle.forest_laws.specs.Walks.{listed}
 use Rattle.forest_laws.proofs.Walks.{listed_at, listed_off, listed_place, writes_all, writes_at, writes_off}
-use Rattle.forest_laws.proofs.Grows.{label_cases}
 use Rattle.qm_forest.specs.Gathers.{AreEnclosed, AreJoinable, AreJoined, HasListAt, HasListsOf, HasRenamedRow}
-use Rattle.qm_forest.specs.Gathers.{IsFreeRing, IsGathered, TookSet, root_around, IsRow}
+use Rattle.qm_forest.specs.Gathers.{IsFreeRing, IsGathered, TookSet, root_around}
 use Rattle.qm_forest.specs.{Ties.AreTied, Ties.HiddenTables, Ties.IsInUse, Ties.IsLaidOut, Ties.IsListed}
 use Rattle.qm_forest.specs.{Views.tables_of, Views.hidden_of, declared.forest.Forest.TheInside.Inside}
 use Rattle.qm_forest.specs.{declared.tables.Handles.Handles, declared.tables.Lists.Lists, declared.tables.Rings.Rings}
 use Rattle.qm_forest.proofs.Enclosed.{Enclosing, climb_enclosed, holds_new, holds_same, came_past, held_out, last_free}
 use Rattle.qm_forest.proofs.Enclosed.{leader_low, leader_out, out_used, rank_few, rank_passed, rank_some, reached_used}
 use Rattle.qm_forest.proofs.JoinedLists.{list_agrees, list_few, list_has_last, list_member, list_renamed, row_few}
-use Rattle.qm_forest.proofs.JoinedLists.{row_joined, walk_agrees}
+use Rattle.qm_forest.proofs.JoinedLists.{row_joined, walk_agrees, ring_sum_above}
 use Rattle.qm_forest.proofs.TiedWrites.{numbers_kept, tied_as, trail_kept, added_small, change_small, delta_small}
 use Rattle.qm_forest.proofs.TiedWrites.{outermost_low, read_nat, told_small, entry_set}
-use Rattle.qm_forest.proofs.{Shrinkings.seen_in, Shrinkings.hidden_in, Waitings.pool_changed, RenamedRows.row_place}
+use Rattle.qm_forest.proofs.{Shrinkings.seen_in, Shrinkings.hidden_in, Waitings.pool_changed}
 use Rattle.{std.specs.Prelude.unsigned_abs, qm_pool.specs.declared.pool.Node.Node, sum_laws.proofs.Tests.same_test}
-
--- A sum over fewer places is no greater.
-pub ring_sum_below : (next f : ℕ → ℕ) (from k n : ℕ) → k ≤ n → ring_sum next f from k ≤ ring_sum next f from n
-ring_sum_below next f from k zero l = (let z : k ≡ 0 = omega arith in omega (arith, ap (ring_sum next f from) z))
-ring_sum_below next f from k (suc n) l = elim (cases_eq k (suc n)) [
-  | inl e ↦ omega (arith, ap (ring_sum next f from) e)
-  | inr ne ↦ omega (arith, ring_sum_below next f from k n (omega arith))
-]
-
--- Each of two or more numbers along a row, none of them 0, is less than their sum.
-pub ring_sum_above : (next f : ℕ → ℕ) (from many : ℕ) → 2 ≤ many → ((j : ℕ) → j < many → 1 ≤ f (walk next from j))
-    → (k : ℕ) → k < many → f (walk next from k) < ring_sum next f from many
-ring_sum_above next f from many two some k l =
-    let below = ring_sum_below next f from (suc k) many (omega arith) in
-    let both = ring_sum_below next f from (suc 1) many two in
-    grind (arith, ring_sum_below next f from 1 k, some 0, some 1)
-
--- One entry more is written.
-pub written_more : (xs ys : List ℕ) (place value : ℕ → ℕ) (k : ℕ) {j p v : ℕ} → p < length xs → (λ i. get_or xs i 0)
-    ≡ writes (λ i. get_or ys i 0) place value k → p ≡ place k → v ≡ value k → j ≡ suc k → (λ i. get_or (set xs p v) i 0)
-    ≡ writes (λ i. get_or ys i 0) place value j
-written_more xs ys place value k {p} {v} low was p_is v_is j_is = entry_set xs p v 0 low
-    ∙ rw (p_is, v_is, j_is) (ap (λ (f : ℕ → ℕ). set_at f (place k) (value k)) was)
-
--- A table that has not changed, with an entry for each blossom, has one for each of a row; and what is read there.
-module _ {after : List ℕ} {front many : ℕ} (k : ℕ) {x : ℕ} (row : IsRow (length after) after front many) (l : k < many)
-    (x_is : x ≡ walk (λ i. get_or after i 0) front k) {xs ys : List ℕ} (same : xs ≡ ys)
-    (size : length ys ≡ length after) where
-  pub entry_low : x < length xs
-  entry_low = rw (same, size) (row_place k row l x_is)
-
-  pub entry_read : {v : ℕ} → v ≡ get_or xs x v → v ≡ get_or ys (walk (λ i. get_or after i 0) front k) 0
-  entry_read {v} read = get_or_read xs x v entry_low read 0 ∙ rw (same, x_is)
 
 module _ {t : ForestTables} {hid : HiddenTables} (tied : AreTied t hid) where
   off_small : (v : ℕ) → v < length t.hand → unsigned_abs (get_or hid.off (get_or t.hand v 0) (pos 0)) ≤ 2 ^ 97
@@ -141,11 +107,7 @@ module _ {s : Inside} {pool2 : List (Option Node)} {front many b : ℕ} (taken :
   alone = tied.nest.idle b high dead
 
   b_outside : label_at t.label b ≡ Outside
-  b_outside = elim (label_cases _) [
-    | inl e ↦ e
-    | inr named ↦ (let w = tied.trail.named b named in
-        absurd (no_out (get_or t.trail w.0 0) (tied.trail.low w.0 w.1) w.2))
-  ]
+  b_outside = search (rules, no_out)
 
   -- What is in the row is the outermost blossom of a vertex, and outside the tree.
   in_row : (x : ℕ) → inside x ≡ true
@@ -257,9 +219,7 @@ module _ {s : Inside} {pool2 : List (Option Node)} {front many b : ℕ} (taken :
           assumption (rank_few tied.nest, high, b_off, alone, unused, ups)
 
       hand_in : (v : ℕ) → v < n → inside (out v) ≡ true → (get_or h2.hand.items v 0 ≡ handle) × (out2 v ≡ b)
-      hand_in v lv marked =
-          let is : get_or h2.hand.items v 0 ≡ handle = renamed.hand v lv ∙ cond-true _ _ _ marked in
-          (is, rw is (get_or-set_same t.top handle b 0 handle_top))
+      hand_in v lv marked = search (rules, handle_top)
 
       hand_off : (v : ℕ) → v < n → inside (out v) ≡ false
           → (get_or h2.hand.items v 0 ≡ get_or t.hand v 0) × (out2 v ≡ out v)
@@ -302,9 +262,7 @@ module _ {s : Inside} {pool2 : List (Option Node)} {front many b : ℕ} (taken :
           ∙ (ap out same ∙ (last_in j (omega (arith, lj))).1)))) _ (omega arith))
 
       row_rank : (x : ℕ) → inside x ≡ true → rank x < total
-      row_rank x marked =
-          let p : (k : ℕ) × (k < many) × (at k ≡ x) = listed_place _ front many x marked in
-          (rw p.2 at (ring_sum_above _ rank front many ring.two (λ j lj. (own_list j lj).some) p.0 p.1))
+      row_rank x marked = search (rules, listed_place, ring_sum_above, own_list)
 
       nest_new : IsLaidOut n (length t.up) h2.hand.items (set t.top handle b) r2.up.items l2.rank.items r2.parts.items
           (set hid.leader b handle) l2.first.items l2.last.items l2.following.items

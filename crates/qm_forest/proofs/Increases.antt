@@ -1,9 +1,8 @@
 -- The ways to the root in the tables of a valid forest, and such ways while they are laid.
-use Rattle.std.proofs.Common.{◌≡◌, ◌≢◌, ℕ, suc, ◌+◌, ◌-◌, ◌*◌, ◌<◌, ◌≤◌, true, false, length, min, Option, Some, None}
-use Rattle.std.proofs.Common.{refl, sym, ◌∙◌, ap, add-one, arith, ◌/◌, get_or}
-use Rattle.std.proofs.{Math.ListN.set, lemmas.Grind.get_or_default_zero, lemmas.List.get_or_past}
-use Rattle.std.proofs.{lemmas.List.length-replicate}
-use Rattle.std.specs.Prelude.{is_some}
+use Rattle.std.proofs.Common.{rules, ◌≡◌, ◌≢◌, ℕ, suc, ◌+◌, ◌-◌, ◌*◌, ◌<◌, ◌≤◌, true, false, length, min, Option, Some}
+use Rattle.std.proofs.Common.{None, refl, sym, ◌∙◌, ap, add-one, arith, ◌/◌, get_or}
+use Rattle.std.{proofs.Math.ListN.set, proofs.lemmas.Grind.get_or_default_zero, proofs.lemmas.List.get_or_past}
+use Rattle.std.{proofs.lemmas.List.length-replicate, specs.Prelude.is_some}
 use Rattle.def_matching.specs.Matching.{WeightedGraph, IsSmallGraph}
 use Rattle.def_forest.specs.Tables.{ForestTables, forest_of, IsValidFor, GraphSize, size_of, up_at}
 use Rattle.def_forest.specs.{Darts.Darts, Darts.AreDarts, Darts.darts_of, Darts.far, Forests.Forest, Forests.set_at}
@@ -115,10 +114,7 @@ module _ {g : WeightedGraph} (is : IsSmallGraph g) {s : ForestTables} (valid : I
   -- One climb after another.
   pub climbed_on : {b : ℕ} → f.label b ≢ Outside → {at first : ℕ} {x : ℕ} (more : ℕ)
       → HasClimbed darts f b at first → x ≡ way at more → more ≤ level at → HasClimbed darts f b x (first + more)
-  climbed_on {b} named {at} {first} more is x_is low = record {
-    way = x_is ∙ (ap (λ y. way y more) is.way ∙ sym (walk_sum (above_of darts f) b first more));
-    low = omega (arith, (climbed named is).1);
-  }
+  climbed_on {b} named {at} {first} more is x_is low = search (rules, walk_sum, climbed)
 
   -- Where a climber is not at the root, some steps bring him nearer.
   pub climbed_nearer : (at : ℕ) {next steps : ℕ} (reach : ℕ) → f.label at ≢ Outside → (d : ℕ) × (rise at ≡ Some d)
@@ -238,13 +234,7 @@ module _ {t : ForestTables} (it : IsPlaced t) {g : WeightedGraph} (valid : IsSou
   n_is = ap (λ (r : GraphSize). r.vertices) (view_is ∙ room) ∙ sym valid.vertices
 
   pub has_room : HasRoom t round
-  has_room = record {
-    laminar = it.known;
-    sound = (g, valid);
-    marks = omega (arith, ap (λ (r : GraphSize). r.edges) (view_is ∙ room));
-    left_out = ap length blank.left_out
-        ∙ (length-replicate (n + n / 2) None ∙ omega (arith, n_is, ap (λ k. k / 2) n_is, it.whole));
-  }
+  has_room = search (rules, length-replicate)
 
   pub room_begun : IsRound t round.marks.items round.left_out.items (λ b. 0) (λ b. 0)
   room_begun = round_begins t _ _ (λ b. 0) blank.marks blank.left_out (λ v l. omega arith)

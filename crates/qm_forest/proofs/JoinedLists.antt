@@ -1,7 +1,8 @@
--- Handing the vertices of the parts of a set over to their own leaders, one part after another.
-use Rattle.std.proofs.Common.{◌≡◌, ℕ, zero, suc, ◌<◌, List, length, get_or, ℤ, pos, refl, sym, ◌∙◌, ap, arith}
-use Rattle.std.proofs.Common.{length-set, ◌≢◌, ◌+◌, ◌-◌, ◌≤◌, Bool, true, false, eqb, ◌||◌, inl, inr}
-use Rattle.std.proofs.lemmas.Bool.{cond-false, cases_lt, eq-eqb, ne_eqb, eqb-true}
+-- Sums and writes along a row; handing the vertices of the parts of a set over to their own leaders, part after part;
+-- and lists that are joined.
+use Rattle.std.proofs.Common.{rules, ◌≡◌, ℕ, zero, suc, ◌<◌, List, length, get_or, ℤ, pos, refl, sym, ◌∙◌, ap, arith}
+use Rattle.std.proofs.Common.{length-set, ◌≢◌, ◌+◌, ◌-◌, ◌≤◌, Bool, true, false, cond, eqb, ◌||◌, inl, inr}
+use Rattle.std.proofs.lemmas.Bool.{cond-false, cases_eq, cases_lt, eq-eqb, ne_eqb, eqb-true}
 use Rattle.def_forest.specs.Forests.{walk, set_at, bool_number, ring_sum}
 use Rattle.qm_forest.specs.{Parts.HasHandedOver, Parts.HasHandedRow, Parts.HasOwnLeader, Parts.HasPartLists}
 use Rattle.qm_forest.specs.{Gathers.HasListAt, declared.tables.Handles.Handles, declared.tables.Lists.Lists}
@@ -12,6 +13,35 @@ use Rattle.sum_laws.proofs.{Tests.once_at_most}
 use Rattle.forest_laws.proofs.Walks.{walk_sum, listed_at, listed_place, listed_parts, listed_sum}
 use Rattle.forest_laws.proofs.{Odds.counts_exchanged, Bounds.eqb_order}
 use Rattle.{forest_laws.specs.Walks.writes, forest_laws.specs.Walks.listed, def_math.specs.Counts.count_below}
+
+-- A sum over fewer places is no greater.
+pub ring_sum_below : (next f : ℕ → ℕ) (from k n : ℕ) → k ≤ n → ring_sum next f from k ≤ ring_sum next f from n
+ring_sum_below next f from k zero l = (let z : k ≡ 0 = omega arith in omega (arith, ap (ring_sum next f from) z))
+ring_sum_below next f from k (suc n) l = elim (cases_eq k (suc n)) [
+  | inl e ↦ omega (arith, ap (ring_sum next f from) e)
+  | inr ne ↦ omega (arith, ring_sum_below next f from k n (omega arith))
+]
+
+-- Each of two or more numbers along a row, none of them 0, is less than their sum.
+pub ring_sum_above : (next f : ℕ → ℕ) (from many : ℕ) → 2 ≤ many → ((j : ℕ) → j < many → 1 ≤ f (walk next from j))
+    → (k : ℕ) → k < many → f (walk next from k) < ring_sum next f from many
+ring_sum_above next f from many two some k l =
+    let below = ring_sum_below next f from (suc k) many (omega arith) in
+    let both = ring_sum_below next f from (suc 1) many two in
+    grind (arith, ring_sum_below next f from 1 k, some 0, some 1)
+
+-- A table in which each place of a walk is written with itself.
+pub writes_self : (f next : ℕ → ℕ) (from many x : ℕ) → writes f (walk next from) (walk next from) many x
+    ≡ cond (listed next from many x) x (f x)
+writes_self f next from zero x = refl
+writes_self f next from (suc k) x = grind (arith, writes_self f next from k x)
+
+-- What holds of all values and of a function holds where it is written.
+pub writes_has : {X : Type 0} (P : X → Type 0) (f : ℕ → X) (place : ℕ → ℕ) (value : ℕ → X) (many x : ℕ)
+    → ((k : ℕ) → k < many → P (value k)) → P (f x) → P (writes f place value many x)
+writes_has P f place value zero x values was = was
+writes_has P f place value (suc k) x values was =
+    search (rules, writes_has P f place value k x (λ j lj. values j (omega arith)) was)
 
 -- Where each place is written with what stands at one place, that one stays.
 writes_keep : {X : Type 0} (f : ℕ → X) (place : ℕ → ℕ) (a many : ℕ) → writes f place (λ k. f a) many a ≡ f a
@@ -82,8 +112,7 @@ module _ {h0 h1 : Handles} {lists : Lists} {after : List ℕ} {front many set' k
 pub walk_agrees : (next other : ℕ → ℕ) (from many : ℕ) → ((k : ℕ) → suc k < many → other (walk next from k)
     ≡ next (walk next from k)) → (k : ℕ) → k < many → walk other from k ≡ walk next from k
 walk_agrees next other from many same zero l = refl
-walk_agrees next other from many same (suc k) l = ap other (walk_agrees next other from many same k (omega arith))
-    ∙ same k l
+walk_agrees next other from many same (suc k) l = search (rules, walk_agrees next other from many same k (omega arith))
 
 pub listed_agrees : (next other : ℕ → ℕ) (from many : ℕ) → ((k : ℕ) → k < many → walk other from k ≡ walk next from k)
     → (v k : ℕ) → k ≤ many → listed other from k v ≡ listed next from k v
@@ -119,9 +148,7 @@ list_member {next} {from} {many} is k l = sym (is.all _ (is.low k l)) ∙ listed
 
 pub list_has_last : {n : ℕ} {next : ℕ → ℕ} {from to many : ℕ} {set : ℕ → Bool} → IsListed n next from to many set
     → (to < n) × (set to ≡ true)
-list_has_last {n} {next} {from} {to} {many} {set} is =
-    let last = is.ends (many - 1) (omega arith) in
-    (rw last at (is.low (many - 1) (omega arith)), rw last at (list_member is (many - 1) (omega arith)))
+list_has_last {n} {next} {from} {to} {many} {set} is = search rules
 
 -- A list as many members as it counts.
 pub list_count : {n : ℕ} {next : ℕ → ℕ} {from to many : ℕ} {set : ℕ → Bool} → IsListed n next from to many set

@@ -16,4 +16,5 @@ pub mod Waitings
 pub mod Chosens
 pub mod MateRounds
 pub mod Openings
+pub mod Routes
 pub mod Outlined

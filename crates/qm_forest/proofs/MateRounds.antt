@@ -1,11 +1,9 @@
 -- What an edge's kind says of its dart that begins in an outer blossom.
-use Rattle.std.proofs.Common.{◌≡◌, ◌≢◌, ℕ, ◌+◌, ◌*◌, ◌<◌, Bool, true, false, cond, eqb, length, ℤ, pos, ◌≤ℤ◌, Option}
-use Rattle.std.proofs.Common.{is_some, ◌⊎◌, refl, sym, ◌∙◌, ap, subst, inl, inr, arith, suc, ◌-◌, ◌/◌, ◌%◌, ◌≤◌, List}
-use Rattle.std.proofs.Common.{get_or, Some, None}
-use Rattle.std.proofs.lemmas.Bool.{cases_Bool, cond-true, cond-false, eq-eqb, cases_eq, cases_lt, eqb-true}
-use Rattle.std.proofs.lemmas.Bool.{false_from_ne_true, ne_eqb}
-use Rattle.std.proofs.{lemmas.Int.ints, Math.ListN.set, lemmas.Option.none-some}
-use Rattle.std.specs.Prelude.{int_lt}
+use Rattle.std.proofs.Common.{rules, ◌≡◌, ◌≢◌, ℕ, ◌+◌, ◌*◌, ◌<◌, Bool, true, false, cond, eqb, length, ℤ, pos, ◌≤ℤ◌}
+use Rattle.std.proofs.Common.{Option, is_some, ◌⊎◌, refl, sym, ◌∙◌, ap, subst, inl, inr, arith, suc, ◌-◌, ◌/◌, ◌%◌, ◌≤◌}
+use Rattle.std.proofs.Common.{List, get_or, Some, None}
+use Rattle.std.proofs.lemmas.Bool.{cases_Bool, cond-true, cond-false, eq-eqb, cases_eq, cases_lt, eqb-true, ne_eqb}
+use Rattle.std.{proofs.lemmas.Int.ints, proofs.Math.ListN.set, proofs.lemmas.Option.none-some, specs.Prelude.int_lt}
 use Rattle.def_matching.specs.Matching.{IsSmallGraph, WeightedGraph, edge_at}
 use Rattle.def_forest.specs.Forests.{Forest, weight_between, IsTight, bool_number, splits}
 use Rattle.def_forest.specs.Tables.{edge_kind, kind_by, slack_of, outer_dart, dart_by, ForestTables, forest_of, up_at}
@@ -19,7 +17,7 @@ use Rattle.forest_laws.proofs.{Walks.walk_fixed}
 use Rattle.sum_laws.proofs.{Sums.count_below_none, Sums.count_below_one, Sums.count_below_same, Tests.same_test}
 use Rattle.qm_forest.specs.Rounds.{IsSoundFor, IsLaminar, IsPairing, IsRound, entered, far_at, is_dart, matched_by}
 use Rattle.qm_forest.specs.Rounds.{matches, near_at, waits_but, within}
-use Rattle.qm_forest.proofs.Withins.{rising, by_pair, in_line, in_where, through, where_in}
+use Rattle.qm_forest.proofs.Withins.{rising, in_line, in_where, through, where_in}
 use Rattle.qm_forest.proofs.RingRounds.{paired_round}
 
 not_loose : (x : ℤ) → int_lt (pos 0) x ≡ false → x ≤ℤ pos 0
@@ -58,8 +56,7 @@ module _ {g : WeightedGraph} (is : IsSmallGraph g) {f : Forest} (feasible : IsFe
   leads : {some : Bool} (x : ℕ) {u v : ℕ} → (darts_of g).near x ≡ u → far (darts_of g) x ≡ v → outer_dart g f e ≡ x
       → IsTight (darts_of g) f x → f.label (f.out u) ≡ Outer → f.label (f.out v) ≡ Outside
       → is_some (f.mate (f.out v)) ≡ some → Leads some
-  leads x near_is far_is d tight outer off m =
-      rw d (record { tight = tight; outer = rw near_is outer; off = rw far_is off }, rw far_is m)
+  leads x near_is far_is d tight outer off m = search rules
 
   -- An edge by which the tree grows, or the matching, by whether the blossom outside the tree is matched.
   abbrev reaching : (some : Bool) → EdgeKind
@@ -161,15 +158,7 @@ module _ {t : ForestTables} (known : IsLaminar t) {g : WeightedGraph} (valid : I
   tops_law : (u v b : ℕ) → u < length t.hand → v < length t.hand → f.out u ≢ f.out v
       → bool_number (splits (f.holds b) u v) + (waits_but t b (f.out u) u + waits_but t b (f.out v) v)
       ≡ bool_number (within t b (f.out u)) + bool_number (within t b (f.out v))
-  tops_law u v b lu lv ne = by_pair (rising known)
-      _ _ _ _ (λ on. (
-        false_from_ne_true (within t b (f.out v)) (λ o. not_both b u v lu lv ne on o),
-        false_from_ne_true (f.holds b v) (λ o. not_both b u v lu lv ne on (around_in b v lv o)),
-      )) (λ on. (
-        false_from_ne_true (within t b (f.out u)) (λ o. not_both b u v lu lv ne o on),
-        false_from_ne_true (f.holds b u) (λ o. not_both b u v lu lv ne (around_in b u lu o) on),
-      )) (λ ou ov. false_from_ne_true (f.holds b u) (λ o. true_false (around_in b u lu o) ou)
-      ∙ sym (false_from_ne_true (f.holds b v) (λ o. true_false (around_in b v lv o) ov)))
+  tops_law u v b lu lv ne = search (rules, around_in)
 
   -- What an edge that matches says.
   pub record IsMateEdge (e : ℕ) : Type 0 where
@@ -283,9 +272,7 @@ module _ {t : ForestTables} (known : IsLaminar t) {g : WeightedGraph} (valid : I
       ]
     where
       value : (e : ℕ) → matches t e ≡ true → (f.out w ≡ out (from e)) ⊎ (f.out w ≡ out (to e)) → term w e ≡ 1
-      value e on side = let me = matches_is e on in
-          rw (within_out w (from e) lw me.near_low, within_out w (to e) lw me.far_low)
-          (one_side (matches t e) (out (from e)) (out (to e)) on me.other side)
+      value e on side = search (rules, matches_is, within_out, one_side)
 
   others_none : (w d : ℕ) → w < length t.hand → f.mate (f.out w) ≡ Some d → (k : ℕ) → k ≢ d / 2 → term w k ≡ 0
   others_none w d lw mate k ne = term_none w k lw (λ x e at. ne (at ∙ ap (λ z. z / 2) (some_is x d (sym e ∙ mate))))

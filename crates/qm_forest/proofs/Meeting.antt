@@ -1,8 +1,7 @@
 -- Two climbers in a valid forest: each turn keeps what they know, and brings them nearer.
-use Rattle.std.proofs.Common.{◌≡◌, ◌≢◌, ℕ, suc, ◌+◌, ◌-◌, ◌<◌, ◌≤◌, ◌^◌, length, get_or, ℤ, pos, ◌+ℤ◌, ◌⊎◌, refl, sym}
-use Rattle.std.proofs.Common.{◌∙◌, ap, inl, inr, arith, ◌≤ℤ◌, Some, None, subst}
-use Rattle.std.proofs.lemmas.Int.{ints}
-use Rattle.std.specs.Prelude.{unsigned_abs, slice_index}
+use Rattle.std.proofs.Common.{rules, ◌≡◌, ◌≢◌, ℕ, suc, ◌+◌, ◌-◌, ◌<◌, ◌≤◌, ◌^◌, length, get_or, ℤ, pos, ◌+ℤ◌, ◌⊎◌, refl}
+use Rattle.std.proofs.Common.{sym, ◌∙◌, ap, inl, inr, arith, ◌≤ℤ◌, Some, None, subst}
+use Rattle.std.{proofs.lemmas.Int.ints, specs.Prelude.unsigned_abs, specs.Prelude.slice_index}
 use Rattle.def_matching.specs.Matching.{WeightedGraph, IsGraph}
 use Rattle.def_forest.specs.Tables.{up_at, ForestTables, forest_of, label_at, IsValidFor, out_of}
 use Rattle.def_forest.specs.{Forests.IsOutermost, Forests.weight_between, Forests.Forest, Forests.dual_sum_of}
@@ -65,16 +64,7 @@ module _ {g : WeightedGraph} {t : ForestTables} (valid : IsValidFor g t) (climb 
     sides : {low high : ℕ} → ((low ≡ x) × (high ≡ y)) ⊎ ((low ≡ y) × (high ≡ x))
         → IsMeeting t u v low high load × (low ≢ high) × (rank x + rank y ≡ rank low + rank high)
     sides (inl e) = (rw (e.0, e.1) meet, rw (e.0, e.1) ne, rw (e.0, e.1))
-    sides (inr e) = (
-      rw (e.0, e.1) (let sum : load +ℤ passing y x ≡ passing u v = omega (
-        arith,
-        ints,
-        apart_order (length t.hand) up (forest_of t).weight (length t.up) x y,
-        meet.sum,
-      ) in assumption),
-      rw (e.0, e.1) (λ s. ne (sym s)),
-      omega (arith, ap rank e.0, ap rank e.1),
-    )
+    sides (inr e) = search (rules, apart_order)
 
     -- A turn: the lower one climbs, and what it was at is passed.
     pub turn_meets : (low high : ℕ) {x2 : ℕ} (load2 : ℤ) → ((low ≡ x) × (high ≡ y)) ⊎ ((low ≡ y) × (high ≡ x))
@@ -104,9 +94,7 @@ module _ {g : WeightedGraph} {t : ForestTables} (valid : IsValidFor g t) (climb 
 -- Where they have met, the load is found.
 pub met_load : {t : ForestTables} {u v x y : ℕ} {sum : ℤ} → IsMeeting t u v x y sum → x ≡ y
     → sum ≡ weight_between (forest_of t) u v
-met_load {t} meet e =
-    let none = apart_met (length t.hand) (up_at t.up) (forest_of t).weight (length t.up) e in
-    omega (arith, ints, meet.sum)
+met_load {t} meet e = search (rules, apart_met)
 
 -- What a shift does to the tables.
 
@@ -133,8 +121,7 @@ pub seen_still : {g : WeightedGraph} {t : ForestTables} (s : ℤ) → IsValidFor
 seen_still {t} s valid none i = record (forest_of t) { weight = λ b. weight b i }
   where
     weight : (b : ℕ) → (forest_of t).weight b ≡ (forest_of t).weight b +ℤ weight_change (label_at t.label b) s
-    weight b = let h : weight_change (label_at t.label b) s ≡ pos 0 =
-        ap (λ (l : Label). weight_change l s) (valid.valid.no_tree none b) in omega (arith, ints, h)
+    weight b = search rules
 
 module _ {t : ForestTables} {hid : HiddenTables} (tied : AreTied t hid) {g : WeightedGraph} (is : IsGraph g)
     (valid : IsValidFor g t) (r : ℕ) (root : t.root ≡ Some r) (s d : ℤ) (d_is : d ≡ t.delta +ℤ s) (high : pos 0 ≤ℤ s)

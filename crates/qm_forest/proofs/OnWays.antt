@@ -1,6 +1,6 @@
 -- Steps of the tree in the tables: growing, and changing the matching along the way to the root.
-use Rattle.std.proofs.Common.{◌≡◌, ◌≢◌, ℕ, ◌+◌, ◌*◌, ◌<◌, List, length, get_or, Option, Some, None, true, is_some, sym}
-use Rattle.std.proofs.Common.{◌∙◌, ap, arith}
+use Rattle.std.proofs.Common.{rules, ◌≡◌, ◌≢◌, ℕ, ◌+◌, ◌*◌, ◌<◌, List, length, get_or, Option, Some, None, true}
+use Rattle.std.proofs.Common.{is_some, sym, ◌∙◌, ap, arith}
 use Rattle.def_matching.specs.Matching.{IsSmallGraph, WeightedGraph}
 use Rattle.def_forest.specs.{Darts.Darts, Darts.AreDarts, Darts.darts_of, Darts.far, Forests.Forest, Forests.set_at}
 use Rattle.def_forest.specs.{Steps.grown, Steps.with_mates, Steps.IsAugmented, Tables.ForestTables, Tables.forest_of}
@@ -163,8 +163,7 @@ labels_own t0 t1 label e = e ∙ ap (relabelled (forest_of t0)) (sym (ap (λ (f 
 pub one_more_outside : (f1 : Forest) {f2 : Forest} (trail : List ℕ) (k : ℕ) {v : ℕ} → v ≡ get_or trail k 0
     → f2 ≡ labelled f1 (f1.out v) Outside → ((i : ℕ) → i < k → f1.label (f1.out (get_or trail i 0)) ≡ Outside)
     → (i : ℕ) → i < k + 1 → f2.label (f2.out (get_or trail i 0)) ≡ Outside
-one_more_outside f1 trail k {v} v_is e2 done i l = ap (λ (f : Forest). f.label (f.out (get_or trail i 0))) e2
-    ∙ grind (arith, done i)
+one_more_outside f1 trail k {v} v_is e2 done i l = search rules
 
 -- What has come of an augmentation.
 pub augmented : {t : ForestTables} (s u : ForestTables) {g : WeightedGraph} → IsSmallGraph g → IsValidFor g t

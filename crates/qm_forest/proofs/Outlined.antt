@@ -1,6 +1,7 @@
 -- A forest that is written down as a dual: the sets hold what they held, and the dual says yes.
-use Rattle.std.proofs.Common.{◌≡◌, ◌≢◌, ℕ, zero, suc, ◌+◌, ◌-◌, ◌*◌, ◌<◌, ◌≤◌, Bool, true, false, cond, eqb, subst, inl}
-use Rattle.std.proofs.Common.{inr, arith, ◌||◌, List, length, get_or, pos, ◌+ℤ◌, ◌*ℤ◌, ◌≤ℤ◌, ◌⊎◌, refl, sym, ◌∙◌, ap}
+use Rattle.std.proofs.Common.{rules, ◌≡◌, ◌≢◌, ℕ, zero, suc, ◌+◌, ◌-◌, ◌*◌, ◌<◌, ◌≤◌, Bool, true, false, cond, eqb}
+use Rattle.std.proofs.Common.{subst, inl, inr, arith, ◌||◌, List, length, get_or, pos, ◌+ℤ◌, ◌*ℤ◌, ◌≤ℤ◌, ◌⊎◌, refl, sym}
+use Rattle.std.proofs.Common.{◌∙◌, ap}
 use Rattle.std.proofs.lemmas.Bool.{cases_eq, cases_lt, cond-false, cond-true, eq-eqb, eqb-true, le-leb, le-ltb, lt-ltb}
 use Rattle.std.proofs.lemmas.Bool.{and_from, ne_eqb}
 use Rattle.std.proofs.{Math.Bool.or-false, lemmas.Int.ints}
@@ -10,7 +11,7 @@ use Rattle.sum_laws.proofs.{Tests.same_test}
 use Rattle.def_matching.specs.Dual.{DualLists, SaysYes, AreNestedSets, crosses, dual_sum, holds, is_odd_size, is_up}
 use Rattle.def_matching.specs.Dual.{load as dual_load, set_size, sets_from, y_at, z_at}
 use Rattle.def_matching.specs.Matching.{WeightedGraph, edge_at}
-use Rattle.def_forest.specs.Forests.{Forest, dual_sum_of, weight_between, bool_number, splits, blossom_size}
+use Rattle.def_forest.specs.Forests.{Forest, dual_sum_of, weight_between, splits, blossom_size}
 use Rattle.def_forest.specs.{Darts.AreDarts, Darts.darts_of, Tables.ForestTables, Tables.forest_of, Tables.climbs}
 use Rattle.def_forest.specs.{Tables.up_at, Written.IsDualOf}
 use Rattle.forest_laws.proofs.{Bounds.are_darts, Bounds.dart_cost, Bounds.dart_far, Bounds.dart_near, Odds.large_set}
@@ -52,8 +53,7 @@ module _ (t : ForestTables) (known : IsLaminar t) (sets : List (ℕ × ℕ)) (d 
   entry_none {x} e = cond-true _ _ _ (eq-eqb (up x) x e)
 
   entry_some : (x k : ℕ) → up x ≢ x → k < m → set_in sets k ≡ up x → entry x ≡ suc k
-  entry_some x k ne l at = cond-false _ _ _ (ne_eqb (up x) x ne)
-      ∙ (ap (λ b. get_or is.names b 0) (sym at) ∙ is.named k l)
+  entry_some x k ne l at = search rules
 
   vertex_entry : (v : ℕ) → v < n → get_or d.up v 0 ≡ entry v
   vertex_entry v l = (let z : v ≡ 0 + v = omega arith in ap (λ i. get_or d.up i 0) z) ∙ is.entries.vertices v l
@@ -66,9 +66,7 @@ module _ (t : ForestTables) (known : IsLaminar t) (sets : List (ℕ × ℕ)) (d 
   name_set k l = cond-false _ _ _ (le-ltb (set_in sets k) n (sized is.order k l).high) ∙ is.named k l
 
   later : (j k : ℕ) → j < m → k < m → get_or t.rank (set_in sets j) 0 < get_or t.rank (set_in sets k) 0 → j < k
-  later j k lj lk less =
-      let rising = is.order.increasing k j (0, 0) in
-      grind (arith, (sized is.order k lk).rank, (sized is.order j lj).rank)
+  later j k lj lk less = search rules
 
   inner_later : (j x : ℕ) → j < m → set_in sets j ≡ x → (ne : up x ≢ x) → j < (around_place x ne).0
   inner_later j x l at ne = later j _ l (around_place x ne).1 (subst (λ b. get_or t.rank b 0
@@ -127,10 +125,7 @@ module _ (t : ForestTables) (known : IsLaminar t) (sets : List (ℕ × ℕ)) (d 
 
         fuel : (z : ℕ) → z ≡ m → list_any here (sets_from n d.up z (entry v)) ≡ climbs up z b v
         fuel zero e = absurd (omega arith)
-        fuel (suc z) e = elim (cases_eq (up v) v) [
-          | inl s ↦ any_none z s ∙ sym (climbs_self up (suc z) b s ∙ ne_eqb v b other)
-          | inr ne ↦ any_is z v ne ∙ sym (ap (λ s. s || climbs up z b (up v)) (ne_eqb v b other))
-        ]
+        fuel (suc z) e = search (rules, climbs_self, any_is)
 
     pub z_is : z_at d k ≡ f.weight b
     z_is = is.z.each k low
@@ -210,8 +205,7 @@ module _ (t : ForestTables) (known : IsLaminar t) (sets : List (ℕ × ℕ)) (d 
 
     -- A set has as many vertices as it had.
     size_is : (k : ℕ) → k < m → set_size g.n d k ≡ blossom_size g.n f (set_in sets k)
-    size_is k l = count_below_same (λ v. cond (holds g.n d k v) 1 0) (λ v. bool_number (f.holds (set_in sets k) v)) g.n
-        (λ v lv. ap bool_number (ap (λ x. holds x d k v) (sym valid.vertices) ∙ holds_is k l v (low_in v lv)))
+    size_is k l = search (rules, count_below_same, holds_is)
 
     size_odd : (k : ℕ) → k < m → is_odd_size (set_size g.n d k) ≡ true
     size_odd k l =
@@ -265,11 +259,4 @@ module _ (t : ForestTables) (known : IsLaminar t) (sets : List (ℕ × ℕ)) (d 
 
     -- The dual says yes.
     pub says_yes : SaysYes g d
-    says_yes = record {
-      numbers = is.y.size ∙ valid.vertices;
-      nested = nested;
-      odd = λ k l. size_odd k (rw sets_many at l);
-      positive = λ k l. (let low : k < m = rw sets_many at l in
-          (rw (z_is k low) (weights_high (set_in sets k) (sized is.order k low).high (set_low is.order k low))));
-      loaded = edge_loaded;
-    }
+    says_yes = search (rules, nested, size_odd, edge_loaded)

@@ -1,14 +1,14 @@
 -- Parting a set into the blossoms of its ring: climbing once the ring is open, what the loops need, and the tie and the
 -- forest after all of them.
-use Rattle.std.proofs.Common.{◌≡◌, ◌≢◌, ℕ, zero, suc, ◌+◌, ◌-◌, ◌<◌, ◌≤◌, Bool, true, false, cond, List, length, get_or}
-use Rattle.std.proofs.Common.{ℤ, pos, Option, Some, None, ◌⊎◌, refl, sym, ◌∙◌, ap, inl, inr, arith, length-set}
+use Rattle.std.proofs.Common.{rules, ◌≡◌, ◌≢◌, ℕ, zero, suc, ◌+◌, ◌-◌, ◌<◌, ◌≤◌, Bool, true, false, cond, List, length}
+use Rattle.std.proofs.Common.{get_or, ℤ, pos, Option, Some, None, ◌⊎◌, refl, sym, ◌∙◌, ap, inl, inr, arith, length-set}
 use Rattle.std.proofs.Common.{get_or-set_same, get_or-set_other}
 use Rattle.std.proofs.{Math.ListN.set, lemmas.Bool.cases_eq, lemmas.Bool.cases_Bool, lemmas.Bool.false_from_ne_true}
 use Rattle.def_forest.specs.Tables.{ForestTables, forest_of, climbs, label_at, out_of, up_at}
 use Rattle.def_forest.specs.{Forests.Forest, Forests.walk, declared.kinds.Label.TheVariants.Outside}
-use Rattle.forest_laws.specs.Walks.{listed, writes}
+use Rattle.{forest_laws.specs.Walks.listed, std.specs.Prelude.slice_get, qm_pool.specs.declared.pool.Node.Node}
 use Rattle.forest_laws.proofs.{Walks.listed_at, Walks.listed_off, Walks.listed_place, Walks.writes_at, Walks.writes_off}
-use Rattle.forest_laws.proofs.{Grows.label_cases, Grows.set_here, Grows.set_there, Grows.true_false}
+use Rattle.forest_laws.proofs.{Grows.label_cases, Grows.true_false}
 use Rattle.qm_forest.specs.Parts.{AreOpened, HasHandedRow, HasPartLists, IsPartable, IsParted}
 use Rattle.qm_forest.specs.Ties.{AreTied, HiddenTables, HasSizes, HasNumbers, IsClimb, IsInUse, IsLaidOut, IsListed}
 use Rattle.qm_forest.specs.Ties.{IsPooled, IsTrailed}
@@ -17,26 +17,9 @@ use Rattle.qm_forest.specs.{declared.forest.Forest.TheInside.Inside}
 use Rattle.qm_forest.proofs.Enclosed.{Enclosing, climb_enclosed, holds_same, not_new, came_past, climbs_place}
 use Rattle.qm_forest.proofs.Enclosed.{leader_out, rank_few, rank_some}
 use Rattle.qm_forest.proofs.TiedWrites.{numbers_kept, tied_as, trail_kept, read_nat, entry_set}
+use Rattle.qm_forest.proofs.JoinedLists.{writes_has, writes_self}
 use Rattle.qm_forest.proofs.{Fresh.comes_out, Fresh.fixed_top, Fresh.rank_low, Gatherings.list_read, Shrinkings.seen_in}
 use Rattle.qm_forest.proofs.{Shrinkings.hidden_in, JoinedLists.list_renamed, Waitings.pool_changed}
-use Rattle.{std.specs.Prelude.slice_get, qm_pool.specs.declared.pool.Node.Node}
-
--- A table in which each place of a walk is written with itself.
-writes_self : (f next : ℕ → ℕ) (from many x : ℕ) → writes f (walk next from) (walk next from) many x
-    ≡ cond (listed next from many x) x (f x)
-writes_self f next from zero x = refl
-writes_self f next from (suc k) x = grind (arith, writes_self f next from k x)
-
--- What holds of all values and of a function holds where it is written.
-writes_has : {X : Type 0} (P : X → Type 0) (f : ℕ → X) (place : ℕ → ℕ) (value : ℕ → X) (many x : ℕ)
-    → ((k : ℕ) → k < many → P (value k)) → P (f x) → P (writes f place value many x)
-writes_has P f place value zero x values was = was
-writes_has P f place value (suc k) x values was =
-    let more = (writes_has P f place value k x (λ j lj. values j (omega arith)) was) in
-    elim (cases_eq x (place k)) [
-      | inl e ↦ rw (e, set_here (writes f place value k) (place k) (value k)) (values k (omega arith))
-      | inr ne ↦ rw (set_there _ _ x _ ne) more
-    ]
 
 -- A set of weight 0 outside the tree whose ring has been opened.
 pub record Opened (s : Inside) (r2 : Rings) (b : ℕ) : Type 0 where
@@ -127,18 +110,14 @@ module _ {s : Inside} {r2 : Rings} {b : ℕ} (it : Opened s r2 b) where
       omega (arith, rank_few tied.nest v l)
 
   -- Each step rises, or one has come to stay.
-  stays_or : (v i : ℕ) → v < n → (up2 (walk up2 v i) ≡ walk up2 v i)
-      ⊎ (i < rank (walk up2 v i))
+  stays_or : (v i : ℕ) → v < n → (up2 (walk up2 v i) ≡ walk up2 v i) ⊎ (i < rank (walk up2 v i))
   stays_or v zero l = inr (rank_some tied.nest v l tied.sizes.vertices)
   stays_or v (suc i) l =
       let before = stays_or v i l in
       grind (arith, cases_eq (up2 (walk up2 v i)) (walk up2 v i), rises (walk up2 v i))
 
   climb_parted : IsClimb n up2 (λ v. walk up2 v n)
-  climb_parted = record {
-    ends = λ v l. refl;
-    tops = λ v l. elim (stays_or v n l) [ inl e ↦ e | inr h ↦ absurd (omega (arith, few v n l)) ];
-  }
+  climb_parted = search (rules, stays_or, few)
 
   -- The set was around its parts.
   enclosing : Enclosing n up2 (λ v. walk up2 v n) rank (up_at t.up) inside b
@@ -233,11 +212,8 @@ module _ {s : Inside} {r2 : Rings} {b : ℕ} (it : Opened s r2 b) where
 
   led : (k v : ℕ) → k < many → lists_at s.lists (at k) v ≡ true
       → get_or s.handles.hand.items v 0 ≡ get_or s.lists.leader.items b 0
-  led k v lk on = cc (
-    tied.nest.led v (on_list k v lk on).0,
-    out_in v (on_list k v lk on).0
-        (ap inside (fresh_at k v lk on) ∙ at_in k lk),
-  )
+  led k v lk on = let w = on_list k v lk on in
+      cc (tied.nest.led v w.0, out_in v w.0 (ap inside (fresh_at k v lk on) ∙ at_in k lk))
 
   pub part_lists : HasPartLists s.handles s.lists r2.after.items (get_or t.head b 0) many b
   part_lists = rw opened.after (record {

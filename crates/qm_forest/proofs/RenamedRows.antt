@@ -1,15 +1,15 @@
 -- One vertex of a list, or one blossom of a row, more.
-use Rattle.std.proofs.Common.{◌≡◌, ◌≢◌, ℕ, suc, ◌+◌, ◌<◌, ◌≤◌, ◌^◌, Bool, true, false, cond, eqb, List, length, get_or}
-use Rattle.std.proofs.Common.{ℤ, pos, ◌+ℤ◌, ◌-ℤ◌, ◌⊎◌, sym, ◌∙◌, ap, subst, inl, inr, arith, get_or-set_same}
+use Rattle.std.proofs.Common.{rules, ◌≡◌, ◌≢◌, ℕ, suc, ◌+◌, ◌<◌, ◌≤◌, ◌^◌, Bool, true, false, cond, eqb, List, length}
+use Rattle.std.proofs.Common.{get_or, ℤ, pos, ◌+ℤ◌, ◌-ℤ◌, sym, ◌∙◌, ap, inl, inr, arith, get_or-set_same}
 use Rattle.std.proofs.Common.{get_or-set_other}
-use Rattle.std.proofs.lemmas.Bool.{cases_eq, cases_lt, cond-false, eq-eqb, ne_eqb, eqb-true}
+use Rattle.std.proofs.lemmas.Bool.{cases_eq, cases_lt, cond-false, eq-eqb, ne_eqb}
 use Rattle.std.proofs.{Math.ListN.set, lemmas.Int.ints, Math.Bool.or-false, Math.Bool.or-true, lemmas.List.get_or_past}
-use Rattle.def_forest.specs.{Forests.walk, Tables.out_of}
+use Rattle.{def_forest.specs.Forests.walk, def_forest.specs.Tables.out_of, std.specs.Prelude.unsigned_abs}
+use Rattle.{forest_laws.specs.Walks.listed, std.proofs.lemmas.List.get_or_read, forest_laws.specs.Walks.writes}
 use Rattle.forest_laws.proofs.{Bounds.eqb_order, Walks.listed_off, Walks.listed_place}
 use Rattle.qm_forest.specs.Gathers.{lists_at, differ_by, in_row, HasListAt, HasListsOf, HasLeaders, HasRenamed, IsRow}
 use Rattle.qm_forest.specs.Gathers.{HasRenamedRow}
 use Rattle.qm_forest.specs.{declared.tables.Handles.Handles, declared.tables.Lists.Lists}
-use Rattle.{std.specs.Prelude.unsigned_abs, forest_laws.specs.Walks.listed}
 
 -- A table that is written at one more place of a walk, each place with its value: what is listed has it.
 one_more : {X : Type 0} (xs : List X) (d : X) (next : ℕ → ℕ) (from k : ℕ) (new old : ℕ → X)
@@ -48,16 +48,13 @@ module _ {h : Handles} {lists : Lists} {x : ℕ} (has : HasListAt h lists x) {k 
   -- What stands at it has not been changed.
   pub next_old : {X : Type 0} (f new old : ℕ → X) → ((u : ℕ) → f u ≡ cond (listed next from k u) (new u) (old u))
       → f v ≡ old v
-  next_old f new old was =
-      let off : listed next from k v ≡ false = rw v_is (listed_off next from k _
-      (λ j lj. distinct j k lj (omega arith))) in was v ∙ cond-false _ _ _ off
+  next_old f new old was = search (rules, listed_off)
 
   -- It is written.
   pub next_written : {X : Type 0} (xs : List X) (d : X) (new old : ℕ → X) → v < length xs
       → ((u : ℕ) → get_or xs u d ≡ cond (listed next from k u) (new u) (old u)) → {j : ℕ} → j ≡ suc k → {y : X}
       → y ≡ new v → (u : ℕ) → get_or (set xs v y) u d ≡ cond (listed next from j u) (new u) (old u)
-  next_written xs d new old low was j_is y_is u = rw (j_is, v_is)
-      (one_more xs d next from k new old (rw v_is at low) was (rw v_is at y_is) u)
+  next_written xs d new old low was j_is y_is u = search rules
 
 -- Some blossoms of a row are renamed: what the loop over the row has at the next one, and what holds after it.
 module _ {h0 h1 : Handles} {lists : Lists} {after : List ℕ} {front many k x big : ℕ}
@@ -86,16 +83,10 @@ module _ {h0 h1 : Handles} {lists : Lists} {after : List ℕ} {front many k x bi
 
   -- The greatest has its own handle all the while.
   own_handle : at k ≡ big → (v : ℕ) → lists_at lists (at k) v ≡ true → get_or h1.hand.items v 0 ≡ handle
-  own_handle at_big v on =
-      let w : (j : ℕ) × (j < get_or lists.rank.items (at k) 0) × (walk (λ i. get_or lists.following.items i 0)
-      (get_or lists.first.items (at k) 0) j ≡ v) = listed_place (λ i. get_or lists.following.items i 0) _ _ v on in
-      let lv : v < length h0.hand.items = rw w.2 at ((has.each k l).low w.0 w.1) in
-      let e : out v ≡ at k = eqb-true (out v) (at k) (sym (own v lv) ∙ on) in
-      cc (done.hand v lv, cond-false _ _ _ (before_off v e), has.led v lv)
+  own_handle at_big v on = search (rules, listed_place)
 
   pub row_leaders : ((j : ℕ) × (j < many) × (at j ≡ big)) → HasLeaders h1 lists x big
-  row_leaders on =
-      rw x_is (grind (arith, has.leader, done.off, has.leaders, has.small_leaders, row.low, own_handle))
+  row_leaders on = search (rules, own_handle)
 
   pub row_lists : ((j : ℕ) × (j < many) × (at j ≡ big)) → HasListAt h1 lists x
   row_lists on = rw x_is (list_kept (has.each k l) done.hands done.qs (λ v. elim (cases_lt v (length h0.hand.items)) [
@@ -114,8 +105,7 @@ module _ {h0 h1 : Handles} {lists : Lists} {after : List ℕ} {front many k x bi
   -- A blossom of the row more is renamed.
   module _ {h2 : Handles} (renamed : HasRenamed h1 h2 lists x handle (differ_by h1 lists x big)) where
     renamed_at : HasRenamed h1 h2 lists (at k) handle (differ_by h0 lists (at k) big)
-    renamed_at = subst (HasRenamed h1 h2 lists (at k) handle) (ap (λ o. get_or o.items
-        (get_or lists.leader.items (at k) 0) (pos 0) -ℤ get_or o.items handle (pos 0)) done.off) (rw x_is at renamed)
+    renamed_at = search rules
 
     pub row_more : {j : ℕ} → j ≡ suc k → HasRenamedRow h0 h2 lists after front j big
     row_more j_is = rw j_is (record {
@@ -143,27 +133,27 @@ pub row_place : {after : List ℕ} {front many : ℕ} (k : ℕ) {x : ℕ} → Is
     → x ≡ walk (λ i. get_or after i 0) front k → x < length after
 row_place {after} k row l x_is = rw x_is (row.low k l)
 
--- The larger of two blossoms of a row is one of it, and no blossom so far has more vertices.
-pub row_larger : (after : List ℕ) (front many k best : ℕ) {x : ℕ} (r : ℕ) → k < many → x
-    ≡ walk (λ i. get_or after i 0) front k → ((j : ℕ) × (j < many) × (walk (λ i. get_or after i 0) front j ≡ best))
-    → (r ≡ best) ⊎ (r ≡ x) → (j : ℕ) × (j < many) × (walk (λ i. get_or after i 0) front j ≡ r)
-row_larger after front many k best r l x_is w (inl e) = (w.0, w.1, w.2 ∙ sym e)
-row_larger after front many k best r l x_is w (inr e) = (k, l, sym x_is ∙ sym e)
+-- One entry more is written.
+pub written_more : (xs ys : List ℕ) (place value : ℕ → ℕ) (k : ℕ) {j p v : ℕ} → p < length xs → (λ i. get_or xs i 0)
+    ≡ writes (λ i. get_or ys i 0) place value k → p ≡ place k → v ≡ value k → j ≡ suc k → (λ i. get_or (set xs p v) i 0)
+    ≡ writes (λ i. get_or ys i 0) place value j
+written_more xs ys place value k {p} {v} low was p_is v_is j_is = search rules
 
-pub row_most : (after rank : List ℕ) (front k best : ℕ) {x : ℕ} (r : ℕ) → x ≡ walk (λ i. get_or after i 0) front k
-    → ((j : ℕ) → j < k → get_or rank (walk (λ i. get_or after i 0) front j) 0 ≤ get_or rank best 0)
-    → get_or rank best 0 ≤ get_or rank r 0 → get_or rank x 0 ≤ get_or rank r 0
-    → (j : ℕ) → j < k + 1 → get_or rank (walk (λ i. get_or after i 0) front j) 0 ≤ get_or rank r 0
-row_most after rank front k best r x_is was lb lx j l = grind (arith, was j)
+-- A table that has not changed, with an entry for each blossom, has one for each of a row; and what is read there.
+module _ {after : List ℕ} {front many : ℕ} (k : ℕ) {x : ℕ} (row : IsRow (length after) after front many) (l : k < many)
+    (x_is : x ≡ walk (λ i. get_or after i 0) front k) {xs ys : List ℕ} (same : xs ≡ ys)
+    (size : length ys ≡ length after) where
+  pub entry_low : x < length xs
+  entry_low = rw (same, size) (row_place k row l x_is)
+
+  pub entry_read : {v : ℕ} → v ≡ get_or xs x v → v ≡ get_or ys (walk (λ i. get_or after i 0) front k) 0
+  entry_read {v} read = get_or_read xs x v entry_low read 0 ∙ rw (same, x_is)
 
 -- A blossom that keeps its handle is as if renamed.
 pub kept_handle : (h : Handles) (lists : Lists) {x big : ℕ} → x ≡ big
     → ((v : ℕ) → lists_at lists x v ≡ true → get_or h.hand.items v 0 ≡ get_or lists.leader.items big 0)
     → HasRenamed h h lists x (get_or lists.leader.items big 0) (differ_by h lists x big)
-kept_handle h lists {x} {big} e same =
-    let none : differ_by h lists x big ≡ pos 0 = (let s = ap (λ b. get_or h.off.items (get_or lists.leader.items b 0)
-    (pos 0)) e in omega (arith, ints, s)) in
-    grind (arith, ints, none, same)
+kept_handle h lists {x} {big} e same = search rules
 
 -- The handle and what it adds are told otherwise.
 pub renamed_as : {h0 h1 : Handles} {lists : Lists} {x a : ℕ} {b : ℕ} {m : ℤ} (n : ℤ) → HasRenamed h0 h1 lists x a m → a

@@ -1,10 +1,9 @@
 -- Two blossoms are matched with each other: the round goes on.
-use Rattle.std.proofs.Common.{◌≡◌, ◌≢◌, ℕ, zero, suc, ◌+◌, ◌-◌, ◌*◌, ◌/◌, ◌%◌, ◌<◌, ◌≤◌, Bool, true, false, cond, ◌&&◌}
-use Rattle.std.proofs.Common.{List, length, get_or, Option, Some, None, ◌⊎◌, refl, sym, ◌∙◌, ap, subst, inl, inr, arith}
-use Rattle.std.proofs.Common.{length-set, get_or-set_same, get_or-set_other}
+use Rattle.std.proofs.Common.{rules, ◌≡◌, ◌≢◌, ℕ, zero, suc, ◌+◌, ◌-◌, ◌*◌, ◌/◌, ◌%◌, ◌<◌, ◌≤◌, Bool, true, false, cond}
+use Rattle.std.proofs.Common.{◌&&◌, List, length, get_or, Option, Some, None, ◌⊎◌, refl, sym, ◌∙◌, ap, subst, inl, inr}
+use Rattle.std.proofs.Common.{arith, length-set, get_or-set_same, get_or-set_other}
 use Rattle.std.proofs.lemmas.Bool.{cases_eq, cases_lt, cases_Bool, eq-eqb, ne_eqb, lt-ltb, false_from_ne_true, le-ltb}
-use Rattle.std.proofs.Math.ListN.{set}
-use Rattle.def_matching.specs.Matching.{WeightedGraph}
+use Rattle.{std.proofs.Math.ListN.set, def_matching.specs.Matching.WeightedGraph}
 use Rattle.def_forest.specs.{Darts.darts_of, Darts.other_dart, Forests.IsTight, Forests.bool_number, Forests.splits}
 use Rattle.def_forest.specs.{Forests.walk, Forests.ring_sum, Tables.ForestTables, Tables.forest_of, Tables.up_at}
 use Rattle.def_forest.specs.{Valid.IsRing}
@@ -15,7 +14,7 @@ use Rattle.qm_forest.specs.Rounds.{IsSoundFor, IsEntry, IsLaminar, IsPairing, Is
 use Rattle.qm_forest.specs.Rounds.{near_at, waiting, waits_but, waits_for, within}
 use Rattle.qm_forest.proofs.Withins.{alone, another, ring_around, ring_pairing, rising, climb_law, in_where, rank_walk}
 use Rattle.qm_forest.proofs.Withins.{ring_front}
-use Rattle.qm_forest.proofs.Enclosed.{climbs_here, climbs_place}
+use Rattle.qm_forest.proofs.Enclosed.{climbs_place}
 use Rattle.{def_math.specs.Counts.count_below, sum_laws.proofs.Sums.count_below_same, forest_laws.specs.Walks.listed}
 
 -- A term of a count.
@@ -255,9 +254,7 @@ module _ {t : ForestTables} (known : IsLaminar t) {g : WeightedGraph} (valid : I
   pub ring_begun : {marks : List Bool} {left : List (Option ℕ)} (rest : ℕ → ℕ) {due : ℕ → ℕ} {x : ℕ} (k : ℕ) → x
       ≡ after p → k ≡ 0 → IsRound t marks left (λ b. sum_from (after p) (many - 1) b + rest b) due
       → IsRound t marks left (λ b. sum_from x (many - 1 - 2 * k) b + rest b) due
-  ring_begun rest {x} k x_is k_is round =
-      round_rest (λ b. sum_from x (many - 1 - 2 * k) b + rest b) (λ b l. rw x_is
-      (let e : many - 1 ≡ many - 1 - 2 * k = omega arith in ap (λ m. sum_from (after p) m b + rest b) e)) round
+  ring_begun rest {x} k x_is k_is round = search (rules, round_rest)
 
   -- The sets that wait after it are parts, or waited before.
   pub turn_entries : (left : List (Option ℕ)) {left2 : List (Option ℕ)} (k : ℕ) {x y : ℕ} (d c v : ℕ) → x ≡ at (2 * k)
@@ -301,9 +298,7 @@ module _ {t : ForestTables} (known : IsLaminar t) {g : WeightedGraph} (valid : I
   -- All pairs.
   pub ring_ended : {marks : List Bool} {left : List (Option ℕ)} (rest : ℕ → ℕ) {due : ℕ → ℕ} (k x : ℕ) → k ≡ many / 2
       → IsRound t marks left (λ b. sum_from x (many - 1 - 2 * k) b + rest b) due → IsRound t marks left rest due
-  ring_ended rest k x k_is round =
-      let z : many - 1 - 2 * k ≡ 0 = omega arith in
-      round_rest rest (λ b l. grind (arith, z)) round
+  ring_ended rest k x k_is round = search (rules, round_rest)
 
   -- From a part to its set.
   pub ring_climb : {marks : List Bool} {left : List (Option ℕ)} (rest : ℕ → ℕ) {due : ℕ → ℕ} (v : ℕ) {c : ℕ} (j : ℕ)
@@ -331,12 +326,7 @@ module _ {t : ForestTables} (known : IsLaminar t) {v : ℕ} (c : ℕ) (lv : v < 
   pub climb_begins : {marks : List Bool} {left : List (Option ℕ)} (rest : ℕ → ℕ) {due : ℕ → ℕ}
       → IsRound t marks left (λ b. waits_but t b c v + rest b) due
       → IsRound t marks left (λ b. cond (within t b v) 0 (waits_but t b c v) + rest b) due
-  climb_begins rest round =
-      round_rest (λ b. cond (within t b v) 0 (waits_but t b c v) + rest b) (λ b l. grind (
-        arith,
-        known.own b v lv,
-        climbs_here (up_at t.up) (length t.hand) v,
-      )) round
+  climb_begins rest round = search rules
 
   pub climb_ends : {marks : List Bool} {left : List (Option ℕ)} (rest : ℕ → ℕ) {due : ℕ → ℕ} {p : ℕ} → p ≡ c
       → IsRound t marks left (λ b. cond (within t b p) 0 (waits_but t b c v) + rest b) due

@@ -1,6 +1,6 @@
 -- The tables of a forest that is open, those that contracts see and those that they do not.
-use Rattle.std.proofs.Common.{◌≡◌, ◌≢◌, ℕ, suc, ◌+◌, ◌-◌, ◌*◌, ◌<◌, ◌≤◌, Bool, true, false, cond, length, get_or, ℤ}
-use Rattle.std.proofs.Common.{Option, Some, None, refl, sym, ◌∙◌, ap, subst, inl, inr, arith}
+use Rattle.std.proofs.Common.{rules, ◌≡◌, ◌≢◌, ℕ, suc, ◌+◌, ◌-◌, ◌*◌, ◌<◌, ◌≤◌, Bool, true, false, cond, length, get_or}
+use Rattle.std.proofs.Common.{ℤ, Option, Some, None, refl, sym, ◌∙◌, ap, subst, inl, inr, arith}
 use Rattle.std.proofs.lemmas.Bool.{cases_eq, cases_lt, cond-true, eq-eqb}
 use Rattle.def_forest.specs.Tables.{ForestTables, forest_of, label_at, IsOutermostIn, IsValidFor}
 use Rattle.def_forest.specs.{Darts.Darts, Darts.AreDarts, Darts.darts_of, Darts.far, Forests.Forest, Forests.IsTight}
@@ -277,10 +277,7 @@ module _ {g : WeightedGraph} {t0 : ForestTables} {start top left right : ℕ}
       ))
 
       row_is : IsClosedRow d f (forest_of t5).nest.after (forest_of t5).nest.joint inside top many
-      row_is = rw (
-        ap (λ (y : Forest). y.nest.after) now ∙ made.after,
-        ap (λ (y : Forest). y.nest.joint) now ∙ made.joint,
-      ) ring_is
+      row_is = search (rules, ring_is)
 
       unused : IsUnused g.n f b
       unused =

@@ -1,7 +1,7 @@
 -- What stays of the tie where the nest changes, and no blossom has another weight.
-use Rattle.std.proofs.Common.{◌≡◌, ◌≢◌, ℕ, ◌<◌, cond, List, length, ℤ, pos, Option, None, sym, ◌∙◌, ap, inl, inr, Bool}
-use Rattle.std.proofs.Common.{◌≤ℤ◌, arith, zero, suc, ◌*◌, ◌≤◌, ◌^◌, true, false, get_or, ◌+ℤ◌, ◌+◌, [], ◌∷◌, ◌++◌}
-use Rattle.std.proofs.Common.{count_by, ◌-ℤ◌, refl, length-set, get_or-set_same, get_or-set_other}
+use Rattle.std.proofs.Common.{rules, ◌≡◌, ◌≢◌, ℕ, ◌<◌, cond, List, length, ℤ, pos, Option, None, sym, ◌∙◌, ap, inl, inr}
+use Rattle.std.proofs.Common.{Bool, ◌≤ℤ◌, arith, zero, suc, ◌*◌, ◌≤◌, ◌^◌, true, false, get_or, ◌+ℤ◌, ◌+◌, [], ◌∷◌}
+use Rattle.std.proofs.Common.{◌++◌, count_by, ◌-ℤ◌, refl, length-set, get_or-set_same, get_or-set_other}
 use Rattle.std.proofs.{lemmas.Int.ints, lemmas.Bool.cases_eq, lemmas.Option.slice_get-get_or, Math.ListN.set}
 use Rattle.std.proofs.{Math.Path.fun_ext, lemmas.List.get_or_append_left, lemmas.List.get_or_push}
 use Rattle.std.proofs.{lemmas.List.length_push, lemmas.List.Sums.count_by-le-length, lemmas.List.Sums.sum_by-set}
@@ -11,8 +11,7 @@ use Rattle.def_forest.specs.{declared.kinds.Label.Label, declared.kinds.Label.Th
 use Rattle.def_forest.specs.{Forests.set_at, Steps.weight_change}
 use Rattle.qm_forest.specs.Ties.{AreTied, HiddenTables, HasSizes, HasNumbers, IsLaidOut, IsPooled, IsTrailed, added}
 use Rattle.qm_forest.specs.Ties.{told, potential, IsOnTrail, labelled, mated, linked}
-use mir.Syntax.{w128}
-use mir.Val.{to_z, of_z}
+use mir.{Syntax.w128, Val.to_z, Val.of_z}
 use Rattle.{std.specs.Prelude.unsigned_abs, def_math.specs.Sums.total_below, forest_laws.proofs.Grows.by_none}
 
 -- The tie, from what is said of so many vertices and numbers of blossoms.
@@ -71,13 +70,7 @@ numbers_as {hand} {up = up} numbers same more risen still =
 pub trail_kept : {n : ℕ} {hand top : List ℕ} {label : List Label} {trail : List ℕ} {touched : List Bool} → IsTrailed n
     hand top label trail touched → {hand2 top2 : List ℕ} → ((v : ℕ) → v < n → label_at label (out_of hand top v)
     ≢ Outside → out_of hand2 top2 v ≡ out_of hand top v) → IsTrailed n hand2 top2 label trail touched
-trail_kept {hand} {top} {label} {trail} is same = record {
-  low = is.low;
-  counted = is.counted;
-  marked = is.marked;
-  named = λ x named. (let w = is.named x named in
-      (w.0, w.1, same _ (is.low w.0 w.1) (λ e. named (ap (label_at label) (sym w.2) ∙ e)) ∙ w.2));
-}
+trail_kept {hand} {top} {label} {trail} is same = search rules
 
 -- The numbers of a forest stay small.
 
@@ -147,11 +140,6 @@ base_small {t} tied b =
 pub read_nat : (xs : List ℕ) (b r d : ℕ) → b < length xs → get_or xs b r ≡ get_or xs b d
 read_nat xs b r d low = cc (slice_get-get_or xs b r low, slice_get-get_or xs b d low)
 
--- A weight, read from the tables at hand.
-pub weight_read : {r : ℤ} {xs base : List ℤ} {ls label : List Label} {d delta : ℤ} (b : ℕ) → r ≡ weight_at xs ls d b
-    → xs ≡ base → ls ≡ label → d ≡ delta → r ≡ weight_at base label delta b
-weight_read b e e1 e2 e3 = rw (e, e1, e2, e3)
-
 -- A mark that is read, whatever would stand past the end.
 pub mark_read : (xs : List Bool) (v : ℕ) {r : Bool} (d : Bool) → v < length xs → r ≡ get_or xs v r → get_or xs v d ≡ r
 mark_read xs v {r} d low e = cc (slice_get-get_or xs v r low, slice_get-get_or xs v d low)
@@ -161,8 +149,7 @@ mark_read xs v {r} d low e = cc (slice_get-get_or xs v r low, slice_get-get_or x
 -- A table with one entry written, as a function.
 pub entry_set : {X : Type 0} (xs : List X) (k : ℕ) (x d : X) → k < length xs → (λ j. get_or (set xs k x) j d)
     ≡ set_at (λ j. get_or xs j d) k x
-entry_set xs k x d low = fun_ext
-    (λ j. grind (arith, get_or-set_same xs k x d low, get_or-set_other xs k j x d))
+entry_set xs k x d low = search rules
 
 -- The tables are as long as they were, where those that differ are.
 pub sizes_kept : {t : ForestTables} {hid : HiddenTables} → HasSizes t hid → {base off : List ℤ} {label : List Label}
@@ -250,9 +237,7 @@ module _ {t : ForestTables} {hid : HiddenTables} (tied : AreTied t hid) {v b h :
 -- One mark more.
 marks_more : (marks : List Bool) (v : ℕ) → v < length marks → get_or marks v false ≡ false
     → count_by (λ mark. mark) (set marks v true) ≡ count_by (λ mark. mark) marks + 1
-marks_more marks v low off =
-    let was : ◌≡◌ {A = ℕ} (cond (get_or marks v false) 1 0) 0 = ap (λ (b : Bool). cond b 1 0) off in
-    omega (arith, sum_by-set (λ (b : Bool). cond b 1 0) marks v true false low)
+marks_more marks v low off = search (rules, sum_by-set)
 
 module _ {t : ForestTables} {hid : HiddenTables} (tied : AreTied t hid) (v : ℕ) (low : v < length t.hand)
     (off : get_or hid.touched v false ≡ false) where

@@ -1,6 +1,6 @@
 -- The pool after the number of one of its sets was taken, or given back.
-use Rattle.std.proofs.Common.{◌≡◌, ◌≢◌, ℕ, ◌+◌, ◌<◌, ◌≤◌, cond, eqb, List, length, get_or, count_by, is_some, ◌⊎◌}
-use Rattle.std.proofs.Common.{Option, Some, None, refl, ◌∙◌, ap, inl, inr, arith, length-set, get_or-set_same}
+use Rattle.std.proofs.Common.{rules, ◌≡◌, ◌≢◌, ℕ, ◌+◌, ◌<◌, ◌≤◌, cond, eqb, List, length, get_or, count_by, is_some}
+use Rattle.std.proofs.Common.{◌⊎◌, Option, Some, None, refl, ◌∙◌, ap, inl, inr, arith, length-set, get_or-set_same}
 use Rattle.std.proofs.Common.{get_or-set_other, zero, suc, ◌*◌, Bool, false, sum_by, ◌∷◌, [], ◌++◌, ℤ, pos, ◌+ℤ◌, ◌≤ℤ◌}
 use Rattle.std.proofs.Common.{sym}
 use Rattle.std.proofs.lemmas.Bool.{cases_eq, cond-false, le-ltb, cases_lt, cond-true, eq-eqb, lt-ltb, ne_eqb}
@@ -17,9 +17,8 @@ use Rattle.std.specs.{Ordering.ordering_then}
 use Rattle.def_math.specs.{Counts.count_below, Counts.count, Sums.total_below}
 use Rattle.def_forest.specs.{Forests.live_at, Forests.bool_number, Tables.ForestTables, Tables.up_at}
 use Rattle.qm_forest.specs.Outlines.{AreDistinct, AreEntries, AreWeights, IsListOf, set_in}
-use Rattle.qm_forest.specs.Rounds.{AreInOrder, HasSets, IsEntry, IsRound, IsSized, WaitWithin, waiting, waits_but}
-use Rattle.qm_forest.specs.Rounds.{waits_for}
-use Rattle.qm_forest.specs.Ties.{IsPooled}
+use Rattle.qm_forest.specs.{Rounds.AreInOrder, Rounds.HasSets, Rounds.IsEntry, Rounds.IsRound, Rounds.IsSized}
+use Rattle.qm_forest.specs.{Rounds.WaitWithin, Rounds.waiting, Rounds.waits_but, Rounds.waits_for, Ties.IsPooled}
 use Rattle.qm_forest.proofs.RingRounds.{count_changed, count_more}
 use Rattle.sum_laws.proofs.Sums.{count_append, count_below_none, count_below_one, count_below_total, count_total}
 use Rattle.sum_laws.proofs.Sums.{total_below_none, total_below_same}
@@ -82,20 +81,7 @@ module _ {n size : ℕ} {parts : List ℕ} {pool : List (Option Node)} (pooled :
       omega (arith, live_b parts refl, live_b parts2 at_b, fit_count old_fit, fit_count new_fit)
 
   pub pool_changed : IsPooled n size (set parts b many) (set pool id new)
-  pool_changed = record {
-    room = ap (λ m. n + m) pool_size ∙ pooled.room;
-    half = pool_size ∙ pooled.half;
-    free = λ k is. grind (arith, here, there k, set_at k, old_at k, pooled.free k, new_fit);
-    live = λ k some. elim (cases_eq k id) [
-      | inl e ↦ elim new_fit [
-        | inl w ↦ absurd (some (set_at k e ∙ w.1))
-        | inr w ↦ (w.0, ap (slice_get pool2) e ∙ (here ∙ ap (λ (o : Option Node). Some o) w.1))
-      ]
-      | inr ne ↦ (let w = pooled.live k (λ none. some (old_at k ne ∙ none)) in (w.0, there k ne ∙ w.1))
-    ];
-    vertices = λ v l. at_old v (λ e. absurd (omega arith)) ∙ pooled.vertices v l;
-    counted = counted;
-  }
+  pool_changed = search (rules, here, there, counted)
 
 -- Sets that wait, from the one with the most vertices on, and the sets in order: each stands there once, and a sum over
 -- them is a sum over all blossoms.
@@ -160,9 +146,7 @@ module _ {t : ForestTables} {sets : List (ℕ × ℕ)} (order : AreInOrder t set
   -- Each set in use stands somewhere.
   pub place_of : (b : ℕ) → length t.hand ≤ b → b < length t.up → get_or t.parts b 0 ≢ 0 → (k : ℕ) × (k < length sets)
       × (set_in sets k ≡ b)
-  place_of b high low live =
-      let s = order.has.all b high low live in
-      (s.0, s.1, ap (λ (x : ℕ × ℕ). x.1) (sym (get_or_read sets s.0 (get_or t.rank b 0, b) s.1 (sym s.2) (0, 0))))
+  place_of b high low live = search (rules, get_or_read)
 
   -- A sum over vertices and sets is one over all numbers.
   pub sum_parts : (f : ℕ → ℤ) → length t.hand ≤ length t.up → ((b : ℕ) → length t.hand ≤ b → b < length t.up
@@ -266,19 +250,7 @@ pub wait_before : {t : ForestTables} {sets : List (ℕ × ℕ)} (left left2 : Li
     → ((b w : ℕ) → get_or left2 b None ≡ Some w → ((get_or left b None ≡ Some w) × (b ≢ c))
     ⊎ (get_or t.rank b 0 < get_or t.rank c 0)) → ((b w : ℕ) → get_or left2 b None ≡ Some w → (length t.hand ≤ b)
     × (b < length t.up) × (get_or t.parts b 0 ≢ 0)) → WaitWithin left2 sets k
-wait_before {t} {sets} left left2 k {c} order low at within entries lawful b w is = elim (entries b w is) [
-  | inl was ↦ (let p = within b w was.0 in elim (cases_eq p.0 k) [
-    | inl e ↦ absurd (was.1 (sym p.3 ∙ (ap (λ i. (get_or sets i (0, 0)).1) e ∙ at)))
-    | inr ne ↦ (p.0, omega arith, p.2, p.3)
-  ])
-  | inr less ↦ (let s = place_of order b (lawful b w is).0 (lawful b w is).1 (lawful b w is).2 in
-      elim (cases_lt s.0 k) [
-        | inl l ↦ (s.0, l, s.1, s.2)
-        | inr h ↦ absurd (let rank_k = (order.has.each k (0, 0) low).rank ∙ ap (λ z. get_or t.rank z 0) at in
-            let rank_s = (order.has.each s.0 (0, 0) s.1).rank ∙ ap (λ z. get_or t.rank z 0) s.2 in
-            omega (arith, order.increasing k s.0 (0, 0) h s.1))
-      ])
-]
+wait_before {t} {sets} left left2 k {c} order low at within entries lawful b w is = search (rules, place_of)
 
 -- What waits has an entry, so that its number is one.
 pub entry_low : (left : List (Option ℕ)) (c v : ℕ) → get_or left c None ≡ Some v → c < length left

@@ -1,7 +1,7 @@
 -- Blossoms within each other: climbing from one, one comes past the other.
-use Rattle.std.proofs.Common.{◌≡◌, ◌≢◌, ℕ, zero, suc, ◌+◌, ◌-◌, ◌<◌, ◌≤◌, Bool, true, false, not, cond, eqb, ◌⊎◌, refl}
-use Rattle.std.proofs.Common.{sym, ◌∙◌, ap, inl, inr, arith, ◌*◌, length, get_or}
-use Rattle.std.proofs.lemmas.Bool.{cases_eq, cases_lt, eq-eqb, false_from_ne_true, or_left, eqb-true}
+use Rattle.std.proofs.Common.{rules, ◌≡◌, ◌≢◌, ℕ, zero, suc, ◌+◌, ◌-◌, ◌<◌, ◌≤◌, Bool, true, false, not, cond, eqb, ◌⊎◌}
+use Rattle.std.proofs.Common.{refl, sym, ◌∙◌, ap, inl, inr, arith, ◌*◌, length, get_or}
+use Rattle.std.proofs.lemmas.Bool.{cases_eq, cases_lt, eq-eqb, false_from_ne_true, or_left}
 use Rattle.sum_laws.proofs.Tests.{same_test}
 use Rattle.def_forest.specs.{Forests.bool_number, Forests.walk, Forests.ring_sum, Tables.climbs, Tables.ForestTables}
 use Rattle.def_forest.specs.{Tables.forest_of, Tables.up_at, Tables.IsValidFor, Darts.AreDarts, Darts.darts_of}
@@ -22,9 +22,7 @@ ring_front next f from (suc k) = omega (arith, ring_front next f from k, ap f (w
 pub ring_none : (next f : ℕ → ℕ) (from k : ℕ) → ((j : ℕ) → j < k → f (walk next from j) ≡ 0) → ring_sum next f from k
     ≡ 0
 ring_none next f from zero none = refl
-ring_none next f from (suc k) none =
-    let rest = ring_none next f from k (λ j l. none j (omega arith)) in
-    omega (arith, none k (omega arith))
+ring_none next f from (suc k) none = search (rules, ring_none next f from k (λ j l. none j (omega arith)))
 
 pub ring_one : (next f : ℕ → ℕ) (from k j : ℕ) → j < k → f (walk next from j) ≡ 1
     → ((i : ℕ) → i < k → i ≢ j → f (walk next from i) ≡ 0) → ring_sum next f from k ≡ 1
@@ -99,22 +97,12 @@ module _ {n : ℕ} {up rank : ℕ → ℕ} (rising : IsRising n up rank) where
 
   -- Two parts of a set are not within each other.
   pub parts_apart : (x : ℕ) {y q : ℕ} (m : ℕ) → up x ≡ q → up y ≡ q → y ≢ q → x ≢ y → walk up x m ≡ y → ⊥
-  parts_apart x zero ex ey nq ne e = ne e
-  parts_apart x {y} {q} (suc m) ex ey nq ne e =
-      let h = rank_walk q m in
-      let there : walk up q m ≡ y = ap (λ z. walk up z m) (sym ex) ∙ (sym (walk_front up x m) ∙ e) in
-      absurd (omega (arith, ap rank there, rises y (λ s. nq (sym s ∙ ey)), ap rank ey))
+  parts_apart x h1 h2 h3 h4 h5 h6 = search (rules, rank_walk, walk_front)
 
   -- Two parts have nothing in common.
   pub none_in_both : (w x y : ℕ) {q : ℕ} → up x ≡ q → up y ≡ q → x ≢ q → y ≢ q → x ≢ y → in_it w x ≡ true → in_it w y
       ≡ true → ⊥
-  none_in_both w x y ex ey nx ny ne hx hy =
-      let wx = where_in w x hx in
-      let wy = where_in w y hy in
-      elim (in_line w wx.0 wy.0 wx.1 wy.1) [
-        | inl m ↦ parts_apart x m.0 ex ey ny ne m.1
-        | inr m ↦ parts_apart y m.0 ey ex nx (λ s. ne (sym s)) m.1
-      ]
+  none_in_both w x y ex ey nx ny ne hx hy = search (rules, where_in, in_line, parts_apart)
 
   -- What is within a set but the set is within a part of it.
   pub in_part : (b : ℕ) {q : ℕ} (j : ℕ) → walk up b j ≡ q → b ≢ q → (r : ℕ) × (up r ≡ q) × (r ≢ q) × (i : ℕ)
@@ -275,8 +263,7 @@ sound small valid = assumption
 module _ {t : ForestTables} (known : IsLaminar t) where
   -- A vertex holds itself alone.
   pub alone : (v w : ℕ) → v < length t.hand → w < length t.hand → (forest_of t).holds v w ≡ eqb v w
-  alone v w lv lw = same_test _ _ (λ on. eq-eqb v w (sym (known.own w v lv on)))
-      (λ e. ap ((forest_of t).holds v) (sym (eqb-true v w e)) ∙ climbs_here (up_at t.up) (length t.hand) v)
+  alone v w lv lw = search (rules, climbs_here)
 
   module _ {g : WeightedGraph} (valid : IsSoundFor g t) where
     abbrev are : AreDarts (darts_of g)
@@ -362,8 +349,7 @@ module _ {t : ForestTables} (known : IsLaminar t) where
           (rw (valid.vertices, is) (far_low (darts_of g) are d d_low), rw is joint_is.ends)
 
       used : (z v : ℕ) → v < length t.hand → within t v z ≡ true → length t.hand ≤ z → get_or t.parts z 0 ≢ 0
-      used z v l on high none = true_false on (valid.valid.nested.empty z v (rw valid.vertices at high)
-          (rw valid.vertices at l) none)
+      used z v l on high none = search rules
 
       -- The two are a pair.
       pub ring_pairing : IsPairing t x y d

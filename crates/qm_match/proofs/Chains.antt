@@ -13,14 +13,10 @@ use Rattle.qm_match.specs.States.{IsMade, IsRefreshed, IsFreshAt, MayRefresh, Go
 use Rattle.qm_match.specs.{Fans.passes, Fans.IsOn, Fans.AreFansOf, Fans.AreFans, declared.search.Search.Search}
 use Rattle.qm_match.specs.{declared.fans.Fans.Fans}
 use Rattle.forest_laws.proofs.Bounds.{dart_near, near_odd}
-use Rattle.search_laws.specs.Searches.{first_limit, IsInRange, IsSeeking, risen_limit, turns_left}
-use Rattle.search_laws.specs.Keys.{true_key, AreRightAt, IsMended, leaf_of}
+use Rattle.search_laws.specs.Searches.{IsInRange, IsSeeking, risen_limit, turns_left}
+use Rattle.search_laws.specs.Keys.{true_key, AreRightAt, IsMended}
 use Rattle.search_laws.proofs.{Counted.fewer_stale, Stepped.IsStep, Keys.keys_same, Keys.lawful, Risen.key_soon}
 use Rattle.search_laws.proofs.{Risen.risen_low, Risen.range_shifted}
-
-or_parts : (p q : Bool) → (p || q) ≡ true → (p ≡ true) ⊎ (q ≡ true)
-or_parts true q e = inl refl
-or_parts false q e = inr e
 
 or_right : (p : Bool) {q : Bool} → q ≡ true → (p || q) ≡ true
 or_right true e = refl
@@ -32,20 +28,11 @@ or_left false q e = absurd (cc e)
 
 -- A dart on a chain is the first one, or on the rest.
 pub on_rest : (next : List ℕ) (here d : ℕ) → IsOn next (suc here) d → (here ≡ d) ⊎ IsOn next (get_or next here 0) d
-on_rest next here d w = by_most w.0 w.1
-  where
-    by_most : (most : ℕ) → passes next most (suc here) d ≡ true → (here ≡ d) ⊎ IsOn next (get_or next here 0) d
-    by_most zero e = absurd (cc e)
-    by_most (suc k) e = elim (or_parts (eqb here d) (passes next k (get_or next here 0) d) e)
-        [ inl on ↦ inl (eqb-true here d on) | inr on ↦ inr (k, on) ]
+on_rest next here d w = search rules
 
 -- Nothing is on an empty chain.
 pub on_none : (next : List ℕ) (d : ℕ) → IsOn next 0 d → ⊥
-on_none next d w = by_most w.0 w.1
-  where
-    by_most : (most : ℕ) → passes next most 0 d ≡ true → ⊥
-    by_most zero e = cc e
-    by_most (suc k) e = cc e
+on_none next d w = search rules
 
 -- A write past a chain does not change it.
 passes_same : (old new : List ℕ) (bound : ℕ) → ((i : ℕ) → i < bound → get_or new i 0 ≡ get_or old i 0)
@@ -67,25 +54,16 @@ module _ {g : WeightedGraph} {bound : ℕ} {first next : List ℕ} {first2 next2
     next) {v : ℕ} (lv : v < g.n) (low : bound < 2 * length g.edges) (near : (darts_of g).near bound ≡ v)
     (is_next : next2 ≡ set next bound (get_or first v 0)) (is_first : first2 ≡ set first v (bound + 1)) where
   next_here : get_or next2 bound 0 ≡ get_or first v 0
-  next_here = ap (λ xs. get_or xs bound 0) is_next ∙ get_or-set_same next bound (get_or first v 0) 0
-      (omega (arith, low, fans.darts))
+  next_here = search rules
 
   next_other : (i : ℕ) → i ≢ bound → get_or next2 i 0 ≡ get_or next i 0
   next_other i ne = ap (λ xs. get_or xs i 0) is_next ∙ get_or-set_other next bound i (get_or first v 0) 0 ne
 
   first_here : get_or first2 v 0 ≡ suc bound
-  first_here = let e : bound + 1 ≡ suc bound = omega arith in
-      ap (λ xs. get_or xs v 0) is_first ∙ get_or-set_same first v (bound + 1) 0 (omega (arith, fans.vertices)) ∙ e
-
-  first_other : (w : ℕ) → w ≢ v → get_or first2 w 0 ≡ get_or first w 0
-  first_other w ne = ap (λ xs. get_or xs w 0) is_first ∙ get_or-set_other first v w (bound + 1) 0 ne
+  first_here = search rules
 
   on_still : (entry d : ℕ) → entry ≤ bound → IsOn next entry d → IsOn next2 entry d
-  on_still entry d l w = (
-    w.0,
-    passes_same next next2 bound (λ i li. next_other i (λ e. absurd (omega (arith, e, li))))
-        fans.nexts w.0 entry d l ∙ w.1,
-  )
+  on_still entry d l w = search (rules, passes_same)
 
   on_front : (d : ℕ) → IsOn next2 (get_or first v 0) d → IsOn next2 (get_or first2 v 0) d
   on_front d w = rw first_here (suc w.0, or_right (eqb bound d) (ap (λ x. passes next2 w.0 x d) next_here ∙ w.1))
@@ -98,10 +76,7 @@ module _ {g : WeightedGraph} {bound : ℕ} {first next : List ℕ} {first2 next2
   put_more = record {
     vertices = ap length is_first ∙ (length-set first v (bound + 1) ∙ fans.vertices);
     darts = ap length is_next ∙ (length-set next bound (get_or first v 0) ∙ fans.darts);
-    firsts = λ w. elim (cases_eq w v) [
-      | inl e ↦ omega (arith, ap (λ x. get_or first2 x 0) e, first_here)
-      | inr ne ↦ omega (arith, first_other w ne, fans.firsts w)
-    ];
+    firsts = search rules;
     nexts = λ d. elim (cases_eq d bound) [
       | inl e ↦ omega (arith, ap (λ x. get_or next2 x 0) e, next_here, fans.firsts v)
       | inr ne ↦ omega (arith, next_other d ne, fans.nexts d)
@@ -112,8 +87,7 @@ module _ {g : WeightedGraph} {bound : ℕ} {first next : List ℕ} {first2 next2
           elim (cases_eq ((darts_of g).near d) v) [
             | inl e ↦ subst (λ x. IsOn next2 (get_or first2 x 0) d) (sym e) (on_front d
                 (on_still (get_or first v 0) d (fans.firsts v) (subst (λ x. IsOn next (get_or first x 0) d) e low)))
-            | inr other ↦ subst (λ x. IsOn next2 x d) (sym (first_other ((darts_of g).near d) other))
-                (on_still (get_or first ((darts_of g).near d) 0) d (fans.firsts ((darts_of g).near d)) low)
+            | inr other ↦ search (rules, on_still)
           ])
     ];
   }
@@ -136,13 +110,7 @@ module _ (g : WeightedGraph) (f : Forest) (risen : ℕ) where
 
   -- More and more are.
   pub mended_on : {a b c : List ℕ} → IsMended g f risen a b → IsMended g f risen b c → IsMended g f risen a c
-  mended_on p q = record {
-    size = q.size ∙ p.size;
-    each = λ k. elim (q.each k) [
-      | inl e ↦ inl e
-      | inr e ↦ elim (p.each k) [ inl right ↦ inl (e ∙ right) | inr same ↦ inr (e ∙ same) ]
-    ];
-  }
+  mended_on p q = search rules
 
   -- What is right stays right.
   pub stays_right : {a b : List ℕ} (k : ℕ) → IsMended g f risen a b → get_or a k 0 ≡ true_key g f risen k
@@ -191,8 +159,7 @@ made_with keys made size = let leaves = size ∙ made.leaves in search rules
 -- Only keys differ, twice.
 pub keys_twice : (a : Search) {b d : Search} (keys : List ℕ) → b ≡ record a { tour = b.tour } → d
     ≡ record b { tour = keys } → d ≡ record a { tour = d.tour }
-keys_twice a keys e1 e2 = e2 ∙ (ap (λ (s : Search). record s { tour = keys }) e1
-    ∙ ap (λ (t : List ℕ). record a { tour = t }) (sym (ap (λ (s : Search). s.tour) e2)))
+keys_twice a keys e1 e2 = search rules
 
 -- Marks and keys that are made right.
 
@@ -201,27 +168,14 @@ pub made_like : {g : WeightedGraph} {old : Search} (new : Search) → IsMade g o
     → ◌≡◌ {A = Fans × ℕ} (new.fans, new.first) (old.fans, old.first) → length new.forest.up ≡ length old.forest.up
     → length new.tour ≡ length old.tour → length new.inner.items ≡ length old.inner.items
     → g.n ≤ vec_capacity new.members → g.n ≤ vec_capacity new.parts → IsMade g new
-made_like {g} new made fans up tour inner members parts = record {
-  small = made.small;
-  cheap = made.cheap;
-  perfect = made.perfect;
-  fans = subst (λ (x : Fans × ℕ). AreFans g x.0.first.items x.0.next.items) (sym fans) made.fans;
-  first = subst (λ (x : Fans × ℕ). g.n * x.1 ≤ first_limit) (sym fans) made.first;
-  low = subst (λ (x : Fans × ℕ). x.1 ≤ first_limit) (sym fans) made.low;
-  size = up ∙ made.size;
-  leaves = tour ∙ made.leaves;
-  marks = inner ∙ made.marks;
-  members = members;
-  parts = parts;
-}
+made_like {g} new made fans up tour inner members parts = search rules
 
 -- What was made right stays so.
 pub stays_fresh : {g : WeightedGraph} {old new : Search} {b : ℕ} → IsRefreshed g old new → IsFreshAt g old b
     → IsFreshAt g new b
 stays_fresh {g} {old} {new} {b} is fresh = record {
   mark = rw is.forest (λ inner. is.marked b inner (fresh.mark inner));
-  leaf = rw (is.forest, is.risen)
-      (λ inner h. stays_right g (forest_of old.forest) old.risen (leaf_of g b) is.mended (fresh.leaf inner h));
+  leaf = search rules;
   edges = rw (is.forest, is.risen) (λ other. stay_right g (forest_of old.forest) old.risen
       ((forest_of old.forest).holds b) is.mended (fresh.edges other));
 }
@@ -241,12 +195,7 @@ refreshed_on {g} {a} {b} {d} p q = record {
 -- What may be made right may still be.
 pub may_later : {g : WeightedGraph} {old new : Search} {b : ℕ} → IsRefreshed g old new → MayRefresh g old b
     → MayRefresh g new b
-may_later {g} {b} is may = record {
-  made = is.made;
-  valid = rw is.forest may.valid;
-  low = rw is.forest may.low;
-  used = rw is.forest may.used;
-}
+may_later {g} {b} is may = search rules
 
 -- Only keys and the room for vertices differ, twice.
 pub members_twice : (a : Search) {b d : Search} → b ≡ record a { tour = b.tour; members = b.members }
@@ -268,14 +217,12 @@ module _ {g : WeightedGraph} {s : Search} (way : IsUnderWay g s) where
   sets = omega (arith, way.made.size, way.made.leaves)
 
   pub risen_few : s.risen ≤ risen_limit
-  risen_few = risen_low way.made.small.lawful way.made.cheap way.made.perfect.1 way.made.first way.made.low way.range
-      valid_at
+  risen_few = search (rules, risen_low)
 
   -- The least key is small.
   pub soon : (key : ℕ) → ((k : ℕ) → k < length s.tour → key ≤ true_key g (forest_of s.forest) s.risen k)
       → key ≤ risen_limit
-  soon key low = key_soon way.made.small.lawful way.made.cheap way.made.perfect.1 way.made.first way.made.low way.range
-      valid_at (length s.tour) sets key low
+  soon key low = search (rules, key_soon, valid_at, sets)
 
   module _ (x : ℕ) (room : (k : ℕ) → k < length s.tour → s.risen + x ≤ true_key g (forest_of s.forest) s.risen k) where
     pub shift_feasible : IsFeasible (darts_of g) (shifted (forest_of s.forest) (pos x))
@@ -284,12 +231,10 @@ module _ {g : WeightedGraph} {s : Search} (way : IsUnderWay g s) where
 
     pub shift_keys : (k : ℕ) → k < length s.tour → true_key g (shifted (forest_of s.forest) (pos x)) (s.risen + x) k
         ≡ true_key g (forest_of s.forest) s.risen k
-    shift_keys = keys_same g way.made.small.lawful (forest_of s.forest) way.valid.valid.outermost
-        way.valid.valid.feasible s.risen x (length s.tour) sets room
+    shift_keys = search (rules, keys_same, sets)
 
     pub shift_range : IsInRange g.n s.first (shifted (forest_of s.forest) (pos x)) (s.risen + x)
-    shift_range = range_shifted way.made.small.lawful way.made.cheap way.made.perfect.1 way.made.first
-        way.made.low way.range valid_at x
+    shift_range = search (rules, range_shifted, valid_at)
 
     pub shift_small : s.risen + x ≤ risen_limit → (b : ℕ)
         → unsigned_abs ((shifted (forest_of s.forest) (pos x)).weight b) ≤ 2 ^ 62
@@ -300,17 +245,14 @@ module _ {g : WeightedGraph} {s : Search} (way : IsUnderWay g s) where
         → key ≡ s.risen + x → IsValidFor g t → forest_of t ≡ shifted (forest_of s.forest) (pos x)
         → t.root ≡ s.forest.root → IsUnderWay g new
     shifted_way new key e key_is valid shift_is root_is = rw e (record {
-      made = (let made = way.made in
-          let size = ap (λ (f : Forest). f.size) shift_is ∙ made.size in
-          search rules);
+      made = search rules;
       valid = valid;
       tree = (way.tree.0, root_is ∙ way.tree.1);
       low = λ k l. subst (λ (f : Forest). get_or s.tour k 0 ≤ true_key g f key k) (sym shift_is)
           (subst (λ y. get_or s.tour k 0 ≤ true_key g (shifted (forest_of s.forest) (pos x)) y k) (sym key_is)
           (omega (arith, shift_keys k l, way.low k l)));
       marked = λ b inner. way.marked b (ap (λ (f : Forest). f.label b) (sym shift_is) ∙ inner);
-      range = subst (λ (f : Forest). IsInRange g.n s.first f key) (sym shift_is)
-          (subst (λ y. IsInRange g.n s.first (shifted (forest_of s.forest) (pos x)) y) (sym key_is) shift_range);
+      range = search (rules, shift_range);
     })
 
 -- The search goes on from the same vertex.
@@ -333,10 +275,7 @@ mended_way {g} {s} leaf way l e =
       made = made_with _ way.made mended.size;
       valid = way.valid;
       tree = way.tree;
-      low = λ k lk. elim (mended.each k) [
-        | inl right ↦ omega arith
-        | inr same ↦ omega (arith, way.low k (omega (arith, mended.size)))
-      ];
+      low = search rules;
       marked = way.marked;
       range = way.range;
     })

@@ -1,5 +1,6 @@
 mod Chains
 mod Taken
+mod Stepped
 mod Ready
 mod Raised
 pub mod Outcomes

@@ -1,19 +1,18 @@
 -- The cost of a matching, one edge at a time.
-use Rattle.std.proofs.Common.{◌≡◌, ℕ, ◌+◌, ◌-◌, ◌<◌, ◌≤◌, List, [], ◌∷◌, length, take, ◌+ℤ◌, refl, arith, ◌++◌, map}
-use Rattle.std.proofs.Common.{get_or, sym, ◌∙◌, ap, subst, zero, suc, ◌*◌, ◌/◌, ◌^◌, None, ℤ, pos, ◌*ℤ◌, ◌≤ℤ◌, inl, inr}
+use Rattle.std.proofs.Common.{rules, ◌≡◌, ℕ, ◌+◌, ◌-◌, ◌<◌, ◌≤◌, List, [], ◌∷◌, length, take, ◌+ℤ◌, refl, arith, ◌++◌}
+use Rattle.std.proofs.Common.{map, get_or, sym, ◌∙◌, ap, subst, zero, suc, ◌*◌, ◌/◌, ◌^◌, None, ℤ, pos, ◌*ℤ◌, ◌≤ℤ◌, inl}
+use Rattle.std.proofs.Common.{inr}
 use Rattle.std.proofs.{lemmas.Int.ints, lemmas.List.map-append, lemmas.List.take_more, lemmas.List.get_or_past}
-use Rattle.std.proofs.{lemmas.Bool.cases_lt}
+use Rattle.std.proofs.{Math.Nat.mul-le-mul_left, Math.Nat.mul-le-mul_right}
 use Rattle.def_math.specs.{Increasing.IsIncreasing, Sums.total, Counts.count}
 use Rattle.qm_dual.proofs.{Tallies.total_take, Verdicts.says_yes}
 use Rattle.def_matching.specs.Matching.{WeightedGraph, edge_at, matching_cost, ends_at, IsCheap, IsGraph, IsSmallGraph}
 use Rattle.def_matching.specs.Dual.{AreSmall, DualLists, IsSmallDual, SaysYes, dual_sum, verdict}
-use Rattle.def_matching.specs.{declared.limits.TheConstants.MAX_PRODUCT, declared.weighted.WEdge.WEdge}
-use Rattle.def_matching.specs.{declared.weighted.Verdict.TheVariants.Yes}
+use Rattle.def_matching.specs.{declared.limits.TheConstants.MAX_PRODUCT, declared.weighted.Verdict.TheVariants.Yes}
 use Rattle.def_forest.specs.{Tables.ForestTables, Tables.forest_of, Tables.IsValidFor, Written.IsDualOf, Made.AreAtMost}
 use Rattle.def_forest.specs.{Made.AreCostsBelow, Made.AreFirst, Made.IsMadeFor, Made.MAX_FIRST, Needs.AreFeasible}
 use Rattle.search_laws.proofs.Risen.{greatest, small_weights, weights_most}
-use Rattle.qm_match.specs.{States.IsIdle, States.IsReady, Weights.HaveRoom, Weights.HasRoom}
-use Rattle.qm_match.specs.{declared.search.Search.Search}
+use Rattle.qm_match.specs.{States.IsIdle, States.IsReady, Weights.HaveRoom, declared.search.Search.Search}
 use Rattle.{std.specs.Prelude.slice_index, std.specs.Int.RustNames.unsigned_abs, sum_laws.proofs.Sums.count_append}
 use Rattle.{qm_forest.proofs.Chosens.increasing_more, qm_initial.specs.declared.initial.TheConstants.MAX_WISH}
 
@@ -44,8 +43,7 @@ cost_take g m i l = omega (
 -- An increasing list has any greater bound.
 pub increasing_to : (low a b : ℕ) (xs : List ℕ) → a ≤ b → IsIncreasing low a xs → IsIncreasing low b xs
 increasing_to low a b [] le increasing = tt
-increasing_to low a b (x ∷ xs) le increasing =
-    (increasing.0, omega (arith, increasing.1, le), increasing_to (x + 1) a b xs le increasing.2)
+increasing_to low a b (x ∷ xs) le increasing = search (rules, increasing_to (x + 1) a b xs le increasing.2)
 
 module _ (g : WeightedGraph) (xs : List ℕ) (k : ℕ) (low : k < length xs) where
   -- One edge more, which comes after those before.
@@ -60,8 +58,7 @@ module _ (g : WeightedGraph) (xs : List ℕ) (k : ℕ) (low : k < length xs) whe
   counts_on v =
       let more : map (edge_at g) (take (k + 1) xs) ≡ map (edge_at g) (take k xs) ++ edge_at g (get_or xs k 0) ∷ [] =
       ap (map (edge_at g)) (take_more xs k 0 low) ∙ map-append (edge_at g) (take k xs) (get_or xs k 0 ∷ []) in
-      let sum = count_append (ends_at v) (map (edge_at g) (take k xs)) (edge_at g (get_or xs k 0) ∷ []) in
-      ap (count (ends_at v)) more ∙ omega (arith, sum)
+      search (rules, count_append)
 
 -- What a match begins with, and what has come of it.
 
@@ -73,90 +70,53 @@ increasing_low low bound (x ∷ xs) increasing zero l = increasing.1
 increasing_low low bound (x ∷ xs) increasing (suc k) l =
     increasing_low (x + 1) bound xs increasing.2 k (omega (arith, l))
 
-times_low : (n x y : ℕ) → x ≤ y → n * x ≤ n * y
-times_low zero x y l = omega arith
-times_low (suc n) x y l = omega (arith, times_low n x y l, l)
-
-times_sum : (n x : ℕ) → n * (2 * x + MAX_WISH) ≡ 2 * (n * x) + n * MAX_WISH
-times_sum zero x = omega arith
-times_sum (suc n) x = omega (arith, times_sum n x)
-
 pub one_of : (n x : ℕ) → 1 ≤ n → x ≤ n * x
-one_of zero x l = absurd (omega (arith, l))
-one_of (suc n) x l = omega arith
+one_of n x l = omega (arith, mul-le-mul_right x l)
 
 -- Costs that are cheap are small.
 pub cheap_costs : {g : WeightedGraph} → IsGraph g → IsCheap g → AreCostsBelow g (2 ^ 60)
 cheap_costs {g} lawful cheap e l =
     omega (arith, one_of g.n (unsigned_abs (edge_at g e).cost) (omega (arith, lawful.left e l)), cheap e l)
 
--- A forest whose weights are no greater than the costs.
-pub made_least : {g : WeightedGraph} {t : ForestTables} {u : ForestTables} → u ≡ t → IsValidFor g t → t.root ≡ None
-    → length t.up ≡ g.n + g.n / 2 → ((b : ℕ) → g.n ≤ b → (forest_of t).weight b ≡ pos 0)
-    → ((c : ℕ) → ((e : ℕ) → e < length g.edges → unsigned_abs (edge_at g e).cost ≤ c) → (b : ℕ)
-    → unsigned_abs ((forest_of t).weight b) ≤ c) → IsMadeFor g u
-made_least {g} {t} same valid none size sets small = rw same (record {
-  valid = valid;
-  no_tree = none;
-  size = size;
-  sets = sets;
-  small = λ cheap b. (let w = greatest g cheap in
-      omega (arith, times_low g.n (unsigned_abs ((forest_of t).weight b)) w.0 (small w.0 w.1 b), w.2));
-})
-
--- A forest whose weights are the raised costs.
-pub made_raised : {g : WeightedGraph} (y : List ℤ) {t : ForestTables} {u : ForestTables} → AreCostsBelow g (2 ^ 60)
-    → ((most : ℕ) → AreCostsBelow g most → HaveRoom g most y) → u ≡ t → IsValidFor g t → t.root ≡ None
-    → length t.up ≡ g.n + g.n / 2 → ((b : ℕ) → (forest_of t).weight b ≡ get_or y b (pos 0))
-    → IsMadeFor g u × ((most : ℕ) → AreCostsBelow g most → (b : ℕ) → unsigned_abs ((forest_of u).weight b) ≤ most)
-made_raised {g} y {t} costs have same valid none size weights =
-    let sets = λ (b : ℕ) (high : g.n ≤ b). weights b
-    ∙ get_or_past y b (pos 0) (omega (arith, (have (2 ^ 60) costs).long)) in
-    (made_least same valid none size sets small, rw same small)
-  where
-    small : (most : ℕ) → AreCostsBelow g most → (b : ℕ) → unsigned_abs ((forest_of t).weight b) ≤ most
-    small most below b = subst (λ (w : ℤ). unsigned_abs w ≤ most) (sym (weights b)) ((have most below).small b)
-
--- A forest whose weights were given.
-pub made_first : {g : WeightedGraph} {y : List ℤ} {t : ForestTables} {u : ForestTables} → AreFirst g y → u ≡ t
-    → IsValidFor g t → t.root ≡ None → length t.up ≡ g.n + g.n / 2 →
-    ((b : ℕ) → (forest_of t).weight b ≡ get_or y b (pos 0)) → IsMadeFor g u
-made_first {g} {y} first same valid none size weights = subst (λ (s : ForestTables). IsMadeFor g s) (sym same) (record {
-  valid = valid;
-  no_tree = none;
-  size = size;
-  sets = λ b high. weights b ∙ get_or_past y b (pos 0) (omega (arith, high, first.long));
-  small = λ cheap b. subst (λ (w : ℤ). g.n * unsigned_abs w ≤ MAX_FIRST) (sym (weights b)) (first.range b);
-})
-
 -- The usual first weights may be the first.
 pub raised_first : (g : WeightedGraph) (y : List ℤ) → IsCheap g
     → ((most : ℕ) → AreCostsBelow g most → HaveRoom g most y) → AreFirst g y
 raised_first g y cheap have =
     let w = greatest g cheap in
-    let room = have w.0 w.1 in
-    record {
-      long = room.long;
-      range = λ v. omega (arith, times_low g.n (unsigned_abs (get_or y v (pos 0))) w.0 (room.small v), w.2);
-      feasible = room.feasible;
-    }
+    let room = have w.0 w.1 in search (rules, mul-le-mul_left)
 
--- An edge was read, and the numbers at its ends.
-pub room_read : (g : WeightedGraph) (y : List ℤ) (e : ℕ) {edge : WEdge} (a b : ℤ) → edge ≡ edge_at g e
-    → a ≡ get_or y edge.u (pos 0) → b ≡ get_or y edge.v (pos 0) → (a +ℤ b) ≤ℤ (pos 2 *ℤ edge.cost) → HasRoom g y e
-room_read g y e a b is left right le = subst (λ (x : WEdge). (get_or y x.u (pos 0) +ℤ get_or y x.v (pos 0)) ≤ℤ
-    (pos 2 *ℤ x.cost)) is (omega (arith, ints, left, right, le))
+-- A forest whose weights are these numbers.
+made_by : {g : WeightedGraph} (y : List ℤ) {t u : ForestTables} → length y ≡ g.n
+    → (IsCheap g → (b : ℕ) → g.n * unsigned_abs (get_or y b (pos 0)) ≤ MAX_FIRST) → u ≡ t → IsValidFor g t
+    → t.root ≡ None → length t.up ≡ g.n + g.n / 2 → ((b : ℕ) → (forest_of t).weight b ≡ get_or y b (pos 0))
+    → IsMadeFor g u
+made_by {g} y {t} long range same valid none size weights = rw same (record {
+  valid = valid;
+  no_tree = none;
+  size = size;
+  sets = λ b high. weights b ∙ get_or_past y b (pos 0) (omega (arith, high, long));
+  small = λ cheap b. subst (λ (w : ℤ). g.n * unsigned_abs w ≤ MAX_FIRST) (sym (weights b)) (range cheap b);
+})
+
+-- A forest whose weights are the raised costs.
+pub made_raised : {g : WeightedGraph} (y : List ℤ) {t u : ForestTables} → AreCostsBelow g (2 ^ 60)
+    → ((most : ℕ) → AreCostsBelow g most → HaveRoom g most y) → u ≡ t → IsValidFor g t → t.root ≡ None
+    → length t.up ≡ g.n + g.n / 2 → ((b : ℕ) → (forest_of t).weight b ≡ get_or y b (pos 0))
+    → IsMadeFor g u × ((most : ℕ) → AreCostsBelow g most → (b : ℕ) → unsigned_abs ((forest_of u).weight b) ≤ most)
+made_raised {g} y costs have same valid none size weights = (
+  made_by y (have (2 ^ 60) costs).long (λ cheap. (raised_first g y cheap have).range) same valid none size weights,
+  rw same (λ most below b. subst (λ (w : ℤ). unsigned_abs w ≤ most) (sym (weights b)) ((have most below).small b)),
+)
+
+-- A forest whose weights were given.
+pub made_first : {g : WeightedGraph} {y : List ℤ} {t u : ForestTables} → AreFirst g y → u ≡ t → IsValidFor g t
+    → t.root ≡ None → length t.up ≡ g.n + g.n / 2 → ((b : ℕ) → (forest_of t).weight b ≡ get_or y b (pos 0))
+    → IsMadeFor g u
+made_first {y} first = made_by y first.long (λ cheap. first.range)
 
 -- First weights are feasible, and small.
 pub first_feasible : {g : WeightedGraph} {y : List ℤ} → AreFirst g y → AreFeasible g y
-first_feasible {g} {y} first = record {
-  size = first.long;
-  small = λ v. elim (cases_lt v g.n) [
-    | inl l ↦ omega (arith, one_of g.n (unsigned_abs (get_or y v (pos 0))) (omega arith), first.range v)
-    | inr h ↦ omega (arith, ints, get_or_past y v (pos 0) (omega (arith, first.long)))
-  ];
-  edges = first.feasible;
-}
+first_feasible {g} {y} first = search (rules, get_or_past)
 
 -- Numbers near wished ones may be the first.
 pub wished_first : {g : WeightedGraph} (ys y : List ℤ) → y ≡ ys → IsSmallGraph g → IsCheap g → length ys ≡ g.n
@@ -167,8 +127,7 @@ pub wished_first : {g : WeightedGraph} (ys y : List ℤ) → y ≡ ys → IsSmal
 wished_first {g} ys y same small cheap long near feasible = rw same (record {
   long = long;
   range = λ v. (let w = greatest g cheap in
-      let times = times_low g.n (unsigned_abs (get_or ys v (pos 0))) (2 * w.0 + MAX_WISH) (near w.0 w.1 v) in
-      omega (arith, times_sum g.n w.0, w.2, small.vertices));
+      omega (arith, mul-le-mul_left g.n (near w.0 w.1 v), w.2, small.vertices));
   feasible = feasible;
 })
 
@@ -216,10 +175,7 @@ bounded_dual {g} {s} {d} idle is few most each = record {
 
 -- Greater bounds hold too.
 pub at_most_more : {d : DualLists} {x : ℕ} (y : ℕ) → x ≤ y → AreAtMost x d → AreAtMost y d
-at_most_more y le are = record {
-  vertices = λ k l. omega (arith, le, are.vertices k l);
-  sets = λ k l. omega (arith, le, are.sets k l);
-}
+at_most_more y le are = search rules
 
 -- What the run of a matcher comes to is bounded by its first weights.
 pub run_bounded : (g : WeightedGraph) {s : Search} (end : Search) {d : DualLists} → IsReady s → end.first ≡ s.first
@@ -228,21 +184,11 @@ pub run_bounded : (g : WeightedGraph) {s : Search} (end : Search) {d : DualLists
 run_bounded g {s} end ready same first most each are =
     let low : end.first ≤ first = elim ready.attained [ inl none ↦ omega arith | inr w ↦ omega (arith, w.1, each w.0) ]
     in
-    at_most_more (2 * (g.n * first) + g.n * most) (omega (arith, times_low g.n end.first first low)) are
+    at_most_more (2 * (g.n * first) + g.n * most) (omega (arith, mul-le-mul_left g.n low)) are
 
 -- The bound for the usual first weights.
 pub best_bounded : (n most : ℕ) {d : DualLists} → AreAtMost (2 * (n * most) + n * most) d → AreAtMost (4 * n * most) d
-best_bounded n most are = at_most_more (4 * n * most) (omega (arith, four n most)) are
-  where
-    four : (k x : ℕ) → 4 * k * x ≡ 4 * (k * x)
-    four zero x = omega arith
-    four (suc k) x = (let e : 4 * suc k * x ≡ (4 * k + 4) * x = (let f : 4 * suc k ≡ 4 * k + 4 = omega arith in
-        ap (λ m. m * x) f) in let h = sum (4 * k) 4 x in
-        omega (arith, e, h, four k x))
-      where
-        sum : (a c y : ℕ) → (a + c) * y ≡ a * y + c * y
-        sum a c zero = omega arith
-        sum a c (suc y) = omega (arith, sum a c y)
+best_bounded n most are = at_most_more (4 * n * most) (omega arith) are
 
 -- The verdict on a dual that says yes.
 pub met_verdict : {g : WeightedGraph} {d : DualLists} {cost : ℤ} → SaysYes g d → dual_sum d ≡ cost

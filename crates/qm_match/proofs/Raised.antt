@@ -1,12 +1,12 @@
 -- What raising the number of one vertex does.
-use Rattle.std.proofs.Common.{◌≡◌, ◌≢◌, ℕ, suc, ◌+◌, ◌-◌, ◌*◌, ◌/◌, ◌<◌, ◌≤◌, ◌^◌, List, length, get_or, ℤ, pos, ◌+ℤ◌}
-use Rattle.std.proofs.Common.{◌-ℤ◌, ◌*ℤ◌, ◌≤ℤ◌, ◌⊎◌, refl, sym, ◌∙◌, ap, subst, inl, inr, arith}
+use Rattle.std.proofs.Common.{rules, ◌≡◌, ◌≢◌, ℕ, suc, ◌+◌, ◌-◌, ◌*◌, ◌/◌, ◌<◌, ◌≤◌, ◌^◌, List, length, get_or, ℤ, pos}
+use Rattle.std.proofs.Common.{◌+ℤ◌, ◌-ℤ◌, ◌*ℤ◌, ◌≤ℤ◌, ◌⊎◌, refl, sym, ◌∙◌, ap, subst, inl, inr, arith}
 use Rattle.std.proofs.{Math.ListN.set, lemmas.Int.ints, lemmas.Bool.cases_eq, lemmas.List.length-set}
 use Rattle.std.proofs.{lemmas.List.get_or-set_same, lemmas.List.get_or-set_other}
 use Rattle.def_matching.specs.{Matching.WeightedGraph, Matching.IsGraph, Matching.edge_at}
 use Rattle.def_matching.specs.{declared.weighted.WEdge.WEdge}
 use Rattle.def_forest.specs.{Darts.darts_of, Darts.far, Made.AreCostsBelow}
-use Rattle.forest_laws.proofs.Bounds.{dart_near, dart_far, near_even, near_odd, twin_odd}
+use Rattle.forest_laws.proofs.Bounds.{dart_near, dart_far, near_odd}
 use Rattle.qm_match.specs.{Fans.AreFans, Fans.IsOn, Weights.left_to, Weights.HaveRoom, Weights.IsRoom}
 use Rattle.{std.specs.Int.RustNames.unsigned_abs, qm_match.proofs.Chains.on_none, qm_match.proofs.Chains.on_rest}
 
@@ -37,13 +37,11 @@ chain_end g most y v room first next entry fans zero few done = record {
 -- A cost that is read is small, and so is a number.
 pub cost_small : (g : WeightedGraph) (most k : ℕ) → AreCostsBelow g most → most ≤ 2 ^ 60 → k < length g.edges
     → {edge : WEdge} → edge ≡ edge_at g k → unsigned_abs edge.cost ≤ 2 ^ 60
-cost_small g most k costs few low {edge} is = let same : unsigned_abs edge.cost ≡ unsigned_abs (edge_at g k).cost =
-    ap (λ (x : WEdge). unsigned_abs x.cost) is in omega (arith, same, costs k low, few)
+cost_small g most k costs few low {edge} is = search rules
 
 -- An edge's second dart ends where the edge begins.
 odd_far : (g : WeightedGraph) (k : ℕ) → far (darts_of g) (2 * k + 1) ≡ (edge_at g k).u
-odd_far g k = ap (darts_of g).near (twin_odd (2 * k + 1) (λ x. absurd (omega arith)))
-    ∙ near_even g (2 * k + 1 - 1) k (omega arith)
+odd_far g k = search rules
 
 module _ {g : WeightedGraph} (lawful : IsGraph g) {most : ℕ} {y : List ℤ} (have : HaveRoom g most y) {v : ℕ}
     (low : v < g.n) {room : ℤ} (is : IsRoom g most y v room) (above : get_or y v (pos 0) ≤ℤ room) where
@@ -86,17 +84,13 @@ module _ {g : WeightedGraph} (lawful : IsGraph g) {most : ℕ} {y : List ℤ} (h
       (pos 2 *ℤ (edge_at g e).cost) = from_here (edge_at g e).u e (pos 2 *ℤ (edge_at g e).cost) at
       (lawful.apart e l) (omega (arith, ints, leaves, there, cost)) in
       omega (arith, ints, turned)
-  by_ends e l (inr off) (inr away) =
-      let here = raised_other (edge_at g e).u off in
-      let there = raised_other (edge_at g e).v away in
-      omega (arith, ints, here, there, have.feasible e l)
+  by_ends e l (inr off) (inr away) = search (rules, raised_other)
 
   pub raised_room : (new : List ℤ) → new ≡ raised → HaveRoom g most new
   raised_room new new_is = subst (λ (xs : List ℤ). HaveRoom g most xs) (sym new_is) (record {
     long = length-set y v room ∙ have.long;
     small = λ w. elim (cases_eq w v) [
-      | inl e ↦ (let here = ap (λ x. get_or raised x (pos 0)) e ∙ raised_here in
-          omega (arith, ints, is.few, above, have.small v))
+      | inl e ↦ search rules
       | inr ne ↦ omega (arith, ints, raised_other w ne, have.small w)
     ];
     feasible = λ e l. by_ends e l (cases_eq (edge_at g e).u v) (cases_eq (edge_at g e).v v);

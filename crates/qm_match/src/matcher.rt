@@ -121,6 +121,7 @@ impl Matcher {
 /// twice the matching's cost. One perfect matching is known.
 ///
 /// It fails for want of memory alone.
+#[tactic(auto, using(crate::proofs::Outcomes::cheap_costs))]
 pub fn best(alloc: Global, g: &SmallGraph, known: &[u32]) -> Result<(Vec<u32>, Dual), Memory>
     requires cheap { IsCheap g.now.graph }
     requires known { IsPerfect g.now.graph known.now }
@@ -184,6 +185,7 @@ pub fn best_from(
 
 /// The same, from first weights near wished ones. Any wish will do. Where the weights show the known matching to be
 /// least, nothing is searched.
+#[tactic(auto, using(crate::proofs::Outcomes::wished_first, crate::proofs::Outcomes::wished_small))]
 pub fn best_near(
     alloc: Global,
     g: &SmallGraph,

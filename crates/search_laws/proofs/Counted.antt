@@ -1,10 +1,9 @@
 -- Each step lessens what is left of a search.
-use Rattle.std.proofs.Common.{◌≡◌, ◌≢◌, ℕ, ◌+◌, ◌*◌, ◌<◌, ◌≤◌, true, List, length, mul-le-mul_right, get_or, Option}
-use Rattle.std.proofs.Common.{Some, refl, sym, ◌∙◌, ap, inl, inr, arith}
+use Rattle.std.proofs.Common.{rules, ◌≡◌, ◌≢◌, ℕ, ◌+◌, ◌*◌, ◌<◌, ◌≤◌, true, List, length, mul-le-mul_right, get_or}
+use Rattle.std.proofs.Common.{Option, Some, refl, sym, ◌∙◌, ap, inl, inr, arith}
 use Rattle.std.proofs.lemmas.Bool.{cases_eq, cases_Bool, cond-true, cond-false, eq-eqb, ne_eqb}
-use Rattle.std.proofs.{Math.ListN.set, lemmas.List.length-set, lemmas.List.get_or-set_same}
-use Rattle.std.proofs.{lemmas.List.get_or-set_other}
-use Rattle.def_math.specs.Counts.{count_below}
+use Rattle.{std.proofs.Math.ListN.set, std.proofs.lemmas.List.length-set, std.proofs.lemmas.List.get_or-set_same}
+use Rattle.{std.proofs.lemmas.List.get_or-set_other, def_math.specs.Counts.count_below}
 use Rattle.sum_laws.proofs.Sums.{count_below_le, count_below_lt, count_below_ones}
 use Rattle.def_matching.specs.Matching.{WeightedGraph, IsGraph}
 use Rattle.def_forest.specs.declared.kinds.Label.TheVariants.{Outer, Inner, Outside}
@@ -33,14 +32,11 @@ times_more w l = omega (arith, mul-le-mul_right w l)
 
 fewer_vertices : (n : ℕ) (f new : Forest) → new.size ≡ f.size → vertices_left n new < vertices_left n f
     → steps_left n new < steps_left n f
-fewer_vertices n f new size l =
-    let few = rw size at (sets_low n new) in rw size (omega (arith, times_more (f.size + 1) l))
+fewer_vertices n f new size l = search (rules, sets_low)
 
 fewer_sets : (n : ℕ) (f new : Forest) → new.size ≡ f.size → vertices_left n new ≤ vertices_left n f
     → sets_of n new < sets_of n f → steps_left n new < steps_left n f
-fewer_sets n f new size h l =
-    let less = rw size at l in
-    rw size (grind (arith, less, times_more (f.size + 1)))
+fewer_sets n f new size h l = search rules
 
 -- With a blossom from outside inner and another outer, no place is more of those that are not outer.
 fewer_at : (label : ℕ → Label) (x outer : ℕ) {inn : ℕ} → label inn ≡ Outside

@@ -1,8 +1,8 @@
 -- Keys stay low through each step, where the edges at new outer blossoms and the new inner sets get theirs anew.
-use Rattle.std.proofs.Common.{◌≡◌, ◌≢◌, ℕ, ◌*◌, ◌<◌, ◌≤◌, Bool, true, false, cond, eqb, List, length, get_or, Option}
-use Rattle.std.proofs.Common.{Some, None, ℤ, pos, ◌-ℤ◌, ◌*ℤ◌, ◌⊎◌, refl, sym, ◌∙◌, ap, inl, inr, arith}
+use Rattle.std.proofs.Common.{rules, ◌≡◌, ◌≢◌, ℕ, ◌*◌, ◌<◌, ◌≤◌, Bool, true, false, cond, eqb, List, length, get_or}
+use Rattle.std.proofs.Common.{Option, Some, None, ℤ, pos, ◌-ℤ◌, ◌*ℤ◌, ◌⊎◌, refl, sym, ◌∙◌, ap, inl, inr, arith}
 use Rattle.std.proofs.lemmas.Bool.{cases_eq, cases_lt, cases_Bool, eq-eqb, ne_eqb, eqb-true}
-use Rattle.std.specs.Int.RustNames.{unsigned_abs}
+use Rattle.{std.specs.Int.RustNames.unsigned_abs, search_laws.proofs.Keys.at_edge, search_laws.proofs.Keys.at_set}
 use Rattle.def_matching.specs.Matching.{WeightedGraph, IsGraph, edge_at}
 use Rattle.def_forest.specs.declared.kinds.Label.TheVariants.{Outer, Inner, Outside}
 use Rattle.def_forest.specs.{Darts.darts_of, Darts.far, Forests.Forest, Forests.set_at, Opened.Opening}
@@ -12,7 +12,6 @@ use Rattle.forest_laws.proofs.{Bounds.are_darts, Levels.tree_cases, Grows.set_he
 use Rattle.forest_laws.proofs.{Expands.Expansion, Shrinks.Shrink}
 use Rattle.search_laws.specs.Keys.{no_key, edge_key_by, set_key_by, set_of, leaf_of, true_key, AreLow, IsMended}
 use Rattle.search_laws.specs.Keys.{AreRightAt}
-use Rattle.search_laws.proofs.Keys.{at_edge, at_set}
 use Rattle.forest_laws.proofs.Shrinks as shrinks
 use Rattle.forest_laws.proofs.Expands as expands
 
@@ -69,8 +68,7 @@ stay_low {g} is {f} {new} {risen} {old} {keys} low mended turned k l = elim (men
             rw (at_set g new risen k he) (set_key_stays (f.label b) (new.label b) (f.weight b) (new.weight b) risen
             (get_or keys k 0) (rw (at_set g f risen k he) at was) (λ inner. elim (turned.sets b (omega arith) inner) [
               | inl w ↦ inl w
-              | inr right ↦ inr (sym (ap (λ x. get_or keys x 0) leaf) ∙ right
-                  ∙ (ap (true_key g new risen) leaf ∙ at_set g new risen k he))
+              | inr right ↦ search rules
             ])))
       ])
 ]

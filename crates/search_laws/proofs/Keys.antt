@@ -1,15 +1,14 @@
 -- Keys do not change with a shift, and what they say is lawful.
-use Rattle.std.proofs.Common.{◌≡◌, ℕ, ◌+◌, ◌-◌, ◌*◌, ◌/◌, ◌%◌, ◌<◌, ◌≤◌, Bool, true, false, eqb, length, ℤ, pos, ◌+ℤ◌}
-use Rattle.std.proofs.Common.{◌-ℤ◌, ◌*ℤ◌, ◌≤ℤ◌, sym, ◌∙◌, ap, inl, inr, arith}
+use Rattle.std.proofs.Common.{rules, ◌≡◌, ℕ, ◌+◌, ◌-◌, ◌*◌, ◌%◌, ◌<◌, ◌≤◌, Bool, true, false, eqb, length, ℤ, pos, ◌+ℤ◌}
+use Rattle.std.proofs.Common.{◌-ℤ◌, ◌≤ℤ◌, ap, inl, inr, arith}
 use Rattle.std.proofs.lemmas.Bool.{cases_eq, cases_lt, cond-true, cond-false, eq-eqb, eqb-true, lt-ltb, le-ltb}
-use Rattle.std.proofs.lemmas.Int.{ints}
-use Rattle.std.specs.Int.RustNames.{unsigned_abs}
+use Rattle.std.{proofs.lemmas.Int.ints, specs.Int.RustNames.unsigned_abs}
 use Rattle.def_matching.specs.Matching.{WeightedGraph, IsGraph, edge_at}
 use Rattle.def_forest.specs.{Darts.darts_of, Darts.far, Forests.Forest, Forests.weight_between, Steps.weight_change}
 use Rattle.def_forest.specs.{Steps.shifted, Tables.slack_of, Valid.AreOutermost, Valid.IsFeasible}
-use Rattle.def_forest.specs.{declared.kinds.Label.Label, declared.kinds.Label.TheVariants.Outside}
-use Rattle.forest_laws.proofs.Bounds.{dart_near, dart_far, dart_cost, near_even, near_odd, twin_even, twin_odd}
-use Rattle.forest_laws.proofs.Grows.{load_apart, load_order, load_within, label_cases, true_false}
+use Rattle.def_forest.specs.{declared.kinds.Label.Label}
+use Rattle.forest_laws.proofs.Bounds.{dart_near, dart_far, dart_cost, near_even}
+use Rattle.forest_laws.proofs.Grows.{load_apart, load_order, load_within, true_false}
 use Rattle.search_laws.specs.Keys.{edge_key_by, edge_key, set_key_by, set_key, set_of, leaf_of, true_key}
 
 -- The key of an edge, and that of a set.
@@ -35,15 +34,8 @@ slack_high g {f} e feasible l =
 pub darts_low : (g : WeightedGraph) (f : Forest) → ((e : ℕ) → e < length g.edges → pos 0 ≤ℤ slack_of g f e) → (d : ℕ)
     → d < 2 * length g.edges
     → weight_between f ((darts_of g).near d) (far (darts_of g) d) ≤ℤ ((darts_of g).cost d +ℤ (darts_of g).cost d)
-darts_low g f slacks d l = elim (cases_eq (d % 2) 0) [
-  | inl even ↦ (let near = near_even g d (d / 2) (omega arith) in
-      let end = ap (darts_of g).near (twin_even d even) ∙ near_odd g (d + 1) (d / 2) (omega arith) in
-      rw (near, end) (omega (arith, ints, slacks (d / 2) (omega arith))))
-  | inr odd ↦ (let near = near_odd g d (d / 2) (omega arith) in
-      let end = ap (darts_of g).near (twin_odd d odd) ∙ near_even g (d - 1) (d / 2) (omega arith) in
-      rw (near, end, load_order f (edge_at g (d / 2)).v (edge_at g (d / 2)).u)
-      (omega (arith, ints, slacks (d / 2) (omega arith))))
-]
+darts_low g f slacks d l =
+    elim (cases_eq (d % 2) 0) [ inl even ↦ search rules | inr odd ↦ search (rules, near_even, load_order) ]
 
 -- Where the dual may rise by x, an edge's slack stays at least 0 and its key does not change.
 edge_shift : (a b : Label) (same : Bool) (slack later : ℤ) (risen x : ℕ) → pos 0 ≤ℤ slack
@@ -60,13 +52,6 @@ set_shift : (l : Label) (w : ℤ) (risen x : ℕ) → pos 0 ≤ℤ w → risen +
     × (set_key_by l (w +ℤ weight_change l (pos x)) (risen + x) ≡ set_key_by l w risen)
 set_shift l w risen x high room = grind (arith, ints)
 
--- Numbers past the end stand for no blossom.
-pub past_end : {n : ℕ} {f : Forest} → AreOutermost n f → (b : ℕ) → f.size ≤ b → f.label b ≡ Outside
-past_end {f = f} outermost b h = elim (label_cases (f.label b)) [
-  | inl off ↦ off
-  | inr named ↦ (let w = outermost.named b named in absurd (omega (arith, outermost.out_low w.0 w.1, w.2, h)))
-]
-
 module _ (g : WeightedGraph) (is : IsGraph g) (f : Forest) (outermost : AreOutermost g.n f)
     (feasible : IsFeasible (darts_of g) f) (risen x : ℕ) where
   edge_shifted : (e : ℕ) → e < length g.edges → risen + x ≤ true_key g f risen e
@@ -77,11 +62,9 @@ module _ (g : WeightedGraph) (is : IsGraph g) (f : Forest) (outermost : AreOuter
       let v = (edge_at g e).v in
       edge_shift (f.label (f.out u)) (f.label (f.out v)) (eqb (f.out u) (f.out v)) (slack_of g f e)
       (slack_of g (shifted f (pos x)) e) risen x (slack_high g e feasible le)
-      (λ on. (let same = eqb-true (f.out u) (f.out v) on in (
-        ap (λ y. (pos 2 *ℤ (edge_at g e).cost) -ℤ y)
-            (load_within outermost (pos x) u v (is.left e le) (is.right e le) same),
-        ap f.label same,
-      ))) (λ off. (let apart = load_apart outermost (pos x) u v (is.left e le) (is.right e le)
+      (λ on. (let same = eqb-true (f.out u) (f.out v) on in
+      (cc (load_within outermost (pos x) u v (is.left e le) (is.right e le) same), ap f.label same)))
+      (λ off. (let apart = load_apart outermost (pos x) u v (is.left e le) (is.right e le)
       (λ same. true_false (eq-eqb (f.out u) (f.out v) same) off) in omega (arith, ints)))
       (rw (at_edge g f risen e le) at room)
 
@@ -101,14 +84,6 @@ module _ (g : WeightedGraph) (is : IsGraph g) (f : Forest) (outermost : AreOuter
     -- Then no key changes.
     pub keys_same : (k : ℕ) → k < most → true_key g (shifted f (pos x)) (risen + x) k ≡ true_key g f risen k
     keys_same k l = elim (cases_lt k (length g.edges)) [
-      | inl le ↦ at_edge g (shifted f (pos x)) (risen + x) k le ∙ (edge_shifted k le (room k l)).1
-          ∙ sym (at_edge g f risen k le)
-      | inr he ↦ at_set g (shifted f (pos x)) (risen + x) k he ∙ set_same_at (set_of g k) (omega arith)
-          ∙ sym (at_set g f risen k he)
+      | inl le ↦ search (rules, at_edge, edge_shifted k le (room k l))
+      | inr he ↦ search (rules, set_room_at)
     ]
-      where
-        set_same_at : (b : ℕ) → g.n ≤ b → set_key (shifted f (pos x)) (risen + x) b ≡ set_key f risen b
-        set_same_at b h = elim (cases_lt b f.size) [
-          | inl lb ↦ (set_shift (f.label b) (f.weight b) risen x (feasible.sets b h lb) (set_room_at b h lb)).1
-          | inr hb ↦ rw (past_end outermost b hb)
-        ]

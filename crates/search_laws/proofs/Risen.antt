@@ -1,8 +1,7 @@
 -- How far the sum of the weights rises, and so how large keys and weights are.
-use Rattle.std.proofs.Common.{◌≡◌, ℕ, zero, suc, ◌+◌, ◌-◌, ◌*◌, ◌/◌, ap, ◌∙◌, ◌<◌, ◌≤◌, List, [], ◌∷◌, arith, length}
-use Rattle.std.proofs.Common.{map, Option, Some, ℤ, pos, ◌+ℤ◌, ◌*ℤ◌, ◌≤ℤ◌, refl, inl, inr}
-use Rattle.std.proofs.{lemmas.Int.ints, lemmas.Bool.cases_lt}
-use Rattle.std.specs.Int.RustNames.{unsigned_abs}
+use Rattle.std.proofs.Common.{rules, ◌≡◌, ℕ, zero, suc, ◌+◌, ◌-◌, ◌*◌, ◌/◌, ap, ◌∙◌, ◌<◌, ◌≤◌, List, [], ◌∷◌, arith}
+use Rattle.std.proofs.Common.{length, map, Option, Some, ℤ, pos, ◌+ℤ◌, ◌*ℤ◌, ◌≤ℤ◌, refl, inl, inr}
+use Rattle.std.{proofs.lemmas.Int.ints, proofs.lemmas.Bool.cases_lt, specs.Int.RustNames.unsigned_abs}
 use Rattle.def_math.specs.{Increasing.IsIncreasing, Sums.total, Sums.total_below}
 use Rattle.qm_dual.proofs.{Gathered.ends_once, Gathered.total_below_small, Weak.chosen_below}
 use Rattle.def_matching.specs.Matching.{WeightedGraph, IsGraph, IsCheap, IsPerfect, edge_at, matching_cost}
@@ -10,9 +9,8 @@ use Rattle.def_matching.specs.{declared.limits.TheConstants.MAX_PRODUCT, declare
 use Rattle.def_forest.specs.{Darts.darts_of, Forests.Forest, Forests.dual_sum_of, Steps.weight_change, Steps.shifted}
 use Rattle.def_forest.specs.{Valid.IsFeasible, Valid.IsValid, declared.kinds.Label.Label}
 use Rattle.forest_laws.proofs.{Bounds.sum_bounds, Bounds.are_darts, Shifts.shift_valid, Shifts.sum_rises}
-use Rattle.search_laws.specs.{Keys.no_key, Keys.true_key, Searches.IsInRange, Searches.first_limit}
-use Rattle.search_laws.specs.{Searches.risen_limit}
-use Rattle.search_laws.proofs.Keys.{lawful}
+use Rattle.search_laws.{specs.Keys.no_key, specs.Keys.true_key, specs.Searches.IsInRange, specs.Searches.first_limit}
+use Rattle.search_laws.{specs.Searches.risen_limit, proofs.Keys.lawful}
 
 -- The greatest of some numbers, where the product of each with another is small.
 pub greatest_of : (f : ℕ → ℕ) (n limit k : ℕ) → ((i : ℕ) → i < k → n * f i ≤ limit) → (most : ℕ)
@@ -104,13 +102,7 @@ module _ {g : WeightedGraph} (is : IsGraph g) (cheap : IsCheap g) {m : List ℕ}
     -- A shift.
     pub range_shifted : (x : ℕ) → IsInRange n first (shifted f (pos x)) (risen + x)
     range_shifted x =
-        let rises = sum_rises (are_darts is) valid (valid.tree r refl) (pos x) in
-        record {
-          start = range.start;
-          start_high = range.start_high;
-          sum = omega (arith, ints, range.sum);
-          weights = λ b. omega (arith, change_low (f.label b) (f.weight b) x, range.weights b);
-        }
+        let rises = sum_rises (are_darts is) valid (valid.tree r refl) (pos x) in search rules
 
     module _ (most : ℕ) (sets : length g.edges + (f.size - g.n) ≤ most) where
       -- How far a lawful shift goes.

@@ -1,20 +1,19 @@
 -- What each step leaves of a search, and which step a key names.
-use Rattle.std.proofs.Common.{◌≡◌, ◌≢◌, ℕ, ◌+◌, ◌-◌, ◌*◌, ◌/◌, ◌<◌, ◌≤◌, Bool, false, cond, eqb, length, Option, Some}
-use Rattle.std.proofs.Common.{None, ℤ, pos, ◌⊎◌, refl, sym, ◌∙◌, ap, inl, inr, arith}
-use Rattle.std.proofs.{lemmas.Int.ints, lemmas.Bool.cases_eq, lemmas.Bool.cases_lt, lemmas.Bool.cases_Bool}
-use Rattle.std.specs.{Int.RustNames.unsigned_abs, Prelude.int_lt}
+use Rattle.std.proofs.Common.{rules, ◌≡◌, ◌≢◌, ℕ, ◌+◌, ◌-◌, ◌*◌, ◌/◌, ◌<◌, ◌≤◌, Bool, false, cond, eqb, length, Option}
+use Rattle.std.proofs.Common.{Some, None, ℤ, pos, ◌⊎◌, refl, sym, ◌∙◌, ap, inl, inr, arith}
+use Rattle.std.proofs.{lemmas.Int.ints, lemmas.Bool.cases_eq, lemmas.Bool.cases_Bool}
+use Rattle.{std.specs.Int.RustNames.unsigned_abs, std.specs.Prelude.int_lt, sum_laws.proofs.Sums.total_below_same}
 use Rattle.def_matching.specs.Matching.{WeightedGraph, IsGraph, edge_at}
 use Rattle.def_forest.specs.declared.kinds.EdgeKind.TheVariants.{Augment, Grow, Shrink}
-use Rattle.def_forest.specs.{Darts.darts_of, Forests.Forest, Forests.dual_sum_of, Opened.Opening, Opened.IsOpening}
-use Rattle.def_forest.specs.{Opened.IsOpened, Shrunk.IsShrinking, Steps.rooted, Steps.IsAugmented, Tables.kind_by}
-use Rattle.def_forest.specs.{Tables.edge_kind, Tables.slack_of, Valid.IsValid, declared.kinds.EdgeKind.EdgeKind}
+use Rattle.def_forest.specs.{Darts.darts_of, Forests.Forest, Opened.Opening, Opened.IsOpening, Opened.IsOpened}
+use Rattle.def_forest.specs.{Shrunk.IsShrinking, Steps.rooted, Steps.IsAugmented, Tables.kind_by, Tables.edge_kind}
+use Rattle.def_forest.specs.{Tables.slack_of, Valid.IsValid, declared.kinds.EdgeKind.EdgeKind}
 use Rattle.def_forest.specs.{declared.kinds.Label.Label, declared.kinds.Label.TheVariants.Outer}
 use Rattle.def_forest.specs.{declared.kinds.Label.TheVariants.Inner}
-use Rattle.sum_laws.proofs.Sums.{total_below_same}
-use Rattle.forest_laws.proofs.{Expands.Expansion, Expands.halves, Walks.slack_even, Grows.some_is}
-use Rattle.search_laws.specs.{Keys.no_key, Keys.edge_key_by, Keys.set_key_by, Keys.set_of, Keys.true_key}
-use Rattle.search_laws.specs.{Searches.IsSeeking, Searches.AreMatchedBefore, Searches.IsInRange}
-use Rattle.search_laws.proofs.{Keys.at_edge, Keys.at_set, Keys.slack_high, Kept.expansion as the_expansion, Kept.shrink}
+use Rattle.forest_laws.proofs.{Expands.halves, Walks.slack_even, Grows.some_is}
+use Rattle.search_laws.specs.{Keys.no_key, Keys.edge_key_by, Keys.set_of, Keys.true_key, Searches.IsSeeking}
+use Rattle.search_laws.specs.{Searches.AreMatchedBefore, Searches.IsInRange}
+use Rattle.search_laws.proofs.{Keys.at_edge, Keys.slack_high, Kept.expansion as the_expansion, Kept.shrink}
 use Rattle.search_laws.proofs.{Kept.shrunk_on, Kept.shrunk_off}
 use Rattle.forest_laws.proofs.Expands as expands
 use Rattle.forest_laws.proofs.Shrinks as shrinks
@@ -22,15 +21,7 @@ use Rattle.forest_laws.proofs.Shrinks as shrinks
 -- Where the weights and their sum are the same they stay in range.
 pub range_same : {n first : ℕ} {f : Forest} (new : Forest) {risen : ℕ} → new.size ≡ f.size
     → ((b : ℕ) → new.weight b ≡ f.weight b) → IsInRange n first f risen → IsInRange n first new risen
-range_same {first} {f} new {risen} size weights range =
-    let sums : dual_sum_of new ≡ dual_sum_of f =
-    rw size (total_below_same new.weight f.weight f.size (λ b l. weights b)) in
-    record {
-      start = range.start;
-      start_high = range.start_high;
-      sum = sums ∙ range.sum;
-      weights = λ b. rw (weights b) (range.weights b);
-    }
+range_same {first} {f} new {risen} size weights range = search (rules, total_below_same)
 
 -- A search begins.
 pub seeking_begun : (n : ℕ) (f : Forest) (v : ℕ) → v < n → AreMatchedBefore f v
@@ -53,8 +44,7 @@ seeking_shrunk {g} is {f} {new} {v} valid s seeking =
                 let mate = sym (shrinks.mate_b (shrink is valid s)) ∙ ap new.mate (sym here) ∙ none in
                 let top : s.top ≡ s.r =
                 elim (s.tree.outer s.top s.cycle.top_outer) [ inl e ↦ e | inr w ↦ absurd (cc (w.1, mate)) ] in
-                let on_v = ap s.inside (sym (top ∙ r_is)) ∙ s.cycle.top_in in
-                here ∙ sym (shrunk_on is valid s v seeking.vertex on_v))
+                cc (shrunk_on is valid s v seeking.vertex (rw (top ∙ r_is) at s.cycle.top_in)))
             | inr off ↦ (let here = shrunk_off is valid s u low off in
                 let mate = shrinks.mate_off (shrink is valid s) (f.out u) (s.unused.no_out u low) off in
                 let same = seeking.before u lu (sym mate ∙ ap new.mate (sym here) ∙ none) in
@@ -87,8 +77,8 @@ seeking_opened {g} is {f} {new} {o} {v} valid opening opened seeking =
     matched j l none = elim (halves j) [
       | inl w ↦ elim (cases_eq w.0 0) [
         | inl z ↦ (let at : j ≡ 0 = omega (arith, w.1) in cc opened.first_mate)
-        | inr nz ↦ (let at : j ≡ 2 * (w.0 - 1) + 2 = omega (arith, w.1) in
-            cc (opened.even_mate (w.0 - 1) (omega arith)))
+        | inr nz ↦
+            let at : j ≡ 2 * (w.0 - 1) + 2 = omega (arith, w.1) in cc (opened.even_mate (w.0 - 1) (omega arith))
       ]
       | inr w ↦ cc (w.1, opened.odd_mate w.0 (omega (arith, w.1)))
     ]
@@ -96,14 +86,7 @@ seeking_opened {g} is {f} {new} {o} {v} valid opening opened seeking =
 -- The matching grows.
 pub matched_more : {n : ℕ} (g : WeightedGraph) {f new : Forest} {r d v : ℕ} → IsAugmented (darts_of g) f new r d
     → IsSeeking n f (Some r) v → AreMatchedBefore new (v + 1)
-matched_more g {f} {new} {r} {v} is seeking u l none =
-    let out_is = λ (x : ℕ). ap (λ (h : Forest). h.out x) is.changed in
-    let r_is = some_is r (f.out v) seeking.root_is in
-    let same : f.out u ≡ f.out v = elim (cases_lt u v) [
-      | inl lt ↦ seeking.before u lt (is.others (f.out u) (ap new.mate (sym (out_is u)) ∙ none))
-      | inr ge ↦ (let e : u ≡ v = omega arith in ap f.out e)
-    ] in
-    is.root_matched (ap new.mate (r_is ∙ sym same ∙ sym (out_is u)) ∙ none)
+matched_more g {f} {new} {r} {v} is seeking u l none = search rules
 
 -- The step that an edge names when its key has come.
 abbrev pub IsStep : (kind : EdgeKind) → Type 0
@@ -133,12 +116,7 @@ edge_step {g} is {f} {root} {risen} e valid low key few =
     ] in
     rw (not_loose tight) step.0
 
-set_step_by : (l : Label) (w : ℤ) {risen : ℕ} → set_key_by l w risen ≡ risen → risen < no_key → (l ≡ Inner)
-    × (w ≡ pos 0)
-set_step_by l w e few = grind (arith, ints)
-
 -- A set whose key has come may be opened.
 pub set_step : (g : WeightedGraph) (f : Forest) {risen : ℕ} (k : ℕ) → length g.edges ≤ k → true_key g f risen k ≡ risen
     → risen < no_key → (f.label (set_of g k) ≡ Inner) × (f.weight (set_of g k) ≡ pos 0)
-set_step g f {risen} k h key few = set_step_by (f.label (set_of g k)) (f.weight (set_of g k))
-    (sym (at_set g f risen k h) ∙ key) few
+set_step g f {risen} k h key few = search rules

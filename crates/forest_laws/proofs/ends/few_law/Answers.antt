@@ -1,7 +1,4 @@
-use Rattle.forest_laws.proofs.Odds.{few_sets, no_sets}
+use Rattle.{std.proofs.Common.rules, forest_laws.proofs.Odds.few_sets, forest_laws.proofs.Odds.no_sets}
 
 pub returns : Rattle.forest_laws.proofs.ends.few_law.Goals.returns
-returns c = λ g f are outermost nested. (
-  (λ some. few_sets g are f nested outermost.vertices outermost some),
-  λ none. no_sets g are f nested outermost.vertices none,
-)
+returns c = search (rules, few_sets, no_sets)

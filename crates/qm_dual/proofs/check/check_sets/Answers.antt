@@ -1,8 +1,7 @@
 use Rattle.std.proofs.Common.{◌≡◌, ◌<◌, length, List, ℕ, ◌∙◌, sym, ap, refl, arith}
-use Rattle.std.proofs.lemmas.List.{get_or_read}
+use Rattle.{std.proofs.lemmas.List.get_or_read, qm_dual.proofs.Verdicts.shaped_verdict}
 use Rattle.def_matching.specs.{Matching.WeightedGraph, declared.weighted.Verdict.TheVariants.Even}
 use Rattle.def_matching.specs.Dual.{DualLists, dual, negative_fault, set_size}
-use Rattle.qm_dual.proofs.Verdicts.{shaped_verdict}
 use Rattle.qm_dual.proofs.check.check_sets.Goals as goal
 
 pub index-size-requires : goal.index-size-requires

@@ -1,4 +1,4 @@
-use Rattle.std.proofs.Common.{◌≡◌, ℕ, ◌%◌, ◌<◌, not, true, sym, length, slice_index, arith}
+use Rattle.std.proofs.Common.{rules, ◌≡◌, ℕ, ◌%◌, ◌<◌, not, true, sym, length, slice_index, arith}
 use Rattle.std.proofs.lemmas.Bool.Decides.{nat_tests}
 use Rattle.{qm_dual.proofs.check.even_set.Goals.then-size-ne1-via-then-size-ne1}
 use Rattle.{qm_dual.proofs.check.even_set.Goals.then-size-ne1-via-else-size-ne1+then-size-lt3}
@@ -22,6 +22,4 @@ returns-then-size-ne1-clause-least c =
     c.loop-k-test.true c.loop-k.invariant off)
 
 pub returns-clause-least : goal.returns-clause-least
-returns-clause-least c =
-    sym (least_none (λ k. not (is_odd_size (slice_index c.args.sizes.now k))) (length c.args.sizes.now)
-    (λ k l. c.loop-k.invariant k (omega arith)))
+returns-clause-least c = search (rules, least_none)

@@ -1,7 +1,6 @@
 use Rattle.std.proofs.Common.{◌≡◌, pos, true, sym, length, slice_index_or, int_lt, FitsSigned, arith, rules}
-use Rattle.std.proofs.lemmas.Int.{ints}
+use Rattle.{std.proofs.lemmas.Int.ints, qm_dual.proofs.Gathered.least_none, qm_dual.proofs.Gathered.least_some}
 use mir.Syntax.{w64}
-use Rattle.qm_dual.proofs.Gathered.{least_none, least_some}
 use Rattle.qm_dual.proofs.check.negative_set.Goals as goal
 
 pub returns-then-number-lt0 : goal.returns-then-number-lt0
@@ -12,5 +11,4 @@ returns-then-number-lt0 c =
     c.loop-k-test.true c.loop-k.invariant on)
 
 pub returns : goal.returns
-returns c = sym (least_none (λ k. int_lt (slice_index_or c.args.z.now k (pos 0)) (pos 0)) (length c.args.z.now)
-    (λ k l. c.loop-k.invariant k (omega arith)))
+returns c = search (rules, least_none)

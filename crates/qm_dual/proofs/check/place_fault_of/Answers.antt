@@ -1,4 +1,4 @@
-use Rattle.std.proofs.Common.{◌≡◌, ◌+◌, not, true, sym, ◌∙◌, ap, arith, slice_index}
+use Rattle.std.proofs.Common.{rules, ◌≡◌, ◌+◌, not, true, sym, ◌∙◌, ap, arith, slice_index}
 use Rattle.{qm_dual.proofs.Gathered.least_none, qm_dual.proofs.Gathered.least_some, def_matching.specs.Dual.is_up}
 use Rattle.qm_dual.proofs.check.place_fault_of.Goals as goal
 
@@ -11,7 +11,4 @@ returns-then-not-may_stand c =
     (omega arith) c.loop-i.invariant off)
 
 pub returns : goal.returns
-returns c =
-    let it = c.args.places.now in
-    sym (least_none (λ i. not (is_up it.n it.sets i (slice_index it.up.now i))) (it.n + it.sets)
-    (λ k l. c.loop-i.invariant k (omega arith)))
+returns c = search (rules, least_none)

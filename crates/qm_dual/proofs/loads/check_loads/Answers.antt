@@ -1,10 +1,8 @@
-use Rattle.std.proofs.Common.{◌≡◌, ◌^◌, ◌<◌, ℤ, pos, ◌*ℤ◌, ◌∙◌, ap, FitsSigned, below_more, rules, arith}
-use Rattle.std.proofs.lemmas.Int.{ints, to_z-of_z}
-use mir.Syntax.{w64, w128}
-use mir.Val.{to_z, of_z}
+use Rattle.std.proofs.Common.{◌≡◌, ◌^◌, ◌<◌, ℤ, pos, ◌*ℤ◌, ◌∙◌, below_more, rules, arith}
+use Rattle.std.proofs.lemmas.Int.{to_z-of_z}
+use mir.{Syntax.w128, Val.to_z, Val.of_z}
 use lib.Signed.{mag}
-use Rattle.def_matching.specs.{declared.weighted.WEdge.WEdge, Matching.WeightedGraph, Matching.edge_at, Dual.DualLists}
-use Rattle.def_matching.specs.{Dual.dual, Dual.load}
+use Rattle.def_matching.specs.{Matching.edge_at, Dual.dual, Dual.load}
 use Rattle.qm_dual.proofs.{Verdicts.short_found, Verdicts.none_short, loads.check_loads.Goals.After-from-cost}
 use Rattle.qm_dual.proofs.loads.check_loads.Goals as goal
 
@@ -16,15 +14,7 @@ told : (c : After-from-cost) → (to_z w128 (of_z w128 (pos 2 *ℤ to_z w128 (of
     ≡ pos 2 *ℤ (edge_at c.args.judged.now.g.now.graph c.loop-k.k).cost)
     × (to_z w128 (of_z w128 c.load_of-load.result) ≡ load c.args.judged.now.g.now.graph.n
     (dual c.args.judged.now.d.whole.now) (edge_at c.args.judged.now.g.now.graph c.loop-k.k))
-told c =
-    let g : WeightedGraph = c.args.judged.now.g.now.graph in
-    let d : DualLists = dual c.args.judged.now.d.whole.now in
-    let fits : FitsSigned w64 c.edge-edge.result.cost = search rules in (
-      omega (arith, ints, c.from-cost.ensures, ap (λ (e : WEdge). e.cost) c.edge-edge.ensures.value),
-      plain c.load_of-load.result c.load_of-load.type_inv
-          ∙ (c.load_of-load.ensures ∙ (ap (λ n. load n d c.edge-edge.result) c.args.judged.now.over
-          ∙ ap (load g.n d) c.edge-edge.ensures.value)),
-    )
+told c = search rules
 
 pub returns-then-load-cost : goal.returns-then-load-cost
 returns-then-load-cost c =

@@ -1,19 +1,12 @@
-use Rattle.std.proofs.Common.{◌*◌, ◌^◌, ◌≤◌, unsigned_abs, ◌∙◌, arith}
-use Rattle.std.proofs.lemmas.Int.{ints}
-use Rattle.def_matching.specs.Dual.{dual}
+use Rattle.std.proofs.Common.{rules, ◌*◌, ◌^◌, ◌≤◌, unsigned_abs, ◌∙◌, arith}
+use Rattle.{std.proofs.lemmas.Int.ints, def_matching.specs.Dual.dual}
 use Rattle.qm_dual.proofs.Gathered.{named_small, apart_sums, plain_difference}
 use Rattle.qm_dual.proofs.loads.crossing_sum.Goals as goal
 
 -- The sums of both entries and of the set around both are small.
 sums : (c : goal.After-sum_at-2) → (unsigned_abs c.sum_at.result ≤ 2 ^ 30 * 10 ^ 18)
     × (unsigned_abs c.sum_at-2.result ≤ 2 ^ 30 * 10 ^ 18) × (unsigned_abs c.sum_at-both.result ≤ 2 ^ 30 * 10 ^ 18)
-sums c =
-    let small = named_small c.args.d.now.n (dual c.args.d.now.whole.now) c.args.tables.now.sums.items
-    c.requires.tables.summed c.args.d.now.small in (
-      small c.args.a c.requires.entries.0 c.sum_at.result c.sum_at.ensures,
-      small c.args.b c.requires.entries.1 c.sum_at-2.result c.sum_at-2.ensures,
-      small c.meeting.result c.meeting.ensures.low c.sum_at-both.result c.sum_at-both.ensures,
-    )
+sums c = search (rules, named_small)
 
 pub overflow_add-result : goal.overflow_add-result
 overflow_add-result c = omega (arith, ints, sums c)

@@ -1,4 +1,4 @@
-use Rattle.std.proofs.Common.{◌≡◌, ◌⊎◌, ◌-◌, length, slice_index, ◌∙◌, sym, arith}
+use Rattle.std.proofs.Common.{rules, ◌≡◌, ◌-◌, slice_index, ◌∙◌, sym, arith}
 use Rattle.qm_dual.proofs.paths.meeting.Goals.{then-loop-first-test+then-second-ne0+else-heads-first}
 use Rattle.qm_dual.proofs.paths.meeting.Goals.{then-loop-first-test+else-second-ne0, else-loop-first-test}
 use Rattle.qm_dual.proofs.Tallies.{meeting_found, meeting_none}
@@ -19,7 +19,4 @@ returns-else-second-eq0-clause-least c =
     ∙ sym (c.loop-first.invariant.same k)
 
 pub returns-then-second-eq0-clause-least : goal.returns-then-second-eq0-clause-least
-returns-then-second-eq0-clause-least c =
-    let none : (c.loop-first.first ≡ 0) ⊎ (c.loop-first.second ≡ 0) = grind (arith, c.if-second-eq0.either) in
-    λ k. meeting_none c.args.d.now.n (length c.args.d.now.whole.now.z.items) c.args.d.now.whole.now.up.items
-    c.loop-first.first c.loop-first.second none k ∙ sym (c.loop-first.invariant.same k)
+returns-then-second-eq0-clause-least c = search (rules, meeting_none)

@@ -1,6 +1,5 @@
 use Rattle.std.proofs.Common.{◌≡◌, ℕ, ◌+◌, ◌^◌, ◌<◌, List, ℤ, pos, ◌+ℤ◌, unsigned_abs, take, get_or, arith}
-use Rattle.std.proofs.lemmas.Int.{ints}
-use Rattle.{def_math.specs.Sums.total, qm_dual.proofs.Tallies.total_take}
+use Rattle.{std.proofs.lemmas.Int.ints, def_math.specs.Sums.total, qm_dual.proofs.Tallies.total_take}
 
 pub loop-number-preserved : Rattle.qm_dual.proofs.sums.sum.Goals.loop-number-preserved
 loop-number-preserved c =

@@ -1,9 +1,8 @@
 use Rattle.std.proofs.Common.{◌≡◌, suc, ◌+◌, ◌-◌, ◌∙◌, length-set, add-one, get_or, refl, ap, arith}
-use Rattle.std.proofs.Math.ListN.{set}
-use Rattle.def_forest.specs.Forests.{walk, ring_sum}
-use Rattle.qm_forest.proofs.Gatherings.{entry_low, entry_read, ring_sum_below, written_more}
+use Rattle.{std.proofs.Math.ListN.set, def_forest.specs.Forests.walk, def_forest.specs.Forests.ring_sum}
+use Rattle.qm_forest.proofs.{JoinedLists.ring_sum_below, Expandings.next_place}
+use Rattle.qm_forest.proofs.RenamedRows.{entry_low, entry_read, written_more}
 use Rattle.qm_forest.proofs.gathering.join_lists.Goals.{After-index, After-index-end, After-index-in-loop}
-use Rattle.qm_forest.proofs.Expandings.{next_place}
 use Rattle.qm_forest.proofs.gathering.join_lists.Goals as goal
 
 -- What is read: the end of the list at hand, and the beginning and the length of the next one.

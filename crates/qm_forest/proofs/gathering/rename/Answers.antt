@@ -1,6 +1,5 @@
 use Rattle.std.proofs.Common.{length-set, add-one, ◌≡◌, ◌<◌, ◌∙◌, get_or, refl, arith, pos}
-use Rattle.std.proofs.{lemmas.Int.ints, lemmas.List.get_or_read}
-use Rattle.forest_laws.specs.Walks.{listed}
+use Rattle.{std.proofs.lemmas.Int.ints, std.proofs.lemmas.List.get_or_read, forest_laws.specs.Walks.listed}
 use Rattle.qm_forest.proofs.RenamedRows.{next_low, next_old, next_written, more_as}
 use Rattle.qm_forest.proofs.{TiedWrites.kept_in_bits, gathering.rename.Goals.After-index-end}
 use Rattle.qm_forest.proofs.{gathering.rename.Goals.After-index_mut-in-loop}

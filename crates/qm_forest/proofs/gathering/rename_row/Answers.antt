@@ -1,13 +1,9 @@
-use Rattle.std.proofs.Common.{add-one}
+use Rattle.std.proofs.Common.{rules, add-one}
 use Rattle.qm_forest.proofs.RenamedRows.{row_lists, row_leaders, row_more}
 use Rattle.qm_forest.proofs.gathering.rename_row.Goals as goal
 
 pub rename_to-requires : goal.rename_to-requires
-rename_to-requires c =
-    let lists = row_lists c.requires c.loop-test.true c.loop.invariant.here c.loop.invariant.done
-    c.largest-big.ensures.on in
-    assumption (row_leaders c.requires c.loop-test.true c.loop.invariant.here c.loop.invariant.done
-    c.largest-big.ensures.on)
+rename_to-requires c = search (rules, row_lists, row_leaders)
 
 pub loop-preserved : goal.loop-preserved
 loop-preserved c = record {

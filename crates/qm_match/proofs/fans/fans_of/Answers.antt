@@ -1,4 +1,4 @@
-use Rattle.std.proofs.Common.{◌≡◌, ◌+◌, ◌*◌, ◌<◌, ◌∙◌, length, refl, sym, ap, subst, arith}
+use Rattle.std.proofs.Common.{rules, ◌+◌, ◌*◌, ◌<◌, ◌∙◌, length, refl, sym, ap, arith}
 use Rattle.{def_matching.specs.declared.weighted.WEdge.WEdge, forest_laws.proofs.Bounds.dart_near}
 use Rattle.{forest_laws.proofs.Bounds.near_odd, qm_match.specs.Fans.AreFansOf, qm_match.proofs.Chains.put_more}
 
@@ -13,6 +13,4 @@ loop-e-preserved c =
     c.put-in-loop-e.new.fans.next.items = put_more first c.edge-edge.ensures.ends.1 (omega (arith, low))
     (near_odd c.args.g.now.graph (2 * c.loop-e.e + 1) c.loop-e.e refl ∙ sym
     (ap (λ (x : WEdge). x.v) c.edge-edge.ensures.value)) c.put-in-loop-e.ensures.next c.put-in-loop-e.ensures.first in
-    let same : 2 * c.loop-e.e + 1 + 1 ≡ 2 * (c.loop-e.e + 1) = omega arith in
-    subst (λ n. AreFansOf c.args.g.now.graph n c.put-in-loop-e.new.fans.first.items
-    c.put-in-loop-e.new.fans.next.items) same second
+    search rules

@@ -1,4 +1,4 @@
-use Rattle.std.proofs.Common.{◌≡◌, ◌+◌, ◌-◌, ◌/◌, ◌^◌, ◌≤◌, ◌∙◌, length, get_or, refl, sym, subst, ap, arith}
+use Rattle.std.proofs.Common.{rules, ◌≡◌, ◌+◌, ◌-◌, ◌/◌, ◌^◌, ◌≤◌, ◌∙◌, length, get_or, refl, sym, subst, ap, arith}
 use Rattle.std.proofs.{lemmas.Grind.get_or_default_zero, lemmas.List.length-replicate}
 use Rattle.{qm_forest.proofs.Fresh.same_everywhere, qm_match.proofs.Ready.chains_ready}
 
@@ -16,8 +16,7 @@ returns-clause-ready c =
       nexts = c.requires.fans.nexts;
       all = chains_ready c.args.fans.first.items c.args.fans.next.items c.requires.fans c.requires.valid;
       leaves = omega (arith, size, c.edge_count.ensures.value, halves, c.requires.valid.darts);
-      marks = subst (λ n. length c.in_ok-vec.field-0.items ≡ n + n / 2) (sym c.requires.valid.vertices)
-          (omega (arith, c.in_ok-vec.ensures.len, c.in_ok-vec.field-0.ok.0, c.n-n.ensures.value));
+      marks = search rules;
       members = omega (arith, c.in_ok-with_capacity.ensures.capacity, c.requires.valid.vertices, c.n-n.ensures.value);
       parts = omega (arith, c.in_ok-with_capacity-2.ensures.capacity, c.requires.valid.vertices, c.n-n.ensures.value);
       few = λ k l. omega (

@@ -1,7 +1,6 @@
 use Rattle.std.proofs.{Common.◌≡◌, Common.ℤ, Common.refl, Common.subst, Common.sym, Common.arith, lemmas.Int.ints}
 use Rattle.std.proofs.{lemmas.Int.to_z-of_z}
-use mir.Val.{to_z, of_z}
-use mir.Syntax.{w64}
+use mir.{Val.to_z, Val.of_z, Syntax.w64}
 use Rattle.{qm_match.specs.Weights.IsRoom, qm_match.proofs.Raised.raised_room}
 
 pub returns-then-y-v : Rattle.qm_match.proofs.weights.raise.Goals.returns-then-y-v

@@ -1,8 +1,8 @@
+use Rattle.{std.proofs.Common.rules, qm_forest.proofs.Openings.CanOpen, qm_forest.proofs.Openings.partable}
 use Rattle.qm_forest.proofs.Expandings.{Expanding, matched, mate_low, link_low, vertex_low, places_low, reached3, tops3}
 use Rattle.qm_forest.proofs.Expandings.{expanded}
 use Rattle.qm_forest.proofs.forest.Forest.expand.Goals.{After-parts-many, After-outermost-last}
-use Rattle.qm_forest.proofs.Openings.{CanOpen, partable}
-use Rattle.{std.proofs.Common.length, std.proofs.Common.◌∙◌, std.proofs.Common.ap, def_forest.specs.Tables.forest_of}
+use Rattle.{std.proofs.Common.length, std.proofs.Common.◌∙◌, std.proofs.Common.ap}
 use Rattle.qm_forest.proofs.forest.Forest.expand.Goals as goal
 
 ready : (c : After-parts-many) → CanOpen c.args.g.now.graph c.args.self.now c.args.b
@@ -10,9 +10,7 @@ ready c = assumption
 
 opened : (c : After-outermost-last) → Expanding c.args.g.now.graph c.args.self.now c.open.new.self c.args.b
     c.mate_dart-mate.result c.link-link.result c.outermost-first.result c.outermost-last.result c.parts-many.result
-opened c =
-    let first = c.outermost-first.ensures.value ∙ ap (forest_of c.open.new.self).out c.near.ensures in
-    assumption (c.outermost-last.ensures.value ∙ ap (forest_of c.open.new.self).out c.near-2.ensures)
+opened c = search rules
 
 pub mate_dart-mate-requires : goal.mate_dart-mate-requires
 mate_dart-mate-requires c = matched (ready (goal.at.mate_dart-mate-requires c).After-parts-many)

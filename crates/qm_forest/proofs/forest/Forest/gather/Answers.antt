@@ -1,6 +1,5 @@
-use Rattle.std.proofs.Common.{◌≡◌, ◌<◌, ℕ, ap, get_or, length, arith}
-use Rattle.std.proofs.lemmas.List.{get_or_read}
-use Rattle.def_forest.specs.Forests.{walk}
+use Rattle.std.proofs.Common.{rules, ◌≡◌, ◌<◌, ℕ, ap, get_or, length, arith}
+use Rattle.{std.proofs.lemmas.List.get_or_read, def_forest.specs.Forests.walk}
 use Rattle.qm_forest.proofs.Gatherings.{Taken, lists_of_row, joinable, set_low, big_low, handle_top, tied_after}
 use Rattle.qm_forest.proofs.Gatherings.{seen_after, root_after}
 use Rattle.qm_forest.proofs.forest.Forest.gather.Goals.{After-index-leader, After-rename_row-big, After-take_set-set}
@@ -8,9 +7,7 @@ use Rattle.qm_forest.proofs.forest.Forest.gather.Goals as goal
 
 taken : (c : After-take_set-set) → Taken c.self.inside c.take_set-set.new.pool c.args.front c.args.many
     c.take_set-set.result
-taken c =
-    let n_is : c.len.result ≡ length c.self.inside.handles.hand.items = omega arith in
-    record { tied = c.self.invariant; ring = rw c.self.view_is c.requires; took = rw n_is at c.take_set-set.ensures }
+taken c = search rules
 
 on : (c : After-rename_row-big) → (k : ℕ) × (k < c.args.many)
     × (walk (λ i. get_or c.self.inside.rings.after.items i 0) c.args.front k ≡ c.rename_row-big.result)

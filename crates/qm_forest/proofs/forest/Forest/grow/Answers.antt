@@ -1,6 +1,5 @@
-use Rattle.qm_forest.specs.Needs.{ReachesMatched}
-use Rattle.qm_forest.proofs.{MateRounds.grows, OnWays.valid_grown, OnWays.is_some_ne}
-use Rattle.qm_forest.proofs.{forest.Forest.grow.Goals.After-outer_dart-d}
+use Rattle.qm_forest.{specs.Needs.ReachesMatched, proofs.MateRounds.grows, proofs.OnWays.valid_grown}
+use Rattle.qm_forest.{proofs.OnWays.is_some_ne, proofs.forest.Forest.grow.Goals.After-outer_dart-d}
 use Rattle.qm_forest.proofs.forest.Forest.grow.Goals as goal
 
 -- The dart reaches a matched blossom.

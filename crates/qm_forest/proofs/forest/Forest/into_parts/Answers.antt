@@ -1,8 +1,7 @@
 use Rattle.std.proofs.Common.{Option, None, ◌≡◌, ◌≢◌, ℕ, ◌*◌, ◌<◌, ◌≤◌, ◌∙◌, length, sym, ap, subst}
 use Rattle.def_matching.specs.{Dual.dual, Matching.WeightedGraph, Matching.IsSmallGraph}
 use Rattle.def_forest.specs.Tables.{ForestTables, GraphSize, forest_of, IsValidFor}
-use Rattle.def_forest.specs.Written.{IsDualOf}
-use Rattle.qm_forest.specs.Rounds.{IsSoundFor}
+use Rattle.{def_forest.specs.Written.IsDualOf, qm_forest.specs.Rounds.IsSoundFor}
 use Rattle.qm_forest.proofs.{Chosens.perfect, Outlined.dual_is, Outlined.few_is, Outlined.says_yes}
 use Rattle.qm_forest.proofs.forest.Forest.into_parts.Goals as goal
 

@@ -1,4 +1,4 @@
-use Rattle.std.proofs.Common.{add-one, ◌∙◌, ap, arith}
+use Rattle.std.proofs.Common.{rules, add-one, ◌∙◌, ap, arith}
 use Rattle.def_forest.specs.{Darts.darts_of, Darts.far, Tables.forest_of, Ways.dart_or}
 use Rattle.qm_forest.proofs.Increases.{IsLaidPlace, laid_place, laid_more_down, alike_more}
 use Rattle.qm_forest.proofs.forest.Forest.lay_down.Goals.{After-rise_from-d}
@@ -6,8 +6,7 @@ use Rattle.qm_forest.proofs.forest.Forest.lay_down.Goals as goal
 
 place : (c : After-rise_from-d) → IsLaidPlace c.args.g.now.graph c.args.self.now c.loop.self c.args.a c.loop.counter
     c.loop.x
-place c = laid_place c.args.g.now.small _ _ _ c.requires.from _
-    (omega (arith, c.loop-test.true)) c.loop.invariant.here _ c.loop.invariant.same
+place c = search (rules, laid_place)
 
 pub rise_from-d-requires : goal.rise_from-d-requires
 rise_from-d-requires c = (laid_place c.args.g.now.small _ _ _ c.requires.from

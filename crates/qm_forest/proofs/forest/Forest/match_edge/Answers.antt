@@ -1,5 +1,5 @@
-use Rattle.std.proofs.Common.{◌≡◌, ◌+◌, ◌*◌, true, false, refl, sym, ◌∙◌, ap}
-use Rattle.qm_forest.specs.Rounds.{is_dart, matches, near_at}
+use Rattle.std.proofs.Common.{rules, ◌≡◌, ◌+◌, ◌*◌, true, false, refl, sym, ◌∙◌, ap}
+use Rattle.qm_forest.specs.Rounds.{matches, near_at}
 use Rattle.qm_forest.proofs.forest.Forest.match_edge.Goals.{After-is_mate-matched, After-outermost-b}
 use Rattle.qm_forest.proofs.MateRounds.{dart_is, edge_more, edge_same, matches_is}
 use Rattle.{def_forest.specs.Tables.forest_of, forest_laws.proofs.Grows.true_false}
@@ -10,8 +10,7 @@ a_is : (c : After-is_mate-matched) → c.outermost-a.result
 a_is c = c.outermost-a.ensures.value ∙ ap (forest_of c.args.self.now).out c.start_of.ensures
 
 matches_as : (c : After-is_mate-matched) → c.is_mate-matched.result ≡ matches c.args.self.now c.args.e
-matches_as c = c.is_mate-matched.ensures
-    ∙ ap (λ z. is_dart ((forest_of c.args.self.now).mate z) (2 * c.args.e)) (a_is c)
+matches_as c = search rules
 
 b_is : (c : After-outermost-b) → c.outermost-b.result
     ≡ (forest_of c.args.self.now).out (near_at c.args.self.now (2 * c.args.e + 1))
@@ -33,8 +32,4 @@ returns-then-matched-clause-done c =
     (a_is at.After-is_mate-matched, b_is at.After-outermost-b) at c.pair.ensures.left_out) c.requires.begun
 
 pub returns-else-matched-clause-done : goal.returns-else-matched-clause-done
-returns-else-matched-clause-done c =
-    let at = (goal.at.returns-else-matched-clause-done c).After-is_mate-matched in
-    let off : matches c.args.self.now c.args.e ≡ false = sym (matches_as at) ∙ c.if-matched.false in
-    edge_same c.requires.room.laminar c.requires.room.sound.1 _ _ refl
-    (λ s. true_false (dart_is c.requires.room.laminar c.requires.room.sound.1 _ s) off) c.requires.begun
+returns-else-matched-clause-done c = search (rules, false, matches_as, edge_same, true_false, dart_is)

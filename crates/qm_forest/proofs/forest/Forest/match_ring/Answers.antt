@@ -1,4 +1,4 @@
-use Rattle.std.proofs.Common.{◌≡◌, suc, ◌+◌, ◌*◌, ◌/◌, ◌<◌, get_or, refl, ◌∙◌, ap, inl, inr, arith}
+use Rattle.std.proofs.Common.{rules, ◌≡◌, suc, ◌+◌, ◌*◌, ◌/◌, ◌<◌, get_or, refl, ◌∙◌, ap, inl, inr, arith}
 use Rattle.qm_forest.proofs.RingRounds.{ring_begun, ring_ended, ring_turn, turn_entries, turn_pairing}
 use Rattle.qm_forest.proofs.forest.Forest.match_ring.Goals.{After-joint-d, After-parts-end}
 use Rattle.{def_forest.specs.Forests.walk, def_forest.specs.Tables.up_at, qm_forest.specs.Rounds.IsPairing}
@@ -9,8 +9,7 @@ parts_is : (c : After-parts-end) → c.parts-end.result
 parts_is c = c.parts-end.ensures ∙ ap (λ z. get_or c.args.self.now.parts z 0) c.up_at.ensures.value
 
 pairing : (c : After-joint-d) → IsPairing c.args.self.now c.loop.x c.next-y.result c.joint-d.result
-pairing c = turn_pairing c.requires.room.laminar c.requires.room.sound.1 c.requires.inner _
-    c.loop.invariant.here c.next-y.ensures c.joint-d.ensures
+pairing c = search (rules, turn_pairing)
 
 pub loop-init : goal.loop-init
 loop-init c = record {

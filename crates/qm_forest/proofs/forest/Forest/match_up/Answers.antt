@@ -1,4 +1,4 @@
-use Rattle.std.proofs.Common.{get_or, ◌∙◌, ap, inl, inr, arith, length}
+use Rattle.std.proofs.Common.{rules, ◌∙◌, ap, inl, inr, arith, length}
 use Rattle.qm_forest.proofs.RingRounds.{above_more, climb_begins, climb_ends, climbs_on, held_more, next_rank}
 use Rattle.qm_forest.proofs.RingRounds.{ring_climb, rises_here, top_rank}
 use Rattle.qm_forest.proofs.Enclosed.{climbs_here, climbs_place}
@@ -16,17 +16,10 @@ loop-p-init c = record {
 }
 
 pub match_ring-requires-clause-inner : goal.match_ring-requires-clause-inner
-match_ring-requires-clause-inner c = climbs_on c.requires.room.laminar _ c.requires.held.vertex
-    c.requires.held.held c.loop-p.invariant.above c.loop-p-test.true
+match_ring-requires-clause-inner c = search (rules, climbs_on)
 
 pub loop-p-smaller : goal.loop-p-smaller
-loop-p-smaller c =
-    let rank = ap (λ z. get_or c.args.self.now.rank z 0) c.up_at-p.ensures.value in
-    let rise = rises_here c.requires.room.laminar _ c.requires.held.vertex c.requires.held.held c.loop-p.invariant.above
-    c.loop-p-test.true in
-    let next = next_rank c.requires.room.laminar _ c.requires.held.vertex c.requires.held.held c.loop-p.invariant.above
-    c.loop-p-test.true in
-    omega arith
+loop-p-smaller c = search (rules, rises_here, next_rank)
 
 pub loop-p-preserved : goal.loop-p-preserved
 loop-p-preserved c =

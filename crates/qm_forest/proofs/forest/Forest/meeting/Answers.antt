@@ -1,6 +1,6 @@
-use Rattle.std.proofs.Common.{◌≡◌, ◌∙◌, ap, sym, arith}
+use Rattle.std.proofs.Common.{rules, ◌≡◌, ◌∙◌, ap, sym, arith}
 use Rattle.def_forest.specs.{Darts.darts_of, Tables.forest_of}
-use Rattle.qm_forest.proofs.Increases.{climbed, climbed_nearer, climbed_on, none_of, root_on_both, some_of}
+use Rattle.qm_forest.proofs.Increases.{climbed, climbed_nearer, climbed_on, none_of, root_on_both}
 use Rattle.{std.specs.Prelude.is_some, forest_laws.specs.Climbing.level_of, forest_laws.proofs.Levels.level_few}
 use Rattle.qm_forest.proofs.forest.Forest.meeting.Goals as goal
 
@@ -11,17 +11,10 @@ returns-in-Some-clause-both c =
     record { met = sym first.way ∙ second.way; left_low = first.low; right_low = second.low }
 
 pub overflow_add-left : goal.overflow_add-left
-overflow_add-left c =
-    let on = (climbed_on c.args.g.now.small c.requires.valid c.requires.first c.climb-next.result.1
-    c.loop-right.invariant.climbed c.climb-next.ensures.way (omega (arith, c.climb-next.ensures.steps))).low in
-    let few = level_few (darts_of c.args.g.now.graph) (forest_of c.args.self.now) c.args.a in
-    omega arith
+overflow_add-left c = search (rules, level_few)
 
 pub loop-right-smaller : goal.loop-right-smaller
-loop-right-smaller c = climbed_nearer c.args.g.now.small c.requires.valid c.loop-right.at c.loop-right.reach
-    (climbed c.args.g.now.small c.requires.valid c.requires.first c.loop-right.invariant.climbed).0
-    (some_of _ (ap is_some (sym c.rise.ensures.value) ∙ (sym c.is_some.ensures ∙ c.loop-right-test.true)))
-    c.climb-next.ensures.way c.climb-next.ensures.steps c.loop-right.invariant.some
+loop-right-smaller c = search (rules, climbed_nearer, climbed)
 
 pub loop-right-preserved : goal.loop-right-preserved
 loop-right-preserved c = record {

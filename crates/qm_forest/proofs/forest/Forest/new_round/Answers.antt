@@ -1,6 +1,5 @@
-use Rattle.std.proofs.Common.{◌/◌, ◌∙◌, false, None, length, ap, arith}
-use Rattle.std.proofs.lemmas.List.{length-replicate}
-use Rattle.def_forest.specs.Tables.{ForestTables}
+use Rattle.std.proofs.Common.{rules, ◌/◌, ◌∙◌, false, None, length, ap, arith}
+use Rattle.{std.proofs.lemmas.List.length-replicate, def_forest.specs.Tables.ForestTables}
 use Rattle.qm_forest.proofs.{Chosens.if_both, Chosens.round_begins, Withins.laminar, Withins.sound}
 use Rattle.qm_forest.proofs.forest.Forest.new_round.Goals as goal
 
@@ -19,5 +18,4 @@ returns-clause-room c =
     })
 
 pub returns-clause-begun : goal.returns-clause-begun
-returns-clause-begun c = if_both c.empty_round.result c.empty_round.ensures.marks c.empty_round.ensures.left_out
-    (λ round marks left rest once. round_begins c.args.self.now _ _ rest marks left once)
+returns-clause-begun c = search (rules, round_begins)

@@ -1,20 +1,17 @@
-use Rattle.std.proofs.{Common.◌≡◌, Common.length, Common.get_or, Common.arith, lemmas.List.get_or_read}
-use Rattle.qm_forest.specs.Parts.{IsPartable}
+use Rattle.std.proofs.{Common.rules, Common.◌≡◌, Common.length, Common.get_or, Common.arith, lemmas.List.get_or_read}
+use Rattle.qm_forest.{specs.Parts.IsPartable, proofs.Shrinkings.seen_in, proofs.forest.Forest.part.Goals.After-give_set}
+use Rattle.qm_forest.{proofs.forest.Forest.part.Goals.After-open_ring}
 use Rattle.qm_forest.proofs.Parted.{Opened, Parting, set_live, part_lists, parted_as, parted_is, tied_parted}
-use Rattle.qm_forest.proofs.{Shrinkings.seen_in, forest.Forest.part.Goals.After-give_set}
-use Rattle.qm_forest.proofs.{forest.Forest.part.Goals.After-open_ring}
 use Rattle.qm_forest.proofs.forest.Forest.part.Goals as goal
 
 ready : (c : After-open_ring) → IsPartable (seen_in c.self.inside) c.args.b
 ready c = rw c.self.view_is c.requires
 
 front_is : (c : After-open_ring) → c.index-front.result.now ≡ get_or c.self.inside.rings.head.items c.args.b 0
-front_is c = get_or_read c.self.inside.rings.head.items c.args.b _ (rw c.self.invariant.sizes.head (ready c).low)
-    c.index-front.ensures 0
+front_is c = search (rules, get_or_read)
 
 many_is : (c : After-open_ring) → c.index-many.result.now ≡ get_or c.self.inside.rings.parts.items c.args.b 0
-many_is c = get_or_read c.self.inside.rings.parts.items c.args.b _ (rw c.self.invariant.sizes.parts (ready c).low)
-    c.index-many.ensures 0
+many_is c = search (rules, get_or_read)
 
 opened : (c : After-open_ring) → Opened c.self.inside c.open_ring.new.rings c.args.b
 opened c = assumption (ready c, rw (front_is c, many_is c) at c.open_ring.ensures)

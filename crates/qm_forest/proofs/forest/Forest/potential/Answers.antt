@@ -1,7 +1,6 @@
 use Rattle.std.proofs.Common.{◌<◌, ◌≡◌, length, arith, ap, get_or, pos, ◌+ℤ◌}
 use Rattle.std.proofs.lemmas.Int.{ints}
-use mir.Syntax.{w128}
-use mir.Val.{to_z, of_z}
+use mir.{Syntax.w128, Val.to_z, Val.of_z}
 use Rattle.qm_forest.proofs.TiedWrites.{delta_small, added_small, added_bound, told_bound, potential_small}
 use Rattle.qm_forest.proofs.TiedWrites.{kept_in_bits}
 use Rattle.qm_forest.proofs.{Shrinkings.seen_in, forest.Forest.potential.Goals.After-deref-6}

@@ -1,20 +1,12 @@
-use Rattle.std.proofs.Common.{◌≡◌, length, Some, ◌∙◌, sym, ap}
+use Rattle.std.proofs.Common.{rules, ◌≡◌, length, Some, ◌∙◌, sym, ap}
 use Rattle.def_forest.specs.{Darts.darts_of, Darts.far, Forests.Forest, Forests.set_at, Tables.forest_of}
-use Rattle.qm_forest.specs.{Ties.mated, Ties.remated}
+use Rattle.qm_forest.{specs.Ties.mated, specs.Ties.remated, proofs.forest.Forest.rematch.Goals.After-link-up}
 use Rattle.qm_forest.proofs.OnWays.{way_begins, way_goes_on, way_shorter, way_low, way_ends, old_low, up_low}
 use Rattle.qm_forest.proofs.OnWays.{remated_more, out_same, link_same, same_nest, seen_own}
-use Rattle.qm_forest.proofs.forest.Forest.rematch.Goals.{After-link-up}
 use Rattle.qm_forest.proofs.forest.Forest.rematch.Goals as goal
 
 pub loop-old-init : goal.loop-old-init
-loop-old-init c = record {
-  way = way_begins c.args.g.now.small c.requires.valid c.requires.reaches c.requires.free (rw
-      (c.far_blossom-reached.ensures.value, c.twin.ensures) at (ap (λ (f : Forest). f.mate) c.set_mate.ensures.seen))
-      (c.outermost-at.ensures.value ∙ (ap (λ (f : Forest). f.out c.near.result) c.set_mate.ensures.seen
-      ∙ ap (forest_of c.args.self.now).out c.near.ensures));
-  seen = seen_own c.args.self.now c.set_mate.new.self _ c.set_mate.ensures.seen;
-  same = c.set_mate.ensures.same;
-}
+loop-old-init c = search (rules, way_begins)
 
 -- The blossom at hand gets its new mate, and the inner one that it was matched with is the next to get one.
 changed : (c : After-link-up) → forest_of c.set_mate-in-Some.new.self ≡ remated (forest_of c.args.self.now)

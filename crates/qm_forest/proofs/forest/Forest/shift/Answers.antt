@@ -1,6 +1,5 @@
 use Rattle.std.proofs.Common.{◌≡◌, ◌∙◌, ap, sym, refl, ℕ, Some, is_some, arith}
-use Rattle.std.proofs.lemmas.Int.{ints}
-use Rattle.def_forest.specs.Tables.{ForestTables}
+use Rattle.{std.proofs.lemmas.Int.ints, def_forest.specs.Tables.ForestTables}
 use Rattle.qm_forest.proofs.{Meeting.seen_shift, Meeting.seen_still, Meeting.tied_shift, Meeting.valid_shift}
 use Rattle.qm_forest.proofs.{Shrinkings.seen_in, TiedWrites.delta_small, Increases.none_of, Increases.some_of}
 use Rattle.qm_forest.proofs.forest.Forest.shift.Goals as goal

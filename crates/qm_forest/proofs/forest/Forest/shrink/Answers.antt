@@ -1,5 +1,4 @@
-use Rattle.std.proofs.Common.{◌+◌, ◌*◌, ◌≤◌, ◌^◌, arith}
-use Rattle.def_forest.specs.{Darts.darts_of, Tables.forest_of}
+use Rattle.std.proofs.Common.{rules, ◌+◌, ◌*◌, ◌≤◌, ◌^◌, arith}
 use Rattle.forest_laws.proofs.{Levels.level_few, Grows.outer_named}
 use Rattle.qm_forest.proofs.{Shrinkings.Closing, Shrinkings.tops_laid, Shrinkings.free_ring, Shrinkings.shrunk_tables}
 use Rattle.qm_forest.proofs.{MateRounds.shrinks, forest.Forest.shrink.Goals.After-fork-fork}
@@ -15,9 +14,7 @@ closing c =
     )
 
 short : (c : After-fork-fork) → c.fork-fork.result.left + c.fork-fork.result.right ≤ 2 ^ 30
-short c =
-    let few = level_few (darts_of c.args.g.now.graph) (forest_of c.args.self.now) in
-    omega (arith, (closing c).met.x_low, (closing c).met.y_low, c.fork-fork.ensures.few)
+short c = search (rules, level_few)
 
 pub lay_ring-requires : goal.lay_ring-requires
 lay_ring-requires c =
@@ -31,13 +28,7 @@ pub overflow_add-fork-2 : goal.overflow_add-fork-2
 overflow_add-fork-2 c = omega (arith, short (goal.at.overflow_add-fork-2 c).After-fork-fork)
 
 pub close_ring-requires : goal.close_ring-requires
-close_ring-requires c =
-    let it = closing (goal.at.close_ring-requires c).After-fork-fork in
-    let laid = c.lay_ring.ensures in
-    record {
-      tops = tops_laid it c.lay_ring.new.self laid.seen laid.same;
-      free = λ left gone same. free_ring it laid.seen laid.same gone same;
-    }
+close_ring-requires c = search (rules, closing, tops_laid, free_ring)
 
 pub returns : goal.returns
 returns c =

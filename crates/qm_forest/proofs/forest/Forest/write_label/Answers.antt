@@ -1,13 +1,11 @@
 use Rattle.std.proofs.Common.{◌≡◌, ◌≢◌, ◌<◌, ℕ, length, get_or, ◌∙◌, ap, pos, ◌+ℤ◌, arith}
 use Rattle.std.proofs.lemmas.Int.{ints}
-use mir.Syntax.{w128}
-use mir.Val.{to_z, of_z}
+use mir.{Syntax.w128, Val.to_z, Val.of_z}
 use Rattle.def_forest.specs.{Steps.weight_change, Tables.forest_of, Tables.out_of, Tables.label_at}
 use Rattle.def_forest.specs.{declared.kinds.Label.Label, declared.kinds.Label.TheVariants.Outside}
-use Rattle.qm_forest.specs.{Ties.IsOnTrail, declared.forest.Forest.TheInside.Inside}
+use Rattle.qm_forest.{specs.Ties.IsOnTrail, specs.declared.forest.Forest.TheInside.Inside, proofs.Shrinkings.seen_in}
 use Rattle.qm_forest.proofs.TiedWrites.{delta_small, added_small, kept_in_bits, exchanged_is, tied_label, seen_label}
 use Rattle.qm_forest.proofs.forest.Forest.write_label.Goals.{After-exchange-off, After-shift_at-after}
-use Rattle.qm_forest.proofs.Shrinkings.{seen_in}
 use Rattle.qm_forest.proofs.forest.Forest.write_label.Goals as goal
 
 -- A vertex, its outermost blossom, its handle, the label of that blossom, and the new one.

@@ -1,7 +1,6 @@
 use Rattle.std.proofs.Common.{refl, ◌∙◌, None, Option, ℕ, subst, ap}
-use Rattle.def_matching.specs.{declared.weighted.WEdge.WEdge}
+use Rattle.{def_matching.specs.declared.weighted.WEdge.WEdge, def_forest.specs.Valid.IsValid}
 use Rattle.def_forest.specs.{Darts.darts_of, Forests.Forest, Steps.rooted, Tables.forest_of, Tables.edge_kind}
-use Rattle.def_forest.specs.Valid.{IsValid}
 use Rattle.qm_match.proofs.Ready.{free_augments, matched_idle}
 use Rattle.qm_match.proofs.search.Search.match_edge.Goals as goal
 

@@ -1,15 +1,14 @@
-use Rattle.std.proofs.Common.{◌≡◌, suc, ◌+◌, ◌∙◌, get_or, true, false, inl, inr, subst, ap, arith}
-use Rattle.std.proofs.lemmas.Bool.{cases_lt}
-use Rattle.qm_match.specs.declared.search.Search.{Search}
-use Rattle.qm_match.proofs.{Chains.mended_on, Chains.stay_right, Chains.made_members, Chains.members_twice}
-use Rattle.qm_match.proofs.{Taken.may_part_in, Taken.part_of}
+use Rattle.std.proofs.Common.{rules, ◌≡◌, suc, ◌+◌, ◌∙◌, get_or, true, false, inl, inr, subst, ap, arith}
+use Rattle.{std.proofs.lemmas.Bool.cases_lt, qm_match.specs.declared.search.Search.Search}
 use Rattle.{def_forest.specs.Tables.forest_of, search_laws.specs.Keys.AreRightAt}
+use Rattle.qm_match.proofs.{Chains.mended_on, Chains.stay_right, Chains.made_members, Chains.members_twice}
+use Rattle.qm_match.proofs.{Taken.may_part, Taken.part_of}
 use Rattle.qm_match.proofs.search.Search.mend_parts.Goals as goal
 
 pub mend_marked-requires : goal.mend_marked-requires
 mend_marked-requires c =
     let made = made_members c.requires.made c.loop.invariant.same c.loop.invariant.mended.size c.loop.invariant.room in
-    may_part_in c.args.self.now c.args.set c.loop.counter made c.requires.valid c.requires.set
+    may_part c.args.self.now c.args.set c.loop.counter made c.requires.valid c.requires.set
     c.requires.live (ap (λ (s : Search). s.forest) c.loop.invariant.same) c.loop.invariant.here
 
 pub loop-preserved : goal.loop-preserved
@@ -23,9 +22,7 @@ loop-preserved c =
     record {
       same = members_twice s c.loop.invariant.same c.mend_marked.ensures.same;
       room = c.mend_marked.ensures.room;
-      here = c.next-part.ensures ∙ ap (λ (s : Search). get_or s.forest.after c.loop.part 0) c.mend_marked.ensures.same
-          ∙ ap (λ (s : Search). get_or s.forest.after c.loop.part 0) c.loop.invariant.same ∙ ap (λ p. get_or
-          c.args.self.now.forest.after p 0) c.loop.invariant.here ∙ ap (part_of c.args.self.now.forest c.args.set) one;
+      here = search rules;
       mended = mended_on g f s.risen c.loop.invariant.mended mended;
       right = λ k l. elim (cases_lt k c.loop.counter) [
         | inl lt ↦ (λ mark. stay_right g f s.risen (f.holds (part_of s.forest c.args.set k)) mended

@@ -1,14 +1,12 @@
-use Rattle.std.proofs.Common.{◌≡◌, ℕ, ◌-◌, ◌/◌, ◌<◌, ◌∙◌, List, length, get_or, sym, ap, subst, arith}
-use Rattle.std.proofs.{Math.ListN.set, lemmas.List.get_or_read}
-use Rattle.qm_match.specs.declared.search.Search.{Search}
+use Rattle.std.proofs.Common.{rules, ◌≡◌, ◌-◌, ◌/◌, ◌<◌, ◌∙◌, length, get_or, ap, arith}
+use Rattle.{std.proofs.Math.ListN.set, std.proofs.lemmas.List.get_or_read, qm_match.specs.declared.search.Search.Search}
 use Rattle.qm_match.proofs.Chains.{chain_mended, keys_twice, made_with, mended_on, mended_one, vertex_right}
 use Rattle.qm_match.proofs.search.Search.mend_vertex.Goals.{After-index-entry-in-loop-entry, After-mend}
 use Rattle.{def_forest.specs.Tables.forest_of, search_laws.specs.Keys.true_key}
 use Rattle.qm_match.proofs.search.Search.mend_vertex.Goals as goal
 
 fans_is : (c : After-mend) → c.mend.new.self.fans.next.items ≡ c.args.self.now.fans.next.items
-fans_is c = ap (λ (s : Search). s.fans.next.items) c.mend.ensures
-    ∙ ap (λ (s : Search). s.fans.next.items) c.loop-entry.invariant.same
+fans_is c = search rules
 
 leaf : (c : After-mend) → (c.loop-entry.entry - 1) / 2 < length c.loop-entry.self.tour
 leaf c = omega (arith, c.loop-entry.invariant.mended.size, c.requires.made.leaves)
@@ -16,10 +14,7 @@ leaf c = omega (arith, c.loop-entry.invariant.mended.size, c.requires.made.leave
 -- The entry after one of the chain.
 read : (c : After-index-entry-in-loop-entry) → c.mend.new.self.fans.next.items ≡ c.args.self.now.fans.next.items
     → c.index-entry-in-loop-entry.result.now ≡ get_or c.args.self.now.fans.next.items (c.loop-entry.entry - 1) 0
-read c fans = get_or_read c.mend.new.self.fans.next.items (c.loop-entry.entry - 1) _
-    (subst (λ (xs : List ℕ). c.loop-entry.entry - 1 < length xs) (sym fans)
-    (omega (arith, c.requires.made.fans.darts, c.loop-entry.invariant.low, c.loop-entry-test.true)))
-    c.index-entry-in-loop-entry.ensures 0 ∙ ap (λ (xs : List ℕ). get_or xs (c.loop-entry.entry - 1) 0) fans
+read c fans = search (rules, get_or_read)
 
 pub mend-requires : goal.mend-requires
 mend-requires c = rw c.loop-entry.invariant.same (record {
@@ -49,8 +44,7 @@ loop-entry-preserved c =
     record {
       same = keys_twice s _ c.loop-entry.invariant.same c.mend.ensures;
       low = omega (arith, c.requires.made.fans.nexts (c.loop-entry.entry - 1));
-      mended = mended_on g f s.risen c.loop-entry.invariant.mended
-          (mended_one g f s.risen c.loop-entry.self.tour c.mend.new.self.tour leaf_at low tour_is);
+      mended = search (rules, mended_on, mended_one);
       done = λ x on. rw next (chain_mended g f s.risen s.fans.next.items c.loop-entry.self.tour c.loop-entry.entry
           (c.loop-entry.entry - 1) _ (omega arith) low tour_is c.loop-entry.invariant.done x on);
     }

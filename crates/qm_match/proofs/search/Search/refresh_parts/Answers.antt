@@ -1,4 +1,4 @@
-use Rattle.std.proofs.Common.{◌≡◌, ◌<◌, ◌∙◌, List, ℕ, length, get_or, inl, inr, sym, subst, ap, arith}
+use Rattle.std.proofs.Common.{rules, ◌≡◌, ◌<◌, ◌∙◌, length, get_or, inl, inr, sym, subst, ap, arith}
 use Rattle.std.proofs.{lemmas.Bool.cases_lt, lemmas.List.get_or_read}
 use Rattle.qm_match.specs.States.{IsFreshAt, MayRefresh}
 use Rattle.qm_match.proofs.{Chains.may_later, Chains.refreshed_on, Chains.stays_fresh}
@@ -9,9 +9,7 @@ low : (c : After-index-p) → c.loop-k.k < length c.args.self.now.parts.items
 low c = omega (arith, c.loop-k-test.true, c.loop-k.auto.k-end, c.len-k-end.ensures)
 
 p_is : (c : After-index-p) → c.index-p.result.now ≡ get_or c.args.self.now.parts.items c.loop-k.k 0
-p_is c = get_or_read c.loop-k.self.parts.items c.loop-k.k _ (subst (λ (xs : List ℕ). c.loop-k.k < length xs)
-    (sym c.loop-k.invariant.refreshed.parts) (low c)) c.index-p.ensures 0
-    ∙ ap (λ (xs : List ℕ). get_or xs c.loop-k.k 0) c.loop-k.invariant.refreshed.parts
+p_is c = search (rules, get_or_read)
 
 pub refresh-requires : goal.refresh-requires
 refresh-requires c =

@@ -37,26 +37,22 @@ shift-requires c =
           (omega (arith, few at, c.requires.high));
     })
 
-pub returns-clause-way : goal.returns-clause-way
-returns-clause-way c =
-    let at = (goal.at.returns-clause-way c).Start in
-    shifted_way c.requires.way (c.args.key - c.args.self.now.risen) (room at) _ c.args.key refl
-    (omega (arith, c.requires.high)) c.shift.ensures.valid (changed at c.shift.ensures.changed) c.shift.ensures.root
-
-pub returns-clause-goes_on : goal.returns-clause-goes_on
-returns-clause-goes_on c = shifted_on c.args.g.now.graph c.args.self.now.forest c.shift.new.self
-    (c.args.key - c.args.self.now.risen)
-    (changed (goal.at.returns-clause-goes_on c).Start c.shift.ensures.changed) c.shift.ensures.root
-
-pub returns-clause-steps : goal.returns-clause-steps
-returns-clause-steps c = ap (steps_left c.args.g.now.graph.n) c.shift.ensures.changed
-
-pub returns-clause-keys : goal.returns-clause-keys
-returns-clause-keys c =
-    let at = (goal.at.returns-clause-keys c).Start in
-    let key_is : c.args.self.now.risen + (c.args.key - c.args.self.now.risen) ≡ c.args.key =
+pub returns : goal.returns
+returns c =
+    let steps = (goal.at.returns c).Start in
+    let x = c.args.key - c.args.self.now.risen in
+    let sum : c.args.self.now.risen + (c.args.key - c.args.self.now.risen) ≡ c.args.key =
     omega (arith, c.requires.high) in
-    λ k l. ap (λ (f : Forest). true_key c.args.g.now.graph f c.args.key k) (changed at c.shift.ensures.changed)
-    ∙ (ap (λ y. true_key c.args.g.now.graph
-    (shifted (forest_of c.args.self.now.forest) (pos (c.args.key - c.args.self.now.risen))) y k) (sym key_is)
-    ∙ shift_keys c.requires.way (c.args.key - c.args.self.now.risen) (room at) k l)
+    let is = changed steps c.shift.ensures.changed in
+    record {
+      way = shifted_way c.requires.way x (room steps) _ c.args.key refl (sym sum) c.shift.ensures.valid is
+          c.shift.ensures.root;
+      goes_on = shifted_on c.args.g.now.graph c.args.self.now.forest c.shift.new.self x is c.shift.ensures.root;
+      steps = ap (steps_left c.args.g.now.graph.n) c.shift.ensures.changed;
+      keys = λ k l. ap (λ (f : Forest). true_key c.args.g.now.graph f c.args.key k) is
+          ∙ (ap (λ y. true_key c.args.g.now.graph (shifted (forest_of c.args.self.now.forest) (pos x)) y k) (sym sum)
+          ∙ shift_keys c.requires.way x (room steps) k l);
+      tour = refl;
+      risen = refl;
+      first = refl;
+    }

@@ -1,9 +1,7 @@
-use Rattle.std.proofs.Common.{◌≡◌, refl, ap, false}
-use Rattle.qm_match.specs.States.{IsMade, IsRefreshed}
-use Rattle.qm_match.proofs.Taken.{closed_high, closed_live, closed_right, closed_set, made_after, shrunk_goes_on}
-use Rattle.qm_match.proofs.Taken.{shrunk_less, shrunk_way, unmarked}
-use Rattle.qm_match.proofs.search.Search.shrink.Goals.{After-mend_parts, After-outermost-set}
-use Rattle.{std.specs.Vec.with_item, def_matching.specs.declared.weighted.WEdge.WEdge}
+use Rattle.{std.proofs.Common.◌≡◌, std.proofs.Common.refl, std.proofs.Common.ap, qm_match.specs.States.IsMade}
+use Rattle.qm_match.proofs.Taken.{closed_high, closed_live, closed_right, closed_set, made_after, unmarked}
+use Rattle.qm_match.proofs.{Stepped.shrunk_step, Stepped.stepped, search.Search.shrink.Goals.After-outermost-set}
+use Rattle.{def_matching.specs.declared.weighted.WEdge.WEdge, qm_match.specs.declared.search.Search.Search}
 use Rattle.qm_match.proofs.search.Search.shrink.Goals as goal
 
 set_is : (c : After-outermost-set) → c.outermost-set.result ≡ c.shrink.ensures.changed.set
@@ -13,42 +11,28 @@ set_is c = closed_set c.shrink.new.self c.args.e c.requires.way c.shrink.ensures
 made : (c : After-outermost-set) → IsMade c.args.g.now.graph (record c.args.self.now { forest = c.shrink.new.self })
 made c = made_after c.shrink.new.self c.requires.way.made c.shrink.ensures.changed.shrunk.size
 
--- The keys at the parts are right, and the mark of the set is gone.
-refreshed : (c : After-mend_parts) → c.outermost-set.result ≡ c.shrink.ensures.changed.set
-    → IsMade c.args.g.now.graph (record c.args.self.now { forest = c.shrink.new.self })
-    → IsRefreshed c.args.g.now.graph (record c.args.self.now { forest = c.shrink.new.self })
-    (record c.mend_parts.new.self { inner = with_item c.mend_parts.new.self.inner c.outermost-set.result false })
-refreshed c is made = unmarked c.shrink.new.self c.requires.way c.shrink.ensures.changed is _ made
-    c.mend_parts.ensures.same c.mend_parts.ensures.room c.mend_parts.ensures.mended refl refl
-
 pub mend_parts-requires : goal.mend_parts-requires
 mend_parts-requires c =
-    let at = (goal.at.mend_parts-requires c).After-outermost-set in
+    let steps = (goal.at.mend_parts-requires c).After-outermost-set in
     record {
-      made = made at;
+      made = made steps;
       valid = c.shrink.ensures.valid;
-      set = closed_high c.shrink.new.self c.requires.way c.shrink.ensures.changed (set_is at);
-      live = closed_live c.shrink.new.self c.requires.way c.shrink.ensures.changed (set_is at);
+      set = closed_high c.shrink.new.self c.requires.way c.shrink.ensures.changed (set_is steps);
+      live = closed_live c.shrink.new.self c.requires.way c.shrink.ensures.changed (set_is steps);
     }
 
-pub returns-clause-way : goal.returns-clause-way
-returns-clause-way c =
-    let steps = goal.at.returns-clause-way c in
-    let at = steps.After-outermost-set in
-    shrunk_way c.requires.way c.shrink.ensures.valid (refreshed steps.After-mend_parts (set_is at) (made at))
-    c.shrink.ensures.changed (closed_right c.shrink.new.self c.requires.way c.shrink.ensures.changed (set_is at)
-    c.args.self.now.risen c.mend_parts.new.self.tour c.mend_parts.ensures.right)
-
-pub returns-clause-goes_on : goal.returns-clause-goes_on
-returns-clause-goes_on c =
-    let steps = goal.at.returns-clause-goes_on c in
-    let at = steps.After-outermost-set in
-    shrunk_goes_on c.requires.way c.shrink.ensures.valid (refreshed steps.After-mend_parts (set_is at) (made at))
-    c.shrink.ensures.changed
-
-pub returns-clause-fewer : goal.returns-clause-fewer
-returns-clause-fewer c =
-    let steps = goal.at.returns-clause-fewer c in
-    let at = steps.After-outermost-set in
-    shrunk_less c.requires.way c.shrink.ensures.valid (refreshed steps.After-mend_parts (set_is at) (made at))
-    c.shrink.ensures.changed
+pub returns : goal.returns
+returns c =
+    let steps = (goal.at.returns c).After-outermost-set in
+    let x = c.shrink.ensures.changed in
+    let refreshed = unmarked c.shrink.new.self c.requires.way x (set_is steps) _ (made steps) c.mend_parts.ensures.same
+    c.mend_parts.ensures.room c.mend_parts.ensures.mended refl refl in
+    let it = stepped c.shrink.ensures.valid refreshed c.requires.way (shrunk_step c.requires.way x (closed_right
+    c.shrink.new.self c.requires.way x (set_is steps) c.args.self.now.risen c.mend_parts.new.self.tour
+    c.mend_parts.ensures.right)) in
+    record {
+      way = it.way;
+      goes_on = it.goes_on;
+      fewer = it.fewer;
+      first = ap (λ (s : Search). s.first) c.mend_parts.ensures.same;
+    }

@@ -1,14 +1,11 @@
+use Rattle.{std.proofs.Common.rules, search_laws.proofs.Counted.fewer_turns, def_forest.specs.Tables.forest_of}
+use Rattle.{search_laws.specs.Searches.steps_left}
 use Rattle.std.proofs.{Common.◌≡◌, Common.◌<◌, Common.◌∙◌, Common.sym, Common.subst, Common.arith, Math.ListN.set}
-use Rattle.search_laws.proofs.{Counted.fewer_turns, Risen.key_high}
 use Rattle.qm_match.proofs.Chains.{mended_fewer, mended_way, risen_few}
-use Rattle.{def_forest.specs.Tables.forest_of, search_laws.specs.Searches.steps_left}
 use Rattle.qm_match.proofs.search.Search.turn.Goals as goal
 
 pub returns-then-key-clause-way : goal.returns-then-key-clause-way
-returns-then-key-clause-way c = λ e. mended_way c.least_leaf-leaf.result c.requires.way
-    c.least_leaf-leaf.ensures.low (subst (λ key. c.set_leaf.new.self ≡ record c.args.self.now {
-      tour = set c.args.self.now.tour c.least_leaf-leaf.result key;
-    }) c.true_key-key.ensures c.set_leaf.ensures)
+returns-then-key-clause-way c = search (rules, mended_way)
 
 pub returns-then-key-clause-fewer : goal.returns-then-key-clause-fewer
 returns-then-key-clause-fewer c = λ e. mended_fewer c.args.g.now.graph c.args.self.now
@@ -20,12 +17,7 @@ returns-then-key-clause-fewer c = λ e. mended_fewer c.args.g.now.graph c.args.s
 pub rise_to-requires : goal.rise_to-requires
 rise_to-requires c = record {
   way = c.requires.way;
-  high = omega (
-    arith,
-    c.true_key-key.ensures,
-    key_high c.args.g.now.graph (forest_of c.args.self.now.forest) c.args.self.now.risen c.least_leaf-leaf.result
-        (omega (arith, risen_few c.requires.way)),
-  );
+  high = search (rules, risen_few);
   least = λ k l. omega (arith, c.least_leaf-leaf.ensures.least k 0 l, c.requires.way.low k l, c.key.ensures);
 }
 

@@ -1,7 +1,6 @@
-use Rattle.std.proofs.Common.{◌≡◌, ◌-◌, ◌<◌, ◌∙◌, None, get_or, ap, subst, slice_set, List, Option, Some, arith}
+use Rattle.std.proofs.Common.{rules, ◌≡◌, ◌-◌, ◌<◌, ◌∙◌, get_or, arith}
 use Rattle.std.proofs.lemmas.Grind.{get_or_default_zero}
 use Rattle.qm_pool.proofs.Places.{taken_free, taken_empty}
-use Rattle.{std.specs.Prelude.slice_get, qm_pool.specs.declared.pool.Node.Node}
 use Rattle.qm_pool.proofs.pool.Pool.take.Goals as goal
 
 pub invariant_of-self : goal.invariant_of-self
@@ -13,12 +12,4 @@ invariant_of-self c =
     taken_free _ _ _ _ _ c.self.invariant some id
 
 pub returns-clause-taken : goal.returns-clause-taken
-returns-clause-taken c =
-    let some : 0 < c.self.inside.left = omega (arith, c.if-self-eq0.false) in
-    let id : c.index-id.result.now ≡ get_or c.self.inside.free.items (c.self.inside.left - 1) 0 =
-    c.index-id.ensures ∙ get_or_default_zero c.self.inside.free.items (c.self.inside.left - 1) c.index-id.result.now
-    (omega (arith, c.self.invariant.room, c.self.invariant.all)) in (
-      subst (λ (xs : List (Option Node)). slice_get xs c.index-id.result.now ≡ Some None) c.self.view_is
-          (taken_empty _ _ _ _ c.self.invariant some id),
-      ap (λ (xs : List (Option Node)). slice_set xs c.index-id.result.now (Some c.args.node)) c.self.view_is,
-    )
+returns-clause-taken c = search (rules, get_or_default_zero, taken_empty)
